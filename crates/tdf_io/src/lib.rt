@@ -6,19 +6,23 @@
 //! * `reading`: the trait [`Source`], and reading to the end.
 //! * `writing`: the trait [`Sink`], and writing to the end.
 //! * `sure`: a source and a sink in memory that never fail.
-//! * `counted`: a source and a sink in memory that fail at chosen calls, for tests.
+//! * `mem_source`, `mem_sink`: a source and a sink in memory that fail at chosen calls, for tests.
 //! * `streams`: adapters of std's readers and writers, the trusted edge.
 #![tactic(auto)]
 
-mod counted;
 mod gather;
+mod mem_sink;
+mod mem_source;
 mod moves;
 mod reading;
 mod streams;
 mod sure;
+#[cfg(test)]
+mod tests;
 mod writing;
 
-pub use counted::{MemSink, MemSource};
+pub use mem_sink::MemSink;
+pub use mem_source::MemSource;
 pub use reading::{Failed, LoadErr, Source, read_all};
 pub use streams::{StdSink, StdSource};
 pub use sure::{SureSink, SureSource};
