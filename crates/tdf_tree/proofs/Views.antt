@@ -2,25 +2,25 @@
 use Rattle.std.proofs.Common.{◌≡◌, ◌∙◌, ℕ, List, [], ◌∷◌, ◌++◌, Option, Vec, refl, sym, ap}
 use Rattle.std.specs.Prelude.{map}
 use Rattle.std.specs.declared.alloc.Global.{Global}
-use Rattle.tdf_tree.specs.Pure.{PureStmt, PureStmts, Done, More, SAssign, SIf, SFor, SNotify, SSetRate, SSetStep, SAccept, SReject}
-use Rattle.tdf_tree.specs.Views.{pure_expr, pure_stmt, pure_stmts, sts, stmt_step}
+use Rattle.tdf_tree.specs.Pure.{PureStmt, SAssign, SIf, SFor, SNotify, SSetRate, SSetStep, SAccept, SReject}
+use Rattle.tdf_tree.specs.Views.{pure_expr, pure_stmt, pure_stmts, stmt_step}
 use Rattle.tdf_tree.specs.declared.expr.Expr.{Expr}
 use Rattle.tdf_tree.specs.declared.expr.Index.{Index}
 use Rattle.tdf_tree.specs.declared.stmt.Limit.{Limit}
 use Rattle.tdf_tree.specs.declared.stmt.Stmt.{Stmt}
-use Rattle.tdf_tree.specs.declared.stmt.Stmt.TheFolds.{fold-Stmt, fold-roll-Stmt}
+use Rattle.tdf_tree.specs.declared.stmt.Stmt.TheFolds.{fold-roll-Stmt}
 use Rattle.tdf_tree.specs.declared.stmt.Stmt.TheOpen.{Assign, If, For, Notify, SetRate, SetStep, Accept, Reject}
 use Rattle.tdf_tree.specs.declared.stmt.Stmt.TheViews as view
 use Rattle.tdf_tree.specs.declared.stmt.Stmt.TheViews.{rolls-If, rolls-For, rolls-Assign, rolls-Notify, rolls-SetRate, rolls-SetStep, rolls-Accept, rolls-Reject}
 use Rattle.tdf_tree.specs.declared.stmt.Stmt.TheVariants as variant
 
 pub pure_if : (line : ℕ) (test : Expr) (first second : Vec Stmt Global)
-  → pure_stmt (view.If line test first second) ≡ SIf line (pure_expr test) (pure_stmts first.items) (pure_stmts second.items)
+    → pure_stmt (view.If line test first second) ≡ SIf line (pure_expr test) (pure_stmts first.items) (pure_stmts second.items)
 unfolding pure_stmt
 pure_if line test first second = ap pure_stmt (sym (rolls-If line test first second)) ∙ fold-roll-Stmt PureStmt stmt_step (If line test first second)
 
 pub pure_for : (line : ℕ) (name : List ℕ) (from : ℕ) (limit : Limit) (body : Vec Stmt Global)
-  → pure_stmt (view.For line name from limit body) ≡ SFor line name from limit (pure_stmts body.items)
+    → pure_stmt (view.For line name from limit body) ≡ SFor line name from limit (pure_stmts body.items)
 unfolding pure_stmt
 pure_for line name from limit body = ap pure_stmt (sym (rolls-For line name from limit body)) ∙ fold-roll-Stmt PureStmt stmt_step (For line name from limit body)
 

@@ -1,5 +1,5 @@
 -- Trees without line numbers (own): two trees are alike where they differ in line numbers alone.
-use Rattle.std.specs.Prelude.{◌≡◌, List, map}
+use Rattle.std.specs.Prelude.{◌≡◌, map}
 use Rattle.tdf_tree.specs.Pure.{PureStmt, SAssign, SIf, SFor, SNotify, SSetRate, SSetStep, SAccept, SReject}
 use Rattle.tdf_tree.specs.Pure.{PureStmts, Done, More, PureBody, PureStore, SConst, SVar, SArray}
 use Rattle.tdf_tree.specs.Pure.{PureTdfLine, TPort, TStore, TRate, PureTdf, PureDeLine, DPort, DStore, DEvent}
@@ -23,6 +23,7 @@ abbrev mutual
   bare_stmt (SSetStep line port step) = SSetStep 0 port step
   bare_stmt (SAccept line) = SAccept 0
   bare_stmt (SReject line) = SReject 0
+
   pub bare_stmts : PureStmts → PureStmts
   bare_stmts Done = Done
   bare_stmts (More s ss) = More (bare_stmt s) (bare_stmts ss)
@@ -67,7 +68,7 @@ bare_tdf block = record {
   initialize = bare_body block.initialize;
   processing = bare_body block.processing;
   change = bare_body block.change;
-  reinitialize = bare_body block.reinitialize
+  reinitialize = bare_body block.reinitialize;
 }
 
 abbrev pub bare_de_line : PureDeLine → PureDeLine
@@ -83,7 +84,7 @@ bare_process process = record {
   line = 0;
   sensitive = map bare_sense process.sensitive;
   starts = process.starts;
-  body = bare_body process.body
+  body = bare_body process.body;
 }
 
 abbrev pub bare_de : PureDe → PureDe
@@ -91,7 +92,7 @@ bare_de block = record {
   line = 0;
   name = block.name;
   decls = map bare_de_line block.decls;
-  processes = map bare_process block.processes
+  processes = map bare_process block.processes;
 }
 
 abbrev pub bare_member : Member → Member
@@ -118,7 +119,7 @@ bare tree = record {
   version = tree.version;
   globals = map bare_global tree.globals;
   top = bare_composite tree.top;
-  traces = map bare_trace tree.traces
+  traces = map bare_trace tree.traces;
 }
 
 abbrev pub Alike : PureTree → PureTree → Type 0

@@ -34,6 +34,7 @@ mutual
     SSetStep : (line : ℕ) → (port : Option (List ℕ)) → (step : ℕ) → PureStmt
     SAccept : (line : ℕ) → PureStmt
     SReject : (line : ℕ) → PureStmt
+
   pub data PureStmts : Type 0 where
     Done : PureStmts
     More : PureStmt → PureStmts → PureStmts

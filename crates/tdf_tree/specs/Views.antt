@@ -1,5 +1,5 @@
 -- Which pure tree a value of each type of `src/` stands for (own).
-use Rattle.std.specs.Prelude.{ℕ, List, [], ◌∷◌, map}
+use Rattle.std.specs.Prelude.{List, [], ◌∷◌, map}
 use Rattle.tdf_tree.specs.Pure.{PureExpr, ENumber, EName, EAt, ECast, ESelect, ENot, ENeg, EShift, EBinary}
 use Rattle.tdf_tree.specs.Pure.{PureStmt, SAssign, SIf, SFor, SNotify, SSetRate, SSetStep, SAccept, SReject}
 use Rattle.tdf_tree.specs.Pure.{PureStmts, Done, More, PureBody, PureStore, SConst, SVar, SArray}
@@ -82,7 +82,7 @@ pure_tdf block = record {
   initialize = pure_body block.initialize;
   processing = pure_body block.processing;
   change = pure_body block.change;
-  reinitialize = pure_body block.reinitialize
+  reinitialize = pure_body block.reinitialize;
 }
 
 abbrev pub pure_de_line : DeLine → PureDeLine
@@ -95,7 +95,7 @@ pure_process process = record {
   line = process.line;
   sensitive = process.sensitive.items;
   starts = process.starts;
-  body = pure_body process.body
+  body = pure_body process.body;
 }
 
 abbrev pub pure_de : DeDecl → PureDe
@@ -103,7 +103,7 @@ pure_de block = record {
   line = block.line;
   name = block.name;
   decls = map pure_de_line block.decls.items;
-  processes = map pure_process block.processes.items
+  processes = map pure_process block.processes.items;
 }
 
 abbrev pub pure_composite : Composite → PureComposite
@@ -123,5 +123,5 @@ pure_tree whole = record {
   version = whole.version;
   globals = map pure_global whole.globals.items;
   top = pure_composite whole.top;
-  traces = map pure_trace whole.traces.items
+  traces = map pure_trace whole.traces.items;
 }

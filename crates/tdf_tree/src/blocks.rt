@@ -5,7 +5,7 @@ use crate::shapes::FormatRef;
 use crate::stmt::{Limit, Stmts};
 
 /// The word of a port line: `in`, `out`, `de_in` or `de_out`.
-#[derive(Clone, Copy, PartialEq, Eq)]
+#[derive(Clone, Copy, Debug, PartialEq, Eq)]
 pub enum PortKind {
     In,
     Out,

@@ -13,7 +13,7 @@ pub enum Index {
 }
 
 /// An operator with two operands.
-#[derive(Clone, Copy, PartialEq, Eq)]
+#[derive(Clone, Copy, Debug, PartialEq, Eq)]
 pub enum Op {
     Or,
     And,

@@ -3,7 +3,7 @@
 use crate::names::Name;
 
 /// How a value between two neighbours of the last place is rounded (IEEE 1666, quantization modes).
-#[derive(Clone, Copy, PartialEq, Eq)]
+#[derive(Clone, Copy, Debug, PartialEq, Eq)]
 pub enum Quant {
     Trn,
     TrnZero,
@@ -15,7 +15,7 @@ pub enum Quant {
 }
 
 /// What a value outside the range becomes (IEEE 1666, overflow modes).
-#[derive(Clone, Copy, PartialEq, Eq)]
+#[derive(Clone, Copy, Debug, PartialEq, Eq)]
 pub enum Over {
     Wrap,
     Sat,
@@ -24,7 +24,7 @@ pub enum Over {
 }
 
 /// A fixed-point format as it is written: `wl` bits in all, `iwl` of them before the point.
-#[derive(Clone, Copy)]
+#[derive(Clone, Copy, Debug)]
 pub struct Shape {
     pub signed: bool,
     pub wl: u64,
