@@ -2,9 +2,8 @@
 use Rattle.std.proofs.Common.{◌≡◌, ◌≢◌, ℕ, zero, suc, ◌+◌, ◌-◌, ◌<◌, ◌≤◌, Bool, true, false, List, [], ◌∷◌, ◌++◌, length, take, drop, refl, ap, sym, ◌∙◌, cond, append_assoc, arith, not, nat_eq, add-one, length-drop}
 use Rattle.std.proofs.lemmas.List.{append-nil, take_all, drop_all, take_rest, map-append}
 use Rattle.std.proofs.lemmas.List.Sums.{prefix_len-le-length}
-use Rattle.std.specs.List.{before_first, after_first, position_or_len, prefix_len}
-use Rattle.tdf_tokens.specs.declared.text.TextFault.{TextFault}
-use Rattle.std.specs.Prelude.{Option, Some, None}
+use Rattle.std.specs.List.{before_first, after_first, position_or_len}
+use Rattle.std.specs.Prelude.{None}
 use Rattle.tdf_tokens.specs.Rows.{tokens_of, rows_from, row_unless_bare}
 use Rattle.tdf_tokens.specs.Token.{Tok, Row}
 use Rattle.tdf_tokens.specs.Text.{is_line_end, unless_empty, lines_from, lines_of, first_fault, line_fault_of, or_else}
@@ -94,6 +93,19 @@ push-bare number (first ∷ more) h = absurd (omega (arith, h))
 pub push-one : (number : ℕ) (tokens : List Tok) → length tokens ≢ 0 → row_unless_bare number tokens ≡ (record { number = number; tokens = tokens }) ∷ []
 push-one number [] h = absurd (h refl)
 push-one number (first ∷ more) h = refl
+
+-- the rows of the first line have been appended
+pub rows-pushed : (number : ℕ) (text line behind : List ℕ) (tokens : List Tok) (all old new : List Row) → 0 < length text
+    → line ≡ before_first is_line_end text → behind ≡ after_first is_line_end text → tokens ≡ tokens_of line
+    → new ≡ old ++ row_unless_bare number tokens → old ++ rows_from number (lines_of text) ≡ all
+    → new ++ rows_from (number + 1) (lines_of behind) ≡ all
+rows-pushed number text line behind tokens all old new h e f g n o =
+    let put : row_unless_bare number tokens ≡ row_unless_bare number (tokens_of (before_first is_line_end text)) = ap (row_unless_bare number) (g ∙ ap tokens_of e) in
+    let rest : rows_from (number + 1) (lines_of behind) ≡ rows_from (number + 1) (lines_of (after_first is_line_end text)) = ap (λ (b : List ℕ). rows_from (number + 1) (lines_of b)) f in
+    ap (λ (l : List Row). l ++ rows_from (number + 1) (lines_of behind)) n
+    ∙ append_assoc old (row_unless_bare number tokens) (rows_from (number + 1) (lines_of behind))
+    ∙ ap (λ (l : List Row). old ++ l) (cc (put, rest, rows-step number text h))
+    ∙ o
 
 pub ruleset row_laws = (rows-step, rows-none, length-after_first, append-nil)
 

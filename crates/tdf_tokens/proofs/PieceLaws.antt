@@ -2,10 +2,10 @@
 use Rattle.std.proofs.Common.{◌≡◌, ◌≢◌, ℕ, zero, suc, ◌+◌, ◌-◌, ◌<◌, ◌≤◌, Bool, true, false, List, [], ◌∷◌, ◌++◌, length, take, drop, refl, ap, sym, ◌∙◌, cond, append_assoc, arith, not, nat_eq, add-one, length-drop, get_or, map, subst, drop-cons}
 use Rattle.std.specs.Prelude.{slice_range}
 use Rattle.std.proofs.lemmas.List.{take_more, get_or-drop, map-append, append-nil, drop_all, take_rest}
-use Rattle.tdf_tokens.specs.Pieces.{joins, begun, is_space, pieces_from, pieces_of, code_of}
+use Rattle.tdf_tokens.specs.Pieces.{joins, is_space, pieces_from, pieces_of, code_of}
 use Rattle.tdf_tokens.specs.Rows.{token_of, tokens_of, tokens_left}
 use Rattle.tdf_tokens.specs.Text.{unless_empty}
-use Rattle.tdf_tokens.specs.Token.{Tok, tok}
+use Rattle.tdf_tokens.specs.Token.{Tok}
 
 -- the piece so far, one byte longer
 slice_range-more : (xs : List ℕ) (a i : ℕ) → a ≤ i → i < length xs → slice_range xs a (i + 1) ≡ slice_range xs a i ++ get_or xs i 0 ∷ []

@@ -1,5 +1,5 @@
 -- The pieces of a line by the longest match (own).
-use Rattle.std.specs.Prelude.{ℕ, Bool, true, false, ◌||◌, ◌&&◌, nat_eq, nat_le, List, [], ◌∷◌, ◌++◌, length, cond}
+use Rattle.std.specs.Prelude.{ℕ, Bool, false, ◌||◌, ◌&&◌, nat_eq, nat_le, List, [], ◌∷◌, ◌++◌, length, cond}
 use Rattle.std.specs.List.{list_all, before_first}
 use Rattle.tdf_tokens.specs.Text.{unless_empty}
 

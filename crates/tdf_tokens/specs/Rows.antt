@@ -1,6 +1,8 @@
 -- The tokens of a piece, of a line and of a text (own).
-use Rattle.std.specs.Prelude.{ℕ, ◌+◌, Bool, false, ◌&&◌, nat_eq, nat_le, List, [], ◌∷◌, ◌++◌, length, map, take, drop, Option, Some, None, option_map, unwrap_or, cond, slice_range}
+use Rattle.std.specs.Prelude.{ℕ, ◌+◌, Bool, false, ◌&&◌, nat_eq, nat_le, List, [], ◌∷◌, ◌++◌, length, map, take, drop, Option, Some, None, Result, Ok, Err, option_map, unwrap_or, cond, slice_range}
 use Rattle.std.specs.List.{list_all, position}
+use Rattle.tdf_fixed.specs.Time.{time_of}
+use Rattle.tdf_fixed.specs.declared.times.TimeErr.{TimeErr}
 use Rattle.tdf_tokens.specs.Pieces.{is_digit, is_letter, is_part, code_of, pieces_from, pieces_of}
 use Rattle.tdf_tokens.specs.Text.{lines_of}
 use Rattle.tdf_tokens.specs.Token.{Tok, TName, TKey, TNumber, TTime, TSymbol, TWrong, Row}
@@ -27,13 +29,18 @@ is_number_at (Some place) text = is_side (take place text) && is_side (drop (pla
 abbrev pub is_number : List ℕ → Bool
 is_number text = is_number_at (position is_point text) text
 
--- the token that a piece is
+abbrev pub time_or_wrong : Result ℕ TimeErr → Tok
+time_or_wrong (Ok count) = TTime count
+time_or_wrong (Err reason) = TWrong
+
+-- the token that a piece is: a reserved word, a symbol, a name, a number, a time with a whole count of picoseconds below
+-- 10^18, or none
 unfoldable pub token_of : List ℕ → Tok
 token_of piece =
     unwrap_or (option_map TKey (key_of piece))
     (unwrap_or (option_map TSymbol (symbol_of piece))
     (cond (is_name piece) (TName piece)
-    (cond (is_number piece) (TNumber piece) TWrong)))
+    (cond (is_number piece) (TNumber piece) (time_or_wrong (time_of piece)))))
 
 -- the tokens of a line
 unfoldable pub tokens_of : List ℕ → List Tok

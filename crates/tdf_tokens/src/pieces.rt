@@ -10,7 +10,8 @@ ghost use Rattle.tdf_tokens.specs.Token.{tok};
 
 use crate::token::Token;
 use crate::words::{key_of, symbol_of};
-use std::alloc::{AllocError, Global};
+use std::alloc::Global;
+use tdf_fixed::{Memory, read_time};
 
 fn is_digit(byte: u8) -> bool
     ensures { result ≡ is_digit byte }
@@ -128,12 +129,15 @@ fn token<'t>(piece: &'t [u8]) -> Token<'t>
     if is_number(piece) {
         return Token::Number(piece);
     }
-    Token::Wrong
+    match read_time(piece) {
+        Ok(count) => Token::Time(count),
+        Err(_) => Token::Wrong,
+    }
 }
 
 /// Appends the token of a piece, if it is one.
 #[tactic(auto, using(crate::proofs::PieceLaws::put_laws))]
-fn put<'t>(list: &mut Vec<Token<'t>>, piece: &'t [u8]) -> Result<(), AllocError>
+fn put<'t>(list: &mut Vec<Token<'t>>, piece: &'t [u8]) -> Result<(), Memory>
     ensures { OnOk result (map tok list.new.items ≡ map tok list.old.items ++ map token_of (unless_empty piece.now)) }
 {
     if piece.is_empty() {
@@ -160,7 +164,7 @@ fn step<'t>(
     code: &'t [u8],
     from: usize,
     i: usize,
-) -> Result<usize, AllocError>
+) -> Result<usize, Memory>
     requires within { i < length code.now }
     requires begun { from ≤ i }
     ensures begun { IfOk result (λ f. f ≤ i + 1) }
@@ -183,7 +187,7 @@ fn code_len(line: &[u8]) -> usize
 }
 
 /// The tokens of a line.
-pub(crate) fn tokens<'t>(alloc: Global, line: &'t [u8]) -> Result<Vec<Token<'t>>, AllocError>
+pub(crate) fn tokens<'t>(alloc: Global, line: &'t [u8]) -> Result<Vec<Token<'t>>, Memory>
     ensures { IfOk result (λ v. map tok v.items ≡ tokens_of line.now) }
 {
     let code = &line[..code_len(line)];

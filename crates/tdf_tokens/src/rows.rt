@@ -7,7 +7,8 @@ ghost use Rattle.tdf_tokens.specs.Token.{row, tok};
 use crate::pieces::tokens;
 use crate::text::cut_line;
 use crate::token::{Line, Token};
-use std::alloc::{AllocError, Global};
+use std::alloc::Global;
+use tdf_fixed::Memory;
 
 /// Appends a line, if it has a token.
 #[tactic(auto, using(crate::proofs::LineLaws::push_laws))]
@@ -15,7 +16,7 @@ fn push_line<'t>(
     lines: &mut Vec<Line<'t>>,
     number: u32,
     tokens: Vec<Token<'t>>,
-) -> Result<(), AllocError>
+) -> Result<(), Memory>
     ensures { OnOk result (map row lines.new.items ≡ map row lines.old.items ++ row_unless_bare number (map tok tokens.entry.items)) }
 {
     if tokens.is_empty() {
@@ -27,7 +28,7 @@ fn push_line<'t>(
 
 /// The lines of the text that have a token, each with its number.
 #[tactic(auto, using(crate::proofs::LineLaws::row_laws), unfolding(crate::specs::Rows::rows_of))]
-pub fn token_lines<'t>(alloc: Global, text: &'t [u8]) -> Result<Vec<Line<'t>>, AllocError>
+pub fn token_lines<'t>(alloc: Global, text: &'t [u8]) -> Result<Vec<Line<'t>>, Memory>
     requires { length text.now ≤ 1048576 }
     ensures { IfOk result (λ v. map row v.items ≡ rows_of text.entry.now) }
 {
