@@ -2,4 +2,5 @@ pub mod Fractions
 pub mod Places
 pub mod Powers
 pub mod Quotients
+pub mod Scaling
 pub mod TimeBounds

@@ -2,13 +2,25 @@
 //! overflow modes, and the decimal texts that read and print values and times exactly.
 #![tactic(auto)]
 
+mod bits;
+mod casts;
 mod decimals;
+mod format;
 mod memory;
 mod numerals;
+mod over;
+mod overflows;
+mod quant;
 mod raw;
+mod rounding;
 mod times;
 
+pub use casts::cast;
 pub use decimals::{push_decimal, push_seconds};
+pub use format::Format;
 pub use memory::Memory;
+pub use numerals::is_number;
+pub use over::Over;
+pub use quant::Quant;
 pub use raw::Raw;
 pub use times::{TimeErr, read_time};
