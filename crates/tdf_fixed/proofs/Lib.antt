@@ -1,0 +1,5 @@
+pub mod Fractions
+pub mod Places
+pub mod Powers
+pub mod Quotients
+pub mod TimeBounds

@@ -1,0 +1,5 @@
+pub mod Decimal
+pub mod Digits
+pub mod Number
+pub mod Sides
+pub mod Time
