@@ -1,9 +1,11 @@
 //! Names, numbers as they are written, and literals.
 
-ghost use Rattle.std.specs.Prelude.{◌≡◌, IfOk, IsErrOf};
+ghost use Rattle.std.specs.Prelude.{◌≡◌, IfOk};
 
-use std::alloc::{AllocError, Global};
+use std::alloc::Global;
 use std::marker::Model;
+
+use tdf_fixed::Memory;
 
 /// A name of the language, seen as its bytes: a letter or `_`, then letters, digits or `_`.
 #[derive(Drop)]
@@ -28,7 +30,7 @@ impl Name {
     }
 
     /// A name with a copy of these bytes.
-    pub fn copied(alloc: Global, bytes: &[u8]) -> Result<Name, AllocError>
+    pub fn copied(alloc: Global, bytes: &[u8]) -> Result<Name, Memory>
         ensures { IfOk result (λ name. name ≡ bytes.now) }
     {
         Ok(Name::new(Vec::from_slice(alloc, bytes)?))
@@ -72,7 +74,7 @@ impl Digits {
     }
 
     /// A number with a copy of these bytes.
-    pub fn copied(alloc: Global, bytes: &[u8]) -> Result<Digits, AllocError>
+    pub fn copied(alloc: Global, bytes: &[u8]) -> Result<Digits, Memory>
         ensures { IfOk result (λ digits. digits ≡ bytes.now) }
     {
         Ok(Digits::new(Vec::from_slice(alloc, bytes)?))

@@ -1,0 +1,4 @@
+pub mod Numbers
+pub mod Index
+pub mod Says
+pub mod Machine

@@ -1,0 +1,2 @@
+//! The parts of a line of the language.
+#![tactic(auto)]
