@@ -1,6 +1,10 @@
+pub mod BitTexts
+pub mod Exacts
 pub mod Fractions
+pub mod Placed
 pub mod Places
 pub mod Powers
 pub mod Quotients
+pub mod Ranges
 pub mod Scaling
 pub mod TimeBounds
