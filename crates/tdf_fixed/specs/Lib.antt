@@ -1,5 +1,6 @@
 pub mod Bits
 pub mod Cast
+pub mod CastLaws
 pub mod Decimal
 pub mod Digits
 pub mod Literal
