@@ -119,7 +119,7 @@ quantised_whole quant (negsuc n) = rw (mod-one n, div-one n) refl
 
 -- ---- between two counts of fraction bits
 
-negative_times : (x b : ℕ) → neg_ℤ (pos x) *ℤ pos b ≡ neg_ℤ (pos (x * b))
+pub negative_times : (x b : ℕ) → neg_ℤ (pos x) *ℤ pos b ≡ neg_ℤ (pos (x * b))
 negative_times zero b = rw (zero-mul b) refl
 negative_times (suc n) b = refl
 

@@ -1,6 +1,6 @@
 -- Fitting a whole number into a format's range. IEEE 1666-2011, fixed-point types, overflow modes; the result of `sat_sym` on
 -- the exact signed minimum is own.
-use Rattle.std.specs.Prelude.{ℕ, ◌-◌, ◌^◌, Bool, ◌&&◌, nat_lt, int_le, if◌then◌else◌, ℤ, pos, ◌-ℤ◌, neg_ℤ}
+use Rattle.std.specs.Prelude.{ℕ, ◌-◌, ◌^◌, Bool, ◌&&◌, nat_lt, int_le, if◌then◌else◌, ℤ, pos, ◌-ℤ◌, neg_ℤ, ◌≤ℤ◌}
 use Rattle.std.specs.Int.{int_min, int_max}
 use Rattle.tdf_fixed.specs.Quantise.{above_by}
 use Rattle.tdf_fixed.specs.declared.over.Over.{Over}
@@ -30,3 +30,8 @@ overflowed Wrap signed wl n = wrapped signed wl n
 overflowed Sat signed wl n = int_max (least signed wl) (int_min n (most signed wl))
 overflowed SatZero signed wl n = if int_le (least signed wl) n && int_le n (most signed wl) then n else pos 0
 overflowed SatSym signed wl n = int_max (least_symmetric signed wl) (int_min n (most signed wl))
+
+-- a number of the range
+pub record IsIn (signed : Bool) (wl : ℕ) (z : ℤ) : Type 0 where
+  pub low : least signed wl ≤ℤ z
+  pub high : z ≤ℤ most signed wl
