@@ -1,3 +1,4 @@
 pub mod Levels
 pub mod SaysRuns
 pub mod RunSays
+pub mod Waits

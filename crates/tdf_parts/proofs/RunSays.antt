@@ -13,9 +13,11 @@ use Rattle.tdf_tree.specs.declared.expr.Op.{Op}
 use Rattle.tdf_tree.specs.declared.expr.Op.TheVariants.{Or, And, Lt, Le, Eq, Ne, Gt, Ge, Add, Sub, Mul}
 use Rattle.tdf_parts.specs.Numbers.{trimmed, int_of}
 use Rattle.tdf_parts.specs.Index.{SaysIndex, index_int, index_var, index_plus, index_minus, index_from}
+use Rattle.tdf_parts.specs.declared.behind.Behind.{Behind}
+use Rattle.tdf_parts.specs.declared.behind.Behind.TheVariants.{Joins, Shifts, Shuts, Parts, Breaks}
 use Rattle.tdf_parts.specs.Says.{level, left_level, sign, shift_sign, Says, number, variable, item, cast, select, parens, negation, shift, contrary, binary, tighter}
 use Rattle.tdf_parts.specs.Machine.{Opening, Group, Call, First, Second, Third, Wait, Within, Negated, Denied, Left, Top, Reading, Want, Have, Named, Indexing, Shifting, Selecting, Bad}
-use Rattle.tdf_parts.specs.Machine.{stops, reduce, Behind, Joins, Shifts, Shuts, Parts, Breaks, behind, behind_key, behind_symbol, shut, part, joined, join, start, start_key, start_symbol, after_name, after_name_symbol, index_of, int_index, plus_index, minus_index, from_index, named_index, number_index, indexed, within_index, shifted, after_shift, after_select, step, closed, finish, run, expr_of}
+use Rattle.tdf_parts.specs.Machine.{stops, reduce, behind, behind_key, behind_symbol, shut, part, joined, join, start, start_key, start_symbol, after_name, after_name_symbol, index_of, int_index, plus_index, minus_index, from_index, named_index, number_index, indexed, within_index, shifted, after_shift, after_select, step, closed, finish, run, expr_of}
 use Rattle.tdf_parts.proofs.Levels.{cond_le, cond_gt, leb_true, ltb_true, leb_le, ltb_lt, level_le, left_le_five, level_lt_six, stops_more, stops_six, pick, pick_bool}
 
 -- the tokens of an open bracket

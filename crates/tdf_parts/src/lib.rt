@@ -4,6 +4,8 @@
 //! - `numbers`: whole numbers, numbers without needless zeros, literals.
 #![tactic(auto)]
 
+mod behind;
 mod numbers;
+mod pending;
 
 pub use numbers::{read_int, read_number};
