@@ -2,3 +2,4 @@ pub mod Levels
 pub mod SaysRuns
 pub mod RunSays
 pub mod Waits
+pub mod Decided

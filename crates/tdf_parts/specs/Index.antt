@@ -16,3 +16,7 @@ pub data SaysIndex : List Tok → Index → Type 0 where
     → SaysIndex (TName name ∷ TSymbol symbol.Minus ∷ TNumber text ∷ []) (index.Minus name n)
   index_from : (name : List ℕ) (text : List ℕ) {n : ℕ} → int_of text ≡ Some n
     → SaysIndex (TNumber text ∷ TSymbol symbol.Minus ∷ TName name ∷ []) (index.From n name)
+
+-- the tokens are no index
+abbrev pub IsNoIndex : List Tok → Type 0
+IsNoIndex ts = (i : Index) → SaysIndex ts i → ⊥

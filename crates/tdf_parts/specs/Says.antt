@@ -74,3 +74,7 @@ pub data Says : ℕ → List Tok → PureExpr → Type 0 where
   binary : {k : ℕ} {a b : List Tok} {x y : PureExpr} (op : Op) → level op ≡ k → Says (left_level op) a x → Says (suc k) b y
     → Says k (a ++ sign op ∷ b) (EBinary op x y)
   tighter : {k : ℕ} {a : List Tok} {x : PureExpr} → Says (suc k) a x → Says k a x
+
+-- the tokens are no expression
+abbrev pub IsNoExpr : List Tok → Type 0
+IsNoExpr ts = (x : PureExpr) → Says 0 ts x → ⊥

@@ -5,7 +5,10 @@
 #![tactic(auto)]
 
 mod behind;
+mod index;
 mod numbers;
 mod pending;
+mod steps;
 
+pub use index::read_index;
 pub use numbers::{read_int, read_number};
