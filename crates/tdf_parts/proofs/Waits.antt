@@ -5,6 +5,9 @@ use Rattle.std.proofs.lemmas.Option.{slice_get_within, slice_get-get_or, get_or_
 use Rattle.std.specs.List.{slice_get}
 use Rattle.tdf_parts.specs.declared.pending.Pending.{Pending}
 use Rattle.tdf_parts.specs.Machine.{Wait, Within, Negated, Denied, Left, stops}
+use Rattle.std.specs.Prelude.{map}
+use Rattle.tdf_tokens.specs.Token.{tok}
+use Rattle.tdf_tokens.specs.declared.token.Token.{Token}
 use Rattle.tdf_parts.specs.Waiting.{wait, piled, waits}
 
 piled_push : (ps : List Pending) (p : Pending) (above : List Wait) → piled (ps ++ p ∷ []) above ≡ wait p ∷ piled ps above
@@ -48,3 +51,7 @@ stops_none k (q ∷ qs) h =
     absurd (cc)
 
 pub ruleset wait_laws = (waits_push, waits_none, stops_last, stops_none)
+
+pub map_push : (xs : List Token) (x : Token) → map tok (xs ++ x ∷ []) ≡ map tok xs ++ tok x ∷ []
+map_push [] x = refl
+map_push (y ∷ xs) x = ap (λ rest. tok y ∷ rest) (map_push xs x)

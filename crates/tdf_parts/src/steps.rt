@@ -4,7 +4,7 @@ ghost use Rattle.std.specs.Prelude.{◌≡◌, ◌++◌, ◌∷◌, [], List, ma
 ghost use Rattle.tdf_tokens.specs.Token.{Tok, tok};
 ghost use Rattle.tdf_tree.specs.Pure.{PureExpr};
 ghost use Rattle.tdf_tree.specs.Views.{pure_expr};
-ghost use Rattle.tdf_parts.specs.Machine.{Wait, Within, Have, Named, Top, shut, part, join, joined, start, start_key, start_symbol, after_name, after_name_symbol, within_index, after_shift, after_select, step};
+ghost use Rattle.tdf_parts.specs.Machine.{Wait, Within, Have, Named, Top, shut, part, join, joined, start, start_key, start_symbol, after_name, after_name_symbol, indexed, index_of, within_index, after_shift, after_select, step};
 ghost use Rattle.tdf_parts.specs.Waiting.{opening, waits, reading};
 ghost use Rattle.tdf_parts.specs.declared.behind.Behind.TheVariants.{Joins};
 
@@ -108,5 +108,136 @@ fn join(alloc: Global, stack: &mut Vec<Pending>, tree: Expr, behind: Behind) -> 
             part(stack, whole)
         }
         Behind::Breaks => Ok(At::Bad),
+    }
+}
+
+/// A token where an operand is wanted.
+fn start(alloc: Global, stack: &mut Vec<Pending>, token: Token) -> Result<At, Memory>
+    ensures { IfOk result (λ at. (a : List Tok) → reading (waits stack.new.items) a at ≡ start (tok token.entry) (waits stack.old.items)) }
+{
+    match token {
+        Token::Number(text) => Ok(At::Have(Expr::Number(read_number(alloc, text)?))),
+        Token::Name(name) => Ok(At::Named(Name::copied(alloc, name)?)),
+        Token::Key(key) => start_key(stack, key),
+        Token::Symbol(symbol) => start_symbol(stack, symbol),
+        _ => Ok(At::Bad),
+    }
+}
+
+#[tactic(auto, using(crate::proofs::Waits::wait_laws))]
+fn start_key(stack: &mut Vec<Pending>, key: Key) -> Result<At, Memory>
+    ensures { IfOk result (λ at. (a : List Tok) → reading (waits stack.new.items) a at ≡ start_key key (waits stack.old.items)) }
+{
+    match key {
+        Key::Not => {
+            if !stops(stack, 2) {
+                return Ok(At::Bad);
+            }
+            stack.push(Pending::Denied)?;
+            Ok(At::Want)
+        }
+        Key::Select => Ok(At::Selecting),
+        _ => Ok(At::Bad),
+    }
+}
+
+#[tactic(auto, using(crate::proofs::Waits::wait_laws))]
+fn start_symbol(stack: &mut Vec<Pending>, symbol: Symbol) -> Result<At, Memory>
+    ensures { IfOk result (λ at. (a : List Tok) → reading (waits stack.new.items) a at ≡ start_symbol symbol (waits stack.old.items)) }
+{
+    match symbol {
+        Symbol::Open => {
+            stack.push(Pending::Within(Bracket::Group))?;
+            Ok(At::Want)
+        }
+        Symbol::Minus => {
+            stack.push(Pending::Negated)?;
+            Ok(At::Want)
+        }
+        _ => Ok(At::Bad),
+    }
+}
+
+/// A token behind a name.
+#[tactic(auto, using(crate::proofs::Waits::wait_laws))]
+fn after_name<'t>(alloc: Global, stack: &mut Vec<Pending>, inside: &mut Vec<Token<'t>>, name: Name, token: Token<'t>) -> Result<At, Memory>
+    ensures { IfOk result (λ at. reading (waits stack.new.items) (map tok inside.new.items) at ≡ after_name (tok token.entry) (waits stack.old.items) name) }
+{
+    match token {
+        Token::Symbol(Symbol::Open) => {
+            stack.push(Pending::Within(Bracket::Call(name)))?;
+            Ok(At::Want)
+        }
+        Token::Symbol(Symbol::OpenSquare) => {
+            inside.clear();
+            Ok(At::Indexing(name))
+        }
+        _ => join(alloc, stack, Expr::Name(name), behind_of(token)),
+    }
+}
+
+/// A token between `[` and `]`.
+#[tactic(auto, using(crate::proofs::Waits::map_push))]
+fn within_index<'t>(alloc: Global, inside: &mut Vec<Token<'t>>, name: Name, token: Token<'t>) -> Result<At, Memory>
+    ensures { IfOk result (λ at. (s : List Wait) → reading s (map tok inside.new.items) at ≡ within_index (tok token.entry) s name (map tok inside.old.items)) }
+{
+    match token {
+        Token::Symbol(Symbol::CloseSquare) => indexed(alloc, inside, name),
+        _ => {
+            inside.push(token)?;
+            Ok(At::Indexing(name))
+        }
+    }
+}
+
+fn indexed<'t>(alloc: Global, inside: &Vec<Token<'t>>, name: Name) -> Result<At, Memory>
+    ensures { IfOk result (λ at. (s : List Wait) (a : List Tok) → reading s a at ≡ indexed (index_of (map tok inside.now.items)) s name) }
+{
+    match read_index(alloc, inside.as_slice())? {
+        Some(index) => Ok(At::Have(Expr::At(name, index))),
+        None => Ok(At::Bad),
+    }
+}
+
+/// A token behind `<<` or `>>`.
+fn after_shift(alloc: Global, tree: Expr, left: bool, token: Token) -> Result<At, Memory>
+    ensures { IfOk result (λ at. (s : List Wait) (a : List Tok) → reading s a at ≡ after_shift (tok token.entry) s (pure_expr tree) left) }
+{
+    let Token::Number(text) = token else {
+        return Ok(At::Bad);
+    };
+    match read_int(text) {
+        Some(bits) => Ok(At::Have(Expr::Shift(Box::new(alloc, tree)?, left, bits))),
+        None => Ok(At::Bad),
+    }
+}
+
+/// A token behind `select`.
+#[tactic(auto, using(crate::proofs::Waits::wait_laws))]
+fn after_select(stack: &mut Vec<Pending>, token: Token) -> Result<At, Memory>
+    ensures { IfOk result (λ at. (a : List Tok) → reading (waits stack.new.items) a at ≡ after_select (tok token.entry) (waits stack.old.items)) }
+{
+    match token {
+        Token::Symbol(Symbol::Open) => {
+            stack.push(Pending::Within(Bracket::First))?;
+            Ok(At::Want)
+        }
+        _ => Ok(At::Bad),
+    }
+}
+
+/// One token more. `inside` holds the tokens of an index that is open.
+pub(crate) fn step<'t>(alloc: Global, stack: &mut Vec<Pending>, inside: &mut Vec<Token<'t>>, at: At, token: Token<'t>) -> Result<At, Memory>
+    ensures { IfOk result (λ next. reading (waits stack.new.items) (map tok inside.new.items) next
+        ≡ step (reading (waits stack.old.items) (map tok inside.old.items) at) (tok token.entry)) }
+{
+    match at {
+        At::Want => start(alloc, stack, token),
+        At::Have(tree) => join(alloc, stack, tree, behind_of(token)),
+        At::Named(name) => after_name(alloc, stack, inside, name, token),
+        At::Indexing(name) => within_index(alloc, inside, name, token),
+        At::Shifting(tree, left) => after_shift(alloc, tree, left, token),
+        At::Selecting => after_select(stack, token),
+        At::Bad => Ok(At::Bad),
     }
 }
