@@ -1,5 +1,5 @@
 -- A vector as a stack: what a push leaves innermost.
-use Rattle.std.proofs.Common.{◌≡◌, ℕ, suc, ◌-◌, ◌<◌, Bool, true, List, [], ◌∷◌, ◌++◌, Option, Some, None, refl, sym, ap, ◌∙◌, length, take, arith}
+use Rattle.std.proofs.Common.{◌≡◌, ℕ, suc, ◌-◌, ◌<◌, Bool, true, List, [], ◌∷◌, ◌++◌, Option, Some, None, refl, sym, ap, ◌∙◌, length, take, drop, get_or, ◌+◌, add-one, drop-cons, arith}
 use Rattle.std.proofs.Math.Seq.{take-length, take-suc}
 use Rattle.std.proofs.lemmas.Option.{slice_get_within, slice_get-get_or, get_or_from_slice_get}
 use Rattle.std.specs.List.{slice_get}
@@ -55,3 +55,9 @@ pub ruleset wait_laws = (waits_push, waits_none, stops_last, stops_none)
 pub map_push : (xs : List Token) (x : Token) → map tok (xs ++ x ∷ []) ≡ map tok xs ++ tok x ∷ []
 map_push [] x = refl
 map_push (y ∷ xs) x = ap (λ rest. tok y ∷ rest) (map_push xs x)
+
+-- one token fewer is left
+pub map_drop : (xs : List Token) (i : ℕ) (d : Token) → i < length xs → map tok (drop i xs) ≡ tok (get_or xs i d) ∷ map tok (drop (i + 1) xs)
+map_drop xs i d within = rw (add-one, drop-cons xs i d) refl
+
+pub ruleset run_laws = (waits_none, map_drop)

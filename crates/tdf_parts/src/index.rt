@@ -5,13 +5,11 @@ ghost use Rattle.tdf_tokens.specs.Token.{tok, TName, TNumber, TSymbol};
 ghost use Rattle.tdf_parts.specs.Index.{SaysIndex, IsNoIndex};
 ghost use Rattle.tdf_parts.specs.Machine.{index_of, named_index, number_index};
 
+use crate::numbers::read_int;
 use std::alloc::Global;
-
 use tdf_fixed::Memory;
 use tdf_tokens::{Symbol, Token};
 use tdf_tree::{Index, Name};
-
-use crate::numbers::read_int;
 
 /// The index that these tokens are, if they are one.
 pub fn read_index(alloc: Global, tokens: &[Token]) -> Result<Option<Index>, Memory>
@@ -27,8 +25,16 @@ fn indexed(alloc: Global, tokens: &[Token]) -> Result<Option<Index>, Memory>
     match tokens {
         [Token::Number(text)] => Ok(read_int(text).map(Index::Int)),
         [Token::Name(name)] => Ok(Some(Index::Var(Name::copied(alloc, name)?))),
-        [Token::Name(name), Token::Symbol(symbol), Token::Number(text)] => named(alloc, name, *symbol, text),
-        [Token::Number(text), Token::Symbol(symbol), Token::Name(name)] => counted(alloc, text, *symbol, name),
+        [
+            Token::Name(name),
+            Token::Symbol(symbol),
+            Token::Number(text),
+        ] => named(alloc, name, *symbol, text),
+        [
+            Token::Number(text),
+            Token::Symbol(symbol),
+            Token::Name(name),
+        ] => counted(alloc, text, *symbol, name),
         _ => Ok(None),
     }
 }

@@ -5,10 +5,12 @@
 #![tactic(auto)]
 
 mod behind;
+mod expr;
 mod index;
 mod numbers;
 mod pending;
 mod steps;
 
+pub use expr::read_expr;
 pub use index::read_index;
 pub use numbers::{read_int, read_number};

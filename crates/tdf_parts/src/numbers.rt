@@ -6,7 +6,6 @@ ghost use Rattle.tdf_fixed.specs.Digits.{is_digit, are_digits, number};
 ghost use Rattle.tdf_parts.specs.Numbers.{int_of, trimmed, is_zero, is_point, or_zero, behind_point, without_first_zeros, without_last_zeros};
 
 use std::alloc::Global;
-
 use tdf_fixed::Memory;
 use tdf_tree::Digits;
 

@@ -5,12 +5,10 @@ ghost use Rattle.tdf_tree.specs.Views.{pure_expr};
 ghost use Rattle.tdf_parts.specs.Machine.{reduce, stops};
 ghost use Rattle.tdf_parts.specs.Waiting.{wait, waits, IsTop};
 
+use crate::behind::level_of;
 use std::alloc::Global;
-
 use tdf_fixed::Memory;
 use tdf_tree::{Expr, Name, Op};
-
-use crate::behind::level_of;
 
 /// An open bracket: `(`, `name (`, or `select (` with the operands that it has.
 #[derive(Drop)]
@@ -48,7 +46,12 @@ pub(crate) enum At {
 
 /// Gives the operand to all that binds at least as tight as the level.
 #[tactic(auto, using(crate::proofs::Waits::wait_laws))]
-pub(crate) fn reduce(alloc: Global, stack: &mut Vec<Pending>, least: u8, tree: Expr) -> Result<Expr, Memory>
+pub(crate) fn reduce(
+    alloc: Global,
+    stack: &mut Vec<Pending>,
+    least: u8,
+    tree: Expr,
+) -> Result<Expr, Memory>
     ensures { IfOk result (λ e. IsTop (reduce least (waits stack.old.items) (pure_expr tree)) (waits stack.new.items) (pure_expr e)) }
 {
     let mut tree = tree;

@@ -8,16 +8,14 @@ ghost use Rattle.tdf_parts.specs.Machine.{Wait, Within, Have, Named, Top, shut, 
 ghost use Rattle.tdf_parts.specs.Waiting.{opening, waits, reading};
 ghost use Rattle.tdf_parts.specs.declared.behind.Behind.TheVariants.{Joins};
 
-use std::alloc::Global;
-
-use tdf_fixed::Memory;
-use tdf_tokens::{Key, Symbol, Token};
-use tdf_tree::{Expr, Name, Op};
-
 use crate::behind::{Behind, behind_of, left_level_of, level_of};
 use crate::index::read_index;
 use crate::numbers::{read_int, read_number};
 use crate::pending::{At, Bracket, Pending, reduce, stops};
+use std::alloc::Global;
+use tdf_fixed::Memory;
+use tdf_tokens::{Key, Symbol, Token};
+use tdf_tree::{Expr, Name, Op};
 
 /// `)` behind an operand that nothing tighter waits for.
 #[tactic(auto, using(crate::proofs::Waits::wait_laws))]
@@ -42,7 +40,11 @@ fn close(alloc: Global, bracket: Bracket, tree: Expr) -> Result<At, Memory>
         Bracket::First => Ok(At::Bad),
         Bracket::Second(_) => Ok(At::Bad),
         Bracket::Third(test, first) => {
-            Ok(At::Have(Expr::Select(Box::new(alloc, test)?, Box::new(alloc, first)?, Box::new(alloc, tree)?)))
+            Ok(At::Have(Expr::Select(
+                Box::new(alloc, test)?,
+                Box::new(alloc, first)?,
+                Box::new(alloc, tree)?,
+            )))
         }
     }
 }
@@ -160,7 +162,13 @@ fn start_symbol(stack: &mut Vec<Pending>, symbol: Symbol) -> Result<At, Memory>
 
 /// A token behind a name.
 #[tactic(auto, using(crate::proofs::Waits::wait_laws))]
-fn after_name<'t>(alloc: Global, stack: &mut Vec<Pending>, inside: &mut Vec<Token<'t>>, name: Name, token: Token<'t>) -> Result<At, Memory>
+fn after_name<'t>(
+    alloc: Global,
+    stack: &mut Vec<Pending>,
+    inside: &mut Vec<Token<'t>>,
+    name: Name,
+    token: Token<'t>,
+) -> Result<At, Memory>
     ensures { IfOk result (λ at. reading (waits stack.new.items) (map tok inside.new.items) at ≡ after_name (tok token.entry) (waits stack.old.items) name) }
 {
     match token {
@@ -178,7 +186,12 @@ fn after_name<'t>(alloc: Global, stack: &mut Vec<Pending>, inside: &mut Vec<Toke
 
 /// A token between `[` and `]`.
 #[tactic(auto, using(crate::proofs::Waits::map_push))]
-fn within_index<'t>(alloc: Global, inside: &mut Vec<Token<'t>>, name: Name, token: Token<'t>) -> Result<At, Memory>
+fn within_index<'t>(
+    alloc: Global,
+    inside: &mut Vec<Token<'t>>,
+    name: Name,
+    token: Token<'t>,
+) -> Result<At, Memory>
     ensures { IfOk result (λ at. (s : List Wait) → reading s (map tok inside.new.items) at ≡ within_index (tok token.entry) s name (map tok inside.old.items)) }
 {
     match token {
@@ -227,7 +240,13 @@ fn after_select(stack: &mut Vec<Pending>, token: Token) -> Result<At, Memory>
 }
 
 /// One token more. `inside` holds the tokens of an index that is open.
-pub(crate) fn step<'t>(alloc: Global, stack: &mut Vec<Pending>, inside: &mut Vec<Token<'t>>, at: At, token: Token<'t>) -> Result<At, Memory>
+pub(crate) fn step<'t>(
+    alloc: Global,
+    stack: &mut Vec<Pending>,
+    inside: &mut Vec<Token<'t>>,
+    at: At,
+    token: Token<'t>,
+) -> Result<At, Memory>
     ensures { IfOk result (λ next. reading (waits stack.new.items) (map tok inside.new.items) next
         ≡ step (reading (waits stack.old.items) (map tok inside.old.items) at) (tok token.entry)) }
 {

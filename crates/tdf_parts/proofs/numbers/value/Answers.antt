@@ -23,4 +23,3 @@ loop-byte-preserved c =
       number = place_step c.args.text.now c.loop-byte.byte-index c.loop-byte.value c.loop-byte-test.true ∙ c.loop-byte.invariant.number;
       below = place_below c.loop-byte.value (get_or c.args.text.now c.loop-byte.byte-index 0 - 48) c.loop-byte.byte-index c.loop-byte.invariant.below digit.1;
     })
-
