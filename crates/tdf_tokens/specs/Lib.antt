@@ -1,1 +1,5 @@
+pub mod Pieces
+pub mod Rows
+pub mod Text
 pub mod Token
+pub mod Words

@@ -3,7 +3,13 @@
 #![tactic(auto)]
 
 mod key;
+mod pieces;
+mod rows;
+mod text;
 mod token;
+mod words;
 
 pub use key::{Key, Symbol};
+pub use rows::token_lines;
+pub use text::{TextFault, line_count, text_fault};
 pub use token::{Line, Token};

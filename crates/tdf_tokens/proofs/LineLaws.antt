@@ -1,0 +1,118 @@
+-- The first line of a text and the lines behind it.
+use Rattle.std.proofs.Common.{◌≡◌, ◌≢◌, ℕ, zero, suc, ◌+◌, ◌-◌, ◌<◌, ◌≤◌, Bool, true, false, List, [], ◌∷◌, ◌++◌, length, take, drop, refl, ap, sym, ◌∙◌, cond, append_assoc, arith, not, nat_eq, add-one, length-drop}
+use Rattle.std.proofs.lemmas.List.{append-nil, take_all, drop_all, take_rest, map-append}
+use Rattle.std.proofs.lemmas.List.Sums.{prefix_len-le-length}
+use Rattle.std.specs.List.{before_first, after_first, position_or_len}
+use Rattle.std.specs.Prelude.{None}
+use Rattle.tdf_tokens.specs.Rows.{tokens_of, rows_from, row_unless_bare}
+use Rattle.tdf_tokens.specs.Token.{Tok, Row}
+use Rattle.tdf_tokens.specs.Text.{is_line_end, unless_empty, lines_from, lines_of, first_fault, line_fault_of, or_else}
+
+-- what stands before and after the first byte that passes, one byte further
+before_first-more : (p : ℕ → Bool) (byte : ℕ) (rest : List ℕ) → p byte ≡ false → before_first p (byte ∷ rest) ≡ byte ∷ before_first p rest
+before_first-more p byte rest e = rw e (let f : 1 + position_or_len p rest ≡ suc (position_or_len p rest) = omega arith in rw f)
+
+after_first-more : (p : ℕ → Bool) (byte : ℕ) (rest : List ℕ) → p byte ≡ false → after_first p (byte ∷ rest) ≡ after_first p rest
+after_first-more p byte rest e = rw e (let f : 1 + position_or_len p rest + 1 ≡ suc (position_or_len p rest + 1) = omega arith in rw f)
+
+before_first-here : (p : ℕ → Bool) (byte : ℕ) (rest : List ℕ) → p byte ≡ true → before_first p (byte ∷ rest) ≡ []
+before_first-here p byte rest e = rw e
+
+after_first-here : (p : ℕ → Bool) (byte : ℕ) (rest : List ℕ) → p byte ≡ true → after_first p (byte ∷ rest) ≡ rest
+after_first-here p byte rest e = rw e
+
+unless_empty-snoc : (now : List ℕ) (byte : ℕ) → unless_empty (now ++ byte ∷ []) ≡ (now ++ byte ∷ []) ∷ []
+unless_empty-snoc [] byte = refl
+unless_empty-snoc (first ∷ more) byte = refl
+
+lines_from-on : (now : List ℕ) (byte : ℕ) (rest : List ℕ) → is_line_end byte ≡ false → lines_from now (byte ∷ rest) ≡ lines_from (now ++ byte ∷ []) rest
+unfolding lines_from
+lines_from-on now byte rest e = rw e refl
+
+glue : (now line line' rest rest' : List ℕ) (byte : ℕ) → line' ≡ byte ∷ line → rest' ≡ rest
+    → ((now ++ byte ∷ []) ++ line) ∷ lines_of rest ≡ (now ++ line') ∷ lines_of rest'
+glue now line line' rest rest' byte e f = let g : (now ++ byte ∷ []) ++ line ≡ now ++ byte ∷ line = append_assoc now (byte ∷ []) line in cc
+
+-- the line so far goes on to the first line end
+lines_from-by : (now : List ℕ) (byte : ℕ) (rest : List ℕ) (b : Bool) → is_line_end byte ≡ b
+    → lines_from now (byte ∷ rest) ≡ (now ++ before_first is_line_end (byte ∷ rest)) ∷ lines_of (after_first is_line_end (byte ∷ rest))
+unfolding lines_from lines_of
+lines_from-by now byte rest true e =
+    rw e (ap (λ (line : List ℕ). line ∷ lines_from [] rest) (sym (append-nil now)))
+lines_from-by now byte [] false e = rw e (unless_empty-snoc now byte)
+lines_from-by now byte (next ∷ rest) false e =
+    lines_from-on now byte (next ∷ rest) e ∙ lines_from-by (now ++ byte ∷ []) next rest (is_line_end next) refl
+    ∙ glue now (before_first is_line_end (next ∷ rest)) (before_first is_line_end (byte ∷ next ∷ rest)) (after_first is_line_end (next ∷ rest))
+    (after_first is_line_end (byte ∷ next ∷ rest)) byte (before_first-more is_line_end byte (next ∷ rest) e) (after_first-more is_line_end byte (next ∷ rest) e)
+
+pub lines_of-step : (text : List ℕ) → 0 < length text → lines_of text ≡ before_first is_line_end text ∷ lines_of (after_first is_line_end text)
+unfolding lines_of
+lines_of-step [] h = absurd (omega (arith, h))
+lines_of-step (byte ∷ rest) h = lines_from-by [] byte rest (is_line_end byte) refl
+
+pub position_or_len-le : (p : ℕ → Bool) (xs : List ℕ) → position_or_len p xs ≤ length xs
+position_or_len-le p xs = prefix_len-le-length (λ x. not (p x)) xs
+
+pub length-after_first : (p : ℕ → Bool) (xs : List ℕ) → 0 < length xs → length (after_first p xs) < length xs
+length-after_first p xs h = omega (arith, length-drop (position_or_len p xs + 1) xs)
+
+pub lines_of-none : (text : List ℕ) → length text ≡ 0 → lines_of text ≡ []
+unfolding lines_of lines_from
+lines_of-none [] h = refl
+lines_of-none (byte ∷ rest) h = absurd (omega (arith, h))
+
+pub count-step : (text : List ℕ) → 0 < length text → length (lines_of text) ≡ 1 + length (lines_of (after_first is_line_end text))
+count-step text h = rw (lines_of-step text h) (omega arith)
+
+pub count-none : (text : List ℕ) → length text ≡ 0 → length (lines_of text) ≡ 0
+count-none text h = rw (lines_of-none text h) refl
+
+pub fault-step : (number : ℕ) (text : List ℕ) → 0 < length text
+    → first_fault number (lines_of text) ≡ or_else (line_fault_of number (before_first is_line_end text)) (first_fault (number + 1) (lines_of (after_first is_line_end text)))
+unfolding first_fault
+fault-step number text h = rw (lines_of-step text h) refl
+
+pub fault-none : (number : ℕ) (text : List ℕ) → length text ≡ 0 → first_fault number (lines_of text) ≡ None
+unfolding first_fault
+fault-none number text h = rw (lines_of-none text h) refl
+
+pub rows-step : (number : ℕ) (text : List ℕ) → 0 < length text
+    → rows_from number (lines_of text)
+    ≡ row_unless_bare number (tokens_of (before_first is_line_end text)) ++ rows_from (number + 1) (lines_of (after_first is_line_end text))
+unfolding rows_from
+rows-step number text h = rw (lines_of-step text h) refl
+
+pub rows-none : (number : ℕ) (text : List ℕ) → length text ≡ 0 → rows_from number (lines_of text) ≡ []
+unfolding rows_from
+rows-none number text h = rw (lines_of-none text h) refl
+
+pub push-bare : (number : ℕ) (tokens : List Tok) → length tokens ≡ 0 → row_unless_bare number tokens ≡ []
+push-bare number [] h = refl
+push-bare number (first ∷ more) h = absurd (omega (arith, h))
+
+pub push-one : (number : ℕ) (tokens : List Tok) → length tokens ≢ 0 → row_unless_bare number tokens ≡ (record { number = number; tokens = tokens }) ∷ []
+push-one number [] h = absurd (h refl)
+push-one number (first ∷ more) h = refl
+
+-- the rows of the first line have been appended
+pub rows-pushed : (number : ℕ) (text line behind : List ℕ) (tokens : List Tok) (all old new : List Row) → 0 < length text
+    → line ≡ before_first is_line_end text → behind ≡ after_first is_line_end text → tokens ≡ tokens_of line
+    → new ≡ old ++ row_unless_bare number tokens → old ++ rows_from number (lines_of text) ≡ all
+    → new ++ rows_from (number + 1) (lines_of behind) ≡ all
+rows-pushed number text line behind tokens all old new h e f g n o =
+    let put : row_unless_bare number tokens ≡ row_unless_bare number (tokens_of (before_first is_line_end text)) = ap (row_unless_bare number) (g ∙ ap tokens_of e) in
+    let rest : rows_from (number + 1) (lines_of behind) ≡ rows_from (number + 1) (lines_of (after_first is_line_end text)) = ap (λ (b : List ℕ). rows_from (number + 1) (lines_of b)) f in
+    ap (λ (l : List Row). l ++ rows_from (number + 1) (lines_of behind)) n
+    ∙ append_assoc old (row_unless_bare number tokens) (rows_from (number + 1) (lines_of behind))
+    ∙ ap (λ (l : List Row). old ++ l) (cc (put, rest, rows-step number text h))
+    ∙ o
+
+pub ruleset row_laws = (rows-step, rows-none, length-after_first, append-nil)
+
+pub ruleset push_laws = (push-bare, push-one, append-nil, map-append)
+
+pub ruleset count_laws = (count-step, count-none, length-after_first)
+
+pub ruleset fault_laws = (fault-step, fault-none, length-after_first)
+
+pub ruleset cut_laws = (position_or_len-le, append-nil, take_all, drop_all, take_rest)

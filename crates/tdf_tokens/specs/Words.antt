@@ -1,0 +1,128 @@
+-- The spellings of the reserved words and of the symbols (own).
+use Rattle.std.specs.Prelude.{ℕ, nat_eq, List, [], ◌∷◌, Option, codes}
+use Rattle.std.specs.Cmp.Lexicographic.{pointwise}
+use Rattle.std.specs.List.{find}
+use Rattle.tdf_tokens.specs.Text.{or_else}
+use Rattle.tdf_tokens.specs.declared.key.Key.{Key}
+use Rattle.tdf_tokens.specs.declared.key.Key.TheVariants as key
+use Rattle.tdf_tokens.specs.declared.key.Symbol.{Symbol}
+use Rattle.tdf_tokens.specs.declared.key.Symbol.TheVariants as symbol
+
+unfoldable pub spelling : Key → List ℕ
+spelling key.Language = codes "language"
+spelling key.Type = codes "type"
+spelling key.Tdf = codes "tdf"
+spelling key.De = codes "de"
+spelling key.Composite = codes "composite"
+spelling key.Top = codes "top"
+spelling key.End = codes "end"
+spelling key.SetAttributes = codes "set_attributes"
+spelling key.Initialize = codes "initialize"
+spelling key.Processing = codes "processing"
+spelling key.ChangeAttributes = codes "change_attributes"
+spelling key.Reinitialize = codes "reinitialize"
+spelling key.Process = codes "process"
+spelling key.In = codes "in"
+spelling key.Out = codes "out"
+spelling key.DeIn = codes "de_in"
+spelling key.DeOut = codes "de_out"
+spelling key.Const = codes "const"
+spelling key.Var = codes "var"
+spelling key.Array = codes "array"
+spelling key.Rate = codes "rate"
+spelling key.Event = codes "event"
+spelling key.Signal = codes "signal"
+spelling key.DeSignal = codes "de_signal"
+spelling key.Instance = codes "instance"
+spelling key.Bind = codes "bind"
+spelling key.Trace = codes "trace"
+spelling key.Timestep = codes "timestep"
+spelling key.Delay = codes "delay"
+spelling key.Initial = codes "initial"
+spelling key.DoesAttributeChanges = codes "does_attribute_changes"
+spelling key.AcceptAttributeChanges = codes "accept_attribute_changes"
+spelling key.RejectAttributeChanges = codes "reject_attribute_changes"
+spelling key.Sensitive = codes "sensitive"
+spelling key.DontInitialize = codes "dont_initialize"
+spelling key.If = codes "if"
+spelling key.Else = codes "else"
+spelling key.For = codes "for"
+spelling key.Notify = codes "notify"
+spelling key.After = codes "after"
+spelling key.And = codes "and"
+spelling key.Or = codes "or"
+spelling key.Not = codes "not"
+spelling key.Select = codes "select"
+spelling key.Fixed = codes "fixed"
+spelling key.Ufixed = codes "ufixed"
+spelling key.Trn = codes "trn"
+spelling key.TrnZero = codes "trn_zero"
+spelling key.Rnd = codes "rnd"
+spelling key.RndZero = codes "rnd_zero"
+spelling key.RndMinInf = codes "rnd_min_inf"
+spelling key.RndInf = codes "rnd_inf"
+spelling key.RndConv = codes "rnd_conv"
+spelling key.Wrap = codes "wrap"
+spelling key.Sat = codes "sat"
+spelling key.SatZero = codes "sat_zero"
+spelling key.SatSym = codes "sat_sym"
+
+unfoldable pub sign : Symbol → List ℕ
+sign symbol.Open = codes "("
+sign symbol.Close = codes ")"
+sign symbol.OpenSquare = codes "["
+sign symbol.CloseSquare = codes "]"
+sign symbol.Comma = codes ","
+sign symbol.Point = codes "."
+sign symbol.Plus = codes "+"
+sign symbol.Minus = codes "-"
+sign symbol.Times = codes "*"
+sign symbol.ShiftLeft = codes "<<"
+sign symbol.ShiftRight = codes ">>"
+sign symbol.Less = codes "<"
+sign symbol.AtMost = codes "<="
+sign symbol.Equal = codes "=="
+sign symbol.NotEqual = codes "!="
+sign symbol.Greater = codes ">"
+sign symbol.AtLeast = codes ">="
+sign symbol.Becomes = codes "="
+
+-- the words that open and close blocks
+abbrev pub block_keys : List Key
+block_keys = key.Language ∷ key.Type ∷ key.Tdf ∷ key.De ∷ key.Composite ∷ key.Top ∷ key.End ∷ key.SetAttributes ∷ key.Initialize ∷ key.Processing ∷ key.ChangeAttributes ∷ key.Reinitialize ∷ key.Process ∷ []
+
+-- the words of the lines that declare and bind
+abbrev pub line_keys : List Key
+line_keys = key.In ∷ key.Out ∷ key.DeIn ∷ key.DeOut ∷ key.Const ∷ key.Var ∷ key.Array ∷ key.Rate ∷ key.Event ∷ key.Signal ∷ key.DeSignal ∷ key.Instance ∷ key.Bind ∷ key.Trace ∷ []
+
+-- the words of attributes and of processes
+abbrev pub attribute_keys : List Key
+attribute_keys = key.Timestep ∷ key.Delay ∷ key.Initial ∷ key.DoesAttributeChanges ∷ key.AcceptAttributeChanges ∷ key.RejectAttributeChanges ∷ key.Sensitive ∷ key.DontInitialize ∷ []
+
+-- the words of statements and expressions
+abbrev pub statement_keys : List Key
+statement_keys = key.If ∷ key.Else ∷ key.For ∷ key.Notify ∷ key.After ∷ key.And ∷ key.Or ∷ key.Not ∷ key.Select ∷ []
+
+-- the words of fixed-point formats
+abbrev pub format_keys : List Key
+format_keys = key.Fixed ∷ key.Ufixed ∷ key.Trn ∷ key.TrnZero ∷ key.Rnd ∷ key.RndZero ∷ key.RndMinInf ∷ key.RndInf ∷ key.RndConv ∷ key.Wrap ∷ key.Sat ∷ key.SatZero ∷ key.SatSym ∷ []
+
+abbrev pub all_symbols : List Symbol
+all_symbols = symbol.Open ∷ symbol.Close ∷ symbol.OpenSquare ∷ symbol.CloseSquare ∷ symbol.Comma ∷ symbol.Point ∷ symbol.Plus ∷ symbol.Minus ∷ symbol.Times ∷ symbol.ShiftLeft ∷ symbol.ShiftRight ∷ symbol.Less ∷ symbol.AtMost ∷ symbol.Equal ∷ symbol.NotEqual ∷ symbol.Greater ∷ symbol.AtLeast ∷ symbol.Becomes ∷ []
+
+-- the one of some words that is spelled so
+unfoldable pub key_among : List Key → List ℕ → Option Key
+key_among words text = find (λ key. pointwise nat_eq text (spelling key)) words
+
+-- the reserved word that is spelled so
+unfoldable pub key_of : List ℕ → Option Key
+key_of text =
+    or_else (key_among block_keys text)
+    (or_else (key_among line_keys text)
+    (or_else (key_among attribute_keys text)
+    (or_else (key_among statement_keys text)
+    (key_among format_keys text))))
+
+-- the symbol that is written so
+unfoldable pub symbol_of : List ℕ → Option Symbol
+symbol_of text = find (λ symbol. pointwise nat_eq text (sign symbol)) all_symbols
