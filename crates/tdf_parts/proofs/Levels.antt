@@ -7,8 +7,10 @@ use Rattle.tdf_tokens.specs.Token.{Tok}
 use Rattle.tdf_tree.specs.Pure.{PureExpr, EBinary, ENot, ENeg}
 use Rattle.tdf_tree.specs.declared.expr.Op.{Op}
 use Rattle.tdf_tree.specs.declared.expr.Op.TheVariants.{Or, And, Lt, Le, Eq, Ne, Gt, Ge, Add, Sub, Mul}
+use Rattle.tdf_parts.specs.declared.behind.Behind.{Behind}
+use Rattle.tdf_parts.specs.declared.behind.Behind.TheVariants.{Joins, Shifts, Shuts, Parts, Breaks}
 use Rattle.tdf_parts.specs.Says.{level, left_level, sign, shift_sign}
-use Rattle.tdf_parts.specs.Machine.{Wait, Within, Negated, Denied, Left, Top, stops, reduce, behind, Behind, Joins, Shifts, Shuts, Parts, Breaks}
+use Rattle.tdf_parts.specs.Machine.{Wait, Within, Negated, Denied, Left, Top, stops, reduce, behind}
 
 pub cond_le : {A : Type 0} (m n : ℕ) (x y : A) → m ≤ n → cond (leb m n) x y ≡ x
 cond_le m n x y h = grind (arith, nat_tests)

@@ -13,9 +13,11 @@ use Rattle.tdf_tree.specs.declared.expr.Op.{Op}
 use Rattle.tdf_tree.specs.declared.expr.Op.TheVariants.{Or, And, Lt, Le, Eq, Ne, Gt, Ge, Add, Sub, Mul}
 use Rattle.tdf_parts.specs.Numbers.{trimmed, int_of}
 use Rattle.tdf_parts.specs.Index.{SaysIndex, index_int, index_var, index_plus, index_minus, index_from}
+use Rattle.tdf_parts.specs.declared.behind.Behind.{Behind}
+use Rattle.tdf_parts.specs.declared.behind.Behind.TheVariants.{Joins, Shifts, Shuts, Parts, Breaks}
 use Rattle.tdf_parts.specs.Says.{level, left_level, sign, shift_sign, Says, number, variable, item, cast, select, parens, negation, shift, contrary, binary, tighter}
 use Rattle.tdf_parts.specs.Machine.{Opening, Group, Call, First, Second, Third, Wait, Within, Negated, Denied, Left, Top, Reading, Want, Have, Named, Indexing, Shifting, Selecting, Bad}
-use Rattle.tdf_parts.specs.Machine.{stops, reduce, Behind, Joins, Shifts, Shuts, Parts, Breaks, behind, behind_key, behind_symbol, shut, part, joined, join, start, start_key, start_symbol, after_name, after_name_symbol, index_of, int_index, plus_index, minus_index, from_index, named_index, number_index, indexed, within_index, shifted, after_shift, after_select, step, closed, finish, run, expr_of}
+use Rattle.tdf_parts.specs.Machine.{stops, reduce, behind, behind_key, behind_symbol, shut, part, joined, join, start, start_key, start_symbol, after_name, after_name_symbol, index_of, int_index, plus_index, minus_index, from_index, named_index, number_index, indexed, within_index, shifted, after_shift, after_select, step, closed, finish, run, expr_of}
 use Rattle.tdf_parts.proofs.Levels.{cond_le, cond_gt, leb_true, ltb_true, leb_le, ltb_lt, level_le, left_le_five, level_lt_six, stops_more, stops_six, pick, pick_bool}
 
 -- the tokens of an open bracket
@@ -69,36 +71,44 @@ reduced m k (Negated ∷ s) e pre le low h =
       holds = h.holds.1;
       quiet = stops_six s;
       says = negation (lower 6 m h.own e (leb_le 6 m h.quiet) h.says);
-      is = h.is ∙ ap (λ t. t ++ h.own) h.holds.2 ∙ append_assoc h.holds.0 (TSymbol symbol.Minus ∷ []) h.own
+      is = h.is ∙ ap (λ t. t ++ h.own) h.holds.2 ∙ append_assoc h.holds.0 (TSymbol symbol.Minus ∷ []) h.own;
     })
 reduced m k (Denied ∷ s) e pre le low h =
     pick (HoldsTop k pre) k 2 _ _
-      (λ under. reduced 2 k s (ENot e) pre under low (record {
-        front = h.holds.0;
-        own = TKey key.Not ∷ h.own;
-        holds = h.holds.1;
-        quiet = h.holds.2;
-        says = contrary (lower 2 m h.own e (leb_le 2 m h.quiet) h.says);
-        is = h.is ∙ ap (λ t. t ++ h.own) h.holds.3 ∙ append_assoc h.holds.0 (TKey key.Not ∷ []) h.own
-      }))
-      (λ over. record {
-        front = h.front; own = h.own; holds = h.holds; quiet = leb_true 2 k (omega arith);
-        says = lower k m h.own e le h.says; is = h.is
-      })
+    (λ under. reduced 2 k s (ENot e) pre under low (record {
+      front = h.holds.0;
+      own = TKey key.Not ∷ h.own;
+      holds = h.holds.1;
+      quiet = h.holds.2;
+      says = contrary (lower 2 m h.own e (leb_le 2 m h.quiet) h.says);
+      is = h.is ∙ ap (λ t. t ++ h.own) h.holds.3 ∙ append_assoc h.holds.0 (TKey key.Not ∷ []) h.own;
+    }))
+    (λ over. record {
+      front = h.front;
+      own = h.own;
+      holds = h.holds;
+      quiet = leb_true 2 k (omega arith);
+      says = lower k m h.own e le h.says;
+      is = h.is;
+    })
 reduced m k (Left op x ∷ s) e pre le low h =
     pick (HoldsTop k pre) k (level op) _ _
-      (λ under. reduced (level op) k s (EBinary op x e) pre under low (record {
-        front = h.holds.0;
-        own = h.holds.1 ++ sign op ∷ h.own;
-        holds = h.holds.2;
-        quiet = h.holds.3;
-        says = binary op refl h.holds.4 (lower (suc (level op)) m h.own e (ltb_lt (level op) m h.quiet) h.says);
-        is = h.is ∙ ap (λ t. t ++ h.own) h.holds.5 ∙ append_assoc h.holds.0 (h.holds.1 ++ sign op ∷ []) h.own ∙ ap (λ t. h.holds.0 ++ t) (append_assoc h.holds.1 (sign op ∷ []) h.own)
-      }))
-      (λ over. record {
-        front = h.front; own = h.own; holds = h.holds; quiet = ltb_true (level op) k over;
-        says = lower k m h.own e le h.says; is = h.is
-      })
+    (λ under. reduced (level op) k s (EBinary op x e) pre under low (record {
+      front = h.holds.0;
+      own = h.holds.1 ++ sign op ∷ h.own;
+      holds = h.holds.2;
+      quiet = h.holds.3;
+      says = binary op refl h.holds.4 (lower (suc (level op)) m h.own e (ltb_lt (level op) m h.quiet) h.says);
+      is = h.is ∙ ap (λ t. t ++ h.own) h.holds.5 ∙ append_assoc h.holds.0 (h.holds.1 ++ sign op ∷ []) h.own ∙ ap (λ t. h.holds.0 ++ t) (append_assoc h.holds.1 (sign op ∷ []) h.own);
+    }))
+    (λ over. record {
+      front = h.front;
+      own = h.own;
+      holds = h.holds;
+      quiet = ltb_true (level op) k over;
+      says = lower k m h.own e le h.says;
+      is = h.is;
+    })
 
 -- what each state of the machine stands for
 abbrev pub Kept : Reading → List Tok → Type 0
@@ -112,23 +122,32 @@ Kept Bad pre = Unit {0}
 
 -- an operand that needs no parentheses
 single : (s : List Wait) (e : PureExpr) (p a pre : List Tok) → Holds s p → Says 7 a e → pre ≡ p ++ a → Kept (Have s e) pre
-single s e p a pre h d is = (7, omega arith, record {
-    front = p; own = a; holds = h; quiet = stops_more 6 7 s (omega arith) (stops_six s); says = d; is = is
-  })
+single s e p a pre h d is = (
+  7,
+  omega arith,
+  record {
+    front = p;
+    own = a;
+    holds = h;
+    quiet = stops_more 6 7 s (omega arith) (stops_six s);
+    says = d;
+    is = is;
+  },
+)
 
 kept_shut : (s : List Wait) (e : PureExpr) (pre : List Tok) → HoldsOne 0 s e pre → Kept (shut s e) (pre ++ TSymbol symbol.Close ∷ [])
 kept_shut (Within Group ∷ s) e pre h =
     single s e h.holds.0 _ _ h.holds.2 (parens h.says)
-      (joins_up pre h.front h.own h.holds.0 h.holds.1 _ (TSymbol symbol.Close ∷ []) h.is h.holds.4 h.holds.3)
+    (joins_up pre h.front h.own h.holds.0 h.holds.1 _ (TSymbol symbol.Close ∷ []) h.is h.holds.4 h.holds.3)
 kept_shut (Within (Call name) ∷ s) e pre h =
     single s (ECast name e) h.holds.0 _ _ h.holds.2 (cast name h.says)
-      (joins_up pre h.front h.own h.holds.0 h.holds.1 _ (TSymbol symbol.Close ∷ []) h.is h.holds.4 h.holds.3)
+    (joins_up pre h.front h.own h.holds.0 h.holds.1 _ (TSymbol symbol.Close ∷ []) h.is h.holds.4 h.holds.3)
 kept_shut (Within (Third x y) ∷ s) e pre h =
     single s (ESelect x y e) h.holds.0 _ _ h.holds.2 (select h.holds.3.2 h.holds.3.3 h.says)
-      (joins_up pre h.front h.own h.holds.0 h.holds.1 _ (TSymbol symbol.Close ∷ []) h.is h.holds.4 h.holds.3.4
-        ∙ ap (λ u. h.holds.0 ++ TKey key.Select ∷ TSymbol symbol.Open ∷ u)
-          (append_assoc h.holds.3.0 (TSymbol symbol.Comma ∷ (h.holds.3.1 ++ TSymbol symbol.Comma ∷ [])) (h.own ++ TSymbol symbol.Close ∷ [])
-          ∙ ap (λ u. h.holds.3.0 ++ TSymbol symbol.Comma ∷ u) (append_assoc h.holds.3.1 (TSymbol symbol.Comma ∷ []) (h.own ++ TSymbol symbol.Close ∷ []))))
+    (joins_up pre h.front h.own h.holds.0 h.holds.1 _ (TSymbol symbol.Close ∷ []) h.is h.holds.4 h.holds.3.4
+    ∙ ap (λ u. h.holds.0 ++ TKey key.Select ∷ TSymbol symbol.Open ∷ u)
+    (append_assoc h.holds.3.0 (TSymbol symbol.Comma ∷ (h.holds.3.1 ++ TSymbol symbol.Comma ∷ [])) (h.own ++ TSymbol symbol.Close ∷ [])
+    ∙ ap (λ u. h.holds.3.0 ++ TSymbol symbol.Comma ∷ u) (append_assoc h.holds.3.1 (TSymbol symbol.Comma ∷ []) (h.own ++ TSymbol symbol.Close ∷ []))))
 kept_shut [] e pre h = tt
 kept_shut (Negated ∷ s) e pre h = tt
 kept_shut (Denied ∷ s) e pre h = tt
@@ -139,10 +158,14 @@ kept_shut (Within (Second x) ∷ s) e pre h = tt
 kept_part : (s : List Wait) (e : PureExpr) (pre : List Tok) → HoldsOne 0 s e pre → Kept (part s e) (pre ++ TSymbol symbol.Comma ∷ [])
 kept_part (Within First ∷ s) e pre h =
     (h.holds.0, _, h.holds.2, (h.own, h.says, refl), joins_up pre h.front h.own h.holds.0 h.holds.1 _ (TSymbol symbol.Comma ∷ []) h.is h.holds.4 h.holds.3)
-kept_part (Within (Second x) ∷ s) e pre h =
-    (h.holds.0, _, h.holds.2, (h.holds.3.0, h.own, h.holds.3.1, h.says, refl),
-      joins_up pre h.front h.own h.holds.0 h.holds.1 _ (TSymbol symbol.Comma ∷ []) h.is h.holds.4 h.holds.3.2
-        ∙ ap (λ u. h.holds.0 ++ TKey key.Select ∷ TSymbol symbol.Open ∷ u) (append_assoc h.holds.3.0 (TSymbol symbol.Comma ∷ []) (h.own ++ TSymbol symbol.Comma ∷ [])))
+kept_part (Within (Second x) ∷ s) e pre h = (
+  h.holds.0,
+  _,
+  h.holds.2,
+  (h.holds.3.0, h.own, h.holds.3.1, h.says, refl),
+  joins_up pre h.front h.own h.holds.0 h.holds.1 _ (TSymbol symbol.Comma ∷ []) h.is h.holds.4 h.holds.3.2
+      ∙ ap (λ u. h.holds.0 ++ TKey key.Select ∷ TSymbol symbol.Open ∷ u) (append_assoc h.holds.3.0 (TSymbol symbol.Comma ∷ []) (h.own ++ TSymbol symbol.Comma ∷ [])),
+)
 kept_part [] e pre h = tt
 kept_part (Negated ∷ s) e pre h = tt
 kept_part (Denied ∷ s) e pre h = tt
@@ -191,24 +214,29 @@ signs TWrong = tt
 kept_joined : (op : Op) (pre : List Tok) (r : Top) → HoldsTop (left_level op) pre r → Kept (joined op r) (pre ++ sign op ∷ [])
 kept_joined op pre r h =
     pick_bool (λ q. Kept q (pre ++ sign op ∷ [])) (stops (level op) r.stack) _ _
-      (λ quiet. (h.front, h.own, h.holds, quiet, h.says, ap (λ t. t ++ sign op ∷ []) h.is ∙ append_assoc h.front h.own (sign op ∷ [])))
-      (λ _. tt)
+    (λ quiet. (h.front, h.own, h.holds, quiet, h.says, ap (λ t. t ++ sign op ∷ []) h.is ∙ append_assoc h.front h.own (sign op ∷ [])))
+    (λ _. tt)
 
 kept_join : (b : Behind) (t : Tok) (m : ℕ) (s : List Wait) (e : PureExpr) (pre : List Tok) → Signs b t → 5 ≤ m → HoldsOne m s e pre
-  → Kept (join b s e) (pre ++ t ∷ [])
+    → Kept (join b s e) (pre ++ t ∷ [])
 kept_join (Joins op) t m s e pre is le h =
     subst (λ c. Kept (join (Joins op) s e) (pre ++ c ∷ [])) (sym is)
-      (kept_joined op pre (reduce (left_level op) s e) (reduced m (left_level op) s e pre (omega (arith, left_le_five op)) (left_le_five op) h))
+    (kept_joined op pre (reduce (left_level op) s e) (reduced m (left_level op) s e pre (omega (arith, left_le_five op)) (left_le_five op) h))
 kept_join (Shifts left) t m s e pre is le h =
-    let r : HoldsTop 5 pre (reduce 5 s e) = reduced m 5 s e pre le (omega arith) h in
-    (r.front, r.own, r.holds, r.quiet, r.says,
-      ap (λ c. pre ++ c ∷ []) is ∙ ap (λ u. u ++ shift_sign left ∷ []) r.is ∙ append_assoc r.front r.own (shift_sign left ∷ []))
+    let r : HoldsTop 5 pre (reduce 5 s e) = reduced m 5 s e pre le (omega arith) h in (
+      r.front,
+      r.own,
+      r.holds,
+      r.quiet,
+      r.says,
+      ap (λ c. pre ++ c ∷ []) is ∙ ap (λ u. u ++ shift_sign left ∷ []) r.is ∙ append_assoc r.front r.own (shift_sign left ∷ []),
+    )
 kept_join Shuts t m s e pre is le h =
     subst (λ c. Kept (join Shuts s e) (pre ++ c ∷ [])) (sym is)
-      (kept_shut (reduce 0 s e).stack (reduce 0 s e).tree pre (reduced m 0 s e pre (omega arith) (omega arith) h))
+    (kept_shut (reduce 0 s e).stack (reduce 0 s e).tree pre (reduced m 0 s e pre (omega arith) (omega arith) h))
 kept_join Parts t m s e pre is le h =
     subst (λ c. Kept (join Parts s e) (pre ++ c ∷ [])) (sym is)
-      (kept_part (reduce 0 s e).stack (reduce 0 s e).tree pre (reduced m 0 s e pre (omega arith) (omega arith) h))
+    (kept_part (reduce 0 s e).stack (reduce 0 s e).tree pre (reduced m 0 s e pre (omega arith) (omega arith) h))
 kept_join Breaks t m s e pre is le h = tt
 
 kept_start_key : (k : Key) (s : List Wait) (pre : List Tok) → Holds s pre → Kept (start_key k s) (pre ++ TKey k ∷ [])
@@ -237,7 +265,7 @@ named : (s : List Wait) (name : List ℕ) (pre : List Tok) → Kept (Named s nam
 named s name pre h = single s (EName name) h.0 (TName name ∷ []) pre h.1 (variable name) h.2
 
 kept_name_symbol : (c : Symbol) (s : List Wait) (name : List ℕ) (pre : List Tok) → Kept (Named s name) pre
-  → Kept (after_name_symbol c s name) (pre ++ TSymbol c ∷ [])
+    → Kept (after_name_symbol c s name) (pre ++ TSymbol c ∷ [])
 kept_name_symbol symbol.Open s name pre h =
     (h.0, _, h.1, refl, ap (λ u. u ++ TSymbol symbol.Open ∷ []) h.2 ∙ append_assoc h.0 (TName name ∷ []) (TSymbol symbol.Open ∷ []))
 kept_name_symbol symbol.OpenSquare s name pre h =
@@ -254,17 +282,17 @@ int_says text (Some n) i is h = let e : index.Int n ≡ i = cc in subst (SaysInd
 int_says text None i is h = absurd (cc)
 
 plus_says : (v text : List ℕ) (o : Option ℕ) (i : Index) → int_of text ≡ o → plus_index v o ≡ Some i
-  → SaysIndex (TName v ∷ TSymbol symbol.Plus ∷ TNumber text ∷ []) i
+    → SaysIndex (TName v ∷ TSymbol symbol.Plus ∷ TNumber text ∷ []) i
 plus_says v text (Some n) i is h = let e : index.Plus v n ≡ i = cc in subst (SaysIndex _) e (index_plus v text is)
 plus_says v text None i is h = absurd (cc)
 
 minus_says : (v text : List ℕ) (o : Option ℕ) (i : Index) → int_of text ≡ o → minus_index v o ≡ Some i
-  → SaysIndex (TName v ∷ TSymbol symbol.Minus ∷ TNumber text ∷ []) i
+    → SaysIndex (TName v ∷ TSymbol symbol.Minus ∷ TNumber text ∷ []) i
 minus_says v text (Some n) i is h = let e : index.Minus v n ≡ i = cc in subst (SaysIndex _) e (index_minus v text is)
 minus_says v text None i is h = absurd (cc)
 
 from_says : (v text : List ℕ) (o : Option ℕ) (i : Index) → int_of text ≡ o → from_index v o ≡ Some i
-  → SaysIndex (TNumber text ∷ TSymbol symbol.Minus ∷ TName v ∷ []) i
+    → SaysIndex (TNumber text ∷ TSymbol symbol.Minus ∷ TName v ∷ []) i
 from_says v text (Some n) i is h = let e : index.From n v ≡ i = cc in subst (SaysIndex _) e (index_from v text is)
 from_says v text None i is h = absurd (cc)
 
@@ -285,10 +313,10 @@ index_says (TNumber text ∷ (TSymbol c ∷ (TName v ∷ []))) i h = number_says
 index_says _ i h = absurd (cc)
 
 kept_indexed : (o : Option Index) (s : List Wait) (name : List ℕ) (a pre : List Tok) → index_of a ≡ o → Kept (Indexing s name a) pre
-  → Kept (indexed o s name) (pre ++ TSymbol symbol.CloseSquare ∷ [])
+    → Kept (indexed o s name) (pre ++ TSymbol symbol.CloseSquare ∷ [])
 kept_indexed (Some i) s name a pre is h =
     single s (EAt name i) h.0 _ _ h.1 (item name (index_says a i is))
-      (ap (λ u. u ++ TSymbol symbol.CloseSquare ∷ []) h.2 ∙ append_assoc h.0 (TName name ∷ TSymbol symbol.OpenSquare ∷ a) (TSymbol symbol.CloseSquare ∷ []))
+    (ap (λ u. u ++ TSymbol symbol.CloseSquare ∷ []) h.2 ∙ append_assoc h.0 (TName name ∷ TSymbol symbol.OpenSquare ∷ a) (TSymbol symbol.CloseSquare ∷ []))
 kept_indexed None s name a pre is h = tt
 
 within_more : (t : Tok) (s : List Wait) (name : List ℕ) (a pre : List Tok) → Kept (Indexing s name a) pre → Kept (Indexing s name (a ++ t ∷ [])) (pre ++ t ∷ [])
@@ -300,13 +328,20 @@ kept_within (TSymbol symbol.CloseSquare) s name a pre h = kept_indexed (index_of
 kept_within t s name a pre h = within_more t s name a pre h
 
 kept_shifted : (o : Option ℕ) (text : List ℕ) (s : List Wait) (e : PureExpr) (left : Bool) (pre : List Tok) → int_of text ≡ o → Kept (Shifting s e left) pre
-  → Kept (shifted o s e left) (pre ++ TNumber text ∷ [])
-kept_shifted (Some n) text s e left pre is h =
-    (5, omega arith, record {
-      front = h.0; own = h.1 ++ shift_sign left ∷ TNumber text ∷ []; holds = h.2; quiet = h.3; says = shift left text h.4 is;
-      is = ap (λ u. u ++ TNumber text ∷ []) h.5 ∙ append_assoc h.0 (h.1 ++ shift_sign left ∷ []) (TNumber text ∷ [])
-        ∙ ap (λ u. h.0 ++ u) (append_assoc h.1 (shift_sign left ∷ []) (TNumber text ∷ []))
-    })
+    → Kept (shifted o s e left) (pre ++ TNumber text ∷ [])
+kept_shifted (Some n) text s e left pre is h = (
+  5,
+  omega arith,
+  record {
+    front = h.0;
+    own = h.1 ++ shift_sign left ∷ TNumber text ∷ [];
+    holds = h.2;
+    quiet = h.3;
+    says = shift left text h.4 is;
+    is = ap (λ u. u ++ TNumber text ∷ []) h.5 ∙ append_assoc h.0 (h.1 ++ shift_sign left ∷ []) (TNumber text ∷ [])
+        ∙ ap (λ u. h.0 ++ u) (append_assoc h.1 (shift_sign left ∷ []) (TNumber text ∷ []));
+  },
+)
 kept_shifted None text s e left pre is h = tt
 
 kept_shift : (t : Tok) (s : List Wait) (e : PureExpr) (left : Bool) (pre : List Tok) → Kept (Shifting s e left) pre → Kept (after_shift t s e left) (pre ++ t ∷ [])

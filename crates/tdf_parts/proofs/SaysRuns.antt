@@ -11,9 +11,11 @@ use Rattle.tdf_tree.specs.declared.expr.Index.TheVariants as index
 use Rattle.tdf_tree.specs.declared.expr.Op.{Op}
 use Rattle.tdf_parts.specs.Numbers.{trimmed, int_of}
 use Rattle.tdf_parts.specs.Index.{SaysIndex, index_int, index_var, index_plus, index_minus, index_from}
+use Rattle.tdf_parts.specs.declared.behind.Behind.{Behind}
+use Rattle.tdf_parts.specs.declared.behind.Behind.TheVariants.{Joins, Shifts, Shuts, Parts, Breaks}
 use Rattle.tdf_parts.specs.Says.{level, left_level, sign, shift_sign, Says, number, variable, item, cast, select, parens, negation, shift, contrary, binary, tighter}
 use Rattle.tdf_parts.specs.Machine.{Opening, Group, Call, First, Second, Third, Wait, Within, Negated, Denied, Left, Top, Reading, Want, Have, Named, Indexing, Shifting, Selecting, Bad}
-use Rattle.tdf_parts.specs.Machine.{stops, reduce, Behind, Joins, Shifts, Shuts, Parts, Breaks, behind, behind_symbol, shut, part, joined, join, start, after_name, index_of, int_index, plus_index, minus_index, from_index, named_index, number_index, indexed, within_index, shifted, after_shift, after_select, step, closed, finish, run, expr_of}
+use Rattle.tdf_parts.specs.Machine.{stops, reduce, behind, behind_symbol, shut, part, joined, join, start, after_name, index_of, int_index, plus_index, minus_index, from_index, named_index, number_index, indexed, within_index, shifted, after_shift, after_select, step, closed, finish, run, expr_of}
 use Rattle.tdf_parts.proofs.Levels.{cond_le, cond_gt, leb_true, ltb_true, behind_sign, behind_shift, level_le, left_le_five, level_lt_six, stops_more, stays, left_not_two}
 
 -- what comes behind an operand of level k puts it together
@@ -41,7 +43,7 @@ follows_more j k (t ∷ ts) le h = lets_more j k (behind t) le h
 
 -- what comes behind looks at the operand and its stack only when they are put together
 join_same : (k : ℕ) (b : Behind) (s u : List Wait) (e f : PureExpr)
-  → ((j : ℕ) → j ≤ k → reduce j s e ≡ reduce j u f) → Lets k b → join b s e ≡ join b u f
+    → ((j : ℕ) → j ≤ k → reduce j s e ≡ reduce j u f) → Lets k b → join b s e ≡ join b u f
 join_same k (Joins op) s u e f same h = ap (joined op) (same (left_level op) h)
 join_same k (Shifts left) s u e f same h = ap (λ (r : Top). Shifting r.stack r.tree left) (same 5 h)
 join_same k Shuts s u e f same h = ap (λ (r : Top). shut r.stack r.tree) (same 0 (omega arith))
@@ -49,7 +51,7 @@ join_same k Parts s u e f same h = ap (λ (r : Top). part r.stack r.tree) (same 
 join_same k Breaks s u e f same h = absurd h
 
 runs_same : (k : ℕ) (rest : List Tok) (s u : List Wait) (e f : PureExpr)
-  → ((j : ℕ) → j ≤ k → reduce j s e ≡ reduce j u f) → Follows k rest → run (Have s e) rest ≡ run (Have u f) rest
+    → ((j : ℕ) → j ≤ k → reduce j s e ≡ reduce j u f) → Follows k rest → run (Have s e) rest ≡ run (Have u f) rest
 runs_same k [] s u e f same h = ap (λ (r : Top). closed r.stack r.tree) (same 0 (omega arith))
 runs_same k (t ∷ ts) s u e f same h = ap (λ r. run r ts) (join_same k (behind t) s u e f same h)
 
@@ -77,7 +79,7 @@ index_reads (index_minus name text h) = ap (minus_index name) h
 index_reads (index_from name text h) = ap (from_index name) h
 
 runs_index : {a : List Tok} {i : Index} → SaysIndex a i → (s : List Wait) (name : List ℕ) (rest : List Tok)
-  → run (Indexing s name []) (a ++ TSymbol symbol.CloseSquare ∷ rest) ≡ run (Have s (EAt name i)) rest
+    → run (Indexing s name []) (a ++ TSymbol symbol.CloseSquare ∷ rest) ≡ run (Have s (EAt name i)) rest
 runs_index (index_int text h) s name rest = ap (λ o. run (indexed (int_index o) s name) rest) h
 runs_index (index_var v) s name rest = refl
 runs_index (index_plus v text h) s name rest = ap (λ o. run (indexed (plus_index v o) s name) rest) h
@@ -86,7 +88,7 @@ runs_index (index_from v text h) s name rest = ap (λ o. run (indexed (from_inde
 
 -- an operator that has its right operand
 runs_left : (op : Op) (x e : PureExpr) (s : List Wait) (rest : List Tok) → Follows (level op) rest
-  → run (Have (Left op x ∷ s) e) rest ≡ run (Have s (EBinary op x e)) rest
+    → run (Have (Left op x ∷ s) e) rest ≡ run (Have s (EBinary op x e)) rest
 runs_left op x e s rest h = runs_same (level op) rest (Left op x ∷ s) s e (EBinary op x e) (λ j le. cond_le j (level op) _ _ le) h
 
 runs_denied : (e : PureExpr) (s : List Wait) (rest : List Tok) → Follows 2 rest → run (Have (Denied ∷ s) e) rest ≡ run (Have s (ENot e)) rest
@@ -94,21 +96,21 @@ runs_denied e s rest h = runs_same 2 rest (Denied ∷ s) s e (ENot e) (λ j le. 
 
 -- an operator behind its left operand
 runs_sign : (op : Op) (s : List Wait) (x : PureExpr) (rest : List Tok) → stops (level op) s ≡ true
-  → run (Have s x) (sign op ∷ rest) ≡ run (Want (Left op x ∷ s)) rest
+    → run (Have s x) (sign op ∷ rest) ≡ run (Want (Left op x ∷ s)) rest
 runs_sign op s x rest h =
     ap (λ b. run (join b s x) rest) (behind_sign op)
     ∙ ap (λ (r : Top). run (joined op r) rest) (stays (left_level op) s x (left_le_five op) (left_not_two op) (stops_more (level op) (left_level op) s (level_le op) h))
     ∙ ap (λ b. run (cond b (Want (Left op x ∷ s)) Bad) rest) h
 
 runs_shift : (left : Bool) (text : List ℕ) (n : ℕ) (s : List Wait) (x : PureExpr) (rest : List Tok) → stops 5 s ≡ true → int_of text ≡ Some n
-  → run (Have s x) (shift_sign left ∷ TNumber text ∷ rest) ≡ run (Have s (EShift x left n)) rest
+    → run (Have s x) (shift_sign left ∷ TNumber text ∷ rest) ≡ run (Have s (EShift x left n)) rest
 runs_shift left text n s x rest h is =
     ap (λ b. run (join b s x) (TNumber text ∷ rest)) (behind_shift left)
     ∙ ap (λ (r : Top). run (Shifting r.stack r.tree left) (TNumber text ∷ rest)) (stays 5 s x (omega arith) (λ (e : 5 ≡ 2). omega arith) h)
     ∙ ap (λ o. run (shifted o s x left) rest) is
 
 pub reads : {k : ℕ} {ts : List Tok} {e : PureExpr} → Says k ts e → (s : List Wait) (rest : List Tok) → stops k s ≡ true → Follows k rest
-  → run (Want s) (ts ++ rest) ≡ run (Have s e) rest
+    → run (Want s) (ts ++ rest) ≡ run (Have s e) rest
 reads (number text) s rest h f = refl
 reads (variable name) s rest h f = runs_name rest s name f
 reads (item name {a = a} d) s rest h f =

@@ -11,8 +11,12 @@ pub data SaysIndex : List Tok → Index → Type 0 where
   index_int : (text : List ℕ) {n : ℕ} → int_of text ≡ Some n → SaysIndex (TNumber text ∷ []) (index.Int n)
   index_var : (name : List ℕ) → SaysIndex (TName name ∷ []) (index.Var name)
   index_plus : (name : List ℕ) (text : List ℕ) {n : ℕ} → int_of text ≡ Some n
-    → SaysIndex (TName name ∷ TSymbol symbol.Plus ∷ TNumber text ∷ []) (index.Plus name n)
+      → SaysIndex (TName name ∷ TSymbol symbol.Plus ∷ TNumber text ∷ []) (index.Plus name n)
   index_minus : (name : List ℕ) (text : List ℕ) {n : ℕ} → int_of text ≡ Some n
-    → SaysIndex (TName name ∷ TSymbol symbol.Minus ∷ TNumber text ∷ []) (index.Minus name n)
+      → SaysIndex (TName name ∷ TSymbol symbol.Minus ∷ TNumber text ∷ []) (index.Minus name n)
   index_from : (name : List ℕ) (text : List ℕ) {n : ℕ} → int_of text ≡ Some n
-    → SaysIndex (TNumber text ∷ TSymbol symbol.Minus ∷ TName name ∷ []) (index.From n name)
+      → SaysIndex (TNumber text ∷ TSymbol symbol.Minus ∷ TName name ∷ []) (index.From n name)
+
+-- the tokens are no index
+abbrev pub IsNoIndex : List Tok → Type 0
+IsNoIndex ts = (i : Index) → SaysIndex ts i → ⊥

@@ -2,3 +2,4 @@ pub mod Numbers
 pub mod Index
 pub mod Says
 pub mod Machine
+pub mod Waiting

@@ -11,6 +11,8 @@ use Rattle.tdf_tree.specs.declared.expr.Index.{Index}
 use Rattle.tdf_tree.specs.declared.expr.Index.TheVariants as index
 use Rattle.tdf_tree.specs.declared.expr.Op.{Op}
 use Rattle.tdf_tree.specs.declared.expr.Op.TheVariants.{Or, And, Lt, Le, Eq, Ne, Gt, Ge, Add, Sub, Mul}
+use Rattle.tdf_parts.specs.declared.behind.Behind.{Behind}
+use Rattle.tdf_parts.specs.declared.behind.Behind.TheVariants.{Joins, Shifts, Shuts, Parts, Breaks}
 use Rattle.tdf_parts.specs.Numbers.{trimmed, int_of}
 use Rattle.tdf_parts.specs.Says.{level, left_level}
 
@@ -60,13 +62,6 @@ reduce k (Denied ∷ s) e = cond (nat_le k 2) (reduce k s (ENot e)) (record { st
 reduce k (Left op x ∷ s) e = cond (nat_le k (level op)) (reduce k s (EBinary op x e)) (record { stack = Left op x ∷ s; tree = e })
 
 -- what a token behind an operand does
-pub data Behind : Type 0 where
-  Joins : Op → Behind
-  Shifts : Bool → Behind
-  Shuts : Behind
-  Parts : Behind
-  Breaks : Behind
-
 abbrev pub behind_key : Key → Behind
 behind_key key.Or = Joins Or
 behind_key key.And = Joins And

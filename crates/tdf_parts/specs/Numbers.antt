@@ -1,8 +1,7 @@
 -- Numbers as they are written: NUMBER, INT and LIT of the language (own).
 use Rattle.std.specs.Prelude.{ℕ, ◌+◌, ◌-◌, Bool, false, ◌&&◌, not, nat_eq, nat_le, List, [], ◌∷◌, ◌++◌, length, take, drop, Option, Some, None, if◌then◌else◌}
 use Rattle.std.specs.List.{prefix_len, suffix_len, before_first, after_first}
-use Rattle.std.specs.Str.{all_ascii_digits}
-use Rattle.std.specs.Str.Parse.{digits_value}
+use Rattle.tdf_fixed.specs.Digits.{are_digits, number}
 use Rattle.tdf_tokens.specs.Token.{Tok, TNumber, TSymbol}
 use Rattle.tdf_tokens.specs.declared.key.Symbol.TheVariants as symbol
 use Rattle.tdf_tree.specs.declared.names.Lit.{Lit}
@@ -35,7 +34,7 @@ trimmed text = or_zero (without_first_zeros (before_first is_point text)) ++ beh
 
 -- the value of an INT, which is 1 to 18 digits; needless zeros may stand in front
 unfoldable pub int_of : List ℕ → Option ℕ
-int_of text = if all_ascii_digits text && (nat_le 1 (length text) && nat_le (length text) 18) then Some (digits_value 10 text) else None
+int_of text = if are_digits text && nat_le (length text) 18 then Some (number text) else None
 
 -- the text is 0
 abbrev pub is_nought : List ℕ → Bool

@@ -61,16 +61,20 @@ pub data Says : ℕ → List Tok → PureExpr → Type 0 where
   number : (text : List ℕ) → Says 7 (TNumber text ∷ []) (ENumber (trimmed text))
   variable : (name : List ℕ) → Says 7 (TName name ∷ []) (EName name)
   item : (name : List ℕ) {a : List Tok} {i : Index} → SaysIndex a i
-    → Says 7 (TName name ∷ TSymbol symbol.OpenSquare ∷ (a ++ TSymbol symbol.CloseSquare ∷ [])) (EAt name i)
+      → Says 7 (TName name ∷ TSymbol symbol.OpenSquare ∷ (a ++ TSymbol symbol.CloseSquare ∷ [])) (EAt name i)
   cast : (name : List ℕ) {a : List Tok} {x : PureExpr} → Says 0 a x
-    → Says 7 (TName name ∷ TSymbol symbol.Open ∷ (a ++ TSymbol symbol.Close ∷ [])) (ECast name x)
+      → Says 7 (TName name ∷ TSymbol symbol.Open ∷ (a ++ TSymbol symbol.Close ∷ [])) (ECast name x)
   select : {a b c : List Tok} {x y z : PureExpr} → Says 0 a x → Says 0 b y → Says 0 c z
-    → Says 7 (TKey key.Select ∷ TSymbol symbol.Open ∷ (a ++ TSymbol symbol.Comma ∷ (b ++ TSymbol symbol.Comma ∷ (c ++ TSymbol symbol.Close ∷ [])))) (ESelect x y z)
+      → Says 7 (TKey key.Select ∷ TSymbol symbol.Open ∷ (a ++ TSymbol symbol.Comma ∷ (b ++ TSymbol symbol.Comma ∷ (c ++ TSymbol symbol.Close ∷ [])))) (ESelect x y z)
   parens : {a : List Tok} {x : PureExpr} → Says 0 a x → Says 7 (TSymbol symbol.Open ∷ (a ++ TSymbol symbol.Close ∷ [])) x
   negation : {a : List Tok} {x : PureExpr} → Says 6 a x → Says 6 (TSymbol symbol.Minus ∷ a) (ENeg x)
   shift : (left : Bool) (text : List ℕ) {a : List Tok} {x : PureExpr} {n : ℕ} → Says 5 a x → int_of text ≡ Some n
-    → Says 5 (a ++ shift_sign left ∷ TNumber text ∷ []) (EShift x left n)
+      → Says 5 (a ++ shift_sign left ∷ TNumber text ∷ []) (EShift x left n)
   contrary : {a : List Tok} {x : PureExpr} → Says 2 a x → Says 2 (TKey key.Not ∷ a) (ENot x)
   binary : {k : ℕ} {a b : List Tok} {x y : PureExpr} (op : Op) → level op ≡ k → Says (left_level op) a x → Says (suc k) b y
-    → Says k (a ++ sign op ∷ b) (EBinary op x y)
+      → Says k (a ++ sign op ∷ b) (EBinary op x y)
   tighter : {k : ℕ} {a : List Tok} {x : PureExpr} → Says (suc k) a x → Says k a x
+
+-- the tokens are no expression
+abbrev pub IsNoExpr : List Tok → Type 0
+IsNoExpr ts = (x : PureExpr) → Says 0 ts x → ⊥

@@ -24,6 +24,6 @@ pub use blocks::{
 };
 pub use expr::{Expr, Index, Op};
 pub use names::{Digits, Lit, Name};
-pub use shapes::{FormatRef, Over, Quant, Shape, TypeDecl};
+pub use shapes::{FormatRef, Shape, TypeDecl};
 pub use stmt::{Limit, Stmt, Stmts};
 pub use tree::{Global1, Trace1, Tree};

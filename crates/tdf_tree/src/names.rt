@@ -4,7 +4,6 @@ ghost use Rattle.std.specs.Prelude.{◌≡◌, IfOk};
 
 use std::alloc::Global;
 use std::marker::Model;
-
 use tdf_fixed::Memory;
 
 /// A name of the language, seen as its bytes: a letter or `_`, then letters, digits or `_`.

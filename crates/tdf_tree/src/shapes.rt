@@ -1,27 +1,7 @@
 //! Number formats, and the `type` lines that name them.
 
 use crate::names::Name;
-
-/// How a value between two neighbours of the last place is rounded (IEEE 1666, quantization modes).
-#[derive(Clone, Copy, Debug, PartialEq, Eq)]
-pub enum Quant {
-    Trn,
-    TrnZero,
-    Rnd,
-    RndZero,
-    RndMinInf,
-    RndInf,
-    RndConv,
-}
-
-/// What a value outside the range becomes (IEEE 1666, overflow modes).
-#[derive(Clone, Copy, Debug, PartialEq, Eq)]
-pub enum Over {
-    Wrap,
-    Sat,
-    SatZero,
-    SatSym,
-}
+use tdf_fixed::{Over, Quant};
 
 /// A fixed-point format as it is written: `wl` bits in all, `iwl` of them before the point.
 #[derive(Clone, Copy, Debug)]
