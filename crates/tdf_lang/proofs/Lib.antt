@@ -1,0 +1,3 @@
+pub mod Same
+pub mod Behind
+pub mod ThinLaws

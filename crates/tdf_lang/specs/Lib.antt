@@ -1,0 +1,4 @@
+pub mod Template
+pub mod Thin
+pub mod Shown
+pub mod Words

@@ -1,0 +1,3 @@
+pub mod Notes
+pub mod Ramp
+pub mod Table
