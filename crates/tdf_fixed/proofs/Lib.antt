@@ -1,5 +1,7 @@
 pub mod BitTexts
+pub mod DecimalTexts
 pub mod Exacts
+pub mod FractionParts
 pub mod Fractions
 pub mod Orders
 pub mod Placed
@@ -9,4 +11,5 @@ pub mod Quotients
 pub mod Ranges
 pub mod Scaling
 pub mod TimeBounds
+pub mod WholeParts
 pub mod Wraps

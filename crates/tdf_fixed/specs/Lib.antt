@@ -2,6 +2,7 @@ pub mod Bits
 pub mod Cast
 pub mod CastLaws
 pub mod Decimal
+pub mod DecimalLaws
 pub mod Digits
 pub mod Literal
 pub mod Number

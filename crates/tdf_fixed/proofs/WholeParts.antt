@@ -1,0 +1,109 @@
+-- Digits without leading zeros are the one text of their number.
+use Rattle.std.proofs.Common.{◌≡◌, ◌≢◌, ℕ, suc, ◌+◌, ◌-◌, ◌*◌, ◌/◌, ◌%◌, ◌^◌, ◌<◌, ◌≤◌, true, List, [], ◌∷◌, ◌++◌, length, get_or, ⊎_elim, refl, sym, ap, ◌∙◌, subst, arith, rules, length-append, ◌⊎◌}
+use Rattle.std.proofs.Math.Nat.{pow-suc, pow-le-pow_right, mul-le-mul_right}
+use Rattle.std.proofs.lemmas.Bool.{and_parts, cases_order}
+use Rattle.std.proofs.lemmas.Bool.Decides.{nat_tests}
+use Rattle.std.proofs.lemmas.Fmt.{decimal_is_IsNumeral_wide, decimal_by_steps_wide}
+use Rattle.std.proofs.lemmas.Nat.{same_from_place, mul-add-lt}
+use Rattle.std.proofs.lemmas.Str.Parse.{IsNumeralModel, numerals_by_weight}
+use Rattle.std.specs.Fmt.{decimal}
+use Rattle.std.specs.List.{list_all}
+use Rattle.tdf_fixed.specs.DecimalLaws.{IsWholePart}
+use Rattle.tdf_fixed.specs.Digits.{is_digit, number}
+
+-- std's words for digits and their number
+pub own : IsNumeralModel (λ ds. list_all is_digit ds ≡ true) number
+own = numerals_by_weight (λ ds. list_all is_digit ds ≡ true) (search (rules, nat_tests)) number (search rules)
+
+pub digit_small : (c : ℕ) → is_digit c ≡ true → (48 ≤ c) × (c - 48 < 10)
+digit_small c e = grind (arith, nat_tests)
+
+pub number_below : (ds : List ℕ) → list_all is_digit ds ≡ true → number ds < 10 ^ length ds
+number_below [] all = omega arith
+number_below (c ∷ cs) all =
+    let both = and_parts (is_digit c) (list_all is_digit cs) all in
+    rw (pow-suc 10 (length cs)) (mul-add-lt (c - 48) (10 ^ length cs) (number cs) 10 (digit_small c both.0).1 (number_below cs both.1))
+
+pub same_digit : (c e : ℕ) → 48 ≤ c → 48 ≤ e → c - 48 ≡ e - 48 → c ≡ e
+same_digit c e h k same = omega arith
+
+pub same_digits : (ds es : List ℕ) → length ds ≡ length es → list_all is_digit ds ≡ true → list_all is_digit es ≡ true → number ds ≡ number es → ds ≡ es
+same_digits [] [] long d e n = refl
+same_digits [] (x ∷ xs) long d e n = absurd (omega arith)
+same_digits (c ∷ cs) [] long d e n = absurd (omega arith)
+same_digits (c ∷ cs) (x ∷ xs) long d e n =
+    let first = and_parts (is_digit c) (list_all is_digit cs) d in
+    let other = and_parts (is_digit x) (list_all is_digit xs) e in
+    let same : length cs ≡ length xs = omega arith in
+    let power : 10 ^ length cs ≡ 10 ^ length xs = ap (λ k. 10 ^ k) same in
+    let less : number cs < 10 ^ length xs = subst (λ k. number cs < 10 ^ k) same (number_below cs first.1) in
+    let both = same_from_place (c - 48) (number cs) (x - 48) (number xs) (10 ^ length xs) less (number_below xs other.1)
+    (ap (λ p. (c - 48) * p + number cs) (sym power) ∙ n) in
+    let head = same_digit c x (digit_small c first.0).0 (digit_small x other.0).0 both.0 in
+    let tail = same_digits cs xs same first.1 other.1 both.1 in
+    (cc)
+
+-- a first digit above 0 gives its place
+number_above : (ds : List ℕ) → 0 < length ds → list_all is_digit ds ≡ true → get_or ds 0 0 ≢ 48 → 10 ^ (length ds - 1) ≤ number ds
+number_above [] some all first = absurd (omega arith)
+number_above (c ∷ cs) some all first =
+    let both = and_parts (is_digit c) (list_all is_digit cs) all in
+    let low = digit_small c both.0 in
+    let more : 1 ≤ c - 48 = omega arith in
+    let last : suc (length cs) - 1 ≡ length cs = omega arith in
+    let times : 1 * 10 ^ length cs ≤ (c - 48) * 10 ^ length cs = mul-le-mul_right (10 ^ length cs) more in
+    rw last (omega arith)
+
+not_longer : (ds es : List ℕ) → IsWholePart ds → IsWholePart es → number ds ≡ number es → length ds < length es → ⊥
+not_longer ds es d e n less =
+    let some : 1 ≤ length ds = d.some in
+    let first : get_or es 0 0 ≢ 48 = λ h. (let one = e.plain h in absurd (omega arith)) in
+    let low = number_above es e.some e.all first in
+    let high = number_below ds d.all in
+    let within : length ds ≤ length es - 1 = omega arith in
+    let power : 10 ^ length ds ≤ 10 ^ (length es - 1) = pow-le-pow_right (omega arith) within in
+    omega arith
+
+pub same_whole : (ds es : List ℕ) → IsWholePart ds → IsWholePart es → number ds ≡ number es → ds ≡ es
+same_whole ds es d e n = ⊎_elim
+    (λ (same : length ds ≡ length es). same_digits ds es same d.all e.all n)
+    (λ (other : (length ds < length es) ⊎ (length es < length ds)). ⊎_elim
+    (λ (less : length ds < length es). absurd (not_longer ds es d e n less))
+    (λ (more : length es < length ds). absurd (not_longer es ds e d (sym n) more))
+    other)
+    (cases_order (length ds) (length es))
+
+-- no leading zero: a first digit of 0 stands alone, and in front of more digits there is a number above 0
+record Plain (n : ℕ) (ds : List ℕ) : Type 0 where
+  some : 0 < length ds
+  alone : get_or ds 0 0 ≡ 48 → (length ds ≡ 1) × (n ≡ 0)
+
+plain_one : (n : ℕ) → n < 10 → Plain n ((48 + n) ∷ [])
+plain_one n small = record { some = omega arith; alone = λ h. (refl, omega arith) }
+
+first_kept : (ds : List ℕ) (c : ℕ) → 0 < length ds → get_or (ds ++ (c ∷ [])) 0 0 ≡ get_or ds 0 0
+first_kept [] c some = absurd (omega arith)
+first_kept (x ∷ xs) c some = refl
+
+plain_more : (n : ℕ) (ds : List ℕ) → 10 ≤ n → Plain (n / 10) ds → Plain n (ds ++ ((48 + n % 10) ∷ []))
+plain_more n ds large h =
+    record {
+      some = omega (arith, length-append ds ((48 + n % 10) ∷ []));
+      alone = λ first. (let none = (h.alone (sym (first_kept ds (48 + n % 10) h.some) ∙ first)).1 in absurd (omega arith));
+    }
+
+plain_decimal : (n : ℕ) → n < 10 ^ 64 → Plain n (decimal n)
+plain_decimal n small = decimal_by_steps_wide Plain plain_one plain_more n small
+
+pub whole_decimal : (n : ℕ) → n < 10 ^ 64 → IsWholePart (decimal n)
+whole_decimal n small =
+    let numeral = decimal_is_IsNumeral_wide n small in
+    record {
+      all = own.from (decimal n) numeral.0.1;
+      some = numeral.0.0;
+      plain = λ first. ((plain_decimal n small).alone first).0;
+    }
+
+pub number_decimal : (n : ℕ) → n < 10 ^ 64 → number (decimal n) ≡ n
+number_decimal n small =
+    let numeral = decimal_is_IsNumeral_wide n small in own.same (decimal n) numeral.0.1 ∙ numeral.1
