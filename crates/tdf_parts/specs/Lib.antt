@@ -1,5 +1,9 @@
 pub mod Numbers
+pub mod Literals
 pub mod Index
+pub mod Formats
+pub mod Paths
 pub mod Says
 pub mod Machine
 pub mod Waiting
+pub mod Fits
