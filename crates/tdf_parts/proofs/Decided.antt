@@ -1,5 +1,6 @@
 -- What a reader answers is what the relation says, in both directions.
-use Rattle.std.proofs.Common.{◌≡◌, ℕ, List, Option, Some, None, sym, ◌∙◌}
+use Rattle.std.proofs.Common.{◌≡◌, ℕ, List, Option, Some, None, Vec, sym, ◌∙◌}
+use Rattle.std.specs.declared.alloc.Global.{Global}
 use Rattle.std.specs.Prelude.{MatchOption}
 use Rattle.std.specs.Option.{option_map}
 use Rattle.tdf_tokens.specs.Token.{Tok}
@@ -47,3 +48,13 @@ shape_decided ts (Some x) is = shape_says ts x (sym is)
 pub format_decided : (ts : List Tok) (o : Option FormatRef) → o ≡ format_of ts → MatchOption o (IsNoFormat ts) (λ x. SaysFormat ts x)
 format_decided ts None is = λ x d. let e : format_of ts ≡ Some x = format_reads d in absurd (cc)
 format_decided ts (Some x) is = format_says ts x (sym is)
+
+pub lits_vec_decided : (ts : List Tok) (o : Option (Vec Lit Global)) → option_map (λ v. v.items) o ≡ lits_of ts
+    → MatchOption o (IsNoLits ts) (λ v. SaysLits ts v.items)
+lits_vec_decided ts None is = lits_decided ts None is
+lits_vec_decided ts (Some v) is = lits_decided ts (Some v.items) is
+
+pub path_vec_decided : (ts : List Tok) (o : Option (Vec (List ℕ) Global)) → option_map (λ v. v.items) o ≡ path_of ts
+    → MatchOption o (IsNoPath ts) (λ v. SaysPath ts v.items)
+path_vec_decided ts None is = path_decided ts None is
+path_vec_decided ts (Some v) is = path_decided ts (Some v.items) is

@@ -65,8 +65,8 @@ ready_keeps _ xs pre h = tt
 signed_keeps : (t : Tok) (xs : List Lit) (pre : List Tok) → LitsKept (Signed xs) pre → LitsKept (signed t xs) (pre ++ t ∷ [])
 signed_keeps (TNumber text) xs pre h =
     subst (λ u. SaysLits u (xs ++ minus_lit text ∷ []))
-      (sym (ap (λ u. u ++ TNumber text ∷ []) h.2 ∙ append_assoc h.0 (TSymbol symbol.Minus ∷ []) (TNumber text ∷ [])))
-      (lits_snoc h.1 (lit_minus text))
+    (sym (ap (λ u. u ++ TNumber text ∷ []) h.2 ∙ append_assoc h.0 (TSymbol symbol.Minus ∷ []) (TNumber text ∷ [])))
+    (lits_snoc h.1 (lit_minus text))
 signed_keeps _ xs pre h = tt
 
 lits_keeps : (r : LitsReading) (t : Tok) (pre : List Tok) → LitsKept r pre → LitsKept (lits_step r t) (pre ++ t ∷ [])
@@ -98,7 +98,7 @@ path_of_reads d = path_reads d []
 
 -- a path, and one behind which a point stands
 path_snoc : {ts : List Tok} {names : List (List ℕ)} (name : List ℕ) → SaysPath ts names
-  → SaysPath (ts ++ TSymbol symbol.Point ∷ TName name ∷ []) (names ++ name ∷ [])
+    → SaysPath (ts ++ TSymbol symbol.Point ∷ TName name ∷ []) (names ++ name ∷ [])
 path_snoc name (path_one first) = path_more first (path_one name)
 path_snoc name (path_more first d) = path_more first (path_snoc name d)
 
@@ -112,8 +112,8 @@ want_keeps : (t : Tok) (names : List (List ℕ)) (pre : List Tok) → PathKept (
 want_keeps (TName name) [] pre h = subst (λ u. SaysPath (u ++ TName name ∷ []) (name ∷ [])) (sym h) (path_one name)
 want_keeps (TName name) (n ∷ names) pre h =
     subst (λ u. SaysPath u (n ∷ (names ++ name ∷ [])))
-      (sym (ap (λ u. u ++ TName name ∷ []) h.2 ∙ append_assoc h.0 (TSymbol symbol.Point ∷ []) (TName name ∷ [])))
-      (path_snoc name h.1)
+    (sym (ap (λ u. u ++ TName name ∷ []) h.2 ∙ append_assoc h.0 (TSymbol symbol.Point ∷ []) (TName name ∷ [])))
+    (path_snoc name h.1)
 want_keeps _ names pre h = tt
 
 never_empty : {ts : List Tok} {names : List (List ℕ)} → SaysPath ts names → names ≡ [] → ⊥
@@ -148,15 +148,15 @@ path_says ts names is = path_run_says ts (WantName []) names [] refl is
 
 -- formats
 moded_reads : (signed : Bool) (wl iwl : ℕ) (ts : List Tok) (quant : Quant) (over : Over) → SaysModes ts quant over
-  → modes_of signed wl iwl ts ≡ Some (record { signed = signed; wl = wl; iwl = iwl; quant = quant; over = over })
+    → modes_of signed wl iwl ts ≡ Some (record { signed = signed; wl = wl; iwl = iwl; quant = quant; over = over })
 moded_reads signed wl iwl ts quant over d = go signed wl iwl d
   where
-  go : (signed : Bool) (wl iwl : ℕ) {ts : List Tok} {quant : Quant} {over : Over} → SaysModes ts quant over
-    → modes_of signed wl iwl ts ≡ Some (record { signed = signed; wl = wl; iwl = iwl; quant = quant; over = over })
-  go signed wl iwl modes_none = refl
-  go signed wl iwl (modes_quant word q) = ap (λ o. moded signed wl iwl o (Some Wrap)) q
-  go signed wl iwl (modes_both word last {quant = quant} q o) =
-      ap (λ p. moded signed wl iwl p (over_of last)) q ∙ ap (λ p. moded signed wl iwl (Some quant) p) o
+    go : (signed : Bool) (wl iwl : ℕ) {ts : List Tok} {quant : Quant} {over : Over} → SaysModes ts quant over
+        → modes_of signed wl iwl ts ≡ Some (record { signed = signed; wl = wl; iwl = iwl; quant = quant; over = over })
+    go signed wl iwl modes_none = refl
+    go signed wl iwl (modes_quant word q) = ap (λ o. moded signed wl iwl o (Some Wrap)) q
+    go signed wl iwl (modes_both word last {quant = quant} q o) =
+        ap (λ p. moded signed wl iwl p (over_of last)) q ∙ ap (λ p. moded signed wl iwl (Some quant) p) o
 
 pub shape_reads : {ts : List Tok} {s : Shape} → SaysShape ts s → shape_of ts ≡ Some s
 shape_reads (shape word first second {signed = signed} {wl = wl} {iwl = iwl} {ts = ts} {quant = quant} {over = over} a b c d) =
@@ -168,14 +168,14 @@ format_reads (format_own (shape word first second a b c d)) = ap own_format (sha
 format_reads (format_named name) = refl
 
 moded_says : (signed : Bool) (wl iwl : ℕ) (quant : Option Quant) (over : Option Over) (s : Shape) → moded signed wl iwl quant over ≡ Some s
-  → (q : Quant) × (o : Over) × (quant ≡ Some q) × (over ≡ Some o) × (s ≡ record { signed = signed; wl = wl; iwl = iwl; quant = q; over = o })
+    → (q : Quant) × (o : Over) × (quant ≡ Some q) × (over ≡ Some o) × (s ≡ record { signed = signed; wl = wl; iwl = iwl; quant = q; over = o })
 moded_says signed wl iwl (Some q) (Some o) s h =
     let e : record { signed = signed; wl = wl; iwl = iwl; quant = q; over = o } ≡ s = cc in (q, o, refl, refl, sym e)
 moded_says signed wl iwl None over s h = absurd (cc)
 moded_says signed wl iwl (Some q) None s h = absurd (cc)
 
 modes_says : (signed : Bool) (wl iwl : ℕ) (ts : List Tok) (s : Shape) → modes_of signed wl iwl ts ≡ Some s
-  → (q : Quant) × (o : Over) × SaysModes ts q o × (s ≡ record { signed = signed; wl = wl; iwl = iwl; quant = q; over = o })
+    → (q : Quant) × (o : Over) × SaysModes ts q o × (s ≡ record { signed = signed; wl = wl; iwl = iwl; quant = q; over = o })
 modes_says signed wl iwl [] s h =
     let e : record { signed = signed; wl = wl; iwl = iwl; quant = Trn; over = Wrap } ≡ s = cc in (Trn, Wrap, modes_none, sym e)
 modes_says signed wl iwl (TKey word ∷ []) s h =
@@ -188,7 +188,7 @@ modes_says signed wl iwl (TKey word ∷ (TKey last ∷ [])) s h =
 modes_says signed wl iwl _ s h = absurd (cc)
 
 sized_says : (signed : Option Bool) (wl iwl : Option ℕ) (ts : List Tok) (s : Shape) → sized signed wl iwl ts ≡ Some s
-  → (g : Bool) × (m n : ℕ) × (q : Quant) × (o : Over) × (signed ≡ Some g) × (wl ≡ Some m) × (iwl ≡ Some n) × SaysModes ts q o
+    → (g : Bool) × (m n : ℕ) × (q : Quant) × (o : Over) × (signed ≡ Some g) × (wl ≡ Some m) × (iwl ≡ Some n) × SaysModes ts q o
     × (s ≡ record { signed = g; wl = m; iwl = n; quant = q; over = o })
 sized_says (Some g) (Some m) (Some n) ts s h = let r = modes_says g m n ts s h in (g, m, n, r.0, r.1, refl, refl, refl, r.2, r.3)
 sized_says None wl iwl ts s h = absurd (cc)

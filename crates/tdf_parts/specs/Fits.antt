@@ -47,7 +47,7 @@ pub data FitsModes : List Tok → Type 0 where
 
 pub data FitsShape : List Tok → Type 0 where
   fits_shape : (word : Key) (first second : List ℕ) {ts : List Tok} → IsSign word → IsInt first → IsInt second → FitsModes ts
-    → FitsShape (TKey word ∷ TNumber first ∷ TNumber second ∷ ts)
+      → FitsShape (TKey word ∷ TNumber first ∷ TNumber second ∷ ts)
 
 pub data FitsFormat : List Tok → Type 0 where
   fits_own : {ts : List Tok} → FitsShape ts → FitsFormat ts
@@ -64,7 +64,7 @@ pub data Fits : ℕ → List Tok → Type 0 where
   fits_item : (name : List ℕ) {a : List Tok} → FitsIndex a → Fits 7 (TName name ∷ TSymbol symbol.OpenSquare ∷ (a ++ TSymbol symbol.CloseSquare ∷ []))
   fits_cast : (name : List ℕ) {a : List Tok} → Fits 0 a → Fits 7 (TName name ∷ TSymbol symbol.Open ∷ (a ++ TSymbol symbol.Close ∷ []))
   fits_select : {a b c : List Tok} → Fits 0 a → Fits 0 b → Fits 0 c
-    → Fits 7 (TKey key.Select ∷ TSymbol symbol.Open ∷ (a ++ TSymbol symbol.Comma ∷ (b ++ TSymbol symbol.Comma ∷ (c ++ TSymbol symbol.Close ∷ []))))
+      → Fits 7 (TKey key.Select ∷ TSymbol symbol.Open ∷ (a ++ TSymbol symbol.Comma ∷ (b ++ TSymbol symbol.Comma ∷ (c ++ TSymbol symbol.Close ∷ []))))
   fits_parens : {a : List Tok} → Fits 0 a → Fits 7 (TSymbol symbol.Open ∷ (a ++ TSymbol symbol.Close ∷ []))
   fits_negation : {a : List Tok} → Fits 6 a → Fits 6 (TSymbol symbol.Minus ∷ a)
   fits_shift : (left : Bool) (text : List ℕ) {a : List Tok} → Fits 5 a → IsInt text → Fits 5 (a ++ shift_sign left ∷ TNumber text ∷ [])

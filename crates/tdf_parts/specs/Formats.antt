@@ -42,13 +42,13 @@ pub data SaysModes : List Tok → Quant → Over → Type 0 where
   modes_none : SaysModes [] Trn Wrap
   modes_quant : (word : Key) {quant : Quant} → quant_of word ≡ Some quant → SaysModes (TKey word ∷ []) quant Wrap
   modes_both : (word last : Key) {quant : Quant} {over : Over} → quant_of word ≡ Some quant → over_of last ≡ Some over
-    → SaysModes (TKey word ∷ TKey last ∷ []) quant over
+      → SaysModes (TKey word ∷ TKey last ∷ []) quant over
 
 -- the tokens are a shape
 pub data SaysShape : List Tok → Shape → Type 0 where
   shape : (word : Key) (first second : List ℕ) {signed : Bool} {wl iwl : ℕ} {ts : List Tok} {quant : Quant} {over : Over}
-    → sign_of word ≡ Some signed → int_of first ≡ Some wl → int_of second ≡ Some iwl → SaysModes ts quant over
-    → SaysShape (TKey word ∷ TNumber first ∷ TNumber second ∷ ts) (record { signed = signed; wl = wl; iwl = iwl; quant = quant; over = over })
+      → sign_of word ≡ Some signed → int_of first ≡ Some wl → int_of second ≡ Some iwl → SaysModes ts quant over
+      → SaysShape (TKey word ∷ TNumber first ∷ TNumber second ∷ ts) (record { signed = signed; wl = wl; iwl = iwl; quant = quant; over = over })
 
 -- the tokens are a format: a shape, or the name of one
 pub data SaysFormat : List Tok → FormatRef → Type 0 where

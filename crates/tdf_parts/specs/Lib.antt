@@ -7,3 +7,5 @@ pub mod Says
 pub mod Machine
 pub mod Waiting
 pub mod Fits
+pub mod LitViews
+pub mod FormatEnds

@@ -8,7 +8,7 @@ use Rattle.tdf_tokens.specs.declared.key.Symbol.TheVariants as symbol
 pub data SaysPath : List Tok → List (List ℕ) → Type 0 where
   path_one : (name : List ℕ) → SaysPath (TName name ∷ []) (name ∷ [])
   path_more : (name : List ℕ) {ts : List Tok} {names : List (List ℕ)} → SaysPath ts names
-    → SaysPath (TName name ∷ TSymbol symbol.Point ∷ ts) (name ∷ names)
+      → SaysPath (TName name ∷ TSymbol symbol.Point ∷ ts) (name ∷ names)
 
 abbrev pub IsNoPath : List Tok → Type 0
 IsNoPath ts = (names : List (List ℕ)) → SaysPath ts names → ⊥
