@@ -9,3 +9,4 @@ pub mod Waiting
 pub mod Fits
 pub mod LitViews
 pub mod FormatEnds
+pub mod Laws
