@@ -1,5 +1,12 @@
+pub mod BitTexts
+pub mod Exacts
 pub mod Fractions
+pub mod Orders
+pub mod Placed
 pub mod Places
 pub mod Powers
 pub mod Quotients
+pub mod Ranges
+pub mod Scaling
 pub mod TimeBounds
+pub mod Wraps

@@ -1,5 +1,11 @@
+pub mod Bits
+pub mod Cast
+pub mod CastLaws
 pub mod Decimal
 pub mod Digits
+pub mod Literal
 pub mod Number
+pub mod Overflow
+pub mod Quantise
 pub mod Sides
 pub mod Time

@@ -1,6 +1,7 @@
 ghost use Rattle.std.specs.Prelude.{◌≡◌, ◌+◌, ◌*◌, ◌/◌, ◌%◌, ◌<◌, ◌≤◌, ◌^◌, ◌∷◌, ◌++◌, take, length, OnOk, OnErr, unsigned_abs, decimal};
 ghost use Rattle.tdf_fixed.specs.Decimal.{fraction_digits, fraction_text, magnitude_text, value_text, seconds_text};
 
+use crate::bits::low;
 use crate::memory::Memory;
 use crate::raw::Raw;
 use itoa::Buffer;
@@ -81,15 +82,6 @@ fn next_digit(left: u128, frac: u32) -> u8
     ensures { result ≡ 48 + 10 * left / 2 ^ frac }
 {
     ((10 * left) >> frac) as u8 + b'0'
-}
-
-/// The low `frac` bits.
-fn low(number: u128, frac: u32) -> u128
-    requires few { frac ≤ 120 }
-    ensures value { result ≡ number % 2 ^ frac }
-    ensures below { result < 2 ^ frac }
-{
-    number & ((1 << frac) - 1)
 }
 
 #[tactic(auto, using(crate::proofs::Fractions::fraction_lemmas, crate::proofs::Powers::power_of_two))]

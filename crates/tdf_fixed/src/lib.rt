@@ -2,13 +2,30 @@
 //! overflow modes, and the decimal texts that read and print values and times exactly.
 #![tactic(auto)]
 
+mod bits;
+mod casts;
 mod decimals;
+mod digits;
+mod format;
+mod literals;
 mod memory;
 mod numerals;
+mod over;
+mod overflows;
+mod placing;
+mod quant;
 mod raw;
+mod rounding;
 mod times;
 
+pub use casts::cast;
 pub use decimals::{push_decimal, push_seconds};
+pub use digits::push_bits;
+pub use format::Format;
+pub use literals::{DecimalErr, NumErr, read_decimal, read_exact};
 pub use memory::Memory;
+pub use numerals::is_number;
+pub use over::Over;
+pub use quant::Quant;
 pub use raw::Raw;
 pub use times::{TimeErr, read_time};

@@ -2,7 +2,7 @@ ghost use Rattle.std.specs.Prelude.{◌≡◌, ◌<◌, ◌≤◌, ◌^◌, true
 ghost use Rattle.std.specs.List.{list_all};
 ghost use Rattle.std.specs.Option.{option_map};
 ghost use Rattle.tdf_fixed.specs.Digits.{is_digit, are_digits, number};
-ghost use Rattle.tdf_fixed.specs.Number.{numeral_of, numeral_both, numeral_alone, is_number};
+ghost use Rattle.tdf_fixed.specs.Number.{numeral_of, numeral_both, numeral_alone, is_number, is_short};
 ghost use Rattle.tdf_fixed.specs.Sides.{spelt, AreDigits};
 
 /// The two sides of a numeral; the side behind the point is empty where there is no point.
@@ -90,6 +90,24 @@ pub(crate) fn value(text: &[u8]) -> u64
     value
 }
 
+/// A power of ten.
+#[tactic(auto, using(crate::proofs::Powers::power_of_ten, crate::proofs::Powers::power_some))]
+pub(crate) fn power(count: usize) -> u128
+    requires { count ≤ 18 }
+    ensures value { result ≡ 10 ^ count }
+    ensures small { result ≤ 10 ^ 18 }
+    ensures some { 0 < result }
+{
+    10u128.pow(count as u32)
+}
+
+/// Whether there are at most 18 digits on each side.
+pub(crate) fn short(parts: &Parts) -> bool
+    ensures { result ≡ is_short (spelt parts.now) }
+{
+    parts.whole.len() <= 18 && parts.fraction.len() <= 18
+}
+
 /// Whether the text is a number as models write it: digits, or digits, a point and digits, 1 to 18 digits on each side.
 #[tactic(auto, unfolding(crate::specs::Number::is_number))]
 pub fn is_number(text: &[u8]) -> bool
@@ -97,6 +115,6 @@ pub fn is_number(text: &[u8]) -> bool
 {
     match split(text) {
         None => false,
-        Some(parts) => parts.whole.len() <= 18 && parts.fraction.len() <= 18,
+        Some(parts) => short(&parts),
     }
 }

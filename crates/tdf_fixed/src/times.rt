@@ -2,7 +2,7 @@ ghost use Rattle.std.specs.Prelude.{◌≡◌, ◌+◌, ◌*◌, ◌<◌, ◌≤
 ghost use Rattle.tdf_fixed.specs.Sides.{spelt, AreDigits};
 ghost use Rattle.tdf_fixed.specs.Time.{time_of, starts_unit, unit_of, count_of, whole_time};
 
-use crate::numerals::{Parts, digit, split, value};
+use crate::numerals::{Parts, digit, power, short, split, value};
 
 /// Why a text is no time.
 #[derive(Clone, Copy, Debug, PartialEq, Eq)]
@@ -52,17 +52,6 @@ fn unit(text: &[u8]) -> Option<u64>
     None
 }
 
-/// A power of ten.
-#[tactic(auto, using(crate::proofs::Powers::power_of_ten, crate::proofs::Powers::power_some))]
-fn power(count: usize) -> u128
-    requires { count ≤ 18 }
-    ensures value { result ≡ 10 ^ count }
-    ensures small { result ≤ 10 ^ 18 }
-    ensures some { 0 < result }
-{
-    10u128.pow(count as u32)
-}
-
 /// `(whole + part/d) * scale` picoseconds, where they are whole and few enough.
 #[tactic(auto, using(crate::proofs::Quotients::times_lemmas))]
 fn whole(whole: u64, part: u64, d: u128, scale: u64) -> Result<u64, TimeErr>
@@ -93,7 +82,7 @@ fn count(parts: &Parts, scale: u64) -> Result<u64, TimeErr>
     ensures value { result ≡ count_of (spelt parts.now) scale }
     ensures below { IfOk result (λ t. t < 10 ^ 18) }
 {
-    if parts.whole.len() > 18 || parts.fraction.len() > 18 {
+    if !short(parts) {
         return Err(TimeErr::NotTime);
     }
     whole(

@@ -1,0 +1,36 @@
+-- What every overflow mode gives lies in the range, and a number of the range is left alone.
+use Rattle.std.proofs.Common.{◌≡◌, ℕ, suc, ◌-◌, ◌*◌, ◌^◌, ◌<◌, ◌≤◌, Bool, true, false, ℤ, pos, negsuc, ⊎_elim, refl, ap, ◌∙◌, arith}
+use Rattle.std.proofs.Math.Nat.{pow-succ'}
+use Rattle.std.proofs.lemmas.Bool.{cases_lt, lt-ltb, le-ltb}
+use Rattle.std.proofs.lemmas.Int.{ints, clamps}
+use Rattle.std.proofs.lemmas.Nat.{mod_below, pow_pos}
+use Rattle.tdf_fixed.specs.Overflow.{wrapped, wrapped_signed, overflowed, IsIn}
+use Rattle.tdf_fixed.specs.Quantise.{above_by}
+use Rattle.tdf_fixed.specs.declared.over.Over.{Over}
+use Rattle.tdf_fixed.specs.declared.over.Over.TheVariants.{Wrap, Sat, SatZero, SatSym}
+
+pub half : (wl : ℕ) → 1 ≤ wl → 2 ^ wl ≡ 2 * 2 ^ (wl - 1)
+half wl some = let last : wl ≡ suc (wl - 1) = omega arith in ap (λ k. 2 ^ k) last ∙ pow-succ' 2 (wl - 1)
+
+pub above_below : (n : ℤ) (d : ℕ) → 0 < d → above_by n d < d
+above_below (pos n) d some = mod_below n d some
+above_below (negsuc n) d some = omega arith
+
+wrapped_in : (h rest wl : ℕ) → h ≡ 2 ^ (wl - 1) → 0 < h → 2 ^ wl ≡ 2 * h → rest < 2 ^ wl → IsIn true wl (wrapped_signed rest wl)
+wrapped_in h rest wl is some whole small = ⊎_elim
+    (λ (less : rest < 2 ^ (wl - 1)). rw (lt-ltb rest (2 ^ (wl - 1)) less) (record { low = omega (arith, ints); high = omega (arith, ints) }))
+    (λ (more : 2 ^ (wl - 1) ≤ rest). rw (le-ltb rest (2 ^ (wl - 1)) more) (record { low = omega (arith, ints); high = omega (arith, ints) }))
+    (cases_lt rest (2 ^ (wl - 1)))
+
+pub in_range : (over : Over) (signed : Bool) (wl : ℕ) (z : ℤ) → 1 ≤ wl → IsIn signed wl (overflowed over signed wl z)
+unfolding overflowed wrapped
+in_range Wrap true wl z some = wrapped_in (2 ^ (wl - 1)) (above_by z (2 ^ wl)) wl refl (pow_pos (wl - 1)) (half wl some) (above_below z (2 ^ wl) (pow_pos wl))
+in_range Wrap false wl z some =
+    let small : above_by z (2 ^ wl) < 2 ^ wl = above_below z (2 ^ wl) (pow_pos wl) in
+    record { low = omega (arith, ints); high = omega (arith, ints) }
+in_range Sat true wl z some = let h = pow_pos (wl - 1) in record { low = omega (arith, ints, clamps); high = omega (arith, ints, clamps) }
+in_range Sat false wl z some = let h = pow_pos wl in record { low = omega (arith, ints, clamps); high = omega (arith, ints, clamps) }
+in_range SatZero true wl z some = let h = pow_pos (wl - 1) in record { low = grind (arith, ints); high = grind (arith, ints) }
+in_range SatZero false wl z some = let h = pow_pos wl in record { low = grind (arith, ints); high = grind (arith, ints) }
+in_range SatSym true wl z some = let h = pow_pos (wl - 1) in record { low = omega (arith, ints, clamps); high = omega (arith, ints, clamps) }
+in_range SatSym false wl z some = let h = pow_pos wl in record { low = omega (arith, ints, clamps); high = omega (arith, ints, clamps) }

@@ -1,0 +1,5 @@
+pub mod Levels
+pub mod SaysRuns
+pub mod RunSays
+pub mod Waits
+pub mod Decided

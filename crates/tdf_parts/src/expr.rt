@@ -1,0 +1,64 @@
+//! Expressions.
+
+ghost use Rattle.std.specs.Prelude.{◌≡◌, List, map, IfOk, MatchOption};
+ghost use Rattle.std.specs.Option.{option_map};
+ghost use Rattle.tdf_tokens.specs.Token.{Tok, tok};
+ghost use Rattle.tdf_tree.specs.Views.{pure_expr};
+ghost use Rattle.tdf_parts.specs.Says.{Says, IsNoExpr};
+ghost use Rattle.tdf_parts.specs.Machine.{reduce, closed, finish, expr_of};
+ghost use Rattle.tdf_parts.specs.Waiting.{waits, reading};
+
+use crate::pending::{At, Pending, reduce};
+use crate::steps::step;
+use std::alloc::Global;
+use tdf_fixed::Memory;
+use tdf_tokens::Token;
+use tdf_tree::Expr;
+
+/// The expression that these tokens are, if they are one.
+pub fn read_expr(alloc: Global, tokens: &[Token]) -> Result<Option<Expr>, Memory>
+    ensures said { IfOk result (λ o. MatchOption o (IsNoExpr (map tok tokens.now)) (λ e. Says 0 (map tok tokens.now) (pure_expr e))) }
+    ensures read { IfOk result (λ o. option_map pure_expr o ≡ expr_of (map tok tokens.now)) }
+{
+    whole(alloc, tokens)
+}
+
+#[tactic(auto, using(crate::proofs::Waits::run_laws), unfolding(crate::specs::Machine::expr_of))]
+fn whole(alloc: Global, tokens: &[Token]) -> Result<Option<Expr>, Memory>
+    ensures { IfOk result (λ o. option_map pure_expr o ≡ expr_of (map tok tokens.now)) }
+{
+    let mut stack = Vec::new(alloc);
+    let mut inside = Vec::new(alloc);
+    let mut at = At::Want;
+    for token in tokens {
+        at = step(alloc, &mut stack, &mut inside, at, *token)?;
+    }
+    finish(alloc, &mut stack, at)
+}
+
+fn finish(alloc: Global, stack: &mut Vec<Pending>, at: At) -> Result<Option<Expr>, Memory>
+    ensures { IfOk result (λ o. (a : List Tok) → option_map pure_expr o ≡ finish (reading (waits stack.old.items) a at)) }
+{
+    match at {
+        At::Want => Ok(None),
+        At::Have(tree) => closed(alloc, stack, tree),
+        At::Named(name) => closed(alloc, stack, Expr::Name(name)),
+        At::Indexing(_) => Ok(None),
+        At::Shifting(_, _) => Ok(None),
+        At::Selecting => Ok(None),
+        At::Bad => Ok(None),
+    }
+}
+
+/// The whole operand, where no bracket is open.
+#[tactic(auto, using(crate::proofs::Waits::wait_laws))]
+fn closed(alloc: Global, stack: &mut Vec<Pending>, tree: Expr) -> Result<Option<Expr>, Memory>
+    ensures { IfOk result (λ o. option_map pure_expr o
+        ≡ closed (reduce 0 (waits stack.old.items) (pure_expr tree)).stack (reduce 0 (waits stack.old.items) (pure_expr tree)).tree) }
+{
+    let only = reduce(alloc, stack, 0, tree)?;
+    match stack.pop() {
+        None => Ok(Some(only)),
+        Some(_) => Ok(None),
+    }
+}

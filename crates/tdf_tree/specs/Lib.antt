@@ -1,0 +1,3 @@
+pub mod Pure
+pub mod Views
+pub mod Alike

@@ -1,0 +1,29 @@
+//! The tree of a model text: plain data, whose types are all public.
+//!
+//! - `names`: names, numbers as they are written, and literals.
+//! - `shapes`: number formats, and the `type` lines that name them.
+//! - `expr`: expressions and indices.
+//! - `stmt`: statements and bodies.
+//! - `blocks`: the lines and parts of `tdf`, `de` and `composite` blocks.
+//! - `tree`: the whole model.
+//!
+//! A tree in memory holds pointers and spare room. Laws speak of the plain tree of `specs/Plain.antt`,
+//! which has neither; `specs/Views.antt` says which plain tree a value of each type here stands for.
+#![tactic(auto)]
+
+mod blocks;
+mod expr;
+mod names;
+mod shapes;
+mod stmt;
+mod tree;
+
+pub use blocks::{
+    Attr, Composite, DeDecl, DeLine, Initial, Member, PortKind, PortLine, Process, Sense, Store,
+    TdfDecl, TdfLine,
+};
+pub use expr::{Expr, Index, Op};
+pub use names::{Digits, Lit, Name};
+pub use shapes::{FormatRef, Shape, TypeDecl};
+pub use stmt::{Limit, Stmt, Stmts};
+pub use tree::{Global1, Trace1, Tree};
