@@ -1,5 +1,6 @@
 -- What a reader answers is what the relation says, in both directions.
-use Rattle.std.proofs.Common.{◌≡◌, ℕ, List, Option, Some, None, sym, ◌∙◌}
+use Rattle.std.proofs.Common.{◌≡◌, ℕ, List, Option, Some, None, Vec, sym, ◌∙◌}
+use Rattle.std.specs.declared.alloc.Global.{Global}
 use Rattle.std.specs.Prelude.{MatchOption}
 use Rattle.std.specs.Option.{option_map}
 use Rattle.tdf_tokens.specs.Token.{Tok}
@@ -9,6 +10,13 @@ use Rattle.tdf_tree.specs.declared.expr.Expr.{Expr}
 use Rattle.tdf_tree.specs.declared.expr.Index.{Index}
 use Rattle.tdf_parts.specs.Index.{SaysIndex, IsNoIndex}
 use Rattle.tdf_parts.specs.Says.{Says, IsNoExpr}
+use Rattle.tdf_tree.specs.declared.names.Lit.{Lit}
+use Rattle.tdf_tree.specs.declared.shapes.FormatRef.{FormatRef}
+use Rattle.tdf_tree.specs.declared.shapes.Shape.{Shape}
+use Rattle.tdf_parts.specs.Formats.{SaysShape, SaysFormat, IsNoShape, IsNoFormat, shape_of, format_of}
+use Rattle.tdf_parts.specs.Literals.{SaysLit, SaysLits, IsNoLit, IsNoLits, lit_of, lits_of}
+use Rattle.tdf_parts.specs.Paths.{SaysPath, IsNoPath, path_of}
+use Rattle.tdf_parts.proofs.Parts.{lit_reads, lit_says, lits_of_reads, lits_says, path_of_reads, path_says, shape_reads, shape_says, format_reads, format_says}
 use Rattle.tdf_parts.specs.Machine.{index_of, expr_of}
 use Rattle.tdf_parts.proofs.SaysRuns.{index_reads, expr_reads}
 use Rattle.tdf_parts.proofs.RunSays.{index_says, expr_says}
@@ -20,3 +28,33 @@ index_decided ts (Some i) is = index_says ts i (sym is)
 pub expr_decided : (ts : List Tok) (o : Option Expr) → option_map pure_expr o ≡ expr_of ts → MatchOption o (IsNoExpr ts) (λ e. Says 0 ts (pure_expr e))
 expr_decided ts None is = λ x d. let e : expr_of ts ≡ Some x = expr_reads d in absurd (cc)
 expr_decided ts (Some e) is = expr_says ts (pure_expr e) (sym is)
+
+pub lit_decided : (ts : List Tok) (o : Option Lit) → o ≡ lit_of ts → MatchOption o (IsNoLit ts) (λ x. SaysLit ts x)
+lit_decided ts None is = λ x d. let e : lit_of ts ≡ Some x = lit_reads d in absurd (cc)
+lit_decided ts (Some x) is = lit_says ts x (sym is)
+
+pub lits_decided : (ts : List Tok) (o : Option (List Lit)) → o ≡ lits_of ts → MatchOption o (IsNoLits ts) (λ x. SaysLits ts x)
+lits_decided ts None is = λ x d. let e : lits_of ts ≡ Some x = lits_of_reads d in absurd (cc)
+lits_decided ts (Some x) is = lits_says ts x (sym is)
+
+pub path_decided : (ts : List Tok) (o : Option (List (List ℕ))) → o ≡ path_of ts → MatchOption o (IsNoPath ts) (λ x. SaysPath ts x)
+path_decided ts None is = λ x d. let e : path_of ts ≡ Some x = path_of_reads d in absurd (cc)
+path_decided ts (Some x) is = path_says ts x (sym is)
+
+pub shape_decided : (ts : List Tok) (o : Option Shape) → o ≡ shape_of ts → MatchOption o (IsNoShape ts) (λ x. SaysShape ts x)
+shape_decided ts None is = λ x d. let e : shape_of ts ≡ Some x = shape_reads d in absurd (cc)
+shape_decided ts (Some x) is = shape_says ts x (sym is)
+
+pub format_decided : (ts : List Tok) (o : Option FormatRef) → o ≡ format_of ts → MatchOption o (IsNoFormat ts) (λ x. SaysFormat ts x)
+format_decided ts None is = λ x d. let e : format_of ts ≡ Some x = format_reads d in absurd (cc)
+format_decided ts (Some x) is = format_says ts x (sym is)
+
+pub lits_vec_decided : (ts : List Tok) (o : Option (Vec Lit Global)) → option_map (λ v. v.items) o ≡ lits_of ts
+    → MatchOption o (IsNoLits ts) (λ v. SaysLits ts v.items)
+lits_vec_decided ts None is = lits_decided ts None is
+lits_vec_decided ts (Some v) is = lits_decided ts (Some v.items) is
+
+pub path_vec_decided : (ts : List Tok) (o : Option (Vec (List ℕ) Global)) → option_map (λ v. v.items) o ≡ path_of ts
+    → MatchOption o (IsNoPath ts) (λ v. SaysPath ts v.items)
+path_vec_decided ts None is = path_decided ts None is
+path_vec_decided ts (Some v) is = path_decided ts (Some v.items) is

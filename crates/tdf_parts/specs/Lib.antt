@@ -1,5 +1,12 @@
 pub mod Numbers
+pub mod Literals
 pub mod Index
+pub mod Formats
+pub mod Paths
 pub mod Says
 pub mod Machine
 pub mod Waiting
+pub mod Fits
+pub mod LitViews
+pub mod FormatEnds
+pub mod Laws

@@ -1,10 +1,7 @@
--- Numbers as they are written: NUMBER, INT and LIT of the language (own).
+-- Numbers as they are written: NUMBER and INT of the language (own).
 use Rattle.std.specs.Prelude.{ℕ, ◌+◌, ◌-◌, Bool, false, ◌&&◌, not, nat_eq, nat_le, List, [], ◌∷◌, ◌++◌, length, take, drop, Option, Some, None, if◌then◌else◌}
 use Rattle.std.specs.List.{prefix_len, suffix_len, before_first, after_first}
 use Rattle.tdf_fixed.specs.Digits.{are_digits, number}
-use Rattle.tdf_tokens.specs.Token.{Tok, TNumber, TSymbol}
-use Rattle.tdf_tokens.specs.declared.key.Symbol.TheVariants as symbol
-use Rattle.tdf_tree.specs.declared.names.Lit.{Lit}
 
 abbrev pub is_zero : ℕ → Bool
 is_zero c = nat_eq c 48
@@ -35,13 +32,3 @@ trimmed text = or_zero (without_first_zeros (before_first is_point text)) ++ beh
 -- the value of an INT, which is 1 to 18 digits; needless zeros may stand in front
 unfoldable pub int_of : List ℕ → Option ℕ
 int_of text = if are_digits text && nat_le (length text) 18 then Some (number text) else None
-
--- the text is 0
-abbrev pub is_nought : List ℕ → Bool
-is_nought (c ∷ []) = is_zero c
-is_nought _ = false
-
--- LIT: a number, or `-` and a number; zero has no sign
-pub data SaysLit : List Tok → Lit → Type 0 where
-  lit_plain : (text : List ℕ) → SaysLit (TNumber text ∷ []) (record { minus = false; digits = trimmed text })
-  lit_minus : (text : List ℕ) → SaysLit (TSymbol symbol.Minus ∷ TNumber text ∷ []) (record { minus = not (is_nought (trimmed text)); digits = trimmed text })

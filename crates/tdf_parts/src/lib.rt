@@ -6,11 +6,19 @@
 
 mod behind;
 mod expr;
+mod formats;
 mod index;
+mod laws;
+mod literals;
 mod numbers;
+mod paths;
 mod pending;
 mod steps;
 
 pub use expr::read_expr;
+pub use formats::{format_len, read_format, read_shape};
 pub use index::read_index;
+pub use laws::{law_forms, law_unique};
+pub use literals::{read_lit, read_lits};
 pub use numbers::{read_int, read_number};
+pub use paths::read_path;

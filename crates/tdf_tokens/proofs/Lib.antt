@@ -1,2 +1,4 @@
 pub mod LineLaws
+pub mod LongestLaws
 pub mod PieceLaws
+pub mod WordLaws

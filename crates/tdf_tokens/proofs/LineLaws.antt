@@ -1,12 +1,14 @@
 -- The first line of a text and the lines behind it.
-use Rattle.std.proofs.Common.{◌≡◌, ◌≢◌, ℕ, zero, suc, ◌+◌, ◌-◌, ◌<◌, ◌≤◌, Bool, true, false, List, [], ◌∷◌, ◌++◌, length, take, drop, refl, ap, sym, ◌∙◌, cond, append_assoc, arith, not, nat_eq, add-one, length-drop}
+use Rattle.std.proofs.Common.{◌≡◌, ◌≢◌, ℕ, zero, suc, ◌+◌, ◌-◌, ◌<◌, ◌≤◌, Bool, true, false, List, [], ◌∷◌, ◌++◌, length, take, drop, refl, ap, sym, ◌∙◌, cond, subst, append_assoc, arith, not, nat_eq, add-one, length-drop}
 use Rattle.std.proofs.lemmas.List.{append-nil, take_all, drop_all, take_rest, map-append}
 use Rattle.std.proofs.lemmas.List.Sums.{prefix_len-le-length}
-use Rattle.std.specs.List.{before_first, after_first, position_or_len}
+use Rattle.std.proofs.lemmas.Bool.{eqb-true}
+use Rattle.std.proofs.lemmas.List.Folds.{list_any-append}
+use Rattle.std.specs.List.{list_any, before_first, after_first, position_or_len}
 use Rattle.std.specs.Prelude.{None}
 use Rattle.tdf_tokens.specs.Rows.{tokens_of, rows_from, row_unless_bare}
 use Rattle.tdf_tokens.specs.Token.{Tok, Row}
-use Rattle.tdf_tokens.specs.Text.{is_line_end, unless_empty, lines_from, lines_of, first_fault, line_fault_of, or_else}
+use Rattle.tdf_tokens.specs.Text.{is_line_end, unless_empty, lines_from, lines_of, first_fault, line_fault_of, or_else, IsLines, no_line, last_line, line_end, LinesAreText}
 
 -- what stands before and after the first byte that passes, one byte further
 before_first-more : (p : ℕ → Bool) (byte : ℕ) (rest : List ℕ) → p byte ≡ false → before_first p (byte ∷ rest) ≡ byte ∷ before_first p rest
@@ -116,3 +118,28 @@ pub ruleset count_laws = (count-step, count-none, length-after_first)
 pub ruleset fault_laws = (fault-step, fault-none, length-after_first)
 
 pub ruleset cut_laws = (position_or_len-le, append-nil, take_all, drop_all, take_rest)
+
+any-snoc : (p : ℕ → Bool) (xs : List ℕ) (y : ℕ) → list_any p xs ≡ false → p y ≡ false → list_any p (xs ++ y ∷ []) ≡ false
+any-snoc p xs y h k = rw (list_any-append p xs (y ∷ []), h, k) refl
+
+last_now : (now : List ℕ) → list_any is_line_end now ≡ false → IsLines now (unless_empty now)
+last_now [] h = no_line
+last_now (byte ∷ more) h = last_line (byte ∷ more) (omega arith) h
+
+lines_by : (byte : ℕ) (rest now : List ℕ) → ((line : List ℕ) → list_any is_line_end line ≡ false → IsLines (line ++ rest) (lines_from line rest))
+    → list_any is_line_end now ≡ false → (b : Bool) → is_line_end byte ≡ b → IsLines (now ++ byte ∷ rest) (lines_from now (byte ∷ rest))
+unfolding lines_from
+lines_by byte rest now ih h true e =
+    let f : 10 ≡ byte = sym (eqb-true byte 10 e) in
+    rw e (subst (λ (b : ℕ). IsLines (now ++ b ∷ rest) (now ∷ lines_from [] rest)) f (line_end now rest h (ih [] refl)))
+lines_by byte rest now ih h false e =
+    rw e (subst (λ (l : List ℕ). IsLines l (lines_from (now ++ byte ∷ []) rest)) (append_assoc now (byte ∷ []) rest) (ih (now ++ byte ∷ []) (any-snoc is_line_end now byte h e)))
+
+lines_are : (rest now : List ℕ) → list_any is_line_end now ≡ false → IsLines (now ++ rest) (lines_from now rest)
+unfolding lines_from
+lines_are [] now h = subst (λ (l : List ℕ). IsLines l (unless_empty now)) (sym (append-nil now)) (last_now now h)
+lines_are (byte ∷ rest) now h = lines_by byte rest now (λ (line : List ℕ) (k : list_any is_line_end line ≡ false). lines_are rest line k) h (is_line_end byte) refl
+
+pub lines_are_text : LinesAreText
+unfolding lines_of
+lines_are_text text = lines_are text [] refl

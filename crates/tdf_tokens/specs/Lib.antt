@@ -1,3 +1,4 @@
+pub mod Longest
 pub mod Pieces
 pub mod Rows
 pub mod Text

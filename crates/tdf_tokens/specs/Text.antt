@@ -1,6 +1,6 @@
 -- The bytes and the lines of a model text (own).
-use Rattle.std.specs.Prelude.{ℕ, ◌+◌, Bool, ◌||◌, ◌&&◌, nat_eq, nat_le, nat_lt, List, [], ◌∷◌, ◌++◌, length, Option, Some, None, cond}
-use Rattle.std.specs.List.{list_all}
+use Rattle.std.specs.Prelude.{◌≡◌, ℕ, ◌+◌, ◌<◌, Bool, false, ◌||◌, ◌&&◌, nat_eq, nat_le, nat_lt, List, [], ◌∷◌, ◌++◌, length, Option, Some, None, cond}
+use Rattle.std.specs.List.{list_all, list_any}
 use Rattle.tdf_tokens.specs.declared.text.TextFault.{TextFault}
 use Rattle.tdf_tokens.specs.declared.text.TextFault.TheVariants.{Byte, LongLine}
 
@@ -24,6 +24,16 @@ lines_from now (byte ∷ rest) = cond (is_line_end byte) (now ∷ lines_from [] 
 -- the lines of a text, without the LF that ends each; what stands behind the last LF is a line where it isn't empty
 unfoldable pub lines_of : List ℕ → List (List ℕ)
 lines_of text = lines_from [] text
+
+-- the lines of a text, said without a scan
+pub data IsLines : List ℕ → List (List ℕ) → Type 0 where
+  no_line : IsLines [] []
+  last_line : (line : List ℕ) → 0 < length line → list_any is_line_end line ≡ false → IsLines line (line ∷ [])
+  line_end : (line rest : List ℕ) {lines : List (List ℕ)} → list_any is_line_end line ≡ false → IsLines rest lines → IsLines (line ++ 10 ∷ rest) (line ∷ lines)
+
+-- each text has the lines that `lines_of` gives
+abbrev pub LinesAreText : Type 0
+LinesAreText = (text : List ℕ) → IsLines text (lines_of text)
 
 -- the fault of line `number`: a byte that isn't allowed, and else more than 1,024 bytes
 abbrev pub line_fault_of : ℕ → List ℕ → Option TextFault

@@ -1,5 +1,5 @@
 -- The spellings of the reserved words and of the symbols (own).
-use Rattle.std.specs.Prelude.{ℕ, nat_eq, List, [], ◌∷◌, Option, codes}
+use Rattle.std.specs.Prelude.{◌≡◌, ◌↔◌, ℕ, nat_eq, List, [], ◌∷◌, Option, Some, codes}
 use Rattle.std.specs.Cmp.Lexicographic.{pointwise}
 use Rattle.std.specs.List.{find}
 use Rattle.tdf_tokens.specs.Text.{or_else}
@@ -126,3 +126,11 @@ key_of text =
 -- the symbol that is written so
 unfoldable pub symbol_of : List ℕ → Option Symbol
 symbol_of text = find (λ symbol. pointwise nat_eq text (sign symbol)) all_symbols
+
+-- a piece is a reserved word exactly where it is spelled so
+abbrev pub WordsAreRead : Type 0
+WordsAreRead = (word : Key) (text : List ℕ) → (key_of text ≡ Some word) ↔ (text ≡ spelling word)
+
+-- a piece is a symbol exactly where it is written so
+abbrev pub SymbolsAreRead : Type 0
+SymbolsAreRead = (mark : Symbol) (text : List ℕ) → (symbol_of text ≡ Some mark) ↔ (text ≡ sign mark)

@@ -3,6 +3,7 @@
 #![tactic(auto)]
 
 mod key;
+mod laws;
 mod pieces;
 mod rows;
 mod text;
@@ -10,6 +11,10 @@ mod token;
 mod words;
 
 pub use key::{Key, Symbol};
+pub use laws::{law_lines, law_longest, law_words};
 pub use rows::token_lines;
 pub use text::{TextFault, line_count, text_fault};
 pub use token::{Line, Token};
+
+#[cfg(test)]
+mod tests;

@@ -1,0 +1,5 @@
+use Rattle.tdf_tokens.proofs.LongestLaws.{pieces_are_longest}
+use Rattle.tdf_tokens.proofs.laws.law_longest.Goals as goal
+
+pub returns : goal.returns
+returns c = pieces_are_longest
