@@ -1,11 +1,11 @@
 -- The run of a model of the thin form (IEEE 1666.1-2016, the TDF model of computation; rows, turns and notes are own).
-use Rattle.std.specs.Prelude.{ℕ, ◌+◌, ◌-◌, ◌*◌, ◌/◌, ◌<◌, ◌≡◌, ◌↔◌, true, List, [], ◌∷◌, ◌++◌, map, Some, pos, ◌+ℤ◌}
+use Rattle.std.specs.Prelude.{ℕ, ◌+◌, ◌-◌, ◌*◌, ◌/◌, ◌%◌, min, ◌<◌, ◌≡◌, ◌↔◌, true, List, [], ◌∷◌, ◌++◌, map, pos, ◌+ℤ◌}
 use Rattle.std.specs.List.{range_with_len}
 use Rattle.tdf_fixed.specs.Overflow.{wrapped}
 use Rattle.tdf_fixed.specs.declared.raw.Raw.{Raw}
 use Rattle.tdf_lang.specs.declared.thin.Thin.{Thin}
 use Rattle.tdf_sim.specs.Notes.{PlanNote, plan_text, end_text}
-use Rattle.tdf_sim.specs.Table.{Row, table_text}
+use Rattle.tdf_sim.specs.Table.{Row, value_row, row_text, table_text}
 
 -- sample j is j times what each sample adds, wrapped to the signed word
 abbrev pub sample : Thin → ℕ → Raw
@@ -13,11 +13,14 @@ sample thin j = record { num = wrapped true thin.wl (pos (j * thin.add)); frac =
 
 -- sample j stands at j timesteps
 abbrev pub row : Thin → ℕ → Row
-row thin j = record { time = j * thin.step; cells = Some (sample thin j) ∷ [] }
+row thin j = value_row (j * thin.step) (sample thin j)
 
--- how many samples lie below the stop
+abbrev pub row_piece : Thin → ℕ → List ℕ
+row_piece thin j = row_text (row thin j)
+
+-- how many samples lie below the stop: one for each whole timestep before it, and one more where the stop is none
 unfoldable pub row_count : Thin → ℕ → ℕ
-row_count thin stop = (stop + (thin.step - 1)) / thin.step
+row_count thin stop = stop / thin.step + min 1 (stop % thin.step)
 
 -- the rows of the samples below the stop
 unfoldable pub rows : Thin → ℕ → List Row

@@ -13,6 +13,10 @@ pub record Row : Type 0 where
 abbrev pub spaced : List ℕ → List ℕ
 spaced text = 32 ∷ text
 
+-- a row of one known value
+abbrev pub value_row : ℕ → Raw → Row
+value_row time value = record { time = time; cells = Some value ∷ [] }
+
 -- a line of a text and its line feed
 abbrev pub line : List ℕ → List ℕ
 line text = text ++ 10 ∷ []

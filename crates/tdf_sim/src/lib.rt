@@ -7,3 +7,5 @@
 mod notes;
 mod table;
 mod thin;
+
+pub use thin::{law_rows, law_samples, run_thin};

@@ -1,7 +1,7 @@
 //! The lines of a table, as text.
 
-ghost use Rattle.std.specs.Prelude.{◌≡◌, ◌++◌, [], ◌∷◌, Some, pos, OnOk, ◌<◌, ◌≤◌, ◌^◌, unsigned_abs};
-ghost use Rattle.tdf_sim.specs.Table.{head_text, row_text};
+ghost use Rattle.std.specs.Prelude.{◌≡◌, ◌++◌, [], ◌∷◌, OnOk, ◌<◌, ◌≤◌, ◌^◌, unsigned_abs};
+ghost use Rattle.tdf_sim.specs.Table.{head_text, row_text, value_row};
 
 use tdf_fixed::{Memory, Raw, push_decimal, push_seconds};
 
@@ -21,7 +21,7 @@ pub(crate) fn push_head(line: &mut Vec<u8>, label: &[u8]) -> Result<(), Memory>
 pub(crate) fn push_row(line: &mut Vec<u8>, time: u64, value: Raw) -> Result<(), Memory>
     requires few { value.frac ≤ 63 }
     requires small { unsigned_abs value.num ≤ 2 ^ 64 }
-    ensures { OnOk result (line.new.items ≡ line.old.items ++ row_text (record { time = time; cells = Some value ∷ [] })) }
+    ensures { OnOk result (line.new.items ≡ line.old.items ++ row_text (value_row time value)) }
 {
     push_seconds(line, time)?;
     line.push(b' ')?;
