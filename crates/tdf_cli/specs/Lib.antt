@@ -1,0 +1,4 @@
+pub mod Outcome
+pub mod Reading
+pub mod Words
+pub mod Status

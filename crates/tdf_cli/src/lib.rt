@@ -1,1 +1,15 @@
+//! The command: its words, its jobs and its answer.
+//!
+//! * `words`: what the words ask for.
+//! * `load`: reads the model.
+//! * `status`: the answers and their numbers.
 #![tactic(auto)]
+
+mod command;
+mod jobs;
+mod load;
+mod status;
+mod words;
+
+pub use command::tool;
+pub use words::Settings;

@@ -9,7 +9,8 @@ use Rattle.tdf_tokens.specs.declared.token.Line.{Line}
 use Rattle.tdf_lang.specs.declared.thin.Thin.{Thin}
 use Rattle.tdf_lang.specs.Shown.{lists_of}
 use Rattle.tdf_lang.specs.Template.{Blanks, template}
-use Rattle.tdf_lang.specs.Thin.{token_lists, Fills, IsThin}
+use Rattle.tdf_lang.specs.Thin.{token_lists, Fills, IsThin, SaysOneThin}
+use Rattle.tdf_parts.specs.Numbers.{int_of}
 use Rattle.tdf_lang.specs.Words.{picked}
 
 pub any_now : (name : List ℕ) (others : List (Bor (List ℕ))) → list_any (λ other. pointwise nat_eq other.now name) others
@@ -50,3 +51,24 @@ is_thin text lines b thin is clean same fills = record { blanks = b; clean = cle
 pub none_from : {X : Type 0} (o : Option X) → is_some o ≡ false → o ≡ None
 none_from None e = refl
 none_from (Some x) e = cc
+
+some_same : (m n : ℕ) (o : Option ℕ) → o ≡ Some m → o ≡ Some n → m ≡ n
+some_same m n o is_m is_n = cc
+
+abbrev made : ℕ → ℕ → ℕ → List ℕ → List ℕ → Thin
+made wl step add instance label = record { wl = wl; step = step; add = add; instance = instance; label = label }
+
+one_filled : (b : Blanks) (one other : Thin) → Fills b one → Fills b other → one ≡ other
+one_filled b one other f g =
+    ap (λ wl. made wl one.step one.add one.instance one.label) (some_same one.wl other.wl (int_of b.width) f.word g.word)
+    ∙ ap (λ step. made other.wl step one.add one.instance one.label) (f.step ∙ sym g.step)
+    ∙ ap (λ add. made other.wl other.step add one.instance one.label) (some_same one.add other.add (int_of b.add) f.add g.add)
+    ∙ ap (λ instance. made other.wl other.step other.add instance one.label) (f.instance ∙ sym g.instance)
+    ∙ ap (λ label. made other.wl other.step other.add other.instance label) (f.label ∙ sym g.label)
+
+same_blanks : (text : List ℕ) (one other : Thin) → (t : IsThin text one) → (u : IsThin text other) → u.blanks ≡ t.blanks
+same_blanks text one other t u = sym (picked_template u.blanks) ∙ ap picked (sym u.lines ∙ t.lines) ∙ picked_template t.blanks
+
+pub says_one_thin : SaysOneThin
+says_one_thin text one other t u =
+    one_filled t.blanks one other t.fills (subst (λ (b : Blanks). Fills b other) (same_blanks text one other t u) u.fills)

@@ -44,3 +44,7 @@ pub record IsThin (text : List ℕ) (thin : Thin) : Type 0 where
   pub clean : fault_of text ≡ None
   pub lines : token_lists text ≡ template blanks
   pub fills : Fills blanks thin
+
+-- a text says at most one model
+abbrev pub SaysOneThin : Type 0
+SaysOneThin = (text : List ℕ) (one other : Thin) → IsThin text one → IsThin text other → one ≡ other

@@ -7,4 +7,4 @@ mod template;
 mod thin;
 mod words;
 
-pub use thin::{Thin, ThinErr};
+pub use thin::{Thin, ThinErr, law_one_thin, parse_thin};

@@ -4,7 +4,7 @@ ghost use Rattle.std.specs.Prelude.{◌≡◌, ◌≤◌, length, map, IfOk, IsE
 ghost use Rattle.tdf_lang.specs.declared.thin.Thin.{Thin};
 ghost use Rattle.tdf_lang.specs.declared.thin.ThinErr.TheVariants.{Memory, Unbuilt};
 ghost use Rattle.tdf_lang.specs.Shown.{shown};
-ghost use Rattle.tdf_lang.specs.Thin.{is_none_of, are_distinct, Fills, IsThin};
+ghost use Rattle.tdf_lang.specs.Thin.{is_none_of, are_distinct, Fills, IsThin, SaysOneThin};
 
 use crate::template::is_template;
 use crate::words::{Words, pick};
@@ -127,3 +127,8 @@ pub fn parse_thin(alloc: Global, text: &[u8]) -> Result<Thin, ThinErr>
     }
     filled(alloc, &words)
 }
+
+/// A text says at most one model of the thin form.
+pub fn law_one_thin()
+    ensures { SaysOneThin }
+{}

@@ -1,0 +1,41 @@
+//! The answers of the command.
+
+ghost use Rattle.std.specs.Prelude.{◌≡◌};
+
+/// What the command answers, but for a failed write and want of memory.
+#[derive(Clone, Copy, Debug, PartialEq, Eq)]
+pub(crate) enum Status {
+    /// The job is done.
+    Done,
+    /// The text has a fault.
+    Refused,
+    /// The words aren't taken.
+    Usage,
+    /// A read failed.
+    ReadFault,
+    /// The text is too long.
+    TooLong,
+}
+
+/// The answer of a failed write.
+pub(crate) const WRITE_FAULT: u8 = 4;
+
+/// The answer of want of memory.
+pub(crate) const NO_MEMORY: u8 = 7;
+
+impl Status {
+    ghost use Rattle.tdf_cli.specs.Status.{number_of};
+
+    /// The number of this answer.
+    pub(crate) fn number(self) -> u8
+        ensures { result ≡ number_of self }
+    {
+        match self {
+            Status::Done => 0,
+            Status::Refused => 1,
+            Status::Usage => 2,
+            Status::ReadFault => 3,
+            Status::TooLong => 8,
+        }
+    }
+}
