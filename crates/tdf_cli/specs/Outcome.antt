@@ -50,3 +50,7 @@ pub record MetInPart (r : Reading) (out_old out_new notes_old notes_new : Option
 abbrev pub Stands : Reading → Option (List ℕ) → Option (List ℕ) → Option (List ℕ) → Option (List ℕ) → Type 0
 Stands r out_old out_new notes_old notes_new =
     (Keeps out_old out_new × Keeps notes_old notes_new) ⊎ MetInPart r out_old out_new notes_old notes_new
+
+-- what came of the words and of reading has at most one outcome
+abbrev pub HasOneOutcome : Type 0
+HasOneOutcome = (r : Reading) (one other : Outcome) → Has r one → Has r other → one ≡ other

@@ -9,7 +9,7 @@ ghost use Rattle.tdf_cli.specs.declared.words.Settings.TheVariants.{Run};
 ghost use Rattle.tdf_cli.specs.Status.{number_of};
 ghost use Rattle.tdf_cli.specs.Words.{texts, settings_of};
 ghost use Rattle.tdf_cli.specs.Reading.{Reading, Came};
-ghost use Rattle.tdf_cli.specs.Outcome.{Meets, Stands};
+ghost use Rattle.tdf_cli.specs.Outcome.{Meets, Stands, HasOneOutcome};
 
 use crate::jobs::finish;
 use crate::load::load;
@@ -44,6 +44,12 @@ pub fn tool<S: Source, O: Sink, N: Sink>(
     ensures unread { result ≡ 2 → model.new ≡ model.old }
     ensures read_fault { result ≡ 3 → Rose (S.faults model.old) (S.faults model.new) }
     ensures write_fault { result ≡ 4 → Rose (O.faults out.old) (O.faults out.new) ⊎ Rose (N.faults notes.old) (N.faults notes.new) }
+
+    // Words that are taken, a text that is, and no count of faults that rose: the job is done, or no memory was found.
+    ensures complete { (text : List ℕ) (thin : Thin) (stop : ℕ) → settings_of (texts words.now.items) ≡ Some (Run stop)
+        → S.left model.old ≡ Some text → length text ≤ 1048576 → IsThin text thin
+        → ¬ Rose (S.faults model.old) (S.faults model.new) → ¬ Rose (O.faults out.old) (O.faults out.new)
+        → ¬ Rose (N.faults notes.old) (N.faults notes.new) → (result ≡ 0) ⊎ (result ≡ 7) }
 {
     let input = load(alloc, words, model);
     match finish(alloc, &input, out, notes) {
@@ -52,3 +58,8 @@ pub fn tool<S: Source, O: Sink, N: Sink>(
         Err(SinkErr::Memory) => NO_MEMORY,
     }
 }
+
+/// What came of the words and of reading has at most one outcome.
+pub fn law_one_outcome()
+    ensures { HasOneOutcome }
+{}

@@ -11,5 +11,5 @@ mod load;
 mod status;
 mod words;
 
-pub use command::tool;
+pub use command::{law_one_outcome, tool};
 pub use words::Settings;
