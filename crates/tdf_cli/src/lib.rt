@@ -9,6 +9,8 @@ mod command;
 mod jobs;
 mod load;
 mod status;
+#[cfg(test)]
+mod tests;
 mod words;
 
 pub use command::{law_one_outcome, tool};
