@@ -13,7 +13,11 @@ use tdf_io::{StdSink, StdSource, put_all};
 const WRITE_FAULT: u8 = 4;
 
 /// Hands all that was gathered to both streams. The status stands, unless one of them fails.
-fn flushed<O: Write + Drop, N: Write + Drop>(status: u8, out: &mut StdSink<O>, notes: &mut StdSink<N>) -> u8 {
+fn flushed<O: Write + Drop, N: Write + Drop>(
+    status: u8,
+    out: &mut StdSink<O>,
+    notes: &mut StdSink<N>,
+) -> u8 {
     let out_failed = out.flush().is_err();
     let notes_failed = notes.flush().is_err();
     if out_failed || notes_failed {

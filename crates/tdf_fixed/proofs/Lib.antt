@@ -1,5 +1,6 @@
 pub mod BitTexts
 pub mod DecimalTexts
+pub mod ExactReaders
 pub mod Exacts
 pub mod FractionParts
 pub mod Fractions
@@ -9,7 +10,9 @@ pub mod Places
 pub mod Powers
 pub mod Quotients
 pub mod Ranges
+pub mod Readers
 pub mod Scaling
 pub mod TimeBounds
+pub mod TimeReaders
 pub mod WholeParts
 pub mod Wraps

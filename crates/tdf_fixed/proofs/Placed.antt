@@ -27,7 +27,7 @@ quantised_exactly quant (suc j) (suc m) d some is =
     let rest : d - 1 - (d - 1) ≡ 0 = omega arith in
     rw (parts.0, parts.1, rest) refl
 
-all_parts : (w p d e : ℕ) → 0 < d → (w * d + p) * e ≡ (w * e + p * e / d) * d + p * e % d
+pub all_parts : (w p d e : ℕ) → 0 < d → (w * d + p) * e ≡ (w * e + p * e / d) * d + p * e % d
 all_parts w p d e some =
     sym (div-add-mod' ((w * d + p) * e) d) ∙ rw (times_div w p d e some, times_mod w p d e some) refl
 

@@ -1,9 +1,10 @@
 -- What every overflow mode gives lies in the range, and a number of the range is left alone.
 use Rattle.std.proofs.Common.{◌≡◌, ℕ, suc, ◌-◌, ◌*◌, ◌^◌, ◌<◌, ◌≤◌, Bool, true, false, ℤ, pos, negsuc, ⊎_elim, refl, ap, ◌∙◌, arith}
-use Rattle.std.proofs.Math.Nat.{pow-succ'}
+use Rattle.std.proofs.Math.Nat.{pow-succ', pow-le-pow_right}
 use Rattle.std.proofs.lemmas.Bool.{cases_lt, lt-ltb, le-ltb}
 use Rattle.std.proofs.lemmas.Int.{ints, clamps}
 use Rattle.std.proofs.lemmas.Nat.{mod_below, pow_pos}
+use Rattle.std.specs.Prelude.{unsigned_abs}
 use Rattle.tdf_fixed.specs.Overflow.{wrapped, wrapped_signed, overflowed, IsIn}
 use Rattle.tdf_fixed.specs.Quantise.{above_by}
 use Rattle.tdf_fixed.specs.declared.over.Over.{Over}
@@ -34,3 +35,15 @@ in_range SatZero true wl z some = let h = pow_pos (wl - 1) in record { low = gri
 in_range SatZero false wl z some = let h = pow_pos wl in record { low = grind (arith, ints); high = grind (arith, ints) }
 in_range SatSym true wl z some = let h = pow_pos (wl - 1) in record { low = omega (arith, ints, clamps); high = omega (arith, ints, clamps) }
 in_range SatSym false wl z some = let h = pow_pos wl in record { low = omega (arith, ints, clamps); high = omega (arith, ints, clamps) }
+
+-- a number of the range by its bits: below 2 ^ wl, and at most 2 ^ (wl - 1) where it has a sign
+pub in_width : (signed : Bool) (wl : ℕ) (z : ℤ) → 1 ≤ wl → IsIn signed wl z → unsigned_abs z < 2 ^ wl
+in_width true wl (pos n) some h = let p = pow_pos (wl - 1) in omega (arith, ints, half wl some)
+in_width true wl (negsuc n) some h = let p = pow_pos (wl - 1) in omega (arith, ints, half wl some)
+in_width false wl (pos n) some h = let p = pow_pos wl in omega (arith, ints)
+in_width false wl (negsuc n) some h = absurd (omega (arith, ints))
+
+pub in_small : (signed : Bool) (wl : ℕ) (z : ℤ) → 1 ≤ wl → wl ≤ 64 → IsIn signed wl z → unsigned_abs z < 2 ^ 64
+in_small signed wl z some few h =
+    let width : 2 ^ wl ≤ 2 ^ 64 = pow-le-pow_right (omega arith) few in
+    omega (arith, in_width signed wl z some h)

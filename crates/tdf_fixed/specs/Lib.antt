@@ -9,4 +9,5 @@ pub mod Number
 pub mod Overflow
 pub mod Quantise
 pub mod Sides
+pub mod Spelling
 pub mod Time

@@ -1,4 +1,4 @@
-ghost use Rattle.std.specs.Prelude.{◌≡◌, ◌-◌, ◌*◌, ◌≤◌, ◌^◌, unsigned_abs};
+ghost use Rattle.std.specs.Prelude.{◌≡◌, ◌-◌, ◌*◌, ◌<◌, ◌≤◌, ◌^◌, unsigned_abs};
 ghost use Rattle.tdf_fixed.specs.Cast.{cast_of, fraction_of};
 ghost use Rattle.tdf_fixed.specs.Overflow.{IsIn};
 
@@ -17,15 +17,10 @@ pub fn cast(value: Raw, format: Format) -> Raw
     ensures frac { result.frac ≡ fraction_of format }
     ensures range { IsIn format.signed format.wl result.num }
     ensures few { result.frac ≤ 63 }
+    ensures small { unsigned_abs result.num < 2 ^ 64 }
 {
     let frac = format.wl - format.iwl;
-    Raw {
-        num: overflow(
-            format.over,
-            format.signed,
-            format.wl,
-            place(format.quant, value.num, value.frac, frac),
-        ),
-        frac,
-    }
+    let placed = place(format.quant, value.num, value.frac, frac);
+    let num = overflow(format.over, format.signed, format.wl, placed);
+    Raw { num, frac }
 }

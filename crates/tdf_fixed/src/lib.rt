@@ -7,6 +7,7 @@ mod casts;
 mod decimals;
 mod digits;
 mod format;
+mod laws;
 mod literals;
 mod memory;
 mod numerals;
@@ -16,12 +17,15 @@ mod placing;
 mod quant;
 mod raw;
 mod rounding;
+#[cfg(test)]
+mod tests;
 mod times;
 
 pub use casts::cast;
 pub use decimals::{push_decimal, push_seconds};
 pub use digits::push_bits;
 pub use format::Format;
+pub use laws::{law_casts, law_overflow, law_readers, law_rounding, law_texts};
 pub use literals::{DecimalErr, NumErr, read_decimal, read_exact};
 pub use memory::Memory;
 pub use numerals::is_number;

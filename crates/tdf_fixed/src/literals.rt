@@ -1,7 +1,9 @@
-ghost use Rattle.std.specs.Prelude.{◌≡◌, ◌+◌, ◌*◌, ◌/◌, ◌%◌, ◌<◌, ◌≤◌, ◌^◌, true, length, slice_index, nat_eq, IsTrue, IfSome};
+ghost use Rattle.std.specs.Prelude.{◌≡◌, ◌+◌, ◌*◌, ◌-◌, ◌/◌, ◌%◌, ◌<◌, ◌≤◌, ◌^◌, true, length, slice_index, nat_eq, IsTrue, IfSome, IfOk};
 ghost use Rattle.std.specs.Option.{option_map};
+ghost use Rattle.tdf_fixed.specs.Cast.{fraction_of};
 ghost use Rattle.tdf_fixed.specs.Literal.{literal_of, literal_cast, literal_exact, decimal_of, exact_of, least_of, signed_number};
 ghost use Rattle.tdf_fixed.specs.Number.{numeral_of, is_short};
+ghost use Rattle.tdf_fixed.specs.Overflow.{IsIn};
 ghost use Rattle.tdf_fixed.specs.Sides.{spelt, signed, AreDigits};
 
 use crate::format::Format;
@@ -72,7 +74,8 @@ fn literal<'t>(text: &'t [u8]) -> Option<Signed<'t>>
 fn cast_literal(literal: &Signed, format: Format) -> i128
     requires digits { AreDigits literal.now.parts.whole.now literal.now.parts.fraction.now }
     requires short { is_short (spelt literal.now.parts) ≡ true }
-    ensures { result ≡ literal_cast format (signed literal.now) }
+    ensures value { result ≡ literal_cast format (signed literal.now) }
+    ensures range { IsIn format.signed format.wl result }
 {
     let parts = literal.parts;
     let d = power(parts.fraction.len());
@@ -94,7 +97,9 @@ fn cast_literal(literal: &Signed, format: Format) -> i128
 /// `TooManyDigits` where it is, and has more than 18 digits on one side of the point.
 #[tactic(auto, unfolding(crate::specs::Literal::decimal_of))]
 pub fn read_decimal(text: &[u8], format: Format) -> Result<Raw, DecimalErr>
-    ensures { result ≡ decimal_of format text.now }
+    ensures value { result ≡ decimal_of format text.now }
+    ensures range { IfOk result (λ r. IsIn format.signed format.wl r.num) }
+    ensures frac { IfOk result (λ r. r.frac ≡ fraction_of format) }
 {
     let Some(literal) = literal(text) else {
         return Err(DecimalErr::NotNumber);

@@ -50,7 +50,7 @@ pub(crate) fn overflow(over: Over, signed: bool, wl: u32, num: i128) -> i128
     let most = highest(signed, wl);
     match over {
         Over::Wrap => wrap(signed, wl, num),
-        Over::Sat => num.min(most).max(lowest(signed, wl)),
+        Over::Sat => num.clamp(lowest(signed, wl), most),
         Over::SatZero => {
             if lowest(signed, wl) <= num && num <= most {
                 num
@@ -58,6 +58,6 @@ pub(crate) fn overflow(over: Over, signed: bool, wl: u32, num: i128) -> i128
                 0
             }
         }
-        Over::SatSym => num.min(most).max(lowest_symmetric(signed, wl)),
+        Over::SatSym => num.clamp(lowest_symmetric(signed, wl), most),
     }
 }

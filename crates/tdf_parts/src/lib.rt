@@ -22,3 +22,6 @@ pub use laws::{law_forms, law_unique};
 pub use literals::{read_lit, read_lits};
 pub use numbers::{read_int, read_number};
 pub use paths::read_path;
+
+#[cfg(test)]
+mod tests;

@@ -105,7 +105,7 @@ find-passes : {A : Type 0} (p : A → Bool) (xs : List A) (x : A) → find p xs 
 find-passes p [] x e = absurd cc
 find-passes p (y ∷ ys) x e = find_at p y ys x (find-passes p ys x) e (p y) refl
 
-same_text : (xs ys : List ℕ) → pointwise nat_eq xs ys ≡ true → xs ≡ ys
+pub same_text : (xs ys : List ℕ) → pointwise nat_eq xs ys ≡ true → xs ≡ ys
 same_text [] [] h = refl
 same_text [] (y ∷ ys) h = absurd cc
 same_text (x ∷ xs) [] h = absurd cc

@@ -27,3 +27,6 @@ pub use names::{Digits, Lit, Name};
 pub use shapes::{FormatRef, Shape, TypeDecl};
 pub use stmt::{Limit, Stmt, Stmts};
 pub use tree::{Global1, Trace1, Tree};
+
+#[cfg(test)]
+mod tests;

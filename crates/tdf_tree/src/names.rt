@@ -83,7 +83,7 @@ impl Digits {
     pub fn as_bytes(&self) -> &[u8]
         ensures { result.now ≡ self.now }
     {
-        self.bytes.as_slice()
+        &self.bytes
     }
 
     /// Gives the bytes back. It takes no memory.
