@@ -2,3 +2,4 @@ pub mod Outcome
 pub mod Reading
 pub mod Words
 pub mod Status
+pub mod Texts

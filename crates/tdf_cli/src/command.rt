@@ -3,7 +3,9 @@
 ghost use Rattle.std.specs.Prelude.{◌≡◌, ◌≢◌, ◌⊎◌, ◌+◌, ◌≤◌, ℕ, List, Some, None, length};
 ghost use Rattle.tdf_io.specs.Faults.{Rose};
 ghost use Rattle.tdf_lang.specs.declared.thin.Thin.{Thin};
-ghost use Rattle.tdf_lang.specs.Thin.{IsThin};
+ghost use Rattle.tdf_cli.specs.Texts.{SpellsText};
+ghost use Rattle.tdf_tree.specs.Pure.{PureTree};
+ghost use Rattle.tdf_sim.specs.ThinTree.{IsThinTree};
 ghost use Rattle.tdf_cli.specs.declared.status.Status.{Status};
 ghost use Rattle.tdf_cli.specs.declared.words.Settings.TheVariants.{Run};
 ghost use Rattle.tdf_cli.specs.Status.{number_of};
@@ -46,8 +48,8 @@ pub fn tool<S: Source, O: Sink, N: Sink>(
     ensures write_fault { result ≡ 4 → Rose (O.faults out.old) (O.faults out.new) ⊎ Rose (N.faults notes.old) (N.faults notes.new) }
 
     // Words that are taken, a text that is, and no count of faults that rose: the job is done, or no memory was found.
-    ensures complete { (text : List ℕ) (thin : Thin) (stop : ℕ) → settings_of (texts words.now.items) ≡ Some (Run stop)
-        → S.left model.old ≡ Some text → length text ≤ 1048576 → IsThin text thin
+    ensures complete { (text : List ℕ) (tree : PureTree) (thin : Thin) (stop : ℕ) → settings_of (texts words.now.items) ≡ Some (Run stop)
+        → S.left model.old ≡ Some text → length text ≤ 1048576 → SpellsText text tree → IsThinTree tree thin
         → ¬ Rose (S.faults model.old) (S.faults model.new) → ¬ Rose (O.faults out.old) (O.faults out.new)
         → ¬ Rose (N.faults notes.old) (N.faults notes.new) → (result ≡ 0) ⊎ (result ≡ 7) }
 {

@@ -151,6 +151,24 @@ fn refuses_by_name(rt: HostRuntime) -> Result<(), Fail> {
             "",
             ["run", "--stop", "3us"].as_slice(),
             1,
+            "refused SYNTAX line 1\n",
+        ),
+        (
+            "language 1\n",
+            ["run", "--stop", "3us"].as_slice(),
+            1,
+            "refused SYNTAX line 2\n",
+        ),
+        (
+            "language 1\n#\r\nend\n",
+            ["run", "--stop", "3us"].as_slice(),
+            1,
+            "refused BYTE line 2\n",
+        ),
+        (
+            "language 1\ntop\nend\n",
+            ["run", "--stop", "3us"].as_slice(),
+            1,
             "refused UNBUILT\n",
         ),
     ];

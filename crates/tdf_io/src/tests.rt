@@ -1,5 +1,7 @@
 //! What no clause says: that each call succeeds with ample memory, over sources and sinks that give and take little.
 
+ghost use Rattle.std.specs.Prelude.{◌<◌};
+
 use super::*;
 use std::test::Fail;
 

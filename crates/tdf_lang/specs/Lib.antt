@@ -1,4 +1,0 @@
-pub mod Template
-pub mod Thin
-pub mod Shown
-pub mod Words

@@ -1,3 +1,7 @@
 pub mod Lines
 pub mod Samples
 pub mod Rows
+pub mod BareStmts
+pub mod BlockLaws
+pub mod Alone
+pub mod TreeLaws

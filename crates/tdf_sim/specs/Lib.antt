@@ -1,3 +1,5 @@
 pub mod Notes
 pub mod Ramp
 pub mod Table
+pub mod ThinTree
+pub mod ThinShown

@@ -1,43 +1,58 @@
-use Rattle.std.proofs.Common.{ap, ◌∙◌, Err, codes}
-use Rattle.std.specs.Io.KnownBytes.{Appends}
-use Rattle.std.proofs.lemmas.Result.{on_err_weaker}
-use Rattle.tdf_lang.specs.declared.thin.Thin.{Thin}
-use Rattle.tdf_lang.specs.Thin.{IsThin}
-use Rattle.tdf_sim.specs.Ramp.{trace_text, notes_text}
+use Rattle.std.proofs.Common.{codes}
+use Rattle.std.proofs.lemmas.Result.{IfOk-weaker, on_err_weaker}
+use Rattle.tdf_grammar.specs.Refused.{IsTreeOf}
+use Rattle.tdf_tokens.specs.declared.text.TextFault.TheVariants as fault
 use Rattle.tdf_cli.specs.Reading.{Whole}
-use Rattle.tdf_cli.specs.Outcome.{unbuilt}
+use Rattle.tdf_cli.specs.Outcome.{bytes, syntax, refusal_text}
 use Rattle.tdf_cli.specs.declared.status.Status.TheVariants.{Refused}
 use Rattle.tdf_cli.specs.declared.words.Settings.TheVariants.{Run}
-use Rattle.tdf_cli.proofs.Outcomes.{both_ok, both_err, met_note, noted_in_part, met_ran, ran_in_part}
+use Rattle.tdf_cli.proofs.Outcomes.{both_ok, met_note, noted_in_part, spells_text, why_byte, why_long_line, why_syntax}
 use Rattle.tdf_cli.proofs.jobs.run.Goals as goal
 
 pub returns-in-Ok-clause-all : goal.returns-in-Ok-clause-all
 returns-in-Ok-clause-all g c =
-    let is : IsThin c.args.text.now.items c.in-Ok.thin = rw c.deref.ensures.value at c.in-Ok.ensures.thin in
-    both_ok c.reached.result _ _ _ (λ s answers wrote. met_ran c.args.text.now.items c.in-Ok.thin c.args.stop s _ _ _ _ is answers wrote.0 wrote.1)
-    c.reached.ensures.status
-    (both_ok c.reached.result _ _ (λ s. Appends (g.O.Sink.taken c.args.out.now) (g.O.Sink.taken c.reached.new.out) (trace_text c.in-Ok.thin c.args.stop)
-    × Appends (g.N.Sink.taken c.args.notes.now) (g.N.Sink.taken c.reached.new.notes) (notes_text c.in-Ok.thin c.args.stop))
-    (λ s traced noted. (traced, noted)) c.reached.ensures.trace c.reached.ensures.notes)
+    IfOk-weaker c.run_tree.result _ _
+    (λ s met. met c.args.text.now.items (spells_text c.in-Ok.tree c.args.text.now.items c.deref.result.now c.deref.ensures.value c.in-Ok.ensures.tree))
+    c.run_tree.ensures.all
 
-pub returns-in-Ok-clause-part : goal.returns-in-Ok-clause-part
-returns-in-Ok-clause-part g c =
-    let is : IsThin c.args.text.now.items c.in-Ok.thin = rw c.deref.ensures.value at c.in-Ok.ensures.thin in
-    both_err c.reached.result (λ traced noted. ran_in_part c.args.text.now.items c.in-Ok.thin c.args.stop _ _ _ _ is traced noted)
-    c.reached.ensures.trace_part c.reached.ensures.notes_part
+pub returns-in-Err-Byte-clause-all : goal.returns-in-Err-Byte-clause-all
+returns-in-Err-Byte-clause-all g c =
+    both_ok c.refused.result _ _ _
+    (λ s answers wrote. met_note (Whole (Run c.args.stop) c.args.text.now.items) Refused s (refusal_text (codes "BYTE") c.in-Err-Byte.line) _ _ _
+    (bytes {fault = fault.Byte c.in-Err-Byte.line} (why_byte c.in-Err-Byte.field-0 c.in-Err-Byte.line c.args.text.now.items c.deref.result.now c.in-Err-Byte.field-0-is c.deref.ensures.value c.in-Err-Byte.ensures.refused)) answers wrote)
+    c.refused.ensures.status c.refused.ensures.all
 
-pub returns-in-Err-Unbuilt-clause-all : goal.returns-in-Err-Unbuilt-clause-all
-returns-in-Err-Unbuilt-clause-all g c =
-    let none : (thin : Thin) → IsThin c.args.text.now.items thin → ⊥ =
-    rw c.deref.ensures.value at (c.parse_thin.ensures.unbuilt (c.in-Err-Unbuilt.is ∙ ap Err c.in-Err-Unbuilt.field-0-is)) in
-    both_ok c.noted.result _ _ _ (λ s answers wrote. met_note (Whole (Run c.args.stop) c.args.text.now.items) Refused s (codes "refused UNBUILT\n") _ _ _
-    (unbuilt none) answers wrote)
-    c.noted.ensures.status c.noted.ensures.all
+pub returns-in-Err-Byte-clause-part : goal.returns-in-Err-Byte-clause-part
+returns-in-Err-Byte-clause-part g c =
+    on_err_weaker c.refused.result
+    (λ wrote. noted_in_part (Whole (Run c.args.stop) c.args.text.now.items) Refused (refusal_text (codes "BYTE") c.in-Err-Byte.line) _ _ _
+    (bytes {fault = fault.Byte c.in-Err-Byte.line} (why_byte c.in-Err-Byte.field-0 c.in-Err-Byte.line c.args.text.now.items c.deref.result.now c.in-Err-Byte.field-0-is c.deref.ensures.value c.in-Err-Byte.ensures.refused)) wrote)
+    c.refused.ensures.part
 
-pub returns-in-Err-Unbuilt-clause-part : goal.returns-in-Err-Unbuilt-clause-part
-returns-in-Err-Unbuilt-clause-part g c =
-    let none : (thin : Thin) → IsThin c.args.text.now.items thin → ⊥ =
-    rw c.deref.ensures.value at (c.parse_thin.ensures.unbuilt (c.in-Err-Unbuilt.is ∙ ap Err c.in-Err-Unbuilt.field-0-is)) in
-    on_err_weaker c.noted.result
-    (λ wrote. noted_in_part (Whole (Run c.args.stop) c.args.text.now.items) Refused (codes "refused UNBUILT\n") _ _ _ (unbuilt none) wrote)
-    c.noted.ensures.part
+pub returns-in-Err-LongLine-clause-all : goal.returns-in-Err-LongLine-clause-all
+returns-in-Err-LongLine-clause-all g c =
+    both_ok c.refused-in-Err-LongLine.result _ _ _
+    (λ s answers wrote. met_note (Whole (Run c.args.stop) c.args.text.now.items) Refused s (refusal_text (codes "LONG_LINE") c.in-Err-LongLine.line) _ _ _
+    (bytes {fault = fault.LongLine c.in-Err-LongLine.line} (why_long_line c.in-Err-LongLine.field-0 c.in-Err-LongLine.line c.args.text.now.items c.deref.result.now c.in-Err-LongLine.field-0-is c.deref.ensures.value c.in-Err-LongLine.ensures.refused)) answers wrote)
+    c.refused-in-Err-LongLine.ensures.status c.refused-in-Err-LongLine.ensures.all
+
+pub returns-in-Err-LongLine-clause-part : goal.returns-in-Err-LongLine-clause-part
+returns-in-Err-LongLine-clause-part g c =
+    on_err_weaker c.refused-in-Err-LongLine.result
+    (λ wrote. noted_in_part (Whole (Run c.args.stop) c.args.text.now.items) Refused (refusal_text (codes "LONG_LINE") c.in-Err-LongLine.line) _ _ _
+    (bytes {fault = fault.LongLine c.in-Err-LongLine.line} (why_long_line c.in-Err-LongLine.field-0 c.in-Err-LongLine.line c.args.text.now.items c.deref.result.now c.in-Err-LongLine.field-0-is c.deref.ensures.value c.in-Err-LongLine.ensures.refused)) wrote)
+    c.refused-in-Err-LongLine.ensures.part
+
+pub returns-in-Err-Syntax-clause-all : goal.returns-in-Err-Syntax-clause-all
+returns-in-Err-Syntax-clause-all g c =
+    both_ok c.refused-in-Err-Syntax.result _ _ _
+    (λ s answers wrote. met_note (Whole (Run c.args.stop) c.args.text.now.items) Refused s (refusal_text (codes "SYNTAX") c.in-Err-Syntax.line) _ _ _
+    (syntax (why_syntax c.in-Err-Syntax.field-0 c.in-Err-Syntax.line c.args.text.now.items c.deref.result.now c.in-Err-Syntax.field-0-is c.deref.ensures.value c.in-Err-Syntax.ensures.refused)) answers wrote)
+    c.refused-in-Err-Syntax.ensures.status c.refused-in-Err-Syntax.ensures.all
+
+pub returns-in-Err-Syntax-clause-part : goal.returns-in-Err-Syntax-clause-part
+returns-in-Err-Syntax-clause-part g c =
+    on_err_weaker c.refused-in-Err-Syntax.result
+    (λ wrote. noted_in_part (Whole (Run c.args.stop) c.args.text.now.items) Refused (refusal_text (codes "SYNTAX") c.in-Err-Syntax.line) _ _ _
+    (syntax (why_syntax c.in-Err-Syntax.field-0 c.in-Err-Syntax.line c.args.text.now.items c.deref.result.now c.in-Err-Syntax.field-0-is c.deref.ensures.value c.in-Err-Syntax.ensures.refused)) wrote)
+    c.refused-in-Err-Syntax.ensures.part

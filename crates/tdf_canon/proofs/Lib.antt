@@ -1,0 +1,17 @@
+pub mod Texts
+pub mod StmtTexts
+pub mod BlockTexts
+pub mod Numerals
+pub mod Scan
+pub mod Tokens
+pub mod Gaps
+pub mod ExprWords
+pub mod ExprLaws
+pub mod FormWords
+pub mod FormLaws
+pub mod RowLaws
+pub mod Tables
+pub mod StmtLaws
+pub mod BlockLaws
+pub mod TreeForms
+pub mod AlikeLaws

@@ -1,0 +1,47 @@
+//! What one line of a text can be.
+
+use tdf_tree::{Expr, FormatRef, Index, Limit, Lit, Name, PortKind, Shape};
+
+/// A line form, with what its line says.
+#[derive(Drop)]
+pub(crate) enum LineForm {
+    Language(u32),
+    Type(Name, Shape),
+    Tdf(Name),
+    De(Name),
+    Composite(Name),
+    Top,
+    End,
+    Port(PortKind, Name, FormatRef),
+    Const(Name, FormatRef, Lit),
+    Var(Name, FormatRef, Lit),
+    Array(Name, FormatRef, u64, Vec<Lit>),
+    RateVar(Name, u64, u64, u64),
+    SetAttributes,
+    Initialize,
+    Processing,
+    ChangeAttributes,
+    Reinitialize,
+    Step(Option<Name>, u64),
+    Rate(Name, Limit),
+    Delay(Name, u64),
+    Does,
+    Accept,
+    Reject,
+    Initial(Name, u64, Lit),
+    Event(Name),
+    Process,
+    Sensitive(Name),
+    DontInitialize,
+    Notify(Name, u64),
+    Signal(Name, FormatRef),
+    DeSignal(Name, FormatRef, Lit),
+    Instance(Name, Name),
+    Bind(Name, Name, Name),
+    Trace(Vec<Name>, Name),
+    Assign(Name, Option<Index>, Expr),
+    If(Expr),
+    Else,
+    For(Name, u64, Limit),
+    SetRate(Name, Expr),
+}
