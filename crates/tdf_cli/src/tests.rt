@@ -4,6 +4,7 @@ use super::tool;
 use std::alloc::Global;
 use std::test::Fail;
 use tdf_io::{MemSink, MemSource, SureSink, SureSource};
+use tdf_lang::{parse, push_tree};
 
 /// The ramp with a word of `width` bits, a timestep, and what each sample adds.
 fn ramp(alloc: Global, width: &str, step: &str, add: &str) -> Result<String, Fail> {
@@ -253,6 +254,72 @@ fn survives_devices_that_fail(rt: HostRuntime) -> Result<(), Fail> {
             !failed,
             "note {call} fails"
         );
+    }
+    Ok(())
+}
+
+/// Small blocks, and their canonical text.
+const BLOCKS: [(&str, &str); 13] = [
+    ("", ""),
+    (
+        "type w fixed 016 4 # a word\n\n",
+        "type w fixed 16 4 trn wrap\n",
+    ),
+    (
+        "type w ufixed 8 2 rnd_conv sat\n",
+        "type w ufixed 8 2 rnd_conv sat\n",
+    ),
+    (
+        "tdf a\nset_attributes\nend\ninitialize\nend\nprocessing\nend\nend\n",
+        "tdf a\nend\n",
+    ),
+    (
+        "tdf a\nout\ty w\nvar v w -0\narray h w 4 0.50 - 1\nconst c fixed 4 4 00\nrate r 1 4 01\nend\n",
+        "tdf a\nout y w\nvar v w 0\narray h w 4 0.5 -1\nconst c fixed 4 4 trn wrap 0\nrate r 1 4 1\nend\n",
+    ),
+    (
+        "tdf a\nset_attributes\ntimestep 1.5us\ntimestep y 1ms\nrate y r\ndelay y 03\ndoes_attribute_changes\nend\nend\n",
+        "tdf a\nset_attributes\ntimestep 1500000ps\ntimestep y 1000000000ps\nrate y r\ndelay y 3\ndoes_attribute_changes\nend\nend\n",
+    ),
+    (
+        "tdf a\nprocessing\ny=3*(-v)\ny = -(-v)\ny = not(a<b)\ny = a+b-c\ny = a+(b-c)\nend\nend\n",
+        "tdf a\nprocessing\ny = 3 * (-v)\ny = -(-v)\ny = not (a < b)\ny = (a + b) - c\ny = a + (b - c)\nend\nend\n",
+    ),
+    (
+        "tdf a\nprocessing\ny[i+01] = x[3-i]<<02\ny = select(w(a)<b,((c)),-0.50)\nend\nend\n",
+        "tdf a\nprocessing\ny[i + 1] = x[3 - i] << 2\ny = select(w(a) < b, c, -0.5)\nend\nend\n",
+    ),
+    (
+        "tdf a\nprocessing\nfor i 0 r\nif a and b or c\ny = 1\nelse\nend\nend\nend\nend\n",
+        "tdf a\nprocessing\nfor i 0 r\nif (a and b) or c\ny = 1\nend\nend\nend\nend\n",
+    ),
+    (
+        "tdf a\nchange_attributes\nif k == 1\nrate r = 4\nelse\ntimestep 2ns\nend\naccept_attribute_changes\nend\nend\n",
+        "tdf a\nchange_attributes\nif k == 1\nrate r = 4\nelse\ntimestep 2000ps\nend\naccept_attribute_changes\nend\nend\n",
+    ),
+    (
+        "de g\nde_out q w\nevent e\nprocess\nend\nprocess\nsensitive e\ndont_initialize\nnotify e\nnotify e after 0.5ns\nend\nend\n",
+        "de g\nde_out q w\nevent e\nprocess\nend\nprocess\nsensitive e\ndont_initialize\nnotify e after 0ps\nnotify e after 500ps\nend\nend\n",
+    ),
+    (
+        "composite c\nin x w\nde_signal g w\nsignal s w\ninstance u a\nbind u . y s\nend\n",
+        "composite c\nin x w\nde_signal g w 0\nsignal s w\ninstance u a\nbind u.y s\nend\n",
+    ),
+    (
+        "composite c\nend\nde d\nend\n",
+        "composite c\nend\nde d\nend\n",
+    ),
+];
+
+#[test]
+fn writes_canonical_texts(rt: HostRuntime) -> Result<(), Fail> {
+    for (block, canonical) in BLOCKS {
+        let text = format!(in rt.alloc(); "language 1\n{block}top\nend\ntrace a . b l")?;
+        let wanted = format!(in rt.alloc(); "language 1\n{canonical}top\nend\ntrace a.b l\n")?;
+        let mut written = Vec::new(rt.alloc());
+        assert!(rt; text.len() <= 1_048_576);
+        push_tree(&mut written, &parse(rt.alloc(), text.as_bytes())?)?;
+        assert_eq!(rt; written.as_slice(), wanted.as_bytes(), "{block}");
     }
     Ok(())
 }
