@@ -2,6 +2,7 @@
 
 use super::tool;
 use std::alloc::Global;
+use std::process::Abort;
 use std::test::Fail;
 use tdf_io::{MemSink, MemSource, SureSink, SureSource};
 use tdf_lang::{parse, push_tree};
@@ -311,15 +312,32 @@ const BLOCKS: [(&str, &str); 13] = [
     ),
 ];
 
+/// The canonical text of a text.
+fn canonical(rt: &(impl Abort + AllocGlobal), text: &str) -> Result<Vec<u8>, Fail> {
+    let mut written = Vec::new(rt.alloc());
+    assert!(rt; text.len() <= 1_048_576);
+    push_tree(&mut written, &parse(rt.alloc(), text.as_bytes())?)?;
+    Ok(written)
+}
+
 #[test]
 fn writes_canonical_texts(rt: HostRuntime) -> Result<(), Fail> {
-    for (block, canonical) in BLOCKS {
+    for (block, wanted) in BLOCKS {
         let text = format!(in rt.alloc(); "language 1\n{block}top\nend\ntrace a . b l")?;
-        let wanted = format!(in rt.alloc(); "language 1\n{canonical}top\nend\ntrace a.b l\n")?;
-        let mut written = Vec::new(rt.alloc());
-        assert!(rt; text.len() <= 1_048_576);
-        push_tree(&mut written, &parse(rt.alloc(), text.as_bytes())?)?;
-        assert_eq!(rt; written.as_slice(), wanted.as_bytes(), "{block}");
+        let wanted = format!(in rt.alloc(); "language 1\n{wanted}top\nend\ntrace a.b l\n")?;
+        assert_eq!(rt;
+            canonical(&rt, text.as_str())?.as_slice(),
+            wanted.as_bytes(),
+            "{block}"
+        );
     }
+    let wanted =
+        "language 1\ntype w fixed 16 16 trn wrap\ntdf ramp\nout y w\nvar n w 0\nset_attributes\ntimestep 1000000ps\nend\n\
+        processing\ny = n\nn = n + 1\nend\nend\ntop\nsignal s w\ninstance u ramp\nbind u.y s\nend\ntrace s s\n";
+    let text = ramp(rt.alloc(), "16", "1us", "1")?;
+    assert_eq!(rt;
+        canonical(&rt, text.as_str())?.as_slice(),
+        wanted.as_bytes()
+    );
     Ok(())
 }
