@@ -93,27 +93,16 @@ fn cast(v: Raw, f: Format) -> Raw {
     }
 }
 const COUNT: u32 = 20_000_000;
-fn small(f: Format) -> i128 {
+// The sum of many casts of numbers with FRAC fraction bits; FACTOR and FRAC are known when this is compiled, as they are to the program beside.
+fn total<const FACTOR: i128, const FRAC: u32>(f: Format) -> i128 {
     let mut state = 88_172_645_463_325_252u64;
     let mut sum = 0i128;
     for _ in 0..COUNT {
         state = state
             .wrapping_mul(6_364_136_223_846_793_005)
             .wrapping_add(1_442_695_040_888_963_407);
-        let num = i128::from(state) - 9_223_372_036_854_775_808;
-        sum = sum.wrapping_add(cast(Raw { num, frac: 16 }, f).num);
-    }
-    sum
-}
-fn large(f: Format) -> i128 {
-    let mut state = 88_172_645_463_325_252u64;
-    let mut sum = 0i128;
-    for _ in 0..COUNT {
-        state = state
-            .wrapping_mul(6_364_136_223_846_793_005)
-            .wrapping_add(1_442_695_040_888_963_407);
-        let num = (i128::from(state) - 9_223_372_036_854_775_808) * 72_057_594_037_927_936;
-        sum = sum.wrapping_add(cast(Raw { num, frac: 72 }, f).num);
+        let num = (i128::from(state) - 9_223_372_036_854_775_808) * FACTOR;
+        sum = sum.wrapping_add(cast(Raw { num, frac: FRAC }, f).num);
     }
     sum
 }
@@ -143,10 +132,10 @@ fn main() {
                 over: o,
             };
             let t = Instant::now();
-            let a = small(f);
+            let a = total::<1, 16>(f);
             let x = t.elapsed().as_millis();
             let t = Instant::now();
-            let b = large(f);
+            let b = total::<72_057_594_037_927_936, 72>(f);
             let y = t.elapsed().as_millis();
             println!("{qn} {on} {x} {y} {a} {b}");
         }

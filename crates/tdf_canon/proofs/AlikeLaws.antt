@@ -1,10 +1,10 @@
 -- The canonical text has no line numbers: trees that are alike have one.
 use Rattle.std.proofs.Common.{◌≡◌, List, [], ◌∷◌, ◌++◌, map, refl, sym, ap, ◌∙◌}
 use Rattle.std.specs.List.{flat_map}
-use Rattle.tdf_grammar.specs.Forms.{Form, FLanguage, FTdf, FDe, FComposite, FTop, FEnd}
-use Rattle.tdf_grammar.specs.Forms.{FSetAttributes, FInitialize, FProcessing, FChangeAttributes, FReinitialize}
-use Rattle.tdf_grammar.specs.Forms.{FProcess}
-use Rattle.tdf_grammar.specs.Forms.{FIf, FElse, FFor}
+use Rattle.tdf_forms.specs.Forms.{Form, FLanguage, FTdf, FDe, FComposite, FTop, FEnd}
+use Rattle.tdf_forms.specs.Forms.{FSetAttributes, FInitialize, FProcessing, FChangeAttributes, FReinitialize}
+use Rattle.tdf_forms.specs.Forms.{FProcess}
+use Rattle.tdf_forms.specs.Forms.{FIf, FElse, FFor}
 use Rattle.tdf_tree.specs.Alike.{bare_stmt, bare_stmts, bare_store, bare_tdf_line, bare_attr, bare_initial, bare_tdf, bare_de_line, bare_sense, bare_process, bare_member, bare_global, bare_trace, bare, Alike}
 use Rattle.tdf_tree.specs.Pure.{PureStmt, SAssign, SIf, SFor, SNotify, SSetRate, SSetStep, SAccept, SReject}
 use Rattle.tdf_tree.specs.Pure.{PureStmts, Done, More, PureStore, SConst, SVar, SArray}

@@ -3,7 +3,7 @@ use Rattle.std.proofs.Common.{◌≡◌, ◌≢◌, ℕ, List, [], ◌∷◌, �
 use Rattle.std.proofs.lemmas.List.{append-nil}
 use Rattle.std.specs.Prelude.{map}
 use Rattle.std.specs.List.{flat_map}
-use Rattle.tdf_grammar.specs.Forms.{Form, FTdf, FDe, FComposite, FEnd, FSetAttributes, FInitialize, FProcessing, FChangeAttributes, FReinitialize, FProcess, FType, FLanguage, FTop}
+use Rattle.tdf_forms.specs.Forms.{Form, FTdf, FDe, FComposite, FEnd, FSetAttributes, FInitialize, FProcessing, FChangeAttributes, FReinitialize, FProcess, FType, FLanguage, FTop}
 use Rattle.tdf_tree.specs.Views.{pure_stmts, pure_process, pure_global, pure_tdf_line, pure_de_line, pure_trace, pure_tree}
 use Rattle.tdf_tree.specs.declared.blocks.Attr.{Attr}
 use Rattle.tdf_tree.specs.declared.blocks.Composite.{Composite}

@@ -7,12 +7,12 @@ use Rattle.tdf_fixed.specs.declared.over.Over.{Over}
 use Rattle.tdf_fixed.specs.declared.over.Over.TheVariants.{Wrap, Sat, SatZero, SatSym}
 use Rattle.tdf_fixed.specs.declared.quant.Quant.{Quant}
 use Rattle.tdf_fixed.specs.declared.quant.Quant.TheVariants.{Trn, TrnZero, Rnd, RndZero, RndMinInf, RndInf, RndConv}
-use Rattle.tdf_grammar.specs.Forms.{Form, FLanguage}
-use Rattle.tdf_grammar.specs.Forms.{FAssign}
-use Rattle.tdf_grammar.specs.Means.{zero_lit, SaysStart, start_none, start_some, SaysLimit, limit_int, limit_var, SaysPort, port_in, port_out, port_de_in, port_de_out}
-use Rattle.tdf_grammar.specs.Means.{SaysWord, word_top, word_end, word_set_attributes, word_initialize, word_processing, word_change_attributes, word_reinitialize, word_does, word_accept, word_reject, word_process, word_dont_initialize, word_else}
-use Rattle.tdf_grammar.specs.Means.{SaysNamed, named_tdf, named_de, named_composite, named_event, named_sensitive}
-use Rattle.tdf_grammar.specs.Means.{Means, language_line, word_line, named_line, type_line, port_line, const_line, var_line, array_line, rate_var_line, step_line, port_step_line, rate_line, delay_line, initial_line, notify_line, notify_after_line, signal_line, de_signal_line, instance_line, bind_line, trace_line, assign_line, assign_item_line, if_line, for_line, set_rate_line}
+use Rattle.tdf_forms.specs.Forms.{Form, FLanguage}
+use Rattle.tdf_forms.specs.Forms.{FAssign}
+use Rattle.tdf_forms.specs.Means.{zero_lit, SaysStart, start_none, start_some, SaysLimit, limit_int, limit_var, SaysPort, port_in, port_out, port_de_in, port_de_out}
+use Rattle.tdf_forms.specs.Means.{SaysWord, word_top, word_end, word_set_attributes, word_initialize, word_processing, word_change_attributes, word_reinitialize, word_does, word_accept, word_reject, word_process, word_dont_initialize, word_else}
+use Rattle.tdf_forms.specs.Means.{SaysNamed, named_tdf, named_de, named_composite, named_event, named_sensitive}
+use Rattle.tdf_forms.specs.Means.{Means, language_line, word_line, named_line, type_line, port_line, const_line, var_line, array_line, rate_var_line, step_line, port_step_line, rate_line, delay_line, initial_line, notify_line, notify_after_line, signal_line, de_signal_line, instance_line, bind_line, trace_line, assign_line, assign_item_line, if_line, for_line, set_rate_line}
 use Rattle.tdf_parts.specs.Numbers.{trimmed}
 use Rattle.tdf_parts.specs.Formats.{sign_of, quant_of, over_of, modes_both, SaysShape, shape, SaysFormat, format_own, format_named}
 use Rattle.tdf_parts.specs.Literals.{is_nought, SaysLit, lit_plain, lit_minus, SaysLits, lits_none, lits_more}

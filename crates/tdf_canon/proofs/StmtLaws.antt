@@ -1,10 +1,10 @@
 -- Token lines that have the canonical tokens of lines and statements spell lines and statements alike these.
 use Rattle.std.proofs.Common.{◌≡◌, ℕ, suc, List, [], ◌∷◌, ◌++◌, Option, Some, map, refl, sym, ap, subst, ◌∙◌, append_assoc}
 use Rattle.std.proofs.lemmas.List.{append-nil}
-use Rattle.tdf_grammar.specs.Forms.{Form, FEnd}
-use Rattle.tdf_grammar.specs.Forms.{FIf, FElse, FFor}
+use Rattle.tdf_forms.specs.Forms.{Form, FEnd}
+use Rattle.tdf_forms.specs.Forms.{FIf, FElse, FFor}
 use Rattle.tdf_grammar.specs.Items.{BodyKind, stmt_of}
-use Rattle.tdf_grammar.specs.Means.{Means}
+use Rattle.tdf_forms.specs.Means.{Means}
 use Rattle.tdf_tokens.specs.Token.{Tok, Row}
 use Rattle.tdf_tree.specs.Alike.{bare_stmt, bare_stmts}
 use Rattle.tdf_tree.specs.Pure.{PureStmt, SIf, SFor}

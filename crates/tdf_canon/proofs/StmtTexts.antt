@@ -3,7 +3,7 @@ use Rattle.std.proofs.Common.{◌≡◌, ◌≢◌, ℕ, ◌+◌, ◌<◌, List,
 use Rattle.std.proofs.Math.Seq.{take-suc}
 use Rattle.std.proofs.lemmas.List.{append-nil}
 use Rattle.std.specs.declared.alloc.Global.{Global}
-use Rattle.tdf_grammar.specs.Forms.{Form, FStep, FAccept, FReject, FEnd, FNotify, FAssign, FIf, FElse, FFor, FSetRate}
+use Rattle.tdf_forms.specs.Forms.{Form, FStep, FAccept, FReject, FEnd, FNotify, FAssign, FIf, FElse, FFor, FSetRate}
 use Rattle.tdf_tree.proofs.Views.{pure_if, pure_for, pure_assign, pure_notify, pure_set_rate, pure_set_step, pure_accept, pure_reject}
 use Rattle.tdf_tree.specs.Pure.{PureStmt}
 use Rattle.tdf_tree.specs.Views.{pure_expr, pure_stmt, pure_stmts}

@@ -1,9 +1,9 @@
 -- Token lines that have the canonical tokens of a tree spell a tree alike it.
 use Rattle.std.proofs.Common.{◌≡◌, ℕ, List, [], ◌∷◌, Option, Some, refl, sym, ap, ◌∙◌}
-use Rattle.tdf_grammar.specs.Forms.{Form, FPort, FConst, FVar, FArray, FRateVar}
-use Rattle.tdf_grammar.specs.Forms.{FStep, FRate, FDelay, FDoes, FAccept, FReject}
-use Rattle.tdf_grammar.specs.Forms.{FInitial, FEvent, FSensitive, FNotify, FSignal, FDeSignal, FInstance, FBind, FTrace}
-use Rattle.tdf_grammar.specs.Forms.{FAssign, FSetRate}
+use Rattle.tdf_forms.specs.Forms.{Form, FPort, FConst, FVar, FArray, FRateVar}
+use Rattle.tdf_forms.specs.Forms.{FStep, FRate, FDelay, FDoes, FAccept, FReject}
+use Rattle.tdf_forms.specs.Forms.{FInitial, FEvent, FSensitive, FNotify, FSignal, FDeSignal, FInstance, FBind, FTrace}
+use Rattle.tdf_forms.specs.Forms.{FAssign, FSetRate}
 use Rattle.tdf_grammar.specs.Items.{tdf_line_of, attr_of, initial_of, de_port_of, de_line_of, sense_of, member_of, net_line_of, trace_of, BodyKind, Plain, OfChange, OfProcess, plain_of, change_of, process_of, stmt_of}
 use Rattle.tdf_tree.specs.Alike.{bare_stmt, bare_tdf_line, bare_attr, bare_initial, bare_de_line, bare_sense, bare_member, bare_trace}
 use Rattle.tdf_tree.specs.Pure.{PureStmt, SAssign, SNotify, SSetRate, SSetStep, SAccept, SReject}

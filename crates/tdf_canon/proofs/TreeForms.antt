@@ -1,8 +1,8 @@
 -- Each line of a tree that token lines spell can be written.
 use Rattle.std.proofs.Common.{◌≡◌, ℕ, Bool, List, [], ◌∷◌, ◌++◌, Option, Some, map, sym, subst}
 use Rattle.std.specs.List.{flat_map}
-use Rattle.tdf_grammar.specs.Forms.{Form, FEnd}
-use Rattle.tdf_grammar.specs.Forms.{FProcessing, FChangeAttributes, FReinitialize}
+use Rattle.tdf_forms.specs.Forms.{Form, FEnd}
+use Rattle.tdf_forms.specs.Forms.{FProcessing, FChangeAttributes, FReinitialize}
 use Rattle.tdf_grammar.specs.Items.{tdf_line_of, attr_of, initial_of, de_line_of, sense_of, member_of, net_line_of, trace_of, BodyKind}
 use Rattle.tdf_tokens.specs.Token.{Row}
 use Rattle.tdf_tree.specs.Alike.{bare_tdf_line, bare_attr, bare_initial, bare_de_line, bare_sense, bare_member, bare_trace}

@@ -5,10 +5,10 @@ use Rattle.tdf_fixed.specs.declared.over.Over.{Over}
 use Rattle.tdf_fixed.specs.declared.over.Over.TheVariants.{Wrap, Sat, SatZero, SatSym}
 use Rattle.tdf_fixed.specs.declared.quant.Quant.{Quant}
 use Rattle.tdf_fixed.specs.declared.quant.Quant.TheVariants.{Trn, TrnZero, Rnd, RndZero, RndMinInf, RndInf, RndConv}
-use Rattle.tdf_grammar.specs.Forms.{Form, FLanguage, FType, FTdf, FDe, FComposite, FTop, FEnd, FPort, FConst, FVar, FArray, FRateVar}
-use Rattle.tdf_grammar.specs.Forms.{FSetAttributes, FInitialize, FProcessing, FChangeAttributes, FReinitialize, FStep, FRate, FDelay, FDoes, FAccept, FReject}
-use Rattle.tdf_grammar.specs.Forms.{FInitial, FEvent, FProcess, FSensitive, FDontInitialize, FNotify, FSignal, FDeSignal, FInstance, FBind, FTrace}
-use Rattle.tdf_grammar.specs.Forms.{FAssign, FIf, FElse, FFor, FSetRate}
+use Rattle.tdf_forms.specs.Forms.{Form, FLanguage, FType, FTdf, FDe, FComposite, FTop, FEnd, FPort, FConst, FVar, FArray, FRateVar}
+use Rattle.tdf_forms.specs.Forms.{FSetAttributes, FInitialize, FProcessing, FChangeAttributes, FReinitialize, FStep, FRate, FDelay, FDoes, FAccept, FReject}
+use Rattle.tdf_forms.specs.Forms.{FInitial, FEvent, FProcess, FSensitive, FDontInitialize, FNotify, FSignal, FDeSignal, FInstance, FBind, FTrace}
+use Rattle.tdf_forms.specs.Forms.{FAssign, FIf, FElse, FFor, FSetRate}
 use Rattle.tdf_tree.specs.declared.blocks.PortKind.{PortKind}
 use Rattle.tdf_tree.specs.declared.blocks.PortKind.TheVariants as port_kind
 use Rattle.tdf_tree.specs.declared.expr.Index.{Index}

@@ -8,7 +8,7 @@ use Rattle.tdf_tree.specs.declared.blocks.DeDecl.{DeDecl}
 use Rattle.tdf_tree.specs.declared.blocks.Process.{Process}
 use Rattle.tdf_tree.specs.declared.blocks.TdfDecl.{TdfDecl}
 use Rattle.tdf_tree.specs.declared.tree.Global1.{Global1}
-use Rattle.tdf_grammar.specs.Forms.{Form, FSetAttributes, FProcessing, FChangeAttributes, FReinitialize, FEnd}
+use Rattle.tdf_forms.specs.Forms.{Form, FSetAttributes, FProcessing, FChangeAttributes, FReinitialize, FEnd}
 use Rattle.tdf_tree.specs.declared.blocks.DeLine.{DeLine}
 use Rattle.tdf_tree.specs.declared.blocks.Initial.{Initial}
 use Rattle.tdf_tree.specs.declared.blocks.Member.{Member}

@@ -2,7 +2,7 @@
 
 ghost use Rattle.std.specs.Prelude.{◌≡◌, ◌∷◌, [], ◌++◌, OnOk};
 ghost use Rattle.std.specs.List.{flat_map};
-ghost use Rattle.tdf_grammar.specs.Forms.{Form, FProcessing, FChangeAttributes, FReinitialize};
+ghost use Rattle.tdf_forms.specs.Forms.{Form, FProcessing, FChangeAttributes, FReinitialize};
 ghost use Rattle.tdf_canon.specs.Canon.{dont_lines};
 ghost use Rattle.tdf_canon.specs.Lines.{ended, line_text, lines_text};
 ghost use Rattle.tdf_canon.specs.Texts.{attributes_head, change_head, bodies_text, part_text, attributes_text, initialize_text, tdf_text, process_text, de_text, composite_text};

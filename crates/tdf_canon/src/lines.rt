@@ -4,7 +4,7 @@ ghost use Rattle.std.specs.Prelude.{◌≡◌, ◌∷◌, [], ◌++◌, OnOk};
 ghost use Rattle.std.specs.List.{flat_map};
 ghost use Rattle.tdf_canon.specs.Canon.{port_line};
 ghost use Rattle.tdf_canon.specs.Lines.{ended, step_text};
-ghost use Rattle.tdf_grammar.specs.Forms.{FStep};
+ghost use Rattle.tdf_forms.specs.Forms.{FStep};
 ghost use Rattle.tdf_canon.specs.Texts.{valued, store_text, tdf_line_text, attr_text, initial_text, de_line_text, sense_text, member_text, trace_text};
 
 use crate::exprs::push_number;

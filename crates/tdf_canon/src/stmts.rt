@@ -1,7 +1,7 @@
 //! The canonical text of statements.
 
 ghost use Rattle.std.specs.Prelude.{◌≡◌, ◌∷◌, [], ◌++◌, OnOk};
-ghost use Rattle.tdf_grammar.specs.Forms.{FAssign, FFor, FNotify, FSetRate, FIf};
+ghost use Rattle.tdf_forms.specs.Forms.{FAssign, FFor, FNotify, FSetRate, FIf};
 ghost use Rattle.tdf_tree.specs.Views.{pure_expr};
 ghost use Rattle.tdf_canon.specs.Lines.{ended, target_text};
 ghost use Rattle.tdf_canon.specs.Texts.{stmt_text, stmts_text, else_text};

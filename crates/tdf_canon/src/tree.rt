@@ -2,7 +2,7 @@
 
 ghost use Rattle.std.specs.Prelude.{◌≡◌, ◌++◌, ℕ, take, length, ◌≤◌, OnOk, OnErr};
 ghost use Rattle.std.specs.List.{flat_map};
-ghost use Rattle.tdf_grammar.specs.Forms.{FType, FLanguage};
+ghost use Rattle.tdf_forms.specs.Forms.{FType, FLanguage};
 ghost use Rattle.tdf_tree.specs.Views.{pure_tree};
 ghost use Rattle.tdf_canon.specs.Canon.{canon};
 ghost use Rattle.tdf_canon.specs.Lines.{ended};

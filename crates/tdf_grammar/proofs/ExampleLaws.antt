@@ -10,7 +10,7 @@ use Rattle.tdf_parts.specs.Numbers.{int_of, trimmed}
 use Rattle.tdf_parts.specs.Literals.{lits_of}
 use Rattle.tdf_parts.specs.Paths.{path_of}
 use Rattle.tdf_parts.specs.Machine.{expr_of}
-use Rattle.tdf_grammar.specs.Reads.{form_of}
+use Rattle.tdf_forms.specs.Reads.{form_of}
 use Rattle.tdf_grammar.specs.Places.{reads_row, reads_rows, fault_from, PStart}
 use Rattle.tdf_grammar.specs.Spells.{Spells}
 use Rattle.tdf_grammar.specs.Examples.{smallest_text, smallest_tree, loose_text, loose_tree, net_text, net_tree, decls_text, decls_tree, attributes_text, attributes_tree, initialize_text, initialize_tree, nested_text, nested_tree, operators_text, operators_tree, change_text, change_tree, empty_text, empty_tree, de_text, de_tree}

@@ -7,17 +7,17 @@ use Rattle.tdf_tree.specs.declared.blocks.PortKind.{PortKind}
 use Rattle.tdf_tree.specs.declared.blocks.PortKind.TheVariants as port_kind
 use Rattle.tdf_grammar.specs.Faults.{kind_of, is_statement, is_de_line, if_so, ended, elsed, headed, behind, in_body, in_tdf, in_de, next}
 use Rattle.tdf_grammar.specs.Faults.{Where, AtStart, AtGlobals, InAttributes, InInitialize, InBody, InTdf, InDe, InProcess, InComposite, InTop, AtTraces, Allows, Faults}
-use Rattle.tdf_grammar.specs.Forms.{Form, FLanguage, FTop, FEnd, FPort, FSetAttributes, FInitialize, FProcessing, FChangeAttributes, FReinitialize}
-use Rattle.tdf_grammar.specs.Forms.{FInitial, FProcess, FSensitive, FDontInitialize, FIf, FElse, FFor, FTrace, FAssign}
+use Rattle.tdf_forms.specs.Forms.{Form, FLanguage, FTop, FEnd, FPort, FSetAttributes, FInitialize, FProcessing, FChangeAttributes, FReinitialize}
+use Rattle.tdf_forms.specs.Forms.{FInitial, FProcess, FSensitive, FDontInitialize, FIf, FElse, FFor, FTrace, FAssign}
 use Rattle.tdf_grammar.specs.Items.{BodyKind, Plain, OfChange, OfProcess, stmt_of, de_port_of}
 use Rattle.tdf_grammar.specs.Places.{Outer, Frame, FrIf, FrElse, FrFor, Owner, OwnInitialize, OwnProcessing, OwnChange, OwnReinitialize, OwnProcess, part_of}
 use Rattle.tdf_grammar.specs.Places.{Place, is_lost, is_traces, fault_from, PStart, PGlobals, PTdf, PAttributes, PInitialize, PBody, PDe, PProcess, PNet, PTop, PTraces, PLost, where_of, nest_of, nests_of}
 use Rattle.tdf_grammar.specs.Places.{goes, goes_start, goes_globals, goes_tdf, goes_attributes, goes_initialize, goes_body, goes_de, goes_process, goes_net, goes_top, more_de, more_body}
 use Rattle.tdf_grammar.specs.Places.{reads_row, reads_rows, read_form, finished, end_body, else_body, head_body}
-use Rattle.tdf_grammar.specs.Reads.{form_of}
+use Rattle.tdf_forms.specs.Reads.{form_of}
 use Rattle.tdf_grammar.specs.Spells.{deepest, Spells}
-use Rattle.tdf_grammar.proofs.FormReads.{form_is}
-use Rattle.tdf_grammar.proofs.ReadForms.{form_means}
+use Rattle.tdf_forms.proofs.FormReads.{form_is}
+use Rattle.tdf_forms.proofs.ReadForms.{form_means}
 use Rattle.tdf_grammar.proofs.SpellReads.{spelled_reads}
 use Rattle.tdf_grammar.proofs.ReadSpells.{reads_spell}
 

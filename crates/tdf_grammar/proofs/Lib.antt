@@ -1,11 +1,8 @@
-pub mod FormReads
-pub mod ReadForms
 pub mod SpellReads
 pub mod ReadSpells
 pub mod LangLaws
 pub mod FaultLaws
 pub mod ExampleLaws
-pub mod CutLaws
 pub mod StmtLaws
 pub mod OtherForms
 pub mod WalkLaws

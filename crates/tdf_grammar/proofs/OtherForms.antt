@@ -1,9 +1,9 @@
 -- The forms that a table doesn't have.
 use Rattle.std.proofs.Common.{◌≡◌, ℕ, zero, suc, ◌<◌, ◌≤◌, Bool, true, false, cond, List, [], map, Option, None, Vec, refl, ap, ◌∙◌, arith}
 use Rattle.std.specs.declared.alloc.Global.{Global}
-use Rattle.tdf_grammar.specs.FormViews.{pure_form}
+use Rattle.tdf_forms.specs.FormViews.{pure_form}
 use Rattle.tdf_grammar.specs.Items.{attr_of, tdf_line_of, de_line_of, member_of, plain_of}
-use Rattle.tdf_grammar.specs.Forms.{Form}
+use Rattle.tdf_forms.specs.Forms.{Form}
 use Rattle.tdf_grammar.specs.PlaceViews.{shown_frames}
 use Rattle.tdf_grammar.specs.Places.{PLost, goes_start, Outer, Owner, OwnInitialize, OwnProcess, Frame, goes_initialize, goes_process, goes_body, goes_de, more_de, goes_tdf, more_tdf}
 use Rattle.tdf_grammar.specs.declared.places.Frame as open_frame
@@ -11,8 +11,8 @@ use Rattle.tdf_grammar.proofs.StmtLaws.{frames_none}
 use Rattle.tdf_tree.specs.Pure.{PureTdf, PureDe, PureProcess}
 use Rattle.tdf_tree.specs.Views.{pure_stmt}
 use Rattle.tdf_tree.specs.declared.stmt.Stmt.{Stmt}
-use Rattle.tdf_grammar.specs.declared.form.LineForm.{LineForm}
-use Rattle.tdf_grammar.specs.declared.form.LineForm.TheVariants as lf
+use Rattle.tdf_forms.specs.declared.form.LineForm.{LineForm}
+use Rattle.tdf_forms.specs.declared.form.LineForm.TheVariants as lf
 use Rattle.tdf_tree.specs.declared.blocks.PortKind.{PortKind}
 use Rattle.tdf_tree.specs.declared.expr.Expr.{Expr}
 use Rattle.tdf_tree.specs.declared.expr.Index.{Index}

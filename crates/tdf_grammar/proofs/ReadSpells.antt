@@ -12,21 +12,21 @@ use Rattle.tdf_tree.specs.declared.blocks.Member.{Member}
 use Rattle.tdf_tree.specs.declared.stmt.Limit.{Limit}
 use Rattle.tdf_parts.proofs.Levels.{pick_bool, leb_le, ltb_lt}
 use Rattle.tdf_grammar.specs.Faults.{kind_of}
-use Rattle.tdf_grammar.specs.Forms.{Form, FLanguage, FType, FTdf, FDe, FComposite, FTop, FEnd, FSetAttributes, FInitialize, FProcessing, FChangeAttributes, FReinitialize}
-use Rattle.tdf_grammar.specs.Forms.{FInitial, FProcess, FSensitive, FDontInitialize, FIf, FElse, FFor}
+use Rattle.tdf_forms.specs.Forms.{Form, FLanguage, FType, FTdf, FDe, FComposite, FTop, FEnd, FSetAttributes, FInitialize, FProcessing, FChangeAttributes, FReinitialize}
+use Rattle.tdf_forms.specs.Forms.{FInitial, FProcess, FSensitive, FDontInitialize, FIf, FElse, FFor}
 use Rattle.tdf_grammar.specs.Items.{tdf_line_of, attr_of, initial_of, de_line_of, sense_of, member_of, net_line_of, trace_of, BodyKind, Plain, OfChange, OfProcess, stmt_of}
-use Rattle.tdf_grammar.specs.Means.{Means}
+use Rattle.tdf_forms.specs.Means.{Means}
 use Rattle.tdf_grammar.specs.Places.{Outer, Frame, FrIf, FrElse, FrFor, Owner, OwnInitialize, OwnProcessing, OwnChange, OwnReinitialize, OwnProcess, part_of}
 use Rattle.tdf_grammar.specs.Places.{Place, PStart, PGlobals, PTdf, PAttributes, PInitialize, PBody, PDe, PProcess, PNet, PTop, PTraces, PLost}
 use Rattle.tdf_grammar.specs.Places.{with_global, with_decl, more_tdf, more_attributes, more_de, more_net, more_top, more_traces, more_body}
 use Rattle.tdf_grammar.specs.Places.{new_process, new_tdf, goes, goes_start, goes_globals, goes_tdf, goes_attributes, goes_initialize, goes_body, goes_de, goes_process, goes_net, goes_top}
 use Rattle.tdf_grammar.specs.Places.{reads_row, reads_rows, read_form, finished, end_body, else_body}
-use Rattle.tdf_grammar.specs.Reads.{form_of}
+use Rattle.tdf_forms.specs.Reads.{form_of}
 use Rattle.tdf_grammar.specs.Spells.{Lines, lines_none, lines_more, SpellsOne, simple, choice, both, turns, SpellsAll, stmts_none, stmts_more, deepest, body_of, no_body}
 use Rattle.tdf_grammar.specs.Spells.{SpellsPart, part_none, part_some, SpellsAttributes, attributes_none, attributes_some, SpellsInitialize, initialize_none, initialize_some, SpellsTdf, tdf}
 use Rattle.tdf_grammar.specs.Spells.{SpellsDont, dont_none, dont_some, SpellsProcess, process, SpellsProcesses, processes_none, processes_more}
 use Rattle.tdf_grammar.specs.Spells.{SpellsGlobal, global_type, global_tdf, global_de, global_net, SpellsGlobals, globals_none, globals_more, Spells, whole_text}
-use Rattle.tdf_grammar.proofs.ReadForms.{form_means}
+use Rattle.tdf_forms.proofs.ReadForms.{form_means}
 
 -- the first line, and the lines and blocks behind it
 record KeptOuter (o : Outer) (pre : List Row) : Type 0 where

@@ -12,10 +12,10 @@ use Rattle.tdf_tree.specs.declared.blocks.Sense.{Sense}
 use Rattle.tdf_tree.specs.declared.stmt.Limit.{Limit}
 use Rattle.tdf_parts.proofs.Levels.{leb_true, ltb_true}
 use Rattle.tdf_grammar.specs.Faults.{kind_of}
-use Rattle.tdf_grammar.specs.Forms.{Form, FEnd, FSetAttributes, FInitialize, FProcessing, FChangeAttributes, FReinitialize}
-use Rattle.tdf_grammar.specs.Forms.{FInitial, FProcess, FSensitive, FDontInitialize, FIf, FElse, FFor}
+use Rattle.tdf_forms.specs.Forms.{Form, FEnd, FSetAttributes, FInitialize, FProcessing, FChangeAttributes, FReinitialize}
+use Rattle.tdf_forms.specs.Forms.{FInitial, FProcess, FSensitive, FDontInitialize, FIf, FElse, FFor}
 use Rattle.tdf_grammar.specs.Items.{tdf_line_of, attr_of, initial_of, de_line_of, sense_of, member_of, net_line_of, trace_of, BodyKind, Plain, OfChange, OfProcess, stmt_of}
-use Rattle.tdf_grammar.specs.Means.{Means}
+use Rattle.tdf_forms.specs.Means.{Means}
 use Rattle.tdf_grammar.specs.Places.{Outer, Frame, FrIf, FrElse, FrFor, Owner, OwnInitialize, OwnProcessing, OwnChange, OwnReinitialize, OwnProcess, part_of}
 use Rattle.tdf_grammar.specs.Places.{Place, PStart, PGlobals, PTdf, PAttributes, PInitialize, PBody, PDe, PProcess, PNet, PTop, PTraces, PLost}
 use Rattle.tdf_grammar.specs.Places.{with_global, with_decl, with_attr, with_initial, with_de_line, with_sense, with_member, with_trace, more_tdf, more_attributes, more_de, more_net, more_top, more_traces, more_body}
@@ -24,7 +24,7 @@ use Rattle.tdf_grammar.specs.Spells.{Lines, lines_none, lines_more, SpellsOne, s
 use Rattle.tdf_grammar.specs.Spells.{SpellsPart, part_none, part_some, SpellsAttributes, attributes_none, attributes_some, SpellsInitialize, initialize_none, initialize_some, SpellsTdf, tdf}
 use Rattle.tdf_grammar.specs.Spells.{SpellsDont, dont_none, dont_some, SpellsProcess, process, SpellsProcesses, processes_none, processes_more}
 use Rattle.tdf_grammar.specs.Spells.{SpellsGlobal, global_type, global_tdf, global_de, global_net, SpellsGlobals, globals_none, globals_more, Spells, whole_text}
-use Rattle.tdf_grammar.proofs.FormReads.{form_is}
+use Rattle.tdf_forms.proofs.FormReads.{form_is}
 
 pub reads_append : (xs ys : List Row) (p : Place) → reads_rows p (xs ++ ys) ≡ reads_rows (reads_rows p xs) ys
 unfolding reads_rows

@@ -3,12 +3,12 @@ use Rattle.std.specs.Prelude.{◌≡◌, ◌≢◌, ℕ, zero, suc, Bool, true, 
 use Rattle.tdf_tokens.specs.Token.{Tok, Row}
 use Rattle.tdf_tree.specs.declared.blocks.PortKind.{PortKind}
 use Rattle.tdf_tree.specs.declared.blocks.PortKind.TheVariants as port_kind
-use Rattle.tdf_grammar.specs.Forms.{Form, FLanguage, FType, FTdf, FDe, FComposite, FTop, FEnd, FPort, FConst, FVar, FArray, FRateVar}
-use Rattle.tdf_grammar.specs.Forms.{FSetAttributes, FInitialize, FProcessing, FChangeAttributes, FReinitialize, FStep, FRate, FDelay, FDoes, FAccept, FReject}
-use Rattle.tdf_grammar.specs.Forms.{FInitial, FEvent, FProcess, FSensitive, FDontInitialize, FNotify, FSignal, FDeSignal, FInstance, FBind, FTrace}
-use Rattle.tdf_grammar.specs.Forms.{FAssign, FIf, FElse, FFor, FSetRate}
+use Rattle.tdf_forms.specs.Forms.{Form, FLanguage, FType, FTdf, FDe, FComposite, FTop, FEnd, FPort, FConst, FVar, FArray, FRateVar}
+use Rattle.tdf_forms.specs.Forms.{FSetAttributes, FInitialize, FProcessing, FChangeAttributes, FReinitialize, FStep, FRate, FDelay, FDoes, FAccept, FReject}
+use Rattle.tdf_forms.specs.Forms.{FInitial, FEvent, FProcess, FSensitive, FDontInitialize, FNotify, FSignal, FDeSignal, FInstance, FBind, FTrace}
+use Rattle.tdf_forms.specs.Forms.{FAssign, FIf, FElse, FFor, FSetRate}
 use Rattle.tdf_grammar.specs.Items.{BodyKind, Plain, OfChange, OfProcess}
-use Rattle.tdf_grammar.specs.Means.{Means}
+use Rattle.tdf_forms.specs.Means.{Means}
 
 -- the lines of each group
 abbrev pub is_store : Form → Bool
@@ -31,10 +31,6 @@ is_attribute FAccept = true
 is_attribute FReject = true
 is_attribute _ = false
 
-abbrev pub is_initial : Form → Bool
-is_initial (FInitial port place v) = true
-is_initial _ = false
-
 abbrev pub is_de_port : PortKind → Bool
 is_de_port port_kind.DeIn = true
 is_de_port port_kind.DeOut = true
@@ -44,10 +40,6 @@ abbrev pub is_de_line : Form → Bool
 is_de_line (FPort kind name x) = is_de_port kind
 is_de_line (FEvent name) = true
 is_de_line f = is_store f
-
-abbrev pub is_sensitive : Form → Bool
-is_sensitive (FSensitive name) = true
-is_sensitive _ = false
 
 abbrev pub is_member : Form → Bool
 is_member (FSignal name x) = true
@@ -64,12 +56,12 @@ abbrev pub is_trace : Form → Bool
 is_trace (FTrace path label) = true
 is_trace _ = false
 
--- the statements of each body
+-- the statement that every body may hold, an assignment
 abbrev pub is_plain : Form → Bool
 is_plain (FAssign name i e) = true
 is_plain _ = false
 
--- and of a change body
+-- the statements of a change body: assignments, and those that set attributes
 abbrev pub is_change : Form → Bool
 is_change (FSetRate name e) = true
 is_change (FStep port step) = true
@@ -77,7 +69,7 @@ is_change FAccept = true
 is_change FReject = true
 is_change f = is_plain f
 
--- and of a process
+-- the statements of a process: assignments and notifications
 abbrev pub is_reaction : Form → Bool
 is_reaction (FNotify event after) = true
 is_reaction f = is_plain f
@@ -122,7 +114,7 @@ pub data Where : Type 0 where
   InTop : Where
   AtTraces : Where
 
--- one place more, where a test holds
+-- the place that a line leads to, where its place allows it
 abbrev pub if_so : Bool → Where → Option Where
 if_so b w = cond b (Some w) None
 

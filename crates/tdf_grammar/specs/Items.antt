@@ -11,8 +11,8 @@ use Rattle.tdf_tree.specs.declared.blocks.PortKind.{PortKind}
 use Rattle.tdf_tree.specs.declared.blocks.PortKind.TheVariants as port_kind
 use Rattle.tdf_tree.specs.declared.blocks.Sense.{Sense}
 use Rattle.tdf_tree.specs.declared.shapes.FormatRef.{FormatRef}
-use Rattle.tdf_grammar.specs.Forms.{Form, FPort, FConst, FVar, FArray, FRateVar, FStep, FRate, FDelay, FDoes, FAccept, FReject, FInitial}
-use Rattle.tdf_grammar.specs.Forms.{FEvent, FSensitive, FNotify, FSignal, FDeSignal, FInstance, FBind, FTrace, FAssign, FSetRate}
+use Rattle.tdf_forms.specs.Forms.{Form, FPort, FConst, FVar, FArray, FRateVar, FStep, FRate, FDelay, FDoes, FAccept, FReject, FInitial}
+use Rattle.tdf_forms.specs.Forms.{FEvent, FSensitive, FNotify, FSignal, FDeSignal, FInstance, FBind, FTrace, FAssign, FSetRate}
 
 -- a line of a `tdf` block before its parts
 abbrev pub tdf_line_of : ℕ → Form → Option PureTdfLine

@@ -1,12 +1,8 @@
 pub mod Examples
 pub mod Faults
-pub mod FormViews
-pub mod Forms
 pub mod Items
 pub mod Laws
-pub mod Means
 pub mod PlaceViews
 pub mod Places
-pub mod Reads
 pub mod Refused
 pub mod Spells

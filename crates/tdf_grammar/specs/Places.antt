@@ -12,11 +12,11 @@ use Rattle.tdf_tree.specs.declared.blocks.Sense.{Sense}
 use Rattle.tdf_tree.specs.declared.stmt.Limit.{Limit}
 use Rattle.tdf_grammar.specs.Faults.{Part, Initialize, Processing, Change, Reinitialize, Process, kind_of, Nest, NIf, NElse, NFor}
 use Rattle.tdf_grammar.specs.Faults.{Where, AtStart, AtGlobals, InTdf, InAttributes, InInitialize, InBody, InDe, InProcess, InComposite, InTop, AtTraces}
-use Rattle.tdf_grammar.specs.Forms.{Form, FLanguage, FType, FTdf, FDe, FComposite, FTop, FEnd}
-use Rattle.tdf_grammar.specs.Forms.{FSetAttributes, FInitialize, FProcessing, FChangeAttributes, FReinitialize, FInitial, FProcess, FSensitive, FDontInitialize}
-use Rattle.tdf_grammar.specs.Forms.{FIf, FElse, FFor}
+use Rattle.tdf_forms.specs.Forms.{Form, FLanguage, FType, FTdf, FDe, FComposite, FTop, FEnd}
+use Rattle.tdf_forms.specs.Forms.{FSetAttributes, FInitialize, FProcessing, FChangeAttributes, FReinitialize, FInitial, FProcess, FSensitive, FDontInitialize}
+use Rattle.tdf_forms.specs.Forms.{FIf, FElse, FFor}
 use Rattle.tdf_grammar.specs.Items.{tdf_line_of, attr_of, de_line_of, member_of, net_line_of, trace_of, stmt_of}
-use Rattle.tdf_grammar.specs.Reads.{form_of}
+use Rattle.tdf_forms.specs.Reads.{form_of}
 use Rattle.tdf_grammar.specs.Spells.{body_of, no_body, deepest}
 
 -- what stands before an open block

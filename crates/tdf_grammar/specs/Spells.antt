@@ -13,10 +13,10 @@ use Rattle.tdf_tree.specs.declared.blocks.Member.{Member}
 use Rattle.tdf_tree.specs.declared.blocks.Sense.{Sense}
 use Rattle.tdf_tree.specs.declared.shapes.Shape.{Shape}
 use Rattle.tdf_tree.specs.declared.stmt.Limit.{Limit}
-use Rattle.tdf_grammar.specs.Forms.{Form, FLanguage, FType, FTdf, FDe, FComposite, FTop, FEnd, FSetAttributes, FInitialize}
-use Rattle.tdf_grammar.specs.Forms.{FProcessing, FChangeAttributes, FReinitialize, FProcess, FDontInitialize, FIf, FElse, FFor}
+use Rattle.tdf_forms.specs.Forms.{Form, FLanguage, FType, FTdf, FDe, FComposite, FTop, FEnd, FSetAttributes, FInitialize}
+use Rattle.tdf_forms.specs.Forms.{FProcessing, FChangeAttributes, FReinitialize, FProcess, FDontInitialize, FIf, FElse, FFor}
 use Rattle.tdf_grammar.specs.Items.{tdf_line_of, attr_of, initial_of, de_line_of, sense_of, member_of, net_line_of, trace_of, BodyKind, Plain, OfChange, OfProcess, stmt_of}
-use Rattle.tdf_grammar.specs.Means.{Means}
+use Rattle.tdf_forms.specs.Means.{Means}
 
 -- any number of lines of one table
 pub data Lines {X : Type 0} (of : ℕ → Form → Option X) : List Row → List X → Type 0 where

@@ -3,18 +3,18 @@
 ghost use Rattle.std.specs.Option.{option_map};
 ghost use Rattle.std.specs.Prelude.{IfOk, Some, [], length, map, nat_lt, ◌∷◌, ◌≡◌};
 ghost use Rattle.tdf_grammar.specs.Faults.{kind_of};
-ghost use Rattle.tdf_grammar.specs.FormViews.{pure_form};
+ghost use Rattle.tdf_forms.specs.FormViews.{pure_form};
 ghost use Rattle.tdf_grammar.specs.Items.{stmt_of};
 ghost use Rattle.tdf_grammar.specs.PlaceViews.{shown_frame, shown_frames, shown_owner, shown_place};
 ghost use Rattle.tdf_grammar.specs.Places.{PBody, else_body, end_body, finished, goes_body, head_body, more_body, part_of};
 ghost use Rattle.tdf_grammar.specs.Spells.{body_of, deepest};
 ghost use Rattle.tdf_tree.specs.Views.{pure_body, pure_stmt};
 
-use crate::form::LineForm;
 use crate::items::{change_stmt, plain_stmt, process_stmt};
 use crate::places::{Frame, Owner, Place};
 use std::alloc::Global;
 use tdf_fixed::Memory;
+use tdf_forms::LineForm;
 use tdf_tree::{Process, Stmt, Stmts};
 
 const DEEPEST: usize = 8;
@@ -199,6 +199,7 @@ fn head_body(alloc: Global, owner: Owner, frames: Vec<Frame>, frame: Frame) -> R
     ensures { IfOk result (λ p. shown_place p ≡ head_body (shown_owner owner) (shown_frame frame) (shown_frames frames.items)) }
 {
     if !has_room(&frames) {
+        drop(frame);
         return Ok(Place::Lost);
     }
     opened(alloc, owner, frames, frame)

@@ -1,12 +1,12 @@
 //! What a line form is in its place.
 
 ghost use Rattle.std.specs.Option.{option_map};
-ghost use Rattle.std.specs.Prelude.{IfOk, ◌≡◌};
-ghost use Rattle.tdf_grammar.specs.FormViews.{pure_form};
+ghost use Rattle.std.specs.Prelude.{IfOk, None, ◌≡◌};
+ghost use Rattle.tdf_forms.specs.FormViews.{pure_form};
 ghost use Rattle.tdf_grammar.specs.Items.{attr_of, change_of, de_line_of, de_port_of, member_of, net_line_of, plain_of, process_of, tdf_line_of, trace_of};
 ghost use Rattle.tdf_tree.specs.Views.{pure_de_line, pure_stmt, pure_tdf_line, pure_trace};
 
-use crate::form::LineForm;
+use tdf_forms::LineForm;
 use tdf_tree::{
     Attr, DeLine, FormatRef, Member, Name, PortKind, PortLine, Stmt, Store, TdfLine, Trace1,
 };
@@ -49,7 +49,10 @@ pub(crate) fn tdf_line(line: u32, form: LineForm) -> Option<TdfLine>
             greatest,
             start,
         }),
-        _ => None,
+        form => {
+            drop(form);
+            None
+        }
     }
 }
 
@@ -63,7 +66,10 @@ pub(crate) fn attr(line: u32, form: LineForm) -> Option<Attr>
         LineForm::Does => return Some(Attr::Does { line }),
         LineForm::Accept => return Some(Attr::Accept { line }),
         LineForm::Reject => return Some(Attr::Reject { line }),
-        _ => None,
+        form => {
+            drop(form);
+            None
+        }
     }
 }
 
@@ -113,7 +119,10 @@ pub(crate) fn de_line(line: u32, form: LineForm) -> Option<DeLine>
             values,
         })),
         LineForm::Event(name) => return Some(DeLine::Event { line, name }),
-        _ => None,
+        form => {
+            drop(form);
+            None
+        }
     }
 }
 
@@ -121,6 +130,7 @@ pub(crate) fn member(line: u32, form: LineForm) -> Option<Member>
     ensures { result ≡ member_of line (pure_form form) }
 {
     match form {
+        LineForm::Instance(name, block) => return Some(Member::Instance { line, name, block }),
         LineForm::Signal(name, format) => return Some(Member::Signal { line, name, format }),
         LineForm::DeSignal(name, format, start) => return Some(Member::DeSignal {
             line,
@@ -128,14 +138,16 @@ pub(crate) fn member(line: u32, form: LineForm) -> Option<Member>
             format,
             start,
         }),
-        LineForm::Instance(name, block) => return Some(Member::Instance { line, name, block }),
         LineForm::Bind(instance, port, target) => return Some(Member::Bind {
             line,
             instance,
             port,
             target,
         }),
-        _ => None,
+        form => {
+            drop(form);
+            None
+        }
     }
 }
 
@@ -158,7 +170,10 @@ pub(crate) fn trace(line: u32, form: LineForm) -> Option<Trace1>
 {
     match form {
         LineForm::Trace(path, label) => Some(Trace1 { line, path, label }),
-        _ => None,
+        form => {
+            drop(form);
+            None
+        }
     }
 }
 
@@ -173,7 +188,10 @@ pub(crate) fn plain_stmt(line: u32, form: LineForm) -> Option<Stmt>
             index,
             value,
         }),
-        _ => None,
+        form => {
+            drop(form);
+            None
+        }
     }
 }
 

@@ -1,18 +1,12 @@
 //! The language: which token lines spell which tree, where the first syntax fault stands, and the parser.
 #![tactic(auto)]
 
-mod attributes;
 mod bodies;
-mod cuts;
 mod err;
-mod form;
-mod heads;
 mod items;
 mod laws;
-mod lines;
 mod parser;
 mod places;
-mod stores;
 mod turns;
 
 pub use err::LangErr;

@@ -7,11 +7,11 @@ ghost use Rattle.tdf_grammar.specs.Refused.{IsEnd, IsRead, IsTreeOf, IsWalked, I
 ghost use Rattle.tdf_tokens.specs.Token.{row};
 
 use crate::err::LangErr;
-use crate::lines::read_form;
 use crate::places::Place;
 use crate::turns::goes;
 use std::alloc::Global;
 use tdf_fixed::Memory;
+use tdf_forms::read_form;
 use tdf_tokens::{Line, line_count, text_fault, token_lines};
 use tdf_tree::Tree;
 
@@ -19,9 +19,16 @@ use tdf_tree::Tree;
 fn read_row(alloc: Global, at: Place, line: &Line) -> Result<Place, Memory>
     ensures { IfOk result (λ p. shown_place p ≡ reads_row (shown_place at) (row line.now)) }
 {
-    match read_form(alloc, &line.tokens)? {
-        Some(form) => goes(alloc, at, line.number, form),
-        None => Ok(Place::Lost),
+    match read_form(alloc, &line.tokens) {
+        Ok(Some(form)) => goes(alloc, at, line.number, form),
+        Ok(None) => {
+            drop(at);
+            Ok(Place::Lost)
+        }
+        Err(refused) => {
+            drop(at);
+            Err(refused)
+        }
     }
 }
 
@@ -74,6 +81,7 @@ fn walk(alloc: Global, lines: &[Line], behind: u32) -> Result<Tree, LangErr>
     for line in lines {
         at = read_row(alloc, at, line)?;
         if is_lost(&at) {
+            drop(at);
             return Err(LangErr::Syntax { line: line.number });
         }
     }

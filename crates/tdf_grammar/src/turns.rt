@@ -1,7 +1,7 @@
 //! Where a line leads from the place where it stands.
 
 ghost use Rattle.std.specs.Prelude.{IfOk, [], cond, map, ◌≡◌};
-ghost use Rattle.tdf_grammar.specs.FormViews.{pure_form};
+ghost use Rattle.tdf_forms.specs.FormViews.{pure_form};
 ghost use Rattle.tdf_grammar.specs.PlaceViews.{shown_outer, shown_owner, shown_place};
 ghost use Rattle.tdf_grammar.specs.Places.{PBody, PGlobals, PLost, goes, goes_attributes, goes_de, goes_globals, goes_initialize, goes_net, goes_process, goes_start, goes_tdf, goes_top, more_de, more_tdf, more_traces, new_de, new_net, new_tdf, with_global};
 ghost use Rattle.tdf_grammar.specs.Items.{de_line_of, tdf_line_of, trace_of};
@@ -9,11 +9,11 @@ ghost use Rattle.tdf_grammar.specs.Spells.{no_body};
 ghost use Rattle.tdf_tree.specs.Views.{pure_body, pure_composite, pure_de, pure_global, pure_process, pure_tdf, pure_tree};
 
 use crate::bodies::goes_body;
-use crate::form::LineForm;
 use crate::items::{attr, de_line, member, net_line, tdf_line, trace};
 use crate::places::{Outer, Owner, Place};
 use std::alloc::Global;
 use tdf_fixed::Memory;
+use tdf_forms::LineForm;
 use tdf_tree::{
     Composite, DeDecl, Global1, Initial, Name, Process, Sense, Stmts, TdfDecl, Tree, TypeDecl,
 };
@@ -43,7 +43,10 @@ fn goes_start(alloc: Global, form: LineForm) -> Place
             version,
             globals: Vec::new(alloc),
         }),
-        _ => Place::Lost,
+        form => {
+            drop(form);
+            Place::Lost
+        }
     }
 }
 
@@ -96,7 +99,10 @@ fn goes_globals(alloc: Global, outer: Outer, line: u32, form: LineForm) -> Resul
         LineForm::De(name) => Ok(Place::De(outer, true, new_de(alloc, line, name))),
         LineForm::Composite(name) => Ok(Place::Net(outer, new_net(alloc, line, name))),
         LineForm::Top => Ok(Place::Top(outer, new_net(alloc, line, Name::copied(alloc, b"top")?))),
-        _ => Ok(Place::Lost),
+        form => {
+            drop(form);
+            Ok(Place::Lost)
+        }
     }
 }
 
@@ -130,6 +136,7 @@ fn to_part(may: bool, part: Place) -> Place
     if may {
         return part;
     }
+    drop(part);
     Place::Lost
 }
 
@@ -152,6 +159,7 @@ fn goes_tdf(
         LineForm::End => with_global(outer, Global1::Tdf(block)),
         form => {
             if parts > 0 {
+                drop(form);
                 return Ok(Place::Lost);
             }
             more_tdf(outer, block, line, form)
@@ -217,6 +225,7 @@ fn more_de(
     ensures { IfOk result (λ p. shown_place p ≡ cond declares (more_de (shown_outer outer) (pure_de block) (de_line_of line (pure_form form))) PLost) }
 {
     if !declares {
+        drop(form);
         return Ok(Place::Lost);
     }
     let Some(item) = de_line(line, form) else {
@@ -364,6 +373,9 @@ pub(crate) fn goes(alloc: Global, at: Place, line: u32, form: LineForm) -> Resul
         Place::Net(outer, block) => goes_net(outer, block, line, form),
         Place::Top(outer, block) => goes_top(alloc, outer, block, line, form),
         Place::Traces(tree) => more_traces(tree, line, form),
-        Place::Lost => Ok(Place::Lost),
+        Place::Lost => {
+            drop(form);
+            Ok(Place::Lost)
+        }
     }
 }

@@ -2,12 +2,14 @@
 //!
 //! * [`parse`]: the tree that a text spells, or its first fault (`tdf_grammar`).
 //! * [`push_tree`]: the canonical text of a tree (`tdf_canon`).
-//! * [`law_spelled`], [`law_trees`], [`law_alike`]: what holds of texts and trees, whatever they are.
+//! * [`law_spelled`]: what holds of texts and trees, whatever they are.
 //! * `thin`: a model of the thin form, which is what runs today.
 #![tactic(auto)]
 
+mod laws;
 mod thin;
 
-pub use tdf_canon::{law_alike, law_trees, push_tree};
-pub use tdf_grammar::{LangErr, law_spelled, parse};
+pub use laws::law_spelled;
+pub use tdf_canon::push_tree;
+pub use tdf_grammar::{LangErr, parse};
 pub use thin::{Thin, ThinErr};

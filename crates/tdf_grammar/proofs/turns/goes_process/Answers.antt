@@ -1,6 +1,6 @@
 use Rattle.std.proofs.Common.{◌∙◌, sym}
 use Rattle.std.proofs.lemmas.Result.{IfOk-weaker}
-use Rattle.tdf_grammar.specs.FormViews.{pure_form}
+use Rattle.tdf_forms.specs.FormViews.{pure_form}
 use Rattle.tdf_grammar.specs.PlaceViews.{shown_outer}
 use Rattle.tdf_grammar.specs.Places.{OwnProcess}
 use Rattle.tdf_tree.specs.Views.{pure_de, pure_process}

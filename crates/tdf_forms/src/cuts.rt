@@ -1,7 +1,7 @@
 //! A line's tokens, cut in two.
 
 ghost use Rattle.std.specs.Prelude.{drop, length, map, take, ◌-◌, ◌≡◌, ◌≤◌};
-ghost use Rattle.tdf_grammar.specs.Reads.{cut_rest, index_len, is_close};
+ghost use Rattle.tdf_forms.specs.Reads.{cut_rest, index_len, is_close};
 ghost use Rattle.tdf_parts.specs.Formats.{format_len};
 ghost use Rattle.tdf_tokens.specs.Token.{tok};
 

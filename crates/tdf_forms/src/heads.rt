@@ -2,9 +2,9 @@
 
 ghost use Rattle.std.specs.Option.{option_map};
 ghost use Rattle.std.specs.Prelude.{IfOk, map, ◌≡◌};
-ghost use Rattle.tdf_grammar.specs.FormViews.{pure_form};
-ghost use Rattle.tdf_grammar.specs.Forms.{FPort, FType};
-ghost use Rattle.tdf_grammar.specs.Reads.{language_form, nothing_behind, word_form};
+ghost use Rattle.tdf_forms.specs.FormViews.{pure_form};
+ghost use Rattle.tdf_forms.specs.Forms.{FPort, FType};
+ghost use Rattle.tdf_forms.specs.Reads.{language_form, nothing_behind, word_form};
 ghost use Rattle.tdf_parts.specs.Formats.{format_of, shape_of};
 ghost use Rattle.tdf_tokens.specs.Token.{tok};
 
@@ -42,7 +42,10 @@ pub(crate) fn nothing_behind(form: LineForm, rest: &[Token]) -> Option<LineForm>
 {
     match rest {
         [] => Some(form),
-        _ => None,
+        _ => {
+            drop(form);
+            None
+        }
     }
 }
 

@@ -18,11 +18,11 @@ use Rattle.tdf_parts.specs.Literals.{lit_of, lits_of}
 use Rattle.tdf_parts.specs.Machine.{expr_of, index_of}
 use Rattle.tdf_parts.specs.Numbers.{int_of}
 use Rattle.tdf_parts.specs.Paths.{path_of}
-use Rattle.tdf_grammar.specs.Forms.{Form, FLanguage, FType, FTdf, FDe, FComposite, FTop, FEnd, FPort, FConst, FVar, FArray, FRateVar}
-use Rattle.tdf_grammar.specs.Forms.{FSetAttributes, FInitialize, FProcessing, FChangeAttributes, FReinitialize, FStep, FRate, FDelay, FDoes, FAccept, FReject}
-use Rattle.tdf_grammar.specs.Forms.{FInitial, FEvent, FProcess, FSensitive, FDontInitialize, FNotify, FSignal, FDeSignal, FInstance, FBind, FTrace}
-use Rattle.tdf_grammar.specs.Forms.{FAssign, FIf, FElse, FFor, FSetRate}
-use Rattle.tdf_grammar.specs.Means.{zero_lit}
+use Rattle.tdf_forms.specs.Forms.{Form, FLanguage, FType, FTdf, FDe, FComposite, FTop, FEnd, FPort, FConst, FVar, FArray, FRateVar}
+use Rattle.tdf_forms.specs.Forms.{FSetAttributes, FInitialize, FProcessing, FChangeAttributes, FReinitialize, FStep, FRate, FDelay, FDoes, FAccept, FReject}
+use Rattle.tdf_forms.specs.Forms.{FInitial, FEvent, FProcess, FSensitive, FDontInitialize, FNotify, FSignal, FDeSignal, FInstance, FBind, FTrace}
+use Rattle.tdf_forms.specs.Forms.{FAssign, FIf, FElse, FFor, FSetRate}
+use Rattle.tdf_forms.specs.Means.{zero_lit}
 
 -- a form of two parts, and of three
 abbrev pub both_of : {A B : Type 0} → (A → B → Form) → Option A → Option B → Option Form

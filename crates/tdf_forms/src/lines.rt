@@ -1,10 +1,11 @@
 //! The form of a line.
 
 ghost use Rattle.std.specs.Option.{option_map};
-ghost use Rattle.std.specs.Prelude.{IfOk, None, Some, map, ◌≡◌};
-ghost use Rattle.tdf_grammar.specs.FormViews.{pure_form};
-ghost use Rattle.tdf_grammar.specs.Forms.{FAssign, FIf};
-ghost use Rattle.tdf_grammar.specs.Reads.{for_form, form_of, item_close, item_value, key_form, key_name_form, limit_of, name_form, name_symbol, rest_form};
+ghost use Rattle.std.specs.Prelude.{IfOk, MatchOption, None, Some, map, ◌≡◌};
+ghost use Rattle.tdf_forms.specs.FormViews.{pure_form};
+ghost use Rattle.tdf_forms.specs.Forms.{FAssign, FIf};
+ghost use Rattle.tdf_forms.specs.Means.{IsNoForm, Means};
+ghost use Rattle.tdf_forms.specs.Reads.{for_form, form_of, item_close, item_value, key_form, key_name_form, limit_of, name_form, name_symbol, rest_form};
 ghost use Rattle.tdf_parts.specs.Machine.{expr_of, index_of};
 ghost use Rattle.tdf_tokens.specs.Token.{tok};
 ghost use Rattle.tdf_tokens.specs.declared.key.Symbol.TheVariants as symbol;
@@ -200,8 +201,15 @@ fn name_form(alloc: Global, name: &[u8], rest: &[Token]) -> Result<Option<LineFo
 }
 
 /// The form that these tokens are, if they are one.
+pub fn read_form(alloc: Global, tokens: &[Token]) -> Result<Option<LineForm>, Memory>
+    ensures said { IfOk result (λ o. MatchOption o (IsNoForm (map tok tokens.now)) (λ f. Means (map tok tokens.now) (pure_form f))) }
+    ensures read { IfOk result (λ o. option_map pure_form o ≡ form_of (map tok tokens.now)) }
+{
+    form(alloc, tokens)
+}
+
 #[tactic(auto, unfolding(crate::specs::Reads::form_of))]
-pub(crate) fn read_form(alloc: Global, tokens: &[Token]) -> Result<Option<LineForm>, Memory>
+fn form(alloc: Global, tokens: &[Token]) -> Result<Option<LineForm>, Memory>
     ensures { IfOk result (λ o. option_map pure_form o ≡ form_of (map tok tokens.now)) }
 {
     match tokens {

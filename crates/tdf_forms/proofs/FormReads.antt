@@ -18,14 +18,14 @@ use Rattle.tdf_parts.specs.Literals.{SaysLit, lit_plain, lit_minus, lit_of, lits
 use Rattle.tdf_parts.specs.Machine.{index_of}
 use Rattle.tdf_parts.specs.Numbers.{int_of}
 use Rattle.tdf_parts.specs.Paths.{path_of}
-use Rattle.tdf_grammar.specs.Forms.{Form, FRate, FConst, FVar, FArray, FDeSignal, FTrace, FPort}
-use Rattle.tdf_grammar.specs.Means.{Means, language_line, word_line, named_line, type_line, port_line, const_line, var_line, array_line, rate_var_line, step_line, port_step_line}
-use Rattle.tdf_grammar.specs.Means.{rate_line, delay_line, initial_line, notify_line, notify_after_line, signal_line, de_signal_line, instance_line, bind_line, trace_line}
-use Rattle.tdf_grammar.specs.Means.{assign_line, assign_item_line, if_line, for_line, set_rate_line}
-use Rattle.tdf_grammar.specs.Means.{SaysWord, word_top, word_end, word_set_attributes, word_initialize, word_processing, word_change_attributes, word_reinitialize, word_does, word_accept, word_reject, word_process, word_dont_initialize, word_else}
-use Rattle.tdf_grammar.specs.Means.{SaysNamed, named_tdf, named_de, named_composite, named_event, named_sensitive, SaysPort, port_in, port_out, port_de_in, port_de_out}
-use Rattle.tdf_grammar.specs.Means.{SaysLimit, limit_int, limit_var, SaysStart, start_none, start_some}
-use Rattle.tdf_grammar.specs.Reads.{form_of, both_of, three_of, limit_of, start_of, cut_first, cut_rest, array_rest, trace_form, item_close}
+use Rattle.tdf_forms.specs.Forms.{Form, FRate, FConst, FVar, FArray, FDeSignal, FTrace, FPort}
+use Rattle.tdf_forms.specs.Means.{Means, language_line, word_line, named_line, type_line, port_line, const_line, var_line, array_line, rate_var_line, step_line, port_step_line}
+use Rattle.tdf_forms.specs.Means.{rate_line, delay_line, initial_line, notify_line, notify_after_line, signal_line, de_signal_line, instance_line, bind_line, trace_line}
+use Rattle.tdf_forms.specs.Means.{assign_line, assign_item_line, if_line, for_line, set_rate_line}
+use Rattle.tdf_forms.specs.Means.{SaysWord, word_top, word_end, word_set_attributes, word_initialize, word_processing, word_change_attributes, word_reinitialize, word_does, word_accept, word_reject, word_process, word_dont_initialize, word_else}
+use Rattle.tdf_forms.specs.Means.{SaysNamed, named_tdf, named_de, named_composite, named_event, named_sensitive, SaysPort, port_in, port_out, port_de_in, port_de_out}
+use Rattle.tdf_forms.specs.Means.{SaysLimit, limit_int, limit_var, SaysStart, start_none, start_some}
+use Rattle.tdf_forms.specs.Reads.{form_of, both_of, three_of, limit_of, start_of, cut_first, cut_rest, array_rest, trace_form, item_close}
 
 -- forms of two and three parts
 both_is : {A B : Type 0} (make : A → B → Form) (a : Option A) (b : Option B) (x : A) (y : B) → a ≡ Some x → b ≡ Some y → both_of make a b ≡ Some (make x y)

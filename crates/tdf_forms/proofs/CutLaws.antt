@@ -3,7 +3,7 @@ use Rattle.std.proofs.Common.{◌≡◌, ℕ, ◌≤◌, List, [], ◌∷◌, le
 use Rattle.std.proofs.lemmas.List.{take-map, drop-map, length-map, drop_min, take_min}
 use Rattle.tdf_parts.specs.Formats.{format_len, keys_first}
 use Rattle.std.specs.Prelude.{Option, None}
-use Rattle.tdf_grammar.specs.Reads.{array_rest, second_rate, third_rate, item_value, item_close}
+use Rattle.tdf_forms.specs.Reads.{array_rest, second_rate, third_rate, item_value, item_close}
 use Rattle.tdf_tokens.specs.declared.key.Symbol.TheVariants as symbol
 use Rattle.tdf_parts.specs.Numbers.{int_of}
 use Rattle.tdf_tokens.specs.Token.{Tok, TKey, TNumber, TSymbol, tok}

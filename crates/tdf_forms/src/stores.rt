@@ -2,10 +2,10 @@
 
 ghost use Rattle.std.specs.Option.{option_map};
 ghost use Rattle.std.specs.Prelude.{IfOk, map, ◌≡◌};
-ghost use Rattle.tdf_grammar.specs.FormViews.{pure_form};
-ghost use Rattle.tdf_grammar.specs.Forms.{FConst, FDeSignal, FSignal, FVar};
-ghost use Rattle.tdf_grammar.specs.Means.{zero_lit};
-ghost use Rattle.tdf_grammar.specs.Reads.{array_rest, both_of, cut_first, cut_rest, start_of};
+ghost use Rattle.tdf_forms.specs.FormViews.{pure_form};
+ghost use Rattle.tdf_forms.specs.Forms.{FConst, FDeSignal, FSignal, FVar};
+ghost use Rattle.tdf_forms.specs.Means.{zero_lit};
+ghost use Rattle.tdf_forms.specs.Reads.{array_rest, both_of, cut_first, cut_rest, start_of};
 ghost use Rattle.tdf_parts.specs.Formats.{format_of};
 ghost use Rattle.tdf_parts.specs.Literals.{lit_of};
 ghost use Rattle.tdf_tokens.specs.Token.{tok};

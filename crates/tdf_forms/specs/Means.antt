@@ -19,10 +19,10 @@ use Rattle.tdf_parts.specs.Literals.{SaysLit, SaysLits}
 use Rattle.tdf_parts.specs.Numbers.{int_of}
 use Rattle.tdf_parts.specs.Paths.{SaysPath}
 use Rattle.tdf_parts.specs.Says.{Says}
-use Rattle.tdf_grammar.specs.Forms.{Form, FLanguage, FType, FTdf, FDe, FComposite, FTop, FEnd, FPort, FConst, FVar, FArray, FRateVar}
-use Rattle.tdf_grammar.specs.Forms.{FSetAttributes, FInitialize, FProcessing, FChangeAttributes, FReinitialize, FStep, FRate, FDelay, FDoes, FAccept, FReject}
-use Rattle.tdf_grammar.specs.Forms.{FInitial, FEvent, FProcess, FSensitive, FDontInitialize, FNotify, FSignal, FDeSignal, FInstance, FBind, FTrace}
-use Rattle.tdf_grammar.specs.Forms.{FAssign, FIf, FElse, FFor, FSetRate}
+use Rattle.tdf_forms.specs.Forms.{Form, FLanguage, FType, FTdf, FDe, FComposite, FTop, FEnd, FPort, FConst, FVar, FArray, FRateVar}
+use Rattle.tdf_forms.specs.Forms.{FSetAttributes, FInitialize, FProcessing, FChangeAttributes, FReinitialize, FStep, FRate, FDelay, FDoes, FAccept, FReject}
+use Rattle.tdf_forms.specs.Forms.{FInitial, FEvent, FProcess, FSensitive, FDontInitialize, FNotify, FSignal, FDeSignal, FInstance, FBind, FTrace}
+use Rattle.tdf_forms.specs.Forms.{FAssign, FIf, FElse, FFor, FSetRate}
 
 -- the literal 0, for an absent one
 abbrev pub zero_lit : Lit
@@ -108,3 +108,7 @@ pub data Means : List Tok → Form → Type 0 where
   for_line : (name text : List ℕ) {a : List Tok} {n : ℕ} {l : Limit} → int_of text ≡ Some n → SaysLimit a l
       → Means (TKey key.For ∷ TName name ∷ TNumber text ∷ a) (FFor name n l)
   set_rate_line : (name : List ℕ) {a : List Tok} {e : PureExpr} → Says 0 a e → Means (TKey key.Rate ∷ TName name ∷ TSymbol symbol.Becomes ∷ a) (FSetRate name e)
+
+-- the tokens are no line form
+abbrev pub IsNoForm : List Tok → Type 0
+IsNoForm ts = (f : Form) → Means ts f → ⊥

@@ -20,19 +20,19 @@ use Rattle.tdf_parts.specs.Literals.{lit_of, lits_of}
 use Rattle.tdf_parts.specs.Machine.{expr_of, index_of}
 use Rattle.tdf_parts.specs.Numbers.{int_of}
 use Rattle.tdf_parts.specs.Paths.{path_of}
-use Rattle.tdf_grammar.specs.Forms.{Form, FLanguage, FType, FTdf, FDe, FComposite, FTop, FEnd, FPort, FConst, FVar, FArray, FRateVar}
-use Rattle.tdf_grammar.specs.Forms.{FSetAttributes, FInitialize, FProcessing, FChangeAttributes, FReinitialize, FStep, FRate, FDelay, FDoes, FAccept, FReject}
-use Rattle.tdf_grammar.specs.Forms.{FInitial, FEvent, FProcess, FSensitive, FDontInitialize, FNotify, FSignal, FDeSignal, FInstance, FBind, FTrace}
-use Rattle.tdf_grammar.specs.Forms.{FAssign, FIf, FElse, FFor, FSetRate}
-use Rattle.tdf_grammar.specs.Means.{Means, language_line, word_line, named_line, type_line, port_line, const_line, var_line, array_line, rate_var_line, step_line, port_step_line}
-use Rattle.tdf_grammar.specs.Means.{rate_line, delay_line, initial_line, notify_line, notify_after_line, signal_line, de_signal_line, instance_line, bind_line, trace_line}
-use Rattle.tdf_grammar.specs.Means.{assign_line, assign_item_line, if_line, for_line, set_rate_line, zero_lit}
-use Rattle.tdf_grammar.specs.Means.{SaysWord, word_top, word_end, word_set_attributes, word_initialize, word_processing, word_change_attributes, word_reinitialize, word_does, word_accept, word_reject, word_process, word_dont_initialize, word_else}
-use Rattle.tdf_grammar.specs.Means.{SaysNamed, named_tdf, named_de, named_composite, named_event, named_sensitive, SaysPort, port_in, port_out, port_de_in, port_de_out}
-use Rattle.tdf_grammar.specs.Means.{SaysLimit, limit_int, limit_var, SaysStart, start_none, start_some}
-use Rattle.tdf_grammar.specs.Reads.{form_of, both_of, three_of, nothing_behind, limit_of, start_of, word_form, language_form, named_step_form, step_form, trace_end, trace_form, array_rest}
-use Rattle.tdf_grammar.specs.Reads.{third_rate, second_rate, rate_symbol, rate_form, delay_form, initial_form, after_form, notify_form, instance_form, bind_target, bind_port, bind_form}
-use Rattle.tdf_grammar.specs.Reads.{for_form, cut_first, cut_rest, key_name_form, rest_form, key_form, index_len, item_value, item_close, name_symbol, name_form}
+use Rattle.tdf_forms.specs.Forms.{Form, FLanguage, FType, FTdf, FDe, FComposite, FTop, FEnd, FPort, FConst, FVar, FArray, FRateVar}
+use Rattle.tdf_forms.specs.Forms.{FSetAttributes, FInitialize, FProcessing, FChangeAttributes, FReinitialize, FStep, FRate, FDelay, FDoes, FAccept, FReject}
+use Rattle.tdf_forms.specs.Forms.{FInitial, FEvent, FProcess, FSensitive, FDontInitialize, FNotify, FSignal, FDeSignal, FInstance, FBind, FTrace}
+use Rattle.tdf_forms.specs.Forms.{FAssign, FIf, FElse, FFor, FSetRate}
+use Rattle.tdf_forms.specs.Means.{Means, language_line, word_line, named_line, type_line, port_line, const_line, var_line, array_line, rate_var_line, step_line, port_step_line}
+use Rattle.tdf_forms.specs.Means.{rate_line, delay_line, initial_line, notify_line, notify_after_line, signal_line, de_signal_line, instance_line, bind_line, trace_line}
+use Rattle.tdf_forms.specs.Means.{assign_line, assign_item_line, if_line, for_line, set_rate_line, zero_lit}
+use Rattle.tdf_forms.specs.Means.{SaysWord, word_top, word_end, word_set_attributes, word_initialize, word_processing, word_change_attributes, word_reinitialize, word_does, word_accept, word_reject, word_process, word_dont_initialize, word_else}
+use Rattle.tdf_forms.specs.Means.{SaysNamed, named_tdf, named_de, named_composite, named_event, named_sensitive, SaysPort, port_in, port_out, port_de_in, port_de_out}
+use Rattle.tdf_forms.specs.Means.{SaysLimit, limit_int, limit_var, SaysStart, start_none, start_some}
+use Rattle.tdf_forms.specs.Reads.{form_of, both_of, three_of, nothing_behind, limit_of, start_of, word_form, language_form, named_step_form, step_form, trace_end, trace_form, array_rest}
+use Rattle.tdf_forms.specs.Reads.{third_rate, second_rate, rate_symbol, rate_form, delay_form, initial_form, after_form, notify_form, instance_form, bind_target, bind_port, bind_form}
+use Rattle.tdf_forms.specs.Reads.{for_form, cut_first, cut_rest, key_name_form, rest_form, key_form, index_len, item_value, item_close, name_symbol, name_form}
 
 -- the parts of a form that was read
 record Mapped {A : Type 0} (make : A → Form) (o : Option A) (f : Form) : Type 0 where

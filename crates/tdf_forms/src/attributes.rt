@@ -2,9 +2,9 @@
 
 ghost use Rattle.std.specs.Option.{option_map};
 ghost use Rattle.std.specs.Prelude.{IfOk, Some, map, ◌≡◌};
-ghost use Rattle.tdf_grammar.specs.FormViews.{pure_form};
-ghost use Rattle.tdf_grammar.specs.Reads.{after_form, bind_form, bind_port, bind_target, delay_form, initial_form, instance_form, named_step_form, nothing_behind, notify_form, rate_form, rate_symbol, second_rate, step_form, third_rate, trace_end, trace_form};
-ghost use Rattle.tdf_grammar.specs.Forms.{FRate};
+ghost use Rattle.tdf_forms.specs.FormViews.{pure_form};
+ghost use Rattle.tdf_forms.specs.Reads.{after_form, bind_form, bind_port, bind_target, delay_form, initial_form, instance_form, named_step_form, nothing_behind, notify_form, rate_form, rate_symbol, second_rate, step_form, third_rate, trace_end, trace_form};
+ghost use Rattle.tdf_forms.specs.Forms.{FRate};
 ghost use Rattle.tdf_parts.specs.Numbers.{int_of};
 ghost use Rattle.tdf_parts.specs.Paths.{path_of};
 ghost use Rattle.tdf_tree.specs.declared.stmt.Limit.TheVariants as limit;

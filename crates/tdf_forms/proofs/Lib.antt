@@ -1,0 +1,4 @@
+pub mod FormReads
+pub mod ReadForms
+pub mod CutLaws
+pub mod Decided

@@ -1,0 +1,5 @@
+pub mod FormViews
+pub mod Forms
+pub mod Laws
+pub mod Means
+pub mod Reads
