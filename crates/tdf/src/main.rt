@@ -3,33 +3,39 @@
 
 mod words;
 
+ghost use Rattle.std.specs.Prelude.{◌≡◌, ◌≢◌, ◌⊎◌, []};
+ghost use Rattle.tdf_cli.specs.Status.{write_fault};
+
 use crate::words::{Words, words_of};
 use std::io::Write;
 use std::process::ExitCode;
-use tdf_cli::tool;
+use tdf_cli::{NO_MEMORY, USAGE, WRITE_FAULT, tool};
 use tdf_io::{StdSink, StdSource, put_all};
 
-/// The status of a failed write.
-const WRITE_FAULT: u8 = 4;
-
-/// Hands all that was gathered to both streams. The status stands, unless one of them fails.
-fn flushed<O: Write + Drop, N: Write + Drop>(
+/// Hands on what both streams have gathered, the output first: where that fails, what is left of the notes is dropped, so
+/// that they tell of no end that the output doesn't have. The status stands, unless one of them fails.
+fn hand_on<O: Write + Drop, N: Write + Drop>(
     status: u8,
     out: &mut StdSink<O>,
     notes: &mut StdSink<N>,
-) -> u8 {
-    let out_failed = out.flush().is_err();
-    let notes_failed = notes.flush().is_err();
-    if out_failed || notes_failed {
-        return WRITE_FAULT;
+) -> u8
+    ensures answer { (result ≡ status) ⊎ (result ≡ write_fault) }
+    ensures all { result ≢ write_fault → (out.new.waiting ≡ []) × (notes.new.waiting ≡ []) }
+    ensures order { (out.new.waiting ≡ []) ⊎ (notes.new ≡ notes.old) }
+{
+    match out.flush() {
+        Ok(()) => match notes.flush() {
+            Ok(()) => status,
+            Err(_) => WRITE_FAULT,
+        },
+        Err(_) => WRITE_FAULT,
     }
-    status
 }
 
-/// What is answered for words that the runtime can't tell as text: they aren't taken.
+/// What is answered for words that the runtime can't tell as text: they aren't accepted.
 fn not_text<N: Write + Drop>(notes: &mut StdSink<N>) -> u8 {
     match put_all(notes, b"usage\n") {
-        Ok(()) => 2,
+        Ok(()) => USAGE,
         Err(_) => WRITE_FAULT,
     }
 }
@@ -41,7 +47,7 @@ fn main(rt: HostRuntime) -> ExitCode {
     let status = match words_of(&rt) {
         Words::Text(words) => tool(rt.alloc(), &words, &mut model, &mut out, &mut notes),
         Words::NotText => not_text(&mut notes),
-        Words::NoMemory => 7,
+        Words::NoMemory => NO_MEMORY,
     };
-    ExitCode::from(flushed(status, &mut out, &mut notes))
+    ExitCode::from(hand_on(status, &mut out, &mut notes))
 }

@@ -4,7 +4,7 @@ use std::env;
 use std::io::ErrorKind;
 use std::rt::Env;
 
-/// The words behind the program's name.
+/// The words after the program's name.
 #[derive(Drop)]
 pub(crate) enum Words {
     Text(Vec<String>),

@@ -1,83 +1,84 @@
 -- How what the steps wrote makes an outcome.
-use Rattle.std.proofs.Common.{◌≡◌, ℕ, List, [], Option, Result, Ok, Err, IfOk, IfErr, OnErr, inl, inr, sym, append_assoc, append-nil, subst, Some}
-use Rattle.std.specs.Io.KnownBytes.{Appends, Keeps}
+use Rattle.std.proofs.Common.{◌≡◌, ℕ, List, [], Option, Result, Ok, Err, IfOk, OnErr, inl, inr, refl, sym, ap, subst, append_assoc, append-nil}
+use Rattle.std.specs.Io.KnownBytes.{Appends}
 use Rattle.std.proofs.KnownBytes.{Appends-nil}
-use Rattle.tdf_io.specs.Bytes.{Began}
-use Rattle.tdf_io.proofs.Prefixes.{began_none}
-use Rattle.tdf_lang.specs.declared.thin.Thin.{Thin}
-use Rattle.tdf_cli.specs.Texts.{SpellsText, HasSyntaxFault}
-use Rattle.tdf_grammar.specs.Refused.{IsTreeOf, IsWhy}
-use Rattle.tdf_grammar.specs.declared.err.LangErr.{LangErr}
-use Rattle.tdf_grammar.specs.declared.err.LangErr.TheVariants as refusal
-use Rattle.tdf_tokens.specs.Text.{fault_of}
-use Rattle.tdf_tokens.specs.declared.text.TextFault.TheVariants as fault
-use Rattle.tdf_tree.specs.Views.{pure_tree}
-use Rattle.tdf_tree.specs.declared.tree.Tree.{Tree}
-use Rattle.tdf_tree.specs.Pure.{PureTree}
-use Rattle.tdf_sim.specs.ThinTree.{IsThinTree}
-use Rattle.tdf_sim.specs.Ramp.{trace_text, notes_text}
-use Rattle.tdf_cli.specs.Reading.{Reading, Whole}
-use Rattle.tdf_cli.specs.Outcome.{Outcome, note, ran, Has, reached, Meets, MetInPart, Stands}
+use Rattle.tdf_blocks.specs.Refused.{SpellsText}
+use Rattle.tdf_cli.specs.Input.{Reading, BadWords, Text, TooLong, ReadFault, NoMemory}
+use Rattle.tdf_cli.specs.Outcome.{Outcome, note, ran, HasOutcome, usage, read_fault, too_long, faulty, unbuilt, reached, WritesOutcome, WritesFrontOf, WritesNothingOrFront}
 use Rattle.tdf_cli.specs.declared.status.Status.{Status}
 use Rattle.tdf_cli.specs.declared.status.Status.TheVariants.{Done}
 use Rattle.tdf_cli.specs.declared.words.Settings.TheVariants.{Run}
+use Rattle.tdf_io.proofs.Api.{front_none}
+use Rattle.tdf_io.specs.Bytes.{AppendsFront, WritesText}
+use Rattle.tdf_io.specs.declared.writing.SinkErr.{SinkErr}
+use Rattle.tdf_thin.specs.Ramp.{trace_text, notes_text}
+use Rattle.tdf_thin.specs.ThinTree.{IsThinTree}
+use Rattle.tdf_thin.specs.declared.model.Thin.{Thin}
+use Rattle.tdf_tree.specs.Pure.{PureTree}
 
--- two facts of one answer
-pub both_ok : {T E : Type 0} (r : Result T E) (P Q R : T → Type 0) → ((x : T) → P x → Q x → R x) → IfOk r P → IfOk r Q → IfOk r R
-both_ok (Ok x) P Q R f p q = f x p q
-both_ok (Err e) P Q R f p q = tt
+-- being out of memory while the text is read has no outcome
+abbrev HasSome : Reading → Type 0
+HasSome NoMemory = ⊥
+HasSome _ = Unit {0}
 
-pub both_err : {T E P Q R : Type 0} (r : Result T E) → (P → Q → R) → OnErr r P → OnErr r Q → OnErr r R
-both_err (Ok x) f p q = tt
-both_err (Err e) f p q = f p q
+has_some : {r : Reading} {o : Outcome} → HasOutcome r o → HasSome r
+has_some usage = tt
+has_some read_fault = tt
+has_some too_long = tt
+has_some (faulty is) = tt
+has_some (unbuilt spells none) = tt
+has_some (reached thin spells is) = tt
 
-pub met_note : (r : Reading) (status s : Status) (text : List ℕ) (a c d : Option (List ℕ)) → Has r (note status text) → s ≡ status
-    → Appends c d text → Meets r s a a c d
-met_note r status s text a c d has answers wrote = record {
+front_of : (r : Reading) (a b c d : Option (List ℕ)) → WritesFrontOf r a b c d → WritesNothingOrFront r a b c d
+front_of BadWords a b c d w = inr w
+front_of (Text settings text) a b c d w = inr w
+front_of TooLong a b c d w = inr w
+front_of ReadFault a b c d w = inr w
+front_of NoMemory a b c d w = absurd (has_some w.has)
+
+-- a note that was written makes its outcome, and where it wasn't all written, a front part of it
+pub noted_all : {S : Type 0} {taken : S → Option (List ℕ)} {faults : S → ℕ} {old new : S} {text : List ℕ} (result : Result Status SinkErr) (r : Reading) (status : Status)
+    (a : Option (List ℕ)) → HasOutcome r (note status text) → IfOk result (λ s. s ≡ status) → WritesText taken faults old new text result
+    → IfOk result (λ s. WritesOutcome r s a a (taken old) (taken new))
+noted_all {text = text} (Ok s) r status a has is wrote = record {
   outcome = note status text;
   has = has;
-  answers = sym answers;
+  answers = sym is;
   out = Appends-nil a;
-  notes = wrote;
+  notes = wrote.all;
 }
+noted_all (Err error) r status a has is wrote = tt
 
-pub noted_in_part : (r : Reading) (status : Status) (text : List ℕ) (a c d : Option (List ℕ)) → Has r (note status text)
-    → Began c d text → Stands r a a c d
-noted_in_part r status text a c d has wrote = inr (record { outcome = note status text; has = has; out = began_none a []; notes = wrote })
+pub noted_part : {S : Type 0} {taken : S → Option (List ℕ)} {faults : S → ℕ} {old new : S} {text : List ℕ} (result : Result Status SinkErr) (r : Reading) (status : Status)
+    (a : Option (List ℕ)) → HasOutcome r (note status text) → WritesText taken faults old new text result
+    → OnErr result (WritesNothingOrFront r a a (taken old) (taken new))
+noted_part (Ok s) r status a has wrote = tt
+noted_part {taken = taken} {old = old} {new = new} {text = text} (Err error) r status a has wrote =
+    front_of r a a (taken old) (taken new) (record { outcome = note status text; has = has; out = front_none a []; notes = wrote.part })
 
-pub met_ran : (text : List ℕ) (tree : PureTree) (thin : Thin) (stop : ℕ) (s : Status) (a b c d : Option (List ℕ)) → SpellsText text tree → IsThinTree tree thin
-    → s ≡ Done → Appends a b (trace_text thin stop) → Appends c d (notes_text thin stop) → Meets (Whole (Run stop) text) s a b c d
-met_ran text tree thin stop s a b c d spells is answers traced noted = record {
+pub ran_all : (text : List ℕ) (tree : PureTree) (thin : Thin) (stop : ℕ) (a b c d : Option (List ℕ)) → SpellsText text tree → IsThinTree tree thin
+    → Appends a b (trace_text thin stop) → Appends c d (notes_text thin stop) → WritesOutcome (Text (Run stop) text) Done a b c d
+ran_all text tree thin stop a b c d spells is traced noted = record {
   outcome = ran thin stop;
   has = reached thin spells is;
-  answers = sym answers;
+  answers = refl;
   out = traced;
   notes = noted;
 }
 
-pub ran_in_part : (text : List ℕ) (tree : PureTree) (thin : Thin) (stop : ℕ) (a b c d : Option (List ℕ)) → SpellsText text tree → IsThinTree tree thin
-    → Began a b (trace_text thin stop) → Began c d (notes_text thin stop) → Stands (Whole (Run stop) text) a b c d
-ran_in_part text tree thin stop a b c d spells is traced noted = inr (record { outcome = ran thin stop; has = reached thin spells is; out = traced; notes = noted })
+pub ran_part : (text : List ℕ) (tree : PureTree) (thin : Thin) (stop : ℕ) (a b c d : Option (List ℕ)) → SpellsText text tree → IsThinTree tree thin
+    → AppendsFront a b (trace_text thin stop) → AppendsFront c d (notes_text thin stop) → WritesNothingOrFront (Text (Run stop) text) a b c d
+ran_part text tree thin stop a b c d spells is traced noted = inr (record { outcome = ran thin stop; has = reached thin spells is; out = traced; notes = noted })
 
--- what `parse` says of a text, by the definitions of the outcome
-pub spells_text : (t : Tree) (text given : List ℕ) → given ≡ text → IsTreeOf t given → SpellsText text (pure_tree t)
-spells_text t text given same is = subst (λ (x : List ℕ). SpellsText x (pure_tree t)) same (record { clean = is.clean; spells = is.spelled })
+-- what holds for each text that spells a tree
+pub each_ok : {T E : Type 0} (result : Result T E) (tree : PureTree) (P : List ℕ → T → Type 0) → ((text : List ℕ) → SpellsText text tree → IfOk result (P text))
+    → IfOk result (λ s. (text : List ℕ) → SpellsText text tree → P text s)
+each_ok (Ok x) tree P all = all
+each_ok (Err error) tree P all = tt
 
-why_at : (e f : LangErr) (text given : List ℕ) → e ≡ f → given ≡ text → IsWhy e given → IsWhy f text
-why_at e f text given is same why = subst (λ (x : List ℕ). IsWhy f x) same (subst (λ (x : LangErr). IsWhy x given) is why)
-
-pub why_byte : (e : LangErr) (place : ℕ) (text given : List ℕ) → e ≡ refusal.Byte place → given ≡ text → IsWhy e given
-    → fault_of text ≡ Some (fault.Byte place)
-why_byte e place text given is same why = why_at e (refusal.Byte place) text given is same why
-
-pub why_long_line : (e : LangErr) (place : ℕ) (text given : List ℕ) → e ≡ refusal.LongLine place → given ≡ text → IsWhy e given
-    → fault_of text ≡ Some (fault.LongLine place)
-why_long_line e place text given is same why = why_at e (refusal.LongLine place) text given is same why
-
-pub why_syntax : (e : LangErr) (place : ℕ) (text given : List ℕ) → e ≡ refusal.Syntax place → given ≡ text → IsWhy e given
-    → HasSyntaxFault text place
-why_syntax e place text given is same why =
-    let at = why_at e (refusal.Syntax place) text given is same why in
-    record { clean = at.0; fault = at.1 }
+pub each_err : {T E : Type 0} (result : Result T E) (tree : PureTree) (P : List ℕ → Type 0) → ((text : List ℕ) → SpellsText text tree → OnErr result (P text))
+    → OnErr result ((text : List ℕ) → SpellsText text tree → P text)
+each_err (Ok x) tree P all = tt
+each_err (Err error) tree P all = all
 
 pub ruleset text_lemmas = (append_assoc, append-nil)

@@ -1,5 +1,9 @@
+pub use Rattle.tdf_base.specs.Fault
+pub use Rattle.tdf_blocks.specs.Refused
+pub use Rattle.tdf_io.specs.Bytes
+pub use Rattle.tdf_io.specs.Faults
+pub mod Input
 pub mod Outcome
-pub mod Reading
-pub mod Words
+pub mod Refusals
 pub mod Status
-pub mod Texts
+pub mod Words

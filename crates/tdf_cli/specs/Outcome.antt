@@ -1,21 +1,19 @@
 -- The outcome of the command: what it answers, and what it writes on its output and on its notes (own).
-use Rattle.std.specs.Prelude.{ℕ, ◌≡◌, ◌⊎◌, List, [], ◌++◌, Option, Some, codes}
-use Rattle.std.specs.Fmt.{decimal}
+use Rattle.std.specs.Prelude.{ℕ, ◌≡◌, ◌⊎◌, List, [], Option, codes}
 use Rattle.std.specs.Io.KnownBytes.{Appends, Keeps}
-use Rattle.tdf_io.specs.Bytes.{Began}
-use Rattle.tdf_lang.specs.declared.thin.Thin.{Thin}
-use Rattle.tdf_sim.specs.Ramp.{trace_text, notes_text}
-use Rattle.tdf_sim.specs.ThinTree.{IsThinTree}
-use Rattle.tdf_cli.specs.Texts.{SpellsText, HasSyntaxFault}
-use Rattle.tdf_tokens.specs.Text.{fault_of}
-use Rattle.tdf_tokens.specs.declared.text.TextFault.{TextFault}
-use Rattle.tdf_tokens.specs.declared.text.TextFault.TheVariants.{Byte, LongLine}
-use Rattle.tdf_tree.specs.Pure.{PureTree}
-use Rattle.tdf_cli.specs.Reading.{Reading, NotTaken, Whole, Long, Broken}
+use Rattle.tdf_base.specs.declared.faults.Fault.{Fault}
+use Rattle.tdf_blocks.specs.Refused.{SpellsText}
+use Rattle.tdf_cli.specs.Input.{Reading, BadWords, Text, TooLong, ReadFault, NoMemory}
+use Rattle.tdf_cli.specs.Refusals.{IsFirstFault, refusal_text, unbuilt_fault}
 use Rattle.tdf_cli.specs.declared.status.Status.{Status}
-use Rattle.tdf_cli.specs.declared.status.Status.TheVariants.{Done, Refused, Usage, ReadFault, TooLong}
+use Rattle.tdf_cli.specs.declared.status.Status.TheVariants as status
 use Rattle.tdf_cli.specs.declared.words.Settings.{Settings}
 use Rattle.tdf_cli.specs.declared.words.Settings.TheVariants.{Run}
+use Rattle.tdf_io.specs.Bytes.{AppendsFront}
+use Rattle.tdf_thin.specs.Ramp.{trace_text, notes_text}
+use Rattle.tdf_thin.specs.ThinTree.{IsThinTree}
+use Rattle.tdf_thin.specs.declared.model.Thin.{Thin}
+use Rattle.tdf_tree.specs.Pure.{PureTree}
 
 pub record Outcome : Type 0 where
   pub status : Status
@@ -26,54 +24,45 @@ pub record Outcome : Type 0 where
 abbrev pub note : Status → List ℕ → Outcome
 note status text = record { status = status; out = []; notes = text }
 
--- the note of a text that isn't taken: the code of its first fault, and the fault's line
-unfoldable pub refusal_text : List ℕ → ℕ → List ℕ
-refusal_text code place = codes "refused " ++ code ++ codes " line " ++ decimal place ++ codes "\n"
-
-abbrev pub refused : List ℕ → ℕ → Outcome
-refused code place = note Refused (refusal_text code place)
-
--- the first fault of bytes and line lengths
-abbrev pub refused_by : TextFault → Outcome
-refused_by (Byte place) = refused (codes "BYTE") place
-refused_by (LongLine place) = refused (codes "LONG_LINE") place
+-- the text has a fault
+abbrev pub refused : Fault → Outcome
+refused fault = note status.Refused (refusal_text fault)
 
 -- a run that reached its stop
 abbrev pub ran : Thin → ℕ → Outcome
-ran thin stop = record { status = Done; out = trace_text thin stop; notes = notes_text thin stop }
+ran thin stop = record { status = status.Done; out = trace_text thin stop; notes = notes_text thin stop }
 
--- what comes of a reading has this outcome, case by case
-pub data Has : Reading → Outcome → Type 0 where
-  usage : Has NotTaken (note Usage (codes "usage\n"))
-  read_fault : Has Broken (note ReadFault (codes "read fault\n"))
-  too_long : Has Long (note TooLong (codes "too long\n"))
-  bytes : {settings : Settings} {text : List ℕ} {fault : TextFault} → fault_of text ≡ Some fault → Has (Whole settings text) (refused_by fault)
-  syntax : {settings : Settings} {text : List ℕ} {place : ℕ} → HasSyntaxFault text place → Has (Whole settings text) (refused (codes "SYNTAX") place)
+-- what comes of a reading has this outcome, case by case; being out of memory has none
+pub data HasOutcome : Reading → Outcome → Type 0 where
+  usage : HasOutcome BadWords (note status.Usage (codes "usage\n"))
+  read_fault : HasOutcome ReadFault (note status.ReadFault (codes "read fault\n"))
+  too_long : HasOutcome TooLong (note status.TooLong (codes "too long\n"))
+  faulty : {settings : Settings} {text : List ℕ} {fault : Fault} → IsFirstFault text fault → HasOutcome (Text settings text) (refused fault)
   unbuilt : {stop : ℕ} {text : List ℕ} {tree : PureTree} → SpellsText text tree → ((thin : Thin) → IsThinTree tree thin → ⊥)
-      → Has (Whole (Run stop) text) (note Refused (codes "refused UNBUILT\n"))
+      → HasOutcome (Text (Run stop) text) (refused unbuilt_fault)
   reached : {stop : ℕ} {text : List ℕ} {tree : PureTree} (thin : Thin) → SpellsText text tree → IsThinTree tree thin
-      → Has (Whole (Run stop) text) (ran thin stop)
+      → HasOutcome (Text (Run stop) text) (ran thin stop)
 
 -- the answer and the bytes that both sinks gained are those of the outcome
-pub record Meets (r : Reading) (status : Status) (out_old out_new notes_old notes_new : Option (List ℕ)) : Type 0 where
+pub record WritesOutcome (r : Reading) (answer : Status) (out_old out_new notes_old notes_new : Option (List ℕ)) : Type 0 where
   pub outcome : Outcome
-  pub has : Has r outcome
-  pub answers : outcome.status ≡ status
+  pub has : HasOutcome r outcome
+  pub answers : outcome.status ≡ answer
   pub out : Appends out_old out_new outcome.out
   pub notes : Appends notes_old notes_new outcome.notes
 
 -- both sinks gained front parts of the texts of the outcome
-pub record MetInPart (r : Reading) (out_old out_new notes_old notes_new : Option (List ℕ)) : Type 0 where
+pub record WritesFrontOf (r : Reading) (out_old out_new notes_old notes_new : Option (List ℕ)) : Type 0 where
   pub outcome : Outcome
-  pub has : Has r outcome
-  pub out : Began out_old out_new outcome.out
-  pub notes : Began notes_old notes_new outcome.notes
+  pub has : HasOutcome r outcome
+  pub out : AppendsFront out_old out_new outcome.out
+  pub notes : AppendsFront notes_old notes_new outcome.notes
 
--- nothing was written, or both sinks gained front parts of the texts of the outcome
-abbrev pub Stands : Reading → Option (List ℕ) → Option (List ℕ) → Option (List ℕ) → Option (List ℕ) → Type 0
-Stands r out_old out_new notes_old notes_new =
-    (Keeps out_old out_new × Keeps notes_old notes_new) ⊎ MetInPart r out_old out_new notes_old notes_new
+-- nothing was written, or, where the text could be read, both sinks gained front parts of the texts of the outcome
+abbrev pub WritesNothingOrFront : Reading → (out_old out_new notes_old notes_new : Option (List ℕ)) → Type 0
+WritesNothingOrFront NoMemory a b c d = Keeps a b × Keeps c d
+WritesNothingOrFront r a b c d = (Keeps a b × Keeps c d) ⊎ WritesFrontOf r a b c d
 
--- what came of the words and of reading has at most one outcome
+-- what comes of a reading has at most one outcome
 abbrev pub HasOneOutcome : Type 0
-HasOneOutcome = (r : Reading) (one other : Outcome) → Has r one → Has r other → one ≡ other
+HasOneOutcome = (r : Reading) (one other : Outcome) → HasOutcome r one → HasOutcome r other → one ≡ other

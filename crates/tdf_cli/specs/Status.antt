@@ -1,4 +1,4 @@
--- The numbers of the answers.
+-- The numbers of the answers (own).
 use Rattle.std.specs.Prelude.{ℕ}
 use Rattle.tdf_cli.specs.declared.status.Status.{Status}
 use Rattle.tdf_cli.specs.declared.status.Status.TheVariants.{Done, Refused, Usage, ReadFault, TooLong}
@@ -9,3 +9,11 @@ number_of Refused = 1
 number_of Usage = 2
 number_of ReadFault = 3
 number_of TooLong = 8
+
+-- a write failed
+abbrev pub write_fault : ℕ
+write_fault = 4
+
+-- out of memory
+abbrev pub no_memory : ℕ
+no_memory = 7

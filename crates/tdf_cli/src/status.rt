@@ -2,14 +2,14 @@
 
 ghost use Rattle.std.specs.Prelude.{◌≡◌};
 
-/// What the command answers, but for a failed write and want of memory.
+/// What the command answers, but for a failed write and where it is out of memory.
 #[derive(Clone, Copy, Debug, PartialEq, Eq)]
 pub(crate) enum Status {
     /// The job is done.
     Done,
     /// The text has a fault.
     Refused,
-    /// The words aren't taken.
+    /// The words are not accepted.
     Usage,
     /// A read failed.
     ReadFault,
@@ -18,10 +18,13 @@ pub(crate) enum Status {
 }
 
 /// The answer of a failed write.
-pub(crate) const WRITE_FAULT: u8 = 4;
+pub const WRITE_FAULT: u8 = 4;
 
-/// The answer of want of memory.
-pub(crate) const NO_MEMORY: u8 = 7;
+/// The answer where it is out of memory.
+pub const NO_MEMORY: u8 = 7;
+
+/// The answer to words that are not accepted.
+pub const USAGE: u8 = 2;
 
 impl Status {
     ghost use Rattle.tdf_cli.specs.Status.{number_of};

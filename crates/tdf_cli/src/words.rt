@@ -3,7 +3,7 @@
 ghost use Rattle.std.specs.Prelude.{◌≡◌, IfSome};
 ghost use Rattle.tdf_cli.specs.Words.{texts, settings_of, StopsEarly};
 
-use tdf_fixed::read_time;
+use tdf_base::read_time;
 
 /// What the words ask for.
 #[derive(Clone, Copy, Debug, PartialEq, Eq)]
@@ -15,9 +15,9 @@ pub enum Settings {
     },
 }
 
-/// What the words ask for, where they are taken: `run --stop TIME` and nothing else.
+/// What the words ask for, where they are accepted: `run --stop TIME` and nothing else.
 #[tactic(auto, unfolding(crate::specs::Words::settings_of))]
-pub(crate) fn asked(words: &[String]) -> Option<Settings>
+pub(crate) fn read_words(words: &[String]) -> Option<Settings>
     ensures value { result ≡ settings_of (texts words.now) }
     ensures early { IfSome result StopsEarly }
 {

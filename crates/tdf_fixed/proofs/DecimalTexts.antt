@@ -3,12 +3,14 @@ use Rattle.std.proofs.Common.{◌≡◌, ℕ, suc, ◌+◌, ◌*◌, ◌/◌, �
 use Rattle.std.proofs.Math.Nat.{eq-zero-or-pos, zero-mul, div-le_self, mul-lt-mul_of_pos_right}
 use Rattle.std.proofs.lemmas.Nat.{same_from_place, div-add-mod', mod_below, mul-pow, pow_pos}
 use Rattle.std.specs.Fmt.{decimal}
-use Rattle.tdf_fixed.specs.Decimal.{fraction_digits, fraction_text, magnitude_text, value_text, seconds_text}
-use Rattle.tdf_fixed.specs.DecimalLaws.{behind_point, IsMagnitude, IsValueText, IsTimeText}
-use Rattle.tdf_fixed.specs.Digits.{number}
+use Rattle.tdf_fixed.specs.Decimal.{fraction_digits, fraction_text, magnitude_text, places_of, value_text, seconds_text, seconds_text_at}
+use Rattle.tdf_base.specs.Spelling.{after_point}
+use Rattle.tdf_fixed.specs.DecimalLaws.{IsMagnitude, IsValueText, IsTimeText}
+use Rattle.tdf_base.specs.Digits.{number}
 use Rattle.tdf_fixed.proofs.FractionParts.{IsFraction, fraction_right, only_fraction}
 use Rattle.tdf_fixed.proofs.Fractions.{fraction_none, fraction_some, fraction_stop}
-use Rattle.tdf_fixed.proofs.WholeParts.{number_below, same_whole, whole_decimal, number_decimal}
+use Rattle.tdf_base.proofs.Api.{number_below, number_decimal, power_some}
+use Rattle.tdf_fixed.proofs.WholeParts.{same_whole, whole_decimal}
 
 -- whole and fraction of n/d, by their values
 split_value : (w f n d p : ℕ) → 0 < d → 0 < p → f < p → (w * p + f) * d ≡ n * p → (w ≡ n / d) × (f * d ≡ (n % d) * p)
@@ -22,7 +24,7 @@ split_value w f n d p some wide less is =
     let spread : ((n / d) * d + n % d) * p ≡ (n / d) * (p * d) + (n % d) * p = grind arith in
     left ∙ is ∙ parts ∙ spread)
 
-join_value : (w f n d p : ℕ) → w ≡ n / d → f * d ≡ (n % d) * p → (w * p + f) * d ≡ n * p
+pub join_value : (w f n d p : ℕ) → w ≡ n / d → f * d ≡ (n % d) * p → (w * p + f) * d ≡ n * p
 join_value w f n d p whole rest =
     let spread : (w * p + f) * d ≡ (w * d) * p + f * d = grind arith in
     let first : (w * d) * p ≡ (n / d * d) * p = ap (λ x. (x * d) * p) whole in
@@ -31,18 +33,18 @@ join_value w f n d p whole rest =
     omega arith
 
 -- the point stands in front of digits alone
-behind_some : (digits : List ℕ) → 0 < length digits → behind_point digits ≡ 46 ∷ digits
-behind_some [] some = absurd (omega arith)
-behind_some (c ∷ cs) some = refl
+after_some : (digits : List ℕ) → 0 < length digits → after_point digits ≡ 46 ∷ digits
+after_some [] some = absurd (omega arith)
+after_some (c ∷ cs) some = refl
 
 fraction_length : (digits : List ℕ) (rest d : ℕ) → 0 < d → 0 < rest → IsFraction digits rest d → 0 < length digits
 fraction_length [] rest d some more h = absurd (omega (arith, h.value, zero-mul d))
 fraction_length (c ∷ cs) rest d some more h = omega arith
 
-fraction_is_behind : (room rest d : ℕ) → 0 < d → IsFraction (fraction_digits room rest d) rest d → fraction_text room rest d ≡ behind_point (fraction_digits room rest d)
+pub fraction_is_behind : (room rest d : ℕ) → 0 < d → IsFraction (fraction_digits room rest d) rest d → fraction_text room rest d ≡ after_point (fraction_digits room rest d)
 fraction_is_behind room rest d some h = ⊎_elim
-    (λ (none : rest ≡ 0). fraction_none room rest d none ∙ ap behind_point (sym (fraction_stop room rest d none)))
-    (λ (more : 0 < rest). fraction_some room rest d more ∙ sym (behind_some (fraction_digits room rest d) (fraction_length (fraction_digits room rest d) rest d some more h)))
+    (λ (none : rest ≡ 0). fraction_none room rest d none ∙ ap after_point (sym (fraction_stop room rest d none)))
+    (λ (more : 0 < rest). fraction_some room rest d more ∙ sym (after_some (fraction_digits room rest d) (fraction_length (fraction_digits room rest d) rest d some more h)))
     (eq-zero-or-pos rest)
 
 -- ---- without a sign
@@ -70,25 +72,29 @@ magnitude_only text room n d q some small enough h =
     let right = fraction_right room (n % d) d some (mod_below n d some) q enough in
     let whole = same_whole h.whole (decimal (n / d)) h.plain (whole_decimal (n / d) small) (parts.0 ∙ sym (number_decimal (n / d) small)) in
     let fraction = only_fraction h.fraction (fraction_digits room (n % d) d) (n % d) d some (record { all = h.all; ends = h.ends; value = parts.1 }) right in
-    h.spells ∙ ap (λ w. w ++ behind_point h.fraction) whole ∙ ap (λ f. decimal (n / d) ++ behind_point f) fraction
+    h.spells ∙ ap (λ w. w ++ after_point h.fraction) whole ∙ ap (λ f. decimal (n / d) ++ after_point f) fraction
     ∙ ap (λ t. decimal (n / d) ++ t) (sym (fraction_is_behind room (n % d) d some right))
 
 -- ---- times
 
-small_seconds : (time : ℕ) → time < 2 ^ 64 → time / 10 ^ 12 < 10 ^ 64
-small_seconds time small = omega arith
+small_seconds : (time k : ℕ) → time < 2 ^ 64 → time / 10 ^ k < 10 ^ 64
+small_seconds time k small = omega (arith, div-le_self time (10 ^ k))
+
+time_by : (k : ℕ) (text : List ℕ) (time : ℕ) → 0 < 10 ^ k → time < 2 ^ 64
+    → IsMagnitude text time (10 ^ k) ↔ (text ≡ magnitude_text k time (10 ^ k))
+time_by k text time some small = (
+  (λ h. magnitude_only text k time (10 ^ k) (time % 10 ^ k) some (small_seconds time k small) refl h),
+  (λ e. subst (λ t. IsMagnitude t time (10 ^ k)) (sym e) (magnitude_is k time (10 ^ k) (time % 10 ^ k) some (small_seconds time k small) refl)),
+)
 
 pub time_text : IsTimeText
-unfolding seconds_text
-time_text text time small = (
-  (λ h. magnitude_only text 12 time (10 ^ 12) (time % 10 ^ 12) (omega arith) (small_seconds time small) refl h),
-  (λ e. subst (λ t. IsMagnitude t time (10 ^ 12)) (sym e) (magnitude_is 12 time (10 ^ 12) (time % 10 ^ 12) (omega arith) (small_seconds time small) refl)),
-)
+unfolding seconds_text seconds_text_at
+time_text resolution text time small = (time_by (places_of resolution) text time (power_some (places_of resolution)) small, refl)
 
 -- ---- values
 
 -- frac digits are enough: 10 ^ frac is 5 ^ frac times 2 ^ frac
-room_of : (rest frac : ℕ) → (rest * 5 ^ frac) * 2 ^ frac ≡ rest * 10 ^ frac
+pub room_of : (rest frac : ℕ) → (rest * 5 ^ frac) * 2 ^ frac ≡ rest * 10 ^ frac
 room_of rest frac =
     let power : (5 * 2) ^ frac ≡ 5 ^ frac * 2 ^ frac = mul-pow 5 2 frac in
     let turned : (rest * 5 ^ frac) * 2 ^ frac ≡ rest * (5 ^ frac * 2 ^ frac) = grind arith in

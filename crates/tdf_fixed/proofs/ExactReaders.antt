@@ -1,4 +1,4 @@
--- The exact value is the one at the least count of fraction bits; where ten to the digits behind the point doesn't give one,
+-- The exact value is the one at the least count of fraction bits; where ten to the digits after the point doesn't give one,
 -- no count does, since a power of five is odd.
 use Rattle.std.proofs.Common.{◌≡◌, ℕ, zero, suc, ◌+◌, ◌-◌, ◌*◌, ◌/◌, ◌%◌, ◌^◌, ◌<◌, ◌≤◌, Bool, true, false, nat_eq, Option, Some, None, length, ℤ, pos, ◌*ℤ◌, ⊎_elim, refl, sym, ap, ◌∙◌, subst, arith}
 use Rattle.std.proofs.Math.Nat.{pow-suc, mul_assoc}
@@ -6,13 +6,13 @@ use Rattle.std.proofs.lemmas.Bool.{cases_Bool, cases_eq, eqb-true, eqb-false}
 use Rattle.std.proofs.lemmas.Int.{unsigned_abs-mul}
 use Rattle.std.proofs.lemmas.Nat.{div-add-mod', mul-pow}
 use Rattle.std.specs.Prelude.{unsigned_abs}
-use Rattle.tdf_fixed.specs.Digits.{number}
+use Rattle.tdf_base.specs.Digits.{number}
 use Rattle.tdf_fixed.specs.Literal.{Literal, literal_count, literal_parts, literal_exact, least_of, exact_at, signed_number}
-use Rattle.tdf_fixed.specs.Number.{scaled_count}
+use Rattle.tdf_base.specs.Number.{scaled_count}
 use Rattle.tdf_fixed.specs.Spelling.{IsWholeAt, IsExact, ReadsExactly}
 use Rattle.tdf_fixed.proofs.Placed.{all_parts}
-use Rattle.tdf_fixed.proofs.Powers.{power_some}
-use Rattle.tdf_fixed.proofs.Quotients.{of_parts, times_mod}
+use Rattle.tdf_base.proofs.Api.{power_some}
+use Rattle.tdf_base.proofs.Api.{of_parts, times_mod}
 use Rattle.tdf_fixed.proofs.Scaling.{negative_times}
 
 -- ---- the least count

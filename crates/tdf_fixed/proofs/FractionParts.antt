@@ -1,4 +1,4 @@
--- The digits behind a point are right, and no others are.
+-- The digits after a point are right, and no others are.
 use Rattle.std.proofs.Common.{◌≡◌, ℕ, zero, suc, ◌+◌, ◌-◌, ◌*◌, ◌/◌, ◌%◌, ◌^◌, ◌<◌, ◌≤◌, true, false, nat_eq, List, [], ◌∷◌, length, ⊎_elim, refl, sym, ap, ◌∙◌, arith}
 use Rattle.std.proofs.Math.Nat.{pow-suc, zero-mul, suc-mul, eq-zero-or-pos, le_of_mul-le-mul_right, mul-le-mul_right, mul-lt-mul_of_pos_right}
 use Rattle.std.proofs.lemmas.Bool.{and_parts, and_from}
@@ -7,8 +7,8 @@ use Rattle.std.proofs.lemmas.Nat.{same_from_place, div-add-mod', mod_below, div_
 use Rattle.std.specs.List.{list_all}
 use Rattle.tdf_fixed.specs.Decimal.{fraction_digits}
 use Rattle.tdf_fixed.specs.DecimalLaws.{EndsWell}
-use Rattle.tdf_fixed.specs.Digits.{is_digit, number}
-use Rattle.tdf_fixed.proofs.WholeParts.{digit_small, number_below, same_digit}
+use Rattle.tdf_base.specs.Digits.{is_digit, number}
+use Rattle.tdf_base.proofs.Api.{digit_small, number_below, same_digit}
 
 -- digits of the number rest/d, below 1
 pub record IsFraction (digits : List ℕ) (rest d : ℕ) : Type 0 where

@@ -2,10 +2,16 @@
 use Rattle.std.proofs.Common.{◌≡◌, ℕ, zero, suc, ◌+◌, ◌-◌, ◌*◌, ◌/◌, ◌%◌, ◌^◌, ◌<◌, ◌≤◌, true, false, nat_eq, List, [], ◌∷◌, ◌++◌, refl, ap, append_assoc, append-nil, arith, ℤ, pos, negsuc, ◌≤ℤ◌, ◌<ℤ◌}
 use Rattle.std.proofs.lemmas.Bool.{ne_eqb}
 use Rattle.std.proofs.lemmas.List.{take-append-le}
+use Rattle.std.proofs.lemmas.Fmt.{decimal_digit}
 use Rattle.std.proofs.lemmas.Int.{ints}
 use Rattle.std.specs.Fmt.{decimal}
 use Rattle.std.specs.Prelude.{unsigned_abs}
-use Rattle.tdf_fixed.specs.Decimal.{fraction_digits, fraction_text, magnitude_text, seconds_text, value_text}
+use Rattle.tdf_fixed.specs.Decimal.{fraction_digits, fraction_text, magnitude_text, places_of, seconds_text, seconds_text_at, value_text}
+use Rattle.tdf_base.specs.declared.resolution.Resolution.{Resolution}
+use Rattle.tdf_base.specs.declared.resolution.Resolution.TheVariants.{Ps}
+
+pub one_digit : (n : ℕ) → n < 10 → decimal n ≡ (48 + n) ∷ []
+one_digit n small = decimal_digit n small
 
 -- there is no room
 pub fraction_end : (n rest d : ℕ) → n ≡ 0 → fraction_digits n rest d ≡ []
@@ -42,9 +48,14 @@ pub magnitude_parts : (room n d : ℕ) → magnitude_text room n d ≡ decimal (
 unfolding magnitude_text
 magnitude_parts room n d = refl
 
-pub seconds_parts : (time : ℕ) → seconds_text time ≡ decimal (time / 10 ^ 12) ++ fraction_text 12 (time % 10 ^ 12) (10 ^ 12)
-unfolding seconds_text magnitude_text
-seconds_parts time = refl
+pub seconds_parts : (resolution : Resolution) (time : ℕ) → seconds_text_at resolution time
+    ≡ decimal (time / 10 ^ places_of resolution) ++ fraction_text (places_of resolution) (time % 10 ^ places_of resolution) (10 ^ places_of resolution)
+unfolding seconds_text_at magnitude_text
+seconds_parts resolution time = refl
+
+pub seconds_in_picoseconds : (time : ℕ) → seconds_text_at Ps time ≡ seconds_text time
+unfolding seconds_text_at seconds_text
+seconds_in_picoseconds time = refl
 
 pub value_up : (num : ℤ) (frac : ℕ) → pos 0 ≤ℤ num → value_text num frac ≡ magnitude_text frac (unsigned_abs num) (2 ^ frac)
 unfolding value_text

@@ -1,4 +1,6 @@
+pub mod Api
 pub mod BitTexts
+pub mod CutDigits
 pub mod DecimalTexts
 pub mod ExactReaders
 pub mod Exacts
@@ -6,13 +8,11 @@ pub mod FractionParts
 pub mod Fractions
 pub mod Orders
 pub mod Placed
-pub mod Places
-pub mod Powers
-pub mod Quotients
 pub mod Ranges
 pub mod Readers
 pub mod Scaling
-pub mod TimeBounds
-pub mod TimeReaders
+pub mod Shorts
+pub mod ReadBack
+pub mod ValueLaws
 pub mod WholeParts
 pub mod Wraps

@@ -19,7 +19,7 @@ up_grows RndMinInf negative odd s t d le up = grind (arith, nat_tests)
 up_grows RndInf negative odd s t d le up = grind (arith, nat_tests)
 up_grows RndConv negative odd s t d le up = grind (arith, nat_tests)
 
-settled_low : (quant : Quant) (negative : Bool) (whole : ℤ) (rest d : ℕ) → whole ≤ℤ settled quant negative whole rest d
+pub settled_low : (quant : Quant) (negative : Bool) (whole : ℤ) (rest d : ℕ) → whole ≤ℤ settled quant negative whole rest d
 unfolding settled
 settled_low quant negative whole rest d =
     elim (nat_eq rest 0) as (λ b. whole ≤ℤ (if b then whole else if goes_up quant negative (is_odd whole) (2 * rest) d then whole +ℤ pos 1 else whole)) [
@@ -28,7 +28,7 @@ settled_low quant negative whole rest d =
           [ true ↦ omega (arith, ints) | false ↦ omega (arith, ints) ]
     ]
 
-settled_high : (quant : Quant) (negative : Bool) (whole : ℤ) (rest d : ℕ) → settled quant negative whole rest d ≤ℤ (whole +ℤ pos 1)
+pub settled_high : (quant : Quant) (negative : Bool) (whole : ℤ) (rest d : ℕ) → settled quant negative whole rest d ≤ℤ (whole +ℤ pos 1)
 unfolding settled
 settled_high quant negative whole rest d =
     elim (nat_eq rest 0) as (λ b. (if b then whole else if goes_up quant negative (is_odd whole) (2 * rest) d then whole +ℤ pos 1 else whole) ≤ℤ (whole +ℤ pos 1)) [

@@ -5,7 +5,7 @@ use Rattle.std.proofs.lemmas.Nat.{div-add-mod', mod_below}
 use Rattle.tdf_fixed.specs.Literal.{placed_fraction}
 use Rattle.tdf_fixed.specs.Quantise.{settled, quantised}
 use Rattle.tdf_fixed.specs.declared.quant.Quant.{Quant}
-use Rattle.tdf_fixed.proofs.Quotients.{of_parts, times_div, times_mod}
+use Rattle.tdf_base.proofs.Api.{of_parts, times_div, times_mod}
 use Rattle.tdf_fixed.proofs.Scaling.{negative_times}
 
 -- below 0, between two neighbours

@@ -5,8 +5,10 @@ use Rattle.std.proofs.lemmas.Bool.{cases_lt, lt-ltb, le-ltb}
 use Rattle.std.proofs.lemmas.Int.{ints, clamps}
 use Rattle.std.proofs.lemmas.Nat.{mod_below, pow_pos}
 use Rattle.std.specs.Prelude.{unsigned_abs}
+use Rattle.tdf_fixed.specs.Cast.{cast_of, fraction_of}
+use Rattle.tdf_fixed.specs.declared.format.Format.{Format}
 use Rattle.tdf_fixed.specs.Overflow.{wrapped, wrapped_signed, overflowed, IsIn}
-use Rattle.tdf_fixed.specs.Quantise.{above_by}
+use Rattle.tdf_fixed.specs.Quantise.{above_by, placed}
 use Rattle.tdf_fixed.specs.declared.over.Over.{Over}
 use Rattle.tdf_fixed.specs.declared.over.Over.TheVariants.{Wrap, Sat, SatZero, SatSym}
 
@@ -35,6 +37,10 @@ in_range SatZero true wl z some = let h = pow_pos (wl - 1) in record { low = gri
 in_range SatZero false wl z some = let h = pow_pos wl in record { low = grind (arith, ints); high = grind (arith, ints) }
 in_range SatSym true wl z some = let h = pow_pos (wl - 1) in record { low = omega (arith, ints, clamps); high = omega (arith, ints, clamps) }
 in_range SatSym false wl z some = let h = pow_pos wl in record { low = omega (arith, ints, clamps); high = omega (arith, ints, clamps) }
+
+pub cast_in : (f : Format) (num : ℤ) (frac : ℕ) → IsIn f.signed f.wl (cast_of f num frac)
+unfolding cast_of
+cast_in f num frac = in_range f.over f.signed f.wl (placed f.quant num frac (fraction_of f)) f.some_bits
 
 -- a number of the range by its bits: below 2 ^ wl, and at most 2 ^ (wl - 1) where it has a sign
 pub in_width : (signed : Bool) (wl : ℕ) (z : ℤ) → 1 ≤ wl → IsIn signed wl z → unsigned_abs z < 2 ^ wl

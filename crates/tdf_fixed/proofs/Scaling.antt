@@ -7,7 +7,7 @@ use Rattle.std.proofs.lemmas.Nat.{div-add-mod', mod_below, mul-add-lt, pow_pos, 
 use Rattle.tdf_fixed.specs.Quantise.{below, above_by, is_negative, is_odd, goes_up, settled, quantised, placed}
 use Rattle.tdf_fixed.specs.declared.quant.Quant.{Quant}
 use Rattle.tdf_fixed.specs.declared.quant.Quant.TheVariants.{Trn, TrnZero, Rnd, RndZero, RndMinInf, RndInf, RndConv}
-use Rattle.tdf_fixed.proofs.Quotients.{of_parts}
+use Rattle.tdf_base.proofs.Api.{of_parts}
 
 -- ---- quotients
 

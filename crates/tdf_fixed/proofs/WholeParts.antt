@@ -1,47 +1,13 @@
 -- Digits without leading zeros are the one text of their number.
-use Rattle.std.proofs.Common.{◌≡◌, ◌≢◌, ℕ, suc, ◌+◌, ◌-◌, ◌*◌, ◌/◌, ◌%◌, ◌^◌, ◌<◌, ◌≤◌, true, List, [], ◌∷◌, ◌++◌, length, get_or, ⊎_elim, refl, sym, ap, ◌∙◌, subst, arith, rules, length-append, ◌⊎◌}
-use Rattle.std.proofs.Math.Nat.{pow-suc, pow-le-pow_right, mul-le-mul_right}
+use Rattle.std.proofs.Common.{◌≡◌, ◌≢◌, ℕ, suc, ◌+◌, ◌-◌, ◌*◌, ◌/◌, ◌%◌, ◌^◌, ◌<◌, ◌≤◌, true, List, [], ◌∷◌, ◌++◌, length, get_or, ⊎_elim, refl, sym, ◌∙◌, arith, length-append, ◌⊎◌}
+use Rattle.std.proofs.Math.Nat.{pow-le-pow_right, mul-le-mul_right}
 use Rattle.std.proofs.lemmas.Bool.{and_parts, cases_order}
-use Rattle.std.proofs.lemmas.Bool.Decides.{nat_tests}
 use Rattle.std.proofs.lemmas.Fmt.{decimal_is_IsNumeral_wide, decimal_by_steps_wide}
-use Rattle.std.proofs.lemmas.Nat.{same_from_place, mul-add-lt}
-use Rattle.std.proofs.lemmas.Str.Parse.{IsNumeralModel, numerals_by_weight}
 use Rattle.std.specs.Fmt.{decimal}
 use Rattle.std.specs.List.{list_all}
 use Rattle.tdf_fixed.specs.DecimalLaws.{IsWholePart}
-use Rattle.tdf_fixed.specs.Digits.{is_digit, number}
-
--- std's words for digits and their number
-pub own : IsNumeralModel (λ ds. list_all is_digit ds ≡ true) number
-own = numerals_by_weight (λ ds. list_all is_digit ds ≡ true) (search (rules, nat_tests)) number (search rules)
-
-pub digit_small : (c : ℕ) → is_digit c ≡ true → (48 ≤ c) × (c - 48 < 10)
-digit_small c e = grind (arith, nat_tests)
-
-pub number_below : (ds : List ℕ) → list_all is_digit ds ≡ true → number ds < 10 ^ length ds
-number_below [] all = omega arith
-number_below (c ∷ cs) all =
-    let both = and_parts (is_digit c) (list_all is_digit cs) all in
-    rw (pow-suc 10 (length cs)) (mul-add-lt (c - 48) (10 ^ length cs) (number cs) 10 (digit_small c both.0).1 (number_below cs both.1))
-
-pub same_digit : (c e : ℕ) → 48 ≤ c → 48 ≤ e → c - 48 ≡ e - 48 → c ≡ e
-same_digit c e h k same = omega arith
-
-pub same_digits : (ds es : List ℕ) → length ds ≡ length es → list_all is_digit ds ≡ true → list_all is_digit es ≡ true → number ds ≡ number es → ds ≡ es
-same_digits [] [] long d e n = refl
-same_digits [] (x ∷ xs) long d e n = absurd (omega arith)
-same_digits (c ∷ cs) [] long d e n = absurd (omega arith)
-same_digits (c ∷ cs) (x ∷ xs) long d e n =
-    let first = and_parts (is_digit c) (list_all is_digit cs) d in
-    let other = and_parts (is_digit x) (list_all is_digit xs) e in
-    let same : length cs ≡ length xs = omega arith in
-    let power : 10 ^ length cs ≡ 10 ^ length xs = ap (λ k. 10 ^ k) same in
-    let less : number cs < 10 ^ length xs = subst (λ k. number cs < 10 ^ k) same (number_below cs first.1) in
-    let both = same_from_place (c - 48) (number cs) (x - 48) (number xs) (10 ^ length xs) less (number_below xs other.1)
-    (ap (λ p. (c - 48) * p + number cs) (sym power) ∙ n) in
-    let head = same_digit c x (digit_small c first.0).0 (digit_small x other.0).0 both.0 in
-    let tail = same_digits cs xs same first.1 other.1 both.1 in
-    (cc)
+use Rattle.tdf_base.specs.Digits.{is_digit, number}
+use Rattle.tdf_base.proofs.Api.{own, digit_small, number_below, same_digits}
 
 -- a first digit above 0 gives its place
 number_above : (ds : List ℕ) → 0 < length ds → list_all is_digit ds ≡ true → get_or ds 0 0 ≢ 48 → 10 ^ (length ds - 1) ≤ number ds
@@ -103,7 +69,3 @@ whole_decimal n small =
       some = numeral.0.0;
       plain = λ first. ((plain_decimal n small).alone first).0;
     }
-
-pub number_decimal : (n : ℕ) → n < 10 ^ 64 → number (decimal n) ≡ n
-number_decimal n small =
-    let numeral = decimal_is_IsNumeral_wide n small in own.same (decimal n) numeral.0.1 ∙ numeral.1

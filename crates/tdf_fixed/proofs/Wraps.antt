@@ -30,7 +30,7 @@ neighbours n d some = (parts_again n d some, above_below n d some)
 one_less : (b d : ℕ) → negsuc b *ℤ pos d ≡ negsuc (suc b) *ℤ pos d +ℤ pos d
 one_less b d = omega (arith, ints, suc-mul b d, suc-mul (suc b) d)
 
-one_more : (b : ℤ) (d : ℕ) → (b +ℤ pos 1) *ℤ pos d ≡ b *ℤ pos d +ℤ pos d
+pub one_more : (b : ℤ) (d : ℕ) → (b +ℤ pos 1) *ℤ pos d ≡ b *ℤ pos d +ℤ pos d
 one_more (pos b) d = let wide : (b + 1) * d ≡ b * d + d = grind arith in ap pos wide
 one_more (negsuc zero) d = omega (arith, ints, zero-mul d, suc-mul zero d)
 one_more (negsuc (suc b)) d =

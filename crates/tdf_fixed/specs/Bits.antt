@@ -1,4 +1,4 @@
--- The bits of two's complement as text. Own.
+-- The bits of two's complement as text (own).
 use Rattle.std.specs.Prelude.{ℕ, zero, suc, ◌+◌, ◌^◌, List, [], ◌∷◌, ℤ}
 use Rattle.tdf_fixed.specs.Quantise.{below, above_by}
 

@@ -1,4 +1,4 @@
--- A cast: rounding first, overflow second. IEEE 1666-2011, fixed-point types.
+-- A cast: rounding first, overflow second (IEEE 1666-2011, 7.10).
 use Rattle.std.specs.Prelude.{ℕ, ◌-◌, ◌≤◌, ℤ}
 use Rattle.tdf_fixed.specs.Overflow.{overflowed}
 use Rattle.tdf_fixed.specs.Quantise.{placed}
@@ -11,7 +11,7 @@ pub record IsLegal (wl iwl : ℕ) : Type 0 where
   pub whole_bits : iwl ≤ wl
   pub fraction_bits : wl - iwl ≤ 63
 
--- the bits behind the point of a format
+-- the bits after the point of a format
 abbrev pub fraction_of : Format → ℕ
 fraction_of f = f.wl - f.iwl
 

@@ -3,11 +3,9 @@ pub mod Cast
 pub mod CastLaws
 pub mod Decimal
 pub mod DecimalLaws
-pub mod Digits
 pub mod Literal
-pub mod Number
 pub mod Overflow
 pub mod Quantise
 pub mod Sides
 pub mod Spelling
-pub mod Time
+pub mod Zeros

@@ -1,7 +1,9 @@
--- Rounding a fraction n/d to a whole number. IEEE 1666-2011, fixed-point types, quantization modes.
-use Rattle.std.specs.Prelude.{ℕ, ◌-◌, ◌*◌, ◌/◌, ◌%◌, ◌^◌, Bool, true, false, not, ◌&&◌, ◌||◌, nat_eq, nat_lt, nat_le, if◌then◌else◌, ℤ, pos, negsuc, ◌+ℤ◌, ◌*ℤ◌}
+-- Rounding a fraction n/d to a whole number: quantization modes (IEEE 1666-2011, 7.10).
+use Rattle.std.specs.Prelude.{ℕ, ◌-◌, ◌*◌, ◌/◌, ◌%◌, ◌^◌, Bool, true, false, not, ◌&&◌, ◌||◌}
+use Rattle.std.specs.Prelude.{nat_eq, nat_lt, nat_le, if◌then◌else◌, ℤ, pos, negsuc, ◌+ℤ◌, ◌*ℤ◌}
 use Rattle.tdf_fixed.specs.declared.quant.Quant.{Quant}
-use Rattle.tdf_fixed.specs.declared.quant.Quant.TheVariants.{Trn, TrnZero, Rnd, RndZero, RndMinInf, RndInf, RndConv}
+use Rattle.tdf_fixed.specs.declared.quant.Quant.TheVariants.{Trn, TrnZero, Rnd, RndZero, RndMinInf}
+use Rattle.tdf_fixed.specs.declared.quant.Quant.TheVariants.{RndInf, RndConv}
 
 -- the whole neighbour below n/d; the one above is 1 more
 abbrev pub below : ℤ → ℕ → ℤ
@@ -20,8 +22,8 @@ is_negative (negsuc n) = true
 abbrev pub is_odd : ℤ → Bool
 is_odd n = nat_eq (above_by n 2) 1
 
--- whether a fraction between two neighbours goes to the one above; `twice` is twice its distance from the one below, in
--- parts of 1/d, and `odd` says whether the one below is odd
+-- whether a fraction between two neighbours goes to the one above; `twice` is twice its distance
+-- from the one below, in parts of 1/d, and `odd` says whether the one below is odd
 abbrev pub goes_up : Quant → Bool → Bool → ℕ → ℕ → Bool
 goes_up Trn negative odd twice d = false
 goes_up TrnZero negative odd twice d = negative

@@ -1,3 +1,5 @@
+//! A mask of low bits.
+
 ghost use Rattle.std.specs.Prelude.{◌≡◌, ◌<◌, ◌≤◌, ◌^◌, ◌%◌};
 
 /// The low `count` bits.

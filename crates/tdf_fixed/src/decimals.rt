@@ -1,71 +1,130 @@
-ghost use Rattle.std.specs.Prelude.{◌≡◌, ◌+◌, ◌*◌, ◌/◌, ◌%◌, ◌<◌, ◌≤◌, ◌^◌, ◌∷◌, ◌++◌, take, length, OnOk, OnErr, unsigned_abs, decimal};
-ghost use Rattle.tdf_fixed.specs.Decimal.{fraction_digits, fraction_text, magnitude_text, value_text, seconds_text};
+//! Decimal texts of values and times.
+
+ghost use Rattle.std.specs.Prelude.{◌≡◌, ◌+◌, ◌*◌, ◌/◌, ◌%◌, ◌<◌, ◌≤◌, ◌^◌, ◌∷◌, ◌++◌, take, drop, length, slice_index, true, ◌≢◌, ◌-◌, OnOk, OnErr, unsigned_abs, decimal};
+ghost use Rattle.std.specs.List.{list_all};
+ghost use Rattle.tdf_fixed.specs.Zeros.{is_zero};
+ghost use Rattle.tdf_fixed.specs.Decimal.{fraction_digits, fraction_text, magnitude_text, value_text, places_of, seconds_text, seconds_text_at};
 
 use crate::bits::low;
-use crate::memory::Memory;
 use crate::raw::Raw;
 use itoa::Buffer;
+use tdf_base::{Memory, Resolution};
 
-const PICOSECONDS: u64 = 1_000_000_000_000;
-
-fn push_whole(out: &mut Vec<u8>, whole: u128) -> Result<(), Memory>
+#[tactic(auto, using(crate::proofs::Fractions::one_digit))]
+fn push_whole(out: &mut Vec<u8>, whole: u64) -> Result<(), Memory>
     ensures ok { OnOk result (out.new.items ≡ out.old.items ++ decimal whole) }
     ensures kept { take (length out.old.items) out.new.items ≡ out.old.items }
 {
+    if whole < 10 {
+        out.push(b'0' + whole as u8)?;
+        return Ok(());
+    }
     out.extend_from_slice(Buffer::new().format(whole).as_bytes())?;
     Ok(())
 }
 
-/// The digits of a part of a second.
-#[tactic(auto, using(crate::proofs::Fractions::fraction_lemmas))]
-fn push_time_digits(out: &mut Vec<u8>, rest: u64) -> Result<(), Memory>
-    requires { rest < 10 ^ 12 }
-    ensures ok { OnOk result (out.new.items ≡ out.old.items ++ fraction_digits 12 rest (10 ^ 12)) }
+fn push_wide(out: &mut Vec<u8>, whole: u128) -> Result<(), Memory>
+    ensures ok { OnOk result (out.new.items ≡ out.old.items ++ decimal whole) }
     ensures kept { take (length out.old.items) out.new.items ≡ out.old.items }
 {
-    let mut left = rest;
-    for _k in 0..12u32 {
-        if left == 0 {
-            return Ok(());
-        }
-        out.push(b'0' + (10 * left / PICOSECONDS) as u8)?;
-        left = 10 * left % PICOSECONDS;
+    if whole <= 18_446_744_073_709_551_615 {
+        return push_whole(out, whole as u64);
     }
+    out.extend_from_slice(Buffer::new().format(whole).as_bytes())?;
+    Ok(())
+}
+
+/// The counts of a second.
+fn counts_of_second(resolution: Resolution) -> u64
+    ensures value { result ≡ 10 ^ places_of resolution }
+    ensures some { 0 < result }
+    ensures small { result ≤ 10 ^ 15 }
+{
+    match resolution {
+        Resolution::Ps => 1_000_000_000_000,
+        Resolution::Fs => 1_000_000_000_000_000,
+    }
+}
+
+/// How many digits are left without the zeros at the end.
+#[tactic(auto, using(crate::proofs::CutDigits::zero_step))]
+fn kept_digits(digits: &[u8]) -> usize
+    ensures within { result ≤ length digits.now }
+    ensures zeros { list_all is_zero (drop result digits.now) ≡ true }
+    ensures last { 0 < result → slice_index digits.now (result - 1) ≢ 48 }
+{
+    let count = digits.len();
+    for k in 0..count {
+        if digits[count - 1 - k] != b'0' {
+            return count - k;
+        }
+    }
+    0
+}
+
+/// The digits of a part of a second, of which there are `places` at most: those of `second + rest` after its first, which is 1.
+#[tactic(auto, using(crate::proofs::CutDigits::tail_some))]
+fn push_time_digits(out: &mut Vec<u8>, rest: u64, second: u64, places: u32) -> Result<(), Memory>
+    requires places { places ≤ 15 }
+    requires second { second ≡ 10 ^ places }
+    requires rest { rest < second }
+    requires small { second ≤ 10 ^ 15 }
+    ensures ok { OnOk result (out.new.items ≡ out.old.items ++ fraction_digits places rest second) }
+    ensures kept { take (length out.old.items) out.new.items ≡ out.old.items }
+{
+    let mut buffer = Buffer::new();
+    let digits = &buffer.format(second + rest).as_bytes()[1..];
+    out.extend_from_slice(&digits[..kept_digits(digits)])?;
     Ok(())
 }
 
 #[tactic(auto, using(crate::proofs::Fractions::fraction_lemmas))]
-fn push_time_fraction(out: &mut Vec<u8>, rest: u64) -> Result<(), Memory>
-    requires { rest < 10 ^ 12 }
-    ensures ok { OnOk result (out.new.items ≡ out.old.items ++ fraction_text 12 rest (10 ^ 12)) }
+fn push_time_fraction(out: &mut Vec<u8>, rest: u64, second: u64, places: u32) -> Result<(), Memory>
+    requires places { places ≤ 15 }
+    requires second { second ≡ 10 ^ places }
+    requires rest { rest < second }
+    requires small { second ≤ 10 ^ 15 }
+    ensures ok { OnOk result (out.new.items ≡ out.old.items ++ fraction_text places rest second) }
     ensures kept { take (length out.old.items) out.new.items ≡ out.old.items }
 {
     if rest == 0 {
         return Ok(());
     }
     out.push(b'.')?;
-    push_time_digits(out, rest)
+    push_time_digits(out, rest, second, places)
+}
+
+fn places(resolution: Resolution) -> u32
+    ensures value { result ≡ places_of resolution }
+    ensures few { result ≤ 15 }
+{
+    match resolution {
+        Resolution::Ps => 12,
+        Resolution::Fs => 15,
+    }
 }
 
 #[tactic(auto, using(crate::proofs::Fractions::text_lemmas))]
-fn push_time(out: &mut Vec<u8>, time: u64) -> Result<(), Memory>
-    ensures ok { OnOk result (out.new.items ≡ out.old.items ++ seconds_text time) }
+fn push_time(out: &mut Vec<u8>, time: u64, resolution: Resolution) -> Result<(), Memory>
+    ensures ok { OnOk result (out.new.items ≡ out.old.items ++ seconds_text_at resolution time) }
     ensures kept { take (length out.old.items) out.new.items ≡ out.old.items }
 {
-    push_whole(out, u128::from(time / PICOSECONDS))?;
-    push_time_fraction(out, time % PICOSECONDS)
+    let second = counts_of_second(resolution);
+    push_whole(out, time / second)?;
+    push_time_fraction(out, time % second, second, places(resolution))
 }
 
-/// Appends a time of so many picoseconds, in seconds, as an exact decimal: `2500000` is `0.0000025`.
+/// Appends a time of so many counts of the resolution, in seconds, as an exact decimal: `2500000` counts of a picosecond are
+/// `0.0000025`.
 ///
 /// # Errors
-/// Want of memory; `out` is then unchanged.
-pub fn push_seconds(out: &mut Vec<u8>, time: u64) -> Result<(), Memory>
-    ensures ok { OnOk result (out.new.items ≡ out.old.items ++ seconds_text time) }
+/// Out of memory; `out` is then unchanged.
+pub fn push_seconds_at(out: &mut Vec<u8>, time: u64, resolution: Resolution) -> Result<(), Memory>
+    ensures ok { OnOk result (out.new.items ≡ out.old.items ++ seconds_text_at resolution time) }
     ensures err { OnErr result (out.new.items ≡ out.old.items) }
 {
     let start = out.len();
-    match push_time(out, time) {
+    match push_time(out, time, resolution) {
         Ok(()) => Ok(()),
         Err(error) => {
             out.truncate(start);
@@ -74,8 +133,20 @@ pub fn push_seconds(out: &mut Vec<u8>, time: u64) -> Result<(), Memory>
     }
 }
 
+/// Appends a time of so many picoseconds, in seconds, as an exact decimal: `2500000` is `0.0000025`.
+///
+/// # Errors
+/// Out of memory; `out` is then unchanged.
+#[tactic(auto, using(crate::proofs::Fractions::seconds_in_picoseconds))]
+pub fn push_seconds(out: &mut Vec<u8>, time: u64) -> Result<(), Memory>
+    ensures ok { OnOk result (out.new.items ≡ out.old.items ++ seconds_text time) }
+    ensures err { OnErr result (out.new.items ≡ out.old.items) }
+{
+    push_seconds_at(out, time, Resolution::Ps)
+}
+
 /// `10 * left / 2^frac`, the next digit of a binary fraction.
-#[tactic(auto, using(crate::proofs::Powers::power_of_two))]
+#[tactic(auto, using(tdf_base::proofs::Api::power_of_two))]
 fn next_digit(left: u128, frac: u32) -> u8
     requires few { frac ≤ 120 }
     requires below { left < 2 ^ frac }
@@ -84,7 +155,7 @@ fn next_digit(left: u128, frac: u32) -> u8
     ((10 * left) >> frac) as u8 + b'0'
 }
 
-#[tactic(auto, using(crate::proofs::Fractions::fraction_lemmas, crate::proofs::Powers::power_of_two))]
+#[tactic(auto, using(crate::proofs::Fractions::fraction_lemmas, tdf_base::proofs::Api::power_of_two))]
 fn push_binary_digits(out: &mut Vec<u8>, rest: u128, frac: u32) -> Result<(), Memory>
     requires few { frac ≤ 120 }
     requires below { rest < 2 ^ frac }
@@ -122,7 +193,7 @@ fn push_magnitude(out: &mut Vec<u8>, magnitude: u128, frac: u32) -> Result<(), M
     ensures ok { OnOk result (out.new.items ≡ out.old.items ++ magnitude_text frac magnitude (2 ^ frac)) }
     ensures kept { take (length out.old.items) out.new.items ≡ out.old.items }
 {
-    push_whole(out, magnitude >> frac)?;
+    push_wide(out, magnitude >> frac)?;
     push_binary_fraction(out, low(magnitude, frac), frac)
 }
 
@@ -151,7 +222,7 @@ fn push_value(out: &mut Vec<u8>, value: Raw) -> Result<(), Memory>
 /// fraction ends with its last digit that is not 0, and is left out with its point where it is 0.
 ///
 /// # Errors
-/// Want of memory; `out` is then unchanged.
+/// Out of memory; `out` is then unchanged.
 pub fn push_decimal(out: &mut Vec<u8>, value: Raw) -> Result<(), Memory>
     requires few { value.frac ≤ 120 }
     ensures ok { OnOk result (out.new.items ≡ out.old.items ++ value_text value.num value.frac) }

@@ -1,9 +1,11 @@
+//! The bits of two's complement as text.
+
 ghost use Rattle.std.specs.Prelude.{◌≡◌, ◌+◌, ◌<◌, ◌≤◌, ◌^◌, ◌++◌, length, take, OnOk, OnErr};
 ghost use Rattle.tdf_fixed.specs.Bits.{bit_at, bits_text};
 
-use crate::memory::Memory;
 use crate::raw::Raw;
 use crate::rounding::part;
+use tdf_base::Memory;
 
 /// The digit of a bit of two's complement.
 fn bit(num: i128, place: u32) -> u8
@@ -28,7 +30,7 @@ fn push_places(out: &mut Vec<u8>, num: i128, width: u32) -> Result<(), Memory>
 /// Appends the low `width` bits of the two's complement of `num`, the highest first: `1101` for -3 at 4 bits.
 ///
 /// # Errors
-/// Want of memory; `out` is then unchanged.
+/// Out of memory; `out` is then unchanged.
 pub fn push_bits(out: &mut Vec<u8>, value: Raw, width: u32) -> Result<(), Memory>
     requires { width ≤ 64 }
     ensures ok { OnOk result (out.new.items ≡ out.old.items ++ bits_text value.num width) }

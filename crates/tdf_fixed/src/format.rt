@@ -1,3 +1,5 @@
+//! Formats: word lengths and modes.
+
 ghost use Rattle.std.specs.Prelude.{◌≡◌, ◌-◌, ◌≤◌, MatchOption};
 
 use crate::over::Over;

@@ -1,13 +1,17 @@
 //! What holds of the definitions, whatever the numbers and texts: each function here only carries its clauses.
 
-ghost use Rattle.tdf_fixed.specs.CastLaws.{AreNeighbours, IsMonotone, IsKept, IsIdempotent, IsNearest, IsWrap, IsOnlyWrap};
+ghost use Rattle.tdf_fixed.specs.CastLaws.{AreNeighbours, IsMonotone, RoundsToNearest, RoundsDown, IsByValue, CastsExactly};
+ghost use Rattle.tdf_fixed.specs.CastLaws.{IsKept, IsIdempotent, IsNearest, IsWrap, IsOnlyWrap};
 ghost use Rattle.tdf_fixed.specs.DecimalLaws.{IsValueText, IsTimeText};
-ghost use Rattle.tdf_fixed.specs.Spelling.{ReadsNumerals, ReadsLiterals, ReadsTimes, ReadsExactly};
+ghost use Rattle.tdf_fixed.specs.Spelling.{ReadsLiterals, ReadsExactly, ReadsBack};
 
-/// The neighbour below a fraction and the distance from it are its quotient and rest; no rounding turns an order round.
+/// The neighbour below a fraction and the distance from it are its quotient and rest; rounding keeps the order; the five modes
+/// to nearest stay within half a last place, and `trn` gives a number less than one last place below.
 pub fn law_rounding()
     ensures neighbours { AreNeighbours }
     ensures monotone { IsMonotone }
+    ensures nearest { RoundsToNearest }
+    ensures down { RoundsDown }
 {}
 
 /// `sat` gives the nearest number of the range; `wrap` gives one that differs by a multiple of `2^wl`, and the only one.
@@ -17,24 +21,26 @@ pub fn law_overflow()
     ensures only_wrap { IsOnlyWrap }
 {}
 
-/// A cast leaves the format's own values alone, all but the exact signed minimum under `sat_sym`, and a second cast changes
-/// nothing.
+/// A cast goes by the value alone, however it is written; it leaves the format's own values alone, all but the exact signed
+/// minimum under `sat_sym`, and a second cast changes nothing.
 pub fn law_casts()
+    ensures by_value { IsByValue }
     ensures kept { IsKept }
     ensures idempotent { IsIdempotent }
 {}
 
-/// The text of a value or of a time has the form and the value of a decimal, and is the only text that has.
+/// The text of a value or of a time has the form and the value of a decimal, and is the only text that has; the text of a value
+/// reads back as that value.
 pub fn law_texts()
     ensures values { IsValueText }
     ensures times { IsTimeText }
+    ensures reads_back { ReadsBack }
 {}
 
-/// Numerals, literals and times are read exactly where they are spelled so; an exact value has the least count of fraction
-/// bits, and a literal is inexact only where no count makes it whole.
+/// Literals are read exactly where they are spelled so; an exact value has the least count of fraction bits, and a literal is
+/// inexact only where no count makes it whole; a literal that is exact casts as that value.
 pub fn law_readers()
-    ensures numerals { ReadsNumerals }
     ensures literals { ReadsLiterals }
-    ensures times { ReadsTimes }
     ensures exactly { ReadsExactly }
+    ensures casts { CastsExactly }
 {}

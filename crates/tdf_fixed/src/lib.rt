@@ -1,5 +1,10 @@
-//! Fixed-point numbers and their texts, bit-true after IEEE 1666-2011: formats, casts with the seven roundings and four
-//! overflow modes, and the decimal texts that read and print values and times exactly.
+//! Fixed-point numbers and their texts, bit-true after IEEE 1666-2011.
+//!
+//! - `quant`, `over`, `format`, `raw`: rounding modes, overflow modes, formats, and values by their counts of last places.
+//! - `casts`: the cast. `short` has it for 64-bit values; `rounding`, `overflows` and `bits` have it in 128 bits.
+//! - `literals`, `placing`: decimal numbers, read into a format or exactly.
+//! - `decimals`, `digits`: the texts of values, times and bits.
+//! - `laws`: what holds of the definitions.
 #![tactic(auto)]
 
 mod bits;
@@ -9,27 +14,20 @@ mod digits;
 mod format;
 mod laws;
 mod literals;
-mod memory;
-mod numerals;
 mod over;
 mod overflows;
 mod placing;
 mod quant;
 mod raw;
 mod rounding;
-#[cfg(test)]
-mod tests;
-mod times;
+mod short;
 
-pub use casts::cast;
-pub use decimals::{push_decimal, push_seconds};
+pub use casts::{cast, cast_trn_wrap};
+pub use decimals::{push_decimal, push_seconds, push_seconds_at};
 pub use digits::push_bits;
 pub use format::Format;
 pub use laws::{law_casts, law_overflow, law_readers, law_rounding, law_texts};
 pub use literals::{DecimalErr, NumErr, read_decimal, read_exact};
-pub use memory::Memory;
-pub use numerals::is_number;
 pub use over::Over;
 pub use quant::Quant;
 pub use raw::Raw;
-pub use times::{TimeErr, read_time};

@@ -1,34 +1,43 @@
-ghost use Rattle.std.specs.Prelude.{◌≡◌, ◌+◌, ◌*◌, ◌-◌, ◌/◌, ◌%◌, ◌<◌, ◌≤◌, ◌^◌, true, length, slice_index, nat_eq, IsTrue, IfSome, IfOk};
+//! Literals: decimal numbers, read into a format or exactly.
+
+ghost use Rattle.std.specs.Prelude.{◌≡◌, ◌+◌, ◌*◌, ◌-◌, ◌/◌, ◌%◌, ◌<◌, ◌≤◌, ◌^◌, true, length, slice_index, nat_eq, unsigned_abs, IsTrue, IfSome, IfOk};
 ghost use Rattle.std.specs.Option.{option_map};
 ghost use Rattle.tdf_fixed.specs.Cast.{fraction_of};
 ghost use Rattle.tdf_fixed.specs.Literal.{literal_of, literal_cast, literal_exact, decimal_of, exact_of, least_of, signed_number};
-ghost use Rattle.tdf_fixed.specs.Number.{numeral_of, is_short};
+ghost use Rattle.tdf_base.specs.Number.{numeral_of, is_short};
 ghost use Rattle.tdf_fixed.specs.Overflow.{IsIn};
-ghost use Rattle.tdf_fixed.specs.Sides.{spelt, signed, AreDigits};
+ghost use Rattle.tdf_base.specs.Sides.{spelt, AreDigits};
+ghost use Rattle.tdf_fixed.specs.Sides.{signed};
 
 use crate::format::Format;
-use crate::numerals::{Parts, power, short, split, value};
 use crate::overflows::overflow;
 use crate::placing::{as_is, opposite, place_fraction, scaled_up};
 use crate::raw::Raw;
+use tdf_base::{Numeral, is_short, power_of_ten, split, value};
+use thiserror::Error;
 
 /// Why a text is no decimal number.
-#[derive(Clone, Copy, Debug, PartialEq, Eq)]
+#[derive(Clone, Copy, Debug, Drop, Error, PartialEq, Eq)]
 pub enum DecimalErr {
     /// The text is not digits, or digits, a point and digits, with or without a `-` directly in front.
+    #[error("not a number")]
     NotNumber,
     /// It has that form, and more than 18 digits on one side of the point.
+    #[error("more than 18 digits on one side of the point")]
     TooManyDigits,
 }
 
 /// Why a text is no exact binary fraction.
-#[derive(Clone, Copy, Debug, PartialEq, Eq)]
+#[derive(Clone, Copy, Debug, Drop, Error, PartialEq, Eq)]
 pub enum NumErr {
     /// The text is not digits, or digits, a point and digits, with or without a `-` directly in front.
+    #[error("not a number")]
     NotNumber,
     /// It has that form, and more than 18 digits on one side of the point.
+    #[error("more than 18 digits on one side of the point")]
     TooManyDigits,
     /// No count of fraction bits makes it whole.
+    #[error("not a whole number over a power of 2")]
     Inexact,
 }
 
@@ -36,7 +45,7 @@ pub enum NumErr {
 #[derive(Clone, Copy)]
 pub(crate) struct Signed<'t> {
     pub(crate) minus: bool,
-    pub(crate) parts: Parts<'t>,
+    pub(crate) parts: Numeral<'t>,
 }
 
 fn begins_minus(text: &[u8]) -> bool
@@ -78,7 +87,7 @@ fn cast_literal(literal: &Signed, format: Format) -> i128
     ensures range { IsIn format.signed format.wl result }
 {
     let parts = literal.parts;
-    let d = power(parts.fraction.len());
+    let d = power_of_ten(parts.fraction.len());
     let placed = place_fraction(
         format.quant,
         literal.minus,
@@ -104,7 +113,7 @@ pub fn read_decimal(text: &[u8], format: Format) -> Result<Raw, DecimalErr>
     let Some(literal) = literal(text) else {
         return Err(DecimalErr::NotNumber);
     };
-    if !short(&literal.parts) {
+    if !is_short(&literal.parts) {
         return Err(DecimalErr::TooManyDigits);
     }
     Ok(Raw {
@@ -137,13 +146,26 @@ fn least_frac(part: u64, d: u128, digits: u32) -> Option<u32>
     None
 }
 
+/// `(whole + part/d) * 2^frac`.
+#[tactic(auto, using(crate::proofs::Exacts::exact_small))]
+fn exact_magnitude(whole: u64, part: u64, d: u128, frac: u32) -> u128
+    requires sides { (whole < 10 ^ 18) × (part < 10 ^ 18) × (part < d) }
+    requires few { frac ≤ 18 }
+    ensures value { result ≡ whole * 2 ^ frac + part * 2 ^ frac / d }
+    ensures below { result < 10 ^ 18 * 2 ^ frac }
+    ensures small { result < 2 ^ 124 }
+{
+    scaled_up(whole, frac) + scaled_up(part, frac) / d
+}
+
 /// `(whole + part/d) * 2^frac` with a sign.
 fn exact_number(minus: bool, whole: u64, part: u64, d: u128, frac: u32) -> i128
-    requires sizes { (whole < 10 ^ 18) × (part < 10 ^ 18) × (0 < d) }
+    requires sides { (whole < 10 ^ 18) × (part < 10 ^ 18) × (part < d) }
     requires few { frac ≤ 18 }
-    ensures { result ≡ signed_number minus (whole * 2 ^ frac + part * 2 ^ frac / d) }
+    ensures value { result ≡ signed_number minus (whole * 2 ^ frac + part * 2 ^ frac / d) }
+    ensures below { unsigned_abs result < 10 ^ 18 * 2 ^ frac }
 {
-    let number = scaled_up(whole, frac) + scaled_up(part, frac) / d;
+    let number = exact_magnitude(whole, part, d, frac);
     if minus {
         opposite(number)
     } else {
@@ -155,10 +177,12 @@ fn exact_number(minus: bool, whole: u64, part: u64, d: u128, frac: u32) -> i128
 fn exact(literal: &Signed) -> Result<Raw, NumErr>
     requires digits { AreDigits literal.now.parts.whole.now literal.now.parts.fraction.now }
     requires short { is_short (spelt literal.now.parts) ≡ true }
-    ensures { result ≡ literal_exact (signed literal.now) }
+    ensures value { result ≡ literal_exact (signed literal.now) }
+    ensures few { IfOk result (λ r. r.frac ≤ 18) }
+    ensures below { IfOk result (λ r. unsigned_abs r.num < 10 ^ 18 * 2 ^ r.frac) }
 {
     let parts = literal.parts;
-    let d = power(parts.fraction.len());
+    let d = power_of_ten(parts.fraction.len());
     let part = value(parts.fraction);
     let Some(frac) = least_frac(part, d, parts.fraction.len() as u32) else {
         return Err(NumErr::Inexact);
@@ -169,18 +193,21 @@ fn exact(literal: &Signed) -> Result<Raw, NumErr>
     })
 }
 
-/// Reads a decimal number exactly: the value with the least count of fraction bits. It takes no memory.
+/// Reads a decimal number exactly: the value with the least count of fraction bits, at most 18; the value is below 10^18 either
+/// way. It takes no memory.
 ///
 /// # Errors
 /// `NotNumber` and `TooManyDigits` as for `read_decimal`; `Inexact` where no count of fraction bits makes the value whole.
 #[tactic(auto, unfolding(crate::specs::Literal::exact_of))]
 pub fn read_exact(text: &[u8]) -> Result<Raw, NumErr>
-    ensures { result ≡ exact_of text.now }
+    ensures value { result ≡ exact_of text.now }
+    ensures few { IfOk result (λ r. r.frac ≤ 18) }
+    ensures below { IfOk result (λ r. unsigned_abs r.num < 10 ^ 18 * 2 ^ r.frac) }
 {
     let Some(literal) = literal(text) else {
         return Err(NumErr::NotNumber);
     };
-    if !short(&literal.parts) {
+    if !is_short(&literal.parts) {
         return Err(NumErr::TooManyDigits);
     }
     exact(&literal)

@@ -1,3 +1,5 @@
+//! The overflow modes.
+
 /// What becomes of a number outside a format's range (the `SC_` modes of IEEE 1666-2011).
 #[derive(Clone, Copy, Debug, PartialEq, Eq)]
 pub enum Over {

@@ -1,3 +1,5 @@
+//! Fitting a whole number into a range, in 128 bits.
+
 ghost use Rattle.std.specs.Prelude.{◌≡◌, ◌-◌, ◌≤◌, ◌^◌, unsigned_abs};
 ghost use Rattle.tdf_fixed.specs.Overflow.{least, most, least_symmetric, wrapped, overflowed};
 

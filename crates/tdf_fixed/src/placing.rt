@@ -1,3 +1,5 @@
+//! A decimal fraction, rounded to a last place.
+
 ghost use Rattle.std.specs.Prelude.{◌≡◌, ◌+◌, ◌*◌, ◌<◌, ◌≤◌, ◌^◌, ℤ, pos, negsuc, neg_ℤ};
 ghost use Rattle.tdf_fixed.specs.Literal.{placed_fraction};
 

@@ -1,3 +1,5 @@
+//! The rounding modes.
+
 /// How a value between two neighbours of the last place is rounded (the `SC_` modes of IEEE 1666-2011).
 #[derive(Clone, Copy, Debug, PartialEq, Eq)]
 pub enum Quant {

@@ -1,11 +1,13 @@
-ghost use Rattle.std.specs.Prelude.{◌≡◌, ◌+◌, ◌-◌, ◌*◌, ◌<◌, ◌≤◌, ◌^◌, ℤ, pos, ◌+ℤ◌, ◌*ℤ◌, unsigned_abs, nat_eq};
+//! Rounding, in 128 bits.
+
+ghost use Rattle.std.specs.Prelude.{◌≡◌, ◌+◌, ◌-◌, ◌*◌, ◌<◌, ◌≤◌, ◌^◌, ℤ, pos, ◌+ℤ◌, ◌*ℤ◌, unsigned_abs, ℕ, nat_eq, nat_lt};
 ghost use Rattle.tdf_fixed.specs.Quantise.{above_by, below, goes_up, is_odd, settled, quantised, placed};
 
 use crate::bits::low;
 use crate::quant::Quant;
 
 /// The low `s` bits of two's complement: the distance from the neighbour below, in parts of `1/2^s`.
-#[tactic(auto, using(crate::proofs::Powers::power_of_two))]
+#[tactic(auto, using(tdf_base::proofs::Api::power_of_two))]
 pub(crate) fn part(num: i128, s: u32) -> u128
     requires { s ≤ 120 }
     ensures value { result ≡ above_by num (2 ^ s) }
@@ -25,18 +27,18 @@ fn odd(num: i128) -> bool
     part(num, 1) == 1
 }
 
-/// Whether the mode takes the neighbour above; `twice` is twice the distance from the one below, in parts of `1/d`.
-fn up(quant: Quant, negative: bool, odd: bool, twice: u128, d: u128) -> bool
-    ensures { result ≡ goes_up quant negative odd twice d }
+/// Whether the mode takes the neighbour above; `more` and `tie` say whether that is nearer, or both are as near.
+pub(crate) fn up(quant: Quant, negative: bool, odd: bool, more: bool, tie: bool) -> bool
+    ensures { (twice d : ℕ) → more ≡ nat_lt d twice → tie ≡ nat_eq twice d → result ≡ goes_up quant negative odd twice d }
 {
     match quant {
         Quant::Trn => false,
         Quant::TrnZero => negative,
-        Quant::Rnd => d <= twice,
-        Quant::RndZero => d < twice || (twice == d && negative),
-        Quant::RndMinInf => d < twice,
-        Quant::RndInf => d < twice || (twice == d && !negative),
-        Quant::RndConv => d < twice || (twice == d && odd),
+        Quant::Rnd => more || tie,
+        Quant::RndZero => more || (tie && negative),
+        Quant::RndMinInf => more,
+        Quant::RndInf => more || (tie && !negative),
+        Quant::RndConv => more || (tie && odd),
     }
 }
 
@@ -47,13 +49,9 @@ pub(crate) fn settle(quant: Quant, negative: bool, whole: i128, rest: u128, d: u
     requires small { unsigned_abs whole ≤ 2 ^ 125 }
     ensures { result ≡ settled quant negative whole rest d }
 {
-    if rest == 0 {
-        return whole;
-    }
-    if up(quant, negative, odd(whole), 2 * rest, d) {
-        return whole + 1;
-    }
-    whole
+    let twice = 2 * rest;
+    let above = up(quant, negative, odd(whole), d < twice, twice == d);
+    if rest != 0 && above { whole + 1 } else { whole }
 }
 
 /// `num / 2^s`, rounded.

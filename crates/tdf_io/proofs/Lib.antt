@@ -1,2 +1,3 @@
-pub mod Prefixes
-mod Supplies
+pub mod Api
+mod Gives
+mod Windows

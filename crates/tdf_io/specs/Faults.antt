@@ -1,5 +1,5 @@
--- When an answer that speaks of a fault may come: only where the count of faults shows one.
-use Rattle.std.specs.Prelude.{◌≡◌, ℕ, ◌+◌, ◌-◌, ◌^◌, ◌≤◌, min, Result, OnErr, IsErrOf}
+-- What a call of a device does to its count of faults. (own)
+use Rattle.std.specs.Prelude.{◌≡◌, ℕ, ◌+◌, ◌-◌, ◌^◌, ◌≤◌, min, Result, OnOk, OnErr, IfErr, MatchResult, ◌≢◌}
 use Rattle.tdf_io.specs.declared.writing.SinkErr.{SinkErr}
 use Rattle.tdf_io.specs.declared.writing.SinkErr.TheVariants.{Failed}
 
@@ -7,16 +7,22 @@ use Rattle.tdf_io.specs.declared.writing.SinkErr.TheVariants.{Failed}
 abbrev pub last_count : ℕ
 last_count = 2 ^ 64 - 1
 
--- a count of faults rose, or stands at its last value
-abbrev pub Rose : ℕ → ℕ → Type 0
-Rose before now = min (before + 1) last_count ≤ now
+-- the number after n of a counter that stays at its last value
+abbrev pub next_count : ℕ → ℕ
+next_count n = min (n + 1) last_count
 
--- one call of a source: its count of faults never falls, and an Err means that it rose
-pub record HasCause {T E : Type 0} (before now : ℕ) (result : Result T E) : Type 0 where
-  pub later : before ≤ now
-  pub failed : OnErr result (Rose before now)
+-- a count of faults rose by one, or is at its last value
+abbrev pub FaultsRose : ℕ → ℕ → Type 0
+FaultsRose before now = now ≡ next_count before
 
--- one call of a sink: want of memory is free, and Failed means that the count rose
-pub record HasSinkCause {T : Type 0} (before now : ℕ) (result : Result T SinkErr) : Type 0 where
+-- one call of a source: an Ok leaves its count of faults as it was, and an Err raises it
+pub record CountsFaults {T E : Type 0} (before now : ℕ) (result : Result T E) : Type 0 where
   pub later : before ≤ now
-  pub failed : IsErrOf result Failed → Rose before now
+  pub kept : OnOk result (now ≡ before)
+  pub rose : OnErr result (FaultsRose before now)
+
+-- one call of a sink: `Failed` raises its count of faults, and every other answer leaves it as it was
+pub record CountsSinkFaults {T : Type 0} (before now : ℕ) (result : Result T SinkErr) : Type 0 where
+  pub later : before ≤ now
+  pub kept : MatchResult result (λ _. now ≡ before) (λ error. error ≢ Failed → now ≡ before)
+  pub rose : IfErr result (λ error. error ≡ Failed → FaultsRose before now)

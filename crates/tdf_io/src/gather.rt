@@ -1,4 +1,7 @@
-ghost use Rattle.std.specs.Prelude.{◌≡◌, ◌+◌, ◌<◌, ◌≤◌, length, IsTrue};
+//! The buffer before a writer: bytes that are on their way to it.
+ghost use Rattle.std.specs.Prelude.{◌≡◌, [], ◌++◌, ◌<◌, ◌≤◌, length, take, slice_range, IsTrue};
+ghost use Rattle.std.specs.Io.KnownBytes.{Appends};
+ghost use Rattle.tdf_io.specs.Device.{HandsOver};
 
 use std::io::Write;
 
@@ -17,7 +20,9 @@ pub(crate) struct Gathered {
 
 impl Gathered {
     /// Nothing is on its way.
-    pub(crate) fn new() -> Gathered {
+    pub(crate) fn new() -> Gathered
+        ensures { slice_range result.bytes result.written result.end ≡ [] }
+    {
         Gathered {
             bytes: [0; GATHERED],
             written: 0,
@@ -31,6 +36,7 @@ impl Gathered {
         requires given { 0 < length piece.now }
         ensures some { 0 < result }
         ensures bound { result ≤ length piece.now }
+        ensures gained { slice_range self.new.bytes self.new.written self.new.end ≡ slice_range self.old.bytes self.old.written self.old.end ++ take result piece.now }
     {
         let count = piece.len().min(GATHERED - self.end);
         self.bytes[self.end..self.end + count].copy_from_slice(&piece[..count]);
@@ -40,7 +46,9 @@ impl Gathered {
 
     /// Hands what is on its way to the writer, and says whether it took all. Else what it didn't take stays here.
     pub(crate) fn write_to<W: Write + Drop>(&mut self, writer: &mut W) -> bool
-        ensures { IsTrue result → self.new.end ≡ 0 }
+        ensures all { IsTrue result → slice_range self.new.bytes self.new.written self.new.end ≡ [] }
+        ensures room { IsTrue result → self.new.end ≡ 0 }
+        ensures handed { HandsOver (W.contents writer.old) (W.contents writer.new) (slice_range self.old.bytes self.old.written self.old.end) (slice_range self.new.bytes self.new.written self.new.end) }
     {
         self.written = write_on(writer, &self.bytes[..self.end], self.written);
         if self.written < self.end {
@@ -58,6 +66,7 @@ fn write_on<W: Write + Drop>(writer: &mut W, bytes: &[u8], from: usize) -> usize
     requires { from ≤ length bytes.now }
     ensures up { from ≤ result }
     ensures bound { result ≤ length bytes.now }
+    ensures wrote { Appends (W.contents writer.old) (W.contents writer.new) (slice_range bytes.now from result) }
 {
     let mut written = from;
     while written < bytes.len() {

@@ -1,6 +1,6 @@
 //! Sources and sinks of bytes, as a simulator needs them.
 //!
-//! A [`Source`] gives bytes and a [`Sink`] takes them. Both count the faults of the device behind them, so that an
+//! A [`Source`] gives bytes and a [`Sink`] takes them. Both count the faults of the device that they stand for, so that an
 //! answer that speaks of a fault can be tied to one. [`read_all`] and [`put_all`] move whole texts.
 //!
 //! * `reading`: the trait [`Source`], and reading to the end.
@@ -17,8 +17,6 @@ mod moves;
 mod reading;
 mod streams;
 mod sure;
-#[cfg(test)]
-mod tests;
 mod writing;
 
 pub use mem_sink::MemSink;

@@ -1,15 +1,14 @@
 ghost use Rattle.std.specs.Prelude.{◌≡◌, ℕ, ◌<◌, ◌↔◌, Some, [], length, min, Contains, IfOk, IsErrOf};
 ghost use Rattle.std.specs.Io.{WritesAtMost};
 ghost use Rattle.std.specs.Io.KnownBytes.{WriteAppends};
-ghost use Rattle.tdf_io.specs.Faults.{HasSinkCause};
-ghost use Rattle.tdf_io.specs.Device.{next_count};
+ghost use Rattle.tdf_io.specs.Faults.{CountsSinkFaults, FaultsRose, next_count};
 
 use crate::{Sink, SinkErr};
 use std::alloc::Global;
 use std::marker::Model;
 
 /// A sink in memory whose calls are numbered from 0 to 2^64 - 1 (later calls keep that number). A call whose number
-/// stands in `fails` answers `Failed`; every other one takes at most `most` bytes.
+/// is in `fails` answers `Failed`; every other one takes at most `most` bytes.
 #[derive(Drop)]
 pub struct MemSink {
     taken: Vec<u8>,
@@ -21,9 +20,9 @@ pub struct MemSink {
 
 impl Model for MemSink {
     ghost use Rattle.std.specs.Prelude.{◌<◌};
-    ghost use Rattle.tdf_io.specs.Device.{Store};
+    ghost use Rattle.tdf_io.specs.Device.{SinkSeen};
 
-    ghost Value = { Store };
+    ghost Value = { SinkSeen };
 
     ghost view = { λ s. record { taken = s.taken.items; calls = s.calls; fails = s.fails.items; most = s.most; faults = s.faults } };
 
@@ -63,9 +62,11 @@ impl Sink for MemSink {
         ensures some { IfOk result (λ n. 0 < n) }
         ensures bound { WritesAtMost result piece.now }
         ensures bytes { WriteAppends (Some self.old.taken) (Some self.new.taken) result piece.now }
-        ensures cause { HasSinkCause self.old.faults self.new.faults result }
+        ensures counted { CountsSinkFaults self.old.faults self.new.faults result }
 
         ensures fails { IsErrOf result SinkErr.Failed ↔ Contains self.old.fails self.old.calls }
+        ensures rises { Contains self.old.fails self.old.calls → FaultsRose self.old.faults self.new.faults }
+        ensures stays { ¬ Contains self.old.fails self.old.calls → self.new.faults ≡ self.old.faults }
         ensures moves { IfOk result (λ n. n ≡ min self.old.most (length piece.now)) }
         ensures number { self.new.calls ≡ next_count self.old.calls }
         ensures same { (self.new.fails ≡ self.old.fails) × (self.new.most ≡ self.old.most) }

@@ -1,15 +1,14 @@
 ghost use Rattle.std.specs.Prelude.{◌≡◌, ℕ, ◌+◌, ◌<◌, ◌≤◌, ◌↔◌, Some, length, min, Contains, IfOk, IsErr};
 ghost use Rattle.std.specs.Io.{ReadsAtMost};
 ghost use Rattle.std.specs.Io.KnownBytes.{ReadConsumes};
-ghost use Rattle.tdf_io.specs.Faults.{HasCause};
-ghost use Rattle.tdf_io.specs.Device.{next_count};
+ghost use Rattle.tdf_io.specs.Faults.{CountsFaults, FaultsRose, next_count};
 
 use crate::moves::fill;
 use crate::{Failed, Source};
 use std::marker::Model;
 
 /// Bytes in memory, as a source whose calls are numbered from 0 to 2^64 - 1 (later calls keep that number). A call whose
-/// number stands in `fails` answers `Failed`; every other one gives at most `most` bytes.
+/// number is in `fails` answers `Failed`; every other one gives at most `most` bytes.
 #[derive(Drop)]
 pub struct MemSource {
     bytes: Vec<u8>,
@@ -22,9 +21,9 @@ pub struct MemSource {
 
 impl Model for MemSource {
     ghost use Rattle.std.specs.Prelude.{drop, length, ◌≤◌, ◌<◌};
-    ghost use Rattle.tdf_io.specs.Device.{Supply};
+    ghost use Rattle.tdf_io.specs.Device.{SourceSeen};
 
-    ghost Value = { Supply };
+    ghost Value = { SourceSeen };
 
     ghost view = { λ s. record { left = drop s.read s.bytes.items; calls = s.calls; fails = s.fails.items; most = s.most; faults = s.faults } };
 
@@ -55,16 +54,18 @@ impl Source for MemSource {
 
     ghost reads = { λ s. s.calls };
 
-    #[tactic(auto, using(crate::proofs::Supplies::moves))]
+    #[tactic(auto, using(crate::proofs::Gives::moves))]
     fn read(&mut self, buf: &mut [u8]) -> Result<usize, Failed>
         requires { 0 < length buf.old }
         ensures bound { ReadsAtMost result buf.new }
         ensures bytes { ReadConsumes (Some self.old.left) (Some self.new.left) result buf.new }
-        ensures cause { HasCause self.old.faults self.new.faults result }
+        ensures counted { CountsFaults self.old.faults self.new.faults result }
         ensures counts { self.old.calls ≤ self.new.calls }
         ensures one_read { self.new.calls ≤ self.old.calls + 1 }
 
         ensures fails { IsErr result ↔ Contains self.old.fails self.old.calls }
+        ensures rises { Contains self.old.fails self.old.calls → FaultsRose self.old.faults self.new.faults }
+        ensures stays { ¬ Contains self.old.fails self.old.calls → self.new.faults ≡ self.old.faults }
         ensures moves { IfOk result (λ n. n ≡ min (min self.old.most (length buf.old)) (length self.old.left)) }
         ensures number { self.new.calls ≡ next_count self.old.calls }
         ensures same { (self.new.fails ≡ self.old.fails) × (self.new.most ≡ self.old.most) }

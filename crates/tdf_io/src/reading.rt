@@ -1,14 +1,14 @@
-ghost use Rattle.std.specs.Prelude.{◌≡◌, List, Option, ℕ, ◌+◌, ◌<◌, ◌≤◌, length, IfOk, IsErrOf};
+ghost use Rattle.std.specs.Prelude.{◌≡◌, List, Option, ℕ, ◌+◌, ◌<◌, ◌≤◌, length, IfOk, OnOk, IsErrOf};
 ghost use Rattle.std.specs.Io.{ReadsAtMost};
 ghost use Rattle.std.specs.Io.KnownBytes.{Consumes, IsAtEnd, ReadConsumes};
 ghost use Rattle.tdf_io.specs.declared.reading.LoadErr.TheVariants.{Memory, ReadFault, TooLong};
-ghost use Rattle.tdf_io.specs.Faults.{Rose, HasCause};
-ghost use Rattle.tdf_io.specs.Bytes.{GaveCount, GaveAtMost};
+ghost use Rattle.tdf_io.specs.Faults.{FaultsRose, CountsFaults};
+ghost use Rattle.tdf_io.specs.Bytes.{GivesExactly, GivesAtMost};
 
 use std::alloc::{AllocError, Global};
 use thiserror::Error;
 
-/// A read failed. The source's count of faults shows it.
+/// A read failed. The source's count of faults rose.
 #[derive(Clone, Copy, Debug, PartialEq, Eq, Error)]
 #[error("a read failed")]
 pub struct Failed;
@@ -52,7 +52,7 @@ pub trait Source {
         requires { 0 < length buf.old }
         ensures bound { ReadsAtMost result buf.new }
         ensures bytes { ReadConsumes (left self.old) (left self.new) result buf.new }
-        ensures cause { HasCause (faults self.old) (faults self.new) result }
+        ensures counted { CountsFaults (faults self.old) (faults self.new) result }
         ensures counts { reads self.old ≤ reads self.new }
         ensures one_read { reads self.new ≤ reads self.old + 1 };
 }
@@ -61,17 +61,17 @@ pub trait Source {
 const PIECE: usize = 4096;
 
 /// Reads a source to its end: at most `limit` bytes. Where it tells the bytes that are left, the answer is all of them.
-/// `TooLong` comes exactly where byte `limit + 1` was read. After an `Err` the source stands behind the bytes that were
-/// read.
+/// `TooLong` comes exactly where byte `limit + 1` was read. After an `Err` the source is after the bytes that were read.
 pub fn read_all<S: Source>(alloc: Global, src: &mut S, limit: usize) -> Result<Vec<u8>, LoadErr>
     ensures whole { IfOk result (λ v. Consumes (S.left src.old) (S.left src.new) v.items) }
     ensures end { IfOk result (λ v. IsAtEnd (S.left src.new)) }
     ensures within { IfOk result (λ v. length v.items ≤ limit) }
 
-    ensures too_long { IsErrOf result TooLong → GaveCount (S.left src.old) (S.left src.new) (limit + 1) }
-    ensures read_fault { IsErrOf result ReadFault → Rose (S.faults src.old) (S.faults src.new) }
-    ensures no_more { ¬ IsErrOf result TooLong → GaveAtMost (S.left src.old) (S.left src.new) limit }
+    ensures too_long { IsErrOf result TooLong → GivesExactly (S.left src.old) (S.left src.new) (limit + 1) }
+    ensures no_more { ¬ IsErrOf result TooLong → GivesAtMost (S.left src.old) (S.left src.new) limit }
 
+    ensures read_fault { IsErrOf result ReadFault → FaultsRose (S.faults src.old) (S.faults src.new) }
+    ensures no_fault { ¬ IsErrOf result ReadFault → S.faults src.new ≡ S.faults src.old }
     ensures later { S.faults src.old ≤ S.faults src.new }
     ensures reads { S.reads src.new ≤ S.reads src.old + limit + 2 }
 {

@@ -39,7 +39,7 @@ impl Source for SureSource {
 
     ghost reads = { λ _. 0 };
 
-    #[tactic(auto, using(crate::proofs::Supplies::moves))]
+    #[tactic(auto, using(crate::proofs::Gives::moves))]
     fn read(&mut self, buf: &mut [u8]) -> Result<usize, Failed> {
         let room = buf.len();
         let count = fill(buf, &self.bytes[self.read..], room);
@@ -48,7 +48,7 @@ impl Source for SureSource {
     }
 }
 
-/// A sink in memory that never fails but for want of memory. Contracts see it as the bytes that it took.
+/// A sink in memory that never fails but for being out of memory. Contracts see it as the bytes that it took.
 #[derive(Drop)]
 pub struct SureSink {
     taken: Vec<u8>,

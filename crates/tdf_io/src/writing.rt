@@ -2,8 +2,8 @@ ghost use Rattle.std.specs.Prelude.{◌≡◌, List, Option, ℕ, ◌<◌, ◌�
 ghost use Rattle.std.specs.Io.{WritesAtMost};
 ghost use Rattle.std.specs.Io.KnownBytes.{Appends, WriteAppends};
 ghost use Rattle.tdf_io.specs.declared.writing.SinkErr.TheVariants.{Failed, Memory};
-ghost use Rattle.tdf_io.specs.Faults.{Rose, HasSinkCause};
-ghost use Rattle.tdf_io.specs.Bytes.{Began};
+ghost use Rattle.tdf_io.specs.Faults.{FaultsRose, CountsSinkFaults};
+ghost use Rattle.tdf_io.specs.Bytes.{WritesText};
 
 use std::alloc::AllocError;
 use thiserror::Error;
@@ -11,7 +11,7 @@ use thiserror::Error;
 /// Why a sink did not take bytes.
 #[derive(Clone, Copy, Debug, PartialEq, Eq, Error)]
 pub enum SinkErr {
-    /// A write failed. The sink's count of faults shows it.
+    /// A write failed. The sink's count of faults rose.
     #[error("a write failed")]
     Failed,
     /// No memory was found.
@@ -41,15 +41,12 @@ pub trait Sink {
         ensures some { IfOk result (λ n. 0 < n) }
         ensures bound { WritesAtMost result piece.now }
         ensures bytes { WriteAppends (taken self.old) (taken self.new) result piece.now }
-        ensures cause { HasSinkCause (faults self.old) (faults self.new) result };
+        ensures counted { CountsSinkFaults (faults self.old) (faults self.new) result };
 }
 
 /// Writes all of `bytes`. After an `Err` the sink took a front part of them.
 pub fn put_all<K: Sink>(sink: &mut K, bytes: &[u8]) -> Result<(), SinkErr>
-    ensures all { OnOk result (Appends (K.taken sink.old) (K.taken sink.new) bytes.now) }
-    ensures part { OnErr result (Began (K.taken sink.old) (K.taken sink.new) bytes.now) }
-    ensures cause { IsErrOf result Failed → Rose (K.faults sink.old) (K.faults sink.new) }
-    ensures later { K.faults sink.old ≤ K.faults sink.new }
+    ensures { WritesText K.taken K.faults sink.old sink.new bytes.now result }
 {
     let mut done = 0;
     while done < bytes.len() {

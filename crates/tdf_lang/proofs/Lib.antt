@@ -1,0 +1,17 @@
+mod Numerals
+mod Scan
+mod Tokens
+mod Gaps
+mod TokenLines
+mod ExprWords
+mod ExprLaws
+mod FormWords
+mod FormLaws
+mod RowLaws
+mod AlikeLaws
+mod Tables
+mod StmtLaws
+mod BlockLaws
+mod TreeForms
+mod HeadRows
+mod CanonLaws

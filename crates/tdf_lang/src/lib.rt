@@ -1,15 +1,22 @@
-//! The model language: from the text of a model to its tree and back. This crate is the front page of the layers below it.
+//! The model language: from the text of a model to its tree and back. This crate is the front page
+//! of the layers below it, with the laws that hold of them together.
 //!
-//! * [`parse`]: the tree that a text spells, or its first fault (`tdf_grammar`).
-//! * [`push_tree`]: the canonical text of a tree (`tdf_canon`).
-//! * [`law_spelled`]: what holds of texts and trees, whatever they are.
-//! * `thin`: a model of the thin form, which is what runs today.
+//! - [`parse`]: the tree that a text spells, or its first fault (`tdf_blocks`).
+//! - [`push_tree`]: the canonical text of a tree (`tdf_print`).
+//! - [`law_spelled`]: what holds of texts and trees, whatever they are.
+//! - [`law_exprs`]: what holds of expressions.
+//!
+//! The tree and its parts are those of `tdf_tree`.
 #![tactic(auto)]
 
 mod laws;
-mod thin;
 
-pub use laws::law_spelled;
-pub use tdf_canon::push_tree;
-pub use tdf_grammar::{LangErr, parse};
-pub use thin::{Thin, ThinErr};
+pub use laws::{law_exprs, law_spelled};
+pub use tdf_base::{Memory, Resolution};
+pub use tdf_blocks::{LangErr, parse};
+pub use tdf_print::push_tree;
+pub use tdf_tree::{
+    Attr, Composite, DeDecl, DeLine, Digits, Expr, FormatRef, Global1, Index, Initial, Limit, Lit,
+    Member, Name, Op, PortKind, PortLine, Process, Sense, Shape, Stmt, Stmts, Store, TdfDecl,
+    TdfLine, Trace1, Tree, TypeDecl,
+};

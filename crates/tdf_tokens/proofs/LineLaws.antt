@@ -1,4 +1,4 @@
--- The first line of a text and the lines behind it.
+-- The first line of a text and the lines after it.
 use Rattle.std.proofs.Common.{◌≡◌, ◌≢◌, ℕ, zero, suc, ◌+◌, ◌-◌, ◌<◌, ◌≤◌, Bool, true, false, List, [], ◌∷◌, ◌++◌, length, take, drop, refl, ap, sym, ◌∙◌, cond, subst, append_assoc, arith, not, nat_eq, add-one, length-drop}
 use Rattle.std.proofs.lemmas.List.{append-nil, take_all, drop_all, take_rest, map-append}
 use Rattle.std.proofs.lemmas.List.Sums.{prefix_len-le-length}
@@ -6,28 +6,28 @@ use Rattle.std.proofs.lemmas.Bool.{eqb-true}
 use Rattle.std.proofs.lemmas.List.Folds.{list_any-append}
 use Rattle.std.specs.List.{list_any, before_first, after_first, position_or_len}
 use Rattle.std.specs.Prelude.{None}
-use Rattle.tdf_tokens.specs.Rows.{tokens_of, rows_from, row_unless_bare}
-use Rattle.tdf_tokens.specs.Token.{Tok, Row}
-use Rattle.tdf_tokens.specs.Text.{is_line_end, unless_empty, lines_from, lines_of, first_fault, line_fault_of, or_else, IsLines, no_line, last_line, line_end, LinesAreText}
+use Rattle.tdf_tokens.specs.Pieces.{code_of, pieces_of}
+use Rattle.tdf_tokens.specs.Rows.{Row, rows_from, row_unless_bare}
+use Rattle.tdf_tokens.specs.Text.{is_line_end, unless_empty, lines_from, lines_of, first_fault, line_fault_of, or_else, IsLines, no_line, last_line, line_end}
 
 -- what stands before and after the first byte that passes, one byte further
-before_first-more : (p : ℕ → Bool) (byte : ℕ) (rest : List ℕ) → p byte ≡ false → before_first p (byte ∷ rest) ≡ byte ∷ before_first p rest
+pub before_first-more : (p : ℕ → Bool) (byte : ℕ) (rest : List ℕ) → p byte ≡ false → before_first p (byte ∷ rest) ≡ byte ∷ before_first p rest
 before_first-more p byte rest e = rw e (let f : 1 + position_or_len p rest ≡ suc (position_or_len p rest) = omega arith in rw f)
 
-after_first-more : (p : ℕ → Bool) (byte : ℕ) (rest : List ℕ) → p byte ≡ false → after_first p (byte ∷ rest) ≡ after_first p rest
+pub after_first-more : (p : ℕ → Bool) (byte : ℕ) (rest : List ℕ) → p byte ≡ false → after_first p (byte ∷ rest) ≡ after_first p rest
 after_first-more p byte rest e = rw e (let f : 1 + position_or_len p rest + 1 ≡ suc (position_or_len p rest + 1) = omega arith in rw f)
 
-before_first-here : (p : ℕ → Bool) (byte : ℕ) (rest : List ℕ) → p byte ≡ true → before_first p (byte ∷ rest) ≡ []
+pub before_first-here : (p : ℕ → Bool) (byte : ℕ) (rest : List ℕ) → p byte ≡ true → before_first p (byte ∷ rest) ≡ []
 before_first-here p byte rest e = rw e
 
-after_first-here : (p : ℕ → Bool) (byte : ℕ) (rest : List ℕ) → p byte ≡ true → after_first p (byte ∷ rest) ≡ rest
+pub after_first-here : (p : ℕ → Bool) (byte : ℕ) (rest : List ℕ) → p byte ≡ true → after_first p (byte ∷ rest) ≡ rest
 after_first-here p byte rest e = rw e
 
 unless_empty-snoc : (now : List ℕ) (byte : ℕ) → unless_empty (now ++ byte ∷ []) ≡ (now ++ byte ∷ []) ∷ []
 unless_empty-snoc [] byte = refl
 unless_empty-snoc (first ∷ more) byte = refl
 
-lines_from-on : (now : List ℕ) (byte : ℕ) (rest : List ℕ) → is_line_end byte ≡ false → lines_from now (byte ∷ rest) ≡ lines_from (now ++ byte ∷ []) rest
+pub lines_from-on : (now : List ℕ) (byte : ℕ) (rest : List ℕ) → is_line_end byte ≡ false → lines_from now (byte ∷ rest) ≡ lines_from (now ++ byte ∷ []) rest
 unfolding lines_from
 lines_from-on now byte rest e = rw e refl
 
@@ -80,7 +80,7 @@ fault-none number text h = rw (lines_of-none text h) refl
 
 pub rows-step : (number : ℕ) (text : List ℕ) → 0 < length text
     → rows_from number (lines_of text)
-    ≡ row_unless_bare number (tokens_of (before_first is_line_end text)) ++ rows_from (number + 1) (lines_of (after_first is_line_end text))
+    ≡ row_unless_bare number (pieces_of (code_of (before_first is_line_end text))) ++ rows_from (number + 1) (lines_of (after_first is_line_end text))
 unfolding rows_from
 rows-step number text h = rw (lines_of-step text h) refl
 
@@ -88,24 +88,24 @@ pub rows-none : (number : ℕ) (text : List ℕ) → length text ≡ 0 → rows_
 unfolding rows_from
 rows-none number text h = rw (lines_of-none text h) refl
 
-pub push-bare : (number : ℕ) (tokens : List Tok) → length tokens ≡ 0 → row_unless_bare number tokens ≡ []
+pub push-bare : (number : ℕ) (pieces : List (List ℕ)) → length pieces ≡ 0 → row_unless_bare number pieces ≡ []
 push-bare number [] h = refl
 push-bare number (first ∷ more) h = absurd (omega (arith, h))
 
-pub push-one : (number : ℕ) (tokens : List Tok) → length tokens ≢ 0 → row_unless_bare number tokens ≡ (record { number = number; tokens = tokens }) ∷ []
+pub push-one : (number : ℕ) (pieces : List (List ℕ)) → length pieces ≢ 0 → row_unless_bare number pieces ≡ (record { number = number; pieces = pieces }) ∷ []
 push-one number [] h = absurd (h refl)
 push-one number (first ∷ more) h = refl
 
 -- the rows of the first line have been appended
-pub rows-pushed : (number : ℕ) (text line behind : List ℕ) (tokens : List Tok) (all old new : List Row) → 0 < length text
-    → line ≡ before_first is_line_end text → behind ≡ after_first is_line_end text → tokens ≡ tokens_of line
-    → new ≡ old ++ row_unless_bare number tokens → old ++ rows_from number (lines_of text) ≡ all
-    → new ++ rows_from (number + 1) (lines_of behind) ≡ all
-rows-pushed number text line behind tokens all old new h e f g n o =
-    let put : row_unless_bare number tokens ≡ row_unless_bare number (tokens_of (before_first is_line_end text)) = ap (row_unless_bare number) (g ∙ ap tokens_of e) in
-    let rest : rows_from (number + 1) (lines_of behind) ≡ rows_from (number + 1) (lines_of (after_first is_line_end text)) = ap (λ (b : List ℕ). rows_from (number + 1) (lines_of b)) f in
-    ap (λ (l : List Row). l ++ rows_from (number + 1) (lines_of behind)) n
-    ∙ append_assoc old (row_unless_bare number tokens) (rows_from (number + 1) (lines_of behind))
+pub rows-pushed : (number : ℕ) (text line after : List ℕ) (pieces : List (List ℕ)) (all old new : List Row) → 0 < length text
+    → line ≡ before_first is_line_end text → after ≡ after_first is_line_end text → pieces ≡ pieces_of (code_of line)
+    → new ≡ old ++ row_unless_bare number pieces → old ++ rows_from number (lines_of text) ≡ all
+    → new ++ rows_from (number + 1) (lines_of after) ≡ all
+rows-pushed number text line after pieces all old new h e f g n o =
+    let put : row_unless_bare number pieces ≡ row_unless_bare number (pieces_of (code_of (before_first is_line_end text))) = ap (row_unless_bare number) (g ∙ ap (λ (l : List ℕ). pieces_of (code_of l)) e) in
+    let rest : rows_from (number + 1) (lines_of after) ≡ rows_from (number + 1) (lines_of (after_first is_line_end text)) = ap (λ (b : List ℕ). rows_from (number + 1) (lines_of b)) f in
+    ap (λ (l : List Row). l ++ rows_from (number + 1) (lines_of after)) n
+    ∙ append_assoc old (row_unless_bare number pieces) (rows_from (number + 1) (lines_of after))
     ∙ ap (λ (l : List Row). old ++ l) (cc (put, rest, rows-step number text h))
     ∙ o
 
@@ -135,11 +135,7 @@ lines_by byte rest now ih h true e =
 lines_by byte rest now ih h false e =
     rw e (subst (λ (l : List ℕ). IsLines l (lines_from (now ++ byte ∷ []) rest)) (append_assoc now (byte ∷ []) rest) (ih (now ++ byte ∷ []) (any-snoc is_line_end now byte h e)))
 
-lines_are : (rest now : List ℕ) → list_any is_line_end now ≡ false → IsLines (now ++ rest) (lines_from now rest)
+pub lines_are : (rest now : List ℕ) → list_any is_line_end now ≡ false → IsLines (now ++ rest) (lines_from now rest)
 unfolding lines_from
 lines_are [] now h = subst (λ (l : List ℕ). IsLines l (unless_empty now)) (sym (append-nil now)) (last_now now h)
 lines_are (byte ∷ rest) now h = lines_by byte rest now (λ (line : List ℕ) (k : list_any is_line_end line ≡ false). lines_are rest line k) h (is_line_end byte) refl
-
-pub lines_are_text : LinesAreText
-unfolding lines_of
-lines_are_text text = lines_are text [] refl

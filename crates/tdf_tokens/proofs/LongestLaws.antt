@@ -3,8 +3,10 @@ use Rattle.std.proofs.Common.{◌≡◌, ℕ, zero, suc, ◌<◌, Bool, true, fa
 use Rattle.std.proofs.lemmas.List.{append-nil}
 use Rattle.std.proofs.lemmas.Bool.{eqb-true}
 use Rattle.std.specs.List.{list_all}
-use Rattle.tdf_tokens.specs.Longest.{IsForm, word, number, pair, single, IsCut, blank, piece, PiecesAreLongest}
-use Rattle.tdf_tokens.specs.Pieces.{is_digit, is_part, is_letter, is_space, is_pair, joins, begun, begins_with_digit, pieces_from, pieces_of}
+use Rattle.tdf_tokens.specs.Longest.{IsForm, word, number, pair, single, IsCut, blank, piece}
+use Rattle.tdf_base.specs.Digits.{is_digit}
+use Rattle.tdf_base.specs.Names.{is_letter, is_part}
+use Rattle.tdf_tokens.specs.Pieces.{is_space, is_pair, joins, begun, begins_with_digit, pieces_from, pieces_of}
 use Rattle.tdf_tokens.specs.Text.{unless_empty}
 
 pub and_left : (a b : Bool) → a && b ≡ true → a ≡ true
@@ -15,7 +17,7 @@ pub and_right : (a b : Bool) → a && b ≡ true → b ≡ true
 and_right true b h = h
 and_right false b h = absurd cc
 
-and_both : (a b : Bool) → a ≡ true → b ≡ true → a && b ≡ true
+pub and_both : (a b : Bool) → a ≡ true → b ≡ true → a && b ≡ true
 and_both true b g h = h
 and_both false b g h = absurd cc
 
@@ -23,7 +25,7 @@ or_right : (a b : Bool) → b ≡ true → a || b ≡ true
 or_right true b h = refl
 or_right false b h = h
 
-or_cases : (a b : Bool) → a || b ≡ true → (a ≡ true) ⊎ (b ≡ true)
+pub or_cases : (a b : Bool) → a || b ≡ true → (a ≡ true) ⊎ (b ≡ true)
 or_cases true b h = inl refl
 or_cases false b h = inr h
 
@@ -31,7 +33,7 @@ all-append : (p : ℕ → Bool) (xs ys : List ℕ) → list_all p xs ≡ true �
 all-append p [] ys g h = h
 all-append p (x ∷ xs) ys g h = and_both (p x) (list_all p (xs ++ ys)) (and_left (p x) (list_all p xs) g) (all-append p xs ys (and_right (p x) (list_all p xs) g) h)
 
-all-inside : (p : ℕ → Bool) (xs ys : List ℕ) (y : ℕ) → list_all p (xs ++ y ∷ ys) ≡ true → p y ≡ true
+pub all-inside : (p : ℕ → Bool) (xs ys : List ℕ) (y : ℕ) → list_all p (xs ++ y ∷ ys) ≡ true → p y ≡ true
 all-inside p [] ys y h = and_left (p y) (list_all p ys) h
 all-inside p (x ∷ xs) ys y h = all-inside p xs ys y (and_right (p x) (list_all p (xs ++ y ∷ ys)) h)
 
@@ -75,7 +77,7 @@ joins_point first more rest e f g = rw (e, f, g) refl
 not_joined : (first byte m : ℕ) (ms rest : List ℕ) → is_part first ≡ false → joins (first ∷ m ∷ ms) byte rest ≡ false
 not_joined first byte m ms rest e = rw e (let f : eqb (suc (length ms)) 0 ≡ false = grind arith in rw f refl)
 
-pair_first : (first second : ℕ) → is_pair first second ≡ true → (first ≡ 60) ⊎ (first ≡ 62) ⊎ (first ≡ 61) ⊎ (first ≡ 33)
+pub pair_first : (first second : ℕ) → is_pair first second ≡ true → (first ≡ 60) ⊎ (first ≡ 62) ⊎ (first ≡ 61) ⊎ (first ≡ 33)
 pair_first first second h = grind (arith, eqb-true)
 
 pair_not_part : (first second : ℕ) → is_pair first second ≡ true → is_part first ≡ false
@@ -90,17 +92,17 @@ form_some (number whole fraction h k l m) = omega (arith, h, length-append whole
 form_some (pair first second h) = omega arith
 form_some (single byte h k) = omega arith
 
-digits_first : (w : ℕ) (ws : List ℕ) → list_all is_digit (w ∷ ws) ≡ true → is_part w ≡ true
+pub digits_first : (w : ℕ) (ws : List ℕ) → list_all is_digit (w ∷ ws) ≡ true → is_part w ≡ true
 digits_first w ws h = digit_is_part w (and_left (is_digit w) (list_all is_digit ws) h)
 
--- the first byte of digits with something behind them
+-- the first byte of digits with something after them
 first_of_digits : (whole xs more : List ℕ) (first y : ℕ) → 0 < length whole → list_all is_digit whole ≡ true → whole ++ y ∷ xs ≡ first ∷ more → is_part first ≡ true
 first_of_digits [] xs more first y h k e = absurd (omega (arith, h))
 first_of_digits (w ∷ ws) xs more first y h k e =
     let f : w ≡ first = cc in
     subst (λ (b : ℕ). is_part b ≡ true) f (digits_first w ws k)
 
--- a form that begins with a piece and a byte behind it: the byte joins
+-- a form that begins with a piece and a byte after it: the byte joins
 not_longer_by : (first : ℕ) (more : List ℕ) (byte : ℕ) (q rest : List ℕ) {p : List ℕ} → IsForm p → p ≡ (first ∷ more) ++ byte ∷ q
     → (begins_with_digit q ≡ true → begins_with_digit rest ≡ true) → joins (first ∷ more) byte rest ≡ true
 not_longer_by first more byte q rest (word p h k) e d =
@@ -224,7 +226,7 @@ begun_ready byte rest h = go (is_part byte) refl
     go true e = form rest (word (byte ∷ []) (omega arith) (and_both (is_part byte) true e refl))
     go false e = form rest (single byte h e)
 
--- what stands behind a piece is cut
+-- what stands after a piece is cut
 started : (byte : ℕ) (rest : List ℕ) → ((now : List ℕ) → Ready now rest → IsCut (now ++ rest) (pieces_from now rest)) → IsCut (byte ∷ rest) (pieces_from (begun byte) rest)
 started byte rest ih = go (is_space byte) refl
   where
@@ -262,6 +264,6 @@ unfolding pieces_from
 cut [] r = cut_last r refl
 cut (byte ∷ rest) {now = now} r = cut_by byte rest (λ (piece : List ℕ) (q : Ready piece rest). cut rest q) r (joins now byte rest) refl
 
-pub pieces_are_longest : PiecesAreLongest
+pub cut_is_longest : (code : List ℕ) → IsCut code (pieces_of code)
 unfolding pieces_of
-pieces_are_longest code = cut code (none code)
+cut_is_longest code = cut code (none code)

@@ -1,18 +1,9 @@
 -- The pieces of a line by the longest match (own).
-use Rattle.std.specs.Prelude.{ℕ, Bool, false, ◌||◌, ◌&&◌, nat_eq, nat_le, List, [], ◌∷◌, ◌++◌, length, cond}
+use Rattle.std.specs.Prelude.{ℕ, Bool, false, ◌||◌, ◌&&◌, nat_eq, List, [], ◌∷◌, ◌++◌, length, cond}
 use Rattle.std.specs.List.{list_all, before_first}
+use Rattle.tdf_base.specs.Digits.{is_digit}
+use Rattle.tdf_base.specs.Names.{is_part}
 use Rattle.tdf_tokens.specs.Text.{unless_empty}
-
-abbrev pub is_digit : ℕ → Bool
-is_digit byte = nat_le 48 byte && nat_le byte 57
-
--- a letter or `_`
-abbrev pub is_letter : ℕ → Bool
-is_letter byte = (nat_le 97 byte && nat_le byte 122) || (nat_le 65 byte && nat_le byte 90) || nat_eq byte 95
-
--- a byte of a word: a letter, `_` or a digit
-abbrev pub is_part : ℕ → Bool
-is_part byte = is_letter byte || is_digit byte
 
 abbrev pub is_space : ℕ → Bool
 is_space byte = nat_eq byte 32 || nat_eq byte 9
@@ -34,8 +25,8 @@ abbrev pub begins_with_digit : List ℕ → Bool
 begins_with_digit [] = false
 begins_with_digit (byte ∷ rest) = is_digit byte
 
--- whether the piece `now` takes the next byte, behind which `rest` stands: a word or number takes each byte of a
--- word, digits take a point that stands before a digit, and a symbol takes the second byte of a symbol of two
+-- whether the piece `now` takes the next byte, which `rest` follows: a word or number takes each byte of a
+-- word, digits take a point before a digit, and a symbol takes the second byte of a symbol of two
 abbrev pub joins : List ℕ → ℕ → List ℕ → Bool
 joins [] byte rest = false
 joins (first ∷ more) byte rest =

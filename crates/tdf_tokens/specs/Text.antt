@@ -1,6 +1,7 @@
 -- The bytes and the lines of a model text (own).
-use Rattle.std.specs.Prelude.{◌≡◌, ℕ, ◌+◌, ◌<◌, Bool, false, ◌||◌, ◌&&◌, nat_eq, nat_le, nat_lt, List, [], ◌∷◌, ◌++◌, length, Option, Some, None, cond}
+use Rattle.std.specs.Prelude.{◌≡◌, ◌↔◌, ℕ, ◌+◌, ◌<◌, Bool, false, ◌||◌, ◌&&◌, nat_eq, nat_le, nat_lt, List, [], ◌∷◌, ◌++◌, length, Option, Some, None, cond}
 use Rattle.std.specs.List.{list_all, list_any}
+use Rattle.tdf_base.specs.Limits.{longest_line}
 use Rattle.tdf_tokens.specs.declared.text.TextFault.{TextFault}
 use Rattle.tdf_tokens.specs.declared.text.TextFault.TheVariants.{Byte, LongLine}
 
@@ -21,7 +22,7 @@ unfoldable pub lines_from : List ℕ → List ℕ → List (List ℕ)
 lines_from now [] = unless_empty now
 lines_from now (byte ∷ rest) = cond (is_line_end byte) (now ∷ lines_from [] rest) (lines_from (now ++ byte ∷ []) rest)
 
--- the lines of a text, without the LF that ends each; what stands behind the last LF is a line where it isn't empty
+-- the lines of a text, without the LF that ends each; what follows the last LF is a line where it isn't empty
 unfoldable pub lines_of : List ℕ → List (List ℕ)
 lines_of text = lines_from [] text
 
@@ -31,13 +32,13 @@ pub data IsLines : List ℕ → List (List ℕ) → Type 0 where
   last_line : (line : List ℕ) → 0 < length line → list_any is_line_end line ≡ false → IsLines line (line ∷ [])
   line_end : (line rest : List ℕ) {lines : List (List ℕ)} → list_any is_line_end line ≡ false → IsLines rest lines → IsLines (line ++ 10 ∷ rest) (line ∷ lines)
 
--- each text has the lines that `lines_of` gives
+-- each text has the lines that `lines_of` gives, and no others
 abbrev pub LinesAreText : Type 0
-LinesAreText = (text : List ℕ) → IsLines text (lines_of text)
+LinesAreText = (text : List ℕ) (lines : List (List ℕ)) → IsLines text lines ↔ (lines ≡ lines_of text)
 
--- the fault of line `number`: a byte that isn't allowed, and else more than 1,024 bytes
+-- the fault of line `number`: a byte that isn't allowed, and else more bytes than a line may have
 abbrev pub line_fault_of : ℕ → List ℕ → Option TextFault
-line_fault_of number line = cond (list_all is_allowed line) (cond (nat_lt 1024 (length line)) (Some (LongLine number)) None) (Some (Byte number))
+line_fault_of number line = cond (list_all is_allowed line) (cond (nat_lt longest_line (length line)) (Some (LongLine number)) None) (Some (Byte number))
 
 -- the first of two answers, else the second
 abbrev pub or_else : {A : Type 0} → Option A → Option A → Option A

@@ -1,11 +1,10 @@
--- What the definitions of the language see of a token and of a token line (own).
-use Rattle.std.specs.Prelude.{ℕ, List, map}
+-- What the definitions of the language see of a token (own).
+use Rattle.std.specs.Prelude.{ℕ, List}
 use Rattle.tdf_tokens.specs.declared.key.Key.{Key}
 use Rattle.tdf_tokens.specs.declared.key.Symbol.{Symbol}
 use Rattle.tdf_tokens.specs.declared.token.Token.{Token}
 use Rattle.tdf_tokens.specs.declared.token.Token.TheVariants.{Name, Number, Time, Wrong}
 use Rattle.tdf_tokens.specs.declared.token.Token.TheVariants as variant
-use Rattle.tdf_tokens.specs.declared.token.Line.{Line}
 
 -- a token: names and numbers are the bytes that are written, a time is its count of ps
 pub data Tok : Type 0 where
@@ -16,11 +15,6 @@ pub data Tok : Type 0 where
   TSymbol : Symbol → Tok
   TWrong : Tok
 
--- a line that has tokens: its number, from 1, and its tokens
-pub record Row : Type 0 where
-  pub number : ℕ
-  pub tokens : List Tok
-
 abbrev pub tok : Token → Tok
 tok (Name text) = TName text.now
 tok (variant.Key key) = TKey key
@@ -29,5 +23,7 @@ tok (Time count) = TTime count
 tok (variant.Symbol symbol) = TSymbol symbol
 tok Wrong = TWrong
 
-abbrev pub row : Line → Row
-row line = record { number = line.number; tokens = map tok line.tokens.items }
+-- a line of tokens: its number, from 1, and its tokens
+pub record TokenLine : Type 0 where
+  pub number : ℕ
+  pub tokens : List Tok

@@ -1,8 +1,7 @@
 -- The spellings of the reserved words and of the symbols (own).
-use Rattle.std.specs.Prelude.{◌≡◌, ◌↔◌, ℕ, nat_eq, List, [], ◌∷◌, Option, Some, codes}
+use Rattle.std.specs.Prelude.{◌≡◌, ◌↔◌, ℕ, nat_eq, List, [], ◌∷◌, map, Option, Some, None, codes, if◌then◌else◌}
 use Rattle.std.specs.Cmp.Lexicographic.{pointwise}
 use Rattle.std.specs.List.{find}
-use Rattle.tdf_tokens.specs.Text.{or_else}
 use Rattle.tdf_tokens.specs.declared.key.Key.{Key}
 use Rattle.tdf_tokens.specs.declared.key.Key.TheVariants as key
 use Rattle.tdf_tokens.specs.declared.key.Symbol.{Symbol}
@@ -87,41 +86,31 @@ sign symbol.Greater = codes ">"
 sign symbol.AtLeast = codes ">="
 sign symbol.Becomes = codes "="
 
--- the words that open and close blocks
-abbrev pub block_keys : List Key
-block_keys = key.Language ∷ key.Type ∷ key.Tdf ∷ key.De ∷ key.Composite ∷ key.Top ∷ key.End ∷ key.SetAttributes ∷ key.Initialize ∷ key.Processing ∷ key.ChangeAttributes ∷ key.Reinitialize ∷ key.Process ∷ []
-
--- the words of the lines that declare and bind
-abbrev pub line_keys : List Key
-line_keys = key.In ∷ key.Out ∷ key.DeIn ∷ key.DeOut ∷ key.Const ∷ key.Var ∷ key.Array ∷ key.Rate ∷ key.Event ∷ key.Signal ∷ key.DeSignal ∷ key.Instance ∷ key.Bind ∷ key.Trace ∷ []
-
--- the words of attributes and of processes
-abbrev pub attribute_keys : List Key
-attribute_keys = key.Timestep ∷ key.Delay ∷ key.Initial ∷ key.DoesAttributeChanges ∷ key.AcceptAttributeChanges ∷ key.RejectAttributeChanges ∷ key.Sensitive ∷ key.DontInitialize ∷ []
-
--- the words of statements and expressions
-abbrev pub statement_keys : List Key
-statement_keys = key.If ∷ key.Else ∷ key.For ∷ key.Notify ∷ key.After ∷ key.And ∷ key.Or ∷ key.Not ∷ key.Select ∷ []
-
--- the words of fixed-point formats
-abbrev pub format_keys : List Key
-format_keys = key.Fixed ∷ key.Ufixed ∷ key.Trn ∷ key.TrnZero ∷ key.Rnd ∷ key.RndZero ∷ key.RndMinInf ∷ key.RndInf ∷ key.RndConv ∷ key.Wrap ∷ key.Sat ∷ key.SatZero ∷ key.SatSym ∷ []
+-- the reserved words, by the alphabet
+abbrev pub all_keys : List Key
+all_keys =
+    key.AcceptAttributeChanges ∷ key.After ∷ key.And ∷ key.Array ∷ key.Bind ∷
+    key.ChangeAttributes ∷ key.Composite ∷ key.Const ∷ key.De ∷ key.DeIn ∷ key.DeOut ∷
+    key.DeSignal ∷ key.Delay ∷ key.DoesAttributeChanges ∷ key.DontInitialize ∷ key.Else ∷
+    key.End ∷ key.Event ∷ key.Fixed ∷ key.For ∷ key.If ∷ key.In ∷ key.Initial ∷ key.Initialize ∷
+    key.Instance ∷ key.Language ∷ key.Not ∷ key.Notify ∷ key.Or ∷ key.Out ∷ key.Process ∷
+    key.Processing ∷ key.Rate ∷ key.Reinitialize ∷ key.RejectAttributeChanges ∷ key.Rnd ∷
+    key.RndConv ∷ key.RndInf ∷ key.RndMinInf ∷ key.RndZero ∷ key.Sat ∷ key.SatSym ∷ key.SatZero ∷
+    key.Select ∷ key.Sensitive ∷ key.SetAttributes ∷ key.Signal ∷ key.Tdf ∷ key.Timestep ∷
+    key.Top ∷ key.Trace ∷ key.Trn ∷ key.TrnZero ∷ key.Type ∷ key.Ufixed ∷ key.Var ∷ key.Wrap ∷ []
 
 abbrev pub all_symbols : List Symbol
 all_symbols = symbol.Open ∷ symbol.Close ∷ symbol.OpenSquare ∷ symbol.CloseSquare ∷ symbol.Comma ∷ symbol.Point ∷ symbol.Plus ∷ symbol.Minus ∷ symbol.Times ∷ symbol.ShiftLeft ∷ symbol.ShiftRight ∷ symbol.Less ∷ symbol.AtMost ∷ symbol.Equal ∷ symbol.NotEqual ∷ symbol.Greater ∷ symbol.AtLeast ∷ symbol.Becomes ∷ []
 
--- the one of some words that is spelled so
-unfoldable pub key_among : List Key → List ℕ → Option Key
-key_among words text = find (λ key. pointwise nat_eq text (spelling key)) words
+-- the first word of a table that is spelled so
+abbrev pub lookup : List (List ℕ × Key) → List ℕ → Option Key
+lookup [] text = None
+lookup (entry ∷ rest) text =
+    if pointwise nat_eq text entry.0 then Some entry.1 else lookup rest text
 
 -- the reserved word that is spelled so
 unfoldable pub key_of : List ℕ → Option Key
-key_of text =
-    or_else (key_among block_keys text)
-    (or_else (key_among line_keys text)
-    (or_else (key_among attribute_keys text)
-    (or_else (key_among statement_keys text)
-    (key_among format_keys text))))
+key_of text = lookup (map (λ word. (spelling word, word)) all_keys) text
 
 -- the symbol that is written so
 unfoldable pub symbol_of : List ℕ → Option Symbol

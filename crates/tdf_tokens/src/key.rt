@@ -1,7 +1,7 @@
 //! The words and symbols of the language that stand for themselves.
 
 /// A reserved word. The variants are spelled in the text in lower case, with `_` between the parts: `de_in`.
-#[derive(Clone, Copy, PartialEq, Eq)]
+#[derive(Clone, Copy, Debug, PartialEq, Eq)]
 pub enum Key {
     Language,
     Type,
@@ -63,7 +63,7 @@ pub enum Key {
 }
 
 /// A symbol: `( ) [ ] , . + - * << >> < <= == != > >= =`, in this order.
-#[derive(Clone, Copy, PartialEq, Eq)]
+#[derive(Clone, Copy, Debug, PartialEq, Eq)]
 pub enum Symbol {
     Open,
     Close,

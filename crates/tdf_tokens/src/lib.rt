@@ -2,6 +2,7 @@
 //! the longest match.
 #![tactic(auto)]
 
+mod dialect;
 mod key;
 mod laws;
 mod pieces;
@@ -10,11 +11,9 @@ mod text;
 mod token;
 mod words;
 
+pub use dialect::{Dialect, push_tokens};
 pub use key::{Key, Symbol};
-pub use laws::{law_lines, law_longest, law_words};
-pub use rows::token_lines;
+pub use laws::{law_faults, law_lines, law_longest, law_words};
+pub use rows::{PieceLine, piece_lines};
 pub use text::{TextFault, line_count, text_fault};
-pub use token::{Line, Token};
-
-#[cfg(test)]
-mod tests;
+pub use token::Token;

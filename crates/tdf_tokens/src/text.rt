@@ -2,18 +2,19 @@
 
 ghost use Rattle.std.specs.List.{after_first, before_first, list_all, position_or_len};
 ghost use Rattle.std.specs.Prelude.{length, ◌≡◌, ◌≤◌};
+ghost use Rattle.tdf_base.specs.Limits.{longest_text};
 ghost use Rattle.tdf_tokens.specs.Text.{is_allowed, fault_of, is_line_end, line_fault_of, lines_of};
 
+use tdf_base::LONGEST_LINE;
+
 /// The first fault of a text's bytes and line lengths. On one line `Byte` comes before `LongLine`.
-#[derive(Clone, Copy, PartialEq, Eq)]
+#[derive(Clone, Copy, Debug, PartialEq, Eq)]
 pub enum TextFault {
     /// The line holds a byte that isn't LF, TAB or from the space to `~`.
     Byte { line: u32 },
     /// The line has more than 1,024 bytes, without its LF.
     LongLine { line: u32 },
 }
-
-const LONGEST_LINE: usize = 1024;
 
 /// The length of the first line, without its LF.
 fn line_len(text: &[u8]) -> usize
@@ -22,7 +23,7 @@ fn line_len(text: &[u8]) -> usize
     text.iter().take_while(|byte| **byte != b'\n').count()
 }
 
-/// The first line, without its LF, and what stands behind it.
+/// The first line, without its LF, and what stands after it.
 #[tactic(auto, using(crate::proofs::LineLaws::cut_laws))]
 pub(crate) fn cut_line<'t>(text: &'t [u8]) -> (&'t [u8], &'t [u8])
     ensures line { result.0.now ≡ before_first is_line_end text.now }
@@ -62,17 +63,17 @@ fn line_fault(line: u32, bytes: &[u8]) -> Option<TextFault>
 /// The fault of the least line that has one. It takes no memory.
 #[tactic(auto, using(crate::proofs::LineLaws::fault_laws), unfolding(crate::specs::Text::fault_of))]
 pub fn text_fault(text: &[u8]) -> Option<TextFault>
-    requires { length text.now ≤ 1048576 }
+    requires { length text.now ≤ longest_text }
     ensures { result ≡ fault_of text.now }
 {
     let mut rest = text;
     let mut number = 1;
     while !rest.is_empty() {
-        let (line, behind) = cut_line(rest);
+        let (line, after) = cut_line(rest);
         if let Some(fault) = line_fault(number, line) {
             return Some(fault);
         }
-        rest = behind;
+        rest = after;
         number += 1;
     }
     None
@@ -81,14 +82,14 @@ pub fn text_fault(text: &[u8]) -> Option<TextFault>
 /// The number of lines.
 #[tactic(auto, using(crate::proofs::LineLaws::count_laws))]
 pub fn line_count(text: &[u8]) -> u32
-    requires { length text.now ≤ 1048576 }
+    requires { length text.now ≤ longest_text }
     ensures { result ≡ length (lines_of text.now) }
 {
     let mut rest = text;
     let mut count = 0;
     while !rest.is_empty() {
-        let (_, behind) = cut_line(rest);
-        rest = behind;
+        let (_, after) = cut_line(rest);
+        rest = after;
         count += 1;
     }
     count

@@ -1,9 +1,9 @@
-//! A token, and a line of them.
+//! A token.
 
 use crate::key::{Key, Symbol};
 
 /// One token of a line. It borrows from the text.
-#[derive(Clone, Copy)]
+#[derive(Clone, Copy, Debug, PartialEq, Eq)]
 pub enum Token<'t> {
     /// A name: a letter or `_`, then letters, digits or `_`; 1 to 64 characters; no reserved word.
     Name(&'t [u8]),
@@ -11,17 +11,10 @@ pub enum Token<'t> {
     Key(Key),
     /// A number as it is written, with or without a point.
     Number(&'t [u8]),
-    /// A time in ps.
+    /// A time: its count of ps, or of what the text's resolution is.
     Time(u64),
     /// A symbol.
     Symbol(Symbol),
     /// A piece of the line that is no token.
     Wrong,
-}
-
-/// The tokens of one line that has some, and its number. The lines of a text are numbered from 1.
-#[derive(Drop)]
-pub struct Line<'t> {
-    pub number: u32,
-    pub tokens: Vec<Token<'t>>,
 }

@@ -1,10 +1,154 @@
 //! The reserved words and symbols by their spelling.
 
 ghost use Rattle.std.specs.Cmp.Lexicographic.{pointwise};
-ghost use Rattle.std.specs.Prelude.{nat_eq, ◌≡◌};
-ghost use Rattle.tdf_tokens.specs.Words.{attribute_keys, block_keys, format_keys, key_among, key_of, line_keys, statement_keys, symbol_of};
+ghost use Rattle.std.specs.Prelude.{List, ℕ, map, nat_eq, ◌≡◌, ◌∷◌};
+ghost use Rattle.tdf_tokens.specs.Words.{key_of, lookup, symbol_of};
+ghost use Rattle.tdf_tokens.specs.machine.Words.{begins_with_letter, is_initial};
 
 use crate::key::{Key, Symbol};
+use crate::pieces::is_letter;
+
+/// The reserved words, each with its spelling.
+const KEYS: [(&[u8], Key); 57] = [
+    (b"accept_attribute_changes", Key::AcceptAttributeChanges),
+    (b"after", Key::After),
+    (b"and", Key::And),
+    (b"array", Key::Array),
+    (b"bind", Key::Bind),
+    (b"change_attributes", Key::ChangeAttributes),
+    (b"composite", Key::Composite),
+    (b"const", Key::Const),
+    (b"de", Key::De),
+    (b"de_in", Key::DeIn),
+    (b"de_out", Key::DeOut),
+    (b"de_signal", Key::DeSignal),
+    (b"delay", Key::Delay),
+    (b"does_attribute_changes", Key::DoesAttributeChanges),
+    (b"dont_initialize", Key::DontInitialize),
+    (b"else", Key::Else),
+    (b"end", Key::End),
+    (b"event", Key::Event),
+    (b"fixed", Key::Fixed),
+    (b"for", Key::For),
+    (b"if", Key::If),
+    (b"in", Key::In),
+    (b"initial", Key::Initial),
+    (b"initialize", Key::Initialize),
+    (b"instance", Key::Instance),
+    (b"language", Key::Language),
+    (b"not", Key::Not),
+    (b"notify", Key::Notify),
+    (b"or", Key::Or),
+    (b"out", Key::Out),
+    (b"process", Key::Process),
+    (b"processing", Key::Processing),
+    (b"rate", Key::Rate),
+    (b"reinitialize", Key::Reinitialize),
+    (b"reject_attribute_changes", Key::RejectAttributeChanges),
+    (b"rnd", Key::Rnd),
+    (b"rnd_conv", Key::RndConv),
+    (b"rnd_inf", Key::RndInf),
+    (b"rnd_min_inf", Key::RndMinInf),
+    (b"rnd_zero", Key::RndZero),
+    (b"sat", Key::Sat),
+    (b"sat_sym", Key::SatSym),
+    (b"sat_zero", Key::SatZero),
+    (b"select", Key::Select),
+    (b"sensitive", Key::Sensitive),
+    (b"set_attributes", Key::SetAttributes),
+    (b"signal", Key::Signal),
+    (b"tdf", Key::Tdf),
+    (b"timestep", Key::Timestep),
+    (b"top", Key::Top),
+    (b"trace", Key::Trace),
+    (b"trn", Key::Trn),
+    (b"trn_zero", Key::TrnZero),
+    (b"type", Key::Type),
+    (b"ufixed", Key::Ufixed),
+    (b"var", Key::Var),
+    (b"wrap", Key::Wrap),
+];
+
+/// Whether two texts are the same. Most differ in their first bytes.
+fn is_same(text: &[u8], word: &[u8]) -> bool
+    ensures { result ≡ pointwise nat_eq text.now word.now }
+{
+    match (text, word) {
+        ([first, more @ ..], [letter, rest @ ..]) => *first == *letter && more == rest,
+        ([], []) => true,
+        _ => false,
+    }
+}
+
+/// The first word of a table that is spelled so.
+fn lookup(mut table: &[(&[u8], Key)], text: &[u8]) -> Option<Key>
+    ensures { result ≡ lookup (map (λ e. (e.0.now, e.1)) table.entry.now) text.now }
+{
+    while let [entry, rest @ ..] = table {
+        if is_same(text, entry.0) {
+            return Some(entry.1);
+        }
+        table = rest;
+    }
+    None
+}
+
+/// The reserved words that begin with a letter.
+
+fn words_with(first: u8) -> &'static [(&'static [u8], Key)]
+    ensures { (more : List ℕ) → lookup (map (λ e. (e.0.now, e.1)) result.now) (first ∷ more) ≡ key_of (first ∷ more) }
+{
+    match first {
+        b'a' => &KEYS[0..4],
+        b'b' => &KEYS[4..5],
+        b'c' => &KEYS[5..8],
+        b'd' => &KEYS[8..15],
+        b'e' => &KEYS[15..18],
+        b'f' => &KEYS[18..20],
+        b'i' => &KEYS[20..25],
+        b'l' => &KEYS[25..26],
+        b'n' => &KEYS[26..28],
+        b'o' => &KEYS[28..30],
+        b'p' => &KEYS[30..32],
+        b'r' => &KEYS[32..40],
+        b's' => &KEYS[40..47],
+        b't' => &KEYS[47..54],
+        b'u' => &KEYS[54..55],
+        b'v' => &KEYS[55..56],
+        b'w' => &KEYS[56..57],
+        _ => &KEYS,
+    }
+}
+
+/// The reserved word that is spelled so.
+#[tactic(auto, using(crate::proofs::WordLaws::no_key))]
+pub(crate) fn key_of(text: &[u8]) -> Option<Key>
+    ensures { result ≡ key_of text.now }
+{
+    match text {
+        [first, ..] if is_initial(*first) => lookup(words_with(*first), text),
+        _ => None,
+    }
+}
+
+fn is_initial(byte: u8) -> bool
+    ensures { result ≡ is_initial byte }
+{
+    (b'a' <= byte && byte <= b'f')
+        || byte == b'i'
+        || byte == b'l'
+        || (b'n' <= byte && byte <= b'p')
+        || (b'r' <= byte && byte <= b'w')
+}
+
+fn begins_with_letter(text: &[u8]) -> bool
+    ensures { result ≡ begins_with_letter text.now }
+{
+    match text {
+        [] => false,
+        [first, ..] => is_letter(*first),
+    }
+}
 
 fn is(text: &[u8], word: &str) -> bool
     ensures { result ≡ pointwise nat_eq text.now word.now }
@@ -12,235 +156,19 @@ fn is(text: &[u8], word: &str) -> bool
     text == word.as_bytes()
 }
 
-#[tactic(auto, unfolding(crate::specs::Words::key_among, crate::specs::Words::spelling))]
-fn block_key(text: &[u8]) -> Option<Key>
-    ensures { result ≡ key_among block_keys text.now }
-{
-    if is(text, "language") {
-        return Some(Key::Language);
-    }
-    if is(text, "type") {
-        return Some(Key::Type);
-    }
-    if is(text, "tdf") {
-        return Some(Key::Tdf);
-    }
-    if is(text, "de") {
-        return Some(Key::De);
-    }
-    if is(text, "composite") {
-        return Some(Key::Composite);
-    }
-    if is(text, "top") {
-        return Some(Key::Top);
-    }
-    if is(text, "end") {
-        return Some(Key::End);
-    }
-    if is(text, "set_attributes") {
-        return Some(Key::SetAttributes);
-    }
-    if is(text, "initialize") {
-        return Some(Key::Initialize);
-    }
-    if is(text, "processing") {
-        return Some(Key::Processing);
-    }
-    if is(text, "change_attributes") {
-        return Some(Key::ChangeAttributes);
-    }
-    if is(text, "reinitialize") {
-        return Some(Key::Reinitialize);
-    }
-    if is(text, "process") {
-        return Some(Key::Process);
-    }
-    None
-}
-
-#[tactic(auto, unfolding(crate::specs::Words::key_among, crate::specs::Words::spelling))]
-fn line_key(text: &[u8]) -> Option<Key>
-    ensures { result ≡ key_among line_keys text.now }
-{
-    if is(text, "in") {
-        return Some(Key::In);
-    }
-    if is(text, "out") {
-        return Some(Key::Out);
-    }
-    if is(text, "de_in") {
-        return Some(Key::DeIn);
-    }
-    if is(text, "de_out") {
-        return Some(Key::DeOut);
-    }
-    if is(text, "const") {
-        return Some(Key::Const);
-    }
-    if is(text, "var") {
-        return Some(Key::Var);
-    }
-    if is(text, "array") {
-        return Some(Key::Array);
-    }
-    if is(text, "rate") {
-        return Some(Key::Rate);
-    }
-    if is(text, "event") {
-        return Some(Key::Event);
-    }
-    if is(text, "signal") {
-        return Some(Key::Signal);
-    }
-    if is(text, "de_signal") {
-        return Some(Key::DeSignal);
-    }
-    if is(text, "instance") {
-        return Some(Key::Instance);
-    }
-    if is(text, "bind") {
-        return Some(Key::Bind);
-    }
-    if is(text, "trace") {
-        return Some(Key::Trace);
-    }
-    None
-}
-
-#[tactic(auto, unfolding(crate::specs::Words::key_among, crate::specs::Words::spelling))]
-fn attribute_key(text: &[u8]) -> Option<Key>
-    ensures { result ≡ key_among attribute_keys text.now }
-{
-    if is(text, "timestep") {
-        return Some(Key::Timestep);
-    }
-    if is(text, "delay") {
-        return Some(Key::Delay);
-    }
-    if is(text, "initial") {
-        return Some(Key::Initial);
-    }
-    if is(text, "does_attribute_changes") {
-        return Some(Key::DoesAttributeChanges);
-    }
-    if is(text, "accept_attribute_changes") {
-        return Some(Key::AcceptAttributeChanges);
-    }
-    if is(text, "reject_attribute_changes") {
-        return Some(Key::RejectAttributeChanges);
-    }
-    if is(text, "sensitive") {
-        return Some(Key::Sensitive);
-    }
-    if is(text, "dont_initialize") {
-        return Some(Key::DontInitialize);
-    }
-    None
-}
-
-#[tactic(auto, unfolding(crate::specs::Words::key_among, crate::specs::Words::spelling))]
-fn statement_key(text: &[u8]) -> Option<Key>
-    ensures { result ≡ key_among statement_keys text.now }
-{
-    if is(text, "if") {
-        return Some(Key::If);
-    }
-    if is(text, "else") {
-        return Some(Key::Else);
-    }
-    if is(text, "for") {
-        return Some(Key::For);
-    }
-    if is(text, "notify") {
-        return Some(Key::Notify);
-    }
-    if is(text, "after") {
-        return Some(Key::After);
-    }
-    if is(text, "and") {
-        return Some(Key::And);
-    }
-    if is(text, "or") {
-        return Some(Key::Or);
-    }
-    if is(text, "not") {
-        return Some(Key::Not);
-    }
-    if is(text, "select") {
-        return Some(Key::Select);
-    }
-    None
-}
-
-#[tactic(auto, unfolding(crate::specs::Words::key_among, crate::specs::Words::spelling))]
-fn format_key(text: &[u8]) -> Option<Key>
-    ensures { result ≡ key_among format_keys text.now }
-{
-    if is(text, "fixed") {
-        return Some(Key::Fixed);
-    }
-    if is(text, "ufixed") {
-        return Some(Key::Ufixed);
-    }
-    if is(text, "trn") {
-        return Some(Key::Trn);
-    }
-    if is(text, "trn_zero") {
-        return Some(Key::TrnZero);
-    }
-    if is(text, "rnd") {
-        return Some(Key::Rnd);
-    }
-    if is(text, "rnd_zero") {
-        return Some(Key::RndZero);
-    }
-    if is(text, "rnd_min_inf") {
-        return Some(Key::RndMinInf);
-    }
-    if is(text, "rnd_inf") {
-        return Some(Key::RndInf);
-    }
-    if is(text, "rnd_conv") {
-        return Some(Key::RndConv);
-    }
-    if is(text, "wrap") {
-        return Some(Key::Wrap);
-    }
-    if is(text, "sat") {
-        return Some(Key::Sat);
-    }
-    if is(text, "sat_zero") {
-        return Some(Key::SatZero);
-    }
-    if is(text, "sat_sym") {
-        return Some(Key::SatSym);
-    }
-    None
-}
-
-/// The reserved word that is spelled so.
-#[tactic(auto, unfolding(crate::specs::Words::key_of))]
-pub(crate) fn key_of(text: &[u8]) -> Option<Key>
-    ensures { result ≡ key_of text.now }
-{
-    if let Some(key) = block_key(text) {
-        return Some(key);
-    }
-    if let Some(key) = line_key(text) {
-        return Some(key);
-    }
-    if let Some(key) = attribute_key(text) {
-        return Some(key);
-    }
-    if let Some(key) = statement_key(text) {
-        return Some(key);
-    }
-    format_key(text)
-}
-
 /// The symbol that is written so.
-#[tactic(auto, unfolding(crate::specs::Words::symbol_of, crate::specs::Words::sign))]
+#[tactic(auto, using(crate::proofs::WordLaws::no_symbol))]
 pub(crate) fn symbol_of(text: &[u8]) -> Option<Symbol>
+    ensures { result ≡ symbol_of text.now }
+{
+    if begins_with_letter(text) {
+        return None;
+    }
+    sign_of(text)
+}
+
+#[tactic(auto, unfolding(crate::specs::Words::symbol_of, crate::specs::Words::sign))]
+fn sign_of(text: &[u8]) -> Option<Symbol>
     ensures { result ≡ symbol_of text.now }
 {
     if is(text, "(") {

@@ -117,6 +117,7 @@ bare_trace trace = record trace { line = 0 }
 abbrev pub bare : PureTree → PureTree
 bare tree = record {
   version = tree.version;
+  resolution = tree.resolution;
   globals = map bare_global tree.globals;
   top = bare_composite tree.top;
   traces = map bare_trace tree.traces;

@@ -1,3 +1,7 @@
+pub mod Alike
+pub mod Forms
+pub mod Kept
+pub mod Kinds
+pub mod LinesIn
 pub mod Pure
 pub mod Views
-pub mod Alike

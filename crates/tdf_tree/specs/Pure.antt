@@ -1,6 +1,7 @@
 -- The pure tree: a model text's tree without pointers and spare room, of which the laws of the language speak (own).
 -- A type of `src/` that holds neither a box nor a vector stands in it as it is; names and numbers are seen as their bytes.
 use Rattle.std.specs.Prelude.{ℕ, Bool, List, Option}
+use Rattle.tdf_base.specs.declared.resolution.Resolution.{Resolution}
 use Rattle.tdf_tree.specs.declared.blocks.Attr.{Attr}
 use Rattle.tdf_tree.specs.declared.blocks.Initial.{Initial}
 use Rattle.tdf_tree.specs.declared.blocks.Member.{Member}
@@ -99,6 +100,7 @@ pub record PureTrace : Type 0 where
 
 pub record PureTree : Type 0 where
   pub version : ℕ
+  pub resolution : Resolution
   pub globals : List PureGlobal
   pub top : PureComposite
   pub traces : List PureTrace

@@ -121,6 +121,7 @@ pure_trace trace = record { line = trace.line; path = trace.path.items; label = 
 abbrev pub pure_tree : Tree → PureTree
 pure_tree whole = record {
   version = whole.version;
+  resolution = whole.resolution;
   globals = map pure_global whole.globals.items;
   top = pure_composite whole.top;
   traces = map pure_trace whole.traces.items;

@@ -1,8 +1,9 @@
 //! The lines and parts of `tdf`, `de` and `composite` blocks.
 
-use crate::names::{Lit, Name};
+use crate::names::Lit;
 use crate::shapes::FormatRef;
 use crate::stmt::{Limit, Stmts};
+use tdf_base::Name;
 
 /// The word of a port line: `in`, `out`, `de_in` or `de_out`.
 #[derive(Clone, Copy, Debug, PartialEq, Eq)]
@@ -14,7 +15,7 @@ pub enum PortKind {
 }
 
 /// A port of a block.
-#[derive(Drop)]
+#[derive(Debug, Drop, PartialEq, Eq)]
 pub struct PortLine {
     pub line: u32,
     pub kind: PortKind,
@@ -23,7 +24,7 @@ pub struct PortLine {
 }
 
 /// A constant, a state variable with its starting value, or an array with the values that were given.
-#[derive(Drop)]
+#[derive(Debug, Drop, PartialEq, Eq)]
 pub enum Store {
     Const {
         line: u32,
@@ -47,7 +48,7 @@ pub enum Store {
 }
 
 /// A line of a `tdf` block before its parts.
-#[derive(Drop)]
+#[derive(Debug, Drop, PartialEq, Eq)]
 pub enum TdfLine {
     Port(PortLine),
     Store(Store),
@@ -62,9 +63,9 @@ pub enum TdfLine {
 }
 
 /// A line of `set_attributes`.
-#[derive(Drop)]
+#[derive(Debug, Drop, PartialEq, Eq)]
 pub enum Attr {
-    /// The timestep of a port, or of the module; in ps.
+    /// The timestep of a port, or of the module; a count of the tree's resolution.
     Step {
         line: u32,
         port: Option<Name>,
@@ -97,7 +98,7 @@ pub enum Attr {
 }
 
 /// `initial PORT PLACE VALUE`: one initial sample of a port.
-#[derive(Drop)]
+#[derive(Debug, Drop, PartialEq, Eq)]
 pub struct Initial {
     pub line: u32,
     pub port: Name,
@@ -120,7 +121,7 @@ pub struct TdfDecl {
 }
 
 /// A line of a `de` block before its processes.
-#[derive(Drop)]
+#[derive(Debug, Drop, PartialEq, Eq)]
 pub enum DeLine {
     Port(PortLine),
     Store(Store),
@@ -128,7 +129,7 @@ pub enum DeLine {
 }
 
 /// A `sensitive` line.
-#[derive(Drop)]
+#[derive(Debug, Drop, PartialEq, Eq)]
 pub struct Sense {
     pub line: u32,
     pub name: Name,
@@ -153,7 +154,7 @@ pub struct DeDecl {
 }
 
 /// A line of a `composite` block or of `top`.
-#[derive(Drop)]
+#[derive(Debug, Drop, PartialEq, Eq)]
 pub enum Member {
     Port(PortLine),
     Signal {

@@ -1,15 +1,18 @@
 //! Expressions and indices.
 
-use crate::names::{Digits, Name};
+use tdf_base::{Digits, Name};
 
-/// An index: a whole number, a loop variable, or the sum or difference of both. `From(n, i)` is `n - i`.
-#[derive(Drop)]
+/// An index: a whole number, a loop variable, the sum or difference of both, or from version 2 on a multiple of a loop
+/// variable. `From(n, i)` is `n - i`, `Times(c, i)` is `c * i`, and `TimesPlus(c, i, d)` is `c * i + d`.
+#[derive(Debug, Drop, PartialEq, Eq)]
 pub enum Index {
     Int(u64),
     Var(Name),
     Plus(Name, u64),
     Minus(Name, u64),
     From(u64, Name),
+    Times(u64, Name),
+    TimesPlus(u64, Name, u64),
 }
 
 /// An operator with two operands.

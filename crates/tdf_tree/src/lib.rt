@@ -1,6 +1,6 @@
 //! The tree of a model text: plain data, whose types are all public.
 //!
-//! - `names`: names, numbers as they are written, and literals.
+//! - `names`: literals; names and numbers as they are written are those of `tdf_base`.
 //! - `shapes`: number formats, and the `type` lines that name them.
 //! - `expr`: expressions and indices.
 //! - `stmt`: statements and bodies.
@@ -23,10 +23,8 @@ pub use blocks::{
     TdfDecl, TdfLine,
 };
 pub use expr::{Expr, Index, Op};
-pub use names::{Digits, Lit, Name};
+pub use names::Lit;
 pub use shapes::{FormatRef, Shape, TypeDecl};
 pub use stmt::{Limit, Stmt, Stmts};
+pub use tdf_base::{Digits, Name};
 pub use tree::{Global1, Trace1, Tree};
-
-#[cfg(test)]
-mod tests;

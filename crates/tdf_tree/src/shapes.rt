@@ -1,10 +1,10 @@
 //! Number formats, and the `type` lines that name them.
 
-use crate::names::Name;
+use tdf_base::Name;
 use tdf_fixed::{Over, Quant};
 
 /// A fixed-point format as it is written: `wl` bits in all, `iwl` of them before the point.
-#[derive(Clone, Copy, Debug)]
+#[derive(Clone, Copy, Debug, PartialEq, Eq)]
 pub struct Shape {
     pub signed: bool,
     pub wl: u64,
@@ -14,14 +14,14 @@ pub struct Shape {
 }
 
 /// A format: written out, or the name of a `type` line.
-#[derive(Drop)]
+#[derive(Debug, Drop, PartialEq, Eq)]
 pub enum FormatRef {
     Own(Shape),
     Named(Name),
 }
 
 /// `type NAME SHAPE`.
-#[derive(Drop)]
+#[derive(Debug, Drop, PartialEq, Eq)]
 pub struct TypeDecl {
     pub line: u32,
     pub name: Name,

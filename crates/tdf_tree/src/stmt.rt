@@ -1,13 +1,15 @@
 //! Statements and bodies.
 
 use crate::expr::{Expr, Index};
-use crate::names::Name;
+use tdf_base::Name;
 
-/// The end of a `for`, or an assigned rate: a whole number, or the name of a rate variable.
-#[derive(Drop)]
+/// The end of a `for`, or an assigned rate: a whole number, the value of a rate variable, or from version 2 on a multiple of
+/// it. `Times(c, r)` is `c * r`.
+#[derive(Debug, Drop, PartialEq, Eq)]
 pub enum Limit {
     Int(u64),
     Var(Name),
+    Times(u64, Name),
 }
 
 /// A statement, with the line of its head.
@@ -33,7 +35,7 @@ pub enum Stmt {
         limit: Limit,
         body: Vec<Stmt>,
     },
-    /// `after` is in ps; 0 is a delta notification.
+    /// `after` is a count of the tree's resolution; 0 is a delta notification.
     Notify {
         line: u32,
         event: Name,
@@ -44,7 +46,7 @@ pub enum Stmt {
         name: Name,
         value: Expr,
     },
-    /// The timestep of a port, or of the module; in ps.
+    /// The timestep of a port, or of the module; a count of the tree's resolution.
     SetStep {
         line: u32,
         port: Option<Name>,

@@ -1,8 +1,8 @@
 //! The whole model.
 
 use crate::blocks::{Composite, DeDecl, TdfDecl};
-use crate::names::Name;
 use crate::shapes::TypeDecl;
+use tdf_base::{Name, Resolution};
 
 /// A declaration before `top`.
 #[derive(Drop)]
@@ -14,17 +14,20 @@ pub enum Global1 {
 }
 
 /// `trace PATH NAME`: the signal at a path is written under a label.
-#[derive(Drop)]
+#[derive(Debug, Drop, PartialEq, Eq)]
 pub struct Trace1 {
     pub line: u32,
     pub path: Vec<Name>,
     pub label: Name,
 }
 
-/// The tree of a model text. Times in it are counts of ps.
+/// The tree of a model text. Times in it are counts of its resolution.
 #[derive(Drop)]
 pub struct Tree {
+    /// The version of the language: 1, 2 or 3.
     pub version: u32,
+    /// The unit of its times: 1 ps, or 1 fs, which version 3 alone can have.
+    pub resolution: Resolution,
     pub globals: Vec<Global1>,
     pub top: Composite,
     pub traces: Vec<Trace1>,

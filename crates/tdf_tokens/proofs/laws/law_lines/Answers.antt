@@ -1,4 +1,4 @@
-use Rattle.tdf_tokens.proofs.LineLaws.{lines_are_text}
+use Rattle.tdf_tokens.proofs.OnlyLaws.{lines_are_text}
 use Rattle.tdf_tokens.proofs.laws.law_lines.Goals as goal
 
 pub returns : goal.returns

@@ -1,0 +1,82 @@
+-- A fault of a model: what is wrong, and where; and how it is printed (own).
+use Rattle.std.specs.Prelude.{ℕ, List, [], ◌++◌, codes, decimal}
+use Rattle.tdf_base.specs.declared.codes.Code.{Code}
+use Rattle.tdf_base.specs.declared.codes.Code.TheVariants.{Byte, LongLine, Syntax, Duplicate}
+use Rattle.tdf_base.specs.declared.codes.Code.TheVariants.{Unknown, Limit, Format}
+use Rattle.tdf_base.specs.declared.codes.Code.TheVariants.{Kind, InexactLiteral, Wide, WideCast}
+use Rattle.tdf_base.specs.declared.codes.Code.TheVariants.{Index, Heavy, Writers}
+use Rattle.tdf_base.specs.declared.codes.Code.TheVariants.{UnknownPort, TwiceBound, Mismatch}
+use Rattle.tdf_base.specs.declared.codes.Code.TheVariants.{Unbound, TooMany, NoDriver}
+use Rattle.tdf_base.specs.declared.codes.Code.TheVariants.{TwoDrivers, UnknownPath, Clusters, Rates}
+use Rattle.tdf_base.specs.declared.codes.Code.TheVariants.{Size, NoTimestep}
+use Rattle.tdf_base.specs.declared.codes.Code.TheVariants.{Disagree, TooLong, Inexact, Buffers}
+use Rattle.tdf_base.specs.declared.codes.Code.TheVariants.{Deadlock, Noncausal}
+use Rattle.tdf_base.specs.declared.codes.Code.TheVariants.{Range, Rejected, Unbuilt}
+use Rattle.tdf_base.specs.declared.faults.Fault.{Fault}
+use Rattle.tdf_base.specs.declared.faults.Place.{Place}
+use Rattle.tdf_base.specs.declared.faults.Place.TheVariants.{Nowhere, Line, LinePort, At, Both}
+use Rattle.tdf_base.specs.declared.faults.Place.TheVariants.{AtIndex}
+
+-- the printed word of a code
+abbrev pub word_of : Code → List ℕ
+word_of Byte = codes "BYTE"
+word_of LongLine = codes "LONG_LINE"
+word_of Syntax = codes "SYNTAX"
+word_of Duplicate = codes "DUPLICATE"
+word_of Unknown = codes "UNKNOWN"
+word_of Limit = codes "LIMIT"
+word_of Format = codes "FORMAT"
+word_of Kind = codes "KIND"
+word_of InexactLiteral = codes "INEXACT_LITERAL"
+word_of Wide = codes "WIDE"
+word_of WideCast = codes "WIDE_CAST"
+word_of Index = codes "INDEX"
+word_of Heavy = codes "HEAVY"
+word_of Writers = codes "WRITERS"
+word_of UnknownPort = codes "UNKNOWN_PORT"
+word_of TwiceBound = codes "TWICE_BOUND"
+word_of Mismatch = codes "MISMATCH"
+word_of Unbound = codes "UNBOUND"
+word_of TooMany = codes "TOO_MANY"
+word_of NoDriver = codes "NO_DRIVER"
+word_of TwoDrivers = codes "TWO_DRIVERS"
+word_of UnknownPath = codes "UNKNOWN_PATH"
+word_of Clusters = codes "CLUSTERS"
+word_of Rates = codes "RATES"
+word_of Size = codes "SIZE"
+word_of NoTimestep = codes "NO_TIMESTEP"
+word_of Disagree = codes "DISAGREE"
+word_of TooLong = codes "TOO_LONG"
+word_of Inexact = codes "INEXACT"
+word_of Buffers = codes "BUFFERS"
+word_of Deadlock = codes "DEADLOCK"
+word_of Noncausal = codes "NONCAUSAL"
+word_of Range = codes "RANGE"
+word_of Rejected = codes "REJECTED"
+word_of Unbuilt = codes "UNBUILT"
+
+-- a word and what it names, as ` line 3`
+abbrev pub line_text : ℕ → List ℕ
+line_text line = codes " line " ++ decimal line
+
+abbrev pub port_text : List ℕ → List ℕ
+port_text port = codes " port " ++ port
+
+abbrev pub path_text : List ℕ → List ℕ
+path_text path = codes " path " ++ path
+
+abbrev pub index_text : ℕ → List ℕ
+index_text index = codes " index " ++ decimal index
+
+-- the place of a fault with a space in front; nothing where it has none
+unfoldable pub place_text : Place → List ℕ
+place_text Nowhere = []
+place_text (Line line) = line_text line
+place_text (LinePort line port) = line_text line ++ port_text port
+place_text (At path) = path_text path
+place_text (Both first second) = path_text first ++ path_text second
+place_text (AtIndex path index) = path_text path ++ index_text index
+
+-- `CODE PLACE`
+unfoldable pub fault_text : Fault → List ℕ
+fault_text fault = word_of fault.code ++ place_text fault.place

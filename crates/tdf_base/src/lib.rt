@@ -1,0 +1,38 @@
+//! What every other crate speaks of: names, digits, whole numbers, times, and being out of memory.
+//!
+//! - `limits`: the limits of models and runs, by name.
+//! - `codes`, `faults`: what may be wrong with a model, where, and how that is printed.
+//! - `memory`: out of memory.
+//! - `names`: names, and numbers as they are written.
+//! - `numerals`: the forms of numbers, and the reader of whole numbers.
+//! - `resolution`: the unit of time of a model.
+//! - `times`: the readers of times.
+//! - `laws`: what holds of the definitions.
+#![tactic(auto)]
+
+mod codes;
+mod faults;
+mod laws;
+mod limits;
+mod memory;
+mod names;
+mod numerals;
+mod resolution;
+mod times;
+
+pub use codes::Code;
+pub use faults::{Fault, Path, Place, push_fault};
+pub use laws::{law_names, law_spelling};
+pub use limits::{
+    DEEPEST_NESTING, GREATEST_DELAY, GREATEST_RATE, HEAVIEST_BODY, LONGEST_LINE, LONGEST_NAME,
+    LONGEST_TEXT, MOST_CELLS, MOST_CLUSTERS, MOST_DIGITS, MOST_EVENTS, MOST_FIRINGS,
+    MOST_INSTANCES, MOST_PORTS, MOST_PROCESSES, MOST_SAMPLES, MOST_SIGNALS, MOST_TRACES, TIME_END,
+    all_limits,
+};
+pub use memory::Memory;
+pub use names::{Digits, Name};
+pub use numerals::{
+    Numeral, are_digits, is_number, is_short, power_of_ten, read_int, split, value,
+};
+pub use resolution::Resolution;
+pub use times::{TimeErr, read_time, read_time_at};

@@ -1,0 +1,14 @@
+pub mod Api
+pub mod ExampleLaws
+pub mod FaultLaws
+pub mod HeadLaws
+pub mod KeptLaws
+pub mod LangLaws
+pub mod LineOrder
+pub mod OtherForms
+pub mod ReadSpells
+pub mod SoFar
+pub mod SpellReads
+pub mod StmtLaws
+pub mod TableKeeps
+pub mod WalkLaws

@@ -1,0 +1,27 @@
+-- The first fault of a text, in the phases that are built: bytes and line lengths, and syntax (own).
+use Rattle.std.specs.Prelude.{◌≡◌, ℕ, List, Some, ◌++◌, codes}
+use Rattle.tdf_base.specs.Fault.{fault_text}
+use Rattle.tdf_base.specs.declared.codes.Code.{Code}
+use Rattle.tdf_base.specs.declared.codes.Code.TheVariants as code
+use Rattle.tdf_base.specs.declared.faults.Fault.{Fault}
+use Rattle.tdf_base.specs.declared.faults.Place.TheVariants as place
+use Rattle.tdf_blocks.specs.Refused.{HasSyntaxFault}
+use Rattle.tdf_tokens.specs.Text.{fault_of}
+use Rattle.tdf_tokens.specs.declared.text.TextFault.TheVariants as bytes
+
+-- a fault of a line
+abbrev pub on_line : Code → ℕ → Fault
+on_line word line = record { code = word; place = place.Line line }
+
+pub data IsFirstFault : List ℕ → Fault → Type 0 where
+  byte_fault : {text : List ℕ} (line : ℕ) → fault_of text ≡ Some (bytes.Byte line) → IsFirstFault text (on_line code.Byte line)
+  long_line_fault : {text : List ℕ} (line : ℕ) → fault_of text ≡ Some (bytes.LongLine line) → IsFirstFault text (on_line code.LongLine line)
+  syntax_fault : {text : List ℕ} (line : ℕ) → HasSyntaxFault text line → IsFirstFault text (on_line code.Syntax line)
+
+-- the model is none that runs yet
+abbrev pub unbuilt_fault : Fault
+unbuilt_fault = record { code = code.Unbuilt; place = place.Nowhere }
+
+-- the note of a text that isn't taken: the code of its first fault, and the fault's place
+unfoldable pub refusal_text : Fault → List ℕ
+refusal_text fault = codes "refused " ++ (fault_text fault ++ codes "\n")

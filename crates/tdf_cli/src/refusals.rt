@@ -1,0 +1,51 @@
+//! The faults of texts, and how they are noted.
+
+ghost use Rattle.std.specs.Prelude.{◌≡◌, ◌++◌, List, ℕ, MatchOption, OnOk};
+ghost use Rattle.tdf_blocks.specs.Refused.{IsWhy};
+ghost use Rattle.tdf_blocks.specs.declared.err.LangErr.TheVariants as why;
+ghost use Rattle.tdf_cli.specs.Refusals.{IsFirstFault, on_line, refusal_text, unbuilt_fault};
+
+use tdf_base::{Code, Fault, Memory, Place, push_fault};
+use tdf_blocks::LangErr;
+
+fn on_line(code: Code, line: u32) -> Fault
+    ensures { result ≡ on_line code line }
+{
+    Fault {
+        code,
+        place: Place::Line(line),
+    }
+}
+
+/// The first fault of a text that the parser refused, or none where it is out of memory.
+pub(crate) fn first_fault(refused: LangErr) -> Option<Fault>
+    ensures { MatchOption result (refused ≡ why.Memory) (λ fault. (text : List ℕ) → IsWhy refused text → IsFirstFault text fault) }
+{
+    match refused {
+        LangErr::Byte { line } => Some(on_line(Code::Byte, line)),
+        LangErr::LongLine { line } => Some(on_line(Code::LongLine, line)),
+        LangErr::Syntax { line } => Some(on_line(Code::Syntax, line)),
+        LangErr::Memory => None,
+    }
+}
+
+/// The model is none that runs yet.
+pub(crate) fn unbuilt() -> Fault
+    ensures { result ≡ unbuilt_fault }
+{
+    Fault {
+        code: Code::Unbuilt,
+        place: Place::Nowhere,
+    }
+}
+
+/// Appends the note of a text that has this fault.
+#[tactic(auto, unfolding(crate::specs::Refusals::refusal_text), using(crate::proofs::Outcomes::text_lemmas))]
+pub(crate) fn push_refusal(note: &mut Vec<u8>, fault: &Fault) -> Result<(), Memory>
+    ensures { OnOk result (note.new.items ≡ note.old.items ++ refusal_text fault.now) }
+{
+    note.extend_from_slice(b"refused ")?;
+    push_fault(note, fault)?;
+    note.extend_from_slice(b"\n")?;
+    Ok(())
+}

@@ -1,0 +1,9 @@
+pub mod Api
+pub mod Levels
+pub mod SpellsRuns
+pub mod RunSays
+pub mod Waits
+pub mod Parts
+pub mod Decided
+pub mod Forms
+pub mod KeepLaws

@@ -1,0 +1,5 @@
+pub mod Exprs
+pub mod Formats
+pub mod Indices
+pub mod Literals
+pub mod Paths

@@ -1,0 +1,2 @@
+pub mod LitViews
+pub mod Waiting

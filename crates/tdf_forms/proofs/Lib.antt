@@ -1,4 +1,0 @@
-pub mod FormReads
-pub mod ReadForms
-pub mod CutLaws
-pub mod Decided

@@ -1,5 +1,0 @@
-pub mod FormViews
-pub mod Forms
-pub mod Laws
-pub mod Means
-pub mod Reads

@@ -1,0 +1,4 @@
+pub mod Api
+mod Texts
+mod StmtTexts
+mod BlockTexts
