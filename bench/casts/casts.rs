@@ -106,6 +106,23 @@ fn total<const FACTOR: i128, const FRAC: u32>(f: Format) -> i128 {
     }
     sum
 }
+// The same of 64 bits, to the formats in turn.
+fn in_turn(formats: &[Format]) -> i128 {
+    let mut state = 88_172_645_463_325_252u64;
+    let mut sum = 0i128;
+    for _ in 0..COUNT / 2 {
+        for format in formats {
+            state = state
+                .wrapping_mul(6_364_136_223_846_793_005)
+                .wrapping_add(1_442_695_040_888_963_407);
+            let num = i128::from(state) - 9_223_372_036_854_775_808;
+            if format.wl - format.iwl <= 16 {
+                sum = sum.wrapping_add(cast(Raw { num, frac: 16 }, *format).num);
+            }
+        }
+    }
+    sum
+}
 fn main() {
     let qs = [
         ("trn", Quant::Trn),
@@ -137,7 +154,15 @@ fn main() {
             let t = Instant::now();
             let b = total::<72_057_594_037_927_936, 72>(f);
             let y = t.elapsed().as_millis();
-            println!("{qn} {on} {x} {y} {a} {b}");
+            let g = Format {
+                wl: 24,
+                iwl: 12,
+                ..f
+            };
+            let t = Instant::now();
+            let c = in_turn(&[f, g]);
+            let z = t.elapsed().as_millis();
+            println!("{qn} {on} {x} {y} {z} {a} {b} {c}");
         }
     }
 }
