@@ -1,0 +1,3 @@
+pub mod Api
+pub mod IsFirst
+pub mod Leasts

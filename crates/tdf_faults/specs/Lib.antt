@@ -1,0 +1,3 @@
+pub use Rattle.tdf_base.specs.Fault
+pub mod First
+pub mod Law

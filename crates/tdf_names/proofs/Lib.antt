@@ -1,0 +1,9 @@
+pub mod Api
+pub mod BlockFirsts
+pub mod FaultLines
+pub mod InOrder
+pub mod LineFirsts
+pub mod ListFirsts
+pub mod NamesOnce
+pub mod StmtFirsts
+pub mod Tables
