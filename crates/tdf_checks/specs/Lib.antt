@@ -1,0 +1,5 @@
+pub mod Blocks
+pub mod Lines
+pub mod Types
+pub mod Writers
+pub mod machine

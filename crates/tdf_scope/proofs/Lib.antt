@@ -1,0 +1,4 @@
+pub mod Api
+pub mod Lists
+pub mod Loops
+pub mod Tables

@@ -1,0 +1,9 @@
+pub mod Faults
+pub mod Index
+pub mod Kinds
+pub mod Names
+pub mod Scope
+pub mod Seen
+pub mod Sound
+pub mod Weight
+pub mod Width

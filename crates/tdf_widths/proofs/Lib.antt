@@ -1,0 +1,6 @@
+pub mod Bits
+pub mod Caps
+pub mod Counts
+pub mod Leasts
+pub mod Listed
+pub mod Numbers
