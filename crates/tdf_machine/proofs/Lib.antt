@@ -1,0 +1,3 @@
+pub mod Api
+pub mod InOrder
+pub mod Runs

@@ -1,0 +1,4 @@
+pub mod Acts
+pub mod Nodes
+pub mod Sequences
+pub mod Turns

@@ -1,0 +1,121 @@
+//! Compiled expressions and their values.
+
+ghost use Rattle.std.specs.Prelude.{◌≡◌};
+ghost use Rattle.tdf_fixed.specs.Cast.{cast_of, fraction_of};
+ghost use Rattle.tdf_machine.specs.Nodes.{IsCastable, IsSafe, node_value};
+ghost use Rattle.tdf_state.specs.State.{state_of};
+
+use crate::numbers::{difference, holds, negative, product, raised, relates, sum, truth_number};
+use crate::spots::{Spot, place};
+use tdf_fixed::{Format, Raw, cast};
+use tdf_state::{Cells, Signals};
+
+/// How two numbers are compared; `a > b` is `Less` with its sides turned round.
+#[derive(Clone, Copy)]
+pub enum Relation {
+    Less,
+    AtMost,
+    Equal,
+    Different,
+}
+
+/// An expression whose fraction bits are settled. A number beside an operand says by how many bits it is moved up.
+#[derive(Drop)]
+pub enum Node {
+    Const(i128),
+    /// A variable, or an element at a fixed place.
+    Cell(u32),
+    /// An element at a place that a loop variable moves.
+    CellAt(Spot),
+    /// A sample at a fixed place.
+    Sample(u32),
+    /// A sample at a place that a loop variable moves.
+    SampleAt(Spot),
+    /// A rate variable.
+    Rate(u32),
+    /// A loop variable, by its depth.
+    Loop(u32),
+    Sum(Box<Node>, u32, Box<Node>, u32),
+    Difference(Box<Node>, u32, Box<Node>, u32),
+    Product(Box<Node>, Box<Node>),
+    Negative(Box<Node>),
+    Up(Box<Node>, u32),
+    Compare(Relation, Box<Node>, u32, Box<Node>, u32),
+    And(Box<Node>, Box<Node>),
+    Or(Box<Node>, Box<Node>),
+    Not(Box<Node>),
+    /// The second where the first holds, else the third.
+    Choice(Box<Node>, Box<Node>, u32, Box<Node>, u32),
+    /// The operand, which has so many fraction bits, in a format.
+    Cast(Box<Node>, u32, Format),
+}
+
+/// A number that has so many fraction bits, in a format: in units of the format's last place.
+pub(crate) fn fitted(num: i128, frac: u32, format: Format) -> i128
+    requires { IsCastable num frac (fraction_of format) }
+    ensures { result ≡ cast_of format num frac }
+{
+    cast(Raw { num, frac }, format).num
+}
+
+/// What an expression reads: a block's values and samples, and the loop variables, outermost first.
+#[derive(Clone, Copy)]
+struct Sight<'a> {
+    cells: &'a Cells,
+    signals: &'a Signals,
+    loops: &'a [u32],
+}
+
+/// The value of an expression, in units of its last place.
+fn value(node: &Node, at: &Sight) -> i128
+    requires { IsSafe node.now (state_of at.now.cells.now at.now.signals.now) at.now.loops.now }
+    ensures { result ≡ node_value node.now (state_of at.now.cells.now at.now.signals.now) at.now.loops.now }
+{
+    match node {
+        Node::Const(num) => *num,
+        Node::Cell(place) => at.cells.cell(*place as usize),
+        Node::CellAt(spot) => at.cells.cell(place(*spot, at.loops)),
+        Node::Sample(place) => at.signals.sample(*place as usize),
+        Node::SampleAt(spot) => at.signals.sample(place(*spot, at.loops)),
+        Node::Rate(number) => i128::from(at.cells.rate(*number as usize)),
+        Node::Loop(depth) => i128::from(at.loops[*depth as usize]),
+        Node::Sum(a, m, b, n) => sum(raised(value(a, at), *m), raised(value(b, at), *n)),
+        Node::Difference(a, m, b, n) => {
+            difference(raised(value(a, at), *m), raised(value(b, at), *n))
+        }
+        Node::Product(a, b) => product(value(a, at), value(b, at)),
+        Node::Negative(a) => negative(value(a, at)),
+        Node::Up(a, n) => raised(value(a, at), *n),
+        Node::Compare(relation, a, m, b, n) => truth_number(relates(
+            *relation,
+            raised(value(a, at), *m),
+            raised(value(b, at), *n),
+        )),
+        Node::And(a, b) => truth_number(holds(value(a, at)) && holds(value(b, at))),
+        Node::Or(a, b) => truth_number(holds(value(a, at)) || holds(value(b, at))),
+        Node::Not(a) => truth_number(!holds(value(a, at))),
+        Node::Choice(test, a, m, b, n) => {
+            if holds(value(test, at)) {
+                raised(value(a, at), *m)
+            } else {
+                raised(value(b, at), *n)
+            }
+        }
+        Node::Cast(a, frac, format) => fitted(value(a, at), *frac, *format),
+    }
+}
+
+/// The value of an expression at these loop variables, outermost first, in units of its last place.
+pub fn eval(node: &Node, cells: &Cells, signals: &Signals, loops: &[u32]) -> i128
+    requires { IsSafe node.now (state_of cells.now signals.now) loops.now }
+    ensures { result ≡ node_value node.now (state_of cells.now signals.now) loops.now }
+{
+    value(
+        node,
+        &Sight {
+            cells,
+            signals,
+            loops,
+        },
+    )
+}

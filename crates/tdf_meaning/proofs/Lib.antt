@@ -1,0 +1,10 @@
+pub mod Api
+pub mod Bounds
+pub mod Found
+pub mod Indices
+pub mod Keeps
+pub mod Maps
+pub mod Numbers
+pub mod Placed
+pub mod Sets
+pub mod Widths

@@ -1,0 +1,5 @@
+pub mod Bodies
+pub mod Fits
+pub mod Laws
+pub mod Places
+pub mod Value

@@ -1,0 +1,13 @@
+//! What the bodies of one block read and change.
+//!
+//! - `cells`: the values of variables, elements and rates.
+//! - `signals`: the samples of the ports, and what statements asked for.
+//! - `resets`: lists set back in place.
+#![tactic(auto)]
+
+mod cells;
+mod resets;
+mod signals;
+
+pub use cells::Cells;
+pub use signals::Signals;
