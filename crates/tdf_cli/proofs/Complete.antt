@@ -8,7 +8,8 @@ use Rattle.tdf_blocks.proofs.Api.{one_tree, never_both, one_line_at_fault}
 use Rattle.tdf_blocks.specs.Refused.{SpellsText, HasSyntaxFault}
 use Rattle.tdf_cli.specs.Input.{Reading, BadWords, Text, TooLong, ReadFault, NoMemory, InputIs}
 use Rattle.tdf_cli.specs.Outcome.{Outcome, note, refused, ran, HasOutcome, usage, read_fault, too_long, faulty, unbuilt, reached, WritesOutcome, HasOneOutcome}
-use Rattle.tdf_cli.specs.Refusals.{IsFirstFault, byte_fault, long_line_fault, syntax_fault, on_line, unbuilt_fault}
+use Rattle.tdf_cli.specs.Refusals.{IsFirstFault, byte_fault, long_line_fault, syntax_fault, fault_in_tree, tree_fault, on_line, unbuilt_fault}
+use Rattle.tdf_faults.specs.declared.first.LineFault.{LineFault}
 use Rattle.tdf_cli.specs.Status.{number_of}
 use Rattle.tdf_cli.specs.Words.{settings_of}
 use Rattle.tdf_cli.specs.declared.status.Status.{Status}
@@ -34,11 +35,6 @@ abbrev Found : List ℕ → Fault → Type 0
 Found text fault = ((first : TextFault) × (fault_of text ≡ Some first) × (fault ≡ by_bytes first))
     ⊎ ((line : ℕ) × HasSyntaxFault text line × (fault ≡ on_line code.Syntax line))
 
-found : {text : List ℕ} {fault : Fault} → IsFirstFault text fault → Found text fault
-found (byte_fault line is) = inl (bytes.Byte line, is, refl)
-found (long_line_fault line is) = inl (bytes.LongLine line, is, refl)
-found (syntax_fault line is) = inr (line, is, refl)
-
 one_found : (text : List ℕ) (one other : Fault) → Found text one → Found text other → one ≡ other
 one_found text one other (inl s) (inl t) =
     let is : s.0 ≡ t.0 = cc (sym s.1 ∙ t.1) in
@@ -57,8 +53,11 @@ same_tree : (text : List ℕ) (one other : PureTree) → SpellsText text one →
 same_tree text one other s t = one_tree (rows_of text) other one t.spelled s.spelled
 
 -- what an outcome of a reading is, by the reading
+abbrev OfSound : ℕ → PureTree → Outcome → Type 0
+OfSound stop tree o = (((thin : Thin) → IsThinTree tree thin → ⊥) × (o ≡ refused unbuilt_fault)) ⊎ ((thin : Thin) × IsThinTree tree thin × (o ≡ ran thin stop))
+
 abbrev OfTree : ℕ → PureTree → Outcome → Type 0
-OfTree stop tree o = (((thin : Thin) → IsThinTree tree thin → ⊥) × (o ≡ refused unbuilt_fault)) ⊎ ((thin : Thin) × IsThinTree tree thin × (o ≡ ran thin stop))
+OfTree stop tree o = ((f : LineFault) × (tree_fault tree ≡ Some f) × (o ≡ refused (on_line f.code f.line))) ⊎ ((tree_fault tree ≡ None) × OfSound stop tree o)
 
 abbrev OfText : ℕ → List ℕ → Outcome → Type 0
 OfText stop text o = ((fault : Fault) × Found text fault × (o ≡ refused fault)) ⊎ ((tree : PureTree) × SpellsText text tree × OfTree stop tree o)
@@ -71,22 +70,33 @@ Seen ReadFault o = o ≡ note status.ReadFault (codes "read fault\n")
 Seen NoMemory o = ⊥
 
 seen_faulty : (settings : Settings) (text : List ℕ) (fault : Fault) → IsFirstFault text fault → Seen (Text settings text) (refused fault)
-seen_faulty (Run stop) text fault is = inl (fault, found is, refl)
+seen_faulty (Run stop) text _ (byte_fault line is) = inl (on_line code.Byte line, inl (bytes.Byte line, is, refl), refl)
+seen_faulty (Run stop) text _ (long_line_fault line is) = inl (on_line code.LongLine line, inl (bytes.LongLine line, is, refl), refl)
+seen_faulty (Run stop) text _ (syntax_fault line is) = inl (on_line code.Syntax line, inr (line, is, refl), refl)
+seen_faulty (Run stop) text _ (fault_in_tree {tree = tree} f spells is) = inr (tree, spells, inl (f, is, refl))
 
 seen : {r : Reading} {o : Outcome} → HasOutcome r o → Seen r o
 seen usage = refl
 seen read_fault = refl
 seen too_long = refl
 seen (faulty {settings = settings} {text = text} {fault = fault} is) = seen_faulty settings text fault is
-seen (unbuilt {tree = tree} spells none) = inr (tree, spells, inl (none, refl))
-seen (reached {tree = tree} thin spells is) = inr (tree, spells, inr (thin, is, refl))
+seen (unbuilt {tree = tree} spells sound none) = inr (tree, spells, inr (sound, inl (none, refl)))
+seen (reached {tree = tree} thin spells sound is) = inr (tree, spells, inr (sound, inr (thin, is, refl)))
+
+same_sound : (stop : ℕ) (tree : PureTree) (one other : Outcome) → OfSound stop tree one → OfSound stop tree other → one ≡ other
+same_sound stop tree one other (inl s) (inl t) = s.1 ∙ sym t.1
+same_sound stop tree one other (inl s) (inr t) = absurd (s.0 t.0 t.1)
+same_sound stop tree one other (inr s) (inl t) = absurd (t.0 s.0 s.1)
+same_sound stop tree one other (inr s) (inr t) =
+    s.2 ∙ ap (λ thin. ran thin stop) (says_one_model tree s.0 t.0 s.1 t.1) ∙ sym t.2
 
 same_run : (stop : ℕ) (tree : PureTree) (one other : Outcome) → OfTree stop tree one → OfTree stop tree other → one ≡ other
-same_run stop tree one other (inl s) (inl t) = s.1 ∙ sym t.1
-same_run stop tree one other (inl s) (inr t) = absurd (s.0 t.0 t.1)
-same_run stop tree one other (inr s) (inl t) = absurd (t.0 s.0 s.1)
-same_run stop tree one other (inr s) (inr t) =
-    s.2 ∙ ap (λ thin. ran thin stop) (says_one_model tree s.0 t.0 s.1 t.1) ∙ sym t.2
+same_run stop tree one other (inl s) (inl t) =
+    let is : s.0 ≡ t.0 = cc (sym s.1 ∙ t.1) in
+    s.2 ∙ ap (λ (f : LineFault). refused (on_line f.code f.line)) is ∙ sym t.2
+same_run stop tree one other (inl s) (inr t) = let e = sym s.1 ∙ t.0 in absurd cc
+same_run stop tree one other (inr s) (inl t) = let e = sym t.1 ∙ s.0 in absurd cc
+same_run stop tree one other (inr s) (inr t) = same_sound stop tree one other s.1 t.1
 
 same_text : (stop : ℕ) (text : List ℕ) (one other : Outcome) → OfText stop text one → OfText stop text other → one ≡ other
 same_text stop text one other (inl s) (inl t) = s.2 ∙ ap refused (one_found text s.0 t.0 s.1 t.1) ∙ sym t.2

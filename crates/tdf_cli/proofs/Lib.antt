@@ -1,2 +1,3 @@
-pub mod Outcomes
+pub mod Checking
 pub mod Complete
+pub mod Outcomes

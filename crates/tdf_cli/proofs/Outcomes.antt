@@ -1,10 +1,11 @@
 -- How what the steps wrote makes an outcome.
-use Rattle.std.proofs.Common.{◌≡◌, ℕ, List, [], Option, Result, Ok, Err, IfOk, OnErr, inl, inr, refl, sym, ap, subst, append_assoc, append-nil}
+use Rattle.std.proofs.Common.{◌≡◌, ℕ, List, [], Option, None, Result, Ok, Err, IfOk, OnErr, inl, inr, refl, sym, ap, subst, append_assoc, append-nil}
 use Rattle.std.specs.Io.KnownBytes.{Appends}
 use Rattle.std.proofs.KnownBytes.{Appends-nil}
 use Rattle.tdf_blocks.specs.Refused.{SpellsText}
 use Rattle.tdf_cli.specs.Input.{Reading, BadWords, Text, TooLong, ReadFault, NoMemory}
 use Rattle.tdf_cli.specs.Outcome.{Outcome, note, ran, HasOutcome, usage, read_fault, too_long, faulty, unbuilt, reached, WritesOutcome, WritesFrontOf, WritesNothingOrFront}
+use Rattle.tdf_cli.specs.Refusals.{tree_fault}
 use Rattle.tdf_cli.specs.declared.status.Status.{Status}
 use Rattle.tdf_cli.specs.declared.status.Status.TheVariants.{Done}
 use Rattle.tdf_cli.specs.declared.words.Settings.TheVariants.{Run}
@@ -26,8 +27,8 @@ has_some usage = tt
 has_some read_fault = tt
 has_some too_long = tt
 has_some (faulty is) = tt
-has_some (unbuilt spells none) = tt
-has_some (reached thin spells is) = tt
+has_some (unbuilt spells sound none) = tt
+has_some (reached thin spells sound is) = tt
 
 front_of : (r : Reading) (a b c d : Option (List ℕ)) → WritesFrontOf r a b c d → WritesNothingOrFront r a b c d
 front_of BadWords a b c d w = inr w
@@ -56,19 +57,19 @@ noted_part (Ok s) r status a has wrote = tt
 noted_part {taken = taken} {old = old} {new = new} {text = text} (Err error) r status a has wrote =
     front_of r a a (taken old) (taken new) (record { outcome = note status text; has = has; out = front_none a []; notes = wrote.part })
 
-pub ran_all : (text : List ℕ) (tree : PureTree) (thin : Thin) (stop : ℕ) (a b c d : Option (List ℕ)) → SpellsText text tree → IsThinTree tree thin
+pub ran_all : (text : List ℕ) (tree : PureTree) (thin : Thin) (stop : ℕ) (a b c d : Option (List ℕ)) → SpellsText text tree → tree_fault tree ≡ None → IsThinTree tree thin
     → Appends a b (trace_text thin stop) → Appends c d (notes_text thin stop) → WritesOutcome (Text (Run stop) text) Done a b c d
-ran_all text tree thin stop a b c d spells is traced noted = record {
+ran_all text tree thin stop a b c d spells sound is traced noted = record {
   outcome = ran thin stop;
-  has = reached thin spells is;
+  has = reached thin spells sound is;
   answers = refl;
   out = traced;
   notes = noted;
 }
 
-pub ran_part : (text : List ℕ) (tree : PureTree) (thin : Thin) (stop : ℕ) (a b c d : Option (List ℕ)) → SpellsText text tree → IsThinTree tree thin
+pub ran_part : (text : List ℕ) (tree : PureTree) (thin : Thin) (stop : ℕ) (a b c d : Option (List ℕ)) → SpellsText text tree → tree_fault tree ≡ None → IsThinTree tree thin
     → AppendsFront a b (trace_text thin stop) → AppendsFront c d (notes_text thin stop) → WritesNothingOrFront (Text (Run stop) text) a b c d
-ran_part text tree thin stop a b c d spells is traced noted = inr (record { outcome = ran thin stop; has = reached thin spells is; out = traced; notes = noted })
+ran_part text tree thin stop a b c d spells sound is traced noted = inr (record { outcome = ran thin stop; has = reached thin spells sound is; out = traced; notes = noted })
 
 -- what holds for each text that spells a tree
 pub each_ok : {T E : Type 0} (result : Result T E) (tree : PureTree) (P : List ℕ → T → Type 0) → ((text : List ℕ) → SpellsText text tree → IfOk result (P text))

@@ -1,10 +1,10 @@
 -- The outcome of the command: what it answers, and what it writes on its output and on its notes (own).
-use Rattle.std.specs.Prelude.{ℕ, ◌≡◌, ◌⊎◌, List, [], Option, codes}
+use Rattle.std.specs.Prelude.{ℕ, ◌≡◌, ◌⊎◌, List, [], Option, None, codes}
 use Rattle.std.specs.Io.KnownBytes.{Appends, Keeps}
 use Rattle.tdf_base.specs.declared.faults.Fault.{Fault}
 use Rattle.tdf_blocks.specs.Refused.{SpellsText}
 use Rattle.tdf_cli.specs.Input.{Reading, BadWords, Text, TooLong, ReadFault, NoMemory}
-use Rattle.tdf_cli.specs.Refusals.{IsFirstFault, refusal_text, unbuilt_fault}
+use Rattle.tdf_cli.specs.Refusals.{IsFirstFault, tree_fault, refusal_text, unbuilt_fault}
 use Rattle.tdf_cli.specs.declared.status.Status.{Status}
 use Rattle.tdf_cli.specs.declared.status.Status.TheVariants as status
 use Rattle.tdf_cli.specs.declared.words.Settings.{Settings}
@@ -38,10 +38,11 @@ pub data HasOutcome : Reading → Outcome → Type 0 where
   read_fault : HasOutcome ReadFault (note status.ReadFault (codes "read fault\n"))
   too_long : HasOutcome TooLong (note status.TooLong (codes "too long\n"))
   faulty : {settings : Settings} {text : List ℕ} {fault : Fault} → IsFirstFault text fault → HasOutcome (Text settings text) (refused fault)
-  unbuilt : {stop : ℕ} {text : List ℕ} {tree : PureTree} → SpellsText text tree → ((thin : Thin) → IsThinTree tree thin → ⊥)
+  unbuilt : {stop : ℕ} {text : List ℕ} {tree : PureTree} → SpellsText text tree → tree_fault tree ≡ None
+      → ((thin : Thin) → IsThinTree tree thin → ⊥)
       → HasOutcome (Text (Run stop) text) (refused unbuilt_fault)
-  reached : {stop : ℕ} {text : List ℕ} {tree : PureTree} (thin : Thin) → SpellsText text tree → IsThinTree tree thin
-      → HasOutcome (Text (Run stop) text) (ran thin stop)
+  reached : {stop : ℕ} {text : List ℕ} {tree : PureTree} (thin : Thin) → SpellsText text tree → tree_fault tree ≡ None
+      → IsThinTree tree thin → HasOutcome (Text (Run stop) text) (ran thin stop)
 
 -- the answer and the bytes that both sinks gained are those of the outcome
 pub record WritesOutcome (r : Reading) (answer : Status) (out_old out_new notes_old notes_new : Option (List ℕ)) : Type 0 where

@@ -1,12 +1,12 @@
 //! What each outcome writes.
 
 ghost use Rattle.std.specs.Io.KnownBytes.{Appends, Keeps};
-ghost use Rattle.std.specs.Prelude.{◌≡◌, ◌⊎◌, ◌≤◌, ◌<◌, List, ℕ, Err, length, IfOk, OnErr, IsErrOf};
+ghost use Rattle.std.specs.Prelude.{◌≡◌, ◌⊎◌, ◌≤◌, ◌<◌, List, ℕ, None, Err, length, IfOk, OnErr, IsErrOf};
 ghost use Rattle.tdf_base.specs.Limits.{longest_text, time_end};
 ghost use Rattle.tdf_blocks.specs.Refused.{SpellsText};
 ghost use Rattle.tdf_cli.specs.Input.{NoMemory, Reading, Text, reading, IsReady};
 ghost use Rattle.tdf_cli.specs.Outcome.{WritesFrontOf, WritesNothingOrFront, WritesOutcome};
-ghost use Rattle.tdf_cli.specs.Refusals.{refusal_text};
+ghost use Rattle.tdf_cli.specs.Refusals.{refusal_text, tree_fault};
 ghost use Rattle.tdf_cli.specs.declared.status.Status.TheVariants.{Done, Refused};
 ghost use Rattle.tdf_cli.specs.declared.words.Settings.TheVariants.{Run};
 ghost use Rattle.tdf_io.specs.Bytes.{WritesText};
@@ -14,13 +14,15 @@ ghost use Rattle.tdf_io.specs.Faults.{FaultsRose};
 ghost use Rattle.tdf_io.specs.declared.writing.SinkErr.TheVariants.{Failed, Memory};
 ghost use Rattle.tdf_tree.specs.Views.{pure_tree};
 
+use crate::checks::check;
 use crate::load::Input;
-use crate::refusals::{first_fault, push_refusal, unbuilt};
+use crate::refusals::{first_fault, on_line, push_refusal, unbuilt};
 use crate::status::Status;
 use crate::words::Settings;
 use std::alloc::Global;
 use tdf_base::Fault;
 use tdf_blocks::parse;
+use tdf_faults::TypeErr;
 use tdf_io::{Sink, SinkErr, put_all};
 use tdf_thin::{ThinErr, run_thin, thin_of};
 use tdf_tree::Tree;
@@ -50,7 +52,35 @@ fn refuse<N: Sink>(alloc: Global, notes: &mut N, fault: Fault) -> Result<Status,
     }
 }
 
-/// Runs the model of a tree, and answers `Done`; or notes that such a model isn't run yet, and answers `Refused`.
+/// Runs the model of a tree without a fault, and answers `Done`; or notes that such a model isn't run yet, and answers
+/// `Refused`.
+fn run_checked<O: Sink, N: Sink>(
+    alloc: Global,
+    tree: &Tree,
+    stop: u64,
+    out: &mut O,
+    notes: &mut N,
+) -> Result<Status, SinkErr>
+    requires stop { stop < time_end }
+    requires none { tree_fault (pure_tree tree.now) ≡ None }
+    ensures all { IfOk result (λ s. (text : List ℕ) → SpellsText text (pure_tree tree.now) → WritesOutcome (Text (Run stop) text) s
+        (O.taken out.old) (O.taken out.new) (N.taken notes.old) (N.taken notes.new)) }
+    ensures part { OnErr result ((text : List ℕ) → SpellsText text (pure_tree tree.now) → WritesNothingOrFront (Text (Run stop) text)
+        (O.taken out.old) (O.taken out.new) (N.taken notes.old) (N.taken notes.new)) }
+    ensures cause { IsErrOf result Failed → FaultsRose (O.faults out.old) (O.faults out.new) ⊎ FaultsRose (N.faults notes.old) (N.faults notes.new) }
+{
+    match thin_of(alloc, tree) {
+        Ok(thin) => match run_thin(alloc, &thin, stop, out, notes) {
+            Ok(_) => Ok(Status::Done),
+            Err(error) => Err(error),
+        },
+        Err(ThinErr::Unbuilt) => refuse(alloc, notes, unbuilt()),
+        Err(ThinErr::Memory) => Err(SinkErr::Memory),
+    }
+}
+
+/// Runs the model of a tree, and answers `Done`; or notes its first fault, or that such a model isn't run yet, and answers
+/// `Refused`.
 fn run_tree<O: Sink, N: Sink>(
     alloc: Global,
     tree: &Tree,
@@ -65,13 +95,10 @@ fn run_tree<O: Sink, N: Sink>(
         (O.taken out.old) (O.taken out.new) (N.taken notes.old) (N.taken notes.new)) }
     ensures cause { IsErrOf result Failed → FaultsRose (O.faults out.old) (O.faults out.new) ⊎ FaultsRose (N.faults notes.old) (N.faults notes.new) }
 {
-    match thin_of(alloc, tree) {
-        Ok(thin) => match run_thin(alloc, &thin, stop, out, notes) {
-            Ok(_) => Ok(Status::Done),
-            Err(error) => Err(error),
-        },
-        Err(ThinErr::Unbuilt) => refuse(alloc, notes, unbuilt()),
-        Err(ThinErr::Memory) => Err(SinkErr::Memory),
+    match check(alloc, tree) {
+        Ok(()) => run_checked(alloc, tree, stop, out, notes),
+        Err(TypeErr::Line { code, line }) => refuse(alloc, notes, on_line(code, line)),
+        Err(TypeErr::Memory) => Err(SinkErr::Memory),
     }
 }
 

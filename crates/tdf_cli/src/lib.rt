@@ -3,11 +3,13 @@
 //! * `command`: the top call.
 //! * `words`: what the words ask for.
 //! * `load`: reads the model.
+//! * `checks`: the checks of a tree, phase by phase.
 //! * `jobs`: what each outcome writes.
 //! * `refusals`: the faults of texts, and how they are noted.
 //! * `status`: the answers and their numbers.
 #![tactic(auto)]
 
+mod checks;
 mod command;
 mod jobs;
 mod load;

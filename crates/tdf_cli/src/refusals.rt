@@ -8,7 +8,8 @@ ghost use Rattle.tdf_cli.specs.Refusals.{IsFirstFault, on_line, refusal_text, un
 use tdf_base::{Code, Fault, Memory, Place, push_fault};
 use tdf_blocks::LangErr;
 
-fn on_line(code: Code, line: u32) -> Fault
+/// A fault of a line.
+pub(crate) fn on_line(code: Code, line: u32) -> Fault
     ensures { result ≡ on_line code line }
 {
     Fault {
