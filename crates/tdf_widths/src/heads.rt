@@ -9,9 +9,9 @@ ghost use Rattle.tdf_scope.specs.Faults.{changes, limit_faults, multiple_faults,
 ghost use Rattle.tdf_scope.specs.Faults.{stmt_faults, target_faults, value_faults};
 ghost use Rattle.tdf_scope.specs.Scope.{greatest_of, least_of};
 ghost use Rattle.tdf_scope.specs.Seen.{seen, seen_loop};
-ghost use Rattle.tdf_widths.specs.machine.Sites.{change_faults_at, changes_at, for_faults_at, limit_faults_at};
+ghost use Rattle.tdf_widths.specs.machine.Sites.{change_faults_at, changes_at, for_faults_at, limit_faults_at, notify_faults_at};
 ghost use Rattle.tdf_widths.specs.machine.Sites.{stmt_faults_at, target_faults_at, value_faults_at};
-ghost use Rattle.tdf_tree.specs.Pure.{SAssign, SNotify, SSetRate, SSetStep};
+ghost use Rattle.tdf_tree.specs.Pure.{SAssign, SSetRate, SSetStep};
 ghost use Rattle.tdf_tree.specs.Views.{pure_expr};
 
 use crate::exprs::check_expr;
@@ -187,9 +187,8 @@ pub fn note_for(first: &mut Option<LineFault>, site: &Site, from: u64, limit: &L
 
 /// Notes the faults of `notify`.
 #[tactic(auto, using(crate::proofs::Leasts::least_laws))]
-pub fn note_notify(first: &mut Option<LineFault>, site: &Site, event: &Name, after: u64)
-    ensures { first.new ≡ least_with first.old
-        (stmt_faults_at site.now (SNotify site.now.line event.now after)) }
+pub fn note_notify(first: &mut Option<LineFault>, site: &Site, event: &Name)
+    ensures { first.new ≡ least_with first.old (notify_faults_at site.now event.now) }
 {
     *first = noted(*first, !notifies(site.part), Code::Kind, site.line);
     note_kind(first, Place::Notified, site.named(event), site.line);

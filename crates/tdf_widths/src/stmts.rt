@@ -68,9 +68,9 @@ fn check_leaf<'t>(
             let site = site_of(&*scope, part, &*loops, *line);
             note_assign(first, &site, name, index, value);
         }
-        Stmt::Notify { line, event, after } => {
+        Stmt::Notify { line, event, .. } => {
             let site = site_of(&*scope, part, &*loops, *line);
-            note_notify(first, &site, event, *after);
+            note_notify(first, &site, event);
         }
         Stmt::SetRate { line, name, value } => {
             let site = site_of(&*scope, part, &*loops, *line);

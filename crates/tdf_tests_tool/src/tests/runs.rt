@@ -208,8 +208,8 @@ const RAMPS: &[(&str, &str, &str, &[&str], u8, &str)] = &[
         USAGE,
         "usage\n",
     ),
-    ("language 1", "65", "1us", RUN, 1, "refused UNBUILT\n"),
-    ("language 1", "16", "0s", RUN, 1, "refused UNBUILT\n"),
+    ("language 1", "65", "1us", RUN, 1, "refused FORMAT line 2\n"),
+    ("language 1", "16", "0s", RUN, 1, "refused LIMIT line 7\n"),
     (
         "language 1",
         "16",

@@ -3,14 +3,15 @@ use Rattle.std.specs.Prelude.{ℕ, Bool, not, List, [], ◌++◌, Option, map, n
 use Rattle.tdf_base.specs.declared.codes.Code.TheVariants as code
 use Rattle.tdf_faults.specs.First.{fault_if}
 use Rattle.tdf_faults.specs.declared.first.LineFault.{LineFault}
-use Rattle.tdf_scope.specs.Faults.{changes, expr_faults, limit_faults, step_faults, stmt_faults}
+use Rattle.tdf_scope.specs.Faults.{changes, expr_faults, limit_faults, notifies, stmt_faults}
 use Rattle.tdf_scope.specs.Faults.{target_faults, value_faults}
-use Rattle.tdf_scope.specs.Index.{breaks_in, breaks_size, index_faults, name_faults, name_in}
+use Rattle.tdf_scope.specs.Index.{breaks_in, breaks_size, index_faults, kind_faults, name_faults, name_in}
 use Rattle.tdf_scope.specs.Names.{Thing}
 use Rattle.tdf_scope.specs.Scope.{OpenLoop, Scope, least_of, named}
 use Rattle.tdf_scope.specs.Seen.{seen_loop}
 use Rattle.tdf_scope.specs.Width.{Width, width}
 use Rattle.tdf_scope.specs.declared.kinds.Part.{Part}
+use Rattle.tdf_scope.specs.declared.kinds.Place.TheVariants as place
 use Rattle.tdf_tree.specs.Pure.{PureExpr, PureStmt, SIf, SFor}
 use Rattle.tdf_tree.specs.declared.expr.Index.{Index}
 use Rattle.tdf_tree.specs.declared.stmt.Limit.{Limit}
@@ -71,3 +72,9 @@ abbrev pub leaf_faults : Scope → Part → List OpenLoop → PureStmt → List 
 leaf_faults scope body loops (SIf line test a b) = []
 leaf_faults scope body loops (SFor line name from end inner) = []
 leaf_faults scope body loops s = stmt_faults scope body loops s
+
+-- `notify`, whatever the time
+abbrev pub notify_faults_at : Site → List ℕ → List LineFault
+notify_faults_at site event =
+    fault_if (not (notifies site.part)) code.Kind site.line
+    ++ kind_faults place.Notified (named_at site event) site.line

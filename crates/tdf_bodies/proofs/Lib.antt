@@ -1,0 +1,11 @@
+pub mod Acting
+pub mod Assigned
+pub mod Elements
+pub mod Ends
+pub mod Indexed
+pub mod Lists
+pub mod Literals
+pub mod Numbered
+pub mod Operands
+pub mod Operators
+pub mod Stored

@@ -1,0 +1,3 @@
+pub mod Layouts
+pub mod Promises
+pub mod machine
