@@ -1,4 +1,5 @@
 pub mod Acting
+pub mod Api
 pub mod Assigned
 pub mod Elements
 pub mod Ends

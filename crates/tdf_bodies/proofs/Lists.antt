@@ -106,3 +106,7 @@ pub ruleset list_laws = (acts_none, acts_next, acts_all, stmts_none, stmts_all)
 
 pub fine_body : (scope : Scope) (ss : PureStmts) (act : Act) → IsSound scope → AreFaultless scope ss → KeepsStmts deepest_nesting ss → ActsAll scope [] ss act → PerformsAll scope [] ss act
 fine_body scope ss act sound none nested all = all.performs (record { body = none.body; none = none.none; depth = deepest_nesting; nested = nested; room = omega arith; sound = sound })
+
+-- statements without a fault in one body are statements without a fault
+pub faultless : (scope : Scope) (body : Part) (ss : PureStmts) → stmts_faults scope body [] ss ≡ [] → AreFaultless scope ss
+faultless scope body ss none = record { body = body; none = none }
