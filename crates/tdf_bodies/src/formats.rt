@@ -68,10 +68,11 @@ fn read(text: &[u8], format: Format) -> i128
 ///
 /// # Errors
 /// Out of memory.
-pub(crate) fn literal_in(alloc: Global, shape: Shape, value: &Lit) -> Result<i128, Memory>
+pub fn literal_in(alloc: Global, shape: Shape, value: &Lit) -> Result<i128, Memory>
     requires legal { IsLegal shape.wl shape.iwl }
     requires number { KeepsLit value.now }
-    ensures { IfOk result (λ num. num ≡ literal_number shape value.now.minus (numeral_of value.now.digits)) }
+    ensures { IfOk result (λ num.
+        num ≡ literal_number shape value.now.minus (numeral_of value.now.digits)) }
 {
     let text = text_of(alloc, value)?;
     let num = read(&text, format_of(shape));

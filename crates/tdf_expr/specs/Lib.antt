@@ -1,0 +1,5 @@
+pub mod Blocks
+pub mod Checked
+pub mod Plans
+pub mod Runs
+pub mod machine

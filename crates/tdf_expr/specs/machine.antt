@@ -1,0 +1,4 @@
+-- How the code of this crate works.
+pub mod Cells
+pub mod Fine
+pub mod Parts

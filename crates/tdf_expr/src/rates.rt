@@ -1,0 +1,55 @@
+//! The rate variables of a block.
+
+ghost use Rattle.std.specs.Prelude.{◌≡◌, ◌++◌, slice_get, Some, OnOk, IfOk};
+ghost use Rattle.tdf_expr.specs.Plans.{rate_span, rate_spans};
+ghost use Rattle.tdf_scope.specs.Names.{Thing as ThingSeen};
+ghost use Rattle.tdf_scope.specs.Seen.{seen};
+
+use crate::spans::RateSpan;
+use std::alloc::Global;
+use tdf_base::Memory;
+use tdf_scope::{Scope, Thing};
+
+/// The limits of a name that is a rate variable.
+#[tactic(auto, using(crate::proofs::Pushes::cell_laws))]
+fn push_rate(spans: &mut Vec<RateSpan>, thing: Thing) -> Result<(), Memory>
+    ensures { OnOk result (spans.new.items ≡ spans.old.items ++ rate_span (seen thing.entry)) }
+{
+    match thing {
+        Thing::RateVar(least, greatest, start) => {
+            spans.push(RateSpan {
+                least,
+                greatest,
+                start,
+            })?;
+            Ok(())
+        }
+        _ => Ok(()),
+    }
+}
+
+/// The limits of the name at a place.
+fn push_place(spans: &mut Vec<RateSpan>, scope: &Scope, place: usize) -> Result<(), Memory>
+    ensures { (t : ThingSeen) → slice_get scope.now.own.things place ≡ Some t
+        → OnOk result (spans.new.items ≡ spans.old.items ++ rate_span t) }
+{
+    match scope.own_at(place) {
+        None => Ok(()),
+        Some(thing) => push_rate(spans, thing),
+    }
+}
+
+/// The rate variables of a block.
+///
+/// # Errors
+/// Out of memory.
+#[tactic(auto, using(crate::proofs::Planned::plan_laws))]
+pub(crate) fn rate_plan(alloc: Global, scope: &Scope) -> Result<Vec<RateSpan>, Memory>
+    ensures { IfOk result (λ spans. spans.items ≡ rate_spans scope.now.own) }
+{
+    let mut spans = Vec::new(alloc);
+    for place in 0..scope.own_len() {
+        push_place(&mut spans, scope, place)?;
+    }
+    Ok(spans)
+}
