@@ -4,6 +4,8 @@ ghost use Rattle.std.specs.Prelude.{◌≡◌, ◌≢◌, Err, List, [], IfOk, O
 ghost use Rattle.tdf_checks.specs.Types.{type_faults};
 ghost use Rattle.tdf_expr.specs.Checked.{IsCheckedOf};
 ghost use Rattle.tdf_faults.specs.First.{first_of, verdict_of};
+ghost use Rattle.tdf_faults.specs.declared.refusal.TypeErr.{TypeErr as TypeErrOf};
+ghost use Rattle.tdf_faults.specs.declared.refusal.TypeErr.TheVariants as why;
 ghost use Rattle.tdf_tree.specs.Kept.{IsKept};
 ghost use Rattle.tdf_tree.specs.Views.{pure_tree};
 
@@ -61,6 +63,8 @@ fn compiled(alloc: Global, tree: &Tree) -> Result<Checked, Memory>
 pub fn check_bodies(alloc: Global, tree: &Tree) -> Result<Checked, TypeErr>
     requires kept { IsKept (pure_tree tree.now) }
     ensures none { OnOk result (type_faults (pure_tree tree.now) ≡ []) }
+    ensures refused { (e : TypeErrOf) → result ≡ Err e → e ≢ why.Memory
+        → Err e ≡ verdict_of (first_of (type_faults (pure_tree tree.now))) }
     ensures checked { IfOk result (λ checked. IsCheckedOf (pure_tree tree.now) checked) }
 {
     check_types(alloc, tree)?;
