@@ -7,7 +7,7 @@ use Rattle.tdf_bodies.proofs.Stored.{cell_within, sample_within}
 use Rattle.tdf_bodies.specs.Layouts.{IsNumbered}
 use Rattle.tdf_bodies.specs.declared.numbers.Numbers.{Numbers}
 use Rattle.tdf_bodies.specs.machine.Acting.{IsTarget, Sets, SetsCell, SetsSample}
-use Rattle.tdf_bodies.specs.machine.Found.{IsFormatOf}
+use Rattle.tdf_bodies.specs.Formats.{IsFormatOf}
 use Rattle.tdf_bodies.specs.machine.Indexed.{IsSpotOf}
 use Rattle.tdf_fixed.specs.declared.format.Format.{Format}
 use Rattle.tdf_machine.specs.Nodes.{node_value, spot_place}

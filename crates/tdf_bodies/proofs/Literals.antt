@@ -3,7 +3,7 @@ use Rattle.std.proofs.Common.{◌≡◌, ℕ, Bool, true, List, ◌∷◌, Optio
 use Rattle.std.specs.Prelude.{if◌then◌else◌}
 use Rattle.tdf_base.proofs.Api.{reads_numerals}
 use Rattle.tdf_base.specs.Number.{Numeral, numeral_of, is_number, is_short_numeral}
-use Rattle.tdf_bodies.specs.machine.Found.{IsFormatOf}
+use Rattle.tdf_bodies.specs.Formats.{IsFormatOf}
 use Rattle.tdf_fixed.proofs.Api.{reads_literals}
 use Rattle.tdf_fixed.specs.Cast.{cast_of, fraction_of}
 use Rattle.tdf_fixed.specs.Literal.{Literal, literal_of, literal_cast, decimal_of, decimal_with}

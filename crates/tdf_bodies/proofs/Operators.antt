@@ -12,7 +12,7 @@ use Rattle.tdf_bodies.proofs.Literals.{same_fraction, same_cast}
 use Rattle.tdf_bodies.proofs.Operands.{Operand, operand, few_of, narrow, narrow_line, both_raised, product_few, below_most}
 use Rattle.tdf_bodies.specs.machine.Combined.{AreFew, IsCombined, IsChoice, combined_number}
 use Rattle.tdf_bodies.specs.machine.Computed.{Computes}
-use Rattle.tdf_bodies.specs.machine.Found.{IsFormatOf}
+use Rattle.tdf_bodies.specs.Formats.{IsFormatOf}
 use Rattle.tdf_faults.proofs.Api.{if_none, none_first, none_second}
 use Rattle.tdf_fixed.specs.Cast.{cast_of, IsLegal}
 use Rattle.tdf_fixed.specs.declared.format.Format.{Format}

@@ -2,7 +2,7 @@
 
 ghost use Rattle.std.specs.Prelude.{◌≡◌, ◌∷◌, min, Ok, IfOk, if◌then◌else◌};
 ghost use Rattle.tdf_base.specs.Number.{numeral_of};
-ghost use Rattle.tdf_bodies.specs.machine.Found.{IsFormatOf};
+ghost use Rattle.tdf_bodies.specs.Formats.{IsFormatOf};
 ghost use Rattle.tdf_fixed.specs.Cast.{IsLegal};
 ghost use Rattle.tdf_fixed.specs.Literal.{decimal_of};
 ghost use Rattle.tdf_fixed.specs.declared.raw.Raw.{Raw as RawOf};
@@ -16,7 +16,7 @@ use tdf_fixed::{Format, read_decimal};
 use tdf_tree::{Lit, Shape};
 
 /// The format that a line wrote.
-pub(crate) fn format_of(shape: Shape) -> Format
+pub fn format_of(shape: Shape) -> Format
     requires { IsLegal shape.wl shape.iwl }
     ensures { IsFormatOf shape result }
 {

@@ -18,7 +18,7 @@ mod spots;
 mod stmts;
 mod targets;
 
-pub use formats::literal_in;
+pub use formats::{format_of, literal_in};
 pub use layouts::Layout;
 pub use numbers::Numbers;
 pub use stmts::compile_body;

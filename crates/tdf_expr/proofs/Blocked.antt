@@ -8,12 +8,12 @@ use Rattle.std.specs.Prelude.{map, slice_get}
 use Rattle.tdf_bodies.specs.Promises.{PerformsAll}
 use Rattle.std.specs.declared.alloc.Global.{Global}
 use Rattle.tdf_expr.specs.Blocks.{PureBlock, Events, body_of, scope_of, process_body}
-use Rattle.tdf_expr.specs.declared.checked.Block.{Block}
+use Rattle.tdf_expr.specs.declared.blocks.Block.{Block}
 use Rattle.tdf_scope.specs.Names.{Names}
-use Rattle.tdf_expr.specs.Checked.{AreProcesses, IsActOf, IsBlockOf, AreBlocksOf, act_of}
+use Rattle.tdf_expr.specs.Compiled.{AreProcesses, IsActOf, IsBlockOf, AreBlocksOf, act_of}
 use Rattle.tdf_expr.specs.declared.bodies.Body.{Body}
 use Rattle.tdf_expr.specs.declared.bodies.Body.TheVariants as body
-use Rattle.tdf_expr.specs.declared.checked.Acts.TheVariants as acts
+use Rattle.tdf_expr.specs.declared.blocks.Acts.TheVariants as acts
 use Rattle.tdf_machine.specs.declared.acts.Act.{Act}
 use Rattle.tdf_scope.specs.Scope.{Scope}
 use Rattle.tdf_tree.specs.Pure.{PureProcess, PureDe}

@@ -1,6 +1,8 @@
 pub mod Blocked
 pub mod Declared
 pub mod Finely
+pub mod Fitting
+pub mod Framed
 pub mod Listed
 pub mod Planned
 pub mod Ported

@@ -3,8 +3,8 @@ use Rattle.std.proofs.Common.{◌≡◌, ◌∙◌, ℕ, zero, suc, ◌+◌, ◌
 use Rattle.std.proofs.lemmas.List.{drop_all}
 use Rattle.std.specs.List.{flat_map}
 use Rattle.std.specs.Prelude.{slice_get}
-use Rattle.tdf_expr.specs.machine.Cells.{AreStartsKept}
-use Rattle.tdf_scope.specs.Names.{Names, Thing, Var, Array}
+use Rattle.tdf_expr.specs.machine.Cells.{AreStartsKept, IsRateKept, IsPortKept}
+use Rattle.tdf_scope.specs.Names.{Names, Thing, Var, Array, Port, RateVar}
 use Rattle.tdf_scope.specs.Scope.{Scope}
 use Rattle.tdf_scope.specs.Sound.{IsSound, IsThingSound}
 
@@ -41,6 +41,24 @@ pub starts_kept : (scope : Scope) (n : ℕ) (t : Thing) → IsSound scope → sl
 starts_kept scope n t sound e = kept_of scope.own t (sound.own n t e)
 
 pub ruleset cell_plan_laws = (starts_kept, plan_all)
+
+rate_of : (own : Names) (t : Thing) → IsThingSound own t → IsRateKept t
+rate_of own (RateVar a b c) holds = (holds.1, holds.2, holds.3)
+rate_of own _ holds = tt
+
+pub rate_kept : (scope : Scope) (n : ℕ) (t : Thing) → IsSound scope → slice_get scope.own.things n ≡ Some t → IsRateKept t
+rate_kept scope n t sound e = rate_of scope.own t (sound.own n t e)
+
+pub ruleset rate_plan_laws = (rate_kept)
+
+port_of : (own : Names) (t : Thing) → IsThingSound own t → IsPortKept t
+port_of own (Port a b c d) holds = holds.0
+port_of own _ holds = tt
+
+pub port_kept : (scope : Scope) (n : ℕ) (t : Thing) → IsSound scope → slice_get scope.own.things n ≡ Some t → IsPortKept t
+port_kept scope n t sound e = port_of scope.own t (sound.own n t e)
+
+pub ruleset port_plan_laws = (port_kept)
 
 -- what a place below the length has
 pub has_at : {A : Type 0} (xs : List A) (n : ℕ) → n < length xs → (x : A) × (slice_get xs n ≡ Some x)

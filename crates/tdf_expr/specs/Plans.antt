@@ -1,14 +1,29 @@
 -- What the values of a block look like (own): the formats of its cells, the state that it starts
 -- from, its rate variables and its ports, each in order of declaration.
 use Rattle.std.specs.List.{flat_map}
-use Rattle.std.specs.Prelude.{ℕ, ◌+◌, ◌-◌, List, [], ◌∷◌, ◌++◌, map, length, replicate, Option, ℤ, pos}
+use Rattle.std.specs.Prelude.{ℕ, ◌+◌, ◌-◌, List, [], ◌∷◌, ◌++◌, map, length, replicate, Option, Some, ℤ, pos}
 use Rattle.tdf_expr.specs.declared.spans.PortSpan.{PortSpan}
 use Rattle.tdf_expr.specs.declared.spans.RateSpan.{RateSpan}
+use Rattle.tdf_fixed.specs.declared.format.Format.{Format}
 use Rattle.tdf_meaning.specs.Value.{literal_in}
 use Rattle.tdf_scope.specs.Names.{Names, Thing, Var, Array, Port, RateVar}
 use Rattle.tdf_scope.specs.Scope.{greatest_of}
+use Rattle.tdf_tree.specs.declared.blocks.PortKind.{PortKind}
 use Rattle.tdf_tree.specs.declared.names.Lit.{Lit}
 use Rattle.tdf_tree.specs.declared.shapes.Shape.{Shape}
+
+-- a format as a line writes it
+abbrev pub shape_of_format : Format → Shape
+shape_of_format f = record {
+  signed = f.signed;
+  wl = f.wl;
+  iwl = f.iwl;
+  quant = f.quant;
+  over = f.over;
+}
+
+abbrev pub written : Format → Option Shape
+written f = Some (shape_of_format f)
 
 abbrev pub start_of : Option Shape → Lit → ℤ
 start_of shape v = (literal_in shape v).num
@@ -31,13 +46,28 @@ rate_span _ = []
 abbrev pub rate_spans : Names → List RateSpan
 rate_spans own = flat_map rate_span own.things
 
--- the ports of things, where the samples of those before them fill the places below `first`
-unfoldable pub spans_from : Names → ℕ → List Thing → List PortSpan
-spans_from own first [] = []
-spans_from own first (Port word shape rate delay ∷ things) =
-    record { word = word; shape = shape; first = first; count = greatest_of own rate }
-    ∷ spans_from own (first + greatest_of own rate) things
-spans_from own first (_ ∷ things) = spans_from own first things
+-- a port: its word, its format, and the places of its samples, as many as its greatest rate
+pub record PortPlace : Type 0 where
+  pub word : PortKind
+  pub shape : Option Shape
+  pub first : ℕ
+  pub count : ℕ
 
-abbrev pub port_spans : Names → List PortSpan
-port_spans own = spans_from own 0 own.things
+abbrev pub place_of_port : PortSpan → PortPlace
+place_of_port p = record {
+  word = p.word;
+  shape = written p.format;
+  first = p.first;
+  count = p.count;
+}
+
+-- the ports of things, where the samples of those before them fill the places below `first`
+unfoldable pub places_from : Names → ℕ → List Thing → List PortPlace
+places_from own first [] = []
+places_from own first (Port word shape rate delay ∷ things) =
+    record { word = word; shape = shape; first = first; count = greatest_of own rate }
+    ∷ places_from own (first + greatest_of own rate) things
+places_from own first (_ ∷ things) = places_from own first things
+
+abbrev pub port_places : Names → List PortPlace
+port_places own = places_from own 0 own.things

@@ -1,5 +1,4 @@
--- Running a body (own): in each state that fits a block's names, its body changes the state as the
--- language says.
+-- Running a body (own): it changes the state of an instance of its block as the language says.
 use Rattle.std.specs.Prelude.{◌≡◌, ℕ, Some, slice_get}
 use Rattle.tdf_expr.specs.Blocks.{PureBlock, blocks_of, scope_of, body_of}
 use Rattle.tdf_expr.specs.Checked.{IsCheckedOf}
@@ -16,17 +15,8 @@ use Rattle.tdf_tree.specs.Pure.{PureTree}
 abbrev pub scope_in : PureTree → PureBlock → Scope
 scope_in model block = scope_of (globals_of model.globals) block
 
--- a state of the block of this number
-pub record IsStateOf (checked : Checked) (number : ℕ) (s : State) : Type 0 where
-  pub model : PureTree
-  pub made : IsCheckedOf model checked
-  pub block : PureBlock
-  pub at : slice_get (blocks_of model.globals) number ≡ Some block
-  pub fits : StateFits (scope_in model block).own s
-
 -- what a body of the block of this number does
 pub record Ran (checked : Checked) (number : ℕ) (part : Body) (s done : State) : Type 0 where
   pub after : (model : PureTree) (block : PureBlock) → IsCheckedOf model checked
       → slice_get (blocks_of model.globals) number ≡ Some block
-      → StateFits (scope_in model block).own s
       → done ≡ after_body (scope_in model block) (body_of block part) s

@@ -1,4 +1,6 @@
 -- How the code of this crate works.
 pub mod Cells
 pub mod Fine
+pub mod Fitting
 pub mod Parts
+pub mod Zeroed

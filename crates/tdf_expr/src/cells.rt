@@ -1,9 +1,10 @@
 //! The cells of a block: their formats and starting values.
 
 ghost use Rattle.std.specs.List.{flat_map};
-ghost use Rattle.std.specs.Prelude.{◌≡◌, ◌++◌, ◌-◌, [], ◌∷◌, map, replicate, length, slice_get, Some, OnOk, IfOk, pos};
+ghost use Rattle.std.specs.Prelude.{◌≡◌, ◌≤◌, ◌-◌, ◌^◌, ◌++◌, [], ◌∷◌, map, replicate, length, slice_get, Some, OnOk, IfOk, pos};
 ghost use Rattle.tdf_expr.specs.machine.Cells.{AreStartsKept};
-ghost use Rattle.tdf_expr.specs.Plans.{start_of, starts_of, cell_starts};
+ghost use Rattle.tdf_expr.specs.Plans.{written, start_of, starts_of, cell_starts};
+ghost use Rattle.tdf_fixed.specs.Cast.{IsLegal};
 ghost use Rattle.tdf_meaning.specs.Places.{cells_of, cell_shapes};
 ghost use Rattle.tdf_scope.specs.Names.{Thing as ThingSeen, shape_of};
 ghost use Rattle.tdf_scope.specs.Seen.{seen};
@@ -12,23 +13,29 @@ ghost use Rattle.tdf_tree.specs.Kept.{Each, KeepsLit};
 
 use std::alloc::Global;
 use tdf_base::Memory;
-use tdf_bodies::literal_in;
+use tdf_bodies::{format_of, literal_in};
+use tdf_fixed::Format;
 use tdf_scope::{Scope, Thing};
 use tdf_tree::{Lit, Shape};
 
 /// One format, so many times.
 #[tactic(auto, using(crate::proofs::Pushes::push_laws))]
-fn push_shapes(
-    shapes: &mut Vec<Option<Shape>>,
-    shape: Option<Shape>,
-    count: u64,
-) -> Result<(), Memory>
-    ensures { OnOk result (shapes.new.items ≡ shapes.old.items ++ replicate count shape) }
+fn push_formats(formats: &mut Vec<Format>, format: Format, count: u64) -> Result<(), Memory>
+    ensures { OnOk result (formats.new.items ≡ formats.old.items ++ replicate count format) }
 {
     for done in 0..count {
-        shapes.push(shape)?;
+        formats.push(format)?;
     }
     Ok(())
+}
+
+/// The format of a line, so many times.
+fn push_shape(formats: &mut Vec<Format>, shape: Shape, count: u64) -> Result<(), Memory>
+    requires { IsLegal shape.wl shape.iwl }
+    ensures { OnOk result (map written formats.new.items
+        ≡ map written formats.old.items ++ replicate count (Some shape)) }
+{
+    push_formats(formats, format_of(shape), count)
 }
 
 /// So many zeros.
@@ -46,17 +53,14 @@ fn push_zeros(starts: &mut Vec<i128>, count: u64) -> Result<(), Memory>
 fn push_start(
     alloc: Global,
     starts: &mut Vec<i128>,
-    shape: Option<Shape>,
+    shape: Shape,
     value: &Lit,
 ) -> Result<(), Memory>
-    requires format { HasFormat shape }
+    requires legal { IsLegal shape.wl shape.iwl }
     requires kept { KeepsLit value.now }
-    ensures { OnOk result (starts.new.items ≡ starts.old.items ++ start_of shape value.now ∷ []) }
+    ensures { OnOk result (starts.new.items ≡ starts.old.items ++ start_of (Some shape) value.now ∷ []) }
 {
-    let num = match shape {
-        None => 0,
-        Some(shape) => literal_in(alloc, shape, value)?,
-    };
+    let num = literal_in(alloc, shape, value)?;
     starts.push(num)?;
     Ok(())
 }
@@ -66,12 +70,12 @@ fn push_start(
 fn push_starts(
     alloc: Global,
     starts: &mut Vec<i128>,
-    shape: Option<Shape>,
+    shape: Shape,
     values: &[Lit],
 ) -> Result<(), Memory>
-    requires format { HasFormat shape }
+    requires legal { IsLegal shape.wl shape.iwl }
     requires kept { Each KeepsLit values.now }
-    ensures { OnOk result (starts.new.items ≡ starts.old.items ++ map (start_of shape) values.now) }
+    ensures { OnOk result (starts.new.items ≡ starts.old.items ++ map (start_of (Some shape)) values.now) }
 {
     for value in values {
         push_start(alloc, starts, shape, value)?;
@@ -79,74 +83,114 @@ fn push_starts(
     Ok(())
 }
 
+/// The cells of an array.
+#[tactic(auto, using(crate::proofs::Pushes::cell_laws))]
+fn push_array(
+    alloc: Global,
+    formats: &mut Vec<Format>,
+    starts: &mut Vec<i128>,
+    shape: Shape,
+    size: u64,
+    values: &[Lit],
+) -> Result<(), Memory>
+    requires legal { IsLegal shape.wl shape.iwl }
+    requires kept { Each KeepsLit values.now }
+    ensures shapes { OnOk result (map written formats.new.items
+        ≡ map written formats.old.items ++ replicate size (Some shape)) }
+    ensures starts { OnOk result (starts.new.items ≡ starts.old.items
+        ++ (map (start_of (Some shape)) values.now ++ replicate (size - length values.now) (pos 0))) }
+{
+    push_shape(formats, shape, size)?;
+    push_starts(alloc, starts, shape, values)?;
+    push_zeros(starts, size.saturating_sub(values.len() as u64))
+}
+
+/// The cell of a variable.
+#[tactic(auto, using(crate::proofs::Pushes::cell_laws))]
+fn push_var(
+    alloc: Global,
+    formats: &mut Vec<Format>,
+    starts: &mut Vec<i128>,
+    shape: Shape,
+    start: &Lit,
+) -> Result<(), Memory>
+    requires legal { IsLegal shape.wl shape.iwl }
+    requires kept { KeepsLit start.now }
+    ensures shapes { OnOk result (map written formats.new.items ≡ map written formats.old.items ++ Some shape ∷ []) }
+    ensures starts { OnOk result (starts.new.items ≡ starts.old.items ++ start_of (Some shape) start.now ∷ []) }
+{
+    push_shape(formats, shape, 1)?;
+    push_start(alloc, starts, shape, start)
+}
+
 /// The cells of a name.
 #[tactic(auto, using(crate::proofs::Pushes::cell_laws))]
 fn push_cells(
     alloc: Global,
-    shapes: &mut Vec<Option<Shape>>,
+    formats: &mut Vec<Format>,
     starts: &mut Vec<i128>,
     thing: Thing,
 ) -> Result<(), Memory>
     requires { AreStartsKept (seen thing) }
-    ensures shapes { OnOk result (shapes.new.items ≡ shapes.old.items ++ replicate (cells_of (seen thing.entry)) (shape_of (seen thing.entry))) }
+    ensures shapes { OnOk result (map written formats.new.items
+        ≡ map written formats.old.items ++ replicate (cells_of (seen thing.entry)) (shape_of (seen thing.entry))) }
     ensures starts { OnOk result (starts.new.items ≡ starts.old.items ++ starts_of (seen thing.entry)) }
 {
     match thing {
-        Thing::Var(shape, start) => {
-            shapes.push(shape)?;
-            push_start(alloc, starts, shape, start)
-        }
-        Thing::Array(shape, size, values) => {
-            push_shapes(shapes, shape, size)?;
-            push_starts(alloc, starts, shape, values)?;
-            push_zeros(starts, size.saturating_sub(values.len() as u64))
+        Thing::Var(Some(shape), start) => push_var(alloc, formats, starts, shape, start),
+        Thing::Array(Some(shape), size, values) => {
+            push_array(alloc, formats, starts, shape, size, values)
         }
         _ => Ok(()),
     }
 }
 
-/// The formats of a block's cells, and the values that they start from.
+/// The formats of a block's cells, at most 2^31, and the values that they start from.
 #[derive(Drop)]
 pub(crate) struct CellPlan {
-    pub(crate) shapes: Vec<Option<Shape>>,
+    pub(crate) formats: Vec<Format>,
     pub(crate) starts: Vec<i128>,
+    pub(crate) ghost few: { length formats.items ≤ 2 ^ 31 },
 }
 
 /// The cells of the name at a place.
 #[tactic(auto, using(crate::proofs::Planned::cell_plan_laws))]
 fn push_place(
     alloc: Global,
-    shapes: &mut Vec<Option<Shape>>,
+    formats: &mut Vec<Format>,
     starts: &mut Vec<i128>,
     scope: &Scope,
     place: usize,
 ) -> Result<(), Memory>
     requires sound { IsSound scope.now }
     ensures shapes { (t : ThingSeen) → slice_get scope.now.own.things place ≡ Some t
-        → OnOk result (shapes.new.items ≡ shapes.old.items ++ replicate (cells_of t) (shape_of t)) }
+        → OnOk result (map written formats.new.items ≡ map written formats.old.items ++ replicate (cells_of t) (shape_of t)) }
     ensures starts { (t : ThingSeen) → slice_get scope.now.own.things place ≡ Some t
         → OnOk result (starts.new.items ≡ starts.old.items ++ starts_of t) }
 {
     match scope.own_at(place) {
         None => Ok(()),
-        Some(thing) => push_cells(alloc, shapes, starts, thing),
+        Some(thing) => push_cells(alloc, formats, starts, thing),
     }
 }
 
 /// The cells of a block.
 ///
 /// # Errors
-/// Out of memory.
+/// Out of memory, also where a block has more than 2^31 cells.
 #[tactic(auto, using(crate::proofs::Planned::cell_plan_laws))]
 pub(crate) fn cell_plan(alloc: Global, scope: &Scope) -> Result<CellPlan, Memory>
     requires sound { IsSound scope.now }
-    ensures shapes { IfOk result (λ p. p.shapes.items ≡ cell_shapes scope.now.own) }
+    ensures shapes { IfOk result (λ p. map written p.formats.items ≡ cell_shapes scope.now.own) }
     ensures starts { IfOk result (λ p. p.starts.items ≡ cell_starts scope.now.own) }
 {
-    let mut shapes = Vec::new(alloc);
+    let mut formats = Vec::new(alloc);
     let mut starts = Vec::new(alloc);
     for place in 0..scope.own_len() {
-        push_place(alloc, &mut shapes, &mut starts, scope, place)?;
+        push_place(alloc, &mut formats, &mut starts, scope, place)?;
     }
-    Ok(CellPlan { shapes, starts })
+    if formats.len() > 1 << 31 {
+        return Err(Memory);
+    }
+    Ok(CellPlan { formats, starts })
 }

@@ -5,15 +5,15 @@ ghost use Rattle.tdf_base.specs.Limits.{deepest_nesting};
 ghost use Rattle.tdf_bodies.specs.Promises.{AreFaultless, PerformsAll};
 ghost use Rattle.tdf_expr.specs.Blocks.{PureBlock, Module, Events, block_of, blocks_of, body_of};
 ghost use Rattle.tdf_expr.specs.machine.Fine.{IsBlockFine};
-ghost use Rattle.tdf_expr.specs.Checked.{AreBlocksOf, IsBlockOf, IsActOf, AreProcesses, act_of};
+ghost use Rattle.tdf_expr.specs.Compiled.{AreBlocksOf, IsBlockOf, IsActOf, AreProcesses, act_of};
 ghost use Rattle.tdf_expr.specs.declared.bodies.Body.{Body as BodyOf};
 ghost use Rattle.tdf_scope.specs.Sound.{IsSound};
 ghost use Rattle.tdf_tree.specs.Pure.{PureGlobal, PureProcess};
 ghost use Rattle.tdf_tree.specs.Kept.{KeepsStmts};
 ghost use Rattle.tdf_tree.specs.Views.{pure_global, pure_tdf, pure_de, pure_process, pure_stmts};
 
+use crate::blocks::{Acts, Block};
 use crate::cells::cell_plan;
-use crate::checked::{Acts, Block};
 use crate::events::event_count;
 use crate::ports::port_plan;
 use crate::rates::rate_plan;

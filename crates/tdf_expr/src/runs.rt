@@ -1,13 +1,17 @@
 //! How bodies run.
 
 ghost use Rattle.std.specs.Prelude.{◌≡◌, ◌∷◌, [], slice_get};
-ghost use Rattle.tdf_expr.specs.Checked.{act_of};
+ghost use Rattle.tdf_expr.specs.Compiled.{act_of};
 ghost use Rattle.tdf_expr.specs.machine.Parts.{IsSafePart, part_done};
-ghost use Rattle.tdf_expr.specs.Runs.{IsStateOf, Ran};
+ghost use Rattle.tdf_expr.specs.Made.{AreMadeFor};
+ghost use Rattle.tdf_expr.specs.Runs.{Ran};
 ghost use Rattle.tdf_state.specs.State.{state_of};
 
+use crate::blocks::Acts;
 use crate::bodies::Body;
-use crate::checked::{Acts, Checked};
+use crate::checked::Checked;
+use crate::frames::Frame;
+use crate::samples::Ports;
 use tdf_machine::{Act, run};
 use tdf_state::{Cells, Signals};
 
@@ -43,21 +47,14 @@ pub(crate) fn run_part(acts: &Acts, body: Body, cells: &mut Cells, signals: &mut
     }
 }
 
-/// Runs a body of the block of a number. It takes no memory and is never refused.
-#[tactic(auto, using(crate::proofs::Ran::run_laws))]
-pub fn run_body(
-    checked: &Checked,
-    number: u32,
-    body: Body,
-    cells: &mut Cells,
-    signals: &mut Signals,
-)
-    requires state { IsStateOf checked.now number (state_of cells.old signals.old) }
-    ensures after { Ran checked.now number body (state_of cells.old signals.old)
-        (state_of cells.new signals.new) }
+/// Runs a body of the block of a number, over an instance that was made for this block. A body that the block doesn't
+/// have changes nothing. It takes no memory and is never refused.
+pub fn run_body(checked: &Checked, number: u32, body: Body, frame: &mut Frame, ports: &mut Ports)
+    requires made { AreMadeFor checked.now number frame.old ports.old }
+    ensures after { Ran checked.now number body (state_of frame.old.state ports.old.state)
+        (state_of frame.new.state ports.new.state) }
+    ensures frame { AreMadeFor checked.now number frame.new ports.new }
 {
-    let place = number as usize;
-    if place < checked.blocks.len() {
-        run_part(&checked.blocks[place].acts, body, cells, signals);
-    }
+    let block = &checked.blocks[number as usize];
+    run_part(&block.acts, body, &mut frame.cells, &mut ports.signals);
 }

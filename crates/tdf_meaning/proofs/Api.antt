@@ -10,3 +10,4 @@ pub use Rattle.tdf_meaning.proofs.Widths.{element_kind, own_of, has_element, fir
 pub use Rattle.tdf_meaning.proofs.Widths.{within}
 pub use Rattle.tdf_meaning.proofs.Keeps.{IsLimit, is_limit, rate_kind, rate_own, IsRateVar, rate_var, rate_within, loops_more}
 pub use Rattle.tdf_meaning.proofs.Keeps.{IsElement, target_element, keeps}
+pub use Rattle.tdf_meaning.proofs.Sets.{numbers_set, rates_set}

@@ -4,7 +4,6 @@ use Rattle.tdf_bodies.specs.Layouts.{IsNumbered}
 use Rattle.tdf_bodies.specs.declared.numbers.Numbers.{Numbers}
 use Rattle.tdf_bodies.specs.machine.Computed.{IsAt}
 use Rattle.tdf_fixed.specs.Cast.{IsLegal}
-use Rattle.tdf_fixed.specs.declared.format.Format.{Format}
 use Rattle.tdf_machine.specs.Nodes.{node_value, spot_place, IsSafe, IsSpot}
 use Rattle.tdf_machine.specs.declared.nodes.Node.{Node}
 use Rattle.tdf_machine.specs.declared.spots.Spot.{Spot}
@@ -26,14 +25,6 @@ pub record IsFound (own : Names) (name : List ℕ) (t : Thing) (p : Numbers) : T
   pub is : thing_of own name ≡ Some t
   pub numbered : IsNumbered own place p
   pub sound : IsThingSound own t
-
--- a format, by the line that wrote it
-pub record IsFormatOf (shape : Shape) (f : Format) : Type 0 where
-  pub signed : f.signed ≡ shape.signed
-  pub wl : f.wl ≡ shape.wl
-  pub iwl : f.iwl ≡ shape.iwl
-  pub quant : f.quant ≡ shape.quant
-  pub over : f.over ≡ shape.over
 
 -- what a constant keeps
 abbrev pub IsKept : Thing → Type 0

@@ -1,13 +1,13 @@
 use Rattle.std.proofs.Common.{◌≡◌, ◌++◌, drop}
 use Rattle.std.specs.List.{flat_map}
-use Rattle.std.specs.Prelude.{replicate}
+use Rattle.std.specs.Prelude.{replicate, map}
 use Rattle.tdf_expr.proofs.cells.cell_plan.Given as goal
-use Rattle.tdf_expr.specs.Plans.{starts_of, cell_starts}
+use Rattle.tdf_expr.specs.Plans.{written, starts_of, cell_starts}
 use Rattle.tdf_meaning.specs.Places.{cells_of, cell_shapes}
 use Rattle.tdf_scope.specs.Names.{shape_of}
 
 abbrev pub invariant-loop-place : goal.invariant-loop-place
 invariant-loop-place l = record {
-  shapes : l.shapes.items ++ flat_map (λ t. replicate (cells_of t) (shape_of t)) (drop l.place l.scope.own.things) ≡ cell_shapes l.scope.own;
+  shapes : map written l.formats.items ++ flat_map (λ t. replicate (cells_of t) (shape_of t)) (drop l.place l.scope.own.things) ≡ cell_shapes l.scope.own;
   starts : l.starts.items ++ flat_map starts_of (drop l.place l.scope.own.things) ≡ cell_starts l.scope.own;
 }

@@ -5,7 +5,7 @@ use Rattle.std.specs.Prelude.{map}
 use Rattle.tdf_expr.proofs.Listed.{global_at, blocks_take, blocks_whole}
 use Rattle.tdf_expr.proofs.modules.block_list.Goals as goal
 use Rattle.tdf_expr.specs.Blocks.{PureBlock, blocks_of}
-use Rattle.tdf_expr.specs.Checked.{AreBlocksOf}
+use Rattle.tdf_expr.specs.Compiled.{AreBlocksOf}
 use Rattle.tdf_tree.specs.Views.{pure_global}
 
 pub push_block-requires : goal.push_block-requires

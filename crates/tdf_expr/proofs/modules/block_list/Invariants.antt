@@ -1,7 +1,7 @@
 use Rattle.std.specs.Prelude.{map}
 use Rattle.std.proofs.Math.ListN.{take}
 use Rattle.tdf_expr.specs.Blocks.{blocks_of}
-use Rattle.tdf_expr.specs.Checked.{AreBlocksOf}
+use Rattle.tdf_expr.specs.Compiled.{AreBlocksOf}
 use Rattle.tdf_expr.proofs.modules.block_list.Given as goal
 use Rattle.tdf_tree.specs.Views.{pure_global}
 

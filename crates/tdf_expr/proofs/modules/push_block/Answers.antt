@@ -2,8 +2,8 @@ use Rattle.std.proofs.Common.{List, ◌∷◌, [], ◌++◌, subst, sym, ap}
 use Rattle.tdf_expr.proofs.Blocked.{blocks_more}
 use Rattle.tdf_expr.proofs.modules.push_block.Goals as goal
 use Rattle.tdf_expr.specs.Blocks.{PureBlock, Module, Events, block_of, scope_of}
-use Rattle.tdf_expr.specs.Checked.{AreBlocksOf, IsBlockOf}
-use Rattle.tdf_expr.specs.declared.checked.Block.{Block}
+use Rattle.tdf_expr.specs.Compiled.{AreBlocksOf, IsBlockOf}
+use Rattle.tdf_expr.specs.declared.blocks.Block.{Block}
 use Rattle.tdf_scope.specs.Scope.{Scope}
 use Rattle.tdf_tree.specs.Views.{pure_global, pure_tdf, pure_de}
 

@@ -1,6 +1,6 @@
 use Rattle.std.proofs.Common.{subst, sym}
 use Rattle.tdf_expr.proofs.Finely.{all_fine}
-use Rattle.tdf_expr.proofs.checked.compiled.Goals as goal
+use Rattle.tdf_expr.proofs.checking.compiled.Goals as goal
 use Rattle.tdf_expr.specs.machine.Fine.{IsBlockFine}
 use Rattle.tdf_scope.specs.Names.{Names}
 use Rattle.tdf_tree.specs.Views.{pure_tree}
