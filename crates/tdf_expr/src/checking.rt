@@ -3,7 +3,7 @@
 ghost use Rattle.std.specs.Prelude.{◌≡◌, ◌≢◌, ◌<◌, Err, List, [], length, slice_get, Some, IfOk, OnOk};
 ghost use Rattle.tdf_checks.specs.Types.{type_faults};
 ghost use Rattle.tdf_expr.specs.Checked.{IsCheckedOf};
-ghost use Rattle.tdf_expr.specs.Made.{block_count, cell_formats, rate_spans_of};
+ghost use Rattle.tdf_expr.specs.Made.{block_count, cell_formats, rate_spans_of, event_count};
 ghost use Rattle.tdf_expr.specs.declared.spans.RateSpan.{RateSpan as RateSpanOf};
 ghost use Rattle.tdf_faults.specs.First.{first_of, verdict_of};
 ghost use Rattle.tdf_faults.specs.declared.refusal.TypeErr.{TypeErr as TypeErrOf};
@@ -50,6 +50,13 @@ pub fn check_bodies(alloc: Global, tree: &Tree) -> Result<Checked, TypeErr>
 }
 
 impl Checked {
+    /// How many `tdf` and `de` blocks the model has.
+    pub fn blocks(&self) -> usize
+        ensures { result ≡ block_count self.now }
+    {
+        self.blocks.len()
+    }
+
     /// How many variables and elements a block has; blocks are numbered from 0 in the order of the text.
     pub fn cells(&self, number: u32) -> u32
         requires { number < block_count self.now }
@@ -67,6 +74,15 @@ impl Checked {
     {
         let block = &self.blocks[number as usize];
         block.cells.formats[i as usize]
+    }
+
+    /// How many events a block has.
+    pub fn events(&self, number: u32) -> u32
+        requires { number < block_count self.now }
+        ensures { result ≡ event_count self.now number }
+    {
+        let block = &self.blocks[number as usize];
+        block.events
     }
 
     /// How many rate variables a block has.

@@ -96,6 +96,21 @@ impl Ports {
         Ok(Ports { spans, signals })
     }
 
+    /// How many ports there are.
+    pub fn ports(&self) -> usize
+        ensures { result ≡ length self.now.spans }
+    {
+        self.spans.len()
+    }
+
+    /// A port: its word, its format, and how many samples it has.
+    pub fn port(&self, port: u32) -> PortSpan
+        requires { port < length self.now.spans }
+        ensures { slice_get self.now.spans port ≡ Some result }
+    {
+        self.spans[port as usize]
+    }
+
     /// Sample `i` of a port, at most its greatest rate.
     pub fn sample(&self, port: u32, i: u32) -> Raw
         requires port { port < length self.now.spans }

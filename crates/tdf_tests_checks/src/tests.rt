@@ -4,6 +4,7 @@
 //! - `scopes`: what names stand for.
 //! - `states`: cells and signals.
 //! - `acts`: compiled statements.
+//! - `instances`: bodies that are parsed, checked, compiled and run.
 
 use std::alloc::Global;
 use tdf_base::{Code, Memory};
@@ -12,6 +13,7 @@ use tdf_faults::TypeErr;
 use tdf_tree::Tree;
 
 mod acts;
+mod instances;
 mod names;
 mod scopes;
 mod states;

@@ -1,0 +1,27 @@
+#!/bin/sh
+# Times three bodies, checked, compiled and run by this repository, beside the same in plain Rust (bodies.rs, built by `rustc -O`): a filter
+# of 64 taps, a sigma-delta modulator of second order, and a counter. An operation is a node of an expression or an assignment. The sums
+# of a body must agree. program.txt is the source of a throw-away program crate, which is made in a folder of its own: it is no part of the gate.
+set -e
+here=$(cd "$(dirname "$0")" && pwd)
+top=$here/../..
+work=$(mktemp -d)
+mkdir -p "$work/crates/bodies_bench/src" "$work/.git"
+cp "$top/HANDLES" "$work"
+cp "$here/program.txt" "$work/crates/bodies_bench/src/main.rt"
+names=$(sed -n 's/^\(tdf_[a-z]*\):.*/\1/p' "$top/crates.txt" | grep -v -e tests -e tdf_cli -e tdf_thin -e tdf_lang -e tdf_print -e tdf_names)
+for name in $names; do
+    mkdir "$work/crates/$name"
+    for part in src specs proofs; do
+        [ ! -e "$top/crates/$name/$part" ] || cp -R "$top/crates/$name/$part" "$work/crates/$name/"
+    done
+    grep "^$name:" "$top/crates.txt" >>"$work/crates.txt"
+done
+echo "bodies_bench: tdf_base tdf_fixed tdf_tree tdf_expr tdf_blocks" >>"$work/crates.txt"
+(cd "$work" && rt ci bodies_bench >log 2>&1) || tail -20 "$work/log"
+rustc -O "$here/bodies.rs" -o "$work/bodies"
+echo "this repository"
+"$work/crates/bodies_bench/out/bodies_bench" || tail -5 "$work/log"
+echo "plain Rust"
+"$work/bodies"
+rm -rf "$work"
