@@ -1,0 +1,5 @@
+pub mod Bound
+pub mod Found
+pub mod IsFirst
+pub mod Lines
+pub mod Notes
