@@ -25,7 +25,7 @@ names_all lines i past = ap (map (λ p. p.now.name)) (take_all i lines past)
 pub ruleset name_laws = (names_more, names_all)
 
 -- a port by its name
-map_map : (held : List (Bor PortLine)) → map (λ p. p.now.name) held ≡ map (λ p. p.name) (map (λ p. p.now) held)
+pub map_map : (held : List (Bor PortLine)) → map (λ p. p.now.name) held ≡ map (λ p. p.name) (map (λ p. p.now) held)
 map_map [] = refl
 map_map (p ∷ ps) = ap (λ (l : List (List ℕ)). p.now.name ∷ l) (map_map ps)
 

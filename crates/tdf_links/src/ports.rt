@@ -83,6 +83,13 @@ impl<'t> Ports<'t> {
         self.lines.len()
     }
 
+    /// The place of the first port of this name.
+    pub fn place(&self, name: &[u8]) -> Option<usize>
+        ensures { result ≡ place_in (map (λ p. p.name) self.now) name.now }
+    {
+        self.names.place(name)
+    }
+
     /// The first port of this name.
     pub fn named(&self, name: &[u8]) -> Option<&'t PortLine>
         ensures { option_map (λ p. p.now) result ≡ port_named self.now name.now }
