@@ -1,3 +1,4 @@
+pub mod Api
 pub mod Bound
 pub mod Found
 pub mod IsFirst

@@ -23,4 +23,4 @@ pub use index::Index;
 pub use known::{Instances, Known};
 pub use laws::law_link_faults;
 pub use links::link_fault;
-pub use ports::{Ports, ports_of_composite};
+pub use ports::{Ports, ports_of_composite, ports_of_de, ports_of_tdf};

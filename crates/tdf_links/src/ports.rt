@@ -194,7 +194,7 @@ fn member_lines<'t>(alloc: Global, list: &'t Vec<Member>) -> Result<Vec<&'t Port
 ///
 /// # Errors
 /// Out of memory.
-pub(crate) fn ports_of_tdf<'t>(alloc: Global, block: &'t TdfDecl) -> Result<Ports<'t>, Memory>
+pub fn ports_of_tdf<'t>(alloc: Global, block: &'t TdfDecl) -> Result<Ports<'t>, Memory>
     ensures { IfOk result (λ ports. ports ≡ ports_of_tdf (pure_tdf block.entry.now)) }
 {
     let lines = tdf_lines(alloc, &block.decls)?;
@@ -205,7 +205,7 @@ pub(crate) fn ports_of_tdf<'t>(alloc: Global, block: &'t TdfDecl) -> Result<Port
 ///
 /// # Errors
 /// Out of memory.
-pub(crate) fn ports_of_de<'t>(alloc: Global, block: &'t DeDecl) -> Result<Ports<'t>, Memory>
+pub fn ports_of_de<'t>(alloc: Global, block: &'t DeDecl) -> Result<Ports<'t>, Memory>
     ensures { IfOk result (λ ports. ports ≡ ports_of_de (pure_de block.entry.now)) }
 {
     let lines = de_lines(alloc, &block.decls)?;

@@ -1,0 +1,5 @@
+pub mod Blocks
+pub mod Bounds
+pub mod Goods
+pub mod LinesBound
+pub mod Lists

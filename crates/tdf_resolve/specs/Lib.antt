@@ -1,0 +1,5 @@
+pub mod Laws
+pub mod Resolved
+pub mod Signals
+pub mod Targets
+pub mod machine
