@@ -1,0 +1,2 @@
+-- The lemmas that the crates above use.
+pub use Rattle.tdf_links.proofs.Found.{place_push}

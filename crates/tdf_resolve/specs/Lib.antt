@@ -1,0 +1,6 @@
+pub mod Counts
+pub mod Laws
+pub mod Resolved
+pub mod Signals
+pub mod Targets
+pub mod machine

@@ -1,0 +1,4 @@
+pub mod Adds
+pub mod Whole
+pub mod Ranges
+pub mod Steps

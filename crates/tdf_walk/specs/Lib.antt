@@ -1,0 +1,7 @@
+pub mod Blocks
+pub mod Bound
+pub mod Laws
+pub mod Met
+pub mod Paths
+pub mod Tables
+pub mod machine
