@@ -1,0 +1,6 @@
+pub mod BlockLoops
+pub mod Connected
+pub mod DriverLoops
+pub mod Lists
+pub mod ModuleLoops
+pub mod WriterLoops

@@ -1,0 +1,6 @@
+pub mod Drivers
+pub mod Modules
+pub mod ProcessBlocks
+pub mod Roles
+pub mod Writers
+pub mod machine

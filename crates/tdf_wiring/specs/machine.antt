@@ -1,0 +1,5 @@
+-- How the code of this crate works.
+pub mod BlockSteps
+pub mod DriverSteps
+pub mod ModuleSteps
+pub mod WriterSteps

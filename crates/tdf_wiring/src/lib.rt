@@ -1,0 +1,20 @@
+//! The flat model of a hierarchy as tables: its modules and their ports, with the signals that these reach.
+//!
+//! - `roles`: what each block is, with the data of its ports.
+//! - `modules`: the tables of modules and of their ports.
+//! - `blocks`: the tables of blocks of processes, of their processes and events.
+//! - `writers`: the ports that write signals.
+//! - `drivers`: the drivers of signals, and the signals that have none or several.
+#![tactic(auto)]
+
+mod blocks;
+mod drivers;
+mod modules;
+mod roles;
+mod writers;
+
+pub use blocks::{BlockRow, EventRow, ProcessBlocks, ProcessRow, process_blocks_of};
+pub use drivers::{Driver, DriverErr, DriverFault, SignalRow, Signals, connect};
+pub use modules::{ModuleRow, Modules, PortRow, modules_of};
+pub use roles::{Initials, ModuleData, PortData, ProcessData, ProcessLine, Rate, Role};
+pub use writers::Writer;
