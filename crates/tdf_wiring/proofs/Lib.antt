@@ -3,4 +3,5 @@ pub mod Connected
 pub mod DriverLoops
 pub mod Lists
 pub mod ModuleLoops
+pub mod TraceLoops
 pub mod WriterLoops

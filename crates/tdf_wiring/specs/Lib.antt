@@ -2,5 +2,6 @@ pub mod Drivers
 pub mod Modules
 pub mod ProcessBlocks
 pub mod Roles
+pub mod Traces
 pub mod Writers
 pub mod machine

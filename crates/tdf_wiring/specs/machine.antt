@@ -2,4 +2,5 @@
 pub mod BlockSteps
 pub mod DriverSteps
 pub mod ModuleSteps
+pub mod TraceSteps
 pub mod WriterSteps
