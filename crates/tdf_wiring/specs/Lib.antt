@@ -1,4 +1,5 @@
 pub mod Drivers
+pub mod Edges
 pub mod Modules
 pub mod ProcessBlocks
 pub mod Roles

@@ -5,11 +5,13 @@
 //! - `blocks`: the tables of blocks of processes, of their processes and events.
 //! - `writers`: the ports that write signals.
 //! - `drivers`: the drivers of signals, and the signals that have none or several.
+//! - `edges`: the edges between modules, samplers and sinks.
 //! - `traces`: the signal that the path of each trace leads to.
 #![tactic(auto)]
 
 mod blocks;
 mod drivers;
+mod edges;
 mod modules;
 mod roles;
 mod traces;
@@ -17,6 +19,7 @@ mod writers;
 
 pub use blocks::{BlockRow, EventRow, ProcessBlocks, ProcessRow, process_blocks_of};
 pub use drivers::{Driver, DriverErr, DriverFault, SignalRow, Signals, connect};
+pub use edges::{EdgeRow, edges_of};
 pub use modules::{ModuleRow, Modules, PortRow, modules_of};
 pub use roles::{Initials, ModuleData, PortData, ProcessData, ProcessLine, Rate, Role};
 pub use traces::{TraceErr, TraceLine, TraceRow, traces_of};
