@@ -12,15 +12,15 @@ use Rattle.tdf_graph.specs.Ranges.{IsEdge}
 use Rattle.tdf_graph.specs.declared.actors.Edge.{Edge}
 
 module _ (edges : List Edge) where
-  pub then : {a b c : ℕ} → Joined edges a b → Joined edges b c → Joined edges a c
-  then (stays a) q = q
-  then (goes e is p) q = goes e is (then p q)
-  then (comes e is p) q = comes e is (then p q)
+  pub joined_then : {a b c : ℕ} → Joined edges a b → Joined edges b c → Joined edges a c
+  joined_then (stays a) q = q
+  joined_then (goes e is p) q = goes e is (joined_then p q)
+  joined_then (comes e is p) q = comes e is (joined_then p q)
 
-  pub turned : {a b : ℕ} → Joined edges a b → Joined edges b a
-  turned (stays a) = stays a
-  turned (goes e is p) = then (turned p) (comes e is (stays e.writer))
-  turned (comes e is p) = then (turned p) (goes e is (stays e.reader))
+  pub joined_back : {a b : ℕ} → Joined edges a b → Joined edges b a
+  joined_back (stays a) = stays a
+  joined_back (goes e is p) = joined_then (joined_back p) (comes e is (stays e.writer))
+  joined_back (comes e is p) = joined_then (joined_back p) (goes e is (stays e.reader))
 
 -- what is equal at the ends of each edge is equal along a chain
 pub along : (edges : List Edge) (labels : List ℕ) → ((e : Edge) → Contains edges e → get_or labels e.writer 0 ≡ get_or labels e.reader 0)
@@ -100,10 +100,10 @@ module _ (count : ℕ) (edges : List Edge) (labels new : List ℕ) (e : Edge) (a
       go (inr p) (inr q) = old_joined a b a_in b_in (sym (at a a_in ∙ renamed_other gone kept _ p) ∙ same ∙ at b b_in ∙ renamed_other gone kept _ q)
       go (inl p) (inr q) =
           let b_kept : get_or labels b 0 ≡ kept = sym (at b b_in ∙ renamed_other gone kept _ q) ∙ sym same ∙ at a a_in ∙ renamed_gone gone kept _ p in
-          then es (old_joined a x a_in x_in (p ∙ sym x_is)) (then es link (old_joined y b y_in b_in (y_is ∙ sym b_kept)))
+          joined_then es (old_joined a x a_in x_in (p ∙ sym x_is)) (joined_then es link (old_joined y b y_in b_in (y_is ∙ sym b_kept)))
       go (inr p) (inl q) =
           let a_kept : get_or labels a 0 ≡ kept = sym (at a a_in ∙ renamed_other gone kept _ p) ∙ same ∙ at b b_in ∙ renamed_gone gone kept _ q in
-          then es (old_joined a y a_in y_in (a_kept ∙ sym y_is)) (then es (turned es link) (old_joined x b x_in b_in (x_is ∙ sym q)))
+          joined_then es (old_joined a y a_in y_in (a_kept ∙ sym y_is)) (joined_then es (joined_back es link) (old_joined x b x_in b_in (x_is ∙ sym q)))
 
   new_small : (a : ℕ) → a < count → get_or new a 0 < count
   new_small a here = go (cases_eq (get_or labels a 0) gone)
