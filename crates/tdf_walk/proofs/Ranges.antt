@@ -6,7 +6,7 @@ use Rattle.std.proofs.lemmas.Option.{slice_get_within}
 use Rattle.std.specs.List.{AllZip, AllByRecursion, flat_map}
 use Rattle.std.specs.Prelude.{map, slice_get, filter, filter_map, cond, All}
 use Rattle.tdf_walk.specs.Blocks.{InstanceOf, BlockOf}
-use Rattle.tdf_walk.specs.Laws.{IsInRange, PortsAreInRange, OrderIsPreorder, AreEarlier, DepthIsEnough}
+use Rattle.tdf_walk.specs.Laws.{IsInRange, PortsAreInRange, OrderIsInRange, OrderIsPreorder, AreEarlier, DepthIsEnough}
 use Rattle.tdf_walk.specs.Met.{PlacedInstance, MetSignal, MetInstance, signal_at, placed, InsideOf, with_inside, in_block, inside}
 use Rattle.tdf_walk.specs.Tables.{RowOf, TablesOf, table, signal_of, instance_of, same_kind, is_of, numbers_after, IsNumberOf, StandsFor, IsRowOf}
 use Rattle.tdf_walk.specs.declared.tables.Signal.{Signal}
@@ -53,6 +53,15 @@ order_is_preorder met t h = subst (λ numbers. AllZip (IsNumberOf t) numbers (fi
     tables true = h.event_signals
     tables false = h.signals
 
+order_in : (t : TablesOf) (ns : List SignalNumber) (ss : List Signal) → AllZip (IsNumberOf t) ns ss → AllByRecursion (IsInRange t) ns
+order_in t [] [] h = tt
+order_in t (n ∷ ns) (s ∷ ss) h = (slice_get_within (table n.event t) n.number s h.0.place, order_in t ns ss h.1)
+order_in t [] (s ∷ ss) h = absurd h
+order_in t (n ∷ ns) [] h = absurd h
+
+pub order_is_in_range : OrderIsInRange
+order_is_in_range met t h = All-from_recursion (IsInRange t) t.order (order_in t t.order (filter_map signal_of met) (order_is_preorder met t h))
+
 same_all : (n : ℕ) (f g : InsideOf) → ((k : ℕ) → k < n → (path : Option (List ℕ)) (outer : List (Option Signal)) → f k path outer ≡ g k path outer)
     → (path : Option (List ℕ)) (b : BlockOf) (outer : List (Option Signal)) (is : List InstanceOf) → AllByRecursion (λ instance. instance.block < n) is
     → flat_map (λ i. with_inside f (placed path b outer i)) is ≡ flat_map (λ i. with_inside g (placed path b outer i)) is
@@ -74,4 +83,4 @@ deeper blocks early (suc d) (suc e) k a b path outer = same_in k (inside blocks 
 pub depth_is_enough : DepthIsEnough
 depth_is_enough blocks early depth block enough within path outer = deeper blocks early depth (length blocks) block (omega (arith, enough, within)) within path outer
 
-pub ruleset range_laws = (ports_are_in_range, order_is_preorder)
+pub ruleset range_laws = (ports_are_in_range, order_is_in_range, order_is_preorder)

@@ -17,6 +17,11 @@ abbrev pub PortsAreInRange : Type 0
 PortsAreInRange = (met : List Met) (tables : TablesOf) → IsTable met tables
     → All (λ row. All (IsInRange tables) row.signals) tables.instances
 
+-- each number in the order is in range
+abbrev pub OrderIsInRange : Type 0
+OrderIsInRange = (met : List Met) (tables : TablesOf) → IsTable met tables
+    → All (IsInRange tables) tables.order
+
 -- the numbers of the order stand for the signals in preorder, one for each
 abbrev pub OrderIsPreorder : Type 0
 OrderIsPreorder = (met : List Met) (tables : TablesOf) → IsTable met tables

@@ -1,11 +1,12 @@
 //! What holds of all tables and of all models: each function here only carries its clauses.
 
-ghost use Rattle.tdf_walk.specs.Laws.{PortsAreInRange, OrderIsPreorder, DepthIsEnough};
+ghost use Rattle.tdf_walk.specs.Laws.{PortsAreInRange, OrderIsInRange, OrderIsPreorder, DepthIsEnough};
 
 /// In the tables of what was met, each number is in range, and the order has the number of each signal, in preorder.
 #[tactic(auto, using(crate::proofs::Ranges::range_laws))]
 pub fn law_numbers()
     ensures ports { PortsAreInRange }
+    ensures in_range { OrderIsInRange }
     ensures order { OrderIsPreorder }
 {}
 

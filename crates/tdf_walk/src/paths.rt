@@ -3,7 +3,7 @@
 //! Names may nest a thousand deep, and thousands of paths may have one front. So a path is its last name and a shared pointer
 //! to the path of what it is in: it takes memory for one name alone, and its text is made where it is printed.
 
-ghost use Rattle.std.specs.Prelude.{◌≡◌, ◌++◌, IfOk, OnOk};
+ghost use Rattle.std.specs.Prelude.{◌≡◌, ◌+◌, ◌++◌, IfOk, OnOk, min, length};
 ghost use Rattle.tdf_walk.specs.Paths.{path_in};
 
 use std::alloc::Global;
@@ -76,6 +76,21 @@ impl SharedPath {
         })
     }
 
+    /// How many bytes the text of this path has, or `limit` where it has more. It takes no memory, and goes as deep as
+    /// the path has names.
+    pub fn len_up_to(&self, limit: usize) -> usize
+        ensures { result ≡ min (length self.now) limit }
+    {
+        match &*self.link {
+            Link::Top(name) => name.as_bytes().len().min(limit),
+            Link::Inside(front, name) => sum_up_to(
+                front.len_up_to(limit),
+                name.as_bytes().len(),
+                limit,
+            ),
+        }
+    }
+
     /// The text of this path. The call goes as deep as the path has names.
     ///
     /// # Errors
@@ -104,6 +119,13 @@ impl SharedPath {
             }
         }
     }
+}
+
+/// A front and a name with the point between them, at most a limit.
+fn sum_up_to(front: usize, name: usize, limit: usize) -> usize
+    ensures { result ≡ min (front + (1 + name)) limit }
+{
+    front.saturating_add(1).saturating_add(name).min(limit)
 }
 
 fn push_name(out: &mut Vec<u8>, name: &Name) -> Result<(), Memory>

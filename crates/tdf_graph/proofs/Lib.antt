@@ -1,0 +1,5 @@
+pub mod Api
+pub mod Labels
+pub mod Numbers
+pub mod Renames
+pub mod Unique

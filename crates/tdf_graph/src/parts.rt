@@ -1,0 +1,133 @@
+//! The actors in parts that edges join, one edge after the other.
+
+use std::marker::Model;
+
+/// Actors in parts. Each part has a label, a number below the count of actors; callers see the label of each actor.
+#[derive(Drop)]
+pub struct Parts {
+    labels: Vec<u32>,
+    members: Vec<Vec<u32>>,
+}
+
+impl Model for Parts {
+    ghost use Rattle.std.specs.Prelude.{List, ℕ};
+    ghost use Rattle.tdf_graph.specs.Parts.{HasMembers};
+
+    ghost Value = { List ℕ };
+
+    ghost view = { λ a. a.labels.items };
+
+    ghost invariant = { λ a. HasMembers a.labels.items a.members.items };
+}
+
+ghost use Rattle.std.specs.Prelude.{◌≡◌, ◌≢◌, ◌<◌, [], ◌∷◌, length, vec_len, IfOk, slice_index};
+ghost use Rattle.tdf_graph.specs.Parts.{AreAlone, IsRenamed, ListsPart, Merges};
+ghost use Rattle.tdf_graph.specs.views.Rows.{AreRows, AreWithin, IsRelabelled};
+
+use std::alloc::Global;
+use std::mem;
+use tdf_base::Memory;
+
+/// The numbers below `count`.
+fn own_labels(alloc: Global, count: u32) -> Result<Vec<u32>, Memory>
+    ensures { IfOk result (λ labels. AreAlone count labels.items) }
+{
+    let mut labels = Vec::new(alloc);
+    for actor in 0..count {
+        labels.push(actor)?;
+    }
+    Ok(labels)
+}
+
+fn one(alloc: Global, actor: u32) -> Result<Vec<u32>, Memory>
+    ensures { IfOk result (λ row. row.items ≡ actor ∷ []) }
+{
+    let mut row = Vec::with_capacity(alloc, 1)?;
+    row.push(actor)?;
+    Ok(row)
+}
+
+/// For each number below `count` the list of it alone.
+fn own_members(alloc: Global, count: u32) -> Result<Vec<Vec<u32>>, Memory>
+    ensures { IfOk result (λ members. AreRows count members.items) }
+{
+    let mut members = Vec::new(alloc);
+    for actor in 0..count {
+        members.push(one(alloc, actor)?)?;
+    }
+    Ok(members)
+}
+
+/// Gives the label `kept` to the actors of a list.
+fn relabel(labels: &mut Vec<u32>, list: &[u32], kept: u32)
+    requires { AreWithin (length labels.old.items) list.now }
+    ensures { IsRelabelled kept list.now labels.old.items labels.new.items }
+{
+    for actor in list {
+        labels[*actor as usize] = kept;
+    }
+}
+
+impl Parts {
+    /// Each of `count` actors alone.
+    ///
+    /// # Errors
+    /// Out of memory.
+    pub fn new(alloc: Global, count: u32) -> Result<Parts, Memory>
+        ensures { IfOk result (λ parts. AreAlone count parts) }
+    {
+        let labels = own_labels(alloc, count)?;
+        let members = own_members(alloc, count)?;
+        Ok(Parts { labels, members })
+    }
+
+    /// The label of an actor's part.
+    pub fn label(&self, actor: u32) -> u32
+        requires { actor < length self.now }
+        ensures value { result ≡ slice_index self.now actor }
+        ensures within { result < length self.now }
+    {
+        self.labels[actor as usize]
+    }
+
+    /// The actors of the part with a label, in some order.
+    pub fn members(&self, label: u32) -> &[u32]
+        requires { label < length self.now }
+        ensures { ListsPart self.now label result.now }
+    {
+        &self.members[label as usize]
+    }
+
+    /// Gives the label `kept` to the actors with the label `gone`.
+    fn rename(self, alloc: Global, gone: u32, kept: u32) -> Result<Parts, Memory>
+        requires gone { gone < length self }
+        requires kept { kept < length self }
+        requires apart { gone ≢ kept }
+        ensures { IfOk result (IsRenamed gone kept self) }
+    {
+        let mut labels = self.labels;
+        let mut members = self.members;
+        let moved = mem::replace(&mut members[gone as usize], Vec::new(alloc));
+        members[kept as usize].extend_from_slice(&moved)?;
+        relabel(&mut labels, &moved, kept);
+        drop(moved);
+        Ok(Parts { labels, members })
+    }
+
+    /// Makes one part of the parts with two labels: the label of the one with more actors stays.
+    ///
+    /// # Errors
+    /// Out of memory.
+    pub fn merge(self, alloc: Global, first: u32, second: u32) -> Result<Parts, Memory>
+        requires first { first < length self }
+        requires second { second < length self }
+        requires apart { first ≢ second }
+        ensures { IfOk result (Merges first second self) }
+    {
+        if self.members(first).len() < self.members(second).len() {
+            self.rename(alloc, first, second)
+        } else {
+            self.rename(alloc, second, first)
+        }
+    }
+}
