@@ -1,0 +1,3 @@
+pub mod Answers
+pub mod Broken
+pub mod Found
