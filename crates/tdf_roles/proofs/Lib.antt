@@ -1,0 +1,5 @@
+pub mod Listed
+pub mod Numbered
+pub mod Ported
+pub mod Rolled
+pub mod Stood
