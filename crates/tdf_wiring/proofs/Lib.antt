@@ -1,3 +1,4 @@
+pub mod Api
 pub mod BlockLoops
 pub mod Connected
 pub mod DriverLoops

@@ -1,0 +1,3 @@
+pub mod ActorLoops
+pub mod EdgeRanges
+pub mod Joining

@@ -1,0 +1,3 @@
+pub mod Actors
+pub mod Flat
+pub mod machine
