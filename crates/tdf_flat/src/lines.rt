@@ -1,0 +1,112 @@
+//! The lines that ask for traces, and what a tree must be to be bound.
+
+ghost use Rattle.std.specs.List.{list_any};
+ghost use Rattle.std.specs.Prelude.{◌≡◌, ◌≤◌, ◌↔◌, ◌++◌, ◌∷◌, [], map, IfOk, OnOk, IsTrue, All};
+ghost use Rattle.tdf_base.specs.Limits.{greatest_delay};
+ghost use Rattle.tdf_bind.specs.Flat.{AreShort, IsShortRole};
+ghost use Rattle.tdf_flat.specs.Flat.{dotted, trace_line};
+ghost use Rattle.tdf_flat.specs.machine.Steps.{dotted_after, is_port};
+ghost use Rattle.tdf_tree.specs.Views.{pure_trace};
+
+use std::alloc::Global;
+use tdf_base::{GREATEST_DELAY, Memory, Name, Path};
+use tdf_tree::{Composite, Member, Trace1};
+use tdf_wiring::{PortData, Role, TraceLine};
+
+/// One name more of a path.
+///
+/// # Errors
+/// Out of memory.
+fn push_name(text: &mut Vec<u8>, place: usize, name: &Name) -> Result<(), Memory>
+    ensures { OnOk result (text.new.items ≡ dotted_after text.old.items place name.now) }
+{
+    if place > 0 {
+        text.push(b'.')?;
+    }
+    text.extend_from_slice(name.as_bytes())?;
+    Ok(())
+}
+
+/// The text of a path.
+///
+/// # Errors
+/// Out of memory.
+#[tactic(auto, using(crate::proofs::Dots::dot_laws))]
+fn dotted(alloc: Global, names: &[Name]) -> Result<Vec<u8>, Memory>
+    ensures { IfOk result (λ text. text.items ≡ dotted names.now) }
+{
+    let mut text = Vec::new(alloc);
+    for place in 0..names.len() {
+        push_name(&mut text, place, &names[place])?;
+    }
+    Ok(text)
+}
+
+/// A line that asks for a trace.
+///
+/// # Errors
+/// Out of memory.
+fn trace_line(alloc: Global, trace: &Trace1) -> Result<TraceLine, Memory>
+    ensures { IfOk result (λ line. line ≡ trace_line (pure_trace trace.now)) }
+{
+    let text = dotted(alloc, &trace.path)?;
+    Ok(TraceLine {
+        line: trace.line,
+        path: Path::new(text),
+        label: Name::copied(alloc, trace.label.as_bytes())?,
+    })
+}
+
+/// The lines that ask for traces.
+///
+/// # Errors
+/// Out of memory.
+#[tactic(auto, using(crate::proofs::Dots::line_laws))]
+pub(crate) fn trace_lines(alloc: Global, traces: &Vec<Trace1>) -> Result<Vec<TraceLine>, Memory>
+    ensures { IfOk result (λ lines. lines.items ≡ map trace_line (map pure_trace traces.now.items)) }
+{
+    let mut lines = Vec::new(alloc);
+    for trace in traces {
+        lines.push(trace_line(alloc, trace)?)?;
+    }
+    Ok(lines)
+}
+
+fn is_port(member: &Member) -> bool
+    ensures { result ≡ is_port member.now }
+{
+    match member {
+        Member::Port(_) => true,
+        _ => false,
+    }
+}
+
+/// Whether a composite has ports.
+pub(crate) fn has_ports(block: &Composite) -> bool
+    ensures { result ≡ list_any is_port block.now.members.items }
+{
+    block.members.iter().any(|member| is_port(member))
+}
+
+fn is_short_port(port: &PortData) -> bool
+    ensures { IsTrue result ↔ port.now.delay ≤ greatest_delay }
+{
+    u64::from(port.delay) <= GREATEST_DELAY
+}
+
+fn is_short(role: &Role) -> bool
+    ensures { IsTrue result ↔ IsShortRole role.now }
+{
+    match role {
+        Role::Module(data) => data.ports.iter().all(|port| is_short_port(port)),
+        Role::Processes(_) => true,
+        Role::Composite => true,
+    }
+}
+
+/// Whether the delays of all ports are within their limit.
+pub(crate) fn are_short(roles: &[Role]) -> bool
+    ensures { IsTrue result ↔ AreShort roles.now }
+{
+    roles.iter().all(|role| is_short(role))
+}
