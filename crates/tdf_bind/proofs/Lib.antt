@@ -1,3 +1,4 @@
 pub mod ActorLoops
 pub mod EdgeRanges
 pub mod Joining
+pub mod RangeLaws

@@ -1,3 +1,4 @@
 pub mod Actors
 pub mod Flat
+pub mod Ranges
 pub mod machine
