@@ -2,3 +2,4 @@ pub mod ActorLoops
 pub mod EdgeRanges
 pub mod Joining
 pub mod RangeLaws
+pub mod Reaching

@@ -1,4 +1,5 @@
 pub mod Actors
 pub mod Flat
 pub mod Ranges
+pub mod Reach
 pub mod machine

@@ -1,8 +1,20 @@
 //! What holds of all flat models: each function here only carries its clauses.
 
 ghost use Rattle.tdf_bind.specs.Ranges.{FlatIsInRange};
+ghost use Rattle.tdf_bind.specs.Reach.{PortsReachSignals};
+
+use tdf_walk::{law_kinds, law_numbers};
 
 /// The numbers of modules, ports and actors in the tables of a flat model are those of rows.
 pub fn law_ranges()
     ensures { FlatIsInRange }
 {}
+
+/// Where the ports of modules are of the kinds of their blocks,
+/// each has the number of a signal of its kind.
+pub fn law_signals()
+    ensures { PortsReachSignals }
+{
+    law_numbers();
+    law_kinds();
+}
