@@ -91,7 +91,7 @@ good_all : (t : TablesOf) (kinds : List (List Bool)) (roles : List Role) → Agr
 good_all t kinds roles agree [] same within = tt
 good_all t kinds roles agree (i ∷ instances) same within = cons_good t (as_module i (slice_get roles i.block)) (placed_modules roles instances) (good_one t kinds roles agree i same.0 within.0 (slice_get roles i.block) refl) (good_all t kinds roles agree instances same.1 within.1)
 
-rows_long : (writers : List Writer) (signals : List Signal) → length (signal_rows writers signals) ≡ length signals
+pub rows_long : (writers : List Writer) (signals : List Signal) → length (signal_rows writers signals) ≡ length signals
 rows_long writers signals = length-map (enumerate_from 0 signals) (λ s. signal_row writers s.0 s.1) ∙ length-enumerate_from 0 signals
 
 tables_long : (tables : TablesOf) (roles : List Role) (lines : List TraceLine) (flat : FlatOf) → FollowsFrom tables roles lines flat → (e : Bool) → length (table e tables) ≡ length (cond e flat.de_signals flat.signals)

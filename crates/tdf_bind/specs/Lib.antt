@@ -2,4 +2,5 @@ pub mod Actors
 pub mod Flat
 pub mod Ranges
 pub mod Reach
+pub mod Whole
 pub mod machine

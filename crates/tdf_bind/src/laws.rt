@@ -2,6 +2,7 @@
 
 ghost use Rattle.tdf_bind.specs.Ranges.{FlatIsInRange};
 ghost use Rattle.tdf_bind.specs.Reach.{PortsReachSignals};
+ghost use Rattle.tdf_bind.specs.Whole.{EdgesAreWhole};
 
 use tdf_walk::{law_kinds, law_numbers};
 
@@ -14,6 +15,15 @@ pub fn law_ranges()
 /// each has the number of a signal of its kind.
 pub fn law_signals()
     ensures { PortsReachSignals }
+{
+    law_numbers();
+    law_kinds();
+}
+
+/// Where the ports of modules are of the kinds of their blocks,
+/// and those of processes are for event signals, each port of a module but an `out` port gives one edge.
+pub fn law_edges()
+    ensures { EdgesAreWhole }
 {
     law_numbers();
     law_kinds();

@@ -13,4 +13,4 @@ mod reading;
 
 pub use actors::{ActorRow, actors_of};
 pub use flat::{BindErr, Flat, flat_of};
-pub use laws::{law_ranges, law_signals};
+pub use laws::{law_edges, law_ranges, law_signals};
