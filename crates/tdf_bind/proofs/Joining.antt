@@ -37,7 +37,7 @@ pub most_next : (actors : List ActorRow) (i : ℕ) (d : ActorRow) (most next : �
 most_next actors i d most next within h next_is = next_is ∙ ap (λ m. max (get_or actors i d).cluster m) h ∙ sym (greatest_push (map cluster_of (take i actors)) (get_or actors i d).cluster)
     ∙ ap greatest (sym (map-append cluster_of (take i actors) (get_or actors i d ∷ []))) ∙ ap (λ l. greatest (map cluster_of l)) (sym (take_more actors i d within))
 
-both : {X : Type 0} (P : X → Type 0) (xs ys : List X) → AllByRecursion P xs → AllByRecursion P ys → AllByRecursion P (xs ++ ys)
+pub both : {X : Type 0} (P : X → Type 0) (xs ys : List X) → AllByRecursion P xs → AllByRecursion P ys → AllByRecursion P (xs ++ ys)
 both P [] ys h k = k
 both P (x ∷ xs) ys h k = (h.0, both P xs ys h.1 k)
 

@@ -1,3 +1,6 @@
 pub mod Actors
 pub mod Flat
+pub mod Ranges
+pub mod Reach
+pub mod Whole
 pub mod machine

@@ -174,7 +174,7 @@ fn traces_or(alloc: Global, tables: &Tables, lines: &[TraceLine]) -> Result<Vec<
 }
 
 /// The greatest number of a cluster.
-fn cluster_count(actors: &[ActorRow]) -> u32
+pub(crate) fn cluster_count(actors: &[ActorRow]) -> u32
     ensures { result ≡ greatest (map cluster_of actors.now) }
 {
     let mut most = 0;

@@ -1,6 +1,8 @@
+pub mod Api
 pub mod Blocks
 pub mod Bounds
 pub mod Counting
+pub mod Few
 pub mod Goods
 pub mod LinesBound
 pub mod Lists

@@ -1,13 +1,17 @@
 -- What holds of the resolved blocks of each model.
 -- Source: own.
-use Rattle.std.specs.Prelude.{◌≡◌, ◌-◌, List, [], length}
+use Rattle.std.specs.Prelude.{◌≡◌, ◌-◌, ◌≤◌, false, List, [], length, filter_map}
+use Rattle.tdf_base.specs.Limits.{most_instances, most_signals}
 use Rattle.tdf_links.specs.Links.{link_faults}
 use Rattle.tdf_links.specs.Ports.{ports_of_composite}
+use Rattle.tdf_resolve.specs.Counts.{is_too_many}
 use Rattle.tdf_resolve.specs.Resolved.{AreResolved}
 use Rattle.tdf_tree.specs.Pure.{PureTree}
 use Rattle.tdf_walk.specs.Blocks.{BlockOf}
 use Rattle.tdf_walk.specs.Bound.{AreBound}
 use Rattle.tdf_walk.specs.Laws.{AreEarlier}
+use Rattle.tdf_walk.specs.Met.{Met, met_in}
+use Rattle.tdf_walk.specs.Tables.{instance_of, signal_of}
 
 -- each instance is of a block before the one that it is in
 abbrev pub RefersBack : Type 0
@@ -19,3 +23,13 @@ abbrev pub BindsAll : Type 0
 BindsAll = (model : PureTree) (blocks : List BlockOf) → AreResolved model blocks
     → link_faults model ≡ [] → ports_of_composite model.top ≡ []
     → AreBound blocks (length blocks - 1)
+
+-- a model has no more signals and instances than there may be
+pub record HasFew (met : List Met) : Type 0 where
+  pub signals : length (filter_map signal_of met) ≤ most_signals
+  pub instances : length (filter_map instance_of met) ≤ most_instances
+
+-- what holds no more than there may be has few signals and instances
+abbrev pub CountsAll : Type 0
+CountsAll = (model : PureTree) (blocks : List BlockOf) → AreResolved model blocks
+    → is_too_many model blocks ≡ false → HasFew (met_in blocks (length blocks - 1))

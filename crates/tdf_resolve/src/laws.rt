@@ -1,6 +1,6 @@
 //! What holds of the definitions.
 
-ghost use Rattle.tdf_resolve.specs.Laws.{BindsAll, RefersBack};
+ghost use Rattle.tdf_resolve.specs.Laws.{BindsAll, CountsAll, RefersBack};
 
 /// Each instance is of a block before the one that it is in.
 pub fn law_earlier()
@@ -10,4 +10,9 @@ pub fn law_earlier()
 /// Where no `bind` and no `instance` line is at fault, and `top` has no port, all ports are bound.
 pub fn law_bound()
     ensures { BindsAll }
+{}
+
+/// A model that is not too large has no more signals and instances than there may be.
+pub fn law_counts()
+    ensures { CountsAll }
 {}

@@ -16,5 +16,5 @@ mod models;
 mod signals;
 
 pub use counts::is_too_many;
-pub use laws::{law_bound, law_earlier};
+pub use laws::{law_bound, law_counts, law_earlier};
 pub use models::resolve;

@@ -1,4 +1,5 @@
 pub mod Adds
 pub mod Whole
+pub mod KindsKept
 pub mod Ranges
 pub mod Steps

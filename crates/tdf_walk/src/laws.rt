@@ -1,5 +1,6 @@
 //! What holds of all tables and of all models: each function here only carries its clauses.
 
+ghost use Rattle.tdf_walk.specs.PortKinds.{PortsKeepKinds};
 ghost use Rattle.tdf_walk.specs.Laws.{PortsAreInRange, OrderIsInRange, OrderIsPreorder, DepthIsEnough};
 
 /// In the tables of what was met, each number is in range, and the order has the number of each signal, in preorder.
@@ -15,4 +16,11 @@ pub fn law_numbers()
 #[tactic(auto, using(crate::proofs::Ranges::depth_is_enough))]
 pub fn law_depth()
     ensures { DepthIsEnough }
+{}
+
+/// Where each port is bound to a signal or port of its own kind,
+/// each port reaches a signal of its own kind.
+#[tactic(auto, using(crate::proofs::KindsKept::ports_keep_kinds))]
+pub fn law_kinds()
+    ensures { PortsKeepKinds }
 {}

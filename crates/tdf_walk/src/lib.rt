@@ -14,7 +14,7 @@ mod tables;
 mod walk;
 
 pub use blocks::{Block, Instance, SignalLine, Target};
-pub use laws::{law_depth, law_numbers};
+pub use laws::{law_depth, law_kinds, law_numbers};
 pub use paths::SharedPath;
 pub use tables::{InstanceRow, Signal, SignalNumber, Tables};
 pub use walk::tables_of;
