@@ -5,5 +5,6 @@ pub mod Lates
 pub mod Linked
 pub mod Orders
 pub mod Plans
+pub mod Presents
 pub mod Pushes
 pub mod Works

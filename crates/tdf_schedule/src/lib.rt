@@ -10,6 +10,7 @@
 //! - `sorted`: the firings, sorted.
 //! - `bounds`: the most samples that each edge holds.
 //! - `cluster`: the plan of one cluster.
+//! - `laws`: what holds along a plan.
 #![tactic(auto)]
 
 mod bounds;
@@ -19,6 +20,7 @@ mod err;
 mod faults;
 mod join;
 mod key;
+mod laws;
 mod links;
 mod sorted;
 mod work;
@@ -27,3 +29,4 @@ pub use cluster::plan;
 pub use entry::{Entry, Plan};
 pub use err::PlanErr;
 pub use key::Key;
+pub use laws::law_present;
