@@ -1,0 +1,10 @@
+pub mod Flows
+pub mod Grounds
+pub mod Keys
+pub mod Lates
+pub mod Linked
+pub mod Orders
+pub mod Plans
+pub mod Presents
+pub mod Pushes
+pub mod Works

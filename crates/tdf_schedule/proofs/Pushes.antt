@@ -1,0 +1,67 @@
+-- The stack of actors.
+use Rattle.std.proofs.Common.{◌≡◌, ◌∙◌, ℕ, zero, suc, ◌+◌, ◌<◌, ◌⊎◌, inl, inr, Bool, true, false, Some, List, [], ◌∷◌, length, sym, ap, subst, arith}
+use Rattle.std.proofs.Math.ListN.{get_or}
+use Rattle.std.proofs.lemmas.Bool.{cases_eq}
+use Rattle.std.proofs.lemmas.Option.{slice_get-get_or}
+use Rattle.std.specs.Prelude.{slice_get}
+use Rattle.tdf_schedule.specs.views.Work.{ArePushed}
+
+-- the first i + 1 of a list
+pub pushed_more : (list : List ℕ) (i a : ℕ) (s0 s s2 : List ℕ) (o0 o o2 : List Bool) → i < length list → a ≡ get_or list i 0
+    → ArePushed list i s0 s o0 o → ArePushed (a ∷ []) 1 s s2 o o2 → ArePushed list (i + 1) s0 s2 o0 o2
+pushed_more list i a s0 s s2 o0 o o2 within a_is before step = record {
+  flags = step.flags ∙ before.flags;
+  few = let a' = step.few in let b = before.few in omega (arith, a', b);
+  kept = λ j k h. step.kept j k (before.kept j k h);
+  inside = λ j k h. inside j k (step.inside j k h);
+  pushed = λ j k below at. pushed j k below at (cases_eq j i);
+  on = λ k h. step.on k (before.on k h);
+  stacked = λ k h. stacked k (step.stacked k h);
+}
+  where
+    here : slice_get list i ≡ Some a
+    here = slice_get-get_or list i 0 within ∙ ap Some (sym a_is)
+
+    inside : (j k : ℕ) → (k < length o) ⊎ (slice_get s j ≡ Some k) → (k < length o0) ⊎ (slice_get s0 j ≡ Some k)
+    inside j k (inl below) = inl (subst (λ n. k < n) before.flags below)
+    inside j k (inr old) = before.inside j k old
+
+    pushed : (j k : ℕ) → j < i + 1 → slice_get list j ≡ Some k → (j ≡ i) ⊎ (j ≡ i → ⊥) → get_or o2 k false ≡ true
+    pushed j k below at (inl now) = step.pushed 0 k (omega arith) (sym here ∙ ap (slice_get list) (sym now) ∙ at)
+    pushed j k below at (inr other) = step.on k (before.pushed j k (omega (arith, other, below)) at)
+
+    stacked : (k : ℕ) → (get_or o k false ≡ true) ⊎ ((j : ℕ) × (slice_get s2 j ≡ Some k)) → (get_or o0 k false ≡ true) ⊎ ((j : ℕ) × (slice_get s2 j ≡ Some k))
+    stacked k (inr w) = inr w
+    stacked k (inl was) = go (before.stacked k was)
+      where
+        go : (get_or o0 k false ≡ true) ⊎ ((j : ℕ) × (slice_get s j ≡ Some k)) → (get_or o0 k false ≡ true) ⊎ ((j : ℕ) × (slice_get s2 j ≡ Some k))
+        go (inl x) = inl x
+        go (inr w) = inr (w.0, step.kept w.0 k w.1)
+
+-- one, and then a list
+pub pushed_cons : (list : List ℕ) (n a : ℕ) (s0 s s2 : List ℕ) (o0 o o2 : List Bool) → ArePushed (a ∷ []) 1 s0 s o0 o → ArePushed list n s s2 o o2 → ArePushed (a ∷ list) (n + 1) s0 s2 o0 o2
+pushed_cons list n a s0 s s2 o0 o o2 first rest = record {
+  flags = rest.flags ∙ first.flags;
+  few = let a' = first.few in let b = rest.few in omega (arith, a', b);
+  kept = λ j k h. rest.kept j k (first.kept j k h);
+  inside = λ j k h. inside j k (rest.inside j k h);
+  pushed = pushed;
+  on = λ k h. rest.on k (first.on k h);
+  stacked = λ k h. stacked k (rest.stacked k h);
+}
+  where
+    inside : (j k : ℕ) → (k < length o) ⊎ (slice_get s j ≡ Some k) → (k < length o0) ⊎ (slice_get s0 j ≡ Some k)
+    inside j k (inl below) = inl (subst (λ m. k < m) first.flags below)
+    inside j k (inr old) = first.inside j k old
+
+    pushed : (j k : ℕ) → j < n + 1 → slice_get (a ∷ list) j ≡ Some k → get_or o2 k false ≡ true
+    pushed zero k below at = rest.on k (first.pushed 0 k (omega arith) at)
+    pushed (suc j) k below at = rest.pushed j k (omega (arith, below)) at
+
+    stacked : (k : ℕ) → (get_or o k false ≡ true) ⊎ ((j : ℕ) × (slice_get s2 j ≡ Some k)) → (get_or o0 k false ≡ true) ⊎ ((j : ℕ) × (slice_get s2 j ≡ Some k))
+    stacked k (inr w) = inr w
+    stacked k (inl was) = go (first.stacked k was)
+      where
+        go : (get_or o0 k false ≡ true) ⊎ ((j : ℕ) × (slice_get s j ≡ Some k)) → (get_or o0 k false ≡ true) ⊎ ((j : ℕ) × (slice_get s2 j ≡ Some k))
+        go (inl x) = inl x
+        go (inr w) = inr (w.0, rest.kept w.0 k w.1)

@@ -1,0 +1,253 @@
+-- One turn of the worklist.
+use Rattle.std.proofs.Common.{◌≡◌, ◌≢◌, ◌∙◌, ℕ, zero, suc, ◌+◌, ◌-◌, ◌*◌, ◌^◌, ◌<◌, ◌≤◌, ◌⊎◌, inl, inr, Bool, true, false, Some, List, [], ◌∷◌, ◌++◌, length, set, replicate, refl, sym, ap, subst, arith}
+use Rattle.std.proofs.Math.ListN.{get_or}
+use Rattle.std.proofs.Math.Nat.{mul-le-mul_right}
+use Rattle.std.proofs.lemmas.Bool.{cases_eq, cases_lt}
+use Rattle.std.proofs.lemmas.Grind.{get_or-set_at}
+use Rattle.std.proofs.lemmas.List.{length-set, length-replicate, length_push, get_or-set_other, get_or-replicate, get_or_past}
+use Rattle.std.proofs.lemmas.List.Sums.{sum_by-cons, sum_by-set}
+use Rattle.std.proofs.lemmas.Option.{slice_get_within}
+use Rattle.std.specs.Prelude.{slice_get, All, sum}
+use Rattle.tdf_base.specs.Limits.{most_firings}
+use Rattle.tdf_graph.specs.Ranges.{IsEdge}
+use Rattle.tdf_graph.specs.declared.actors.Edge.{Edge}
+use Rattle.tdf_schedule.proofs.Keys.{some_same, none_some, contains_at, next_key}
+use Rattle.tdf_schedule.proofs.Linked.{in_front, last_of, push_cases, row_here, row_other, inputs_at}
+use Rattle.tdf_schedule.specs.Needs.{HasKey}
+use Rattle.tdf_schedule.specs.declared.key.Key.{Key}
+use Rattle.tdf_schedule.specs.views.Table.{row_at, total, IsJoined, need_of, key_of}
+use Rattle.tdf_schedule.specs.views.Work.{links_at, with_key, weight, AreGiven, AreRows, AreAllOn, IsSettled, IsWorked, ArePushed}
+
+pub true_false : true ≡ false → ⊥
+true_false e = subst only_true e tt
+  where
+    only_true : Bool → Type 0
+    only_true true = Unit {0}
+    only_true false = ⊥
+
+false_unless : (b : Bool) → (b ≡ true → ⊥) → b ≡ false
+false_unless true not = absurd (not refl)
+false_unless false not = refl
+
+before_last : (xs : List ℕ) (m j k : ℕ) → k ≢ m → slice_get (xs ++ m ∷ []) j ≡ Some k → slice_get xs j ≡ Some k
+before_last xs m j k apart h = go (push_cases xs m j k h)
+  where
+    go : (slice_get xs j ≡ Some k) ⊎ ((j ≡ length xs) × (k ≡ m)) → slice_get xs j ≡ Some k
+    go (inl before) = before
+    go (inr p) = absurd (apart p.1)
+
+-- the rows hold no more keys than the counts allow
+pub total_few : (table : List (List Key)) (counts : List ℕ) → length table ≡ length counts → ((m : ℕ) → length (get_or table m []) ≤ get_or counts m 0) → total table ≤ sum counts
+total_few [] counts same within = omega arith
+total_few (row ∷ table) [] same within = absurd (omega (arith, same))
+total_few (row ∷ table) (c ∷ counts) same within =
+    let rest = total_few table counts (omega (arith, same)) (λ m. within (suc m)) in
+    let a = sum_by-cons {X = List Key} length row table in let b = sum_by-cons (λ x. x) c counts in let h = within 0 in omega (arith, a, b, rest, h)
+
+pub count_few : (counts : List ℕ) (m : ℕ) → get_or counts m 0 ≤ sum counts
+count_few [] m = omega arith
+count_few (c ∷ counts) zero = let b = sum_by-cons (λ x. x) c counts in omega (arith, b)
+count_few (c ∷ counts) (suc m) = let b = sum_by-cons (λ x. x) c counts in let r = count_few counts m in omega (arith, b, r)
+
+module _ (edges : List Edge) (counts paces : List ℕ) (inputs readers : List (List ℕ)) (given : AreGiven edges counts paces inputs readers) (table : List (List Key))
+    (rows : AreRows edges (λ k. get_or paces k 0) counts table) (m : ℕ) (m_in : m < length counts) where
+  pub row_small : length (row_at table m) ≤ most_firings
+  row_small = let w = rows.within m in let c = count_few counts m in let f = given.few in omega (arith, w, c, f)
+
+  pub due_small : length (row_at table m) * get_or paces m 0 < 2 ^ 63
+  due_small = let w = mul-le-mul_right (get_or paces m 0) (rows.within m) in let s = given.short m in omega (arith, w, s)
+
+  -- taken from the stack, and nothing more to do for it
+  module _ (stack : List ℕ) (on : List Bool) (worked : IsWorked edges counts table (stack ++ m ∷ []) on) where
+    other_flag : (k : ℕ) → k ≢ m → get_or (set on m false) k false ≡ get_or on k false
+    other_flag k apart = get_or-set_other on m k false false apart
+
+    own_flag : get_or (set on m false) m false ≡ false
+    own_flag = get_or-set_at on m m false false refl (subst (λ n. m < n) (sym worked.flags) m_in)
+
+    not_own : (k : ℕ) → get_or (set on m false) k false ≡ true → k ≢ m
+    not_own k h same = true_false (sym h ∙ ap (λ n. get_or (set on m false) n false) same ∙ own_flag)
+
+    pub worked_off : IsSettled edges counts table m → IsWorked edges counts table stack (set on m false)
+    worked_off here = record {
+      flags = length-set on m false ∙ worked.flags;
+      stacked = λ k h. let w = worked.stacked k (sym (other_flag k (not_own k h)) ∙ h) in (w.0, before_last stack m w.0 k (not_own k h) w.1);
+      inside = λ j k h. worked.inside j k (in_front stack (m ∷ []) j k h);
+      settled = λ k inside h. settled k inside h (cases_eq k m);
+    }
+      where
+        settled : (k : ℕ) → k < length counts → get_or (set on m false) k false ≡ false → (k ≡ m) ⊎ (k ≡ m → ⊥) → IsSettled edges counts table k
+        settled k inside h (inl same) = subst (IsSettled edges counts table) (sym same) here
+        settled k inside h (inr apart) = worked.settled k inside (sym (other_flag k apart) ∙ h)
+
+    -- its next firing has its key
+    module _ (r : Key) (more : length (row_at table m) ≡ get_or counts m 0 → ⊥) (joined : IsJoined edges (λ k. get_or paces k 0) table m (length (row_at table m)) (links_at inputs m) (length (links_at inputs m)) r) where
+      key : Key
+      key = key_of (r.level + 1) r.offset
+
+      abbrev next : List (List Key)
+      next = with_key table m (key_of (r.level + 1) r.offset)
+
+      m_row : m < length table
+      m_row = subst (λ n. m < n) (sym rows.same) m_in
+
+      here_row : row_at next m ≡ row_at table m ++ key_of (r.level + 1) r.offset ∷ []
+      here_row = row_here table m (row_at table m ++ key_of (r.level + 1) r.offset ∷ []) m_row
+
+      other_row : (k : ℕ) → k ≢ m → row_at next k ≡ row_at table k
+      other_row k apart = row_other table m k (row_at table m ++ key_of (r.level + 1) r.offset ∷ []) apart
+
+      total_next : total next ≡ total table + 1
+      total_next =
+          let s = sum_by-set {X = List Key} length table m (row_at table m ++ key_of (r.level + 1) r.offset ∷ []) [] m_row in
+          let l = length_push (row_at table m) (key_of (r.level + 1) r.offset) in omega (arith, s, l)
+
+      fit_rows : All (IsEdge (length table)) edges
+      fit_rows = subst (λ n. All (IsEdge n) edges) (sym rows.same) given.fit
+
+      new_key : HasKey edges (λ k. get_or paces k 0) m (length (row_at table m)) (key_of (r.level + 1) r.offset)
+      new_key = next_key edges (λ k. get_or paces k 0) table m (links_at inputs m) fit_rows rows.keys rows.low (length (row_at table m)) r
+          (inputs_at (length counts) edges inputs m given.into) joined
+
+      keys_next : (k a : ℕ) (x : Key) → slice_get (row_at next k) a ≡ Some x → (k ≡ m) ⊎ (k ≡ m → ⊥) → HasKey edges (λ i. get_or paces i 0) k a x × (x.level ≤ total next)
+      keys_next k a x is (inr apart) =
+          let old = sym (ap (λ (l : List Key). slice_get l a) (other_row k apart)) ∙ is in (rows.keys k a x old, (let l = rows.low k a x old in omega (arith, l, total_next)))
+      keys_next k a x is (inl same) = go (push_cases (row_at table m) (key_of (r.level + 1) r.offset) a x
+          (sym (ap (λ (l : List Key). slice_get l a) here_row) ∙ ap (λ n. slice_get (row_at next n) a) (sym same) ∙ is))
+        where
+          go : (slice_get (row_at table m) a ≡ Some x) ⊎ ((a ≡ length (row_at table m)) × (x ≡ key_of (r.level + 1) r.offset)) → HasKey edges (λ i. get_or paces i 0) k a x × (x.level ≤ total next)
+          go (inl before) =
+              (subst (λ n. HasKey edges (λ i. get_or paces i 0) n a x) (sym same) (rows.keys m a x before), (let l = rows.low m a x before in omega (arith, l, total_next)))
+          go (inr p) = (
+            subst (λ n. HasKey edges (λ i. get_or paces i 0) n a x) (sym same) (subst (λ n. HasKey edges (λ i. get_or paces i 0) m n x) (sym p.0) (subst (HasKey edges (λ i. get_or paces i 0) m (length (row_at table m))) (sym p.1) new_key)),
+            (let e = ap (λ (y : Key). y.level) p.1 in let f = joined.few in omega (arith, e, f, total_next)),
+          )
+
+      pub rows_next : AreRows edges (λ k. get_or paces k 0) counts (with_key table m (key_of (r.level + 1) r.offset))
+      rows_next = record {
+        same = length-set table m _ ∙ rows.same;
+        within = λ k. within k (cases_eq k m);
+        keys = λ k a x is. (keys_next k a x is (cases_eq k m)).0;
+        low = λ k a x is. (keys_next k a x is (cases_eq k m)).1;
+      }
+        where
+          within : (k : ℕ) → (k ≡ m) ⊎ (k ≡ m → ⊥) → length (row_at next k) ≤ get_or counts k 0
+          within k (inl same) =
+              let e = ap (λ n. length (row_at next n)) same in let h = ap (λ (l : List Key). length l) here_row in let l = length_push (row_at table m) (key_of (r.level + 1) r.offset) in
+              let w = rows.within m in let c = ap (λ n. get_or counts n 0) same in omega (arith, e, h, l, w, c, more)
+          within k (inr apart) = let e = ap (λ (l : List Key). length l) (other_row k apart) in let w = rows.within k in omega (arith, e, w)
+
+      pub worked_on : (after : List ℕ) (flags : List Bool) → ArePushed (m ∷ links_at readers m) (length (links_at readers m) + 1) stack after (set on m false) flags
+          → IsWorked edges counts (with_key table m (key_of (r.level + 1) r.offset)) after flags
+      worked_on after flags pushed = record {
+        flags = pushed.flags ∙ length-set on m false ∙ worked.flags;
+        stacked = λ k h. stacked k (pushed.stacked k h);
+        inside = λ j k h. inside j k (pushed.inside j k h);
+        settled = λ k inside h. settled k inside h (cases_eq k m);
+      }
+        where
+          stacked : (k : ℕ) → (get_or (set on m false) k false ≡ true) ⊎ ((j : ℕ) × (slice_get after j ≡ Some k)) → (j : ℕ) × (slice_get after j ≡ Some k)
+          stacked k (inr w) = w
+          stacked k (inl was) = let w = worked.stacked k (sym (other_flag k (not_own k was)) ∙ was) in (w.0, pushed.kept w.0 k (before_last stack m w.0 k (not_own k was) w.1))
+
+          inside : (j k : ℕ) → (k < length (set on m false)) ⊎ (slice_get stack j ≡ Some k) → k < length counts
+          inside j k (inl below) = subst (λ n. k < n) (length-set on m false ∙ worked.flags) below
+          inside j k (inr old) = worked.inside j k (in_front stack (m ∷ []) j k old)
+
+          settled : (k : ℕ) → k < length counts → get_or flags k false ≡ false → (k ≡ m) ⊎ (k ≡ m → ⊥) → IsSettled edges counts next k
+          settled k k_in h (inl same) = absurd (true_false (sym (pushed.pushed 0 k (omega arith) (ap Some (sym same))) ∙ h))
+          settled k k_in h (inr apart) = go (worked.settled k k_in (false_unless (get_or on k false) (λ t. true_false (sym (pushed.on k (other_flag k apart ∙ t)) ∙ h))))
+            where
+              go : IsSettled edges counts table k → IsSettled edges counts next k
+              go (inl full) = inl (ap (λ (l : List Key). length l) (other_row k apart) ∙ full)
+              go (inr stuck) = inr (record {
+                edge = stuck.edge;
+                there = stuck.there;
+                reads = stuck.reads;
+                firing = stuck.firing;
+                needs = subst (λ (l : List Key). need_of stuck.edge (length l) ≡ Some stuck.firing) (sym (other_row k apart)) stuck.needs;
+                absent = absent (cases_eq stuck.edge.writer m);
+              })
+                where
+                  absent : (stuck.edge.writer ≡ m) ⊎ (stuck.edge.writer ≡ m → ⊥) → length (row_at next stuck.edge.writer) ≤ stuck.firing
+                  absent (inr other) = subst (λ (l : List Key). length l ≤ stuck.firing) (sym (other_row stuck.edge.writer other)) stuck.absent
+                  absent (inl writes) =
+                      let at = contains_at edges stuck.edge stuck.there in
+                      let j = given.out.all at.0 stuck.edge (slice_get_within edges at.0 stuck.edge at.1) at.1 in
+                      let found : slice_get (links_at readers m) j.0 ≡ Some k = ap (λ n. slice_get (links_at readers n) j.0) (sym writes) ∙ j.1 ∙ ap Some stuck.reads in
+                      let within = slice_get_within (links_at readers m) j.0 k found in
+                      absurd (true_false (sym (pushed.pushed (suc j.0) k (omega (arith, within)) found) ∙ h))
+
+      pub less_on : (after : List ℕ) (flags : List Bool) → ArePushed (m ∷ links_at readers m) (length (links_at readers m) + 1) stack after (set on m false) flags
+          → weight edges counts (with_key table m (key_of (r.level + 1) r.offset)) after ≤ weight edges counts table stack
+      less_on after flags pushed =
+          let few = pushed.few in let out = given.out.few m in
+          let top = total_few next counts rows_next.same rows_next.within in
+          step (sum counts - total next) (sum counts - total table) (length edges) (length after) (length stack) (length (links_at readers m)) (omega (arith, top, total_next)) few out
+        where
+          step : (l1 l0 w s2 s n : ℕ) → l0 ≡ l1 + 1 → s2 ≤ s + (n + 1) → n ≤ w → l1 * (w + 2) + s2 ≤ l0 * (w + 2) + s
+          step l1 l0 w s2 s n is grew few = let p : (l1 + 1) * (w + 2) ≡ l1 * (w + 2) + (w + 2) = grind arith in let q = ap (λ k. k * (w + 2)) is in omega (arith, p, q, grew, few)
+
+-- the same as the code meets it
+pub record IsTurned (edges : List Edge) (counts paces : List ℕ) (old new : List (List Key)) (stack after : List ℕ) (flags : List Bool) : Type 0 where
+  pub rows : AreRows edges (λ k. get_or paces k 0) counts new
+  pub worked : IsWorked edges counts new after flags
+  pub less : weight edges counts new after ≤ weight edges counts old stack
+
+pub turned : (edges : List Edge) (counts paces : List ℕ) (inputs readers : List (List ℕ)) (table new : List (List Key)) (m len : ℕ) (stack after : List ℕ) (on flags : List Bool) (r : Key) (into out : List ℕ)
+    → AreGiven edges counts paces inputs readers → AreRows edges (λ k. get_or paces k 0) counts table → IsWorked edges counts table (stack ++ m ∷ []) on
+    → len ≡ length (row_at table m) → (len ≡ get_or counts m 0 → ⊥) → into ≡ links_at inputs m → out ≡ links_at readers m
+    → IsJoined edges (λ k. get_or paces k 0) table m (length (row_at table m)) into (length into) r
+    → new ≡ with_key table m (key_of (r.level + 1) r.offset) → ArePushed (m ∷ out) (length out + 1) stack after (set on m false) flags
+    → IsTurned edges counts paces table new stack after flags
+turned edges counts paces inputs readers table new m len stack after on flags r into out given rows worked len_is short into_is out_is joined new_is pushed =
+    subst (λ t. IsTurned edges counts paces table t stack after flags) (sym new_is) (record {
+      rows = rows_next edges counts paces inputs readers given table rows m m_in stack on worked r more joined_is;
+      worked = worked_on edges counts paces inputs readers given table rows m m_in stack on worked r more joined_is after flags pushed_is;
+      less = less_on edges counts paces inputs readers given table rows m m_in stack on worked r more joined_is after flags pushed_is;
+    })
+  where
+    m_in : m < length counts
+    m_in = worked.inside (length stack) m (last_of stack m)
+
+    more : length (row_at table m) ≡ get_or counts m 0 → ⊥
+    more full = short (len_is ∙ full)
+
+    joined_is : IsJoined edges (λ k. get_or paces k 0) table m (length (row_at table m)) (links_at inputs m) (length (links_at inputs m)) r
+    joined_is = subst (λ (l : List ℕ). IsJoined edges (λ k. get_or paces k 0) table m (length (row_at table m)) l (length l) r) into_is joined
+
+    pushed_is : ArePushed (m ∷ links_at readers m) (length (links_at readers m) + 1) stack after (set on m false) flags
+    pushed_is = subst (λ (l : List ℕ). ArePushed (m ∷ l) (length l + 1) stack after (set on m false) flags) out_is pushed
+
+-- before any turn
+pub rows_start : (edges : List Edge) (pace : ℕ → ℕ) (counts : List ℕ) (table : List (List Key)) (count : ℕ) → count ≡ length counts → table ≡ replicate count []
+    → AreRows edges pace counts table
+rows_start edges pace counts table count is table_is = subst (AreRows edges pace counts) (sym table_is) (record {
+  same = length-replicate count [] ∙ is;
+  within = λ m. let e = ap (λ (l : List Key). length l) (empty m (cases_lt m count)) in omega (arith, e);
+  keys = λ m a key found. absurd (none_some (ap (λ (l : List Key). slice_get l a) (sym (empty m (cases_lt m count))) ∙ found));
+  low = λ m a key found. absurd (none_some (ap (λ (l : List Key). slice_get l a) (sym (empty m (cases_lt m count))) ∙ found));
+})
+  where
+    empty : (m : ℕ) → (m < count) ⊎ (count ≤ m) → row_at (replicate count []) m ≡ []
+    empty m (inl here) = get_or-replicate count m [] [] here
+    empty m (inr past) = get_or_past (replicate count []) m [] (subst (λ n. n ≤ m) (sym (length-replicate count [])) past)
+
+pub worked_start : (edges : List Edge) (counts : List ℕ) (table : List (List Key)) (stack : List ℕ) (on : List Bool) (count : ℕ) → count ≡ length counts → AreAllOn count stack on
+    → IsWorked edges counts table stack on
+worked_start edges counts table stack on count is all = record {
+  flags = all.flags ∙ is;
+  stacked = λ k h. (k, all.each k (below k h (cases_lt k count)));
+  inside = λ j k h. inside j k h;
+  settled = λ k k_in h. absurd (true_false (sym (all.all k (subst (λ n. k < n) (sym is) k_in)) ∙ h));
+}
+  where
+    below : (k : ℕ) → get_or on k false ≡ true → (k < count) ⊎ (count ≤ k) → k < count
+    below k h (inl here) = here
+    below k h (inr past) = absurd (true_false (sym h ∙ get_or_past on k false (subst (λ n. n ≤ k) (sym all.flags) past)))
+
+    inside : (j k : ℕ) → slice_get stack j ≡ Some k → k < length counts
+    inside j k h =
+        let within = slice_get_within stack j k h in
+        let j_in = subst (λ n. j < n) all.long within in
+        subst (λ n. n < length counts) (some_same (sym (all.each j j_in) ∙ h)) (subst (λ n. j < n) is j_in)

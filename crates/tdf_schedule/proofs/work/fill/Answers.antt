@@ -1,0 +1,10 @@
+use Rattle.std.proofs.Common.{refl}
+use Rattle.std.specs.Prelude.{slice_index}
+use Rattle.tdf_schedule.proofs.Works.{rows_start, worked_start}
+use Rattle.tdf_schedule.proofs.work.fill.Goals as goal
+
+pub loop-actor-init : goal.loop-actor-init
+loop-actor-init c = record {
+  rows = rows_start c.args.edges.now (slice_index c.args.paces.now) c.args.counts.now c.in_ok-table.table.items _ refl c.in_ok-table.ensures;
+  worked = worked_start c.args.edges.now c.args.counts.now c.in_ok-table.table.items _ _ _ refl c.in_ok-stack.ensures;
+}

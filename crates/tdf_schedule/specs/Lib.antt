@@ -1,0 +1,4 @@
+pub mod Laws
+pub mod Needs
+pub mod Plan
+pub mod views

@@ -1,0 +1,6 @@
+pub mod Answers
+pub mod Bounds
+pub mod Entries
+pub mod Faults
+pub mod Table
+pub mod Work

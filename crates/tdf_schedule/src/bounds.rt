@@ -1,0 +1,131 @@
+//! The most samples that each edge holds along a plan.
+
+ghost use Rattle.std.specs.Prelude.{◌≡◌, ◌<◌, ◌≤◌, ◌+◌, ◌-◌, ◌*◌, ◌^◌, ℕ, All, length, max, take, replicate, slice_index, slice_set, slice_get, Some, IfOk, OnOk};
+ghost use Rattle.tdf_base.specs.Limits.{most_firings};
+ghost use Rattle.tdf_graph.specs.Ranges.{IsEdge};
+ghost use Rattle.tdf_schedule.specs.views.Work.{links_at, AreInputsUpTo, AreOutputsUpTo};
+ghost use Rattle.tdf_schedule.specs.views.Bounds.{held_of, AreRaisedUpTo, HasFired, AreBoundsUpTo, AreWalkedUpTo, AreInitialUpTo};
+
+use crate::entry::Entry;
+use crate::key::Links;
+use crate::links::list_at;
+use std::alloc::Global;
+use tdf_base::Memory;
+use tdf_graph::Edge;
+
+/// What an edge holds after so many firings of its writer and its reader.
+fn held(edge: &Edge, done: &[u64]) -> u64
+    requires fit { IsEdge (length done.now) edge.now }
+    requires few { All (λ n. n ≤ most_firings) done.now }
+    ensures value { result ≡ held_of edge.now done.now }
+    ensures small { result < 2 ^ 31 }
+{
+    let written = u64::from(edge.initial) + done[edge.writer as usize] * u64::from(edge.write_rate);
+    let read = done[edge.reader as usize] * u64::from(edge.read_rate);
+    written.saturating_sub(read)
+}
+
+/// Raises the bounds of the edges of a list to what they hold.
+fn raise(list: &[u32], edges: &[Edge], done: &[u64], bounds: &mut Vec<u64>)
+    requires fit { All (IsEdge (length done.now)) edges.now }
+    requires few { All (λ n. n ≤ most_firings) done.now }
+    requires inside { (j : ℕ) → j < length list.now → slice_index list.now j < length edges.now }
+    requires long { length bounds.old.items ≡ length edges.now }
+    requires small { All (λ b. b < 2 ^ 31) bounds.old.items }
+    ensures small { All (λ b. b < 2 ^ 31) bounds.new.items }
+    ensures raised { AreRaisedUpTo (length list.now) list.now edges.now done.now bounds.old.items bounds.new.items }
+{
+    for j in 0..list.len() {
+        let number = list[j] as usize;
+        bounds[number] = bounds[number].max(held(&edges[number], done));
+    }
+}
+
+/// One firing of an actor: it is counted, and the bounds of its edges are raised.
+fn fire(
+    actor: u32,
+    edges: &[Edge],
+    inputs: &[Links],
+    outputs: &[Links],
+    done: &mut Vec<u64>,
+    bounds: &mut Vec<u64>,
+)
+    requires actor { actor < length done.old.items }
+    requires fit { All (IsEdge (length done.old.items)) edges.now }
+    requires into { AreInputsUpTo (length edges.now) (length done.old.items) edges.now inputs.now }
+    requires out { AreOutputsUpTo (length edges.now) (length done.old.items) edges.now outputs.now }
+    requires few { All (λ n. n + 1 ≤ most_firings) done.old.items }
+    requires long { length bounds.old.items ≡ length edges.now }
+    requires small { All (λ b. b < 2 ^ 31) bounds.old.items }
+    ensures small { All (λ b. b < 2 ^ 31) bounds.new.items }
+    ensures done { done.new.items ≡ slice_set done.old.items actor (slice_index done.old.items actor + 1) }
+    ensures raised { HasFired actor edges.now done.new.items bounds.old.items bounds.new.items }
+{
+    done[actor as usize] += 1;
+    raise(list_at(inputs, actor), edges, done, bounds);
+    raise(list_at(outputs, actor), edges, done, bounds);
+}
+
+/// Walks through the entries of a plan.
+fn walk(
+    edges: &[Edge],
+    inputs: &[Links],
+    outputs: &[Links],
+    entries: &[Entry],
+    done: &mut Vec<u64>,
+    bounds: &mut Vec<u64>,
+)
+    requires fit { All (IsEdge (length done.old.items)) edges.now }
+    requires into { AreInputsUpTo (length edges.now) (length done.old.items) edges.now inputs.now }
+    requires out { AreOutputsUpTo (length edges.now) (length done.old.items) edges.now outputs.now }
+    requires actors { All (λ x. x.actor < length done.old.items) entries.now }
+    requires few { length entries.now ≤ most_firings }
+    requires start { AreWalkedUpTo 0 (length done.old.items) entries.now edges.now done.old.items bounds.old.items }
+    ensures { AreWalkedUpTo (length entries.now) (length done.old.items) entries.now edges.now done.new.items bounds.new.items }
+{
+    for i in 0..entries.len() {
+        fire(entries[i].actor, edges, inputs, outputs, done, bounds);
+    }
+}
+
+/// No firing of any actor.
+fn none_done(alloc: Global, count: u32) -> Result<Vec<u64>, Memory>
+    ensures { IfOk result (λ v. v.items ≡ replicate count 0) }
+{
+    Ok(vec![in alloc; 0; count as usize]?)
+}
+
+/// What each edge holds at first.
+fn initials(alloc: Global, edges: &[Edge]) -> Result<Vec<u64>, Memory>
+    ensures { IfOk result (λ v. AreInitialUpTo (length edges.now) edges.now v.items) }
+{
+    let mut held = Vec::new(alloc);
+    for k in 0..edges.len() {
+        held.push(u64::from(edges[k].initial))?;
+    }
+    Ok(held)
+}
+
+/// The most samples that each edge holds along a plan.
+pub(crate) fn most_held(
+    alloc: Global,
+    count: u32,
+    edges: &[Edge],
+    inputs: &[Links],
+    outputs: &[Links],
+    entries: &[Entry],
+) -> Result<Vec<u64>, Memory>
+    requires fit { All (IsEdge count) edges.now }
+    requires into { AreInputsUpTo (length edges.now) count edges.now inputs.now }
+    requires out { AreOutputsUpTo (length edges.now) count edges.now outputs.now }
+    requires actors { All (λ x. x.actor < count) entries.now }
+    requires few { length entries.now ≤ most_firings }
+    ensures bounds { IfOk result (λ v. AreBoundsUpTo (length entries.now) entries.now edges.now v.items) }
+    ensures small { IfOk result (λ v. All (λ b. b < 2 ^ 31) v.items) }
+{
+    let mut done = none_done(alloc, count)?;
+    let mut bounds = initials(alloc, edges)?;
+    walk(edges, inputs, outputs, entries, &mut done, &mut bounds);
+    drop(done);
+    Ok(bounds)
+}

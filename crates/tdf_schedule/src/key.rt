@@ -1,0 +1,99 @@
+//! The level and the offset of a firing.
+
+use std::marker::Model;
+
+/// The level and the offset of a firing.
+#[derive(Clone, Copy, Debug, PartialEq, Eq)]
+pub struct Key {
+    /// 1 more than the greatest level that it needs, 1 where it needs none.
+    pub level: u32,
+    /// The time after the start of the period at which it is done, in counts of the model's resolution.
+    pub offset: u64,
+}
+
+/// The keys of an actor's first firings.
+#[derive(Drop)]
+pub(crate) struct Row {
+    keys: Vec<Key>,
+}
+
+impl Model for Row {
+    ghost use Rattle.std.specs.Prelude.{List};
+    ghost use Rattle.tdf_schedule.specs.declared.key.Key.{Key};
+
+    ghost Value = { List Key };
+
+    ghost view = { λ a. a.keys.items };
+}
+
+/// Numbers of edges, or of actors.
+#[derive(Drop)]
+pub(crate) struct Links {
+    list: Vec<u32>,
+}
+
+impl Model for Links {
+    ghost use Rattle.std.specs.Prelude.{List, ℕ};
+
+    ghost Value = { List ℕ };
+
+    ghost view = { λ a. a.list.items };
+}
+
+ghost use Rattle.std.specs.Prelude.{◌≡◌, ◌<◌, ◌++◌, ◌∷◌, [], Some, length, slice_get, OnOk};
+
+use std::alloc::Global;
+use tdf_base::Memory;
+
+impl Row {
+    pub(crate) fn new(alloc: Global) -> Row
+        ensures { result ≡ [] }
+    {
+        Row {
+            keys: Vec::new(alloc),
+        }
+    }
+
+    pub(crate) fn len(&self) -> usize
+        ensures { result ≡ length self.now }
+    {
+        self.keys.len()
+    }
+
+    pub(crate) fn key(&self, index: usize) -> Key
+        requires { index < length self.now }
+        ensures { slice_get self.now index ≡ Some result }
+    {
+        self.keys[index]
+    }
+
+    pub(crate) fn push(&mut self, key: Key) -> Result<(), Memory>
+        ensures { OnOk result (self.new ≡ self.old ++ key ∷ []) }
+    {
+        self.keys.push(key)?;
+        Ok(())
+    }
+}
+
+impl Links {
+    pub(crate) fn new(alloc: Global) -> Links
+        ensures { result ≡ [] }
+    {
+        Links {
+            list: Vec::new(alloc),
+        }
+    }
+
+    pub(crate) fn list(&self) -> &[u32]
+        ensures { result.now ≡ self.now }
+    {
+        &self.list
+    }
+
+    pub(crate) fn push(&mut self, number: u32) -> Result<(), Memory>
+        ensures { OnOk result (self.new ≡ self.old ++ number ∷ []) }
+    {
+        self.list.push(number)?;
+        Ok(())
+    }
+}

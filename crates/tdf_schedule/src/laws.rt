@@ -1,0 +1,9 @@
+//! What holds along a plan.
+
+ghost use Rattle.tdf_schedule.specs.Laws.{PlansArePresent, BoundsAreNarrow};
+
+/// What an entry needs stands before it, and no edge holds more than a period beyond what it holds at first.
+pub fn law_present()
+    ensures present { PlansArePresent }
+    ensures narrow { BoundsAreNarrow }
+{}
