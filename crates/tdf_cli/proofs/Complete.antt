@@ -9,7 +9,6 @@ use Rattle.tdf_blocks.specs.Refused.{SpellsText, HasSyntaxFault}
 use Rattle.tdf_cli.specs.Input.{Reading, BadWords, Text, TooLong, ReadFault, NoMemory, InputIs}
 use Rattle.tdf_cli.specs.Outcome.{Outcome, note, refused, ran, HasOutcome, usage, read_fault, too_long, faulty, unbuilt, reached, WritesOutcome, HasOneOutcome}
 use Rattle.tdf_cli.specs.Refusals.{IsFirstFault, byte_fault, long_line_fault, syntax_fault, fault_in_tree, tree_fault, on_line, unbuilt_fault}
-use Rattle.tdf_faults.specs.declared.first.LineFault.{LineFault}
 use Rattle.tdf_cli.specs.Status.{number_of}
 use Rattle.tdf_cli.specs.Words.{settings_of}
 use Rattle.tdf_cli.specs.declared.status.Status.{Status}
@@ -57,7 +56,7 @@ abbrev OfSound : ℕ → PureTree → Outcome → Type 0
 OfSound stop tree o = (((thin : Thin) → IsThinTree tree thin → ⊥) × (o ≡ refused unbuilt_fault)) ⊎ ((thin : Thin) × IsThinTree tree thin × (o ≡ ran thin stop))
 
 abbrev OfTree : ℕ → PureTree → Outcome → Type 0
-OfTree stop tree o = ((f : LineFault) × (tree_fault tree ≡ Some f) × (o ≡ refused (on_line f.code f.line))) ⊎ ((tree_fault tree ≡ None) × OfSound stop tree o)
+OfTree stop tree o = ((fault : Fault) × (tree_fault tree ≡ Some fault) × (o ≡ refused fault)) ⊎ ((tree_fault tree ≡ None) × OfSound stop tree o)
 
 abbrev OfText : ℕ → List ℕ → Outcome → Type 0
 OfText stop text o = ((fault : Fault) × Found text fault × (o ≡ refused fault)) ⊎ ((tree : PureTree) × SpellsText text tree × OfTree stop tree o)
@@ -73,7 +72,7 @@ seen_faulty : (settings : Settings) (text : List ℕ) (fault : Fault) → IsFirs
 seen_faulty (Run stop) text _ (byte_fault line is) = inl (on_line code.Byte line, inl (bytes.Byte line, is, refl), refl)
 seen_faulty (Run stop) text _ (long_line_fault line is) = inl (on_line code.LongLine line, inl (bytes.LongLine line, is, refl), refl)
 seen_faulty (Run stop) text _ (syntax_fault line is) = inl (on_line code.Syntax line, inr (line, is, refl), refl)
-seen_faulty (Run stop) text _ (fault_in_tree {tree = tree} f spells is) = inr (tree, spells, inl (f, is, refl))
+seen_faulty (Run stop) text fault (fault_in_tree {tree = tree} spells is) = inr (tree, spells, inl (fault, is, refl))
 
 seen : {r : Reading} {o : Outcome} → HasOutcome r o → Seen r o
 seen usage = refl
@@ -93,7 +92,7 @@ same_sound stop tree one other (inr s) (inr t) =
 same_run : (stop : ℕ) (tree : PureTree) (one other : Outcome) → OfTree stop tree one → OfTree stop tree other → one ≡ other
 same_run stop tree one other (inl s) (inl t) =
     let is : s.0 ≡ t.0 = cc (sym s.1 ∙ t.1) in
-    s.2 ∙ ap (λ (f : LineFault). refused (on_line f.code f.line)) is ∙ sym t.2
+    s.2 ∙ ap refused is ∙ sym t.2
 same_run stop tree one other (inl s) (inr t) = let e = sym s.1 ∙ t.0 in absurd cc
 same_run stop tree one other (inr s) (inl t) = let e = sym t.1 ∙ s.0 in absurd cc
 same_run stop tree one other (inr s) (inr t) = same_sound stop tree one other s.1 t.1

@@ -16,13 +16,12 @@ ghost use Rattle.tdf_tree.specs.Views.{pure_tree};
 
 use crate::checks::check;
 use crate::load::Input;
-use crate::refusals::{first_fault, on_line, push_refusal, unbuilt};
+use crate::refusals::{first_fault, push_refusal, unbuilt};
 use crate::status::Status;
 use crate::words::Settings;
 use std::alloc::Global;
 use tdf_base::Fault;
 use tdf_blocks::parse;
-use tdf_faults::TypeErr;
 use tdf_io::{Sink, SinkErr, put_all};
 use tdf_thin::{ThinErr, run_thin, thin_of};
 use tdf_tree::Tree;
@@ -96,9 +95,9 @@ fn run_tree<O: Sink, N: Sink>(
     ensures cause { IsErrOf result Failed → FaultsRose (O.faults out.old) (O.faults out.new) ⊎ FaultsRose (N.faults notes.old) (N.faults notes.new) }
 {
     match check(alloc, tree) {
-        Ok(()) => run_checked(alloc, tree, stop, out, notes),
-        Err(TypeErr::Line { code, line }) => refuse(alloc, notes, on_line(code, line)),
-        Err(TypeErr::Memory) => Err(SinkErr::Memory),
+        Ok(None) => run_checked(alloc, tree, stop, out, notes),
+        Ok(Some(fault)) => refuse(alloc, notes, fault),
+        Err(_) => Err(SinkErr::Memory),
     }
 }
 
