@@ -7,4 +7,5 @@ pub mod Orders
 pub mod Plans
 pub mod Presents
 pub mod Pushes
+pub mod Sames
 pub mod Works

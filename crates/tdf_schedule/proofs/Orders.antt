@@ -41,6 +41,14 @@ module _ {X : Type 0} (f : X → ℕ) (lt : X → X → Bool) where
       go (inr high) (inl more) = inr (inr more)
       go (inr high) (inr low) = inr (inl (omega (arith, high, low)))
 
+  pub then_tie : (x y : X) → first_then x y ≡ false → first_then y x ≡ false → (f x ≡ f y) × (lt x y ≡ false) × (lt y x ≡ false)
+  then_tie x y a b = go (data_order x y)
+    where
+      go : (f x < f y) ⊎ ((f x ≡ f y) ⊎ (f y < f x)) → (f x ≡ f y) × (lt x y ≡ false) × (lt y x ≡ false)
+      go (inl less) = absurd (true_false (sym (then_less x y less) ∙ a))
+      go (inr (inl same)) = (same, sym (then_same x y same) ∙ a, sym (then_same y x (sym same)) ∙ b)
+      go (inr (inr more)) = absurd (true_false (sym (then_less y x more) ∙ b))
+
   pub then_order : IsStrictWeakOrder lt → IsStrictWeakOrder first_then
   then_order o = record { one_way = λ x y h. one_way x y h (data_order x y); chain = λ x y z a b. chain x y z a b (data_order x y) (data_order y z) }
     where
@@ -57,6 +65,15 @@ module _ {X : Type 0} (f : X → ℕ) (lt : X → X → Bool) where
       chain x y z a b (inr (inl same)) (inr (inr more)) = then_more x z (omega (arith, same, more))
       chain x y z a b (inr (inr more)) (inr (inl same)) = then_more x z (omega (arith, same, more))
       chain x y z a b (inr (inr more)) (inr (inr more2)) = then_more x z (omega (arith, more, more2))
+
+abbrev pub less_index : Entry → Entry → Bool
+less_index x y = nat_lt x.index y.index
+
+abbrev pub less_actor : Entry → Entry → Bool
+less_actor = first_then (λ (x : Entry). x.actor) less_index
+
+abbrev pub less_level : Entry → Entry → Bool
+less_level = first_then (λ (x : Entry). x.level) less_actor
 
 by_index : IsStrictWeakOrder (λ (x y : Entry). nat_lt x.index y.index)
 by_index = IsStrictWeakOrder-by_number (λ (x : Entry). x.index)

@@ -54,7 +54,7 @@ module _ {X : Type 0} (p : X → Bool) where
           let r = next (omega (arith, c, some)) in
           (suc r.0, r.1, r.2, r.3)
 
-firing_yes : (m a : ℕ) (x : Entry) → x.actor ≡ m → x.index ≡ a → is_firing m a x ≡ true
+pub firing_yes : (m a : ℕ) (x : Entry) → x.actor ≡ m → x.index ≡ a → is_firing m a x ≡ true
 firing_yes m a x same too = rw (eq-eqb x.actor m same, eq-eqb x.index a too) refl
 
 firing_is : (m a : ℕ) (x : Entry) → is_firing m a x ≡ true → (x.actor ≡ m) × (x.index ≡ a)
@@ -80,12 +80,11 @@ pub record AreFirst (entries : List Entry) (i : ℕ) : Type 0 where
   pub below : (j : ℕ) (y : Entry) → j < i → slice_get entries j ≡ Some y → y.index < done entries i y.actor
   pub each : (m a : ℕ) → a < done entries i m → StandsBefore entries i m a
 
-module _ (edges : List Edge) (pace : ℕ → ℕ) (counts : List ℕ) (entries : List Entry) (fit : All (IsEdge (length counts)) edges)
-    (balanced : (e : Edge) → Contains edges e → IsBalanced (λ m. get_or counts m 0) e) (planned : IsPlan edges pace counts entries) where
-  key_of : (i : ℕ) (x : Entry) → slice_get entries i ≡ Some x → HasKey edges pace x.actor x.index (key_in x)
+module _ (edges : List Edge) (pace : ℕ → ℕ) (counts : List ℕ) (entries : List Entry) (planned : IsPlan edges pace counts entries) where
+  pub key_of : (i : ℕ) (x : Entry) → slice_get entries i ≡ Some x → HasKey edges pace x.actor x.index (key_in x)
   key_of i x is = All-contains (λ (y : Entry). HasKey edges pace y.actor y.index (key_in y)) entries x planned.keys (at_contains entries i x is)
 
-  inside : (i : ℕ) (x : Entry) → slice_get entries i ≡ Some x → x.index < get_or counts x.actor 0
+  pub inside : (i : ℕ) (x : Entry) → slice_get entries i ≡ Some x → x.index < get_or counts x.actor 0
   inside i x is = go (cases_lt x.index (get_or counts x.actor 0))
     where
       go : (x.index < get_or counts x.actor 0) ⊎ (get_or counts x.actor 0 ≤ x.index) → x.index < get_or counts x.actor 0
@@ -95,20 +94,22 @@ module _ (edges : List Edge) (pace : ℕ → ℕ) (counts : List ℕ) (entries :
           let none : count_by (is_firing x.actor x.index) entries ≡ 0 = planned.complete x.actor x.index ∙ rw (le-ltb x.index (get_or counts x.actor 0) high) refl in
           absurd (omega (arith, one, none))
 
-  few : (m a : ℕ) → count_by (is_firing m a) entries ≤ 1
+  pub few : (m a : ℕ) → count_by (is_firing m a) entries ≤ 1
   few m a = go (cases_lt a (get_or counts m 0))
     where
       go : (a < get_or counts m 0) ⊎ (get_or counts m 0 ≤ a) → count_by (is_firing m a) entries ≤ 1
       go (inl less) = let e : count_by (is_firing m a) entries ≡ 1 = planned.complete m a ∙ rw (lt-ltb a (get_or counts m 0) less) refl in omega (arith, e)
       go (inr high) = let e : count_by (is_firing m a) entries ≡ 0 = planned.complete m a ∙ rw (le-ltb a (get_or counts m 0) high) refl in omega (arith, e)
 
-  found : (m a : ℕ) → a < get_or counts m 0 → StandsBefore entries (length entries) m a
+  pub found : (m a : ℕ) → a < get_or counts m 0 → StandsBefore entries (length entries) m a
   found m a less =
       let one : count_by (is_firing m a) entries ≡ 1 = planned.complete m a ∙ rw (lt-ltb a (get_or counts m 0) less) refl in
       let at = found_place (is_firing m a) entries (omega (arith, one)) in
       let is = firing_is m a at.1 at.3 in
       record { place = at.0; before = slice_get_within entries at.0 at.1 at.2; entry = at.1; there = at.2; actor = is.0; index = is.1 }
 
+module _ (edges : List Edge) (pace : ℕ → ℕ) (counts : List ℕ) (entries : List Entry) (fit : All (IsEdge (length counts)) edges)
+    (balanced : (e : Edge) → Contains edges e → IsBalanced (λ m. get_or counts m 0) e) (planned : IsPlan edges pace counts entries) where
   below_it : (m a n b f o : ℕ) (k : Key) → Within edges pace f o m a → Needs edges m a n b → HasKey edges pace n b k → (k.level < f) × (k.offset ≤ o)
   unfolding Within
   below_it m a n b zero o k within need key = absurd within
@@ -118,11 +119,11 @@ module _ (edges : List Edge) (pace : ℕ → ℕ) (counts : List ℕ) (entries :
   before_it i n b x x_is need = record { place = at.place; before = sooner (cases_lt at.place i); entry = at.entry; there = at.there; actor = at.actor; index = at.index }
     where
       at : StandsBefore entries (length entries) n b
-      at = found n b (needs_inside edges pace counts fit balanced x.actor x.index n b (inside i x x_is) need)
+      at = found edges pace counts entries planned n b (needs_inside edges pace counts fit balanced x.actor x.index n b (inside edges pace counts entries planned i x x_is) need)
 
       less : (at.entry.level < x.level) × (at.entry.offset ≤ x.offset)
-      less = below_it x.actor x.index n b x.level x.offset (key_in at.entry) (key_of i x x_is).within need
-          (subst (λ m. HasKey edges pace m b (key_in at.entry)) at.actor (subst (λ a. HasKey edges pace at.entry.actor a (key_in at.entry)) at.index (key_of at.place at.entry at.there)))
+      less = below_it x.actor x.index n b x.level x.offset (key_in at.entry) (key_of edges pace counts entries planned i x x_is).within need
+          (subst (λ m. HasKey edges pace m b (key_in at.entry)) at.actor (subst (λ a. HasKey edges pace at.entry.actor a (key_in at.entry)) at.index (key_of edges pace counts entries planned at.place at.entry at.there)))
 
       sooner : (at.place < i) ⊎ (i ≤ at.place) → at.place < i
       sooner (inl before) = before
@@ -141,7 +142,7 @@ module _ (edges : List Edge) (pace : ℕ → ℕ) (counts : List ℕ) (entries :
       go (inl less) second =
           let s = first.each x.actor x.index less in
           let two = two_places (is_firing x.actor x.index) entries s.place i s.entry x s.before s.there x_is (firing_yes x.actor x.index s.entry s.actor s.index) (firing_yes x.actor x.index x refl refl) in
-          let one = few x.actor x.index in
+          let one = few edges pace counts entries planned x.actor x.index in
           absurd (omega (arith, two, one))
       go (inr high) (inl more) =
           let s = before_it i x.actor (x.index - 1) x x_is (inl (refl, omega (arith, more))) in
@@ -257,7 +258,7 @@ module _ (edges : List Edge) (pace : ℕ → ℕ) (counts : List ℕ) (entries :
       go : (get_or counts m 0 < done entries i m) ⊎ (done entries i m ≤ get_or counts m 0) → done entries i m ≤ get_or counts m 0
       go (inl more) =
           let s = (all_first i here).each m (get_or counts m 0) more in
-          let w : s.entry.index < get_or counts m 0 = subst (λ n. s.entry.index < get_or counts n 0) s.actor (inside s.place s.entry s.there) in
+          let w : s.entry.index < get_or counts m 0 = subst (λ n. s.entry.index < get_or counts n 0) s.actor (inside edges pace counts entries planned s.place s.entry s.there) in
           let e = s.index in
           absurd (omega (arith, w, e))
       go (inr low) = low
@@ -267,7 +268,7 @@ module _ (edges : List Edge) (pace : ℕ → ℕ) (counts : List ℕ) (entries :
     where
       go : (done entries (length entries) m < get_or counts m 0) ⊎ (get_or counts m 0 ≤ done entries (length entries) m) → done entries (length entries) m ≡ get_or counts m 0
       go (inl less) =
-          let s = found m (done entries (length entries) m) less in
+          let s = found edges pace counts entries planned m (done entries (length entries) m) less in
           let b : s.entry.index < done entries (length entries) m = subst (λ n. s.entry.index < done entries (length entries) n) s.actor ((all_first (length entries) (omega arith)).below s.place s.entry s.before s.there) in
           let e = s.index in
           absurd (omega (arith, b, e))
@@ -279,7 +280,7 @@ module _ (edges : List Edge) (pace : ℕ → ℕ) (counts : List ℕ) (entries :
   pub is_narrow : (e : Edge) (bound : ℕ) → Contains edges e → 0 < get_or counts e.reader 0 → IsBound entries e bound → IsNarrow e counts bound
   is_narrow e bound there some is = record {
     reads =
-        let s = found e.reader 0 some in
+        let s = found edges pace counts entries planned e.reader 0 some in
         let p = present_at s.place s.entry e s.there there (sym s.actor) in
         let m = is.most s.place (let b = s.before in omega (arith, b)) in
         omega (arith, p, m);

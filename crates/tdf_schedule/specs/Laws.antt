@@ -51,3 +51,12 @@ BoundsAreNarrow = (edges : List Edge) (pace : ℕ → ℕ) (counts : List ℕ) (
     → ((e : Edge) → Contains edges e → IsBalanced (slice_index counts) e)
     → IsPlan edges pace counts entries → Contains edges e → 0 < slice_index counts e.reader
     → IsBound entries e bound → IsNarrow e counts bound
+
+-- a cluster has one plan, and an edge one bound
+abbrev pub PlansAreUnique : Type 0
+PlansAreUnique = (edges : List Edge) (pace : ℕ → ℕ) (counts : List ℕ) (one other : List Entry)
+    → IsPlan edges pace counts one → IsPlan edges pace counts other → one ≡ other
+
+abbrev pub BoundsAreUnique : Type 0
+BoundsAreUnique = (entries : List Entry) (e : Edge) (one other : ℕ)
+    → IsBound entries e one → IsBound entries e other → one ≡ other

@@ -29,4 +29,4 @@ pub use cluster::plan;
 pub use entry::{Entry, Plan};
 pub use err::PlanErr;
 pub use key::Key;
-pub use laws::law_present;
+pub use laws::{law_plans, law_present};
