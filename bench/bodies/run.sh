@@ -1,7 +1,8 @@
 #!/bin/sh
 # Times three bodies, checked, compiled and run by this repository, beside the same in plain Rust (bodies.rs, built by `rustc -O`): a filter
 # of 64 taps, a sigma-delta modulator of second order, and a counter. An operation is a node of an expression or an assignment. The sums
-# of a body must agree. program.txt is the source of a throw-away program crate, which is made in a folder of its own: it is no part of the gate.
+# of a body must agree; each is of the last round of the same samples. program.txt is the source of a throw-away program crate, with its
+# proofs in the other texts; it is made in a folder of its own: it is no part of the gate.
 set -e
 here=$(cd "$(dirname "$0")" && pwd)
 top=$here/../..
@@ -18,10 +19,15 @@ for name in $names; do
     grep "^$name:" "$top/crates.txt" >>"$work/crates.txt"
 done
 echo "bodies_bench: tdf_base tdf_fixed tdf_tree tdf_expr tdf_blocks" >>"$work/crates.txt"
-(cd "$work" && rt ci bodies_bench >log 2>&1) || tail -20 "$work/log"
+bench=$work/crates/bodies_bench
+mkdir -p "$bench/proofs/put" "$bench/proofs/checked_of" "$bench/proofs/run_turns"
+cp "$here/answers_put.txt" "$bench/proofs/put/Answers.antt"
+cp "$here/answers_checked_of.txt" "$bench/proofs/checked_of/Answers.antt"
+cp "$here/invariants_run_turns.txt" "$bench/proofs/run_turns/Invariants.antt"
+(cd "$bench" && rt fmt >"$work/log" 2>&1 && rt run >>"$work/log" 2>&1) || tail -20 "$work/log"
 rustc -O "$here/bodies.rs" -o "$work/bodies"
 echo "this repository"
-"$work/crates/bodies_bench/out/bodies_bench" || tail -5 "$work/log"
+"$bench/out/bodies_bench"
 echo "plain Rust"
 "$work/bodies"
 rm -rf "$work"
