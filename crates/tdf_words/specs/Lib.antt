@@ -1,0 +1,4 @@
+pub mod Command
+pub mod Jobs
+pub mod Words
+pub mod Worked
