@@ -1,0 +1,10 @@
+pub mod Api
+pub mod Boundary
+pub mod Firing
+pub mod Known
+pub mod Lacks
+pub mod Lists
+pub mod Playing
+pub mod Steps
+pub mod Sums
+pub mod Values

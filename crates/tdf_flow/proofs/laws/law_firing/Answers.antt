@@ -1,0 +1,5 @@
+use Rattle.tdf_flow.proofs.Firing.{firing_keeps}
+use Rattle.tdf_flow.proofs.laws.law_firing.Goals as goal
+
+pub returns : goal.returns
+returns c = firing_keeps

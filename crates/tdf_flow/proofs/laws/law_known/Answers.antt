@@ -1,0 +1,5 @@
+use Rattle.tdf_flow.proofs.Known.{known_more}
+use Rattle.tdf_flow.proofs.laws.law_known.Goals as goal
+
+pub returns : goal.returns
+returns c = known_more

@@ -1,0 +1,5 @@
+use Rattle.tdf_flow.proofs.Known.{reads_keep}
+use Rattle.tdf_flow.proofs.laws.law_reads.Goals as goal
+
+pub returns : goal.returns
+returns c = reads_keep

@@ -1,0 +1,5 @@
+use Rattle.tdf_flow.proofs.Values.{all_are_known}
+use Rattle.tdf_flow.proofs.laws.law_values.Goals as goal
+
+pub returns : goal.returns
+returns c = λ net actors delay begun reads first later. all_are_known net actors delay reads begun first later

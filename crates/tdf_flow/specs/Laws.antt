@@ -1,0 +1,64 @@
+-- What holds of the definitions, said of numbers: a statement about all types is no clause. The
+-- lemmas that show it are about all types.
+-- Source: own.
+use Rattle.std.specs.Prelude.{ℕ, suc, ◌+◌, ◌<◌, ◌≡◌, List, [], ◌∷◌, ◌++◌, length, slice_index}
+use Rattle.std.specs.List.{sum_by}
+use Rattle.tdf_flow.specs.Firing.{Flows, IsNextTurn, IsPresent}
+use Rattle.tdf_flow.specs.Grounds.{AreGiven, AreSound, firings}
+use Rattle.tdf_flow.specs.Net.{Net, Period, Run, Turn, count}
+use Rattle.tdf_flow.specs.Playing.{IsPlayed, IsSame}
+use Rattle.tdf_flow.specs.Stands.{AreActive, Changed, Crosses, HasValues, Installed, KeepsReads}
+use Rattle.tdf_flow.specs.Stands.{Less, Longer, Play, Stands}
+use Rattle.tdf_flow.specs.Streams.{known}
+
+-- further periods, values and steps change nothing that is known
+abbrev pub MoreKeeps : Type 0
+MoreKeeps = (net : Net ℕ ℕ ℕ) (short long : Run ℕ ℕ) → Longer short long
+    → (f d : ℕ) → Less (known net short f) (known net long (d + f))
+
+-- what stands, stands for further values
+abbrev pub ReadsKeep : Type 0
+ReadsKeep = (net : Net ℕ ℕ ℕ) (old : List (Period ℕ)) (p : Period ℕ) (short long : ℕ → List ℕ)
+    → (f : ℕ) (y : Play ℕ ℕ) → KeepsReads short long → Stands net old p short f y
+    → Stands net old p long f y
+
+-- a firing leads from what stands to what stands
+abbrev pub FiringKeeps : Type 0
+FiringKeeps = (net : Net ℕ ℕ ℕ) (old : List (Period ℕ)) (p : Period ℕ) (reads : ℕ → List ℕ)
+    → (f m : ℕ) (t : Turn ℕ ℕ) (y z : Play ℕ ℕ) → Stands net old p reads f y
+    → slice_index y.turns m < slice_index p.counts m → IsPresent net p m y
+    → IsNextTurn net old p reads m y t → Flows net p m t y z → Stands net old p reads (suc f) z
+
+-- at the end of a period the change bodies lead from standing to crossing
+abbrev pub ChangeCrosses : Type 0
+ChangeCrosses = (net : Net ℕ ℕ ℕ) (old : List (Period ℕ)) (p : Period ℕ) (reads : ℕ → List ℕ)
+    → (f : ℕ) (y z : Play ℕ ℕ) → ((m : ℕ) → slice_index y.turns m ≡ slice_index p.counts m)
+    → Stands net old p reads f y → Changed net old p y z → Crosses net old p reads f z
+
+-- and the reinitialize bodies lead from there to standing in the next period
+abbrev pub InstallStands : Type 0
+InstallStands = (net : Net ℕ ℕ ℕ) (old : List (Period ℕ)) (p next : Period ℕ)
+    → (reads : ℕ → List ℕ) (f : ℕ) (y z : Play ℕ ℕ)
+    → AreActive net old p y → Crosses net old p reads f y → Installed net next y z
+    → Stands net (old ++ p ∷ []) next reads f z
+
+-- an order leads from what stands to what stands
+abbrev pub OrderStands : Type 0
+OrderStands = (net : Net ℕ ℕ ℕ) (old : List (Period ℕ)) (p : Period ℕ) (reads : ℕ → List ℕ)
+    → (order : List ℕ) (f : ℕ) (y z : Play ℕ ℕ) → Stands net old p reads f y
+    → IsPlayed net old p reads order y z → Stands net old p reads (length order + f) z
+
+-- two orders with as many activations of each actor lead to the same states and samples
+abbrev pub AnyOrder : Type 0
+AnyOrder = (net : Net ℕ ℕ ℕ) (old : List (Period ℕ)) (p : Period ℕ) (reads : ℕ → List ℕ)
+    → (f : ℕ) (y z v : Play ℕ ℕ) (one other : List ℕ) → Stands net old p reads f y
+    → IsPlayed net old p reads one y z → IsPlayed net old p reads other y v
+    → ((m : ℕ) → slice_index z.turns m ≡ slice_index v.turns m) → IsSame net z v
+
+-- from a start on, each activation has a value, in as many steps as there are firings
+abbrev pub AllAreKnown : Type 0
+AllAreKnown = (net : Net ℕ ℕ ℕ) (actors : ℕ) (delay begun : ℕ → ℕ) (reads : ℕ → List ℕ)
+    → (first : Period ℕ) (later : List (Period ℕ)) → AreSound net actors delay begun first later
+    → AreGiven net reads (first ∷ later)
+    → HasValues net (record { periods = first ∷ later; reads = reads }) (firings (first ∷ later))
+    (λ m. sum_by (count m) (first ∷ later))

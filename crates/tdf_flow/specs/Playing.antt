@@ -1,0 +1,31 @@
+-- Orders in which the actors of a cluster may fire in a period.
+-- Source: own.
+use Rattle.std.specs.Prelude.{ℕ, ◌<◌, ◌≡◌, false, Some, List, [], ◌∷◌, slice_get, slice_index}
+use Rattle.std.specs.Prelude.{slice_index_or}
+use Rattle.tdf_flow.specs.Firing.{Flows, IsNextTurn, IsPresent}
+use Rattle.tdf_flow.specs.Net.{Net, Period, Turn}
+use Rattle.tdf_flow.specs.Stands.{Play}
+
+module _ {S V I : Type 0} where
+  -- actor m has an activation left and its samples are present, and it fires with its next turn
+  pub record IsStep (net : Net S V I) (old : List (Period I)) (p : Period I) (reads : ℕ → List V)
+      (m : ℕ) (y z : Play S V) : Type 0 where
+    pub turn : Turn S V
+    pub left : slice_index y.turns m < slice_index p.counts m
+    pub present : IsPresent net p m y
+    pub next : IsNextTurn net old p reads m y turn
+    pub flows : Flows net p m turn y z
+
+  -- the actors of an order fire one after the other, and lead from y to z
+  unfoldable pub IsPlayed : Net S V I → List (Period I) → Period I → (ℕ → List V) → List ℕ
+      → (y z : Play S V) → Type 0
+  IsPlayed net old p reads [] y z = z ≡ y
+  IsPlayed net old p reads (m ∷ ms) y z =
+      (mid : Play S V) × IsStep net old p reads m y mid × IsPlayed net old p reads ms mid z
+
+  -- both hold the same states and samples
+  pub record IsSame (net : Net S V I) (y z : Play S V) : Type 0 where
+    pub states : (m : ℕ) (a b : S) → net.is_sampler m ≡ false → slice_get y.states m ≡ Some a
+        → slice_get z.states m ≡ Some b → a ≡ b
+    pub lists : (e : ℕ) → e < net.edges
+        → slice_index_or y.lists e [] ≡ slice_index_or z.lists e []

@@ -1,0 +1,43 @@
+//! What holds of the definitions: each function here only carries its clauses.
+
+ghost use Rattle.tdf_flow.specs.Laws.{AllAreKnown, AnyOrder, ChangeCrosses};
+ghost use Rattle.tdf_flow.specs.Laws.{FiringKeeps, InstallStands, MoreKeeps, OrderStands};
+ghost use Rattle.tdf_flow.specs.Laws.{ReadsKeep};
+
+/// Further periods, further values of samplers and further steps change nothing that is known.
+pub fn law_known()
+    ensures { MoreKeeps }
+{}
+
+/// What stands, stands for further values of samplers.
+pub fn law_reads()
+    ensures { ReadsKeep }
+{}
+
+/// A firing of an actor whose samples are present leads from what stands to what stands.
+pub fn law_firing()
+    ensures { FiringKeeps }
+{}
+
+/// At the end of a period the change bodies lead from standing to crossing.
+pub fn law_change()
+    ensures { ChangeCrosses }
+{}
+
+/// Installing leads from crossing to standing in the next period.
+pub fn law_install()
+    ensures { InstallStands }
+{}
+
+/// An order of firings leads from what stands to what stands, and any two orders with as many
+/// activations of each actor lead to the same states and samples.
+pub fn law_order()
+    ensures stands { OrderStands }
+    ensures any { AnyOrder }
+{}
+
+/// From a start on, through periods with sound counts whose firings are all grounded, each
+/// activation has a value.
+pub fn law_values()
+    ensures { AllAreKnown }
+{}
