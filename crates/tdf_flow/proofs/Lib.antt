@@ -4,7 +4,9 @@ pub mod Firing
 pub mod Known
 pub mod Lacks
 pub mod Lists
+pub mod Played
 pub mod Playing
+pub mod Starts
 pub mod Steps
 pub mod Sums
 pub mod Values

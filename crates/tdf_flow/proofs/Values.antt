@@ -1,20 +1,21 @@
 -- From a start on, sound periods can be played out one after the other: so each activation has a value.
-use Rattle.std.proofs.Common.{◌≡◌, ℕ, zero, suc, ◌+◌, ◌*◌, ◌<◌, ◌≤◌, Bool, true, false, ◌&&◌, if◌then◌else◌, nat_eq, Some, List, [], ◌∷◌, ◌++◌, length, length-set, append_assoc, map, set, slice_get, slice_index, slice_index_or, refl, ap, sym, ◌∙◌, subst, inl, inr, arith}
+use Rattle.std.proofs.Common.{◌≡◌, ℕ, zero, suc, ◌+◌, ◌*◌, ◌<◌, ◌≤◌, Bool, true, false, Some, List, [], ◌∷◌, ◌++◌, length, length-set, append_assoc, map, set, slice_get, slice_index, slice_index_or, refl, ap, sym, ◌∙◌, subst, inl, inr, arith}
 use Rattle.std.specs.List.{All, range_with_len, sum, sum_by}
-use Rattle.std.proofs.lemmas.Bool.{cases_eq, lt-ltb}
+use Rattle.std.proofs.lemmas.Bool.{cases_eq}
 use Rattle.std.proofs.lemmas.List.{get_or-set_same, get_or-set_other}
 use Rattle.std.proofs.lemmas.List.FromFn.{get_or-map-range_with_len, length-map-range_with_len, length-range_with_len}
 use Rattle.std.proofs.lemmas.List.Sums.{sum_by-append, sum_by-cons, sum_by_push}
 use Rattle.std.proofs.lemmas.Option.{slice_get-get_or}
-use Rattle.tdf_flow.specs.Net.{Net, Past, Period, Turn, count, taken, written}
-use Rattle.tdf_flow.specs.Streams.{known, place, sampled, spot, state_before}
-use Rattle.tdf_flow.specs.Stands.{AreActive, Changed, HasValues, Holds, Installed, Play, Stands, run_of}
+use Rattle.tdf_flow.specs.Net.{Net, Period, Turn, count, taken, written}
+use Rattle.tdf_flow.specs.Streams.{known, sampled}
+use Rattle.tdf_flow.specs.Stands.{AreActive, Changed, HasValues, Installed, IsStart, Play, Stands, run_of}
 use Rattle.tdf_flow.specs.Firing.{Flows, IsNextTurn, IsPresent, fronts, given, moved, processed}
-use Rattle.tdf_flow.specs.Grounds.{AreGiven, AreSound, IsSound, firings}
+use Rattle.tdf_flow.specs.Grounds.{AreGiven, AreSound, AreSoundTo, IsSound, firings}
 use Rattle.tdf_flow.proofs.Boundary.{change_crosses, install_stands}
 use Rattle.tdf_flow.proofs.Firing.{firing_keeps}
 use Rattle.tdf_flow.proofs.Lacks.{CanFire, IsAt, some_can_fire}
 use Rattle.tdf_flow.proofs.Lists.{get_inside, get_made, get_made_at, get_set_other, get_set_same, index_inside, zeros, zeros_at, zeros_long}
+use Rattle.tdf_flow.proofs.Starts.{start_stands}
 use Rattle.tdf_flow.proofs.Sums.{all_same, grown_sum, some_less, zeros_sum}
 
 module _ {S V I : Type 0} (net : Net S V I) where
@@ -119,9 +120,6 @@ module _ {S V I : Type 0} (net : Net S V I) (actors : ℕ) (delay : ℕ → ℕ)
         let e : k + suc f ≡ suc k + f = omega arith in
         (rest.0, subst (λ (n : ℕ). IsOn old p n rest.0) e rest.1, rest.2)
 
-  numbers : List ℕ
-  numbers = range_with_len 0 actors
-
   -- the play at a start
   start_play : Play S V
   start_play = record {
@@ -133,53 +131,30 @@ module _ {S V I : Type 0} (net : Net S V I) (actors : ℕ) (delay : ℕ → ℕ)
   zeros_are : length (zeros (range_with_len 0 actors)) ≡ actors
   zeros_are = zeros_long (range_with_len 0 actors) ∙ length-range_with_len 0 actors
 
-  initial_place : (periods : List (Period I)) (past : Past S V) (e j : ℕ) (x : V) → slice_get (map (net.initial e) (range_with_len 0 (net.delay e))) j ≡ Some x → place net periods past e j ≡ Some x
-  unfolding place
-  initial_place periods past e j x at = let made = get_made (net.initial e) 0 (net.delay e) j x at in let z : 0 + j ≡ j = omega arith in
-      rw (lt-ltb j (net.delay e) made.0) (ap (λ k. Some (net.initial e k)) (sym z) ∙ ap Some made.1)
-
-  start_state : (past : Past S V) (p : Period I) (m k n : ℕ) → n ≡ 0 → state_before net past m (spot [] p k) n ≡ Some (net.start m)
-  unfolding state_before
-  start_state past p m k n none = rw none (ap Some (start_entered (nat_eq k 0)))
-    where
-      start_entered : (b : Bool) → (if b && false then net.reinitialize m p (net.change m [] (net.start m)) else net.start m) ≡ net.start m
-      start_entered true = refl
-      start_entered false = refl
-
-  start_list : (p : Period I) (past : Past S V) (e r w : ℕ) → e < net.edges → r ≡ 0 → w ≡ 0 → Holds net ([] ++ p ∷ []) past e r w (slice_index_or (start_play).lists e [])
+  is_start : IsStart net start_play
   unfolding start_play
-  start_list p past e r w inside no_r no_w = subst (λ (xs : List V). Holds net ([] ++ p ∷ []) past e r w xs)
-      (sym (get_or-map-range_with_len (λ (k : ℕ). map (net.initial k) (range_with_len 0 (net.delay k))) 0 net.edges e e [] inside (omega arith)))
-      (record {
-        count = (let l = length-map-range_with_len (net.initial e) 0 (net.delay e) in omega (arith, l, no_r, no_w));
-        items = λ j x at. (let z : j ≡ r + j = omega (arith, no_r) in subst (λ k. place net ([] ++ p ∷ []) past e k ≡ Some x) z (initial_place ([] ++ p ∷ []) past e j x at));
-      })
+  is_start = record {
+    turns = λ m. zeros_at (range_with_len 0 actors) m;
+    states = λ m x at plain. (let made = get_made net.start 0 actors m x at in let z : 0 + m ≡ m = omega arith in sym made.1 ∙ ap net.start z);
+    long = λ e inside. ap length (list_is e inside) ∙ length-map-range_with_len (net.initial e) 0 (net.delay e);
+    items = λ e j x inside at. (let made = get_made (net.initial e) 0 (net.delay e) j x (ap (λ (xs : List V). slice_get xs j) (sym (list_is e inside)) ∙ at) in let z : 0 + j ≡ j = omega arith in
+        sym made.1 ∙ ap (net.initial e) z);
+  }
+    where
+      list_is : (e : ℕ) → e < net.edges → slice_index_or (map (λ (k : ℕ). map (net.initial k) (range_with_len 0 (net.delay k))) (range_with_len 0 net.edges)) e [] ≡ map (net.initial e) (range_with_len 0 (net.delay e))
+      list_is e inside = get_or-map-range_with_len (λ (k : ℕ). map (net.initial k) (range_with_len 0 (net.delay k))) 0 net.edges e e [] inside (omega arith)
 
   starts : (p : Period I) → IsOn [] p 0 start_play
   unfolding start_play
   starts p = record {
-    stands = record {
-      has_values = λ m n below. absurd (let z = turns_are m in omega (arith, below, z));
-      states = λ m x at plain. (let made = get_made net.start 0 actors m x at in let z : 0 + m ≡ m = omega arith in
-          start_state (known net (run_of [] p reads) 0) p m _ _ (let t = turns_are m in omega (arith, t)) ∙ ap (λ k. Some (net.start k)) (sym z) ∙ ap Some made.1);
-      lists = λ e inside. start_list p (known net (run_of [] p reads) 0) e _ _ inside (none_of (net.reader e) (slice_index p.reads e)) (none_of (net.writer e) (slice_index p.writes e));
-    };
+    stands = start_stands net p reads start_play is_start;
     turns_long = zeros_are;
     states_long = length-map-range_with_len net.start 0 actors;
-    within = λ m. (let t = turns_are m in omega (arith, t));
+    within = λ m. (let t = zeros_at (range_with_len 0 actors) m in omega (arith, t));
   }
-    where
-      turns_are : (m : ℕ) → slice_index (zeros (range_with_len 0 actors)) m ≡ 0
-      turns_are m = zeros_at (range_with_len 0 actors) m
-
-      none_of : (m c : ℕ) → 0 + slice_index (zeros (range_with_len 0 actors)) m * c ≡ 0
-      none_of m c = rw (turns_are m) (omega arith)
 
   module _ (old : List (Period I)) (p next : Period I) (f : ℕ) (y : Play S V) (on : IsOn old p f y) (ended : (m : ℕ) → slice_index y.turns m ≡ slice_index p.counts m)
       (active : (m : ℕ) → m < actors → slice_index p.counts m ≡ 0 → old ≡ []) where
-    state_of : ℕ → S
-    state_of m = slice_index_or y.states m (net.start m)
-
     changed_state : ℕ → S
     changed_state m = net.change m (old ++ p ∷ []) (slice_index_or y.states m (net.start m))
 
@@ -303,3 +278,25 @@ module _ {S V I : Type 0} (net : Net S V I) (actors : ℕ) (delay : ℕ → ℕ)
 
       played : (z : Play S V) × IsOn [] first (sum first.counts + 0) z × ((m : ℕ) → slice_index z.turns m ≡ slice_index first.counts m)
       played = play_out [] first begun sound.head back first_given (sum first.counts) 0 start_play (starts first) start_sum
+
+  whole_after : (later old : List (Period I)) (p : Period I) → IsWhole (old ++ p ∷ []) → All (IsSound net actors delay (λ m. 0)) later → IsWhole (old ++ p ∷ later)
+  whole_after [] old p whole sound = whole
+  whole_after (q ∷ rest) old p whole sound = subst (λ ps. IsWhole ps) (append_assoc old (p ∷ []) (q ∷ rest))
+      (whole_after rest (old ++ p ∷ []) q (is_whole (old ++ p ∷ []) q (λ m. 0) (sound 0 q (omega arith)) (is_back old p q whole)) (λ k d below. sound (suc k) d (omega (arith, below))))
+
+  whole_head : (begun : ℕ → ℕ) (first : Period I) (later : List (Period I)) → AreSound net actors delay begun first later → IsWhole ([] ++ first ∷ [])
+  unfolding IsBack
+  whole_head begun first later sound = is_whole [] first begun sound.head (λ e inside. (let h = sound.lists e inside in omega (arith, h)))
+
+  whole_to : (begun : ℕ → ℕ) (old : List (Period I)) (p : Period I) → AreSoundTo net actors delay begun old p → IsWhole (old ++ p ∷ [])
+  whole_to begun [] p sound = whole_head begun p [] sound
+  whole_to begun (first ∷ later) p sound = whole_after (later ++ p ∷ []) [] first (whole_head begun first (later ++ p ∷ []) sound) sound.rest
+
+  pub ends_whole : (begun : ℕ → ℕ) (old : List (Period I)) (p : Period I) (f : ℕ) (y : Play S V) → AreSoundTo net actors delay begun old p → Stands net old p reads f y
+      → ((m : ℕ) → slice_index y.turns m ≡ slice_index p.counts m) → (e : ℕ) → e < net.edges → length (slice_index_or y.lists e []) ≡ delay e
+  unfolding IsWhole
+  ends_whole begun old p f y sound stands ended e inside =
+      let h = whole_to begun old p sound e inside in let c = (stands.lists e inside).count in
+      let w = sum_by_push (written net e) old p in let t = sum_by_push (taken net e) old p in
+      let r = ap (λ k. k * slice_index p.reads e) (ended (net.reader e)) in let v = ap (λ k. k * slice_index p.writes e) (ended (net.writer e)) in
+      omega (arith, h, c, w, t, r, v)

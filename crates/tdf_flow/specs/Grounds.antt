@@ -3,9 +3,10 @@
 -- edge holds at the head of a whole period.
 -- Source: own; the balance of counts and rates after Lee and Messerschmitt 1987.
 use Rattle.std.specs.Prelude.{ℕ, zero, suc, ◌+◌, ◌-◌, ◌*◌, ◌/◌, ◌<◌, ◌≤◌, ◌≡◌, ◌⊎◌, true}
-use Rattle.std.specs.Prelude.{List, length, slice_index, sum}
+use Rattle.std.specs.Prelude.{List, [], ◌∷◌, ◌++◌, length, slice_index, slice_index_or, sum}
 use Rattle.std.specs.List.{All, sum_by}
 use Rattle.tdf_flow.specs.Net.{Net, Period, count}
+use Rattle.tdf_flow.specs.Stands.{Play}
 
 module _ {S V I : Type 0} where
   -- a sample that firing a of actor m reads is written by firing b of actor n
@@ -58,6 +59,21 @@ module _ {S V I : Type 0} where
     pub lists : IsBegun net delay begun first
     pub head : IsSound net actors delay begun first
     pub rest : All (IsSound net actors delay (λ m. 0)) later
+
+  -- the same up to period p, after the periods `old`
+  abbrev pub AreSoundTo : Net S V I → ℕ → (delay begun : ℕ → ℕ) → List (Period I) → Period I
+      → Type 0
+  AreSoundTo net actors delay begun [] p = AreSound net actors delay begun p []
+  AreSoundTo net actors delay begun (first ∷ later) p =
+      AreSound net actors delay begun first (later ++ p ∷ [])
+
+  -- the cluster is at the head of a whole period
+  pub record IsHead (net : Net S V I) (delay : ℕ → ℕ) (p : Period I) (y : Play S V)
+      : Type 0 where
+    pub positive : (e : ℕ) → e < net.edges
+        → (0 < slice_index p.writes e) × (0 < slice_index p.reads e)
+    pub turns : (m : ℕ) → slice_index y.turns m ≡ 0
+    pub lists : (e : ℕ) → e < net.edges → length (slice_index_or y.lists e []) ≡ delay e
 
   -- each sampler was given a value for each of its activations
   abbrev pub AreGiven : Net S V I → (ℕ → List V) → List (Period I) → Type 0

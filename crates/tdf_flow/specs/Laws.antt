@@ -2,19 +2,25 @@
 -- lemmas that show it are about all types.
 -- Source: own.
 use Rattle.std.specs.Prelude.{ℕ, suc, ◌+◌, ◌<◌, ◌≡◌, List, [], ◌∷◌, ◌++◌, length, slice_index}
+use Rattle.std.specs.Prelude.{slice_index_or}
 use Rattle.std.specs.List.{sum_by}
 use Rattle.tdf_flow.specs.Firing.{Flows, IsNextTurn, IsPresent}
-use Rattle.tdf_flow.specs.Grounds.{AreGiven, AreSound, firings}
+use Rattle.tdf_flow.specs.Grounds.{AreGiven, AreSound, AreSoundTo, IsGrounded, IsHead, firings}
 use Rattle.tdf_flow.specs.Net.{Net, Period, Run, Turn, count}
 use Rattle.tdf_flow.specs.Playing.{IsPlayed, IsSame}
-use Rattle.tdf_flow.specs.Stands.{AreActive, Changed, Crosses, HasValues, Installed, KeepsReads}
-use Rattle.tdf_flow.specs.Stands.{Less, Longer, Play, Stands}
+use Rattle.tdf_flow.specs.Stands.{AreActive, Changed, Crosses, HasValues, Installed, IsStart}
+use Rattle.tdf_flow.specs.Stands.{KeepsReads, Less, Longer, Play, Stands}
 use Rattle.tdf_flow.specs.Streams.{known}
 
 -- further periods, values and steps change nothing that is known
 abbrev pub MoreKeeps : Type 0
 MoreKeeps = (net : Net ℕ ℕ ℕ) (short long : Run ℕ ℕ) → Longer short long
     → (f d : ℕ) → Less (known net short f) (known net long (d + f))
+
+-- a cluster at its start stands, in the first period and with nothing followed
+abbrev pub StartStands : Type 0
+StartStands = (net : Net ℕ ℕ ℕ) (p : Period ℕ) (reads : ℕ → List ℕ) (y : Play ℕ ℕ)
+    → IsStart net y → Stands net [] p reads 0 y
 
 -- what stands, stands for further values
 abbrev pub ReadsKeep : Type 0
@@ -62,3 +68,18 @@ AllAreKnown = (net : Net ℕ ℕ ℕ) (actors : ℕ) (delay begun : ℕ → ℕ)
     → AreGiven net reads (first ∷ later)
     → HasValues net (record { periods = first ∷ later; reads = reads }) (firings (first ∷ later))
     (λ m. sum_by (count m) (first ∷ later))
+
+-- at the end of each sound period every list is as long as at the head of a whole one
+abbrev pub EndsWhole : Type 0
+EndsWhole = (net : Net ℕ ℕ ℕ) (actors : ℕ) (delay begun : ℕ → ℕ) (reads : ℕ → List ℕ)
+    → (old : List (Period ℕ)) (p : Period ℕ) (f : ℕ) (y : Play ℕ ℕ)
+    → AreSoundTo net actors delay begun old p → Stands net old p reads f y
+    → ((m : ℕ) → slice_index y.turns m ≡ slice_index p.counts m)
+    → (e : ℕ) → e < net.edges → length (slice_index_or y.lists e []) ≡ delay e
+
+-- where firings are played from the head of a period, whole so far, all of them are grounded
+abbrev pub PlayedAreGrounded : Type 0
+PlayedAreGrounded = (net : Net ℕ ℕ ℕ) (delay : ℕ → ℕ) (old : List (Period ℕ)) (p : Period ℕ)
+    → (reads : ℕ → List ℕ) (f : ℕ) (y z : Play ℕ ℕ) (order : List ℕ) → IsHead net delay p y
+    → Stands net old p reads f y → IsPlayed net old p reads order y z
+    → (m a : ℕ) → a < slice_index z.turns m → IsGrounded net delay p m a

@@ -61,6 +61,15 @@ module _ {S V I : Type 0} where
         (sum_by (written net e) old + slice_index y.turns (net.writer e) * slice_index p.writes e)
         (slice_index_or y.lists e [])
 
+  -- nothing is done yet: the states and lists are those of the start
+  pub record IsStart (net : Net S V I) (y : Play S V) : Type 0 where
+    pub turns : (m : ℕ) → slice_index y.turns m ≡ 0
+    pub states : (m : ℕ) (x : S) → slice_get y.states m ≡ Some x → net.is_sampler m ≡ false
+        → x ≡ net.start m
+    pub long : (e : ℕ) → e < net.edges → length (slice_index_or y.lists e []) ≡ net.delay e
+    pub items : (e j : ℕ) (x : V) → e < net.edges
+        → slice_get (slice_index_or y.lists e []) j ≡ Some x → x ≡ net.initial e j
+
   -- the period is done, and the change bodies have run
   pub record Crosses (net : Net S V I) (old : List (Period I)) (p : Period I) (reads : ℕ → List V)
       (f : ℕ) (y : Play S V) : Type 0 where

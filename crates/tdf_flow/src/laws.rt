@@ -1,12 +1,17 @@
 //! What holds of the definitions: each function here only carries its clauses.
 
-ghost use Rattle.tdf_flow.specs.Laws.{AllAreKnown, AnyOrder, ChangeCrosses};
+ghost use Rattle.tdf_flow.specs.Laws.{AllAreKnown, AnyOrder, ChangeCrosses, EndsWhole};
 ghost use Rattle.tdf_flow.specs.Laws.{FiringKeeps, InstallStands, MoreKeeps, OrderStands};
-ghost use Rattle.tdf_flow.specs.Laws.{ReadsKeep};
+ghost use Rattle.tdf_flow.specs.Laws.{PlayedAreGrounded, ReadsKeep, StartStands};
 
 /// Further periods, further values of samplers and further steps change nothing that is known.
 pub fn law_known()
     ensures { MoreKeeps }
+{}
+
+/// A cluster at its start stands.
+pub fn law_start()
+    ensures { StartStands }
 {}
 
 /// What stands, stands for further values of samplers.
@@ -29,11 +34,18 @@ pub fn law_install()
     ensures { InstallStands }
 {}
 
+/// At the end of each sound period every list is as long as at the head of a whole one.
+pub fn law_whole()
+    ensures { EndsWhole }
+{}
+
 /// An order of firings leads from what stands to what stands, and any two orders with as many
-/// activations of each actor lead to the same states and samples.
+/// activations of each actor lead to the same states and samples. Where an order is played from
+/// the head of a period, all its firings are grounded.
 pub fn law_order()
     ensures stands { OrderStands }
     ensures any { AnyOrder }
+    ensures grounded { PlayedAreGrounded }
 {}
 
 /// From a start on, through periods with sound counts whose firings are all grounded, each

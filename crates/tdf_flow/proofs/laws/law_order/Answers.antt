@@ -1,3 +1,4 @@
+use Rattle.tdf_flow.proofs.Played.{played_are_grounded}
 use Rattle.tdf_flow.proofs.Playing.{any_order, order_keeps}
 use Rattle.tdf_flow.proofs.laws.law_order.Goals as goal
 
@@ -5,4 +6,5 @@ pub returns : goal.returns
 returns c = record {
   stands = λ net old p reads order f y z. order_keeps net old p reads order f y z;
   any = λ net old p reads f y z v one other. any_order net old p reads f y z v one other;
+  grounded = λ net delay old p reads f y z order. played_are_grounded net delay old p reads f y z order;
 }

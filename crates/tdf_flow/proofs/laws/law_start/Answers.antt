@@ -1,0 +1,5 @@
+use Rattle.tdf_flow.proofs.Starts.{start_stands}
+use Rattle.tdf_flow.proofs.laws.law_start.Goals as goal
+
+pub returns : goal.returns
+returns c = start_stands

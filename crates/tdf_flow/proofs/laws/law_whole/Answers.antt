@@ -1,0 +1,5 @@
+use Rattle.tdf_flow.proofs.Values.{ends_whole}
+use Rattle.tdf_flow.proofs.laws.law_whole.Goals as goal
+
+pub returns : goal.returns
+returns c = λ net actors delay begun reads old p f y. ends_whole net actors delay reads begun old p f y
