@@ -1,5 +1,6 @@
 -- The lemmas that other crates may use: the laws over all types, and what leads to them.
 pub use Rattle.tdf_flow.proofs.Known.{find_more, known_more, place_kept, place_more, reads_keep, state_more}
+pub use Rattle.tdf_flow.proofs.Fed.{fed_are_known}
 pub use Rattle.tdf_flow.proofs.Firing.{find_now, firing_keeps}
 pub use Rattle.tdf_flow.proofs.Boundary.{change_crosses, install_stands}
 pub use Rattle.tdf_flow.proofs.Playing.{any_order, order_keeps, same_where_done, step_keeps}

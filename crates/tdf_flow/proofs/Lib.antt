@@ -1,5 +1,6 @@
 pub mod Api
 pub mod Boundary
+pub mod Fed
 pub mod Firing
 pub mod Known
 pub mod Lacks

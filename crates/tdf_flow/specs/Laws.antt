@@ -1,9 +1,10 @@
 -- What holds of the definitions, said of numbers: a statement about all types is no clause. The
 -- lemmas that show it are about all types.
 -- Source: own.
-use Rattle.std.specs.Prelude.{ℕ, suc, ◌+◌, ◌<◌, ◌≡◌, List, [], ◌∷◌, ◌++◌, length, slice_index}
+use Rattle.std.specs.Prelude.{ℕ, suc, ◌+◌, ◌<◌, ◌≡◌, Some, List, [], ◌∷◌, ◌++◌, length, slice_index}
 use Rattle.std.specs.Prelude.{slice_index_or}
 use Rattle.std.specs.List.{sum_by}
+use Rattle.tdf_flow.specs.Fed.{IsFed}
 use Rattle.tdf_flow.specs.Firing.{Flows, IsNextTurn, IsPresent}
 use Rattle.tdf_flow.specs.Grounds.{AreGiven, AreSound, AreSoundTo, IsGrounded, IsHead, firings}
 use Rattle.tdf_flow.specs.Net.{Net, Period, Run, Turn, count}
@@ -61,7 +62,17 @@ AnyOrder = (net : Net ℕ ℕ ℕ) (old : List (Period ℕ)) (p : Period ℕ) (r
     → IsPlayed net old p reads one y z → IsPlayed net old p reads other y v
     → ((m : ℕ) → slice_index z.turns m ≡ slice_index v.turns m) → IsSame net z v
 
--- from a start on, each activation has a value, in as many steps as there are firings
+-- from a start on, each activation has a value, in as many steps as there are firings, where the
+-- samplers that it follows were given theirs
+abbrev pub FedAreKnown : Type 0
+FedAreKnown = (net : Net ℕ ℕ ℕ) (actors : ℕ) (delay begun : ℕ → ℕ) (reads : ℕ → List ℕ)
+    → (first : Period ℕ) (later : List (Period ℕ)) → AreSound net actors delay begun first later
+    → (m n : ℕ) → n < sum_by (count m) (first ∷ later)
+    → IsFed net (record { periods = first ∷ later; reads = reads }) (firings (first ∷ later)) m n
+    → (t : Turn ℕ ℕ) × (known net (record { periods = first ∷ later; reads = reads })
+    (firings (first ∷ later)) m n ≡ Some t)
+
+-- so each has one where all samplers were given theirs
 abbrev pub AllAreKnown : Type 0
 AllAreKnown = (net : Net ℕ ℕ ℕ) (actors : ℕ) (delay begun : ℕ → ℕ) (reads : ℕ → List ℕ)
     → (first : Period ℕ) (later : List (Period ℕ)) → AreSound net actors delay begun first later

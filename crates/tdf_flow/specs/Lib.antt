@@ -1,3 +1,4 @@
+pub mod Fed
 pub mod Firing
 pub mod Grounds
 pub mod Laws
@@ -5,3 +6,4 @@ pub mod Net
 pub mod Playing
 pub mod Stands
 pub mod Streams
+pub mod Worked

@@ -1,8 +1,9 @@
 //! What holds of the definitions: each function here only carries its clauses.
 
 ghost use Rattle.tdf_flow.specs.Laws.{AllAreKnown, AnyOrder, ChangeCrosses, EndsWhole};
-ghost use Rattle.tdf_flow.specs.Laws.{FiringKeeps, InstallStands, MoreKeeps, OrderStands};
+ghost use Rattle.tdf_flow.specs.Laws.{FedAreKnown, FiringKeeps, InstallStands, MoreKeeps, OrderStands};
 ghost use Rattle.tdf_flow.specs.Laws.{PlayedAreGrounded, ReadsKeep, StartStands};
+ghost use Rattle.tdf_flow.specs.Worked.{IsWorked};
 
 /// Further periods, further values of samplers and further steps change nothing that is known.
 pub fn law_known()
@@ -49,7 +50,13 @@ pub fn law_order()
 {}
 
 /// From a start on, through periods with sound counts whose firings are all grounded, each
-/// activation has a value.
+/// activation has a value where the samplers that it follows were given theirs.
 pub fn law_values()
-    ensures { AllAreKnown }
+    ensures fed { FedAreKnown }
+    ensures all { AllAreKnown }
+{}
+
+/// The samples and states of a small cluster, as they come out by hand.
+pub fn law_worked()
+    ensures { IsWorked }
 {}

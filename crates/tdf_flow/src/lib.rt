@@ -9,5 +9,5 @@ mod laws;
 
 pub use laws::{
     law_change, law_firing, law_install, law_known, law_order, law_reads, law_start, law_values,
-    law_whole,
+    law_whole, law_worked,
 };

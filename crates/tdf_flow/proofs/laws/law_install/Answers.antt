@@ -1,4 +1,4 @@
-use Rattle.tdf_flow.proofs.Boundary.{install_stands}
+use Rattle.tdf_flow.proofs.Api.{install_stands}
 use Rattle.tdf_flow.proofs.laws.law_install.Goals as goal
 
 pub returns : goal.returns

@@ -1,4 +1,4 @@
-use Rattle.tdf_flow.proofs.Known.{known_more}
+use Rattle.tdf_flow.proofs.Api.{known_more}
 use Rattle.tdf_flow.proofs.laws.law_known.Goals as goal
 
 pub returns : goal.returns

@@ -1,5 +1,4 @@
-use Rattle.tdf_flow.proofs.Played.{played_are_grounded}
-use Rattle.tdf_flow.proofs.Playing.{any_order, order_keeps}
+use Rattle.tdf_flow.proofs.Api.{any_order, order_keeps, played_are_grounded}
 use Rattle.tdf_flow.proofs.laws.law_order.Goals as goal
 
 pub returns : goal.returns

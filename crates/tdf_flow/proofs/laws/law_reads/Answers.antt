@@ -1,4 +1,4 @@
-use Rattle.tdf_flow.proofs.Known.{reads_keep}
+use Rattle.tdf_flow.proofs.Api.{reads_keep}
 use Rattle.tdf_flow.proofs.laws.law_reads.Goals as goal
 
 pub returns : goal.returns

@@ -1,4 +1,4 @@
-use Rattle.tdf_flow.proofs.Starts.{start_stands}
+use Rattle.tdf_flow.proofs.Api.{start_stands}
 use Rattle.tdf_flow.proofs.laws.law_start.Goals as goal
 
 pub returns : goal.returns

@@ -1,4 +1,4 @@
-use Rattle.tdf_flow.proofs.Values.{ends_whole}
+use Rattle.tdf_flow.proofs.Api.{ends_whole}
 use Rattle.tdf_flow.proofs.laws.law_whole.Goals as goal
 
 pub returns : goal.returns
