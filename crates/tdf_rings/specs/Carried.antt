@@ -1,0 +1,24 @@
+-- Rings that get new capacities and keep their samples.
+-- Source: own.
+use Rattle.std.specs.Prelude.{ℕ, ◌<◌, ◌≤◌, ◌≡◌, List, [], length, slice_index, slice_index_or}
+use Rattle.tdf_rings.specs.Rings.{RingOf, ring_of}
+
+abbrev pub ring_at : List RingOf → ℕ → RingOf
+ring_at rings e = slice_index_or rings e (ring_of [] 0)
+
+-- each ring has a bound that holds its samples
+pub record FitIn (bounds : List ℕ) (rings : List RingOf) : Type 0 where
+  pub same : length bounds ≡ length rings
+  pub fits : (e : ℕ) → e < length rings
+      → length (ring_at rings e).samples ≤ slice_index bounds e
+
+-- the rings before place n have the same samples, with the bounds as capacities; the others are as
+-- they were
+pub record AreCarriedUpTo (bounds : List ℕ) (n : ℕ) (old new : List RingOf) : Type 0 where
+  pub same : length new ≡ length old
+  pub moved : (e : ℕ) → e < n
+      → ring_at new e ≡ ring_of (ring_at old e).samples (slice_index bounds e)
+  pub waiting : (e : ℕ) → n ≤ e → ring_at new e ≡ ring_at old e
+
+abbrev pub AreCarried : (bounds : List ℕ) → (old new : List RingOf) → Type 0
+AreCarried bounds old new = AreCarriedUpTo bounds (length old) old new

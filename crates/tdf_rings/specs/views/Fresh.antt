@@ -1,0 +1,16 @@
+-- The new rings, made before anything is moved.
+use Rattle.std.specs.Prelude.{ℕ, ◌<◌, ◌≡◌, Option, Some, None, List, length, nat_eq, slice_index}
+use Rattle.std.specs.Prelude.{slice_index_or, if◌then◌else◌}
+use Rattle.tdf_rings.specs.Carried.{ring_at}
+use Rattle.tdf_rings.specs.Rings.{RingOf, ring_of}
+
+-- the new ring of an edge, where its bound differs
+abbrev pub fresh_of : RingOf → ℕ → Option RingOf
+fresh_of ring bound =
+    if nat_eq ring.capacity bound then None else Some (ring_of ring.samples bound)
+
+pub record AreFresh (rings : List RingOf) (bounds : List ℕ) (n : ℕ) (fresh : List (Option RingOf))
+    : Type 0 where
+  pub count : length fresh ≡ n
+  pub each : (e : ℕ) → e < n
+      → slice_index_or fresh e None ≡ fresh_of (ring_at rings e) (slice_index bounds e)
