@@ -10,9 +10,9 @@ use Rattle.tdf_bind.specs.Flat.{IsShortRole}
 use Rattle.tdf_checks.specs.Blocks.{bodies_faults, composite_faults, tdf_faults}
 use Rattle.tdf_checks.specs.Lines.{attr_faults, initial_faults, tdf_line_faults}
 use Rattle.tdf_checks.specs.Types.{global_faults, traces_faults, type_faults}
-use Rattle.tdf_expr.proofs.Declared.{AllThings, all_changed, all_named}
 use Rattle.tdf_faults.proofs.Api.{if_none, none_first, none_second}
 use Rattle.tdf_faults.specs.First.{fault_if}
+use Rattle.tdf_flat.proofs.Things.{AllThings, all_changed, all_named}
 use Rattle.tdf_flat.specs.Laws.{DelaysAreShort}
 use Rattle.tdf_links.specs.Ports.{ports_of_tdf}
 use Rattle.tdf_meaning.proofs.Api.{found}
@@ -23,8 +23,8 @@ use Rattle.tdf_scope.specs.Names.{at_delay, at_rate, globals_of, tdf_names, with
 use Rattle.tdf_scope.specs.Scope.{Scope, tdf_scope}
 use Rattle.tdf_scope.specs.declared.kinds.Place.TheVariants as place
 use Rattle.tdf_tree.specs.Pure.{PureStore, SConst, SVar, SArray, PureTdfLine, TPort, TStore, TRate, PureTdf, PureComposite, PureGlobal, GShape, GTdf, GDe, GNet}
-use Rattle.tdf_tree.specs.declared.blocks.Attr.{Attr}
 use Rattle.tdf_tree.specs.declared.blocks.Attr.TheVariants as attr
+use Rattle.tdf_tree.specs.declared.blocks.Attr.{Attr}
 use Rattle.tdf_tree.specs.declared.blocks.PortLine.{PortLine}
 use Rattle.tdf_tree.specs.declared.stmt.Limit.{Limit}
 use Rattle.tdf_wiring.specs.declared.roles.PortData.{PortData}

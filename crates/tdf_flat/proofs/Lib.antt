@@ -13,3 +13,4 @@ pub mod OneTables
 pub mod OwnNames
 pub mod OwnPaths
 pub mod Paths
+pub mod Things

@@ -1,13 +1,15 @@
 //! What holds of all flat models: each function here only carries its clauses.
 
-ghost use Rattle.tdf_flat.specs.Laws.{BlocksAreOne, DelaysAreShort, FaultIsOne, FaultOrFlat, FlatPathsAreUnique, PathsAreUnique, TablesAreOne};
+ghost use Rattle.tdf_flat.specs.Laws.{BlocksAreOne, DelaysAreShort, FaultIsOne, FaultOrFlat};
+ghost use Rattle.tdf_flat.specs.Laws.{FlatPathsAreUnique, PathsAreUnique, TablesAreOne};
 
 /// A model without a fault of types has one list of resolved blocks.
 pub fn law_blocks()
     ensures { BlocksAreOne }
 {}
 
-/// The signals of a model have different paths, in preorder and in the tables of its flat model, so a path leads to one signal at most.
+/// No two signals of a model have the same path, nor have two rows of its flat model, so a path
+/// leads to one signal at most.
 pub fn law_paths()
     ensures paths { PathsAreUnique }
     ensures flat_paths { FlatPathsAreUnique }
