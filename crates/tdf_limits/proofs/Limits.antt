@@ -9,10 +9,10 @@ use Rattle.tdf_checks.specs.Blocks.{composite_faults}
 use Rattle.tdf_checks.specs.Types.{global_faults, traces_faults, type_faults}
 use Rattle.tdf_expr.specs.Made.{block_count, start_rates}
 use Rattle.tdf_expr.specs.declared.blocks.Block.{Block}
+use Rattle.tdf_faults.proofs.Api.{none_first}
 use Rattle.tdf_flat.specs.Flat.{top_place, trace_lines}
 use Rattle.tdf_flat.specs.declared.model.Flat.{Flat}
 use Rattle.tdf_graph.specs.Ranges.{IsRate}
-use Rattle.tdf_faults.proofs.Api.{none_first}
 use Rattle.tdf_limits.proofs.Roles.{IsRoleWithin, roles_short, roles_within}
 use Rattle.tdf_limits.proofs.Rows.{ArePlacedWithin, IsRowWithin, IsPortRowWithin, edges_within, modules_within, placed_within, ports_within}
 use Rattle.tdf_limits.specs.Limits.{FlatIsWithinLimits, IsAlwaysRate, limits_in, text_rate, times_value, values_of}

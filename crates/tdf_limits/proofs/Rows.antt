@@ -13,8 +13,8 @@ use Rattle.tdf_meaning.specs.Fits.{RatesFit}
 use Rattle.tdf_tree.specs.declared.blocks.PortKind.{PortKind}
 use Rattle.tdf_tree.specs.declared.blocks.PortKind.TheVariants.{In, Out, DeIn, DeOut}
 use Rattle.tdf_walk.specs.Tables.{RowOf}
-use Rattle.tdf_wiring.specs.Modules.{PlacedModule, as_module, module_ports, module_row, placed_modules, port_row, ports_from}
 use Rattle.tdf_wiring.specs.Edges.{actor_at, driven_edge, driver_port, edge_by, edge_from, edge_of_kind, edges_of}
+use Rattle.tdf_wiring.specs.Modules.{PlacedModule, as_module, module_ports, module_row, placed_modules, port_row, ports_from}
 use Rattle.tdf_wiring.specs.declared.drivers.SignalRow.{SignalRow}
 use Rattle.tdf_wiring.specs.declared.edges.EdgeRow.{EdgeRow}
 use Rattle.tdf_wiring.specs.declared.modules.ModuleRow.{ModuleRow}
