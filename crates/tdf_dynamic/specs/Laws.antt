@@ -1,0 +1,34 @@
+-- What holds of the faults and plans of clusters.
+-- Source: own.
+use Rattle.std.specs.Prelude.{◌≡◌, ℕ, Contains}
+use Rattle.tdf_base.specs.declared.faults.Fault.{Fault}
+use Rattle.tdf_dynamic.specs.Attributes.{clusters_of}
+use Rattle.tdf_dynamic.specs.First.{IsFirstPlan, IsClusterFault, IsPlannable}
+use Rattle.tdf_dynamic.specs.declared.first.First.{First}
+use Rattle.tdf_flat.specs.declared.model.Flat.{Flat}
+use Rattle.tdf_schedule.specs.declared.entry.Plan.{Plan}
+
+-- two plans are the same
+pub record AreSamePlans (one other : Plan) : Type 0 where
+  pub entries : one.entries.items ≡ other.entries.items
+  pub bounds : one.bounds.items ≡ other.bounds.items
+  pub period : one.period ≡ other.period
+
+pub record AreSameFirsts (one other : First) : Type 0 where
+  pub attrs_are : one.attrs ≡ other.attrs
+  pub plans_are : AreSamePlans one.plan other.plan
+
+-- a cluster of a flat model
+pub record IsClusterOf (flat : Flat) (cluster : ℕ) : Type 0 where
+  pub plannable : IsPlannable flat
+  pub has : Contains (clusters_of flat.tables) cluster
+
+-- of the faults and plans of a cluster there is at most one
+pub record ClustersHaveOne : Type 0 where
+  pub one_fault : (flat : Flat) (cluster : ℕ) (one other : Fault) → IsClusterOf flat cluster
+      → IsClusterFault flat cluster one → IsClusterFault flat cluster other → one ≡ other
+  pub fault_or_plan : (flat : Flat) (cluster : ℕ) (fault : Fault) (first : First)
+      → IsClusterOf flat cluster → IsClusterFault flat cluster fault
+      → IsFirstPlan flat cluster first → ⊥
+  pub one_plan : (flat : Flat) (cluster : ℕ) (one other : First) → IsClusterOf flat cluster
+      → IsFirstPlan flat cluster one → IsFirstPlan flat cluster other → AreSameFirsts one other

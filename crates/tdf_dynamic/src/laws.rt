@@ -1,0 +1,14 @@
+//! What holds of the faults and plans of clusters: each function here only carries its clauses.
+
+ghost use Rattle.tdf_dynamic.specs.Laws.{ClustersHaveOne};
+
+use tdf_balance::law_counts;
+use tdf_schedule::law_plans;
+
+/// Of the faults and plans of a cluster there is at most one.
+pub fn law_one_plan()
+    ensures { ClustersHaveOne }
+{
+    law_counts();
+    law_plans();
+}
