@@ -1,18 +1,20 @@
 //! The net with the rates that a table of attributes gives.
 
-ghost use Rattle.std.specs.Prelude.{◌≡◌, ◌<◌, ◌≤◌, ◌*◌, All, IfOk, Some, length, map, slice_index};
+ghost use Rattle.std.specs.Prelude.{◌≡◌, ◌<◌, ◌≤◌, ◌*◌, All, IfOk, Some, length, map, slice_get, slice_index};
 ghost use Rattle.tdf_base.specs.Limits.{greatest_delay};
 ghost use Rattle.tdf_bind.specs.Ranges.{AreInRange};
 ghost use Rattle.tdf_dynamic.specs.Rates.{times_value, port_rate, edge_kind};
 ghost use Rattle.tdf_dynamic.specs.Rates.{write_rate_by, read_rate_by, rated_edge, rated_port, net_ports, net_of, seen, AreRates};
 ghost use Rattle.tdf_graph.specs.Ranges.{IsRate};
 ghost use Rattle.tdf_timestep.specs.Period.{rate_of};
+ghost use Rattle.tdf_wiring.specs.declared.modules.PortRow.{PortRow as PortRowOf};
 
-use crate::attrs::ModuleAttrs;
+use crate::attrs::{Attrs, ModuleAttrs};
 use crate::places::short;
 use std::alloc::Global;
 use tdf_base::Memory;
 use tdf_bind::Flat as FlatTables;
+use tdf_flat::Flat;
 use tdf_graph::{Actor, Edge, Net, Port};
 use tdf_tree::PortKind;
 use tdf_wiring::{EdgeRow, PortRow, Rate};
@@ -187,4 +189,16 @@ pub(crate) fn net_of(
     short(edges.len())?;
     short(ports.len())?;
     Ok(Net::new(actors, edges, ports).unwrap())
+}
+
+impl Attrs {
+    /// The rate of a port of the cluster, by its number in the flat model; 1 for a port of another cluster.
+    pub fn port_rate(&self, flat: &Flat, port: u32) -> u32
+        requires port { port < length flat.now.tables.ports }
+        requires rates { AreRates flat.now.tables self.now }
+        ensures { (row : PortRowOf) → slice_get flat.now.tables.ports port ≡ Some row
+            → result ≡ port_rate self.now row }
+    {
+        rate_in(&self.rows, &flat.tables.ports[port as usize])
+    }
 }
