@@ -2,11 +2,16 @@
 -- Source: own.
 use Rattle.std.specs.Prelude.{◌≡◌, ℕ, Contains}
 use Rattle.tdf_base.specs.declared.faults.Fault.{Fault}
+use Rattle.tdf_bind.specs.Flat.{AreShort}
 use Rattle.tdf_dynamic.specs.Attributes.{clusters_of}
 use Rattle.tdf_dynamic.specs.First.{IsFirstPlan, IsClusterFault, IsPlannable}
 use Rattle.tdf_dynamic.specs.declared.first.First.{First}
+use Rattle.tdf_flat.specs.Flat.{IsFlatOf}
 use Rattle.tdf_flat.specs.declared.model.Flat.{Flat}
+use Rattle.tdf_roles.specs.Roles.{roles_of}
 use Rattle.tdf_schedule.specs.declared.entry.Plan.{Plan}
+use Rattle.tdf_tree.specs.Kept.{IsKept}
+use Rattle.tdf_tree.specs.Pure.{PureTree}
 
 -- two plans are the same
 pub record AreSamePlans (one other : Plan) : Type 0 where
@@ -32,3 +37,9 @@ pub record ClustersHaveOne : Type 0 where
       → IsFirstPlan flat cluster first → ⊥
   pub one_plan : (flat : Flat) (cluster : ℕ) (one other : First) → IsClusterOf flat cluster
       → IsFirstPlan flat cluster one → IsFirstPlan flat cluster other → AreSameFirsts one other
+
+-- a flat model of a tree that keeps what a spelled tree keeps, and whose delays are within their
+-- limit, can be planned
+abbrev pub FlatIsPlannable : Type 0
+FlatIsPlannable = (model : PureTree) (flat : Flat) → IsKept model → AreShort (roles_of model)
+    → IsFlatOf model flat → IsPlannable flat
