@@ -3,14 +3,14 @@ use Rattle.std.proofs.Common.{◌≡◌, ◌∙◌, ℕ, zero, suc, ◌*◌, ◌
 use Rattle.std.proofs.Math.ListN.{get_or}
 use Rattle.std.proofs.lemmas.Bool.{cases_lt}
 use Rattle.std.proofs.lemmas.List.{ext_get_or}
-use Rattle.std.specs.Prelude.{All, Contains, Result, Ok, Err, slice_get}
+use Rattle.std.specs.Prelude.{All, Contains, slice_get}
 use Rattle.tdf_balance.specs.Balance.{HasCounts}
 use Rattle.tdf_balance.specs.Laws.{CountsAreUnique, AnswersExclude}
 use Rattle.tdf_balance.specs.declared.err.BalanceErr.{BalanceErr}
 use Rattle.tdf_balance.specs.declared.err.BalanceErr.TheVariants as balance
 use Rattle.tdf_base.specs.declared.faults.Fault.{Fault}
 use Rattle.tdf_bind.specs.Flat.{FlatOf}
-use Rattle.tdf_dynamic.proofs.Phases.{ok_err, err_same}
+use Rattle.tdf_dynamic.proofs.Periods.{agreed_once, steps_err, steps_apart}
 use Rattle.tdf_dynamic.specs.Assignments.{assignments}
 use Rattle.tdf_dynamic.specs.Attributes.{AttrsOf, clusters_of}
 use Rattle.tdf_dynamic.specs.Faults.{IsBalanceErr, balance_fault, IsCountsFault, IsStepErr, step_fault, IsPeriodFault, HasCountsOf, HasStepsOf, HasTiming, OfCounts, OfPeriod}
@@ -25,12 +25,7 @@ use Rattle.tdf_schedule.specs.Plan.{pace_of, IsBound, IsLate, IsDeadlock, IsNonc
 use Rattle.tdf_schedule.specs.declared.entry.Plan.{Plan}
 use Rattle.tdf_schedule.specs.declared.err.PlanErr.{PlanErr}
 use Rattle.tdf_schedule.specs.declared.err.PlanErr.TheVariants as planning
-use Rattle.tdf_timestep.proofs.Agreed.{agreed_once}
-use Rattle.tdf_timestep.proofs.Answered.{no_timestep, disagree, too_long, inexact_both}
 use Rattle.tdf_timestep.specs.declared.assign.Steps.{Steps}
-use Rattle.tdf_timestep.specs.declared.err.StepErr.{StepErr}
-use Rattle.tdf_timestep.specs.declared.err.StepErr.TheVariants as timing
-use Rattle.tdf_timestep.specs.views.Answers.{IsAnswer}
 
 some_same : {A : Type 0} {x y : A} → Some x ≡ Some y → x ≡ y
 some_same {A} {x} {y} e = ap or_x e
@@ -61,38 +56,6 @@ module _ (net : NetOf) (clusters : List ℕ) (cluster : ℕ) (answers : AnswersE
 
 -- steps
 module _ (net : NetOf) (table : List AttrsOf) (counts : List ℕ) where
-  abbrev Stepped : Type 0
-  Stepped = Result Steps StepErr
-
-  abbrev answer : Stepped → Type 0
-  answer r = IsAnswer net.ports counts (assignments table) r
-
-  abbrev timed : Steps → Stepped
-  timed s = Ok s
-
-  abbrev stepped : StepErr → Stepped
-  stepped why = Err why
-
-  as_answer : (why : StepErr) → IsStepErr net table counts why → answer (Err why)
-  as_answer timing.NoTimestep p = p
-  as_answer (timing.Disagree a b) p = p
-  as_answer timing.TooLong p = p
-  as_answer (timing.Inexact actor port) p = p
-  as_answer timing.Memory p = absurd p
-
-  by_answer : (r : Stepped) (why : StepErr) → answer r → IsStepErr net table counts why → r ≡ Err why
-  by_answer r timing.NoTimestep is p = (no_timestep net.ports counts (assignments table) r is).1 p
-  by_answer r (timing.Disagree a b) is p = (disagree net.ports counts (assignments table) r is a b).1 p
-  by_answer r timing.TooLong is p = (too_long net.ports counts (assignments table) r is).1 p
-  by_answer r (timing.Inexact actor port) is p = (inexact_both net.ports counts (assignments table) r is (record { actor = actor; port = port })).1 p
-  by_answer r timing.Memory is p = absurd p
-
-  steps_err : (one other : StepErr) → IsStepErr net table counts one → IsStepErr net table counts other → one ≡ other
-  steps_err one other p q = err_same (stepped one) one other refl (by_answer (stepped one) other (as_answer one p) q)
-
-  steps_apart : (why : StepErr) (steps : Steps) → IsStepErr net table counts why → HasStepsOf net table counts steps → ⊥
-  steps_apart why steps p has = ok_err (timed steps) steps why refl (by_answer (timed steps) why has p)
-
   steps_same : (one other : Steps) → HasStepsOf net table counts one → HasStepsOf net table counts other → (one.period ≡ other.period) × (one.actor_steps.items ≡ other.actor_steps.items)
   steps_same one other p q = (period, ext_get_or 0 one.actor_steps.items other.actor_steps.items (p.long ∙ sym q.long) (λ i less. at i (cases_lt 0 (get_or counts i 0))))
     where

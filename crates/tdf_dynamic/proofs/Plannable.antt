@@ -2,12 +2,10 @@
 use Rattle.std.proofs.Common.{◌≡◌, ◌∙◌, ℕ, ◌+◌, ◌*◌, ◌<◌, ◌≤◌, zero, suc, List, [], ◌∷◌, Option, Some, None, length, refl, sym, ap, map, subst, arith}
 use Rattle.std.proofs.lemmas.List.Elements.{All-from_recursion, recursion_from_All}
 use Rattle.std.specs.List.{AllByRecursion, enumerate_from, cons_option}
-use Rattle.std.specs.Prelude.{All, slice_get}
+use Rattle.std.specs.Prelude.{slice_get}
 use Rattle.tdf_base.specs.Limits.{time_end, greatest_delay}
-use Rattle.tdf_bind.proofs.EdgeRanges.{edges_are_actors}
-use Rattle.tdf_bind.proofs.Joining.{ports_are_own, ports_are_short, both}
-use Rattle.tdf_bind.specs.Actors.{net_edge, actor_places}
-use Rattle.tdf_bind.specs.Flat.{AreShort}
+use Rattle.tdf_dynamic.proofs.Delays.{both, ports_short, starts_few}
+use Rattle.tdf_bind.specs.Flat.{IsShortRole, AreShort}
 use Rattle.tdf_bind.specs.Ranges.{FlatIsInRange}
 use Rattle.tdf_dynamic.proofs.Fine.{IsPortFine, IsRoleFine, IsFine, roles_fine}
 use Rattle.tdf_dynamic.specs.First.{values_of, text_rate, IsPlannable}
@@ -16,12 +14,13 @@ use Rattle.tdf_expr.specs.Made.{block_count, start_rates}
 use Rattle.tdf_expr.specs.declared.checked.Checked.{Checked}
 use Rattle.tdf_flat.specs.Flat.{IsFlatOf, top_place, trace_lines}
 use Rattle.tdf_flat.specs.declared.model.Flat.{Flat}
-use Rattle.tdf_graph.specs.Ranges.{IsRate, IsEdge}
+use Rattle.tdf_graph.specs.Ranges.{IsRate}
 use Rattle.tdf_roles.specs.Roles.{roles_of}
 use Rattle.tdf_scope.specs.Names.{globals_of}
 use Rattle.tdf_tree.specs.Kept.{IsKept}
 use Rattle.tdf_tree.specs.Pure.{PureTree}
 use Rattle.tdf_walk.specs.Tables.{RowOf}
+use Rattle.tdf_wiring.specs.Edges.{IsShort}
 use Rattle.tdf_wiring.specs.Modules.{PlacedModule, as_module, placed_modules, module_row, port_row, module_ports, ports_from, AreModules}
 use Rattle.tdf_wiring.specs.declared.edges.EdgeRow.{EdgeRow}
 use Rattle.tdf_wiring.specs.declared.modules.ModuleRow.{ModuleRow}
@@ -95,19 +94,15 @@ module _ (flat : Flat) where
       (port_rates_of n m.role.block (module_row m) m.instance (ap (slice_get flat.tables.modules) (omega arith) ∙ same 0) refl 0 m.role.ports h.0.ports)
       (rates_in_range (n + 1) ms (λ j. ap (slice_get flat.tables.modules) (omega arith) ∙ same (suc j)) h.1)
 
-starts_few : (count : ℕ) (edges : List EdgeRow) → AllByRecursion (IsEdge count) (map net_edge edges) → AllByRecursion (λ (e : EdgeRow). e.initial ≤ 2 * greatest_delay) edges
-starts_few count [] h = tt
-starts_few count (e ∷ edges) h = (h.0.starts, starts_few count edges h.1)
-
 pub plannable : FlatIsInRange → (model : PureTree) (flat : Flat) → IsKept model → AreShort (roles_of model) → IsFlatOf model flat → IsPlannable flat
 plannable ranges model flat kept short is = record {
   wired = record {
     in_range = ranges is.blocks (top_place is.blocks) (roles_of model) (trace_lines model) flat.tables short is.tables;
     actors = is.tables.follows.actors;
     delays = All-from_recursion (λ (e : EdgeRow). e.initial ≤ 2 * greatest_delay) flat.tables.edges
-        (starts_few (length (actor_places (length flat.tables.modules) flat.tables.ports)) flat.tables.edges (recursion_from_All (IsEdge (length (actor_places (length flat.tables.modules) flat.tables.ports))) (map net_edge flat.tables.edges)
-        (subst (λ es. All (IsEdge (length (actor_places (length flat.tables.modules) flat.tables.ports))) (map net_edge es)) (sym is.tables.follows.edges)
-        (edges_are_actors (length flat.tables.modules) flat.tables.signals flat.tables.ports (ports_are_short (roles_of model) is.tables.tables.instances (record { modules = flat.tables.modules; ports = flat.tables.ports }) modules short) (ports_are_own (roles_of model) is.tables.tables.instances (record { modules = flat.tables.modules; ports = flat.tables.ports }) modules)))));
+        (subst (AllByRecursion (λ (e : EdgeRow). e.initial ≤ 2 * greatest_delay)) (sym is.tables.follows.edges)
+        (starts_few (length flat.tables.modules) flat.tables.signals flat.tables.ports
+        (subst (AllByRecursion IsShort) (sym modules.ports) (ports_short (roles_of model) is.tables.tables.instances (recursion_from_All IsShortRole (roles_of model) short)))));
   };
   module_steps = All-from_recursion (λ (row : ModuleRow). row.step < time_end) flat.tables.modules
       (subst (AllByRecursion (λ (row : ModuleRow). row.step < time_end)) (sym modules.modules) (steps_few flat.checked (placed_modules (roles_of model) is.tables.tables.instances) fine));

@@ -1,13 +1,15 @@
 -- What holds of the faults and plans of clusters.
 -- Source: own.
-use Rattle.std.specs.Prelude.{◌≡◌, ℕ, Contains}
+use Rattle.std.specs.Prelude.{◌≡◌, ◌≤◌, ℕ, Contains}
 use Rattle.tdf_base.specs.declared.faults.Fault.{Fault}
-use Rattle.tdf_bind.specs.Flat.{AreShort}
+use Rattle.tdf_bind.specs.Flat.{FlatOf, AreShort}
 use Rattle.tdf_dynamic.specs.Attributes.{clusters_of}
 use Rattle.tdf_dynamic.specs.First.{IsFirstPlan, IsClusterFault, IsPlannable}
+use Rattle.tdf_dynamic.specs.Rates.{IsWired}
 use Rattle.tdf_dynamic.specs.declared.first.First.{First}
 use Rattle.tdf_flat.specs.Flat.{IsFlatOf}
 use Rattle.tdf_flat.specs.declared.model.Flat.{Flat}
+use Rattle.tdf_graph.specs.Clusters.{greatest}
 use Rattle.tdf_roles.specs.Roles.{roles_of}
 use Rattle.tdf_schedule.specs.declared.entry.Plan.{Plan}
 use Rattle.tdf_tree.specs.Kept.{IsKept}
@@ -43,3 +45,8 @@ pub record ClustersHaveOne : Type 0 where
 abbrev pub FlatIsPlannable : Type 0
 FlatIsPlannable = (model : PureTree) (flat : Flat) → IsKept model → AreShort (roles_of model)
     → IsFlatOf model flat → IsPlannable flat
+
+-- each number from 1 to the greatest is that of a cluster
+abbrev pub ClustersAreWhole : Type 0
+ClustersAreWhole = (tables : FlatOf) (cluster : ℕ) → IsWired tables → 1 ≤ cluster
+    → cluster ≤ greatest (clusters_of tables) → Contains (clusters_of tables) cluster

@@ -1,6 +1,6 @@
 //! What holds of the faults and plans of clusters: each function here only carries its clauses.
 
-ghost use Rattle.tdf_dynamic.specs.Laws.{ClustersHaveOne, FlatIsPlannable};
+ghost use Rattle.tdf_dynamic.specs.Laws.{ClustersAreWhole, ClustersHaveOne, FlatIsPlannable};
 
 use tdf_balance::law_counts;
 use tdf_bind::law_ranges;
@@ -20,3 +20,8 @@ pub fn law_plannable()
 {
     law_ranges();
 }
+
+/// Each number from 1 to the count of the clusters is that of a cluster.
+pub fn law_numbers()
+    ensures { ClustersAreWhole }
+{}

@@ -30,4 +30,4 @@ mod timing;
 pub use attrs::Attrs;
 pub use err::ChangeErr;
 pub use first::{First, first_plan};
-pub use laws::{law_one_plan, law_plannable};
+pub use laws::{law_numbers, law_one_plan, law_plannable};
