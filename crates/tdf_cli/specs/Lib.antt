@@ -7,3 +7,4 @@ pub mod Outcome
 pub mod Refusals
 pub mod Status
 pub mod Words
+pub mod machine

@@ -1,15 +1,22 @@
--- The outcome of the command: what it answers, and what it writes on its output and on its notes (own).
-use Rattle.std.specs.Prelude.{ℕ, ◌≡◌, ◌⊎◌, List, [], Option, None, codes}
+-- The outcome of the command: what it answers, and what it writes on its output and on its notes.
+-- Source: own.
+use Rattle.std.specs.Prelude.{ℕ, ◌≡◌, ◌⊎◌, List, [], Option, codes}
 use Rattle.std.specs.Io.KnownBytes.{Appends, Keeps}
 use Rattle.tdf_base.specs.declared.faults.Fault.{Fault}
 use Rattle.tdf_blocks.specs.Refused.{SpellsText}
 use Rattle.tdf_cli.specs.Input.{Reading, BadWords, Text, TooLong, ReadFault, NoMemory}
-use Rattle.tdf_cli.specs.Refusals.{IsFirstFault, tree_fault, refusal_text, unbuilt_fault}
+use Rattle.tdf_cli.specs.Refusals.{refusal_text, unbuilt_fault}
 use Rattle.tdf_cli.specs.declared.status.Status.{Status}
 use Rattle.tdf_cli.specs.declared.status.Status.TheVariants as status
-use Rattle.tdf_cli.specs.declared.words.Settings.{Settings}
-use Rattle.tdf_cli.specs.declared.words.Settings.TheVariants.{Run}
+use Rattle.tdf_cli.specs.declared.words.Job.{Job}
+use Rattle.tdf_cli.specs.declared.words.Job.TheVariants.{Run, Check, Plan}
 use Rattle.tdf_io.specs.Bytes.{AppendsFront}
+use Rattle.tdf_notes.specs.Plans.{accepted_line}
+use Rattle.tdf_print.specs.Canon.{canon}
+use Rattle.tdf_sim.specs.Accepted.{IsAccepted}
+use Rattle.tdf_sim.specs.declared.sim.Sim.{Sim}
+use Rattle.tdf_sim.specs.FirstFault.{cluster_count, IsFirstFault}
+use Rattle.tdf_sim.specs.PlanText.{plans_text}
 use Rattle.tdf_thin.specs.Ramp.{trace_text, notes_text}
 use Rattle.tdf_thin.specs.ThinTree.{IsThinTree}
 use Rattle.tdf_thin.specs.declared.model.Thin.{Thin}
@@ -32,17 +39,37 @@ refused fault = note status.Refused (refusal_text fault)
 abbrev pub ran : Thin → ℕ → Outcome
 ran thin stop = record { status = status.Done; out = trace_text thin stop; notes = notes_text thin stop }
 
+-- the note of a model that was accepted: the number of its clusters
+abbrev pub accepted_text : Sim → List ℕ
+accepted_text sim = accepted_line (cluster_count sim.flat.tables)
+
+-- the canonical text of a model
+abbrev pub checked : PureTree → Sim → Outcome
+checked tree sim =
+    record { status = status.Done; out = canon tree; notes = accepted_text sim }
+
+-- the plans of a model
+abbrev pub planned : Sim → Outcome
+planned sim =
+    record { status = status.Done; out = plans_text sim; notes = accepted_text sim }
+
 -- what comes of a reading has this outcome, case by case; being out of memory has none
 pub data HasOutcome : Reading → Outcome → Type 0 where
   usage : HasOutcome BadWords (note status.Usage (codes "usage\n"))
   read_fault : HasOutcome ReadFault (note status.ReadFault (codes "read fault\n"))
   too_long : HasOutcome TooLong (note status.TooLong (codes "too long\n"))
-  faulty : {settings : Settings} {text : List ℕ} {fault : Fault} → IsFirstFault text fault → HasOutcome (Text settings text) (refused fault)
-  unbuilt : {stop : ℕ} {text : List ℕ} {tree : PureTree} → SpellsText text tree → tree_fault tree ≡ None
-      → ((thin : Thin) → IsThinTree tree thin → ⊥)
+  faulty : {job : Job} {text : List ℕ} {fault : Fault} → IsFirstFault text fault
+      → HasOutcome (Text job text) (refused fault)
+  unbuilt : {stop : ℕ} {text : List ℕ} {tree : PureTree} {sim : Sim} → SpellsText text tree
+      → IsAccepted tree sim → ((thin : Thin) → IsThinTree tree thin → ⊥)
       → HasOutcome (Text (Run stop) text) (refused unbuilt_fault)
-  reached : {stop : ℕ} {text : List ℕ} {tree : PureTree} (thin : Thin) → SpellsText text tree → tree_fault tree ≡ None
-      → IsThinTree tree thin → HasOutcome (Text (Run stop) text) (ran thin stop)
+  reached : {stop : ℕ} {text : List ℕ} {tree : PureTree} {sim : Sim} (thin : Thin)
+      → SpellsText text tree → IsAccepted tree sim → IsThinTree tree thin
+      → HasOutcome (Text (Run stop) text) (ran thin stop)
+  is_checked : {text : List ℕ} {tree : PureTree} {sim : Sim} → SpellsText text tree
+      → IsAccepted tree sim → HasOutcome (Text Check text) (checked tree sim)
+  is_planned : {text : List ℕ} {tree : PureTree} {sim : Sim} → SpellsText text tree
+      → IsAccepted tree sim → HasOutcome (Text Plan text) (planned sim)
 
 -- the answer and the bytes that both sinks gained are those of the outcome
 pub record WritesOutcome (r : Reading) (answer : Status) (out_old out_new notes_old notes_new : Option (List ℕ)) : Type 0 where

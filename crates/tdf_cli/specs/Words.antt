@@ -1,27 +1,28 @@
--- The words of the command (own).
-use Rattle.std.specs.Prelude.{ℕ, ◌<◌, ◌&&◌, nat_eq, if◌then◌else◌, List, [], ◌∷◌, map, Option, Some, None, Result, Ok, Err, codes, String, string_bytes}
-use Rattle.std.specs.Cmp.Lexicographic.{pointwise}
-use Rattle.std.specs.declared.alloc.Global.{Global}
+-- The jobs that the words of the command may ask for today.
+-- Source: own; the words and their settings are those of `tdf_words`.
+use Rattle.std.specs.Prelude.{ℕ, ◌<◌, nat_eq, if◌then◌else◌, List, Option, Some, None, option_and_then}
 use Rattle.tdf_base.specs.Limits.{time_end}
-use Rattle.tdf_base.specs.Time.{time_of}
-use Rattle.tdf_base.specs.declared.times.TimeErr.{TimeErr}
-use Rattle.tdf_cli.specs.declared.words.Settings.{Settings}
-use Rattle.tdf_cli.specs.declared.words.Settings.TheVariants.{Run}
+use Rattle.tdf_cli.specs.declared.words.Job.{Job}
+use Rattle.tdf_cli.specs.declared.words.Job.TheVariants as job
+use Rattle.tdf_words.specs.Jobs.{usual_turns}
+use Rattle.tdf_words.specs.Words.{taken_of}
+use Rattle.tdf_words.specs.declared.asked.Settings.{Settings}
+use Rattle.tdf_words.specs.declared.asked.Settings.TheVariants.{Run, Check, Plan, Load}
+use Rattle.tdf_words.specs.declared.asked.TraceKind.TheVariants.{Table, Vcd}
 
--- the bytes of each word
-abbrev pub texts : List (String Global) → List (List ℕ)
-texts words = map string_bytes words
+-- what is built of what words may ask for: runs to a table with the usual turns, checks and plans
+abbrev pub job_of : Settings → Option Job
+job_of (Run stop Table turns) = if nat_eq turns usual_turns then Some (job.Run stop) else None
+job_of (Run stop Vcd turns) = None
+job_of Check = Some job.Check
+job_of Plan = Some job.Plan
+job_of (Load seed size) = None
 
-abbrev pub run_until : Result ℕ TimeErr → Option Settings
-run_until (Ok stop) = Some (Run stop)
-run_until (Err e) = None
-
--- what the words ask for, if they are accepted: `run --stop TIME` and nothing else
-unfoldable pub settings_of : List (List ℕ) → Option Settings
-settings_of (job ∷ (option ∷ (time ∷ []))) =
-    if pointwise nat_eq job (codes "run") && pointwise nat_eq option (codes "--stop") then run_until (time_of time) else None
-settings_of _ = None
+-- what the words ask for, if they are accepted
+unfoldable pub job_for : List (List ℕ) → Option Job
+job_for words = option_and_then job_of (taken_of words)
 
 -- the stop is one that a run may have
-abbrev pub StopsEarly : Settings → Type 0
-StopsEarly (Run stop) = stop < time_end
+abbrev pub StopsEarly : Job → Type 0
+StopsEarly (job.Run stop) = stop < time_end
+StopsEarly _ = Unit {0}

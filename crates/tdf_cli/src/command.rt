@@ -5,10 +5,11 @@ ghost use Rattle.tdf_base.specs.Limits.{longest_text};
 ghost use Rattle.tdf_cli.specs.Input.{InputIs, NoMemory, Reading, Text};
 ghost use Rattle.tdf_cli.specs.Outcome.{HasOneOutcome, HasOutcome, Outcome, WritesNothingOrFront, WritesOutcome};
 ghost use Rattle.tdf_cli.specs.Status.{no_memory, number_of, write_fault};
-ghost use Rattle.tdf_cli.specs.Words.{settings_of, texts};
+ghost use Rattle.tdf_cli.specs.Words.{job_for};
 ghost use Rattle.tdf_cli.specs.declared.status.Status.{Status};
 ghost use Rattle.tdf_cli.specs.declared.status.Status.TheVariants.{ReadFault};
-ghost use Rattle.tdf_cli.specs.declared.words.Settings.{Settings};
+ghost use Rattle.tdf_cli.specs.declared.words.Job.{Job};
+ghost use Rattle.tdf_words.specs.Words.{texts_of};
 ghost use Rattle.tdf_io.specs.Faults.{FaultsRose};
 
 use crate::jobs::finish;
@@ -16,6 +17,7 @@ use crate::load::load;
 use crate::status::{NO_MEMORY, WRITE_FAULT};
 use std::alloc::Global;
 use tdf_io::{Sink, SinkErr, Source};
+use tdf_sim::{law_first_fault, law_one_model};
 
 /// The command: takes its words, those after the program's name, reads the model, does the job, and answers the status
 /// of the program.
@@ -32,27 +34,29 @@ pub fn tool<S: Source, O: Sink, N: Sink>(
     // But for 4 and 7, the status, the output and the notes are those of the outcome for what came of the words and of
     // reading.
     ensures outcome { result ≢ write_fault → result ≢ no_memory → (r : Reading) × (status : Status) × (result ≡ number_of status)
-        × InputIs (texts words.now.items) r (S.left model.old) (S.left model.new) (S.faults model.old) (S.faults model.new)
+        × InputIs (texts_of words.now.items) r (S.left model.old) (S.left model.new) (S.faults model.old) (S.faults model.new)
         × WritesOutcome r status (O.taken out.old) (O.taken out.new) (N.taken notes.old) (N.taken notes.new) }
 
     // After 4 and 7 both sinks hold front parts of the texts of that outcome, or nothing was written. Where it ran out of
-    // memory while the text was read, the status is 7 and nothing was written.
+    // memory while the words or the text were read, the status is 7 and nothing was written.
     ensures part { (result ≡ write_fault) ⊎ (result ≡ no_memory) → (r : Reading) × (r ≡ NoMemory → result ≡ no_memory)
-        × InputIs (texts words.now.items) r (S.left model.old) (S.left model.new) (S.faults model.old) (S.faults model.new)
+        × InputIs (texts_of words.now.items) r (S.left model.old) (S.left model.new) (S.faults model.old) (S.faults model.new)
         × WritesNothingOrFront r (O.taken out.old) (O.taken out.new) (N.taken notes.old) (N.taken notes.new) }
 
     // Where the words are not accepted nothing is read.
-    ensures unread { settings_of (texts words.now.items) ≡ None → model.new ≡ model.old }
+    ensures unread { job_for (texts_of words.now.items) ≡ None → model.new ≡ model.old }
     ensures read_fault { result ≡ number_of ReadFault → FaultsRose (S.faults model.old) (S.faults model.new) }
     ensures write_fault { result ≡ write_fault → FaultsRose (O.faults out.old) (O.faults out.new) ⊎ FaultsRose (N.faults notes.old) (N.faults notes.new) }
 
     // Words that are accepted, a text of a length that is, an outcome for them, and no count of faults that rose: the status
     // is that of the outcome, or it is out of memory.
-    ensures complete { (settings : Settings) (text : List ℕ) (o : Outcome) → settings_of (texts words.now.items) ≡ Some settings
-        → S.left model.old ≡ Some text → length text ≤ longest_text → HasOutcome (Text settings text) o
+    ensures complete { (job : Job) (text : List ℕ) (o : Outcome) → job_for (texts_of words.now.items) ≡ Some job
+        → S.left model.old ≡ Some text → length text ≤ longest_text → HasOutcome (Text job text) o
         → ¬ FaultsRose (S.faults model.old) (S.faults model.new) → ¬ FaultsRose (O.faults out.old) (O.faults out.new)
         → ¬ FaultsRose (N.faults notes.old) (N.faults notes.new) → (result ≡ number_of o.status) ⊎ (result ≡ no_memory) }
 {
+    law_first_fault();
+    law_one_model();
     let input = load(alloc, words, model);
     match finish(alloc, &input, out, notes) {
         Ok(status) => status.number(),
@@ -64,4 +68,7 @@ pub fn tool<S: Source, O: Sink, N: Sink>(
 /// What comes of the words and of reading has at most one outcome.
 pub fn law_one_outcome()
     ensures { HasOneOutcome }
-{}
+{
+    law_first_fault();
+    law_one_model();
+}

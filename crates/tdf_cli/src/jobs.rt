@@ -1,28 +1,36 @@
 //! What each outcome writes.
 
-ghost use Rattle.std.specs.Io.KnownBytes.{Appends, Keeps};
-ghost use Rattle.std.specs.Prelude.{◌≡◌, ◌⊎◌, ◌≤◌, ◌<◌, List, ℕ, None, Err, length, IfOk, OnErr, IsErrOf};
+ghost use Rattle.std.specs.Io.KnownBytes.{Appends};
+ghost use Rattle.std.specs.Prelude.{◌≡◌, ◌⊎◌, ◌≤◌, ◌<◌, List, ℕ, Err, length, IfOk, OnErr, OnOk, IsErrOf};
 ghost use Rattle.tdf_base.specs.Limits.{longest_text, time_end};
 ghost use Rattle.tdf_blocks.specs.Refused.{SpellsText};
 ghost use Rattle.tdf_cli.specs.Input.{NoMemory, Reading, Text, reading, IsReady};
-ghost use Rattle.tdf_cli.specs.Outcome.{WritesFrontOf, WritesNothingOrFront, WritesOutcome};
-ghost use Rattle.tdf_cli.specs.Refusals.{refusal_text, tree_fault};
+ghost use Rattle.tdf_cli.specs.Outcome.{WritesNothingOrFront, WritesOutcome, accepted_text};
+ghost use Rattle.tdf_cli.specs.Refusals.{refusal_text};
 ghost use Rattle.tdf_cli.specs.declared.status.Status.TheVariants.{Done, Refused};
-ghost use Rattle.tdf_cli.specs.declared.words.Settings.TheVariants.{Run};
-ghost use Rattle.tdf_io.specs.Bytes.{WritesText};
+ghost use Rattle.tdf_print.specs.Canon.{canon};
+ghost use Rattle.tdf_cli.specs.Words.{StopsEarly};
+ghost use Rattle.tdf_cli.specs.declared.words.Job.TheVariants.{Check, Plan, Run};
+ghost use Rattle.tdf_cli.specs.machine.Texts.{IsCheckText, IsPlanText};
+ghost use Rattle.tdf_io.specs.Bytes.{AppendsFront, WritesText};
 ghost use Rattle.tdf_io.specs.Faults.{FaultsRose};
-ghost use Rattle.tdf_io.specs.declared.writing.SinkErr.TheVariants.{Failed, Memory};
+ghost use Rattle.tdf_io.specs.declared.writing.SinkErr.TheVariants as why;
+ghost use Rattle.tdf_sim.specs.Accepted.{IsAccepted};
+ghost use Rattle.tdf_sim.specs.PlanText.{IsPrintable, plans_text};
+ghost use Rattle.tdf_tree.specs.Kept.{IsKept};
 ghost use Rattle.tdf_tree.specs.Views.{pure_tree};
 
-use crate::checks::check;
 use crate::load::Input;
 use crate::refusals::{first_fault, push_refusal, unbuilt};
 use crate::status::Status;
-use crate::words::Settings;
+use crate::words::Job;
 use std::alloc::Global;
-use tdf_base::Fault;
+use tdf_base::{Fault, Memory};
 use tdf_blocks::parse;
 use tdf_io::{Sink, SinkErr, put_all};
+use tdf_notes::push_accepted;
+use tdf_print::push_tree;
+use tdf_sim::{Sim, SimErr, elaborate_tree};
 use tdf_thin::{ThinErr, run_thin, thin_of};
 use tdf_tree::Tree;
 
@@ -51,22 +59,144 @@ fn refuse<N: Sink>(alloc: Global, notes: &mut N, fault: Fault) -> Result<Status,
     }
 }
 
-/// Runs the model of a tree without a fault, and answers `Done`; or notes that such a model isn't run yet, and answers
-/// `Refused`.
-fn run_checked<O: Sink, N: Sink>(
+/// An output and a note.
+#[derive(Drop)]
+struct Texts {
+    output: Vec<u8>,
+    note: Vec<u8>,
+}
+
+/// The note of a model that was accepted.
+fn accepted_note(alloc: Global, sim: &Sim) -> Result<Vec<u8>, Memory>
+    ensures { IfOk result (λ note. note.items ≡ accepted_text sim.now) }
+{
+    let mut note = Vec::new(alloc);
+    push_accepted(&mut note, sim.cluster_count())?;
+    Ok(note)
+}
+
+/// The canonical text of a tree.
+fn canonical(alloc: Global, tree: &Tree) -> Result<Vec<u8>, Memory>
+    ensures { IfOk result (λ output. output.items ≡ canon (pure_tree tree.now)) }
+{
+    let mut output = Vec::new(alloc);
+    push_tree(&mut output, tree)?;
+    Ok(output)
+}
+
+/// The plans of a model.
+fn plans(alloc: Global, sim: &Sim) -> Result<Vec<u8>, Memory>
+    requires printable { IsPrintable sim.now }
+    ensures { IfOk result (λ output. output.items ≡ plans_text sim.now) }
+{
+    let mut output = Vec::new(alloc);
+    sim.push_plan(&mut output)?;
+    Ok(output)
+}
+
+/// The texts of a check.
+fn check_texts(alloc: Global, tree: &Tree, sim: &Sim) -> Result<Texts, Memory>
+    ensures { IfOk result (λ texts. IsCheckText (pure_tree tree.now) sim.now texts) }
+{
+    let note = accepted_note(alloc, sim)?;
+    match canonical(alloc, tree) {
+        Ok(output) => Ok(Texts { output, note }),
+        Err(error) => {
+            drop(note);
+            Err(error)
+        }
+    }
+}
+
+/// The texts of plans.
+fn plan_texts(alloc: Global, sim: &Sim) -> Result<Texts, Memory>
+    requires printable { IsPrintable sim.now }
+    ensures { IfOk result (λ texts. IsPlanText sim.now texts) }
+{
+    let note = accepted_note(alloc, sim)?;
+    match plans(alloc, sim) {
+        Ok(output) => Ok(Texts { output, note }),
+        Err(error) => {
+            drop(note);
+            Err(error)
+        }
+    }
+}
+
+/// Writes an output and then a note, and answers `Done`.
+fn put_texts<O: Sink, N: Sink>(texts: &Texts, out: &mut O, notes: &mut N) -> Result<Status, SinkErr>
+    ensures status { IfOk result (λ s. s ≡ Done) }
+    ensures out { OnOk result (Appends (O.taken out.old) (O.taken out.new) texts.now.output.items) }
+    ensures notes { OnOk result (Appends (N.taken notes.old) (N.taken notes.new) texts.now.note.items) }
+    ensures out_part { OnErr result (AppendsFront (O.taken out.old) (O.taken out.new) texts.now.output.items) }
+    ensures notes_part { OnErr result (AppendsFront (N.taken notes.old) (N.taken notes.new) texts.now.note.items) }
+    ensures cause { IsErrOf result why.Failed → FaultsRose (O.faults out.old) (O.faults out.new) ⊎ FaultsRose (N.faults notes.old) (N.faults notes.new) }
+{
+    match put_all(out, &texts.output) {
+        Ok(()) => noted(notes, &texts.note, Status::Done),
+        Err(error) => Err(error),
+    }
+}
+
+/// Writes the canonical text of a model that was accepted.
+fn check<O: Sink, N: Sink>(
     alloc: Global,
     tree: &Tree,
+    sim: &Sim,
+    out: &mut O,
+    notes: &mut N,
+) -> Result<Status, SinkErr>
+    requires accepted { IsAccepted (pure_tree tree.now) sim.now }
+    ensures all { IfOk result (λ s. (text : List ℕ) → SpellsText text (pure_tree tree.now) → WritesOutcome (Text Check text) s
+        (O.taken out.old) (O.taken out.new) (N.taken notes.old) (N.taken notes.new)) }
+    ensures part { OnErr result ((text : List ℕ) → SpellsText text (pure_tree tree.now) → WritesNothingOrFront (Text Check text)
+        (O.taken out.old) (O.taken out.new) (N.taken notes.old) (N.taken notes.new)) }
+    ensures cause { IsErrOf result why.Failed → FaultsRose (O.faults out.old) (O.faults out.new) ⊎ FaultsRose (N.faults notes.old) (N.faults notes.new) }
+{
+    match check_texts(alloc, tree, sim) {
+        Ok(texts) => put_texts(&texts, out, notes),
+        Err(_) => Err(SinkErr::Memory),
+    }
+}
+
+/// Writes the plans of a model that was accepted.
+fn plan<O: Sink, N: Sink>(
+    alloc: Global,
+    tree: &Tree,
+    sim: &Sim,
+    out: &mut O,
+    notes: &mut N,
+) -> Result<Status, SinkErr>
+    requires accepted { IsAccepted (pure_tree tree.now) sim.now }
+    requires printable { IsPrintable sim.now }
+    ensures all { IfOk result (λ s. (text : List ℕ) → SpellsText text (pure_tree tree.now) → WritesOutcome (Text Plan text) s
+        (O.taken out.old) (O.taken out.new) (N.taken notes.old) (N.taken notes.new)) }
+    ensures part { OnErr result ((text : List ℕ) → SpellsText text (pure_tree tree.now) → WritesNothingOrFront (Text Plan text)
+        (O.taken out.old) (O.taken out.new) (N.taken notes.old) (N.taken notes.new)) }
+    ensures cause { IsErrOf result why.Failed → FaultsRose (O.faults out.old) (O.faults out.new) ⊎ FaultsRose (N.faults notes.old) (N.faults notes.new) }
+{
+    match plan_texts(alloc, sim) {
+        Ok(texts) => put_texts(&texts, out, notes),
+        Err(_) => Err(SinkErr::Memory),
+    }
+}
+
+/// Runs a model that was accepted, and answers `Done`; or notes that such a model isn't run yet, and answers `Refused`.
+fn run<O: Sink, N: Sink>(
+    alloc: Global,
+    tree: &Tree,
+    sim: &Sim,
     stop: u64,
     out: &mut O,
     notes: &mut N,
 ) -> Result<Status, SinkErr>
     requires stop { stop < time_end }
-    requires none { tree_fault (pure_tree tree.now) ≡ None }
+    requires accepted { IsAccepted (pure_tree tree.now) sim.now }
     ensures all { IfOk result (λ s. (text : List ℕ) → SpellsText text (pure_tree tree.now) → WritesOutcome (Text (Run stop) text) s
         (O.taken out.old) (O.taken out.new) (N.taken notes.old) (N.taken notes.new)) }
     ensures part { OnErr result ((text : List ℕ) → SpellsText text (pure_tree tree.now) → WritesNothingOrFront (Text (Run stop) text)
         (O.taken out.old) (O.taken out.new) (N.taken notes.old) (N.taken notes.new)) }
-    ensures cause { IsErrOf result Failed → FaultsRose (O.faults out.old) (O.faults out.new) ⊎ FaultsRose (N.faults notes.old) (N.faults notes.new) }
+    ensures cause { IsErrOf result why.Failed → FaultsRose (O.faults out.old) (O.faults out.new) ⊎ FaultsRose (N.faults notes.old) (N.faults notes.new) }
 {
     match thin_of(alloc, tree) {
         Ok(thin) => match run_thin(alloc, &thin, stop, out, notes) {
@@ -78,47 +208,72 @@ fn run_checked<O: Sink, N: Sink>(
     }
 }
 
-/// Runs the model of a tree, and answers `Done`; or notes its first fault, or that such a model isn't run yet, and answers
-/// `Refused`.
-fn run_tree<O: Sink, N: Sink>(
+/// Does a job for a model that was accepted.
+fn do_accepted<O: Sink, N: Sink>(
     alloc: Global,
     tree: &Tree,
-    stop: u64,
+    sim: &Sim,
+    job: Job,
     out: &mut O,
     notes: &mut N,
 ) -> Result<Status, SinkErr>
-    requires stop { stop < time_end }
-    ensures all { IfOk result (λ s. (text : List ℕ) → SpellsText text (pure_tree tree.now) → WritesOutcome (Text (Run stop) text) s
+    requires stop { StopsEarly job }
+    requires accepted { IsAccepted (pure_tree tree.now) sim.now }
+    requires printable { IsPrintable sim.now }
+    ensures all { IfOk result (λ s. (text : List ℕ) → SpellsText text (pure_tree tree.now) → WritesOutcome (Text job text) s
         (O.taken out.old) (O.taken out.new) (N.taken notes.old) (N.taken notes.new)) }
-    ensures part { OnErr result ((text : List ℕ) → SpellsText text (pure_tree tree.now) → WritesNothingOrFront (Text (Run stop) text)
+    ensures part { OnErr result ((text : List ℕ) → SpellsText text (pure_tree tree.now) → WritesNothingOrFront (Text job text)
         (O.taken out.old) (O.taken out.new) (N.taken notes.old) (N.taken notes.new)) }
-    ensures cause { IsErrOf result Failed → FaultsRose (O.faults out.old) (O.faults out.new) ⊎ FaultsRose (N.faults notes.old) (N.faults notes.new) }
+    ensures cause { IsErrOf result why.Failed → FaultsRose (O.faults out.old) (O.faults out.new) ⊎ FaultsRose (N.faults notes.old) (N.faults notes.new) }
 {
-    match check(alloc, tree) {
-        Ok(None) => run_checked(alloc, tree, stop, out, notes),
-        Ok(Some(fault)) => refuse(alloc, notes, fault),
-        Err(_) => Err(SinkErr::Memory),
+    match job {
+        Job::Run { stop } => run(alloc, tree, sim, stop, out, notes),
+        Job::Check => check(alloc, tree, sim, out, notes),
+        Job::Plan => plan(alloc, tree, sim, out, notes),
     }
 }
 
-/// Runs the model of a text, and answers `Done`; or notes the first fault of the text, and answers `Refused`.
-fn run<O: Sink, N: Sink>(
+/// Does a job for the model of a tree; or notes its first fault, and answers `Refused`.
+fn do_tree<O: Sink, N: Sink>(
+    alloc: Global,
+    tree: &Tree,
+    job: Job,
+    out: &mut O,
+    notes: &mut N,
+) -> Result<Status, SinkErr>
+    requires stop { StopsEarly job }
+    requires kept { IsKept (pure_tree tree.now) }
+    ensures all { IfOk result (λ s. (text : List ℕ) → SpellsText text (pure_tree tree.now) → WritesOutcome (Text job text) s
+        (O.taken out.old) (O.taken out.new) (N.taken notes.old) (N.taken notes.new)) }
+    ensures part { OnErr result ((text : List ℕ) → SpellsText text (pure_tree tree.now) → WritesNothingOrFront (Text job text)
+        (O.taken out.old) (O.taken out.new) (N.taken notes.old) (N.taken notes.new)) }
+    ensures cause { IsErrOf result why.Failed → FaultsRose (O.faults out.old) (O.faults out.new) ⊎ FaultsRose (N.faults notes.old) (N.faults notes.new) }
+{
+    match elaborate_tree(alloc, tree) {
+        Ok(sim) => do_accepted(alloc, tree, &sim, job, out, notes),
+        Err(SimErr::Refused(fault)) => refuse(alloc, notes, fault),
+        Err(SimErr::Memory) => Err(SinkErr::Memory),
+    }
+}
+
+/// Does a job for the model of a text; or notes the first fault of the text, and answers `Refused`.
+fn do_text<O: Sink, N: Sink>(
     alloc: Global,
     text: &Vec<u8>,
-    stop: u64,
+    job: Job,
     out: &mut O,
     notes: &mut N,
 ) -> Result<Status, SinkErr>
     requires text { length text.now.items ≤ longest_text }
-    requires stop { stop < time_end }
-    ensures all { IfOk result (λ s. WritesOutcome (Text (Run stop) text.now.items) s
+    requires stop { StopsEarly job }
+    ensures all { IfOk result (λ s. WritesOutcome (Text job text.now.items) s
         (O.taken out.old) (O.taken out.new) (N.taken notes.old) (N.taken notes.new)) }
-    ensures part { OnErr result (WritesNothingOrFront (Text (Run stop) text.now.items)
+    ensures part { OnErr result (WritesNothingOrFront (Text job text.now.items)
         (O.taken out.old) (O.taken out.new) (N.taken notes.old) (N.taken notes.new)) }
-    ensures cause { IsErrOf result Failed → FaultsRose (O.faults out.old) (O.faults out.new) ⊎ FaultsRose (N.faults notes.old) (N.faults notes.new) }
+    ensures cause { IsErrOf result why.Failed → FaultsRose (O.faults out.old) (O.faults out.new) ⊎ FaultsRose (N.faults notes.old) (N.faults notes.new) }
 {
     match parse(alloc, text) {
-        Ok(tree) => run_tree(alloc, &tree, stop, out, notes),
+        Ok(tree) => do_tree(alloc, &tree, job, out, notes),
         Err(refused) => match first_fault(refused) {
             Some(fault) => refuse(alloc, notes, fault),
             None => Err(SinkErr::Memory),
@@ -138,12 +293,12 @@ pub(crate) fn finish<O: Sink, N: Sink>(
         (O.taken out.old) (O.taken out.new) (N.taken notes.old) (N.taken notes.new)) }
     ensures part { OnErr result (WritesNothingOrFront (reading input.now)
         (O.taken out.old) (O.taken out.new) (N.taken notes.old) (N.taken notes.new)) }
-    ensures cause { IsErrOf result Failed → FaultsRose (O.faults out.old) (O.faults out.new) ⊎ FaultsRose (N.faults notes.old) (N.faults notes.new) }
-    ensures cut { reading input.now ≡ NoMemory → result ≡ Err Memory }
+    ensures cause { IsErrOf result why.Failed → FaultsRose (O.faults out.old) (O.faults out.new) ⊎ FaultsRose (N.faults notes.old) (N.faults notes.new) }
+    ensures cut { reading input.now ≡ NoMemory → result ≡ Err why.Memory }
 {
     match input {
         Input::BadWords => noted(notes, b"usage\n", Status::Usage),
-        Input::Text(Settings::Run { stop }, text) => run(alloc, text, *stop, out, notes),
+        Input::Text(job, text) => do_text(alloc, text, *job, out, notes),
         Input::TooLong => noted(notes, b"too long\n", Status::TooLong),
         Input::ReadFault => noted(notes, b"read fault\n", Status::ReadFault),
         Input::NoMemory => Err(SinkErr::Memory),

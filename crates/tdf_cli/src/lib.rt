@@ -3,13 +3,11 @@
 //! * `command`: the top call.
 //! * `words`: what the words ask for.
 //! * `load`: reads the model.
-//! * `checks`: the checks of a tree, phase by phase.
 //! * `jobs`: what each outcome writes.
 //! * `refusals`: the faults of texts, and how they are noted.
 //! * `status`: the answers and their numbers.
 #![tactic(auto)]
 
-mod checks;
 mod command;
 mod jobs;
 mod load;
@@ -19,4 +17,4 @@ mod words;
 
 pub use command::{law_one_outcome, tool};
 pub use status::{NO_MEMORY, USAGE, WRITE_FAULT};
-pub use words::Settings;
+pub use words::Job;

@@ -2,9 +2,10 @@
 
 ghost use Rattle.std.specs.Prelude.{◌≡◌, ◌≤◌, List, None, ℕ};
 ghost use Rattle.tdf_cli.specs.Input.{InputIs, IsReady, reading};
-ghost use Rattle.tdf_cli.specs.Words.{settings_of, texts};
+ghost use Rattle.tdf_cli.specs.Words.{job_for};
+ghost use Rattle.tdf_words.specs.Words.{texts_of};
 
-use crate::words::{Settings, read_words};
+use crate::words::{Job, read_words};
 use std::alloc::Global;
 use tdf_base::LONGEST_TEXT;
 use tdf_io::{LoadErr, Source, read_all};
@@ -15,7 +16,7 @@ pub(crate) enum Input {
     /// The words are not accepted, and nothing was read.
     BadWords,
     /// What the words ask for, and all that the source had left.
-    Text(Settings, Vec<u8>),
+    Text(Job, Vec<u8>),
     /// A byte more than the longest text was read.
     TooLong,
     /// A read failed.
@@ -26,15 +27,17 @@ pub(crate) enum Input {
 
 /// Takes the words, and then reads the model.
 pub(crate) fn load<S: Source>(alloc: Global, words: &Vec<String>, model: &mut S) -> Input
-    ensures input { InputIs (texts words.now.items) (reading result) (S.left model.old) (S.left model.new) (S.faults model.old) (S.faults model.new) }
+    ensures input { InputIs (texts_of words.now.items) (reading result) (S.left model.old) (S.left model.new) (S.faults model.old) (S.faults model.new) }
     ensures ready { IsReady (reading result) }
-    ensures unread { settings_of (texts words.now.items) ≡ None → model.new ≡ model.old }
+    ensures unread { job_for (texts_of words.now.items) ≡ None → model.new ≡ model.old }
 {
-    let Some(settings) = read_words(words) else {
-        return Input::BadWords;
+    let job = match read_words(alloc, words) {
+        Ok(Some(job)) => job,
+        Ok(None) => return Input::BadWords,
+        Err(_) => return Input::NoMemory,
     };
     match read_all(alloc, model, LONGEST_TEXT) {
-        Ok(text) => Input::Text(settings, text),
+        Ok(text) => Input::Text(job, text),
         Err(LoadErr::TooLong) => Input::TooLong,
         Err(LoadErr::ReadFault) => Input::ReadFault,
         Err(LoadErr::Memory) => Input::NoMemory,

@@ -3,13 +3,14 @@
 ghost use Rattle.std.specs.Prelude.{◌≡◌, ◌++◌, List, ℕ, MatchOption, OnOk};
 ghost use Rattle.tdf_blocks.specs.Refused.{IsWhy};
 ghost use Rattle.tdf_blocks.specs.declared.err.LangErr.TheVariants as why;
-ghost use Rattle.tdf_cli.specs.Refusals.{IsFirstFault, on_line, refusal_text, unbuilt_fault};
+ghost use Rattle.tdf_cli.specs.Refusals.{refusal_text, unbuilt_fault};
+ghost use Rattle.tdf_sim.specs.FirstFault.{IsFirstFault, on_line};
 
 use tdf_base::{Code, Fault, Memory, Place, push_fault};
 use tdf_blocks::LangErr;
 
 /// A fault of a line.
-pub(crate) fn on_line(code: Code, line: u32) -> Fault
+fn on_line(code: Code, line: u32) -> Fault
     ensures { result ≡ on_line code line }
 {
     Fault {

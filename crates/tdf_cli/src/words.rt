@@ -1,34 +1,70 @@
 //! The words of the command.
 
-ghost use Rattle.std.specs.Prelude.{◌≡◌, IfSome};
-ghost use Rattle.tdf_cli.specs.Words.{texts, settings_of, StopsEarly};
+ghost use Rattle.std.specs.Prelude.{◌≡◌, IfOk, IfSome};
+ghost use Rattle.tdf_cli.specs.Words.{job_for, job_of, StopsEarly};
+ghost use Rattle.tdf_words.specs.Jobs.{IsWithin};
+ghost use Rattle.tdf_words.specs.Words.{texts_of};
 
-use tdf_base::read_time;
+use std::alloc::Global;
+use tdf_base::Memory;
+use tdf_words::{Settings, TraceKind, WordsErr, settings};
 
 /// What the words ask for.
 #[derive(Clone, Copy, Debug, PartialEq, Eq)]
-pub enum Settings {
+pub enum Job {
     /// Run the model and write the table of its trace.
     Run {
         /// Where the run ends, in ps, below 10^18.
         stop: u64,
     },
+    /// Write the canonical text of the model.
+    Check,
+    /// Write the plans of the model.
+    Plan,
 }
 
-/// What the words ask for, where they are accepted: `run --stop TIME` and nothing else.
-#[tactic(auto, unfolding(crate::specs::Words::settings_of))]
-pub(crate) fn read_words(words: &[String]) -> Option<Settings>
-    ensures value { result ≡ settings_of (texts words.now) }
+/// The turns of a run whose words say none.
+const USUAL_TURNS: u64 = 100_000_000;
+
+/// The job of settings, if it is built.
+fn job_of(settings: Settings) -> Option<Job>
+    requires within { IsWithin settings }
+    ensures value { result ≡ job_of settings }
     ensures early { IfSome result StopsEarly }
 {
-    let [job, option, time] = words else {
-        return None;
-    };
-    if job.as_str() != "run" || option.as_str() != "--stop" {
-        return None;
+    match settings {
+        Settings::Run {
+            stop,
+            kind: TraceKind::Table,
+            turns,
+        } => {
+            if turns == USUAL_TURNS {
+                return Some(Job::Run { stop });
+            }
+            None
+        }
+        Settings::Run {
+            kind: TraceKind::Vcd,
+            ..
+        } => None,
+        Settings::Check => Some(Job::Check),
+        Settings::Plan => Some(Job::Plan),
+        Settings::Load { .. } => None,
     }
-    match read_time(time.as_bytes()) {
-        Ok(stop) => Some(Settings::Run { stop }),
-        Err(_) => None,
+}
+
+/// What the words ask for, if they are accepted.
+///
+/// # Errors
+/// Out of memory.
+#[tactic(auto, unfolding(crate::specs::Words::job_for))]
+pub(crate) fn read_words(alloc: Global, words: &Vec<String>) -> Result<Option<Job>, Memory>
+    ensures value { IfOk result (λ job. job ≡ job_for (texts_of words.now.items)) }
+    ensures early { IfOk result (λ job. IfSome job StopsEarly) }
+{
+    match settings(alloc, words) {
+        Ok(settings) => Ok(job_of(settings)),
+        Err(WordsErr::Usage) => Ok(None),
+        Err(WordsErr::Memory) => Err(Memory),
     }
 }

@@ -1,2 +1,16 @@
+pub mod Api
+pub mod Delays
 pub mod Dots
+pub mod FlatPaths
+pub mod Formats
 pub mod Linked
+pub mod Lists
+pub mod OneAnswer
+pub mod OneBlocks
+pub mod OneFault
+pub mod OneFlat
+pub mod OneTables
+pub mod OwnNames
+pub mod OwnPaths
+pub mod Paths
+pub mod Things

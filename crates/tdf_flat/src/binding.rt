@@ -1,7 +1,6 @@
 //! How a tree is made flat.
 
 ghost use Rattle.std.specs.Prelude.{◌≡◌, [], Some, IfOk, IfErr};
-ghost use Rattle.tdf_bind.specs.Flat.{AreShort};
 ghost use Rattle.tdf_bind.specs.declared.flat.BindErr.TheVariants as why;
 ghost use Rattle.tdf_checks.specs.Types.{type_faults};
 ghost use Rattle.tdf_expr.specs.Checked.{IsCheckedOf};
@@ -15,7 +14,8 @@ ghost use Rattle.tdf_scope.specs.Names.{globals_of};
 ghost use Rattle.tdf_tree.specs.Kept.{IsKept};
 ghost use Rattle.tdf_tree.specs.Views.{pure_tree};
 
-use crate::lines::{are_short, has_ports, trace_lines};
+use crate::laws::law_delays;
+use crate::lines::{has_ports, trace_lines};
 use crate::model::Flat;
 use std::alloc::Global;
 use tdf_base::{Code, Fault, Memory, Place};
@@ -98,17 +98,16 @@ fn tables_by(alloc: Global, tree: &Tree, blocks: &Vec<Block>) -> Result<FlatTabl
     requires kept { IsKept (pure_tree tree.now) }
     requires sound { AreModulesSound (globals_of (pure_tree tree.now).globals)
         (pure_tree tree.now).globals }
+    requires types { type_faults (pure_tree tree.now) ≡ [] }
     requires closed { ports_of_composite (pure_tree tree.now).top ≡ [] }
     requires linked { IsLinked (pure_tree tree.now) blocks.now.items }
     ensures tables { IfOk result (HasTables (pure_tree tree.now) blocks.now.items) }
     ensures refused { IfErr result (IsBindRefusal (pure_tree tree.now)) }
 {
     law_bound();
+    law_delays();
     let roles = roles_of(alloc, tree)?;
     let lines = trace_lines(alloc, &tree.traces)?;
-    if !are_short(&roles) {
-        return Err(BindErr::Memory);
-    }
     flat_of(
         alloc,
         blocks,
@@ -126,6 +125,7 @@ fn tables_of(alloc: Global, tree: &Tree) -> Result<FlatTables, BindErr>
     requires kept { IsKept (pure_tree tree.now) }
     requires sound { AreModulesSound (globals_of (pure_tree tree.now).globals)
         (pure_tree tree.now).globals }
+    requires types { type_faults (pure_tree tree.now) ≡ [] }
     requires closed { ports_of_composite (pure_tree tree.now).top ≡ [] }
     ensures tables { IfOk result (IsTabled (pure_tree tree.now)) }
     ensures refused { IfErr result (IsBindRefusal (pure_tree tree.now)) }

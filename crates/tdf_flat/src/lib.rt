@@ -3,11 +3,14 @@
 //! - `model`: the flat model.
 //! - `lines`: the lines that ask for traces, and what a tree must be to be bound.
 //! - `binding`: how a tree is made flat.
+//! - `laws`: what holds of all flat models.
 #![tactic(auto)]
 
 mod binding;
+mod laws;
 mod lines;
 mod model;
 
 pub use binding::flatten;
+pub use laws::{law_blocks, law_delays, law_one_fault, law_paths};
 pub use model::Flat;

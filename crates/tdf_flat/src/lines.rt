@@ -1,17 +1,15 @@
 //! The lines that ask for traces, and what a tree must be to be bound.
 
 ghost use Rattle.std.specs.List.{list_any};
-ghost use Rattle.std.specs.Prelude.{◌≡◌, ◌≤◌, ◌↔◌, ◌++◌, ◌∷◌, [], map, IfOk, OnOk, IsTrue, All};
-ghost use Rattle.tdf_base.specs.Limits.{greatest_delay};
-ghost use Rattle.tdf_bind.specs.Flat.{AreShort, IsShortRole};
+ghost use Rattle.std.specs.Prelude.{◌≡◌, ◌++◌, ◌∷◌, [], map, IfOk, OnOk};
 ghost use Rattle.tdf_flat.specs.Flat.{dotted, trace_line};
 ghost use Rattle.tdf_flat.specs.machine.Steps.{dotted_after, is_port};
 ghost use Rattle.tdf_tree.specs.Views.{pure_trace};
 
 use std::alloc::Global;
-use tdf_base::{GREATEST_DELAY, Memory, Name, Path};
+use tdf_base::{Memory, Name, Path};
 use tdf_tree::{Composite, Member, Trace1};
-use tdf_wiring::{PortData, Role, TraceLine};
+use tdf_wiring::TraceLine;
 
 /// One name more of a path.
 ///
@@ -86,27 +84,4 @@ pub(crate) fn has_ports(block: &Composite) -> bool
     ensures { result ≡ list_any is_port block.now.members.items }
 {
     block.members.iter().any(|member| is_port(member))
-}
-
-fn is_short_port(port: &PortData) -> bool
-    ensures { IsTrue result ↔ port.now.delay ≤ greatest_delay }
-{
-    u64::from(port.delay) <= GREATEST_DELAY
-}
-
-fn is_short(role: &Role) -> bool
-    ensures { IsTrue result ↔ IsShortRole role.now }
-{
-    match role {
-        Role::Module(data) => data.ports.iter().all(|port| is_short_port(port)),
-        Role::Processes(_) => true,
-        Role::Composite => true,
-    }
-}
-
-/// Whether the delays of all ports are within their limit.
-pub(crate) fn are_short(roles: &[Role]) -> bool
-    ensures { IsTrue result ↔ AreShort roles.now }
-{
-    roles.iter().all(|role| is_short(role))
 }

@@ -1,4 +1,4 @@
-use Rattle.std.proofs.Common.{◌≡◌, ◌∙◌, sym}
+use Rattle.std.proofs.Common.{◌∙◌, sym}
 use Rattle.tdf_flat.proofs.Linked.{line_fault}
 use Rattle.tdf_flat.proofs.binding.linked.Goals as goal
 use Rattle.tdf_tree.specs.Views.{pure_tree}

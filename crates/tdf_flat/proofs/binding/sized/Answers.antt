@@ -1,4 +1,4 @@
-use Rattle.std.proofs.Common.{◌≡◌, ◌∙◌, refl, sym, subst}
+use Rattle.std.proofs.Common.{◌∙◌, refl, sym, subst}
 use Rattle.tdf_bind.specs.declared.flat.BindErr.{BindErr}
 use Rattle.tdf_flat.proofs.binding.sized.Goals as goal
 use Rattle.tdf_flat.specs.Flat.{OfSize, IsBindRefusal}

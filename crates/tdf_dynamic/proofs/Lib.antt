@@ -1,0 +1,11 @@
+pub mod Assigned
+pub mod Delays
+pub mod Excludes
+pub mod Fine
+pub mod Firsts
+pub mod Nets
+pub mod Numbers
+pub mod Periods
+pub mod Phases
+pub mod Plannable
+pub mod Tables

@@ -1,0 +1,3 @@
+-- The lemmas that the crates above use.
+pub use Rattle.tdf_limits.proofs.Limits.{flat_is_within_limits}
+pub use Rattle.tdf_limits.proofs.OneStart.{spans_are_one, starts_are_one}

@@ -1,0 +1,10 @@
+pub mod Api
+pub mod Delays
+pub mod Limits
+pub mod OneStart
+pub mod Rates
+pub mod Roles
+pub mod Rows
+pub mod Starts
+pub mod Steps
+pub mod Things

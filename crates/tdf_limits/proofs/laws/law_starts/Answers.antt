@@ -1,0 +1,8 @@
+use Rattle.tdf_limits.proofs.OneStart.{spans_are_one, starts_are_one}
+use Rattle.tdf_limits.proofs.laws.law_starts.Goals as goal
+
+pub returns-clause-spans : goal.returns-clause-spans
+returns-clause-spans c = spans_are_one
+
+pub returns-clause-starts : goal.returns-clause-starts
+returns-clause-starts c = starts_are_one

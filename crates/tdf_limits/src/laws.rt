@@ -1,0 +1,19 @@
+//! What holds of all flat models: each function here only carries its clauses.
+
+ghost use Rattle.tdf_limits.specs.Limits.{FlatIsWithinLimits, SpansAreOne, StartsAreOne};
+
+use tdf_bind::law_ranges;
+
+/// The numbers in the flat model of a text without a fault lie within their limits.
+pub fn law_limits()
+    ensures { FlatIsWithinLimits }
+{
+    law_ranges();
+}
+
+/// Two checks of one model give its blocks the same rate variables,
+/// and the same values to start with.
+pub fn law_starts()
+    ensures spans { SpansAreOne }
+    ensures starts { StartsAreOne }
+{}

@@ -1,0 +1,3 @@
+pub mod Api
+pub mod Counts
+pub mod Texts

@@ -1,0 +1,139 @@
+-- A text has at most one first fault, and with one it is not accepted.
+use Rattle.std.proofs.Common.{◌≡◌, ◌⊎◌, ℕ, List, [], Option, Some, None, refl, sym, ap, ◌∙◌, subst, inl, inr, length}
+use Rattle.tdf_base.specs.declared.codes.Code.TheVariants as code
+use Rattle.tdf_base.specs.declared.faults.Fault.{Fault}
+use Rattle.tdf_blocks.proofs.Api.{one_tree, never_both, one_line_at_fault, text_keeps}
+use Rattle.tdf_blocks.specs.Refused.{SpellsText, HasSyntaxFault}
+use Rattle.tdf_checks.specs.Types.{type_faults}
+use Rattle.tdf_faults.specs.First.{first_of, least_with}
+use Rattle.tdf_faults.specs.declared.first.LineFault.{LineFault}
+use Rattle.tdf_dynamic.specs.Laws.{ClustersAreWhole, ClustersHaveOne, FlatIsPlannable}
+use Rattle.tdf_flat.proofs.Api.{fault_is_one, fault_or_flat}
+use Rattle.tdf_flat.specs.Flat.{IsFlatOf, IsBindFault}
+use Rattle.tdf_flat.specs.Laws.{PassesChecks}
+use Rattle.tdf_flat.specs.declared.model.Flat.{Flat}
+use Rattle.tdf_names.specs.Names.{name_faults}
+use Rattle.tdf_sim.proofs.Alike.{alike}
+use Rattle.tdf_sim.proofs.Plannable.{can_be_planned}
+use Rattle.tdf_sim.proofs.Clusters.{fault_once, fault_or_plans, firsts_alike}
+use Rattle.tdf_sim.specs.Accepted.{IsAccepted, IsAcceptedText}
+use Rattle.tdf_sim.specs.declared.sim.Sim.{Sim}
+use Rattle.tdf_sim.specs.FirstFault.{IsFirstFault, IsTreeFault, IsPlansFault, HasSoundLines, of_bytes, of_length, of_syntax, of_tree, of_names, of_types, of_binding, of_clusters, on_line, at_line}
+use Rattle.tdf_sim.specs.Laws.{FaultsAreOne, FaultOrAccepted, ModelsAreAlike}
+use Rattle.tdf_tokens.specs.Rows.{rows_of}
+use Rattle.tdf_tokens.specs.Text.{fault_of}
+use Rattle.tdf_tokens.specs.declared.text.TextFault.{TextFault}
+use Rattle.tdf_tokens.specs.declared.text.TextFault.TheVariants as bytes
+use Rattle.tdf_tree.specs.Kept.{IsKept}
+use Rattle.tdf_tree.specs.Pure.{PureTree}
+
+-- no faults have no first one
+none_first : (faults : List LineFault) (f : LineFault) → faults ≡ [] → first_of faults ≡ Some f → ⊥
+unfolding least_with
+none_first faults f none is = absurd (nothing f (subst (λ (list : List LineFault). first_of list ≡ Some f) none is))
+  where
+    nothing : (g : LineFault) → None ≡ Some g → ⊥
+    nothing g e = absurd cc
+
+same_line : (faults : List LineFault) (f g : LineFault) (one other : Fault) → first_of faults ≡ Some f → first_of faults ≡ Some g
+    → one ≡ at_line f → other ≡ at_line g → one ≡ other
+same_line faults f g one other f_is g_is one_is other_is =
+    let same : f ≡ g = cc (sym f_is ∙ g_is) in one_is ∙ ap at_line same ∙ sym other_is
+
+passes : (tree : PureTree) → IsKept tree → HasSoundLines tree → PassesChecks tree
+passes tree kept sound = record { kept = kept; names = sound.names; types = sound.types }
+
+module _ (one_cluster : ClustersHaveOne) (whole : ClustersAreWhole) (plannable : FlatIsPlannable) where
+  -- a tree has at most one first fault
+  one_in_tree : (tree : PureTree) (one other : Fault) → IsKept tree → IsTreeFault tree one → IsTreeFault tree other → one ≡ other
+  one_in_tree tree one other kept (of_names f f_is one_is) (of_names g g_is other_is) = same_line (name_faults tree) f g one other f_is g_is one_is other_is
+  one_in_tree tree one other kept (of_names f f_is one_is) (of_types g none g_is other_is) = absurd (none_first (name_faults tree) f none f_is)
+  one_in_tree tree one other kept (of_names f f_is one_is) (of_binding sound bound) = absurd (none_first (name_faults tree) f sound.names f_is)
+  one_in_tree tree one other kept (of_names f f_is one_is) (of_clusters flat sound is_flat planned) = absurd (none_first (name_faults tree) f sound.names f_is)
+  one_in_tree tree one other kept (of_types f none f_is one_is) (of_names g g_is other_is) = absurd (none_first (name_faults tree) g none g_is)
+  one_in_tree tree one other kept (of_types f none f_is one_is) (of_types g none2 g_is other_is) = same_line (type_faults tree) f g one other f_is g_is one_is other_is
+  one_in_tree tree one other kept (of_types f none f_is one_is) (of_binding sound bound) = absurd (none_first (type_faults tree) f sound.types f_is)
+  one_in_tree tree one other kept (of_types f none f_is one_is) (of_clusters flat sound is_flat planned) = absurd (none_first (type_faults tree) f sound.types f_is)
+  one_in_tree tree one other kept (of_binding sound bound) (of_names g g_is other_is) = absurd (none_first (name_faults tree) g sound.names g_is)
+  one_in_tree tree one other kept (of_binding sound bound) (of_types g none g_is other_is) = absurd (none_first (type_faults tree) g sound.types g_is)
+  one_in_tree tree one other kept (of_binding sound bound) (of_binding sound2 bound2) = fault_is_one tree one other (passes tree kept sound) bound bound2
+  one_in_tree tree one other kept (of_binding sound bound) (of_clusters flat sound2 is_flat planned) = absurd (fault_or_flat tree one flat (passes tree kept sound) bound is_flat)
+  one_in_tree tree one other kept (of_clusters flat sound is_flat planned) (of_names g g_is other_is) = absurd (none_first (name_faults tree) g sound.names g_is)
+  one_in_tree tree one other kept (of_clusters flat sound is_flat planned) (of_types g none g_is other_is) = absurd (none_first (type_faults tree) g sound.types g_is)
+  one_in_tree tree one other kept (of_clusters flat sound is_flat planned) (of_binding sound2 bound) = absurd (fault_or_flat tree other flat (passes tree kept sound) bound is_flat)
+  one_in_tree tree one other kept (of_clusters flat sound is_flat planned) (of_clusters flat2 sound2 is_flat2 planned2) =
+      fault_once one_cluster whole flat flat2 one other (can_be_planned plannable tree flat kept sound is_flat) (can_be_planned plannable tree flat2 kept sound is_flat2)
+      (alike tree flat flat2 (passes tree kept sound) is_flat is_flat2) planned planned2
+
+  -- a tree with a fault is not accepted
+  tree_or_accepted : (tree : PureTree) (fault : Fault) (sim : Sim) → IsKept tree → IsTreeFault tree fault → IsAccepted tree sim → ⊥
+  tree_or_accepted tree fault sim kept (of_names f f_is is) accepted = none_first (name_faults tree) f accepted.lines.names f_is
+  tree_or_accepted tree fault sim kept (of_types f none f_is is) accepted = none_first (type_faults tree) f accepted.lines.types f_is
+  tree_or_accepted tree fault sim kept (of_binding sound bound) accepted = fault_or_flat tree fault sim.flat (passes tree kept sound) bound accepted.is_flat
+  tree_or_accepted tree fault sim kept (of_clusters flat sound is_flat planned) accepted =
+      fault_or_plans one_cluster whole flat sim.flat fault sim.firsts.items (can_be_planned plannable tree flat kept sound is_flat) (can_be_planned plannable tree sim.flat kept sound accepted.is_flat)
+      (alike tree flat sim.flat (passes tree kept sound) is_flat accepted.is_flat) planned accepted.plans
+
+  -- two models of one tree are alike
+  pub models_alike : ModelsAreAlike
+  models_alike tree one other kept a b =
+      let same = alike tree one.flat other.flat (passes tree kept a.lines) a.is_flat b.is_flat in record {
+        tables = same.tables;
+        unit = same.unit;
+        plans = firsts_alike one_cluster whole one.flat other.flat one.firsts.items other.firsts.items (can_be_planned plannable tree other.flat kept b.lines b.is_flat) same a.plans b.plans;
+      }
+
+-- the first fault of a text that spells no tree, by the phase that finds it
+abbrev by_bytes : TextFault → Fault
+by_bytes (bytes.Byte line) = on_line code.Byte line
+by_bytes (bytes.LongLine line) = on_line code.LongLine line
+
+abbrev Found : List ℕ → Fault → Type 0
+Found text fault = ((first : TextFault) × (fault_of text ≡ Some first) × (fault ≡ by_bytes first))
+    ⊎ ((line : ℕ) × HasSyntaxFault text line × (fault ≡ on_line code.Syntax line))
+
+one_found : (text : List ℕ) (one other : Fault) → Found text one → Found text other → one ≡ other
+one_found text one other (inl s) (inl t) =
+    let is : s.0 ≡ t.0 = cc (sym s.1 ∙ t.1) in
+    s.2 ∙ ap by_bytes is ∙ sym t.2
+one_found text one other (inl s) (inr t) = let e = sym s.1 ∙ t.1.clean in absurd cc
+one_found text one other (inr s) (inl t) = let e = sym t.1 ∙ s.1.clean in absurd cc
+one_found text one other (inr s) (inr t) =
+    s.2 ∙ ap (on_line code.Syntax) (one_line_at_fault (rows_of text) _ s.0 t.0 s.1.fault t.1.fault) ∙ sym t.2
+
+-- a text with such a fault spells no tree
+not_both : (text : List ℕ) (fault : Fault) (tree : PureTree) → Found text fault → SpellsText text tree → ⊥
+not_both text fault tree (inl s) spells = let e = sym s.1 ∙ spells.clean in absurd cc
+not_both text fault tree (inr s) spells = never_both (rows_of text) tree _ s.0 spells.spelled s.1.fault
+
+same_tree : (text : List ℕ) (one other : PureTree) → SpellsText text one → SpellsText text other → other ≡ one
+same_tree text one other s t = one_tree (rows_of text) other one t.spelled s.spelled
+
+abbrev Seen : List ℕ → Fault → Type 0
+Seen text fault = Found text fault ⊎ ((tree : PureTree) × SpellsText text tree × IsTreeFault tree fault)
+
+seen : (text : List ℕ) (fault : Fault) → IsFirstFault text fault → Seen text fault
+seen text fault (of_bytes line is says) = inl (inl (bytes.Byte line, is, says))
+seen text fault (of_length line is says) = inl (inl (bytes.LongLine line, is, says))
+seen text fault (of_syntax line is says) = inl (inr (line, is, says))
+seen text fault (of_tree tree spells is) = inr (tree, spells, is)
+
+module _ (one_cluster : ClustersHaveOne) (whole : ClustersAreWhole) (plannable : FlatIsPlannable) where
+  same : (text : List ℕ) (one other : Fault) → Seen text one → Seen text other → one ≡ other
+  same text one other (inl s) (inl t) = one_found text one other s t
+  same text one other (inl s) (inr t) = absurd (not_both text one t.0 s t.1)
+  same text one other (inr s) (inl t) = absurd (not_both text other s.0 t s.1)
+  same text one other (inr s) (inr t) =
+      one_in_tree one_cluster whole plannable s.0 one other (text_keeps s.1) s.2 (subst (λ (tree : PureTree). IsTreeFault tree other) (same_tree text s.0 t.0 s.1 t.1) t.2)
+
+  pub faults_are_one : FaultsAreOne
+  faults_are_one text one other h k = same text one other (seen text one h) (seen text other k)
+
+  apart : (text : List ℕ) (fault : Fault) (sim : Sim) → Seen text fault → IsAcceptedText text sim → ⊥
+  apart text fault sim (inl s) accepted = not_both text fault accepted.tree s accepted.spelled
+  apart text fault sim (inr s) accepted =
+      tree_or_accepted one_cluster whole plannable s.0 fault sim (text_keeps s.1) s.2
+      (subst (λ (tree : PureTree). IsAccepted tree sim) (same_tree text s.0 accepted.tree s.1 accepted.spelled) accepted.accepted)
+
+  pub fault_or_accepted : FaultOrAccepted
+  fault_or_accepted text fault sim h accepted = apart text fault sim (seen text fault h) accepted

@@ -1,0 +1,6 @@
+pub mod Alike
+pub mod Clusters
+pub mod FirstFaults
+pub mod Plannable
+pub mod Printing
+pub mod Refusing

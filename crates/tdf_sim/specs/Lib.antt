@@ -1,0 +1,5 @@
+pub mod Accepted
+pub mod FirstFault
+pub mod Laws
+pub mod PlanText
+pub mod machine
