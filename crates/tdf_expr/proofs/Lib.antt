@@ -8,3 +8,4 @@ pub mod Planned
 pub mod Ported
 pub mod Pushes
 pub mod Ran
+pub mod Unwritten

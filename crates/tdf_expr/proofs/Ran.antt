@@ -4,13 +4,15 @@ use Rattle.std.specs.Prelude.{slice_get}
 use Rattle.tdf_expr.specs.Blocks.{PureBlock, blocks_of, scope_of, body_of}
 use Rattle.tdf_expr.specs.Compiled.{IsBlockOf, AreBlocksOf, IsActOf, act_of}
 use Rattle.tdf_expr.specs.Checked.{IsChecked}
-use Rattle.tdf_expr.specs.Frames.{FrameSeen, PortsSeen, IsFrameFit, ArePortsFit, limits_of_rate, sample_formats}
+use Rattle.tdf_expr.specs.Frames.{FrameSeen, PortsSeen, IsFrameFit, ArePortsFit, KeepsRead, limits_of_rate, sample_formats}
 use Rattle.tdf_expr.specs.Made.{AreMadeFor, formats_in, rates_in, spans_in, events_in}
 use Rattle.tdf_expr.specs.Plans.{written, place_of_port, port_places, cell_starts}
 use Rattle.tdf_expr.specs.Runs.{Ran, scope_in}
 use Rattle.std.proofs.lemmas.List.{length-replicate}
 use Rattle.tdf_expr.proofs.Fitting.{limits_same, cells_start, rates_start, rates_in_order, numbers_fit, zeros_fit}
 use Rattle.tdf_expr.proofs.Framed.{spans_row, spans_shapes, spans_count}
+use Rattle.tdf_expr.proofs.Unwritten.{stmts_left, ports_left}
+use Rattle.tdf_expr.specs.machine.Inputs.{KeepsInputs}
 use Rattle.tdf_meaning.proofs.Api.{keeps}
 use Rattle.tdf_meaning.specs.Places.{cell_shapes, rate_limits}
 use Rattle.tdf_expr.specs.declared.bodies.Body.{Body}
@@ -174,6 +176,16 @@ module _ (checked : Checked) (n : ℕ) (b : Block) (f : FrameSeen) (q : PortsSee
         part_same (scope_in other block) (body_of block part) (act_of b.acts part) state (is.bodies part)
         (instance_fits (scope_in other block) block b is f q formats rates spans events frame ports);
   }
+
+  pub made_left : (part : Body) → KeepsRead q (record q { state = (part_done (act_of b.acts part) state).ports })
+  made_left part =
+      let scope = scope_in model found.block in
+      let none = found.is.faultless part in
+      let same = part_same scope (body_of found.block part) (act_of b.acts part) state (found.is.bodies part) fits in
+      let places : map place_of_port q.spans ≡ port_places scope.own = ap (map place_of_port) spans ∙ found.is.spans in
+      ports_left scope.own state (part_done (act_of b.acts part) state) q.spans places
+      (subst (λ (x : State). KeepsInputs scope.own state x) (sym same)
+      (stmts_left scope [] none.body (body_of found.block part) [] state found.is.sound none.none fits (no_loops scope.own)))
 
   pub made_still : (part : Body) → AreMadeFor checked n (record f { state = (part_done (act_of b.acts part) state).frame })
       (record q { state = (part_done (act_of b.acts part) state).ports })

@@ -1,9 +1,9 @@
 -- What is held of one instance of a block (own): the values of its variables, elements and rates,
 -- and the samples of its ports with what its bodies asked for.
 use Rattle.std.specs.List.{flat_map}
-use Rattle.std.specs.Prelude.{◌≡◌, ℕ, ◌+◌, ◌≤◌, ◌^◌, Bool, true, false, if◌then◌else◌, List, []}
+use Rattle.std.specs.Prelude.{◌≡◌, ℕ, ◌+◌, ◌<◌, ◌≤◌, ◌^◌, Bool, true, false, if◌then◌else◌, List, []}
 use Rattle.std.specs.Prelude.{◌∷◌, ◌++◌, Option, ℤ, pos, length, map, replicate, take, drop}
-use Rattle.std.specs.Prelude.{None}
+use Rattle.std.specs.Prelude.{Some, None, slice_get}
 use Rattle.tdf_expr.specs.Plans.{written}
 use Rattle.tdf_expr.specs.declared.spans.PortSpan.{PortSpan}
 use Rattle.tdf_expr.specs.declared.spans.RateSpan.{RateSpan}
@@ -14,7 +14,7 @@ use Rattle.tdf_fixed.specs.declared.raw.Raw.{Raw}
 use Rattle.tdf_meaning.specs.Fits.{NumbersFit, RatesFit}
 use Rattle.tdf_meaning.specs.Places.{RateLimits}
 use Rattle.tdf_state.specs.Resets.{none_set, no_times}
-use Rattle.tdf_state.specs.State.{FrameState, PortsState}
+use Rattle.tdf_state.specs.State.{FrameState, PortsState, cell_at}
 use Rattle.tdf_tree.specs.declared.blocks.PortKind.{PortKind}
 use Rattle.tdf_tree.specs.declared.blocks.PortKind.TheVariants.{In, Out, DeIn, DeOut}
 use Rattle.tdf_tree.specs.declared.shapes.Shape.{Shape}
@@ -79,6 +79,12 @@ reset_port p nums = if is_written p.word then replicate p.count (pos 0) else tak
 abbrev pub reset_samples : List PortSpan → List ℤ → List ℤ
 reset_samples [] nums = nums
 reset_samples (p ∷ ps) nums = reset_port p nums ++ reset_samples ps (drop p.count nums)
+
+-- the samples of the ports that bodies read are the same
+pub record KeepsRead (old new : PortsSeen) : Type 0 where
+  pub same : (n k : ℕ) (p : PortSpan) → slice_get old.spans n ≡ Some p
+      → is_written p.word ≡ false → k < p.count
+      → cell_at new.state.samples (p.first + k) ≡ cell_at old.state.samples (p.first + k)
 
 -- how an activation begins: nothing is written, and nothing is asked for
 abbrev pub reset_state : List PortSpan → PortsState → PortsState

@@ -2,5 +2,6 @@
 pub mod Cells
 pub mod Fine
 pub mod Fitting
+pub mod Inputs
 pub mod Parts
 pub mod Zeroed

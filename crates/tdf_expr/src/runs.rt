@@ -2,6 +2,7 @@
 
 ghost use Rattle.std.specs.Prelude.{◌≡◌, ◌∷◌, [], slice_get};
 ghost use Rattle.tdf_expr.specs.Compiled.{act_of};
+ghost use Rattle.tdf_expr.specs.Frames.{KeepsRead};
 ghost use Rattle.tdf_expr.specs.machine.Parts.{IsSafePart, part_done};
 ghost use Rattle.tdf_expr.specs.Made.{AreMadeFor};
 ghost use Rattle.tdf_expr.specs.Runs.{Ran};
@@ -48,12 +49,13 @@ pub(crate) fn run_part(acts: &Acts, body: Body, cells: &mut Cells, signals: &mut
 }
 
 /// Runs a body of the block of a number, over an instance that was made for this block. A body that the block doesn't
-/// have changes nothing. It takes no memory and is never refused.
+/// have changes nothing, and none writes a sample of an `in` or `de_in` port. It takes no memory and is never refused.
 pub fn run_body(checked: &Checked, number: u32, body: Body, frame: &mut Frame, ports: &mut Ports)
     requires made { AreMadeFor checked.now number frame.old ports.old }
     ensures after { Ran checked.now number body (state_of frame.old.state ports.old.state)
         (state_of frame.new.state ports.new.state) }
     ensures frame { AreMadeFor checked.now number frame.new ports.new }
+    ensures inputs { KeepsRead ports.old ports.new }
 {
     let block = &checked.blocks[number as usize];
     run_part(&block.acts, body, &mut frame.cells, &mut ports.signals);

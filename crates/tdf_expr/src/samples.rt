@@ -25,7 +25,7 @@ impl Model for Ports {
 ghost use Rattle.std.specs.Prelude.{◌≡◌, ℕ, ◌<◌, ◌≤◌, ◌+◌, length, replicate, slice_get, slice_set, slice_index_or};
 ghost use Rattle.std.specs.Prelude.{Some, None, true, false, pos, IfOk};
 ghost use Rattle.tdf_expr.specs.Checked.{IsChecked};
-ghost use Rattle.tdf_expr.specs.Frames.{IsOfFormat, is_written, reset_state};
+ghost use Rattle.tdf_expr.specs.Frames.{ArePortsFit, IsOfFormat, is_written, reset_state};
 ghost use Rattle.tdf_expr.specs.machine.Zeroed.{zeroed_one, zeroed};
 ghost use Rattle.tdf_expr.specs.Made.{block_count, port_spans_of, sample_count, event_count};
 ghost use Rattle.tdf_expr.specs.declared.spans.PortSpan.{PortSpan as PortSpanOf};
@@ -96,9 +96,10 @@ impl Ports {
         Ok(Ports { spans, signals })
     }
 
-    /// How many ports there are.
+    /// How many ports there are. Each has its samples, and each sample is of its port's format.
     pub fn ports(&self) -> usize
-        ensures { result ≡ length self.now.spans }
+        ensures count { result ≡ length self.now.spans }
+        ensures fit { ArePortsFit self.now }
     {
         self.spans.len()
     }

@@ -1,10 +1,10 @@
 use Rattle.std.proofs.Common.{◌≡◌, ◌∙◌, ◌<◌, Some, length, refl, sym, ap, subst}
 use Rattle.std.proofs.lemmas.Option.{slice_get_read}
 use Rattle.std.specs.Prelude.{slice_get}
-use Rattle.tdf_expr.proofs.Ran.{made_safe, made_frame, made_ports, made_ran, made_still}
+use Rattle.tdf_expr.proofs.Ran.{made_safe, made_frame, made_ports, made_ran, made_still, made_left}
 use Rattle.tdf_expr.proofs.runs.run_body.Goals as goal
 use Rattle.tdf_expr.specs.Compiled.{act_of}
-use Rattle.tdf_expr.specs.Frames.{FrameSeen, PortsSeen, IsFrameFit, ArePortsFit}
+use Rattle.tdf_expr.specs.Frames.{FrameSeen, PortsSeen, IsFrameFit, ArePortsFit, KeepsRead}
 use Rattle.tdf_expr.specs.Made.{AreMadeFor}
 use Rattle.tdf_expr.specs.Runs.{Ran}
 use Rattle.tdf_expr.specs.machine.Parts.{part_done}
@@ -86,3 +86,18 @@ returns-clause-frame c =
     let d = part_done (act_of b.acts c.args.body) (state_of f.state q.state) in
     subst (λ (s : PortsState). AreMadeFor c.args.checked.now n (record f { state = c.run_part.new.cells }) (record q { state = s })) (sym c.run_part.ensures.ports)
     (subst (λ (s : FrameState). AreMadeFor c.args.checked.now n (record f { state = s }) (record q { state = d.ports })) (sym c.run_part.ensures.frame) still)
+
+pub returns-clause-inputs : goal.returns-clause-inputs
+returns-clause-inputs c =
+    let f : FrameSeen = record { formats = c.frame.inside.formats.items; rates = c.frame.inside.rates.items; state = c.frame.inside.cells } in
+    let q : PortsSeen = record { spans = c.ports.inside.spans.items; state = c.ports.inside.signals } in
+    let n = c.args.number in
+    let b = c.index-block.result.now in
+    let made : AreMadeFor c.args.checked.now n f q =
+    subst (λ (x : FrameSeen). AreMadeFor c.args.checked.now n x q) (sym c.frame.view_is)
+    (subst (λ (y : PortsSeen). AreMadeFor c.args.checked.now n c.args.frame.now y) (sym c.ports.view_is) c.requires.made) in
+    let held : slice_get c.args.checked.now.blocks.items n ≡ Some b =
+    slice_get_read c.args.checked.now.blocks.items (length c.args.checked.now.blocks.items) n b refl c.requires.made.block c.index-block.ensures in
+    let left = made_left c.args.checked.now n b f q made held c.frame.invariant c.ports.invariant c.args.body in
+    subst (λ (y : PortsSeen). KeepsRead y (record q { state = c.run_part.new.signals })) c.ports.view_is
+    (subst (λ (s : PortsState). KeepsRead q (record q { state = s })) (sym c.run_part.ensures.ports) left)
