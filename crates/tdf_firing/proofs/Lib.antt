@@ -1,0 +1,5 @@
+mod Begins
+mod Cells
+mod Fills
+mod Gives
+mod Moves

@@ -1,0 +1,5 @@
+pub mod Activation
+pub mod Actors
+pub mod Firing
+pub mod Wires
+pub mod machine
