@@ -3,7 +3,7 @@ use Rattle.std.proofs.Common.{◌≡◌, ◌∙◌, ◌≢◌, ℕ, zero, suc, �
 use Rattle.std.proofs.Common.{length, take, refl, sym, ap, subst, inl, inr, ◌⊎◌, arith, if◌then◌else◌, nat_eq}
 use Rattle.std.proofs.lemmas.Bool.{cases_eq, cases_lt}
 use Rattle.std.proofs.lemmas.Bool.Decides.{nat_tests}
-use Rattle.std.proofs.lemmas.List.{length-replicate, length-take}
+use Rattle.std.proofs.lemmas.List.{get_or-replicate, get_or_past, length-replicate, length-take}
 use Rattle.std.proofs.lemmas.Option.{same_Some, slice_get_within}
 use Rattle.std.specs.Prelude.{replicate, slice_get, slice_index}
 use Rattle.tdf_expr.specs.Frames.{AreConsecutive, ArePortsFit, FrameSeen, KeepsRead, PortsSeen, is_written, reset_samples, reset_state, sample_formats}
@@ -13,11 +13,11 @@ use Rattle.tdf_expr.specs.declared.spans.PortSpan.{PortSpan}
 use Rattle.tdf_firing.proofs.Cells.{read_cell, read_past, reset_at, samples_are, span_inside}
 use Rattle.tdf_firing.proofs.Moves.{left}
 use Rattle.tdf_firing.specs.Activation.{ports_before}
-use Rattle.tdf_firing.specs.Firing.{AreOfFormats, AreZerosBehind, CanFire, rate_on, read_on, samples_read, wire_of}
+use Rattle.tdf_firing.specs.Firing.{BeginReady, AreOfFormats, AreZerosBehind, CanFire, rate_on, read_on, samples_read, wire_of}
 use Rattle.tdf_firing.specs.Wires.{AreWired, WiresOf}
 use Rattle.tdf_firing.specs.declared.wires.InWire.{InWire}
 use Rattle.tdf_firing.specs.declared.wires.OutWire.{OutWire}
-use Rattle.tdf_firing.specs.machine.Filling.{AreFilledUpTo, CanFill, IsCleared, num_at}
+use Rattle.tdf_firing.specs.machine.Filling.{AreFilledUpTo, CanFill, IsCleared, count_read, list_read, num_at}
 use Rattle.tdf_firing.specs.machine.Moving.{AreApart, AreChangedUpTo, CanGive, in_edge, out_edge, taken_by}
 use Rattle.tdf_fixed.specs.declared.raw.Raw.{Raw}
 use Rattle.tdf_rings.specs.Carried.{ring_at}
@@ -88,7 +88,7 @@ module _ (wires : WiresOf) (reads writes : List ℕ) (old : PortsSeen) (rings : 
   pub can_fill : AreOfFormats wires old.spans rings → (begun : PortsSeen) → IsCleared old begun → ArePortsFit begun → (j : ℕ) (w : InWire) → slice_get wires.ins j ≡ Some w
       → CanFill w.port (slice_index reads w.edge) (ring_at rings w.edge).samples begun
   can_fill formats begun clear fit j w at = record {
-    there = subst (λ (l : List PortSpan). w.port < length l) (sym clear.spans) (wired.in_port j w at);
+    there = subst (λ (l : List PortSpan). w.port < length l) (sym clear.spans) (wired.placed.in_port j w at);
     present = can.present j w at;
     rate = λ p is. can.in_rate j w p at (back p is);
     inside = λ p is. let fits = span_inside 0 begun.spans w.port p fit.placed is in omega (arith, fits, fit.samples.long);
@@ -102,13 +102,13 @@ module _ (wires : WiresOf) (reads writes : List ℕ) (old : PortsSeen) (rings : 
   pub can_give : (mid : List RingOf) → AreChangedUpTo in_edge (taken_by reads) wires.ins (length wires.ins) rings mid → (ports : PortsSeen) → ports.spans ≡ old.spans
       → (j : ℕ) (w : OutWire) → slice_get wires.outs j ≡ Some w → CanGive w.port (slice_index writes w.edge) ports (ring_at mid w.edge)
   can_give mid took ports same j w at = record {
-    there = subst (λ (l : List PortSpan). w.port < length l) (sym same) (wired.out_port j w at);
+    there = subst (λ (l : List PortSpan). w.port < length l) (sym same) (wired.placed.out_port j w at);
     rate = λ p is. can.out_rate j w p at (ap (λ (l : List PortSpan). slice_get l w.port) (sym same) ∙ is);
     room = subst (λ (r : RingOf). length r.samples + slice_index writes w.edge ≤ r.capacity) (sym (left wires reads writes ports rings mid mid took w.edge)) (can.room j w at);
   }
 
   module _ (begun full : PortsSeen) (clear : IsCleared old begun) (fit : ArePortsFit begun) (zeros : AreZerosBehind wires reads old)
-      (filled : AreFilledUpTo wires.ins reads rings (length wires.ins) begun full) where
+      (filled : AreFilledUpTo wires.ins (count_read reads) (list_read rings) (length wires.ins) begun full) where
     begun_span : (n : ℕ) (p : PortSpan) → slice_get old.spans n ≡ Some p → slice_get begun.spans n ≡ Some p
     begun_span n p at = ap (λ (l : List PortSpan). slice_get l n) clear.spans ∙ at
 
@@ -148,7 +148,7 @@ module _ (wires : WiresOf) (reads writes : List ℕ) (old : PortsSeen) (rings : 
               where
                 only : (i : ℕ) (v : InWire) → slice_get wires.ins i ≡ Some v → v.port ≡ n → slice_index reads v.edge ≤ k
                 only i v there same =
-                    let one : j ≡ i = wired.in_port_once j i w v here there (port ∙ sym same) in
+                    let one : j ≡ i = wired.placed.in_port_once j i w v here there (port ∙ sym same) in
                     let wire : w ≡ v = same_Some w v (sym here ∙ ap (slice_get wires.ins) one ∙ there) in
                     subst (λ (u : InWire). slice_index reads u.edge ≤ k) wire past
 
@@ -206,3 +206,13 @@ module _ (wires : WiresOf) (reads writes : List ℕ) (old : PortsSeen) (rings : 
         none (Some w) k past =
             read_past (take (slice_index reads w.edge) (ring_at rings w.edge).samples) k
             (omega (arith, length-take (slice_index reads w.edge) (ring_at rings w.edge).samples, past))
+
+-- samples that are all 0
+pub begin_ready : BeginReady
+begin_ready wires reads ports count is = record {
+  zero = λ n k p at unwritten past below. ap (λ l. cell_at l (p.first + k)) is ∙ choose (p.first + k) (cases_lt (p.first + k) count);
+}
+  where
+    choose : (i : ℕ) → (i < count) ⊎ (count ≤ i) → cell_at (replicate count (pos 0)) i ≡ pos 0
+    choose i (inl below) = get_or-replicate count i (pos 0) (pos 0) below
+    choose i (inr past) = get_or_past (replicate count (pos 0)) i (pos 0) (omega (arith, past, length-replicate count (pos 0)))

@@ -6,16 +6,15 @@ use Rattle.std.proofs.lemmas.List.{get_or-set_same, get_or-set_other, length-set
 use Rattle.std.proofs.lemmas.Option.{same_Some, slice_get-map, slice_get_within, get_or_from_slice_get}
 use Rattle.std.specs.List.{All}
 use Rattle.std.specs.Option.{option_map}
-use Rattle.std.specs.Prelude.{map, slice_get, slice_index, slice_set}
+use Rattle.std.specs.Prelude.{map, slice_get, slice_set}
 use Rattle.tdf_expr.specs.Frames.{AreConsecutive, PortsSeen}
 use Rattle.tdf_expr.specs.declared.spans.PortSpan.{PortSpan}
 use Rattle.tdf_firing.proofs.Cells.{has_at, spans_apart}
 use Rattle.tdf_firing.specs.Activation.{num_of}
 use Rattle.tdf_firing.specs.declared.wires.InWire.{InWire}
-use Rattle.tdf_firing.specs.machine.Filling.{AreFilledUpTo, CanFill, IsFilled, num_at, with_samples}
+use Rattle.tdf_firing.specs.Firing.{with_samples}
+use Rattle.tdf_firing.specs.machine.Filling.{AreFilledUpTo, CanFill, IsFilled, num_at}
 use Rattle.tdf_fixed.specs.declared.raw.Raw.{Raw}
-use Rattle.tdf_rings.specs.Carried.{ring_at}
-use Rattle.tdf_rings.specs.Rings.{RingOf}
 use Rattle.tdf_state.specs.State.{cell_at}
 
 -- ports with other samples have the same spans
@@ -99,14 +98,14 @@ can_still port n list list2 samples old cur same is long can =
     }))
 
 -- one wire more
-module _ (ins : List InWire) (reads : List ℕ) (rings : List RingOf) (n : ℕ) (w : InWire) (old cur new : PortsSeen) (placed : AreConsecutive 0 old.spans)
+module _ (ins : List InWire) (count : InWire → ℕ) (list : InWire → List Raw) (n : ℕ) (w : InWire) (old cur new : PortsSeen) (placed : AreConsecutive 0 old.spans)
     (once : (i j : ℕ) (v w : InWire) → slice_get ins i ≡ Some v → slice_get ins j ≡ Some w → v.port ≡ w.port → i ≡ j)
-    (all_can : (j : ℕ) (v : InWire) → slice_get ins j ≡ Some v → CanFill v.port (slice_index reads v.edge) (ring_at rings v.edge).samples old) (at : slice_get ins n ≡ Some w)
-    (before : AreFilledUpTo ins reads rings n old cur) (step : IsFilled w.port (slice_index reads w.edge) (ring_at rings w.edge).samples cur new) where
+    (all_can : (j : ℕ) (v : InWire) → slice_get ins j ≡ Some v → CanFill v.port (count v) (list v) old) (at : slice_get ins n ≡ Some w)
+    (before : AreFilledUpTo ins count list n old cur) (step : IsFilled w.port (count w) (list w) cur new) where
   abbrev rate : ℕ
-  rate = slice_index reads w.edge
+  rate = count w
 
-  can : CanFill w.port (slice_index reads w.edge) (ring_at rings w.edge).samples old
+  can : CanFill w.port (count w) (list w) old
   can = all_can n w at
 
   cur_span : (m : ℕ) (p : PortSpan) → slice_get old.spans m ≡ Some p → slice_get cur.spans m ≡ Some p
@@ -126,7 +125,7 @@ module _ (ins : List InWire) (reads : List ℕ) (rings : List RingOf) (n : ℕ) 
           let far = spans_apart 0 old.spans m w.port p q placed is here (omega (arith, high, apart)) in
           step.others q (p.first + k) (cur_span w.port q here) (inl (omega (arith, far, below)))
 
-  pub wires_more : AreFilledUpTo ins reads rings (n + 1) old new
+  pub wires_more : AreFilledUpTo ins count list (n + 1) old new
   wires_more = record {
     rest = step.rest ∙ ap (with_samples new.state.samples) before.rest;
     long = step.long ∙ before.long;
@@ -134,20 +133,20 @@ module _ (ins : List InWire) (reads : List ℕ) (rings : List RingOf) (n : ℕ) 
     others = λ m k p is below none. others m k p is below none (cases_eq w.port m);
   }
     where
-      filled : (j k : ℕ) (v : InWire) (p : PortSpan) → j < n + 1 → slice_get ins j ≡ Some v → slice_get old.spans v.port ≡ Some p → k < slice_index reads v.edge
-          → (j ≡ n) ⊎ (j ≢ n) → cell_at new.state.samples (p.first + k) ≡ num_at (ring_at rings v.edge).samples k
+      filled : (j k : ℕ) (v : InWire) (p : PortSpan) → j < n + 1 → slice_get ins j ≡ Some v → slice_get old.spans v.port ≡ Some p → k < count v
+          → (j ≡ n) ⊎ (j ≢ n) → cell_at new.state.samples (p.first + k) ≡ num_at (list v) k
       filled j k v p below here is small (inl now) =
           let same : w ≡ v = same_Some w v (sym at ∙ ap (slice_get ins) (sym now) ∙ here) in
           let mine : slice_get old.spans w.port ≡ Some p = subst (λ (u : InWire). slice_get old.spans u.port ≡ Some p) (sym same) is in
-          let few : k < rate = subst (λ (u : InWire). k < slice_index reads u.edge) (sym same) small in
-          step.here p k (cur_span w.port p mine) few ∙ ap (λ (u : InWire). num_at (ring_at rings u.edge).samples k) same
+          let few : k < rate = subst (λ (u : InWire). k < count u) (sym same) small in
+          step.here p k (cur_span w.port p mine) few ∙ ap (λ (u : InWire). num_at (list u) k) same
       filled j k v p below here is small (inr apart) =
           let few = (all_can j v here).rate p is in
           untouched v.port k p is (omega (arith, small, few)) (λ same. apart (sym (once n j w v at here same)))
           ∙ before.filled j k v p (omega (arith, below, apart)) here is small
 
       others : (m k : ℕ) (p : PortSpan) → slice_get old.spans m ≡ Some p → k < p.count
-          → ((j : ℕ) (v : InWire) → j < n + 1 → slice_get ins j ≡ Some v → v.port ≡ m → slice_index reads v.edge ≤ k)
+          → ((j : ℕ) (v : InWire) → j < n + 1 → slice_get ins j ≡ Some v → v.port ≡ m → count v ≤ k)
           → (w.port ≡ m) ⊎ (w.port ≢ m) → cell_at new.state.samples (p.first + k) ≡ cell_at old.state.samples (p.first + k)
       others m k p is below none (inl same) =
           let past = none n w (omega arith) at same in

@@ -1,5 +1,7 @@
-mod Begins
+pub mod Api
+pub mod Begins
 mod Cells
+mod Clears
 mod Fills
 mod Gives
-mod Moves
+pub mod Moves

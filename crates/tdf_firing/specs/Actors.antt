@@ -1,5 +1,5 @@
--- One firing of a sampler and of a sink (own): a sampler puts one value on each of its edges, a sink
--- takes one sample from its edge.
+-- One firing of a sampler and of a sink (own): a sampler puts one value on each of its edges, a
+-- sink takes one sample from its edge.
 use Rattle.std.specs.List.{list_any}
 use Rattle.std.specs.Prelude.{◌≡◌, ℕ, ◌<◌, if◌then◌else◌, nat_eq, List, [], ◌∷◌, ◌++◌, length}
 use Rattle.std.specs.Prelude.{drop, Some, slice_get}
@@ -10,7 +10,8 @@ use Rattle.tdf_rings.specs.Rings.{RingOf, ring_of}
 -- each edge is one of the rings, none is named twice, and each has room for a sample
 pub record CanPutOne (edges : List ℕ) (rings : List RingOf) : Type 0 where
   pub inside : (j e : ℕ) → slice_get edges j ≡ Some e → e < length rings
-  pub once : (i j d e : ℕ) → slice_get edges i ≡ Some d → slice_get edges j ≡ Some e → d ≡ e → i ≡ j
+  pub once : (i j d e : ℕ) → slice_get edges i ≡ Some d → slice_get edges j ≡ Some e → d ≡ e
+      → i ≡ j
   pub room : (j e : ℕ) → slice_get edges j ≡ Some e
       → length (ring_at rings e).samples < (ring_at rings e).capacity
 

@@ -2,8 +2,8 @@
 -- processing body runs, and it puts the samples that it writes on rings.
 use Rattle.std.specs.List.{All, list_any, range_with_len}
 use Rattle.std.specs.Prelude.{◌≡◌, ℕ, ◌+◌, ◌<◌, ◌≤◌, Bool, false, if◌then◌else◌, nat_eq}
-use Rattle.std.specs.Prelude.{List, [], ◌∷◌, ◌++◌, length, map, take, drop, slice_get, slice_index}
-use Rattle.std.specs.Prelude.{Option, Some, None, pos}
+use Rattle.std.specs.Prelude.{List, [], ◌∷◌, ◌++◌, length, map, replicate, take, drop, slice_get}
+use Rattle.std.specs.Prelude.{slice_index, Option, Some, None, ℤ, pos}
 use Rattle.tdf_expr.specs.Frames.{FrameSeen, IsOfFormat, PortsSeen, is_written}
 use Rattle.tdf_expr.specs.Made.{event_count}
 use Rattle.tdf_expr.specs.Runs.{Ran}
@@ -18,6 +18,10 @@ use Rattle.tdf_fixed.specs.declared.raw.Raw.{Raw}
 use Rattle.tdf_rings.specs.Carried.{ring_at}
 use Rattle.tdf_rings.specs.Rings.{RingOf, ring_of}
 use Rattle.tdf_state.specs.State.{cell_at, state_of}
+
+-- ports with other samples
+abbrev pub with_samples : List ℤ → PortsSeen → PortsSeen
+with_samples samples ports = record ports { state = record ports.state { samples = samples } }
 
 -- the wire of a port
 abbrev pub wire_of : List InWire → (port : ℕ) → Option InWire
@@ -102,6 +106,17 @@ pub record AreZerosBehind (wires : WiresOf) (reads : List ℕ) (ports : PortsSee
   pub zero : (n k : ℕ) (p : PortSpan) → slice_get ports.spans n ≡ Some p
       → is_written p.word ≡ false → rate_on reads (wire_of wires.ins n) ≤ k → k < p.count
       → cell_at ports.state.samples (p.first + k) ≡ pos 0
+
+-- nothing but samples has changed, and whatever rates were in force before, the next may be any
+pub record AreReadyFor (wires : WiresOf) (old new : PortsSeen) : Type 0 where
+  pub rest : new ≡ with_samples new.state.samples old
+  pub zeros : (reads next : List ℕ) → AreZerosBehind wires reads old
+      → AreZerosBehind wires next new
+
+-- ports whose samples are all 0 have zeros behind what they read, at all rates
+abbrev pub BeginReady : Type 0
+BeginReady = (wires : WiresOf) (reads : List ℕ) (ports : PortsSeen) (count : ℕ)
+    → ports.state.samples ≡ replicate count (pos 0) → AreZerosBehind wires reads ports
 
 -- each sample of each port is of the port's format
 pub record HoldFormats (ports : PortsSeen) : Type 0 where

@@ -31,10 +31,12 @@ pub fn fire_module(
     requires made { AreMadeFor checked.now number frame.old ports.old }
     requires wired { AreWired wires.now ports.old.spans (length rings.old.items) }
     requires rates { AreRates reads.now.items writes.now.items (length rings.old.items) }
-    requires can { CanFire wires.now reads.now.items writes.now.items ports.old.spans rings.old.items }
+    requires can { CanFire wires.now reads.now.items writes.now.items ports.old.spans
+        rings.old.items }
     requires formats { AreOfFormats wires.now ports.old.spans rings.old.items }
     requires zeros { AreZerosBehind wires.now reads.now.items ports.old }
-    ensures acted { HasActed checked.now number (samples_read wires.now reads.now.items rings.old.items)
+    ensures acted { HasActed checked.now number
+        (samples_read wires.now reads.now.items rings.old.items)
         frame.old ports.old frame.new ports.new }
     ensures moved { AreMoved wires.now reads.now.items writes.now.items ports.new
         rings.old.items rings.new.items }

@@ -52,8 +52,10 @@ pub(crate) fn put_outputs(outs: &[OutWire], writes: &Vec<u32>, rings: &mut Vec<R
 /// An edge gets one sample.
 fn put_one(value: Raw, edge: u32, rings: &mut Vec<Ring>)
     requires edge { edge < length rings.old.items }
-    requires room { length (ring_at rings.old.items edge).samples < (ring_at rings.old.items edge).capacity }
-    ensures { rings.new.items ≡ slice_set rings.old.items edge (with_more (value ∷ []) (ring_at rings.old.items edge)) }
+    requires room { length (ring_at rings.old.items edge).samples
+        < (ring_at rings.old.items edge).capacity }
+    ensures { rings.new.items ≡ slice_set rings.old.items edge
+        (with_more (value ∷ []) (ring_at rings.old.items edge)) }
 {
     rings[edge as usize].put(value);
 }
@@ -61,8 +63,8 @@ fn put_one(value: Raw, edge: u32, rings: &mut Vec<Ring>)
 /// Each edge gets one sample.
 pub(crate) fn put_on_all(value: Raw, edges: &Vec<u32>, rings: &mut Vec<Ring>)
     requires can { CanPutOne edges.now.items rings.old.items }
-    ensures { AreChangedUpTo (λ (e : ℕ). e) (λ (e : ℕ). with_more (value ∷ [])) edges.now.items (length edges.now.items)
-        rings.old.items rings.new.items }
+    ensures { AreChangedUpTo (λ (e : ℕ). e) (λ (e : ℕ). with_more (value ∷ [])) edges.now.items
+        (length edges.now.items) rings.old.items rings.new.items }
 {
     for i in 0..edges.len() {
         put_one(value, edges[i], rings);

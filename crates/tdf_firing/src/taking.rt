@@ -3,7 +3,7 @@
 ghost use Rattle.std.specs.Prelude.{◌≡◌, ℕ, ◌<◌, length, Some, slice_get, slice_index, slice_set};
 ghost use Rattle.tdf_expr.specs.Frames.{ArePortsFit};
 ghost use Rattle.tdf_firing.specs.declared.wires.InWire.{InWire as InWireOf};
-ghost use Rattle.tdf_firing.specs.machine.Filling.{AreFilledUpTo, CanFill, IsCleared, IsFilled};
+ghost use Rattle.tdf_firing.specs.machine.Filling.{AreFilledUpTo, CanFill, IsCleared, IsFilled, count_read, list_read};
 ghost use Rattle.tdf_firing.specs.machine.Moving.{AreApart, AreChangedUpTo, in_edge, taken_by, without};
 ghost use Rattle.tdf_rings.specs.Carried.{ring_at};
 
@@ -69,9 +69,12 @@ pub(crate) fn take_inputs(
     requires once { (i j : ℕ) (v w : InWireOf) → slice_get ins.now i ≡ Some v
         → slice_get ins.now j ≡ Some w → v.port ≡ w.port → i ≡ j }
     requires can { (j : ℕ) (w : InWireOf) → slice_get ins.now j ≡ Some w
-        → CanFill w.port (slice_index reads.now.items w.edge) (ring_at rings.old.items w.edge).samples ports.old }
-    ensures filled { AreFilledUpTo ins.now reads.now.items rings.old.items (length ins.now) ports.old ports.new }
-    ensures taken { AreChangedUpTo in_edge (taken_by reads.now.items) ins.now (length ins.now) rings.old.items rings.new.items }
+        → CanFill w.port (slice_index reads.now.items w.edge) (ring_at rings.old.items w.edge).samples
+        ports.old }
+    ensures filled { AreFilledUpTo ins.now (count_read reads.now.items) (list_read rings.old.items)
+        (length ins.now) ports.old ports.new }
+    ensures taken { AreChangedUpTo in_edge (taken_by reads.now.items) ins.now (length ins.now)
+        rings.old.items rings.new.items }
 {
     for i in 0..ins.len() {
         take_input(ins[i], reads, rings, ports);

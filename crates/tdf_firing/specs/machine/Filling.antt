@@ -1,18 +1,17 @@
 -- How the ports of a module are filled (own): wire by wire, and sample by sample.
 use Rattle.std.specs.List.{All}
 use Rattle.std.specs.Prelude.{◌≡◌, ℕ, ◌+◌, ◌<◌, ◌≤◌, ◌⊎◌, false, if◌then◌else◌, List, length, map}
-use Rattle.std.specs.Prelude.{replicate, Some, None, ℤ, pos, slice_get, slice_index}
+use Rattle.std.specs.Prelude.{[], replicate, Option, Some, None, ℤ, pos, slice_get, slice_index}
 use Rattle.tdf_expr.specs.Frames.{IsOfFormat, PortsSeen, is_written}
 use Rattle.tdf_expr.specs.declared.spans.PortSpan.{PortSpan}
 use Rattle.tdf_firing.specs.Activation.{num_of}
+use Rattle.tdf_firing.specs.Firing.{with_samples}
 use Rattle.tdf_firing.specs.declared.wires.InWire.{InWire}
+use Rattle.tdf_fixed.specs.Cast.{fraction_of}
 use Rattle.tdf_fixed.specs.declared.raw.Raw.{Raw}
 use Rattle.tdf_rings.specs.Carried.{ring_at}
 use Rattle.tdf_rings.specs.Rings.{RingOf}
 use Rattle.tdf_state.specs.State.{cell_at}
-
-abbrev pub with_samples : List ℤ → PortsSeen → PortsSeen
-with_samples samples ports = record ports { state = record ports.state { samples = samples } }
 
 -- the number of sample k, 0 where there is none
 abbrev pub num_at : List Raw → ℕ → ℤ
@@ -40,7 +39,8 @@ pub record CanFill (port n : ℕ) (list : List Raw) (ports : PortsSeen) : Type 0
   pub rate : (p : PortSpan) → slice_get ports.spans port ≡ Some p → n ≤ p.count
   pub inside : (p : PortSpan) → slice_get ports.spans port ≡ Some p
       → p.first + p.count ≤ length ports.state.samples
-  pub formats : (p : PortSpan) → slice_get ports.spans port ≡ Some p → All (IsOfFormat p.format) list
+  pub formats : (p : PortSpan) → slice_get ports.spans port ≡ Some p
+      → All (IsOfFormat p.format) list
 
 -- a port has the first n of these samples; all others are as they were
 pub record IsFilled (port n : ℕ) (list : List Raw) (old new : PortsSeen) : Type 0 where
@@ -52,15 +52,40 @@ pub record IsFilled (port n : ℕ) (list : List Raw) (old new : PortsSeen) : Typ
       → (i < p.first) ⊎ (p.first + n ≤ i)
       → cell_at new.state.samples i ≡ cell_at old.state.samples i
 
--- the ports of the wires before place n have their samples; all others are as they were
-pub record AreFilledUpTo (ins : List InWire) (reads : List ℕ) (rings : List RingOf) (n : ℕ)
-    (old new : PortsSeen) : Type 0 where
+-- how many samples the port of a wire gets, and from where
+abbrev pub count_read : List ℕ → InWire → ℕ
+count_read reads w = slice_index reads w.edge
+
+abbrev pub list_read : List RingOf → InWire → List Raw
+list_read rings w = (ring_at rings w.edge).samples
+
+-- a zero for each sample of a port
+abbrev pub zeros : PortSpan → List Raw
+zeros p = replicate p.count (record { num = pos 0; frac = fraction_of p.format })
+
+abbrev pub count_in : Option PortSpan → ℕ
+count_in None = 0
+count_in (Some p) = p.count
+
+abbrev pub zeros_in : Option PortSpan → List Raw
+zeros_in None = []
+zeros_in (Some p) = zeros p
+
+abbrev pub count_all : List PortSpan → InWire → ℕ
+count_all spans w = count_in (slice_get spans w.port)
+
+abbrev pub list_zero : List PortSpan → InWire → List Raw
+list_zero spans w = zeros_in (slice_get spans w.port)
+
+-- the ports of the wires before place n have the first samples of their lists; all others are as
+-- they were
+pub record AreFilledUpTo (ins : List InWire) (count : InWire → ℕ) (list : InWire → List Raw)
+    (n : ℕ) (old new : PortsSeen) : Type 0 where
   pub rest : new ≡ with_samples new.state.samples old
   pub long : length new.state.samples ≡ length old.state.samples
   pub filled : (j k : ℕ) (w : InWire) (p : PortSpan) → j < n → slice_get ins j ≡ Some w
-      → slice_get old.spans w.port ≡ Some p → k < slice_index reads w.edge
-      → cell_at new.state.samples (p.first + k) ≡ num_at (ring_at rings w.edge).samples k
+      → slice_get old.spans w.port ≡ Some p → k < count w
+      → cell_at new.state.samples (p.first + k) ≡ num_at (list w) k
   pub others : (m k : ℕ) (p : PortSpan) → slice_get old.spans m ≡ Some p → k < p.count
-      → ((j : ℕ) (w : InWire) → j < n → slice_get ins j ≡ Some w → w.port ≡ m
-      → slice_index reads w.edge ≤ k)
+      → ((j : ℕ) (w : InWire) → j < n → slice_get ins j ≡ Some w → w.port ≡ m → count w ≤ k)
       → cell_at new.state.samples (p.first + k) ≡ cell_at old.state.samples (p.first + k)

@@ -43,7 +43,8 @@ abbrev pub taken_by : List ℕ → InWire → RingOf → RingOf
 taken_by reads w ring = without (slice_index reads w.edge) ring
 
 abbrev pub put_by : List ℕ → PortsSeen → OutWire → RingOf → RingOf
-put_by writes ports w ring = with_more (front_of ports (Some w.port) (slice_index writes w.edge)) ring
+put_by writes ports w ring =
+    with_more (front_of ports (Some w.port) (slice_index writes w.edge)) ring
 
 -- a port has this many samples, and a ring has room for them
 pub record CanGive (port n : ℕ) (ports : PortsSeen) (ring : RingOf) : Type 0 where

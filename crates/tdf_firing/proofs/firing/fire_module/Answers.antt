@@ -7,7 +7,7 @@ use Rattle.tdf_firing.proofs.Cells.{hold_formats}
 use Rattle.tdf_firing.proofs.Moves.{all_moved}
 use Rattle.tdf_firing.specs.declared.wires.InWire.{InWire}
 use Rattle.tdf_firing.specs.declared.wires.OutWire.{OutWire}
-use Rattle.tdf_firing.specs.machine.Filling.{AreFilledUpTo}
+use Rattle.tdf_firing.specs.machine.Filling.{AreFilledUpTo, count_read, list_read}
 use Rattle.tdf_firing.specs.machine.Moving.{AreChangedUpTo, in_edge, out_edge, put_by, taken_by}
 use Rattle.tdf_state.specs.State.{PortsState, state_of}
 use Rattle.tdf_firing.proofs.firing.fire_module.Goals as goal
@@ -28,8 +28,8 @@ put_outputs-requires-clause-can c = λ j w at.
 
 pub returns-clause-acted : goal.returns-clause-acted
 returns-clause-acted c =
-    let filled : AreFilledUpTo c.args.wires.now.ins c.args.reads.now.items c.args.rings.now.items (length c.args.wires.now.ins) c.clear.new.ports c.take_inputs.new.ports =
-    subst (λ (l : List InWire). AreFilledUpTo l c.args.reads.now.items c.args.rings.now.items (length l) c.clear.new.ports c.take_inputs.new.ports) c.ins.ensures
+    let filled : AreFilledUpTo c.args.wires.now.ins (count_read c.args.reads.now.items) (list_read c.args.rings.now.items) (length c.args.wires.now.ins) c.clear.new.ports c.take_inputs.new.ports =
+    subst (λ (l : List InWire). AreFilledUpTo l (count_read c.args.reads.now.items) (list_read c.args.rings.now.items) (length l) c.clear.new.ports c.take_inputs.new.ports) c.ins.ensures
     c.take_inputs.ensures.filled in
     subst (λ (s : PortsState). Ran c.args.checked.now c.args.number Processing (state_of c.args.frame.now.state s) (state_of c.run_body.new.frame.state c.run_body.new.ports.state))
     (full_state c.args.wires.now c.args.reads.now.items c.args.writes.now.items c.args.ports.now c.args.rings.now.items c.requires.wired c.requires.can
@@ -47,8 +47,8 @@ returns-clause-moved c =
 
 pub returns-clause-zeros : goal.returns-clause-zeros
 returns-clause-zeros c =
-    let filled : AreFilledUpTo c.args.wires.now.ins c.args.reads.now.items c.args.rings.now.items (length c.args.wires.now.ins) c.clear.new.ports c.take_inputs.new.ports =
-    subst (λ (l : List InWire). AreFilledUpTo l c.args.reads.now.items c.args.rings.now.items (length l) c.clear.new.ports c.take_inputs.new.ports) c.ins.ensures
+    let filled : AreFilledUpTo c.args.wires.now.ins (count_read c.args.reads.now.items) (list_read c.args.rings.now.items) (length c.args.wires.now.ins) c.clear.new.ports c.take_inputs.new.ports =
+    subst (λ (l : List InWire). AreFilledUpTo l (count_read c.args.reads.now.items) (list_read c.args.rings.now.items) (length l) c.clear.new.ports c.take_inputs.new.ports) c.ins.ensures
     c.take_inputs.ensures.filled in
     zeros_after c.args.wires.now c.args.reads.now.items c.args.writes.now.items c.args.ports.now c.args.rings.now.items c.requires.wired c.requires.can
     c.clear.new.ports c.take_inputs.new.ports c.clear.ensures.cleared c.clear.ensures.fit c.requires.zeros filled c.run_body.new.ports

@@ -4,7 +4,7 @@ use Rattle.std.specs.Prelude.{slice_get, slice_index, slice_index_or}
 use Rattle.tdf_firing.proofs.Fills.{can_still, wires_more}
 use Rattle.tdf_firing.proofs.Moves.{one_changed, still}
 use Rattle.tdf_firing.specs.declared.wires.InWire.{InWire}
-use Rattle.tdf_firing.specs.machine.Filling.{IsFilled}
+use Rattle.tdf_firing.specs.machine.Filling.{IsFilled, count_read, list_read}
 use Rattle.tdf_firing.specs.machine.Moving.{in_edge, taken_by}
 use Rattle.tdf_rings.specs.Carried.{ring_at}
 use Rattle.tdf_rings.specs.Rings.{RingOf}
@@ -25,7 +25,7 @@ loop-i-preserved c =
     let at : slice_get c.args.ins.now c.loop-i.i ≡ Some w = slice_get-get_or c.args.ins.now c.loop-i.i (record { edge = 0; port = 0 }) (search rules) in
     let same = still in_edge (taken_by c.args.reads.now.items) c.args.ins.now c.loop-i.i w c.args.rings.now.items c.loop-i.rings.items c.requires.edges c.loop-i.invariant.taken at in
     record {
-      filled = wires_more c.args.ins.now c.args.reads.now.items c.args.rings.now.items c.loop-i.i w c.args.ports.now c.loop-i.ports c.take_input.new.ports
+      filled = wires_more c.args.ins.now (count_read c.args.reads.now.items) (list_read c.args.rings.now.items) c.loop-i.i w c.args.ports.now c.loop-i.ports c.take_input.new.ports
           c.requires.fit.placed c.requires.once c.requires.can at c.loop-i.invariant.filled
           (subst (λ (r : RingOf). IsFilled w.port (slice_index c.args.reads.now.items w.edge) r.samples c.loop-i.ports c.take_input.new.ports) same c.take_input.ensures.filled);
       taken = one_changed in_edge (taken_by c.args.reads.now.items) c.args.ins.now c.loop-i.i w c.args.rings.now.items c.loop-i.rings.items
