@@ -82,7 +82,7 @@ module _ {S V I : Type 0} (net : Net S V I) where
           ((stands.lists k (omega (arith, high))).items j x there)),
     ) (ap Some (sym same))
 
-    fired_turn : more m now ≡ Some t
+    pub fired_turn : known net (run_of old p reads) (suc f) m (sum_by (count m) old + slice_index y.turns m) ≡ Some t
     fired_turn = elim next [ given x is at same ↦ given_turn x is at same | processed s plain at same ↦ processed_turn s plain at same ]
 
     new_m : (n : ℕ) → n < sum_by (count m) old + slice_index z.turns m → (v : Turn S V) × (more m n ≡ Some v)
