@@ -16,6 +16,7 @@ use Rattle.tdf_bind.specs.Flat.{FlatOf}
 use Rattle.tdf_dynamic.specs.Assignments.{port_at, assign_at, assigned_by, assignments}
 use Rattle.tdf_dynamic.specs.Attributes.{AttrsOf, clusters_of, number_if, ports_of, IsOfCluster}
 use Rattle.tdf_dynamic.specs.Rates.{rated_port, net_ports}
+use Rattle.tdf_graph.specs.Counts.{AreCounts}
 use Rattle.tdf_graph.specs.declared.actors.Edge.{Edge}
 use Rattle.tdf_graph.specs.declared.actors.Port.{Port}
 use Rattle.tdf_schedule.specs.Plan.{IsPaced}
@@ -56,14 +57,14 @@ both : {X : Type 0} (P : X → Type 0) (xs ys : List X) → AllByRecursion P xs 
 both P [] ys h k = k
 both P (x ∷ xs) ys h k = (h.0, both P xs ys h.1 k)
 
-module _ (tables : FlatOf) (cluster : ℕ) (table : List AttrsOf) (edges : List Edge) (counts : List ℕ) (has : HasCounts edges (clusters_of tables) cluster counts)
+module _ (tables : FlatOf) (cluster : ℕ) (table : List AttrsOf) (edges : List Edge) (counts : List ℕ) (has : AreCounts edges (clusters_of tables) cluster counts)
     (few : length tables.modules ≤ length tables.actors) where
   abbrev IsGiven : Assign → Type 0
   IsGiven = IsAssigned (map (rated_port table) tables.ports) counts
 
   module _ (attrs : AttrsOf) (of : IsOfCluster tables cluster attrs) where
     fires : 0 < get_or counts attrs.number 0
-    fires = has.counts_are.positive attrs.number
+    fires = has.positive attrs.number
         (let m = of.is_module in let e = length-map tables.actors cluster_of in omega (arith, m, few, e)) of.inside
 
     own_port : (place : ℕ) → IsPortOf (map (rated_port table) tables.ports) attrs.number (port_at attrs.ports place)
@@ -87,7 +88,7 @@ module _ (tables : FlatOf) (cluster : ℕ) (table : List AttrsOf) (edges : List 
   assigned_all (attrs ∷ list) are = both IsGiven (assigned_by attrs) (flat_map assigned_by list)
       (assigned_from attrs are.0 0 attrs.steps (recursion_from_All (λ s. s < time_end) attrs.steps are.0.short)) (assigned_all list are.1)
 
-pub assigned_fit : (tables : FlatOf) (cluster : ℕ) (table : List AttrsOf) (edges : List Edge) (counts : List ℕ) → HasCounts edges (clusters_of tables) cluster counts
+pub assigned_fit : (tables : FlatOf) (cluster : ℕ) (table : List AttrsOf) (edges : List Edge) (counts : List ℕ) → AreCounts edges (clusters_of tables) cluster counts
     → length tables.modules ≤ length tables.actors → All (IsOfCluster tables cluster) table → All (IsAssigned (net_ports tables table) counts) (assignments table)
 unfolding net_ports assignments
 assigned_fit tables cluster table edges counts has few are = All-from_recursion (IsAssigned (map (rated_port table) tables.ports) counts) (flat_map assigned_by table)

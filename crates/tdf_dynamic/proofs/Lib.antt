@@ -1,3 +1,4 @@
+pub mod Api
 pub mod Assigned
 pub mod Delays
 pub mod Excludes

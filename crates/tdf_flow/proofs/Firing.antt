@@ -82,7 +82,7 @@ module _ {S V I : Type 0} (net : Net S V I) where
           ((stands.lists k (omega (arith, high))).items j x there)),
     ) (ap Some (sym same))
 
-    fired_turn : more m now ≡ Some t
+    pub fired_turn : known net (run_of old p reads) (suc f) m (sum_by (count m) old + slice_index y.turns m) ≡ Some t
     fired_turn = elim next [ given x is at same ↦ given_turn x is at same | processed s plain at same ↦ processed_turn s plain at same ]
 
     new_m : (n : ℕ) → n < sum_by (count m) old + slice_index z.turns m → (v : Turn S V) × (more m n ≡ Some v)
@@ -99,7 +99,7 @@ module _ {S V I : Type 0} (net : Net S V I) where
 
     -- output i of the firing is its place on an edge that m writes
     place_put : (e i : ℕ) → net.writer e ≡ m → i < slice_index p.writes e
-        → place net (old ++ p ∷ []) more e (net.delay e + (sum_by (written net e) old + slice_index y.turns (net.writer e) * slice_index p.writes e) + i) ≡ Some (t.outputs e i)
+        → place net (old ++ p ∷ []) more e (net.delay e + (sum_by (written net e) old + slice_index y.turns (net.writer e) * slice_index p.writes e) + i) ≡ Some (t.outputs (net.source e) i)
     unfolding place output
     place_put e i writes below =
         let w = slice_index p.writes e in let b = sum_by (written net e) old in let n = slice_index y.turns (net.writer e) in
@@ -144,15 +144,15 @@ module _ {S V I : Type 0} (net : Net S V I) where
       items = λ j x at. subst (λ ps. place net ps more e (r + j) ≡ Some x) (append-nil (old ++ p ∷ [])) (place_more net (old ++ p ∷ []) [] past more (step_less (run_of old p reads) f) e (r + j) x (held.items j x at));
     }
 
-    held_back : (b : Bool) (e r w n : ℕ) (xs : List V) → ((i : ℕ) → i < n → b ≡ true → place net (old ++ p ∷ []) more e (net.delay e + w + i) ≡ Some (t.outputs e i))
-        → Holds net (old ++ p ∷ []) more e r w xs → Holds net (old ++ p ∷ []) more e r (if b then w + n else w) (xs ++ (if b then map (t.outputs e) (range_with_len 0 n) else []))
+    held_back : (b : Bool) (e r w n : ℕ) (xs : List V) → ((i : ℕ) → i < n → b ≡ true → place net (old ++ p ∷ []) more e (net.delay e + w + i) ≡ Some (t.outputs (net.source e) i))
+        → Holds net (old ++ p ∷ []) more e r w xs → Holds net (old ++ p ∷ []) more e r (if b then w + n else w) (xs ++ (if b then map (t.outputs (net.source e)) (range_with_len 0 n) else []))
     held_back false e r w n xs put held = subst (λ (l : List V). Holds net (old ++ p ∷ []) more e r w l) (sym (append-nil xs)) held
     held_back true e r w n xs put held = record {
-      count = (let a = length-append xs (map (t.outputs e) (range_with_len 0 n)) in let l = length-map-range_with_len (t.outputs e) 0 n in let c = held.count in omega (arith, a, l, c));
+      count = (let a = length-append xs (map (t.outputs (net.source e)) (range_with_len 0 n)) in let l = length-map-range_with_len (t.outputs (net.source e)) 0 n in let c = held.count in omega (arith, a, l, c));
       items = λ j x at. elim (cases_lt j (length xs)) [
         | inl low ↦ held.items j x (sym (get_low xs _ j low) ∙ at)
-        | inr high ↦ (let made = get_made (t.outputs e) 0 n (j - length xs) x (sym (get_high xs _ j high) ∙ at) in let i : j - length xs < n = made.0 in
-            let zero_plus : 0 + (j - length xs) ≡ j - length xs = omega arith in let is : t.outputs e (j - length xs) ≡ x = sym (ap (t.outputs e) zero_plus) ∙ made.1 in
+        | inr high ↦ (let made = get_made (t.outputs (net.source e)) 0 n (j - length xs) x (sym (get_high xs _ j high) ∙ at) in let i : j - length xs < n = made.0 in
+            let zero_plus : 0 + (j - length xs) ≡ j - length xs = omega arith in let is : t.outputs (net.source e) (j - length xs) ≡ x = sym (ap (t.outputs (net.source e)) zero_plus) ∙ made.1 in
             let k : r + j ≡ net.delay e + w + (j - length xs) = (let c = held.count in omega (arith, c, high)) in
             subst (λ q. place net (old ++ p ∷ []) more e q ≡ Some x) (sym k) (put (j - length xs) i refl ∙ ap Some is))
       ];

@@ -154,7 +154,7 @@ module _ {S V I : Type 0} (net : Net S V I) (actors : ℕ) (delay : ℕ → ℕ)
   }
 
   module _ (old : List (Period I)) (p next : Period I) (f : ℕ) (y : Play S V) (on : IsOn old p f y) (ended : (m : ℕ) → slice_index y.turns m ≡ slice_index p.counts m)
-      (active : (m : ℕ) → m < actors → slice_index p.counts m ≡ 0 → old ≡ []) where
+      (active : (m : ℕ) → m < actors → net.is_sampler m ≡ false → slice_index p.counts m ≡ 0 → old ≡ []) where
     changed_state : ℕ → S
     changed_state m = net.change m (old ++ p ∷ []) (slice_index_or y.states m (net.start m))
 
@@ -193,7 +193,7 @@ module _ {S V I : Type 0} (net : Net S V I) (actors : ℕ) (delay : ℕ → ℕ)
 
     are_active : AreActive net old p mid
     unfolding mid changed_state
-    are_active m x at plain none = active m (get_made (λ (k : ℕ). net.change k (old ++ p ∷ []) (slice_index_or y.states k (net.start k))) 0 actors m x at).0 none
+    are_active m x at plain none = active m (get_made (λ (k : ℕ). net.change k (old ++ p ∷ []) (slice_index_or y.states k (net.start k))) 0 actors m x at).0 plain none
 
     pub no_turns : {c : ℕ} → sum next_play.turns + c ≡ c
     unfolding next_play
@@ -235,7 +235,7 @@ module _ {S V I : Type 0} (net : Net S V I) (actors : ℕ) (delay : ℕ → ℕ)
   ValuesOf periods = HasValues net (record { periods = periods; reads = reads }) (firings periods) (λ m. sum_by (count m) periods)
 
   through : (later old : List (Period I)) (p : Period I) (f : ℕ) (y : Play S V) → IsOn old p f y → ((m : ℕ) → slice_index y.turns m ≡ slice_index p.counts m)
-      → IsWhole (old ++ p ∷ []) → f ≡ firings (old ++ p ∷ []) → ((m : ℕ) → m < actors → slice_index p.counts m ≡ 0 → old ≡ [])
+      → IsWhole (old ++ p ∷ []) → f ≡ firings (old ++ p ∷ []) → ((m : ℕ) → m < actors → net.is_sampler m ≡ false → slice_index p.counts m ≡ 0 → old ≡ [])
       → All (IsSound net actors delay (λ m. 0)) later → AreGiven net reads (old ++ p ∷ later) → ValuesOf (old ++ p ∷ later)
   through [] old p f y on ended whole steps active sound are_given = λ m n below.
       (let s = sum_by_push (count m) old p in let e = ended m in let v = on.stands.has_values m n (omega (arith, below, s, e)) in
@@ -243,7 +243,7 @@ module _ {S V I : Type 0} (net : Net S V I) (actors : ℕ) (delay : ℕ → ℕ)
   through (q ∷ rest) old p f y on ended whole steps active sound are_given =
       subst (λ ps. ValuesOf ps) one_list (through rest (old ++ p ∷ []) q (sum q.counts + f) played.0 played.1 played.2
       (is_whole (old ++ p ∷ []) q (λ m. 0) head back) (let s = sum_by_push (λ (r : Period I). sum r.counts) (old ++ p ∷ []) q in omega (arith, s, steps))
-      (λ m inside none. absurd (let a = head.active m inside in omega (arith, a, none))) (λ k d below. sound (suc k) d (omega (arith, below))) all_given)
+      (λ m inside plain none. absurd (let a = head.active m inside plain in omega (arith, a, none))) (λ k d below. sound (suc k) d (omega (arith, below))) all_given)
     where
       one_list : (old ++ p ∷ []) ++ q ∷ rest ≡ old ++ p ∷ q ∷ rest
       one_list = append_assoc old (p ∷ []) (q ∷ rest)
@@ -268,7 +268,7 @@ module _ {S V I : Type 0} (net : Net S V I) (actors : ℕ) (delay : ℕ → ℕ)
   pub all_are_known : (begun : ℕ → ℕ) (first : Period I) (later : List (Period I)) → AreSound net actors delay begun first later → AreGiven net reads (first ∷ later) → ValuesOf (first ∷ later)
   unfolding IsBack
   all_are_known begun first later sound are_given = through later [] first (sum first.counts + 0) played.0 played.1 played.2
-      (is_whole [] first begun sound.head back) (let s = sum_by-cons (λ (r : Period I). sum r.counts) first [] in omega (arith, s)) (λ m inside none. refl) sound.rest are_given
+      (is_whole [] first begun sound.head back) (let s = sum_by-cons (λ (r : Period I). sum r.counts) first [] in omega (arith, s)) (λ m inside plain none. refl) sound.rest are_given
     where
       back : (e : ℕ) → e < net.edges → net.delay e + sum_by (written net e) [] + begun (net.reader e) * slice_index first.reads e ≡ delay e + sum_by (taken net e) [] + begun (net.writer e) * slice_index first.writes e
       back e inside = let h = sound.lists e inside in omega (arith, h)
@@ -287,6 +287,19 @@ module _ {S V I : Type 0} (net : Net S V I) (actors : ℕ) (delay : ℕ → ℕ)
   whole_head : (begun : ℕ → ℕ) (first : Period I) (later : List (Period I)) → AreSound net actors delay begun first later → IsWhole ([] ++ first ∷ [])
   unfolding IsBack
   whole_head begun first later sound = is_whole [] first begun sound.head (λ e inside. (let h = sound.lists e inside in omega (arith, h)))
+
+  whole_past : (begun : ℕ → ℕ) (first : Period I) (later : List (Period I)) → AreSound net actors delay begun first later → IsWhole (first ∷ later)
+  whole_past begun first later sound = whole_after later [] first (whole_head begun first later sound) sound.rest
+
+  -- at the head of the period after them
+  pub heads_whole : (begun : ℕ → ℕ) (first : Period I) (later : List (Period I)) (p : Period I) (f : ℕ) (y : Play S V) → AreSound net actors delay begun first later
+      → Stands net (first ∷ later) p reads f y → ((m : ℕ) → slice_index y.turns m ≡ 0) → (e : ℕ) → e < net.edges → length (slice_index_or y.lists e []) ≡ delay e
+  unfolding IsWhole
+  heads_whole begun first later p f y sound stands none e inside =
+      let h = whole_past begun first later sound e inside in let c = (stands.lists e inside).count in
+      let r : slice_index y.turns (net.reader e) * slice_index p.reads e ≡ 0 = rw (none (net.reader e)) (omega arith) in
+      let w : slice_index y.turns (net.writer e) * slice_index p.writes e ≡ 0 = rw (none (net.writer e)) (omega arith) in
+      omega (arith, h, c, r, w)
 
   whole_to : (begun : ℕ → ℕ) (old : List (Period I)) (p : Period I) → AreSoundTo net actors delay begun old p → IsWhole (old ++ p ∷ [])
   whole_to begun [] p sound = whole_head begun p [] sound

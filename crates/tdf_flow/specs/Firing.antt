@@ -37,7 +37,7 @@ module _ {S V I : Type 0} where
   moved net p m t e xs =
       (if nat_eq (net.reader e) m then drop (slice_index p.reads e) xs else xs)
       ++ (if nat_eq (net.writer e) m
-      then map (t.outputs e) (range_with_len 0 (slice_index p.writes e)) else [])
+      then map (t.outputs (net.source e)) (range_with_len 0 (slice_index p.writes e)) else [])
 
   -- actor m fires with the turn t
   pub record Flows (net : Net S V I) (p : Period I) (m : ℕ) (t : Turn S V) (y z : Play S V)

@@ -2,7 +2,7 @@
 -- numbers of the whole period, also where a start has some of them done, and `delay` is what each
 -- edge holds at the head of a whole period.
 -- Source: own; the balance of counts and rates after Lee and Messerschmitt 1987.
-use Rattle.std.specs.Prelude.{ℕ, zero, suc, ◌+◌, ◌-◌, ◌*◌, ◌/◌, ◌<◌, ◌≤◌, ◌≡◌, ◌⊎◌, true}
+use Rattle.std.specs.Prelude.{ℕ, zero, suc, ◌+◌, ◌-◌, ◌*◌, ◌/◌, ◌<◌, ◌≤◌, ◌≡◌, ◌⊎◌, false, true}
 use Rattle.std.specs.Prelude.{List, [], ◌∷◌, ◌++◌, length, slice_index, slice_index_or, sum}
 use Rattle.std.specs.List.{All, sum_by}
 use Rattle.tdf_flow.specs.Net.{Net, Period, count}
@@ -34,12 +34,12 @@ module _ {S V I : Type 0} where
   abbrev pub IsGrounded : Net S V I → (ℕ → ℕ) → Period I → (m a : ℕ) → Type 0
   IsGrounded net delay p m a = (f : ℕ) × EndsIn net delay p f m a
 
-  -- a period of which `begun` firings were done at the start: its whole counts are positive,
-  -- balance the rates of each edge, and all its firings are grounded
+  -- a period of which `begun` firings were done at the start: its whole counts balance the rates of
+  -- each edge, those of actors that keep a state are positive, and all its firings are grounded
   pub record IsSound (net : Net S V I) (actors : ℕ) (delay begun : ℕ → ℕ) (p : Period I)
       : Type 0 where
     pub actors_are : length p.counts ≡ actors
-    pub active : (m : ℕ) → m < actors → 0 < begun m + count m p
+    pub active : (m : ℕ) → m < actors → net.is_sampler m ≡ false → 0 < begun m + count m p
     pub positive : (e : ℕ) → e < net.edges
         → (0 < slice_index p.writes e) × (0 < slice_index p.reads e)
     pub balanced : (e : ℕ) → e < net.edges

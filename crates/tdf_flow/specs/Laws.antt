@@ -10,7 +10,7 @@ use Rattle.tdf_flow.specs.Grounds.{AreGiven, AreSound, AreSoundTo, IsGrounded, I
 use Rattle.tdf_flow.specs.Net.{Net, Period, Run, Turn, count}
 use Rattle.tdf_flow.specs.Playing.{IsPlayed, IsSame}
 use Rattle.tdf_flow.specs.Stands.{AreActive, Changed, Crosses, HasValues, Installed, IsStart}
-use Rattle.tdf_flow.specs.Stands.{KeepsReads, Less, Longer, Play, Stands}
+use Rattle.tdf_flow.specs.Stands.{KeepsReads, Less, Longer, Play, Stands, run_of}
 use Rattle.tdf_flow.specs.Streams.{known}
 
 -- further periods, values and steps change nothing that is known
@@ -35,6 +35,15 @@ FiringKeeps = (net : Net ℕ ℕ ℕ) (old : List (Period ℕ)) (p : Period ℕ)
     → (f m : ℕ) (t : Turn ℕ ℕ) (y z : Play ℕ ℕ) → Stands net old p reads f y
     → slice_index y.turns m < slice_index p.counts m → IsPresent net p m y
     → IsNextTurn net old p reads m y t → Flows net p m t y z → Stands net old p reads (suc f) z
+
+-- and the turn of a firing is the value of the activation that it is
+abbrev pub FiringIsKnown : Type 0
+FiringIsKnown = (net : Net ℕ ℕ ℕ) (old : List (Period ℕ)) (p : Period ℕ) (reads : ℕ → List ℕ)
+    → (f m : ℕ) (t : Turn ℕ ℕ) (y z : Play ℕ ℕ) → Stands net old p reads f y
+    → slice_index y.turns m < slice_index p.counts m → IsPresent net p m y
+    → IsNextTurn net old p reads m y t → Flows net p m t y z
+    → known net (run_of old p reads) (suc f) m (sum_by (count m) old + slice_index y.turns m)
+    ≡ Some t
 
 -- at the end of a period the change bodies lead from standing to crossing
 abbrev pub ChangeCrosses : Type 0
@@ -86,6 +95,14 @@ EndsWhole = (net : Net ℕ ℕ ℕ) (actors : ℕ) (delay begun : ℕ → ℕ) (
     → (old : List (Period ℕ)) (p : Period ℕ) (f : ℕ) (y : Play ℕ ℕ)
     → AreSoundTo net actors delay begun old p → Stands net old p reads f y
     → ((m : ℕ) → slice_index y.turns m ≡ slice_index p.counts m)
+    → (e : ℕ) → e < net.edges → length (slice_index_or y.lists e []) ≡ delay e
+
+-- and at the head of the period after it
+abbrev pub HeadsWhole : Type 0
+HeadsWhole = (net : Net ℕ ℕ ℕ) (actors : ℕ) (delay begun : ℕ → ℕ) (reads : ℕ → List ℕ)
+    → (first : Period ℕ) (later : List (Period ℕ)) (p : Period ℕ) (f : ℕ) (y : Play ℕ ℕ)
+    → AreSound net actors delay begun first later → Stands net (first ∷ later) p reads f y
+    → ((m : ℕ) → slice_index y.turns m ≡ 0)
     → (e : ℕ) → e < net.edges → length (slice_index_or y.lists e []) ≡ delay e
 
 -- where firings are played from the head of a period, whole so far, all of them are grounded

@@ -12,7 +12,7 @@ pub record Period (I : Type 0) : Type 0 where
   pub reads : List ℕ
   pub info : I
 
--- one activation: what the actor keeps, and its outputs by edge and index
+-- one activation: what the actor keeps, and its outputs by port and index
 pub record Turn (S V : Type 0) : Type 0 where
   pub state : S
   pub outputs : ℕ → ℕ → V
@@ -21,15 +21,18 @@ pub record Turn (S V : Type 0) : Type 0 where
 abbrev pub Past : (S V : Type 0) → Type 0
 Past S V = (m n : ℕ) → Option (Turn S V)
 
--- actors and edges have numbers
+-- actors, edges and ports have numbers
 pub record Net (S V I : Type 0) : Type 0 where
   pub edges : ℕ
   pub writer : ℕ → ℕ
   pub reader : ℕ → ℕ
+  -- the port of its writer whose samples an edge carries; a port may give them to several edges
+  pub source : ℕ → ℕ
   -- the samples that an edge holds at the start
   pub delay : ℕ → ℕ
   pub initial : ℕ → ℕ → V
-  -- a sampler's outputs come from outside
+  -- a sampler's outputs are given from outside; an actor of which nothing is said, as one that
+  -- these periods never activate, counts as a sampler too
   pub is_sampler : ℕ → Bool
   -- what an actor keeps at the start
   pub start : ℕ → S

@@ -32,7 +32,8 @@ module _ {S V I : Type 0} where
   -- output number `rest` on edge e in a period
   unfoldable pub output : Net S V I → Past S V → ℕ → Spot I → Option V
   output net past e s =
-      option_map (λ (t : Turn S V). t.outputs e (s.rest % slice_index s.period.writes e))
+      option_map
+      (λ (t : Turn S V). t.outputs (net.source e) (s.rest % slice_index s.period.writes e))
       (past (net.writer e)
       (sum_by (count (net.writer e)) s.before + s.rest / slice_index s.period.writes e))
 
@@ -78,9 +79,9 @@ module _ {S V I : Type 0} where
   state_before net past m s (suc n) =
       option_map (λ (t : Turn S V). entered net m s t.state) (past m n)
 
-  -- a sampler's activation: its value on every edge
+  -- a sampler's activation: its value on every port
   abbrev pub sampled : Net S V I → ℕ → V → Turn S V
-  sampled net m x = record { state = net.start m; outputs = λ e k. x }
+  sampled net m x = record { state = net.start m; outputs = λ port k. x }
 
   unfoldable pub turn_at : Net S V I → Run V I → Past S V → (m n : ℕ) → Spot I → Option (Turn S V)
   turn_at net run past m n s =

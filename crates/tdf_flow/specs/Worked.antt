@@ -13,6 +13,7 @@ source_and_sum = record {
   edges = 1;
   writer = λ e. 0;
   reader = λ e. 1;
+  source = λ e. 0;
   delay = λ e. 1;
   initial = λ e k. 7;
   is_sampler = λ m. false;
@@ -21,7 +22,7 @@ source_and_sum = record {
   reinitialize = λ m p s. if nat_eq m 0 then s + 100 else s;
   process = λ m p s inputs. record {
     state = if nat_eq m 0 then s + 1 else s + sum (concat inputs);
-    outputs = λ e k. 10 * s + k;
+    outputs = λ port k. 10 * s + k;
   };
 }
 

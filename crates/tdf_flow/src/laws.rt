@@ -1,7 +1,8 @@
 //! What holds of the definitions: each function here only carries its clauses.
 
 ghost use Rattle.tdf_flow.specs.Laws.{AllAreKnown, AnyOrder, ChangeCrosses, EndsWhole};
-ghost use Rattle.tdf_flow.specs.Laws.{FedAreKnown, FiringKeeps, InstallStands, MoreKeeps, OrderStands};
+ghost use Rattle.tdf_flow.specs.Laws.{FedAreKnown, FiringIsKnown, FiringKeeps, HeadsWhole};
+ghost use Rattle.tdf_flow.specs.Laws.{InstallStands, MoreKeeps, OrderStands};
 ghost use Rattle.tdf_flow.specs.Laws.{PlayedAreGrounded, ReadsKeep, StartStands};
 ghost use Rattle.tdf_flow.specs.Worked.{IsWorked};
 
@@ -20,9 +21,11 @@ pub fn law_reads()
     ensures { ReadsKeep }
 {}
 
-/// A firing of an actor whose samples are present leads from what stands to what stands.
+/// A firing of an actor whose samples are present leads from what stands to what stands, and its
+/// turn is the value of the activation that it is.
 pub fn law_firing()
-    ensures { FiringKeeps }
+    ensures keeps { FiringKeeps }
+    ensures known { FiringIsKnown }
 {}
 
 /// At the end of a period the change bodies lead from standing to crossing.
@@ -35,9 +38,11 @@ pub fn law_install()
     ensures { InstallStands }
 {}
 
-/// At the end of each sound period every list is as long as at the head of a whole one.
+/// At the end of each sound period every list is as long as at the head of a whole one, and so it
+/// is at the head of the period after it.
 pub fn law_whole()
-    ensures { EndsWhole }
+    ensures ends { EndsWhole }
+    ensures heads { HeadsWhole }
 {}
 
 /// An order of firings leads from what stands to what stands, and any two orders with as many

@@ -1,3 +1,4 @@
 -- The lemmas that the crates above use.
+pub use Rattle.tdf_limits.proofs.Allowed.{starts_are_allowed}
 pub use Rattle.tdf_limits.proofs.Limits.{flat_is_within_limits}
 pub use Rattle.tdf_limits.proofs.OneStart.{spans_are_one, starts_are_one}

@@ -1,3 +1,4 @@
+pub mod Allowed
 pub mod Api
 pub mod Delays
 pub mod Limits

@@ -75,6 +75,11 @@ abbrev pub FlatIsWithinLimits : Type 0
 FlatIsWithinLimits = (model : PureTree) (flat : Flat) → IsKept model → type_faults model ≡ []
     → IsFlatOf model flat → AreWithinLimits flat
 
+-- the values that the rate variables of a block start with lie within their limits
+abbrev pub StartsAreAllowed : Type 0
+StartsAreAllowed = (checked : Checked) → IsChecked checked → (number : ℕ)
+    → RatesFit (map limits_of_rate (rate_spans_of checked number)) (start_rates checked number)
+
 -- two checks of one model give a block of a number the same rate variables
 abbrev pub SpansAreOne : Type 0
 SpansAreOne = (model : PureTree) (one other : Checked) → IsCheckedOf model one

@@ -1,6 +1,7 @@
 //! What holds of all flat models: each function here only carries its clauses.
 
-ghost use Rattle.tdf_limits.specs.Limits.{FlatIsWithinLimits, SpansAreOne, StartsAreOne};
+ghost use Rattle.tdf_limits.specs.Limits.{FlatIsWithinLimits, SpansAreOne, StartsAreAllowed};
+ghost use Rattle.tdf_limits.specs.Limits.{StartsAreOne};
 
 use tdf_bind::law_ranges;
 
@@ -12,8 +13,9 @@ pub fn law_limits()
 }
 
 /// Two checks of one model give its blocks the same rate variables,
-/// and the same values to start with.
+/// and the same values to start with, which lie within the limits of the variables.
 pub fn law_starts()
     ensures spans { SpansAreOne }
     ensures starts { StartsAreOne }
+    ensures allowed { StartsAreAllowed }
 {}

@@ -11,7 +11,7 @@ use Rattle.tdf_dynamic.proofs.timing.steps_of.Goals as goal
 pub steps_or-requires-clause-assigned : goal.steps_or-requires-clause-assigned
 steps_or-requires-clause-assigned c = subst (λ ps. All (IsAssigned ps c.deref.result.now) (assignments c.args.table.now)) (sym c.requires.ports)
     (subst (λ cs. All (IsAssigned (net_ports c.args.tables.now c.args.table.now) cs) (assignments c.args.table.now)) (sym c.deref.ensures.value)
-    (assigned_fit c.args.tables.now c.args.cluster c.args.table.now c.args.net.now.edges.items c.in-Ok.counts.items c.in-Ok.ensures.counts c.requires.modules c.requires.table))
+    (assigned_fit c.args.tables.now c.args.cluster c.args.table.now c.args.net.now.edges.items c.in-Ok.counts.items c.in-Ok.ensures.counts.counts_are c.requires.modules c.requires.table))
 
 pub returns-in-Err-steps_or-clause-refused : goal.returns-in-Err-steps_or-clause-refused
 returns-in-Err-steps_or-clause-refused c = from_period c.args.tables.now (seen c.args.net.now) c.args.cluster c.args.table.now c.in-Ok.counts.items c.in-Err-steps_or.refused c.in-Ok.ensures.counts

@@ -1,3 +1,4 @@
+use Rattle.tdf_limits.proofs.Allowed.{starts_are_allowed}
 use Rattle.tdf_limits.proofs.OneStart.{spans_are_one, starts_are_one}
 use Rattle.tdf_limits.proofs.laws.law_starts.Goals as goal
 
@@ -6,3 +7,6 @@ returns-clause-spans c = spans_are_one
 
 pub returns-clause-starts : goal.returns-clause-starts
 returns-clause-starts c = starts_are_one
+
+pub returns-clause-allowed : goal.returns-clause-allowed
+returns-clause-allowed c = starts_are_allowed
