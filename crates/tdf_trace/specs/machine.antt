@@ -1,0 +1,3 @@
+-- How the code goes from row to row.
+pub mod Turning
+pub mod Putting

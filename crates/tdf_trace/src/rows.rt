@@ -1,0 +1,1 @@
+//! Writing rows up to a time.
