@@ -125,7 +125,7 @@ if_same : {A : Type 0} (p : Bool) (a b e : A) → b ≡ e → (if p then a else 
 if_same true a b e h = refl
 if_same false a b e h = h
 
-abbrev held_of : Cell → Held
+abbrev pub held_of : Cell → Held
 held_of cell = record { time = cell.time; value = cell.value; }
 
 pub put_stands : (g : Cells) (upto : ℕ) (cell : Cell) (old new : List ColumnSeen) → IsPut old new cell.column (held_of cell) → upto ≤ cell.time

@@ -4,3 +4,4 @@ pub mod Vcd
 pub mod Writings
 pub mod Stands
 pub mod machine
+pub mod views

@@ -2,14 +2,13 @@
 -- Source: own.
 use Rattle.std.specs.Io.KnownBytes.{Appends}
 use Rattle.std.specs.Prelude.{◌≡◌, ◌≢◌, ◌⊎◌, ℕ, ◌<◌, ◌≤◌, Bool, true, false, Option, Some, None}
-use Rattle.std.specs.Prelude.{List, [], length, slice_get, Result, Ok, Err}
+use Rattle.std.specs.Prelude.{List, [], length, slice_get}
 use Rattle.tdf_rows.specs.Rows.{Cells, Line, is_row, last}
 use Rattle.tdf_rows.specs.Noted.{cells_of}
 use Rattle.tdf_trace.specs.Columns.{ColumnSeen, held_at}
 use Rattle.tdf_trace.specs.Writings.{AboutSeen, first_of, rows_text}
 use Rattle.tdf_trace.specs.declared.about.Variable.{Variable}
 use Rattle.tdf_trace.specs.declared.stage.Stage.{Stage}
-use Rattle.tdf_trace.specs.declared.stage.Stage.TheVariants.{Open, Broken}
 
 -- the columns, and the time below which all rows are written
 pub record RowsSeen : Type 0 where
@@ -61,8 +60,3 @@ pub record NextRowWaits (cells : Cells) (upto limit : ℕ) : Type 0 where
 -- all rows below the limit are written, or those up to the first that waits
 abbrev pub IsWrittenTo : Cells → (upto limit : ℕ) → Type 0
 IsWrittenTo cells upto limit = (limit ≤ upto) ⊎ NextRowWaits cells upto limit
-
--- after a call that writes a trace is open, or broken where the call was refused
-abbrev pub stage_after : {E : Type 0} → Result Unit E → Stage
-stage_after (Ok done) = Open
-stage_after (Err error) = Broken

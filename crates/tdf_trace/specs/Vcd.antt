@@ -32,10 +32,21 @@ abbrev pub declaration_piece : (sizes : List ℕ) → (labels : List (List ℕ))
 declaration_piece sizes labels column =
     declaration (slice_index sizes column) column (slice_index_or labels column [])
 
+unfoldable pub declarations : (sizes : List ℕ) → (labels : List (List ℕ)) → List ℕ
+declarations sizes labels = pieces_text (declaration_piece sizes labels) (length labels)
+
+unfoldable pub scope_begin : List ℕ
+scope_begin = codes "$scope module top $end\n"
+
+unfoldable pub scope_end : List ℕ
+scope_end = codes "$upscope $end\n"
+
+unfoldable pub definitions_end : List ℕ
+definitions_end = codes "$enddefinitions $end\n"
+
 unfoldable pub vcd_head : Resolution → (sizes : List ℕ) → (labels : List (List ℕ)) → List ℕ
-vcd_head resolution sizes labels = timescale resolution ++ codes "$scope module top $end\n"
-    ++ pieces_text (declaration_piece sizes labels) (length labels)
-    ++ codes "$upscope $end\n" ++ codes "$enddefinitions $end\n"
+vcd_head resolution sizes labels =
+    timescale resolution ++ scope_begin ++ declarations sizes labels ++ scope_end ++ definitions_end
 
 -- `bBITS CODE`, all bits of the value, the highest first; `bx CODE` where it is unknown
 abbrev pub value_bits : Option Raw → (size : ℕ) → List ℕ

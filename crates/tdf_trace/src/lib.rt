@@ -23,4 +23,4 @@ mod vcd;
 mod words;
 
 pub use about::Variable;
-
+pub use trace::Trace;
