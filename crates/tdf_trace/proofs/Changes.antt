@@ -1,5 +1,5 @@
 -- One column more that may differ.
-use Rattle.std.proofs.Common.{◌≡◌, ℕ, suc, ◌+◌, false, ◌||◌, not, Option, List, refl, add-one}
+use Rattle.std.proofs.Common.{◌≡◌, ℕ, ◌+◌, false, ◌||◌, not, Option, List, refl, add-one}
 use Rattle.tdf_fixed.specs.declared.raw.Raw.{Raw}
 use Rattle.tdf_trace.specs.Tables.{cell_at}
 use Rattle.tdf_trace.specs.Vcd.{differs, is_same}

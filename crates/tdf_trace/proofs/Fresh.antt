@@ -1,12 +1,10 @@
 -- Columns without cells.
-use Rattle.std.proofs.Common.{◌≡◌, ℕ, zero, suc, ◌+◌, ◌<◌, ◌≤◌, List, [], ◌∷◌, ◌++◌, length, map, take, slice_get, slice_index_or, Option, Some, None, refl, ap, sym, ◌∙◌, subst, arith}
+use Rattle.std.proofs.Common.{◌≡◌, ℕ, zero, suc, List, [], ◌∷◌, map, slice_get, Some, refl, ap, sym, ◌∙◌, subst, arith}
 use Rattle.std.proofs.lemmas.List.{length-map, map_more}
-use Rattle.tdf_fixed.specs.declared.raw.Raw.{Raw}
 use Rattle.tdf_rows.specs.Noted.{noted}
 use Rattle.tdf_rows.specs.Rows.{last}
 use Rattle.tdf_trace.specs.Columns.{ColumnSeen, HasFewPlaces, held_at}
-use Rattle.tdf_trace.specs.Stands.{RowsSeen, Stands, no_cells}
-use Rattle.tdf_trace.specs.Tables.{cell_at}
+use Rattle.tdf_trace.specs.Stands.{Stands, no_cells}
 use Rattle.tdf_trace.specs.Writings.{first_of}
 use Rattle.tdf_trace.specs.declared.about.Variable.{Variable}
 use Rattle.tdf_trace.specs.machine.Turning.{AreSound, HaveFewPlaces, IsSound, Rising}
@@ -25,13 +23,13 @@ first_at [] c v h = absurd (grind (arith, h))
 first_at (w ∷ ws) zero v h = let e : w ≡ v = grind (arith, h) in ap (λ (x : Variable). x.first) e
 first_at (w ∷ ws) (suc c) v h = first_at ws c v h
 
-pub fresh_stands : (variables : List Variable) → Stands (no_cells variables) (record { columns = map fresh variables; upto = 0; })
+pub fresh_stands : (variables : List Variable) → Stands (no_cells variables) (record { columns = map fresh variables; upto = 0 })
 unfolding held_at last noted
 fresh_stands variables = record {
-    count = length-map variables fresh;
-    held = λ c t column here low. (let w = fresh_of variables c column here in ap (λ (x : ColumnSeen). held_at x.held t) w.2);
-    shown = λ c column here. (let w = fresh_of variables c column here in ap (λ (x : ColumnSeen). x.shown) w.2 ∙ sym (first_at variables c w.0 w.1));
-  }
+  count = length-map variables fresh;
+  held = λ c t column here low. (let w = fresh_of variables c column here in ap (λ (x : ColumnSeen). held_at x.held t) w.2);
+  shown = λ c column here. (let w = fresh_of variables c column here in ap (λ (x : ColumnSeen). x.shown) w.2 ∙ sym (first_at variables c w.0 w.1));
+}
 
 pub fresh_sound : (variables : List Variable) → ((c : ℕ) (v : Variable) → slice_get variables c ≡ Some v → HasFewPlaces v.first) → AreSound 0 (map fresh variables)
 unfolding Rising HaveFewPlaces

@@ -6,3 +6,4 @@ pub mod Pieces
 pub mod Places
 pub mod Puts
 pub mod Turns
+pub mod Whole

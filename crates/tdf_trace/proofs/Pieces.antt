@@ -1,9 +1,7 @@
 -- Texts that are put together piece by piece.
 use Rattle.std.proofs.Common.{◌≡◌, ℕ, suc, ◌+◌, ◌<◌, List, [], ◌∷◌, ◌++◌, length, map, slice_index, slice_index_or, Option, None, refl, ap, sym, ◌∙◌, append_assoc, append-nil}
 use Rattle.std.proofs.lemmas.List.{get_or-map, length-map}
-use Rattle.tdf_fixed.specs.declared.raw.Raw.{Raw}
 use Rattle.tdf_io.proofs.Api.{pieces_more, pieces_none}
-use Rattle.tdf_io.specs.Bytes.{pieces_text}
 use Rattle.tdf_trace.specs.Columns.{ColumnSeen, before_row, shown_row}
 use Rattle.tdf_trace.specs.Tables.{cell_at}
 use Rattle.tdf_trace.specs.Writings.{labels_of, sizes_of}
@@ -22,6 +20,9 @@ pub size_at : (variables : List Variable) (i : ℕ) (d : Variable) → i < lengt
 size_at variables i d less = get_or-map (λ (v : Variable). v.format.wl) variables i d 0 less
 
 pub ruleset variable_laws = (label_at, size_at, append_assoc)
+
 pub ruleset cell_laws = (shown_at, before_at)
+
 pub ruleset piece_laws = (pieces_none, pieces_more, append_assoc, append-nil)
+
 pub ruleset text_laws = (append_assoc, append-nil, length-map)

@@ -1,6 +1,6 @@
 -- The text of a trace as a table: a head, a line for each row, and no tail.
 -- Source: own.
-use Rattle.std.specs.Prelude.{ℕ, Option, Some, None, List, [], ◌∷◌, ◌++◌, codes, length, slice_index_or}
+use Rattle.std.specs.Prelude.{ℕ, Option, Some, None, List, [], ◌++◌, codes, length, slice_index_or}
 use Rattle.tdf_base.specs.declared.resolution.Resolution.{Resolution}
 use Rattle.tdf_fixed.specs.Decimal.{seconds_text_at, value_text}
 use Rattle.tdf_fixed.specs.declared.raw.Raw.{Raw}

@@ -11,7 +11,7 @@ use Rattle.tdf_base.specs.declared.resolution.Resolution.TheVariants.{Ps, Fs}
 use Rattle.tdf_fixed.specs.Bits.{bits_text}
 use Rattle.tdf_fixed.specs.declared.raw.Raw.{Raw}
 use Rattle.tdf_io.specs.Bytes.{pieces_text}
-use Rattle.tdf_rows.specs.Rows.{Line, Writing}
+use Rattle.tdf_rows.specs.Rows.{Line}
 use Rattle.tdf_trace.specs.Tables.{cell_at}
 
 -- the character that stands for a variable

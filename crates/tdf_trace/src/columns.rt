@@ -44,7 +44,12 @@ pub(crate) fn turn_all(columns: &mut Vec<Column>, time: u64)
 }
 
 /// One cell more in one column, or the value of one that was announced.
-pub(crate) fn put_cell(columns: &mut Vec<Column>, upto: u64, place: u32, item: Held) -> Result<(), AllocError>
+pub(crate) fn put_cell(
+    columns: &mut Vec<Column>,
+    upto: u64,
+    place: u32,
+    item: Held,
+) -> Result<(), AllocError>
     requires column { place < length columns.old.items }
     requires time { upto ≤ item.time }
     requires sound { AreSound upto columns.old.items }

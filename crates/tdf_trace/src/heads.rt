@@ -13,7 +13,11 @@ use tdf_io::{Sink, SinkErr, put_all};
 use tdf_words::TraceKind;
 
 /// Writes the head of a table.
-fn write_labels<K: Sink>(line: &mut Vec<u8>, variables: &Vec<Variable>, sink: &mut K) -> Result<(), SinkErr>
+fn write_labels<K: Sink>(
+    line: &mut Vec<u8>,
+    variables: &Vec<Variable>,
+    sink: &mut K,
+) -> Result<(), SinkErr>
     ensures { WritesText K.taken K.faults sink.old sink.new (table_head (labels_of variables.now.items)) result }
 {
     line.clear();
@@ -24,7 +28,11 @@ fn write_labels<K: Sink>(line: &mut Vec<u8>, variables: &Vec<Variable>, sink: &m
 }
 
 /// Writes what a count of time stands for.
-fn write_timescale<K: Sink>(line: &mut Vec<u8>, resolution: Resolution, sink: &mut K) -> Result<(), SinkErr>
+fn write_timescale<K: Sink>(
+    line: &mut Vec<u8>,
+    resolution: Resolution,
+    sink: &mut K,
+) -> Result<(), SinkErr>
     ensures { WritesText K.taken K.faults sink.old sink.new (timescale resolution) result }
 {
     line.clear();
@@ -35,7 +43,12 @@ fn write_timescale<K: Sink>(line: &mut Vec<u8>, resolution: Resolution, sink: &m
 }
 
 /// Writes the declaration of a variable.
-fn write_declaration<K: Sink>(line: &mut Vec<u8>, variables: &Vec<Variable>, column: usize, sink: &mut K) -> Result<(), SinkErr>
+fn write_declaration<K: Sink>(
+    line: &mut Vec<u8>,
+    variables: &Vec<Variable>,
+    column: usize,
+    sink: &mut K,
+) -> Result<(), SinkErr>
     requires column { column < length variables.now.items }
     requires few { length variables.now.items ≤ most_traces }
     ensures { WritesText K.taken K.faults sink.old sink.new (declaration_piece (sizes_of variables.now.items) (labels_of variables.now.items) column) result }
@@ -48,7 +61,11 @@ fn write_declaration<K: Sink>(line: &mut Vec<u8>, variables: &Vec<Variable>, col
 }
 
 /// Writes the declarations of all variables.
-fn write_declarations<K: Sink>(line: &mut Vec<u8>, variables: &Vec<Variable>, sink: &mut K) -> Result<(), SinkErr>
+fn write_declarations<K: Sink>(
+    line: &mut Vec<u8>,
+    variables: &Vec<Variable>,
+    sink: &mut K,
+) -> Result<(), SinkErr>
     requires few { length variables.now.items ≤ most_traces }
     ensures { WritesText K.taken K.faults sink.old sink.new (declarations (sizes_of variables.now.items) (labels_of variables.now.items)) result }
 {
@@ -86,7 +103,11 @@ fn write_definitions_end<K: Sink>(sink: &mut K) -> Result<(), SinkErr>
 }
 
 /// Writes what is before the declarations.
-fn write_opening<K: Sink>(line: &mut Vec<u8>, resolution: Resolution, sink: &mut K) -> Result<(), SinkErr>
+fn write_opening<K: Sink>(
+    line: &mut Vec<u8>,
+    resolution: Resolution,
+    sink: &mut K,
+) -> Result<(), SinkErr>
     ensures { WritesText K.taken K.faults sink.old sink.new (timescale resolution ++ scope_begin) result }
 {
     match write_timescale(line, resolution, sink) {
@@ -96,7 +117,12 @@ fn write_opening<K: Sink>(line: &mut Vec<u8>, resolution: Resolution, sink: &mut
 }
 
 /// Writes the head of a value change dump up to the declarations.
-fn write_declared<K: Sink>(line: &mut Vec<u8>, resolution: Resolution, variables: &Vec<Variable>, sink: &mut K) -> Result<(), SinkErr>
+fn write_declared<K: Sink>(
+    line: &mut Vec<u8>,
+    resolution: Resolution,
+    variables: &Vec<Variable>,
+    sink: &mut K,
+) -> Result<(), SinkErr>
     requires few { length variables.now.items ≤ most_traces }
     ensures { WritesText K.taken K.faults sink.old sink.new
         (timescale resolution ++ scope_begin ++ declarations (sizes_of variables.now.items) (labels_of variables.now.items)) result }
@@ -108,7 +134,12 @@ fn write_declared<K: Sink>(line: &mut Vec<u8>, resolution: Resolution, variables
 }
 
 /// Writes the head of a value change dump up to the end of its scope.
-fn write_scope<K: Sink>(line: &mut Vec<u8>, resolution: Resolution, variables: &Vec<Variable>, sink: &mut K) -> Result<(), SinkErr>
+fn write_scope<K: Sink>(
+    line: &mut Vec<u8>,
+    resolution: Resolution,
+    variables: &Vec<Variable>,
+    sink: &mut K,
+) -> Result<(), SinkErr>
     requires few { length variables.now.items ≤ most_traces }
     ensures { WritesText K.taken K.faults sink.old sink.new
         (timescale resolution ++ scope_begin ++ declarations (sizes_of variables.now.items) (labels_of variables.now.items) ++ scope_end) result }
@@ -120,7 +151,12 @@ fn write_scope<K: Sink>(line: &mut Vec<u8>, resolution: Resolution, variables: &
 }
 
 /// Writes the head of a value change dump.
-fn write_vcd_head<K: Sink>(line: &mut Vec<u8>, resolution: Resolution, variables: &Vec<Variable>, sink: &mut K) -> Result<(), SinkErr>
+fn write_vcd_head<K: Sink>(
+    line: &mut Vec<u8>,
+    resolution: Resolution,
+    variables: &Vec<Variable>,
+    sink: &mut K,
+) -> Result<(), SinkErr>
     requires few { length variables.now.items ≤ most_traces }
     ensures { WritesText K.taken K.faults sink.old sink.new (vcd_head resolution (sizes_of variables.now.items) (labels_of variables.now.items)) result }
 {
@@ -131,7 +167,11 @@ fn write_vcd_head<K: Sink>(line: &mut Vec<u8>, resolution: Resolution, variables
 }
 
 /// Writes the head of a trace, each line as one piece.
-pub(crate) fn write_head<K: Sink>(line: &mut Vec<u8>, about: &About, sink: &mut K) -> Result<(), SinkErr>
+pub(crate) fn write_head<K: Sink>(
+    line: &mut Vec<u8>,
+    about: &About,
+    sink: &mut K,
+) -> Result<(), SinkErr>
     requires few { length about.now.variables ≤ most_traces }
     ensures { WritesText K.taken K.faults sink.old sink.new (writing_of about.now).head result }
 {
@@ -153,7 +193,12 @@ fn write_vcd_tail<K: Sink>(line: &mut Vec<u8>, end: u64, sink: &mut K) -> Result
 }
 
 /// Writes the tail of a trace.
-pub(crate) fn write_tail<K: Sink>(line: &mut Vec<u8>, about: &About, end: u64, sink: &mut K) -> Result<(), SinkErr>
+pub(crate) fn write_tail<K: Sink>(
+    line: &mut Vec<u8>,
+    about: &About,
+    end: u64,
+    sink: &mut K,
+) -> Result<(), SinkErr>
     ensures { WritesText K.taken K.faults sink.old sink.new ((writing_of about.now).tail end) result }
 {
     match about.kind {

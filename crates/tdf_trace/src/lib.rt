@@ -5,16 +5,18 @@
 //!
 //! - `about`: what a trace is of, its variables.
 //! - `column`, `columns`: the cells of one column that wait; going from row to row.
-//! - `tables`, `vcd`: the lines of both kinds.
+//! - `words`, `tables`, `vcd`: the lines of both kinds.
 //! - `rows`: writing rows up to a time.
-//! - `heads`: writing what is before the rows.
+//! - `heads`: writing what is before the rows, and after them.
 //! - `stage`, `trace`: the type [`Trace`] and its calls.
+//! - `laws`: what holds of the texts.
 #![tactic(auto)]
 
 mod about;
 mod column;
 mod columns;
 mod heads;
+mod laws;
 mod rows;
 mod stage;
 mod tables;
@@ -23,4 +25,5 @@ mod vcd;
 mod words;
 
 pub use about::Variable;
+pub use laws::law_whole;
 pub use trace::Trace;

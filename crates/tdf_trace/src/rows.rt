@@ -23,7 +23,12 @@ pub(crate) struct Rows {
 }
 
 /// Appends the row that the columns show.
-fn push_row(line: &mut Vec<u8>, about: &About, columns: &Vec<Column>, time: u64) -> Result<(), Memory>
+fn push_row(
+    line: &mut Vec<u8>,
+    about: &About,
+    columns: &Vec<Column>,
+    time: u64,
+) -> Result<(), Memory>
     requires fits { Fits about.now columns.now.items }
     requires shown { AreShown columns.now.items }
     ensures { OnOk result (line.new.items ≡ line.old.items ++ row_line about.now columns.now.items time) }
@@ -35,7 +40,13 @@ fn push_row(line: &mut Vec<u8>, about: &About, columns: &Vec<Column>, time: u64)
 }
 
 /// Writes the row that the columns show, as one piece.
-fn write_row<K: Sink>(line: &mut Vec<u8>, about: &About, columns: &Vec<Column>, time: u64, sink: &mut K) -> Result<(), SinkErr>
+fn write_row<K: Sink>(
+    line: &mut Vec<u8>,
+    about: &About,
+    columns: &Vec<Column>,
+    time: u64,
+    sink: &mut K,
+) -> Result<(), SinkErr>
     requires fits { Fits about.now columns.now.items }
     requires shown { AreShown columns.now.items }
     ensures { WritesText K.taken K.faults sink.old sink.new (row_line about.now columns.now.items time) result }
@@ -70,7 +81,13 @@ fn is_held_back(columns: &Vec<Column>, time: u64, waits: bool) -> bool
 }
 
 /// Writes the next row below the limit, if there is one that needn't wait, and says whether it did.
-fn write_next<K: Sink>(about: &About, rows: &mut Rows, limit: u64, waits: bool, sink: &mut K) -> Result<bool, SinkErr>
+fn write_next<K: Sink>(
+    about: &About,
+    rows: &mut Rows,
+    limit: u64,
+    waits: bool,
+    sink: &mut K,
+) -> Result<bool, SinkErr>
     requires fits { Fits about.now rows.old.columns.items }
     requires sound { AreSound rows.old.upto rows.old.columns.items }
     requires below { rows.old.upto < limit }
@@ -100,7 +117,13 @@ fn write_next<K: Sink>(about: &About, rows: &mut Rows, limit: u64, waits: bool, 
 }
 
 /// Writes the rows below the limit, up to one that must wait.
-pub(crate) fn write_below<K: Sink>(about: &About, rows: &mut Rows, limit: u64, waits: bool, sink: &mut K) -> Result<(), SinkErr>
+pub(crate) fn write_below<K: Sink>(
+    about: &About,
+    rows: &mut Rows,
+    limit: u64,
+    waits: bool,
+    sink: &mut K,
+) -> Result<(), SinkErr>
     requires fits { Fits about.now rows.old.columns.items }
     requires sound { AreSound rows.old.upto rows.old.columns.items }
     ensures same { length rows.new.columns.items ≡ length rows.old.columns.items }

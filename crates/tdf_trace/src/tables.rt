@@ -77,7 +77,12 @@ fn push_cells(line: &mut Vec<u8>, columns: &Vec<Column>) -> Result<(), Memory>
 
 /// Appends a row: `TIME CELL CELL ..`, the time in seconds.
 #[tactic(auto, unfolding(crate::specs::Tables::table_line), using(crate::proofs::Pieces::text_laws))]
-pub(crate) fn push_line(line: &mut Vec<u8>, columns: &Vec<Column>, time: u64, resolution: Resolution) -> Result<(), Memory>
+pub(crate) fn push_line(
+    line: &mut Vec<u8>,
+    columns: &Vec<Column>,
+    time: u64,
+    resolution: Resolution,
+) -> Result<(), Memory>
     requires few { (c : ℕ) (col : ColumnSeen) → slice_get columns.now.items c ≡ Some col → HasFewPlaces col.shown }
     ensures { OnOk result (line.new.items ≡ line.old.items ++ table_line resolution time (before_row columns.now.items) (shown_row columns.now.items)) }
 {

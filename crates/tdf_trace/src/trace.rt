@@ -1,15 +1,11 @@
 //! Traces, and their calls.
-ghost use Rattle.std.specs.Prelude.{◌≡◌, ◌≤◌, ◌<◌, ◌++◌, length, map, max, ℕ, Some, slice_get, IfOk, OnOk, OnErr};
-ghost use Rattle.tdf_base.specs.Limits.{most_traces};
-ghost use Rattle.tdf_io.specs.Bytes.{AppendsFront, WritesText};
+ghost use Rattle.std.specs.Prelude.{◌≡◌, ◌≤◌, ◌<◌, length, map, max, IfOk, OnOk, OnErr};
+ghost use Rattle.tdf_io.specs.Bytes.{WritesText};
 ghost use Rattle.tdf_io.specs.Faults.{CountsSinkFaults};
-ghost use Rattle.tdf_rows.specs.Noted.{with_cell};
-ghost use Rattle.tdf_rows.specs.Rows.{Cells};
 ghost use Rattle.tdf_trace.specs.Columns.{HasFewPlaces};
-ghost use Rattle.tdf_trace.specs.Stands.{Advances, IsWrittenTo, Stands, no_cells};
-ghost use Rattle.tdf_trace.specs.Writings.{rows_text, writing_of};
-ghost use Rattle.tdf_trace.specs.declared.about.Variable.{Variable};
-ghost use Rattle.tdf_trace.specs.declared.stage.Stage.TheVariants.{Broken, New, Open};
+ghost use Rattle.tdf_trace.specs.Stands.{AreWrittenTo, IsNew, IsStageAfter, TakesCell, WritesFront, WritesRest, WritesRows};
+ghost use Rattle.tdf_trace.specs.Writings.{CanBeTraced, about_of, writing_of};
+ghost use Rattle.tdf_trace.specs.declared.stage.Stage.TheVariants.{New, Open};
 ghost use Rattle.tdf_trace.specs.views.Seen.{fresh};
 
 use crate::about::{About, Variable};
@@ -63,17 +59,22 @@ impl Trace {
     ///
     /// # Errors
     /// Out of memory.
-    pub fn new(alloc: Global, variables: Vec<Variable>, resolution: Resolution, kind: TraceKind) -> Result<Trace, Memory>
-        requires few { length variables.items ≤ most_traces }
-        requires first { (c : ℕ) (v : Variable) → slice_get variables.items c ≡ Some v → HasFewPlaces v.first }
-        ensures about { IfOk result (λ trace. trace.about ≡ record { kind = kind; resolution = resolution; variables = variables.items }) }
-        ensures stage { IfOk result (λ trace. trace.stage ≡ New) }
-        ensures start { IfOk result (λ trace. trace.rows.upto ≡ 0) }
-        ensures stands { IfOk result (λ trace. Stands (no_cells variables.items) trace.rows) }
+    pub fn new(
+        alloc: Global,
+        variables: Vec<Variable>,
+        resolution: Resolution,
+        kind: TraceKind,
+    ) -> Result<Trace, Memory>
+        requires { CanBeTraced variables.items }
+        ensures { IfOk result (λ trace. IsNew trace (about_of kind resolution variables.items)) }
     {
         match columns_of(alloc, &variables) {
             Ok(columns) => Ok(Trace {
-                about: About { kind, resolution, variables },
+                about: About {
+                    kind,
+                    resolution,
+                    variables,
+                },
                 stage: Stage::New,
                 rows: Rows {
                     columns,
@@ -96,8 +97,7 @@ impl Trace {
     pub fn begin<K: Sink>(&mut self, sink: &mut K) -> Result<(), SinkErr>
         requires new { self.old.stage ≡ New }
         ensures wrote { WritesText K.taken K.faults sink.old sink.new (writing_of self.old.about).head result }
-        ensures open { OnOk result (self.new.stage ≡ Open) }
-        ensures broken { OnErr result (self.new.stage ≡ Broken) }
+        ensures stage { IsStageAfter result self.new.stage }
         ensures about { self.new.about ≡ self.old.about }
         ensures rows { self.new.rows ≡ self.old.rows }
     {
@@ -121,7 +121,7 @@ impl Trace {
         requires column { cell.column < length self.old.about.variables }
         requires time { self.old.rows.upto ≤ cell.time }
         requires value { HasFewPlaces cell.value }
-        ensures noted { OnOk result ((cells : Cells) → Stands cells self.old.rows → Stands (with_cell cells cell) self.new.rows) }
+        ensures took { OnOk result (TakesCell cell self.old.rows self.new.rows) }
         ensures upto { self.new.rows.upto ≡ self.old.rows.upto }
         ensures stage { self.new.stage ≡ self.old.stage }
         ensures about { self.new.about ≡ self.old.about }
@@ -142,15 +142,12 @@ impl Trace {
     /// watermark, and the trace is broken.
     pub fn advance<K: Sink>(&mut self, watermark: u64, sink: &mut K) -> Result<(), SinkErr>
         requires open { self.old.stage ≡ Open }
-        ensures wrote { OnOk result ((cells : Cells) → Stands cells self.old.rows
-            → Advances self.old.about cells self.old.rows self.new.rows (K.taken sink.old) (K.taken sink.new)) }
-        ensures written { OnOk result ((cells : Cells) → Stands cells self.new.rows → IsWrittenTo cells self.new.rows.upto watermark) }
+        ensures wrote { OnOk result (WritesRows self.old self.new (K.taken sink.old) (K.taken sink.new)) }
+        ensures written { OnOk result (AreWrittenTo self.new.rows watermark) }
         ensures within { OnOk result (self.new.rows.upto ≤ max self.old.rows.upto watermark) }
-        ensures part { OnErr result ((cells : Cells) → Stands cells self.old.rows
-            → AppendsFront (K.taken sink.old) (K.taken sink.new) (rows_text self.old.about cells self.old.rows.upto watermark)) }
+        ensures part { OnErr result (WritesFront self.old watermark (K.taken sink.old) (K.taken sink.new)) }
         ensures counted { CountsSinkFaults (K.faults sink.old) (K.faults sink.new) result }
-        ensures open { OnOk result (self.new.stage ≡ Open) }
-        ensures broken { OnErr result (self.new.stage ≡ Broken) }
+        ensures stage { IsStageAfter result self.new.stage }
         ensures about { self.new.about ≡ self.old.about }
     {
         match write_below(&self.about, &mut self.rows, watermark, true, sink) {
@@ -168,8 +165,7 @@ impl Trace {
     /// `Failed` where a write failed, `Memory` where no memory was found. The sink then took a front part of this text.
     pub fn finish<K: Sink>(mut self, end: u64, sink: &mut K) -> Result<(), SinkErr>
         requires open { self.stage ≡ Open }
-        ensures { (cells : Cells) → Stands cells self.rows → WritesText K.taken K.faults sink.old sink.new
-            (rows_text self.about cells self.rows.upto end ++ (writing_of self.about).tail end) result }
+        ensures { WritesRest K.taken K.faults sink.old sink.new self end result }
     {
         match write_below(&self.about, &mut self.rows, end, false, sink) {
             Ok(()) => write_tail(&mut self.rows.line, &self.about, end, sink),

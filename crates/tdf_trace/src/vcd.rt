@@ -35,7 +35,11 @@ pub(crate) fn push_timescale(line: &mut Vec<u8>, resolution: Resolution) -> Resu
 
 /// Appends the line that declares a variable.
 #[tactic(auto, using(crate::proofs::Pieces::variable_laws))]
-pub(crate) fn push_declaration(line: &mut Vec<u8>, variables: &Vec<Variable>, column: usize) -> Result<(), Memory>
+pub(crate) fn push_declaration(
+    line: &mut Vec<u8>,
+    variables: &Vec<Variable>,
+    column: usize,
+) -> Result<(), Memory>
     requires column { column < length variables.now.items }
     requires few { length variables.now.items ≤ most_traces }
     ensures { OnOk result (line.new.items ≡ line.old.items ++ declaration_piece (sizes_of variables.now.items) (labels_of variables.now.items) column) }
@@ -97,7 +101,12 @@ fn push_value_bits(line: &mut Vec<u8>, value: Option<Raw>, size: u32) -> Result<
 
 /// Appends the line of a value.
 #[tactic(auto, using(std::proofs::Common::append_assoc))]
-fn push_value(line: &mut Vec<u8>, value: Option<Raw>, size: u32, column: usize) -> Result<(), Memory>
+fn push_value(
+    line: &mut Vec<u8>,
+    value: Option<Raw>,
+    size: u32,
+    column: usize,
+) -> Result<(), Memory>
     requires size { size ≤ 64 }
     requires column { column < most_traces }
     ensures { OnOk result (line.new.items ≡ line.old.items ++ value_change value size column) }
@@ -110,18 +119,32 @@ fn push_value(line: &mut Vec<u8>, value: Option<Raw>, size: u32, column: usize) 
 }
 
 /// Appends the line of what a column shows.
-fn push_value_at(line: &mut Vec<u8>, variables: &Vec<Variable>, columns: &Vec<Column>, column: usize) -> Result<(), Memory>
+fn push_value_at(
+    line: &mut Vec<u8>,
+    variables: &Vec<Variable>,
+    columns: &Vec<Column>,
+    column: usize,
+) -> Result<(), Memory>
     requires column { column < length columns.now.items }
     requires same { length variables.now.items ≡ length columns.now.items }
     requires few { length columns.now.items ≤ most_traces }
     ensures { OnOk result (line.new.items ≡ line.old.items ++ value_piece (sizes_of variables.now.items) (shown_row columns.now.items) column) }
 {
-    push_value(line, columns[column].shown(), variables[column].format.wl, column)
+    push_value(
+        line,
+        columns[column].shown(),
+        variables[column].format.wl,
+        column,
+    )
 }
 
 /// Appends a line for each column.
 #[tactic(auto, using(crate::proofs::Pieces::piece_laws))]
-fn push_values(line: &mut Vec<u8>, variables: &Vec<Variable>, columns: &Vec<Column>) -> Result<(), Memory>
+fn push_values(
+    line: &mut Vec<u8>,
+    variables: &Vec<Variable>,
+    columns: &Vec<Column>,
+) -> Result<(), Memory>
     requires same { length variables.now.items ≡ length columns.now.items }
     requires few { length columns.now.items ≤ most_traces }
     ensures { OnOk result (line.new.items ≡ line.old.items ++ pieces_text (value_piece (sizes_of variables.now.items) (shown_row columns.now.items)) (length columns.now.items)) }
@@ -133,7 +156,12 @@ fn push_values(line: &mut Vec<u8>, variables: &Vec<Variable>, columns: &Vec<Colu
 }
 
 /// Appends the line of what a column shows, where that is something else than before.
-fn push_change(line: &mut Vec<u8>, variables: &Vec<Variable>, columns: &Vec<Column>, column: usize) -> Result<(), Memory>
+fn push_change(
+    line: &mut Vec<u8>,
+    variables: &Vec<Variable>,
+    columns: &Vec<Column>,
+    column: usize,
+) -> Result<(), Memory>
     requires column { column < length columns.now.items }
     requires same { length variables.now.items ≡ length columns.now.items }
     requires few { length columns.now.items ≤ most_traces }
@@ -147,7 +175,11 @@ fn push_change(line: &mut Vec<u8>, variables: &Vec<Variable>, columns: &Vec<Colu
 
 /// Appends a line for each column that shows something else.
 #[tactic(auto, using(crate::proofs::Pieces::piece_laws))]
-fn push_changes(line: &mut Vec<u8>, variables: &Vec<Variable>, columns: &Vec<Column>) -> Result<(), Memory>
+fn push_changes(
+    line: &mut Vec<u8>,
+    variables: &Vec<Variable>,
+    columns: &Vec<Column>,
+) -> Result<(), Memory>
     requires same { length variables.now.items ≡ length columns.now.items }
     requires few { length columns.now.items ≤ most_traces }
     ensures { OnOk result (line.new.items ≡ line.old.items ++ pieces_text (change_piece (sizes_of variables.now.items) (before_row columns.now.items) (shown_row columns.now.items)) (length columns.now.items)) }
@@ -170,7 +202,11 @@ fn push_time(line: &mut Vec<u8>, time: u64) -> Result<(), Memory>
 
 /// Appends the first row: all values.
 #[tactic(auto, using(crate::proofs::Pieces::text_laws))]
-fn push_dump(line: &mut Vec<u8>, variables: &Vec<Variable>, columns: &Vec<Column>) -> Result<(), Memory>
+fn push_dump(
+    line: &mut Vec<u8>,
+    variables: &Vec<Variable>,
+    columns: &Vec<Column>,
+) -> Result<(), Memory>
     requires same { length variables.now.items ≡ length columns.now.items }
     requires few { length columns.now.items ≤ most_traces }
     ensures { OnOk result (line.new.items ≡ line.old.items ++ (time_line 0 ++ codes "$dumpvars\n" ++ values (sizes_of variables.now.items) (shown_row columns.now.items) ++ codes "$end\n")) }
@@ -183,7 +219,12 @@ fn push_dump(line: &mut Vec<u8>, variables: &Vec<Variable>, columns: &Vec<Column
 
 /// Appends a row: all values at 0, later the changes, and nothing where there is none.
 #[tactic(auto, unfolding(crate::specs::Vcd::vcd_line), using(crate::proofs::Pieces::text_laws))]
-pub(crate) fn push_line(line: &mut Vec<u8>, variables: &Vec<Variable>, columns: &Vec<Column>, time: u64) -> Result<(), Memory>
+pub(crate) fn push_line(
+    line: &mut Vec<u8>,
+    variables: &Vec<Variable>,
+    columns: &Vec<Column>,
+    time: u64,
+) -> Result<(), Memory>
     requires same { length variables.now.items ≡ length columns.now.items }
     requires few { length columns.now.items ≤ most_traces }
     ensures { OnOk result (line.new.items ≡ line.old.items ++ vcd_line (sizes_of variables.now.items) time (before_row columns.now.items) (shown_row columns.now.items)) }

@@ -1,4 +1,4 @@
-use Rattle.std.proofs.Common.{◌≡◌, ◌≤◌, ◌<◌, ℕ, length, slice_get, Some}
+use Rattle.std.proofs.Common.{◌≡◌, ◌≤◌, ℕ, length, slice_get, Some}
 use Rattle.tdf_trace.specs.declared.column.Held.{Held}
 use Rattle.tdf_trace.proofs.column.place_of.Given as goal
 

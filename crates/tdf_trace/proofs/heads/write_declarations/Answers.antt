@@ -1,4 +1,4 @@
-use Rattle.std.proofs.Common.{◌≡◌, ◌<◌, ℕ, Ok, Err, length, subst, arith}
+use Rattle.std.proofs.Common.{◌≡◌, ◌<◌, ℕ, Ok, length, subst, arith}
 use Rattle.tdf_io.proofs.Api.{pieces_more, pieces_none, writes_none, writes_piece, writes_then}
 use Rattle.tdf_io.specs.Bytes.{WritesText, pieces_text}
 use Rattle.tdf_trace.proofs.Declaring.{declarations_are}

@@ -1,4 +1,3 @@
-use Rattle.std.proofs.Common.{◌++◌}
 use Rattle.tdf_io.proofs.Api.{writes_less, writes_then}
 use Rattle.tdf_trace.proofs.heads.write_opening.Goals as goal
 use Rattle.tdf_trace.specs.Vcd.{scope_begin, timescale}

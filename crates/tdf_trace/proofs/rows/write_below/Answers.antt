@@ -1,4 +1,4 @@
-use Rattle.std.proofs.Common.{rules, arith, ◌≡◌, ◌<◌, ◌≤◌, max, refl, sym, ◌∙◌, length}
+use Rattle.std.proofs.Common.{arith, ◌≡◌, ◌≤◌, refl, sym, ◌∙◌, length}
 use Rattle.tdf_io.proofs.Api.{counts_then}
 use Rattle.tdf_trace.proofs.Moving.{breaks_then, moves_none, moves_trans}
 use Rattle.tdf_trace.proofs.rows.write_below.Goals as goal

@@ -1,4 +1,4 @@
-use Rattle.std.proofs.Common.{◌≡◌, ◌++◌}
+use Rattle.std.proofs.Common.{◌≡◌}
 use Rattle.tdf_trace.specs.Columns.{before_row, shown_row}
 use Rattle.tdf_trace.specs.Vcd.{differs}
 use Rattle.tdf_trace.proofs.vcd.any_differs.Given as goal

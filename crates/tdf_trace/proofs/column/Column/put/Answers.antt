@@ -1,4 +1,4 @@
-use Rattle.std.proofs.Common.{rules, ◌≡◌, sym, subst}
+use Rattle.std.proofs.Common.{sym, subst}
 use Rattle.tdf_trace.specs.Columns.{ColumnSeen}
 use Rattle.tdf_trace.specs.machine.Putting.{AreInOrder}
 use Rattle.tdf_trace.proofs.column.Column.put.Goals as goal

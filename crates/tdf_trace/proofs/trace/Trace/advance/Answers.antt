@@ -1,4 +1,4 @@
-use Rattle.std.proofs.Common.{rules, ◌≡◌, sym, subst, refl}
+use Rattle.std.proofs.Common.{sym, subst, refl}
 use Rattle.tdf_trace.proofs.trace.Trace.advance.Goals as goal
 use Rattle.tdf_trace.specs.Stands.{Advances, Stands, TraceSeen}
 use Rattle.tdf_trace.specs.views.Seen.{rows_seen}

@@ -1,4 +1,4 @@
-use Rattle.std.proofs.Common.{rules, ◌≡◌, List, map, length, sym, subst, ap, ◌∙◌, ◌≤◌}
+use Rattle.std.proofs.Common.{◌≡◌, List, map, length, refl, sym, subst, ap, ◌∙◌, ◌≤◌}
 use Rattle.std.proofs.lemmas.List.{length-map}
 use Rattle.tdf_base.specs.Limits.{most_traces}
 use Rattle.tdf_trace.proofs.Fresh.{fresh_sound, fresh_stands}
@@ -17,7 +17,11 @@ invariant_of-result c =
       sound = subst (λ (l : List ColumnSeen). AreSound 0 l) (sym e) (fresh_sound c.args.variables.items c.requires.first);
     }
 
-pub returns-in-Ok-clause-stands : goal.returns-in-Ok-clause-stands
-returns-in-Ok-clause-stands c =
-    let e : c.in-Ok.columns.items ≡ map fresh c.args.variables.items = c.in-Ok.ensures in
-    subst (λ (l : List ColumnSeen). Stands (no_cells c.args.variables.items) (record { columns = l; upto = 0; })) (sym e) (fresh_stands c.args.variables.items)
+pub returns-in-Ok : goal.returns-in-Ok
+returns-in-Ok c = record {
+  about = refl;
+  stage = refl;
+  start = refl;
+  stands = (let e : c.in-Ok.columns.items ≡ map fresh c.args.variables.items = c.in-Ok.ensures in
+      subst (λ (l : List ColumnSeen). Stands (no_cells c.args.variables.items) (record { columns = l; upto = 0 })) (sym e) (fresh_stands c.args.variables.items));
+}

@@ -1,4 +1,4 @@
-use Rattle.std.proofs.Common.{rules, ◌≡◌, ◌≤◌, List, length, ap, sym, subst, ◌∙◌}
+use Rattle.std.proofs.Common.{◌≡◌, ◌≤◌, List, length, ap, sym, subst, ◌∙◌}
 use Rattle.tdf_base.specs.Limits.{most_traces}
 use Rattle.tdf_trace.proofs.Puts.{held_of, put_all_sound, put_stands}
 use Rattle.tdf_trace.proofs.trace.Trace.note.Goals as goal
@@ -21,9 +21,9 @@ invariant_of-self-2 c =
     record {
       fits = record { same = c.self.invariant.fits.same ∙ sym n; few = subst (λ k. k ≤ most_traces) (sym n) c.self.invariant.fits.few };
       sound = put_all_sound c.self.inside.rows.upto c.args.cell.column (held_of c.args.cell) c.self.inside.rows.columns.items c.put_cell.new.columns.items c.self.invariant.sound
-        (subst (λ (v : TraceSeen). v.rows.upto ≤ c.args.cell.time) (sym c.self.view_is) c.requires.time) c.requires.value c.in_ok-put_cell.ensures.ok;
+          (subst (λ (v : TraceSeen). v.rows.upto ≤ c.args.cell.time) (sym c.self.view_is) c.requires.time) c.requires.value c.in_ok-put_cell.ensures.ok;
     }
 
-pub returns-clause-noted : goal.returns-clause-noted
-returns-clause-noted c cells h = put_stands cells c.self.inside.rows.upto c.args.cell c.self.inside.rows.columns.items c.put_cell.new.columns.items c.in_ok-put_cell.ensures.ok
+pub returns-clause-took : goal.returns-clause-took
+returns-clause-took c cells h = put_stands cells c.self.inside.rows.upto c.args.cell c.self.inside.rows.columns.items c.put_cell.new.columns.items c.in_ok-put_cell.ensures.ok
     (subst (λ (v : TraceSeen). v.rows.upto ≤ c.args.cell.time) (sym c.self.view_is) c.requires.time) (subst (λ (v : TraceSeen). Stands cells v.rows) (sym c.self.view_is) h)
