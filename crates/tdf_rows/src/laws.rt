@@ -1,0 +1,38 @@
+//! What holds of rows and of their text: each function here only carries its clause.
+
+ghost use Rattle.tdf_rows.specs.Laws.{AreRowTimes, HaveSameText, IsLastCell, NotedLast, SplitsText, StaysBelow, WithoutRow};
+
+/// The rows below a time are those at 0 and at the times with a cell, each once and in order.
+pub fn law_row_times()
+    ensures { AreRowTimes }
+{}
+
+/// A column shows its last cell at or before the time, and what it began with where it has none.
+pub fn law_last()
+    ensures { IsLastCell }
+{}
+
+/// Cells that agree below a time have the same text of the rows below it.
+pub fn law_same()
+    ensures { HaveSameText }
+{}
+
+/// The text of rows is that of the ones before a time and then that of the others.
+pub fn law_split()
+    ensures { SplitsText }
+{}
+
+/// Times without a row have no text.
+pub fn law_without()
+    ensures { WithoutRow }
+{}
+
+/// Cells of which each state changes the one before only from a mark on keep what is below it.
+pub fn law_steady()
+    ensures { StaysBelow }
+{}
+
+/// Of the cells that were noted for a column and a time the last one counts.
+pub fn law_noted()
+    ensures { NotedLast }
+{}

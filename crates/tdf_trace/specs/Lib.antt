@@ -1,0 +1,7 @@
+pub mod Columns
+pub mod Tables
+pub mod Vcd
+pub mod Writings
+pub mod Stands
+pub mod machine
+pub mod views

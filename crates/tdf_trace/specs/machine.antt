@@ -1,0 +1,4 @@
+-- How the code goes from row to row.
+pub mod Turning
+pub mod Putting
+pub mod Moving

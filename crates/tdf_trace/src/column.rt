@@ -1,0 +1,141 @@
+//! The cells of one column that wait for their rows.
+ghost use Rattle.std.specs.Prelude.{◌≡◌, [], OnOk, OnErr};
+ghost use Rattle.tdf_trace.specs.machine.Putting.{AreInOrder, IsPlace, column_with, is_time_at, put};
+ghost use Rattle.tdf_trace.specs.machine.Turning.{front_time, turned, waits};
+
+use std::alloc::{AllocError, Global};
+use std::collections::VecDeque;
+use std::marker::Model;
+use tdf_fixed::Raw;
+
+/// A cell that waits for its row.
+#[derive(Clone, Copy)]
+pub struct Held {
+    /// Its time, in counts of the model's resolution.
+    pub time: u64,
+    /// Its value, or `None` where it is only announced.
+    pub value: Option<Raw>,
+}
+
+/// A column: the cells of its rows to come, what its last row shows, and what the row before showed.
+#[derive(Drop)]
+pub(crate) struct Column {
+    held: VecDeque<Held>,
+    before: Option<Raw>,
+    shown: Option<Raw>,
+}
+
+impl Model for Column {
+    ghost use Rattle.tdf_trace.specs.Columns.{ColumnSeen};
+
+    ghost Value = { ColumnSeen };
+
+    ghost view = { λ a. record { held = a.held.items; before = a.before; shown = a.shown } };
+}
+
+impl Column {
+    /// A column without cells, which begins with this value.
+    pub(crate) fn new(alloc: Global, first: Option<Raw>) -> Column
+        ensures { result ≡ record { held = []; before = first; shown = first } }
+    {
+        Column {
+            held: VecDeque::new(alloc),
+            before: first,
+            shown: first,
+        }
+    }
+
+    /// The time of its first cell, or `limit` where it has none.
+    pub(crate) fn front_time(&self, limit: u64) -> u64
+        ensures { result ≡ front_time self.now.held limit }
+    {
+        match self.held.front() {
+            None => limit,
+            Some(item) => item.time,
+        }
+    }
+
+    /// Whether its first cell is of this time and only announced.
+    pub(crate) fn waits(&self, time: u64) -> bool
+        ensures { result ≡ waits self.now.held time }
+    {
+        match self.held.front() {
+            None => false,
+            Some(item) => item.time == time && item.value.is_none(),
+        }
+    }
+
+    /// What the row before its last one showed.
+    pub(crate) fn before(&self) -> Option<Raw>
+        ensures { result ≡ self.now.before }
+    {
+        self.before
+    }
+
+    /// What its last row shows.
+    pub(crate) fn shown(&self) -> Option<Raw>
+        ensures { result ≡ self.now.shown }
+    {
+        self.shown
+    }
+
+    /// Goes to the row of this time.
+    pub(crate) fn turn(&mut self, time: u64)
+        ensures { self.new ≡ turned time self.old }
+    {
+        self.before = self.shown;
+        let next = self.front_time(u64::MAX);
+        if next == time {
+            if let Some(item) = self.held.pop_front() {
+                self.shown = item.value;
+            }
+        }
+    }
+
+    /// One cell more, or the value of one that was announced.
+    pub(crate) fn put(&mut self, item: Held) -> Result<(), AllocError>
+        requires { AreInOrder self.old.held }
+        ensures ok { OnOk result (self.new ≡ column_with item self.old) }
+        ensures err { OnErr result (self.new ≡ self.old) }
+    {
+        put_into(&mut self.held, item)?;
+        Ok(())
+    }
+}
+
+/// The place of a time: after all cells before it. New cells mostly come last.
+fn place_of(held: &VecDeque<Held>, time: u64) -> usize
+    requires { AreInOrder held.now.items }
+    ensures { IsPlace held.now.items time result }
+{
+    let mut k = held.len();
+    while 0 < k && time <= held[k - 1].time {
+        k -= 1;
+    }
+    k
+}
+
+/// Whether the cell at this place is of this time.
+fn stands_at(held: &VecDeque<Held>, k: usize, time: u64) -> bool
+    ensures { result ≡ is_time_at held.now.items k time }
+{
+    match held.get(k) {
+        None => false,
+        Some(item) => item.time == time,
+    }
+}
+
+/// One cell more, or the value of one that was announced.
+fn put_into(held: &mut VecDeque<Held>, item: Held) -> Result<(), AllocError>
+    requires { AreInOrder held.old.items }
+    ensures ok { OnOk result (held.new.items ≡ put item held.old.items) }
+    ensures err { OnErr result (held.new.items ≡ held.old.items) }
+{
+    let k = place_of(held, item.time);
+    if stands_at(held, k, item.time) {
+        held[k] = item;
+        return Ok(());
+    }
+    held.insert(k, item)?;
+    Ok(())
+}

@@ -1,0 +1,175 @@
+//! Traces, and their calls.
+ghost use Rattle.std.specs.Prelude.{◌≡◌, ◌≤◌, ◌<◌, length, map, max, IfOk, OnOk, OnErr};
+ghost use Rattle.tdf_io.specs.Bytes.{WritesText};
+ghost use Rattle.tdf_io.specs.Faults.{CountsSinkFaults};
+ghost use Rattle.tdf_trace.specs.Columns.{HasFewPlaces};
+ghost use Rattle.tdf_trace.specs.Stands.{AreWrittenTo, IsNew, IsStageAfter, TakesCell, WritesFront, WritesRest, WritesRows};
+ghost use Rattle.tdf_trace.specs.Writings.{CanBeTraced, about_of, writing_of};
+ghost use Rattle.tdf_trace.specs.declared.stage.Stage.TheVariants.{New, Open};
+ghost use Rattle.tdf_trace.specs.views.Seen.{fresh};
+
+use crate::about::{About, Variable};
+use crate::column::{Column, Held};
+use crate::columns::put_cell;
+use crate::heads::{write_head, write_tail};
+use crate::rows::{Rows, write_below};
+use crate::stage::Stage;
+use std::alloc::Global;
+use std::marker::Model;
+use tdf_base::{Memory, Resolution};
+use tdf_io::{Sink, SinkErr};
+use tdf_rows::Cell;
+use tdf_words::TraceKind;
+
+/// A trace while it is written: what it is of, the cells that wait for their rows, and how far its rows are written. Contracts see
+/// how it is written (`about`), whether its head is (`stage`), its columns, and the time below which all rows are written (`upto`).
+#[derive(Drop)]
+pub struct Trace {
+    about: About,
+    stage: Stage,
+    rows: Rows,
+}
+
+impl Model for Trace {
+    ghost use Rattle.tdf_trace.specs.Stands.{TraceSeen};
+    ghost use Rattle.tdf_trace.specs.machine.Turning.{AreSound};
+    ghost use Rattle.tdf_trace.specs.views.Seen.{Fits, rows_seen};
+
+    ghost Value = { TraceSeen };
+
+    ghost view = { λ a. record { about = a.about; stage = a.stage; rows = rows_seen a.rows } };
+
+    ghost invariant = { λ a. record { fits : Fits a.about a.rows.columns.items; sound : AreSound a.rows.upto a.rows.columns.items } };
+}
+
+/// A column without cells for each variable.
+#[tactic(auto, using(crate::proofs::Fresh::fresh_laws))]
+fn columns_of(alloc: Global, variables: &Vec<Variable>) -> Result<Vec<Column>, Memory>
+    ensures { IfOk result (λ columns. columns.items ≡ map fresh variables.now.items) }
+{
+    let mut columns = Vec::new(alloc);
+    for i in 0..variables.len() {
+        columns.push(Column::new(alloc, variables[i].first))?;
+    }
+    Ok(columns)
+}
+
+impl Trace {
+    /// A trace of these variables, before its head is written. It has no cell: each column shows its first value.
+    ///
+    /// # Errors
+    /// Out of memory.
+    pub fn new(
+        alloc: Global,
+        variables: Vec<Variable>,
+        resolution: Resolution,
+        kind: TraceKind,
+    ) -> Result<Trace, Memory>
+        requires { CanBeTraced variables.items }
+        ensures { IfOk result (λ trace. IsNew trace (about_of kind resolution variables.items)) }
+    {
+        match columns_of(alloc, &variables) {
+            Ok(columns) => Ok(Trace {
+                about: About {
+                    kind,
+                    resolution,
+                    variables,
+                },
+                stage: Stage::New,
+                rows: Rows {
+                    columns,
+                    upto: 0,
+                    line: Vec::new(alloc),
+                },
+            }),
+            Err(error) => {
+                drop(variables);
+                Err(error)
+            }
+        }
+    }
+
+    /// Writes the head; the first write call of each line hands the sink the whole line.
+    ///
+    /// # Errors
+    /// `Failed` where a write failed, `Memory` where no memory was found. The sink then took a front part of the head, and the
+    /// trace is broken.
+    pub fn begin<K: Sink>(&mut self, sink: &mut K) -> Result<(), SinkErr>
+        requires new { self.old.stage ≡ New }
+        ensures wrote { WritesText K.taken K.faults sink.old sink.new (writing_of self.old.about).head result }
+        ensures stage { IsStageAfter result self.new.stage }
+        ensures about { self.new.about ≡ self.old.about }
+        ensures rows { self.new.rows ≡ self.old.rows }
+    {
+        match write_head(&mut self.rows.line, &self.about, sink) {
+            Ok(()) => {
+                self.stage = Stage::Open;
+                Ok(())
+            }
+            Err(error) => {
+                self.stage = Stage::Broken;
+                Err(error)
+            }
+        }
+    }
+
+    /// Takes a cell. One without a value is announced: its row waits until a later cell of this column and time gives the value.
+    ///
+    /// # Errors
+    /// Out of memory; the trace is then unchanged.
+    pub fn note(&mut self, cell: Cell) -> Result<(), Memory>
+        requires column { cell.column < length self.old.about.variables }
+        requires time { self.old.rows.upto ≤ cell.time }
+        requires value { HasFewPlaces cell.value }
+        ensures took { OnOk result (TakesCell cell self.old.rows self.new.rows) }
+        ensures upto { self.new.rows.upto ≡ self.old.rows.upto }
+        ensures stage { self.new.stage ≡ self.old.stage }
+        ensures about { self.new.about ≡ self.old.about }
+        ensures err { OnErr result (self.new ≡ self.old) }
+    {
+        let item = Held {
+            time: cell.time,
+            value: cell.value,
+        };
+        put_cell(&mut self.rows.columns, self.rows.upto, cell.column, item)?;
+        Ok(())
+    }
+
+    /// Writes the rows below the watermark, in order, up to the first with an announced cell that isn't given.
+    ///
+    /// # Errors
+    /// `Failed` where a write failed, `Memory` where no memory was found. The sink then took a front part of the rows below the
+    /// watermark, and the trace is broken.
+    pub fn advance<K: Sink>(&mut self, watermark: u64, sink: &mut K) -> Result<(), SinkErr>
+        requires open { self.old.stage ≡ Open }
+        ensures wrote { OnOk result (WritesRows self.old self.new (K.taken sink.old) (K.taken sink.new)) }
+        ensures written { OnOk result (AreWrittenTo self.new.rows watermark) }
+        ensures within { OnOk result (self.new.rows.upto ≤ max self.old.rows.upto watermark) }
+        ensures part { OnErr result (WritesFront self.old watermark (K.taken sink.old) (K.taken sink.new)) }
+        ensures counted { CountsSinkFaults (K.faults sink.old) (K.faults sink.new) result }
+        ensures stage { IsStageAfter result self.new.stage }
+        ensures about { self.new.about ≡ self.old.about }
+    {
+        match write_below(&self.about, &mut self.rows, watermark, true, sink) {
+            Ok(()) => Ok(()),
+            Err(error) => {
+                self.stage = Stage::Broken;
+                Err(error)
+            }
+        }
+    }
+
+    /// Writes the other rows below the end, unknown cells as such, and the tail.
+    ///
+    /// # Errors
+    /// `Failed` where a write failed, `Memory` where no memory was found. The sink then took a front part of this text.
+    pub fn finish<K: Sink>(mut self, end: u64, sink: &mut K) -> Result<(), SinkErr>
+        requires open { self.stage ≡ Open }
+        ensures { WritesRest K.taken K.faults sink.old sink.new self end result }
+    {
+        match write_below(&self.about, &mut self.rows, end, false, sink) {
+            Ok(()) => write_tail(&mut self.rows.line, &self.about, end, sink),
+            Err(error) => Err(error),
+        }
+    }
+}
