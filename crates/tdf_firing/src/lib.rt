@@ -1,0 +1,2 @@
+//! An activation of a module.
+#![tactic(auto)]
