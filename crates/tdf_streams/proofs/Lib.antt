@@ -1,0 +1,9 @@
+pub mod Api
+pub mod Edges
+pub mod Grounds
+pub mod Orders
+pub mod Plans
+pub mod Rows
+pub mod Sound
+pub mod Starts
+pub mod Times

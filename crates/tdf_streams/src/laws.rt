@@ -1,0 +1,43 @@
+//! What holds of the streams of a cluster: each function here only carries its clauses.
+
+ghost use Rattle.tdf_streams.specs.Laws.{AllAreKnown, AnyOrder, EndsWhole, FedAreKnown};
+ghost use Rattle.tdf_streams.specs.Laws.{FiringIsKnown, FirstPlanIsRecord, MoreKeeps, OrderStands};
+ghost use Rattle.tdf_streams.specs.Laws.{PlayedAreGrounded, StepsAreWhole, TextHasLists};
+ghost use Rattle.tdf_streams.specs.Laws.{TextHoldsDelays, TimesLieInside, TimesRise};
+
+/// From a start on, through periods with counts and a time of their own and with rates within their
+/// limits, in which each firing is grounded, each activation has a value where the samplers that it
+/// follows were given theirs. Further periods, values and steps change none of them.
+pub fn law_known()
+    ensures fed { FedAreKnown }
+    ensures all { AllAreKnown }
+    ensures more { MoreKeeps }
+{}
+
+/// An order of firings in which no step lacks a sample leads to the states and samples of the streams,
+/// whatever order it is; and where some firing of a period isn't grounded there is no complete one.
+pub fn law_any_order()
+    ensures stands { OrderStands }
+    ensures known { FiringIsKnown }
+    ensures any { AnyOrder }
+    ensures whole { EndsWhole }
+    ensures grounded { PlayedAreGrounded }
+{}
+
+/// At the start as the text says it each edge holds as many samples as the delays of its ports say.
+pub fn law_start()
+    ensures delays { TextHoldsDelays }
+    ensures lists { TextHasLists }
+{}
+
+/// The positions of a signal cut each period in equal steps, so their times rise.
+pub fn law_time()
+    ensures steps { StepsAreWhole }
+    ensures inside { TimesLieInside }
+    ensures rise { TimesRise }
+{}
+
+/// The plan of a cluster as the text says it is that of the record of its first period.
+pub fn law_plan_record()
+    ensures { FirstPlanIsRecord }
+{}
