@@ -11,7 +11,6 @@ use Rattle.tdf_dynamic.specs.Attributes.{AttrsOf, clusters_of}
 use Rattle.tdf_dynamic.specs.Faults.{IsTablePlan, pace_in}
 use Rattle.tdf_dynamic.specs.Rates.{net_of}
 use Rattle.tdf_dynamic.specs.Text.{attrs_if, first_attrs, first_table}
-use Rattle.tdf_dynamic.specs.declared.first.First.{First}
 use Rattle.tdf_expr.specs.Made.{start_rates}
 use Rattle.tdf_flat.specs.declared.model.Flat.{Flat}
 use Rattle.tdf_graph.specs.declared.actors.Edge.{Edge}
@@ -25,7 +24,7 @@ use Rattle.tdf_schedule.specs.Needs.{HasKey}
 use Rattle.tdf_streams.proofs.Edges.{is_plannable}
 use Rattle.tdf_streams.proofs.Grounds.{no_pace}
 use Rattle.tdf_streams.proofs.Rows.{all_at}
-use Rattle.tdf_streams.specs.Laws.{FirstPlanIsRecord, HasFirstRecord}
+use Rattle.tdf_streams.specs.Laws.{FirstPlanIsRecord, TablePlanIsRecord}
 use Rattle.tdf_streams.specs.Periods.{AreAttributes, HasAllowedRates}
 use Rattle.tdf_timestep.specs.Period.{IsPeriod}
 use Rattle.tdf_wiring.specs.declared.modules.ModuleRow.{ModuleRow}
@@ -99,30 +98,30 @@ module _ (flat : Flat) (cluster : ℕ) (limits : AreWithinLimits flat) where
         (all_allowed 0 flat.tables.modules (λ j. let z : 0 + j ≡ j = omega arith in ap (slice_get flat.tables.modules) z));
   }
 
-  first_record : (first : First) → AreAttributes flat cluster first.attrs → IsTablePlan flat.tables cluster first.attrs first.plan → HasFirstRecord flat cluster first
-  first_record first attributes is = record {
-    counts = is.counts;
-    steps = is.steps;
-    record_is = record {
-      is = record {
-        timed = record {
-          attributes = attributes;
-          writes_are = refl;
-          reads_are = refl;
-          counts_are = is.timing.counts_are.counts_are;
-          period_is = subst (λ n. IsPeriod (net_of flat.tables first.attrs).ports is.counts (assignments first.attrs) n) (sym is.plan_is.planned.same) is.timing.steps_are.is;
-          long = refl;
-          left = λ m. omega arith;
-        };
-        grounded = plan_grounded (net_of flat.tables first.attrs).edges (pace_in (net_of flat.tables first.attrs) is.steps) is.counts first.plan.entries.items is.plan_is.planned.planned;
+pub table_record : TablePlanIsRecord
+table_record flat cluster table plan is_new attributes is = record {
+  counts = is.counts;
+  steps = is.steps;
+  record_is = record {
+    is = record {
+      timed = record {
+        attributes = attributes;
+        writes_are = refl;
+        reads_are = refl;
+        counts_are = is.timing.counts_are.counts_are;
+        period_is = subst (λ n. IsPeriod (net_of flat.tables table).ports is.counts (assignments table) n) (sym is.plan_is.planned.same) is.timing.steps_are.is;
+        long = refl;
+        left = λ m. omega arith;
       };
-      whole = refl;
+      grounded = plan_grounded (net_of flat.tables table).edges (pace_in (net_of flat.tables table) is.steps) is.counts plan.entries.items is.plan_is.planned.planned;
     };
-    steps_are = is.timing.steps_are;
-    same_period = sym is.plan_is.planned.same;
-    plan_is = subst (λ n. HasPlan (net_of flat.tables first.attrs).edges (pace_in (net_of flat.tables first.attrs) is.steps) is.counts n first.plan) (sym is.plan_is.planned.same) is.plan_is.planned;
-  }
+    whole = refl;
+  };
+  steps_are = is.timing.steps_are;
+  same_period = sym is.plan_is.planned.same;
+  plan_is = subst (λ n. HasPlan (net_of flat.tables table).edges (pace_in (net_of flat.tables table) is.steps) is.counts n plan) (sym is.plan_is.planned.same) is.plan_is.planned;
+}
 
-pub plan_record : FirstPlanIsRecord
-plan_record flat cluster first limits is = first_record flat cluster limits first (subst (AreAttributes flat cluster) (sym is.attrs_are) (text_attributes flat cluster limits))
+pub first_record : FirstPlanIsRecord
+first_record flat cluster first limits is = table_record flat cluster first.attrs first.plan true (subst (AreAttributes flat cluster) (sym is.attrs_are) (text_attributes flat cluster limits))
     (subst (λ (table : List AttrsOf). IsTablePlan flat.tables cluster table first.plan) (sym is.attrs_are) is.plan_is)

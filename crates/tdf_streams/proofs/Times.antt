@@ -19,7 +19,7 @@ use Rattle.tdf_graph.specs.Ranges.{IsRate}
 use Rattle.tdf_limits.specs.Limits.{AreWithinLimits}
 use Rattle.tdf_streams.proofs.Edges.{are_rates, is_wired}
 use Rattle.tdf_streams.proofs.Rows.{all_at, at_contains}
-use Rattle.tdf_streams.specs.Laws.{IsPortOf, StepsAreWhole, TimesLieInside, TimesRise}
+use Rattle.tdf_streams.specs.Laws.{IsClusterPort, StepsAreWhole, TimesLieInside, TimesRise}
 use Rattle.tdf_streams.specs.Periods.{IsTimedRecord, PeriodInfo, PeriodRecord, net_in}
 use Rattle.tdf_streams.specs.Signals.{position_time, positions, rate_in, step_in, time_at_spot, time_of}
 use Rattle.tdf_timestep.specs.Period.{IsAssigned, rate_at, rate_of, share_of}
@@ -57,7 +57,7 @@ module _ (flat : Flat) (cluster : ℕ) (limits : AreWithinLimits flat) (p : Peri
       given = all_at (IsAssigned (net_ports flat.tables p.info.table) p.info.counts) (assignments p.info.table) 0 first.0
           (assigned_fit flat.tables cluster p.info.table (net_in flat.tables p).edges p.info.counts timed.counts_are (modules_few flat.tables (is_wired flat limits)) timed.attributes.own) first.1
 
-  module _ (number : ℕ) (port : PortRow) (of : IsPortOf flat cluster number port) where
+  module _ (number : ℕ) (port : PortRow) (of : IsClusterPort flat cluster number port) where
     at_spot : TimeSpot
     at_spot = record { actor = port.«module»; port = Some number }
 
@@ -175,7 +175,7 @@ module _ (port : PortRow) where
   found_of None t at = none_some t at
   found_of (Some s) t at = (s, refl, some_same (time_at_spot port s) t at)
 
-module _ (flat : Flat) (cluster number : ℕ) (port : PortRow) (limits : AreWithinLimits flat) (of : IsPortOf flat cluster number port) (periods : List PeriodRecord)
+module _ (flat : Flat) (cluster number : ℕ) (port : PortRow) (limits : AreWithinLimits flat) (of : IsClusterPort flat cluster number port) (periods : List PeriodRecord)
     (timed : All (IsTimedRecord flat cluster) periods) where
   cuts : (k : ℕ) (p : PeriodRecord) → slice_get periods k ≡ Some p → IsCut port p
   unfolding IsCut

@@ -22,8 +22,8 @@ use Rattle.tdf_wiring.specs.declared.drivers.SignalRow.{SignalRow}
 use Rattle.tdf_wiring.specs.declared.edges.EdgeRow.{EdgeRow}
 use Rattle.tdf_wiring.specs.declared.modules.PortRow.{PortRow}
 
--- what a cluster starts from: the samples that each edge holds, none for edges of other clusters, and
--- what the variables of each module hold
+-- what a cluster starts from: the samples that each edge holds, none for edges of other clusters,
+-- and what the variables of each module hold
 pub record Start : Type 0 where
   pub lists : List (List Raw)
   pub cells : List (List ℤ)
@@ -92,8 +92,8 @@ abbrev pub driver_samples : FlatOf → Option ℕ → List Raw
 driver_samples tables None = []
 driver_samples tables (Some driver) = initial_samples tables (slice_get tables.ports driver)
 
--- the samples that an edge holds at first: the initial ones of the port that gives it, then those of
--- the port that drives it
+-- the samples that an edge holds at first: the initial ones of the port that gives it, then those
+-- of the port that drives it
 abbrev pub initial_list : FlatOf → EdgeRow → List Raw
 initial_list tables edge =
     initial_samples tables (slice_get tables.ports edge.port) ++ driver_samples tables edge.driver

@@ -1,9 +1,9 @@
 -- What holds of the streams of a cluster.
 -- Source: own.
-use Rattle.std.specs.Prelude.{ℕ, ◌+◌, ◌*◌, ◌<◌, ◌≤◌, ◌≡◌, true, Some, List, [], ◌∷◌, All, length}
+use Rattle.std.specs.Prelude.{ℕ, Bool, ◌+◌, ◌*◌, ◌<◌, ◌≤◌, ◌≡◌, true, Some, List, [], ◌∷◌, All, length}
 use Rattle.std.specs.Prelude.{count_by, nat_eq, slice_get, slice_index, slice_index_or, sum_by, ℤ}
 use Rattle.tdf_dynamic.specs.Attributes.{AttrsOf, clusters_of}
-use Rattle.tdf_dynamic.specs.Faults.{HasStepsOf, pace_in}
+use Rattle.tdf_dynamic.specs.Faults.{HasStepsOf, IsTablePlan, pace_in}
 use Rattle.tdf_dynamic.specs.First.{IsFirstPlan}
 use Rattle.tdf_dynamic.specs.Rates.{net_of}
 use Rattle.tdf_dynamic.specs.declared.first.First.{First}
@@ -19,8 +19,9 @@ use Rattle.tdf_flow.specs.Stands.{Less, Longer, Play, Stands, run_of}
 use Rattle.tdf_flow.specs.Streams.{Spot, find, known}
 use Rattle.tdf_limits.specs.Limits.{AreWithinLimits}
 use Rattle.tdf_schedule.specs.Plan.{HasPlan}
+use Rattle.tdf_schedule.specs.declared.entry.Plan.{Plan}
 use Rattle.tdf_streams.specs.Cluster.{Start, cluster_net, text_start}
-use Rattle.tdf_streams.specs.Periods.{AreGrounded, IsTimedRecord, IsWholeRecord}
+use Rattle.tdf_streams.specs.Periods.{AreAttributes, AreGrounded, IsTimedRecord, IsWholeRecord}
 use Rattle.tdf_streams.specs.Periods.{PeriodInfo, PeriodRecord, period_record}
 use Rattle.tdf_streams.specs.Signals.{position_time, positions, step_in, time_at_spot, time_of}
 use Rattle.tdf_streams.specs.Starts.{ArePast, AreRecords, HasLists, held_at_head}
@@ -46,8 +47,8 @@ abbrev pub HasValue : ClusterNet → ClusterRun → (m n : ℕ) → Type 0
 HasValue net run m n =
     (t : Turn (List ℤ) Raw) × (known net run (firings run.periods) m n ≡ Some t)
 
--- from a start on each activation of the periods has a value where the samplers that it follows were
--- given theirs
+-- from a start on each activation of the periods has a value where the samplers that it follows
+-- were given theirs
 abbrev pub FedAreKnown : Type 0
 FedAreKnown = (model : PureTree) (flat : Flat) (cluster : ℕ) (start : Start)
     → (first : PeriodRecord) (later : List PeriodRecord) (reads : ℕ → List Raw)
@@ -119,7 +120,7 @@ AnyOrder = (model : PureTree) (flat : Flat) (cluster : ℕ) (start : Start)
     → ((m : ℕ) → turns_in one m ≡ turns_in other m)
     → IsSame (cluster_net model flat cluster start) z v
 
--- after a complete order of a period each edge of the cluster holds what it holds at the head of each
+-- after a complete order each edge of the cluster holds what it holds at the head of each period
 abbrev pub EndsWhole : Type 0
 EndsWhole = (model : PureTree) (flat : Flat) (cluster : ℕ) (start : Start)
     → (old : List PeriodRecord) (p : PeriodRecord) (reads : ℕ → List Raw) (order : List ℕ)
@@ -141,8 +142,8 @@ PlayedAreGrounded = (model : PureTree) (flat : Flat) (cluster : ℕ) (start : St
     → IsPlayed (cluster_net model flat cluster start) old p reads order y z → IsComplete order p
     → AreGrounded flat p
 
--- at the start as the text says it each edge of the cluster holds as many samples as the delays of its
--- ports say, and edges of other clusters hold none
+-- at the start as the text says it each edge of the cluster holds as many samples as the delays of
+-- its ports say, and edges of other clusters hold none
 abbrev pub TextHoldsDelays : Type 0
 TextHoldsDelays = (model : PureTree) (flat : Flat) (cluster : ℕ) (table : List AttrsOf)
     → IsFlatOf model flat → (e : ℕ) → e < length flat.tables.edges
@@ -156,14 +157,14 @@ TextHasLists = (model : PureTree) (flat : Flat) (cluster : ℕ) (table : List At
     → HasLists flat cluster (text_start model flat cluster table) p
 
 -- a port of a module of a cluster
-pub record IsPortOf (flat : Flat) (cluster number : ℕ) (port : PortRow) : Type 0 where
+pub record IsClusterPort (flat : Flat) (cluster number : ℕ) (port : PortRow) : Type 0 where
   pub there : slice_get flat.tables.ports number ≡ Some port
   pub inside : slice_index (clusters_of flat.tables) port.«module» ≡ cluster
 
 -- the steps of a signal cut a period in equal parts
 abbrev pub StepsAreWhole : Type 0
 StepsAreWhole = (flat : Flat) (cluster number : ℕ) (port : PortRow) (p : PeriodRecord)
-    → AreWithinLimits flat → IsPortOf flat cluster number port → IsTimedRecord flat cluster p
+    → AreWithinLimits flat → IsClusterPort flat cluster number port → IsTimedRecord flat cluster p
     → (0 < step_in port p) × (positions port p * step_in port p ≡ p.info.period)
 
 -- position j lies inside a period, with all of its step
@@ -177,28 +178,35 @@ pub record LiesInside (periods : List PeriodRecord) (port : PortRow) (j : ℕ) :
 -- so each position of periods does
 abbrev pub TimesLieInside : Type 0
 TimesLieInside = (flat : Flat) (cluster number : ℕ) (port : PortRow) (periods : List PeriodRecord)
-    → (j : ℕ) → AreWithinLimits flat → IsPortOf flat cluster number port
+    → (j : ℕ) → AreWithinLimits flat → IsClusterPort flat cluster number port
     → All (IsTimedRecord flat cluster) periods → j < sum_by (positions port) periods
     → LiesInside periods port j
 
 -- and the times of its positions rise
 abbrev pub TimesRise : Type 0
 TimesRise = (flat : Flat) (cluster number : ℕ) (port : PortRow) (periods : List PeriodRecord)
-    → (i j s t : ℕ) → AreWithinLimits flat → IsPortOf flat cluster number port
+    → (i j s t : ℕ) → AreWithinLimits flat → IsClusterPort flat cluster number port
     → All (IsTimedRecord flat cluster) periods → i < j
     → position_time periods port i ≡ Some s → position_time periods port j ≡ Some t → s < t
 
--- the plan of a cluster as the text says it is that of a whole record
-pub record HasFirstRecord (flat : Flat) (cluster : ℕ) (first : First) : Type 0 where
+-- a plan under a table of attributes is that of a whole record
+pub record HasRecord (flat : Flat) (cluster : ℕ) (table : List AttrsOf) (plan : Plan)
+    (is_new : Bool) : Type 0 where
   pub counts : List ℕ
   pub steps : Steps
   pub record_is : IsWholeRecord flat cluster
-      (period_record flat.tables first.attrs counts first.plan.period true)
-  pub steps_are : HasStepsOf (net_of flat.tables first.attrs) first.attrs counts steps
-  pub same_period : steps.period ≡ first.plan.period
-  pub plan_is : HasPlan (net_of flat.tables first.attrs).edges
-      (pace_in (net_of flat.tables first.attrs) steps) counts first.plan.period first.plan
+      (period_record flat.tables table counts plan.period is_new)
+  pub steps_are : HasStepsOf (net_of flat.tables table) table counts steps
+  pub same_period : steps.period ≡ plan.period
+  pub plan_is : HasPlan (net_of flat.tables table).edges
+      (pace_in (net_of flat.tables table) steps) counts plan.period plan
 
+abbrev pub TablePlanIsRecord : Type 0
+TablePlanIsRecord = (flat : Flat) (cluster : ℕ) (table : List AttrsOf) (plan : Plan)
+    → (is_new : Bool) → AreAttributes flat cluster table
+    → IsTablePlan flat.tables cluster table plan → HasRecord flat cluster table plan is_new
+
+-- so is that of the text
 abbrev pub FirstPlanIsRecord : Type 0
 FirstPlanIsRecord = (flat : Flat) (cluster : ℕ) (first : First) → AreWithinLimits flat
-    → IsFirstPlan flat cluster first → HasFirstRecord flat cluster first
+    → IsFirstPlan flat cluster first → HasRecord flat cluster first.attrs first.plan true

@@ -1,6 +1,7 @@
 -- The periods of a cluster: what each of them records.
 -- Source: own; counts after Lee and Messerschmitt 1987, timesteps after IEEE 1666.1-2016.
-use Rattle.std.specs.Prelude.{◌≡◌, ◌<◌, ◌≤◌, ◌-◌, ℕ, Bool, List, length, map, slice_get, slice_index, All}
+use Rattle.std.specs.Prelude.{◌≡◌, ◌<◌, ◌≤◌, ◌-◌, ℕ, Bool, List, length, map, slice_get}
+use Rattle.std.specs.Prelude.{slice_index, All}
 use Rattle.tdf_bind.specs.Flat.{FlatOf}
 use Rattle.tdf_dynamic.specs.Assignments.{assignments}
 use Rattle.tdf_dynamic.specs.Attributes.{AttrsOf, IsOfCluster, clusters_of}
@@ -14,8 +15,8 @@ use Rattle.tdf_meaning.specs.Fits.{RatesFit}
 use Rattle.tdf_schedule.specs.Needs.{IsGrounded}
 use Rattle.tdf_timestep.specs.Period.{IsPeriod}
 
--- beside the counts of what is done in it and the rates: the attributes in force, the counts and the
--- time of the whole period, in counts of the model's resolution, and whether its plan is a new one
+-- beside the counts of what is done in it and the rates: the attributes in force, the counts of the
+-- whole period, its time, in counts of the model's resolution, and whether its plan is a new one
 pub record PeriodInfo : Type 0 where
   pub table : List AttrsOf
   pub counts : List ℕ

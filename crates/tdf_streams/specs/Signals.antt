@@ -28,8 +28,8 @@ step_in port p = p.info.period / positions port p
 abbrev pub time_of : List PeriodRecord → ℕ
 time_of periods = sum_by (λ (p : PeriodRecord). p.info.period) periods
 
--- the time of position j of the signal that a port drives, from the start of the first period on, if
--- the periods have so many positions; that period has all its positions, also where some of its
+-- the time of position j of the signal that a port drives, from the start of the first period on,
+-- if the periods have so many positions; that period has all its positions, also where some of its
 -- firings were done before the start
 abbrev pub time_at_spot : PortRow → Spot PeriodInfo → ℕ
 time_at_spot port s = time_of s.before + s.rest * step_in port s.period

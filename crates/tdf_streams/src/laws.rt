@@ -2,8 +2,8 @@
 
 ghost use Rattle.tdf_streams.specs.Laws.{AllAreKnown, AnyOrder, EndsWhole, FedAreKnown};
 ghost use Rattle.tdf_streams.specs.Laws.{FiringIsKnown, FirstPlanIsRecord, MoreKeeps, OrderStands};
-ghost use Rattle.tdf_streams.specs.Laws.{PlayedAreGrounded, StepsAreWhole, TextHasLists};
-ghost use Rattle.tdf_streams.specs.Laws.{TextHoldsDelays, TimesLieInside, TimesRise};
+ghost use Rattle.tdf_streams.specs.Laws.{PlayedAreGrounded, StepsAreWhole, TablePlanIsRecord};
+ghost use Rattle.tdf_streams.specs.Laws.{TextHasLists, TextHoldsDelays, TimesLieInside, TimesRise};
 
 /// From a start on, through periods with counts and a time of their own and with rates within their
 /// limits, in which each firing is grounded, each activation has a value where the samplers that it
@@ -14,8 +14,8 @@ pub fn law_known()
     ensures more { MoreKeeps }
 {}
 
-/// An order of firings in which no step lacks a sample leads to the states and samples of the streams,
-/// whatever order it is; and where some firing of a period isn't grounded there is no complete one.
+/// An order of firings in which no step lacks a sample leads to the states and samples of the
+/// streams, whatever order it is; and where some firing isn't grounded there is no complete one.
 pub fn law_any_order()
     ensures stands { OrderStands }
     ensures known { FiringIsKnown }
@@ -37,7 +37,8 @@ pub fn law_time()
     ensures rise { TimesRise }
 {}
 
-/// The plan of a cluster as the text says it is that of the record of its first period.
+/// The plan of a cluster under a table of attributes is that of a record, and so is the text's.
 pub fn law_plan_record()
-    ensures { FirstPlanIsRecord }
+    ensures table { TablePlanIsRecord }
+    ensures first { FirstPlanIsRecord }
 {}

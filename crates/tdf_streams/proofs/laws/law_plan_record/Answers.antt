@@ -1,5 +1,5 @@
-use Rattle.tdf_streams.proofs.Api.{plan_record}
+use Rattle.tdf_streams.proofs.Api.{first_record, table_record}
 use Rattle.tdf_streams.proofs.laws.law_plan_record.Goals as goal
 
 pub returns : goal.returns
-returns c = plan_record
+returns c = record { table = table_record; first = first_record }
