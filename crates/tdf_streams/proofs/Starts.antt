@@ -6,6 +6,7 @@ use Rattle.std.proofs.lemmas.Option.{get_or_from_slice_get, slice_get-map}
 use Rattle.std.specs.List.{AllByRecursion, cons_option, enumerate_from}
 use Rattle.std.specs.Prelude.{All, IfSome, filter_map}
 use Rattle.tdf_bind.specs.Flat.{FlatOf}
+use Rattle.tdf_dynamic.specs.Attributes.{AttrsOf}
 use Rattle.tdf_flat.specs.Flat.{IsFlatOf}
 use Rattle.tdf_flat.specs.declared.model.Flat.{Flat}
 use Rattle.tdf_flow.proofs.Api.{get_inside, none_some}
@@ -27,7 +28,7 @@ use Rattle.tdf_wiring.specs.declared.modules.PortRow.{PortRow}
 samples_long : (tables : FlatOf) (o : Option PortRow) (port : PortRow) → o ≡ Some port → length (initial_samples tables o) ≡ port.delay
 samples_long tables o port is = ap (λ x. length (initial_samples tables x)) is ∙ length-map-range_with_len (initial_sample tables port) 0 port.delay
 
-module _ (tables : FlatOf) (modules : ℕ) (signals : List SignalRow) where
+module _ (tables : FlatOf) (signals : List SignalRow) where
   -- the samples of an edge are as many as it says
   IsLong : EdgeRow → Type 0
   IsLong edge = length (initial_list tables edge) ≡ edge.initial
@@ -59,25 +60,32 @@ module _ (tables : FlatOf) (modules : ℕ) (signals : List SignalRow) where
   by_kind DeIn number actor port at = one_port number port _ at refl refl refl
   by_kind DeOut number actor port at = one_port number port _ at refl refl refl
 
-  one_more : (o : Option EdgeRow) (edges : List EdgeRow) → IfSome o IsLong → AllByRecursion IsLong edges → AllByRecursion IsLong (cons_option o edges)
+-- what holds of the edge that each port gives holds of all edges of a flat model
+module _ (signals : List SignalRow) (ports : List PortRow) (P : EdgeRow → Type 0)
+    (each : (number actor : ℕ) (port : PortRow) → slice_get ports number ≡ Some port → IfSome (edge_of_kind port.kind signals ports number actor port) P) where
+  one_more : (o : Option EdgeRow) (edges : List EdgeRow) → IfSome o P → AllByRecursion P edges → AllByRecursion P (cons_option o edges)
   one_more None edges here rest = rest
   one_more (Some edge) edges here rest = (here, rest)
 
-  all_long : (k : ℕ) (rows : List PortRow) → ((j : ℕ) → slice_get tables.ports (k + j) ≡ slice_get rows j)
-      → AllByRecursion IsLong (filter_map (λ port. edge_by signals tables.ports port.0 (actor_at modules tables.ports port.0) port.1) (enumerate_from k rows))
-  all_long k [] same = tt
-  all_long k (port ∷ rows) same =
+  all_from : (modules k : ℕ) (rows : List PortRow) → ((j : ℕ) → slice_get ports (k + j) ≡ slice_get rows j)
+      → AllByRecursion P (filter_map (λ port. edge_by signals ports port.0 (actor_at modules ports port.0) port.1) (enumerate_from k rows))
+  all_from modules k [] same = tt
+  all_from modules k (port ∷ rows) same =
       let z : k ≡ k + 0 = omega arith in
-      one_more (edge_by signals tables.ports k (actor_at modules tables.ports k) port) _ (by_kind port.kind k (actor_at modules tables.ports k) port (ap (slice_get tables.ports) z ∙ same 0))
-      (all_long (k + 1) rows (λ j. let n : k + 1 + j ≡ k + suc j = omega arith in ap (slice_get tables.ports) n ∙ same (suc j)))
+      one_more (edge_by signals ports k (actor_at modules ports k) port) _ (each k (actor_at modules ports k) port (ap (slice_get ports) z ∙ same 0))
+      (all_from modules (k + 1) rows (λ j. let n : k + 1 + j ≡ k + suc j = omega arith in ap (slice_get ports) n ∙ same (suc j)))
+
+pub edges_all : (model : PureTree) (flat : Flat) (P : EdgeRow → Type 0) → IsFlatOf model flat
+    → ((number actor : ℕ) (port : PortRow) → slice_get flat.tables.ports number ≡ Some port → IfSome (edge_of_kind port.kind flat.tables.signals flat.tables.ports number actor port) P) → All P flat.tables.edges
+edges_all model flat P is each = subst (λ (es : List EdgeRow). All P es) (sym is.tables.follows.edges)
+    (All-from_recursion P (edges_of (length flat.tables.modules) flat.tables.signals flat.tables.ports)
+    (all_from flat.tables.signals flat.tables.ports P each (length flat.tables.modules) 0 flat.tables.ports (λ j. let z : 0 + j ≡ j = omega arith in ap (slice_get flat.tables.ports) z)))
 
 -- an edge of a flat model holds at the start of the text as many samples as it says
 list_long : (model : PureTree) (flat : Flat) → IsFlatOf model flat → (e : ℕ) (edge : EdgeRow) → slice_get flat.tables.edges e ≡ Some edge → length (initial_list flat.tables edge) ≡ edge.initial
 unfolding IsLong
 list_long model flat is e edge at = all_at (λ (x : EdgeRow). length (initial_list flat.tables x) ≡ x.initial) flat.tables.edges e edge
-    (subst (λ (es : List EdgeRow). All (λ (x : EdgeRow). length (initial_list flat.tables x) ≡ x.initial) es) (sym is.tables.follows.edges)
-    (All-from_recursion (λ (x : EdgeRow). length (initial_list flat.tables x) ≡ x.initial) (edges_of (length flat.tables.modules) flat.tables.signals flat.tables.ports)
-    (all_long flat.tables (length flat.tables.modules) flat.tables.signals 0 flat.tables.ports (λ j. let z : 0 + j ≡ j = omega arith in ap (slice_get flat.tables.ports) z)))) at
+    (edges_all model flat (λ (x : EdgeRow). length (initial_list flat.tables x) ≡ x.initial) is (λ number actor port there. by_kind flat.tables flat.tables.signals port.kind number actor port there)) at
 
 numbered : {X : Type 0} (k : ℕ) (xs : List X) (j : ℕ) (x : X) → slice_get xs j ≡ Some x → slice_get (enumerate_from k xs) j ≡ Some (k + j, x)
 numbered k [] j x at = none_some x at
@@ -89,18 +97,20 @@ own_long : (tables : FlatOf) (cluster e : ℕ) (edge : EdgeRow) (own : Bool) →
 own_long tables cluster e edge true long = long
 own_long tables cluster e edge false long = refl
 
+-- the list of an edge at the start of the text
+pub text_list : (model : PureTree) (flat : Flat) (cluster : ℕ) (table : List AttrsOf) (e : ℕ) (edge : EdgeRow) → slice_get flat.tables.edges e ≡ Some edge
+    → slice_index_or (text_start model flat cluster table).lists e [] ≡ list_if_own flat.tables cluster e edge
+text_list model flat cluster table e edge at = get_or_from_slice_get (text_start model flat cluster table).lists e (list_if_own flat.tables cluster e edge) []
+    (slice_get-map (λ edge. list_if_own flat.tables cluster edge.0 edge.1) (enumerate_from 0 flat.tables.edges) e
+    ∙ ap (option_map (λ edge. list_if_own flat.tables cluster edge.0 edge.1)) (numbered 0 flat.tables.edges e edge at ∙ ap (λ n. Some (n, edge)) (omega arith)))
+
 pub text_holds_delays : TextHoldsDelays
 text_holds_delays model flat cluster table is e inside =
-    ap length there ∙ own_long flat.tables cluster e row.0 (is_own flat.tables cluster e) (list_long model flat is e row.0 row.1)
+    ap length (text_list model flat cluster table e row.0 row.1) ∙ own_long flat.tables cluster e row.0 (is_own flat.tables cluster e) (list_long model flat is e row.0 row.1)
     ∙ ap (λ n. if is_own flat.tables cluster e then n else 0) (ap initial_of_row (sym row.1))
   where
     row : (edge : EdgeRow) × (slice_get flat.tables.edges e ≡ Some edge)
     row = get_inside flat.tables.edges e inside
-
-    there : slice_index_or (text_start model flat cluster table).lists e [] ≡ list_if_own flat.tables cluster e row.0
-    there = get_or_from_slice_get (text_start model flat cluster table).lists e (list_if_own flat.tables cluster e row.0) []
-        (slice_get-map (λ edge. list_if_own flat.tables cluster edge.0 edge.1) (enumerate_from 0 flat.tables.edges) e
-        ∙ ap (option_map (λ edge. list_if_own flat.tables cluster edge.0 edge.1)) (numbered 0 flat.tables.edges e row.0 row.1 ∙ ap (λ n. Some (n, row.0)) (omega arith)))
 
 pub text_has_lists : TextHasLists
 text_has_lists model flat cluster table p is whole e inside =

@@ -1,4 +1,5 @@
 pub mod Bodies
+pub mod Carried
 pub mod Cluster
 pub mod Laws
 pub mod Periods

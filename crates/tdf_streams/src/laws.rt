@@ -1,5 +1,7 @@
 //! What holds of the streams of a cluster: each function here only carries its clauses.
 
+ghost use Rattle.tdf_streams.specs.Carried.{EdgesBeginAsRead, EdgesCarrySignals};
+ghost use Rattle.tdf_streams.specs.Carried.{OutputsAreSamples};
 ghost use Rattle.tdf_streams.specs.Laws.{AllAreKnown, AnyOrder, EndsWhole, FedAreKnown};
 ghost use Rattle.tdf_streams.specs.Laws.{FiringIsKnown, FirstPlanIsRecord, MoreKeeps, OrderStands};
 ghost use Rattle.tdf_streams.specs.Laws.{PlayedAreGrounded, StepsAreWhole, TablePlanIsRecord};
@@ -28,6 +30,14 @@ pub fn law_any_order()
 pub fn law_start()
     ensures delays { TextHoldsDelays }
     ensures lists { TextHasLists }
+{}
+
+/// The outputs of a port are the samples of its signal after the initial ones of the port, and an
+/// edge to a port that reads the signal has them after the initial ones of that port.
+pub fn law_signal()
+    ensures outputs { OutputsAreSamples }
+    ensures begins { EdgesBeginAsRead }
+    ensures carries { EdgesCarrySignals }
 {}
 
 /// The positions of a signal cut each period in equal steps, so their times rise.

@@ -7,4 +7,4 @@
 
 mod laws;
 
-pub use laws::{law_any_order, law_known, law_plan_record, law_start, law_time};
+pub use laws::{law_any_order, law_known, law_plan_record, law_signal, law_start, law_time};
