@@ -47,6 +47,10 @@ writing_by Vcd resolution variables = vcd_writing resolution variables
 abbrev pub writing_of : AboutSeen → Writing
 writing_of about = writing_by about.kind about.resolution about.variables
 
+-- the head of a trace
+abbrev pub head_of : AboutSeen → List ℕ
+head_of about = (writing_of about).head
+
 -- what a column shows before its first cell
 abbrev pub first_of : List Variable → (column : ℕ) → Option Raw
 first_of variables column = cell_at (map (λ v. v.first) variables) column
@@ -70,5 +74,5 @@ pub record CanBeTraced (variables : List Variable) : Type 0 where
 abbrev pub MakesWhole : Type 0
 MakesWhole = (about : AboutSeen) (cells : Cells) (upto end : ℕ)
     → ((t : ℕ) → end ≤ t → t < upto → is_row cells t ≡ false)
-    → (writing_of about).head ++ rows_text about cells 0 upto ++ rest_text about cells upto end
+    → head_of about ++ rows_text about cells 0 upto ++ rest_text about cells upto end
     ≡ trace_text (writing_of about) cells end
