@@ -96,7 +96,8 @@ impl Trace {
     /// trace is broken.
     pub fn begin<K: Sink>(&mut self, sink: &mut K) -> Result<(), SinkErr>
         requires new { self.old.stage ≡ New }
-        ensures wrote { WritesText K.taken K.faults sink.old sink.new (head_of self.old.about) result }
+        ensures wrote { WritesText K.taken K.faults sink.old sink.new
+            (head_of self.old.about) result }
         ensures stage { IsStageAfter result self.new.stage }
         ensures about { self.new.about ≡ self.old.about }
         ensures rows { self.new.rows ≡ self.old.rows }
