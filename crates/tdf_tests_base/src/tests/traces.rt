@@ -11,7 +11,7 @@ use std::test::Fail;
 use tdf_base::{Memory, Name, Resolution};
 use tdf_fixed::{Format, Over, Quant, Raw};
 use tdf_io::{SinkErr, SureSink};
-use tdf_rows::Cell;
+use tdf_rows::{Cell, Stamps};
 use tdf_trace::{Trace, Variable};
 use tdf_words::TraceKind;
 
@@ -163,4 +163,14 @@ fn traces(rt: HostRuntime) -> Result<(), Fail> {
     let dump = text_of(rt.alloc(), TraceKind::Vcd, Resolution::Fs)?;
     assert_eq!(rt; dump.bytes(), DUMP.as_bytes());
     Ok(())
+}
+
+#[test]
+fn stamps(rt: HostRuntime) {
+    let mut stamps = Stamps::new();
+    stamps.begin(10, 5, 2);
+    assert_eq!(rt; stamps.next(), 10);
+    assert_eq!(rt; stamps.next(), 15);
+    stamps.begin(20, 3, 1);
+    assert_eq!(rt; stamps.next(), 20);
 }
