@@ -63,6 +63,10 @@ rows_text about cells from end = text_from (writing_of about).line cells from (e
 abbrev pub rest_text : AboutSeen → Cells → (from end : ℕ) → List ℕ
 rest_text about cells from end = rows_text about cells from end ++ (writing_of about).tail end
 
+-- what is written of a trace when its rows below a time are
+abbrev pub written_text : AboutSeen → Cells → (upto : ℕ) → List ℕ
+written_text about cells upto = head_of about ++ rows_text about cells 0 upto
+
 -- a trace can have these variables: not too many, and what they begin with can be written
 pub record CanBeTraced (variables : List Variable) : Type 0 where
   pub few : length variables ≤ most_traces
@@ -74,5 +78,5 @@ pub record CanBeTraced (variables : List Variable) : Type 0 where
 abbrev pub MakesWhole : Type 0
 MakesWhole = (about : AboutSeen) (cells : Cells) (upto end : ℕ)
     → ((t : ℕ) → end ≤ t → t < upto → is_row cells t ≡ false)
-    → head_of about ++ rows_text about cells 0 upto ++ rest_text about cells upto end
+    → written_text about cells upto ++ rest_text about cells upto end
     ≡ trace_text (writing_of about) cells end
