@@ -8,4 +8,5 @@ mod Moved
 mod Nexts
 mod Playing
 mod Runs
+mod Safe
 mod Stepping

@@ -1,5 +1,6 @@
 pub mod Cluster
 pub mod Gained
+pub mod Laws
 pub mod Made
 pub mod Played
 pub mod Runners
