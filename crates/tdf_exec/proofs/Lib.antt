@@ -7,6 +7,7 @@ mod Keeping
 mod Moved
 mod Nexts
 mod Playing
+mod Rates
 mod Runs
 mod Safe
 mod Stepping

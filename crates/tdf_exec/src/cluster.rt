@@ -114,6 +114,13 @@ impl Cluster {
         None
     }
 
+    /// Whether the change bodies of the period have run, and the next period is not installed yet.
+    pub fn crossed(&self) -> bool
+        ensures { result ≡ self.now.crossed }
+    {
+        self.crossed
+    }
+
     /// Whether the next entry of the plan has this offset.
     fn is_due(&self, offset: u64) -> bool
         ensures { result ≡ is_due self.now offset }

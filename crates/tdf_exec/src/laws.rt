@@ -1,6 +1,6 @@
 //! What holds of clusters in progress: each function here only carries its clauses.
 
-ghost use Rattle.tdf_exec.specs.Laws.{HeadsHold, PlansAreSafe};
+ghost use Rattle.tdf_exec.specs.Laws.{HeadsHold, PlansAreSafe, RatesAreKept};
 
 use tdf_schedule::law_present;
 
@@ -15,4 +15,9 @@ pub fn law_safe()
 /// What the edges of a cluster hold before the first entry of its plan.
 pub fn law_heads()
     ensures { HeadsHold }
+{}
+
+/// No processing body of a model without a fault of types sets a rate variable.
+pub fn law_rates()
+    ensures { RatesAreKept }
 {}

@@ -10,5 +10,5 @@ mod laws;
 mod runners;
 
 pub use cluster::Cluster;
-pub use laws::{law_heads, law_safe};
+pub use laws::{law_heads, law_rates, law_safe};
 pub use runners::{ModuleRunner, Runner, SamplerRunner, SinkRunner, TracedPort};
