@@ -1,4 +1,5 @@
 pub mod Api
+pub mod ClosedLaws
 pub mod ExampleLaws
 pub mod FaultLaws
 pub mod HeadLaws

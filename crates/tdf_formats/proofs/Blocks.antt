@@ -7,7 +7,7 @@ use Rattle.std.proofs.lemmas.Option.{same_Some, none-some}
 use Rattle.std.specs.Cmp.Lexicographic.{pointwise}
 use Rattle.std.specs.List.{AllByRecursion, AllZip, flat_map}
 use Rattle.std.specs.Prelude.{All, nat_eq, slice_get, slice_index_or}
-use Rattle.tdf_flat.proofs.Formats.{AreFormatted, formats_there}
+use Rattle.tdf_flat.proofs.Api.{AreFormatted, formats_there}
 use Rattle.tdf_checks.specs.Types.{type_faults}
 use Rattle.tdf_formats.proofs.Bindings.{instance_names, instances_tagged, port_names}
 use Rattle.tdf_formats.proofs.Members.{pairs_of}
