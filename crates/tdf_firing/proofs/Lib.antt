@@ -3,5 +3,6 @@ pub mod Begins
 mod Cells
 mod Clears
 mod Fills
+mod Formats
 mod Gives
 pub mod Moves

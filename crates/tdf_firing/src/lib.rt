@@ -18,5 +18,5 @@ mod wires;
 
 pub use clearing::clear_inputs;
 pub use firing::{fire_module, fire_sampler, fire_sink};
-pub use laws::law_begin;
+pub use laws::{law_begin, law_formats};
 pub use wires::{InWire, OutWire, Wires};

@@ -288,13 +288,15 @@ module _ {S V I : Type 0} (net : Net S V I) (actors : ℕ) (delay : ℕ → ℕ)
   unfolding IsBack
   whole_head begun first later sound = is_whole [] first begun sound.head (λ e inside. (let h = sound.lists e inside in omega (arith, h)))
 
-  whole_past : (begun : ℕ → ℕ) (first : Period I) (later : List (Period I)) → AreSound net actors delay begun first later → IsWhole (first ∷ later)
+  -- what all edges hold together after sound periods
+  pub whole_past : (begun : ℕ → ℕ) (first : Period I) (later : List (Period I)) → AreSound net actors delay begun first later
+      → (e : ℕ) → e < net.edges → net.delay e + sum_by (written net e) (first ∷ later) ≡ delay e + sum_by (taken net e) (first ∷ later)
+  unfolding IsWhole
   whole_past begun first later sound = whole_after later [] first (whole_head begun first later sound) sound.rest
 
   -- at the head of the period after them
   pub heads_whole : (begun : ℕ → ℕ) (first : Period I) (later : List (Period I)) (p : Period I) (f : ℕ) (y : Play S V) → AreSound net actors delay begun first later
       → Stands net (first ∷ later) p reads f y → ((m : ℕ) → slice_index y.turns m ≡ 0) → (e : ℕ) → e < net.edges → length (slice_index_or y.lists e []) ≡ delay e
-  unfolding IsWhole
   heads_whole begun first later p f y sound stands none e inside =
       let h = whole_past begun first later sound e inside in let c = (stands.lists e inside).count in
       let r : slice_index y.turns (net.reader e) * slice_index p.reads e ≡ 0 = rw (none (net.reader e)) (omega arith) in

@@ -1,7 +1,9 @@
 pub mod Api
 pub mod Lists
 pub mod Noting
+pub mod Positions
 pub mod Rows
 pub mod Sames
 pub mod Showing
+pub mod Stamping
 pub mod Times

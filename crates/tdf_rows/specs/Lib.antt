@@ -1,3 +1,5 @@
 pub mod Rows
 pub mod Noted
 pub mod Laws
+pub mod Positions
+pub mod Stamping

@@ -1,3 +1,5 @@
+pub mod Alike
+pub mod Api
 pub mod Changes
 pub mod Declaring
 pub mod Fresh

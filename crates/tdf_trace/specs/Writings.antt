@@ -47,6 +47,10 @@ writing_by Vcd resolution variables = vcd_writing resolution variables
 abbrev pub writing_of : AboutSeen → Writing
 writing_of about = writing_by about.kind about.resolution about.variables
 
+-- the head of a trace
+abbrev pub head_of : AboutSeen → List ℕ
+head_of about = (writing_of about).head
+
 -- what a column shows before its first cell
 abbrev pub first_of : List Variable → (column : ℕ) → Option Raw
 first_of variables column = cell_at (map (λ v. v.first) variables) column
@@ -59,6 +63,10 @@ rows_text about cells from end = text_from (writing_of about).line cells from (e
 abbrev pub rest_text : AboutSeen → Cells → (from end : ℕ) → List ℕ
 rest_text about cells from end = rows_text about cells from end ++ (writing_of about).tail end
 
+-- what is written of a trace when its rows below a time are
+abbrev pub written_text : AboutSeen → Cells → (upto : ℕ) → List ℕ
+written_text about cells upto = head_of about ++ rows_text about cells 0 upto
+
 -- a trace can have these variables: not too many, and what they begin with can be written
 pub record CanBeTraced (variables : List Variable) : Type 0 where
   pub few : length variables ≤ most_traces
@@ -70,5 +78,5 @@ pub record CanBeTraced (variables : List Variable) : Type 0 where
 abbrev pub MakesWhole : Type 0
 MakesWhole = (about : AboutSeen) (cells : Cells) (upto end : ℕ)
     → ((t : ℕ) → end ≤ t → t < upto → is_row cells t ≡ false)
-    → (writing_of about).head ++ rows_text about cells 0 upto ++ rest_text about cells upto end
+    → written_text about cells upto ++ rest_text about cells upto end
     ≡ trace_text (writing_of about) cells end

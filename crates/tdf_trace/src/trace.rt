@@ -4,7 +4,7 @@ ghost use Rattle.tdf_io.specs.Bytes.{WritesText};
 ghost use Rattle.tdf_io.specs.Faults.{CountsSinkFaults};
 ghost use Rattle.tdf_trace.specs.Columns.{HasFewPlaces};
 ghost use Rattle.tdf_trace.specs.Stands.{AreWrittenTo, IsNew, IsStageAfter, TakesCell, WritesFront, WritesRest, WritesRows};
-ghost use Rattle.tdf_trace.specs.Writings.{CanBeTraced, about_of, writing_of};
+ghost use Rattle.tdf_trace.specs.Writings.{CanBeTraced, about_of, head_of};
 ghost use Rattle.tdf_trace.specs.declared.stage.Stage.TheVariants.{New, Open};
 ghost use Rattle.tdf_trace.specs.views.Seen.{fresh};
 
@@ -96,7 +96,8 @@ impl Trace {
     /// trace is broken.
     pub fn begin<K: Sink>(&mut self, sink: &mut K) -> Result<(), SinkErr>
         requires new { self.old.stage ≡ New }
-        ensures wrote { WritesText K.taken K.faults sink.old sink.new (writing_of self.old.about).head result }
+        ensures wrote { WritesText K.taken K.faults sink.old sink.new
+            (head_of self.old.about) result }
         ensures stage { IsStageAfter result self.new.stage }
         ensures about { self.new.about ≡ self.old.about }
         ensures rows { self.new.rows ≡ self.old.rows }
@@ -142,10 +143,12 @@ impl Trace {
     /// watermark, and the trace is broken.
     pub fn advance<K: Sink>(&mut self, watermark: u64, sink: &mut K) -> Result<(), SinkErr>
         requires open { self.old.stage ≡ Open }
-        ensures wrote { OnOk result (WritesRows self.old self.new (K.taken sink.old) (K.taken sink.new)) }
+        ensures wrote { OnOk result
+            (WritesRows self.old self.new (K.taken sink.old) (K.taken sink.new)) }
         ensures written { OnOk result (AreWrittenTo self.new.rows watermark) }
         ensures within { OnOk result (self.new.rows.upto ≤ max self.old.rows.upto watermark) }
-        ensures part { OnErr result (WritesFront self.old watermark (K.taken sink.old) (K.taken sink.new)) }
+        ensures part { OnErr result
+            (WritesFront self.old watermark (K.taken sink.old) (K.taken sink.new)) }
         ensures counted { CountsSinkFaults (K.faults sink.old) (K.faults sink.new) result }
         ensures stage { IsStageAfter result self.new.stage }
         ensures about { self.new.about ≡ self.old.about }

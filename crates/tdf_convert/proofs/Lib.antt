@@ -1,0 +1,4 @@
+mod Halves
+mod Linked
+mod Planned
+mod Samples

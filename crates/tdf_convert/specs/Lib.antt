@@ -1,0 +1,5 @@
+pub mod Emitted
+pub mod Links
+pub mod Outputs
+pub mod Sampled
+pub mod machine

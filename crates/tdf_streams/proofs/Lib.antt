@@ -1,0 +1,12 @@
+pub mod Along
+pub mod Api
+pub mod Carried
+pub mod Edges
+pub mod Grounds
+pub mod Orders
+pub mod Plans
+pub mod Rows
+pub mod Sound
+pub mod Standing
+pub mod Starts
+pub mod Times
