@@ -1,5 +1,5 @@
--- What holds of histories, said of numbers: a statement about all types is no clause. The lemmas that
--- show it are about all types.
+-- What holds of histories, said of numbers: a statement about all types is no clause. The lemmas
+-- that show it are about all types.
 -- Source: own.
 use Rattle.std.specs.Prelude.{◌≡◌, ℕ, ◌+◌, ◌-◌, ◌<◌, ◌≤◌, true, false}
 use Rattle.tdf_instants.specs.History.{Engine, Step, Fault, Going, Past, State, On, Stopped, Spent}
