@@ -115,7 +115,8 @@ module _ {K : Type 0} where
       then event_cell model flat rules start row.signal time
       else signal_cell model flat time (world_before model flat rules start end).clusters row.signal
 
-  -- before its first cell a column of an event signal shows its starting value, one of samples nothing
+  -- before its first cell a column of an event signal shows its starting value, one of samples
+  -- nothing
   abbrev pub first_shown : PureTree → Flat → Rules K → World K → Option TraceRow → Option Raw
   first_shown model flat rules start None = None
   first_shown model flat rules start (Some row) =

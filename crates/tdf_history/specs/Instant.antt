@@ -1,5 +1,5 @@
--- An instant: boundaries by cluster number, then firings by cluster number and in plan order, then the
--- event side. Each boundary and each firing takes a turn.
+-- An instant: boundaries by cluster number, then firings by cluster number and in plan order, then
+-- the event side. Each boundary and each firing takes a turn.
 -- Source: own; samplers and sinks after IEEE 1666.1-2016 (converter ports), their values after the
 -- evaluation and update phases of IEEE 1666-2011, 4.2.
 use Rattle.std.specs.List.{list_any}

@@ -1,6 +1,6 @@
--- What there is at a time of a run: for each cluster its attributes, its plan, how far it is, and what
--- its periods were; the event side; and the turns that are left.
--- Source: own; the parts of an instant after IEEE 1666.1-2016 (TDF clusters in a discrete-event run).
+-- What there is at a time of a run: for each cluster its attributes, its plan, how far it is, and
+-- what its periods were; the event side; and the turns that are left.
+-- Source: own; clusters in a discrete-event run after IEEE 1666.1-2016.
 use Rattle.std.specs.Prelude.{ℕ, Bool, ◌+◌, List, [], Option, Some, None, map}
 use Rattle.tdf_base.specs.declared.faults.Fault.{Fault}
 use Rattle.tdf_bind.specs.Flat.{FlatOf}
@@ -38,9 +38,9 @@ pub record World (K : Type 0) : Type 0 where
   pub written : List SinkWrite
   pub planned : List ℕ
 
--- the event side: the settled values of its signals, whether something is pending at a time, and what
--- its part of an instant does with what sinks wrote, within so many turns; none where these are too
--- few, else what it keeps then and the turns that are left
+-- the event side: the settled values of its signals, whether something is pending at a time, and
+-- what its part of an instant does with what sinks wrote, within so many turns; none where these
+-- are too few, else what it keeps then and the turns that are left
 pub record Settled (K : Type 0) : Type 0 where
   pub events : K
   pub left : ℕ
