@@ -1,7 +1,7 @@
 pub mod Api
-pub mod ClosedLaws
 pub mod ExampleLaws
 pub mod FaultLaws
+pub mod FormedLaws
 pub mod HeadLaws
 pub mod KeptLaws
 pub mod LangLaws

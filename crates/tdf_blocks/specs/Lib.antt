@@ -2,9 +2,9 @@ pub use Rattle.tdf_base.specs.Limits.{longest_text}
 pub use Rattle.tdf_tree.specs.Kept.{IsKept}
 pub use Rattle.tdf_tree.specs.LinesIn.{HasLinesInOrder}
 pub use Rattle.tdf_tree.specs.Views.{pure_tree}
-pub mod Closed
 pub mod Examples
 pub mod Faults
+pub mod Formed
 pub mod Head
 pub mod Items
 pub mod Laws

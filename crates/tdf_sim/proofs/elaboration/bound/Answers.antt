@@ -16,4 +16,4 @@ returns-in-Err-Refused-clause-refused c = of_binding c.in_ok-checked.ensures.sou
     (subst (λ (e : BindErr). IsBindRefusal (pure_tree c.args.tree.now) e) c.in-Err-Refused.field-0-is c.in-Err-Refused.ensures.refused)
 
 pub flatten-requires-clause-closed : goal.flatten-requires-clause-closed
-flatten-requires-clause-closed c = closed_top (pure_tree c.args.tree.now) c.requires.closed
+flatten-requires-clause-closed c = closed_top (pure_tree c.args.tree.now) c.requires.formed
