@@ -1,5 +1,5 @@
--- What the grammar gives beside what a tree keeps (own): `top` is the outside of a model, so none of
--- its lines declares a port; and only change bodies assign attributes.
+-- What the grammar gives beside what a tree keeps (own): `top` is the outside of a model, so none
+-- of its lines declares a port; and only change bodies assign attributes.
 use Rattle.std.specs.List.{AllByRecursion}
 use Rattle.tdf_tree.specs.Pure.{PureStmt, SAssign, SIf, SFor, SNotify, SSetRate, SSetStep, SAccept}
 use Rattle.tdf_tree.specs.Pure.{SReject, PureStmts, Done, More, PureTdf, PureGlobal, GShape, GTdf}
