@@ -1,0 +1,256 @@
+-- One entry more is played.
+use Rattle.std.proofs.Common.{◌≡◌, ◌∙◌, ◌≢◌, ℕ, suc, ◌+◌, ◌-◌, ◌^◌, ◌<◌, ◌≤◌, Bool, true, List, [], ◌∷◌, ◌++◌, Option, Some, None}
+use Rattle.std.proofs.Common.{length, length-drop, length-take-le, get_or-drop, take-suc, drop, take, map, refl, sym, ap, subst, inl, inr, ◌⊎◌, arith}
+use Rattle.std.proofs.lemmas.Bool.{cases_eq, cases_lt, eqb-true}
+use Rattle.std.proofs.lemmas.List.{length-map, map-append}
+use Rattle.std.proofs.lemmas.List.Sums.{sum_by-cons}
+use Rattle.std.proofs.lemmas.Option.{get_or_from_slice_get, slice_get_within}
+use Rattle.std.specs.List.{count_by}
+use Rattle.std.specs.Prelude.{cond, slice_get, slice_index, slice_index_or}
+use Rattle.tdf_exec.proofs.Counting.{done_other, done_own}
+use Rattle.tdf_exec.proofs.Keeping.{like_sampler}
+use Rattle.tdf_exec.proofs.Moved.{some_at, some_inj}
+use Rattle.tdf_exec.proofs.Nexts.{like_self}
+use Rattle.tdf_exec.proofs.Stepping.{done_mono}
+use Rattle.tdf_exec.specs.Cluster.{ClusterOf, is_due, is_offset, offset_in}
+use Rattle.tdf_exec.specs.Made.{IsClusterOf, is_sampler}
+use Rattle.tdf_exec.specs.Played.{AreGiven, AreInputsFor, IsLike, IsMoved, IsPeriodOf, KeepsStanding, actors_between, counted, play_of, turns_from}
+use Rattle.tdf_exec.specs.Runners.{ModuleOf, SamplerOf}
+use Rattle.tdf_exec.specs.declared.runners.Runner.{Runner}
+use Rattle.tdf_exec.specs.declared.runners.Runner.TheVariants as runner
+use Rattle.tdf_exec.specs.machine.Steps.{AreInputsNext, ArePlayed, HasStepped, with_parts}
+use Rattle.tdf_fixed.specs.declared.raw.Raw.{Raw}
+use Rattle.tdf_flat.specs.declared.model.Flat.{Flat}
+use Rattle.tdf_flow.proofs.Api.{order_keeps}
+use Rattle.tdf_flow.specs.Net.{Net, Period}
+use Rattle.tdf_flow.specs.Playing.{IsPlayed, IsStep}
+use Rattle.tdf_flow.specs.Stands.{Play, Stands}
+use Rattle.tdf_rings.specs.Rings.{RingOf}
+use Rattle.tdf_schedule.specs.Plan.{done}
+use Rattle.tdf_schedule.specs.declared.entry.Entry.{Entry}
+use Rattle.tdf_streams.specs.Cluster.{cluster_net}
+
+played_more : {S V I : Type 0} (net : Net S V I) (old : List (Period I)) (p : Period I) (reads : ℕ → List V) (order : List ℕ) (m : ℕ) (y mid z : Play S V)
+    → IsPlayed net old p reads order y mid → IsStep net old p reads m mid z → IsPlayed net old p reads (order ++ m ∷ []) y z
+unfolding IsPlayed
+played_more {S} {V} net old p reads [] m y mid z before step = (z, subst (λ (q : Play S V). IsStep net old p reads m q z) before step, refl)
+played_more net old p reads (k ∷ order) m y mid z before step = (before.0, before.1, played_more net old p reads order m before.0 mid z before.2 step)
+
+none_played : {S V I : Type 0} (net : Net S V I) (old : List (Period I)) (p : Period I) (reads : ℕ → List V) (y : Play S V) → IsPlayed net old p reads [] y y
+unfolding IsPlayed
+none_played net old p reads y = refl
+
+actors_more : (entries : List Entry) (i j : ℕ) (x : Entry) → i ≤ j → slice_get entries j ≡ Some x → actors_between entries i (j + 1) ≡ actors_between entries i j ++ x.actor ∷ []
+actors_more entries i j x up at =
+    let e : j + 1 - i ≡ suc (j - i) = omega (arith, up) in
+    let l = length-drop i entries in
+    let k : i + (j - i) ≡ j = omega (arith, up) in
+    let below = slice_get_within entries j x at in
+    ap (λ n. map (λ (y : Entry). y.actor) (take n (drop i entries))) e
+    ∙ ap (map (λ (y : Entry). y.actor)) (take-suc (drop i entries) (j - i) x (omega (arith, l, up, below)))
+    ∙ ap (λ (y : Entry). map (λ (y : Entry). y.actor) (take (j - i) (drop i entries) ++ y ∷ [])) (get_or-drop i entries (j - i) x ∙ ap (λ n. slice_index_or entries n x) k ∙ get_or_from_slice_get entries j x x at)
+    ∙ map-append (λ (y : Entry). y.actor) (take (j - i) (drop i entries)) (x ∷ [])
+
+actors_none : (entries : List Entry) (i : ℕ) → actors_between entries i i ≡ []
+actors_none entries i = let e : i - i ≡ 0 = omega arith in ap (λ n. map (λ (y : Entry). y.actor) (take n (drop i entries))) e
+
+actors_long : (entries : List Entry) (i j : ℕ) → i ≤ j → j ≤ length entries → length (actors_between entries i j) ≡ j - i
+actors_long entries i j up within =
+    let l = length-drop i entries in
+    length-map _ _ ∙ length-take-le (j - i) (drop i entries) (omega (arith, l, up, within))
+
+like_then : (r s t : Runner) → IsLike r s → IsLike s t → IsLike r t
+like_then (runner.Module x) s t one two =
+    let next : IsLike (runner.Module one.0) t = subst (λ q. IsLike q t) one.1 two in
+    (next.0, next.1, next.2 ∙ one.2, next.3 ∙ one.3, next.4 ∙ one.4)
+like_then (runner.Sampler x) s t one two = subst (λ q. IsLike q t) one two
+like_then (runner.Sink x) s t one two = subst (λ q. IsLike q t) one two
+like_then runner.Outside s t one two = subst (λ q. IsLike q t) one two
+
+-- what is a sampler was the same sampler
+was_sampler : (r : Runner) (s : SamplerOf) → IsLike r (runner.Sampler s) → r ≡ runner.Sampler s
+was_sampler (runner.Module x) s like = absurd (apart (like.1))
+  where
+    apart : {y : ModuleOf} → runner.Sampler s ≡ runner.Module y → ⊥
+    apart e = cc
+was_sampler (runner.Sampler x) s like = sym like
+was_sampler (runner.Sink x) s like = sym like
+was_sampler runner.Outside s like = sym like
+
+counted_more : (a : ℕ) → counted (counted a + 1) ≡ counted (a + 1)
+counted_more a = omega arith
+
+counted_small : (a : ℕ) → a ≤ 2 ^ 64 - 1 → a ≡ counted (a + 0)
+counted_small a small = omega (arith, small)
+
+-- the next entry is due
+due_entry : (offset : ℕ) (o : Option Entry) → is_offset (offset_in o) offset ≡ true → (x : Entry) × (o ≡ Some x) × (x.offset ≡ offset)
+due_entry offset None due = absurd cc
+due_entry offset (Some x) due = (x, refl, eqb-true _ _ due)
+
+-- as many are samplers
+samplers_alike : (rs ss : List Runner) → length ss ≡ length rs → ((m : ℕ) (r : Runner) → slice_get rs m ≡ Some r → (s : Runner) × (slice_get ss m ≡ Some s) × IsLike r s)
+    → count_by is_sampler ss ≡ count_by is_sampler rs
+samplers_alike [] [] long alike = refl
+samplers_alike [] (s ∷ ss) long alike = absurd (omega (arith, long))
+samplers_alike (r ∷ rs) [] long alike = absurd (omega (arith, long))
+samplers_alike (r ∷ rs) (s ∷ ss) long alike =
+    let rest = samplers_alike rs ss (omega (arith, long)) (λ m q here. alike (suc m) q here) in
+    let first = alike 0 r refl in
+    let same : s ≡ first.0 = some_inj s first.0 first.1 in
+    let a = sum_by-cons (λ z. cond {A = ℕ} (is_sampler z) 1 0) s ss in
+    let b = sum_by-cons (λ z. cond {A = ℕ} (is_sampler z) 1 0) r rs in
+    let u : cond {A = ℕ} (is_sampler s) 1 0 ≡ cond {A = ℕ} (is_sampler r) 1 0 = ap (λ (o : Bool). cond {A = ℕ} o 1 0) (ap is_sampler same ∙ like_sampler r first.0 first.2) in
+    omega (arith, rest, a, b, u)
+
+module _ (flat : Flat) (offset : ℕ) (inputs : List Raw) (c : ClusterOf) (place : ℕ) (rings : List RingOf) (runners : List Runner) (positions : List ℕ) where
+  abbrev mid : ClusterOf
+  mid = with_parts c place rings runners positions
+
+  module _ (to : ArePlayed flat offset inputs c mid) where
+    -- a sampler of the cluster, as it was at first
+    first_sampler : (m : ℕ) (s : SamplerOf) → slice_get runners m ≡ Some (runner.Sampler s) → slice_get c.runners m ≡ Some (runner.Sampler s)
+    first_sampler m s at =
+        let below : m < length c.runners = subst (λ n. m < n) to.moved.same (slice_get_within runners m (runner.Sampler s) at) in
+        let r = some_at c.runners m below in
+        let like = to.moved.runners m r.0 r.1 in
+        let same : like.0 ≡ runner.Sampler s = some_inj like.0 (runner.Sampler s) (sym like.1 ∙ at) in
+        r.1 ∙ ap (λ q. Some q) (was_sampler r.0 s (subst (IsLike r.0) same like.2))
+
+    pub inputs_next : AreInputsFor flat offset c inputs → is_due mid offset ≡ true → AreInputsNext flat mid inputs
+    inputs_next ins due = record {
+      many = to.many;
+      formats = λ e x s v f at there given writes form.
+          let next = due_entry offset (slice_get c.entries place) due in
+          let same : next.0 ≡ x = some_inj next.0 x (sym next.1 ∙ at) in
+          ins.formats place e x s v f to.moved.up at (ap (λ (y : Entry). y.offset) (sym same) ∙ next.2) (first_sampler x.actor s there) given writes form;
+    }
+
+    -- one entry more
+    module _ (due : is_due mid offset ≡ true) (rings2 : List RingOf) (runners2 : List Runner) (positions2 : List ℕ) where
+      abbrev then : ClusterOf
+      then = with_parts c (place + 1) rings2 runners2 positions2
+
+      moved_more : IsClusterOf flat then → HasStepped flat inputs mid then → IsMoved c then
+      moved_more of step = record {
+        rest = refl;
+        up = let u = to.moved.up in omega (arith, u);
+        within = of.within;
+        same = of.actors ∙ sym to.of.actors ∙ to.moved.same;
+        runners = λ m r here.
+            let one = to.moved.runners m r here in
+            let two = step.runners m one.0 one.1 in
+            (two.0, two.1, like_then r one.0 two.0 one.2 two.2);
+        positions = λ m below. counts m below (cases_eq m step.entry.actor);
+      }
+        where
+          counts : (m : ℕ) → m < length c.positions → (m ≡ step.entry.actor) ⊎ (m ≢ step.entry.actor)
+              → slice_index positions2 m ≡ counted (slice_index c.positions m + turns_from c.entries c.place (place + 1) m)
+          counts m below (inl same) =
+              let o : done c.entries (place + 1) m ≡ done c.entries place m + 1 = done_own c.entries place step.entry step.at m (sym same) in
+              let g = done_mono c.entries c.place place m to.moved.up in
+              let n : slice_index c.positions m + turns_from c.entries c.place place m + 1 ≡ slice_index c.positions m + turns_from c.entries c.place (place + 1) m = omega (arith, o, g) in
+              ap (slice_index positions2) same ∙ step.own
+              ∙ ap (λ k. counted (slice_index positions k + 1)) (sym same)
+              ∙ ap (λ k. counted (k + 1)) (to.moved.positions m below)
+              ∙ counted_more (slice_index c.positions m + turns_from c.entries c.place place m)
+              ∙ ap counted n
+          counts m below (inr apart) =
+              step.others m apart
+              ∙ to.moved.positions m below
+              ∙ ap (λ n. counted (slice_index c.positions m + (n - done c.entries c.place m))) (sym (done_other c.entries place step.entry step.at m (λ e. apart (sym e))))
+
+      pub more : IsClusterOf flat then → HasStepped flat inputs mid then → ArePlayed flat offset inputs c then
+      more of step = record {
+        of = of;
+        many = to.many ∙ sym (counted_same step);
+        moved = moved_more of step;
+        each = λ i x low high at. each i x low high at (cases_lt i place);
+        played = λ model start old p reads from checked period told.
+            let next_period : IsPeriodOf mid from p = record {
+              started = let u = to.moved.up in let s = period.started in omega (arith, u, s);
+              counts = period.counts;
+              reads = period.reads;
+              writes = period.writes;
+              table = period.table;
+            } in
+            let next_told : AreGiven mid inputs reads old from place step.entry = record {
+              is = λ s v there v_is. (told place step.entry to.moved.up step.at entry_due).is s v (first_sampler step.entry.actor s there) v_is;
+            } in
+            subst (λ (order : List ℕ). IsPlayed (cluster_net model flat c.number start) old p reads order (play_of from c) (play_of from then))
+            (sym (actors_more c.entries c.place place step.entry to.moved.up step.at))
+            (played_more (cluster_net model flat c.number start) old p reads (actors_between c.entries c.place place) step.entry.actor (play_of from c) (play_of from mid) (play_of from then)
+            (to.played model start old p reads from checked period told)
+            (step.step model start old p reads from checked next_period next_told));
+      }
+        where
+          entry_due : step.entry.offset ≡ offset
+          entry_due =
+              let next = due_entry offset (slice_get c.entries place) due in
+              let same : next.0 ≡ step.entry = some_inj next.0 step.entry (sym next.1 ∙ step.at) in
+              ap (λ (y : Entry). y.offset) (sym same) ∙ next.2
+
+          each : (i : ℕ) (x : Entry) → c.place ≤ i → i < place + 1 → slice_get c.entries i ≡ Some x → (i < place) ⊎ (place ≤ i) → x.offset ≡ offset
+          each i x low high at (inl before) = to.each i x low before at
+          each i x low high at (inr here) =
+              let i_is : i ≡ place = omega (arith, high, here) in
+              let same : step.entry ≡ x = some_inj step.entry x (sym step.at ∙ ap (slice_get c.entries) (sym i_is) ∙ at) in
+              ap (λ (y : Entry). y.offset) (sym same) ∙ entry_due
+
+          counted_same : HasStepped flat inputs mid then → count_by is_sampler runners2 ≡ count_by is_sampler runners
+          counted_same step = samplers_alike runners runners2 (of.actors ∙ sym to.of.actors) (λ m r here. step.runners m r here)
+
+-- the start of the loop, one turn of it, and what it gives in the end
+pub played_none : (flat : Flat) (offset : ℕ) (inputs : List Raw) (c : ClusterOf) → IsClusterOf flat c → length inputs ≡ count_by is_sampler c.runners → ArePlayed flat offset inputs c c
+played_none flat offset inputs c of many = record {
+  of = of;
+  many = many;
+  moved = record {
+    rest = refl;
+    up = omega arith;
+    within = of.within;
+    same = refl;
+    runners = λ m r here. (r, here, like_self r);
+    positions = λ m below. counted_small (slice_index c.positions m) (of.counted m) ∙ ap (λ n. counted (slice_index c.positions m + n)) (none m);
+  };
+  each = λ i x low high at. absurd (omega (arith, low, high));
+  played = λ model start old p reads from checked period told.
+      subst (λ (order : List ℕ). IsPlayed (cluster_net model flat c.number start) old p reads order (play_of from c) (play_of from c)) (sym (actors_none c.entries c.place))
+      (none_played (cluster_net model flat c.number start) old p reads (play_of from c));
+}
+  where
+    none : (m : ℕ) → 0 ≡ turns_from c.entries c.place c.place m
+    none m = omega arith
+
+pub next_inputs : (flat : Flat) (offset : ℕ) (inputs : List Raw) (c d : ClusterOf) → ArePlayed flat offset inputs c d → AreInputsFor flat offset c inputs → is_due d offset ≡ true
+    → AreInputsNext flat d inputs
+next_inputs flat offset inputs c d to ins due =
+    subst (λ (s : ClusterOf). ArePlayed flat offset inputs c s → is_due s offset ≡ true → AreInputsNext flat s inputs) (sym to.moved.rest)
+    (λ t e. inputs_next flat offset inputs c d.place d.rings d.runners d.positions t ins e) to due
+
+pub played_next : (flat : Flat) (offset : ℕ) (inputs : List Raw) (c d e : ClusterOf) → ArePlayed flat offset inputs c d → is_due d offset ≡ true
+    → IsClusterOf flat e → HasStepped flat inputs d e → ArePlayed flat offset inputs c e
+played_next flat offset inputs c d e to due of step =
+    let e_is : e ≡ with_parts c (d.place + 1) e.rings e.runners e.positions = step.rest ∙ ap (λ (s : ClusterOf). with_parts s (d.place + 1) e.rings e.runners e.positions) to.moved.rest in
+    subst (λ (s : ClusterOf). ArePlayed flat offset inputs c s) (sym e_is)
+    (whole e_is)
+  where
+    whole : e ≡ with_parts c (d.place + 1) e.rings e.runners e.positions → ArePlayed flat offset inputs c (with_parts c (d.place + 1) e.rings e.runners e.positions)
+    whole e_is =
+        more flat offset inputs c d.place d.rings d.runners d.positions
+        (subst (λ (s : ClusterOf). ArePlayed flat offset inputs c s) to.moved.rest to)
+        (subst (λ (s : ClusterOf). is_due s offset ≡ true) to.moved.rest due)
+        e.rings e.runners e.positions
+        (subst (IsClusterOf flat) e_is of)
+        (subst (λ (s : ClusterOf). HasStepped flat inputs (with_parts c d.place d.rings d.runners d.positions) s) e_is
+        (subst (λ (s : ClusterOf). HasStepped flat inputs s e) to.moved.rest step))
+
+pub due_within : (offset : ℕ) (c : ClusterOf) → is_due c offset ≡ true → c.place < length c.entries
+due_within offset c due = let next = due_entry offset (slice_get c.entries c.place) due in slice_get_within c.entries c.place next.0 next.1
+
+pub stands_after : (flat : Flat) (offset : ℕ) (inputs : List Raw) (c d : ClusterOf) → ArePlayed flat offset inputs c d → KeepsStanding flat offset inputs c d
+stands_after flat offset inputs c d to = λ model start old p reads from f checked period told stands.
+    let long : length (actors_between c.entries c.place d.place) ≡ d.place - c.place = actors_long c.entries c.place d.place to.moved.up to.moved.within in
+    subst (λ k. Stands (cluster_net model flat c.number start) old p reads (k + f) (play_of from d)) long
+    (order_keeps (cluster_net model flat c.number start) old p reads (actors_between c.entries c.place d.place) f (play_of from c) (play_of from d) stands
+    (to.played model start old p reads from checked period told))

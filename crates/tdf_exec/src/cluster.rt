@@ -1,0 +1,123 @@
+//! A cluster in progress, and its calls.
+
+use crate::runners::Runner;
+use std::marker::Model;
+use tdf_dynamic::Attrs;
+use tdf_rings::Ring;
+use tdf_schedule::Plan;
+
+/// A cluster in progress: its attributes, its plan and the place in it, the rates in force and the samples by edge, and
+/// what its actors need to fire. Edges and actors have the numbers of the flat model.
+#[derive(Drop)]
+pub struct Cluster {
+    number: u32,
+    attrs: Attrs,
+    plan: Plan,
+    place: usize,
+    crossed: bool,
+    reads: Vec<u32>,
+    writes: Vec<u32>,
+    rings: Vec<Ring>,
+    runners: Vec<Runner>,
+    positions: Vec<u64>,
+}
+
+impl Model for Cluster {
+    ghost use Rattle.tdf_convert.specs.Sampled.{AreByOffset};
+    ghost use Rattle.tdf_exec.specs.Cluster.{ClusterOf};
+
+    ghost Value = { ClusterOf };
+
+    ghost view = { λ a. record {
+      number = a.number;
+      table = a.attrs;
+      entries = a.plan.entries.items;
+      bounds = a.plan.bounds.items;
+      period = a.plan.period;
+      place = a.place;
+      crossed = a.crossed;
+      reads = a.reads.items;
+      writes = a.writes.items;
+      rings = a.rings.items;
+      runners = a.runners.items;
+      positions = a.positions.items;
+    } };
+
+    ghost invariant = { λ a. AreByOffset a.plan.entries.items };
+}
+
+ghost use Rattle.std.specs.Prelude.{◌≡◌, ◌<◌, ◌+◌, ◌^◌, ◌-◌, length, min, Some};
+ghost use Rattle.tdf_exec.specs.Cluster.{is_due, next_offset};
+ghost use Rattle.tdf_exec.specs.Made.{IsClusterOf};
+ghost use Rattle.tdf_exec.specs.Played.{AreDone, AreInputsFor, HasPlayed, KeepsStanding};
+ghost use Rattle.tdf_exec.specs.machine.Steps.{AreInputsNext, HasStepped};
+
+use crate::runners::fire_runner;
+use tdf_convert::Inputs;
+use tdf_flat::Flat;
+
+/// One activation more, where the number is not the greatest that there is.
+fn count_one(position: &mut u64)
+    ensures { position.new ≡ min (position.old + 1) (2 ^ 64 - 1) }
+{
+    *position = position.saturating_add(1);
+}
+
+impl Cluster {
+    /// The offset of the next entry of the plan; none where the period is done.
+    pub fn next_offset(&self) -> Option<u64>
+        ensures { result ≡ next_offset self.now }
+    {
+        if self.place < self.plan.entries.len() {
+            return Some(self.plan.entries[self.place].offset);
+        }
+        None
+    }
+
+    /// Whether the next entry of the plan has this offset.
+    fn is_due(&self, offset: u64) -> bool
+        ensures { result ≡ is_due self.now offset }
+    {
+        match self.next_offset() {
+            Some(next) => next == offset,
+            None => false,
+        }
+    }
+
+    /// Does the next entry of the plan.
+    fn fire_next(&mut self, flat: &Flat, inputs: &Inputs)
+        requires of { IsClusterOf flat.now self.old }
+        requires within { self.old.place < length self.old.entries }
+        requires inputs { AreInputsNext flat.now self.old inputs.now }
+        ensures of { IsClusterOf flat.now self.new }
+        ensures stepped { HasStepped flat.now inputs.now self.old self.new }
+    {
+        let actor = self.plan.entries[self.place].actor as usize;
+        fire_runner(
+            &flat.checked,
+            inputs,
+            &self.reads,
+            &self.writes,
+            &mut self.runners[actor],
+            &mut self.rings,
+        );
+        count_one(&mut self.positions[actor]);
+        self.place += 1;
+    }
+
+    /// Does all entries of this offset, in the order of the plan. `inputs` has the values of the samplers. It takes no
+    /// memory and is never refused.
+    pub fn fire_at(&mut self, flat: &Flat, offset: u64, inputs: &Inputs)
+        requires of { IsClusterOf flat.now self.old }
+        requires next { next_offset self.old ≡ Some offset }
+        requires inputs { AreInputsFor flat.now offset self.old inputs.now }
+        ensures of { IsClusterOf flat.now self.new }
+        ensures done { AreDone offset self.old self.new }
+        ensures played { HasPlayed flat.now offset inputs.now self.old self.new }
+        ensures stands { KeepsStanding flat.now offset inputs.now self.old self.new }
+    {
+        while self.is_due(offset) {
+            self.fire_next(flat, inputs);
+        }
+    }
+}
