@@ -1,1 +1,4 @@
+pub mod Ports
+pub mod Wires
 pub mod Wiring
+pub mod machine

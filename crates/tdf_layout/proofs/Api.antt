@@ -1,0 +1,1 @@
+-- The lemmas that other crates may use.

@@ -1,0 +1,3 @@
+pub mod Ends
+pub mod Initials
+pub mod Places
