@@ -14,7 +14,7 @@ use Rattle.tdf_exec.proofs.Gains.{gains_none, traced_long}
 use Rattle.tdf_exec.proofs.Moved.{some_inj}
 use Rattle.tdf_exec.proofs.Stepping.{front_at, module_step, module_turn, sampler_step, sink_step}
 use Rattle.tdf_exec.specs.Cluster.{ClusterOf}
-use Rattle.tdf_exec.specs.Fired.{HasGiven, HasRun, HasRunModule, HasSampled, HasSent}
+use Rattle.tdf_exec.specs.machine.Fired.{HasGiven, HasRun, HasRunModule, HasSampled, HasSent}
 use Rattle.tdf_exec.specs.Gained.{sent_by, sent_sample, sent_size, traced_by, traced_size, with_gains}
 use Rattle.tdf_exec.specs.Made.{IsClusterOf, IsModuleOf, IsSamplerOf, IsSinkOf}
 use Rattle.tdf_exec.specs.Played.{IsPeriodOf, play_of}

@@ -1,5 +1,6 @@
 mod Acting
 mod Counting
+mod Counts
 mod Gains
 mod Giving
 mod Keeping

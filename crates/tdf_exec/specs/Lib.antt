@@ -1,5 +1,4 @@
 pub mod Cluster
-pub mod Fired
 pub mod Gained
 pub mod Made
 pub mod Played

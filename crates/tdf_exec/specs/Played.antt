@@ -81,8 +81,8 @@ abbrev pub actors_between : List Entry → (from to : ℕ) → List ℕ
 actors_between entries from to =
     map (λ (x : Entry). x.actor) (take (to - from) (drop from entries))
 
--- the firings are steps of the streams of the cluster, in the order of the plan: for each model that
--- the bodies are of, and for each start, earlier periods and values of samplers
+-- the firings are steps of the streams of the cluster, in the order of the plan: for each model
+-- that the bodies are of, and for each start, earlier periods and values of samplers
 abbrev pub HasPlayed : Flat → (offset : ℕ) → (inputs : List Raw) → (old new : ClusterOf) → Type 0
 HasPlayed flat offset inputs c d = (model : PureTree) (start : Start) (old : List PeriodRecord)
     → (p : PeriodRecord) (reads : ℕ → List Raw) (from : ℕ)
