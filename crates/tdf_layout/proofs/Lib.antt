@@ -11,4 +11,5 @@ pub mod Rates
 pub mod Rows
 pub mod Samples
 pub mod Told
+pub mod Uses
 pub mod Wired

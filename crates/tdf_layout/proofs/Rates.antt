@@ -99,7 +99,7 @@ module _ (formats : PortsHaveFormats) (model : PureTree) (flat : Flat) (sound : 
       subst (λ n. n ≤ p.count) (sym rate) (subst (λ (s : PortSpan). rate_by port (Some attrs) ≤ s.count) same (h.wide attrs.rates fit))
 
   module _ (wires : WiresOf) (below : m < length flat.tables.modules) (are : AreWiresOf flat.tables m wires) where
-    in_within : (j : ℕ) (w : InWire) (p : PortSpan) → slice_get wires.ins j ≡ Some w → slice_get (spans_at formats model flat sound is m) w.port ≡ Some p
+    pub in_within : (j : ℕ) (w : InWire) (p : PortSpan) → slice_get wires.ins j ≡ Some w → slice_get (spans_at formats model flat sound is m) w.port ≡ Some p
         → slice_index (read_rates (net_of flat.tables table)) w.edge ≤ p.count
     in_within j w p at pat = by_row (in_span formats model flat sound is m below wires are j w at)
       where
@@ -117,7 +117,7 @@ module _ (formats : PortsHaveFormats) (model : PureTree) (flat : Flat) (sound : 
         by_row : InSpan formats model flat sound is m below wires are w → slice_index (read_rates (net_of flat.tables table)) w.edge ≤ p.count
         by_row h = by_edge h (edge_row model flat is w.edge h.edge h.at)
 
-    out_within : (j : ℕ) (w : OutWire) (p : PortSpan) → slice_get wires.outs j ≡ Some w → slice_get (spans_at formats model flat sound is m) w.port ≡ Some p
+    pub out_within : (j : ℕ) (w : OutWire) (p : PortSpan) → slice_get wires.outs j ≡ Some w → slice_get (spans_at formats model flat sound is m) w.port ≡ Some p
         → slice_index (write_rates (net_of flat.tables table)) w.edge ≤ p.count
     out_within j w p at pat = by_row (out_span formats model flat sound is m below wires are j w at)
       where
