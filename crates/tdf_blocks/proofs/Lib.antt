@@ -1,6 +1,7 @@
 pub mod Api
 pub mod ExampleLaws
 pub mod FaultLaws
+pub mod FormedLaws
 pub mod HeadLaws
 pub mod KeptLaws
 pub mod LangLaws

@@ -4,6 +4,7 @@ pub use Rattle.tdf_tree.specs.LinesIn.{HasLinesInOrder}
 pub use Rattle.tdf_tree.specs.Views.{pure_tree}
 pub mod Examples
 pub mod Faults
+pub mod Formed
 pub mod Head
 pub mod Items
 pub mod Laws

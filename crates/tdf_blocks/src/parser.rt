@@ -2,6 +2,7 @@
 
 ghost use Rattle.std.specs.Prelude.{IfErr, IfOk, Some, length, map, ◌+◌, ◌∷◌, ◌≡◌, ◌≤◌};
 ghost use Rattle.tdf_base.specs.Limits.{longest_text};
+ghost use Rattle.tdf_blocks.specs.Formed.{IsFormed};
 ghost use Rattle.tdf_blocks.specs.Head.{SpellsVersion};
 ghost use Rattle.tdf_blocks.specs.Refused.{IsWhy, SpellsText};
 ghost use Rattle.tdf_blocks.specs.machine.Heads.{resolution_line};
@@ -201,6 +202,7 @@ pub fn parse(alloc: Global, text: &[u8]) -> Result<Tree, LangErr>
     ensures tree { IfOk result (λ t. SpellsText text.now (pure_tree t)) }
     ensures kept { IfOk result (λ t. IsKept (pure_tree t)) }
     ensures order { IfOk result (λ t. HasLinesInOrder (pure_tree t)) }
+    ensures formed { IfOk result (λ t. IsFormed (pure_tree t)) }
     ensures refused { IfErr result (λ e. IsWhy e text.now) }
 {
     if let Some(fault) = text_fault(text) {

@@ -3,6 +3,7 @@
 ghost use Rattle.std.specs.Io.KnownBytes.{Appends};
 ghost use Rattle.std.specs.Prelude.{◌≡◌, ◌⊎◌, ◌≤◌, ◌<◌, List, ℕ, Err, length, IfOk, OnErr, OnOk, IsErrOf};
 ghost use Rattle.tdf_base.specs.Limits.{longest_text, time_end};
+ghost use Rattle.tdf_blocks.specs.Formed.{IsFormed};
 ghost use Rattle.tdf_blocks.specs.Refused.{SpellsText};
 ghost use Rattle.tdf_cli.specs.Input.{NoMemory, Reading, Text, reading, IsReady};
 ghost use Rattle.tdf_cli.specs.Outcome.{WritesNothingOrFront, WritesOutcome, accepted_text};
@@ -243,6 +244,7 @@ fn do_tree<O: Sink, N: Sink>(
 ) -> Result<Status, SinkErr>
     requires stop { StopsEarly job }
     requires kept { IsKept (pure_tree tree.now) }
+    requires formed { IsFormed (pure_tree tree.now) }
     ensures all { IfOk result (λ s. (text : List ℕ) → SpellsText text (pure_tree tree.now) → WritesOutcome (Text job text) s
         (O.taken out.old) (O.taken out.new) (N.taken notes.old) (N.taken notes.new)) }
     ensures part { OnErr result ((text : List ℕ) → SpellsText text (pure_tree tree.now) → WritesNothingOrFront (Text job text)

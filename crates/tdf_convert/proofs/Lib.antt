@@ -1,3 +1,4 @@
+mod Added
 mod Halves
 mod Linked
 mod Planned

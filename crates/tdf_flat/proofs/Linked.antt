@@ -1,6 +1,5 @@
 -- A model without a first fault by line has none, and what its first fault is.
 use Rattle.std.proofs.Common.{◌≡◌, Bool, true, false, List, [], ◌∷◌, Option, Some, None, refl, sym, ap, if◌then◌else◌}
-use Rattle.std.specs.List.{flat_map, list_any}
 use Rattle.std.specs.Option.{option_map}
 use Rattle.std.specs.Prelude.{Result, Ok, Err, IfErr}
 use Rattle.tdf_base.specs.declared.faults.Fault.{Fault}
@@ -11,15 +10,11 @@ use Rattle.tdf_expr.specs.Blocks.{blocks_of}
 use Rattle.tdf_expr.specs.Compiled.{AreBlocksOf}
 use Rattle.tdf_expr.specs.declared.blocks.Block.{Block}
 use Rattle.tdf_flat.specs.Flat.{IsBindFault, OfLine, OfTables, IsBindRefusal, IsLinked, top_place, trace_lines}
-use Rattle.tdf_flat.specs.machine.Steps.{is_port}
 use Rattle.tdf_links.specs.Faults.{LinkFault, comes_before, lesser, least_with, first_of, fault_of}
 use Rattle.tdf_links.specs.Links.{link_faults}
-use Rattle.tdf_links.specs.Ports.{port_of_member}
 use Rattle.tdf_roles.specs.Roles.{AreModulesSound, roles_of}
 use Rattle.tdf_scope.specs.Names.{Names}
 use Rattle.tdf_tree.specs.Pure.{PureGlobal, GShape, GTdf, GDe, GNet, PureTree}
-use Rattle.tdf_tree.specs.declared.blocks.Member.{Member}
-use Rattle.tdf_tree.specs.declared.blocks.Member.TheVariants as member
 use Rattle.tdf_walk.specs.Blocks.{BlockOf}
 
 stays_some : (faults : List LinkFault) (f : LinkFault) → least_with (Some f) faults ≡ None → ⊥
@@ -54,14 +49,6 @@ line_fault model fault e = go (first_of (link_faults model)) refl e
     go None is e = absurd cc
     go (Some f) is e = OfLine f is (ap held e)
 
-pub no_ports : (ms : List Member) → list_any is_port ms ≡ false → flat_map port_of_member ms ≡ []
-no_ports [] e = refl
-no_ports (member.Port port ∷ ms) e = absurd cc
-no_ports (member.Signal line name x ∷ ms) e = no_ports ms e
-no_ports (member.DeSignal line name x start ∷ ms) e = no_ports ms e
-no_ports (member.Instance line name block ∷ ms) e = no_ports ms e
-no_ports (member.Bind line instance port target ∷ ms) e = no_ports ms e
-
 pub refused_by : (model : PureTree) (blocks : List BlockOf) → IsLinked model blocks → (r : Result FlatOf BindErr)
     → IfErr r (IsFlatRefusal blocks (top_place blocks) (roles_of model) (trace_lines model)) → IfErr r (IsBindRefusal model)
 refused_by model blocks linked (Ok tables) is = tt
@@ -78,4 +65,4 @@ modules_sound globals (GDe block ∷ gs) [] are = absurd are
 modules_sound globals (GDe block ∷ gs) (b ∷ bs) are = modules_sound globals gs bs are.1
 modules_sound globals (GNet block ∷ gs) bs are = modules_sound globals gs bs are
 
-pub ruleset link_laws = (no_fault, no_ports)
+pub ruleset link_laws = (no_fault)

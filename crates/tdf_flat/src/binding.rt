@@ -15,7 +15,7 @@ ghost use Rattle.tdf_tree.specs.Kept.{IsKept};
 ghost use Rattle.tdf_tree.specs.Views.{pure_tree};
 
 use crate::laws::law_delays;
-use crate::lines::{has_ports, trace_lines};
+use crate::lines::trace_lines;
 use crate::model::Flat;
 use std::alloc::Global;
 use tdf_base::{Code, Fault, Memory, Place};
@@ -139,20 +139,15 @@ fn tables_of(alloc: Global, tree: &Tree) -> Result<FlatTables, BindErr>
 /// The flat model of a tree that was checked: all modules, signals, edges, processes, events and traces.
 ///
 /// # Errors
-/// The first fault of binding: by line, then TOO_MANY, then drivers, traces and clusters; or out of memory, also for a tree whose
-/// `top` has ports, which no text spells.
-#[tactic(auto, using(crate::proofs::Linked::link_laws))]
+/// The first fault of binding: by line, then TOO_MANY, then drivers, traces and clusters; or out of memory.
 pub fn flatten(alloc: Global, tree: &Tree, checked: Checked) -> Result<Flat, BindErr>
     requires kept { IsKept (pure_tree tree.now) }
     requires none { type_faults (pure_tree tree.now) ≡ [] }
+    requires closed { ports_of_composite (pure_tree tree.now).top ≡ [] }
     requires bodies { IsCheckedOf (pure_tree tree.now) checked }
     ensures flat { IfOk result (IsFlatOf (pure_tree tree.now)) }
     ensures refused { IfErr result (IsBindRefusal (pure_tree tree.now)) }
 {
-    if has_ports(&tree.top) {
-        drop(checked);
-        return Err(BindErr::Memory);
-    }
     match tables_of(alloc, tree) {
         Ok(tables) => Ok(Flat {
             tables,

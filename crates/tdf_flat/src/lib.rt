@@ -1,7 +1,7 @@
 //! The flat model of a text, or its first fault of binding.
 //!
 //! - `model`: the flat model.
-//! - `lines`: the lines that ask for traces, and what a tree must be to be bound.
+//! - `lines`: the lines that ask for traces.
 //! - `binding`: how a tree is made flat.
 //! - `laws`: what holds of all flat models.
 #![tactic(auto)]

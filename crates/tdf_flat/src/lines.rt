@@ -1,14 +1,13 @@
-//! The lines that ask for traces, and what a tree must be to be bound.
+//! The lines that ask for traces.
 
-ghost use Rattle.std.specs.List.{list_any};
 ghost use Rattle.std.specs.Prelude.{◌≡◌, ◌++◌, ◌∷◌, [], map, IfOk, OnOk};
 ghost use Rattle.tdf_flat.specs.Flat.{dotted, trace_line};
-ghost use Rattle.tdf_flat.specs.machine.Steps.{dotted_after, is_port};
+ghost use Rattle.tdf_flat.specs.machine.Steps.{dotted_after};
 ghost use Rattle.tdf_tree.specs.Views.{pure_trace};
 
 use std::alloc::Global;
 use tdf_base::{Memory, Name, Path};
-use tdf_tree::{Composite, Member, Trace1};
+use tdf_tree::Trace1;
 use tdf_wiring::TraceLine;
 
 /// One name more of a path.
@@ -68,20 +67,4 @@ pub(crate) fn trace_lines(alloc: Global, traces: &Vec<Trace1>) -> Result<Vec<Tra
         lines.push(trace_line(alloc, trace)?)?;
     }
     Ok(lines)
-}
-
-fn is_port(member: &Member) -> bool
-    ensures { result ≡ is_port member.now }
-{
-    match member {
-        Member::Port(_) => true,
-        _ => false,
-    }
-}
-
-/// Whether a composite has ports.
-pub(crate) fn has_ports(block: &Composite) -> bool
-    ensures { result ≡ list_any is_port block.now.members.items }
-{
-    block.members.iter().any(|member| is_port(member))
 }

@@ -45,8 +45,8 @@ abbrev pub place_of_port : List PortRow → ℕ → ℕ
 place_of_port ports number = length (filter
     (λ (port : PortRow). nat_eq port.«module» (module_of_port ports number)) (take number ports))
 
--- a port of a module is the one at its place in the module's block: with its word, with the format of
--- the signal that it reaches, with as many samples as its rate may be at most, and with initial
+-- a port of a module is the one at its place in the module's block: with its word, with the format
+-- of the signal that it reaches, with as many samples as its rate may be at most, and with initial
 -- samples of this format
 pub record IsOwnPort (flat : Flat) (number : ℕ) (port : PortRow) : Type 0 where
   pub row : ModuleRow

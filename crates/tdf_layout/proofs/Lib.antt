@@ -1,0 +1,15 @@
+pub mod Actors
+pub mod Api
+pub mod Counts
+pub mod Drivers
+pub mod Edges
+pub mod Gathers
+pub mod Given
+pub mod Listed
+pub mod Picked
+pub mod Rates
+pub mod Rows
+pub mod Samples
+pub mod Told
+pub mod Uses
+pub mod Wired

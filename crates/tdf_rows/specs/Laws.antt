@@ -32,16 +32,17 @@ abbrev pub IsLastCell : Type 0
 IsLastCell = (cells : Cells) (column end : ℕ) → ShowsLast cells column end
 
 -- cells that agree below a time
-pub record Agree (g h : Cells) (below : ℕ) : Type 0 where
-  pub columns : g.columns ≡ h.columns
-  pub first : (column : ℕ) → column < g.columns → g.first column ≡ h.first column
-  pub cells : (column time : ℕ) → column < g.columns → time < below
-      → g.at column time ≡ h.at column time
+pub record Agree (one other : Cells) (below : ℕ) : Type 0 where
+  pub columns : one.columns ≡ other.columns
+  pub first : (column : ℕ) → column < one.columns → one.first column ≡ other.first column
+  pub cells : (column time : ℕ) → column < one.columns → time < below
+      → one.at column time ≡ other.at column time
 
 -- have the same text of the rows below it
 abbrev pub HaveSameText : Type 0
-HaveSameText = (line : Line) (g h : Cells) (below from count : ℕ) → Agree g h below
-    → from + count ≤ below → text_from line g from count ≡ text_from line h from count
+HaveSameText = (line : Line) (one other : Cells) (below from count : ℕ)
+    → Agree one other below → from + count ≤ below
+    → text_from line one from count ≡ text_from line other from count
 
 -- the rows before a time, and the others
 abbrev pub SplitsText : Type 0

@@ -1,4 +1,5 @@
 pub mod Alike
+pub mod Closed
 pub mod Clusters
 pub mod FirstFaults
 pub mod Plannable

@@ -3,6 +3,7 @@
 ghost use Rattle.std.specs.Prelude.{◌≡◌, ◌≤◌, ◌⊎◌, [], Err, IfErr, IfOk, OnOk, length};
 ghost use Rattle.tdf_base.specs.declared.faults.Fault.{Fault};
 ghost use Rattle.tdf_base.specs.Limits.{longest_text};
+ghost use Rattle.tdf_blocks.specs.Formed.{IsFormed};
 ghost use Rattle.tdf_blocks.specs.Refused.{IsWhy, SpellsText};
 ghost use Rattle.tdf_expr.specs.Checked.{IsCheckedOf};
 ghost use Rattle.tdf_flat.specs.Flat.{IsFlatOf};
@@ -101,6 +102,7 @@ fn sound(alloc: Global, tree: &Tree) -> Result<Checked, SimErr>
 /// The first fault of names, else of types and bodies, else of binding; or out of memory.
 fn bound(alloc: Global, tree: &Tree) -> Result<Flat, SimErr>
     requires kept { IsKept (pure_tree tree.now) }
+    requires formed { IsFormed (pure_tree tree.now) }
     ensures sound { OnOk result (HasSoundLines (pure_tree tree.now)) }
     ensures flat { IfOk result (IsFlatOf (pure_tree tree.now)) }
     ensures plannable { IfOk result IsPlannable }
@@ -121,6 +123,7 @@ fn bound(alloc: Global, tree: &Tree) -> Result<Flat, SimErr>
 /// The first fault of the tree: of names, else of types and bodies, else of binding, else of its clusters in order; or out of memory.
 pub fn elaborate_tree(alloc: Global, tree: &Tree) -> Result<Sim, SimErr>
     requires kept { IsKept (pure_tree tree.now) }
+    requires formed { IsFormed (pure_tree tree.now) }
     ensures accepted { IfOk result (IsAccepted (pure_tree tree.now)) }
     ensures printable { IfOk result IsPrintable }
     ensures refused { IfErr result (IsTreeRefusal (pure_tree tree.now)) }

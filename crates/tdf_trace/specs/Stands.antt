@@ -28,10 +28,10 @@ pub record TraceSeen : Type 0 where
 -- the columns show what these cells show below `upto`, and hold all cells from there on
 pub record Stands (cells : Cells) (rows : RowsSeen) : Type 0 where
   pub count : length rows.columns ≡ cells.columns
-  pub held : (c t : ℕ) (column : ColumnSeen) → slice_get rows.columns c ≡ Some column
-      → rows.upto ≤ t → held_at column.held t ≡ cells.at c t
-  pub shown : (c : ℕ) (column : ColumnSeen) → slice_get rows.columns c ≡ Some column
-      → column.shown ≡ last cells c rows.upto
+  pub held : (place time : ℕ) (column : ColumnSeen) → slice_get rows.columns place ≡ Some column
+      → rows.upto ≤ time → held_at column.held time ≡ cells.at place time
+  pub shown : (place : ℕ) (column : ColumnSeen) → slice_get rows.columns place ≡ Some column
+      → column.shown ≡ last cells place rows.upto
 
 -- no cell yet, of columns that begin with these values
 abbrev pub no_cells : List Variable → Cells
@@ -55,8 +55,8 @@ TakesCell cell old new =
 
 -- no cell from a time on and below another is only announced
 abbrev pub AreGiven : Cells → (from end : ℕ) → Type 0
-AreGiven cells from end = (c t : ℕ) → c < cells.columns → from ≤ t → t < end
-    → cells.at c t ≢ Some None
+AreGiven cells from end = (column time : ℕ) → column < cells.columns → from ≤ time
+    → time < end → cells.at column time ≢ Some None
 
 -- rows were written: the sink took them, each of their cells was given, and the trace stands for
 -- the same cells
@@ -82,7 +82,7 @@ pub record NextRowWaits (cells : Cells) (upto limit : ℕ) : Type 0 where
   pub column : ℕ
   pub later : upto ≤ time
   pub below : time < limit
-  pub next : (s : ℕ) → upto ≤ s → s < time → is_row cells s ≡ false
+  pub next : (earlier : ℕ) → upto ≤ earlier → earlier < time → is_row cells earlier ≡ false
   pub inside : column < cells.columns
   pub waits : cells.at column time ≡ Some None
 

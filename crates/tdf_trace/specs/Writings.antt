@@ -70,13 +70,13 @@ written_text about cells upto = head_of about ++ rows_text about cells 0 upto
 -- a trace can have these variables: not too many, and what they begin with can be written
 pub record CanBeTraced (variables : List Variable) : Type 0 where
   pub few : length variables ≤ most_traces
-  pub first : (c : ℕ) (variable : Variable) → slice_get variables c ≡ Some variable
+  pub first : (place : ℕ) (variable : Variable) → slice_get variables place ≡ Some variable
       → HasFewPlaces variable.first
 
 -- what was written up to a time and then the rest are the whole text of the trace, where no row
 -- from the end on was written
 abbrev pub MakesWhole : Type 0
 MakesWhole = (about : AboutSeen) (cells : Cells) (upto end : ℕ)
-    → ((t : ℕ) → end ≤ t → t < upto → is_row cells t ≡ false)
+    → ((time : ℕ) → end ≤ time → time < upto → is_row cells time ≡ false)
     → written_text about cells upto ++ rest_text about cells upto end
     ≡ trace_text (writing_of about) cells end

@@ -1,9 +1,10 @@
 //! The lines of a table.
-ghost use Rattle.std.specs.Prelude.{◌≡◌, ◌<◌, ◌++◌, codes, length, OnOk, ℕ, Some, slice_get};
+ghost use Rattle.std.specs.Prelude.{◌≡◌, ◌<◌, ◌++◌, codes, length, OnOk};
 ghost use Rattle.tdf_io.specs.Bytes.{pieces_text};
-ghost use Rattle.tdf_trace.specs.Columns.{ColumnSeen, HasFewPlaces, before_row, shown_row};
+ghost use Rattle.tdf_trace.specs.Columns.{HasFewPlaces, before_row, shown_row};
 ghost use Rattle.tdf_trace.specs.Tables.{cell_piece, cell_text, label_piece, table_head, table_line};
 ghost use Rattle.tdf_trace.specs.Writings.{labels_of};
+ghost use Rattle.tdf_trace.specs.views.Seen.{AreShown};
 
 use crate::about::Variable;
 use crate::column::Column;
@@ -56,7 +57,7 @@ fn push_value(line: &mut Vec<u8>, value: Option<Raw>) -> Result<(), Memory>
 /// Appends what a column shows, with a space before it.
 fn push_cell(line: &mut Vec<u8>, columns: &Vec<Column>, column: usize) -> Result<(), Memory>
     requires column { column < length columns.now.items }
-    requires few { (c : ℕ) (col : ColumnSeen) → slice_get columns.now.items c ≡ Some col → HasFewPlaces col.shown }
+    requires shown { AreShown columns.now.items }
     ensures { OnOk result (line.new.items ≡ line.old.items ++ cell_piece (shown_row columns.now.items) column) }
 {
     push_word(line, b" ")?;
@@ -66,7 +67,7 @@ fn push_cell(line: &mut Vec<u8>, columns: &Vec<Column>, column: usize) -> Result
 /// Appends what the columns show.
 #[tactic(auto, using(crate::proofs::Pieces::piece_laws))]
 fn push_cells(line: &mut Vec<u8>, columns: &Vec<Column>) -> Result<(), Memory>
-    requires few { (c : ℕ) (col : ColumnSeen) → slice_get columns.now.items c ≡ Some col → HasFewPlaces col.shown }
+    requires shown { AreShown columns.now.items }
     ensures { OnOk result (line.new.items ≡ line.old.items ++ pieces_text (cell_piece (shown_row columns.now.items)) (length columns.now.items)) }
 {
     for i in 0..columns.len() {
@@ -83,7 +84,7 @@ pub(crate) fn push_line(
     time: u64,
     resolution: Resolution,
 ) -> Result<(), Memory>
-    requires few { (c : ℕ) (col : ColumnSeen) → slice_get columns.now.items c ≡ Some col → HasFewPlaces col.shown }
+    requires shown { AreShown columns.now.items }
     ensures { OnOk result (line.new.items ≡ line.old.items ++ table_line resolution time (before_row columns.now.items) (shown_row columns.now.items)) }
 {
     push_seconds_at(line, time, resolution)?;

@@ -168,7 +168,8 @@ impl Trace {
     /// `Failed` where a write failed, `Memory` where no memory was found. The sink then took a front part of this text.
     pub fn finish<K: Sink>(mut self, end: u64, sink: &mut K) -> Result<(), SinkErr>
         requires open { self.stage ≡ Open }
-        ensures { WritesRest K.taken K.faults sink.old sink.new self end result }
+        ensures wrote { WritesRest K.taken K.faults sink.old sink.new self end result }
+        ensures counted { CountsSinkFaults (K.faults sink.old) (K.faults sink.new) result }
     {
         match write_below(&self.about, &mut self.rows, end, false, sink) {
             Ok(()) => write_tail(&mut self.rows.line, &self.about, end, sink),

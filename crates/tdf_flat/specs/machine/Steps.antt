@@ -1,11 +1,9 @@
 -- How the code joins names (own).
-use Rattle.std.specs.Prelude.{ℕ, zero, suc, Bool, true, false, List, ◌∷◌, ◌++◌}
+use Rattle.std.specs.Prelude.{ℕ, zero, suc, List, ◌∷◌, ◌++◌}
 use Rattle.tdf_bind.specs.Flat.{FlatOf, IsFlat}
 use Rattle.tdf_flat.specs.Flat.{IsLinked, top_place, trace_lines}
 use Rattle.tdf_roles.specs.Roles.{roles_of}
 use Rattle.tdf_tree.specs.Pure.{PureTree}
-use Rattle.tdf_tree.specs.declared.blocks.Member.{Member}
-use Rattle.tdf_tree.specs.declared.blocks.Member.TheVariants as member
 use Rattle.tdf_walk.specs.Blocks.{BlockOf}
 
 -- the text of a path with the name at a place
@@ -23,7 +21,3 @@ pub record IsTabled (model : PureTree) (tables : FlatOf) : Type 0 where
   pub blocks : List BlockOf
   pub linked : IsLinked model blocks
   pub has : HasTables model blocks tables
-
-abbrev pub is_port : Member → Bool
-is_port (member.Port port) = true
-is_port _ = false

@@ -1,5 +1,5 @@
-//! A trace of two variables, as a table and as a value change dump: every call once, with a cell that is announced and then given,
-//! one that never is, and one after the end.
+//! A trace of four variables, as a table and as a value change dump: every call once, with a cell that is announced and then given,
+//! two that never are, and one after the end.
 
 ghost use Rattle.std.specs.Prelude.{◌≡◌, ◌≤◌, ◌<◌, IfOk, OnOk, None, length};
 ghost use Rattle.tdf_trace.specs.Columns.{HasFewPlaces};
@@ -15,40 +15,64 @@ use tdf_rows::{Cell, Stamps};
 use tdf_trace::{Trace, Variable};
 use tdf_words::TraceKind;
 
-const TABLE: &str = "%time a b\n\
-0 1 *\n\
-0.000000000003 -0.1875 *\n\
-0.000000000005 -0.1875 0.5\n\
-0.000000000007 * 0.5\n";
+// A modulator g, its decimator d, a filter f and an event signal lvl, up to 100 us: worked by hand. The last samples of d and f
+// were made after the end, so they are unknown.
+const TABLE: &str = "%time g d f lvl\n\
+0 1 32 8 0\n\
+0.0000635 0.5 32 8 0\n\
+0.000064 0.5 8 10 8\n\
+0.000096 0.5 * * 10\n";
 
-const DUMP: &str = "$timescale 1 fs $end\n\
+const DUMP: &str = "$timescale 1 ps $end\n\
 $scope module top $end\n\
-$var wire 8 ! a $end\n\
-$var wire 8 \" b $end\n\
+$var wire 8 ! g $end\n\
+$var wire 8 \" d $end\n\
+$var wire 12 # f $end\n\
+$var wire 12 $ lvl $end\n\
 $upscope $end\n\
 $enddefinitions $end\n\
 #0\n\
 $dumpvars\n\
-b00010000 !\n\
-bx \"\n\
+b01000000 !\n\
+b00100000 \"\n\
+b000010000000 #\n\
+b000000000000 $\n\
 $end\n\
-#3\n\
-b11111101 !\n\
-#5\n\
+#63500000\n\
+b00100000 !\n\
+#64000000\n\
 b00001000 \"\n\
-#7\n\
-bx !\n\
-#9\n";
+b000010100000 #\n\
+b000010000000 $\n\
+#96000000\n\
+bx \"\n\
+bx #\n\
+b000010100000 $\n\
+#100000000\n";
 
-fn variable(alloc: Global, label: &[u8]) -> Result<Variable, Memory>
-    ensures { IfOk result (λ v. v.first ≡ None) }
+fn value(num: i128, frac: u32) -> Option<Raw>
+    requires { frac ≤ 6 }
+    ensures { HasFewPlaces result }
+{
+    Some(Raw { num, frac })
+}
+
+fn variable(
+    alloc: Global,
+    label: &[u8],
+    wl: u32,
+    iwl: u32,
+    first: Option<Raw>,
+) -> Result<Variable, Memory>
+    requires { HasFewPlaces first }
+    ensures { IfOk result (λ v. HasFewPlaces v.first) }
 {
     let name = Name::copied(alloc, label)?;
-    match Format::new(true, 8, 4, Quant::Trn, Over::Wrap) {
+    match Format::new(true, wl, iwl, Quant::Trn, Over::Wrap) {
         Some(format) => Ok(Variable {
             label: name,
             format,
-            first: None,
+            first,
         }),
         None => {
             drop(name);
@@ -57,22 +81,26 @@ fn variable(alloc: Global, label: &[u8]) -> Result<Variable, Memory>
     }
 }
 
-fn variables(alloc: Global, labels: &[u8]) -> Result<Vec<Variable>, Memory>
-    requires { length labels.now ≡ 2 }
-    ensures can { IfOk result (λ list. CanBeTraced list.items) }
-    ensures two { IfOk result (λ list. length list.items ≡ 2) }
+fn variable_at(alloc: Global, column: usize) -> Result<Variable, Memory>
+    ensures { IfOk result (λ v. HasFewPlaces v.first) }
 {
-    let mut list = Vec::new(alloc);
-    for i in 0..labels.len() {
-        list.push(variable(alloc, &labels[i..i + 1])?)?;
+    match column {
+        0 => variable(alloc, b"g", 8, 2, value(64, 6)),
+        1 => variable(alloc, b"d", 8, 8, None),
+        2 => variable(alloc, b"f", 12, 8, None),
+        _ => variable(alloc, b"lvl", 12, 8, value(0, 4)),
     }
-    Ok(list)
 }
 
-fn sixteenths(num: i128) -> Option<Raw>
-    ensures { HasFewPlaces result }
+fn variables(alloc: Global) -> Result<Vec<Variable>, Memory>
+    ensures can { IfOk result (λ list. CanBeTraced list.items) }
+    ensures four { IfOk result (λ list. length list.items ≡ 4) }
 {
-    Some(Raw { num, frac: 4 })
+    let mut list = Vec::new(alloc);
+    for i in 0..4 {
+        list.push(variable_at(alloc, i)?)?;
+    }
+    Ok(list)
 }
 
 fn note(trace: &mut Trace, column: u32, time: u64, value: Option<Raw>) -> Result<(), SinkErr>
@@ -93,27 +121,50 @@ fn note(trace: &mut Trace, column: u32, time: u64, value: Option<Raw>) -> Result
     }
 }
 
+fn note_first(trace: &mut Trace) -> Result<(), SinkErr>
+    requires start { trace.old.rows.upto ≡ 0 }
+    requires four { length trace.old.about.variables ≡ 4 }
+    ensures upto { trace.new.rows.upto ≡ trace.old.rows.upto }
+    ensures stage { trace.new.stage ≡ trace.old.stage }
+    ensures about { trace.new.about ≡ trace.old.about }
+{
+    note(trace, 0, 63_500_000, value(32, 6))?;
+    note(trace, 1, 64_000_000, value(8, 0))?;
+    note(trace, 1, 0, None)?;
+    note(trace, 2, 0, value(128, 4))?;
+    note(trace, 1, 0, value(32, 0))
+}
+
+fn note_last(trace: &mut Trace) -> Result<(), SinkErr>
+    requires upto { trace.old.rows.upto ≤ 64_000_000 }
+    requires four { length trace.old.about.variables ≡ 4 }
+    ensures stage { trace.new.stage ≡ trace.old.stage }
+{
+    note(trace, 3, 96_000_000, value(160, 4))?;
+    note(trace, 1, 96_000_000, None)?;
+    note(trace, 2, 64_000_000, value(160, 4))?;
+    note(trace, 2, 96_000_000, None)?;
+    note(trace, 3, 64_000_000, value(128, 4))?;
+    note(trace, 3, 101_000_000, value(1, 4))
+}
+
 fn write_rows(trace: &mut Trace, sink: &mut SureSink) -> Result<(), SinkErr>
     requires open { trace.old.stage ≡ Open }
     requires start { trace.old.rows.upto ≡ 0 }
-    requires two { length trace.old.about.variables ≡ 2 }
+    requires four { length trace.old.about.variables ≡ 4 }
     ensures { OnOk result (trace.new.stage ≡ Open) }
 {
-    note(trace, 0, 3, sixteenths(-3))?;
-    note(trace, 0, 0, None)?;
-    note(trace, 0, 0, sixteenths(16))?;
-    trace.advance(4, sink)?;
-    note(trace, 1, 5, sixteenths(8))?;
-    note(trace, 0, 9, sixteenths(1))?;
-    note(trace, 0, 7, None)?;
-    trace.advance(8, sink)?;
+    note_first(trace)?;
+    trace.advance(64_000_000, sink)?;
+    note_last(trace)?;
+    trace.advance(98_000_000, sink)?;
     Ok(())
 }
 
 fn write_all(trace: &mut Trace, sink: &mut SureSink) -> Result<(), SinkErr>
     requires new { trace.old.stage ≡ New }
     requires start { trace.old.rows.upto ≡ 0 }
-    requires two { length trace.old.about.variables ≡ 2 }
+    requires four { length trace.old.about.variables ≡ 4 }
     ensures { OnOk result (trace.new.stage ≡ Open) }
 {
     trace.begin(sink)?;
@@ -123,9 +174,9 @@ fn write_all(trace: &mut Trace, sink: &mut SureSink) -> Result<(), SinkErr>
 fn trace_of(alloc: Global, kind: TraceKind, resolution: Resolution) -> Result<Trace, Memory>
     ensures new { IfOk result (λ t. t.stage ≡ New) }
     ensures start { IfOk result (λ t. t.rows.upto ≡ 0) }
-    ensures two { IfOk result (λ t. length t.about.variables ≡ 2) }
+    ensures four { IfOk result (λ t. length t.about.variables ≡ 4) }
 {
-    let list = variables(alloc, b"ab")?;
+    let list = variables(alloc)?;
     Trace::new(alloc, list, resolution, kind)
 }
 
@@ -135,7 +186,7 @@ fn text_of(alloc: Global, kind: TraceKind, resolution: Resolution) -> Result<Sur
         Ok(trace) => {
             let mut trace = trace;
             match write_all(&mut trace, &mut sink) {
-                Ok(()) => match trace.finish(9, &mut sink) {
+                Ok(()) => match trace.finish(100_000_000, &mut sink) {
                     Ok(()) => Ok(sink),
                     Err(error) => {
                         drop(sink);
@@ -160,7 +211,7 @@ fn text_of(alloc: Global, kind: TraceKind, resolution: Resolution) -> Result<Sur
 fn traces(rt: HostRuntime) -> Result<(), Fail> {
     let table = text_of(rt.alloc(), TraceKind::Table, Resolution::Ps)?;
     assert_eq!(rt; table.bytes(), TABLE.as_bytes());
-    let dump = text_of(rt.alloc(), TraceKind::Vcd, Resolution::Fs)?;
+    let dump = text_of(rt.alloc(), TraceKind::Vcd, Resolution::Ps)?;
     assert_eq!(rt; dump.bytes(), DUMP.as_bytes());
     Ok(())
 }

@@ -7,15 +7,17 @@ use Rattle.tdf_trace.specs.Columns.{ColumnSeen, HasFewPlaces}
 use Rattle.tdf_trace.specs.Stands.{RowsSeen}
 use Rattle.tdf_trace.specs.declared.column.Held.{Held}
 
--- cells in rising order of their times, from a time on, each with few places
+-- cells in rising order of their times, from a time on
 unfoldable pub Rising : (from : ℕ) → List Held → Type 0
 Rising from [] = Unit {0}
 Rising from (x ∷ xs) = (from ≤ x.time) × Rising (x.time + 1) xs
 
+-- cells of which each can be written
 unfoldable pub HaveFewPlaces : List Held → Type 0
 HaveFewPlaces [] = Unit {0}
 HaveFewPlaces (x ∷ xs) = HasFewPlaces x.value × HaveFewPlaces xs
 
+-- a column whose cells wait in order from a time on, and whose cells can be written
 pub record IsSound (from : ℕ) (column : ColumnSeen) : Type 0 where
   pub rising : Rising from column.held
   pub few : HaveFewPlaces column.held
@@ -23,7 +25,8 @@ pub record IsSound (from : ℕ) (column : ColumnSeen) : Type 0 where
 
 abbrev pub AreSound : (from : ℕ) → List ColumnSeen → Type 0
 AreSound from columns =
-    (c : ℕ) (column : ColumnSeen) → slice_get columns c ≡ Some column → IsSound from column
+    (place : ℕ) (column : ColumnSeen) → slice_get columns place ≡ Some column
+    → IsSound from column
 
 -- the time of the first cell, or the limit
 abbrev pub front_time : List Held → (limit : ℕ) → ℕ
@@ -54,17 +57,17 @@ turned time column = record {
 
 pub record AreTurned (time n : ℕ) (old new : List ColumnSeen) : Type 0 where
   pub same : length new ≡ length old
-  pub done : (c : ℕ) (column : ColumnSeen) → c < n → slice_get old c ≡ Some column
-      → slice_get new c ≡ Some (turned time column)
-  pub waiting : (c : ℕ) → n ≤ c → slice_get new c ≡ slice_get old c
+  pub done : (place : ℕ) (column : ColumnSeen) → place < n → slice_get old place ≡ Some column
+      → slice_get new place ≡ Some (turned time column)
+  pub waiting : (place : ℕ) → n ≤ place → slice_get new place ≡ slice_get old place
 
 -- the least time of a first cell among the first n columns, or the limit
 pub record IsNext (columns : List ColumnSeen) (n limit time : ℕ) : Type 0 where
   pub within : time ≤ limit
-  pub least : (c : ℕ) (column : ColumnSeen) → c < n → slice_get columns c ≡ Some column
-      → time ≤ front_time column.held limit
-  pub found : time < limit → (c : ℕ) × (column : ColumnSeen) × (c < n)
-      × (slice_get columns c ≡ Some column) × (front_time column.held limit ≡ time)
+  pub least : (place : ℕ) (column : ColumnSeen) → place < n
+      → slice_get columns place ≡ Some column → time ≤ front_time column.held limit
+  pub found : time < limit → (place : ℕ) × (column : ColumnSeen) × (place < n)
+      × (slice_get columns place ≡ Some column) × (front_time column.held limit ≡ time)
 
 -- the next row: the one at 0 where nothing is written, else that of the least first cell below the
 -- limit, or the limit
@@ -80,5 +83,5 @@ pub record OneWaits (columns : List ColumnSeen) (time : ℕ) : Type 0 where
   pub waiting : waits column.held time ≡ true
 
 abbrev pub NoneWaits : List ColumnSeen → (time n : ℕ) → Type 0
-NoneWaits columns time n = (c : ℕ) (column : ColumnSeen) → c < n
-    → slice_get columns c ≡ Some column → waits column.held time ≡ false
+NoneWaits columns time n = (place : ℕ) (column : ColumnSeen) → place < n
+    → slice_get columns place ≡ Some column → waits column.held time ≡ false

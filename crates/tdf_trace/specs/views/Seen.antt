@@ -24,7 +24,8 @@ pub record Fits (about : AboutSeen) (columns : List ColumnSeen) : Type 0 where
 -- what the columns show can be written
 abbrev pub AreShown : List ColumnSeen → Type 0
 AreShown columns =
-    (c : ℕ) (column : ColumnSeen) → slice_get columns c ≡ Some column → HasFewPlaces column.shown
+    (place : ℕ) (column : ColumnSeen) → slice_get columns place ≡ Some column
+    → HasFewPlaces column.shown
 
 -- the column of a variable before its first cell
 abbrev pub fresh : Variable → ColumnSeen

@@ -1,5 +1,6 @@
 use Rattle.std.proofs.Common.{ap, map, ◌∙◌, arith}
 use Rattle.tdf_tokens.specs.Rows.{row}
+use Rattle.tdf_blocks.proofs.FormedLaws.{read_formed}
 use Rattle.tdf_blocks.proofs.KeptLaws.{read_keeps, read_order}
 use Rattle.tdf_blocks.proofs.WalkLaws.{few}
 use Rattle.tdf_blocks.proofs.parser.parse.Goals as goal
@@ -12,3 +13,6 @@ returns-clause-kept c = read_keeps c.read_rows.result _ _ c.read_rows.ensures
 
 pub returns-clause-order : goal.returns-clause-order
 returns-clause-order c = read_order c.read_rows.result c.args.text.now _ _ (ap (map row) c.deref.ensures.value ∙ c.in_ok-rows.ensures) c.read_rows.ensures
+
+pub returns-clause-formed : goal.returns-clause-formed
+returns-clause-formed c = read_formed c.read_rows.result _ _ c.read_rows.ensures

@@ -1,6 +1,7 @@
 use Rattle.std.proofs.Common.{subst}
 use Rattle.tdf_bind.specs.declared.flat.BindErr.{BindErr}
 use Rattle.tdf_flat.specs.Flat.{IsBindRefusal}
+use Rattle.tdf_sim.proofs.Closed.{closed_top}
 use Rattle.tdf_sim.proofs.Plannable.{can_be_planned}
 use Rattle.tdf_sim.proofs.elaboration.bound.Goals as goal
 use Rattle.tdf_sim.specs.FirstFault.{of_binding}
@@ -13,3 +14,6 @@ returns-in-Ok-clause-plannable c =
 pub returns-in-Err-Refused-clause-refused : goal.returns-in-Err-Refused-clause-refused
 returns-in-Err-Refused-clause-refused c = of_binding c.in_ok-checked.ensures.sound
     (subst (λ (e : BindErr). IsBindRefusal (pure_tree c.args.tree.now) e) c.in-Err-Refused.field-0-is c.in-Err-Refused.ensures.refused)
+
+pub flatten-requires-clause-closed : goal.flatten-requires-clause-closed
+flatten-requires-clause-closed c = closed_top (pure_tree c.args.tree.now) c.requires.formed

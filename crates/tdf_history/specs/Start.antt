@@ -1,0 +1,46 @@
+-- How a run begins: each cluster at the head of its first period, as the text says it.
+-- Source: own.
+use Rattle.std.specs.List.{count_by, enumerate_from, range_with_len}
+use Rattle.std.specs.Prelude.{ℕ, ◌+◌, true, List, [], length, map, nat_eq, replicate}
+use Rattle.tdf_bind.specs.Flat.{FlatOf}
+use Rattle.tdf_dynamic.specs.declared.first.First.{First}
+use Rattle.tdf_flat.specs.declared.model.Flat.{Flat}
+use Rattle.tdf_history.specs.World.{ClusterAt, World}
+use Rattle.tdf_schedule.specs.declared.entry.Entry.{Entry}
+use Rattle.tdf_streams.specs.Cluster.{text_start}
+use Rattle.tdf_streams.specs.Periods.{period_record}
+use Rattle.tdf_tree.specs.Pure.{PureTree}
+
+-- how often each actor fires in a plan
+abbrev pub counts_in : FlatOf → List Entry → List ℕ
+counts_in tables entries =
+    map (λ m. count_by (λ (x : Entry). nat_eq x.actor m) entries)
+    (range_with_len 0 (length tables.actors))
+
+-- a cluster with its first plan; nothing is done, and no sampler has read
+abbrev pub first_cluster : PureTree → Flat → (cluster : ℕ) → First → ClusterAt
+first_cluster model flat cluster first = record {
+  begun = text_start model flat cluster first.attrs;
+  entries = first.plan.entries.items;
+  bounds = first.plan.bounds.items;
+  since = 0;
+  place = 0;
+  old = [];
+  now = period_record flat.tables first.attrs (counts_in flat.tables first.plan.entries.items)
+      first.plan.period true;
+  reads = replicate (length flat.tables.actors) [];
+}
+
+abbrev pub first_clusters : PureTree → Flat → List First → List ClusterAt
+first_clusters model flat firsts =
+    map (λ first. first_cluster model flat (first.0 + 1) first.1) (enumerate_from 0 firsts)
+
+module _ {K : Type 0} where
+  abbrev pub first_world : PureTree → Flat → List First → (events : K) → (turns : ℕ) → World K
+  first_world model flat firsts events turns = record {
+    clusters = first_clusters model flat firsts;
+    events = events;
+    left = turns;
+    written = [];
+    planned = [];
+  }

@@ -1,0 +1,3 @@
+pub mod Api
+pub mod Instants
+pub mod Turns
