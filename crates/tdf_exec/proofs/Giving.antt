@@ -19,7 +19,8 @@ use Rattle.tdf_exec.specs.Gained.{sent_by, sent_sample, sent_size, traced_by, tr
 use Rattle.tdf_exec.specs.Made.{IsClusterOf, IsModuleOf, IsSamplerOf, IsSinkOf}
 use Rattle.tdf_exec.specs.Played.{IsPeriodOf, play_of}
 use Rattle.tdf_exec.specs.Runners.{ModuleOf, SamplerOf}
-use Rattle.tdf_exec.specs.Traced.{port_samples, traced_count, traced_port, traced_ports, turn_samples}
+use Rattle.tdf_exec.specs.Traced.{port_samples, traced_count, traced_port, turn_samples}
+use Rattle.tdf_layout.specs.Traced.{traced_ports}
 use Rattle.tdf_exec.specs.declared.runners.Runner.{Runner}
 use Rattle.tdf_exec.specs.declared.runners.Runner.TheVariants as runner
 use Rattle.tdf_exec.specs.declared.runners.SinkRunner.{SinkRunner}

@@ -4,7 +4,8 @@ use Rattle.std.specs.List.{count_by, range_with_len, sum_by}
 use Rattle.std.specs.Prelude.{◌≡◌, ℕ, ◌+◌, ◌-◌, ◌^◌, ◌<◌, ◌≤◌, false, List, [], length, map, min}
 use Rattle.std.specs.Prelude.{Some, drop, take, slice_get, slice_index, ℤ}
 use Rattle.tdf_exec.specs.Cluster.{ClusterOf, is_due}
-use Rattle.tdf_exec.specs.Made.{edge_format, is_sampler}
+use Rattle.tdf_exec.specs.Made.{is_sampler}
+use Rattle.tdf_layout.specs.Samples.{edge_format}
 use Rattle.tdf_exec.specs.Runners.{ModuleOf, SamplerOf}
 use Rattle.tdf_exec.specs.declared.runners.Runner.{Runner}
 use Rattle.tdf_exec.specs.declared.runners.Runner.TheVariants as runner

@@ -9,7 +9,8 @@ use Rattle.tdf_convert.specs.declared.outputs.Sent.{Sent}
 use Rattle.tdf_convert.specs.declared.outputs.Traced.{Traced}
 use Rattle.tdf_exec.specs.Cluster.{ClusterOf}
 use Rattle.tdf_exec.specs.Gained.{Gives, HasGained, HaveRoom, sent_size, traced_size, with_gains}
-use Rattle.tdf_exec.specs.Made.{IsClusterOf, edge_format, is_sampler}
+use Rattle.tdf_exec.specs.Made.{IsClusterOf, is_sampler}
+use Rattle.tdf_layout.specs.Samples.{edge_format}
 use Rattle.tdf_exec.specs.Played.{AreGiven, HasPlayed, IsLike, IsMoved, IsPeriodOf, counted}
 use Rattle.tdf_exec.specs.Played.{play_of}
 use Rattle.tdf_exec.specs.Runners.{SamplerOf}
