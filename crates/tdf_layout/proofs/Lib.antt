@@ -6,6 +6,7 @@ pub mod Edges
 pub mod Gathers
 pub mod Given
 pub mod Listed
+pub mod OnePort
 pub mod Picked
 pub mod Rates
 pub mod Rows

@@ -4,6 +4,7 @@ ghost use Rattle.tdf_layout.specs.Edges.{EdgesAreRows, PortsGiveOnce, SamplersRe
 ghost use Rattle.tdf_layout.specs.Edges.{SinksWriteNone, WiresAreWired};
 ghost use Rattle.tdf_layout.specs.Rates.{PortsSetRates, RatesAreWithin, SamplersPutOne, SinksTakeOne};
 ghost use Rattle.tdf_layout.specs.Samples.{EdgesHaveFormats};
+ghost use Rattle.tdf_layout.specs.Traced.{SignalsHaveOnePort};
 
 use tdf_formats::law_formats;
 
@@ -44,6 +45,13 @@ pub fn law_wired()
 /// at first.
 pub fn law_edge_formats()
     ensures { EdgesHaveFormats }
+{
+    law_formats();
+}
+
+/// A signal of samples has one `out` port, so no signal is traced at two ports.
+pub fn law_one_port()
+    ensures { SignalsHaveOnePort }
 {
     law_formats();
 }
