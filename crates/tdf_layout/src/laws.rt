@@ -7,6 +7,7 @@ ghost use Rattle.tdf_layout.specs.Samples.{EdgesHaveFormats};
 ghost use Rattle.tdf_layout.specs.Traced.{SignalsHaveOnePort};
 
 use tdf_formats::law_formats;
+use tdf_limits::law_limits;
 
 /// Each edge goes from an `out` port to an `in` port of its signal, from a sampler, or to a sink; a port
 /// gives one edge at most; each sink reads one, and writes none; no sampler reads one.
@@ -31,6 +32,7 @@ pub fn law_rates_within()
     ensures { RatesAreWithin }
 {
     law_formats();
+    law_limits();
 }
 
 /// The wires of a module are those of its block: each has a port of the block, and of the ports that
