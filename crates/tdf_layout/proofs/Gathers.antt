@@ -1,7 +1,7 @@
 -- One edge more is gathered.
 use Rattle.std.proofs.Common.{◌≡◌, ◌∙◌, ◌≢◌, ℕ, ◌+◌, ◌<◌, Bool, true, false, Some, None, if◌then◌else◌, List, [], ◌∷◌, ◌++◌, append-nil, length, refl, ap, sym, inl, inr, ◌⊎◌, arith, slice_get}
 use Rattle.std.proofs.lemmas.Bool.{cases_eq, eq-eqb, ne_eqb}
-use Rattle.std.proofs.lemmas.List.{get_or-set_same, get_or-set_other, length-set}
+use Rattle.std.proofs.lemmas.List.{get_or-set_same}
 use Rattle.std.proofs.lemmas.Option.{get_or_from_slice_get, slice_get_within}
 use Rattle.std.specs.List.{cons_option}
 use Rattle.std.specs.Prelude.{slice_set}
@@ -9,17 +9,10 @@ use Rattle.tdf_bind.specs.Flat.{FlatOf}
 use Rattle.tdf_firing.specs.Wires.{WiresOf}
 use Rattle.tdf_firing.specs.declared.wires.InWire.{InWire}
 use Rattle.tdf_firing.specs.declared.wires.OutWire.{OutWire}
+use Rattle.tdf_layout.proofs.Setting.{set_long, set_other}
 use Rattle.tdf_layout.specs.machine.Ends.{EndsUpTo, ends_at, ends_before, ends_if, in_wire, in_wires, is_of, no_ends, out_wire, out_wires, read_by, wire_in, wire_out, with_in, with_out, written_by}
 use Rattle.tdf_wiring.proofs.Api.{filtered_next}
 use Rattle.tdf_wiring.specs.declared.edges.EdgeRow.{EdgeRow}
-
-set_long : (b : Bool) (rows : List WiresOf) (r : ℕ) (x : WiresOf) → length (if b then slice_set rows r x else rows) ≡ length rows
-set_long true rows r x = length-set rows r x
-set_long false rows r x = refl
-
-set_other : (b : Bool) (rows : List WiresOf) (r m : ℕ) (x : WiresOf) → m ≢ r → ends_at (if b then slice_set rows r x else rows) m ≡ ends_at rows m
-set_other true rows r m x other = get_or-set_other rows r m x no_ends other
-set_other false rows r m x other = refl
 
 -- the row of an actor that grows, if it is of the cluster
 set_same : (b : Bool) (rows : List WiresOf) (r : ℕ) (change : WiresOf → WiresOf) (old new : WiresOf) → r < length rows → ends_at rows r ≡ ends_if b old → change old ≡ new
@@ -68,7 +61,7 @@ module _ (tables : FlatOf) (cluster n : ℕ) (edge : EdgeRow) (at : slice_get ta
     read_at m below (inl same) = rw same (set_same (is_of tables cluster edge.reader) rows edge.reader (with_in (wire_in tables n edge))
         (record { ins = in_wires tables edge.reader n; outs = out_wires tables edge.reader n }) (record { ins = in_wires tables edge.reader (n + 1); outs = out_wires tables edge.reader n })
         (let l = h.long in omega (arith, reader, l)) (h.each edge.reader reader) (ap (λ xs. record { ins = xs; outs = out_wires tables edge.reader n }) ins_here))
-    read_at m below (inr other) = set_other (is_of tables cluster edge.reader) rows edge.reader m (with_in (wire_in tables n edge) (ends_at rows edge.reader)) other ∙ h.each m below
+    read_at m below (inr other) = set_other (is_of tables cluster edge.reader) rows edge.reader m (with_in (wire_in tables n edge) (ends_at rows edge.reader)) no_ends other ∙ h.each m below
         ∙ ap (λ xs. ends_if (is_of tables cluster m) (record { ins = xs; outs = out_wires tables m n })) (ins_there m other)
 
     written_at : (m : ℕ) → m < length tables.actors → (m ≡ edge.writer) ⊎ (m ≢ edge.writer)
@@ -76,7 +69,7 @@ module _ (tables : FlatOf) (cluster n : ℕ) (edge : EdgeRow) (at : slice_get ta
     written_at m below (inl same) = rw same (set_same (is_of tables cluster edge.writer) read edge.writer (with_out (wire_out tables n edge))
         (record { ins = in_wires tables edge.writer (n + 1); outs = out_wires tables edge.writer n }) (record { ins = in_wires tables edge.writer (n + 1); outs = out_wires tables edge.writer (n + 1) })
         (let l = read_long in omega (arith, writer, l)) (read_at edge.writer writer (cases_eq edge.writer edge.reader)) (ap (λ xs. record { ins = in_wires tables edge.writer (n + 1); outs = xs }) outs_here))
-    written_at m below (inr other) = set_other (is_of tables cluster edge.writer) read edge.writer m (with_out (wire_out tables n edge) (ends_at read edge.writer)) other ∙ read_at m below (cases_eq m edge.reader)
+    written_at m below (inr other) = set_other (is_of tables cluster edge.writer) read edge.writer m (with_out (wire_out tables n edge) (ends_at read edge.writer)) no_ends other ∙ read_at m below (cases_eq m edge.reader)
         ∙ ap (λ xs. ends_if (is_of tables cluster m) (record { ins = in_wires tables m (n + 1); outs = xs })) (outs_there m other)
 
     pub ends_next : (new : List WiresOf) → new ≡ written_by tables cluster n edge (read_by tables cluster n edge rows) → EndsUpTo tables cluster (n + 1) new

@@ -6,10 +6,12 @@ pub mod Edges
 pub mod Gathers
 pub mod Given
 pub mod Listed
+pub mod OnePort
 pub mod Picked
 pub mod Rates
 pub mod Rows
 pub mod Samples
+pub mod Setting
 pub mod Told
 pub mod Uses
 pub mod Wired

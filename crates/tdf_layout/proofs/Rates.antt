@@ -1,5 +1,5 @@
 -- How many samples go through an edge in one firing.
-use Rattle.std.proofs.Common.{◌≡◌, ◌∙◌, ◌≢◌, ℕ, suc, ◌<◌, ◌≤◌, Bool, true, false, Some, option_map, if◌then◌else◌, List, [], ◌∷◌, length, ap, sym, subst, inl, inr, ◌⊎◌, arith, slice_get, slice_index}
+use Rattle.std.proofs.Common.{◌≡◌, ◌∙◌, ◌≢◌, ℕ, suc, ◌<◌, ◌≤◌, Bool, true, false, Option, Some, None, option_map, refl, if◌then◌else◌, List, [], ◌∷◌, length, ap, sym, subst, inl, inr, ◌⊎◌, arith, slice_get, slice_index}
 use Rattle.std.proofs.lemmas.Bool.{cases_eq, eq-eqb, ne_eqb}
 use Rattle.std.proofs.lemmas.Option.{slice_get-map}
 use Rattle.std.specs.Prelude.{All}
@@ -7,6 +7,7 @@ use Rattle.tdf_bind.specs.Flat.{FlatOf}
 use Rattle.tdf_dynamic.specs.Attributes.{AttrsOf, attrs_at}
 use Rattle.tdf_dynamic.specs.Rates.{edge_kind, kind_of, net_of, net_ports, port_rate, rate_by, rated_edge, rated_port, read_rate_by, write_rate_by}
 use Rattle.tdf_expr.specs.Frames.{is_written}
+use Rattle.tdf_expr.specs.Made.{start_rates}
 use Rattle.tdf_expr.specs.declared.spans.PortSpan.{PortSpan}
 use Rattle.tdf_firing.specs.Wires.{WiresOf}
 use Rattle.tdf_firing.specs.declared.wires.InWire.{InWire}
@@ -17,12 +18,13 @@ use Rattle.tdf_flow.proofs.Api.{none_some, some_same}
 use Rattle.tdf_formats.specs.Formats.{IsSoundModel, PortsHaveFormats}
 use Rattle.tdf_graph.specs.declared.actors.Edge.{Edge}
 use Rattle.tdf_layout.proofs.Edges.{edge_row}
-use Rattle.tdf_layout.proofs.Rows.{index_map}
+use Rattle.tdf_layout.proofs.Rows.{all_at, index_map}
 use Rattle.tdf_layout.proofs.Wired.{InSpan, IsAtPlace, OutSpan, at_place, in_span, out_span, spans_at}
 use Rattle.tdf_layout.specs.Edges.{IsBetween, IsEdgeRow, IsFromSampler, IsToSink}
 use Rattle.tdf_layout.specs.Rates.{AreRatesOf, PortsSetRates, RatesAreWithin, SamplersPutOne, SinksTakeOne}
 use Rattle.tdf_layout.specs.Wiring.{AreWiresOf}
-use Rattle.tdf_limits.specs.Limits.{limits_in}
+use Rattle.tdf_limits.proofs.Api.{starts_are_allowed}
+use Rattle.tdf_limits.specs.Limits.{AreWithinLimits, FlatIsWithinLimits, IsAlwaysRate, limits_in}
 use Rattle.tdf_meaning.specs.Fits.{RatesFit}
 use Rattle.tdf_streams.specs.Periods.{HasAllowedRates, read_rates, write_rates}
 use Rattle.tdf_streams.specs.Places.{driver_or, place_of_port}
@@ -31,6 +33,7 @@ use Rattle.tdf_tree.specs.Pure.{PureTree}
 use Rattle.tdf_tree.specs.declared.blocks.PortKind.{PortKind}
 use Rattle.tdf_tree.specs.declared.blocks.PortKind.TheVariants.{In, DeIn, DeOut}
 use Rattle.tdf_wiring.specs.declared.edges.EdgeRow.{EdgeRow}
+use Rattle.tdf_wiring.specs.declared.modules.ModuleRow.{ModuleRow}
 use Rattle.tdf_wiring.specs.declared.modules.PortRow.{PortRow}
 
 abbrev IsOn : Bool → Type 0
@@ -81,22 +84,42 @@ found P (x ∷ table) m attrs all is = by_number (cases_eq x.number m) (λ h. fo
         (ap (λ (a : AttrsOf). a.number) (sym one) ∙ same, subst P one (all 0 x (omega arith)))
     by_number (inr other) rest = rest (ap (λ b. if b then Some x else attrs_at table m) (sym (ne_eqb x.number m other)) ∙ is)
 
-module _ (formats : PortsHaveFormats) (model : PureTree) (flat : Flat) (sound : IsSoundModel model) (is : IsFlatOf model flat)
-    (table : List AttrsOf) (attrs : AttrsOf) (m : ℕ) (allowed : All (HasAllowedRates flat) table) (there : attrs_at table m ≡ Some attrs) where
-  attrs_are : (attrs.number ≡ m) × HasAllowedRates flat attrs
-  attrs_are = found (HasAllowedRates flat) table m attrs allowed there
+module _ (formats : PortsHaveFormats) (limited : FlatIsWithinLimits) (model : PureTree) (flat : Flat) (sound : IsSoundModel model) (is : IsFlatOf model flat)
+    (table : List AttrsOf) (m : ℕ) (allowed : All (HasAllowedRates flat) table) where
+  limits : AreWithinLimits flat
+  limits = limited model flat sound.kept sound.types is
+
+  -- a port has a place for one sample at least
+  some_place : (number : ℕ) (port : PortRow) → slice_get flat.tables.ports number ≡ Some port → (h : IsAtPlace formats model flat sound is number port) → 1 ≤ h.span.count
+  some_place number port at h = by_row (slice_get flat.tables.modules port.«module») refl
+    where
+      by_row : (o : Option ModuleRow) → slice_get flat.tables.modules port.«module» ≡ o → 1 ≤ h.span.count
+      by_row None none = none_some _ (sym none ∙ (formats model flat sound is number port at).module_is)
+      by_row (Some row) there =
+          let fit : RatesFit (limits_in flat.checked (slice_get flat.tables.modules port.«module»)) (start_rates flat.checked row.block) =
+          subst (λ o. RatesFit (limits_in flat.checked o) (start_rates flat.checked row.block)) (sym there) (starts_are_allowed flat.checked (limits.checked_is) row.block) in
+          let rate = all_at (λ (p : PortRow). IsAlwaysRate (limits_in flat.checked (slice_get flat.tables.modules p.«module»)) p.rate) flat.tables.ports number port limits.always at (start_rates flat.checked row.block) fit in
+          let low = rate.some in
+          let high = h.wide (start_rates flat.checked row.block) fit in
+          omega (arith, low, high)
 
   -- the rate of a port of the module
   port_within : (number : ℕ) (port : PortRow) (p : PortSpan) → slice_get flat.tables.ports number ≡ Some port → port.«module» ≡ m
       → slice_get (spans_at formats model flat sound is m) (place_of_port flat.tables.ports number) ≡ Some p → port_rate table port ≤ p.count
-  port_within number port p at own pat =
-      let h : IsAtPlace formats model flat sound is number port = at_place formats model flat sound is number port at in
-      let a = attrs_are in
-      let rate : port_rate table port ≡ rate_by port (Some attrs) = ap (λ n. rate_by port (attrs_at table n)) own ∙ ap (rate_by port) there in
-      let fit : RatesFit (limits_in flat.checked (slice_get flat.tables.modules port.«module»)) attrs.rates =
-      subst (λ n. RatesFit (limits_in flat.checked (slice_get flat.tables.modules n)) attrs.rates) (a.0 ∙ sym own) a.1 in
-      let same : h.span ≡ p = some_same h.span p (sym h.at ∙ ap (λ n. slice_get (spans_at formats model flat sound is n) (place_of_port flat.tables.ports number)) own ∙ pat) in
-      subst (λ n. n ≤ p.count) (sym rate) (subst (λ (s : PortSpan). rate_by port (Some attrs) ≤ s.count) same (h.wide attrs.rates fit))
+  port_within number port p at own pat = subst (λ (s : PortSpan). port_rate table port ≤ s.count) same (by_attrs (attrs_at table port.«module») refl)
+    where
+      h : IsAtPlace formats model flat sound is number port
+      h = at_place formats model flat sound is number port at
+
+      same : h.span ≡ p
+      same = some_same h.span p (sym h.at ∙ ap (λ n. slice_get (spans_at formats model flat sound is n) (place_of_port flat.tables.ports number)) own ∙ pat)
+
+      by_attrs : (o : Option AttrsOf) → attrs_at table port.«module» ≡ o → port_rate table port ≤ h.span.count
+      by_attrs None none = subst (λ n. n ≤ h.span.count) (sym (ap (rate_by port) none)) (some_place number port at h)
+      by_attrs (Some attrs) there =
+          let a = found (HasAllowedRates flat) table port.«module» attrs allowed there in
+          subst (λ n. n ≤ h.span.count) (sym (ap (rate_by port) there))
+          (h.wide attrs.rates (subst (λ n. RatesFit (limits_in flat.checked (slice_get flat.tables.modules n)) attrs.rates) a.0 a.1))
 
   module _ (wires : WiresOf) (below : m < length flat.tables.modules) (are : AreWiresOf flat.tables m wires) where
     pub in_within : (j : ℕ) (w : InWire) (p : PortSpan) → slice_get wires.ins j ≡ Some w → slice_get (spans_at formats model flat sound is m) w.port ≡ Some p
@@ -148,8 +171,8 @@ samplers_put_one tables table e edge port at h = sampler_rates tables table e ed
 pub sinks_take_one : SinksTakeOne
 sinks_take_one tables table e edge port at h = sink_rates tables table e edge port at h
 
-pub rates_are_within : PortsHaveFormats → RatesAreWithin
-rates_are_within formats model flat table attrs m wires sound is allowed there below are = record {
-  read = in_within formats model flat sound is table attrs m allowed there wires below are;
-  written = out_within formats model flat sound is table attrs m allowed there wires below are;
+pub rates_are_within : PortsHaveFormats → FlatIsWithinLimits → RatesAreWithin
+rates_are_within formats limited model flat table m wires sound is allowed below are = record {
+  read = in_within formats limited model flat sound is table m allowed wires below are;
+  written = out_within formats limited model flat sound is table m allowed wires below are;
 }

@@ -2,7 +2,7 @@
 -- Source: own.
 use Rattle.std.specs.Prelude.{◌≡◌, ◌<◌, ◌≤◌, ℕ, List, length, Some, All, slice_get, slice_index}
 use Rattle.tdf_bind.specs.Flat.{FlatOf}
-use Rattle.tdf_dynamic.specs.Attributes.{AttrsOf, attrs_at}
+use Rattle.tdf_dynamic.specs.Attributes.{AttrsOf}
 use Rattle.tdf_dynamic.specs.Rates.{net_of, port_rate}
 use Rattle.tdf_expr.specs.Made.{port_spans_of}
 use Rattle.tdf_expr.specs.declared.spans.PortSpan.{PortSpan}
@@ -54,9 +54,8 @@ pub record AreRatesWithin (tables : FlatOf) (table : List AttrsOf) (wires : Wire
 
 -- so it is where the values of rate variables are allowed
 abbrev pub RatesAreWithin : Type 0
-RatesAreWithin = (model : PureTree) (flat : Flat) (table : List AttrsOf) (attrs : AttrsOf) (m : ℕ)
+RatesAreWithin = (model : PureTree) (flat : Flat) (table : List AttrsOf) (m : ℕ)
     (wires : WiresOf) → IsSoundModel model → IsFlatOf model flat
-    → All (HasAllowedRates flat) table → attrs_at table m ≡ Some attrs
-    → m < length flat.tables.modules → AreWiresOf flat.tables m wires
-    → AreRatesWithin flat.tables table wires
+    → All (HasAllowedRates flat) table → m < length flat.tables.modules
+    → AreWiresOf flat.tables m wires → AreRatesWithin flat.tables table wires
     (port_spans_of flat.checked (block_at flat.tables.modules m))

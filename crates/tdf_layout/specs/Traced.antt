@@ -4,6 +4,10 @@ use Rattle.std.specs.List.{enumerate_from, list_any}
 use Rattle.std.specs.Prelude.{◌≡◌, ◌<◌, ◌&&◌, ℕ, Bool, true, false, not, List, length, Option, Some}
 use Rattle.std.specs.Prelude.{None, filter_map, if◌then◌else◌, nat_eq, slice_get}
 use Rattle.tdf_bind.specs.Flat.{FlatOf}
+use Rattle.tdf_flat.specs.Flat.{IsFlatOf}
+use Rattle.tdf_flat.specs.declared.model.Flat.{Flat}
+use Rattle.tdf_formats.specs.Formats.{IsSoundModel}
+use Rattle.tdf_tree.specs.Pure.{PureTree}
 use Rattle.tdf_tree.specs.declared.blocks.PortKind.{PortKind}
 use Rattle.tdf_tree.specs.declared.blocks.PortKind.TheVariants.{In, Out, DeIn, DeOut}
 use Rattle.tdf_wiring.specs.declared.modules.PortRow.{PortRow}
@@ -37,3 +41,10 @@ pub record AreTracedPorts (tables : FlatOf) (lists : List (List ℕ)) : Type 0 w
   pub long : length lists ≡ length tables.modules
   pub each : (m : ℕ) → m < length tables.modules
       → slice_get lists m ≡ Some (traced_ports tables m)
+
+-- a signal of samples has one `out` port, so no signal is traced at two ports
+abbrev pub SignalsHaveOnePort : Type 0
+SignalsHaveOnePort = (model : PureTree) (flat : Flat) (a b : ℕ) (x y : PortRow)
+    → IsSoundModel model → IsFlatOf model flat
+    → slice_get flat.tables.ports a ≡ Some x → slice_get flat.tables.ports b ≡ Some y
+    → x.kind ≡ Out → y.kind ≡ Out → x.signal ≡ y.signal → a ≡ b

@@ -4,8 +4,10 @@ ghost use Rattle.tdf_layout.specs.Edges.{EdgesAreRows, PortsGiveOnce, SamplersRe
 ghost use Rattle.tdf_layout.specs.Edges.{SinksWriteNone, WiresAreWired};
 ghost use Rattle.tdf_layout.specs.Rates.{PortsSetRates, RatesAreWithin, SamplersPutOne, SinksTakeOne};
 ghost use Rattle.tdf_layout.specs.Samples.{EdgesHaveFormats};
+ghost use Rattle.tdf_layout.specs.Traced.{SignalsHaveOnePort};
 
 use tdf_formats::law_formats;
+use tdf_limits::law_limits;
 
 /// Each edge goes from an `out` port to an `in` port of its signal, from a sampler, or to a sink; a port
 /// gives one edge at most; each sink reads one, and writes none; no sampler reads one.
@@ -30,6 +32,7 @@ pub fn law_rates_within()
     ensures { RatesAreWithin }
 {
     law_formats();
+    law_limits();
 }
 
 /// The wires of a module are those of its block: each has a port of the block, and of the ports that
@@ -44,6 +47,13 @@ pub fn law_wired()
 /// at first.
 pub fn law_edge_formats()
     ensures { EdgesHaveFormats }
+{
+    law_formats();
+}
+
+/// A signal of samples has one `out` port, so no signal is traced at two ports.
+pub fn law_one_port()
+    ensures { SignalsHaveOnePort }
 {
     law_formats();
 }

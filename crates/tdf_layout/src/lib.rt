@@ -18,7 +18,7 @@ mod traced;
 mod wiring;
 
 pub use initial::initial_samples;
-pub use laws::{law_edge_formats, law_edges, law_rates, law_rates_within, law_wired};
+pub use laws::{law_edge_formats, law_edges, law_one_port, law_rates, law_rates_within, law_wired};
 pub use places::port_places;
 pub use traced::{PortNumbers, traced_ports};
 pub use wiring::{ActorWires, cluster_wires};

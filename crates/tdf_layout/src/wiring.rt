@@ -1,8 +1,9 @@
 //! What each actor of a cluster reads and writes.
 
-ghost use Rattle.std.specs.Prelude.{◌≡◌, ◌<◌, ℕ, IfOk, length, nat_eq, Some, slice_get};
+ghost use Rattle.std.specs.Prelude.{◌≡◌, ◌<◌, ℕ, IfOk, length, map, nat_eq, Some, slice_get};
 ghost use Rattle.tdf_bind.specs.Ranges.{AreInRange};
 ghost use Rattle.tdf_bind.specs.declared.actors.ActorRow.{ActorRow as ActorRowOf};
+ghost use Rattle.tdf_firing.specs.declared.wires.InWire.{InWire as InWireOf};
 ghost use Rattle.tdf_layout.specs.Wires.{AreClusterWires, SinksHaveOne};
 ghost use Rattle.tdf_layout.specs.machine.Ends.{HasInputIf, IsToldIf, ToldUpTo, ends_at};
 
@@ -29,6 +30,25 @@ pub enum ActorWires {
     Elsewhere,
 }
 
+/// The edges that a sampler writes.
+fn sampler_edges(alloc: Global, ends: Ends) -> Result<Vec<u32>, Memory>
+    ensures { IfOk result (λ edges. edges.items ≡ map (λ w. w.edge) ends.outs) }
+{
+    let edges = ends.edges_out(alloc);
+    drop(ends);
+    edges
+}
+
+/// The edge that a sink reads.
+fn sink_edge(ends: Ends) -> u32
+    requires { 0 < length ends.ins }
+    ensures { (w : InWireOf) × (slice_get ends.ins 0 ≡ Some w) × (result ≡ w.edge) }
+{
+    let edge = ends.first_in();
+    drop(ends);
+    edge
+}
+
 /// What an actor is told of its edges.
 fn told(alloc: Global, actor: ActorRow, cluster: u32, ends: Ends) -> Result<ActorWires, Memory>
     requires { HasInputIf (nat_eq actor.cluster cluster) actor.kind ends }
@@ -40,8 +60,8 @@ fn told(alloc: Global, actor: ActorRow, cluster: u32, ends: Ends) -> Result<Acto
     }
     match actor.kind {
         Actor::Module => Ok(ActorWires::Module(ends.wires())),
-        Actor::Sampler => Ok(ActorWires::Sampler(ends.edges_out(alloc)?)),
-        Actor::Sink => Ok(ActorWires::Sink(ends.first_in())),
+        Actor::Sampler => Ok(ActorWires::Sampler(sampler_edges(alloc, ends)?)),
+        Actor::Sink => Ok(ActorWires::Sink(sink_edge(ends))),
     }
 }
 
