@@ -1,0 +1,5 @@
+pub mod Noticing
+pub mod Reading
+pub mod Writing
+pub mod Tables
+pub mod Starting
