@@ -3,3 +3,4 @@ pub mod Reading
 pub mod Writing
 pub mod Tables
 pub mod Starting
+pub mod Evaluated

@@ -4,10 +4,12 @@
 //! - `parts`: what it holds.
 //! - `making`: the parts before the first instant.
 //! - `running`: the body of a process runs.
+//! - `evaluating`: the triggered processes run.
 //! - `waiting`: the values that wait for the next update.
 //! - `notices`: pending notifications.
 #![tactic(auto)]
 
+mod evaluating;
 mod kernel;
 mod making;
 mod notices;
