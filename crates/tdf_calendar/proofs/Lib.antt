@@ -1,0 +1,5 @@
+pub mod Api
+mod Members
+mod Skips
+mod Sorted
+mod Times

@@ -1,0 +1,6 @@
+pub mod Noticing
+pub mod Reading
+pub mod Writing
+pub mod Tables
+pub mod Starting
+pub mod Evaluated

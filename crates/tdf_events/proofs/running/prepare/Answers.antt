@@ -1,0 +1,8 @@
+use Rattle.tdf_events.proofs.Reading.{prepared, reset_long}
+use Rattle.tdf_events.proofs.running.prepare.Goals as goal
+
+pub read_signals-requires-clause-long : goal.read_signals-requires-clause-long
+read_signals-requires-clause-long c = reset_long c.args.ports.now c.reset.new.self c.reset.ensures c.ports-2.ensures.fit c.requires.can.one
+
+pub returns-clause-state : goal.returns-clause-state
+returns-clause-state c = prepared c.args.values.now c.args.signals.now c.args.ports.now c.reset.new.self c.read_signals.new.ports c.requires.can c.ports.ensures.fit c.reset.ensures c.ports-2.ensures.fit c.read_signals.ensures

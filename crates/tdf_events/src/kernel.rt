@@ -1,0 +1,101 @@
+//! The kernel and its calls.
+
+use crate::parts::Parts;
+use std::marker::Model;
+
+/// The event side of a model while it runs. Only [`Kernel::new`] takes memory.
+#[derive(Drop)]
+pub struct Kernel {
+    parts: Parts,
+}
+
+impl Model for Kernel {
+    ghost use Rattle.tdf_events.specs.Kernel.{KernelOf};
+    ghost use Rattle.tdf_events.specs.views.Parts.{kernel_of};
+
+    ghost Value = { KernelOf };
+
+    ghost view = { λ a. kernel_of a.parts };
+}
+
+ghost use Rattle.std.specs.Prelude.{◌≡◌, IfOk};
+ghost use Rattle.tdf_events.specs.Kernel.{IsKernelOf, IsNextOf, side_of};
+ghost use Rattle.tdf_events.specs.Runnable.{IsRunnable};
+ghost use Rattle.tdf_events.specs.Side.{start_side};
+ghost use Rattle.tdf_events.specs.views.Parts.{kernel_of};
+
+use crate::making::{
+    by_event, by_signal, own_events, start_frames, start_ports, start_values, started,
+};
+use crate::notices::Notices;
+use crate::waiting::Waiting;
+use std::alloc::Global;
+use tdf_base::Memory;
+use tdf_fixed::Raw;
+use tdf_flat::Flat;
+
+/// The parts before the first instant.
+fn parts_of(alloc: Global, flat: &Flat) -> Result<Parts, Memory>
+    requires { IsRunnable flat.now }
+    ensures side { IfOk result (λ parts. side_of (kernel_of parts) ≡ start_side flat.now) }
+    ensures kernel { IfOk result (λ parts. IsKernelOf flat.now (kernel_of parts)) }
+{
+    let tables = &flat.tables;
+    let signals = tables.de_signals.len() as u32;
+    let events = tables.events.len() as u32;
+    let values = start_values(alloc, &tables.de_signals)?;
+    let frames = start_frames(alloc, &flat.checked, &tables.blocks)?;
+    let ports = start_ports(alloc, &flat.checked, &tables.blocks)?;
+    let notices = Notices::new(alloc, events)?;
+    let triggered = started(alloc, &tables.processes)?;
+    let waiting = Waiting::new(alloc, signals)?;
+    let by_signal = by_signal(alloc, signals, &tables.processes)?;
+    let by_event = by_event(alloc, events, &tables.processes)?;
+    let own_events = own_events(alloc, tables.blocks.len() as u32, &tables.events)?;
+    Ok(Parts {
+        values,
+        frames,
+        ports,
+        notices,
+        triggered,
+        waiting,
+        by_signal,
+        by_event,
+        own_events,
+    })
+}
+
+impl Kernel {
+    /// The event side before the first instant: starting values, declared states, nothing pending; the processes that
+    /// run at the start are triggered.
+    ///
+    /// # Errors
+    /// Out of memory.
+    pub fn new(alloc: Global, flat: &Flat) -> Result<Kernel, Memory>
+        requires { IsRunnable flat.now }
+        ensures side { IfOk result (λ kernel. side_of kernel ≡ start_side flat.now) }
+        ensures kernel { IfOk result (IsKernelOf flat.now) }
+    {
+        Ok(Kernel {
+            parts: parts_of(alloc, flat)?,
+        })
+    }
+
+    /// The settled values of the event signals.
+    pub fn values(&self) -> &[Raw]
+        ensures { result.now ≡ self.now.values }
+    {
+        &self.parts.values
+    }
+
+    /// The next time at which something is to be done: 0 where a process is to run at the start, else the least pending
+    /// time, and none where there is none.
+    pub fn next_time(&self) -> Option<u64>
+        ensures { IsNextOf (side_of self.now) result }
+    {
+        if 0 < self.parts.triggered.len() {
+            return Some(0);
+        }
+        self.parts.notices.next_time()
+    }
+}

@@ -1,0 +1,20 @@
+//! The kernel of discrete events: the event side of a flat model.
+//!
+//! - `kernel`: the kernel and its calls.
+//! - `parts`: what it holds.
+//! - `making`: the parts before the first instant.
+//! - `running`: the body of a process runs.
+//! - `evaluating`: the triggered processes run.
+//! - `waiting`: the values that wait for the next update.
+//! - `notices`: pending notifications.
+#![tactic(auto)]
+
+mod evaluating;
+mod kernel;
+mod making;
+mod notices;
+mod parts;
+mod running;
+mod waiting;
+
+pub use kernel::Kernel;

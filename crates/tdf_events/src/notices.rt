@@ -1,0 +1,99 @@
+//! Pending notifications: at most one for each event.
+
+use std::marker::Model;
+use tdf_calendar::{Calendar, NumberSet};
+
+/// The pending notifications. None of its calls but [`Notices::new`] takes memory.
+#[derive(Drop)]
+pub(crate) struct Notices {
+    pub(crate) calendar: Calendar,
+    pub(crate) delta: NumberSet,
+}
+
+impl Model for Notices {
+    ghost use Rattle.std.specs.Prelude.{length, ◌≡◌};
+    ghost use Rattle.tdf_events.specs.Notices.{NoticesOf};
+
+    ghost Value = { NoticesOf };
+
+    ghost view = { λ a. record { times = a.calendar; delta = a.delta.flags } };
+
+    ghost invariant = { λ a. length a.calendar ≡ length a.delta.flags };
+}
+
+ghost use Rattle.std.specs.Prelude.{◌≡◌, ◌<◌, ◌^◌, ℕ, IfOk, None, Some, false, length, replicate, slice_get};
+ghost use Rattle.tdf_calendar.specs.Times.{IsNextTime};
+ghost use Rattle.tdf_events.specs.Notices.{noticed, noticed_after, noticed_first, time_after};
+ghost use Rattle.tdf_expr.specs.Frames.{ArePortsFit};
+
+use std::alloc::Global;
+use tdf_base::Memory;
+use tdf_expr::Ports;
+
+/// The time after another one, at most the greatest.
+fn time_after(time: u64, after: u64) -> u64
+    ensures { result ≡ time_after time after }
+{
+    time.saturating_add(after)
+}
+
+impl Notices {
+    /// Nothing is pending.
+    ///
+    /// # Errors
+    /// Out of memory.
+    pub(crate) fn new(alloc: Global, events: u32) -> Result<Notices, Memory>
+        ensures { IfOk result (λ n. n ≡ record { times = replicate events None; delta = replicate events false }) }
+    {
+        let calendar = Calendar::new(alloc, events)?;
+        let delta = NumberSet::new(alloc, events)?;
+        Ok(Notices { calendar, delta })
+    }
+
+    /// The least time of a timed notification, none where there is none.
+    pub(crate) fn next_time(&self) -> Option<u64>
+        ensures { IsNextTime self.now.times result }
+    {
+        self.calendar.next_time()
+    }
+
+    /// Notifies an event, to come after a time; 0 is a delta notification.
+    fn notify_after(&mut self, time: u64, event: u32, after: u64)
+        requires { event < length self.old.times }
+        ensures { self.new ≡ noticed_after time event after self.old }
+    {
+        if self.delta.contains(event) {
+            return;
+        }
+        if after == 0 {
+            self.calendar.cancel(event);
+            self.delta.insert(event);
+        } else {
+            self.calendar.notify(event, time_after(time, after));
+        }
+    }
+
+    /// Notifies an event, if that was asked for.
+    fn notify(&mut self, time: u64, event: u32, asked: Option<u64>)
+        requires { event < length self.old.times }
+        ensures { self.new ≡ noticed time event asked self.old }
+    {
+        match asked {
+            None => {}
+            Some(after) => self.notify_after(time, event, after),
+        }
+    }
+}
+
+#[tactic(auto, using(crate::proofs::Noticing::notices))]
+/// Notifies the events of an instance, by what its process asked for.
+pub(crate) fn notify_all(notices: &mut Notices, time: u64, events: &[u32], ports: &Ports)
+    requires inside { (i e : ℕ) → slice_get events.now i ≡ Some e → e < length notices.old.times }
+    requires few { length events.now < 2 ^ 32 }
+    requires asked { length events.now ≡ length ports.now.state.notified }
+    ensures { notices.new ≡ noticed_first time events.now ports.now.state.notified (length events.now) notices.old }
+{
+    for i in 0..events.len() {
+        notices.notify(time, events[i], ports.notified(i as u32));
+    }
+}
