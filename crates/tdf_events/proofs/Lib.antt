@@ -4,3 +4,5 @@ pub mod Writing
 pub mod Tables
 pub mod Starting
 pub mod Evaluated
+pub mod Updates
+pub mod Steps

@@ -1,3 +1,4 @@
 pub mod Making
 pub mod Reading
 pub mod Running
+pub mod Updating

@@ -5,6 +5,8 @@
 //! - `making`: the parts before the first instant.
 //! - `running`: the body of a process runs.
 //! - `evaluating`: the triggered processes run.
+//! - `updating`: signals take the values that wait for them.
+//! - `stepping`: one delta step.
 //! - `waiting`: the values that wait for the next update.
 //! - `notices`: pending notifications.
 #![tactic(auto)]
@@ -15,6 +17,8 @@ mod making;
 mod notices;
 mod parts;
 mod running;
+mod stepping;
+mod updating;
 mod waiting;
 
 pub use kernel::Kernel;
