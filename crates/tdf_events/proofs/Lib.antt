@@ -6,3 +6,4 @@ pub mod Starting
 pub mod Evaluated
 pub mod Updates
 pub mod Steps
+pub mod Settles

@@ -7,6 +7,7 @@
 //! - `evaluating`: the triggered processes run.
 //! - `updating`: signals take the values that wait for them.
 //! - `stepping`: one delta step.
+//! - `turns`: turns, and delta steps until no process is triggered.
 //! - `waiting`: the values that wait for the next update.
 //! - `notices`: pending notifications.
 #![tactic(auto)]
@@ -18,7 +19,9 @@ mod notices;
 mod parts;
 mod running;
 mod stepping;
+mod turns;
 mod updating;
 mod waiting;
 
 pub use kernel::Kernel;
+pub use turns::{Spent, Turns};

@@ -22,8 +22,8 @@ pub record IsReachedBy (lists : List (List ℕ)) (changes : ℕ → Bool) (signa
   pub index : ℕ
   pub member : slice_get (list_at lists number) index ≡ Some p
 
--- the processes that are sensitive to those of the first n signals that change are triggered, and no
--- others but these
+-- the processes that are sensitive to those of the first n signals that change are triggered, and
+-- no others but these
 pub record AreReached (lists : List (List ℕ)) (changes : ℕ → Bool) (signals : List ℕ) (n : ℕ)
     (old new : List Bool) : Type 0 where
   pub same : length new ≡ length old
