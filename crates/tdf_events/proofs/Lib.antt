@@ -7,3 +7,4 @@ pub mod Evaluated
 pub mod Updates
 pub mod Steps
 pub mod Settles
+pub mod Dues

@@ -1,3 +1,4 @@
+pub mod Due
 pub mod Making
 pub mod Reading
 pub mod Running

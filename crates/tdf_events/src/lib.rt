@@ -4,6 +4,7 @@
 //! - `parts`: what it holds.
 //! - `making`: the parts before the first instant.
 //! - `running`: the body of a process runs.
+//! - `due`: timed notifications come.
 //! - `evaluating`: the triggered processes run.
 //! - `updating`: signals take the values that wait for them.
 //! - `stepping`: one delta step.
@@ -12,6 +13,7 @@
 //! - `notices`: pending notifications.
 #![tactic(auto)]
 
+mod due;
 mod evaluating;
 mod kernel;
 mod making;
