@@ -4,3 +4,7 @@ pub mod Writing
 pub mod Tables
 pub mod Starting
 pub mod Evaluated
+pub mod Updates
+pub mod Steps
+pub mod Settles
+pub mod Dues

@@ -1,3 +1,5 @@
+pub mod Due
 pub mod Making
 pub mod Reading
 pub mod Running
+pub mod Updating

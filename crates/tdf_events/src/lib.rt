@@ -4,17 +4,26 @@
 //! - `parts`: what it holds.
 //! - `making`: the parts before the first instant.
 //! - `running`: the body of a process runs.
+//! - `due`: timed notifications come.
 //! - `evaluating`: the triggered processes run.
+//! - `updating`: signals take the values that wait for them.
+//! - `stepping`: one delta step.
+//! - `turns`: turns, and delta steps until no process is triggered.
 //! - `waiting`: the values that wait for the next update.
 //! - `notices`: pending notifications.
 #![tactic(auto)]
 
+mod due;
 mod evaluating;
 mod kernel;
 mod making;
 mod notices;
 mod parts;
 mod running;
+mod stepping;
+mod turns;
+mod updating;
 mod waiting;
 
 pub use kernel::Kernel;
+pub use turns::{Spent, Turns};

@@ -21,13 +21,17 @@ impl Model for Notices {
     ghost invariant = { λ a. length a.calendar ≡ length a.delta.flags };
 }
 
-ghost use Rattle.std.specs.Prelude.{◌≡◌, ◌<◌, ◌^◌, ℕ, IfOk, None, Some, false, length, replicate, slice_get};
+ghost use Rattle.std.specs.Prelude.{◌≡◌, ◌<◌, ◌^◌, ℕ, IfOk, None, Some, false, length, map, replicate, slice_get};
+ghost use Rattle.tdf_calendar.specs.Lists.{list_at};
+ghost use Rattle.tdf_calendar.specs.Sets.{is_on};
 ghost use Rattle.tdf_calendar.specs.Times.{IsNextTime};
+ghost use Rattle.tdf_events.specs.machine.Updating.{AreAllReached};
 ghost use Rattle.tdf_events.specs.Notices.{noticed, noticed_after, noticed_first, time_after};
 ghost use Rattle.tdf_expr.specs.Frames.{ArePortsFit};
 
 use std::alloc::Global;
 use tdf_base::Memory;
+use tdf_calendar::{Lists, trigger_all};
 use tdf_expr::Ports;
 
 /// The time after another one, at most the greatest.
@@ -55,6 +59,19 @@ impl Notices {
         ensures { IsNextTime self.now.times result }
     {
         self.calendar.next_time()
+    }
+
+    /// Delta notification: the processes that are sensitive to an event with one are triggered, and they are gone.
+    pub(crate) fn take_delta(&mut self, lists: &Lists, set: &mut NumberSet)
+        requires lists { length lists.now ≡ length self.old.times }
+        requires members { (s j p : ℕ) → slice_get (list_at lists.now s) j ≡ Some p
+            → p < length set.old.flags }
+        ensures reached { AreAllReached lists.now (is_on self.old.delta) set.old.flags
+            set.new.flags }
+        ensures gone { self.new ≡ record self.old { delta = map (λ on. false) self.old.delta } }
+    {
+        trigger_all(lists, self.delta.members(), set);
+        self.delta.clear();
     }
 
     /// Notifies an event, to come after a time; 0 is a delta notification.

@@ -22,14 +22,18 @@ impl Model for Waiting {
     ghost invariant = { λ a. a.signals.flags ≡ map is_some a.values.items };
 }
 
-ghost use Rattle.std.specs.Prelude.{◌≡◌, ◌<◌, ◌^◌, ℕ, IfOk, None, Some, length, replicate, slice_get, slice_set};
+ghost use Rattle.std.specs.Prelude.{◌≡◌, ◌<◌, ◌^◌, ℕ, IfOk, None, Some, length, map, replicate, slice_get, slice_set};
+ghost use Rattle.tdf_calendar.specs.Lists.{list_at};
 ghost use Rattle.tdf_convert.specs.declared.writes.SignalWrite.{SignalWrite as SignalWriteOf};
-ghost use Rattle.tdf_events.specs.Delta.{waiting_with};
+ghost use Rattle.tdf_events.specs.Delta.{updated, waiting_with};
 ghost use Rattle.tdf_events.specs.Processes.{written, written_first, value_of_port};
+ghost use Rattle.tdf_events.specs.machine.Updating.{AreAllReached, does_change};
 ghost use Rattle.tdf_expr.specs.declared.spans.PortSpan.{PortSpan as PortSpanOf};
 
+use crate::updating::{forget, take_values, trigger_changed};
 use std::alloc::Global;
 use tdf_base::Memory;
+use tdf_calendar::Lists;
 use tdf_convert::SignalWrite;
 use tdf_expr::Ports;
 
@@ -44,6 +48,29 @@ impl Waiting {
         let values = vec![in alloc; None; signals as usize]?;
         let signals = NumberSet::new(alloc, signals)?;
         Ok(Waiting { values, signals })
+    }
+
+    /// The processes that are sensitive to a signal with another value than waits for it are triggered.
+    pub(crate) fn trigger(&self, values: &[Raw], lists: &Lists, set: &mut NumberSet)
+        requires values { length values.now ≡ length self.now }
+        requires lists { length lists.now ≡ length self.now }
+        requires members { (s j p : ℕ) → slice_get (list_at lists.now s) j ≡ Some p
+            → p < length set.old.flags }
+        ensures { AreAllReached lists.now (does_change values.now self.now) set.old.flags
+            set.new.flags }
+    {
+        trigger_changed(self.signals.members(), values, &self.values, lists, set);
+    }
+
+    /// Each signal takes the value that waits for it, and nothing waits any more.
+    pub(crate) fn give(&mut self, values: &mut Vec<Raw>)
+        requires { length values.old.items ≡ length self.old }
+        ensures values { values.new.items ≡ updated values.old.items self.old }
+        ensures waiting { self.new ≡ map (λ value. None) self.old }
+    {
+        take_values(self.signals.members(), &self.values, values);
+        forget(self.signals.members(), &mut self.values);
+        self.signals.clear();
     }
 
     /// A value waits for a signal, in place of any other.

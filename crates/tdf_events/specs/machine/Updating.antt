@@ -1,0 +1,65 @@
+-- Update and delta notification, one number after the other.
+-- Source: own.
+use Rattle.std.specs.Prelude.{◌≡◌, ◌<◌, ◌⊎◌, ℕ, Bool, true, List, Option, Some, None, length, slice_get}
+use Rattle.std.specs.Prelude.{slice_index_or, unwrap_or}
+use Rattle.tdf_calendar.specs.Lists.{list_at}
+use Rattle.tdf_calendar.specs.Sets.{is_on}
+use Rattle.tdf_events.specs.Delta.{differs}
+use Rattle.tdf_events.specs.Side.{value_at}
+use Rattle.tdf_fixed.specs.declared.raw.Raw.{Raw}
+
+-- whether a signal changes
+abbrev pub does_change : List Raw → List (Option Raw) → ℕ → Bool
+does_change values waiting s = differs (value_at values s) (slice_index_or waiting s None)
+
+-- a process that is sensitive to a signal that changes
+pub record IsReachedBy (lists : List (List ℕ)) (changes : ℕ → Bool) (signals : List ℕ) (p : ℕ)
+    : Type 0 where
+  pub place : ℕ
+  pub number : ℕ
+  pub at : slice_get signals place ≡ Some number
+  pub change : changes number ≡ true
+  pub index : ℕ
+  pub member : slice_get (list_at lists number) index ≡ Some p
+
+-- the processes that are sensitive to those of the first n signals that change are triggered, and
+-- no others but these
+pub record AreReached (lists : List (List ℕ)) (changes : ℕ → Bool) (signals : List ℕ) (n : ℕ)
+    (old new : List Bool) : Type 0 where
+  pub same : length new ≡ length old
+  pub kept : (p : ℕ) → is_on old p ≡ true → is_on new p ≡ true
+  pub set : (i s j p : ℕ) → i < n → slice_get signals i ≡ Some s → changes s ≡ true
+      → slice_get (list_at lists s) j ≡ Some p → is_on new p ≡ true
+  pub only : (p : ℕ) → is_on new p ≡ true
+      → (is_on old p ≡ true) ⊎ IsReachedBy lists changes signals p
+
+-- the first n signals took the values that wait for them; no other changed
+pub record AreTaken (signals : List ℕ) (waiting : List (Option Raw)) (n : ℕ) (old new : List Raw)
+    : Type 0 where
+  pub same : length new ≡ length old
+  pub taken : (i s : ℕ) → i < n → slice_get signals i ≡ Some s
+      → value_at new s ≡ unwrap_or (slice_index_or waiting s None) (value_at old s)
+  pub others : (s : ℕ) → (value_at new s ≡ value_at old s)
+      ⊎ (value_at new s ≡ unwrap_or (slice_index_or waiting s None) (value_at old s))
+
+-- nothing waits for the first n signals, and nothing new for the others
+pub record AreForgotten (signals : List ℕ) (n : ℕ) (old new : List (Option Raw)) : Type 0 where
+  pub same : length new ≡ length old
+  pub gone : (i s : ℕ) → i < n → slice_get signals i ≡ Some s → slice_index_or new s None ≡ None
+  pub kept : (s : ℕ) → slice_index_or old s None ≡ None → slice_index_or new s None ≡ None
+
+-- a process that is sensitive to a number that passes
+pub record IsSensitive (lists : List (List ℕ)) (test : ℕ → Bool) (p : ℕ) : Type 0 where
+  pub number : ℕ
+  pub passes : test number ≡ true
+  pub index : ℕ
+  pub member : slice_get (list_at lists number) index ≡ Some p
+
+-- the processes that are sensitive to a number that passes are triggered, and no others but these
+pub record AreAllReached (lists : List (List ℕ)) (test : ℕ → Bool) (old new : List Bool)
+    : Type 0 where
+  pub same : length new ≡ length old
+  pub kept : (p : ℕ) → is_on old p ≡ true → is_on new p ≡ true
+  pub set : (s j p : ℕ) → test s ≡ true → slice_get (list_at lists s) j ≡ Some p
+      → is_on new p ≡ true
+  pub only : (p : ℕ) → is_on new p ≡ true → (is_on old p ≡ true) ⊎ IsSensitive lists test p
