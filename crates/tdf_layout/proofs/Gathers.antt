@@ -1,10 +1,10 @@
 -- One edge more is gathered.
-use Rattle.std.proofs.Common.{◌≡◌, ◌∙◌, ◌≢◌, ℕ, ◌+◌, ◌<◌, Bool, true, false, Some, None, if◌then◌else◌, nat_eq, List, [], ◌∷◌, ◌++◌, append-nil, length, take, refl, ap, sym, inl, inr, ◌⊎◌, arith, slice_get}
+use Rattle.std.proofs.Common.{◌≡◌, ◌∙◌, ◌≢◌, ℕ, ◌+◌, ◌<◌, Bool, true, false, Some, None, if◌then◌else◌, List, [], ◌∷◌, ◌++◌, append-nil, length, refl, ap, sym, inl, inr, ◌⊎◌, arith, slice_get}
 use Rattle.std.proofs.lemmas.Bool.{cases_eq, eq-eqb, ne_eqb}
 use Rattle.std.proofs.lemmas.List.{get_or-set_same, get_or-set_other, length-set}
 use Rattle.std.proofs.lemmas.Option.{get_or_from_slice_get, slice_get_within}
 use Rattle.std.specs.List.{cons_option}
-use Rattle.std.specs.Prelude.{slice_index_or, slice_set}
+use Rattle.std.specs.Prelude.{slice_set}
 use Rattle.tdf_bind.specs.Flat.{FlatOf}
 use Rattle.tdf_firing.specs.Wires.{WiresOf}
 use Rattle.tdf_firing.specs.declared.wires.InWire.{InWire}

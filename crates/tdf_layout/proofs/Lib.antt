@@ -1,7 +1,12 @@
+pub mod Actors
 pub mod Api
 pub mod Counts
+pub mod Drivers
+pub mod Edges
 pub mod Gathers
 pub mod Given
 pub mod Picked
 pub mod Rows
+pub mod Samples
 pub mod Told
+pub mod Wired

@@ -1,13 +1,11 @@
 -- What actors are told is what the tables say.
-use Rattle.std.proofs.Common.{◌≡◌, ◌∙◌, ◌≢◌, ℕ, ◌+◌, ◌<◌, Bool, true, false, Option, Some, None, option_map, if◌then◌else◌, nat_eq, List, [], ◌∷◌, length, map, take, refl, ap, sym, subst, inl, inr, ◌⊎◌, arith, slice_get, slice_index}
+use Rattle.std.proofs.Common.{◌≡◌, ◌∙◌, ℕ, ◌+◌, Bool, true, false, Option, Some, None, option_map, if◌then◌else◌, nat_eq, List, length, map, take, refl, ap, sym, subst, arith, slice_get}
 use Rattle.std.proofs.Math.Seq.{take-length}
-use Rattle.std.proofs.lemmas.Bool.{cases_eq, eq-eqb, eqb-true, ne_eqb}
-use Rattle.std.proofs.lemmas.List.{length-map}
+use Rattle.std.proofs.lemmas.Bool.{eq-eqb, eqb-true, ne_eqb}
 use Rattle.std.proofs.lemmas.Option.{slice_get-map, slice_get_within}
 use Rattle.tdf_bind.specs.Actors.{cluster_of}
 use Rattle.tdf_bind.specs.Flat.{FlatOf}
 use Rattle.tdf_bind.specs.declared.actors.ActorRow.{ActorRow}
-use Rattle.tdf_dynamic.specs.Attributes.{clusters_of}
 use Rattle.tdf_firing.specs.Wires.{WiresOf}
 use Rattle.tdf_firing.specs.declared.wires.InWire.{InWire}
 use Rattle.tdf_firing.specs.declared.wires.OutWire.{OutWire}
@@ -17,11 +15,11 @@ use Rattle.tdf_graph.specs.declared.actors.Actor.TheVariants as actor
 use Rattle.tdf_layout.proofs.Picked.{IsPicked, complete, once, sound}
 use Rattle.tdf_layout.proofs.Rows.{index_map}
 use Rattle.tdf_layout.specs.Wires.{AreClusterWires, IsWiringOf, SinksHaveOne}
-use Rattle.tdf_layout.specs.Wiring.{AreEdgesOf, AreWiresOf, IsEdgeOf, Reads, Writes, port_at, port_of_row}
+use Rattle.tdf_layout.specs.Wiring.{AreEdgesOf, AreWiresOf, IsEdgeOf, Reads, Writes, port_of_row}
 use Rattle.tdf_layout.specs.declared.wiring.ActorWires.{ActorWires}
 use Rattle.tdf_layout.specs.declared.wiring.ActorWires.TheVariants.{Module, Sampler, Sink, Elsewhere}
-use Rattle.tdf_layout.specs.machine.Ends.{EndsUpTo, HasInput, HasInputIf, IsTold, IsToldIf, ToldUpTo, ends_at, ends_before, ends_if, in_wire, in_wires, is_of, no_ends, out_wire, out_wires, wire_in, wire_out}
-use Rattle.tdf_streams.specs.Places.{actor_kind, driver_or, kind_of_row, place_of_port, reader_at, reader_of_row, source_at, source_of_row, writer_at, writer_of_row}
+use Rattle.tdf_layout.specs.machine.Ends.{EndsUpTo, HasInput, HasInputIf, IsTold, IsToldIf, ToldUpTo, ends_at, ends_if, in_wire, in_wires, is_of, out_wire, out_wires, wire_in, wire_out}
+use Rattle.tdf_streams.specs.Places.{kind_of_row, place_of_port, reader_of_row, source_of_row, writer_of_row}
 use Rattle.tdf_wiring.specs.declared.edges.EdgeRow.{EdgeRow}
 
 some_if : {B : Type 0} (b : Bool) (x y : B) → (if b then Some x else None) ≡ Some y → (b ≡ true) × (x ≡ y)

@@ -26,7 +26,8 @@ pub record Writes (tables : FlatOf) (m e : ℕ) : Type 0 where
   pub writer : writer_at tables.edges e ≡ m
 
 -- the wires of a module: one for each edge that it reads, at the place of the port that gives the
--- edge, and one for each edge that it writes, at the place of the port whose samples the edge carries
+-- edge, and one for each edge that it writes, at the place of the port whose samples the edge
+-- carries
 pub record AreWiresOf (tables : FlatOf) (m : ℕ) (wires : WiresOf) : Type 0 where
   pub in_edge : (j : ℕ) (w : InWire) → slice_get wires.ins j ≡ Some w → Reads tables m w.edge
   pub in_port : (j : ℕ) (w : InWire) → slice_get wires.ins j ≡ Some w

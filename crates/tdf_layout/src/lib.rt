@@ -5,14 +5,17 @@
 //! - `gathering`: each edge goes to its writer and to its reader.
 //! - `wiring`: what each actor of a cluster reads and writes.
 //! - `initial`: the samples that an edge holds at first.
+//! - `laws`: what holds of all flat models.
 #![tactic(auto)]
 
 mod ends;
 mod gathering;
 mod initial;
+mod laws;
 mod places;
 mod wiring;
 
 pub use initial::initial_samples;
+pub use laws::{law_edge_formats, law_edges, law_wired};
 pub use places::port_places;
 pub use wiring::{ActorWires, cluster_wires};

@@ -83,7 +83,8 @@ pub record EndsUpTo (tables : FlatOf) (cluster n : ℕ) (rows : List WiresOf) : 
 abbrev pub IsTold : Actor → WiresOf → ActorWires → Type 0
 IsTold actor.Module ends (Module wires) = wires ≡ ends
 IsTold actor.Sampler ends (Sampler edges) = edges.items ≡ map (λ (w : OutWire). w.edge) ends.outs
-IsTold actor.Sink ends (Sink edge) = (w : InWire) × (slice_get ends.ins 0 ≡ Some w) × (edge ≡ w.edge)
+IsTold actor.Sink ends (Sink edge) =
+    (w : InWire) × (slice_get ends.ins 0 ≡ Some w) × (edge ≡ w.edge)
 IsTold kind ends wires = ⊥
 
 abbrev pub IsToldIf : Bool → Actor → WiresOf → ActorWires → Type 0

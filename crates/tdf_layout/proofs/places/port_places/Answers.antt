@@ -1,4 +1,4 @@
-use Rattle.std.proofs.Common.{rules, ◌≡◌, ◌∙◌, ◌+◌, ◌<◌, ℕ, Some, ap, arith, sym, length, slice_get, slice_index_or}
+use Rattle.std.proofs.Common.{rules, ◌≡◌, ◌∙◌, ◌+◌, ◌<◌, Some, ap, arith, sym, length, slice_get, slice_index_or}
 use Rattle.std.proofs.lemmas.Option.{slice_get-get_or}
 use Rattle.tdf_layout.proofs.Counts.{places_next}
 use Rattle.tdf_wiring.proofs.Api.{any_default}

@@ -1,0 +1,91 @@
+-- What each edge of a flat model is: from an `out` port to an `in` port of its signal, from a
+-- sampler, or to a sink.
+-- Source: own.
+use Rattle.std.specs.Prelude.{◌≡◌, ◌+◌, ◌<◌, ℕ, length, Some, None, slice_get}
+use Rattle.tdf_bind.specs.Flat.{FlatOf}
+use Rattle.tdf_bind.specs.Ranges.{AreInRange}
+use Rattle.tdf_bind.specs.declared.actors.ActorRow.{ActorRow}
+use Rattle.tdf_firing.specs.Wires.{AreWired, WiresOf}
+use Rattle.tdf_expr.specs.Made.{port_spans_of}
+use Rattle.tdf_flat.specs.Flat.{IsFlatOf}
+use Rattle.tdf_flat.specs.declared.model.Flat.{Flat}
+use Rattle.tdf_formats.specs.Formats.{IsSoundModel}
+use Rattle.tdf_graph.specs.declared.actors.Actor.{Actor}
+use Rattle.tdf_graph.specs.declared.actors.Actor.TheVariants as actor
+use Rattle.tdf_layout.specs.Wires.{SinksHaveOne}
+use Rattle.tdf_layout.specs.Wiring.{AreWiresOf}
+use Rattle.tdf_streams.specs.Places.{block_at}
+use Rattle.tdf_tree.specs.Pure.{PureTree}
+use Rattle.tdf_tree.specs.declared.blocks.PortKind.TheVariants.{In, Out, DeIn, DeOut}
+use Rattle.tdf_wiring.specs.declared.edges.EdgeRow.{EdgeRow}
+use Rattle.tdf_wiring.specs.declared.modules.PortRow.{PortRow}
+
+-- an edge to an `in` port, from the `out` port that writes the signal which the `in` port reads; it
+-- holds at first as many samples as both delays say
+pub record IsBetween (tables : FlatOf) (edge : EdgeRow) (port : PortRow) (out : ℕ)
+    (driver : PortRow) : Type 0 where
+  pub port_at : slice_get tables.ports edge.port ≡ Some port
+  pub port_kind : port.kind ≡ In
+  pub driven : edge.driver ≡ Some out
+  pub driver_at : slice_get tables.ports out ≡ Some driver
+  pub driver_kind : driver.kind ≡ Out
+  pub signal : driver.signal ≡ port.signal
+  pub writer : edge.writer ≡ driver.«module»
+  pub reader : edge.reader ≡ port.«module»
+  pub initial : edge.initial ≡ port.delay + driver.delay
+
+-- the sampler or sink at a port
+pub record IsActorAt (tables : FlatOf) (m : ℕ) (kind : Actor) (number : ℕ) (port : PortRow)
+    : Type 0 where
+  pub row : ActorRow
+  pub row_at : slice_get tables.actors m ≡ Some row
+  pub kind_is : row.kind ≡ kind
+  pub port_is : row.port ≡ number
+  pub module_is : row.«module» ≡ port.«module»
+
+-- an edge from the sampler of a `de_in` port
+pub record IsFromSampler (tables : FlatOf) (edge : EdgeRow) (port : PortRow) : Type 0 where
+  pub port_at : slice_get tables.ports edge.port ≡ Some port
+  pub port_kind : port.kind ≡ DeIn
+  pub not_driven : edge.driver ≡ None
+  pub writer : IsActorAt tables edge.writer actor.Sampler edge.port port
+  pub reader : edge.reader ≡ port.«module»
+  pub initial : edge.initial ≡ port.delay
+
+-- an edge to the sink of a `de_out` port
+pub record IsToSink (tables : FlatOf) (edge : EdgeRow) (port : PortRow) : Type 0 where
+  pub port_at : slice_get tables.ports edge.port ≡ Some port
+  pub port_kind : port.kind ≡ DeOut
+  pub not_driven : edge.driver ≡ None
+  pub writer : edge.writer ≡ port.«module»
+  pub reader : IsActorAt tables edge.reader actor.Sink edge.port port
+  pub initial : edge.initial ≡ port.delay
+
+-- each edge is one of these
+pub data IsEdgeRow (tables : FlatOf) (edge : EdgeRow) : Type 0 where
+  Between : (port : PortRow) (out : ℕ) (driver : PortRow) → IsBetween tables edge port out driver
+      → IsEdgeRow tables edge
+  FromSampler : (port : PortRow) → IsFromSampler tables edge port → IsEdgeRow tables edge
+  ToSink : (port : PortRow) → IsToSink tables edge port → IsEdgeRow tables edge
+
+abbrev pub EdgesAreRows : Type 0
+EdgesAreRows = (model : PureTree) (flat : Flat) (e : ℕ) (edge : EdgeRow) → IsFlatOf model flat
+    → slice_get flat.tables.edges e ≡ Some edge → IsEdgeRow flat.tables edge
+
+-- a port gives one edge at most
+abbrev pub PortsGiveOnce : Type 0
+PortsGiveOnce = (model : PureTree) (flat : Flat) (d e : ℕ) (x y : EdgeRow) → IsFlatOf model flat
+    → slice_get flat.tables.edges d ≡ Some x → slice_get flat.tables.edges e ≡ Some y
+    → x.port ≡ y.port → d ≡ e
+
+-- each sink has one edge
+abbrev pub SinksAreRead : Type 0
+SinksAreRead = (model : PureTree) (flat : Flat) → AreInRange flat.tables → IsFlatOf model flat
+    → SinksHaveOne flat.tables
+
+-- the wires of a module are those of its block
+abbrev pub WiresAreWired : Type 0
+WiresAreWired = (model : PureTree) (flat : Flat) (m : ℕ) (wires : WiresOf) → IsSoundModel model
+    → IsFlatOf model flat → m < length flat.tables.modules → AreWiresOf flat.tables m wires
+    → AreWired wires (port_spans_of flat.checked (block_at flat.tables.modules m))
+    (length flat.tables.edges)
