@@ -13,7 +13,7 @@ use Rattle.tdf_exec.proofs.Moved.{given_by, given_none, given_one, module_moves,
 use Rattle.tdf_exec.proofs.Runs.{can_run}
 use Rattle.tdf_exec.specs.Cluster.{ClusterOf}
 use Rattle.tdf_exec.specs.Fired.{CanSample, HasFired, HasRun}
-use Rattle.tdf_exec.specs.Made.{IsClusterOf, IsModuleOf, IsRunnerOf, KeepRates, is_sampler}
+use Rattle.tdf_exec.specs.Made.{IsClusterOf, IsInSpans, IsModuleOf, IsRunnerOf, KeepRates, is_sampler}
 use Rattle.tdf_exec.specs.Played.{IsLike}
 use Rattle.tdf_exec.specs.Runners.{ModuleOf, SamplerOf}
 use Rattle.tdf_exec.specs.declared.runners.Runner.{Runner}
@@ -57,6 +57,8 @@ module_after flat c m x y new place rings runners positions is fired keep = reco
   read_format = λ j w p at there. is.read_format j w p (ins_at j w at) (span_at w.port p there);
   write_format = λ j w p at there. is.write_format j w p (outs_at j w at) (span_at w.port p there);
   zeros = subst (λ w. AreZerosBehind w c.reads y.ports) (sym fired.wires) fired.zeros;
+  traced = fired.traced ∙ is.traced;
+  traced_rate = λ j t at. subst (λ s. IsInSpans s t) (sym spans_are) (is.traced_rate j t (ap (λ l. slice_get l j) (sym fired.traced) ∙ at));
 }
   where
     spans_are : y.ports.spans ≡ x.ports.spans
@@ -167,6 +169,8 @@ module _ (flat : Flat) (c : ClusterOf) (inputs : List Raw) (x : Entry) (of : IsC
       read_format = is.read_format;
       write_format = is.write_format;
       zeros = is.zeros;
+      traced = is.traced;
+      traced_rate = is.traced_rate;
     }
     still m (runner.Sampler s) is = record {
       actor_is = is.actor_is;

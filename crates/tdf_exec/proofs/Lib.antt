@@ -1,5 +1,7 @@
 mod Acting
 mod Counting
+mod Gains
+mod Giving
 mod Keeping
 mod Moved
 mod Nexts

@@ -6,9 +6,10 @@ use Rattle.std.proofs.lemmas.Option.{get_or_from_slice_get, slice_get_read, slic
 use Rattle.std.specs.Prelude.{slice_get, slice_index, slice_index_or, slice_set}
 use Rattle.tdf_exec.proofs.Keeping.{alike, get_set, get_set_other}
 use Rattle.tdf_exec.proofs.Moved.{some_inj}
-use Rattle.tdf_exec.proofs.Stepping.{step_of}
+use Rattle.tdf_exec.proofs.Giving.{StepGains, step_gains}
 use Rattle.tdf_exec.specs.Cluster.{ClusterOf}
-use Rattle.tdf_exec.specs.Fired.{HasRun}
+use Rattle.tdf_convert.specs.Outputs.{OutputsOf}
+use Rattle.tdf_exec.specs.Fired.{HasGiven, HasRun}
 use Rattle.tdf_exec.specs.Made.{IsClusterOf}
 use Rattle.tdf_exec.specs.Played.{IsLike, counted}
 use Rattle.tdf_exec.specs.declared.runners.Runner.{Runner}
@@ -33,7 +34,8 @@ like_self runner.Outside = refl
 
 module _ (flat : Flat) (c : ClusterOf) (inputs : List Raw) (x : Entry) (of : IsClusterOf flat c) (ins : AreInputsNext flat c inputs) (at : slice_get c.entries c.place ≡ Some x)
     (new : List RingOf) (before after : Runner) (there : slice_get c.runners x.actor ≡ Some before)
-    (ran : HasRun flat.checked inputs c.reads c.writes c.rings new before after) (position : ℕ) (counts : position ≡ counted (slice_index c.positions x.actor + 1)) where
+    (ran : HasRun flat.checked inputs c.reads c.writes c.rings new before after) (position : ℕ) (counts : position ≡ counted (slice_index c.positions x.actor + 1))
+    (outs outs2 : OutputsOf) (given : HasGiven x.actor c.rings after outs outs2) where
   inside : x.actor < length c.positions
   inside = subst (λ n. x.actor < n) (sym of.positions) (of.safe.inside c.place x at)
 
@@ -46,7 +48,7 @@ module _ (flat : Flat) (c : ClusterOf) (inputs : List Raw) (x : Entry) (of : IsC
       )
   likely m r here (inr apart) = (r, get_set_other c.runners x.actor m after apart ∙ here, like_self r)
 
-  pub stepped : HasStepped flat inputs c (with_parts c (c.place + 1) new (slice_set c.runners x.actor after) (slice_set c.positions x.actor position))
+  pub stepped : HasStepped flat inputs c (with_parts c (c.place + 1) new (slice_set c.runners x.actor after) (slice_set c.positions x.actor position)) outs outs2
   stepped = record {
     entry = x;
     at = at;
@@ -55,6 +57,13 @@ module _ (flat : Flat) (c : ClusterOf) (inputs : List Raw) (x : Entry) (of : IsC
     same = length-set c.positions x.actor position;
     own = get_or-set_same c.positions x.actor position 0 inside ∙ counts;
     others = λ m apart. get_or-set_other c.positions x.actor m position 0 apart;
-    step = λ model start old p reads from checked period told.
-        step_of flat c inputs x of ins at new model start old p reads from checked period before after there position ran told;
+    sent = gains.sent;
+    traced = gains.traced;
+    gains = gains.gains;
+    few_sent = gains.few_sent;
+    few_traced = gains.few_traced;
+    step = gains.step;
   }
+    where
+      gains : StepGains flat inputs c (with_parts c (c.place + 1) new (slice_set c.runners x.actor after) (slice_set c.positions x.actor position)) x outs outs2
+      gains = step_gains flat c inputs x of ins at new position outs outs2 before after there ran given

@@ -1,24 +1,30 @@
 -- One entry more is played.
 use Rattle.std.proofs.Common.{◌≡◌, ◌∙◌, ◌≢◌, ℕ, suc, ◌+◌, ◌-◌, ◌^◌, ◌<◌, ◌≤◌, Bool, true, List, [], ◌∷◌, ◌++◌, Option, Some, None}
-use Rattle.std.proofs.Common.{length, length-drop, length-take-le, get_or-drop, take-suc, drop, take, map, refl, sym, ap, subst, inl, inr, ◌⊎◌, arith}
-use Rattle.std.proofs.lemmas.Bool.{cases_eq, cases_lt, eqb-true}
+use Rattle.std.proofs.Common.{length, length-drop, length-append, length-take-le, append_assoc, append-nil, nat_eq, if◌then◌else◌, get_or-drop, take-suc, drop, take, map, refl, sym, ap, subst, inl, inr, ◌⊎◌, arith}
+use Rattle.std.proofs.lemmas.Bool.{cases_eq, cases_lt, eq-eqb, eqb-true}
 use Rattle.std.proofs.lemmas.List.{length-map, map-append}
-use Rattle.std.proofs.lemmas.List.Sums.{sum_by-cons}
-use Rattle.std.proofs.lemmas.Option.{get_or_from_slice_get, slice_get_within}
-use Rattle.std.specs.List.{count_by}
-use Rattle.std.specs.Prelude.{cond, slice_get, slice_index, slice_index_or}
+use Rattle.std.proofs.lemmas.List.Sums.{sum_by-cons, sum_by-drop_more}
+use Rattle.std.proofs.lemmas.Option.{get_or_from_slice_get, slice_get_past, slice_get_within}
+use Rattle.std.specs.List.{count_by, sum_by}
+use Rattle.std.specs.Prelude.{ℤ, cond, slice_get, slice_index, slice_index_or}
+use Rattle.tdf_convert.specs.Outputs.{OutputsOf}
+use Rattle.tdf_convert.specs.declared.outputs.Sent.{Sent}
+use Rattle.tdf_convert.specs.declared.outputs.Traced.{Traced}
 use Rattle.tdf_exec.proofs.Counting.{done_other, done_own}
+use Rattle.tdf_exec.proofs.Gains.{gains_none, gains_then}
 use Rattle.tdf_exec.proofs.Keeping.{like_sampler}
 use Rattle.tdf_exec.proofs.Moved.{some_at, some_inj}
 use Rattle.tdf_exec.proofs.Nexts.{like_self}
 use Rattle.tdf_exec.proofs.Stepping.{done_mono}
 use Rattle.tdf_exec.specs.Cluster.{ClusterOf, is_due, is_offset, offset_in}
+use Rattle.tdf_exec.specs.Gained.{GiveAll, Gives, HaveRoom, sent_size, size_due, size_if, traced_size}
 use Rattle.tdf_exec.specs.Made.{IsClusterOf, is_sampler}
-use Rattle.tdf_exec.specs.Played.{AreGiven, AreInputsFor, IsLike, IsMoved, IsPeriodOf, KeepsStanding, actors_between, counted, play_of, turns_from}
+use Rattle.tdf_exec.specs.Played.{AreAllGiven, AreGiven, AreInputsFor, IsLike, IsMoved, IsPeriodOf, KeepsStanding, actors_between, counted, play_of, turns_from}
 use Rattle.tdf_exec.specs.Runners.{ModuleOf, SamplerOf}
+use Rattle.tdf_exec.specs.Traced.{traced_count}
 use Rattle.tdf_exec.specs.declared.runners.Runner.{Runner}
 use Rattle.tdf_exec.specs.declared.runners.Runner.TheVariants as runner
-use Rattle.tdf_exec.specs.machine.Steps.{AreInputsNext, ArePlayed, HasStepped, with_parts}
+use Rattle.tdf_exec.specs.machine.Steps.{AreInputsNext, ArePlayed, HasRoomNext, HasStepped, with_parts}
 use Rattle.tdf_fixed.specs.declared.raw.Raw.{Raw}
 use Rattle.tdf_flat.specs.declared.model.Flat.{Flat}
 use Rattle.tdf_flow.proofs.Api.{order_keeps}
@@ -29,6 +35,7 @@ use Rattle.tdf_rings.specs.Rings.{RingOf}
 use Rattle.tdf_schedule.specs.Plan.{done}
 use Rattle.tdf_schedule.specs.declared.entry.Entry.{Entry}
 use Rattle.tdf_streams.specs.Cluster.{cluster_net}
+use Rattle.tdf_streams.specs.Periods.{PeriodInfo, PeriodRecord}
 
 played_more : {S V I : Type 0} (net : Net S V I) (old : List (Period I)) (p : Period I) (reads : ℕ → List V) (order : List ℕ) (m : ℕ) (y mid z : Play S V)
     → IsPlayed net old p reads order y mid → IsStep net old p reads m mid z → IsPlayed net old p reads (order ++ m ∷ []) y z
@@ -103,11 +110,83 @@ samplers_alike (r ∷ rs) (s ∷ ss) long alike =
     let u : cond {A = ℕ} (is_sampler s) 1 0 ≡ cond {A = ℕ} (is_sampler r) 1 0 = ap (λ (o : Bool). cond {A = ℕ} o 1 0) (ap is_sampler same ∙ like_sampler r first.0 first.2) in
     omega (arith, rest, a, b, u)
 
-module _ (flat : Flat) (offset : ℕ) (inputs : List Raw) (c : ClusterOf) (place : ℕ) (rings : List RingOf) (runners : List Runner) (positions : List ℕ) where
+-- runners that are alike give as much
+like_sent : (r s : Runner) → IsLike r s → sent_size (Some s) ≡ sent_size (Some r)
+like_sent (runner.Module x) s like = ap (λ q. sent_size (Some q)) like.1
+like_sent (runner.Sampler x) s like = ap (λ q. sent_size (Some q)) like
+like_sent (runner.Sink x) s like = ap (λ q. sent_size (Some q)) like
+like_sent runner.Outside s like = ap (λ q. sent_size (Some q)) like
+
+like_traced : (r s : Runner) → IsLike r s → traced_size (Some s) ≡ traced_size (Some r)
+like_traced (runner.Module x) s like = ap (λ q. traced_size (Some q)) like.1 ∙ ap traced_count like.4
+like_traced (runner.Sampler x) s like = ap (λ q. traced_size (Some q)) like
+like_traced (runner.Sink x) s like = ap (λ q. traced_size (Some q)) like
+like_traced runner.Outside s like = ap (λ q. traced_size (Some q)) like
+
+sizes_alike : (size : Option Runner → ℕ) → ((r s : Runner) → IsLike r s → size (Some s) ≡ size (Some r)) → (rs ss : List Runner) → length ss ≡ length rs
+    → ((m : ℕ) (r : Runner) → slice_get rs m ≡ Some r → (s : Runner) × (slice_get ss m ≡ Some s) × IsLike r s) → (m : ℕ) → size (slice_get ss m) ≡ size (slice_get rs m)
+sizes_alike size same rs ss long alike m = elim (cases_lt m (length rs)) [
+  | inl below ↦ (let r = some_at rs m below in let s = alike m r.0 r.1 in ap size s.1 ∙ same r.0 s.0 s.2 ∙ sym (ap size r.1))
+  | inr past ↦ ap size (slice_get_past ss m (omega (arith, past, long))) ∙ sym (ap size (slice_get_past rs m past))
+]
+
+due_head : (size : Option Runner → ℕ) (rs : List Runner) (offset : ℕ) (entries : List Entry) (i : ℕ) (x : Entry) → slice_get entries i ≡ Some x → x.offset ≡ offset
+    → size_due size rs offset (drop i entries) ≡ size (slice_get rs x.actor) + size_due size rs offset (drop (i + 1) entries)
+unfolding size_due
+due_head size rs offset entries i x at due =
+    sum_by-drop_more (size_if size rs offset) entries i x (slice_get_within entries i x at)
+    ∙ ap (λ n. n + sum_by (size_if size rs offset) (drop (i + 1) entries))
+    (ap (size_if size rs offset) (get_or_from_slice_get entries i x x at) ∙ ap (λ (b : Bool). if b then size (slice_get rs x.actor) else 0) (eq-eqb _ _ due))
+
+due_alike : (size : Option Runner → ℕ) (rs ss : List Runner) (offset : ℕ) (xs : List Entry) → ((m : ℕ) → size (slice_get ss m) ≡ size (slice_get rs m))
+    → size_due size ss offset xs ≡ size_due size rs offset xs
+unfolding size_due
+due_alike size rs ss offset [] same = refl
+due_alike size rs ss offset (x ∷ xs) same =
+    sum_by-cons (size_if size ss offset) x xs
+    ∙ ap (λ n. (if nat_eq x.offset offset then n else 0) + sum_by (size_if size ss offset) xs) (same x.actor)
+    ∙ ap (λ n. size_if size rs offset x + n) (due_alike size rs ss offset xs same)
+    ∙ sym (sum_by-cons (size_if size rs offset) x xs)
+
+-- one firing more, with what it gives
+give_none : (flat : Flat) (net : Net (List ℤ) Raw PeriodInfo) (old : List PeriodRecord) (p : PeriodRecord) (reads : ℕ → List Raw) (y : Play (List ℤ) Raw)
+    → GiveAll flat net old p reads [] y y [] []
+unfolding GiveAll
+give_none flat net old p reads y = (refl, refl, refl)
+
+give_more : (flat : Flat) (net : Net (List ℤ) Raw PeriodInfo) (old : List PeriodRecord) (p : PeriodRecord) (reads : ℕ → List Raw) (order : List ℕ) (m : ℕ) (y mid z : Play (List ℤ) Raw)
+    (s s2 : List Sent) (t t2 : List Traced) → GiveAll flat net old p reads order y mid s t → Gives flat net old p reads m mid z s2 t2
+    → GiveAll flat net old p reads (order ++ m ∷ []) y z (s ++ s2) (t ++ t2)
+unfolding GiveAll
+give_more flat net old p reads [] m y mid z s s2 t t2 before gives = (
+  z,
+  s2,
+  t2,
+  [],
+  [],
+  subst (λ (q : Play (List ℤ) Raw). Gives flat net old p reads m q z s2 t2) before.0 gives,
+  (refl, refl, refl),
+  ap (λ l. l ++ s2) before.1 ∙ sym (append-nil s2),
+  ap (λ l. l ++ t2) before.2 ∙ sym (append-nil t2),
+)
+give_more flat net old p reads (k ∷ order) m y mid z s s2 t t2 before gives = (
+  before.0,
+  before.1,
+  before.2,
+  before.3 ++ s2,
+  before.4 ++ t2,
+  before.5,
+  give_more flat net old p reads order m before.0 mid z before.3 s2 before.4 t2 before.6 gives,
+  ap (λ l. l ++ s2) before.7 ∙ append_assoc before.1 before.3 s2,
+  ap (λ l. l ++ t2) before.8 ∙ append_assoc before.2 before.4 t2,
+)
+
+module _ (flat : Flat) (offset : ℕ) (inputs : List Raw) (c : ClusterOf) (place : ℕ) (rings : List RingOf) (runners : List Runner) (positions : List ℕ)
+    (outs cur : OutputsOf) where
   abbrev mid : ClusterOf
   mid = with_parts c place rings runners positions
 
-  module _ (to : ArePlayed flat offset inputs c mid) where
+  module _ (to : ArePlayed flat offset inputs c mid outs cur) where
     -- a sampler of the cluster, as it was at first
     first_sampler : (m : ℕ) (s : SamplerOf) → slice_get runners m ≡ Some (runner.Sampler s) → slice_get c.runners m ≡ Some (runner.Sampler s)
     first_sampler m s at =
@@ -126,12 +205,29 @@ module _ (flat : Flat) (offset : ℕ) (inputs : List Raw) (c : ClusterOf) (place
           ins.formats place e x s v f to.moved.up at (ap (λ (y : Entry). y.offset) (sym same) ∙ next.2) (first_sampler x.actor s there) given writes form;
     }
 
-    -- one entry more
-    module _ (due : is_due mid offset ≡ true) (rings2 : List RingOf) (runners2 : List Runner) (positions2 : List ℕ) where
-      abbrev then : ClusterOf
-      then = with_parts c (place + 1) rings2 runners2 positions2
+    pub room_next : is_due mid offset ≡ true → HasRoomNext mid cur
+    room_next due = record {
+      sent = λ x at.
+          let h = due_head sent_size runners offset c.entries place x at (offset_is x at) in
+          let r = to.room.sent in
+          omega (arith, h, r);
+      traced = λ x at.
+          let h = due_head traced_size runners offset c.entries place x at (offset_is x at) in
+          let r = to.room.traced in
+          omega (arith, h, r);
+    }
+      where
+        offset_is : (x : Entry) → slice_get c.entries place ≡ Some x → x.offset ≡ offset
+        offset_is x at =
+            let next = due_entry offset (slice_get c.entries place) due in
+            ap (λ (y : Entry). y.offset) (some_inj x next.0 (sym at ∙ next.1)) ∙ next.2
 
-      moved_more : IsClusterOf flat then → HasStepped flat inputs mid then → IsMoved c then
+    -- one entry more
+    module _ (due : is_due mid offset ≡ true) (rings2 : List RingOf) (runners2 : List Runner) (positions2 : List ℕ) (cur2 : OutputsOf) where
+      abbrev later : ClusterOf
+      later = with_parts c (place + 1) rings2 runners2 positions2
+
+      moved_more : IsClusterOf flat later → HasStepped flat inputs mid later cur cur2 → IsMoved c later
       moved_more of step = record {
         rest = refl;
         up = let u = to.moved.up in omega (arith, u);
@@ -160,28 +256,49 @@ module _ (flat : Flat) (offset : ℕ) (inputs : List Raw) (c : ClusterOf) (place
               ∙ to.moved.positions m below
               ∙ ap (λ n. counted (slice_index c.positions m + (n - done c.entries c.place m))) (sym (done_other c.entries place step.entry step.at m (λ e. apart (sym e))))
 
-      pub more : IsClusterOf flat then → HasStepped flat inputs mid then → ArePlayed flat offset inputs c then
+      pub more : IsClusterOf flat later → HasStepped flat inputs mid later cur cur2 → ArePlayed flat offset inputs c later outs cur2
       more of step = record {
         of = of;
         many = to.many ∙ sym (counted_same step);
         moved = moved_more of step;
         each = λ i x low high at. each i x low high at (cases_lt i place);
         played = λ model start old p reads from checked period told.
-            let next_period : IsPeriodOf mid from p = record {
-              started = let u = to.moved.up in let s = period.started in omega (arith, u, s);
-              counts = period.counts;
-              reads = period.reads;
-              writes = period.writes;
-              table = period.table;
-            } in
-            let next_told : AreGiven mid inputs reads old from place step.entry = record {
-              is = λ s v there v_is. (told place step.entry to.moved.up step.at entry_due).is s v (first_sampler step.entry.actor s there) v_is;
-            } in
-            subst (λ (order : List ℕ). IsPlayed (cluster_net model flat c.number start) old p reads order (play_of from c) (play_of from then))
+            subst (λ (order : List ℕ). IsPlayed (cluster_net model flat c.number start) old p reads order (play_of from c) (play_of from later))
             (sym (actors_more c.entries c.place place step.entry to.moved.up step.at))
-            (played_more (cluster_net model flat c.number start) old p reads (actors_between c.entries c.place place) step.entry.actor (play_of from c) (play_of from mid) (play_of from then)
+            (played_more (cluster_net model flat c.number start) old p reads (actors_between c.entries c.place place) step.entry.actor (play_of from c) (play_of from mid) (play_of from later)
             (to.played model start old p reads from checked period told)
-            (step.step model start old p reads from checked next_period next_told));
+            (step.step model start old p reads from checked (next_period from p period) (next_told old from reads told)).step);
+        gained = record {
+          sent = to.gained.sent ++ step.sent;
+          traced = to.gained.traced ++ step.traced;
+          are = gains_then outs cur cur2 to.gained.sent step.sent to.gained.traced step.traced to.gained.are step.gains;
+          given = λ model start old p reads from checked period told.
+              subst (λ (order : List ℕ). GiveAll flat (cluster_net model flat c.number start) old p reads order (play_of from c) (play_of from later)
+              (to.gained.sent ++ step.sent) (to.gained.traced ++ step.traced))
+              (sym (actors_more c.entries c.place place step.entry to.moved.up step.at))
+              (give_more flat (cluster_net model flat c.number start) old p reads (actors_between c.entries c.place place) step.entry.actor (play_of from c) (play_of from mid) (play_of from later)
+              to.gained.sent step.sent to.gained.traced step.traced
+              (to.gained.given model start old p reads from checked period told)
+              (step.step model start old p reads from checked (next_period from p period) (next_told old from reads told)));
+        };
+        room = record {
+          sent =
+              let h = due_head sent_size runners offset c.entries place step.entry step.at entry_due in
+              let a = due_alike sent_size runners runners2 offset (drop (place + 1) c.entries) sizes_sent in
+              let f = step.few_sent in
+              let l = length-append cur.sent step.sent in
+              let r = to.room.sent in
+              subst (λ (o : OutputsOf). length o.sent + size_due sent_size runners2 offset (drop (place + 1) c.entries) ≤ o.sent_room) (sym step.gains)
+              (omega (arith, h, a, f, l, r));
+          traced =
+              let h = due_head traced_size runners offset c.entries place step.entry step.at entry_due in
+              let a = due_alike traced_size runners runners2 offset (drop (place + 1) c.entries) sizes_traced in
+              let f = step.few_traced in
+              let l = length-append cur.traced step.traced in
+              let r = to.room.traced in
+              subst (λ (o : OutputsOf). length o.traced + size_due traced_size runners2 offset (drop (place + 1) c.entries) ≤ o.traced_room) (sym step.gains)
+              (omega (arith, h, a, f, l, r));
+        };
       }
         where
           entry_due : step.entry.offset ≡ offset
@@ -190,6 +307,26 @@ module _ (flat : Flat) (offset : ℕ) (inputs : List Raw) (c : ClusterOf) (place
               let same : next.0 ≡ step.entry = some_inj next.0 step.entry (sym next.1 ∙ step.at) in
               ap (λ (y : Entry). y.offset) (sym same) ∙ next.2
 
+          next_period : (from : ℕ) (p : PeriodRecord) → IsPeriodOf c from p → IsPeriodOf mid from p
+          next_period from p period = record {
+            started = let u = to.moved.up in let s = period.started in omega (arith, u, s);
+            counts = period.counts;
+            reads = period.reads;
+            writes = period.writes;
+            table = period.table;
+          }
+
+          next_told : (old : List PeriodRecord) (from : ℕ) (reads : ℕ → List Raw) → AreAllGiven offset c inputs reads old from → AreGiven mid inputs reads old from place step.entry
+          next_told old from reads told = record {
+            is = λ s v there v_is. (told place step.entry to.moved.up step.at entry_due).is s v (first_sampler step.entry.actor s there) v_is;
+          }
+
+          sizes_sent : (m : ℕ) → sent_size (slice_get runners2 m) ≡ sent_size (slice_get runners m)
+          sizes_sent m = sizes_alike sent_size like_sent runners runners2 (of.actors ∙ sym to.of.actors) (λ k r here. step.runners k r here) m
+
+          sizes_traced : (m : ℕ) → traced_size (slice_get runners2 m) ≡ traced_size (slice_get runners m)
+          sizes_traced m = sizes_alike traced_size like_traced runners runners2 (of.actors ∙ sym to.of.actors) (λ k r here. step.runners k r here) m
+
           each : (i : ℕ) (x : Entry) → c.place ≤ i → i < place + 1 → slice_get c.entries i ≡ Some x → (i < place) ⊎ (place ≤ i) → x.offset ≡ offset
           each i x low high at (inl before) = to.each i x low before at
           each i x low high at (inr here) =
@@ -197,12 +334,13 @@ module _ (flat : Flat) (offset : ℕ) (inputs : List Raw) (c : ClusterOf) (place
               let same : step.entry ≡ x = some_inj step.entry x (sym step.at ∙ ap (slice_get c.entries) (sym i_is) ∙ at) in
               ap (λ (y : Entry). y.offset) (sym same) ∙ entry_due
 
-          counted_same : HasStepped flat inputs mid then → count_by is_sampler runners2 ≡ count_by is_sampler runners
+          counted_same : HasStepped flat inputs mid later cur cur2 → count_by is_sampler runners2 ≡ count_by is_sampler runners
           counted_same step = samplers_alike runners runners2 (of.actors ∙ sym to.of.actors) (λ m r here. step.runners m r here)
 
 -- the start of the loop, one turn of it, and what it gives in the end
-pub played_none : (flat : Flat) (offset : ℕ) (inputs : List Raw) (c : ClusterOf) → IsClusterOf flat c → length inputs ≡ count_by is_sampler c.runners → ArePlayed flat offset inputs c c
-played_none flat offset inputs c of many = record {
+pub played_none : (flat : Flat) (offset : ℕ) (inputs : List Raw) (c : ClusterOf) (outs : OutputsOf) → IsClusterOf flat c → length inputs ≡ count_by is_sampler c.runners
+    → HaveRoom offset c outs → ArePlayed flat offset inputs c c outs outs
+played_none flat offset inputs c outs of many room = record {
   of = of;
   many = many;
   moved = record {
@@ -217,40 +355,54 @@ played_none flat offset inputs c of many = record {
   played = λ model start old p reads from checked period told.
       subst (λ (order : List ℕ). IsPlayed (cluster_net model flat c.number start) old p reads order (play_of from c) (play_of from c)) (sym (actors_none c.entries c.place))
       (none_played (cluster_net model flat c.number start) old p reads (play_of from c));
+  gained = record {
+    sent = [];
+    traced = [];
+    are = gains_none outs;
+    given = λ model start old p reads from checked period told.
+        subst (λ (order : List ℕ). GiveAll flat (cluster_net model flat c.number start) old p reads order (play_of from c) (play_of from c) [] []) (sym (actors_none c.entries c.place))
+        (give_none flat (cluster_net model flat c.number start) old p reads (play_of from c));
+  };
+  room = room;
 }
   where
     none : (m : ℕ) → 0 ≡ turns_from c.entries c.place c.place m
     none m = omega arith
 
-pub next_inputs : (flat : Flat) (offset : ℕ) (inputs : List Raw) (c d : ClusterOf) → ArePlayed flat offset inputs c d → AreInputsFor flat offset c inputs → is_due d offset ≡ true
-    → AreInputsNext flat d inputs
-next_inputs flat offset inputs c d to ins due =
-    subst (λ (s : ClusterOf). ArePlayed flat offset inputs c s → is_due s offset ≡ true → AreInputsNext flat s inputs) (sym to.moved.rest)
-    (λ t e. inputs_next flat offset inputs c d.place d.rings d.runners d.positions t ins e) to due
+module _ (flat : Flat) (offset : ℕ) (inputs : List Raw) (c d : ClusterOf) (outs cur : OutputsOf) (to : ArePlayed flat offset inputs c d outs cur) where
+  abbrev here : ClusterOf
+  here = with_parts c d.place d.rings d.runners d.positions
 
-pub played_next : (flat : Flat) (offset : ℕ) (inputs : List Raw) (c d e : ClusterOf) → ArePlayed flat offset inputs c d → is_due d offset ≡ true
-    → IsClusterOf flat e → HasStepped flat inputs d e → ArePlayed flat offset inputs c e
-played_next flat offset inputs c d e to due of step =
-    let e_is : e ≡ with_parts c (d.place + 1) e.rings e.runners e.positions = step.rest ∙ ap (λ (s : ClusterOf). with_parts s (d.place + 1) e.rings e.runners e.positions) to.moved.rest in
-    subst (λ (s : ClusterOf). ArePlayed flat offset inputs c s) (sym e_is)
-    (whole e_is)
-  where
-    whole : e ≡ with_parts c (d.place + 1) e.rings e.runners e.positions → ArePlayed flat offset inputs c (with_parts c (d.place + 1) e.rings e.runners e.positions)
-    whole e_is =
-        more flat offset inputs c d.place d.rings d.runners d.positions
-        (subst (λ (s : ClusterOf). ArePlayed flat offset inputs c s) to.moved.rest to)
-        (subst (λ (s : ClusterOf). is_due s offset ≡ true) to.moved.rest due)
-        e.rings e.runners e.positions
-        (subst (IsClusterOf flat) e_is of)
-        (subst (λ (s : ClusterOf). HasStepped flat inputs (with_parts c d.place d.rings d.runners d.positions) s) e_is
-        (subst (λ (s : ClusterOf). HasStepped flat inputs s e) to.moved.rest step))
+  to_here : ArePlayed flat offset inputs c here outs cur
+  to_here = subst (λ (s : ClusterOf). ArePlayed flat offset inputs c s outs cur) to.moved.rest to
+
+  pub next_inputs : AreInputsFor flat offset c inputs → is_due d offset ≡ true → AreInputsNext flat d inputs
+  next_inputs ins due =
+      subst (λ (s : ClusterOf). is_due s offset ≡ true → AreInputsNext flat s inputs) (sym to.moved.rest)
+      (λ e. inputs_next flat offset inputs c d.place d.rings d.runners d.positions outs cur to_here ins e) due
+
+  pub next_room : is_due d offset ≡ true → HasRoomNext d cur
+  next_room due =
+      subst (λ (s : ClusterOf). is_due s offset ≡ true → HasRoomNext s cur) (sym to.moved.rest)
+      (λ e. room_next flat offset inputs c d.place d.rings d.runners d.positions outs cur to_here e) due
+
+  pub played_next : (e : ClusterOf) (cur2 : OutputsOf) → is_due d offset ≡ true → IsClusterOf flat e → HasStepped flat inputs d e cur cur2 → ArePlayed flat offset inputs c e outs cur2
+  played_next e cur2 due of step =
+      subst (λ (s : ClusterOf). ArePlayed flat offset inputs c s outs cur2) (sym e_is)
+      (more flat offset inputs c d.place d.rings d.runners d.positions outs cur to_here (subst (λ (s : ClusterOf). is_due s offset ≡ true) to.moved.rest due)
+      e.rings e.runners e.positions cur2 (subst (IsClusterOf flat) e_is of)
+      (subst (λ (s : ClusterOf). HasStepped flat inputs here s cur cur2) e_is
+      (subst (λ (s : ClusterOf). HasStepped flat inputs s e cur cur2) to.moved.rest step)))
+    where
+      e_is : e ≡ with_parts c (d.place + 1) e.rings e.runners e.positions
+      e_is = step.rest ∙ ap (λ (s : ClusterOf). with_parts s (d.place + 1) e.rings e.runners e.positions) to.moved.rest
+
+  pub stands_after : KeepsStanding flat offset inputs c d
+  stands_after = λ model start old p reads from f checked period told stands.
+      let long : length (actors_between c.entries c.place d.place) ≡ d.place - c.place = actors_long c.entries c.place d.place to.moved.up to.moved.within in
+      subst (λ k. Stands (cluster_net model flat c.number start) old p reads (k + f) (play_of from d)) long
+      (order_keeps (cluster_net model flat c.number start) old p reads (actors_between c.entries c.place d.place) f (play_of from c) (play_of from d) stands
+      (to.played model start old p reads from checked period told))
 
 pub due_within : (offset : ℕ) (c : ClusterOf) → is_due c offset ≡ true → c.place < length c.entries
 due_within offset c due = let next = due_entry offset (slice_get c.entries c.place) due in slice_get_within c.entries c.place next.0 next.1
-
-pub stands_after : (flat : Flat) (offset : ℕ) (inputs : List Raw) (c d : ClusterOf) → ArePlayed flat offset inputs c d → KeepsStanding flat offset inputs c d
-stands_after flat offset inputs c d to = λ model start old p reads from f checked period told stands.
-    let long : length (actors_between c.entries c.place d.place) ≡ d.place - c.place = actors_long c.entries c.place d.place to.moved.up to.moved.within in
-    subst (λ k. Stands (cluster_net model flat c.number start) old p reads (k + f) (play_of from d)) long
-    (order_keeps (cluster_net model flat c.number start) old p reads (actors_between c.entries c.place d.place) f (play_of from c) (play_of from d) stands
-    (to.played model start old p reads from checked period told))

@@ -6,15 +6,17 @@ use Rattle.std.proofs.lemmas.List.{length-map}
 use Rattle.std.proofs.lemmas.List.Sums.{sum_by-cons}
 use Rattle.std.specs.List.{count_by}
 use Rattle.std.specs.Prelude.{cond, slice_get, slice_index}
+use Rattle.tdf_convert.specs.Outputs.{OutputsOf}
 use Rattle.tdf_exec.proofs.Counting.{present_now, room_now}
 use Rattle.tdf_exec.proofs.Moved.{reads_it}
 use Rattle.tdf_exec.specs.Cluster.{ClusterOf}
-use Rattle.tdf_exec.specs.Fired.{CanFireModule, CanRun, CanSample, CanSink}
+use Rattle.tdf_exec.specs.Fired.{CanFireModule, CanGive, CanRun, CanSample, CanSink}
+use Rattle.tdf_exec.specs.Gained.{sent_size, traced_size}
 use Rattle.tdf_exec.specs.Made.{IsClusterOf, IsModuleOf, IsSamplerOf, IsSinkOf, is_sampler}
 use Rattle.tdf_exec.specs.Runners.{ModuleOf, SamplerOf}
 use Rattle.tdf_exec.specs.declared.runners.Runner.{Runner}
 use Rattle.tdf_exec.specs.declared.runners.Runner.TheVariants as runner
-use Rattle.tdf_exec.specs.machine.Steps.{kept}
+use Rattle.tdf_exec.specs.machine.Steps.{HasRoomNext, kept}
 use Rattle.tdf_dynamic.specs.Rates.{net_of}
 use Rattle.tdf_firing.specs.Wires.{AreWired}
 use Rattle.tdf_fixed.specs.declared.raw.Raw.{Raw}
@@ -116,3 +118,10 @@ module _ (flat : Flat) (c : ClusterOf) (inputs : List Raw) (x : Entry) (of : IsC
   can_run (runner.Sampler s) there many = sampler_can s (of.runners x.actor (runner.Sampler s) there) there many
   can_run (runner.Sink k) there many = sink_can k.edge (of.runners x.actor (runner.Sink k) there)
   can_run runner.Outside there many = tt
+
+  pub can_give : (r : Runner) → slice_get c.runners x.actor ≡ Some r → (outputs : OutputsOf) → HasRoomNext c outputs → CanGive r outputs
+  can_give r there outputs room = record {
+    ports = λ y j t is here. (of.runners x.actor (runner.Module y) (there ∙ ap (λ q. Some q) is)).traced_rate j t here;
+    sent = subst (λ o. length outputs.sent + sent_size o ≤ outputs.sent_room) there (room.sent x at);
+    traced = subst (λ o. length outputs.traced + traced_size o ≤ outputs.traced_room) there (room.traced x at);
+  }

@@ -12,7 +12,7 @@ use Rattle.tdf_exec.proofs.Keeping.{get_set, get_set_other, sampler_value}
 use Rattle.tdf_exec.proofs.Moved.{given_by, given_none, given_one, module_moves, sampler_moves, sink_moves}
 use Rattle.tdf_exec.proofs.Runs.{count_mono}
 use Rattle.tdf_exec.specs.Cluster.{ClusterOf}
-use Rattle.tdf_exec.specs.Fired.{HasRun, HasRunModule, HasSampled}
+use Rattle.tdf_exec.specs.Fired.{HasRunModule, HasSampled}
 use Rattle.tdf_exec.specs.Made.{IsActorOf, IsClusterOf, IsModuleOf, IsSamplerOf, IsSinkOf}
 use Rattle.tdf_exec.specs.Played.{AreGiven, IsPeriodOf, cells_of, play_of, turns_from}
 use Rattle.tdf_exec.specs.Runners.{ModuleOf, SamplerOf}
@@ -97,7 +97,7 @@ module _ (flat : Flat) (c : ClusterOf) (inputs : List Raw) (x : Entry) (of : IsC
       let r : slice_index p.reads e ≡ slice_index c.reads e = ap (λ (q : List ℕ). slice_index q e) period.reads in
       omega (arith, h, l, r)
 
-  front_at : (e : ℕ) → e < length flat.tables.edges → reader_at flat.tables.edges e ≡ x.actor
+  pub front_at : (e : ℕ) → e < length flat.tables.edges → reader_at flat.tables.edges e ≡ x.actor
       → slice_index_or (fronts net p x.actor (play_of from c).lists 0 (length flat.tables.edges)) e [] ≡ take (slice_index c.reads e) (ring_at c.rings e).samples
   front_at e below reads_it =
       fronts_at net p x.actor (play_of from c).lists 0 e (length flat.tables.edges) below
@@ -170,7 +170,7 @@ module _ (flat : Flat) (c : ClusterOf) (inputs : List Raw) (x : Entry) (of : IsC
   state_at : (r : Runner) → slice_get c.runners x.actor ≡ Some r → slice_get (play_of from c).states x.actor ≡ Some (cells_of r)
   state_at r there = slice_get-map cells_of c.runners x.actor ∙ ap (option_map cells_of) there
 
-  module_step : (y : ModuleOf) (after : Runner) (there : slice_get c.runners x.actor ≡ Some (runner.Module y)) (position : ℕ)
+  pub module_step : (y : ModuleOf) (after : Runner) (there : slice_get c.runners x.actor ≡ Some (runner.Module y)) (position : ℕ)
       → (ran : HasRunModule flat.checked c.reads c.writes c.rings new y after)
       → IsStep net old p reads x.actor (play_of from c) (play_of from (later (runner.Module y) after there position))
   module_step y after there position ran = record {
@@ -187,7 +187,12 @@ module _ (flat : Flat) (c : ClusterOf) (inputs : List Raw) (x : Entry) (of : IsC
       is : IsModuleOf flat c x.actor y
       is = of.runners x.actor (runner.Module y) there
 
-  sampler_step : (s : SamplerOf) (after : Runner) (there : slice_get c.runners x.actor ≡ Some (runner.Sampler s)) (position : ℕ)
+  pub module_turn : (y : ModuleOf) (after : Runner) (there : slice_get c.runners x.actor ≡ Some (runner.Module y)) (position : ℕ)
+      → (ran : HasRunModule flat.checked c.reads c.writes c.rings new y after) → turn_of flat ran.next ≡ (module_step y after there position ran).turn
+  unfolding module_step
+  module_turn y after there position ran = refl
+
+  pub sampler_step : (s : SamplerOf) (after : Runner) (there : slice_get c.runners x.actor ≡ Some (runner.Sampler s)) (position : ℕ)
       → HasSampled inputs c.rings new s after → AreGiven c inputs reads old from c.place x
       → IsStep net old p reads x.actor (play_of from c) (play_of from (later (runner.Sampler s) after there position))
   sampler_step s after there position ran told = record {
@@ -217,7 +222,7 @@ module _ (flat : Flat) (c : ClusterOf) (inputs : List Raw) (x : Entry) (of : IsC
       differ : true ≡ false → ⊥
       differ e = absurd cc
 
-  sink_step : (after : Runner) (k : SinkRunner) (there : slice_get c.runners x.actor ≡ Some (runner.Sink k)) (position : ℕ)
+  pub sink_step : (after : Runner) (k : SinkRunner) (there : slice_get c.runners x.actor ≡ Some (runner.Sink k)) (position : ℕ)
       → after ≡ runner.Sink k → HasTaken k.edge c.rings new
       → IsStep net old p reads x.actor (play_of from c) (play_of from (later (runner.Sink k) after there position))
   sink_step after k there position same took = record {
@@ -232,11 +237,3 @@ module _ (flat : Flat) (c : ClusterOf) (inputs : List Raw) (x : Entry) (of : IsC
     where
       is : IsSinkOf flat c x.actor k.edge
       is = of.runners x.actor (runner.Sink k) there
-
-  pub step_of : (before after : Runner) (there : slice_get c.runners x.actor ≡ Some before) (position : ℕ)
-      → HasRun flat.checked inputs c.reads c.writes c.rings new before after → AreGiven c inputs reads old from c.place x
-      → IsStep net old p reads x.actor (play_of from c) (play_of from (later before after there position))
-  step_of (runner.Module y) after there position ran told = module_step y after there position ran
-  step_of (runner.Sampler s) after there position ran told = sampler_step s after there position ran told
-  step_of (runner.Sink k) after there position ran told = sink_step after k there position ran.0 ran.1
-  step_of runner.Outside after there position ran told = absurd (of.runners x.actor runner.Outside there (of.safe.own c.place x at))

@@ -1,9 +1,15 @@
 -- One firing of an actor: what it needs and what it does, over the rings of all edges.
 -- Source: own.
-use Rattle.std.specs.Prelude.{◌≡◌, ℕ, ◌<◌, List, Some, length, slice_get}
+use Rattle.std.specs.List.{flat_map}
+use Rattle.std.specs.Prelude.{◌≡◌, ℕ, ◌+◌, ◌<◌, ◌≤◌, List, [], ◌∷◌, Some, length, slice_get}
+use Rattle.tdf_convert.specs.Outputs.{OutputsOf}
+use Rattle.tdf_exec.specs.Gained.{sent_sample, sent_size, traced_size, with_gains}
+use Rattle.tdf_exec.specs.Made.{IsInSpans}
 use Rattle.tdf_exec.specs.Runners.{ModuleOf, SamplerOf}
+use Rattle.tdf_exec.specs.Traced.{port_samples}
 use Rattle.tdf_exec.specs.declared.runners.Runner.{Runner}
 use Rattle.tdf_exec.specs.declared.runners.Runner.TheVariants as runner
+use Rattle.tdf_exec.specs.declared.runners.TracedPort.{TracedPort}
 use Rattle.tdf_expr.specs.Made.{AreMadeFor}
 use Rattle.tdf_expr.specs.declared.checked.Checked.{Checked}
 use Rattle.tdf_firing.specs.Actors.{CanPutOne, HasTaken, HavePut}
@@ -75,3 +81,25 @@ HasRun checked inputs reads writes old new (runner.Sink k) after =
     (after ≡ runner.Sink k) × HasTaken k.edge old new
 HasRun checked inputs reads writes old new runner.Outside after =
     (after ≡ runner.Outside) × (new ≡ old)
+
+-- its ports whose signals are traced are its own, and the outputs have room for what it gives
+pub record CanGive (r : Runner) (outputs : OutputsOf) : Type 0 where
+  pub ports : (x : ModuleOf) (j : ℕ) (t : TracedPort) → r ≡ runner.Module x
+      → slice_get x.traced j ≡ Some t → IsInSpans x.ports.spans t
+  pub sent : length outputs.sent + sent_size (Some r) ≤ outputs.sent_room
+  pub traced : length outputs.traced + traced_size (Some r) ≤ outputs.traced_room
+
+-- a sink has sent the first sample of its edge
+pub record HasSent (m edge : ℕ) (rings : List RingOf) (old new : OutputsOf) : Type 0 where
+  pub value : Raw
+  pub value_is : slice_get (ring_at rings edge).samples 0 ≡ Some value
+  pub given : new ≡ with_gains old (sent_sample m value ∷ []) []
+
+-- what a firing gave, by what is kept for its actor after it
+abbrev pub HasGiven : (m : ℕ) → (rings : List RingOf) → (after : Runner) → (old new : OutputsOf)
+    → Type 0
+HasGiven m rings (runner.Module y) old new =
+    new ≡ with_gains old [] (flat_map (port_samples y.ports) y.traced)
+HasGiven m rings (runner.Sampler s) old new = new ≡ old
+HasGiven m rings (runner.Sink k) old new = HasSent m k.edge rings old new
+HasGiven m rings runner.Outside old new = new ≡ old

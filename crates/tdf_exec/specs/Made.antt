@@ -3,15 +3,17 @@
 -- Source: own.
 use Rattle.std.specs.List.{All, count_by}
 use Rattle.std.specs.Prelude.{◌≡◌, ℕ, zero, suc, ◌+◌, ◌-◌, ◌*◌, ◌^◌, ◌<◌, ◌≤◌, Bool, true, false}
-use Rattle.std.specs.Prelude.{List, length, Option, Some, None, slice_get, slice_index, take}
+use Rattle.std.specs.Prelude.{List, length, Option, Some, None, slice_get, slice_index, map, take}
 use Rattle.tdf_bind.specs.Flat.{FlatOf}
 use Rattle.tdf_dynamic.specs.Attributes.{attrs_at, clusters_of, rates_in}
 use Rattle.tdf_dynamic.specs.Faults.{IsTablePlan}
 use Rattle.tdf_dynamic.specs.Rates.{net_of}
 use Rattle.tdf_exec.specs.Cluster.{ClusterOf}
 use Rattle.tdf_exec.specs.Runners.{ModuleOf, SamplerOf}
+use Rattle.tdf_exec.specs.Traced.{traced_port, traced_ports}
 use Rattle.tdf_exec.specs.declared.runners.Runner.{Runner}
 use Rattle.tdf_exec.specs.declared.runners.Runner.TheVariants as runner
+use Rattle.tdf_exec.specs.declared.runners.TracedPort.{TracedPort}
 use Rattle.tdf_expr.specs.Blocks.{PureBlock, blocks_of, body_of}
 use Rattle.tdf_expr.specs.Checked.{IsCheckedOf}
 use Rattle.tdf_expr.specs.Frames.{IsOfFormat}
@@ -55,6 +57,12 @@ pub record IsActorOf (tables : FlatOf) (cluster m : ℕ) (kind : Actor) : Type 0
   pub kind_is : actor_kind tables m ≡ Some kind
   pub inside : slice_index (clusters_of tables) m ≡ cluster
 
+-- a port is one of these, and its rate at most its greatest
+pub record IsInSpans (spans : List PortSpan) (t : TracedPort) : Type 0 where
+  pub span : PortSpan
+  pub there : slice_get spans t.port ≡ Some span
+  pub rate : t.rate ≤ span.count
+
 -- a module of the cluster: an instance of its block with the rates of the table, its wires, whose
 -- rates and formats are those of its ports, and zeros beyond what it reads
 pub record IsModuleOf (flat : Flat) (c : ClusterOf) (m : ℕ) (x : ModuleOf) : Type 0 where
@@ -73,6 +81,9 @@ pub record IsModuleOf (flat : Flat) (c : ClusterOf) (m : ℕ) (x : ModuleOf) : T
   pub write_format : (j : ℕ) (w : OutWire) (p : PortSpan) → slice_get x.wires.outs j ≡ Some w
       → slice_get x.ports.spans w.port ≡ Some p → edge_format flat.tables w.edge ≡ Some p.format
   pub zeros : AreZerosBehind x.wires c.reads x.ports
+  pub traced : x.traced ≡ map (traced_port flat.tables c.table) (traced_ports flat.tables m)
+  pub traced_rate : (j : ℕ) (t : TracedPort) → slice_get x.traced j ≡ Some t
+      → IsInSpans x.ports.spans t
 
 abbrev pub is_sampler : Runner → Bool
 is_sampler (runner.Sampler s) = true

@@ -48,12 +48,13 @@ impl Model for Cluster {
 
 ghost use Rattle.std.specs.Prelude.{◌≡◌, ◌<◌, ◌+◌, ◌^◌, ◌-◌, length, min, Some};
 ghost use Rattle.tdf_exec.specs.Cluster.{is_due, next_offset};
+ghost use Rattle.tdf_exec.specs.Gained.{HasGained, HaveRoom};
 ghost use Rattle.tdf_exec.specs.Made.{IsClusterOf};
 ghost use Rattle.tdf_exec.specs.Played.{AreDone, AreInputsFor, HasPlayed, KeepsStanding};
-ghost use Rattle.tdf_exec.specs.machine.Steps.{AreInputsNext, HasStepped};
+ghost use Rattle.tdf_exec.specs.machine.Steps.{AreInputsNext, HasRoomNext, HasStepped};
 
 use crate::runners::fire_runner;
-use tdf_convert::Inputs;
+use tdf_convert::{Inputs, Outputs};
 use tdf_flat::Flat;
 
 /// One activation more, where the number is not the greatest that there is.
@@ -85,39 +86,46 @@ impl Cluster {
     }
 
     /// Does the next entry of the plan.
-    fn fire_next(&mut self, flat: &Flat, inputs: &Inputs)
+    fn fire_next(&mut self, flat: &Flat, inputs: &Inputs, outputs: &mut Outputs)
         requires of { IsClusterOf flat.now self.old }
         requires within { self.old.place < length self.old.entries }
         requires inputs { AreInputsNext flat.now self.old inputs.now }
+        requires room { HasRoomNext self.old outputs.old }
         ensures of { IsClusterOf flat.now self.new }
-        ensures stepped { HasStepped flat.now inputs.now self.old self.new }
+        ensures stepped { HasStepped flat.now inputs.now self.old self.new outputs.old outputs.new }
     {
-        let actor = self.plan.entries[self.place].actor as usize;
+        let number = self.plan.entries[self.place].actor;
+        let actor = number as usize;
         fire_runner(
             &flat.checked,
             inputs,
             &self.reads,
             &self.writes,
+            number,
             &mut self.runners[actor],
             &mut self.rings,
+            outputs,
         );
         count_one(&mut self.positions[actor]);
         self.place += 1;
     }
 
-    /// Does all entries of this offset, in the order of the plan. `inputs` has the values of the samplers. It takes no
-    /// memory and is never refused.
-    pub fn fire_at(&mut self, flat: &Flat, offset: u64, inputs: &Inputs)
+    /// Does all entries of this offset, in the order of the plan. `inputs` has the values of the samplers; `outputs` gains
+    /// the samples of sinks and those of traced signals. It takes no memory and is never refused.
+    pub fn fire_at(&mut self, flat: &Flat, offset: u64, inputs: &Inputs, outputs: &mut Outputs)
         requires of { IsClusterOf flat.now self.old }
         requires next { next_offset self.old ≡ Some offset }
         requires inputs { AreInputsFor flat.now offset self.old inputs.now }
+        requires room { HaveRoom offset self.old outputs.old }
         ensures of { IsClusterOf flat.now self.new }
         ensures done { AreDone offset self.old self.new }
         ensures played { HasPlayed flat.now offset inputs.now self.old self.new }
         ensures stands { KeepsStanding flat.now offset inputs.now self.old self.new }
+        ensures gained { HasGained flat.now offset inputs.now self.old self.new
+            outputs.old outputs.new }
     {
         while self.is_due(offset) {
-            self.fire_next(flat, inputs);
+            self.fire_next(flat, inputs, outputs);
         }
     }
 }

@@ -69,9 +69,17 @@ pub enum Runner {
     Outside,
 }
 
-ghost use Rattle.tdf_exec.specs.Fired.{CanFireModule, CanRun, HasFired, HasRun};
+ghost use Rattle.std.specs.List.{flat_map};
+ghost use Rattle.std.specs.Prelude.{◌≡◌, ℕ, ◌+◌, ◌≤◌, [], length, Some, slice_get};
+ghost use Rattle.tdf_exec.specs.Fired.{CanFireModule, CanGive, CanRun, CanSink, HasFired, HasGiven, HasRun, HasSent};
+ghost use Rattle.tdf_exec.specs.Gained.{with_gains};
+ghost use Rattle.tdf_exec.specs.Made.{IsInSpans};
+ghost use Rattle.tdf_exec.specs.Traced.{port_samples, traced_count};
+ghost use Rattle.tdf_exec.specs.declared.runners.Runner.TheVariants.{Module};
+ghost use Rattle.tdf_exec.specs.declared.runners.TracedPort.{TracedPort as TracedPortOf};
+ghost use Rattle.tdf_firing.specs.Actors.{HasTaken};
 
-use tdf_convert::Inputs;
+use tdf_convert::{Inputs, Outputs, Sent, Traced};
 use tdf_expr::Checked;
 use tdf_firing::{fire_module, fire_sampler, fire_sink};
 use tdf_rings::Ring;
@@ -102,28 +110,90 @@ impl ModuleRunner {
     }
 }
 
+/// The samples of a port whose signal is traced.
+fn trace_port(ports: &Ports, traced: TracedPort, outputs: &mut Outputs)
+    requires port { IsInSpans ports.now.spans traced }
+    requires room { length outputs.old.traced + traced.rate ≤ outputs.old.traced_room }
+    ensures { outputs.new ≡ with_gains outputs.old [] (port_samples ports.now traced) }
+{
+    for i in 0..traced.rate {
+        outputs.put_traced(Traced {
+            signal: traced.signal,
+            value: ports.sample(traced.port, i),
+        });
+    }
+}
+
+/// The samples of all ports of a module whose signals are traced.
+fn trace_ports(ports: &Ports, list: &Vec<TracedPort>, outputs: &mut Outputs)
+    requires ports { (j : ℕ) (t : TracedPortOf) → slice_get list.now.items j ≡ Some t
+        → IsInSpans ports.now.spans t }
+    requires room { length outputs.old.traced + traced_count list.now.items
+        ≤ outputs.old.traced_room }
+    ensures { outputs.new ≡ with_gains outputs.old []
+        (flat_map (port_samples ports.now) list.now.items) }
+{
+    for j in 0..list.len() {
+        trace_port(ports, list[j], outputs);
+    }
+}
+
+/// One firing of a module, with the samples of its ports whose signals are traced.
+fn run_module(
+    checked: &Checked,
+    reads: &Vec<u32>,
+    writes: &Vec<u32>,
+    module: &mut ModuleRunner,
+    rings: &mut Vec<Ring>,
+    outputs: &mut Outputs,
+)
+    requires can { CanFireModule checked.now reads.now.items writes.now.items rings.old.items
+        module.old }
+    requires gives { CanGive (Module module.old) outputs.old }
+    ensures fired { HasFired checked.now reads.now.items writes.now.items rings.old.items
+        rings.new.items module.old module.new }
+    ensures given { outputs.new ≡ with_gains outputs.old []
+        (flat_map (port_samples module.new.ports) module.new.traced) }
+{
+    module.fire(checked, reads, writes, rings);
+    trace_ports(&module.ports, &module.traced, outputs);
+}
+
+/// One firing of a sink, which sends its sample.
+fn run_sink(actor: u32, edge: u32, rings: &mut Vec<Ring>, outputs: &mut Outputs)
+    requires can { CanSink rings.old.items edge }
+    requires room { length outputs.old.sent + 1 ≤ outputs.old.sent_room }
+    ensures taken { HasTaken edge rings.old.items rings.new.items }
+    ensures given { HasSent actor edge rings.old.items outputs.old outputs.new }
+{
+    let value = fire_sink(edge, rings);
+    outputs.put_sent(Sent { actor, value });
+}
+
 /// One firing of an actor.
 pub(crate) fn fire_runner(
     checked: &Checked,
     inputs: &Inputs,
     reads: &Vec<u32>,
     writes: &Vec<u32>,
+    actor: u32,
     runner: &mut Runner,
     rings: &mut Vec<Ring>,
+    outputs: &mut Outputs,
 )
-    requires { CanRun checked.now inputs.now reads.now.items writes.now.items rings.old.items
+    requires can { CanRun checked.now inputs.now reads.now.items writes.now.items rings.old.items
         runner.old }
-    ensures { HasRun checked.now inputs.now reads.now.items writes.now.items rings.old.items
+    requires gives { CanGive runner.old outputs.old }
+    ensures ran { HasRun checked.now inputs.now reads.now.items writes.now.items rings.old.items
         rings.new.items runner.old runner.new }
+    ensures given { HasGiven actor rings.old.items runner.new outputs.old outputs.new }
 {
     match runner {
-        Runner::Module(module) => module.fire(checked, reads, writes, rings),
+        Runner::Module(module) => run_module(checked, reads, writes, module, rings, outputs),
         Runner::Sampler(sampler) => {
             fire_sampler(inputs.value(sampler.place), &sampler.edges, rings)
         }
-        Runner::Sink(sink) => {
-            let _ = fire_sink(sink.edge, rings);
-        }
+        Runner::Sink(sink) => run_sink(actor, sink.edge, rings, outputs),
         Runner::Outside => {}
     }
 }

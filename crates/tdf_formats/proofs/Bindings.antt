@@ -1,20 +1,20 @@
 -- In a composite without a fault of links, each port of each instance is bound to what has its tag.
-use Rattle.std.proofs.Common.{◌≡◌, ◌≢◌, ◌∙◌, ℕ, zero, suc, Bool, true, false, not, ◌&&◌, ◌||◌, List, [], ◌∷◌, ◌++◌, Option, Some, None, map, refl, sym, ap, subst, true≢false}
+use Rattle.std.proofs.Common.{◌≡◌, ◌∙◌, ℕ, zero, suc, Bool, true, false, not, ◌&&◌, ◌||◌, List, [], ◌∷◌, ◌++◌, Option, Some, None, map, refl, sym, ap, subst, true≢false}
 use Rattle.std.proofs.lemmas.Option.{same_Some, none-some}
 use Rattle.std.specs.Cmp.Lexicographic.{pointwise, same_text}
-use Rattle.std.specs.List.{AllByRecursion, AllZip, find, flat_map, list_any}
+use Rattle.std.specs.List.{AllByRecursion, find, flat_map, list_any}
 use Rattle.std.specs.Prelude.{cond, if◌then◌else◌, nat_eq, slice_get}
 use Rattle.tdf_formats.proofs.Members.{IsTarget, pairs_of, tag_by_agreement, targets_thing}
 use Rattle.tdf_formats.proofs.Spaces.{Differ, name_in, place_is}
 use Rattle.tdf_formats.specs.Tags.{Tag, port_tag, port_tags, tags_at, target_tag}
 use Rattle.tdf_links.specs.Agree.{agrees}
-use Rattle.tdf_links.specs.Faults.{LinkFault, Wrong, UnknownPort, TwiceBound, Mismatch, Unbound, fault_if}
+use Rattle.tdf_links.specs.Faults.{Wrong, UnknownPort, TwiceBound, Mismatch, Unbound, fault_if}
 use Rattle.tdf_links.specs.Links.{Around, around_of, bind_faults, binds, binds_faults, composite_faults, faults_around, first_free, free_faults, instance_faults, is_bound, port_faults, port_in, port_of, ports_of_block, unbound_faults}
 use Rattle.tdf_links.specs.Ports.{Instances, Known, block_named, no_instances, port_named, port_of_member, ports_named, with_instance, with_instances}
-use Rattle.tdf_resolve.specs.Resolved.{IsComposite, instance_of, instance_with, instances_of, targets_of}
-use Rattle.tdf_resolve.specs.Signals.{Declared, IsSignal, declared_by}
-use Rattle.tdf_resolve.specs.Targets.{Inside, inside_of, or_first, target_after, target_from, target_named, target_of}
-use Rattle.tdf_scope.specs.Names.{Names, Thing, at_place, composite_names, format_of, no_names, place_in, thing_of, with_members}
+use Rattle.tdf_resolve.specs.Resolved.{IsComposite, instance_of, instance_with, targets_of}
+use Rattle.tdf_resolve.specs.Signals.{Declared, declared_by}
+use Rattle.tdf_resolve.specs.Targets.{inside_of, or_first, target_after, target_from, target_named, target_of}
+use Rattle.tdf_scope.specs.Names.{Names, Thing, at_place, format_of, place_in, thing_of}
 use Rattle.tdf_scope.specs.Scope.{first_some}
 use Rattle.tdf_scope.specs.Sound.{HasFormat}
 use Rattle.tdf_tree.specs.Pure.{PureComposite}
@@ -63,9 +63,10 @@ bind_good around bound (member.Instance line name block) e = tt
 binds_good : (around : Around) (earlier ms : List Member) → binds_faults around earlier ms ≡ [] → AllByRecursion (IsBindGood around) ms
 unfolding binds_faults
 binds_good around earlier [] e = tt
-binds_good around earlier (m ∷ ms) e =
-    (bind_good around (is_bound earlier) m (left_none (bind_faults around (is_bound earlier) m) (binds_faults around (earlier ++ m ∷ []) ms) e),
-    binds_good around (earlier ++ m ∷ []) ms (right_none (bind_faults around (is_bound earlier) m) (binds_faults around (earlier ++ m ∷ []) ms) e))
+binds_good around earlier (m ∷ ms) e = (
+  bind_good around (is_bound earlier) m (left_none (bind_faults around (is_bound earlier) m) (binds_faults around (earlier ++ m ∷ []) ms) e),
+  binds_good around (earlier ++ m ∷ []) ms (right_none (bind_faults around (is_bound earlier) m) (binds_faults around (earlier ++ m ∷ []) ms) e),
+)
 
 -- each port of each instance is bound
 abbrev AreBound : List Member → List ℕ → List PortLine → Type 0
@@ -98,9 +99,10 @@ instance_bound around ms (member.DeSignal line name x start) e = tt
 
 instances_bound : (around : Around) (all ms : List Member) → flat_map (instance_faults around (is_bound all)) ms ≡ [] → AllByRecursion (IsInstanceBound around.known all) ms
 instances_bound around all [] e = tt
-instances_bound around all (m ∷ ms) e =
-    (instance_bound around all m (left_none (instance_faults around (is_bound all) m) (flat_map (instance_faults around (is_bound all)) ms) e),
-    instances_bound around all ms (right_none (instance_faults around (is_bound all) m) (flat_map (instance_faults around (is_bound all)) ms) e))
+instances_bound around all (m ∷ ms) e = (
+  instance_bound around all m (left_none (instance_faults around (is_bound all) m) (flat_map (instance_faults around (is_bound all)) ms) e),
+  instances_bound around all ms (right_none (instance_faults around (is_bound all) m) (flat_map (instance_faults around (is_bound all)) ms) e),
+)
 
 -- the block of an instance
 abbrev pub instance_names : List Member → List (List ℕ)

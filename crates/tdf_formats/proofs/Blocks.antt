@@ -1,20 +1,19 @@
 -- In a model without a fault of links each port is bound to what has its tag.
-use Rattle.std.proofs.Common.{◌≡◌, ◌≢◌, ◌∙◌, ℕ, zero, suc, ◌+◌, ◌-◌, Bool, true, false, List, [], ◌∷◌, ◌++◌, Option, Some, None, length, map, refl, sym, ap, subst, true≢false, ◌||◌, arith}
+use Rattle.std.proofs.Common.{◌≡◌, ◌≢◌, ◌∙◌, ℕ, zero, suc, ◌+◌, Bool, true, false, List, [], ◌∷◌, ◌++◌, Option, Some, None, length, map, refl, sym, ap, subst, true≢false, ◌||◌, arith}
 use Rattle.std.proofs.lemmas.Cmp.{nat_list_eq_equiv}
 use Rattle.std.proofs.lemmas.List.{length_push}
 use Rattle.std.proofs.lemmas.List.Elements.{All-from_recursion}
 use Rattle.std.proofs.lemmas.Option.{same_Some, none-some}
 use Rattle.std.specs.Cmp.Lexicographic.{pointwise}
-use Rattle.std.specs.List.{AllByRecursion, AllZip, flat_map}
-use Rattle.std.specs.Prelude.{All, nat_eq, slice_get, slice_index_or}
+use Rattle.std.specs.List.{AllByRecursion, flat_map}
+use Rattle.std.specs.Prelude.{All, nat_eq, slice_get}
 use Rattle.tdf_flat.proofs.Api.{AreFormatted, formats_there}
 use Rattle.tdf_checks.specs.Types.{type_faults}
 use Rattle.tdf_formats.proofs.Bindings.{instance_names, instances_tagged, port_names}
 use Rattle.tdf_formats.proofs.Members.{pairs_of}
 use Rattle.tdf_formats.proofs.Spaces.{Differ, name_in}
 use Rattle.tdf_formats.specs.Tags.{KeepTags, Tag, block_tags, model_tags, port_tags, tags_at, target_tag}
-use Rattle.tdf_links.specs.Faults.{LinkFault}
-use Rattle.tdf_links.specs.Links.{composite_faults, faults_in, global_faults, globals_faults, link_faults}
+use Rattle.tdf_links.specs.Links.{composite_faults, global_faults, globals_faults, link_faults}
 use Rattle.tdf_links.specs.Ports.{Known, known_after, known_after_all, no_blocks, port_of_member, port_of_tdf_line, port_of_de_line, ports_named, ports_of_composite, ports_of_de, ports_of_tdf, with_block}
 use Rattle.tdf_names.specs.Law.{AreApart, DeclaresOnce, HasNamesOnce}
 use Rattle.tdf_names.specs.Names.{Name, has, names_of_de_line, names_of_de_lines, names_of_member, names_of_tdf_line, names_of_tdf_lines}
@@ -26,7 +25,6 @@ use Rattle.tdf_tree.specs.declared.blocks.Member.{Member}
 use Rattle.tdf_tree.specs.declared.blocks.Member.TheVariants as member
 use Rattle.tdf_tree.specs.declared.blocks.PortLine.{PortLine}
 use Rattle.tdf_walk.specs.Blocks.{InstanceOf, BlockOf}
-use Rattle.tdf_walk.specs.declared.blocks.Target.{Target}
 
 -- names that are apart differ
 left_false : (a b : Bool) → a || b ≡ false → a ≡ false
@@ -196,14 +194,14 @@ module _ (globals : Names) (tags : List (List (Option Tag))) where
       let differ = tdf_differ block.decls (apart_differ (names_of_tdf_lines block.decls) once.0) in (
         leaf_good (length known.ports) (ports_of_tdf block) b are.0,
         subst (λ k. AllGood k bs) (next_place known block.name (ports_of_tdf block))
-        (blocks_good (with_block block.name (ports_of_tdf block) known) gs bs all are.1 none once.1 has.1 (push_once known block.name (ports_of_tdf block) ports differ)),
+            (blocks_good (with_block block.name (ports_of_tdf block) known) gs bs all are.1 none once.1 has.1 (push_once known block.name (ports_of_tdf block) ports differ)),
       )
   blocks_good known (GDe block ∷ gs) [] all are none once has ports = absurd are
   blocks_good known (GDe block ∷ gs) (b ∷ bs) all are none once has ports =
       let differ = de_differ block.decls (apart_differ (names_of_de_lines block.decls) once.0) in (
         leaf_good (length known.ports) (ports_of_de block) b are.0,
         subst (λ k. AllGood k bs) (next_place known block.name (ports_of_de block))
-        (blocks_good (with_block block.name (ports_of_de block) known) gs bs all are.1 none once.1 has.1 (push_once known block.name (ports_of_de block) ports differ)),
+            (blocks_good (with_block block.name (ports_of_de block) known) gs bs all are.1 none once.1 has.1 (push_once known block.name (ports_of_de block) ports differ)),
       )
   blocks_good known (GNet block ∷ gs) [] all are none once has ports = absurd are
   blocks_good known (GNet block ∷ gs) (b ∷ bs) all are none once has ports =
@@ -213,9 +211,9 @@ module _ (globals : Names) (tags : List (List (Option Tag))) where
       let there : (k : ℕ) (ps : List PortLine) → slice_get next.ports k ≡ Some ps → tags_at tags k ≡ port_tags globals ps =
       λ k ps at. ap (λ (l : List (List (Option Tag))). tags_at l k) all ∙ tags_there globals (known_after_all gs next).ports k ps (stays gs next k ps at) in (
         composite_good known block b are.0 once.0 has.0 faults.0 ports (λ k ps at. there k ps (left_at known.ports (ports_of_composite block ∷ []) k ps at))
-        (length known.ports) (there (length known.ports) (ports_of_composite block) (pushed_at known.ports (ports_of_composite block))),
+            (length known.ports) (there (length known.ports) (ports_of_composite block) (pushed_at known.ports (ports_of_composite block))),
         subst (λ k. AllGood k bs) (next_place known block.name (ports_of_composite block))
-        (blocks_good next gs bs all are.1 faults.1 once.1 has.1 (push_once known block.name (ports_of_composite block) ports differ)),
+            (blocks_good next gs bs all are.1 faults.1 once.1 has.1 (push_once known block.name (ports_of_composite block) ports differ)),
       )
 
   good_at : (from : ℕ) (bs : List BlockOf) → AllGood from bs → (n : ℕ) (b : BlockOf) → slice_get bs n ≡ Some b → Good (from + n) b

@@ -1,5 +1,5 @@
 -- The ports of the modules of a flat model have the formats of their signals.
-use Rattle.std.proofs.Common.{◌≡◌, ◌∙◌, ℕ, zero, suc, ◌+◌, ◌-◌, ◌<◌, ◌≤◌, Bool, true, false, List, [], ◌∷◌, ◌++◌, Option, Some, None, length, map, refl, sym, ap, subst, arith}
+use Rattle.std.proofs.Common.{◌≡◌, ◌∙◌, ℕ, zero, suc, ◌+◌, ◌-◌, ◌≤◌, Bool, true, false, List, [], ◌∷◌, ◌++◌, Option, Some, None, length, map, refl, sym, ap, subst, arith}
 use Rattle.std.proofs.Common.{Ordering, Less, Equal, Greater}
 use Rattle.std.proofs.lemmas.Int.{ints}
 use Rattle.std.proofs.lemmas.List.{length_push}
@@ -10,17 +10,16 @@ use Rattle.std.specs.Cmp.Lexicographic.{pointwise}
 use Rattle.std.specs.List.{AllByRecursion, enumerate_from, flat_map}
 use Rattle.std.specs.Option.{option_map}
 use Rattle.std.specs.Ordering.{nat_cmp, match_ordering}
-use Rattle.std.specs.Prelude.{All, filter, if◌then◌else◌, nat_eq, pos, slice_get, slice_index_or, take}
+use Rattle.std.specs.Prelude.{filter, if◌then◌else◌, nat_eq, pos, slice_get, slice_index_or, take}
 use mathlib.Core.HLevel.{is_prop→PathP}
 use native.Mathlib.Bridge.{le_prop}
 use Rattle.tdf_base.specs.Number.{Numeral, numeral_of}
 use Rattle.tdf_expr.specs.Blocks.{Module as TdfBlock, Events, PureBlock, blocks_of, scope_of}
 use Rattle.tdf_expr.specs.Compiled.{AreBlocksOf, IsBlockOf}
 use Rattle.tdf_expr.specs.Frames.{IsOfFormat, limits_of_rate}
-use Rattle.tdf_expr.specs.Made.{port_spans_of, rate_spans_of, rates_in, spans_in}
+use Rattle.tdf_expr.specs.Made.{rates_in, spans_in}
 use Rattle.tdf_expr.specs.Plans.{PortPlace, place_of_port, port_places, rate_span, rate_spans, shape_of_format, written}
 use Rattle.tdf_expr.specs.declared.blocks.Block.{Block}
-use Rattle.tdf_expr.specs.declared.checked.Checked.{Checked}
 use Rattle.tdf_expr.specs.declared.spans.PortSpan.{PortSpan}
 use Rattle.tdf_fixed.proofs.Api.{in_range}
 use Rattle.tdf_fixed.specs.Overflow.{IsIn}
@@ -44,10 +43,9 @@ use Rattle.tdf_meaning.specs.Value.{literal_in, literal_number}
 use Rattle.tdf_names.specs.Law.{DeclaresOnce, HasNamesOnce, KeepsNamesOnce}
 use Rattle.tdf_names.specs.Names.{names_of_tdf_line, names_of_tdf_lines}
 use Rattle.tdf_resolve.specs.Resolved.{AreBlocks, AreResolved, whole}
-use Rattle.tdf_roles.specs.Roles.{initials_of_port, module_role, port_data, port_of, rate_in, rate_of_port, roles_from, roles_of, with_initial, with_initials}
+use Rattle.tdf_roles.specs.Roles.{initials_of_port, module_role, port_data, port_of, rate_in, roles_from, roles_of, with_initial, with_initials}
 use Rattle.tdf_scope.specs.Names.{Names, Thing, Port, RateVar, format_of, globals_of, tdf_names, thing_of}
-use Rattle.tdf_scope.specs.Scope.{Scope, greatest_of, least_of, tdf_scope}
-use Rattle.tdf_scope.specs.Sound.{HasFormat, IsSound}
+use Rattle.tdf_scope.specs.Scope.{Scope, greatest_of, tdf_scope}
 use Rattle.tdf_tree.specs.Kept.{Each}
 use Rattle.tdf_tree.specs.Pure.{PureComposite, PureGlobal, GShape, GTdf, GDe, GNet, PureTdf, PureTree}
 use Rattle.tdf_tree.specs.declared.blocks.Initial.{Initial}
@@ -63,7 +61,7 @@ use Rattle.tdf_walk.specs.declared.tables.Signal.{Signal}
 use Rattle.tdf_walk.specs.declared.tables.SignalNumber.{SignalNumber}
 use Rattle.tdf_wiring.specs.Drivers.{signal_row, signal_rows}
 use Rattle.tdf_wiring.specs.Edges.{is_event_port}
-use Rattle.tdf_wiring.specs.Modules.{PlacedModule, module_row, placed_modules, ports_from, signal_at}
+use Rattle.tdf_wiring.specs.Modules.{PlacedModule, module_row, placed_modules, ports_from}
 use Rattle.tdf_wiring.specs.Roles.{ModuleOf}
 use Rattle.tdf_wiring.specs.declared.drivers.SignalRow.{SignalRow}
 use Rattle.tdf_wiring.specs.declared.modules.ModuleRow.{ModuleRow}
@@ -71,7 +69,7 @@ use Rattle.tdf_wiring.specs.declared.modules.PortRow.{PortRow}
 use Rattle.tdf_wiring.specs.declared.roles.PortData.{PortData}
 use Rattle.tdf_wiring.specs.declared.roles.Rate.{Rate}
 use Rattle.tdf_wiring.specs.declared.roles.Role.{Role}
-use Rattle.tdf_wiring.specs.declared.roles.Role.TheVariants.{Module, Processes, Composite}
+use Rattle.tdf_wiring.specs.declared.roles.Role.TheVariants.{Module}
 use Rattle.tdf_wiring.specs.declared.writers.Writer.{Writer}
 
 -- the block of a module

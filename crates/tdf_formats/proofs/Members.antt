@@ -1,12 +1,11 @@
 -- What the names of a composite stand for, and what its targets carry.
-use Rattle.std.proofs.Common.{◌≡◌, ◌≢◌, ◌∙◌, ℕ, zero, suc, Bool, true, false, not, ◌&&◌, List, [], ◌∷◌, ◌++◌, Option, Some, None, map, refl, sym, ap, subst, true≢false, arith}
+use Rattle.std.proofs.Common.{◌≡◌, ◌∙◌, ℕ, zero, suc, Bool, true, false, not, ◌&&◌, List, [], ◌∷◌, Option, Some, None, map, refl, sym, ap, subst, true≢false, arith}
 use Rattle.std.proofs.lemmas.Bool.Decides.{nat_tests}
 use Rattle.std.proofs.lemmas.Option.{same_Some, none-some}
 use Rattle.std.specs.List.{AllByRecursion, AllZip, flat_map}
 use Rattle.std.specs.Option.{option_map}
 use Rattle.std.specs.Prelude.{nat_eq, slice_get, slice_index_or}
 use Rattle.tdf_expr.specs.Plans.{shape_of_format}
-use Rattle.tdf_fixed.specs.Cast.{IsLegal}
 use Rattle.tdf_fixed.specs.declared.format.Format.{Format}
 use Rattle.tdf_fixed.specs.declared.over.Over.{Over}
 use Rattle.tdf_fixed.specs.declared.over.Over.TheVariants as over
@@ -17,11 +16,9 @@ use Rattle.tdf_formats.specs.Tags.{Tag, line_tag, port_tag, port_tags, tag_with,
 use Rattle.tdf_links.specs.Agree.{agrees, fits, has_same_format, is_same_over, is_same_quant, is_same_shape, is_same_sign, is_same_word, is_samples, number_of_over, number_of_quant, number_of_word}
 use Rattle.tdf_links.specs.Ports.{port_of_member}
 use Rattle.tdf_resolve.specs.Signals.{Declared, IsFormatOf, IsSignal, declared_by, is_event}
-use Rattle.tdf_resolve.specs.Targets.{Inside, inside_of, name_of_signal, own_or_outer, target_named}
+use Rattle.tdf_resolve.specs.Targets.{inside_of, name_of_signal, own_or_outer, target_named}
 use Rattle.tdf_scope.specs.Names.{Names, Thing, Port, Signal, DeSignal, Instance, format_of, kind_of, no_names, place_in, shape_of, thing_of, with_members, with_name}
 use Rattle.tdf_scope.specs.Sound.{HasFormat}
-use Rattle.tdf_scope.specs.declared.kinds.Kind.{Kind}
-use Rattle.tdf_scope.specs.declared.kinds.Kind.TheVariants as kind
 use Rattle.tdf_tree.specs.declared.blocks.Member.{Member}
 use Rattle.tdf_tree.specs.declared.blocks.Member.TheVariants as member
 use Rattle.tdf_tree.specs.declared.blocks.PortKind.{PortKind}

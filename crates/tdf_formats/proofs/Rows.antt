@@ -5,7 +5,7 @@ use Rattle.std.proofs.lemmas.List.{length-append, take-append-le}
 use Rattle.std.proofs.lemmas.List.Elements.{filter-append}
 use Rattle.std.proofs.lemmas.Option.{same_Some, none-some}
 use Rattle.std.specs.List.{AllByRecursion, cons_option, enumerate_from}
-use Rattle.std.specs.Prelude.{filter, filter_map, nat_eq, nat_lt, slice_get, take}
+use Rattle.std.specs.Prelude.{filter, nat_eq, nat_lt, slice_get, take}
 use Rattle.tdf_formats.proofs.Walked.{IsTagged}
 use Rattle.tdf_formats.specs.Tags.{Tag}
 use Rattle.tdf_walk.specs.Tables.{RowOf, TablesOf}
@@ -117,9 +117,9 @@ pub row_port : (ms : List PlacedModule) (first : ℕ) (before : List PortRow) �
 row_port [] first before low number port at = absurd (none-some port at)
 row_port (m ∷ ms) first before low number port at =
     elim (split number (length own)) [
-      inl inside ↦ here inside
-    | inr past ↦ later past (row_port ms (first + 1) (before ++ own) (both_all (λ (p : PortRow). p.«module» < first + 1) before own (weaker (λ (p : PortRow). p.«module» < first) (λ (p : PortRow). p.«module» < first + 1) (λ p l. omega (arith, l)) before low)
-      (weaker (λ (p : PortRow). p.«module» ≡ first) (λ (p : PortRow). p.«module» < first + 1) (λ p l. omega (arith, l)) own modules)) (number - length own) port (sym (past_left own rest number past) ∙ at))
+      | inl inside ↦ here inside
+      | inr past ↦ later past (row_port ms (first + 1) (before ++ own) (both_all (λ (p : PortRow). p.«module» < first + 1) before own (weaker (λ (p : PortRow). p.«module» < first) (λ (p : PortRow). p.«module» < first + 1) (λ p l. omega (arith, l)) before low)
+          (weaker (λ (p : PortRow). p.«module» ≡ first) (λ (p : PortRow). p.«module» < first + 1) (λ p l. omega (arith, l)) own modules)) (number - length own) port (sym (past_left own rest number past) ∙ at))
     ]
   where
     own : List PortRow

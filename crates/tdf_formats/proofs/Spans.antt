@@ -1,9 +1,8 @@
 -- The places of the ports of a module's block, by the lines that declare them.
-use Rattle.std.proofs.Common.{◌≡◌, ◌∙◌, ℕ, zero, suc, ◌+◌, ◌*◌, ◌≤◌, List, [], ◌∷◌, ◌++◌, Option, Some, None, map, refl, sym, ap, subst, arith}
+use Rattle.std.proofs.Common.{◌≡◌, ◌∙◌, ℕ, zero, suc, ◌+◌, ◌*◌, ◌≤◌, List, [], ◌∷◌, Option, Some, None, map, refl, sym, ap, subst, arith}
 use Rattle.std.proofs.Math.Nat.{mul-le-mul_left}
 use Rattle.std.proofs.lemmas.Option.{same_Some, none-some}
 use Rattle.std.specs.List.{flat_map}
-use Rattle.std.specs.Option.{option_map}
 use Rattle.std.specs.Prelude.{slice_get, slice_index, slice_set}
 use Rattle.tdf_expr.specs.Plans.{PortPlace, places_from}
 use Rattle.tdf_formats.proofs.Spaces.{Differ, Pair, name_in, pair, pairs_plain, place_is, thing_in, with_pairs}
@@ -14,7 +13,7 @@ use Rattle.tdf_meaning.specs.Fits.{RatesFit}
 use Rattle.tdf_meaning.specs.Places.{rate_limits, rate_number}
 use Rattle.tdf_names.specs.Names.{names_of_tdf_line, name_of_store}
 use Rattle.tdf_roles.specs.Roles.{rate_in, variable_at, variable_of}
-use Rattle.tdf_scope.specs.Names.{Names, Thing, Const, Var, Array, Port, RateVar, Event, Signal, DeSignal, Instance, Loop, TypeName, Tdf, De, Composite, at_delay, at_place, at_rate, changed, changed_at, format_of, no_names, place_of, tdf_names, thing_of, with_attr, with_attrs, with_name, with_store, with_tdf_line, with_tdf_lines}
+use Rattle.tdf_scope.specs.Names.{Names, Thing, Const, Var, Array, Port, RateVar, Event, Signal, DeSignal, Instance, Loop, TypeName, Tdf, De, Composite, at_delay, at_place, at_rate, changed, changed_at, format_of, no_names, place_of, tdf_names, thing_of, with_attr, with_attrs, with_name, with_store, with_tdf_lines}
 use Rattle.tdf_scope.specs.Scope.{greatest_of, greatest_rate}
 use Rattle.tdf_tree.specs.Pure.{PureStore, SConst, SVar, SArray, PureTdf, PureTdfLine, TPort, TStore, TRate}
 use Rattle.tdf_tree.specs.declared.blocks.Attr.{Attr}

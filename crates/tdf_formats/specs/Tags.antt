@@ -1,10 +1,10 @@
 -- What a port or signal carries: events or samples, and values of which format.
 -- Source: own.
 use Rattle.std.specs.Option.{option_map}
-use Rattle.std.specs.Prelude.{◌≡◌, ℕ, Bool, true, false, List, [], ◌∷◌, map, Option, Some, None}
+use Rattle.std.specs.Prelude.{◌≡◌, ℕ, Bool, List, [], map, Option, Some, None}
 use Rattle.std.specs.Prelude.{slice_get, slice_index_or, All}
 use Rattle.tdf_expr.specs.Plans.{shape_of_format}
-use Rattle.tdf_links.specs.Ports.{Known, no_blocks, known_after_all}
+use Rattle.tdf_links.specs.Ports.{no_blocks, known_after_all}
 use Rattle.tdf_scope.specs.Names.{Names, format_of, globals_of}
 use Rattle.tdf_resolve.specs.Resolved.{whole}
 use Rattle.tdf_tree.specs.Pure.{PureTree}

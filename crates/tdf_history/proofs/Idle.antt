@@ -1,14 +1,12 @@
 -- Where nothing is ever due, nothing happens.
-use Rattle.std.proofs.Common.{◌≡◌, ◌∙◌, ℕ, zero, suc, ◌+◌, ◌<◌, ◌≤◌, Bool, false, true, List, [], refl, ap, arith, subst, sym}
+use Rattle.std.proofs.Common.{◌≡◌, ◌∙◌, ℕ, ◌+◌, false, List, [], ap, arith, sym}
 use Rattle.std.specs.List.{list_any}
-use Rattle.std.specs.Prelude.{◌||◌, if◌then◌else◌}
-use Rattle.tdf_flat.specs.declared.model.Flat.{Flat}
-use Rattle.tdf_history.specs.Instant.{RunFault, engine, instant, is_cluster_due, is_due}
+use Rattle.std.specs.Prelude.{◌||◌}
+use Rattle.tdf_history.specs.Instant.{engine, is_cluster_due, is_due}
 use Rattle.tdf_history.specs.Laws.{IdleStaysOn}
 use Rattle.tdf_history.specs.World.{ClusterAt, Rules, World}
 use Rattle.tdf_instants.proofs.Api.{skipped, starts}
-use Rattle.tdf_instants.specs.History.{On, history}
-use Rattle.tdf_tree.specs.Pure.{PureTree}
+use Rattle.tdf_instants.specs.History.{history}
 
 none_due : (rules : Rules ℕ) (start : World ℕ) → start.clusters ≡ [] → (t : ℕ) → rules.event_side.is_due start.events t ≡ false → is_due rules start t ≡ false
 none_due rules start none t quiet = ap (λ (l : List ClusterAt). list_any (is_cluster_due t) l || rules.event_side.is_due start.events t) none ∙ quiet

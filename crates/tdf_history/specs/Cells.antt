@@ -1,13 +1,10 @@
 -- The cells of a trace that a history gives.
 -- Source: own.
 use Rattle.std.specs.Ordering.{int_eq}
-use Rattle.std.specs.Prelude.{ℕ, suc, ◌+◌, ◌-◌, ◌*◌, Bool, true, false, ◌&&◌, nat_eq, nat_lt}
-use Rattle.std.specs.Prelude.{if◌then◌else◌, Option, Some, None, option_map, List, [], ◌∷◌, ◌++◌}
+use Rattle.std.specs.Prelude.{ℕ, ◌+◌, ◌-◌, ◌*◌, Bool, ◌&&◌, nat_eq, nat_lt}
+use Rattle.std.specs.Prelude.{if◌then◌else◌, Option, Some, None, option_map, List, [], ◌∷◌}
 use Rattle.std.specs.Prelude.{length, slice_get, slice_index, slice_index_or}
 use Rattle.std.specs.List.{sum_by}
-use Rattle.std.specs.Option.{option_and_then}
-use Rattle.tdf_bind.specs.Actors.{cluster_of}
-use Rattle.tdf_bind.specs.Flat.{FlatOf}
 use Rattle.tdf_dynamic.specs.Attributes.{clusters_of}
 use Rattle.tdf_fixed.specs.declared.raw.Raw.{Raw}
 use Rattle.tdf_flat.specs.declared.model.Flat.{Flat}

@@ -4,10 +4,9 @@
 -- evaluation and update phases of IEEE 1666-2011, 4.2.
 use Rattle.std.specs.List.{list_any}
 use Rattle.std.specs.Prelude.{ℕ, zero, suc, ◌+◌, ◌-◌, Bool, true, false, ◌&&◌, ◌||◌, nat_eq, if◌then◌else◌}
-use Rattle.std.specs.Prelude.{Option, Some, None, List, [], ◌∷◌, ◌++◌, length, slice_get, slice_index}
-use Rattle.std.specs.Prelude.{slice_index_or, slice_set, sum_by, unwrap_or, ℤ, pos}
+use Rattle.std.specs.Prelude.{Option, Some, None, List, [], ◌∷◌, ◌++◌, length, slice_get}
+use Rattle.std.specs.Prelude.{slice_index_or, slice_set, sum_by, unwrap_or}
 use Rattle.tdf_base.specs.declared.faults.Fault.{Fault}
-use Rattle.tdf_bind.specs.Actors.{cluster_of}
 use Rattle.tdf_bind.specs.Flat.{FlatOf}
 use Rattle.tdf_bind.specs.declared.actors.ActorRow.{ActorRow}
 use Rattle.tdf_dynamic.specs.Attributes.{AttrsOf}
@@ -18,7 +17,7 @@ use Rattle.tdf_flow.specs.Streams.{known, place}
 use Rattle.tdf_flow.specs.Grounds.{firings}
 use Rattle.tdf_graph.specs.declared.actors.Actor.{Actor}
 use Rattle.tdf_graph.specs.declared.actors.Actor.TheVariants as actor
-use Rattle.tdf_history.specs.World.{Change, ClusterAt, EventSide, New, Refused, Rules, Same, Settled}
+use Rattle.tdf_history.specs.World.{Change, ClusterAt, New, Refused, Rules, Same, Settled}
 use Rattle.tdf_history.specs.World.{SinkWrite, World}
 use Rattle.tdf_instants.specs.History.{Engine, Fault as Faulted, Going, Past, Step, and_then, turns_to}
 use Rattle.tdf_schedule.specs.Plan.{done}

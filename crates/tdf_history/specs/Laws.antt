@@ -1,8 +1,8 @@
 -- What holds of the histories of models.
 -- Source: own.
-use Rattle.std.specs.Prelude.{◌≡◌, ℕ, ◌<◌, ◌≤◌, Bool, false, List, [], codes, ◌++◌}
+use Rattle.std.specs.Prelude.{◌≡◌, ℕ, false, []}
 use Rattle.tdf_flat.specs.declared.model.Flat.{Flat}
-use Rattle.tdf_history.specs.Instant.{RunFault, engine}
+use Rattle.tdf_history.specs.Instant.{engine}
 use Rattle.tdf_history.specs.World.{Rules, World}
 use Rattle.tdf_instants.specs.History.{On, history}
 use Rattle.tdf_tree.specs.Pure.{PureTree}

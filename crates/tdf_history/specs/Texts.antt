@@ -1,7 +1,7 @@
 -- What a run writes: the trace of its history, and its notes.
 -- Source: own.
 use Rattle.std.specs.Fmt.{decimal}
-use Rattle.std.specs.List.{enumerate_from, flat_map, range_with_len}
+use Rattle.std.specs.List.{flat_map, range_with_len}
 use Rattle.std.specs.Prelude.{ℕ, zero, suc, ◌+◌, ◌-◌, if◌then◌else◌, Option, Some, None, List, []}
 use Rattle.std.specs.Prelude.{◌++◌, codes, length, slice_get}
 use Rattle.tdf_base.specs.Fault.{fault_text}

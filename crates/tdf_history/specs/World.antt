@@ -1,9 +1,8 @@
 -- What there is at a time of a run: for each cluster its attributes, its plan, how far it is, and
 -- what its periods were; the event side; and the turns that are left.
 -- Source: own; clusters in a discrete-event run after IEEE 1666.1-2016.
-use Rattle.std.specs.Prelude.{ℕ, Bool, ◌+◌, List, [], Option, Some, None, map}
+use Rattle.std.specs.Prelude.{ℕ, Bool, List, Option}
 use Rattle.tdf_base.specs.declared.faults.Fault.{Fault}
-use Rattle.tdf_bind.specs.Flat.{FlatOf}
 use Rattle.tdf_dynamic.specs.Attributes.{AttrsOf}
 use Rattle.tdf_fixed.specs.declared.raw.Raw.{Raw}
 use Rattle.tdf_schedule.specs.declared.entry.Entry.{Entry}

@@ -1,5 +1,5 @@
 -- From one instant to the next, and the three ends of a history.
-use Rattle.std.proofs.Common.{◌≡◌, ℕ, zero, suc, ◌+◌, ◌-◌, ◌<◌, ◌≤◌, Bool, true, false, refl, ap, sym, ◌∙◌, subst, arith, add-one}
+use Rattle.std.proofs.Common.{◌≡◌, ℕ, zero, suc, ◌+◌, ◌-◌, ◌<◌, ◌≤◌, Bool, true, false, refl, ap, sym, ◌∙◌, subst, arith}
 use Rattle.std.specs.Prelude.{if◌then◌else◌}
 use Rattle.tdf_instants.specs.History.{Engine, Step, Going, Fault, Past, State, On, Stopped, Spent, after, end_time, history, state_of}
 use Rattle.tdf_instants.specs.Laws.{IsNextTime, IsOn}

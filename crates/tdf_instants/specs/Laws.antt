@@ -2,7 +2,7 @@
 -- that show it are about all types.
 -- Source: own.
 use Rattle.std.specs.Prelude.{◌≡◌, ℕ, ◌+◌, ◌-◌, ◌<◌, ◌≤◌, true, false}
-use Rattle.tdf_instants.specs.History.{Engine, Step, Fault, Going, Past, State, On, Stopped, Spent}
+use Rattle.tdf_instants.specs.History.{Engine, Step, Fault, Going, Past, On, Stopped, Spent}
 use Rattle.tdf_instants.specs.History.{end_time, history, state_of, turns_to}
 
 module _ {W F : Type 0} where

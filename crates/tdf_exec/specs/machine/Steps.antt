@@ -4,7 +4,11 @@ use Rattle.std.specs.List.{All, count_by}
 use Rattle.std.specs.Prelude.{◌≡◌, ℕ, ◌+◌, ◌<◌, ◌++◌, if◌then◌else◌, nat_eq, List, [], length, drop}
 use Rattle.std.specs.Prelude.{◌≤◌, Some, slice_get, slice_index}
 use Rattle.tdf_bind.specs.Flat.{FlatOf}
+use Rattle.tdf_convert.specs.Outputs.{OutputsOf}
+use Rattle.tdf_convert.specs.declared.outputs.Sent.{Sent}
+use Rattle.tdf_convert.specs.declared.outputs.Traced.{Traced}
 use Rattle.tdf_exec.specs.Cluster.{ClusterOf}
+use Rattle.tdf_exec.specs.Gained.{Gives, HasGained, HaveRoom, sent_size, traced_size, with_gains}
 use Rattle.tdf_exec.specs.Made.{IsClusterOf, edge_format, is_sampler}
 use Rattle.tdf_exec.specs.Played.{AreGiven, HasPlayed, IsLike, IsMoved, IsPeriodOf, counted, play_of}
 use Rattle.tdf_exec.specs.Runners.{SamplerOf}
@@ -15,7 +19,6 @@ use Rattle.tdf_expr.specs.Frames.{IsOfFormat}
 use Rattle.tdf_fixed.specs.declared.format.Format.{Format}
 use Rattle.tdf_fixed.specs.declared.raw.Raw.{Raw}
 use Rattle.tdf_flat.specs.declared.model.Flat.{Flat}
-use Rattle.tdf_flow.specs.Playing.{IsStep}
 use Rattle.tdf_layout.specs.Wiring.{Writes}
 use Rattle.tdf_rings.specs.Carried.{ring_at}
 use Rattle.tdf_rings.specs.Rings.{RingOf, ring_of}
@@ -61,17 +64,26 @@ pub record AreMovedBy (tables : FlatOf) (c : ClusterOf) (m : ℕ) (given : ℕ �
   pub formats : (e : ℕ) (f : Format) → e < length tables.edges → edge_format tables e ≡ Some f
       → writer_at tables.edges e ≡ m → All (IsOfFormat f) (given e)
 
--- a step of the streams, whatever they are
-abbrev pub IsAnyStep : Flat → (inputs : List Raw) → (c d : ClusterOf) → Entry → Type 0
-IsAnyStep flat inputs c d x = (model : PureTree) (start : Start) (old : List PeriodRecord)
+-- the outputs have room for what the next entry gives
+pub record HasRoomNext (c : ClusterOf) (outputs : OutputsOf) : Type 0 where
+  pub sent : (x : Entry) → slice_get c.entries c.place ≡ Some x
+      → length outputs.sent + sent_size (slice_get c.runners x.actor) ≤ outputs.sent_room
+  pub traced : (x : Entry) → slice_get c.entries c.place ≡ Some x
+      → length outputs.traced + traced_size (slice_get c.runners x.actor) ≤ outputs.traced_room
+
+-- a step of the streams, whatever they are, with what it gives
+abbrev pub IsAnyStep : Flat → (inputs : List Raw) → (c d : ClusterOf) → Entry → List Sent
+    → List Traced → Type 0
+IsAnyStep flat inputs c d x sent traced = (model : PureTree) (start : Start) (old : List PeriodRecord)
     → (p : PeriodRecord) (reads : ℕ → List Raw) (from : ℕ)
     → IsCheckedOf model flat.checked → IsPeriodOf c from p
     → AreGiven c inputs reads old from c.place x
-    → IsStep (cluster_net model flat c.number start) old p reads x.actor (play_of from c)
-    (play_of from d)
+    → Gives flat (cluster_net model flat c.number start) old p reads x.actor (play_of from c)
+    (play_of from d) sent traced
 
 -- the next entry is done, as a step of the streams
-pub record HasStepped (flat : Flat) (inputs : List Raw) (c d : ClusterOf) : Type 0 where
+pub record HasStepped (flat : Flat) (inputs : List Raw) (c d : ClusterOf)
+    (before after : OutputsOf) : Type 0 where
   pub entry : Entry
   pub at : slice_get c.entries c.place ≡ Some entry
   pub rest : d ≡ with_parts c (c.place + 1) d.rings d.runners d.positions
@@ -80,13 +92,21 @@ pub record HasStepped (flat : Flat) (inputs : List Raw) (c d : ClusterOf) : Type
   pub same : length d.positions ≡ length c.positions
   pub own : slice_index d.positions entry.actor ≡ counted (slice_index c.positions entry.actor + 1)
   pub others : (m : ℕ) → (m ≡ entry.actor → ⊥) → slice_index d.positions m ≡ slice_index c.positions m
-  pub step : IsAnyStep flat inputs c d entry
+  pub sent : List Sent
+  pub traced : List Traced
+  pub gains : after ≡ with_gains before sent traced
+  pub few_sent : length sent ≡ sent_size (slice_get c.runners entry.actor)
+  pub few_traced : length traced ≡ traced_size (slice_get c.runners entry.actor)
+  pub step : IsAnyStep flat inputs c d entry sent traced
 
 -- entries of an offset are done, from one place of the plan to another
-pub record ArePlayed (flat : Flat) (offset : ℕ) (inputs : List Raw) (c d : ClusterOf) : Type 0 where
+pub record ArePlayed (flat : Flat) (offset : ℕ) (inputs : List Raw) (c d : ClusterOf)
+    (before after : OutputsOf) : Type 0 where
   pub of : IsClusterOf flat d
   pub many : length inputs ≡ count_by is_sampler d.runners
   pub moved : IsMoved c d
   pub each : (i : ℕ) (x : Entry) → c.place ≤ i → i < d.place → slice_get c.entries i ≡ Some x
       → x.offset ≡ offset
   pub played : HasPlayed flat offset inputs c d
+  pub gained : HasGained flat offset inputs c d before after
+  pub room : HaveRoom offset d after

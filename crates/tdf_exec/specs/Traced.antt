@@ -1,0 +1,80 @@
+-- The ports of a module whose signals are traced, and their samples of one activation.
+-- Source: own.
+use Rattle.std.specs.List.{enumerate_from, list_any, range_with_len, sum_by}
+use Rattle.std.specs.Prelude.{ℕ, ◌&&◌, not, Bool, true, false, if◌then◌else◌, nat_eq, List, map}
+use Rattle.std.specs.Prelude.{Option, Some, None, filter_map, slice_get, ℤ}
+use Rattle.tdf_bind.specs.Flat.{FlatOf}
+use Rattle.tdf_convert.specs.declared.outputs.Traced.{Traced}
+use Rattle.tdf_dynamic.specs.Attributes.{AttrsOf}
+use Rattle.tdf_dynamic.specs.Rates.{port_rate}
+use Rattle.tdf_exec.specs.declared.runners.TracedPort.{TracedPort}
+use Rattle.tdf_expr.specs.Frames.{PortsSeen}
+use Rattle.tdf_firing.specs.Activation.{sample_at}
+use Rattle.tdf_fixed.specs.declared.raw.Raw.{Raw}
+use Rattle.tdf_flow.specs.Net.{Turn}
+use Rattle.tdf_streams.specs.Places.{place_of_port}
+use Rattle.tdf_tree.specs.declared.blocks.PortKind.{PortKind}
+use Rattle.tdf_tree.specs.declared.blocks.PortKind.TheVariants.{In, Out, DeIn, DeOut}
+use Rattle.tdf_wiring.specs.declared.modules.PortRow.{PortRow}
+use Rattle.tdf_wiring.specs.declared.traces.TraceRow.{TraceRow}
+
+abbrev pub is_out : PortKind → Bool
+is_out In = false
+is_out Out = true
+is_out DeIn = false
+is_out DeOut = false
+
+-- whether a trace is that of a signal of samples
+abbrev pub is_trace_of : (signal : ℕ) → TraceRow → Bool
+is_trace_of signal row = not row.event && nat_eq row.signal signal
+
+-- whether a port is one of module m that writes a signal of samples which is traced
+abbrev pub is_traced : FlatOf → ℕ → PortRow → Bool
+is_traced tables m port = nat_eq port.«module» m
+    && (is_out port.kind && list_any (is_trace_of port.signal) tables.traces)
+
+abbrev pub number_if_traced : FlatOf → ℕ → ℕ → PortRow → Option ℕ
+number_if_traced tables m number port = if is_traced tables m port then Some number else None
+
+-- the numbers of these ports of a module
+abbrev pub traced_ports : FlatOf → ℕ → List ℕ
+traced_ports tables m = filter_map (λ port. number_if_traced tables m port.0 port.1)
+    (enumerate_from 0 tables.ports)
+
+abbrev pub signal_of_row : Option PortRow → ℕ
+signal_of_row None = 0
+signal_of_row (Some port) = port.signal
+
+abbrev pub rate_of_row : List AttrsOf → Option PortRow → ℕ
+rate_of_row table None = 0
+rate_of_row table (Some port) = port_rate table port
+
+-- a port of this number, as it is kept for its module
+abbrev pub traced_port : FlatOf → List AttrsOf → ℕ → TracedPort
+traced_port tables table number = record {
+  port = place_of_port tables.ports number;
+  signal = signal_of_row (slice_get tables.ports number);
+  rate = rate_of_row table (slice_get tables.ports number);
+}
+
+abbrev pub traced_sample : (signal : ℕ) → Raw → Traced
+traced_sample signal value = record { signal = signal; value = value }
+
+-- the first samples of such a port in its ports, and all of an activation
+abbrev pub first_samples : PortsSeen → TracedPort → ℕ → List Traced
+first_samples ports t count =
+    map (λ k. traced_sample t.signal (sample_at ports.spans ports.state.samples t.port k))
+    (range_with_len 0 count)
+
+abbrev pub port_samples : PortsSeen → TracedPort → List Traced
+port_samples ports t = first_samples ports t t.rate
+
+-- its samples in an activation of its module, in a period with this table
+abbrev pub turn_samples : FlatOf → List AttrsOf → Turn (List ℤ) Raw → ℕ → List Traced
+turn_samples tables table turn number =
+    map (λ k. traced_sample (signal_of_row (slice_get tables.ports number)) (turn.outputs number k))
+    (range_with_len 0 (rate_of_row table (slice_get tables.ports number)))
+
+-- how many they are in all
+abbrev pub traced_count : List TracedPort → ℕ
+traced_count list = sum_by (λ (t : TracedPort). t.rate) list
