@@ -1,4 +1,5 @@
 mod Acting
+mod Begins
 mod Counting
 mod Gains
 mod Giving
@@ -6,5 +7,6 @@ mod Keeping
 mod Moved
 mod Nexts
 mod Playing
+mod Rates
 mod Runs
 mod Stepping

@@ -4,5 +4,6 @@ pub mod Gained
 pub mod Made
 pub mod Played
 pub mod Runners
+pub mod Starts
 pub mod Traced
 pub mod machine

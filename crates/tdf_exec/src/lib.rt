@@ -2,9 +2,15 @@
 //!
 //! - `runners`: what each actor needs to fire, and one firing.
 //! - `cluster`: a cluster in progress, and its calls.
+//! - `rating`: the rates in force, by edge.
+//! - `filling`: the rings of a cluster at its start.
+//! - `beginning`: what its actors keep at its start.
 #![tactic(auto)]
 
+mod beginning;
 mod cluster;
+mod filling;
+mod rating;
 mod runners;
 
 pub use cluster::Cluster;
