@@ -1,5 +1,5 @@
 -- What the actors of a cluster keep at its start.
-use Rattle.std.proofs.Common.{◌≡◌, ◌∙◌, ◌≢◌, ℕ, zero, ◌+◌, ◌-◌, ◌<◌, ◌≤◌, Bool, true, false, if◌then◌else◌, List, [], ◌∷◌, ◌++◌, Option, Some, None, ℤ, pos}
+use Rattle.std.proofs.Common.{◌≡◌, ◌∙◌, ℕ, ◌+◌, ◌-◌, ◌<◌, ◌≤◌, Bool, true, false, if◌then◌else◌, List, [], ◌∷◌, ◌++◌, Some, None, pos}
 use Rattle.std.proofs.Common.{length, length-append, length-set, take, refl, sym, ap, subst, inl, inr, ◌⊎◌, arith}
 use Rattle.std.proofs.Math.Seq.{take-append_seam, take-nil}
 use Rattle.std.proofs.lemmas.Bool.{cases_lt}
@@ -13,27 +13,26 @@ use Rattle.tdf_exec.proofs.Keeping.{get_set_other}
 use Rattle.tdf_exec.proofs.Moved.{some_inj}
 use Rattle.tdf_exec.proofs.Nexts.{get_read}
 use Rattle.tdf_exec.specs.Made.{is_sampler, samplers_before}
-use Rattle.tdf_exec.specs.Runners.{ModuleOf}
 use Rattle.tdf_exec.specs.declared.runners.Runner.{Runner}
 use Rattle.tdf_exec.specs.declared.runners.TracedPort.{TracedPort}
 use Rattle.tdf_exec.specs.machine.Starting.{AreFirstRunners, CanBegin, IsBegun, IsFirstRunner}
-use Rattle.tdf_expr.specs.Blocks.{PureBlock, blocks_of, body_of}
+use Rattle.tdf_expr.specs.Blocks.{PureBlock, blocks_of}
 use Rattle.tdf_expr.specs.Checked.{IsCheckedOf}
 use Rattle.tdf_expr.specs.Frames.{ArePortsFit, FrameSeen, KeepsRead, PortsSeen, sample_formats}
-use Rattle.tdf_expr.specs.Made.{AreMadeFor, event_count, port_spans_of, sample_count, start_cells, start_rates}
+use Rattle.tdf_expr.specs.Made.{AreMadeFor, event_count, port_spans_of, start_cells, start_rates}
 use Rattle.tdf_expr.specs.Plans.{written}
-use Rattle.tdf_expr.specs.Runs.{Ran, scope_in}
+use Rattle.tdf_expr.specs.Runs.{Ran}
 use Rattle.tdf_expr.specs.declared.bodies.Body.TheVariants.{Initialize}
 use Rattle.tdf_expr.specs.declared.spans.PortSpan.{PortSpan}
 use Rattle.tdf_firing.specs.Activation.{port_samples, ports_before, samples_from}
-use Rattle.tdf_firing.specs.Firing.{AreZerosBehind, BeginReady}
+use Rattle.tdf_firing.specs.Firing.{BeginReady}
 use Rattle.tdf_firing.specs.Wires.{WiresOf}
 use Rattle.tdf_flat.specs.declared.model.Flat.{Flat}
 use Rattle.tdf_flow.proofs.Api.{get_high, get_low}
 use Rattle.tdf_layout.specs.declared.wiring.ActorWires.{ActorWires}
-use Rattle.tdf_state.specs.State.{FrameState, PortsState, State, state_of}
+use Rattle.tdf_state.specs.State.{State, state_of}
 use Rattle.tdf_streams.specs.Bodies.{after_part, done_by, initialized, nothing_read}
-use Rattle.tdf_streams.specs.Places.{block_at, block_of_row}
+use Rattle.tdf_streams.specs.Places.{block_of_row}
 use Rattle.tdf_tree.specs.Pure.{PureTree}
 use Rattle.tdf_wiring.specs.declared.modules.ModuleRow.{ModuleRow}
 

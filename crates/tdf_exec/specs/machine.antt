@@ -1,3 +1,5 @@
 -- How the code of this crate works.
+pub mod Laid
 pub mod Starting
 pub mod Steps
+pub mod Tracing

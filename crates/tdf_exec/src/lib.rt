@@ -5,6 +5,8 @@
 //! - `rating`: the rates in force, by edge.
 //! - `filling`: the rings of a cluster at its start.
 //! - `beginning`: what its actors keep at its start.
+//! - `starting`: a cluster at the start of its first period.
+//! - `tracing`: the ports of modules whose signals are traced.
 #![tactic(auto)]
 
 mod beginning;
@@ -12,6 +14,8 @@ mod cluster;
 mod filling;
 mod rating;
 mod runners;
+mod starting;
+mod tracing;
 
 pub use cluster::Cluster;
 pub use runners::{ModuleRunner, Runner, SamplerRunner, SinkRunner, TracedPort};
