@@ -76,11 +76,11 @@ module _ (flat : Flat) (laid : IsLaid flat) (cluster : ℕ) (ws : List ActorWire
 true_false : {P : Type 0} → true ≡ false → P
 true_false h = absurd (subst (λ b. elim b as (λ _. Type 0) [ true ↦ Unit {0} | false ↦ ⊥ ]) h tt)
 
-neither : (a b : Bool) → (a || b) ≡ false → (a ≡ false) × (b ≡ false)
+pub neither : (a b : Bool) → (a || b) ≡ false → (a ≡ false) × (b ≡ false)
 neither true b h = true_false h
 neither false b h = (refl, h)
 
-not_not : (b : Bool) → not b ≡ false → b ≡ true
+pub not_not : (b : Bool) → not b ≡ false → b ≡ true
 not_not true h = refl
 not_not false h = true_false h
 

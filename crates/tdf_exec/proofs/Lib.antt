@@ -1,6 +1,7 @@
 mod Acting
 mod Begins
 mod Counting
+mod Crosses
 mod Ends
 mod Formed
 mod Gains

@@ -55,7 +55,7 @@ start_of cluster first reads writes rings runners positions = record {
 }
 
 -- none passes before a place, where none passes
-none_before : {A : Type 0} (p : A → Bool) (xs : List A) (i : ℕ) → ((j : ℕ) (x : A) → slice_get xs j ≡ Some x → p x ≡ false) → count_by p (take i xs) ≡ 0
+pub none_before : {A : Type 0} (p : A → Bool) (xs : List A) (i : ℕ) → ((j : ℕ) (x : A) → slice_get xs j ≡ Some x → p x ≡ false) → count_by p (take i xs) ≡ 0
 none_before p xs zero none = refl
 none_before p [] (suc i) none = refl
 none_before p (x ∷ xs) (suc i) none =

@@ -1,4 +1,5 @@
 pub mod Cluster
+pub mod Crossing
 pub mod Fired
 pub mod Gained
 pub mod Made

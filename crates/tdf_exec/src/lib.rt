@@ -6,11 +6,13 @@
 //! - `filling`: the rings of a cluster at its start.
 //! - `beginning`: what its actors keep at its start.
 //! - `starting`: a cluster at the start of its first period.
+//! - `crossing`: from the end of a period to the next.
 //! - `tracing`: the ports of modules whose signals are traced.
 #![tactic(auto)]
 
 mod beginning;
 mod cluster;
+mod crossing;
 mod filling;
 mod rating;
 mod runners;
@@ -18,4 +20,5 @@ mod starting;
 mod tracing;
 
 pub use cluster::Cluster;
+pub use crossing::Next;
 pub use runners::{ModuleRunner, Runner, SamplerRunner, SinkRunner, TracedPort};
