@@ -1,33 +1,37 @@
 -- A cluster at another place of its plan, and at the end of a period.
-use Rattle.std.proofs.Common.{◌≡◌, ◌∙◌, ℕ, zero, suc, ◌+◌, ◌-◌, ◌<◌, ◌≤◌, ◌||◌, Bool, true, false, if◌then◌else◌, nat_eq, List, [], ◌∷◌, ◌++◌, Option, Some, None, option_map, ℤ}
-use Rattle.std.proofs.Common.{length, map, take, refl, sym, ap, subst, inl, inr, ◌⊎◌, arith}
+use Rattle.std.proofs.Common.{◌≡◌, ◌∙◌, ℕ, ◌+◌, ◌*◌, ◌<◌, ◌≤◌, Bool, true, false, if◌then◌else◌, nat_eq, List, [], ◌∷◌, ◌++◌, None, ℤ}
+use Rattle.std.proofs.Common.{length, refl, sym, ap, inl, inr, ◌⊎◌, arith}
 use Rattle.std.proofs.lemmas.Bool.{cases_lt, eqb-true, ne_eqb}
-use Rattle.std.proofs.lemmas.List.{get_or_past}
+use Rattle.std.proofs.lemmas.List.{get_or_past, length-map}
 use Rattle.std.proofs.lemmas.List.FromFn.{length-map-range_with_len}
 use Rattle.std.proofs.lemmas.Option.{get_or_from_slice_get, slice_get_past}
 use Rattle.std.specs.List.{range_with_len}
-use Rattle.std.specs.Prelude.{slice_get, slice_index}
+use Rattle.std.specs.Prelude.{slice_index}
 use Rattle.tdf_dynamic.specs.Attributes.{clusters_of}
-use Rattle.tdf_exec.proofs.Kept.{neither, not_not}
-use Rattle.tdf_exec.proofs.Planned.{none_before}
+use Rattle.tdf_exec.proofs.Kept.{neither, not_not, zero_in}
+use Rattle.tdf_exec.proofs.Planned.{no_times, none_before}
 use Rattle.tdf_exec.specs.Cluster.{ClusterOf, next_offset, offset_in}
-use Rattle.tdf_exec.specs.Crossing.{CrossesFrom, HasNoChanges, at_place}
-use Rattle.tdf_exec.specs.Made.{AreHeld, IsClusterOf, IsModuleOf, IsRunnerOf, IsSafe}
-use Rattle.tdf_exec.specs.Played.{IsPeriodOf, play_of, turns_from}
-use Rattle.tdf_exec.specs.Runners.{ModuleOf}
+use Rattle.tdf_exec.specs.Crossing.{CrossesFrom, HasNoChanges, StandsAtNext, at_place}
+use Rattle.tdf_exec.specs.Made.{AreHeld, IsClusterOf, IsRunnerOf}
+use Rattle.tdf_exec.specs.Played.{IsPeriodOf, cells_of, play_of, turns_from}
 use Rattle.tdf_exec.specs.declared.runners.Runner.{Runner}
 use Rattle.tdf_exec.specs.declared.runners.Runner.TheVariants as runner
 use Rattle.tdf_flat.specs.declared.model.Flat.{Flat}
-use Rattle.tdf_flow.proofs.Api.{change_crosses, get_inside, get_made_at, none_some}
-use Rattle.tdf_flow.specs.Stands.{Changed, Play}
-use Rattle.tdf_fixed.specs.declared.raw.Raw.{Raw}
+use Rattle.tdf_flow.proofs.Api.{change_crosses, install_stands, get_inside, get_made_at, none_some}
 use Rattle.tdf_schedule.specs.Plan.{done}
 use Rattle.tdf_schedule.specs.declared.entry.Entry.{Entry}
 use Rattle.tdf_streams.specs.Bodies.{changed, done_by, nothing_read, rates_of}
-use Rattle.tdf_streams.specs.Cluster.{Start, cluster_net, is_outside, is_sampler_kind}
-use Rattle.tdf_streams.specs.Periods.{PeriodRecord}
-use Rattle.tdf_streams.specs.Places.{actor_kind, changes_row, has_changes}
+use Rattle.tdf_streams.specs.Cluster.{cluster_net, is_outside, is_sampler_kind}
+use Rattle.tdf_streams.specs.Periods.{PeriodRecord, period_record}
+use Rattle.tdf_streams.specs.Places.{actor_kind, changes_row, has_changes, reader_at, writer_at}
 use Rattle.tdf_expr.specs.declared.bodies.Body.TheVariants as body
+use Rattle.tdf_dynamic.specs.Faults.{pace_in}
+use Rattle.tdf_dynamic.specs.Rates.{net_of}
+use Rattle.tdf_exec.specs.Starts.{IsSoundFlat}
+use Rattle.tdf_limits.specs.Limits.{AreWithinLimits}
+use Rattle.tdf_schedule.specs.Laws.{PlansArePresent}
+use Rattle.tdf_streams.proofs.Api.{are_active, record_present, table_record, whole_sound}
+use Rattle.tdf_streams.specs.Laws.{HasRecord}
 use Rattle.tdf_tree.specs.Pure.{PureTree}
 
 -- what is kept for an actor doesn't ask where the cluster is in its period
@@ -133,3 +137,52 @@ module _ (flat : Flat) (c : ClusterOf) (of : IsClusterOf flat c) (end : next_off
           go : (m < length flat.tables.modules) ⊎ (length flat.tables.modules ≤ m) → has_changes flat.tables.modules m ≡ false
           go (inl below) = still m below (eqb-true (slice_index (clusters_of flat.tables) m) c.number (not_not _ (neither (is_sampler_kind (actor_kind flat.tables m)) _ inside).1))
           go (inr past) = ap changes_row (slice_get_past flat.tables.modules m past)
+
+-- at the end of a period each edge holds what it held at its head
+module _ (flat : Flat) (c : ClusterOf) (of : IsClusterOf flat c) (end : next_offset c ≡ None) (sound : IsSoundFlat flat) (limits : AreWithinLimits flat) (law : PlansArePresent) where
+  record_of : HasRecord flat c.number c.table of.planned.plan false
+  record_of = table_record flat c.number c.table of.planned.plan false of.attributes of.planned.plan_is
+
+  abbrev period : PeriodRecord
+  period = period_record flat.tables c.table record_of.counts of.planned.plan.period false
+
+  done_all : (m : ℕ) → done c.entries (length c.entries) m ≡ slice_index record_of.counts m
+  done_all m = ap (λ es. done es (length es) m) (sym of.planned.entries_are)
+      ∙ (record_present flat c.number limits period record_of.record_is.is.timed law (pace_in (net_of flat.tables c.table) record_of.steps) of.planned.plan.entries.items record_of.plan_is.planned).all_done m
+
+  count_at : (m : ℕ) → done c.entries c.place m ≡ 0 + slice_index record_of.counts m
+  count_at m = ap (λ k. done c.entries k m) (at_end flat c of end) ∙ done_all m ∙ (let z : slice_index record_of.counts m ≡ 0 + slice_index record_of.counts m = omega arith in z)
+
+  balanced : (e : ℕ) → e < length flat.tables.edges
+      → done c.entries c.place (writer_at flat.tables.edges e) * slice_index c.writes e ≡ done c.entries c.place (reader_at flat.tables.edges e) * slice_index c.reads e
+  balanced e within =
+      ap (λ n. n * slice_index c.writes e) (count_at (writer_at flat.tables.edges e))
+      ∙ ap (λ (l : List ℕ). (0 + slice_index record_of.counts (writer_at flat.tables.edges e)) * slice_index l e) of.writes_are
+      ∙ (whole_sound sound.model flat c.number (record { lists = []; cells = [] }) limits period record_of.record_is).balanced e within
+      ∙ sym (ap (λ n. n * slice_index c.reads e) (count_at (reader_at flat.tables.edges e))
+      ∙ ap (λ (l : List ℕ). (0 + slice_index record_of.counts (reader_at flat.tables.edges e)) * slice_index l e) of.reads_are)
+
+  nothing : (m : ℕ) → done c.entries 0 m ≡ 0
+  unfolding done
+  nothing m = refl
+
+  pub of_next : IsClusterOf flat (at_place c 0 false)
+  of_next = of_at flat c 0 false of (omega arith) (record {
+    same = of.held.same;
+    held = λ e within.
+        let h = of.held.held e within in let b = balanced e within in
+        let w = no_times (done c.entries 0 (writer_at flat.tables.edges e)) (slice_index c.writes e) (nothing (writer_at flat.tables.edges e)) in
+        let r = no_times (done c.entries 0 (reader_at flat.tables.edges e)) (slice_index c.reads e) (nothing (reader_at flat.tables.edges e)) in
+        omega (arith, h, b, w, r);
+    room = of.held.room;
+    formats = of.held.formats;
+  })
+
+pub stands_next : (flat : Flat) (c : ClusterOf) → IsClusterOf flat c → StandsAtNext flat c (at_place c 0 false)
+stands_next flat c of model start old p next reads from f past timed still crosses =
+    install_stands (cluster_net model flat c.number start) old p next reads f (play_of from c) (play_of 0 (at_place c 0 false))
+    (are_active model flat c.number start old p (play_of from c) past timed (let l = length-map c.runners cells_of in let a = of.actors in omega (arith, l, a))) crosses (record {
+      turns = λ m. zero_in (turns_from c.entries 0 0) (range_with_len 0 (length c.runners)) m (λ j. omega arith);
+      lists = refl;
+      states = λ m x at inside. (x, at, sym (ap (λ b. if b then (done_by model flat m body.Reinitialize x (rates_of next.info m) nothing_read).frame.cells else x) still));
+    })

@@ -84,7 +84,7 @@ pub not_not : (b : Bool) → not b ≡ false → b ≡ true
 not_not true h = refl
 not_not false h = true_false h
 
-zero_in : (f : ℕ → ℕ) (xs : List ℕ) (m : ℕ) → ((j : ℕ) → f j ≡ 0) → slice_index (map f xs) m ≡ 0
+pub zero_in : (f : ℕ → ℕ) (xs : List ℕ) (m : ℕ) → ((j : ℕ) → f j ≡ 0) → slice_index (map f xs) m ≡ 0
 zero_in f [] m none = refl
 zero_in f (x ∷ xs) zero none = none x
 zero_in f (x ∷ xs) (suc m) none = zero_in f xs m none

@@ -68,7 +68,7 @@ room_most : (n : ℕ) → n ≤ room_for n
 room_most zero = omega arith
 room_most (suc n) = omega arith
 
-no_times : (n k : ℕ) → n ≡ 0 → n * k ≡ 0
+pub no_times : (n k : ℕ) → n ≡ 0 → n * k ≡ 0
 no_times n k none = rw none (omega arith)
 
 all_if : (P : Raw → Type 0) (xs : List Raw) (b : Bool) → All P xs → All P (if b then xs else [])

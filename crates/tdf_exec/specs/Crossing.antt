@@ -1,6 +1,6 @@
 -- From the end of a period to the next, where no module of the cluster changes attributes.
 -- Source: own.
-use Rattle.std.specs.Prelude.{◌≡◌, ◌<◌, ℕ, Bool, false, List, length, slice_index}
+use Rattle.std.specs.Prelude.{◌≡◌, ◌<◌, ◌++◌, ℕ, Bool, false, List, [], ◌∷◌, length, slice_index}
 use Rattle.tdf_bind.specs.Flat.{FlatOf}
 use Rattle.tdf_dynamic.specs.Attributes.{clusters_of}
 use Rattle.tdf_exec.specs.Cluster.{ClusterOf}
@@ -10,8 +10,9 @@ use Rattle.tdf_fixed.specs.declared.raw.Raw.{Raw}
 use Rattle.tdf_flat.specs.declared.model.Flat.{Flat}
 use Rattle.tdf_flow.specs.Stands.{Crosses, Stands}
 use Rattle.tdf_streams.specs.Cluster.{Start, cluster_net}
-use Rattle.tdf_streams.specs.Periods.{PeriodRecord}
+use Rattle.tdf_streams.specs.Periods.{IsTimedRecord, PeriodRecord}
 use Rattle.tdf_streams.specs.Places.{has_changes}
+use Rattle.tdf_streams.specs.Starts.{ArePast}
 use Rattle.tdf_tree.specs.Pure.{PureTree}
 
 -- no module of the cluster has a body that changes attributes
@@ -31,3 +32,12 @@ CrossesFrom flat c d = (model : PureTree) (start : Start) (old : List PeriodReco
     → IsCheckedOf model flat.checked → IsPeriodOf c from p
     → Stands (cluster_net model flat c.number start) old p reads f (play_of from c)
     → Crosses (cluster_net model flat c.number start) old p reads f (play_of from d)
+
+-- where it crosses from a period, it then stands at the head of the next, which has no new plan
+abbrev pub StandsAtNext : Flat → (c d : ClusterOf) → Type 0
+StandsAtNext flat c d = (model : PureTree) (start : Start) (old : List PeriodRecord)
+    → (p next : PeriodRecord) (reads : ℕ → List Raw) (from f : ℕ)
+    → ArePast flat c.number start old p → IsTimedRecord flat c.number p
+    → next.info.is_new ≡ false
+    → Crosses (cluster_net model flat c.number start) old p reads f (play_of from c)
+    → Stands (cluster_net model flat c.number start) (old ++ p ∷ []) next reads f (play_of 0 d)

@@ -12,14 +12,17 @@ pub enum Next {
     Changed(Attrs, Plan),
 }
 
-ghost use Rattle.std.specs.Prelude.{◌≡◌, false, true, None, Ok};
+ghost use Rattle.std.specs.Prelude.{◌≡◌, IsOk, false, true, None, Ok};
 ghost use Rattle.tdf_exec.specs.Cluster.{next_offset};
-ghost use Rattle.tdf_exec.specs.Crossing.{CrossesFrom, HasNoChanges, at_place};
+ghost use Rattle.tdf_exec.specs.Crossing.{CrossesFrom, HasNoChanges, StandsAtNext, at_place};
 ghost use Rattle.tdf_exec.specs.Made.{IsClusterOf};
+ghost use Rattle.tdf_exec.specs.Starts.{IsSoundFlat};
 ghost use Rattle.tdf_exec.specs.declared.crossing.Next.TheVariants.{Same};
 
 use crate::cluster::Cluster;
+use crate::starting::law_laid;
 use std::alloc::Global;
+use tdf_base::Memory;
 use tdf_dynamic::ChangeErr;
 use tdf_flat::Flat;
 
@@ -48,5 +51,27 @@ impl Cluster {
     {
         self.crossed = true;
         Ok(Next::Same)
+    }
+
+    /// Begins the next period with the plan of the last one. It takes no memory.
+    ///
+    /// # Errors
+    /// None.
+    pub fn install(&mut self, alloc: Global, flat: &Flat, next: Next) -> Result<(), Memory>
+        requires sound { IsSoundFlat flat.now }
+        requires of { IsClusterOf flat.now self.old }
+        requires done { next_offset self.old ≡ None }
+        requires crossed { self.old.crossed ≡ true }
+        requires same { next ≡ Same }
+        ensures ok { IsOk result }
+        ensures begun { self.new ≡ at_place self.old 0 false }
+        ensures of { IsClusterOf flat.now self.new }
+        ensures stands { StandsAtNext flat.now self.old self.new }
+    {
+        law_laid();
+        drop(next);
+        self.place = 0;
+        self.crossed = false;
+        Ok(())
     }
 }

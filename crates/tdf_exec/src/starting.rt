@@ -27,7 +27,7 @@ use tdf_rings::Ring;
 use tdf_schedule::law_present;
 
 /// What the tables of a sound flat model have, and what holds along plans.
-fn law_laid()
+pub(crate) fn law_laid()
     ensures laid { SoundIsLaid }
     ensures present { PlansArePresent }
     ensures sorted { PlansGoByOffset }
