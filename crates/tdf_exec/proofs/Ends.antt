@@ -10,7 +10,7 @@ use Rattle.tdf_bind.specs.declared.actors.ActorPlace.{ActorPlace}
 use Rattle.tdf_bind.specs.declared.actors.ActorRow.{ActorRow}
 use Rattle.tdf_dynamic.specs.Attributes.{AttrsOf}
 use Rattle.tdf_dynamic.specs.Rates.{kind_of, net_ports, port_rate, read_rate_by, write_rate_by}
-use Rattle.tdf_exec.proofs.Rates.{edge_reads, edge_writes, rate_there}
+use Rattle.tdf_exec.proofs.EdgeRates.{edge_reads, edge_writes, rate_there}
 use Rattle.tdf_exec.proofs.Rows.{all_at}
 use Rattle.tdf_exec.specs.machine.Laid.{IsLaid}
 use Rattle.tdf_flat.specs.declared.model.Flat.{Flat}

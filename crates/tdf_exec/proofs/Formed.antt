@@ -12,7 +12,7 @@ use Rattle.tdf_dynamic.specs.Text.{attrs_if, first_attrs, first_table}
 use Rattle.tdf_dynamic.specs.declared.first.First.{First}
 use Rattle.tdf_exec.proofs.Ends.{HasPort, below_modules, module_reads, module_writes}
 use Rattle.tdf_exec.proofs.Planned.{start_of}
-use Rattle.tdf_exec.proofs.Rates.{edge_reads, edge_writes, reads_map, writes_map}
+use Rattle.tdf_exec.proofs.EdgeRates.{edge_reads, edge_writes, reads_map, writes_map}
 use Rattle.tdf_exec.proofs.Rows.{index_at}
 use Rattle.tdf_exec.specs.Cluster.{ClusterOf}
 use Rattle.tdf_exec.specs.Made.{IsInSpans, IsModuleOf, edge_format}

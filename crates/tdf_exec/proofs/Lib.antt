@@ -2,6 +2,7 @@ mod Acting
 mod Begins
 mod Counting
 mod Crosses
+mod EdgeRates
 mod Ends
 mod Formed
 mod Gains
@@ -13,7 +14,6 @@ mod Moved
 mod Nexts
 mod Planned
 mod Playing
-mod Rates
 mod Rows
 mod Runs
 mod Stepping

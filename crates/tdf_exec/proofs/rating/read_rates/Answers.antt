@@ -1,6 +1,6 @@
 use Rattle.std.proofs.Common.{◌∙◌, ◌≤◌, ap, arith, length}
 use Rattle.tdf_flat.specs.declared.model.Flat.{Flat}
-use Rattle.tdf_exec.proofs.Rates.{all_read}
+use Rattle.tdf_exec.proofs.EdgeRates.{all_read}
 use Rattle.tdf_exec.proofs.rating.read_rates.Goals as goal
 
 pub returns : goal.returns
