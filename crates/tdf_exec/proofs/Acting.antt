@@ -7,7 +7,7 @@ use Rattle.std.specs.Prelude.{ℤ, slice_get, slice_index, slice_index_or}
 use Rattle.tdf_dynamic.specs.Attributes.{attrs_at, rates_in}
 use Rattle.tdf_exec.proofs.Moved.{some_at, some_inj}
 use Rattle.tdf_exec.specs.Cluster.{ClusterOf}
-use Rattle.tdf_exec.specs.Fired.{HasFired}
+use Rattle.tdf_exec.specs.machine.Fired.{HasFired}
 use Rattle.tdf_exec.specs.Made.{IsModuleOf}
 use Rattle.tdf_exec.specs.Runners.{ModuleOf}
 use Rattle.tdf_expr.specs.Blocks.{PureBlock, blocks_of, body_of}

@@ -9,7 +9,8 @@ use Rattle.std.specs.List.{All}
 use Rattle.std.specs.Prelude.{slice_get, slice_index}
 use Rattle.tdf_bind.specs.Flat.{FlatOf}
 use Rattle.tdf_exec.specs.Cluster.{ClusterOf}
-use Rattle.tdf_exec.specs.Made.{AreHeld, IsSafe, edge_format}
+use Rattle.tdf_exec.specs.Made.{AreHeld, IsSafe}
+use Rattle.tdf_layout.specs.Samples.{edge_format}
 use Rattle.tdf_exec.specs.declared.runners.Runner.{Runner}
 use Rattle.tdf_exec.specs.machine.Steps.{AreMovedBy, kept, with_parts}
 use Rattle.tdf_expr.specs.Frames.{IsOfFormat}

@@ -15,9 +15,11 @@ use Rattle.tdf_exec.proofs.Planned.{start_of}
 use Rattle.tdf_exec.proofs.EdgeRates.{edge_reads, edge_writes, reads_map, writes_map}
 use Rattle.tdf_exec.proofs.Rows.{index_at}
 use Rattle.tdf_exec.specs.Cluster.{ClusterOf}
-use Rattle.tdf_exec.specs.Made.{IsInSpans, IsModuleOf, edge_format}
+use Rattle.tdf_exec.specs.Made.{IsInSpans, IsModuleOf}
+use Rattle.tdf_layout.specs.Samples.{edge_format}
 use Rattle.tdf_exec.specs.Runners.{ModuleOf}
-use Rattle.tdf_exec.specs.Traced.{is_traced, number_if_traced, rate_of_row, traced_port, traced_ports}
+use Rattle.tdf_exec.specs.Traced.{rate_of_row, traced_port}
+use Rattle.tdf_layout.specs.Traced.{is_traced, number_if_traced, traced_ports}
 use Rattle.tdf_exec.specs.declared.runners.Runner.{Runner}
 use Rattle.tdf_exec.specs.declared.runners.TracedPort.{TracedPort}
 use Rattle.tdf_exec.specs.machine.Laid.{IsLaid}

@@ -14,12 +14,13 @@ use Rattle.tdf_exec.proofs.Gains.{gains_none, traced_long}
 use Rattle.tdf_exec.proofs.Moved.{some_inj}
 use Rattle.tdf_exec.proofs.Stepping.{front_at, module_step, module_turn, sampler_step, sink_step}
 use Rattle.tdf_exec.specs.Cluster.{ClusterOf}
-use Rattle.tdf_exec.specs.Fired.{HasGiven, HasRun, HasRunModule, HasSampled, HasSent}
+use Rattle.tdf_exec.specs.machine.Fired.{HasGiven, HasRun, HasRunModule, HasSampled, HasSent}
 use Rattle.tdf_exec.specs.Gained.{sent_by, sent_sample, sent_size, traced_by, traced_size, with_gains}
 use Rattle.tdf_exec.specs.Made.{IsClusterOf, IsModuleOf, IsSamplerOf, IsSinkOf}
 use Rattle.tdf_exec.specs.Played.{IsPeriodOf, play_of}
 use Rattle.tdf_exec.specs.Runners.{ModuleOf, SamplerOf}
-use Rattle.tdf_exec.specs.Traced.{port_samples, traced_count, traced_port, traced_ports, turn_samples}
+use Rattle.tdf_exec.specs.Traced.{port_samples, traced_count, traced_port, turn_samples}
+use Rattle.tdf_layout.specs.Traced.{traced_ports}
 use Rattle.tdf_exec.specs.declared.runners.Runner.{Runner}
 use Rattle.tdf_exec.specs.declared.runners.Runner.TheVariants as runner
 use Rattle.tdf_exec.specs.declared.runners.SinkRunner.{SinkRunner}

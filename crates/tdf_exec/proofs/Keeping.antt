@@ -12,7 +12,7 @@ use Rattle.tdf_exec.proofs.Counting.{held_after}
 use Rattle.tdf_exec.proofs.Moved.{given_by, given_none, given_one, module_moves, sampler_moves, sink_moves, some_at, some_inj}
 use Rattle.tdf_exec.proofs.Runs.{can_run}
 use Rattle.tdf_exec.specs.Cluster.{ClusterOf}
-use Rattle.tdf_exec.specs.Fired.{CanSample, HasFired, HasRun}
+use Rattle.tdf_exec.specs.machine.Fired.{CanSample, HasFired, HasRun}
 use Rattle.tdf_exec.specs.Made.{IsClusterOf, IsInSpans, IsModuleOf, IsRunnerOf, KeepRates, is_sampler}
 use Rattle.tdf_exec.specs.Played.{IsLike}
 use Rattle.tdf_exec.specs.Runners.{ModuleOf, SamplerOf}

@@ -26,7 +26,8 @@ use Rattle.tdf_exec.specs.Made.{IsClusterOf, IsRunnerOf, IsSamplerOf, IsSinkOf, 
 use Rattle.tdf_exec.specs.Played.{cells_of, play_of, turns_from}
 use Rattle.tdf_exec.specs.Runners.{ModuleOf, SamplerOf}
 use Rattle.tdf_exec.specs.Starts.{IsSoundFlat, StandsAtStart}
-use Rattle.tdf_exec.specs.Traced.{number_if_traced, traced_port, traced_ports}
+use Rattle.tdf_exec.specs.Traced.{traced_port}
+use Rattle.tdf_layout.specs.Traced.{number_if_traced, traced_ports}
 use Rattle.tdf_exec.specs.declared.runners.Runner.{Runner}
 use Rattle.tdf_exec.specs.declared.runners.Runner.TheVariants as runner
 use Rattle.tdf_exec.specs.declared.runners.TracedPort.{TracedPort}

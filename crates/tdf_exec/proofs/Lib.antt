@@ -1,6 +1,7 @@
 mod Acting
 mod Begins
 mod Counting
+mod Counts
 mod Crosses
 mod EdgeRates
 mod Ends
@@ -14,6 +15,8 @@ mod Moved
 mod Nexts
 mod Planned
 mod Playing
+mod Rates
 mod Rows
 mod Runs
+mod Safe
 mod Stepping

@@ -8,7 +8,8 @@ use Rattle.std.specs.List.{cons_option}
 use Rattle.std.specs.Prelude.{slice_get, slice_index_or, slice_set}
 use Rattle.tdf_bind.specs.Flat.{FlatOf}
 use Rattle.tdf_dynamic.specs.Attributes.{AttrsOf}
-use Rattle.tdf_exec.specs.Traced.{number_if_traced, rate_of_row, signal_of_row, traced_port}
+use Rattle.tdf_exec.specs.Traced.{rate_of_row, signal_of_row, traced_port}
+use Rattle.tdf_layout.specs.Traced.{number_if_traced}
 use Rattle.tdf_exec.specs.declared.runners.TracedPort.{TracedPort}
 use Rattle.tdf_exec.specs.machine.Tracing.{AreTracedUpTo, is_written_traced, put_traced, traced_before, traced_row}
 use Rattle.tdf_streams.specs.Places.{place_of_port}

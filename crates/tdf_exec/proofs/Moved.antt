@@ -9,8 +9,9 @@ use Rattle.std.specs.List.{All, list_any, range_with_len}
 use Rattle.std.specs.Prelude.{slice_get, slice_index}
 use Rattle.tdf_bind.specs.Flat.{FlatOf}
 use Rattle.tdf_exec.specs.Cluster.{ClusterOf}
-use Rattle.tdf_exec.specs.Made.{IsModuleOf, IsSamplerOf, IsSinkOf, edge_format}
-use Rattle.tdf_exec.specs.Fired.{HasFired}
+use Rattle.tdf_exec.specs.Made.{IsModuleOf, IsSamplerOf, IsSinkOf}
+use Rattle.tdf_layout.specs.Samples.{edge_format}
+use Rattle.tdf_exec.specs.machine.Fired.{HasFired}
 use Rattle.tdf_exec.specs.Runners.{ModuleOf, SamplerOf}
 use Rattle.tdf_exec.specs.machine.Steps.{AreMovedBy, kept}
 use Rattle.tdf_expr.specs.Frames.{IsOfFormat, PortsSeen}

@@ -9,7 +9,7 @@ use Rattle.tdf_exec.proofs.Moved.{some_inj}
 use Rattle.tdf_exec.proofs.Giving.{StepGains, step_gains}
 use Rattle.tdf_exec.specs.Cluster.{ClusterOf}
 use Rattle.tdf_convert.specs.Outputs.{OutputsOf}
-use Rattle.tdf_exec.specs.Fired.{HasGiven, HasRun}
+use Rattle.tdf_exec.specs.machine.Fired.{HasGiven, HasRun}
 use Rattle.tdf_exec.specs.Made.{IsClusterOf}
 use Rattle.tdf_exec.specs.Played.{IsLike, counted}
 use Rattle.tdf_exec.specs.declared.runners.Runner.{Runner}

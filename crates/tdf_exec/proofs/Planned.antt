@@ -14,7 +14,8 @@ use Rattle.tdf_dynamic.specs.First.{IsFirstPlan}
 use Rattle.tdf_dynamic.specs.Rates.{net_of, net_ports, rated_edge}
 use Rattle.tdf_dynamic.specs.declared.first.First.{First}
 use Rattle.tdf_exec.specs.Cluster.{ClusterOf}
-use Rattle.tdf_exec.specs.Made.{AreHeld, IsSafe, edge_format, room_for}
+use Rattle.tdf_exec.specs.Made.{AreHeld, IsSafe, room_for}
+use Rattle.tdf_layout.specs.Samples.{edge_format}
 use Rattle.tdf_exec.specs.Starts.{IsSoundFlat}
 use Rattle.tdf_exec.specs.declared.runners.Runner.{Runner}
 use Rattle.tdf_exec.specs.machine.Laid.{IsLaid}

@@ -10,7 +10,7 @@ use Rattle.tdf_convert.specs.Outputs.{OutputsOf}
 use Rattle.tdf_exec.proofs.Counting.{present_now, room_now}
 use Rattle.tdf_exec.proofs.Moved.{reads_it}
 use Rattle.tdf_exec.specs.Cluster.{ClusterOf}
-use Rattle.tdf_exec.specs.Fired.{CanFireModule, CanGive, CanRun, CanSample, CanSink}
+use Rattle.tdf_exec.specs.machine.Fired.{CanFireModule, CanGive, CanRun, CanSample, CanSink}
 use Rattle.tdf_exec.specs.Gained.{sent_size, traced_size}
 use Rattle.tdf_exec.specs.Made.{IsClusterOf, IsModuleOf, IsSamplerOf, IsSinkOf, is_sampler}
 use Rattle.tdf_exec.specs.Runners.{ModuleOf, SamplerOf}

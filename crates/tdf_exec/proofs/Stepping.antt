@@ -12,7 +12,7 @@ use Rattle.tdf_exec.proofs.Keeping.{get_set, get_set_other, sampler_value}
 use Rattle.tdf_exec.proofs.Moved.{given_by, given_none, given_one, module_moves, sampler_moves, sink_moves}
 use Rattle.tdf_exec.proofs.Runs.{count_mono}
 use Rattle.tdf_exec.specs.Cluster.{ClusterOf}
-use Rattle.tdf_exec.specs.Fired.{HasRunModule, HasSampled}
+use Rattle.tdf_exec.specs.machine.Fired.{HasRunModule, HasSampled}
 use Rattle.tdf_exec.specs.Made.{IsActorOf, IsClusterOf, IsModuleOf, IsSamplerOf, IsSinkOf}
 use Rattle.tdf_exec.specs.Played.{AreGiven, IsPeriodOf, cells_of, play_of, turns_from}
 use Rattle.tdf_exec.specs.Runners.{ModuleOf, SamplerOf}

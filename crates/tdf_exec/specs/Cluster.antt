@@ -22,8 +22,8 @@ pub record ClusterOf : Type 0 where
   pub reads : List ℕ
   pub writes : List ℕ
   pub rings : List RingOf
-  -- by actor of the flat model: what it needs to fire, and its activations done since the cluster was
-  -- made
+  -- by actor of the flat model: what it needs to fire, and its activations done since the cluster
+  -- was made
   pub runners : List Runner
   pub positions : List ℕ
 
@@ -35,8 +35,12 @@ abbrev pub next_offset : ClusterOf → Option ℕ
 next_offset c = offset_in (slice_get c.entries c.place)
 
 -- how many entries of an offset are still to come
-unfoldable pub due_count : ClusterOf → (offset : ℕ) → ℕ
-due_count c offset = count_by (λ (x : Entry). nat_eq x.offset offset) (drop c.place c.entries)
+unfoldable pub due_from : (place offset : ℕ) → List Entry → ℕ
+due_from place offset entries =
+    count_by (λ (x : Entry). nat_eq x.offset offset) (drop place entries)
+
+abbrev pub due_count : ClusterOf → (offset : ℕ) → ℕ
+due_count c offset = due_from c.place offset c.entries
 
 abbrev pub is_offset : Option ℕ → ℕ → Bool
 is_offset None offset = false

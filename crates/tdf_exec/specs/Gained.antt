@@ -10,7 +10,8 @@ use Rattle.tdf_convert.specs.declared.outputs.Traced.{Traced}
 use Rattle.tdf_dynamic.specs.Attributes.{AttrsOf}
 use Rattle.tdf_exec.specs.Cluster.{ClusterOf}
 use Rattle.tdf_exec.specs.Played.{AreAllGiven, IsPeriodOf, actors_between, play_of}
-use Rattle.tdf_exec.specs.Traced.{traced_count, traced_ports, turn_samples}
+use Rattle.tdf_exec.specs.Traced.{traced_count, turn_samples}
+use Rattle.tdf_layout.specs.Traced.{traced_ports}
 use Rattle.tdf_exec.specs.declared.runners.Runner.{Runner}
 use Rattle.tdf_exec.specs.declared.runners.Runner.TheVariants as runner
 use Rattle.tdf_expr.specs.Checked.{IsCheckedOf}

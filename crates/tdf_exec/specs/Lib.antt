@@ -1,7 +1,7 @@
 pub mod Cluster
 pub mod Crossing
-pub mod Fired
 pub mod Gained
+pub mod Laws
 pub mod Made
 pub mod Played
 pub mod Runners

@@ -3,14 +3,15 @@
 -- Source: own.
 use Rattle.std.specs.List.{All, count_by}
 use Rattle.std.specs.Prelude.{◌≡◌, ℕ, zero, suc, ◌+◌, ◌-◌, ◌*◌, ◌^◌, ◌<◌, ◌≤◌, Bool, true, false}
-use Rattle.std.specs.Prelude.{List, length, Option, Some, None, slice_get, slice_index, map, take}
+use Rattle.std.specs.Prelude.{List, length, Some, slice_get, slice_index, map, take}
 use Rattle.tdf_bind.specs.Flat.{FlatOf}
 use Rattle.tdf_dynamic.specs.Attributes.{attrs_at, clusters_of, rates_in}
 use Rattle.tdf_dynamic.specs.Faults.{IsTablePlan}
 use Rattle.tdf_dynamic.specs.Rates.{net_of}
 use Rattle.tdf_exec.specs.Cluster.{ClusterOf}
 use Rattle.tdf_exec.specs.Runners.{ModuleOf, SamplerOf}
-use Rattle.tdf_exec.specs.Traced.{traced_port, traced_ports}
+use Rattle.tdf_exec.specs.Traced.{traced_port}
+use Rattle.tdf_layout.specs.Traced.{traced_ports}
 use Rattle.tdf_exec.specs.declared.runners.Runner.{Runner}
 use Rattle.tdf_exec.specs.declared.runners.Runner.TheVariants as runner
 use Rattle.tdf_exec.specs.declared.runners.TracedPort.{TracedPort}
@@ -28,10 +29,10 @@ use Rattle.tdf_firing.specs.declared.wires.InWire.{InWire}
 use Rattle.tdf_firing.specs.declared.wires.OutWire.{OutWire}
 use Rattle.tdf_fixed.specs.declared.format.Format.{Format}
 use Rattle.tdf_flat.specs.declared.model.Flat.{Flat}
-use Rattle.tdf_formats.specs.Formats.{signal_format}
 use Rattle.tdf_graph.specs.declared.actors.Actor.{Actor}
 use Rattle.tdf_graph.specs.declared.actors.Actor.TheVariants as actor
-use Rattle.tdf_layout.specs.Wiring.{AreEdgesOf, AreWiresOf, IsEdgeOf, Reads, Writes, port_at}
+use Rattle.tdf_layout.specs.Samples.{edge_format}
+use Rattle.tdf_layout.specs.Wiring.{AreEdgesOf, AreWiresOf, IsEdgeOf, Reads, Writes}
 use Rattle.tdf_meaning.specs.Bodies.{after_body}
 use Rattle.tdf_rings.specs.Carried.{ring_at}
 use Rattle.tdf_schedule.specs.Plan.{done}
@@ -42,15 +43,6 @@ use Rattle.tdf_streams.specs.Periods.{AreAttributes, read_rates, write_rates}
 use Rattle.tdf_streams.specs.Places.{actor_kind, block_at, reader_at, writer_at}
 use Rattle.tdf_streams.specs.Starts.{held_at_head}
 use Rattle.tdf_tree.specs.Pure.{PureTree}
-use Rattle.tdf_wiring.specs.declared.modules.PortRow.{PortRow}
-
--- the format of the samples of an edge: that of the signal of the port that gives it
-abbrev pub format_of_port : FlatOf → Option PortRow → Option Format
-format_of_port tables None = None
-format_of_port tables (Some port) = signal_format tables port.kind port.signal
-
-abbrev pub edge_format : FlatOf → ℕ → Option Format
-edge_format tables e = format_of_port tables (slice_get tables.ports (port_at tables.edges e))
 
 -- an actor of a cluster, of a kind
 pub record IsActorOf (tables : FlatOf) (cluster m : ℕ) (kind : Actor) : Type 0 where

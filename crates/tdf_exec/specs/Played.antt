@@ -4,7 +4,8 @@ use Rattle.std.specs.List.{count_by, range_with_len, sum_by}
 use Rattle.std.specs.Prelude.{◌≡◌, ℕ, ◌+◌, ◌-◌, ◌^◌, ◌<◌, ◌≤◌, false, List, [], length, map, min}
 use Rattle.std.specs.Prelude.{Some, drop, take, slice_get, slice_index, ℤ}
 use Rattle.tdf_exec.specs.Cluster.{ClusterOf, is_due}
-use Rattle.tdf_exec.specs.Made.{edge_format, is_sampler}
+use Rattle.tdf_exec.specs.Made.{is_sampler}
+use Rattle.tdf_layout.specs.Samples.{edge_format}
 use Rattle.tdf_exec.specs.Runners.{ModuleOf, SamplerOf}
 use Rattle.tdf_exec.specs.declared.runners.Runner.{Runner}
 use Rattle.tdf_exec.specs.declared.runners.Runner.TheVariants as runner
@@ -81,8 +82,8 @@ abbrev pub actors_between : List Entry → (from to : ℕ) → List ℕ
 actors_between entries from to =
     map (λ (x : Entry). x.actor) (take (to - from) (drop from entries))
 
--- the firings are steps of the streams of the cluster, in the order of the plan: for each model that
--- the bodies are of, and for each start, earlier periods and values of samplers
+-- the firings are steps of the streams of the cluster, in the order of the plan: for each model
+-- that the bodies are of, and for each start, earlier periods and values of samplers
 abbrev pub HasPlayed : Flat → (offset : ℕ) → (inputs : List Raw) → (old new : ClusterOf) → Type 0
 HasPlayed flat offset inputs c d = (model : PureTree) (start : Start) (old : List PeriodRecord)
     → (p : PeriodRecord) (reads : ℕ → List Raw) (from : ℕ)

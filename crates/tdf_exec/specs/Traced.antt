@@ -1,8 +1,8 @@
 -- The ports of a module whose signals are traced, and their samples of one activation.
 -- Source: own.
-use Rattle.std.specs.List.{enumerate_from, list_any, range_with_len, sum_by}
-use Rattle.std.specs.Prelude.{ℕ, ◌&&◌, not, Bool, true, false, if◌then◌else◌, nat_eq, List, map}
-use Rattle.std.specs.Prelude.{Option, Some, None, filter_map, slice_get, ℤ}
+use Rattle.std.specs.List.{range_with_len, sum_by}
+use Rattle.std.specs.Prelude.{ℕ, List, map}
+use Rattle.std.specs.Prelude.{Option, Some, None, slice_get, ℤ}
 use Rattle.tdf_bind.specs.Flat.{FlatOf}
 use Rattle.tdf_convert.specs.declared.outputs.Traced.{Traced}
 use Rattle.tdf_dynamic.specs.Attributes.{AttrsOf}
@@ -13,33 +13,7 @@ use Rattle.tdf_firing.specs.Activation.{sample_at}
 use Rattle.tdf_fixed.specs.declared.raw.Raw.{Raw}
 use Rattle.tdf_flow.specs.Net.{Turn}
 use Rattle.tdf_streams.specs.Places.{place_of_port}
-use Rattle.tdf_tree.specs.declared.blocks.PortKind.{PortKind}
-use Rattle.tdf_tree.specs.declared.blocks.PortKind.TheVariants.{In, Out, DeIn, DeOut}
 use Rattle.tdf_wiring.specs.declared.modules.PortRow.{PortRow}
-use Rattle.tdf_wiring.specs.declared.traces.TraceRow.{TraceRow}
-
-abbrev pub is_out : PortKind → Bool
-is_out In = false
-is_out Out = true
-is_out DeIn = false
-is_out DeOut = false
-
--- whether a trace is that of a signal of samples
-abbrev pub is_trace_of : (signal : ℕ) → TraceRow → Bool
-is_trace_of signal row = not row.event && nat_eq row.signal signal
-
--- whether a port is one of module m that writes a signal of samples which is traced
-abbrev pub is_traced : FlatOf → ℕ → PortRow → Bool
-is_traced tables m port = nat_eq port.«module» m
-    && (is_out port.kind && list_any (is_trace_of port.signal) tables.traces)
-
-abbrev pub number_if_traced : FlatOf → ℕ → ℕ → PortRow → Option ℕ
-number_if_traced tables m number port = if is_traced tables m port then Some number else None
-
--- the numbers of these ports of a module
-abbrev pub traced_ports : FlatOf → ℕ → List ℕ
-traced_ports tables m = filter_map (λ port. number_if_traced tables m port.0 port.1)
-    (enumerate_from 0 tables.ports)
 
 abbrev pub signal_of_row : Option PortRow → ℕ
 signal_of_row None = 0

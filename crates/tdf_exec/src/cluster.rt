@@ -4,7 +4,7 @@ use crate::runners::Runner;
 use std::marker::Model;
 use tdf_dynamic::Attrs;
 use tdf_rings::Ring;
-use tdf_schedule::Plan;
+use tdf_schedule::{Entry, Plan};
 
 /// A cluster in progress: its attributes, its plan and the place in it, the rates in force and the samples by edge, and
 /// what its actors need to fire. Edges and actors have the numbers of the flat model.
@@ -46,16 +46,55 @@ impl Model for Cluster {
     ghost invariant = { λ a. AreByOffset a.plan.entries.items };
 }
 
-ghost use Rattle.std.specs.Prelude.{◌≡◌, ◌<◌, ◌+◌, ◌^◌, ◌-◌, length, min, Some};
-ghost use Rattle.tdf_exec.specs.Cluster.{is_due, next_offset};
+ghost use Rattle.std.specs.Prelude.{◌≡◌, ◌<◌, ◌≤◌, ◌+◌, ◌^◌, ◌-◌, ℕ, length, min, Some, slice_get};
+ghost use Rattle.tdf_convert.specs.Sampled.{AreByOffset};
+ghost use Rattle.tdf_exec.specs.Cluster.{due_count, due_from, is_due, next_offset};
 ghost use Rattle.tdf_exec.specs.Gained.{HasGained, HaveRoom};
 ghost use Rattle.tdf_exec.specs.Made.{IsClusterOf};
 ghost use Rattle.tdf_exec.specs.Played.{AreDone, AreInputsFor, HasPlayed, KeepsStanding};
+ghost use Rattle.tdf_schedule.specs.declared.entry.Entry.{Entry as EntryOf};
 ghost use Rattle.tdf_exec.specs.machine.Steps.{AreInputsNext, HasRoomNext, HasStepped};
 
 use crate::runners::fire_runner;
 use tdf_convert::{Inputs, Outputs};
 use tdf_flat::Flat;
+
+/// The place of the first entry at this offset or after, found by halving.
+fn first_from(entries: &[Entry], offset: u64) -> usize
+    requires sorted { AreByOffset entries.now }
+    ensures bound { result ≤ length entries.now }
+    ensures before { (j : ℕ) (x : EntryOf) → j < result → slice_get entries.now j ≡ Some x
+        → x.offset < offset }
+    ensures from { (j : ℕ) (x : EntryOf) → result ≤ j → slice_get entries.now j ≡ Some x
+        → offset ≤ x.offset }
+{
+    entries.partition_point(|entry| entry.offset < offset)
+}
+
+/// The place of the first entry after this offset, found by halving.
+fn first_after(entries: &[Entry], offset: u64) -> usize
+    requires sorted { AreByOffset entries.now }
+    ensures bound { result ≤ length entries.now }
+    ensures upto { (j : ℕ) (x : EntryOf) → j < result → slice_get entries.now j ≡ Some x
+        → x.offset ≤ offset }
+    ensures after { (j : ℕ) (x : EntryOf) → result ≤ j → slice_get entries.now j ≡ Some x
+        → offset < x.offset }
+{
+    entries.partition_point(|entry| entry.offset <= offset)
+}
+
+/// How many entries have this offset, from a place on.
+fn due_from(entries: &[Entry], place: usize, offset: u64) -> u64
+    requires sorted { AreByOffset entries.now }
+    ensures { result ≡ due_from place offset entries.now }
+{
+    let low = first_from(entries, offset).max(place);
+    let high = first_after(entries, offset);
+    if low < high {
+        return (high - low) as u64;
+    }
+    0
+}
 
 /// One activation more, where the number is not the greatest that there is.
 fn count_one(position: &mut u64)
@@ -75,6 +114,13 @@ impl Cluster {
         None
     }
 
+    /// Whether the change bodies of the period have run, and the next period is not installed yet.
+    pub fn crossed(&self) -> bool
+        ensures { result ≡ self.now.crossed }
+    {
+        self.crossed
+    }
+
     /// Whether the next entry of the plan has this offset.
     fn is_due(&self, offset: u64) -> bool
         ensures { result ≡ is_due self.now offset }
@@ -83,6 +129,13 @@ impl Cluster {
             Some(next) => next == offset,
             None => false,
         }
+    }
+
+    /// How many entries of this offset are still to come.
+    pub fn due_count(&self, offset: u64) -> u64
+        ensures { result ≡ due_count self.now offset }
+    {
+        due_from(&self.plan.entries, self.place, offset)
     }
 
     /// Does the next entry of the plan.

@@ -27,13 +27,6 @@ use tdf_dynamic::ChangeErr;
 use tdf_flat::Flat;
 
 impl Cluster {
-    /// Whether `boundary` was called and the next period isn't begun.
-    pub fn crossed(&self) -> bool
-        ensures { result ≡ self.now.crossed }
-    {
-        self.crossed
-    }
-
     /// The end of a period, for a cluster in which no module changes attributes: the next period has the same plan. It
     /// takes no memory.
     ///

@@ -8,12 +8,14 @@
 //! - `starting`: a cluster at the start of its first period.
 //! - `crossing`: from the end of a period to the next.
 //! - `tracing`: the ports of modules whose signals are traced.
+//! - `laws`: what holds of clusters in progress.
 #![tactic(auto)]
 
 mod beginning;
 mod cluster;
 mod crossing;
 mod filling;
+mod laws;
 mod rating;
 mod runners;
 mod starting;
@@ -21,4 +23,5 @@ mod tracing;
 
 pub use cluster::Cluster;
 pub use crossing::Next;
+pub use laws::{law_heads, law_rates, law_safe};
 pub use runners::{ModuleRunner, Runner, SamplerRunner, SinkRunner, TracedPort};

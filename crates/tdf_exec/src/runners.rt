@@ -71,7 +71,8 @@ pub enum Runner {
 
 ghost use Rattle.std.specs.List.{flat_map};
 ghost use Rattle.std.specs.Prelude.{◌≡◌, ℕ, ◌+◌, ◌≤◌, [], length, Some, slice_get};
-ghost use Rattle.tdf_exec.specs.Fired.{CanFireModule, CanGive, CanRun, CanSink, HasFired, HasGiven, HasRun, HasSent};
+ghost use Rattle.tdf_exec.specs.machine.Fired.{CanFireModule, CanGive, CanRun, CanSink};
+ghost use Rattle.tdf_exec.specs.machine.Fired.{HasFired, HasGiven, HasRun, HasSent};
 ghost use Rattle.tdf_exec.specs.Gained.{with_gains};
 ghost use Rattle.tdf_exec.specs.Made.{IsInSpans};
 ghost use Rattle.tdf_exec.specs.Traced.{port_samples, traced_count};
@@ -93,9 +94,10 @@ impl ModuleRunner {
         writes: &Vec<u32>,
         rings: &mut Vec<Ring>,
     )
-        requires { CanFireModule checked.now reads.now.items writes.now.items rings.old.items self.old }
-        ensures { HasFired checked.now reads.now.items writes.now.items rings.old.items rings.new.items
-            self.old self.new }
+        requires { CanFireModule checked.now reads.now.items writes.now.items rings.old.items
+            self.old }
+        ensures { HasFired checked.now reads.now.items writes.now.items rings.old.items
+            rings.new.items self.old self.new }
     {
         fire_module(
             checked,

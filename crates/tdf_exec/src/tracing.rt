@@ -21,7 +21,7 @@ impl Model for TracedPorts {
 ghost use Rattle.std.specs.List.{list_any};
 ghost use Rattle.std.specs.Prelude.{◌≡◌, ◌&&◌, ◌++◌, ◌∷◌, ◌<◌, ◌≤◌, ℕ, [], All, IfOk, OnOk, Some, length, replicate, slice_get};
 ghost use Rattle.tdf_dynamic.specs.Rates.{AreRates};
-ghost use Rattle.tdf_exec.specs.Traced.{is_trace_of};
+ghost use Rattle.tdf_layout.specs.Traced.{is_trace_of};
 ghost use Rattle.tdf_exec.specs.machine.Tracing.{AreGivenTraced, AreMarked, AreTracedUpTo, is_written_traced, marked, put_traced, with_traced};
 ghost use Rattle.tdf_streams.specs.Places.{place_of_port};
 ghost use Rattle.tdf_wiring.specs.declared.modules.PortRow.{PortRow as PortRowOf};

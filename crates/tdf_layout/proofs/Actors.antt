@@ -53,6 +53,13 @@ IsNoSampler (Some actor.Module) = Unit {0}
 IsNoSampler (Some actor.Sampler) = ⊥
 IsNoSampler (Some actor.Sink) = Unit {0}
 
+-- a module or a sink; a sampler or a sink; a module or a sampler
+abbrev pub IsNoModule : Option Actor → Type 0
+IsNoModule None = Unit {0}
+IsNoModule (Some actor.Module) = ⊥
+IsNoModule (Some actor.Sampler) = Unit {0}
+IsNoModule (Some actor.Sink) = Unit {0}
+
 abbrev pub IsOtherKind : Option Actor → Type 0
 IsOtherKind None = Unit {0}
 IsOtherKind (Some kind) = IsOther kind

@@ -8,15 +8,16 @@ use Rattle.tdf_bind.specs.declared.actors.ActorRow.{ActorRow}
 use Rattle.tdf_flat.specs.Flat.{IsFlatOf}
 use Rattle.tdf_flat.specs.declared.model.Flat.{Flat}
 use Rattle.tdf_flow.proofs.Api.{get_inside, none_some, some_same}
+use Rattle.tdf_graph.specs.declared.actors.Actor.{Actor}
 use Rattle.tdf_graph.specs.declared.actors.Actor.TheVariants as actor
-use Rattle.tdf_layout.proofs.Actors.{IsOtherKind, IsSinkOf, module_kind, port_actor_at, sink_at}
+use Rattle.tdf_layout.proofs.Actors.{IsNoModule, IsNoSampler, IsOtherKind, IsSinkOf, module_kind, port_actor_at, sink_at}
 use Rattle.tdf_layout.proofs.Drivers.{IsDriver, driver_is}
 use Rattle.tdf_layout.proofs.Picked.{IsPicked, complete, once, picked, sound}
 use Rattle.tdf_layout.proofs.Rows.{all_at}
-use Rattle.tdf_layout.specs.Edges.{EdgesAreRows, IsEdgeRow, PortsGiveOnce, SinksAreRead}
-use Rattle.tdf_layout.specs.Wiring.{IsEdgeOf}
+use Rattle.tdf_layout.specs.Edges.{EdgesAreRows, IsEdgeRow, PortsGiveOnce, SamplersReadNone, SinksAreRead, SinksWriteNone}
+use Rattle.tdf_layout.specs.Wiring.{IsEdgeOf, Reads, Writes}
 use Rattle.tdf_roles.specs.Roles.{roles_of}
-use Rattle.tdf_streams.specs.Places.{actor_kind, kind_of_row, reader_of_row}
+use Rattle.tdf_streams.specs.Places.{actor_kind, kind_of_row, reader_of_row, writer_of_row}
 use Rattle.tdf_tree.specs.declared.blocks.PortKind.{PortKind}
 use Rattle.tdf_tree.specs.declared.blocks.PortKind.TheVariants.{In, Out, DeIn, DeOut}
 use Rattle.tdf_wiring.specs.Edges.{actor_at, driven_edge, driver_port, edge_by, edge_from, edge_of_kind, sink_edge}
@@ -153,6 +154,29 @@ module _ (model : _) (flat : Flat) (is : IsFlatOf model flat) where
           },
         )
 
+    -- no port's module is a sampler or a sink
+    not_there : (m number : ℕ) (port : PortRow) → slice_get flat.tables.ports number ≡ Some port → port.«module» ≡ m → (kind : Actor) → actor_kind flat.tables m ≡ Some kind → IsNoModule (Some kind) → ⊥
+    not_there m number port at own kind kind_is other =
+        subst IsNoModule (sym kind_is ∙ module_kind (length flat.tables.modules) flat.tables is.tables.follows.actors m (subst (λ k. k < length flat.tables.modules) own (own_module number port at))) other
+
+    pub sampler_reads : (m e : ℕ) → actor_kind flat.tables m ≡ Some actor.Sampler → Reads flat.tables m e → ⊥
+    sampler_reads m e kind r = let row = get_inside flat.tables.edges e r.inside in by_row row.0 (sym (ap reader_of_row row.1) ∙ r.reader) (edge_row e row.0 row.1)
+      where
+        by_row : (edge : EdgeRow) → edge.reader ≡ m → IsEdgeRow flat.tables edge → ⊥
+        by_row edge reader (IsEdgeRow.Between port out driver h) = not_there m edge.port port h.port_at (sym h.reader ∙ reader) actor.Sampler kind tt
+        by_row edge reader (IsEdgeRow.FromSampler port h) = not_there m edge.port port h.port_at (sym h.reader ∙ reader) actor.Sampler kind tt
+        by_row edge reader (IsEdgeRow.ToSink port h) =
+            subst IsNoSampler (sym (ap (actor_kind flat.tables) (sym reader) ∙ ap kind_of_row h.reader.row_at ∙ ap Some h.reader.kind_is) ∙ kind) tt
+
+    pub sink_writes : (m e : ℕ) → actor_kind flat.tables m ≡ Some actor.Sink → Writes flat.tables m e → ⊥
+    sink_writes m e kind r = let row = get_inside flat.tables.edges e r.inside in by_row row.0 (sym (ap writer_of_row row.1) ∙ r.writer) (edge_row e row.0 row.1)
+      where
+        by_row : (edge : EdgeRow) → edge.writer ≡ m → IsEdgeRow flat.tables edge → ⊥
+        by_row edge writer (IsEdgeRow.Between port out driver h) = not_there m out driver h.driver_at (sym h.writer ∙ writer) actor.Sink kind tt
+        by_row edge writer (IsEdgeRow.FromSampler port h) =
+            subst IsOtherKind (sym (ap (actor_kind flat.tables) (sym writer) ∙ ap kind_of_row h.writer.row_at ∙ ap Some h.writer.kind_is) ∙ kind) tt
+        by_row edge writer (IsEdgeRow.ToSink port h) = not_there m edge.port port h.port_at (sym h.writer ∙ writer) actor.Sink kind tt
+
     pub sinks_read : (m : ℕ) → actor_kind flat.tables m ≡ Some actor.Sink → (e : ℕ) × IsEdgeOf flat.tables m e
     sinks_read m sink = by_row (slice_get flat.tables.actors m) refl sink
       where
@@ -168,3 +192,9 @@ ports_give_once model flat d e x y is xat yat same = port_once model flat is d e
 
 pub sinks_are_read : SinksAreRead
 sinks_are_read model flat ranges is m sink = sinks_read model flat is ranges m sink
+
+pub samplers_read_none : SamplersReadNone
+samplers_read_none model flat m e ranges is kind r = sampler_reads model flat is ranges m e kind r
+
+pub sinks_write_none : SinksWriteNone
+sinks_write_none model flat m e ranges is kind w = sink_writes model flat is ranges m e kind w

@@ -5,8 +5,11 @@ pub mod Drivers
 pub mod Edges
 pub mod Gathers
 pub mod Given
+pub mod Listed
 pub mod Picked
+pub mod Rates
 pub mod Rows
 pub mod Samples
 pub mod Told
+pub mod Uses
 pub mod Wired

@@ -20,6 +20,8 @@ use Rattle.tdf_layout.proofs.Edges.{edge_row, port_once}
 use Rattle.tdf_layout.specs.Edges.{IsEdgeRow, WiresAreWired}
 use Rattle.tdf_layout.specs.Wiring.{AreWiresOf, port_of_row}
 use Rattle.tdf_layout.specs.machine.Places.{count_of}
+use Rattle.tdf_limits.specs.Limits.{limits_in, times_value}
+use Rattle.tdf_meaning.specs.Fits.{RatesFit}
 use Rattle.tdf_streams.specs.Places.{actor_kind, block_at, block_of_row, driver_or, kind_of_row, place_of_port, reader_of_row, source_of_row, writer_of_row}
 use Rattle.tdf_tree.specs.Pure.{PureTree}
 use Rattle.tdf_wiring.specs.declared.edges.EdgeRow.{EdgeRow}
@@ -59,6 +61,7 @@ module _ (formats : PortsHaveFormats) (model : PureTree) (flat : Flat) (sound : 
     pub at : slice_get (spans_at port.«module») (place_of_port flat.tables.ports number) ≡ Some span
     pub word : span.word ≡ port.kind
     pub format : signal_format flat.tables port.kind port.signal ≡ Some span.format
+    pub wide : (values : List ℕ) → RatesFit (limits_in flat.checked (slice_get flat.tables.modules port.«module»)) values → times_value port.rate.times values port.rate.var ≤ span.count
 
   pub at_place : (number : ℕ) (port : PortRow) → slice_get flat.tables.ports number ≡ Some port → IsAtPlace number port
   at_place number port at =
@@ -68,6 +71,7 @@ module _ (formats : PortsHaveFormats) (model : PureTree) (flat : Flat) (sound : 
         at = ap (λ o. slice_get (port_spans_of flat.checked (block_of_row o)) (place_of_port flat.tables.ports number)) h.module_is ∙ h.at;
         word = h.word;
         format = h.format;
+        wide = λ values fit. h.wide values (subst (λ o. RatesFit (limits_in flat.checked o) values) h.module_is fit);
       }
 
   -- the port by which a module reads an edge

@@ -13,8 +13,8 @@ use Rattle.tdf_formats.specs.Formats.{IsSoundModel}
 use Rattle.tdf_graph.specs.declared.actors.Actor.{Actor}
 use Rattle.tdf_graph.specs.declared.actors.Actor.TheVariants as actor
 use Rattle.tdf_layout.specs.Wires.{SinksHaveOne}
-use Rattle.tdf_layout.specs.Wiring.{AreWiresOf}
-use Rattle.tdf_streams.specs.Places.{block_at}
+use Rattle.tdf_layout.specs.Wiring.{AreWiresOf, Reads, Writes}
+use Rattle.tdf_streams.specs.Places.{actor_kind, block_at}
 use Rattle.tdf_tree.specs.Pure.{PureTree}
 use Rattle.tdf_tree.specs.declared.blocks.PortKind.TheVariants.{In, Out, DeIn, DeOut}
 use Rattle.tdf_wiring.specs.declared.edges.EdgeRow.{EdgeRow}
@@ -82,6 +82,17 @@ PortsGiveOnce = (model : PureTree) (flat : Flat) (d e : ℕ) (x y : EdgeRow) →
 abbrev pub SinksAreRead : Type 0
 SinksAreRead = (model : PureTree) (flat : Flat) → AreInRange flat.tables → IsFlatOf model flat
     → SinksHaveOne flat.tables
+
+-- a sampler reads no edge, and a sink writes none
+abbrev pub SamplersReadNone : Type 0
+SamplersReadNone = (model : PureTree) (flat : Flat) (m e : ℕ) → AreInRange flat.tables
+    → IsFlatOf model flat → actor_kind flat.tables m ≡ Some actor.Sampler
+    → Reads flat.tables m e → ⊥
+
+abbrev pub SinksWriteNone : Type 0
+SinksWriteNone = (model : PureTree) (flat : Flat) (m e : ℕ) → AreInRange flat.tables
+    → IsFlatOf model flat → actor_kind flat.tables m ≡ Some actor.Sink
+    → Writes flat.tables m e → ⊥
 
 -- the wires of a module are those of its block
 abbrev pub WiresAreWired : Type 0

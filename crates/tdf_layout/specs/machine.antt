@@ -1,3 +1,4 @@
 pub mod Ends
 pub mod Initials
+pub mod Marks
 pub mod Places

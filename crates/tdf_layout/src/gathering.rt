@@ -82,8 +82,8 @@ fn put_writer(
     rows[edge.writer as usize].put_out(wire)
 }
 
-/// The number of an edge has 32 bits; more edges do not fit in memory.
-fn short(place: usize) -> Result<u32, Memory>
+/// The number of a row has 32 bits; more rows do not fit in memory.
+pub(crate) fn short(place: usize) -> Result<u32, Memory>
     ensures { IfOk result (λ number. number ≡ place) }
 {
     if place > 4_294_967_295 {

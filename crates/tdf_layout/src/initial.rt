@@ -73,6 +73,14 @@ fn driver_samples(alloc: Global, tables: &Flat, driver: Option<u32>) -> Result<V
     }
 }
 
+/// Some samples, and others after them.
+fn joined(mut first: Vec<Raw>, later: &[Raw]) -> Result<Vec<Raw>, Memory>
+    ensures { IfOk result (λ samples. samples.items ≡ first.items ++ later.now) }
+{
+    first.extend_from_slice(later)?;
+    Ok(first)
+}
+
 /// The samples that an edge holds at first: the initial samples of the port that gives it, then those of the port that
 /// drives it.
 ///
@@ -81,8 +89,7 @@ fn driver_samples(alloc: Global, tables: &Flat, driver: Option<u32>) -> Result<V
 pub fn initial_samples(alloc: Global, tables: &Flat, edge: EdgeRow) -> Result<Vec<Raw>, Memory>
     ensures { IfOk result (λ samples. samples.items ≡ initial_list tables.now edge) }
 {
-    let mut samples = port_samples(alloc, tables, edge.port)?;
+    let first = port_samples(alloc, tables, edge.port)?;
     let later = driver_samples(alloc, tables, edge.driver)?;
-    samples.extend_from_slice(&later)?;
-    Ok(samples)
+    joined(first, &later)
 }

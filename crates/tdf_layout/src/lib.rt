@@ -5,6 +5,7 @@
 //! - `gathering`: each edge goes to its writer and to its reader.
 //! - `wiring`: what each actor of a cluster reads and writes.
 //! - `initial`: the samples that an edge holds at first.
+//! - `traced`: the ports whose signals are traced.
 //! - `laws`: what holds of all flat models.
 #![tactic(auto)]
 
@@ -13,9 +14,11 @@ mod gathering;
 mod initial;
 mod laws;
 mod places;
+mod traced;
 mod wiring;
 
 pub use initial::initial_samples;
-pub use laws::{law_edge_formats, law_edges, law_wired};
+pub use laws::{law_edge_formats, law_edges, law_rates, law_rates_within, law_wired};
 pub use places::port_places;
+pub use traced::{PortNumbers, traced_ports};
 pub use wiring::{ActorWires, cluster_wires};

@@ -9,8 +9,10 @@ use Rattle.tdf_convert.specs.declared.outputs.Sent.{Sent}
 use Rattle.tdf_convert.specs.declared.outputs.Traced.{Traced}
 use Rattle.tdf_exec.specs.Cluster.{ClusterOf}
 use Rattle.tdf_exec.specs.Gained.{Gives, HasGained, HaveRoom, sent_size, traced_size, with_gains}
-use Rattle.tdf_exec.specs.Made.{IsClusterOf, edge_format, is_sampler}
-use Rattle.tdf_exec.specs.Played.{AreGiven, HasPlayed, IsLike, IsMoved, IsPeriodOf, counted, play_of}
+use Rattle.tdf_exec.specs.Made.{IsClusterOf, is_sampler}
+use Rattle.tdf_layout.specs.Samples.{edge_format}
+use Rattle.tdf_exec.specs.Played.{AreGiven, HasPlayed, IsLike, IsMoved, IsPeriodOf, counted}
+use Rattle.tdf_exec.specs.Played.{play_of}
 use Rattle.tdf_exec.specs.Runners.{SamplerOf}
 use Rattle.tdf_exec.specs.declared.runners.Runner.{Runner}
 use Rattle.tdf_exec.specs.declared.runners.Runner.TheVariants as runner
@@ -74,8 +76,8 @@ pub record HasRoomNext (c : ClusterOf) (outputs : OutputsOf) : Type 0 where
 -- a step of the streams, whatever they are, with what it gives
 abbrev pub IsAnyStep : Flat → (inputs : List Raw) → (c d : ClusterOf) → Entry → List Sent
     → List Traced → Type 0
-IsAnyStep flat inputs c d x sent traced = (model : PureTree) (start : Start) (old : List PeriodRecord)
-    → (p : PeriodRecord) (reads : ℕ → List Raw) (from : ℕ)
+IsAnyStep flat inputs c d x sent traced = (model : PureTree) (start : Start)
+    → (old : List PeriodRecord) (p : PeriodRecord) (reads : ℕ → List Raw) (from : ℕ)
     → IsCheckedOf model flat.checked → IsPeriodOf c from p
     → AreGiven c inputs reads old from c.place x
     → Gives flat (cluster_net model flat c.number start) old p reads x.actor (play_of from c)
@@ -91,7 +93,8 @@ pub record HasStepped (flat : Flat) (inputs : List Raw) (c d : ClusterOf)
       → (s : Runner) × (slice_get d.runners m ≡ Some s) × IsLike r s
   pub same : length d.positions ≡ length c.positions
   pub own : slice_index d.positions entry.actor ≡ counted (slice_index c.positions entry.actor + 1)
-  pub others : (m : ℕ) → (m ≡ entry.actor → ⊥) → slice_index d.positions m ≡ slice_index c.positions m
+  pub others : (m : ℕ) → (m ≡ entry.actor → ⊥)
+      → slice_index d.positions m ≡ slice_index c.positions m
   pub sent : List Sent
   pub traced : List Traced
   pub gains : after ≡ with_gains before sent traced

@@ -6,7 +6,8 @@ use Rattle.std.specs.Prelude.{Some, filter_map, if◌then◌else◌, slice_get, 
 use Rattle.tdf_bind.specs.Flat.{FlatOf}
 use Rattle.tdf_dynamic.specs.Attributes.{AttrsOf}
 use Rattle.tdf_dynamic.specs.Rates.{port_rate}
-use Rattle.tdf_exec.specs.Traced.{is_out, is_trace_of, number_if_traced, traced_port}
+use Rattle.tdf_exec.specs.Traced.{traced_port}
+use Rattle.tdf_layout.specs.Traced.{is_out, is_trace_of, number_if_traced}
 use Rattle.tdf_exec.specs.declared.runners.Runner.{Runner}
 use Rattle.tdf_exec.specs.declared.runners.Runner.TheVariants as runner
 use Rattle.tdf_exec.specs.declared.runners.TracedPort.{TracedPort}

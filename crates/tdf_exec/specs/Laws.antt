@@ -1,0 +1,37 @@
+-- What holds of clusters in progress.
+-- Source: own.
+use Rattle.std.specs.Prelude.{◌≡◌, ℕ, ◌+◌, ◌*◌, [], length, slice_index}
+use Rattle.tdf_checks.specs.Types.{type_faults}
+use Rattle.tdf_dynamic.specs.Rates.{net_of}
+use Rattle.tdf_exec.specs.Cluster.{ClusterOf}
+use Rattle.tdf_exec.specs.Made.{IsPlanned, IsSafe, KeepRates}
+use Rattle.tdf_expr.specs.Checked.{IsCheckedOf}
+use Rattle.tdf_flat.specs.declared.model.Flat.{Flat}
+use Rattle.tdf_limits.specs.Limits.{AreWithinLimits}
+use Rattle.tdf_rings.specs.Carried.{ring_at}
+use Rattle.tdf_schedule.specs.Plan.{done}
+use Rattle.tdf_streams.specs.Periods.{AreAttributes, read_rates, write_rates}
+use Rattle.tdf_streams.specs.Places.{reader_at, writer_at}
+use Rattle.tdf_streams.specs.Starts.{held_at_head}
+use Rattle.tdf_tree.specs.Pure.{PureTree}
+
+-- along the plan of its table a cluster is safe, whatever it holds
+abbrev pub PlansAreSafe : Type 0
+PlansAreSafe = (flat : Flat) (c : ClusterOf) → AreWithinLimits flat
+    → AreAttributes flat c.number c.table → IsPlanned flat.tables c
+    → c.reads ≡ read_rates (net_of flat.tables c.table)
+    → c.writes ≡ write_rates (net_of flat.tables c.table) → IsSafe flat.tables c
+
+-- before the first entry an edge holds what it is to hold at the head of a period
+abbrev pub HeadsHold : Type 0
+HeadsHold = (flat : Flat) (c : ClusterOf) (e : ℕ) → c.place ≡ 0
+    → length (ring_at c.rings e).samples ≡ held_at_head flat.tables c.number e
+    → length (ring_at c.rings e).samples
+    + done c.entries c.place (reader_at flat.tables.edges e) * slice_index c.reads e
+    ≡ held_at_head flat.tables c.number e
+    + done c.entries c.place (writer_at flat.tables.edges e) * slice_index c.writes e
+
+-- where a model has no fault of types, no processing body sets a rate variable
+abbrev pub RatesAreKept : Type 0
+RatesAreKept = (model : PureTree) (flat : Flat) → type_faults model ≡ []
+    → IsCheckedOf model flat.checked → KeepRates flat.checked

@@ -1,0 +1,23 @@
+//! What holds of clusters in progress: each function here only carries its clauses.
+
+ghost use Rattle.tdf_exec.specs.Laws.{HeadsHold, PlansAreSafe, RatesAreKept};
+
+use tdf_schedule::law_present;
+
+/// Along the plan of its table only actors of a cluster fire, each firing finds its samples, and no edge holds more than
+/// its bound.
+pub fn law_safe()
+    ensures { PlansAreSafe }
+{
+    law_present();
+}
+
+/// What the edges of a cluster hold before the first entry of its plan.
+pub fn law_heads()
+    ensures { HeadsHold }
+{}
+
+/// No processing body of a model without a fault of types sets a rate variable.
+pub fn law_rates()
+    ensures { RatesAreKept }
+{}
