@@ -1,8 +1,10 @@
 pub mod Cluster
+pub mod Crossing
 pub mod Gained
 pub mod Laws
 pub mod Made
 pub mod Played
 pub mod Runners
+pub mod Starts
 pub mod Traced
 pub mod machine

@@ -1,3 +1,6 @@
 -- How the code of this crate works.
 pub mod Fired
+pub mod Laid
+pub mod Starting
 pub mod Steps
+pub mod Tracing

@@ -10,16 +10,16 @@ use tdf_schedule::{Entry, Plan};
 /// what its actors need to fire. Edges and actors have the numbers of the flat model.
 #[derive(Drop)]
 pub struct Cluster {
-    number: u32,
-    attrs: Attrs,
-    plan: Plan,
-    place: usize,
-    crossed: bool,
-    reads: Vec<u32>,
-    writes: Vec<u32>,
-    rings: Vec<Ring>,
-    runners: Vec<Runner>,
-    positions: Vec<u64>,
+    pub(crate) number: u32,
+    pub(crate) attrs: Attrs,
+    pub(crate) plan: Plan,
+    pub(crate) place: usize,
+    pub(crate) crossed: bool,
+    pub(crate) reads: Vec<u32>,
+    pub(crate) writes: Vec<u32>,
+    pub(crate) rings: Vec<Ring>,
+    pub(crate) runners: Vec<Runner>,
+    pub(crate) positions: Vec<u64>,
 }
 
 impl Model for Cluster {

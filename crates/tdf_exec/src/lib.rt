@@ -2,13 +2,26 @@
 //!
 //! - `runners`: what each actor needs to fire, and one firing.
 //! - `cluster`: a cluster in progress, and its calls.
+//! - `rating`: the rates in force, by edge.
+//! - `filling`: the rings of a cluster at its start.
+//! - `beginning`: what its actors keep at its start.
+//! - `starting`: a cluster at the start of its first period.
+//! - `crossing`: from the end of a period to the next.
+//! - `tracing`: the ports of modules whose signals are traced.
 //! - `laws`: what holds of clusters in progress.
 #![tactic(auto)]
 
+mod beginning;
 mod cluster;
+mod crossing;
+mod filling;
 mod laws;
+mod rating;
 mod runners;
+mod starting;
+mod tracing;
 
 pub use cluster::Cluster;
+pub use crossing::Next;
 pub use laws::{law_heads, law_rates, law_safe};
 pub use runners::{ModuleRunner, Runner, SamplerRunner, SinkRunner, TracedPort};

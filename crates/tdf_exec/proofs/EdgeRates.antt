@@ -1,0 +1,44 @@
+-- The rates of ports and edges, as they are found.
+use Rattle.std.proofs.Common.{◌≡◌, ◌∙◌, ℕ, ◌≤◌, Some, option_map, List, length, map, take, ap, sym}
+use Rattle.std.proofs.lemmas.List.{take_all}
+use Rattle.std.proofs.lemmas.Option.{slice_get-map, slice_get_past}
+use Rattle.std.proofs.lemmas.Simd.{map-map}
+use Rattle.std.specs.Prelude.{slice_get}
+use Rattle.tdf_bind.specs.Flat.{FlatOf}
+use Rattle.tdf_dynamic.specs.Attributes.{AttrsOf}
+use Rattle.tdf_dynamic.specs.Rates.{edge_kind, net_of, net_ports, port_rate, rated_edge, rated_port, read_rate_by, write_rate_by}
+use Rattle.tdf_graph.specs.declared.actors.Edge.{Edge}
+use Rattle.tdf_streams.specs.Periods.{read_rates, write_rates}
+use Rattle.tdf_timestep.specs.Period.{rate_at, rate_of}
+use Rattle.tdf_wiring.specs.declared.edges.EdgeRow.{EdgeRow}
+use Rattle.tdf_wiring.specs.declared.modules.PortRow.{PortRow}
+
+module _ (tables : FlatOf) (table : List AttrsOf) where
+  -- the rate of a port, and of one that isn't there
+  pub rate_there : (n : ℕ) (row : PortRow) → slice_get tables.ports n ≡ Some row → rate_of (net_ports tables table) (Some n) ≡ port_rate table row
+  unfolding net_ports
+  rate_there n row at = ap rate_at (slice_get-map (rated_port table) tables.ports n ∙ ap (option_map (rated_port table)) at)
+
+  pub rate_past : (n : ℕ) → length tables.ports ≤ n → rate_of (net_ports tables table) (Some n) ≡ 1
+  unfolding net_ports
+  rate_past n past = ap rate_at (slice_get-map (rated_port table) tables.ports n ∙ ap (option_map (rated_port table)) (slice_get_past tables.ports n past))
+
+  abbrev pub edge_reads : EdgeRow → ℕ
+  edge_reads edge = read_rate_by (net_ports tables table) edge (edge_kind tables.ports edge)
+
+  abbrev pub edge_writes : EdgeRow → ℕ
+  edge_writes edge = write_rate_by (net_ports tables table) edge (edge_kind tables.ports edge)
+
+  pub reads_map : read_rates (net_of tables table) ≡ map edge_reads tables.edges
+  unfolding net_of
+  reads_map = map-map (λ (e : Edge). e.read_rate) (rated_edge tables.ports (net_ports tables table)) tables.edges
+
+  pub writes_map : write_rates (net_of tables table) ≡ map edge_writes tables.edges
+  unfolding net_of
+  writes_map = map-map (λ (e : Edge). e.write_rate) (rated_edge tables.ports (net_ports tables table)) tables.edges
+
+  pub all_read : (n : ℕ) → length tables.edges ≤ n → map edge_reads (take n tables.edges) ≡ read_rates (net_of tables table)
+  all_read n all = ap (map edge_reads) (take_all n tables.edges all) ∙ sym reads_map
+
+  pub all_written : (n : ℕ) → length tables.edges ≤ n → map edge_writes (take n tables.edges) ≡ write_rates (net_of tables table)
+  all_written n all = ap (map edge_writes) (take_all n tables.edges all) ∙ sym writes_map

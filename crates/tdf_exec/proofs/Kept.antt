@@ -1,0 +1,389 @@
+-- A cluster at its start is one of its flat model, and stands for its streams.
+use Rattle.std.proofs.Common.{◌≡◌, ◌∙◌, ◌≢◌, ℕ, zero, suc, ◌+◌, ◌<◌, ◌≤◌, ◌||◌, Bool, true, false, not, List, [], ◌∷◌, Option, Some, None, option_map, ℤ}
+use Rattle.std.proofs.Common.{length, map, take, refl, sym, ap, subst, inl, inr, ◌⊎◌, arith}
+use Rattle.std.proofs.Math.ListN.{get_or-map}
+use Rattle.std.proofs.lemmas.Bool.{cases_eq, cases_lt, eqb-true}
+use Rattle.std.proofs.lemmas.List.{get_or-replicate, get_or_past, length-replicate, take_all}
+use Rattle.std.proofs.lemmas.List.FromFn.{length-map-range_with_len}
+use Rattle.std.proofs.lemmas.List.Sums.{sum_by-cons}
+use Rattle.std.proofs.lemmas.Option.{get_or_from_slice_get, slice_get-map, slice_get_within}
+use Rattle.std.specs.List.{enumerate_from, range_with_len}
+use Rattle.std.specs.Prelude.{cond, filter_map, replicate, slice_get, slice_index, slice_index_or}
+use Rattle.tdf_bind.specs.Actors.{cluster_of}
+use Rattle.tdf_bind.specs.declared.actors.ActorRow.{ActorRow}
+use Rattle.tdf_dynamic.specs.Attributes.{AttrsOf, attrs_at, clusters_of, rates_in}
+use Rattle.tdf_dynamic.specs.Faults.{IsTablePlan}
+use Rattle.tdf_dynamic.specs.First.{IsFirstPlan}
+use Rattle.tdf_dynamic.specs.Rates.{AreRates, net_of}
+use Rattle.tdf_dynamic.specs.declared.first.First.{First}
+use Rattle.tdf_exec.proofs.Ends.{below_modules, module_kind, no_sink, sampler_never, sampler_writes, sink_never, sink_reads}
+use Rattle.tdf_exec.proofs.Formed.{attrs_found, is_module, reads_at, writes_at}
+use Rattle.tdf_exec.proofs.Moved.{some_inj}
+use Rattle.tdf_exec.proofs.Planned.{are_held, is_safe, lists_are, start_of, timed}
+use Rattle.tdf_exec.proofs.Rows.{index_at}
+use Rattle.tdf_exec.specs.Cluster.{ClusterOf}
+use Rattle.tdf_exec.specs.Made.{IsClusterOf, IsRunnerOf, IsSamplerOf, IsSinkOf, is_sampler, samplers_before}
+use Rattle.tdf_exec.specs.Played.{cells_of, play_of, turns_from}
+use Rattle.tdf_exec.specs.Runners.{ModuleOf, SamplerOf}
+use Rattle.tdf_exec.specs.Starts.{IsSoundFlat, StandsAtStart}
+use Rattle.tdf_exec.specs.Traced.{traced_port}
+use Rattle.tdf_layout.specs.Traced.{number_if_traced, traced_ports}
+use Rattle.tdf_exec.specs.declared.runners.Runner.{Runner}
+use Rattle.tdf_exec.specs.declared.runners.Runner.TheVariants as runner
+use Rattle.tdf_exec.specs.declared.runners.TracedPort.{TracedPort}
+use Rattle.tdf_exec.specs.machine.Laid.{AreParts, AreRunnersOf, IsLaid}
+use Rattle.tdf_exec.specs.machine.Starting.{AreFirstRings, IsBegun, IsFirstRunner, IsOfModule}
+use Rattle.tdf_exec.specs.machine.Tracing.{traced_before, with_traced}
+use Rattle.tdf_expr.specs.Checked.{IsCheckedOf}
+use Rattle.tdf_expr.specs.Made.{start_rates}
+use Rattle.tdf_firing.specs.Wires.{WiresOf}
+use Rattle.tdf_flat.specs.declared.model.Flat.{Flat}
+use Rattle.tdf_flow.proofs.Api.{get_inside, get_made_at, none_some, some_same, start_stands}
+use Rattle.tdf_graph.specs.declared.actors.Actor.{Actor}
+use Rattle.tdf_graph.specs.declared.actors.Actor.TheVariants as actor
+use Rattle.tdf_layout.specs.Wires.{AreClusterWires, IsWiringOf}
+use Rattle.tdf_layout.specs.Wiring.{AreEdgesOf, IsEdgeOf}
+use Rattle.tdf_layout.specs.declared.wiring.ActorWires.{ActorWires}
+use Rattle.tdf_layout.specs.declared.wiring.ActorWires.TheVariants as wires
+use Rattle.tdf_rings.specs.Rings.{RingOf, ring_of}
+use Rattle.tdf_schedule.specs.Laws.{PlansArePresent}
+use Rattle.tdf_streams.proofs.Api.{are_rates}
+use Rattle.tdf_streams.specs.Bodies.{initialized}
+use Rattle.tdf_streams.specs.Cluster.{cluster_net, is_outside, is_sampler_kind, text_start, zero_sample}
+use Rattle.tdf_streams.specs.Periods.{read_rates, write_rates}
+use Rattle.tdf_streams.specs.Places.{actor_kind, block_of_row, kind_of_row, reader_of_row, writer_of_row}
+use Rattle.tdf_tree.specs.Pure.{PureTree}
+
+-- what is told of edges is told of modules alone
+module _ (flat : Flat) (laid : IsLaid flat) (cluster : ℕ) (ws : List ActorWires) (are : AreClusterWires flat.tables cluster ws) where
+  told : (m : ℕ) (kind : Actor) (w : ActorWires) → actor_kind flat.tables m ≡ Some kind → IsWiringOf flat.tables m kind w → IsOfModule flat m w
+  told m actor.Module (wires.Module w) kind h = below_modules flat laid m kind
+  told m actor.Sampler (wires.Module w) kind h = absurd h
+  told m actor.Sink (wires.Module w) kind h = absurd h
+  told m kind (wires.Sampler edges) is h = tt
+  told m kind (wires.Sink edge) is h = tt
+  told m kind wires.Elsewhere is h = tt
+
+  pub of_modules : (m : ℕ) (w : ActorWires) → slice_get ws m ≡ Some w → IsOfModule flat m w
+  of_modules m w at = go (cases_eq row.0.cluster cluster)
+    where
+      row : (r : ActorRow) × (slice_get flat.tables.actors m ≡ Some r)
+      row = get_inside flat.tables.actors m (let l = are.long in let i = slice_get_within ws m w at in omega (arith, l, i))
+
+      go : (row.0.cluster ≡ cluster) ⊎ (row.0.cluster ≢ cluster) → IsOfModule flat m w
+      go (inl own) = told m row.0.kind w (ap kind_of_row row.1) (are.own m row.0 w row.1 at own)
+      go (inr other) = subst (IsOfModule flat m) (sym (are.other m row.0 w row.1 at other)) tt
+
+true_false : {P : Type 0} → true ≡ false → P
+true_false h = absurd (subst (λ b. elim b as (λ _. Type 0) [ true ↦ Unit {0} | false ↦ ⊥ ]) h tt)
+
+pub neither : (a b : Bool) → (a || b) ≡ false → (a ≡ false) × (b ≡ false)
+neither true b h = true_false h
+neither false b h = (refl, h)
+
+pub not_not : (b : Bool) → not b ≡ false → b ≡ true
+not_not true h = refl
+not_not false h = true_false h
+
+pub zero_in : (f : ℕ → ℕ) (xs : List ℕ) (m : ℕ) → ((j : ℕ) → f j ≡ 0) → slice_index (map f xs) m ≡ 0
+zero_in f [] m none = refl
+zero_in f (x ∷ xs) zero none = none x
+zero_in f (x ∷ xs) (suc m) none = zero_in f xs m none
+
+-- lists whose runners are samplers alike
+count_alike : (xs ys : List Runner) (n : ℕ) → length xs ≡ length ys → ((m : ℕ) (x y : Runner) → slice_get xs m ≡ Some x → slice_get ys m ≡ Some y → is_sampler x ≡ is_sampler y)
+    → samplers_before xs n ≡ samplers_before ys n
+count_alike xs ys zero long same = refl
+count_alike [] [] (suc n) long same = refl
+count_alike [] (y ∷ ys) (suc n) long same = absurd (omega (arith, long))
+count_alike (x ∷ xs) [] (suc n) long same = absurd (omega (arith, long))
+count_alike (x ∷ xs) (y ∷ ys) (suc n) long same =
+    let s = sum_by-cons (λ z. cond {A = ℕ} (is_sampler z) 1 0) x (take n xs) in
+    let t = sum_by-cons (λ z. cond {A = ℕ} (is_sampler z) 1 0) y (take n ys) in
+    let h : cond {A = ℕ} (is_sampler x) 1 0 ≡ cond {A = ℕ} (is_sampler y) 1 0 = ap (λ (b : Bool). cond {A = ℕ} b 1 0) (same 0 x y refl refl) in
+    let r = count_alike xs ys n (omega (arith, long)) (λ m a b xat yat. same (suc m) a b xat yat) in
+    omega (arith, s, t, h, r)
+
+traced_alike : (l : List TracedPort) (r : Runner) → is_sampler (with_traced l r) ≡ is_sampler r
+traced_alike l (runner.Module x) = refl
+traced_alike l (runner.Sampler s) = refl
+traced_alike l (runner.Sink k) = refl
+traced_alike l runner.Outside = refl
+
+module _ (flat : Flat) (cluster : ℕ) (first : First) (sound : IsSoundFlat flat) (laid : IsLaid flat) (is : IsFirstPlan flat cluster first) (law : PlansArePresent)
+    (rings : List RingOf) (runners : List Runner) (positions : List ℕ) (rings_are : AreFirstRings flat.tables cluster first.plan.bounds.items (length flat.tables.edges) rings)
+    (are : AreRunnersOf flat cluster first.attrs runners) (none_done : positions ≡ replicate (length flat.tables.actors) 0) where
+  abbrev started : ClusterOf
+  started = start_of cluster first (read_rates (net_of flat.tables first.attrs)) (write_rates (net_of flat.tables first.attrs)) rings runners positions
+
+  long : length runners ≡ length flat.tables.actors
+  long = are.given.same ∙ are.begun_are.long ∙ are.wires_are.long
+
+  -- what is kept for an actor, and from what it came
+  pub record CameFrom (m : ℕ) (r : Runner) : Type 0 where
+    pub row : ActorRow
+    pub row_at : slice_get flat.tables.actors m ≡ Some row
+    pub w : ActorWires
+    pub w_at : slice_get are.wires m ≡ Some w
+    pub b : Runner
+    pub b_at : slice_get are.begun m ≡ Some b
+    pub first_is : IsFirstRunner flat m (samplers_before are.begun m) w b
+    pub low : m < length are.rows → r ≡ with_traced (slice_index_or are.rows m []) b
+    pub high : length are.rows ≤ m → r ≡ b
+
+  came : (m : ℕ) (r : Runner) → slice_get runners m ≡ Some r → CameFrom m r
+  came m r at =
+      let i = slice_get_within runners m r at in let l = long in let s = are.given.same in let n = are.begun_are.long in
+      let b = get_inside are.begun m (omega (arith, i, s)) in
+      let w = get_inside are.wires m (omega (arith, i, s, n)) in
+      let row = get_inside flat.tables.actors m (omega (arith, i, l)) in
+      record {
+        row = row.0;
+        row_at = row.1;
+        w = w.0;
+        w_at = w.1;
+        b = b.0;
+        b_at = b.1;
+        first_is = are.begun_are.each m w.0 b.0 w.1 b.1;
+        low = λ below. some_inj r (with_traced (slice_index_or are.rows m []) b.0) (sym at ∙ are.given.done m b.0 below b.1);
+        high = λ past. some_inj r b.0 (sym at ∙ are.given.waiting m past ∙ b.1);
+      }
+
+  alike : (m : ℕ) (x y : Runner) → slice_get runners m ≡ Some x → slice_get are.begun m ≡ Some y → is_sampler x ≡ is_sampler y
+  alike m x y xat yat =
+      let h : CameFrom m x = came m x xat in
+      let same : h.b ≡ y = some_inj h.b y (sym h.b_at ∙ yat) in
+      go h (cases_lt m (length are.rows)) ∙ ap is_sampler same
+    where
+      go : (h : CameFrom m x) → (m < length are.rows) ⊎ (length are.rows ≤ m) → is_sampler x ≡ is_sampler h.b
+      go h (inl below) = ap is_sampler (h.low below) ∙ traced_alike (slice_index_or are.rows m []) h.b
+      go h (inr past) = ap is_sampler (h.high past)
+
+  before : (m : ℕ) → samplers_before are.begun m ≡ samplers_before runners m
+  before m = sym (count_alike runners are.begun m are.given.same alike)
+
+  -- what isn't a module is as it was made
+  plain : (m : ℕ) (r b : Runner) → ((l : List TracedPort) → with_traced l b ≡ b) → (m < length are.rows → r ≡ with_traced (slice_index_or are.rows m []) b) → (length are.rows ≤ m → r ≡ b) → r ≡ b
+  plain m r b same low high = go (cases_lt m (length are.rows))
+    where
+      go : (m < length are.rows) ⊎ (length are.rows ≤ m) → r ≡ b
+      go (inl below) = low below ∙ same (slice_index_or are.rows m [])
+      go (inr past) = high past
+
+  module _ (m : ℕ) (own : slice_index (clusters_of flat.tables) m ≡ cluster) (r : Runner) where
+    by_module : (w : WiresOf) (b : Runner) → actor_kind flat.tables m ≡ Some actor.Module → IsWiringOf flat.tables m actor.Module (wires.Module w)
+        → IsFirstRunner flat m (samplers_before are.begun m) (wires.Module w) b → (m < length are.rows → r ≡ with_traced (slice_index_or are.rows m []) b) → IsRunnerOf flat started m r
+    by_module w (runner.Module x) kind h begun low =
+        let below : m < length flat.tables.modules = below_modules flat laid m kind in
+        let l = are.traced_are.long in
+        subst (IsRunnerOf flat started m) (sym (low (omega (arith, below, l))))
+        (is_module flat cluster first laid is m kind own w h rings runners positions x begun (slice_index_or are.rows m [])
+        (are.traced_are.each m below ∙ ap (map (traced_port flat.tables first.attrs)) (all_traced m)))
+      where
+        all_traced : (m : ℕ) → traced_before flat.tables (length flat.tables.ports) m ≡ traced_ports flat.tables m
+        all_traced m = ap (λ l. filter_map (λ port. number_if_traced flat.tables m port.0 port.1) (enumerate_from 0 l))
+            (take_all (length flat.tables.ports) flat.tables.ports (omega arith))
+    by_module w (runner.Sampler s) kind h begun low = absurd begun
+    by_module w (runner.Sink k) kind h begun low = absurd begun
+    by_module w runner.Outside kind h begun low = absurd begun
+
+    sampler_is : (s : SamplerOf) (edges : List ℕ) → actor_kind flat.tables m ≡ Some actor.Sampler → AreEdgesOf flat.tables m edges → s.edges ≡ edges → s.place ≡ samplers_before are.begun m
+        → IsSamplerOf flat started m s
+    sampler_is s edges kind h edges_are place_is = record {
+      actor_is = record { kind_is = kind; inside = own };
+      edges_are = subst (AreEdgesOf flat.tables m) (sym edges_are) h;
+      place_is = place_is ∙ before m;
+      rate = λ e writes. (let row = get_inside flat.tables.edges e writes.inside in
+          writes_at flat cluster first laid is e row.0 row.1 ∙ sampler_writes flat laid first.attrs row.0 (laid.rows e row.0 row.1)
+          (ap (actor_kind flat.tables) (sym (ap writer_of_row row.1) ∙ writes.writer) ∙ kind));
+      none = λ e reads. (let row = get_inside flat.tables.edges e reads.inside in
+          sampler_never flat laid row.0 (laid.rows e row.0 row.1) (ap (actor_kind flat.tables) (sym (ap reader_of_row row.1) ∙ reads.reader) ∙ kind));
+    }
+
+    sink_is : (edge : ℕ) → actor_kind flat.tables m ≡ Some actor.Sink → IsEdgeOf flat.tables m edge → IsSinkOf flat started m edge
+    sink_is edge kind h = record {
+      actor_is = record { kind_is = kind; inside = own };
+      edge_is = h;
+      rate = (let row = get_inside flat.tables.edges edge h.is.inside in
+          reads_at flat cluster first laid is edge row.0 row.1 ∙ sink_reads flat laid first.attrs row.0 (laid.rows edge row.0 row.1)
+          (ap (actor_kind flat.tables) (sym (ap reader_of_row row.1) ∙ h.is.reader) ∙ kind));
+      none = λ e writes. (let row = get_inside flat.tables.edges e writes.inside in
+          sink_never flat laid row.0 (laid.rows e row.0 row.1) (ap (actor_kind flat.tables) (sym (ap writer_of_row row.1) ∙ writes.writer) ∙ kind));
+    }
+
+    by_sampler : (edges : _) (b : Runner) → actor_kind flat.tables m ≡ Some actor.Sampler → IsWiringOf flat.tables m actor.Sampler (wires.Sampler edges)
+        → IsFirstRunner flat m (samplers_before are.begun m) (wires.Sampler edges) b → ((same : (l : List TracedPort) → with_traced l b ≡ b) → r ≡ b) → IsRunnerOf flat started m r
+    by_sampler edges (runner.Sampler s) kind h begun same = subst (IsRunnerOf flat started m) (sym (same (λ l. refl))) (sampler_is s edges.items kind h begun.0 begun.1)
+    by_sampler edges (runner.Module x) kind h begun same = absurd begun
+    by_sampler edges (runner.Sink k) kind h begun same = absurd begun
+    by_sampler edges runner.Outside kind h begun same = absurd begun
+
+    by_sink : (edge : ℕ) (b : Runner) → actor_kind flat.tables m ≡ Some actor.Sink → IsWiringOf flat.tables m actor.Sink (wires.Sink edge)
+        → IsFirstRunner flat m (samplers_before are.begun m) (wires.Sink edge) b → ((same : (l : List TracedPort) → with_traced l b ≡ b) → r ≡ b) → IsRunnerOf flat started m r
+    by_sink edge (runner.Sink k) kind h begun same =
+        subst (IsRunnerOf flat started m) (sym (same (λ l. refl))) (sink_is k.edge kind (subst (IsEdgeOf flat.tables m) (sym begun) h))
+    by_sink edge (runner.Module x) kind h begun same = absurd begun
+    by_sink edge (runner.Sampler s) kind h begun same = absurd begun
+    by_sink edge runner.Outside kind h begun same = absurd begun
+
+    own_runner : (kind : Actor) (w : ActorWires) (b : Runner) → actor_kind flat.tables m ≡ Some kind → IsWiringOf flat.tables m kind w → IsFirstRunner flat m (samplers_before are.begun m) w b
+        → (m < length are.rows → r ≡ with_traced (slice_index_or are.rows m []) b) → (length are.rows ≤ m → r ≡ b) → IsRunnerOf flat started m r
+    own_runner actor.Module (wires.Module w) b kind h begun low high = by_module w b kind h begun low
+    own_runner actor.Module (wires.Sampler edges) b kind h begun low high = absurd h
+    own_runner actor.Module (wires.Sink edge) b kind h begun low high = absurd h
+    own_runner actor.Module wires.Elsewhere b kind h begun low high = absurd h
+    own_runner actor.Sampler (wires.Sampler edges) b kind h begun low high = by_sampler edges b kind h begun (λ same. plain m r b same low high)
+    own_runner actor.Sampler (wires.Module w) b kind h begun low high = absurd h
+    own_runner actor.Sampler (wires.Sink edge) b kind h begun low high = absurd h
+    own_runner actor.Sampler wires.Elsewhere b kind h begun low high = absurd h
+    own_runner actor.Sink (wires.Sink edge) b kind h begun low high = by_sink edge b kind h begun (λ same. plain m r b same low high)
+    own_runner actor.Sink (wires.Module w) b kind h begun low high = absurd h
+    own_runner actor.Sink (wires.Sampler edges) b kind h begun low high = absurd h
+    own_runner actor.Sink wires.Elsewhere b kind h begun low high = absurd h
+
+  other_runner : (m : ℕ) (r b : Runner) → (slice_index (clusters_of flat.tables) m ≡ cluster → ⊥) → IsFirstRunner flat m (samplers_before are.begun m) wires.Elsewhere b
+      → ((same : (l : List TracedPort) → with_traced l b ≡ b) → r ≡ b) → IsRunnerOf flat started m r
+  other_runner m r runner.Outside apart begun same = subst (IsRunnerOf flat started m) (sym (same (λ l. refl))) apart
+  other_runner m r (runner.Module x) apart begun same = absurd begun
+  other_runner m r (runner.Sampler s) apart begun same = absurd begun
+  other_runner m r (runner.Sink k) apart begun same = absurd begun
+
+  pub runner_is : (m : ℕ) (r : Runner) → slice_get runners m ≡ Some r → IsRunnerOf flat started m r
+  runner_is m r at = go (came m r at) (cases_eq (slice_index (clusters_of flat.tables) m) cluster)
+    where
+      go : CameFrom m r → (slice_index (clusters_of flat.tables) m ≡ cluster) ⊎ (slice_index (clusters_of flat.tables) m ≢ cluster) → IsRunnerOf flat started m r
+      go h (inl own) = own_runner m own r h.row.kind h.w h.b (ap kind_of_row h.row_at)
+          (are.wires_are.own m h.row h.w h.row_at h.w_at (sym (index_at cluster_of flat.tables.actors m h.row h.row_at) ∙ own)) h.first_is h.low h.high
+      go h (inr apart) = other_runner m r h.b apart
+          (subst (λ x. IsFirstRunner flat m (samplers_before are.begun m) x h.b)
+          (are.wires_are.other m h.row h.w h.row_at h.w_at (λ e. apart (index_at cluster_of flat.tables.actors m h.row h.row_at ∙ e))) h.first_is)
+          (λ same. plain m r h.b same h.low h.high)
+
+  zero_at : (m : ℕ) → slice_index positions m ≡ 0
+  zero_at m = ap (λ l. slice_index l m) none_done ∙ go (cases_lt m (length flat.tables.actors))
+    where
+      go : (m < length flat.tables.actors) ⊎ (length flat.tables.actors ≤ m) → slice_index (replicate (length flat.tables.actors) 0) m ≡ 0
+      go (inl below) = get_or-replicate (length flat.tables.actors) m 0 0 below
+      go (inr past) = get_or_past (replicate (length flat.tables.actors) 0) m 0 (let l = length-replicate {A = ℕ} (length flat.tables.actors) 0 in omega (arith, past, l))
+
+  pub is_cluster : IsClusterOf flat started
+  is_cluster = record {
+    attributes = (timed flat cluster first sound laid is law).attributes;
+    planned = record {
+      plan = first.plan;
+      plan_is = subst (λ (t : List AttrsOf). IsTablePlan flat.tables cluster t first.plan) (sym is.attrs_are) is.plan_is;
+      entries_are = refl;
+      bounds_are = refl;
+      period_is = refl;
+    };
+    reads_are = refl;
+    writes_are = refl;
+    safe = is_safe flat cluster first sound laid is law rings runners positions rings_are;
+    within = omega arith;
+    held = are_held flat cluster first sound laid is law rings runners positions rings_are;
+    actors = long;
+    positions = ap length none_done ∙ length-replicate {A = ℕ} (length flat.tables.actors) 0;
+    counted = λ m. (let z = zero_at m in omega (arith, z));
+    runners = runner_is;
+    keep = sound.keep;
+  }
+
+  -- what the variables of a module hold at the start
+  abbrev cells_at : PureTree → ℕ → List ℤ
+  cells_at model m = slice_index_or (text_start model flat cluster first.attrs).cells m []
+
+  abbrev first_cells : PureTree → ℕ → List ℤ
+  first_cells model m = initialized model flat m (rates_in (attrs_at first.attrs m))
+
+  made_cells : (model : PureTree) (m : ℕ) → m < length flat.tables.modules → cells_at model m ≡ first_cells model m
+  made_cells model m below = get_or_from_slice_get (text_start model flat cluster first.attrs).cells m (first_cells model m) []
+      (get_made_at (first_cells model) 0 (length flat.tables.modules) m below ∙ (let z : 0 + m ≡ m = omega arith in ap (λ k. Some (first_cells model k)) z))
+
+  past_cells : (model : PureTree) (m : ℕ) → length flat.tables.modules ≤ m → cells_at model m ≡ []
+  past_cells model m past = get_or_past (text_start model flat cluster first.attrs).cells m []
+      (let l = length-map-range_with_len (first_cells model) 0 (length flat.tables.modules) in omega (arith, l, past))
+
+  module_cells : (model : PureTree) → IsCheckedOf model flat.checked → (m : ℕ) → slice_index (clusters_of flat.tables) m ≡ cluster → m < length flat.tables.modules → (w : WiresOf) (x : ModuleOf)
+      → IsBegun flat m w x → x.frame.state.cells ≡ cells_at model m
+  module_cells model checked m own below w x begun =
+      let row = get_inside flat.tables.modules m below in
+      begun.cells model checked
+      ∙ ap (initialized model flat m) (ap (start_rates flat.checked) (begun.block_is ∙ ap block_of_row row.1) ∙ sym (ap rates_in (attrs_found flat cluster first laid is m row.0 row.1 own)))
+      ∙ sym (made_cells model m below)
+
+  no_module : (m : ℕ) → actor_kind flat.tables m ≡ Some actor.Sink → length flat.tables.modules ≤ m
+  no_module m sink = go (cases_lt m (length flat.tables.modules))
+    where
+      go : (m < length flat.tables.modules) ⊎ (length flat.tables.modules ≤ m) → length flat.tables.modules ≤ m
+      go (inl below) = no_sink (actor_kind flat.tables m) (module_kind flat laid m below) sink
+      go (inr past) = past
+
+  module _ (model : PureTree) (checked : IsCheckedOf model flat.checked) (m : ℕ) (own : slice_index (clusters_of flat.tables) m ≡ cluster)
+      (no_samples : is_sampler_kind (actor_kind flat.tables m) ≡ false) (r : Runner) where
+    module_state : (w : WiresOf) (b : Runner) → actor_kind flat.tables m ≡ Some actor.Module → IsFirstRunner flat m (samplers_before are.begun m) (wires.Module w) b
+        → (m < length are.rows → r ≡ with_traced (slice_index_or are.rows m []) b) → cells_of r ≡ cells_at model m
+    module_state w (runner.Module x) kind begun low =
+        let below = below_modules flat laid m kind in let l = are.traced_are.long in
+        ap cells_of (low (omega (arith, below, l))) ∙ module_cells model checked m own below w x begun
+    module_state w (runner.Sampler s) kind begun low = absurd begun
+    module_state w (runner.Sink k) kind begun low = absurd begun
+    module_state w runner.Outside kind begun low = absurd begun
+
+    sink_state : (edge : ℕ) (b : Runner) → actor_kind flat.tables m ≡ Some actor.Sink → IsFirstRunner flat m (samplers_before are.begun m) (wires.Sink edge) b
+        → (((l : List TracedPort) → with_traced l b ≡ b) → r ≡ b) → cells_of r ≡ cells_at model m
+    sink_state edge (runner.Sink k) kind begun same = ap cells_of (same (λ l. refl)) ∙ sym (past_cells model m (no_module m kind))
+    sink_state edge (runner.Module x) kind begun same = absurd begun
+    sink_state edge (runner.Sampler s) kind begun same = absurd begun
+    sink_state edge runner.Outside kind begun same = absurd begun
+
+    own_state : (kind : Actor) (w : ActorWires) (b : Runner) → actor_kind flat.tables m ≡ Some kind → IsWiringOf flat.tables m kind w → IsFirstRunner flat m (samplers_before are.begun m) w b
+        → (m < length are.rows → r ≡ with_traced (slice_index_or are.rows m []) b) → (length are.rows ≤ m → r ≡ b) → cells_of r ≡ cells_at model m
+    own_state actor.Module (wires.Module w) b kind h begun low high = module_state w b kind begun low
+    own_state actor.Module (wires.Sampler edges) b kind h begun low high = absurd h
+    own_state actor.Module (wires.Sink edge) b kind h begun low high = absurd h
+    own_state actor.Module wires.Elsewhere b kind h begun low high = absurd h
+    own_state actor.Sampler w b kind h begun low high = true_false (sym (ap is_sampler_kind kind) ∙ no_samples)
+    own_state actor.Sink (wires.Sink edge) b kind h begun low high = sink_state edge b kind begun (λ same. plain m r b same low high)
+    own_state actor.Sink (wires.Module w) b kind h begun low high = absurd h
+    own_state actor.Sink (wires.Sampler edges) b kind h begun low high = absurd h
+    own_state actor.Sink wires.Elsewhere b kind h begun low high = absurd h
+
+  state_is : (model : PureTree) → IsCheckedOf model flat.checked → (m : ℕ) (r : Runner) → slice_get runners m ≡ Some r → is_outside flat.tables cluster m ≡ false → cells_of r ≡ cells_at model m
+  state_is model checked m r at inside =
+      let h = came m r at in
+      let both = neither (is_sampler_kind (actor_kind flat.tables m)) _ inside in
+      let own : slice_index (clusters_of flat.tables) m ≡ cluster = eqb-true (slice_index (clusters_of flat.tables) m) cluster (not_not _ both.1) in
+      own_state model checked m own both.0 r h.row.kind h.w h.b (ap kind_of_row h.row_at)
+      (are.wires_are.own m h.row h.w h.row_at h.w_at (sym (index_at cluster_of flat.tables.actors m h.row h.row_at) ∙ own)) h.first_is h.low h.high
+
+  state_at : (model : PureTree) → IsCheckedOf model flat.checked → (m : ℕ) (x : List ℤ) → slice_get (map cells_of runners) m ≡ Some x → is_outside flat.tables cluster m ≡ false → x ≡ cells_at model m
+  state_at model checked m x at inside = go (slice_get runners m) refl (sym (slice_get-map cells_of runners m) ∙ at)
+    where
+      go : (o : Option Runner) → slice_get runners m ≡ o → option_map cells_of o ≡ Some x → x ≡ cells_at model m
+      go None there given = none_some x given
+      go (Some r) there given = sym (some_same (cells_of r) x given) ∙ state_is model checked m r there inside
+
+  list_at : (e : ℕ) → e < length flat.tables.edges → slice_index_or (map (λ (r : RingOf). r.samples) rings) e [] ≡ slice_index_or (text_start sound.model flat cluster first.attrs).lists e []
+  list_at e within = get_or-map (λ (r : RingOf). r.samples) rings e (ring_of [] 0) ∙ lists_are flat cluster first sound laid is law rings runners positions rings_are e within
+
+  pub stands : StandsAtStart flat started
+  stands model p reads checked = start_stands (cluster_net model flat cluster (text_start model flat cluster first.attrs)) p reads (play_of 0 started) (record {
+    turns = λ m. zero_in (turns_from first.plan.entries.items 0 0) (range_with_len 0 (length runners)) m (λ j. omega arith);
+    states = λ m x at inside. state_at model checked m x at inside;
+    long = λ e within. ap length (list_at e within);
+    items = λ e j x within at. sym (get_or_from_slice_get (slice_index_or (text_start model flat cluster first.attrs).lists e []) j x zero_sample
+        (ap (λ l. slice_get l j) (sym (list_at e within)) ∙ at));
+  })
+
+-- with the rates as they are found
+pub is_made : (flat : Flat) (cluster : ℕ) (first : First) → IsSoundFlat flat → IsLaid flat → IsFirstPlan flat cluster first → PlansArePresent
+    → (reads writes : List ℕ) (rings : List RingOf) (runners : List Runner) (positions : List ℕ) → AreParts flat cluster first reads writes rings runners positions
+    → IsClusterOf flat (start_of cluster first reads writes rings runners positions)
+is_made flat cluster first sound laid is law reads writes rings runners positions parts =
+    subst (λ r. IsClusterOf flat (start_of cluster first r writes rings runners positions)) (sym parts.reads_are)
+    (subst (λ w. IsClusterOf flat (start_of cluster first (read_rates (net_of flat.tables first.attrs)) w rings runners positions)) (sym parts.writes_are)
+    (is_cluster flat cluster first sound laid is law rings runners positions parts.rings_are parts.runners_are parts.none_done))
+
+-- the rates of the first table are in range
+pub first_rates : (flat : Flat) (cluster : ℕ) (first : First) → IsSoundFlat flat → IsLaid flat → IsFirstPlan flat cluster first → PlansArePresent → AreRates flat.tables first.attrs
+first_rates flat cluster first sound laid is law = are_rates flat laid.limits first.attrs (timed flat cluster first sound laid is law).attributes.allowed

@@ -1,0 +1,87 @@
+-- The parts of a cluster at its start: rings by edge, and runners by actor.
+-- Source: own.
+use Rattle.std.specs.List.{count_by}
+use Rattle.std.specs.Prelude.{◌≡◌, ℕ, ◌<◌, ◌≤◌, if◌then◌else◌, nat_eq, List, [], length, Some}
+use Rattle.std.specs.Prelude.{slice_get, slice_index, All}
+use Rattle.tdf_bind.specs.Flat.{FlatOf}
+use Rattle.tdf_dynamic.specs.Attributes.{clusters_of}
+use Rattle.tdf_exec.specs.Made.{is_sampler, room_for, samplers_before}
+use Rattle.tdf_exec.specs.Runners.{ModuleOf}
+use Rattle.tdf_exec.specs.Starts.{BeginWithRates}
+use Rattle.tdf_exec.specs.declared.runners.Runner.{Runner}
+use Rattle.tdf_exec.specs.declared.runners.Runner.TheVariants as runner
+use Rattle.tdf_expr.specs.Checked.{IsChecked, IsCheckedOf}
+use Rattle.tdf_expr.specs.Made.{AreMadeFor, block_count, start_rates}
+use Rattle.tdf_firing.specs.Firing.{AreZerosBehind}
+use Rattle.tdf_firing.specs.Wires.{WiresOf}
+use Rattle.tdf_fixed.specs.declared.raw.Raw.{Raw}
+use Rattle.tdf_flat.specs.declared.model.Flat.{Flat}
+use Rattle.tdf_layout.specs.declared.wiring.ActorWires.{ActorWires}
+use Rattle.tdf_layout.specs.declared.wiring.ActorWires.TheVariants as wires
+use Rattle.tdf_rings.specs.Carried.{ring_at}
+use Rattle.tdf_rings.specs.Rings.{RingOf, ring_of}
+use Rattle.tdf_streams.specs.Bodies.{initialized}
+use Rattle.tdf_streams.specs.Cluster.{initial_list}
+use Rattle.tdf_streams.specs.Places.{block_at}
+use Rattle.tdf_tree.specs.Pure.{PureTree}
+use Rattle.tdf_wiring.specs.declared.edges.EdgeRow.{EdgeRow}
+
+-- the samples of an edge at first; none of an edge of another cluster
+abbrev pub list_of : FlatOf → (cluster : ℕ) → EdgeRow → List Raw
+list_of tables cluster edge =
+    if nat_eq (slice_index (clusters_of tables) edge.writer) cluster then initial_list tables edge
+    else []
+
+-- there is a bound for each edge, whose ring has room for its first samples
+pub record FitAtFirst (tables : FlatOf) (cluster : ℕ) (bounds : List ℕ) : Type 0 where
+  pub long : length bounds ≡ length tables.edges
+  pub fits : (e : ℕ) (edge : EdgeRow) → slice_get tables.edges e ≡ Some edge
+      → length (list_of tables cluster edge) ≤ room_for (slice_index bounds e)
+
+-- a ring for each of the first n edges
+pub record AreFirstRings (tables : FlatOf) (cluster : ℕ) (bounds : List ℕ) (n : ℕ)
+    (rings : List RingOf) : Type 0 where
+  pub long : length rings ≡ n
+  pub each : (e : ℕ) (edge : EdgeRow) → e < n → slice_get tables.edges e ≡ Some edge
+      → ring_at rings e ≡ ring_of (list_of tables cluster edge) (room_for (slice_index bounds e))
+
+-- what the modules of a flat model have, so that their initialize bodies can run
+pub record CanBegin (flat : Flat) : Type 0 where
+  pub checked : IsChecked flat.checked
+  pub blocks : All (λ row. row.block < block_count flat.checked) flat.tables.modules
+  pub begin : BeginWithRates flat.checked
+
+-- a module whose initialize body alone has run
+pub record IsBegun (flat : Flat) (m : ℕ) (wires : WiresOf) (x : ModuleOf) : Type 0 where
+  pub block_is : x.block ≡ block_at flat.tables.modules m
+  pub made : AreMadeFor flat.checked x.block x.frame x.ports
+  pub rates : x.frame.state.rates ≡ start_rates flat.checked x.block
+  pub wires_are : x.wires ≡ wires
+  pub zeros : (reads : List ℕ) → AreZerosBehind x.wires reads x.ports
+  pub cells : (model : PureTree) → IsCheckedOf model flat.checked → x.frame.state.cells
+      ≡ initialized model flat m (start_rates flat.checked x.block)
+
+-- only modules of the model are told of wires
+abbrev pub IsOfModule : Flat → ℕ → ActorWires → Type 0
+IsOfModule flat m (wires.Module w) = m < length flat.tables.modules
+IsOfModule flat m _ = Unit {0}
+
+-- what is kept for an actor at first, by what it is told of its edges and the number of samplers
+-- before it
+abbrev pub IsFirstRunner : Flat → (m place : ℕ) → ActorWires → Runner → Type 0
+IsFirstRunner flat m place (wires.Module w) (runner.Module x) = IsBegun flat m w x
+IsFirstRunner flat m place (wires.Sampler edges) (runner.Sampler s) =
+    (s.edges ≡ edges.items) × (s.place ≡ place)
+IsFirstRunner flat m place (wires.Sink edge) (runner.Sink k) = k.edge ≡ edge
+IsFirstRunner flat m place wires.Elsewhere runner.Outside = Unit {0}
+IsFirstRunner flat m place _ _ = ⊥
+
+-- a runner for each of the first n actors; the others are still to be told
+pub record AreFirstRunners (flat : Flat) (n : ℕ) (old new : List ActorWires) (samplers : ℕ)
+    (runners : List Runner) : Type 0 where
+  pub long : length runners ≡ n
+  pub counted : samplers ≡ count_by is_sampler runners
+  pub same : length new ≡ length old
+  pub left : (m : ℕ) → n ≤ m → slice_get new m ≡ slice_get old m
+  pub each : (m : ℕ) (w : ActorWires) (r : Runner) → slice_get old m ≡ Some w
+      → slice_get runners m ≡ Some r → IsFirstRunner flat m (samplers_before runners m) w r

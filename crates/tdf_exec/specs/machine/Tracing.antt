@@ -1,0 +1,70 @@
+-- How the ports whose signals are traced are gathered.
+-- Source: own.
+use Rattle.std.specs.List.{enumerate_from, list_any}
+use Rattle.std.specs.Prelude.{◌≡◌, ◌<◌, ◌≤◌, ◌&&◌, ◌++◌, ℕ, Bool, true, false, List, [], ◌∷◌, length, map}
+use Rattle.std.specs.Prelude.{Some, filter_map, if◌then◌else◌, slice_get, slice_index_or, slice_set, take}
+use Rattle.tdf_bind.specs.Flat.{FlatOf}
+use Rattle.tdf_dynamic.specs.Attributes.{AttrsOf}
+use Rattle.tdf_dynamic.specs.Rates.{port_rate}
+use Rattle.tdf_exec.specs.Traced.{traced_port}
+use Rattle.tdf_layout.specs.Traced.{is_out, is_trace_of, number_if_traced}
+use Rattle.tdf_exec.specs.declared.runners.Runner.{Runner}
+use Rattle.tdf_exec.specs.declared.runners.Runner.TheVariants as runner
+use Rattle.tdf_exec.specs.declared.runners.TracedPort.{TracedPort}
+use Rattle.tdf_streams.specs.Places.{place_of_port}
+use Rattle.tdf_wiring.specs.declared.modules.PortRow.{PortRow}
+use Rattle.tdf_wiring.specs.declared.traces.TraceRow.{TraceRow}
+
+-- the signal of a trace is marked, where it is one of samples
+abbrev pub marked : TraceRow → List Bool → List Bool
+marked trace marks = if trace.event then marks else slice_set marks trace.signal true
+
+-- the signals of the first n traces are marked
+pub record AreMarked (traces : List TraceRow) (n : ℕ) (marks : List Bool) : Type 0 where
+  pub each : (s : ℕ) → s < length marks
+      → slice_index_or marks s false ≡ list_any (is_trace_of s) (take n traces)
+
+-- whether a port writes a signal of samples which is traced
+abbrev pub is_written_traced : List TraceRow → PortRow → Bool
+is_written_traced traces port = is_out port.kind && list_any (is_trace_of port.signal) traces
+
+abbrev pub traced_row : FlatOf → List AttrsOf → ℕ → PortRow → TracedPort
+traced_row tables table number port = record {
+  port = place_of_port tables.ports number;
+  signal = port.signal;
+  rate = port_rate table port;
+}
+
+-- such a port comes to its module
+abbrev pub put_traced : FlatOf → List AttrsOf → ℕ → PortRow → List (List TracedPort)
+    → List (List TracedPort)
+put_traced tables table number port rows = if is_written_traced tables.traces port
+    then slice_set rows port.«module»
+    (slice_index_or rows port.«module» [] ++ traced_row tables table number port ∷ []) else rows
+
+-- the numbers of the traced ports of a module among the first n
+abbrev pub traced_before : FlatOf → (n m : ℕ) → List ℕ
+traced_before tables n m = filter_map (λ port. number_if_traced tables m port.0 port.1)
+    (enumerate_from 0 (take n tables.ports))
+
+-- the first n ports are gathered by module
+pub record AreTracedUpTo (tables : FlatOf) (table : List AttrsOf) (n : ℕ)
+    (rows : List (List TracedPort)) : Type 0 where
+  pub long : length rows ≡ length tables.modules
+  pub each : (m : ℕ) → m < length tables.modules → slice_index_or rows m []
+      ≡ map (traced_port tables table) (traced_before tables n m)
+
+-- a module is given its ports
+abbrev pub with_traced : List TracedPort → Runner → Runner
+with_traced traced (runner.Module x) = runner.Module (record x { traced = traced })
+with_traced traced r = r
+
+-- the first n actors are given theirs
+pub record AreGivenTraced (n : ℕ) (rows now : List (List TracedPort)) (old new : List Runner)
+    : Type 0 where
+  pub many : length now ≡ length rows
+  pub same : length new ≡ length old
+  pub done : (m : ℕ) (r : Runner) → m < n → slice_get old m ≡ Some r
+      → slice_get new m ≡ Some (with_traced (slice_index_or rows m []) r)
+  pub waiting : (m : ℕ) → n ≤ m → slice_get new m ≡ slice_get old m
+  pub left : (m : ℕ) → n ≤ m → slice_index_or now m [] ≡ slice_index_or rows m []

@@ -1,0 +1,110 @@
+//! What the actors of a cluster keep at its start.
+
+ghost use Rattle.std.specs.Prelude.{◌≡◌, ◌+◌, ◌<◌, ℕ, IfOk, if◌then◌else◌, length, Some, slice_get};
+ghost use Rattle.tdf_exec.specs.Made.{is_sampler};
+ghost use Rattle.tdf_exec.specs.machine.Starting.{AreFirstRunners, CanBegin, IsBegun, IsFirstRunner, IsOfModule};
+ghost use Rattle.tdf_layout.specs.declared.wiring.ActorWires.{ActorWires as ActorWiresOf};
+
+use crate::runners::{ModuleRunner, Runner, SamplerRunner, SinkRunner};
+use std::alloc::Global;
+use std::mem;
+use tdf_base::Memory;
+use tdf_expr::{Body, Frame, Ports, run_body};
+use tdf_firing::{Wires, law_begin};
+use tdf_flat::Flat;
+use tdf_layout::ActorWires;
+
+/// A module, whose initialize body has run.
+fn begun(alloc: Global, flat: &Flat, number: usize, wires: Wires) -> Result<ModuleRunner, Memory>
+    requires can { CanBegin flat.now }
+    requires module { number < length flat.now.tables.modules }
+    ensures { IfOk result (λ x. IsBegun flat.now number wires x) }
+{
+    law_begin();
+    let block = flat.tables.modules[number].block;
+    let mut frame = Frame::new(alloc, &flat.checked, block)?;
+    let mut ports = Ports::new(alloc, &flat.checked, block)?;
+    let _ = ports.ports();
+    run_body(
+        &flat.checked,
+        block,
+        Body::Initialize,
+        &mut frame,
+        &mut ports,
+    );
+    Ok(ModuleRunner {
+        block,
+        frame,
+        ports,
+        wires,
+        traced: Vec::new(alloc),
+    })
+}
+
+/// What is kept for an actor; `place` samplers come before it.
+fn first_runner(
+    alloc: Global,
+    flat: &Flat,
+    number: usize,
+    place: u32,
+    wires: ActorWires,
+) -> Result<Runner, Memory>
+    requires can { CanBegin flat.now }
+    requires module { IsOfModule flat.now number wires }
+    ensures { IfOk result (λ r. IsFirstRunner flat.now number place wires r) }
+{
+    match wires {
+        ActorWires::Module(wires) => Ok(Runner::Module(begun(alloc, flat, number, wires)?)),
+        ActorWires::Sampler(edges) => Ok(Runner::Sampler(SamplerRunner { edges, place })),
+        ActorWires::Sink(edge) => Ok(Runner::Sink(SinkRunner { edge })),
+        ActorWires::Elsewhere => Ok(Runner::Outside),
+    }
+}
+
+/// One sampler more; more than fit in memory have no number.
+fn one_more(samplers: u32) -> Result<u32, Memory>
+    ensures { IfOk result (λ next. next ≡ samplers + 1) }
+{
+    if samplers == 4_294_967_295 {
+        return Err(Memory);
+    }
+    Ok(samplers + 1)
+}
+
+/// The number of samplers with one actor more.
+fn samplers_with(samplers: u32, runner: &Runner) -> Result<u32, Memory>
+    ensures { IfOk result (λ next. next ≡ samplers + (if is_sampler runner.now then 1 else 0)) }
+{
+    match runner {
+        Runner::Module(_) => Ok(samplers),
+        Runner::Sampler(_) => one_more(samplers),
+        Runner::Sink(_) => Ok(samplers),
+        Runner::Outside => Ok(samplers),
+    }
+}
+
+/// What is kept for each actor.
+///
+/// # Errors
+/// Out of memory.
+pub(crate) fn first_runners(
+    alloc: Global,
+    flat: &Flat,
+    wires: &mut Vec<ActorWires>,
+) -> Result<Vec<Runner>, Memory>
+    requires can { CanBegin flat.now }
+    requires modules { (m : ℕ) (w : ActorWiresOf) → slice_get wires.old.items m ≡ Some w
+        → IsOfModule flat.now m w }
+    ensures { IfOk result (λ runners. (samplers : ℕ) × AreFirstRunners flat.now
+        (length wires.old.items) wires.old.items wires.new.items samplers runners.items) }
+{
+    let mut runners = Vec::new(alloc);
+    let mut samplers = 0;
+    for m in 0..wires.len() {
+        let row = mem::replace(&mut wires[m], ActorWires::Elsewhere);
+        let runner = first_runner(alloc, flat, m, samplers, row)?;
+        samplers = samplers_with(samplers, &runner)?;
+        runners.push(runner)?;
+    }
+    Ok(runners)
+}

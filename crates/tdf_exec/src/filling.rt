@@ -1,0 +1,92 @@
+//! The rings of a cluster at its start.
+
+ghost use Rattle.std.specs.Prelude.{◌≡◌, ◌<◌, ◌≤◌, [], All, IfOk, length};
+ghost use Rattle.tdf_exec.specs.Made.{room_for};
+ghost use Rattle.tdf_exec.specs.machine.Starting.{AreFirstRings, FitAtFirst, list_of};
+ghost use Rattle.tdf_rings.specs.Rings.{ring_of};
+
+use std::alloc::Global;
+use tdf_base::Memory;
+use tdf_bind::Flat as FlatTables;
+use tdf_fixed::Raw;
+use tdf_layout::initial_samples;
+use tdf_rings::Ring;
+use tdf_wiring::EdgeRow;
+
+/// How many samples a ring has room for.
+fn room_for(bound: u32) -> u32
+    ensures value { result ≡ room_for bound }
+    ensures some { 1 ≤ result }
+{
+    if bound == 0 {
+        return 1;
+    }
+    bound
+}
+
+/// Puts samples into an empty ring.
+fn put_samples(ring: &mut Ring, samples: &[Raw])
+    requires empty { ring.old.samples ≡ [] }
+    requires room { length samples.now ≤ ring.old.capacity }
+    ensures { ring.new ≡ ring_of samples.now ring.old.capacity }
+{
+    for i in 0..samples.len() {
+        ring.put(samples[i]);
+    }
+}
+
+/// The samples of an edge at first; none of an edge of another cluster.
+fn list_of(
+    alloc: Global,
+    tables: &FlatTables,
+    cluster: u32,
+    edge: EdgeRow,
+) -> Result<Vec<Raw>, Memory>
+    requires { edge.writer < length tables.now.actors }
+    ensures { IfOk result (λ samples. samples.items ≡ list_of tables.now cluster edge) }
+{
+    if tables.actors[edge.writer as usize].cluster != cluster {
+        return Ok(Vec::new(alloc));
+    }
+    initial_samples(alloc, tables, edge)
+}
+
+/// The ring of an edge.
+fn first_ring(
+    alloc: Global,
+    tables: &FlatTables,
+    cluster: u32,
+    bound: u32,
+    edge: EdgeRow,
+) -> Result<Ring, Memory>
+    requires writer { edge.writer < length tables.now.actors }
+    requires fits { length (list_of tables.now cluster edge) ≤ room_for bound }
+    ensures { IfOk result (λ ring. ring ≡ ring_of (list_of tables.now cluster edge) (room_for bound)) }
+{
+    let samples = list_of(alloc, tables, cluster, edge)?;
+    let mut ring = Ring::new(alloc, room_for(bound))?;
+    put_samples(&mut ring, &samples);
+    Ok(ring)
+}
+
+/// The rings of all edges, with their samples at first and room for their bounds.
+///
+/// # Errors
+/// Out of memory.
+pub(crate) fn first_rings(
+    alloc: Global,
+    tables: &FlatTables,
+    cluster: u32,
+    bounds: &[u32],
+) -> Result<Vec<Ring>, Memory>
+    requires writers { All (λ edge. edge.writer < length tables.now.actors) tables.now.edges }
+    requires fits { FitAtFirst tables.now cluster bounds.now }
+    ensures { IfOk result (λ rings.
+        AreFirstRings tables.now cluster bounds.now (length tables.now.edges) rings.items) }
+{
+    let mut rings = Vec::new(alloc);
+    for e in 0..tables.edges.len() {
+        rings.push(first_ring(alloc, tables, cluster, bounds[e], tables.edges[e])?)?;
+    }
+    Ok(rings)
+}

@@ -1,0 +1,103 @@
+//! The rates in force, by edge.
+
+ghost use Rattle.std.specs.Prelude.{◌≡◌, IfOk, Some};
+ghost use Rattle.tdf_dynamic.specs.Rates.{AreRates, edge_kind, net_of, net_ports, read_rate_by, write_rate_by};
+ghost use Rattle.tdf_streams.specs.Periods.{read_rates, write_rates};
+ghost use Rattle.tdf_timestep.specs.Period.{rate_of};
+
+use std::alloc::Global;
+use tdf_base::Memory;
+use tdf_dynamic::Attrs;
+use tdf_flat::Flat;
+use tdf_tree::PortKind;
+use tdf_wiring::{EdgeRow, PortRow};
+
+/// The word of the port that gives an edge.
+fn edge_kind(ports: &[PortRow], edge: EdgeRow) -> Option<PortKind>
+    ensures { result ≡ edge_kind ports.now edge }
+{
+    let place = edge.port as usize;
+    if place < ports.len() {
+        return Some(ports[place].kind);
+    }
+    None
+}
+
+fn rate_at(flat: &Flat, attrs: &Attrs, port: u32) -> u32
+    requires { AreRates flat.now.tables attrs.now }
+    ensures { result ≡ rate_of (net_ports flat.now.tables attrs.now) (Some port) }
+{
+    if (port as usize) < flat.tables.ports.len() {
+        return attrs.port_rate(flat, port);
+    }
+    1
+}
+
+/// The rate of a port that is told by its number, 1 where none is told.
+fn rate_of(flat: &Flat, attrs: &Attrs, port: Option<u32>) -> u32
+    requires { AreRates flat.now.tables attrs.now }
+    ensures { result ≡ rate_of (net_ports flat.now.tables attrs.now) port }
+{
+    match port {
+        None => 1,
+        Some(port) => rate_at(flat, attrs, port),
+    }
+}
+
+fn read_rate(flat: &Flat, attrs: &Attrs, edge: EdgeRow) -> u32
+    requires { AreRates flat.now.tables attrs.now }
+    ensures { result ≡ read_rate_by (net_ports flat.now.tables attrs.now) edge
+        (edge_kind flat.now.tables.ports edge) }
+{
+    match edge_kind(&flat.tables.ports, edge) {
+        None => 1,
+        Some(PortKind::In) => rate_at(flat, attrs, edge.port),
+        Some(PortKind::Out) => 1,
+        Some(PortKind::DeIn) => rate_at(flat, attrs, edge.port),
+        Some(PortKind::DeOut) => 1,
+    }
+}
+
+fn write_rate(flat: &Flat, attrs: &Attrs, edge: EdgeRow) -> u32
+    requires { AreRates flat.now.tables attrs.now }
+    ensures { result ≡ write_rate_by (net_ports flat.now.tables attrs.now) edge
+        (edge_kind flat.now.tables.ports edge) }
+{
+    match edge_kind(&flat.tables.ports, edge) {
+        None => 1,
+        Some(PortKind::In) => rate_of(flat, attrs, edge.driver),
+        Some(PortKind::Out) => 1,
+        Some(PortKind::DeIn) => 1,
+        Some(PortKind::DeOut) => rate_at(flat, attrs, edge.port),
+    }
+}
+
+/// How many samples an activation reads from each edge.
+///
+/// # Errors
+/// Out of memory.
+pub(crate) fn read_rates(alloc: Global, flat: &Flat, attrs: &Attrs) -> Result<Vec<u32>, Memory>
+    requires { AreRates flat.now.tables attrs.now }
+    ensures { IfOk result (λ rates. rates.items ≡ read_rates (net_of flat.now.tables attrs.now)) }
+{
+    let mut rates = Vec::new(alloc);
+    for e in 0..flat.tables.edges.len() {
+        rates.push(read_rate(flat, attrs, flat.tables.edges[e]))?;
+    }
+    Ok(rates)
+}
+
+/// How many samples an activation writes to each edge.
+///
+/// # Errors
+/// Out of memory.
+pub(crate) fn write_rates(alloc: Global, flat: &Flat, attrs: &Attrs) -> Result<Vec<u32>, Memory>
+    requires { AreRates flat.now.tables attrs.now }
+    ensures { IfOk result (λ rates. rates.items ≡ write_rates (net_of flat.now.tables attrs.now)) }
+{
+    let mut rates = Vec::new(alloc);
+    for e in 0..flat.tables.edges.len() {
+        rates.push(write_rate(flat, attrs, flat.tables.edges[e]))?;
+    }
+    Ok(rates)
+}

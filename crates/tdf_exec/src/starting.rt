@@ -1,0 +1,128 @@
+//! A cluster at the start of its first period.
+
+ghost use Rattle.std.specs.Prelude.{IfOk};
+ghost use Rattle.tdf_convert.specs.Sampled.{PlansGoByOffset};
+ghost use Rattle.tdf_dynamic.specs.First.{IsFirstPlan};
+ghost use Rattle.tdf_dynamic.specs.Rates.{AreRates};
+ghost use Rattle.tdf_exec.specs.Made.{IsClusterOf};
+ghost use Rattle.tdf_exec.specs.Starts.{IsAtStart, IsSoundFlat, StandsAtStart};
+ghost use Rattle.tdf_exec.specs.machine.Laid.{AreParts, AreRunnersOf, SoundIsLaid};
+ghost use Rattle.tdf_schedule.specs.Laws.{PlansArePresent};
+
+use crate::beginning::first_runners;
+use crate::cluster::Cluster;
+use crate::filling::first_rings;
+use crate::rating::{read_rates, write_rates};
+use crate::runners::Runner;
+use crate::tracing::{give_all, traced_rows};
+use std::alloc::Global;
+use tdf_base::Memory;
+use tdf_convert::law_by_offset;
+use tdf_dynamic::{Attrs, First};
+use tdf_flat::Flat;
+use tdf_formats::law_formats;
+use tdf_layout::{cluster_wires, law_edge_formats, law_edges, law_wired};
+use tdf_limits::law_limits;
+use tdf_rings::Ring;
+use tdf_schedule::law_present;
+
+/// What the tables of a sound flat model have, and what holds along plans.
+pub(crate) fn law_laid()
+    ensures laid { SoundIsLaid }
+    ensures present { PlansArePresent }
+    ensures sorted { PlansGoByOffset }
+{
+    law_limits();
+    law_edges();
+    law_wired();
+    law_edge_formats();
+    law_formats();
+    law_present();
+    law_by_offset();
+}
+
+/// The parts of a cluster at its start: rates and rings by edge, runners and counts of activations by actor.
+#[derive(Drop)]
+struct Parts {
+    reads: Vec<u32>,
+    writes: Vec<u32>,
+    rings: Vec<Ring>,
+    runners: Vec<Runner>,
+    positions: Vec<u64>,
+}
+
+/// What is kept for the actors of a cluster.
+fn runners_of(
+    alloc: Global,
+    flat: &Flat,
+    cluster: u32,
+    attrs: &Attrs,
+) -> Result<Vec<Runner>, Memory>
+    requires sound { IsSoundFlat flat.now }
+    requires rates { AreRates flat.now.tables attrs.now }
+    ensures { IfOk result (λ runners. AreRunnersOf flat.now cluster attrs.now runners.items) }
+{
+    law_laid();
+    let mut rows = traced_rows(alloc, flat, attrs)?;
+    let mut wires = cluster_wires(alloc, &flat.tables, cluster)?;
+    let mut runners = first_runners(alloc, flat, &mut wires)?;
+    give_all(alloc, &mut rows, &mut runners);
+    Ok(runners)
+}
+
+/// The parts of a cluster under its first attributes and plan.
+fn first_parts(alloc: Global, flat: &Flat, cluster: u32, first: &First) -> Result<Parts, Memory>
+    requires sound { IsSoundFlat flat.now }
+    requires plan { IsFirstPlan flat.now cluster first.now }
+    ensures { IfOk result (λ p. AreParts flat.now cluster first.now p.reads.items p.writes.items
+        p.rings.items p.runners.items p.positions.items) }
+{
+    law_laid();
+    let reads = read_rates(alloc, flat, &first.attrs)?;
+    let writes = write_rates(alloc, flat, &first.attrs)?;
+    let rings = first_rings(alloc, &flat.tables, cluster, &first.plan.bounds)?;
+    let runners = runners_of(alloc, flat, cluster, &first.attrs)?;
+    let positions = vec![in alloc; 0; flat.tables.actors.len()]?;
+    Ok(Parts {
+        reads,
+        writes,
+        rings,
+        runners,
+        positions,
+    })
+}
+
+impl Cluster {
+    /// A cluster at the start of its first period, with its samples at first in place, the initialize bodies of its modules
+    /// run. `first` has its first attributes and plan.
+    ///
+    /// # Errors
+    /// Out of memory.
+    pub fn new(alloc: Global, flat: &Flat, cluster: u32, first: First) -> Result<Cluster, Memory>
+        requires sound { IsSoundFlat flat.now }
+        requires plan { IsFirstPlan flat.now cluster first }
+        ensures of { IfOk result (λ c. IsClusterOf flat.now c) }
+        ensures start { IfOk result (λ c. IsAtStart cluster first c) }
+        ensures stands { IfOk result (λ c. StandsAtStart flat.now c) }
+    {
+        law_laid();
+        match first_parts(alloc, flat, cluster, &first) {
+            Ok(parts) => Ok(Cluster {
+                number: cluster,
+                attrs: first.attrs,
+                plan: first.plan,
+                place: 0,
+                crossed: false,
+                reads: parts.reads,
+                writes: parts.writes,
+                rings: parts.rings,
+                runners: parts.runners,
+                positions: parts.positions,
+            }),
+            Err(failed) => {
+                drop(first);
+                Err(failed)
+            }
+        }
+    }
+}

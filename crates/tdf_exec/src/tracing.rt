@@ -1,0 +1,208 @@
+//! The ports of modules whose signals are traced.
+
+use crate::runners::TracedPort;
+use std::marker::Model;
+
+/// The ports of a module whose signals are traced, as they are found.
+#[derive(Drop)]
+pub(crate) struct TracedPorts {
+    list: Vec<TracedPort>,
+}
+
+impl Model for TracedPorts {
+    ghost use Rattle.std.specs.Prelude.{List};
+    ghost use Rattle.tdf_exec.specs.declared.runners.TracedPort.{TracedPort};
+
+    ghost Value = { List TracedPort };
+
+    ghost view = { λ a. a.list.items };
+}
+
+ghost use Rattle.std.specs.List.{list_any};
+ghost use Rattle.std.specs.Prelude.{◌≡◌, ◌&&◌, ◌++◌, ◌∷◌, ◌<◌, ◌≤◌, ℕ, [], All, IfOk, OnOk, Some, length, replicate, slice_get};
+ghost use Rattle.tdf_dynamic.specs.Rates.{AreRates};
+ghost use Rattle.tdf_layout.specs.Traced.{is_trace_of};
+ghost use Rattle.tdf_exec.specs.machine.Tracing.{AreGivenTraced, AreMarked, AreTracedUpTo, is_written_traced, marked, put_traced, with_traced};
+ghost use Rattle.tdf_streams.specs.Places.{place_of_port};
+ghost use Rattle.tdf_wiring.specs.declared.modules.PortRow.{PortRow as PortRowOf};
+
+use crate::runners::Runner;
+use std::alloc::Global;
+use std::mem;
+use tdf_base::Memory;
+use tdf_bind::Flat as FlatTables;
+use tdf_dynamic::Attrs;
+use tdf_flat::Flat;
+use tdf_layout::port_places;
+use tdf_tree::PortKind;
+use tdf_wiring::{PortRow, TraceRow};
+
+impl TracedPorts {
+    fn new(alloc: Global) -> TracedPorts
+        ensures { result ≡ [] }
+    {
+        TracedPorts {
+            list: Vec::new(alloc),
+        }
+    }
+
+    fn put(&mut self, port: TracedPort) -> Result<(), Memory>
+        ensures { OnOk result (self.new ≡ self.old ++ port ∷ []) }
+    {
+        self.list.push(port)?;
+        Ok(())
+    }
+
+    fn into_list(self) -> Vec<TracedPort>
+        ensures { result.items ≡ self }
+    {
+        self.list
+    }
+}
+
+/// Marks the signal of a trace, where it is one of samples.
+fn mark(marks: &mut Vec<bool>, trace: &TraceRow)
+    ensures { marks.new.items ≡ marked trace.now marks.old.items }
+{
+    if trace.event {
+        return;
+    }
+    if (trace.signal as usize) < marks.len() {
+        marks[trace.signal as usize] = true;
+    }
+}
+
+/// Which signals of samples are traced, by their numbers.
+fn marks_of(alloc: Global, tables: &FlatTables) -> Result<Vec<bool>, Memory>
+    ensures { IfOk result (λ marks.
+        AreMarked tables.now.traces (length tables.now.traces) marks.items) }
+{
+    let mut marks: Vec<bool> = vec![in alloc; false; tables.signals.len()]?;
+    for n in 0..tables.traces.len() {
+        mark(&mut marks, &tables.traces[n]);
+    }
+    Ok(marks)
+}
+
+/// Whether a signal of samples is traced; a number beyond the marks is looked for.
+fn is_marked(marks: &Vec<bool>, traces: &[TraceRow], signal: u32) -> bool
+    requires { AreMarked traces.now (length traces.now) marks.now.items }
+    ensures { result ≡ list_any (is_trace_of signal) traces.now }
+{
+    if (signal as usize) < marks.len() {
+        return marks[signal as usize];
+    }
+    traces
+        .iter()
+        .any(|trace| !trace.event && trace.signal == signal)
+}
+
+/// Whether a port writes a signal of samples which is traced.
+fn is_traced(marks: &Vec<bool>, traces: &[TraceRow], port: &PortRow) -> bool
+    requires { AreMarked traces.now (length traces.now) marks.now.items }
+    ensures { result ≡ is_written_traced traces.now port.now }
+{
+    match port.kind {
+        PortKind::In => false,
+        PortKind::Out => is_marked(marks, traces, port.signal),
+        PortKind::DeIn => false,
+        PortKind::DeOut => false,
+    }
+}
+
+/// The number of a port has 32 bits; more ports do not fit in memory.
+fn short(place: usize) -> Result<u32, Memory>
+    ensures { IfOk result (λ number. number ≡ place) }
+{
+    if place > 4_294_967_295 {
+        return Err(Memory);
+    }
+    Ok(place as u32)
+}
+
+/// A port comes to its module, if its signal is traced.
+fn put_port(
+    flat: &Flat,
+    attrs: &Attrs,
+    marks: &Vec<bool>,
+    place: u32,
+    number: u32,
+    rows: &mut Vec<TracedPorts>,
+) -> Result<(), Memory>
+    requires rates { AreRates flat.now.tables attrs.now }
+    requires marks { AreMarked flat.now.tables.traces (length flat.now.tables.traces) marks.now.items }
+    requires number { number < length flat.now.tables.ports }
+    requires place { place ≡ place_of_port flat.now.tables.ports number }
+    requires rows { length rows.old.items ≡ length flat.now.tables.modules }
+    requires modules { All (λ port. port.«module» < length flat.now.tables.modules) flat.now.tables.ports }
+    ensures { (port : PortRowOf) → slice_get flat.now.tables.ports number ≡ Some port
+        → OnOk result (rows.new.items ≡ put_traced flat.now.tables attrs.now number port rows.old.items) }
+{
+    let port = &flat.tables.ports[number as usize];
+    if !is_traced(marks, &flat.tables.traces, port) {
+        return Ok(());
+    }
+    rows[port.module as usize].put(TracedPort {
+        port: place,
+        signal: port.signal,
+        rate: attrs.port_rate(flat, number),
+    })
+}
+
+/// No ports for any of so many modules.
+fn no_rows(alloc: Global, count: usize) -> Result<Vec<TracedPorts>, Memory>
+    ensures { IfOk result (λ rows. rows.items ≡ replicate count []) }
+{
+    let mut rows = Vec::new(alloc);
+    for _ in 0..count {
+        rows.push(TracedPorts::new(alloc))?;
+    }
+    Ok(rows)
+}
+
+/// The ports of each module whose signals are traced, by one look at each port.
+///
+/// # Errors
+/// Out of memory.
+pub(crate) fn traced_rows(
+    alloc: Global,
+    flat: &Flat,
+    attrs: &Attrs,
+) -> Result<Vec<TracedPorts>, Memory>
+    requires rates { AreRates flat.now.tables attrs.now }
+    requires modules { All (λ port. port.«module» < length flat.now.tables.modules) flat.now.tables.ports }
+    ensures { IfOk result (λ rows.
+        AreTracedUpTo flat.now.tables attrs.now (length flat.now.tables.ports) rows.items) }
+{
+    let marks = marks_of(alloc, &flat.tables)?;
+    let places = port_places(alloc, flat.tables.modules.len(), &flat.tables.ports)?;
+    let mut rows = no_rows(alloc, flat.tables.modules.len())?;
+    for n in 0..flat.tables.ports.len() {
+        put_port(flat, attrs, &marks, places[n], short(n)?, &mut rows)?;
+    }
+    Ok(rows)
+}
+
+/// Gives a module its ports.
+fn give_traced(runner: &mut Runner, traced: Vec<TracedPort>)
+    ensures { runner.new ≡ with_traced traced.items runner.old }
+{
+    match runner {
+        Runner::Module(module) => module.traced = traced,
+        Runner::Sampler(_) => drop(traced),
+        Runner::Sink(_) => drop(traced),
+        Runner::Outside => drop(traced),
+    }
+}
+
+/// Gives all modules their ports.
+pub(crate) fn give_all(alloc: Global, rows: &mut Vec<TracedPorts>, runners: &mut Vec<Runner>)
+    requires { length rows.old.items ≤ length runners.old.items }
+    ensures { AreGivenTraced (length rows.old.items) rows.old.items rows.new.items
+        runners.old.items runners.new.items }
+{
+    for m in 0..rows.len() {
+        let row = mem::replace(&mut rows[m], TracedPorts::new(alloc));
+        give_traced(&mut runners[m], row.into_list());
+    }
+}
