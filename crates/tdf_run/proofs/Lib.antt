@@ -1,0 +1,4 @@
+pub mod Arriving
+pub mod Due
+pub mod Firings
+pub mod Sampling

@@ -1,0 +1,18 @@
+//! What holds of the definitions: each function here only carries its clauses.
+
+ghost use Rattle.tdf_run.specs.Laws.{DueAreCounted, DueEntriesFire, FiringsKeepAt, NoneDueNoneFire};
+ghost use Rattle.tdf_run.specs.Laws.{SamplersRead, TooFewTurnsEnd};
+
+/// The firings of a cluster at a time: its entries that are due, if the turns are enough for them.
+pub fn law_firings()
+    ensures due { DueEntriesFire }
+    ensures few { TooFewTurnsEnd }
+    ensures none { NoneDueNoneFire }
+    ensures counted { DueAreCounted }
+{}
+
+/// What samplers have read after these firings, and what a cluster in progress is that does them.
+pub fn law_cluster()
+    ensures read { SamplersRead }
+    ensures at { FiringsKeepAt }
+{}
