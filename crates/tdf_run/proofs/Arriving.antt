@@ -41,11 +41,11 @@ replicate_at (suc n) (suc k) x below = replicate_at n k x (omega (arith, below))
 copied : {A : Type 0} (xs : List A) (n k : ℕ) (x : A) → length xs ≤ k → k - length xs < n → slice_get (xs ++ replicate n x) k ≡ Some x
 copied xs n k x high below = get_high xs (replicate n x) k high ∙ replicate_at n (k - length xs) x below
 
-done_none : (entries : List Entry) (m : ℕ) → done entries 0 m ≡ 0
+pub done_none : (entries : List Entry) (m : ℕ) → done entries 0 m ≡ 0
 unfolding done
 done_none entries m = refl
 
-kind_inside : (actors : List ActorRow) (m : ℕ) (kind : _) → kind_of_row (slice_get actors m) ≡ Some kind → m < length actors
+pub kind_inside : (actors : List ActorRow) (m : ℕ) (kind : _) → kind_of_row (slice_get actors m) ≡ Some kind → m < length actors
 kind_inside actors m kind is = elim (cases_lt m (length actors)) [
   | inl inside ↦ inside
   | inr past ↦ none_some kind (ap kind_of_row (sym (slice_get_past actors m past)) ∙ is)
@@ -55,13 +55,13 @@ module _ (model : PureTree) (flat : Flat) (number time : ℕ) (values : List Raw
   abbrev offset : ℕ
   offset = time - h.since
 
-  entry_at : (i : ℕ) (x : Entry) → slice_get c.entries i ≡ Some x → slice_get h.entries i ≡ Some x
+  pub entry_at : (i : ℕ) (x : Entry) → slice_get c.entries i ≡ Some x → slice_get h.entries i ≡ Some x
   entry_at i x there = ap (λ (l : List Entry). slice_get l i) (sym at.entries_are) ∙ there
 
-  in_plan : h.place ≤ length h.entries
+  pub in_plan : h.place ≤ length h.entries
   in_plan = let l = ap length at.entries_are in let p = at.place_is in let w = at.of.within in omega (arith, l, p, w)
 
-  not_late : next_offset c ≡ Some offset → IsNotLate time h
+  pub not_late : next_offset c ≡ Some offset → IsNotLate time h
   not_late next = record {
     begun = begun;
     next = λ x there. (
@@ -92,7 +92,7 @@ module _ (model : PureTree) (flat : Flat) (number time : ℕ) (values : List Raw
           let same = all.each (h.place + k) x.0 (omega (arith, p)) high x.1 in
           true_false (sym (is_due_by time h x.0 begun same) ∙ ap (is_entry_due time h) (sym (entry_at (h.place + k) x.0 x.1)) ∙ due.last)
 
-      place_d : d.place ≡ h.place + k
+      pub place_d : d.place ≡ h.place + k
       place_d = elim (cases_lt d.place (h.place + k)) [
         | inl low ↦ absurd (not_before low)
         | inr high ↦ elim (cases_lt (h.place + k) d.place) [ inl more ↦ absurd (not_after more) | inr less ↦ omega (arith, high, less) ]
@@ -118,7 +118,7 @@ module _ (model : PureTree) (flat : Flat) (number time : ℕ) (values : List Raw
       reads_are : reads m ≡ slice_index_or h.reads m [] ++ replicate (turns_from h.entries h.place (h.place + k) m) (value_for flat.tables values m)
       reads_are = sampler_reads flat.tables values h m is.kind_is has_list k due.within
 
-      reads_count : length (reads m) ≡ sum_by (count m) h.old + done h.entries (h.place + k) m
+      pub reads_count : length (reads m) ≡ sum_by (count m) h.old + done h.entries (h.place + k) m
       reads_count =
           let l = ap length reads_are ∙ length-append (slice_index_or h.reads m []) (replicate (turns_from h.entries h.place (h.place + k) m) (value_for flat.tables values m)) in
           let r = length-replicate (turns_from h.entries h.place (h.place + k) m) (value_for flat.tables values m) in
@@ -149,7 +149,7 @@ module _ (model : PureTree) (flat : Flat) (number time : ℕ) (values : List Raw
           (omega (arith, long, zero_done, same_done, at_i, first)) (omega (arith, long, zero_done, same_done, at_i, first, top, up, next, one))
           ∙ ap Some (sym value)
 
-    all_given : AreSettled flat.tables values offset c inputs → AreAllGiven offset c inputs reads h.old 0
+    pub all_given : AreSettled flat.tables values offset c inputs → AreAllGiven offset c inputs reads h.old 0
     all_given settled i x low there same = record {
       is = λ s v runner_is input. (
           let sampler = at.of.runners x.actor (runner.Sampler s) runner_is in
@@ -173,6 +173,7 @@ module _ (model : PureTree) (flat : Flat) (number time : ℕ) (values : List Raw
       past = at.past;
       have_read = record { same = reads_long flat.tables values h k ∙ at.have_read.same; samplers = λ m is. reads_count m is };
       steps = d.place - c.place + at.steps;
+      few = (let e = place_d all in let p = at.place_is in let up = all.moved.up in let f = at.few in omega (arith, e, p, up, f));
       stands = subst (λ j. Stands (cluster_net model flat j h.begun) h.old h.now reads (d.place - c.place + at.steps) (play_of 0 d)) at.number_is
           (keeps model h.begun h.old h.now reads 0 at.steps checked at.period (all_given settled)
           (subst (λ j. Stands (cluster_net model flat j h.begun) h.old h.now reads at.steps (play_of 0 c)) (sym at.number_is)

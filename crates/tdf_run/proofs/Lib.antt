@@ -2,3 +2,5 @@ pub mod Arriving
 pub mod Due
 pub mod Firings
 pub mod Sampling
+pub mod Sinking
+pub mod Writing

@@ -51,7 +51,7 @@ module _ (tables : FlatOf) (values : List Raw) where
     | inr past ↦ none_some x (ap (λ (l : List Raw). slice_get l n) (sym (get_or_past reads m [] past)) ∙ at)
   ]
 
-  read_kept : (a m n : ℕ) (x : Raw) (o : Option Actor) (reads : List (List Raw)) → slice_get (slice_index_or reads m []) n ≡ Some x → slice_get (slice_index_or (read_by tables values a o reads) m []) n ≡ Some x
+  pub read_kept : (a m n : ℕ) (x : Raw) (o : Option Actor) (reads : List (List Raw)) → slice_get (slice_index_or reads m []) n ≡ Some x → slice_get (slice_index_or (read_by tables values a o reads) m []) n ≡ Some x
   read_kept a m n x None reads at = at
   read_kept a m n x (Some actor.Module) reads at = at
   read_kept a m n x (Some actor.Sampler) reads at = elim (cases_eq m a) [

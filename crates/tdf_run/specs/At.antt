@@ -1,7 +1,7 @@
 -- When a cluster in progress is what the history says of it.
 -- Source: own.
-use Rattle.std.specs.Prelude.{◌≡◌, ◌≤◌, ℕ, false, List, [], All, length, Some}
-use Rattle.std.specs.Prelude.{slice_get, slice_index_or}
+use Rattle.std.specs.Prelude.{◌≡◌, ◌≤◌, ◌+◌, ℕ, false, List, [], All, length, Some}
+use Rattle.std.specs.Prelude.{slice_get, slice_index, slice_index_or}
 use Rattle.tdf_bind.specs.Flat.{FlatOf}
 use Rattle.tdf_exec.specs.Cluster.{ClusterOf}
 use Rattle.tdf_exec.specs.Made.{IsActorOf, IsClusterOf}
@@ -10,14 +10,16 @@ use Rattle.tdf_exec.specs.Runners.{SamplerOf}
 use Rattle.tdf_exec.specs.declared.runners.Runner.TheVariants as runner
 use Rattle.tdf_fixed.specs.declared.raw.Raw.{Raw}
 use Rattle.tdf_flat.specs.declared.model.Flat.{Flat}
+use Rattle.tdf_flow.specs.Grounds.{firings}
 use Rattle.tdf_flow.specs.Stands.{Stands}
 use Rattle.tdf_graph.specs.declared.actors.Actor.TheVariants as actor
 use Rattle.tdf_history.specs.Instant.{activations, periods_of, run_in}
 use Rattle.tdf_history.specs.World.{ClusterAt}
+use Rattle.tdf_layout.specs.Wiring.{Reads}
 use Rattle.tdf_run.specs.Firings.{value_for}
 use Rattle.tdf_schedule.specs.declared.entry.Entry.{Entry}
 use Rattle.tdf_streams.specs.Cluster.{cluster_net}
-use Rattle.tdf_streams.specs.Periods.{IsWholeRecord}
+use Rattle.tdf_streams.specs.Periods.{IsWholeRecord, PeriodRecord}
 use Rattle.tdf_streams.specs.Starts.{ArePast}
 use Rattle.tdf_tree.specs.Pure.{PureTree}
 
@@ -44,6 +46,7 @@ pub record IsAt (model : PureTree) (flat : Flat) (number : ℕ) (h : ClusterAt) 
   pub past : ArePast flat number h.begun h.old h.now
   pub have_read : HaveRead flat.tables number h
   pub steps : ℕ
+  pub few : steps ≤ firings h.old + h.place
   pub stands : Stands (cluster_net model flat number h.begun) h.old h.now (run_in h).reads steps
       (play_of 0 c)
 
@@ -54,3 +57,8 @@ pub record AreSettled (tables : FlatOf) (values : List Raw) (offset : ℕ) (c : 
       → slice_get c.entries i ≡ Some x → x.offset ≡ offset
       → slice_get c.runners x.actor ≡ Some (runner.Sampler s)
       → slice_get inputs s.place ≡ Some v → v ≡ value_for tables values x.actor
+
+-- a sink of the cluster took one sample an activation in each period before
+pub record HaveTakenOne (tables : FlatOf) (number : ℕ) (h : ClusterAt) : Type 0 where
+  pub each : (m e : ℕ) → IsActorOf tables number m actor.Sink → Reads tables m e
+      → All (λ (p : PeriodRecord). slice_index p.reads e ≡ 1) h.old

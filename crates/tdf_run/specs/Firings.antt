@@ -4,6 +4,7 @@
 use Rattle.std.specs.Prelude.{◌≡◌, ◌≤◌, ◌<◌, ℕ, zero, suc, ◌+◌, ◌-◌, true, false, List, [], ◌∷◌}
 use Rattle.std.specs.Prelude.{◌++◌, Option, Some, None, length, slice_get, slice_index_or, slice_set}
 use Rattle.tdf_bind.specs.Flat.{FlatOf}
+use Rattle.tdf_convert.specs.declared.outputs.Sent.{Sent}
 use Rattle.tdf_fixed.specs.declared.raw.Raw.{Raw}
 use Rattle.tdf_flat.specs.declared.model.Flat.{Flat}
 use Rattle.tdf_graph.specs.declared.actors.Actor.{Actor}
@@ -53,6 +54,10 @@ reads_after tables values h (suc k) = read_by tables values (actor_at h k)
 abbrev pub after_firings : FlatOf → List Raw → ClusterAt → (k : ℕ) → ClusterAt
 after_firings tables values h k =
     record h { place = h.place + k; reads = reads_after tables values h k }
+
+-- what a sink sends is a write of its signal
+abbrev pub write_of : FlatOf → Sent → SinkWrite
+write_of tables s = record { signal = signal_of tables s.actor; value = s.value }
 
 -- what a firing of actor m gives to the event side: a sink its sample
 abbrev pub write_by : PureTree → Flat → (cluster : ℕ) → ClusterAt → (m : ℕ) → Option Actor

@@ -2,9 +2,11 @@
 -- all types is no clause. The lemmas that show it are about all types.
 -- Source: own.
 use Rattle.std.specs.Prelude.{◌≡◌, ◌≤◌, ◌<◌, ℕ, ◌+◌, ◌-◌, false, List, [], ◌++◌, Some, length}
-use Rattle.std.specs.Prelude.{replicate, slice_get, slice_index_or}
+use Rattle.std.specs.Prelude.{map, replicate, slice_get, slice_index_or}
 use Rattle.tdf_convert.specs.Sampled.{AreByOffset}
 use Rattle.tdf_exec.specs.Cluster.{ClusterOf, due_count, due_from, next_offset}
+use Rattle.tdf_convert.specs.Outputs.{OutputsOf}
+use Rattle.tdf_exec.specs.Gained.{HasGained}
 use Rattle.tdf_exec.specs.Made.{IsClusterOf}
 use Rattle.tdf_exec.specs.Played.{AreDone, KeepsStanding, turns_from}
 use Rattle.tdf_expr.specs.Checked.{IsCheckedOf}
@@ -14,9 +16,9 @@ use Rattle.tdf_graph.specs.declared.actors.Actor.TheVariants as actor
 use Rattle.tdf_history.specs.Instant.{all_firings, is_entry_due, next_entry}
 use Rattle.tdf_history.specs.World.{ClusterAt, Rules, World}
 use Rattle.tdf_instants.specs.History.{Going, Past}
-use Rattle.tdf_run.specs.At.{AreSettled, IsAt}
+use Rattle.tdf_run.specs.At.{AreSettled, HaveTakenOne, IsAt}
 use Rattle.tdf_run.specs.Firings.{AreDueNext, IsNotLate, after_firings, reads_after, value_for}
-use Rattle.tdf_run.specs.Firings.{world_after}
+use Rattle.tdf_run.specs.Firings.{world_after, write_of, writes_after}
 use Rattle.tdf_streams.specs.Places.{actor_kind}
 use Rattle.tdf_tree.specs.Pure.{PureTree}
 
@@ -67,3 +69,15 @@ FiringsKeepAt = (model : PureTree) (flat : Flat) (number time : ℕ) (values : L
     → KeepsStanding flat (time - h.since) inputs c d
     → IsAt model flat number
     (after_firings flat.tables values h (due_count c (time - h.since))) d
+
+-- and what its sinks give is what the history says that they write
+abbrev pub SinksWrite : Type 0
+SinksWrite = (model : PureTree) (flat : Flat) (number time : ℕ) (values : List Raw)
+    → (h : ClusterAt) (c d : ClusterOf) (inputs : List Raw) (before after : OutputsOf)
+    → IsCheckedOf model flat.checked → IsAt model flat number h c → AreByOffset c.entries
+    → HaveTakenOne flat.tables number h
+    → h.since ≤ time → next_offset c ≡ Some (time - h.since)
+    → AreSettled flat.tables values (time - h.since) c inputs → AreDone (time - h.since) c d
+    → (gained : HasGained flat (time - h.since) inputs c d before after)
+    → writes_after model flat values number h (due_count c (time - h.since))
+    ≡ map (write_of flat.tables) gained.sent
