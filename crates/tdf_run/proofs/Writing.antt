@@ -35,7 +35,7 @@ use Rattle.tdf_streams.specs.Cluster.{cluster_net}
 use Rattle.tdf_streams.specs.Periods.{PeriodRecord}
 use Rattle.tdf_tree.specs.Pure.{PureTree}
 
-is_sink : Option Actor → Bool
+unfoldable pub is_sink : Option Actor → Bool
 is_sink None = false
 is_sink (Some actor.Module) = false
 is_sink (Some actor.Sampler) = false
@@ -59,7 +59,7 @@ module _ (model : PureTree) (flat : Flat) (number time : ℕ) (values : List Raw
   plan_within = many h.entries h.now.counts (λ m.
       (let z = at.period.counts m in let n = done_none c.entries m in let l = ap (λ es. done es (length es) m) at.entries_are in let a = done_all h.entries m in omega (arith, z, n, l, a)))
 
-  enough : (k : ℕ) → h.place + k ≤ length h.entries → k + at.steps ≤ firings (h.old ++ h.now ∷ [])
+  pub enough : (k : ℕ) → h.place + k ≤ length h.entries → k + at.steps ≤ firings (h.old ++ h.now ∷ [])
   enough k within =
       let s = sum_by-append (λ (p : PeriodRecord). sum p.counts) h.old (h.now ∷ []) in
       let o = sum_by-cons (λ (p : PeriodRecord). sum p.counts) h.now [] in

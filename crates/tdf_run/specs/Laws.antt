@@ -11,11 +11,13 @@ use Rattle.tdf_exec.specs.Made.{IsClusterOf}
 use Rattle.tdf_exec.specs.Played.{AreDone, KeepsStanding, turns_from}
 use Rattle.tdf_expr.specs.Checked.{IsCheckedOf}
 use Rattle.tdf_fixed.specs.declared.raw.Raw.{Raw}
+use Rattle.tdf_flat.specs.Flat.{IsFlatOf}
 use Rattle.tdf_flat.specs.declared.model.Flat.{Flat}
 use Rattle.tdf_graph.specs.declared.actors.Actor.TheVariants as actor
 use Rattle.tdf_history.specs.Instant.{all_firings, is_entry_due, next_entry}
 use Rattle.tdf_history.specs.World.{ClusterAt, Rules, World}
 use Rattle.tdf_instants.specs.History.{Going, Past}
+use Rattle.tdf_limits.specs.Limits.{AreWithinLimits}
 use Rattle.tdf_run.specs.At.{AreSettled, HaveTakenOne, IsAt}
 use Rattle.tdf_run.specs.Firings.{AreDueNext, IsNotLate, after_firings, reads_after, value_for}
 use Rattle.tdf_run.specs.Firings.{world_after, write_of, writes_after}
@@ -69,6 +71,12 @@ FiringsKeepAt = (model : PureTree) (flat : Flat) (number time : ℕ) (values : L
     → KeepsStanding flat (time - h.since) inputs c d
     → IsAt model flat number
     (after_firings flat.tables values h (due_count c (time - h.since))) d
+
+-- its sinks took one sample an activation in each period before
+abbrev pub SinksHaveTakenOne : Type 0
+SinksHaveTakenOne = (model : PureTree) (flat : Flat) (number : ℕ) (h : ClusterAt) (c : ClusterOf)
+    → IsFlatOf model flat → AreWithinLimits flat → IsAt model flat number h c
+    → HaveTakenOne flat.tables number h
 
 -- and what its sinks give is what the history says that they write
 abbrev pub SinksWrite : Type 0

@@ -1,7 +1,7 @@
 //! What holds of the definitions: each function here only carries its clauses.
 
 ghost use Rattle.tdf_run.specs.Laws.{DueAreCounted, DueEntriesFire, FiringsKeepAt, NoneDueNoneFire};
-ghost use Rattle.tdf_run.specs.Laws.{SamplersRead, SinksWrite, TooFewTurnsEnd};
+ghost use Rattle.tdf_run.specs.Laws.{SamplersRead, SinksHaveTakenOne, SinksWrite, TooFewTurnsEnd};
 
 /// The firings of a cluster at a time: its entries that are due, if the turns are enough for them.
 pub fn law_firings()
@@ -11,9 +11,11 @@ pub fn law_firings()
     ensures counted { DueAreCounted }
 {}
 
-/// What samplers have read after these firings, and what a cluster in progress is and has given that does them.
+/// What samplers have read after these firings, what a cluster in progress that does them is then,
+/// and what it gives.
 pub fn law_cluster()
     ensures read { SamplersRead }
     ensures at { FiringsKeepAt }
+    ensures one { SinksHaveTakenOne }
     ensures written { SinksWrite }
 {}
