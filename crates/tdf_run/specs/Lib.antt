@@ -1,0 +1,3 @@
+pub mod At
+pub mod Firings
+pub mod Laws

@@ -1,0 +1,21 @@
+//! What holds of the definitions: each function here only carries its clauses.
+
+ghost use Rattle.tdf_run.specs.Laws.{DueAreCounted, DueEntriesFire, FiringsKeepAt, NoneDueNoneFire};
+ghost use Rattle.tdf_run.specs.Laws.{SamplersRead, SinksHaveTakenOne, SinksWrite, TooFewTurnsEnd};
+
+/// The firings of a cluster at a time: its entries that are due, if the turns are enough for them.
+pub fn law_firings()
+    ensures due { DueEntriesFire }
+    ensures few { TooFewTurnsEnd }
+    ensures none { NoneDueNoneFire }
+    ensures counted { DueAreCounted }
+{}
+
+/// What samplers have read after these firings, what a cluster in progress that does them is then,
+/// and what it gives.
+pub fn law_cluster()
+    ensures read { SamplersRead }
+    ensures at { FiringsKeepAt }
+    ensures one { SinksHaveTakenOne }
+    ensures written { SinksWrite }
+{}
