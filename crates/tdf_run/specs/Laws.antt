@@ -92,17 +92,19 @@ SinksWrite = (model : PureTree) (flat : Flat) (number time : ℕ) (values : List
     → writes_after model flat values number h (due_count c (time - h.since))
     ≡ map (write_of flat.tables) gained.sent
 
--- what a cluster in progress has done within the turns is what the history does
-pub record GoesAlong (model : PureTree) (flat : Flat) (rules : Rules ℕ) (time n : ℕ)
-    (h : ClusterAt) (w : World ℕ) (d : ClusterOf) (sent : List Sent) (rest : ℕ) : Type 0 where
-  pub after : ClusterAt
-  pub at : IsAt model flat (n + 1) after d
-  pub goes : all_firings model flat rules time n w ≡ Going (record w {
-    clusters = slice_set w.clusters n after;
-    left = rest;
-    written = w.written ++ map (write_of flat.tables) sent;
-  })
+module _ {K : Type 0} where
+  -- what a cluster in progress has done within the turns is what the history does
+  pub record GoesAlong (model : PureTree) (flat : Flat) (rules : Rules K) (time n : ℕ)
+      (h : ClusterAt) (w : World K) (d : ClusterOf) (sent : List Sent) (rest : ℕ) : Type 0 where
+    pub after : ClusterAt
+    pub at : IsAt model flat (n + 1) after d
+    pub goes : all_firings model flat rules time n w ≡ Going (record w {
+      clusters = slice_set w.clusters n after;
+      left = rest;
+      written = w.written ++ map (write_of flat.tables) sent;
+    })
 
+-- so it is for all that it has done
 abbrev pub FiredGoesAlong : Type 0
 FiredGoesAlong = (model : PureTree) (flat : Flat) (rules : Rules ℕ) (time n : ℕ)
     → (h : ClusterAt) (w : World ℕ) (c d : ClusterOf) (inputs : List Raw)
