@@ -1,3 +1,4 @@
+pub mod Along
 pub mod Api
 pub mod Arriving
 pub mod Due

@@ -2,10 +2,11 @@
 -- all types is no clause. The lemmas that show it are about all types.
 -- Source: own.
 use Rattle.std.specs.Prelude.{◌≡◌, ◌≤◌, ◌<◌, ℕ, ◌+◌, ◌-◌, false, List, [], ◌++◌, Some, length}
-use Rattle.std.specs.Prelude.{map, replicate, slice_get, slice_index_or}
+use Rattle.std.specs.Prelude.{map, replicate, slice_get, slice_index_or, slice_set}
 use Rattle.tdf_convert.specs.Sampled.{AreByOffset}
 use Rattle.tdf_exec.specs.Cluster.{ClusterOf, due_count, due_from, next_offset}
 use Rattle.tdf_convert.specs.Outputs.{OutputsOf}
+use Rattle.tdf_convert.specs.declared.outputs.Sent.{Sent}
 use Rattle.tdf_exec.specs.Gained.{HasGained}
 use Rattle.tdf_exec.specs.Made.{IsClusterOf}
 use Rattle.tdf_exec.specs.Played.{AreDone, KeepsStanding, turns_from}
@@ -19,8 +20,9 @@ use Rattle.tdf_history.specs.World.{ClusterAt, Rules, World}
 use Rattle.tdf_instants.specs.History.{Going, Past}
 use Rattle.tdf_limits.specs.Limits.{AreWithinLimits}
 use Rattle.tdf_run.specs.At.{AreSettled, HaveTakenOne, IsAt}
+use Rattle.tdf_run.specs.Fired.{HasFired, HasTooFew}
 use Rattle.tdf_run.specs.Firings.{AreDueNext, IsNotLate, after_firings, reads_after, value_for}
-use Rattle.tdf_run.specs.Firings.{world_after, write_of, writes_after}
+use Rattle.tdf_run.specs.Firings.{settled_values, world_after, write_of, writes_after}
 use Rattle.tdf_streams.specs.Places.{actor_kind}
 use Rattle.tdf_tree.specs.Pure.{PureTree}
 
@@ -89,3 +91,36 @@ SinksWrite = (model : PureTree) (flat : Flat) (number time : ℕ) (values : List
     → (gained : HasGained flat (time - h.since) inputs c d before after)
     → writes_after model flat values number h (due_count c (time - h.since))
     ≡ map (write_of flat.tables) gained.sent
+
+module _ {K : Type 0} where
+  -- what a cluster in progress has done within the turns is what the history does
+  pub record GoesAlong (model : PureTree) (flat : Flat) (rules : Rules K) (time n : ℕ)
+      (h : ClusterAt) (w : World K) (d : ClusterOf) (sent : List Sent) (rest : ℕ) : Type 0 where
+    pub after : ClusterAt
+    pub at : IsAt model flat (n + 1) after d
+    pub goes : all_firings model flat rules time n w ≡ Going (record w {
+      clusters = slice_set w.clusters n after;
+      left = rest;
+      written = w.written ++ map (write_of flat.tables) sent;
+    })
+
+-- so it is for all that it has done
+abbrev pub FiredGoesAlong : Type 0
+FiredGoesAlong = (model : PureTree) (flat : Flat) (rules : Rules ℕ) (time n : ℕ)
+    → (h : ClusterAt) (w : World ℕ) (c d : ClusterOf) (inputs : List Raw)
+    → (before after : OutputsOf) (rest : ℕ) → IsCheckedOf model flat.checked
+    → IsFlatOf model flat → AreWithinLimits flat → slice_get w.clusters n ≡ Some h
+    → IsAt model flat (n + 1) h c → AreByOffset c.entries → h.since ≤ time
+    → next_offset c ≡ Some (time - h.since)
+    → AreSettled flat.tables (settled_values rules w) (time - h.since) c inputs
+    → (fired : HasFired flat (time - h.since) inputs c d before after w.left rest)
+    → GoesAlong model flat rules time n h w d fired.gained.sent rest
+
+-- where the turns were too few, the history is spent
+abbrev pub TooFewIsSpent : Type 0
+TooFewIsSpent = (model : PureTree) (flat : Flat) (rules : Rules ℕ) (time n : ℕ)
+    → (h : ClusterAt) (w : World ℕ) (c d : ClusterOf) (before after : OutputsOf) (rest : ℕ)
+    → slice_get w.clusters n ≡ Some h → IsAt model flat (n + 1) h c → AreByOffset c.entries
+    → h.since ≤ time → next_offset c ≡ Some (time - h.since)
+    → HasTooFew (time - h.since) c d before after w.left rest
+    → all_firings model flat rules time n w ≡ Past (world_after model flat rules n h w w.left)

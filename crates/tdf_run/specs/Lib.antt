@@ -1,3 +1,4 @@
 pub mod At
+pub mod Fired
 pub mod Firings
 pub mod Laws

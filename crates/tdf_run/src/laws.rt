@@ -1,6 +1,7 @@
 //! What holds of the definitions: each function here only carries its clauses.
 
-ghost use Rattle.tdf_run.specs.Laws.{DueAreCounted, DueEntriesFire, FiringsKeepAt, NoneDueNoneFire};
+ghost use Rattle.tdf_run.specs.Laws.{DueAreCounted, DueEntriesFire, FiredGoesAlong, FiringsKeepAt};
+ghost use Rattle.tdf_run.specs.Laws.{NoneDueNoneFire, TooFewIsSpent};
 ghost use Rattle.tdf_run.specs.Laws.{SamplersRead, SinksHaveTakenOne, SinksWrite, TooFewTurnsEnd};
 
 /// The firings of a cluster at a time: its entries that are due, if the turns are enough for them.
@@ -18,4 +19,10 @@ pub fn law_cluster()
     ensures at { FiringsKeepAt }
     ensures one { SinksHaveTakenOne }
     ensures written { SinksWrite }
+{}
+
+/// What a cluster in progress does within the turns that are left is what the history does.
+pub fn law_along()
+    ensures fired { FiredGoesAlong }
+    ensures few { TooFewIsSpent }
 {}

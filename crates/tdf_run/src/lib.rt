@@ -1,8 +1,11 @@
 //! A run of a model: what joins clusters in progress to the history.
 //!
+//! - `firing`: the firings of a cluster at a time, within the turns that are left.
 //! - `laws`: what holds of the firings of an instant.
 #![tactic(auto)]
 
+mod firing;
 mod laws;
 
-pub use laws::{law_cluster, law_firings};
+pub use firing::fire_due;
+pub use laws::{law_along, law_cluster, law_firings};
