@@ -285,7 +285,7 @@ module _ (flat : Flat) (cluster : ℕ) (first : First) (sound : IsSoundFlat flat
     positions = ap length none_done ∙ length-replicate {A = ℕ} (length flat.tables.actors) 0;
     counted = λ m. (let z = zero_at m in omega (arith, z));
     runners = runner_is;
-    keep = sound.keep;
+    keep = laid.keep;
   }
 
   -- what the variables of a module hold at the start
