@@ -6,9 +6,9 @@ use Rattle.std.proofs.lemmas.List.{get_or_past, length-map}
 use Rattle.std.proofs.lemmas.List.FromFn.{length-map-range_with_len}
 use Rattle.std.proofs.lemmas.Option.{get_or_from_slice_get, slice_get_past}
 use Rattle.std.specs.List.{range_with_len}
-use Rattle.std.specs.Prelude.{slice_index}
+use Rattle.std.specs.Prelude.{slice_get, slice_index}
 use Rattle.tdf_dynamic.specs.Attributes.{clusters_of}
-use Rattle.tdf_exec.proofs.Kept.{neither, not_not, zero_in}
+use Rattle.tdf_exec.proofs.Kept.{false_true, neither, not_not, zero_in}
 use Rattle.tdf_exec.proofs.Planned.{no_times, none_before}
 use Rattle.tdf_exec.specs.Cluster.{ClusterOf, next_offset, offset_in}
 use Rattle.tdf_exec.specs.Crossing.{CrossesFrom, HasNoChanges, StandsAtNext, at_place}
@@ -66,8 +66,9 @@ kept_at flat c place crossed m (runner.Sink k) is = record {
 }
 kept_at flat c place crossed m runner.Outside is = is
 
-pub of_at : (flat : Flat) (c : ClusterOf) (place : ℕ) (crossed : Bool) → IsClusterOf flat c → place ≤ length c.entries → AreHeld flat.tables (at_place c place crossed) → IsClusterOf flat (at_place c place crossed)
-of_at flat c place crossed of within held = record {
+pub of_at : (flat : Flat) (c : ClusterOf) (place : ℕ) (crossed : Bool) → IsClusterOf flat c → place ≤ length c.entries
+    → (crossed ≡ true → offset_in (slice_get c.entries place) ≡ None) → AreHeld flat.tables (at_place c place crossed) → IsClusterOf flat (at_place c place crossed)
+of_at flat c place crossed of within over held = record {
   attributes = of.attributes;
   planned = record {
     plan = of.planned.plan;
@@ -80,6 +81,7 @@ of_at flat c place crossed of within held = record {
   writes_are = of.writes_are;
   safe = record { inside = of.safe.inside; own = of.safe.own; present = of.safe.present; bounded = of.safe.bounded };
   within = within;
+  over = over;
   held = held;
   actors = of.actors;
   positions = of.positions;
@@ -88,8 +90,8 @@ of_at flat c place crossed of within held = record {
   keep = of.keep;
 }
 
-pub of_crossed : (flat : Flat) (c : ClusterOf) (crossed : Bool) → IsClusterOf flat c → IsClusterOf flat (at_place c c.place crossed)
-of_crossed flat c crossed of = of_at flat c c.place crossed of of.within (record { same = of.held.same; held = of.held.held; room = of.held.room; formats = of.held.formats })
+pub of_crossed : (flat : Flat) (c : ClusterOf) (crossed : Bool) → IsClusterOf flat c → next_offset c ≡ None → IsClusterOf flat (at_place c c.place crossed)
+of_crossed flat c crossed of end = of_at flat c c.place crossed of of.within (λ is. end) (record { same = of.held.same; held = of.held.held; room = of.held.room; formats = of.held.formats })
 
 -- no change body runs
 unchanged : (model : PureTree) (flat : Flat) (m : ℕ) (periods : List PeriodRecord) (cells : List ℤ) → has_changes flat.tables.modules m ≡ false → changed model flat m periods cells ≡ cells
@@ -167,7 +169,7 @@ module _ (flat : Flat) (c : ClusterOf) (of : IsClusterOf flat c) (end : next_off
   nothing m = refl
 
   pub of_next : IsClusterOf flat (at_place c 0 false)
-  of_next = of_at flat c 0 false of (omega arith) (record {
+  of_next = of_at flat c 0 false of (omega arith) false_true (record {
     same = of.held.same;
     held = λ e within.
         let h = of.held.held e within in let b = balanced e within in

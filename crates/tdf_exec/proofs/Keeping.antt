@@ -11,7 +11,7 @@ use Rattle.tdf_exec.proofs.Acting.{block_there}
 use Rattle.tdf_exec.proofs.Counting.{held_after}
 use Rattle.tdf_exec.proofs.Moved.{given_by, given_none, given_one, module_moves, sampler_moves, sink_moves, some_at, some_inj}
 use Rattle.tdf_exec.proofs.Runs.{can_run}
-use Rattle.tdf_exec.specs.Cluster.{ClusterOf}
+use Rattle.tdf_exec.specs.Cluster.{ClusterOf, offset_in}
 use Rattle.tdf_exec.specs.machine.Fired.{CanSample, HasFired, HasRun}
 use Rattle.tdf_exec.specs.Made.{IsClusterOf, IsInSpans, IsModuleOf, IsRunnerOf, KeepRates, is_sampler}
 use Rattle.tdf_exec.specs.Played.{IsLike}
@@ -29,6 +29,7 @@ use Rattle.tdf_firing.specs.declared.wires.InWire.{InWire}
 use Rattle.tdf_firing.specs.declared.wires.OutWire.{OutWire}
 use Rattle.tdf_fixed.specs.declared.raw.Raw.{Raw}
 use Rattle.tdf_flat.specs.declared.model.Flat.{Flat}
+use Rattle.tdf_flow.proofs.Api.{none_some}
 use Rattle.tdf_layout.specs.Wiring.{AreWiresOf}
 use Rattle.tdf_rings.specs.Rings.{RingOf}
 use Rattle.tdf_schedule.specs.declared.entry.Entry.{Entry}
@@ -234,6 +235,7 @@ module _ (flat : Flat) (c : ClusterOf) (inputs : List Raw) (x : Entry) (of : IsC
         bounded = of.safe.bounded;
       };
       within = omega (arith, slice_get_within c.entries c.place x at);
+      over = λ crossed. none_some x.offset (sym (of.over crossed) ∙ ap offset_in at);
       held =
           let moved = moves before after there ran in
           held_after flat.tables c x moved.given new next.runners next.positions of.safe at of.held moved.are;

@@ -77,6 +77,9 @@ module _ (flat : Flat) (laid : IsLaid flat) (cluster : ℕ) (ws : List ActorWire
 true_false : {P : Type 0} → true ≡ false → P
 true_false h = absurd (subst (λ b. elim b as (λ _. Type 0) [ true ↦ Unit {0} | false ↦ ⊥ ]) h tt)
 
+pub false_true : {P : Type 0} → false ≡ true → P
+false_true h = true_false (sym h)
+
 pub neither : (a b : Bool) → (a || b) ≡ false → (a ≡ false) × (b ≡ false)
 neither true b h = true_false h
 neither false b h = (refl, h)
@@ -280,12 +283,13 @@ module _ (flat : Flat) (cluster : ℕ) (first : First) (sound : IsSoundFlat flat
     writes_are = refl;
     safe = is_safe flat cluster first sound laid is law rings runners positions rings_are;
     within = omega arith;
+    over = λ crossed. false_true crossed;
     held = are_held flat cluster first sound laid is law rings runners positions rings_are;
     actors = long;
     positions = ap length none_done ∙ length-replicate {A = ℕ} (length flat.tables.actors) 0;
     counted = λ m. (let z = zero_at m in omega (arith, z));
     runners = runner_is;
-    keep = sound.keep;
+    keep = laid.keep;
   }
 
   -- what the variables of a module hold at the start

@@ -1,17 +1,17 @@
--- No processing body of a model without a fault sets a rate variable.
+-- No initialize or processing body of a model without a fault sets a rate variable.
 use Rattle.std.proofs.Common.{◌≡◌, ◌∙◌, ℕ, zero, suc, ◌+◌, ◌-◌, Bool, true, false, not, List, [], ◌∷◌, ◌++◌, Option, Some, None, refl, sym, ap, subst, ℤ, pos, negsuc, if◌then◌else◌}
 use Rattle.std.proofs.lemmas.Option.{same_Some}
 use Rattle.std.specs.List.{flat_map}
 use Rattle.std.specs.Prelude.{slice_get}
 use Rattle.tdf_base.specs.declared.codes.Code.{Code}
 use Rattle.tdf_base.specs.declared.codes.Code.TheVariants as code
-use Rattle.tdf_checks.specs.Blocks.{tdf_faults}
+use Rattle.tdf_checks.specs.Blocks.{bodies_faults, tdf_faults}
 use Rattle.tdf_checks.specs.Lines.{attr_faults, initial_faults, tdf_line_faults}
 use Rattle.tdf_checks.specs.Types.{global_faults, type_faults}
-use Rattle.tdf_exec.specs.Laws.{RatesAreKept}
+use Rattle.tdf_exec.specs.Laws.{RatesAreBegun, RatesAreKept}
 use Rattle.tdf_expr.specs.Blocks.{Events, Module, PureBlock, blocks_of, body_of}
 use Rattle.tdf_expr.specs.Runs.{scope_in}
-use Rattle.tdf_expr.specs.declared.bodies.Body.TheVariants.{Processing}
+use Rattle.tdf_expr.specs.declared.bodies.Body.TheVariants.{Initialize, Processing}
 use Rattle.tdf_faults.proofs.Api.{none_first, none_second}
 use Rattle.tdf_faults.specs.First.{fault_if}
 use Rattle.tdf_fixed.specs.declared.raw.Raw.{Raw}
@@ -120,14 +120,22 @@ module _ (globals : Names) where
   block_faults (GDe b ∷ gs) zero block none at = absurd cc
   block_faults (GDe b ∷ gs) (suc n) block none at = block_faults gs n block (none_second (global_faults globals (GDe b)) _ none) at
 
-  processing_faults : (block : PureTdf) → tdf_faults globals block ≡ [] → stmts_faults (tdf_scope globals block) part.Processing [] block.processing.list ≡ []
-  unfolding tdf_faults widths.body_faults
-  processing_faults block none =
+  own_faults : (block : PureTdf) → tdf_faults globals block ≡ [] → bodies_faults (tdf_scope globals block) block ≡ []
+  unfolding tdf_faults
+  own_faults block none =
       let a = none_second (flat_map (tdf_line_faults (tdf_scope globals block).globals) block.decls) _ none in
       let b = none_second (flat_map (attr_faults (tdf_scope globals block)) block.attrs) _ a in
-      let c = none_second (flat_map (initial_faults (tdf_scope globals block)) block.initials) _ b in
+      none_second (flat_map (initial_faults (tdf_scope globals block)) block.initials) _ b
+
+  initialize_faults : (block : PureTdf) → tdf_faults globals block ≡ [] → stmts_faults (tdf_scope globals block) part.Initialize [] block.initialize.list ≡ []
+  unfolding widths.body_faults
+  initialize_faults block none = none_first _ _ (none_first (widths.body_faults (tdf_scope globals block) part.Initialize block.initialize) _ (own_faults block none))
+
+  processing_faults : (block : PureTdf) → tdf_faults globals block ≡ [] → stmts_faults (tdf_scope globals block) part.Processing [] block.processing.list ≡ []
+  unfolding widths.body_faults
+  processing_faults block none =
       none_first _ _ (none_first (widths.body_faults (tdf_scope globals block) part.Processing block.processing) _
-      (none_second (widths.body_faults (tdf_scope globals block) part.Initialize block.initialize) _ c))
+      (none_second (widths.body_faults (tdf_scope globals block) part.Initialize block.initialize) _ (own_faults block none)))
 
 pub rates_are_kept : RatesAreKept
 unfolding type_faults
@@ -143,3 +151,18 @@ rates_are_kept model flat none are = record {
         stmts_rates (tdf_scope (globals_of model.globals) block) part.Processing refl [] block.processing.list [] s
         (processing_faults (globals_of model.globals) block (block_faults (globals_of model.globals) model.globals number block (none_first _ _ none) at))
     kept number (Events block) s at = refl
+
+pub rates_are_begun : RatesAreBegun
+unfolding type_faults
+rates_are_begun model flat none are = record {
+  model = model;
+  are = are;
+  begin = begun;
+}
+  where
+    begun : (number : ℕ) (block : PureBlock) (s : State) → slice_get (blocks_of model.globals) number ≡ Some block
+        → (after_body (scope_in model block) (body_of block Initialize) s).frame.rates ≡ s.frame.rates
+    begun number (Module block) s at =
+        stmts_rates (tdf_scope (globals_of model.globals) block) part.Initialize refl [] block.initialize.list [] s
+        (initialize_faults (globals_of model.globals) block (block_faults (globals_of model.globals) model.globals number block (none_first _ _ none) at))
+    begun number (Events block) s at = refl

@@ -5,6 +5,7 @@ use Rattle.tdf_checks.specs.Types.{type_faults}
 use Rattle.tdf_dynamic.specs.Rates.{net_of}
 use Rattle.tdf_exec.specs.Cluster.{ClusterOf}
 use Rattle.tdf_exec.specs.Made.{IsPlanned, IsSafe, KeepRates}
+use Rattle.tdf_exec.specs.Starts.{BeginWithRates}
 use Rattle.tdf_expr.specs.Checked.{IsCheckedOf}
 use Rattle.tdf_flat.specs.declared.model.Flat.{Flat}
 use Rattle.tdf_limits.specs.Limits.{AreWithinLimits}
@@ -35,3 +36,8 @@ HeadsHold = (flat : Flat) (c : ClusterOf) (e : ℕ) → c.place ≡ 0
 abbrev pub RatesAreKept : Type 0
 RatesAreKept = (model : PureTree) (flat : Flat) → type_faults model ≡ []
     → IsCheckedOf model flat.checked → KeepRates flat.checked
+
+-- nor does an initialize body
+abbrev pub RatesAreBegun : Type 0
+RatesAreBegun = (model : PureTree) (flat : Flat) → type_faults model ≡ []
+    → IsCheckedOf model flat.checked → BeginWithRates flat.checked

@@ -3,12 +3,12 @@
 -- Source: own.
 use Rattle.std.specs.List.{All, count_by}
 use Rattle.std.specs.Prelude.{◌≡◌, ℕ, zero, suc, ◌+◌, ◌-◌, ◌*◌, ◌^◌, ◌<◌, ◌≤◌, Bool, true, false}
-use Rattle.std.specs.Prelude.{List, length, Some, slice_get, slice_index, map, take}
+use Rattle.std.specs.Prelude.{List, None, Some, length, slice_get, slice_index, map, take}
 use Rattle.tdf_bind.specs.Flat.{FlatOf}
 use Rattle.tdf_dynamic.specs.Attributes.{attrs_at, clusters_of, rates_in}
 use Rattle.tdf_dynamic.specs.Faults.{IsTablePlan}
 use Rattle.tdf_dynamic.specs.Rates.{net_of}
-use Rattle.tdf_exec.specs.Cluster.{ClusterOf}
+use Rattle.tdf_exec.specs.Cluster.{ClusterOf, next_offset}
 use Rattle.tdf_exec.specs.Runners.{ModuleOf, SamplerOf}
 use Rattle.tdf_exec.specs.Traced.{traced_port}
 use Rattle.tdf_layout.specs.Traced.{traced_ports}
@@ -161,7 +161,7 @@ pub record KeepRates (checked : Checked) : Type 0 where
       → (after_body (scope_in model block) (body_of block Processing) s).frame.rates
       ≡ s.frame.rates
 
--- a cluster of a flat model, wherever it is in its period
+-- a cluster of a flat model, wherever it is in its period; it has crossed only at the end of it
 pub record IsClusterOf (flat : Flat) (c : ClusterOf) : Type 0 where
   pub attributes : AreAttributes flat c.number c.table
   pub planned : IsPlanned flat.tables c
@@ -169,6 +169,7 @@ pub record IsClusterOf (flat : Flat) (c : ClusterOf) : Type 0 where
   pub writes_are : c.writes ≡ write_rates (net_of flat.tables c.table)
   pub safe : IsSafe flat.tables c
   pub within : c.place ≤ length c.entries
+  pub over : c.crossed ≡ true → next_offset c ≡ None
   pub held : AreHeld flat.tables c
   pub actors : length c.runners ≡ length flat.tables.actors
   pub positions : length c.positions ≡ length flat.tables.actors

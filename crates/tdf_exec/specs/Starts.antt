@@ -3,7 +3,6 @@
 use Rattle.std.specs.Prelude.{◌≡◌, ℕ, false, List, [], Some, slice_get, slice_index}
 use Rattle.tdf_dynamic.specs.declared.first.First.{First}
 use Rattle.tdf_exec.specs.Cluster.{ClusterOf}
-use Rattle.tdf_exec.specs.Made.{KeepRates}
 use Rattle.tdf_exec.specs.Played.{play_of}
 use Rattle.tdf_expr.specs.Blocks.{PureBlock, blocks_of, body_of}
 use Rattle.tdf_expr.specs.Checked.{IsCheckedOf}
@@ -30,13 +29,11 @@ pub record BeginWithRates (checked : Checked) : Type 0 where
       → (after_body (scope_in model block) (body_of block Initialize) s).frame.rates
       ≡ s.frame.rates
 
--- a flat model of a sound model, whose initialize and processing bodies set no rate variable
+-- a flat model of a sound model
 pub record IsSoundFlat (flat : Flat) : Type 0 where
   pub model : PureTree
   pub sound : IsSoundModel model
   pub is : IsFlatOf model flat
-  pub keep : KeepRates flat.checked
-  pub begin : BeginWithRates flat.checked
 
 -- under the first attributes and plan of a cluster nothing is done yet
 pub record IsAtStart (cluster : ℕ) (first : First) (c : ClusterOf) : Type 0 where

@@ -53,7 +53,6 @@ impl Cluster {
     pub fn install(&mut self, alloc: Global, flat: &Flat, next: Next) -> Result<(), Memory>
         requires sound { IsSoundFlat flat.now }
         requires of { IsClusterOf flat.now self.old }
-        requires done { next_offset self.old ≡ None }
         requires crossed { self.old.crossed ≡ true }
         requires same { next ≡ Same }
         ensures ok { IsOk result }

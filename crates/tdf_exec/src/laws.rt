@@ -1,6 +1,6 @@
 //! What holds of clusters in progress: each function here only carries its clauses.
 
-ghost use Rattle.tdf_exec.specs.Laws.{HeadsHold, PlansAreSafe, RatesAreKept};
+ghost use Rattle.tdf_exec.specs.Laws.{HeadsHold, PlansAreSafe, RatesAreBegun, RatesAreKept};
 
 use tdf_schedule::law_present;
 
@@ -17,7 +17,8 @@ pub fn law_heads()
     ensures { HeadsHold }
 {}
 
-/// No processing body of a model without a fault of types sets a rate variable.
+/// No initialize or processing body of a model without a fault of types sets a rate variable.
 pub fn law_rates()
-    ensures { RatesAreKept }
+    ensures begun { RatesAreBegun }
+    ensures kept { RatesAreKept }
 {}

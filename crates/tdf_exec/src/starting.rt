@@ -12,6 +12,7 @@ ghost use Rattle.tdf_schedule.specs.Laws.{PlansArePresent};
 use crate::beginning::first_runners;
 use crate::cluster::Cluster;
 use crate::filling::first_rings;
+use crate::laws::law_rates;
 use crate::rating::{read_rates, write_rates};
 use crate::runners::Runner;
 use crate::tracing::{give_all, traced_rows};
@@ -37,6 +38,7 @@ pub(crate) fn law_laid()
     law_wired();
     law_edge_formats();
     law_formats();
+    law_rates();
     law_present();
     law_by_offset();
 }

@@ -4,7 +4,8 @@ use Rattle.std.specs.Prelude.{◌≡◌, ◌<◌, ℕ, List, Some, length, repli
 use Rattle.tdf_dynamic.specs.Attributes.{AttrsOf}
 use Rattle.tdf_dynamic.specs.Rates.{net_of}
 use Rattle.tdf_dynamic.specs.declared.first.First.{First}
-use Rattle.tdf_exec.specs.Starts.{IsSoundFlat}
+use Rattle.tdf_exec.specs.Made.{KeepRates}
+use Rattle.tdf_exec.specs.Starts.{BeginWithRates, IsSoundFlat}
 use Rattle.tdf_exec.specs.declared.runners.Runner.{Runner}
 use Rattle.tdf_exec.specs.declared.runners.TracedPort.{TracedPort}
 use Rattle.tdf_exec.specs.machine.Starting.{AreFirstRings, AreFirstRunners}
@@ -38,6 +39,8 @@ pub record IsLaid (flat : Flat) : Type 0 where
       → HasFormat flat e edge
   pub ports : (number : ℕ) (port : PortRow) → slice_get flat.tables.ports number ≡ Some port
       → IsOwnPort flat number port
+  pub keep : KeepRates flat.checked
+  pub begin : BeginWithRates flat.checked
 
 abbrev pub SoundIsLaid : Type 0
 SoundIsLaid = (flat : Flat) → IsSoundFlat flat → IsLaid flat

@@ -10,4 +10,6 @@ returns-clause-laid c flat s =
       wired = λ m wires below are. c.law_wired.ensures s.model flat m wires s.sound s.is below are;
       formats = λ e edge at. c.law_edge_formats.ensures s.model flat e edge s.sound s.is at;
       ports = λ number port at. c.law_formats.ensures s.model flat s.sound s.is number port at;
+      keep = c.law_rates.ensures.kept s.model flat s.sound.types s.is.bodies;
+      begin = c.law_rates.ensures.begun s.model flat s.sound.types s.is.bodies;
     }

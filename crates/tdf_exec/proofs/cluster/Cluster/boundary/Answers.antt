@@ -9,6 +9,7 @@ use Rattle.tdf_exec.proofs.cluster.Cluster.boundary.Goals as goal
 pub returns-clause-of : goal.returns-clause-of
 returns-clause-of c =
     of_crossed c.args.flat.now (the_view c.self.inside) true (subst (IsClusterOf c.args.flat.now) (sym c.self.view_is) c.requires.of)
+    (subst (λ (s : ClusterOf). next_offset s ≡ None) (sym c.self.view_is) c.requires.done)
 
 pub returns-clause-crosses : goal.returns-clause-crosses
 returns-clause-crosses c =

@@ -1,6 +1,6 @@
-use Rattle.std.proofs.Common.{◌≡◌, None, false, subst, sym}
+use Rattle.std.proofs.Common.{◌≡◌, false, subst, sym, true}
 use Rattle.tdf_exec.proofs.Crosses.{of_next, stands_next}
-use Rattle.tdf_exec.specs.Cluster.{ClusterOf, next_offset}
+use Rattle.tdf_exec.specs.Cluster.{ClusterOf}
 use Rattle.tdf_exec.specs.Crossing.{StandsAtNext, at_place}
 use Rattle.tdf_exec.specs.Made.{IsClusterOf}
 use Rattle.tdf_exec.specs.contracts.cluster.Cluster.{the_view}
@@ -8,8 +8,8 @@ use Rattle.tdf_exec.proofs.cluster.Cluster.install.Goals as goal
 
 pub returns-clause-of : goal.returns-clause-of
 returns-clause-of c =
-    of_next c.args.flat.now (the_view c.self.inside) (subst (IsClusterOf c.args.flat.now) (sym c.self.view_is) c.requires.of)
-    (subst (λ (s : ClusterOf). next_offset s ≡ None) (sym c.self.view_is) c.requires.done) c.requires.sound
+    let of : IsClusterOf c.args.flat.now (the_view c.self.inside) = subst (IsClusterOf c.args.flat.now) (sym c.self.view_is) c.requires.of in
+    of_next c.args.flat.now (the_view c.self.inside) of (of.over (subst (λ (s : ClusterOf). s.crossed ≡ true) (sym c.self.view_is) c.requires.crossed)) c.requires.sound
     (c.law_laid.ensures.laid c.args.flat.now c.requires.sound).limits c.law_laid.ensures.present
 
 pub returns-clause-stands : goal.returns-clause-stands
