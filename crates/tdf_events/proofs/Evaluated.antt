@@ -116,11 +116,11 @@ value_format ports n p fit one at first = record {
 }
 
 -- each value that waits is of its signal's format
-elsewhere : (xs : List (Option Raw)) (s n : ℕ) (x y : Option Raw) → n ≢ s → slice_get (slice_set xs s x) n ≡ Some y → slice_get xs n ≡ Some y
+pub elsewhere : (xs : List (Option Raw)) (s n : ℕ) (x y : Option Raw) → n ≢ s → slice_get (slice_set xs s x) n ≡ Some y → slice_get xs n ≡ Some y
 elsewhere xs s n x y apart h = let less : n < length xs = (let l = slice_get_within (slice_set xs s x) n y h in let e = length-set xs s x in omega (arith, l, e)) in
     slice_get-get_or xs n y less ∙ ap Some (sym (get_or-set_other xs s n x y apart) ∙ get_or_from_slice_get (slice_set xs s x) n y y h)
 
-there_is : (xs : List (Option Raw)) (s n : ℕ) (x v : Raw) → n ≡ s → slice_get (slice_set xs s (Some x)) n ≡ Some (Some v) → x ≡ v
+pub there_is : (xs : List (Option Raw)) (s n : ℕ) (x v : Raw) → n ≡ s → slice_get (slice_set xs s (Some x)) n ≡ Some (Some v) → x ≡ v
 there_is xs s n x v same h = let inside : s < length xs = (let l = slice_get_within (slice_set xs s (Some x)) n (Some v) h in let e = length-set xs s (Some x) in omega (arith, l, e, same)) in
     same_Some x v (sym (get_or-set_same xs s (Some x) (Some v) inside) ∙ ap (λ k. slice_index_or (slice_set xs s (Some x)) k (Some v)) (sym same) ∙ get_or_from_slice_get (slice_set xs s (Some x)) n (Some v) (Some v) h)
 

@@ -8,3 +8,4 @@ pub mod Updates
 pub mod Steps
 pub mod Settles
 pub mod Dues
+pub mod Begun

@@ -24,7 +24,7 @@ use Rattle.tdf_wiring.specs.ProcessBlocks.{ProcessRowOf}
 abbrev nothing : Option Raw
 nothing = None
 
-any_there : (test : ℕ → Bool) (xs : List ℕ) (j s : ℕ) → slice_get xs j ≡ Some s → test s ≡ true → list_any test xs ≡ true
+pub any_there : (test : ℕ → Bool) (xs : List ℕ) (j s : ℕ) → slice_get xs j ≡ Some s → test s ≡ true → list_any test xs ≡ true
 any_there test [] j s at on = absurd cc
 any_there test (x ∷ xs) zero s at on = ap (λ b. b || list_any test xs) (ap test (same_Some x s at) ∙ on)
 any_there test (x ∷ xs) (suc j) s at on = ap (λ b. test x || b) (any_there test xs j s at on) ∙ either (test x)
@@ -33,7 +33,7 @@ any_there test (x ∷ xs) (suc j) s at on = ap (λ b. test x || b) (any_there te
     either true = refl
     either false = refl
 
-any_place : (test : ℕ → Bool) (xs : List ℕ) → list_any test xs ≡ true → (j : ℕ) × (s : ℕ) × (slice_get xs j ≡ Some s) × (test s ≡ true)
+pub any_place : (test : ℕ → Bool) (xs : List ℕ) → list_any test xs ≡ true → (j : ℕ) × (s : ℕ) × (slice_get xs j ≡ Some s) × (test s ≡ true)
 any_place test [] on = absurd (true≢false (sym on))
 any_place test (x ∷ xs) on = elim (cases_Bool (test x)) [
   | inl yes_x ↦ (0, x, refl, yes_x)
@@ -51,19 +51,19 @@ unfolding flags_from
 flags_long f n [] = refl
 flags_long f n (r ∷ rows) = ap suc (flags_long f (n + 1) rows)
 
-same_bool : (a b : Bool) → (a ≡ true → b ≡ true) → (b ≡ true → a ≡ true) → a ≡ b
+pub same_bool : (a b : Bool) → (a ≡ true → b ≡ true) → (b ≡ true → a ≡ true) → a ≡ b
 same_bool true b to back = sym (to refl)
 same_bool false true to back = back refl
 same_bool false false to back = refl
 
-or_left : (a b : Bool) → a ≡ true → (a || b) ≡ true
+pub or_left : (a b : Bool) → a ≡ true → (a || b) ≡ true
 or_left a b h = ap (λ x. x || b) h
 
-or_right : (a b : Bool) → b ≡ true → (a || b) ≡ true
+pub or_right : (a b : Bool) → b ≡ true → (a || b) ≡ true
 or_right true b h = refl
 or_right false b h = h
 
-or_either : (a b : Bool) → (a || b) ≡ true → (a ≡ true) ⊎ (b ≡ true)
+pub or_either : (a b : Bool) → (a || b) ≡ true → (a ≡ true) ⊎ (b ≡ true)
 or_either true b h = inl refl
 or_either false b h = inr h
 

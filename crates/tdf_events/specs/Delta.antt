@@ -2,15 +2,17 @@
 -- Source: IEEE 1666-2011, 4.2.1.2 to 4.2.1.5 (evaluation, update, delta and timed notification).
 use Rattle.std.specs.List.{list_any}
 use Rattle.std.specs.Ordering.{int_eq}
-use Rattle.std.specs.Prelude.{ℕ, zero, suc, ◌+◌, ◌-◌, Bool, false, ◌||◌, ◌&&◌, not, if◌then◌else◌}
-use Rattle.std.specs.Prelude.{nat_eq, nat_lt, List, [], ◌∷◌, length, map, Option, Some, None, unwrap_or}
-use Rattle.std.specs.Prelude.{slice_index_or, slice_set}
+use Rattle.std.specs.Prelude.{◌≡◌, ◌≤◌, ℕ, zero, suc, ◌+◌, ◌-◌, Bool, false, ◌||◌, ◌&&◌, not}
+use Rattle.std.specs.Prelude.{if◌then◌else◌, nat_eq, nat_lt, List, [], ◌∷◌, length, map, Option, Some}
+use Rattle.std.specs.Prelude.{None, unwrap_or, slice_get, slice_index_or, slice_set}
 use Rattle.tdf_calendar.specs.Evaluation.{evaluated}
 use Rattle.tdf_calendar.specs.Sets.{count_on, is_on}
 use Rattle.tdf_calendar.specs.Times.{time_of}
 use Rattle.tdf_convert.specs.declared.writes.SignalWrite.{SignalWrite}
 use Rattle.tdf_events.specs.Processes.{ran}
 use Rattle.tdf_events.specs.Side.{SideOf, value_at}
+use Rattle.tdf_expr.specs.Frames.{IsOfFormat}
+use Rattle.tdf_fixed.specs.declared.format.Format.{Format}
 use Rattle.tdf_fixed.specs.declared.raw.Raw.{Raw}
 use Rattle.tdf_flat.specs.declared.model.Flat.{Flat}
 use Rattle.tdf_tree.specs.Pure.{PureTree}
@@ -99,6 +101,15 @@ after_due flat time s = record {
       flat.tables.processes;
   waiting = s.waiting;
 }
+
+-- nothing is pending for a time before this one
+pub record IsNoneBefore (time : ℕ) (times : List (Option ℕ)) : Type 0 where
+  pub none : (event pending : ℕ) → time_of times event ≡ Some pending → time ≤ pending
+
+-- the values that sinks write: each is for an event signal, and of its format
+pub record AreWritesOf (formats : List Format) (writes : List SignalWrite) : Type 0 where
+  pub each : (i : ℕ) (write : SignalWrite) → slice_get writes i ≡ Some write → (f : Format)
+      × (slice_get formats write.signal ≡ Some f) × IsOfFormat f write.value
 
 -- the values that sinks write wait
 unfoldable pub waiting_with : List SignalWrite → List (Option Raw) → List (Option Raw)

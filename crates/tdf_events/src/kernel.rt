@@ -18,19 +18,25 @@ impl Model for Kernel {
     ghost view = { λ a. kernel_of a.parts };
 }
 
-ghost use Rattle.std.specs.Prelude.{◌≡◌, IfOk};
+ghost use Rattle.std.specs.Prelude.{◌≡◌, ◌<◌, ◌+◌, ◌^◌, IfOk, OnErr, OnOk, None, Some};
+ghost use Rattle.tdf_events.specs.Delta.{AreWritesOf, IsNoneBefore, event_part};
 ghost use Rattle.tdf_events.specs.Kernel.{IsKernelOf, IsNextOf, side_of};
-ghost use Rattle.tdf_events.specs.Runnable.{IsRunnable};
+ghost use Rattle.tdf_events.specs.Runnable.{IsRunnable, signal_formats};
 ghost use Rattle.tdf_events.specs.Side.{start_side};
 ghost use Rattle.tdf_events.specs.views.Parts.{kernel_of};
+ghost use Rattle.tdf_expr.specs.Checked.{IsCheckedOf};
+ghost use Rattle.tdf_tree.specs.Pure.{PureTree};
 
+use crate::instants::run_instant;
 use crate::making::{
     by_event, by_signal, own_events, start_frames, start_ports, start_values, started,
 };
 use crate::notices::Notices;
+use crate::turns::{Spent, Turns};
 use crate::waiting::Waiting;
 use std::alloc::Global;
 use tdf_base::Memory;
+use tdf_convert::SignalWrite;
 use tdf_fixed::Raw;
 use tdf_flat::Flat;
 
@@ -97,5 +103,36 @@ impl Kernel {
             return Some(0);
         }
         self.parts.notices.next_time()
+    }
+
+    /// The event part of an instant, within the turns that are left: the notifications of its time come, and the
+    /// values that sinks write wait; where there are such values or a process is triggered, delta steps follow until
+    /// none is. Each process that runs and each delta step takes a turn.
+    ///
+    /// # Errors
+    /// More turns are needed than are left; what the kernel and the turns hold then isn't stated.
+    pub fn instant(
+        &mut self,
+        flat: &Flat,
+        time: u64,
+        writes: &[SignalWrite],
+        turns: &mut Turns,
+    ) -> Result<(), Spent>
+        requires runnable { IsRunnable flat.now }
+        requires kernel { IsKernelOf flat.now self.old }
+        requires early { IsNoneBefore time self.old.notices.times }
+        requires writes { AreWritesOf (signal_formats flat.now) writes.now }
+        requires fits { turns.old.left + turns.old.used < 2 ^ 64 }
+        ensures kernel { OnOk result (IsKernelOf flat.now self.new) }
+        ensures turns { OnOk result (turns.new.left + turns.new.used
+            ≡ turns.old.left + turns.old.used) }
+        ensures done { (model : PureTree) → IsCheckedOf model flat.now.checked
+            → OnOk result (event_part model flat.now time writes.now (side_of self.old)
+            turns.old.left ≡ Some (side_of self.new, turns.new.left)) }
+        ensures spent { (model : PureTree) → IsCheckedOf model flat.now.checked
+            → OnErr result (event_part model flat.now time writes.now (side_of self.old)
+            turns.old.left ≡ None) }
+    {
+        run_instant(&mut self.parts, flat, time, writes, turns)
     }
 }

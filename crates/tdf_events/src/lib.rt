@@ -9,12 +9,14 @@
 //! - `updating`: signals take the values that wait for them.
 //! - `stepping`: one delta step.
 //! - `turns`: turns, and delta steps until no process is triggered.
+//! - `instants`: the event part of an instant.
 //! - `waiting`: the values that wait for the next update.
 //! - `notices`: pending notifications.
 #![tactic(auto)]
 
 mod due;
 mod evaluating;
+mod instants;
 mod kernel;
 mod making;
 mod notices;

@@ -21,14 +21,17 @@ impl Model for Notices {
     ghost invariant = { λ a. length a.calendar ≡ length a.delta.flags };
 }
 
-ghost use Rattle.std.specs.Prelude.{◌≡◌, ◌<◌, ◌^◌, ℕ, IfOk, None, Some, false, length, map, replicate, slice_get};
+ghost use Rattle.std.specs.Prelude.{◌≡◌, ◌<◌, ◌^◌, ℕ, IfOk, None, Some, false, if◌then◌else◌, length, map, replicate, slice_get};
 ghost use Rattle.tdf_calendar.specs.Lists.{list_at};
 ghost use Rattle.tdf_calendar.specs.Sets.{is_on};
 ghost use Rattle.tdf_calendar.specs.Times.{IsNextTime};
+ghost use Rattle.tdf_events.specs.Delta.{IsNoneBefore, is_due};
+ghost use Rattle.tdf_events.specs.machine.Due.{comes};
 ghost use Rattle.tdf_events.specs.machine.Updating.{AreAllReached};
 ghost use Rattle.tdf_events.specs.Notices.{noticed, noticed_after, noticed_first, time_after};
 ghost use Rattle.tdf_expr.specs.Frames.{ArePortsFit};
 
+use crate::due::take_due;
 use std::alloc::Global;
 use tdf_base::Memory;
 use tdf_calendar::{Lists, trigger_all};
@@ -72,6 +75,21 @@ impl Notices {
     {
         trigger_all(lists, self.delta.members(), set);
         self.delta.clear();
+    }
+
+    /// Timed notification: those of a time come, where none is pending before it.
+    pub(crate) fn come(&mut self, time: u64, lists: &Lists, set: &mut NumberSet)
+        requires early { IsNoneBefore time self.old.times }
+        requires lists { length lists.now ≡ length self.old.times }
+        requires members { (s j p : ℕ) → slice_get (list_at lists.now s) j ≡ Some p
+            → p < length set.old.flags }
+        ensures reached { AreAllReached lists.now (comes time self.old.times) set.old.flags
+            set.new.flags }
+        ensures gone { self.new ≡ record self.old {
+          times = map (λ pending. if is_due time pending then None else pending) self.old.times;
+        } }
+    {
+        take_due(&mut self.calendar, time, lists, set);
     }
 
     /// Notifies an event, to come after a time; 0 is a delta notification.
