@@ -3,6 +3,7 @@ pub mod Api
 pub mod Arriving
 pub mod Due
 pub mod Firings
+pub mod Passing
 pub mod Sampling
 pub mod Sinking
 pub mod Taking

@@ -8,4 +8,4 @@ mod firing;
 mod laws;
 
 pub use firing::fire_due;
-pub use laws::{law_along, law_cluster, law_firings};
+pub use laws::{law_along, law_cluster, law_firings, law_pass};
