@@ -7,4 +7,5 @@ pub mod Passing
 pub mod Sampling
 pub mod Sinking
 pub mod Taking
+pub mod Turning
 pub mod Writing

@@ -83,7 +83,7 @@ turn_of flat pass n x y sent (HasTurn.Done turn is did) = (turn, is)
 
 module _ (flat : Flat) (pass : PassAt) (x : RunOf) where
   -- the clusters to come are as they were
-  later : (n : ℕ) (y : RunOf) (sent : List Sent) → HavePassed flat pass n x y sent → (m : ℕ) → n ≤ m → slice_get y.clusters m ≡ slice_get x.clusters m
+  pub later : (n : ℕ) (y : RunOf) (sent : List Sent) → HavePassed flat pass n x y sent → (m : ℕ) → n ≤ m → slice_get y.clusters m ≡ slice_get x.clusters m
   unfolding HavePassed
   later zero y sent passed m low = ap (λ (z : RunOf). slice_get z.clusters m) passed.0
   later (suc n) y sent passed m low =

@@ -7,6 +7,9 @@ use Rattle.tdf_convert.specs.Outputs.{OutputsOf}
 use Rattle.tdf_convert.specs.Sampled.{AreByOffset}
 use Rattle.tdf_convert.specs.declared.outputs.Sent.{Sent}
 use Rattle.tdf_exec.specs.Cluster.{ClusterOf, is_due}
+use Rattle.tdf_exec.specs.Gained.{HaveRoom}
+use Rattle.tdf_exec.specs.Made.{IsClusterOf}
+use Rattle.tdf_exec.specs.Played.{AreInputsFor}
 use Rattle.tdf_expr.specs.Checked.{IsCheckedOf}
 use Rattle.tdf_fixed.specs.declared.raw.Raw.{Raw}
 use Rattle.tdf_flat.specs.Flat.{IsFlatOf}
@@ -31,6 +34,12 @@ pub record PassAt : Type 0 where
   pub time : ℕ
   pub since : List ℕ
   pub inputs : List (List Raw)
+
+abbrev pub run_of : List ClusterOf → OutputsOf → (left : ℕ) → RunOf
+run_of clusters outputs left = record { clusters = clusters; outputs = outputs; left = left }
+
+abbrev pub pass_at : (time : ℕ) → (since : List ℕ) → (inputs : List (List Raw)) → PassAt
+pass_at time since inputs = record { time = time; since = since; inputs = inputs }
 
 -- the cluster that has its turn, before and after it
 pub record TurnAt : Type 0 where
@@ -89,6 +98,31 @@ pub record HasPassedTo (flat : Flat) (pass : PassAt) (n : ℕ) (x y : RunOf) : T
   pub turn : TurnAt
   pub is : IsTurnOf pass n mid y turn
   pub ended : HasEnded pass.time turn mid y
+
+-- the turns end in that of one of the clusters
+pub record HasPassedPart (flat : Flat) (pass : PassAt) (x y : RunOf) : Type 0 where
+  pub number : ℕ
+  pub to : HasPassedTo flat pass number x y
+
+-- all clusters have had their turns
+pub record HasPassedAll (flat : Flat) (pass : PassAt) (x y : RunOf) : Type 0 where
+  pub sent : List Sent
+  pub passed : HavePassed flat pass (length x.clusters) x y sent
+
+-- a pass can be done: each cluster is one of the flat model, has its start and its inputs, and
+-- finds room for what it gives after what those before it gave
+pub record CanPass (flat : Flat) (pass : PassAt) (x : RunOf) : Type 0 where
+  pub since : length x.clusters ≤ length pass.since
+  pub inputs : length x.clusters ≤ length pass.inputs
+  pub begun : (n s : ℕ) → slice_get pass.since n ≡ Some s → s ≤ pass.time
+  pub of : (n : ℕ) (c : ClusterOf) → slice_get x.clusters n ≡ Some c → IsClusterOf flat c
+  pub given : (n s : ℕ) (c : ClusterOf) (inputs : List Raw) → slice_get x.clusters n ≡ Some c
+      → slice_get pass.since n ≡ Some s → slice_get pass.inputs n ≡ Some inputs
+      → is_due c (pass.time - s) ≡ true → AreInputsFor flat (pass.time - s) c inputs
+  pub room : (n s : ℕ) (c : ClusterOf) (y : RunOf) (sent : List Sent)
+      → HavePassed flat pass n x y sent → slice_get y.clusters n ≡ Some c
+      → slice_get pass.since n ≡ Some s → is_due c (pass.time - s) ≡ true
+      → HaveRoom (pass.time - s) c y.outputs
 
 -- all clusters are what the history says of them, and their periods began when it says
 pub record AreAt (model : PureTree) (flat : Flat) (since : List ℕ) (hs : List ClusterAt)
