@@ -19,7 +19,7 @@ use Rattle.tdf_run.proofs.Due.{true_false}
 use Rattle.tdf_run.proofs.Firings.{get_set_same, none_fire, parts_same, set_own}
 use Rattle.tdf_run.specs.At.{AreSettled, IsAt}
 use Rattle.tdf_run.specs.Firings.{settled_values, world_after, write_of}
-use Rattle.tdf_run.specs.Pass.{AreAt, AreReady, HasDone, HasEnded, HasIdled, HasPassedTo, HasTurn, HavePassed, IsTurnOf, PassAt, PassEndsSpent, PassGoesAlong, PassIsSpent, PassesAlong, RunOf, TurnAt, world_with}
+use Rattle.tdf_run.specs.Pass.{AreAt, AreReady, HasDone, HasEnded, HasIdled, HasPassedAll, HasPassedPart, HasPassedTo, HasTurn, HavePassed, IsTurnOf, PassAt, PassEndsSpent, PassGoesAlong, PassIsSpent, PassesAlong, RunOf, TurnAt, world_with}
 use Rattle.tdf_schedule.specs.declared.entry.Entry.{Entry}
 use Rattle.tdf_tree.specs.Pure.{PureTree}
 
@@ -192,6 +192,13 @@ module _ {K : Type 0} (model : PureTree) (flat : Flat) (rules : Rules K) (pass :
       let inside = slice_get_within x.clusters n ended.turn.before (sym untouched ∙ ended.is.before) in
       spent_in n ended.mid y ended.sent (passes_along n ended.mid ended.sent ended.passed) ended.turn ended.is
       untouched (let l = start.same in omega (arith, l, inside)) ended.ended
+
+  -- the pass over all of them, as the history counts its clusters
+  pub all_along : (y : RunOf) (all : HasPassedAll flat pass x y) → PassesAlong model flat rules pass (length w.clusters) w y all.sent
+  all_along y all = subst (λ n. PassesAlong model flat rules pass n w y all.sent) (sym start.same) (passes_along (length x.clusters) y all.sent all.passed)
+
+  pub part_is_spent : (y : RunOf) (part : HasPassedPart flat pass x y) → PassIsSpent model flat rules pass part.number (length w.clusters) w part.to.mid part.to.sent
+  part_is_spent y part = pass_is_spent part.number y part.to
 
 pub pass_goes_along : PassGoesAlong
 pass_goes_along model flat rules pass n w x y sent checked is limits start left ready passed = passes_along model flat rules pass w x checked is limits start left ready n y sent passed
