@@ -1,5 +1,5 @@
 -- What a cluster in progress does within the turns that are left is what the history does.
-use Rattle.std.proofs.Common.{◌≡◌, ◌∙◌, ℕ, ◌+◌, ◌-◌, ◌≤◌, ◌++◌, Some, List, [], set, slice_get, sym, ap, subst}
+use Rattle.std.proofs.Common.{◌≡◌, ◌∙◌, ℕ, ◌+◌, ◌-◌, ◌≤◌, ◌++◌, Some, List, [], set, slice_get, refl, sym, ap, subst}
 use Rattle.tdf_convert.specs.Outputs.{OutputsOf}
 use Rattle.tdf_convert.specs.Sampled.{AreByOffset}
 use Rattle.tdf_exec.specs.Cluster.{ClusterOf, due_count, due_from, next_offset}
@@ -43,6 +43,7 @@ module _ {K : Type 0} (model : PureTree) (flat : Flat) (rules : Rules K) (time n
       record {
         after = after_firings flat.tables (settled_values rules w) h (due_count c (time - h.since));
         at = firings_keep_at model flat (n + 1) time (settled_values rules w) h c d inputs checked at sorted begun next settled fired.of fired.done fired.stands;
+        since_is = refl;
         goes = all
             ∙ ap (λ (l : ℕ). Going (record w {
               clusters = set w.clusters n (after_firings flat.tables (settled_values rules w) h (due_count c (time - h.since)));

@@ -20,7 +20,7 @@ use Rattle.tdf_schedule.specs.declared.entry.Entry.{Entry}
 use Rattle.tdf_streams.specs.Places.{actor_kind, kind_of_row}
 use Rattle.tdf_tree.specs.Pure.{PureTree}
 
-get_set_same : {A : Type 0} (xs : List A) (i : ℕ) (x : A) → i < length xs → slice_get (set xs i x) i ≡ Some x
+pub get_set_same : {A : Type 0} (xs : List A) (i : ℕ) (x : A) → i < length xs → slice_get (set xs i x) i ≡ Some x
 get_set_same [] i x inside = absurd (omega (arith, inside))
 get_set_same (y ∷ ys) zero x inside = refl
 get_set_same (y ∷ ys) (suc i) x inside = get_set_same ys i x (omega (arith, inside))
@@ -30,7 +30,7 @@ set_twice [] i x y = refl
 set_twice (z ∷ zs) zero x y = refl
 set_twice (z ∷ zs) (suc i) x y = ap (λ t. z ∷ t) (set_twice zs i x y)
 
-set_own : {A : Type 0} (xs : List A) (i : ℕ) (x : A) → slice_get xs i ≡ Some x → set xs i x ≡ xs
+pub set_own : {A : Type 0} (xs : List A) (i : ℕ) (x : A) → slice_get xs i ≡ Some x → set xs i x ≡ xs
 set_own [] i x at = refl
 set_own (z ∷ zs) zero x at = ap (λ t. t ∷ zs) (sym (some_same z x at))
 set_own (z ∷ zs) (suc i) x at = ap (λ t. z ∷ t) (set_own zs i x at)

@@ -3,7 +3,9 @@ pub mod Api
 pub mod Arriving
 pub mod Due
 pub mod Firings
+pub mod Passing
 pub mod Sampling
 pub mod Sinking
 pub mod Taking
+pub mod Turning
 pub mod Writing

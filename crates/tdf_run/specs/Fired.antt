@@ -26,3 +26,9 @@ pub record HasTooFew (offset : ℕ) (c d : ClusterOf) (before after : OutputsOf)
   pub same : d ≡ c
   pub none : after ≡ before
   pub kept : rest ≡ left
+
+-- nothing has happened
+pub record HasStayed (c d : ClusterOf) (before after : OutputsOf) (left rest : ℕ) : Type 0 where
+  pub same : d ≡ c
+  pub none : after ≡ before
+  pub kept : rest ≡ left

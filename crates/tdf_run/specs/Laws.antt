@@ -98,6 +98,7 @@ module _ {K : Type 0} where
       (h : ClusterAt) (w : World K) (d : ClusterOf) (sent : List Sent) (rest : ℕ) : Type 0 where
     pub after : ClusterAt
     pub at : IsAt model flat (n + 1) after d
+    pub since_is : after.since ≡ h.since
     pub goes : all_firings model flat rules time n w ≡ Going (record w {
       clusters = slice_set w.clusters n after;
       left = rest;

@@ -2,3 +2,4 @@ pub mod At
 pub mod Fired
 pub mod Firings
 pub mod Laws
+pub mod Pass

@@ -3,6 +3,7 @@
 ghost use Rattle.tdf_run.specs.Laws.{DueAreCounted, DueEntriesFire, FiredGoesAlong, FiringsKeepAt};
 ghost use Rattle.tdf_run.specs.Laws.{NoneDueNoneFire, TooFewIsSpent};
 ghost use Rattle.tdf_run.specs.Laws.{SamplersRead, SinksHaveTakenOne, SinksWrite, TooFewTurnsEnd};
+ghost use Rattle.tdf_run.specs.Pass.{PassEndsSpent, PassGoesAlong};
 
 /// The firings of a cluster at a time: its entries that are due, if the turns are enough for them.
 pub fn law_firings()
@@ -25,4 +26,10 @@ pub fn law_cluster()
 pub fn law_along()
     ensures fired { FiredGoesAlong }
     ensures few { TooFewIsSpent }
+{}
+
+/// What all clusters do in a pass, in order of number, is what the history does.
+pub fn law_pass()
+    ensures along { PassGoesAlong }
+    ensures spent { PassEndsSpent }
 {}
