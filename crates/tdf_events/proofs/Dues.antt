@@ -26,7 +26,7 @@ late_due times time event t first up apart e = one (time_of times e) refl
       | inr n ↦ n.0
     ]
 
-some_none : (o : Option ℕ) (t : ℕ) → o ≡ None → o ≡ Some t → ⊥
+pub some_none : (o : Option ℕ) (t : ℕ) → o ≡ None → o ≡ Some t → ⊥
 some_none o t a b = absurd (grind (arith, a, b))
 
 pub inside_times : (times : List (Option ℕ)) (event t : ℕ) → time_of times event ≡ Some t → event < length times

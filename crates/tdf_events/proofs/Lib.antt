@@ -9,3 +9,5 @@ pub mod Steps
 pub mod Settles
 pub mod Dues
 pub mod Begun
+pub mod Afterwards
+pub mod Api

@@ -1,5 +1,6 @@
 pub mod Delta
 pub mod Kernel
+pub mod Laws
 pub mod Notices
 pub mod Processes
 pub mod Runnable

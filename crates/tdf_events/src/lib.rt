@@ -12,12 +12,14 @@
 //! - `instants`: the event part of an instant.
 //! - `waiting`: the values that wait for the next update.
 //! - `notices`: pending notifications.
+//! - `laws`: what holds of instants that follow one another.
 #![tactic(auto)]
 
 mod due;
 mod evaluating;
 mod instants;
 mod kernel;
+mod laws;
 mod making;
 mod notices;
 mod parts;
@@ -28,4 +30,5 @@ mod updating;
 mod waiting;
 
 pub use kernel::Kernel;
+pub use laws::{law_instant, law_next};
 pub use turns::{Spent, Turns};
