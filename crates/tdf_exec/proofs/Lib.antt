@@ -1,4 +1,5 @@
 mod Acting
+pub mod Api
 mod Begins
 mod Counting
 mod Counts
@@ -20,3 +21,4 @@ mod Rows
 mod Runs
 mod Safe
 mod Stepping
+pub mod Totals

@@ -280,6 +280,20 @@ module _ (flat : Flat) (offset : ℕ) (inputs : List Raw) (c : ClusterOf) (place
               to.gained.sent step.sent to.gained.traced step.traced
               (to.gained.given model start old p reads from checked period told)
               (step.step model start old p reads from checked (next_period from p period) (next_told old from reads told)));
+          sent_many =
+              let h = due_head sent_size runners offset c.entries place step.entry step.at entry_due in
+              let a = due_alike sent_size runners runners2 offset (drop (place + 1) c.entries) sizes_sent in
+              let f = step.few_sent in
+              let l = length-append to.gained.sent step.sent in
+              let g = to.gained.sent_many in
+              omega (arith, h, a, f, l, g);
+          traced_many =
+              let h = due_head traced_size runners offset c.entries place step.entry step.at entry_due in
+              let a = due_alike traced_size runners runners2 offset (drop (place + 1) c.entries) sizes_traced in
+              let f = step.few_traced in
+              let l = length-append to.gained.traced step.traced in
+              let g = to.gained.traced_many in
+              omega (arith, h, a, f, l, g);
         };
         room = record {
           sent =
@@ -362,6 +376,8 @@ played_none flat offset inputs c outs of many room = record {
     given = λ model start old p reads from checked period told.
         subst (λ (order : List ℕ). GiveAll flat (cluster_net model flat c.number start) old p reads order (play_of from c) (play_of from c) [] []) (sym (actors_none c.entries c.place))
         (give_none flat (cluster_net model flat c.number start) old p reads (play_of from c));
+    sent_many = omega arith;
+    traced_many = omega arith;
   };
   room = room;
 }

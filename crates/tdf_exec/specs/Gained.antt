@@ -67,18 +67,6 @@ with_gains outputs sent traced = record outputs {
   traced = outputs.traced ++ traced;
 }
 
--- the outputs gained exactly what the steps of the streams give, in the order of the plan
-pub record HasGained (flat : Flat) (offset : ℕ) (inputs : List Raw) (c d : ClusterOf)
-    (before after : OutputsOf) : Type 0 where
-  pub sent : List Sent
-  pub traced : List Traced
-  pub are : after ≡ with_gains before sent traced
-  pub given : (model : PureTree) (start : Start) (old : List PeriodRecord) (p : PeriodRecord)
-      → (reads : ℕ → List Raw) (from : ℕ) → IsCheckedOf model flat.checked → IsPeriodOf c from p
-      → AreAllGiven offset c inputs reads old from
-      → GiveAll flat (cluster_net model flat c.number start) old p reads
-      (actors_between c.entries c.place d.place) (play_of from c) (play_of from d) sent traced
-
 -- how many samples a firing gives
 abbrev pub sent_size : Option Runner → ℕ
 sent_size (Some (runner.Sink k)) = 1
@@ -95,6 +83,24 @@ size_if size runners offset x =
 
 unfoldable pub size_due : (size : Option Runner → ℕ) → List Runner → (offset : ℕ) → List Entry → ℕ
 size_due size runners offset entries = sum_by (size_if size runners offset) entries
+
+-- the outputs gained exactly what the steps of the streams give, in the order of the plan
+pub record HasGained (flat : Flat) (offset : ℕ) (inputs : List Raw) (c d : ClusterOf)
+    (before after : OutputsOf) : Type 0 where
+  pub sent : List Sent
+  pub traced : List Traced
+  pub are : after ≡ with_gains before sent traced
+  pub given : (model : PureTree) (start : Start) (old : List PeriodRecord) (p : PeriodRecord)
+      → (reads : ℕ → List Raw) (from : ℕ) → IsCheckedOf model flat.checked → IsPeriodOf c from p
+      → AreAllGiven offset c inputs reads old from
+      → GiveAll flat (cluster_net model flat c.number start) old p reads
+      (actors_between c.entries c.place d.place) (play_of from c) (play_of from d) sent traced
+  -- as many as the entries of the offset give that were to come before and are not any more
+  pub sent_many : length sent + size_due sent_size d.runners offset (drop d.place d.entries)
+      ≡ size_due sent_size c.runners offset (drop c.place c.entries)
+  pub traced_many : length traced
+      + size_due traced_size d.runners offset (drop d.place d.entries)
+      ≡ size_due traced_size c.runners offset (drop c.place c.entries)
 
 -- the lists have room for what the entries of an offset give that are still to come
 pub record HaveRoom (offset : ℕ) (c : ClusterOf) (outputs : OutputsOf) : Type 0 where

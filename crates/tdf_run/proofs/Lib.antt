@@ -4,6 +4,7 @@ pub mod Arriving
 pub mod Due
 pub mod Firings
 pub mod Passing
+pub mod Roomy
 pub mod Sampling
 pub mod Sinking
 pub mod Taking

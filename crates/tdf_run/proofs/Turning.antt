@@ -12,6 +12,7 @@ use Rattle.tdf_flat.specs.declared.model.Flat.{Flat}
 use Rattle.tdf_flow.proofs.Api.{get_inside}
 use Rattle.tdf_run.proofs.Due.{true_false}
 use Rattle.tdf_run.proofs.Passing.{later}
+use Rattle.tdf_run.proofs.Roomy.{room_at}
 use Rattle.tdf_run.specs.Fired.{HasFired, HasStayed, HasTooFew}
 use Rattle.tdf_run.specs.Pass.{CanPass, HasEnded, HasPassedPart, HasTurn, HavePassed, IsTurnOf, PassAt, RunOf, TurnAt, run_of}
 
@@ -46,7 +47,7 @@ module _ (flat : Flat) (pass : PassAt) (x : RunOf) (can : CanPass flat pass x) w
     of_now = can.of n c first
 
     pub room_now : is_due c (pass.time - since) ≡ true → HaveRoom (pass.time - since) c y.outputs
-    room_now due = can.room n since c y passed.0 passed.1 there since_is due
+    room_now due = room_at flat pass x can.room n since c y passed.0 passed.1 there since_is due
 
     module _ (inputs : List Raw) (value_at : inputs ≡ slice_index_or pass.inputs n inputs) where
       inputs_at : slice_get pass.inputs n ≡ Some inputs

@@ -1,15 +1,16 @@
 -- The pass over all clusters at one time, in order of number: each has its turn.
 -- Source: own.
-use Rattle.std.specs.Prelude.{◌≡◌, ◌≤◌, ◌-◌, ◌+◌, ℕ, zero, suc, true, false, List, [], ◌++◌}
-use Rattle.std.specs.Prelude.{Some, length, map, slice_get, slice_set}
+use Rattle.std.specs.Prelude.{◌≡◌, ◌≤◌, ◌-◌, ◌+◌, ℕ, zero, suc, true, false, List, [], ◌∷◌, ◌++◌}
+use Rattle.std.specs.Prelude.{if◌then◌else◌, Option, Some, drop, length, map, slice_get, slice_set}
 use Rattle.tdf_bind.specs.Flat.{FlatOf}
 use Rattle.tdf_convert.specs.Outputs.{OutputsOf}
 use Rattle.tdf_convert.specs.Sampled.{AreByOffset}
 use Rattle.tdf_convert.specs.declared.outputs.Sent.{Sent}
 use Rattle.tdf_exec.specs.Cluster.{ClusterOf, is_due}
-use Rattle.tdf_exec.specs.Gained.{HaveRoom}
+use Rattle.tdf_exec.specs.Gained.{sent_size, size_due, traced_size}
 use Rattle.tdf_exec.specs.Made.{IsClusterOf}
 use Rattle.tdf_exec.specs.Played.{AreInputsFor}
+use Rattle.tdf_exec.specs.declared.runners.Runner.{Runner}
 use Rattle.tdf_expr.specs.Checked.{IsCheckedOf}
 use Rattle.tdf_fixed.specs.declared.raw.Raw.{Raw}
 use Rattle.tdf_flat.specs.Flat.{IsFlatOf}
@@ -109,8 +110,29 @@ pub record HasPassedAll (flat : Flat) (pass : PassAt) (x y : RunOf) : Type 0 whe
   pub sent : List Sent
   pub passed : HavePassed flat pass (length x.clusters) x y sent
 
+-- how many samples a cluster gives in its turn
+abbrev pub turn_size : (size : Option Runner → ℕ) → (time since : ℕ) → ClusterOf → ℕ
+turn_size size time since c =
+    if is_due c (time - since)
+    then size_due size c.runners (time - since) (drop c.place c.entries)
+    else 0
+
+-- how many the clusters give in their turns, each with the start of its period
+unfoldable pub pass_size : (size : Option Runner → ℕ) → (time : ℕ) → (since : List ℕ)
+    → List ClusterOf → ℕ
+pass_size size time (s ∷ since) (c ∷ clusters) =
+    turn_size size time s c + pass_size size time since clusters
+pass_size size time since clusters = 0
+
+-- the outputs have room for what all clusters give in a pass
+pub record HaveRoomForAll (pass : PassAt) (x : RunOf) : Type 0 where
+  pub sent : length x.outputs.sent + pass_size sent_size pass.time pass.since x.clusters
+      ≤ x.outputs.sent_room
+  pub traced : length x.outputs.traced + pass_size traced_size pass.time pass.since x.clusters
+      ≤ x.outputs.traced_room
+
 -- a pass can be done: each cluster is one of the flat model, has its start and its inputs, and
--- finds room for what it gives after what those before it gave
+-- there is room for what all of them give
 pub record CanPass (flat : Flat) (pass : PassAt) (x : RunOf) : Type 0 where
   pub since : length x.clusters ≤ length pass.since
   pub inputs : length x.clusters ≤ length pass.inputs
@@ -119,10 +141,7 @@ pub record CanPass (flat : Flat) (pass : PassAt) (x : RunOf) : Type 0 where
   pub given : (n s : ℕ) (c : ClusterOf) (inputs : List Raw) → slice_get x.clusters n ≡ Some c
       → slice_get pass.since n ≡ Some s → slice_get pass.inputs n ≡ Some inputs
       → is_due c (pass.time - s) ≡ true → AreInputsFor flat (pass.time - s) c inputs
-  pub room : (n s : ℕ) (c : ClusterOf) (y : RunOf) (sent : List Sent)
-      → HavePassed flat pass n x y sent → slice_get y.clusters n ≡ Some c
-      → slice_get pass.since n ≡ Some s → is_due c (pass.time - s) ≡ true
-      → HaveRoom (pass.time - s) c y.outputs
+  pub room : HaveRoomForAll pass x
 
 -- all clusters are what the history says of them, and their periods began when it says
 pub record AreAt (model : PureTree) (flat : Flat) (since : List ℕ) (hs : List ClusterAt)
