@@ -1,4 +1,5 @@
 pub mod At
+pub mod Boundary
 pub mod Fired
 pub mod Firings
 pub mod Laws
