@@ -1,6 +1,7 @@
 -- The lemmas that other crates may use: the laws over all types, and what leads to them.
 pub use Rattle.tdf_run.proofs.Along.{due_here, goes_along, is_spent}
 pub use Rattle.tdf_run.proofs.Arriving.{arrives, firings_keep_at, in_plan, not_late, place_d}
+pub use Rattle.tdf_run.proofs.Beginning.{plan_counts, start_at, starts_are_at}
 pub use Rattle.tdf_run.proofs.Crossing.{boundaries_keep_at, boundary_at, past_next}
 pub use Rattle.tdf_run.proofs.Due.{due_counted, due_is, some_next}
 pub use Rattle.tdf_run.proofs.Firings.{due_fire, few_end, none_fire}

@@ -1,6 +1,7 @@
 pub mod Along
 pub mod Api
 pub mod Arriving
+pub mod Beginning
 pub mod Crossing
 pub mod Due
 pub mod Firings

@@ -13,5 +13,5 @@ mod turns;
 
 pub use firing::fire_due;
 pub use laws::{law_along, law_cluster, law_firings, law_pass};
-pub use periods::law_boundary;
+pub use periods::{law_boundary, law_start};
 pub use turns::fire_all;
