@@ -7,5 +7,6 @@ pub use Rattle.tdf_run.proofs.Due.{due_counted, due_is, some_next}
 pub use Rattle.tdf_run.proofs.Firings.{due_fire, few_end, none_fire}
 pub use Rattle.tdf_run.proofs.Passing.{all_along, later, part_is_spent, pass_is_spent, passes_along}
 pub use Rattle.tdf_run.proofs.Sampling.{reads_kept, reads_long, sampler_reads}
+pub use Rattle.tdf_run.proofs.Starting.{all_starts_are_at}
 pub use Rattle.tdf_run.proofs.Taking.{have_one, sinks_take_one}
 pub use Rattle.tdf_run.proofs.Writing.{enough, sinks_write}

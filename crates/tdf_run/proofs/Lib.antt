@@ -8,6 +8,7 @@ pub mod Firings
 pub mod Passing
 pub mod Sampling
 pub mod Sinking
+pub mod Starting
 pub mod Taking
 pub mod Turning
 pub mod Writing
