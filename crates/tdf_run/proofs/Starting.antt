@@ -7,7 +7,7 @@ use Rattle.std.specs.Prelude.{slice_get}
 use Rattle.tdf_dynamic.specs.declared.first.First.{First}
 use Rattle.tdf_flat.specs.declared.model.Flat.{Flat}
 use Rattle.tdf_flow.proofs.Api.{none_some, some_same}
-use Rattle.tdf_history.specs.Start.{first_cluster, first_clusters}
+use Rattle.tdf_history.specs.Start.{first_cluster}
 use Rattle.tdf_history.specs.World.{ClusterAt}
 use Rattle.tdf_run.proofs.Beginning.{start_at}
 use Rattle.tdf_run.specs.At.{IsAt}
