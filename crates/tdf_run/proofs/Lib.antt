@@ -1,12 +1,15 @@
 pub mod Along
 pub mod Api
 pub mod Arriving
+pub mod Beginning
+pub mod Crossing
 pub mod Due
 pub mod Firings
 pub mod Passing
 pub mod Roomy
 pub mod Sampling
 pub mod Sinking
+pub mod Starting
 pub mod Taking
 pub mod Turning
 pub mod Writing

@@ -49,7 +49,7 @@ sink_edge flat c m sink (runner.Sampler s) is = absurd (true_false (sym (ap is_s
 sink_edge flat c m sink (runner.Sink k) is = (k.edge, is.edge_is, is.rate)
 sink_edge flat c m sink runner.Outside is = absurd (is sink.inside)
 
-done_all : (entries : List Entry) (m : ℕ) → count_by (λ (x : Entry). nat_eq x.actor m) entries ≡ done entries (length entries) m
+pub done_all : (entries : List Entry) (m : ℕ) → count_by (λ (x : Entry). nat_eq x.actor m) entries ≡ done entries (length entries) m
 unfolding done
 done_all entries m = ap (count_by (λ (x : Entry). nat_eq x.actor m)) (sym (take-length entries))
 

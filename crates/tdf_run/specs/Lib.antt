@@ -1,4 +1,6 @@
 pub mod At
+pub mod Begun
+pub mod Boundary
 pub mod Fired
 pub mod Firings
 pub mod Laws
