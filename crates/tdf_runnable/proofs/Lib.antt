@@ -1,0 +1,4 @@
+pub mod Api
+pub mod Counts
+pub mod Owned
+pub mod Starts
