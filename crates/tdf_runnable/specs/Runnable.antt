@@ -1,11 +1,15 @@
 -- The event side of a flat model: how many rows it has, and the numbers in them.
 -- Source: own.
-use Rattle.std.specs.Prelude.{◌<◌, ◌≤◌, length, All}
+use Rattle.std.specs.Prelude.{◌≡◌, ◌<◌, ◌≤◌, ℕ, length, Some, All, filter, nat_eq, slice_get}
 use Rattle.tdf_base.specs.Limits.{most_events, most_instances, most_processes, most_signals}
 use Rattle.tdf_expr.specs.Frames.{IsOfFormat}
+use Rattle.tdf_expr.specs.Made.{block_count, event_count, port_spans_of}
+use Rattle.tdf_expr.specs.declared.spans.PortSpan.{PortSpan}
 use Rattle.tdf_flat.specs.Flat.{IsFlatOf}
 use Rattle.tdf_flat.specs.declared.model.Flat.{Flat}
+use Rattle.tdf_formats.specs.Formats.{IsSoundModel}
 use Rattle.tdf_tree.specs.Pure.{PureTree}
+use Rattle.tdf_wiring.specs.ProcessBlocks.{BlockRowOf}
 use Rattle.tdf_wiring.specs.declared.drivers.SignalRow.{SignalRow}
 
 -- no more of each kind than a model may have
@@ -38,3 +42,19 @@ pub record HasStarts (flat : Flat) : Type 0 where
 
 abbrev pub SignalsStartInFormat : Type 0
 SignalsStartInFormat = (model : PureTree) (flat : Flat) → IsFlatOf model flat → HasStarts flat
+
+-- an instance is of a compiled block, whose ports have one sample each, in order; it has as many
+-- event rows as its block has events
+pub record HasBlock (flat : Flat) (number : ℕ) (row : BlockRowOf) : Type 0 where
+  pub block : row.block < block_count flat.checked
+  pub first : (n : ℕ) (p : PortSpan) → slice_get (port_spans_of flat.checked row.block) n ≡ Some p
+      → p.first ≡ n
+  pub one : (n : ℕ) (p : PortSpan) → slice_get (port_spans_of flat.checked row.block) n ≡ Some p
+      → p.count ≡ 1
+  pub events : length (filter (λ event. nat_eq event.owner number) flat.tables.events)
+      ≡ event_count flat.checked row.block
+
+abbrev pub InstancesHaveBlocks : Type 0
+InstancesHaveBlocks = (model : PureTree) (flat : Flat) → IsSoundModel model → IsFlatOf model flat
+    → (number : ℕ) (row : BlockRowOf) → slice_get flat.tables.blocks number ≡ Some row
+    → HasBlock flat number row

@@ -1,6 +1,9 @@
 //! What holds of all flat models: each function here only carries its clauses.
 
-ghost use Rattle.tdf_runnable.specs.Runnable.{EventRowsAreFew, EventRowsHaveOwners, SignalsStartInFormat};
+ghost use Rattle.tdf_runnable.specs.Runnable.{EventRowsAreFew, EventRowsHaveOwners};
+ghost use Rattle.tdf_runnable.specs.Runnable.{InstancesHaveBlocks, SignalsStartInFormat};
+
+use tdf_names::law_names_once;
 
 /// The event side of a flat model has no more rows of a kind than a model may have of it.
 pub fn law_few_rows()
@@ -17,3 +20,11 @@ pub fn law_owners()
 pub fn law_starts()
     ensures { SignalsStartInFormat }
 {}
+
+/// An instance is of a compiled block, whose ports have one sample each, in order,
+/// and has as many event rows as its block has events.
+pub fn law_instances()
+    ensures { InstancesHaveBlocks }
+{
+    law_names_once();
+}
