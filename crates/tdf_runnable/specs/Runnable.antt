@@ -1,0 +1,60 @@
+-- The event side of a flat model: how many rows it has, and the numbers in them.
+-- Source: own.
+use Rattle.std.specs.Prelude.{◌≡◌, ◌<◌, ◌≤◌, ℕ, length, Some, All, filter, nat_eq, slice_get}
+use Rattle.tdf_base.specs.Limits.{most_events, most_instances, most_processes, most_signals}
+use Rattle.tdf_expr.specs.Frames.{IsOfFormat}
+use Rattle.tdf_expr.specs.Made.{block_count, event_count, port_spans_of}
+use Rattle.tdf_expr.specs.declared.spans.PortSpan.{PortSpan}
+use Rattle.tdf_flat.specs.Flat.{IsFlatOf}
+use Rattle.tdf_flat.specs.declared.model.Flat.{Flat}
+use Rattle.tdf_formats.specs.Formats.{IsSoundModel}
+use Rattle.tdf_tree.specs.Pure.{PureTree}
+use Rattle.tdf_wiring.specs.ProcessBlocks.{BlockRowOf}
+use Rattle.tdf_wiring.specs.declared.drivers.SignalRow.{SignalRow}
+
+-- no more of each kind than a model may have
+pub record HasFewRows (flat : Flat) : Type 0 where
+  pub signals : length flat.tables.de_signals ≤ most_signals
+  pub blocks : length flat.tables.blocks ≤ most_instances
+  pub processes : length flat.tables.processes ≤ most_processes
+  pub events : length flat.tables.events ≤ most_events
+
+abbrev pub EventRowsAreFew : Type 0
+EventRowsAreFew = (model : PureTree) (flat : Flat) → IsFlatOf model flat → HasFewRows flat
+
+-- processes and events belong to instances, and processes are sensitive to events, that there are
+pub record HasOwners (flat : Flat) : Type 0 where
+  pub owners : All (λ row. row.owner < length flat.tables.blocks) flat.tables.processes
+  pub sensitive : All (λ row. All (λ event. event < length flat.tables.events) row.events)
+      flat.tables.processes
+  pub events : All (λ row. row.owner < length flat.tables.blocks) flat.tables.events
+
+abbrev pub EventRowsHaveOwners : Type 0
+EventRowsHaveOwners = (model : PureTree) (flat : Flat) → IsFlatOf model flat → HasOwners flat
+
+-- a signal starts with a value of its format
+abbrev pub StartsInFormat : SignalRow → Type 0
+StartsInFormat row = IsOfFormat row.format row.start
+
+pub record HasStarts (flat : Flat) : Type 0 where
+  pub signals : All StartsInFormat flat.tables.signals
+  pub de_signals : All StartsInFormat flat.tables.de_signals
+
+abbrev pub SignalsStartInFormat : Type 0
+SignalsStartInFormat = (model : PureTree) (flat : Flat) → IsFlatOf model flat → HasStarts flat
+
+-- an instance is of a compiled block, whose ports have one sample each, in order; it has as many
+-- event rows as its block has events
+pub record HasBlock (flat : Flat) (number : ℕ) (row : BlockRowOf) : Type 0 where
+  pub block : row.block < block_count flat.checked
+  pub first : (n : ℕ) (p : PortSpan) → slice_get (port_spans_of flat.checked row.block) n ≡ Some p
+      → p.first ≡ n
+  pub one : (n : ℕ) (p : PortSpan) → slice_get (port_spans_of flat.checked row.block) n ≡ Some p
+      → p.count ≡ 1
+  pub events : length (filter (λ event. nat_eq event.owner number) flat.tables.events)
+      ≡ event_count flat.checked row.block
+
+abbrev pub InstancesHaveBlocks : Type 0
+InstancesHaveBlocks = (model : PureTree) (flat : Flat) → IsSoundModel model → IsFlatOf model flat
+    → (number : ℕ) (row : BlockRowOf) → slice_get flat.tables.blocks number ≡ Some row
+    → HasBlock flat number row

@@ -1,0 +1,30 @@
+//! What holds of all flat models: each function here only carries its clauses.
+
+ghost use Rattle.tdf_runnable.specs.Runnable.{EventRowsAreFew, EventRowsHaveOwners};
+ghost use Rattle.tdf_runnable.specs.Runnable.{InstancesHaveBlocks, SignalsStartInFormat};
+
+use tdf_names::law_names_once;
+
+/// The event side of a flat model has no more rows of a kind than a model may have of it.
+pub fn law_few_rows()
+    ensures { EventRowsAreFew }
+{}
+
+/// Processes and events belong to instances that there are,
+/// and processes are sensitive to events that there are.
+pub fn law_owners()
+    ensures { EventRowsHaveOwners }
+{}
+
+/// Each signal of a flat model starts with a value of its format.
+pub fn law_starts()
+    ensures { SignalsStartInFormat }
+{}
+
+/// An instance is of a compiled block, whose ports have one sample each, in order,
+/// and has as many event rows as its block has events.
+pub fn law_instances()
+    ensures { InstancesHaveBlocks }
+{
+    law_names_once();
+}
