@@ -4,15 +4,20 @@ use Rattle.std.proofs.Math.ListN.{get_or}
 use Rattle.std.proofs.lemmas.Bool.Decides.{nat_tests}
 use Rattle.std.proofs.lemmas.List.{length-append}
 use Rattle.std.proofs.lemmas.List.Sums.{sum_by-cons}
+use Rattle.std.proofs.lemmas.Option.{same_Some, none-some}
 use Rattle.std.specs.List.{AllZip, cons_option, enumerate_from, flat_map, sum_by}
 use Rattle.std.specs.Prelude.{◌||◌, filter, filter_map, nat_lt, slice_get, slice_index}
+use Rattle.tdf_flat.specs.Flat.{IsFlatOf}
+use Rattle.tdf_flat.specs.declared.model.Flat.{Flat}
 use Rattle.tdf_resolve.proofs.Api.{counts_all}
-use Rattle.tdf_resolve.specs.Counts.{is_too_many, met_weight}
+use Rattle.tdf_resolve.specs.Counts.{cells_of, is_too_many, met_weight}
 use Rattle.tdf_resolve.specs.Resolved.{whole}
 use Rattle.tdf_roles.specs.Roles.{event_of, process_role, processes_role, roles_from, roles_of}
 use Rattle.tdf_runnable.specs.Runnable.{EventRowsAreFew}
 use Rattle.tdf_scope.specs.Names.{Names, globals_of}
-use Rattle.tdf_tree.specs.Pure.{PureDe, PureDeLine, DPort, DStore, DEvent, PureTdf, PureComposite, PureGlobal, GShape, GTdf, GDe, GNet, PureTree}
+use Rattle.tdf_tree.specs.Pure.{PureDe, PureDeLine, DPort, DStore, DEvent, PureTdf, PureComposite, PureGlobal, GShape, GTdf, GDe, GNet, PureTree, TPort, TStore, TRate, PureTdfLine}
+use Rattle.tdf_tree.specs.declared.blocks.PortLine.{PortLine}
+use Rattle.tdf_links.specs.Ports.{port_of_de_line, ports_of_de}
 use Rattle.tdf_tree.specs.declared.shapes.TypeDecl.{TypeDecl}
 use Rattle.tdf_walk.specs.Blocks.{BlockOf}
 use Rattle.tdf_walk.specs.Met.{Met, MetSignal, MetInstance, met_in}
@@ -206,6 +211,82 @@ process_held model blocks t few rows =
 event_held : (model : PureTree) (blocks : List BlockOf) (t : TablesOf) → is_too_many model blocks ≡ false → AllZip (IsRowOf t) t.instances (filter_map instance_of (met_in blocks (length blocks - 1)))
     → held event_total (placed_blocks (roles_of model) t.instances) ≤ 8192
 event_held model blocks t few rows = few_held events_in event_total model blocks t events_count rows (or_second _ (nat_lt 8192 (sum_in events_in model blocks)) few)
+
+-- the ports of a block
+abbrev pub port_total : ProcessesOf → ℕ
+port_total role = length role.ports
+
+abbrev ports_in_tdf : PureTdfLine → ℕ
+ports_in_tdf (TPort port) = 1
+ports_in_tdf _ = 0
+
+abbrev ports_in_line : PureDeLine → ℕ
+ports_in_line (DPort port) = 1
+ports_in_line _ = 0
+
+abbrev ports_in : PureGlobal → List ℕ
+ports_in (GShape t) = []
+ports_in (GTdf block) = (0 + sum_by ports_in_tdf block.decls) ∷ []
+ports_in (GDe block) = (0 + (sum_by ports_in_line block.decls + 0)) ∷ []
+ports_in (GNet block) = 0 ∷ []
+
+ports_weigh : (ds : List PureDeLine) → length (flat_map port_of_de_line ds) ≤ sum_by ports_in_line ds
+ports_weigh [] = omega arith
+ports_weigh (DPort p ∷ ds) = let e = sum_by-cons ports_in_line (DPort p) ds in let later = ports_weigh ds in omega (arith, e, later)
+ports_weigh (DStore s ∷ ds) = let e = sum_by-cons ports_in_line (DStore s) ds in let later = ports_weigh ds in omega (arith, e, later)
+ports_weigh (DEvent line name ∷ ds) = let e = sum_by-cons ports_in_line (DEvent line name) ds in let later = ports_weigh ds in omega (arith, e, later)
+
+ports_count : Weighs ports_in port_total
+ports_count = record {
+  shape = λ t. refl;
+  tdf = λ block. (_, refl);
+  de = λ number block. (_, refl, let few = ports_weigh block.decls in let long = mapped_long (λ (p : PortLine). p.kind) (ports_of_de block) in omega (arith, few, long));
+  net = λ block. (_, refl);
+}
+
+-- what of signals and cells a block weighs
+abbrev signals_in : PureGlobal → List ℕ
+signals_in (GShape t) = []
+signals_in (GTdf block) = (0 + sum_by (λ line. 0) block.decls) ∷ []
+signals_in (GDe block) = (0 + (sum_by (λ line. 0) block.decls + 0)) ∷ []
+signals_in (GNet block) = 0 ∷ []
+
+abbrev cells_in_tdf : PureTdfLine → ℕ
+cells_in_tdf (TPort port) = 0
+cells_in_tdf (TStore store) = cells_of store
+cells_in_tdf (TRate line name least greatest start) = 1
+
+abbrev cells_in_line : PureDeLine → ℕ
+cells_in_line (DStore store) = cells_of store
+cells_in_line _ = 0
+
+abbrev cells_in : PureGlobal → List ℕ
+cells_in (GShape t) = []
+cells_in (GTdf block) = (0 + sum_by cells_in_tdf block.decls) ∷ []
+cells_in (GDe block) = (0 + (sum_by cells_in_line block.decls + 0)) ∷ []
+cells_in (GNet block) = 0 ∷ []
+
+port_held : (model : PureTree) (blocks : List BlockOf) (t : TablesOf) → is_too_many model blocks ≡ false → AllZip (IsRowOf t) t.instances (filter_map instance_of (met_in blocks (length blocks - 1)))
+    → held port_total (placed_blocks (roles_of model) t.instances) ≤ 8192
+port_held model blocks t few rows =
+    few_held ports_in port_total model blocks t ports_count rows
+    (or_second _ (nat_lt 8192 (sum_in ports_in model blocks))
+    (or_first _ (nat_lt 8192 (sum_by (met_weight true (flat_map signals_in (whole model))) (met_in blocks (length blocks - 1))))
+    (or_first _ (nat_lt 1048576 (sum_in cells_in model blocks))
+    (or_first _ (nat_lt 8192 (sum_in processes_in model blocks)) (or_first _ (nat_lt 8192 (sum_in events_in model blocks)) few)))))
+
+one_held : (count : ProcessesOf → ℕ) (ps : List PlacedBlock) (n : ℕ) (p : PlacedBlock) → slice_get ps n ≡ Some p → count p.role ≤ held count ps
+one_held count [] n p at = absurd (none-some p at)
+one_held count (q ∷ ps) zero p at =
+    let same = ap (λ (x : PlacedBlock). count x.role) (same_Some q p at) in
+    omega (arith, same)
+one_held count (q ∷ ps) (suc n) p at = let later = one_held count ps n p at in omega (arith, later)
+
+pub few_ports : (model : PureTree) (flat : Flat) (is : IsFlatOf model flat) (n : ℕ) (p : PlacedBlock) → slice_get (placed_blocks (roles_of model) is.tables.tables.instances) n ≡ Some p → length p.role.ports ≤ 8192
+few_ports model flat is n p at =
+    let all = port_held model is.blocks is.tables.tables is.linked.few is.tables.met.instances in
+    let one = one_held port_total (placed_blocks (roles_of model) is.tables.tables.instances) n p at in
+    omega (arith, all, one)
 
 pub event_rows_are_few : EventRowsAreFew
 event_rows_are_few model flat is = record {

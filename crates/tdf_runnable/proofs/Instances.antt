@@ -1,5 +1,5 @@
 -- An instance of a block of processes has the ports and the events of its block.
-use Rattle.std.proofs.Common.{◌≡◌, ◌∙◌, ℕ, zero, suc, ◌+◌, ◌<◌, Bool, true, false, cond, List, [], ◌∷◌, ◌++◌, Option, Some, None, length, map, refl, sym, ap, subst, arith}
+use Rattle.std.proofs.Common.{◌≤◌, ◌≡◌, ◌∙◌, ℕ, zero, suc, ◌+◌, ◌<◌, Bool, true, false, cond, List, [], ◌∷◌, ◌++◌, Option, Some, None, length, map, refl, sym, ap, subst, arith}
 use Rattle.std.proofs.lemmas.Bool.Decides.{nat_tests}
 use Rattle.std.proofs.lemmas.List.{length-append}
 use Rattle.std.proofs.lemmas.List.Elements.{filter-append}
@@ -21,11 +21,13 @@ use Rattle.tdf_names.specs.Law.{DeclaresOnce, HasNamesOnce, KeepsNamesOnce}
 use Rattle.tdf_names.specs.Names.{names_of_de_line, names_of_de_lines}
 use Rattle.tdf_resolve.specs.Resolved.{whole}
 use Rattle.tdf_roles.specs.Roles.{processes_role, roles_from, roles_of}
-use Rattle.tdf_runnable.proofs.Lines.{apart_differ, events_total, place_at, ports_total}
+use Rattle.tdf_runnable.proofs.Counts.{few_ports, mapped_long}
+use Rattle.tdf_runnable.proofs.Lines.{apart_differ, events_total, place_at, places_long, ports_total}
 use Rattle.tdf_runnable.specs.Runnable.{HasBlock, InstancesHaveBlocks}
 use Rattle.tdf_scope.specs.Names.{Names, globals_of}
 use Rattle.tdf_tree.specs.Kept.{Each}
 use Rattle.tdf_tree.specs.Pure.{PureComposite, PureDe, PureGlobal, GShape, GTdf, GDe, GNet, PureTree}
+use Rattle.tdf_tree.specs.declared.blocks.PortLine.{PortLine}
 use Rattle.tdf_walk.specs.Tables.{RowOf}
 use Rattle.tdf_wiring.specs.ProcessBlocks.{BlockRowOf, PlacedBlock, as_block, block_row, event_row, events_from, placed_blocks}
 use Rattle.tdf_wiring.specs.Roles.{ProcessesOf}
@@ -211,9 +213,21 @@ module _ (names_once : KeepsNamesOnce) (model : PureTree) (flat : Flat) (sound :
       (ap (λ (l : List PortPlace). slice_get l k) (sym (made.2.spans ∙ ports_total globals of_block.block of_block.once))
       ∙ mapped place_of_port made.0.ports.spans.items k p (ap (λ (o : Option Block). slice_get (spans_in o) k) (sym there) ∙ e))
 
+  few_spans : length (spans_in (slice_get flat.checked.blocks.items row.block)) ≤ 8192
+  few_spans =
+      let few = few_ports model flat is n it.0 it.1 in
+      let role = ap (λ (r : ProcessesOf). length r.ports) of_block.role_is in
+      let kinds = mapped_long (λ (p : PortLine). p.kind) (ports_of_de of_block.block) in
+      let here = ap (λ (o : Option Block). length (spans_in o)) there in
+      let spans = mapped_long place_of_port made.0.ports.spans.items in
+      let same = ap length (made.2.spans ∙ ports_total globals of_block.block of_block.once) in
+      let long = places_long globals 0 (ports_of_de of_block.block) in
+      omega (arith, few, role, kinds, here, spans, same, long)
+
   pub has_block : HasBlock flat n row
   has_block = record {
     block = slice_get_within flat.checked.blocks.items row.block made.0 there;
+    few = few_spans;
     first = λ k p e. let same : 0 + k ≡ k = omega arith in (placed k p e).0 ∙ same;
     one = λ k p e. (placed k p e).1;
     events = let same : n ≡ 0 + n = omega arith in

@@ -97,6 +97,10 @@ module _ (globals : Names) where
   ports_placed own first (DStore (SArray a b c d e) ∷ ds) = ports_placed own first ds
   ports_placed own first (DEvent line name ∷ ds) = ports_placed own first ds
 
+  pub places_long : (first : ℕ) (ps : List PortLine) → length (places_of first ps) ≡ length ps
+  places_long first [] = refl
+  places_long first (p ∷ ps) = ap suc (places_long (first + 1) ps)
+
   pub place_at : (first : ℕ) (ps : List PortLine) (n : ℕ) (place : PortPlace) → slice_get (places_of first ps) n ≡ Some place → (place.first ≡ first + n) × (place.count ≡ 1)
   place_at first [] n place at = absurd (none-some place at)
   place_at first (p ∷ ps) zero place at =

@@ -1,7 +1,7 @@
 -- The event side of a flat model: how many rows it has, and the numbers in them.
 -- Source: own.
 use Rattle.std.specs.Prelude.{◌≡◌, ◌<◌, ◌≤◌, ℕ, length, Some, All, filter, nat_eq, slice_get}
-use Rattle.tdf_base.specs.Limits.{most_events, most_instances, most_processes, most_signals}
+use Rattle.tdf_base.specs.Limits.{most_events, most_instances, most_ports, most_processes, most_signals}
 use Rattle.tdf_expr.specs.Frames.{IsOfFormat}
 use Rattle.tdf_expr.specs.Made.{block_count, event_count, port_spans_of}
 use Rattle.tdf_expr.specs.declared.spans.PortSpan.{PortSpan}
@@ -43,10 +43,11 @@ pub record HasStarts (flat : Flat) : Type 0 where
 abbrev pub SignalsStartInFormat : Type 0
 SignalsStartInFormat = (model : PureTree) (flat : Flat) → IsFlatOf model flat → HasStarts flat
 
--- an instance is of a compiled block, whose ports have one sample each, in order; it has as many
--- event rows as its block has events
+-- an instance is of a compiled block with no more ports than a model may have, one sample for
+-- each, in order; it has as many event rows as its block has events
 pub record HasBlock (flat : Flat) (number : ℕ) (row : BlockRowOf) : Type 0 where
   pub block : row.block < block_count flat.checked
+  pub few : length (port_spans_of flat.checked row.block) ≤ most_ports
   pub first : (n : ℕ) (p : PortSpan) → slice_get (port_spans_of flat.checked row.block) n ≡ Some p
       → p.first ≡ n
   pub one : (n : ℕ) (p : PortSpan) → slice_get (port_spans_of flat.checked row.block) n ≡ Some p

@@ -21,8 +21,8 @@ pub fn law_starts()
     ensures { SignalsStartInFormat }
 {}
 
-/// An instance is of a compiled block, whose ports have one sample each, in order,
-/// and has as many event rows as its block has events.
+/// An instance is of a compiled block with no more ports than a model may have, one sample for
+/// each, in order, and has as many event rows as its block has events.
 pub fn law_instances()
     ensures { InstancesHaveBlocks }
 {
