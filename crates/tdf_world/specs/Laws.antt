@@ -1,0 +1,47 @@
+-- Later instants change no cell below a mark.
+-- Source: own.
+use Rattle.std.specs.Prelude.{◌≡◌, ◌+◌, ◌<◌, ◌≤◌, ℕ, ℤ, List, All, Some, length, slice_get, slice_index}
+use Rattle.tdf_fixed.specs.declared.raw.Raw.{Raw}
+use Rattle.tdf_flat.specs.declared.model.Flat.{Flat}
+use Rattle.tdf_flow.specs.Grounds.{firings}
+use Rattle.tdf_flow.specs.Net.{Turn}
+use Rattle.tdf_flow.specs.Streams.{known}
+use Rattle.tdf_events.specs.Side.{SideOf}
+use Rattle.tdf_history.specs.Cells.{run_cells}
+use Rattle.tdf_history.specs.Instant.{activations, periods_of, run_in}
+use Rattle.tdf_history.specs.World.{ClusterAt, World}
+use Rattle.tdf_instants.specs.History.{On, history}
+use Rattle.tdf_instants.specs.Laws.{IsOn}
+use Rattle.tdf_limits.specs.Limits.{AreWithinLimits}
+use Rattle.tdf_rows.specs.Laws.{Agree}
+use Rattle.tdf_schedule.specs.Plan.{done}
+use Rattle.tdf_streams.specs.Cluster.{cluster_net}
+use Rattle.tdf_streams.specs.Periods.{IsWholeRecord}
+use Rattle.tdf_streams.specs.Signals.{time_of}
+use Rattle.tdf_tree.specs.Pure.{PureTree}
+use Rattle.tdf_world.specs.Rules.{rules_of, world_engine}
+
+-- the cluster of this number: its periods are whole, its plan has the firings of the period, and
+-- each activation that is done has its value
+pub record HasDone (model : PureTree) (flat : Flat) (number : ℕ) (c : ClusterAt) : Type 0 where
+  pub whole : All (IsWholeRecord flat number) (periods_of c)
+  pub counts : (m : ℕ) → slice_index c.now.counts m ≡ done c.entries (length c.entries) m
+  pub place : c.place ≤ length c.entries
+  pub known : (m n : ℕ) → n < activations c m → (t : Turn (List ℤ) Raw)
+      × (known (cluster_net model flat number c.begun) (run_in c) (firings (periods_of c)) m n
+      ≡ Some t)
+
+-- so it is with each cluster
+pub record AreSteady {K : Type 0} (model : PureTree) (flat : Flat) (w : World K) : Type 0 where
+  pub each : (n : ℕ) (c : ClusterAt) → slice_get w.clusters n ≡ Some c
+      → HasDone model flat (n + 1) c
+
+-- where the history goes on to a later end, the cells below a mark stay as they are, if no cluster
+-- began its period before the mark
+abbrev pub CellsStay : Type 0
+CellsStay = (model : PureTree) (flat : Flat) (start w e : World SideOf) (now end mark : ℕ)
+    → AreWithinLimits flat → IsOn (world_engine model flat) 0 start now w → now ≤ end
+    → history (world_engine model flat) 0 start end ≡ On e → AreSteady model flat w → mark ≤ now
+    → ((n : ℕ) (c : ClusterAt) → slice_get w.clusters n ≡ Some c → mark ≤ time_of c.old)
+    → Agree (run_cells model flat (rules_of model flat) start now)
+    (run_cells model flat (rules_of model flat) start end) mark
