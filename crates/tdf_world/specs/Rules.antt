@@ -21,7 +21,7 @@ signal_write write = record { signal = write.signal; value = write.value }
 abbrev pub settle : PureTree → Flat → (time : ℕ) → List SinkWrite → (left : ℕ) → SideOf
     → Option (Settled SideOf)
 settle model flat time writes left side =
-    option_map (λ after. record { events = after.0; left = after.1 })
+    option_map (λ (after : SideOf × ℕ). record { events = after.0; left = after.1 })
     (event_part model flat time (map signal_write writes) side left)
 
 -- a process is to run, or a notification of this time is pending

@@ -1,0 +1,136 @@
+-- A cluster that goes on has the samples that it had, and the cells below the start of its period.
+use Rattle.std.proofs.Common.{◌≡◌, ◌∙◌, ℕ, ℤ, suc, ◌+◌, ◌-◌, ◌*◌, ◌/◌, ◌%◌, ◌<◌, ◌≤◌, Option, Some, None, option_map, List, [], ◌∷◌, ◌++◌, if◌then◌else◌, length, slice_get, slice_index, refl, sym, ap, subst, inl, inr, arith, lt_of_lt_of_le}
+use Rattle.std.proofs.lemmas.Bool.{cases_lt, le-ltb, lt-ltb}
+use Rattle.std.proofs.lemmas.List.{append_assoc}
+use Rattle.std.proofs.lemmas.List.Sums.{sum_by-append, sum_by-cons}
+use Rattle.std.proofs.lemmas.Option.{get_or_from_slice_get, slice_get_within}
+use Rattle.std.specs.List.{All, sum, sum_by}
+use Rattle.std.specs.Option.{option_and_then}
+use Rattle.tdf_fixed.specs.declared.raw.Raw.{Raw}
+use Rattle.tdf_flat.specs.declared.model.Flat.{Flat}
+use Rattle.tdf_flow.proofs.Api.{find_more, get_high, known_more}
+use Rattle.tdf_flow.specs.Grounds.{firings}
+use Rattle.tdf_flow.specs.Net.{Past, Turn, count}
+use Rattle.tdf_flow.specs.Stands.{Less}
+use Rattle.tdf_flow.specs.Streams.{find, known}
+use Rattle.tdf_history.specs.Cells.{port_cell, sample_at, samples_done, spans_from}
+use Rattle.tdf_history.specs.Instant.{periods_of, run_in}
+use Rattle.tdf_history.specs.World.{ClusterAt}
+use Rattle.tdf_rows.specs.Positions.{position_at}
+use Rattle.tdf_schedule.specs.Plan.{done}
+use Rattle.tdf_streams.specs.Cluster.{cluster_net}
+use Rattle.tdf_streams.specs.Periods.{IsWholeRecord, PeriodInfo, PeriodRecord}
+use Rattle.tdf_streams.specs.Signals.{output_at_spot, outputs_in, port_output, positions, rate_in, signal_sample, time_of}
+use Rattle.tdf_tree.specs.Pure.{PureTree}
+use Rattle.tdf_wiring.specs.declared.modules.PortRow.{PortRow}
+use Rattle.tdf_world.proofs.Clusters.{done_within}
+use Rattle.tdf_world.proofs.Positions.{Made, made, position_within, same_front}
+use Rattle.tdf_world.specs.Continuing.{Continues, HasWholePlan}
+use Rattle.tdf_world.specs.Laws.{HasDone}
+
+pub all_at : {X : Type 0} (P : X → Type 0) (xs : List X) (j : ℕ) (x : X) → All P xs → slice_get xs j ≡ Some x → P x
+all_at P xs j x all is = subst P (get_or_from_slice_get xs j x x is) (all j x (slice_get_within xs j x is))
+
+last_at : {X : Type 0} (xs : List X) (x : X) → slice_get (xs ++ x ∷ []) (length xs) ≡ Some x
+last_at xs x = let low : length xs ≤ length xs = omega arith in let z : length xs - length xs ≡ 0 = omega arith in
+    get_high xs (x ∷ []) (length xs) low ∙ ap (slice_get (x ∷ [])) z
+
+mapped : {A B : Type 0} (f g : A → B) (o : Option A) → ((a : A) → o ≡ Some a → f a ≡ g a) → option_map f o ≡ option_map g o
+mapped f g None same = refl
+mapped f g (Some a) same = ap Some (same a refl)
+
+-- a whole period has as many outputs of a port as positions of its signal
+whole_sum : (flat : Flat) (number : ℕ) (port : PortRow) (ps qs : List PeriodRecord) → All (IsWholeRecord flat number) (ps ++ qs) → sum_by (positions port) ps ≡ sum_by (outputs_in port) ps
+whole_sum flat number port [] qs whole = refl
+whole_sum flat number port (p ∷ ps) qs whole =
+    let a = sum_by-cons (positions port) p ps in
+    let b = sum_by-cons (outputs_in port) p ps in
+    let e : positions port p ≡ outputs_in port p = ap (λ l. slice_index l port.«module» * rate_in port p) (sym (whole 0 p (omega arith)).whole) in
+    let r = whole_sum flat number port ps qs (λ k x inside. whole (suc k) x (omega (arith, inside))) in
+    omega (arith, a, b, e, r)
+
+-- a cluster that has done its firings has a whole plan
+pub whole_plan : (model : PureTree) (flat : Flat) (number : ℕ) (c : ClusterAt) → HasDone model flat number c → HasWholePlan c
+whole_plan model flat number c has = record {
+  counts = has.counts;
+  whole = (all_at (IsWholeRecord flat number) (c.old ++ c.now ∷ []) (length c.old) c.now has.whole (last_at c.old c.now)).whole;
+}
+
+module _ (model : PureTree) (flat : Flat) (number : ℕ) (c d : ClusterAt) (has : HasDone model flat number c) (goes : Continues c d) where
+  -- what is known in a cluster
+  abbrev known_in : ClusterAt → Past (List ℤ) Raw
+  known_in b = known (cluster_net model flat number b.begun) (run_in b) (firings (periods_of b))
+
+  more_firings : firings (periods_of d) ≡ firings goes.longer.rest + firings (periods_of c)
+  more_firings =
+      let e : firings (periods_of d) ≡ firings (periods_of c ++ goes.longer.rest) = ap (λ (ps : List PeriodRecord). firings ps) goes.longer.periods in
+      let s = sum_by-append (λ (p : PeriodRecord). sum p.counts) (periods_of c) goes.longer.rest in omega (arith, e, s)
+
+  pub known_less : Less (known_in c) (known_in d)
+  known_less = subst (λ s. Less (known_in c) (known (cluster_net model flat number s) (run_in d) (firings (periods_of d)))) (sym goes.begun)
+      (subst (λ f. Less (known_in c) (known (cluster_net model flat number c.begun) (run_in d) f)) (sym more_firings)
+      (known_more (cluster_net model flat number c.begun) (run_in c) (run_in d) goes.longer (firings (periods_of c)) (firings goes.longer.rest)))
+
+  module _ (port : PortRow) (out : ℕ) where
+    abbrev ready : ℕ
+    ready = done c.entries c.place port.«module»
+
+    most : ready ≤ slice_index c.now.counts port.«module»
+    most = let d = done_within c.entries port.«module» c.place in let k = has.counts port.«module» in omega (arith, d, k)
+
+    module _ (n : ℕ) (m : Made port [] c.old c.now ready n) where
+      abbrev place : ℕ
+      place = sum_by (count port.«module») m.at.before + m.at.rest / rate_in port m.at.period
+
+      abbrev value : Turn (List ℤ) Raw → Raw
+      value t = t.outputs out (m.at.rest % rate_in port m.at.period)
+
+      turn : (t : Turn (List ℤ) Raw) × (known_in c port.«module» place ≡ Some t)
+      turn = has.known port.«module» place (let e = m.early in let z : sum_by (count {I = PeriodInfo} port.«module») [] ≡ 0 = refl in omega (arith, e, z))
+
+      found_later : find (outputs_in port) [] (periods_of d) n ≡ Some m.at
+      found_later = ap (λ ps. find (outputs_in port) [] ps n) goes.longer.periods ∙ find_more (outputs_in port) [] (periods_of c) goes.longer.rest n m.at m.found
+
+      made_stays : port_output (periods_of c) port out (known_in c) n ≡ port_output (periods_of d) port out (known_in d) n
+      unfolding port_output
+      made_stays = ap (option_and_then (output_at_spot port out (known_in c))) m.found ∙ ap (option_map value) turn.1
+          ∙ sym (ap (option_and_then (output_at_spot port out (known_in d))) found_later ∙ ap (option_map value) (known_less.keeps port.«module» place turn.0 turn.1))
+
+    output_stays : (n : ℕ) → n < sum_by (outputs_in port) c.old + ready * rate_in port c.now → port_output (periods_of c) port out (known_in c) n ≡ port_output (periods_of d) port out (known_in d) n
+    output_stays n low = made_stays n (made port [] c.old c.now ready n most low)
+
+    signal_stays : (j : ℕ) → j < samples_done port c → signal_sample flat.tables (periods_of c) port out (known_in c) j ≡ signal_sample flat.tables (periods_of d) port out (known_in d) j
+    signal_stays j low = elim (cases_lt j port.delay) [
+      | inl early ↦ rw (lt-ltb j port.delay early) refl
+      | inr late ↦ rw (le-ltb j port.delay late) (output_stays (j - port.delay) (omega (arith, low, late)))
+    ]
+
+    -- a sample that is there stays
+    pub sample_stays : (j : ℕ) → j < samples_done port c → sample_at model flat number c port out j ≡ sample_at model flat number d port out j
+    sample_stays j low =
+        ap (λ b. if b then signal_sample flat.tables (periods_of c) port out (known_in c) j else None) (lt-ltb j (samples_done port c) low)
+        ∙ signal_stays j low
+        ∙ sym (ap (λ b. if b then signal_sample flat.tables (periods_of d) port out (known_in d) j else None) (lt-ltb j (samples_done port d) (lt_of_lt_of_le low (goes.samples port))))
+
+    module _ (time : ℕ) (low : time < time_of c.old) where
+      abbrev position : Option ℕ
+      position = position_at 0 (spans_from port 0 c.old) time
+
+      before : time < 0 + time_of c.old
+      before = omega (arith, low)
+
+      position_later : position_at 0 (spans_from port 0 (periods_of d)) time ≡ position
+      position_later = ap (λ ps. position_at 0 (spans_from port 0 ps) time) (goes.longer.periods ∙ append_assoc c.old (c.now ∷ []) goes.longer.rest)
+          ∙ same_front port 0 0 c.old (c.now ∷ goes.longer.rest) time before
+
+      inside : (j : ℕ) → position ≡ Some j → j < samples_done port c
+      inside j at =
+          let w = position_within port 0 0 c.old time j at in
+          let s = whole_sum flat number port c.old (c.now ∷ []) has.whole in omega (arith, w, s)
+
+      -- and so does a cell below the start of the period
+      pub cell_stays : port_cell model flat number port out time (Some c) ≡ port_cell model flat number port out time (Some d)
+      cell_stays =
+          ap (option_map (sample_at model flat number c port out)) (same_front port 0 0 c.old (c.now ∷ []) time before)
+          ∙ mapped (sample_at model flat number c port out) (sample_at model flat number d port out) position (λ j at. sample_stays j (inside j at))
+          ∙ sym (ap (option_map (sample_at model flat number d port out)) position_later)

@@ -1,0 +1,6 @@
+pub mod Api
+pub mod Below
+pub mod Clusters
+pub mod Positions
+pub mod Staying
+pub mod Worlds
