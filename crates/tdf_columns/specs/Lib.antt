@@ -1,0 +1,5 @@
+pub mod Tracked
+pub mod Tracks
+pub mod Traces
+pub mod Calls
+pub mod machine
