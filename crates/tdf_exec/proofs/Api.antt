@@ -1,2 +1,3 @@
 -- The lemmas that other crates may use.
+pub use Rattle.tdf_exec.proofs.Greatest.{due_left, moved_sent, moved_traced}
 pub use Rattle.tdf_exec.proofs.Totals.{gained_room, sent_total, traced_total}

@@ -9,6 +9,7 @@ mod Ends
 mod Formed
 mod Gains
 mod Giving
+pub mod Greatest
 mod Keeping
 mod Kept
 mod Marks

@@ -111,19 +111,19 @@ samplers_alike (r ∷ rs) (s ∷ ss) long alike =
     omega (arith, rest, a, b, u)
 
 -- runners that are alike give as much
-like_sent : (r s : Runner) → IsLike r s → sent_size (Some s) ≡ sent_size (Some r)
+pub like_sent : (r s : Runner) → IsLike r s → sent_size (Some s) ≡ sent_size (Some r)
 like_sent (runner.Module x) s like = ap (λ q. sent_size (Some q)) like.1
 like_sent (runner.Sampler x) s like = ap (λ q. sent_size (Some q)) like
 like_sent (runner.Sink x) s like = ap (λ q. sent_size (Some q)) like
 like_sent runner.Outside s like = ap (λ q. sent_size (Some q)) like
 
-like_traced : (r s : Runner) → IsLike r s → traced_size (Some s) ≡ traced_size (Some r)
+pub like_traced : (r s : Runner) → IsLike r s → traced_size (Some s) ≡ traced_size (Some r)
 like_traced (runner.Module x) s like = ap (λ q. traced_size (Some q)) like.1 ∙ ap traced_count like.4
 like_traced (runner.Sampler x) s like = ap (λ q. traced_size (Some q)) like
 like_traced (runner.Sink x) s like = ap (λ q. traced_size (Some q)) like
 like_traced runner.Outside s like = ap (λ q. traced_size (Some q)) like
 
-sizes_alike : (size : Option Runner → ℕ) → ((r s : Runner) → IsLike r s → size (Some s) ≡ size (Some r)) → (rs ss : List Runner) → length ss ≡ length rs
+pub sizes_alike : (size : Option Runner → ℕ) → ((r s : Runner) → IsLike r s → size (Some s) ≡ size (Some r)) → (rs ss : List Runner) → length ss ≡ length rs
     → ((m : ℕ) (r : Runner) → slice_get rs m ≡ Some r → (s : Runner) × (slice_get ss m ≡ Some s) × IsLike r s) → (m : ℕ) → size (slice_get ss m) ≡ size (slice_get rs m)
 sizes_alike size same rs ss long alike m = elim (cases_lt m (length rs)) [
   | inl below ↦ (let r = some_at rs m below in let s = alike m r.0 r.1 in ap size s.1 ∙ same r.0 s.0 s.2 ∙ sym (ap size r.1))
@@ -138,7 +138,7 @@ due_head size rs offset entries i x at due =
     ∙ ap (λ n. n + sum_by (size_if size rs offset) (drop (i + 1) entries))
     (ap (size_if size rs offset) (get_or_from_slice_get entries i x x at) ∙ ap (λ (b : Bool). if b then size (slice_get rs x.actor) else 0) (eq-eqb _ _ due))
 
-due_alike : (size : Option Runner → ℕ) (rs ss : List Runner) (offset : ℕ) (xs : List Entry) → ((m : ℕ) → size (slice_get ss m) ≡ size (slice_get rs m))
+pub due_alike : (size : Option Runner → ℕ) (rs ss : List Runner) (offset : ℕ) (xs : List Entry) → ((m : ℕ) → size (slice_get ss m) ≡ size (slice_get rs m))
     → size_due size ss offset xs ≡ size_due size rs offset xs
 unfolding size_due
 due_alike size rs ss offset [] same = refl

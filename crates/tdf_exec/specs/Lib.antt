@@ -6,5 +6,6 @@ pub mod Made
 pub mod Played
 pub mod Runners
 pub mod Starts
+pub mod Telling
 pub mod Traced
 pub mod machine

@@ -3,4 +3,5 @@ pub mod Fired
 pub mod Laid
 pub mod Starting
 pub mod Steps
+pub mod Telling
 pub mod Tracing

@@ -8,6 +8,7 @@
 //! - `starting`: a cluster at the start of its first period.
 //! - `crossing`: from the end of a period to the next.
 //! - `tracing`: the ports of modules whose signals are traced.
+//! - `telling`: what a cluster in progress tells of itself.
 //! - `laws`: what holds of clusters in progress.
 #![tactic(auto)]
 
@@ -19,9 +20,11 @@ mod laws;
 mod rating;
 mod runners;
 mod starting;
+mod telling;
 mod tracing;
 
 pub use cluster::Cluster;
 pub use crossing::Next;
 pub use laws::{law_heads, law_rates, law_safe};
 pub use runners::{ModuleRunner, Runner, SamplerRunner, SinkRunner, TracedPort};
+pub use telling::Room;
