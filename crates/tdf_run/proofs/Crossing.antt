@@ -14,7 +14,6 @@ use Rattle.tdf_flat.specs.declared.model.Flat.{Flat}
 use Rattle.tdf_flow.proofs.Api.{get_high, get_inside, none_some}
 use Rattle.tdf_flow.specs.Net.{count}
 use Rattle.tdf_flow.specs.Stands.{Crosses, Stands}
-use Rattle.tdf_graph.specs.declared.actors.Actor.TheVariants as actor
 use Rattle.tdf_history.specs.Instant.{same_period}
 use Rattle.tdf_history.specs.World.{ClusterAt}
 use Rattle.tdf_run.proofs.Arriving.{done_none}

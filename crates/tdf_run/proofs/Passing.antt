@@ -41,7 +41,7 @@ set_is : {A : Type 0} (xs : List A) (i j : ℕ) (x y : A) → i < length xs → 
 set_is xs i j x y inside same at = some_same x y (sym (get_set_same xs i x inside) ∙ ap (slice_get (set xs i x)) (sym same) ∙ at)
 
 -- the next offset, of a cluster that is due
-due_offset : (o : Option ℕ) (offset : ℕ) → is_offset o offset ≡ true → o ≡ Some offset
+pub due_offset : (o : Option ℕ) (offset : ℕ) → is_offset o offset ≡ true → o ≡ Some offset
 due_offset None offset due = absurd (true_false (sym due))
 due_offset (Some k) offset due = ap Some (eqb-true k offset due)
 
@@ -50,7 +50,7 @@ not_due time h None begun none = refl
 not_due time h (Some x) begun none = ne_eqb time (h.since + x.offset) (λ e. (
     let z : x.offset ≡ time - h.since = omega (arith, e, begun) in true_false (sym (eq-eqb x.offset (time - h.since) z) ∙ none)))
 
-none_due : (model : PureTree) (flat : Flat) (number time : ℕ) (h : ClusterAt) (c : ClusterOf) → IsAt model flat number h c → h.since ≤ time → is_due c (time - h.since) ≡ false
+pub none_due : (model : PureTree) (flat : Flat) (number time : ℕ) (h : ClusterAt) (c : ClusterOf) → IsAt model flat number h c → h.since ≤ time → is_due c (time - h.since) ≡ false
     → is_entry_due time h (next_entry h) ≡ false
 none_due model flat number time h c at begun none = not_due time h (next_entry h) begun
     (ap (λ l. is_offset (offset_in (slice_get l h.place)) (time - h.since)) (sym at.entries_are) ∙ ap (λ p. is_offset (offset_in (slice_get c.entries p)) (time - h.since)) (sym at.place_is) ∙ none)

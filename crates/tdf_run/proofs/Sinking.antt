@@ -111,7 +111,7 @@ taken_one m e (p ∷ old) ones =
     let one : slice_index p.counts m * slice_index p.reads e ≡ slice_index p.counts m = rw (ones 0 p (omega arith)) (omega arith) in
     omega (arith, a, b, r, one)
 
-drop_at : {A : Type 0} (i : ℕ) (xs : List A) (x : A) → slice_get xs i ≡ Some x → drop i xs ≡ x ∷ drop (i + 1) xs
+pub drop_at : {A : Type 0} (i : ℕ) (xs : List A) (x : A) → slice_get xs i ≡ Some x → drop i xs ≡ x ∷ drop (i + 1) xs
 drop_at i [] x at = none_some x at
 drop_at zero (y ∷ ys) x at = ap (λ z. z ∷ ys) (some_same y x at)
 drop_at (suc i) (y ∷ ys) x at = let e : suc i + 1 ≡ suc (i + 1) = omega arith in drop_at i ys x at ∙ ap (λ j. x ∷ drop j (y ∷ ys)) (sym e)
@@ -141,7 +141,7 @@ module _ (model : PureTree) (flat : Flat) (number : ℕ) (values : List Raw) (h 
       subst (λ i. slice_get (read_at i m) n ≡ Some x) e
       (read_kept flat.tables values (actor_at h (d + j)) m n x (actor_kind flat.tables (actor_at h (d + j))) (reads_after flat.tables values h (d + j)) (keeps_more j d m n x at))
 
-  keeps_to : (j i : ℕ) → j ≤ i → KeepsReads (read_at j) (read_at i)
+  pub keeps_to : (j i : ℕ) → j ≤ i → KeepsReads (read_at j) (read_at i)
   keeps_to j i low = let e : i - j + j ≡ i = omega (arith, low) in subst (λ n. KeepsReads (read_at j) (read_at n)) e (keeps_more j (i - j))
 
   read_count : (j m : ℕ) → j ≤ k → IsActorOf flat.tables number m actor.Sampler → length (read_at j m) ≡ sum_by (count m) h.old + done h.entries (h.place + j) m
@@ -166,9 +166,6 @@ module _ (model : PureTree) (flat : Flat) (number : ℕ) (values : List Raw) (h 
         let same = some_same u.0 v (sym (keeps_to (suc j) k (omega (arith, less)) x.actor (sum_by (count x.actor) h.old + slice_index y.turns x.actor) u.0 u.1) ∙ there) in
         given v is (u.1 ∙ ap Some same) t_is
     shorten t (processed s plain there t_is) = processed s plain there t_is
-
-    short_step : (mid : Play (List ℤ) Raw) → IsStep net h.old h.now (read_at k) x.actor y mid → IsStep net h.old h.now (read_at (suc j)) x.actor y mid
-    short_step mid step = record { turn = step.turn; left = step.left; present = step.present; next = shorten step.turn step.next; flows = step.flows }
 
   -- a sink of the cluster, with its edge, and the sample that it takes
   module _ (j f : ℕ) (y : Play (List ℤ) Raw) (m edge : ℕ) (one : IsEdgeOf flat.tables m edge) (rate : slice_index h.now.reads edge ≡ 1)
@@ -223,16 +220,28 @@ module _ (model : PureTree) (flat : Flat) (number : ℕ) (values : List Raw) (h 
   abbrev pub HasTurns : ℕ → Play (List ℤ) Raw → Type 0
   HasTurns j y = (m : ℕ) → m < length flat.tables.actors → slice_index y.turns m ≡ done h.entries (h.place + j) m
 
-  -- all firings, one after the other
-  module _ (own : (i : ℕ) (x : Entry) → slice_get h.entries i ≡ Some x → slice_index (clusters_of flat.tables) x.actor ≡ number)
-      (known_actor : (i : ℕ) (x : Entry) → slice_get h.entries i ≡ Some x → x.actor < length flat.tables.actors)
-      (sink_edge : (m : ℕ) → IsActorOf flat.tables number m actor.Sink → (e : ℕ) × IsEdgeOf flat.tables m e × (slice_index h.now.reads e ≡ 1))
-      (ones : HaveTakenOne flat.tables number h) (f : ℕ) (enough : k + f ≤ firings (h.old ++ h.now ∷ [])) where
-    turns_next : (j : ℕ) (x : Entry) → slice_get h.entries (h.place + j) ≡ Some x → (y mid : Play (List ℤ) Raw) → IsStep net h.old h.now (read_at k) x.actor y mid → HasTurns j y → HasTurns (suc j) mid
-    turns_next j x at y mid step turns m inside =
+  -- a firing leads from what stands after j entries to what stands after one more
+  module _ (j f : ℕ) (less : j < k) (x : Entry) (at : slice_get h.entries (h.place + j) ≡ Some x) (own : slice_index (clusters_of flat.tables) x.actor ≡ number) (inside : x.actor < length flat.tables.actors)
+      (y mid : Play (List ℤ) Raw) (stands : Stands net h.old h.now (read_at j) (j + f) y) (turns : HasTurns j y) (step : IsStep net h.old h.now (read_at k) x.actor y mid) where
+    pub here_stands : Stands net h.old h.now (read_at (suc j)) (j + f) y
+    here_stands = reads_keep net h.old h.now (read_at j) (read_at (suc j)) (j + f) y (keeps_to j (suc j) (omega arith)) stands
+
+    pub here_next : IsNextTurn net h.old h.now (read_at (suc j)) x.actor y step.turn
+    here_next = shorten j less x at own y (turns x.actor inside) step.turn step.next
+
+    here_step : IsStep net h.old h.now (read_at (suc j)) x.actor y mid
+    here_step = record { turn = step.turn; left = step.left; present = step.present; next = here_next; flows = step.flows }
+
+    pub stands_next : Stands net h.old h.now (read_at (suc j)) (suc j + f) mid
+    stands_next = let e : suc (j + f) ≡ suc j + f = omega arith in
+        subst (λ n. Stands net h.old h.now (read_at (suc j)) n mid) e
+        (step_keeps net h.old h.now (read_at (suc j)) (j + f) x.actor y mid here_stands here_step)
+
+    pub turns_next : HasTurns (suc j) mid
+    turns_next m low =
         let next = done_next h.entries (h.place + j) m x at in
         let e : h.place + j + 1 ≡ h.place + suc j = omega arith in let z = ap (λ i. done h.entries i m) e in
-        let before = turns m inside in
+        let before = turns m low in
         elim (cases_eq x.actor m) [
           | inl same ↦ (let one = ap {B = ℕ} (λ (b : Bool). if b then 1 else 0) (eq-eqb x.actor m same) in
               let turn = subst (λ i. slice_index mid.turns i ≡ slice_index y.turns i + 1) same step.flows.turn in omega (arith, next, z, before, one, turn))
@@ -240,6 +249,11 @@ module _ (model : PureTree) (flat : Flat) (number : ℕ) (values : List Raw) (h 
               let turn = step.flows.other_turns m (λ q. apart (sym q)) in omega (arith, next, z, before, none, turn))
         ]
 
+  -- all firings, one after the other
+  module _ (own : (i : ℕ) (x : Entry) → slice_get h.entries i ≡ Some x → slice_index (clusters_of flat.tables) x.actor ≡ number)
+      (known_actor : (i : ℕ) (x : Entry) → slice_get h.entries i ≡ Some x → x.actor < length flat.tables.actors)
+      (sink_edge : (m : ℕ) → IsActorOf flat.tables number m actor.Sink → (e : ℕ) × IsEdgeOf flat.tables m e × (slice_index h.now.reads e ≡ 1))
+      (ones : HaveTakenOne flat.tables number h) (f : ℕ) (enough : k + f ≤ firings (h.old ++ h.now ∷ [])) where
     module _ (j : ℕ) (less : j < k) (x : Entry) (at : slice_get h.entries (h.place + j) ≡ Some x) (y mid : Play (List ℤ) Raw) (stands : Stands net h.old h.now (read_at j) (j + f) y) (turns : HasTurns j y)
         (step : IsStep net h.old h.now (read_at k) x.actor y mid) where
       by_kind : (o : Option Actor) → actor_kind flat.tables x.actor ≡ o
@@ -252,12 +266,6 @@ module _ (model : PureTree) (flat : Flat) (number : ℕ) (values : List Raw) (h 
           let edge = sink_edge x.actor sink in
           sink_writes j (j + f) y x.actor edge.0 edge.1 edge.2 (ones.each x.actor edge.0 sink edge.1.is) stands (omega (arith, enough, less)) (turns x.actor (known_actor (h.place + j) x at))
           (step.present edge.0 edge.1.is.inside edge.1.is.reader)
-
-      stands_next : Stands net h.old h.now (read_at (suc j)) (suc j + f) mid
-      stands_next = let e : suc (j + f) ≡ suc j + f = omega arith in
-          subst (λ n. Stands net h.old h.now (read_at (suc j)) n mid) e
-          (step_keeps net h.old h.now (read_at (suc j)) (j + f) x.actor y mid (reads_keep net h.old h.now (read_at j) (read_at (suc j)) (j + f) y (keeps_to j (suc j) (omega arith)) stands)
-          (short_step j less x at (own (h.place + j) x at) y (turns x.actor (known_actor (h.place + j) x at)) mid step))
 
     abbrev pub wrote : ℕ → List SinkWrite
     wrote j = writes_after model flat values number h j
@@ -281,7 +289,8 @@ module _ (model : PureTree) (flat : Flat) (number : ℕ) (values : List Raw) (h 
         let all : GiveAll flat net h.old h.now (read_at k) (x.0.actor ∷ actors n (h.place + suc j)) y z sent traced =
         subst (λ l. GiveAll flat net h.old h.now (read_at k) l y z sent traced) list_is g in
         let here = by_kind j less x.0 x.1 y all.0 stands turns all.5.step (actor_kind flat.tables x.0.actor) refl ∙ ap (map (write_of flat.tables)) (sym all.5.sent_is) in
-        let rest = walk n (suc j) (omega (arith, e)) all.0 z all.3 all.4 (stands_next j less x.0 x.1 y all.0 stands turns all.5.step) (turns_next j x.0 x.1 y all.0 all.5.step turns) all.6 in
+        let rest = walk n (suc j) (omega (arith, e)) all.0 z all.3 all.4 (stands_next j f less x.0 x.1 (own (h.place + j) x.0 x.1) (known_actor (h.place + j) x.0 x.1) y all.0 stands turns all.5.step)
+        (turns_next j f less x.0 x.1 (own (h.place + j) x.0 x.1) (known_actor (h.place + j) x.0 x.1) y all.0 stands turns all.5.step) all.6 in
         rest
         ∙ ap (λ l. l ++ map (write_of flat.tables) all.3) (wrote_next j x.0 x.1 ∙ ap (λ l. wrote j ++ l) here)
         ∙ append_assoc (wrote j) (map (write_of flat.tables) all.1) (map (write_of flat.tables) all.3)

@@ -76,10 +76,10 @@ module _ (model : PureTree) (flat : Flat) (number time : ℕ) (values : List Raw
       let e = sink_edge flat c m own there.0 (at.of.runners m there.0 there.1) in
       (e.0, e.1, ap (λ l. slice_index l e.0) at.period.reads ∙ e.2)
 
-  entry_in : (i : ℕ) (x : Entry) → slice_get h.entries i ≡ Some x → slice_get c.entries i ≡ Some x
+  pub entry_in : (i : ℕ) (x : Entry) → slice_get h.entries i ≡ Some x → slice_get c.entries i ≡ Some x
   entry_in i x there = ap (λ (l : List Entry). slice_get l i) at.entries_are ∙ there
 
-  turns_here : (m : ℕ) → m < length flat.tables.actors → slice_index (play_of 0 c).turns m ≡ done h.entries (h.place + 0) m
+  pub turns_here : (m : ℕ) → m < length flat.tables.actors → slice_index (play_of 0 c).turns m ≡ done h.entries (h.place + 0) m
   turns_here m inside =
       let l = at.of.actors in
       let made = get_or_from_slice_get (map (turns_from c.entries 0 c.place) (range_with_len 0 (length c.runners))) m (turns_from c.entries 0 c.place (0 + m)) 0
@@ -89,12 +89,12 @@ module _ (model : PureTree) (flat : Flat) (number time : ℕ) (values : List Raw
       let p : c.place ≡ h.place + 0 = (let q = at.place_is in omega (arith, q)) in
       let e = ap (λ es. done es c.place m) at.entries_are ∙ ap (λ i. done h.entries i m) p in omega (arith, made, y, n, e)
 
-  begins : Stands (cluster_net model flat number h.begun) h.old h.now (λ m. slice_index_or (reads_after flat.tables values h 0) m []) (0 + at.steps) (play_of 0 c)
+  pub begins : Stands (cluster_net model flat number h.begun) h.old h.now (λ m. slice_index_or (reads_after flat.tables values h 0) m []) (0 + at.steps) (play_of 0 c)
   unfolding reads_after
   begins = let e : at.steps ≡ 0 + at.steps = omega arith in
       subst (λ n. Stands (cluster_net model flat number h.begun) h.old h.now (λ m. slice_index_or h.reads m []) n (play_of 0 c)) e at.stands
 
-  module _ (k : ℕ) (due : AreDueNext time k h) (sorted : AreByOffset h.entries) (late : IsNotLate time h) (ones : HaveTakenOne flat.tables number h) where
+  module _ (k : ℕ) (due : AreDueNext time k h) (sorted : AreByOffset h.entries) (late : IsNotLate time h) where
     order_is : AreDone (time - h.since) c d → actors_between c.entries c.place d.place ≡ map (λ (x : Entry). x.actor) (take k (drop (h.place + 0) h.entries))
     order_is all =
         let to = place_d model flat number time values h c d inputs at begun k due sorted late all in
@@ -104,16 +104,22 @@ module _ (model : PureTree) (flat : Flat) (number time : ℕ) (values : List Raw
         ∙ ap (λ i. map (λ (x : Entry). x.actor) (take k (drop i c.entries))) p
         ∙ ap (λ es. map (λ (x : Entry). x.actor) (take k (drop (h.place + 0) es))) at.entries_are
 
-    pub sinks_write_all : (before after : OutputsOf) → IsCheckedOf model flat.checked → AreSettled flat.tables values (time - h.since) c inputs → AreDone (time - h.since) c d
-        → (gained : HasGained flat (time - h.since) inputs c d before after) → writes_after model flat values number h k ≡ map (write_of flat.tables) gained.sent
-    unfolding writes_after
-    sinks_write_all before after checked settled all gained =
+    pub given_here : (before after : OutputsOf) → IsCheckedOf model flat.checked → AreSettled flat.tables values (time - h.since) c inputs → AreDone (time - h.since) c d
+        → (gained : HasGained flat (time - h.since) inputs c d before after)
+        → GiveAll flat (cluster_net model flat number h.begun) h.old h.now (λ m. slice_index_or (reads_after flat.tables values h k) m [])
+        (map (λ (x : Entry). x.actor) (take k (drop (h.place + 0) h.entries))) (play_of 0 c) (play_of 0 d) gained.sent gained.traced
+    given_here before after checked settled all gained =
         let given = gained.given model h.begun h.old h.now (λ m. slice_index_or (reads_after flat.tables values h k) m []) 0 checked at.period (all_given model flat number time values h c d inputs at begun k due sorted late settled) in
         let here = subst (λ l. GiveAll flat (cluster_net model flat c.number h.begun) h.old h.now (λ m. slice_index_or (reads_after flat.tables values h k) m []) l (play_of 0 c) (play_of 0 d) gained.sent gained.traced) (order_is all) given in
-        let net_here = subst (λ j. GiveAll flat (cluster_net model flat j h.begun) h.old h.now (λ m. slice_index_or (reads_after flat.tables values h k) m []) (map (λ (x : Entry). x.actor) (take k (drop (h.place + 0) h.entries))) (play_of 0 c) (play_of 0 d) gained.sent gained.traced) at.number_is here in
+        subst (λ j. GiveAll flat (cluster_net model flat j h.begun) h.old h.now (λ m. slice_index_or (reads_after flat.tables values h k) m []) (map (λ (x : Entry). x.actor) (take k (drop (h.place + 0) h.entries))) (play_of 0 c) (play_of 0 d) gained.sent gained.traced) at.number_is here
+
+    pub sinks_write_all : HaveTakenOne flat.tables number h → (before after : OutputsOf) → IsCheckedOf model flat.checked → AreSettled flat.tables values (time - h.since) c inputs → AreDone (time - h.since) c d
+        → (gained : HasGained flat (time - h.since) inputs c d before after) → writes_after model flat values number h k ≡ map (write_of flat.tables) gained.sent
+    unfolding writes_after
+    sinks_write_all ones before after checked settled all gained =
         walk model flat number values h k due.within at.have_read
         (λ i x there. at.of.safe.own i x (entry_in i x there) ∙ at.number_is) (λ i x there. at.of.safe.inside i x (entry_in i x there)) edge_at ones at.steps (enough k due.within)
-        k 0 (omega arith) (play_of 0 c) (play_of 0 d) gained.sent gained.traced begins turns_here net_here
+        k 0 (omega arith) (play_of 0 c) (play_of 0 d) gained.sent gained.traced begins turns_here (given_here before after checked settled all gained)
 
 pub sinks_write : SinksWrite
 sinks_write model flat number time values h c d inputs before after checked at sorted ones begun next settled all gained =

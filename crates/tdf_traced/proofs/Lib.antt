@@ -1,0 +1,7 @@
+pub mod Api
+pub mod Knowing
+pub mod Passes
+pub mod Picked
+pub mod Sampled
+pub mod Turned
+pub mod Walked

@@ -1,0 +1,62 @@
+-- What holds of the samples that firings trace.
+-- Source: own.
+use Rattle.std.specs.List.{range_with_len}
+use Rattle.std.specs.Prelude.{◌≡◌, ℕ, List, Some, length, map}
+use Rattle.tdf_convert.specs.declared.outputs.Sent.{Sent}
+use Rattle.tdf_dynamic.specs.declared.first.First.{First}
+use Rattle.tdf_exec.specs.Cluster.{ClusterOf}
+use Rattle.tdf_expr.specs.Checked.{IsCheckedOf}
+use Rattle.tdf_fixed.specs.declared.raw.Raw.{Raw}
+use Rattle.tdf_flat.specs.Flat.{IsFlatOf}
+use Rattle.tdf_flat.specs.declared.model.Flat.{Flat}
+use Rattle.tdf_formats.specs.Formats.{IsSoundModel}
+use Rattle.tdf_history.specs.Cells.{port_cell, spans_from}
+use Rattle.tdf_history.specs.Instant.{periods_of}
+use Rattle.tdf_history.specs.Start.{first_cluster}
+use Rattle.tdf_history.specs.World.{ClusterAt, Rules, World}
+use Rattle.tdf_limits.specs.Limits.{AreWithinLimits}
+use Rattle.tdf_rows.specs.Positions.{cell_of}
+use Rattle.tdf_run.specs.At.{IsAt}
+use Rattle.tdf_run.specs.Boundary.{after_boundary}
+use Rattle.tdf_run.specs.Firings.{settled_values}
+use Rattle.tdf_run.specs.Pass.{AreAt, AreReady, HavePassed, PassAt, PassesAlong, RunOf}
+use Rattle.tdf_streams.specs.Cluster.{initial_sample}
+use Rattle.tdf_traced.specs.Samples.{AreSamplesOf, HaveTraced, IsDoneKnown}
+use Rattle.tdf_tree.specs.Pure.{PureTree}
+use Rattle.tdf_wiring.specs.declared.modules.PortRow.{PortRow}
+
+-- at the start a port has its initial samples
+abbrev pub StartsHaveSamples : Type 0
+StartsHaveSamples = (model : PureTree) (flat : Flat) (cluster number : ℕ) (port : PortRow)
+    → (first : First)
+    → AreSamplesOf model flat cluster number port (first_cluster model flat cluster first)
+    (map (initial_sample flat.tables port) (range_with_len 0 port.delay))
+
+-- a boundary without changes adds none
+abbrev pub BoundariesAddNone : Type 0
+BoundariesAddNone = (model : PureTree) (flat : Flat) (cluster number time : ℕ) (port : PortRow)
+    → (h : ClusterAt) (c : ClusterOf) (samples : List Raw) → IsAt model flat cluster h c
+    → h.place ≡ length h.entries → AreSamplesOf model flat cluster number port h samples
+    → AreSamplesOf model flat cluster number port (after_boundary time h) samples
+
+-- the cells of the history are those that these samples give
+abbrev pub CellsAreOfSamples : Type 0
+CellsAreOfSamples = (model : PureTree) (flat : Flat) (cluster number time : ℕ) (port : PortRow)
+    → (c : ClusterAt) (samples : List Raw) → AreSamplesOf model flat cluster number port c samples
+    → port_cell model flat cluster port number time (Some c)
+    ≡ cell_of (spans_from port 0 (periods_of c)) samples time
+
+-- what is done is known, where a cluster in progress is what the history says of it
+abbrev pub DoneIsKnown : Type 0
+DoneIsKnown = (model : PureTree) (flat : Flat) (cluster : ℕ) (h : ClusterAt) (c : ClusterOf)
+    → IsAt model flat cluster h c → IsDoneKnown model flat cluster h
+
+-- what clusters in progress trace in a pass are the samples that the history has then
+abbrev pub PassesTrace : Type 0
+PassesTrace = (model : PureTree) (flat : Flat) (rules : Rules ℕ) (pass : PassAt) (n : ℕ)
+    → (w : World ℕ) (x y : RunOf) (sent : List Sent) → IsSoundModel model
+    → IsCheckedOf model flat.checked → IsFlatOf model flat → AreWithinLimits flat
+    → AreAt model flat pass.since w.clusters x.clusters → w.left ≡ x.left
+    → AreReady flat.tables pass (settled_values rules w) x.clusters
+    → HavePassed flat pass n x y sent → (along : PassesAlong model flat rules pass n w y sent)
+    → HaveTraced model flat w.clusters along.clusters x y

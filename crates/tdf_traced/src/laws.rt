@@ -1,0 +1,21 @@
+//! What holds of the samples of a port's signal: each function here only carries its clauses.
+
+ghost use Rattle.tdf_traced.specs.Laws.{BoundariesAddNone, CellsAreOfSamples, DoneIsKnown, PassesTrace, StartsHaveSamples};
+
+use tdf_layout::law_one_port;
+
+/// The samples of a port's signal at the start, after a boundary and as cells, and that each activation that is done is
+/// known.
+pub fn law_samples()
+    ensures start { StartsHaveSamples }
+    ensures boundary { BoundariesAddNone }
+    ensures cells { CellsAreOfSamples }
+    ensures done { DoneIsKnown }
+{}
+
+/// What all clusters trace in a pass, in order of number, is what the history has then.
+pub fn law_traced()
+    ensures { PassesTrace }
+{
+    law_one_port();
+}
