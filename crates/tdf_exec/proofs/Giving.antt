@@ -3,8 +3,9 @@ use Rattle.std.proofs.Common.{◌≡◌, ◌∙◌, ◌≢◌, ℕ, zero, suc, �
 use Rattle.std.proofs.Common.{if◌then◌else◌, nat_eq, length, map, take, refl, sym, ap, subst, inl, inr, arith, append-nil}
 use Rattle.std.proofs.lemmas.Bool.{cases_lt, ne_eqb}
 use Rattle.std.proofs.lemmas.List.{get_or_past}
+use Rattle.std.proofs.lemmas.List.Elements.{All-cons, All-nil}
 use Rattle.std.proofs.lemmas.List.Folds.{flat_map-map}
-use Rattle.std.specs.List.{flat_map}
+use Rattle.std.specs.List.{All, flat_map}
 use Rattle.std.specs.Prelude.{slice_get, slice_index, slice_index_or, slice_set}
 use Rattle.tdf_convert.specs.Outputs.{OutputsOf}
 use Rattle.tdf_convert.specs.declared.outputs.Sent.{Sent}
@@ -12,20 +13,23 @@ use Rattle.tdf_convert.specs.declared.outputs.Traced.{Traced}
 use Rattle.tdf_exec.proofs.Acting.{fronts_at, fronts_long, turn_of}
 use Rattle.tdf_exec.proofs.Gains.{gains_none, traced_long}
 use Rattle.tdf_exec.proofs.Moved.{some_inj}
+use Rattle.tdf_exec.proofs.Rows.{all_at}
 use Rattle.tdf_exec.proofs.Stepping.{front_at, module_step, module_turn, sampler_step, sink_step}
 use Rattle.tdf_exec.specs.Cluster.{ClusterOf}
 use Rattle.tdf_exec.specs.machine.Fired.{HasGiven, HasRun, HasRunModule, HasSampled, HasSent}
-use Rattle.tdf_exec.specs.Gained.{sent_by, sent_sample, sent_size, traced_by, traced_size, with_gains}
+use Rattle.tdf_exec.specs.Gained.{IsSentOf, sent_by, sent_sample, sent_size, traced_by, traced_size, with_gains}
 use Rattle.tdf_exec.specs.Made.{IsClusterOf, IsModuleOf, IsSamplerOf, IsSinkOf}
 use Rattle.tdf_exec.specs.Played.{IsPeriodOf, play_of}
 use Rattle.tdf_exec.specs.Runners.{ModuleOf, SamplerOf}
 use Rattle.tdf_exec.specs.Traced.{port_samples, traced_count, traced_port, turn_samples}
+use Rattle.tdf_layout.specs.Samples.{edge_format}
 use Rattle.tdf_layout.specs.Traced.{traced_ports}
 use Rattle.tdf_exec.specs.declared.runners.Runner.{Runner}
 use Rattle.tdf_exec.specs.declared.runners.Runner.TheVariants as runner
 use Rattle.tdf_exec.specs.declared.runners.SinkRunner.{SinkRunner}
 use Rattle.tdf_exec.specs.machine.Steps.{AreInputsNext, IsAnyStep, with_parts}
 use Rattle.tdf_expr.specs.Checked.{IsCheckedOf}
+use Rattle.tdf_expr.specs.Frames.{IsOfFormat}
 use Rattle.tdf_firing.specs.Actors.{HasTaken}
 use Rattle.tdf_fixed.specs.declared.raw.Raw.{Raw}
 use Rattle.tdf_flat.specs.declared.model.Flat.{Flat}
@@ -61,6 +65,7 @@ pub record StepGains (flat : Flat) (inputs : List Raw) (c d : ClusterOf) (x : En
   pub sent : List Sent
   pub traced : List Traced
   pub gains : after ≡ with_gains before sent traced
+  pub sinks : All (IsSentOf flat.tables) sent
   pub few_sent : length sent ≡ sent_size (slice_get c.runners x.actor)
   pub few_traced : length traced ≡ traced_size (slice_get c.runners x.actor)
   pub step : IsAnyStep flat inputs c d x sent traced
@@ -76,6 +81,7 @@ module _ (flat : Flat) (c : ClusterOf) (inputs : List Raw) (x : Entry) (of : IsC
     sent = [];
     traced = flat_map (port_samples ran.next.ports) ran.next.traced;
     gains = subst (λ r. HasGiven x.actor c.rings r outs outs2) ran.after_is given;
+    sinks = All-nil (IsSentOf flat.tables);
     few_sent = sym (ap sent_size there);
     few_traced = traced_long ran.next.ports ran.next.traced ∙ ap traced_count ran.fired.traced ∙ sym (ap traced_size there);
     step = λ model start old p reads from checked period told. record {
@@ -100,6 +106,7 @@ module _ (flat : Flat) (c : ClusterOf) (inputs : List Raw) (x : Entry) (of : IsC
     sent = [];
     traced = [];
     gains = subst (λ r. HasGiven x.actor c.rings r outs outs2) ran.after_is given ∙ gains_none outs;
+    sinks = All-nil (IsSentOf flat.tables);
     few_sent = sym (ap sent_size there);
     few_traced = sym (ap traced_size there);
     step = λ model start old p reads from checked period told.
@@ -120,6 +127,7 @@ module _ (flat : Flat) (c : ClusterOf) (inputs : List Raw) (x : Entry) (of : IsC
     sent = sent_sample x.actor out.value ∷ [];
     traced = [];
     gains = out.given;
+    sinks = All-cons (IsSentOf flat.tables) (sent_sample x.actor out.value) [] is_sent (All-nil (IsSentOf flat.tables));
     few_sent = sym (ap sent_size there);
     few_traced = sym (ap traced_size there);
     step = λ model start old p reads from checked period told.
@@ -135,6 +143,13 @@ module _ (flat : Flat) (c : ClusterOf) (inputs : List Raw) (x : Entry) (of : IsC
     where
       is : IsSinkOf flat c x.actor k.edge
       is = of.runners x.actor (runner.Sink k) there
+
+      is_sent : IsSentOf flat.tables (sent_sample x.actor out.value)
+      is_sent = record {
+        sink = is.actor_is.kind_is;
+        fits = λ e f reads format. all_at (IsOfFormat f) (ring_at c.rings k.edge).samples 0 out.value
+            (of.held.formats k.edge f is.edge_is.is.inside (ap (edge_format flat.tables) (sym (is.edge_is.only e reads)) ∙ format)) out.value_is;
+      }
 
       out : HasSent x.actor k.edge c.rings outs outs2
       out = subst (λ r. HasGiven x.actor c.rings r outs outs2) same given

@@ -60,6 +60,7 @@ module _ (flat : Flat) (c : ClusterOf) (inputs : List Raw) (x : Entry) (of : IsC
     sent = gains.sent;
     traced = gains.traced;
     gains = gains.gains;
+    sinks = gains.sinks;
     few_sent = gains.few_sent;
     few_traced = gains.few_traced;
     step = gains.step;

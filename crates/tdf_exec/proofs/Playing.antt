@@ -3,6 +3,7 @@ use Rattle.std.proofs.Common.{◌≡◌, ◌∙◌, ◌≢◌, ℕ, suc, ◌+◌
 use Rattle.std.proofs.Common.{length, length-drop, length-append, length-take-le, append_assoc, append-nil, nat_eq, if◌then◌else◌, get_or-drop, take-suc, drop, take, map, refl, sym, ap, subst, inl, inr, ◌⊎◌, arith}
 use Rattle.std.proofs.lemmas.Bool.{cases_eq, cases_lt, eq-eqb, eqb-true}
 use Rattle.std.proofs.lemmas.List.{length-map, map-append}
+use Rattle.std.proofs.lemmas.List.Elements.{All-append, All-nil}
 use Rattle.std.proofs.lemmas.List.Sums.{sum_by-cons, sum_by-drop_more}
 use Rattle.std.proofs.lemmas.Option.{get_or_from_slice_get, slice_get_past, slice_get_within}
 use Rattle.std.specs.List.{count_by, sum_by}
@@ -17,7 +18,7 @@ use Rattle.tdf_exec.proofs.Moved.{some_at, some_inj}
 use Rattle.tdf_exec.proofs.Nexts.{like_self}
 use Rattle.tdf_exec.proofs.Stepping.{done_mono}
 use Rattle.tdf_exec.specs.Cluster.{ClusterOf, is_due, is_offset, offset_in}
-use Rattle.tdf_exec.specs.Gained.{GiveAll, Gives, HaveRoom, sent_size, size_due, size_if, traced_size}
+use Rattle.tdf_exec.specs.Gained.{GiveAll, Gives, HaveRoom, IsSentOf, sent_size, size_due, size_if, traced_size}
 use Rattle.tdf_exec.specs.Made.{IsClusterOf, is_sampler}
 use Rattle.tdf_exec.specs.Played.{AreAllGiven, AreGiven, AreInputsFor, IsLike, IsMoved, IsPeriodOf, KeepsStanding, actors_between, counted, play_of, turns_from}
 use Rattle.tdf_exec.specs.Runners.{ModuleOf, SamplerOf}
@@ -272,6 +273,7 @@ module _ (flat : Flat) (offset : ℕ) (inputs : List Raw) (c : ClusterOf) (place
           sent = to.gained.sent ++ step.sent;
           traced = to.gained.traced ++ step.traced;
           are = gains_then outs cur cur2 to.gained.sent step.sent to.gained.traced step.traced to.gained.are step.gains;
+          sinks = All-append (IsSentOf flat.tables) to.gained.sent step.sent to.gained.sinks step.sinks;
           given = λ model start old p reads from checked period told.
               subst (λ (order : List ℕ). GiveAll flat (cluster_net model flat c.number start) old p reads order (play_of from c) (play_of from later)
               (to.gained.sent ++ step.sent) (to.gained.traced ++ step.traced))
@@ -373,6 +375,7 @@ played_none flat offset inputs c outs of many room = record {
     sent = [];
     traced = [];
     are = gains_none outs;
+    sinks = All-nil (IsSentOf flat.tables);
     given = λ model start old p reads from checked period told.
         subst (λ (order : List ℕ). GiveAll flat (cluster_net model flat c.number start) old p reads order (play_of from c) (play_of from c) [] []) (sym (actors_none c.entries c.place))
         (give_none flat (cluster_net model flat c.number start) old p reads (play_of from c));

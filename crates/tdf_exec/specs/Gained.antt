@@ -2,7 +2,7 @@
 -- Source: own.
 use Rattle.std.specs.List.{flat_map, sum_by}
 use Rattle.std.specs.Prelude.{◌≡◌, ℕ, ◌+◌, ◌≤◌, if◌then◌else◌, nat_eq, List, [], ◌∷◌, ◌++◌}
-use Rattle.std.specs.Prelude.{length, map, drop, Option, Some, slice_get, ℤ}
+use Rattle.std.specs.Prelude.{All, length, map, drop, Option, Some, slice_get, ℤ}
 use Rattle.tdf_bind.specs.Flat.{FlatOf}
 use Rattle.tdf_convert.specs.Outputs.{OutputsOf}
 use Rattle.tdf_convert.specs.declared.outputs.Sent.{Sent}
@@ -11,10 +11,14 @@ use Rattle.tdf_dynamic.specs.Attributes.{AttrsOf}
 use Rattle.tdf_exec.specs.Cluster.{ClusterOf}
 use Rattle.tdf_exec.specs.Played.{AreAllGiven, IsPeriodOf, actors_between, play_of}
 use Rattle.tdf_exec.specs.Traced.{traced_count, turn_samples}
+use Rattle.tdf_layout.specs.Samples.{edge_format}
 use Rattle.tdf_layout.specs.Traced.{traced_ports}
+use Rattle.tdf_layout.specs.Wiring.{Reads}
 use Rattle.tdf_exec.specs.declared.runners.Runner.{Runner}
 use Rattle.tdf_exec.specs.declared.runners.Runner.TheVariants as runner
 use Rattle.tdf_expr.specs.Checked.{IsCheckedOf}
+use Rattle.tdf_expr.specs.Frames.{IsOfFormat}
+use Rattle.tdf_fixed.specs.declared.format.Format.{Format}
 use Rattle.tdf_fixed.specs.declared.raw.Raw.{Raw}
 use Rattle.tdf_flat.specs.declared.model.Flat.{Flat}
 use Rattle.tdf_flow.specs.Firing.{fronts}
@@ -84,12 +88,19 @@ size_if size runners offset x =
 unfoldable pub size_due : (size : Option Runner → ℕ) → List Runner → (offset : ℕ) → List Entry → ℕ
 size_due size runners offset entries = sum_by (size_if size runners offset) entries
 
+-- a sample that a sink sent: it is of the format of the edge that the sink reads
+pub record IsSentOf (tables : FlatOf) (s : Sent) : Type 0 where
+  pub sink : actor_kind tables s.actor ≡ Some actor.Sink
+  pub fits : (e : ℕ) (f : Format) → Reads tables s.actor e → edge_format tables e ≡ Some f
+      → IsOfFormat f s.value
+
 -- the outputs gained exactly what the steps of the streams give, in the order of the plan
 pub record HasGained (flat : Flat) (offset : ℕ) (inputs : List Raw) (c d : ClusterOf)
     (before after : OutputsOf) : Type 0 where
   pub sent : List Sent
   pub traced : List Traced
   pub are : after ≡ with_gains before sent traced
+  pub sinks : All (IsSentOf flat.tables) sent
   pub given : (model : PureTree) (start : Start) (old : List PeriodRecord) (p : PeriodRecord)
       → (reads : ℕ → List Raw) (from : ℕ) → IsCheckedOf model flat.checked → IsPeriodOf c from p
       → AreAllGiven offset c inputs reads old from
