@@ -202,9 +202,18 @@ sampler_links_are tables cluster links are = record {
         let own : row.0.cluster ≡ cluster = sym (index_map cluster_of tables.actors m row.0 row.1) ∙ h.inside in
         are.all m row.0 (slice_get_within tables.actors m row.0 row.1) row.1 (ap (λ k. is_sampler k && nat_eq row.0.cluster cluster) row.2 ∙ eq-eqb row.0.cluster cluster own)
 
+sink_kind : (kind : Actor) → is_sink kind ≡ true → kind ≡ actor.Sink
+sink_kind actor.Module h = false_true h
+sink_kind actor.Sampler h = false_true h
+sink_kind actor.Sink h = refl
+
+-- and those of all sinks
 pub sink_links_are : (tables : FlatOf) (links : List Link) → AreLinkedUpTo tables Sinks (length tables.actors) links → AreSinkLinks tables links
-sink_links_are tables links are = record { order = are.placed.order; signals = are.signals; of = are.of; all = all }
+sink_links_are tables links are = record { order = are.placed.order; signals = are.signals; of = are.of; each = each; all = all }
   where
+    each : (j : ℕ) (l : Link) → slice_get links j ≡ Some l → (actor_kind tables l.actor ≡ Some actor.Sink) × (l.sampler ≡ false)
+    each j l at = let h : IsLinkOf tables Sinks l = are.each j l at in (ap kind_of_row h.at ∙ ap Some (sink_kind h.row.kind h.is), h.sampler)
+
     all : (m : ℕ) → actor_kind tables m ≡ Some actor.Sink → IsLinked links m
     all m h = let row = actor_row tables m actor.Sink h in are.all m row.0 (slice_get_within tables.actors m row.0 row.1) row.1 (ap is_sink row.2)
 

@@ -71,4 +71,6 @@ pub record AreSinkLinks (tables : FlatOf) (links : List Link) : Type 0 where
   pub order : AreRising links
   pub signals : HaveSignals links (length tables.de_signals)
   pub of : HaveSignalsOf tables links
+  pub each : (j : ℕ) (l : Link) → slice_get links j ≡ Some l
+      → (actor_kind tables l.actor ≡ Some actor.Sink) × (l.sampler ≡ false)
   pub all : (m : ℕ) → actor_kind tables m ≡ Some actor.Sink → IsLinked links m
