@@ -144,6 +144,13 @@ module _ (flat : Flat) (c : ClusterOf) (inputs : List Raw) (x : Entry) (of : IsC
       is : IsSinkOf flat c x.actor k.edge
       is = of.runners x.actor (runner.Sink k) there
 
+      is_sent : IsSentOf flat.tables (sent_sample x.actor out.value)
+      is_sent = record {
+        sink = is.actor_is.kind_is;
+        fits = λ e f reads format. all_at (IsOfFormat f) (ring_at c.rings k.edge).samples 0 out.value
+            (of.held.formats k.edge f is.edge_is.is.inside (ap (edge_format flat.tables) (sym (is.edge_is.only e reads)) ∙ format)) out.value_is;
+      }
+
       out : HasSent x.actor k.edge c.rings outs outs2
       out = subst (λ r. HasGiven x.actor c.rings r outs outs2) same given
 

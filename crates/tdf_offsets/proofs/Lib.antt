@@ -1,0 +1,3 @@
+pub mod Api
+pub mod Inside
+pub mod Lasting
