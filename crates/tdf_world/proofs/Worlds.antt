@@ -1,52 +1,27 @@
 -- Where an instant goes on, and so where a history does, all clusters go on.
-use Rattle.std.proofs.Common.{◌≡◌, ◌≢◌, ◌⊎◌, ◌∙◌, ℕ, zero, suc, ◌+◌, ◌-◌, ◌<◌, ◌≤◌, Bool, true, false, Option, Some, None, List, [], ◌∷◌, if◌then◌else◌, length, nat_eq, refl, sym, ap, subst, inl, inr, arith}
-use Rattle.std.proofs.lemmas.List.{length-set}
-use Rattle.std.proofs.lemmas.Option.{slice_get_within}
-use Rattle.std.specs.Prelude.{◌||◌, slice_get, slice_set}
-use Rattle.tdf_bind.specs.declared.actors.ActorRow.{ActorRow}
+use Rattle.std.proofs.Common.{◌≡◌, ◌∙◌, ℕ, zero, suc, ◌+◌, ◌-◌, ◌≤◌, Bool, true, false, if◌then◌else◌, sym, ap, subst, arith}
 use Rattle.tdf_flat.specs.declared.model.Flat.{Flat}
-use Rattle.tdf_flow.proofs.Api.{get_inside, some_same}
-use Rattle.tdf_graph.specs.declared.actors.Actor.{Actor}
-use Rattle.tdf_graph.specs.declared.actors.Actor.TheVariants as actor
-use Rattle.tdf_history.specs.Instant.{RunFault, actor_of_entry, all_firings, at_begin, boundary, boundary_of, changed_by, engine, events_of, fired, fired_as, firing, firing_of, instant, is_entry_due, is_over, is_written, next_entry, plan_length, settled_as, stepped, with_cluster, with_read, with_same}
-use Rattle.tdf_history.specs.World.{ClusterAt, Rules, Same, Settled, World}
-use Rattle.tdf_instants.specs.History.{Fault, Going, On, Past, Spent, State, Step, Stopped, after, and_then, history, state_of, turns_to}
+use Rattle.tdf_history.specs.Instant.{RunFault, all_firings, engine, instant}
+use Rattle.tdf_history.specs.World.{ClusterAt, Rules, Same, World}
+use Rattle.tdf_instants.specs.History.{Fault, Going, On, Past, Spent, State, Step, Stopped, after, history, state_of}
 use Rattle.tdf_tree.specs.Pure.{PureTree}
 use Rattle.tdf_world.proofs.Clusters.{boundary_goes, goes_refl, goes_trans, read_goes, step_goes}
+use Rattle.tdf_world.proofs.Leading.{AllBy}
+use Rattle.tdf_world.proofs.Leading as leading
 use Rattle.tdf_world.specs.Continuing.{AllGoOn, GoesOn}
 
--- a list with one item set has at that place the item, and elsewhere what it had
-set_found : {A : Type 0} (xs : List A) (i j : ℕ) (x y : A) → i < length xs → slice_get (slice_set xs i y) j ≡ Some x → ((j ≡ i) × (y ≡ x)) ⊎ ((j ≢ i) × (slice_get xs j ≡ Some x))
-set_found [] i j x y inside at = absurd (omega (arith, inside))
-set_found (z ∷ xs) zero zero x y inside at = inl (refl, some_same y x at)
-set_found (z ∷ xs) zero (suc j) x y inside at = inr (λ e. omega (arith, e), at)
-set_found (z ∷ xs) (suc i) zero x y inside at = inr (λ e. omega (arith, e), at)
-set_found (z ∷ xs) (suc i) (suc j) x y inside at = elim (set_found xs i j x y (omega (arith, inside)) at) [
-  | inl here ↦ inl (ap suc here.0, here.1)
-  | inr there ↦ inr (λ e. there.0 (omega (arith, e)), there.1)
-]
-
 module _ {K : Type 0} where
+  by_going : (w v : World K) → AllBy GoesOn w v → AllGoOn w v
+  by_going w v all = record { same = all.same; each = all.each }
+
+  as_by : (w v : World K) → AllGoOn w v → AllBy GoesOn w v
+  as_by w v all = record { same = all.same; each = all.each }
+
   pub all_refl : (w : World K) → AllGoOn w w
-  all_refl w = record { same = refl; each = λ n c d at to. subst (GoesOn c) (some_same c d (sym at ∙ to)) (goes_refl c) }
+  all_refl w = by_going w w (leading.all_itself GoesOn goes_refl goes_trans w)
 
   pub all_trans : (u w v : World K) → AllGoOn u w → AllGoOn w v → AllGoOn u v
-  all_trans u w v x y = record {
-    same = y.same ∙ x.same;
-    each = λ n b d at to. (
-        let c = get_inside w.clusters n (let i = slice_get_within u.clusters n b at in let s = x.same in omega (arith, i, s)) in
-        goes_trans b c.0 d (x.each n b c.0 at c.1) (y.each n c.0 d c.1 to));
-  }
-
-  -- one cluster goes on
-  one_goes : (w v : World K) (n : ℕ) (c d : ClusterAt) → slice_get w.clusters n ≡ Some c → v.clusters ≡ slice_set w.clusters n d → GoesOn c d → AllGoOn w v
-  one_goes w v n c d at is goes = record {
-    same = ap length is ∙ length-set w.clusters n d;
-    each = λ k b e at_b at_e. elim (set_found w.clusters n k e d (slice_get_within w.clusters n c at) (ap (λ l. slice_get l k) (sym is) ∙ at_e)) [
-      | inl here ↦ subst (λ x. GoesOn x e) (some_same c b (sym at ∙ ap (slice_get w.clusters) (sym here.0) ∙ at_b)) (subst (GoesOn c) here.1 goes)
-      | inr there ↦ subst (GoesOn b) (some_same b e (sym at_b ∙ there.1)) (goes_refl b)
-    ];
-  }
+  all_trans u w v x y = by_going u v (leading.all_through GoesOn goes_refl goes_trans u w v (as_by u w x) (as_by w v y))
 
   -- a step that goes on leads to a world whose clusters go on
   abbrev Leads : World K → Step (World K) RunFault → Type 0
@@ -54,70 +29,17 @@ module _ {K : Type 0} where
   Leads w (Fault fault v) = Unit {0}
   Leads w (Past v) = Unit {0}
 
-  leads_on : (u w : World K) (s : Step (World K) RunFault) → AllGoOn u w → Leads w s → Leads u s
-  leads_on u w (Going v) x y = all_trans u w v x y
-  leads_on u w (Fault fault v) x y = tt
-  leads_on u w (Past v) x y = tt
-
-  then_leads : (w : World K) (s : Step (World K) RunFault) (next : World K → Step (World K) RunFault) → Leads w s → ((v : World K) → Leads v (next v)) → Leads w (and_then s next)
-  then_leads w (Going v) next x y = leads_on w v (next v) x (y v)
-  then_leads w (Fault fault v) next x y = tt
-  then_leads w (Past v) next x y = tt
-
-  turns_lead : (turn : ℕ → World K → Step (World K) RunFault) → ((n : ℕ) (v : World K) → Leads v (turn n v)) → (n : ℕ) (w : World K) → Leads w (turns_to turn n w)
-  unfolding turns_to
-  turns_lead turn each zero w = all_refl w
-  turns_lead turn each (suc n) w = then_leads w (turns_to turn n w) (turn n) (turns_lead turn each n w) (each n)
-
-  if_leads : (w : World K) (b : Bool) (s t : Step (World K) RunFault) → Leads w s → Leads w t → Leads w (if b then s else t)
-  if_leads w true s t x y = x
-  if_leads w false s t x y = y
+  leads_by : (w : World K) (s : Step (World K) RunFault) → leading.LeadsBy GoesOn goes_refl goes_trans w s → Leads w s
+  leads_by w (Going v) x = by_going w v x
+  leads_by w (Fault fault v) x = tt
+  leads_by w (Past v) x = tt
 
   module _ (model : PureTree) (flat : Flat) (rules : Rules K) (stays : (n : ℕ) (c : ClusterAt) → rules.change n c ≡ Same c.now.info.table) where
-    boundary_leads : (time n : ℕ) (w : World K) (o : Option ClusterAt) → slice_get w.clusters n ≡ o → Leads w (boundary_of flat.tables rules time n o w)
-    boundary_leads time n w None at = all_refl w
-    boundary_leads time n w (Some c) at = if_leads w (is_over time c) _ _ (if_leads w (nat_eq w.left 0) _ _ tt changed) (all_refl w)
-      where
-        changed : Leads w (changed_by flat.tables time n c (rules.change (n + 1) c) w)
-        changed = subst (λ x. Leads w (changed_by flat.tables time n c x w)) (sym (stays (n + 1) c))
-            (one_goes w (with_cluster n (with_same time c.now.info.table c) w) n c (with_same time c.now.info.table c) at refl (boundary_goes time c))
-
-    fired_leads : (n m : ℕ) (o : Option ActorRow) (c : ClusterAt) (w : World K) → slice_get w.clusters n ≡ Some c → AllGoOn w (fired model flat rules n m o c w)
-    fired_leads n m None c w at = one_goes w _ n c (stepped c) at refl (step_goes c)
-    fired_leads n m (Some row) c w at = of_kind row.kind
-      where
-        of_kind : (kind : Actor) → AllGoOn w (fired_as model flat rules n m kind c w)
-        of_kind actor.Module = one_goes w _ n c (stepped c) at refl (step_goes c)
-        of_kind actor.Sampler = one_goes w _ n c _ at refl (goes_trans c (with_read m _ c) (stepped (with_read m _ c)) (read_goes m _ c) (step_goes (with_read m _ c)))
-        of_kind actor.Sink = one_goes w _ n c (stepped c) at refl (step_goes c)
-
-    firing_leads : (time n : ℕ) (w : World K) (o : Option ClusterAt) → slice_get w.clusters n ≡ o → Leads w (firing_of model flat rules time n o w)
-    firing_leads time n w None at = all_refl w
-    firing_leads time n w (Some c) at = if_leads w (is_entry_due time c (next_entry c)) _ _
-        (if_leads w (nat_eq w.left 0) _ _ tt (fired_leads n (actor_of_entry (next_entry c)) (slice_get flat.tables.actors (actor_of_entry (next_entry c))) c w at)) (all_refl w)
-
     pub firings_lead : (time n : ℕ) (w : World K) → Leads w (all_firings model flat rules time n w)
-    firings_lead time n w = turns_lead (λ k v. firing model flat rules time n v) (λ k v. firing_leads time n v (slice_get v.clusters n) refl) (plan_length (slice_get w.clusters n)) w
-
-    settled_leads : (w : World K) (o : Option (Settled K)) → Leads w (settled_as o w)
-    settled_leads w None = tt
-    settled_leads w (Some s) = record { same = refl; each = (all_refl w).each }
-
-    events_lead : (time : ℕ) (w : World K) → Leads w (events_of rules time w)
-    events_lead time w = if_leads w (is_written w.written || rules.event_side.is_due w.events time) (settled_as (rules.event_side.settle time w.written w.left w.events) w) (Going w)
-        (settled_leads w (rules.event_side.settle time w.written w.left w.events)) (all_refl w)
-
-    begin_goes : (w : World K) → AllGoOn w (at_begin w)
-    begin_goes w = record { same = refl; each = (all_refl w).each }
+    firings_lead time n w = leads_by w (all_firings model flat rules time n w) (leading.firings_by GoesOn goes_refl goes_trans model flat rules stays step_goes read_goes time n w)
 
     pub instant_leads : (time : ℕ) (w : World K) → Leads w (instant model flat rules time w)
-    instant_leads time w =
-        then_leads w (and_then (turns_to (boundary flat.tables rules time) (length w.clusters) (at_begin w)) (λ v. turns_to (all_firings model flat rules time) (length w.clusters) v)) (events_of rules time)
-        (then_leads w (turns_to (boundary flat.tables rules time) (length w.clusters) (at_begin w)) (λ v. turns_to (all_firings model flat rules time) (length w.clusters) v)
-        (leads_on w (at_begin w) (turns_to (boundary flat.tables rules time) (length w.clusters) (at_begin w)) (begin_goes w)
-        (turns_lead (boundary flat.tables rules time) (λ n v. boundary_leads time n v (slice_get v.clusters n) refl) (length w.clusters) (at_begin w)))
-        (λ v. turns_lead (all_firings model flat rules time) (λ n u. firings_lead time n u) (length w.clusters) v))
-        (λ v. events_lead time v)
+    instant_leads time w = leads_by w (instant model flat rules time w) (leading.instant_by GoesOn goes_refl goes_trans model flat rules stays step_goes read_goes boundary_goes time w)
 
     -- a state of the history that is on
     abbrev Lies : World K → State (World K) RunFault → Type 0
