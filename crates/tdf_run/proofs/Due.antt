@@ -38,7 +38,7 @@ all_more : (P : ℕ → Type 0) (k : ℕ) → ((i : ℕ) → i < k → P i) → 
 all_more P k low next i less = elim (cases_lt i k) [ inl under ↦ low i under | inr over ↦ (let e : k ≡ i = omega (arith, less, over) in subst P e next) ]
 
 -- a plan by offset
-by_offset : (entries : List Entry) (i j : ℕ) (x y : Entry) → AreByOffset entries → i ≤ j → slice_get entries i ≡ Some x → slice_get entries j ≡ Some y → x.offset ≤ y.offset
+pub by_offset : (entries : List Entry) (i j : ℕ) (x y : Entry) → AreByOffset entries → i ≤ j → slice_get entries i ≡ Some x → slice_get entries j ≡ Some y → x.offset ≤ y.offset
 by_offset entries i j x y sorted low at to =
     let s = sorted i j x low (slice_get_within entries j y to) in
     let a = ap (λ (z : Entry). z.offset) (get_or_from_slice_get entries i x x at) in

@@ -23,13 +23,13 @@ use Rattle.tdf_run.specs.Pass.{AreAt, AreReady, HasDone, HasEnded, HasIdled, Has
 use Rattle.tdf_schedule.specs.declared.entry.Entry.{Entry}
 use Rattle.tdf_tree.specs.Pure.{PureTree}
 
-same_or_not : (m n : ℕ) → (m ≡ n) ⊎ (m ≢ n)
+pub same_or_not : (m n : ℕ) → (m ≡ n) ⊎ (m ≢ n)
 same_or_not m n = elim (cases_lt m n) [
   | inl less ↦ inr (λ e. omega (arith, less, e))
   | inr over ↦ elim (cases_lt n m) [ inl more ↦ inr (λ e. omega (arith, more, e)) | inr rest ↦ inl (omega (arith, over, rest)) ]
 ]
 
-get_set_other : {A : Type 0} (xs : List A) (i j : ℕ) (x : A) → j ≢ i → slice_get (set xs i x) j ≡ slice_get xs j
+pub get_set_other : {A : Type 0} (xs : List A) (i j : ℕ) (x : A) → j ≢ i → slice_get (set xs i x) j ≡ slice_get xs j
 get_set_other [] i j x apart = refl
 get_set_other (y ∷ ys) zero zero x apart = absurd (apart refl)
 get_set_other (y ∷ ys) zero (suc j) x apart = refl
@@ -37,7 +37,7 @@ get_set_other (y ∷ ys) (suc i) zero x apart = refl
 get_set_other (y ∷ ys) (suc i) (suc j) x apart = get_set_other ys i j x (λ e. apart (ap suc e))
 
 -- what was set is there
-set_is : {A : Type 0} (xs : List A) (i j : ℕ) (x y : A) → i < length xs → j ≡ i → slice_get (set xs i x) j ≡ Some y → x ≡ y
+pub set_is : {A : Type 0} (xs : List A) (i j : ℕ) (x y : A) → i < length xs → j ≡ i → slice_get (set xs i x) j ≡ Some y → x ≡ y
 set_is xs i j x y inside same at = some_same x y (sym (get_set_same xs i x inside) ∙ ap (slice_get (set xs i x)) (sym same) ∙ at)
 
 -- the next offset, of a cluster that is due
