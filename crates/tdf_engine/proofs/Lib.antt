@@ -1,0 +1,14 @@
+pub mod Acting
+pub mod Boundaries
+pub mod Calm
+pub mod Crossed
+pub mod Endings
+pub mod Leasts
+pub mod Onward
+pub mod Parts
+pub mod Passed
+pub mod Rooms
+pub mod Sampled
+pub mod Samples
+pub mod Spending
+pub mod Whole

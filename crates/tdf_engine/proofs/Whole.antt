@@ -1,0 +1,167 @@
+-- An instant of all that runs is that of the history.
+use Rattle.std.proofs.Common.{◌≡◌, ◌∙◌, ℕ, ◌+◌, ◌-◌, ◌≤◌, true, List, [], ◌++◌, Option, Some, None, length, map, slice_get, refl, sym, ap, subst, arith}
+use Rattle.std.proofs.lemmas.Option.{slice_get_within}
+use Rattle.tdf_convert.specs.Emitted.{write_of as write_to}
+use Rattle.tdf_convert.specs.Sampled.{PlansGoByOffset}
+use Rattle.tdf_convert.specs.declared.outputs.Sent.{Sent}
+use Rattle.tdf_engine.proofs.Boundaries.{all_cross, crossing_is_spent}
+use Rattle.tdf_engine.proofs.Crossed.{Crosses, all_crosses, crossed_long}
+use Rattle.tdf_engine.proofs.Parts.{events_end, events_go, pass_sends, sorted_of}
+use Rattle.tdf_engine.proofs.Samples.{samples_here}
+use Rattle.tdf_engine.specs.Crossing.{CrossingOf, HaveCrossed, crossing_of}
+use Rattle.tdf_engine.specs.CrossingLaws.{CrossesAlong, world_crossed}
+use Rattle.tdf_engine.specs.Engine.{HasBeenSpent, HasHadInstant, IsEngineOf, IsReadyAt}
+use Rattle.tdf_engine.specs.InstantLaws.{InstantEndsSpent, InstantGoes, InstantGoesAlong, IsModelOf, IsNow}
+use Rattle.tdf_engine.specs.Sampling.{HaveSampled, sampling_at}
+use Rattle.tdf_engine.specs.Settling.{event_turn}
+use Rattle.tdf_engine.specs.declared.engine.Engine.{Engine}
+use Rattle.tdf_events.specs.Kernel.{side_of}
+use Rattle.tdf_events.specs.Side.{SideOf}
+use Rattle.tdf_exec.specs.Cluster.{ClusterOf}
+use Rattle.tdf_fixed.specs.declared.raw.Raw.{Raw}
+use Rattle.tdf_flat.specs.declared.model.Flat.{Flat}
+use Rattle.tdf_flow.proofs.Api.{get_inside}
+use Rattle.tdf_history.specs.Instant.{RunFault, all_firings, at_begin, boundary, events_of, instant}
+use Rattle.tdf_history.specs.World.{ClusterAt, Rules, World}
+use Rattle.tdf_instants.specs.History.{Step, Going, Past, and_then, turns_to}
+use Rattle.tdf_linked.proofs.Api.{emitted_to}
+use Rattle.tdf_run.proofs.Api.{pass_is_spent, passes_along}
+use Rattle.tdf_run.specs.At.{AreSettled, IsAt}
+use Rattle.tdf_run.specs.Firings.{settled_values, write_of}
+use Rattle.tdf_run.specs.Pass.{AreReady, HasPassedAll, HasPassedPart, HavePassed, PassAt, PassesAlong, RunOf, AreAt, pass_at, run_of, world_with}
+use Rattle.tdf_tree.specs.Pure.{PureTree}
+use Rattle.tdf_world.specs.Rules.{rules_of, signal_write}
+
+module _ (by : PlansGoByOffset) (model : PureTree) (flat : Flat) (time : ℕ) (w : World SideOf) (e : Engine) (left : ℕ) (m : IsModelOf model flat) (of : IsEngineOf flat e) (ready_at : IsReadyAt time e) (now : IsNow model flat w e left) where
+  abbrev rules : Rules SideOf
+  rules = rules_of model flat
+
+  abbrev x : CrossingOf
+  x = crossing_of e.clusters.items e.since.items left
+
+  abbrev crosses : ℕ → World SideOf → Step (World SideOf) RunFault
+  crosses = boundary flat.tables rules time
+
+  abbrev fires : ℕ → World SideOf → Step (World SideOf) RunFault
+  fires = all_firings model flat rules time
+
+  abbrev then_fires : Step (World SideOf) RunFault → Step (World SideOf) RunFault
+  then_fires s = and_then (and_then s (λ v. turns_to fires (length w.clusters) v)) (events_of rules time)
+
+  abbrev then_settles : Step (World SideOf) RunFault → Step (World SideOf) RunFault
+  then_settles s = and_then s (events_of rules time)
+
+  module _ (mid : CrossingOf) (crossed : HaveCrossed flat time (length e.clusters.items) x mid) where
+    crossing : CrossesAlong model flat rules time (length w.clusters) (at_begin w) mid
+    crossing = all_cross model flat rules (λ n c. refl) time (at_begin w) x m.checked now.at now.turns mid crossed
+
+    abbrev v : World SideOf
+    v = world_crossed (at_begin w) crossing.clusters mid.left
+
+    long : length mid.clusters ≡ length w.clusters
+    long = (crossed_long flat time x (length e.clusters.items) mid crossed).0 ∙ sym now.at.same
+
+    here : (n : ℕ) (c : ClusterOf) → slice_get mid.clusters n ≡ Some c → (h : ClusterAt) × (slice_get crossing.clusters n ≡ Some h) × IsAt model flat (n + 1) h c
+    here n c c_at =
+        let i = slice_get_within mid.clusters n c c_at in
+        let s = crossing.at.same in
+        let h = get_inside crossing.clusters n (omega (arith, i, s)) in
+        (h.0, h.1, crossing.at.each n h.0 c h.1 c_at)
+
+    begun_is : (n s t : ℕ) (c d : ClusterOf) → slice_get e.since.items n ≡ Some s → Crosses flat time c d s t → t ≤ time
+    begun_is n s t c d s_at (Crosses.Stays going d_is t_is) = let b = ready_at.begun n s s_at in omega (arith, b, t_is)
+    begun_is n s t c d s_at (Crosses.Begins d_is d_of t_is) = omega (arith, t_is)
+
+    begun : (n t : ℕ) → slice_get mid.since n ≡ Some t → t ≤ time
+    begun n t t_at =
+        let i = slice_get_within mid.since n t t_at in
+        let l = crossed_long flat time x (length e.clusters.items) mid crossed in
+        let l0 = l.0 in let l1 = l.1 in
+        let s = of.since in
+        let c = get_inside mid.clusters n (omega (arith, i, l0, l1, s)) in
+        let a = all_crosses flat time x (length e.clusters.items) mid crossed n t c.0 c.1 t_at (omega (arith, i, l1, s)) in
+        begun_is n a.1 t a.0 c.0 a.3 a.4
+
+    module _ (inputs : List (List Raw)) (sampled : HaveSampled (sampling_at time mid.since mid.clusters e.links.items e.kernel.values) (length mid.clusters) e.inputs.items inputs) where
+      abbrev pass : PassAt
+      pass = pass_at time mid.since inputs
+
+      ready : AreReady flat.tables pass (settled_values rules v) mid.clusters
+      ready = record {
+        sorted = λ n c c_at. sorted_of by flat c (here n c c_at).2.of;
+        begun = begun;
+        settled = λ n s c i c_at s_at i_at due.
+            subst (λ (values : List Raw). AreSettled flat.tables values (time - s) c i) (ap (λ (side : SideOf). side.values) now.side)
+            (samples_here model flat m.sound m.is e of time mid.since mid.clusters inputs (crossed_long flat time x (length e.clusters.items) mid crossed).0 sampled n s c i c_at s_at i_at
+            (here n c c_at).2.of (here n c c_at).2.number_is due).0;
+      }
+
+      abbrev run : RunOf
+      run = run_of mid.clusters e.outputs mid.left
+
+      after_crossing : instant model flat rules time w ≡ then_settles (turns_to fires (length w.clusters) v)
+      after_crossing = ap then_fires crossing.goes
+
+      module _ (y : RunOf) (all : HasPassedAll flat pass run y) where
+        passing : PassesAlong model flat rules pass (length w.clusters) v y all.sent
+        passing = subst (λ n. PassesAlong model flat rules pass n v y all.sent) long
+            (passes_along model flat rules pass v run m.checked m.is m.limits crossing.at refl ready (length mid.clusters) y all.sent all.passed)
+
+        abbrev u : World SideOf
+        u = world_with flat.tables v passing.clusters y.left all.sent
+
+        after_firing : instant model flat rules time w ≡ events_of rules time u
+        after_firing = after_crossing ∙ ap then_settles passing.goes
+
+        sends : y.outputs.sent ≡ all.sent
+        sends = (pass_sends flat pass run (length mid.clusters) y all.sent all.passed).0 ∙ ap (λ l. l ++ all.sent) of.none_sent
+
+        writes : map (write_to e.sinks.list.items) y.outputs.sent ≡ map signal_write (map (write_of flat.tables) all.sent)
+        writes = ap (map (write_to e.sinks.list.items)) sends
+            ∙ (emitted_to model flat e.sinks.list.items all.sent m.sound m.is of.sinks (pass_sends flat pass run (length mid.clusters) y all.sent all.passed).1).0
+
+        event : (o : Option (SideOf × ℕ)) → event_turn model flat time (map (write_to e.sinks.list.items) y.outputs.sent) (side_of e.kernel) y.left ≡ o
+            → event_turn model flat time (map signal_write u.written) u.events u.left ≡ o
+        event o is = sym (ap (λ l. event_turn model flat time l (side_of e.kernel) y.left) writes ∙ ap (λ s. event_turn model flat time (map signal_write u.written) s y.left) now.side) ∙ is
+
+  goes : (f : Engine) (rest : ℕ) (had : HasHadInstant flat time e f left rest) → InstantGoes model flat time w e f left rest had
+  goes f rest had =
+      let y = run_of f.clusters.items had.outputs had.between in
+      let p = passing had.crossed had.boundaries f.inputs.items had.sampled y had.firings in
+      let u = world_with flat.tables (world_crossed (at_begin w) (crossing had.crossed had.boundaries).clusters had.crossed.left) p.clusters had.between had.firings.sent in
+      record {
+        crossing = crossing had.crossed had.boundaries;
+        ready = ready had.crossed had.boundaries f.inputs.items had.sampled;
+        passing = p;
+        world = record u { events = side_of f.kernel; left = rest };
+        same = refl;
+        now = record {
+          at = subst (λ since. AreAt model flat since p.clusters f.clusters.items) (sym had.since) p.at;
+          side = refl;
+          turns = refl;
+        };
+        goes = after_firing had.crossed had.boundaries f.inputs.items had.sampled y had.firings
+            ∙ events_go model flat time u (side_of f.kernel, rest)
+            (event had.crossed had.boundaries f.inputs.items had.sampled y had.firings (Some (side_of f.kernel, rest)) (had.events model m.checked));
+      }
+
+  spent : HasBeenSpent flat time e left → (v : World SideOf) × (instant model flat rules time w ≡ Past v)
+  spent (HasBeenSpent.InBoundaries mid none) =
+      let s = crossing_is_spent model flat rules (λ n c. refl) time (at_begin w) x m.checked now.at now.turns mid none in
+      (s.0, ap then_fires s.1)
+  spent (HasBeenSpent.InFirings mid inputs y crossed sampled part) =
+      let p = pass_is_spent model flat rules (pass_at time mid.since inputs) (world_crossed (at_begin w) (crossing mid crossed).clusters mid.left) (run_of mid.clusters e.outputs mid.left) m.checked m.is m.limits
+      (crossing mid crossed).at refl (ready mid crossed inputs sampled) part.number y part.to in
+      (_, after_crossing mid crossed inputs sampled ∙ ap (λ n. then_settles (turns_to fires n (world_crossed (at_begin w) (crossing mid crossed).clusters mid.left))) (sym (long mid crossed) ∙ sym (crossing mid crossed).at.same) ∙ ap then_settles p.ends)
+  spent (HasBeenSpent.InEvents mid inputs y crossed sampled all none) = (
+    _,
+    after_firing mid crossed inputs sampled y all
+        ∙ events_end model flat time (world_with flat.tables (world_crossed (at_begin w) (crossing mid crossed).clusters mid.left) (passing mid crossed inputs sampled y all).clusters y.left all.sent)
+        (event mid crossed inputs sampled y all None (none model m.checked)),
+  )
+
+pub instant_goes : PlansGoByOffset → InstantGoesAlong
+instant_goes by model flat time w e f left rest m of ready now had = goes by model flat time w e left m of ready now f rest had
+
+pub instant_ends : PlansGoByOffset → InstantEndsSpent
+instant_ends by model flat time w e left m of ready now spent_in = spent by model flat time w e left m of ready now spent_in

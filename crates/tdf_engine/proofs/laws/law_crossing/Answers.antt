@@ -1,0 +1,8 @@
+use Rattle.tdf_engine.proofs.Boundaries.{crossing_ends_spent, crossing_goes_along}
+use Rattle.tdf_engine.proofs.laws.law_crossing.Goals as goal
+
+pub returns-clause-along : goal.returns-clause-along
+returns-clause-along c = crossing_goes_along
+
+pub returns-clause-spent : goal.returns-clause-spent
+returns-clause-spent c = crossing_ends_spent

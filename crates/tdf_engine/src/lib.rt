@@ -1,0 +1,20 @@
+//! The instants of a run: all that runs of a model, and what it does at a time.
+//!
+//! - `crossing`: the boundaries of all clusters at a time.
+//! - `sampling`: the samplers that are due get the values of their signals.
+//! - `settling`: the event part.
+//! - `times`: the next time at which something is due.
+//! - `engine`: all that runs, and its instants.
+//! - `laws`: what holds of the definitions.
+#![tactic(auto)]
+
+mod crossing;
+mod engine;
+mod laws;
+mod sampling;
+mod settling;
+mod times;
+
+pub use crossing::{Pass, cross_all};
+pub use engine::Engine;
+pub use laws::{law_crossing, law_instant};
