@@ -1,0 +1,4 @@
+pub mod Dues
+pub mod Keeping
+pub mod Leading
+pub mod Staying

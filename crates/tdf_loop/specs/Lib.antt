@@ -1,0 +1,3 @@
+pub mod Laws
+pub mod Ongoing
+pub mod Staying

@@ -1,0 +1,26 @@
+//! What holds of the loop of instants: each function here only carries its clauses.
+
+ghost use Rattle.tdf_loop.specs.Laws.{NextIsNext};
+ghost use Rattle.tdf_loop.specs.Ongoing.{InstantLeadsOn, InstantSpends, StopIsReached};
+ghost use Rattle.tdf_loop.specs.Staying.{CellsStayBelow};
+
+use tdf_engine::law_instant;
+
+/// The time at which something is next due in all that runs is the next time of the history.
+pub fn law_next()
+    ensures { NextIsNext }
+{}
+
+/// From one instant of a run to the next, and how it ends: as the history does.
+pub fn law_going()
+    ensures leads { InstantLeadsOn }
+    ensures spends { InstantSpends }
+    ensures reached { StopIsReached }
+{
+    law_instant();
+}
+
+/// Later instants change no cell of a run below a mark that no period began before.
+pub fn law_staying()
+    ensures { CellsStayBelow }
+{}

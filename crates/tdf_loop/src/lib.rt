@@ -1,0 +1,6 @@
+//! The loop of instants of a run.
+#![tactic(auto)]
+
+mod laws;
+
+pub use laws::{law_going, law_next, law_staying};
