@@ -77,7 +77,8 @@ pub record CanFireAll (flat : Flat) (time : ℕ) (e : Engine) (left : ℕ) : Typ
   pub sample : CanSample (sampling_at time e.since.items e.clusters.items e.links.items
       e.kernel.values) e.inputs.items
   pub pass : (inputs : List (List Raw)) → HaveSampled (sampling_at time e.since.items
-      e.clusters.items e.links.items e.kernel.values) (length e.clusters.items) e.inputs.items inputs
+      e.clusters.items e.links.items e.kernel.values) (length e.clusters.items)
+      e.inputs.items inputs
       → CanPass flat (pass_at time e.since.items inputs)
       (run_of e.clusters.items e.outputs left)
 

@@ -3,6 +3,9 @@ pub mod Crossing
 pub mod CrossingLaws
 pub mod Engine
 pub mod InstantLaws
+pub mod Making
 pub mod Sampling
 pub mod Settling
+pub mod Telling
 pub mod Times
+pub mod machine

@@ -103,7 +103,8 @@ pub fn cross_all(
     left: &mut u64,
 ) -> Result<Pass, Memory>
     requires sound { IsSoundFlat flat.now }
-    requires can { CanCross flat.now time (crossing_of clusters.old.items since.old.items left.old) }
+    requires can { CanCross flat.now time
+        (crossing_of clusters.old.items since.old.items left.old) }
     ensures all { result ≡ Ok Done → HaveCrossed flat.now time (length clusters.old.items)
         (crossing_of clusters.old.items since.old.items left.old)
         (crossing_of clusters.new.items since.new.items left.new) }

@@ -11,7 +11,8 @@ pub fn law_crossing()
     ensures spent { CrossingEndsSpent }
 {}
 
-/// An instant of all that runs is that of the history; where the turns are too few, the history is spent.
+/// An instant of all that runs is that of the history; where the turns are too few, the history is
+/// spent.
 pub fn law_instant()
     ensures along { InstantGoesAlong }
     ensures spent { InstantEndsSpent }

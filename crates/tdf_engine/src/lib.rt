@@ -5,14 +5,18 @@
 //! - `settling`: the event part.
 //! - `times`: the next time at which something is due.
 //! - `engine`: all that runs, and its instants.
+//! - `making`: all that runs, before its first instant.
+//! - `telling`: what a run tells of itself between two instants.
 //! - `laws`: what holds of the definitions.
 #![tactic(auto)]
 
 mod crossing;
 mod engine;
 mod laws;
+mod making;
 mod sampling;
 mod settling;
+mod telling;
 mod times;
 
 pub use crossing::{Pass, cross_all};
