@@ -1,5 +1,5 @@
 -- Why the parts of an instant can be done one after the other, and what holds after them.
-use Rattle.std.proofs.Common.{◌≡◌, ◌⊎◌, ◌∙◌, ◌||◌, ℕ, zero, suc, ◌+◌, ◌-◌, ◌<◌, ◌≤◌, Bool, true, false, List, [], ◌++◌, Option, Some, None, length, map, slice_get, inl, inr, refl, sym, ap, subst, arith}
+use Rattle.std.proofs.Common.{◌≡◌, ◌∙◌, ℕ, ◌+◌, ◌-◌, ◌≤◌, List, [], ◌++◌, Option, Some, length, map, slice_get, refl, sym, ap, subst, arith}
 use Rattle.std.proofs.lemmas.List.{length-map}
 use Rattle.std.proofs.lemmas.Option.{slice_get_within}
 use Rattle.std.specs.List.{All}
@@ -16,7 +16,7 @@ use Rattle.tdf_engine.proofs.Rooms.{room_for_pass, rooms_kept}
 use Rattle.tdf_engine.proofs.Samples.{samples_here}
 use Rattle.tdf_engine.specs.Crossing.{CanCross, CrossingOf, HaveCrossed, crossing_of}
 use Rattle.tdf_engine.specs.Engine.{CanFireAll, HaveRooms, IsEngineOf, IsInProgress, IsReadyAt}
-use Rattle.tdf_engine.specs.Sampling.{CanSample, HaveSampled, sampling_at}
+use Rattle.tdf_engine.specs.Sampling.{HaveSampled, sampling_at}
 use Rattle.tdf_engine.specs.Settling.{CanSettle, IsBefore}
 use Rattle.tdf_engine.specs.Times.{due_time}
 use Rattle.tdf_engine.specs.declared.engine.Engine.{Engine}
@@ -24,7 +24,7 @@ use Rattle.tdf_events.specs.Delta.{AreWritesOf}
 use Rattle.tdf_events.specs.Kernel.{IsKernelOf, side_of}
 use Rattle.tdf_events.specs.Runnable.{IsRunnable, signal_formats}
 use Rattle.tdf_exec.proofs.Api.{moved_sent, moved_traced}
-use Rattle.tdf_exec.specs.Cluster.{ClusterOf, is_due}
+use Rattle.tdf_exec.specs.Cluster.{ClusterOf}
 use Rattle.tdf_exec.specs.Gained.{IsSentOf, sent_size, size_due, traced_size}
 use Rattle.tdf_exec.specs.Played.{IsMoved}
 use Rattle.tdf_exec.specs.Starts.{IsSoundFlat}

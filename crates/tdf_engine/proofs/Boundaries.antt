@@ -1,5 +1,5 @@
 -- The boundaries of all clusters at one time, one after the other.
-use Rattle.std.proofs.Common.{◌≡◌, ◌≢◌, ◌⊎◌, ◌∙◌, ◌&&◌, ℕ, zero, suc, ◌+◌, ◌-◌, ◌<◌, ◌≤◌, Bool, true, false, List, [], Option, Some, None, set, length, length-set, nat_eq, if◌then◌else◌, slice_get, inl, inr, refl, sym, ap, subst, arith, add-one}
+use Rattle.std.proofs.Common.{◌≡◌, ◌≢◌, ◌⊎◌, ◌∙◌, ◌&&◌, ℕ, zero, suc, ◌+◌, ◌-◌, ◌<◌, ◌≤◌, Bool, true, false, List, Some, set, length, length-set, nat_eq, if◌then◌else◌, slice_get, inl, inr, refl, sym, ap, subst, arith, add-one}
 use Rattle.std.specs.Prelude.{is_none}
 use Rattle.std.proofs.lemmas.Bool.{cases_lt, eq-eqb, ne_eqb}
 use Rattle.std.proofs.lemmas.Option.{slice_get_past, slice_get_within}
@@ -8,14 +8,14 @@ use Rattle.tdf_engine.specs.CrossingLaws.{Becomes, CrossesAlong, CrossingEndsSpe
 use Rattle.tdf_exec.specs.Cluster.{ClusterOf, next_offset, offset_in}
 use Rattle.tdf_expr.specs.Checked.{IsCheckedOf}
 use Rattle.tdf_flat.specs.declared.model.Flat.{Flat}
-use Rattle.tdf_flow.proofs.Api.{get_inside, none_some, some_same}
+use Rattle.tdf_flow.proofs.Api.{get_inside, some_same}
 use Rattle.tdf_history.specs.Instant.{RunFault, boundary, boundary_of, changed_by, is_over, with_cluster}
 use Rattle.tdf_history.specs.World.{ClusterAt, Rules, World}
 use Rattle.tdf_instants.proofs.Api.{turns_more, turns_none, turns_past}
 use Rattle.tdf_instants.specs.History.{Step, Going, Past, turns_to}
-use Rattle.tdf_run.proofs.Api.{boundary_at, get_set_other, get_set_same, same_or_not, set_is, set_own}
+use Rattle.tdf_run.proofs.Api.{boundary_at, get_set_other, same_or_not, set_is, set_own}
 use Rattle.tdf_run.specs.At.{IsAt}
-use Rattle.tdf_run.specs.Boundary.{HasPassedBoundary, after_boundary}
+use Rattle.tdf_run.specs.Boundary.{after_boundary}
 use Rattle.tdf_run.specs.Pass.{AreAt}
 use Rattle.tdf_tree.specs.Pure.{PureTree}
 

@@ -1,5 +1,5 @@
 -- One turn of the boundaries, by what a cluster did in it.
-use Rattle.std.proofs.Common.{◌≡◌, ◌∙◌, ℕ, suc, ◌+◌, ◌-◌, ◌<◌, ◌≤◌, Bool, true, false, List, Some, length, slice_get, slice_index_or, slice_set, refl, sym, ap, subst, arith, add-one}
+use Rattle.std.proofs.Common.{◌≡◌, ◌∙◌, ℕ, suc, ◌+◌, ◌<◌, ◌≤◌, Bool, true, false, Some, length, slice_get, slice_index_or, slice_set, refl, sym, ap, subst, arith, add-one}
 use Rattle.std.proofs.lemmas.Option.{slice_get-get_or, slice_get_within}
 use Rattle.tdf_engine.proofs.Boundaries.{still_to_come}
 use Rattle.tdf_engine.specs.Crossing.{CanCross, CrossingOf, EndingAt, HasCrossed, HasEnding, HasGoneOn, HasNoTurn, HaveCrossed, IsEndingOf, crossing_of, ending_at, is_ending}

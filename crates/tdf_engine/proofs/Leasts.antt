@@ -1,9 +1,9 @@
 -- The least time at which something is next due.
-use Rattle.std.proofs.Common.{◌≡◌, ◌≢◌, ◌⊎◌, ◌∙◌, ℕ, zero, suc, ◌+◌, ◌-◌, ◌<◌, ◌≤◌, ◌^◌, true, List, Some, None, length, min, slice_get, inl, inr, refl, sym, ap, subst, arith}
+use Rattle.std.proofs.Common.{◌≡◌, ◌∙◌, ℕ, ◌+◌, ◌<◌, ◌≤◌, true, List, Some, None, length, slice_get, inl, inr, refl, sym, ap, arith}
 use Rattle.tdf_calendar.specs.Sets.{count_on}
 use Rattle.tdf_engine.proofs.Calm.{due_next}
 use Rattle.tdf_engine.specs.Settling.{IsBefore}
-use Rattle.tdf_engine.specs.Times.{IsDueTime, IsLeastDue, IsNextDue, IsRunning, due_time}
+use Rattle.tdf_engine.specs.Times.{IsLeastDue, IsNextDue, IsRunning, due_time}
 use Rattle.tdf_events.specs.Delta.{is_idle}
 use Rattle.tdf_events.specs.Kernel.{IsNextOf}
 use Rattle.tdf_events.specs.Side.{SideOf}

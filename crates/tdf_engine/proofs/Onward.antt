@@ -1,7 +1,7 @@
 -- What is next due in a cluster, from one instant to the next.
-use Rattle.std.proofs.Common.{◌≡◌, ◌⊎◌, ◌∙◌, ◌&&◌, ℕ, zero, suc, ◌+◌, ◌-◌, ◌<◌, ◌≤◌, Bool, true, false, List, Option, Some, None, length, nat_eq, slice_get, inl, inr, refl, sym, ap, subst, arith}
+use Rattle.std.proofs.Common.{◌≡◌, ◌⊎◌, ◌∙◌, ◌&&◌, ℕ, ◌+◌, ◌-◌, ◌<◌, ◌≤◌, true, false, List, Option, Some, None, length, nat_eq, slice_get, inl, inr, refl, sym, ap, subst, arith}
 use Rattle.std.specs.Prelude.{is_none}
-use Rattle.std.proofs.lemmas.Bool.{cases_lt, eq-eqb, eqb-true, ne_eqb}
+use Rattle.std.proofs.lemmas.Bool.{cases_lt, eq-eqb, eqb-true}
 use Rattle.std.proofs.lemmas.Option.{get_or_from_slice_get, slice_get_past, slice_get_within}
 use Rattle.std.specs.List.{All}
 use Rattle.tdf_convert.specs.Sampled.{AreByOffset}
@@ -11,11 +11,10 @@ use Rattle.tdf_engine.specs.Crossing.{is_ending}
 use Rattle.tdf_engine.specs.Engine.{IsInProgress}
 use Rattle.tdf_engine.specs.Times.{due_offset, due_time}
 use Rattle.tdf_exec.specs.Cluster.{ClusterOf, is_due, is_offset, next_offset, offset_in}
-use Rattle.tdf_exec.specs.Crossing.{HasNoChanges, at_place}
-use Rattle.tdf_exec.specs.Made.{IsClusterOf}
+use Rattle.tdf_exec.specs.Crossing.{HasNoChanges}
 use Rattle.tdf_exec.specs.Played.{AreDone}
 use Rattle.tdf_flat.specs.declared.model.Flat.{Flat}
-use Rattle.tdf_flow.proofs.Api.{get_inside, some_same}
+use Rattle.tdf_flow.proofs.Api.{get_inside}
 use Rattle.tdf_run.proofs.Api.{by_offset, true_false}
 use Rattle.tdf_schedule.specs.declared.entry.Entry.{Entry}
 

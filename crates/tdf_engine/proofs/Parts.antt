@@ -1,39 +1,24 @@
 -- The three parts of an instant, one after the other.
-use Rattle.std.proofs.Common.{◌≡◌, ◌⊎◌, ◌∙◌, ◌||◌, ℕ, zero, suc, ◌+◌, ◌-◌, ◌<◌, ◌≤◌, Bool, true, false, not, List, [], ◌∷◌, ◌++◌, Option, Some, None, option_map, length, map, nat_eq, if◌then◌else◌, slice_get, inl, inr, refl, sym, ap, subst, arith, append-nil}
+use Rattle.std.proofs.Common.{◌≡◌, ◌∙◌, ◌||◌, ℕ, zero, suc, Bool, true, false, not, List, [], ◌∷◌, ◌++◌, Option, Some, None, option_map, length, map, nat_eq, if◌then◌else◌, refl, sym, ap, subst, arith, append-nil}
 use Rattle.std.proofs.lemmas.Bool.{ne_eqb}
 use Rattle.std.proofs.lemmas.List.{append_assoc}
 use Rattle.std.proofs.lemmas.List.Elements.{All-append}
-use Rattle.std.proofs.lemmas.Option.{slice_get_within}
 use Rattle.std.specs.List.{All}
-use Rattle.tdf_convert.specs.Emitted.{write_of as write_to}
 use Rattle.tdf_convert.specs.Outputs.{OutputsOf}
 use Rattle.tdf_convert.specs.Sampled.{AreByOffset, PlansGoByOffset}
 use Rattle.tdf_convert.specs.declared.outputs.Sent.{Sent}
-use Rattle.tdf_convert.specs.declared.writes.SignalWrite.{SignalWrite}
-use Rattle.tdf_engine.proofs.Boundaries.{all_cross, crossing_is_spent}
-use Rattle.tdf_engine.specs.Crossing.{CrossingOf, HaveCrossed, crossing_of}
-use Rattle.tdf_engine.specs.CrossingLaws.{Becomes, CrossesAlong, world_crossed}
-use Rattle.tdf_engine.specs.Engine.{HasBeenSpent, HasHadInstant, IsEngineOf, IsReadyAt}
-use Rattle.tdf_engine.specs.InstantLaws.{InstantEndsSpent, InstantGoes, InstantGoesAlong, IsModelOf, IsNow}
-use Rattle.tdf_engine.specs.Sampling.{HaveSampled, sampling_at}
 use Rattle.tdf_engine.specs.Settling.{event_turn}
-use Rattle.tdf_engine.specs.declared.engine.Engine.{Engine}
 use Rattle.tdf_events.specs.Delta.{event_part}
-use Rattle.tdf_events.specs.Kernel.{side_of}
 use Rattle.tdf_events.specs.Side.{SideOf}
-use Rattle.tdf_exec.specs.Cluster.{ClusterOf, is_due}
+use Rattle.tdf_exec.specs.Cluster.{ClusterOf}
 use Rattle.tdf_exec.specs.Gained.{IsSentOf}
 use Rattle.tdf_exec.specs.Made.{IsClusterOf}
 use Rattle.tdf_flat.specs.declared.model.Flat.{Flat}
-use Rattle.tdf_flow.proofs.Api.{get_inside, some_same}
-use Rattle.tdf_history.specs.Instant.{RunFault, all_firings, at_begin, boundary, events_of, instant, is_written, settled_as}
-use Rattle.tdf_history.specs.World.{ClusterAt, Rules, Settled, SinkWrite, World}
-use Rattle.tdf_instants.specs.History.{Step, Going, Past, and_then, turns_to}
-use Rattle.tdf_linked.proofs.Api.{emitted_to, settled_inputs}
-use Rattle.tdf_run.proofs.Api.{passes_along, pass_is_spent}
-use Rattle.tdf_run.specs.At.{AreSettled}
-use Rattle.tdf_run.specs.Firings.{settled_values, write_of}
-use Rattle.tdf_run.specs.Pass.{AreAt, AreReady, HasPassedAll, HasPassedPart, HasTurn, HavePassed, PassAt, PassesAlong, RunOf, pass_at, run_of, world_with}
+use Rattle.tdf_flow.proofs.Api.{some_same}
+use Rattle.tdf_history.specs.Instant.{RunFault, events_of, is_written, settled_as}
+use Rattle.tdf_history.specs.World.{SinkWrite, World}
+use Rattle.tdf_instants.specs.History.{Step, Going, Past}
+use Rattle.tdf_run.specs.Pass.{HasTurn, HavePassed, PassAt, RunOf}
 use Rattle.tdf_tree.specs.Pure.{PureTree}
 use Rattle.tdf_world.specs.Rules.{is_side_due, rules_of, settle, signal_write}
 

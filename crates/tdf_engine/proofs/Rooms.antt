@@ -1,5 +1,5 @@
 -- Room for what all clusters give in a pass.
-use Rattle.std.proofs.Common.{◌≡◌, ◌∙◌, ℕ, zero, suc, ◌+◌, ◌-◌, ◌<◌, ◌≤◌, Bool, true, false, List, [], ◌∷◌, Option, Some, length, drop, if◌then◌else◌, slice_get, refl, sym, ap, subst, arith}
+use Rattle.std.proofs.Common.{◌≡◌, ◌∙◌, ℕ, suc, ◌-◌, ◌≤◌, Bool, true, false, List, [], ◌∷◌, Option, Some, length, drop, if◌then◌else◌, slice_get, refl, sym, arith}
 use Rattle.std.proofs.lemmas.List.Sums.{sum_by-cons}
 use Rattle.std.specs.Prelude.{sum}
 use Rattle.tdf_engine.specs.Engine.{HaveRooms}
@@ -7,7 +7,7 @@ use Rattle.tdf_exec.proofs.Api.{due_left}
 use Rattle.tdf_exec.specs.Cluster.{ClusterOf, is_due}
 use Rattle.tdf_exec.specs.Gained.{size_due}
 use Rattle.tdf_exec.specs.declared.runners.Runner.{Runner}
-use Rattle.tdf_run.specs.Pass.{pass_size, turn_size}
+use Rattle.tdf_run.specs.Pass.{pass_size}
 
 turn_few : (size : Option Runner → ℕ) (time s m : ℕ) (c : ClusterOf) (b : Bool) → size_due size c.runners (time - s) c.entries ≤ m
     → (if b then size_due size c.runners (time - s) (drop c.place c.entries) else 0) ≤ m

@@ -1,8 +1,8 @@
 -- How an instant ends where the turns are too few, by what its parts did.
-use Rattle.std.proofs.Common.{◌≡◌, ◌∙◌, ℕ, ◌+◌, List, [], None, Ok, Err, Result, length, map, sym, ap, subst}
+use Rattle.std.proofs.Common.{◌≡◌, ℕ, None, Ok, Err, Result, length, map, ap, subst}
 use Rattle.tdf_base.specs.declared.memory.Memory.{Memory}
 use Rattle.tdf_convert.specs.Emitted.{write_of as write_to}
-use Rattle.tdf_engine.specs.Crossing.{HasNoTurn, HaveCrossed, crossing_of}
+use Rattle.tdf_engine.specs.Crossing.{HaveCrossed, crossing_of}
 use Rattle.tdf_engine.specs.Engine.{HasBeenSpent}
 use Rattle.tdf_engine.specs.Sampling.{HaveSampled, sampling_at}
 use Rattle.tdf_engine.specs.Settling.{event_turn}

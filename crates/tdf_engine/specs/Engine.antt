@@ -1,7 +1,6 @@
 -- All that runs of a model, between two instants.
 -- Source: own.
-use Rattle.std.specs.List.{sum_by}
-use Rattle.std.specs.Prelude.{◌≡◌, ◌<◌, ◌≤◌, ◌+◌, ◌-◌, ℕ, false, true, List, [], Some, length, map}
+use Rattle.std.specs.Prelude.{◌≡◌, ◌<◌, ◌≤◌, ◌+◌, ℕ, false, List, [], Some, length, map}
 use Rattle.std.specs.Prelude.{None, Option, slice_get, sum}
 use Rattle.tdf_convert.specs.Emitted.{write_of}
 use Rattle.tdf_convert.specs.Links.{samplers_in}

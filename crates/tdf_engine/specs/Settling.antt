@@ -1,7 +1,7 @@
 -- The event part of an instant, as the kernel does it and as the history has it.
 -- Source: IEEE 1666-2011, 4.2.1.2 to 4.2.1.5.
-use Rattle.std.specs.Prelude.{◌≡◌, ◌<◌, ℕ, ◌+◌, ◌^◌, ◌||◌, Bool, true, false, not, nat_eq}
-use Rattle.std.specs.Prelude.{if◌then◌else◌, List, length, Option, Some, None}
+use Rattle.std.specs.Prelude.{◌≡◌, ◌<◌, ℕ, ◌||◌, true, not, nat_eq}
+use Rattle.std.specs.Prelude.{if◌then◌else◌, List, length, Option, Some}
 use Rattle.tdf_convert.specs.declared.writes.SignalWrite.{SignalWrite}
 use Rattle.tdf_events.specs.Delta.{AreWritesOf, IsNoneBefore, event_part, is_idle}
 use Rattle.tdf_events.specs.Kernel.{IsKernelOf, KernelOf, side_of}

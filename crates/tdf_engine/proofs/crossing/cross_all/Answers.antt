@@ -1,4 +1,4 @@
-use Rattle.std.proofs.Common.{◌≡◌, ◌∙◌, ◌<◌, ◌≤◌, Ok, length, arith, ap, subst}
+use Rattle.std.proofs.Common.{◌≡◌, ◌∙◌, Ok, length, arith, ap, subst}
 use Rattle.tdf_engine.proofs.Endings.{begun_now, crossed_more, going_now, no_turn, nothing_crossed, of_now, still_now}
 use Rattle.tdf_engine.specs.Crossing.{HaveCrossed, crossing_of}
 use Rattle.tdf_engine.proofs.crossing.cross_all.Goals as goal

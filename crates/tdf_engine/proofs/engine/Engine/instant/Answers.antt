@@ -1,4 +1,4 @@
-use Rattle.std.proofs.Common.{◌≡◌, ◌∙◌, Ok, ap, map}
+use Rattle.std.proofs.Common.{◌∙◌, Ok, ap, map}
 use Rattle.tdf_convert.specs.Emitted.{write_of as write_to}
 use Rattle.tdf_engine.proofs.Acting.{before_events, can_fire, can_settle, engine_after, ready_after, writes_room}
 use Rattle.tdf_engine.proofs.Calm.{calm_after}
