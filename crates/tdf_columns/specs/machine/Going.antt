@@ -5,7 +5,7 @@ use Rattle.std.specs.Prelude.{length, slice_get}
 use Rattle.tdf_columns.specs.Calls.{Holds, TakesSamples}
 use Rattle.tdf_columns.specs.Tracked.{TrackedOf, TrackingOf, labels, sinces}
 use Rattle.tdf_columns.specs.Tracks.{AreTracked, Tracks, cells_by, known_by}
-use Rattle.tdf_columns.specs.Traces.{IsTrackingOf, with_samples}
+use Rattle.tdf_columns.specs.Traces.{AreTraced, IsTrackingOf, with_samples}
 use Rattle.tdf_convert.specs.declared.outputs.Traced.{Traced}
 use Rattle.tdf_fixed.specs.declared.raw.Raw.{Raw}
 use Rattle.tdf_rows.specs.Positions.{Span}
@@ -52,6 +52,7 @@ pub record IsNotingRest (count end : ℕ) (list : List TrackedOf) (before after 
 pub record AddsTrace (row : TraceRow) (column : ℕ) (old new : List TrackedOf) : Type 0 where
   pub of : (traces : List TraceRow) → length traces ≡ column → IsTrackingOf traces old
       → IsTrackingOf (traces ++ row ∷ []) new
+  pub traced : (traces : List TraceRow) → AreTraced traces old → AreTraced (traces ++ row ∷ []) new
   pub fresh : AreTracked (λ signal. []) (λ signal. []) old
       → AreTracked (λ signal. []) (λ signal. []) new
 
@@ -60,6 +61,7 @@ pub record IsAdding (traces : List TraceRow) (bound : ℕ) (tracking : TrackingO
   pub width : tracking.width ≡ length traces
   pub signals : tracking.signals ≡ bound
   pub of : IsTrackingOf traces tracking.list
+  pub traced : AreTraced traces tracking.list
   pub fresh : AreTracked (λ signal. []) (λ signal. []) tracking.list
 
 -- a signal with one column, before its first period
