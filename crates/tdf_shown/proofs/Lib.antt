@@ -1,0 +1,7 @@
+mod Beginning
+mod Giving
+mod Items
+mod Spans
+mod Noting
+mod Pushing
+mod Telling

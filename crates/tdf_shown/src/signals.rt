@@ -18,7 +18,7 @@ ghost use Rattle.std.specs.Prelude.{◌≡◌, ◌+◌, ◌<◌, Some, length, n
 ghost use Rattle.tdf_columns.specs.Traces.{HasTrace};
 ghost use Rattle.tdf_history.specs.Cells.{driver_of_row};
 ghost use Rattle.tdf_shown.specs.Signals.{AreTold, AreTracedSignals, IsDriverOf, IsListed};
-ghost use Rattle.tdf_shown.specs.machine.Pushing.{AreSignalsTo};
+ghost use Rattle.tdf_shown.specs.machine.Pushing.{AreSignalsTo, driver_of_trace};
 
 use std::alloc::Global;
 use tdf_base::Memory;
@@ -49,6 +49,17 @@ fn listed(flat: &Flat, signal: u32, port: u32) -> TracedSignal
     }
 }
 
+/// The port of a module that drives the signal of a trace, if the trace is one of samples.
+fn driver_of(flat: &Flat, row: &TraceRow) -> Option<u32>
+    requires { row.now.event ≡ false → row.now.signal < length flat.now.tables.signals }
+    ensures { result ≡ driver_of_trace flat.now.tables row.now }
+{
+    if row.event {
+        return None;
+    }
+    flat.tables.signals[row.signal as usize].driver
+}
+
 /// The signal of a trace is listed, if it is one of samples that a port of a module drives.
 fn push_signal(flat: &Flat, column: usize, list: &mut Vec<TracedSignal>) -> Result<(), Memory>
     requires told { AreTold flat.now.tables }
@@ -57,10 +68,10 @@ fn push_signal(flat: &Flat, column: usize, list: &mut Vec<TracedSignal>) -> Resu
     ensures { OnOk result (AreSignalsTo flat.now (column + 1) list.new.items) }
 {
     let row = &flat.tables.traces[column];
-    if row.event || has_signal(list, row.signal) {
+    if has_signal(list, row.signal) {
         return Ok(());
     }
-    match flat.tables.signals[row.signal as usize].driver {
+    match driver_of(flat, row) {
         None => Ok(()),
         Some(port) => {
             list.push(listed(flat, row.signal, port))?;

@@ -1,6 +1,8 @@
 -- The lists of traced signals and of event columns, as far as the traces were looked at.
 -- Source: own.
-use Rattle.std.specs.Prelude.{◌≡◌, ◌<◌, ℕ, false, true, List, Some, slice_get}
+use Rattle.std.specs.Prelude.{◌≡◌, ◌<◌, ℕ, false, true, if◌then◌else◌, List, Option, Some, None}
+use Rattle.std.specs.Prelude.{slice_get}
+use Rattle.tdf_bind.specs.Flat.{FlatOf}
 use Rattle.tdf_fixed.specs.declared.raw.Raw.{Raw}
 use Rattle.tdf_flat.specs.declared.model.Flat.{Flat}
 use Rattle.tdf_history.specs.Cells.{driver_of_row}
@@ -9,6 +11,11 @@ use Rattle.tdf_shown.specs.Signals.{IsListed, IsSignalOf}
 use Rattle.tdf_shown.specs.declared.events.EventColumn.{EventColumn}
 use Rattle.tdf_shown.specs.declared.signals.TracedSignal.{TracedSignal}
 use Rattle.tdf_wiring.specs.declared.traces.TraceRow.{TraceRow}
+
+-- the port that drives the signal of a trace of samples
+abbrev pub driver_of_trace : FlatOf → TraceRow → Option ℕ
+driver_of_trace tables row =
+    if row.event then None else driver_of_row (slice_get tables.signals row.signal)
 
 pub record AreSignalsTo (flat : Flat) (count : ℕ) (list : List TracedSignal) : Type 0 where
   pub are : (k : ℕ) (t : TracedSignal) → slice_get list k ≡ Some t → IsListed flat t
