@@ -7,7 +7,7 @@ use Rattle.std.proofs.Math.ListN.{replicate}
 use Rattle.tdf_columns.proofs.Places.{First, Here, Last, There, alike, get_beyond, get_first, get_last, pushed, replaced, set_here, set_map, set_other, some_same}
 use Rattle.tdf_columns.specs.Tracked.{TrackedOf}
 use Rattle.tdf_columns.specs.Tracks.{AreTracked, Tracks}
-use Rattle.tdf_columns.specs.Traces.{AreTraced, HasTrace, IsTrackingOf, is_among, is_of}
+use Rattle.tdf_columns.specs.Traces.{IsTrackingOf, is_among, is_of}
 use Rattle.tdf_columns.specs.machine.Finding.{Finds, HasNone, HaveColumns, found, place_in}
 use Rattle.tdf_columns.specs.machine.Going.{AddsTrace}
 use Rattle.tdf_columns.specs.machine.Showing.{AreColumns}
@@ -56,26 +56,6 @@ is_this row s samples same = ap (λ (e : Bool). not e && nat_eq row.signal s) sa
 is_other : (row : TraceRow) (s : ℕ) → row.event ≡ false → (row.signal ≡ s → ⊥) → is_of (Some row) s ≡ false
 is_other row s samples apart = ap (λ (e : Bool). not e && nat_eq row.signal s) samples ∙ ne_eqb row.signal s apart
 
--- a trace more takes none from those that were there
-trace_kept : (traces : List TraceRow) (row : TraceRow) (signal : ℕ) → HasTrace traces signal → HasTrace (traces ++ row ∷ []) signal
-trace_kept traces row signal w = record {
-  column = w.column;
-  row = w.row;
-  there = get_first traces (row ∷ []) w.column (slice_get_within traces w.column w.row w.there) ∙ w.there;
-  samples = w.samples;
-  same = w.same;
-}
-
--- and is one of its signal
-trace_new : (traces : List TraceRow) (row : TraceRow) (signal : ℕ) → row.event ≡ false → signal ≡ row.signal → HasTrace (traces ++ row ∷ []) signal
-trace_new traces row signal plain same = record {
-  column = length traces;
-  row = row;
-  there = get_last traces row;
-  samples = plain;
-  same = sym same;
-}
-
 pub adds_event : (row : TraceRow) (column : ℕ) (list : List TrackedOf) → row.event ≡ true → AddsTrace row column list list
 adds_event row column list event = record {
   of = λ traces len of. record {
@@ -86,7 +66,6 @@ adds_event row column list event = record {
       | Last same k ↦ absurd (true_false (sym event ∙ ap (λ (x : TraceRow). x.event) (sym k) ∙ is))
     ];
   };
-  traced = λ traces h j w aw. trace_kept traces row w.signal (h j w aw);
   fresh = λ h. h;
 }
   where
@@ -123,10 +102,6 @@ adds_column row column list i t u samples at is signal columns stamps waiting = 
       | Last same k ↦ record { place = i; it = u; there = set_here list i u (slice_get_within list i t at); same = signal ∙ is ∙ ap (λ (x : TraceRow). x.signal) (sym k) }
     ];
   };
-  traced = λ traces h j w aw. elim (replaced list i u t j w at aw) [
-    | Here here k ↦ subst (λ (v : TrackedOf). HasTrace (traces ++ row ∷ []) v.signal) (sym k) (trace_new traces row u.signal samples (signal ∙ is))
-    | There apart old ↦ trace_kept traces row w.signal (h j w old)
-  ];
   fresh = λ h j w aw. elim (replaced list i u t j w at aw) [
     | Here here k ↦ subst (λ (v : TrackedOf). Tracks [] [] v) (sym k) (tracks_same t u stamps waiting (h i t at))
     | There apart old ↦ h j w old
@@ -162,10 +137,6 @@ adds_signal row column list u samples none signal columns tracks = record {
       | Last same k ↦ record { place = length list; it = u; there = get_last list u; same = signal ∙ ap (λ (x : TraceRow). x.signal) (sym k) }
     ];
   };
-  traced = λ traces h j w aw. elim (pushed list u j w aw) [
-    | First less old ↦ trace_kept traces row w.signal (h j w old)
-    | Last here k ↦ subst (λ (v : TrackedOf). HasTrace (traces ++ row ∷ []) v.signal) (sym k) (trace_new traces row u.signal samples signal)
-  ];
   fresh = λ h j w aw. elim (pushed list u j w aw) [
     | First less old ↦ h j w old
     | Last here k ↦ subst (λ (v : TrackedOf). Tracks [] [] v) (sym k) tracks
@@ -246,12 +217,6 @@ nothing_of = record {
 
 pub nothing_tracked : (list : List TrackedOf) → list ≡ [] → AreTracked (λ signal. []) (λ signal. []) list
 nothing_tracked list is i t at = absurd (none_item (sym (ap (λ (l : List TrackedOf). slice_get l i) is) ∙ at))
-  where
-    none_item : None ≡ Some t → ⊥
-    none_item e = absurd (grind (arith, e))
-
-pub none_traced : (list : List TrackedOf) → list ≡ [] → AreTraced [] list
-none_traced list is i t at = absurd (none_item (sym (ap (λ (l : List TrackedOf). slice_get l i) is) ∙ at))
   where
     none_item : None ≡ Some t → ⊥
     none_item e = absurd (grind (arith, e))

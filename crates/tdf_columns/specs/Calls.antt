@@ -4,7 +4,7 @@ use Rattle.std.specs.Prelude.{◌≡◌, ℕ, ◌<◌, false, nat_eq, if◌then�
 use Rattle.std.specs.Prelude.{Some, List, [], ◌∷◌, ◌++◌, length, slice_get}
 use Rattle.tdf_columns.specs.Tracked.{TrackedOf, TrackingOf, labels, samples_of}
 use Rattle.tdf_columns.specs.Tracks.{AreTracked, cells_by, known_by}
-use Rattle.tdf_columns.specs.Traces.{AreTraced, IsTrackingOf, with_samples}
+use Rattle.tdf_columns.specs.Traces.{IsTrackingOf, with_samples}
 use Rattle.tdf_convert.specs.declared.outputs.Traced.{Traced}
 use Rattle.tdf_fixed.specs.declared.raw.Raw.{Raw}
 use Rattle.tdf_rows.specs.Laws.{Agree}
@@ -81,5 +81,4 @@ AreBelow signals traces = (column : ℕ) (row : TraceRow) → slice_get traces c
 pub record IsFresh (traces : List TraceRow) (tracking : TrackingOf) : Type 0 where
   pub width : tracking.width ≡ length traces
   pub of : IsTrackingOf traces tracking.list
-  pub traced : AreTraced traces tracking.list
   pub tracked : AreTracked (λ signal. []) (λ signal. []) tracking.list

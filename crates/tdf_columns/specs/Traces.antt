@@ -46,16 +46,3 @@ pub record IsTrackingOf (traces : List TraceRow) (list : List TrackedOf) : Type 
       → is_among t.columns column ≡ is_of (slice_get traces column) t.signal
   pub all : (column : ℕ) (row : TraceRow) → slice_get traces column ≡ Some row
       → row.event ≡ false → IsTracked list row.signal
-
--- a signal has a trace of its samples
-pub record HasTrace (traces : List TraceRow) (signal : ℕ) : Type 0 where
-  pub column : ℕ
-  pub row : TraceRow
-  pub there : slice_get traces column ≡ Some row
-  pub samples : row.event ≡ false
-  pub same : row.signal ≡ signal
-
--- each signal that is tracked has one
-abbrev pub AreTraced : List TraceRow → List TrackedOf → Type 0
-AreTraced traces list = (place : ℕ) (t : TrackedOf) → slice_get list place ≡ Some t
-    → HasTrace traces t.signal

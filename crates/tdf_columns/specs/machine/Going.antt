@@ -3,9 +3,9 @@
 use Rattle.std.specs.Prelude.{◌≡◌, ℕ, ◌<◌, ◌≤◌, Option, Some, List, [], ◌∷◌, ◌++◌}
 use Rattle.std.specs.Prelude.{length, slice_get}
 use Rattle.tdf_columns.specs.Calls.{Holds, TakesSamples}
-use Rattle.tdf_columns.specs.Tracked.{TrackedOf, TrackingOf, labels, sinces}
+use Rattle.tdf_columns.specs.Tracked.{AreSince, TrackedOf, TrackingOf, labels, sinces}
 use Rattle.tdf_columns.specs.Tracks.{AreTracked, Tracks, cells_by, known_by}
-use Rattle.tdf_columns.specs.Traces.{AreTraced, IsTrackingOf, with_samples}
+use Rattle.tdf_columns.specs.Traces.{IsTrackingOf, with_samples}
 use Rattle.tdf_convert.specs.declared.outputs.Traced.{Traced}
 use Rattle.tdf_fixed.specs.declared.raw.Raw.{Raw}
 use Rattle.tdf_rows.specs.Positions.{Span}
@@ -20,6 +20,7 @@ pub record IsGiving (list : List Traced) (old new : TrackingOf) (before after : 
   pub width : new.width ≡ old.width
   pub labels : labels new.list ≡ labels old.list
   pub sinces : sinces new.list ≡ sinces old.list
+  pub since : AreSince before.rows.upto new.list
   pub upto : after.rows.upto ≡ before.rows.upto
   pub stage : after.stage ≡ before.stage
   pub about : after.about ≡ before.about
@@ -52,7 +53,6 @@ pub record IsNotingRest (count end : ℕ) (list : List TrackedOf) (before after 
 pub record AddsTrace (row : TraceRow) (column : ℕ) (old new : List TrackedOf) : Type 0 where
   pub of : (traces : List TraceRow) → length traces ≡ column → IsTrackingOf traces old
       → IsTrackingOf (traces ++ row ∷ []) new
-  pub traced : (traces : List TraceRow) → AreTraced traces old → AreTraced (traces ++ row ∷ []) new
   pub fresh : AreTracked (λ signal. []) (λ signal. []) old
       → AreTracked (λ signal. []) (λ signal. []) new
 
@@ -61,7 +61,6 @@ pub record IsAdding (traces : List TraceRow) (bound : ℕ) (tracking : TrackingO
   pub width : tracking.width ≡ length traces
   pub signals : tracking.signals ≡ bound
   pub of : IsTrackingOf traces tracking.list
-  pub traced : AreTraced traces tracking.list
   pub fresh : AreTracked (λ signal. []) (λ signal. []) tracking.list
 
 -- a signal with one column, before its first period
