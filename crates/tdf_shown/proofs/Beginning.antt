@@ -227,7 +227,7 @@ module _ (tables : FlatOf) (clock : ClockAt) (signals : List TracedSignal) (k : 
 
 -- no period that begins is before rows that are written
 pub begun_since : (clock : ClockAt) (signals : List TracedSignal) (k upto : ℕ) (old new : List TrackedOf) → upto ≤ clock.time → HaveStarted clock signals k old new → AreSince upto old → AreSince upto new
-begun_since clock signals k upto old new low have since place u at = elim (is_among clock signals k u.signal) [
+begun_since clock signals k upto old new low have since place u at more = elim (is_among clock signals k u.signal) [
   | inl among ↦ (let e : u.since ≡ clock.time = have.here place u at among in omega (arith, e, low))
-  | inr not ↦ since place u (have.others place u not at)
+  | inr not ↦ since place u (have.others place u not at) more
 ]

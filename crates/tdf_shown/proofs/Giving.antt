@@ -3,7 +3,7 @@ use Rattle.std.proofs.Common.{◌≡◌, ℕ, ◌+◌, ◌<◌, if◌then◌else
 use Rattle.std.proofs.lemmas.Bool.{cases_eq, eq-eqb, ne_eqb}
 use Rattle.tdf_bind.specs.Flat.{FlatOf}
 use Rattle.tdf_columns.specs.Calls.{TakesSamples, with_traced}
-use Rattle.tdf_columns.specs.Tracked.{TrackedOf, TrackingOf, labels, samples_of, sinces}
+use Rattle.tdf_columns.specs.Tracked.{AreSince, TrackedOf, TrackingOf, labels, samples_of, sinces}
 use Rattle.tdf_convert.specs.declared.outputs.Traced.{Traced}
 use Rattle.tdf_fixed.specs.declared.raw.Raw.{Raw}
 use Rattle.tdf_flow.proofs.Api.{some_same}
@@ -71,12 +71,13 @@ given_more tables signals k t first mid last before between after at took sample
     ]
 
 pub gives_more : (tables : FlatOf) (signals : List TracedSignal) (k : ℕ) (t : TracedSignal) (old mid new : TrackingOf) (before between after : TraceSeen) → slice_get signals k ≡ Some t → IsGivingTo tables signals k old mid before between
-    → TakesSamples (traced_with t.signal (initials_of tables t)) mid.list new.list between.rows after.rows → new.width ≡ mid.width → labels new.list ≡ labels mid.list → sinces new.list ≡ sinces mid.list
+    → TakesSamples (traced_with t.signal (initials_of tables t)) mid.list new.list between.rows after.rows → new.width ≡ mid.width → labels new.list ≡ labels mid.list → sinces new.list ≡ sinces mid.list → AreSince between.rows.upto new.list
     → after.rows.upto ≡ between.rows.upto → after.stage ≡ between.stage → after.about ≡ between.about → IsGivingTo tables signals (k + 1) old new before after
-gives_more tables signals k t old mid new before between after at g took width labeled since upto stage about = record {
+gives_more tables signals k t old mid new before between after at g took width labeled sinced since upto stage about = record {
   took = given_more tables signals k t old.list mid.list new.list before.rows between.rows after.rows at g.took took;
   labels = labeled ∙ g.labels;
-  sinces = since ∙ g.sinces;
+  sinces = sinced ∙ g.sinces;
+  since = subst (λ n. AreSince n new.list) g.upto since;
   width = width ∙ g.width;
   upto = upto ∙ g.upto;
   stage = stage ∙ g.stage;

@@ -8,7 +8,6 @@ use Rattle.std.specs.Prelude.{filter_map}
 use Rattle.tdf_bind.specs.Actors.{cluster_of}
 use Rattle.tdf_bind.specs.Flat.{FlatOf}
 use Rattle.tdf_bind.specs.declared.actors.ActorRow.{ActorRow}
-use Rattle.tdf_columns.specs.Traces.{HasTrace}
 use Rattle.tdf_dynamic.specs.Attributes.{clusters_of}
 use Rattle.tdf_fixed.specs.declared.raw.Raw.{Raw}
 use Rattle.tdf_flat.specs.declared.model.Flat.{Flat}
@@ -20,12 +19,12 @@ use Rattle.tdf_shown.specs.Events.{AreEventColumns, IsColumnOf, IsEventColumn}
 use Rattle.tdf_shown.specs.Signals.{AreTracedSignals, IsDriverOf, IsListed, IsSignalOf}
 use Rattle.tdf_shown.specs.declared.events.EventColumn.{EventColumn}
 use Rattle.tdf_shown.specs.declared.signals.TracedSignal.{TracedSignal}
-use Rattle.tdf_shown.specs.machine.Pushing.{AreColumnsTo, AreSignalsTo, driver_of_trace}
+use Rattle.tdf_shown.specs.machine.Pushing.{AreColumnsTo, AreSignalsTo, HasTrace, driver_of_trace}
 use Rattle.tdf_streams.specs.Cluster.{zero_sample}
 use Rattle.tdf_wiring.specs.declared.traces.TraceRow.{TraceRow}
 
 -- a list has an item that passes a test
-any_here : {A : Type 0} (f : A → Bool) (xs : List A) (i : ℕ) (x : A) → slice_get xs i ≡ Some x → f x ≡ true → list_any f xs ≡ true
+pub any_here : {A : Type 0} (f : A → Bool) (xs : List A) (i : ℕ) (x : A) → slice_get xs i ≡ Some x → f x ≡ true → list_any f xs ≡ true
 any_here f [] i x at is = none_some x at
 any_here f (y ∷ ys) zero x at is = ap (λ (b : Bool). b || list_any f ys) (ap f (some_same y x at) ∙ is)
 any_here f (y ∷ ys) (suc i) x at is = ap (λ (b : Bool). f y || b) (any_here f ys i x at is) ∙ or_true (f y)
@@ -50,7 +49,7 @@ no_columns traces values = record {
   all = λ column row below at event. absurd (omega (arith, below));
 }
 
-any_found : {A : Type 0} (f : A → Bool) (xs : List A) → list_any f xs ≡ true → (i : ℕ) × (x : A) × (slice_get xs i ≡ Some x) × (f x ≡ true)
+pub any_found : {A : Type 0} (f : A → Bool) (xs : List A) → list_any f xs ≡ true → (i : ℕ) × (x : A) × (slice_get xs i ≡ Some x) × (f x ≡ true)
 any_found f [] is = absurd (true_false (sym is))
 any_found {A} f (x ∷ xs) is = go (f x) refl (λ h. any_found f xs h) is
   where

@@ -34,6 +34,13 @@ use Rattle.tdf_world.specs.Laws.{HasDone}
 all_at : {A : Type 0} (P : A → Type 0) (xs : List A) (i : ℕ) (x : A) → All P xs → slice_get xs i ≡ Some x → P x
 all_at P xs i x all at = subst P (get_or_from_slice_get xs i x x at) (all i x (slice_get_within xs i x at))
 
+-- the time of one period more
+pub times_push : (ps : List PeriodRecord) (p : PeriodRecord) → time_of (ps ++ p ∷ []) ≡ time_of ps + p.info.period
+times_push ps p = sum_by_push (λ (r : PeriodRecord). r.info.period) ps p
+
+least : (a b : ℕ) → 0 < b → a ≤ a * b
+least a b some = let m : a * 1 ≤ a * b = mul-le-mul_left a (omega (arith, some)) in let one : a * 1 ≡ a = omega arith in omega (arith, m, one)
+
 module _ (port : PortRow) where
   -- one period more
   pub spans_push : (t : ℕ) (ps : List PeriodRecord) (p : PeriodRecord) → spans_from port t (ps ++ p ∷ []) ≡ spans_from port t ps ++ span_of (t + time_of ps) (step_in port p) (positions port p) ∷ []
@@ -48,9 +55,6 @@ module _ (port : PortRow) where
   unfolding total
   spans_total t [] = refl
   spans_total t (q ∷ qs) = ap (λ n. positions port q + n) (spans_total (t + q.info.period) qs) ∙ sym (sum_by-cons (positions port) q qs)
-
-  pub times_push : (ps : List PeriodRecord) (p : PeriodRecord) → time_of (ps ++ p ∷ []) ≡ time_of ps + p.info.period
-  times_push ps p = sum_by_push (λ (r : PeriodRecord). r.info.period) ps p
 
   -- the outputs of whole periods are their positions
   whole_outputs : (flat : Flat) (cluster : ℕ) (ps : List PeriodRecord) → ((k : ℕ) (p : PeriodRecord) → slice_get ps k ≡ Some p → IsWholeRecord flat cluster p) → sum_by (outputs_in port) ps ≡ sum_by (positions port) ps
@@ -97,6 +101,18 @@ module _ (port : PortRow) where
       steps : AreWithinLimits flat → (0 < step_in port h.now) × (positions port h.now * step_in port h.now ≡ h.now.info.period)
       steps limits = steps_whole flat (n + 1) number port h.now limits of_cluster now_whole.is.timed
 
+      some_positions : AreWithinLimits flat → (k : ℕ) → k ≡ positions port h.now → 0 < k
+      some_positions limits zero none = absurd (let s = steps limits in let w : 0 < h.now.info.period / 0 = subst (λ k. 0 < h.now.info.period / k) (sym none) s.0 in omega (arith, w))
+      some_positions limits (suc k) is = omega arith
+
+      -- the period takes some time
+      pub takes_some : AreWithinLimits flat → 0 < h.now.info.period
+      takes_some limits =
+          let s = steps limits in
+          let l : positions port h.now ≤ positions port h.now * step_in port h.now = least (positions port h.now) (step_in port h.now) s.0 in
+          let p = some_positions limits (positions port h.now) refl in
+          let e = s.1 in omega (arith, l, p, e)
+
       -- the period can begin where its end is a time of 64 bits
       pub can_begin : AreWithinLimits flat → (time : ℕ) → time < time_end → CanBegin flat time c t
       can_begin limits time early =
@@ -104,20 +120,15 @@ module _ (port : PortRow) where
           let short : h.now.info.period < time_end = now_whole.is.timed.period_is.short in
           let p : c.period ≡ h.now.info.period = is.time_is in
           let q : positions_in flat.tables c t ≡ positions port h.now = positions_are in
+          let l : positions port h.now ≤ positions port h.now * step_in port h.now = least (positions port h.now) (step_in port h.now) s.0 in
+          let e = s.1 in
           record {
             of = is.of;
             port = subst (λ m. m < length flat.tables.ports) (sym port_is) (slice_get_within flat.tables.ports number port drives.traced.there);
-            some = subst (λ k. 0 < k) (sym q) (some_positions (positions port h.now) refl);
-            few = (let l : positions port h.now ≤ positions port h.now * step_in port h.now = least (positions port h.now) (step_in port h.now) s.0 in let e = s.1 in omega (arith, q, l, e, short));
+            some = subst (λ k. 0 < k) (sym q) (some_positions limits (positions port h.now) refl);
+            few = omega (arith, q, l, e, short);
             short = omega (arith, p, short, early);
           }
-        where
-          least : (a b : ℕ) → 0 < b → a ≤ a * b
-          least a b some = let m : a * 1 ≤ a * b = mul-le-mul_left a (omega (arith, some)) in let one : a * 1 ≡ a = omega arith in omega (arith, m, one)
-
-          some_positions : (k : ℕ) → k ≡ positions port h.now → 0 < k
-          some_positions zero none = absurd (let s = steps limits in let w : 0 < h.now.info.period / 0 = subst (λ k. 0 < h.now.info.period / k) (sym none) s.0 in omega (arith, w))
-          some_positions (suc k) is = omega arith
 
     -- all positions of a period that is over have their samples
     pub none_left : (h : ClusterAt) (time : ℕ) → HasDone model flat (n + 1) h → is_over time h ≡ true → sum_by (positions port) (periods_of h) ≤ samples_done port h

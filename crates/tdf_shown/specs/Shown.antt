@@ -3,7 +3,6 @@
 use Rattle.std.specs.Prelude.{◌≡◌, ◌≤◌, ◌+◌, ◌-◌, ℕ, List, [], Some, length, slice_get}
 use Rattle.tdf_columns.specs.Calls.{Holds}
 use Rattle.tdf_columns.specs.Tracked.{TrackedOf}
-use Rattle.tdf_columns.specs.Traces.{AreTraced}
 use Rattle.tdf_events.specs.Side.{SideOf}
 use Rattle.tdf_fixed.specs.declared.raw.Raw.{Raw}
 use Rattle.tdf_flat.specs.declared.model.Flat.{Flat}
@@ -53,7 +52,6 @@ pub record IsShown (model : PureTree) (flat : Flat) (start : World SideOf) (from
   pub events : AreEventColumns flat.tables.traces (values_before model flat start from)
       s.events.items
   pub begun : (n : ℕ) (h : ClusterAt) → slice_get w.clusters n ≡ Some h → HasBegunBefore from h
-  -- the trace and the tracking have a column for each trace, and only what has one is tracked
-  pub traced : AreTraced flat.tables.traces s.tracking.list
+  -- the trace and the tracking have a column for each trace
   pub width : s.tracking.width ≡ length flat.tables.traces
   pub columns : length s.trace.about.variables ≡ length flat.tables.traces

@@ -64,6 +64,7 @@ fn give_one(
     ensures width { tracking.new.width ≡ tracking.old.width }
     ensures labels { labels tracking.new.list ≡ labels tracking.old.list }
     ensures sinces { sinces tracking.new.list ≡ sinces tracking.old.list }
+    ensures since { AreSince trace.old.rows.upto tracking.new.list }
     ensures upto { trace.new.rows.upto ≡ trace.old.rows.upto }
     ensures stage { trace.new.stage ≡ trace.old.stage }
     ensures about { trace.new.about ≡ trace.old.about }

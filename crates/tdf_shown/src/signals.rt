@@ -15,10 +15,9 @@ pub struct TracedSignal {
 
 ghost use Rattle.std.specs.List.{list_any};
 ghost use Rattle.std.specs.Prelude.{◌≡◌, ◌+◌, ◌<◌, Some, length, nat_eq, slice_get, IfOk, OnOk, false};
-ghost use Rattle.tdf_columns.specs.Traces.{HasTrace};
 ghost use Rattle.tdf_history.specs.Cells.{driver_of_row};
 ghost use Rattle.tdf_shown.specs.Signals.{AreTold, AreTracedSignals, IsDriverOf, IsListed};
-ghost use Rattle.tdf_shown.specs.machine.Pushing.{AreSignalsTo, driver_of_trace};
+ghost use Rattle.tdf_shown.specs.machine.Pushing.{AreSignalsTo, HasTrace, driver_of_trace};
 
 use std::alloc::Global;
 use tdf_base::Memory;

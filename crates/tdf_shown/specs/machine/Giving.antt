@@ -3,7 +3,7 @@
 use Rattle.std.specs.Prelude.{◌≡◌, ◌<◌, ℕ, List, [], ◌++◌, map, Some, slice_get}
 use Rattle.tdf_bind.specs.Flat.{FlatOf}
 use Rattle.tdf_columns.specs.Calls.{Holds}
-use Rattle.tdf_columns.specs.Tracked.{TrackedOf, TrackingOf, labels, sinces}
+use Rattle.tdf_columns.specs.Tracked.{AreSince, TrackedOf, TrackingOf, labels, sinces}
 use Rattle.tdf_convert.specs.declared.outputs.Traced.{Traced}
 use Rattle.tdf_fixed.specs.declared.raw.Raw.{Raw}
 use Rattle.tdf_rows.specs.Positions.{Span}
@@ -55,6 +55,7 @@ pub record IsGivingTo (tables : FlatOf) (signals : List TracedSignal) (k : ℕ)
   pub took : TakesInitials tables signals k old.list new.list before.rows after.rows
   pub labels : labels new.list ≡ labels old.list
   pub sinces : sinces new.list ≡ sinces old.list
+  pub since : AreSince before.rows.upto new.list
   pub width : new.width ≡ old.width
   pub upto : after.rows.upto ≡ before.rows.upto
   pub stage : after.stage ≡ before.stage

@@ -17,6 +17,14 @@ abbrev pub driver_of_trace : FlatOf → TraceRow → Option ℕ
 driver_of_trace tables row =
     if row.event then None else driver_of_row (slice_get tables.signals row.signal)
 
+-- a signal has a trace of its samples
+pub record HasTrace (traces : List TraceRow) (signal : ℕ) : Type 0 where
+  pub column : ℕ
+  pub row : TraceRow
+  pub there : slice_get traces column ≡ Some row
+  pub samples : row.event ≡ false
+  pub same : row.signal ≡ signal
+
 pub record AreSignalsTo (flat : Flat) (count : ℕ) (list : List TracedSignal) : Type 0 where
   pub are : (k : ℕ) (t : TracedSignal) → slice_get list k ≡ Some t → IsListed flat t
   pub once : (i j : ℕ) (t u : TracedSignal) → slice_get list i ≡ Some t → slice_get list j ≡ Some u

@@ -1,4 +1,3 @@
-use Rattle.tdf_shown.proofs.Noting.{events_agree}
-use Rattle.tdf_shown.proofs.Telling.{told, few_traces}
-use Rattle.tdf_shown.proofs.Spans.{none_left}
+use Rattle.tdf_shown.proofs.Starting.{starts_showing}
+use Rattle.tdf_shown.proofs.Taking.{shown_after}
 use Rattle.tdf_shown.proofs.laws.law_can.Goals as goal
