@@ -248,9 +248,15 @@ all_noted k end list before after past notes traces cells spans samples h =
       };
     }
 
--- starts that are the same
-pub still_since : (upto : ℕ) (old new : List TrackedOf) → sinces new ≡ sinces old → AreSince upto old → AreSince upto new
-still_since upto old new same since i t at = let x = alike (λ (v : TrackedOf). v.since) new old i t same at in subst (λ n. upto ≤ n) x.2 (since i x.0 x.1)
+-- a signal with the same start, and no more positions left
+pub since_set : (upto : ℕ) (list : List TrackedOf) (place : ℕ) (t u : TrackedOf) → slice_get list place ≡ Some t → u.since ≡ t.since → u.stamps.left ≤ t.stamps.left → AreSince upto list → AreSince upto (slice_set list place u)
+since_set upto list place t u at same less since i v iv more = elim (replaced list place u t i v at iv) [
+  | Here here k ↦ (
+      let l : v.stamps.left ≡ u.stamps.left = ap (λ (x : TrackedOf). x.stamps.left) k in
+      let s : v.since ≡ u.since = ap (λ (x : TrackedOf). x.since) k in
+      let low = since place t at (omega (arith, more, l, less)) in omega (arith, low, s, same))
+  | There apart old ↦ since i v old more
+]
 
 -- the start of a period
 pub has_started : (signal start : ℕ) (places : List (Option ℕ)) (list : List TrackedOf) (place : ℕ) (t u : TrackedOf) → Finds places list → slice_get list place ≡ Some t → t.signal ≡ signal → label u ≡ label t → u.since ≡ start

@@ -1,6 +1,6 @@
 -- Traced signals as contracts see them, and the samples that they get.
 -- Source: own.
-use Rattle.std.specs.Prelude.{◌≡◌, ◌≤◌, ℕ, nat_eq, if◌then◌else◌, Some}
+use Rattle.std.specs.Prelude.{◌≡◌, ◌<◌, ◌≤◌, ℕ, nat_eq, if◌then◌else◌, Some}
 use Rattle.std.specs.Prelude.{List, [], ◌∷◌, map, slice_get}
 use Rattle.tdf_convert.specs.declared.outputs.Traced.{Traced}
 use Rattle.tdf_fixed.specs.declared.raw.Raw.{Raw}
@@ -27,10 +27,11 @@ samples_of signal [] = []
 samples_of signal (x ∷ xs) =
     if nat_eq x.signal signal then x.value ∷ samples_of signal xs else samples_of signal xs
 
--- rows that are written up to a time have none from the start of a signal's period on
+-- rows that are written up to a time have none from the start of a signal's period on, where
+-- positions of that are left
 abbrev pub AreSince : (upto : ℕ) → List TrackedOf → Type 0
-AreSince upto list =
-    (place : ℕ) (t : TrackedOf) → slice_get list place ≡ Some t → upto ≤ t.since
+AreSince upto list = (place : ℕ) (t : TrackedOf) → slice_get list place ≡ Some t
+    → 0 < t.stamps.left → upto ≤ t.since
 
 -- which signal it is, and its columns
 pub record Label : Type 0 where

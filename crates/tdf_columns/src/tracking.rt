@@ -157,6 +157,7 @@ impl Tracking {
         ensures width { self.new.width ≡ self.old.width }
         ensures labels { labels self.new.list ≡ labels self.old.list }
         ensures sinces { sinces self.new.list ≡ sinces self.old.list }
+        ensures since { AreSince trace.old.rows.upto self.new.list }
         ensures upto { trace.new.rows.upto ≡ trace.old.rows.upto }
         ensures stage { trace.new.stage ≡ trace.old.stage }
         ensures about { trace.new.about ≡ trace.old.about }
@@ -181,6 +182,7 @@ impl Tracking {
         ensures width { self.new.width ≡ self.old.width }
         ensures labels { labels self.new.list ≡ labels self.old.list }
         ensures sinces { sinces self.new.list ≡ sinces self.old.list }
+        ensures since { AreSince trace.old.rows.upto self.new.list }
         ensures upto { trace.new.rows.upto ≡ trace.old.rows.upto }
         ensures stage { trace.new.stage ≡ trace.old.stage }
         ensures about { trace.new.about ≡ trace.old.about }

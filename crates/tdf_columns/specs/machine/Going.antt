@@ -3,7 +3,7 @@
 use Rattle.std.specs.Prelude.{◌≡◌, ℕ, ◌<◌, ◌≤◌, Option, Some, List, [], ◌∷◌, ◌++◌}
 use Rattle.std.specs.Prelude.{length, slice_get}
 use Rattle.tdf_columns.specs.Calls.{Holds, TakesSamples}
-use Rattle.tdf_columns.specs.Tracked.{TrackedOf, TrackingOf, labels, sinces}
+use Rattle.tdf_columns.specs.Tracked.{AreSince, TrackedOf, TrackingOf, labels, sinces}
 use Rattle.tdf_columns.specs.Tracks.{AreTracked, Tracks, cells_by, known_by}
 use Rattle.tdf_columns.specs.Traces.{IsTrackingOf, with_samples}
 use Rattle.tdf_convert.specs.declared.outputs.Traced.{Traced}
@@ -20,6 +20,7 @@ pub record IsGiving (list : List Traced) (old new : TrackingOf) (before after : 
   pub width : new.width ≡ old.width
   pub labels : labels new.list ≡ labels old.list
   pub sinces : sinces new.list ≡ sinces old.list
+  pub since : AreSince before.rows.upto new.list
   pub upto : after.rows.upto ≡ before.rows.upto
   pub stage : after.stage ≡ before.stage
   pub about : after.about ≡ before.about

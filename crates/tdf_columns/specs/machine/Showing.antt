@@ -134,6 +134,7 @@ pub record IsCatchingUp (t u : TrackedOf) (old new : TraceSeen) : Type 0 where
 pub record IsClosing (t : TrackedOf) (stamps : Stamps) (old new : TraceSeen) : Type 0 where
   pub closes : ClosesTo t stamps old.rows new.rows
   pub later : t.since ≤ stamps.time
+  pub fewer : stamps.left ≤ t.stamps.left
   pub small : stamps.time + stamps.left * stamps.step < 2 ^ 64
   pub upto : new.rows.upto ≡ old.rows.upto
   pub stage : new.stage ≡ old.stage

@@ -1,6 +1,6 @@
 use Rattle.std.proofs.Common.{◌<◌, ◌≤◌, List, take, length, refl, rules, sym, ◌∙◌, subst}
 use Rattle.std.proofs.lemmas.List.{take_all, take_more}
-use Rattle.tdf_columns.proofs.Manies.{more_given, none_given, still_since}
+use Rattle.tdf_columns.proofs.Manies.{more_given, none_given}
 use Rattle.tdf_columns.proofs.tracking.Tracking.give.Goals as goal
 use Rattle.tdf_columns.specs.Calls.{TakesSamples}
 use Rattle.tdf_columns.specs.Tracked.{AreSince}
@@ -12,14 +12,14 @@ loop-i-init c = record {
   width = refl;
   labels = refl;
   sinces = refl;
+  since = c.requires.since;
   upto = refl;
   stage = refl;
   about = refl;
 }
 
 pub give_one-requires-clause-since : goal.give_one-requires-clause-since
-give_one-requires-clause-since c = subst (λ n. AreSince n c.loop-i.self.list) (sym c.loop-i.invariant.upto)
-    (still_since c.args.trace.now.rows.upto c.args.self.now.list c.loop-i.self.list c.loop-i.invariant.sinces c.requires.since)
+give_one-requires-clause-since c = subst (λ n. AreSince n c.loop-i.self.list) (sym c.loop-i.invariant.upto) c.loop-i.invariant.since
 
 pub loop-i-preserved : goal.loop-i-preserved
 loop-i-preserved c =
@@ -32,6 +32,7 @@ loop-i-preserved c =
       width = c.give_one.ensures.width ∙ c.loop-i.invariant.width;
       labels = c.give_one.ensures.labels ∙ c.loop-i.invariant.labels;
       sinces = c.give_one.ensures.sinces ∙ c.loop-i.invariant.sinces;
+      since = subst (λ n. AreSince n c.give_one.new.self.list) c.loop-i.invariant.upto c.give_one.ensures.since;
       upto = c.give_one.ensures.upto ∙ c.loop-i.invariant.upto;
       stage = c.give_one.ensures.stage ∙ c.loop-i.invariant.stage;
       about = c.give_one.ensures.about ∙ c.loop-i.invariant.about;

@@ -2,11 +2,11 @@ use Rattle.std.proofs.Common.{◌≡◌, ◌<◌, length, Some, [], ◌∷◌, s
 use Rattle.std.proofs.lemmas.Option.{slice_get_read, slice_get_within}
 use Rattle.std.proofs.lemmas.Result.{IfOk-weaker}
 use Rattle.tdf_columns.proofs.Findings.{columns_set, finds_set}
-use Rattle.tdf_columns.proofs.Manies.{label_of, sample_passed, sample_taken}
+use Rattle.tdf_columns.proofs.Manies.{label_of, sample_passed, sample_taken, since_set}
 use Rattle.tdf_columns.proofs.Places.{set_map, some_same}
 use Rattle.tdf_columns.proofs.tracking.Tracking.give_one.Goals as goal
 use Rattle.tdf_columns.specs.Calls.{TakesSamples}
-use Rattle.tdf_columns.specs.Tracked.{TrackedOf, TrackingOf, label, labels, sinces}
+use Rattle.tdf_columns.specs.Tracked.{AreSince, TrackedOf, TrackingOf, label, labels, sinces}
 use Rattle.tdf_columns.specs.machine.Finding.{StandsAt}
 use Rattle.tdf_columns.specs.machine.Showing.{AreColumns}
 
@@ -54,3 +54,12 @@ returns-in-Some-clause-sinces c =
     let less : c.in-Some.place < length c.self.inside.list.items = slice_get_within c.self.inside.list.items c.in-Some.place w.it w.there in
     let here : slice_get c.self.inside.list.items c.in-Some.place ≡ Some c.index_mut.result.now = slice_get_read c.self.inside.list.items (length c.self.inside.list.items) c.in-Some.place c.index_mut.result.now refl less (search rules) in
     set_map (λ (v : TrackedOf). v.since) c.self.inside.list.items c.in-Some.place c.give.new.self c.index_mut.result.now here c.give.ensures.since ∙ ap (λ (v : TrackingOf). sinces v.list) c.self.view_is
+
+pub returns-in-Some-clause-since : goal.returns-in-Some-clause-since
+returns-in-Some-clause-since c =
+    let w : StandsAt c.self.inside.list.items c.args.sample.signal c.in-Some.place =
+    subst (λ (v : TrackingOf). StandsAt v.list c.args.sample.signal c.in-Some.place) (sym c.self.view_is) c.in-Some.ensures in
+    let less : c.in-Some.place < length c.self.inside.list.items = slice_get_within c.self.inside.list.items c.in-Some.place w.it w.there in
+    let here : slice_get c.self.inside.list.items c.in-Some.place ≡ Some c.index_mut.result.now = slice_get_read c.self.inside.list.items (length c.self.inside.list.items) c.in-Some.place c.index_mut.result.now refl less (search rules) in
+    since_set c.args.trace.now.rows.upto c.self.inside.list.items c.in-Some.place c.index_mut.result.now c.give.new.self here c.give.ensures.since c.give.ensures.left
+    (subst (λ (v : TrackingOf). AreSince c.args.trace.now.rows.upto v.list) (sym c.self.view_is) c.requires.since)

@@ -1,0 +1,12 @@
+mod Beginning
+mod Columns
+mod Ending
+mod Giving
+mod Items
+mod Listing
+mod Spans
+mod Starting
+mod Taking
+mod Noting
+mod Pushing
+mod Telling
