@@ -1,4 +1,5 @@
 pub mod Acting
+pub mod Api
 pub mod Beginning
 pub mod Boundaries
 pub mod Calm
