@@ -279,7 +279,7 @@ module _ (model : PureTree) (flat : Flat) (start : World SideOf) (time : ℕ) (e
     where
       by_row : (o : Option TraceRow) → slice_get flat.tables.traces c ≡ o → changed.at c time ≡ after.at c time
       by_row None at = changes_apart values time events before (length events) c time (λ j e below there. other_column values time events before e c time (λ same. (
-            let x = are.are j e there in none_some x.row (sym at ∙ ap (slice_get flat.tables.traces) (sym same) ∙ x.there))))
+          let x = are.are j e there in none_some x.row (sym at ∙ ap (slice_get flat.tables.traces) (sym same) ∙ x.there))))
           ∙ ap (event_before model flat start time time) at ∙ sym (ap (event_before model flat start (time + 1) time) at)
       by_row (Some row) at = by_event row.event refl
         where
