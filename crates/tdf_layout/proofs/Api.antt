@@ -1,5 +1,6 @@
 -- The lemmas that other crates may use.
 pub use Rattle.tdf_layout.proofs.Actors.{IsSinkOf, module_kind, port_actor_at, sink_at}
+pub use Rattle.tdf_layout.proofs.Drivers.{IsDriver, driver_is}
 pub use Rattle.tdf_layout.proofs.Edges.{edge_row, port_once, sampler_reads, sink_writes, sinks_read}
 pub use Rattle.tdf_layout.proofs.Rates.{between_rates, in_within, out_within, sampler_rates, sink_rates}
 pub use Rattle.tdf_layout.proofs.Samples.{edge_fits, read_format, samples_fit, write_format}

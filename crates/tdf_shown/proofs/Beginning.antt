@@ -1,9 +1,9 @@
 -- The periods of signals begin, one after the other.
-use Rattle.std.proofs.Common.{◌≡◌, ℕ, zero, suc, ◌+◌, ◌<◌, ◌≤◌, ◌⊎◌, Bool, true, false, if◌then◌else◌, Option, Some, None, List, [], ◌∷◌, ◌++◌, length, slice_get, refl, ap, sym, ◌∙◌, subst, inl, inr, arith}
-use Rattle.std.proofs.lemmas.Bool.{cases_eq, cases_lt, eq-eqb, ne_eqb}
+use Rattle.std.proofs.Common.{◌≡◌, ℕ, zero, suc, ◌+◌, ◌<◌, ◌≤◌, ◌⊎◌, Bool, true, false, if◌then◌else◌, Option, Some, None, List, [], ◌∷◌, ◌++◌, slice_get, refl, ap, sym, ◌∙◌, subst, inl, inr, arith}
+use Rattle.std.proofs.lemmas.Bool.{cases_eq, eq-eqb, ne_eqb}
 use Rattle.tdf_bind.specs.Flat.{FlatOf}
 use Rattle.tdf_columns.proofs.Api.{started_back}
-use Rattle.tdf_columns.specs.Calls.{HasNoneLeft, HasStarted, Holds, TakesPeriod, with_span}
+use Rattle.tdf_columns.specs.Calls.{HasNoneLeft, HasStarted, TakesPeriod, with_span}
 use Rattle.tdf_columns.specs.Tracked.{AreSince, TrackedOf, TrackingOf}
 use Rattle.tdf_exec.specs.Cluster.{ClusterOf}
 use Rattle.tdf_flow.proofs.Api.{none_some, some_same}
@@ -11,7 +11,7 @@ use Rattle.tdf_rows.specs.Positions.{AreChained, Span}
 use Rattle.tdf_shown.proofs.Items.{true_false}
 use Rattle.tdf_shown.specs.Periods.{ClockAt, begins, span_in}
 use Rattle.tdf_shown.specs.declared.signals.TracedSignal.{TracedSignal}
-use Rattle.tdf_shown.specs.machine.Beginning.{AreNext, BeginsAmong, BegunWith, HaveBegun, HaveStarted, IsBeginning, TakesBegun}
+use Rattle.tdf_shown.specs.machine.Beginning.{BeginsAmong, HaveStarted, IsBeginning, TakesBegun}
 use Rattle.tdf_trace.specs.Stands.{RowsSeen, TraceSeen}
 
 abbrev AreOnce : List TracedSignal → Type 0

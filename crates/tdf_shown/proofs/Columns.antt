@@ -1,13 +1,11 @@
 -- The variables of a trace: one for each trace of the model.
-use Rattle.std.proofs.Common.{◌≡◌, ◌∙◌, ℕ, zero, suc, ◌+◌, ◌<◌, ◌≤◌, Bool, true, false, if◌then◌else◌, Option, Some, None, option_map, List, [], ◌∷◌, length, slice_get, refl, ap, sym, subst, arith}
+use Rattle.std.proofs.Common.{◌≡◌, ◌∙◌, ℕ, zero, suc, ◌≤◌, Bool, true, false, if◌then◌else◌, Option, Some, None, option_map, List, [], ◌∷◌, length, slice_get, refl, ap, sym, subst, arith}
 use Rattle.std.proofs.lemmas.Option.{get_or_from_slice_get, slice_get_within}
 use Rattle.std.specs.List.{cons_option}
-use Rattle.std.specs.Prelude.{All, IfSome, filter_map}
+use Rattle.std.specs.Prelude.{IfSome, filter_map}
 use Rattle.tdf_bind.specs.Flat.{FlatOf}
 use Rattle.tdf_flow.proofs.Api.{get_inside, none_some, some_same}
-use Rattle.tdf_fixed.specs.declared.raw.Raw.{Raw}
 use Rattle.tdf_shown.specs.Calls.{CanBeShown}
-use Rattle.tdf_shown.specs.Signals.{AreTold}
 use Rattle.tdf_shown.specs.Variables.{traced_signal, variable_for, variable_of, variables_of}
 use Rattle.tdf_trace.specs.Columns.{HasFewPlaces}
 use Rattle.tdf_trace.specs.Writings.{CanBeTraced}

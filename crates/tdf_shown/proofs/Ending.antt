@@ -1,20 +1,16 @@
 -- At the end the rows stand for the cells of the run below it.
-use Rattle.std.proofs.Common.{◌≡◌, ◌∙◌, ℕ, ◌+◌, ◌-◌, ◌<◌, ◌≤◌, Bool, true, false, not, ◌&&◌, nat_eq, nat_lt, if◌then◌else◌, Option, Some, None, option_map, List, [], length, slice_get, slice_index, refl, ap, sym, subst, arith}
+use Rattle.std.proofs.Common.{◌≡◌, ◌∙◌, ℕ, ◌+◌, ◌-◌, ◌<◌, Bool, true, false, not, ◌&&◌, nat_eq, nat_lt, if◌then◌else◌, Option, Some, None, List, slice_get, slice_index, refl, ap, sym, arith}
 use Rattle.std.proofs.lemmas.Bool.{eq-eqb, lt-ltb}
-use Rattle.std.proofs.lemmas.Option.{slice_get_within}
-use Rattle.tdf_columns.specs.Calls.{NotesRest, StandBelow}
+use Rattle.tdf_columns.specs.Calls.{NotesRest}
 use Rattle.tdf_columns.specs.Tracks.{cells_by}
 use Rattle.tdf_columns.specs.Traces.{sample_or, with_samples}
 use Rattle.tdf_dynamic.specs.Attributes.{clusters_of}
 use Rattle.tdf_events.specs.Side.{SideOf}
-use Rattle.tdf_fixed.specs.declared.raw.Raw.{Raw}
-use Rattle.tdf_flat.specs.Flat.{IsFlatOf}
 use Rattle.tdf_flat.specs.declared.model.Flat.{Flat}
 use Rattle.tdf_flow.proofs.Api.{none_some}
 use Rattle.tdf_history.specs.Cells.{cell_by_driver, driven_cell, driver_of_row, event_cell, port_cell, run_cells, signal_cell, trace_cell, world_before}
-use Rattle.tdf_history.specs.World.{ClusterAt, World}
+use Rattle.tdf_history.specs.World.{World}
 use Rattle.tdf_layout.specs.Traced.{is_trace_of}
-use Rattle.tdf_limits.specs.Limits.{AreWithinLimits}
 use Rattle.tdf_rows.proofs.Api.{agree_trans}
 use Rattle.tdf_rows.specs.Laws.{Agree}
 use Rattle.tdf_rows.specs.Positions.{Span, cell_of, position_at}
@@ -26,7 +22,6 @@ use Rattle.tdf_shown.specs.Events.{event_before, events_before}
 use Rattle.tdf_shown.specs.Shown.{IsShown, IsShownOf}
 use Rattle.tdf_shown.specs.Signals.{AreTold, DrivesTraced, IsDriverOf, IsListed}
 use Rattle.tdf_shown.specs.declared.shown.Shown.{Shown}
-use Rattle.tdf_shown.specs.declared.signals.TracedSignal.{TracedSignal}
 use Rattle.tdf_traced.proofs.Api.{cell_of_samples}
 use Rattle.tdf_tree.specs.Pure.{PureTree}
 use Rattle.tdf_wiring.specs.declared.traces.TraceRow.{TraceRow}

@@ -1,10 +1,9 @@
 -- Signals get their initial samples, one after the other.
-use Rattle.std.proofs.Common.{◌≡◌, ℕ, ◌+◌, ◌<◌, if◌then◌else◌, List, [], ◌∷◌, ◌++◌, append-nil, map, Some, slice_get, refl, ap, sym, ◌∙◌, subst, inl, inr, arith}
+use Rattle.std.proofs.Common.{◌≡◌, ℕ, ◌+◌, ◌<◌, List, [], ◌∷◌, ◌++◌, append-nil, Some, slice_get, refl, ap, sym, ◌∙◌, subst, inl, inr, arith}
 use Rattle.std.proofs.lemmas.Bool.{cases_eq, eq-eqb, ne_eqb}
 use Rattle.tdf_bind.specs.Flat.{FlatOf}
 use Rattle.tdf_columns.specs.Calls.{TakesSamples, with_traced}
 use Rattle.tdf_columns.specs.Tracked.{AreSince, TrackedOf, TrackingOf, labels, samples_of, sinces}
-use Rattle.tdf_convert.specs.declared.outputs.Traced.{Traced}
 use Rattle.tdf_fixed.specs.declared.raw.Raw.{Raw}
 use Rattle.tdf_flow.proofs.Api.{some_same}
 use Rattle.tdf_shown.specs.declared.signals.TracedSignal.{TracedSignal}
@@ -54,7 +53,7 @@ given_more tables signals k t first mid last before between after at took sample
               let v : u ≡ t = some_same u t (sym there ∙ ap (slice_get signals) n ∙ at) in
               ap (λ l. b.now u.signal ++ l) (samples_here t.signal u.signal (initials_of tables t) same ∙ ap (initials_of tables) (sym v))
               ∙ ap (λ l. l ++ initials_of tables u) (b.have.other u.signal (λ a. (
-                let e : a.place ≡ k = once a.place k a.it t a.there at (a.same ∙ sym same) in let low = a.below in absurd (omega (arith, e, low))))))
+              let e : a.place ≡ k = once a.place k a.it t a.there at (a.same ∙ sym same) in let low = a.below in absurd (omega (arith, e, low))))))
           | inr apart ↦ ap (λ l. b.now u.signal ++ l) (samples_other t.signal u.signal (initials_of tables t) apart) ∙ append-nil (b.now u.signal) ∙ b.have.given j u (lower j u below there apart) there
         ];
         other = λ s not.

@@ -1,12 +1,15 @@
-mod Beginning
-mod Columns
-mod Ending
-mod Giving
-mod Items
-mod Listing
-mod Spans
-mod Starting
-mod Taking
-mod Noting
-mod Pushing
-mod Telling
+pub mod Able
+pub mod Api
+pub mod Beginning
+pub mod Columns
+pub mod Ending
+pub mod Giving
+pub mod Items
+pub mod Kept
+pub mod Listing
+pub mod Noting
+pub mod Pushing
+pub mod Spans
+pub mod Starting
+pub mod Taking
+pub mod Telling

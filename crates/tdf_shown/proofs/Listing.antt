@@ -1,23 +1,20 @@
 -- Traced signals by their ports, and what is tracked of them.
-use Rattle.std.proofs.Common.{◌≡◌, ◌∙◌, ℕ, ◌+◌, ◌-◌, ◌<◌, Bool, true, false, not, ◌&&◌, nat_eq, if◌then◌else◌, Option, Some, None, List, [], ◌∷◌, ◌++◌, length, slice_get, slice_index, refl, ap, sym, subst, arith}
+use Rattle.std.proofs.Common.{◌≡◌, ◌∙◌, ℕ, ◌+◌, Bool, true, false, not, ◌&&◌, nat_eq, if◌then◌else◌, Some, None, List, [], ◌∷◌, slice_get, slice_index, refl, ap, sym, arith}
 use Rattle.std.proofs.lemmas.Bool.{eqb-true}
-use Rattle.std.proofs.lemmas.Option.{get_or_from_slice_get, slice_get_within}
 use Rattle.std.specs.List.{cons_option}
 use Rattle.tdf_columns.specs.Tracked.{Label, TrackedOf, label, labels, samples_of, sinces}
 use Rattle.tdf_convert.specs.declared.outputs.Traced.{Traced}
 use Rattle.tdf_dynamic.specs.Attributes.{clusters_of}
-use Rattle.tdf_fixed.specs.declared.raw.Raw.{Raw}
 use Rattle.tdf_flat.specs.declared.model.Flat.{Flat}
-use Rattle.tdf_flow.proofs.Api.{get_inside, some_same}
+use Rattle.tdf_flow.proofs.Api.{some_same}
 use Rattle.tdf_history.specs.Cells.{driver_of_row}
 use Rattle.tdf_layout.specs.Traced.{is_trace_of}
 use Rattle.tdf_shown.proofs.Items.{alike}
 use Rattle.tdf_shown.proofs.Pushing.{any_found}
 use Rattle.tdf_shown.specs.Signals.{AreTracedSignals, DrivesTraced, IsListed}
 use Rattle.tdf_shown.specs.declared.signals.TracedSignal.{TracedSignal}
-use Rattle.tdf_traced.specs.Samples.{samples_of as samples_in, value_if}
+use Rattle.tdf_traced.specs.Samples.{samples_of as samples_in}
 use Rattle.tdf_wiring.specs.declared.modules.PortRow.{PortRow}
-use Rattle.tdf_wiring.specs.declared.traces.TraceRow.{TraceRow}
 
 -- what is listed of a port
 pub record IsFound (list : List TracedSignal) (n number : ℕ) (port : PortRow) : Type 0 where

@@ -1,5 +1,5 @@
 -- The columns of event signals show the values of a time, one after the other.
-use Rattle.std.proofs.Common.{◌≡◌, ℕ, zero, suc, ◌+◌, ◌<◌, ◌≤◌, Bool, true, false, ◌&&◌, nat_eq, nat_lt, if◌then◌else◌, Option, Some, None, List, [], ◌∷◌, length, slice_get, slice_set, refl, ap, sym, ◌∙◌, subst, inl, inr, arith}
+use Rattle.std.proofs.Common.{◌≡◌, ℕ, zero, suc, ◌+◌, ◌<◌, Bool, true, false, ◌&&◌, nat_eq, nat_lt, if◌then◌else◌, Option, Some, None, List, [], ◌∷◌, length, slice_get, slice_set, refl, ap, sym, ◌∙◌, subst, inl, inr, arith}
 use Rattle.std.proofs.lemmas.Bool.{cases_eq, cases_lt, eq-eqb, le-ltb, lt-ltb, ne_eqb}
 use Rattle.std.proofs.lemmas.Option.{slice_get_within}
 use Rattle.tdf_columns.proofs.Api.{holds_event}
@@ -20,9 +20,9 @@ use Rattle.tdf_rows.specs.Rows.{Cells}
 use Rattle.tdf_shown.proofs.Items.{true_false}
 use Rattle.tdf_shown.specs.Events.{AreEventColumns, IsColumnOf, IsEventColumn, event_before, events_before, value_of, values_before}
 use Rattle.tdf_shown.specs.declared.events.EventColumn.{EventColumn}
-use Rattle.tdf_shown.specs.machine.Noting.{AreOfEvents, HaveShown, IsShowing, TakesChange, TakesChanges, cell_for, with_change, with_changes, with_shown}
+use Rattle.tdf_shown.specs.machine.Noting.{HaveShown, IsShowing, TakesChange, cell_for, with_change, with_changes, with_shown}
 use Rattle.tdf_trace.proofs.Api.{stands_alike}
-use Rattle.tdf_trace.specs.Stands.{RowsSeen, Stands, TakesCell, TraceSeen}
+use Rattle.tdf_trace.specs.Stands.{RowsSeen, TakesCell, TraceSeen}
 use Rattle.tdf_tree.specs.Pure.{PureTree}
 use Rattle.tdf_wiring.specs.declared.traces.TraceRow.{TraceRow}
 use Rattle.tdf_world.specs.Rules.{rules_of}
@@ -279,7 +279,7 @@ module _ (model : PureTree) (flat : Flat) (start : World SideOf) (time : ℕ) (e
     where
       by_row : (o : Option TraceRow) → slice_get flat.tables.traces c ≡ o → changed.at c time ≡ after.at c time
       by_row None at = changes_apart values time events before (length events) c time (λ j e below there. other_column values time events before e c time (λ same. (
-            let x = are.are j e there in none_some x.row (sym at ∙ ap (slice_get flat.tables.traces) (sym same) ∙ x.there))))
+          let x = are.are j e there in none_some x.row (sym at ∙ ap (slice_get flat.tables.traces) (sym same) ∙ x.there))))
           ∙ ap (event_before model flat start time time) at ∙ sym (ap (event_before model flat start (time + 1) time) at)
       by_row (Some row) at = by_event row.event refl
         where

@@ -1,7 +1,7 @@
 -- The lists of traced signals and of event columns, trace by trace.
-use Rattle.std.proofs.Common.{◌≡◌, ℕ, zero, suc, ◌+◌, ◌-◌, ◌<◌, ◌≤◌, Bool, true, false, not, ◌&&◌, ◌||◌, nat_eq, if◌then◌else◌, Option, Some, None, List, [], ◌∷◌, ◌++◌, length, map, slice_get, slice_index, slice_index_or, option_map, refl, ap, sym, ◌∙◌, subst, inl, inr, arith}
+use Rattle.std.proofs.Common.{◌≡◌, ℕ, zero, suc, ◌+◌, ◌-◌, ◌<◌, ◌≤◌, Bool, true, false, not, ◌&&◌, ◌||◌, nat_eq, if◌then◌else◌, Option, Some, None, List, [], ◌∷◌, ◌++◌, length, slice_get, slice_index, slice_index_or, option_map, refl, ap, sym, ◌∙◌, subst, inl, inr, arith}
 use Rattle.std.proofs.lemmas.Bool.{cases_eq, eq-eqb, eqb-true}
-use Rattle.std.proofs.lemmas.Option.{get_or_from_slice_get, slice_get-map, slice_get_past, slice_get_within}
+use Rattle.std.proofs.lemmas.Option.{get_or_from_slice_get, slice_get-map, slice_get_within}
 use Rattle.std.proofs.lemmas.List.Elements.{filter_map-append}
 use Rattle.std.specs.List.{cons_option, list_any}
 use Rattle.std.specs.Prelude.{filter_map}
@@ -15,7 +15,7 @@ use Rattle.tdf_flow.proofs.Api.{get_low, none_some, some_same}
 use Rattle.tdf_history.specs.Cells.{driver_of_row}
 use Rattle.tdf_layout.specs.Traced.{is_trace_of}
 use Rattle.tdf_shown.proofs.Items.{First, Last, get_last, pushed, true_false}
-use Rattle.tdf_shown.specs.Events.{AreEventColumns, IsColumnOf, IsEventColumn}
+use Rattle.tdf_shown.specs.Events.{AreEventColumns, IsEventColumn}
 use Rattle.tdf_shown.specs.Signals.{AreTracedSignals, IsDriverOf, IsListed, IsSignalOf}
 use Rattle.tdf_shown.specs.declared.events.EventColumn.{EventColumn}
 use Rattle.tdf_shown.specs.declared.signals.TracedSignal.{TracedSignal}

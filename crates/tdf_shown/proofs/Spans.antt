@@ -1,14 +1,13 @@
 -- The periods of a signal by those of its cluster.
-use Rattle.std.proofs.Common.{◌≡◌, ◌∙◌, ℕ, zero, suc, ◌+◌, ◌-◌, ◌*◌, ◌/◌, ◌^◌, ◌<◌, ◌≤◌, Bool, true, false, ◌&&◌, nat_eq, Option, Some, None, List, [], ◌∷◌, ◌++◌, length, slice_get, slice_index, refl, ap, sym, subst, inl, inr, arith}
-use Rattle.std.proofs.lemmas.Bool.{cases_lt, eqb-true}
-use Rattle.std.proofs.lemmas.List.Sums.{sum_by-append, sum_by-cons, sum_by_push}
+use Rattle.std.proofs.Common.{◌≡◌, ◌∙◌, ℕ, zero, suc, ◌+◌, ◌*◌, ◌/◌, ◌<◌, ◌≤◌, Bool, true, false, ◌&&◌, nat_eq, Some, List, [], ◌∷◌, ◌++◌, length, slice_get, slice_index, refl, ap, sym, subst, arith}
+use Rattle.std.proofs.lemmas.Bool.{eqb-true}
+use Rattle.std.proofs.lemmas.List.Sums.{sum_by-cons, sum_by_push}
 use Rattle.std.proofs.Math.Nat.{mul-le-mul_left}
 use Rattle.std.proofs.lemmas.Option.{get_or_from_slice_get, slice_get_within}
 use Rattle.std.specs.List.{sum_by}
 use Rattle.std.specs.Prelude.{All}
 use Rattle.tdf_base.specs.Limits.{time_end}
 use Rattle.tdf_exec.specs.Cluster.{ClusterOf}
-use Rattle.tdf_exec.specs.Made.{IsClusterOf}
 use Rattle.tdf_exec.specs.Played.{turns_from}
 use Rattle.tdf_flat.specs.declared.model.Flat.{Flat}
 use Rattle.tdf_flow.proofs.Api.{get_low}
@@ -16,7 +15,7 @@ use Rattle.tdf_history.specs.Cells.{samples_done, spans_from}
 use Rattle.tdf_history.specs.Instant.{is_over, periods_of}
 use Rattle.tdf_history.specs.World.{ClusterAt}
 use Rattle.tdf_limits.specs.Limits.{AreWithinLimits}
-use Rattle.tdf_rows.specs.Positions.{AreChained, Span, end_of, span_of, total}
+use Rattle.tdf_rows.specs.Positions.{AreChained, span_of, total}
 use Rattle.tdf_run.specs.At.{IsAt}
 use Rattle.tdf_schedule.specs.Plan.{done}
 use Rattle.tdf_shown.proofs.Items.{get_last}

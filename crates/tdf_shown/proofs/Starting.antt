@@ -1,17 +1,14 @@
 -- At the start each traced signal has its initial samples and its first period.
-use Rattle.std.proofs.Common.{◌≡◌, ◌∙◌, ℕ, zero, suc, ◌+◌, ◌-◌, ◌<◌, ◌≤◌, Bool, true, false, ◌&&◌, nat_lt, if◌then◌else◌, Option, Some, None, option_map, List, [], ◌∷◌, ◌++◌, length, map, slice_get, slice_index, slice_index_or, refl, ap, sym, subst, inl, inr, arith}
-use Rattle.std.proofs.lemmas.Bool.{cases_lt, eq-eqb, le-ltb}
-use Rattle.std.proofs.lemmas.Option.{get_or_from_slice_get, slice_get-map, slice_get_past, slice_get_within}
+use Rattle.std.proofs.Common.{◌≡◌, ◌∙◌, ℕ, zero, suc, ◌+◌, ◌≤◌, Bool, true, false, ◌&&◌, nat_lt, if◌then◌else◌, Option, Some, None, option_map, List, [], ◌∷◌, ◌++◌, length, map, slice_get, slice_index, refl, ap, sym, subst, arith}
+use Rattle.std.proofs.lemmas.Bool.{eq-eqb, le-ltb}
+use Rattle.std.proofs.lemmas.Option.{get_or_from_slice_get, slice_get-map, slice_get_within}
 use Rattle.std.specs.List.{cons_option, enumerate_from}
 use Rattle.std.specs.Prelude.{filter_map}
-use Rattle.tdf_bind.specs.Flat.{FlatOf}
 use Rattle.tdf_columns.proofs.Api.{holds_fresh}
 use Rattle.tdf_columns.specs.Calls.{Holds}
-use Rattle.tdf_columns.specs.Tracked.{TrackedOf, TrackingOf}
+use Rattle.tdf_columns.specs.Tracked.{TrackingOf}
 use Rattle.tdf_dynamic.specs.declared.first.First.{First}
-use Rattle.tdf_events.specs.Side.{SideOf, start_side}
-use Rattle.tdf_exec.specs.Cluster.{ClusterOf}
-use Rattle.tdf_fixed.specs.declared.raw.Raw.{Raw}
+use Rattle.tdf_events.specs.Side.{SideOf}
 use Rattle.tdf_flat.specs.declared.model.Flat.{Flat}
 use Rattle.tdf_flow.proofs.Api.{get_inside, none_some, some_same}
 use Rattle.tdf_history.specs.Cells.{event_cell, first_shown, spans_from, value_before}
@@ -22,28 +19,24 @@ use Rattle.tdf_instants.specs.History.{history}
 use Rattle.tdf_limits.specs.Limits.{AreWithinLimits}
 use Rattle.tdf_rows.specs.Laws.{Agree}
 use Rattle.tdf_rows.specs.Noted.{noted}
-use Rattle.tdf_rows.specs.Positions.{AreChained, Span, span_of}
-use Rattle.tdf_rows.specs.Rows.{Cells}
+use Rattle.tdf_rows.specs.Positions.{AreChained, span_of}
 use Rattle.tdf_run.specs.At.{IsAt}
-use Rattle.tdf_run.specs.Pass.{AreAt}
-use Rattle.tdf_shown.proofs.Items.{get_last}
 use Rattle.tdf_shown.proofs.Listing.{IsFound, found, moved}
 use Rattle.tdf_shown.proofs.Spans.{chained_whole, span_is}
-use Rattle.tdf_shown.specs.Calls.{CanStart, IsUnshown, StartsShowing, start_values}
+use Rattle.tdf_shown.specs.Calls.{CanStart, StartsShowing, start_values}
 use Rattle.tdf_shown.specs.Events.{AreEventColumns, event_before, events_before, values_before}
 use Rattle.tdf_shown.specs.Periods.{ClockAt, begins, span_in}
-use Rattle.tdf_shown.specs.Shown.{IsShown, IsShownOf}
+use Rattle.tdf_shown.specs.Shown.{IsShownOf}
 use Rattle.tdf_shown.specs.Signals.{DrivesTraced}
 use Rattle.tdf_shown.specs.Variables.{traced_signal, variable_for, variable_of, variables_of}
 use Rattle.tdf_shown.specs.declared.shown.Shown.{Shown}
 use Rattle.tdf_shown.specs.declared.signals.TracedSignal.{TracedSignal}
-use Rattle.tdf_shown.specs.machine.Beginning.{AreNext, BeginsAmong, BegunWith, IsBeginning}
-use Rattle.tdf_shown.specs.machine.Giving.{GivenWith, IsGivingTo, initials_of}
+use Rattle.tdf_shown.specs.machine.Beginning.{AreNext, BegunWith, IsBeginning}
+use Rattle.tdf_shown.specs.machine.Giving.{GivenWith, IsGivingTo}
 use Rattle.tdf_streams.specs.Cluster.{initial_samples, zero_sample}
 use Rattle.tdf_streams.specs.Signals.{positions, step_in, time_of}
 use Rattle.tdf_trace.proofs.Api.{stands_alike}
 use Rattle.tdf_trace.specs.Stands.{TraceSeen, no_cells}
-use Rattle.tdf_trace.specs.Tables.{cell_at}
 use Rattle.tdf_trace.specs.Writings.{AboutSeen, first_of}
 use Rattle.tdf_trace.specs.declared.about.Variable.{Variable}
 use Rattle.tdf_traced.proofs.Api.{start_samples}
@@ -52,7 +45,6 @@ use Rattle.tdf_tree.specs.Pure.{PureTree}
 use Rattle.tdf_wiring.specs.declared.drivers.SignalRow.{SignalRow}
 use Rattle.tdf_wiring.specs.declared.modules.PortRow.{PortRow}
 use Rattle.tdf_wiring.specs.declared.traces.TraceRow.{TraceRow}
-use Rattle.tdf_words.specs.declared.asked.TraceKind.{TraceKind}
 use Rattle.tdf_world.specs.Rules.{rules_of, start_world}
 
 -- a cluster at the start

@@ -1,9 +1,9 @@
 -- What an instant gave is shown.
-use Rattle.std.proofs.Common.{◌≡◌, ◌∙◌, ℕ, zero, suc, ◌+◌, ◌-◌, ◌*◌, ◌<◌, ◌≤◌, Bool, true, false, nat_eq, Option, Some, None, List, [], ◌∷◌, ◌++◌, length, slice_get, slice_index, refl, ap, sym, subst, inl, inr, arith}
+use Rattle.std.proofs.Common.{◌≡◌, ◌∙◌, ℕ, ◌+◌, ◌-◌, ◌<◌, ◌≤◌, true, Some, List, [], ◌∷◌, ◌++◌, length, slice_get, slice_index, refl, ap, sym, subst, arith}
 use Rattle.std.proofs.lemmas.Bool.{eq-eqb, eqb-true}
 use Rattle.std.proofs.lemmas.Option.{get_or_from_slice_get, slice_get_within}
 use Rattle.tdf_columns.specs.Calls.{Holds, TakesSamples, with_traced}
-use Rattle.tdf_columns.specs.Tracked.{AreSince, TrackedOf, TrackingOf, labels, samples_of, sinces}
+use Rattle.tdf_columns.specs.Tracked.{AreSince, TrackedOf, TrackingOf, labels, sinces}
 use Rattle.tdf_convert.specs.declared.outputs.Traced.{Traced}
 use Rattle.tdf_events.specs.Side.{SideOf}
 use Rattle.tdf_exec.specs.Cluster.{ClusterOf}
@@ -18,11 +18,10 @@ use Rattle.tdf_rows.specs.Positions.{AreChained, Span, span_of}
 use Rattle.tdf_run.specs.At.{IsAt}
 use Rattle.tdf_run.specs.Pass.{AreAt}
 use Rattle.tdf_shown.proofs.Beginning.{begun_since}
-use Rattle.tdf_shown.proofs.Items.{true_false}
 use Rattle.tdf_shown.proofs.Listing.{IsFound, found, moved, samples_same}
 use Rattle.tdf_shown.proofs.Noting.{columns_shown, events_agree, holds_cells}
 use Rattle.tdf_shown.proofs.Spans.{chained_whole, over_time, span_is, spans_push, takes_some, times_push}
-use Rattle.tdf_shown.specs.Advanced.{Advances, Began, HasAdvanced, Stayed}
+use Rattle.tdf_shown.specs.Advanced.{Began, HasAdvanced, Stayed}
 use Rattle.tdf_shown.specs.Calls.{CanTake, ShowsInstant}
 use Rattle.tdf_shown.specs.Events.{AreEventColumns, events_before, values_before}
 use Rattle.tdf_shown.specs.Periods.{ClockAt, begins, span_in}
@@ -53,7 +52,7 @@ pub record IsOnward (flat : Flat) (model : PureTree) (start : World SideOf) (tim
 module _ (model : PureTree) (flat : Flat) (clock : ClockAt) (start w v : World SideOf) (limits : AreWithinLimits flat) (s : Shown) (shown : IsShown model flat start clock.time w s) (traced : List Traced)
     (adv : HasAdvanced model flat clock.time w v traced) (at : AreAt model flat clock.since v.clusters clock.clusters) where
   -- a cluster after the instant, and before it
-  before_it : (n : ℕ) (g : ClusterAt) → slice_get v.clusters n ≡ Some g → (h : ClusterAt) × (slice_get w.clusters n ≡ Some h)
+  pub before_it : (n : ℕ) (g : ClusterAt) → slice_get v.clusters n ≡ Some g → (h : ClusterAt) × (slice_get w.clusters n ≡ Some h)
   before_it n g there = get_inside w.clusters n (let i = slice_get_within v.clusters n g there in let e = adv.same in omega (arith, i, e))
 
   -- where it went on its periods stay
@@ -61,7 +60,7 @@ module _ (model : PureTree) (flat : Flat) (clock : ClockAt) (start w v : World S
   stayed_periods h g old now = ap (λ l. l ++ g.now ∷ []) old ∙ ap (λ p. h.old ++ p ∷ []) now
 
   -- and the start of the period lies before the time, or is 0
-  early : (n : ℕ) (h g : ClusterAt) → slice_get w.clusters n ≡ Some h → g.since ≡ h.since → g.since ≤ clock.time - 1
+  pub early : (n : ℕ) (h g : ClusterAt) → slice_get w.clusters n ≡ Some h → g.since ≡ h.since → g.since ≤ clock.time - 1
   early n h g there same = let e = (shown.begun n h there).early in omega (arith, e, same)
 
   pub begun_before : (n : ℕ) (g : ClusterAt) → slice_get v.clusters n ≡ Some g → HasBegunBefore (clock.time + 1) g
@@ -118,10 +117,10 @@ module _ (model : PureTree) (flat : Flat) (clock : ClockAt) (start w v : World S
   -- a later time
   module _ (later : 0 < clock.time) (can_since : (k : ℕ) (t : TracedSignal) → slice_get s.signals.items k ≡ Some t → t.cluster < length clock.since)
       (can_clusters : (k : ℕ) (t : TracedSignal) → slice_get s.signals.items k ≡ Some t → t.cluster < length clock.clusters) where
-    cluster_there : (k : ℕ) (t : TracedSignal) → slice_get s.signals.items k ≡ Some t → (g : ClusterAt) × (slice_get v.clusters t.cluster ≡ Some g)
+    pub cluster_there : (k : ℕ) (t : TracedSignal) → slice_get s.signals.items k ≡ Some t → (g : ClusterAt) × (slice_get v.clusters t.cluster ≡ Some g)
     cluster_there k t there = get_inside v.clusters t.cluster (let c = can_clusters k t there in let e = at.same in omega (arith, c, e))
 
-    since_begins : (k : ℕ) (t : TracedSignal) (g : ClusterAt) → slice_get s.signals.items k ≡ Some t → slice_get v.clusters t.cluster ≡ Some g → begins clock t ≡ true → g.since ≡ clock.time
+    pub since_begins : (k : ℕ) (t : TracedSignal) (g : ClusterAt) → slice_get s.signals.items k ≡ Some t → slice_get v.clusters t.cluster ≡ Some g → begins clock t ≡ true → g.since ≡ clock.time
     since_begins k t g there here is = let e = since_at t.cluster 0 g (can_since k t there) here in let f = eqb-true (slice_index clock.since t.cluster) clock.time is in omega (arith, e, f)
 
     begins_since : (k : ℕ) (t : TracedSignal) (g : ClusterAt) → slice_get s.signals.items k ≡ Some t → slice_get v.clusters t.cluster ≡ Some g → g.since ≡ clock.time → begins clock t ≡ true

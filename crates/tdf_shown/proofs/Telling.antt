@@ -1,27 +1,20 @@
 -- The tables of a flat model tell the signal of each trace, and the port of each signal.
-use Rattle.std.proofs.Common.{◌≡◌, ◌∙◌, ℕ, zero, suc, ◌+◌, ◌<◌, ◌≤◌, Bool, true, false, cond, Option, Some, None, List, [], ◌∷◌, ◌++◌, length, map, slice_get, slice_index, refl, ap, sym, subst, inl, inr, arith}
+use Rattle.std.proofs.Common.{◌≡◌, ◌∙◌, ℕ, zero, suc, ◌<◌, ◌≤◌, Bool, true, false, cond, Option, Some, None, List, [], ◌∷◌, ◌++◌, length, slice_get, refl, ap, sym, subst, inl, inr, arith}
 use Rattle.std.proofs.lemmas.Bool.{cases_lt}
 use Rattle.std.proofs.lemmas.List.{length-map}
 use Rattle.std.proofs.lemmas.List.FromFn.{length-enumerate_from}
 use Rattle.std.proofs.lemmas.Option.{get_or_from_slice_get, slice_get_within}
 use Rattle.std.specs.List.{AllZip, enumerate_from, find, flat_map}
-use Rattle.std.specs.Prelude.{All}
 use Rattle.tdf_base.specs.Limits.{most_traces}
-use Rattle.tdf_bind.specs.Actors.{cluster_of}
-use Rattle.tdf_bind.specs.Flat.{FlatOf}
 use Rattle.tdf_checks.specs.Blocks.{composite_faults}
 use Rattle.tdf_checks.specs.Types.{extra_faults, global_faults, traces_faults, type_faults}
 use Rattle.tdf_dynamic.proofs.Api.{modules_few}
-use Rattle.tdf_dynamic.specs.Attributes.{clusters_of}
 use Rattle.tdf_faults.specs.First.{fault_if}
-use Rattle.tdf_faults.specs.declared.first.LineFault.{LineFault}
 use Rattle.tdf_flat.specs.Flat.{IsFlatOf, trace_line}
 use Rattle.tdf_flat.specs.declared.model.Flat.{Flat}
 use Rattle.tdf_flow.proofs.Api.{get_inside, none_some, some_same}
-use Rattle.tdf_graph.specs.Clusters.{AreClusters}
-use Rattle.tdf_graph.specs.declared.actors.Edge.{Edge}
 use Rattle.tdf_history.specs.Cells.{driver_of_row}
-use Rattle.tdf_layout.proofs.Drivers.{IsDriver, driver_is}
+use Rattle.tdf_layout.proofs.Api.{IsDriver, driver_is}
 use Rattle.tdf_limits.specs.Limits.{AreWithinLimits}
 use Rattle.tdf_roles.specs.Roles.{roles_of}
 use Rattle.tdf_scope.specs.Names.{globals_of}
@@ -31,16 +24,16 @@ use Rattle.tdf_streams.proofs.Api.{is_wired}
 use Rattle.tdf_tree.specs.Pure.{PureTrace, PureTree}
 use Rattle.tdf_walk.specs.Tables.{TablesOf, table}
 use Rattle.tdf_walk.specs.declared.tables.Signal.{Signal}
-use Rattle.tdf_walk.specs.declared.tables.SignalNumber.{SignalNumber}
 use Rattle.tdf_wiring.specs.Drivers.{signal_row, signal_rows}
 use Rattle.tdf_wiring.specs.Edges.{driver_row}
 use Rattle.tdf_wiring.specs.ProcessBlocks.{placed_blocks}
-use Rattle.tdf_wiring.specs.Traces.{IsTraceOf, has_path, leads_to, traced}
+use Rattle.tdf_wiring.specs.Traces.{IsTraceOf, has_path, leads_to}
 use Rattle.tdf_wiring.specs.declared.drivers.SignalRow.{SignalRow}
 use Rattle.tdf_wiring.specs.declared.modules.PortRow.{PortRow}
 use Rattle.tdf_wiring.specs.declared.traces.TraceLine.{TraceLine}
 use Rattle.tdf_wiring.specs.declared.traces.TraceRow.{TraceRow}
 use Rattle.tdf_wiring.specs.declared.writers.Writer.{Writer}
+use Rattle.tdf_world.proofs.Api.{port_cluster}
 
 -- what is found passes the test
 found_passes : {A : Type 0} (f : A → Bool) (xs : List A) (x : A) → find f xs ≡ Some x → f x ≡ true
@@ -79,17 +72,6 @@ driver_same : (o : Option SignalRow) → driver_of_row o ≡ driver_row o
 driver_same None = refl
 driver_same (Some row) = refl
 
--- clusters have numbers from 1 on
-module _ (count : ℕ) (edges : List Edge) (numbers : List ℕ) (are : AreClusters count edges numbers) where
-  some_below : (k a : ℕ) → a < k → a < count → 0 < slice_index numbers a
-  some_below zero a low inside = absurd (omega (arith, low))
-  some_below (suc k) a low inside = elim (cases_lt 0 (slice_index numbers a)) [
-    | inl some ↦ some
-    | inr none ↦ (let f = are.first a inside (λ b less joined. (
-        let s = some_below k b (omega (arith, less, low)) (omega (arith, less, inside)) in
-        let e = are.joined b a (omega (arith, less, inside)) inside joined in omega (arith, s, e, none))) in omega (arith, f))
-  ]
-
 module _ (model : PureTree) (flat : Flat) (is : IsFlatOf model flat) (limits : AreWithinLimits flat) where
   signals_long : length flat.tables.signals ≡ length is.tables.tables.signals
   signals_long = ap length is.tables.follows.signals.signals ∙ rows_long _ is.tables.tables.signals
@@ -115,7 +97,7 @@ module _ (model : PureTree) (flat : Flat) (is : IsFlatOf model flat) (limits : A
         kind_is = d.kind;
         writes = d.writes;
         inside = omega (arith, m, few);
-        cluster = some_below (length flat.tables.actors) _ (clusters_of flat.tables) limits.actors.clusters (suc d.row.«module») d.row.«module» (omega arith) (omega (arith, m, few));
+        cluster = port_cluster flat number d.row limits d.at;
       }
     where
       all_inside : (row : PortRow) → slice_get flat.tables.ports number ≡ Some row → row.«module» < length flat.tables.modules

@@ -8,7 +8,6 @@ use Rattle.tdf_columns.specs.Tracked.{AreSince}
 use Rattle.tdf_convert.specs.declared.outputs.Traced.{Traced}
 use Rattle.tdf_dynamic.specs.declared.first.First.{First}
 use Rattle.tdf_events.specs.Side.{SideOf}
-use Rattle.tdf_exec.specs.Cluster.{ClusterOf}
 use Rattle.tdf_fixed.specs.declared.raw.Raw.{Raw}
 use Rattle.tdf_flat.specs.Flat.{IsFlatOf}
 use Rattle.tdf_flat.specs.declared.model.Flat.{Flat}
@@ -20,7 +19,7 @@ use Rattle.tdf_shown.specs.Advanced.{HasAdvanced}
 use Rattle.tdf_shown.specs.Events.{AreEventColumns, values_before}
 use Rattle.tdf_shown.specs.Periods.{CanBeginAll, ClockAt}
 use Rattle.tdf_shown.specs.Shown.{IsShown}
-use Rattle.tdf_shown.specs.Signals.{AreTold, AreTracedSignals, DrivesTraced}
+use Rattle.tdf_shown.specs.Signals.{AreTold, AreTracedSignals}
 use Rattle.tdf_shown.specs.Variables.{variables_of}
 use Rattle.tdf_shown.specs.declared.events.EventColumn.{EventColumn}
 use Rattle.tdf_shown.specs.declared.shown.Shown.{Shown}
@@ -30,7 +29,6 @@ use Rattle.tdf_trace.specs.Stands.{IsNew}
 use Rattle.tdf_trace.specs.Writings.{about_of}
 use Rattle.tdf_tree.specs.Pure.{PureTree}
 use Rattle.tdf_words.specs.declared.asked.TraceKind.{TraceKind}
-use Rattle.tdf_wiring.specs.declared.modules.PortRow.{PortRow}
 use Rattle.tdf_world.specs.Rules.{rules_of, start_world}
 
 -- what a flat model has, so that its traces can be shown: few traces of signals that are there, and

@@ -1,10 +1,10 @@
 -- The periods of signals that begin at a time, by the clusters in progress.
 -- Source: own.
-use Rattle.std.specs.Prelude.{◌≡◌, ◌<◌, ◌≤◌, ◌+◌, ◌*◌, ◌/◌, ◌^◌, ℕ, Bool, true, nat_eq, List, Option}
+use Rattle.std.specs.Prelude.{◌≡◌, ◌<◌, ◌+◌, ◌*◌, ◌/◌, ◌^◌, ℕ, Bool, true, nat_eq, List, Option}
 use Rattle.std.specs.Prelude.{Some, None, length, slice_get, slice_index}
 use Rattle.tdf_bind.specs.Flat.{FlatOf}
 use Rattle.tdf_columns.specs.Calls.{HasNoneLeft}
-use Rattle.tdf_columns.specs.Tracked.{AreSince, TrackedOf}
+use Rattle.tdf_columns.specs.Tracked.{TrackedOf}
 use Rattle.tdf_dynamic.specs.Attributes.{AttrsOf}
 use Rattle.tdf_dynamic.specs.Rates.{port_rate}
 use Rattle.tdf_exec.specs.Cluster.{ClusterOf}

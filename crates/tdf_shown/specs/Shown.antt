@@ -19,8 +19,8 @@ use Rattle.tdf_traced.specs.Samples.{AreSamplesOf}
 use Rattle.tdf_tree.specs.Pure.{PureTree}
 use Rattle.tdf_wiring.specs.declared.modules.PortRow.{PortRow}
 
--- the periods and samples of the signal that a port drives are those of the port's cluster, and what
--- is tracked of the signal has the period that has begun last
+-- the periods and samples of the signal that a port drives are those of the port's cluster, and
+-- what is tracked of the signal has the period that has begun last
 pub record IsShownOf (model : PureTree) (flat : Flat) (clusters : List ClusterAt) (n number : ℕ)
     (port : PortRow) (spans : ℕ → List Span) (samples : ℕ → List Raw) (list : List TrackedOf)
     : Type 0 where

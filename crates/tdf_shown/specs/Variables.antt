@@ -16,8 +16,8 @@ variable_for row signal = record {
 }
 
 abbrev pub traced_signal : FlatOf → TraceRow → Option SignalRow
-traced_signal tables row =
-    if row.event then slice_get tables.de_signals row.signal else slice_get tables.signals row.signal
+traced_signal tables row = if row.event then slice_get tables.de_signals row.signal
+    else slice_get tables.signals row.signal
 
 abbrev pub variable_of : FlatOf → TraceRow → Option Variable
 variable_of tables row = option_map (variable_for row) (traced_signal tables row)

@@ -15,11 +15,7 @@ fn variable(alloc: Global, row: &TraceRow, signal: &SignalRow) -> Result<Variabl
     ensures { IfOk result (λ variable. variable ≡ variable_for row.now signal.now) }
 {
     let label = Name::copied(alloc, row.label.as_bytes())?;
-    let first = if row.event {
-        Some(signal.start)
-    } else {
-        None
-    };
+    let first = if row.event { Some(signal.start) } else { None };
     Ok(Variable {
         label,
         format: signal.format,

@@ -36,7 +36,8 @@ module _ (count : ℕ) (edges : List Edge) (numbers : List ℕ) (are : AreCluste
         let e = are.joined b a (omega (arith, less, inside)) inside joined in omega (arith, s, e, none))) in omega (arith, f))
   ]
 
-port_cluster : (flat : Flat) (number : ℕ) (port : PortRow) → AreWithinLimits flat → slice_get flat.tables.ports number ≡ Some port → 0 < slice_index (clusters_of flat.tables) port.«module»
+-- the cluster of the module of a port
+pub port_cluster : (flat : Flat) (number : ℕ) (port : PortRow) → AreWithinLimits flat → slice_get flat.tables.ports number ≡ Some port → 0 < slice_index (clusters_of flat.tables) port.«module»
 port_cluster flat number port limits at =
     let m = all_at (λ (row : PortRow). row.«module» < length flat.tables.modules) flat.tables.ports number port limits.in_range.port_modules at in
     let few = modules_few flat.tables (is_wired flat limits) in

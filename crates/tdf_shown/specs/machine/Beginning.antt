@@ -4,7 +4,7 @@ use Rattle.std.specs.Prelude.{◌≡◌, ◌<◌, ◌≤◌, ℕ, true, List, []
 use Rattle.std.specs.Prelude.{slice_get}
 use Rattle.tdf_bind.specs.Flat.{FlatOf}
 use Rattle.tdf_columns.specs.Calls.{HasNoneLeft, Holds}
-use Rattle.tdf_columns.specs.Tracked.{AreSince, TrackedOf, TrackingOf, labels}
+use Rattle.tdf_columns.specs.Tracked.{TrackedOf, TrackingOf, labels}
 use Rattle.tdf_exec.specs.Cluster.{ClusterOf}
 use Rattle.tdf_fixed.specs.declared.raw.Raw.{Raw}
 use Rattle.tdf_rows.specs.Positions.{AreChained, Span}

@@ -1,4 +1,4 @@
-use Rattle.std.proofs.Common.{rules, ◌≡◌, ◌<◌, ◌+◌, ◌∙◌, Some, length, refl, sym, subst, ap, slice_get, slice_set}
+use Rattle.std.proofs.Common.{rules, ◌≡◌, ◌<◌, ◌+◌, Some, length, refl, sym, subst, slice_get, slice_set}
 use Rattle.std.proofs.lemmas.Option.{slice_get_read}
 use Rattle.tdf_shown.proofs.Noting.{more_shown, none_shown}
 use Rattle.tdf_shown.proofs.events.show_all.Goals as goal

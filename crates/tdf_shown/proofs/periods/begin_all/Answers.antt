@@ -1,4 +1,4 @@
-use Rattle.std.proofs.Common.{rules, ◌≡◌, ◌<◌, ◌≤◌, ◌+◌, ◌∙◌, true, false, Some, length, slice_get, slice_index_or, refl, ap, sym, subst}
+use Rattle.std.proofs.Common.{rules, ◌≡◌, ◌<◌, ◌+◌, true, false, Some, length, slice_get, slice_index_or, refl, sym, subst}
 use Rattle.std.proofs.lemmas.Option.{slice_get-get_or, slice_get_read}
 use Rattle.tdf_shown.proofs.Beginning.{begins_more, begins_passed}
 use Rattle.tdf_shown.proofs.periods.begin_all.Goals as goal

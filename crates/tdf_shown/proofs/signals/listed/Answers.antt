@@ -1,7 +1,5 @@
-use Rattle.std.proofs.Common.{rules, ◌≡◌, ◌-◌, ◌<◌, ◌∙◌, Some, length, slice_get, slice_index, refl, ap, sym, subst}
-use Rattle.std.proofs.lemmas.Option.{get_or_from_slice_get, slice_get-map, slice_get_read, slice_get_within}
-use Rattle.tdf_bind.specs.Actors.{cluster_of}
-use Rattle.tdf_dynamic.specs.Attributes.{clusters_of}
+use Rattle.std.proofs.Common.{rules, ◌≡◌, ◌-◌, ◌<◌, ◌∙◌, Some, length, slice_get, refl, ap, sym, subst}
+use Rattle.std.proofs.lemmas.Option.{slice_get_read, slice_get_within}
 use Rattle.tdf_flow.proofs.Api.{some_same}
 use Rattle.tdf_shown.proofs.Pushing.{cluster_at, listed_is}
 use Rattle.tdf_shown.proofs.signals.listed.Goals as goal

@@ -1,7 +1,6 @@
-use Rattle.std.proofs.Common.{rules, ◌≡◌, ◌<◌, ◌+◌, ◌∙◌, true, false, None, Some, Option, Bool, if◌then◌else◌, length, slice_get, nat_eq, refl, sym, ap, subst}
+use Rattle.std.proofs.Common.{rules, ◌≡◌, ◌+◌, false, Some, length, slice_get, nat_eq, refl, subst}
 use Rattle.std.proofs.lemmas.Option.{slice_get_read}
 use Rattle.std.specs.List.{list_any}
-use Rattle.tdf_history.specs.Cells.{driver_of_row}
 use Rattle.tdf_shown.proofs.Pushing.{listed_before, listed_now, never_driven, plain_driver}
 use Rattle.tdf_shown.proofs.signals.push_signal.Goals as goal
 use Rattle.tdf_shown.specs.declared.signals.TracedSignal.{TracedSignal}

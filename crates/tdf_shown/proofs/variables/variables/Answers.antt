@@ -1,10 +1,9 @@
-use Rattle.std.proofs.Common.{rules, ◌≡◌, ◌<◌, ◌+◌, ◌∙◌, ◌∷◌, ◌++◌, [], Some, List, length, take, slice_index_or, sym, ap}
+use Rattle.std.proofs.Common.{rules, ◌<◌, ◌∙◌, ◌∷◌, ◌++◌, [], length, take, sym, ap}
 use Rattle.std.proofs.lemmas.List.{take_more}
 use Rattle.std.specs.Prelude.{filter_map}
 use Rattle.tdf_shown.proofs.Pushing.{more_given}
 use Rattle.tdf_shown.proofs.variables.variables.Goals as goal
 use Rattle.tdf_shown.specs.Variables.{variable_of}
-use Rattle.tdf_wiring.specs.declared.traces.TraceRow.{TraceRow}
 
 pub loop-c-preserved : goal.loop-c-preserved
 loop-c-preserved c =

@@ -1,4 +1,4 @@
-use Rattle.std.proofs.Common.{rules, ◌≡◌, List, refl, sym, subst}
+use Rattle.std.proofs.Common.{rules, ◌≡◌, List, sym, subst}
 use Rattle.tdf_columns.specs.Calls.{IsFresh}
 use Rattle.tdf_shown.proofs.Columns.{can_be_traced, variables_long}
 use Rattle.tdf_shown.proofs.shown.Shown.new.Goals as goal

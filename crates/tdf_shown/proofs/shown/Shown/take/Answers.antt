@@ -1,4 +1,4 @@
-use Rattle.std.proofs.Common.{rules, ◌≡◌, List, length, refl, subst}
+use Rattle.std.proofs.Common.{rules, ◌≡◌, List, refl, subst}
 use Rattle.std.proofs.lemmas.Result.{IfOk-weaker}
 use Rattle.tdf_shown.proofs.Taking.{begun_still, shows_instant}
 use Rattle.tdf_shown.proofs.shown.Shown.take.Goals as goal
