@@ -1,3 +1,4 @@
+pub mod Advancing
 pub mod Dues
 pub mod Keeping
 pub mod Leading

@@ -1,3 +1,4 @@
+pub mod Advancing
 pub mod Laws
 pub mod Ongoing
 pub mod Staying

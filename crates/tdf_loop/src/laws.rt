@@ -1,10 +1,12 @@
 //! What holds of the loop of instants: each function here only carries its clauses.
 
+ghost use Rattle.tdf_loop.specs.Advancing.{InstantAdvances};
 ghost use Rattle.tdf_loop.specs.Laws.{NextIsNext};
 ghost use Rattle.tdf_loop.specs.Ongoing.{InstantLeadsOn, InstantSpends, StopIsReached};
 ghost use Rattle.tdf_loop.specs.Staying.{CellsStayBelow};
 
 use tdf_engine::law_instant;
+use tdf_layout::law_one_port;
 
 /// The time at which something is next due in all that runs is the next time of the history.
 pub fn law_next()
@@ -24,3 +26,11 @@ pub fn law_going()
 pub fn law_staying()
     ensures { CellsStayBelow }
 {}
+
+/// An instant begins the periods that the history begins, and what its firings trace are the next
+/// samples of their signals.
+pub fn law_advancing()
+    ensures { InstantAdvances }
+{
+    law_one_port();
+}

@@ -3,4 +3,4 @@
 
 mod laws;
 
-pub use laws::{law_going, law_next, law_staying};
+pub use laws::{law_advancing, law_going, law_next, law_staying};

@@ -1,0 +1,88 @@
+-- What an instant begins, and what its firings trace, is what the history has.
+use Rattle.std.proofs.Common.{◌≡◌, ◌∙◌, ◌&&◌, ℕ, ◌+◌, Bool, true, false, List, [], ◌++◌, Some, length, nat_eq, slice_get, refl, sym, ap, subst, arith}
+use Rattle.std.proofs.lemmas.Bool.{eqb-true}
+use Rattle.std.proofs.lemmas.Option.{slice_get_within}
+use Rattle.tdf_convert.specs.Outputs.{OutputsOf}
+use Rattle.tdf_engine.proofs.Api.{crossed_long}
+use Rattle.tdf_engine.specs.Crossing.{crossing_of}
+use Rattle.tdf_engine.specs.CrossingLaws.{Becomes, world_crossed}
+use Rattle.tdf_engine.specs.Engine.{HasHadInstant}
+use Rattle.tdf_engine.specs.InstantLaws.{InstantGoes, IsModelOf, IsNow}
+use Rattle.tdf_engine.specs.declared.engine.Engine.{Engine}
+use Rattle.tdf_events.specs.Side.{SideOf}
+use Rattle.tdf_exec.specs.Cluster.{ClusterOf}
+use Rattle.tdf_fixed.specs.declared.raw.Raw.{Raw}
+use Rattle.tdf_flat.specs.declared.model.Flat.{Flat}
+use Rattle.tdf_flow.proofs.Api.{get_inside, some_same}
+use Rattle.tdf_history.specs.Instant.{at_begin}
+use Rattle.tdf_history.specs.World.{ClusterAt, World}
+use Rattle.tdf_layout.specs.Traced.{SignalsHaveOnePort}
+use Rattle.tdf_loop.proofs.Keeping.{IsInPeriod, firings_keep}
+use Rattle.tdf_loop.proofs.Leading.{from_before}
+use Rattle.tdf_loop.specs.Advancing.{InstantAdvances}
+use Rattle.tdf_run.specs.At.{IsAt}
+use Rattle.tdf_run.specs.Pass.{HavePassed, pass_at, run_of}
+use Rattle.tdf_shown.specs.Advanced.{Advances, HasAdvanced}
+use Rattle.tdf_traced.proofs.Api.{boundary_adds_none, passes_trace}
+use Rattle.tdf_traced.specs.Samples.{AreSamplesOf, HaveTraced, samples_of}
+use Rattle.tdf_tree.specs.Pure.{PureTree}
+use Rattle.tdf_wiring.specs.declared.modules.PortRow.{PortRow}
+use Rattle.tdf_world.specs.Rules.{rules_of}
+
+and_left : (a b : Bool) → (a && b) ≡ true → a ≡ true
+and_left true b is = refl
+and_left false b is = absurd cc
+
+advances_by : (time : ℕ) (h mid g : ClusterAt) → Becomes time h mid → IsInPeriod mid g → Advances time h g
+advances_by time h mid g (Becomes.Stayed going same) kept = Advances.Stayed going (kept.since ∙ ap (λ (z : ClusterAt). z.since) same) (kept.old ∙ ap (λ (z : ClusterAt). z.old) same) (kept.now ∙ ap (λ (z : ClusterAt). z.now) same)
+advances_by time h mid g (Becomes.Began over is) kept = Advances.Began over (kept.since ∙ ap (λ (z : ClusterAt). z.since) is) (kept.old ∙ ap (λ (z : ClusterAt). z.old) is) (kept.now ∙ ap (λ (z : ClusterAt). z.now) is)
+
+module _ (one_port : SignalsHaveOnePort) (model : PureTree) (flat : Flat) (time : ℕ) (w : World SideOf) (e f : Engine) (left rest : ℕ) (m : IsModelOf model flat) (now : IsNow model flat w e left)
+    (none : e.outputs.traced ≡ []) (had : HasHadInstant flat time e f left rest) (goes : InstantGoes model flat time w e f left rest had) where
+  long : length had.crossed.clusters ≡ length w.clusters
+  long = (crossed_long flat time (crossing_of e.clusters.items e.since.items left) (length e.clusters.items) had.crossed had.boundaries).0 ∙ sym now.at.same
+
+  abbrev v : World SideOf
+  v = world_crossed (at_begin w) goes.crossing.clusters had.crossed.left
+
+  traces : HaveTraced model flat goes.crossing.clusters goes.passing.clusters (run_of had.crossed.clusters e.outputs had.crossed.left) (run_of f.clusters.items had.outputs had.between)
+  traces = passes_trace model flat (rules_of model flat) (pass_at time had.crossed.since f.inputs.items) v (run_of had.crossed.clusters e.outputs had.crossed.left) one_port m.sound m.checked m.is m.limits
+      goes.crossing.at refl goes.ready (length w.clusters) (run_of f.clusters.items had.outputs had.between) had.firings.sent
+      (subst (λ n. HavePassed flat (pass_at time had.crossed.since f.inputs.items) n (run_of had.crossed.clusters e.outputs had.crossed.left) (run_of f.clusters.items had.outputs had.between) had.firings.sent) long had.firings.passed)
+      goes.passing
+
+  new_is : traces.new ≡ f.outputs.traced
+  new_is = sym (traces.gained ∙ ap (λ l. l ++ traces.new) none) ∙ sym (ap (λ (o : OutputsOf). o.traced) had.traced)
+
+  -- a boundary adds no sample
+  crossed_samples : (n number : ℕ) (port : PortRow) (h mid : ClusterAt) (c : ClusterOf) (samples : List Raw) → IsAt model flat (n + 1) h c → Becomes time h mid → AreSamplesOf model flat (n + 1) number port h samples
+      → AreSamplesOf model flat (n + 1) number port mid samples
+  crossed_samples n number port h mid c samples at (Becomes.Stayed going same) are = subst (λ z. AreSamplesOf model flat (n + 1) number port z samples) (sym same) are
+  crossed_samples n number port h mid c samples at (Becomes.Began over is) are = subst (λ z. AreSamplesOf model flat (n + 1) number port z samples) (sym is)
+      (boundary_adds_none model flat (n + 1) number time port h c samples at
+      (eqb-true h.place (length h.entries) (and_left (nat_eq h.place (length h.entries)) (nat_eq time (h.since + h.now.info.period)) over)) are)
+
+  cluster_of : (n : ℕ) (h : ClusterAt) → slice_get w.clusters n ≡ Some h → (c : ClusterOf) × IsAt model flat (n + 1) h c
+  cluster_of n h h_at =
+      let i = slice_get_within w.clusters n h h_at in
+      let s = now.at.same in
+      let c = get_inside e.clusters.items n (omega (arith, i, s)) in (c.0, now.at.each n h c.0 h_at c.1)
+
+  pub advanced : HasAdvanced model flat time w goes.world f.outputs.traced
+  advanced = record {
+    same =
+        let keeps = firings_keep model flat (rules_of model flat) (λ k c. refl) time (length w.clusters) v _ goes.passing.goes in
+        ap length goes.same ∙ keeps.same ∙ goes.crossing.at.same ∙ long;
+    clusters = λ n h g h_at g_at. (
+        let b = from_before model flat time w e f left rest had goes n g g_at in
+        subst (λ z. Advances time z g) (some_same b.0 h (sym b.2 ∙ h_at)) (advances_by time b.0 b.1 g b.4 b.5));
+    samples = λ n number port h g samples h_at g_at traced are. (
+        let b = from_before model flat time w e f left rest had goes n g g_at in
+        let c = cluster_of n h h_at in
+        let becomes = subst (λ z. Becomes time z b.1) (some_same b.0 h (sym b.2 ∙ h_at)) b.4 in
+        subst (λ l. AreSamplesOf model flat (n + 1) number port g (samples ++ samples_of port.signal l)) new_is
+        (traces.samples n number port b.1 g samples b.3 (sym (ap (λ l. slice_get l n) goes.same) ∙ g_at) traced (crossed_samples n number port h b.1 c.0 samples c.1 becomes are)));
+  }
+
+pub instant_advances : SignalsHaveOnePort → InstantAdvances
+instant_advances one_port model flat time w e f left rest m now none had goes = advanced one_port model flat time w e f left rest m now none had goes
