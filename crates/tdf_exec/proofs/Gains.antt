@@ -1,15 +1,16 @@
 -- What outputs gain.
-use Rattle.std.proofs.Common.{◌≡◌, ◌∙◌, ℕ, ◌+◌, ◌<◌, ◌≤◌, List, [], ◌∷◌, ◌++◌, Some, length, take, refl, sym, ap, subst, arith, add-one, append_assoc, append-nil, length-append, take-suc}
+use Rattle.std.proofs.Common.{◌≡◌, ◌∙◌, ℕ, ◌+◌, ◌<◌, ◌≤◌, List, [], ◌∷◌, ◌++◌, Option, Some, None, length, map, take, refl, sym, ap, subst, arith, add-one, append_assoc, append-nil, length-append, take-suc}
 use Rattle.std.proofs.lemmas.List.Concat.{flat_map-append}
+use Rattle.std.proofs.lemmas.List.Elements.{All-append, All-cons, All-nil}
 use Rattle.std.proofs.lemmas.List.FromFn.{length-map-range_with_len, map-range_with_len_more}
 use Rattle.std.proofs.lemmas.List.Sums.{sum_by-cons, sum_by-take-le, sum_by_more}
 use Rattle.std.proofs.lemmas.Option.{get_or_from_slice_get, slice_get_within}
-use Rattle.std.specs.List.{flat_map}
-use Rattle.std.specs.Prelude.{slice_get, slice_index_or}
+use Rattle.std.specs.List.{All, flat_map, range_with_len}
+use Rattle.std.specs.Prelude.{ℤ, slice_get, slice_index_or}
 use Rattle.tdf_convert.specs.Outputs.{OutputsOf}
 use Rattle.tdf_convert.specs.declared.outputs.Sent.{Sent}
 use Rattle.tdf_convert.specs.declared.outputs.Traced.{Traced}
-use Rattle.tdf_exec.specs.Gained.{with_gains}
+use Rattle.tdf_exec.specs.Gained.{HasFewPlaces, with_gains}
 use Rattle.tdf_exec.specs.Made.{IsInSpans}
 use Rattle.tdf_exec.specs.Traced.{first_samples, port_samples, traced_count, traced_sample}
 use Rattle.tdf_exec.specs.declared.runners.TracedPort.{TracedPort}
@@ -97,3 +98,17 @@ ports_more ports list j t old cur new at is put =
         ∙ ap (flat_map (port_samples ports)) (take-suc list j t (slice_get_within list j t at) ∙ ap (λ u. take j list ++ u ∷ []) (get_or_from_slice_get list j t t at))
         ∙ flat_map-append (port_samples ports) (take j list) (t ∷ [])
         ∙ ap (λ l. flat_map (port_samples ports) (take j list) ++ l) (append-nil (port_samples ports t))
+
+-- traced samples have few places
+sample_few : (samples : List ℤ) (k : ℕ) (o : Option PortSpan) → (sample_of samples k o).frac ≤ 63
+sample_few samples k None = omega arith
+sample_few samples k (Some p) = p.format.fraction_bits
+
+made_few : (ports : PortsSeen) (t : TracedPort) (ks : List ℕ) → All HasFewPlaces (map (λ k. traced_sample t.signal (sample_at ports.spans ports.state.samples t.port k)) ks)
+made_few ports t [] = All-nil HasFewPlaces
+made_few ports t (k ∷ ks) = All-cons HasFewPlaces (traced_sample t.signal (sample_at ports.spans ports.state.samples t.port k)) (map (λ j. traced_sample t.signal (sample_at ports.spans ports.state.samples t.port j)) ks)
+    (sample_few ports.state.samples k (slice_get ports.spans t.port)) (made_few ports t ks)
+
+pub ports_few : (ports : PortsSeen) (list : List TracedPort) → All HasFewPlaces (flat_map (port_samples ports) list)
+ports_few ports [] = All-nil HasFewPlaces
+ports_few ports (t ∷ list) = All-append HasFewPlaces (port_samples ports t) (flat_map (port_samples ports) list) (made_few ports t (range_with_len 0 t.rate)) (ports_few ports list)

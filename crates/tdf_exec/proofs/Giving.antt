@@ -11,13 +11,13 @@ use Rattle.tdf_convert.specs.Outputs.{OutputsOf}
 use Rattle.tdf_convert.specs.declared.outputs.Sent.{Sent}
 use Rattle.tdf_convert.specs.declared.outputs.Traced.{Traced}
 use Rattle.tdf_exec.proofs.Acting.{fronts_at, fronts_long, turn_of}
-use Rattle.tdf_exec.proofs.Gains.{gains_none, traced_long}
+use Rattle.tdf_exec.proofs.Gains.{gains_none, ports_few, traced_long}
 use Rattle.tdf_exec.proofs.Moved.{some_inj}
 use Rattle.tdf_exec.proofs.Rows.{all_at}
 use Rattle.tdf_exec.proofs.Stepping.{front_at, module_step, module_turn, sampler_step, sink_step}
 use Rattle.tdf_exec.specs.Cluster.{ClusterOf}
 use Rattle.tdf_exec.specs.machine.Fired.{HasGiven, HasRun, HasRunModule, HasSampled, HasSent}
-use Rattle.tdf_exec.specs.Gained.{IsSentOf, sent_by, sent_sample, sent_size, traced_by, traced_size, with_gains}
+use Rattle.tdf_exec.specs.Gained.{HasFewPlaces, IsSentOf, sent_by, sent_sample, sent_size, traced_by, traced_size, with_gains}
 use Rattle.tdf_exec.specs.Made.{IsClusterOf, IsModuleOf, IsSamplerOf, IsSinkOf}
 use Rattle.tdf_exec.specs.Played.{IsPeriodOf, play_of}
 use Rattle.tdf_exec.specs.Runners.{ModuleOf, SamplerOf}
@@ -66,6 +66,7 @@ pub record StepGains (flat : Flat) (inputs : List Raw) (c d : ClusterOf) (x : En
   pub traced : List Traced
   pub gains : after ≡ with_gains before sent traced
   pub sinks : All (IsSentOf flat.tables) sent
+  pub places : All HasFewPlaces traced
   pub few_sent : length sent ≡ sent_size (slice_get c.runners x.actor)
   pub few_traced : length traced ≡ traced_size (slice_get c.runners x.actor)
   pub step : IsAnyStep flat inputs c d x sent traced
@@ -82,6 +83,7 @@ module _ (flat : Flat) (c : ClusterOf) (inputs : List Raw) (x : Entry) (of : IsC
     traced = flat_map (port_samples ran.next.ports) ran.next.traced;
     gains = subst (λ r. HasGiven x.actor c.rings r outs outs2) ran.after_is given;
     sinks = All-nil (IsSentOf flat.tables);
+    places = ports_few ran.next.ports ran.next.traced;
     few_sent = sym (ap sent_size there);
     few_traced = traced_long ran.next.ports ran.next.traced ∙ ap traced_count ran.fired.traced ∙ sym (ap traced_size there);
     step = λ model start old p reads from checked period told. record {
@@ -107,6 +109,7 @@ module _ (flat : Flat) (c : ClusterOf) (inputs : List Raw) (x : Entry) (of : IsC
     traced = [];
     gains = subst (λ r. HasGiven x.actor c.rings r outs outs2) ran.after_is given ∙ gains_none outs;
     sinks = All-nil (IsSentOf flat.tables);
+    places = All-nil HasFewPlaces;
     few_sent = sym (ap sent_size there);
     few_traced = sym (ap traced_size there);
     step = λ model start old p reads from checked period told.
@@ -128,6 +131,7 @@ module _ (flat : Flat) (c : ClusterOf) (inputs : List Raw) (x : Entry) (of : IsC
     traced = [];
     gains = out.given;
     sinks = All-cons (IsSentOf flat.tables) (sent_sample x.actor out.value) [] is_sent (All-nil (IsSentOf flat.tables));
+    places = All-nil HasFewPlaces;
     few_sent = sym (ap sent_size there);
     few_traced = sym (ap traced_size there);
     step = λ model start old p reads from checked period told.
@@ -143,13 +147,6 @@ module _ (flat : Flat) (c : ClusterOf) (inputs : List Raw) (x : Entry) (of : IsC
     where
       is : IsSinkOf flat c x.actor k.edge
       is = of.runners x.actor (runner.Sink k) there
-
-      is_sent : IsSentOf flat.tables (sent_sample x.actor out.value)
-      is_sent = record {
-        sink = is.actor_is.kind_is;
-        fits = λ e f reads format. all_at (IsOfFormat f) (ring_at c.rings k.edge).samples 0 out.value
-            (of.held.formats k.edge f is.edge_is.is.inside (ap (edge_format flat.tables) (sym (is.edge_is.only e reads)) ∙ format)) out.value_is;
-      }
 
       out : HasSent x.actor k.edge c.rings outs outs2
       out = subst (λ r. HasGiven x.actor c.rings r outs outs2) same given

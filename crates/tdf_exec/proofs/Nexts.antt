@@ -61,6 +61,7 @@ module _ (flat : Flat) (c : ClusterOf) (inputs : List Raw) (x : Entry) (of : IsC
     traced = gains.traced;
     gains = gains.gains;
     sinks = gains.sinks;
+    places = gains.places;
     few_sent = gains.few_sent;
     few_traced = gains.few_traced;
     step = gains.step;

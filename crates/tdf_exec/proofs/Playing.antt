@@ -18,7 +18,7 @@ use Rattle.tdf_exec.proofs.Moved.{some_at, some_inj}
 use Rattle.tdf_exec.proofs.Nexts.{like_self}
 use Rattle.tdf_exec.proofs.Stepping.{done_mono}
 use Rattle.tdf_exec.specs.Cluster.{ClusterOf, is_due, is_offset, offset_in}
-use Rattle.tdf_exec.specs.Gained.{GiveAll, Gives, HaveRoom, IsSentOf, sent_size, size_due, size_if, traced_size}
+use Rattle.tdf_exec.specs.Gained.{GiveAll, Gives, HasFewPlaces, HaveRoom, IsSentOf, sent_size, size_due, size_if, traced_size}
 use Rattle.tdf_exec.specs.Made.{IsClusterOf, is_sampler}
 use Rattle.tdf_exec.specs.Played.{AreAllGiven, AreGiven, AreInputsFor, IsLike, IsMoved, IsPeriodOf, KeepsStanding, actors_between, counted, play_of, turns_from}
 use Rattle.tdf_exec.specs.Runners.{ModuleOf, SamplerOf}
@@ -274,6 +274,7 @@ module _ (flat : Flat) (offset : ℕ) (inputs : List Raw) (c : ClusterOf) (place
           traced = to.gained.traced ++ step.traced;
           are = gains_then outs cur cur2 to.gained.sent step.sent to.gained.traced step.traced to.gained.are step.gains;
           sinks = All-append (IsSentOf flat.tables) to.gained.sent step.sent to.gained.sinks step.sinks;
+          places = All-append HasFewPlaces to.gained.traced step.traced to.gained.places step.places;
           given = λ model start old p reads from checked period told.
               subst (λ (order : List ℕ). GiveAll flat (cluster_net model flat c.number start) old p reads order (play_of from c) (play_of from later)
               (to.gained.sent ++ step.sent) (to.gained.traced ++ step.traced))
@@ -376,6 +377,7 @@ played_none flat offset inputs c outs of many room = record {
     traced = [];
     are = gains_none outs;
     sinks = All-nil (IsSentOf flat.tables);
+    places = All-nil HasFewPlaces;
     given = λ model start old p reads from checked period told.
         subst (λ (order : List ℕ). GiveAll flat (cluster_net model flat c.number start) old p reads order (play_of from c) (play_of from c) [] []) (sym (actors_none c.entries c.place))
         (give_none flat (cluster_net model flat c.number start) old p reads (play_of from c));

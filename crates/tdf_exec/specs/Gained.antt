@@ -94,6 +94,10 @@ pub record IsSentOf (tables : FlatOf) (s : Sent) : Type 0 where
   pub fits : (e : ℕ) (f : Format) → Reads tables s.actor e → edge_format tables e ≡ Some f
       → IsOfFormat f s.value
 
+-- a sample of a traced signal has no more places after the point than a format can have
+abbrev pub HasFewPlaces : Traced → Type 0
+HasFewPlaces t = t.value.frac ≤ 63
+
 -- the outputs gained exactly what the steps of the streams give, in the order of the plan
 pub record HasGained (flat : Flat) (offset : ℕ) (inputs : List Raw) (c d : ClusterOf)
     (before after : OutputsOf) : Type 0 where
@@ -101,6 +105,7 @@ pub record HasGained (flat : Flat) (offset : ℕ) (inputs : List Raw) (c d : Clu
   pub traced : List Traced
   pub are : after ≡ with_gains before sent traced
   pub sinks : All (IsSentOf flat.tables) sent
+  pub places : All HasFewPlaces traced
   pub given : (model : PureTree) (start : Start) (old : List PeriodRecord) (p : PeriodRecord)
       → (reads : ℕ → List Raw) (from : ℕ) → IsCheckedOf model flat.checked → IsPeriodOf c from p
       → AreAllGiven offset c inputs reads old from

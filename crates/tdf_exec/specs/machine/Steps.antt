@@ -8,7 +8,7 @@ use Rattle.tdf_convert.specs.Outputs.{OutputsOf}
 use Rattle.tdf_convert.specs.declared.outputs.Sent.{Sent}
 use Rattle.tdf_convert.specs.declared.outputs.Traced.{Traced}
 use Rattle.tdf_exec.specs.Cluster.{ClusterOf}
-use Rattle.tdf_exec.specs.Gained.{Gives, HasGained, HaveRoom, IsSentOf, sent_size, traced_size, with_gains}
+use Rattle.tdf_exec.specs.Gained.{Gives, HasFewPlaces, HasGained, HaveRoom, IsSentOf, sent_size, traced_size, with_gains}
 use Rattle.tdf_exec.specs.Made.{IsClusterOf, is_sampler}
 use Rattle.tdf_layout.specs.Samples.{edge_format}
 use Rattle.tdf_exec.specs.Played.{AreGiven, HasPlayed, IsLike, IsMoved, IsPeriodOf, counted}
@@ -99,6 +99,7 @@ pub record HasStepped (flat : Flat) (inputs : List Raw) (c d : ClusterOf)
   pub traced : List Traced
   pub gains : after ≡ with_gains before sent traced
   pub sinks : All (IsSentOf flat.tables) sent
+  pub places : All HasFewPlaces traced
   pub few_sent : length sent ≡ sent_size (slice_get c.runners entry.actor)
   pub few_traced : length traced ≡ traced_size (slice_get c.runners entry.actor)
   pub step : IsAnyStep flat inputs c d entry sent traced
