@@ -1,5 +1,16 @@
 pub mod Advancing
+pub mod Answering
+pub mod Below
 pub mod Dues
+pub mod Ended
+pub mod Finishing
 pub mod Keeping
 pub mod Leading
+pub mod Marking
+pub mod Onward
+pub mod Reaching
+pub mod RunStands
 pub mod Staying
+pub mod Stepping
+pub mod Waiting
+pub mod Written

@@ -1,4 +1,6 @@
 pub mod Advancing
+pub mod Ending
 pub mod Laws
 pub mod Ongoing
+pub mod Running
 pub mod Staying
