@@ -1,5 +1,6 @@
 pub mod Advancing
 pub mod Answering
+pub mod Beginning
 pub mod Below
 pub mod Dues
 pub mod Ended
@@ -7,10 +8,13 @@ pub mod Finishing
 pub mod Keeping
 pub mod Leading
 pub mod Marking
+pub mod Noting
 pub mod Onward
+pub mod Opening
 pub mod Reaching
 pub mod RunStands
 pub mod Staying
 pub mod Stepping
 pub mod Waiting
+pub mod WholeRun
 pub mod Written

@@ -99,7 +99,7 @@ module _ (flat : Flat) (r : Running) (stop time : ℕ) (can : CanGoOn flat r) (w
     since = since_mark flat r can r.shown.trace.rows.upto can.late;
     ends = λ model start m run. (
         let state = stop_reached model flat start r.from stop r.left r.engine can.engine can.ready run.going within
-            (subst (λ t. IsNextDue r.engine.clusters.items r.engine.since.items (side_of r.engine.kernel) stop t) same next) in
+        (subst (λ t. IsNextDue r.engine.clusters.items r.engine.since.items (side_of r.engine.kernel) stop t) same next) in
         record {
           by = (run.going.world, state, run.going.now);
           time = ap (λ (x : State (World SideOf) RunFault). end_time x stop) state ∙ sym same;

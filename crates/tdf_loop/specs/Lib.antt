@@ -3,4 +3,5 @@ pub mod Ending
 pub mod Laws
 pub mod Ongoing
 pub mod Running
+pub mod Runs
 pub mod Staying

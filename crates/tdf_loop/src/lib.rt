@@ -8,11 +8,15 @@
 //! - `laws`, `standing`: what holds of the definitions.
 #![tactic(auto)]
 
+mod ending;
 mod going;
 mod laws;
+mod run;
 mod running;
 mod standing;
+mod starting;
 
 pub use laws::{law_advancing, law_going, law_next, law_staying, law_waiting};
+pub use run::{Ran, run_model};
 pub use running::Running;
 pub use standing::law_standing;
