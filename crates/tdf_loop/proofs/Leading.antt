@@ -16,7 +16,7 @@ use Rattle.tdf_history.specs.Instant.{is_over, periods_of}
 use Rattle.tdf_history.specs.World.{ClusterAt, World}
 use Rattle.tdf_instants.proofs.Api.{happens, reached, spent_ends}
 use Rattle.tdf_instants.specs.History.{Spent, history, state_of}
-use Rattle.tdf_instants.specs.Laws.{IsNextTime}
+use Rattle.tdf_instants.specs.Laws.{IsNextTime, IsOn}
 use Rattle.tdf_loop.proofs.Dues.{next_is}
 use Rattle.tdf_loop.proofs.Keeping.{IsInPeriod, firings_keep}
 use Rattle.tdf_loop.specs.Ongoing.{AreTimed, InstantLeadsOn, InstantSpends, IsOngoing, StopIsReached}
@@ -89,13 +89,16 @@ module _ (along : InstantGoesAlong) (ends : InstantEndsSpent) (model : PureTree)
   pub goes_now : (f : Engine) (rest : ℕ) → (had : HasHadInstant flat time e f left rest) → InstantGoes model flat time going.world e f left rest had
   goes_now f rest had = along model flat time going.world e f left rest m of ready_now going.now had
 
+  pub leads_to : (f : Engine) (rest : ℕ) → (had : HasHadInstant flat time e f left rest) → IsOn (world_engine model flat) 0 start (time + 1) (goes_now f rest had).world
+  leads_to f rest had = record {
+    reached = omega arith;
+    on = happens (world_engine model flat) 0 start from going.world going.on stop time next_time less ∙ ap (state_of time) (goes_now f rest had).goes;
+  }
+
   pub leads_on : (f : Engine) (rest : ℕ) → (had : HasHadInstant flat time e f left rest) → IsOngoing model flat start (time + 1) f rest
   leads_on f rest had = record {
     world = (goes_now f rest had).world;
-    on = record {
-      reached = omega arith;
-      on = happens (world_engine model flat) 0 start from going.world going.on stop time next_time less ∙ ap (state_of time) (goes_now f rest had).goes;
-    };
+    on = leads_to f rest had;
     now = (goes_now f rest had).now;
     timed = stays_timed model flat time going.world e f left rest had (goes_now f rest had) going.timed;
   }

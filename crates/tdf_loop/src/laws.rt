@@ -3,6 +3,7 @@
 ghost use Rattle.tdf_loop.specs.Advancing.{InstantAdvances};
 ghost use Rattle.tdf_loop.specs.Laws.{NextIsNext};
 ghost use Rattle.tdf_loop.specs.Ongoing.{InstantLeadsOn, InstantSpends, StopIsReached};
+ghost use Rattle.tdf_loop.specs.Running.{RunsToNext};
 ghost use Rattle.tdf_loop.specs.Staying.{CellsStayBelow};
 
 use tdf_engine::law_instant;
@@ -34,3 +35,8 @@ pub fn law_advancing()
 {
     law_one_port();
 }
+
+/// Where nothing is due before the next time, a run goes on up to it, and its trace shows no more.
+pub fn law_waiting()
+    ensures { RunsToNext }
+{}

@@ -1,0 +1,84 @@
+-- Rows of a run are written up to a mark that no period began before.
+use Rattle.std.proofs.Common.{◌≡◌, ◌∙◌, ℕ, ◌≤◌, List, Option, max, sym, subst, inl, inr, arith}
+use Rattle.std.proofs.lemmas.Bool.{cases_lt}
+use Rattle.std.specs.Io.KnownBytes.{Appends}
+use Rattle.tdf_columns.specs.Calls.{StandBelow}
+use Rattle.tdf_engine.specs.InstantLaws.{IsModelOf}
+use Rattle.tdf_engine.specs.Telling.{IsLeastStart}
+use Rattle.tdf_events.specs.Side.{SideOf}
+use Rattle.tdf_flat.specs.declared.model.Flat.{Flat}
+use Rattle.tdf_history.specs.Cells.{run_cells}
+use Rattle.tdf_history.specs.World.{World}
+use Rattle.tdf_io.specs.Bytes.{AppendsFront}
+use Rattle.tdf_loop.proofs.Onward.{since_mark}
+use Rattle.tdf_loop.proofs.RunStands.{run_stands}
+use Rattle.tdf_loop.proofs.Finishing.{rows_same}
+use Rattle.tdf_loop.proofs.Written.{rows_alike, rows_past}
+use Rattle.tdf_loop.specs.Ending.{ShownStandsBelow}
+use Rattle.tdf_loop.specs.Running.{CanGoOn, GoesOn, IsRunningAt, WritesFrontTo}
+use Rattle.tdf_loop.specs.declared.running.Running.{Running}
+use Rattle.tdf_rows.specs.Laws.{Agree}
+use Rattle.tdf_rows.specs.Rows.{Cells}
+use Rattle.tdf_shown.proofs.Api.{written_is_shown}
+use Rattle.tdf_trace.specs.Stands.{TraceSeen, WritesFront, WritesRows}
+use Rattle.tdf_trace.specs.Writings.{AboutSeen, rows_text}
+use Rattle.tdf_tree.specs.Pure.{PureTree}
+use Rattle.tdf_world.specs.Rules.{rules_of}
+
+-- rows by cells that agree below a mark, up to a time that is not past both
+rows_by : (about : AboutSeen) (g h : Cells) (u v mark : ℕ) (a b : Option (List ℕ)) → Agree g h mark → u ≤ v → v ≤ max u mark → Appends a b (rows_text about g u v) → Appends a b (rows_text about h u v)
+rows_by about g h u v mark a b agree low within took = elim (cases_lt mark v) [
+  | inr high ↦ subst (λ (t : List ℕ). Appends a b t) (rows_alike about g h u v mark agree (omega (arith, low, high)) high) took
+  | inl past ↦ subst (λ (t : List ℕ). Appends a b t) (rows_past about g u v (omega (arith, low, within, past)) ∙ sym (rows_past about h u v (omega (arith, low, within, past)))) took
+]
+
+module _ (stands : ShownStandsBelow) (flat : Flat) (r : Running) (can : CanGoOn flat r) (mark : ℕ) (least : IsLeastStart r.engine.since.items r.from mark) where
+  stand : (model : PureTree) (start : World SideOf) → IsModelOf model flat → IsRunningAt model flat start r → StandBelow (run_cells model flat (rules_of model flat) start r.from) mark r.shown.trace.rows
+  stand model start m run = run_stands stands model flat start r.from mark r.left r.engine r.shown m run (since_mark flat r can mark least.each) least.within
+
+  pub marks_part : (before after : Option (List ℕ)) → WritesFront r.shown.trace mark before after → WritesFrontTo flat r before after
+  marks_part before after part = record {
+    mark = mark;
+    early = least.within;
+    late = least.each;
+    front = λ model start m run. (
+        let s = stand model start m run in
+        subst (λ (t : List ℕ). AppendsFront before after t)
+        (rows_same r.shown.trace.about s.noted (run_cells model flat (rules_of model flat) start r.from) r.shown.trace.rows.upto mark s.agree)
+        (part s.noted s.stand));
+  }
+
+  module _ (trace : TraceSeen) (before after : Option (List ℕ)) (wrote : WritesRows r.shown.trace trace before after) (about : trace.about ≡ r.shown.trace.about) (within : trace.rows.upto ≤ max r.shown.trace.rows.upto mark) where
+    abbrev pub marked : Running
+    marked = record r { shown = record r.shown { trace = trace } }
+
+    upto_later : r.shown.trace.rows.upto ≤ trace.rows.upto
+    upto_later = let some = can.some in let s = stand some.model some.start some.of some.is in (wrote s.noted s.stand).later
+
+    marks_run : (model : PureTree) (start : World SideOf) → IsModelOf model flat → IsRunningAt model flat start r → IsRunningAt model flat start marked
+    marks_run model start m run = record {
+      going = run.going;
+      shown = written_is_shown model flat start run.going.world r.from r.shown trace run.shown (λ cells old. (wrote cells old).stands) about;
+    }
+
+    pub marks_can : CanGoOn flat marked
+    marks_can = record {
+      engine = can.engine;
+      ready = can.ready;
+      none = can.none;
+      early = (let e = can.early in let l = least.within in omega (arith, e, l, within));
+      late = λ n s s_at. (let e = can.late n s s_at in let l = least.each n s s_at in omega (arith, e, l, within));
+      some = record { model = can.some.model; of = can.some.of; start = can.some.start; is = marks_run can.some.model can.some.start can.some.of can.some.is };
+    }
+
+    pub marks_goes : GoesOn flat r marked before after
+    marks_goes = record {
+      later = omega arith;
+      about = about;
+      wrote = upto_later;
+      runs = marks_run;
+      rows = λ model start m run. (
+          let s = stand model start m run in
+          rows_by r.shown.trace.about s.noted (run_cells model flat (rules_of model flat) start r.from) r.shown.trace.rows.upto trace.rows.upto mark before after s.agree upto_later within
+          (wrote s.noted s.stand).took);
+    }

@@ -1,0 +1,119 @@
+-- From one state of a run to the next.
+use Rattle.std.proofs.Common.{◌≡◌, ◌∙◌, ℕ, ◌-◌, ◌≤◌, List, Option, Some, slice_get, refl, ap, subst, arith}
+use Rattle.std.proofs.lemmas.Option.{slice_get_within}
+use Rattle.std.specs.Io.KnownBytes.{Appends}
+use Rattle.tdf_columns.specs.Tracked.{AreSince}
+use Rattle.tdf_engine.specs.Engine.{IsEngineOf}
+use Rattle.tdf_engine.specs.InstantLaws.{IsModelOf, IsNow}
+use Rattle.tdf_engine.specs.Times.{IsNextDue}
+use Rattle.tdf_engine.specs.declared.engine.Engine.{Engine}
+use Rattle.tdf_events.specs.Kernel.{side_of}
+use Rattle.tdf_events.specs.Side.{SideOf}
+use Rattle.tdf_flat.specs.declared.model.Flat.{Flat}
+use Rattle.tdf_flow.proofs.Api.{get_inside}
+use Rattle.tdf_history.specs.Cells.{run_cells}
+use Rattle.tdf_history.specs.World.{ClusterAt, World}
+use Rattle.tdf_instants.specs.History.{On, history}
+use Rattle.tdf_instants.specs.Laws.{IsNextTime}
+use Rattle.tdf_loop.proofs.Dues.{next_is}
+use Rattle.tdf_loop.proofs.Leading.{ready_then}
+use Rattle.tdf_loop.proofs.Staying.{cells_stay_below}
+use Rattle.tdf_loop.proofs.Waiting.{runs_to_next}
+use Rattle.tdf_loop.proofs.Written.{none_taken, rows_then}
+use Rattle.tdf_loop.specs.Running.{CanGoOn, GoesOn, IsRunningAt}
+use Rattle.tdf_loop.specs.declared.running.Running.{Running}
+use Rattle.tdf_rows.specs.Laws.{Agree}
+use Rattle.tdf_shown.proofs.Api.{rows_may_be_written}
+use Rattle.tdf_trace.specs.Writings.{AboutSeen, rows_text}
+use Rattle.tdf_tree.specs.Pure.{PureTree}
+use Rattle.tdf_world.specs.Rules.{rules_of, world_engine}
+
+-- no period of the history began before a mark below all starts
+pub periods_late : (model : PureTree) (flat : Flat) (w : World SideOf) (e : Engine) (left mark : ℕ) → IsEngineOf flat e → IsNow model flat w e left
+    → ((n s : ℕ) → slice_get e.since.items n ≡ Some s → mark ≤ s) → (n : ℕ) (h : ClusterAt) → slice_get w.clusters n ≡ Some h → mark ≤ h.since
+periods_late model flat w e left mark of now late n h h_at =
+    let i = slice_get_within w.clusters n h h_at in
+    let s = now.at.same in
+    let l = of.since in
+    let t = get_inside e.since.items n (omega (arith, i, s, l)) in
+    let b = now.at.begun n t.0 h h_at t.1 in
+    let low = late n t.0 t.1 in omega (arith, b, low)
+
+-- so its rows up to the mark may be written
+pub since_mark : (flat : Flat) (r : Running) (can : CanGoOn flat r) (mark : ℕ) → ((n s : ℕ) → slice_get r.engine.since.items n ≡ Some s → mark ≤ s) → AreSince mark r.shown.tracking.list
+since_mark flat r can mark late =
+    let some = can.some in
+    rows_may_be_written some.model flat some.start some.is.going.world r.from mark r.shown some.is.shown
+    (periods_late some.model flat some.is.going.world r.engine r.left mark can.engine some.is.going.now late)
+
+-- the history is on before the time of a run
+pub on_before : (model : PureTree) (flat : Flat) (start : World SideOf) (r : Running) → (run : IsRunningAt model flat start r) → history (world_engine model flat) 0 start r.from ≡ On run.going.world
+on_before model flat start r run = let z : r.from ≡ r.from - 0 = omega arith in ap (history (world_engine model flat) 0 start) z ∙ run.going.on.on
+
+-- cells below a mark stay
+pub cells_stay : (model : PureTree) (flat : Flat) (start last : World SideOf) (r : Running) (end mark : ℕ) → IsModelOf model flat → CanGoOn flat r → IsRunningAt model flat start r → r.from ≤ end
+    → history (world_engine model flat) 0 start end ≡ On last → mark ≤ r.from → ((n s : ℕ) → slice_get r.engine.since.items n ≡ Some s → mark ≤ s)
+    → Agree (run_cells model flat (rules_of model flat) start r.from) (run_cells model flat (rules_of model flat) start end) mark
+cells_stay model flat start last r end mark m can run later on low late = cells_stay_below model flat start last r.from end mark r.left r.engine m can.engine run.going later on low late
+
+-- a run goes on without a row more
+pub goes_quietly : (flat : Flat) (old new : Running) (taken : Option (List ℕ)) → old.from ≤ new.from → new.shown.trace.about ≡ old.shown.trace.about
+    → new.shown.trace.rows.upto ≡ old.shown.trace.rows.upto
+    → ((model : PureTree) (start : World SideOf) → IsModelOf model flat → IsRunningAt model flat start old → IsRunningAt model flat start new) → GoesOn flat old new taken taken
+goes_quietly flat old new taken later about upto runs = record {
+  later = later;
+  about = about;
+  wrote = omega (arith, upto);
+  runs = runs;
+  rows = λ model start m run. none_taken old.shown.trace.about (run_cells model flat (rules_of model flat) start new.from) old.shown.trace.rows.upto new.shown.trace.rows.upto taken (omega (arith, upto));
+}
+
+-- and on again
+pub goes_then : (flat : Flat) (x y z : Running) (a b c : Option (List ℕ)) → CanGoOn flat y → GoesOn flat x y a b → GoesOn flat y z b c → GoesOn flat x z a c
+goes_then flat x y z a b c can one other = record {
+  later = (let l = one.later in let k = other.later in omega (arith, l, k));
+  about = other.about ∙ one.about;
+  wrote = (let l = one.wrote in let k = other.wrote in omega (arith, l, k));
+  runs = λ model start m run. other.runs model start m (one.runs model start m run);
+  rows = λ model start m run. (
+      let mid = one.runs model start m run in
+      let last = other.runs model start m mid in
+      rows_then x.shown.trace.about (run_cells model flat (rules_of model flat) start y.from) (run_cells model flat (rules_of model flat) start z.from)
+      x.shown.trace.rows.upto y.shown.trace.rows.upto z.shown.trace.rows.upto a b c one.wrote other.wrote
+      (cells_stay model flat start last.going.world y z.from y.shown.trace.rows.upto m can mid other.later (on_before model flat start z last) can.early can.late)
+      (one.rows model start m run)
+      (subst (λ (o : AboutSeen). Appends b c (rows_text o (run_cells model flat (rules_of model flat) start z.from) y.shown.trace.rows.upto z.shown.trace.rows.upto)) one.about
+      (other.rows model start m mid)));
+}
+
+-- up to the next time at which something is due
+module _ (flat : Flat) (r : Running) (stop time : ℕ) (can : CanGoOn flat r) (within : r.from ≤ stop) (next : IsNextDue r.engine.clusters.items r.engine.since.items (side_of r.engine.kernel) stop time) where
+  abbrev pub waiting : Running
+  waiting = record r { from = time }
+
+  some_next : IsNextTime (world_engine can.some.model flat) can.some.is.going.world r.from stop time
+  some_next = next_is can.some.model flat can.some.is.going.world r.engine r.left can.engine can.some.is.going.now r.from stop time can.ready next within
+
+  pub waits_later : r.from ≤ time
+  waits_later = some_next.not_before
+
+  pub waits_runs : (model : PureTree) (start : World SideOf) → IsModelOf model flat → IsRunningAt model flat start r → IsRunningAt model flat start waiting
+  waits_runs model start m run = runs_to_next model flat start r.from stop time r.left r.engine r.shown can.engine can.ready run within next
+
+  pub waits : CanGoOn flat waiting
+  waits = record {
+    engine = can.engine;
+    ready = ready_then r.from stop time r.engine can.ready waits_later next;
+    none = can.none;
+    early = (let e = can.early in let l = waits_later in omega (arith, e, l));
+    late = can.late;
+    some = record {
+      model = can.some.model;
+      of = can.some.of;
+      start = can.some.start;
+      is = waits_runs can.some.model can.some.start can.some.of can.some.is;
+    };
+  }
+
+  pub waits_goes : (taken : Option (List ℕ)) → GoesOn flat r waiting taken taken
+  waits_goes taken = goes_quietly flat r waiting taken waits_later refl refl waits_runs

@@ -1,0 +1,133 @@
+-- An instant of a run, and what its trace shows of it.
+use Rattle.std.proofs.Common.{◌≡◌, ◌∙◌, ℕ, zero, suc, ◌+◌, ◌-◌, ◌<◌, ◌≤◌, List, [], Option, Some, slice_get, refl, sym, ap, subst, arith}
+use Rattle.std.proofs.lemmas.List.Elements.{All-append, All-nil, All-weaker}
+use Rattle.std.proofs.lemmas.Option.{slice_get_within}
+use Rattle.std.specs.Prelude.{All}
+use Rattle.tdf_base.specs.Limits.{time_end}
+use Rattle.tdf_convert.specs.Outputs.{OutputsOf}
+use Rattle.tdf_convert.specs.declared.outputs.Traced.{Traced}
+use Rattle.tdf_convert.specs.declared.outputs.Sent.{Sent}
+use Rattle.tdf_engine.specs.Engine.{HasHadInstant, IsEngineOf, IsReadyAt}
+use Rattle.tdf_engine.specs.InstantLaws.{InstantEndsSpent, InstantGoes, InstantGoesAlong, IsModelOf}
+use Rattle.tdf_engine.specs.declared.engine.Engine.{Engine}
+use Rattle.tdf_events.specs.Side.{SideOf}
+use Rattle.tdf_exec.specs.Gained.{HasFewPlaces}
+use Rattle.tdf_flat.specs.declared.model.Flat.{Flat}
+use Rattle.tdf_flow.proofs.Api.{get_inside}
+use Rattle.tdf_history.specs.Cells.{world_of}
+use Rattle.tdf_history.specs.Instant.{RunFault}
+use Rattle.tdf_history.specs.World.{ClusterAt, World}
+use Rattle.tdf_instants.specs.History.{State, history}
+use Rattle.tdf_loop.proofs.Leading.{goes_now, leads_to, stays_timed}
+use Rattle.tdf_loop.proofs.Onward.{goes_quietly, since_mark}
+use Rattle.tdf_loop.proofs.Staying.{steady}
+use Rattle.tdf_loop.specs.Advancing.{InstantAdvances}
+use Rattle.tdf_loop.specs.Running.{CanGoOn, GoesOn, IsDueNow, IsRunningAt}
+use Rattle.tdf_loop.specs.declared.running.Running.{Running}
+use Rattle.tdf_run.specs.Pass.{Done, HasTurn, HavePassed, Idle, PassAt, RunOf}
+use Rattle.tdf_shown.proofs.Api.{advanced_can_be_taken}
+use Rattle.tdf_shown.specs.Advanced.{Advances, Began, HasAdvanced, Stayed}
+use Rattle.tdf_shown.specs.Calls.{CanTake, ShowsInstant}
+use Rattle.tdf_shown.specs.Events.{values_before}
+use Rattle.tdf_shown.specs.Periods.{ClockAt, clock_at}
+use Rattle.tdf_shown.specs.declared.shown.Shown.{Shown}
+use Rattle.tdf_tree.specs.Pure.{PureTree}
+use Rattle.tdf_world.specs.Rules.{world_engine}
+
+-- what a pass traces has few places
+module _ (flat : Flat) (pass : PassAt) where
+  turn_few : (n : ℕ) (x y : RunOf) (sent : List Sent) → HasTurn flat pass n x y sent → All HasFewPlaces x.outputs.traced → All HasFewPlaces y.outputs.traced
+  turn_few n x y sent (Idle turn is did) few = subst (λ (o : OutputsOf). All HasFewPlaces o.traced) (sym did.outputs) few
+  turn_few n x y sent (Done turn is did) few = subst (λ (o : OutputsOf). All HasFewPlaces o.traced) (sym did.fired.gained.are)
+      (All-append HasFewPlaces x.outputs.traced did.fired.gained.traced few did.fired.gained.places)
+
+  passes_few : (n : ℕ) (x y : RunOf) (sent : List Sent) → HavePassed flat pass n x y sent → All HasFewPlaces x.outputs.traced → All HasFewPlaces y.outputs.traced
+  unfolding HavePassed
+  passes_few zero x y sent passed few = subst (λ (z : RunOf). All HasFewPlaces z.outputs.traced) (sym passed.0) few
+  passes_few (suc n) x y sent passed few = turn_few n passed.0 y passed.2 passed.4 (passes_few n x passed.0 passed.1 passed.3 few)
+
+module _ (along : InstantGoesAlong) (ends : InstantEndsSpent) (advances : InstantAdvances) (flat : Flat) (r : Running) (can : CanGoOn flat r) (due : IsDueNow r.engine r.from) (e : Engine) (rest : ℕ)
+    (of : IsEngineOf flat e) (had : HasHadInstant flat r.from r.engine e r.left rest) where
+  abbrev clock : ClockAt
+  clock = clock_at r.from e.since.items e.clusters.items
+
+  traced_few : All (λ (t : Traced). t.value.frac ≤ 120) e.outputs.traced
+  traced_few = All-weaker HasFewPlaces (λ (t : Traced). t.value.frac ≤ 120) (λ t few. omega (arith, few)) e.outputs.traced
+      (subst (λ (o : OutputsOf). All HasFewPlaces o.traced) (sym had.traced)
+      (passes_few flat _ _ _ _ had.firings.sent had.firings.passed (subst (All HasFewPlaces) (sym can.none) (All-nil HasFewPlaces))))
+
+  module _ (model : PureTree) (start : World SideOf) (m : IsModelOf model flat) (run : IsRunningAt model flat start r) where
+    abbrev goes : InstantGoes model flat r.from run.going.world r.engine e r.left rest had
+    goes = goes_now along ends model flat start r.from due.stop r.from r.left r.engine m can.engine can.ready run.going (let b = due.below in omega (arith, b)) due.next due.below e rest had
+
+    advanced : HasAdvanced model flat r.from run.going.world goes.world e.outputs.traced
+    advanced = advances model flat r.from run.going.world r.engine e r.left rest m run.going.now can.none had goes
+
+    values_are : e.kernel.values ≡ values_before model flat start (r.from + 1)
+    values_are =
+        let on = leads_to along ends model flat start r.from due.stop r.from r.left r.engine m can.engine can.ready run.going (let b = due.below in omega (arith, b)) due.next due.below e rest had in
+        let z : r.from + 1 ≡ r.from + 1 - 0 = omega arith in
+        ap (λ (s : SideOf). s.values) goes.now.side
+        ∙ sym (ap (λ (x : State (World SideOf) RunFault). (world_of x).events.values) (ap (history (world_engine model flat) 0 start) z ∙ on.on))
+
+    -- no period began before the rows that are written end
+    late_at : (n s : ℕ) → slice_get e.since.items n ≡ Some s → r.shown.trace.rows.upto ≤ s
+    late_at n s s_at =
+        let i = slice_get_within e.since.items n s s_at in
+        let l = of.since in
+        let c = goes.now.at.same in
+        let g = get_inside goes.world.clusters n (omega (arith, i, l, c)) in
+        let a = advanced.same in
+        let j = slice_get_within goes.world.clusters n g.0 g.1 in
+        let h = get_inside run.going.world.clusters n (omega (arith, j, a)) in
+        let b = goes.now.at.begun n s g.0 g.1 s_at in
+        let p = run.going.now.at.same in
+        let q = can.engine.since in
+        let k = slice_get_within run.going.world.clusters n h.0 h.1 in
+        let t = get_inside r.engine.since.items n (omega (arith, k, p, q)) in
+        let d = run.going.now.at.begun n t.0 h.0 h.1 t.1 in
+        late_by h.0 g.0 s t.0 (advanced.clusters n h.0 g.0 h.1 g.1) b d (can.late n t.0 t.1)
+      where
+        late_by : (h g : ClusterAt) (s t : ℕ) → Advances r.from h g → s ≡ g.since → t ≡ h.since → r.shown.trace.rows.upto ≤ t → r.shown.trace.rows.upto ≤ s
+        late_by h g s t (Began over since old now) b d low = let y = can.early in omega (arith, y, b, since)
+        late_by h g s t (Stayed over since old now) b d low = omega (arith, low, b, d, since)
+
+  pub can_take : r.from < time_end → CanTake flat clock e.outputs.traced e.kernel.values r.shown
+  can_take soon =
+      let some = can.some in
+      let g = goes some.model some.start some.of some.is in
+      advanced_can_be_taken some.model flat some.start some.is.going.world g.world clock e.outputs.traced e.kernel.values r.shown some.of.is some.of.limits some.is.shown
+      (advanced some.model some.start some.of some.is) (steady some.model flat some.is.going.world r.engine r.left some.is.going.now) g.now.at of.since soon can.early
+      (since_mark flat r can r.shown.trace.rows.upto can.late) traced_few of.kernel.values
+
+  -- and when it is shown
+  module _ (s : Shown) (shows : ShowsInstant flat clock e.outputs.traced e.kernel.values r.shown s) (upto : s.trace.rows.upto ≡ r.shown.trace.rows.upto) (about : s.trace.about ≡ r.shown.trace.about) where
+    abbrev pub stepped : Running
+    stepped = record { engine = record e { outputs = record e.outputs { traced = [] } }; shown = s; from = r.from + 1; left = rest }
+
+    pub step_runs : (model : PureTree) (start : World SideOf) → IsModelOf model flat → IsRunningAt model flat start r → IsRunningAt model flat start stepped
+    step_runs model start m run =
+        let g = goes model start m run in
+        let w = due.below in record {
+          going = record {
+            world = g.world;
+            on = leads_to along ends model flat start r.from due.stop r.from r.left r.engine m can.engine can.ready run.going (omega (arith, w)) due.next due.below e rest had;
+            now = record { at = g.now.at; side = g.now.side; turns = g.now.turns };
+            timed = stays_timed model flat r.from run.going.world r.engine e r.left rest had g run.going.timed;
+          };
+          shown = shows model start run.going.world g.world m.limits run.shown (advanced model start m run) g.now.at (values_are model start m run);
+        }
+
+    pub step_can : IsEngineOf flat stepped.engine → IsReadyAt (r.from + 1) stepped.engine → CanGoOn flat stepped
+    step_can engine ready =
+        let some = can.some in record {
+          engine = engine;
+          ready = ready;
+          none = refl;
+          early = (let y = can.early in omega (arith, y, upto));
+          late = λ n t t_at. (let l = late_at some.model some.start some.of some.is n t t_at in omega (arith, l, upto));
+          some = record { model = some.model; of = some.of; start = some.start; is = step_runs some.model some.start some.of some.is };
+        }
+
+    pub step_goes : (taken : Option (List ℕ)) → GoesOn flat r stepped taken taken
+    step_goes taken = goes_quietly flat r stepped taken (omega arith) about upto step_runs

@@ -1,0 +1,89 @@
+use Rattle.std.proofs.Common.{◌≡◌, ◌∙◌, ℕ, ◌<◌, ◌≤◌, Ok, ap, sym, subst, inl, inr, arith}
+use Rattle.std.proofs.lemmas.Bool.{cases_lt}
+use Rattle.tdf_engine.specs.Engine.{HasBeenSpent}
+use Rattle.tdf_history.specs.Cells.{run_cells}
+use Rattle.tdf_loop.proofs.Answering.{always_err}
+use Rattle.tdf_loop.proofs.Onward.{goes_then, waits, waits_goes, waits_later}
+use Rattle.tdf_loop.proofs.Reaching.{is_spent, part_then, part_to, reaches}
+use Rattle.tdf_loop.proofs.Written.{none_front}
+use Rattle.tdf_loop.proofs.running.Running.turn.Goals as goal
+use Rattle.tdf_loop.specs.Ending.{GoesToEnd, end_from}
+use Rattle.tdf_loop.specs.Running.{CanGoOn, GoesOn}
+use Rattle.tdf_loop.specs.declared.going.Ended.TheVariants as ended
+use Rattle.tdf_loop.specs.declared.running.Running.{Running}
+use Rattle.tdf_world.specs.Rules.{rules_of}
+
+less_than : (t stop : ℕ) → t ≤ stop → (t ≡ stop → ⊥) → t < stop
+less_than t stop within other = elim (cases_lt t stop) [
+  | inl less ↦ less
+  | inr over ↦ absurd (other (omega (arith, within, over)))
+]
+
+pub returns-then-self-stop-clause-ends : goal.returns-then-self-stop-clause-ends
+returns-then-self-stop-clause-ends g c =
+    let taken = g.K.Sink.taken c.args.out.now in
+    subst (λ (x : Running). GoesToEnd c.args.flat.now c.args.stop c.args.self.now x taken taken ended.Reached) (sym c.wait.ensures.rest)
+    (reaches c.args.flat.now c.args.self.now c.args.stop c.wait.new.self.from c.requires.can c.requires.within c.wait.ensures.next c.if-self-stop.true taken)
+
+pub step-requires-clause-can : goal.step-requires-clause-can
+step-requires-clause-can g c = subst (CanGoOn c.args.flat.now) (sym c.wait.ensures.rest)
+    (waits c.args.flat.now c.args.self.now c.args.stop c.wait.new.self.from c.requires.can c.requires.within c.wait.ensures.next)
+
+pub returns-in-Ok-Spent-clause-ends : goal.returns-in-Ok-Spent-clause-ends
+returns-in-Ok-Spent-clause-ends g c =
+    let taken = g.K.Sink.taken c.args.out.now in
+    let flat = c.args.flat.now in
+    let rest = c.wait.ensures.rest in
+    let n = c.step.new.self in
+    let same : n ≡ record c.args.self.now { engine = n.engine; from = c.wait.new.self.from; left = n.left } =
+    c.in-Ok-Spent.ensures.still (ap Ok c.in-Ok-Spent.field-0-is) ∙ ap (λ (x : Running). record x { engine = n.engine; left = n.left }) rest in
+    subst (λ (x : Running). GoesToEnd flat c.args.stop c.args.self.now x taken taken ended.Spent) (sym same)
+    (is_spent flat c.args.self.now c.args.stop c.wait.new.self.from c.requires.can c.requires.within c.wait.ensures.next c.law_instant.ensures.along c.law_instant.ensures.spent n.engine n.left
+    (less_than c.wait.new.self.from c.args.stop c.wait.ensures.next.within c.if-self-stop.false)
+    (subst (λ (x : Running). HasBeenSpent flat x.from x.engine x.left) rest (c.in-Ok-Spent.ensures.spent (ap Ok c.in-Ok-Spent.field-0-is)))
+    taken)
+
+pub returns-in-Err-clause-part : goal.returns-in-Err-clause-part
+returns-in-Err-clause-part g c = λ model start m run.
+    none_front c.args.self.now.shown.trace.about (run_cells model c.args.flat.now (rules_of model c.args.flat.now) start (end_from model c.args.flat.now start c.args.stop))
+    c.args.self.now.shown.trace.rows.upto (end_from model c.args.flat.now start c.args.stop) (g.K.Sink.taken c.args.out.now)
+
+pub returns-in_err-write-clause-part : goal.returns-in_err-write-clause-part
+returns-in_err-write-clause-part g c =
+    let flat = c.args.flat.now in
+    let r = c.args.self.now in
+    let taken = g.K.Sink.taken c.args.out.now in
+    let can = c.requires.can in
+    let next = c.wait.ensures.next in
+    let waited = subst (CanGoOn flat) (sym c.wait.ensures.rest) (waits flat r c.args.stop c.wait.new.self.from can c.requires.within next) in
+    let first : GoesOn flat r c.wait.new.self taken taken =
+    subst (λ (x : Running). GoesOn flat r x taken taken) (sym c.wait.ensures.rest) (waits_goes flat r c.args.stop c.wait.new.self.from can c.requires.within next taken) in
+    let is = ap Ok c.in-Ok-Done.field-0-is in
+    let mid = c.in-Ok-Done.ensures.can is in
+    let one = goes_then flat r c.wait.new.self c.step.new.self taken taken taken waited first (c.in-Ok-Done.ensures.goes is taken) in
+    let low : c.step.new.self.from ≤ c.args.stop =
+    (let a = c.in-Ok-Done.ensures.after is in let l = less_than c.wait.new.self.from c.args.stop next.within c.if-self-stop.false in omega (arith, a, l)) in
+    always_err c.from_residual.result
+    (part_then flat r c.step.new.self c.args.stop taken taken (g.K.Sink.taken c.write.new.out) mid low one
+    (part_to flat c.step.new.self c.args.stop taken (g.K.Sink.taken c.write.new.out) mid low c.in_err-write.ensures.part))
+
+pub returns-clause-goes : goal.returns-clause-goes
+returns-clause-goes g c = λ _.
+    let flat = c.args.flat.now in
+    let r = c.args.self.now in
+    let taken = g.K.Sink.taken c.args.out.now in
+    let can = c.requires.can in
+    let next = c.wait.ensures.next in
+    let waited = subst (CanGoOn flat) (sym c.wait.ensures.rest) (waits flat r c.args.stop c.wait.new.self.from can c.requires.within next) in
+    let first : GoesOn flat r c.wait.new.self taken taken =
+    subst (λ (x : Running). GoesOn flat r x taken taken) (sym c.wait.ensures.rest) (waits_goes flat r c.args.stop c.wait.new.self.from can c.requires.within next taken) in
+    let is = ap Ok c.in-Ok-Done.field-0-is in
+    let one = goes_then flat r c.wait.new.self c.step.new.self taken taken taken waited first (c.in-Ok-Done.ensures.goes is taken) in
+    goes_then flat r c.step.new.self c.write.new.self taken taken (g.K.Sink.taken c.write.new.out) (c.in-Ok-Done.ensures.can is) one c.in_ok-write.ensures.goes
+
+pub returns-clause-on : goal.returns-clause-on
+returns-clause-on g c = λ _.
+    let l = waits_later c.args.flat.now c.args.self.now c.args.stop c.wait.new.self.from c.requires.can c.requires.within c.wait.ensures.next in
+    let a = c.in-Ok-Done.ensures.after (ap Ok c.in-Ok-Done.field-0-is) in
+    let s = c.write.ensures.same in
+    omega (arith, l, a, s)

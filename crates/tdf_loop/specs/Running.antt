@@ -1,0 +1,91 @@
+-- A run with what it shows.
+-- Source: own.
+use Rattle.std.specs.Io.KnownBytes.{Appends}
+use Rattle.std.specs.Prelude.{◌≡◌, ◌<◌, ◌≤◌, ℕ, List, [], Option, Some, slice_get}
+use Rattle.tdf_engine.specs.Engine.{IsEngineOf, IsReadyAt}
+use Rattle.tdf_engine.specs.InstantLaws.{IsModelOf}
+use Rattle.tdf_engine.specs.Times.{IsNextDue}
+use Rattle.tdf_engine.specs.declared.engine.Engine.{Engine}
+use Rattle.tdf_events.specs.Kernel.{side_of}
+use Rattle.tdf_events.specs.Side.{SideOf}
+use Rattle.tdf_flat.specs.declared.model.Flat.{Flat}
+use Rattle.tdf_history.specs.Cells.{run_cells}
+use Rattle.tdf_history.specs.World.{World}
+use Rattle.tdf_io.specs.Bytes.{AppendsFront}
+use Rattle.tdf_loop.specs.Ongoing.{IsOngoing}
+use Rattle.tdf_loop.specs.declared.running.Running.{Running}
+use Rattle.tdf_shown.specs.Shown.{IsShown}
+use Rattle.tdf_shown.specs.declared.shown.Shown.{Shown}
+use Rattle.tdf_trace.specs.Writings.{rows_text}
+use Rattle.tdf_tree.specs.Pure.{PureTree}
+use Rattle.tdf_world.specs.Rules.{rules_of}
+
+-- a run goes on before a time, and its trace shows what it has done
+pub record IsRunning (model : PureTree) (flat : Flat) (start : World SideOf) (from : ℕ)
+    (e : Engine) (left : ℕ) (s : Shown) : Type 0 where
+  pub going : IsOngoing model flat start from e left
+  pub shown : IsShown model flat start from going.world s
+
+-- so does this run
+abbrev pub IsRunningAt : PureTree → Flat → World SideOf → Running → Type 0
+IsRunningAt model flat start r = IsRunning model flat start r.from r.engine r.left r.shown
+
+-- it does so for one model and start at least
+pub record IsSomeRun (flat : Flat) (r : Running) : Type 0 where
+  pub model : PureTree
+  pub of : IsModelOf model flat
+  pub start : World SideOf
+  pub is : IsRunningAt model flat start r
+
+-- a run can go on: nothing is due before its time, no period began before the rows that are
+-- written end, and what the last instant traced has been taken
+pub record CanGoOn (flat : Flat) (r : Running) : Type 0 where
+  pub engine : IsEngineOf flat r.engine
+  pub ready : IsReadyAt r.from r.engine
+  pub none : r.engine.outputs.traced ≡ []
+  pub early : r.shown.trace.rows.upto ≤ r.from
+  pub late : (n s : ℕ) → slice_get r.engine.since.items n ≡ Some s
+      → r.shown.trace.rows.upto ≤ s
+  pub some : IsSomeRun flat r
+
+-- something is due at a time, and nothing before
+pub record IsDueNow (e : Engine) (time : ℕ) : Type 0 where
+  pub stop : ℕ
+  pub below : time < stop
+  pub next : IsNextDue e.clusters.items e.since.items (side_of e.kernel) stop time
+
+-- the text of the rows of a run from a time on and below another, by what it has done before one
+abbrev pub run_rows : PureTree → Flat → (start : World SideOf) → (r : Running)
+    → (before from end : ℕ) → List ℕ
+run_rows model flat start r before from end =
+    rows_text r.shown.trace.about (run_cells model flat (rules_of model flat) start before) from end
+
+-- a run went on from one state to another, and the sink took the rows that were written
+pub record GoesOn (flat : Flat) (old new : Running) (before after : Option (List ℕ))
+    : Type 0 where
+  pub later : old.from ≤ new.from
+  pub about : new.shown.trace.about ≡ old.shown.trace.about
+  pub wrote : old.shown.trace.rows.upto ≤ new.shown.trace.rows.upto
+  pub runs : (model : PureTree) (start : World SideOf) → IsModelOf model flat
+      → IsRunningAt model flat start old → IsRunningAt model flat start new
+  pub rows : (model : PureTree) (start : World SideOf) → IsModelOf model flat
+      → IsRunningAt model flat start old → Appends before after (run_rows model flat start old
+      new.from old.shown.trace.rows.upto new.shown.trace.rows.upto)
+
+-- a call that writes was refused: the sink took a front part of the rows below a mark that no
+-- period began before
+pub record WritesFrontTo (flat : Flat) (r : Running) (before after : Option (List ℕ)) : Type 0 where
+  pub mark : ℕ
+  pub early : mark ≤ r.from
+  pub late : (n s : ℕ) → slice_get r.engine.since.items n ≡ Some s → mark ≤ s
+  pub front : (model : PureTree) (start : World SideOf) → IsModelOf model flat
+      → IsRunningAt model flat start r → AppendsFront before after
+      (run_rows model flat start r r.from r.shown.trace.rows.upto mark)
+
+-- where nothing is due before the next time, it goes on up to that time
+abbrev pub RunsToNext : Type 0
+RunsToNext = (model : PureTree) (flat : Flat) (start : World SideOf) (from stop time left : ℕ)
+    → (e : Engine) (s : Shown) → IsEngineOf flat e → IsReadyAt from e
+    → IsRunning model flat start from e left s → from ≤ stop
+    → IsNextDue e.clusters.items e.since.items (side_of e.kernel) stop time
+    → IsRunning model flat start time e left s

@@ -1,0 +1,50 @@
+-- A whole run: what a model has so that it can run, what the run writes, and what it leaves.
+-- Source: own.
+use Rattle.std.specs.Prelude.{◌≡◌, ℕ, List, length}
+use Rattle.tdf_dynamic.specs.declared.first.First.{First}
+use Rattle.tdf_engine.specs.InstantLaws.{IsModelOf}
+use Rattle.tdf_engine.specs.Making.{HaveNoChanges, HavePlans}
+use Rattle.tdf_events.specs.Kernel.{side_of}
+use Rattle.tdf_events.specs.Runnable.{IsRunnable}
+use Rattle.tdf_events.specs.Side.{SideOf}
+use Rattle.tdf_flat.specs.declared.model.Flat.{Flat}
+use Rattle.tdf_history.specs.Texts.{run_trace}
+use Rattle.tdf_history.specs.World.{World}
+use Rattle.tdf_instants.specs.History.{On}
+use Rattle.tdf_loop.specs.declared.run.Ran.{Ran}
+use Rattle.tdf_report.specs.Ending.{state_of}
+use Rattle.tdf_report.specs.Plans.{ArePrintable}
+use Rattle.tdf_run.specs.Pass.{AreAt}
+use Rattle.tdf_shown.specs.Variables.{variables_of}
+use Rattle.tdf_trace.specs.Writings.{AboutSeen, about_of, writing_of}
+use Rattle.tdf_tree.specs.Pure.{PureTree}
+use Rattle.tdf_words.specs.declared.asked.TraceKind.{TraceKind}
+use Rattle.tdf_world.specs.Rules.{rules_of, start_world}
+
+-- a flat model of a sound model can run from the first plans of its clusters, which no module
+-- changes
+pub record CanRun (flat : Flat) (firsts : List First) : Type 0 where
+  pub model : PureTree
+  pub of : IsModelOf model flat
+  pub runnable : IsRunnable flat
+  pub plans : HavePlans flat firsts
+  pub still : HaveNoChanges flat.tables (length firsts)
+  pub printable : ArePrintable flat firsts
+
+-- what its trace is of
+abbrev pub model_about : TraceKind → Flat → AboutSeen
+model_about kind flat = about_of kind flat.resolution (variables_of flat.tables)
+
+-- the text of its trace
+abbrev pub trace_of : TraceKind → PureTree → Flat → List First → (stop turns : ℕ) → List ℕ
+trace_of kind model flat firsts stop turns = run_trace (writing_of (model_about kind flat)) model
+    flat (rules_of model flat) (start_world model flat firsts turns) stop
+
+-- where it reached its stop, its clusters and its event side are those of the history then
+pub record IsLeft (model : PureTree) (flat : Flat) (firsts : List First) (stop turns : ℕ)
+    (ran : Ran) : Type 0 where
+  pub world : World SideOf
+  pub on : state_of model flat firsts stop turns ≡ On world
+  pub since : List ℕ
+  pub clusters : AreAt model flat since world.clusters ran.clusters.items
+  pub kernel : side_of ran.kernel ≡ world.events

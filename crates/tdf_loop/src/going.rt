@@ -1,0 +1,180 @@
+//! From instant to instant.
+
+/// Why a run goes no further.
+#[derive(Clone, Copy, Debug, PartialEq, Eq)]
+pub(crate) enum Ended {
+    /// Nothing is due before the stop.
+    Reached,
+    /// The turns that are left are too few for the next instant.
+    Spent,
+}
+
+ghost use Rattle.std.specs.Prelude.{◌≡◌, ◌<◌, ◌≤◌, ◌+◌, [], List, ℕ, None, Ok, IfOk, IfSome, OnErr, OnOk, Option, length};
+ghost use Rattle.tdf_base.specs.Limits.{time_end};
+ghost use Rattle.tdf_engine.specs.Engine.{HasBeenSpent};
+ghost use Rattle.tdf_engine.specs.Times.{IsNextDue};
+ghost use Rattle.tdf_engine.specs.declared.crossing.Pass.TheVariants as pass;
+ghost use Rattle.tdf_events.specs.Kernel.{side_of};
+ghost use Rattle.tdf_events.specs.Runnable.{IsRunnable};
+ghost use Rattle.tdf_flat.specs.declared.model.Flat.{Flat as FlatModel};
+ghost use Rattle.tdf_io.specs.Faults.{CountsSinkFaults};
+ghost use Rattle.tdf_loop.specs.Ending.{GoesToEnd, WritesPart};
+ghost use Rattle.tdf_loop.specs.Running.{CanGoOn, GoesOn, IsDueNow, WritesFrontTo};
+ghost use Rattle.tdf_shown.specs.Calls.{CanTake, ShowsInstant};
+ghost use Rattle.tdf_shown.specs.Periods.{clock_at};
+ghost use Rattle.tdf_trace.specs.Stands.{IsStageAfter};
+ghost use Rattle.tdf_trace.specs.declared.stage.Stage.TheVariants.{Open};
+
+use crate::laws::law_advancing;
+use crate::running::Running;
+use crate::standing::law_standing;
+use std::alloc::Global;
+use tdf_base::Memory;
+use tdf_engine::{Engine, Pass, law_instant};
+use tdf_flat::Flat;
+use tdf_io::{Sink, SinkErr};
+use tdf_shown::Shown;
+
+/// Shows what an instant gave.
+fn show(shown: &mut Shown, engine: &Engine, flat: &Flat, time: u64) -> Result<(), Memory>
+    requires { CanTake flat.now (clock_at time engine.now.since.items engine.now.clusters.items)
+        engine.now.outputs.traced engine.now.kernel.values shown.old }
+    ensures shown { OnOk result (ShowsInstant flat.now
+        (clock_at time engine.now.since.items engine.now.clusters.items)
+        engine.now.outputs.traced engine.now.kernel.values shown.old shown.new) }
+    ensures upto { shown.new.trace.rows.upto ≡ shown.old.trace.rows.upto }
+    ensures stage { shown.new.trace.stage ≡ shown.old.trace.stage }
+    ensures about { shown.new.trace.about ≡ shown.old.trace.about }
+{
+    shown.take(
+        flat,
+        time,
+        &engine.since,
+        &engine.clusters,
+        engine.traced(),
+        engine.kernel.values(),
+    )
+}
+
+impl Running {
+    /// Goes on to the next time at which something is due, or to the stop.
+    fn wait(&mut self, stop: u64)
+        requires clocks { length self.old.engine.clusters.items ≤ length self.old.engine.since.items }
+        ensures rest { self.new ≡ record self.old { from = self.new.from } }
+        ensures next { IsNextDue self.old.engine.clusters.items self.old.engine.since.items
+            (side_of self.old.engine.kernel) stop self.new.from }
+    {
+        self.from = self.engine.next_time(stop);
+    }
+
+    /// The instant at its time, and what its trace shows of it.
+    fn step(&mut self, alloc: Global, flat: &Flat) -> Result<Pass, Memory>
+        requires runnable { IsRunnable flat.now }
+        requires can { CanGoOn flat.now self.old }
+        requires due { IsDueNow self.old.engine self.old.from }
+        requires early { self.old.from < time_end }
+        ensures can { result ≡ Ok pass.Done → CanGoOn flat.now self.new }
+        ensures goes { result ≡ Ok pass.Done → (taken : Option (List ℕ))
+            → GoesOn flat.now self.old self.new taken taken }
+        ensures after { result ≡ Ok pass.Done → self.new.from ≡ self.old.from + 1 }
+        ensures stage { self.new.shown.trace.stage ≡ self.old.shown.trace.stage }
+        ensures spent { result ≡ Ok pass.Spent
+            → HasBeenSpent flat.now self.old.from self.old.engine self.old.left }
+        ensures still { result ≡ Ok pass.Spent → self.new
+            ≡ record self.old { engine = self.new.engine; left = self.new.left } }
+    {
+        law_advancing();
+        law_instant();
+        match self.engine.instant(alloc, flat, self.from, &mut self.left)? {
+            Pass::Spent => return Ok(Pass::Spent),
+            Pass::Done => {}
+        }
+        show(&mut self.shown, &self.engine, flat, self.from)?;
+        self.engine.clear_traced();
+        self.from += 1;
+        Ok(Pass::Done)
+    }
+
+    /// Writes the rows that no later instant changes: those before the periods of all clusters.
+    fn write<K: Sink>(&mut self, flat: &Flat, out: &mut K) -> Result<(), SinkErr>
+        requires can { CanGoOn flat.now self.old }
+        requires open { self.old.shown.trace.stage ≡ Open }
+        ensures can { OnOk result (CanGoOn flat.now self.new) }
+        ensures goes { OnOk result
+            (GoesOn flat.now self.old self.new (K.taken out.old) (K.taken out.new)) }
+        ensures part { OnErr result (WritesFrontTo flat.now self.old (K.taken out.old) (K.taken out.new)) }
+        ensures same { self.new.from ≡ self.old.from }
+        ensures stage { IsStageAfter result self.new.shown.trace.stage }
+        ensures counted { CountsSinkFaults (K.faults out.old) (K.faults out.new) result }
+    {
+        law_standing();
+        let mark = self.engine.least_start(self.from);
+        self.shown.trace.advance(mark, out)
+    }
+
+    /// The next instant before the stop, and the rows that no later one changes.
+    fn turn<K: Sink>(
+        &mut self,
+        alloc: Global,
+        flat: &Flat,
+        stop: u64,
+        out: &mut K,
+    ) -> Result<Option<Ended>, SinkErr>
+        requires runnable { IsRunnable flat.now }
+        requires can { CanGoOn flat.now self.old }
+        requires within { self.old.from ≤ stop }
+        requires early { stop < time_end }
+        requires open { self.old.shown.trace.stage ≡ Open }
+        ensures can { result ≡ Ok None → CanGoOn flat.now self.new }
+        ensures goes { result ≡ Ok None
+            → GoesOn flat.now self.old self.new (K.taken out.old) (K.taken out.new) }
+        ensures on { result ≡ Ok None → self.old.from < self.new.from }
+        ensures within { result ≡ Ok None → self.new.from ≤ stop }
+        ensures open { OnOk result (self.new.shown.trace.stage ≡ Open) }
+        ensures ends { IfOk result (λ end. IfSome end
+            (GoesToEnd flat.now stop self.old self.new (K.taken out.old) (K.taken out.new))) }
+        ensures part { OnErr result (WritesPart flat.now stop self.old (K.taken out.old) (K.taken out.new)) }
+        ensures counted { CountsSinkFaults (K.faults out.old) (K.faults out.new) result }
+    {
+        law_instant();
+        self.wait(stop);
+        if self.from == stop {
+            return Ok(Some(Ended::Reached));
+        }
+        match self.step(alloc, flat) {
+            Ok(Pass::Done) => {}
+            Ok(Pass::Spent) => return Ok(Some(Ended::Spent)),
+            Err(_) => return Err(SinkErr::Memory),
+        }
+        self.write(flat, out)?;
+        Ok(None)
+    }
+
+    /// Goes on to the stop, or as far as the turns that are left reach.
+    pub(crate) fn go<K: Sink>(
+        &mut self,
+        alloc: Global,
+        flat: &Flat,
+        stop: u64,
+        out: &mut K,
+    ) -> Result<Ended, SinkErr>
+        requires runnable { IsRunnable flat.now }
+        requires can { CanGoOn flat.now self.old }
+        requires within { self.old.from ≤ stop }
+        requires early { stop < time_end }
+        requires open { self.old.shown.trace.stage ≡ Open }
+        ensures ends { IfOk result
+            (GoesToEnd flat.now stop self.old self.new (K.taken out.old) (K.taken out.new)) }
+        ensures open { OnOk result (self.new.shown.trace.stage ≡ Open) }
+        ensures part { OnErr result (WritesPart flat.now stop self.old (K.taken out.old) (K.taken out.new)) }
+        ensures counted { CountsSinkFaults (K.faults out.old) (K.faults out.new) result }
+    {
+        loop {
+            match self.turn(alloc, flat, stop, out) {
+                Ok(None) => {}
+                Ok(Some(ended)) => return Ok(ended),
+                Err(error) => return Err(error),
+            }
+        }
+    }
+}
