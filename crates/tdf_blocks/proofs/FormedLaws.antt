@@ -3,8 +3,8 @@ use Rattle.std.proofs.Common.{◌≡◌, ℕ, List, [], ◌∷◌, ◌++◌, Opt
 use Rattle.std.proofs.lemmas.Option.{none-some, same_Some}
 use Rattle.std.specs.List.{AllByRecursion}
 use Rattle.std.specs.Prelude.{Result, Ok, Err, IfOk}
-use Rattle.tdf_blocks.specs.Formed.{AllAssignNone, AssignsNone, HasPlainBodies, IsFormed, IsNoPort, IsPlainGlobal}
-use Rattle.tdf_blocks.specs.Items.{Plain, member_of, plain_of}
+use Rattle.tdf_blocks.specs.Formed.{AllAssignNone, AssignsNone, HasEventPorts, HasPlainBodies, IsEventLine, IsFormed, IsNoPort, IsPlainGlobal}
+use Rattle.tdf_blocks.specs.Items.{Plain, de_line_of, member_of, plain_of}
 use Rattle.tdf_blocks.specs.SpellsTree.{Lines, lines_none, lines_more, SpellsOne, simple, choice, both, turns, SpellsAll, stmts_none, stmts_more, body_of}
 use Rattle.tdf_blocks.specs.SpellsTree.{SpellsPart, part_none, part_some, SpellsInitialize, initialize_none, initialize_some, SpellsTdf, tdf}
 use Rattle.tdf_blocks.specs.SpellsTree.{SpellsGlobal, global_type, global_tdf, global_de, global_net, SpellsGlobals, globals_none, globals_more, SpellsModel, model, SpellsTree, whole_text}
@@ -13,12 +13,13 @@ use Rattle.tdf_blocks.specs.machine.Walks.{IsRead}
 use Rattle.tdf_tokens.specs.Rows.{Row}
 use Rattle.tdf_tokens.specs.Token.{TokenLine}
 use Rattle.tdf_tokens.specs.declared.dialect.Dialect.{Dialect}
-use Rattle.tdf_tree.specs.Forms.{Form, FAssign, FBind, FDeSignal, FInstance, FSignal}
-use Rattle.tdf_tree.specs.Pure.{PureBody, PureGlobal, GShape, GTdf, GDe, GNet, PureStmt, SAssign, PureTdf, PureTree}
+use Rattle.tdf_tree.specs.Forms.{Form, FArray, FAssign, FBind, FConst, FDeSignal, FEvent, FInstance, FPort, FSignal, FVar}
+use Rattle.tdf_tree.specs.Pure.{PureBody, PureDeLine, DPort, DStore, DEvent, PureGlobal, GShape, GTdf, GDe, GNet, PureStmt, SAssign, SConst, SVar, SArray, PureTdf, PureTree}
 use Rattle.tdf_tree.specs.Views.{pure_tree, sts}
 use Rattle.tdf_tree.specs.declared.blocks.Initial.{Initial}
 use Rattle.tdf_tree.specs.declared.blocks.Member.{Member}
 use Rattle.tdf_tree.specs.declared.blocks.Member.TheVariants as member
+use Rattle.tdf_tree.specs.declared.blocks.PortKind.TheVariants as port_kind
 use Rattle.tdf_tree.specs.declared.tree.Tree.{Tree}
 
 -- no line of `top` declares a port
@@ -83,8 +84,33 @@ globals_plain : {lang : Dialect} {rows : List TokenLine} {gs : List PureGlobal} 
 globals_plain globals_none = tt
 globals_plain (globals_more {gs = gs} {g = g} all one) = one_more IsPlainGlobal gs g (globals_plain all) (global_plain one)
 
+-- a block of processes declares event ports
+event_line : (line : ℕ) (f : Form) (d : PureDeLine) → de_line_of line f ≡ Some d → IsEventLine d
+event_line line (FPort port_kind.DeIn name x) d is = subst IsEventLine (same_Some (DPort (record { line = line; kind = port_kind.DeIn; name = name; format = x })) d is) tt
+event_line line (FPort port_kind.DeOut name x) d is = subst IsEventLine (same_Some (DPort (record { line = line; kind = port_kind.DeOut; name = name; format = x })) d is) tt
+event_line line (FConst name x v) d is = subst IsEventLine (same_Some (DStore (SConst line name x v)) d is) tt
+event_line line (FVar name x v) d is = subst IsEventLine (same_Some (DStore (SVar line name x v)) d is) tt
+event_line line (FArray name x n vs) d is = subst IsEventLine (same_Some (DStore (SArray line name x n vs)) d is) tt
+event_line line (FEvent name) d is = subst IsEventLine (same_Some (DEvent line name) d is) tt
+event_line line _ d is = absurd (none-some d is)
+
+lines_events : {lang : Dialect} {rows : List TokenLine} {ds : List PureDeLine} → Lines lang de_line_of rows ds → AllByRecursion IsEventLine ds
+lines_events lines_none = tt
+lines_events (lines_more {xs = xs} {f = f} {x = x} before h spelled is) = one_more IsEventLine xs x (lines_events before) (event_line h.number f x is)
+
+global_events : {lang : Dialect} {rows : List TokenLine} {g : PureGlobal} → SpellsGlobal lang rows g → HasEventPorts g
+global_events (global_type h spelled) = tt
+global_events (global_tdf l block end) = tt
+global_events (global_de h l head lines processes end) = lines_events lines
+global_events (global_net h l head lines end) = tt
+
+globals_events : {lang : Dialect} {rows : List TokenLine} {gs : List PureGlobal} → SpellsGlobals lang rows gs → AllByRecursion HasEventPorts gs
+globals_events globals_none = tt
+globals_events (globals_more {gs = gs} {g = g} all one) = one_more HasEventPorts gs g (globals_events all) (global_events one)
+
 model_formed : {lang : Dialect} {rows : List TokenLine} {t : PureTree} → SpellsModel lang rows t → IsFormed t
-model_formed (model t l globals top members end traces) = record { closed = members_closed members; plain = globals_plain globals }
+model_formed (model t l globals top members end traces) =
+    record { closed = members_closed members; plain = globals_plain globals; events = globals_events globals }
 
 tree_formed : {rows : List Row} {t : PureTree} → SpellsTree rows t → IsFormed t
 tree_formed (whole_text b head spelled) = model_formed spelled
