@@ -31,7 +31,7 @@ use Rattle.tdf_formats.proofs.Blocks.{apart_differ, keep_tags, stays}
 use Rattle.tdf_formats.proofs.Rows.{IsRowPort, IsTaggedModule, modules_tagged, row_port}
 use Rattle.tdf_formats.proofs.Spaces.{Differ}
 use Rattle.tdf_formats.proofs.Spans.{IsPortPlace, port_placed, rate_most}
-use Rattle.tdf_formats.proofs.Walked.{rows_tagged}
+use Rattle.tdf_formats.proofs.Walked.{IsTagged, rows_tagged}
 use Rattle.tdf_formats.specs.Formats.{IsOwnPort, IsSoundModel, PortsHaveFormats, format_of_row, module_of_port, module_of_row, place_of_port as own_place, signal_format}
 use Rattle.tdf_formats.specs.Tags.{Tag, block_tags, model_tags, number_tag, numbered_tag, port_tag, port_tags, tag_with, tags_at}
 use Rattle.tdf_limits.specs.Limits.{limits_in, times_value}
@@ -185,7 +185,7 @@ item_at P (y ∷ ys) all zero x at = subst P (same_Some y x at) all.0
 item_at P (y ∷ ys) all (suc n) x at = item_at P ys all.1 n x at
 
 -- formats of equal shapes are equal
-same_format : (f g : Format) → shape_of_format f ≡ shape_of_format g → f ≡ g
+pub same_format : (f g : Format) → shape_of_format f ≡ shape_of_format g → f ≡ g
 same_format f g e = λ i. record {
   signed = (e i).signed;
   wl = (e i).wl;
@@ -199,7 +199,7 @@ same_format f g e = λ i. record {
 }
 
 -- the formats in the tables of signals
-rows_format : (writers : List Writer) (from : ℕ) (signals : List Signal) (k : ℕ) → format_of_row (slice_get (map (λ signal. signal_row writers signal.0 signal.1) (enumerate_from from signals)) k)
+pub rows_format : (writers : List Writer) (from : ℕ) (signals : List Signal) (k : ℕ) → format_of_row (slice_get (map (λ signal. signal_row writers signal.0 signal.1) (enumerate_from from signals)) k)
     ≡ option_map (λ (s : Signal). s.format) (slice_get signals k)
 rows_format writers from [] k = refl
 rows_format writers from (s ∷ signals) zero = refl
@@ -214,13 +214,13 @@ abbrev tag_shape : Tag → Option Tag → Shape
 tag_shape d None = d.shape
 tag_shape d (Some t) = t.shape
 
-record IsNumberTag (t : TablesOf) (n : SignalNumber) (event : Bool) (shape : Shape) : Type 0 where
-  signal : Signal
-  there : slice_get (table n.event t) n.number ≡ Some signal
-  event_is : n.event ≡ event
-  shape_is : shape_of_format signal.format ≡ shape
+pub record IsNumberTag (t : TablesOf) (n : SignalNumber) (event : Bool) (shape : Shape) : Type 0 where
+  pub signal : Signal
+  pub there : slice_get (table n.event t) n.number ≡ Some signal
+  pub event_is : n.event ≡ event
+  pub shape_is : shape_of_format signal.format ≡ shape
 
-number_is : (t : TablesOf) (n : SignalNumber) (event : Bool) (shape : Shape) → number_tag t n ≡ Some (record { event = event; shape = shape }) → IsNumberTag t n event shape
+pub number_is : (t : TablesOf) (n : SignalNumber) (event : Bool) (shape : Shape) → number_tag t n ≡ Some (record { event = event; shape = shape }) → IsNumberTag t n event shape
 number_is t n event shape e = go (slice_get (table n.event t) n.number) refl e
   where
     go : (o : Option Signal) → slice_get (table n.event t) n.number ≡ o → option_map (numbered_tag n.event) o ≡ Some (record { event = event; shape = shape }) → IsNumberTag t n event shape
@@ -287,7 +287,7 @@ each_push : (P : PureGlobal → Type 0) (gs : List PureGlobal) (g : PureGlobal) 
 each_push P [] g each last = (last, tt)
 each_push P (h ∷ gs) g each last = (each.0, each_push P gs g each.1 last)
 
-tags_there : (globals : Names) (list : List (List PortLine)) (k : ℕ) (ports : List PortLine) → slice_get list k ≡ Some ports → tags_at (block_tags globals list) k ≡ port_tags globals ports
+pub tags_there : (globals : Names) (list : List (List PortLine)) (k : ℕ) (ports : List PortLine) → slice_get list k ≡ Some ports → tags_at (block_tags globals list) k ≡ port_tags globals ports
 tags_there globals [] k ports at = absurd (none-some ports at)
 tags_there globals (p ∷ list) zero ports at = ap (port_tags globals) (same_Some p ports at)
 tags_there globals (p ∷ list) (suc k) ports at = tags_there globals list k ports at
@@ -333,6 +333,13 @@ closed_tags model blocks are none =
     let place : length blocks - 1 ≡ length all - 1 = omega (arith, long) in
     ap (tags_at (block_tags globals all)) place ∙ tags_there globals all (length all - 1) [] (closed_top globals no_blocks model.globals model.top none)
 
+-- each port of each instance reaches a signal of its own tag
+pub model_tagged : KeepsNamesOnce → (model : PureTree) (flat : Flat) → IsSoundModel model → (is : IsFlatOf model flat)
+    → AllByRecursion (IsTagged (model_tags model) is.tables.tables) is.tables.tables.instances
+model_tagged names_once model flat sound is =
+    rows_tagged (model_tags model) is.blocks (top_place is.blocks) is.tables.tables
+    (keep_tags model is.blocks (top_place is.blocks) sound.types (names_once model sound.names) is.linked.links is.linked.resolved (closed_tags model is.blocks is.linked.resolved sound.closed)) is.tables.met
+
 module_there : (ports : List PortRow) (n : ℕ) (p : PortRow) → slice_get ports n ≡ Some p → module_of_port ports n ≡ p.«module»
 module_there ports n p at = ap module_of_row at
 
@@ -354,8 +361,7 @@ module _ (names_once : KeepsNamesOnce) (model : PureTree) (flat : Flat) (sound :
   once = names_once model sound.names
 
   all_tagged : AllByRecursion (IsTaggedModule (roles_of model) tags t) placed
-  all_tagged = modules_tagged (roles_of model) tags t t.instances (rows_tagged tags is.blocks (top_place is.blocks) t
-      (keep_tags model is.blocks (top_place is.blocks) sound.types once is.linked.links is.linked.resolved (closed_tags model is.blocks is.linked.resolved sound.closed)) is.tables.met)
+  all_tagged = modules_tagged (roles_of model) tags t t.instances (model_tagged names_once model flat sound is)
 
   ports_are : flat.tables.ports ≡ ports_from 0 placed
   ports_are = is.tables.follows.modules.ports

@@ -1,7 +1,7 @@
 -- An instance of a block of processes has the ports and the events of its block.
 use Rattle.std.proofs.Common.{◌≤◌, ◌≡◌, ◌∙◌, ℕ, zero, suc, ◌+◌, ◌<◌, Bool, true, false, cond, List, [], ◌∷◌, ◌++◌, Option, Some, None, length, map, refl, sym, ap, subst, arith}
 use Rattle.std.proofs.lemmas.Bool.Decides.{nat_tests}
-use Rattle.std.proofs.lemmas.List.{length-append}
+use Rattle.std.proofs.lemmas.List.{length-append, length_push}
 use Rattle.std.proofs.lemmas.List.Elements.{filter-append}
 use Rattle.std.proofs.lemmas.Option.{same_Some, none-some, slice_get_within}
 use Rattle.std.specs.List.{AllByRecursion, cons_option, flat_map}
@@ -9,22 +9,23 @@ use Rattle.std.specs.Prelude.{filter, nat_eq, slice_get}
 use Rattle.tdf_expr.specs.Blocks.{Module as TdfBlock, Events, PureBlock, blocks_of, scope_of}
 use Rattle.tdf_expr.specs.Compiled.{AreBlocksOf, IsBlockOf}
 use Rattle.tdf_expr.specs.Made.{events_in, spans_in}
-use Rattle.tdf_expr.specs.Plans.{PortPlace, place_of_port}
+use Rattle.tdf_expr.specs.Plans.{PortPlace, place_of_port, written}
 use Rattle.tdf_expr.specs.declared.blocks.Block.{Block}
 use Rattle.tdf_expr.specs.declared.spans.PortSpan.{PortSpan}
 use Rattle.tdf_flat.specs.Flat.{IsFlatOf}
 use Rattle.tdf_flat.specs.declared.model.Flat.{Flat}
 use Rattle.tdf_runnable.proofs.Apart.{Differ}
+use Rattle.tdf_formats.proofs.Api.{stays}
 use Rattle.tdf_formats.specs.Formats.{IsSoundModel}
-use Rattle.tdf_links.specs.Ports.{ports_of_de}
+use Rattle.tdf_links.specs.Ports.{Known, known_after_all, no_blocks, ports_of_composite, ports_of_de, ports_of_tdf, with_block}
 use Rattle.tdf_names.specs.Law.{DeclaresOnce, HasNamesOnce, KeepsNamesOnce}
 use Rattle.tdf_names.specs.Names.{names_of_de_line, names_of_de_lines}
 use Rattle.tdf_resolve.specs.Resolved.{whole}
 use Rattle.tdf_roles.specs.Roles.{processes_role, roles_from, roles_of}
 use Rattle.tdf_runnable.proofs.Counts.{few_ports, mapped_long}
-use Rattle.tdf_runnable.proofs.Lines.{apart_differ, events_total, place_at, places_long, ports_total}
+use Rattle.tdf_runnable.proofs.Lines.{apart_differ, events_total, place_at, place_line, places_long, places_of, ports_total}
 use Rattle.tdf_runnable.specs.Runnable.{HasBlock, InstancesHaveBlocks}
-use Rattle.tdf_scope.specs.Names.{Names, globals_of}
+use Rattle.tdf_scope.specs.Names.{Names, format_of, globals_of}
 use Rattle.tdf_tree.specs.Kept.{Each}
 use Rattle.tdf_tree.specs.Pure.{PureComposite, PureDe, PureGlobal, GShape, GTdf, GDe, GNet, PureTree}
 use Rattle.tdf_tree.specs.declared.blocks.PortLine.{PortLine}
@@ -91,12 +92,14 @@ events_owned first (q ∷ ps) (suc k) p at =
     ap length (filter-append (is_of (first + suc k)) (map (event_row first) q.role.events) (events_from (first + 1) ps)) ∙ sum
 
 -- the block of an instance
-record IsProcessesRole (globals : Names) (number : ℕ) (gs : List PureGlobal) (role : ProcessesOf) : Type 0 where
-  block : PureDe
-  k : ℕ
-  role_is : role ≡ processes_role (number + k) block
-  at : slice_get (blocks_of gs) k ≡ Some (Events block)
-  once : Differ (flat_map names_of_de_line block.decls)
+pub record IsProcessesRole (P : PureGlobal → Type 0) (globals : Names) (number : ℕ) (gs : List PureGlobal) (known : Known) (j : ℕ) (role : ProcessesOf) : Type 0 where
+  pub block : PureDe
+  pub k : ℕ
+  pub role_is : role ≡ processes_role (number + k) block
+  pub at : slice_get (blocks_of gs) k ≡ Some (Events block)
+  pub ports_are : slice_get (known_after_all gs known).ports (length known.ports + j) ≡ Some (ports_of_de block)
+  pub once : Differ (flat_map names_of_de_line block.decls)
+  pub holds : P (GDe block)
 
 abbrev role_in : ProcessesOf → Option Role → ProcessesOf
 role_in other (Some (Processes role)) = role
@@ -106,35 +109,74 @@ abbrev is_processes : Option Role → Type 0
 is_processes (Some (Processes role)) = Unit {0}
 is_processes _ = ⊥
 
-role_found : (globals : Names) (number : ℕ) (gs : List PureGlobal) → Each DeclaresOnce gs → (j : ℕ) (role : ProcessesOf) → slice_get (roles_from globals number gs) j ≡ Some (Processes role)
-    → IsProcessesRole globals number gs role
-unfolding roles_from
-role_found globals number [] once j role e = absurd (none-some (Processes role) e)
-role_found globals number (GShape t ∷ gs) once j role e =
-    let it = role_found globals number gs once.1 j role e in
-    record { block = it.block; k = it.k; role_is = it.role_is; at = it.at; once = it.once }
-role_found globals number (GTdf block ∷ gs) once zero role e = absurd (subst is_processes (sym e) tt)
-role_found globals number (GTdf block ∷ gs) once (suc j) role e =
-    let it = role_found globals (number + 1) gs once.1 j role e in
-    let later : number + 1 + it.k ≡ number + suc it.k = omega arith in
-    record { block = it.block; k = suc it.k; role_is = it.role_is ∙ ap (λ n. processes_role n it.block) later; at = it.at; once = it.once }
-role_found globals number (GDe block ∷ gs) once zero role e =
-    let here : number ≡ number + 0 = omega arith in
-    record {
-      block = block;
-      k = 0;
-      role_is = sym (ap (role_in role) e) ∙ ap (λ n. processes_role n block) here;
-      at = refl;
-      once = apart_differ (names_of_de_lines block.decls) once.0;
-    }
-role_found globals number (GDe block ∷ gs) once (suc j) role e =
-    let it = role_found globals (number + 1) gs once.1 j role e in
-    let later : number + 1 + it.k ≡ number + suc it.k = omega arith in
-    record { block = it.block; k = suc it.k; role_is = it.role_is ∙ ap (λ n. processes_role n it.block) later; at = it.at; once = it.once }
-role_found globals number (GNet block ∷ gs) once zero role e = absurd (subst is_processes (sym e) tt)
-role_found globals number (GNet block ∷ gs) once (suc j) role e =
-    let it = role_found globals number gs once.1 j role e in
-    record { block = it.block; k = it.k; role_is = it.role_is; at = it.at; once = it.once }
+pushed_at : {A : Type 0} (xs : List A) (x : A) → slice_get (xs ++ x ∷ []) (length xs) ≡ Some x
+pushed_at [] x = refl
+pushed_at (y ∷ xs) x = pushed_at xs x
+
+next_place : (known : Known) (name : List ℕ) (ports : List PortLine) (j : ℕ) → length known.ports + suc j ≡ length (with_block name ports known).ports + j
+next_place known name ports j = let long : length (known.ports ++ ports ∷ []) ≡ length known.ports + 1 = length_push known.ports ports in omega (arith, long)
+
+module _ (P : PureGlobal → Type 0) (globals : Names) where
+  pub role_found : (number : ℕ) (gs : List PureGlobal) (known : Known) → Each DeclaresOnce gs → AllByRecursion P gs → (j : ℕ) (role : ProcessesOf) → slice_get (roles_from globals number gs) j ≡ Some (Processes role)
+      → IsProcessesRole P globals number gs known j role
+  unfolding roles_from known_after_all
+  role_found number [] known once all j role e = absurd (none-some (Processes role) e)
+  role_found number (GShape t ∷ gs) known once all j role e =
+      let it = role_found number gs known once.1 all.1 j role e in
+      record { block = it.block; k = it.k; role_is = it.role_is; at = it.at; ports_are = it.ports_are; once = it.once; holds = it.holds }
+  role_found number (GTdf block ∷ gs) known once all zero role e = absurd (subst is_processes (sym e) tt)
+  role_found number (GTdf block ∷ gs) known once all (suc j) role e =
+      let next = with_block block.name (ports_of_tdf block) known in
+      let it = role_found (number + 1) gs next once.1 all.1 j role e in
+      let later : number + 1 + it.k ≡ number + suc it.k = omega arith in
+      record {
+        block = it.block;
+        k = suc it.k;
+        role_is = it.role_is ∙ ap (λ n. processes_role n it.block) later;
+        at = it.at;
+        ports_are = ap (slice_get (known_after_all gs next).ports) (next_place known block.name (ports_of_tdf block) j) ∙ it.ports_are;
+        once = it.once;
+        holds = it.holds;
+      }
+  role_found number (GDe block ∷ gs) known once all zero role e =
+      let here : number ≡ number + 0 = omega arith in
+      let place : length known.ports ≡ length known.ports + 0 = omega arith in
+      record {
+        block = block;
+        k = 0;
+        role_is = sym (ap (role_in role) e) ∙ ap (λ n. processes_role n block) here;
+        at = refl;
+        ports_are = ap (slice_get (known_after_all gs (with_block block.name (ports_of_de block) known)).ports) (sym place)
+            ∙ stays gs (with_block block.name (ports_of_de block) known) (length known.ports) (ports_of_de block) (pushed_at known.ports (ports_of_de block));
+        once = apart_differ (names_of_de_lines block.decls) once.0;
+        holds = all.0;
+      }
+  role_found number (GDe block ∷ gs) known once all (suc j) role e =
+      let next = with_block block.name (ports_of_de block) known in
+      let it = role_found (number + 1) gs next once.1 all.1 j role e in
+      let later : number + 1 + it.k ≡ number + suc it.k = omega arith in
+      record {
+        block = it.block;
+        k = suc it.k;
+        role_is = it.role_is ∙ ap (λ n. processes_role n it.block) later;
+        at = it.at;
+        ports_are = ap (slice_get (known_after_all gs next).ports) (next_place known block.name (ports_of_de block) j) ∙ it.ports_are;
+        once = it.once;
+        holds = it.holds;
+      }
+  role_found number (GNet block ∷ gs) known once all zero role e = absurd (subst is_processes (sym e) tt)
+  role_found number (GNet block ∷ gs) known once all (suc j) role e =
+      let next = with_block block.name (ports_of_composite block) known in
+      let it = role_found number gs next once.1 all.1 j role e in
+      record {
+        block = it.block;
+        k = it.k;
+        role_is = it.role_is;
+        at = it.at;
+        ports_are = ap (slice_get (known_after_all gs next).ports) (next_place known block.name (ports_of_composite block) j) ∙ it.ports_are;
+        once = it.once;
+        holds = it.holds;
+      }
 
 abbrev HasRole : List Role → PlacedBlock → Type 0
 HasRole roles p = slice_get roles p.instance.block ≡ Some (Processes p.role)
@@ -149,17 +191,17 @@ roles_placed roles (row ∷ rows) = go (slice_get roles row.block) refl (roles_p
     go (Some (Processes role)) is later = (is, later)
     go (Some Composite) is later = later
 
-item_at : {A : Type 0} (P : A → Type 0) (xs : List A) → AllByRecursion P xs → (n : ℕ) (x : A) → slice_get xs n ≡ Some x → P x
+pub item_at : {A : Type 0} (P : A → Type 0) (xs : List A) → AllByRecursion P xs → (n : ℕ) (x : A) → slice_get xs n ≡ Some x → P x
 item_at P [] all n x at = absurd (none-some x at)
 item_at P (y ∷ ys) all zero x at = subst P (same_Some y x at) all.0
 item_at P (y ∷ ys) all (suc n) x at = item_at P ys all.1 n x at
 
-unmapped : {A B : Type 0} (f : A → B) (xs : List A) (n : ℕ) (y : B) → slice_get (map f xs) n ≡ Some y → (x : A) × (slice_get xs n ≡ Some x) × (f x ≡ y)
+pub unmapped : {A B : Type 0} (f : A → B) (xs : List A) (n : ℕ) (y : B) → slice_get (map f xs) n ≡ Some y → (x : A) × (slice_get xs n ≡ Some x) × (f x ≡ y)
 unmapped f [] n y at = absurd (none-some y at)
 unmapped f (x ∷ xs) zero y at = (x, refl, same_Some (f x) y at)
 unmapped f (x ∷ xs) (suc n) y at = unmapped f xs n y at
 
-mapped : {A B : Type 0} (f : A → B) (xs : List A) (n : ℕ) (x : A) → slice_get xs n ≡ Some x → slice_get (map f xs) n ≡ Some (f x)
+pub mapped : {A B : Type 0} (f : A → B) (xs : List A) (n : ℕ) (x : A) → slice_get xs n ≡ Some x → slice_get (map f xs) n ≡ Some (f x)
 mapped f [] n x at = absurd (none-some x at)
 mapped f (y ∷ xs) zero x at = ap (λ z. Some (f z)) (same_Some y x at)
 mapped f (y ∷ xs) (suc n) x at = mapped f xs n x at
@@ -181,7 +223,19 @@ each_push : (P : PureGlobal → Type 0) (gs : List PureGlobal) (g : PureGlobal) 
 each_push P [] g each last = (last, tt)
 each_push P (h ∷ gs) g each last = (each.0, each_push P gs g each.1 last)
 
-module _ (names_once : KeepsNamesOnce) (model : PureTree) (flat : Flat) (sound : IsSoundModel model) (is : IsFlatOf model flat) (n : ℕ) (row : BlockRowOf) (at : slice_get flat.tables.blocks n ≡ Some row) where
+pub all_push : (P : PureGlobal → Type 0) (gs : List PureGlobal) (g : PureGlobal) → AllByRecursion P gs → P g → AllByRecursion P (gs ++ g ∷ [])
+all_push P [] g all last = (last, tt)
+all_push P (h ∷ gs) g all last = (all.0, all_push P gs g all.1 last)
+
+-- the lines that declare the ports of an instance
+pub record HasLines (P : PureGlobal → Type 0) (model : PureTree) (flat : Flat) (p : PlacedBlock) : Type 0 where
+  pub of_block : IsProcessesRole P (globals_of model.globals) 0 (whole model) no_blocks p.instance.block p.role
+  pub long : length (spans_in (slice_get flat.checked.blocks.items p.role.block)) ≡ length (ports_of_de of_block.block)
+  pub line : (k : ℕ) (span : PortSpan) → slice_get (spans_in (slice_get flat.checked.blocks.items p.role.block)) k ≡ Some span
+      → (l : PortLine) × (slice_get (ports_of_de of_block.block) k ≡ Some l) × (written span.format ≡ format_of (globals_of model.globals) l.format)
+
+module _ (P : PureGlobal → Type 0) (names_once : KeepsNamesOnce) (model : PureTree) (flat : Flat) (sound : IsSoundModel model) (is : IsFlatOf model flat) (all : AllByRecursion P (whole model))
+    (n : ℕ) (p : PlacedBlock) (at : slice_get (placed_blocks (roles_of model) is.tables.tables.instances) n ≡ Some p) where
   abbrev globals : Names
   globals = globals_of model.globals
 
@@ -191,51 +245,71 @@ module _ (names_once : KeepsNamesOnce) (model : PureTree) (flat : Flat) (sound :
   once : HasNamesOnce model
   once = names_once model sound.names
 
-  it : (p : PlacedBlock) × (slice_get ps n ≡ Some p) × (block_row p ≡ row)
-  it = unmapped block_row ps n row (ap (λ (l : List BlockRowOf). slice_get l n) (sym is.tables.follows.blocks.blocks) ∙ at)
-
-  of_block : IsProcessesRole globals 0 (whole model) it.0.role
-  of_block = role_found globals 0 (whole model) (each_push DeclaresOnce model.globals (GNet model.top) once.blocks once.top) it.0.instance.block it.0.role
-      (item_at (HasRole (roles_of model)) ps (roles_placed (roles_of model) is.tables.tables.instances) n it.0 it.1)
+  of_block : IsProcessesRole P globals 0 (whole model) no_blocks p.instance.block p.role
+  of_block = role_found P globals 0 (whole model) no_blocks (each_push DeclaresOnce model.globals (GNet model.top) once.blocks once.top) all p.instance.block p.role
+      (item_at (HasRole (roles_of model)) ps (roles_placed (roles_of model) is.tables.tables.instances) n p at)
 
   made : (b : Block) × (slice_get flat.checked.blocks.items of_block.k ≡ Some b) × IsBlockOf (scope_of globals (Events of_block.block)) (Events of_block.block) b
   made = compiled globals (blocks_of model.globals) flat.checked.blocks.items is.bodies of_block.k (Events of_block.block)
       (ap (λ (l : List PureBlock). slice_get l of_block.k) (sym (blocks_whole model.globals model.top)) ∙ of_block.at)
 
-  number : row.block ≡ of_block.k
-  number = let same : 0 + of_block.k ≡ of_block.k = omega arith in ap (λ (r : BlockRowOf). r.block) (sym it.2) ∙ ap (λ (r : ProcessesOf). r.block) of_block.role_is ∙ same
+  there : slice_get flat.checked.blocks.items p.role.block ≡ Some made.0
+  there = let same : 0 + of_block.k ≡ of_block.k = omega arith in ap (λ (r : ProcessesOf). slice_get flat.checked.blocks.items r.block) of_block.role_is ∙ ap (slice_get flat.checked.blocks.items) same ∙ made.1
 
-  there : slice_get flat.checked.blocks.items row.block ≡ Some made.0
-  there = ap (slice_get flat.checked.blocks.items) number ∙ made.1
+  place_there : (k : ℕ) (span : PortSpan) → slice_get (spans_in (slice_get flat.checked.blocks.items p.role.block)) k ≡ Some span → slice_get (places_of globals 0 (ports_of_de of_block.block)) k ≡ Some (place_of_port span)
+  place_there k span e =
+      ap (λ (l : List PortPlace). slice_get l k) (sym (made.2.spans ∙ ports_total globals of_block.block of_block.once))
+      ∙ mapped place_of_port made.0.ports.spans.items k span (ap (λ (o : Option Block). slice_get (spans_in o) k) (sym there) ∙ e)
 
-  placed : (k : ℕ) (p : PortSpan) → slice_get (spans_in (slice_get flat.checked.blocks.items row.block)) k ≡ Some p → (p.first ≡ 0 + k) × (p.count ≡ 1)
-  placed k p e = place_at globals 0 (ports_of_de of_block.block) k (place_of_port p)
-      (ap (λ (l : List PortPlace). slice_get l k) (sym (made.2.spans ∙ ports_total globals of_block.block of_block.once))
-      ∙ mapped place_of_port made.0.ports.spans.items k p (ap (λ (o : Option Block). slice_get (spans_in o) k) (sym there) ∙ e))
+  placed : (k : ℕ) (span : PortSpan) → slice_get (spans_in (slice_get flat.checked.blocks.items p.role.block)) k ≡ Some span → (span.first ≡ 0 + k) × (span.count ≡ 1)
+  placed k span e = place_at globals 0 (ports_of_de of_block.block) k (place_of_port span) (place_there k span e)
 
-  few_spans : length (spans_in (slice_get flat.checked.blocks.items row.block)) ≤ 8192
-  few_spans =
-      let few = few_ports model flat is n it.0 it.1 in
-      let role = ap (λ (r : ProcessesOf). length r.ports) of_block.role_is in
-      let kinds = mapped_long (λ (p : PortLine). p.kind) (ports_of_de of_block.block) in
+  spans_long : length (spans_in (slice_get flat.checked.blocks.items p.role.block)) ≡ length (ports_of_de of_block.block)
+  spans_long =
       let here = ap (λ (o : Option Block). length (spans_in o)) there in
       let spans = mapped_long place_of_port made.0.ports.spans.items in
       let same = ap length (made.2.spans ∙ ports_total globals of_block.block of_block.once) in
       let long = places_long globals 0 (ports_of_de of_block.block) in
-      omega (arith, few, role, kinds, here, spans, same, long)
+      omega (arith, here, spans, same, long)
 
-  pub has_block : HasBlock flat n row
+  few_spans : length (spans_in (slice_get flat.checked.blocks.items p.role.block)) ≤ 8192
+  few_spans =
+      let few = few_ports model flat is n p at in
+      let role = ap (λ (r : ProcessesOf). length r.ports) of_block.role_is in
+      let kinds = mapped_long (λ (l : PortLine). l.kind) (ports_of_de of_block.block) in
+      let long = spans_long in
+      omega (arith, few, role, kinds, long)
+
+  pub has_block : HasBlock flat n (block_row p)
   has_block = record {
-    block = slice_get_within flat.checked.blocks.items row.block made.0 there;
+    block = slice_get_within flat.checked.blocks.items p.role.block made.0 there;
     few = few_spans;
-    first = λ k p e. let same : 0 + k ≡ k = omega arith in (placed k p e).0 ∙ same;
-    one = λ k p e. (placed k p e).1;
+    first = λ k span e. let same : 0 + k ≡ k = omega arith in (placed k span e).0 ∙ same;
+    one = λ k span e. (placed k span e).1;
     events = let same : n ≡ 0 + n = omega arith in
         ap (λ (l : List EventRow). length (filter (is_of n) l)) is.tables.follows.blocks.events
-        ∙ ap (λ m. length (filter (is_of m) (events_from 0 ps))) same ∙ events_owned 0 ps n it.0 it.1
+        ∙ ap (λ m. length (filter (is_of m) (events_from 0 ps))) same ∙ events_owned 0 ps n p at
         ∙ ap (λ (r : ProcessesOf). length r.events) of_block.role_is
         ∙ sym (events_total globals of_block.block of_block.once) ∙ sym made.2.events ∙ ap events_in (sym there);
   }
 
+  pub has_lines : HasLines P model flat p
+  has_lines = record {
+    of_block = of_block;
+    long = spans_long;
+    line = λ k span e. place_line globals 0 (ports_of_de of_block.block) k (place_of_port span) (place_there k span e);
+  }
+
+-- the instance of a row
+pub row_placed : (model : PureTree) (flat : Flat) (is : IsFlatOf model flat) (n : ℕ) (row : BlockRowOf) → slice_get flat.tables.blocks n ≡ Some row
+    → (p : PlacedBlock) × (slice_get (placed_blocks (roles_of model) is.tables.tables.instances) n ≡ Some p) × (block_row p ≡ row)
+row_placed model flat is n row at = unmapped block_row (placed_blocks (roles_of model) is.tables.tables.instances) n row (ap (λ (l : List BlockRowOf). slice_get l n) (sym is.tables.follows.blocks.blocks) ∙ at)
+
+all_declared : (gs : List PureGlobal) → AllByRecursion (λ (g : PureGlobal). Unit {0}) gs
+all_declared [] = tt
+all_declared (g ∷ gs) = (tt, all_declared gs)
+
 pub instances_have_blocks : KeepsNamesOnce → InstancesHaveBlocks
-instances_have_blocks names_once model flat sound is n row at = has_block names_once model flat sound is n row at
+instances_have_blocks names_once model flat sound is n row at =
+    let it = row_placed model flat is n row at in
+    subst (HasBlock flat n) it.2 (has_block (λ (g : PureGlobal). Unit {0}) names_once model flat sound is (all_declared (whole model)) n it.0 it.1)

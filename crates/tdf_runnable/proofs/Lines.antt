@@ -112,6 +112,14 @@ module _ (globals : Names) where
       let next : first + 1 + n ≡ first + suc n = omega arith in
       (later.0 ∙ next, later.1)
 
+  -- the line of the port at a place
+  pub place_line : (first : ℕ) (ps : List PortLine) (n : ℕ) (place : PortPlace) → slice_get (places_of first ps) n ≡ Some place
+      → (l : PortLine) × (slice_get ps n ≡ Some l) × (place.shape ≡ format_of globals l.format)
+  place_line first [] n place at = absurd (none-some place at)
+  place_line first (p ∷ ps) zero place at =
+      (p, refl, ap (λ (q : PortPlace). q.shape) (sym (same_Some (record { word = p.kind; shape = format_of globals p.format; first = first; count = 1 }) place at)))
+  place_line first (p ∷ ps) (suc n) place at = place_line (first + 1) ps n place at
+
 -- the events and the ports of a block
 pub events_total : (globals : Names) (block : PureDe) → Differ (flat_map names_of_de_line block.decls) → total events_of (de_names globals block).things ≡ length (flat_map event_of block.decls)
 events_total globals block differ = ap (total events_of) (things_plain globals block differ) ∙ events_counted globals block.decls

@@ -1,14 +1,18 @@
--- The event side of a flat model: how many rows it has, and the numbers in them.
+-- The event side of a flat model: how many rows it has, the numbers in them, and that it can run.
 -- Source: own.
 use Rattle.std.specs.Prelude.{◌≡◌, ◌<◌, ◌≤◌, ℕ, length, Some, All, filter, nat_eq, slice_get}
+use Rattle.std.specs.List.{AllByRecursion}
 use Rattle.tdf_base.specs.Limits.{most_events, most_instances, most_ports, most_processes, most_signals}
+use Rattle.tdf_events.specs.Runnable.{IsRunnable}
 use Rattle.tdf_expr.specs.Frames.{IsOfFormat}
 use Rattle.tdf_expr.specs.Made.{block_count, event_count, port_spans_of}
 use Rattle.tdf_expr.specs.declared.spans.PortSpan.{PortSpan}
 use Rattle.tdf_flat.specs.Flat.{IsFlatOf}
 use Rattle.tdf_flat.specs.declared.model.Flat.{Flat}
 use Rattle.tdf_formats.specs.Formats.{IsSoundModel}
-use Rattle.tdf_tree.specs.Pure.{PureTree}
+use Rattle.tdf_tree.specs.Pure.{PureDeLine, DPort, PureGlobal, GDe, PureTree}
+use Rattle.tdf_tree.specs.declared.blocks.PortKind.{PortKind}
+use Rattle.tdf_tree.specs.declared.blocks.PortKind.TheVariants.{DeIn, DeOut}
 use Rattle.tdf_wiring.specs.ProcessBlocks.{BlockRowOf}
 use Rattle.tdf_wiring.specs.declared.drivers.SignalRow.{SignalRow}
 
@@ -59,3 +63,27 @@ abbrev pub InstancesHaveBlocks : Type 0
 InstancesHaveBlocks = (model : PureTree) (flat : Flat) → IsSoundModel model → IsFlatOf model flat
     → (number : ℕ) (row : BlockRowOf) → slice_get flat.tables.blocks number ≡ Some row
     → HasBlock flat number row
+
+-- each port that a block of processes declares carries events: it is a `de_in` or a `de_out`;
+-- these are the words of the clause `formed` of the reader of models (`events` of `IsFormed` of
+-- tdf_blocks), so that what it gives is what is asked for here
+abbrev pub IsEventKind : PortKind → Type 0
+IsEventKind DeIn = Unit {0}
+IsEventKind DeOut = Unit {0}
+IsEventKind _ = ⊥
+
+abbrev pub IsEventLine : PureDeLine → Type 0
+IsEventLine (DPort port) = IsEventKind port.kind
+IsEventLine _ = Unit {0}
+
+abbrev pub HasEventPorts : PureGlobal → Type 0
+HasEventPorts (GDe block) = AllByRecursion IsEventLine block.decls
+HasEventPorts _ = Unit {0}
+
+abbrev pub DeclareEventPorts : PureTree → Type 0
+DeclareEventPorts tree = AllByRecursion HasEventPorts tree.globals
+
+-- the event side of the flat model of a sound model can run
+abbrev pub SoundIsRunnable : Type 0
+SoundIsRunnable = (model : PureTree) (flat : Flat) → IsSoundModel model → DeclareEventPorts model
+    → IsFlatOf model flat → IsRunnable flat

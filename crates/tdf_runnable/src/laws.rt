@@ -2,6 +2,7 @@
 
 ghost use Rattle.tdf_runnable.specs.Runnable.{EventRowsAreFew, EventRowsHaveOwners};
 ghost use Rattle.tdf_runnable.specs.Runnable.{InstancesHaveBlocks, SignalsStartInFormat};
+ghost use Rattle.tdf_runnable.specs.Runnable.{SoundIsRunnable};
 
 use tdf_names::law_names_once;
 
@@ -25,6 +26,14 @@ pub fn law_starts()
 /// each, in order, and has as many event rows as its block has events.
 pub fn law_instances()
     ensures { InstancesHaveBlocks }
+{
+    law_names_once();
+}
+
+/// The event side of the flat model of a sound model can run, where blocks of processes declare
+/// event ports alone, as the reader of models promises.
+pub fn law_runnable()
+    ensures { SoundIsRunnable }
 {
     law_names_once();
 }

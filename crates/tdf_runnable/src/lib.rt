@@ -7,4 +7,4 @@
 
 mod laws;
 
-pub use laws::{law_few_rows, law_instances, law_owners, law_starts};
+pub use laws::{law_few_rows, law_instances, law_owners, law_runnable, law_starts};
