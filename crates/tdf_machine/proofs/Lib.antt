@@ -1,3 +1,4 @@
 pub mod Api
 pub mod InOrder
+pub mod Powers
 pub mod Runs

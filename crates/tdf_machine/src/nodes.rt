@@ -6,6 +6,7 @@ ghost use Rattle.tdf_machine.specs.Nodes.{IsCastable, IsSafe, node_value};
 ghost use Rattle.tdf_state.specs.State.{state_of};
 
 use crate::numbers::{difference, holds, negative, product, raised, relates, sum, truth_number};
+use crate::short::short_value;
 use crate::spots::{Spot, place};
 use tdf_fixed::{Format, Raw, cast};
 use tdf_state::{Cells, Signals};
@@ -60,10 +61,10 @@ pub(crate) fn fitted(num: i128, frac: u32, format: Format) -> i128
 
 /// What an expression reads: a block's values and samples, and the loop variables, outermost first.
 #[derive(Clone, Copy)]
-struct Sight<'a> {
-    cells: &'a Cells,
-    signals: &'a Signals,
-    loops: &'a [u32],
+pub(crate) struct Sight<'a> {
+    pub(crate) cells: &'a Cells,
+    pub(crate) signals: &'a Signals,
+    pub(crate) loops: &'a [u32],
 }
 
 /// The value of an expression, in units of its last place.
@@ -110,12 +111,13 @@ pub fn eval(node: &Node, cells: &Cells, signals: &Signals, loops: &[u32]) -> i12
     requires { IsSafe node.now (state_of cells.now signals.now) loops.now }
     ensures { result ≡ node_value node.now (state_of cells.now signals.now) loops.now }
 {
-    value(
-        node,
-        &Sight {
-            cells,
-            signals,
-            loops,
-        },
-    )
+    let at = Sight {
+        cells,
+        signals,
+        loops,
+    };
+    match short_value(node, &at) {
+        Some(num) => i128::from(num),
+        None => value(node, &at),
+    }
 }

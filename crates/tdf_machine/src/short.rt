@@ -1,0 +1,193 @@
+//! The values of expressions by 64-bit arithmetic, where each step of it fits.
+
+ghost use Rattle.std.specs.Prelude.{◌≡◌, ◌≤◌, ◌^◌, pos, ◌+ℤ◌, ◌-ℤ◌, ◌*ℤ◌, neg_ℤ, IfSome};
+ghost use Rattle.tdf_machine.specs.Nodes.{IsSafe, node_value, holds, relates, truth_number};
+ghost use Rattle.tdf_state.specs.State.{state_of};
+
+use crate::nodes::{Node, Relation, Sight, fitted};
+use crate::spots::place;
+
+/// A number in 64 bits, where it fits.
+#[inline(always)]
+fn short_of(num: i128) -> Option<i64>
+    ensures { IfSome result (λ n. n ≡ num) }
+{
+    match i64::try_from(num) {
+        Ok(short) => Some(short),
+        Err(_) => None,
+    }
+}
+
+#[inline(always)]
+fn product(a: i64, b: i64) -> Option<i64>
+    ensures { IfSome result (λ n. n ≡ a *ℤ b) }
+{
+    short_of(i128::from(a) * i128::from(b))
+}
+
+#[inline(always)]
+fn sum(a: i64, b: i64) -> Option<i64>
+    ensures { IfSome result (λ n. n ≡ a +ℤ b) }
+{
+    short_of(i128::from(a) + i128::from(b))
+}
+
+#[inline(always)]
+fn difference(a: i64, b: i64) -> Option<i64>
+    ensures { IfSome result (λ n. n ≡ a -ℤ b) }
+{
+    short_of(i128::from(a) - i128::from(b))
+}
+
+/// A power of two.
+#[inline(always)]
+#[tactic(auto, using(crate::proofs::Powers::small_power))]
+fn power(bits: u32) -> i64
+    requires { bits ≤ 62 }
+    ensures { result ≡ pos (2 ^ bits) }
+{
+    1 << bits
+}
+
+/// The number moved up by so many bits.
+#[inline(always)]
+fn raised(num: i64, bits: u32) -> Option<i64>
+    ensures { IfSome result (λ n. n ≡ num *ℤ pos (2 ^ bits)) }
+{
+    if bits == 0 {
+        return Some(num);
+    }
+    if bits > 62 {
+        return None;
+    }
+    product(num, power(bits))
+}
+
+#[inline(always)]
+fn relates(relation: Relation, a: i64, b: i64) -> bool
+    ensures { result ≡ relates relation a b }
+{
+    match relation {
+        Relation::Less => a < b,
+        Relation::AtMost => a <= b,
+        Relation::Equal => a == b,
+        Relation::Different => a != b,
+    }
+}
+
+#[inline(always)]
+fn negative(a: i64) -> Option<i64>
+    ensures { IfSome result (λ n. n ≡ neg_ℤ a) }
+{
+    short_of(-i128::from(a))
+}
+
+/// Whether a number is taken as true.
+#[inline(always)]
+fn holds(num: i64) -> bool
+    ensures { result ≡ holds num }
+{
+    num != 0
+}
+
+/// 1 for true, 0 for false.
+#[inline(always)]
+fn truth(so: bool) -> Option<i64>
+    ensures { IfSome result (λ n. n ≡ truth_number so) }
+{
+    if so { Some(1) } else { Some(0) }
+}
+
+/// The value of an expression without parts.
+#[inline(always)]
+fn leaf(node: &Node, at: &Sight) -> Option<i64>
+    requires { IsSafe node.now (state_of at.now.cells.now at.now.signals.now) at.now.loops.now }
+    ensures { IfSome result (λ n. n ≡ node_value node.now (state_of at.now.cells.now at.now.signals.now) at.now.loops.now) }
+{
+    match node {
+        Node::Const(num) => short_of(*num),
+        Node::Cell(place) => short_of(at.cells.cell(*place as usize)),
+        Node::CellAt(spot) => short_of(at.cells.cell(place(*spot, at.loops))),
+        Node::Sample(place) => short_of(at.signals.sample(*place as usize)),
+        Node::SampleAt(spot) => short_of(at.signals.sample(place(*spot, at.loops))),
+        _ => None,
+    }
+}
+
+/// The value of a product of two expressions without parts, or of one such.
+#[inline(always)]
+fn near(node: &Node, at: &Sight) -> Option<i64>
+    requires { IsSafe node.now (state_of at.now.cells.now at.now.signals.now) at.now.loops.now }
+    ensures { IfSome result (λ n. n ≡ node_value node.now (state_of at.now.cells.now at.now.signals.now) at.now.loops.now) }
+{
+    match node {
+        Node::Product(a, b) => {
+            let a = leaf(a, at)?;
+            product(a, leaf(b, at)?)
+        }
+        _ => leaf(node, at),
+    }
+}
+
+/// The value of a part of an expression: without a call where it is near.
+#[cycle(short)]
+#[inline(always)]
+fn operand(node: &Node, at: &Sight) -> Option<i64>
+    requires { IsSafe node.now (state_of at.now.cells.now at.now.signals.now) at.now.loops.now }
+    ensures { IfSome result (λ n. n ≡ node_value node.now (state_of at.now.cells.now at.now.signals.now) at.now.loops.now) }
+{
+    match near(node, at) {
+        Some(num) => Some(num),
+        None => short_value(node, at),
+    }
+}
+
+/// The value of an expression, in units of its last place, where it and the value of each part fit 64 bits.
+#[cycle(short)]
+pub(crate) fn short_value(node: &Node, at: &Sight) -> Option<i64>
+    requires { IsSafe node.now (state_of at.now.cells.now at.now.signals.now) at.now.loops.now }
+    ensures { IfSome result (λ n. n ≡ node_value node.now (state_of at.now.cells.now at.now.signals.now) at.now.loops.now) }
+{
+    match node {
+        Node::Sum(a, m, b, n) => {
+            let a = raised(operand(a, at)?, *m)?;
+            sum(a, raised(operand(b, at)?, *n)?)
+        }
+        Node::Difference(a, m, b, n) => {
+            let a = raised(operand(a, at)?, *m)?;
+            difference(a, raised(operand(b, at)?, *n)?)
+        }
+        Node::Product(a, b) => {
+            let a = operand(a, at)?;
+            product(a, operand(b, at)?)
+        }
+        Node::Negative(a) => negative(operand(a, at)?),
+        Node::Up(a, n) => raised(operand(a, at)?, *n),
+        Node::Compare(relation, a, m, b, n) => {
+            let a = raised(operand(a, at)?, *m)?;
+            truth(relates(*relation, a, raised(operand(b, at)?, *n)?))
+        }
+        Node::And(a, b) => {
+            let a = operand(a, at)?;
+            truth(holds(a) && holds(operand(b, at)?))
+        }
+        Node::Or(a, b) => {
+            let a = operand(a, at)?;
+            truth(holds(a) || holds(operand(b, at)?))
+        }
+        Node::Not(a) => truth(!holds(operand(a, at)?)),
+        Node::Choice(test, a, m, b, n) => {
+            if holds(operand(test, at)?) {
+                raised(operand(a, at)?, *m)
+            } else {
+                raised(operand(b, at)?, *n)
+            }
+        }
+        Node::Cast(a, frac, format) => {
+            short_of(fitted(i128::from(operand(a, at)?), *frac, *format))
+        }
+        Node::Rate(number) => Some(i64::from(at.cells.rate(*number as usize))),
+        Node::Loop(depth) => Some(i64::from(at.loops[*depth as usize])),
+        _ => leaf(node, at),
+    }
+}
