@@ -1,5 +1,5 @@
 -- The first cluster of a flat model with a fault, and the plans of all clusters.
-use Rattle.std.proofs.Common.{◌≡◌, ◌≢◌, ◌⊎◌, ◌∙◌, ℕ, zero, suc, ◌+◌, ◌-◌, ◌<◌, ◌≤◌, List, [], ◌∷◌, Some, length, map, refl, sym, ap, subst, inl, inr, arith}
+use Rattle.std.proofs.Common.{◌≡◌, ◌∙◌, ℕ, zero, suc, ◌+◌, ◌-◌, ◌<◌, ◌≤◌, List, [], ◌∷◌, Some, length, map, refl, sym, ap, subst, inl, inr, arith}
 use Rattle.std.proofs.lemmas.Bool.{cases_eq, cases_lt}
 use Rattle.std.proofs.lemmas.Option.{slice_get_within}
 use Rattle.std.specs.Prelude.{slice_get}
@@ -11,7 +11,7 @@ use Rattle.tdf_flat.specs.declared.model.Flat.{Flat}
 use Rattle.tdf_notes.specs.Plans.{PlanRows, rows_of}
 use Rattle.tdf_schedule.specs.declared.entry.Entry.{Entry}
 use Rattle.tdf_schedule.specs.declared.entry.Plan.{Plan}
-use Rattle.tdf_sim.proofs.Alike.{IsAlike, turned, move_fault, move_plan}
+use Rattle.tdf_sim.proofs.Alike.{IsAlike, move_fault, move_plan, same_table}
 use Rattle.tdf_sim.specs.Accepted.{ArePlans}
 use Rattle.tdf_sim.specs.FirstFault.{IsPlansFault, cluster_count}
 use Rattle.tdf_sim.specs.PlanText.{plan_rows}
@@ -72,7 +72,13 @@ module _ (one : ClustersHaveOne) (whole : ClustersAreWhole) where
   same_maps f (x ∷ xs) (y ∷ ys) long each =
       ap (λ z. z ∷ map f xs) (each 0 x y refl refl) ∙ ap (λ zs. f y ∷ zs) (same_maps f xs ys (omega (arith, long)) (λ k a b. each (suc k) a b))
 
-  -- two models that are alike have the same plans
+  -- two models that are alike have the same attributes
+  pub attrs_alike : (a b : Flat) (xs ys : List First) → IsAlike a b → ArePlans a xs → ArePlans b ys → map (λ (f : First). f.attrs) xs ≡ map (λ (f : First). f.attrs) ys
+  attrs_alike a b xs ys same p q =
+      same_maps (λ (f : First). f.attrs) xs ys (p.all ∙ same_count a b same ∙ sym q.all)
+      (λ k x y x_is y_is. (p.each k x x_is).attrs_are ∙ same_table a b (k + 1) same ∙ sym (q.each k y y_is).attrs_are)
+
+  -- and the same plans
   pub firsts_alike : (a b : Flat) (xs ys : List First) → IsPlannable b → IsAlike a b → ArePlans a xs → ArePlans b ys → map plan_rows xs ≡ map plan_rows ys
   firsts_alike a b xs ys plan_b same p q =
       let count = same_count a b same in let p_all = p.all in let q_all = q.all in

@@ -1,5 +1,5 @@
 -- A text has at most one first fault, and with one it is not accepted.
-use Rattle.std.proofs.Common.{◌≡◌, ◌⊎◌, ℕ, List, [], Option, Some, None, refl, sym, ap, ◌∙◌, subst, inl, inr, length}
+use Rattle.std.proofs.Common.{◌≡◌, ◌⊎◌, ℕ, List, [], Some, None, sym, ap, ◌∙◌, subst, inl, inr}
 use Rattle.tdf_base.specs.declared.codes.Code.TheVariants as code
 use Rattle.tdf_base.specs.declared.faults.Fault.{Fault}
 use Rattle.tdf_blocks.proofs.Api.{one_tree, never_both, one_line_at_fault, text_keeps}
@@ -9,16 +9,14 @@ use Rattle.tdf_faults.specs.First.{first_of, least_with}
 use Rattle.tdf_faults.specs.declared.first.LineFault.{LineFault}
 use Rattle.tdf_dynamic.specs.Laws.{ClustersAreWhole, ClustersHaveOne, FlatIsPlannable}
 use Rattle.tdf_flat.proofs.Api.{fault_is_one, fault_or_flat}
-use Rattle.tdf_flat.specs.Flat.{IsFlatOf, IsBindFault}
 use Rattle.tdf_flat.specs.Laws.{PassesChecks}
-use Rattle.tdf_flat.specs.declared.model.Flat.{Flat}
 use Rattle.tdf_names.specs.Names.{name_faults}
 use Rattle.tdf_sim.proofs.Alike.{alike}
 use Rattle.tdf_sim.proofs.Plannable.{can_be_planned}
-use Rattle.tdf_sim.proofs.Clusters.{fault_once, fault_or_plans, firsts_alike}
+use Rattle.tdf_sim.proofs.Clusters.{attrs_alike, fault_once, fault_or_plans, firsts_alike}
 use Rattle.tdf_sim.specs.Accepted.{IsAccepted, IsAcceptedText}
 use Rattle.tdf_sim.specs.declared.sim.Sim.{Sim}
-use Rattle.tdf_sim.specs.FirstFault.{IsFirstFault, IsTreeFault, IsPlansFault, HasSoundLines, of_bytes, of_length, of_syntax, of_tree, of_names, of_types, of_binding, of_clusters, on_line, at_line}
+use Rattle.tdf_sim.specs.FirstFault.{IsFirstFault, IsTreeFault, HasSoundLines, of_bytes, of_length, of_syntax, of_tree, of_names, of_types, of_binding, of_clusters, on_line, at_line}
 use Rattle.tdf_sim.specs.Laws.{FaultsAreOne, FaultOrAccepted, ModelsAreAlike}
 use Rattle.tdf_tokens.specs.Rows.{rows_of}
 use Rattle.tdf_tokens.specs.Text.{fault_of}
@@ -80,6 +78,7 @@ module _ (one_cluster : ClustersHaveOne) (whole : ClustersAreWhole) (plannable :
       let same = alike tree one.flat other.flat (passes tree kept a.lines) a.is_flat b.is_flat in record {
         tables = same.tables;
         unit = same.unit;
+        attrs = attrs_alike one_cluster whole one.flat other.flat one.firsts.items other.firsts.items same a.plans b.plans;
         plans = firsts_alike one_cluster whole one.flat other.flat one.firsts.items other.firsts.items (can_be_planned plannable tree other.flat kept b.lines b.is_flat) same a.plans b.plans;
       }
 

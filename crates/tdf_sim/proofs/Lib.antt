@@ -5,3 +5,5 @@ pub mod FirstFaults
 pub mod Plannable
 pub mod Printing
 pub mod Refusing
+pub mod Running
+pub mod Writing

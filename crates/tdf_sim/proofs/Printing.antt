@@ -1,5 +1,5 @@
 -- Plans of a model, printed.
-use Rattle.std.proofs.Common.{◌≡◌, ◌∙◌, ℕ, zero, suc, ◌+◌, ◌<◌, ◌≤◌, Bool, true, false, ◌&&◌, ◌⊎◌, nat_eq, nat_lt, List, [], ◌∷◌, ◌++◌, Some, length, map, cond, if◌then◌else◌, refl, sym, ap, subst, inl, inr, arith}
+use Rattle.std.proofs.Common.{◌≡◌, ◌∙◌, ℕ, zero, suc, ◌+◌, ◌<◌, ◌≤◌, Bool, true, ◌⊎◌, List, [], ◌∷◌, Some, length, map, cond, if◌then◌else◌, refl, sym, ap, inl, inr, arith}
 use Rattle.std.proofs.Math.ListN.{get_or}
 use Rattle.std.proofs.lemmas.Bool.{cases_lt, eq-eqb, le-ltb}
 use Rattle.std.proofs.lemmas.List.{length-map}
@@ -9,7 +9,7 @@ use Rattle.std.specs.List.{count_by}
 use Rattle.std.specs.Option.{option_map}
 use Rattle.std.specs.Prelude.{slice_get, slice_index}
 use Rattle.tdf_bind.specs.Flat.{FlatOf}
-use Rattle.tdf_dynamic.specs.Attributes.{AttrsOf, clusters_of}
+use Rattle.tdf_dynamic.specs.Attributes.{AttrsOf}
 use Rattle.tdf_dynamic.specs.First.{IsFirstPlan}
 use Rattle.tdf_dynamic.specs.Rates.{net_of}
 use Rattle.tdf_dynamic.specs.Text.{first_table}

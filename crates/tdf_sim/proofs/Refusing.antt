@@ -1,10 +1,9 @@
 -- What refusals of the steps say of a text.
-use Rattle.std.proofs.Common.{◌≡◌, ◌≢◌, ◌⊎◌, ◌∙◌, ℕ, suc, zero, ◌+◌, ◌-◌, ◌<◌, ◌≤◌, List, [], ◌∷◌, ◌++◌, Option, Some, None, Result, Ok, Err, IfOk, IfErr, OnOk, length, refl, sym, ap, subst, inl, inr, arith}
-use Rattle.std.proofs.lemmas.Bool.{cases_lt}
-use Rattle.std.specs.Option.{option_map}
+use Rattle.std.proofs.Common.{◌≡◌, ◌≢◌, ◌⊎◌, ℕ, suc, zero, ◌+◌, ◌-◌, ◌<◌, ◌≤◌, List, [], ◌∷◌, ◌++◌, Option, Some, None, Result, Ok, Err, IfOk, IfErr, OnOk, length, refl, sym, ap, subst, inl, inr, arith}
 use Rattle.std.specs.Prelude.{slice_get}
 use Rattle.tdf_base.specs.declared.codes.Code.{Code}
 use Rattle.tdf_base.specs.declared.faults.Fault.{Fault}
+use Rattle.tdf_blocks.specs.Formed.{IsFormed}
 use Rattle.tdf_blocks.specs.Refused.{IsWhy, SpellsText}
 use Rattle.tdf_blocks.specs.declared.err.LangErr.{LangErr}
 use Rattle.tdf_blocks.specs.declared.err.LangErr.TheVariants as why
@@ -18,13 +17,15 @@ use Rattle.tdf_faults.specs.declared.refusal.TypeErr.TheVariants as by
 use Rattle.tdf_flat.specs.Flat.{IsFlatOf}
 use Rattle.tdf_flat.specs.declared.model.Flat.{Flat}
 use Rattle.tdf_names.specs.Names.{name_faults}
-use Rattle.tdf_sim.specs.Accepted.{IsAccepted, IsAcceptedText, IsPlansRefusal, IsTextRefusal, IsTreeRefusal}
-use Rattle.tdf_sim.specs.FirstFault.{HasSoundLines, IsFirstFault, IsTreeFault, cluster_count, of_bytes, of_length, of_syntax, of_tree, of_names, of_types, of_clusters, on_line, at_line}
+use Rattle.tdf_sim.specs.Accepted.{ArePlans, IsAccepted, IsAcceptedText, IsPlansRefusal, IsTextRefusal, IsTreeRefusal}
+use Rattle.tdf_sim.specs.FirstFault.{HasSoundLines, IsFirstFault, cluster_count, of_bytes, of_length, of_syntax, of_tree, of_names, of_types, of_clusters, on_line, at_line}
 use Rattle.tdf_sim.specs.Laws.{FaultsAreOne, FaultOrAccepted}
+use Rattle.tdf_sim.specs.Runs.{IsAcceptedTree}
 use Rattle.tdf_sim.specs.declared.err.SimErr.{SimErr}
 use Rattle.tdf_sim.specs.declared.err.SimErr.TheVariants.{Refused, Memory}
 use Rattle.tdf_sim.specs.declared.sim.Sim.{Sim}
 use Rattle.tdf_sim.specs.machine.Steps.{HavePlans, IsFirstRefusal, by_line, by_parser}
+use Rattle.tdf_tree.specs.Kept.{IsKept}
 use Rattle.tdf_tree.specs.Pure.{PureTree}
 
 abbrev Answer : Type 0
@@ -120,6 +121,15 @@ pub clusters_refused : (tree : PureTree) (flat : Flat) (result : Result Sim SimE
 clusters_refused tree flat (Ok sim) sound is_flat is = tt
 clusters_refused tree flat (Err (Refused fault)) sound is_flat is = of_clusters flat sound is_flat is
 clusters_refused tree flat (Err Memory) sound is_flat is = tt
+
+pub clusters_accepted : (tree : PureTree) (flat : Flat) (result : Result Sim SimErr) → IsKept tree → IsFormed tree → HasSoundLines tree → IsFlatOf tree flat
+    → IfOk result (λ sim. sim.flat ≡ flat) → IfOk result (λ sim. ArePlans sim.flat sim.firsts.items) → IfOk result (IsAcceptedTree tree)
+clusters_accepted tree flat (Ok sim) kept formed sound is_flat own plans = record {
+  kept = kept;
+  formed = formed;
+  accepted = record { lines = sound; is_flat = subst (IsFlatOf tree) (sym own) is_flat; plans = plans };
+}
+clusters_accepted tree flat (Err r) kept formed sound is_flat own plans = tt
 
 pub text_refused : (text : List ℕ) (tree : PureTree) (result : Result Sim SimErr) → SpellsText text tree → IfErr result (IsTreeRefusal tree) → IfErr result (IsTextRefusal text)
 text_refused text tree (Ok sim) spells is = tt

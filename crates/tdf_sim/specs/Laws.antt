@@ -2,12 +2,15 @@
 -- Source: own.
 use Rattle.std.specs.Prelude.{◌≡◌, ℕ, List, map}
 use Rattle.tdf_base.specs.declared.faults.Fault.{Fault}
+use Rattle.tdf_loop.specs.Runs.{trace_of}
+use Rattle.tdf_report.specs.Ending.{run_end, run_note}
 use Rattle.tdf_sim.specs.Accepted.{IsAccepted, IsAcceptedText}
 use Rattle.tdf_sim.specs.declared.sim.Sim.{Sim}
 use Rattle.tdf_sim.specs.FirstFault.{IsFirstFault}
 use Rattle.tdf_sim.specs.PlanText.{plan_rows}
 use Rattle.tdf_tree.specs.Kept.{IsKept}
 use Rattle.tdf_tree.specs.Pure.{PureTree}
+use Rattle.tdf_words.specs.declared.asked.TraceKind.{TraceKind}
 
 -- a text has at most one first fault
 abbrev pub FaultsAreOne : Type 0
@@ -19,12 +22,30 @@ abbrev pub FaultOrAccepted : Type 0
 FaultOrAccepted = (text : List ℕ) (fault : Fault) (sim : Sim)
     → IsFirstFault text fault → IsAcceptedText text sim → ⊥
 
--- two models of one tree have the same tables, the same unit of time, and the same plans
+-- two models of one tree have the same tables, the same unit of time, and for each cluster the same
+-- attributes and the same plan
 pub record AreAlike (one other : Sim) : Type 0 where
   pub tables : one.flat.tables ≡ other.flat.tables
   pub unit : one.flat.resolution ≡ other.flat.resolution
+  pub attrs : map (λ f. f.attrs) one.firsts.items ≡ map (λ f. f.attrs) other.firsts.items
   pub plans : map plan_rows one.firsts.items ≡ map plan_rows other.firsts.items
 
 abbrev pub ModelsAreAlike : Type 0
 ModelsAreAlike = (tree : PureTree) (one other : Sim) → IsKept tree
     → IsAccepted tree one → IsAccepted tree other → AreAlike one other
+
+-- a run of either writes the same trace and the same notes, and ends alike
+pub record RunAlike (tree : PureTree) (one other : Sim) (kind : TraceKind) (stop turns : ℕ)
+    : Type 0 where
+  pub trace : trace_of kind tree one.flat one.firsts.items stop turns
+      ≡ trace_of kind tree other.flat other.firsts.items stop turns
+  pub notes : run_note tree one.flat one.firsts.items stop turns
+      ≡ run_note tree other.flat other.firsts.items stop turns
+  pub end : run_end tree one.flat one.firsts.items stop turns
+      ≡ run_end tree other.flat other.firsts.items stop turns
+
+-- two models of one tree do so, whatever is asked of the run
+abbrev pub RunsAreAlike : Type 0
+RunsAreAlike = (tree : PureTree) (one other : Sim) → IsKept tree
+    → IsAccepted tree one → IsAccepted tree other
+    → (kind : TraceKind) (stop turns : ℕ) → RunAlike tree one other kind stop turns

@@ -2,4 +2,5 @@ pub mod Accepted
 pub mod FirstFault
 pub mod Laws
 pub mod PlanText
+pub mod Runs
 pub mod machine

@@ -12,6 +12,7 @@ ghost use Rattle.tdf_sim.specs.Accepted.{IsAccepted, IsAcceptedText, IsTextRefus
 ghost use Rattle.tdf_sim.specs.FirstFault.{HasSoundLines, IsFirstFault, on_line};
 ghost use Rattle.tdf_dynamic.specs.First.{IsPlannable};
 ghost use Rattle.tdf_sim.specs.PlanText.{IsPrintable};
+ghost use Rattle.tdf_sim.specs.Runs.{IsAcceptedTree};
 ghost use Rattle.tdf_sim.specs.declared.err.SimErr.TheVariants as why;
 ghost use Rattle.tdf_sim.specs.machine.Steps.{by_line, by_parser};
 ghost use Rattle.tdf_tree.specs.Kept.{IsKept};
@@ -125,6 +126,7 @@ pub fn elaborate_tree(alloc: Global, tree: &Tree) -> Result<Sim, SimErr>
     requires kept { IsKept (pure_tree tree.now) }
     requires formed { IsFormed (pure_tree tree.now) }
     ensures accepted { IfOk result (IsAccepted (pure_tree tree.now)) }
+    ensures of { IfOk result (IsAcceptedTree (pure_tree tree.now)) }
     ensures printable { IfOk result IsPrintable }
     ensures refused { IfErr result (IsTreeRefusal (pure_tree tree.now)) }
 {

@@ -1,7 +1,8 @@
 //! What holds of the definitions.
 
-ghost use Rattle.tdf_sim.specs.Laws.{FaultOrAccepted, FaultsAreOne, ModelsAreAlike};
+ghost use Rattle.tdf_sim.specs.Laws.{FaultOrAccepted, FaultsAreOne, ModelsAreAlike, RunsAreAlike};
 
+use tdf_alike::law_alike;
 use tdf_dynamic::{law_numbers, law_one_plan, law_plannable};
 
 /// A text has at most one first fault, and with one it is not accepted.
@@ -14,11 +15,19 @@ pub fn law_first_fault()
     law_plannable();
 }
 
-/// Two models of one tree have the same tables and the same plans.
+/// Two models of one tree have the same tables, and for each cluster the same attributes and the same plan.
 pub fn law_one_model()
     ensures { ModelsAreAlike }
 {
     law_one_plan();
     law_numbers();
     law_plannable();
+}
+
+/// A run of either of two models of one tree writes the same, and ends alike.
+pub fn law_one_run()
+    ensures { RunsAreAlike }
+{
+    law_one_model();
+    law_alike();
 }

@@ -1,17 +1,22 @@
-//! From a text to a model that can run, or its first fault.
+//! From a text to a model that can run, or its first fault, and the run of a model.
 //!
 //! - `err`: why a text is not accepted.
 //! - `elaboration`: all checks of a text, in their order.
 //! - `sim`: a model that was accepted.
+//! - `run`: a run of it.
 //! - `laws`: what holds of the definitions.
 #![tactic(auto)]
 
 mod elaboration;
 mod err;
 mod laws;
+mod run;
 mod sim;
 
 pub use elaboration::{elaborate, elaborate_tree};
 pub use err::SimErr;
-pub use laws::{law_first_fault, law_one_model};
+pub use laws::{law_first_fault, law_one_model, law_one_run};
+pub use run::RunErr;
 pub use sim::Sim;
+pub use tdf_loop::Ran;
+pub use tdf_report::End;

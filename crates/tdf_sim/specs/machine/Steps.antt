@@ -9,6 +9,10 @@ use Rattle.tdf_faults.specs.declared.refusal.TypeErr.{TypeErr}
 use Rattle.tdf_faults.specs.declared.refusal.TypeErr.TheVariants as by
 use Rattle.tdf_flat.specs.Flat.{IsFlatOf}
 use Rattle.tdf_flat.specs.declared.model.Flat.{Flat}
+use Rattle.tdf_io.specs.declared.writing.SinkErr.{SinkErr}
+use Rattle.tdf_io.specs.declared.writing.SinkErr.TheVariants as sink
+use Rattle.tdf_sim.specs.declared.run.RunErr.{RunErr}
+use Rattle.tdf_sim.specs.declared.run.RunErr.TheVariants as run
 use Rattle.tdf_sim.specs.FirstFault.{HasSoundLines, on_line}
 use Rattle.tdf_sim.specs.declared.err.SimErr.{SimErr}
 use Rattle.tdf_sim.specs.declared.err.SimErr.TheVariants.{Refused, Memory}
@@ -26,6 +30,11 @@ by_parser (why.Byte line) = Refused (on_line code.Byte line)
 by_parser (why.LongLine line) = Refused (on_line code.LongLine line)
 by_parser (why.Syntax line) = Refused (on_line code.Syntax line)
 by_parser why.Memory = Memory
+
+-- what a sink answered
+abbrev pub by_sink : SinkErr → RunErr
+by_sink sink.Failed = run.WriteFault
+by_sink sink.Memory = run.Memory
 
 -- the plans of the first clusters
 abbrev pub HavePlans : Flat → List First → Type 0

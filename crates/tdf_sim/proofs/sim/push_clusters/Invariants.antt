@@ -1,4 +1,4 @@
-use Rattle.std.proofs.Common.{◌≡◌, ◌+◌, ◌++◌, ℕ, map, slice_get}
+use Rattle.std.proofs.Common.{◌≡◌, ◌++◌}
 use Rattle.std.specs.List.{flat_map, range_with_len}
 use Rattle.tdf_sim.proofs.Printing.{text_at}
 use Rattle.tdf_sim.proofs.sim.push_clusters.Given as goal

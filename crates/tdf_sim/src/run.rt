@@ -1,0 +1,115 @@
+//! A run of a model that was accepted.
+
+use tdf_io::{Sink, SinkErr};
+
+/// Why a run did not end.
+#[derive(Drop)]
+pub enum RunErr {
+    /// A module of the model changes its attributes, which no run does yet. Nothing was written.
+    Unbuilt,
+    /// A write failed.
+    WriteFault,
+    /// Out of memory.
+    Memory,
+}
+
+ghost use Rattle.std.specs.Io.KnownBytes.{Appends};
+ghost use Rattle.std.specs.Prelude.{◌≡◌, ◌<◌, ◌⊎◌, ℕ, true, IfOk, IsErrOf, OnErr, OnOk};
+ghost use Rattle.tdf_base.specs.Limits.{time_end};
+ghost use Rattle.tdf_io.specs.Bytes.{AppendsFront};
+ghost use Rattle.tdf_io.specs.Faults.{FaultsRose};
+ghost use Rattle.tdf_loop.specs.Runs.{IsLeft, trace_of};
+ghost use Rattle.tdf_report.specs.Ending.{run_end, run_note};
+ghost use Rattle.tdf_report.specs.declared.ending.End.TheVariants.{Reached};
+ghost use Rattle.tdf_sim.specs.Runs.{IsAcceptedTree, IsSomeAccepted, makes_changes};
+ghost use Rattle.tdf_sim.specs.declared.run.RunErr.TheVariants as why;
+ghost use Rattle.tdf_sim.specs.machine.Steps.{by_sink};
+ghost use Rattle.tdf_tree.specs.Pure.{PureTree};
+
+use crate::sim::Sim;
+use std::alloc::Global;
+use tdf_limits::law_limits;
+use tdf_loop::{Ran, run_model};
+use tdf_runnable::law_runnable;
+use tdf_words::TraceKind;
+
+/// What a sink answered.
+fn by_sink(error: SinkErr) -> RunErr
+    ensures { result ≡ by_sink error }
+{
+    match error {
+        SinkErr::Failed => RunErr::WriteFault,
+        SinkErr::Memory => RunErr::Memory,
+    }
+}
+
+impl Sim {
+    /// Whether a module of the model changes its attributes.
+    pub fn makes_changes(&self) -> bool
+        ensures { result ≡ makes_changes self.now.flat.tables }
+    {
+        self.flat.tables.modules.iter().any(|row| row.changes)
+    }
+
+    /// Runs the model from time 0 to a stop, in counts of its resolution, within so many turns. It writes the trace on `out`, and on
+    /// `notes` the plans and how it ended.
+    ///
+    /// # Errors
+    /// `Unbuilt` exactly where a module changes its attributes; then nothing was written. `WriteFault` only where a count of faults
+    /// rose; after it and after `Memory` both sinks hold front parts of their texts.
+    pub fn run<O: Sink, N: Sink>(
+        self,
+        alloc: Global,
+        stop: u64,
+        turns: u64,
+        kind: TraceKind,
+        out: &mut O,
+        notes: &mut N,
+    ) -> Result<Ran, RunErr>
+        requires accepted { IsSomeAccepted self }
+        requires stop { stop < time_end }
+        ensures end { (tree : PureTree) → IsAcceptedTree tree self → IfOk result (λ ran.
+            ran.end ≡ run_end tree self.flat self.firsts.items stop turns) }
+        ensures trace { (tree : PureTree) → IsAcceptedTree tree self → OnOk result
+            (Appends (O.taken out.old) (O.taken out.new)
+            (trace_of kind tree self.flat self.firsts.items stop turns)) }
+        ensures notes { (tree : PureTree) → IsAcceptedTree tree self → OnOk result
+            (Appends (N.taken notes.old) (N.taken notes.new)
+            (run_note tree self.flat self.firsts.items stop turns)) }
+        ensures trace_part { (tree : PureTree) → IsAcceptedTree tree self → OnErr result
+            (AppendsFront (O.taken out.old) (O.taken out.new)
+            (trace_of kind tree self.flat self.firsts.items stop turns)) }
+        ensures notes_part { (tree : PureTree) → IsAcceptedTree tree self → OnErr result
+            (AppendsFront (N.taken notes.old) (N.taken notes.new)
+            (run_note tree self.flat self.firsts.items stop turns)) }
+        ensures unbuilt { IsErrOf result why.Unbuilt → makes_changes self.flat.tables ≡ true }
+        ensures unbuilt_always { makes_changes self.flat.tables ≡ true
+            → IsErrOf result why.Unbuilt }
+        ensures unwritten { IsErrOf result why.Unbuilt
+            → (out.new ≡ out.old) × (notes.new ≡ notes.old) }
+        ensures cause { IsErrOf result why.WriteFault
+            → FaultsRose (O.faults out.old) (O.faults out.new)
+            ⊎ FaultsRose (N.faults notes.old) (N.faults notes.new) }
+        ensures left { (tree : PureTree) → IsAcceptedTree tree self → IfOk result (λ ran.
+            (time taken : ℕ) → ran.end ≡ Reached time taken
+            → IsLeft tree self.flat self.firsts.items stop turns ran) }
+    {
+        law_limits();
+        law_runnable();
+        if self.makes_changes() {
+            drop(self);
+            return Err(RunErr::Unbuilt);
+        }
+        let Sim { flat, firsts } = self;
+        match run_model(alloc, &flat, firsts, stop, turns, kind, out, notes) {
+            Ok(ran) => {
+                drop(flat);
+                Ok(ran)
+            }
+            Err(error) => {
+                drop(flat);
+                Err(by_sink(error))
+            }
+        }
+    }
+}
