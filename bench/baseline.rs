@@ -1,4 +1,4 @@
-// The ramp in plain Rust: what a model of the thin form writes, without a contract, written for speed: one buffer, digits put into
+// The ramp in plain Rust: what a run of it writes, without a contract, written for speed: one buffer, digits put into
 // it from the right, and no allocation a row. It reads the numbers that matter by their lines.
 use std::io::{self, Read, Write};
 

@@ -10,7 +10,7 @@ work=$(mktemp -d)
 mkdir -p "$work/crates/bodies_bench/src" "$work/.git"
 cp "$top/HANDLES" "$work"
 cp "$here/program.txt" "$work/crates/bodies_bench/src/main.rt"
-names=$(sed -n 's/^\(tdf_[a-z]*\):.*/\1/p' "$top/crates.txt" | grep -v -e tests -e tdf_cli -e tdf_thin -e tdf_lang -e tdf_print -e tdf_names)
+names=$(sed -n 's/^\(tdf_[a-z]*\):.*/\1/p' "$top/crates.txt" | grep -v -e tests -e tdf_cli -e tdf_lang -e tdf_print -e tdf_names)
 for name in $names; do
     mkdir "$work/crates/$name"
     for part in src specs proofs; do

@@ -1,10 +1,10 @@
 -- How what the steps wrote makes an outcome.
-use Rattle.std.proofs.Common.{◌≡◌, ℕ, List, [], Option, None, Result, Ok, Err, IfOk, OnOk, OnErr, inl, inr, refl, sym, ap, subst, append_assoc, append-nil}
+use Rattle.std.proofs.Common.{◌≡◌, ℕ, Bool, true, false, List, [], Option, Some, None, Result, Ok, Err, IfOk, IsErrOf, OnOk, OnErr, inl, inr, refl, sym, ap, ◌∙◌, subst, append_assoc, append-nil}
 use Rattle.std.specs.Io.KnownBytes.{Appends}
 use Rattle.std.proofs.KnownBytes.{Appends-nil}
 use Rattle.tdf_blocks.specs.Refused.{SpellsText}
 use Rattle.tdf_cli.specs.Input.{Reading, BadWords, Text, TooLong, ReadFault, NoMemory}
-use Rattle.tdf_cli.specs.Outcome.{Outcome, note, ran, HasOutcome, usage, read_fault, too_long, faulty, unbuilt, reached, is_checked, is_planned, WritesOutcome, WritesFrontOf, WritesNothingOrFront}
+use Rattle.tdf_cli.specs.Outcome.{Outcome, note, ran, status_of, stop_in, HasOutcome, usage, read_fault, too_long, faulty, unbuilt, too_late, has_run, is_checked, is_planned, WritesOutcome, WritesFrontOf, WritesNothingOrFront}
 use Rattle.tdf_sim.specs.Accepted.{IsAccepted}
 use Rattle.tdf_sim.specs.declared.sim.Sim.{Sim}
 use Rattle.tdf_cli.specs.declared.status.Status.{Status}
@@ -14,13 +14,15 @@ use Rattle.tdf_cli.specs.declared.words.Job.TheVariants.{Run, Check, Plan}
 use Rattle.tdf_cli.specs.machine.Texts.{IsCheckText, IsPlanText}
 use Rattle.tdf_print.specs.Canon.{canon}
 use Rattle.tdf_sim.specs.PlanText.{plans_text}
+use Rattle.tdf_sim.specs.Runs.{makes_changes}
 use Rattle.tdf_io.proofs.Api.{front_none}
 use Rattle.tdf_io.specs.Bytes.{AppendsFront, WritesText}
 use Rattle.tdf_io.specs.declared.writing.SinkErr.{SinkErr}
-use Rattle.tdf_thin.specs.Ramp.{trace_text, notes_text}
-use Rattle.tdf_thin.specs.ThinTree.{IsThinTree}
-use Rattle.tdf_thin.specs.declared.model.Thin.{Thin}
+use Rattle.tdf_loop.specs.Runs.{trace_of}
+use Rattle.tdf_report.specs.Ending.{run_end, run_note}
+use Rattle.tdf_report.specs.declared.ending.End.{End}
 use Rattle.tdf_tree.specs.Pure.{PureTree}
+use Rattle.tdf_words.specs.declared.asked.TraceKind.{TraceKind}
 
 -- being out of memory while the text is read has no outcome
 abbrev HasSome : Reading → Type 0
@@ -32,8 +34,9 @@ has_some usage = tt
 has_some read_fault = tt
 has_some too_long = tt
 has_some (faulty is) = tt
-has_some (unbuilt spells sound none) = tt
-has_some (reached thin spells sound is) = tt
+has_some (unbuilt spells sound is) = tt
+has_some (too_late spells sound none is) = tt
+has_some (has_run spells sound none is) = tt
 has_some (is_checked spells sound) = tt
 has_some (is_planned spells sound) = tt
 
@@ -64,19 +67,44 @@ noted_part (Ok s) r status a has wrote = tt
 noted_part {taken = taken} {old = old} {new = new} {text = text} (Err error) r status a has wrote =
     front_of r a a (taken old) (taken new) (record { outcome = note status text; has = has; out = front_none a []; notes = wrote.part })
 
-pub ran_all : (text : List ℕ) (tree : PureTree) (sim : Sim) (thin : Thin) (stop : ℕ) (a b c d : Option (List ℕ)) → SpellsText text tree → IsAccepted tree sim → IsThinTree tree thin
-    → Appends a b (trace_text thin stop) → Appends c d (notes_text thin stop) → WritesOutcome (Text (Run stop) text) Done a b c d
-ran_all text tree sim thin stop a b c d spells sound is traced noted = record {
-  outcome = ran thin stop;
-  has = reached thin spells sound is;
-  answers = refl;
-  out = traced;
-  notes = noted;
-}
+-- a run of a model in which nothing changes
+module _ (kind : TraceKind) (text : List ℕ) (tree : PureTree) (sim : Sim) (stop turns end : ℕ) (a b c d : Option (List ℕ)) (spells : SpellsText text tree) (sound : IsAccepted tree sim)
+    (none : makes_changes sim.flat.tables ≡ false) (is : stop_in sim.flat.resolution stop ≡ Some end) where
+  pub ran_all : (how : End) (answer : Status) → how ≡ run_end tree sim.flat sim.firsts.items end turns → answer ≡ status_of how
+      → Appends a b (trace_of kind tree sim.flat sim.firsts.items end turns) → Appends c d (run_note tree sim.flat sim.firsts.items end turns)
+      → WritesOutcome (Text (Run stop kind turns) text) answer a b c d
+  ran_all how answer ended answers traced noted = record {
+    outcome = ran kind tree sim end turns;
+    has = has_run spells sound none is;
+    answers = sym (answers ∙ ap status_of ended);
+    out = traced;
+    notes = noted;
+  }
 
-pub ran_part : (text : List ℕ) (tree : PureTree) (sim : Sim) (thin : Thin) (stop : ℕ) (a b c d : Option (List ℕ)) → SpellsText text tree → IsAccepted tree sim → IsThinTree tree thin
-    → AppendsFront a b (trace_text thin stop) → AppendsFront c d (notes_text thin stop) → WritesNothingOrFront (Text (Run stop) text) a b c d
-ran_part text tree sim thin stop a b c d spells sound is traced noted = inr (record { outcome = ran thin stop; has = reached thin spells sound is; out = traced; notes = noted })
+  pub ran_part : AppendsFront a b (trace_of kind tree sim.flat sim.firsts.items end turns) → AppendsFront c d (run_note tree sim.flat sim.firsts.items end turns)
+      → WritesNothingOrFront (Text (Run stop kind turns) text) a b c d
+  ran_part traced noted = inr (record { outcome = ran kind tree sim end turns; has = has_run spells sound none is; out = traced; notes = noted })
+
+-- a run with another answer than that it is unbuilt is of a model in which nothing changes
+not_true : (changes : Bool) → ¬ (changes ≡ true) → changes ≡ false
+not_true true never = absurd (never refl)
+not_true false never = refl
+
+pub none_ok : {T E : Type 0} (changes : Bool) (x : T) (error : E) → (changes ≡ true → IsErrOf (Ok x) error) → changes ≡ false
+none_ok changes x error always = not_true changes (λ changed. let same = always changed in absurd cc)
+
+pub none_err : {T E : Type 0} (changes : Bool) (other error : E) → ¬ (other ≡ error) → (changes ≡ true → IsErrOf {T = T} (Err other) error) → changes ≡ false
+none_err changes other error differ always = not_true changes (λ changed. let same = always changed in differ cc)
+
+-- it wrote nothing before its note
+module _ (result : Result Status SinkErr) (r : Reading) (a b c d e : Option (List ℕ)) (out : b ≡ a) (notes : d ≡ c) where
+  pub unwritten_all : IfOk result (λ s. WritesOutcome r s a a d e) → IfOk result (λ s. WritesOutcome r s a b c e)
+  unwritten_all wrote = subst (λ (x : Option (List ℕ)). IfOk result (λ s. WritesOutcome r s a x c e)) (sym out)
+      (subst (λ (x : Option (List ℕ)). IfOk result (λ s. WritesOutcome r s a a x e)) notes wrote)
+
+  pub unwritten_part : OnErr result (WritesNothingOrFront r a a d e) → OnErr result (WritesNothingOrFront r a b c e)
+  unwritten_part wrote = subst (λ (x : Option (List ℕ)). OnErr result (WritesNothingOrFront r a x c e)) (sym out)
+      (subst (λ (x : Option (List ℕ)). OnErr result (WritesNothingOrFront r a a x e)) notes wrote)
 
 -- what holds for each text that spells a tree
 pub each_ok : {T E : Type 0} (result : Result T E) (tree : PureTree) (P : List ℕ → T → Type 0) → ((text : List ℕ) → SpellsText text tree → IfOk result (P text))

@@ -1,6 +1,6 @@
 -- What came of the words and of reading the model.
 -- Source: own.
-use Rattle.std.specs.Prelude.{ℕ, ◌≡◌, ◌+◌, ◌<◌, ◌≤◌, List, Option, Some, None, IsSome, length}
+use Rattle.std.specs.Prelude.{ℕ, ◌≡◌, ◌+◌, ◌≤◌, List, Option, Some, None, IsSome, length}
 use Rattle.std.specs.Io.KnownBytes.{Consumes, IsAtEnd}
 use Rattle.tdf_base.specs.Limits.{longest_text}
 use Rattle.tdf_cli.specs.Words.{job_for, StopsEarly}

@@ -1,8 +1,12 @@
 -- The outcome of the command: what it answers, and what it writes on its output and on its notes.
 -- Source: own.
-use Rattle.std.specs.Prelude.{ℕ, ◌≡◌, ◌⊎◌, List, [], Option, codes}
+use Rattle.std.specs.Prelude.{ℕ, ◌≡◌, ◌⊎◌, ◌*◌, true, false, List, [], Option, Some, None, codes}
+use Rattle.std.specs.Prelude.{if◌then◌else◌, nat_lt}
 use Rattle.std.specs.Io.KnownBytes.{Appends, Keeps}
+use Rattle.tdf_base.specs.Limits.{time_end}
 use Rattle.tdf_base.specs.declared.faults.Fault.{Fault}
+use Rattle.tdf_base.specs.declared.resolution.Resolution.{Resolution}
+use Rattle.tdf_base.specs.declared.resolution.Resolution.TheVariants.{Ps, Fs}
 use Rattle.tdf_blocks.specs.Refused.{SpellsText}
 use Rattle.tdf_cli.specs.Input.{Reading, BadWords, Text, TooLong, ReadFault, NoMemory}
 use Rattle.tdf_cli.specs.Refusals.{refusal_text, unbuilt_fault}
@@ -11,16 +15,19 @@ use Rattle.tdf_cli.specs.declared.status.Status.TheVariants as status
 use Rattle.tdf_cli.specs.declared.words.Job.{Job}
 use Rattle.tdf_cli.specs.declared.words.Job.TheVariants.{Run, Check, Plan}
 use Rattle.tdf_io.specs.Bytes.{AppendsFront}
+use Rattle.tdf_loop.specs.Runs.{trace_of}
 use Rattle.tdf_notes.specs.Plans.{accepted_line}
 use Rattle.tdf_print.specs.Canon.{canon}
+use Rattle.tdf_report.specs.Ending.{run_end, run_note}
+use Rattle.tdf_report.specs.declared.ending.End.{End}
+use Rattle.tdf_report.specs.declared.ending.End.TheVariants as ending
 use Rattle.tdf_sim.specs.Accepted.{IsAccepted}
 use Rattle.tdf_sim.specs.declared.sim.Sim.{Sim}
 use Rattle.tdf_sim.specs.FirstFault.{cluster_count, IsFirstFault}
 use Rattle.tdf_sim.specs.PlanText.{plans_text}
-use Rattle.tdf_thin.specs.Ramp.{trace_text, notes_text}
-use Rattle.tdf_thin.specs.ThinTree.{IsThinTree}
-use Rattle.tdf_thin.specs.declared.model.Thin.{Thin}
+use Rattle.tdf_sim.specs.Runs.{makes_changes}
 use Rattle.tdf_tree.specs.Pure.{PureTree}
+use Rattle.tdf_words.specs.declared.asked.TraceKind.{TraceKind}
 
 pub record Outcome : Type 0 where
   pub status : Status
@@ -35,9 +42,24 @@ note status text = record { status = status; out = []; notes = text }
 abbrev pub refused : Fault → Outcome
 refused fault = note status.Refused (refusal_text fault)
 
--- a run that reached its stop
-abbrev pub ran : Thin → ℕ → Outcome
-ran thin stop = record { status = status.Done; out = trace_text thin stop; notes = notes_text thin stop }
+-- a stop, which the words say in ps, in counts of a resolution, where a run may have it
+abbrev pub stop_in : Resolution → ℕ → Option ℕ
+stop_in Ps stop = Some stop
+stop_in Fs stop = if nat_lt (stop * 1000) time_end then Some (stop * 1000) else None
+
+-- the answer of a run that ended so
+abbrev pub status_of : End → Status
+status_of (ending.Reached time turns) = status.Done
+status_of (ending.Stopped time cluster fault) = status.Stopped
+status_of (ending.Spent time) = status.Spent
+
+-- a run that ended, whichever way; its stop is in counts of the resolution
+abbrev pub ran : TraceKind → PureTree → Sim → (stop turns : ℕ) → Outcome
+ran kind tree sim stop turns = record {
+  status = status_of (run_end tree sim.flat sim.firsts.items stop turns);
+  out = trace_of kind tree sim.flat sim.firsts.items stop turns;
+  notes = run_note tree sim.flat sim.firsts.items stop turns;
+}
 
 -- the note of a model that was accepted: the number of its clusters
 abbrev pub accepted_text : Sim → List ℕ
@@ -60,12 +82,18 @@ pub data HasOutcome : Reading → Outcome → Type 0 where
   too_long : HasOutcome TooLong (note status.TooLong (codes "too long\n"))
   faulty : {job : Job} {text : List ℕ} {fault : Fault} → IsFirstFault text fault
       → HasOutcome (Text job text) (refused fault)
-  unbuilt : {stop : ℕ} {text : List ℕ} {tree : PureTree} {sim : Sim} → SpellsText text tree
-      → IsAccepted tree sim → ((thin : Thin) → IsThinTree tree thin → ⊥)
-      → HasOutcome (Text (Run stop) text) (refused unbuilt_fault)
-  reached : {stop : ℕ} {text : List ℕ} {tree : PureTree} {sim : Sim} (thin : Thin)
-      → SpellsText text tree → IsAccepted tree sim → IsThinTree tree thin
-      → HasOutcome (Text (Run stop) text) (ran thin stop)
+  unbuilt : {stop turns : ℕ} {kind : TraceKind} {text : List ℕ} {tree : PureTree} {sim : Sim}
+      → SpellsText text tree → IsAccepted tree sim → makes_changes sim.flat.tables ≡ true
+      → HasOutcome (Text (Run stop kind turns) text) (refused unbuilt_fault)
+  too_late : {stop turns : ℕ} {kind : TraceKind} {text : List ℕ} {tree : PureTree} {sim : Sim}
+      → SpellsText text tree → IsAccepted tree sim → makes_changes sim.flat.tables ≡ false
+      → stop_in sim.flat.resolution stop ≡ None
+      → HasOutcome (Text (Run stop kind turns) text)
+      (note status.StopTooLong (codes "stop too long\n"))
+  has_run : {stop turns end : ℕ} {kind : TraceKind} {text : List ℕ} {tree : PureTree} {sim : Sim}
+      → SpellsText text tree → IsAccepted tree sim → makes_changes sim.flat.tables ≡ false
+      → stop_in sim.flat.resolution stop ≡ Some end
+      → HasOutcome (Text (Run stop kind turns) text) (ran kind tree sim end turns)
   is_checked : {text : List ℕ} {tree : PureTree} {sim : Sim} → SpellsText text tree
       → IsAccepted tree sim → HasOutcome (Text Check text) (checked tree sim)
   is_planned : {text : List ℕ} {tree : PureTree} {sim : Sim} → SpellsText text tree

@@ -1,14 +1,17 @@
 -- The numbers of the answers (own).
 use Rattle.std.specs.Prelude.{ℕ}
 use Rattle.tdf_cli.specs.declared.status.Status.{Status}
-use Rattle.tdf_cli.specs.declared.status.Status.TheVariants.{Done, Refused, Usage, ReadFault, TooLong}
+use Rattle.tdf_cli.specs.declared.status.Status.TheVariants.{Done, Refused, Usage, ReadFault, Stopped, Spent, TooLong, StopTooLong}
 
 abbrev pub number_of : Status → ℕ
 number_of Done = 0
 number_of Refused = 1
 number_of Usage = 2
 number_of ReadFault = 3
+number_of Stopped = 5
+number_of Spent = 6
 number_of TooLong = 8
+number_of StopTooLong = 9
 
 -- a write failed
 abbrev pub write_fault : ℕ

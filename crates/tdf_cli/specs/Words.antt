@@ -1,19 +1,16 @@
 -- The jobs that the words of the command may ask for today.
 -- Source: own; the words and their settings are those of `tdf_words`.
-use Rattle.std.specs.Prelude.{ℕ, ◌<◌, nat_eq, if◌then◌else◌, List, Option, Some, None, option_and_then}
+use Rattle.std.specs.Prelude.{ℕ, ◌<◌, List, Option, Some, None, option_and_then}
 use Rattle.tdf_base.specs.Limits.{time_end}
 use Rattle.tdf_cli.specs.declared.words.Job.{Job}
 use Rattle.tdf_cli.specs.declared.words.Job.TheVariants as job
-use Rattle.tdf_words.specs.Jobs.{usual_turns}
 use Rattle.tdf_words.specs.Words.{taken_of}
 use Rattle.tdf_words.specs.declared.asked.Settings.{Settings}
 use Rattle.tdf_words.specs.declared.asked.Settings.TheVariants.{Run, Check, Plan, Load}
-use Rattle.tdf_words.specs.declared.asked.TraceKind.TheVariants.{Table, Vcd}
 
--- what is built of what words may ask for: runs to a table with the usual turns, checks and plans
+-- what is built of what words may ask for: all but `load`
 abbrev pub job_of : Settings → Option Job
-job_of (Run stop Table turns) = if nat_eq turns usual_turns then Some (job.Run stop) else None
-job_of (Run stop Vcd turns) = None
+job_of (Run stop kind turns) = Some (job.Run stop kind turns)
 job_of Check = Some job.Check
 job_of Plan = Some job.Plan
 job_of (Load seed size) = None
@@ -24,5 +21,5 @@ job_for words = option_and_then job_of (taken_of words)
 
 -- the stop is one that a run may have
 abbrev pub StopsEarly : Job → Type 0
-StopsEarly (job.Run stop) = stop < time_end
+StopsEarly (job.Run stop kind turns) = stop < time_end
 StopsEarly _ = Unit {0}

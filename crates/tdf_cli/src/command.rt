@@ -17,13 +17,15 @@ use crate::load::load;
 use crate::status::{NO_MEMORY, WRITE_FAULT};
 use std::alloc::Global;
 use tdf_io::{Sink, SinkErr, Source};
-use tdf_sim::{law_first_fault, law_one_model};
+use tdf_sim::{law_first_fault, law_one_model, law_one_run};
 
 /// The command: takes its words, those after the program's name, reads the model, does the job, and answers the status
 /// of the program.
 ///
 /// The status is 0 where the job is done, 1 where the text has a fault, 2 where the words are not accepted, 3 where a read
-/// failed, 4 where a write failed, 7 where it is out of memory, and 8 where the text has more than 1,048,576 bytes.
+/// failed, 4 where a write failed, 6 where the turns of a run were too few, 7 where it is out of memory, 8 where the text has more
+/// than 1,048,576 bytes, and 9 where the stop is too late for the resolution of the model. 5 is for a run that a refused change of
+/// attributes stops, and no model that runs today has one.
 pub fn tool<S: Source, O: Sink, N: Sink>(
     alloc: Global,
     words: &Vec<String>,
@@ -57,6 +59,7 @@ pub fn tool<S: Source, O: Sink, N: Sink>(
 {
     law_first_fault();
     law_one_model();
+    law_one_run();
     let input = load(alloc, words, model);
     match finish(alloc, &input, out, notes) {
         Ok(status) => status.number(),
@@ -71,4 +74,5 @@ pub fn law_one_outcome()
 {
     law_first_fault();
     law_one_model();
+    law_one_run();
 }

@@ -1,64 +1,40 @@
-//! What each outcome writes.
+//! What each outcome writes, but for runs.
 
 ghost use Rattle.std.specs.Io.KnownBytes.{Appends};
 ghost use Rattle.std.specs.Prelude.{◌≡◌, ◌⊎◌, ◌≤◌, ◌<◌, List, ℕ, Err, length, IfOk, OnErr, OnOk, IsErrOf};
-ghost use Rattle.tdf_base.specs.Limits.{longest_text, time_end};
+ghost use Rattle.tdf_base.specs.Limits.{longest_text};
 ghost use Rattle.tdf_blocks.specs.Formed.{IsFormed};
 ghost use Rattle.tdf_blocks.specs.Refused.{SpellsText};
 ghost use Rattle.tdf_cli.specs.Input.{NoMemory, Reading, Text, reading, IsReady};
 ghost use Rattle.tdf_cli.specs.Outcome.{WritesNothingOrFront, WritesOutcome, accepted_text};
-ghost use Rattle.tdf_cli.specs.Refusals.{refusal_text};
-ghost use Rattle.tdf_cli.specs.declared.status.Status.TheVariants.{Done, Refused};
+ghost use Rattle.tdf_cli.specs.declared.status.Status.TheVariants.{Done};
 ghost use Rattle.tdf_print.specs.Canon.{canon};
 ghost use Rattle.tdf_cli.specs.Words.{StopsEarly};
-ghost use Rattle.tdf_cli.specs.declared.words.Job.TheVariants.{Check, Plan, Run};
+ghost use Rattle.tdf_cli.specs.declared.words.Job.TheVariants.{Check, Plan};
 ghost use Rattle.tdf_cli.specs.machine.Texts.{IsCheckText, IsPlanText};
-ghost use Rattle.tdf_io.specs.Bytes.{AppendsFront, WritesText};
+ghost use Rattle.tdf_io.specs.Bytes.{AppendsFront};
 ghost use Rattle.tdf_io.specs.Faults.{FaultsRose};
 ghost use Rattle.tdf_io.specs.declared.writing.SinkErr.TheVariants as why;
 ghost use Rattle.tdf_sim.specs.Accepted.{IsAccepted};
 ghost use Rattle.tdf_sim.specs.PlanText.{IsPrintable, plans_text};
+ghost use Rattle.tdf_sim.specs.Runs.{IsAcceptedTree};
 ghost use Rattle.tdf_tree.specs.Kept.{IsKept};
 ghost use Rattle.tdf_tree.specs.Views.{pure_tree};
 
 use crate::load::Input;
-use crate::refusals::{first_fault, push_refusal, unbuilt};
+use crate::notes::{noted, refuse};
+use crate::refusals::first_fault;
+use crate::run::run;
 use crate::status::Status;
 use crate::words::Job;
 use std::alloc::Global;
-use tdf_base::{Fault, Memory};
+use tdf_base::Memory;
 use tdf_blocks::parse;
 use tdf_io::{Sink, SinkErr, put_all};
 use tdf_notes::push_accepted;
 use tdf_print::push_tree;
 use tdf_sim::{Sim, SimErr, elaborate_tree};
-use tdf_thin::{ThinErr, run_thin, thin_of};
 use tdf_tree::Tree;
-
-/// Leaves a note, and answers this status.
-fn noted<N: Sink>(notes: &mut N, text: &[u8], status: Status) -> Result<Status, SinkErr>
-    ensures status { IfOk result (λ s. s ≡ status) }
-    ensures writes { WritesText N.taken N.faults notes.old notes.new text.now result }
-{
-    match put_all(notes, text) {
-        Ok(()) => Ok(status),
-        Err(error) => Err(error),
-    }
-}
-
-/// Notes the first fault of a text.
-fn refuse<N: Sink>(alloc: Global, notes: &mut N, fault: Fault) -> Result<Status, SinkErr>
-    ensures status { IfOk result (λ s. s ≡ Refused) }
-    ensures writes { WritesText N.taken N.faults notes.old notes.new (refusal_text fault) result }
-{
-    let mut text = Vec::new(alloc);
-    let pushed = push_refusal(&mut text, &fault);
-    drop(fault);
-    match pushed {
-        Ok(()) => noted(notes, &text, Status::Refused),
-        Err(_) => Err(SinkErr::Memory),
-    }
-}
 
 /// An output and a note.
 #[derive(Drop)]
@@ -182,45 +158,18 @@ fn plan<O: Sink, N: Sink>(
     }
 }
 
-/// Runs a model that was accepted, and answers `Done`; or notes that such a model isn't run yet, and answers `Refused`.
-fn run<O: Sink, N: Sink>(
-    alloc: Global,
-    tree: &Tree,
-    sim: &Sim,
-    stop: u64,
-    out: &mut O,
-    notes: &mut N,
-) -> Result<Status, SinkErr>
-    requires stop { stop < time_end }
-    requires accepted { IsAccepted (pure_tree tree.now) sim.now }
-    ensures all { IfOk result (λ s. (text : List ℕ) → SpellsText text (pure_tree tree.now) → WritesOutcome (Text (Run stop) text) s
-        (O.taken out.old) (O.taken out.new) (N.taken notes.old) (N.taken notes.new)) }
-    ensures part { OnErr result ((text : List ℕ) → SpellsText text (pure_tree tree.now) → WritesNothingOrFront (Text (Run stop) text)
-        (O.taken out.old) (O.taken out.new) (N.taken notes.old) (N.taken notes.new)) }
-    ensures cause { IsErrOf result why.Failed → FaultsRose (O.faults out.old) (O.faults out.new) ⊎ FaultsRose (N.faults notes.old) (N.faults notes.new) }
-{
-    match thin_of(alloc, tree) {
-        Ok(thin) => match run_thin(alloc, &thin, stop, out, notes) {
-            Ok(_) => Ok(Status::Done),
-            Err(error) => Err(error),
-        },
-        Err(ThinErr::Unbuilt) => refuse(alloc, notes, unbuilt()),
-        Err(ThinErr::Memory) => Err(SinkErr::Memory),
-    }
-}
-
 /// Does a job for a model that was accepted.
 fn do_accepted<O: Sink, N: Sink>(
     alloc: Global,
     tree: &Tree,
-    sim: &Sim,
+    sim: Sim,
     job: Job,
     out: &mut O,
     notes: &mut N,
 ) -> Result<Status, SinkErr>
     requires stop { StopsEarly job }
-    requires accepted { IsAccepted (pure_tree tree.now) sim.now }
-    requires printable { IsPrintable sim.now }
+    requires accepted { IsAcceptedTree (pure_tree tree.now) sim }
+    requires printable { IsPrintable sim }
     ensures all { IfOk result (λ s. (text : List ℕ) → SpellsText text (pure_tree tree.now) → WritesOutcome (Text job text) s
         (O.taken out.old) (O.taken out.new) (N.taken notes.old) (N.taken notes.new)) }
     ensures part { OnErr result ((text : List ℕ) → SpellsText text (pure_tree tree.now) → WritesNothingOrFront (Text job text)
@@ -228,9 +177,9 @@ fn do_accepted<O: Sink, N: Sink>(
     ensures cause { IsErrOf result why.Failed → FaultsRose (O.faults out.old) (O.faults out.new) ⊎ FaultsRose (N.faults notes.old) (N.faults notes.new) }
 {
     match job {
-        Job::Run { stop } => run(alloc, tree, sim, stop, out, notes),
-        Job::Check => check(alloc, tree, sim, out, notes),
-        Job::Plan => plan(alloc, tree, sim, out, notes),
+        Job::Run { stop, kind, turns } => run(alloc, sim, stop, kind, turns, out, notes),
+        Job::Check => check(alloc, tree, &sim, out, notes),
+        Job::Plan => plan(alloc, tree, &sim, out, notes),
     }
 }
 
@@ -252,7 +201,7 @@ fn do_tree<O: Sink, N: Sink>(
     ensures cause { IsErrOf result why.Failed → FaultsRose (O.faults out.old) (O.faults out.new) ⊎ FaultsRose (N.faults notes.old) (N.faults notes.new) }
 {
     match elaborate_tree(alloc, tree) {
-        Ok(sim) => do_accepted(alloc, tree, &sim, job, out, notes),
+        Ok(sim) => do_accepted(alloc, tree, sim, job, out, notes),
         Err(SimErr::Refused(fault)) => refuse(alloc, notes, fault),
         Err(SimErr::Memory) => Err(SinkErr::Memory),
     }

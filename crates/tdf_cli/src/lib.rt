@@ -3,7 +3,9 @@
 //! * `command`: the top call.
 //! * `words`: what the words ask for.
 //! * `load`: reads the model.
-//! * `jobs`: what each outcome writes.
+//! * `jobs`: what each outcome writes, but for runs.
+//! * `run`: the job `run`.
+//! * `notes`: outcomes that only leave a note.
 //! * `refusals`: the faults of texts, and how they are noted.
 //! * `status`: the answers and their numbers.
 #![tactic(auto)]
@@ -11,7 +13,9 @@
 mod command;
 mod jobs;
 mod load;
+mod notes;
 mod refusals;
+mod run;
 mod status;
 mod words;
 

@@ -13,8 +13,14 @@ pub(crate) enum Status {
     Usage,
     /// A read failed.
     ReadFault,
+    /// A change of attributes was refused at its time.
+    Stopped,
+    /// The turns were too few.
+    Spent,
     /// The text is too long.
     TooLong,
+    /// The stop is too late for the resolution of the model.
+    StopTooLong,
 }
 
 /// The answer of a failed write.
@@ -38,7 +44,10 @@ impl Status {
             Status::Refused => 1,
             Status::Usage => 2,
             Status::ReadFault => 3,
+            Status::Stopped => 5,
+            Status::Spent => 6,
             Status::TooLong => 8,
+            Status::StopTooLong => 9,
         }
     }
 }

@@ -12,19 +12,20 @@ use tdf_words::{Settings, TraceKind, WordsErr, settings};
 /// What the words ask for.
 #[derive(Clone, Copy, Debug, PartialEq, Eq)]
 pub enum Job {
-    /// Run the model and write the table of its trace.
+    /// Run the model and write its trace.
     Run {
         /// Where the run ends, in ps, below 10^18.
         stop: u64,
+        /// How the trace is written.
+        kind: TraceKind,
+        /// How many turns the run may take.
+        turns: u64,
     },
     /// Write the canonical text of the model.
     Check,
     /// Write the plans of the model.
     Plan,
 }
-
-/// The turns of a run whose words say none.
-const USUAL_TURNS: u64 = 100_000_000;
 
 /// The job of settings, if it is built.
 fn job_of(settings: Settings) -> Option<Job>
@@ -33,20 +34,7 @@ fn job_of(settings: Settings) -> Option<Job>
     ensures early { IfSome result StopsEarly }
 {
     match settings {
-        Settings::Run {
-            stop,
-            kind: TraceKind::Table,
-            turns,
-        } => {
-            if turns == USUAL_TURNS {
-                return Some(Job::Run { stop });
-            }
-            None
-        }
-        Settings::Run {
-            kind: TraceKind::Vcd,
-            ..
-        } => None,
+        Settings::Run { stop, kind, turns } => Some(Job::Run { stop, kind, turns }),
         Settings::Check => Some(Job::Check),
         Settings::Plan => Some(Job::Plan),
         Settings::Load { .. } => None,

@@ -15,9 +15,6 @@ use std::alloc::Global;
 fn is_built(given: &Given) -> bool
     ensures { result ≡ is_built given.now }
 {
-    if given.format.is_some() || given.turns.is_some() {
-        return false;
-    }
     match given.job {
         None => true,
         Some(job) => job != "load",

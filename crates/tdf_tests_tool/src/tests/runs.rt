@@ -230,9 +230,9 @@ const RAMPS: &[(&str, &str, &str, &[&str], u8, &str)] = &[
         "language 3\nresolution 1fs",
         "16",
         "250fs",
-        RUN,
-        1,
-        "refused UNBUILT\n",
+        &["run", "--stop", "1000s"],
+        9,
+        "stop too long\n",
     ),
 ];
 
@@ -241,8 +241,10 @@ const TEXTS: &[(&str, &str)] = &[
     ("", "refused SYNTAX line 1\n"),
     ("language 1\n", "refused SYNTAX line 2\n"),
     ("language 1\n#\r\nend\n", "refused BYTE line 2\n"),
-    ("language 1\ntop\nend\n", "refused UNBUILT\n"),
-    ("language 2\ntop\nend\n", "refused UNBUILT\n"),
+    (
+        "language 1\ntdf m\nset_attributes\ntimestep 1us\ndoes_attribute_changes\nend\nend\ntop\ninstance u m\nend\n",
+        "refused UNBUILT\n",
+    ),
     (
         "language 2\nresolution 1ps\ntop\nend\n",
         "refused SYNTAX line 2\n",
@@ -271,9 +273,50 @@ fn wrong_refusal(alloc: Global) -> Result<&'static str, Memory> {
     Ok("")
 }
 
+/// Runs of the ramp of 16 bits, one sample a microsecond: the words, the status, the output, and the closing note.
+const OTHERS: &[(&[&str], u8, &str, &str)] = &[
+    (
+        &["run", "--stop", "3us", "--format", "vcd"],
+        0,
+        "$timescale 1 ps $end\n$scope module top $end\n$var wire 16 ! s $end\n$upscope $end\n$enddefinitions $end\n#0\n$dumpvars\nb0000000000000000 !\n$end\n#1000000\nb0000000000000001 !\n#2000000\nb0000000000000010 !\n#3000000\n",
+        "end 0.000003 turns 5\n",
+    ),
+    (
+        &["run", "--turns", "4", "--stop", "3us"],
+        6,
+        "%time s\n0 0\n0.000001 1\n",
+        "spent 0.000002 turns 4\n",
+    ),
+];
+
+/// The closing note of the first of the other runs with another answer, or nothing.
+fn wrong_other(alloc: Global) -> Result<&'static str, Memory> {
+    let ramp = Ramp {
+        first: "language 1",
+        bits: "16",
+        step: "1us",
+        add: "1",
+    };
+    let text = ramp.text(alloc)?;
+    for &(words, status, output, closing) in OTHERS {
+        let notes = joined(
+            alloc,
+            &[
+                "cluster 1 at 0 period 0.000001 firings 1\nactor u count 1 step 0.000001\n",
+                closing,
+            ],
+        )?;
+        if !answers(alloc, words, &text, (status, output.as_bytes(), &notes))? {
+            return Ok(closing);
+        }
+    }
+    Ok("")
+}
+
 #[test]
 fn runs_and_refuses_by_name(rt: HostRuntime) -> Result<(), Fail> {
     assert_eq!(rt; wrong_run(rt.alloc())?, "");
+    assert_eq!(rt; wrong_other(rt.alloc())?, "");
     assert_eq!(rt; wrong_refusal(rt.alloc())?, "");
     Ok(())
 }

@@ -1,11 +1,16 @@
-use Rattle.std.proofs.Common.{inl, ◌∙◌}
+use Rattle.std.proofs.Common.{inl, sym, ◌∙◌}
 use Rattle.tdf_cli.specs.Input.{reading}
 use Rattle.tdf_words.specs.Words.{texts_of}
-use Rattle.tdf_cli.proofs.Complete.{met}
+use Rattle.tdf_cli.proofs.Complete.{met, read_fault_rose}
 use Rattle.tdf_cli.proofs.command.tool.Goals as goal
+
+pub returns-in-Ok-clause-read_fault : goal.returns-in-Ok-clause-read_fault
+returns-in-Ok-clause-read_fault g c = λ is.
+    read_fault_rose (texts_of c.args.words.now.items) (reading c.load-input.result) c.in-Ok.status _ _ _ _ _ _ _ _
+    c.load-input.ensures.input c.in-Ok.ensures.all (sym c.number.ensures ∙ is)
 
 pub returns-in-Ok-clause-complete : goal.returns-in-Ok-clause-complete
 returns-in-Ok-clause-complete g c = λ job text o asks told short has read_well out_well notes_well.
-    inl (c.number.ensures ∙ met c.law_first_fault.ensures.one c.law_first_fault.ensures.apart c.law_one_model.ensures
+    inl (c.number.ensures ∙ met c.law_first_fault.ensures.one c.law_first_fault.ensures.apart c.law_one_model.ensures c.law_one_run.ensures
     (texts_of c.args.words.now.items) (reading c.load-input.result) c.in-Ok.status job text o _ _ _ _ _ _ _ _
     c.load-input.ensures.input c.in-Ok.ensures.all asks told short has read_well)

@@ -1,4 +1,3 @@
-use Rattle.std.proofs.Common.{subst}
 use Rattle.tdf_cli.proofs.Outcomes.{each_ok, each_err, plan_all, plan_part}
 use Rattle.tdf_cli.proofs.jobs.plan.Goals as goal
 use Rattle.tdf_tree.specs.Views.{pure_tree}

@@ -1,0 +1,121 @@
+//! The job `run`.
+
+ghost use Rattle.std.specs.Prelude.{◌≡◌, ◌⊎◌, ◌*◌, ◌<◌, ℕ, List, true, None, Some, IfOk, IfSome, IsErrOf, OnErr, if◌then◌else◌, nat_lt};
+ghost use Rattle.tdf_base.specs.Limits.{time_end};
+ghost use Rattle.tdf_blocks.specs.Refused.{SpellsText};
+ghost use Rattle.tdf_cli.specs.Input.{Text};
+ghost use Rattle.tdf_cli.specs.Outcome.{WritesNothingOrFront, WritesOutcome, status_of, stop_in};
+ghost use Rattle.tdf_cli.specs.declared.words.Job.TheVariants.{Run};
+ghost use Rattle.tdf_io.specs.Faults.{FaultsRose};
+ghost use Rattle.tdf_io.specs.declared.writing.SinkErr.TheVariants as why;
+ghost use Rattle.tdf_sim.specs.Runs.{IsAcceptedTree, IsSomeAccepted};
+ghost use Rattle.tdf_tree.specs.Pure.{PureTree};
+
+use crate::notes::{noted, refuse};
+use crate::refusals::unbuilt;
+use crate::status::Status;
+use std::alloc::Global;
+use tdf_base::{Resolution, TIME_END};
+use tdf_io::{Sink, SinkErr};
+use tdf_report::End;
+use tdf_sim::{RunErr, Sim};
+use tdf_words::TraceKind;
+
+/// A stop in fs, where a run may have it.
+fn in_femtoseconds(stop: u64) -> Option<u64>
+    ensures { result ≡ (if nat_lt (stop * 1000) time_end then Some (stop * 1000) else None) }
+{
+    let end = u128::from(stop) * 1000;
+    if end < u128::from(TIME_END) {
+        return Some(end as u64);
+    }
+    None
+}
+
+/// A stop, which the words say in ps, in counts of a resolution, where a run may have it.
+fn stop_in(unit: Resolution, stop: u64) -> Option<u64>
+    requires stop { stop < time_end }
+    ensures value { result ≡ stop_in unit stop }
+    ensures early { IfSome result (λ end. end < time_end) }
+{
+    match unit {
+        Resolution::Ps => Some(stop),
+        Resolution::Fs => in_femtoseconds(stop),
+    }
+}
+
+/// The answer of a run that ended so.
+fn status_of(end: &End) -> Status
+    ensures { result ≡ status_of end.now }
+{
+    match end {
+        End::Reached { .. } => Status::Done,
+        End::Stopped { .. } => Status::Stopped,
+        End::Spent { .. } => Status::Spent,
+    }
+}
+
+/// Runs a model that was accepted to a stop in counts of its resolution, and answers how it ended; or notes that such a model isn't
+/// run yet, and answers `Refused`.
+fn run_to<O: Sink, N: Sink>(
+    alloc: Global,
+    sim: Sim,
+    end: u64,
+    kind: TraceKind,
+    turns: u64,
+    out: &mut O,
+    notes: &mut N,
+) -> Result<Status, SinkErr>
+    requires stop { end < time_end }
+    requires accepted { IsSomeAccepted sim }
+    ensures all { (tree : PureTree) (text : List ℕ) (stop : ℕ) → SpellsText text tree → IsAcceptedTree tree sim → stop_in sim.flat.resolution stop ≡ Some end
+        → IfOk result (λ s. WritesOutcome (Text (Run stop kind turns) text) s
+        (O.taken out.old) (O.taken out.new) (N.taken notes.old) (N.taken notes.new)) }
+    ensures part { (tree : PureTree) (text : List ℕ) (stop : ℕ) → SpellsText text tree → IsAcceptedTree tree sim → stop_in sim.flat.resolution stop ≡ Some end
+        → OnErr result (WritesNothingOrFront (Text (Run stop kind turns) text)
+        (O.taken out.old) (O.taken out.new) (N.taken notes.old) (N.taken notes.new)) }
+    ensures cause { IsErrOf result why.Failed → FaultsRose (O.faults out.old) (O.faults out.new) ⊎ FaultsRose (N.faults notes.old) (N.faults notes.new) }
+{
+    match sim.run(alloc, end, turns, kind, out, notes) {
+        Ok(ran) => {
+            let status = status_of(&ran.end);
+            drop(ran);
+            Ok(status)
+        }
+        Err(RunErr::Unbuilt) => refuse(alloc, notes, unbuilt()),
+        Err(RunErr::WriteFault) => Err(SinkErr::Failed),
+        Err(RunErr::Memory) => Err(SinkErr::Memory),
+    }
+}
+
+/// Runs a model that was accepted to a stop in ps, and answers how it ended; or notes that the stop is too late for its resolution,
+/// or that such a model isn't run yet.
+pub(crate) fn run<O: Sink, N: Sink>(
+    alloc: Global,
+    sim: Sim,
+    stop: u64,
+    kind: TraceKind,
+    turns: u64,
+    out: &mut O,
+    notes: &mut N,
+) -> Result<Status, SinkErr>
+    requires stop { stop < time_end }
+    requires accepted { IsSomeAccepted sim }
+    ensures all { (tree : PureTree) (text : List ℕ) → SpellsText text tree → IsAcceptedTree tree sim → IfOk result (λ s. WritesOutcome (Text (Run stop kind turns) text) s
+        (O.taken out.old) (O.taken out.new) (N.taken notes.old) (N.taken notes.new)) }
+    ensures part { (tree : PureTree) (text : List ℕ) → SpellsText text tree → IsAcceptedTree tree sim → OnErr result (WritesNothingOrFront (Text (Run stop kind turns) text)
+        (O.taken out.old) (O.taken out.new) (N.taken notes.old) (N.taken notes.new)) }
+    ensures cause { IsErrOf result why.Failed → FaultsRose (O.faults out.old) (O.faults out.new) ⊎ FaultsRose (N.faults notes.old) (N.faults notes.new) }
+{
+    match stop_in(sim.flat.resolution, stop) {
+        Some(end) => run_to(alloc, sim, end, kind, turns, out, notes),
+        None => {
+            let changes = sim.makes_changes();
+            drop(sim);
+            if changes {
+                return refuse(alloc, notes, unbuilt());
+            }
+            noted(notes, b"stop too long\n", Status::StopTooLong)
+        }
+    }
+}

@@ -1,2 +1,0 @@
--- The lemmas that the crates above use.
-pub use Rattle.tdf_thin.proofs.TreeLaws.{says_one_model}

@@ -1,9 +1,0 @@
-pub use Rattle.tdf_base.specs.Limits.{time_end}
-pub use Rattle.tdf_io.specs.Bytes.{AppendsFront}
-pub use Rattle.tdf_io.specs.Faults.{FaultsRose}
-pub use Rattle.tdf_tree.specs.Views.{pure_tree}
-pub mod Notes
-pub mod Ramp
-pub mod Table
-pub mod ThinTree
-pub mod ThinShown
