@@ -24,10 +24,8 @@ use Rattle.tdf_sim.specs.declared.sim.Sim.{Sim}
 use Rattle.tdf_sim.specs.FirstFault.{IsFirstFault, cluster_count}
 use Rattle.tdf_sim.specs.Laws.{FaultsAreOne, FaultOrAccepted, ModelsAreAlike, AreAlike, RunsAreAlike, RunAlike}
 use Rattle.tdf_sim.specs.PlanText.{clusters_text, plan_rows, plans_text}
-use Rattle.tdf_loop.specs.Runs.{trace_of}
-use Rattle.tdf_report.specs.Ending.{run_end, run_note}
-use Rattle.tdf_report.specs.declared.ending.End.{End}
-use Rattle.tdf_report.specs.declared.ending.End.TheVariants as ending
+use Rattle.tdf_sim.specs.Ends.{End, run_end, run_note, trace_of}
+use Rattle.tdf_sim.specs.Ends as ending
 use Rattle.tdf_sim.specs.Runs.{makes_changes}
 use Rattle.tdf_tokens.specs.Rows.{rows_of}
 use Rattle.tdf_tree.specs.Pure.{PureTree}

@@ -18,9 +18,7 @@ use Rattle.tdf_sim.specs.Runs.{makes_changes}
 use Rattle.tdf_io.proofs.Api.{front_none}
 use Rattle.tdf_io.specs.Bytes.{AppendsFront, WritesText}
 use Rattle.tdf_io.specs.declared.writing.SinkErr.{SinkErr}
-use Rattle.tdf_loop.specs.Runs.{trace_of}
-use Rattle.tdf_report.specs.Ending.{run_end, run_note}
-use Rattle.tdf_report.specs.declared.ending.End.{End}
+use Rattle.tdf_sim.specs.Ends.{End, run_end, run_note, trace_of}
 use Rattle.tdf_tree.specs.Pure.{PureTree}
 use Rattle.tdf_words.specs.declared.asked.TraceKind.{TraceKind}
 

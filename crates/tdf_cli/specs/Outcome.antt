@@ -15,12 +15,10 @@ use Rattle.tdf_cli.specs.declared.status.Status.TheVariants as status
 use Rattle.tdf_cli.specs.declared.words.Job.{Job}
 use Rattle.tdf_cli.specs.declared.words.Job.TheVariants.{Run, Check, Plan}
 use Rattle.tdf_io.specs.Bytes.{AppendsFront}
-use Rattle.tdf_loop.specs.Runs.{trace_of}
+use Rattle.tdf_sim.specs.Ends.{End, run_end, run_note, trace_of}
 use Rattle.tdf_notes.specs.Plans.{accepted_line}
 use Rattle.tdf_print.specs.Canon.{canon}
-use Rattle.tdf_report.specs.Ending.{run_end, run_note}
-use Rattle.tdf_report.specs.declared.ending.End.{End}
-use Rattle.tdf_report.specs.declared.ending.End.TheVariants as ending
+use Rattle.tdf_sim.specs.Ends as ending
 use Rattle.tdf_sim.specs.Accepted.{IsAccepted}
 use Rattle.tdf_sim.specs.declared.sim.Sim.{Sim}
 use Rattle.tdf_sim.specs.FirstFault.{cluster_count, IsFirstFault}

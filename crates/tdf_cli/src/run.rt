@@ -17,8 +17,7 @@ use crate::status::Status;
 use std::alloc::Global;
 use tdf_base::{Resolution, TIME_END};
 use tdf_io::{Sink, SinkErr};
-use tdf_report::End;
-use tdf_sim::{RunErr, Sim};
+use tdf_sim::{End, RunErr, Sim};
 use tdf_words::TraceKind;
 
 /// A stop in fs, where a run may have it.

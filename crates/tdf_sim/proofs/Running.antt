@@ -2,25 +2,24 @@
 use Rattle.std.proofs.Common.{◌≡◌, ℕ, zero, suc, false, List, [], ◌∷◌, refl}
 use Rattle.std.proofs.lemmas.Bool.{or_parts}
 use Rattle.std.specs.List.{list_any}
-use Rattle.tdf_engine.specs.InstantLaws.{IsModelOf}
 use Rattle.tdf_formats.specs.Formats.{IsSoundModel}
 use Rattle.tdf_limits.specs.Limits.{FlatIsWithinLimits}
 use Rattle.tdf_loop.specs.Runs.{CanRun}
 use Rattle.tdf_report.proofs.Api.{firsts_printable}
 use Rattle.tdf_runnable.specs.Runnable.{SoundIsRunnable}
 use Rattle.tdf_sim.proofs.Closed.{closed_top}
-use Rattle.tdf_sim.specs.Runs.{IsAcceptedTree, IsSomeAccepted, makes_changes}
+use Rattle.tdf_sim.specs.Runs.{IsAcceptedTree, makes_changes}
 use Rattle.tdf_sim.specs.declared.sim.Sim.{Sim}
 use Rattle.tdf_streams.specs.Places.{has_changes}
 use Rattle.tdf_tree.specs.Pure.{PureTree}
 use Rattle.tdf_wiring.specs.declared.modules.ModuleRow.{ModuleRow}
 
-no_changes : (rows : List ModuleRow) → list_any (λ (row : ModuleRow). row.changes) rows ≡ false → (m : ℕ) → has_changes rows m ≡ false
+pub no_changes : (rows : List ModuleRow) → list_any (λ (row : ModuleRow). row.changes) rows ≡ false → (m : ℕ) → has_changes rows m ≡ false
 no_changes [] none m = refl
 no_changes (row ∷ rows) none zero = (or_parts row.changes (list_any (λ (r : ModuleRow). r.changes) rows) none).0
 no_changes (row ∷ rows) none (suc m) = no_changes rows (or_parts row.changes (list_any (λ (r : ModuleRow). r.changes) rows) none).1 m
 
-sound_model : (tree : PureTree) (sim : Sim) → IsAcceptedTree tree sim → IsSoundModel tree
+pub sound_model : (tree : PureTree) (sim : Sim) → IsAcceptedTree tree sim → IsSoundModel tree
 sound_model tree sim is = record {
   kept = is.kept;
   names = is.accepted.lines.names;
@@ -28,22 +27,19 @@ sound_model tree sim is = record {
   closed = closed_top tree is.formed;
 }
 
-pub model_of : FlatIsWithinLimits → (tree : PureTree) (sim : Sim) → IsAcceptedTree tree sim → IsModelOf tree sim.flat
-model_of within tree sim is = record {
-  sound = sound_model tree sim is;
-  is = is.accepted.is_flat;
-  checked = is.accepted.is_flat.bodies;
-  limits = within tree sim.flat is.kept is.accepted.lines.types is.accepted.is_flat;
-}
-
-pub can_run : FlatIsWithinLimits → SoundIsRunnable → (sim : Sim) → IsSomeAccepted sim → makes_changes sim.flat.tables ≡ false → CanRun sim.flat sim.firsts.items
-can_run within runnable sim some none =
-    let is = some.of in
-    let model = model_of within some.tree sim is in record {
-      model = some.tree;
-      of = model;
-      runnable = runnable some.tree sim.flat model.sound is.formed.events model.is;
+-- the model of a tree can run, and so it is one of this tree
+abbrev pub can_run : FlatIsWithinLimits → SoundIsRunnable → (tree : PureTree) (sim : Sim) → IsAcceptedTree tree sim → makes_changes sim.flat.tables ≡ false → CanRun sim.flat sim.firsts.items
+can_run within runnable tree sim is none =
+    let limits = within tree sim.flat is.kept is.accepted.lines.types is.accepted.is_flat in record {
+      model = tree;
+      of = record {
+        sound = sound_model tree sim is;
+        is = is.accepted.is_flat;
+        checked = is.accepted.is_flat.bodies;
+        limits = limits;
+      };
+      runnable = runnable tree sim.flat (sound_model tree sim is) is.formed.events is.accepted.is_flat;
       plans = record { all = is.accepted.plans.all; each = is.accepted.plans.each };
       still = λ n less m inside here. no_changes sim.flat.tables.modules none m;
-      printable = firsts_printable sim.flat sim.firsts.items model.limits.in_range is.accepted.plans.each;
+      printable = firsts_printable sim.flat sim.firsts.items limits.in_range is.accepted.plans.each;
     }

@@ -7,11 +7,10 @@ use Rattle.tdf_bind.specs.Flat.{FlatOf}
 use Rattle.tdf_flat.specs.declared.model.Flat.{Flat}
 use Rattle.tdf_history.specs.Texts.{run_trace}
 use Rattle.tdf_loop.specs.Runs.{model_about}
-use Rattle.tdf_shown.specs.Variables.{variables_of}
 use Rattle.tdf_sim.specs.Accepted.{IsAccepted}
 use Rattle.tdf_sim.specs.Laws.{ModelsAreAlike, RunsAreAlike}
 use Rattle.tdf_sim.specs.declared.sim.Sim.{Sim}
-use Rattle.tdf_trace.specs.Writings.{AboutSeen, about_of, writing_of}
+use Rattle.tdf_trace.specs.Writings.{AboutSeen, writing_of}
 use Rattle.tdf_tree.specs.Kept.{IsKept}
 use Rattle.tdf_tree.specs.Pure.{PureTree}
 use Rattle.tdf_words.specs.declared.asked.TraceKind.{TraceKind}
@@ -19,8 +18,8 @@ use Rattle.tdf_world.specs.Rules.{rules_of, start_world}
 
 same_about : (kind : TraceKind) (a b : Flat) → a.tables ≡ b.tables → a.resolution ≡ b.resolution → model_about kind a ≡ model_about kind b
 same_about kind a b tables unit =
-    ap (λ (t : FlatOf). about_of kind a.resolution (variables_of t)) tables
-    ∙ ap (λ (u : Resolution). about_of kind u (variables_of b.tables)) unit
+    ap (λ (t : FlatOf). model_about kind (record a { tables = t })) tables
+    ∙ ap (λ (u : Resolution). model_about kind (record b { resolution = u })) unit
 
 module _ (models : ModelsAreAlike) (writes : RunsWriteTheSame) where
   say_the_same : (tree : PureTree) (one other : Sim) → IsKept tree → IsAccepted tree one → IsAccepted tree other

@@ -1,4 +1,5 @@
 pub mod Accepted
+pub mod Ends
 pub mod FirstFault
 pub mod Laws
 pub mod PlanText
