@@ -10,7 +10,7 @@ use Rattle.std.specs.Prelude.{not, ◌&&◌, nat_lt}
 use Rattle.tdf_base.specs.declared.codes.Code.TheVariants as code
 use Rattle.tdf_bodies.proofs.Literals.{same_fraction, same_cast}
 use Rattle.tdf_bodies.proofs.Operands.{Operand, operand, few_of, narrow, narrow_line, both_raised, product_few, below_most}
-use Rattle.tdf_bodies.specs.machine.Combined.{AreFew, IsCombined, IsChoice, combined_number}
+use Rattle.tdf_bodies.specs.machine.Combined.{AreFew, IsCombined, IsChoice, IsOpposite, combined_number}
 use Rattle.tdf_bodies.specs.machine.Computed.{Computes}
 use Rattle.tdf_bodies.specs.Formats.{IsFormatOf}
 use Rattle.tdf_faults.proofs.Api.{if_none, none_first, none_second}
@@ -224,6 +224,14 @@ module _ (scope : Scope) (loops : List OpenLoop) (x : PureExpr) (a : Node) (f : 
     gives = λ body line turns s none at.
         let given = operand scope loops body line x a f turns s inner (inner_neg body line none) at in
         record { safe = (given.safe, rw given.num (below_most _ _ given.few given.small)); num = ap neg_ℤ given.num };
+  }
+
+  pub computes_opposite : (num : ℤ) → IsOpposite a num → Computes scope loops x a f → Computes scope loops (ENeg x) (Const num) f
+  computes_opposite num opposite inner = record {
+    part_is = λ body line none. inner.part_is body line (inner_neg body line none);
+    gives = λ body line turns s none at.
+        let given = operand scope loops body line x a f turns s inner (inner_neg body line none) at in
+        record { safe = record {}; num = opposite.is turns s ∙ ap neg_ℤ given.num };
   }
 
   pub computes_up : (p : Box (Unit {0}) Global) (n : ℕ) → Computes scope loops x a f → Computes scope loops (EShift x true n) (Up' p a (min n 8192)) f

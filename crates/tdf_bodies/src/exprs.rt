@@ -1,8 +1,8 @@
 //! Expressions, compiled.
 
-ghost use Rattle.std.specs.Prelude.{◌≡◌, ◌-◌, map, max, min, ℕ, List, IfOk, Ok, Some, true, false};
+ghost use Rattle.std.specs.Prelude.{◌≡◌, ◌-◌, map, max, min, ℕ, List, IfOk, IfSome, Ok, Some, true, false};
 ghost use Rattle.tdf_bodies.specs.Layouts.{IsLayout};
-ghost use Rattle.tdf_bodies.specs.machine.Combined.{IsChoice, IsCombined};
+ghost use Rattle.tdf_bodies.specs.machine.Combined.{IsChoice, IsCombined, IsOpposite};
 ghost use Rattle.tdf_bodies.specs.machine.Computed.{Computes};
 ghost use Rattle.tdf_fixed.specs.Cast.{IsLegal};
 ghost use Rattle.tdf_scope.specs.Faults.{cast_shape};
@@ -180,7 +180,17 @@ fn denied(alloc: Global, a: Compiled) -> Result<Compiled, Memory>
     })
 }
 
-/// A minus.
+/// The opposite of a constant.
+fn opposite(node: &Node) -> Option<i128>
+    ensures { IfSome result (λ num. IsOpposite node.now num) }
+{
+    match node {
+        Node::Const(num) => num.checked_neg(),
+        _ => None,
+    }
+}
+
+/// A minus: of a constant another constant.
 ///
 /// # Errors
 /// Out of memory.
@@ -189,11 +199,22 @@ fn negated(alloc: Global, a: Compiled) -> Result<Compiled, Memory>
         → IfOk result (λ t. Computes scope loops (ENeg x) t.node t.part) }
 {
     let part = a.part;
-    let inner = Box::new(alloc, a.node)?;
-    Ok(Compiled {
-        node: Node::Negative(inner),
-        part,
-    })
+    match opposite(&a.node) {
+        Some(num) => {
+            drop(a);
+            Ok(Compiled {
+                node: Node::Const(num),
+                part,
+            })
+        }
+        None => {
+            let inner = Box::new(alloc, a.node)?;
+            Ok(Compiled {
+                node: Node::Negative(inner),
+                part,
+            })
+        }
+    }
 }
 
 /// A shift to the left.

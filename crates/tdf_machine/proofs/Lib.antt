@@ -1,4 +1,6 @@
 pub mod Api
+pub mod Keeping
 pub mod InOrder
+pub mod Plains
 pub mod Powers
 pub mod Runs

@@ -77,3 +77,10 @@ IsSafeAct (act.For' from end p body) loops s = (length loops < 8) × AreTurns en
     × AreTurnsSafe (λ i rest. acted body (loops ++ i ∷ []) rest)
     (λ i rest. IsSafeAct body (loops ++ i ∷ []) rest) from (turns_end end s.frame.rates) s
 IsSafeAct (act.Seq' p a q b) loops s = IsSafeAct a loops s × IsSafeAct b loops (acted a loops s)
+
+-- one turn of a loop, inside these loop variables, and whether it is safe
+abbrev pub turn_of : Act → List ℕ → ℕ → State → State
+turn_of body loops i s = acted body (loops ++ i ∷ []) s
+
+abbrev pub IsTurnSafe : Act → List ℕ → ℕ → State → Type 0
+IsTurnSafe body loops i s = IsSafeAct body (loops ++ i ∷ []) s

@@ -1,11 +1,16 @@
 //! Compiled statements, and how they run.
 
 ghost use Rattle.std.specs.Prelude.{◌≡◌, ◌<◌, ◌≤◌, ◌^◌, ◌&&◌, IsTrue, length, nat_eq, nat_le, pos, take};
-ghost use Rattle.tdf_machine.specs.Acts.{AreTurns, IsSafeAct, acted, rate_of, turns_end, with_rate_of};
-ghost use Rattle.tdf_state.specs.State.{state_of};
+ghost use Rattle.tdf_machine.specs.Acts.{AreTurns, IsSafeAct, acted, rate_of, turns_end, with_rate_of, turn_of, IsTurnSafe};
+ghost use Rattle.tdf_machine.specs.Turns.{AreTurnsSafe, turned};
+ghost use Rattle.tdf_fixed.specs.Cast.{cast_of, fraction_of};
+ghost use Rattle.tdf_machine.specs.Nodes.{IsCastable, IsSafe, IsSpot, node_value, spot_place};
+ghost use Rattle.tdf_state.specs.State.{state_of, with_cell};
 
-use crate::nodes::{Node, eval, fitted};
-use crate::numbers::{holds, low};
+use crate::nodes::{Node, Sight, eval, eval_holds, eval_in};
+use crate::numbers::low;
+use crate::plain::quick_turns;
+use crate::short::{operand, top_value};
 use crate::spots::{Spot, place};
 use tdf_fixed::Format;
 use tdf_state::{Cells, Signals};
@@ -114,7 +119,117 @@ fn copied(loops: &[u32]) -> [u32; 8]
     all
 }
 
+/// The value of an expression, which has so many fraction bits, goes into a cell.
+#[inline(never)]
+fn assign(
+    spot: &Spot,
+    value: &Node,
+    frac: u32,
+    format: &Format,
+    loops: &[u32],
+    cells: &mut Cells,
+    signals: &Signals,
+)
+    requires safe { IsSafe value.now (state_of cells.old signals.now) loops.now }
+    requires castable { IsCastable (node_value value.now (state_of cells.old signals.now) loops.now) frac (fraction_of format.now) }
+    requires spot { IsSpot spot.now loops.now × (spot_place spot.now loops.now < length cells.old.cells) }
+    ensures { cells.new ≡ (with_cell (spot_place spot.now loops.now) (cast_of format.now (node_value value.now (state_of cells.old signals.now) loops.now) frac) (state_of cells.old signals.now)).frame }
+{
+    let at = Sight {
+        cells,
+        signals,
+        loops,
+    };
+    let num = eval_in(top_value(value, &at), value, frac, format, &at);
+    cells.set_cell(place(*spot, loops), num);
+}
+
+/// The value of an expression, which has so many fraction bits, in the format of a port.
+#[inline(always)]
+fn output(
+    value: &Node,
+    frac: u32,
+    format: &Format,
+    loops: &[u32],
+    cells: &Cells,
+    signals: &Signals,
+) -> i128
+    requires safe { IsSafe value.now (state_of cells.now signals.now) loops.now }
+    requires castable { IsCastable (node_value value.now (state_of cells.now signals.now) loops.now) frac (fraction_of format.now) }
+    ensures { result ≡ cast_of format.now (node_value value.now (state_of cells.now signals.now) loops.now) frac }
+{
+    let at = Sight {
+        cells,
+        signals,
+        loops,
+    };
+    eval_in(operand(value, &at), value, frac, format, &at)
+}
+
+/// Runs a part of a statement: an assignment to a cell without a call of `run`.
+#[cycle(runs)]
+#[inline(always)]
+fn step(act: &Act, loops: &[u32], cells: &mut Cells, signals: &mut Signals)
+    requires { IsSafeAct act.now loops.now (state_of cells.old signals.old) }
+    ensures frame { cells.new ≡ (acted act.now loops.now (state_of cells.old signals.old)).frame }
+    ensures ports { signals.new ≡ (acted act.now loops.now (state_of cells.old signals.old)).ports }
+{
+    match act {
+        Act::SetCell(spot, value, frac, format) => assign(
+            spot, value, *frac, format, loops, cells, signals,
+        ),
+        _ => run(act, loops, cells, signals),
+    }
+}
+
+/// Runs a statement at each turn of a loop, inside these loop variables.
+#[cycle(runs)]
+#[inline(never)]
+#[tactic(auto, using(crate::proofs::Runs::turn_laws))]
+fn run_turns(
+    body: &Act,
+    from: u32,
+    end: u32,
+    loops: &[u32],
+    cells: &mut Cells,
+    signals: &mut Signals,
+)
+    requires room { length loops.now < 8 }
+    requires safe { AreTurnsSafe (turn_of body.now loops.now) (IsTurnSafe body.now loops.now) from end (state_of cells.old signals.old) }
+    ensures frame { cells.new ≡ (turned (turn_of body.now loops.now) from end (state_of cells.old signals.old)).frame }
+    ensures ports { signals.new ≡ (turned (turn_of body.now loops.now) from end (state_of cells.old signals.old)).ports }
+{
+    let mut inner = copied(loops);
+    for i in from..end {
+        inner[loops.len()] = i;
+        run(body, &inner[..=loops.len()], cells, signals);
+    }
+}
+
+/// Runs a statement at each turn of a loop: the first turns without a walk over its tree, where its form allows that.
+#[cycle(runs)]
+#[inline(never)]
+fn run_loop(
+    body: &Act,
+    from: u32,
+    end: u32,
+    loops: &[u32],
+    cells: &mut Cells,
+    signals: &mut Signals,
+)
+    requires room { length loops.now < 8 }
+    requires safe { AreTurnsSafe (turn_of body.now loops.now) (IsTurnSafe body.now loops.now) from end (state_of cells.old signals.old) }
+    ensures frame { cells.new ≡ (turned (turn_of body.now loops.now) from end (state_of cells.old signals.old)).frame }
+    ensures ports { signals.new ≡ (turned (turn_of body.now loops.now) from end (state_of cells.old signals.old)).ports }
+{
+    let next = quick_turns(body, from, end, loops, cells, signals);
+    if next < end {
+        run_turns(body, next, end, loops, cells, signals);
+    }
+}
+
 /// Runs a statement at these loop variables, outermost first. It takes no memory.
+#[cycle(runs)]
 #[tactic(auto, using(crate::proofs::Runs::turn_laws))]
 pub fn run(act: &Act, loops: &[u32], cells: &mut Cells, signals: &mut Signals)
     requires { IsSafeAct act.now loops.now (state_of cells.old signals.old) }
@@ -124,11 +239,10 @@ pub fn run(act: &Act, loops: &[u32], cells: &mut Cells, signals: &mut Signals)
     match act {
         Act::Skip => {}
         Act::SetCell(spot, value, frac, format) => {
-            let num = fitted(eval(value, cells, signals, loops), *frac, *format);
-            cells.set_cell(place(*spot, loops), num);
+            assign(spot, value, *frac, format, loops, cells, signals);
         }
         Act::SetSample(port, spot, value, frac, format) => {
-            let num = fitted(eval(value, cells, signals, loops), *frac, *format);
+            let num = output(value, *frac, format, loops, cells, signals);
             signals.set_sample(*port as usize, place(*spot, loops), num);
         }
         Act::SetRate(rate, value, frac, bounds) => {
@@ -139,23 +253,19 @@ pub fn run(act: &Act, loops: &[u32], cells: &mut Cells, signals: &mut Signals)
         Act::Notify(event, after) => signals.notify(*event as usize, *after),
         Act::Answer(accepted) => signals.answer(*accepted),
         Act::If(test, first, second) => {
-            if holds(eval(test, cells, signals, loops)) {
-                run(first, loops, cells, signals);
+            if eval_holds(test, cells, signals, loops) {
+                step(first, loops, cells, signals);
             } else {
-                run(second, loops, cells, signals);
+                step(second, loops, cells, signals);
             }
         }
         Act::For(from, turns, body) => {
-            let mut inner = copied(loops);
             let end = turns_end(*turns, cells);
-            for i in *from..end {
-                inner[loops.len()] = i;
-                run(body, &inner[..=loops.len()], cells, signals);
-            }
+            run_loop(body, *from, end, loops, cells, signals);
         }
         Act::Seq(first, second) => {
-            run(first, loops, cells, signals);
-            run(second, loops, cells, signals);
+            step(first, loops, cells, signals);
+            step(second, loops, cells, signals);
         }
     }
 }

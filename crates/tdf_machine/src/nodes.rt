@@ -1,12 +1,13 @@
 //! Compiled expressions and their values.
 
-ghost use Rattle.std.specs.Prelude.{◌≡◌};
+ghost use Rattle.std.specs.Prelude.{◌≡◌, IfSome};
 ghost use Rattle.tdf_fixed.specs.Cast.{cast_of, fraction_of};
-ghost use Rattle.tdf_machine.specs.Nodes.{IsCastable, IsSafe, node_value};
+ghost use Rattle.tdf_machine.specs.Nodes.{IsCastable, IsSafe, holds, node_value};
 ghost use Rattle.tdf_state.specs.State.{state_of};
 
+use crate::cuts::short_cast;
 use crate::numbers::{difference, holds, negative, product, raised, relates, sum, truth_number};
-use crate::short::short_value;
+use crate::short::{short_value, verdict};
 use crate::spots::{Spot, place};
 use tdf_fixed::{Format, Raw, cast};
 use tdf_state::{Cells, Signals};
@@ -52,11 +53,24 @@ pub enum Node {
 }
 
 /// A number that has so many fraction bits, in a format: in units of the format's last place.
+#[inline(never)]
 pub(crate) fn fitted(num: i128, frac: u32, format: Format) -> i128
     requires { IsCastable num frac (fraction_of format) }
     ensures { result ≡ cast_of format num frac }
 {
     cast(Raw { num, frac }, format).num
+}
+
+/// As `fitted`, of a number in 64 bits.
+#[inline(always)]
+pub(crate) fn fitted_short(num: i64, frac: u32, format: &Format) -> i128
+    requires { IsCastable num frac (fraction_of format.now) }
+    ensures { result ≡ cast_of format.now num frac }
+{
+    match short_cast(num, frac, format) {
+        Some(fit) => i128::from(fit),
+        None => fitted(i128::from(num), frac, *format),
+    }
 }
 
 /// What an expression reads: a block's values and samples, and the loop variables, outermost first.
@@ -119,5 +133,53 @@ pub fn eval(node: &Node, cells: &Cells, signals: &Signals, loops: &[u32]) -> i12
     match short_value(node, &at) {
         Some(num) => i128::from(num),
         None => value(node, &at),
+    }
+}
+
+/// As `value`, in a format.
+#[cold]
+#[inline(never)]
+fn value_in(node: &Node, frac: u32, format: &Format, at: &Sight) -> i128
+    requires safe { IsSafe node.now (state_of at.now.cells.now at.now.signals.now) at.now.loops.now }
+    requires castable { IsCastable (node_value node.now (state_of at.now.cells.now at.now.signals.now) at.now.loops.now) frac (fraction_of format.now) }
+    ensures { result ≡ cast_of format.now (node_value node.now (state_of at.now.cells.now at.now.signals.now) at.now.loops.now) frac }
+{
+    fitted(value(node, at), frac, *format)
+}
+
+/// The value of an expression, which has so many fraction bits, in a format; given its value where that was found in 64 bits.
+#[inline(always)]
+pub(crate) fn eval_in(
+    found: Option<i64>,
+    node: &Node,
+    frac: u32,
+    format: &Format,
+    at: &Sight,
+) -> i128
+    requires found { IfSome found (λ n. n ≡ node_value node.now (state_of at.now.cells.now at.now.signals.now) at.now.loops.now) }
+    requires safe { IsSafe node.now (state_of at.now.cells.now at.now.signals.now) at.now.loops.now }
+    requires castable { IsCastable (node_value node.now (state_of at.now.cells.now at.now.signals.now) at.now.loops.now) frac (fraction_of format.now) }
+    ensures { result ≡ cast_of format.now (node_value node.now (state_of at.now.cells.now at.now.signals.now) at.now.loops.now) frac }
+{
+    match found {
+        Some(num) => fitted_short(num, frac, format),
+        None => value_in(node, frac, format, at),
+    }
+}
+
+/// Whether an expression holds at these loop variables.
+#[inline(always)]
+pub(crate) fn eval_holds(node: &Node, cells: &Cells, signals: &Signals, loops: &[u32]) -> bool
+    requires { IsSafe node.now (state_of cells.now signals.now) loops.now }
+    ensures { result ≡ holds (node_value node.now (state_of cells.now signals.now) loops.now) }
+{
+    let at = Sight {
+        cells,
+        signals,
+        loops,
+    };
+    match verdict(node, &at) {
+        Some(so) => so,
+        None => holds(value(node, &at)),
     }
 }

@@ -4,12 +4,13 @@ ghost use Rattle.std.specs.Prelude.{◌≡◌, ◌≤◌, ◌^◌, pos, ◌+ℤ�
 ghost use Rattle.tdf_machine.specs.Nodes.{IsSafe, node_value, holds, relates, truth_number};
 ghost use Rattle.tdf_state.specs.State.{state_of};
 
-use crate::nodes::{Node, Relation, Sight, fitted};
+use crate::cuts::raised;
+use crate::nodes::{Node, Relation, Sight, fitted_short};
 use crate::spots::place;
 
 /// A number in 64 bits, where it fits.
 #[inline(always)]
-fn short_of(num: i128) -> Option<i64>
+pub(crate) fn short_of(num: i128) -> Option<i64>
     ensures { IfSome result (λ n. n ≡ num) }
 {
     match i64::try_from(num) {
@@ -19,48 +20,24 @@ fn short_of(num: i128) -> Option<i64>
 }
 
 #[inline(always)]
-fn product(a: i64, b: i64) -> Option<i64>
+pub(crate) fn product(a: i64, b: i64) -> Option<i64>
     ensures { IfSome result (λ n. n ≡ a *ℤ b) }
 {
     short_of(i128::from(a) * i128::from(b))
 }
 
 #[inline(always)]
-fn sum(a: i64, b: i64) -> Option<i64>
+pub(crate) fn sum(a: i64, b: i64) -> Option<i64>
     ensures { IfSome result (λ n. n ≡ a +ℤ b) }
 {
-    short_of(i128::from(a) + i128::from(b))
+    a.checked_add(b)
 }
 
 #[inline(always)]
 fn difference(a: i64, b: i64) -> Option<i64>
     ensures { IfSome result (λ n. n ≡ a -ℤ b) }
 {
-    short_of(i128::from(a) - i128::from(b))
-}
-
-/// A power of two.
-#[inline(always)]
-#[tactic(auto, using(crate::proofs::Powers::small_power))]
-fn power(bits: u32) -> i64
-    requires { bits ≤ 62 }
-    ensures { result ≡ pos (2 ^ bits) }
-{
-    1 << bits
-}
-
-/// The number moved up by so many bits.
-#[inline(always)]
-fn raised(num: i64, bits: u32) -> Option<i64>
-    ensures { IfSome result (λ n. n ≡ num *ℤ pos (2 ^ bits)) }
-{
-    if bits == 0 {
-        return Some(num);
-    }
-    if bits > 62 {
-        return None;
-    }
-    product(num, power(bits))
+    a.checked_sub(b)
 }
 
 #[inline(always)]
@@ -132,13 +109,30 @@ fn near(node: &Node, at: &Sight) -> Option<i64>
 /// The value of a part of an expression: without a call where it is near.
 #[cycle(short)]
 #[inline(always)]
-fn operand(node: &Node, at: &Sight) -> Option<i64>
+pub(crate) fn operand(node: &Node, at: &Sight) -> Option<i64>
     requires { IsSafe node.now (state_of at.now.cells.now at.now.signals.now) at.now.loops.now }
     ensures { IfSome result (λ n. n ≡ node_value node.now (state_of at.now.cells.now at.now.signals.now) at.now.loops.now) }
 {
     match near(node, at) {
         Some(num) => Some(num),
         None => short_value(node, at),
+    }
+}
+
+/// Whether an expression holds, where its value and that of each part fit 64 bits.
+#[cycle(short)]
+#[inline(never)]
+#[tactic(auto, using(crate::proofs::Powers::holds_truth))]
+pub(crate) fn verdict(node: &Node, at: &Sight) -> Option<bool>
+    requires { IsSafe node.now (state_of at.now.cells.now at.now.signals.now) at.now.loops.now }
+    ensures { IfSome result (λ so. so ≡ holds (node_value node.now (state_of at.now.cells.now at.now.signals.now) at.now.loops.now)) }
+{
+    match node {
+        Node::Compare(relation, a, m, b, n) => {
+            let a = raised(operand(a, at)?, *m)?;
+            Some(relates(*relation, a, raised(operand(b, at)?, *n)?))
+        }
+        _ => Some(holds(operand(node, at)?)),
     }
 }
 
@@ -177,17 +171,34 @@ pub(crate) fn short_value(node: &Node, at: &Sight) -> Option<i64>
         }
         Node::Not(a) => truth(!holds(operand(a, at)?)),
         Node::Choice(test, a, m, b, n) => {
-            if holds(operand(test, at)?) {
+            if verdict(test, at)? {
                 raised(operand(a, at)?, *m)
             } else {
                 raised(operand(b, at)?, *n)
             }
         }
-        Node::Cast(a, frac, format) => {
-            short_of(fitted(i128::from(operand(a, at)?), *frac, *format))
-        }
+        Node::Cast(a, frac, format) => short_of(fitted_short(operand(a, at)?, *frac, format)),
         Node::Rate(number) => Some(i64::from(at.cells.rate(*number as usize))),
         Node::Loop(depth) => Some(i64::from(at.loops[*depth as usize])),
         _ => leaf(node, at),
+    }
+}
+
+/// As `short_value`: without a call where it is a sum or a difference of near parts, as most assigned values are.
+#[inline(always)]
+pub(crate) fn top_value(node: &Node, at: &Sight) -> Option<i64>
+    requires { IsSafe node.now (state_of at.now.cells.now at.now.signals.now) at.now.loops.now }
+    ensures { IfSome result (λ n. n ≡ node_value node.now (state_of at.now.cells.now at.now.signals.now) at.now.loops.now) }
+{
+    match node {
+        Node::Sum(a, m, b, n) => {
+            let a = raised(operand(a, at)?, *m)?;
+            sum(a, raised(operand(b, at)?, *n)?)
+        }
+        Node::Difference(a, m, b, n) => {
+            let a = raised(operand(a, at)?, *m)?;
+            difference(a, raised(operand(b, at)?, *n)?)
+        }
+        _ => operand(node, at),
     }
 }

@@ -1,7 +1,7 @@
 -- The code of an operator with two operands.
 use Rattle.std.specs.Prelude.{◌≡◌, ℕ, ◌*◌, ◌^◌, ◌≤◌, ◌&&◌, ◌||◌, not, int_le, if◌then◌else◌, List}
 use Rattle.std.specs.Prelude.{ℤ, pos, unsigned_abs}
-use Rattle.std.specs.Prelude.{◌+ℤ◌, ◌-ℤ◌, ◌*ℤ◌}
+use Rattle.std.specs.Prelude.{◌+ℤ◌, ◌-ℤ◌, ◌*ℤ◌, neg_ℤ}
 use Rattle.std.specs.Ordering.{int_eq}
 use Rattle.tdf_machine.specs.Nodes.{node_value, holds, truth_number, IsSafe, IsRaised}
 use Rattle.tdf_machine.specs.declared.nodes.Node.{Node}
@@ -36,6 +36,10 @@ pub record IsCombined (o : Op) (a : Node) (m : ℕ) (b : Node) (n : ℕ) (node :
       ≡ combined_number o (node_value a s turns) m (node_value b s turns) n
   pub safe : (turns : List ℕ) (s : State) → IsSafe a s turns → IsSafe b s turns
       → AreFew o (node_value a s turns) m (node_value b s turns) n → IsSafe node s turns
+
+-- a constant, and the number that is its opposite
+pub record IsOpposite (node : Node) (num : ℤ) : Type 0 where
+  pub is : (turns : List ℕ) (s : State) → num ≡ neg_ℤ (node_value node s turns)
 
 pub record IsChoice (test a : Node) (m : ℕ) (b : Node) (n : ℕ) (node : Node) : Type 0 where
   pub num : (turns : List ℕ) (s : State) → node_value node s turns
