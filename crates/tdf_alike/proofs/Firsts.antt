@@ -28,10 +28,11 @@ module _ (model : PureTree) (a : Flat) where
     old = [];
     now = period_record a.tables attrs (counts_in a.tables rows.entries) rows.period true;
     reads = replicate (length a.tables.actors) [];
+    ahead = [];
   }
 
   abbrev clusters_from : ℕ → List First → List ClusterAt
-  clusters_from k firsts = map (λ first. first_cluster model a (first.0 + 1) first.1) (enumerate_from k firsts)
+  clusters_from k firsts = map (λ first. first_cluster model a (first.0 + 1) first.1 []) (enumerate_from k firsts)
 
   same_firsts : (k : ℕ) (firsts others : List First) → map (λ f. f.attrs) firsts ≡ map (λ f. f.attrs) others → map (λ f. rows_of f.plan) firsts ≡ map (λ f. rows_of f.plan) others
       → clusters_from k firsts ≡ clusters_from k others
@@ -44,14 +45,14 @@ module _ (model : PureTree) (a : Flat) where
       λ i. cluster_by (k + 1) (ats i) (rows i) ∷ same_firsts (k + 1) firsts others (ap tail_of attrs) (ap tail_of plans) i
 
 module _ (model : PureTree) (a : Flat) (y : Checked) (same : AreSame a.checked y) where
-  clusters_same : (firsts : List First) → first_clusters model a firsts ≡ first_clusters model (with_bodies a y) firsts
-  clusters_same firsts = λ i. map (λ (first : ℕ × First). record (first_cluster model a (first.0 + 1) first.1) {
+  clusters_same : (firsts : List First) → first_clusters model a firsts [] ≡ first_clusters model (with_bodies a y) firsts []
+  clusters_same firsts = λ i. map (λ (first : ℕ × First). record (first_cluster model a (first.0 + 1) first.1 []) {
     begun = start_same model a y same (first.0 + 1) first.1.attrs i;
   }) (enumerate_from 0 firsts)
 
   pub world_same : (firsts others : List First) (turns : ℕ) → map (λ f. f.attrs) firsts ≡ map (λ f. f.attrs) others → map (λ f. rows_of f.plan) firsts ≡ map (λ f. rows_of f.plan) others
-      → start_world model a firsts turns ≡ start_world model (with_bodies a y) others turns
-  world_same firsts others turns attrs plans = λ i. record (start_world model a firsts turns) {
+      → start_world model a firsts [] turns ≡ start_world model (with_bodies a y) others [] turns
+  world_same firsts others turns attrs plans = λ i. record (start_world model a firsts [] turns) {
     clusters = (clusters_same firsts ∙ same_firsts model (with_bodies a y) 0 firsts others attrs plans) i;
     events = side_starts_same model a y same i;
   }

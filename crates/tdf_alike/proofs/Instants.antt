@@ -42,7 +42,7 @@ module _ (model : PureTree) (a : Flat) (y : Checked) (same : AreSame a.checked y
 
     pub instant_same : (time : ℕ) (w : World K) → instant model a rules time w ≡ instant model (with_bodies a y) rules time w
     instant_same time w = λ i. and_then
-        (and_then (turns_to (boundary a.tables rules time) (length w.clusters) (at_begin w))
+        (and_then (turns_to (boundary a.tables time) (length w.clusters) (at_begin w))
         (λ v. turns_to (λ n u. turns_to (λ k x. firing_same time n (slice_get x.clusters n) x i) (plan_length (slice_get u.clusters n)) u) (length w.clusters) v))
         (events_of rules time)
 

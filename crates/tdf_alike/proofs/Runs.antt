@@ -1,5 +1,5 @@
 -- A run by two flat models of one model writes the same, and ends alike.
-use Rattle.std.proofs.Common.{◌≡◌, ◌∙◌, ℕ, List, [], ◌++◌, map, refl, sym, subst}
+use Rattle.std.proofs.Common.{◌≡◌, ◌∙◌, ℕ, List, [], ◌++◌, map, sym, subst}
 use Rattle.tdf_alike.proofs.Bodies.{with_bodies}
 use Rattle.tdf_alike.proofs.Cells.{cells_same}
 use Rattle.tdf_alike.proofs.Checks.{AreSame, are_same}
@@ -13,7 +13,7 @@ use Rattle.tdf_flat.specs.declared.model.Flat.{Flat}
 use Rattle.tdf_history.specs.Texts.{closing_text, first_plans, notes_to}
 use Rattle.tdf_instants.specs.History.{end_time}
 use Rattle.tdf_notes.specs.Plans.{rows_of}
-use Rattle.tdf_report.proofs.Api.{no_new_plans}
+use Rattle.tdf_report.proofs.Api.{no_new_plans, starts_untold}
 use Rattle.tdf_report.specs.Ending.{end_of, state_of}
 use Rattle.tdf_rows.specs.Rows.{Writing, trace_text}
 use Rattle.tdf_tree.specs.Pure.{PureTree}
@@ -22,7 +22,7 @@ use Rattle.tdf_world.specs.Rules.{rules_of, start_world}
 -- with other compiled bodies of the text
 module _ (model : PureTree) (a : Flat) (y : Checked) (same : AreSame a.checked y) (firsts others : List First)
     (attrs : map (λ f. f.attrs) firsts ≡ map (λ f. f.attrs) others) (plans : map (λ f. rows_of f.plan) firsts ≡ map (λ f. rows_of f.plan) others) (stop turns : ℕ) where
-  starts : start_world model a firsts turns ≡ start_world model (with_bodies a y) others turns
+  starts : start_world model a firsts [] turns ≡ start_world model (with_bodies a y) others [] turns
   starts = world_same model a y same firsts others turns attrs plans
 
   rules : rules_of model a ≡ rules_of model (with_bodies a y)
@@ -31,11 +31,11 @@ module _ (model : PureTree) (a : Flat) (y : Checked) (same : AreSame a.checked y
   state : state_of model a firsts stop turns ≡ state_of model (with_bodies a y) others stop turns
   state = λ i. history_same model a y same (rules i) (starts i) stop i
 
-  no_plans : (flat : Flat) (list : List First) → notes_to model flat (rules_of model flat) (start_world model flat list turns) stop ≡ []
-  no_plans flat list = no_new_plans model flat (rules_of model flat) (λ n c. refl) (start_world model flat list turns) stop
+  no_plans : (flat : Flat) (list : List First) → notes_to model flat (rules_of model flat) (start_world model flat list [] turns) stop ≡ []
+  no_plans flat list = no_new_plans model flat (rules_of model flat) (start_world model flat list [] turns) (starts_untold model flat list) stop
 
-  news : notes_to model a (rules_of model a) (start_world model a firsts turns) stop
-      ≡ notes_to model (with_bodies a y) (rules_of model (with_bodies a y)) (start_world model (with_bodies a y) others turns) stop
+  news : notes_to model a (rules_of model a) (start_world model a firsts [] turns) stop
+      ≡ notes_to model (with_bodies a y) (rules_of model (with_bodies a y)) (start_world model (with_bodies a y) others [] turns) stop
   news = no_plans a firsts ∙ sym (no_plans (with_bodies a y) others)
 
   bodies_write : (writing : Writing) → WriteTheSame model a (with_bodies a y) firsts others writing stop turns

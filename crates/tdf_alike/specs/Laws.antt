@@ -1,7 +1,7 @@
 -- What a run of a model writes does not depend on which flat model of it the run uses: where two
 -- have equal tables, their compiled bodies need not be equal, but are those of one text.
 -- Source: own.
-use Rattle.std.specs.Prelude.{◌≡◌, ℕ, List, map}
+use Rattle.std.specs.Prelude.{◌≡◌, ℕ, List, [], map}
 use Rattle.tdf_dynamic.specs.declared.first.First.{First}
 use Rattle.tdf_flat.specs.Flat.{IsFlatOf}
 use Rattle.tdf_flat.specs.declared.model.Flat.{Flat}
@@ -24,8 +24,9 @@ pub record AreAlike (model : PureTree) (a b : Flat) (firsts others : List First)
 -- a run by either writes the same trace, written in some way, and the same notes, and ends alike
 pub record WriteTheSame (model : PureTree) (a b : Flat) (firsts others : List First)
     (writing : Writing) (stop turns : ℕ) : Type 0 where
-  pub trace : run_trace writing model a (rules_of model a) (start_world model a firsts turns) stop
-      ≡ run_trace writing model b (rules_of model b) (start_world model b others turns) stop
+  pub trace : run_trace writing model a (rules_of model a)
+      (start_world model a firsts [] turns) stop
+      ≡ run_trace writing model b (rules_of model b) (start_world model b others [] turns) stop
   pub notes : run_note model a firsts stop turns ≡ run_note model b others stop turns
   pub end : run_end model a firsts stop turns ≡ run_end model b others stop turns
 

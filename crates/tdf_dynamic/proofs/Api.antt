@@ -1,5 +1,6 @@
 -- The lemmas that the crates above use.
 pub use Rattle.tdf_dynamic.proofs.Assigned.{assigned_fit}
+pub use Rattle.tdf_dynamic.proofs.Excludes.{fault_apart, fault_once, here_err, no_counts, no_steps, one_counts, plan_once, same_steps}
 pub use Rattle.tdf_dynamic.proofs.Firsts.{net_fit, net_clusters}
-pub use Rattle.tdf_dynamic.proofs.Nets.{modules_few}
+pub use Rattle.tdf_dynamic.proofs.Nets.{clusters_are, modules_few, ports_are}
 pub use Rattle.tdf_dynamic.proofs.Tables.{table_is}

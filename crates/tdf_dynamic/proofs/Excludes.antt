@@ -136,20 +136,20 @@ module _ (plans : PlansAreUnique) (unique : BoundsAreUnique) (edges : List Edge)
 -- all phases
 module _ (tables : FlatOf) (net : NetOf) (cluster : ℕ) (table : List AttrsOf) (answers : AnswersExclude) (unique : CountsAreUnique) (fit : All (IsEdge (length (clusters_of tables))) net.edges)
     (are : AreClusters (length (clusters_of tables)) net.edges (clusters_of tables)) (has : Contains (clusters_of tables) cluster) where
-  one_counts : (a b : List ℕ) → HasCountsOf tables net cluster a → HasCountsOf tables net cluster b → a ≡ b
+  pub one_counts : (a b : List ℕ) → HasCountsOf tables net cluster a → HasCountsOf tables net cluster b → a ≡ b
   one_counts a b p q = unique (length (clusters_of tables)) net.edges (clusters_of tables) cluster a b fit are has p.counts_are q.counts_are
 
-  no_counts : (f : Fault) (counts : List ℕ) → IsCountsFault tables net cluster table f → HasCountsOf tables net cluster counts → ⊥
+  pub no_counts : (f : Fault) (counts : List ℕ) → IsCountsFault tables net cluster table f → HasCountsOf tables net cluster counts → ⊥
   no_counts f counts p q = counts_apart net (clusters_of tables) cluster answers fit are has p.why counts p.is q
 
-  no_steps : (f : Fault) (a b : List ℕ) (steps : Steps) → HasCountsOf tables net cluster a → IsPeriodFault tables net table a f → HasTiming tables net cluster table b steps → ⊥
+  pub no_steps : (f : Fault) (a b : List ℕ) (steps : Steps) → HasCountsOf tables net cluster a → IsPeriodFault tables net table a f → HasTiming tables net cluster table b steps → ⊥
   no_steps f a b steps h p t = steps_apart net table b p.why steps (subst (λ (c : List ℕ). IsStepErr net table c p.why) (one_counts a b h t.counts_are) p.is) t.steps_are
 
-  same_steps : (a b : List ℕ) (s t : Steps) → HasTiming tables net cluster table a s → HasTiming tables net cluster table b t → (s.period ≡ t.period) × (s.actor_steps.items ≡ t.actor_steps.items)
+  pub same_steps : (a b : List ℕ) (s t : Steps) → HasTiming tables net cluster table a s → HasTiming tables net cluster table b t → (s.period ≡ t.period) × (s.actor_steps.items ≡ t.actor_steps.items)
   same_steps a b s t p q = steps_same net table a s t p.steps_are (subst (λ (c : List ℕ). HasStepsOf net table c t) (sym (one_counts a b p.counts_are q.counts_are)) q.steps_are)
 
   -- an error of the second phase, told of the counts and steps of another
-  here_err : (a b : List ℕ) (s t : Steps) (why : PlanErr) → HasTiming tables net cluster table a s → HasTiming tables net cluster table b t → IsPlanErr net b t why → IsPlanErr net a s why
+  pub here_err : (a b : List ℕ) (s t : Steps) (why : PlanErr) → HasTiming tables net cluster table a s → HasTiming tables net cluster table b t → IsPlanErr net b t why → IsPlanErr net a s why
   here_err a b s t why p q e = moved_err net a t s why (sym (same_steps a b s t p q).1)
       (subst (λ (c : List ℕ). IsPlanErr net c t why) (sym (one_counts a b p.counts_are q.counts_are)) e)
 

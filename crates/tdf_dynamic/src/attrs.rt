@@ -34,7 +34,8 @@ impl Model for ModuleAttrs {
 /// The attributes of a cluster, by module: its accept flags, the values of its rate variables, and its assigned timesteps.
 #[derive(Drop)]
 pub struct Attrs {
-    pub(crate) rows: Vec<ModuleAttrs>,
+    /// The modules of the cluster with their attributes, in order.
+    pub rows: Vec<ModuleAttrs>,
 }
 
 impl Model for Attrs {
@@ -51,15 +52,15 @@ ghost use Rattle.tdf_dynamic.specs.Attributes.{table_rates, table_steps, table_a
 
 impl Attrs {
     /// The table of these modules. It takes no memory.
-    pub(crate) fn new(rows: Vec<ModuleAttrs>) -> Attrs
-        ensures { result ≡ rows.items }
+    pub fn new(rows: Vec<ModuleAttrs>) -> Attrs
+        ensures table { result ≡ rows.items }
     {
         Attrs { rows }
     }
 
     /// The modules of the cluster with their attributes, in order.
-    pub(crate) fn rows(&self) -> &[ModuleAttrs]
-        ensures { result.now ≡ self.now }
+    pub fn rows(&self) -> &[ModuleAttrs]
+        ensures rows { result.now ≡ self.now }
     {
         &self.rows
     }

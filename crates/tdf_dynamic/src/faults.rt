@@ -19,8 +19,13 @@ use tdf_bind::Flat as FlatTables;
 use tdf_schedule::PlanErr;
 use tdf_timestep::{Assign, StepErr};
 
-fn module_path(alloc: Global, tables: &FlatTables, module: u32) -> Result<Path, Memory>
-    ensures { IfOk result (λ path. path ≡ module_path (slice_get tables.now.modules «module»)) }
+/// The path of a module.
+///
+/// # Errors
+/// Out of memory.
+pub fn module_path(alloc: Global, tables: &FlatTables, module: u32) -> Result<Path, Memory>
+    ensures path { IfOk result (λ path.
+        path ≡ module_path (slice_get tables.now.modules «module»)) }
 {
     let place = module as usize;
     if place < tables.modules.len() {

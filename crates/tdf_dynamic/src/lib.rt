@@ -27,7 +27,12 @@ mod rates;
 mod table;
 mod timing;
 
-pub use attrs::Attrs;
+pub use attrs::{Attrs, ModuleAttrs};
 pub use err::ChangeErr;
+pub use faults::module_path;
 pub use first::{First, first_plan};
 pub use laws::{law_numbers, law_one_plan, law_plannable};
+pub use planning::plan_of;
+pub use plans::clusters_of;
+pub use rates::net_of;
+pub use timing::{Timing, steps_of};

@@ -19,7 +19,7 @@ use tdf_schedule::{Plan, plan};
 ///
 /// # Errors
 /// The first fault of buffers, firings that wait for themselves, or sinks that are late; or out of memory.
-pub(crate) fn plan_of(
+pub fn plan_of(
     alloc: Global,
     tables: &FlatTables,
     net: &Net,
@@ -28,9 +28,12 @@ pub(crate) fn plan_of(
 ) -> Result<Plan, ChangeErr>
     requires in_range { AreInRange tables.now }
     requires actors { length timing.now.counts.items ≡ vec_len net.now.actors }
-    requires paced { IsPaced net.now.edges.items timing.now.counts.items timing.now.steps.actor_steps.items }
-    ensures plan { IfOk result (IsPlanOf (seen net.now) timing.now.counts.items timing.now.steps) }
-    ensures refused { IfErr result (IsRefusal (IsPlanFault tables.now (seen net.now) table.now timing.now.counts.items timing.now.steps)) }
+    requires paced { IsPaced net.now.edges.items timing.now.counts.items
+        timing.now.steps.actor_steps.items }
+    ensures plan { IfOk result (IsPlanOf (seen net.now) timing.now.counts.items
+        timing.now.steps) }
+    ensures refused { IfErr result (IsRefusal (IsPlanFault tables.now (seen net.now) table.now
+        timing.now.counts.items timing.now.steps)) }
 {
     match plan(alloc, net, &timing.counts, &timing.steps) {
         Ok(plan) => Ok(plan),

@@ -18,8 +18,11 @@ use tdf_graph::Net;
 use tdf_schedule::Plan;
 
 /// The numbers of the clusters of the actors.
-fn clusters_of(alloc: Global, tables: &FlatTables) -> Result<Vec<u32>, Memory>
-    ensures { IfOk result (λ numbers. numbers.items ≡ clusters_of tables.now) }
+///
+/// # Errors
+/// Out of memory.
+pub fn clusters_of(alloc: Global, tables: &FlatTables) -> Result<Vec<u32>, Memory>
+    ensures numbers { IfOk result (λ numbers. numbers.items ≡ clusters_of tables.now) }
 {
     let mut numbers = Vec::new(alloc);
     for i in 0..tables.actors.len() {

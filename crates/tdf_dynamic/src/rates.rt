@@ -171,16 +171,12 @@ fn net_actors(alloc: Global, tables: &FlatTables) -> Result<Vec<Actor>, Memory>
 /// # Errors
 /// Out of memory.
 #[tactic(auto, unfolding(crate::specs::Rates::net_of))]
-pub(crate) fn net_of(
-    alloc: Global,
-    tables: &FlatTables,
-    table: &[ModuleAttrs],
-) -> Result<Net, Memory>
+pub fn net_of(alloc: Global, tables: &FlatTables, table: &[ModuleAttrs]) -> Result<Net, Memory>
     requires in_range { AreInRange tables.now }
     requires modules { length tables.now.modules ≤ length tables.now.actors }
     requires delays { All (λ edge. edge.initial ≤ 2 * greatest_delay) tables.now.edges }
     requires rates { AreRates tables.now table.now }
-    ensures { IfOk result (λ net. seen net ≡ net_of tables.now table.now) }
+    ensures net { IfOk result (λ net. seen net ≡ net_of tables.now table.now) }
 {
     let ports = net_ports(alloc, tables, table)?;
     let edges = net_edges(alloc, tables, &ports)?;

@@ -23,9 +23,11 @@ use tdf_timestep::{Assign, Steps, steps};
 
 /// The counts, the period and the steps of a cluster.
 #[derive(Drop)]
-pub(crate) struct Timing {
-    pub(crate) counts: Vec<u64>,
-    pub(crate) steps: Steps,
+pub struct Timing {
+    /// How often each actor fires in a period, 0 for the actors of other clusters.
+    pub counts: Vec<u64>,
+    /// The period and the steps.
+    pub steps: Steps,
 }
 
 /// The counts of a cluster, or the fault that it has none.
@@ -97,7 +99,7 @@ fn steps_or(
 ///
 /// # Errors
 /// The first fault of the counts, the period or the steps; or out of memory.
-pub(crate) fn steps_of(
+pub fn steps_of(
     alloc: Global,
     tables: &FlatTables,
     net: &Net,
@@ -107,13 +109,16 @@ pub(crate) fn steps_of(
 ) -> Result<Timing, ChangeErr>
     requires in_range { AreInRange tables.now }
     requires own { clusters.now ≡ clusters_of tables.now }
-    requires clusters { AreClusters (vec_len net.now.actors) net.now.edges.items clusters.now }
+    requires clusters { AreClusters (vec_len net.now.actors) net.now.edges.items
+        clusters.now }
     requires has { Contains clusters.now cluster }
     requires ports { net.now.ports.items ≡ net_ports tables.now table.now }
     requires table { All (IsOfCluster tables.now cluster) table.now }
     requires modules { length tables.now.modules ≤ length tables.now.actors }
-    ensures timing { IfOk result (λ t. HasTiming tables.now (seen net.now) cluster table.now t.counts.items t.steps) }
-    ensures refused { IfErr result (IsRefusal (IsStepsFault tables.now (seen net.now) cluster table.now)) }
+    ensures timing { IfOk result (λ t. HasTiming tables.now (seen net.now) cluster table.now
+        t.counts.items t.steps) }
+    ensures refused { IfErr result (IsRefusal (IsStepsFault tables.now (seen net.now) cluster
+        table.now)) }
 {
     let counts = match counts_or(alloc, tables, net, clusters, cluster, table) {
         Ok(counts) => counts,

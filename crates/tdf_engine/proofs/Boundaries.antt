@@ -1,16 +1,16 @@
 -- The boundaries of all clusters at one time, one after the other.
-use Rattle.std.proofs.Common.{◌≡◌, ◌≢◌, ◌⊎◌, ◌∙◌, ◌&&◌, ℕ, zero, suc, ◌+◌, ◌-◌, ◌<◌, ◌≤◌, Bool, true, false, List, Some, set, length, length-set, nat_eq, if◌then◌else◌, slice_get, inl, inr, refl, sym, ap, subst, arith, add-one}
-use Rattle.std.specs.Prelude.{is_none}
+use Rattle.std.proofs.Common.{◌≡◌, ◌≢◌, ◌⊎◌, ◌∙◌, ◌&&◌, ℕ, zero, suc, ◌+◌, ◌-◌, ◌<◌, ◌≤◌, Bool, true, false, List, [], Some, set, length, length-set, nat_eq, if◌then◌else◌, slice_get, inl, inr, refl, sym, ap, subst, arith, add-one}
+use Rattle.std.specs.Prelude.{is_none, slice_index_or}
 use Rattle.std.proofs.lemmas.Bool.{cases_lt, eq-eqb, ne_eqb}
 use Rattle.std.proofs.lemmas.Option.{slice_get_past, slice_get_within}
 use Rattle.tdf_engine.specs.Crossing.{CrossingOf, EndingAt, HasCrossed, HasEnding, HasGoneOn, HasNoTurn, HaveCrossed, IsEndingOf, is_ending}
-use Rattle.tdf_engine.specs.CrossingLaws.{Becomes, CrossesAlong, CrossingEndsSpent, CrossingGoesAlong, OnlySame, world_crossed}
+use Rattle.tdf_engine.specs.CrossingLaws.{Becomes, CrossesAlong, CrossingEndsSpent, CrossingGoesAlong, world_crossed}
 use Rattle.tdf_exec.specs.Cluster.{ClusterOf, next_offset, offset_in}
 use Rattle.tdf_expr.specs.Checked.{IsCheckedOf}
 use Rattle.tdf_flat.specs.declared.model.Flat.{Flat}
 use Rattle.tdf_flow.proofs.Api.{get_inside, some_same}
 use Rattle.tdf_history.specs.Instant.{RunFault, boundary, boundary_of, changed_by, is_over, with_cluster}
-use Rattle.tdf_history.specs.World.{ClusterAt, Rules, World}
+use Rattle.tdf_history.specs.World.{Change, ClusterAt, Same, World, next_change}
 use Rattle.tdf_instants.proofs.Api.{turns_more, turns_none, turns_past}
 use Rattle.tdf_instants.specs.History.{Step, Going, Past, turns_to}
 use Rattle.tdf_run.proofs.Api.{boundary_at, get_set_other, same_or_not, set_is, set_own}
@@ -36,23 +36,24 @@ ending_over model flat number time s h c at since =
     ∙ ap (λ p. nat_eq h.place (length h.entries) && nat_eq time (p + h.now.info.period)) since
 
 -- the boundary of one cluster in the history
-module _ {K : Type 0} (flat : Flat) (rules : Rules K) (only : OnlySame rules) (time n : ℕ) (h : ClusterAt) (v : World K) (here : slice_get v.clusters n ≡ Some h) where
+module _ {K : Type 0} (flat : Flat) (time n : ℕ) (h : ClusterAt) (v : World K) (here : slice_get v.clusters n ≡ Some h) where
   abbrev if_over : Bool → Step (World K) RunFault
-  if_over b = if b then (if nat_eq v.left 0 then Past v else changed_by flat.tables time n h (rules.change (n + 1) h) v) else Going v
+  if_over b = if b then (if nat_eq v.left 0 then Past v else changed_by flat.tables time n h (next_change h) v) else Going v
 
   abbrev if_none : Bool → Step (World K) RunFault
-  if_none b = if b then Past v else changed_by flat.tables time n h (rules.change (n + 1) h) v
+  if_none b = if b then Past v else changed_by flat.tables time n h (next_change h) v
 
-  at_it : (b : Bool) → is_over time h ≡ b → boundary flat.tables rules time n v ≡ if_over b
-  at_it b over = ap (λ o. boundary_of flat.tables rules time n o v) here ∙ ap if_over over
+  at_it : (b : Bool) → is_over time h ≡ b → boundary flat.tables time n v ≡ if_over b
+  at_it b over = ap (λ o. boundary_of flat.tables time n o v) here ∙ ap if_over over
 
-  pub goes_on : is_over time h ≡ false → boundary flat.tables rules time n v ≡ Going v
+  pub goes_on : is_over time h ≡ false → boundary flat.tables time n v ≡ Going v
   goes_on going = at_it false going
 
-  pub crosses_over : is_over time h ≡ true → 0 < v.left → boundary flat.tables rules time n v ≡ Going (with_cluster n (after_boundary time h) v)
-  crosses_over over some = at_it true over ∙ ap if_none (ne_eqb v.left 0 (λ e. omega (arith, some, e))) ∙ ap (λ c. changed_by flat.tables time n h c v) (only (n + 1) h)
+  pub crosses_over : h.ahead ≡ [] → is_over time h ≡ true → 0 < v.left → boundary flat.tables time n v ≡ Going (with_cluster n (after_boundary time h) v)
+  crosses_over none over some = at_it true over ∙ ap if_none (ne_eqb v.left 0 (λ e. omega (arith, some, e)))
+      ∙ ap (λ (a : List Change). changed_by flat.tables time n h (slice_index_or a 0 (Same h.now.info.table)) v) none
 
-  pub without_turn : is_over time h ≡ true → v.left ≡ 0 → boundary flat.tables rules time n v ≡ Past v
+  pub without_turn : is_over time h ≡ true → v.left ≡ 0 → boundary flat.tables time n v ≡ Past v
   without_turn over none = at_it true over ∙ ap if_none (eq-eqb v.left 0 none)
 
 pub turn_in : (flat : Flat) (time n : ℕ) (x y : CrossingOf) → HasEnding flat time n x y → (turn : EndingAt) × IsEndingOf n x y turn
@@ -96,12 +97,12 @@ module _ (model : PureTree) (flat : Flat) (since : List ℕ) (hs : List ClusterA
     begun = λ m r g. begun_at m r g (same_or_not m n);
   }
 
-module _ {K : Type 0} (model : PureTree) (flat : Flat) (rules : Rules K) (only : OnlySame rules) (time : ℕ) (w : World K) (x : CrossingOf) (checked : IsCheckedOf model flat.checked)
+module _ {K : Type 0} (model : PureTree) (flat : Flat) (time : ℕ) (w : World K) (x : CrossingOf) (checked : IsCheckedOf model flat.checked)
     (start : AreAt model flat x.since w.clusters x.clusters) (left : w.left ≡ x.left) where
   abbrev each : ℕ → World K → Step (World K) RunFault
-  each = boundary flat.tables rules time
+  each = boundary flat.tables time
 
-  module _ (n : ℕ) (mid : CrossingOf) (p : CrossesAlong model flat rules time n w mid) where
+  module _ (n : ℕ) (mid : CrossingOf) (p : CrossesAlong model flat time n w mid) where
     abbrev v : World K
     v = world_crossed w p.clusters mid.left
 
@@ -120,7 +121,7 @@ module _ {K : Type 0} (model : PureTree) (flat : Flat) (rules : Rules K) (only :
     more m h g after old old_at becomes h_at g_at below (inr apart) =
         p.became m h g h_at (sym (get_set_other p.clusters n m after apart) ∙ g_at) (omega (arith, below, apart))
 
-    open_turn : (y : CrossingOf) (turn : EndingAt) → IsEndingOf n mid y turn → HasGoneOn time turn mid.left y.left → CrossesAlong model flat rules time (suc n) w y
+    open_turn : (y : CrossingOf) (turn : EndingAt) → IsEndingOf n mid y turn → HasGoneOn time turn mid.left y.left → CrossesAlong model flat time (suc n) w y
     open_turn y turn is gone =
         let h = there turn.before is.before in
         let at = p.at.each n h.0 turn.before h.1 is.before in
@@ -132,11 +133,11 @@ module _ {K : Type 0} (model : PureTree) (flat : Flat) (rules : Rules K) (only :
               (subst (AreAt model flat mid.since p.clusters) (sym (is.after ∙ ap (set mid.clusters n) gone.same ∙ set_own mid.clusters n turn.before is.before)) p.at);
           became = λ m g b g_at b_at below. more m g b h.0 h.0 h.1 (Becomes.Stayed over refl) g_at (ap (λ l. slice_get l m) same ∙ b_at) below (same_or_not m n);
           rest = λ m low. p.rest m (omega (arith, low));
-          goes = ap (λ i. turns_to each i w) (sym (add-one n)) ∙ turns_more each n w v (Going v) p.goes (goes_on flat rules only time n h.0 v h.1 over)
+          goes = ap (λ i. turns_to each i w) (sym (add-one n)) ∙ turns_more each n w v (Going v) p.goes (goes_on flat time n h.0 v h.1 over)
               ∙ ap Going (world_same w p.clusters p.clusters mid.left y.left refl (sym gone.turns));
         }
 
-    over_turn : (y : CrossingOf) (turn : EndingAt) → IsEndingOf n mid y turn → HasCrossed flat time turn mid.left y.left → CrossesAlong model flat rules time (suc n) w y
+    over_turn : (y : CrossingOf) (turn : EndingAt) → IsEndingOf n mid y turn → HasCrossed flat time turn mid.left y.left → CrossesAlong model flat time (suc n) w y
     over_turn y turn is crossed =
         let h = there turn.before is.before in
         let at = p.at.each n h.0 turn.before h.1 is.before in
@@ -150,11 +151,11 @@ module _ {K : Type 0} (model : PureTree) (flat : Flat) (rules : Rules K) (only :
               (are_at_begun model flat mid.since p.clusters mid.clusters p.at n h.0 after turn.before turn.after turn.since turn.begun h.1 is.before is.since next crossed.now));
           became = λ m g b g_at b_at below. more m g b after h.0 h.1 (Becomes.Began over refl) g_at b_at below (same_or_not m n);
           rest = λ m low. get_set_other p.clusters n m after (λ e. omega (arith, low, e)) ∙ p.rest m (omega (arith, low));
-          goes = ap (λ i. turns_to each i w) (sym (add-one n)) ∙ turns_more each n w v _ p.goes (crosses_over flat rules only time n h.0 v h.1 over crossed.some)
+          goes = ap (λ i. turns_to each i w) (sym (add-one n)) ∙ turns_more each n w v _ p.goes (crosses_over flat time n h.0 v h.1 at.none_ahead over crossed.some)
               ∙ ap Going (world_same w (set p.clusters n after) (set p.clusters n after) (mid.left - 1) y.left refl (sym crossed.turns));
         }
 
-    one_turn : (y : CrossingOf) → HasEnding flat time n mid y → CrossesAlong model flat rules time (suc n) w y
+    one_turn : (y : CrossingOf) → HasEnding flat time n mid y → CrossesAlong model flat time (suc n) w y
     one_turn y (HasEnding.Open turn is gone) = open_turn y turn is gone
     one_turn y (HasEnding.Over turn is crossed) = over_turn y turn is crossed
 
@@ -164,9 +165,9 @@ module _ {K : Type 0} (model : PureTree) (flat : Flat) (rules : Rules K) (only :
         let h = there c c_at in
         let at = p.at.each n h.0 c h.1 c_at in
         let over = sym (ending_over model flat (n + 1) time s h.0 c at (p.at.begun n s h.0 h.1 s_at)) ∙ ending in
-        turns_past each n (length w.clusters) w v _ inside p.goes (without_turn flat rules only time n h.0 v h.1 over none)
+        turns_past each n (length w.clusters) w v _ inside p.goes (without_turn flat time n h.0 v h.1 over none)
 
-  pub crosses_along : (n : ℕ) (y : CrossingOf) → HaveCrossed flat time n x y → CrossesAlong model flat rules time n w y
+  pub crosses_along : (n : ℕ) (y : CrossingOf) → HaveCrossed flat time n x y → CrossesAlong model flat time n w y
   unfolding HaveCrossed
   crosses_along zero y passed = record {
     clusters = w.clusters;
@@ -178,8 +179,8 @@ module _ {K : Type 0} (model : PureTree) (flat : Flat) (rules : Rules K) (only :
   crosses_along (suc n) y passed = one_turn n passed.0 (crosses_along n passed.0 passed.1) y passed.2
 
   -- the boundaries of all clusters, as the history counts them
-  pub all_cross : (y : CrossingOf) → HaveCrossed flat time (length x.clusters) x y → CrossesAlong model flat rules time (length w.clusters) w y
-  all_cross y all = subst (λ n. CrossesAlong model flat rules time n w y) (sym start.same) (crosses_along (length x.clusters) y all)
+  pub all_cross : (y : CrossingOf) → HaveCrossed flat time (length x.clusters) x y → CrossesAlong model flat time (length w.clusters) w y
+  all_cross y all = subst (λ n. CrossesAlong model flat time n w y) (sym start.same) (crosses_along (length x.clusters) y all)
 
   pub crossing_is_spent : (y : CrossingOf) → HasNoTurn flat time x y → (v : World K) × (turns_to each (length w.clusters) w ≡ Past v)
   crossing_is_spent y part =
@@ -187,7 +188,7 @@ module _ {K : Type 0} (model : PureTree) (flat : Flat) (rules : Rules K) (only :
       (_, spent_turn part.number y (crosses_along part.number y part.passed) part.cluster part.since part.here part.begun part.over part.none (let l = start.same in omega (arith, l, inside)))
 
 pub crossing_goes_along : CrossingGoesAlong
-crossing_goes_along model flat rules time w x y checked only start left passed = all_cross model flat rules only time w x checked start left y passed
+crossing_goes_along model flat time w x y checked start left passed = all_cross model flat time w x checked start left y passed
 
 pub crossing_ends_spent : CrossingEndsSpent
-crossing_ends_spent model flat rules time w x y checked only start left part = crossing_is_spent model flat rules only time w x checked start left y part
+crossing_ends_spent model flat time w x y checked start left part = crossing_is_spent model flat time w x checked start left y part

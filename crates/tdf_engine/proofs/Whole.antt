@@ -39,7 +39,7 @@ module _ (by : PlansGoByOffset) (model : PureTree) (flat : Flat) (time : ℕ) (w
   x = crossing_of e.clusters.items e.since.items left
 
   abbrev crosses : ℕ → World SideOf → Step (World SideOf) RunFault
-  crosses = boundary flat.tables rules time
+  crosses = boundary flat.tables time
 
   abbrev fires : ℕ → World SideOf → Step (World SideOf) RunFault
   fires = all_firings model flat rules time
@@ -51,8 +51,8 @@ module _ (by : PlansGoByOffset) (model : PureTree) (flat : Flat) (time : ℕ) (w
   then_settles s = and_then s (events_of rules time)
 
   module _ (mid : CrossingOf) (crossed : HaveCrossed flat time (length e.clusters.items) x mid) where
-    crossing : CrossesAlong model flat rules time (length w.clusters) (at_begin w) mid
-    crossing = all_cross model flat rules (λ n c. refl) time (at_begin w) x m.checked now.at now.turns mid crossed
+    crossing : CrossesAlong model flat time (length w.clusters) (at_begin w) mid
+    crossing = all_cross model flat time (at_begin w) x m.checked now.at now.turns mid crossed
 
     abbrev v : World SideOf
     v = world_crossed (at_begin w) crossing.clusters mid.left
@@ -146,7 +146,7 @@ module _ (by : PlansGoByOffset) (model : PureTree) (flat : Flat) (time : ℕ) (w
 
   spent : HasBeenSpent flat time e left → (v : World SideOf) × (instant model flat rules time w ≡ Past v)
   spent (HasBeenSpent.InBoundaries mid none) =
-      let s = crossing_is_spent model flat rules (λ n c. refl) time (at_begin w) x m.checked now.at now.turns mid none in
+      let s = crossing_is_spent model flat time (at_begin w) x m.checked now.at now.turns mid none in
       (s.0, ap then_fires s.1)
   spent (HasBeenSpent.InFirings mid inputs y crossed sampled part) =
       let p = pass_is_spent model flat rules (pass_at time mid.since inputs) (world_crossed (at_begin w) (crossing mid crossed).clusters mid.left) (run_of mid.clusters e.outputs mid.left) m.checked m.is m.limits

@@ -6,7 +6,7 @@ use Rattle.tdf_events.specs.Side.{SideOf}
 use Rattle.tdf_expr.specs.Checked.{IsCheckedOf}
 use Rattle.tdf_flat.specs.declared.model.Flat.{Flat}
 use Rattle.tdf_history.specs.Instant.{boundary, is_over}
-use Rattle.tdf_history.specs.World.{ClusterAt, Rules, Same, World}
+use Rattle.tdf_history.specs.World.{ClusterAt, World}
 use Rattle.tdf_instants.specs.History.{Going, Past, turns_to}
 use Rattle.tdf_run.specs.Boundary.{after_boundary}
 use Rattle.tdf_run.specs.Pass.{AreAt}
@@ -18,37 +18,33 @@ pub data Becomes (time : ℕ) (h g : ClusterAt) : Type 0 where
   Began : is_over time h ≡ true → g ≡ after_boundary time h → Becomes time h g
 
 module _ {K : Type 0} where
-  -- no cluster changes its attributes
-  abbrev pub OnlySame : Rules K → Type 0
-  OnlySame rules = (number : ℕ) (c : ClusterAt) → rules.change number c ≡ Same c.now.info.table
-
   abbrev pub world_crossed : World K → List ClusterAt → (left : ℕ) → World K
   world_crossed w clusters left = record w { clusters = clusters; left = left }
 
   -- the boundaries of the first n clusters are those of the history
-  pub record CrossesAlong (model : PureTree) (flat : Flat) (rules : Rules K) (time n : ℕ)
-      (w : World K) (y : CrossingOf) : Type 0 where
+  pub record CrossesAlong (model : PureTree) (flat : Flat) (time n : ℕ) (w : World K)
+      (y : CrossingOf) : Type 0 where
     pub clusters : List ClusterAt
     pub at : AreAt model flat y.since clusters y.clusters
     pub became : (m : ℕ) (h g : ClusterAt) → slice_get w.clusters m ≡ Some h
         → slice_get clusters m ≡ Some g → m < n → Becomes time h g
     pub rest : (m : ℕ) → n ≤ m → slice_get clusters m ≡ slice_get w.clusters m
-    pub goes : turns_to (boundary flat.tables rules time) n w
+    pub goes : turns_to (boundary flat.tables time) n w
         ≡ Going (world_crossed w clusters y.left)
 
 -- the boundaries of all clusters are those of the history
 abbrev pub CrossingGoesAlong : Type 0
-CrossingGoesAlong = (model : PureTree) (flat : Flat) (rules : Rules SideOf) (time : ℕ)
-    → (w : World SideOf) (x y : CrossingOf) → IsCheckedOf model flat.checked → OnlySame rules
+CrossingGoesAlong = (model : PureTree) (flat : Flat) (time : ℕ) (w : World SideOf)
+    → (x y : CrossingOf) → IsCheckedOf model flat.checked
     → AreAt model flat x.since w.clusters x.clusters → w.left ≡ x.left
     → HaveCrossed flat time (length x.clusters) x y
-    → CrossesAlong model flat rules time (length w.clusters) w y
+    → CrossesAlong model flat time (length w.clusters) w y
 
 -- where no turn is left for one of them, the history is spent
 abbrev pub CrossingEndsSpent : Type 0
-CrossingEndsSpent = (model : PureTree) (flat : Flat) (rules : Rules SideOf) (time : ℕ)
-    → (w : World SideOf) (x y : CrossingOf) → IsCheckedOf model flat.checked → OnlySame rules
+CrossingEndsSpent = (model : PureTree) (flat : Flat) (time : ℕ) (w : World SideOf)
+    → (x y : CrossingOf) → IsCheckedOf model flat.checked
     → AreAt model flat x.since w.clusters x.clusters → w.left ≡ x.left
     → HasNoTurn flat time x y
     → (v : World SideOf)
-    × (turns_to (boundary flat.tables rules time) (length w.clusters) w ≡ Past v)
+    × (turns_to (boundary flat.tables time) (length w.clusters) w ≡ Past v)

@@ -36,7 +36,7 @@ pub record IsNow (model : PureTree) (flat : Flat) (w : World SideOf) (e : Engine
 -- an instant goes along with the history: the boundaries, the firings, and what comes of it
 pub record InstantGoes (model : PureTree) (flat : Flat) (time : ℕ) (w : World SideOf)
     (e f : Engine) (left rest : ℕ) (had : HasHadInstant flat time e f left rest) : Type 0 where
-  pub crossing : CrossesAlong model flat (rules_of model flat) time (length w.clusters)
+  pub crossing : CrossesAlong model flat time (length w.clusters)
       (at_begin w) had.crossed
   pub ready : AreReady flat.tables (pass_at time had.crossed.since f.inputs.items)
       (settled_values (rules_of model flat)

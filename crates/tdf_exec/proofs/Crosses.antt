@@ -7,12 +7,12 @@ use Rattle.std.proofs.lemmas.List.FromFn.{length-map-range_with_len}
 use Rattle.std.proofs.lemmas.Option.{get_or_from_slice_get, slice_get_past}
 use Rattle.std.specs.List.{range_with_len}
 use Rattle.std.specs.Prelude.{slice_get, slice_index}
-use Rattle.tdf_dynamic.specs.Attributes.{clusters_of}
+use Rattle.tdf_dynamic.specs.Attributes.{AttrsOf, clusters_of}
 use Rattle.tdf_exec.proofs.Kept.{false_true, neither, not_not, zero_in}
 use Rattle.tdf_exec.proofs.Planned.{no_times, none_before}
 use Rattle.tdf_exec.specs.Cluster.{ClusterOf, next_offset, offset_in}
 use Rattle.tdf_exec.specs.Crossing.{CrossesFrom, HasNoChanges, StandsAtNext, at_place}
-use Rattle.tdf_exec.specs.Made.{AreHeld, IsClusterOf, IsRunnerOf}
+use Rattle.tdf_exec.specs.Made.{AreHeld, IsClusterWith, IsRunnerWith}
 use Rattle.tdf_exec.specs.Played.{IsPeriodOf, cells_of, play_of, turns_from}
 use Rattle.tdf_exec.specs.declared.runners.Runner.{Runner}
 use Rattle.tdf_exec.specs.declared.runners.Runner.TheVariants as runner
@@ -29,14 +29,16 @@ use Rattle.tdf_dynamic.specs.Faults.{pace_in}
 use Rattle.tdf_dynamic.specs.Rates.{net_of}
 use Rattle.tdf_exec.specs.Starts.{IsSoundFlat}
 use Rattle.tdf_limits.specs.Limits.{AreWithinLimits}
+use Rattle.tdf_rings.specs.Carried.{ring_at}
 use Rattle.tdf_schedule.specs.Laws.{PlansArePresent}
 use Rattle.tdf_streams.proofs.Api.{are_active, record_present, table_record, whole_sound}
 use Rattle.tdf_streams.specs.Laws.{HasRecord}
+use Rattle.tdf_streams.specs.Starts.{held_at_head}
 use Rattle.tdf_tree.specs.Pure.{PureTree}
 
 -- what is kept for an actor doesn't ask where the cluster is in its period
-kept_at : (flat : Flat) (c : ClusterOf) (place : ℕ) (crossed : Bool) (m : ℕ) (r : Runner) → IsRunnerOf flat c m r → IsRunnerOf flat (at_place c place crossed) m r
-kept_at flat c place crossed m (runner.Module x) is = record {
+kept_at : (flat : Flat) (held : List AttrsOf) (c : ClusterOf) (place : ℕ) (crossed : Bool) (m : ℕ) (r : Runner) → IsRunnerWith flat held c m r → IsRunnerWith flat held (at_place c place crossed) m r
+kept_at flat held c place crossed m (runner.Module x) is = record {
   actor_is = is.actor_is;
   block_is = is.block_is;
   made = is.made;
@@ -51,25 +53,26 @@ kept_at flat c place crossed m (runner.Module x) is = record {
   traced = is.traced;
   traced_rate = is.traced_rate;
 }
-kept_at flat c place crossed m (runner.Sampler s) is = record {
+kept_at flat held c place crossed m (runner.Sampler s) is = record {
   actor_is = is.actor_is;
   edges_are = is.edges_are;
   place_is = is.place_is;
   rate = is.rate;
   none = is.none;
 }
-kept_at flat c place crossed m (runner.Sink k) is = record {
+kept_at flat held c place crossed m (runner.Sink k) is = record {
   actor_is = is.actor_is;
   edge_is = is.edge_is;
   rate = is.rate;
   none = is.none;
 }
-kept_at flat c place crossed m runner.Outside is = is
+kept_at flat held c place crossed m runner.Outside is = is
 
-pub of_at : (flat : Flat) (c : ClusterOf) (place : ℕ) (crossed : Bool) → IsClusterOf flat c → place ≤ length c.entries
-    → (crossed ≡ true → offset_in (slice_get c.entries place) ≡ None) → AreHeld flat.tables (at_place c place crossed) → IsClusterOf flat (at_place c place crossed)
-of_at flat c place crossed of within over held = record {
+pub of_at : (flat : Flat) (held : List AttrsOf) (c : ClusterOf) (place : ℕ) (crossed : Bool) → IsClusterWith flat held c → place ≤ length c.entries
+    → (crossed ≡ true → offset_in (slice_get c.entries place) ≡ None) → AreHeld flat.tables (at_place c place crossed) → IsClusterWith flat held (at_place c place crossed)
+of_at flat held c place crossed of within over samples = record {
   attributes = of.attributes;
+  rows = record { each = of.rows.each; once = of.rows.once };
   planned = record {
     plan = of.planned.plan;
     plan_is = of.planned.plan_is;
@@ -82,16 +85,16 @@ of_at flat c place crossed of within over held = record {
   safe = record { inside = of.safe.inside; own = of.safe.own; present = of.safe.present; bounded = of.safe.bounded };
   within = within;
   over = over;
-  held = held;
+  held = samples;
   actors = of.actors;
   positions = of.positions;
   counted = of.counted;
-  runners = λ m r at. kept_at flat c place crossed m r (of.runners m r at);
+  runners = λ m r at. kept_at flat held c place crossed m r (of.runners m r at);
   keep = of.keep;
 }
 
-pub of_crossed : (flat : Flat) (c : ClusterOf) (crossed : Bool) → IsClusterOf flat c → next_offset c ≡ None → IsClusterOf flat (at_place c c.place crossed)
-of_crossed flat c crossed of end = of_at flat c c.place crossed of of.within (λ is. end) (record { same = of.held.same; held = of.held.held; room = of.held.room; formats = of.held.formats })
+pub of_crossed : (flat : Flat) (held : List AttrsOf) (c : ClusterOf) (crossed : Bool) → IsClusterWith flat held c → next_offset c ≡ None → IsClusterWith flat held (at_place c c.place crossed)
+of_crossed flat held c crossed of end = of_at flat held c c.place crossed of of.within (λ is. end) (record { same = of.held.same; held = of.held.held; room = of.held.room; formats = of.held.formats })
 
 -- no change body runs
 unchanged : (model : PureTree) (flat : Flat) (m : ℕ) (periods : List PeriodRecord) (cells : List ℤ) → has_changes flat.tables.modules m ≡ false → changed model flat m periods cells ≡ cells
@@ -100,8 +103,8 @@ unchanged model flat m (p ∷ []) cells still =
     ap (λ b. if b then (done_by model flat m body.Change cells (rates_of p.info m) nothing_read).frame.cells else cells) still
 unchanged model flat m (p ∷ (q ∷ ps)) cells still = unchanged model flat m (q ∷ ps) cells still
 
-module _ (flat : Flat) (c : ClusterOf) (of : IsClusterOf flat c) (end : next_offset c ≡ None) where
-  at_end : c.place ≡ length c.entries
+module _ (flat : Flat) (held : List AttrsOf) (c : ClusterOf) (of : IsClusterWith flat held c) (end : next_offset c ≡ None) where
+  pub at_end : c.place ≡ length c.entries
   at_end = go (cases_lt c.place (length c.entries))
     where
       go : (c.place < length c.entries) ⊎ (length c.entries ≤ c.place) → c.place ≡ length c.entries
@@ -115,7 +118,7 @@ module _ (flat : Flat) (c : ClusterOf) (of : IsClusterOf flat c) (end : next_off
       (λ j x at. ne_eqb x.actor m (λ e. absurd (let i = of.safe.inside j x at in omega (arith, i, e, past))))
 
   module _ (from : ℕ) (p : PeriodRecord) (period : IsPeriodOf c from p) where
-    turns_are : (m : ℕ) → slice_index (play_of from c).turns m ≡ slice_index p.counts m
+    pub turns_are : (m : ℕ) → slice_index (play_of from c).turns m ≡ slice_index p.counts m
     turns_are m = go (cases_lt m (length c.runners)) ∙ sym (period.counts m)
       where
         go : (m < length c.runners) ⊎ (length c.runners ≤ m) → slice_index (play_of from c).turns m ≡ turns_from c.entries from (length c.entries) m
@@ -141,7 +144,7 @@ module _ (flat : Flat) (c : ClusterOf) (of : IsClusterOf flat c) (end : next_off
           go (inr past) = ap changes_row (slice_get_past flat.tables.modules m past)
 
 -- at the end of a period each edge holds what it held at its head
-module _ (flat : Flat) (c : ClusterOf) (of : IsClusterOf flat c) (end : next_offset c ≡ None) (sound : IsSoundFlat flat) (limits : AreWithinLimits flat) (law : PlansArePresent) where
+module _ (flat : Flat) (held : List AttrsOf) (c : ClusterOf) (of : IsClusterWith flat held c) (end : next_offset c ≡ None) (sound : IsSoundFlat flat) (limits : AreWithinLimits flat) (law : PlansArePresent) where
   record_of : HasRecord flat c.number c.table of.planned.plan false
   record_of = table_record flat c.number c.table of.planned.plan false of.attributes of.planned.plan_is
 
@@ -153,7 +156,7 @@ module _ (flat : Flat) (c : ClusterOf) (of : IsClusterOf flat c) (end : next_off
       ∙ (record_present flat c.number limits period record_of.record_is.is.timed law (pace_in (net_of flat.tables c.table) record_of.steps) of.planned.plan.entries.items record_of.plan_is.planned).all_done m
 
   count_at : (m : ℕ) → done c.entries c.place m ≡ 0 + slice_index record_of.counts m
-  count_at m = ap (λ k. done c.entries k m) (at_end flat c of end) ∙ done_all m ∙ (let z : slice_index record_of.counts m ≡ 0 + slice_index record_of.counts m = omega arith in z)
+  count_at m = ap (λ k. done c.entries k m) (at_end flat held c of end) ∙ done_all m ∙ (let z : slice_index record_of.counts m ≡ 0 + slice_index record_of.counts m = omega arith in z)
 
   balanced : (e : ℕ) → e < length flat.tables.edges
       → done c.entries c.place (writer_at flat.tables.edges e) * slice_index c.writes e ≡ done c.entries c.place (reader_at flat.tables.edges e) * slice_index c.reads e
@@ -168,20 +171,24 @@ module _ (flat : Flat) (c : ClusterOf) (of : IsClusterOf flat c) (end : next_off
   unfolding done
   nothing m = refl
 
-  pub of_next : IsClusterOf flat (at_place c 0 false)
-  of_next = of_at flat c 0 false of (omega arith) false_true (record {
+  -- each edge holds what it held at the head of the period
+  pub head_held : (e : ℕ) → e < length flat.tables.edges → length (ring_at c.rings e).samples ≡ held_at_head flat.tables c.number e
+  head_held e within = let h = of.held.held e within in let b = balanced e within in omega (arith, h, b)
+
+  pub of_next : IsClusterWith flat held (at_place c 0 false)
+  of_next = of_at flat held c 0 false of (omega arith) false_true (record {
     same = of.held.same;
     held = λ e within.
-        let h = of.held.held e within in let b = balanced e within in
+        let h = head_held e within in
         let w = no_times (done c.entries 0 (writer_at flat.tables.edges e)) (slice_index c.writes e) (nothing (writer_at flat.tables.edges e)) in
         let r = no_times (done c.entries 0 (reader_at flat.tables.edges e)) (slice_index c.reads e) (nothing (reader_at flat.tables.edges e)) in
-        omega (arith, h, b, w, r);
+        omega (arith, h, w, r);
     room = of.held.room;
     formats = of.held.formats;
   })
 
-pub stands_next : (flat : Flat) (c : ClusterOf) → IsClusterOf flat c → StandsAtNext flat c (at_place c 0 false)
-stands_next flat c of model start old p next reads from f past timed still crosses =
+pub stands_next : (flat : Flat) (held : List AttrsOf) (c : ClusterOf) → IsClusterWith flat held c → StandsAtNext flat c (at_place c 0 false)
+stands_next flat held c of model start old p next reads from f past timed still crosses =
     install_stands (cluster_net model flat c.number start) old p next reads f (play_of from c) (play_of 0 (at_place c 0 false))
     (are_active model flat c.number start old p (play_of from c) past timed (let l = length-map c.runners cells_of in let a = of.actors in omega (arith, l, a))) crosses (record {
       turns = λ m. zero_in (turns_from c.entries 0 0) (range_with_len 0 (length c.runners)) m (λ j. omega arith);

@@ -3,11 +3,12 @@ use Rattle.std.proofs.Common.{◌≡◌, ◌∙◌, ℕ, ◌≤◌, Some, option
 use Rattle.std.proofs.lemmas.List.{take_all}
 use Rattle.std.proofs.lemmas.Option.{slice_get-map, slice_get_past}
 use Rattle.std.proofs.lemmas.Simd.{map-map}
-use Rattle.std.specs.Prelude.{slice_get}
+use Rattle.std.specs.Prelude.{slice_get, slice_index}
 use Rattle.tdf_bind.specs.Flat.{FlatOf}
 use Rattle.tdf_dynamic.specs.Attributes.{AttrsOf}
 use Rattle.tdf_dynamic.specs.Rates.{edge_kind, net_of, net_ports, port_rate, rated_edge, rated_port, read_rate_by, write_rate_by}
 use Rattle.tdf_graph.specs.declared.actors.Edge.{Edge}
+use Rattle.tdf_exec.proofs.Rows.{index_at}
 use Rattle.tdf_streams.specs.Periods.{read_rates, write_rates}
 use Rattle.tdf_timestep.specs.Period.{rate_at, rate_of}
 use Rattle.tdf_wiring.specs.declared.edges.EdgeRow.{EdgeRow}
@@ -42,3 +43,10 @@ module _ (tables : FlatOf) (table : List AttrsOf) where
 
   pub all_written : (n : ℕ) → length tables.edges ≤ n → map edge_writes (take n tables.edges) ≡ write_rates (net_of tables table)
   all_written n all = ap (map edge_writes) (take_all n tables.edges all) ∙ sym writes_map
+
+  -- those of one edge
+  pub reads_at : (e : ℕ) (edge : EdgeRow) → slice_get tables.edges e ≡ Some edge → slice_index (read_rates (net_of tables table)) e ≡ edge_reads edge
+  reads_at e edge at = ap (λ l. slice_index l e) reads_map ∙ index_at edge_reads tables.edges e edge at
+
+  pub writes_at : (e : ℕ) (edge : EdgeRow) → slice_get tables.edges e ≡ Some edge → slice_index (write_rates (net_of tables table)) e ≡ edge_writes edge
+  writes_at e edge at = ap (λ l. slice_index l e) writes_map ∙ index_at edge_writes tables.edges e edge at

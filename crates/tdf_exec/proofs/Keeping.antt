@@ -219,6 +219,7 @@ module _ (flat : Flat) (c : ClusterOf) (inputs : List Raw) (x : Entry) (of : IsC
     pub of_next : position ≤ 2 ^ 64 - 1 → IsClusterOf flat next
     of_next small = record {
       attributes = of.attributes;
+      rows = of.rows;
       planned = record {
         plan = of.planned.plan;
         plan_is = of.planned.plan_is;

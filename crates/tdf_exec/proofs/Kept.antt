@@ -17,7 +17,8 @@ use Rattle.tdf_dynamic.specs.First.{IsFirstPlan}
 use Rattle.tdf_dynamic.specs.Rates.{AreRates, net_of}
 use Rattle.tdf_dynamic.specs.declared.first.First.{First}
 use Rattle.tdf_exec.proofs.Ends.{below_modules, module_kind, no_sink, sampler_never, sampler_writes, sink_never, sink_reads}
-use Rattle.tdf_exec.proofs.Formed.{attrs_found, is_module, reads_at, writes_at}
+use Rattle.tdf_exec.proofs.EdgeRates.{reads_at, writes_at}
+use Rattle.tdf_exec.proofs.Formed.{attrs_found, first_rows, is_module}
 use Rattle.tdf_exec.proofs.Moved.{some_inj}
 use Rattle.tdf_exec.proofs.Planned.{are_held, is_safe, lists_are, start_of, timed}
 use Rattle.tdf_exec.proofs.Rows.{index_at}
@@ -74,7 +75,7 @@ module _ (flat : Flat) (laid : IsLaid flat) (cluster : ℕ) (ws : List ActorWire
       go (inl own) = told m row.0.kind w (ap kind_of_row row.1) (are.own m row.0 w row.1 at own)
       go (inr other) = subst (IsOfModule flat m) (sym (are.other m row.0 w row.1 at other)) tt
 
-true_false : {P : Type 0} → true ≡ false → P
+pub true_false : {P : Type 0} → true ≡ false → P
 true_false h = absurd (subst (λ b. elim b as (λ _. Type 0) [ true ↦ Unit {0} | false ↦ ⊥ ]) h tt)
 
 pub false_true : {P : Type 0} → false ≡ true → P
@@ -94,7 +95,7 @@ zero_in f (x ∷ xs) zero none = none x
 zero_in f (x ∷ xs) (suc m) none = zero_in f xs m none
 
 -- lists whose runners are samplers alike
-count_alike : (xs ys : List Runner) (n : ℕ) → length xs ≡ length ys → ((m : ℕ) (x y : Runner) → slice_get xs m ≡ Some x → slice_get ys m ≡ Some y → is_sampler x ≡ is_sampler y)
+pub count_alike : (xs ys : List Runner) (n : ℕ) → length xs ≡ length ys → ((m : ℕ) (x y : Runner) → slice_get xs m ≡ Some x → slice_get ys m ≡ Some y → is_sampler x ≡ is_sampler y)
     → samplers_before xs n ≡ samplers_before ys n
 count_alike xs ys zero long same = refl
 count_alike [] [] (suc n) long same = refl
@@ -107,7 +108,7 @@ count_alike (x ∷ xs) (y ∷ ys) (suc n) long same =
     let r = count_alike xs ys n (omega (arith, long)) (λ m a b xat yat. same (suc m) a b xat yat) in
     omega (arith, s, t, h, r)
 
-traced_alike : (l : List TracedPort) (r : Runner) → is_sampler (with_traced l r) ≡ is_sampler r
+pub traced_alike : (l : List TracedPort) (r : Runner) → is_sampler (with_traced l r) ≡ is_sampler r
 traced_alike l (runner.Module x) = refl
 traced_alike l (runner.Sampler s) = refl
 traced_alike l (runner.Sink k) = refl
@@ -197,7 +198,7 @@ module _ (flat : Flat) (cluster : ℕ) (first : First) (sound : IsSoundFlat flat
       edges_are = subst (AreEdgesOf flat.tables m) (sym edges_are) h;
       place_is = place_is ∙ before m;
       rate = λ e writes. (let row = get_inside flat.tables.edges e writes.inside in
-          writes_at flat cluster first laid is e row.0 row.1 ∙ sampler_writes flat laid first.attrs row.0 (laid.rows e row.0 row.1)
+          writes_at flat.tables first.attrs e row.0 row.1 ∙ sampler_writes flat laid first.attrs row.0 (laid.rows e row.0 row.1)
           (ap (actor_kind flat.tables) (sym (ap writer_of_row row.1) ∙ writes.writer) ∙ kind));
       none = λ e reads. (let row = get_inside flat.tables.edges e reads.inside in
           sampler_never flat laid row.0 (laid.rows e row.0 row.1) (ap (actor_kind flat.tables) (sym (ap reader_of_row row.1) ∙ reads.reader) ∙ kind));
@@ -208,7 +209,7 @@ module _ (flat : Flat) (cluster : ℕ) (first : First) (sound : IsSoundFlat flat
       actor_is = record { kind_is = kind; inside = own };
       edge_is = h;
       rate = (let row = get_inside flat.tables.edges edge h.is.inside in
-          reads_at flat cluster first laid is edge row.0 row.1 ∙ sink_reads flat laid first.attrs row.0 (laid.rows edge row.0 row.1)
+          reads_at flat.tables first.attrs edge row.0 row.1 ∙ sink_reads flat laid first.attrs row.0 (laid.rows edge row.0 row.1)
           (ap (actor_kind flat.tables) (sym (ap reader_of_row row.1) ∙ h.is.reader) ∙ kind));
       none = λ e writes. (let row = get_inside flat.tables.edges e writes.inside in
           sink_never flat laid row.0 (laid.rows e row.0 row.1) (ap (actor_kind flat.tables) (sym (ap writer_of_row row.1) ∙ writes.writer) ∙ kind));
@@ -272,6 +273,7 @@ module _ (flat : Flat) (cluster : ℕ) (first : First) (sound : IsSoundFlat flat
   pub is_cluster : IsClusterOf flat started
   is_cluster = record {
     attributes = (timed flat cluster first sound laid is law).attributes;
+    rows = first_rows flat cluster first laid is;
     planned = record {
       plan = first.plan;
       plan_is = subst (λ (t : List AttrsOf). IsTablePlan flat.tables cluster t first.plan) (sym is.attrs_are) is.plan_is;

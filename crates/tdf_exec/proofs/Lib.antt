@@ -1,23 +1,31 @@
 mod Acting
 pub mod Api
+mod Asks
 mod Begins
+mod Boundaries
+mod Changing
 mod Counting
 mod Counts
 mod Crosses
 mod EdgeRates
+mod Empty
 mod Ends
+mod Flags
 mod Formed
 mod Gains
 mod Giving
 pub mod Greatest
+mod Installing
 mod Keeping
 mod Kept
 mod Marks
 mod Moved
+mod Moves
 mod Nexts
 mod Planned
 mod Playing
 mod Rates
+mod Restarts
 mod Rows
 mod Runs
 mod Safe

@@ -1,4 +1,4 @@
--- No initialize or processing body of a model without a fault sets a rate variable.
+-- No initialize, processing or reinitialize body of a model without a fault sets a rate variable.
 use Rattle.std.proofs.Common.{◌≡◌, ◌∙◌, ℕ, zero, suc, ◌+◌, ◌-◌, Bool, true, false, not, List, [], ◌∷◌, ◌++◌, Option, Some, None, refl, sym, ap, subst, ℤ, pos, negsuc, if◌then◌else◌}
 use Rattle.std.proofs.lemmas.Option.{same_Some}
 use Rattle.std.specs.List.{flat_map}
@@ -11,7 +11,7 @@ use Rattle.tdf_checks.specs.Types.{global_faults, type_faults}
 use Rattle.tdf_exec.specs.Laws.{RatesAreBegun, RatesAreKept}
 use Rattle.tdf_expr.specs.Blocks.{Events, Module, PureBlock, blocks_of, body_of}
 use Rattle.tdf_expr.specs.Runs.{scope_in}
-use Rattle.tdf_expr.specs.declared.bodies.Body.TheVariants.{Initialize, Processing}
+use Rattle.tdf_expr.specs.declared.bodies.Body.TheVariants.{Initialize, Processing, Reinitialize}
 use Rattle.tdf_faults.proofs.Api.{none_first, none_second}
 use Rattle.tdf_faults.specs.First.{fault_if}
 use Rattle.tdf_fixed.specs.declared.raw.Raw.{Raw}
@@ -137,12 +137,20 @@ module _ (globals : Names) where
       none_first _ _ (none_first (widths.body_faults (tdf_scope globals block) part.Processing block.processing) _
       (none_second (widths.body_faults (tdf_scope globals block) part.Initialize block.initialize) _ (own_faults block none)))
 
+  reinitialize_faults : (block : PureTdf) → tdf_faults globals block ≡ [] → stmts_faults (tdf_scope globals block) part.Reinitialize [] block.reinitialize.list ≡ []
+  unfolding widths.body_faults
+  reinitialize_faults block none =
+      none_first _ _ (none_second (widths.body_faults (tdf_scope globals block) part.Change block.change) _
+      (none_second (widths.body_faults (tdf_scope globals block) part.Processing block.processing) _
+      (none_second (widths.body_faults (tdf_scope globals block) part.Initialize block.initialize) _ (own_faults block none))))
+
 pub rates_are_kept : RatesAreKept
 unfolding type_faults
 rates_are_kept model flat none are = record {
   model = model;
   are = are;
   keeps = kept;
+  again = begun_again;
 }
   where
     kept : (number : ℕ) (block : PureBlock) (s : State) → slice_get (blocks_of model.globals) number ≡ Some block
@@ -151,6 +159,13 @@ rates_are_kept model flat none are = record {
         stmts_rates (tdf_scope (globals_of model.globals) block) part.Processing refl [] block.processing.list [] s
         (processing_faults (globals_of model.globals) block (block_faults (globals_of model.globals) model.globals number block (none_first _ _ none) at))
     kept number (Events block) s at = refl
+
+    begun_again : (number : ℕ) (block : PureBlock) (s : State) → slice_get (blocks_of model.globals) number ≡ Some block
+        → (after_body (scope_in model block) (body_of block Reinitialize) s).frame.rates ≡ s.frame.rates
+    begun_again number (Module block) s at =
+        stmts_rates (tdf_scope (globals_of model.globals) block) part.Reinitialize refl [] block.reinitialize.list [] s
+        (reinitialize_faults (globals_of model.globals) block (block_faults (globals_of model.globals) model.globals number block (none_first _ _ none) at))
+    begun_again number (Events block) s at = refl
 
 pub rates_are_begun : RatesAreBegun
 unfolding type_faults

@@ -32,7 +32,7 @@ HeadsHold = (flat : Flat) (c : ClusterOf) (e : ℕ) → c.place ≡ 0
     ≡ held_at_head flat.tables c.number e
     + done c.entries c.place (writer_at flat.tables.edges e) * slice_index c.writes e
 
--- where a model has no fault of types, no processing body sets a rate variable
+-- where a model has no fault of types, no processing or reinitialize body sets a rate variable
 abbrev pub RatesAreKept : Type 0
 RatesAreKept = (model : PureTree) (flat : Flat) → type_faults model ≡ []
     → IsCheckedOf model flat.checked → KeepRates flat.checked

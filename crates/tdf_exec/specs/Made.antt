@@ -5,7 +5,7 @@ use Rattle.std.specs.List.{All, count_by}
 use Rattle.std.specs.Prelude.{◌≡◌, ℕ, zero, suc, ◌+◌, ◌-◌, ◌*◌, ◌^◌, ◌<◌, ◌≤◌, Bool, true, false}
 use Rattle.std.specs.Prelude.{List, None, Some, length, slice_get, slice_index, map, take}
 use Rattle.tdf_bind.specs.Flat.{FlatOf}
-use Rattle.tdf_dynamic.specs.Attributes.{attrs_at, clusters_of, rates_in}
+use Rattle.tdf_dynamic.specs.Attributes.{AttrsOf, attrs_at, clusters_of, rates_in}
 use Rattle.tdf_dynamic.specs.Faults.{IsTablePlan}
 use Rattle.tdf_dynamic.specs.Rates.{net_of}
 use Rattle.tdf_exec.specs.Cluster.{ClusterOf, next_offset}
@@ -20,7 +20,7 @@ use Rattle.tdf_expr.specs.Checked.{IsCheckedOf}
 use Rattle.tdf_expr.specs.Frames.{IsOfFormat}
 use Rattle.tdf_expr.specs.Made.{AreMadeFor}
 use Rattle.tdf_expr.specs.Runs.{scope_in}
-use Rattle.tdf_expr.specs.declared.bodies.Body.TheVariants.{Processing}
+use Rattle.tdf_expr.specs.declared.bodies.Body.TheVariants.{Processing, Reinitialize}
 use Rattle.tdf_expr.specs.declared.checked.Checked.{Checked}
 use Rattle.tdf_expr.specs.declared.spans.PortSpan.{PortSpan}
 use Rattle.tdf_firing.specs.Firing.{AreZerosBehind}
@@ -55,13 +55,14 @@ pub record IsInSpans (spans : List PortSpan) (t : TracedPort) : Type 0 where
   pub there : slice_get spans t.port ≡ Some span
   pub rate : t.rate ≤ span.count
 
--- a module of the cluster: an instance of its block with the rates of the table, its wires, whose
+-- a module of the cluster: an instance of its block with the rates of a table, its wires, whose
 -- rates and formats are those of its ports, and zeros beyond what it reads
-pub record IsModuleOf (flat : Flat) (c : ClusterOf) (m : ℕ) (x : ModuleOf) : Type 0 where
+pub record IsModuleWith (flat : Flat) (rated : List AttrsOf) (c : ClusterOf) (m : ℕ) (x : ModuleOf)
+    : Type 0 where
   pub actor_is : IsActorOf flat.tables c.number m actor.Module
   pub block_is : x.block ≡ block_at flat.tables.modules m
   pub made : AreMadeFor flat.checked x.block x.frame x.ports
-  pub rates : x.frame.state.rates ≡ rates_in (attrs_at c.table m)
+  pub rates : x.frame.state.rates ≡ rates_in (attrs_at rated m)
   pub wires_are : AreWiresOf flat.tables m x.wires
   pub wired : AreWired x.wires x.ports.spans (length flat.tables.edges)
   pub read_rate : (j : ℕ) (w : InWire) (p : PortSpan) → slice_get x.wires.ins j ≡ Some w
@@ -76,6 +77,11 @@ pub record IsModuleOf (flat : Flat) (c : ClusterOf) (m : ℕ) (x : ModuleOf) : T
   pub traced : x.traced ≡ map (traced_port flat.tables c.table) (traced_ports flat.tables m)
   pub traced_rate : (j : ℕ) (t : TracedPort) → slice_get x.traced j ≡ Some t
       → IsInSpans x.ports.spans t
+
+-- the table is that in force, but for the time between a boundary that changed attributes and the
+-- period that follows
+abbrev pub IsModuleOf : Flat → ClusterOf → ℕ → ModuleOf → Type 0
+IsModuleOf flat c m x = IsModuleWith flat c.table c m x
 
 abbrev pub is_sampler : Runner → Bool
 is_sampler (runner.Sampler s) = true
@@ -101,11 +107,22 @@ pub record IsSinkOf (flat : Flat) (c : ClusterOf) (m edge : ℕ) : Type 0 where
   pub none : (e : ℕ) → Writes flat.tables m e → ⊥
 
 -- what is kept for an actor is its own
+abbrev pub IsRunnerWith : Flat → (rated : List AttrsOf) → ClusterOf → ℕ → Runner → Type 0
+IsRunnerWith flat rated c m (runner.Module x) = IsModuleWith flat rated c m x
+IsRunnerWith flat rated c m (runner.Sampler s) = IsSamplerOf flat c m s
+IsRunnerWith flat rated c m (runner.Sink k) = IsSinkOf flat c m k.edge
+IsRunnerWith flat rated c m runner.Outside =
+    slice_index (clusters_of flat.tables) m ≡ c.number → ⊥
+
 abbrev pub IsRunnerOf : Flat → ClusterOf → ℕ → Runner → Type 0
-IsRunnerOf flat c m (runner.Module x) = IsModuleOf flat c m x
-IsRunnerOf flat c m (runner.Sampler s) = IsSamplerOf flat c m s
-IsRunnerOf flat c m (runner.Sink k) = IsSinkOf flat c m k.edge
-IsRunnerOf flat c m runner.Outside = slice_index (clusters_of flat.tables) m ≡ c.number → ⊥
+IsRunnerOf flat c m r = IsRunnerWith flat c.table c m r
+
+-- each module of a cluster has a row in its table, and one alone
+pub record HasRows (tables : FlatOf) (cluster : ℕ) (table : List AttrsOf) : Type 0 where
+  pub each : (m : ℕ) → m < length tables.modules → slice_index (clusters_of tables) m ≡ cluster
+      → (i : ℕ) × (attrs : AttrsOf) × (slice_get table i ≡ Some attrs) × (attrs.number ≡ m)
+  pub once : (i j : ℕ) (one other : AttrsOf) → slice_get table i ≡ Some one
+      → slice_get table j ≡ Some other → one.number ≡ other.number → i ≡ j
 
 -- the plan is that of the table
 pub record IsPlanned (tables : FlatOf) (c : ClusterOf) : Type 0 where
@@ -152,7 +169,7 @@ pub record AreHeld (tables : FlatOf) (c : ClusterOf) : Type 0 where
   pub formats : (e : ℕ) (f : Format) → e < length tables.edges → edge_format tables e ≡ Some f
       → All (IsOfFormat f) (ring_at c.rings e).samples
 
--- no processing body of the model sets a rate variable
+-- no processing or reinitialize body of the model sets a rate variable
 pub record KeepRates (checked : Checked) : Type 0 where
   pub model : PureTree
   pub are : IsCheckedOf model checked
@@ -160,10 +177,16 @@ pub record KeepRates (checked : Checked) : Type 0 where
       → slice_get (blocks_of model.globals) number ≡ Some block
       → (after_body (scope_in model block) (body_of block Processing) s).frame.rates
       ≡ s.frame.rates
+  pub again : (number : ℕ) (block : PureBlock) (s : State)
+      → slice_get (blocks_of model.globals) number ≡ Some block
+      → (after_body (scope_in model block) (body_of block Reinitialize) s).frame.rates
+      ≡ s.frame.rates
 
--- a cluster of a flat model, wherever it is in its period; it has crossed only at the end of it
-pub record IsClusterOf (flat : Flat) (c : ClusterOf) : Type 0 where
+-- a cluster of a flat model, wherever it is in its period, whose modules have the rates of a table;
+-- it has crossed only at the end of its period
+pub record IsClusterWith (flat : Flat) (rated : List AttrsOf) (c : ClusterOf) : Type 0 where
   pub attributes : AreAttributes flat c.number c.table
+  pub rows : HasRows flat.tables c.number c.table
   pub planned : IsPlanned flat.tables c
   pub reads_are : c.reads ≡ read_rates (net_of flat.tables c.table)
   pub writes_are : c.writes ≡ write_rates (net_of flat.tables c.table)
@@ -174,5 +197,10 @@ pub record IsClusterOf (flat : Flat) (c : ClusterOf) : Type 0 where
   pub actors : length c.runners ≡ length flat.tables.actors
   pub positions : length c.positions ≡ length flat.tables.actors
   pub counted : (m : ℕ) → slice_index c.positions m ≤ 2 ^ 64 - 1
-  pub runners : (m : ℕ) (r : Runner) → slice_get c.runners m ≡ Some r → IsRunnerOf flat c m r
+  pub runners : (m : ℕ) (r : Runner) → slice_get c.runners m ≡ Some r
+      → IsRunnerWith flat rated c m r
   pub keep : KeepRates flat.checked
+
+-- the table is that in force
+abbrev pub IsClusterOf : Flat → ClusterOf → Type 0
+IsClusterOf flat c = IsClusterWith flat c.table c

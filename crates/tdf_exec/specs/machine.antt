@@ -1,6 +1,8 @@
 -- How the code of this crate works.
 pub mod Fired
 pub mod Laid
+pub mod Moving
+pub mod Restarting
 pub mod Starting
 pub mod Steps
 pub mod Telling

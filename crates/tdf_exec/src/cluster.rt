@@ -1,5 +1,6 @@
 //! A cluster in progress, and its calls.
 
+use crate::asking::Spare;
 use crate::runners::Runner;
 use std::marker::Model;
 use tdf_dynamic::Attrs;
@@ -20,9 +21,11 @@ pub struct Cluster {
     pub(crate) rings: Vec<Ring>,
     pub(crate) runners: Vec<Runner>,
     pub(crate) positions: Vec<u64>,
+    pub(crate) spare: Spare,
 }
 
 impl Model for Cluster {
+    ghost use Rattle.std.specs.Prelude.{◌≤◌, length};
     ghost use Rattle.tdf_convert.specs.Sampled.{AreByOffset};
     ghost use Rattle.tdf_exec.specs.Cluster.{ClusterOf};
 
@@ -43,7 +46,10 @@ impl Model for Cluster {
       positions = a.positions.items;
     } };
 
-    ghost invariant = { λ a. AreByOffset a.plan.entries.items };
+    ghost invariant = { λ a. record {
+      sorted : AreByOffset a.plan.entries.items;
+      room : length a.attrs ≤ a.spare;
+    } };
 }
 
 ghost use Rattle.std.specs.Prelude.{◌≡◌, ◌<◌, ◌≤◌, ◌+◌, ◌^◌, ◌-◌, ℕ, length, min, Some, slice_get};

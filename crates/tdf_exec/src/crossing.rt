@@ -1,69 +1,120 @@
 //! From the end of a period to the next.
 
-use tdf_dynamic::Attrs;
-use tdf_schedule::Plan;
-
-/// What a boundary answers.
-#[derive(Drop)]
-pub enum Next {
-    /// The next period has the attributes and the plan of this one.
-    Same,
-    /// It has others.
-    Changed(Attrs, Plan),
-}
-
-ghost use Rattle.std.specs.Prelude.{◌≡◌, IsOk, false, true, None, Ok};
+ghost use Rattle.std.specs.Prelude.{◌≡◌, ◌⊎◌, ◌<◌, ℕ, All, Err, IfErr, IfOk, IsOk, None, Ok, OnErr, OnOk, Some, false, length, slice_get, true};
+ghost use Rattle.tdf_base.specs.declared.faults.Fault.{Fault as FaultOf};
+ghost use Rattle.tdf_changes.specs.Change.{IsChangeFault, IsNewPlan, IsSame};
+ghost use Rattle.tdf_changes.specs.Next.{IsNext};
+ghost use Rattle.tdf_changes.specs.declared.next.Next.TheVariants.{Same};
+ghost use Rattle.tdf_dynamic.specs.Attributes.{AttrsOf};
+ghost use Rattle.tdf_dynamic.specs.Faults.{IsRefusal};
+ghost use Rattle.tdf_dynamic.specs.declared.err.ChangeErr.TheVariants.{Memory as NoMemory, Refused};
 ghost use Rattle.tdf_exec.specs.Cluster.{next_offset};
-ghost use Rattle.tdf_exec.specs.Crossing.{CrossesFrom, HasNoChanges, StandsAtNext, at_place};
+ghost use Rattle.tdf_exec.specs.Crossing.{CanInstall, CrossesFrom, HasBegun, HasCrossed, HasNoChanges, HoldHeads, StandsAfter, WhenItAsks, at_place};
 ghost use Rattle.tdf_exec.specs.Made.{IsClusterOf};
 ghost use Rattle.tdf_exec.specs.Starts.{IsSoundFlat};
-ghost use Rattle.tdf_exec.specs.declared.crossing.Next.TheVariants.{Same};
+ghost use Rattle.tdf_schedule.specs.declared.entry.Plan.{Plan as PlanOf};
+ghost use Rattle.tdf_streams.specs.Places.{has_changes};
 
 use crate::cluster::Cluster;
 use crate::starting::law_laid;
 use std::alloc::Global;
 use tdf_base::Memory;
-use tdf_dynamic::ChangeErr;
+use tdf_changes::Next;
+use tdf_dynamic::{ChangeErr, ModuleAttrs};
 use tdf_flat::Flat;
 
+/// Whether a module has a body that changes attributes.
+fn changes_at(flat: &Flat, number: u32) -> bool
+    requires { number < length flat.now.tables.modules }
+    ensures { result ≡ has_changes flat.now.tables.modules number }
+{
+    flat.tables.modules[number as usize].changes
+}
+
+/// Whether a module of a table has one.
+fn has_changes(flat: &Flat, rows: &[ModuleAttrs]) -> bool
+    requires { All (λ a. a.number < length flat.now.tables.modules) rows.now }
+    ensures none { result ≡ false → (i : ℕ) (a : AttrsOf) → slice_get rows.now i ≡ Some a
+        → has_changes flat.now.tables.modules a.number ≡ false }
+    ensures some { result ≡ true → (i : ℕ) × (a : AttrsOf) × (slice_get rows.now i ≡ Some a)
+        × (has_changes flat.now.tables.modules a.number ≡ true) }
+{
+    for i in 0..rows.len() {
+        let row = &rows[i];
+        if changes_at(flat, row.number) {
+            return true;
+        }
+    }
+    false
+}
+
 impl Cluster {
-    /// The end of a period, for a cluster in which no module changes attributes: the next period has the same plan. It
-    /// takes no memory.
+    /// The end of a period: the change bodies of the modules run, in order, and what they ask for is judged. Where no module
+    /// differs it takes no memory, and the next period has the same plan; the table has the flags that were said.
     ///
     /// # Errors
-    /// None.
+    /// The first fault of the new table, or out of memory. Then, too, the cluster has crossed.
     pub fn boundary(&mut self, alloc: Global, flat: &Flat) -> Result<Next, ChangeErr>
+        requires sound { IsSoundFlat flat.now }
         requires of { IsClusterOf flat.now self.old }
         requires done { next_offset self.old ≡ None }
         requires open { self.old.crossed ≡ false }
-        requires still { HasNoChanges flat.now.tables self.old.number }
-        ensures same { result ≡ Ok Same }
-        ensures crossed { self.new ≡ at_place self.old self.old.place true }
-        ensures of { IsClusterOf flat.now self.new }
+        ensures next { WhenItAsks flat.now self.old (λ asks. IfOk result
+            (IsNext flat.now.tables self.old.number asks self.old.table self.new.table)) }
+        ensures refused { WhenItAsks flat.now self.old (λ asks. IfErr result
+            (IsRefusal (IsChangeFault flat.now.tables self.old.number asks self.old.table))) }
+        ensures kept { OnErr result (self.new.table ≡ self.old.table) }
+        ensures heads { HoldHeads flat.now.tables self.old }
+        ensures crossed { HasCrossed self.old self.new }
         ensures crosses { CrossesFrom flat.now self.old self.new }
-    {
-        self.crossed = true;
-        Ok(Next::Same)
-    }
+        ensures of { IfOk result (CanInstall flat.now self.new) }
+        ensures still { HasNoChanges flat.now.tables self.old.number → (result ≡ Ok Same)
+            × (self.new ≡ at_place self.old self.old.place true) }
 
-    /// Begins the next period with the plan of the last one. It takes no memory.
-    ///
-    /// # Errors
-    /// None.
-    pub fn install(&mut self, alloc: Global, flat: &Flat, next: Next) -> Result<(), Memory>
-        requires sound { IsSoundFlat flat.now }
-        requires of { IsClusterOf flat.now self.old }
-        requires crossed { self.old.crossed ≡ true }
-        requires same { next ≡ Same }
-        ensures ok { IsOk result }
-        ensures begun { self.new ≡ at_place self.old 0 false }
-        ensures of { IsClusterOf flat.now self.new }
-        ensures stands { StandsAtNext flat.now self.old self.new }
+        // Each answer comes wherever its cause is there, but for want of memory.
+        ensures same_always { WhenItAsks flat.now self.old (λ asks.
+            IsSame asks self.old.table → result ≡ Ok Same) }
+        ensures refused_always { WhenItAsks flat.now self.old (λ asks. (fault : FaultOf)
+            → IsChangeFault flat.now.tables self.old.number asks self.old.table fault
+            → (result ≡ Err (Refused fault)) ⊎ (result ≡ Err NoMemory)) }
+        ensures new_always { WhenItAsks flat.now self.old (λ asks. (plan : PlanOf)
+            → IsNewPlan flat.now.tables self.old.number asks self.old.table plan
+            → IsOk result ⊎ (result ≡ Err NoMemory)) }
     {
         law_laid();
-        drop(next);
-        self.place = 0;
-        self.crossed = false;
-        Ok(())
+        self.crossed = true;
+        if !has_changes(flat, self.attrs.rows()) {
+            return Ok(Next::Same);
+        }
+        let number = self.number;
+        self.spare
+            .ask(alloc, flat, number, &mut self.attrs, &mut self.runners)
+    }
+
+    /// Begins the next period with the answer of the boundary. With the same plan it takes no memory. With a new one each edge
+    /// keeps its samples and has room for its new bound, and the reinitialize bodies of the modules run, in order.
+    ///
+    /// # Errors
+    /// Out of memory; then nothing changes.
+    pub fn install(&mut self, alloc: Global, flat: &Flat, next: Next) -> Result<(), Memory>
+        requires sound { IsSoundFlat flat.now }
+        requires crossed { self.old.crossed ≡ true }
+        requires can { CanInstall flat.now self.old next }
+        ensures ok { next ≡ Same → IsOk result }
+        ensures begun { OnOk result (HasBegun self.old next self.new) }
+        ensures heads { OnOk result (HoldHeads flat.now.tables self.new) }
+        ensures of { OnOk result (IsClusterOf flat.now self.new) }
+        ensures stands { OnOk result (StandsAfter flat.now next self.old self.new) }
+        ensures err { OnErr result (self.new ≡ self.old) }
+    {
+        law_laid();
+        match next {
+            Next::Same => {
+                self.place = 0;
+                self.crossed = false;
+                Ok(())
+            }
+            Next::Changed(attrs, plan) => self.begin_new(alloc, flat, attrs, plan),
+        }
     }
 }

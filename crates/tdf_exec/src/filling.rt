@@ -14,7 +14,7 @@ use tdf_rings::Ring;
 use tdf_wiring::EdgeRow;
 
 /// How many samples a ring has room for.
-fn room_for(bound: u32) -> u32
+pub(crate) fn room_for(bound: u32) -> u32
     ensures value { result ≡ room_for bound }
     ensures some { 1 ≤ result }
 {

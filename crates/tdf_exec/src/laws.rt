@@ -17,7 +17,8 @@ pub fn law_heads()
     ensures { HeadsHold }
 {}
 
-/// No initialize or processing body of a model without a fault of types sets a rate variable.
+/// No initialize, processing or reinitialize body of a model without a fault of types sets a rate
+/// variable.
 pub fn law_rates()
     ensures begun { RatesAreBegun }
     ensures kept { RatesAreKept }

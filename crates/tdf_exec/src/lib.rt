@@ -7,24 +7,30 @@
 //! - `beginning`: what its actors keep at its start.
 //! - `starting`: a cluster at the start of its first period.
 //! - `crossing`: from the end of a period to the next.
+//! - `asking`: the modules say which changes of attributes they ask for.
+//! - `moving`: the instances of modules go into a list and come back.
+//! - `restarting`: the next period with a new plan.
 //! - `tracing`: the ports of modules whose signals are traced.
 //! - `telling`: what a cluster in progress tells of itself.
 //! - `laws`: what holds of clusters in progress.
 #![tactic(auto)]
 
+mod asking;
 mod beginning;
 mod cluster;
 mod crossing;
 mod filling;
 mod laws;
+mod moving;
 mod rating;
+mod restarting;
 mod runners;
 mod starting;
 mod telling;
 mod tracing;
 
 pub use cluster::Cluster;
-pub use crossing::Next;
 pub use laws::{law_heads, law_rates, law_safe};
 pub use runners::{ModuleRunner, Runner, SamplerRunner, SinkRunner, TracedPort};
+pub use tdf_changes::Next;
 pub use telling::Room;

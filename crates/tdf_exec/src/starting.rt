@@ -1,6 +1,6 @@
 //! A cluster at the start of its first period.
 
-ghost use Rattle.std.specs.Prelude.{IfOk};
+ghost use Rattle.std.specs.Prelude.{◌≤◌, IfOk, length};
 ghost use Rattle.tdf_convert.specs.Sampled.{PlansGoByOffset};
 ghost use Rattle.tdf_dynamic.specs.First.{IsFirstPlan};
 ghost use Rattle.tdf_dynamic.specs.Rates.{AreRates};
@@ -9,6 +9,7 @@ ghost use Rattle.tdf_exec.specs.Starts.{IsAtStart, IsSoundFlat, StandsAtStart};
 ghost use Rattle.tdf_exec.specs.machine.Laid.{AreParts, AreRunnersOf, SoundIsLaid};
 ghost use Rattle.tdf_schedule.specs.Laws.{PlansArePresent};
 
+use crate::asking::Spare;
 use crate::beginning::first_runners;
 use crate::cluster::Cluster;
 use crate::filling::first_rings;
@@ -43,7 +44,8 @@ pub(crate) fn law_laid()
     law_by_offset();
 }
 
-/// The parts of a cluster at its start: rates and rings by edge, runners and counts of activations by actor.
+/// The parts of a cluster at its start: rates and rings by edge, runners and counts of activations by actor, and room for
+/// the instances of its modules.
 #[derive(Drop)]
 struct Parts {
     reads: Vec<u32>,
@@ -51,6 +53,7 @@ struct Parts {
     rings: Vec<Ring>,
     runners: Vec<Runner>,
     positions: Vec<u64>,
+    spare: Spare,
 }
 
 /// What is kept for the actors of a cluster.
@@ -76,8 +79,9 @@ fn runners_of(
 fn first_parts(alloc: Global, flat: &Flat, cluster: u32, first: &First) -> Result<Parts, Memory>
     requires sound { IsSoundFlat flat.now }
     requires plan { IsFirstPlan flat.now cluster first.now }
-    ensures { IfOk result (λ p. AreParts flat.now cluster first.now p.reads.items p.writes.items
-        p.rings.items p.runners.items p.positions.items) }
+    ensures parts { IfOk result (λ p. AreParts flat.now cluster first.now p.reads.items
+        p.writes.items p.rings.items p.runners.items p.positions.items) }
+    ensures room { IfOk result (λ p. length first.now.attrs ≤ p.spare) }
 {
     law_laid();
     let reads = read_rates(alloc, flat, &first.attrs)?;
@@ -85,12 +89,14 @@ fn first_parts(alloc: Global, flat: &Flat, cluster: u32, first: &First) -> Resul
     let rings = first_rings(alloc, &flat.tables, cluster, &first.plan.bounds)?;
     let runners = runners_of(alloc, flat, cluster, &first.attrs)?;
     let positions = vec![in alloc; 0; flat.tables.actors.len()]?;
+    let spare = Spare::new(alloc, first.attrs.rows.len())?;
     Ok(Parts {
         reads,
         writes,
         rings,
         runners,
         positions,
+        spare,
     })
 }
 
@@ -120,6 +126,7 @@ impl Cluster {
                 rings: parts.rings,
                 runners: parts.runners,
                 positions: parts.positions,
+                spare: parts.spare,
             }),
             Err(failed) => {
                 drop(first);

@@ -1,1 +1,6 @@
-pub mod Idle
+mod Ahead
+pub mod Api
+mod Idle
+mod Once
+mod Told
+mod Unchanged

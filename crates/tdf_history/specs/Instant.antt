@@ -4,7 +4,7 @@
 -- evaluation and update phases of IEEE 1666-2011, 4.2.
 use Rattle.std.specs.List.{list_any}
 use Rattle.std.specs.Prelude.{ℕ, zero, suc, ◌+◌, ◌-◌, Bool, true, false, ◌&&◌, ◌||◌, nat_eq, if◌then◌else◌}
-use Rattle.std.specs.Prelude.{Option, Some, None, List, [], ◌∷◌, ◌++◌, length, slice_get}
+use Rattle.std.specs.Prelude.{Option, Some, None, List, [], ◌∷◌, ◌++◌, drop, length, slice_get}
 use Rattle.std.specs.Prelude.{slice_index_or, slice_set, sum_by, unwrap_or}
 use Rattle.tdf_base.specs.declared.faults.Fault.{Fault}
 use Rattle.tdf_bind.specs.Flat.{FlatOf}
@@ -18,7 +18,7 @@ use Rattle.tdf_flow.specs.Grounds.{firings}
 use Rattle.tdf_graph.specs.declared.actors.Actor.{Actor}
 use Rattle.tdf_graph.specs.declared.actors.Actor.TheVariants as actor
 use Rattle.tdf_history.specs.World.{Change, ClusterAt, New, Refused, Rules, Same, Settled}
-use Rattle.tdf_history.specs.World.{SinkWrite, World}
+use Rattle.tdf_history.specs.World.{SinkWrite, World, next_change}
 use Rattle.tdf_instants.specs.History.{Engine, Fault as Faulted, Going, Past, Step, and_then, turns_to}
 use Rattle.tdf_schedule.specs.Plan.{done}
 use Rattle.tdf_schedule.specs.declared.entry.Entry.{Entry}
@@ -54,13 +54,14 @@ same_period table p = record {
   };
 }
 
--- the next period begins
+-- the next period begins, and what was told of its boundary is used
 abbrev pub with_same : (time : ℕ) → List AttrsOf → ClusterAt → ClusterAt
 with_same time table c = record c {
   since = time;
   place = 0;
   old = periods_of c;
   now = same_period table c.now;
+  ahead = drop 1 c.ahead;
 }
 
 abbrev pub with_new : FlatOf → (time : ℕ) → List AttrsOf → (counts : List ℕ) → (period : ℕ)
@@ -72,6 +73,7 @@ with_new tables time table counts period entries bounds c = record c {
   place = 0;
   old = periods_of c;
   now = period_record tables table counts period true;
+  ahead = drop 1 c.ahead;
 }
 
 -- the period of a cluster ends at a time
@@ -160,16 +162,15 @@ module _ {K : Type 0} where
       Faulted (record { cluster = n + 1; fault = fault }) w
 
   -- the boundary of cluster n, if it is due; its turn comes first
-  abbrev pub boundary_of : FlatOf → Rules K → (time n : ℕ) → Option ClusterAt → World K
+  abbrev pub boundary_of : FlatOf → (time n : ℕ) → Option ClusterAt → World K
       → Step (World K) RunFault
-  boundary_of tables rules time n None w = Going w
-  boundary_of tables rules time n (Some c) w = if is_over time c
-      then (if nat_eq w.left 0 then Past w
-      else changed_by tables time n c (rules.change (n + 1) c) w) else Going w
+  boundary_of tables time n None w = Going w
+  boundary_of tables time n (Some c) w = if is_over time c
+      then (if nat_eq w.left 0 then Past w else changed_by tables time n c (next_change c) w)
+      else Going w
 
-  abbrev pub boundary : FlatOf → Rules K → (time n : ℕ) → World K → Step (World K) RunFault
-  boundary tables rules time n w =
-      boundary_of tables rules time n (slice_get w.clusters n) w
+  abbrev pub boundary : FlatOf → (time n : ℕ) → World K → Step (World K) RunFault
+  boundary tables time n w = boundary_of tables time n (slice_get w.clusters n) w
 
   abbrev pub fired_as : PureTree → Flat → Rules K → (n m : ℕ) → Actor → ClusterAt → World K
       → World K
@@ -221,7 +222,7 @@ module _ {K : Type 0} where
 
   abbrev pub instant : PureTree → Flat → Rules K → (time : ℕ) → World K → Step (World K) RunFault
   instant model flat rules time w = and_then
-      (and_then (turns_to (boundary flat.tables rules time) (length w.clusters) (at_begin w))
+      (and_then (turns_to (boundary flat.tables time) (length w.clusters) (at_begin w))
       (λ v. turns_to (all_firings model flat rules time) (length w.clusters) v))
       (events_of rules time)
 

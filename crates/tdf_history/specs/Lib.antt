@@ -1,6 +1,8 @@
+pub mod Answers
 pub mod Cells
 pub mod Instant
 pub mod Laws
 pub mod Start
+pub mod Telling
 pub mod Texts
 pub mod World

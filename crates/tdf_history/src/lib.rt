@@ -7,4 +7,4 @@
 
 mod laws;
 
-pub use laws::law_idle;
+pub use laws::{law_idle, law_longer, law_one_history, law_unchanged};

@@ -23,7 +23,7 @@ use Rattle.tdf_loop.specs.Advancing.{InstantAdvances}
 use Rattle.tdf_run.specs.At.{IsAt}
 use Rattle.tdf_run.specs.Pass.{HavePassed, pass_at, run_of}
 use Rattle.tdf_shown.specs.Advanced.{Advances, HasAdvanced}
-use Rattle.tdf_traced.proofs.Api.{boundary_adds_none, passes_trace}
+use Rattle.tdf_traced.proofs.Api.{boundaries_add_none, passes_trace}
 use Rattle.tdf_traced.specs.Samples.{AreSamplesOf, HaveTraced, samples_of}
 use Rattle.tdf_tree.specs.Pure.{PureTree}
 use Rattle.tdf_wiring.specs.declared.modules.PortRow.{PortRow}
@@ -35,7 +35,7 @@ and_left false b is = absurd cc
 
 advances_by : (time : ℕ) (h mid g : ClusterAt) → Becomes time h mid → IsInPeriod mid g → Advances time h g
 advances_by time h mid g (Becomes.Stayed going same) kept = Advances.Stayed going (kept.since ∙ ap (λ (z : ClusterAt). z.since) same) (kept.old ∙ ap (λ (z : ClusterAt). z.old) same) (kept.now ∙ ap (λ (z : ClusterAt). z.now) same)
-advances_by time h mid g (Becomes.Began over is) kept = Advances.Began over (kept.since ∙ ap (λ (z : ClusterAt). z.since) is) (kept.old ∙ ap (λ (z : ClusterAt). z.old) is) (kept.now ∙ ap (λ (z : ClusterAt). z.now) is)
+advances_by time h mid g (Becomes.Began over is) kept = Advances.Began over (kept.since ∙ ap (λ (z : ClusterAt). z.since) is) (kept.old ∙ ap (λ (z : ClusterAt). z.old) is)
 
 module _ (one_port : SignalsHaveOnePort) (model : PureTree) (flat : Flat) (time : ℕ) (w : World SideOf) (e f : Engine) (left rest : ℕ) (m : IsModelOf model flat) (now : IsNow model flat w e left)
     (none : e.outputs.traced ≡ []) (had : HasHadInstant flat time e f left rest) (goes : InstantGoes model flat time w e f left rest had) where
@@ -59,7 +59,7 @@ module _ (one_port : SignalsHaveOnePort) (model : PureTree) (flat : Flat) (time 
       → AreSamplesOf model flat (n + 1) number port mid samples
   crossed_samples n number port h mid c samples at (Becomes.Stayed going same) are = subst (λ z. AreSamplesOf model flat (n + 1) number port z samples) (sym same) are
   crossed_samples n number port h mid c samples at (Becomes.Began over is) are = subst (λ z. AreSamplesOf model flat (n + 1) number port z samples) (sym is)
-      (boundary_adds_none model flat (n + 1) number time port h c samples at
+      (boundaries_add_none.same model flat (n + 1) number time port h c samples h.now.info.table at
       (eqb-true h.place (length h.entries) (and_left (nat_eq h.place (length h.entries)) (nat_eq time (h.since + h.now.info.period)) over)) are)
 
   cluster_of : (n : ℕ) (h : ClusterAt) → slice_get w.clusters n ≡ Some h → (c : ClusterOf) × IsAt model flat (n + 1) h c
@@ -71,7 +71,7 @@ module _ (one_port : SignalsHaveOnePort) (model : PureTree) (flat : Flat) (time 
   pub advanced : HasAdvanced model flat time w goes.world f.outputs.traced
   advanced = record {
     same =
-        let keeps = firings_keep model flat (rules_of model flat) (λ k c. refl) time (length w.clusters) v _ goes.passing.goes in
+        let keeps = firings_keep model flat (rules_of model flat) time (length w.clusters) v _ goes.passing.goes in
         ap length goes.same ∙ keeps.same ∙ goes.crossing.at.same ∙ long;
     clusters = λ n h g h_at g_at. (
         let b = from_before model flat time w e f left rest had goes n g g_at in

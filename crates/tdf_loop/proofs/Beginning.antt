@@ -46,9 +46,9 @@ module _ (flat : Flat) (firsts : List First) (clusters : List ClusterOf) (since 
       omega (arith, b, a, s)
 
   -- the clusters are what the history begins with
-  pub starts_at : (model : PureTree) (turns : ℕ) → IsModelOf model flat → AreAt model flat since (start_world model flat firsts turns).clusters clusters
+  pub starts_at : (model : PureTree) (turns : ℕ) → IsModelOf model flat → AreAt model flat since (start_world model flat firsts [] turns).clusters clusters
   starts_at model turns of =
-      subst (λ l. AreAt model flat l (start_world model flat firsts turns).clusters clusters) (sym zeros)
+      subst (λ l. AreAt model flat l (start_world model flat firsts [] turns).clusters clusters) (sym zeros)
       (all_starts_are_at model flat firsts clusters of.is of.checked of.limits begun)
 
   -- and what is shown of the run can start with them
@@ -64,7 +64,7 @@ first_run e left s = record { engine = e; shown = s; from = 0; left = left }
 module _ (flat : Flat) (firsts : List First) (e : Engine) (kind : TraceKind) (s t : Shown) (begun : HaveBegun flat firsts e.clusters.items) (zeros : e.since.items ≡ replicate (length e.clusters.items) 0)
     (side : side_of e.kernel ≡ start_side flat) (un : IsUnshown kind flat s) (shows : StartsShowing flat (clock_at 0 e.since.items e.clusters.items) s t) where
   -- all that runs is what the history begins with
-  pub runs_at_first : (turns : ℕ) (model : PureTree) → IsModelOf model flat → IsRunning model flat (start_world model flat firsts turns) 0 e turns t
+  pub runs_at_first : (turns : ℕ) (model : PureTree) → IsModelOf model flat → IsRunning model flat (start_world model flat firsts [] turns) 0 e turns t
   runs_at_first turns model of = record {
     going = record {
       world = start;
@@ -83,7 +83,7 @@ module _ (flat : Flat) (firsts : List First) (e : Engine) (kind : TraceKind) (s 
   }
     where
       start : World SideOf
-      start = start_world model flat firsts turns
+      start = start_world model flat firsts [] turns
 
       at : AreAt model flat e.since.items start.clusters e.clusters.items
       at = starts_at flat firsts e.clusters.items e.since.items begun zeros model turns of
@@ -102,7 +102,7 @@ module _ (flat : Flat) (firsts : List First) (e : Engine) (kind : TraceKind) (s 
     some = record {
       model = model;
       of = of;
-      start = start_world model flat firsts turns;
+      start = start_world model flat firsts [] turns;
       is = runs_at_first turns model of;
     };
   }

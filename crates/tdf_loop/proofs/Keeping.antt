@@ -3,7 +3,7 @@ use Rattle.std.proofs.Common.{◌≡◌, ◌∙◌, ℕ, refl, subst}
 use Rattle.tdf_flat.specs.declared.model.Flat.{Flat}
 use Rattle.tdf_fixed.specs.declared.raw.Raw.{Raw}
 use Rattle.tdf_history.specs.Instant.{all_firings, stepped, with_read}
-use Rattle.tdf_history.specs.World.{ClusterAt, Rules, Same, World}
+use Rattle.tdf_history.specs.World.{ClusterAt, Rules, World}
 use Rattle.tdf_instants.specs.History.{Going, turns_to}
 use Rattle.tdf_tree.specs.Pure.{PureTree}
 use Rattle.tdf_world.proofs.Api.{AllBy, LeadsBy, firings_by, turns_by}
@@ -26,10 +26,10 @@ step_in c = record { since = refl; old = refl; now = refl }
 read_in : (m : ℕ) (value : Raw) (c : ClusterAt) → IsInPeriod c (with_read m value c)
 read_in m value c = record { since = refl; old = refl; now = refl }
 
-module _ {K : Type 0} (model : PureTree) (flat : Flat) (rules : Rules K) (stays : (n : ℕ) (c : ClusterAt) → rules.change n c ≡ Same c.now.info.table) where
+module _ {K : Type 0} (model : PureTree) (flat : Flat) (rules : Rules K) where
   all_lead : (time n : ℕ) (w : World K) → LeadsBy IsInPeriod in_itself in_through w (turns_to (all_firings model flat rules time) n w)
   all_lead time n w = turns_by IsInPeriod in_itself in_through (all_firings model flat rules time)
-      (λ k v. firings_by IsInPeriod in_itself in_through model flat rules stays step_in read_in time k v) n w
+      (λ k v. firings_by IsInPeriod in_itself in_through model flat rules step_in read_in time k v) n w
 
   pub firings_keep : (time n : ℕ) (w v : World K) → turns_to (all_firings model flat rules time) n w ≡ Going v → AllBy IsInPeriod w v
   firings_keep time n w v goes = subst (LeadsBy IsInPeriod in_itself in_through w) goes (all_lead time n w)

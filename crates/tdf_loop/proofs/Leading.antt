@@ -1,5 +1,5 @@
 -- From one instant of a run to the next, and how it ends.
-use Rattle.std.proofs.Common.{◌≡◌, ◌∙◌, ℕ, ◌+◌, ◌-◌, ◌<◌, ◌≤◌, Bool, true, false, ◌&&◌, [], ◌∷◌, Some, length, nat_eq, slice_get, inl, inr, refl, sym, ap, arith}
+use Rattle.std.proofs.Common.{◌≡◌, ◌∙◌, ℕ, ◌+◌, ◌-◌, ◌<◌, ◌≤◌, Bool, true, false, ◌&&◌, [], ◌∷◌, Some, length, nat_eq, slice_get, inl, inr, sym, ap, arith}
 use Rattle.std.proofs.lemmas.Bool.{cases_lt, eqb-true}
 use Rattle.std.proofs.lemmas.List.Sums.{sum_by-append, sum_by-cons}
 use Rattle.std.proofs.lemmas.Option.{slice_get_within}
@@ -58,7 +58,7 @@ module _ (model : PureTree) (flat : Flat) (time : ℕ) (w : World SideOf) (e f :
       → (h : ClusterAt) × (mid : ClusterAt) × (slice_get w.clusters n ≡ Some h) × (slice_get goes.crossing.clusters n ≡ Some mid) × Becomes time h mid × IsInPeriod mid g
   from_before n g g_at =
       let g_in : slice_get goes.passing.clusters n ≡ Some g = sym (ap (λ l. slice_get l n) goes.same) ∙ g_at in
-      let keeps = firings_keep model flat (rules_of model flat) (λ k c. refl) time (length w.clusters) _ _ goes.passing.goes in
+      let keeps = firings_keep model flat (rules_of model flat) time (length w.clusters) _ _ goes.passing.goes in
       let i = slice_get_within goes.passing.clusters n g g_in in
       let s = keeps.same in
       let mid = get_inside goes.crossing.clusters n (omega (arith, i, s)) in

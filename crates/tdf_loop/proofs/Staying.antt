@@ -1,12 +1,14 @@
 -- Later instants of a run leave the cells below a mark.
-use Rattle.std.proofs.Common.{◌≡◌, ◌∙◌, ℕ, ◌+◌, ◌-◌, ◌≤◌, Some, length, slice_get, refl, ap, arith}
+use Rattle.std.proofs.Common.{◌≡◌, ◌∙◌, ℕ, ◌+◌, ◌-◌, ◌≤◌, List, Some, length, slice_get, sym, ap, subst, arith}
+use Rattle.std.proofs.lemmas.List.Elements.{All-nil}
 use Rattle.std.proofs.lemmas.Option.{slice_get_within}
+use Rattle.std.specs.List.{All}
 use Rattle.tdf_engine.specs.InstantLaws.{IsNow}
 use Rattle.tdf_engine.specs.declared.engine.Engine.{Engine}
 use Rattle.tdf_events.specs.Side.{SideOf}
 use Rattle.tdf_flat.specs.declared.model.Flat.{Flat}
 use Rattle.tdf_flow.proofs.Api.{get_inside}
-use Rattle.tdf_history.specs.World.{ClusterAt, World}
+use Rattle.tdf_history.specs.World.{Change, ClusterAt, World}
 use Rattle.tdf_instants.specs.History.{history}
 use Rattle.tdf_loop.specs.Ongoing.{AreTimed}
 use Rattle.tdf_loop.specs.Staying.{CellsStayBelow}
@@ -14,6 +16,7 @@ use Rattle.tdf_streams.specs.Signals.{time_of}
 use Rattle.tdf_traced.proofs.Api.{done_known}
 use Rattle.tdf_tree.specs.Pure.{PureTree}
 use Rattle.tdf_world.proofs.Api.{cells_agree}
+use Rattle.tdf_world.specs.Continuing.{HasToldCounts}
 use Rattle.tdf_world.specs.Laws.{AreSteady}
 use Rattle.tdf_world.specs.Rules.{rules_of, world_engine}
 
@@ -27,7 +30,13 @@ module _ (model : PureTree) (flat : Flat) (w : World SideOf) (e : Engine) (left 
         let c = get_inside e.clusters.items n (omega (arith, i, s)) in
         let at = now.at.each n h c.0 h_at c.1 in
         let known = done_known model flat (n + 1) h c.0 at in
-        record { whole = at.whole; counts = known.counts; place = known.within; known = known.values });
+        record {
+          whole = at.whole;
+          counts = known.counts;
+          ahead = subst (λ (a : List Change). All HasToldCounts a) (sym at.none_ahead) (All-nil HasToldCounts);
+          place = known.within;
+          known = known.values;
+        });
   }
 
   -- no cluster's period began before a mark below all starts
@@ -44,6 +53,6 @@ module _ (model : PureTree) (flat : Flat) (w : World SideOf) (e : Engine) (left 
 pub cells_stay_below : CellsStayBelow
 cells_stay_below model flat start last from end mark left e m of going low at_end below late =
     let z : from ≡ from - 0 = omega arith in
-    cells_agree model flat (rules_of model flat) (λ n c. refl) start going.world last from end mark m.limits
+    cells_agree model flat (rules_of model flat) start going.world last from end mark m.limits
     (ap (history (world_engine model flat) 0 start) z ∙ going.on.on) low at_end (steady model flat going.world e left going.now)
     (starts_late model flat going.world e left going.now going.timed of.since mark late)

@@ -89,7 +89,7 @@ module _ (along : InstantGoesAlong) (ends : InstantEndsSpent) (advances : Instan
         late_by h.0 g.0 s t.0 (advanced.clusters n h.0 g.0 h.1 g.1) b d (can.late n t.0 t.1)
       where
         late_by : (h g : ClusterAt) (s t : ℕ) → Advances r.from h g → s ≡ g.since → t ≡ h.since → r.shown.trace.rows.upto ≤ t → r.shown.trace.rows.upto ≤ s
-        late_by h g s t (Began over since old now) b d low = let y = can.early in omega (arith, y, b, since)
+        late_by h g s t (Began over since old) b d low = let y = can.early in omega (arith, y, b, since)
         late_by h g s t (Stayed over since old now) b d low = omega (arith, low, b, d, since)
 
   pub can_take : r.from < time_end → CanTake flat clock e.outputs.traced e.kernel.values r.shown

@@ -1,5 +1,5 @@
 -- What a whole run writes and leaves.
-use Rattle.std.proofs.Common.{◌≡◌, ◌∙◌, ℕ, ◌-◌, List, ◌++◌, Option, Result, IfOk, refl, sym, ap, subst, arith}
+use Rattle.std.proofs.Common.{◌≡◌, ◌∙◌, ℕ, ◌-◌, List, [], ◌++◌, Option, Result, IfOk, refl, sym, ap, subst, arith}
 use Rattle.std.proofs.KnownBytes.{Appends-trans}
 use Rattle.std.specs.Io.KnownBytes.{Appends}
 use Rattle.tdf_dynamic.specs.declared.first.First.{First}
@@ -47,7 +47,7 @@ module _ (kind : TraceKind) (model : PureTree) (flat : Flat) (firsts : List Firs
   about = model_about kind flat
 
   abbrev start : World SideOf
-  start = start_world model flat firsts turns
+  start = start_world model flat firsts [] turns
 
   abbrev end : ℕ
   end = end_from model flat start stop

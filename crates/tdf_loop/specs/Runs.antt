@@ -1,6 +1,6 @@
 -- A whole run: what a model has so that it can run, what the run writes, and what it leaves.
 -- Source: own.
-use Rattle.std.specs.Prelude.{◌≡◌, ℕ, List, length}
+use Rattle.std.specs.Prelude.{◌≡◌, ℕ, List, [], length}
 use Rattle.tdf_dynamic.specs.declared.first.First.{First}
 use Rattle.tdf_engine.specs.InstantLaws.{IsModelOf}
 use Rattle.tdf_engine.specs.Making.{HaveNoChanges, HavePlans}
@@ -38,7 +38,7 @@ model_about kind flat = about_of kind flat.resolution (variables_of flat.tables)
 -- the text of its trace
 abbrev pub trace_of : TraceKind → PureTree → Flat → List First → (stop turns : ℕ) → List ℕ
 trace_of kind model flat firsts stop turns = run_trace (writing_of (model_about kind flat)) model
-    flat (rules_of model flat) (start_world model flat firsts turns) stop
+    flat (rules_of model flat) (start_world model flat firsts [] turns) stop
 
 -- where it reached its stop, its clusters and its event side are those of the history then
 pub record IsLeft (model : PureTree) (flat : Flat) (firsts : List First) (stop turns : ℕ)

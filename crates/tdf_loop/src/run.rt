@@ -16,7 +16,7 @@ pub struct Ran {
 }
 
 ghost use Rattle.std.specs.Io.KnownBytes.{Appends};
-ghost use Rattle.std.specs.Prelude.{◌≡◌, ◌<◌, ◌≤◌, ◌-◌, ◌⊎◌, ℕ, length, IfOk, IsErrOf, OnErr, OnOk};
+ghost use Rattle.std.specs.Prelude.{◌≡◌, ◌<◌, ◌≤◌, ◌-◌, ◌⊎◌, ℕ, [], length, IfOk, IsErrOf, OnErr, OnOk};
 ghost use Rattle.tdf_base.specs.Limits.{time_end};
 ghost use Rattle.tdf_columns.specs.Tracked.{AreSince};
 ghost use Rattle.tdf_engine.specs.InstantLaws.{IsModelOf};
@@ -71,7 +71,7 @@ fn opened<O: Sink>(
     requires can { CanRun flat.now firsts.items }
     ensures can { IfOk result (CanGoOn flat.now) }
     ensures runs { (model : PureTree) → IsModelOf model flat.now → IfOk result (λ run.
-        IsRunningAt model flat.now (start_world model flat.now firsts.items turns) run) }
+        IsRunningAt model flat.now (start_world model flat.now firsts.items [] turns) run) }
     ensures from { IfOk result (λ run. run.from ≡ 0) }
     ensures upto { IfOk result (λ run. run.shown.trace.rows.upto ≡ 0) }
     ensures stage { IfOk result (λ run. run.shown.trace.stage ≡ Open) }

@@ -1,11 +1,12 @@
 -- The texts of the first plans, one by one.
-use Rattle.std.proofs.Common.{◌≡◌, ◌∙◌, ℕ, zero, suc, ◌+◌, ◌<◌, List, [], ◌∷◌, ◌++◌, Option, Some, None, length, slice_get, refl, sym, ap, subst, arith}
+use Rattle.std.proofs.Common.{◌≡◌, ◌∙◌, ℕ, zero, suc, ◌+◌, ◌<◌, List, [], ◌∷◌, ◌++◌, Option, Some, None, length, map, slice_get, refl, sym, ap, subst, arith}
 use Rattle.std.proofs.Math.ListN.{get_or}
 use Rattle.std.proofs.lemmas.List.{length-map}
 use Rattle.std.proofs.lemmas.List.FromFn.{length-enumerate_from}
 use Rattle.std.proofs.lemmas.Option.{get_or_from_slice_get, slice_get-map}
 use Rattle.std.specs.List.{enumerate_from, flat_map, range_with_len}
 use Rattle.std.specs.Option.{option_map}
+use Rattle.std.specs.Prelude.{slice_index_or}
 use Rattle.tdf_bind.specs.Flat.{FlatOf}
 use Rattle.tdf_bind.specs.Ranges.{AreInRange}
 use Rattle.tdf_dynamic.specs.Attributes.{AttrsOf}
@@ -14,9 +15,10 @@ use Rattle.tdf_dynamic.specs.Rates.{net_of}
 use Rattle.tdf_dynamic.specs.Text.{first_table}
 use Rattle.tdf_dynamic.specs.declared.first.First.{First}
 use Rattle.tdf_flat.specs.declared.model.Flat.{Flat}
-use Rattle.tdf_flow.proofs.Api.{get_inside, none_some}
+use Rattle.tdf_flow.proofs.Api.{get_inside, none_some, some_same}
 use Rattle.tdf_history.specs.Start.{first_cluster, first_clusters}
 use Rattle.tdf_history.specs.Texts.{first_plans, plan_note}
+use Rattle.tdf_history.specs.World.{Change, ClusterAt}
 use Rattle.tdf_io.specs.Bytes.{pieces_text}
 use Rattle.tdf_notes.proofs.Api.{texts_next}
 use Rattle.tdf_report.specs.Laws.{PlansAreFirst}
@@ -67,26 +69,36 @@ numbered k (y ∷ xs) zero x at = let z : k ≡ k + 0 = omega arith in ap (λ n.
 numbered k (y ∷ xs) (suc j) x at = let n : k + 1 + j ≡ k + suc j = omega arith in numbered (k + 1) xs j x at ∙ ap (λ q. Some (q, x)) n
 
 -- the plans that clusters start with are the first plans
-module _ (model : PureTree) (flat : Flat) (firsts : List First) where
+module _ (model : PureTree) (flat : Flat) (firsts : List First) (ahead : List (List Change)) where
   abbrev note_at : ℕ → List ℕ
-  note_at n = plan_note flat 0 (n + 1) (slice_get (first_clusters model flat firsts) n)
+  note_at n = plan_note flat 0 (n + 1) (slice_get (first_clusters model flat firsts ahead) n)
 
-  many : length (first_clusters model flat firsts) ≡ length firsts
+  many : length (first_clusters model flat firsts ahead) ≡ length firsts
   many = length-map (enumerate_from 0 firsts) _ ∙ length-enumerate_from 0 firsts
 
-  cluster_at : (n : ℕ) (first : First) → slice_get firsts n ≡ Some first → slice_get (first_clusters model flat firsts) n ≡ Some (first_cluster model flat (0 + n + 1) first)
-  cluster_at n first at = slice_get-map (λ (first : ℕ × First). first_cluster model flat (first.0 + 1) first.1) (enumerate_from 0 firsts) n
-      ∙ ap (option_map (λ (first : ℕ × First). first_cluster model flat (first.0 + 1) first.1)) (numbered 0 firsts n first at)
+  cluster_at : (n : ℕ) (first : First) → slice_get firsts n ≡ Some first → slice_get (first_clusters model flat firsts ahead) n ≡ Some (first_cluster model flat (0 + n + 1) first (slice_index_or ahead (0 + n) []))
+  cluster_at n first at = slice_get-map (λ (first : ℕ × First). first_cluster model flat (first.0 + 1) first.1 (slice_index_or ahead first.0 [])) (enumerate_from 0 firsts) n
+      ∙ ap (option_map (λ (first : ℕ × First). first_cluster model flat (first.0 + 1) first.1 (slice_index_or ahead first.0 []))) (numbered 0 firsts n first at)
 
   note_is : (n : ℕ) (first : First) → slice_get firsts n ≡ Some first → note_at (0 + n) ≡ first_text flat (0 + n) first
   note_is n first at = let z : 0 + n ≡ n = omega arith in
-      ap (λ k. plan_note flat 0 (0 + n + 1) (slice_get (first_clusters model flat firsts) k)) z ∙ ap (plan_note flat 0 (0 + n + 1)) (cluster_at n first at)
+      ap (λ k. plan_note flat 0 (0 + n + 1) (slice_get (first_clusters model flat firsts ahead) k)) z ∙ ap (plan_note flat 0 (0 + n + 1)) (cluster_at n first at)
 
-  plans_same : first_plans flat (first_clusters model flat firsts) ≡ plans_of flat firsts
+  plans_same : first_plans flat (first_clusters model flat firsts ahead) ≡ plans_of flat firsts
   plans_same = ap (λ n. flat_map note_at (range_with_len 0 n)) many ∙ ranged (first_text flat) note_at 0 firsts note_is
 
 pub plans_are_first : PlansAreFirst
-plans_are_first model flat firsts = plans_same model flat firsts
+plans_are_first model flat firsts ahead = plans_same model flat firsts ahead
+
+-- where nothing is told, nothing is told of the boundaries of any
+untold_from : (model : PureTree) (flat : Flat) (k : ℕ) (firsts : List First) (n : ℕ) (c : ClusterAt)
+    → slice_get (map (λ (first : ℕ × First). first_cluster model flat (first.0 + 1) first.1 []) (enumerate_from k firsts)) n ≡ Some c → c.ahead ≡ []
+untold_from model flat k [] n c at = absurd cc
+untold_from model flat k (x ∷ xs) zero c at = sym (ap (λ (d : ClusterAt). d.ahead) (some_same _ c at))
+untold_from model flat k (x ∷ xs) (suc n) c at = untold_from model flat (k + 1) xs n c at
+
+pub starts_untold : (model : PureTree) (flat : Flat) (firsts : List First) (n : ℕ) (c : ClusterAt) → slice_get (first_clusters model flat firsts []) n ≡ Some c → c.ahead ≡ []
+starts_untold model flat firsts n c at = untold_from model flat 0 firsts n c at
 
 -- plans of the text can be printed
 edges_same : (tables : FlatOf) (table : List AttrsOf) → length (net_of tables table).edges ≡ length tables.edges

@@ -1,7 +1,7 @@
 -- How the history of a model ended at a stop, and the closing line of its notes.
 -- Source: own.
 use Rattle.std.specs.Fmt.{decimal}
-use Rattle.std.specs.Prelude.{ℕ, ◌-◌, ◌++◌, List, codes}
+use Rattle.std.specs.Prelude.{ℕ, ◌-◌, ◌++◌, List, [], codes}
 use Rattle.tdf_base.specs.Fault.{fault_text}
 use Rattle.tdf_base.specs.declared.faults.Fault.{Fault}
 use Rattle.tdf_base.specs.declared.resolution.Resolution.{Resolution}
@@ -29,7 +29,7 @@ end_of stop turns (Spent time w) = ending.Spent time
 abbrev pub state_of : PureTree → Flat → List First → (stop turns : ℕ)
     → State (World SideOf) RunFault
 state_of model flat firsts stop turns =
-    state_at model flat (rules_of model flat) (start_world model flat firsts turns) stop
+    state_at model flat (rules_of model flat) (start_world model flat firsts [] turns) stop
 
 -- how it ended, and its notes
 abbrev pub run_end : PureTree → Flat → List First → (stop turns : ℕ) → End
@@ -37,7 +37,7 @@ run_end model flat firsts stop turns = end_of stop turns (state_of model flat fi
 
 abbrev pub run_note : PureTree → Flat → List First → (stop turns : ℕ) → List ℕ
 run_note model flat firsts stop turns =
-    run_notes model flat (rules_of model flat) (start_world model flat firsts turns) stop
+    run_notes model flat (rules_of model flat) (start_world model flat firsts [] turns) stop
 
 -- `end TIME turns TAKEN`
 unfoldable pub end_line : Resolution → (time taken : ℕ) → List ℕ

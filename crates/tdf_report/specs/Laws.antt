@@ -6,6 +6,7 @@ use Rattle.tdf_dynamic.specs.declared.first.First.{First}
 use Rattle.tdf_flat.specs.declared.model.Flat.{Flat}
 use Rattle.tdf_history.specs.Start.{first_clusters}
 use Rattle.tdf_history.specs.Texts.{first_plans, notes_to}
+use Rattle.tdf_history.specs.World.{Change}
 use Rattle.tdf_report.specs.Ending.{end_text, run_end, run_note}
 use Rattle.tdf_report.specs.Plans.{plans_of}
 use Rattle.tdf_tree.specs.Pure.{PureTree}
@@ -14,12 +15,13 @@ use Rattle.tdf_world.specs.Rules.{rules_of, start_world}
 -- the plans that clusters start with are the first plans
 abbrev pub PlansAreFirst : Type 0
 PlansAreFirst = (model : PureTree) (flat : Flat) (firsts : List First)
-    → first_plans flat (first_clusters model flat firsts) ≡ plans_of flat firsts
+    → (ahead : List (List Change))
+    → first_plans flat (first_clusters model flat firsts ahead) ≡ plans_of flat firsts
 
 -- no instant has new plans
 abbrev pub PlansStay : Type 0
 PlansStay = (model : PureTree) (flat : Flat) (firsts : List First) (stop turns : ℕ)
-    → notes_to model flat (rules_of model flat) (start_world model flat firsts turns) stop ≡ []
+    → notes_to model flat (rules_of model flat) (start_world model flat firsts [] turns) stop ≡ []
 
 -- so the notes are the first plans, and then how the run ended
 abbrev pub NotesAreWritten : Type 0

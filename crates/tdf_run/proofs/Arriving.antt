@@ -167,6 +167,7 @@ module _ (model : PureTree) (flat : Flat) (number time : ℕ) (values : List Raw
       table_is = ap (λ (z : ClusterOf). z.table) all.moved.rest ∙ at.table_is;
       time_is = ap (λ (z : ClusterOf). z.period) all.moved.rest ∙ at.time_is;
       not_crossed = ap (λ (z : ClusterOf). z.crossed) all.moved.rest ∙ at.not_crossed;
+      none_ahead = at.none_ahead;
       of = of;
       period = period_d all;
       whole = at.whole;

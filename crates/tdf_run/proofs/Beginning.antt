@@ -114,6 +114,16 @@ module _ (edges : List Edge) (pace : ℕ → ℕ) (counts : List ℕ) (entries :
       let a = all_below m (slice_index counts m) entries (λ i x at is. subst (λ k. x.index < slice_index counts k) is (entry_active edges pace counts entries plan i x at)) in
       a ∙ below_all m (slice_index counts m) (omega arith)
 
+-- so they are counted
+pub counted_in : (flat : Flat) (entries : List Entry) (counts : List ℕ) → length counts ≡ length (clusters_of flat.tables) → ((m : ℕ) → count_by (λ (x : Entry). nat_eq x.actor m) entries ≡ slice_index counts m) → counts_in flat.tables entries ≡ counts
+counted_in flat entries counts long each =
+    let l = length-map-range_with_len (λ m. count_by (λ (x : Entry). nat_eq x.actor m) entries) 0 (length flat.tables.actors) in
+    let k = length-map flat.tables.actors cluster_of in
+    ext_get_or 0 (counts_in flat.tables entries) counts (omega (arith, l, k, long)) (λ i inside.
+    get_or_from_slice_get (counts_in flat.tables entries) i (count_by (λ (x : Entry). nat_eq x.actor (0 + i)) entries) 0
+    (get_made_at (λ m. count_by (λ (x : Entry). nat_eq x.actor m) entries) 0 (length flat.tables.actors) i (omega (arith, inside, l)))
+    ∙ (let z : 0 + i ≡ i = omega arith in ap (λ j. count_by (λ (x : Entry). nat_eq x.actor j) entries) z) ∙ each i)
+
 none_read : (n m : ℕ) → slice_index_or (replicate {A = List Raw} n []) m [] ≡ []
 none_read zero m = refl
 none_read (suc n) zero = refl
@@ -126,24 +136,15 @@ module _ (model : PureTree) (flat : Flat) (number : ℕ) (first : First) (c : Cl
   abbrev now : PeriodRecord
   now = period_record flat.tables first.attrs (counts_in flat.tables entries) first.plan.period true
 
-  counted_in : (counts : List ℕ) → length counts ≡ length (clusters_of flat.tables) → ((m : ℕ) → count_by (λ (x : Entry). nat_eq x.actor m) entries ≡ slice_index counts m) → counts_in flat.tables entries ≡ counts
-  counted_in counts long each =
-      let l = length-map-range_with_len (λ m. count_by (λ (x : Entry). nat_eq x.actor m) entries) 0 (length flat.tables.actors) in
-      let k = length-map flat.tables.actors cluster_of in
-      ext_get_or 0 (counts_in flat.tables entries) counts (omega (arith, l, k, long)) (λ i inside.
-      get_or_from_slice_get (counts_in flat.tables entries) i (count_by (λ (x : Entry). nat_eq x.actor (0 + i)) entries) 0
-      (get_made_at (λ m. count_by (λ (x : Entry). nat_eq x.actor m) entries) 0 (length flat.tables.actors) i (omega (arith, inside, l)))
-      ∙ (let z : 0 + i ≡ i = omega arith in ap (λ j. count_by (λ (x : Entry). nat_eq x.actor j) entries) z) ∙ each i)
-
   first_whole : IsWholeRecord flat number now
   first_whole = let r = first_record flat number first limits begun.first_is in
       subst (λ l. IsWholeRecord flat number (period_record flat.tables first.attrs l first.plan.period true))
-      (sym (counted_in r.counts r.record_is.is.timed.counts_are.long (plan_counts (net_of flat.tables first.attrs).edges _ r.counts entries r.plan_is.planned))) r.record_is
+      (sym (counted_in flat entries r.counts r.record_is.is.timed.counts_are.long (plan_counts (net_of flat.tables first.attrs).edges _ r.counts entries r.plan_is.planned))) r.record_is
 
   first_counts : (m : ℕ) → slice_index (counts_in flat.tables entries) m ≡ count_by (λ (x : Entry). nat_eq x.actor m) entries
   first_counts m = let r = first_record flat number first limits begun.first_is in
       let p = plan_counts (net_of flat.tables first.attrs).edges _ r.counts entries r.plan_is.planned in
-      ap (λ l. slice_index l m) (counted_in r.counts r.record_is.is.timed.counts_are.long p) ∙ sym (p m)
+      ap (λ l. slice_index l m) (counted_in flat entries r.counts r.record_is.is.timed.counts_are.long p) ∙ sym (p m)
 
   first_period : IsPeriodOf c 0 now
   first_period = record {
@@ -156,7 +157,7 @@ module _ (model : PureTree) (flat : Flat) (number : ℕ) (first : First) (c : Cl
     table = sym begun.start.table_is;
   }
 
-  first_read : HaveRead flat.tables number (first_cluster model flat number first)
+  first_read : HaveRead flat.tables number (first_cluster model flat number first [])
   first_read = record {
     same = length-replicate (length flat.tables.actors) [];
     samplers = λ m sampler. (let r = ap length (none_read (length flat.tables.actors) m) in let n = done_none entries m in omega (arith, r, n));
@@ -168,7 +169,7 @@ module _ (model : PureTree) (flat : Flat) (number : ℕ) (first : First) (c : Cl
       let at_number = subst (λ j. Stands (cluster_net model flat j (text_start model flat j c.table)) [] now reads 0 (play_of 0 c)) begun.start.number_is here in
       subst (λ t. Stands (cluster_net model flat number (text_start model flat number t)) [] now reads 0 (play_of 0 c)) begun.start.table_is at_number
 
-  pub start_at : IsAt model flat number (first_cluster model flat number first) c
+  pub start_at : IsAt model flat number (first_cluster model flat number first []) c
   start_at = record {
     number_is = begun.start.number_is;
     entries_are = begun.start.entries_are;
@@ -177,6 +178,7 @@ module _ (model : PureTree) (flat : Flat) (number : ℕ) (first : First) (c : Cl
     table_is = begun.start.table_is;
     time_is = begun.start.period_is;
     not_crossed = begun.start.not_crossed;
+    none_ahead = refl;
     of = begun.of;
     period = first_period;
     whole = All-cons (IsWholeRecord flat number) now [] first_whole (All-nil (IsWholeRecord flat number));

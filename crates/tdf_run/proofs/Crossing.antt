@@ -5,7 +5,7 @@ use Rattle.std.proofs.lemmas.List.Elements.{All-append, All-cons, All-nil}
 use Rattle.std.proofs.lemmas.List.Sums.{sum_by-append, sum_by-cons}
 use Rattle.std.proofs.lemmas.Option.{get_or_from_slice_get, slice_get_within}
 use Rattle.std.specs.List.{All, sum_by}
-use Rattle.std.specs.Prelude.{slice_get, slice_index, slice_index_or}
+use Rattle.std.specs.Prelude.{drop, slice_get, slice_index, slice_index_or}
 use Rattle.tdf_exec.specs.Cluster.{ClusterOf, offset_in}
 use Rattle.tdf_exec.specs.Crossing.{at_place}
 use Rattle.tdf_exec.specs.Played.{IsPeriodOf, play_of, turns_from}
@@ -15,7 +15,7 @@ use Rattle.tdf_flow.proofs.Api.{get_high, get_inside, none_some}
 use Rattle.tdf_flow.specs.Net.{count}
 use Rattle.tdf_flow.specs.Stands.{Crosses, Stands}
 use Rattle.tdf_history.specs.Instant.{same_period}
-use Rattle.tdf_history.specs.World.{ClusterAt}
+use Rattle.tdf_history.specs.World.{Change, ClusterAt}
 use Rattle.tdf_run.proofs.Arriving.{done_none}
 use Rattle.tdf_run.proofs.Writing.{enough}
 use Rattle.tdf_run.specs.At.{HaveRead, IsAt}
@@ -130,6 +130,7 @@ module _ (model : PureTree) (flat : Flat) (number time : ℕ) (h : ClusterAt) (c
     table_is = ap (λ (z : ClusterOf). z.table) d_is ∙ at.table_is;
     time_is = ap (λ (z : ClusterOf). z.period) d_is ∙ at.time_is;
     not_crossed = ap (λ (z : ClusterOf). z.crossed) d_is;
+    none_ahead = ap (λ (a : List Change). drop 1 a) at.none_ahead;
     of = passed.of;
     period = next_period;
     whole = All-append (IsWholeRecord flat number) (h.old ++ h.now ∷ []) (next ∷ []) at.whole (All-cons (IsWholeRecord flat number) next [] next_whole (All-nil (IsWholeRecord flat number)));

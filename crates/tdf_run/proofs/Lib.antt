@@ -6,6 +6,7 @@ pub mod Crossing
 pub mod Due
 pub mod Firings
 pub mod Passing
+pub mod Renewing
 pub mod Roomy
 pub mod Sampling
 pub mod Sinking

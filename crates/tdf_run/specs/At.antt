@@ -40,6 +40,8 @@ pub record IsAt (model : PureTree) (flat : Flat) (number : ℕ) (h : ClusterAt) 
   pub table_is : c.table ≡ h.now.info.table
   pub time_is : c.period ≡ h.now.info.period
   pub not_crossed : c.crossed ≡ false
+  -- all that is told of its boundaries was used: it has come to none of those to come
+  pub none_ahead : h.ahead ≡ []
   pub of : IsClusterOf flat c
   pub period : IsPeriodOf c 0 h.now
   pub whole : All (IsWholeRecord flat number) (periods_of h)

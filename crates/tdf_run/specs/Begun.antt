@@ -1,6 +1,6 @@
 -- A cluster in progress at its start is what the history says of it at its start.
 -- Source: own.
-use Rattle.std.specs.Prelude.{◌≡◌, ℕ, ◌+◌, List, Some, length, replicate, slice_get}
+use Rattle.std.specs.Prelude.{◌≡◌, ℕ, ◌+◌, List, [], Some, length, replicate, slice_get}
 use Rattle.tdf_dynamic.specs.First.{IsFirstPlan}
 use Rattle.tdf_dynamic.specs.declared.first.First.{First}
 use Rattle.tdf_exec.specs.Cluster.{ClusterOf}
@@ -27,7 +27,7 @@ abbrev pub StartsAreAt : Type 0
 StartsAreAt = (model : PureTree) (flat : Flat) (number : ℕ) (first : First) (c : ClusterOf)
     → IsFlatOf model flat → IsCheckedOf model flat.checked → AreWithinLimits flat
     → HasBegun flat number first c
-    → IsAt model flat number (first_cluster model flat number first) c
+    → IsAt model flat number (first_cluster model flat number first []) c
 
 -- each cluster was made for its first attributes and plan; cluster n has the number n + 1
 pub record HaveBegun (flat : Flat) (firsts : List First) (cs : List ClusterOf) : Type 0 where
@@ -40,4 +40,4 @@ abbrev pub AllStartsAreAt : Type 0
 AllStartsAreAt = (model : PureTree) (flat : Flat) (firsts : List First) (cs : List ClusterOf)
     → IsFlatOf model flat → IsCheckedOf model flat.checked → AreWithinLimits flat
     → HaveBegun flat firsts cs
-    → AreAt model flat (replicate (length cs) 0) (first_clusters model flat firsts) cs
+    → AreAt model flat (replicate (length cs) 0) (first_clusters model flat firsts []) cs

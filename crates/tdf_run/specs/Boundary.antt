@@ -1,14 +1,21 @@
--- A boundary without changes, as a cluster in progress does it and as the history has it.
+-- A boundary without changes, as a cluster in progress does it and as the history has it; and the
+-- record of a new period.
 -- Source: own.
-use Rattle.std.specs.Prelude.{◌≡◌, ℕ, None, false, true}
+use Rattle.std.specs.Prelude.{◌≡◌, ℕ, List, None, false, true, length, slice_index}
+use Rattle.tdf_changes.specs.Change.{Asks}
+use Rattle.tdf_dynamic.specs.Attributes.{AttrsOf}
 use Rattle.tdf_exec.specs.Cluster.{ClusterOf, next_offset}
 use Rattle.tdf_exec.specs.Crossing.{CrossesFrom, StandsAtNext, at_place}
 use Rattle.tdf_exec.specs.Made.{IsClusterOf}
 use Rattle.tdf_expr.specs.Checked.{IsCheckedOf}
 use Rattle.tdf_flat.specs.declared.model.Flat.{Flat}
+use Rattle.tdf_history.specs.Answers.{IsNewPeriod}
 use Rattle.tdf_history.specs.Instant.{with_same}
 use Rattle.tdf_history.specs.World.{ClusterAt}
 use Rattle.tdf_run.specs.At.{IsAt}
+use Rattle.tdf_schedule.specs.Plan.{done}
+use Rattle.tdf_schedule.specs.declared.entry.Entry.{Entry}
+use Rattle.tdf_streams.specs.Periods.{AreAttributes, IsWholeRecord, period_record}
 use Rattle.tdf_tree.specs.Pure.{PureTree}
 
 -- the period of a cluster is done, it crosses from it, and begins the next with the same plan
@@ -29,3 +36,18 @@ abbrev pub BoundariesKeepAt : Type 0
 BoundariesKeepAt = (model : PureTree) (flat : Flat) (number time : ℕ) (h : ClusterAt)
     → (c crossed d : ClusterOf) → IsCheckedOf model flat.checked → IsAt model flat number h c
     → HasPassedBoundary flat c crossed d → IsAt model flat number (after_boundary time h) d
+
+-- the record of a new period is that of a whole one, and its counts are those of its plan
+pub record IsNewRecord (flat : Flat) (number : ℕ) (table : List AttrsOf) (counts : List ℕ)
+    (period : ℕ) (entries : List Entry) : Type 0 where
+  pub whole : IsWholeRecord flat number
+      (period_record flat.tables table counts period true)
+  pub counts_are : (m : ℕ) → slice_index counts m ≡ done entries (length entries) m
+
+-- so it is where the answer of a boundary is a new plan, and its attributes are of the cluster
+abbrev pub NewPeriodsAreWhole : Type 0
+NewPeriodsAreWhole = (flat : Flat) (number : ℕ) (asks : Asks) (table new : List AttrsOf)
+    → (counts : List ℕ) (period : ℕ) (entries : List Entry) (bounds : List ℕ)
+    → AreAttributes flat number new
+    → IsNewPeriod flat.tables number asks table new counts period entries bounds
+    → IsNewRecord flat number new counts period entries

@@ -106,7 +106,7 @@ sound_can_start formats model flat kind firsts turns clock s sound is limits un 
     since = λ k t kt. (let c = inside k t kt in omega (arith, c, long));
     clusters = inside;
     can = λ k t c kt begun here. (let l = un.signals.are k t kt in
-        let h = get_inside (start_world model flat firsts turns).clusters t.cluster (let i = inside k t kt in let e = at.same in omega (arith, i, e)) in
+        let h = get_inside (start_world model flat firsts [] turns).clusters t.cluster (let i = inside k t kt in let e = at.same in omega (arith, i, e)) in
         can_begin l.port model flat t.cluster t.port l.drives h.0 c t (at.each t.cluster h.0 c h.1 here) refl l.module_is limits clock.time (omega (arith, at_zero)));
     none = λ k t kt begun place u there same. (let e = left_is [] [] u (un.tracking.tracked place u there) in omega (arith, e));
     once = un.signals.once;
@@ -157,7 +157,7 @@ advanced_can_be_taken model flat start w v clock traced values s is limits shown
         let now : g.0.since ≡ clock.time = since_begins model flat clock start w v limits s shown traced adv at later (λ k t kt. (let c = inside k t kt in omega (arith, c, long))) inside k t g.0 kt g.1 begun in
         elim (adv.clusters t.cluster x.1.cluster g.0 x.1.there g.1) [
           | Stayed over since_is old new ↦ absurd (let e = early model flat clock start w v limits s shown traced adv at t.cluster x.1.cluster g.0 x.1.there since_is in omega (arith, e, now, later))
-          | Began over since_is old new ↦ (
+          | Began over since_is old ↦ (
               let l : u.stamps.left ≡ total (shown.spans u.signal) - length (shown.samples u.signal) = left_is (shown.spans u.signal) (shown.samples u.signal) u (shown.holds.tracked place u there) in
               let e : u.signal ≡ x.0.port.signal = same ∙ x.0.signal_is in
               let p : total (shown.spans u.signal) ≡ sum_by (positions x.0.port) (periods_of x.1.cluster) = ap (λ k. total (shown.spans k)) e ∙ ap total x.1.spans_are ∙ spans_total x.0.port 0 (periods_of x.1.cluster) in

@@ -83,6 +83,28 @@ module _ (port : PortRow) where
     pub chained_whole : AreWithinLimits flat → (ps : List PeriodRecord) → All (IsWholeRecord flat (n + 1)) ps → AreChained 0 (spans_from port 0 ps)
     chained_whole limits ps all = chained flat limits (n + 1) number of_cluster ps all
 
+    -- a whole period takes some time
+    steps_of : AreWithinLimits flat → (p : PeriodRecord) → IsWholeRecord flat (n + 1) p → (0 < step_in port p) × (positions port p * step_in port p ≡ p.info.period)
+    steps_of limits p whole = steps_whole flat (n + 1) number port p limits of_cluster whole.is.timed
+
+    positions_some : AreWithinLimits flat → (p : PeriodRecord) → IsWholeRecord flat (n + 1) p → (k : ℕ) → k ≡ positions port p → 0 < k
+    positions_some limits p whole zero none = absurd (let s = steps_of limits p whole in let w : 0 < p.info.period / 0 = subst (λ k. 0 < p.info.period / k) (sym none) s.0 in omega (arith, w))
+    positions_some limits p whole (suc k) is = omega arith
+
+    takes_some : AreWithinLimits flat → (p : PeriodRecord) → IsWholeRecord flat (n + 1) p → 0 < p.info.period
+    takes_some limits p whole =
+        let s = steps_of limits p whole in
+        let l : positions port p ≤ positions port p * step_in port p = least (positions port p) (step_in port p) s.0 in
+        let m = positions_some limits p whole (positions port p) refl in
+        let e = s.1 in omega (arith, l, m, e)
+
+    -- so does the one before that of a cluster in progress
+    pub last_takes_some : AreWithinLimits flat → (h g : ClusterAt) → All (IsWholeRecord flat (n + 1)) (periods_of g) → g.old ≡ periods_of h → 0 < h.now.info.period
+    last_takes_some limits h g whole old =
+        takes_some limits h.now (all_at (IsWholeRecord flat (n + 1)) (periods_of g) (length h.old) h.now whole
+        (ap (λ l. slice_get (l ++ g.now ∷ []) (length h.old)) old
+        ∙ get_low (periods_of h) (g.now ∷ []) (length h.old) (slice_get_within (periods_of h) (length h.old) h.now (get_last h.old h.now)) ∙ get_last h.old h.now))
+
     -- what a cluster in progress says of the period
     module _ (h : ClusterAt) (c : ClusterOf) (t : TracedSignal) (is : IsAt model flat (n + 1) h c) (port_is : t.port ≡ number) (module_is : t.«module» ≡ port.«module») where
       now_whole : IsWholeRecord flat (n + 1) h.now
@@ -97,25 +119,10 @@ module _ (port : PortRow) where
       pub span_is : (time : ℕ) → span_in flat.tables time c t ≡ span_of time (step_in port h.now) (positions port h.now)
       span_is time = ap (λ k. span_of time (c.period / k) k) positions_are ∙ ap (λ p. span_of time (p / positions port h.now) (positions port h.now)) is.time_is
 
-      steps : AreWithinLimits flat → (0 < step_in port h.now) × (positions port h.now * step_in port h.now ≡ h.now.info.period)
-      steps limits = steps_whole flat (n + 1) number port h.now limits of_cluster now_whole.is.timed
-
-      some_positions : AreWithinLimits flat → (k : ℕ) → k ≡ positions port h.now → 0 < k
-      some_positions limits zero none = absurd (let s = steps limits in let w : 0 < h.now.info.period / 0 = subst (λ k. 0 < h.now.info.period / k) (sym none) s.0 in omega (arith, w))
-      some_positions limits (suc k) is = omega arith
-
-      -- the period takes some time
-      pub takes_some : AreWithinLimits flat → 0 < h.now.info.period
-      takes_some limits =
-          let s = steps limits in
-          let l : positions port h.now ≤ positions port h.now * step_in port h.now = least (positions port h.now) (step_in port h.now) s.0 in
-          let p = some_positions limits (positions port h.now) refl in
-          let e = s.1 in omega (arith, l, p, e)
-
       -- the period can begin where its end is a time of 64 bits
       pub can_begin : AreWithinLimits flat → (time : ℕ) → time < time_end → CanBegin flat time c t
       can_begin limits time early =
-          let s = steps limits in
+          let s = steps_of limits h.now now_whole in
           let short : h.now.info.period < time_end = now_whole.is.timed.period_is.short in
           let p : c.period ≡ h.now.info.period = is.time_is in
           let q : positions_in flat.tables c t ≡ positions port h.now = positions_are in
@@ -124,7 +131,7 @@ module _ (port : PortRow) where
           record {
             of = is.of;
             port = subst (λ m. m < length flat.tables.ports) (sym port_is) (slice_get_within flat.tables.ports number port drives.traced.there);
-            some = subst (λ k. 0 < k) (sym q) (some_positions limits (positions port h.now) refl);
+            some = subst (λ k. 0 < k) (sym q) (positions_some limits h.now now_whole (positions port h.now) refl);
             few = omega (arith, q, l, e, short);
             short = omega (arith, p, short, early);
           }

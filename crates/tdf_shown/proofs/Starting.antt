@@ -48,14 +48,14 @@ use Rattle.tdf_wiring.specs.declared.traces.TraceRow.{TraceRow}
 use Rattle.tdf_world.specs.Rules.{rules_of, start_world}
 
 -- a cluster at the start
-first_from : (model : PureTree) (flat : Flat) (k : ℕ) (firsts : List First) (n : ℕ) (h : ClusterAt) → slice_get (map (λ (first : ℕ × First). first_cluster model flat (first.0 + 1) first.1) (enumerate_from k firsts)) n ≡ Some h
-    → (first : First) × (h ≡ first_cluster model flat (k + n + 1) first)
+first_from : (model : PureTree) (flat : Flat) (k : ℕ) (firsts : List First) (n : ℕ) (h : ClusterAt) → slice_get (map (λ (first : ℕ × First). first_cluster model flat (first.0 + 1) first.1 []) (enumerate_from k firsts)) n ≡ Some h
+    → (first : First) × (h ≡ first_cluster model flat (k + n + 1) first [])
 first_from model flat k [] n h at = none_some h at
-first_from model flat k (x ∷ xs) zero h at = (x, sym (some_same _ h at) ∙ (let z : k + 1 ≡ k + 0 + 1 = omega arith in ap (λ m. first_cluster model flat m x) z))
-first_from model flat k (x ∷ xs) (suc n) h at = let r = first_from model flat (k + 1) xs n h at in (r.0, r.1 ∙ (let z : k + 1 + n + 1 ≡ k + suc n + 1 = omega arith in ap (λ m. first_cluster model flat m r.0) z))
+first_from model flat k (x ∷ xs) zero h at = (x, sym (some_same _ h at) ∙ (let z : k + 1 ≡ k + 0 + 1 = omega arith in ap (λ m. first_cluster model flat m x []) z))
+first_from model flat k (x ∷ xs) (suc n) h at = let r = first_from model flat (k + 1) xs n h at in (r.0, r.1 ∙ (let z : k + 1 + n + 1 ≡ k + suc n + 1 = omega arith in ap (λ m. first_cluster model flat m r.0 []) z))
 
-pub first_at : (model : PureTree) (flat : Flat) (firsts : List First) (n : ℕ) (h : ClusterAt) → slice_get (first_clusters model flat firsts) n ≡ Some h → (first : First) × (h ≡ first_cluster model flat (n + 1) first)
-first_at model flat firsts n h at = let r = first_from model flat 0 firsts n h at in (r.0, r.1 ∙ (let z : 0 + n + 1 ≡ n + 1 = omega arith in ap (λ m. first_cluster model flat m r.0) z))
+pub first_at : (model : PureTree) (flat : Flat) (firsts : List First) (n : ℕ) (h : ClusterAt) → slice_get (first_clusters model flat firsts []) n ≡ Some h → (first : First) × (h ≡ first_cluster model flat (n + 1) first [])
+first_at model flat firsts n h at = let r = first_from model flat 0 firsts n h at in (r.0, r.1 ∙ (let z : 0 + n + 1 ≡ n + 1 = omega arith in ap (λ m. first_cluster model flat m r.0 []) z))
 
 -- where each item gives something, places stay
 given_few : {A B : Type 0} (f : A → Option B) (xs : List A) → length (filter_map f xs) ≤ length xs
@@ -79,7 +79,7 @@ given_at {A} {B} f (z ∷ xs) i x long at = go (f z) refl long i at (given_few f
 
 module _ (model : PureTree) (flat : Flat) (firsts : List First) (turns : ℕ) (long : length (variables_of flat.tables) ≡ length flat.tables.traces) where
   abbrev start : World SideOf
-  start = start_world model flat firsts turns
+  start = start_world model flat firsts [] turns
 
   pub values_start : values_before model flat start 0 ≡ start_values flat.tables
   unfolding history
@@ -142,7 +142,7 @@ module _ (flat : Flat) (clock : ClockAt) (old : Shown) (t1 t2 : TrackingOf) (r1 
   }
     where
       start : World SideOf
-      start = start_world model flat firsts turns
+      start = start_world model flat firsts [] turns
 
       limits : AreWithinLimits flat
       limits = can.begin.limits
@@ -156,7 +156,7 @@ module _ (flat : Flat) (clock : ClockAt) (old : Shown) (t1 t2 : TrackingOf) (r1 
           no_sample column row there plain time = ap (event_before model flat start 0 time) there ∙ ap (λ (p : Bool). if p && nat_lt time 0 then event_cell model flat (rules_of model flat) start row.signal time else None) plain
 
       -- the cluster of a listed signal
-      cluster_of_signal : (k : ℕ) (t : TracedSignal) → slice_get old.signals.items k ≡ Some t → (h : ClusterAt) × (first : First) × (slice_get start.clusters t.cluster ≡ Some h) × (h ≡ first_cluster model flat (t.cluster + 1) first)
+      cluster_of_signal : (k : ℕ) (t : TracedSignal) → slice_get old.signals.items k ≡ Some t → (h : ClusterAt) × (first : First) × (slice_get start.clusters t.cluster ≡ Some h) × (h ≡ first_cluster model flat (t.cluster + 1) first [])
       cluster_of_signal k t there =
           let h = get_inside start.clusters t.cluster (let c = can.begin.clusters k t there in let s = at.same in omega (arith, c, s)) in
           let f = first_at model flat firsts t.cluster h.0 h.1 in (h.0, f.0, h.1, f.1)
@@ -170,7 +170,7 @@ module _ (flat : Flat) (clock : ClockAt) (old : Shown) (t1 t2 : TrackingOf) (r1 
           let z : c.0.since ≡ 0 = ap (λ (x : ClusterAt). x.since) c.3 in
           eq-eqb (slice_index clock.since t.cluster) clock.time (omega (arith, i, e, z, zero_time))
 
-      spans_of : (h : ClusterAt) (first : First) (m : ℕ) (port : PortRow) → h ≡ first_cluster model flat m first → spans_from port 0 (periods_of h) ≡ span_of 0 (step_in port h.now) (positions port h.now) ∷ []
+      spans_of : (h : ClusterAt) (first : First) (m : ℕ) (port : PortRow) → h ≡ first_cluster model flat m first [] → spans_from port 0 (periods_of h) ≡ span_of 0 (step_in port h.now) (positions port h.now) ∷ []
       spans_of h first m port is = ap (λ l. spans_from port 0 (l ++ h.now ∷ [])) (ap (λ (x : ClusterAt). x.old) is)
 
       next : AreNext flat.tables clock old.signals.items (λ signal. [])
@@ -194,7 +194,7 @@ module _ (flat : Flat) (clock : ClockAt) (old : Shown) (t1 t2 : TrackingOf) (r1 
           let c = get_inside clock.clusters f.it.cluster (can.begin.clusters f.place f.it f.there) in
           let i : IsAt model flat (n + 1) k.0 c.0 = subst (λ m. IsAt model flat (m + 1) k.0 c.0) f.cluster (at.each f.it.cluster k.0 c.0 k.2 c.1) in
           let below = slice_get_within old.signals.items f.place f.it f.there in
-          let first : k.0 ≡ first_cluster model flat (n + 1) k.1 = k.3 ∙ ap (λ m. first_cluster model flat (m + 1) k.1) f.cluster in
+          let first : k.0 ≡ first_cluster model flat (n + 1) k.1 [] = k.3 ∙ ap (λ m. first_cluster model flat (m + 1) k.1 []) f.cluster in
           record {
             cluster = k.0;
             there = ap (slice_get start.clusters) (sym f.cluster) ∙ k.2;

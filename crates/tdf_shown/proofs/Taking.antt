@@ -11,7 +11,7 @@ use Rattle.tdf_fixed.specs.declared.raw.Raw.{Raw}
 use Rattle.tdf_flat.specs.declared.model.Flat.{Flat}
 use Rattle.tdf_flow.proofs.Api.{get_inside, some_same}
 use Rattle.tdf_history.specs.Cells.{spans_from}
-use Rattle.tdf_history.specs.Instant.{is_over, periods_of, same_period}
+use Rattle.tdf_history.specs.Instant.{is_over, periods_of}
 use Rattle.tdf_history.specs.World.{ClusterAt, World}
 use Rattle.tdf_limits.specs.Limits.{AreWithinLimits}
 use Rattle.tdf_rows.specs.Positions.{AreChained, Span, span_of}
@@ -20,7 +20,7 @@ use Rattle.tdf_run.specs.Pass.{AreAt}
 use Rattle.tdf_shown.proofs.Beginning.{begun_since}
 use Rattle.tdf_shown.proofs.Listing.{IsFound, found, moved, samples_same}
 use Rattle.tdf_shown.proofs.Noting.{columns_shown, events_agree, holds_cells}
-use Rattle.tdf_shown.proofs.Spans.{chained_whole, over_time, span_is, spans_push, takes_some, times_push}
+use Rattle.tdf_shown.proofs.Spans.{chained_whole, last_takes_some, over_time, span_is, spans_push, times_push}
 use Rattle.tdf_shown.specs.Advanced.{Began, HasAdvanced, Stayed}
 use Rattle.tdf_shown.specs.Calls.{CanTake, ShowsInstant}
 use Rattle.tdf_shown.specs.Events.{AreEventColumns, events_before, values_before}
@@ -68,7 +68,7 @@ module _ (model : PureTree) (flat : Flat) (clock : ClockAt) (start w v : World S
     where
       by_advance : (h : ClusterAt) × (slice_get w.clusters n ≡ Some h) → HasBegunBefore (clock.time + 1) g
       by_advance x = elim (adv.clusters n x.0 g x.1 there) [
-        | Began over since old now ↦ record {
+        | Began over since old ↦ record {
           early = omega (arith, since);
           after_old = (
               let o = over_time x.0 clock.time over in
@@ -102,12 +102,11 @@ module _ (model : PureTree) (flat : Flat) (clock : ClockAt) (start w v : World S
     stayed_spans old now = was_spans ∙ ap (spans_from port 0) (sym (stayed_periods h g old now))
 
     -- none begins at the start
-    pub none_at_zero : clock.time ≡ 0 → is_over clock.time h ≡ true → g.now ≡ same_period h.now.info.table h.now → ⊥
-    none_at_zero at_zero over now = absurd (
+    pub none_at_zero : clock.time ≡ 0 → is_over clock.time h ≡ true → g.old ≡ periods_of h → ⊥
+    none_at_zero at_zero over old = absurd (
         let o = over_time h clock.time over in
-        let some = takes_some port model flat n number drives g c t is port_is module_is limits in
-        let e : g.now.info.period ≡ h.now.info.period = ap (λ p. p.info.period) now in
-        omega (arith, at_zero, o, some, e))
+        let some = last_takes_some port model flat n number drives limits h g is.whole old in
+        omega (arith, at_zero, o, some))
 
   since_at : (n x : ℕ) (g : ClusterAt) → n < length clock.since → slice_get v.clusters n ≡ Some g → slice_index clock.since n ≡ g.since
   since_at n x g inside there =
@@ -134,7 +133,7 @@ module _ (model : PureTree) (flat : Flat) (clock : ClockAt) (start w v : World S
         let i : IsAt model flat (t.cluster + 1) g.0 c = at.each t.cluster g.0 c g.1 here in
         let now : g.0.since ≡ clock.time = since_begins j t g.0 there g.1 is in
         elim (adv.clusters t.cluster h.0 g.0 h.1 g.1) [
-          | Began over since old new ↦ subst (λ m. AreChained 0 (shown.spans m ++ span_in flat.tables clock.time c t ∷ [])) (sym l.signal_is)
+          | Began over since old ↦ subst (λ m. AreChained 0 (shown.spans m ++ span_in flat.tables clock.time c t ∷ [])) (sym l.signal_is)
               (subst (AreChained 0) (sym (began_spans t.cluster t.port l.port l.drives h.0 g.0 c t h.1 g.1 i refl l.module_is since old))
               (chained_whole l.port model flat t.cluster t.port l.drives limits (periods_of g.0) i.whole))
           | Stayed over since old new ↦ absurd (let e = early t.cluster h.0 g.0 h.1 since in omega (arith, e, now, later))
@@ -175,7 +174,7 @@ module _ (model : PureTree) (flat : Flat) (clock : ClockAt) (start w v : World S
               let i : IsAt model flat (n + 1) g c.0 = at.each n g c.0 there c.1 in
               let here : slice_get clock.clusters f.it.cluster ≡ Some c.0 = ap (slice_get clock.clusters) f.cluster ∙ c.1 in
               elim (adv.clusters n h.0 g h.1 there) [
-                | Began over since old new ↦ ap b.now (sym f.signal)
+                | Began over since old ↦ ap b.now (sym f.signal)
                     ∙ b.have.begun f.place f.it c.0 (slice_get_within s.signals.items f.place f.it f.there) f.there (is_among n number port f g there since) here
                     ∙ ap (λ m. shown.spans m ++ span_in flat.tables clock.time c.0 f.it ∷ []) f.signal
                     ∙ began_spans n number port drives h.0 g c.0 f.it h.1 there i f.port_is f.module_is since old
@@ -186,7 +185,7 @@ module _ (model : PureTree) (flat : Flat) (clock : ClockAt) (start w v : World S
           since_now : (n number : ℕ) (port : PortRow) (g : ClusterAt) (place : ℕ) (u : TrackedOf) → DrivesTraced flat n number port → slice_get v.clusters n ≡ Some g → slice_get t1.list place ≡ Some u → u.signal ≡ port.signal
               → IsFound s.signals.items n number port → (h : ClusterAt) × (slice_get w.clusters n ≡ Some h) → u.since ≡ g.since
           since_now n number port g place u drives there here same f h = elim (adv.clusters n h.0 g h.1 there) [
-            | Began over since old new ↦ began.started.here place u here (record {
+            | Began over since old ↦ began.started.here place u here (record {
               place = f.place;
               it = f.it;
               below = slice_get_within s.signals.items f.place f.it f.there;
@@ -218,7 +217,7 @@ module _ (model : PureTree) (flat : Flat) (clock : ClockAt) (start w v : World S
           let c = get_inside clock.clusters n (let i = slice_get_within v.clusters n g there in let e = at.same in omega (arith, i, e)) in
           let i : IsAt model flat (n + 1) g c.0 = at.each n g c.0 there c.1 in
           elim (adv.clusters n h.0 g h.1 there) [
-            | Began over since old new ↦ absurd (none_at_zero n number port drives h.0 g c.0 f.it h.1 there i f.port_is f.module_is at_zero over new)
+            | Began over since old ↦ absurd (none_at_zero n number port drives h.0 g c.0 f.it h.1 there i f.port_is f.module_is at_zero over old)
             | Stayed over since old new ↦ stayed_spans n number port drives h.0 g c.0 f.it h.1 there i f.port_is f.module_is old new
           ]
 
@@ -228,7 +227,7 @@ module _ (model : PureTree) (flat : Flat) (clock : ClockAt) (start w v : World S
           let c = get_inside clock.clusters n (let i = slice_get_within v.clusters n g there in let e = at.same in omega (arith, i, e)) in
           let i : IsAt model flat (n + 1) g c.0 = at.each n g c.0 there c.1 in
           elim (adv.clusters n h.0 g h.1 there) [
-            | Began over since old new ↦ absurd (none_at_zero n number port drives h.0 g c.0 f.it h.1 there i f.port_is f.module_is at_zero over new)
+            | Began over since old ↦ absurd (none_at_zero n number port drives h.0 g c.0 f.it h.1 there i f.port_is f.module_is at_zero over old)
             | Stayed over since old new ↦ (let x = shown.each n number port drives in x.since place u here same ∙ ap (λ (k : ClusterAt). k.since) (some_same x.cluster h.0 (sym x.there ∙ h.1)) ∙ sym since)
           ]
 

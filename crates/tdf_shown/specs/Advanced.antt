@@ -5,17 +5,16 @@ use Rattle.tdf_convert.specs.declared.outputs.Traced.{Traced}
 use Rattle.tdf_events.specs.Side.{SideOf}
 use Rattle.tdf_fixed.specs.declared.raw.Raw.{Raw}
 use Rattle.tdf_flat.specs.declared.model.Flat.{Flat}
-use Rattle.tdf_history.specs.Instant.{is_over, periods_of, same_period}
+use Rattle.tdf_history.specs.Instant.{is_over, periods_of}
 use Rattle.tdf_history.specs.World.{ClusterAt, World}
 use Rattle.tdf_traced.specs.Samples.{AreSamplesOf, IsTracedPort, samples_of}
 use Rattle.tdf_tree.specs.Pure.{PureTree}
 use Rattle.tdf_wiring.specs.declared.modules.PortRow.{PortRow}
 
--- a cluster before and after an instant: the period that was over made way for the next one, with
--- the same attributes, or it goes on
+-- a cluster before and after an instant: the period that was over made way for the next one, of
+-- whatever rates and steps, or it goes on
 pub data Advances (time : ℕ) (h g : ClusterAt) : Type 0 where
-  Began : is_over time h ≡ true → g.since ≡ time → g.old ≡ periods_of h
-      → g.now ≡ same_period h.now.info.table h.now → Advances time h g
+  Began : is_over time h ≡ true → g.since ≡ time → g.old ≡ periods_of h → Advances time h g
   Stayed : is_over time h ≡ false → g.since ≡ h.since → g.old ≡ h.old → g.now ≡ h.now
       → Advances time h g
 

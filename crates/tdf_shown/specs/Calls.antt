@@ -1,6 +1,7 @@
 -- What the calls ask for, and what they do to what is shown.
 -- Source: own.
-use Rattle.std.specs.Prelude.{◌≡◌, ◌<◌, ◌≤◌, ◌+◌, ℕ, List, All, Some, length, map, slice_get}
+use Rattle.std.specs.Prelude.{◌≡◌, ◌<◌, ◌≤◌, ◌+◌, ℕ, List, [], All, Some, length, map}
+use Rattle.std.specs.Prelude.{slice_get}
 use Rattle.tdf_base.specs.Limits.{most_traces}
 use Rattle.tdf_bind.specs.Flat.{FlatOf}
 use Rattle.tdf_columns.specs.Calls.{IsFresh, StandBelow}
@@ -64,9 +65,9 @@ abbrev pub StartsShowing : Flat → ClockAt → (old new : Shown) → Type 0
 StartsShowing flat clock old new =
     (model : PureTree) (kind : TraceKind) (firsts : List First) (turns : ℕ)
     → IsUnshown kind flat old
-    → AreAt model flat clock.since (start_world model flat firsts turns).clusters clock.clusters
-    → IsShown model flat (start_world model flat firsts turns) 0
-    (start_world model flat firsts turns) new
+    → AreAt model flat clock.since (start_world model flat firsts [] turns).clusters clock.clusters
+    → IsShown model flat (start_world model flat firsts [] turns) 0
+    (start_world model flat firsts [] turns) new
 
 -- what an instant gave can be taken: the periods that begin, the samples, and the values of the
 -- event signals

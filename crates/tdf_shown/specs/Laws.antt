@@ -1,6 +1,7 @@
 -- What holds of what is shown.
 -- Source: own.
-use Rattle.std.specs.Prelude.{◌≡◌, ◌<◌, ◌≤◌, ℕ, List, All, Some, length, slice_get, slice_index}
+use Rattle.std.specs.Prelude.{◌≡◌, ◌<◌, ◌≤◌, ℕ, List, [], All, Some, length, slice_get}
+use Rattle.std.specs.Prelude.{slice_index}
 use Rattle.tdf_base.specs.Limits.{time_end}
 use Rattle.tdf_columns.specs.Tracked.{AreSince}
 use Rattle.tdf_convert.specs.declared.outputs.Traced.{Traced}
@@ -42,7 +43,7 @@ abbrev pub SoundCanStart : Type 0
 SoundCanStart = (model : PureTree) (flat : Flat) (kind : TraceKind) (firsts : List First)
     → (turns : ℕ) (clock : ClockAt) (s : Shown) → IsSoundModel model → IsFlatOf model flat
     → AreWithinLimits flat → IsUnshown kind flat s → clock.time ≡ 0
-    → AreAt model flat clock.since (start_world model flat firsts turns).clusters clock.clusters
+    → AreAt model flat clock.since (start_world model flat firsts [] turns).clusters clock.clusters
     → length clock.since ≡ length clock.clusters → AreAllThere flat (length clock.clusters)
     → CanStart flat clock s
 

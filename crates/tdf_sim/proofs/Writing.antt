@@ -1,5 +1,5 @@
 -- What a run writes, told for the answer of a run, and for two models of one tree.
-use Rattle.std.proofs.Common.{◌≡◌, ◌∙◌, ap}
+use Rattle.std.proofs.Common.{◌≡◌, ◌∙◌, [], ap}
 use Rattle.tdf_alike.specs.Laws.{RunsWriteTheSame}
 use Rattle.tdf_alike.specs.Laws.{AreAlike as SayTheSame}
 use Rattle.tdf_base.specs.declared.resolution.Resolution.{Resolution}
@@ -38,7 +38,7 @@ module _ (models : ModelsAreAlike) (writes : RunsWriteTheSame) where
   runs_alike tree one other kept a b kind stop turns =
       let say = say_the_same tree one other kept a b in
       let runs = writes tree one.flat other.flat one.firsts.items other.firsts.items say (writing_of (model_about kind one.flat)) stop turns in record {
-        trace = runs.trace ∙ ap (λ (about : AboutSeen). run_trace (writing_of about) tree other.flat (rules_of tree other.flat) (start_world tree other.flat other.firsts.items turns) stop)
+        trace = runs.trace ∙ ap (λ (about : AboutSeen). run_trace (writing_of about) tree other.flat (rules_of tree other.flat) (start_world tree other.flat other.firsts.items [] turns) stop)
             (same_about kind one.flat other.flat say.tables say.unit);
         notes = runs.notes;
         end = runs.end;

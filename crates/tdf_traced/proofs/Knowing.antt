@@ -1,31 +1,34 @@
 -- What is known of activations that are done, and of samples, stays known.
 use Rattle.std.proofs.Common.{◌≡◌, ◌≢◌, ◌∙◌, ℕ, zero, suc, ◌+◌, ◌-◌, ◌/◌, ◌%◌, ◌<◌, ◌≤◌, Bool, true, false, List, [], ◌∷◌, ◌++◌, Option, Some, None, length, take, nat_eq, if◌then◌else◌, option_map, refl, sym, ap, subst, inl, inr, arith, append-nil}
 use Rattle.std.proofs.lemmas.Bool.{cases_lt, ne_eqb}
+use Rattle.std.proofs.lemmas.List.{length-map}
 use Rattle.std.proofs.lemmas.List.Sums.{sum_by-cons}
+use Rattle.std.proofs.lemmas.Option.{slice_get_within}
 use Rattle.std.specs.List.{count_by, sum_by}
 use Rattle.std.specs.Option.{option_and_then}
 use Rattle.std.specs.Prelude.{cond, nat_lt, slice_get, slice_index, ℤ}
 use Rattle.tdf_bind.specs.Flat.{FlatOf}
 use Rattle.tdf_exec.specs.Cluster.{ClusterOf}
-use Rattle.tdf_exec.specs.Played.{play_of}
+use Rattle.tdf_exec.specs.Played.{cells_of, play_of}
 use Rattle.tdf_fixed.specs.declared.raw.Raw.{Raw}
 use Rattle.tdf_flat.specs.declared.model.Flat.{Flat}
-use Rattle.tdf_flow.proofs.Api.{find_more, known_more, none_some}
+use Rattle.tdf_flow.proofs.Api.{find_more, known_more, none_some, state_more}
 use Rattle.tdf_flow.specs.Grounds.{firings}
-use Rattle.tdf_flow.specs.Net.{Net, Past, Period, Turn}
+use Rattle.tdf_flow.specs.Net.{Net, Past, Period, Turn, count}
 use Rattle.tdf_flow.specs.Stands.{KeepsReads, Less, run_of}
-use Rattle.tdf_flow.specs.Streams.{Spot, find, known}
+use Rattle.tdf_flow.specs.Streams.{Spot, find, known, spot, state_before}
+use Rattle.tdf_history.specs.Answers.{last_cells}
 use Rattle.tdf_history.specs.Instant.{activations, periods_of, run_in}
 use Rattle.tdf_history.specs.World.{ClusterAt}
 use Rattle.tdf_run.proofs.Api.{done_none, enough, entry_in, in_plan, turns_here}
 use Rattle.tdf_run.specs.At.{IsAt}
 use Rattle.tdf_schedule.specs.Plan.{done}
 use Rattle.tdf_schedule.specs.declared.entry.Entry.{Entry}
-use Rattle.tdf_streams.specs.Cluster.{cluster_net, initial_sample}
+use Rattle.tdf_streams.specs.Cluster.{cluster_net, initial_sample, is_outside}
 use Rattle.tdf_streams.specs.Laws.{HasValue}
 use Rattle.tdf_streams.specs.Periods.{PeriodInfo, PeriodRecord}
 use Rattle.tdf_streams.specs.Signals.{output_at_spot, outputs_in, port_output, rate_in, signal_sample}
-use Rattle.tdf_traced.specs.Laws.{DoneIsKnown}
+use Rattle.tdf_traced.specs.Laws.{DoneIsKnown, HeldIsKnown}
 use Rattle.tdf_traced.specs.Samples.{IsDoneKnown}
 use Rattle.tdf_tree.specs.Pure.{PureTree}
 use Rattle.tdf_wiring.specs.declared.modules.PortRow.{PortRow}
@@ -103,8 +106,25 @@ module _ (model : PureTree) (flat : Flat) (number : ℕ) (h : ClusterAt) (c : Cl
       let z = at.period.counts m in let n = done_none c.entries m in
       let l = ap (λ es. done es (length es) m) at.entries_are in omega (arith, z, n, l)
 
+  -- what a module holds when the period is done
+  pub held : h.place ≡ length h.entries → (m : ℕ) (cells : List ℤ) → slice_get (play_of 0 c).states m ≡ Some cells → is_outside flat.tables number m ≡ false → last_cells model flat number h m ≡ Some cells
+  held end m cells there own =
+      let inside : m < length flat.tables.actors = (let i = slice_get_within (play_of 0 c).states m cells there in let l = length-map c.runners cells_of in let a = at.of.actors in omega (arith, i, l, a)) in
+      let turns : slice_index (play_of 0 c).turns m ≡ count m h.now = (
+      let z : h.place + 0 ≡ length h.entries = omega (arith, end) in
+      turns_here model flat number h.since [] h c c [] at begun m inside ∙ ap (λ i. done h.entries i m) z ∙ sym (counts_are m)) in
+      let e = enough model flat number h.since [] h c c [] at begun 0 (let w = within in omega (arith, w)) in
+      let less = known_to (cluster_net model flat number h.begun) h.old h.now (run_in h).reads (run_in h).reads (λ i k x there. there) at.steps (firings (periods_of h)) (omega (arith, e)) in
+      state_more (cluster_net model flat number h.begun) (periods_of h) [] (known (cluster_net model flat number h.begun) (run_of h.old h.now (run_in h).reads) at.steps)
+      (known (cluster_net model flat number h.begun) (run_in h) (firings (periods_of h))) less m (spot h.old h.now (count m h.now)) (sum_by (count m) h.old + count m h.now) cells
+      (subst (λ k. state_before (cluster_net model flat number h.begun) (known (cluster_net model flat number h.begun) (run_of h.old h.now (run_in h).reads) at.steps) m (spot h.old h.now k) (sum_by (count m) h.old + k) ≡ Some cells)
+      turns (at.stands.states m cells there own))
+
   pub done_known : IsDoneKnown model flat number h
   done_known = record { values = value; within = within; counts = counts_are }
+
+pub held_is_known : HeldIsKnown
+held_is_known model flat number h c m cells at end there own = held model flat number h c at end m cells there own
 
 pub done_is_known : DoneIsKnown
 done_is_known model flat number h c at = done_known model flat number h c at

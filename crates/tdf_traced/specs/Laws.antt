@@ -1,26 +1,29 @@
 -- What holds of the samples that firings trace.
 -- Source: own.
 use Rattle.std.specs.List.{range_with_len}
-use Rattle.std.specs.Prelude.{◌≡◌, ℕ, List, Some, length, map}
+use Rattle.std.specs.Prelude.{◌≡◌, ℕ, ℤ, false, List, [], Some, length, map, slice_get}
 use Rattle.tdf_convert.specs.declared.outputs.Sent.{Sent}
+use Rattle.tdf_dynamic.specs.Attributes.{AttrsOf}
 use Rattle.tdf_dynamic.specs.declared.first.First.{First}
 use Rattle.tdf_exec.specs.Cluster.{ClusterOf}
+use Rattle.tdf_exec.specs.Played.{play_of}
 use Rattle.tdf_expr.specs.Checked.{IsCheckedOf}
 use Rattle.tdf_fixed.specs.declared.raw.Raw.{Raw}
 use Rattle.tdf_flat.specs.Flat.{IsFlatOf}
 use Rattle.tdf_flat.specs.declared.model.Flat.{Flat}
 use Rattle.tdf_formats.specs.Formats.{IsSoundModel}
+use Rattle.tdf_history.specs.Answers.{last_cells}
 use Rattle.tdf_history.specs.Cells.{port_cell, spans_from}
-use Rattle.tdf_history.specs.Instant.{periods_of}
+use Rattle.tdf_history.specs.Instant.{periods_of, with_new, with_same}
 use Rattle.tdf_history.specs.Start.{first_cluster}
 use Rattle.tdf_history.specs.World.{ClusterAt, Rules, World}
 use Rattle.tdf_limits.specs.Limits.{AreWithinLimits}
 use Rattle.tdf_rows.specs.Positions.{cell_of}
 use Rattle.tdf_run.specs.At.{IsAt}
-use Rattle.tdf_run.specs.Boundary.{after_boundary}
 use Rattle.tdf_run.specs.Firings.{settled_values}
 use Rattle.tdf_run.specs.Pass.{AreAt, AreReady, HavePassed, PassAt, PassesAlong, RunOf}
-use Rattle.tdf_streams.specs.Cluster.{initial_sample}
+use Rattle.tdf_schedule.specs.declared.entry.Entry.{Entry}
+use Rattle.tdf_streams.specs.Cluster.{initial_sample, is_outside}
 use Rattle.tdf_traced.specs.Samples.{AreSamplesOf, HaveTraced, IsDoneKnown}
 use Rattle.tdf_tree.specs.Pure.{PureTree}
 use Rattle.tdf_wiring.specs.declared.modules.PortRow.{PortRow}
@@ -29,15 +32,23 @@ use Rattle.tdf_wiring.specs.declared.modules.PortRow.{PortRow}
 abbrev pub StartsHaveSamples : Type 0
 StartsHaveSamples = (model : PureTree) (flat : Flat) (cluster number : ℕ) (port : PortRow)
     → (first : First)
-    → AreSamplesOf model flat cluster number port (first_cluster model flat cluster first)
+    → AreSamplesOf model flat cluster number port (first_cluster model flat cluster first [])
     (map (initial_sample flat.tables port) (range_with_len 0 port.delay))
 
--- a boundary without changes adds none
-abbrev pub BoundariesAddNone : Type 0
-BoundariesAddNone = (model : PureTree) (flat : Flat) (cluster number time : ℕ) (port : PortRow)
-    → (h : ClusterAt) (c : ClusterOf) (samples : List Raw) → IsAt model flat cluster h c
-    → h.place ≡ length h.entries → AreSamplesOf model flat cluster number port h samples
-    → AreSamplesOf model flat cluster number port (after_boundary time h) samples
+-- a boundary adds none, where the plan stays and where there is a new one
+pub record BoundariesAddNone : Type 0 where
+  pub same : (model : PureTree) (flat : Flat) (cluster number time : ℕ) (port : PortRow)
+      → (h : ClusterAt) (c : ClusterOf) (samples : List Raw) (table : List AttrsOf)
+      → IsAt model flat cluster h c → h.place ≡ length h.entries
+      → AreSamplesOf model flat cluster number port h samples
+      → AreSamplesOf model flat cluster number port (with_same time table h) samples
+  pub new : (model : PureTree) (flat : Flat) (cluster number time : ℕ) (port : PortRow)
+      → (h : ClusterAt) (c : ClusterOf) (samples : List Raw) (table : List AttrsOf)
+      → (counts : List ℕ) (period : ℕ) (entries : List Entry) (bounds : List ℕ)
+      → IsAt model flat cluster h c → h.place ≡ length h.entries
+      → AreSamplesOf model flat cluster number port h samples
+      → AreSamplesOf model flat cluster number port
+      (with_new flat.tables time table counts period entries bounds h) samples
 
 -- the cells of the history are those that these samples give
 abbrev pub CellsAreOfSamples : Type 0
@@ -50,6 +61,13 @@ CellsAreOfSamples = (model : PureTree) (flat : Flat) (cluster number time : ℕ)
 abbrev pub DoneIsKnown : Type 0
 DoneIsKnown = (model : PureTree) (flat : Flat) (cluster : ℕ) (h : ClusterAt) (c : ClusterOf)
     → IsAt model flat cluster h c → IsDoneKnown model flat cluster h
+
+-- so is what each module holds when the period is done, from which its change body begins
+abbrev pub HeldIsKnown : Type 0
+HeldIsKnown = (model : PureTree) (flat : Flat) (cluster : ℕ) (h : ClusterAt) (c : ClusterOf)
+    → (m : ℕ) (cells : List ℤ) → IsAt model flat cluster h c → h.place ≡ length h.entries
+    → slice_get (play_of 0 c).states m ≡ Some cells → is_outside flat.tables cluster m ≡ false
+    → last_cells model flat cluster h m ≡ Some cells
 
 -- what clusters in progress trace in a pass are the samples that the history has then
 abbrev pub PassesTrace : Type 0

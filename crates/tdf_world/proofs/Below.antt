@@ -53,6 +53,7 @@ whole_sum flat number port (p ∷ ps) qs whole =
 pub whole_plan : (model : PureTree) (flat : Flat) (number : ℕ) (c : ClusterAt) → HasDone model flat number c → HasWholePlan c
 whole_plan model flat number c has = record {
   counts = has.counts;
+  ahead = has.ahead;
   whole = (all_at (IsWholeRecord flat number) (c.old ++ c.now ∷ []) (length c.old) c.now has.whole (last_at c.old c.now)).whole;
 }
 

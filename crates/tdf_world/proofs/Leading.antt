@@ -1,17 +1,20 @@
 -- Where an instant goes on, each cluster is to what it was as its steps are, whatever that relation is.
-use Rattle.std.proofs.Common.{◌≡◌, ◌≢◌, ◌⊎◌, ◌∙◌, ℕ, zero, suc, ◌+◌, ◌<◌, Bool, true, false, Option, Some, None, List, [], ◌∷◌, if◌then◌else◌, length, nat_eq, refl, sym, ap, subst, inl, inr, arith}
+use Rattle.std.proofs.Common.{◌≡◌, ◌≢◌, ◌⊎◌, ◌∙◌, ℕ, zero, suc, ◌<◌, Bool, true, false, Option, Some, None, List, [], ◌∷◌, if◌then◌else◌, length, nat_eq, refl, sym, ap, subst, inl, inr, arith}
 use Rattle.std.proofs.lemmas.List.{length-set}
 use Rattle.std.proofs.lemmas.Option.{slice_get_within}
 use Rattle.std.specs.Prelude.{◌||◌, slice_get, slice_set}
 use Rattle.tdf_bind.specs.declared.actors.ActorRow.{ActorRow}
+use Rattle.tdf_dynamic.specs.Attributes.{AttrsOf}
 use Rattle.tdf_fixed.specs.declared.raw.Raw.{Raw}
 use Rattle.tdf_flat.specs.declared.model.Flat.{Flat}
 use Rattle.tdf_flow.proofs.Api.{get_inside, some_same}
 use Rattle.tdf_graph.specs.declared.actors.Actor.{Actor}
 use Rattle.tdf_graph.specs.declared.actors.Actor.TheVariants as actor
-use Rattle.tdf_history.specs.Instant.{RunFault, actor_of_entry, all_firings, at_begin, boundary, boundary_of, changed_by, events_of, fired, fired_as, firing, firing_of, instant, is_entry_due, is_over, is_written, next_entry, plan_length, settled_as, stepped, with_cluster, with_read, with_same}
-use Rattle.tdf_history.specs.World.{ClusterAt, Rules, Same, Settled, World}
+use Rattle.tdf_history.specs.Instant.{RunFault, actor_of_entry, all_firings, at_begin, boundary, boundary_of, changed_by, events_of, fired, fired_as, firing, firing_of, instant, is_entry_due, is_over, is_written, next_entry, plan_length, settled_as, stepped, with_cluster, with_new, with_read, with_same}
+use Rattle.tdf_history.specs.Texts.{left_by}
+use Rattle.tdf_history.specs.World.{Change, ClusterAt, New, Refused, Rules, Same, Settled, World, next_change}
 use Rattle.tdf_instants.specs.History.{Fault, Going, Past, Step, and_then, turns_to}
+use Rattle.tdf_schedule.specs.declared.entry.Entry.{Entry}
 use Rattle.tdf_tree.specs.Pure.{PureTree}
 
 -- a list with one item set has at that place the item, and elsewhere what it had
@@ -52,33 +55,28 @@ module _ {K : Type 0} (R : ClusterAt → ClusterAt → Type 0) (itself : (c : Cl
     ];
   }
 
-  -- a step that goes on leads to a world whose clusters go on
+  -- a step leads to a world whose clusters go on, also where it ends the run
   abbrev pub LeadsBy : World K → Step (World K) RunFault → Type 0
-  LeadsBy w (Going v) = AllBy R w v
-  LeadsBy w (Fault fault v) = Unit {0}
-  LeadsBy w (Past v) = Unit {0}
+  LeadsBy w s = AllBy R w (left_by s)
 
   leads_on : (u w : World K) (s : Step (World K) RunFault) → AllBy R u w → LeadsBy w s → LeadsBy u s
-  leads_on u w (Going v) x y = all_through u w v x y
-  leads_on u w (Fault fault v) x y = tt
-  leads_on u w (Past v) x y = tt
+  leads_on u w s x y = all_through u w (left_by s) x y
 
-  then_leads : (w : World K) (s : Step (World K) RunFault) (next : World K → Step (World K) RunFault) → LeadsBy w s → ((v : World K) → LeadsBy v (next v)) → LeadsBy w (and_then s next)
-  then_leads w (Going v) next x y = leads_on w v (next v) x (y v)
-  then_leads w (Fault fault v) next x y = tt
-  then_leads w (Past v) next x y = tt
+  pub then_by : (w : World K) (s : Step (World K) RunFault) (next : World K → Step (World K) RunFault) → LeadsBy w s → ((v : World K) → LeadsBy v (next v)) → LeadsBy w (and_then s next)
+  then_by w (Going v) next x y = leads_on w v (next v) x (y v)
+  then_by w (Fault fault v) next x y = x
+  then_by w (Past v) next x y = x
 
   pub turns_by : (turn : ℕ → World K → Step (World K) RunFault) → ((n : ℕ) (v : World K) → LeadsBy v (turn n v)) → (n : ℕ) (w : World K) → LeadsBy w (turns_to turn n w)
   unfolding turns_to
   turns_by turn each zero w = all_itself w
-  turns_by turn each (suc n) w = then_leads w (turns_to turn n w) (turn n) (turns_by turn each n w) (each n)
+  turns_by turn each (suc n) w = then_by w (turns_to turn n w) (turn n) (turns_by turn each n w) (each n)
 
   if_leads : (w : World K) (b : Bool) (s t : Step (World K) RunFault) → LeadsBy w s → LeadsBy w t → LeadsBy w (if b then s else t)
   if_leads w true s t x y = x
   if_leads w false s t x y = y
 
-  module _ (model : PureTree) (flat : Flat) (rules : Rules K) (stays : (n : ℕ) (c : ClusterAt) → rules.change n c ≡ Same c.now.info.table)
-      (step_is : (c : ClusterAt) → R c (stepped c)) (read_is : (m : ℕ) (value : Raw) (c : ClusterAt) → R c (with_read m value c)) where
+  module _ (model : PureTree) (flat : Flat) (rules : Rules K) (step_is : (c : ClusterAt) → R c (stepped c)) (read_is : (m : ℕ) (value : Raw) (c : ClusterAt) → R c (with_read m value c)) where
     fired_leads : (n m : ℕ) (o : Option ActorRow) (c : ClusterAt) (w : World K) → slice_get w.clusters n ≡ Some c → AllBy R w (fired model flat rules n m o c w)
     fired_leads n m None c w at = one_goes w _ n c (stepped c) at refl (step_is c)
     fired_leads n m (Some row) c w at = of_kind row.kind
@@ -91,23 +89,33 @@ module _ {K : Type 0} (R : ClusterAt → ClusterAt → Type 0) (itself : (c : Cl
     firing_leads : (time n : ℕ) (w : World K) (o : Option ClusterAt) → slice_get w.clusters n ≡ o → LeadsBy w (firing_of model flat rules time n o w)
     firing_leads time n w None at = all_itself w
     firing_leads time n w (Some c) at = if_leads w (is_entry_due time c (next_entry c)) _ _
-        (if_leads w (nat_eq w.left 0) _ _ tt (fired_leads n (actor_of_entry (next_entry c)) (slice_get flat.tables.actors (actor_of_entry (next_entry c))) c w at)) (all_itself w)
+        (if_leads w (nat_eq w.left 0) _ _ (all_itself w) (fired_leads n (actor_of_entry (next_entry c)) (slice_get flat.tables.actors (actor_of_entry (next_entry c))) c w at)) (all_itself w)
+
+    pub firing_by : (time n : ℕ) (w : World K) → LeadsBy w (firing model flat rules time n w)
+    firing_by time n w = firing_leads time n w (slice_get w.clusters n) refl
 
     pub firings_by : (time n : ℕ) (w : World K) → LeadsBy w (all_firings model flat rules time n w)
-    firings_by time n w = turns_by (λ k v. firing model flat rules time n v) (λ k v. firing_leads time n v (slice_get v.clusters n) refl) (plan_length (slice_get w.clusters n)) w
+    firings_by time n w = turns_by (λ k v. firing model flat rules time n v) (λ k v. firing_by time n v) (plan_length (slice_get w.clusters n)) w
 
     -- and its boundaries
-    module _ (next_is : (time : ℕ) (c : ClusterAt) → R c (with_same time c.now.info.table c)) where
-      boundary_leads : (time n : ℕ) (w : World K) (o : Option ClusterAt) → slice_get w.clusters n ≡ o → LeadsBy w (boundary_of flat.tables rules time n o w)
+    module _ (same_is : (time : ℕ) (table : List AttrsOf) (c : ClusterAt) → R c (with_same time table c))
+        (new_is : (time : ℕ) (table : List AttrsOf) (counts : List ℕ) (period : ℕ) (entries : List Entry) (bounds : List ℕ) (c : ClusterAt)
+        → next_change c ≡ New table counts period entries bounds → R c (with_new flat.tables time table counts period entries bounds c)) where
+      changed_leads : (time n : ℕ) (w : World K) (c : ClusterAt) → slice_get w.clusters n ≡ Some c → (x : Change) → next_change c ≡ x → LeadsBy w (changed_by flat.tables time n c x w)
+      changed_leads time n w c at (Same table) told = one_goes w (with_cluster n (with_same time table c) w) n c (with_same time table c) at refl (same_is time table c)
+      changed_leads time n w c at (New table counts period entries bounds) told =
+          one_goes w _ n c (with_new flat.tables time table counts period entries bounds c) at refl (new_is time table counts period entries bounds c told)
+      changed_leads time n w c at (Refused fault) told = all_itself w
+
+      boundary_leads : (time n : ℕ) (w : World K) (o : Option ClusterAt) → slice_get w.clusters n ≡ o → LeadsBy w (boundary_of flat.tables time n o w)
       boundary_leads time n w None at = all_itself w
-      boundary_leads time n w (Some c) at = if_leads w (is_over time c) _ _ (if_leads w (nat_eq w.left 0) _ _ tt changed) (all_itself w)
-        where
-          changed : LeadsBy w (changed_by flat.tables time n c (rules.change (n + 1) c) w)
-          changed = subst (λ x. LeadsBy w (changed_by flat.tables time n c x w)) (sym (stays (n + 1) c))
-              (one_goes w (with_cluster n (with_same time c.now.info.table c) w) n c (with_same time c.now.info.table c) at refl (next_is time c))
+      boundary_leads time n w (Some c) at = if_leads w (is_over time c) _ _ (if_leads w (nat_eq w.left 0) _ _ (all_itself w) (changed_leads time n w c at (next_change c) refl)) (all_itself w)
+
+      pub boundaries_by : (time n : ℕ) (w : World K) → LeadsBy w (boundary flat.tables time n w)
+      boundaries_by time n w = boundary_leads time n w (slice_get w.clusters n) refl
 
       settled_leads : (w : World K) (o : Option (Settled K)) → LeadsBy w (settled_as o w)
-      settled_leads w None = tt
+      settled_leads w None = all_itself w
       settled_leads w (Some s) = record { same = refl; each = (all_itself w).each }
 
       events_lead : (time : ℕ) (w : World K) → LeadsBy w (events_of rules time w)
@@ -119,9 +127,9 @@ module _ {K : Type 0} (R : ClusterAt → ClusterAt → Type 0) (itself : (c : Cl
 
       pub instant_by : (time : ℕ) (w : World K) → LeadsBy w (instant model flat rules time w)
       instant_by time w =
-          then_leads w (and_then (turns_to (boundary flat.tables rules time) (length w.clusters) (at_begin w)) (λ v. turns_to (all_firings model flat rules time) (length w.clusters) v)) (events_of rules time)
-          (then_leads w (turns_to (boundary flat.tables rules time) (length w.clusters) (at_begin w)) (λ v. turns_to (all_firings model flat rules time) (length w.clusters) v)
-          (leads_on w (at_begin w) (turns_to (boundary flat.tables rules time) (length w.clusters) (at_begin w)) (begin_goes w)
-          (turns_by (boundary flat.tables rules time) (λ n v. boundary_leads time n v (slice_get v.clusters n) refl) (length w.clusters) (at_begin w)))
+          then_by w (and_then (turns_to (boundary flat.tables time) (length w.clusters) (at_begin w)) (λ v. turns_to (all_firings model flat rules time) (length w.clusters) v)) (events_of rules time)
+          (then_by w (turns_to (boundary flat.tables time) (length w.clusters) (at_begin w)) (λ v. turns_to (all_firings model flat rules time) (length w.clusters) v)
+          (leads_on w (at_begin w) (turns_to (boundary flat.tables time) (length w.clusters) (at_begin w)) (begin_goes w)
+          (turns_by (boundary flat.tables time) (boundaries_by time) (length w.clusters) (at_begin w)))
           (λ v. turns_by (all_firings model flat rules time) (λ n u. firings_by time n u) (length w.clusters) v))
           (λ v. events_lead time v)

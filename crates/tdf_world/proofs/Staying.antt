@@ -10,7 +10,7 @@ use Rattle.tdf_graph.specs.Clusters.{AreClusters}
 use Rattle.tdf_graph.specs.declared.actors.Edge.{Edge}
 use Rattle.tdf_history.specs.Cells.{cell_by_driver, driven_cell, driver_of_row, event_cell, port_cell, run_cells, signal_cell, trace_cell, world_of}
 use Rattle.tdf_history.specs.Instant.{engine}
-use Rattle.tdf_history.specs.World.{ClusterAt, Rules, Same, World}
+use Rattle.tdf_history.specs.World.{ClusterAt, Rules, World}
 use Rattle.tdf_instants.specs.History.{On, history}
 use Rattle.tdf_limits.specs.Limits.{AreWithinLimits}
 use Rattle.tdf_rows.specs.Laws.{Agree}
@@ -78,7 +78,7 @@ module _ {K : Type 0} (model : PureTree) (flat : Flat) (limits : AreWithinLimits
   pub signal_cell_stays : (signal : ℕ) → signal_cell model flat time w.clusters signal ≡ signal_cell model flat time e.clusters signal
   signal_cell_stays signal = by_driver (driver_of_row (slice_get flat.tables.signals signal))
 
-module _ {K : Type 0} (model : PureTree) (flat : Flat) (rules : Rules K) (stays : (n : ℕ) (c : ClusterAt) → rules.change n c ≡ Same c.now.info.table)
+module _ {K : Type 0} (model : PureTree) (flat : Flat) (rules : Rules K)
     (start w e : World K) (now end mark : ℕ) (limits : AreWithinLimits flat) (on : history (engine model flat rules) 0 start now ≡ On w) (low : now ≤ end)
     (on_end : history (engine model flat rules) 0 start end ≡ On e) (steady : AreSteady model flat w)
     (marked : (n : ℕ) (c : ClusterAt) → slice_get w.clusters n ≡ Some c → mark ≤ time_of c.old) where
@@ -86,7 +86,7 @@ module _ {K : Type 0} (model : PureTree) (flat : Flat) (rules : Rules K) (stays 
   trace_stays time below None = refl
   trace_stays time below (Some row) = either row.event (event_cell model flat rules start row.signal time) _ _
       (ap (λ v. signal_cell model flat time (world_of v).clusters row.signal) on
-      ∙ signal_cell_stays model flat limits w e steady (go_on model flat rules stays start w now on end e low on_end) mark time below marked row.signal
+      ∙ signal_cell_stays model flat limits w e steady (go_on model flat rules start w now on end e low on_end) mark time below marked row.signal
       ∙ sym (ap (λ v. signal_cell model flat time (world_of v).clusters row.signal) on_end))
 
   pub cells_agree : Agree (run_cells model flat rules start now) (run_cells model flat rules start end) mark
@@ -99,4 +99,4 @@ module _ {K : Type 0} (model : PureTree) (flat : Flat) (rules : Rules K) (stays 
 pub cells_stay : CellsStay
 cells_stay model flat start w e now end mark limits on low on_end steady not_after marked =
     let z : now ≡ now - 0 = omega arith in
-    cells_agree model flat (rules_of model flat) (λ n c. refl) start w e now end mark limits (ap (history (world_engine model flat) 0 start) z ∙ on.on) low on_end steady marked
+    cells_agree model flat (rules_of model flat) start w e now end mark limits (ap (history (world_engine model flat) 0 start) z ∙ on.on) low on_end steady marked

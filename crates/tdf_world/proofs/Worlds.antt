@@ -2,10 +2,10 @@
 use Rattle.std.proofs.Common.{◌≡◌, ◌∙◌, ℕ, zero, suc, ◌+◌, ◌-◌, ◌≤◌, Bool, true, false, if◌then◌else◌, sym, ap, subst, arith}
 use Rattle.tdf_flat.specs.declared.model.Flat.{Flat}
 use Rattle.tdf_history.specs.Instant.{RunFault, all_firings, engine, instant}
-use Rattle.tdf_history.specs.World.{ClusterAt, Rules, Same, World}
+use Rattle.tdf_history.specs.World.{Rules, World}
 use Rattle.tdf_instants.specs.History.{Fault, Going, On, Past, Spent, State, Step, Stopped, after, history, state_of}
 use Rattle.tdf_tree.specs.Pure.{PureTree}
-use Rattle.tdf_world.proofs.Clusters.{boundary_goes, goes_refl, goes_trans, read_goes, step_goes}
+use Rattle.tdf_world.proofs.Clusters.{goes_refl, goes_trans, new_goes, read_goes, same_goes, step_goes}
 use Rattle.tdf_world.proofs.Leading.{AllBy}
 use Rattle.tdf_world.proofs.Leading as leading
 use Rattle.tdf_world.specs.Continuing.{AllGoOn, GoesOn}
@@ -34,12 +34,12 @@ module _ {K : Type 0} where
   leads_by w (Fault fault v) x = tt
   leads_by w (Past v) x = tt
 
-  module _ (model : PureTree) (flat : Flat) (rules : Rules K) (stays : (n : ℕ) (c : ClusterAt) → rules.change n c ≡ Same c.now.info.table) where
+  module _ (model : PureTree) (flat : Flat) (rules : Rules K) where
     pub firings_lead : (time n : ℕ) (w : World K) → Leads w (all_firings model flat rules time n w)
-    firings_lead time n w = leads_by w (all_firings model flat rules time n w) (leading.firings_by GoesOn goes_refl goes_trans model flat rules stays step_goes read_goes time n w)
+    firings_lead time n w = leads_by w (all_firings model flat rules time n w) (leading.firings_by GoesOn goes_refl goes_trans model flat rules step_goes read_goes time n w)
 
     pub instant_leads : (time : ℕ) (w : World K) → Leads w (instant model flat rules time w)
-    instant_leads time w = leads_by w (instant model flat rules time w) (leading.instant_by GoesOn goes_refl goes_trans model flat rules stays step_goes read_goes boundary_goes time w)
+    instant_leads time w = leads_by w (instant model flat rules time w) (leading.instant_by GoesOn goes_refl goes_trans model flat rules step_goes read_goes same_goes (new_goes flat.tables) time w)
 
     -- a state of the history that is on
     abbrev Lies : World K → State (World K) RunFault → Type 0

@@ -1,6 +1,6 @@
 -- Later instants change no cell below a mark.
 -- Source: own.
-use Rattle.std.specs.Prelude.{◌≡◌, ◌+◌, ◌<◌, ◌≤◌, ℕ, ℤ, List, All, Some, length, slice_get, slice_index}
+use Rattle.std.specs.Prelude.{◌≡◌, ◌+◌, ◌<◌, ◌≤◌, ℕ, ℤ, List, All, Some, length, slice_get}
 use Rattle.tdf_fixed.specs.declared.raw.Raw.{Raw}
 use Rattle.tdf_flat.specs.declared.model.Flat.{Flat}
 use Rattle.tdf_flow.specs.Grounds.{firings}
@@ -14,18 +14,19 @@ use Rattle.tdf_instants.specs.History.{On, history}
 use Rattle.tdf_instants.specs.Laws.{IsOn}
 use Rattle.tdf_limits.specs.Limits.{AreWithinLimits}
 use Rattle.tdf_rows.specs.Laws.{Agree}
-use Rattle.tdf_schedule.specs.Plan.{done}
 use Rattle.tdf_streams.specs.Cluster.{cluster_net}
 use Rattle.tdf_streams.specs.Periods.{IsWholeRecord}
 use Rattle.tdf_streams.specs.Signals.{time_of}
 use Rattle.tdf_tree.specs.Pure.{PureTree}
+use Rattle.tdf_world.specs.Continuing.{HasCounts, HasToldCounts}
 use Rattle.tdf_world.specs.Rules.{rules_of, world_engine}
 
--- the cluster of this number: its periods are whole, its plan has the firings of the period, and
--- each activation that is done has its value
+-- the cluster of this number: its periods are whole, its plan has the firings of the period and
+-- those ahead have theirs, and each activation that is done has its value
 pub record HasDone (model : PureTree) (flat : Flat) (number : ℕ) (c : ClusterAt) : Type 0 where
   pub whole : All (IsWholeRecord flat number) (periods_of c)
-  pub counts : (m : ℕ) → slice_index c.now.counts m ≡ done c.entries (length c.entries) m
+  pub counts : HasCounts c.entries c.now.counts
+  pub ahead : All HasToldCounts c.ahead
   pub place : c.place ≤ length c.entries
   pub known : (m n : ℕ) → n < activations c m → (t : Turn (List ℤ) Raw)
       × (known (cluster_net model flat number c.begun) (run_in c) (firings (periods_of c)) m n

@@ -1,4 +1,4 @@
--- By which rules a model runs: its event side, and its clusters, which keep their attributes.
+-- By which rules a model runs: its event side, and how it starts.
 -- Source: own; the event side after IEEE 1666-2011, 4.2.1.2 to 4.2.1.5.
 use Rattle.std.specs.List.{list_any}
 use Rattle.std.specs.Prelude.{ℕ, Bool, ◌||◌, not, Option, option_map, List, map}
@@ -9,7 +9,7 @@ use Rattle.tdf_events.specs.Side.{SideOf, start_side}
 use Rattle.tdf_flat.specs.declared.model.Flat.{Flat}
 use Rattle.tdf_history.specs.Instant.{RunFault, engine}
 use Rattle.tdf_history.specs.Start.{first_world}
-use Rattle.tdf_history.specs.World.{EventSide, Rules, Same, Settled, SinkWrite, World}
+use Rattle.tdf_history.specs.World.{Change, EventSide, Rules, Settled, SinkWrite, World}
 use Rattle.tdf_instants.specs.History.{Engine}
 use Rattle.tdf_tree.specs.Pure.{PureTree}
 
@@ -35,16 +35,14 @@ event_side model flat = record {
   settle = settle model flat;
 }
 
--- no module of the model changes its attributes
 abbrev pub rules_of : PureTree → Flat → Rules SideOf
-rules_of model flat = record {
-  event_side = event_side model flat;
-  change = λ cluster c. Same c.now.info.table;
-}
+rules_of model flat = record { event_side = event_side model flat }
 
--- how it starts, with so many turns
-abbrev pub start_world : PureTree → Flat → List First → (turns : ℕ) → World SideOf
-start_world model flat firsts turns = first_world model flat firsts (start_side flat) turns
+-- how it starts, with what is told of the boundaries of each cluster, and with so many turns
+abbrev pub start_world : PureTree → Flat → List First → (ahead : List (List Change))
+    → (turns : ℕ) → World SideOf
+start_world model flat firsts ahead turns =
+    first_world model flat firsts ahead (start_side flat) turns
 
 abbrev pub world_engine : PureTree → Flat → Engine (World SideOf) RunFault
 world_engine model flat = engine model flat (rules_of model flat)

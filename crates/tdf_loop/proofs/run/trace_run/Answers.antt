@@ -1,4 +1,4 @@
-use Rattle.std.proofs.Common.{arith}
+use Rattle.std.proofs.Common.{[], arith}
 use Rattle.tdf_io.proofs.Api.{counts_then}
 use Rattle.tdf_loop.proofs.Answering.{counts_err, on_err, then_ok}
 use Rattle.tdf_loop.proofs.WholeRun.{end_ok, head_part, left_ok, rows_part_of, whole_part, whole_text}
@@ -11,7 +11,7 @@ returns-in-Err-clause-part g c = λ model m. head_part c.args.kind model c.args.
 pub closed-requires-clause-width : goal.closed-requires-clause-width
 closed-requires-clause-width g c =
     let can = c.requires.can in
-    let start = start_world can.model c.args.flat.now c.args.firsts.items c.args.turns in
+    let start = start_world can.model c.args.flat.now c.args.firsts.items [] c.args.turns in
     let e = c.in-Ok-go.ensures.ends.ends can.model start can.of (c.in-Ok.ensures.runs can.model can.of) in
     let w = e.shown.width in
     let l = e.shown.columns in
@@ -20,17 +20,17 @@ closed-requires-clause-width g c =
 pub returns-in-Ok-go-clause-end : goal.returns-in-Ok-go-clause-end
 returns-in-Ok-go-clause-end g c = λ model m.
     end_ok c.args.kind model c.args.flat.now c.args.firsts.items c.args.stop c.args.turns m c.go.new.self c.in-Ok-go.ended c.closed.result
-    (c.in-Ok-go.ensures.ends.ends model (start_world model c.args.flat.now c.args.firsts.items c.args.turns) m (c.in-Ok.ensures.runs model m)).by c.closed.ensures.reached c.closed.ensures.spent
+    (c.in-Ok-go.ensures.ends.ends model (start_world model c.args.flat.now c.args.firsts.items [] c.args.turns) m (c.in-Ok.ensures.runs model m)).by c.closed.ensures.reached c.closed.ensures.spent
 
 pub returns-in-Ok-go-clause-left : goal.returns-in-Ok-go-clause-left
 returns-in-Ok-go-clause-left g c = λ model m.
     left_ok c.args.kind model c.args.flat.now c.args.firsts.items c.args.stop c.args.turns m c.go.new.self c.in-Ok-go.ended c.closed.result
-    (c.in-Ok-go.ensures.ends.ends model (start_world model c.args.flat.now c.args.firsts.items c.args.turns) m (c.in-Ok.ensures.runs model m)).by c.closed.ensures.clusters c.closed.ensures.kernel c.closed.ensures.spent
+    (c.in-Ok-go.ensures.ends.ends model (start_world model c.args.flat.now c.args.firsts.items [] c.args.turns) m (c.in-Ok.ensures.runs model m)).by c.closed.ensures.clusters c.closed.ensures.kernel c.closed.ensures.spent
 
 pub returns-in-Ok-go-clause-trace : goal.returns-in-Ok-go-clause-trace
 returns-in-Ok-go-clause-trace g c = λ model m.
     let flat = c.args.flat.now in
-    let start = start_world model flat c.args.firsts.items c.args.turns in
+    let start = start_world model flat c.args.firsts.items [] c.args.turns in
     let run = c.in-Ok.ensures.runs model m in
     let to = c.in-Ok-go.ensures.ends in
     let ending = to.ends model start m run in
@@ -42,7 +42,7 @@ returns-in-Ok-go-clause-trace g c = λ model m.
 pub returns-in-Ok-go-clause-part : goal.returns-in-Ok-go-clause-part
 returns-in-Ok-go-clause-part g c = λ model m.
     let flat = c.args.flat.now in
-    let start = start_world model flat c.args.firsts.items c.args.turns in
+    let start = start_world model flat c.args.firsts.items [] c.args.turns in
     let run = c.in-Ok.ensures.runs model m in
     let to = c.in-Ok-go.ensures.ends in
     let ending = to.ends model start m run in

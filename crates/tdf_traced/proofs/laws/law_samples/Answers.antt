@@ -1,4 +1,4 @@
-use Rattle.tdf_traced.proofs.Knowing.{done_is_known}
+use Rattle.tdf_traced.proofs.Knowing.{done_is_known, held_is_known}
 use Rattle.tdf_traced.proofs.Sampled.{boundaries_add_none, cell_of_samples, starts_have_samples}
 use Rattle.tdf_traced.proofs.laws.law_samples.Goals as goal
 
@@ -13,3 +13,6 @@ returns-clause-cells c = cell_of_samples
 
 pub returns-clause-done : goal.returns-clause-done
 returns-clause-done c = done_is_known
+
+pub returns-clause-held : goal.returns-clause-held
+returns-clause-held c = held_is_known

@@ -1,19 +1,184 @@
-use Rattle.std.proofs.Common.{◌≡◌, None, subst, sym, true}
-use Rattle.tdf_exec.proofs.Crosses.{crosses, of_crossed}
+use Rattle.std.proofs.Common.{◌≡◌, ◌⊎◌, ◌∙◌, ℕ, None, Ok, Err, Result, Some, false, true, ap, arith, subst, sym}
+use Rattle.std.proofs.Common.{rules}
+use Rattle.std.specs.Prelude.{IfErr, IfOk, IsOk, slice_get}
+use Rattle.tdf_base.specs.declared.faults.Fault.{Fault}
+use Rattle.tdf_changes.specs.Change.{IsChangeFault, IsNewPlan, IsSame}
+use Rattle.tdf_changes.specs.Next.{IsNext}
+use Rattle.tdf_changes.specs.declared.next.Next.{Next}
+use Rattle.tdf_changes.specs.declared.next.Next.TheVariants.{Same}
+use Rattle.tdf_dynamic.specs.Attributes.{AttrsOf}
+use Rattle.tdf_dynamic.specs.Faults.{IsRefusal}
+use Rattle.tdf_dynamic.specs.declared.err.ChangeErr.{ChangeErr}
+use Rattle.tdf_dynamic.specs.declared.err.ChangeErr.TheVariants.{Memory, Refused}
+use Rattle.tdf_exec.proofs.Asks.{has_cluster, instances_are, modules_are, planned_is}
+use Rattle.tdf_exec.proofs.Boundaries.{no_fault, not_still, still_crossed, still_crosses, still_next, still_of}
+use Rattle.tdf_exec.proofs.Changing.{as_long, can_install, crossed_of, crosses_from, has_crossed}
+use Rattle.tdf_exec.proofs.Crosses.{head_held}
 use Rattle.tdf_exec.specs.Cluster.{ClusterOf, next_offset}
-use Rattle.tdf_exec.specs.Crossing.{CrossesFrom, HasNoChanges, at_place}
+use Rattle.tdf_exec.specs.Crossing.{CrossesFrom, HasCrossed, HasNoChanges, WhenItAsks, at_place}
 use Rattle.tdf_exec.specs.Made.{IsClusterOf}
 use Rattle.tdf_exec.specs.contracts.cluster.Cluster.{the_view}
+use Rattle.tdf_schedule.specs.declared.entry.Plan.{Plan}
+use Rattle.tdf_streams.specs.Places.{has_changes}
 use Rattle.tdf_exec.proofs.cluster.Cluster.boundary.Goals as goal
 
-pub returns-clause-of : goal.returns-clause-of
-returns-clause-of c =
-    of_crossed c.args.flat.now (the_view c.self.inside) true (subst (IsClusterOf c.args.flat.now) (sym c.self.view_is) c.requires.of)
-    (subst (λ (s : ClusterOf). next_offset s ≡ None) (sym c.self.view_is) c.requires.done)
+-- the plan stays
+abbrev stays : Result Next ChangeErr
+stays = Ok Same
+
+if_ok : {T E : Type 0} {P Q : T → Type 0} (r : Result T E) → IfOk r P → ((x : T) → P x → Q x) → IfOk r Q
+if_ok (Ok x) p then = then x p
+if_ok (Err e) p then = tt
+
+pub returns-then-not-has_changes-clause-next : goal.returns-then-not-has_changes-clause-next
+returns-then-not-has_changes-clause-next c =
+    let laid = c.law_laid.ensures.laid c.args.flat.now c.requires.sound in
+    let of : IsClusterOf c.args.flat.now (the_view c.self.inside) = subst (IsClusterOf c.args.flat.now) (sym c.self.view_is) c.requires.of in
+    let end : next_offset (the_view c.self.inside) ≡ None = subst (λ (s : ClusterOf). next_offset s ≡ None) (sym c.self.view_is) c.requires.done in
+    let result : c.has_changes.result ≡ false = search rules in
+    let none : (i : ℕ) (a : AttrsOf) → slice_get (the_view c.self.inside).table i ≡ Some a → has_changes c.args.flat.now.tables.modules a.number ≡ false =
+    λ i a at. c.has_changes.ensures.none result i a (ap (λ l. slice_get l i) c.rows.ensures.rows ∙ at) in
+    subst (λ (s : ClusterOf). WhenItAsks c.args.flat.now s (λ asks. IfOk stays (IsNext c.args.flat.now.tables s.number asks s.table c.self.inside.attrs))) c.self.view_is
+    (λ model checked. still_next c.args.flat.now (the_view c.self.inside) laid of end none model)
+
+pub returns-then-not-has_changes-clause-crossed : goal.returns-then-not-has_changes-clause-crossed
+returns-then-not-has_changes-clause-crossed c =
+    let laid = c.law_laid.ensures.laid c.args.flat.now c.requires.sound in
+    let of : IsClusterOf c.args.flat.now (the_view c.self.inside) = subst (IsClusterOf c.args.flat.now) (sym c.self.view_is) c.requires.of in
+    let end : next_offset (the_view c.self.inside) ≡ None = subst (λ (s : ClusterOf). next_offset s ≡ None) (sym c.self.view_is) c.requires.done in
+    let result : c.has_changes.result ≡ false = search rules in
+    let none : (i : ℕ) (a : AttrsOf) → slice_get (the_view c.self.inside).table i ≡ Some a → has_changes c.args.flat.now.tables.modules a.number ≡ false =
+    λ i a at. c.has_changes.ensures.none result i a (ap (λ l. slice_get l i) c.rows.ensures.rows ∙ at) in
+    subst (λ (s : ClusterOf). HasCrossed s (at_place (the_view c.self.inside) c.self.inside.place true)) c.self.view_is (still_crossed c.args.flat.now (the_view c.self.inside) laid of end none)
+
+pub returns-then-not-has_changes-clause-crosses : goal.returns-then-not-has_changes-clause-crosses
+returns-then-not-has_changes-clause-crosses c =
+    let laid = c.law_laid.ensures.laid c.args.flat.now c.requires.sound in
+    let of : IsClusterOf c.args.flat.now (the_view c.self.inside) = subst (IsClusterOf c.args.flat.now) (sym c.self.view_is) c.requires.of in
+    let end : next_offset (the_view c.self.inside) ≡ None = subst (λ (s : ClusterOf). next_offset s ≡ None) (sym c.self.view_is) c.requires.done in
+    let result : c.has_changes.result ≡ false = search rules in
+    let none : (i : ℕ) (a : AttrsOf) → slice_get (the_view c.self.inside).table i ≡ Some a → has_changes c.args.flat.now.tables.modules a.number ≡ false =
+    λ i a at. c.has_changes.ensures.none result i a (ap (λ l. slice_get l i) c.rows.ensures.rows ∙ at) in
+    subst (λ (s : ClusterOf). CrossesFrom c.args.flat.now s (at_place (the_view c.self.inside) c.self.inside.place true)) c.self.view_is (still_crosses c.args.flat.now (the_view c.self.inside) laid of end none)
+
+pub returns-then-not-has_changes-clause-of : goal.returns-then-not-has_changes-clause-of
+returns-then-not-has_changes-clause-of c =
+    let laid = c.law_laid.ensures.laid c.args.flat.now c.requires.sound in
+    let of : IsClusterOf c.args.flat.now (the_view c.self.inside) = subst (IsClusterOf c.args.flat.now) (sym c.self.view_is) c.requires.of in
+    let end : next_offset (the_view c.self.inside) ≡ None = subst (λ (s : ClusterOf). next_offset s ≡ None) (sym c.self.view_is) c.requires.done in
+    let result : c.has_changes.result ≡ false = search rules in
+    let none : (i : ℕ) (a : AttrsOf) → slice_get (the_view c.self.inside).table i ≡ Some a → has_changes c.args.flat.now.tables.modules a.number ≡ false =
+    λ i a at. c.has_changes.ensures.none result i a (ap (λ l. slice_get l i) c.rows.ensures.rows ∙ at) in
+    still_of c.args.flat.now (the_view c.self.inside) laid of end none
+
+pub returns-then-not-has_changes-clause-refused_always : goal.returns-then-not-has_changes-clause-refused_always
+returns-then-not-has_changes-clause-refused_always c =
+    let laid = c.law_laid.ensures.laid c.args.flat.now c.requires.sound in
+    let of : IsClusterOf c.args.flat.now (the_view c.self.inside) = subst (IsClusterOf c.args.flat.now) (sym c.self.view_is) c.requires.of in
+    let end : next_offset (the_view c.self.inside) ≡ None = subst (λ (s : ClusterOf). next_offset s ≡ None) (sym c.self.view_is) c.requires.done in
+    let result : c.has_changes.result ≡ false = search rules in
+    let none : (i : ℕ) (a : AttrsOf) → slice_get (the_view c.self.inside).table i ≡ Some a → has_changes c.args.flat.now.tables.modules a.number ≡ false =
+    λ i a at. c.has_changes.ensures.none result i a (ap (λ l. slice_get l i) c.rows.ensures.rows ∙ at) in
+    subst (λ (s : ClusterOf). WhenItAsks c.args.flat.now s (λ asks. (fault : Fault) → IsChangeFault c.args.flat.now.tables s.number asks s.table fault
+    → (stays ≡ Err (Refused fault)) ⊎ (stays ≡ Err Memory))) c.self.view_is
+    (λ model checked fault is. no_fault c.args.flat.now (the_view c.self.inside) laid of end none model fault is)
+
+pub ask-requires-clause-has : goal.ask-requires-clause-has
+ask-requires-clause-has c =
+    let laid = c.law_laid.ensures.laid c.args.flat.now c.requires.sound in
+    let of : IsClusterOf c.args.flat.now (the_view c.self.inside) = subst (IsClusterOf c.args.flat.now) (sym c.self.view_is) c.requires.of in
+    let result : c.has_changes.result ≡ true = search rules in
+    let row = c.has_changes.ensures.some result in
+    let at : slice_get (the_view c.self.inside).table row.0 ≡ Some row.1 = ap (λ l. slice_get l row.0) (sym c.rows.ensures.rows) ∙ row.2 in
+    has_cluster c.args.flat.now (the_view c.self.inside) laid of row.0 row.1 at
+
+pub ask-requires-clause-planned : goal.ask-requires-clause-planned
+ask-requires-clause-planned c =
+    let laid = c.law_laid.ensures.laid c.args.flat.now c.requires.sound in
+    let of : IsClusterOf c.args.flat.now (the_view c.self.inside) = subst (IsClusterOf c.args.flat.now) (sym c.self.view_is) c.requires.of in
+    planned_is c.args.flat.now (the_view c.self.inside) laid of
+
+pub ask-requires-clause-modules : goal.ask-requires-clause-modules
+ask-requires-clause-modules c =
+    let laid = c.law_laid.ensures.laid c.args.flat.now c.requires.sound in
+    let of : IsClusterOf c.args.flat.now (the_view c.self.inside) = subst (IsClusterOf c.args.flat.now) (sym c.self.view_is) c.requires.of in
+    modules_are c.args.flat.now (the_view c.self.inside) laid of
+
+pub ask-requires-clause-instances : goal.ask-requires-clause-instances
+ask-requires-clause-instances c =
+    let laid = c.law_laid.ensures.laid c.args.flat.now c.requires.sound in
+    let of : IsClusterOf c.args.flat.now (the_view c.self.inside) = subst (IsClusterOf c.args.flat.now) (sym c.self.view_is) c.requires.of in
+    instances_are c.args.flat.now (the_view c.self.inside) laid of
+
+pub invariant_of-self-2 : goal.invariant_of-self-2
+invariant_of-self-2 c =
+    let laid = c.law_laid.ensures.laid c.args.flat.now c.requires.sound in
+    let of : IsClusterOf c.args.flat.now (the_view c.self.inside) = subst (IsClusterOf c.args.flat.now) (sym c.self.view_is) c.requires.of in
+    let end : next_offset (the_view c.self.inside) ≡ None = subst (λ (s : ClusterOf). next_offset s ≡ None) (sym c.self.view_is) c.requires.done in
+    let long = as_long c.args.flat.now (the_view c.self.inside) laid of end c.requires.sound.model c.ask.new.runners.items (c.ask.ensures.moved c.requires.sound.model c.requires.sound.is.bodies) c.ask.new.attrs c.ask.result (c.ask.ensures.next c.requires.sound.model c.requires.sound.is.bodies) c.ask.ensures.kept in
+    let room = c.self.invariant.room in let more = c.ask.ensures.room in
+    record { sorted = c.self.invariant.sorted; room = omega (arith, long, room, more) }
+
+pub returns-clause-next : goal.returns-clause-next
+returns-clause-next c =
+    subst (λ (s : ClusterOf). WhenItAsks c.args.flat.now s (λ asks. IfOk c.ask.result (IsNext c.args.flat.now.tables s.number asks s.table c.ask.new.attrs))) c.self.view_is c.ask.ensures.next
+
+pub returns-clause-refused : goal.returns-clause-refused
+returns-clause-refused c =
+    subst (λ (s : ClusterOf). WhenItAsks c.args.flat.now s (λ asks. IfErr c.ask.result (IsRefusal (IsChangeFault c.args.flat.now.tables s.number asks s.table)))) c.self.view_is c.ask.ensures.refused
+
+pub returns-clause-crossed : goal.returns-clause-crossed
+returns-clause-crossed c =
+    let laid = c.law_laid.ensures.laid c.args.flat.now c.requires.sound in
+    let of : IsClusterOf c.args.flat.now (the_view c.self.inside) = subst (IsClusterOf c.args.flat.now) (sym c.self.view_is) c.requires.of in
+    let end : next_offset (the_view c.self.inside) ≡ None = subst (λ (s : ClusterOf). next_offset s ≡ None) (sym c.self.view_is) c.requires.done in
+    subst (λ (s : ClusterOf). HasCrossed s (crossed_of (the_view c.self.inside) c.ask.new.attrs c.ask.new.runners.items)) c.self.view_is (has_crossed c.args.flat.now (the_view c.self.inside) laid of end c.requires.sound.model c.ask.new.runners.items (c.ask.ensures.moved c.requires.sound.model c.requires.sound.is.bodies) c.ask.new.attrs c.ask.result (c.ask.ensures.next c.requires.sound.model c.requires.sound.is.bodies) c.ask.ensures.kept)
 
 pub returns-clause-crosses : goal.returns-clause-crosses
 returns-clause-crosses c =
-    subst (λ (s : ClusterOf). CrossesFrom c.args.flat.now s (at_place (the_view c.self.inside) c.self.inside.place true)) c.self.view_is
-    (crosses c.args.flat.now (the_view c.self.inside) (subst (IsClusterOf c.args.flat.now) (sym c.self.view_is) c.requires.of)
-    (subst (λ (s : ClusterOf). next_offset s ≡ None) (sym c.self.view_is) c.requires.done)
-    (subst (λ (s : ClusterOf). HasNoChanges c.args.flat.now.tables s.number) (sym c.self.view_is) c.requires.still))
+    let laid = c.law_laid.ensures.laid c.args.flat.now c.requires.sound in
+    let of : IsClusterOf c.args.flat.now (the_view c.self.inside) = subst (IsClusterOf c.args.flat.now) (sym c.self.view_is) c.requires.of in
+    let end : next_offset (the_view c.self.inside) ≡ None = subst (λ (s : ClusterOf). next_offset s ≡ None) (sym c.self.view_is) c.requires.done in
+    let moved = c.ask.ensures.moved c.requires.sound.model c.requires.sound.is.bodies in
+    subst (λ (s : ClusterOf). CrossesFrom c.args.flat.now s (crossed_of (the_view c.self.inside) c.ask.new.attrs c.ask.new.runners.items)) c.self.view_is
+    (crosses_from c.args.flat.now (the_view c.self.inside) laid of end c.ask.new.runners.items c.ask.new.attrs c.ask.ensures.moved moved.are.same)
+
+pub returns-clause-of : goal.returns-clause-of
+returns-clause-of c =
+    let laid = c.law_laid.ensures.laid c.args.flat.now c.requires.sound in
+    let of : IsClusterOf c.args.flat.now (the_view c.self.inside) = subst (IsClusterOf c.args.flat.now) (sym c.self.view_is) c.requires.of in
+    let end : next_offset (the_view c.self.inside) ≡ None = subst (λ (s : ClusterOf). next_offset s ≡ None) (sym c.self.view_is) c.requires.done in
+    if_ok c.ask.result (c.ask.ensures.next c.requires.sound.model c.requires.sound.is.bodies)
+    (λ next is. can_install c.args.flat.now (the_view c.self.inside) laid of end c.requires.sound.model c.ask.new.runners.items (c.ask.ensures.moved c.requires.sound.model c.requires.sound.is.bodies) (c.ask.ensures.after c.requires.sound.model c.requires.sound.is.bodies) c.ask.new.attrs next is)
+
+pub returns-clause-still : goal.returns-clause-still
+returns-clause-still c =
+    let laid = c.law_laid.ensures.laid c.args.flat.now c.requires.sound in
+    let of : IsClusterOf c.args.flat.now (the_view c.self.inside) = subst (IsClusterOf c.args.flat.now) (sym c.self.view_is) c.requires.of in
+    let end : next_offset (the_view c.self.inside) ≡ None = subst (λ (s : ClusterOf). next_offset s ≡ None) (sym c.self.view_is) c.requires.done in
+    let result : c.has_changes.result ≡ true = search rules in
+    let row = c.has_changes.ensures.some result in
+    let at : slice_get (the_view c.self.inside).table row.0 ≡ Some row.1 = ap (λ l. slice_get l row.0) (sym c.rows.ensures.rows) ∙ row.2 in
+    λ none. not_still c.args.flat.now (the_view c.self.inside) laid of end row.0 row.1 at row.3 (subst (λ (s : ClusterOf). HasNoChanges c.args.flat.now.tables s.number) (sym c.self.view_is) none)
+
+pub returns-clause-same_always : goal.returns-clause-same_always
+returns-clause-same_always c =
+    subst (λ (s : ClusterOf). WhenItAsks c.args.flat.now s (λ asks. IsSame asks s.table → c.ask.result ≡ Ok Same)) c.self.view_is c.ask.ensures.same_always
+
+pub returns-clause-refused_always : goal.returns-clause-refused_always
+returns-clause-refused_always c =
+    subst (λ (s : ClusterOf). WhenItAsks c.args.flat.now s (λ asks. (fault : Fault) → IsChangeFault c.args.flat.now.tables s.number asks s.table fault
+    → (c.ask.result ≡ Err (Refused fault)) ⊎ (c.ask.result ≡ Err Memory))) c.self.view_is c.ask.ensures.refused_always
+
+pub returns-clause-new_always : goal.returns-clause-new_always
+returns-clause-new_always c =
+    subst (λ (s : ClusterOf). WhenItAsks c.args.flat.now s (λ asks. (plan : Plan) → IsNewPlan c.args.flat.now.tables s.number asks s.table plan
+    → IsOk c.ask.result ⊎ (c.ask.result ≡ Err Memory))) c.self.view_is c.ask.ensures.new_always
+
+pub returns-then-not-has_changes-clause-heads : goal.returns-then-not-has_changes-clause-heads
+returns-then-not-has_changes-clause-heads c =
+    head_held c.args.flat.now c.args.self.now.table c.args.self.now c.requires.of c.requires.done c.requires.sound (c.law_laid.ensures.laid c.args.flat.now c.requires.sound).limits c.law_laid.ensures.present
+
+pub returns-clause-heads : goal.returns-clause-heads
+returns-clause-heads c =
+    head_held c.args.flat.now c.args.self.now.table c.args.self.now c.requires.of c.requires.done c.requires.sound (c.law_laid.ensures.laid c.args.flat.now c.requires.sound).limits c.law_laid.ensures.present

@@ -5,14 +5,14 @@ use Rattle.tdf_exec.proofs.cluster.Cluster.new.Goals as goal
 pub invariant_of-result : goal.invariant_of-result
 invariant_of-result c =
     let h = has c.args.flat.now c.args.cluster c.args.first c.requires.sound (c.law_laid.ensures.laid c.args.flat.now c.requires.sound) c.requires.plan c.law_laid.ensures.present in
-    c.law_laid.ensures.sorted _ _ _ c.args.first.plan.entries.items h.plan_is.planned
+    record { sorted = c.law_laid.ensures.sorted _ _ _ c.args.first.plan.entries.items h.plan_is.planned; room = c.in-Ok.ensures.room }
 
 pub returns-in-Ok-clause-of : goal.returns-in-Ok-clause-of
 returns-in-Ok-clause-of c =
     is_made c.args.flat.now c.args.cluster c.args.first c.requires.sound (c.law_laid.ensures.laid c.args.flat.now c.requires.sound) c.requires.plan c.law_laid.ensures.present
-    c.in-Ok.parts.reads.items c.in-Ok.parts.writes.items c.in-Ok.parts.rings.items c.in-Ok.parts.runners.items c.in-Ok.parts.positions.items c.in-Ok.ensures
+    c.in-Ok.parts.reads.items c.in-Ok.parts.writes.items c.in-Ok.parts.rings.items c.in-Ok.parts.runners.items c.in-Ok.parts.positions.items c.in-Ok.ensures.parts
 
 pub returns-in-Ok-clause-stands : goal.returns-in-Ok-clause-stands
 returns-in-Ok-clause-stands c =
     stands c.args.flat.now c.args.cluster c.args.first c.requires.sound (c.law_laid.ensures.laid c.args.flat.now c.requires.sound) c.requires.plan c.law_laid.ensures.present
-    c.in-Ok.parts.rings.items c.in-Ok.parts.runners.items c.in-Ok.parts.positions.items c.in-Ok.ensures.rings_are c.in-Ok.ensures.runners_are c.in-Ok.ensures.none_done
+    c.in-Ok.parts.rings.items c.in-Ok.parts.runners.items c.in-Ok.parts.positions.items c.in-Ok.ensures.parts.rings_are c.in-Ok.ensures.parts.runners_are c.in-Ok.ensures.parts.none_done

@@ -1,0 +1,11 @@
+mod Answering
+pub mod Api
+pub mod Asks
+pub mod Begins
+mod Boundary
+mod Judging
+mod Keeping
+mod Once
+mod Rows
+mod Spans
+pub mod Steps

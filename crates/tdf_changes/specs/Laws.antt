@@ -1,0 +1,40 @@
+-- What holds of the answers of a boundary.
+-- Source: own.
+use Rattle.std.specs.Prelude.{◌≡◌, ℕ, List, Contains}
+use Rattle.tdf_base.specs.declared.faults.Fault.{Fault}
+use Rattle.tdf_changes.specs.Change.{Asks, IsChangeFault, IsNewPlan, IsSame, table_after}
+use Rattle.tdf_dynamic.specs.Attributes.{AttrsOf, clusters_of}
+use Rattle.tdf_dynamic.specs.Laws.{AreSamePlans}
+use Rattle.tdf_flat.specs.declared.model.Flat.{Flat}
+use Rattle.tdf_limits.specs.Limits.{AreWithinLimits}
+use Rattle.tdf_schedule.specs.declared.entry.Plan.{Plan}
+use Rattle.tdf_streams.specs.Periods.{AreAttributes}
+
+-- a table of a cluster and what its modules ask for, which leads to a table of the cluster
+pub record IsBoundary (flat : Flat) (cluster : ℕ) (asks : Asks) (table : List AttrsOf)
+    : Type 0 where
+  pub limits : AreWithinLimits flat
+  pub has : Contains (clusters_of flat.tables) cluster
+  pub before : AreAttributes flat cluster table
+  pub after : AreAttributes flat cluster (table_after asks table)
+
+-- of the answers of a boundary there is at most one
+pub record BoundariesHaveOne : Type 0 where
+  pub same_or_fault : (flat : Flat) (cluster : ℕ) (asks : Asks) (table : List AttrsOf)
+      → (fault : Fault) → IsSame asks table
+      → IsChangeFault flat.tables cluster asks table fault → ⊥
+  pub same_or_plan : (flat : Flat) (cluster : ℕ) (asks : Asks) (table : List AttrsOf)
+      → (plan : Plan) → IsSame asks table
+      → IsNewPlan flat.tables cluster asks table plan → ⊥
+  pub one_fault : (flat : Flat) (cluster : ℕ) (asks : Asks) (table : List AttrsOf)
+      → (one other : Fault) → IsBoundary flat cluster asks table
+      → IsChangeFault flat.tables cluster asks table one
+      → IsChangeFault flat.tables cluster asks table other → one ≡ other
+  pub fault_or_plan : (flat : Flat) (cluster : ℕ) (asks : Asks) (table : List AttrsOf)
+      → (fault : Fault) (plan : Plan) → IsBoundary flat cluster asks table
+      → IsChangeFault flat.tables cluster asks table fault
+      → IsNewPlan flat.tables cluster asks table plan → ⊥
+  pub one_plan : (flat : Flat) (cluster : ℕ) (asks : Asks) (table : List AttrsOf)
+      → (one other : Plan) → IsBoundary flat cluster asks table
+      → IsNewPlan flat.tables cluster asks table one
+      → IsNewPlan flat.tables cluster asks table other → AreSamePlans one other

@@ -1,0 +1,7 @@
+pub mod Asked
+pub mod Change
+pub mod Given
+pub mod Laws
+pub mod Next
+pub mod Ports
+pub mod machine

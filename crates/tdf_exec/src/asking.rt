@@ -1,0 +1,120 @@
+//! The modules of a cluster say which changes of attributes they ask for.
+
+use crate::moving::Rest;
+use std::marker::Model;
+use tdf_changes::Frames;
+
+/// Room for the instances of the modules of a cluster, while they are asked; else it is empty.
+#[derive(Drop)]
+pub(crate) struct Spare {
+    frames: Frames,
+    rests: Vec<Rest>,
+}
+
+impl Model for Spare {
+    ghost use Rattle.std.specs.Prelude.{◌≡◌, [], ℕ, min};
+    ghost use Rattle.std.specs.Vec.{vec_capacity};
+
+    ghost Value = { ℕ };
+
+    ghost view = { λ a. min (vec_capacity a.frames.modules) (vec_capacity a.rests) };
+
+    ghost invariant = { λ a. record {
+      frames : a.frames.modules.items ≡ [];
+      rests : a.rests.items ≡ [];
+    } };
+}
+
+ghost use Rattle.std.specs.Prelude.{◌≡◌, ◌⊎◌, ◌≤◌, ℕ, Contains, Err, IfErr, IfOk, IsOk, length, Ok, OnErr, Some, slice_get};
+ghost use Rattle.tdf_base.specs.declared.faults.Fault.{Fault as FaultOf};
+ghost use Rattle.tdf_changes.specs.Change.{IsChangeFault, IsNewPlan, IsSame, table_after};
+ghost use Rattle.tdf_changes.specs.Given.{IsOfText, IsPlanned};
+ghost use Rattle.tdf_changes.specs.Next.{IsNext};
+ghost use Rattle.tdf_changes.specs.declared.next.Next.TheVariants.{Same};
+ghost use Rattle.tdf_dynamic.specs.Attributes.{clusters_of};
+ghost use Rattle.tdf_dynamic.specs.Faults.{IsRefusal};
+ghost use Rattle.tdf_dynamic.specs.declared.err.ChangeErr.TheVariants.{Memory as NoMemory, Refused};
+ghost use Rattle.tdf_exec.specs.machine.Moving.{AreInstances, AreModules, HaveMoved, WhenTheyAsk, numbers_of};
+ghost use Rattle.tdf_limits.specs.Limits.{AreWithinLimits};
+ghost use Rattle.tdf_schedule.specs.declared.entry.Plan.{Plan as PlanOf};
+ghost use Rattle.tdf_streams.specs.Periods.{AreAttributes};
+
+use crate::moving::{put_back, take_out};
+use crate::runners::Runner;
+use std::alloc::Global;
+use tdf_base::Memory;
+use tdf_changes::{Next, next_plan};
+use tdf_dynamic::{Attrs, ChangeErr};
+use tdf_flat::Flat;
+
+impl Spare {
+    /// Room for so many modules.
+    ///
+    /// # Errors
+    /// Out of memory.
+    pub(crate) fn new(alloc: Global, count: usize) -> Result<Spare, Memory>
+        ensures { IfOk result (λ spare. count ≤ spare) }
+    {
+        let modules = Vec::with_capacity(alloc, count)?;
+        let rests = Vec::with_capacity(alloc, count)?;
+        Ok(Spare {
+            frames: Frames { modules },
+            rests,
+        })
+    }
+
+    /// The change bodies of the modules of a cluster run, and what they ask for is judged.
+    ///
+    /// # Errors
+    /// The first fault, or out of memory.
+    pub(crate) fn ask(
+        &mut self,
+        alloc: Global,
+        flat: &Flat,
+        cluster: u32,
+        attrs: &mut Attrs,
+        runners: &mut Vec<Runner>,
+    ) -> Result<Next, ChangeErr>
+        requires limits { AreWithinLimits flat.now }
+        requires text { IsOfText flat.now }
+        requires has { Contains (clusters_of flat.now.tables) cluster }
+        requires attributes { AreAttributes flat.now cluster attrs.old }
+        requires planned { IsPlanned flat.now.tables cluster attrs.old }
+        requires modules { AreModules (numbers_of attrs.old) runners.old.items }
+        requires instances { AreInstances flat.now attrs.old runners.old.items }
+        requires room { length attrs.old ≤ self.old }
+        ensures next { WhenTheyAsk flat.now runners.old.items (λ asks.
+            IfOk result (IsNext flat.now.tables cluster asks attrs.old attrs.new)) }
+        ensures refused { WhenTheyAsk flat.now runners.old.items (λ asks.
+            IfErr result (IsRefusal (IsChangeFault flat.now.tables cluster asks attrs.old))) }
+        ensures kept { OnErr result (attrs.new ≡ attrs.old) }
+        ensures after { WhenTheyAsk flat.now runners.old.items (λ asks.
+            AreAttributes flat.now cluster (table_after asks attrs.old)) }
+        ensures moved { WhenTheyAsk flat.now runners.old.items (λ asks.
+            HaveMoved flat.now asks attrs.old runners.old.items runners.new.items) }
+        ensures same_always { WhenTheyAsk flat.now runners.old.items (λ asks.
+            IsSame asks attrs.old → result ≡ Ok Same) }
+        ensures refused_always { WhenTheyAsk flat.now runners.old.items (λ asks.
+            (fault : FaultOf) → IsChangeFault flat.now.tables cluster asks attrs.old fault
+            → (result ≡ Err (Refused fault)) ⊎ (result ≡ Err NoMemory)) }
+        ensures new_always { WhenTheyAsk flat.now runners.old.items (λ asks.
+            (plan : PlanOf) → IsNewPlan flat.now.tables cluster asks attrs.old plan
+            → IsOk result ⊎ (result ≡ Err NoMemory)) }
+        ensures room { self.old ≤ self.new }
+    {
+        take_out(
+            &attrs.rows,
+            runners,
+            &mut self.frames.modules,
+            &mut self.rests,
+        );
+        let next = next_plan(alloc, flat, cluster, attrs, &mut self.frames);
+        put_back(
+            &attrs.rows,
+            runners,
+            &mut self.frames.modules,
+            &mut self.rests,
+        );
+        next
+    }
+}

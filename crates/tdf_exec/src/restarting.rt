@@ -1,0 +1,156 @@
+//! The next period with a new plan: what is made first, and how the modules begin again.
+
+ghost use Rattle.std.specs.Prelude.{◌≡◌, ℕ, IfOk, length, map, OnErr, OnOk, Some, slice_get, true};
+ghost use Rattle.tdf_dynamic.specs.Rates.{AreRates};
+ghost use Rattle.tdf_exec.specs.Crossing.{IsReadyFor};
+ghost use Rattle.tdf_exec.specs.Made.{room_for};
+ghost use Rattle.tdf_exec.specs.Starts.{IsSoundFlat};
+ghost use Rattle.tdf_exec.specs.declared.runners.Runner.{Runner as RunnerOf};
+ghost use Rattle.tdf_exec.specs.machine.Restarting.{AreNextParts, AreRestarted, CanRestart, HasReplaced, HasRestarted, IsRestarted};
+ghost use Rattle.tdf_expr.specs.Made.{AreMadeFor};
+
+use crate::cluster::Cluster;
+use crate::filling::room_for;
+use crate::rating::{read_rates, write_rates};
+use crate::runners::{ModuleRunner, Runner};
+use crate::starting::law_laid;
+use crate::tracing::{TracedPorts, give_all, traced_rows};
+use std::alloc::Global;
+use tdf_base::Memory;
+use tdf_changes::begin;
+use tdf_dynamic::Attrs;
+use tdf_expr::{Body, Checked, run_body};
+use tdf_flat::Flat;
+use tdf_rings::carry;
+use tdf_schedule::Plan;
+
+/// The ports of a module are set back, and its reinitialize body runs.
+fn restart(checked: &Checked, instance: &mut ModuleRunner)
+    requires { AreMadeFor checked.now instance.old.block instance.old.frame instance.old.ports }
+    ensures { HasRestarted checked.now instance.old instance.new }
+{
+    begin(&mut instance.ports);
+    run_body(
+        checked,
+        instance.block,
+        Body::Reinitialize,
+        &mut instance.frame,
+        &mut instance.ports,
+    );
+}
+
+/// The same for an actor, if it is a module.
+fn restart_runner(checked: &Checked, runner: &mut Runner)
+    requires { CanRestart checked.now runner.old }
+    ensures { IsRestarted checked.now runner.old runner.new }
+{
+    match runner {
+        Runner::Module(module) => restart(checked, module),
+        Runner::Sampler(_) => {}
+        Runner::Sink(_) => {}
+        Runner::Outside => {}
+    }
+}
+
+/// The same for all actors, in order.
+fn restart_all(checked: &Checked, runners: &mut Vec<Runner>)
+    requires { (m : ℕ) (r : RunnerOf) → slice_get runners.old.items m ≡ Some r
+        → CanRestart checked.now r }
+    ensures { AreRestarted checked.now (length runners.old.items)
+        runners.old.items runners.new.items }
+{
+    for m in 0..runners.len() {
+        restart_runner(checked, &mut runners[m]);
+    }
+}
+
+/// How many samples each ring has room for.
+fn rooms_of(alloc: Global, bounds: &[u32]) -> Result<Vec<u32>, Memory>
+    ensures { IfOk result (λ rooms. rooms.items ≡ map room_for bounds.now) }
+{
+    let mut rooms = Vec::new(alloc);
+    for e in 0..bounds.len() {
+        rooms.push(room_for(bounds[e]))?;
+    }
+    Ok(rooms)
+}
+
+/// What is made before anything is moved: rates in force and room by edge, and the traced ports by module.
+#[derive(Drop)]
+struct NextParts {
+    reads: Vec<u32>,
+    writes: Vec<u32>,
+    rooms: Vec<u32>,
+    rows: Vec<TracedPorts>,
+}
+
+/// The parts of a cluster under a new table and plan.
+fn next_parts(
+    alloc: Global,
+    flat: &Flat,
+    attrs: &Attrs,
+    bounds: &[u32],
+) -> Result<NextParts, Memory>
+    requires sound { IsSoundFlat flat.now }
+    requires rates { AreRates flat.now.tables attrs.now }
+    ensures { IfOk result (λ p. AreNextParts flat.now attrs.now bounds.now p.reads.items
+        p.writes.items p.rooms.items p.rows.items) }
+{
+    law_laid();
+    let reads = read_rates(alloc, flat, attrs)?;
+    let writes = write_rates(alloc, flat, attrs)?;
+    let rooms = rooms_of(alloc, bounds)?;
+    let rows = traced_rows(alloc, flat, attrs)?;
+    Ok(NextParts {
+        reads,
+        writes,
+        rooms,
+        rows,
+    })
+}
+
+impl Cluster {
+    /// The next period begins with a new table and plan: all that takes memory is made first; then the rings keep their
+    /// samples, and the modules begin again in order.
+    ///
+    /// # Errors
+    /// Out of memory; then nothing changes.
+    pub(crate) fn begin_new(
+        &mut self,
+        alloc: Global,
+        flat: &Flat,
+        attrs: Attrs,
+        plan: Plan,
+    ) -> Result<(), Memory>
+        requires sound { IsSoundFlat flat.now }
+        requires crossed { self.old.crossed ≡ true }
+        requires ready { IsReadyFor flat.now self.old attrs plan }
+        ensures ok { OnOk result (HasReplaced flat.now self.old attrs plan self.new) }
+        ensures err { OnErr result (self.new ≡ self.old) }
+    {
+        law_laid();
+        let mut parts = match next_parts(alloc, flat, &attrs, &plan.bounds) {
+            Ok(parts) => parts,
+            Err(failed) => {
+                drop(attrs);
+                drop(plan);
+                return Err(failed);
+            }
+        };
+        if let Err(failed) = carry(alloc, &mut self.rings, &parts.rooms) {
+            drop(parts);
+            drop(attrs);
+            drop(plan);
+            return Err(failed);
+        }
+        give_all(alloc, &mut parts.rows, &mut self.runners);
+        restart_all(&flat.checked, &mut self.runners);
+        self.attrs = attrs;
+        self.plan = plan;
+        self.place = 0;
+        self.crossed = false;
+        self.reads = parts.reads;
+        self.writes = parts.writes;
+        Ok(())
+    }
+}

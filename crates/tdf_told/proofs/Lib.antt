@@ -1,0 +1,2 @@
+pub mod Api
+mod Texts

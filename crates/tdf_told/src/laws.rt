@@ -1,0 +1,17 @@
+//! What holds of the definitions: each function here only carries its clauses.
+
+ghost use Rattle.tdf_told.specs.Laws.{AnswersWriteOne, MoreWritesTheSame};
+
+use tdf_changes::law_one_answer;
+
+/// Where something is told of each boundary up to a stop, a run writes the same when more is told.
+pub fn law_told()
+    ensures { MoreWritesTheSame }
+{}
+
+/// Two starts of whose boundaries the answers are told write the same.
+pub fn law_one_text()
+    ensures { AnswersWriteOne }
+{
+    law_one_answer();
+}
