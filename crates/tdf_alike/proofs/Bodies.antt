@@ -3,22 +3,22 @@ use Rattle.std.proofs.Common.{◌≡◌, ◌∙◌, ℕ, List, [], ◌∷◌, Op
 use Rattle.std.specs.List.{range_with_len}
 use Rattle.std.specs.Prelude.{ℤ}
 use Rattle.tdf_alike.proofs.Checks.{AreSame}
-use Rattle.tdf_dynamic.specs.Attributes.{AttrsOf, attrs_at, rates_in}
-use Rattle.tdf_expr.specs.Blocks.{blocks_of}
-use Rattle.tdf_expr.specs.declared.bodies.Body.{Body}
-use Rattle.tdf_expr.specs.declared.bodies.Body.TheVariants as body
-use Rattle.tdf_expr.specs.declared.checked.Checked.{Checked}
-use Rattle.tdf_firing.specs.Activation.{ports_before, sample_at}
-use Rattle.tdf_fixed.specs.declared.raw.Raw.{Raw}
-use Rattle.tdf_flat.specs.declared.model.Flat.{Flat}
-use Rattle.tdf_graph.specs.declared.actors.Actor.{Actor}
-use Rattle.tdf_graph.specs.declared.actors.Actor.TheVariants as actor
-use Rattle.tdf_state.specs.State.{State, state_of}
-use Rattle.tdf_streams.specs.Bodies.{acted, activation, after_part, changed, done_by, initialized, nothing_read, rates_of, reinitialized, written_by}
-use Rattle.tdf_streams.specs.Cluster.{Start, cluster_net, text_start}
-use Rattle.tdf_streams.specs.Periods.{PeriodInfo, PeriodRecord}
-use Rattle.tdf_streams.specs.Places.{actor_kind, block_at, has_changes, place_of_port, read_through}
-use Rattle.tdf_tree.specs.Pure.{PureTree}
+use Rattle.tdf_report.specs.low.dynamic.Attributes.{AttrsOf, attrs_at, rates_in}
+use Rattle.tdf_report.specs.low.expr.Blocks.{blocks_of}
+use Rattle.tdf_report.specs.low.expr.declared.bodies.Body.{Body}
+use Rattle.tdf_report.specs.low.expr.declared.bodies.Body.TheVariants as body
+use Rattle.tdf_report.specs.low.expr.declared.checked.Checked.{Checked}
+use Rattle.tdf_report.specs.low.firing.Activation.{ports_before, sample_at}
+use Rattle.tdf_report.specs.low.fixed.declared.raw.Raw.{Raw}
+use Rattle.tdf_report.specs.low.flat.declared.model.Flat.{Flat}
+use Rattle.tdf_report.specs.low.graph.declared.actors.Actor.{Actor}
+use Rattle.tdf_report.specs.low.graph.declared.actors.Actor.TheVariants as actor
+use Rattle.tdf_report.specs.low.state.State.{State, state_of}
+use Rattle.tdf_report.specs.low.streams.Bodies.{acted, activation, after_part, changed, done_by, initialized, nothing_read, rates_of, reinitialized, written_by}
+use Rattle.tdf_report.specs.low.streams.Cluster.{Start, cluster_net, text_start}
+use Rattle.tdf_report.specs.low.streams.Periods.{PeriodInfo, PeriodRecord}
+use Rattle.tdf_report.specs.low.streams.Places.{actor_kind, block_at, has_changes, place_of_port, read_through}
+use Rattle.tdf_report.specs.low.tree.Pure.{PureTree}
 
 -- a flat model with other compiled bodies
 abbrev pub with_bodies : Flat → Checked → Flat

@@ -4,20 +4,20 @@ use Rattle.std.specs.Prelude.{option_map}
 use Rattle.tdf_alike.proofs.Bodies.{net_same, with_bodies}
 use Rattle.tdf_alike.proofs.Checks.{AreSame}
 use Rattle.tdf_alike.proofs.Instants.{history_same}
-use Rattle.tdf_dynamic.specs.Attributes.{clusters_of}
-use Rattle.tdf_expr.specs.declared.checked.Checked.{Checked}
-use Rattle.tdf_flat.specs.declared.model.Flat.{Flat}
-use Rattle.tdf_flow.specs.Grounds.{firings}
-use Rattle.tdf_flow.specs.Streams.{known}
-use Rattle.tdf_history.specs.Cells.{cell_by_driver, changed_cell, driven_cell, driver_of_row, event_cell, first_shown, port_cell, run_cells, sample_at, samples_done, signal_cell, spans_from, trace_cell, value_before, world_of}
-use Rattle.tdf_history.specs.Instant.{periods_of, run_in}
-use Rattle.tdf_history.specs.World.{ClusterAt, Rules, World}
-use Rattle.tdf_rows.specs.Positions.{position_at}
-use Rattle.tdf_streams.specs.Cluster.{zero_sample}
-use Rattle.tdf_streams.specs.Signals.{signal_sample}
-use Rattle.tdf_tree.specs.Pure.{PureTree}
-use Rattle.tdf_wiring.specs.declared.modules.PortRow.{PortRow}
-use Rattle.tdf_wiring.specs.declared.traces.TraceRow.{TraceRow}
+use Rattle.tdf_report.specs.low.dynamic.Attributes.{clusters_of}
+use Rattle.tdf_report.specs.low.expr.declared.checked.Checked.{Checked}
+use Rattle.tdf_report.specs.low.flat.declared.model.Flat.{Flat}
+use Rattle.tdf_report.specs.low.flow.Grounds.{firings}
+use Rattle.tdf_report.specs.low.flow.Streams.{known}
+use Rattle.tdf_report.specs.low.history.Cells.{cell_by_driver, changed_cell, driven_cell, driver_of_row, event_cell, first_shown, port_cell, run_cells, sample_at, samples_done, signal_cell, spans_from, trace_cell, value_before, world_of}
+use Rattle.tdf_report.specs.low.history.Instant.{periods_of, run_in}
+use Rattle.tdf_report.specs.low.history.World.{ClusterAt, Rules, World}
+use Rattle.tdf_report.specs.low.rows.Positions.{position_at}
+use Rattle.tdf_report.specs.low.streams.Cluster.{zero_sample}
+use Rattle.tdf_report.specs.low.streams.Signals.{signal_sample}
+use Rattle.tdf_report.specs.low.tree.Pure.{PureTree}
+use Rattle.tdf_report.specs.low.wiring.declared.modules.PortRow.{PortRow}
+use Rattle.tdf_report.specs.low.wiring.declared.traces.TraceRow.{TraceRow}
 
 module _ (model : PureTree) (a : Flat) (y : Checked) (same : AreSame a.checked y) where
   sample_same : (cluster : ℕ) (c : ClusterAt) (port : PortRow) (number j : ℕ) → sample_at model a cluster c port number j ≡ sample_at model (with_bodies a y) cluster c port number j

@@ -3,17 +3,17 @@ use Rattle.std.proofs.Common.{◌≡◌, ◌∙◌, ℕ, zero, suc, ◌-◌, ◌
 use Rattle.std.proofs.lemmas.Option.{same_Some}
 use mathlib.Core.HLevel.{is_prop→PathP}
 use native.Mathlib.Bridge.{le_prop}
-use Rattle.tdf_expr.specs.Blocks.{PureBlock, blocks_of, scope_of}
-use Rattle.tdf_expr.specs.Checked.{IsCheckedOf}
-use Rattle.tdf_expr.specs.Compiled.{AreBlocksOf, IsBlockOf}
-use Rattle.tdf_expr.specs.Made.{event_count, events_in, port_spans_of, rates_in, spans_in, start_cells, start_rates, starts_in}
-use Rattle.tdf_expr.specs.Plans.{PortPlace, place_of_port, shape_of_format}
-use Rattle.tdf_expr.specs.declared.blocks.Block.{Block}
-use Rattle.tdf_expr.specs.declared.checked.Checked.{Checked}
-use Rattle.tdf_expr.specs.declared.spans.PortSpan.{PortSpan}
-use Rattle.tdf_fixed.specs.declared.format.Format.{Format}
-use Rattle.tdf_scope.specs.Names.{Names, globals_of}
-use Rattle.tdf_tree.specs.Pure.{PureTree}
+use Rattle.tdf_report.specs.low.expr.Blocks.{PureBlock, blocks_of, scope_of}
+use Rattle.tdf_report.specs.low.expr.Checked.{IsCheckedOf}
+use Rattle.tdf_report.specs.low.expr.Compiled.{AreBlocksOf, IsBlockOf}
+use Rattle.tdf_report.specs.low.expr.Made.{event_count, events_in, port_spans_of, rates_in, spans_in, start_cells, start_rates, starts_in}
+use Rattle.tdf_report.specs.low.expr.Plans.{PortPlace, place_of_port, shape_of_format}
+use Rattle.tdf_report.specs.low.expr.declared.blocks.Block.{Block}
+use Rattle.tdf_report.specs.low.expr.declared.checked.Checked.{Checked}
+use Rattle.tdf_report.specs.low.expr.declared.spans.PortSpan.{PortSpan}
+use Rattle.tdf_report.specs.low.fixed.declared.format.Format.{Format}
+use Rattle.tdf_report.specs.low.scope.Names.{Names, globals_of}
+use Rattle.tdf_report.specs.low.tree.Pure.{PureTree}
 
 -- what the history reads of compiled bodies
 pub record AreSame (x y : Checked) : Type 0 where

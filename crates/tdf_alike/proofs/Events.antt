@@ -3,20 +3,20 @@ use Rattle.std.proofs.Common.{◌≡◌, ◌∙◌, ℕ, zero, suc, ◌+◌, ◌
 use Rattle.std.specs.Prelude.{option_map}
 use Rattle.tdf_alike.proofs.Bodies.{with_bodies}
 use Rattle.tdf_alike.proofs.Checks.{AreSame}
-use Rattle.tdf_calendar.specs.Evaluation.{evaluated}
-use Rattle.tdf_convert.specs.declared.writes.SignalWrite.{SignalWrite}
-use Rattle.tdf_events.specs.Delta.{after_update, begun, event_part, is_idle, settled_by, stepped, turns_of}
-use Rattle.tdf_events.specs.Processes.{after_process, frame_at, owner_of, ports_before, process_done, ran, run_of, side_after, written_first}
-use Rattle.tdf_events.specs.Side.{SideOf, start_side}
-use Rattle.tdf_expr.specs.Blocks.{blocks_of}
-use Rattle.tdf_expr.specs.declared.checked.Checked.{Checked}
-use Rattle.tdf_fixed.specs.declared.raw.Raw.{Raw}
-use Rattle.tdf_flat.specs.declared.model.Flat.{Flat}
-use Rattle.tdf_history.specs.World.{SinkWrite}
-use Rattle.tdf_state.specs.State.{FrameState, State, state_of}
-use Rattle.tdf_tree.specs.Pure.{PureTree}
-use Rattle.tdf_wiring.specs.ProcessBlocks.{BlockRowOf, ProcessRowOf}
-use Rattle.tdf_world.specs.Rules.{rules_of, settle, signal_write}
+use Rattle.tdf_report.specs.low.calendar.Evaluation.{evaluated}
+use Rattle.tdf_report.specs.low.convert.declared.writes.SignalWrite.{SignalWrite}
+use Rattle.tdf_report.specs.low.events.Delta.{after_update, begun, event_part, is_idle, settled_by, stepped, turns_of}
+use Rattle.tdf_report.specs.low.events.Processes.{after_process, frame_at, owner_of, ports_before, process_done, ran, run_of, side_after, written_first}
+use Rattle.tdf_report.specs.low.events.Side.{SideOf, start_side}
+use Rattle.tdf_report.specs.low.expr.Blocks.{blocks_of}
+use Rattle.tdf_report.specs.low.expr.declared.checked.Checked.{Checked}
+use Rattle.tdf_report.specs.low.fixed.declared.raw.Raw.{Raw}
+use Rattle.tdf_report.specs.low.flat.declared.model.Flat.{Flat}
+use Rattle.tdf_report.specs.low.history.World.{SinkWrite}
+use Rattle.tdf_report.specs.low.state.State.{FrameState, State, state_of}
+use Rattle.tdf_report.specs.low.tree.Pure.{PureTree}
+use Rattle.tdf_report.specs.low.wiring.ProcessBlocks.{BlockRowOf, ProcessRowOf}
+use Rattle.tdf_report.specs.low.world.Rules.{rules_of, settle, signal_write}
 
 module _ (model : PureTree) (a : Flat) (y : Checked) (same : AreSame a.checked y) where
   process_same : (process : ProcessRowOf) (row : BlockRowOf) (values : List Raw) (frame : FrameState) → process_done model a process row values frame ≡ process_done model (with_bodies a y) process row values frame

@@ -4,17 +4,17 @@ use Rattle.std.specs.List.{enumerate_from}
 use Rattle.tdf_alike.proofs.Bodies.{start_same, with_bodies}
 use Rattle.tdf_alike.proofs.Checks.{AreSame, IsFull, head_or, tail_of}
 use Rattle.tdf_alike.proofs.Events.{side_starts_same}
-use Rattle.tdf_dynamic.specs.Attributes.{AttrsOf}
-use Rattle.tdf_dynamic.specs.declared.first.First.{First}
-use Rattle.tdf_expr.specs.declared.checked.Checked.{Checked}
-use Rattle.tdf_flat.specs.declared.model.Flat.{Flat}
-use Rattle.tdf_history.specs.Start.{counts_in, first_cluster, first_clusters}
-use Rattle.tdf_history.specs.World.{ClusterAt}
-use Rattle.tdf_notes.specs.Plans.{PlanRows, rows_of}
-use Rattle.tdf_streams.specs.Cluster.{text_start}
-use Rattle.tdf_streams.specs.Periods.{period_record}
-use Rattle.tdf_tree.specs.Pure.{PureTree}
-use Rattle.tdf_world.specs.Rules.{start_world}
+use Rattle.tdf_report.specs.low.dynamic.Attributes.{AttrsOf}
+use Rattle.tdf_report.specs.low.dynamic.declared.first.First.{First}
+use Rattle.tdf_report.specs.low.expr.declared.checked.Checked.{Checked}
+use Rattle.tdf_report.specs.low.flat.declared.model.Flat.{Flat}
+use Rattle.tdf_report.specs.low.history.Start.{counts_in, first_cluster, first_clusters}
+use Rattle.tdf_report.specs.low.history.World.{ClusterAt}
+use Rattle.tdf_report.specs.low.notes.Plans.{PlanRows, rows_of}
+use Rattle.tdf_report.specs.low.streams.Cluster.{text_start}
+use Rattle.tdf_report.specs.low.streams.Periods.{period_record}
+use Rattle.tdf_report.specs.low.tree.Pure.{PureTree}
+use Rattle.tdf_report.specs.low.world.Rules.{start_world}
 
 module _ (model : PureTree) (a : Flat) where
   -- a cluster at its start, by what its first plan says

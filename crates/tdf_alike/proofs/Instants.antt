@@ -3,19 +3,19 @@ use Rattle.std.proofs.Common.{◌≡◌, ℕ, ◌+◌, Option, Some, None, if◌
 use Rattle.std.specs.Prelude.{◌++◌, ◌∷◌, []}
 use Rattle.tdf_alike.proofs.Bodies.{net_same, with_bodies}
 use Rattle.tdf_alike.proofs.Checks.{AreSame}
-use Rattle.tdf_bind.specs.declared.actors.ActorRow.{ActorRow}
-use Rattle.tdf_expr.specs.declared.checked.Checked.{Checked}
-use Rattle.tdf_fixed.specs.declared.raw.Raw.{Raw}
-use Rattle.tdf_flat.specs.declared.model.Flat.{Flat}
-use Rattle.tdf_flow.specs.Grounds.{firings}
-use Rattle.tdf_flow.specs.Streams.{known, place}
-use Rattle.tdf_graph.specs.declared.actors.Actor.{Actor}
-use Rattle.tdf_graph.specs.declared.actors.Actor.TheVariants as actor
-use Rattle.tdf_history.specs.Instant.{activations, actor_of_entry, at_begin, boundary, edge_from, engine, events_of, fired, fired_as, firing_of, instant, is_due, is_entry_due, next_entry, periods_of, plan_length, run_in, sample_taken, signal_of, stepped, with_cluster}
-use Rattle.tdf_history.specs.World.{ClusterAt, Rules, World}
-use Rattle.tdf_instants.specs.History.{Going, Past, and_then, history, turns_to}
-use Rattle.tdf_streams.specs.Cluster.{zero_sample}
-use Rattle.tdf_tree.specs.Pure.{PureTree}
+use Rattle.tdf_report.specs.low.bind.declared.actors.ActorRow.{ActorRow}
+use Rattle.tdf_report.specs.low.expr.declared.checked.Checked.{Checked}
+use Rattle.tdf_report.specs.low.fixed.declared.raw.Raw.{Raw}
+use Rattle.tdf_report.specs.low.flat.declared.model.Flat.{Flat}
+use Rattle.tdf_report.specs.low.flow.Grounds.{firings}
+use Rattle.tdf_report.specs.low.flow.Streams.{known, place}
+use Rattle.tdf_report.specs.low.graph.declared.actors.Actor.{Actor}
+use Rattle.tdf_report.specs.low.graph.declared.actors.Actor.TheVariants as actor
+use Rattle.tdf_report.specs.low.history.Instant.{activations, actor_of_entry, at_begin, boundary, edge_from, engine, events_of, fired, fired_as, firing_of, instant, is_due, is_entry_due, next_entry, periods_of, plan_length, run_in, sample_taken, signal_of, stepped, with_cluster}
+use Rattle.tdf_report.specs.low.history.World.{ClusterAt, Rules, World}
+use Rattle.tdf_report.specs.low.instants.History.{Going, Past, and_then, history, turns_to}
+use Rattle.tdf_report.specs.low.streams.Cluster.{zero_sample}
+use Rattle.tdf_report.specs.low.tree.Pure.{PureTree}
 
 module _ (model : PureTree) (a : Flat) (y : Checked) (same : AreSame a.checked y) where
   taken_same : (cluster : ℕ) (c : ClusterAt) (m : ℕ) → sample_taken model a cluster c m ≡ sample_taken model (with_bodies a y) cluster c m

@@ -7,17 +7,17 @@ use Rattle.tdf_alike.proofs.Events.{rules_same}
 use Rattle.tdf_alike.proofs.Firsts.{world_same}
 use Rattle.tdf_alike.proofs.Instants.{history_same}
 use Rattle.tdf_alike.specs.Laws.{RunsWriteTheSame, WriteTheSame}
-use Rattle.tdf_dynamic.specs.declared.first.First.{First}
-use Rattle.tdf_expr.specs.declared.checked.Checked.{Checked}
-use Rattle.tdf_flat.specs.declared.model.Flat.{Flat}
-use Rattle.tdf_history.specs.Texts.{closing_text, first_plans, notes_to}
-use Rattle.tdf_instants.specs.History.{end_time}
-use Rattle.tdf_notes.specs.Plans.{rows_of}
+use Rattle.tdf_report.specs.low.dynamic.declared.first.First.{First}
+use Rattle.tdf_report.specs.low.expr.declared.checked.Checked.{Checked}
+use Rattle.tdf_report.specs.low.flat.declared.model.Flat.{Flat}
+use Rattle.tdf_report.specs.low.history.Texts.{closing_text, first_plans, notes_to}
+use Rattle.tdf_report.specs.low.instants.History.{end_time}
+use Rattle.tdf_report.specs.low.notes.Plans.{rows_of}
 use Rattle.tdf_report.proofs.Api.{no_new_plans, starts_untold}
 use Rattle.tdf_report.specs.Ending.{end_of, state_of}
-use Rattle.tdf_rows.specs.Rows.{Writing, trace_text}
-use Rattle.tdf_tree.specs.Pure.{PureTree}
-use Rattle.tdf_world.specs.Rules.{rules_of, start_world}
+use Rattle.tdf_report.specs.low.rows.Rows.{Writing, trace_text}
+use Rattle.tdf_report.specs.low.tree.Pure.{PureTree}
+use Rattle.tdf_report.specs.low.world.Rules.{rules_of, start_world}
 
 -- with other compiled bodies of the text
 module _ (model : PureTree) (a : Flat) (y : Checked) (same : AreSame a.checked y) (firsts others : List First)

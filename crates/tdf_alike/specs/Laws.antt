@@ -2,15 +2,15 @@
 -- have equal tables, their compiled bodies need not be equal, but are those of one text.
 -- Source: own.
 use Rattle.std.specs.Prelude.{◌≡◌, ℕ, List, [], map}
-use Rattle.tdf_dynamic.specs.declared.first.First.{First}
-use Rattle.tdf_flat.specs.Flat.{IsFlatOf}
-use Rattle.tdf_flat.specs.declared.model.Flat.{Flat}
-use Rattle.tdf_history.specs.Texts.{run_trace}
-use Rattle.tdf_notes.specs.Plans.{rows_of}
+use Rattle.tdf_report.specs.low.dynamic.declared.first.First.{First}
+use Rattle.tdf_report.specs.low.flat.Flat.{IsFlatOf}
+use Rattle.tdf_report.specs.low.flat.declared.model.Flat.{Flat}
+use Rattle.tdf_report.specs.low.history.Texts.{run_trace}
+use Rattle.tdf_report.specs.low.notes.Plans.{rows_of}
 use Rattle.tdf_report.specs.Ending.{run_end, run_note}
-use Rattle.tdf_rows.specs.Rows.{Writing}
-use Rattle.tdf_tree.specs.Pure.{PureTree}
-use Rattle.tdf_world.specs.Rules.{rules_of, start_world}
+use Rattle.tdf_report.specs.low.rows.Rows.{Writing}
+use Rattle.tdf_report.specs.low.tree.Pure.{PureTree}
+use Rattle.tdf_report.specs.low.world.Rules.{rules_of, start_world}
 
 -- two flat models of one model, each with the first plans of its clusters, which say the same
 pub record AreAlike (model : PureTree) (a b : Flat) (firsts others : List First) : Type 0 where

@@ -8,8 +8,8 @@ use Rattle.std.specs.Prelude.{slice_get, filter, filter_map, cond, All}
 use Rattle.tdf_bind.specs.Actors.{port_actor, actor_of_kind, actor_places, net_edge, AreActorEdges}
 use Rattle.tdf_bind.specs.declared.actors.ActorPlace.{ActorPlace}
 use Rattle.tdf_graph.specs.Ranges.{IsRate, IsEdge}
-use Rattle.tdf_tree.specs.declared.blocks.PortKind.{PortKind}
-use Rattle.tdf_tree.specs.declared.blocks.PortKind.TheVariants.{In, Out, DeIn, DeOut}
+use Rattle.tdf_wiring.specs.low.tree.declared.blocks.PortKind.{PortKind}
+use Rattle.tdf_wiring.specs.low.tree.declared.blocks.PortKind.TheVariants.{In, Out, DeIn, DeOut}
 use Rattle.tdf_wiring.specs.Edges.{IsShort, is_event_port, actor_at, driver_port, edge_from, driven_edge, edge_of_kind, edge_by, edges_of}
 use Rattle.tdf_wiring.specs.declared.drivers.SignalRow.{SignalRow}
 use Rattle.tdf_wiring.specs.declared.edges.EdgeRow.{EdgeRow}

@@ -9,13 +9,13 @@ use Rattle.tdf_bind.proofs.Joining.{both}
 use Rattle.tdf_bind.proofs.Reaching.{ports_reach_signals, rows_long}
 use Rattle.tdf_bind.specs.Flat.{FlatOf}
 use Rattle.tdf_bind.specs.Whole.{AreEventPorts, number_if, EdgesAreWhole}
-use Rattle.tdf_tree.specs.declared.blocks.PortKind.{PortKind}
-use Rattle.tdf_tree.specs.declared.blocks.PortKind.TheVariants.{In, Out, DeIn, DeOut}
-use Rattle.tdf_walk.specs.Laws.{PortsAreInRange}
-use Rattle.tdf_walk.specs.PortKinds.{PortsKeepKinds}
-use Rattle.tdf_walk.specs.Tables.{RowOf, TablesOf, is_of, same_kind, numbers_after}
-use Rattle.tdf_walk.specs.declared.tables.Signal.{Signal}
-use Rattle.tdf_walk.specs.declared.tables.SignalNumber.{SignalNumber}
+use Rattle.tdf_wiring.specs.low.tree.declared.blocks.PortKind.{PortKind}
+use Rattle.tdf_wiring.specs.low.tree.declared.blocks.PortKind.TheVariants.{In, Out, DeIn, DeOut}
+use Rattle.tdf_wiring.specs.low.walk.Laws.{PortsAreInRange}
+use Rattle.tdf_wiring.specs.low.walk.PortKinds.{PortsKeepKinds}
+use Rattle.tdf_wiring.specs.low.walk.Tables.{RowOf, TablesOf, is_of, same_kind, numbers_after}
+use Rattle.tdf_wiring.specs.low.walk.declared.tables.Signal.{Signal}
+use Rattle.tdf_wiring.specs.low.walk.declared.tables.SignalNumber.{SignalNumber}
 use Rattle.tdf_wiring.specs.Drivers.{driver_of, driver, module_port, driver_fault, fault_of, signal_row, writers_in}
 use Rattle.tdf_wiring.specs.Edges.{is_event_port, actor_at, driver_row, driver_port, edge_from, driven_edge, edge_of_kind, edge_by}
 use Rattle.tdf_wiring.specs.ProcessBlocks.{PlacedBlock, as_block, placed_blocks}

@@ -5,7 +5,7 @@ use Rattle.std.proofs.lemmas.List.{take_more, map-append, length-map}
 use Rattle.std.proofs.lemmas.List.Elements.{All-from_recursion, recursion_from_All}
 use Rattle.std.specs.List.{enumerate_from, cons_option, AllByRecursion, AllZip}
 use Rattle.std.specs.Prelude.{slice_get, All}
-use Rattle.tdf_base.specs.Limits.{greatest_delay}
+use Rattle.tdf_wiring.specs.low.base.Limits.{greatest_delay}
 use Rattle.tdf_bind.specs.Actors.{cluster_of}
 use Rattle.tdf_bind.specs.Flat.{IsShortRole, AreShort, FlatOf, FollowsFrom, HasManyClusters, OfClusters, IsFlatRefusal, ports_in, count_in, signals_in, edges_in}
 use Rattle.tdf_bind.specs.declared.actors.ActorRow.{ActorRow}
@@ -13,9 +13,9 @@ use Rattle.tdf_graph.specs.Clusters.{greatest}
 use Rattle.tdf_bind.specs.declared.flat.BindErr.{BindErr}
 use Rattle.tdf_bind.specs.declared.flat.BindErr.TheVariants as bind
 use Rattle.tdf_bind.specs.machine.FlatSteps.{IsAssembled, IsGraphErr, IsFirstErr}
-use Rattle.tdf_walk.specs.Blocks.{BlockOf}
-use Rattle.tdf_walk.specs.Met.{met_in}
-use Rattle.tdf_walk.specs.Tables.{RowOf, TablesOf, IsTable}
+use Rattle.tdf_wiring.specs.low.walk.Blocks.{BlockOf}
+use Rattle.tdf_wiring.specs.low.walk.Met.{met_in}
+use Rattle.tdf_wiring.specs.low.walk.Tables.{RowOf, TablesOf, IsTable}
 use Rattle.tdf_wiring.specs.Drivers.{writers_in, faults_in, signal_rows, AreSignals, SignalsOf}
 use Rattle.tdf_wiring.specs.ProcessBlocks.{ProcessBlocksOf, AreProcessBlocks}
 use Rattle.tdf_wiring.specs.Traces.{IsTraceOf, unknown_lines}

@@ -1,3 +1,4 @@
+pub mod Api
 pub mod ActorLoops
 pub mod EdgeRanges
 pub mod EdgeWhole

@@ -13,9 +13,9 @@ use Rattle.tdf_bind.specs.Ranges.{IsActorPort, AreInRange, FlatIsInRange}
 use Rattle.tdf_bind.specs.declared.actors.ActorPlace.{ActorPlace}
 use Rattle.tdf_bind.specs.declared.actors.ActorRow.{ActorRow}
 use Rattle.tdf_graph.specs.Ranges.{IsEdge}
-use Rattle.tdf_tree.specs.declared.blocks.PortKind.{PortKind}
-use Rattle.tdf_tree.specs.declared.blocks.PortKind.TheVariants.{In, Out, DeIn, DeOut}
-use Rattle.tdf_walk.specs.Tables.{TablesOf}
+use Rattle.tdf_wiring.specs.low.tree.declared.blocks.PortKind.{PortKind}
+use Rattle.tdf_wiring.specs.low.tree.declared.blocks.PortKind.TheVariants.{In, Out, DeIn, DeOut}
+use Rattle.tdf_wiring.specs.low.walk.Tables.{TablesOf}
 use Rattle.tdf_wiring.specs.Edges.{actor_at, driver_port, edge_from, driven_edge, edge_of_kind, edge_by}
 use Rattle.tdf_wiring.specs.declared.drivers.SignalRow.{SignalRow}
 use Rattle.tdf_wiring.specs.declared.edges.EdgeRow.{EdgeRow}

@@ -8,11 +8,11 @@ use Rattle.std.specs.Prelude.{slice_get, All}
 use Rattle.tdf_bind.proofs.Joining.{both}
 use Rattle.tdf_bind.specs.Flat.{FlatOf, FollowsFrom}
 use Rattle.tdf_bind.specs.Reach.{AgreeInKind, PortsReachSignals}
-use Rattle.tdf_walk.specs.Laws.{IsInRange, PortsAreInRange}
-use Rattle.tdf_walk.specs.PortKinds.{kinds_of, PortsKeepKinds}
-use Rattle.tdf_walk.specs.Tables.{RowOf, TablesOf, table}
-use Rattle.tdf_walk.specs.declared.tables.Signal.{Signal}
-use Rattle.tdf_walk.specs.declared.tables.SignalNumber.{SignalNumber}
+use Rattle.tdf_wiring.specs.low.walk.Laws.{IsInRange, PortsAreInRange}
+use Rattle.tdf_wiring.specs.low.walk.PortKinds.{kinds_of, PortsKeepKinds}
+use Rattle.tdf_wiring.specs.low.walk.Tables.{RowOf, TablesOf, table}
+use Rattle.tdf_wiring.specs.low.walk.declared.tables.Signal.{Signal}
+use Rattle.tdf_wiring.specs.low.walk.declared.tables.SignalNumber.{SignalNumber}
 use Rattle.tdf_wiring.specs.Drivers.{signal_row, signal_rows}
 use Rattle.tdf_wiring.specs.Edges.{is_event_port}
 use Rattle.tdf_wiring.specs.Modules.{PlacedModule, as_module, placed_modules, signal_at, port_row, module_ports, ports_from}

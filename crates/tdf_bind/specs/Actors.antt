@@ -8,8 +8,8 @@ use Rattle.tdf_graph.specs.Clusters.{AreClusters}
 use Rattle.tdf_graph.specs.Ranges.{IsEdge}
 use Rattle.tdf_graph.specs.declared.actors.Actor.TheVariants as actor
 use Rattle.tdf_graph.specs.declared.actors.Edge.{Edge}
-use Rattle.tdf_tree.specs.declared.blocks.PortKind.{PortKind}
-use Rattle.tdf_tree.specs.declared.blocks.PortKind.TheVariants.{In, Out, DeIn, DeOut}
+use Rattle.tdf_wiring.specs.low.tree.declared.blocks.PortKind.{PortKind}
+use Rattle.tdf_wiring.specs.low.tree.declared.blocks.PortKind.TheVariants.{In, Out, DeIn, DeOut}
 use Rattle.tdf_wiring.specs.declared.edges.EdgeRow.{EdgeRow}
 use Rattle.tdf_wiring.specs.declared.modules.PortRow.{PortRow}
 

@@ -3,20 +3,20 @@
 use Rattle.std.specs.List.{AllZip}
 use Rattle.std.specs.Option.{option_map}
 use Rattle.std.specs.Prelude.{◌≡◌, ◌<◌, ◌≤◌, ℕ, false, List, [], length, map, Option, Some, None, slice_get, All}
-use Rattle.tdf_base.specs.Limits.{greatest_delay, most_clusters}
-use Rattle.tdf_base.specs.declared.codes.Code.TheVariants as code
-use Rattle.tdf_base.specs.declared.faults.Fault.{Fault}
-use Rattle.tdf_base.specs.declared.faults.Place.TheVariants as place
+use Rattle.tdf_wiring.specs.low.base.Limits.{greatest_delay, most_clusters}
+use Rattle.tdf_wiring.specs.low.base.declared.codes.Code.TheVariants as code
+use Rattle.tdf_wiring.specs.low.base.declared.faults.Fault.{Fault}
+use Rattle.tdf_wiring.specs.low.base.declared.faults.Place.TheVariants as place
 use Rattle.tdf_bind.specs.Actors.{cluster_of, AreActors}
 use Rattle.tdf_bind.specs.declared.actors.ActorRow.{ActorRow}
 use Rattle.tdf_bind.specs.declared.flat.BindErr.{BindErr}
 use Rattle.tdf_bind.specs.declared.flat.BindErr.TheVariants.{Refused, Memory}
 use Rattle.tdf_graph.specs.Clusters.{greatest}
-use Rattle.tdf_walk.specs.Blocks.{BlockOf}
-use Rattle.tdf_walk.specs.Met.{met_in}
-use Rattle.tdf_walk.specs.Tables.{TablesOf, table, IsTable}
-use Rattle.tdf_walk.specs.declared.tables.Signal.{Signal}
-use Rattle.tdf_walk.specs.declared.tables.SignalNumber.{SignalNumber}
+use Rattle.tdf_wiring.specs.low.walk.Blocks.{BlockOf}
+use Rattle.tdf_wiring.specs.low.walk.Met.{met_in}
+use Rattle.tdf_wiring.specs.low.walk.Tables.{TablesOf, table, IsTable}
+use Rattle.tdf_wiring.specs.low.walk.declared.tables.Signal.{Signal}
+use Rattle.tdf_wiring.specs.low.walk.declared.tables.SignalNumber.{SignalNumber}
 use Rattle.tdf_wiring.specs.Drivers.{writers_in, faults_in, signal_rows, AreSignals}
 use Rattle.tdf_wiring.specs.Edges.{edges_of}
 use Rattle.tdf_wiring.specs.Modules.{placed_modules, ports_from, AreModules}

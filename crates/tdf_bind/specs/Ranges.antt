@@ -5,7 +5,7 @@ use Rattle.tdf_bind.specs.Flat.{FlatOf, AreShort, IsFlat}
 use Rattle.tdf_bind.specs.declared.actors.ActorRow.{ActorRow}
 use Rattle.tdf_graph.specs.declared.actors.Actor.{Actor}
 use Rattle.tdf_graph.specs.declared.actors.Actor.TheVariants as actor
-use Rattle.tdf_walk.specs.Blocks.{BlockOf}
+use Rattle.tdf_wiring.specs.low.walk.Blocks.{BlockOf}
 use Rattle.tdf_wiring.specs.declared.edges.EdgeRow.{EdgeRow}
 use Rattle.tdf_wiring.specs.declared.modules.ModuleRow.{ModuleRow}
 use Rattle.tdf_wiring.specs.declared.modules.PortRow.{PortRow}

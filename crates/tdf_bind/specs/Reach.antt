@@ -2,8 +2,8 @@
 -- Source: own.
 use Rattle.std.specs.Prelude.{◌≡◌, ◌<◌, ℕ, Bool, List, length, map, Some, cond, slice_get, All}
 use Rattle.tdf_bind.specs.Flat.{FlatOf, IsFlat}
-use Rattle.tdf_walk.specs.Blocks.{BlockOf}
-use Rattle.tdf_walk.specs.PortKinds.{kinds_of, KeepKinds}
+use Rattle.tdf_wiring.specs.low.walk.Blocks.{BlockOf}
+use Rattle.tdf_wiring.specs.low.walk.PortKinds.{kinds_of, KeepKinds}
 use Rattle.tdf_wiring.specs.Edges.{is_event_port}
 use Rattle.tdf_wiring.specs.Roles.{ModuleOf}
 use Rattle.tdf_wiring.specs.declared.roles.Role.{Role}

@@ -4,10 +4,10 @@ use Rattle.std.specs.List.{enumerate_from}
 use Rattle.std.specs.Prelude.{◌≡◌, ℕ, Bool, true, List, map, Option, Some, None, slice_get, filter_map, All}
 use Rattle.tdf_bind.specs.Flat.{FlatOf, IsFlat}
 use Rattle.tdf_bind.specs.Reach.{AgreeInKind}
-use Rattle.tdf_tree.specs.declared.blocks.PortKind.{PortKind}
-use Rattle.tdf_tree.specs.declared.blocks.PortKind.TheVariants.{In, Out, DeIn, DeOut}
-use Rattle.tdf_walk.specs.Blocks.{BlockOf}
-use Rattle.tdf_walk.specs.PortKinds.{KeepKinds}
+use Rattle.tdf_wiring.specs.low.tree.declared.blocks.PortKind.{PortKind}
+use Rattle.tdf_wiring.specs.low.tree.declared.blocks.PortKind.TheVariants.{In, Out, DeIn, DeOut}
+use Rattle.tdf_wiring.specs.low.walk.Blocks.{BlockOf}
+use Rattle.tdf_wiring.specs.low.walk.PortKinds.{KeepKinds}
 use Rattle.tdf_wiring.specs.Edges.{is_event_port}
 use Rattle.tdf_wiring.specs.Roles.{ProcessesOf}
 use Rattle.tdf_wiring.specs.declared.roles.Role.{Role}

@@ -8,9 +8,9 @@ ghost use Rattle.tdf_bind.specs.machine.ActorSteps.{event_actors};
 ghost use Rattle.tdf_graph.specs.Clusters.{AreClusters};
 
 use std::alloc::Global;
-use tdf_base::Memory;
 use tdf_graph::{Actor, Edge, Net, clusters};
-use tdf_tree::PortKind;
+use tdf_wiring::low::base::Memory;
+use tdf_wiring::low::tree::PortKind;
 use tdf_wiring::{EdgeRow, PortRow};
 
 /// An actor: a module, or the sampler or sink at a port of a module. The modules come first, then the samplers and sinks in

@@ -2,7 +2,7 @@
 
 ghost use Rattle.std.specs.List.{AllZip};
 ghost use Rattle.std.specs.Prelude.{◌≡◌, ◌<◌, ◌↔◌, [], Some, IfOk, OnOk, IfErr, IsTrue, All, length, map, max};
-ghost use Rattle.tdf_base.specs.Limits.{most_clusters};
+ghost use Rattle.tdf_wiring.specs.low.base.Limits.{most_clusters};
 ghost use Rattle.tdf_bind.specs.Actors.{cluster_of, AreActors};
 ghost use Rattle.tdf_bind.specs.Flat.{path_of, path_at, driver_report, trace_report, clusters_report};
 ghost use Rattle.tdf_bind.specs.Flat.{AreShort, FollowsFrom, IsFlat, IsFlatRefusal, ports_in};
@@ -10,9 +10,9 @@ ghost use Rattle.tdf_bind.specs.machine.FlatSteps.{IsDriverErr, IsTraceErr, IsDr
 ghost use Rattle.tdf_bind.specs.machine.FlatSteps.{assembled, IsAssembled, IsGraphErr};
 ghost use Rattle.tdf_bind.specs.declared.flat.BindErr.TheVariants as why;
 ghost use Rattle.tdf_graph.specs.Clusters.{greatest};
-ghost use Rattle.tdf_walk.specs.Bound.{AreBound};
-ghost use Rattle.tdf_walk.specs.Laws.{IsInRange};
-ghost use Rattle.tdf_walk.specs.Tables.{table};
+ghost use Rattle.tdf_wiring.specs.low.walk.Bound.{AreBound};
+ghost use Rattle.tdf_wiring.specs.low.walk.Laws.{IsInRange};
+ghost use Rattle.tdf_wiring.specs.low.walk.Tables.{table};
 ghost use Rattle.tdf_wiring.specs.Drivers.{writers_in, faults_in, AreSignals};
 ghost use Rattle.tdf_wiring.specs.Edges.{IsShort, edges_of};
 ghost use Rattle.tdf_wiring.specs.Modules.{AreModules};
@@ -22,8 +22,8 @@ ghost use Rattle.tdf_wiring.specs.Traces.{IsTraceOf, unknown_lines};
 use crate::actors::{ActorRow, actors_of};
 use std::alloc::Global;
 use std::marker::Model;
-use tdf_base::{Code, Fault, MOST_CLUSTERS, Memory, Path, Place};
-use tdf_walk::{Block, Signal, SignalNumber, Tables, law_numbers, tables_of};
+use tdf_wiring::low::base::{Code, Fault, MOST_CLUSTERS, Memory, Path, Place};
+use tdf_wiring::low::walk::{Block, Signal, SignalNumber, Tables, law_numbers, tables_of};
 use tdf_wiring::{
     BlockRow, DriverErr, DriverFault, EdgeRow, EventRow, ModuleRow, Modules, PortRow,
     ProcessBlocks, ProcessRow, Role, SignalRow, Signals, TraceErr, TraceLine, TraceRow, connect,

@@ -4,7 +4,7 @@ ghost use Rattle.tdf_bind.specs.Ranges.{FlatIsInRange};
 ghost use Rattle.tdf_bind.specs.Reach.{PortsReachSignals};
 ghost use Rattle.tdf_bind.specs.Whole.{EdgesAreWhole};
 
-use tdf_walk::{law_kinds, law_numbers};
+use tdf_wiring::low::walk::{law_kinds, law_numbers};
 
 /// The numbers of modules, ports and actors in the tables of a flat model are those of rows.
 pub fn law_ranges()

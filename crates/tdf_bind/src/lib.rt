@@ -4,11 +4,13 @@
 //! - `flat`: all tables, or the first fault.
 //! - `reading`: the number of clusters, and the paths of actors and edges.
 //! - `laws`: what holds of all flat models.
+//! - `low`: what the crates above use of the crates further below.
 #![tactic(auto)]
 
 mod actors;
 mod flat;
 mod laws;
+pub mod low;
 mod reading;
 
 pub use actors::{ActorRow, actors_of};

@@ -8,7 +8,7 @@ ghost use Rattle.tdf_graph.specs.Clusters.{greatest};
 use crate::actors::ActorRow;
 use crate::flat::{Flat, cluster_count};
 use tdf_graph::Actor;
-use tdf_walk::SharedPath;
+use tdf_wiring::low::walk::SharedPath;
 use tdf_wiring::{ModuleRow, PortRow};
 
 fn row_path<'f>(modules: &'f [ModuleRow], ports: &'f [PortRow], row: ActorRow) -> &'f SharedPath

@@ -10,5 +10,6 @@ pub mod Items
 pub mod Laws
 pub mod Refused
 pub mod SpellsTree
+pub mod low
 pub mod machine
 pub mod views

@@ -1,4 +1,5 @@
 pub mod Formats
 pub mod Layouts
 pub mod Promises
+pub mod low
 pub mod machine

@@ -7,11 +7,13 @@
 //! - `exprs`: operators and expressions.
 //! - `targets`: assignments.
 //! - `stmts`: statements and bodies.
+//! - `low`: what the crates above use of the crates further below.
 #![tactic(auto)]
 
 mod exprs;
 mod formats;
 mod layouts;
+pub mod low;
 mod names;
 mod numbers;
 mod spots;

@@ -4,7 +4,7 @@ use Rattle.std.proofs.lemmas.List.{length-map}
 use Rattle.std.proofs.lemmas.Option.{slice_get-map, slice_get_within}
 use Rattle.std.specs.Option.{option_map}
 use Rattle.std.specs.Prelude.{Contains, Result, Ok, Err, IfErr, IfOk, IsOk, ℤ, slice_get}
-use Rattle.tdf_base.specs.declared.faults.Fault.{Fault}
+use Rattle.tdf_streams.specs.low.base.declared.faults.Fault.{Fault}
 use Rattle.tdf_changes.proofs.Boundary.{Tell, after_is, attributes_after, change_fault, new_plan}
 use Rattle.tdf_changes.proofs.Judging.{all_weaker}
 use Rattle.tdf_changes.specs.Asked.{asked, attrs_after}
@@ -18,17 +18,17 @@ use Rattle.tdf_changes.specs.declared.next.Next.TheVariants.{Changed, Same}
 use Rattle.tdf_changes.specs.machine.Asking.{AllTell, HasAsked, HaveAsked}
 use Rattle.tdf_changes.specs.machine.Boundary.{IsFound, IsRefusedAt, NoneMarks}
 use Rattle.tdf_changes.specs.machine.Rows.{AreAfter}
-use Rattle.tdf_dynamic.specs.Attributes.{AttrsOf, clusters_of}
-use Rattle.tdf_dynamic.specs.Faults.{IsRefusal}
-use Rattle.tdf_dynamic.specs.declared.err.ChangeErr.{ChangeErr}
-use Rattle.tdf_dynamic.specs.declared.err.ChangeErr.TheVariants.{Refused, Memory}
-use Rattle.tdf_expr.specs.Checked.{IsCheckedOf}
-use Rattle.tdf_flat.specs.declared.model.Flat.{Flat}
-use Rattle.tdf_flow.proofs.Api.{get_inside}
-use Rattle.tdf_limits.specs.Limits.{AreWithinLimits}
-use Rattle.tdf_schedule.specs.declared.entry.Plan.{Plan}
+use Rattle.tdf_streams.specs.low.dynamic.Attributes.{AttrsOf, clusters_of}
+use Rattle.tdf_streams.specs.low.dynamic.Faults.{IsRefusal}
+use Rattle.tdf_streams.specs.low.dynamic.declared.err.ChangeErr.{ChangeErr}
+use Rattle.tdf_streams.specs.low.dynamic.declared.err.ChangeErr.TheVariants.{Refused, Memory}
+use Rattle.tdf_streams.specs.low.expr.Checked.{IsCheckedOf}
+use Rattle.tdf_streams.specs.low.flat.declared.model.Flat.{Flat}
+use Rattle.tdf_streams.proofs.Api.{get_inside}
+use Rattle.tdf_streams.specs.low.limits.Limits.{AreWithinLimits}
+use Rattle.tdf_streams.specs.low.schedule.declared.entry.Plan.{Plan}
 use Rattle.tdf_streams.specs.Periods.{AreAttributes}
-use Rattle.tdf_tree.specs.Pure.{PureTree}
+use Rattle.tdf_streams.specs.low.tree.Pure.{PureTree}
 
 pub have_table : (flat : Flat) (l table : List AttrsOf) (old new : List ModuleFrame) → l ≡ table → HaveAsked flat l (length l) old new → HaveAsked flat table (length table) old new
 have_table flat l table old new same have = subst (λ (t : List AttrsOf). HaveAsked flat t (length t) old new) same have

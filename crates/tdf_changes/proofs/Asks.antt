@@ -3,7 +3,7 @@ use Rattle.std.proofs.Common.{◌≡◌, ◌∙◌, ℕ, zero, suc, ◌+◌, ◌
 use Rattle.std.proofs.lemmas.List.{length-map, length-replicate}
 use Rattle.std.specs.List.{flat_map}
 use Rattle.std.specs.Prelude.{replicate, slice_get}
-use Rattle.tdf_base.specs.Limits.{deepest_nesting}
+use Rattle.tdf_streams.specs.low.base.Limits.{deepest_nesting}
 use Rattle.tdf_changes.proofs.Begins.{begun_zeros, run_zeros}
 use Rattle.tdf_changes.proofs.Keeping.{AreShort, Stays, stmts_stay}
 use Rattle.tdf_changes.specs.Asked.{asked, asked_in, nothing_asked, port_count}
@@ -11,33 +11,33 @@ use Rattle.tdf_changes.specs.Given.{IsFrameOf, IsOfText}
 use Rattle.tdf_changes.specs.declared.frames.ModuleFrame.{ModuleFrame}
 use Rattle.tdf_changes.specs.Ports.{AreBegun}
 use Rattle.tdf_changes.specs.machine.Asking.{CanTell, HasAsked}
-use Rattle.tdf_dynamic.specs.Attributes.{AttrsOf}
-use Rattle.tdf_expr.specs.Blocks.{PureBlock, blocks_of, body_of, scope_of}
-use Rattle.tdf_expr.specs.Checked.{IsCheckedOf}
-use Rattle.tdf_expr.specs.Compiled.{AreBlocksOf, IsBlockOf}
-use Rattle.tdf_expr.specs.Frames.{ArePortsFit, FrameSeen, KeepsRead, PortsSeen, limits_of_rate}
-use Rattle.tdf_expr.specs.Made.{AreMadeFor, event_count, port_spans_of, rate_spans_of, rates_in, spans_in}
-use Rattle.tdf_expr.specs.Plans.{rate_span}
-use Rattle.tdf_expr.specs.Runs.{Ran, scope_in}
-use Rattle.tdf_expr.specs.declared.blocks.Block.{Block}
-use Rattle.tdf_expr.specs.declared.bodies.Body.TheVariants as body
-use Rattle.tdf_expr.specs.declared.checked.Checked.{Checked}
-use Rattle.tdf_expr.specs.declared.spans.PortSpan.{PortSpan}
-use Rattle.tdf_firing.specs.Activation.{ports_before}
-use Rattle.tdf_flat.specs.declared.model.Flat.{Flat}
-use Rattle.tdf_flow.proofs.Api.{get_inside}
-use Rattle.tdf_limits.specs.Limits.{limits_in}
-use Rattle.tdf_meaning.specs.Bodies.{after_body}
-use Rattle.tdf_meaning.specs.Fits.{RatesFit}
-use Rattle.tdf_meaning.specs.Places.{RateLimits, limits_of, rate_limits}
-use Rattle.tdf_scope.specs.Names.{Names, Thing, RateVar, globals_of}
-use Rattle.tdf_state.specs.State.{State, state_of}
+use Rattle.tdf_streams.specs.low.dynamic.Attributes.{AttrsOf}
+use Rattle.tdf_streams.specs.low.expr.Blocks.{PureBlock, blocks_of, body_of, scope_of}
+use Rattle.tdf_streams.specs.low.expr.Checked.{IsCheckedOf}
+use Rattle.tdf_streams.specs.low.expr.Compiled.{AreBlocksOf, IsBlockOf}
+use Rattle.tdf_streams.specs.low.expr.Frames.{ArePortsFit, FrameSeen, KeepsRead, PortsSeen, limits_of_rate}
+use Rattle.tdf_streams.specs.low.expr.Made.{AreMadeFor, event_count, port_spans_of, rate_spans_of, rates_in, spans_in}
+use Rattle.tdf_streams.specs.low.expr.Plans.{rate_span}
+use Rattle.tdf_streams.specs.low.expr.Runs.{Ran, scope_in}
+use Rattle.tdf_streams.specs.low.expr.declared.blocks.Block.{Block}
+use Rattle.tdf_streams.specs.low.expr.declared.bodies.Body.TheVariants as body
+use Rattle.tdf_streams.specs.low.expr.declared.checked.Checked.{Checked}
+use Rattle.tdf_streams.specs.low.expr.declared.spans.PortSpan.{PortSpan}
+use Rattle.tdf_streams.specs.low.firing.Activation.{ports_before}
+use Rattle.tdf_streams.specs.low.flat.declared.model.Flat.{Flat}
+use Rattle.tdf_streams.proofs.Api.{get_inside}
+use Rattle.tdf_streams.specs.low.limits.Limits.{limits_in}
+use Rattle.tdf_streams.specs.low.meaning.Bodies.{after_body}
+use Rattle.tdf_streams.specs.low.meaning.Fits.{RatesFit}
+use Rattle.tdf_streams.specs.low.meaning.Places.{RateLimits, limits_of, rate_limits}
+use Rattle.tdf_streams.specs.low.scope.Names.{Names, Thing, RateVar, globals_of}
+use Rattle.tdf_streams.specs.low.state.State.{State, state_of}
 use Rattle.tdf_streams.specs.Bodies.{after_part, done_by, nothing_read}
 use Rattle.tdf_streams.specs.Periods.{HasAllowedRates}
 use Rattle.tdf_streams.specs.Places.{block_at, block_of_row, changes_row, has_changes}
-use Rattle.tdf_tree.specs.Kept.{Each, KeepsGlobal, KeepsStmts}
-use Rattle.tdf_tree.specs.Pure.{GDe, GNet, GShape, GTdf, PureGlobal, PureTree}
-use Rattle.tdf_wiring.specs.declared.modules.ModuleRow.{ModuleRow}
+use Rattle.tdf_streams.specs.low.tree.Kept.{Each, KeepsGlobal, KeepsStmts}
+use Rattle.tdf_streams.specs.low.tree.Pure.{GDe, GNet, GShape, GTdf, PureGlobal, PureTree}
+use Rattle.tdf_streams.specs.low.wiring.declared.modules.ModuleRow.{ModuleRow}
 
 -- a block has few ports
 spans_few : (checked : Checked) (number : ℕ) → length (port_spans_of checked number) ≤ 2 ^ 31

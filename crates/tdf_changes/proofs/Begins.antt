@@ -7,13 +7,13 @@ use Rattle.std.proofs.lemmas.List.{ext_get_or, get_or-replicate, get_or_past, le
 use Rattle.std.specs.Prelude.{replicate, slice_get}
 use Rattle.tdf_changes.specs.Ports.{AreBegun}
 use Rattle.tdf_changes.specs.machine.Asking.{AreZeroBelow}
-use Rattle.tdf_expr.specs.Frames.{ArePortsFit, KeepsRead, PortsSeen, reset_state, sample_formats}
-use Rattle.tdf_expr.specs.Plans.{written}
-use Rattle.tdf_expr.specs.declared.spans.PortSpan.{PortSpan}
-use Rattle.tdf_firing.specs.Activation.{port_samples, samples_from}
-use Rattle.tdf_firing.specs.Firing.{AreZerosBehind}
-use Rattle.tdf_firing.specs.Wires.{WiresOf}
-use Rattle.tdf_state.specs.State.{PortsState, cell_at}
+use Rattle.tdf_streams.specs.low.expr.Frames.{ArePortsFit, KeepsRead, PortsSeen, reset_state, sample_formats}
+use Rattle.tdf_streams.specs.low.expr.Plans.{written}
+use Rattle.tdf_streams.specs.low.expr.declared.spans.PortSpan.{PortSpan}
+use Rattle.tdf_streams.specs.low.firing.Activation.{port_samples, samples_from}
+use Rattle.tdf_streams.specs.low.firing.Firing.{AreZerosBehind}
+use Rattle.tdf_streams.specs.low.firing.Wires.{WiresOf}
+use Rattle.tdf_streams.specs.low.state.State.{PortsState, cell_at}
 use Rattle.tdf_streams.specs.Bodies.{nothing_read}
 
 -- ports that read nothing hold zeros

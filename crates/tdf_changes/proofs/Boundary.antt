@@ -6,9 +6,9 @@ use Rattle.std.proofs.lemmas.Option.{same_Some, slice_get-get_or, slice_get-map,
 use Rattle.std.specs.List.{AllByRecursion}
 use Rattle.std.specs.Option.{option_map}
 use Rattle.std.specs.Prelude.{All, slice_get, slice_index_or}
-use Rattle.tdf_base.specs.Limits.{time_end}
-use Rattle.tdf_base.specs.declared.faults.Fault.{Fault}
-use Rattle.tdf_bind.specs.Flat.{FlatOf}
+use Rattle.tdf_streams.specs.low.base.Limits.{time_end}
+use Rattle.tdf_streams.specs.low.base.declared.faults.Fault.{Fault}
+use Rattle.tdf_streams.specs.low.bind.Flat.{FlatOf}
 use Rattle.tdf_changes.proofs.Keeping.{AreShort}
 use Rattle.tdf_changes.proofs.Steps.{steps_long}
 use Rattle.tdf_changes.specs.Asked.{AskedOf, HasSameRates, IsQuiet, attrs_after, steps_after}
@@ -18,10 +18,10 @@ use Rattle.tdf_changes.specs.machine.Asking.{CanTell, told}
 use Rattle.tdf_changes.specs.machine.Boundary.{InRange, InTable, IsRefusedAt, Marks, NoneMarks}
 use Rattle.tdf_changes.specs.machine.Judging.{AreTimed, InPlan, InRejected, InSteps, IsJudged, IsJudgedFault, NoneRefuse, Refuses}
 use Rattle.tdf_changes.specs.machine.Rows.{AreAfter, AreFlagged, HoldsBelow, IsFirstPlace, flagged}
-use Rattle.tdf_dynamic.specs.Attributes.{AttrsOf, IsOfCluster}
-use Rattle.tdf_flat.specs.declared.model.Flat.{Flat}
-use Rattle.tdf_flow.proofs.Api.{get_inside}
-use Rattle.tdf_schedule.specs.declared.entry.Plan.{Plan}
+use Rattle.tdf_streams.specs.low.dynamic.Attributes.{AttrsOf, IsOfCluster}
+use Rattle.tdf_streams.specs.low.flat.declared.model.Flat.{Flat}
+use Rattle.tdf_streams.proofs.Api.{get_inside}
+use Rattle.tdf_streams.specs.low.schedule.declared.entry.Plan.{Plan}
 use Rattle.tdf_streams.specs.Periods.{AreAttributes, HasAllowedRates}
 
 -- the instances say what is asked for

@@ -3,29 +3,29 @@ use Rattle.std.proofs.Common.{◌≡◌, ◌∙◌, ℕ, List, Some, length, sym
 use Rattle.std.proofs.lemmas.List.{length-map}
 use Rattle.std.proofs.lemmas.Option.{same_Some, slice_get_within}
 use Rattle.std.specs.Prelude.{Contains, Result, Ok, Err, IfErr, slice_index_or}
-use Rattle.tdf_balance.specs.Laws.{AnswersExclude, CountsAreUnique}
-use Rattle.tdf_base.specs.declared.codes.Code.{Code}
-use Rattle.tdf_base.specs.declared.codes.Code.TheVariants as code
-use Rattle.tdf_base.specs.declared.faults.Fault.{Fault}
-use Rattle.tdf_bind.specs.Actors.{cluster_of}
-use Rattle.tdf_bind.specs.Flat.{FlatOf}
-use Rattle.tdf_bind.specs.declared.actors.ActorRow.{ActorRow}
+use Rattle.tdf_streams.specs.low.balance.Laws.{AnswersExclude, CountsAreUnique}
+use Rattle.tdf_streams.specs.low.base.declared.codes.Code.{Code}
+use Rattle.tdf_streams.specs.low.base.declared.codes.Code.TheVariants as code
+use Rattle.tdf_streams.specs.low.base.declared.faults.Fault.{Fault}
+use Rattle.tdf_streams.specs.low.bind.Actors.{cluster_of}
+use Rattle.tdf_streams.specs.low.bind.Flat.{FlatOf}
+use Rattle.tdf_streams.specs.low.bind.declared.actors.ActorRow.{ActorRow}
 use Rattle.tdf_changes.proofs.Rows.{get_read}
 use Rattle.tdf_changes.specs.Change.{fault_of}
 use Rattle.tdf_changes.specs.Given.{IsPlanned}
 use Rattle.tdf_changes.specs.declared.frames.ModuleFrame.{ModuleFrame}
 use Rattle.tdf_changes.specs.machine.Judging.{AreTimed, InPlan, InRejected, InSteps, IsJudged, IsJudgedFault, NoneRefuse}
 use Rattle.tdf_changes.specs.machine.Rows.{HoldsBelow, IsFirstPlace, IsRefusing}
-use Rattle.tdf_dynamic.proofs.Api.{fault_apart, net_clusters, net_fit, ports_are}
-use Rattle.tdf_dynamic.specs.Attributes.{AttrsOf, clusters_of}
-use Rattle.tdf_dynamic.specs.Faults.{HasTiming, IsPlanFault, IsPlanOf, IsRefusal, IsStepsFault, OfTiming}
-use Rattle.tdf_dynamic.specs.Rates.{AreRates, IsWired, NetOf, net_of, net_ports, seen}
-use Rattle.tdf_dynamic.specs.declared.err.ChangeErr.{ChangeErr}
-use Rattle.tdf_dynamic.specs.declared.err.ChangeErr.TheVariants.{Refused, Memory}
-use Rattle.tdf_graph.specs.declared.actors.Port.{Port}
-use Rattle.tdf_graph.specs.declared.net.Net.{Net}
-use Rattle.tdf_schedule.specs.declared.entry.Plan.{Plan}
-use Rattle.tdf_timestep.specs.declared.assign.Steps.{Steps}
+use Rattle.tdf_streams.proofs.Api.{fault_apart, net_clusters, net_fit, ports_are}
+use Rattle.tdf_streams.specs.low.dynamic.Attributes.{AttrsOf, clusters_of}
+use Rattle.tdf_streams.specs.low.dynamic.Faults.{HasTiming, IsPlanFault, IsPlanOf, IsRefusal, IsStepsFault, OfTiming}
+use Rattle.tdf_streams.specs.low.dynamic.Rates.{AreRates, IsWired, NetOf, net_of, net_ports, seen}
+use Rattle.tdf_streams.specs.low.dynamic.declared.err.ChangeErr.{ChangeErr}
+use Rattle.tdf_streams.specs.low.dynamic.declared.err.ChangeErr.TheVariants.{Refused, Memory}
+use Rattle.tdf_streams.specs.low.graph.declared.actors.Port.{Port}
+use Rattle.tdf_streams.specs.low.graph.declared.net.Net.{Net}
+use Rattle.tdf_streams.specs.low.schedule.declared.entry.Plan.{Plan}
+use Rattle.tdf_streams.specs.low.timestep.declared.assign.Steps.{Steps}
 
 pub refusal_weaker : (P Q : Fault → Type 0) → ((f : Fault) → P f → Q f) → (e : ChangeErr) → IsRefusal P e → IsRefusal Q e
 refusal_weaker P Q to (Refused fault) is = to fault is

@@ -4,19 +4,19 @@ use Rattle.std.proofs.Common.{refl, sym, ap, subst, arith, if◌then◌else◌, 
 use Rattle.std.proofs.lemmas.Bool.Decides.{nat_tests}
 use Rattle.std.proofs.lemmas.Option.{same_Some}
 use Rattle.std.specs.Prelude.{nat_le, slice_get, slice_set}
-use Rattle.tdf_base.specs.Limits.{time_end}
-use Rattle.tdf_fixed.specs.declared.raw.Raw.{Raw}
-use Rattle.tdf_meaning.proofs.Api.{found, limits_placed, rates_set}
-use Rattle.tdf_meaning.specs.Bodies.{after, after_all, assigned_at, limit_value, noticed_at, rate_set, repeated, stepped, stepped_at, target_index, whole_within, with_element, with_whole}
-use Rattle.tdf_meaning.specs.Fits.{RatesFit}
-use Rattle.tdf_meaning.specs.Places.{port_number, rate_limits, rate_number}
-use Rattle.tdf_meaning.specs.Value.{holds, value}
-use Rattle.tdf_scope.specs.Faults.{opened}
-use Rattle.tdf_scope.specs.Names.{Names, Thing, Var, Array, Port, RateVar, place_of, thing_of}
-use Rattle.tdf_scope.specs.Scope.{OpenLoop, Scope}
-use Rattle.tdf_state.specs.State.{State, with_range_fault, with_step}
-use Rattle.tdf_tree.specs.Kept.{KeepsStmt, KeepsStmts}
-use Rattle.tdf_tree.specs.Pure.{Done, More, PureStmt, PureStmts, SAccept, SAssign, SFor, SIf, SNotify, SReject, SSetRate, SSetStep}
+use Rattle.tdf_streams.specs.low.base.Limits.{time_end}
+use Rattle.tdf_streams.specs.low.fixed.declared.raw.Raw.{Raw}
+use Rattle.tdf_streams.proofs.Api.{found, limits_placed, rates_set}
+use Rattle.tdf_streams.specs.low.meaning.Bodies.{after, after_all, assigned_at, limit_value, noticed_at, rate_set, repeated, stepped, stepped_at, target_index, whole_within, with_element, with_whole}
+use Rattle.tdf_streams.specs.low.meaning.Fits.{RatesFit}
+use Rattle.tdf_streams.specs.low.meaning.Places.{port_number, rate_limits, rate_number}
+use Rattle.tdf_streams.specs.low.meaning.Value.{holds, value}
+use Rattle.tdf_streams.specs.low.scope.Faults.{opened}
+use Rattle.tdf_streams.specs.low.scope.Names.{Names, Thing, Var, Array, Port, RateVar, place_of, thing_of}
+use Rattle.tdf_streams.specs.low.scope.Scope.{OpenLoop, Scope}
+use Rattle.tdf_streams.specs.low.state.State.{State, with_range_fault, with_step}
+use Rattle.tdf_streams.specs.low.tree.Kept.{KeepsStmt, KeepsStmts}
+use Rattle.tdf_streams.specs.low.tree.Pure.{Done, More, PureStmt, PureStmts, SAccept, SAssign, SFor, SIf, SNotify, SReject, SSetRate, SSetStep}
 
 -- the timesteps that are assigned
 abbrev pub AreShort : List (Option ℕ) → Type 0

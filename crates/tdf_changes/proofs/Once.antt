@@ -3,28 +3,28 @@ use Rattle.std.proofs.Common.{◌≡◌, ◌∙◌, ℕ, ◌<◌, ◌≤◌, ◌
 use Rattle.std.proofs.lemmas.Bool.{cases_lt}
 use Rattle.std.proofs.lemmas.Option.{get_or_from_slice_get, same_Some, slice_get_within}
 use Rattle.std.specs.Prelude.{All, slice_get, slice_index, slice_index_or}
-use Rattle.tdf_balance.specs.Laws.{AnswersExclude, CountsAreUnique}
-use Rattle.tdf_base.specs.declared.codes.Code.{Code}
-use Rattle.tdf_base.specs.declared.faults.Fault.{Fault}
-use Rattle.tdf_bind.specs.Flat.{FlatOf}
+use Rattle.tdf_streams.specs.low.balance.Laws.{AnswersExclude, CountsAreUnique}
+use Rattle.tdf_streams.specs.low.base.declared.codes.Code.{Code}
+use Rattle.tdf_streams.specs.low.base.declared.faults.Fault.{Fault}
+use Rattle.tdf_streams.specs.low.bind.Flat.{FlatOf}
 use Rattle.tdf_changes.proofs.Rows.{not_both}
 use Rattle.tdf_changes.specs.Change.{AreUnmarked, Asks, HasSameSteps, IsFirstFault, IsFirstRow, IsMarked, IsNewPlan, OfPlan, OfRange, OfRejected, OfSteps, Rejects, TimingOf, TimingsOf, fault_of, module_step, table_after}
 use Rattle.tdf_changes.specs.Laws.{BoundariesHaveOne, IsBoundary}
-use Rattle.tdf_dynamic.proofs.Api.{fault_apart, fault_once, net_clusters, net_fit, no_counts, no_steps, plan_once, same_steps}
-use Rattle.tdf_dynamic.specs.Attributes.{AttrsOf, clusters_of}
-use Rattle.tdf_dynamic.specs.Faults.{IsNetFault, IsNetPlan, IsStepsFault, OfCounts, OfPeriod, OfPlan as NetPlanFault, OfTiming}
-use Rattle.tdf_dynamic.specs.Laws.{AreSamePlans}
-use Rattle.tdf_dynamic.specs.Rates.{net_of}
-use Rattle.tdf_flat.specs.declared.model.Flat.{Flat}
-use Rattle.tdf_graph.specs.Clusters.{AreClusters}
-use Rattle.tdf_graph.specs.Ranges.{IsEdge}
-use Rattle.tdf_graph.specs.declared.actors.Port.{Port}
-use Rattle.tdf_schedule.specs.Laws.{BoundsAreUnique, PlansAreUnique}
-use Rattle.tdf_schedule.specs.declared.entry.Plan.{Plan}
+use Rattle.tdf_streams.proofs.Api.{fault_apart, fault_once, net_clusters, net_fit, no_counts, no_steps, plan_once, same_steps}
+use Rattle.tdf_streams.specs.low.dynamic.Attributes.{AttrsOf, clusters_of}
+use Rattle.tdf_streams.specs.low.dynamic.Faults.{IsNetFault, IsNetPlan, IsStepsFault, OfCounts, OfPeriod, OfPlan as NetPlanFault, OfTiming}
+use Rattle.tdf_streams.specs.low.dynamic.Laws.{AreSamePlans}
+use Rattle.tdf_streams.specs.low.dynamic.Rates.{net_of}
+use Rattle.tdf_streams.specs.low.flat.declared.model.Flat.{Flat}
+use Rattle.tdf_streams.specs.low.graph.Clusters.{AreClusters}
+use Rattle.tdf_streams.specs.low.graph.Ranges.{IsEdge}
+use Rattle.tdf_streams.specs.low.graph.declared.actors.Port.{Port}
+use Rattle.tdf_streams.specs.low.schedule.Laws.{BoundsAreUnique, PlansAreUnique}
+use Rattle.tdf_streams.specs.low.schedule.declared.entry.Plan.{Plan}
 use Rattle.tdf_streams.proofs.Api.{are_rates, is_wired}
 use Rattle.tdf_streams.specs.Periods.{AreAttributes}
-use Rattle.tdf_timestep.specs.Period.{rate_of}
-use Rattle.tdf_timestep.specs.declared.assign.Steps.{Steps}
+use Rattle.tdf_streams.specs.low.timestep.Period.{rate_of}
+use Rattle.tdf_streams.specs.low.timestep.declared.assign.Steps.{Steps}
 
 pub all_get : {A : Type 0} (P : A → Type 0) (xs : List A) (j : ℕ) (x : A) → All P xs → slice_get xs j ≡ Some x → P x
 all_get P xs j x all at = subst P (get_or_from_slice_get xs j x x at) (all j x (slice_get_within xs j x at))

@@ -8,10 +8,10 @@ use Rattle.tdf_changes.specs.Asked.{attrs_after}
 use Rattle.tdf_changes.specs.declared.frames.ModuleFrame.{ModuleFrame}
 use Rattle.tdf_changes.specs.machine.Asking.{HasAsked, HaveAsked, told}
 use Rattle.tdf_changes.specs.machine.Rows.{AreAfter, HoldsBelow}
-use Rattle.tdf_dynamic.specs.Attributes.{AttrsOf}
-use Rattle.tdf_flat.specs.declared.model.Flat.{Flat}
-use Rattle.tdf_flow.proofs.Api.{get_high, get_low}
-use Rattle.tdf_wiring.specs.declared.modules.ModuleRow.{ModuleRow}
+use Rattle.tdf_streams.specs.low.dynamic.Attributes.{AttrsOf}
+use Rattle.tdf_streams.specs.low.flat.declared.model.Flat.{Flat}
+use Rattle.tdf_streams.proofs.Api.{get_high, get_low}
+use Rattle.tdf_streams.specs.low.wiring.declared.modules.ModuleRow.{ModuleRow}
 
 pub not_both : (b : Bool) → b ≡ false → b ≡ true → ⊥
 not_both true unset set = absurd cc

@@ -7,13 +7,13 @@ use Rattle.std.proofs.lemmas.List.{get_or-set_other, get_or-set_same, length-app
 use Rattle.std.proofs.lemmas.Option.{same_Some}
 use Rattle.std.specs.Prelude.{replicate, slice_get, slice_set}
 use Rattle.tdf_changes.specs.machine.Asking.{AreZeroBelow}
-use Rattle.tdf_expr.specs.Frames.{AreConsecutive, ArePortsFit, IsOfFormat, PortsSeen, sample_formats}
-use Rattle.tdf_expr.specs.Plans.{written}
-use Rattle.tdf_expr.specs.declared.spans.PortSpan.{PortSpan}
-use Rattle.tdf_fixed.specs.Cast.{fraction_of}
-use Rattle.tdf_flow.proofs.Api.{get_inside}
-use Rattle.tdf_fixed.specs.Overflow.{IsIn}
-use Rattle.tdf_state.specs.State.{cell_at}
+use Rattle.tdf_streams.specs.low.expr.Frames.{AreConsecutive, ArePortsFit, IsOfFormat, PortsSeen, sample_formats}
+use Rattle.tdf_streams.specs.low.expr.Plans.{written}
+use Rattle.tdf_streams.specs.low.expr.declared.spans.PortSpan.{PortSpan}
+use Rattle.tdf_streams.specs.low.fixed.Cast.{fraction_of}
+use Rattle.tdf_streams.proofs.Api.{get_inside}
+use Rattle.tdf_streams.specs.low.fixed.Overflow.{IsIn}
+use Rattle.tdf_streams.specs.low.state.State.{cell_at}
 
 zero_in : (signed : Bool) (wl : ℕ) → IsIn signed wl (pos 0)
 zero_in true wl = record { low = omega (arith, ints); high = omega (arith, ints) }

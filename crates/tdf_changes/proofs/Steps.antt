@@ -4,7 +4,7 @@ use Rattle.std.proofs.Math.ListN.{get_or}
 use Rattle.std.proofs.lemmas.List.{ext_get_or}
 use Rattle.std.specs.Prelude.{slice_get}
 use Rattle.tdf_changes.specs.Asked.{said_or, steps_after}
-use Rattle.tdf_state.specs.State.{standing}
+use Rattle.tdf_streams.specs.low.state.State.{standing}
 
 pub steps_long : (steps : List ℕ) (said : List (Option ℕ)) → length (steps_after steps said) ≡ length steps
 steps_long [] said = refl

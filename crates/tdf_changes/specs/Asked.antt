@@ -2,14 +2,14 @@
 -- Source: IEEE 1666.1-2016, the callback change_attributes of a TDF module; the rest is own.
 use Rattle.std.specs.Prelude.{◌≡◌, ◌+◌, ℕ, Bool, false, List, [], ◌∷◌, length, replicate, Option}
 use Rattle.std.specs.Prelude.{Some, None, ℤ, if◌then◌else◌}
-use Rattle.tdf_dynamic.specs.Attributes.{AttrsOf}
-use Rattle.tdf_expr.specs.Made.{port_spans_of}
-use Rattle.tdf_expr.specs.declared.bodies.Body.TheVariants as body
-use Rattle.tdf_flat.specs.declared.model.Flat.{Flat}
-use Rattle.tdf_state.specs.State.{State}
+use Rattle.tdf_streams.specs.low.dynamic.Attributes.{AttrsOf}
+use Rattle.tdf_streams.specs.low.expr.Made.{port_spans_of}
+use Rattle.tdf_streams.specs.low.expr.declared.bodies.Body.TheVariants as body
+use Rattle.tdf_streams.specs.low.flat.declared.model.Flat.{Flat}
+use Rattle.tdf_streams.specs.low.state.State.{State}
 use Rattle.tdf_streams.specs.Bodies.{done_by, nothing_read}
 use Rattle.tdf_streams.specs.Places.{block_at, has_changes}
-use Rattle.tdf_tree.specs.Pure.{PureTree}
+use Rattle.tdf_streams.specs.low.tree.Pure.{PureTree}
 
 -- the values of its variables and of its rate variables, the timesteps that were assigned to it
 -- (place 0) and to its ports, the flag that was said last, and whether a rate was not allowed

@@ -2,21 +2,21 @@
 -- Source: IEEE 1666.1-2016, changes of attributes between periods; the faults are own.
 use Rattle.std.specs.Prelude.{◌≡◌, ◌<◌, ◌/◌, ℕ, true, false, List, map, Option, Some, ℤ, All}
 use Rattle.std.specs.Prelude.{slice_get, slice_index}
-use Rattle.tdf_base.specs.declared.codes.Code.{Code}
-use Rattle.tdf_base.specs.declared.codes.Code.TheVariants as code
-use Rattle.tdf_base.specs.declared.faults.Fault.{Fault}
-use Rattle.tdf_bind.specs.Flat.{FlatOf}
-use Rattle.tdf_bind.specs.Ranges.{module_path}
+use Rattle.tdf_streams.specs.low.base.declared.codes.Code.{Code}
+use Rattle.tdf_streams.specs.low.base.declared.codes.Code.TheVariants as code
+use Rattle.tdf_streams.specs.low.base.declared.faults.Fault.{Fault}
+use Rattle.tdf_streams.specs.low.bind.Flat.{FlatOf}
+use Rattle.tdf_streams.specs.low.bind.Ranges.{module_path}
 use Rattle.tdf_changes.specs.Asked.{AskedOf, HasSameRates, IsQuiet, asked, attrs_after}
-use Rattle.tdf_dynamic.specs.Attributes.{AttrsOf}
-use Rattle.tdf_dynamic.specs.Faults.{HasTiming, IsPlanFault, IsPlanOf, IsStepsFault, fault_at}
-use Rattle.tdf_dynamic.specs.Rates.{net_of, net_ports}
-use Rattle.tdf_flat.specs.declared.model.Flat.{Flat}
-use Rattle.tdf_graph.specs.declared.actors.Port.{Port}
-use Rattle.tdf_schedule.specs.declared.entry.Plan.{Plan}
-use Rattle.tdf_timestep.specs.Period.{rate_of}
-use Rattle.tdf_timestep.specs.declared.assign.Steps.{Steps}
-use Rattle.tdf_tree.specs.Pure.{PureTree}
+use Rattle.tdf_streams.specs.low.dynamic.Attributes.{AttrsOf}
+use Rattle.tdf_streams.specs.low.dynamic.Faults.{HasTiming, IsPlanFault, IsPlanOf, IsStepsFault, fault_at}
+use Rattle.tdf_streams.specs.low.dynamic.Rates.{net_of, net_ports}
+use Rattle.tdf_streams.specs.low.flat.declared.model.Flat.{Flat}
+use Rattle.tdf_streams.specs.low.graph.declared.actors.Port.{Port}
+use Rattle.tdf_streams.specs.low.schedule.declared.entry.Plan.{Plan}
+use Rattle.tdf_streams.specs.low.timestep.Period.{rate_of}
+use Rattle.tdf_streams.specs.low.timestep.declared.assign.Steps.{Steps}
+use Rattle.tdf_streams.specs.low.tree.Pure.{PureTree}
 
 -- what each module asks for, by its attributes
 abbrev pub Asks : Type 0

@@ -1,18 +1,18 @@
 -- What a boundary of a cluster begins with.
 -- Source: own.
 use Rattle.std.specs.Prelude.{◌≡◌, ℕ, List, length, Some, ℤ, slice_get}
-use Rattle.tdf_bind.specs.Flat.{FlatOf}
+use Rattle.tdf_streams.specs.low.bind.Flat.{FlatOf}
 use Rattle.tdf_changes.specs.Change.{Asks, asks_of}
 use Rattle.tdf_changes.specs.declared.frames.ModuleFrame.{ModuleFrame}
-use Rattle.tdf_dynamic.specs.Attributes.{AttrsOf}
-use Rattle.tdf_dynamic.specs.Faults.{IsTablePlan}
-use Rattle.tdf_expr.specs.Checked.{IsCheckedOf}
-use Rattle.tdf_expr.specs.Made.{AreMadeFor}
-use Rattle.tdf_flat.specs.declared.model.Flat.{Flat}
-use Rattle.tdf_schedule.specs.declared.entry.Plan.{Plan}
+use Rattle.tdf_streams.specs.low.dynamic.Attributes.{AttrsOf}
+use Rattle.tdf_streams.specs.low.dynamic.Faults.{IsTablePlan}
+use Rattle.tdf_streams.specs.low.expr.Checked.{IsCheckedOf}
+use Rattle.tdf_streams.specs.low.expr.Made.{AreMadeFor}
+use Rattle.tdf_streams.specs.low.flat.declared.model.Flat.{Flat}
+use Rattle.tdf_streams.specs.low.schedule.declared.entry.Plan.{Plan}
 use Rattle.tdf_streams.specs.Places.{block_at}
-use Rattle.tdf_tree.specs.Kept.{IsKept}
-use Rattle.tdf_tree.specs.Pure.{PureTree}
+use Rattle.tdf_streams.specs.low.tree.Kept.{IsKept}
+use Rattle.tdf_streams.specs.low.tree.Pure.{PureTree}
 
 -- the bodies are those of a tree that keeps what a spelled tree keeps
 pub record IsOfText (flat : Flat) : Type 0 where

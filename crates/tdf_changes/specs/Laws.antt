@@ -1,13 +1,13 @@
 -- What holds of the answers of a boundary.
 -- Source: own.
 use Rattle.std.specs.Prelude.{◌≡◌, ℕ, List, Contains}
-use Rattle.tdf_base.specs.declared.faults.Fault.{Fault}
+use Rattle.tdf_streams.specs.low.base.declared.faults.Fault.{Fault}
 use Rattle.tdf_changes.specs.Change.{Asks, IsChangeFault, IsNewPlan, IsSame, table_after}
-use Rattle.tdf_dynamic.specs.Attributes.{AttrsOf, clusters_of}
-use Rattle.tdf_dynamic.specs.Laws.{AreSamePlans}
-use Rattle.tdf_flat.specs.declared.model.Flat.{Flat}
-use Rattle.tdf_limits.specs.Limits.{AreWithinLimits}
-use Rattle.tdf_schedule.specs.declared.entry.Plan.{Plan}
+use Rattle.tdf_streams.specs.low.dynamic.Attributes.{AttrsOf, clusters_of}
+use Rattle.tdf_streams.specs.low.dynamic.Laws.{AreSamePlans}
+use Rattle.tdf_streams.specs.low.flat.declared.model.Flat.{Flat}
+use Rattle.tdf_streams.specs.low.limits.Limits.{AreWithinLimits}
+use Rattle.tdf_streams.specs.low.schedule.declared.entry.Plan.{Plan}
 use Rattle.tdf_streams.specs.Periods.{AreAttributes}
 
 -- a table of a cluster and what its modules ask for, which leads to a table of the cluster

@@ -4,4 +4,5 @@ pub mod Given
 pub mod Laws
 pub mod Next
 pub mod Ports
+pub mod low
 pub mod machine

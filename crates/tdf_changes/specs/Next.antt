@@ -1,16 +1,16 @@
 -- What is left after a boundary.
 -- Source: own.
 use Rattle.std.specs.Prelude.{◌≡◌, ℕ, List, Some, slice_get}
-use Rattle.tdf_bind.specs.Flat.{FlatOf}
+use Rattle.tdf_streams.specs.low.bind.Flat.{FlatOf}
 use Rattle.tdf_changes.specs.Change.{Asks, IsNewPlan, IsSame, table_after}
 use Rattle.tdf_changes.specs.declared.frames.ModuleFrame.{ModuleFrame}
 use Rattle.tdf_changes.specs.declared.next.Next.{Next}
 use Rattle.tdf_changes.specs.declared.next.Next.TheVariants.{Changed, Same}
-use Rattle.tdf_dynamic.specs.Attributes.{AttrsOf}
-use Rattle.tdf_expr.specs.Made.{AreMadeFor}
-use Rattle.tdf_firing.specs.Firing.{AreZerosBehind}
-use Rattle.tdf_firing.specs.Wires.{WiresOf}
-use Rattle.tdf_flat.specs.declared.model.Flat.{Flat}
+use Rattle.tdf_streams.specs.low.dynamic.Attributes.{AttrsOf}
+use Rattle.tdf_streams.specs.low.expr.Made.{AreMadeFor}
+use Rattle.tdf_streams.specs.low.firing.Firing.{AreZerosBehind}
+use Rattle.tdf_streams.specs.low.firing.Wires.{WiresOf}
+use Rattle.tdf_streams.specs.low.flat.declared.model.Flat.{Flat}
 use Rattle.tdf_streams.specs.Places.{block_at}
 
 -- the answer, and the table that is left: where no module differs it has the flags that were said,

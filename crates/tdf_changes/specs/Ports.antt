@@ -1,8 +1,8 @@
 -- The ports of a module as a body finds them that reads nothing.
 -- Source: own.
 use Rattle.std.specs.Prelude.{◌≡◌, length}
-use Rattle.tdf_expr.specs.Frames.{PortsSeen}
-use Rattle.tdf_firing.specs.Activation.{ports_before}
+use Rattle.tdf_streams.specs.low.expr.Frames.{PortsSeen}
+use Rattle.tdf_streams.specs.low.firing.Activation.{ports_before}
 use Rattle.tdf_streams.specs.Bodies.{nothing_read}
 
 -- all samples are 0, and nothing is asked for

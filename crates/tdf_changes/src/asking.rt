@@ -5,16 +5,16 @@ ghost use Rattle.std.specs.Vec.{vec_capacity};
 ghost use Rattle.tdf_changes.specs.Given.{AreFramesOf, IsFrameOf, IsOfText};
 ghost use Rattle.tdf_changes.specs.Ports.{AreBegun};
 ghost use Rattle.tdf_changes.specs.machine.Asking.{AreZeroBelow, HasAsked, HaveAsked};
-ghost use Rattle.tdf_dynamic.specs.Attributes.{AttrsOf};
-ghost use Rattle.tdf_expr.specs.Frames.{ArePortsFit, PortsSeen};
-ghost use Rattle.tdf_expr.specs.declared.spans.PortSpan.{PortSpan as PortSpanOf};
+ghost use Rattle.tdf_streams.specs.low.dynamic.Attributes.{AttrsOf};
+ghost use Rattle.tdf_streams.specs.low.expr.Frames.{ArePortsFit, PortsSeen};
+ghost use Rattle.tdf_streams.specs.low.expr.declared.spans.PortSpan.{PortSpan as PortSpanOf};
 ghost use Rattle.tdf_streams.specs.Periods.{HasAllowedRates};
 
 use crate::frames::ModuleFrame;
-use tdf_dynamic::ModuleAttrs;
-use tdf_expr::{Body, Ports, run_body};
-use tdf_fixed::Raw;
-use tdf_flat::Flat;
+use tdf_streams::low::dynamic::ModuleAttrs;
+use tdf_streams::low::expr::{Body, Ports, run_body};
+use tdf_streams::low::fixed::Raw;
+use tdf_streams::low::flat::Flat;
 
 /// The samples of a port are 0.
 fn clear_port(ports: &mut Ports, port: u32)

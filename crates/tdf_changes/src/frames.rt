@@ -1,6 +1,6 @@
 //! The instances of the modules of a cluster.
 
-use tdf_expr::{Frame, Ports};
+use tdf_streams::low::expr::{Frame, Ports};
 
 /// An instance of a module.
 #[derive(Drop)]

@@ -2,8 +2,8 @@
 
 ghost use Rattle.tdf_changes.specs.Laws.{BoundariesHaveOne};
 
-use tdf_balance::law_counts;
-use tdf_schedule::law_plans;
+use tdf_streams::low::balance::law_counts;
+use tdf_streams::low::schedule::law_plans;
 
 /// Of the answers of a boundary there is at most one.
 pub fn law_one_answer()

@@ -6,11 +6,13 @@
 //! - `rejecting`: whether a module rejects new steps.
 //! - `next`: what a boundary leads to.
 //! - `laws`: what holds of its answers.
+//! - `low`: what the crates above use of the crates further below.
 #![tactic(auto)]
 
 mod asking;
 mod frames;
 mod laws;
+pub mod low;
 mod next;
 mod rejecting;
 mod tables;

@@ -2,8 +2,8 @@
 
 ghost use Rattle.std.specs.Prelude.{◌≡◌, ◌⊎◌, ◌≤◌, ℕ, List, ℤ, All, Contains, Some, Ok, Err, IfOk, IfErr, IsOk, OnOk, OnErr, true, length, slice_get};
 ghost use Rattle.std.specs.Vec.{vec_capacity};
-ghost use Rattle.tdf_base.specs.declared.codes.Code.TheVariants as code;
-ghost use Rattle.tdf_base.specs.declared.faults.Fault.{Fault as FaultOf};
+ghost use Rattle.tdf_streams.specs.low.base.declared.codes.Code.TheVariants as code;
+ghost use Rattle.tdf_streams.specs.low.base.declared.faults.Fault.{Fault as FaultOf};
 ghost use Rattle.tdf_changes.specs.Change.{IsChangeFault, IsNewPlan, IsSame, fault_of, table_after};
 ghost use Rattle.tdf_changes.specs.Given.{AreFramesOf, IsOfText, IsPlanned, WhenAsked};
 ghost use Rattle.tdf_changes.specs.Next.{HaveChanged, IsNext};
@@ -11,16 +11,16 @@ ghost use Rattle.tdf_changes.specs.machine.Asking.{AllTell};
 ghost use Rattle.tdf_changes.specs.machine.Boundary.{IsFound, IsRefusedAt, IsTableRefused, NoneMarks};
 ghost use Rattle.tdf_changes.specs.machine.Judging.{IsJudged, IsJudgedFault};
 ghost use Rattle.tdf_changes.specs.machine.Rows.{AreAfter, HoldsBelow, IsFirstPlace, IsRefusing};
-ghost use Rattle.tdf_dynamic.specs.Attributes.{AttrsOf, IsOfCluster, clusters_of};
-ghost use Rattle.tdf_dynamic.specs.Faults.{HasTiming, IsRefusal};
-ghost use Rattle.tdf_dynamic.specs.Rates.{AreRates, IsWired, net_of, seen};
-ghost use Rattle.tdf_dynamic.specs.declared.err.ChangeErr.TheVariants.{Memory as NoMemory, Refused};
+ghost use Rattle.tdf_streams.specs.low.dynamic.Attributes.{AttrsOf, IsOfCluster, clusters_of};
+ghost use Rattle.tdf_streams.specs.low.dynamic.Faults.{HasTiming, IsRefusal};
+ghost use Rattle.tdf_streams.specs.low.dynamic.Rates.{AreRates, IsWired, net_of, seen};
+ghost use Rattle.tdf_streams.specs.low.dynamic.declared.err.ChangeErr.TheVariants.{Memory as NoMemory, Refused};
 ghost use Rattle.tdf_changes.specs.declared.next.Next.TheVariants.{Same};
-ghost use Rattle.tdf_expr.specs.Checked.{IsCheckedOf};
-ghost use Rattle.tdf_limits.specs.Limits.{AreWithinLimits};
-ghost use Rattle.tdf_schedule.specs.declared.entry.Plan.{Plan as PlanOf};
+ghost use Rattle.tdf_streams.specs.low.expr.Checked.{IsCheckedOf};
+ghost use Rattle.tdf_streams.specs.low.limits.Limits.{AreWithinLimits};
+ghost use Rattle.tdf_streams.specs.low.schedule.declared.entry.Plan.{Plan as PlanOf};
 ghost use Rattle.tdf_streams.specs.Periods.{AreAttributes};
-ghost use Rattle.tdf_tree.specs.Pure.{PureTree};
+ghost use Rattle.tdf_streams.specs.low.tree.Pure.{PureTree};
 
 use crate::asking::run_changes;
 use crate::frames::{Frames, ModuleFrame};
@@ -28,14 +28,14 @@ use crate::laws::law_one_answer;
 use crate::rejecting::first_rejecting;
 use crate::tables::{first_marked, is_same, set_flags, table_after};
 use std::alloc::Global;
-use tdf_balance::law_counts;
-use tdf_base::{Code, Fault, Place};
-use tdf_dynamic::{
+use tdf_streams::low::balance::law_counts;
+use tdf_streams::low::base::{Code, Fault, Place};
+use tdf_streams::low::dynamic::{
     Attrs, ChangeErr, ModuleAttrs, Timing, clusters_of, module_path, net_of, plan_of, steps_of,
 };
-use tdf_flat::Flat;
-use tdf_graph::Net;
-use tdf_schedule::Plan;
+use tdf_streams::low::flat::Flat;
+use tdf_streams::low::graph::Net;
+use tdf_streams::low::schedule::Plan;
 
 /// What a boundary of a cluster leads to.
 #[derive(Drop)]

@@ -4,14 +4,14 @@ ghost use Rattle.std.specs.Prelude.{◌≡◌, ◌≤◌, ◌↔◌, All, IsTrue
 ghost use Rattle.tdf_changes.specs.Change.{HasSameSteps, module_step, port_step};
 ghost use Rattle.tdf_changes.specs.machine.Asking.{AllTell, CanTell};
 ghost use Rattle.tdf_changes.specs.machine.Rows.{IsFirst, IsRefusing};
-ghost use Rattle.tdf_timestep.specs.Period.{rate_of};
+ghost use Rattle.tdf_streams.specs.low.timestep.Period.{rate_of};
 
 use crate::frames::ModuleFrame;
 use crate::tables::{flag_after, is_unchanged};
-use tdf_dynamic::ModuleAttrs;
-use tdf_flat::Flat;
-use tdf_graph::Net;
-use tdf_timestep::Steps;
+use tdf_streams::low::dynamic::ModuleAttrs;
+use tdf_streams::low::flat::Flat;
+use tdf_streams::low::graph::Net;
+use tdf_streams::low::timestep::Steps;
 
 /// The rate of a port, 1 for one that isn't there.
 fn rate_at(net: &Net, port: u32) -> u32

@@ -4,16 +4,16 @@ ghost use Rattle.std.specs.Prelude.{◌≡◌, ◌+◌, ◌<◌, ◌≤◌, ◌^
 ghost use Rattle.tdf_changes.specs.Asked.{HasSameRates, IsQuiet, attrs_after, said_or, steps_after};
 ghost use Rattle.tdf_changes.specs.machine.Asking.{AllTell, CanTell, told};
 ghost use Rattle.tdf_changes.specs.machine.Rows.{AreAfter, AreFlagged, HoldsBelow, IsFirst};
-ghost use Rattle.tdf_expr.specs.Made.{block_count, rate_spans_of};
-ghost use Rattle.tdf_state.specs.State.{standing};
+ghost use Rattle.tdf_streams.specs.low.expr.Made.{block_count, rate_spans_of};
+ghost use Rattle.tdf_streams.specs.low.state.State.{standing};
 ghost use Rattle.tdf_streams.specs.Places.{block_at};
 
 use crate::frames::ModuleFrame;
 use std::alloc::Global;
-use tdf_base::Memory;
-use tdf_dynamic::ModuleAttrs;
-use tdf_expr::{Frame, Ports};
-use tdf_flat::Flat;
+use tdf_streams::low::base::Memory;
+use tdf_streams::low::dynamic::ModuleAttrs;
+use tdf_streams::low::expr::{Frame, Ports};
+use tdf_streams::low::flat::Flat;
 
 /// The timestep that was assigned at a place, else the one from before.
 fn step_after(before: u64, ports: &Ports, place: usize) -> u64

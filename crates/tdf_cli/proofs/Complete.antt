@@ -1,10 +1,10 @@
 -- Each reading has at most one outcome, and that is met where nothing hinders.
 use Rattle.std.proofs.Common.{map, Bool, true, false, ◌≡◌, ◌⊎◌, ℕ, ◌≤◌, List, ◌++◌, Option, Some, None, refl, sym, ap, ◌∙◌, subst, inl, inr, length, length-append, append-nil, codes, arith}
 use Rattle.std.specs.Io.KnownBytes.{Consumes, IsAtEnd}
-use Rattle.tdf_base.specs.Limits.{longest_text}
-use Rattle.tdf_base.specs.declared.faults.Fault.{Fault}
-use Rattle.tdf_blocks.proofs.Api.{one_tree, text_keeps}
-use Rattle.tdf_blocks.specs.Refused.{SpellsText}
+use Rattle.tdf_sim.specs.low.base.Limits.{longest_text}
+use Rattle.tdf_sim.specs.low.base.declared.faults.Fault.{Fault}
+use Rattle.tdf_sim.proofs.Api.{one_tree, text_keeps}
+use Rattle.tdf_sim.specs.low.blocks.Refused.{SpellsText}
 use Rattle.tdf_cli.specs.Input.{Reading, BadWords, Text, TooLong, ReadFault, NoMemory, InputIs}
 use Rattle.tdf_cli.specs.Outcome.{Outcome, note, refused, ran, checked, planned, accepted_text, status_of, stop_in, HasOutcome, usage, read_fault, too_long, faulty, unbuilt, too_late, has_run, is_checked, is_planned, WritesOutcome, HasOneOutcome}
 use Rattle.tdf_cli.specs.Refusals.{unbuilt_fault}
@@ -14,11 +14,11 @@ use Rattle.tdf_cli.specs.declared.status.Status.{Status}
 use Rattle.tdf_cli.specs.declared.status.Status.TheVariants as status
 use Rattle.tdf_cli.specs.declared.words.Job.{Job}
 use Rattle.tdf_cli.specs.declared.words.Job.TheVariants.{Run, Check, Plan}
-use Rattle.tdf_bind.specs.Flat.{FlatOf}
-use Rattle.tdf_io.specs.Faults.{FaultsRose}
-use Rattle.tdf_notes.specs.Plans.{PlanRows, accepted_line}
+use Rattle.tdf_sim.specs.low.bind.Flat.{FlatOf}
+use Rattle.tdf_sim.specs.low.in_out.Faults.{FaultsRose}
+use Rattle.tdf_sim.specs.low.notes.Plans.{PlanRows, accepted_line}
 use Rattle.tdf_print.specs.Canon.{canon}
-use Rattle.tdf_base.specs.declared.resolution.Resolution.{Resolution}
+use Rattle.tdf_sim.specs.low.base.declared.resolution.Resolution.{Resolution}
 use Rattle.tdf_sim.specs.Accepted.{IsAccepted}
 use Rattle.tdf_sim.specs.declared.sim.Sim.{Sim}
 use Rattle.tdf_sim.specs.FirstFault.{IsFirstFault, cluster_count}
@@ -27,9 +27,9 @@ use Rattle.tdf_sim.specs.PlanText.{clusters_text, plan_rows, plans_text}
 use Rattle.tdf_sim.specs.Ends.{End, run_end, run_note, trace_of}
 use Rattle.tdf_sim.specs.Ends as ending
 use Rattle.tdf_sim.specs.Runs.{makes_changes}
-use Rattle.tdf_tokens.specs.Rows.{rows_of}
-use Rattle.tdf_tree.specs.Pure.{PureTree}
-use Rattle.tdf_words.specs.declared.asked.TraceKind.{TraceKind}
+use Rattle.tdf_sim.specs.low.tokens.Rows.{rows_of}
+use Rattle.tdf_sim.specs.low.tree.Pure.{PureTree}
+use Rattle.tdf_sim.specs.low.words.declared.asked.TraceKind.{TraceKind}
 
 same_tree : (text : List ℕ) (one other : PureTree) → SpellsText text one → SpellsText text other → other ≡ one
 same_tree text one other s t = one_tree (rows_of text) other one t.spelled s.spelled

@@ -2,7 +2,7 @@
 use Rattle.std.proofs.Common.{◌≡◌, ℕ, Bool, true, false, List, [], Option, Some, None, Result, Ok, Err, IfOk, IsErrOf, OnOk, OnErr, inl, inr, refl, sym, ap, ◌∙◌, subst, append_assoc, append-nil}
 use Rattle.std.specs.Io.KnownBytes.{Appends}
 use Rattle.std.proofs.KnownBytes.{Appends-nil}
-use Rattle.tdf_blocks.specs.Refused.{SpellsText}
+use Rattle.tdf_sim.specs.low.blocks.Refused.{SpellsText}
 use Rattle.tdf_cli.specs.Input.{Reading, BadWords, Text, TooLong, ReadFault, NoMemory}
 use Rattle.tdf_cli.specs.Outcome.{Outcome, note, ran, status_of, stop_in, HasOutcome, usage, read_fault, too_long, faulty, unbuilt, too_late, has_run, is_checked, is_planned, WritesOutcome, WritesFrontOf, WritesNothingOrFront}
 use Rattle.tdf_sim.specs.Accepted.{IsAccepted}
@@ -15,12 +15,12 @@ use Rattle.tdf_cli.specs.machine.Texts.{IsCheckText, IsPlanText}
 use Rattle.tdf_print.specs.Canon.{canon}
 use Rattle.tdf_sim.specs.PlanText.{plans_text}
 use Rattle.tdf_sim.specs.Runs.{makes_changes}
-use Rattle.tdf_io.proofs.Api.{front_none}
-use Rattle.tdf_io.specs.Bytes.{AppendsFront, WritesText}
-use Rattle.tdf_io.specs.declared.writing.SinkErr.{SinkErr}
+use Rattle.tdf_sim.proofs.Api.{front_none}
+use Rattle.tdf_sim.specs.low.in_out.Bytes.{AppendsFront, WritesText}
+use Rattle.tdf_sim.specs.low.in_out.declared.writing.SinkErr.{SinkErr}
 use Rattle.tdf_sim.specs.Ends.{End, run_end, run_note, trace_of}
-use Rattle.tdf_tree.specs.Pure.{PureTree}
-use Rattle.tdf_words.specs.declared.asked.TraceKind.{TraceKind}
+use Rattle.tdf_sim.specs.low.tree.Pure.{PureTree}
+use Rattle.tdf_sim.specs.low.words.declared.asked.TraceKind.{TraceKind}
 
 -- being out of memory while the text is read has no outcome
 abbrev HasSome : Reading → Type 0

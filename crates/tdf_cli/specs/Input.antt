@@ -2,13 +2,13 @@
 -- Source: own.
 use Rattle.std.specs.Prelude.{ℕ, ◌≡◌, ◌+◌, ◌≤◌, List, Option, Some, None, IsSome, length}
 use Rattle.std.specs.Io.KnownBytes.{Consumes, IsAtEnd}
-use Rattle.tdf_base.specs.Limits.{longest_text}
+use Rattle.tdf_sim.specs.low.base.Limits.{longest_text}
 use Rattle.tdf_cli.specs.Words.{job_for, StopsEarly}
 use Rattle.tdf_cli.specs.declared.load.Input.{Input}
 use Rattle.tdf_cli.specs.declared.load.Input.TheVariants as input
 use Rattle.tdf_cli.specs.declared.words.Job.{Job}
-use Rattle.tdf_io.specs.Bytes.{GivesExactly, GivesAtMost}
-use Rattle.tdf_io.specs.Faults.{FaultsRose}
+use Rattle.tdf_sim.specs.low.in_out.Bytes.{GivesExactly, GivesAtMost}
+use Rattle.tdf_sim.specs.low.in_out.Faults.{FaultsRose}
 
 pub data Reading : Type 0 where
   -- the words are not accepted, and nothing is read

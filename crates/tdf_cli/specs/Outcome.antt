@@ -3,20 +3,20 @@
 use Rattle.std.specs.Prelude.{ℕ, ◌≡◌, ◌⊎◌, ◌*◌, true, false, List, [], Option, Some, None, codes}
 use Rattle.std.specs.Prelude.{if◌then◌else◌, nat_lt}
 use Rattle.std.specs.Io.KnownBytes.{Appends, Keeps}
-use Rattle.tdf_base.specs.Limits.{time_end}
-use Rattle.tdf_base.specs.declared.faults.Fault.{Fault}
-use Rattle.tdf_base.specs.declared.resolution.Resolution.{Resolution}
-use Rattle.tdf_base.specs.declared.resolution.Resolution.TheVariants.{Ps, Fs}
-use Rattle.tdf_blocks.specs.Refused.{SpellsText}
+use Rattle.tdf_sim.specs.low.base.Limits.{time_end}
+use Rattle.tdf_sim.specs.low.base.declared.faults.Fault.{Fault}
+use Rattle.tdf_sim.specs.low.base.declared.resolution.Resolution.{Resolution}
+use Rattle.tdf_sim.specs.low.base.declared.resolution.Resolution.TheVariants.{Ps, Fs}
+use Rattle.tdf_sim.specs.low.blocks.Refused.{SpellsText}
 use Rattle.tdf_cli.specs.Input.{Reading, BadWords, Text, TooLong, ReadFault, NoMemory}
 use Rattle.tdf_cli.specs.Refusals.{refusal_text, unbuilt_fault}
 use Rattle.tdf_cli.specs.declared.status.Status.{Status}
 use Rattle.tdf_cli.specs.declared.status.Status.TheVariants as status
 use Rattle.tdf_cli.specs.declared.words.Job.{Job}
 use Rattle.tdf_cli.specs.declared.words.Job.TheVariants.{Run, Check, Plan}
-use Rattle.tdf_io.specs.Bytes.{AppendsFront}
+use Rattle.tdf_sim.specs.low.in_out.Bytes.{AppendsFront}
 use Rattle.tdf_sim.specs.Ends.{End, run_end, run_note, trace_of}
-use Rattle.tdf_notes.specs.Plans.{accepted_line}
+use Rattle.tdf_sim.specs.low.notes.Plans.{accepted_line}
 use Rattle.tdf_print.specs.Canon.{canon}
 use Rattle.tdf_sim.specs.Ends as ending
 use Rattle.tdf_sim.specs.Accepted.{IsAccepted}
@@ -24,8 +24,8 @@ use Rattle.tdf_sim.specs.declared.sim.Sim.{Sim}
 use Rattle.tdf_sim.specs.FirstFault.{cluster_count, IsFirstFault}
 use Rattle.tdf_sim.specs.PlanText.{plans_text}
 use Rattle.tdf_sim.specs.Runs.{makes_changes}
-use Rattle.tdf_tree.specs.Pure.{PureTree}
-use Rattle.tdf_words.specs.declared.asked.TraceKind.{TraceKind}
+use Rattle.tdf_sim.specs.low.tree.Pure.{PureTree}
+use Rattle.tdf_sim.specs.low.words.declared.asked.TraceKind.{TraceKind}
 
 pub record Outcome : Type 0 where
   pub status : Status

@@ -1,10 +1,10 @@
 -- How a text that is refused is noted.
 -- Source: own.
 use Rattle.std.specs.Prelude.{ℕ, List, ◌++◌, codes}
-use Rattle.tdf_base.specs.Fault.{fault_text}
-use Rattle.tdf_base.specs.declared.codes.Code.TheVariants as code
-use Rattle.tdf_base.specs.declared.faults.Fault.{Fault}
-use Rattle.tdf_base.specs.declared.faults.Place.TheVariants as place
+use Rattle.tdf_sim.specs.low.base.Fault.{fault_text}
+use Rattle.tdf_sim.specs.low.base.declared.codes.Code.TheVariants as code
+use Rattle.tdf_sim.specs.low.base.declared.faults.Fault.{Fault}
+use Rattle.tdf_sim.specs.low.base.declared.faults.Place.TheVariants as place
 
 -- the model is none that runs yet
 abbrev pub unbuilt_fault : Fault

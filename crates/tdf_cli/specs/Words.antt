@@ -1,12 +1,12 @@
 -- The jobs that the words of the command may ask for today.
 -- Source: own; the words and their settings are those of `tdf_words`.
 use Rattle.std.specs.Prelude.{ℕ, ◌<◌, List, Option, Some, None, option_and_then}
-use Rattle.tdf_base.specs.Limits.{time_end}
+use Rattle.tdf_sim.specs.low.base.Limits.{time_end}
 use Rattle.tdf_cli.specs.declared.words.Job.{Job}
 use Rattle.tdf_cli.specs.declared.words.Job.TheVariants as job
-use Rattle.tdf_words.specs.Words.{taken_of}
-use Rattle.tdf_words.specs.declared.asked.Settings.{Settings}
-use Rattle.tdf_words.specs.declared.asked.Settings.TheVariants.{Run, Check, Plan, Load}
+use Rattle.tdf_sim.specs.low.words.Words.{taken_of}
+use Rattle.tdf_sim.specs.low.words.declared.asked.Settings.{Settings}
+use Rattle.tdf_sim.specs.low.words.declared.asked.Settings.TheVariants.{Run, Check, Plan, Load}
 
 -- what is built of what words may ask for: all but `load`
 abbrev pub job_of : Settings → Option Job

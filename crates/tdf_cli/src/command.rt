@@ -1,7 +1,7 @@
 //! The top call.
 
 ghost use Rattle.std.specs.Prelude.{◌≡◌, ◌≢◌, ◌⊎◌, ◌≤◌, ℕ, List, Some, None, length};
-ghost use Rattle.tdf_base.specs.Limits.{longest_text};
+ghost use Rattle.tdf_sim.specs.low.base.Limits.{longest_text};
 ghost use Rattle.tdf_cli.specs.Input.{InputIs, NoMemory, Reading, Text};
 ghost use Rattle.tdf_cli.specs.Outcome.{HasOneOutcome, HasOutcome, Outcome, WritesNothingOrFront, WritesOutcome};
 ghost use Rattle.tdf_cli.specs.Status.{no_memory, number_of, write_fault};
@@ -9,14 +9,14 @@ ghost use Rattle.tdf_cli.specs.Words.{job_for};
 ghost use Rattle.tdf_cli.specs.declared.status.Status.{Status};
 ghost use Rattle.tdf_cli.specs.declared.status.Status.TheVariants.{ReadFault};
 ghost use Rattle.tdf_cli.specs.declared.words.Job.{Job};
-ghost use Rattle.tdf_words.specs.Words.{texts_of};
-ghost use Rattle.tdf_io.specs.Faults.{FaultsRose};
+ghost use Rattle.tdf_sim.specs.low.words.Words.{texts_of};
+ghost use Rattle.tdf_sim.specs.low.in_out.Faults.{FaultsRose};
 
 use crate::jobs::finish;
 use crate::load::load;
 use crate::status::{NO_MEMORY, WRITE_FAULT};
 use std::alloc::Global;
-use tdf_io::{Sink, SinkErr, Source};
+use tdf_sim::low::in_out::{Sink, SinkErr, Source};
 use tdf_sim::{law_first_fault, law_one_model, law_one_run};
 
 /// The command: takes its words, those after the program's name, reads the model, does the job, and answers the status

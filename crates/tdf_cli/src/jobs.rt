@@ -2,9 +2,9 @@
 
 ghost use Rattle.std.specs.Io.KnownBytes.{Appends};
 ghost use Rattle.std.specs.Prelude.{◌≡◌, ◌⊎◌, ◌≤◌, ◌<◌, List, ℕ, Err, length, IfOk, OnErr, OnOk, IsErrOf};
-ghost use Rattle.tdf_base.specs.Limits.{longest_text};
-ghost use Rattle.tdf_blocks.specs.Formed.{IsFormed};
-ghost use Rattle.tdf_blocks.specs.Refused.{SpellsText};
+ghost use Rattle.tdf_sim.specs.low.base.Limits.{longest_text};
+ghost use Rattle.tdf_sim.specs.low.blocks.Formed.{IsFormed};
+ghost use Rattle.tdf_sim.specs.low.blocks.Refused.{SpellsText};
 ghost use Rattle.tdf_cli.specs.Input.{NoMemory, Reading, Text, reading, IsReady};
 ghost use Rattle.tdf_cli.specs.Outcome.{WritesNothingOrFront, WritesOutcome, accepted_text};
 ghost use Rattle.tdf_cli.specs.declared.status.Status.TheVariants.{Done};
@@ -12,14 +12,14 @@ ghost use Rattle.tdf_print.specs.Canon.{canon};
 ghost use Rattle.tdf_cli.specs.Words.{StopsEarly};
 ghost use Rattle.tdf_cli.specs.declared.words.Job.TheVariants.{Check, Plan};
 ghost use Rattle.tdf_cli.specs.machine.Texts.{IsCheckText, IsPlanText};
-ghost use Rattle.tdf_io.specs.Bytes.{AppendsFront};
-ghost use Rattle.tdf_io.specs.Faults.{FaultsRose};
-ghost use Rattle.tdf_io.specs.declared.writing.SinkErr.TheVariants as why;
+ghost use Rattle.tdf_sim.specs.low.in_out.Bytes.{AppendsFront};
+ghost use Rattle.tdf_sim.specs.low.in_out.Faults.{FaultsRose};
+ghost use Rattle.tdf_sim.specs.low.in_out.declared.writing.SinkErr.TheVariants as why;
 ghost use Rattle.tdf_sim.specs.Accepted.{IsAccepted};
 ghost use Rattle.tdf_sim.specs.PlanText.{IsPrintable, plans_text};
 ghost use Rattle.tdf_sim.specs.Runs.{IsAcceptedTree};
-ghost use Rattle.tdf_tree.specs.Kept.{IsKept};
-ghost use Rattle.tdf_tree.specs.Views.{pure_tree};
+ghost use Rattle.tdf_sim.specs.low.tree.Kept.{IsKept};
+ghost use Rattle.tdf_sim.specs.low.tree.Views.{pure_tree};
 
 use crate::load::Input;
 use crate::notes::{noted, refuse};
@@ -28,13 +28,13 @@ use crate::run::run;
 use crate::status::Status;
 use crate::words::Job;
 use std::alloc::Global;
-use tdf_base::Memory;
-use tdf_blocks::parse;
-use tdf_io::{Sink, SinkErr, put_all};
-use tdf_notes::push_accepted;
 use tdf_print::push_tree;
+use tdf_sim::low::base::Memory;
+use tdf_sim::low::blocks::parse;
+use tdf_sim::low::in_out::{Sink, SinkErr, put_all};
+use tdf_sim::low::notes::push_accepted;
+use tdf_sim::low::tree::Tree;
 use tdf_sim::{Sim, SimErr, elaborate_tree};
-use tdf_tree::Tree;
 
 /// An output and a note.
 #[derive(Drop)]

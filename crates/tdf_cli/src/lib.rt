@@ -13,6 +13,7 @@
 mod command;
 mod jobs;
 mod load;
+pub mod low;
 mod notes;
 mod refusals;
 mod run;

@@ -3,12 +3,12 @@
 ghost use Rattle.std.specs.Prelude.{◌≡◌, ◌≤◌, List, None, ℕ};
 ghost use Rattle.tdf_cli.specs.Input.{InputIs, IsReady, reading};
 ghost use Rattle.tdf_cli.specs.Words.{job_for};
-ghost use Rattle.tdf_words.specs.Words.{texts_of};
+ghost use Rattle.tdf_sim.specs.low.words.Words.{texts_of};
 
 use crate::words::{Job, read_words};
 use std::alloc::Global;
-use tdf_base::LONGEST_TEXT;
-use tdf_io::{LoadErr, Source, read_all};
+use tdf_sim::low::base::LONGEST_TEXT;
+use tdf_sim::low::in_out::{LoadErr, Source, read_all};
 
 /// What came of the words and of reading the model.
 #[derive(Drop)]

@@ -2,12 +2,12 @@
 
 ghost use Rattle.std.specs.Prelude.{◌≡◌, IfOk, IfSome};
 ghost use Rattle.tdf_cli.specs.Words.{job_for, job_of, StopsEarly};
-ghost use Rattle.tdf_words.specs.Jobs.{IsWithin};
-ghost use Rattle.tdf_words.specs.Words.{texts_of};
+ghost use Rattle.tdf_sim.specs.low.words.Jobs.{IsWithin};
+ghost use Rattle.tdf_sim.specs.low.words.Words.{texts_of};
 
 use std::alloc::Global;
-use tdf_base::Memory;
-use tdf_words::{Settings, TraceKind, WordsErr, settings};
+use tdf_sim::low::base::Memory;
+use tdf_sim::low::words::{Settings, TraceKind, WordsErr, settings};
 
 /// What the words ask for.
 #[derive(Clone, Copy, Debug, PartialEq, Eq)]

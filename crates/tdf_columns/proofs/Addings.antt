@@ -11,8 +11,8 @@ use Rattle.tdf_columns.specs.Traces.{IsTrackingOf, is_among, is_of}
 use Rattle.tdf_columns.specs.machine.Finding.{Finds, HasNone, HaveColumns, found, place_in}
 use Rattle.tdf_columns.specs.machine.Going.{AddsTrace}
 use Rattle.tdf_columns.specs.machine.Showing.{AreColumns}
-use Rattle.tdf_rows.specs.Stamping.{IsStamping}
-use Rattle.tdf_rows.specs.declared.stamps.Stamps.{Stamps}
+use Rattle.tdf_trace.specs.low.rows.Stamping.{IsStamping}
+use Rattle.tdf_trace.specs.low.rows.declared.stamps.Stamps.{Stamps}
 use Rattle.tdf_wiring.specs.declared.traces.TraceRow.{TraceRow}
 
 or_false : (p : Bool) → (p || false) ≡ p

@@ -6,11 +6,11 @@ use Rattle.tdf_columns.proofs.Places.{get_first, get_some, some_same}
 use Rattle.tdf_columns.specs.Tracked.{TrackedOf}
 use Rattle.tdf_columns.specs.Tracks.{Tracks, known_cell}
 use Rattle.tdf_columns.specs.machine.Firsts.{first_cell, first_cells, known_cells}
-use Rattle.tdf_fixed.specs.declared.raw.Raw.{Raw}
-use Rattle.tdf_rows.proofs.Api.{has_times, position_is, time_is}
-use Rattle.tdf_rows.specs.Positions.{AreChained, Span, cell_of, end_of, is_position, place_in, position_at, time_of, total}
-use Rattle.tdf_rows.specs.Stamping.{IsStamping}
-use Rattle.tdf_rows.specs.declared.stamps.Stamps.{Stamps}
+use Rattle.tdf_trace.specs.low.fixed.declared.raw.Raw.{Raw}
+use Rattle.tdf_trace.proofs.Api.{has_times, position_is, time_is}
+use Rattle.tdf_trace.specs.low.rows.Positions.{AreChained, Span, cell_of, end_of, is_position, place_in, position_at, time_of, total}
+use Rattle.tdf_trace.specs.low.rows.Stamping.{IsStamping}
+use Rattle.tdf_trace.specs.low.rows.declared.stamps.Stamps.{Stamps}
 
 -- a position at a time has a number below the total, and this time
 pub below_total : (spans : List Span) (time j : ℕ) → AreChained 0 spans → position_at 0 spans time ≡ Some j → (j < total spans) × (time_of spans j ≡ Some time)

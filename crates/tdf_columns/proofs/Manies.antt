@@ -12,9 +12,9 @@ use Rattle.tdf_columns.specs.machine.Finding.{Finds, found}
 use Rattle.tdf_columns.specs.machine.Going.{NotesTo}
 use Rattle.tdf_columns.specs.machine.Showing.{NotesOne, OneHolds, TakesOne, TakesOnePeriod, with_signal}
 use Rattle.tdf_convert.specs.declared.outputs.Traced.{Traced}
-use Rattle.tdf_fixed.specs.declared.raw.Raw.{Raw}
-use Rattle.tdf_rows.specs.Positions.{AreChained, Span, cell_of}
-use Rattle.tdf_rows.specs.Rows.{Cells}
+use Rattle.tdf_trace.specs.low.fixed.declared.raw.Raw.{Raw}
+use Rattle.tdf_trace.specs.low.rows.Positions.{AreChained, Span, cell_of}
+use Rattle.tdf_trace.specs.low.rows.Rows.{Cells}
 use Rattle.tdf_trace.proofs.Api.{stands_alike}
 use Rattle.tdf_trace.specs.Stands.{RowsSeen, Stands}
 use Rattle.tdf_wiring.specs.declared.traces.TraceRow.{TraceRow}

@@ -3,10 +3,10 @@ use Rattle.std.proofs.Common.{◌≡◌, ℕ, Bool, true, false, nat_eq, ◌&&�
 use Rattle.std.proofs.lemmas.List.Folds.{list_any-append}
 use Rattle.tdf_columns.specs.Traces.{is_among}
 use Rattle.tdf_columns.specs.machine.Showing.{TakesCells, with_cells, with_signal}
-use Rattle.tdf_fixed.specs.declared.raw.Raw.{Raw}
-use Rattle.tdf_rows.specs.Noted.{with_cell}
-use Rattle.tdf_rows.specs.Rows.{Cells}
-use Rattle.tdf_rows.specs.declared.cell.Cell.{Cell}
+use Rattle.tdf_trace.specs.low.fixed.declared.raw.Raw.{Raw}
+use Rattle.tdf_trace.specs.low.rows.Noted.{with_cell}
+use Rattle.tdf_trace.specs.low.rows.Rows.{Cells}
+use Rattle.tdf_trace.specs.low.rows.declared.cell.Cell.{Cell}
 use Rattle.tdf_trace.proofs.Api.{stands_alike}
 use Rattle.tdf_trace.specs.Stands.{RowsSeen, Stands, TakesCell}
 

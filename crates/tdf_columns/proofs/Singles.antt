@@ -10,12 +10,12 @@ use Rattle.tdf_columns.specs.Tracked.{TrackedOf}
 use Rattle.tdf_columns.specs.Tracks.{Tracks}
 use Rattle.tdf_columns.specs.machine.Firsts.{first_cells}
 use Rattle.tdf_columns.specs.machine.Showing.{ClosedTo, IsAt, IsNotedBelow, OneHolds, TakesCells, with_signal}
-use Rattle.tdf_fixed.specs.declared.raw.Raw.{Raw}
-use Rattle.tdf_rows.proofs.Api.{stamped_begin, stamped_on}
-use Rattle.tdf_rows.specs.Positions.{AreChained, Span, total}
-use Rattle.tdf_rows.specs.Rows.{Cells}
-use Rattle.tdf_rows.specs.Stamping.{IsStamping, stamps_after}
-use Rattle.tdf_rows.specs.declared.stamps.Stamps.{Stamps}
+use Rattle.tdf_trace.specs.low.fixed.declared.raw.Raw.{Raw}
+use Rattle.tdf_trace.proofs.Api.{stamped_begin, stamped_on}
+use Rattle.tdf_trace.specs.low.rows.Positions.{AreChained, Span, total}
+use Rattle.tdf_trace.specs.low.rows.Rows.{Cells}
+use Rattle.tdf_trace.specs.low.rows.Stamping.{IsStamping, stamps_after}
+use Rattle.tdf_trace.specs.low.rows.declared.stamps.Stamps.{Stamps}
 use Rattle.tdf_trace.specs.Stands.{RowsSeen, Stands}
 
 -- a tracked signal with other stamps and other samples that wait

@@ -8,11 +8,11 @@ use Rattle.tdf_columns.specs.Calls.{HasStarted, Holds}
 use Rattle.tdf_columns.specs.Tracked.{AreSince, TrackedOf, label}
 use Rattle.tdf_columns.specs.Tracks.{AreTracked, Tracks, known_by}
 use Rattle.tdf_columns.specs.Traces.{IsTrackingOf, sample_or, with_samples}
-use Rattle.tdf_fixed.specs.declared.raw.Raw.{Raw}
-use Rattle.tdf_rows.specs.Noted.{is_cell_of, with_cell}
-use Rattle.tdf_rows.specs.Positions.{Span, position_at, total}
-use Rattle.tdf_rows.specs.Rows.{Cells}
-use Rattle.tdf_rows.specs.declared.cell.Cell.{Cell}
+use Rattle.tdf_trace.specs.low.fixed.declared.raw.Raw.{Raw}
+use Rattle.tdf_trace.specs.low.rows.Noted.{is_cell_of, with_cell}
+use Rattle.tdf_trace.specs.low.rows.Positions.{Span, position_at, total}
+use Rattle.tdf_trace.specs.low.rows.Rows.{Cells}
+use Rattle.tdf_trace.specs.low.rows.declared.cell.Cell.{Cell}
 use Rattle.tdf_trace.proofs.Api.{stands_alike}
 use Rattle.tdf_trace.specs.Stands.{RowsSeen, Stands, TakesCell}
 use Rattle.tdf_wiring.specs.declared.traces.TraceRow.{TraceRow}

@@ -6,10 +6,10 @@ use Rattle.tdf_columns.specs.Tracked.{TrackedOf, TrackingOf, labels, samples_of}
 use Rattle.tdf_columns.specs.Tracks.{AreTracked, cells_by, known_by}
 use Rattle.tdf_columns.specs.Traces.{IsTrackingOf, with_samples}
 use Rattle.tdf_convert.specs.declared.outputs.Traced.{Traced}
-use Rattle.tdf_fixed.specs.declared.raw.Raw.{Raw}
-use Rattle.tdf_rows.specs.Laws.{Agree}
-use Rattle.tdf_rows.specs.Positions.{AreChained, Span}
-use Rattle.tdf_rows.specs.Rows.{Cells}
+use Rattle.tdf_trace.specs.low.fixed.declared.raw.Raw.{Raw}
+use Rattle.tdf_trace.specs.low.rows.Laws.{Agree}
+use Rattle.tdf_trace.specs.low.rows.Positions.{AreChained, Span}
+use Rattle.tdf_trace.specs.low.rows.Rows.{Cells}
 use Rattle.tdf_trace.specs.Stands.{RowsSeen, Stands}
 use Rattle.tdf_wiring.specs.declared.traces.TraceRow.{TraceRow}
 

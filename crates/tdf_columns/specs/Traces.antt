@@ -4,8 +4,8 @@ use Rattle.std.specs.List.{list_any}
 use Rattle.std.specs.Prelude.{◌≡◌, ℕ, Bool, false, ◌&&◌, not, nat_eq, if◌then◌else◌}
 use Rattle.std.specs.Prelude.{Option, Some, None, List, slice_get}
 use Rattle.tdf_columns.specs.Tracked.{TrackedOf}
-use Rattle.tdf_fixed.specs.declared.raw.Raw.{Raw}
-use Rattle.tdf_rows.specs.Rows.{Cells}
+use Rattle.tdf_trace.specs.low.fixed.declared.raw.Raw.{Raw}
+use Rattle.tdf_trace.specs.low.rows.Rows.{Cells}
 use Rattle.tdf_wiring.specs.declared.traces.TraceRow.{TraceRow}
 
 -- a column's cell: that of the signal if its trace is one of samples, else another

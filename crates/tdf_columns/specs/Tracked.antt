@@ -3,8 +3,8 @@
 use Rattle.std.specs.Prelude.{◌≡◌, ◌<◌, ◌≤◌, ℕ, nat_eq, if◌then◌else◌, Some}
 use Rattle.std.specs.Prelude.{List, [], ◌∷◌, map, slice_get}
 use Rattle.tdf_convert.specs.declared.outputs.Traced.{Traced}
-use Rattle.tdf_fixed.specs.declared.raw.Raw.{Raw}
-use Rattle.tdf_rows.specs.declared.stamps.Stamps.{Stamps}
+use Rattle.tdf_trace.specs.low.fixed.declared.raw.Raw.{Raw}
+use Rattle.tdf_trace.specs.low.rows.declared.stamps.Stamps.{Stamps}
 
 -- a signal that is traced: its number, the columns that show it, the start of the period that has
 -- begun last, the stamps of its positions without a time, and its samples without a position

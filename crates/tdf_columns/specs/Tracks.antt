@@ -2,9 +2,9 @@
 -- Source: own.
 use Rattle.std.specs.Prelude.{◌≡◌, ℕ, ◌+◌, ◌-◌, ◌<◌, Option, Some, None, List, drop, length, slice_get}
 use Rattle.tdf_columns.specs.Tracked.{TrackedOf}
-use Rattle.tdf_fixed.specs.declared.raw.Raw.{Raw}
-use Rattle.tdf_rows.specs.Positions.{AreChained, Span, cell_of, total}
-use Rattle.tdf_rows.specs.Stamping.{IsStamping}
+use Rattle.tdf_trace.specs.low.fixed.declared.raw.Raw.{Raw}
+use Rattle.tdf_trace.specs.low.rows.Positions.{AreChained, Span, cell_of, total}
+use Rattle.tdf_trace.specs.low.rows.Stamping.{IsStamping}
 
 -- so many positions have their time and their sample, and the samples after them wait for a period
 -- that gives them a time

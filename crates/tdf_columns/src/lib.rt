@@ -5,9 +5,11 @@
 //! - `tracked`: a traced signal.
 //! - `tracking`: all traced signals.
 //! - `laws`: what holds of what is kept of them.
+//! - `low`: what the crates above use of the crates further below.
 #![tactic(auto)]
 
 mod laws;
+pub mod low;
 mod notes;
 mod tracked;
 mod tracking;

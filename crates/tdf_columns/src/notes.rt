@@ -3,10 +3,10 @@ ghost use Rattle.std.specs.Prelude.{◌≡◌, ◌≤◌, length, OnOk};
 ghost use Rattle.tdf_columns.specs.machine.Showing.{AreColumns, TakesCells};
 ghost use Rattle.tdf_trace.specs.Columns.{HasFewPlaces};
 
-use tdf_base::Memory;
-use tdf_fixed::Raw;
-use tdf_rows::Cell;
 use tdf_trace::Trace;
+use tdf_trace::low::base::Memory;
+use tdf_trace::low::fixed::Raw;
+use tdf_trace::low::rows::Cell;
 
 /// Notes a cell in each of some columns.
 ///

@@ -3,17 +3,17 @@ ghost use Rattle.std.specs.Prelude.{◌≡◌, ◌≤◌, ◌<◌, ◌+◌, ◌*
 ghost use Rattle.tdf_columns.specs.Tracked.{label};
 ghost use Rattle.tdf_columns.specs.machine.Going.{IsNewFor};
 ghost use Rattle.tdf_columns.specs.machine.Showing.{AreColumns, CatchesUp, NotesOne, TakesCells, TakesOne, TakesOnePeriod};
-ghost use Rattle.tdf_rows.specs.Positions.{span_of};
-ghost use Rattle.tdf_rows.specs.Stamping.{stamps_after};
+ghost use Rattle.tdf_trace.specs.low.rows.Positions.{span_of};
+ghost use Rattle.tdf_trace.specs.low.rows.Stamping.{stamps_after};
 
 use crate::notes::note_all;
 use std::alloc::Global;
 use std::collections::VecDeque;
 use std::marker::Model;
-use tdf_base::Memory;
-use tdf_fixed::Raw;
-use tdf_rows::Stamps;
 use tdf_trace::Trace;
+use tdf_trace::low::base::Memory;
+use tdf_trace::low::fixed::Raw;
+use tdf_trace::low::rows::Stamps;
 
 /// A signal that is traced: the columns that show it, the start of the period that has begun last, the stamps of its positions
 /// without a time, and its samples without a position.

@@ -1,18 +1,18 @@
 //! All traced signals.
 ghost use Rattle.std.specs.Prelude.{◌≡◌, ◌≤◌, ◌<◌, ◌+◌, ◌*◌, ◌^◌, [], ◌∷◌, false, length, All, IfOk, OnOk};
-ghost use Rattle.tdf_base.specs.Limits.{most_traces};
+ghost use Rattle.tdf_trace.specs.low.base.Limits.{most_traces};
 ghost use Rattle.tdf_columns.specs.Calls.{AreBelow, HasNoneLeft, HasStarted, IsFresh, NotesRest, TakesPeriod, TakesSamples};
 ghost use Rattle.tdf_columns.specs.Tracked.{AreSince, labels, sinces};
 ghost use Rattle.tdf_columns.specs.machine.Finding.{HasNone, IsPlaceOf, found};
 ghost use Rattle.tdf_columns.specs.machine.Going.{AddsTrace, IsAdding};
-ghost use Rattle.tdf_rows.specs.Positions.{span_of};
+ghost use Rattle.tdf_trace.specs.low.rows.Positions.{span_of};
 
 use crate::tracked::Tracked;
 use std::alloc::Global;
 use std::marker::Model;
-use tdf_base::Memory;
 use tdf_convert::Traced;
 use tdf_trace::Trace;
+use tdf_trace::low::base::Memory;
 use tdf_wiring::TraceRow;
 
 /// The traced signals of samples of a trace with `width` columns, found by their numbers.

@@ -10,20 +10,20 @@ use Rattle.std.specs.List.{AllByRecursion, enumerate_from, cons_option, flat_map
 use Rattle.std.specs.Option.{option_map}
 use Rattle.std.specs.Prelude.{All, slice_get, filter_map, sum}
 use Rattle.tdf_balance.specs.Balance.{HasCounts}
-use Rattle.tdf_base.specs.Limits.{time_end, most_firings}
-use Rattle.tdf_bind.specs.Actors.{cluster_of}
-use Rattle.tdf_bind.specs.Flat.{FlatOf}
+use Rattle.tdf_flat.specs.low.base.Limits.{time_end, most_firings}
+use Rattle.tdf_flat.specs.low.bind.Actors.{cluster_of}
+use Rattle.tdf_flat.specs.low.bind.Flat.{FlatOf}
 use Rattle.tdf_dynamic.specs.Assignments.{port_at, assign_at, assigned_by, assignments}
 use Rattle.tdf_dynamic.specs.Attributes.{AttrsOf, clusters_of, number_if, ports_of, IsOfCluster}
 use Rattle.tdf_dynamic.specs.Rates.{rated_port, net_ports}
-use Rattle.tdf_graph.specs.Counts.{AreCounts}
-use Rattle.tdf_graph.specs.declared.actors.Edge.{Edge}
-use Rattle.tdf_graph.specs.declared.actors.Port.{Port}
+use Rattle.tdf_flat.specs.low.graph.Counts.{AreCounts}
+use Rattle.tdf_flat.specs.low.graph.declared.actors.Edge.{Edge}
+use Rattle.tdf_flat.specs.low.graph.declared.actors.Port.{Port}
 use Rattle.tdf_schedule.specs.Plan.{IsPaced}
-use Rattle.tdf_timestep.specs.Period.{IsAssigned, IsPortOf, HasSteps}
-use Rattle.tdf_timestep.specs.declared.assign.Assign.{Assign}
-use Rattle.tdf_timestep.specs.declared.assign.Steps.{Steps}
-use Rattle.tdf_wiring.specs.declared.modules.PortRow.{PortRow}
+use Rattle.tdf_schedule.specs.low.timestep.Period.{IsAssigned, IsPortOf, HasSteps}
+use Rattle.tdf_schedule.specs.low.timestep.declared.assign.Assign.{Assign}
+use Rattle.tdf_schedule.specs.low.timestep.declared.assign.Steps.{Steps}
+use Rattle.tdf_flat.specs.low.wiring.declared.modules.PortRow.{PortRow}
 
 -- the ports of a module
 module _ (all : List PortRow) («module» : ℕ) where

@@ -2,19 +2,19 @@
 use Rattle.std.proofs.Common.{ℕ, ◌+◌, ◌*◌, ◌≤◌, zero, suc, List, [], ◌∷◌, ◌++◌, Option, Some, None, map, arith}
 use Rattle.std.specs.List.{AllByRecursion, enumerate_from, cons_option}
 use Rattle.std.specs.Prelude.{slice_get, filter_map}
-use Rattle.tdf_base.specs.Limits.{greatest_delay}
-use Rattle.tdf_bind.specs.Flat.{IsShortRole}
-use Rattle.tdf_tree.specs.declared.blocks.PortKind.{PortKind}
-use Rattle.tdf_tree.specs.declared.blocks.PortKind.TheVariants.{In, Out, DeIn, DeOut}
-use Rattle.tdf_walk.specs.Tables.{RowOf}
-use Rattle.tdf_wiring.specs.Edges.{IsShort, actor_at, driver_port, edge_from, driven_edge, edge_of_kind, edge_by, edges_of}
-use Rattle.tdf_wiring.specs.Modules.{PlacedModule, as_module, placed_modules, port_row, module_ports, ports_from}
-use Rattle.tdf_wiring.specs.declared.drivers.SignalRow.{SignalRow}
-use Rattle.tdf_wiring.specs.declared.edges.EdgeRow.{EdgeRow}
-use Rattle.tdf_wiring.specs.declared.modules.PortRow.{PortRow}
-use Rattle.tdf_wiring.specs.declared.roles.PortData.{PortData}
-use Rattle.tdf_wiring.specs.declared.roles.Role.{Role}
-use Rattle.tdf_wiring.specs.declared.roles.Role.TheVariants.{Module, Processes, Composite}
+use Rattle.tdf_flat.specs.low.base.Limits.{greatest_delay}
+use Rattle.tdf_flat.specs.low.bind.Flat.{IsShortRole}
+use Rattle.tdf_flat.specs.low.tree.declared.blocks.PortKind.{PortKind}
+use Rattle.tdf_flat.specs.low.tree.declared.blocks.PortKind.TheVariants.{In, Out, DeIn, DeOut}
+use Rattle.tdf_flat.specs.low.walk.Tables.{RowOf}
+use Rattle.tdf_flat.specs.low.wiring.Edges.{IsShort, actor_at, driver_port, edge_from, driven_edge, edge_of_kind, edge_by, edges_of}
+use Rattle.tdf_flat.specs.low.wiring.Modules.{PlacedModule, as_module, placed_modules, port_row, module_ports, ports_from}
+use Rattle.tdf_flat.specs.low.wiring.declared.drivers.SignalRow.{SignalRow}
+use Rattle.tdf_flat.specs.low.wiring.declared.edges.EdgeRow.{EdgeRow}
+use Rattle.tdf_flat.specs.low.wiring.declared.modules.PortRow.{PortRow}
+use Rattle.tdf_flat.specs.low.wiring.declared.roles.PortData.{PortData}
+use Rattle.tdf_flat.specs.low.wiring.declared.roles.Role.{Role}
+use Rattle.tdf_flat.specs.low.wiring.declared.roles.Role.TheVariants.{Module, Processes, Composite}
 use Rattle.std.proofs.lemmas.List.Elements.{recursion_from_All}
 
 pub both : {X : Type 0} (P : X → Type 0) (xs ys : List X) → AllByRecursion P xs → AllByRecursion P ys → AllByRecursion P (xs ++ ys)

@@ -8,24 +8,24 @@ use Rattle.tdf_balance.specs.Balance.{HasCounts}
 use Rattle.tdf_balance.specs.Laws.{CountsAreUnique, AnswersExclude}
 use Rattle.tdf_balance.specs.declared.err.BalanceErr.{BalanceErr}
 use Rattle.tdf_balance.specs.declared.err.BalanceErr.TheVariants as balance
-use Rattle.tdf_base.specs.declared.faults.Fault.{Fault}
-use Rattle.tdf_bind.specs.Flat.{FlatOf}
+use Rattle.tdf_flat.specs.low.base.declared.faults.Fault.{Fault}
+use Rattle.tdf_flat.specs.low.bind.Flat.{FlatOf}
 use Rattle.tdf_dynamic.proofs.Periods.{agreed_once, steps_err, steps_apart}
 use Rattle.tdf_dynamic.specs.Assignments.{assignments}
 use Rattle.tdf_dynamic.specs.Attributes.{AttrsOf, clusters_of}
 use Rattle.tdf_dynamic.specs.Faults.{IsBalanceErr, balance_fault, IsCountsFault, IsStepErr, step_fault, IsPeriodFault, HasCountsOf, HasStepsOf, HasTiming, OfCounts, OfPeriod}
 use Rattle.tdf_dynamic.specs.Faults.{pace_in, IsPlanErr, plan_fault, IsNetFault, OfTiming, OfPlan, IsNetPlan}
 use Rattle.tdf_dynamic.specs.Rates.{NetOf}
-use Rattle.tdf_graph.specs.Clusters.{AreClusters}
-use Rattle.tdf_graph.specs.Ranges.{IsEdge}
-use Rattle.tdf_graph.specs.declared.actors.Edge.{Edge}
+use Rattle.tdf_flat.specs.low.graph.Clusters.{AreClusters}
+use Rattle.tdf_flat.specs.low.graph.Ranges.{IsEdge}
+use Rattle.tdf_flat.specs.low.graph.declared.actors.Edge.{Edge}
 use Rattle.tdf_dynamic.specs.Laws.{AreSamePlans}
 use Rattle.tdf_schedule.specs.Laws.{PlansAreUnique, BoundsAreUnique}
 use Rattle.tdf_schedule.specs.Plan.{pace_of, IsBound, IsLate, IsDeadlock, IsNoncausal, HasPlan}
 use Rattle.tdf_schedule.specs.declared.entry.Plan.{Plan}
 use Rattle.tdf_schedule.specs.declared.err.PlanErr.{PlanErr}
 use Rattle.tdf_schedule.specs.declared.err.PlanErr.TheVariants as planning
-use Rattle.tdf_timestep.specs.declared.assign.Steps.{Steps}
+use Rattle.tdf_schedule.specs.low.timestep.declared.assign.Steps.{Steps}
 
 some_same : {A : Type 0} {x y : A} → Some x ≡ Some y → x ≡ y
 some_same {A} {x} {y} e = ap or_x e

@@ -6,34 +6,34 @@ use Rattle.std.proofs.lemmas.Option.{slice_get_within, get_or_from_slice_get}
 use Rattle.std.specs.Cmp.Lexicographic.{pointwise}
 use Rattle.std.specs.List.{AllByRecursion, flat_map}
 use Rattle.std.specs.Prelude.{slice_get, nat_eq}
-use Rattle.tdf_base.specs.Limits.{time_end, greatest_rate}
+use Rattle.tdf_flat.specs.low.base.Limits.{time_end, greatest_rate}
 use Rattle.tdf_dynamic.specs.Rates.{times_value}
-use Rattle.tdf_expr.specs.Blocks.{Module, blocks_of}
-use Rattle.tdf_expr.specs.Compiled.{IsBlockOf, AreBlocksOf}
-use Rattle.tdf_expr.specs.Made.{block_count, rates_in, start_rates}
-use Rattle.tdf_expr.specs.Plans.{rate_span, rate_spans}
-use Rattle.tdf_expr.specs.declared.blocks.Block.{Block}
-use Rattle.tdf_expr.specs.declared.checked.Checked.{Checked}
-use Rattle.tdf_expr.specs.declared.spans.RateSpan.{RateSpan}
-use Rattle.tdf_graph.specs.Ranges.{IsRate}
-use Rattle.tdf_links.specs.Ports.{ports_of_tdf}
-use Rattle.tdf_meaning.specs.Places.{before, rates_of, rate_number}
-use Rattle.tdf_roles.specs.Roles.{variable_at, variable_of, rate_in, rate_of_port, step_of_port, port_data, module_role, roles_from}
-use Rattle.tdf_roles.specs.Standing.{or_else, last_of, when, module_step, port_step}
-use Rattle.tdf_scope.specs.Names.{Names, Thing, Const, Var, Array, Port, RateVar, Event, Signal, DeSignal, Instance, Loop, TypeName, Tdf, De, Composite, at_place, place_of, thing_of}
-use Rattle.tdf_scope.specs.Scope.{tdf_scope, least_rate, greatest_rate as most_of, least_of, greatest_of}
-use Rattle.tdf_scope.specs.Sound.{IsThingSound, IsSound}
-use Rattle.tdf_tree.specs.Kept.{Each, KeepsAttr, KeepsGlobal}
-use Rattle.tdf_tree.specs.Pure.{PureTdf, PureComposite, PureGlobal, GShape, GTdf, GDe, GNet}
-use Rattle.tdf_tree.specs.declared.blocks.Attr.{Attr}
-use Rattle.tdf_tree.specs.declared.blocks.Attr.TheVariants as attr
-use Rattle.tdf_tree.specs.declared.blocks.PortLine.{PortLine}
-use Rattle.tdf_tree.specs.declared.stmt.Limit.{Limit}
-use Rattle.tdf_tree.specs.declared.stmt.Limit.TheVariants as limit
-use Rattle.tdf_wiring.specs.Roles.{ModuleOf}
-use Rattle.tdf_wiring.specs.declared.roles.PortData.{PortData}
-use Rattle.tdf_wiring.specs.declared.roles.Role.{Role}
-use Rattle.tdf_wiring.specs.declared.roles.Role.TheVariants as role
+use Rattle.tdf_flat.specs.low.expr.Blocks.{Module, blocks_of}
+use Rattle.tdf_flat.specs.low.expr.Compiled.{IsBlockOf, AreBlocksOf}
+use Rattle.tdf_flat.specs.low.expr.Made.{block_count, rates_in, start_rates}
+use Rattle.tdf_flat.specs.low.expr.Plans.{rate_span, rate_spans}
+use Rattle.tdf_flat.specs.low.expr.declared.blocks.Block.{Block}
+use Rattle.tdf_flat.specs.low.expr.declared.checked.Checked.{Checked}
+use Rattle.tdf_flat.specs.low.expr.declared.spans.RateSpan.{RateSpan}
+use Rattle.tdf_flat.specs.low.graph.Ranges.{IsRate}
+use Rattle.tdf_flat.specs.low.links.Ports.{ports_of_tdf}
+use Rattle.tdf_flat.specs.low.meaning.Places.{before, rates_of, rate_number}
+use Rattle.tdf_flat.specs.low.roles.Roles.{variable_at, variable_of, rate_in, rate_of_port, step_of_port, port_data, module_role, roles_from}
+use Rattle.tdf_flat.specs.low.roles.Standing.{or_else, last_of, when, module_step, port_step}
+use Rattle.tdf_flat.specs.low.scope.Names.{Names, Thing, Const, Var, Array, Port, RateVar, Event, Signal, DeSignal, Instance, Loop, TypeName, Tdf, De, Composite, at_place, place_of, thing_of}
+use Rattle.tdf_flat.specs.low.scope.Scope.{tdf_scope, least_rate, greatest_rate as most_of, least_of, greatest_of}
+use Rattle.tdf_flat.specs.low.scope.Sound.{IsThingSound, IsSound}
+use Rattle.tdf_flat.specs.low.tree.Kept.{Each, KeepsAttr, KeepsGlobal}
+use Rattle.tdf_flat.specs.low.tree.Pure.{PureTdf, PureComposite, PureGlobal, GShape, GTdf, GDe, GNet}
+use Rattle.tdf_flat.specs.low.tree.declared.blocks.Attr.{Attr}
+use Rattle.tdf_flat.specs.low.tree.declared.blocks.Attr.TheVariants as attr
+use Rattle.tdf_flat.specs.low.tree.declared.blocks.PortLine.{PortLine}
+use Rattle.tdf_flat.specs.low.tree.declared.stmt.Limit.{Limit}
+use Rattle.tdf_flat.specs.low.tree.declared.stmt.Limit.TheVariants as limit
+use Rattle.tdf_flat.specs.low.wiring.Roles.{ModuleOf}
+use Rattle.tdf_flat.specs.low.wiring.declared.roles.PortData.{PortData}
+use Rattle.tdf_flat.specs.low.wiring.declared.roles.Role.{Role}
+use Rattle.tdf_flat.specs.low.wiring.declared.roles.Role.TheVariants as role
 
 -- a port whose timestep is below the limit, and whose rate is in range where variables have these values
 pub record IsPortFine (values : List ℕ) (port : PortData) : Type 0 where

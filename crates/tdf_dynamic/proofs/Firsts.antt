@@ -3,9 +3,9 @@ use Rattle.std.proofs.Common.{◌≡◌, ◌∙◌, ℕ, List, length, refl, sym
 use Rattle.std.proofs.lemmas.List.{length-map}
 use Rattle.std.specs.Prelude.{All, Result, Ok, Err, IsOk, IfOk, IfErr}
 use Rattle.tdf_balance.specs.Laws.{CountsAreUnique, AnswersExclude}
-use Rattle.tdf_base.specs.declared.faults.Fault.{Fault}
-use Rattle.tdf_bind.specs.Actors.{cluster_of}
-use Rattle.tdf_bind.specs.Flat.{FlatOf}
+use Rattle.tdf_flat.specs.low.base.declared.faults.Fault.{Fault}
+use Rattle.tdf_flat.specs.low.bind.Actors.{cluster_of}
+use Rattle.tdf_flat.specs.low.bind.Flat.{FlatOf}
 use Rattle.tdf_dynamic.proofs.Excludes.{fault_once, fault_apart, plan_once}
 use Rattle.tdf_dynamic.proofs.Nets.{edges_are_fit, rated_clusters}
 use Rattle.tdf_dynamic.proofs.Tables.{rates_are}
@@ -19,8 +19,8 @@ use Rattle.tdf_dynamic.specs.declared.err.ChangeErr.{ChangeErr}
 use Rattle.tdf_dynamic.specs.declared.err.ChangeErr.TheVariants.{Refused, Memory}
 use Rattle.tdf_dynamic.specs.declared.first.First.{First}
 use Rattle.tdf_flat.specs.declared.model.Flat.{Flat}
-use Rattle.tdf_graph.specs.Clusters.{AreClusters}
-use Rattle.tdf_graph.specs.Ranges.{IsEdge}
+use Rattle.tdf_flat.specs.low.graph.Clusters.{AreClusters}
+use Rattle.tdf_flat.specs.low.graph.Ranges.{IsEdge}
 use Rattle.tdf_schedule.specs.Laws.{PlansAreUnique, BoundsAreUnique}
 
 module _ (tables : FlatOf) (table : List AttrsOf) (wired : IsWired tables) (rates : AreRates tables table) where

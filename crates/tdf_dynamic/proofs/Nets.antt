@@ -7,23 +7,23 @@ use Rattle.std.proofs.lemmas.Option.{slice_get_within, slice_get_read, get_or_fr
 use Rattle.std.specs.List.{AllByRecursion, enumerate_from, range_with_len}
 use Rattle.std.specs.Option.{option_map}
 use Rattle.std.specs.Prelude.{All, Contains, slice_get, filter_map}
-use Rattle.tdf_base.specs.Limits.{greatest_delay}
-use Rattle.tdf_bind.specs.Actors.{net_edge, module_actor, port_actor, place_of}
-use Rattle.tdf_bind.specs.Flat.{FlatOf}
-use Rattle.tdf_bind.specs.Ranges.{AreInRange}
-use Rattle.tdf_bind.specs.declared.actors.ActorRow.{ActorRow}
+use Rattle.tdf_flat.specs.low.base.Limits.{greatest_delay}
+use Rattle.tdf_flat.specs.low.bind.Actors.{net_edge, module_actor, port_actor, place_of}
+use Rattle.tdf_flat.specs.low.bind.Flat.{FlatOf}
+use Rattle.tdf_flat.specs.low.bind.Ranges.{AreInRange}
+use Rattle.tdf_flat.specs.low.bind.declared.actors.ActorRow.{ActorRow}
 use Rattle.tdf_dynamic.specs.Attributes.{AttrsOf, clusters_of}
 use Rattle.tdf_dynamic.specs.Rates.{port_rate, rated_port, net_ports, write_rate_by, read_rate_by, rated_edge, AreRates, IsWired, NetOf, seen, net_of}
-use Rattle.tdf_graph.specs.Clusters.{Joined, stays, goes, comes, AreClusters}
-use Rattle.tdf_graph.specs.Ranges.{IsRate, IsEdge, IsPort, AreInRange as NetInRange}
-use Rattle.tdf_graph.specs.declared.actors.Edge.{Edge}
-use Rattle.tdf_graph.specs.declared.actors.Port.{Port}
-use Rattle.tdf_graph.specs.declared.net.Net.{Net}
-use Rattle.tdf_timestep.specs.Period.{rate_at, rate_of}
-use Rattle.tdf_tree.specs.declared.blocks.PortKind.{PortKind}
-use Rattle.tdf_tree.specs.declared.blocks.PortKind.TheVariants.{In, Out, DeIn, DeOut}
-use Rattle.tdf_wiring.specs.declared.edges.EdgeRow.{EdgeRow}
-use Rattle.tdf_wiring.specs.declared.modules.PortRow.{PortRow}
+use Rattle.tdf_flat.specs.low.graph.Clusters.{Joined, stays, goes, comes, AreClusters}
+use Rattle.tdf_flat.specs.low.graph.Ranges.{IsRate, IsEdge, IsPort, AreInRange as NetInRange}
+use Rattle.tdf_flat.specs.low.graph.declared.actors.Edge.{Edge}
+use Rattle.tdf_flat.specs.low.graph.declared.actors.Port.{Port}
+use Rattle.tdf_flat.specs.low.graph.declared.net.Net.{Net}
+use Rattle.tdf_schedule.specs.low.timestep.Period.{rate_at, rate_of}
+use Rattle.tdf_flat.specs.low.tree.declared.blocks.PortKind.{PortKind}
+use Rattle.tdf_flat.specs.low.tree.declared.blocks.PortKind.TheVariants.{In, Out, DeIn, DeOut}
+use Rattle.tdf_flat.specs.low.wiring.declared.edges.EdgeRow.{EdgeRow}
+use Rattle.tdf_flat.specs.low.wiring.declared.modules.PortRow.{PortRow}
 
 -- rates in range
 

@@ -5,13 +5,13 @@ use Rattle.std.proofs.Math.Seq.{take-suc}
 use Rattle.std.proofs.lemmas.Bool.{cases_lt}
 use Rattle.std.proofs.lemmas.List.{take_all}
 use Rattle.std.specs.Prelude.{Contains}
-use Rattle.tdf_bind.specs.Flat.{FlatOf}
+use Rattle.tdf_flat.specs.low.bind.Flat.{FlatOf}
 use Rattle.tdf_dynamic.specs.Attributes.{clusters_of}
 use Rattle.tdf_dynamic.specs.Rates.{IsWired}
-use Rattle.tdf_graph.proofs.Api.{stands_below}
-use Rattle.tdf_graph.specs.Clusters.{greatest, AreClusters}
-use Rattle.tdf_graph.specs.declared.actors.Edge.{Edge}
-use Rattle.tdf_wiring.proofs.Api.{any_default}
+use Rattle.tdf_flat.proofs.Api.{stands_below}
+use Rattle.tdf_flat.specs.low.graph.Clusters.{greatest, AreClusters}
+use Rattle.tdf_flat.specs.low.graph.declared.actors.Edge.{Edge}
+use Rattle.tdf_flat.proofs.Api.{any_default}
 
 greatest_push : (ns : List ℕ) (n : ℕ) → greatest (ns ++ n ∷ []) ≡ max n (greatest ns)
 greatest_push [] n = omega arith

@@ -5,19 +5,19 @@ use Rattle.std.proofs.lemmas.Bool.Decides.{nat_tests}
 use Rattle.std.proofs.lemmas.Option.{slice_get_within, get_or_from_slice_get}
 use Rattle.std.specs.Int.{◌∣◌}
 use Rattle.std.specs.Prelude.{slice_get}
-use Rattle.tdf_base.specs.Limits.{time_end}
+use Rattle.tdf_flat.specs.low.base.Limits.{time_end}
 use Rattle.tdf_dynamic.specs.Assignments.{assignments}
 use Rattle.tdf_dynamic.specs.Attributes.{AttrsOf}
 use Rattle.tdf_dynamic.specs.Faults.{IsStepErr, HasStepsOf}
 use Rattle.tdf_dynamic.specs.Rates.{NetOf}
-use Rattle.tdf_graph.specs.declared.actors.Port.{Port}
-use Rattle.tdf_timestep.specs.Order.{comes_before, port_rank, IsFirst}
-use Rattle.tdf_timestep.specs.Period.{share_of, period_of, IsBroken, AreAgreed, IsDisagreed, IsInexact, IsPeriod}
-use Rattle.tdf_timestep.specs.declared.assign.Assign.{Assign}
-use Rattle.tdf_timestep.specs.declared.assign.Spot.{Spot}
-use Rattle.tdf_timestep.specs.declared.assign.Steps.{Steps}
-use Rattle.tdf_timestep.specs.declared.err.StepErr.{StepErr}
-use Rattle.tdf_timestep.specs.declared.err.StepErr.TheVariants as timing
+use Rattle.tdf_flat.specs.low.graph.declared.actors.Port.{Port}
+use Rattle.tdf_schedule.specs.low.timestep.Order.{comes_before, port_rank, IsFirst}
+use Rattle.tdf_schedule.specs.low.timestep.Period.{share_of, period_of, IsBroken, AreAgreed, IsDisagreed, IsInexact, IsPeriod}
+use Rattle.tdf_schedule.specs.low.timestep.declared.assign.Assign.{Assign}
+use Rattle.tdf_schedule.specs.low.timestep.declared.assign.Spot.{Spot}
+use Rattle.tdf_schedule.specs.low.timestep.declared.assign.Steps.{Steps}
+use Rattle.tdf_schedule.specs.low.timestep.declared.err.StepErr.{StepErr}
+use Rattle.tdf_schedule.specs.low.timestep.declared.err.StepErr.TheVariants as timing
 
 clash : {x : Bool} → x ≡ true → x ≡ false → ⊥
 clash e f = subst only_true (sym e ∙ f) tt

@@ -6,8 +6,8 @@ use Rattle.std.specs.Prelude.{◌↔◌, Result, Ok, Err, IfErr, Vec}
 use Rattle.tdf_balance.specs.Balance.{IsRatesFault, IsSizeFault}
 use Rattle.tdf_balance.specs.declared.err.BalanceErr.{BalanceErr}
 use Rattle.tdf_balance.specs.declared.err.BalanceErr.TheVariants as balance
-use Rattle.tdf_base.specs.Limits.{most_samples}
-use Rattle.tdf_bind.specs.Flat.{FlatOf}
+use Rattle.tdf_flat.specs.low.base.Limits.{most_samples}
+use Rattle.tdf_flat.specs.low.bind.Flat.{FlatOf}
 use Rattle.tdf_dynamic.specs.Assignments.{assignments}
 use Rattle.tdf_dynamic.specs.Attributes.{AttrsOf, clusters_of}
 use Rattle.tdf_dynamic.specs.Faults.{balance_fault, IsCountsFault, step_fault, IsPeriodFault, HasCountsOf, HasTiming, IsStepsFault, OfCounts, OfPeriod}
@@ -20,12 +20,12 @@ use Rattle.tdf_schedule.specs.Plan.{IsDeadlock, IsNoncausal, HasPlan}
 use Rattle.tdf_schedule.specs.declared.entry.Plan.{Plan}
 use Rattle.tdf_schedule.specs.declared.err.PlanErr.{PlanErr}
 use Rattle.tdf_schedule.specs.declared.err.PlanErr.TheVariants as planning
-use Rattle.tdf_timestep.specs.Period.{IsDisagreed, IsTooLong, IsInexact}
-use Rattle.tdf_timestep.specs.declared.assign.Assign.{Assign}
-use Rattle.tdf_timestep.specs.declared.assign.Spot.{Spot}
-use Rattle.tdf_timestep.specs.declared.assign.Steps.{Steps}
-use Rattle.tdf_timestep.specs.declared.err.StepErr.{StepErr}
-use Rattle.tdf_timestep.specs.declared.err.StepErr.TheVariants as timing
+use Rattle.tdf_schedule.specs.low.timestep.Period.{IsDisagreed, IsTooLong, IsInexact}
+use Rattle.tdf_schedule.specs.low.timestep.declared.assign.Assign.{Assign}
+use Rattle.tdf_schedule.specs.low.timestep.declared.assign.Spot.{Spot}
+use Rattle.tdf_schedule.specs.low.timestep.declared.assign.Steps.{Steps}
+use Rattle.tdf_schedule.specs.low.timestep.declared.err.StepErr.{StepErr}
+use Rattle.tdf_schedule.specs.low.timestep.declared.err.StepErr.TheVariants as timing
 
 pub none_some : {A : Type 0} {x : A} → None ≡ Some x → ⊥
 none_some {A} e = subst only_none e tt

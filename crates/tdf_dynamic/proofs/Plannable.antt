@@ -3,31 +3,31 @@ use Rattle.std.proofs.Common.{◌≡◌, ◌∙◌, ℕ, ◌+◌, ◌*◌, ◌<�
 use Rattle.std.proofs.lemmas.List.Elements.{All-from_recursion, recursion_from_All}
 use Rattle.std.specs.List.{AllByRecursion, enumerate_from, cons_option}
 use Rattle.std.specs.Prelude.{slice_get}
-use Rattle.tdf_base.specs.Limits.{time_end, greatest_delay}
+use Rattle.tdf_flat.specs.low.base.Limits.{time_end, greatest_delay}
 use Rattle.tdf_dynamic.proofs.Delays.{both, ports_short, starts_few}
-use Rattle.tdf_bind.specs.Flat.{IsShortRole, AreShort}
-use Rattle.tdf_bind.specs.Ranges.{FlatIsInRange}
+use Rattle.tdf_flat.specs.low.bind.Flat.{IsShortRole, AreShort}
+use Rattle.tdf_flat.specs.low.bind.Ranges.{FlatIsInRange}
 use Rattle.tdf_dynamic.proofs.Fine.{IsPortFine, IsRoleFine, IsFine, roles_fine}
 use Rattle.tdf_dynamic.specs.First.{values_of, text_rate, IsPlannable}
 use Rattle.tdf_dynamic.specs.Rates.{times_value}
-use Rattle.tdf_expr.specs.Made.{block_count, start_rates}
-use Rattle.tdf_expr.specs.declared.checked.Checked.{Checked}
+use Rattle.tdf_flat.specs.low.expr.Made.{block_count, start_rates}
+use Rattle.tdf_flat.specs.low.expr.declared.checked.Checked.{Checked}
 use Rattle.tdf_flat.specs.Flat.{IsFlatOf, top_place, trace_lines}
 use Rattle.tdf_flat.specs.declared.model.Flat.{Flat}
-use Rattle.tdf_graph.specs.Ranges.{IsRate}
-use Rattle.tdf_roles.specs.Roles.{roles_of}
-use Rattle.tdf_scope.specs.Names.{globals_of}
-use Rattle.tdf_tree.specs.Kept.{IsKept}
-use Rattle.tdf_tree.specs.Pure.{PureTree}
-use Rattle.tdf_walk.specs.Tables.{RowOf}
-use Rattle.tdf_wiring.specs.Edges.{IsShort}
-use Rattle.tdf_wiring.specs.Modules.{PlacedModule, as_module, placed_modules, module_row, port_row, module_ports, ports_from, AreModules}
-use Rattle.tdf_wiring.specs.declared.edges.EdgeRow.{EdgeRow}
-use Rattle.tdf_wiring.specs.declared.modules.ModuleRow.{ModuleRow}
-use Rattle.tdf_wiring.specs.declared.modules.PortRow.{PortRow}
-use Rattle.tdf_wiring.specs.declared.roles.PortData.{PortData}
-use Rattle.tdf_wiring.specs.declared.roles.Role.{Role}
-use Rattle.tdf_wiring.specs.declared.roles.Role.TheVariants.{Module, Processes, Composite}
+use Rattle.tdf_flat.specs.low.graph.Ranges.{IsRate}
+use Rattle.tdf_flat.specs.low.roles.Roles.{roles_of}
+use Rattle.tdf_flat.specs.low.scope.Names.{globals_of}
+use Rattle.tdf_flat.specs.low.tree.Kept.{IsKept}
+use Rattle.tdf_flat.specs.low.tree.Pure.{PureTree}
+use Rattle.tdf_flat.specs.low.walk.Tables.{RowOf}
+use Rattle.tdf_flat.specs.low.wiring.Edges.{IsShort}
+use Rattle.tdf_flat.specs.low.wiring.Modules.{PlacedModule, as_module, placed_modules, module_row, port_row, module_ports, ports_from, AreModules}
+use Rattle.tdf_flat.specs.low.wiring.declared.edges.EdgeRow.{EdgeRow}
+use Rattle.tdf_flat.specs.low.wiring.declared.modules.ModuleRow.{ModuleRow}
+use Rattle.tdf_flat.specs.low.wiring.declared.modules.PortRow.{PortRow}
+use Rattle.tdf_flat.specs.low.wiring.declared.roles.PortData.{PortData}
+use Rattle.tdf_flat.specs.low.wiring.declared.roles.Role.{Role}
+use Rattle.tdf_flat.specs.low.wiring.declared.roles.Role.TheVariants.{Module, Processes, Composite}
 
 -- the modules among the instances
 module _ (checked : Checked) where

@@ -5,15 +5,15 @@ use Rattle.std.proofs.lemmas.List.{length-map}
 use Rattle.std.proofs.lemmas.List.Elements.{All-from_recursion, recursion_from_All}
 use Rattle.std.specs.List.{AllByRecursion, enumerate_from, cons_option}
 use Rattle.std.specs.Prelude.{All, slice_get, slice_index, filter_map, IfSome}
-use Rattle.tdf_base.specs.Limits.{time_end}
+use Rattle.tdf_flat.specs.low.base.Limits.{time_end}
 use Rattle.tdf_dynamic.specs.Attributes.{AttrsOf, clusters_of, ports_of, IsOfCluster, attrs_at}
 use Rattle.tdf_dynamic.specs.Text.{step_or_none, port_step, first_attrs, attrs_if, first_table}
 use Rattle.tdf_dynamic.specs.First.{values_of, text_rate, HasRatesInRange, IsPlannable}
 use Rattle.tdf_dynamic.specs.Rates.{times_value, rate_by, port_rate, AreRates}
 use Rattle.tdf_flat.specs.declared.model.Flat.{Flat}
-use Rattle.tdf_graph.specs.Ranges.{IsRate}
-use Rattle.tdf_wiring.specs.declared.modules.ModuleRow.{ModuleRow}
-use Rattle.tdf_wiring.specs.declared.modules.PortRow.{PortRow}
+use Rattle.tdf_flat.specs.low.graph.Ranges.{IsRate}
+use Rattle.tdf_flat.specs.low.wiring.declared.modules.ModuleRow.{ModuleRow}
+use Rattle.tdf_flat.specs.low.wiring.declared.modules.PortRow.{PortRow}
 
 -- the timesteps of ports
 step_short : (rows : List PortRow) (p : ℕ) → AllByRecursion (λ (r : PortRow). r.step < time_end) rows → step_or_none (slice_get rows p) < time_end

@@ -4,7 +4,7 @@ use Rattle.std.specs.List.{enumerate_from, flat_map}
 use Rattle.std.specs.Prelude.{ℕ, zero, suc, List, Option, Some, None, nat_eq, if◌then◌else◌}
 use Rattle.std.specs.Prelude.{filter_map, slice_get}
 use Rattle.tdf_dynamic.specs.Attributes.{AttrsOf}
-use Rattle.tdf_timestep.specs.declared.assign.Assign.{Assign}
+use Rattle.tdf_schedule.specs.low.timestep.declared.assign.Assign.{Assign}
 
 -- the port of a place among the timesteps of a module; none for the module's own
 abbrev pub port_at : List ℕ → ℕ → Option ℕ

@@ -4,10 +4,10 @@
 use Rattle.std.specs.List.{enumerate_from}
 use Rattle.std.specs.Prelude.{◌≡◌, ◌+◌, ◌<◌, ℕ, Bool, false, List, [], ◌∷◌, length, map, Option, Some}
 use Rattle.std.specs.Prelude.{None, nat_eq, if◌then◌else◌, filter_map, slice_get, slice_index, All}
-use Rattle.tdf_base.specs.Limits.{time_end}
-use Rattle.tdf_bind.specs.Actors.{cluster_of}
-use Rattle.tdf_bind.specs.Flat.{FlatOf}
-use Rattle.tdf_wiring.specs.declared.modules.PortRow.{PortRow}
+use Rattle.tdf_flat.specs.low.base.Limits.{time_end}
+use Rattle.tdf_flat.specs.low.bind.Actors.{cluster_of}
+use Rattle.tdf_flat.specs.low.bind.Flat.{FlatOf}
+use Rattle.tdf_flat.specs.low.wiring.declared.modules.PortRow.{PortRow}
 
 -- a module, the numbers of its ports in order, and their attributes: the timestep at place 0 is the
 -- module's own, that at place 1 + i its port i's; it is 0 where none is assigned

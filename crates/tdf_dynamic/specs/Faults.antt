@@ -5,14 +5,14 @@ use Rattle.std.specs.Prelude.{slice_get}
 use Rattle.tdf_balance.specs.Balance.{HasCounts, IsRatesFault, IsSizeFault}
 use Rattle.tdf_balance.specs.declared.err.BalanceErr.{BalanceErr}
 use Rattle.tdf_balance.specs.declared.err.BalanceErr.TheVariants as balance
-use Rattle.tdf_base.specs.Limits.{most_samples}
-use Rattle.tdf_base.specs.declared.codes.Code.{Code}
-use Rattle.tdf_base.specs.declared.codes.Code.TheVariants as code
-use Rattle.tdf_base.specs.declared.faults.Fault.{Fault}
-use Rattle.tdf_base.specs.declared.faults.Place.{Place}
-use Rattle.tdf_base.specs.declared.faults.Place.TheVariants as place
-use Rattle.tdf_bind.specs.Flat.{FlatOf}
-use Rattle.tdf_bind.specs.Ranges.{module_path, port_path, actor_path, edge_path}
+use Rattle.tdf_flat.specs.low.base.Limits.{most_samples}
+use Rattle.tdf_flat.specs.low.base.declared.codes.Code.{Code}
+use Rattle.tdf_flat.specs.low.base.declared.codes.Code.TheVariants as code
+use Rattle.tdf_flat.specs.low.base.declared.faults.Fault.{Fault}
+use Rattle.tdf_flat.specs.low.base.declared.faults.Place.{Place}
+use Rattle.tdf_flat.specs.low.base.declared.faults.Place.TheVariants as place
+use Rattle.tdf_flat.specs.low.bind.Flat.{FlatOf}
+use Rattle.tdf_flat.specs.low.bind.Ranges.{module_path, port_path, actor_path, edge_path}
 use Rattle.tdf_dynamic.specs.Assignments.{assignments}
 use Rattle.tdf_dynamic.specs.Attributes.{AttrsOf, clusters_of}
 use Rattle.tdf_dynamic.specs.Rates.{NetOf, net_of}
@@ -22,11 +22,11 @@ use Rattle.tdf_schedule.specs.Plan.{pace_of, samples_of, IsDeadlock, IsNoncausal
 use Rattle.tdf_schedule.specs.declared.entry.Plan.{Plan}
 use Rattle.tdf_schedule.specs.declared.err.PlanErr.{PlanErr}
 use Rattle.tdf_schedule.specs.declared.err.PlanErr.TheVariants as planning
-use Rattle.tdf_timestep.specs.Period.{IsDisagreed, IsTooLong, IsInexact, HasSteps}
-use Rattle.tdf_timestep.specs.declared.assign.Assign.{Assign}
-use Rattle.tdf_timestep.specs.declared.assign.Steps.{Steps}
-use Rattle.tdf_timestep.specs.declared.err.StepErr.{StepErr}
-use Rattle.tdf_timestep.specs.declared.err.StepErr.TheVariants as timing
+use Rattle.tdf_schedule.specs.low.timestep.Period.{IsDisagreed, IsTooLong, IsInexact, HasSteps}
+use Rattle.tdf_schedule.specs.low.timestep.declared.assign.Assign.{Assign}
+use Rattle.tdf_schedule.specs.low.timestep.declared.assign.Steps.{Steps}
+use Rattle.tdf_schedule.specs.low.timestep.declared.err.StepErr.{StepErr}
+use Rattle.tdf_schedule.specs.low.timestep.declared.err.StepErr.TheVariants as timing
 
 -- the path of a module or of one of its ports
 abbrev pub spot_path : FlatOf → ℕ → Option ℕ → List ℕ

@@ -1,18 +1,18 @@
 -- The plan of a cluster as the text says it, or its first fault.
 -- Source: own.
 use Rattle.std.specs.Prelude.{◌≡◌, ◌<◌, ℕ, List, [], Option, Some, None, All, slice_get}
-use Rattle.tdf_base.specs.Limits.{time_end}
-use Rattle.tdf_base.specs.declared.faults.Fault.{Fault}
+use Rattle.tdf_flat.specs.low.base.Limits.{time_end}
+use Rattle.tdf_flat.specs.low.base.declared.faults.Fault.{Fault}
 use Rattle.tdf_dynamic.specs.Faults.{IsTableFault, IsTablePlan}
 use Rattle.tdf_dynamic.specs.Rates.{times_value, IsWired}
 use Rattle.tdf_dynamic.specs.Text.{first_table}
 use Rattle.tdf_dynamic.specs.declared.first.First.{First}
-use Rattle.tdf_expr.specs.Checked.{IsChecked}
-use Rattle.tdf_expr.specs.Made.{block_count, start_rates}
+use Rattle.tdf_flat.specs.low.expr.Checked.{IsChecked}
+use Rattle.tdf_flat.specs.low.expr.Made.{block_count, start_rates}
 use Rattle.tdf_flat.specs.declared.model.Flat.{Flat}
-use Rattle.tdf_graph.specs.Ranges.{IsRate}
-use Rattle.tdf_wiring.specs.declared.modules.ModuleRow.{ModuleRow}
-use Rattle.tdf_wiring.specs.declared.modules.PortRow.{PortRow}
+use Rattle.tdf_flat.specs.low.graph.Ranges.{IsRate}
+use Rattle.tdf_flat.specs.low.wiring.declared.modules.ModuleRow.{ModuleRow}
+use Rattle.tdf_flat.specs.low.wiring.declared.modules.PortRow.{PortRow}
 
 -- the table of the text and its plan
 pub record IsFirstPlan (flat : Flat) (cluster : ℕ) (first : First) : Type 0 where

@@ -1,19 +1,19 @@
 -- What holds of the faults and plans of clusters.
 -- Source: own.
 use Rattle.std.specs.Prelude.{◌≡◌, ◌≤◌, ℕ, Contains}
-use Rattle.tdf_base.specs.declared.faults.Fault.{Fault}
-use Rattle.tdf_bind.specs.Flat.{FlatOf, AreShort}
+use Rattle.tdf_flat.specs.low.base.declared.faults.Fault.{Fault}
+use Rattle.tdf_flat.specs.low.bind.Flat.{FlatOf, AreShort}
 use Rattle.tdf_dynamic.specs.Attributes.{clusters_of}
 use Rattle.tdf_dynamic.specs.First.{IsFirstPlan, IsClusterFault, IsPlannable}
 use Rattle.tdf_dynamic.specs.Rates.{IsWired}
 use Rattle.tdf_dynamic.specs.declared.first.First.{First}
 use Rattle.tdf_flat.specs.Flat.{IsFlatOf}
 use Rattle.tdf_flat.specs.declared.model.Flat.{Flat}
-use Rattle.tdf_graph.specs.Clusters.{greatest}
-use Rattle.tdf_roles.specs.Roles.{roles_of}
+use Rattle.tdf_flat.specs.low.graph.Clusters.{greatest}
+use Rattle.tdf_flat.specs.low.roles.Roles.{roles_of}
 use Rattle.tdf_schedule.specs.declared.entry.Plan.{Plan}
-use Rattle.tdf_tree.specs.Kept.{IsKept}
-use Rattle.tdf_tree.specs.Pure.{PureTree}
+use Rattle.tdf_flat.specs.low.tree.Kept.{IsKept}
+use Rattle.tdf_flat.specs.low.tree.Pure.{PureTree}
 
 -- two plans are the same
 pub record AreSamePlans (one other : Plan) : Type 0 where

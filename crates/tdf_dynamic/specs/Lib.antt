@@ -5,4 +5,5 @@ pub mod First
 pub mod Laws
 pub mod Rates
 pub mod Text
+pub mod low
 pub mod machine

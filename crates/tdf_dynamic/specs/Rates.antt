@@ -2,21 +2,21 @@
 -- Source: own.
 use Rattle.std.specs.Prelude.{◌≤◌, ◌*◌, ℕ, List, map, Option, Some, None, slice_get, slice_index}
 use Rattle.std.specs.Prelude.{All, length}
-use Rattle.tdf_base.specs.Limits.{greatest_delay}
-use Rattle.tdf_bind.specs.Actors.{AreActors}
-use Rattle.tdf_bind.specs.Flat.{FlatOf}
-use Rattle.tdf_bind.specs.Ranges.{AreInRange}
+use Rattle.tdf_flat.specs.low.base.Limits.{greatest_delay}
+use Rattle.tdf_flat.specs.low.bind.Actors.{AreActors}
+use Rattle.tdf_flat.specs.low.bind.Flat.{FlatOf}
+use Rattle.tdf_flat.specs.low.bind.Ranges.{AreInRange}
 use Rattle.tdf_dynamic.specs.Attributes.{AttrsOf, attrs_at}
-use Rattle.tdf_graph.specs.Ranges.{IsRate}
-use Rattle.tdf_graph.specs.declared.actors.Actor.{Actor}
-use Rattle.tdf_graph.specs.declared.actors.Edge.{Edge}
-use Rattle.tdf_graph.specs.declared.actors.Port.{Port}
-use Rattle.tdf_graph.specs.declared.net.Net.{Net}
-use Rattle.tdf_timestep.specs.Period.{rate_of}
-use Rattle.tdf_tree.specs.declared.blocks.PortKind.{PortKind}
-use Rattle.tdf_tree.specs.declared.blocks.PortKind.TheVariants.{In, Out, DeIn, DeOut}
-use Rattle.tdf_wiring.specs.declared.edges.EdgeRow.{EdgeRow}
-use Rattle.tdf_wiring.specs.declared.modules.PortRow.{PortRow}
+use Rattle.tdf_flat.specs.low.graph.Ranges.{IsRate}
+use Rattle.tdf_flat.specs.low.graph.declared.actors.Actor.{Actor}
+use Rattle.tdf_flat.specs.low.graph.declared.actors.Edge.{Edge}
+use Rattle.tdf_flat.specs.low.graph.declared.actors.Port.{Port}
+use Rattle.tdf_flat.specs.low.graph.declared.net.Net.{Net}
+use Rattle.tdf_schedule.specs.low.timestep.Period.{rate_of}
+use Rattle.tdf_flat.specs.low.tree.declared.blocks.PortKind.{PortKind}
+use Rattle.tdf_flat.specs.low.tree.declared.blocks.PortKind.TheVariants.{In, Out, DeIn, DeOut}
+use Rattle.tdf_flat.specs.low.wiring.declared.edges.EdgeRow.{EdgeRow}
+use Rattle.tdf_flat.specs.low.wiring.declared.modules.PortRow.{PortRow}
 
 -- a number, or a number times the value of a rate variable
 abbrev pub times_value : ℕ → List ℕ → Option ℕ → ℕ

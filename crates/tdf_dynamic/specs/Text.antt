@@ -4,10 +4,10 @@ use Rattle.std.specs.List.{enumerate_from}
 use Rattle.std.specs.Prelude.{ℕ, List, ◌∷◌, map, Option, Some, None, nat_eq, if◌then◌else◌}
 use Rattle.std.specs.Prelude.{filter_map, slice_get, slice_index}
 use Rattle.tdf_dynamic.specs.Attributes.{AttrsOf, clusters_of, ports_of}
-use Rattle.tdf_expr.specs.Made.{start_rates}
+use Rattle.tdf_flat.specs.low.expr.Made.{start_rates}
 use Rattle.tdf_flat.specs.declared.model.Flat.{Flat}
-use Rattle.tdf_wiring.specs.declared.modules.ModuleRow.{ModuleRow}
-use Rattle.tdf_wiring.specs.declared.modules.PortRow.{PortRow}
+use Rattle.tdf_flat.specs.low.wiring.declared.modules.ModuleRow.{ModuleRow}
+use Rattle.tdf_flat.specs.low.wiring.declared.modules.PortRow.{PortRow}
 
 abbrev pub step_or_none : Option PortRow → ℕ
 step_or_none None = 0

@@ -6,8 +6,8 @@ ghost use Rattle.tdf_dynamic.specs.Assignments.{port_at, assign_at, assigned_by,
 
 use crate::attrs::ModuleAttrs;
 use std::alloc::Global;
-use tdf_base::Memory;
-use tdf_timestep::Assign;
+use tdf_flat::low::base::Memory;
+use tdf_schedule::low::timestep::Assign;
 
 /// The number of the port at a place among the timesteps of a module, none for the module's own.
 fn port_at(ports: &[u32], place: usize) -> Option<u32>

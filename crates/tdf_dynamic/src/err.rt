@@ -1,6 +1,6 @@
 //! Why a cluster has no plan.
 
-use tdf_base::{Fault, Memory};
+use tdf_flat::low::base::{Fault, Memory};
 
 /// Why a cluster has no plan.
 #[derive(Drop)]

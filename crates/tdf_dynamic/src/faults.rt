@@ -1,10 +1,10 @@
 //! How the faults of a cluster are told.
 
 ghost use Rattle.std.specs.Prelude.{◌≡◌, IfOk, Option, Some, slice_get};
-ghost use Rattle.tdf_base.specs.declared.codes.Code.TheVariants as code;
-ghost use Rattle.tdf_base.specs.declared.faults.Fault.{Fault};
-ghost use Rattle.tdf_base.specs.declared.faults.Place.TheVariants as place;
-ghost use Rattle.tdf_bind.specs.Ranges.{AreInRange, module_path, port_path, actor_path, edge_path};
+ghost use Rattle.tdf_flat.specs.low.base.declared.codes.Code.TheVariants as code;
+ghost use Rattle.tdf_flat.specs.low.base.declared.faults.Fault.{Fault};
+ghost use Rattle.tdf_flat.specs.low.base.declared.faults.Place.TheVariants as place;
+ghost use Rattle.tdf_flat.specs.low.bind.Ranges.{AreInRange, module_path, port_path, actor_path, edge_path};
 ghost use Rattle.tdf_dynamic.specs.Assignments.{assignments};
 ghost use Rattle.tdf_dynamic.specs.Faults.{spot_path, assign_path, first_path, both_paths, fault_at};
 ghost use Rattle.tdf_dynamic.specs.Faults.{balance_fault, step_fault, plan_fault};
@@ -14,10 +14,10 @@ use crate::attrs::ModuleAttrs;
 use crate::err::ChangeErr;
 use std::alloc::Global;
 use tdf_balance::BalanceErr;
-use tdf_base::{Code, Fault, Memory, Path, Place};
-use tdf_bind::Flat as FlatTables;
+use tdf_flat::low::base::{Code, Fault, Memory, Path, Place};
+use tdf_flat::low::bind::Flat as FlatTables;
 use tdf_schedule::PlanErr;
-use tdf_timestep::{Assign, StepErr};
+use tdf_schedule::low::timestep::{Assign, StepErr};
 
 /// The path of a module.
 ///

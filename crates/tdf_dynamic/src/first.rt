@@ -1,7 +1,7 @@
 //! The plan of a cluster as the text says it, or its first fault.
 
 ghost use Rattle.std.specs.Prelude.{◌≡◌, ◌⊎◌, Contains, Err, IfOk, IfErr, IsOk};
-ghost use Rattle.tdf_base.specs.declared.faults.Fault.{Fault};
+ghost use Rattle.tdf_flat.specs.low.base.declared.faults.Fault.{Fault};
 ghost use Rattle.tdf_dynamic.specs.Attributes.{clusters_of};
 ghost use Rattle.tdf_dynamic.specs.Faults.{IsRefusal};
 ghost use Rattle.tdf_dynamic.specs.First.{IsFirstPlan, IsClusterFault, IsPlannable};

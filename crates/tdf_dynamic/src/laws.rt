@@ -3,7 +3,7 @@
 ghost use Rattle.tdf_dynamic.specs.Laws.{ClustersAreWhole, ClustersHaveOne, FlatIsPlannable};
 
 use tdf_balance::law_counts;
-use tdf_bind::law_ranges;
+use tdf_flat::low::bind::law_ranges;
 use tdf_schedule::law_plans;
 
 /// Of the faults and plans of a cluster there is at most one.

@@ -12,6 +12,7 @@
 //! - `plans`: the plan under a table, or the first fault.
 //! - `first`: the plan as the text says it, or the first fault.
 //! - `laws`: what holds of faults and plans.
+//! - `low`: what the crates above use of the crates further below.
 #![tactic(auto)]
 
 mod assignments;
@@ -20,6 +21,7 @@ mod err;
 mod faults;
 mod first;
 mod laws;
+pub mod low;
 mod places;
 mod planning;
 mod plans;

@@ -2,7 +2,7 @@
 
 ghost use Rattle.std.specs.Prelude.{◌≡◌, IfOk};
 
-use tdf_base::Memory;
+use tdf_flat::low::base::Memory;
 
 /// A place in a table, whose rows are so few that it has 32 bits; more do not fit in memory.
 pub(crate) fn short(place: usize) -> Result<u32, Memory>

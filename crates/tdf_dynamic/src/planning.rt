@@ -1,7 +1,7 @@
 //! The second phase of a cluster: its plan.
 
 ghost use Rattle.std.specs.Prelude.{◌≡◌, All, Contains, IfOk, IfErr, length, vec_len};
-ghost use Rattle.tdf_bind.specs.Ranges.{AreInRange};
+ghost use Rattle.tdf_flat.specs.low.bind.Ranges.{AreInRange};
 ghost use Rattle.tdf_dynamic.specs.Faults.{HasTiming, IsPlanFault, IsPlanOf, IsRefusal};
 ghost use Rattle.tdf_dynamic.specs.Rates.{seen};
 ghost use Rattle.tdf_schedule.specs.Plan.{IsPaced};
@@ -11,8 +11,8 @@ use crate::err::ChangeErr;
 use crate::faults::plan_error;
 use crate::timing::Timing;
 use std::alloc::Global;
-use tdf_bind::Flat as FlatTables;
-use tdf_graph::Net;
+use tdf_flat::low::bind::Flat as FlatTables;
+use tdf_flat::low::graph::Net;
 use tdf_schedule::{Plan, plan};
 
 /// The plan of a cluster under a table, whose net, counts and steps are given.

@@ -4,7 +4,7 @@ ghost use Rattle.std.specs.Prelude.{◌≡◌, All, Contains, IfOk, IfErr, vec_l
 ghost use Rattle.tdf_dynamic.specs.Attributes.{clusters_of, IsOfCluster};
 ghost use Rattle.tdf_dynamic.specs.Faults.{IsNetFault, IsNetPlan, IsTableFault, IsTablePlan, IsRefusal};
 ghost use Rattle.tdf_dynamic.specs.Rates.{seen, net_ports, AreRates, IsWired};
-ghost use Rattle.tdf_graph.specs.Clusters.{AreClusters};
+ghost use Rattle.tdf_flat.specs.low.graph.Clusters.{AreClusters};
 
 use crate::attrs::ModuleAttrs;
 use crate::err::ChangeErr;
@@ -12,9 +12,9 @@ use crate::planning::plan_of;
 use crate::rates::net_of;
 use crate::timing::steps_of;
 use std::alloc::Global;
-use tdf_base::Memory;
-use tdf_bind::Flat as FlatTables;
-use tdf_graph::Net;
+use tdf_flat::low::base::Memory;
+use tdf_flat::low::bind::Flat as FlatTables;
+use tdf_flat::low::graph::Net;
 use tdf_schedule::Plan;
 
 /// The numbers of the clusters of the actors.

@@ -1,23 +1,23 @@
 //! The net with the rates that a table of attributes gives.
 
 ghost use Rattle.std.specs.Prelude.{◌≡◌, ◌<◌, ◌≤◌, ◌*◌, All, IfOk, Some, length, map, slice_get, slice_index};
-ghost use Rattle.tdf_base.specs.Limits.{greatest_delay};
-ghost use Rattle.tdf_bind.specs.Ranges.{AreInRange};
+ghost use Rattle.tdf_flat.specs.low.base.Limits.{greatest_delay};
+ghost use Rattle.tdf_flat.specs.low.bind.Ranges.{AreInRange};
 ghost use Rattle.tdf_dynamic.specs.Rates.{times_value, port_rate, edge_kind};
 ghost use Rattle.tdf_dynamic.specs.Rates.{write_rate_by, read_rate_by, rated_edge, rated_port, net_ports, net_of, seen, AreRates};
-ghost use Rattle.tdf_graph.specs.Ranges.{IsRate};
-ghost use Rattle.tdf_timestep.specs.Period.{rate_of};
-ghost use Rattle.tdf_wiring.specs.declared.modules.PortRow.{PortRow as PortRowOf};
+ghost use Rattle.tdf_flat.specs.low.graph.Ranges.{IsRate};
+ghost use Rattle.tdf_schedule.specs.low.timestep.Period.{rate_of};
+ghost use Rattle.tdf_flat.specs.low.wiring.declared.modules.PortRow.{PortRow as PortRowOf};
 
 use crate::attrs::{Attrs, ModuleAttrs};
 use crate::places::short;
 use std::alloc::Global;
-use tdf_base::Memory;
-use tdf_bind::Flat as FlatTables;
 use tdf_flat::Flat;
-use tdf_graph::{Actor, Edge, Net, Port};
-use tdf_tree::PortKind;
-use tdf_wiring::{EdgeRow, PortRow, Rate};
+use tdf_flat::low::base::Memory;
+use tdf_flat::low::bind::Flat as FlatTables;
+use tdf_flat::low::graph::{Actor, Edge, Net, Port};
+use tdf_flat::low::tree::PortKind;
+use tdf_flat::low::wiring::{EdgeRow, PortRow, Rate};
 
 /// The value of a rate variable, 0 for one that isn't there.
 fn value_at(values: &[u32], var: u32) -> u32

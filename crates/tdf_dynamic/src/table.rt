@@ -4,16 +4,16 @@ ghost use Rattle.std.specs.List.{cons_option};
 ghost use Rattle.std.specs.Prelude.{◌≡◌, ◌<◌, ◌≤◌, ◌++◌, ◌∷◌, [], All, IfOk, OnOk, length, map};
 ghost use Rattle.tdf_dynamic.specs.Attributes.{number_if, ports_of};
 ghost use Rattle.tdf_dynamic.specs.Text.{port_step, first_attrs, attrs_if, attrs_in, first_table};
-ghost use Rattle.tdf_expr.specs.Checked.{IsChecked};
-ghost use Rattle.tdf_expr.specs.Made.{block_count, start_rates};
+ghost use Rattle.tdf_flat.specs.low.expr.Checked.{IsChecked};
+ghost use Rattle.tdf_flat.specs.low.expr.Made.{block_count, start_rates};
 
 use crate::attrs::{Attrs, ModuleAttrs};
 use crate::places::short;
 use std::alloc::Global;
-use tdf_base::Memory;
-use tdf_expr::{Checked, Frame};
 use tdf_flat::Flat;
-use tdf_wiring::{ModuleRow, PortRow};
+use tdf_flat::low::base::Memory;
+use tdf_flat::low::expr::{Checked, Frame};
+use tdf_flat::low::wiring::{ModuleRow, PortRow};
 
 /// The values of the rate variables of a frame.
 fn rates_of(alloc: Global, frame: &Frame, count: u32) -> Result<Vec<u32>, Memory>

@@ -1,14 +1,14 @@
 //! The first phase of a cluster: its counts, then its period and the steps of its actors.
 
 ghost use Rattle.std.specs.Prelude.{◌≡◌, ◌≤◌, All, Contains, IfOk, IfErr, length, vec_len};
-ghost use Rattle.tdf_base.specs.Limits.{most_firings};
+ghost use Rattle.tdf_flat.specs.low.base.Limits.{most_firings};
 ghost use Rattle.tdf_dynamic.specs.Assignments.{assignments};
 ghost use Rattle.tdf_dynamic.specs.Attributes.{clusters_of, IsOfCluster};
 ghost use Rattle.tdf_dynamic.specs.Faults.{HasCountsOf, IsCountsFault, HasStepsOf, IsPeriodFault, HasTiming, IsStepsFault, IsRefusal};
 ghost use Rattle.tdf_dynamic.specs.Rates.{seen, net_ports};
-ghost use Rattle.tdf_bind.specs.Ranges.{AreInRange};
-ghost use Rattle.tdf_graph.specs.Clusters.{AreClusters};
-ghost use Rattle.tdf_timestep.specs.Period.{IsAssigned};
+ghost use Rattle.tdf_flat.specs.low.bind.Ranges.{AreInRange};
+ghost use Rattle.tdf_flat.specs.low.graph.Clusters.{AreClusters};
+ghost use Rattle.tdf_schedule.specs.low.timestep.Period.{IsAssigned};
 
 use crate::assignments::assignments;
 use crate::attrs::ModuleAttrs;
@@ -17,9 +17,9 @@ use crate::faults::{balance_error, step_error};
 use crate::places::short;
 use std::alloc::Global;
 use tdf_balance::counts;
-use tdf_bind::Flat as FlatTables;
-use tdf_graph::Net;
-use tdf_timestep::{Assign, Steps, steps};
+use tdf_flat::low::bind::Flat as FlatTables;
+use tdf_flat::low::graph::Net;
+use tdf_schedule::low::timestep::{Assign, Steps, steps};
 
 /// The counts, the period and the steps of a cluster.
 #[derive(Drop)]

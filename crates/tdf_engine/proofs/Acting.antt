@@ -3,11 +3,11 @@ use Rattle.std.proofs.Common.{◌≡◌, ◌∙◌, ℕ, ◌+◌, ◌-◌, ◌�
 use Rattle.std.proofs.lemmas.List.{length-map}
 use Rattle.std.proofs.lemmas.Option.{slice_get_within}
 use Rattle.std.specs.List.{All}
-use Rattle.tdf_convert.specs.Emitted.{write_of as write_to}
-use Rattle.tdf_convert.specs.Links.{AreLinks, AreRising, HaveSignals}
-use Rattle.tdf_convert.specs.Outputs.{OutputsOf}
-use Rattle.tdf_convert.specs.Sampled.{PlansGoByOffset}
-use Rattle.tdf_convert.specs.declared.links.Links.{Links}
+use Rattle.tdf_linked.specs.low.convert.Emitted.{write_of as write_to}
+use Rattle.tdf_linked.specs.low.convert.Links.{AreLinks, AreRising, HaveSignals}
+use Rattle.tdf_linked.specs.low.convert.Outputs.{OutputsOf}
+use Rattle.tdf_linked.specs.low.convert.Sampled.{PlansGoByOffset}
+use Rattle.tdf_linked.specs.low.convert.declared.links.Links.{Links}
 use Rattle.tdf_engine.proofs.Crossed.{Crosses, all_crosses, crossed_long}
 use Rattle.tdf_engine.proofs.Onward.{IsDueFrom, crossed_due, crossed_on, fired_on, turned_later}
 use Rattle.tdf_engine.proofs.Parts.{pass_sends, sorted_of}
@@ -20,21 +20,21 @@ use Rattle.tdf_engine.specs.Sampling.{HaveSampled, sampling_at}
 use Rattle.tdf_engine.specs.Settling.{CanSettle, IsBefore}
 use Rattle.tdf_engine.specs.Times.{due_time}
 use Rattle.tdf_engine.specs.declared.engine.Engine.{Engine}
-use Rattle.tdf_events.specs.Delta.{AreWritesOf}
-use Rattle.tdf_events.specs.Kernel.{IsKernelOf, side_of}
-use Rattle.tdf_events.specs.Runnable.{IsRunnable, signal_formats}
-use Rattle.tdf_exec.proofs.Api.{moved_sent, moved_traced}
-use Rattle.tdf_exec.specs.Cluster.{ClusterOf}
-use Rattle.tdf_exec.specs.Gained.{IsSentOf, sent_size, size_due, traced_size}
-use Rattle.tdf_exec.specs.Played.{IsMoved}
-use Rattle.tdf_exec.specs.Starts.{IsSoundFlat}
-use Rattle.tdf_exec.specs.declared.runners.Runner.{Runner}
-use Rattle.tdf_fixed.specs.declared.raw.Raw.{Raw}
-use Rattle.tdf_flat.specs.declared.model.Flat.{Flat}
-use Rattle.tdf_flow.proofs.Api.{get_inside}
+use Rattle.tdf_linked.specs.low.events.Delta.{AreWritesOf}
+use Rattle.tdf_linked.specs.low.events.Kernel.{IsKernelOf, side_of}
+use Rattle.tdf_linked.specs.low.events.Runnable.{IsRunnable, signal_formats}
+use Rattle.tdf_linked.proofs.Api.{moved_sent, moved_traced}
+use Rattle.tdf_linked.specs.low.exec.Cluster.{ClusterOf}
+use Rattle.tdf_linked.specs.low.exec.Gained.{IsSentOf, sent_size, size_due, traced_size}
+use Rattle.tdf_linked.specs.low.exec.Played.{IsMoved}
+use Rattle.tdf_linked.specs.low.exec.Starts.{IsSoundFlat}
+use Rattle.tdf_linked.specs.low.exec.declared.runners.Runner.{Runner}
+use Rattle.tdf_linked.specs.low.fixed.declared.raw.Raw.{Raw}
+use Rattle.tdf_linked.specs.low.flat.declared.model.Flat.{Flat}
+use Rattle.tdf_linked.proofs.Api.{get_inside}
 use Rattle.tdf_linked.proofs.Api.{emitted_to}
-use Rattle.tdf_run.proofs.Api.{pass_rooms, pass_sent}
-use Rattle.tdf_run.specs.Pass.{CanPass, HasPassedAll, PassAt, RunOf, pass_at, run_of}
+use Rattle.tdf_linked.proofs.Api.{pass_rooms, pass_sent}
+use Rattle.tdf_linked.specs.low.run.Pass.{CanPass, HasPassedAll, PassAt, RunOf, pass_at, run_of}
 
 -- a cluster that has done entries gives as much by its plan
 due_moved_sent : (offset : ℕ) (c b : ClusterOf) → IsMoved c b → size_due sent_size b.runners offset b.entries ≡ size_due sent_size c.runners offset c.entries

@@ -3,30 +3,30 @@ use Rattle.std.proofs.Common.{◌≡◌, ◌∙◌, ◌⊎◌, ℕ, zero, suc, �
 use Rattle.std.proofs.lemmas.List.{length_push}
 use Rattle.std.proofs.lemmas.List.Sums.{sum_by_push}
 use Rattle.std.proofs.lemmas.Option.{slice_get_within}
-use Rattle.tdf_bind.specs.Flat.{FlatOf}
-use Rattle.tdf_convert.specs.Outputs.{OutputsOf, WritesOf}
-use Rattle.tdf_convert.specs.declared.links.Links.{Links}
-use Rattle.tdf_dynamic.specs.First.{IsFirstPlan}
-use Rattle.tdf_dynamic.specs.declared.first.First.{First}
+use Rattle.tdf_linked.specs.low.bind.Flat.{FlatOf}
+use Rattle.tdf_linked.specs.low.convert.Outputs.{OutputsOf, WritesOf}
+use Rattle.tdf_linked.specs.low.convert.declared.links.Links.{Links}
+use Rattle.tdf_linked.specs.low.dynamic.First.{IsFirstPlan}
+use Rattle.tdf_linked.specs.low.dynamic.declared.first.First.{First}
 use Rattle.tdf_engine.specs.Engine.{HaveRooms, IsEngineOf, IsInProgress, IsReadyAt}
 use Rattle.tdf_engine.specs.Making.{HaveNoChanges, HavePlans}
 use Rattle.tdf_engine.specs.Settling.{IsBefore}
 use Rattle.tdf_engine.specs.declared.engine.Engine.{Engine}
 use Rattle.tdf_engine.specs.machine.Making.{AreGivenUpTo, AreLinkedUpTo}
-use Rattle.tdf_events.proofs.Api.{none_at_start, none_pending_before}
-use Rattle.tdf_events.specs.Kernel.{IsKernelOf, side_of}
-use Rattle.tdf_events.specs.Side.{start_side}
-use Rattle.tdf_exec.specs.Cluster.{ClusterOf}
-use Rattle.tdf_exec.specs.Crossing.{HasNoChanges}
-use Rattle.tdf_exec.specs.Gained.{sent_size, size_due, traced_size}
-use Rattle.tdf_exec.specs.Telling.{IsMostOf}
-use Rattle.tdf_exec.specs.declared.runners.Runner.{Runner}
-use Rattle.tdf_flat.specs.declared.model.Flat.{Flat}
-use Rattle.tdf_flow.proofs.Api.{none_some, some_same}
-use Rattle.tdf_limits.specs.Limits.{AreWithinLimits}
+use Rattle.tdf_linked.proofs.Api.{none_at_start, none_pending_before}
+use Rattle.tdf_linked.specs.low.events.Kernel.{IsKernelOf, side_of}
+use Rattle.tdf_linked.specs.low.events.Side.{start_side}
+use Rattle.tdf_linked.specs.low.exec.Cluster.{ClusterOf}
+use Rattle.tdf_linked.specs.low.exec.Crossing.{HasNoChanges}
+use Rattle.tdf_linked.specs.low.exec.Gained.{sent_size, size_due, traced_size}
+use Rattle.tdf_linked.specs.low.exec.Telling.{IsMostOf}
+use Rattle.tdf_linked.specs.low.exec.declared.runners.Runner.{Runner}
+use Rattle.tdf_linked.specs.low.flat.declared.model.Flat.{Flat}
+use Rattle.tdf_linked.proofs.Api.{none_some, some_same}
+use Rattle.tdf_linked.specs.low.limits.Limits.{AreWithinLimits}
 use Rattle.tdf_linked.specs.Linked.{AreSamplerLinks, AreSinkLinks}
 use Rattle.tdf_offsets.proofs.Api.{entries_inside, takes_time}
-use Rattle.tdf_run.specs.Begun.{HasBegun, HaveBegun}
+use Rattle.tdf_linked.specs.low.run.Begun.{HasBegun, HaveBegun}
 
 -- lists
 pushed : {A : Type 0} (xs : List A) (y : A) (n : ℕ) (x : A) → slice_get (xs ++ y ∷ []) n ≡ Some x → (slice_get xs n ≡ Some x) ⊎ ((n ≡ length xs) × (y ≡ x))

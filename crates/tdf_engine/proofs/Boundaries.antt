@@ -5,19 +5,19 @@ use Rattle.std.proofs.lemmas.Bool.{cases_lt, eq-eqb, ne_eqb}
 use Rattle.std.proofs.lemmas.Option.{slice_get_past, slice_get_within}
 use Rattle.tdf_engine.specs.Crossing.{CrossingOf, EndingAt, HasCrossed, HasEnding, HasGoneOn, HasNoTurn, HaveCrossed, IsEndingOf, is_ending}
 use Rattle.tdf_engine.specs.CrossingLaws.{Becomes, CrossesAlong, CrossingEndsSpent, CrossingGoesAlong, world_crossed}
-use Rattle.tdf_exec.specs.Cluster.{ClusterOf, next_offset, offset_in}
-use Rattle.tdf_expr.specs.Checked.{IsCheckedOf}
-use Rattle.tdf_flat.specs.declared.model.Flat.{Flat}
-use Rattle.tdf_flow.proofs.Api.{get_inside, some_same}
-use Rattle.tdf_history.specs.Instant.{RunFault, boundary, boundary_of, changed_by, is_over, with_cluster}
-use Rattle.tdf_history.specs.World.{Change, ClusterAt, Same, World, next_change}
-use Rattle.tdf_instants.proofs.Api.{turns_more, turns_none, turns_past}
-use Rattle.tdf_instants.specs.History.{Step, Going, Past, turns_to}
-use Rattle.tdf_run.proofs.Api.{boundary_at, get_set_other, same_or_not, set_is, set_own}
-use Rattle.tdf_run.specs.At.{IsAt}
-use Rattle.tdf_run.specs.Boundary.{after_boundary}
-use Rattle.tdf_run.specs.Pass.{AreAt}
-use Rattle.tdf_tree.specs.Pure.{PureTree}
+use Rattle.tdf_linked.specs.low.exec.Cluster.{ClusterOf, next_offset, offset_in}
+use Rattle.tdf_linked.specs.low.expr.Checked.{IsCheckedOf}
+use Rattle.tdf_linked.specs.low.flat.declared.model.Flat.{Flat}
+use Rattle.tdf_linked.proofs.Api.{get_inside, some_same}
+use Rattle.tdf_linked.specs.low.history.Instant.{RunFault, boundary, boundary_of, changed_by, is_over, with_cluster}
+use Rattle.tdf_linked.specs.low.history.World.{Change, ClusterAt, Same, World, next_change}
+use Rattle.tdf_linked.proofs.Api.{turns_more, turns_none, turns_past}
+use Rattle.tdf_linked.specs.low.instants.History.{Step, Going, Past, turns_to}
+use Rattle.tdf_linked.proofs.Api.{boundary_at, get_set_other, same_or_not, set_is, set_own}
+use Rattle.tdf_linked.specs.low.run.At.{IsAt}
+use Rattle.tdf_linked.specs.low.run.Boundary.{after_boundary}
+use Rattle.tdf_linked.specs.low.run.Pass.{AreAt}
+use Rattle.tdf_linked.specs.low.tree.Pure.{PureTree}
 
 -- a cluster has no next entry where its place is the end of its plan
 none_at_end : (c : ClusterOf) → c.place ≤ length c.entries → is_none (next_offset c) ≡ nat_eq c.place (length c.entries)

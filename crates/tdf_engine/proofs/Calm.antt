@@ -2,20 +2,20 @@
 use Rattle.std.proofs.Common.{◌≡◌, ◌∙◌, ◌||◌, ℕ, zero, suc, ◌+◌, ◌<◌, Bool, true, false, not, List, [], ◌∷◌, Option, Some, None, length, nat_eq, if◌then◌else◌, inl, inr, refl, sym, ap, subst, arith}
 use Rattle.std.proofs.lemmas.Bool.{cases_lt, eq-eqb, ne_eqb}
 use Rattle.std.specs.List.{list_any}
-use Rattle.tdf_base.specs.Limits.{time_end}
-use Rattle.tdf_calendar.specs.Sets.{count_on}
-use Rattle.tdf_calendar.specs.Times.{time_of}
-use Rattle.tdf_convert.specs.declared.writes.SignalWrite.{SignalWrite}
+use Rattle.tdf_linked.specs.low.base.Limits.{time_end}
+use Rattle.tdf_linked.specs.low.calendar.Sets.{count_on}
+use Rattle.tdf_linked.specs.low.calendar.Times.{time_of}
+use Rattle.tdf_linked.specs.low.convert.declared.writes.SignalWrite.{SignalWrite}
 use Rattle.tdf_engine.specs.Settling.{IsBefore, event_turn}
-use Rattle.tdf_events.proofs.Api.{ends_idle, only_later_stay}
-use Rattle.tdf_events.specs.Delta.{event_part, is_due, is_idle}
-use Rattle.tdf_events.specs.Kernel.{IsNextOf}
-use Rattle.tdf_events.specs.Side.{SideOf}
-use Rattle.tdf_flat.specs.declared.model.Flat.{Flat}
-use Rattle.tdf_flow.proofs.Api.{none_some, some_same}
-use Rattle.tdf_run.proofs.Api.{true_false}
-use Rattle.tdf_tree.specs.Pure.{PureTree}
-use Rattle.tdf_world.specs.Rules.{is_side_due}
+use Rattle.tdf_linked.proofs.Api.{ends_idle, only_later_stay}
+use Rattle.tdf_linked.specs.low.events.Delta.{event_part, is_due, is_idle}
+use Rattle.tdf_linked.specs.low.events.Kernel.{IsNextOf}
+use Rattle.tdf_linked.specs.low.events.Side.{SideOf}
+use Rattle.tdf_linked.specs.low.flat.declared.model.Flat.{Flat}
+use Rattle.tdf_linked.proofs.Api.{none_some, some_same}
+use Rattle.tdf_linked.proofs.Api.{true_false}
+use Rattle.tdf_linked.specs.low.tree.Pure.{PureTree}
+use Rattle.tdf_linked.specs.low.world.Rules.{is_side_due}
 
 -- where none of these times is due, none of them is this time
 none_due : (time : ℕ) (times : List (Option ℕ)) → list_any (is_due time) times ≡ false → (event pending : ℕ) → time_of times event ≡ Some pending → pending ≡ time → ⊥

@@ -3,11 +3,11 @@ use Rattle.std.proofs.Common.{◌≡◌, ◌≢◌, ◌⊎◌, ◌∙◌, ℕ, z
 use Rattle.std.proofs.lemmas.Option.{slice_get_within}
 use Rattle.tdf_engine.proofs.Boundaries.{still_to_come, turn_in}
 use Rattle.tdf_engine.specs.Crossing.{CrossingOf, EndingAt, HasEnding, HaveCrossed, IsEndingOf, is_ending}
-use Rattle.tdf_exec.specs.Cluster.{ClusterOf}
-use Rattle.tdf_exec.specs.Crossing.{at_place}
-use Rattle.tdf_exec.specs.Made.{IsClusterOf}
-use Rattle.tdf_flat.specs.declared.model.Flat.{Flat}
-use Rattle.tdf_run.proofs.Api.{get_set_other, same_or_not, set_is}
+use Rattle.tdf_linked.specs.low.exec.Cluster.{ClusterOf}
+use Rattle.tdf_linked.specs.low.exec.Crossing.{at_place}
+use Rattle.tdf_linked.specs.low.exec.Made.{IsClusterOf}
+use Rattle.tdf_linked.specs.low.flat.declared.model.Flat.{Flat}
+use Rattle.tdf_linked.proofs.Api.{get_set_other, same_or_not, set_is}
 
 -- a cluster after its boundary: it is as it was, or at the head of its next period, which begins now
 pub data Crosses (flat : Flat) (time : ℕ) (c d : ClusterOf) (s t : ℕ) : Type 0 where

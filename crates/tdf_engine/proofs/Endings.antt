@@ -3,12 +3,12 @@ use Rattle.std.proofs.Common.{◌≡◌, ◌∙◌, ℕ, suc, ◌+◌, ◌<◌, 
 use Rattle.std.proofs.lemmas.Option.{slice_get-get_or, slice_get_within}
 use Rattle.tdf_engine.proofs.Boundaries.{still_to_come}
 use Rattle.tdf_engine.specs.Crossing.{CanCross, CrossingOf, EndingAt, HasCrossed, HasEnding, HasGoneOn, HasNoTurn, HaveCrossed, IsEndingOf, crossing_of, ending_at, is_ending}
-use Rattle.tdf_exec.specs.Cluster.{ClusterOf}
-use Rattle.tdf_exec.specs.Crossing.{HasNoChanges}
-use Rattle.tdf_exec.specs.Made.{IsClusterOf}
-use Rattle.tdf_flat.specs.declared.model.Flat.{Flat}
-use Rattle.tdf_flow.proofs.Api.{get_inside}
-use Rattle.tdf_run.proofs.Api.{set_own}
+use Rattle.tdf_linked.specs.low.exec.Cluster.{ClusterOf}
+use Rattle.tdf_linked.specs.low.exec.Crossing.{HasNoChanges}
+use Rattle.tdf_linked.specs.low.exec.Made.{IsClusterOf}
+use Rattle.tdf_linked.specs.low.flat.declared.model.Flat.{Flat}
+use Rattle.tdf_linked.proofs.Api.{get_inside}
+use Rattle.tdf_linked.proofs.Api.{set_own}
 
 pub nothing_crossed : (flat : Flat) (time : ℕ) (x : CrossingOf) → HaveCrossed flat time 0 x x
 unfolding HaveCrossed

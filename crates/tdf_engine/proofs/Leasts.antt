@@ -1,17 +1,17 @@
 -- The least time at which something is next due.
 use Rattle.std.proofs.Common.{◌≡◌, ◌∙◌, ℕ, ◌+◌, ◌<◌, ◌≤◌, true, List, Some, None, length, slice_get, inl, inr, refl, sym, ap, arith}
-use Rattle.tdf_calendar.specs.Sets.{count_on}
+use Rattle.tdf_linked.specs.low.calendar.Sets.{count_on}
 use Rattle.tdf_engine.proofs.Calm.{due_next}
 use Rattle.tdf_engine.specs.Settling.{IsBefore}
 use Rattle.tdf_engine.specs.Times.{IsLeastDue, IsNextDue, IsRunning, due_time}
-use Rattle.tdf_events.specs.Delta.{is_idle}
-use Rattle.tdf_events.specs.Kernel.{IsNextOf}
-use Rattle.tdf_events.specs.Side.{SideOf}
-use Rattle.tdf_exec.specs.Cluster.{ClusterOf}
+use Rattle.tdf_linked.specs.low.events.Delta.{is_idle}
+use Rattle.tdf_linked.specs.low.events.Kernel.{IsNextOf}
+use Rattle.tdf_linked.specs.low.events.Side.{SideOf}
+use Rattle.tdf_linked.specs.low.exec.Cluster.{ClusterOf}
 use Rattle.std.proofs.lemmas.Bool.{eq-eqb}
 use Rattle.std.proofs.lemmas.Option.{slice_get_within}
-use Rattle.tdf_flow.proofs.Api.{none_some, some_same}
-use Rattle.tdf_run.proofs.Api.{same_or_not}
+use Rattle.tdf_linked.proofs.Api.{none_some, some_same}
+use Rattle.tdf_linked.proofs.Api.{same_or_not}
 
 idle_none : (side : SideOf) → count_on side.triggered ≡ 0 → is_idle side ≡ true
 idle_none side none = eq-eqb (count_on side.triggered) 0 none

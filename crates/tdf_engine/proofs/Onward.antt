@@ -4,19 +4,19 @@ use Rattle.std.specs.Prelude.{is_none}
 use Rattle.std.proofs.lemmas.Bool.{cases_lt, eq-eqb, eqb-true}
 use Rattle.std.proofs.lemmas.Option.{get_or_from_slice_get, slice_get_past, slice_get_within}
 use Rattle.std.specs.List.{All}
-use Rattle.tdf_convert.specs.Sampled.{AreByOffset}
+use Rattle.tdf_linked.specs.low.convert.Sampled.{AreByOffset}
 use Rattle.tdf_engine.proofs.Crossed.{Crosses}
 use Rattle.tdf_engine.proofs.Passed.{Turns}
 use Rattle.tdf_engine.specs.Crossing.{is_ending}
 use Rattle.tdf_engine.specs.Engine.{IsInProgress}
 use Rattle.tdf_engine.specs.Times.{due_offset, due_time}
-use Rattle.tdf_exec.specs.Cluster.{ClusterOf, is_due, is_offset, next_offset, offset_in}
-use Rattle.tdf_exec.specs.Crossing.{HasNoChanges}
-use Rattle.tdf_exec.specs.Played.{AreDone}
-use Rattle.tdf_flat.specs.declared.model.Flat.{Flat}
-use Rattle.tdf_flow.proofs.Api.{get_inside}
-use Rattle.tdf_run.proofs.Api.{by_offset, true_false}
-use Rattle.tdf_schedule.specs.declared.entry.Entry.{Entry}
+use Rattle.tdf_linked.specs.low.exec.Cluster.{ClusterOf, is_due, is_offset, next_offset, offset_in}
+use Rattle.tdf_linked.specs.low.exec.Crossing.{HasNoChanges}
+use Rattle.tdf_linked.specs.low.exec.Played.{AreDone}
+use Rattle.tdf_linked.specs.low.flat.declared.model.Flat.{Flat}
+use Rattle.tdf_linked.proofs.Api.{get_inside}
+use Rattle.tdf_linked.proofs.Api.{by_offset, true_false}
+use Rattle.tdf_linked.specs.low.schedule.declared.entry.Entry.{Entry}
 
 all_at : {X : Type 0} (P : X → Type 0) (xs : List X) (j : ℕ) (x : X) → All P xs → slice_get xs j ≡ Some x → P x
 all_at P xs j x all is = subst P (get_or_from_slice_get xs j x x is) (all j x (slice_get_within xs j x is))

@@ -4,23 +4,23 @@ use Rattle.std.proofs.lemmas.Bool.{ne_eqb}
 use Rattle.std.proofs.lemmas.List.{append_assoc}
 use Rattle.std.proofs.lemmas.List.Elements.{All-append}
 use Rattle.std.specs.List.{All}
-use Rattle.tdf_convert.specs.Outputs.{OutputsOf}
-use Rattle.tdf_convert.specs.Sampled.{AreByOffset, PlansGoByOffset}
-use Rattle.tdf_convert.specs.declared.outputs.Sent.{Sent}
+use Rattle.tdf_linked.specs.low.convert.Outputs.{OutputsOf}
+use Rattle.tdf_linked.specs.low.convert.Sampled.{AreByOffset, PlansGoByOffset}
+use Rattle.tdf_linked.specs.low.convert.declared.outputs.Sent.{Sent}
 use Rattle.tdf_engine.specs.Settling.{event_turn}
-use Rattle.tdf_events.specs.Delta.{event_part}
-use Rattle.tdf_events.specs.Side.{SideOf}
-use Rattle.tdf_exec.specs.Cluster.{ClusterOf}
-use Rattle.tdf_exec.specs.Gained.{IsSentOf}
-use Rattle.tdf_exec.specs.Made.{IsClusterOf}
-use Rattle.tdf_flat.specs.declared.model.Flat.{Flat}
-use Rattle.tdf_flow.proofs.Api.{some_same}
-use Rattle.tdf_history.specs.Instant.{RunFault, events_of, is_written, settled_as}
-use Rattle.tdf_history.specs.World.{SinkWrite, World}
-use Rattle.tdf_instants.specs.History.{Step, Going, Past}
-use Rattle.tdf_run.specs.Pass.{HasTurn, HavePassed, PassAt, RunOf}
-use Rattle.tdf_tree.specs.Pure.{PureTree}
-use Rattle.tdf_world.specs.Rules.{is_side_due, rules_of, settle, signal_write}
+use Rattle.tdf_linked.specs.low.events.Delta.{event_part}
+use Rattle.tdf_linked.specs.low.events.Side.{SideOf}
+use Rattle.tdf_linked.specs.low.exec.Cluster.{ClusterOf}
+use Rattle.tdf_linked.specs.low.exec.Gained.{IsSentOf}
+use Rattle.tdf_linked.specs.low.exec.Made.{IsClusterOf}
+use Rattle.tdf_linked.specs.low.flat.declared.model.Flat.{Flat}
+use Rattle.tdf_linked.proofs.Api.{some_same}
+use Rattle.tdf_linked.specs.low.history.Instant.{RunFault, events_of, is_written, settled_as}
+use Rattle.tdf_linked.specs.low.history.World.{SinkWrite, World}
+use Rattle.tdf_linked.specs.low.instants.History.{Step, Going, Past}
+use Rattle.tdf_linked.specs.low.run.Pass.{HasTurn, HavePassed, PassAt, RunOf}
+use Rattle.tdf_linked.specs.low.tree.Pure.{PureTree}
+use Rattle.tdf_linked.specs.low.world.Rules.{is_side_due, rules_of, settle, signal_write}
 
 -- the plan of a cluster goes by offset
 pub sorted_of : PlansGoByOffset → (flat : Flat) (c : ClusterOf) → IsClusterOf flat c → AreByOffset c.entries

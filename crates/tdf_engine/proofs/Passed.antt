@@ -1,14 +1,14 @@
 -- What a pass over all clusters makes of each.
 use Rattle.std.proofs.Common.{◌≡◌, ◌≢◌, ◌⊎◌, ◌∙◌, ℕ, zero, suc, ◌-◌, ◌<◌, true, false, List, Some, length, length-set, slice_get, inl, inr, sym, ap, subst, arith}
 use Rattle.std.proofs.lemmas.Option.{slice_get_within}
-use Rattle.tdf_convert.specs.declared.outputs.Sent.{Sent}
-use Rattle.tdf_exec.specs.Cluster.{ClusterOf, is_due}
-use Rattle.tdf_exec.specs.Made.{IsClusterOf}
-use Rattle.tdf_exec.specs.Played.{AreDone}
-use Rattle.tdf_flat.specs.declared.model.Flat.{Flat}
-use Rattle.tdf_flow.proofs.Api.{some_same}
-use Rattle.tdf_run.proofs.Api.{get_set_other, later, same_or_not, set_is}
-use Rattle.tdf_run.specs.Pass.{HasTurn, HavePassed, IsTurnOf, PassAt, RunOf, TurnAt}
+use Rattle.tdf_linked.specs.low.convert.declared.outputs.Sent.{Sent}
+use Rattle.tdf_linked.specs.low.exec.Cluster.{ClusterOf, is_due}
+use Rattle.tdf_linked.specs.low.exec.Made.{IsClusterOf}
+use Rattle.tdf_linked.specs.low.exec.Played.{AreDone}
+use Rattle.tdf_linked.specs.low.flat.declared.model.Flat.{Flat}
+use Rattle.tdf_linked.proofs.Api.{some_same}
+use Rattle.tdf_linked.proofs.Api.{get_set_other, later, same_or_not, set_is}
+use Rattle.tdf_linked.specs.low.run.Pass.{HasTurn, HavePassed, IsTurnOf, PassAt, RunOf, TurnAt}
 
 -- a cluster after its turn: nothing was due in it, or it has done its entries of the time
 pub data Turns (flat : Flat) (offset : ℕ) (c d : ClusterOf) : Type 0 where

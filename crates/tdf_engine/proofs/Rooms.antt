@@ -3,11 +3,11 @@ use Rattle.std.proofs.Common.{◌≡◌, ◌∙◌, ℕ, suc, ◌-◌, ◌≤◌
 use Rattle.std.proofs.lemmas.List.Sums.{sum_by-cons}
 use Rattle.std.specs.Prelude.{sum}
 use Rattle.tdf_engine.specs.Engine.{HaveRooms}
-use Rattle.tdf_exec.proofs.Api.{due_left}
-use Rattle.tdf_exec.specs.Cluster.{ClusterOf, is_due}
-use Rattle.tdf_exec.specs.Gained.{size_due}
-use Rattle.tdf_exec.specs.declared.runners.Runner.{Runner}
-use Rattle.tdf_run.specs.Pass.{pass_size}
+use Rattle.tdf_linked.proofs.Api.{due_left}
+use Rattle.tdf_linked.specs.low.exec.Cluster.{ClusterOf, is_due}
+use Rattle.tdf_linked.specs.low.exec.Gained.{size_due}
+use Rattle.tdf_linked.specs.low.exec.declared.runners.Runner.{Runner}
+use Rattle.tdf_linked.specs.low.run.Pass.{pass_size}
 
 turn_few : (size : Option Runner → ℕ) (time s m : ℕ) (c : ClusterOf) (b : Bool) → size_due size c.runners (time - s) c.entries ≤ m
     → (if b then size_due size c.runners (time - s) (drop c.place c.entries) else 0) ≤ m

@@ -1,14 +1,14 @@
 -- The samplers of one cluster more get the values of their signals.
 use Rattle.std.proofs.Common.{◌≡◌, ◌≢◌, ◌⊎◌, ◌∙◌, ℕ, ◌+◌, ◌-◌, ◌<◌, true, List, Some, length, length-set, set, slice_get, slice_index_or, inl, inr, sym, ap, subst, arith}
 use Rattle.std.proofs.lemmas.Option.{get_or_from_slice_get, slice_get-get_or, slice_get_within}
-use Rattle.tdf_convert.specs.Links.{AreLinks, HaveSignals}
-use Rattle.tdf_convert.specs.Sampled.{AreSampled}
-use Rattle.tdf_convert.specs.declared.links.Links.{Links}
+use Rattle.tdf_linked.specs.low.convert.Links.{AreLinks, HaveSignals}
+use Rattle.tdf_linked.specs.low.convert.Sampled.{AreSampled}
+use Rattle.tdf_linked.specs.low.convert.declared.links.Links.{Links}
 use Rattle.tdf_engine.specs.Sampling.{CanSample, HaveSampled, SamplingAt}
-use Rattle.tdf_exec.specs.Cluster.{ClusterOf, is_due}
-use Rattle.tdf_fixed.specs.declared.raw.Raw.{Raw}
-use Rattle.tdf_flow.proofs.Api.{some_same}
-use Rattle.tdf_run.proofs.Api.{get_set_other, same_or_not, set_is}
+use Rattle.tdf_linked.specs.low.exec.Cluster.{ClusterOf, is_due}
+use Rattle.tdf_linked.specs.low.fixed.declared.raw.Raw.{Raw}
+use Rattle.tdf_linked.proofs.Api.{some_same}
+use Rattle.tdf_linked.proofs.Api.{get_set_other, same_or_not, set_is}
 
 read_at : {A : Type 0} (xs : List A) (n : ℕ) (x : A) → n < length xs → x ≡ slice_index_or xs n x → slice_get xs n ≡ Some x
 read_at xs n x inside is = slice_get-get_or xs n x inside ∙ ap Some (sym is)

@@ -1,22 +1,22 @@
 -- What samplers are given is what they read.
 use Rattle.std.proofs.Common.{◌≡◌, ℕ, ◌+◌, ◌-◌, ◌<◌, true, List, Some, length, slice_get, sym, subst, arith}
 use Rattle.std.proofs.lemmas.Option.{slice_get_within}
-use Rattle.tdf_convert.specs.declared.links.Links.{Links}
+use Rattle.tdf_linked.specs.low.convert.declared.links.Links.{Links}
 use Rattle.tdf_engine.specs.Engine.{IsEngineOf}
 use Rattle.tdf_engine.specs.Sampling.{HaveSampled, sampling_at}
 use Rattle.tdf_engine.specs.declared.engine.Engine.{Engine}
-use Rattle.tdf_exec.specs.Cluster.{ClusterOf, is_due}
-use Rattle.tdf_exec.specs.Made.{IsClusterOf}
-use Rattle.tdf_exec.specs.Played.{AreInputsFor}
-use Rattle.tdf_fixed.specs.declared.raw.Raw.{Raw}
-use Rattle.tdf_flat.specs.Flat.{IsFlatOf}
-use Rattle.tdf_flat.specs.declared.model.Flat.{Flat}
-use Rattle.tdf_flow.proofs.Api.{get_inside}
-use Rattle.tdf_formats.specs.Formats.{IsSoundModel}
+use Rattle.tdf_linked.specs.low.exec.Cluster.{ClusterOf, is_due}
+use Rattle.tdf_linked.specs.low.exec.Made.{IsClusterOf}
+use Rattle.tdf_linked.specs.low.exec.Played.{AreInputsFor}
+use Rattle.tdf_linked.specs.low.fixed.declared.raw.Raw.{Raw}
+use Rattle.tdf_linked.specs.low.flat.Flat.{IsFlatOf}
+use Rattle.tdf_linked.specs.low.flat.declared.model.Flat.{Flat}
+use Rattle.tdf_linked.proofs.Api.{get_inside}
+use Rattle.tdf_linked.specs.low.formats.Formats.{IsSoundModel}
 use Rattle.tdf_linked.proofs.Api.{settled_inputs}
 use Rattle.tdf_linked.specs.Linked.{AreSamplerLinks}
-use Rattle.tdf_run.specs.At.{AreSettled}
-use Rattle.tdf_tree.specs.Pure.{PureTree}
+use Rattle.tdf_linked.specs.low.run.At.{AreSettled}
+use Rattle.tdf_linked.specs.low.tree.Pure.{PureTree}
 
 module _ (model : PureTree) (flat : Flat) (sound : IsSoundModel model) (is : IsFlatOf model flat) (e : Engine) (of : IsEngineOf flat e) (time : ℕ) (since : List ℕ) (clusters : List ClusterOf) (inputs : List (List Raw))
     (many : length clusters ≡ length e.clusters.items) (sampled : HaveSampled (sampling_at time since clusters e.links.items e.kernel.values) (length clusters) e.inputs.items inputs)

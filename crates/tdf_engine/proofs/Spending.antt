@@ -1,7 +1,7 @@
 -- How an instant ends where the turns are too few, by what its parts did.
 use Rattle.std.proofs.Common.{◌≡◌, ℕ, None, Ok, Err, Result, length, map, ap, subst}
-use Rattle.tdf_base.specs.declared.memory.Memory.{Memory}
-use Rattle.tdf_convert.specs.Emitted.{write_of as write_to}
+use Rattle.tdf_linked.specs.low.base.declared.memory.Memory.{Memory}
+use Rattle.tdf_linked.specs.low.convert.Emitted.{write_of as write_to}
 use Rattle.tdf_engine.specs.Crossing.{HaveCrossed, crossing_of}
 use Rattle.tdf_engine.specs.Engine.{HasBeenSpent}
 use Rattle.tdf_engine.specs.Sampling.{HaveSampled, sampling_at}
@@ -9,11 +9,11 @@ use Rattle.tdf_engine.specs.Settling.{event_turn}
 use Rattle.tdf_engine.specs.declared.crossing.Pass.{Pass}
 use Rattle.tdf_engine.specs.declared.crossing.Pass.TheVariants.{Done}
 use Rattle.tdf_engine.specs.declared.engine.Engine.{Engine}
-use Rattle.tdf_events.specs.Kernel.{side_of}
-use Rattle.tdf_expr.specs.Checked.{IsCheckedOf}
-use Rattle.tdf_flat.specs.declared.model.Flat.{Flat}
-use Rattle.tdf_run.specs.Pass.{HasPassedAll, HasPassedPart, pass_at, run_of}
-use Rattle.tdf_tree.specs.Pure.{PureTree}
+use Rattle.tdf_linked.specs.low.events.Kernel.{side_of}
+use Rattle.tdf_linked.specs.low.expr.Checked.{IsCheckedOf}
+use Rattle.tdf_linked.specs.low.flat.declared.model.Flat.{Flat}
+use Rattle.tdf_linked.specs.low.run.Pass.{HasPassedAll, HasPassedPart, pass_at, run_of}
+use Rattle.tdf_linked.specs.low.tree.Pure.{PureTree}
 
 -- what a pass answered
 got : Result Pass Memory → Pass

@@ -1,8 +1,8 @@
 -- An instant of all that runs is that of the history.
 use Rattle.std.proofs.Common.{◌≡◌, ◌∙◌, ℕ, ◌+◌, ◌-◌, ◌≤◌, List, ◌++◌, Option, Some, None, length, map, slice_get, refl, sym, ap, subst, arith}
 use Rattle.std.proofs.lemmas.Option.{slice_get_within}
-use Rattle.tdf_convert.specs.Emitted.{write_of as write_to}
-use Rattle.tdf_convert.specs.Sampled.{PlansGoByOffset}
+use Rattle.tdf_linked.specs.low.convert.Emitted.{write_of as write_to}
+use Rattle.tdf_linked.specs.low.convert.Sampled.{PlansGoByOffset}
 use Rattle.tdf_engine.proofs.Boundaries.{all_cross, crossing_is_spent}
 use Rattle.tdf_engine.proofs.Crossed.{Crosses, all_crosses, crossed_long}
 use Rattle.tdf_engine.proofs.Parts.{events_end, events_go, pass_sends, sorted_of}
@@ -14,22 +14,22 @@ use Rattle.tdf_engine.specs.InstantLaws.{InstantEndsSpent, InstantGoes, InstantG
 use Rattle.tdf_engine.specs.Sampling.{HaveSampled, sampling_at}
 use Rattle.tdf_engine.specs.Settling.{event_turn}
 use Rattle.tdf_engine.specs.declared.engine.Engine.{Engine}
-use Rattle.tdf_events.specs.Kernel.{side_of}
-use Rattle.tdf_events.specs.Side.{SideOf}
-use Rattle.tdf_exec.specs.Cluster.{ClusterOf}
-use Rattle.tdf_fixed.specs.declared.raw.Raw.{Raw}
-use Rattle.tdf_flat.specs.declared.model.Flat.{Flat}
-use Rattle.tdf_flow.proofs.Api.{get_inside}
-use Rattle.tdf_history.specs.Instant.{RunFault, all_firings, at_begin, boundary, events_of, instant}
-use Rattle.tdf_history.specs.World.{ClusterAt, Rules, World}
-use Rattle.tdf_instants.specs.History.{Step, Past, and_then, turns_to}
+use Rattle.tdf_linked.specs.low.events.Kernel.{side_of}
+use Rattle.tdf_linked.specs.low.events.Side.{SideOf}
+use Rattle.tdf_linked.specs.low.exec.Cluster.{ClusterOf}
+use Rattle.tdf_linked.specs.low.fixed.declared.raw.Raw.{Raw}
+use Rattle.tdf_linked.specs.low.flat.declared.model.Flat.{Flat}
+use Rattle.tdf_linked.proofs.Api.{get_inside}
+use Rattle.tdf_linked.specs.low.history.Instant.{RunFault, all_firings, at_begin, boundary, events_of, instant}
+use Rattle.tdf_linked.specs.low.history.World.{ClusterAt, Rules, World}
+use Rattle.tdf_linked.specs.low.instants.History.{Step, Past, and_then, turns_to}
 use Rattle.tdf_linked.proofs.Api.{emitted_to}
-use Rattle.tdf_run.proofs.Api.{pass_is_spent, passes_along}
-use Rattle.tdf_run.specs.At.{AreSettled, IsAt}
-use Rattle.tdf_run.specs.Firings.{settled_values, write_of}
-use Rattle.tdf_run.specs.Pass.{AreReady, HasPassedAll, PassAt, PassesAlong, RunOf, AreAt, pass_at, run_of, world_with}
-use Rattle.tdf_tree.specs.Pure.{PureTree}
-use Rattle.tdf_world.specs.Rules.{rules_of, signal_write}
+use Rattle.tdf_linked.proofs.Api.{pass_is_spent, passes_along}
+use Rattle.tdf_linked.specs.low.run.At.{AreSettled, IsAt}
+use Rattle.tdf_linked.specs.low.run.Firings.{settled_values, write_of}
+use Rattle.tdf_linked.specs.low.run.Pass.{AreReady, HasPassedAll, PassAt, PassesAlong, RunOf, AreAt, pass_at, run_of, world_with}
+use Rattle.tdf_linked.specs.low.tree.Pure.{PureTree}
+use Rattle.tdf_linked.specs.low.world.Rules.{rules_of, signal_write}
 
 module _ (by : PlansGoByOffset) (model : PureTree) (flat : Flat) (time : ℕ) (w : World SideOf) (e : Engine) (left : ℕ) (m : IsModelOf model flat) (of : IsEngineOf flat e) (ready_at : IsReadyAt time e) (now : IsNow model flat w e left) where
   abbrev rules : Rules SideOf

@@ -3,11 +3,11 @@
 -- Source: own.
 use Rattle.std.specs.Prelude.{◌≡◌, ◌<◌, ◌≤◌, ◌+◌, ◌-◌, ◌&&◌, ℕ, zero, suc, Bool, true, false, List}
 use Rattle.std.specs.Prelude.{Some, is_none, length, nat_eq, slice_get, slice_set}
-use Rattle.tdf_exec.specs.Cluster.{ClusterOf, next_offset}
-use Rattle.tdf_exec.specs.Crossing.{HasNoChanges}
-use Rattle.tdf_exec.specs.Made.{IsClusterOf}
-use Rattle.tdf_flat.specs.declared.model.Flat.{Flat}
-use Rattle.tdf_run.specs.Boundary.{HasPassedBoundary}
+use Rattle.tdf_linked.specs.low.exec.Cluster.{ClusterOf, next_offset}
+use Rattle.tdf_linked.specs.low.exec.Crossing.{HasNoChanges}
+use Rattle.tdf_linked.specs.low.exec.Made.{IsClusterOf}
+use Rattle.tdf_linked.specs.low.flat.declared.model.Flat.{Flat}
+use Rattle.tdf_linked.specs.low.run.Boundary.{HasPassedBoundary}
 
 -- the clusters, the start of the period of each, and the turns that are left
 pub record CrossingOf : Type 0 where

@@ -2,15 +2,15 @@
 -- Source: own.
 use Rattle.std.specs.Prelude.{◌≡◌, ◌<◌, ◌≤◌, ℕ, true, false, List, Some, length, slice_get}
 use Rattle.tdf_engine.specs.Crossing.{CrossingOf, HasNoTurn, HaveCrossed}
-use Rattle.tdf_events.specs.Side.{SideOf}
-use Rattle.tdf_expr.specs.Checked.{IsCheckedOf}
-use Rattle.tdf_flat.specs.declared.model.Flat.{Flat}
-use Rattle.tdf_history.specs.Instant.{boundary, is_over}
-use Rattle.tdf_history.specs.World.{ClusterAt, World}
-use Rattle.tdf_instants.specs.History.{Going, Past, turns_to}
-use Rattle.tdf_run.specs.Boundary.{after_boundary}
-use Rattle.tdf_run.specs.Pass.{AreAt}
-use Rattle.tdf_tree.specs.Pure.{PureTree}
+use Rattle.tdf_linked.specs.low.events.Side.{SideOf}
+use Rattle.tdf_linked.specs.low.expr.Checked.{IsCheckedOf}
+use Rattle.tdf_linked.specs.low.flat.declared.model.Flat.{Flat}
+use Rattle.tdf_linked.specs.low.history.Instant.{boundary, is_over}
+use Rattle.tdf_linked.specs.low.history.World.{ClusterAt, World}
+use Rattle.tdf_linked.specs.low.instants.History.{Going, Past, turns_to}
+use Rattle.tdf_linked.specs.low.run.Boundary.{after_boundary}
+use Rattle.tdf_linked.specs.low.run.Pass.{AreAt}
+use Rattle.tdf_linked.specs.low.tree.Pure.{PureTree}
 
 -- a cluster of the history after its boundary at a time: it is as it was, or its next period began
 pub data Becomes (time : ℕ) (h g : ClusterAt) : Type 0 where

@@ -2,10 +2,10 @@
 -- Source: own.
 use Rattle.std.specs.Prelude.{◌≡◌, ◌<◌, ◌≤◌, ◌+◌, ℕ, false, List, [], Some, length, map}
 use Rattle.std.specs.Prelude.{None, Option, slice_get, sum}
-use Rattle.tdf_convert.specs.Emitted.{write_of}
-use Rattle.tdf_convert.specs.Links.{samplers_in}
-use Rattle.tdf_convert.specs.Outputs.{OutputsOf}
-use Rattle.tdf_convert.specs.declared.links.Links.{Links}
+use Rattle.tdf_linked.specs.low.convert.Emitted.{write_of}
+use Rattle.tdf_linked.specs.low.convert.Links.{samplers_in}
+use Rattle.tdf_linked.specs.low.convert.Outputs.{OutputsOf}
+use Rattle.tdf_linked.specs.low.convert.declared.links.Links.{Links}
 use Rattle.tdf_engine.specs.Ahead.{LieInside}
 use Rattle.tdf_engine.specs.Crossing.{CrossingOf, HasNoTurn, HaveCrossed, crossing_of}
 use Rattle.tdf_linked.specs.Linked.{AreSamplerLinks, AreSinkLinks}
@@ -13,17 +13,17 @@ use Rattle.tdf_engine.specs.Sampling.{CanSample, HaveSampled, sampling_at}
 use Rattle.tdf_engine.specs.Settling.{IsBefore, event_turn}
 use Rattle.tdf_engine.specs.Times.{due_time}
 use Rattle.tdf_engine.specs.declared.engine.Engine.{Engine}
-use Rattle.tdf_events.specs.Kernel.{IsKernelOf, side_of}
-use Rattle.tdf_exec.specs.Cluster.{ClusterOf}
-use Rattle.tdf_exec.specs.Crossing.{HasNoChanges}
-use Rattle.tdf_exec.specs.Gained.{sent_size, size_due, traced_size}
-use Rattle.tdf_exec.specs.Made.{IsClusterOf}
-use Rattle.tdf_exec.specs.declared.runners.Runner.{Runner}
-use Rattle.tdf_expr.specs.Checked.{IsCheckedOf}
-use Rattle.tdf_fixed.specs.declared.raw.Raw.{Raw}
-use Rattle.tdf_flat.specs.declared.model.Flat.{Flat}
-use Rattle.tdf_run.specs.Pass.{CanPass, HasPassedAll, HasPassedPart, RunOf, pass_at, run_of}
-use Rattle.tdf_tree.specs.Pure.{PureTree}
+use Rattle.tdf_linked.specs.low.events.Kernel.{IsKernelOf, side_of}
+use Rattle.tdf_linked.specs.low.exec.Cluster.{ClusterOf}
+use Rattle.tdf_linked.specs.low.exec.Crossing.{HasNoChanges}
+use Rattle.tdf_linked.specs.low.exec.Gained.{sent_size, size_due, traced_size}
+use Rattle.tdf_linked.specs.low.exec.Made.{IsClusterOf}
+use Rattle.tdf_linked.specs.low.exec.declared.runners.Runner.{Runner}
+use Rattle.tdf_linked.specs.low.expr.Checked.{IsCheckedOf}
+use Rattle.tdf_linked.specs.low.fixed.declared.raw.Raw.{Raw}
+use Rattle.tdf_linked.specs.low.flat.declared.model.Flat.{Flat}
+use Rattle.tdf_linked.specs.low.run.Pass.{CanPass, HasPassedAll, HasPassedPart, RunOf, pass_at, run_of}
+use Rattle.tdf_linked.specs.low.tree.Pure.{PureTree}
 
 -- a cluster in progress, number n from 0: one of the flat model, in a period that takes some time
 -- and has all its entries before its end; no module of it changes attributes

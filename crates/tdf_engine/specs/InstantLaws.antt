@@ -4,20 +4,20 @@ use Rattle.std.specs.Prelude.{◌≡◌, ℕ, length}
 use Rattle.tdf_engine.specs.CrossingLaws.{CrossesAlong, world_crossed}
 use Rattle.tdf_engine.specs.Engine.{HasBeenSpent, HasHadInstant, IsEngineOf, IsReadyAt}
 use Rattle.tdf_engine.specs.declared.engine.Engine.{Engine}
-use Rattle.tdf_events.specs.Kernel.{side_of}
-use Rattle.tdf_events.specs.Side.{SideOf}
-use Rattle.tdf_expr.specs.Checked.{IsCheckedOf}
-use Rattle.tdf_flat.specs.Flat.{IsFlatOf}
-use Rattle.tdf_flat.specs.declared.model.Flat.{Flat}
-use Rattle.tdf_formats.specs.Formats.{IsSoundModel}
-use Rattle.tdf_history.specs.Instant.{at_begin, instant}
-use Rattle.tdf_history.specs.World.{World}
-use Rattle.tdf_instants.specs.History.{Going, Past}
-use Rattle.tdf_limits.specs.Limits.{AreWithinLimits}
-use Rattle.tdf_run.specs.Firings.{settled_values}
-use Rattle.tdf_run.specs.Pass.{AreAt, AreReady, PassesAlong, pass_at, run_of}
-use Rattle.tdf_tree.specs.Pure.{PureTree}
-use Rattle.tdf_world.specs.Rules.{rules_of}
+use Rattle.tdf_linked.specs.low.events.Kernel.{side_of}
+use Rattle.tdf_linked.specs.low.events.Side.{SideOf}
+use Rattle.tdf_linked.specs.low.expr.Checked.{IsCheckedOf}
+use Rattle.tdf_linked.specs.low.flat.Flat.{IsFlatOf}
+use Rattle.tdf_linked.specs.low.flat.declared.model.Flat.{Flat}
+use Rattle.tdf_linked.specs.low.formats.Formats.{IsSoundModel}
+use Rattle.tdf_linked.specs.low.history.Instant.{at_begin, instant}
+use Rattle.tdf_linked.specs.low.history.World.{World}
+use Rattle.tdf_linked.specs.low.instants.History.{Going, Past}
+use Rattle.tdf_linked.specs.low.limits.Limits.{AreWithinLimits}
+use Rattle.tdf_linked.specs.low.run.Firings.{settled_values}
+use Rattle.tdf_linked.specs.low.run.Pass.{AreAt, AreReady, PassesAlong, pass_at, run_of}
+use Rattle.tdf_linked.specs.low.tree.Pure.{PureTree}
+use Rattle.tdf_linked.specs.low.world.Rules.{rules_of}
 
 -- a sound model, what was checked of it, and its flat model
 pub record IsModelOf (model : PureTree) (flat : Flat) : Type 0 where

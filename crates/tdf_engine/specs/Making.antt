@@ -1,13 +1,13 @@
 -- What a model has, so that a run of it can begin: plans for its clusters, which no module changes.
 -- Source: own.
 use Rattle.std.specs.Prelude.{◌≡◌, ◌<◌, ◌+◌, ℕ, List, Some, length, map, slice_get}
-use Rattle.tdf_bind.specs.Actors.{cluster_of}
-use Rattle.tdf_bind.specs.Flat.{FlatOf}
-use Rattle.tdf_dynamic.specs.First.{IsFirstPlan}
-use Rattle.tdf_dynamic.specs.declared.first.First.{First}
-use Rattle.tdf_exec.specs.Crossing.{HasNoChanges}
-use Rattle.tdf_flat.specs.declared.model.Flat.{Flat}
-use Rattle.tdf_graph.specs.Clusters.{greatest}
+use Rattle.tdf_linked.specs.low.bind.Actors.{cluster_of}
+use Rattle.tdf_linked.specs.low.bind.Flat.{FlatOf}
+use Rattle.tdf_linked.specs.low.dynamic.First.{IsFirstPlan}
+use Rattle.tdf_linked.specs.low.dynamic.declared.first.First.{First}
+use Rattle.tdf_linked.specs.low.exec.Crossing.{HasNoChanges}
+use Rattle.tdf_linked.specs.low.flat.declared.model.Flat.{Flat}
+use Rattle.tdf_linked.specs.low.graph.Clusters.{greatest}
 
 -- the first attributes and plans of all clusters; cluster n has the number n + 1
 pub record HavePlans (flat : Flat) (firsts : List First) : Type 0 where

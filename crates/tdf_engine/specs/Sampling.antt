@@ -1,11 +1,11 @@
 -- The samplers that are due at a time get the values of their signals.
 -- Source: IEEE 1666.1-2016, converter ports of TDF modules.
 use Rattle.std.specs.Prelude.{◌≡◌, ◌-◌, ◌<◌, ◌≤◌, ℕ, true, List, Some, length, slice_get}
-use Rattle.tdf_convert.specs.Links.{AreLinks, HaveSignals}
-use Rattle.tdf_convert.specs.Sampled.{AreSampled}
-use Rattle.tdf_convert.specs.declared.links.Links.{Links}
-use Rattle.tdf_exec.specs.Cluster.{ClusterOf, is_due}
-use Rattle.tdf_fixed.specs.declared.raw.Raw.{Raw}
+use Rattle.tdf_linked.specs.low.convert.Links.{AreLinks, HaveSignals}
+use Rattle.tdf_linked.specs.low.convert.Sampled.{AreSampled}
+use Rattle.tdf_linked.specs.low.convert.declared.links.Links.{Links}
+use Rattle.tdf_linked.specs.low.exec.Cluster.{ClusterOf, is_due}
+use Rattle.tdf_linked.specs.low.fixed.declared.raw.Raw.{Raw}
 
 -- a time, the start of the period of each cluster, and which signals their samplers have
 pub record SamplingAt : Type 0 where

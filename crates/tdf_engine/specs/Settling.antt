@@ -2,14 +2,14 @@
 -- Source: IEEE 1666-2011, 4.2.1.2 to 4.2.1.5.
 use Rattle.std.specs.Prelude.{◌≡◌, ◌<◌, ℕ, ◌||◌, true, not, nat_eq}
 use Rattle.std.specs.Prelude.{if◌then◌else◌, List, length, Option, Some}
-use Rattle.tdf_convert.specs.declared.writes.SignalWrite.{SignalWrite}
-use Rattle.tdf_events.specs.Delta.{AreWritesOf, IsNoneBefore, event_part, is_idle}
-use Rattle.tdf_events.specs.Kernel.{IsKernelOf, KernelOf, side_of}
-use Rattle.tdf_events.specs.Runnable.{IsRunnable, signal_formats}
-use Rattle.tdf_events.specs.Side.{SideOf}
-use Rattle.tdf_flat.specs.declared.model.Flat.{Flat}
-use Rattle.tdf_tree.specs.Pure.{PureTree}
-use Rattle.tdf_world.specs.Rules.{is_side_due}
+use Rattle.tdf_linked.specs.low.convert.declared.writes.SignalWrite.{SignalWrite}
+use Rattle.tdf_linked.specs.low.events.Delta.{AreWritesOf, IsNoneBefore, event_part, is_idle}
+use Rattle.tdf_linked.specs.low.events.Kernel.{IsKernelOf, KernelOf, side_of}
+use Rattle.tdf_linked.specs.low.events.Runnable.{IsRunnable, signal_formats}
+use Rattle.tdf_linked.specs.low.events.Side.{SideOf}
+use Rattle.tdf_linked.specs.low.flat.declared.model.Flat.{Flat}
+use Rattle.tdf_linked.specs.low.tree.Pure.{PureTree}
+use Rattle.tdf_linked.specs.low.world.Rules.{is_side_due}
 
 -- the event part, if a sink wrote or something is due on the event side
 abbrev pub event_turn : PureTree → Flat → (time : ℕ) → List SignalWrite → SideOf → (left : ℕ)

@@ -2,9 +2,9 @@
 -- Source: own.
 use Rattle.std.specs.Prelude.{◌≡◌, ◌⊎◌, ◌<◌, ◌≤◌, ◌+◌, ℕ, true, List, Option, Some, None, slice_get}
 use Rattle.tdf_engine.specs.Settling.{IsBefore}
-use Rattle.tdf_events.specs.Side.{SideOf}
-use Rattle.tdf_exec.specs.Cluster.{ClusterOf, next_offset}
-use Rattle.tdf_world.specs.Rules.{is_side_due}
+use Rattle.tdf_linked.specs.low.events.Side.{SideOf}
+use Rattle.tdf_linked.specs.low.exec.Cluster.{ClusterOf, next_offset}
+use Rattle.tdf_linked.specs.low.world.Rules.{is_side_due}
 
 -- the offset of the next entry, or of the end of the period
 abbrev pub due_offset : ClusterOf → Option ℕ → ℕ

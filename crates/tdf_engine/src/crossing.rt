@@ -13,16 +13,16 @@ ghost use Rattle.std.specs.Prelude.{◌≡◌, ◌≤◌, false, true, length, N
 ghost use Rattle.tdf_engine.specs.Crossing.{CanCross, HasCrossed, HasGoneOn, HasNoTurn, HaveCrossed};
 ghost use Rattle.tdf_engine.specs.Crossing.{crossing_of, ending_at, is_ending};
 ghost use Rattle.tdf_engine.specs.declared.crossing.Pass.TheVariants.{Done, Spent};
-ghost use Rattle.tdf_exec.specs.Cluster.{ClusterOf, next_offset};
-ghost use Rattle.tdf_exec.specs.Crossing.{HasNoChanges};
-ghost use Rattle.tdf_exec.specs.Made.{IsClusterOf};
-ghost use Rattle.tdf_exec.specs.Starts.{IsSoundFlat};
-ghost use Rattle.tdf_run.specs.Boundary.{HasPassedBoundary};
+ghost use Rattle.tdf_linked.specs.low.exec.Cluster.{ClusterOf, next_offset};
+ghost use Rattle.tdf_linked.specs.low.exec.Crossing.{HasNoChanges};
+ghost use Rattle.tdf_linked.specs.low.exec.Made.{IsClusterOf};
+ghost use Rattle.tdf_linked.specs.low.exec.Starts.{IsSoundFlat};
+ghost use Rattle.tdf_linked.specs.low.run.Boundary.{HasPassedBoundary};
 
 use std::alloc::Global;
-use tdf_base::Memory;
-use tdf_exec::Cluster;
-use tdf_flat::Flat;
+use tdf_linked::low::base::Memory;
+use tdf_linked::low::exec::Cluster;
+use tdf_linked::low::flat::Flat;
 
 /// Whether the period of a cluster, which began at `since`, ends at a time.
 fn is_ending(cluster: &Cluster, since: u64, time: u64) -> bool

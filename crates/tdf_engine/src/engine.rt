@@ -1,8 +1,8 @@
 //! All that runs of a model, and its instants.
 
-use tdf_convert::{Inputs, Links, Outputs, Writes};
-use tdf_events::Kernel;
-use tdf_exec::Cluster;
+use tdf_linked::low::convert::{Inputs, Links, Outputs, Writes};
+use tdf_linked::low::events::Kernel;
+use tdf_linked::low::exec::Cluster;
 
 /// All that runs of a model: its clusters and its event side.
 #[derive(Drop)]
@@ -26,31 +26,31 @@ pub struct Engine {
 }
 
 ghost use Rattle.std.specs.Prelude.{◌≡◌, ◌<◌, ◌≤◌, ◌+◌, [], false, true, length, map, None, Ok, Some};
-ghost use Rattle.tdf_base.specs.Limits.{time_end};
-ghost use Rattle.tdf_convert.specs.Emitted.{write_of};
-ghost use Rattle.tdf_convert.specs.Links.{AreRising};
+ghost use Rattle.tdf_linked.specs.low.base.Limits.{time_end};
+ghost use Rattle.tdf_linked.specs.low.convert.Emitted.{write_of};
+ghost use Rattle.tdf_linked.specs.low.convert.Links.{AreRising};
 ghost use Rattle.tdf_engine.specs.Crossing.{HasNoTurn, HaveCrossed, crossing_of};
 ghost use Rattle.tdf_engine.specs.Engine.{CanFireAll, HasBeenSpent, HasHadInstant, IsEngineOf, IsReadyAt};
 ghost use Rattle.tdf_engine.specs.Sampling.{HaveSampled, sampling_at};
 ghost use Rattle.tdf_engine.specs.Settling.{CanSettle, event_turn};
 ghost use Rattle.tdf_engine.specs.Times.{IsNextDue};
 ghost use Rattle.tdf_engine.specs.declared.crossing.Pass.TheVariants.{Done, Spent};
-ghost use Rattle.tdf_events.specs.Kernel.{IsKernelOf, side_of};
-ghost use Rattle.tdf_events.specs.Runnable.{IsRunnable};
-ghost use Rattle.tdf_exec.specs.Starts.{IsSoundFlat};
-ghost use Rattle.tdf_expr.specs.Checked.{IsCheckedOf};
-ghost use Rattle.tdf_run.specs.Pass.{HasPassedAll, HasPassedPart, pass_at, run_of};
-ghost use Rattle.tdf_tree.specs.Pure.{PureTree};
+ghost use Rattle.tdf_linked.specs.low.events.Kernel.{IsKernelOf, side_of};
+ghost use Rattle.tdf_linked.specs.low.events.Runnable.{IsRunnable};
+ghost use Rattle.tdf_linked.specs.low.exec.Starts.{IsSoundFlat};
+ghost use Rattle.tdf_linked.specs.low.expr.Checked.{IsCheckedOf};
+ghost use Rattle.tdf_linked.specs.low.run.Pass.{HasPassedAll, HasPassedPart, pass_at, run_of};
+ghost use Rattle.tdf_linked.specs.low.tree.Pure.{PureTree};
 
 use crate::crossing::{Pass, cross_all};
 use crate::sampling::sample_all;
 use crate::settling::settle;
 use crate::times::next_time;
 use std::alloc::Global;
-use tdf_base::Memory;
-use tdf_convert::{emit_due, law_by_offset};
-use tdf_flat::Flat;
-use tdf_run::fire_all;
+use tdf_linked::low::base::Memory;
+use tdf_linked::low::convert::{emit_due, law_by_offset};
+use tdf_linked::low::flat::Flat;
+use tdf_linked::low::run::fire_all;
 
 impl Engine {
     /// The least time at which something is next due; the stop where there is none before it.

@@ -3,7 +3,7 @@
 ghost use Rattle.tdf_engine.specs.CrossingLaws.{CrossingEndsSpent, CrossingGoesAlong};
 ghost use Rattle.tdf_engine.specs.InstantLaws.{InstantEndsSpent, InstantGoesAlong};
 
-use tdf_convert::law_by_offset;
+use tdf_linked::low::convert::law_by_offset;
 
 /// The boundaries of all clusters at a time, in order of number, are those of the history.
 pub fn law_crossing()

@@ -1,28 +1,28 @@
 //! All that runs of a model, before its first instant.
 
 ghost use Rattle.std.specs.Prelude.{◌≡◌, ◌+◌, [], IfOk, length, replicate};
-ghost use Rattle.tdf_convert.specs.Links.{samplers_in};
-ghost use Rattle.tdf_dynamic.specs.First.{IsFirstPlan};
+ghost use Rattle.tdf_linked.specs.low.convert.Links.{samplers_in};
+ghost use Rattle.tdf_linked.specs.low.dynamic.First.{IsFirstPlan};
 ghost use Rattle.tdf_engine.specs.Engine.{HaveRooms, IsEngineOf, IsReadyAt};
 ghost use Rattle.tdf_engine.specs.Making.{HaveNoChanges, HavePlans};
 ghost use Rattle.tdf_engine.specs.machine.Making.{AreGivenUpTo, AreLinkedUpTo, room_of};
-ghost use Rattle.tdf_events.specs.Kernel.{side_of};
-ghost use Rattle.tdf_events.specs.Runnable.{IsRunnable};
-ghost use Rattle.tdf_events.specs.Side.{start_side};
-ghost use Rattle.tdf_exec.specs.Gained.{sent_size, traced_size};
-ghost use Rattle.tdf_exec.specs.Starts.{IsSoundFlat};
+ghost use Rattle.tdf_linked.specs.low.events.Kernel.{side_of};
+ghost use Rattle.tdf_linked.specs.low.events.Runnable.{IsRunnable};
+ghost use Rattle.tdf_linked.specs.low.events.Side.{start_side};
+ghost use Rattle.tdf_linked.specs.low.exec.Gained.{sent_size, traced_size};
+ghost use Rattle.tdf_linked.specs.low.exec.Starts.{IsSoundFlat};
 ghost use Rattle.tdf_linked.specs.Linked.{HaveEventPorts};
-ghost use Rattle.tdf_run.specs.Begun.{HasBegun, HaveBegun};
+ghost use Rattle.tdf_linked.specs.low.run.Begun.{HasBegun, HaveBegun};
 
 use crate::engine::Engine;
 use std::alloc::Global;
-use tdf_base::Memory;
-use tdf_convert::{Inputs, Links, Outputs, Writes};
-use tdf_dynamic::First;
-use tdf_events::Kernel;
-use tdf_exec::{Cluster, Room};
-use tdf_flat::Flat;
-use tdf_limits::law_limits;
+use tdf_linked::low::base::Memory;
+use tdf_linked::low::convert::{Inputs, Links, Outputs, Writes};
+use tdf_linked::low::dynamic::First;
+use tdf_linked::low::events::Kernel;
+use tdf_linked::low::exec::{Cluster, Room};
+use tdf_linked::low::flat::Flat;
+use tdf_linked::low::limits::law_limits;
 use tdf_linked::{law_ports, sampler_links, sink_links};
 
 /// A count of 32 bits; more do not fit in memory.

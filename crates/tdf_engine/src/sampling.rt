@@ -1,14 +1,14 @@
 //! The samplers that are due get the values of their signals.
 
 ghost use Rattle.std.specs.Prelude.{◌≡◌, ◌≤◌, length, true};
-ghost use Rattle.tdf_convert.specs.Links.{AreLinks, HaveSignals};
-ghost use Rattle.tdf_convert.specs.Sampled.{AreSampled};
+ghost use Rattle.tdf_linked.specs.low.convert.Links.{AreLinks, HaveSignals};
+ghost use Rattle.tdf_linked.specs.low.convert.Sampled.{AreSampled};
 ghost use Rattle.tdf_engine.specs.Sampling.{CanSample, HaveSampled, sampling_at};
-ghost use Rattle.tdf_exec.specs.Cluster.{is_due};
+ghost use Rattle.tdf_linked.specs.low.exec.Cluster.{is_due};
 
-use tdf_convert::{Inputs, Links};
-use tdf_exec::Cluster;
-use tdf_fixed::Raw;
+use tdf_linked::low::convert::{Inputs, Links};
+use tdf_linked::low::exec::Cluster;
+use tdf_linked::low::fixed::Raw;
 
 /// The samplers of a cluster, if entries of this offset come next, get the values of their signals.
 fn sample_turn(cluster: &Cluster, offset: u64, links: &Links, values: &[Raw], inputs: &mut Inputs)

@@ -2,14 +2,14 @@
 
 ghost use Rattle.std.specs.Prelude.{◌≡◌, ◌<◌, ◌^◌, None, OnErr, OnOk, Some};
 ghost use Rattle.tdf_engine.specs.Settling.{CanSettle, IsBefore, event_turn};
-ghost use Rattle.tdf_events.specs.Kernel.{IsKernelOf, side_of};
-ghost use Rattle.tdf_expr.specs.Checked.{IsCheckedOf};
-ghost use Rattle.tdf_tree.specs.Pure.{PureTree};
-ghost use Rattle.tdf_world.specs.Rules.{is_side_due};
+ghost use Rattle.tdf_linked.specs.low.events.Kernel.{IsKernelOf, side_of};
+ghost use Rattle.tdf_linked.specs.low.expr.Checked.{IsCheckedOf};
+ghost use Rattle.tdf_linked.specs.low.tree.Pure.{PureTree};
+ghost use Rattle.tdf_linked.specs.low.world.Rules.{is_side_due};
 
-use tdf_convert::SignalWrite;
-use tdf_events::{Kernel, Spent, Turns};
-use tdf_flat::Flat;
+use tdf_linked::low::convert::SignalWrite;
+use tdf_linked::low::events::{Kernel, Spent, Turns};
+use tdf_linked::low::flat::Flat;
 
 /// Whether something is due on the event side at this time.
 fn is_due(kernel: &Kernel, time: u64) -> bool

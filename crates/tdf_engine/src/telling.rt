@@ -3,10 +3,10 @@
 ghost use Rattle.std.specs.Prelude.{◌≡◌, ℕ, [], length};
 ghost use Rattle.tdf_engine.specs.Engine.{IsEngineOf, IsReadyAt};
 ghost use Rattle.tdf_engine.specs.Telling.{IsLeastStart};
-ghost use Rattle.tdf_flat.specs.declared.model.Flat.{Flat as FlatModel};
+ghost use Rattle.tdf_linked.specs.low.flat.declared.model.Flat.{Flat as FlatModel};
 
 use crate::engine::Engine;
-use tdf_convert::Traced;
+use tdf_linked::low::convert::Traced;
 
 /// The least of these times; a limit where none is below it.
 fn least_of(since: &[u64], limit: u64) -> u64

@@ -2,10 +2,10 @@
 
 ghost use Rattle.std.specs.Prelude.{◌≡◌, ◌≤◌, ◌-◌, ◌^◌, length, min};
 ghost use Rattle.tdf_engine.specs.Times.{IsLeastDue, IsNextDue, due_time};
-ghost use Rattle.tdf_events.specs.Kernel.{side_of};
+ghost use Rattle.tdf_linked.specs.low.events.Kernel.{side_of};
 
-use tdf_events::Kernel;
-use tdf_exec::Cluster;
+use tdf_linked::low::events::Kernel;
+use tdf_linked::low::exec::Cluster;
 
 /// The time at which something is next due in a cluster whose period began at `since`: its next entry, or the end of the period.
 fn due_time(cluster: &Cluster, since: u64) -> u64

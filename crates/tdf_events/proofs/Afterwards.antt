@@ -13,11 +13,11 @@ use Rattle.tdf_events.specs.Laws.{EndsIdle, HasNothingWaiting, NextIsLater, None
 use Rattle.tdf_events.specs.Notices.{NoticesOf, noticed, noticed_first, time_after}
 use Rattle.tdf_events.specs.Processes.{events_of, owner_of, process_done, frame_at, ran, run_of}
 use Rattle.tdf_events.specs.Side.{SideOf}
-use Rattle.tdf_fixed.specs.declared.raw.Raw.{Raw}
+use Rattle.tdf_flat.specs.low.fixed.declared.raw.Raw.{Raw}
 use Rattle.tdf_flat.specs.declared.model.Flat.{Flat}
-use Rattle.tdf_state.specs.State.{standing}
-use Rattle.tdf_tree.specs.Pure.{PureTree}
-use Rattle.tdf_wiring.specs.ProcessBlocks.{BlockRowOf, ProcessRowOf}
+use Rattle.tdf_flat.specs.low.state.State.{standing}
+use Rattle.tdf_flat.specs.low.tree.Pure.{PureTree}
+use Rattle.tdf_flat.specs.low.wiring.ProcessBlocks.{BlockRowOf, ProcessRowOf}
 
 -- delta steps: what a step keeps holds of where they end
 module _ (model : PureTree) (flat : Flat) (time : ℕ) (P : SideOf → Type 0) (keep : (s : SideOf) → P s → P (stepped model flat time s)) where

@@ -17,11 +17,11 @@ use Rattle.tdf_events.specs.Runnable.{signal_formats}
 use Rattle.tdf_events.specs.Side.{SideOf}
 use Rattle.tdf_events.specs.machine.Due.{comes}
 use Rattle.tdf_events.specs.machine.Updating.{AreAllReached}
-use Rattle.tdf_expr.specs.Frames.{IsOfFormat}
-use Rattle.tdf_fixed.specs.declared.format.Format.{Format}
-use Rattle.tdf_fixed.specs.declared.raw.Raw.{Raw}
+use Rattle.tdf_flat.specs.low.expr.Frames.{IsOfFormat}
+use Rattle.tdf_flat.specs.low.fixed.declared.format.Format.{Format}
+use Rattle.tdf_flat.specs.low.fixed.declared.raw.Raw.{Raw}
 use Rattle.tdf_flat.specs.declared.model.Flat.{Flat}
-use Rattle.tdf_wiring.specs.ProcessBlocks.{ProcessRowOf}
+use Rattle.tdf_flat.specs.low.wiring.ProcessBlocks.{ProcessRowOf}
 
 -- whether a process is triggered when the notifications of a time have come
 abbrev pub is_begun : (time : ℕ) → KernelOf → ℕ → ProcessRowOf → Bool

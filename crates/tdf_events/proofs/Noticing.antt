@@ -3,7 +3,7 @@ use Rattle.std.proofs.Common.{◌≡◌, ℕ, ◌+◌, Bool, true, false, if◌t
 use Rattle.tdf_calendar.specs.Sets.{is_on}
 use Rattle.tdf_calendar.specs.Times.{earliest, time_of}
 use Rattle.tdf_events.specs.Notices.{NoticesOf, noticed, noticed_first, time_after}
-use Rattle.tdf_state.specs.State.{standing}
+use Rattle.tdf_flat.specs.low.state.State.{standing}
 
 pub noticed_none : (time : ℕ) (events : List ℕ) (asked : List (Option ℕ)) (n : NoticesOf) → noticed_first time events asked 0 n ≡ n
 unfolding noticed_first

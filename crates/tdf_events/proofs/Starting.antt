@@ -12,14 +12,14 @@ use Rattle.tdf_events.specs.Processes.{events_of}
 use Rattle.tdf_events.specs.Runnable.{AreOfSignals, IsRunnable, signal_formats}
 use Rattle.tdf_events.specs.Side.{SideOf, start_side}
 use Rattle.tdf_events.specs.machine.Making.{AreAllPorts, AreFrames}
-use Rattle.tdf_expr.specs.Frames.{FrameSeen}
-use Rattle.tdf_expr.specs.Made.{start_cells, start_rates}
-use Rattle.tdf_expr.specs.declared.checked.Checked.{Checked}
-use Rattle.tdf_fixed.specs.declared.raw.Raw.{Raw}
+use Rattle.tdf_flat.specs.low.expr.Frames.{FrameSeen}
+use Rattle.tdf_flat.specs.low.expr.Made.{start_cells, start_rates}
+use Rattle.tdf_flat.specs.low.expr.declared.checked.Checked.{Checked}
+use Rattle.tdf_flat.specs.low.fixed.declared.raw.Raw.{Raw}
 use Rattle.tdf_flat.specs.declared.model.Flat.{Flat}
-use Rattle.tdf_state.specs.State.{FrameState}
-use Rattle.tdf_wiring.specs.ProcessBlocks.{BlockRowOf, ProcessRowOf}
-use Rattle.tdf_wiring.specs.declared.drivers.SignalRow.{SignalRow}
+use Rattle.tdf_flat.specs.low.state.State.{FrameState}
+use Rattle.tdf_flat.specs.low.wiring.ProcessBlocks.{BlockRowOf, ProcessRowOf}
+use Rattle.tdf_flat.specs.low.wiring.declared.drivers.SignalRow.{SignalRow}
 
 abbrev no_frame : FrameState
 no_frame = record { cells = []; rates = [] }

@@ -14,12 +14,12 @@ use Rattle.tdf_events.specs.Notices.{NoticesOf}
 use Rattle.tdf_events.specs.Runnable.{AreOfSignals, signal_formats}
 use Rattle.tdf_events.specs.Side.{SideOf, value_at}
 use Rattle.tdf_events.specs.machine.Updating.{AreAllReached, does_change}
-use Rattle.tdf_expr.specs.Frames.{IsOfFormat}
-use Rattle.tdf_fixed.specs.declared.format.Format.{Format}
-use Rattle.tdf_fixed.specs.declared.raw.Raw.{Raw}
+use Rattle.tdf_flat.specs.low.expr.Frames.{IsOfFormat}
+use Rattle.tdf_flat.specs.low.fixed.declared.format.Format.{Format}
+use Rattle.tdf_flat.specs.low.fixed.declared.raw.Raw.{Raw}
 use Rattle.tdf_flat.specs.declared.model.Flat.{Flat}
-use Rattle.tdf_state.specs.State.{FrameState}
-use Rattle.tdf_wiring.specs.ProcessBlocks.{ProcessRowOf}
+use Rattle.tdf_flat.specs.low.state.State.{FrameState}
+use Rattle.tdf_flat.specs.low.wiring.ProcessBlocks.{ProcessRowOf}
 
 abbrev nothing : Option Raw
 nothing = None

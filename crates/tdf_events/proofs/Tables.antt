@@ -11,10 +11,10 @@ use Rattle.tdf_events.proofs.Reading.{has_at}
 use Rattle.tdf_events.specs.Kernel.{AreSensitive}
 use Rattle.tdf_events.specs.Processes.{owned_from}
 use Rattle.tdf_events.specs.machine.Making.{AreAdded, AreAllPorts, AreFirstPorts, AreFrames, AreStarted, IsFirstFrame}
-use Rattle.tdf_expr.specs.Frames.{FrameSeen, PortsSeen}
-use Rattle.tdf_expr.specs.declared.checked.Checked.{Checked}
-use Rattle.tdf_wiring.specs.ProcessBlocks.{BlockRowOf, ProcessRowOf}
-use Rattle.tdf_wiring.specs.declared.blocks.EventRow.{EventRow}
+use Rattle.tdf_flat.specs.low.expr.Frames.{FrameSeen, PortsSeen}
+use Rattle.tdf_flat.specs.low.expr.declared.checked.Checked.{Checked}
+use Rattle.tdf_flat.specs.low.wiring.ProcessBlocks.{BlockRowOf, ProcessRowOf}
+use Rattle.tdf_flat.specs.low.wiring.declared.blocks.EventRow.{EventRow}
 
 at_end : (xs : List ℕ) (p : ℕ) → slice_get (xs ++ p ∷ []) (length xs) ≡ Some p
 at_end [] p = refl

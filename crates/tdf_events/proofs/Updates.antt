@@ -9,7 +9,7 @@ use Rattle.tdf_calendar.specs.Triggered.{AreAllTriggered}
 use Rattle.tdf_events.specs.Delta.{differs, updated}
 use Rattle.tdf_events.specs.Side.{value_at}
 use Rattle.tdf_events.specs.machine.Updating.{AreAllReached, AreForgotten, AreReached, AreTaken, does_change}
-use Rattle.tdf_fixed.specs.declared.raw.Raw.{Raw}
+use Rattle.tdf_flat.specs.low.fixed.declared.raw.Raw.{Raw}
 
 abbrev nothing : Option Raw
 nothing = None

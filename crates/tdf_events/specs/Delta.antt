@@ -11,12 +11,12 @@ use Rattle.tdf_calendar.specs.Times.{time_of}
 use Rattle.tdf_convert.specs.declared.writes.SignalWrite.{SignalWrite}
 use Rattle.tdf_events.specs.Processes.{ran}
 use Rattle.tdf_events.specs.Side.{SideOf, value_at}
-use Rattle.tdf_expr.specs.Frames.{IsOfFormat}
-use Rattle.tdf_fixed.specs.declared.format.Format.{Format}
-use Rattle.tdf_fixed.specs.declared.raw.Raw.{Raw}
+use Rattle.tdf_flat.specs.low.expr.Frames.{IsOfFormat}
+use Rattle.tdf_flat.specs.low.fixed.declared.format.Format.{Format}
+use Rattle.tdf_flat.specs.low.fixed.declared.raw.Raw.{Raw}
 use Rattle.tdf_flat.specs.declared.model.Flat.{Flat}
-use Rattle.tdf_tree.specs.Pure.{PureTree}
-use Rattle.tdf_wiring.specs.ProcessBlocks.{ProcessRowOf}
+use Rattle.tdf_flat.specs.low.tree.Pure.{PureTree}
+use Rattle.tdf_flat.specs.low.wiring.ProcessBlocks.{ProcessRowOf}
 
 -- a flag for each process, numbered from `first`
 unfoldable pub flags_from : (ℕ → ProcessRowOf → Bool) → (first : ℕ) → List ProcessRowOf → List Bool

@@ -8,12 +8,12 @@ use Rattle.tdf_events.specs.Notices.{NoticesOf}
 use Rattle.tdf_events.specs.Processes.{events_of}
 use Rattle.tdf_events.specs.Runnable.{AreOfSignals, signal_formats}
 use Rattle.tdf_events.specs.Side.{SideOf}
-use Rattle.tdf_expr.specs.Frames.{FrameSeen, IsOfFormat, PortsSeen}
-use Rattle.tdf_expr.specs.Made.{AreMadeFor}
-use Rattle.tdf_fixed.specs.declared.format.Format.{Format}
-use Rattle.tdf_fixed.specs.declared.raw.Raw.{Raw}
+use Rattle.tdf_flat.specs.low.expr.Frames.{FrameSeen, IsOfFormat, PortsSeen}
+use Rattle.tdf_flat.specs.low.expr.Made.{AreMadeFor}
+use Rattle.tdf_flat.specs.low.fixed.declared.format.Format.{Format}
+use Rattle.tdf_flat.specs.low.fixed.declared.raw.Raw.{Raw}
 use Rattle.tdf_flat.specs.declared.model.Flat.{Flat}
-use Rattle.tdf_wiring.specs.ProcessBlocks.{BlockRowOf, ProcessRowOf}
+use Rattle.tdf_flat.specs.low.wiring.ProcessBlocks.{BlockRowOf, ProcessRowOf}
 
 pub record KernelOf : Type 0 where
   pub values : List Raw

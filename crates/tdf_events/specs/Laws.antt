@@ -10,7 +10,7 @@ use Rattle.tdf_events.specs.Delta.{IsNoneBefore, event_part, is_idle}
 use Rattle.tdf_events.specs.Kernel.{IsNextOf}
 use Rattle.tdf_events.specs.Side.{SideOf, start_side}
 use Rattle.tdf_flat.specs.declared.model.Flat.{Flat}
-use Rattle.tdf_tree.specs.Pure.{PureTree}
+use Rattle.tdf_flat.specs.low.tree.Pure.{PureTree}
 
 -- no value waits for a signal, and no event has a delta notification
 pub record HasNothingWaiting (s : SideOf) : Type 0 where

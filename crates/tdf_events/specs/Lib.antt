@@ -5,5 +5,6 @@ pub mod Notices
 pub mod Processes
 pub mod Runnable
 pub mod Side
+pub mod low
 pub mod machine
 pub mod views

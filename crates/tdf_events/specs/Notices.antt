@@ -5,7 +5,7 @@ use Rattle.std.specs.Prelude.{ℕ, zero, suc, ◌+◌, ◌-◌, ◌^◌, Bool, t
 use Rattle.std.specs.Prelude.{List, Option, Some, None, slice_get, slice_index, slice_set}
 use Rattle.tdf_calendar.specs.Sets.{is_on}
 use Rattle.tdf_calendar.specs.Times.{earliest, time_of}
-use Rattle.tdf_state.specs.State.{standing}
+use Rattle.tdf_flat.specs.low.state.State.{standing}
 
 -- by event: the time of its timed notification, and whether it has a delta notification
 pub record NoticesOf : Type 0 where

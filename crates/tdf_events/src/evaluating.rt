@@ -8,16 +8,16 @@ ghost use Rattle.tdf_events.specs.Processes.{ran};
 ghost use Rattle.tdf_events.specs.Runnable.{IsRunnable};
 ghost use Rattle.tdf_events.specs.machine.Running.{CanRun, HasActed, HasRunIn};
 ghost use Rattle.tdf_events.specs.views.Parts.{kernel_of};
-ghost use Rattle.tdf_expr.specs.Checked.{IsCheckedOf};
-ghost use Rattle.tdf_tree.specs.Pure.{PureTree};
+ghost use Rattle.tdf_flat.specs.low.expr.Checked.{IsCheckedOf};
+ghost use Rattle.tdf_flat.specs.low.tree.Pure.{PureTree};
 
 use crate::notices::notify_all;
 use crate::parts::Parts;
 use crate::running::act;
 use crate::waiting::write_all;
-use tdf_expr::Checked;
 use tdf_flat::Flat;
-use tdf_wiring::BlockRow;
+use tdf_flat::low::expr::Checked;
+use tdf_flat::low::wiring::BlockRow;
 
 /// The body of a process of an instance runs.
 fn act_in(parts: &mut Parts, checked: &Checked, block: &BlockRow, owner: u32, number: u32)

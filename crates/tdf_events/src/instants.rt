@@ -5,8 +5,8 @@ ghost use Rattle.tdf_events.specs.Delta.{AreWritesOf, IsNoneBefore, begun, event
 ghost use Rattle.tdf_events.specs.Kernel.{IsKernelOf, side_of};
 ghost use Rattle.tdf_events.specs.Runnable.{IsRunnable, signal_formats};
 ghost use Rattle.tdf_events.specs.views.Parts.{kernel_of};
-ghost use Rattle.tdf_expr.specs.Checked.{IsCheckedOf};
-ghost use Rattle.tdf_tree.specs.Pure.{PureTree};
+ghost use Rattle.tdf_flat.specs.low.expr.Checked.{IsCheckedOf};
+ghost use Rattle.tdf_flat.specs.low.tree.Pure.{PureTree};
 
 use crate::parts::Parts;
 use crate::turns::{Spent, Turns, check_idle, settle};

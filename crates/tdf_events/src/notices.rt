@@ -29,13 +29,13 @@ ghost use Rattle.tdf_events.specs.Delta.{IsNoneBefore, is_due};
 ghost use Rattle.tdf_events.specs.machine.Due.{comes};
 ghost use Rattle.tdf_events.specs.machine.Updating.{AreAllReached};
 ghost use Rattle.tdf_events.specs.Notices.{noticed, noticed_after, noticed_first, time_after};
-ghost use Rattle.tdf_expr.specs.Frames.{ArePortsFit};
+ghost use Rattle.tdf_flat.specs.low.expr.Frames.{ArePortsFit};
 
 use crate::due::take_due;
 use std::alloc::Global;
-use tdf_base::Memory;
 use tdf_calendar::{Lists, trigger_all};
-use tdf_expr::Ports;
+use tdf_flat::low::base::Memory;
+use tdf_flat::low::expr::Ports;
 
 /// The time after another one, at most the greatest.
 fn time_after(time: u64, after: u64) -> u64

@@ -3,8 +3,8 @@
 use crate::notices::Notices;
 use crate::waiting::Waiting;
 use tdf_calendar::{Lists, NumberSet};
-use tdf_expr::{Frame, Ports};
-use tdf_fixed::Raw;
+use tdf_flat::low::expr::{Frame, Ports};
+use tdf_flat::low::fixed::Raw;
 
 /// What a kernel holds.
 #[derive(Drop)]

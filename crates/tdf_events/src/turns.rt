@@ -6,8 +6,8 @@ ghost use Rattle.tdf_events.specs.Delta.{is_idle, settled, turns_of};
 ghost use Rattle.tdf_events.specs.Kernel.{IsKernelOf, side_of};
 ghost use Rattle.tdf_events.specs.Runnable.{IsRunnable};
 ghost use Rattle.tdf_events.specs.views.Parts.{kernel_of};
-ghost use Rattle.tdf_expr.specs.Checked.{IsCheckedOf};
-ghost use Rattle.tdf_tree.specs.Pure.{PureTree};
+ghost use Rattle.tdf_flat.specs.low.expr.Checked.{IsCheckedOf};
+ghost use Rattle.tdf_flat.specs.low.tree.Pure.{PureTree};
 
 use crate::parts::Parts;
 use crate::stepping::step;

@@ -6,7 +6,7 @@ ghost use Rattle.tdf_events.specs.Delta.{differs};
 ghost use Rattle.tdf_events.specs.machine.Updating.{AreForgotten, AreReached, AreTaken, does_change};
 
 use tdf_calendar::{Lists, NumberSet, trigger};
-use tdf_fixed::Raw;
+use tdf_flat::low::fixed::Raw;
 
 /// Whether a value that waits differs from the one of its signal.
 fn differs(value: Raw, waiting: Option<Raw>) -> bool

@@ -7,21 +7,21 @@ use Rattle.std.proofs.lemmas.List.Sums.{count_by_more_yes, count_by_more_no}
 use Rattle.std.proofs.lemmas.Option.{get_or_from_slice_get, slice_get_within}
 use Rattle.std.specs.List.{All}
 use Rattle.std.specs.Prelude.{slice_get, slice_index}
-use Rattle.tdf_bind.specs.Flat.{FlatOf}
+use Rattle.tdf_layout.specs.low.bind.Flat.{FlatOf}
 use Rattle.tdf_exec.specs.Cluster.{ClusterOf}
 use Rattle.tdf_exec.specs.Made.{AreHeld, IsSafe}
 use Rattle.tdf_layout.specs.Samples.{edge_format}
 use Rattle.tdf_exec.specs.declared.runners.Runner.{Runner}
 use Rattle.tdf_exec.specs.machine.Steps.{AreMovedBy, kept, with_parts}
-use Rattle.tdf_expr.specs.Frames.{IsOfFormat}
-use Rattle.tdf_fixed.specs.declared.format.Format.{Format}
-use Rattle.tdf_fixed.specs.declared.raw.Raw.{Raw}
-use Rattle.tdf_rings.specs.Carried.{ring_at}
-use Rattle.tdf_rings.specs.Rings.{RingOf}
-use Rattle.tdf_schedule.specs.Plan.{done}
-use Rattle.tdf_schedule.specs.declared.entry.Entry.{Entry}
-use Rattle.tdf_streams.specs.Places.{reader_at, writer_at}
-use Rattle.tdf_streams.specs.Starts.{held_at_head}
+use Rattle.tdf_layout.specs.low.expr.Frames.{IsOfFormat}
+use Rattle.tdf_layout.specs.low.fixed.declared.format.Format.{Format}
+use Rattle.tdf_layout.specs.low.fixed.declared.raw.Raw.{Raw}
+use Rattle.tdf_layout.specs.low.rings.Carried.{ring_at}
+use Rattle.tdf_layout.specs.low.rings.Rings.{RingOf}
+use Rattle.tdf_layout.specs.low.schedule.Plan.{done}
+use Rattle.tdf_layout.specs.low.schedule.declared.entry.Entry.{Entry}
+use Rattle.tdf_layout.specs.low.streams.Places.{reader_at, writer_at}
+use Rattle.tdf_layout.specs.low.streams.Starts.{held_at_head}
 
 more : (a b : ℕ) → (a + 1) * b ≡ a * b + b
 more a b = grind arith

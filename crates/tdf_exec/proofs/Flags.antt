@@ -3,24 +3,24 @@ use Rattle.std.proofs.Common.{◌≡◌, ◌∙◌, ℕ, suc, Bool, true, false,
 use Rattle.std.proofs.Common.{length, map, refl, sym, ap, subst, arith}
 use Rattle.std.specs.List.{flat_map}
 use Rattle.std.specs.Prelude.{slice_get}
-use Rattle.tdf_bind.specs.Flat.{FlatOf}
-use Rattle.tdf_dynamic.specs.Assignments.{assigned_by, assignments}
-use Rattle.tdf_dynamic.specs.Attributes.{AttrsOf, attrs_at, rates_in}
-use Rattle.tdf_dynamic.specs.Faults.{HasCountsOf, IsPlanOf, IsTablePlan}
-use Rattle.tdf_dynamic.specs.Rates.{NetOf, net_of, net_ports, port_rate, rate_by, rated_edge, rated_port}
+use Rattle.tdf_layout.specs.low.bind.Flat.{FlatOf}
+use Rattle.tdf_layout.specs.low.dynamic.Assignments.{assigned_by, assignments}
+use Rattle.tdf_layout.specs.low.dynamic.Attributes.{AttrsOf, attrs_at, rates_in}
+use Rattle.tdf_layout.specs.low.dynamic.Faults.{HasCountsOf, IsPlanOf, IsTablePlan}
+use Rattle.tdf_layout.specs.low.dynamic.Rates.{NetOf, net_of, net_ports, port_rate, rate_by, rated_edge, rated_port}
 use Rattle.tdf_exec.specs.Cluster.{ClusterOf}
 use Rattle.tdf_exec.specs.Made.{HasRows, IsClusterWith, IsRunnerWith}
 use Rattle.tdf_exec.specs.Traced.{rate_of_row, traced_port}
 use Rattle.tdf_exec.specs.declared.runners.Runner.{Runner}
 use Rattle.tdf_exec.specs.declared.runners.Runner.TheVariants as runner
-use Rattle.tdf_flat.specs.declared.model.Flat.{Flat}
-use Rattle.tdf_graph.specs.declared.actors.Port.{Port}
+use Rattle.tdf_layout.specs.low.flat.declared.model.Flat.{Flat}
+use Rattle.tdf_layout.specs.low.graph.declared.actors.Port.{Port}
 use Rattle.tdf_layout.specs.Traced.{traced_ports}
-use Rattle.tdf_schedule.specs.declared.entry.Plan.{Plan}
-use Rattle.tdf_streams.specs.Periods.{AreAttributes, read_rates, write_rates}
-use Rattle.tdf_timestep.specs.Period.{HasSteps}
-use Rattle.tdf_timestep.specs.declared.assign.Assign.{Assign}
-use Rattle.tdf_wiring.specs.declared.modules.PortRow.{PortRow}
+use Rattle.tdf_layout.specs.low.schedule.declared.entry.Plan.{Plan}
+use Rattle.tdf_layout.specs.low.streams.Periods.{AreAttributes, read_rates, write_rates}
+use Rattle.tdf_layout.specs.low.timestep.Period.{HasSteps}
+use Rattle.tdf_layout.specs.low.timestep.declared.assign.Assign.{Assign}
+use Rattle.tdf_layout.specs.low.wiring.declared.modules.PortRow.{PortRow}
 
 -- a row with another flag
 abbrev pub with_flag : Bool → AttrsOf → AttrsOf

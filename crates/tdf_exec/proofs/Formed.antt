@@ -5,12 +5,12 @@ use Rattle.std.proofs.lemmas.Bool.{and_parts, cases_eq, eq-eqb, eqb-true, ne_eqb
 use Rattle.std.proofs.lemmas.Option.{slice_get-map, slice_get_within}
 use Rattle.std.specs.List.{cons_option, enumerate_from}
 use Rattle.std.specs.Prelude.{filter_map, slice_get, slice_index}
-use Rattle.tdf_bind.specs.Flat.{FlatOf}
-use Rattle.tdf_dynamic.specs.Attributes.{AttrsOf, attrs_at, clusters_of, rates_in}
-use Rattle.tdf_dynamic.specs.First.{IsFirstPlan}
-use Rattle.tdf_dynamic.specs.Rates.{net_of, port_rate, rate_by}
-use Rattle.tdf_dynamic.specs.Text.{attrs_if, first_attrs, first_table}
-use Rattle.tdf_dynamic.specs.declared.first.First.{First}
+use Rattle.tdf_layout.specs.low.bind.Flat.{FlatOf}
+use Rattle.tdf_layout.specs.low.dynamic.Attributes.{AttrsOf, attrs_at, clusters_of, rates_in}
+use Rattle.tdf_layout.specs.low.dynamic.First.{IsFirstPlan}
+use Rattle.tdf_layout.specs.low.dynamic.Rates.{net_of, port_rate, rate_by}
+use Rattle.tdf_layout.specs.low.dynamic.Text.{attrs_if, first_attrs, first_table}
+use Rattle.tdf_layout.specs.low.dynamic.declared.first.First.{First}
 use Rattle.tdf_exec.proofs.Ends.{HasPort, below_modules, module_reads, module_writes}
 use Rattle.tdf_exec.proofs.Planned.{start_of}
 use Rattle.tdf_exec.proofs.EdgeRates.{edge_reads, edge_writes, reads_at, writes_at}
@@ -25,24 +25,24 @@ use Rattle.tdf_exec.specs.declared.runners.Runner.{Runner}
 use Rattle.tdf_exec.specs.declared.runners.TracedPort.{TracedPort}
 use Rattle.tdf_exec.specs.machine.Laid.{IsLaid}
 use Rattle.tdf_exec.specs.machine.Starting.{IsBegun}
-use Rattle.tdf_expr.specs.Made.{port_spans_of, start_rates}
-use Rattle.tdf_expr.specs.declared.spans.PortSpan.{PortSpan}
-use Rattle.tdf_firing.specs.Wires.{AreWired, WiresOf}
-use Rattle.tdf_firing.specs.declared.wires.InWire.{InWire}
-use Rattle.tdf_firing.specs.declared.wires.OutWire.{OutWire}
-use Rattle.tdf_flat.specs.declared.model.Flat.{Flat}
-use Rattle.tdf_flow.proofs.Api.{get_inside, none_some, some_same}
-use Rattle.tdf_formats.specs.Formats.{IsOwnPort}
-use Rattle.tdf_graph.specs.declared.actors.Actor.TheVariants as actor
+use Rattle.tdf_layout.specs.low.expr.Made.{port_spans_of, start_rates}
+use Rattle.tdf_layout.specs.low.expr.declared.spans.PortSpan.{PortSpan}
+use Rattle.tdf_layout.specs.low.firing.Wires.{AreWired, WiresOf}
+use Rattle.tdf_layout.specs.low.firing.declared.wires.InWire.{InWire}
+use Rattle.tdf_layout.specs.low.firing.declared.wires.OutWire.{OutWire}
+use Rattle.tdf_layout.specs.low.flat.declared.model.Flat.{Flat}
+use Rattle.tdf_layout.proofs.Api.{get_inside, none_some, some_same}
+use Rattle.tdf_layout.specs.low.formats.Formats.{IsOwnPort}
+use Rattle.tdf_layout.specs.low.graph.declared.actors.Actor.TheVariants as actor
 use Rattle.tdf_layout.specs.Wiring.{AreWiresOf, port_of_row}
-use Rattle.tdf_limits.proofs.Api.{starts_are_allowed}
-use Rattle.tdf_limits.specs.Limits.{limits_in}
-use Rattle.tdf_meaning.specs.Fits.{RatesFit}
-use Rattle.tdf_rings.specs.Rings.{RingOf}
-use Rattle.tdf_streams.specs.Periods.{AreAttributes, HasAllowedRates, read_rates, write_rates}
-use Rattle.tdf_streams.specs.Places.{actor_kind, block_at, block_of_row, driver_or, module_of_row, place_of_port, reader_of_row, source_of_row, writer_of_row}
-use Rattle.tdf_wiring.specs.declared.modules.ModuleRow.{ModuleRow}
-use Rattle.tdf_wiring.specs.declared.modules.PortRow.{PortRow}
+use Rattle.tdf_layout.proofs.Api.{starts_are_allowed}
+use Rattle.tdf_layout.specs.low.limits.Limits.{limits_in}
+use Rattle.tdf_layout.specs.low.meaning.Fits.{RatesFit}
+use Rattle.tdf_layout.specs.low.rings.Rings.{RingOf}
+use Rattle.tdf_layout.specs.low.streams.Periods.{AreAttributes, HasAllowedRates, read_rates, write_rates}
+use Rattle.tdf_layout.specs.low.streams.Places.{actor_kind, block_at, block_of_row, driver_or, module_of_row, place_of_port, reader_of_row, source_of_row, writer_of_row}
+use Rattle.tdf_layout.specs.low.wiring.declared.modules.ModuleRow.{ModuleRow}
+use Rattle.tdf_layout.specs.low.wiring.declared.modules.PortRow.{PortRow}
 
 -- the attributes of a module in the table of the text
 module _ (flat : Flat) (cluster : ℕ) where

@@ -28,19 +28,19 @@ use Rattle.tdf_exec.specs.declared.runners.Runner.{Runner}
 use Rattle.tdf_exec.specs.declared.runners.Runner.TheVariants as runner
 use Rattle.tdf_exec.specs.declared.runners.SinkRunner.{SinkRunner}
 use Rattle.tdf_exec.specs.machine.Steps.{AreInputsNext, IsAnyStep, with_parts}
-use Rattle.tdf_expr.specs.Checked.{IsCheckedOf}
-use Rattle.tdf_expr.specs.Frames.{IsOfFormat}
-use Rattle.tdf_firing.specs.Actors.{HasTaken}
-use Rattle.tdf_fixed.specs.declared.raw.Raw.{Raw}
-use Rattle.tdf_flat.specs.declared.model.Flat.{Flat}
-use Rattle.tdf_flow.specs.Firing.{fronts}
-use Rattle.tdf_rings.specs.Carried.{ring_at}
-use Rattle.tdf_rings.specs.Rings.{RingOf}
-use Rattle.tdf_schedule.specs.declared.entry.Entry.{Entry}
-use Rattle.tdf_streams.specs.Cluster.{Start, cluster_net}
-use Rattle.tdf_streams.specs.Periods.{PeriodRecord}
-use Rattle.tdf_streams.specs.Places.{actor_kind, reader_at}
-use Rattle.tdf_tree.specs.Pure.{PureTree}
+use Rattle.tdf_layout.specs.low.expr.Checked.{IsCheckedOf}
+use Rattle.tdf_layout.specs.low.expr.Frames.{IsOfFormat}
+use Rattle.tdf_layout.specs.low.firing.Actors.{HasTaken}
+use Rattle.tdf_layout.specs.low.fixed.declared.raw.Raw.{Raw}
+use Rattle.tdf_layout.specs.low.flat.declared.model.Flat.{Flat}
+use Rattle.tdf_layout.specs.low.flow.Firing.{fronts}
+use Rattle.tdf_layout.specs.low.rings.Carried.{ring_at}
+use Rattle.tdf_layout.specs.low.rings.Rings.{RingOf}
+use Rattle.tdf_layout.specs.low.schedule.declared.entry.Entry.{Entry}
+use Rattle.tdf_layout.specs.low.streams.Cluster.{Start, cluster_net}
+use Rattle.tdf_layout.specs.low.streams.Periods.{PeriodRecord}
+use Rattle.tdf_layout.specs.low.streams.Places.{actor_kind, reader_at}
+use Rattle.tdf_layout.specs.low.tree.Pure.{PureTree}
 
 -- lists of which one at most holds something
 flat_none : (ls : List (List Raw)) → ((d : ℕ) → slice_index_or ls d [] ≡ []) → flat_map (λ (l : List Raw). l) ls ≡ []

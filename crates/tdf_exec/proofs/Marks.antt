@@ -6,15 +6,15 @@ use Rattle.std.proofs.lemmas.List.{get_or-set_other, get_or-set_same, map-append
 use Rattle.std.proofs.lemmas.Option.{get_or_from_slice_get, slice_get_within}
 use Rattle.std.specs.List.{cons_option}
 use Rattle.std.specs.Prelude.{slice_get, slice_index_or, slice_set}
-use Rattle.tdf_bind.specs.Flat.{FlatOf}
-use Rattle.tdf_dynamic.specs.Attributes.{AttrsOf}
+use Rattle.tdf_layout.specs.low.bind.Flat.{FlatOf}
+use Rattle.tdf_layout.specs.low.dynamic.Attributes.{AttrsOf}
 use Rattle.tdf_exec.specs.Traced.{rate_of_row, signal_of_row, traced_port}
 use Rattle.tdf_layout.specs.Traced.{number_if_traced}
 use Rattle.tdf_exec.specs.declared.runners.TracedPort.{TracedPort}
 use Rattle.tdf_exec.specs.machine.Tracing.{AreTracedUpTo, is_written_traced, put_traced, traced_before, traced_row}
-use Rattle.tdf_streams.specs.Places.{place_of_port}
-use Rattle.tdf_wiring.proofs.Api.{filtered_next}
-use Rattle.tdf_wiring.specs.declared.modules.PortRow.{PortRow}
+use Rattle.tdf_layout.specs.low.streams.Places.{place_of_port}
+use Rattle.tdf_layout.proofs.Api.{filtered_next}
+use Rattle.tdf_layout.specs.low.wiring.declared.modules.PortRow.{PortRow}
 
 -- one port more
 module _ (tables : FlatOf) (table : List AttrsOf) (n : ℕ) (port : PortRow) (at : slice_get tables.ports n ≡ Some port) where

@@ -7,29 +7,29 @@ use Rattle.std.proofs.lemmas.List.FromFn.{length-map-range_with_len}
 use Rattle.std.proofs.lemmas.Option.{same_Some}
 use Rattle.std.specs.List.{All, list_any, range_with_len}
 use Rattle.std.specs.Prelude.{slice_get, slice_index}
-use Rattle.tdf_bind.specs.Flat.{FlatOf}
+use Rattle.tdf_layout.specs.low.bind.Flat.{FlatOf}
 use Rattle.tdf_exec.specs.Cluster.{ClusterOf}
 use Rattle.tdf_exec.specs.Made.{IsModuleOf, IsSamplerOf, IsSinkOf}
 use Rattle.tdf_layout.specs.Samples.{edge_format}
 use Rattle.tdf_exec.specs.machine.Fired.{HasFired}
 use Rattle.tdf_exec.specs.Runners.{ModuleOf, SamplerOf}
 use Rattle.tdf_exec.specs.machine.Steps.{AreMovedBy, kept}
-use Rattle.tdf_expr.specs.Frames.{IsOfFormat, PortsSeen}
-use Rattle.tdf_expr.specs.declared.spans.PortSpan.{PortSpan}
-use Rattle.tdf_firing.proofs.Api.{Passes, any_cases, writer_cases}
-use Rattle.tdf_firing.specs.Activation.{sample_at}
-use Rattle.tdf_firing.specs.Actors.{HasTaken, HavePut}
-use Rattle.tdf_firing.specs.Firing.{front_of, is_read, writer_of}
-use Rattle.tdf_firing.specs.Wires.{WiresOf}
-use Rattle.tdf_firing.specs.declared.wires.InWire.{InWire}
-use Rattle.tdf_firing.specs.declared.wires.OutWire.{OutWire}
-use Rattle.tdf_fixed.specs.declared.format.Format.{Format}
-use Rattle.tdf_fixed.specs.declared.raw.Raw.{Raw}
-use Rattle.tdf_flat.specs.declared.model.Flat.{Flat}
+use Rattle.tdf_layout.specs.low.expr.Frames.{IsOfFormat, PortsSeen}
+use Rattle.tdf_layout.specs.low.expr.declared.spans.PortSpan.{PortSpan}
+use Rattle.tdf_layout.proofs.Api.{Passes, any_cases, writer_cases}
+use Rattle.tdf_layout.specs.low.firing.Activation.{sample_at}
+use Rattle.tdf_layout.specs.low.firing.Actors.{HasTaken, HavePut}
+use Rattle.tdf_layout.specs.low.firing.Firing.{front_of, is_read, writer_of}
+use Rattle.tdf_layout.specs.low.firing.Wires.{WiresOf}
+use Rattle.tdf_layout.specs.low.firing.declared.wires.InWire.{InWire}
+use Rattle.tdf_layout.specs.low.firing.declared.wires.OutWire.{OutWire}
+use Rattle.tdf_layout.specs.low.fixed.declared.format.Format.{Format}
+use Rattle.tdf_layout.specs.low.fixed.declared.raw.Raw.{Raw}
+use Rattle.tdf_layout.specs.low.flat.declared.model.Flat.{Flat}
 use Rattle.tdf_layout.specs.Wiring.{AreWiresOf, Writes}
-use Rattle.tdf_rings.specs.Carried.{ring_at}
-use Rattle.tdf_rings.specs.Rings.{RingOf, ring_of}
-use Rattle.tdf_streams.specs.Places.{place_of_port, reader_at, source_at, writer_at}
+use Rattle.tdf_layout.specs.low.rings.Carried.{ring_at}
+use Rattle.tdf_layout.specs.low.rings.Rings.{RingOf, ring_of}
+use Rattle.tdf_layout.specs.low.streams.Places.{place_of_port, reader_at, source_at, writer_at}
 
 pub some_inj : {A : Type 0} (a b : A) → Some a ≡ Some b → a ≡ b
 some_inj a b e = same_Some a b e

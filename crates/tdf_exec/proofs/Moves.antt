@@ -6,7 +6,7 @@ use Rattle.std.proofs.lemmas.List.{length-map}
 use Rattle.std.proofs.lemmas.Option.{slice_get-map, slice_get_read, slice_get_within}
 use Rattle.std.proofs.lemmas.Simd.{map-map}
 use Rattle.std.specs.Prelude.{IfOk, slice_get, slice_index_or, slice_set}
-use Rattle.tdf_bind.specs.Flat.{FlatOf}
+use Rattle.tdf_layout.specs.low.bind.Flat.{FlatOf}
 use Rattle.tdf_changes.specs.Asked.{attrs_after}
 use Rattle.tdf_changes.specs.Change.{Asks}
 use Rattle.tdf_changes.specs.Given.{AreFramesOf, HaveCells, IsFrameOf}
@@ -14,8 +14,8 @@ use Rattle.tdf_changes.specs.Next.{IsNext}
 use Rattle.tdf_changes.specs.declared.frames.ModuleFrame.{ModuleFrame}
 use Rattle.tdf_changes.specs.declared.next.Next.{Next}
 use Rattle.tdf_changes.specs.declared.next.Next.TheVariants.{Changed, Same}
-use Rattle.tdf_dynamic.specs.Attributes.{AttrsOf}
-use Rattle.tdf_dynamic.specs.declared.err.ChangeErr.{ChangeErr}
+use Rattle.tdf_layout.specs.low.dynamic.Attributes.{AttrsOf}
+use Rattle.tdf_layout.specs.low.dynamic.declared.err.ChangeErr.{ChangeErr}
 use Rattle.tdf_exec.proofs.Keeping.{get_set, get_set_other}
 use Rattle.tdf_exec.proofs.Moved.{some_inj}
 use Rattle.tdf_exec.specs.Crossing.{cells_in, values_at}
@@ -23,8 +23,8 @@ use Rattle.tdf_exec.specs.Runners.{ModuleOf}
 use Rattle.tdf_exec.specs.declared.runners.Runner.{Runner}
 use Rattle.tdf_exec.specs.declared.runners.Runner.TheVariants as runner
 use Rattle.tdf_exec.specs.machine.Moving.{AreBack, AreInstances, AreModules, AreOut, HaveInstances, IsNone, RestOf, frame_of, numbers_of, rest_of, whole_of}
-use Rattle.tdf_flat.specs.declared.model.Flat.{Flat}
-use Rattle.tdf_flow.proofs.Api.{get_high, get_inside, get_low}
+use Rattle.tdf_layout.specs.low.flat.declared.model.Flat.{Flat}
+use Rattle.tdf_layout.proofs.Api.{get_high, get_inside, get_low}
 
 -- the number of a row that was read
 pub number_at : (rows : List AttrsOf) (i : ℕ) (x : AttrsOf) (n : ℕ) → i < length rows → x ≡ slice_index_or rows i x → n ≡ x.number → slice_get (numbers_of rows) i ≡ Some n

@@ -26,17 +26,17 @@ use Rattle.tdf_exec.specs.Traced.{traced_count}
 use Rattle.tdf_exec.specs.declared.runners.Runner.{Runner}
 use Rattle.tdf_exec.specs.declared.runners.Runner.TheVariants as runner
 use Rattle.tdf_exec.specs.machine.Steps.{AreInputsNext, ArePlayed, HasRoomNext, HasStepped, with_parts}
-use Rattle.tdf_fixed.specs.declared.raw.Raw.{Raw}
-use Rattle.tdf_flat.specs.declared.model.Flat.{Flat}
-use Rattle.tdf_flow.proofs.Api.{order_keeps}
-use Rattle.tdf_flow.specs.Net.{Net, Period}
-use Rattle.tdf_flow.specs.Playing.{IsPlayed, IsStep}
-use Rattle.tdf_flow.specs.Stands.{Play, Stands}
-use Rattle.tdf_rings.specs.Rings.{RingOf}
-use Rattle.tdf_schedule.specs.Plan.{done}
-use Rattle.tdf_schedule.specs.declared.entry.Entry.{Entry}
-use Rattle.tdf_streams.specs.Cluster.{cluster_net}
-use Rattle.tdf_streams.specs.Periods.{PeriodInfo, PeriodRecord}
+use Rattle.tdf_layout.specs.low.fixed.declared.raw.Raw.{Raw}
+use Rattle.tdf_layout.specs.low.flat.declared.model.Flat.{Flat}
+use Rattle.tdf_layout.proofs.Api.{order_keeps}
+use Rattle.tdf_layout.specs.low.flow.Net.{Net, Period}
+use Rattle.tdf_layout.specs.low.flow.Playing.{IsPlayed, IsStep}
+use Rattle.tdf_layout.specs.low.flow.Stands.{Play, Stands}
+use Rattle.tdf_layout.specs.low.rings.Rings.{RingOf}
+use Rattle.tdf_layout.specs.low.schedule.Plan.{done}
+use Rattle.tdf_layout.specs.low.schedule.declared.entry.Entry.{Entry}
+use Rattle.tdf_layout.specs.low.streams.Cluster.{cluster_net}
+use Rattle.tdf_layout.specs.low.streams.Periods.{PeriodInfo, PeriodRecord}
 
 played_more : {S V I : Type 0} (net : Net S V I) (old : List (Period I)) (p : Period I) (reads : ℕ → List V) (order : List ℕ) (m : ℕ) (y mid z : Play S V)
     → IsPlayed net old p reads order y mid → IsStep net old p reads m mid z → IsPlayed net old p reads (order ++ m ∷ []) y z

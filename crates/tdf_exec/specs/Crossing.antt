@@ -2,30 +2,30 @@
 -- Source: IEEE 1666.1-2016, changes of attributes between periods; the rest is own.
 use Rattle.std.specs.Prelude.{◌≡◌, ◌<◌, ◌++◌, ℕ, Bool, true, false, List, [], ◌∷◌, length, Some, ℤ}
 use Rattle.std.specs.Prelude.{Option, None, slice_get, slice_index}
-use Rattle.tdf_bind.specs.Flat.{FlatOf}
+use Rattle.tdf_layout.specs.low.bind.Flat.{FlatOf}
 use Rattle.tdf_changes.specs.Change.{Asks, asks_of}
 use Rattle.tdf_changes.specs.declared.next.Next.{Next}
 use Rattle.tdf_changes.specs.declared.next.Next.TheVariants.{Changed, Same}
-use Rattle.tdf_dynamic.specs.Attributes.{AttrsOf, clusters_of}
-use Rattle.tdf_dynamic.specs.Faults.{IsTablePlan}
+use Rattle.tdf_layout.specs.low.dynamic.Attributes.{AttrsOf, clusters_of}
+use Rattle.tdf_layout.specs.low.dynamic.Faults.{IsTablePlan}
 use Rattle.tdf_exec.specs.Cluster.{ClusterOf}
 use Rattle.tdf_exec.specs.Made.{HasRows, IsClusterOf, IsClusterWith, room_for}
 use Rattle.tdf_exec.specs.Played.{IsLike, IsPeriodOf, cells_of, play_of}
 use Rattle.tdf_exec.specs.Runners.{ModuleOf}
 use Rattle.tdf_exec.specs.declared.runners.Runner.{Runner}
 use Rattle.tdf_exec.specs.declared.runners.Runner.TheVariants as runner
-use Rattle.tdf_expr.specs.Checked.{IsCheckedOf}
-use Rattle.tdf_fixed.specs.declared.raw.Raw.{Raw}
-use Rattle.tdf_flat.specs.declared.model.Flat.{Flat}
-use Rattle.tdf_flow.specs.Stands.{Crosses, Stands}
-use Rattle.tdf_rings.specs.Carried.{ring_at}
-use Rattle.tdf_rings.specs.Rings.{RingOf, ring_of}
-use Rattle.tdf_schedule.specs.declared.entry.Plan.{Plan}
-use Rattle.tdf_streams.specs.Cluster.{Start, cluster_net}
-use Rattle.tdf_streams.specs.Periods.{AreAttributes, IsTimedRecord, PeriodRecord}
-use Rattle.tdf_streams.specs.Places.{has_changes}
-use Rattle.tdf_streams.specs.Starts.{ArePast, held_at_head}
-use Rattle.tdf_tree.specs.Pure.{PureTree}
+use Rattle.tdf_layout.specs.low.expr.Checked.{IsCheckedOf}
+use Rattle.tdf_layout.specs.low.fixed.declared.raw.Raw.{Raw}
+use Rattle.tdf_layout.specs.low.flat.declared.model.Flat.{Flat}
+use Rattle.tdf_layout.specs.low.flow.Stands.{Crosses, Stands}
+use Rattle.tdf_layout.specs.low.rings.Carried.{ring_at}
+use Rattle.tdf_layout.specs.low.rings.Rings.{RingOf, ring_of}
+use Rattle.tdf_layout.specs.low.schedule.declared.entry.Plan.{Plan}
+use Rattle.tdf_layout.specs.low.streams.Cluster.{Start, cluster_net}
+use Rattle.tdf_layout.specs.low.streams.Periods.{AreAttributes, IsTimedRecord, PeriodRecord}
+use Rattle.tdf_layout.specs.low.streams.Places.{has_changes}
+use Rattle.tdf_layout.specs.low.streams.Starts.{ArePast, held_at_head}
+use Rattle.tdf_layout.specs.low.tree.Pure.{PureTree}
 
 -- no module of the cluster has a body that changes attributes
 abbrev pub HasNoChanges : FlatOf → (cluster : ℕ) → Type 0

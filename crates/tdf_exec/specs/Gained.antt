@@ -3,11 +3,11 @@
 use Rattle.std.specs.List.{flat_map, sum_by}
 use Rattle.std.specs.Prelude.{◌≡◌, ℕ, ◌+◌, ◌≤◌, if◌then◌else◌, nat_eq, List, [], ◌∷◌, ◌++◌}
 use Rattle.std.specs.Prelude.{All, length, map, drop, Option, Some, slice_get, ℤ}
-use Rattle.tdf_bind.specs.Flat.{FlatOf}
+use Rattle.tdf_layout.specs.low.bind.Flat.{FlatOf}
 use Rattle.tdf_convert.specs.Outputs.{OutputsOf}
 use Rattle.tdf_convert.specs.declared.outputs.Sent.{Sent}
 use Rattle.tdf_convert.specs.declared.outputs.Traced.{Traced}
-use Rattle.tdf_dynamic.specs.Attributes.{AttrsOf}
+use Rattle.tdf_layout.specs.low.dynamic.Attributes.{AttrsOf}
 use Rattle.tdf_exec.specs.Cluster.{ClusterOf}
 use Rattle.tdf_exec.specs.Played.{AreAllGiven, IsPeriodOf, actors_between, play_of}
 use Rattle.tdf_exec.specs.Traced.{traced_count, turn_samples}
@@ -16,22 +16,22 @@ use Rattle.tdf_layout.specs.Traced.{traced_ports}
 use Rattle.tdf_layout.specs.Wiring.{Reads}
 use Rattle.tdf_exec.specs.declared.runners.Runner.{Runner}
 use Rattle.tdf_exec.specs.declared.runners.Runner.TheVariants as runner
-use Rattle.tdf_expr.specs.Checked.{IsCheckedOf}
-use Rattle.tdf_expr.specs.Frames.{IsOfFormat}
-use Rattle.tdf_fixed.specs.declared.format.Format.{Format}
-use Rattle.tdf_fixed.specs.declared.raw.Raw.{Raw}
-use Rattle.tdf_flat.specs.declared.model.Flat.{Flat}
-use Rattle.tdf_flow.specs.Firing.{fronts}
-use Rattle.tdf_flow.specs.Net.{Net, Turn}
-use Rattle.tdf_flow.specs.Playing.{IsStep}
-use Rattle.tdf_flow.specs.Stands.{Play}
-use Rattle.tdf_graph.specs.declared.actors.Actor.{Actor}
-use Rattle.tdf_graph.specs.declared.actors.Actor.TheVariants as actor
-use Rattle.tdf_schedule.specs.declared.entry.Entry.{Entry}
-use Rattle.tdf_streams.specs.Cluster.{Start, cluster_net}
-use Rattle.tdf_streams.specs.Periods.{PeriodInfo, PeriodRecord}
-use Rattle.tdf_streams.specs.Places.{actor_kind}
-use Rattle.tdf_tree.specs.Pure.{PureTree}
+use Rattle.tdf_layout.specs.low.expr.Checked.{IsCheckedOf}
+use Rattle.tdf_layout.specs.low.expr.Frames.{IsOfFormat}
+use Rattle.tdf_layout.specs.low.fixed.declared.format.Format.{Format}
+use Rattle.tdf_layout.specs.low.fixed.declared.raw.Raw.{Raw}
+use Rattle.tdf_layout.specs.low.flat.declared.model.Flat.{Flat}
+use Rattle.tdf_layout.specs.low.flow.Firing.{fronts}
+use Rattle.tdf_layout.specs.low.flow.Net.{Net, Turn}
+use Rattle.tdf_layout.specs.low.flow.Playing.{IsStep}
+use Rattle.tdf_layout.specs.low.flow.Stands.{Play}
+use Rattle.tdf_layout.specs.low.graph.declared.actors.Actor.{Actor}
+use Rattle.tdf_layout.specs.low.graph.declared.actors.Actor.TheVariants as actor
+use Rattle.tdf_layout.specs.low.schedule.declared.entry.Entry.{Entry}
+use Rattle.tdf_layout.specs.low.streams.Cluster.{Start, cluster_net}
+use Rattle.tdf_layout.specs.low.streams.Periods.{PeriodInfo, PeriodRecord}
+use Rattle.tdf_layout.specs.low.streams.Places.{actor_kind}
+use Rattle.tdf_layout.specs.low.tree.Pure.{PureTree}
 
 abbrev pub sent_sample : (m : ℕ) → Raw → Sent
 sent_sample m value = record { actor = m; value = value }

@@ -8,4 +8,5 @@ pub mod Runners
 pub mod Starts
 pub mod Telling
 pub mod Traced
+pub mod low
 pub mod machine

@@ -4,10 +4,10 @@
 use Rattle.std.specs.List.{All, count_by}
 use Rattle.std.specs.Prelude.{◌≡◌, ℕ, zero, suc, ◌+◌, ◌-◌, ◌*◌, ◌^◌, ◌<◌, ◌≤◌, Bool, true, false}
 use Rattle.std.specs.Prelude.{List, None, Some, length, slice_get, slice_index, map, take}
-use Rattle.tdf_bind.specs.Flat.{FlatOf}
-use Rattle.tdf_dynamic.specs.Attributes.{AttrsOf, attrs_at, clusters_of, rates_in}
-use Rattle.tdf_dynamic.specs.Faults.{IsTablePlan}
-use Rattle.tdf_dynamic.specs.Rates.{net_of}
+use Rattle.tdf_layout.specs.low.bind.Flat.{FlatOf}
+use Rattle.tdf_layout.specs.low.dynamic.Attributes.{AttrsOf, attrs_at, clusters_of, rates_in}
+use Rattle.tdf_layout.specs.low.dynamic.Faults.{IsTablePlan}
+use Rattle.tdf_layout.specs.low.dynamic.Rates.{net_of}
 use Rattle.tdf_exec.specs.Cluster.{ClusterOf, next_offset}
 use Rattle.tdf_exec.specs.Runners.{ModuleOf, SamplerOf}
 use Rattle.tdf_exec.specs.Traced.{traced_port}
@@ -15,34 +15,34 @@ use Rattle.tdf_layout.specs.Traced.{traced_ports}
 use Rattle.tdf_exec.specs.declared.runners.Runner.{Runner}
 use Rattle.tdf_exec.specs.declared.runners.Runner.TheVariants as runner
 use Rattle.tdf_exec.specs.declared.runners.TracedPort.{TracedPort}
-use Rattle.tdf_expr.specs.Blocks.{PureBlock, blocks_of, body_of}
-use Rattle.tdf_expr.specs.Checked.{IsCheckedOf}
-use Rattle.tdf_expr.specs.Frames.{IsOfFormat}
-use Rattle.tdf_expr.specs.Made.{AreMadeFor}
-use Rattle.tdf_expr.specs.Runs.{scope_in}
-use Rattle.tdf_expr.specs.declared.bodies.Body.TheVariants.{Processing, Reinitialize}
-use Rattle.tdf_expr.specs.declared.checked.Checked.{Checked}
-use Rattle.tdf_expr.specs.declared.spans.PortSpan.{PortSpan}
-use Rattle.tdf_firing.specs.Firing.{AreZerosBehind}
-use Rattle.tdf_firing.specs.Wires.{AreWired}
-use Rattle.tdf_firing.specs.declared.wires.InWire.{InWire}
-use Rattle.tdf_firing.specs.declared.wires.OutWire.{OutWire}
-use Rattle.tdf_fixed.specs.declared.format.Format.{Format}
-use Rattle.tdf_flat.specs.declared.model.Flat.{Flat}
-use Rattle.tdf_graph.specs.declared.actors.Actor.{Actor}
-use Rattle.tdf_graph.specs.declared.actors.Actor.TheVariants as actor
+use Rattle.tdf_layout.specs.low.expr.Blocks.{PureBlock, blocks_of, body_of}
+use Rattle.tdf_layout.specs.low.expr.Checked.{IsCheckedOf}
+use Rattle.tdf_layout.specs.low.expr.Frames.{IsOfFormat}
+use Rattle.tdf_layout.specs.low.expr.Made.{AreMadeFor}
+use Rattle.tdf_layout.specs.low.expr.Runs.{scope_in}
+use Rattle.tdf_layout.specs.low.expr.declared.bodies.Body.TheVariants.{Processing, Reinitialize}
+use Rattle.tdf_layout.specs.low.expr.declared.checked.Checked.{Checked}
+use Rattle.tdf_layout.specs.low.expr.declared.spans.PortSpan.{PortSpan}
+use Rattle.tdf_layout.specs.low.firing.Firing.{AreZerosBehind}
+use Rattle.tdf_layout.specs.low.firing.Wires.{AreWired}
+use Rattle.tdf_layout.specs.low.firing.declared.wires.InWire.{InWire}
+use Rattle.tdf_layout.specs.low.firing.declared.wires.OutWire.{OutWire}
+use Rattle.tdf_layout.specs.low.fixed.declared.format.Format.{Format}
+use Rattle.tdf_layout.specs.low.flat.declared.model.Flat.{Flat}
+use Rattle.tdf_layout.specs.low.graph.declared.actors.Actor.{Actor}
+use Rattle.tdf_layout.specs.low.graph.declared.actors.Actor.TheVariants as actor
 use Rattle.tdf_layout.specs.Samples.{edge_format}
 use Rattle.tdf_layout.specs.Wiring.{AreEdgesOf, AreWiresOf, IsEdgeOf, Reads, Writes}
-use Rattle.tdf_meaning.specs.Bodies.{after_body}
-use Rattle.tdf_rings.specs.Carried.{ring_at}
-use Rattle.tdf_schedule.specs.Plan.{done}
-use Rattle.tdf_schedule.specs.declared.entry.Entry.{Entry}
-use Rattle.tdf_schedule.specs.declared.entry.Plan.{Plan}
-use Rattle.tdf_state.specs.State.{State}
-use Rattle.tdf_streams.specs.Periods.{AreAttributes, read_rates, write_rates}
-use Rattle.tdf_streams.specs.Places.{actor_kind, block_at, reader_at, writer_at}
-use Rattle.tdf_streams.specs.Starts.{held_at_head}
-use Rattle.tdf_tree.specs.Pure.{PureTree}
+use Rattle.tdf_layout.specs.low.meaning.Bodies.{after_body}
+use Rattle.tdf_layout.specs.low.rings.Carried.{ring_at}
+use Rattle.tdf_layout.specs.low.schedule.Plan.{done}
+use Rattle.tdf_layout.specs.low.schedule.declared.entry.Entry.{Entry}
+use Rattle.tdf_layout.specs.low.schedule.declared.entry.Plan.{Plan}
+use Rattle.tdf_layout.specs.low.state.State.{State}
+use Rattle.tdf_layout.specs.low.streams.Periods.{AreAttributes, read_rates, write_rates}
+use Rattle.tdf_layout.specs.low.streams.Places.{actor_kind, block_at, reader_at, writer_at}
+use Rattle.tdf_layout.specs.low.streams.Starts.{held_at_head}
+use Rattle.tdf_layout.specs.low.tree.Pure.{PureTree}
 
 -- an actor of a cluster, of a kind
 pub record IsActorOf (tables : FlatOf) (cluster m : ℕ) (kind : Actor) : Type 0 where

@@ -3,17 +3,17 @@
 use Rattle.std.specs.List.{range_with_len, sum_by}
 use Rattle.std.specs.Prelude.{ℕ, List, map}
 use Rattle.std.specs.Prelude.{Option, Some, None, slice_get, ℤ}
-use Rattle.tdf_bind.specs.Flat.{FlatOf}
+use Rattle.tdf_layout.specs.low.bind.Flat.{FlatOf}
 use Rattle.tdf_convert.specs.declared.outputs.Traced.{Traced}
-use Rattle.tdf_dynamic.specs.Attributes.{AttrsOf}
-use Rattle.tdf_dynamic.specs.Rates.{port_rate}
+use Rattle.tdf_layout.specs.low.dynamic.Attributes.{AttrsOf}
+use Rattle.tdf_layout.specs.low.dynamic.Rates.{port_rate}
 use Rattle.tdf_exec.specs.declared.runners.TracedPort.{TracedPort}
-use Rattle.tdf_expr.specs.Frames.{PortsSeen}
-use Rattle.tdf_firing.specs.Activation.{sample_at}
-use Rattle.tdf_fixed.specs.declared.raw.Raw.{Raw}
-use Rattle.tdf_flow.specs.Net.{Turn}
-use Rattle.tdf_streams.specs.Places.{place_of_port}
-use Rattle.tdf_wiring.specs.declared.modules.PortRow.{PortRow}
+use Rattle.tdf_layout.specs.low.expr.Frames.{PortsSeen}
+use Rattle.tdf_layout.specs.low.firing.Activation.{sample_at}
+use Rattle.tdf_layout.specs.low.fixed.declared.raw.Raw.{Raw}
+use Rattle.tdf_layout.specs.low.flow.Net.{Turn}
+use Rattle.tdf_layout.specs.low.streams.Places.{place_of_port}
+use Rattle.tdf_layout.specs.low.wiring.declared.modules.PortRow.{PortRow}
 
 abbrev pub signal_of_row : Option PortRow → ℕ
 signal_of_row None = 0

@@ -8,11 +8,11 @@ ghost use Rattle.tdf_layout.specs.declared.wiring.ActorWires.{ActorWires as Acto
 use crate::runners::{ModuleRunner, Runner, SamplerRunner, SinkRunner};
 use std::alloc::Global;
 use std::mem;
-use tdf_base::Memory;
-use tdf_expr::{Body, Frame, Ports, run_body};
-use tdf_firing::{Wires, law_begin};
-use tdf_flat::Flat;
 use tdf_layout::ActorWires;
+use tdf_layout::low::base::Memory;
+use tdf_layout::low::expr::{Body, Frame, Ports, run_body};
+use tdf_layout::low::firing::{Wires, law_begin};
+use tdf_layout::low::flat::Flat;
 
 /// A module, whose initialize body has run.
 fn begun(alloc: Global, flat: &Flat, number: usize, wires: Wires) -> Result<ModuleRunner, Memory>

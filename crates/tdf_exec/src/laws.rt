@@ -2,7 +2,7 @@
 
 ghost use Rattle.tdf_exec.specs.Laws.{HeadsHold, PlansAreSafe, RatesAreBegun, RatesAreKept};
 
-use tdf_schedule::law_present;
+use tdf_layout::low::schedule::law_present;
 
 /// Along the plan of its table only actors of a cluster fire, each firing finds its samples, and no edge holds more than
 /// its bound.

@@ -13,6 +13,7 @@
 //! - `tracing`: the ports of modules whose signals are traced.
 //! - `telling`: what a cluster in progress tells of itself.
 //! - `laws`: what holds of clusters in progress.
+//! - `low`: what the crates above use of the crates further below.
 #![tactic(auto)]
 
 mod asking;
@@ -21,6 +22,7 @@ mod cluster;
 mod crossing;
 mod filling;
 mod laws;
+pub mod low;
 mod moving;
 mod rating;
 mod restarting;

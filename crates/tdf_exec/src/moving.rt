@@ -2,7 +2,7 @@
 
 use crate::runners::{ModuleRunner, Runner, TracedPort};
 use std::marker::Model;
-use tdf_firing::Wires;
+use tdf_layout::low::firing::Wires;
 
 /// What is kept of a module beside its values and ports.
 #[derive(Drop)]
@@ -29,7 +29,7 @@ ghost use Rattle.tdf_exec.specs.machine.Moving.{AreBack, AreModules, AreOut, Res
 
 use std::mem;
 use tdf_changes::ModuleFrame;
-use tdf_dynamic::ModuleAttrs;
+use tdf_layout::low::dynamic::ModuleAttrs;
 
 /// Appends where there is room: it takes no memory.
 fn put_frame(list: &mut Vec<ModuleFrame>, frame: ModuleFrame)

@@ -1,16 +1,16 @@
 //! The rates in force, by edge.
 
 ghost use Rattle.std.specs.Prelude.{◌≡◌, IfOk, Some};
-ghost use Rattle.tdf_dynamic.specs.Rates.{AreRates, edge_kind, net_of, net_ports, read_rate_by, write_rate_by};
-ghost use Rattle.tdf_streams.specs.Periods.{read_rates, write_rates};
-ghost use Rattle.tdf_timestep.specs.Period.{rate_of};
+ghost use Rattle.tdf_layout.specs.low.dynamic.Rates.{AreRates, edge_kind, net_of, net_ports, read_rate_by, write_rate_by};
+ghost use Rattle.tdf_layout.specs.low.streams.Periods.{read_rates, write_rates};
+ghost use Rattle.tdf_layout.specs.low.timestep.Period.{rate_of};
 
 use std::alloc::Global;
-use tdf_base::Memory;
-use tdf_dynamic::Attrs;
-use tdf_flat::Flat;
-use tdf_tree::PortKind;
-use tdf_wiring::{EdgeRow, PortRow};
+use tdf_layout::low::base::Memory;
+use tdf_layout::low::dynamic::Attrs;
+use tdf_layout::low::flat::Flat;
+use tdf_layout::low::tree::PortKind;
+use tdf_layout::low::wiring::{EdgeRow, PortRow};
 
 /// The word of the port that gives an edge.
 fn edge_kind(ports: &[PortRow], edge: EdgeRow) -> Option<PortKind>

@@ -1,8 +1,8 @@
 //! What each actor needs to fire, and one firing.
 
 use std::marker::Model;
-use tdf_expr::{Frame, Ports};
-use tdf_firing::Wires;
+use tdf_layout::low::expr::{Frame, Ports};
+use tdf_layout::low::firing::Wires;
 
 /// A port that a body writes, whose signal is traced.
 #[derive(Clone, Copy, Debug, PartialEq, Eq)]
@@ -78,12 +78,12 @@ ghost use Rattle.tdf_exec.specs.Made.{IsInSpans};
 ghost use Rattle.tdf_exec.specs.Traced.{port_samples, traced_count};
 ghost use Rattle.tdf_exec.specs.declared.runners.Runner.TheVariants.{Module};
 ghost use Rattle.tdf_exec.specs.declared.runners.TracedPort.{TracedPort as TracedPortOf};
-ghost use Rattle.tdf_firing.specs.Actors.{HasTaken};
+ghost use Rattle.tdf_layout.specs.low.firing.Actors.{HasTaken};
 
 use tdf_convert::{Inputs, Outputs, Sent, Traced};
-use tdf_expr::Checked;
-use tdf_firing::{fire_module, fire_sampler, fire_sink};
-use tdf_rings::Ring;
+use tdf_layout::low::expr::Checked;
+use tdf_layout::low::firing::{fire_module, fire_sampler, fire_sink};
+use tdf_layout::low::rings::Ring;
 
 impl ModuleRunner {
     /// One firing.

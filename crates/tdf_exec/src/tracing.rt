@@ -20,22 +20,22 @@ impl Model for TracedPorts {
 
 ghost use Rattle.std.specs.List.{list_any};
 ghost use Rattle.std.specs.Prelude.{◌≡◌, ◌&&◌, ◌++◌, ◌∷◌, ◌<◌, ◌≤◌, ℕ, [], All, IfOk, OnOk, Some, length, replicate, slice_get};
-ghost use Rattle.tdf_dynamic.specs.Rates.{AreRates};
+ghost use Rattle.tdf_layout.specs.low.dynamic.Rates.{AreRates};
 ghost use Rattle.tdf_layout.specs.Traced.{is_trace_of};
 ghost use Rattle.tdf_exec.specs.machine.Tracing.{AreGivenTraced, AreMarked, AreTracedUpTo, is_written_traced, marked, put_traced, with_traced};
-ghost use Rattle.tdf_streams.specs.Places.{place_of_port};
-ghost use Rattle.tdf_wiring.specs.declared.modules.PortRow.{PortRow as PortRowOf};
+ghost use Rattle.tdf_layout.specs.low.streams.Places.{place_of_port};
+ghost use Rattle.tdf_layout.specs.low.wiring.declared.modules.PortRow.{PortRow as PortRowOf};
 
 use crate::runners::Runner;
 use std::alloc::Global;
 use std::mem;
-use tdf_base::Memory;
-use tdf_bind::Flat as FlatTables;
-use tdf_dynamic::Attrs;
-use tdf_flat::Flat;
+use tdf_layout::low::base::Memory;
+use tdf_layout::low::bind::Flat as FlatTables;
+use tdf_layout::low::dynamic::Attrs;
+use tdf_layout::low::flat::Flat;
+use tdf_layout::low::tree::PortKind;
+use tdf_layout::low::wiring::{PortRow, TraceRow};
 use tdf_layout::port_places;
-use tdf_tree::PortKind;
-use tdf_wiring::{PortRow, TraceRow};
 
 impl TracedPorts {
     fn new(alloc: Global) -> TracedPorts

@@ -1,3 +1,4 @@
+pub mod Api
 pub mod Blocked
 pub mod Declared
 pub mod Finely

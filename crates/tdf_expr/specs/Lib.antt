@@ -5,4 +5,5 @@ pub mod Frames
 pub mod Made
 pub mod Plans
 pub mod Runs
+pub mod low
 pub mod machine

@@ -7,6 +7,7 @@
 //! - `frames`: the values of an instance of a block.
 //! - `samples`: the samples of its ports, and what its bodies asked for.
 //! - `cells`, `rates`, `ports`, `events`, `spans`: what the values of a block look like.
+//! - `low`: what the crates above use of the crates further below.
 #![tactic(auto)]
 
 mod blocks;
@@ -16,6 +17,7 @@ mod checked;
 mod checking;
 mod events;
 mod frames;
+pub mod low;
 mod modules;
 mod ports;
 mod rates;

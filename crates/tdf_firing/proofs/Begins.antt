@@ -19,10 +19,10 @@ use Rattle.tdf_firing.specs.declared.wires.InWire.{InWire}
 use Rattle.tdf_firing.specs.declared.wires.OutWire.{OutWire}
 use Rattle.tdf_firing.specs.machine.Filling.{AreFilledUpTo, CanFill, IsCleared, count_read, list_read, num_at}
 use Rattle.tdf_firing.specs.machine.Moving.{AreApart, AreChangedUpTo, CanGive, in_edge, out_edge, taken_by}
-use Rattle.tdf_fixed.specs.declared.raw.Raw.{Raw}
+use Rattle.tdf_expr.specs.low.fixed.declared.raw.Raw.{Raw}
 use Rattle.tdf_rings.specs.Carried.{ring_at}
 use Rattle.tdf_rings.specs.Rings.{RingOf}
-use Rattle.tdf_state.specs.State.{PortsState, cell_at}
+use Rattle.tdf_expr.specs.low.state.State.{PortsState, cell_at}
 
 -- how an activation begins
 pub cleared : (old new : PortsSeen) → ArePortsFit old → new ≡ record old { state = reset_state old.spans old.state } → IsCleared old new

@@ -13,9 +13,9 @@ use Rattle.tdf_expr.specs.declared.spans.PortSpan.{PortSpan}
 use Rattle.tdf_firing.specs.Activation.{num_of, port_samples, sample_of, samples_from}
 use Rattle.tdf_firing.specs.Firing.{HoldFormats}
 use Rattle.tdf_firing.specs.machine.Filling.{num_at}
-use Rattle.tdf_fixed.specs.declared.raw.Raw.{Raw}
-use Rattle.tdf_meaning.proofs.Api.{slice_left, slice_replicate, slice_right}
-use Rattle.tdf_state.specs.State.{cell_at}
+use Rattle.tdf_expr.specs.low.fixed.declared.raw.Raw.{Raw}
+use Rattle.tdf_expr.proofs.Api.{slice_left, slice_replicate, slice_right}
+use Rattle.tdf_expr.specs.low.state.State.{cell_at}
 
 -- what a place below the length has
 pub has_at : {A : Type 0} (xs : List A) (n : ℕ) → n < length xs → (x : A) × (slice_get xs n ≡ Some x)

@@ -19,11 +19,11 @@ use Rattle.tdf_firing.specs.Firing.{AreReadyFor, AreZerosBehind, rate_on, with_s
 use Rattle.tdf_firing.specs.Wires.{ArePlaced, WiresOf}
 use Rattle.tdf_firing.specs.declared.wires.InWire.{InWire}
 use Rattle.tdf_firing.specs.machine.Filling.{AreFilledUpTo, CanFill, IsFilled, count_all, count_in, list_zero, num_at, zeros, zeros_in}
-use Rattle.tdf_fixed.specs.Cast.{fraction_of}
-use Rattle.tdf_fixed.specs.Overflow.{IsIn}
-use Rattle.tdf_fixed.specs.declared.raw.Raw.{Raw}
-use Rattle.tdf_meaning.proofs.Api.{slice_replicate}
-use Rattle.tdf_state.specs.State.{cell_at}
+use Rattle.tdf_expr.specs.low.fixed.Cast.{fraction_of}
+use Rattle.tdf_expr.specs.low.fixed.Overflow.{IsIn}
+use Rattle.tdf_expr.specs.low.fixed.declared.raw.Raw.{Raw}
+use Rattle.tdf_expr.proofs.Api.{slice_replicate}
+use Rattle.tdf_expr.specs.low.state.State.{cell_at}
 
 zero_in : (signed : Bool) (wl : ℕ) → IsIn signed wl (pos 0)
 zero_in true wl = record { low = omega (arith, ints); high = omega (arith, ints) }

@@ -14,8 +14,8 @@ use Rattle.tdf_firing.specs.Activation.{num_of}
 use Rattle.tdf_firing.specs.declared.wires.InWire.{InWire}
 use Rattle.tdf_firing.specs.Firing.{with_samples}
 use Rattle.tdf_firing.specs.machine.Filling.{AreFilledUpTo, CanFill, IsFilled, num_at}
-use Rattle.tdf_fixed.specs.declared.raw.Raw.{Raw}
-use Rattle.tdf_state.specs.State.{cell_at}
+use Rattle.tdf_expr.specs.low.fixed.declared.raw.Raw.{Raw}
+use Rattle.tdf_expr.specs.low.state.State.{cell_at}
 
 -- ports with other samples have the same spans
 pub old_span : (samples : List ℤ) (old new : PortsSeen) (n : ℕ) (p : PortSpan) → new ≡ with_samples samples old → slice_get new.spans n ≡ Some p → slice_get old.spans n ≡ Some p

@@ -16,8 +16,8 @@ use Rattle.tdf_firing.specs.Firing.{CanFire, HoldFormats, front_of, left_on, wri
 use Rattle.tdf_firing.specs.Formats.{ModulesKeepFormats, SamplersKeepFormats, SinksKeepFormats}
 use Rattle.tdf_firing.specs.Wires.{WiresOf}
 use Rattle.tdf_firing.specs.declared.wires.OutWire.{OutWire}
-use Rattle.tdf_fixed.specs.declared.format.Format.{Format}
-use Rattle.tdf_fixed.specs.declared.raw.Raw.{Raw}
+use Rattle.tdf_expr.specs.low.fixed.declared.format.Format.{Format}
+use Rattle.tdf_expr.specs.low.fixed.declared.raw.Raw.{Raw}
 use Rattle.tdf_rings.specs.Carried.{ring_at}
 use Rattle.tdf_rings.specs.Rings.{RingOf}
 

@@ -9,10 +9,10 @@ use Rattle.tdf_firing.proofs.Cells.{has_at}
 use Rattle.tdf_firing.specs.Activation.{sample_at, sample_of}
 use Rattle.tdf_firing.specs.Firing.{front_of}
 use Rattle.tdf_firing.specs.machine.Moving.{CanGive, with_more}
-use Rattle.tdf_fixed.specs.Cast.{fraction_of}
-use Rattle.tdf_fixed.specs.declared.raw.Raw.{Raw}
+use Rattle.tdf_expr.specs.low.fixed.Cast.{fraction_of}
+use Rattle.tdf_expr.specs.low.fixed.declared.raw.Raw.{Raw}
 use Rattle.tdf_rings.specs.Rings.{RingOf, ring_of}
-use Rattle.tdf_state.specs.State.{cell_at}
+use Rattle.tdf_expr.specs.low.state.State.{cell_at}
 
 front_long : (ports : PortsSeen) (port n : ℕ) → length (front_of ports (Some port) n) ≡ n
 front_long ports port n = length-map-range_with_len (sample_at ports.spans ports.state.samples port) 0 n

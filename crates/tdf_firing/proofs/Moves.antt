@@ -14,7 +14,7 @@ use Rattle.tdf_firing.specs.Wires.{WiresOf}
 use Rattle.tdf_firing.specs.declared.wires.InWire.{InWire}
 use Rattle.tdf_firing.specs.declared.wires.OutWire.{OutWire}
 use Rattle.tdf_firing.specs.machine.Moving.{AreApart, AreChangedUpTo, in_edge, out_edge, put_by, taken_by, with_more, without}
-use Rattle.tdf_fixed.specs.declared.raw.Raw.{Raw}
+use Rattle.tdf_expr.specs.low.fixed.declared.raw.Raw.{Raw}
 use Rattle.tdf_rings.specs.Carried.{ring_at}
 use Rattle.tdf_rings.specs.Rings.{RingOf, ring_of}
 

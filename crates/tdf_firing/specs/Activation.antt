@@ -4,9 +4,9 @@
 use Rattle.std.specs.Prelude.{ℕ, ◌+◌, ◌-◌, false, List, [], ◌∷◌, ◌++◌, length, map, replicate, take}
 use Rattle.std.specs.Prelude.{Option, Some, None, ℤ, pos, slice_get}
 use Rattle.tdf_expr.specs.declared.spans.PortSpan.{PortSpan}
-use Rattle.tdf_fixed.specs.Cast.{fraction_of}
-use Rattle.tdf_fixed.specs.declared.raw.Raw.{Raw}
-use Rattle.tdf_state.specs.State.{PortsState, cell_at}
+use Rattle.tdf_expr.specs.low.fixed.Cast.{fraction_of}
+use Rattle.tdf_expr.specs.low.fixed.declared.raw.Raw.{Raw}
+use Rattle.tdf_expr.specs.low.state.State.{PortsState, cell_at}
 
 abbrev pub num_of : Raw → ℤ
 num_of x = x.num

@@ -14,10 +14,10 @@ use Rattle.tdf_firing.specs.Activation.{ports_before, sample_at}
 use Rattle.tdf_firing.specs.Wires.{WiresOf}
 use Rattle.tdf_firing.specs.declared.wires.InWire.{InWire}
 use Rattle.tdf_firing.specs.declared.wires.OutWire.{OutWire}
-use Rattle.tdf_fixed.specs.declared.raw.Raw.{Raw}
+use Rattle.tdf_expr.specs.low.fixed.declared.raw.Raw.{Raw}
 use Rattle.tdf_rings.specs.Carried.{ring_at}
 use Rattle.tdf_rings.specs.Rings.{RingOf, ring_of}
-use Rattle.tdf_state.specs.State.{cell_at, state_of}
+use Rattle.tdf_expr.specs.low.state.State.{cell_at, state_of}
 
 -- ports with other samples
 abbrev pub with_samples : List ℤ → PortsSeen → PortsSeen

@@ -8,8 +8,8 @@ use Rattle.tdf_firing.specs.Firing.{AreMoved, AreOfFormats, CanFire, HoldFormats
 use Rattle.tdf_firing.specs.Wires.{WiresOf}
 use Rattle.tdf_firing.specs.declared.wires.InWire.{InWire}
 use Rattle.tdf_firing.specs.declared.wires.OutWire.{OutWire}
-use Rattle.tdf_fixed.specs.declared.format.Format.{Format}
-use Rattle.tdf_fixed.specs.declared.raw.Raw.{Raw}
+use Rattle.tdf_expr.specs.low.fixed.declared.format.Format.{Format}
+use Rattle.tdf_expr.specs.low.fixed.declared.raw.Raw.{Raw}
 use Rattle.tdf_rings.specs.Carried.{ring_at}
 use Rattle.tdf_rings.specs.Rings.{RingOf}
 

@@ -3,4 +3,5 @@ pub mod Actors
 pub mod Firing
 pub mod Formats
 pub mod Wires
+pub mod low
 pub mod machine

@@ -10,7 +10,7 @@ ghost use Rattle.tdf_firing.specs.machine.Filling.{AreFilledUpTo, IsFilled, coun
 
 use crate::wires::{InWire, Wires};
 use tdf_expr::Ports;
-use tdf_fixed::Raw;
+use tdf_expr::low::fixed::Raw;
 
 /// The samples of a port are 0.
 fn clear_port(ports: &mut Ports, port: u32)

@@ -11,8 +11,8 @@ ghost use Rattle.tdf_rings.specs.Carried.{ring_at};
 use crate::putting::{put_on_all, put_outputs};
 use crate::taking::{clear, take_inputs};
 use crate::wires::Wires;
+use tdf_expr::low::fixed::Raw;
 use tdf_expr::{Body, Checked, Frame, Ports, run_body};
-use tdf_fixed::Raw;
 use tdf_rings::Ring;
 
 /// One firing of a module, an instance of the block of this number: it takes the samples that it reads, its processing

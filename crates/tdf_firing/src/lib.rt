@@ -7,11 +7,13 @@
 //! - `clearing`: the samples that ports read are 0 again.
 //! - `firing`: one firing of a module, of a sampler and of a sink.
 //! - `laws`: what holds of the definitions.
+//! - `low`: what the crates above use of the crates further below.
 #![tactic(auto)]
 
 mod clearing;
 mod firing;
 mod laws;
+pub mod low;
 mod putting;
 mod taking;
 mod wires;

@@ -9,7 +9,7 @@ ghost use Rattle.tdf_rings.specs.Carried.{ring_at};
 
 use crate::wires::OutWire;
 use tdf_expr::Ports;
-use tdf_fixed::Raw;
+use tdf_expr::low::fixed::Raw;
 use tdf_rings::Ring;
 
 /// The first `n` samples of a port go on a ring.

@@ -4,30 +4,30 @@ use Rattle.std.proofs.lemmas.Bool.Decides.{nat_tests}
 use Rattle.std.proofs.lemmas.List.Elements.{All-from_recursion}
 use Rattle.std.specs.List.{AllByRecursion, flat_map}
 use Rattle.std.specs.Prelude.{nat_lt, false}
-use Rattle.tdf_base.specs.Limits.{greatest_delay}
-use Rattle.tdf_base.specs.declared.codes.Code.TheVariants as code
+use Rattle.tdf_roles.specs.low.base.Limits.{greatest_delay}
+use Rattle.tdf_roles.specs.low.base.declared.codes.Code.TheVariants as code
 use Rattle.tdf_bind.specs.Flat.{IsShortRole}
-use Rattle.tdf_checks.specs.Blocks.{bodies_faults, composite_faults, tdf_faults}
-use Rattle.tdf_checks.specs.Lines.{attr_faults, initial_faults, tdf_line_faults}
-use Rattle.tdf_checks.specs.Types.{global_faults, traces_faults, type_faults}
-use Rattle.tdf_faults.proofs.Api.{if_none, none_first, none_second}
-use Rattle.tdf_faults.specs.First.{fault_if}
+use Rattle.tdf_expr.specs.low.checks.Blocks.{bodies_faults, composite_faults, tdf_faults}
+use Rattle.tdf_expr.specs.low.checks.Lines.{attr_faults, initial_faults, tdf_line_faults}
+use Rattle.tdf_expr.specs.low.checks.Types.{global_faults, traces_faults, type_faults}
+use Rattle.tdf_roles.proofs.Api.{if_none, none_first, none_second}
+use Rattle.tdf_roles.specs.low.faults.First.{fault_if}
 use Rattle.tdf_flat.proofs.Things.{AllThings, all_changed, all_named}
 use Rattle.tdf_flat.specs.Laws.{DelaysAreShort}
-use Rattle.tdf_links.specs.Ports.{ports_of_tdf}
-use Rattle.tdf_meaning.proofs.Api.{found}
+use Rattle.tdf_roles.specs.low.links.Ports.{ports_of_tdf}
+use Rattle.tdf_roles.proofs.Api.{found}
 use Rattle.tdf_roles.specs.Roles.{delay_of_port, port_data, roles_from, roles_of}
-use Rattle.tdf_scope.specs.Index.{kind_faults}
-use Rattle.tdf_scope.specs.Names.{Names, Thing, Port, no_names, place_of, thing_of}
-use Rattle.tdf_scope.specs.Names.{at_delay, at_rate, globals_of, tdf_names, with_attr, with_attrs, with_store, with_tdf_line, with_tdf_lines}
-use Rattle.tdf_scope.specs.Scope.{Scope, tdf_scope}
-use Rattle.tdf_scope.specs.declared.kinds.Place.TheVariants as place
-use Rattle.tdf_tree.specs.Pure.{PureStore, SConst, SVar, SArray, PureTdfLine, TPort, TStore, TRate, PureTdf, PureComposite, PureGlobal, GShape, GTdf, GDe, GNet}
-use Rattle.tdf_tree.specs.declared.blocks.Attr.TheVariants as attr
-use Rattle.tdf_tree.specs.declared.blocks.Attr.{Attr}
-use Rattle.tdf_tree.specs.declared.blocks.PortLine.{PortLine}
-use Rattle.tdf_tree.specs.declared.stmt.Limit.{Limit}
-use Rattle.tdf_wiring.specs.declared.roles.PortData.{PortData}
+use Rattle.tdf_roles.specs.low.scope.Index.{kind_faults}
+use Rattle.tdf_roles.specs.low.scope.Names.{Names, Thing, Port, no_names, place_of, thing_of}
+use Rattle.tdf_roles.specs.low.scope.Names.{at_delay, at_rate, globals_of, tdf_names, with_attr, with_attrs, with_store, with_tdf_line, with_tdf_lines}
+use Rattle.tdf_roles.specs.low.scope.Scope.{Scope, tdf_scope}
+use Rattle.tdf_roles.specs.low.scope.declared.kinds.Place.TheVariants as place
+use Rattle.tdf_roles.specs.low.tree.Pure.{PureStore, SConst, SVar, SArray, PureTdfLine, TPort, TStore, TRate, PureTdf, PureComposite, PureGlobal, GShape, GTdf, GDe, GNet}
+use Rattle.tdf_roles.specs.low.tree.declared.blocks.Attr.TheVariants as attr
+use Rattle.tdf_roles.specs.low.tree.declared.blocks.Attr.{Attr}
+use Rattle.tdf_roles.specs.low.tree.declared.blocks.PortLine.{PortLine}
+use Rattle.tdf_roles.specs.low.tree.declared.stmt.Limit.{Limit}
+use Rattle.tdf_roles.specs.low.wiring.declared.roles.PortData.{PortData}
 
 -- what a name stands for has no great delay
 abbrev IsShortThing : Thing → Type 0

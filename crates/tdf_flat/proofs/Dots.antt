@@ -4,9 +4,9 @@ use Rattle.std.proofs.Math.ListN.{get_or}
 use Rattle.std.proofs.lemmas.List.{drop_more, drop_all, take_all}
 use Rattle.tdf_flat.specs.Flat.{dotted, trace_line}
 use Rattle.tdf_flat.specs.machine.Steps.{dotted_after}
-use Rattle.tdf_tree.specs.Views.{pure_trace}
-use Rattle.tdf_tree.specs.declared.tree.Trace1.{Trace1}
-use Rattle.tdf_wiring.specs.declared.traces.TraceLine.{TraceLine}
+use Rattle.tdf_roles.specs.low.tree.Views.{pure_trace}
+use Rattle.tdf_roles.specs.low.tree.declared.tree.Trace1.{Trace1}
+use Rattle.tdf_roles.specs.low.wiring.declared.traces.TraceLine.{TraceLine}
 
 -- one name more
 pub dots_more : (names : List (List ℕ)) (i : ℕ) (d : List ℕ) → i < length names → dotted_after (dotted (take i names)) i (get_or names i d) ≡ dotted (take (i + 1) names)

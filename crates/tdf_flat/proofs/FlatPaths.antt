@@ -4,15 +4,15 @@ use Rattle.std.specs.List.{enumerate_from}
 use Rattle.std.specs.Prelude.{filter, filter_map}
 use Rattle.tdf_bind.specs.Flat.{FlatOf, IsFlat}
 use Rattle.tdf_flat.proofs.Lists.{Differ, both_differ}
-use Rattle.tdf_walk.specs.Blocks.{BlockOf}
-use Rattle.tdf_walk.specs.Met.{met_in}
-use Rattle.tdf_walk.specs.Tables.{is_of, same_kind, signal_of}
-use Rattle.tdf_walk.specs.declared.tables.Signal.{Signal}
-use Rattle.tdf_wiring.specs.Drivers.{signal_row, signal_rows}
-use Rattle.tdf_wiring.specs.declared.drivers.SignalRow.{SignalRow}
-use Rattle.tdf_wiring.specs.declared.roles.Role.{Role}
-use Rattle.tdf_wiring.specs.declared.traces.TraceLine.{TraceLine}
-use Rattle.tdf_wiring.specs.declared.writers.Writer.{Writer}
+use Rattle.tdf_roles.specs.low.walk.Blocks.{BlockOf}
+use Rattle.tdf_roles.specs.low.walk.Met.{met_in}
+use Rattle.tdf_roles.specs.low.walk.Tables.{is_of, same_kind, signal_of}
+use Rattle.tdf_roles.specs.low.walk.declared.tables.Signal.{Signal}
+use Rattle.tdf_roles.specs.low.wiring.Drivers.{signal_row, signal_rows}
+use Rattle.tdf_roles.specs.low.wiring.declared.drivers.SignalRow.{SignalRow}
+use Rattle.tdf_roles.specs.low.wiring.declared.roles.Role.{Role}
+use Rattle.tdf_roles.specs.low.wiring.declared.traces.TraceLine.{TraceLine}
+use Rattle.tdf_roles.specs.low.wiring.declared.writers.Writer.{Writer}
 
 abbrev path_of : Signal → List ℕ
 path_of signal = signal.path

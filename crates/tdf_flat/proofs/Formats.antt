@@ -1,26 +1,26 @@
 -- The formats of the signals of a model without a fault of types are there, and are formats that there are.
 use Rattle.std.proofs.Common.{◌≡◌, ℕ, List, [], ◌∷◌, Option, Some, true, sym, subst}
 use Rattle.std.specs.List.{AllByRecursion, flat_map}
-use Rattle.tdf_checks.specs.Blocks.{composite_faults}
-use Rattle.tdf_checks.specs.Lines.{format_faults, member_faults}
-use Rattle.tdf_checks.specs.Types.{global_faults, traces_faults, type_faults}
-use Rattle.tdf_faults.proofs.Api.{none_first, none_second}
+use Rattle.tdf_expr.specs.low.checks.Blocks.{composite_faults}
+use Rattle.tdf_expr.specs.low.checks.Lines.{format_faults, member_faults}
+use Rattle.tdf_expr.specs.low.checks.Types.{global_faults, traces_faults, type_faults}
+use Rattle.tdf_roles.proofs.Api.{none_first, none_second}
 use Rattle.tdf_flat.proofs.Lists.{all_append}
 use Rattle.tdf_flat.proofs.Things.{AllThings, IsGlobal, globals_all, shape_legal}
-use Rattle.tdf_meaning.proofs.Api.{found, of_kind}
+use Rattle.tdf_roles.proofs.Api.{found, of_kind}
 use Rattle.tdf_resolve.specs.Resolved.{whole}
 use Rattle.tdf_resolve.specs.Signals.{Declared, declared_by}
-use Rattle.tdf_scope.specs.Kinds.{is_allowed}
-use Rattle.tdf_scope.specs.Names.{Names, Thing, Port, TypeName, format_of, globals_of, kind_of, place_of, thing_of, type_shape}
-use Rattle.tdf_scope.specs.Scope.{Scope, composite_scope}
-use Rattle.tdf_scope.specs.Sound.{HasFormat}
-use Rattle.tdf_scope.specs.declared.kinds.Place.TheVariants as place
-use Rattle.tdf_tree.specs.Pure.{PureComposite, PureGlobal, GShape, GTdf, GDe, GNet, PureTree}
-use Rattle.tdf_tree.specs.declared.blocks.Member.TheVariants as member
-use Rattle.tdf_tree.specs.declared.blocks.Member.{Member}
-use Rattle.tdf_tree.specs.declared.blocks.PortKind.TheVariants.{In, Out, DeIn, DeOut}
-use Rattle.tdf_tree.specs.declared.shapes.FormatRef.TheVariants as format
-use Rattle.tdf_tree.specs.declared.shapes.FormatRef.{FormatRef}
+use Rattle.tdf_roles.specs.low.scope.Kinds.{is_allowed}
+use Rattle.tdf_roles.specs.low.scope.Names.{Names, Thing, Port, TypeName, format_of, globals_of, kind_of, place_of, thing_of, type_shape}
+use Rattle.tdf_roles.specs.low.scope.Scope.{Scope, composite_scope}
+use Rattle.tdf_roles.specs.low.scope.Sound.{HasFormat}
+use Rattle.tdf_roles.specs.low.scope.declared.kinds.Place.TheVariants as place
+use Rattle.tdf_roles.specs.low.tree.Pure.{PureComposite, PureGlobal, GShape, GTdf, GDe, GNet, PureTree}
+use Rattle.tdf_roles.specs.low.tree.declared.blocks.Member.TheVariants as member
+use Rattle.tdf_roles.specs.low.tree.declared.blocks.Member.{Member}
+use Rattle.tdf_roles.specs.low.tree.declared.blocks.PortKind.TheVariants.{In, Out, DeIn, DeOut}
+use Rattle.tdf_roles.specs.low.tree.declared.shapes.FormatRef.TheVariants as format
+use Rattle.tdf_roles.specs.low.tree.declared.shapes.FormatRef.{FormatRef}
 
 -- the format of a line that declares a signal
 abbrev pub IsFormatted : Names → Declared → Type 0

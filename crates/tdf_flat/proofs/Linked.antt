@@ -2,7 +2,7 @@
 use Rattle.std.proofs.Common.{◌≡◌, Bool, true, false, List, [], ◌∷◌, Option, Some, None, refl, sym, ap, if◌then◌else◌}
 use Rattle.std.specs.Option.{option_map}
 use Rattle.std.specs.Prelude.{Result, Ok, Err, IfErr}
-use Rattle.tdf_base.specs.declared.faults.Fault.{Fault}
+use Rattle.tdf_roles.specs.low.base.declared.faults.Fault.{Fault}
 use Rattle.tdf_bind.specs.Flat.{FlatOf, IsFlatRefusal}
 use Rattle.tdf_bind.specs.declared.flat.BindErr.{BindErr}
 use Rattle.tdf_bind.specs.declared.flat.BindErr.TheVariants.{Refused, Memory}
@@ -10,12 +10,12 @@ use Rattle.tdf_expr.specs.Blocks.{blocks_of}
 use Rattle.tdf_expr.specs.Compiled.{AreBlocksOf}
 use Rattle.tdf_expr.specs.declared.blocks.Block.{Block}
 use Rattle.tdf_flat.specs.Flat.{IsBindFault, OfLine, OfTables, IsBindRefusal, IsLinked, top_place, trace_lines}
-use Rattle.tdf_links.specs.Faults.{LinkFault, comes_before, lesser, least_with, first_of, fault_of}
-use Rattle.tdf_links.specs.Links.{link_faults}
+use Rattle.tdf_roles.specs.low.links.Faults.{LinkFault, comes_before, lesser, least_with, first_of, fault_of}
+use Rattle.tdf_roles.specs.low.links.Links.{link_faults}
 use Rattle.tdf_roles.specs.Roles.{AreModulesSound, roles_of}
-use Rattle.tdf_scope.specs.Names.{Names}
-use Rattle.tdf_tree.specs.Pure.{PureGlobal, GShape, GTdf, GDe, GNet, PureTree}
-use Rattle.tdf_walk.specs.Blocks.{BlockOf}
+use Rattle.tdf_roles.specs.low.scope.Names.{Names}
+use Rattle.tdf_roles.specs.low.tree.Pure.{PureGlobal, GShape, GTdf, GDe, GNet, PureTree}
+use Rattle.tdf_roles.specs.low.walk.Blocks.{BlockOf}
 
 stays_some : (faults : List LinkFault) (f : LinkFault) → least_with (Some f) faults ≡ None → ⊥
 unfolding least_with lesser

@@ -2,7 +2,7 @@
 use Rattle.std.proofs.Common.{◌≡◌, ◌∙◌, ℕ, true, false, List, [], Some, None, length, refl, sym, ap, subst, true≢false}
 use Rattle.std.proofs.lemmas.List.{map-id}
 use Rattle.std.proofs.lemmas.Option.{none-some, same_Some}
-use Rattle.tdf_base.specs.declared.faults.Fault.{Fault}
+use Rattle.tdf_roles.specs.low.base.declared.faults.Fault.{Fault}
 use Rattle.tdf_bind.specs.Flat.{FlatOf, FollowsFrom, HasFault, IsFirstFault, IsFlat}
 use Rattle.tdf_flat.proofs.FlatPaths.{flat_differ}
 use Rattle.tdf_flat.proofs.Lists.{Differ, one_place}
@@ -14,18 +14,18 @@ use Rattle.tdf_flat.proofs.OwnNames.{own_names}
 use Rattle.tdf_flat.proofs.OwnPaths.{all_own, paths_are}
 use Rattle.tdf_flat.specs.Flat.{OfLine, OfSize, OfTables, top_place, trace_lines}
 use Rattle.tdf_flat.specs.Laws.{PassesChecks, StandOnce, paths_in, signal_paths, BlocksAreOne, PathsAreUnique, FlatPathsAreUnique, FaultIsOne, FaultOrFlat, TablesAreOne}
-use Rattle.tdf_links.specs.Faults.{LinkFault, fault_of, first_of, least_with}
-use Rattle.tdf_links.specs.Links.{link_faults}
+use Rattle.tdf_roles.specs.low.links.Faults.{LinkFault, fault_of, first_of, least_with}
+use Rattle.tdf_roles.specs.low.links.Links.{link_faults}
 use Rattle.tdf_names.proofs.Api.{names_once}
 use Rattle.tdf_names.specs.Names.{name_faults}
 use Rattle.tdf_resolve.specs.Counts.{is_too_many}
 use Rattle.tdf_resolve.specs.Resolved.{AreResolved}
 use Rattle.tdf_roles.specs.Roles.{roles_of}
-use Rattle.tdf_tree.specs.Kept.{IsKept}
-use Rattle.tdf_tree.specs.Pure.{PureTree}
-use Rattle.tdf_walk.specs.Blocks.{BlockOf}
-use Rattle.tdf_walk.specs.Met.{met_in}
-use Rattle.tdf_walk.specs.Tables.{TablesOf, IsTable}
+use Rattle.tdf_roles.specs.low.tree.Kept.{IsKept}
+use Rattle.tdf_roles.specs.low.tree.Pure.{PureTree}
+use Rattle.tdf_roles.specs.low.walk.Blocks.{BlockOf}
+use Rattle.tdf_roles.specs.low.walk.Met.{met_in}
+use Rattle.tdf_roles.specs.low.walk.Tables.{TablesOf, IsTable}
 
 once_at : (paths : List (List ℕ)) → Differ paths → StandOnce paths
 once_at paths differ i j path at there = one_place (λ (p : List ℕ). p) paths (subst Differ (sym (map-id paths)) differ) i j path path at there refl

@@ -3,18 +3,18 @@ use Rattle.std.proofs.Common.{◌≡◌, ◌∙◌, ◌≤◌, ◌-◌, List, []
 use Rattle.std.specs.List.{AllByRecursion, AllZip, flat_map}
 use mathlib.Core.HLevel.{is_prop→PathP}
 use native.Mathlib.Bridge.{le_prop}
-use Rattle.tdf_fixed.specs.declared.format.Format.{Format}
+use Rattle.tdf_roles.specs.low.fixed.declared.format.Format.{Format}
 use Rattle.tdf_flat.proofs.Formats.{IsFormatted, AreFormatted, formats_there}
-use Rattle.tdf_links.specs.Ports.{Known, no_blocks, ports_of_composite, ports_of_de, ports_of_tdf, with_block}
+use Rattle.tdf_roles.specs.low.links.Ports.{Known, no_blocks, ports_of_composite, ports_of_de, ports_of_tdf, with_block}
 use Rattle.tdf_resolve.specs.Resolved.{AreBlocks, AreResolved, IsComposite, whole}
 use Rattle.tdf_resolve.specs.Signals.{Declared, IsFormatOf, IsSignal, declared_by, start_of}
-use Rattle.tdf_scope.specs.Names.{Names, format_of, globals_of}
-use Rattle.tdf_scope.specs.Sound.{HasFormat}
-use Rattle.tdf_checks.specs.Types.{type_faults}
-use Rattle.tdf_tree.specs.Pure.{PureComposite, PureGlobal, GShape, GTdf, GDe, GNet, PureTree}
-use Rattle.tdf_tree.specs.declared.shapes.Shape.{Shape}
-use Rattle.tdf_walk.specs.Blocks.{BlockOf}
-use Rattle.tdf_walk.specs.declared.blocks.SignalLine.{SignalLine}
+use Rattle.tdf_roles.specs.low.scope.Names.{Names, format_of, globals_of}
+use Rattle.tdf_roles.specs.low.scope.Sound.{HasFormat}
+use Rattle.tdf_expr.specs.low.checks.Types.{type_faults}
+use Rattle.tdf_roles.specs.low.tree.Pure.{PureComposite, PureGlobal, GShape, GTdf, GDe, GNet, PureTree}
+use Rattle.tdf_roles.specs.low.tree.declared.shapes.Shape.{Shape}
+use Rattle.tdf_roles.specs.low.walk.Blocks.{BlockOf}
+use Rattle.tdf_roles.specs.low.walk.declared.blocks.SignalLine.{SignalLine}
 
 -- two formats of equal parts: the facts that each keeps have one proof
 same_format : (f g : Format) → f.signed ≡ g.signed → f.wl ≡ g.wl → f.iwl ≡ g.iwl → f.quant ≡ g.quant → f.over ≡ g.over → f ≡ g

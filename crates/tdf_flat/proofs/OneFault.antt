@@ -5,19 +5,19 @@ use Rattle.std.proofs.lemmas.Option.{none-some, same_Some}
 use Rattle.std.specs.List.{AllZip, cons_option}
 use Rattle.std.specs.Option.{option_map}
 use Rattle.std.specs.Prelude.{slice_get}
-use Rattle.tdf_base.specs.declared.faults.Fault.{Fault}
+use Rattle.tdf_roles.specs.low.base.declared.faults.Fault.{Fault}
 use Rattle.tdf_bind.specs.Actors.{AreActors, cluster_of}
 use Rattle.tdf_bind.specs.Flat.{FlatOf, FollowsFrom, HasManyClusters, IsFirstFault, OfDriver, OfTrace, OfClusters}
 use Rattle.tdf_bind.specs.Flat.{count_in, driver_faults_in, driver_report, edges_in, ports_in, signals_in, trace_report}
 use Rattle.tdf_flat.proofs.OneFlat.{one_actors, same_edges, same_graph}
-use Rattle.tdf_graph.specs.Clusters.{greatest}
-use Rattle.tdf_walk.specs.Tables.{TablesOf}
-use Rattle.tdf_wiring.specs.Drivers.{faults_in, signal_rows, writers_in}
-use Rattle.tdf_wiring.specs.Modules.{module_row, placed_modules}
-use Rattle.tdf_wiring.specs.Traces.{IsTraceOf, unknown_line, unknown_lines}
-use Rattle.tdf_wiring.specs.declared.roles.Role.{Role}
-use Rattle.tdf_wiring.specs.declared.traces.TraceLine.{TraceLine}
-use Rattle.tdf_wiring.specs.declared.traces.TraceRow.{TraceRow}
+use Rattle.tdf_bind.specs.low.graph.Clusters.{greatest}
+use Rattle.tdf_roles.specs.low.walk.Tables.{TablesOf}
+use Rattle.tdf_roles.specs.low.wiring.Drivers.{faults_in, signal_rows, writers_in}
+use Rattle.tdf_roles.specs.low.wiring.Modules.{module_row, placed_modules}
+use Rattle.tdf_roles.specs.low.wiring.Traces.{IsTraceOf, unknown_line, unknown_lines}
+use Rattle.tdf_roles.specs.low.wiring.declared.roles.Role.{Role}
+use Rattle.tdf_roles.specs.low.wiring.declared.traces.TraceLine.{TraceLine}
+use Rattle.tdf_roles.specs.low.wiring.declared.traces.TraceRow.{TraceRow}
 
 -- where there are no faults there is no first one
 no_first : {A : Type 0} (report : A → Fault) (faults : List A) (fault : Fault) → faults ≡ [] → option_map report (slice_get faults 0) ≡ Some fault → ⊥

@@ -7,19 +7,19 @@ use Rattle.tdf_bind.specs.Actors.{AreActors, cluster_of, net_edge, place_of}
 use Rattle.tdf_bind.specs.Flat.{FlatOf, FollowsFrom}
 use Rattle.tdf_bind.specs.declared.actors.ActorRow.{ActorRow}
 use Rattle.tdf_flat.proofs.Lists.{head_same, none_there, tail_same}
-use Rattle.tdf_graph.proofs.Api.{same_clusters}
-use Rattle.tdf_graph.specs.Clusters.{AreClusters}
-use Rattle.tdf_walk.specs.Tables.{TablesOf}
-use Rattle.tdf_walk.specs.declared.tables.SignalNumber.{SignalNumber}
-use Rattle.tdf_wiring.specs.Drivers.{signal_rows, writers_in}
-use Rattle.tdf_wiring.specs.Edges.{edges_of}
-use Rattle.tdf_wiring.specs.Traces.{IsTraceOf}
-use Rattle.tdf_wiring.specs.declared.drivers.SignalRow.{SignalRow}
-use Rattle.tdf_wiring.specs.declared.edges.EdgeRow.{EdgeRow}
-use Rattle.tdf_wiring.specs.declared.modules.PortRow.{PortRow}
-use Rattle.tdf_wiring.specs.declared.roles.Role.{Role}
-use Rattle.tdf_wiring.specs.declared.traces.TraceLine.{TraceLine}
-use Rattle.tdf_wiring.specs.declared.traces.TraceRow.{TraceRow}
+use Rattle.tdf_bind.proofs.Api.{same_clusters}
+use Rattle.tdf_bind.specs.low.graph.Clusters.{AreClusters}
+use Rattle.tdf_roles.specs.low.walk.Tables.{TablesOf}
+use Rattle.tdf_roles.specs.low.walk.declared.tables.SignalNumber.{SignalNumber}
+use Rattle.tdf_roles.specs.low.wiring.Drivers.{signal_rows, writers_in}
+use Rattle.tdf_roles.specs.low.wiring.Edges.{edges_of}
+use Rattle.tdf_roles.specs.low.wiring.Traces.{IsTraceOf}
+use Rattle.tdf_roles.specs.low.wiring.declared.drivers.SignalRow.{SignalRow}
+use Rattle.tdf_roles.specs.low.wiring.declared.edges.EdgeRow.{EdgeRow}
+use Rattle.tdf_roles.specs.low.wiring.declared.modules.PortRow.{PortRow}
+use Rattle.tdf_roles.specs.low.wiring.declared.roles.Role.{Role}
+use Rattle.tdf_roles.specs.low.wiring.declared.traces.TraceLine.{TraceLine}
+use Rattle.tdf_roles.specs.low.wiring.declared.traces.TraceRow.{TraceRow}
 
 -- actors are their places and their clusters
 same_actor : (x y : ActorRow) → place_of x ≡ place_of y → x.cluster ≡ y.cluster → x ≡ y

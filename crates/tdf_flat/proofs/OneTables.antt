@@ -3,10 +3,10 @@ use Rattle.std.proofs.Common.{◌≡◌, ◌∙◌, ℕ, Bool, true, false, List
 use Rattle.std.specs.List.{AllZip}
 use Rattle.std.specs.Prelude.{filter, filter_map, slice_get}
 use Rattle.tdf_flat.proofs.Lists.{Differ, kept_differ, one_place}
-use Rattle.tdf_walk.specs.Met.{PlacedInstance, Met}
-use Rattle.tdf_walk.specs.Tables.{RowOf, TablesOf, table, signal_of, instance_of, is_of, signals_of, IsNumberOf, StandsFor, IsRowOf, IsTable}
-use Rattle.tdf_walk.specs.declared.tables.Signal.{Signal}
-use Rattle.tdf_walk.specs.declared.tables.SignalNumber.{SignalNumber}
+use Rattle.tdf_roles.specs.low.walk.Met.{PlacedInstance, Met}
+use Rattle.tdf_roles.specs.low.walk.Tables.{RowOf, TablesOf, table, signal_of, instance_of, is_of, signals_of, IsNumberOf, StandsFor, IsRowOf, IsTable}
+use Rattle.tdf_roles.specs.low.walk.declared.tables.Signal.{Signal}
+use Rattle.tdf_roles.specs.low.walk.declared.tables.SignalNumber.{SignalNumber}
 
 -- no two of some signals have the same path
 abbrev HaveOwnPaths : List Signal → Type 0

@@ -4,26 +4,26 @@ use Rattle.std.proofs.lemmas.Cmp.{nat_list_eq_equiv}
 use Rattle.std.specs.Cmp.Lexicographic.{pointwise}
 use Rattle.std.specs.List.{AllByRecursion, AllZip, flat_map, list_all}
 use Rattle.std.specs.Prelude.{nat_eq, nat_le, length}
-use Rattle.tdf_base.specs.Limits.{longest_name}
-use Rattle.tdf_base.specs.Names.{is_letter, is_part}
+use Rattle.tdf_roles.specs.low.base.Limits.{longest_name}
+use Rattle.tdf_roles.specs.low.base.Names.{is_letter, is_part}
 use Rattle.tdf_flat.proofs.Lists.{Differ}
 use Rattle.tdf_flat.proofs.OwnPaths.{HasOwnNames}
 use Rattle.tdf_flat.proofs.Paths.{HasNoPoint}
-use Rattle.tdf_links.specs.Ports.{Known, no_blocks, ports_named, ports_of_composite, ports_of_de, ports_of_tdf, with_block}
+use Rattle.tdf_roles.specs.low.links.Ports.{Known, no_blocks, ports_named, ports_of_composite, ports_of_de, ports_of_tdf, with_block}
 use Rattle.tdf_names.specs.Law.{AreApart, DeclaresOnce, HasNamesOnce}
 use Rattle.tdf_names.specs.Names.{Name, has, names_of_member}
 use Rattle.tdf_resolve.specs.Resolved.{AreBlocks, AreResolved, IsComposite, instance_of, instance_with, leaf, whole}
 use Rattle.tdf_resolve.specs.Signals.{Declared, IsSignal, declared_by}
 use Rattle.tdf_resolve.specs.Targets.{inside_of, target_of}
-use Rattle.tdf_scope.specs.Names.{Names, globals_of, place_in}
-use Rattle.tdf_tree.specs.Kept.{Each, IsKept, IsName, KeepsGlobal, KeepsMember}
-use Rattle.tdf_tree.specs.Pure.{PureComposite, PureGlobal, GShape, GTdf, GDe, GNet, PureTree}
-use Rattle.tdf_tree.specs.declared.blocks.Member.{Member}
-use Rattle.tdf_tree.specs.declared.blocks.Member.TheVariants as member
-use Rattle.tdf_tree.specs.declared.blocks.PortLine.{PortLine}
-use Rattle.tdf_walk.specs.Blocks.{InstanceOf, BlockOf}
-use Rattle.tdf_walk.specs.declared.blocks.SignalLine.{SignalLine}
-use Rattle.tdf_walk.specs.declared.blocks.Target.{Target}
+use Rattle.tdf_roles.specs.low.scope.Names.{Names, globals_of, place_in}
+use Rattle.tdf_roles.specs.low.tree.Kept.{Each, IsKept, IsName, KeepsGlobal, KeepsMember}
+use Rattle.tdf_roles.specs.low.tree.Pure.{PureComposite, PureGlobal, GShape, GTdf, GDe, GNet, PureTree}
+use Rattle.tdf_roles.specs.low.tree.declared.blocks.Member.{Member}
+use Rattle.tdf_roles.specs.low.tree.declared.blocks.Member.TheVariants as member
+use Rattle.tdf_roles.specs.low.tree.declared.blocks.PortLine.{PortLine}
+use Rattle.tdf_roles.specs.low.walk.Blocks.{InstanceOf, BlockOf}
+use Rattle.tdf_roles.specs.low.walk.declared.blocks.SignalLine.{SignalLine}
+use Rattle.tdf_roles.specs.low.walk.declared.blocks.Target.{Target}
 
 -- names that are apart differ
 or_first : (a b : Bool) → a || b ≡ false → a ≡ false

@@ -4,12 +4,12 @@ use Rattle.std.specs.List.{AllByRecursion, flat_map}
 use Rattle.std.specs.Prelude.{filter_map, slice_get}
 use Rattle.tdf_flat.proofs.Lists.{Differ, weaker, all_append, all_at, all_map, differ_append, differ_by}
 use Rattle.tdf_flat.proofs.Paths.{HasNoPoint, same_name, IsInside, inside_name, IsInsideOne, IsBelow, one_below, not_inside, one_inside}
-use Rattle.tdf_walk.specs.Blocks.{InstanceOf, BlockOf}
-use Rattle.tdf_walk.specs.Met.{Met, MetSignal, MetInstance, signal_at, placed, InsideOf, with_inside, in_block, inside}
-use Rattle.tdf_walk.specs.Paths.{path_in}
-use Rattle.tdf_walk.specs.Tables.{signal_of}
-use Rattle.tdf_walk.specs.declared.blocks.SignalLine.{SignalLine}
-use Rattle.tdf_walk.specs.declared.tables.Signal.{Signal}
+use Rattle.tdf_roles.specs.low.walk.Blocks.{InstanceOf, BlockOf}
+use Rattle.tdf_roles.specs.low.walk.Met.{Met, MetSignal, MetInstance, signal_at, placed, InsideOf, with_inside, in_block, inside}
+use Rattle.tdf_roles.specs.low.walk.Paths.{path_in}
+use Rattle.tdf_roles.specs.low.walk.Tables.{signal_of}
+use Rattle.tdf_roles.specs.low.walk.declared.blocks.SignalLine.{SignalLine}
+use Rattle.tdf_roles.specs.low.walk.declared.tables.Signal.{Signal}
 
 abbrev signal_names : BlockOf → List (List ℕ)
 signal_names block = map (λ (line : SignalLine). line.name) block.signals

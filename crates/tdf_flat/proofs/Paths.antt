@@ -3,7 +3,7 @@ use Rattle.std.proofs.Common.{◌≡◌, ◌≢◌, ◌∙◌, ℕ, List, [], �
 use Rattle.std.proofs.lemmas.List.{append_assoc, append_cancel_left}
 use Rattle.std.specs.List.{AllByRecursion}
 use Rattle.tdf_flat.proofs.Lists.{head_same, tail_same}
-use Rattle.tdf_walk.specs.Paths.{path_in}
+use Rattle.tdf_roles.specs.low.walk.Paths.{path_in}
 
 -- a name holds no point
 abbrev pub HasNoPoint : List ℕ → Type 0

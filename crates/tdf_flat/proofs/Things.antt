@@ -4,15 +4,15 @@ use Rattle.std.proofs.lemmas.Bool.Decides.{nat_tests}
 use Rattle.std.specs.Cmp.Lexicographic.{pointwise}
 use Rattle.std.specs.List.{list_any, flat_map}
 use Rattle.std.specs.Prelude.{not, nat_eq, if◌then◌else◌, slice_get, slice_set}
-use Rattle.tdf_base.specs.declared.codes.Code.TheVariants as code
-use Rattle.tdf_checks.specs.Lines.{is_format, shape_faults}
-use Rattle.tdf_checks.specs.Types.{global_faults}
-use Rattle.tdf_faults.proofs.Api.{if_none, none_first, none_second}
-use Rattle.tdf_fixed.specs.Cast.{IsLegal}
-use Rattle.tdf_scope.specs.Names.{Names, Thing, TypeName, Tdf, De, Composite}
-use Rattle.tdf_scope.specs.Names.{no_names, at_place, with_name, place_of, thing_of, changed, changed_at, with_global, with_globals, globals_of}
-use Rattle.tdf_tree.specs.Pure.{PureGlobal, GShape, GTdf, GDe, GNet}
-use Rattle.tdf_tree.specs.declared.shapes.Shape.{Shape}
+use Rattle.tdf_roles.specs.low.base.declared.codes.Code.TheVariants as code
+use Rattle.tdf_expr.specs.low.checks.Lines.{is_format, shape_faults}
+use Rattle.tdf_expr.specs.low.checks.Types.{global_faults}
+use Rattle.tdf_roles.proofs.Api.{if_none, none_first, none_second}
+use Rattle.tdf_roles.specs.low.fixed.Cast.{IsLegal}
+use Rattle.tdf_roles.specs.low.scope.Names.{Names, Thing, TypeName, Tdf, De, Composite}
+use Rattle.tdf_roles.specs.low.scope.Names.{no_names, at_place, with_name, place_of, thing_of, changed, changed_at, with_global, with_globals, globals_of}
+use Rattle.tdf_roles.specs.low.tree.Pure.{PureGlobal, GShape, GTdf, GDe, GNet}
+use Rattle.tdf_roles.specs.low.tree.declared.shapes.Shape.{Shape}
 
 -- a fact of each thing of a name space
 abbrev pub AllThings : (Thing → Type 0) → Names → Type 0

@@ -2,22 +2,22 @@
 -- preorder of the signals, then traces by line, then the number of clusters.
 -- Source: own.
 use Rattle.std.specs.Prelude.{◌≡◌, ◌-◌, ℕ, true, false, List, [], ◌∷◌, ◌++◌, length, map, Some}
-use Rattle.tdf_base.specs.declared.codes.Code.TheVariants as code
-use Rattle.tdf_base.specs.declared.faults.Fault.{Fault}
-use Rattle.tdf_base.specs.declared.faults.Place.TheVariants as place
+use Rattle.tdf_roles.specs.low.base.declared.codes.Code.TheVariants as code
+use Rattle.tdf_roles.specs.low.base.declared.faults.Fault.{Fault}
+use Rattle.tdf_roles.specs.low.base.declared.faults.Place.TheVariants as place
 use Rattle.tdf_bind.specs.Flat.{IsFlat, HasFault}
 use Rattle.tdf_bind.specs.declared.flat.BindErr.{BindErr}
 use Rattle.tdf_bind.specs.declared.flat.BindErr.TheVariants.{Refused, Memory}
 use Rattle.tdf_expr.specs.Checked.{IsCheckedOf}
 use Rattle.tdf_flat.specs.declared.model.Flat.{Flat}
-use Rattle.tdf_links.specs.Faults.{LinkFault, first_of, fault_of}
-use Rattle.tdf_links.specs.Links.{link_faults}
+use Rattle.tdf_roles.specs.low.links.Faults.{LinkFault, first_of, fault_of}
+use Rattle.tdf_roles.specs.low.links.Links.{link_faults}
 use Rattle.tdf_resolve.specs.Counts.{is_too_many}
 use Rattle.tdf_resolve.specs.Resolved.{AreResolved}
 use Rattle.tdf_roles.specs.Roles.{roles_of}
-use Rattle.tdf_tree.specs.Pure.{PureTrace, PureTree}
-use Rattle.tdf_walk.specs.Blocks.{BlockOf}
-use Rattle.tdf_wiring.specs.declared.traces.TraceLine.{TraceLine}
+use Rattle.tdf_roles.specs.low.tree.Pure.{PureTrace, PureTree}
+use Rattle.tdf_roles.specs.low.walk.Blocks.{BlockOf}
+use Rattle.tdf_roles.specs.low.wiring.declared.traces.TraceLine.{TraceLine}
 
 -- names joined by points
 abbrev pub dotted : List (List ℕ) → List ℕ

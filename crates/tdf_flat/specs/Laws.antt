@@ -1,21 +1,21 @@
 -- What holds of all flat models: a model has one answer, and its signals have different paths.
 -- Source: own.
 use Rattle.std.specs.Prelude.{◌≡◌, ℕ, List, [], ◌++◌, map, Some, slice_get, filter_map}
-use Rattle.tdf_base.specs.declared.faults.Fault.{Fault}
+use Rattle.tdf_roles.specs.low.base.declared.faults.Fault.{Fault}
 use Rattle.tdf_bind.specs.Flat.{AreShort, FlatOf}
-use Rattle.tdf_checks.specs.Types.{type_faults}
+use Rattle.tdf_expr.specs.low.checks.Types.{type_faults}
 use Rattle.tdf_flat.specs.Flat.{IsBindFault, IsFlatOf, top_place}
 use Rattle.tdf_flat.specs.declared.model.Flat.{Flat}
 use Rattle.tdf_names.specs.Names.{name_faults}
 use Rattle.tdf_resolve.specs.Resolved.{AreResolved}
 use Rattle.tdf_roles.specs.Roles.{roles_of}
-use Rattle.tdf_tree.specs.Kept.{IsKept}
-use Rattle.tdf_tree.specs.Pure.{PureTree}
-use Rattle.tdf_walk.specs.Blocks.{BlockOf}
-use Rattle.tdf_walk.specs.Met.{met_in}
-use Rattle.tdf_walk.specs.Tables.{signal_of}
-use Rattle.tdf_walk.specs.declared.tables.Signal.{Signal}
-use Rattle.tdf_wiring.specs.declared.drivers.SignalRow.{SignalRow}
+use Rattle.tdf_roles.specs.low.tree.Kept.{IsKept}
+use Rattle.tdf_roles.specs.low.tree.Pure.{PureTree}
+use Rattle.tdf_roles.specs.low.walk.Blocks.{BlockOf}
+use Rattle.tdf_roles.specs.low.walk.Met.{met_in}
+use Rattle.tdf_roles.specs.low.walk.Tables.{signal_of}
+use Rattle.tdf_roles.specs.low.walk.declared.tables.Signal.{Signal}
+use Rattle.tdf_roles.specs.low.wiring.declared.drivers.SignalRow.{SignalRow}
 
 -- a model that keeps what the tree of each text keeps, and has no fault of names and of types
 pub record PassesChecks (model : PureTree) : Type 0 where

@@ -1,3 +1,4 @@
 pub mod Flat
 pub mod Laws
+pub mod low
 pub mod machine

@@ -2,30 +2,30 @@
 
 ghost use Rattle.std.specs.Prelude.{◌≡◌, [], Some, IfOk, IfErr};
 ghost use Rattle.tdf_bind.specs.declared.flat.BindErr.TheVariants as why;
-ghost use Rattle.tdf_checks.specs.Types.{type_faults};
+ghost use Rattle.tdf_expr.specs.low.checks.Types.{type_faults};
 ghost use Rattle.tdf_expr.specs.Checked.{IsCheckedOf};
 ghost use Rattle.tdf_flat.specs.Flat.{IsBindRefusal, IsFlatOf, IsLinked, too_many_fault};
 ghost use Rattle.tdf_flat.specs.machine.Steps.{HasTables, IsTabled};
-ghost use Rattle.tdf_links.specs.Links.{link_faults};
-ghost use Rattle.tdf_links.specs.Ports.{ports_of_composite};
+ghost use Rattle.tdf_roles.specs.low.links.Links.{link_faults};
+ghost use Rattle.tdf_roles.specs.low.links.Ports.{ports_of_composite};
 ghost use Rattle.tdf_resolve.specs.Resolved.{AreResolved};
 ghost use Rattle.tdf_roles.specs.Roles.{AreModulesSound};
-ghost use Rattle.tdf_scope.specs.Names.{globals_of};
-ghost use Rattle.tdf_tree.specs.Kept.{IsKept};
-ghost use Rattle.tdf_tree.specs.Views.{pure_tree};
+ghost use Rattle.tdf_roles.specs.low.scope.Names.{globals_of};
+ghost use Rattle.tdf_roles.specs.low.tree.Kept.{IsKept};
+ghost use Rattle.tdf_roles.specs.low.tree.Views.{pure_tree};
 
 use crate::laws::law_delays;
 use crate::lines::trace_lines;
 use crate::model::Flat;
 use std::alloc::Global;
-use tdf_base::{Code, Fault, Memory, Place};
 use tdf_bind::{BindErr, Flat as FlatTables, flat_of};
 use tdf_expr::Checked;
-use tdf_links::link_fault;
 use tdf_resolve::{is_too_many, law_bound, resolve};
+use tdf_roles::low::base::{Code, Fault, Memory, Place};
+use tdf_roles::low::links::link_fault;
+use tdf_roles::low::tree::Tree;
+use tdf_roles::low::walk::Block;
 use tdf_roles::roles_of;
-use tdf_tree::Tree;
-use tdf_walk::Block;
 
 fn too_many() -> BindErr
     ensures { result ≡ why.Refused too_many_fault }

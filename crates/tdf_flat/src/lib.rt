@@ -4,11 +4,13 @@
 //! - `lines`: the lines that ask for traces.
 //! - `binding`: how a tree is made flat.
 //! - `laws`: what holds of all flat models.
+//! - `low`: what the crates above use of the crates further below.
 #![tactic(auto)]
 
 mod binding;
 mod laws;
 mod lines;
+pub mod low;
 mod model;
 
 pub use binding::flatten;

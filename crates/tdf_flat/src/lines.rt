@@ -3,12 +3,12 @@
 ghost use Rattle.std.specs.Prelude.{◌≡◌, ◌++◌, ◌∷◌, [], map, IfOk, OnOk};
 ghost use Rattle.tdf_flat.specs.Flat.{dotted, trace_line};
 ghost use Rattle.tdf_flat.specs.machine.Steps.{dotted_after};
-ghost use Rattle.tdf_tree.specs.Views.{pure_trace};
+ghost use Rattle.tdf_roles.specs.low.tree.Views.{pure_trace};
 
 use std::alloc::Global;
-use tdf_base::{Memory, Name, Path};
-use tdf_tree::Trace1;
-use tdf_wiring::TraceLine;
+use tdf_roles::low::base::{Memory, Name, Path};
+use tdf_roles::low::tree::Trace1;
+use tdf_roles::low::wiring::TraceLine;
 
 /// One name more of a path.
 ///

@@ -1,8 +1,8 @@
 //! The flat model of a text.
 
-use tdf_base::Resolution;
 use tdf_bind::Flat as FlatTables;
 use tdf_expr::Checked;
+use tdf_roles::low::base::Resolution;
 
 /// The flat model: its tables, its compiled bodies, and the unit of its times.
 #[derive(Drop)]

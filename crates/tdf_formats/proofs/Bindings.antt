@@ -7,22 +7,22 @@ use Rattle.std.specs.Prelude.{cond, if◌then◌else◌, nat_eq, slice_get}
 use Rattle.tdf_formats.proofs.Members.{IsTarget, pairs_of, tag_by_agreement, targets_thing}
 use Rattle.tdf_formats.proofs.Spaces.{Differ, name_in, place_is}
 use Rattle.tdf_formats.specs.Tags.{Tag, port_tag, port_tags, tags_at, target_tag}
-use Rattle.tdf_links.specs.Agree.{agrees}
-use Rattle.tdf_links.specs.Faults.{Wrong, UnknownPort, TwiceBound, Mismatch, Unbound, fault_if}
-use Rattle.tdf_links.specs.Links.{Around, around_of, bind_faults, binds, binds_faults, composite_faults, faults_around, first_free, free_faults, instance_faults, is_bound, port_faults, port_in, port_of, ports_of_block, unbound_faults}
-use Rattle.tdf_links.specs.Ports.{Instances, Known, block_named, no_instances, port_named, port_of_member, ports_named, with_instance, with_instances}
-use Rattle.tdf_resolve.specs.Resolved.{IsComposite, instance_of, instance_with, targets_of}
-use Rattle.tdf_resolve.specs.Signals.{Declared, declared_by}
-use Rattle.tdf_resolve.specs.Targets.{inside_of, or_first, target_after, target_from, target_named, target_of}
-use Rattle.tdf_scope.specs.Names.{Names, Thing, at_place, format_of, place_in, thing_of}
-use Rattle.tdf_scope.specs.Scope.{first_some}
-use Rattle.tdf_scope.specs.Sound.{HasFormat}
-use Rattle.tdf_tree.specs.Pure.{PureComposite}
-use Rattle.tdf_tree.specs.declared.blocks.Member.{Member}
-use Rattle.tdf_tree.specs.declared.blocks.Member.TheVariants as member
-use Rattle.tdf_tree.specs.declared.blocks.PortLine.{PortLine}
-use Rattle.tdf_walk.specs.Blocks.{InstanceOf, BlockOf}
-use Rattle.tdf_walk.specs.declared.blocks.Target.{Target}
+use Rattle.tdf_limits.specs.low.links.Agree.{agrees}
+use Rattle.tdf_limits.specs.low.links.Faults.{Wrong, UnknownPort, TwiceBound, Mismatch, Unbound, fault_if}
+use Rattle.tdf_limits.specs.low.links.Links.{Around, around_of, bind_faults, binds, binds_faults, composite_faults, faults_around, first_free, free_faults, instance_faults, is_bound, port_faults, port_in, port_of, ports_of_block, unbound_faults}
+use Rattle.tdf_limits.specs.low.links.Ports.{Instances, Known, block_named, no_instances, port_named, port_of_member, ports_named, with_instance, with_instances}
+use Rattle.tdf_limits.specs.low.resolve.Resolved.{IsComposite, instance_of, instance_with, targets_of}
+use Rattle.tdf_limits.specs.low.resolve.Signals.{Declared, declared_by}
+use Rattle.tdf_limits.specs.low.resolve.Targets.{inside_of, or_first, target_after, target_from, target_named, target_of}
+use Rattle.tdf_limits.specs.low.scope.Names.{Names, Thing, at_place, format_of, place_in, thing_of}
+use Rattle.tdf_limits.specs.low.scope.Scope.{first_some}
+use Rattle.tdf_limits.specs.low.scope.Sound.{HasFormat}
+use Rattle.tdf_limits.specs.low.tree.Pure.{PureComposite}
+use Rattle.tdf_limits.specs.low.tree.declared.blocks.Member.{Member}
+use Rattle.tdf_limits.specs.low.tree.declared.blocks.Member.TheVariants as member
+use Rattle.tdf_limits.specs.low.tree.declared.blocks.PortLine.{PortLine}
+use Rattle.tdf_limits.specs.low.walk.Blocks.{InstanceOf, BlockOf}
+use Rattle.tdf_limits.specs.low.walk.declared.blocks.Target.{Target}
 
 -- lists without an item
 left_none : {A : Type 0} (xs ys : List A) → xs ++ ys ≡ [] → xs ≡ []

@@ -7,24 +7,24 @@ use Rattle.std.proofs.lemmas.Option.{same_Some, none-some}
 use Rattle.std.specs.Cmp.Lexicographic.{pointwise}
 use Rattle.std.specs.List.{AllByRecursion, flat_map}
 use Rattle.std.specs.Prelude.{All, nat_eq, slice_get}
-use Rattle.tdf_flat.proofs.Api.{AreFormatted, formats_there}
-use Rattle.tdf_checks.specs.Types.{type_faults}
+use Rattle.tdf_limits.proofs.Api.{AreFormatted, formats_there}
+use Rattle.tdf_limits.specs.low.checks.Types.{type_faults}
 use Rattle.tdf_formats.proofs.Bindings.{instance_names, instances_tagged, port_names}
 use Rattle.tdf_formats.proofs.Members.{pairs_of}
 use Rattle.tdf_formats.proofs.Spaces.{Differ, name_in}
 use Rattle.tdf_formats.specs.Tags.{KeepTags, Tag, block_tags, model_tags, port_tags, tags_at, target_tag}
-use Rattle.tdf_links.specs.Links.{composite_faults, global_faults, globals_faults, link_faults}
-use Rattle.tdf_links.specs.Ports.{Known, known_after, known_after_all, no_blocks, port_of_member, port_of_tdf_line, port_of_de_line, ports_named, ports_of_composite, ports_of_de, ports_of_tdf, with_block}
-use Rattle.tdf_names.specs.Law.{AreApart, DeclaresOnce, HasNamesOnce}
-use Rattle.tdf_names.specs.Names.{Name, has, names_of_de_line, names_of_de_lines, names_of_member, names_of_tdf_line, names_of_tdf_lines}
-use Rattle.tdf_resolve.specs.Resolved.{AreBlocks, AreResolved, IsComposite, leaf, whole}
-use Rattle.tdf_scope.specs.Names.{Names, at_place, globals_of, place_in}
-use Rattle.tdf_tree.specs.Kept.{Each}
-use Rattle.tdf_tree.specs.Pure.{PureComposite, PureDeLine, DPort, DStore, DEvent, PureGlobal, GShape, GTdf, GDe, GNet, PureTdfLine, TPort, TStore, TRate, PureTree}
-use Rattle.tdf_tree.specs.declared.blocks.Member.{Member}
-use Rattle.tdf_tree.specs.declared.blocks.Member.TheVariants as member
-use Rattle.tdf_tree.specs.declared.blocks.PortLine.{PortLine}
-use Rattle.tdf_walk.specs.Blocks.{InstanceOf, BlockOf}
+use Rattle.tdf_limits.specs.low.links.Links.{composite_faults, global_faults, globals_faults, link_faults}
+use Rattle.tdf_limits.specs.low.links.Ports.{Known, known_after, known_after_all, no_blocks, port_of_member, port_of_tdf_line, port_of_de_line, ports_named, ports_of_composite, ports_of_de, ports_of_tdf, with_block}
+use Rattle.tdf_limits.specs.low.names.Law.{AreApart, DeclaresOnce, HasNamesOnce}
+use Rattle.tdf_limits.specs.low.names.Names.{Name, has, names_of_de_line, names_of_de_lines, names_of_member, names_of_tdf_line, names_of_tdf_lines}
+use Rattle.tdf_limits.specs.low.resolve.Resolved.{AreBlocks, AreResolved, IsComposite, leaf, whole}
+use Rattle.tdf_limits.specs.low.scope.Names.{Names, at_place, globals_of, place_in}
+use Rattle.tdf_limits.specs.low.tree.Kept.{Each}
+use Rattle.tdf_limits.specs.low.tree.Pure.{PureComposite, PureDeLine, DPort, DStore, DEvent, PureGlobal, GShape, GTdf, GDe, GNet, PureTdfLine, TPort, TStore, TRate, PureTree}
+use Rattle.tdf_limits.specs.low.tree.declared.blocks.Member.{Member}
+use Rattle.tdf_limits.specs.low.tree.declared.blocks.Member.TheVariants as member
+use Rattle.tdf_limits.specs.low.tree.declared.blocks.PortLine.{PortLine}
+use Rattle.tdf_limits.specs.low.walk.Blocks.{InstanceOf, BlockOf}
 
 -- names that are apart differ
 left_false : (a b : Bool) → a || b ≡ false → a ≡ false

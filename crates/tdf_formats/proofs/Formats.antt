@@ -13,20 +13,20 @@ use Rattle.std.specs.Ordering.{nat_cmp, match_ordering}
 use Rattle.std.specs.Prelude.{filter, if◌then◌else◌, nat_eq, pos, slice_get, slice_index_or, take}
 use mathlib.Core.HLevel.{is_prop→PathP}
 use native.Mathlib.Bridge.{le_prop}
-use Rattle.tdf_base.specs.Number.{Numeral, numeral_of}
-use Rattle.tdf_expr.specs.Blocks.{Module as TdfBlock, Events, PureBlock, blocks_of, scope_of}
-use Rattle.tdf_expr.specs.Compiled.{AreBlocksOf, IsBlockOf}
-use Rattle.tdf_expr.specs.Frames.{IsOfFormat, limits_of_rate}
-use Rattle.tdf_expr.specs.Made.{rates_in, spans_in}
-use Rattle.tdf_expr.specs.Plans.{PortPlace, place_of_port, port_places, rate_span, rate_spans, shape_of_format, written}
-use Rattle.tdf_expr.specs.declared.blocks.Block.{Block}
-use Rattle.tdf_expr.specs.declared.spans.PortSpan.{PortSpan}
-use Rattle.tdf_fixed.proofs.Api.{in_range}
-use Rattle.tdf_fixed.specs.Overflow.{IsIn}
-use Rattle.tdf_fixed.specs.declared.format.Format.{Format}
-use Rattle.tdf_fixed.specs.declared.raw.Raw.{Raw}
-use Rattle.tdf_flat.specs.Flat.{IsFlatOf, top_place}
-use Rattle.tdf_flat.specs.declared.model.Flat.{Flat}
+use Rattle.tdf_limits.specs.low.base.Number.{Numeral, numeral_of}
+use Rattle.tdf_limits.specs.low.expr.Blocks.{Module as TdfBlock, Events, PureBlock, blocks_of, scope_of}
+use Rattle.tdf_limits.specs.low.expr.Compiled.{AreBlocksOf, IsBlockOf}
+use Rattle.tdf_limits.specs.low.expr.Frames.{IsOfFormat, limits_of_rate}
+use Rattle.tdf_limits.specs.low.expr.Made.{rates_in, spans_in}
+use Rattle.tdf_limits.specs.low.expr.Plans.{PortPlace, place_of_port, port_places, rate_span, rate_spans, shape_of_format, written}
+use Rattle.tdf_limits.specs.low.expr.declared.blocks.Block.{Block}
+use Rattle.tdf_limits.specs.low.expr.declared.spans.PortSpan.{PortSpan}
+use Rattle.tdf_limits.proofs.Api.{in_range}
+use Rattle.tdf_limits.specs.low.fixed.Overflow.{IsIn}
+use Rattle.tdf_limits.specs.low.fixed.declared.format.Format.{Format}
+use Rattle.tdf_limits.specs.low.fixed.declared.raw.Raw.{Raw}
+use Rattle.tdf_limits.specs.low.flat.Flat.{IsFlatOf, top_place}
+use Rattle.tdf_limits.specs.low.flat.declared.model.Flat.{Flat}
 use Rattle.tdf_formats.proofs.Blocks.{apart_differ, keep_tags, stays}
 use Rattle.tdf_formats.proofs.Rows.{IsRowPort, IsTaggedModule, modules_tagged, row_port}
 use Rattle.tdf_formats.proofs.Spaces.{Differ}
@@ -35,42 +35,42 @@ use Rattle.tdf_formats.proofs.Walked.{IsTagged, rows_tagged}
 use Rattle.tdf_formats.specs.Formats.{IsOwnPort, IsSoundModel, PortsHaveFormats, format_of_row, module_of_port, module_of_row, place_of_port as own_place, signal_format}
 use Rattle.tdf_formats.specs.Tags.{Tag, block_tags, model_tags, number_tag, numbered_tag, port_tag, port_tags, tag_with, tags_at}
 use Rattle.tdf_limits.specs.Limits.{limits_in, times_value}
-use Rattle.tdf_links.specs.Ports.{Known, known_after, known_after_all, no_blocks, ports_of_composite, ports_of_de, ports_of_tdf, with_block}
-use Rattle.tdf_meaning.proofs.Api.{least_greatest, thing_sound}
-use Rattle.tdf_meaning.specs.Fits.{RatesFit}
-use Rattle.tdf_meaning.specs.Places.{RateLimits, limits_of, rate_limits}
-use Rattle.tdf_meaning.specs.Value.{literal_in, literal_number}
-use Rattle.tdf_names.specs.Law.{DeclaresOnce, HasNamesOnce, KeepsNamesOnce}
-use Rattle.tdf_names.specs.Names.{names_of_tdf_line, names_of_tdf_lines}
-use Rattle.tdf_resolve.specs.Resolved.{AreBlocks, AreResolved, whole}
-use Rattle.tdf_roles.specs.Roles.{initials_of_port, module_role, port_data, port_of, rate_in, roles_from, roles_of, with_initial, with_initials}
-use Rattle.tdf_scope.specs.Names.{Names, Thing, Port, RateVar, format_of, globals_of, tdf_names, thing_of}
-use Rattle.tdf_scope.specs.Scope.{Scope, greatest_of, tdf_scope}
-use Rattle.tdf_tree.specs.Kept.{Each}
-use Rattle.tdf_tree.specs.Pure.{PureComposite, PureGlobal, GShape, GTdf, GDe, GNet, PureTdf, PureTree}
-use Rattle.tdf_tree.specs.declared.blocks.Initial.{Initial}
-use Rattle.tdf_tree.specs.declared.blocks.PortKind.{PortKind}
-use Rattle.tdf_tree.specs.declared.blocks.PortKind.TheVariants.{In, Out, DeIn, DeOut}
-use Rattle.tdf_tree.specs.declared.blocks.PortLine.{PortLine}
-use Rattle.tdf_tree.specs.declared.names.Lit.{Lit}
-use Rattle.tdf_tree.specs.declared.shapes.Shape.{Shape}
-use Rattle.tdf_tree.specs.declared.stmt.Limit.{Limit}
-use Rattle.tdf_walk.specs.Blocks.{BlockOf}
-use Rattle.tdf_walk.specs.Tables.{TablesOf, table}
-use Rattle.tdf_walk.specs.declared.tables.Signal.{Signal}
-use Rattle.tdf_walk.specs.declared.tables.SignalNumber.{SignalNumber}
-use Rattle.tdf_wiring.specs.Drivers.{signal_row, signal_rows}
-use Rattle.tdf_wiring.specs.Edges.{is_event_port}
-use Rattle.tdf_wiring.specs.Modules.{PlacedModule, module_row, placed_modules, ports_from}
-use Rattle.tdf_wiring.specs.Roles.{ModuleOf}
-use Rattle.tdf_wiring.specs.declared.drivers.SignalRow.{SignalRow}
-use Rattle.tdf_wiring.specs.declared.modules.ModuleRow.{ModuleRow}
-use Rattle.tdf_wiring.specs.declared.modules.PortRow.{PortRow}
-use Rattle.tdf_wiring.specs.declared.roles.PortData.{PortData}
-use Rattle.tdf_wiring.specs.declared.roles.Rate.{Rate}
-use Rattle.tdf_wiring.specs.declared.roles.Role.{Role}
-use Rattle.tdf_wiring.specs.declared.roles.Role.TheVariants.{Module}
-use Rattle.tdf_wiring.specs.declared.writers.Writer.{Writer}
+use Rattle.tdf_limits.specs.low.links.Ports.{Known, known_after, known_after_all, no_blocks, ports_of_composite, ports_of_de, ports_of_tdf, with_block}
+use Rattle.tdf_limits.proofs.Api.{least_greatest, thing_sound}
+use Rattle.tdf_limits.specs.low.meaning.Fits.{RatesFit}
+use Rattle.tdf_limits.specs.low.meaning.Places.{RateLimits, limits_of, rate_limits}
+use Rattle.tdf_limits.specs.low.meaning.Value.{literal_in, literal_number}
+use Rattle.tdf_limits.specs.low.names.Law.{DeclaresOnce, HasNamesOnce, KeepsNamesOnce}
+use Rattle.tdf_limits.specs.low.names.Names.{names_of_tdf_line, names_of_tdf_lines}
+use Rattle.tdf_limits.specs.low.resolve.Resolved.{AreBlocks, AreResolved, whole}
+use Rattle.tdf_limits.specs.low.roles.Roles.{initials_of_port, module_role, port_data, port_of, rate_in, roles_from, roles_of, with_initial, with_initials}
+use Rattle.tdf_limits.specs.low.scope.Names.{Names, Thing, Port, RateVar, format_of, globals_of, tdf_names, thing_of}
+use Rattle.tdf_limits.specs.low.scope.Scope.{Scope, greatest_of, tdf_scope}
+use Rattle.tdf_limits.specs.low.tree.Kept.{Each}
+use Rattle.tdf_limits.specs.low.tree.Pure.{PureComposite, PureGlobal, GShape, GTdf, GDe, GNet, PureTdf, PureTree}
+use Rattle.tdf_limits.specs.low.tree.declared.blocks.Initial.{Initial}
+use Rattle.tdf_limits.specs.low.tree.declared.blocks.PortKind.{PortKind}
+use Rattle.tdf_limits.specs.low.tree.declared.blocks.PortKind.TheVariants.{In, Out, DeIn, DeOut}
+use Rattle.tdf_limits.specs.low.tree.declared.blocks.PortLine.{PortLine}
+use Rattle.tdf_limits.specs.low.tree.declared.names.Lit.{Lit}
+use Rattle.tdf_limits.specs.low.tree.declared.shapes.Shape.{Shape}
+use Rattle.tdf_limits.specs.low.tree.declared.stmt.Limit.{Limit}
+use Rattle.tdf_limits.specs.low.walk.Blocks.{BlockOf}
+use Rattle.tdf_limits.specs.low.walk.Tables.{TablesOf, table}
+use Rattle.tdf_limits.specs.low.walk.declared.tables.Signal.{Signal}
+use Rattle.tdf_limits.specs.low.walk.declared.tables.SignalNumber.{SignalNumber}
+use Rattle.tdf_limits.specs.low.wiring.Drivers.{signal_row, signal_rows}
+use Rattle.tdf_limits.specs.low.wiring.Edges.{is_event_port}
+use Rattle.tdf_limits.specs.low.wiring.Modules.{PlacedModule, module_row, placed_modules, ports_from}
+use Rattle.tdf_limits.specs.low.wiring.Roles.{ModuleOf}
+use Rattle.tdf_limits.specs.low.wiring.declared.drivers.SignalRow.{SignalRow}
+use Rattle.tdf_limits.specs.low.wiring.declared.modules.ModuleRow.{ModuleRow}
+use Rattle.tdf_limits.specs.low.wiring.declared.modules.PortRow.{PortRow}
+use Rattle.tdf_limits.specs.low.wiring.declared.roles.PortData.{PortData}
+use Rattle.tdf_limits.specs.low.wiring.declared.roles.Rate.{Rate}
+use Rattle.tdf_limits.specs.low.wiring.declared.roles.Role.{Role}
+use Rattle.tdf_limits.specs.low.wiring.declared.roles.Role.TheVariants.{Module}
+use Rattle.tdf_limits.specs.low.wiring.declared.writers.Writer.{Writer}
 
 -- the block of a module
 record IsModuleRole (globals : Names) (number : ℕ) (gs : List PureGlobal) (known : Known) (j : ℕ) (role : ModuleOf) : Type 0 where

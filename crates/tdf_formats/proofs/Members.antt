@@ -5,33 +5,33 @@ use Rattle.std.proofs.lemmas.Option.{same_Some, none-some}
 use Rattle.std.specs.List.{AllByRecursion, AllZip, flat_map}
 use Rattle.std.specs.Option.{option_map}
 use Rattle.std.specs.Prelude.{nat_eq, slice_get, slice_index_or}
-use Rattle.tdf_expr.specs.Plans.{shape_of_format}
-use Rattle.tdf_fixed.specs.declared.format.Format.{Format}
-use Rattle.tdf_fixed.specs.declared.over.Over.{Over}
-use Rattle.tdf_fixed.specs.declared.over.Over.TheVariants as over
-use Rattle.tdf_fixed.specs.declared.quant.Quant.{Quant}
-use Rattle.tdf_fixed.specs.declared.quant.Quant.TheVariants as quant
+use Rattle.tdf_limits.specs.low.expr.Plans.{shape_of_format}
+use Rattle.tdf_limits.specs.low.fixed.declared.format.Format.{Format}
+use Rattle.tdf_limits.specs.low.fixed.declared.over.Over.{Over}
+use Rattle.tdf_limits.specs.low.fixed.declared.over.Over.TheVariants as over
+use Rattle.tdf_limits.specs.low.fixed.declared.quant.Quant.{Quant}
+use Rattle.tdf_limits.specs.low.fixed.declared.quant.Quant.TheVariants as quant
 use Rattle.tdf_formats.proofs.Spaces.{Differ, Pair, found_at, name_in, not_missing, pair, pair_at, pair_found, with_pairs}
 use Rattle.tdf_formats.specs.Tags.{Tag, line_tag, port_tag, port_tags, tag_with, target_tag}
-use Rattle.tdf_links.specs.Agree.{agrees, fits, has_same_format, is_same_over, is_same_quant, is_same_shape, is_same_sign, is_same_word, is_samples, number_of_over, number_of_quant, number_of_word}
-use Rattle.tdf_links.specs.Ports.{port_of_member}
-use Rattle.tdf_resolve.specs.Signals.{Declared, IsFormatOf, IsSignal, declared_by, is_event}
-use Rattle.tdf_resolve.specs.Targets.{inside_of, name_of_signal, own_or_outer, target_named}
-use Rattle.tdf_scope.specs.Names.{Names, Thing, Port, Signal, DeSignal, Instance, format_of, kind_of, no_names, place_in, shape_of, thing_of, with_members, with_name}
-use Rattle.tdf_scope.specs.Sound.{HasFormat}
-use Rattle.tdf_tree.specs.declared.blocks.Member.{Member}
-use Rattle.tdf_tree.specs.declared.blocks.Member.TheVariants as member
-use Rattle.tdf_tree.specs.declared.blocks.PortKind.{PortKind}
-use Rattle.tdf_tree.specs.declared.blocks.PortKind.TheVariants.{In, Out, DeIn, DeOut}
-use Rattle.tdf_tree.specs.declared.blocks.PortLine.{PortLine}
-use Rattle.tdf_tree.specs.declared.names.Lit.{Lit}
-use Rattle.tdf_tree.specs.declared.shapes.Shape.{Shape}
-use Rattle.tdf_tree.specs.declared.stmt.Limit.TheVariants as limit
-use Rattle.tdf_walk.specs.Blocks.{BlockOf}
-use Rattle.tdf_walk.specs.declared.blocks.SignalLine.{SignalLine}
-use Rattle.tdf_walk.specs.declared.blocks.Target.{Target}
-use Rattle.tdf_walk.specs.declared.blocks.Target.TheVariants.{Own, Outer}
-use Rattle.tdf_wiring.specs.Edges.{is_event_port}
+use Rattle.tdf_limits.specs.low.links.Agree.{agrees, fits, has_same_format, is_same_over, is_same_quant, is_same_shape, is_same_sign, is_same_word, is_samples, number_of_over, number_of_quant, number_of_word}
+use Rattle.tdf_limits.specs.low.links.Ports.{port_of_member}
+use Rattle.tdf_limits.specs.low.resolve.Signals.{Declared, IsFormatOf, IsSignal, declared_by, is_event}
+use Rattle.tdf_limits.specs.low.resolve.Targets.{inside_of, name_of_signal, own_or_outer, target_named}
+use Rattle.tdf_limits.specs.low.scope.Names.{Names, Thing, Port, Signal, DeSignal, Instance, format_of, kind_of, no_names, place_in, shape_of, thing_of, with_members, with_name}
+use Rattle.tdf_limits.specs.low.scope.Sound.{HasFormat}
+use Rattle.tdf_limits.specs.low.tree.declared.blocks.Member.{Member}
+use Rattle.tdf_limits.specs.low.tree.declared.blocks.Member.TheVariants as member
+use Rattle.tdf_limits.specs.low.tree.declared.blocks.PortKind.{PortKind}
+use Rattle.tdf_limits.specs.low.tree.declared.blocks.PortKind.TheVariants.{In, Out, DeIn, DeOut}
+use Rattle.tdf_limits.specs.low.tree.declared.blocks.PortLine.{PortLine}
+use Rattle.tdf_limits.specs.low.tree.declared.names.Lit.{Lit}
+use Rattle.tdf_limits.specs.low.tree.declared.shapes.Shape.{Shape}
+use Rattle.tdf_limits.specs.low.tree.declared.stmt.Limit.TheVariants as limit
+use Rattle.tdf_limits.specs.low.walk.Blocks.{BlockOf}
+use Rattle.tdf_limits.specs.low.walk.declared.blocks.SignalLine.{SignalLine}
+use Rattle.tdf_limits.specs.low.walk.declared.blocks.Target.{Target}
+use Rattle.tdf_limits.specs.low.walk.declared.blocks.Target.TheVariants.{Own, Outer}
+use Rattle.tdf_limits.specs.low.wiring.Edges.{is_event_port}
 
 -- shapes of equal parts are equal
 and_left : (a b : Bool) → a && b ≡ true → a ≡ true

@@ -8,12 +8,12 @@ use Rattle.std.specs.List.{AllByRecursion, cons_option, enumerate_from}
 use Rattle.std.specs.Prelude.{filter, nat_eq, nat_lt, slice_get, take}
 use Rattle.tdf_formats.proofs.Walked.{IsTagged}
 use Rattle.tdf_formats.specs.Tags.{Tag}
-use Rattle.tdf_walk.specs.Tables.{RowOf, TablesOf}
-use Rattle.tdf_wiring.specs.Modules.{PlacedModule, as_module, module_ports, placed_modules, port_row, ports_from}
-use Rattle.tdf_wiring.specs.declared.modules.PortRow.{PortRow}
-use Rattle.tdf_wiring.specs.declared.roles.PortData.{PortData}
-use Rattle.tdf_wiring.specs.declared.roles.Role.{Role}
-use Rattle.tdf_wiring.specs.declared.roles.Role.TheVariants.{Module, Processes, Composite}
+use Rattle.tdf_limits.specs.low.walk.Tables.{RowOf, TablesOf}
+use Rattle.tdf_limits.specs.low.wiring.Modules.{PlacedModule, as_module, module_ports, placed_modules, port_row, ports_from}
+use Rattle.tdf_limits.specs.low.wiring.declared.modules.PortRow.{PortRow}
+use Rattle.tdf_limits.specs.low.wiring.declared.roles.PortData.{PortData}
+use Rattle.tdf_limits.specs.low.wiring.declared.roles.Role.{Role}
+use Rattle.tdf_limits.specs.low.wiring.declared.roles.Role.TheVariants.{Module, Processes, Composite}
 
 abbrev pub is_of_module : ℕ → PortRow → Bool
 is_of_module m port = nat_eq port.«module» m

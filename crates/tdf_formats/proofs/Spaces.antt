@@ -7,7 +7,7 @@ use Rattle.std.specs.Cmp.Lexicographic.{pointwise, same_text}
 use Rattle.std.specs.List.{AllByRecursion, list_any, prefix_len}
 use Rattle.std.specs.Option.{option_map}
 use Rattle.std.specs.Prelude.{◌||◌, if◌then◌else◌, nat_eq, nat_lt, slice_get}
-use Rattle.tdf_scope.specs.Names.{Names, Thing, no_names, place_in, thing_of, with_name}
+use Rattle.tdf_limits.specs.low.scope.Names.{Names, Thing, no_names, place_in, thing_of, with_name}
 
 -- each item differs from those after it
 abbrev pub Differ : {A : Type 0} → List A → Type 0

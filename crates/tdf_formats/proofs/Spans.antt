@@ -4,25 +4,25 @@ use Rattle.std.proofs.Math.Nat.{mul-le-mul_left}
 use Rattle.std.proofs.lemmas.Option.{same_Some, none-some}
 use Rattle.std.specs.List.{flat_map}
 use Rattle.std.specs.Prelude.{slice_get, slice_index, slice_set}
-use Rattle.tdf_expr.specs.Plans.{PortPlace, places_from}
+use Rattle.tdf_limits.specs.low.expr.Plans.{PortPlace, places_from}
 use Rattle.tdf_formats.proofs.Spaces.{Differ, Pair, name_in, pair, pairs_plain, place_is, thing_in, with_pairs}
 use Rattle.tdf_limits.specs.Limits.{times_value}
-use Rattle.tdf_links.specs.Ports.{port_of_tdf_line, ports_of_tdf}
-use Rattle.tdf_meaning.proofs.Api.{found, limits_placed}
-use Rattle.tdf_meaning.specs.Fits.{RatesFit}
-use Rattle.tdf_meaning.specs.Places.{rate_limits, rate_number}
-use Rattle.tdf_names.specs.Names.{names_of_tdf_line, name_of_store}
-use Rattle.tdf_roles.specs.Roles.{rate_in, variable_at, variable_of}
-use Rattle.tdf_scope.specs.Names.{Names, Thing, Const, Var, Array, Port, RateVar, Event, Signal, DeSignal, Instance, Loop, TypeName, Tdf, De, Composite, at_delay, at_place, at_rate, changed, changed_at, format_of, no_names, place_of, tdf_names, thing_of, with_attr, with_attrs, with_name, with_store, with_tdf_lines}
-use Rattle.tdf_scope.specs.Scope.{greatest_of, greatest_rate}
-use Rattle.tdf_tree.specs.Pure.{PureStore, SConst, SVar, SArray, PureTdf, PureTdfLine, TPort, TStore, TRate}
-use Rattle.tdf_tree.specs.declared.blocks.Attr.{Attr}
-use Rattle.tdf_tree.specs.declared.blocks.Attr.TheVariants as attr
-use Rattle.tdf_tree.specs.declared.blocks.PortKind.{PortKind}
-use Rattle.tdf_tree.specs.declared.blocks.PortLine.{PortLine}
-use Rattle.tdf_tree.specs.declared.shapes.Shape.{Shape}
-use Rattle.tdf_tree.specs.declared.stmt.Limit.{Limit}
-use Rattle.tdf_tree.specs.declared.stmt.Limit.TheVariants as limit
+use Rattle.tdf_limits.specs.low.links.Ports.{port_of_tdf_line, ports_of_tdf}
+use Rattle.tdf_limits.proofs.Api.{found, limits_placed}
+use Rattle.tdf_limits.specs.low.meaning.Fits.{RatesFit}
+use Rattle.tdf_limits.specs.low.meaning.Places.{rate_limits, rate_number}
+use Rattle.tdf_limits.specs.low.names.Names.{names_of_tdf_line, name_of_store}
+use Rattle.tdf_limits.specs.low.roles.Roles.{rate_in, variable_at, variable_of}
+use Rattle.tdf_limits.specs.low.scope.Names.{Names, Thing, Const, Var, Array, Port, RateVar, Event, Signal, DeSignal, Instance, Loop, TypeName, Tdf, De, Composite, at_delay, at_place, at_rate, changed, changed_at, format_of, no_names, place_of, tdf_names, thing_of, with_attr, with_attrs, with_name, with_store, with_tdf_lines}
+use Rattle.tdf_limits.specs.low.scope.Scope.{greatest_of, greatest_rate}
+use Rattle.tdf_limits.specs.low.tree.Pure.{PureStore, SConst, SVar, SArray, PureTdf, PureTdfLine, TPort, TStore, TRate}
+use Rattle.tdf_limits.specs.low.tree.declared.blocks.Attr.{Attr}
+use Rattle.tdf_limits.specs.low.tree.declared.blocks.Attr.TheVariants as attr
+use Rattle.tdf_limits.specs.low.tree.declared.blocks.PortKind.{PortKind}
+use Rattle.tdf_limits.specs.low.tree.declared.blocks.PortLine.{PortLine}
+use Rattle.tdf_limits.specs.low.tree.declared.shapes.Shape.{Shape}
+use Rattle.tdf_limits.specs.low.tree.declared.stmt.Limit.{Limit}
+use Rattle.tdf_limits.specs.low.tree.declared.stmt.Limit.TheVariants as limit
 
 -- what stays of a port whatever its attributes are
 record Kept : Type 0 where

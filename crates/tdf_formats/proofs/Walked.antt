@@ -5,14 +5,14 @@ use Rattle.std.specs.List.{AllZip, AllByRecursion, flat_map}
 use Rattle.std.specs.Option.{option_map}
 use Rattle.std.specs.Prelude.{slice_get, slice_index_or, filter_map, All}
 use Rattle.tdf_formats.specs.Tags.{Tag, KeepTags, line_tag, number_tag, numbered_tag, signal_tag, tags_at, target_tag}
-use Rattle.tdf_walk.specs.Blocks.{InstanceOf, BlockOf}
-use Rattle.tdf_walk.specs.Met.{PlacedInstance, Met, MetSignal, MetInstance, signal_at, reached_by, placed, InsideOf, with_inside, in_block, inside, met_in}
-use Rattle.tdf_walk.specs.Tables.{RowOf, TablesOf, instance_of, StandsFor, IsRowOf, IsTable}
-use Rattle.tdf_walk.specs.declared.blocks.SignalLine.{SignalLine}
-use Rattle.tdf_walk.specs.declared.blocks.Target.{Target}
-use Rattle.tdf_walk.specs.declared.blocks.Target.TheVariants.{Own, Outer}
-use Rattle.tdf_walk.specs.declared.tables.Signal.{Signal}
-use Rattle.tdf_walk.specs.declared.tables.SignalNumber.{SignalNumber}
+use Rattle.tdf_limits.specs.low.walk.Blocks.{InstanceOf, BlockOf}
+use Rattle.tdf_limits.specs.low.walk.Met.{PlacedInstance, Met, MetSignal, MetInstance, signal_at, reached_by, placed, InsideOf, with_inside, in_block, inside, met_in}
+use Rattle.tdf_limits.specs.low.walk.Tables.{RowOf, TablesOf, instance_of, StandsFor, IsRowOf, IsTable}
+use Rattle.tdf_limits.specs.low.walk.declared.blocks.SignalLine.{SignalLine}
+use Rattle.tdf_limits.specs.low.walk.declared.blocks.Target.{Target}
+use Rattle.tdf_limits.specs.low.walk.declared.blocks.Target.TheVariants.{Own, Outer}
+use Rattle.tdf_limits.specs.low.walk.declared.tables.Signal.{Signal}
+use Rattle.tdf_limits.specs.low.walk.declared.tables.SignalNumber.{SignalNumber}
 
 abbrev reached_tag : Option Signal → Option Tag
 reached_tag reached = option_map signal_tag reached

@@ -2,26 +2,26 @@
 -- Source: own.
 use Rattle.std.specs.Prelude.{◌≡◌, ◌≤◌, ℕ, List, [], Option, Some, None, All, filter, length, nat_eq}
 use Rattle.std.specs.Prelude.{option_map, slice_get, take}
-use Rattle.tdf_bind.specs.Flat.{FlatOf}
-use Rattle.tdf_checks.specs.Types.{type_faults}
-use Rattle.tdf_expr.specs.Frames.{IsOfFormat}
-use Rattle.tdf_expr.specs.Made.{port_spans_of}
-use Rattle.tdf_expr.specs.declared.spans.PortSpan.{PortSpan}
-use Rattle.tdf_fixed.specs.declared.format.Format.{Format}
-use Rattle.tdf_fixed.specs.declared.raw.Raw.{Raw}
-use Rattle.tdf_flat.specs.Flat.{IsFlatOf}
-use Rattle.tdf_flat.specs.declared.model.Flat.{Flat}
+use Rattle.tdf_limits.specs.low.bind.Flat.{FlatOf}
+use Rattle.tdf_limits.specs.low.checks.Types.{type_faults}
+use Rattle.tdf_limits.specs.low.expr.Frames.{IsOfFormat}
+use Rattle.tdf_limits.specs.low.expr.Made.{port_spans_of}
+use Rattle.tdf_limits.specs.low.expr.declared.spans.PortSpan.{PortSpan}
+use Rattle.tdf_limits.specs.low.fixed.declared.format.Format.{Format}
+use Rattle.tdf_limits.specs.low.fixed.declared.raw.Raw.{Raw}
+use Rattle.tdf_limits.specs.low.flat.Flat.{IsFlatOf}
+use Rattle.tdf_limits.specs.low.flat.declared.model.Flat.{Flat}
 use Rattle.tdf_limits.specs.Limits.{limits_in, times_value}
-use Rattle.tdf_links.specs.Ports.{ports_of_composite}
-use Rattle.tdf_meaning.specs.Fits.{RatesFit}
-use Rattle.tdf_names.specs.Names.{name_faults}
-use Rattle.tdf_tree.specs.Kept.{IsKept}
-use Rattle.tdf_tree.specs.Pure.{PureTree}
-use Rattle.tdf_tree.specs.declared.blocks.PortKind.{PortKind}
-use Rattle.tdf_tree.specs.declared.blocks.PortKind.TheVariants.{In, Out, DeIn, DeOut}
-use Rattle.tdf_wiring.specs.declared.drivers.SignalRow.{SignalRow}
-use Rattle.tdf_wiring.specs.declared.modules.ModuleRow.{ModuleRow}
-use Rattle.tdf_wiring.specs.declared.modules.PortRow.{PortRow}
+use Rattle.tdf_limits.specs.low.links.Ports.{ports_of_composite}
+use Rattle.tdf_limits.specs.low.meaning.Fits.{RatesFit}
+use Rattle.tdf_limits.specs.low.names.Names.{name_faults}
+use Rattle.tdf_limits.specs.low.tree.Kept.{IsKept}
+use Rattle.tdf_limits.specs.low.tree.Pure.{PureTree}
+use Rattle.tdf_limits.specs.low.tree.declared.blocks.PortKind.{PortKind}
+use Rattle.tdf_limits.specs.low.tree.declared.blocks.PortKind.TheVariants.{In, Out, DeIn, DeOut}
+use Rattle.tdf_limits.specs.low.wiring.declared.drivers.SignalRow.{SignalRow}
+use Rattle.tdf_limits.specs.low.wiring.declared.modules.ModuleRow.{ModuleRow}
+use Rattle.tdf_limits.specs.low.wiring.declared.modules.PortRow.{PortRow}
 
 -- the format of the signal of a number: of samples, or an event signal
 abbrev pub format_of_row : Option SignalRow → Option Format

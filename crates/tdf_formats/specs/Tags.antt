@@ -3,21 +3,21 @@
 use Rattle.std.specs.Option.{option_map}
 use Rattle.std.specs.Prelude.{◌≡◌, ℕ, Bool, List, [], map, Option, Some, None}
 use Rattle.std.specs.Prelude.{slice_get, slice_index_or, All}
-use Rattle.tdf_expr.specs.Plans.{shape_of_format}
-use Rattle.tdf_links.specs.Ports.{no_blocks, known_after_all}
-use Rattle.tdf_scope.specs.Names.{Names, format_of, globals_of}
-use Rattle.tdf_resolve.specs.Resolved.{whole}
-use Rattle.tdf_tree.specs.Pure.{PureTree}
-use Rattle.tdf_tree.specs.declared.blocks.PortLine.{PortLine}
-use Rattle.tdf_tree.specs.declared.shapes.Shape.{Shape}
-use Rattle.tdf_walk.specs.Blocks.{BlockOf}
-use Rattle.tdf_walk.specs.Tables.{TablesOf, table}
-use Rattle.tdf_walk.specs.declared.blocks.SignalLine.{SignalLine}
-use Rattle.tdf_walk.specs.declared.blocks.Target.{Target}
-use Rattle.tdf_walk.specs.declared.blocks.Target.TheVariants.{Own, Outer}
-use Rattle.tdf_walk.specs.declared.tables.Signal.{Signal}
-use Rattle.tdf_walk.specs.declared.tables.SignalNumber.{SignalNumber}
-use Rattle.tdf_wiring.specs.Edges.{is_event_port}
+use Rattle.tdf_limits.specs.low.expr.Plans.{shape_of_format}
+use Rattle.tdf_limits.specs.low.links.Ports.{no_blocks, known_after_all}
+use Rattle.tdf_limits.specs.low.scope.Names.{Names, format_of, globals_of}
+use Rattle.tdf_limits.specs.low.resolve.Resolved.{whole}
+use Rattle.tdf_limits.specs.low.tree.Pure.{PureTree}
+use Rattle.tdf_limits.specs.low.tree.declared.blocks.PortLine.{PortLine}
+use Rattle.tdf_limits.specs.low.tree.declared.shapes.Shape.{Shape}
+use Rattle.tdf_limits.specs.low.walk.Blocks.{BlockOf}
+use Rattle.tdf_limits.specs.low.walk.Tables.{TablesOf, table}
+use Rattle.tdf_limits.specs.low.walk.declared.blocks.SignalLine.{SignalLine}
+use Rattle.tdf_limits.specs.low.walk.declared.blocks.Target.{Target}
+use Rattle.tdf_limits.specs.low.walk.declared.blocks.Target.TheVariants.{Own, Outer}
+use Rattle.tdf_limits.specs.low.walk.declared.tables.Signal.{Signal}
+use Rattle.tdf_limits.specs.low.walk.declared.tables.SignalNumber.{SignalNumber}
+use Rattle.tdf_limits.specs.low.wiring.Edges.{is_event_port}
 
 pub record Tag : Type 0 where
   pub event : Bool

@@ -2,7 +2,7 @@
 
 ghost use Rattle.tdf_formats.specs.Formats.{PortsHaveFormats};
 
-use tdf_names::law_names_once;
+use tdf_limits::low::names::law_names_once;
 
 /// Each port of a module is the one at its place in the module's block, and has the format of the signal that it reaches.
 pub fn law_formats()

@@ -2,16 +2,16 @@
 use Rattle.std.proofs.Common.{◌≡◌, ◌∙◌, ℕ, zero, suc, ◌+◌, ◌-◌, Bool, true, false, Option, Some, None, option_map, List, [], ◌∷◌, ◌++◌, if◌then◌else◌, length, nat_eq, refl, ap, arith}
 use Rattle.std.specs.List.{list_any}
 use Rattle.std.specs.Prelude.{◌||◌, slice_get, slice_index_or, slice_set}
-use Rattle.tdf_bind.specs.declared.actors.ActorRow.{ActorRow}
-use Rattle.tdf_flat.specs.declared.model.Flat.{Flat}
-use Rattle.tdf_graph.specs.declared.actors.Actor.{Actor}
-use Rattle.tdf_graph.specs.declared.actors.Actor.TheVariants as actor
+use Rattle.tdf_changes.specs.low.bind.declared.actors.ActorRow.{ActorRow}
+use Rattle.tdf_changes.specs.low.flat.declared.model.Flat.{Flat}
+use Rattle.tdf_changes.specs.low.graph.declared.actors.Actor.{Actor}
+use Rattle.tdf_changes.specs.low.graph.declared.actors.Actor.TheVariants as actor
 use Rattle.tdf_history.specs.Instant.{RunFault, actor_of_entry, all_firings, events_of, fired, fired_as, firing, firing_of, is_cluster_due, is_due, is_entry_due, is_written, next_entry, plan_length, sample_taken, settled_as, signal_of, stepped, with_cluster, with_read}
 use Rattle.tdf_history.specs.Telling.{step_as}
 use Rattle.tdf_history.specs.World.{Change, ClusterAt, Rules, Settled, World}
 use Rattle.tdf_instants.specs.History.{Fault, Going, Past, Step, and_then, turns_to}
-use Rattle.tdf_streams.specs.Cluster.{zero_sample}
-use Rattle.tdf_tree.specs.Pure.{PureTree}
+use Rattle.tdf_changes.specs.low.streams.Cluster.{zero_sample}
+use Rattle.tdf_changes.specs.low.tree.Pure.{PureTree}
 
 module _ (g : ℕ → List Change → List Change) where
   -- the cluster of a number, and clusters from a number on, with something else ahead

@@ -2,12 +2,12 @@
 use Rattle.std.proofs.Common.{◌≡◌, ◌∙◌, ℕ, zero, suc, ◌+◌, ◌<◌, ◌≤◌, Bool, true, false, Option, Some, None, option_map, List, [], ◌∷◌, ◌++◌, if◌then◌else◌, length, map, nat_eq, refl, sym, ap, subst, arith}
 use Rattle.std.proofs.lemmas.Bool.Decides.{nat_tests}
 use Rattle.std.specs.Prelude.{slice_get}
-use Rattle.tdf_bind.specs.Flat.{FlatOf}
+use Rattle.tdf_changes.specs.low.bind.Flat.{FlatOf}
 use Rattle.tdf_changes.specs.Change.{Asks}
 use Rattle.tdf_changes.specs.Laws.{BoundariesHaveOne, IsBoundary}
-use Rattle.tdf_dynamic.specs.Attributes.{AttrsOf}
-use Rattle.tdf_flat.specs.declared.model.Flat.{Flat}
-use Rattle.tdf_flow.proofs.Api.{some_same}
+use Rattle.tdf_changes.specs.low.dynamic.Attributes.{AttrsOf}
+use Rattle.tdf_changes.specs.low.flat.declared.model.Flat.{Flat}
+use Rattle.tdf_changes.proofs.Api.{some_same}
 use Rattle.tdf_history.proofs.Ahead.{Rest, re_all, re_due, re_get, re_long, re_rest, re_world, with_re}
 use Rattle.tdf_history.proofs.Told.{next_is}
 use Rattle.tdf_history.specs.Answers.{AreAnswers, HasTurn, IsAnswer, Leads, OfAll, asks_in}
@@ -17,7 +17,7 @@ use Rattle.tdf_history.specs.Start.{counts_in}
 use Rattle.tdf_history.specs.Telling.{state_as, step_as, untold, world_untold}
 use Rattle.tdf_history.specs.World.{Change, ClusterAt, New, Refused, Rules, Same, World, next_change}
 use Rattle.tdf_instants.specs.History.{Engine, Fault, Going, On, Past, Spent, State, Step, Stopped, after, and_then, history, state_of, turns_to}
-use Rattle.tdf_tree.specs.Pure.{PureTree}
+use Rattle.tdf_changes.specs.low.tree.Pure.{PureTree}
 
 -- a boundary leads to one answer
 one_answer : BoundariesHaveOne → (flat : Flat) (number : ℕ) (asks : Asks) (table : List AttrsOf) → IsBoundary flat number asks table → (x y : Change)

@@ -3,10 +3,10 @@ use Rattle.std.proofs.Common.{◌≡◌, ◌∙◌, ℕ, zero, suc, ◌+◌, ◌
 use Rattle.std.proofs.lemmas.Bool.Decides.{nat_tests}
 use Rattle.std.specs.List.{enumerate_from}
 use Rattle.std.specs.Prelude.{slice_get, slice_index_or}
-use Rattle.tdf_bind.specs.Flat.{FlatOf}
-use Rattle.tdf_dynamic.specs.declared.first.First.{First}
-use Rattle.tdf_flat.specs.declared.model.Flat.{Flat}
-use Rattle.tdf_flow.proofs.Api.{some_same}
+use Rattle.tdf_changes.specs.low.bind.Flat.{FlatOf}
+use Rattle.tdf_changes.specs.low.dynamic.declared.first.First.{First}
+use Rattle.tdf_changes.specs.low.flat.declared.model.Flat.{Flat}
+use Rattle.tdf_changes.proofs.Api.{some_same}
 use Rattle.tdf_history.proofs.Ahead.{re, re_all, re_due, re_get, re_long, re_rest, re_world, with_re}
 use Rattle.tdf_history.specs.Answers.{AreAnswers, HasTurn, IsAnswer, OfAll, OfClusters, OfFirst}
 use Rattle.tdf_history.specs.Instant.{RunFault, all_firings, at_begin, boundary, boundary_of, changed_by, engine, events_of, instant, is_due, is_over, with_new, with_same}
@@ -15,7 +15,7 @@ use Rattle.tdf_history.specs.Start.{first_cluster, first_world}
 use Rattle.tdf_history.specs.Telling.{AreTold, IsTold, all_told, state_as, step_as, told_more, world_told}
 use Rattle.tdf_history.specs.World.{Change, ClusterAt, New, Refused, Rules, Same, World, next_change}
 use Rattle.tdf_instants.specs.History.{Engine, Fault, Going, On, Past, Spent, State, Step, Stopped, after, and_then, history, state_of, turns_to}
-use Rattle.tdf_tree.specs.Pure.{PureTree}
+use Rattle.tdf_changes.specs.low.tree.Pure.{PureTree}
 
 -- the history before the next time leads to it
 pub next_is : {W F : Type 0} (e : Engine W F) (start : W) (time : ℕ) → history e 0 start (suc time) ≡ after e time (history e 0 start time)

@@ -5,13 +5,13 @@ use Rattle.std.specs.List.{All}
 use Rattle.std.specs.Prelude.{replicate, unwrap_or, ℤ}
 use Rattle.tdf_changes.specs.Asked.{IsQuiet, asked, attrs_after, nothing_asked, port_count, steps_after}
 use Rattle.tdf_changes.specs.Change.{IsSame, table_after}
-use Rattle.tdf_dynamic.specs.Attributes.{AttrsOf}
-use Rattle.tdf_flat.specs.declared.model.Flat.{Flat}
+use Rattle.tdf_changes.specs.low.dynamic.Attributes.{AttrsOf}
+use Rattle.tdf_changes.specs.low.flat.declared.model.Flat.{Flat}
 use Rattle.tdf_history.specs.Answers.{asks_in, last_cells}
 use Rattle.tdf_history.specs.Laws.{UnchangedStay}
 use Rattle.tdf_history.specs.World.{ClusterAt}
-use Rattle.tdf_streams.specs.Places.{has_changes}
-use Rattle.tdf_tree.specs.Pure.{PureTree}
+use Rattle.tdf_changes.specs.low.streams.Places.{has_changes}
+use Rattle.tdf_changes.specs.low.tree.Pure.{PureTree}
 
 otherwise : {A : Type 0} (b : Bool) (x y : A) → b ≡ false → (if b then x else y) ≡ y
 otherwise b x y off = ap (λ c. if c then x else y) off

@@ -4,23 +4,23 @@
 use Rattle.std.specs.List.{sum_by}
 use Rattle.std.specs.Prelude.{◌≡◌, ◌<◌, ◌+◌, ℕ, true, List, [], All, IsSome, Option, Some, ℤ}
 use Rattle.std.specs.Prelude.{slice_get, unwrap_or}
-use Rattle.tdf_bind.specs.Flat.{FlatOf}
+use Rattle.tdf_changes.specs.low.bind.Flat.{FlatOf}
 use Rattle.tdf_changes.specs.Change.{Asks, IsChangeFault, IsNewPlan, IsSame, asks_of, table_after}
-use Rattle.tdf_dynamic.specs.Attributes.{AttrsOf}
-use Rattle.tdf_flat.specs.declared.model.Flat.{Flat}
-use Rattle.tdf_flow.specs.Grounds.{firings}
-use Rattle.tdf_flow.specs.Net.{count}
-use Rattle.tdf_flow.specs.Streams.{known, spot, state_before}
+use Rattle.tdf_changes.specs.low.dynamic.Attributes.{AttrsOf}
+use Rattle.tdf_changes.specs.low.flat.declared.model.Flat.{Flat}
+use Rattle.tdf_changes.specs.low.flow.Grounds.{firings}
+use Rattle.tdf_changes.specs.low.flow.Net.{count}
+use Rattle.tdf_changes.specs.low.flow.Streams.{known, spot, state_before}
 use Rattle.tdf_history.specs.Instant.{at_begin, boundary, engine, is_due, is_over, periods_of}
 use Rattle.tdf_history.specs.Instant.{run_in}
 use Rattle.tdf_history.specs.Start.{counts_in}
 use Rattle.tdf_history.specs.World.{Change, ClusterAt, New, Refused, Rules, Same, World}
 use Rattle.tdf_history.specs.World.{next_change}
 use Rattle.tdf_instants.specs.History.{Going, On, history, turns_to}
-use Rattle.tdf_schedule.specs.declared.entry.Entry.{Entry}
-use Rattle.tdf_schedule.specs.declared.entry.Plan.{Plan}
-use Rattle.tdf_streams.specs.Cluster.{cluster_net}
-use Rattle.tdf_tree.specs.Pure.{PureTree}
+use Rattle.tdf_changes.specs.low.schedule.declared.entry.Entry.{Entry}
+use Rattle.tdf_changes.specs.low.schedule.declared.entry.Plan.{Plan}
+use Rattle.tdf_changes.specs.low.streams.Cluster.{cluster_net}
+use Rattle.tdf_changes.specs.low.tree.Pure.{PureTree}
 
 -- what the variables of module m hold when the period of its cluster is done: by the streams, what
 -- its last activation left

@@ -5,24 +5,24 @@ use Rattle.std.specs.Prelude.{ℕ, ◌+◌, ◌-◌, ◌*◌, Bool, ◌&&◌, na
 use Rattle.std.specs.Prelude.{if◌then◌else◌, Option, Some, None, option_map, List, [], ◌∷◌}
 use Rattle.std.specs.Prelude.{length, slice_get, slice_index, slice_index_or}
 use Rattle.std.specs.List.{sum_by}
-use Rattle.tdf_dynamic.specs.Attributes.{clusters_of}
-use Rattle.tdf_fixed.specs.declared.raw.Raw.{Raw}
-use Rattle.tdf_flat.specs.declared.model.Flat.{Flat}
-use Rattle.tdf_flow.specs.Grounds.{firings}
-use Rattle.tdf_flow.specs.Streams.{known}
+use Rattle.tdf_changes.specs.low.dynamic.Attributes.{clusters_of}
+use Rattle.tdf_changes.specs.low.fixed.declared.raw.Raw.{Raw}
+use Rattle.tdf_changes.specs.low.flat.declared.model.Flat.{Flat}
+use Rattle.tdf_changes.specs.low.flow.Grounds.{firings}
+use Rattle.tdf_changes.specs.low.flow.Streams.{known}
 use Rattle.tdf_history.specs.Instant.{RunFault, engine, periods_of, run_in}
 use Rattle.tdf_history.specs.World.{ClusterAt, Rules, World}
 use Rattle.tdf_instants.specs.History.{State, On, Stopped, Spent, history}
 use Rattle.tdf_rows.specs.Positions.{Span, position_at, span_of}
 use Rattle.tdf_rows.specs.Rows.{Cells}
-use Rattle.tdf_schedule.specs.Plan.{done}
-use Rattle.tdf_streams.specs.Cluster.{cluster_net, zero_sample}
-use Rattle.tdf_streams.specs.Periods.{PeriodRecord}
-use Rattle.tdf_streams.specs.Signals.{outputs_in, positions, rate_in, signal_sample, step_in}
-use Rattle.tdf_tree.specs.Pure.{PureTree}
-use Rattle.tdf_wiring.specs.declared.drivers.SignalRow.{SignalRow}
-use Rattle.tdf_wiring.specs.declared.modules.PortRow.{PortRow}
-use Rattle.tdf_wiring.specs.declared.traces.TraceRow.{TraceRow}
+use Rattle.tdf_changes.specs.low.schedule.Plan.{done}
+use Rattle.tdf_changes.specs.low.streams.Cluster.{cluster_net, zero_sample}
+use Rattle.tdf_changes.specs.low.streams.Periods.{PeriodRecord}
+use Rattle.tdf_changes.specs.low.streams.Signals.{outputs_in, positions, rate_in, signal_sample, step_in}
+use Rattle.tdf_changes.specs.low.tree.Pure.{PureTree}
+use Rattle.tdf_changes.specs.low.wiring.declared.drivers.SignalRow.{SignalRow}
+use Rattle.tdf_changes.specs.low.wiring.declared.modules.PortRow.{PortRow}
+use Rattle.tdf_changes.specs.low.wiring.declared.traces.TraceRow.{TraceRow}
 
 -- the positions of a port's signal in some periods, the first of which begins at a time
 abbrev pub spans_from : PortRow → (time : ℕ) → List PeriodRecord → List Span

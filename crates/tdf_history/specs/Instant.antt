@@ -6,27 +6,27 @@ use Rattle.std.specs.List.{list_any}
 use Rattle.std.specs.Prelude.{ℕ, zero, suc, ◌+◌, ◌-◌, Bool, true, false, ◌&&◌, ◌||◌, nat_eq, if◌then◌else◌}
 use Rattle.std.specs.Prelude.{Option, Some, None, List, [], ◌∷◌, ◌++◌, drop, length, slice_get}
 use Rattle.std.specs.Prelude.{slice_index_or, slice_set, sum_by, unwrap_or}
-use Rattle.tdf_base.specs.declared.faults.Fault.{Fault}
-use Rattle.tdf_bind.specs.Flat.{FlatOf}
-use Rattle.tdf_bind.specs.declared.actors.ActorRow.{ActorRow}
-use Rattle.tdf_dynamic.specs.Attributes.{AttrsOf}
-use Rattle.tdf_fixed.specs.declared.raw.Raw.{Raw}
-use Rattle.tdf_flat.specs.declared.model.Flat.{Flat}
-use Rattle.tdf_flow.specs.Net.{Run, count}
-use Rattle.tdf_flow.specs.Streams.{known, place}
-use Rattle.tdf_flow.specs.Grounds.{firings}
-use Rattle.tdf_graph.specs.declared.actors.Actor.{Actor}
-use Rattle.tdf_graph.specs.declared.actors.Actor.TheVariants as actor
+use Rattle.tdf_changes.specs.low.base.declared.faults.Fault.{Fault}
+use Rattle.tdf_changes.specs.low.bind.Flat.{FlatOf}
+use Rattle.tdf_changes.specs.low.bind.declared.actors.ActorRow.{ActorRow}
+use Rattle.tdf_changes.specs.low.dynamic.Attributes.{AttrsOf}
+use Rattle.tdf_changes.specs.low.fixed.declared.raw.Raw.{Raw}
+use Rattle.tdf_changes.specs.low.flat.declared.model.Flat.{Flat}
+use Rattle.tdf_changes.specs.low.flow.Net.{Run, count}
+use Rattle.tdf_changes.specs.low.flow.Streams.{known, place}
+use Rattle.tdf_changes.specs.low.flow.Grounds.{firings}
+use Rattle.tdf_changes.specs.low.graph.declared.actors.Actor.{Actor}
+use Rattle.tdf_changes.specs.low.graph.declared.actors.Actor.TheVariants as actor
 use Rattle.tdf_history.specs.World.{Change, ClusterAt, New, Refused, Rules, Same, Settled}
 use Rattle.tdf_history.specs.World.{SinkWrite, World, next_change}
 use Rattle.tdf_instants.specs.History.{Engine, Fault as Faulted, Going, Past, Step, and_then, turns_to}
-use Rattle.tdf_schedule.specs.Plan.{done}
-use Rattle.tdf_schedule.specs.declared.entry.Entry.{Entry}
-use Rattle.tdf_streams.specs.Cluster.{cluster_net, zero_sample}
-use Rattle.tdf_streams.specs.Periods.{PeriodInfo, PeriodRecord, period_record}
-use Rattle.tdf_streams.specs.Places.{reader_at}
-use Rattle.tdf_tree.specs.Pure.{PureTree}
-use Rattle.tdf_wiring.specs.declared.modules.PortRow.{PortRow}
+use Rattle.tdf_changes.specs.low.schedule.Plan.{done}
+use Rattle.tdf_changes.specs.low.schedule.declared.entry.Entry.{Entry}
+use Rattle.tdf_changes.specs.low.streams.Cluster.{cluster_net, zero_sample}
+use Rattle.tdf_changes.specs.low.streams.Periods.{PeriodInfo, PeriodRecord, period_record}
+use Rattle.tdf_changes.specs.low.streams.Places.{reader_at}
+use Rattle.tdf_changes.specs.low.tree.Pure.{PureTree}
+use Rattle.tdf_changes.specs.low.wiring.declared.modules.PortRow.{PortRow}
 
 -- a fault at a boundary of a cluster
 pub record RunFault : Type 0 where

@@ -1,11 +1,11 @@
 -- What holds of the histories of models.
 -- Source: own.
 use Rattle.std.specs.Prelude.{◌≡◌, ◌≤◌, ℕ, false, List, [], All, IsSome}
-use Rattle.tdf_bind.specs.Flat.{FlatOf}
+use Rattle.tdf_changes.specs.low.bind.Flat.{FlatOf}
 use Rattle.tdf_changes.specs.Laws.{IsBoundary}
-use Rattle.tdf_dynamic.specs.Attributes.{AttrsOf}
-use Rattle.tdf_dynamic.specs.declared.first.First.{First}
-use Rattle.tdf_flat.specs.declared.model.Flat.{Flat}
+use Rattle.tdf_changes.specs.low.dynamic.Attributes.{AttrsOf}
+use Rattle.tdf_changes.specs.low.dynamic.declared.first.First.{First}
+use Rattle.tdf_changes.specs.low.flat.declared.model.Flat.{Flat}
 use Rattle.tdf_history.specs.Answers.{AreAnswers, AreFirstAnswers, IsAnswer, OfAll, OfFirst}
 use Rattle.tdf_history.specs.Answers.{asks_in, last_cells}
 use Rattle.tdf_history.specs.Instant.{at_begin, boundary, engine}
@@ -14,8 +14,8 @@ use Rattle.tdf_history.specs.Telling.{AreTold, IsTold, all_told, state_as, step_
 use Rattle.tdf_history.specs.Telling.{world_told, world_untold}
 use Rattle.tdf_history.specs.World.{Change, ClusterAt, Rules, Same, World}
 use Rattle.tdf_instants.specs.History.{On, history, turns_to}
-use Rattle.tdf_streams.specs.Places.{has_changes}
-use Rattle.tdf_tree.specs.Pure.{PureTree}
+use Rattle.tdf_changes.specs.low.streams.Places.{has_changes}
+use Rattle.tdf_changes.specs.low.tree.Pure.{PureTree}
 
 -- nothing happens in a model without clusters and with an event side where nothing is ever pending
 abbrev pub IdleStaysOn : Type 0

@@ -6,3 +6,4 @@ pub mod Start
 pub mod Telling
 pub mod Texts
 pub mod World
+pub mod low

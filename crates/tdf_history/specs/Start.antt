@@ -4,14 +4,14 @@
 use Rattle.std.specs.List.{count_by, enumerate_from, range_with_len}
 use Rattle.std.specs.Prelude.{ℕ, ◌+◌, true, List, [], length, map, nat_eq, replicate}
 use Rattle.std.specs.Prelude.{slice_index_or}
-use Rattle.tdf_bind.specs.Flat.{FlatOf}
-use Rattle.tdf_dynamic.specs.declared.first.First.{First}
-use Rattle.tdf_flat.specs.declared.model.Flat.{Flat}
+use Rattle.tdf_changes.specs.low.bind.Flat.{FlatOf}
+use Rattle.tdf_changes.specs.low.dynamic.declared.first.First.{First}
+use Rattle.tdf_changes.specs.low.flat.declared.model.Flat.{Flat}
 use Rattle.tdf_history.specs.World.{Change, ClusterAt, World}
-use Rattle.tdf_schedule.specs.declared.entry.Entry.{Entry}
-use Rattle.tdf_streams.specs.Cluster.{text_start}
-use Rattle.tdf_streams.specs.Periods.{period_record}
-use Rattle.tdf_tree.specs.Pure.{PureTree}
+use Rattle.tdf_changes.specs.low.schedule.declared.entry.Entry.{Entry}
+use Rattle.tdf_changes.specs.low.streams.Cluster.{text_start}
+use Rattle.tdf_changes.specs.low.streams.Periods.{period_record}
+use Rattle.tdf_changes.specs.low.tree.Pure.{PureTree}
 
 -- how often each actor fires in a plan
 abbrev pub counts_in : FlatOf → List Entry → List ℕ

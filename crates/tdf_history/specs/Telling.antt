@@ -2,11 +2,11 @@
 -- Source: own.
 use Rattle.std.specs.List.{enumerate_from}
 use Rattle.std.specs.Prelude.{◌<◌, ℕ, List, [], ◌∷◌, ◌++◌, length, map, slice_index_or}
-use Rattle.tdf_flat.specs.declared.model.Flat.{Flat}
+use Rattle.tdf_changes.specs.low.flat.declared.model.Flat.{Flat}
 use Rattle.tdf_history.specs.Answers.{OfAll}
 use Rattle.tdf_history.specs.World.{Change, ClusterAt, Rules, World}
 use Rattle.tdf_instants.specs.History.{State, On, Spent, Stopped, Step, Fault, Going, Past}
-use Rattle.tdf_tree.specs.Pure.{PureTree}
+use Rattle.tdf_changes.specs.low.tree.Pure.{PureTree}
 
 -- something is told of the next boundary
 abbrev pub IsTold : ClusterAt → Type 0

@@ -4,10 +4,10 @@ use Rattle.std.specs.Fmt.{decimal}
 use Rattle.std.specs.List.{flat_map, range_with_len}
 use Rattle.std.specs.Prelude.{ℕ, zero, suc, ◌+◌, ◌-◌, if◌then◌else◌, Option, Some, None, List, []}
 use Rattle.std.specs.Prelude.{◌++◌, codes, length, slice_get}
-use Rattle.tdf_base.specs.Fault.{fault_text}
-use Rattle.tdf_base.specs.declared.resolution.Resolution.{Resolution}
-use Rattle.tdf_fixed.specs.Decimal.{seconds_text_at}
-use Rattle.tdf_flat.specs.declared.model.Flat.{Flat}
+use Rattle.tdf_changes.specs.low.base.Fault.{fault_text}
+use Rattle.tdf_changes.specs.low.base.declared.resolution.Resolution.{Resolution}
+use Rattle.tdf_changes.specs.low.fixed.Decimal.{seconds_text_at}
+use Rattle.tdf_changes.specs.low.flat.declared.model.Flat.{Flat}
 use Rattle.tdf_history.specs.Cells.{run_cells}
 use Rattle.tdf_history.specs.Instant.{RunFault, engine, instant, is_due}
 use Rattle.tdf_history.specs.World.{ClusterAt, Rules, World}
@@ -15,7 +15,7 @@ use Rattle.tdf_instants.specs.History.{State, On, Stopped, Spent, Step, Going, F
 use Rattle.tdf_instants.specs.History.{history}
 use Rattle.tdf_notes.specs.Plans.{PlanRows, line, plan_text}
 use Rattle.tdf_rows.specs.Rows.{Writing, trace_text}
-use Rattle.tdf_tree.specs.Pure.{PureTree}
+use Rattle.tdf_changes.specs.low.tree.Pure.{PureTree}
 
 -- the plan of a cluster in progress
 abbrev pub plan_of : ClusterAt → PlanRows

@@ -2,12 +2,12 @@
 -- its periods were, and what its boundaries to come lead to; the event side; and the turns left.
 -- Source: own; clusters in a discrete-event run after IEEE 1666.1-2016.
 use Rattle.std.specs.Prelude.{ℕ, Bool, List, Option, slice_index_or}
-use Rattle.tdf_base.specs.declared.faults.Fault.{Fault}
-use Rattle.tdf_dynamic.specs.Attributes.{AttrsOf}
-use Rattle.tdf_fixed.specs.declared.raw.Raw.{Raw}
-use Rattle.tdf_schedule.specs.declared.entry.Entry.{Entry}
-use Rattle.tdf_streams.specs.Cluster.{Start}
-use Rattle.tdf_streams.specs.Periods.{PeriodRecord}
+use Rattle.tdf_changes.specs.low.base.declared.faults.Fault.{Fault}
+use Rattle.tdf_changes.specs.low.dynamic.Attributes.{AttrsOf}
+use Rattle.tdf_changes.specs.low.fixed.declared.raw.Raw.{Raw}
+use Rattle.tdf_changes.specs.low.schedule.declared.entry.Entry.{Entry}
+use Rattle.tdf_changes.specs.low.streams.Cluster.{Start}
+use Rattle.tdf_changes.specs.low.streams.Periods.{PeriodRecord}
 
 -- what the change bodies of a cluster lead to at a boundary: the same plan with these attributes, a
 -- new one, or the fault that ends the run

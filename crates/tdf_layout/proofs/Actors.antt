@@ -5,21 +5,21 @@ use Rattle.std.proofs.lemmas.List.FromFn.{length-map-range_with_len}
 use Rattle.std.proofs.lemmas.Option.{slice_get-map}
 use Rattle.std.specs.List.{cons_option, range_with_len}
 use Rattle.std.specs.Prelude.{cond, filter}
-use Rattle.tdf_bind.specs.Actors.{AreActors, actor_of_kind, actor_places, module_actor, place_of, port_actor}
-use Rattle.tdf_bind.specs.Flat.{FlatOf}
-use Rattle.tdf_bind.specs.declared.actors.ActorPlace.{ActorPlace}
-use Rattle.tdf_bind.specs.declared.actors.ActorRow.{ActorRow}
-use Rattle.tdf_flow.proofs.Api.{get_high, get_low, get_made_at, none_some, some_same}
-use Rattle.tdf_graph.specs.declared.actors.Actor.{Actor}
-use Rattle.tdf_graph.specs.declared.actors.Actor.TheVariants as actor
+use Rattle.tdf_streams.specs.low.bind.Actors.{AreActors, actor_of_kind, actor_places, module_actor, place_of, port_actor}
+use Rattle.tdf_streams.specs.low.bind.Flat.{FlatOf}
+use Rattle.tdf_streams.specs.low.bind.declared.actors.ActorPlace.{ActorPlace}
+use Rattle.tdf_streams.specs.low.bind.declared.actors.ActorRow.{ActorRow}
+use Rattle.tdf_streams.proofs.Api.{get_high, get_low, get_made_at, none_some, some_same}
+use Rattle.tdf_streams.specs.low.graph.declared.actors.Actor.{Actor}
+use Rattle.tdf_streams.specs.low.graph.declared.actors.Actor.TheVariants as actor
 use Rattle.tdf_layout.proofs.Picked.{IsPicked, once, picked, sound}
 use Rattle.tdf_layout.proofs.Rows.{map_some}
 use Rattle.tdf_layout.specs.Edges.{IsActorAt}
 use Rattle.tdf_streams.specs.Places.{actor_kind, kind_of_row}
-use Rattle.tdf_tree.specs.declared.blocks.PortKind.{PortKind}
-use Rattle.tdf_tree.specs.declared.blocks.PortKind.TheVariants.{In, Out, DeIn, DeOut}
-use Rattle.tdf_wiring.specs.Edges.{actor_at, is_event_port}
-use Rattle.tdf_wiring.specs.declared.modules.PortRow.{PortRow}
+use Rattle.tdf_streams.specs.low.tree.declared.blocks.PortKind.{PortKind}
+use Rattle.tdf_streams.specs.low.tree.declared.blocks.PortKind.TheVariants.{In, Out, DeIn, DeOut}
+use Rattle.tdf_streams.specs.low.wiring.Edges.{actor_at, is_event_port}
+use Rattle.tdf_streams.specs.low.wiring.declared.modules.PortRow.{PortRow}
 
 abbrev event_ports : List PortRow → List PortRow
 event_ports ports = filter (λ (port : PortRow). is_event_port port.kind) ports

@@ -9,7 +9,7 @@ use Rattle.std.proofs.lemmas.Option.{get_or_from_slice_get, slice_get_within}
 use Rattle.std.specs.Prelude.{cond, filter, slice_set}
 use Rattle.tdf_layout.specs.machine.Places.{PlacesUpTo, count_of}
 use Rattle.tdf_streams.specs.Places.{module_of_row, place_of_port}
-use Rattle.tdf_wiring.specs.declared.modules.PortRow.{PortRow}
+use Rattle.tdf_streams.specs.low.wiring.declared.modules.PortRow.{PortRow}
 
 abbrev one_if : Bool → ℕ
 one_if b = if b then 1 else 0

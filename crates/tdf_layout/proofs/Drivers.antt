@@ -3,18 +3,18 @@ use Rattle.std.proofs.Common.{◌≡◌, ◌∙◌, ℕ, zero, suc, ◌+◌, Boo
 use Rattle.std.proofs.lemmas.Bool.{eqb-true}
 use Rattle.std.specs.List.{AllByRecursion, cons_option, enumerate_from}
 use Rattle.std.specs.Prelude.{cond, filter, filter_map}
-use Rattle.tdf_flow.proofs.Api.{none_some, some_same}
-use Rattle.tdf_tree.specs.declared.blocks.PortKind.{PortKind}
-use Rattle.tdf_tree.specs.declared.blocks.PortKind.TheVariants.{In, Out, DeIn, DeOut}
-use Rattle.tdf_walk.specs.declared.tables.Signal.{Signal}
-use Rattle.tdf_walk.specs.declared.tables.SignalNumber.{SignalNumber}
-use Rattle.tdf_wiring.specs.Drivers.{driver, driver_of, module_port, signal_row, signal_rows}
-use Rattle.tdf_wiring.specs.Edges.{driver_port, driver_row}
-use Rattle.tdf_wiring.specs.ProcessBlocks.{PlacedBlock}
-use Rattle.tdf_wiring.specs.Writers.{block_writers, gives, module_writers, place_writer, port_writer, writers_at}
-use Rattle.tdf_wiring.specs.declared.drivers.SignalRow.{SignalRow}
-use Rattle.tdf_wiring.specs.declared.modules.PortRow.{PortRow}
-use Rattle.tdf_wiring.specs.declared.writers.Writer.{Writer}
+use Rattle.tdf_streams.proofs.Api.{none_some, some_same}
+use Rattle.tdf_streams.specs.low.tree.declared.blocks.PortKind.{PortKind}
+use Rattle.tdf_streams.specs.low.tree.declared.blocks.PortKind.TheVariants.{In, Out, DeIn, DeOut}
+use Rattle.tdf_streams.specs.low.walk.declared.tables.Signal.{Signal}
+use Rattle.tdf_streams.specs.low.walk.declared.tables.SignalNumber.{SignalNumber}
+use Rattle.tdf_streams.specs.low.wiring.Drivers.{driver, driver_of, module_port, signal_row, signal_rows}
+use Rattle.tdf_streams.specs.low.wiring.Edges.{driver_port, driver_row}
+use Rattle.tdf_streams.specs.low.wiring.ProcessBlocks.{PlacedBlock}
+use Rattle.tdf_streams.specs.low.wiring.Writers.{block_writers, gives, module_writers, place_writer, port_writer, writers_at}
+use Rattle.tdf_streams.specs.low.wiring.declared.drivers.SignalRow.{SignalRow}
+use Rattle.tdf_streams.specs.low.wiring.declared.modules.PortRow.{PortRow}
+use Rattle.tdf_streams.specs.low.wiring.declared.writers.Writer.{Writer}
 
 -- an `out` port that writes a signal
 pub record IsDriver (ports : List PortRow) (out signal : ℕ) : Type 0 where

@@ -1,30 +1,30 @@
 -- What the edges of a flat model are.
 use Rattle.std.proofs.Common.{◌≡◌, ◌∙◌, ℕ, ◌+◌, ◌<◌, Option, Some, None, List, length, refl, ap, sym, subst, arith, slice_get}
 use Rattle.std.proofs.lemmas.Option.{slice_get_within}
-use Rattle.tdf_bind.specs.Actors.{AreActors}
-use Rattle.tdf_bind.specs.Flat.{FlatOf}
-use Rattle.tdf_bind.specs.Ranges.{AreInRange}
-use Rattle.tdf_bind.specs.declared.actors.ActorRow.{ActorRow}
-use Rattle.tdf_flat.specs.Flat.{IsFlatOf}
-use Rattle.tdf_flat.specs.declared.model.Flat.{Flat}
-use Rattle.tdf_flow.proofs.Api.{get_inside, none_some, some_same}
-use Rattle.tdf_graph.specs.declared.actors.Actor.{Actor}
-use Rattle.tdf_graph.specs.declared.actors.Actor.TheVariants as actor
+use Rattle.tdf_streams.specs.low.bind.Actors.{AreActors}
+use Rattle.tdf_streams.specs.low.bind.Flat.{FlatOf}
+use Rattle.tdf_streams.specs.low.bind.Ranges.{AreInRange}
+use Rattle.tdf_streams.specs.low.bind.declared.actors.ActorRow.{ActorRow}
+use Rattle.tdf_streams.specs.low.flat.Flat.{IsFlatOf}
+use Rattle.tdf_streams.specs.low.flat.declared.model.Flat.{Flat}
+use Rattle.tdf_streams.proofs.Api.{get_inside, none_some, some_same}
+use Rattle.tdf_streams.specs.low.graph.declared.actors.Actor.{Actor}
+use Rattle.tdf_streams.specs.low.graph.declared.actors.Actor.TheVariants as actor
 use Rattle.tdf_layout.proofs.Actors.{IsNoModule, IsNoSampler, IsOtherKind, IsSinkOf, module_kind, port_actor_at, sink_at}
 use Rattle.tdf_layout.proofs.Drivers.{IsDriver, driver_is}
 use Rattle.tdf_layout.proofs.Picked.{IsPicked, complete, once, picked, sound}
 use Rattle.tdf_layout.proofs.Rows.{all_at}
 use Rattle.tdf_layout.specs.Edges.{EdgesAreRows, IsEdgeRow, PortsGiveOnce, SamplersReadNone, SinksAreRead, SinksWriteNone}
 use Rattle.tdf_layout.specs.Wiring.{IsEdgeOf, Reads, Writes}
-use Rattle.tdf_roles.specs.Roles.{roles_of}
+use Rattle.tdf_streams.specs.low.roles.Roles.{roles_of}
 use Rattle.tdf_streams.specs.Places.{actor_kind, kind_of_row, reader_of_row, writer_of_row}
-use Rattle.tdf_tree.specs.declared.blocks.PortKind.{PortKind}
-use Rattle.tdf_tree.specs.declared.blocks.PortKind.TheVariants.{In, Out, DeIn, DeOut}
-use Rattle.tdf_wiring.specs.Edges.{actor_at, driven_edge, driver_port, edge_by, edge_from, edge_of_kind, sink_edge}
-use Rattle.tdf_wiring.specs.ProcessBlocks.{placed_blocks}
-use Rattle.tdf_wiring.specs.declared.edges.EdgeRow.{EdgeRow}
-use Rattle.tdf_wiring.specs.declared.modules.PortRow.{PortRow}
-use Rattle.tdf_bind.specs.Actors.{actor_of_kind}
+use Rattle.tdf_streams.specs.low.tree.declared.blocks.PortKind.{PortKind}
+use Rattle.tdf_streams.specs.low.tree.declared.blocks.PortKind.TheVariants.{In, Out, DeIn, DeOut}
+use Rattle.tdf_streams.specs.low.wiring.Edges.{actor_at, driven_edge, driver_port, edge_by, edge_from, edge_of_kind, sink_edge}
+use Rattle.tdf_streams.specs.low.wiring.ProcessBlocks.{placed_blocks}
+use Rattle.tdf_streams.specs.low.wiring.declared.edges.EdgeRow.{EdgeRow}
+use Rattle.tdf_streams.specs.low.wiring.declared.modules.PortRow.{PortRow}
+use Rattle.tdf_streams.specs.low.bind.Actors.{actor_of_kind}
 
 module _ (flat : Flat) where
   abbrev tables : FlatOf

@@ -5,14 +5,14 @@ use Rattle.std.proofs.lemmas.List.{get_or-set_same}
 use Rattle.std.proofs.lemmas.Option.{get_or_from_slice_get, slice_get_within}
 use Rattle.std.specs.List.{cons_option}
 use Rattle.std.specs.Prelude.{slice_set}
-use Rattle.tdf_bind.specs.Flat.{FlatOf}
-use Rattle.tdf_firing.specs.Wires.{WiresOf}
-use Rattle.tdf_firing.specs.declared.wires.InWire.{InWire}
-use Rattle.tdf_firing.specs.declared.wires.OutWire.{OutWire}
+use Rattle.tdf_streams.specs.low.bind.Flat.{FlatOf}
+use Rattle.tdf_streams.specs.low.firing.Wires.{WiresOf}
+use Rattle.tdf_streams.specs.low.firing.declared.wires.InWire.{InWire}
+use Rattle.tdf_streams.specs.low.firing.declared.wires.OutWire.{OutWire}
 use Rattle.tdf_layout.proofs.Setting.{set_long, set_other}
 use Rattle.tdf_layout.specs.machine.Ends.{EndsUpTo, ends_at, ends_before, ends_if, in_wire, in_wires, is_of, no_ends, out_wire, out_wires, read_by, wire_in, wire_out, with_in, with_out, written_by}
-use Rattle.tdf_wiring.proofs.Api.{filtered_next}
-use Rattle.tdf_wiring.specs.declared.edges.EdgeRow.{EdgeRow}
+use Rattle.tdf_streams.proofs.Api.{filtered_next}
+use Rattle.tdf_streams.specs.low.wiring.declared.edges.EdgeRow.{EdgeRow}
 
 -- the row of an actor that grows, if it is of the cluster
 set_same : (b : Bool) (rows : List WiresOf) (r : ℕ) (change : WiresOf → WiresOf) (old new : WiresOf) → r < length rows → ends_at rows r ≡ ends_if b old → change old ≡ new

@@ -6,12 +6,12 @@ use Rattle.std.proofs.lemmas.List.{get_or-replicate, get_or-set_same, length-rep
 use Rattle.std.proofs.lemmas.List.FromFn.{get_or-map-range_with_len, length-map-range_with_len}
 use Rattle.std.specs.List.{range_with_len}
 use Rattle.std.specs.Prelude.{slice_set}
-use Rattle.tdf_fixed.specs.declared.raw.Raw.{Raw}
+use Rattle.tdf_streams.specs.low.fixed.declared.raw.Raw.{Raw}
 use Rattle.tdf_layout.proofs.Setting.{set_long, set_other}
 use Rattle.tdf_layout.specs.machine.Initials.{given_to}
-use Rattle.tdf_bind.specs.Flat.{FlatOf}
+use Rattle.tdf_streams.specs.low.bind.Flat.{FlatOf}
 use Rattle.tdf_streams.specs.Cluster.{given_at, initial_sample, zero_of}
-use Rattle.tdf_wiring.specs.declared.modules.PortRow.{PortRow}
+use Rattle.tdf_streams.specs.low.wiring.declared.modules.PortRow.{PortRow}
 
 pub given_long : (given : List (ℕ × Raw)) (samples : List Raw) → length (given_to given samples) ≡ length samples
 given_long [] samples = refl

@@ -5,13 +5,13 @@ use Rattle.std.proofs.lemmas.Bool.{cases_eq, eq-eqb, ne_eqb}
 use Rattle.std.proofs.lemmas.List.{get_or-set_same}
 use Rattle.std.proofs.lemmas.Option.{get_or_from_slice_get, slice_get-get_or, slice_get_within}
 use Rattle.std.specs.List.{cons_option}
-use Rattle.tdf_bind.specs.Flat.{FlatOf}
+use Rattle.tdf_streams.specs.low.bind.Flat.{FlatOf}
 use Rattle.tdf_layout.proofs.Picked.{picked}
 use Rattle.tdf_layout.proofs.Setting.{set_long, set_other}
 use Rattle.tdf_layout.specs.Traced.{AreTracedPorts, number_if_traced}
 use Rattle.tdf_layout.specs.machine.Marks.{ListedUpTo, is_shown, list_at, with_number}
-use Rattle.tdf_wiring.proofs.Api.{filtered_next}
-use Rattle.tdf_wiring.specs.declared.modules.PortRow.{PortRow}
+use Rattle.tdf_streams.proofs.Api.{filtered_next}
+use Rattle.tdf_streams.specs.low.wiring.declared.modules.PortRow.{PortRow}
 
 set_same : (b : Bool) (lists : List (List ℕ)) (m n : ℕ) → m < length lists → list_at (with_number b m n lists) m ≡ list_at lists m ++ cons_option (if b then Some n else None) []
 set_same true lists m n inside = get_or-set_same lists m (list_at lists m ++ n ∷ []) [] inside

@@ -6,26 +6,26 @@ use Rattle.std.proofs.lemmas.List.Elements.{filter-append}
 use Rattle.std.proofs.lemmas.Option.{slice_get_within}
 use Rattle.std.specs.List.{cons_option, enumerate_from}
 use Rattle.std.specs.Prelude.{filter, filter_map}
-use Rattle.tdf_base.specs.declared.codes.Code.{Code}
-use Rattle.tdf_flat.specs.Flat.{IsFlatOf, top_place}
-use Rattle.tdf_flat.specs.declared.model.Flat.{Flat}
-use Rattle.tdf_flow.proofs.Api.{get_low, none_some, some_same}
+use Rattle.tdf_streams.specs.low.base.declared.codes.Code.{Code}
+use Rattle.tdf_streams.specs.low.flat.Flat.{IsFlatOf, top_place}
+use Rattle.tdf_streams.specs.low.flat.declared.model.Flat.{Flat}
+use Rattle.tdf_streams.proofs.Api.{get_low, none_some, some_same}
 use Rattle.tdf_formats.specs.Formats.{IsOwnPort, IsSoundModel, PortsHaveFormats, format_of_row, signal_format}
-use Rattle.tdf_fixed.specs.declared.format.Format.{Format}
+use Rattle.tdf_streams.specs.low.fixed.declared.format.Format.{Format}
 use Rattle.tdf_layout.proofs.Picked.{complete}
 use Rattle.tdf_layout.specs.Traced.{SignalsHaveOnePort}
-use Rattle.tdf_roles.specs.Roles.{roles_of}
-use Rattle.tdf_tree.specs.Pure.{PureTree}
-use Rattle.tdf_tree.specs.declared.blocks.PortKind.TheVariants.{Out}
-use Rattle.tdf_walk.specs.Met.{Met, met_in}
-use Rattle.tdf_walk.specs.Tables.{is_of, numbers_after, same_kind, signal_of}
-use Rattle.tdf_walk.specs.declared.tables.Signal.{Signal}
-use Rattle.tdf_walk.specs.declared.tables.SignalNumber.{SignalNumber}
-use Rattle.tdf_wiring.specs.Drivers.{driver, driver_fault, driver_of, fault_of, signal_row, writers_in}
-use Rattle.tdf_wiring.specs.Writers.{gives, module_writers, port_writer}
-use Rattle.tdf_wiring.specs.declared.drivers.SignalRow.{SignalRow}
-use Rattle.tdf_wiring.specs.declared.modules.PortRow.{PortRow}
-use Rattle.tdf_wiring.specs.declared.writers.Writer.{Writer}
+use Rattle.tdf_streams.specs.low.roles.Roles.{roles_of}
+use Rattle.tdf_streams.specs.low.tree.Pure.{PureTree}
+use Rattle.tdf_streams.specs.low.tree.declared.blocks.PortKind.TheVariants.{Out}
+use Rattle.tdf_streams.specs.low.walk.Met.{Met, met_in}
+use Rattle.tdf_streams.specs.low.walk.Tables.{is_of, numbers_after, same_kind, signal_of}
+use Rattle.tdf_streams.specs.low.walk.declared.tables.Signal.{Signal}
+use Rattle.tdf_streams.specs.low.walk.declared.tables.SignalNumber.{SignalNumber}
+use Rattle.tdf_streams.specs.low.wiring.Drivers.{driver, driver_fault, driver_of, fault_of, signal_row, writers_in}
+use Rattle.tdf_streams.specs.low.wiring.Writers.{gives, module_writers, port_writer}
+use Rattle.tdf_streams.specs.low.wiring.declared.drivers.SignalRow.{SignalRow}
+use Rattle.tdf_streams.specs.low.wiring.declared.modules.PortRow.{PortRow}
+use Rattle.tdf_streams.specs.low.wiring.declared.writers.Writer.{Writer}
 
 -- what passes a test is among what is filtered
 filter_has : {X : Type 0} (f : X → Bool) (xs : List X) (i : ℕ) (x : X) → slice_get xs i ≡ Some x → f x ≡ true → (j : ℕ) × (slice_get (filter f xs) j ≡ Some x)

@@ -2,7 +2,7 @@
 use Rattle.std.proofs.Common.{◌≡◌, ◌∙◌, ℕ, zero, suc, ◌+◌, ◌≤◌, Option, Some, None, List, [], ◌∷◌, refl, ap, sym, arith, slice_get}
 use Rattle.std.specs.List.{cons_option, enumerate_from}
 use Rattle.std.specs.Prelude.{filter_map}
-use Rattle.tdf_flow.proofs.Api.{none_some, some_same}
+use Rattle.tdf_streams.proofs.Api.{none_some, some_same}
 
 module _ {A B : Type 0} (f : ℕ → A → Option B) where
   abbrev pub picked : ℕ → List A → List B

@@ -3,38 +3,38 @@ use Rattle.std.proofs.Common.{◌≡◌, ◌∙◌, ◌≢◌, ℕ, suc, ◌<◌
 use Rattle.std.proofs.lemmas.Bool.{cases_eq, eq-eqb, ne_eqb}
 use Rattle.std.proofs.lemmas.Option.{slice_get-map}
 use Rattle.std.specs.Prelude.{All}
-use Rattle.tdf_bind.specs.Flat.{FlatOf}
-use Rattle.tdf_dynamic.specs.Attributes.{AttrsOf, attrs_at}
-use Rattle.tdf_dynamic.specs.Rates.{edge_kind, kind_of, net_of, net_ports, port_rate, rate_by, rated_edge, rated_port, read_rate_by, write_rate_by}
-use Rattle.tdf_expr.specs.Frames.{is_written}
-use Rattle.tdf_expr.specs.Made.{start_rates}
-use Rattle.tdf_expr.specs.declared.spans.PortSpan.{PortSpan}
-use Rattle.tdf_firing.specs.Wires.{WiresOf}
-use Rattle.tdf_firing.specs.declared.wires.InWire.{InWire}
-use Rattle.tdf_firing.specs.declared.wires.OutWire.{OutWire}
-use Rattle.tdf_flat.specs.Flat.{IsFlatOf}
-use Rattle.tdf_flat.specs.declared.model.Flat.{Flat}
-use Rattle.tdf_flow.proofs.Api.{none_some, some_same}
+use Rattle.tdf_streams.specs.low.bind.Flat.{FlatOf}
+use Rattle.tdf_streams.specs.low.dynamic.Attributes.{AttrsOf, attrs_at}
+use Rattle.tdf_streams.specs.low.dynamic.Rates.{edge_kind, kind_of, net_of, net_ports, port_rate, rate_by, rated_edge, rated_port, read_rate_by, write_rate_by}
+use Rattle.tdf_streams.specs.low.expr.Frames.{is_written}
+use Rattle.tdf_streams.specs.low.expr.Made.{start_rates}
+use Rattle.tdf_streams.specs.low.expr.declared.spans.PortSpan.{PortSpan}
+use Rattle.tdf_streams.specs.low.firing.Wires.{WiresOf}
+use Rattle.tdf_streams.specs.low.firing.declared.wires.InWire.{InWire}
+use Rattle.tdf_streams.specs.low.firing.declared.wires.OutWire.{OutWire}
+use Rattle.tdf_streams.specs.low.flat.Flat.{IsFlatOf}
+use Rattle.tdf_streams.specs.low.flat.declared.model.Flat.{Flat}
+use Rattle.tdf_streams.proofs.Api.{none_some, some_same}
 use Rattle.tdf_formats.specs.Formats.{IsSoundModel, PortsHaveFormats}
-use Rattle.tdf_graph.specs.declared.actors.Edge.{Edge}
+use Rattle.tdf_streams.specs.low.graph.declared.actors.Edge.{Edge}
 use Rattle.tdf_layout.proofs.Edges.{edge_row}
 use Rattle.tdf_layout.proofs.Rows.{all_at, index_map}
 use Rattle.tdf_layout.proofs.Wired.{InSpan, IsAtPlace, OutSpan, at_place, in_span, out_span, spans_at}
 use Rattle.tdf_layout.specs.Edges.{IsBetween, IsEdgeRow, IsFromSampler, IsToSink}
 use Rattle.tdf_layout.specs.Rates.{AreRatesOf, PortsSetRates, RatesAreWithin, SamplersPutOne, SinksTakeOne}
 use Rattle.tdf_layout.specs.Wiring.{AreWiresOf}
-use Rattle.tdf_limits.proofs.Api.{starts_are_allowed}
-use Rattle.tdf_limits.specs.Limits.{AreWithinLimits, FlatIsWithinLimits, IsAlwaysRate, limits_in}
-use Rattle.tdf_meaning.specs.Fits.{RatesFit}
+use Rattle.tdf_streams.proofs.Api.{starts_are_allowed}
+use Rattle.tdf_streams.specs.low.limits.Limits.{AreWithinLimits, FlatIsWithinLimits, IsAlwaysRate, limits_in}
+use Rattle.tdf_streams.specs.low.meaning.Fits.{RatesFit}
 use Rattle.tdf_streams.specs.Periods.{HasAllowedRates, read_rates, write_rates}
 use Rattle.tdf_streams.specs.Places.{driver_or, place_of_port}
-use Rattle.tdf_timestep.specs.Period.{rate_at, rate_of}
-use Rattle.tdf_tree.specs.Pure.{PureTree}
-use Rattle.tdf_tree.specs.declared.blocks.PortKind.{PortKind}
-use Rattle.tdf_tree.specs.declared.blocks.PortKind.TheVariants.{In, DeIn, DeOut}
-use Rattle.tdf_wiring.specs.declared.edges.EdgeRow.{EdgeRow}
-use Rattle.tdf_wiring.specs.declared.modules.ModuleRow.{ModuleRow}
-use Rattle.tdf_wiring.specs.declared.modules.PortRow.{PortRow}
+use Rattle.tdf_streams.specs.low.timestep.Period.{rate_at, rate_of}
+use Rattle.tdf_streams.specs.low.tree.Pure.{PureTree}
+use Rattle.tdf_streams.specs.low.tree.declared.blocks.PortKind.{PortKind}
+use Rattle.tdf_streams.specs.low.tree.declared.blocks.PortKind.TheVariants.{In, DeIn, DeOut}
+use Rattle.tdf_streams.specs.low.wiring.declared.edges.EdgeRow.{EdgeRow}
+use Rattle.tdf_streams.specs.low.wiring.declared.modules.ModuleRow.{ModuleRow}
+use Rattle.tdf_streams.specs.low.wiring.declared.modules.PortRow.{PortRow}
 
 abbrev IsOn : Bool → Type 0
 IsOn true = Unit {0}

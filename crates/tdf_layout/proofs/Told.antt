@@ -3,15 +3,15 @@ use Rattle.std.proofs.Common.{◌≡◌, ◌∙◌, ℕ, ◌+◌, Bool, true, fa
 use Rattle.std.proofs.Math.Seq.{take-length}
 use Rattle.std.proofs.lemmas.Bool.{eq-eqb, eqb-true, ne_eqb}
 use Rattle.std.proofs.lemmas.Option.{slice_get-map, slice_get_within}
-use Rattle.tdf_bind.specs.Actors.{cluster_of}
-use Rattle.tdf_bind.specs.Flat.{FlatOf}
-use Rattle.tdf_bind.specs.declared.actors.ActorRow.{ActorRow}
-use Rattle.tdf_firing.specs.Wires.{WiresOf}
-use Rattle.tdf_firing.specs.declared.wires.InWire.{InWire}
-use Rattle.tdf_firing.specs.declared.wires.OutWire.{OutWire}
-use Rattle.tdf_flow.proofs.Api.{get_inside, none_some, some_same}
-use Rattle.tdf_graph.specs.declared.actors.Actor.{Actor}
-use Rattle.tdf_graph.specs.declared.actors.Actor.TheVariants as actor
+use Rattle.tdf_streams.specs.low.bind.Actors.{cluster_of}
+use Rattle.tdf_streams.specs.low.bind.Flat.{FlatOf}
+use Rattle.tdf_streams.specs.low.bind.declared.actors.ActorRow.{ActorRow}
+use Rattle.tdf_streams.specs.low.firing.Wires.{WiresOf}
+use Rattle.tdf_streams.specs.low.firing.declared.wires.InWire.{InWire}
+use Rattle.tdf_streams.specs.low.firing.declared.wires.OutWire.{OutWire}
+use Rattle.tdf_streams.proofs.Api.{get_inside, none_some, some_same}
+use Rattle.tdf_streams.specs.low.graph.declared.actors.Actor.{Actor}
+use Rattle.tdf_streams.specs.low.graph.declared.actors.Actor.TheVariants as actor
 use Rattle.tdf_layout.proofs.Picked.{IsPicked, complete, once, sound}
 use Rattle.tdf_layout.proofs.Rows.{index_map}
 use Rattle.tdf_layout.specs.Wires.{AreClusterWires, IsWiringOf, SinksHaveOne}
@@ -20,7 +20,7 @@ use Rattle.tdf_layout.specs.declared.wiring.ActorWires.{ActorWires}
 use Rattle.tdf_layout.specs.declared.wiring.ActorWires.TheVariants.{Module, Sampler, Sink, Elsewhere}
 use Rattle.tdf_layout.specs.machine.Ends.{EndsUpTo, HasInput, HasInputIf, IsTold, IsToldIf, ToldUpTo, ends_at, ends_if, in_wire, in_wires, is_of, out_wire, out_wires, wire_in, wire_out}
 use Rattle.tdf_streams.specs.Places.{kind_of_row, place_of_port, reader_of_row, source_of_row, writer_of_row}
-use Rattle.tdf_wiring.specs.declared.edges.EdgeRow.{EdgeRow}
+use Rattle.tdf_streams.specs.low.wiring.declared.edges.EdgeRow.{EdgeRow}
 
 some_if : {B : Type 0} (b : Bool) (x y : B) → (if b then Some x else None) ≡ Some y → (b ≡ true) × (x ≡ y)
 some_if true x y is = (refl, some_same x y is)

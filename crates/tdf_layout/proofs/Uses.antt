@@ -1,25 +1,25 @@
 -- What those who fire actors need of the edges.
 use Rattle.std.proofs.Common.{◌≡◌, ◌∙◌, ℕ, ◌<◌, Some, List, length, sym, subst, slice_get}
 use Rattle.std.specs.Prelude.{All}
-use Rattle.tdf_bind.specs.Flat.{FlatOf}
-use Rattle.tdf_expr.specs.Frames.{IsOfFormat}
-use Rattle.tdf_firing.specs.Actors.{CanPutOne}
-use Rattle.tdf_firing.specs.Formats.{AreFormats}
-use Rattle.tdf_firing.specs.Wires.{WiresOf}
-use Rattle.tdf_fixed.specs.declared.format.Format.{Format}
-use Rattle.tdf_flat.specs.Flat.{IsFlatOf}
-use Rattle.tdf_flat.specs.declared.model.Flat.{Flat}
-use Rattle.tdf_flow.proofs.Api.{some_same}
+use Rattle.tdf_streams.specs.low.bind.Flat.{FlatOf}
+use Rattle.tdf_streams.specs.low.expr.Frames.{IsOfFormat}
+use Rattle.tdf_streams.specs.low.firing.Actors.{CanPutOne}
+use Rattle.tdf_streams.specs.low.firing.Formats.{AreFormats}
+use Rattle.tdf_streams.specs.low.firing.Wires.{WiresOf}
+use Rattle.tdf_streams.specs.low.fixed.declared.format.Format.{Format}
+use Rattle.tdf_streams.specs.low.flat.Flat.{IsFlatOf}
+use Rattle.tdf_streams.specs.low.flat.declared.model.Flat.{Flat}
+use Rattle.tdf_streams.proofs.Api.{some_same}
 use Rattle.tdf_formats.specs.Formats.{IsSoundModel, PortsHaveFormats}
 use Rattle.tdf_layout.proofs.Samples.{edge_fits, read_format, write_format}
 use Rattle.tdf_layout.proofs.Wired.{spans_at}
 use Rattle.tdf_layout.specs.Samples.{HasFormat, edge_format}
 use Rattle.tdf_layout.specs.Wiring.{AreEdgesOf, AreWiresOf, Writes}
-use Rattle.tdf_rings.specs.Carried.{ring_at}
-use Rattle.tdf_rings.specs.Rings.{RingOf}
+use Rattle.tdf_streams.specs.low.rings.Carried.{ring_at}
+use Rattle.tdf_streams.specs.low.rings.Rings.{RingOf}
 use Rattle.tdf_streams.specs.Cluster.{initial_list}
-use Rattle.tdf_tree.specs.Pure.{PureTree}
-use Rattle.tdf_wiring.specs.declared.edges.EdgeRow.{EdgeRow}
+use Rattle.tdf_streams.specs.low.tree.Pure.{PureTree}
+use Rattle.tdf_streams.specs.low.wiring.declared.edges.EdgeRow.{EdgeRow}
 
 -- a sampler can put a sample on each of its edges where each has room for one
 pub can_put : (tables : FlatOf) (m : ℕ) (edges : List ℕ) (rings : List RingOf) → AreEdgesOf tables m edges → length rings ≡ length tables.edges

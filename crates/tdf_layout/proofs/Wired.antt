@@ -3,29 +3,29 @@ use Rattle.std.proofs.Common.{◌≡◌, ◌∙◌, ℕ, zero, suc, ◌<◌, ◌
 use Rattle.std.proofs.lemmas.Bool.{cases_lt, eq-eqb}
 use Rattle.std.proofs.lemmas.Option.{slice_get_within}
 use Rattle.std.specs.Prelude.{cond, filter}
-use Rattle.tdf_expr.specs.Frames.{is_written}
-use Rattle.tdf_expr.specs.Made.{port_spans_of}
-use Rattle.tdf_expr.specs.declared.spans.PortSpan.{PortSpan}
-use Rattle.tdf_firing.specs.Wires.{AreWired, WiresOf}
-use Rattle.tdf_firing.specs.declared.wires.InWire.{InWire}
-use Rattle.tdf_firing.specs.declared.wires.OutWire.{OutWire}
-use Rattle.tdf_flat.specs.Flat.{IsFlatOf}
-use Rattle.tdf_flat.specs.declared.model.Flat.{Flat}
-use Rattle.tdf_flow.proofs.Api.{get_inside, none_some, some_same}
+use Rattle.tdf_streams.specs.low.expr.Frames.{is_written}
+use Rattle.tdf_streams.specs.low.expr.Made.{port_spans_of}
+use Rattle.tdf_streams.specs.low.expr.declared.spans.PortSpan.{PortSpan}
+use Rattle.tdf_streams.specs.low.firing.Wires.{AreWired, WiresOf}
+use Rattle.tdf_streams.specs.low.firing.declared.wires.InWire.{InWire}
+use Rattle.tdf_streams.specs.low.firing.declared.wires.OutWire.{OutWire}
+use Rattle.tdf_streams.specs.low.flat.Flat.{IsFlatOf}
+use Rattle.tdf_streams.specs.low.flat.declared.model.Flat.{Flat}
+use Rattle.tdf_streams.proofs.Api.{get_inside, none_some, some_same}
 use Rattle.tdf_formats.specs.Formats.{IsOwnPort, IsSoundModel, PortsHaveFormats, signal_format}
-use Rattle.tdf_graph.specs.declared.actors.Actor.TheVariants as actor
+use Rattle.tdf_streams.specs.low.graph.declared.actors.Actor.TheVariants as actor
 use Rattle.tdf_layout.proofs.Actors.{IsNoSampler, IsOtherKind, module_kind}
 use Rattle.tdf_layout.proofs.Counts.{place_is}
 use Rattle.tdf_layout.proofs.Edges.{edge_row, port_once}
 use Rattle.tdf_layout.specs.Edges.{IsEdgeRow, WiresAreWired}
 use Rattle.tdf_layout.specs.Wiring.{AreWiresOf, port_of_row}
 use Rattle.tdf_layout.specs.machine.Places.{count_of}
-use Rattle.tdf_limits.specs.Limits.{limits_in, times_value}
-use Rattle.tdf_meaning.specs.Fits.{RatesFit}
+use Rattle.tdf_streams.specs.low.limits.Limits.{limits_in, times_value}
+use Rattle.tdf_streams.specs.low.meaning.Fits.{RatesFit}
 use Rattle.tdf_streams.specs.Places.{actor_kind, block_at, block_of_row, driver_or, kind_of_row, place_of_port, reader_of_row, source_of_row, writer_of_row}
-use Rattle.tdf_tree.specs.Pure.{PureTree}
-use Rattle.tdf_wiring.specs.declared.edges.EdgeRow.{EdgeRow}
-use Rattle.tdf_wiring.specs.declared.modules.PortRow.{PortRow}
+use Rattle.tdf_streams.specs.low.tree.Pure.{PureTree}
+use Rattle.tdf_streams.specs.low.wiring.declared.edges.EdgeRow.{EdgeRow}
+use Rattle.tdf_streams.specs.low.wiring.declared.modules.PortRow.{PortRow}
 
 -- the ports of a module have different places
 place_less : (ports : List PortRow) (a b m : ℕ) (x : PortRow) → slice_get ports a ≡ Some x → x.«module» ≡ m → a < b → count_of (take a ports) m < count_of (take b ports) m

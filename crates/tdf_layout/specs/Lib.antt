@@ -5,4 +5,5 @@ pub mod Samples
 pub mod Traced
 pub mod Wires
 pub mod Wiring
+pub mod low
 pub mod machine

@@ -2,7 +2,7 @@
 -- Source: own.
 use Rattle.std.specs.Prelude.{◌≡◌, ◌<◌, ℕ, List, length, slice_index}
 use Rattle.tdf_streams.specs.Places.{place_of_port}
-use Rattle.tdf_wiring.specs.declared.modules.PortRow.{PortRow}
+use Rattle.tdf_streams.specs.low.wiring.declared.modules.PortRow.{PortRow}
 
 -- one for each port
 pub record ArePlaces (ports : List PortRow) (places : List ℕ) : Type 0 where

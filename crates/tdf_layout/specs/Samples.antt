@@ -1,20 +1,20 @@
 -- The formats of edges, and of what they hold at first.
 -- Source: own.
 use Rattle.std.specs.Prelude.{◌≡◌, ℕ, Option, Some, None, All, slice_get}
-use Rattle.tdf_bind.specs.Flat.{FlatOf}
-use Rattle.tdf_expr.specs.Frames.{IsOfFormat}
-use Rattle.tdf_expr.specs.Made.{port_spans_of}
-use Rattle.tdf_expr.specs.declared.spans.PortSpan.{PortSpan}
-use Rattle.tdf_fixed.specs.declared.format.Format.{Format}
-use Rattle.tdf_flat.specs.Flat.{IsFlatOf}
-use Rattle.tdf_flat.specs.declared.model.Flat.{Flat}
+use Rattle.tdf_streams.specs.low.bind.Flat.{FlatOf}
+use Rattle.tdf_streams.specs.low.expr.Frames.{IsOfFormat}
+use Rattle.tdf_streams.specs.low.expr.Made.{port_spans_of}
+use Rattle.tdf_streams.specs.low.expr.declared.spans.PortSpan.{PortSpan}
+use Rattle.tdf_streams.specs.low.fixed.declared.format.Format.{Format}
+use Rattle.tdf_streams.specs.low.flat.Flat.{IsFlatOf}
+use Rattle.tdf_streams.specs.low.flat.declared.model.Flat.{Flat}
 use Rattle.tdf_formats.specs.Formats.{IsSoundModel, signal_format}
 use Rattle.tdf_layout.specs.Wiring.{port_at}
 use Rattle.tdf_streams.specs.Cluster.{initial_list}
 use Rattle.tdf_streams.specs.Places.{block_at, driver_or, module_of_port, place_of_port}
-use Rattle.tdf_tree.specs.Pure.{PureTree}
-use Rattle.tdf_wiring.specs.declared.edges.EdgeRow.{EdgeRow}
-use Rattle.tdf_wiring.specs.declared.modules.PortRow.{PortRow}
+use Rattle.tdf_streams.specs.low.tree.Pure.{PureTree}
+use Rattle.tdf_streams.specs.low.wiring.declared.edges.EdgeRow.{EdgeRow}
+use Rattle.tdf_streams.specs.low.wiring.declared.modules.PortRow.{PortRow}
 
 -- the format of an edge: that of the signal of the port that gives it
 abbrev pub format_of_port : FlatOf → Option PortRow → Option Format

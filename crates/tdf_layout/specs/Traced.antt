@@ -3,15 +3,15 @@
 use Rattle.std.specs.List.{enumerate_from, list_any}
 use Rattle.std.specs.Prelude.{◌≡◌, ◌<◌, ◌&&◌, ℕ, Bool, true, false, not, List, length, Option, Some}
 use Rattle.std.specs.Prelude.{None, filter_map, if◌then◌else◌, nat_eq, slice_get}
-use Rattle.tdf_bind.specs.Flat.{FlatOf}
-use Rattle.tdf_flat.specs.Flat.{IsFlatOf}
-use Rattle.tdf_flat.specs.declared.model.Flat.{Flat}
+use Rattle.tdf_streams.specs.low.bind.Flat.{FlatOf}
+use Rattle.tdf_streams.specs.low.flat.Flat.{IsFlatOf}
+use Rattle.tdf_streams.specs.low.flat.declared.model.Flat.{Flat}
 use Rattle.tdf_formats.specs.Formats.{IsSoundModel}
-use Rattle.tdf_tree.specs.Pure.{PureTree}
-use Rattle.tdf_tree.specs.declared.blocks.PortKind.{PortKind}
-use Rattle.tdf_tree.specs.declared.blocks.PortKind.TheVariants.{In, Out, DeIn, DeOut}
-use Rattle.tdf_wiring.specs.declared.modules.PortRow.{PortRow}
-use Rattle.tdf_wiring.specs.declared.traces.TraceRow.{TraceRow}
+use Rattle.tdf_streams.specs.low.tree.Pure.{PureTree}
+use Rattle.tdf_streams.specs.low.tree.declared.blocks.PortKind.{PortKind}
+use Rattle.tdf_streams.specs.low.tree.declared.blocks.PortKind.TheVariants.{In, Out, DeIn, DeOut}
+use Rattle.tdf_streams.specs.low.wiring.declared.modules.PortRow.{PortRow}
+use Rattle.tdf_streams.specs.low.wiring.declared.traces.TraceRow.{TraceRow}
 
 abbrev pub is_out : PortKind → Bool
 is_out In = false

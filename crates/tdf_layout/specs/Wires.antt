@@ -1,10 +1,10 @@
 -- What each actor of a cluster reads and writes.
 -- Source: own.
 use Rattle.std.specs.Prelude.{◌≡◌, ◌≢◌, ℕ, List, length, Some, slice_get}
-use Rattle.tdf_bind.specs.Flat.{FlatOf}
-use Rattle.tdf_bind.specs.declared.actors.ActorRow.{ActorRow}
-use Rattle.tdf_graph.specs.declared.actors.Actor.{Actor}
-use Rattle.tdf_graph.specs.declared.actors.Actor.TheVariants as actor
+use Rattle.tdf_streams.specs.low.bind.Flat.{FlatOf}
+use Rattle.tdf_streams.specs.low.bind.declared.actors.ActorRow.{ActorRow}
+use Rattle.tdf_streams.specs.low.graph.declared.actors.Actor.{Actor}
+use Rattle.tdf_streams.specs.low.graph.declared.actors.Actor.TheVariants as actor
 use Rattle.tdf_layout.specs.Wiring.{AreEdgesOf, AreWiresOf, IsEdgeOf}
 use Rattle.tdf_layout.specs.declared.wiring.ActorWires.{ActorWires}
 use Rattle.tdf_layout.specs.declared.wiring.ActorWires.TheVariants.{Module, Sampler, Sink, Elsewhere}

@@ -1,12 +1,12 @@
 -- Which edges the actors of a flat model read and write, and through which ports.
 -- Source: own.
 use Rattle.std.specs.Prelude.{◌≡◌, ℕ, ◌<◌, List, Option, Some, None, length, slice_get}
-use Rattle.tdf_bind.specs.Flat.{FlatOf}
-use Rattle.tdf_firing.specs.Wires.{WiresOf}
-use Rattle.tdf_firing.specs.declared.wires.InWire.{InWire}
-use Rattle.tdf_firing.specs.declared.wires.OutWire.{OutWire}
+use Rattle.tdf_streams.specs.low.bind.Flat.{FlatOf}
+use Rattle.tdf_streams.specs.low.firing.Wires.{WiresOf}
+use Rattle.tdf_streams.specs.low.firing.declared.wires.InWire.{InWire}
+use Rattle.tdf_streams.specs.low.firing.declared.wires.OutWire.{OutWire}
 use Rattle.tdf_streams.specs.Places.{place_of_port, reader_at, source_at, writer_at}
-use Rattle.tdf_wiring.specs.declared.edges.EdgeRow.{EdgeRow}
+use Rattle.tdf_streams.specs.low.wiring.declared.edges.EdgeRow.{EdgeRow}
 
 -- the port that gives an edge
 abbrev pub port_of_row : Option EdgeRow → ℕ

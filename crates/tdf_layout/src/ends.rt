@@ -1,7 +1,7 @@
 //! The edges of an actor, as they are found.
 
 use std::marker::Model;
-use tdf_firing::{InWire, OutWire, Wires};
+use tdf_streams::low::firing::{InWire, OutWire, Wires};
 
 /// The edges that an actor reads, and those that it writes.
 #[derive(Drop)]
@@ -11,7 +11,7 @@ pub(crate) struct Ends {
 }
 
 impl Model for Ends {
-    ghost use Rattle.tdf_firing.specs.Wires.{WiresOf};
+    ghost use Rattle.tdf_streams.specs.low.firing.Wires.{WiresOf};
 
     ghost Value = { WiresOf };
 
@@ -19,11 +19,11 @@ impl Model for Ends {
 }
 
 ghost use Rattle.std.specs.Prelude.{◌≡◌, ◌<◌, IfOk, OnOk, length, map, replicate, Some, slice_get};
-ghost use Rattle.tdf_firing.specs.declared.wires.InWire.{InWire as InWireOf};
+ghost use Rattle.tdf_streams.specs.low.firing.declared.wires.InWire.{InWire as InWireOf};
 ghost use Rattle.tdf_layout.specs.machine.Ends.{no_ends, with_in, with_out};
 
 use std::alloc::Global;
-use tdf_base::Memory;
+use tdf_streams::low::base::Memory;
 
 impl Ends {
     /// None.

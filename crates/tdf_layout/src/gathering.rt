@@ -1,18 +1,18 @@
 //! Each edge goes to its writer and to its reader.
 
 ghost use Rattle.std.specs.Prelude.{◌≡◌, ◌<◌, IfOk, OnOk, length, map, nat_eq, slice_index};
-ghost use Rattle.tdf_bind.specs.Actors.{cluster_of};
-ghost use Rattle.tdf_bind.specs.Ranges.{AreInRange};
+ghost use Rattle.tdf_streams.specs.low.bind.Actors.{cluster_of};
+ghost use Rattle.tdf_streams.specs.low.bind.Ranges.{AreInRange};
 ghost use Rattle.tdf_layout.specs.Ports.{ArePlaces};
 ghost use Rattle.tdf_layout.specs.machine.Ends.{EndsUpTo, read_by, written_by};
 ghost use Rattle.tdf_streams.specs.Places.{driver_or};
 
 use crate::ends::{Ends, no_ends};
 use std::alloc::Global;
-use tdf_base::Memory;
-use tdf_bind::{ActorRow, Flat};
-use tdf_firing::{InWire, OutWire};
-use tdf_wiring::EdgeRow;
+use tdf_streams::low::base::Memory;
+use tdf_streams::low::bind::{ActorRow, Flat};
+use tdf_streams::low::firing::{InWire, OutWire};
+use tdf_streams::low::wiring::EdgeRow;
 
 /// Whether an actor is of the cluster.
 pub(crate) fn is_of(actors: &[ActorRow], cluster: u32, actor: u32) -> bool

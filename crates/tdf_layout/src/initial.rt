@@ -5,11 +5,11 @@ ghost use Rattle.tdf_layout.specs.machine.Initials.{given_to};
 ghost use Rattle.tdf_streams.specs.Cluster.{driver_samples, fraction_of_kind, fraction_of_row, initial_list, initial_samples, zero_of};
 
 use std::alloc::Global;
-use tdf_base::Memory;
-use tdf_bind::Flat;
-use tdf_fixed::Raw;
-use tdf_tree::PortKind;
-use tdf_wiring::{EdgeRow, PortRow, SignalRow};
+use tdf_streams::low::base::Memory;
+use tdf_streams::low::bind::Flat;
+use tdf_streams::low::fixed::Raw;
+use tdf_streams::low::tree::PortKind;
+use tdf_streams::low::wiring::{EdgeRow, PortRow, SignalRow};
 
 /// How many fraction bits the samples of a signal have.
 fn fraction(signals: &[SignalRow], signal: u32) -> u32

@@ -7,7 +7,7 @@ ghost use Rattle.tdf_layout.specs.Samples.{EdgesHaveFormats};
 ghost use Rattle.tdf_layout.specs.Traced.{SignalsHaveOnePort};
 
 use tdf_formats::law_formats;
-use tdf_limits::law_limits;
+use tdf_streams::low::limits::law_limits;
 
 /// Each edge goes from an `out` port to an `in` port of its signal, from a sampler, or to a sink; a port
 /// gives one edge at most; each sink reads one, and writes none; no sampler reads one.

@@ -7,12 +7,14 @@
 //! - `initial`: the samples that an edge holds at first.
 //! - `traced`: the ports whose signals are traced.
 //! - `laws`: what holds of all flat models.
+//! - `low`: what the crates above use of the crates further below.
 #![tactic(auto)]
 
 mod ends;
 mod gathering;
 mod initial;
 mod laws;
+pub mod low;
 mod places;
 mod traced;
 mod wiring;

@@ -4,8 +4,8 @@ ghost use Rattle.std.specs.Prelude.{◌≡◌, ◌+◌, ◌<◌, IfOk, All};
 ghost use Rattle.tdf_layout.specs.Ports.{ArePlaces};
 
 use std::alloc::Global;
-use tdf_base::Memory;
-use tdf_wiring::PortRow;
+use tdf_streams::low::base::Memory;
+use tdf_streams::low::wiring::PortRow;
 
 /// One more; more than fit in memory have no number.
 fn one_more(count: u32) -> Result<u32, Memory>

@@ -17,16 +17,16 @@ impl Model for PortNumbers {
 }
 
 ghost use Rattle.std.specs.Prelude.{◌≡◌, ◌<◌, ◌++◌, ◌∷◌, [], IfOk, OnOk, length, replicate};
-ghost use Rattle.tdf_bind.specs.Ranges.{AreInRange};
+ghost use Rattle.tdf_streams.specs.low.bind.Ranges.{AreInRange};
 ghost use Rattle.tdf_layout.specs.Traced.{AreTracedPorts, is_out};
 ghost use Rattle.tdf_layout.specs.machine.Marks.{AreMarked, EndBefore, ListedUpTo, MarkedUpTo, is_shown, marked, with_number};
 
 use crate::gathering::short;
 use std::alloc::Global;
-use tdf_base::Memory;
-use tdf_bind::Flat;
-use tdf_tree::PortKind;
-use tdf_wiring::{PortRow, TraceRow};
+use tdf_streams::low::base::Memory;
+use tdf_streams::low::bind::Flat;
+use tdf_streams::low::tree::PortKind;
+use tdf_streams::low::wiring::{PortRow, TraceRow};
 
 impl PortNumbers {
     /// None.

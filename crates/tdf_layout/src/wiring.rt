@@ -1,9 +1,9 @@
 //! What each actor of a cluster reads and writes.
 
 ghost use Rattle.std.specs.Prelude.{◌≡◌, ◌<◌, ℕ, IfOk, length, map, nat_eq, Some, slice_get};
-ghost use Rattle.tdf_bind.specs.Ranges.{AreInRange};
-ghost use Rattle.tdf_bind.specs.declared.actors.ActorRow.{ActorRow as ActorRowOf};
-ghost use Rattle.tdf_firing.specs.declared.wires.InWire.{InWire as InWireOf};
+ghost use Rattle.tdf_streams.specs.low.bind.Ranges.{AreInRange};
+ghost use Rattle.tdf_streams.specs.low.bind.declared.actors.ActorRow.{ActorRow as ActorRowOf};
+ghost use Rattle.tdf_streams.specs.low.firing.declared.wires.InWire.{InWire as InWireOf};
 ghost use Rattle.tdf_layout.specs.Wires.{AreClusterWires, SinksHaveOne};
 ghost use Rattle.tdf_layout.specs.machine.Ends.{HasInputIf, IsToldIf, ToldUpTo, ends_at};
 
@@ -12,10 +12,10 @@ use crate::gathering::gathered;
 use crate::places::port_places;
 use std::alloc::Global;
 use std::mem;
-use tdf_base::Memory;
-use tdf_bind::{ActorRow, Flat};
-use tdf_firing::Wires;
-use tdf_graph::Actor;
+use tdf_streams::low::base::Memory;
+use tdf_streams::low::bind::{ActorRow, Flat};
+use tdf_streams::low::firing::Wires;
+use tdf_streams::low::graph::Actor;
 
 /// What an actor reads and writes; edges are numbered through the whole model.
 #[derive(Drop)]

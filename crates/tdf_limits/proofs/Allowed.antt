@@ -1,17 +1,17 @@
 -- The values that rate variables start with lie within their limits.
 use Rattle.std.proofs.Common.{◌≡◌, ◌∙◌, ℕ, zero, suc, List, [], ◌∷◌, Option, Some, None, map, ap, refl, sym, subst}
 use Rattle.std.specs.Prelude.{slice_get}
-use Rattle.tdf_expr.specs.Blocks.{PureBlock, blocks_of, scope_of}
-use Rattle.tdf_expr.specs.Compiled.{AreBlocksOf, IsBlockOf}
-use Rattle.tdf_expr.specs.Frames.{limits_of_rate}
-use Rattle.tdf_expr.specs.Made.{rates_in}
-use Rattle.tdf_expr.specs.Plans.{rate_spans}
-use Rattle.tdf_expr.specs.declared.blocks.Block.{Block}
-use Rattle.tdf_expr.specs.declared.spans.RateSpan.{RateSpan}
+use Rattle.tdf_flat.specs.low.expr.Blocks.{PureBlock, blocks_of, scope_of}
+use Rattle.tdf_flat.specs.low.expr.Compiled.{AreBlocksOf, IsBlockOf}
+use Rattle.tdf_flat.specs.low.expr.Frames.{limits_of_rate}
+use Rattle.tdf_flat.specs.low.expr.Made.{rates_in}
+use Rattle.tdf_flat.specs.low.expr.Plans.{rate_spans}
+use Rattle.tdf_flat.specs.low.expr.declared.blocks.Block.{Block}
+use Rattle.tdf_flat.specs.low.expr.declared.spans.RateSpan.{RateSpan}
 use Rattle.tdf_limits.proofs.Starts.{rates_in_order, rates_start}
 use Rattle.tdf_limits.specs.Limits.{StartsAreAllowed}
-use Rattle.tdf_meaning.specs.Fits.{RatesFit}
-use Rattle.tdf_scope.specs.Names.{Names, globals_of}
+use Rattle.tdf_flat.specs.low.meaning.Fits.{RatesFit}
+use Rattle.tdf_flat.specs.low.scope.Names.{Names, globals_of}
 
 -- the first values of some rate variables are within their limits
 IsAllowed : List RateSpan → Type 0

@@ -3,24 +3,24 @@ use Rattle.std.proofs.Common.{◌≡◌, ℕ, ◌≤◌, List, [], ◌∷◌, �
 use Rattle.std.proofs.lemmas.Bool.Decides.{nat_tests}
 use Rattle.std.specs.List.{flat_map}
 use Rattle.std.specs.Prelude.{nat_lt, false}
-use Rattle.tdf_base.specs.Limits.{greatest_delay}
-use Rattle.tdf_base.specs.declared.codes.Code.TheVariants as code
-use Rattle.tdf_checks.specs.Blocks.{bodies_faults, tdf_faults}
-use Rattle.tdf_checks.specs.Lines.{attr_faults, initial_faults, tdf_line_faults}
-use Rattle.tdf_faults.proofs.Api.{if_none, none_first, none_second}
-use Rattle.tdf_faults.specs.First.{fault_if}
+use Rattle.tdf_flat.specs.low.base.Limits.{greatest_delay}
+use Rattle.tdf_flat.specs.low.base.declared.codes.Code.TheVariants as code
+use Rattle.tdf_flat.specs.low.checks.Blocks.{bodies_faults, tdf_faults}
+use Rattle.tdf_flat.specs.low.checks.Lines.{attr_faults, initial_faults, tdf_line_faults}
+use Rattle.tdf_flat.proofs.Api.{if_none, none_first, none_second}
+use Rattle.tdf_flat.specs.low.faults.First.{fault_if}
 use Rattle.tdf_limits.proofs.Things.{AllThings, all_changed, all_named}
-use Rattle.tdf_meaning.proofs.Api.{found}
-use Rattle.tdf_roles.specs.Roles.{delay_of_port}
-use Rattle.tdf_scope.specs.Index.{kind_faults}
-use Rattle.tdf_scope.specs.Names.{Names, Thing, Port, no_names, place_of, thing_of}
-use Rattle.tdf_scope.specs.Names.{at_delay, at_rate, tdf_names, with_attr, with_attrs, with_store, with_tdf_line, with_tdf_lines}
-use Rattle.tdf_scope.specs.Scope.{Scope, tdf_scope}
-use Rattle.tdf_scope.specs.declared.kinds.Place.TheVariants as place
-use Rattle.tdf_tree.specs.Pure.{PureStore, SConst, SVar, SArray, PureTdfLine, TPort, TStore, TRate, PureTdf}
-use Rattle.tdf_tree.specs.declared.blocks.Attr.{Attr}
-use Rattle.tdf_tree.specs.declared.blocks.Attr.TheVariants as attr
-use Rattle.tdf_tree.specs.declared.stmt.Limit.{Limit}
+use Rattle.tdf_flat.proofs.Api.{found}
+use Rattle.tdf_flat.specs.low.roles.Roles.{delay_of_port}
+use Rattle.tdf_flat.specs.low.scope.Index.{kind_faults}
+use Rattle.tdf_flat.specs.low.scope.Names.{Names, Thing, Port, no_names, place_of, thing_of}
+use Rattle.tdf_flat.specs.low.scope.Names.{at_delay, at_rate, tdf_names, with_attr, with_attrs, with_store, with_tdf_line, with_tdf_lines}
+use Rattle.tdf_flat.specs.low.scope.Scope.{Scope, tdf_scope}
+use Rattle.tdf_flat.specs.low.scope.declared.kinds.Place.TheVariants as place
+use Rattle.tdf_flat.specs.low.tree.Pure.{PureStore, SConst, SVar, SArray, PureTdfLine, TPort, TStore, TRate, PureTdf}
+use Rattle.tdf_flat.specs.low.tree.declared.blocks.Attr.{Attr}
+use Rattle.tdf_flat.specs.low.tree.declared.blocks.Attr.TheVariants as attr
+use Rattle.tdf_flat.specs.low.tree.declared.stmt.Limit.{Limit}
 
 -- what a name stands for has no great delay
 abbrev pub IsShortThing : Thing → Type 0

@@ -3,26 +3,26 @@ use Rattle.std.proofs.Common.{◌≡◌, ◌∙◌, ℕ, ◌+◌, ◌*◌, ◌<�
 use Rattle.std.proofs.lemmas.List.Elements.{All-from_recursion}
 use Rattle.std.specs.List.{AllByRecursion, flat_map}
 use Rattle.std.specs.Prelude.{All, slice_get}
-use Rattle.tdf_base.specs.Limits.{greatest_delay, time_end}
-use Rattle.tdf_bind.specs.Ranges.{FlatIsInRange}
-use Rattle.tdf_checks.specs.Blocks.{composite_faults}
-use Rattle.tdf_checks.specs.Types.{global_faults, traces_faults, type_faults}
-use Rattle.tdf_expr.specs.Made.{block_count, start_rates}
-use Rattle.tdf_expr.specs.declared.blocks.Block.{Block}
-use Rattle.tdf_faults.proofs.Api.{none_first}
+use Rattle.tdf_flat.specs.low.base.Limits.{greatest_delay, time_end}
+use Rattle.tdf_flat.specs.low.bind.Ranges.{FlatIsInRange}
+use Rattle.tdf_flat.specs.low.checks.Blocks.{composite_faults}
+use Rattle.tdf_flat.specs.low.checks.Types.{global_faults, traces_faults, type_faults}
+use Rattle.tdf_flat.specs.low.expr.Made.{block_count, start_rates}
+use Rattle.tdf_flat.specs.low.expr.declared.blocks.Block.{Block}
+use Rattle.tdf_flat.proofs.Api.{none_first}
 use Rattle.tdf_flat.specs.Flat.{top_place, trace_lines}
 use Rattle.tdf_flat.specs.declared.model.Flat.{Flat}
-use Rattle.tdf_graph.specs.Ranges.{IsRate}
+use Rattle.tdf_flat.specs.low.graph.Ranges.{IsRate}
 use Rattle.tdf_limits.proofs.Roles.{IsRoleWithin, roles_short, roles_within}
 use Rattle.tdf_limits.proofs.Rows.{ArePlacedWithin, IsRowWithin, IsPortRowWithin, edges_within, modules_within, placed_within, ports_within}
 use Rattle.tdf_limits.specs.Limits.{FlatIsWithinLimits, IsAlwaysRate, limits_in, text_rate, times_value, values_of}
-use Rattle.tdf_roles.specs.Roles.{roles_of}
-use Rattle.tdf_scope.specs.Names.{globals_of}
-use Rattle.tdf_tree.specs.Pure.{PureTree}
-use Rattle.tdf_wiring.specs.Modules.{module_row, placed_modules}
-use Rattle.tdf_wiring.specs.declared.edges.EdgeRow.{EdgeRow}
-use Rattle.tdf_wiring.specs.declared.modules.ModuleRow.{ModuleRow}
-use Rattle.tdf_wiring.specs.declared.modules.PortRow.{PortRow}
+use Rattle.tdf_flat.specs.low.roles.Roles.{roles_of}
+use Rattle.tdf_flat.specs.low.scope.Names.{globals_of}
+use Rattle.tdf_flat.specs.low.tree.Pure.{PureTree}
+use Rattle.tdf_flat.specs.low.wiring.Modules.{module_row, placed_modules}
+use Rattle.tdf_flat.specs.low.wiring.declared.edges.EdgeRow.{EdgeRow}
+use Rattle.tdf_flat.specs.low.wiring.declared.modules.ModuleRow.{ModuleRow}
+use Rattle.tdf_flat.specs.low.wiring.declared.modules.PortRow.{PortRow}
 
 weaker : {X : Type 0} (P Q : X → Type 0) → ((x : X) → P x → Q x) → (xs : List X) → AllByRecursion P xs → All Q xs
 weaker {X} P Q so xs all = All-from_recursion Q xs (go xs all)

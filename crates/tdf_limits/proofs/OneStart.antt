@@ -1,13 +1,13 @@
 -- The rate variables of the blocks of a model are those of the model, whoever compiled it.
 use Rattle.std.proofs.Common.{◌≡◌, ℕ, zero, suc, List, [], ◌∷◌, map, ap, refl, sym, ◌∙◌}
 use Rattle.std.specs.Prelude.{slice_get}
-use Rattle.tdf_expr.specs.Blocks.{PureBlock, blocks_of}
-use Rattle.tdf_expr.specs.Compiled.{AreBlocksOf}
-use Rattle.tdf_expr.specs.Made.{rates_in}
-use Rattle.tdf_expr.specs.declared.blocks.Block.{Block}
-use Rattle.tdf_expr.specs.declared.spans.RateSpan.{RateSpan}
+use Rattle.tdf_flat.specs.low.expr.Blocks.{PureBlock, blocks_of}
+use Rattle.tdf_flat.specs.low.expr.Compiled.{AreBlocksOf}
+use Rattle.tdf_flat.specs.low.expr.Made.{rates_in}
+use Rattle.tdf_flat.specs.low.expr.declared.blocks.Block.{Block}
+use Rattle.tdf_flat.specs.low.expr.declared.spans.RateSpan.{RateSpan}
 use Rattle.tdf_limits.specs.Limits.{SpansAreOne, StartsAreOne}
-use Rattle.tdf_scope.specs.Names.{Names, globals_of}
+use Rattle.tdf_flat.specs.low.scope.Names.{Names, globals_of}
 
 spans_one : (globals : Names) (ps : List PureBlock) (bs cs : List Block) → AreBlocksOf globals ps bs → AreBlocksOf globals ps cs
     → (n : ℕ) → rates_in (slice_get bs n) ≡ rates_in (slice_get cs n)

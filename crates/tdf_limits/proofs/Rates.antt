@@ -2,17 +2,17 @@
 use Rattle.std.proofs.Common.{◌≡◌, ◌∙◌, ℕ, ◌*◌, ◌≤◌, List, Option, Some, None, refl, ap, subst, sym, arith}
 use Rattle.std.proofs.Math.Nat.{mul-le-mul_left}
 use Rattle.std.specs.Prelude.{slice_index}
-use Rattle.tdf_base.specs.Limits.{greatest_rate as most_rate}
-use Rattle.tdf_graph.specs.Ranges.{IsRate}
+use Rattle.tdf_flat.specs.low.base.Limits.{greatest_rate as most_rate}
+use Rattle.tdf_flat.specs.low.graph.Ranges.{IsRate}
 use Rattle.tdf_limits.specs.Limits.{IsAlwaysRate, times_value}
-use Rattle.tdf_meaning.proofs.Api.{found, thing_sound, limits_placed}
-use Rattle.tdf_meaning.specs.Places.{rate_limits, rate_number}
-use Rattle.tdf_roles.specs.Roles.{variable_at, variable_of, rate_in, rate_of_port}
-use Rattle.tdf_scope.specs.Names.{Names, Thing, Port, RateVar, place_of, thing_of}
-use Rattle.tdf_scope.specs.Scope.{Scope, least_of, greatest_of, least_rate, greatest_rate}
-use Rattle.tdf_scope.specs.Sound.{IsSound}
-use Rattle.tdf_tree.specs.declared.stmt.Limit.{Limit}
-use Rattle.tdf_tree.specs.declared.stmt.Limit.TheVariants as limit
+use Rattle.tdf_flat.proofs.Api.{found, thing_sound, limits_placed}
+use Rattle.tdf_flat.specs.low.meaning.Places.{rate_limits, rate_number}
+use Rattle.tdf_flat.specs.low.roles.Roles.{variable_at, variable_of, rate_in, rate_of_port}
+use Rattle.tdf_flat.specs.low.scope.Names.{Names, Thing, Port, RateVar, place_of, thing_of}
+use Rattle.tdf_flat.specs.low.scope.Scope.{Scope, least_of, greatest_of, least_rate, greatest_rate}
+use Rattle.tdf_flat.specs.low.scope.Sound.{IsSound}
+use Rattle.tdf_flat.specs.low.tree.declared.stmt.Limit.{Limit}
+use Rattle.tdf_flat.specs.low.tree.declared.stmt.Limit.TheVariants as limit
 
 -- a number times the value of a rate variable
 var_always : (own : Names) (c : ℕ) (r : List ℕ) → 1 ≤ c * least_rate (thing_of own r) → c * greatest_rate (thing_of own r) ≤ most_rate

@@ -4,39 +4,39 @@ use Rattle.std.proofs.lemmas.List.Elements.{All-from_recursion}
 use Rattle.std.proofs.lemmas.Option.{slice_get_within}
 use Rattle.std.specs.List.{AllByRecursion, flat_map}
 use Rattle.std.specs.Prelude.{slice_get}
-use Rattle.tdf_base.specs.Limits.{greatest_delay, time_end}
-use Rattle.tdf_bind.specs.Flat.{AreShort, IsShortRole}
-use Rattle.tdf_checks.specs.Blocks.{tdf_faults}
-use Rattle.tdf_checks.specs.Types.{global_faults}
-use Rattle.tdf_expr.specs.Blocks.{Module as TdfBlock, blocks_of}
-use Rattle.tdf_expr.specs.Compiled.{IsBlockOf, AreBlocksOf}
-use Rattle.tdf_expr.specs.Frames.{limits_of_rate}
-use Rattle.tdf_expr.specs.Made.{block_count, rate_spans_of, rates_in, start_rates}
-use Rattle.tdf_expr.specs.Plans.{rate_spans}
-use Rattle.tdf_expr.specs.declared.blocks.Block.{Block}
-use Rattle.tdf_expr.specs.declared.checked.Checked.{Checked}
-use Rattle.tdf_expr.specs.declared.spans.RateSpan.{RateSpan}
-use Rattle.tdf_faults.proofs.Api.{none_first, none_second}
+use Rattle.tdf_flat.specs.low.base.Limits.{greatest_delay, time_end}
+use Rattle.tdf_flat.specs.low.bind.Flat.{AreShort, IsShortRole}
+use Rattle.tdf_flat.specs.low.checks.Blocks.{tdf_faults}
+use Rattle.tdf_flat.specs.low.checks.Types.{global_faults}
+use Rattle.tdf_flat.specs.low.expr.Blocks.{Module as TdfBlock, blocks_of}
+use Rattle.tdf_flat.specs.low.expr.Compiled.{IsBlockOf, AreBlocksOf}
+use Rattle.tdf_flat.specs.low.expr.Frames.{limits_of_rate}
+use Rattle.tdf_flat.specs.low.expr.Made.{block_count, rate_spans_of, rates_in, start_rates}
+use Rattle.tdf_flat.specs.low.expr.Plans.{rate_spans}
+use Rattle.tdf_flat.specs.low.expr.declared.blocks.Block.{Block}
+use Rattle.tdf_flat.specs.low.expr.declared.checked.Checked.{Checked}
+use Rattle.tdf_flat.specs.low.expr.declared.spans.RateSpan.{RateSpan}
+use Rattle.tdf_flat.proofs.Api.{none_first, none_second}
 use Rattle.tdf_limits.proofs.Delays.{IsShortThing, delay_of, names_short}
 use Rattle.tdf_limits.proofs.Rates.{port_always}
 use Rattle.tdf_limits.proofs.Starts.{limits_same, rates_in_order, rates_start}
 use Rattle.tdf_limits.proofs.Steps.{module_short, port_short}
 use Rattle.tdf_limits.proofs.Things.{AllThings}
 use Rattle.tdf_limits.specs.Limits.{IsAlwaysRate}
-use Rattle.tdf_links.specs.Ports.{ports_of_tdf}
-use Rattle.tdf_meaning.specs.Fits.{RatesFit}
-use Rattle.tdf_meaning.specs.Places.{RateLimits, rate_limits}
-use Rattle.tdf_roles.specs.Roles.{module_role, port_data, roles_from}
-use Rattle.tdf_scope.specs.Names.{Names, thing_of}
-use Rattle.tdf_scope.specs.Scope.{Scope, tdf_scope}
-use Rattle.tdf_scope.specs.Sound.{IsSound}
-use Rattle.tdf_tree.specs.Kept.{Each, KeepsAttr, KeepsGlobal, KeepsTdf}
-use Rattle.tdf_tree.specs.Pure.{PureTdf, PureComposite, PureGlobal, GShape, GTdf, GDe, GNet}
-use Rattle.tdf_tree.specs.declared.blocks.PortLine.{PortLine}
-use Rattle.tdf_wiring.specs.Roles.{ModuleOf}
-use Rattle.tdf_wiring.specs.declared.roles.PortData.{PortData}
-use Rattle.tdf_wiring.specs.declared.roles.Role.{Role}
-use Rattle.tdf_wiring.specs.declared.roles.Role.TheVariants.{Module, Processes, Composite}
+use Rattle.tdf_flat.specs.low.links.Ports.{ports_of_tdf}
+use Rattle.tdf_flat.specs.low.meaning.Fits.{RatesFit}
+use Rattle.tdf_flat.specs.low.meaning.Places.{RateLimits, rate_limits}
+use Rattle.tdf_flat.specs.low.roles.Roles.{module_role, port_data, roles_from}
+use Rattle.tdf_flat.specs.low.scope.Names.{Names, thing_of}
+use Rattle.tdf_flat.specs.low.scope.Scope.{Scope, tdf_scope}
+use Rattle.tdf_flat.specs.low.scope.Sound.{IsSound}
+use Rattle.tdf_flat.specs.low.tree.Kept.{Each, KeepsAttr, KeepsGlobal, KeepsTdf}
+use Rattle.tdf_flat.specs.low.tree.Pure.{PureTdf, PureComposite, PureGlobal, GShape, GTdf, GDe, GNet}
+use Rattle.tdf_flat.specs.low.tree.declared.blocks.PortLine.{PortLine}
+use Rattle.tdf_flat.specs.low.wiring.Roles.{ModuleOf}
+use Rattle.tdf_flat.specs.low.wiring.declared.roles.PortData.{PortData}
+use Rattle.tdf_flat.specs.low.wiring.declared.roles.Role.{Role}
+use Rattle.tdf_flat.specs.low.wiring.declared.roles.Role.TheVariants.{Module, Processes, Composite}
 
 pub record IsPortWithin (limits : List RateLimits) (port : PortData) : Type 0 where
   pub delay : port.delay ≤ greatest_delay

@@ -3,25 +3,25 @@ use Rattle.std.proofs.Common.{◌≡◌, ◌∙◌, ℕ, suc, zero, ◌+◌, ◌
 use Rattle.std.proofs.lemmas.List.Elements.{All-from_recursion}
 use Rattle.std.specs.List.{AllByRecursion, cons_option, enumerate_from}
 use Rattle.std.specs.Prelude.{All, filter_map, slice_get}
-use Rattle.tdf_base.specs.Limits.{greatest_delay, time_end}
-use Rattle.tdf_expr.specs.Frames.{limits_of_rate}
-use Rattle.tdf_expr.specs.Made.{block_count, rate_spans_of, start_rates}
-use Rattle.tdf_expr.specs.declared.checked.Checked.{Checked}
+use Rattle.tdf_flat.specs.low.base.Limits.{greatest_delay, time_end}
+use Rattle.tdf_flat.specs.low.expr.Frames.{limits_of_rate}
+use Rattle.tdf_flat.specs.low.expr.Made.{block_count, rate_spans_of, start_rates}
+use Rattle.tdf_flat.specs.low.expr.declared.checked.Checked.{Checked}
 use Rattle.tdf_limits.proofs.Roles.{IsModuleWithin, IsPortWithin, IsRoleWithin}
 use Rattle.tdf_limits.specs.Limits.{IsAlwaysRate, limits_in}
-use Rattle.tdf_meaning.specs.Fits.{RatesFit}
-use Rattle.tdf_tree.specs.declared.blocks.PortKind.{PortKind}
-use Rattle.tdf_tree.specs.declared.blocks.PortKind.TheVariants.{In, Out, DeIn, DeOut}
-use Rattle.tdf_walk.specs.Tables.{RowOf}
-use Rattle.tdf_wiring.specs.Edges.{actor_at, driven_edge, driver_port, edge_by, edge_from, edge_of_kind, edges_of}
-use Rattle.tdf_wiring.specs.Modules.{PlacedModule, as_module, module_ports, module_row, placed_modules, port_row, ports_from}
-use Rattle.tdf_wiring.specs.declared.drivers.SignalRow.{SignalRow}
-use Rattle.tdf_wiring.specs.declared.edges.EdgeRow.{EdgeRow}
-use Rattle.tdf_wiring.specs.declared.modules.ModuleRow.{ModuleRow}
-use Rattle.tdf_wiring.specs.declared.modules.PortRow.{PortRow}
-use Rattle.tdf_wiring.specs.declared.roles.PortData.{PortData}
-use Rattle.tdf_wiring.specs.declared.roles.Role.{Role}
-use Rattle.tdf_wiring.specs.declared.roles.Role.TheVariants.{Module, Processes, Composite}
+use Rattle.tdf_flat.specs.low.meaning.Fits.{RatesFit}
+use Rattle.tdf_flat.specs.low.tree.declared.blocks.PortKind.{PortKind}
+use Rattle.tdf_flat.specs.low.tree.declared.blocks.PortKind.TheVariants.{In, Out, DeIn, DeOut}
+use Rattle.tdf_flat.specs.low.walk.Tables.{RowOf}
+use Rattle.tdf_flat.specs.low.wiring.Edges.{actor_at, driven_edge, driver_port, edge_by, edge_from, edge_of_kind, edges_of}
+use Rattle.tdf_flat.specs.low.wiring.Modules.{PlacedModule, as_module, module_ports, module_row, placed_modules, port_row, ports_from}
+use Rattle.tdf_flat.specs.low.wiring.declared.drivers.SignalRow.{SignalRow}
+use Rattle.tdf_flat.specs.low.wiring.declared.edges.EdgeRow.{EdgeRow}
+use Rattle.tdf_flat.specs.low.wiring.declared.modules.ModuleRow.{ModuleRow}
+use Rattle.tdf_flat.specs.low.wiring.declared.modules.PortRow.{PortRow}
+use Rattle.tdf_flat.specs.low.wiring.declared.roles.PortData.{PortData}
+use Rattle.tdf_flat.specs.low.wiring.declared.roles.Role.{Role}
+use Rattle.tdf_flat.specs.low.wiring.declared.roles.Role.TheVariants.{Module, Processes, Composite}
 
 -- the instances of modules
 abbrev pub ArePlacedWithin : Checked → List PlacedModule → Type 0

@@ -3,13 +3,13 @@ use Rattle.std.proofs.Common.{◌≡◌, ◌∙◌, ℕ, zero, suc, ◌≤◌, L
 use Rattle.std.proofs.lemmas.List.{length-map}
 use Rattle.std.specs.List.{flat_map}
 use Rattle.std.specs.Prelude.{map, slice_get, slice_index}
-use Rattle.tdf_expr.specs.Frames.{limits_of_rate}
-use Rattle.tdf_expr.specs.Plans.{rate_span}
-use Rattle.tdf_expr.specs.declared.spans.RateSpan.{RateSpan}
-use Rattle.tdf_meaning.specs.Fits.{RatesFit}
-use Rattle.tdf_meaning.specs.Places.{RateLimits, limits_of}
-use Rattle.tdf_scope.specs.Names.{Names, Thing, RateVar}
-use Rattle.tdf_scope.specs.Sound.{IsThingSound}
+use Rattle.tdf_flat.specs.low.expr.Frames.{limits_of_rate}
+use Rattle.tdf_flat.specs.low.expr.Plans.{rate_span}
+use Rattle.tdf_flat.specs.low.expr.declared.spans.RateSpan.{RateSpan}
+use Rattle.tdf_flat.specs.low.meaning.Fits.{RatesFit}
+use Rattle.tdf_flat.specs.low.meaning.Places.{RateLimits, limits_of}
+use Rattle.tdf_flat.specs.low.scope.Names.{Names, Thing, RateVar}
+use Rattle.tdf_flat.specs.low.scope.Sound.{IsThingSound}
 
 pub limits_same : (things : List Thing) → flat_map limits_of things ≡ map limits_of_rate (flat_map rate_span things)
 limits_same [] = refl

@@ -2,13 +2,13 @@
 use Rattle.std.proofs.Common.{ℕ, ◌<◌, Bool, true, false, List, [], ◌∷◌, Option, Some, None, arith}
 use Rattle.std.specs.Cmp.Lexicographic.{pointwise}
 use Rattle.std.specs.Prelude.{nat_eq}
-use Rattle.tdf_base.specs.Limits.{time_end}
-use Rattle.tdf_roles.specs.Roles.{step_of_port}
-use Rattle.tdf_roles.specs.Standing.{or_else, last_of, when, module_step, port_step}
-use Rattle.tdf_scope.specs.Names.{Thing}
-use Rattle.tdf_tree.specs.Kept.{Each, KeepsAttr}
-use Rattle.tdf_tree.specs.declared.blocks.Attr.{Attr}
-use Rattle.tdf_tree.specs.declared.blocks.Attr.TheVariants as attr
+use Rattle.tdf_flat.specs.low.base.Limits.{time_end}
+use Rattle.tdf_flat.specs.low.roles.Roles.{step_of_port}
+use Rattle.tdf_flat.specs.low.roles.Standing.{or_else, last_of, when, module_step, port_step}
+use Rattle.tdf_flat.specs.low.scope.Names.{Thing}
+use Rattle.tdf_flat.specs.low.tree.Kept.{Each, KeepsAttr}
+use Rattle.tdf_flat.specs.low.tree.declared.blocks.Attr.{Attr}
+use Rattle.tdf_flat.specs.low.tree.declared.blocks.Attr.TheVariants as attr
 
 -- what a line says is short
 abbrev IsShortStep : Option ℕ → Type 0

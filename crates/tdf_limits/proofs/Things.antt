@@ -3,7 +3,7 @@ use Rattle.std.proofs.Common.{◌≡◌, ◌∙◌, ℕ, zero, suc, Bool, true, 
 use Rattle.std.specs.Cmp.Lexicographic.{pointwise}
 use Rattle.std.specs.List.{list_any}
 use Rattle.std.specs.Prelude.{if◌then◌else◌, nat_eq, slice_get, slice_set}
-use Rattle.tdf_scope.specs.Names.{Names, Thing, at_place, changed, changed_at, place_of, thing_of, with_name}
+use Rattle.tdf_flat.specs.low.scope.Names.{Names, Thing, at_place, changed, changed_at, place_of, thing_of, with_name}
 
 -- a fact of each thing of a name space
 abbrev pub AllThings : (Thing → Type 0) → Names → Type 0

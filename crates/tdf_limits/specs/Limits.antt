@@ -3,24 +3,24 @@
 -- Source: own.
 use Rattle.std.specs.Prelude.{◌≡◌, ◌<◌, ◌≤◌, ◌*◌, ℕ, List, [], length, map, Option, Some, None, All}
 use Rattle.std.specs.Prelude.{slice_get, slice_index}
-use Rattle.tdf_base.specs.Limits.{greatest_delay, time_end}
-use Rattle.tdf_bind.specs.Actors.{AreActors}
-use Rattle.tdf_bind.specs.Ranges.{AreInRange}
-use Rattle.tdf_checks.specs.Types.{type_faults}
-use Rattle.tdf_expr.specs.Checked.{IsChecked, IsCheckedOf}
-use Rattle.tdf_expr.specs.Frames.{limits_of_rate}
-use Rattle.tdf_expr.specs.Made.{block_count, rate_spans_of, start_rates}
-use Rattle.tdf_expr.specs.declared.checked.Checked.{Checked}
+use Rattle.tdf_flat.specs.low.base.Limits.{greatest_delay, time_end}
+use Rattle.tdf_flat.specs.low.bind.Actors.{AreActors}
+use Rattle.tdf_flat.specs.low.bind.Ranges.{AreInRange}
+use Rattle.tdf_flat.specs.low.checks.Types.{type_faults}
+use Rattle.tdf_flat.specs.low.expr.Checked.{IsChecked, IsCheckedOf}
+use Rattle.tdf_flat.specs.low.expr.Frames.{limits_of_rate}
+use Rattle.tdf_flat.specs.low.expr.Made.{block_count, rate_spans_of, start_rates}
+use Rattle.tdf_flat.specs.low.expr.declared.checked.Checked.{Checked}
 use Rattle.tdf_flat.specs.Flat.{IsFlatOf}
 use Rattle.tdf_flat.specs.declared.model.Flat.{Flat}
-use Rattle.tdf_graph.specs.Ranges.{IsRate}
-use Rattle.tdf_meaning.specs.Fits.{RatesFit}
-use Rattle.tdf_meaning.specs.Places.{RateLimits}
-use Rattle.tdf_tree.specs.Kept.{IsKept}
-use Rattle.tdf_tree.specs.Pure.{PureTree}
-use Rattle.tdf_wiring.specs.declared.modules.ModuleRow.{ModuleRow}
-use Rattle.tdf_wiring.specs.declared.modules.PortRow.{PortRow}
-use Rattle.tdf_wiring.specs.declared.roles.Rate.{Rate}
+use Rattle.tdf_flat.specs.low.graph.Ranges.{IsRate}
+use Rattle.tdf_flat.specs.low.meaning.Fits.{RatesFit}
+use Rattle.tdf_flat.specs.low.meaning.Places.{RateLimits}
+use Rattle.tdf_flat.specs.low.tree.Kept.{IsKept}
+use Rattle.tdf_flat.specs.low.tree.Pure.{PureTree}
+use Rattle.tdf_flat.specs.low.wiring.declared.modules.ModuleRow.{ModuleRow}
+use Rattle.tdf_flat.specs.low.wiring.declared.modules.PortRow.{PortRow}
+use Rattle.tdf_flat.specs.low.wiring.declared.roles.Rate.{Rate}
 
 -- a number, or a number times the value of a rate variable
 abbrev pub times_value : ℕ → List ℕ → Option ℕ → ℕ

@@ -3,7 +3,7 @@
 ghost use Rattle.tdf_limits.specs.Limits.{FlatIsWithinLimits, SpansAreOne, StartsAreAllowed};
 ghost use Rattle.tdf_limits.specs.Limits.{StartsAreOne};
 
-use tdf_bind::law_ranges;
+use tdf_flat::low::bind::law_ranges;
 
 /// The numbers in the flat model of a text without a fault lie within their limits.
 pub fn law_limits()

@@ -4,31 +4,31 @@ use Rattle.std.proofs.lemmas.Bool.{cases_eq}
 use Rattle.std.proofs.lemmas.Bool.Decides.{nat_tests}
 use Rattle.std.proofs.lemmas.List.{length-map}
 use Rattle.std.specs.Prelude.{All}
-use Rattle.tdf_convert.specs.Emitted.{signal_in, write_of}
-use Rattle.tdf_convert.specs.Links.{link_of}
-use Rattle.tdf_convert.specs.declared.links.Link.{Link}
-use Rattle.tdf_convert.specs.declared.outputs.Sent.{Sent}
-use Rattle.tdf_convert.specs.declared.writes.SignalWrite.{SignalWrite}
-use Rattle.tdf_events.specs.Delta.{AreWritesOf}
-use Rattle.tdf_events.specs.Runnable.{signal_formats}
-use Rattle.tdf_exec.specs.Gained.{IsSentOf}
-use Rattle.tdf_expr.specs.Frames.{IsOfFormat}
-use Rattle.tdf_fixed.specs.declared.format.Format.{Format}
-use Rattle.tdf_fixed.specs.declared.raw.Raw.{Raw}
-use Rattle.tdf_flat.specs.Flat.{IsFlatOf}
-use Rattle.tdf_flat.specs.declared.model.Flat.{Flat}
-use Rattle.tdf_flow.proofs.Api.{get_inside, none_some, some_same}
-use Rattle.tdf_history.specs.Instant.{signal_of}
-use Rattle.tdf_layout.proofs.Api.{sinks_read}
+use Rattle.tdf_run.specs.low.convert.Emitted.{signal_in, write_of}
+use Rattle.tdf_run.specs.low.convert.Links.{link_of}
+use Rattle.tdf_run.specs.low.convert.declared.links.Link.{Link}
+use Rattle.tdf_run.specs.low.convert.declared.outputs.Sent.{Sent}
+use Rattle.tdf_run.specs.low.convert.declared.writes.SignalWrite.{SignalWrite}
+use Rattle.tdf_world.specs.low.events.Delta.{AreWritesOf}
+use Rattle.tdf_world.specs.low.events.Runnable.{signal_formats}
+use Rattle.tdf_run.specs.low.exec.Gained.{IsSentOf}
+use Rattle.tdf_run.specs.low.expr.Frames.{IsOfFormat}
+use Rattle.tdf_run.specs.low.fixed.declared.format.Format.{Format}
+use Rattle.tdf_run.specs.low.fixed.declared.raw.Raw.{Raw}
+use Rattle.tdf_run.specs.low.flat.Flat.{IsFlatOf}
+use Rattle.tdf_run.specs.low.flat.declared.model.Flat.{Flat}
+use Rattle.tdf_run.proofs.Api.{get_inside, none_some, some_same}
+use Rattle.tdf_run.specs.low.history.Instant.{signal_of}
+use Rattle.tdf_run.proofs.Api.{sinks_read}
 use Rattle.tdf_linked.proofs.Ports.{in_range}
 use Rattle.tdf_linked.proofs.Rows.{all_at, map_some, map_twice}
 use Rattle.tdf_linked.proofs.Signals.{read_format}
 use Rattle.tdf_linked.specs.Laws.{SinksWriteSignals}
 use Rattle.tdf_linked.specs.Linked.{AreSinkLinks, IsLinked}
 use Rattle.tdf_run.specs.Firings.{write_of as history_write_of}
-use Rattle.tdf_tree.specs.Pure.{PureTree}
+use Rattle.tdf_run.specs.low.tree.Pure.{PureTree}
 use Rattle.tdf_world.specs.Rules.{signal_write}
-use Rattle.tdf_wiring.specs.declared.drivers.SignalRow.{SignalRow}
+use Rattle.tdf_run.specs.low.wiring.declared.drivers.SignalRow.{SignalRow}
 
 abbrev write_with : Raw → ℕ → SignalWrite
 write_with value signal = record { signal = signal; value = value }

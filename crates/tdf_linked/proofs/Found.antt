@@ -5,23 +5,23 @@ use Rattle.std.proofs.lemmas.Bool.Decides.{nat_tests}
 use Rattle.std.proofs.lemmas.List.{length-append}
 use Rattle.std.proofs.lemmas.List.Sums.{count_by_more_no, count_by_more_yes, sum_by_push}
 use Rattle.std.proofs.lemmas.Option.{get_or_from_slice_get, slice_get_read, slice_get_within}
-use Rattle.tdf_bind.specs.Actors.{cluster_of}
-use Rattle.tdf_bind.specs.Flat.{FlatOf}
-use Rattle.tdf_bind.specs.declared.actors.ActorRow.{ActorRow}
-use Rattle.tdf_convert.specs.Links.{AreLinks, samplers_in}
-use Rattle.tdf_convert.specs.declared.links.Link.{Link}
-use Rattle.tdf_exec.specs.Made.{IsActorOf}
-use Rattle.tdf_flow.proofs.Api.{get_high, get_low, none_some, some_same}
-use Rattle.tdf_graph.specs.declared.actors.Actor.{Actor}
-use Rattle.tdf_graph.specs.declared.actors.Actor.TheVariants as actor
-use Rattle.tdf_history.specs.Instant.{signal_of}
+use Rattle.tdf_run.specs.low.bind.Actors.{cluster_of}
+use Rattle.tdf_run.specs.low.bind.Flat.{FlatOf}
+use Rattle.tdf_run.specs.low.bind.declared.actors.ActorRow.{ActorRow}
+use Rattle.tdf_run.specs.low.convert.Links.{AreLinks, samplers_in}
+use Rattle.tdf_run.specs.low.convert.declared.links.Link.{Link}
+use Rattle.tdf_run.specs.low.exec.Made.{IsActorOf}
+use Rattle.tdf_run.proofs.Api.{get_high, get_low, none_some, some_same}
+use Rattle.tdf_run.specs.low.graph.declared.actors.Actor.{Actor}
+use Rattle.tdf_run.specs.low.graph.declared.actors.Actor.TheVariants as actor
+use Rattle.tdf_run.specs.low.history.Instant.{signal_of}
 use Rattle.tdf_linked.proofs.Rows.{false_true, index_map}
 use Rattle.tdf_linked.specs.Linked.{AreSamplerLinks, AreSinkLinks, HasEventPort, IsLinked, is_converter, is_sampler, own_samplers}
 use Rattle.tdf_linked.specs.declared.linking.Wanted.{Wanted}
 use Rattle.tdf_linked.specs.declared.linking.Wanted.TheVariants.{SamplersOf, Sinks}
 use Rattle.tdf_linked.specs.machine.Linking.{AreLinkedUpTo, IsLinkOf, counted_before, is_counted, is_sink, is_wanted, of_samplers}
-use Rattle.tdf_streams.specs.Places.{actor_kind, kind_of_row}
-use Rattle.tdf_wiring.specs.declared.modules.PortRow.{PortRow}
+use Rattle.tdf_run.specs.low.streams.Places.{actor_kind, kind_of_row}
+use Rattle.tdf_run.specs.low.wiring.declared.modules.PortRow.{PortRow}
 
 -- what a list with one thing more has
 pushed : {A : Type 0} (xs : List A) (y : A) (j : ℕ) (x : A) → slice_get (xs ++ y ∷ []) j ≡ Some x → (slice_get xs j ≡ Some x) ⊎ ((j ≡ length xs) × (y ≡ x))

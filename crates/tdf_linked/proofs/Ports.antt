@@ -6,33 +6,33 @@ use Rattle.std.proofs.lemmas.List.FromFn.{length-map-range_with_len}
 use Rattle.std.proofs.lemmas.Option.{slice_get-map, slice_get_within}
 use Rattle.std.specs.List.{cons_option, enumerate_from, range_with_len}
 use Rattle.std.specs.Prelude.{filter_map}
-use Rattle.tdf_bind.specs.Actors.{actor_of_kind, actor_places, module_actor, place_of, port_actor}
-use Rattle.tdf_bind.specs.Ranges.{AreInRange, IsActorPort}
-use Rattle.tdf_bind.specs.declared.actors.ActorPlace.{ActorPlace}
-use Rattle.tdf_bind.specs.declared.actors.ActorRow.{ActorRow}
-use Rattle.tdf_fixed.specs.declared.format.Format.{Format}
-use Rattle.tdf_flat.specs.Flat.{IsFlatOf}
-use Rattle.tdf_flat.specs.declared.model.Flat.{Flat}
-use Rattle.tdf_flow.proofs.Api.{get_high, get_low, get_made_at, none_some, some_same}
-use Rattle.tdf_formats.specs.Formats.{IsSoundModel, PortsHaveFormats, signal_format}
-use Rattle.tdf_graph.specs.declared.actors.Actor.{Actor}
-use Rattle.tdf_graph.specs.declared.actors.Actor.TheVariants as actor
-use Rattle.tdf_layout.proofs.Api.{edge_row}
-use Rattle.tdf_layout.specs.Edges.{IsEdgeRow}
+use Rattle.tdf_run.specs.low.bind.Actors.{actor_of_kind, actor_places, module_actor, place_of, port_actor}
+use Rattle.tdf_run.specs.low.bind.Ranges.{AreInRange, IsActorPort}
+use Rattle.tdf_run.specs.low.bind.declared.actors.ActorPlace.{ActorPlace}
+use Rattle.tdf_run.specs.low.bind.declared.actors.ActorRow.{ActorRow}
+use Rattle.tdf_run.specs.low.fixed.declared.format.Format.{Format}
+use Rattle.tdf_run.specs.low.flat.Flat.{IsFlatOf}
+use Rattle.tdf_run.specs.low.flat.declared.model.Flat.{Flat}
+use Rattle.tdf_run.proofs.Api.{get_high, get_low, get_made_at, none_some, some_same}
+use Rattle.tdf_run.specs.low.formats.Formats.{IsSoundModel, PortsHaveFormats, signal_format}
+use Rattle.tdf_run.specs.low.graph.declared.actors.Actor.{Actor}
+use Rattle.tdf_run.specs.low.graph.declared.actors.Actor.TheVariants as actor
+use Rattle.tdf_run.proofs.Api.{edge_row}
+use Rattle.tdf_run.specs.low.layout.Edges.{IsEdgeRow}
 use Rattle.tdf_linked.proofs.Rows.{all_of, false_true}
 use Rattle.tdf_linked.specs.Laws.{PortsHaveEvents}
 use Rattle.tdf_linked.specs.Linked.{HasEventPort, is_converter}
-use Rattle.tdf_roles.specs.Roles.{roles_of}
-use Rattle.tdf_tree.specs.Pure.{PureTree}
-use Rattle.tdf_tree.specs.declared.blocks.PortKind.{PortKind}
-use Rattle.tdf_tree.specs.declared.blocks.PortKind.TheVariants.{In, Out, DeIn, DeOut}
-use Rattle.tdf_walk.specs.Tables.{RowOf}
-use Rattle.tdf_wiring.specs.Edges.{is_event_port}
-use Rattle.tdf_wiring.specs.Modules.{PlacedModule, module_ports, module_row, placed_modules, port_row, ports_from}
-use Rattle.tdf_wiring.specs.declared.drivers.SignalRow.{SignalRow}
-use Rattle.tdf_wiring.specs.declared.edges.EdgeRow.{EdgeRow}
-use Rattle.tdf_wiring.specs.declared.modules.PortRow.{PortRow}
-use Rattle.tdf_wiring.specs.declared.roles.PortData.{PortData}
+use Rattle.tdf_run.specs.low.roles.Roles.{roles_of}
+use Rattle.tdf_run.specs.low.tree.Pure.{PureTree}
+use Rattle.tdf_run.specs.low.tree.declared.blocks.PortKind.{PortKind}
+use Rattle.tdf_run.specs.low.tree.declared.blocks.PortKind.TheVariants.{In, Out, DeIn, DeOut}
+use Rattle.tdf_run.specs.low.walk.Tables.{RowOf}
+use Rattle.tdf_run.specs.low.wiring.Edges.{is_event_port}
+use Rattle.tdf_run.specs.low.wiring.Modules.{PlacedModule, module_ports, module_row, placed_modules, port_row, ports_from}
+use Rattle.tdf_run.specs.low.wiring.declared.drivers.SignalRow.{SignalRow}
+use Rattle.tdf_run.specs.low.wiring.declared.edges.EdgeRow.{EdgeRow}
+use Rattle.tdf_run.specs.low.wiring.declared.modules.PortRow.{PortRow}
+use Rattle.tdf_run.specs.low.wiring.declared.roles.PortData.{PortData}
 
 -- the module of a port
 module_is : (k e : ℕ) (instance : RowOf) (ports : List PortData) (j : ℕ) (p : PortRow) → slice_get (map (λ (port : ℕ × PortData). port_row k instance port.0 port.1) (enumerate_from e ports)) j ≡ Some p

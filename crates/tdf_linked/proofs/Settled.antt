@@ -5,35 +5,35 @@ use Rattle.std.proofs.lemmas.Bool.Decides.{nat_tests}
 use Rattle.std.proofs.lemmas.List.{take_all}
 use Rattle.std.proofs.lemmas.Option.{get_or_from_slice_get}
 use Rattle.std.specs.List.{count_by}
-use Rattle.tdf_bind.specs.Actors.{cluster_of}
-use Rattle.tdf_bind.specs.declared.actors.ActorRow.{ActorRow}
-use Rattle.tdf_convert.specs.Links.{samplers_in}
-use Rattle.tdf_convert.specs.Sampled.{AreSampled}
-use Rattle.tdf_convert.specs.declared.links.Link.{Link}
-use Rattle.tdf_dynamic.specs.Attributes.{clusters_of}
-use Rattle.tdf_events.specs.Runnable.{AreOfSignals, signal_formats}
-use Rattle.tdf_exec.specs.Cluster.{ClusterOf}
-use Rattle.tdf_exec.specs.Made.{IsClusterOf, IsRunnerOf, IsSamplerOf, is_sampler as is_sampler_runner, samplers_before}
-use Rattle.tdf_exec.specs.Played.{AreInputsFor}
-use Rattle.tdf_exec.specs.Runners.{SamplerOf}
-use Rattle.tdf_exec.specs.declared.runners.Runner.{Runner}
-use Rattle.tdf_exec.specs.declared.runners.Runner.TheVariants as runner
-use Rattle.tdf_fixed.specs.declared.raw.Raw.{Raw}
-use Rattle.tdf_flat.specs.Flat.{IsFlatOf}
-use Rattle.tdf_flat.specs.declared.model.Flat.{Flat}
-use Rattle.tdf_flow.proofs.Api.{some_same}
-use Rattle.tdf_graph.specs.declared.actors.Actor.{Actor}
-use Rattle.tdf_graph.specs.declared.actors.Actor.TheVariants as actor
-use Rattle.tdf_history.specs.Instant.{signal_of}
+use Rattle.tdf_run.specs.low.bind.Actors.{cluster_of}
+use Rattle.tdf_run.specs.low.bind.declared.actors.ActorRow.{ActorRow}
+use Rattle.tdf_run.specs.low.convert.Links.{samplers_in}
+use Rattle.tdf_run.specs.low.convert.Sampled.{AreSampled}
+use Rattle.tdf_run.specs.low.convert.declared.links.Link.{Link}
+use Rattle.tdf_run.specs.low.dynamic.Attributes.{clusters_of}
+use Rattle.tdf_world.specs.low.events.Runnable.{AreOfSignals, signal_formats}
+use Rattle.tdf_run.specs.low.exec.Cluster.{ClusterOf}
+use Rattle.tdf_run.specs.low.exec.Made.{IsClusterOf, IsRunnerOf, IsSamplerOf, is_sampler as is_sampler_runner, samplers_before}
+use Rattle.tdf_run.specs.low.exec.Played.{AreInputsFor}
+use Rattle.tdf_run.specs.low.exec.Runners.{SamplerOf}
+use Rattle.tdf_run.specs.low.exec.declared.runners.Runner.{Runner}
+use Rattle.tdf_run.specs.low.exec.declared.runners.Runner.TheVariants as runner
+use Rattle.tdf_run.specs.low.fixed.declared.raw.Raw.{Raw}
+use Rattle.tdf_run.specs.low.flat.Flat.{IsFlatOf}
+use Rattle.tdf_run.specs.low.flat.declared.model.Flat.{Flat}
+use Rattle.tdf_run.proofs.Api.{some_same}
+use Rattle.tdf_run.specs.low.graph.declared.actors.Actor.{Actor}
+use Rattle.tdf_run.specs.low.graph.declared.actors.Actor.TheVariants as actor
+use Rattle.tdf_run.specs.low.history.Instant.{signal_of}
 use Rattle.tdf_linked.proofs.Rows.{count_alike, index_map}
 use Rattle.tdf_linked.proofs.Signals.{written_format}
 use Rattle.tdf_linked.specs.Laws.{SamplersReadSignals}
 use Rattle.tdf_linked.specs.Linked.{AreSamplerLinks, IsLinked, is_own_sampler, is_sampler, own_samplers}
 use Rattle.tdf_run.specs.At.{AreSettled}
-use Rattle.tdf_schedule.specs.declared.entry.Entry.{Entry}
-use Rattle.tdf_streams.specs.Cluster.{zero_sample}
-use Rattle.tdf_streams.specs.Places.{kind_of_row}
-use Rattle.tdf_tree.specs.Pure.{PureTree}
+use Rattle.tdf_run.specs.low.schedule.declared.entry.Entry.{Entry}
+use Rattle.tdf_run.specs.low.streams.Cluster.{zero_sample}
+use Rattle.tdf_run.specs.low.streams.Places.{kind_of_row}
+use Rattle.tdf_run.specs.low.tree.Pure.{PureTree}
 
 not_and : (b c : Bool) → c ≡ false → (b && c) ≡ false
 not_and true c h = h

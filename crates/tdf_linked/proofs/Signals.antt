@@ -1,29 +1,29 @@
 -- The signals and formats of the edges of samplers and sinks.
 use Rattle.std.proofs.Common.{◌≡◌, ◌∙◌, ℕ, ◌<◌, Bool, true, Option, Some, None, length, refl, ap, sym, subst, slice_get}
 use Rattle.std.proofs.lemmas.Option.{slice_get-map}
-use Rattle.tdf_events.specs.Runnable.{signal_formats}
-use Rattle.tdf_flat.specs.Flat.{IsFlatOf}
-use Rattle.tdf_flat.specs.declared.model.Flat.{Flat}
-use Rattle.tdf_flow.proofs.Api.{get_inside}
-use Rattle.tdf_formats.specs.Formats.{signal_format}
-use Rattle.tdf_graph.specs.declared.actors.Actor.{Actor}
-use Rattle.tdf_graph.specs.declared.actors.Actor.TheVariants as actor
-use Rattle.tdf_history.specs.Instant.{signal_of, signal_of_port, signal_of_row}
-use Rattle.tdf_layout.proofs.Api.{edge_row, module_kind}
-use Rattle.tdf_layout.specs.Edges.{IsActorAt, IsEdgeRow}
-use Rattle.tdf_layout.specs.Samples.{edge_format, format_of_port}
-use Rattle.tdf_layout.specs.Wiring.{Reads, Writes, port_of_row}
+use Rattle.tdf_world.specs.low.events.Runnable.{signal_formats}
+use Rattle.tdf_run.specs.low.flat.Flat.{IsFlatOf}
+use Rattle.tdf_run.specs.low.flat.declared.model.Flat.{Flat}
+use Rattle.tdf_run.proofs.Api.{get_inside}
+use Rattle.tdf_run.specs.low.formats.Formats.{signal_format}
+use Rattle.tdf_run.specs.low.graph.declared.actors.Actor.{Actor}
+use Rattle.tdf_run.specs.low.graph.declared.actors.Actor.TheVariants as actor
+use Rattle.tdf_run.specs.low.history.Instant.{signal_of, signal_of_port, signal_of_row}
+use Rattle.tdf_run.proofs.Api.{edge_row, module_kind}
+use Rattle.tdf_run.specs.low.layout.Edges.{IsActorAt, IsEdgeRow}
+use Rattle.tdf_run.specs.low.layout.Samples.{edge_format, format_of_port}
+use Rattle.tdf_run.specs.low.layout.Wiring.{Reads, Writes, port_of_row}
 use Rattle.tdf_linked.proofs.Ports.{own_module}
 use Rattle.tdf_linked.proofs.Rows.{false_true}
 use Rattle.tdf_linked.specs.Linked.{is_converter}
-use Rattle.tdf_streams.specs.Places.{actor_kind, reader_of_row, writer_of_row}
-use Rattle.tdf_tree.specs.Pure.{PureTree}
-use Rattle.tdf_tree.specs.declared.blocks.PortKind.{PortKind}
-use Rattle.tdf_tree.specs.declared.blocks.PortKind.TheVariants.{In, Out, DeIn, DeOut}
-use Rattle.tdf_wiring.specs.Edges.{is_event_port}
-use Rattle.tdf_wiring.specs.declared.drivers.SignalRow.{SignalRow}
-use Rattle.tdf_wiring.specs.declared.edges.EdgeRow.{EdgeRow}
-use Rattle.tdf_wiring.specs.declared.modules.PortRow.{PortRow}
+use Rattle.tdf_run.specs.low.streams.Places.{actor_kind, reader_of_row, writer_of_row}
+use Rattle.tdf_run.specs.low.tree.Pure.{PureTree}
+use Rattle.tdf_run.specs.low.tree.declared.blocks.PortKind.{PortKind}
+use Rattle.tdf_run.specs.low.tree.declared.blocks.PortKind.TheVariants.{In, Out, DeIn, DeOut}
+use Rattle.tdf_run.specs.low.wiring.Edges.{is_event_port}
+use Rattle.tdf_run.specs.low.wiring.declared.drivers.SignalRow.{SignalRow}
+use Rattle.tdf_run.specs.low.wiring.declared.edges.EdgeRow.{EdgeRow}
+use Rattle.tdf_run.specs.low.wiring.declared.modules.PortRow.{PortRow}
 
 abbrev converts : Option Actor → Bool
 converts None = true

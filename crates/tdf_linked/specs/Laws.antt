@@ -1,25 +1,25 @@
 -- What samplers read by their links, and what sinks write by theirs.
 -- Source: own; samplers and sinks after IEEE 1666.1-2016, converter ports of TDF modules.
 use Rattle.std.specs.Prelude.{◌≡◌, ℕ, List, All, length, map}
-use Rattle.tdf_convert.specs.Emitted.{write_of}
-use Rattle.tdf_convert.specs.Links.{samplers_in}
-use Rattle.tdf_convert.specs.Sampled.{AreSampled}
-use Rattle.tdf_convert.specs.declared.links.Link.{Link}
-use Rattle.tdf_convert.specs.declared.outputs.Sent.{Sent}
-use Rattle.tdf_events.specs.Delta.{AreWritesOf}
-use Rattle.tdf_events.specs.Runnable.{AreOfSignals, signal_formats}
-use Rattle.tdf_exec.specs.Cluster.{ClusterOf}
-use Rattle.tdf_exec.specs.Gained.{IsSentOf}
-use Rattle.tdf_exec.specs.Made.{IsClusterOf}
-use Rattle.tdf_exec.specs.Played.{AreInputsFor}
-use Rattle.tdf_fixed.specs.declared.raw.Raw.{Raw}
-use Rattle.tdf_flat.specs.Flat.{IsFlatOf}
-use Rattle.tdf_flat.specs.declared.model.Flat.{Flat}
-use Rattle.tdf_formats.specs.Formats.{IsSoundModel}
+use Rattle.tdf_run.specs.low.convert.Emitted.{write_of}
+use Rattle.tdf_run.specs.low.convert.Links.{samplers_in}
+use Rattle.tdf_run.specs.low.convert.Sampled.{AreSampled}
+use Rattle.tdf_run.specs.low.convert.declared.links.Link.{Link}
+use Rattle.tdf_run.specs.low.convert.declared.outputs.Sent.{Sent}
+use Rattle.tdf_world.specs.low.events.Delta.{AreWritesOf}
+use Rattle.tdf_world.specs.low.events.Runnable.{AreOfSignals, signal_formats}
+use Rattle.tdf_run.specs.low.exec.Cluster.{ClusterOf}
+use Rattle.tdf_run.specs.low.exec.Gained.{IsSentOf}
+use Rattle.tdf_run.specs.low.exec.Made.{IsClusterOf}
+use Rattle.tdf_run.specs.low.exec.Played.{AreInputsFor}
+use Rattle.tdf_run.specs.low.fixed.declared.raw.Raw.{Raw}
+use Rattle.tdf_run.specs.low.flat.Flat.{IsFlatOf}
+use Rattle.tdf_run.specs.low.flat.declared.model.Flat.{Flat}
+use Rattle.tdf_run.specs.low.formats.Formats.{IsSoundModel}
 use Rattle.tdf_linked.specs.Linked.{AreSamplerLinks, AreSinkLinks, HaveEventPorts}
 use Rattle.tdf_run.specs.At.{AreSettled}
 use Rattle.tdf_run.specs.Firings.{write_of as history_write_of}
-use Rattle.tdf_tree.specs.Pure.{PureTree}
+use Rattle.tdf_run.specs.low.tree.Pure.{PureTree}
 use Rattle.tdf_world.specs.Rules.{signal_write}
 
 -- the converter ports of a flat model have event signals

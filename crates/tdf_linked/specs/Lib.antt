@@ -1,3 +1,4 @@
 pub mod Laws
 pub mod Linked
+pub mod low
 pub mod machine

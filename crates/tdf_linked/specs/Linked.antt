@@ -3,16 +3,16 @@
 use Rattle.std.specs.List.{count_by}
 use Rattle.std.specs.Prelude.{◌≡◌, ◌<◌, ◌&&◌, ℕ, Bool, true, false, List, Some, length, nat_eq}
 use Rattle.std.specs.Prelude.{slice_get, take}
-use Rattle.tdf_bind.specs.Flat.{FlatOf}
-use Rattle.tdf_bind.specs.declared.actors.ActorRow.{ActorRow}
-use Rattle.tdf_convert.specs.Links.{AreLinks, AreRising, HaveSignals, samplers_in}
-use Rattle.tdf_convert.specs.declared.links.Link.{Link}
-use Rattle.tdf_exec.specs.Made.{IsActorOf}
-use Rattle.tdf_graph.specs.declared.actors.Actor.{Actor}
-use Rattle.tdf_graph.specs.declared.actors.Actor.TheVariants as actor
-use Rattle.tdf_history.specs.Instant.{signal_of}
-use Rattle.tdf_streams.specs.Places.{actor_kind}
-use Rattle.tdf_wiring.specs.declared.modules.PortRow.{PortRow}
+use Rattle.tdf_run.specs.low.bind.Flat.{FlatOf}
+use Rattle.tdf_run.specs.low.bind.declared.actors.ActorRow.{ActorRow}
+use Rattle.tdf_run.specs.low.convert.Links.{AreLinks, AreRising, HaveSignals, samplers_in}
+use Rattle.tdf_run.specs.low.convert.declared.links.Link.{Link}
+use Rattle.tdf_run.specs.low.exec.Made.{IsActorOf}
+use Rattle.tdf_run.specs.low.graph.declared.actors.Actor.{Actor}
+use Rattle.tdf_run.specs.low.graph.declared.actors.Actor.TheVariants as actor
+use Rattle.tdf_run.specs.low.history.Instant.{signal_of}
+use Rattle.tdf_run.specs.low.streams.Places.{actor_kind}
+use Rattle.tdf_run.specs.low.wiring.declared.modules.PortRow.{PortRow}
 
 -- the port of a sampler or sink is there, and has an event signal that is there
 pub record HasEventPort (tables : FlatOf) (row : ActorRow) : Type 0 where

@@ -2,7 +2,7 @@
 
 ghost use Rattle.tdf_linked.specs.Laws.{PortsHaveEvents, SamplersReadSignals, SinksWriteSignals};
 
-use tdf_formats::law_formats;
+use tdf_run::low::formats::law_formats;
 
 /// The port of each sampler and sink has an event signal.
 pub fn law_ports()

@@ -1,15 +1,15 @@
 //! The links of samplers and sinks, by one look at each actor.
 
 ghost use Rattle.std.specs.Prelude.{◌≡◌, ◌+◌, ◌<◌, IfOk, OnOk, Some, length, slice_get, true};
-ghost use Rattle.tdf_history.specs.Instant.{signal_of_row};
+ghost use Rattle.tdf_run.specs.low.history.Instant.{signal_of_row};
 ghost use Rattle.tdf_linked.specs.Linked.{AreSamplerLinks, AreSinkLinks, HasEventPort, HaveEventPorts, is_sampler};
 ghost use Rattle.tdf_linked.specs.machine.Linking.{AreLinkedUpTo, is_sink, is_wanted, of_samplers};
 
 use std::alloc::Global;
-use tdf_base::Memory;
-use tdf_bind::{ActorRow, Flat};
-use tdf_convert::Links;
-use tdf_graph::Actor;
+use tdf_run::low::base::Memory;
+use tdf_run::low::bind::{ActorRow, Flat};
+use tdf_run::low::convert::Links;
+use tdf_run::low::graph::Actor;
 
 /// Which actors have links.
 #[derive(Clone, Copy, Debug)]

@@ -4,4 +4,5 @@ pub mod Law
 pub mod Links
 pub mod Ports
 pub mod Seen
+pub mod low
 pub mod machine

@@ -7,6 +7,7 @@
 //! - `pairs`: which ports of which instances are bound.
 //! - `composites`, `links`: the faults of a composite, and the first fault of a whole model.
 //! - `laws`: what holds of the definitions.
+//! - `low`: what the crates above use of the crates further below.
 #![tactic(auto)]
 
 mod agree;
@@ -16,6 +17,7 @@ mod index;
 mod known;
 mod laws;
 mod links;
+pub mod low;
 mod pairs;
 mod ports;
 

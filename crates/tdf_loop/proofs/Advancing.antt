@@ -2,32 +2,32 @@
 use Rattle.std.proofs.Common.{◌≡◌, ◌∙◌, ◌&&◌, ℕ, ◌+◌, Bool, true, false, List, [], ◌++◌, Some, length, nat_eq, slice_get, refl, sym, ap, subst, arith}
 use Rattle.std.proofs.lemmas.Bool.{eqb-true}
 use Rattle.std.proofs.lemmas.Option.{slice_get_within}
-use Rattle.tdf_convert.specs.Outputs.{OutputsOf}
+use Rattle.tdf_shown.specs.low.convert.Outputs.{OutputsOf}
 use Rattle.tdf_engine.proofs.Api.{crossed_long}
 use Rattle.tdf_engine.specs.Crossing.{crossing_of}
 use Rattle.tdf_engine.specs.CrossingLaws.{Becomes, world_crossed}
 use Rattle.tdf_engine.specs.Engine.{HasHadInstant}
 use Rattle.tdf_engine.specs.InstantLaws.{InstantGoes, IsModelOf, IsNow}
 use Rattle.tdf_engine.specs.declared.engine.Engine.{Engine}
-use Rattle.tdf_events.specs.Side.{SideOf}
-use Rattle.tdf_exec.specs.Cluster.{ClusterOf}
-use Rattle.tdf_fixed.specs.declared.raw.Raw.{Raw}
-use Rattle.tdf_flat.specs.declared.model.Flat.{Flat}
-use Rattle.tdf_flow.proofs.Api.{get_inside, some_same}
-use Rattle.tdf_history.specs.Instant.{at_begin}
-use Rattle.tdf_history.specs.World.{ClusterAt, World}
-use Rattle.tdf_layout.specs.Traced.{SignalsHaveOnePort}
+use Rattle.tdf_shown.specs.low.events.Side.{SideOf}
+use Rattle.tdf_shown.specs.low.exec.Cluster.{ClusterOf}
+use Rattle.tdf_shown.specs.low.fixed.declared.raw.Raw.{Raw}
+use Rattle.tdf_shown.specs.low.flat.declared.model.Flat.{Flat}
+use Rattle.tdf_shown.proofs.Api.{get_inside, some_same}
+use Rattle.tdf_shown.specs.low.history.Instant.{at_begin}
+use Rattle.tdf_shown.specs.low.history.World.{ClusterAt, World}
+use Rattle.tdf_shown.specs.low.layout.Traced.{SignalsHaveOnePort}
 use Rattle.tdf_loop.proofs.Keeping.{IsInPeriod, firings_keep}
 use Rattle.tdf_loop.proofs.Leading.{from_before}
 use Rattle.tdf_loop.specs.Advancing.{InstantAdvances}
-use Rattle.tdf_run.specs.At.{IsAt}
-use Rattle.tdf_run.specs.Pass.{HavePassed, pass_at, run_of}
+use Rattle.tdf_shown.specs.low.run.At.{IsAt}
+use Rattle.tdf_shown.specs.low.run.Pass.{HavePassed, pass_at, run_of}
 use Rattle.tdf_shown.specs.Advanced.{Advances, HasAdvanced}
-use Rattle.tdf_traced.proofs.Api.{boundaries_add_none, passes_trace}
-use Rattle.tdf_traced.specs.Samples.{AreSamplesOf, HaveTraced, samples_of}
-use Rattle.tdf_tree.specs.Pure.{PureTree}
-use Rattle.tdf_wiring.specs.declared.modules.PortRow.{PortRow}
-use Rattle.tdf_world.specs.Rules.{rules_of}
+use Rattle.tdf_shown.proofs.Api.{boundaries_add_none, passes_trace}
+use Rattle.tdf_shown.specs.low.traced.Samples.{AreSamplesOf, HaveTraced, samples_of}
+use Rattle.tdf_shown.specs.low.tree.Pure.{PureTree}
+use Rattle.tdf_shown.specs.low.wiring.declared.modules.PortRow.{PortRow}
+use Rattle.tdf_shown.specs.low.world.Rules.{rules_of}
 
 and_left : (a b : Bool) → (a && b) ≡ true → a ≡ true
 and_left true b is = refl

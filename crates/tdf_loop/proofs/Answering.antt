@@ -1,8 +1,8 @@
 -- What an answer tells, used for what it is to tell.
 use Rattle.std.proofs.Common.{ℕ, List, Option, Result, Ok, Err, IfOk, OnErr, OnOk}
-use Rattle.tdf_io.specs.Bytes.{WritesText}
-use Rattle.tdf_io.specs.Faults.{CountsSinkFaults}
-use Rattle.tdf_io.specs.declared.writing.SinkErr.{SinkErr}
+use Rattle.tdf_shown.specs.low.in_out.Bytes.{WritesText}
+use Rattle.tdf_shown.specs.low.in_out.Faults.{CountsSinkFaults}
+use Rattle.tdf_shown.specs.low.in_out.declared.writing.SinkErr.{SinkErr}
 
 pub on_ok : {T E : Type 0} {P Q R : Type 0} (r : Result T E) → OnOk r P → OnOk r Q → (P → Q → R) → OnOk r R
 on_ok (Ok value) p q then = then p q

@@ -2,33 +2,33 @@
 use Rattle.std.proofs.Common.{◌≡◌, ◌∙◌, ℕ, zero, suc, ◌-◌, ◌≤◌, List, [], ◌∷◌, length, replicate, refl, sym, ap, subst, arith}
 use Rattle.std.proofs.lemmas.List.{length-replicate}
 use Rattle.std.specs.Prelude.{slice_index}
-use Rattle.tdf_dynamic.specs.Attributes.{clusters_of}
-use Rattle.tdf_dynamic.specs.declared.first.First.{First}
+use Rattle.tdf_shown.specs.low.dynamic.Attributes.{clusters_of}
+use Rattle.tdf_shown.specs.low.dynamic.declared.first.First.{First}
 use Rattle.tdf_engine.specs.Engine.{IsEngineOf, IsReadyAt}
 use Rattle.tdf_engine.specs.InstantLaws.{IsModelOf}
 use Rattle.tdf_engine.specs.Making.{HavePlans}
 use Rattle.tdf_engine.specs.declared.engine.Engine.{Engine}
-use Rattle.tdf_events.specs.Kernel.{side_of}
-use Rattle.tdf_events.specs.Side.{SideOf, start_side}
-use Rattle.tdf_exec.specs.Cluster.{ClusterOf}
-use Rattle.tdf_flat.specs.declared.model.Flat.{Flat}
-use Rattle.tdf_graph.specs.Clusters.{greatest}
-use Rattle.tdf_history.specs.World.{World}
-use Rattle.tdf_instants.proofs.Api.{starts}
-use Rattle.tdf_instants.specs.History.{history}
+use Rattle.tdf_shown.specs.low.events.Kernel.{side_of}
+use Rattle.tdf_shown.specs.low.events.Side.{SideOf, start_side}
+use Rattle.tdf_shown.specs.low.exec.Cluster.{ClusterOf}
+use Rattle.tdf_shown.specs.low.flat.declared.model.Flat.{Flat}
+use Rattle.tdf_shown.specs.low.graph.Clusters.{greatest}
+use Rattle.tdf_shown.specs.low.history.World.{World}
+use Rattle.tdf_shown.proofs.Api.{starts}
+use Rattle.tdf_shown.specs.low.instants.History.{history}
 use Rattle.tdf_loop.specs.Running.{CanGoOn, IsRunning}
 use Rattle.tdf_loop.specs.declared.running.Running.{Running}
-use Rattle.tdf_run.proofs.Api.{all_starts_are_at}
-use Rattle.tdf_run.specs.Begun.{HaveBegun}
-use Rattle.tdf_run.specs.Pass.{AreAt}
+use Rattle.tdf_shown.proofs.Api.{all_starts_are_at}
+use Rattle.tdf_shown.specs.low.run.Begun.{HaveBegun}
+use Rattle.tdf_shown.specs.low.run.Pass.{AreAt}
 use Rattle.tdf_shown.specs.Calls.{CanStart, IsUnshown, StartsShowing}
 use Rattle.tdf_shown.specs.Laws.{AreAllThere, SoundCanStart}
 use Rattle.tdf_shown.specs.Periods.{clock_at}
 use Rattle.tdf_shown.specs.Shown.{IsShown}
 use Rattle.tdf_shown.specs.declared.shown.Shown.{Shown}
-use Rattle.tdf_tree.specs.Pure.{PureTree}
-use Rattle.tdf_words.specs.declared.asked.TraceKind.{TraceKind}
-use Rattle.tdf_world.specs.Rules.{start_world, world_engine}
+use Rattle.tdf_shown.specs.low.tree.Pure.{PureTree}
+use Rattle.tdf_shown.specs.low.words.declared.asked.TraceKind.{TraceKind}
+use Rattle.tdf_shown.specs.low.world.Rules.{start_world, world_engine}
 
 -- no number of a list is above the greatest
 at_most : (xs : List ℕ) (m : ℕ) → slice_index xs m ≤ greatest xs

@@ -5,34 +5,34 @@ use Rattle.std.proofs.lemmas.List.Sums.{sum_by-cons}
 use Rattle.std.proofs.lemmas.Option.{get_or_from_slice_get, slice_get_within}
 use Rattle.std.specs.List.{sum_by}
 use Rattle.std.specs.Prelude.{All}
-use Rattle.tdf_columns.proofs.Api.{left_is}
-use Rattle.tdf_columns.specs.Tracked.{AreSince, TrackedOf}
-use Rattle.tdf_columns.specs.Tracks.{Tracks, cells_by, known_by, known_cell}
-use Rattle.tdf_columns.specs.Traces.{IsTracked, sample_or, with_samples}
-use Rattle.tdf_events.specs.Side.{SideOf}
-use Rattle.tdf_fixed.specs.declared.raw.Raw.{Raw}
-use Rattle.tdf_flat.specs.declared.model.Flat.{Flat}
-use Rattle.tdf_flow.proofs.Api.{get_inside, get_low, none_some}
-use Rattle.tdf_history.specs.Cells.{driver_of_row, run_cells, samples_done, spans_from, world_before}
-use Rattle.tdf_history.specs.Instant.{periods_of}
-use Rattle.tdf_history.specs.World.{World}
+use Rattle.tdf_shown.proofs.Api.{left_is}
+use Rattle.tdf_shown.specs.low.columns.Tracked.{AreSince, TrackedOf}
+use Rattle.tdf_shown.specs.low.columns.Tracks.{Tracks, cells_by, known_by, known_cell}
+use Rattle.tdf_shown.specs.low.columns.Traces.{IsTracked, sample_or, with_samples}
+use Rattle.tdf_shown.specs.low.events.Side.{SideOf}
+use Rattle.tdf_shown.specs.low.fixed.declared.raw.Raw.{Raw}
+use Rattle.tdf_shown.specs.low.flat.declared.model.Flat.{Flat}
+use Rattle.tdf_shown.proofs.Api.{get_inside, get_low, none_some}
+use Rattle.tdf_shown.specs.low.history.Cells.{driver_of_row, run_cells, samples_done, spans_from, world_before}
+use Rattle.tdf_shown.specs.low.history.Instant.{periods_of}
+use Rattle.tdf_shown.specs.low.history.World.{World}
 use Rattle.tdf_loop.specs.Ending.{ShownStandsBelow}
-use Rattle.tdf_rows.proofs.Api.{agree_trans, has_times, one_span, position_is}
-use Rattle.tdf_rows.specs.Laws.{Agree}
-use Rattle.tdf_rows.specs.Positions.{AreChained, Span, cell_of, end_of, position_at, span_of, total}
-use Rattle.tdf_rows.specs.Rows.{Cells}
+use Rattle.tdf_shown.proofs.Api.{agree_trans, has_times, one_span, position_is}
+use Rattle.tdf_shown.specs.low.rows.Laws.{Agree}
+use Rattle.tdf_shown.specs.low.rows.Positions.{AreChained, Span, cell_of, end_of, position_at, span_of, total}
+use Rattle.tdf_shown.specs.low.rows.Rows.{Cells}
 use Rattle.tdf_shown.proofs.Api.{run_agree, spans_push, spans_total, told}
 use Rattle.tdf_shown.specs.Events.{events_before}
 use Rattle.tdf_shown.specs.Shown.{IsShown, IsShownOf}
 use Rattle.tdf_shown.specs.Signals.{IsListed, IsSignalOf}
 use Rattle.tdf_shown.specs.declared.shown.Shown.{Shown}
-use Rattle.tdf_streams.specs.Periods.{IsWholeRecord, PeriodRecord}
-use Rattle.tdf_streams.specs.Signals.{outputs_in, positions, rate_in, step_in, time_of as time_after}
-use Rattle.tdf_tree.specs.Pure.{PureTree}
-use Rattle.tdf_wiring.specs.declared.modules.PortRow.{PortRow}
-use Rattle.tdf_wiring.specs.declared.traces.TraceRow.{TraceRow}
-use Rattle.tdf_world.specs.Laws.{AreSteady, HasDone}
-use Rattle.tdf_world.specs.Rules.{rules_of}
+use Rattle.tdf_shown.specs.low.streams.Periods.{IsWholeRecord, PeriodRecord}
+use Rattle.tdf_shown.specs.low.streams.Signals.{outputs_in, positions, rate_in, step_in, time_of as time_after}
+use Rattle.tdf_shown.specs.low.tree.Pure.{PureTree}
+use Rattle.tdf_shown.specs.low.wiring.declared.modules.PortRow.{PortRow}
+use Rattle.tdf_shown.specs.low.wiring.declared.traces.TraceRow.{TraceRow}
+use Rattle.tdf_shown.specs.low.world.Laws.{AreSteady, HasDone}
+use Rattle.tdf_shown.specs.low.world.Rules.{rules_of}
 
 -- the position at a time is one of those that there are
 below_total : (spans : List Span) (time j : ℕ) → AreChained 0 spans → position_at 0 spans time ≡ Some j → j < total spans

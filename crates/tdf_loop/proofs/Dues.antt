@@ -7,20 +7,20 @@ use Rattle.tdf_engine.specs.Engine.{IsEngineOf, IsReadyAt}
 use Rattle.tdf_engine.specs.InstantLaws.{IsNow}
 use Rattle.tdf_engine.specs.Times.{IsDueTime, IsNextDue, IsRunning, due_offset, due_time}
 use Rattle.tdf_engine.specs.declared.engine.Engine.{Engine}
-use Rattle.tdf_calendar.specs.Times.{time_of}
-use Rattle.tdf_events.specs.Delta.{is_due as due_at, is_idle}
-use Rattle.tdf_events.specs.Kernel.{side_of}
-use Rattle.tdf_events.specs.Side.{SideOf}
-use Rattle.tdf_exec.specs.Cluster.{ClusterOf, next_offset, offset_in}
-use Rattle.tdf_flat.specs.declared.model.Flat.{Flat}
-use Rattle.tdf_flow.proofs.Api.{get_inside, some_same}
-use Rattle.tdf_history.specs.Instant.{is_cluster_due, is_due, is_entry_due, next_entry}
-use Rattle.tdf_history.specs.World.{ClusterAt, World}
-use Rattle.tdf_instants.specs.Laws.{IsNextTime}
-use Rattle.tdf_run.proofs.Api.{true_false}
-use Rattle.tdf_run.specs.At.{IsAt}
-use Rattle.tdf_tree.specs.Pure.{PureTree}
-use Rattle.tdf_world.specs.Rules.{is_side_due, rules_of, world_engine}
+use Rattle.tdf_shown.specs.low.calendar.Times.{time_of}
+use Rattle.tdf_shown.specs.low.events.Delta.{is_due as due_at, is_idle}
+use Rattle.tdf_shown.specs.low.events.Kernel.{side_of}
+use Rattle.tdf_shown.specs.low.events.Side.{SideOf}
+use Rattle.tdf_shown.specs.low.exec.Cluster.{ClusterOf, next_offset, offset_in}
+use Rattle.tdf_shown.specs.low.flat.declared.model.Flat.{Flat}
+use Rattle.tdf_shown.proofs.Api.{get_inside, some_same}
+use Rattle.tdf_shown.specs.low.history.Instant.{is_cluster_due, is_due, is_entry_due, next_entry}
+use Rattle.tdf_shown.specs.low.history.World.{ClusterAt, World}
+use Rattle.tdf_shown.specs.low.instants.Laws.{IsNextTime}
+use Rattle.tdf_shown.proofs.Api.{true_false}
+use Rattle.tdf_shown.specs.low.run.At.{IsAt}
+use Rattle.tdf_shown.specs.low.tree.Pure.{PureTree}
+use Rattle.tdf_shown.specs.low.world.Rules.{is_side_due, rules_of, world_engine}
 
 -- a cluster is due exactly at the time of what is next due in it
 entry_or_end : (h : ClusterAt) (c : ClusterOf) → h.place ≤ length h.entries → c.entries ≡ h.entries → c.place ≡ h.place → c.period ≡ h.now.info.period → (time : ℕ)

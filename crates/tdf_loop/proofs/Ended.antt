@@ -1,6 +1,6 @@
 -- A history that ends at a time went on before it.
 use Rattle.std.proofs.Common.{◌≡◌, ◌∙◌, ℕ, zero, suc, ◌+◌, ◌≤◌, Bool, true, false, if◌then◌else◌, refl, ap, arith}
-use Rattle.tdf_instants.specs.History.{Engine, Step, Going, Fault, Past, State, On, Stopped, Spent, after, end_time, history, state_of}
+use Rattle.tdf_shown.specs.low.instants.History.{Engine, Step, Going, Fault, Past, State, On, Stopped, Spent, after, end_time, history, state_of}
 
 module _ {W F : Type 0} (engine : Engine W F) (start : W) where
   -- the history goes on before the end of a state

@@ -1,14 +1,14 @@
 -- The rest of a trace, by cells that agree below the end.
 use Rattle.std.proofs.Common.{◌≡◌, ◌∙◌, ℕ, ◌-◌, Option, List, ◌++◌, Result, ap, subst, sym, inl, inr, arith}
 use Rattle.std.proofs.lemmas.Bool.{cases_lt}
-use Rattle.tdf_columns.specs.Calls.{StandBelow}
-use Rattle.tdf_io.specs.Bytes.{WritesText}
-use Rattle.tdf_io.specs.declared.writing.SinkErr.{SinkErr}
-use Rattle.tdf_rows.proofs.Api.{text_none, text_same}
-use Rattle.tdf_rows.specs.Laws.{Agree}
-use Rattle.tdf_rows.specs.Rows.{Cells, text_from}
-use Rattle.tdf_trace.specs.Stands.{TraceSeen, WritesRest}
-use Rattle.tdf_trace.specs.Writings.{AboutSeen, rest_text, rows_text, writing_of}
+use Rattle.tdf_shown.specs.low.columns.Calls.{StandBelow}
+use Rattle.tdf_shown.specs.low.in_out.Bytes.{WritesText}
+use Rattle.tdf_shown.specs.low.in_out.declared.writing.SinkErr.{SinkErr}
+use Rattle.tdf_shown.proofs.Api.{text_none, text_same}
+use Rattle.tdf_shown.specs.low.rows.Laws.{Agree}
+use Rattle.tdf_shown.specs.low.rows.Rows.{Cells, text_from}
+use Rattle.tdf_shown.specs.low.trace.Stands.{TraceSeen, WritesRest}
+use Rattle.tdf_shown.specs.low.trace.Writings.{AboutSeen, rest_text, rows_text, writing_of}
 
 -- cells that agree below an end have the same rows below it
 pub rows_same : (about : AboutSeen) (one other : Cells) (from end : ℕ) → Agree one other end → rows_text about one from end ≡ rows_text about other from end

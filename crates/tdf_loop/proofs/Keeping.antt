@@ -1,12 +1,12 @@
 -- The firings of an instant keep the period of each cluster.
 use Rattle.std.proofs.Common.{◌≡◌, ◌∙◌, ℕ, refl, subst}
-use Rattle.tdf_flat.specs.declared.model.Flat.{Flat}
-use Rattle.tdf_fixed.specs.declared.raw.Raw.{Raw}
-use Rattle.tdf_history.specs.Instant.{all_firings, stepped, with_read}
-use Rattle.tdf_history.specs.World.{ClusterAt, Rules, World}
-use Rattle.tdf_instants.specs.History.{Going, turns_to}
-use Rattle.tdf_tree.specs.Pure.{PureTree}
-use Rattle.tdf_world.proofs.Api.{AllBy, LeadsBy, firings_by, turns_by}
+use Rattle.tdf_shown.specs.low.flat.declared.model.Flat.{Flat}
+use Rattle.tdf_shown.specs.low.fixed.declared.raw.Raw.{Raw}
+use Rattle.tdf_shown.specs.low.history.Instant.{all_firings, stepped, with_read}
+use Rattle.tdf_shown.specs.low.history.World.{ClusterAt, Rules, World}
+use Rattle.tdf_shown.specs.low.instants.History.{Going, turns_to}
+use Rattle.tdf_shown.specs.low.tree.Pure.{PureTree}
+use Rattle.tdf_shown.proofs.Api.{AllBy, LeadsBy, firings_by, turns_by}
 
 -- a cluster that is in the same period
 pub record IsInPeriod (c d : ClusterAt) : Type 0 where

@@ -8,22 +8,22 @@ use Rattle.tdf_engine.specs.Engine.{HasBeenSpent, HasHadInstant, IsEngineOf, IsR
 use Rattle.tdf_engine.specs.InstantLaws.{InstantEndsSpent, InstantGoes, InstantGoesAlong, IsModelOf}
 use Rattle.tdf_engine.specs.Times.{IsNextDue}
 use Rattle.tdf_engine.specs.declared.engine.Engine.{Engine}
-use Rattle.tdf_events.specs.Kernel.{side_of}
-use Rattle.tdf_events.specs.Side.{SideOf}
-use Rattle.tdf_flat.specs.declared.model.Flat.{Flat}
-use Rattle.tdf_flow.proofs.Api.{get_inside}
-use Rattle.tdf_history.specs.Instant.{is_over, periods_of}
-use Rattle.tdf_history.specs.World.{ClusterAt, World}
-use Rattle.tdf_instants.proofs.Api.{happens, reached, spent_ends}
-use Rattle.tdf_instants.specs.History.{Spent, history, state_of}
-use Rattle.tdf_instants.specs.Laws.{IsNextTime, IsOn}
+use Rattle.tdf_shown.specs.low.events.Kernel.{side_of}
+use Rattle.tdf_shown.specs.low.events.Side.{SideOf}
+use Rattle.tdf_shown.specs.low.flat.declared.model.Flat.{Flat}
+use Rattle.tdf_shown.proofs.Api.{get_inside}
+use Rattle.tdf_shown.specs.low.history.Instant.{is_over, periods_of}
+use Rattle.tdf_shown.specs.low.history.World.{ClusterAt, World}
+use Rattle.tdf_shown.proofs.Api.{happens, reached, spent_ends}
+use Rattle.tdf_shown.specs.low.instants.History.{Spent, history, state_of}
+use Rattle.tdf_shown.specs.low.instants.Laws.{IsNextTime, IsOn}
 use Rattle.tdf_loop.proofs.Dues.{next_is}
 use Rattle.tdf_loop.proofs.Keeping.{IsInPeriod, firings_keep}
 use Rattle.tdf_loop.specs.Ongoing.{AreTimed, InstantLeadsOn, InstantSpends, IsOngoing, StopIsReached}
-use Rattle.tdf_streams.specs.Periods.{PeriodRecord}
-use Rattle.tdf_streams.specs.Signals.{time_of}
-use Rattle.tdf_tree.specs.Pure.{PureTree}
-use Rattle.tdf_world.specs.Rules.{rules_of, world_engine}
+use Rattle.tdf_shown.specs.low.streams.Periods.{PeriodRecord}
+use Rattle.tdf_shown.specs.low.streams.Signals.{time_of}
+use Rattle.tdf_shown.specs.low.tree.Pure.{PureTree}
+use Rattle.tdf_shown.specs.low.world.Rules.{rules_of, world_engine}
 
 -- what was ready from a time on is ready at the next one
 pub ready_then : (from stop time : ℕ) (e : Engine) → IsReadyAt from e → from ≤ time → IsNextDue e.clusters.items e.since.items (side_of e.kernel) stop time → IsReadyAt time e

@@ -1,3 +1,4 @@
+pub mod Api
 pub mod Advancing
 pub mod Answering
 pub mod Beginning

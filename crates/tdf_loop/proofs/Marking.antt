@@ -2,14 +2,14 @@
 use Rattle.std.proofs.Common.{◌≡◌, ◌∙◌, ℕ, ◌≤◌, List, Option, max, sym, subst, inl, inr, arith}
 use Rattle.std.proofs.lemmas.Bool.{cases_lt}
 use Rattle.std.specs.Io.KnownBytes.{Appends}
-use Rattle.tdf_columns.specs.Calls.{StandBelow}
+use Rattle.tdf_shown.specs.low.columns.Calls.{StandBelow}
 use Rattle.tdf_engine.specs.InstantLaws.{IsModelOf}
 use Rattle.tdf_engine.specs.Telling.{IsLeastStart}
-use Rattle.tdf_events.specs.Side.{SideOf}
-use Rattle.tdf_flat.specs.declared.model.Flat.{Flat}
-use Rattle.tdf_history.specs.Cells.{run_cells}
-use Rattle.tdf_history.specs.World.{World}
-use Rattle.tdf_io.specs.Bytes.{AppendsFront}
+use Rattle.tdf_shown.specs.low.events.Side.{SideOf}
+use Rattle.tdf_shown.specs.low.flat.declared.model.Flat.{Flat}
+use Rattle.tdf_shown.specs.low.history.Cells.{run_cells}
+use Rattle.tdf_shown.specs.low.history.World.{World}
+use Rattle.tdf_shown.specs.low.in_out.Bytes.{AppendsFront}
 use Rattle.tdf_loop.proofs.Onward.{since_mark}
 use Rattle.tdf_loop.proofs.RunStands.{run_stands}
 use Rattle.tdf_loop.proofs.Finishing.{rows_same}
@@ -17,13 +17,13 @@ use Rattle.tdf_loop.proofs.Written.{rows_alike, rows_past}
 use Rattle.tdf_loop.specs.Ending.{ShownStandsBelow}
 use Rattle.tdf_loop.specs.Running.{CanGoOn, GoesOn, IsRunningAt, WritesFrontTo}
 use Rattle.tdf_loop.specs.declared.running.Running.{Running}
-use Rattle.tdf_rows.specs.Laws.{Agree}
-use Rattle.tdf_rows.specs.Rows.{Cells}
+use Rattle.tdf_shown.specs.low.rows.Laws.{Agree}
+use Rattle.tdf_shown.specs.low.rows.Rows.{Cells}
 use Rattle.tdf_shown.proofs.Api.{written_is_shown}
-use Rattle.tdf_trace.specs.Stands.{TraceSeen, WritesFront, WritesRows}
-use Rattle.tdf_trace.specs.Writings.{AboutSeen, rows_text}
-use Rattle.tdf_tree.specs.Pure.{PureTree}
-use Rattle.tdf_world.specs.Rules.{rules_of}
+use Rattle.tdf_shown.specs.low.trace.Stands.{TraceSeen, WritesFront, WritesRows}
+use Rattle.tdf_shown.specs.low.trace.Writings.{AboutSeen, rows_text}
+use Rattle.tdf_shown.specs.low.tree.Pure.{PureTree}
+use Rattle.tdf_shown.specs.low.world.Rules.{rules_of}
 
 -- rows by cells that agree below a mark, up to a time that is not past both
 rows_by : (about : AboutSeen) (g h : Cells) (u v mark : ℕ) (a b : Option (List ℕ)) → Agree g h mark → u ≤ v → v ≤ max u mark → Appends a b (rows_text about g u v) → Appends a b (rows_text about h u v)

@@ -2,15 +2,15 @@
 use Rattle.std.proofs.Common.{◌≡◌, ℕ, List, Option, sym, subst}
 use Rattle.std.proofs.KnownBytes.{Appends-trans}
 use Rattle.std.specs.Io.KnownBytes.{Appends}
-use Rattle.tdf_dynamic.specs.declared.first.First.{First}
-use Rattle.tdf_flat.specs.declared.model.Flat.{Flat}
-use Rattle.tdf_io.proofs.Api.{front_more, front_then, front_whole}
-use Rattle.tdf_io.specs.Bytes.{AppendsFront}
+use Rattle.tdf_shown.specs.low.dynamic.declared.first.First.{First}
+use Rattle.tdf_shown.specs.low.flat.declared.model.Flat.{Flat}
+use Rattle.tdf_shown.proofs.Api.{front_more, front_then, front_whole}
+use Rattle.tdf_shown.specs.low.in_out.Bytes.{AppendsFront}
 use Rattle.tdf_report.specs.Ending.{end_text, run_end, run_note}
 use Rattle.tdf_report.specs.Laws.{NotesAreWritten}
 use Rattle.tdf_report.specs.Plans.{plans_of}
 use Rattle.tdf_report.specs.declared.ending.End.{End}
-use Rattle.tdf_tree.specs.Pure.{PureTree}
+use Rattle.tdf_shown.specs.low.tree.Pure.{PureTree}
 
 module _ (notes : NotesAreWritten) (model : PureTree) (flat : Flat) (firsts listed : List First) (same : listed ≡ firsts) (stop turns : ℕ) where
   abbrev closing : List ℕ

@@ -2,19 +2,19 @@
 use Rattle.std.proofs.Common.{◌≡◌, ◌∙◌, ℕ, ◌-◌, ◌≤◌, List, Option, Some, slice_get, refl, ap, subst, arith}
 use Rattle.std.proofs.lemmas.Option.{slice_get_within}
 use Rattle.std.specs.Io.KnownBytes.{Appends}
-use Rattle.tdf_columns.specs.Tracked.{AreSince}
+use Rattle.tdf_shown.specs.low.columns.Tracked.{AreSince}
 use Rattle.tdf_engine.specs.Engine.{IsEngineOf}
 use Rattle.tdf_engine.specs.InstantLaws.{IsModelOf, IsNow}
 use Rattle.tdf_engine.specs.Times.{IsNextDue}
 use Rattle.tdf_engine.specs.declared.engine.Engine.{Engine}
-use Rattle.tdf_events.specs.Kernel.{side_of}
-use Rattle.tdf_events.specs.Side.{SideOf}
-use Rattle.tdf_flat.specs.declared.model.Flat.{Flat}
-use Rattle.tdf_flow.proofs.Api.{get_inside}
-use Rattle.tdf_history.specs.Cells.{run_cells}
-use Rattle.tdf_history.specs.World.{ClusterAt, World}
-use Rattle.tdf_instants.specs.History.{On, history}
-use Rattle.tdf_instants.specs.Laws.{IsNextTime}
+use Rattle.tdf_shown.specs.low.events.Kernel.{side_of}
+use Rattle.tdf_shown.specs.low.events.Side.{SideOf}
+use Rattle.tdf_shown.specs.low.flat.declared.model.Flat.{Flat}
+use Rattle.tdf_shown.proofs.Api.{get_inside}
+use Rattle.tdf_shown.specs.low.history.Cells.{run_cells}
+use Rattle.tdf_shown.specs.low.history.World.{ClusterAt, World}
+use Rattle.tdf_shown.specs.low.instants.History.{On, history}
+use Rattle.tdf_shown.specs.low.instants.Laws.{IsNextTime}
 use Rattle.tdf_loop.proofs.Dues.{next_is}
 use Rattle.tdf_loop.proofs.Leading.{ready_then}
 use Rattle.tdf_loop.proofs.Staying.{cells_stay_below}
@@ -22,11 +22,11 @@ use Rattle.tdf_loop.proofs.Waiting.{runs_to_next}
 use Rattle.tdf_loop.proofs.Written.{none_taken, rows_then}
 use Rattle.tdf_loop.specs.Running.{CanGoOn, GoesOn, IsRunningAt}
 use Rattle.tdf_loop.specs.declared.running.Running.{Running}
-use Rattle.tdf_rows.specs.Laws.{Agree}
+use Rattle.tdf_shown.specs.low.rows.Laws.{Agree}
 use Rattle.tdf_shown.proofs.Api.{rows_may_be_written}
-use Rattle.tdf_trace.specs.Writings.{AboutSeen, rows_text}
-use Rattle.tdf_tree.specs.Pure.{PureTree}
-use Rattle.tdf_world.specs.Rules.{rules_of, world_engine}
+use Rattle.tdf_shown.specs.low.trace.Writings.{AboutSeen, rows_text}
+use Rattle.tdf_shown.specs.low.tree.Pure.{PureTree}
+use Rattle.tdf_shown.specs.low.world.Rules.{rules_of, world_engine}
 
 -- no period of the history began before a mark below all starts
 pub periods_late : (model : PureTree) (flat : Flat) (w : World SideOf) (e : Engine) (left mark : ℕ) → IsEngineOf flat e → IsNow model flat w e left

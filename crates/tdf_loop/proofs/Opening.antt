@@ -1,13 +1,13 @@
 -- A run whose trace got its head is still what it was.
 use Rattle.std.proofs.Common.{◌≡◌, sym, ap, subst, arith}
-use Rattle.tdf_events.specs.Side.{SideOf}
-use Rattle.tdf_flat.specs.declared.model.Flat.{Flat}
-use Rattle.tdf_history.specs.World.{World}
+use Rattle.tdf_shown.specs.low.events.Side.{SideOf}
+use Rattle.tdf_shown.specs.low.flat.declared.model.Flat.{Flat}
+use Rattle.tdf_shown.specs.low.history.World.{World}
 use Rattle.tdf_loop.specs.Running.{CanGoOn, IsRunningAt}
 use Rattle.tdf_loop.specs.declared.running.Running.{Running}
 use Rattle.tdf_shown.proofs.Api.{written_is_shown}
-use Rattle.tdf_trace.specs.Stands.{RowsSeen, Stands, TraceSeen}
-use Rattle.tdf_tree.specs.Pure.{PureTree}
+use Rattle.tdf_shown.specs.low.trace.Stands.{RowsSeen, Stands, TraceSeen}
+use Rattle.tdf_shown.specs.low.tree.Pure.{PureTree}
 
 module _ (flat : Flat) (r : Running) (trace : TraceSeen) (rows : trace.rows ≡ r.shown.trace.rows) (about : trace.about ≡ r.shown.trace.about) where
   abbrev pub with_head : Running

@@ -5,15 +5,15 @@ use Rattle.tdf_engine.specs.Engine.{HasBeenSpent}
 use Rattle.tdf_engine.specs.InstantLaws.{InstantEndsSpent, InstantGoesAlong, IsModelOf}
 use Rattle.tdf_engine.specs.Times.{IsNextDue}
 use Rattle.tdf_engine.specs.declared.engine.Engine.{Engine}
-use Rattle.tdf_events.specs.Kernel.{side_of}
-use Rattle.tdf_events.specs.Side.{SideOf}
-use Rattle.tdf_flat.specs.declared.model.Flat.{Flat}
-use Rattle.tdf_history.specs.Cells.{run_cells, world_before, world_of}
-use Rattle.tdf_history.specs.Instant.{RunFault}
-use Rattle.tdf_history.specs.World.{World}
-use Rattle.tdf_instants.proofs.Api.{end_lies}
-use Rattle.tdf_instants.specs.History.{On, State, end_time, history}
-use Rattle.tdf_io.specs.Bytes.{AppendsFront}
+use Rattle.tdf_shown.specs.low.events.Kernel.{side_of}
+use Rattle.tdf_shown.specs.low.events.Side.{SideOf}
+use Rattle.tdf_shown.specs.low.flat.declared.model.Flat.{Flat}
+use Rattle.tdf_shown.specs.low.history.Cells.{run_cells, world_before, world_of}
+use Rattle.tdf_shown.specs.low.history.Instant.{RunFault}
+use Rattle.tdf_shown.specs.low.history.World.{World}
+use Rattle.tdf_shown.proofs.Api.{end_lies}
+use Rattle.tdf_shown.specs.low.instants.History.{On, State, end_time, history}
+use Rattle.tdf_shown.specs.low.in_out.Bytes.{AppendsFront}
 use Rattle.tdf_loop.proofs.Ended.{before_end}
 use Rattle.tdf_loop.proofs.Leading.{spends, stop_reached}
 use Rattle.tdf_loop.proofs.Onward.{cells_stay, on_before, since_mark, waiting, waits_later, waits_runs}
@@ -24,9 +24,9 @@ use Rattle.tdf_loop.specs.declared.going.Ended.{Ended}
 use Rattle.tdf_loop.specs.declared.going.Ended.TheVariants as ended
 use Rattle.tdf_loop.specs.declared.running.Running.{Running}
 use Rattle.tdf_shown.specs.Shown.{IsShown}
-use Rattle.tdf_trace.specs.Writings.{AboutSeen, rows_text}
-use Rattle.tdf_tree.specs.Pure.{PureTree}
-use Rattle.tdf_world.specs.Rules.{rules_of, world_engine}
+use Rattle.tdf_shown.specs.low.trace.Writings.{AboutSeen, rows_text}
+use Rattle.tdf_shown.specs.low.tree.Pure.{PureTree}
+use Rattle.tdf_shown.specs.low.world.Rules.{rules_of, world_engine}
 
 -- a run that goes on does so up to the end, which comes by the stop
 end_after : (model : PureTree) (flat : Flat) (start : World SideOf) (r : Running) (stop : ℕ) → IsRunningAt model flat start r → r.from ≤ stop → r.from ≤ end_from model flat start stop

@@ -1,22 +1,22 @@
 -- Below a mark that no period with positions left began before, the rows of a run that goes on stand for its cells.
 use Rattle.std.proofs.Common.{◌≡◌, ◌∙◌, ℕ, ◌-◌, ◌≤◌, ap, subst, sym, arith}
-use Rattle.tdf_columns.specs.Calls.{StandBelow}
-use Rattle.tdf_columns.specs.Tracked.{AreSince}
+use Rattle.tdf_shown.specs.low.columns.Calls.{StandBelow}
+use Rattle.tdf_shown.specs.low.columns.Tracked.{AreSince}
 use Rattle.tdf_engine.specs.InstantLaws.{IsModelOf}
 use Rattle.tdf_engine.specs.declared.engine.Engine.{Engine}
-use Rattle.tdf_events.specs.Side.{SideOf}
-use Rattle.tdf_flat.specs.declared.model.Flat.{Flat}
-use Rattle.tdf_history.specs.Cells.{run_cells, world_before, world_of}
-use Rattle.tdf_history.specs.World.{World}
-use Rattle.tdf_instants.specs.History.{history}
+use Rattle.tdf_shown.specs.low.events.Side.{SideOf}
+use Rattle.tdf_shown.specs.low.flat.declared.model.Flat.{Flat}
+use Rattle.tdf_shown.specs.low.history.Cells.{run_cells, world_before, world_of}
+use Rattle.tdf_shown.specs.low.history.World.{World}
+use Rattle.tdf_shown.specs.low.instants.History.{history}
 use Rattle.tdf_loop.proofs.Staying.{steady}
 use Rattle.tdf_loop.specs.Ending.{ShownStandsBelow}
 use Rattle.tdf_loop.specs.Running.{IsRunning}
 use Rattle.tdf_shown.specs.Shown.{IsShown}
 use Rattle.tdf_shown.specs.declared.shown.Shown.{Shown}
-use Rattle.tdf_tree.specs.Pure.{PureTree}
-use Rattle.tdf_world.specs.Laws.{AreSteady}
-use Rattle.tdf_world.specs.Rules.{rules_of, world_engine}
+use Rattle.tdf_shown.specs.low.tree.Pure.{PureTree}
+use Rattle.tdf_shown.specs.low.world.Laws.{AreSteady}
+use Rattle.tdf_shown.specs.low.world.Rules.{rules_of, world_engine}
 
 pub run_stands : ShownStandsBelow → (model : PureTree) (flat : Flat) (start : World SideOf) (from mark left : ℕ) (e : Engine) (s : Shown) → IsModelOf model flat → IsRunning model flat start from e left s
     → AreSince mark s.tracking.list → mark ≤ from → StandBelow (run_cells model flat (rules_of model flat) start from) mark s.trace.rows

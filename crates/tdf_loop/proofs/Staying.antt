@@ -5,20 +5,20 @@ use Rattle.std.proofs.lemmas.Option.{slice_get_within}
 use Rattle.std.specs.List.{All}
 use Rattle.tdf_engine.specs.InstantLaws.{IsNow}
 use Rattle.tdf_engine.specs.declared.engine.Engine.{Engine}
-use Rattle.tdf_events.specs.Side.{SideOf}
-use Rattle.tdf_flat.specs.declared.model.Flat.{Flat}
-use Rattle.tdf_flow.proofs.Api.{get_inside}
-use Rattle.tdf_history.specs.World.{Change, ClusterAt, World}
-use Rattle.tdf_instants.specs.History.{history}
+use Rattle.tdf_shown.specs.low.events.Side.{SideOf}
+use Rattle.tdf_shown.specs.low.flat.declared.model.Flat.{Flat}
+use Rattle.tdf_shown.proofs.Api.{get_inside}
+use Rattle.tdf_shown.specs.low.history.World.{Change, ClusterAt, World}
+use Rattle.tdf_shown.specs.low.instants.History.{history}
 use Rattle.tdf_loop.specs.Ongoing.{AreTimed}
 use Rattle.tdf_loop.specs.Staying.{CellsStayBelow}
-use Rattle.tdf_streams.specs.Signals.{time_of}
-use Rattle.tdf_traced.proofs.Api.{done_known}
-use Rattle.tdf_tree.specs.Pure.{PureTree}
-use Rattle.tdf_world.proofs.Api.{cells_agree}
-use Rattle.tdf_world.specs.Continuing.{HasToldCounts}
-use Rattle.tdf_world.specs.Laws.{AreSteady}
-use Rattle.tdf_world.specs.Rules.{rules_of, world_engine}
+use Rattle.tdf_shown.specs.low.streams.Signals.{time_of}
+use Rattle.tdf_shown.proofs.Api.{done_known}
+use Rattle.tdf_shown.specs.low.tree.Pure.{PureTree}
+use Rattle.tdf_shown.proofs.Api.{cells_agree}
+use Rattle.tdf_shown.specs.low.world.Continuing.{HasToldCounts}
+use Rattle.tdf_shown.specs.low.world.Laws.{AreSteady}
+use Rattle.tdf_shown.specs.low.world.Rules.{rules_of, world_engine}
 
 module _ (model : PureTree) (flat : Flat) (w : World SideOf) (e : Engine) (left : ℕ) (now : IsNow model flat w e left) where
   -- what there is in the history is steady

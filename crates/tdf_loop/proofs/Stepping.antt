@@ -3,36 +3,36 @@ use Rattle.std.proofs.Common.{◌≡◌, ◌∙◌, ℕ, zero, suc, ◌+◌, ◌
 use Rattle.std.proofs.lemmas.List.Elements.{All-append, All-nil, All-weaker}
 use Rattle.std.proofs.lemmas.Option.{slice_get_within}
 use Rattle.std.specs.Prelude.{All}
-use Rattle.tdf_base.specs.Limits.{time_end}
-use Rattle.tdf_convert.specs.Outputs.{OutputsOf}
-use Rattle.tdf_convert.specs.declared.outputs.Traced.{Traced}
-use Rattle.tdf_convert.specs.declared.outputs.Sent.{Sent}
+use Rattle.tdf_shown.specs.low.base.Limits.{time_end}
+use Rattle.tdf_shown.specs.low.convert.Outputs.{OutputsOf}
+use Rattle.tdf_shown.specs.low.convert.declared.outputs.Traced.{Traced}
+use Rattle.tdf_shown.specs.low.convert.declared.outputs.Sent.{Sent}
 use Rattle.tdf_engine.specs.Engine.{HasHadInstant, IsEngineOf, IsReadyAt}
 use Rattle.tdf_engine.specs.InstantLaws.{InstantEndsSpent, InstantGoes, InstantGoesAlong, IsModelOf}
 use Rattle.tdf_engine.specs.declared.engine.Engine.{Engine}
-use Rattle.tdf_events.specs.Side.{SideOf}
-use Rattle.tdf_exec.specs.Gained.{HasFewPlaces}
-use Rattle.tdf_flat.specs.declared.model.Flat.{Flat}
-use Rattle.tdf_flow.proofs.Api.{get_inside}
-use Rattle.tdf_history.specs.Cells.{world_of}
-use Rattle.tdf_history.specs.Instant.{RunFault}
-use Rattle.tdf_history.specs.World.{ClusterAt, World}
-use Rattle.tdf_instants.specs.History.{State, history}
+use Rattle.tdf_shown.specs.low.events.Side.{SideOf}
+use Rattle.tdf_shown.specs.low.exec.Gained.{HasFewPlaces}
+use Rattle.tdf_shown.specs.low.flat.declared.model.Flat.{Flat}
+use Rattle.tdf_shown.proofs.Api.{get_inside}
+use Rattle.tdf_shown.specs.low.history.Cells.{world_of}
+use Rattle.tdf_shown.specs.low.history.Instant.{RunFault}
+use Rattle.tdf_shown.specs.low.history.World.{ClusterAt, World}
+use Rattle.tdf_shown.specs.low.instants.History.{State, history}
 use Rattle.tdf_loop.proofs.Leading.{goes_now, leads_to, stays_timed}
 use Rattle.tdf_loop.proofs.Onward.{goes_quietly, since_mark}
 use Rattle.tdf_loop.proofs.Staying.{steady}
 use Rattle.tdf_loop.specs.Advancing.{InstantAdvances}
 use Rattle.tdf_loop.specs.Running.{CanGoOn, GoesOn, IsDueNow, IsRunningAt}
 use Rattle.tdf_loop.specs.declared.running.Running.{Running}
-use Rattle.tdf_run.specs.Pass.{Done, HasTurn, HavePassed, Idle, PassAt, RunOf}
+use Rattle.tdf_shown.specs.low.run.Pass.{Done, HasTurn, HavePassed, Idle, PassAt, RunOf}
 use Rattle.tdf_shown.proofs.Api.{advanced_can_be_taken}
 use Rattle.tdf_shown.specs.Advanced.{Advances, Began, HasAdvanced, Stayed}
 use Rattle.tdf_shown.specs.Calls.{CanTake, ShowsInstant}
 use Rattle.tdf_shown.specs.Events.{values_before}
 use Rattle.tdf_shown.specs.Periods.{ClockAt, clock_at}
 use Rattle.tdf_shown.specs.declared.shown.Shown.{Shown}
-use Rattle.tdf_tree.specs.Pure.{PureTree}
-use Rattle.tdf_world.specs.Rules.{world_engine}
+use Rattle.tdf_shown.specs.low.tree.Pure.{PureTree}
+use Rattle.tdf_shown.specs.low.world.Rules.{world_engine}
 
 -- what a pass traces has few places
 module _ (flat : Flat) (pass : PassAt) where

@@ -3,22 +3,22 @@ use Rattle.std.proofs.Common.{◌≡◌, ◌∙◌, ℕ, ◌+◌, ◌-◌, ◌�
 use Rattle.tdf_engine.specs.Engine.{IsEngineOf, IsReadyAt}
 use Rattle.tdf_engine.specs.Times.{IsNextDue}
 use Rattle.tdf_engine.specs.declared.engine.Engine.{Engine}
-use Rattle.tdf_events.specs.Kernel.{side_of}
-use Rattle.tdf_events.specs.Side.{SideOf}
-use Rattle.tdf_fixed.specs.declared.raw.Raw.{Raw}
-use Rattle.tdf_flat.specs.declared.model.Flat.{Flat}
-use Rattle.tdf_history.specs.Cells.{world_of}
-use Rattle.tdf_history.specs.Instant.{RunFault}
-use Rattle.tdf_history.specs.World.{World}
-use Rattle.tdf_instants.proofs.Api.{skipped}
-use Rattle.tdf_instants.specs.History.{On, State, history}
-use Rattle.tdf_instants.specs.Laws.{IsNextTime}
+use Rattle.tdf_shown.specs.low.events.Kernel.{side_of}
+use Rattle.tdf_shown.specs.low.events.Side.{SideOf}
+use Rattle.tdf_shown.specs.low.fixed.declared.raw.Raw.{Raw}
+use Rattle.tdf_shown.specs.low.flat.declared.model.Flat.{Flat}
+use Rattle.tdf_shown.specs.low.history.Cells.{world_of}
+use Rattle.tdf_shown.specs.low.history.Instant.{RunFault}
+use Rattle.tdf_shown.specs.low.history.World.{World}
+use Rattle.tdf_shown.proofs.Api.{skipped}
+use Rattle.tdf_shown.specs.low.instants.History.{On, State, history}
+use Rattle.tdf_shown.specs.low.instants.Laws.{IsNextTime}
 use Rattle.tdf_loop.proofs.Dues.{next_is}
 use Rattle.tdf_loop.specs.Running.{IsRunning, RunsToNext}
 use Rattle.tdf_shown.proofs.Api.{later_is_shown}
 use Rattle.tdf_shown.specs.declared.shown.Shown.{Shown}
-use Rattle.tdf_tree.specs.Pure.{PureTree}
-use Rattle.tdf_world.specs.Rules.{world_engine}
+use Rattle.tdf_shown.specs.low.tree.Pure.{PureTree}
+use Rattle.tdf_shown.specs.low.world.Rules.{world_engine}
 
 module _ (model : PureTree) (flat : Flat) (start : World SideOf) (from stop time left : ℕ) (e : Engine) (s : Shown) (of : IsEngineOf flat e) (ready : IsReadyAt from e)
     (run : IsRunning model flat start from e left s) (within : from ≤ stop) (next : IsNextDue e.clusters.items e.since.items (side_of e.kernel) stop time) where

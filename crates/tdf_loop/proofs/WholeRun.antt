@@ -2,16 +2,16 @@
 use Rattle.std.proofs.Common.{◌≡◌, ◌∙◌, ℕ, ◌-◌, List, [], ◌++◌, Option, Result, IfOk, refl, sym, ap, subst, arith}
 use Rattle.std.proofs.KnownBytes.{Appends-trans}
 use Rattle.std.specs.Io.KnownBytes.{Appends}
-use Rattle.tdf_dynamic.specs.declared.first.First.{First}
+use Rattle.tdf_shown.specs.low.dynamic.declared.first.First.{First}
 use Rattle.tdf_engine.specs.InstantLaws.{IsModelOf}
-use Rattle.tdf_events.specs.Kernel.{KernelOf, side_of}
-use Rattle.tdf_events.specs.Side.{SideOf}
-use Rattle.tdf_flat.specs.declared.model.Flat.{Flat}
-use Rattle.tdf_history.specs.Cells.{run_cells}
-use Rattle.tdf_history.specs.World.{World}
-use Rattle.tdf_io.proofs.Api.{front_then}
-use Rattle.tdf_io.specs.Bytes.{AppendsFront}
-use Rattle.tdf_io.specs.declared.writing.SinkErr.{SinkErr}
+use Rattle.tdf_shown.specs.low.events.Kernel.{KernelOf, side_of}
+use Rattle.tdf_shown.specs.low.events.Side.{SideOf}
+use Rattle.tdf_shown.specs.low.flat.declared.model.Flat.{Flat}
+use Rattle.tdf_shown.specs.low.history.Cells.{run_cells}
+use Rattle.tdf_shown.specs.low.history.World.{World}
+use Rattle.tdf_shown.proofs.Api.{front_then}
+use Rattle.tdf_shown.specs.low.in_out.Bytes.{AppendsFront}
+use Rattle.tdf_shown.specs.low.in_out.declared.writing.SinkErr.{SinkErr}
 use Rattle.tdf_loop.proofs.Answering.{if_both, if_ok}
 use Rattle.tdf_loop.specs.Ending.{EndsAs, EndsBy, GoesToEnd, WritesPart, end_from}
 use Rattle.tdf_loop.specs.Running.{IsRunningAt}
@@ -23,13 +23,13 @@ use Rattle.tdf_loop.specs.declared.running.Running.{Running}
 use Rattle.tdf_report.specs.Ending.{end_of, run_end}
 use Rattle.tdf_report.specs.declared.ending.End.{End}
 use Rattle.tdf_report.specs.declared.ending.End.TheVariants.{Reached, Spent}
-use Rattle.tdf_rows.specs.Rows.{Cells, trace_text}
-use Rattle.tdf_run.specs.Pass.{AreAt}
-use Rattle.tdf_trace.proofs.Api.{head_front, makes_whole, rows_front, written_none}
-use Rattle.tdf_trace.specs.Writings.{AboutSeen, head_of, rest_text, rows_text, writing_of, written_text}
-use Rattle.tdf_tree.specs.Pure.{PureTree}
-use Rattle.tdf_words.specs.declared.asked.TraceKind.{TraceKind}
-use Rattle.tdf_world.specs.Rules.{rules_of, start_world}
+use Rattle.tdf_shown.specs.low.rows.Rows.{Cells, trace_text}
+use Rattle.tdf_shown.specs.low.run.Pass.{AreAt}
+use Rattle.tdf_shown.proofs.Api.{head_front, makes_whole, rows_front, written_none}
+use Rattle.tdf_shown.specs.low.trace.Writings.{AboutSeen, head_of, rest_text, rows_text, writing_of, written_text}
+use Rattle.tdf_shown.specs.low.tree.Pure.{PureTree}
+use Rattle.tdf_shown.specs.low.words.declared.asked.TraceKind.{TraceKind}
+use Rattle.tdf_shown.specs.low.world.Rules.{rules_of, start_world}
 
 abbrev IsSpentEnd : End → Type 0
 IsSpentEnd (Spent time) = Unit {0}

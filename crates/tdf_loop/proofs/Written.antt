@@ -3,12 +3,12 @@ use Rattle.std.proofs.Common.{◌≡◌, ◌∙◌, ℕ, ◌-◌, ◌≤◌, Lis
 use Rattle.std.proofs.KnownBytes.{Appends-nil, Appends-trans}
 use Rattle.std.proofs.lemmas.Bool.{cases_lt}
 use Rattle.std.specs.Io.KnownBytes.{Appends}
-use Rattle.tdf_io.proofs.Api.{front_more, front_none, front_then}
-use Rattle.tdf_io.specs.Bytes.{AppendsFront}
-use Rattle.tdf_rows.proofs.Api.{text_none, text_same, text_split}
-use Rattle.tdf_rows.specs.Laws.{Agree}
-use Rattle.tdf_rows.specs.Rows.{Cells, text_from}
-use Rattle.tdf_trace.specs.Writings.{AboutSeen, rows_text, writing_of}
+use Rattle.tdf_shown.proofs.Api.{front_more, front_none, front_then}
+use Rattle.tdf_shown.specs.low.in_out.Bytes.{AppendsFront}
+use Rattle.tdf_shown.proofs.Api.{text_none, text_same, text_split}
+use Rattle.tdf_shown.specs.low.rows.Laws.{Agree}
+use Rattle.tdf_shown.specs.low.rows.Rows.{Cells, text_from}
+use Rattle.tdf_shown.specs.low.trace.Writings.{AboutSeen, rows_text, writing_of}
 
 -- no rows
 pub rows_past : (about : AboutSeen) (g : Cells) (u v : ℕ) → v ≤ u → rows_text about g u v ≡ []

@@ -4,11 +4,11 @@ use Rattle.std.specs.Prelude.{◌≡◌, ℕ, []}
 use Rattle.tdf_engine.specs.Engine.{HasHadInstant}
 use Rattle.tdf_engine.specs.InstantLaws.{InstantGoes, IsModelOf, IsNow}
 use Rattle.tdf_engine.specs.declared.engine.Engine.{Engine}
-use Rattle.tdf_events.specs.Side.{SideOf}
-use Rattle.tdf_flat.specs.declared.model.Flat.{Flat}
-use Rattle.tdf_history.specs.World.{World}
+use Rattle.tdf_shown.specs.low.events.Side.{SideOf}
+use Rattle.tdf_shown.specs.low.flat.declared.model.Flat.{Flat}
+use Rattle.tdf_shown.specs.low.history.World.{World}
 use Rattle.tdf_shown.specs.Advanced.{HasAdvanced}
-use Rattle.tdf_tree.specs.Pure.{PureTree}
+use Rattle.tdf_shown.specs.low.tree.Pure.{PureTree}
 
 -- an instant that goes along with the history begins the periods that it has, and what its firings
 -- trace are the next samples of the signals

@@ -2,30 +2,30 @@
 -- Source: own.
 use Rattle.std.specs.Io.KnownBytes.{Appends}
 use Rattle.std.specs.Prelude.{◌≡◌, ◌≤◌, ℕ, List, Option, Result}
-use Rattle.tdf_columns.specs.Calls.{StandBelow}
-use Rattle.tdf_columns.specs.Tracked.{AreSince}
+use Rattle.tdf_shown.specs.low.columns.Calls.{StandBelow}
+use Rattle.tdf_shown.specs.low.columns.Tracked.{AreSince}
 use Rattle.tdf_engine.specs.InstantLaws.{IsModelOf, IsNow}
-use Rattle.tdf_events.specs.Side.{SideOf}
-use Rattle.tdf_flat.specs.Flat.{IsFlatOf}
-use Rattle.tdf_flat.specs.declared.model.Flat.{Flat}
-use Rattle.tdf_history.specs.Cells.{run_cells, world_before}
-use Rattle.tdf_history.specs.Instant.{RunFault}
-use Rattle.tdf_history.specs.Texts.{end_of as end_before, state_at}
-use Rattle.tdf_history.specs.World.{World}
-use Rattle.tdf_instants.specs.History.{On, Spent, State}
-use Rattle.tdf_io.specs.Bytes.{AppendsFront, WritesText}
-use Rattle.tdf_io.specs.declared.writing.SinkErr.{SinkErr}
-use Rattle.tdf_limits.specs.Limits.{AreWithinLimits}
+use Rattle.tdf_shown.specs.low.events.Side.{SideOf}
+use Rattle.tdf_shown.specs.low.flat.Flat.{IsFlatOf}
+use Rattle.tdf_shown.specs.low.flat.declared.model.Flat.{Flat}
+use Rattle.tdf_shown.specs.low.history.Cells.{run_cells, world_before}
+use Rattle.tdf_shown.specs.low.history.Instant.{RunFault}
+use Rattle.tdf_shown.specs.low.history.Texts.{end_of as end_before, state_at}
+use Rattle.tdf_shown.specs.low.history.World.{World}
+use Rattle.tdf_shown.specs.low.instants.History.{On, Spent, State}
+use Rattle.tdf_shown.specs.low.in_out.Bytes.{AppendsFront, WritesText}
+use Rattle.tdf_shown.specs.low.in_out.declared.writing.SinkErr.{SinkErr}
+use Rattle.tdf_shown.specs.low.limits.Limits.{AreWithinLimits}
 use Rattle.tdf_loop.specs.Running.{IsRunningAt, run_rows}
 use Rattle.tdf_loop.specs.declared.going.Ended.{Ended}
 use Rattle.tdf_loop.specs.declared.going.Ended.TheVariants as ended
 use Rattle.tdf_loop.specs.declared.running.Running.{Running}
 use Rattle.tdf_shown.specs.Shown.{IsShown}
 use Rattle.tdf_shown.specs.declared.shown.Shown.{Shown}
-use Rattle.tdf_trace.specs.Writings.{rest_text}
-use Rattle.tdf_tree.specs.Pure.{PureTree}
-use Rattle.tdf_world.specs.Laws.{AreSteady}
-use Rattle.tdf_world.specs.Rules.{rules_of}
+use Rattle.tdf_shown.specs.low.trace.Writings.{rest_text}
+use Rattle.tdf_shown.specs.low.tree.Pure.{PureTree}
+use Rattle.tdf_shown.specs.low.world.Laws.{AreSteady}
+use Rattle.tdf_shown.specs.low.world.Rules.{rules_of}
 
 -- below a mark that no period with positions left began before, the rows stand for the cells of
 -- the run

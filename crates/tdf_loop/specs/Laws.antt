@@ -5,13 +5,13 @@ use Rattle.tdf_engine.specs.Engine.{IsEngineOf, IsReadyAt}
 use Rattle.tdf_engine.specs.InstantLaws.{IsNow}
 use Rattle.tdf_engine.specs.Times.{IsNextDue}
 use Rattle.tdf_engine.specs.declared.engine.Engine.{Engine}
-use Rattle.tdf_events.specs.Kernel.{side_of}
-use Rattle.tdf_events.specs.Side.{SideOf}
-use Rattle.tdf_flat.specs.declared.model.Flat.{Flat}
-use Rattle.tdf_history.specs.World.{World}
-use Rattle.tdf_instants.specs.Laws.{IsNextTime}
-use Rattle.tdf_tree.specs.Pure.{PureTree}
-use Rattle.tdf_world.specs.Rules.{world_engine}
+use Rattle.tdf_shown.specs.low.events.Kernel.{side_of}
+use Rattle.tdf_shown.specs.low.events.Side.{SideOf}
+use Rattle.tdf_shown.specs.low.flat.declared.model.Flat.{Flat}
+use Rattle.tdf_shown.specs.low.history.World.{World}
+use Rattle.tdf_shown.specs.low.instants.Laws.{IsNextTime}
+use Rattle.tdf_shown.specs.low.tree.Pure.{PureTree}
+use Rattle.tdf_shown.specs.low.world.Rules.{world_engine}
 
 -- the time at which something is next due is the next one of the history
 abbrev pub NextIsNext : Type 0

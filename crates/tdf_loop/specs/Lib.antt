@@ -5,3 +5,4 @@ pub mod Ongoing
 pub mod Running
 pub mod Runs
 pub mod Staying
+pub mod low

@@ -5,15 +5,15 @@ use Rattle.tdf_engine.specs.Engine.{HasBeenSpent, HasHadInstant, IsEngineOf, IsR
 use Rattle.tdf_engine.specs.InstantLaws.{IsModelOf, IsNow}
 use Rattle.tdf_engine.specs.Times.{IsNextDue}
 use Rattle.tdf_engine.specs.declared.engine.Engine.{Engine}
-use Rattle.tdf_events.specs.Kernel.{side_of}
-use Rattle.tdf_events.specs.Side.{SideOf}
-use Rattle.tdf_flat.specs.declared.model.Flat.{Flat}
-use Rattle.tdf_history.specs.World.{ClusterAt, World}
-use Rattle.tdf_instants.specs.History.{On, Spent, history}
-use Rattle.tdf_instants.specs.Laws.{IsOn}
-use Rattle.tdf_streams.specs.Signals.{time_of}
-use Rattle.tdf_tree.specs.Pure.{PureTree}
-use Rattle.tdf_world.specs.Rules.{world_engine}
+use Rattle.tdf_shown.specs.low.events.Kernel.{side_of}
+use Rattle.tdf_shown.specs.low.events.Side.{SideOf}
+use Rattle.tdf_shown.specs.low.flat.declared.model.Flat.{Flat}
+use Rattle.tdf_shown.specs.low.history.World.{ClusterAt, World}
+use Rattle.tdf_shown.specs.low.instants.History.{On, Spent, history}
+use Rattle.tdf_shown.specs.low.instants.Laws.{IsOn}
+use Rattle.tdf_shown.specs.low.streams.Signals.{time_of}
+use Rattle.tdf_shown.specs.low.tree.Pure.{PureTree}
+use Rattle.tdf_shown.specs.low.world.Rules.{world_engine}
 
 -- the period of each cluster began when those before it were over
 pub record AreTimed (w : World SideOf) : Type 0 where

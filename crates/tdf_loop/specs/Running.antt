@@ -6,19 +6,19 @@ use Rattle.tdf_engine.specs.Engine.{IsEngineOf, IsReadyAt}
 use Rattle.tdf_engine.specs.InstantLaws.{IsModelOf}
 use Rattle.tdf_engine.specs.Times.{IsNextDue}
 use Rattle.tdf_engine.specs.declared.engine.Engine.{Engine}
-use Rattle.tdf_events.specs.Kernel.{side_of}
-use Rattle.tdf_events.specs.Side.{SideOf}
-use Rattle.tdf_flat.specs.declared.model.Flat.{Flat}
-use Rattle.tdf_history.specs.Cells.{run_cells}
-use Rattle.tdf_history.specs.World.{World}
-use Rattle.tdf_io.specs.Bytes.{AppendsFront}
+use Rattle.tdf_shown.specs.low.events.Kernel.{side_of}
+use Rattle.tdf_shown.specs.low.events.Side.{SideOf}
+use Rattle.tdf_shown.specs.low.flat.declared.model.Flat.{Flat}
+use Rattle.tdf_shown.specs.low.history.Cells.{run_cells}
+use Rattle.tdf_shown.specs.low.history.World.{World}
+use Rattle.tdf_shown.specs.low.in_out.Bytes.{AppendsFront}
 use Rattle.tdf_loop.specs.Ongoing.{IsOngoing}
 use Rattle.tdf_loop.specs.declared.running.Running.{Running}
 use Rattle.tdf_shown.specs.Shown.{IsShown}
 use Rattle.tdf_shown.specs.declared.shown.Shown.{Shown}
-use Rattle.tdf_trace.specs.Writings.{rows_text}
-use Rattle.tdf_tree.specs.Pure.{PureTree}
-use Rattle.tdf_world.specs.Rules.{rules_of}
+use Rattle.tdf_shown.specs.low.trace.Writings.{rows_text}
+use Rattle.tdf_shown.specs.low.tree.Pure.{PureTree}
+use Rattle.tdf_shown.specs.low.world.Rules.{rules_of}
 
 -- a run goes on before a time, and its trace shows what it has done
 pub record IsRunning (model : PureTree) (flat : Flat) (start : World SideOf) (from : ℕ)

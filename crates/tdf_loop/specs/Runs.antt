@@ -1,25 +1,25 @@
 -- A whole run: what a model has so that it can run, what the run writes, and what it leaves.
 -- Source: own.
 use Rattle.std.specs.Prelude.{◌≡◌, ℕ, List, [], length}
-use Rattle.tdf_dynamic.specs.declared.first.First.{First}
+use Rattle.tdf_shown.specs.low.dynamic.declared.first.First.{First}
 use Rattle.tdf_engine.specs.InstantLaws.{IsModelOf}
 use Rattle.tdf_engine.specs.Making.{HaveNoChanges, HavePlans}
-use Rattle.tdf_events.specs.Kernel.{side_of}
-use Rattle.tdf_events.specs.Runnable.{IsRunnable}
-use Rattle.tdf_events.specs.Side.{SideOf}
-use Rattle.tdf_flat.specs.declared.model.Flat.{Flat}
-use Rattle.tdf_history.specs.Texts.{run_trace}
-use Rattle.tdf_history.specs.World.{World}
-use Rattle.tdf_instants.specs.History.{On}
+use Rattle.tdf_shown.specs.low.events.Kernel.{side_of}
+use Rattle.tdf_shown.specs.low.events.Runnable.{IsRunnable}
+use Rattle.tdf_shown.specs.low.events.Side.{SideOf}
+use Rattle.tdf_shown.specs.low.flat.declared.model.Flat.{Flat}
+use Rattle.tdf_shown.specs.low.history.Texts.{run_trace}
+use Rattle.tdf_shown.specs.low.history.World.{World}
+use Rattle.tdf_shown.specs.low.instants.History.{On}
 use Rattle.tdf_loop.specs.declared.run.Ran.{Ran}
 use Rattle.tdf_report.specs.Ending.{state_of}
 use Rattle.tdf_report.specs.Plans.{ArePrintable}
-use Rattle.tdf_run.specs.Pass.{AreAt}
+use Rattle.tdf_shown.specs.low.run.Pass.{AreAt}
 use Rattle.tdf_shown.specs.Variables.{variables_of}
-use Rattle.tdf_trace.specs.Writings.{AboutSeen, about_of, writing_of}
-use Rattle.tdf_tree.specs.Pure.{PureTree}
-use Rattle.tdf_words.specs.declared.asked.TraceKind.{TraceKind}
-use Rattle.tdf_world.specs.Rules.{rules_of, start_world}
+use Rattle.tdf_shown.specs.low.trace.Writings.{AboutSeen, about_of, writing_of}
+use Rattle.tdf_shown.specs.low.tree.Pure.{PureTree}
+use Rattle.tdf_shown.specs.low.words.declared.asked.TraceKind.{TraceKind}
+use Rattle.tdf_shown.specs.low.world.Rules.{rules_of, start_world}
 
 -- a flat model of a sound model can run from the first plans of its clusters, which no module
 -- changes

@@ -4,15 +4,15 @@ use Rattle.std.specs.Prelude.{◌≡◌, ◌≤◌, ℕ, Some, slice_get}
 use Rattle.tdf_engine.specs.Engine.{IsEngineOf}
 use Rattle.tdf_engine.specs.InstantLaws.{IsModelOf}
 use Rattle.tdf_engine.specs.declared.engine.Engine.{Engine}
-use Rattle.tdf_events.specs.Side.{SideOf}
-use Rattle.tdf_flat.specs.declared.model.Flat.{Flat}
-use Rattle.tdf_history.specs.Cells.{run_cells}
-use Rattle.tdf_history.specs.World.{World}
-use Rattle.tdf_instants.specs.History.{On, history}
+use Rattle.tdf_shown.specs.low.events.Side.{SideOf}
+use Rattle.tdf_shown.specs.low.flat.declared.model.Flat.{Flat}
+use Rattle.tdf_shown.specs.low.history.Cells.{run_cells}
+use Rattle.tdf_shown.specs.low.history.World.{World}
+use Rattle.tdf_shown.specs.low.instants.History.{On, history}
 use Rattle.tdf_loop.specs.Ongoing.{IsOngoing}
-use Rattle.tdf_rows.specs.Laws.{Agree}
-use Rattle.tdf_tree.specs.Pure.{PureTree}
-use Rattle.tdf_world.specs.Rules.{rules_of, world_engine}
+use Rattle.tdf_shown.specs.low.rows.Laws.{Agree}
+use Rattle.tdf_shown.specs.low.tree.Pure.{PureTree}
+use Rattle.tdf_shown.specs.low.world.Rules.{rules_of, world_engine}
 
 -- where the history goes on to a later end, the cells of a run below a mark stay, if the period of
 -- no cluster began before the mark

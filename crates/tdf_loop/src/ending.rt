@@ -1,13 +1,13 @@
 //! How the trace of a run ends.
 
 ghost use Rattle.std.specs.Prelude.{◌≡◌, ◌≤◌, length};
-ghost use Rattle.tdf_columns.specs.Tracked.{AreSince};
-ghost use Rattle.tdf_io.specs.Faults.{CountsSinkFaults};
+ghost use Rattle.tdf_shown.specs.low.columns.Tracked.{AreSince};
+ghost use Rattle.tdf_shown.specs.low.in_out.Faults.{CountsSinkFaults};
 ghost use Rattle.tdf_loop.specs.Ending.{WritesEnd};
-ghost use Rattle.tdf_trace.specs.declared.stage.Stage.TheVariants.{Open};
+ghost use Rattle.tdf_shown.specs.low.trace.declared.stage.Stage.TheVariants.{Open};
 
-use tdf_io::{Sink, SinkErr};
 use tdf_shown::Shown;
+use tdf_shown::low::in_out::{Sink, SinkErr};
 
 /// Writes the other rows below the end, samples that are not there as unknown, and the tail.
 ///

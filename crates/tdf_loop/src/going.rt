@@ -10,30 +10,30 @@ pub(crate) enum Ended {
 }
 
 ghost use Rattle.std.specs.Prelude.{◌≡◌, ◌<◌, ◌≤◌, ◌+◌, [], List, ℕ, None, Ok, IfOk, IfSome, OnErr, OnOk, Option, length};
-ghost use Rattle.tdf_base.specs.Limits.{time_end};
+ghost use Rattle.tdf_shown.specs.low.base.Limits.{time_end};
 ghost use Rattle.tdf_engine.specs.Engine.{HasBeenSpent};
 ghost use Rattle.tdf_engine.specs.Times.{IsNextDue};
 ghost use Rattle.tdf_engine.specs.declared.crossing.Pass.TheVariants as pass;
-ghost use Rattle.tdf_events.specs.Kernel.{side_of};
-ghost use Rattle.tdf_events.specs.Runnable.{IsRunnable};
-ghost use Rattle.tdf_flat.specs.declared.model.Flat.{Flat as FlatModel};
-ghost use Rattle.tdf_io.specs.Faults.{CountsSinkFaults};
+ghost use Rattle.tdf_shown.specs.low.events.Kernel.{side_of};
+ghost use Rattle.tdf_shown.specs.low.events.Runnable.{IsRunnable};
+ghost use Rattle.tdf_shown.specs.low.flat.declared.model.Flat.{Flat as FlatModel};
+ghost use Rattle.tdf_shown.specs.low.in_out.Faults.{CountsSinkFaults};
 ghost use Rattle.tdf_loop.specs.Ending.{GoesToEnd, WritesPart};
 ghost use Rattle.tdf_loop.specs.Running.{CanGoOn, GoesOn, IsDueNow, WritesFrontTo};
 ghost use Rattle.tdf_shown.specs.Calls.{CanTake, ShowsInstant};
 ghost use Rattle.tdf_shown.specs.Periods.{clock_at};
-ghost use Rattle.tdf_trace.specs.Stands.{IsStageAfter};
-ghost use Rattle.tdf_trace.specs.declared.stage.Stage.TheVariants.{Open};
+ghost use Rattle.tdf_shown.specs.low.trace.Stands.{IsStageAfter};
+ghost use Rattle.tdf_shown.specs.low.trace.declared.stage.Stage.TheVariants.{Open};
 
 use crate::laws::law_advancing;
 use crate::running::Running;
 use crate::standing::law_standing;
 use std::alloc::Global;
-use tdf_base::Memory;
 use tdf_engine::{Engine, Pass, law_instant};
-use tdf_flat::Flat;
-use tdf_io::{Sink, SinkErr};
 use tdf_shown::Shown;
+use tdf_shown::low::base::Memory;
+use tdf_shown::low::flat::Flat;
+use tdf_shown::low::in_out::{Sink, SinkErr};
 
 /// Shows what an instant gave.
 fn show(shown: &mut Shown, engine: &Engine, flat: &Flat, time: u64) -> Result<(), Memory>

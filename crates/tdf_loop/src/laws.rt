@@ -7,7 +7,7 @@ ghost use Rattle.tdf_loop.specs.Running.{RunsToNext};
 ghost use Rattle.tdf_loop.specs.Staying.{CellsStayBelow};
 
 use tdf_engine::law_instant;
-use tdf_layout::law_one_port;
+use tdf_shown::low::layout::law_one_port;
 
 /// The time at which something is next due in all that runs is the next time of the history.
 pub fn law_next()

@@ -6,11 +6,13 @@
 //! - `ending`: how the trace of a run ends.
 //! - `run`: a whole run.
 //! - `laws`, `standing`: what holds of the definitions.
+//! - `low`: what the crates above use of the crates further below.
 #![tactic(auto)]
 
 mod ending;
 mod going;
 mod laws;
+pub mod low;
 mod run;
 mod running;
 mod standing;

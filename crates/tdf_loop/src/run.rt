@@ -1,8 +1,8 @@
 //! A whole run.
 
-use tdf_events::Kernel;
-use tdf_exec::Cluster;
 use tdf_report::End;
+use tdf_shown::low::events::Kernel;
+use tdf_shown::low::exec::Cluster;
 
 /// How a run ended, and what it leaves.
 #[derive(Drop)]
@@ -17,33 +17,33 @@ pub struct Ran {
 
 ghost use Rattle.std.specs.Io.KnownBytes.{Appends};
 ghost use Rattle.std.specs.Prelude.{◌≡◌, ◌<◌, ◌≤◌, ◌-◌, ◌⊎◌, ℕ, [], length, IfOk, IsErrOf, OnErr, OnOk};
-ghost use Rattle.tdf_base.specs.Limits.{time_end};
-ghost use Rattle.tdf_columns.specs.Tracked.{AreSince};
+ghost use Rattle.tdf_shown.specs.low.base.Limits.{time_end};
+ghost use Rattle.tdf_shown.specs.low.columns.Tracked.{AreSince};
 ghost use Rattle.tdf_engine.specs.InstantLaws.{IsModelOf};
-ghost use Rattle.tdf_io.specs.Bytes.{AppendsFront, WritesText};
-ghost use Rattle.tdf_io.specs.Faults.{CountsSinkFaults, FaultsRose};
-ghost use Rattle.tdf_io.specs.declared.writing.SinkErr.TheVariants.{Failed};
+ghost use Rattle.tdf_shown.specs.low.in_out.Bytes.{AppendsFront, WritesText};
+ghost use Rattle.tdf_shown.specs.low.in_out.Faults.{CountsSinkFaults, FaultsRose};
+ghost use Rattle.tdf_shown.specs.low.in_out.declared.writing.SinkErr.TheVariants.{Failed};
 ghost use Rattle.tdf_loop.specs.Ending.{WritesEnd};
 ghost use Rattle.tdf_loop.specs.Running.{CanGoOn, IsRunningAt};
 ghost use Rattle.tdf_loop.specs.Runs.{CanRun, IsLeft, model_about, trace_of};
 ghost use Rattle.tdf_loop.specs.declared.going.Ended.TheVariants as why;
 ghost use Rattle.tdf_report.specs.Ending.{run_end, run_note};
 ghost use Rattle.tdf_report.specs.declared.ending.End.TheVariants.{Reached, Spent};
-ghost use Rattle.tdf_trace.specs.Writings.{head_of};
-ghost use Rattle.tdf_trace.specs.declared.stage.Stage.TheVariants.{Open};
-ghost use Rattle.tdf_tree.specs.Pure.{PureTree};
-ghost use Rattle.tdf_world.specs.Rules.{start_world};
+ghost use Rattle.tdf_shown.specs.low.trace.Writings.{head_of};
+ghost use Rattle.tdf_shown.specs.low.trace.declared.stage.Stage.TheVariants.{Open};
+ghost use Rattle.tdf_shown.specs.low.tree.Pure.{PureTree};
+ghost use Rattle.tdf_shown.specs.low.world.Rules.{start_world};
 
 use crate::ending::finish;
 use crate::going::Ended;
 use crate::running::Running;
 use crate::starting::begin;
 use std::alloc::Global;
-use tdf_dynamic::First;
-use tdf_flat::Flat;
-use tdf_io::{Sink, SinkErr};
 use tdf_report::{law_report, write_closing, write_plans};
-use tdf_words::TraceKind;
+use tdf_shown::low::dynamic::First;
+use tdf_shown::low::flat::Flat;
+use tdf_shown::low::in_out::{Sink, SinkErr};
+use tdf_shown::low::words::TraceKind;
 
 /// How a run of so many turns ended.
 fn end_of(run: &Running, ended: Ended, stop: u64, turns: u64) -> End

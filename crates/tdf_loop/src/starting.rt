@@ -4,18 +4,18 @@ ghost use Rattle.std.specs.Prelude.{◌≡◌, IfOk, []};
 ghost use Rattle.tdf_engine.specs.InstantLaws.{IsModelOf};
 ghost use Rattle.tdf_loop.specs.Running.{CanGoOn, IsRunningAt};
 ghost use Rattle.tdf_loop.specs.Runs.{CanRun, model_about};
-ghost use Rattle.tdf_trace.specs.declared.stage.Stage.TheVariants.{New};
-ghost use Rattle.tdf_tree.specs.Pure.{PureTree};
-ghost use Rattle.tdf_world.specs.Rules.{start_world};
+ghost use Rattle.tdf_shown.specs.low.trace.declared.stage.Stage.TheVariants.{New};
+ghost use Rattle.tdf_shown.specs.low.tree.Pure.{PureTree};
+ghost use Rattle.tdf_shown.specs.low.world.Rules.{start_world};
 
 use crate::running::Running;
 use std::alloc::Global;
-use tdf_base::Memory;
-use tdf_dynamic::First;
 use tdf_engine::Engine;
-use tdf_flat::Flat;
+use tdf_shown::low::base::Memory;
+use tdf_shown::low::dynamic::First;
+use tdf_shown::low::flat::Flat;
+use tdf_shown::low::words::TraceKind;
 use tdf_shown::{Shown, law_can};
-use tdf_words::TraceKind;
 
 /// A run before its first instant, whose trace has no head yet.
 ///

@@ -5,14 +5,14 @@ use Rattle.std.specs.Fmt.{decimal}
 use Rattle.std.specs.List.{count_by, flat_map, range_with_len}
 use Rattle.std.specs.Prelude.{ℕ, Bool, ◌/◌, ◌++◌, nat_eq, if◌then◌else◌, List, [], length, map}
 use Rattle.std.specs.Prelude.{Option, Some, None, codes, slice_get, slice_index}
-use Rattle.tdf_base.specs.declared.resolution.Resolution.{Resolution}
+use Rattle.tdf_bind.specs.low.base.declared.resolution.Resolution.{Resolution}
 use Rattle.tdf_bind.specs.Actors.{cluster_of}
 use Rattle.tdf_bind.specs.Flat.{FlatOf}
 use Rattle.tdf_bind.specs.Ranges.{actor_path, edge_path}
-use Rattle.tdf_fixed.specs.Decimal.{seconds_text_at}
+use Rattle.tdf_bind.specs.low.fixed.Decimal.{seconds_text_at}
 use Rattle.tdf_schedule.specs.declared.entry.Entry.{Entry}
 use Rattle.tdf_schedule.specs.declared.entry.Plan.{Plan}
-use Rattle.tdf_wiring.specs.declared.edges.EdgeRow.{EdgeRow}
+use Rattle.tdf_bind.specs.low.wiring.declared.edges.EdgeRow.{EdgeRow}
 
 abbrev pub line : List ℕ → List ℕ
 line text = text ++ codes "\n"

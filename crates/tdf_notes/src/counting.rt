@@ -4,7 +4,7 @@ ghost use Rattle.std.specs.Prelude.{◌≡◌, ◌<◌, ◌+◌, ◌^◌, IfOk, 
 ghost use Rattle.tdf_notes.specs.views.Counted.{AreCounted};
 
 use std::alloc::Global;
-use tdf_base::Memory;
+use tdf_bind::low::base::Memory;
 use tdf_schedule::Entry;
 
 fn no_counts(alloc: Global, actors: usize) -> Result<Vec<u64>, Memory>

@@ -8,11 +8,11 @@ ghost use Rattle.tdf_notes.specs.views.Counted.{AreCounted};
 
 use crate::counting::counted;
 use crate::words::{push_number, push_word, short};
-use tdf_base::{Memory, Resolution};
 use tdf_bind::Flat;
-use tdf_fixed::push_seconds_at;
+use tdf_bind::low::base::{Memory, Resolution};
+use tdf_bind::low::fixed::push_seconds_at;
+use tdf_bind::low::walk::SharedPath;
 use tdf_schedule::{Entry, Plan};
-use tdf_walk::SharedPath;
 
 /// Appends `cluster C at TIME period TIME firings N`.
 #[tactic(auto, unfolding(crate::specs::Plans::cluster_line), using(crate::proofs::Texts::text_laws))]

@@ -4,7 +4,7 @@ ghost use Rattle.std.specs.Fmt.{decimal};
 ghost use Rattle.std.specs.Prelude.{◌≡◌, ◌++◌, IfOk, OnOk};
 
 use itoa::Buffer;
-use tdf_base::Memory;
+use tdf_bind::low::base::Memory;
 
 /// Appends a word.
 ///

@@ -7,22 +7,22 @@ use Rattle.std.proofs.lemmas.Option.{slice_get-get_or}
 use Rattle.std.specs.Prelude.{Contains, count_by}
 use Rattle.tdf_exec.specs.Cluster.{ClusterOf}
 use Rattle.tdf_exec.specs.Made.{IsClusterOf}
-use Rattle.tdf_dynamic.specs.Assignments.{assignments}
-use Rattle.tdf_dynamic.specs.Faults.{pace_in}
-use Rattle.tdf_dynamic.specs.Rates.{net_of}
-use Rattle.tdf_flat.specs.declared.model.Flat.{Flat}
-use Rattle.tdf_flow.proofs.Api.{none_some, some_same}
-use Rattle.tdf_graph.specs.Counts.{IsBalanced}
-use Rattle.tdf_graph.specs.declared.actors.Actor.{Actor}
-use Rattle.tdf_graph.specs.declared.actors.Actor.TheVariants.{Module, Sampler, Sink}
-use Rattle.tdf_graph.specs.declared.actors.Edge.{Edge}
-use Rattle.tdf_limits.specs.Limits.{AreWithinLimits}
+use Rattle.tdf_exec.specs.low.dynamic.Assignments.{assignments}
+use Rattle.tdf_exec.specs.low.dynamic.Faults.{pace_in}
+use Rattle.tdf_exec.specs.low.dynamic.Rates.{net_of}
+use Rattle.tdf_exec.specs.low.flat.declared.model.Flat.{Flat}
+use Rattle.tdf_exec.proofs.Api.{none_some, some_same}
+use Rattle.tdf_exec.specs.low.graph.Counts.{IsBalanced}
+use Rattle.tdf_exec.specs.low.graph.declared.actors.Actor.{Actor}
+use Rattle.tdf_exec.specs.low.graph.declared.actors.Actor.TheVariants.{Module, Sampler, Sink}
+use Rattle.tdf_exec.specs.low.graph.declared.actors.Edge.{Edge}
+use Rattle.tdf_exec.specs.low.limits.Limits.{AreWithinLimits}
 use Rattle.tdf_offsets.proofs.Lasting.{all_at, takes_time}
 use Rattle.tdf_offsets.specs.Inside.{EntriesLieInside}
-use Rattle.tdf_schedule.specs.Needs.{HasKey, Needs, Within}
-use Rattle.tdf_schedule.specs.Plan.{IsPlan, is_firing, key_in, pace_by}
-use Rattle.tdf_schedule.specs.declared.entry.Entry.{Entry}
-use Rattle.tdf_timestep.specs.Period.{HasSteps}
+use Rattle.tdf_exec.specs.low.schedule.Needs.{HasKey, Needs, Within}
+use Rattle.tdf_exec.specs.low.schedule.Plan.{IsPlan, is_firing, key_in, pace_by}
+use Rattle.tdf_exec.specs.low.schedule.declared.entry.Entry.{Entry}
+use Rattle.tdf_exec.specs.low.timestep.Period.{HasSteps}
 
 -- what is there counts
 counted : {X : Type 0} (p : X → Bool) (xs : List X) (j : ℕ) (x : X) → slice_get xs j ≡ Some x → p x ≡ true → 0 < count_by p xs

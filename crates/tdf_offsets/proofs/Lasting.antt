@@ -3,20 +3,20 @@ use Rattle.std.proofs.Common.{◌≡◌, ◌∙◌, ℕ, ◌*◌, ◌<◌, ◌�
 use Rattle.std.proofs.Math.Nat.{mul-le-mul_right}
 use Rattle.std.proofs.lemmas.Option.{get_or_from_slice_get, slice_get-map, slice_get_within}
 use Rattle.std.specs.Prelude.{All}
-use Rattle.tdf_dynamic.proofs.Api.{assigned_fit, modules_few}
-use Rattle.tdf_dynamic.specs.Assignments.{assignments}
-use Rattle.tdf_dynamic.specs.Rates.{net_of, net_ports, port_rate, rated_port}
+use Rattle.tdf_exec.proofs.Api.{assigned_fit, modules_few}
+use Rattle.tdf_exec.specs.low.dynamic.Assignments.{assignments}
+use Rattle.tdf_exec.specs.low.dynamic.Rates.{net_of, net_ports, port_rate, rated_port}
 use Rattle.tdf_exec.specs.Cluster.{ClusterOf}
 use Rattle.tdf_exec.specs.Made.{IsClusterOf}
-use Rattle.tdf_flat.specs.declared.model.Flat.{Flat}
-use Rattle.tdf_flow.proofs.Api.{get_inside}
-use Rattle.tdf_graph.specs.Ranges.{IsRate}
-use Rattle.tdf_limits.specs.Limits.{AreWithinLimits}
+use Rattle.tdf_exec.specs.low.flat.declared.model.Flat.{Flat}
+use Rattle.tdf_exec.proofs.Api.{get_inside}
+use Rattle.tdf_exec.specs.low.graph.Ranges.{IsRate}
+use Rattle.tdf_exec.specs.low.limits.Limits.{AreWithinLimits}
 use Rattle.tdf_offsets.specs.Inside.{PeriodsTakeTime}
-use Rattle.tdf_streams.proofs.Api.{are_rates, is_wired}
-use Rattle.tdf_timestep.specs.Period.{HasSteps, IsAssigned, rate_at, rate_of}
-use Rattle.tdf_timestep.specs.declared.assign.Assign.{Assign}
-use Rattle.tdf_wiring.specs.declared.modules.PortRow.{PortRow}
+use Rattle.tdf_exec.proofs.Api.{are_rates, is_wired}
+use Rattle.tdf_exec.specs.low.timestep.Period.{HasSteps, IsAssigned, rate_at, rate_of}
+use Rattle.tdf_exec.specs.low.timestep.declared.assign.Assign.{Assign}
+use Rattle.tdf_exec.specs.low.wiring.declared.modules.PortRow.{PortRow}
 
 pub all_at : {X : Type 0} (P : X → Type 0) (xs : List X) (j : ℕ) (x : X) → All P xs → slice_get xs j ≡ Some x → P x
 all_at P xs j x all is = subst P (get_or_from_slice_get xs j x x is) (all j x (slice_get_within xs j x is))

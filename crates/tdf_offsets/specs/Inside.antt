@@ -3,9 +3,9 @@
 use Rattle.std.specs.Prelude.{◌<◌, All}
 use Rattle.tdf_exec.specs.Cluster.{ClusterOf}
 use Rattle.tdf_exec.specs.Made.{IsClusterOf}
-use Rattle.tdf_flat.specs.declared.model.Flat.{Flat}
-use Rattle.tdf_limits.specs.Limits.{AreWithinLimits}
-use Rattle.tdf_schedule.specs.declared.entry.Entry.{Entry}
+use Rattle.tdf_exec.specs.low.flat.declared.model.Flat.{Flat}
+use Rattle.tdf_exec.specs.low.limits.Limits.{AreWithinLimits}
+use Rattle.tdf_exec.specs.low.schedule.declared.entry.Entry.{Entry}
 
 -- all entries of a plan come before the end of its period
 abbrev pub EntriesLieInside : Type 0

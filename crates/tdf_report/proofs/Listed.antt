@@ -7,23 +7,23 @@ use Rattle.std.proofs.lemmas.Option.{get_or_from_slice_get, slice_get-map}
 use Rattle.std.specs.List.{enumerate_from, flat_map, range_with_len}
 use Rattle.std.specs.Option.{option_map}
 use Rattle.std.specs.Prelude.{slice_index_or}
-use Rattle.tdf_bind.specs.Flat.{FlatOf}
-use Rattle.tdf_bind.specs.Ranges.{AreInRange}
-use Rattle.tdf_dynamic.specs.Attributes.{AttrsOf}
-use Rattle.tdf_dynamic.specs.First.{IsFirstPlan}
-use Rattle.tdf_dynamic.specs.Rates.{net_of}
-use Rattle.tdf_dynamic.specs.Text.{first_table}
-use Rattle.tdf_dynamic.specs.declared.first.First.{First}
-use Rattle.tdf_flat.specs.declared.model.Flat.{Flat}
-use Rattle.tdf_flow.proofs.Api.{get_inside, none_some, some_same}
-use Rattle.tdf_history.specs.Start.{first_cluster, first_clusters}
-use Rattle.tdf_history.specs.Texts.{first_plans, plan_note}
-use Rattle.tdf_history.specs.World.{Change, ClusterAt}
+use Rattle.tdf_world.specs.low.bind.Flat.{FlatOf}
+use Rattle.tdf_world.specs.low.bind.Ranges.{AreInRange}
+use Rattle.tdf_world.specs.low.dynamic.Attributes.{AttrsOf}
+use Rattle.tdf_world.specs.low.dynamic.First.{IsFirstPlan}
+use Rattle.tdf_world.specs.low.dynamic.Rates.{net_of}
+use Rattle.tdf_world.specs.low.dynamic.Text.{first_table}
+use Rattle.tdf_world.specs.low.dynamic.declared.first.First.{First}
+use Rattle.tdf_world.specs.low.flat.declared.model.Flat.{Flat}
+use Rattle.tdf_world.proofs.Api.{get_inside, none_some, some_same}
+use Rattle.tdf_world.specs.low.history.Start.{first_cluster, first_clusters}
+use Rattle.tdf_world.specs.low.history.Texts.{first_plans, plan_note}
+use Rattle.tdf_world.specs.low.history.World.{Change, ClusterAt}
 use Rattle.tdf_io.specs.Bytes.{pieces_text}
-use Rattle.tdf_notes.proofs.Api.{texts_next}
+use Rattle.tdf_world.proofs.Api.{texts_next}
 use Rattle.tdf_report.specs.Laws.{PlansAreFirst}
 use Rattle.tdf_report.specs.Plans.{ArePrintable, first_text, plans_of}
-use Rattle.tdf_tree.specs.Pure.{PureTree}
+use Rattle.tdf_world.specs.low.tree.Pure.{PureTree}
 
 -- texts by place are those of the items with their places
 ranged : {A : Type 0} (f : ℕ → A → List ℕ) (p : ℕ → List ℕ) (k : ℕ) (xs : List A) → ((i : ℕ) (x : A) → slice_get xs i ≡ Some x → p (k + i) ≡ f (k + i) x)

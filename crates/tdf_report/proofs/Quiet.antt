@@ -2,21 +2,21 @@
 use Rattle.std.proofs.Common.{◌≡◌, ◌∙◌, ℕ, zero, suc, ◌+◌, Bool, true, false, Option, Some, None, List, [], ◌++◌, if◌then◌else◌, length, nat_eq, refl, sym, ap, subst, append-nil}
 use Rattle.std.specs.List.{flat_map}
 use Rattle.std.specs.Prelude.{◌||◌, slice_get, slice_index_or}
-use Rattle.tdf_base.specs.declared.resolution.Resolution.{Resolution}
-use Rattle.tdf_bind.specs.declared.actors.ActorRow.{ActorRow}
-use Rattle.tdf_events.specs.Side.{SideOf}
-use Rattle.tdf_flat.specs.declared.model.Flat.{Flat}
-use Rattle.tdf_graph.specs.declared.actors.Actor.{Actor}
-use Rattle.tdf_graph.specs.declared.actors.Actor.TheVariants as actor
-use Rattle.tdf_history.specs.Instant.{RunFault, actor_of_entry, all_firings, at_begin, boundary, boundary_of, changed_by, engine, events_of, fired, fired_as, firing, firing_of, instant, is_due, is_entry_due, is_over, is_written, next_entry, plan_length, settled_as}
-use Rattle.tdf_history.specs.Texts.{closing_text, left_by, new_plans, notes_in, notes_to, plan_note}
-use Rattle.tdf_history.specs.World.{Change, ClusterAt, Rules, Same, Settled, World, next_change}
-use Rattle.tdf_instants.specs.History.{Fault, Going, On, Past, Spent, State, Step, Stopped, and_then, history, turns_to}
+use Rattle.tdf_world.specs.low.base.declared.resolution.Resolution.{Resolution}
+use Rattle.tdf_world.specs.low.bind.declared.actors.ActorRow.{ActorRow}
+use Rattle.tdf_world.specs.low.events.Side.{SideOf}
+use Rattle.tdf_world.specs.low.flat.declared.model.Flat.{Flat}
+use Rattle.tdf_world.specs.low.graph.declared.actors.Actor.{Actor}
+use Rattle.tdf_world.specs.low.graph.declared.actors.Actor.TheVariants as actor
+use Rattle.tdf_world.specs.low.history.Instant.{RunFault, actor_of_entry, all_firings, at_begin, boundary, boundary_of, changed_by, engine, events_of, fired, fired_as, firing, firing_of, instant, is_due, is_entry_due, is_over, is_written, next_entry, plan_length, settled_as}
+use Rattle.tdf_world.specs.low.history.Texts.{closing_text, left_by, new_plans, notes_in, notes_to, plan_note}
+use Rattle.tdf_world.specs.low.history.World.{Change, ClusterAt, Rules, Same, Settled, World, next_change}
+use Rattle.tdf_world.specs.low.instants.History.{Fault, Going, On, Past, Spent, State, Step, Stopped, and_then, history, turns_to}
 use Rattle.tdf_report.proofs.Listed.{plans_are_first, starts_untold}
 use Rattle.tdf_report.specs.Ending.{end_line, end_of, end_text, spent_line, state_of, stopped_line}
 use Rattle.tdf_report.specs.Laws.{NotesAreWritten, PlansStay}
 use Rattle.tdf_report.specs.Plans.{plans_of}
-use Rattle.tdf_tree.specs.Pure.{PureTree}
+use Rattle.tdf_world.specs.low.tree.Pure.{PureTree}
 use Rattle.tdf_world.proofs.Api.{AreUntold, LeadsBy, StaysUntold, boundaries_by, firing_by, firings_by, then_by, turns_by, untold_after, untold_itself, untold_new, untold_on, untold_read, untold_same, untold_step, untold_through}
 use Rattle.tdf_world.specs.Rules.{rules_of, start_world}
 

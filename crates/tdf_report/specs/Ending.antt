@@ -2,21 +2,21 @@
 -- Source: own.
 use Rattle.std.specs.Fmt.{decimal}
 use Rattle.std.specs.Prelude.{ℕ, ◌-◌, ◌++◌, List, [], codes}
-use Rattle.tdf_base.specs.Fault.{fault_text}
-use Rattle.tdf_base.specs.declared.faults.Fault.{Fault}
-use Rattle.tdf_base.specs.declared.resolution.Resolution.{Resolution}
-use Rattle.tdf_dynamic.specs.declared.first.First.{First}
-use Rattle.tdf_events.specs.Side.{SideOf}
-use Rattle.tdf_fixed.specs.Decimal.{seconds_text_at}
-use Rattle.tdf_flat.specs.declared.model.Flat.{Flat}
-use Rattle.tdf_history.specs.Instant.{RunFault}
-use Rattle.tdf_history.specs.Texts.{run_notes, state_at}
-use Rattle.tdf_history.specs.World.{World}
-use Rattle.tdf_instants.specs.History.{State, On, Spent, Stopped}
-use Rattle.tdf_notes.specs.Plans.{line}
+use Rattle.tdf_world.specs.low.base.Fault.{fault_text}
+use Rattle.tdf_world.specs.low.base.declared.faults.Fault.{Fault}
+use Rattle.tdf_world.specs.low.base.declared.resolution.Resolution.{Resolution}
+use Rattle.tdf_world.specs.low.dynamic.declared.first.First.{First}
+use Rattle.tdf_world.specs.low.events.Side.{SideOf}
+use Rattle.tdf_world.specs.low.fixed.Decimal.{seconds_text_at}
+use Rattle.tdf_world.specs.low.flat.declared.model.Flat.{Flat}
+use Rattle.tdf_world.specs.low.history.Instant.{RunFault}
+use Rattle.tdf_world.specs.low.history.Texts.{run_notes, state_at}
+use Rattle.tdf_world.specs.low.history.World.{World}
+use Rattle.tdf_world.specs.low.instants.History.{State, On, Spent, Stopped}
+use Rattle.tdf_world.specs.low.notes.Plans.{line}
 use Rattle.tdf_report.specs.declared.ending.End.{End}
 use Rattle.tdf_report.specs.declared.ending.End.TheVariants as ending
-use Rattle.tdf_tree.specs.Pure.{PureTree}
+use Rattle.tdf_world.specs.low.tree.Pure.{PureTree}
 use Rattle.tdf_world.specs.Rules.{rules_of, start_world}
 
 -- how a history ended at a stop, of so many turns

@@ -2,14 +2,14 @@
 -- line.
 -- Source: own.
 use Rattle.std.specs.Prelude.{◌≡◌, ℕ, List, [], ◌++◌}
-use Rattle.tdf_dynamic.specs.declared.first.First.{First}
-use Rattle.tdf_flat.specs.declared.model.Flat.{Flat}
-use Rattle.tdf_history.specs.Start.{first_clusters}
-use Rattle.tdf_history.specs.Texts.{first_plans, notes_to}
-use Rattle.tdf_history.specs.World.{Change}
+use Rattle.tdf_world.specs.low.dynamic.declared.first.First.{First}
+use Rattle.tdf_world.specs.low.flat.declared.model.Flat.{Flat}
+use Rattle.tdf_world.specs.low.history.Start.{first_clusters}
+use Rattle.tdf_world.specs.low.history.Texts.{first_plans, notes_to}
+use Rattle.tdf_world.specs.low.history.World.{Change}
 use Rattle.tdf_report.specs.Ending.{end_text, run_end, run_note}
 use Rattle.tdf_report.specs.Plans.{plans_of}
-use Rattle.tdf_tree.specs.Pure.{PureTree}
+use Rattle.tdf_world.specs.low.tree.Pure.{PureTree}
 use Rattle.tdf_world.specs.Rules.{rules_of, start_world}
 
 -- the plans that clusters start with are the first plans

@@ -2,10 +2,10 @@
 -- Source: own.
 use Rattle.std.specs.List.{enumerate_from, flat_map}
 use Rattle.std.specs.Prelude.{◌≡◌, ◌+◌, ℕ, List, All, length}
-use Rattle.tdf_bind.specs.Ranges.{AreInRange}
-use Rattle.tdf_dynamic.specs.declared.first.First.{First}
-use Rattle.tdf_flat.specs.declared.model.Flat.{Flat}
-use Rattle.tdf_notes.specs.Plans.{plan_text, rows_of}
+use Rattle.tdf_world.specs.low.bind.Ranges.{AreInRange}
+use Rattle.tdf_world.specs.low.dynamic.declared.first.First.{First}
+use Rattle.tdf_world.specs.low.flat.declared.model.Flat.{Flat}
+use Rattle.tdf_world.specs.low.notes.Plans.{plan_text, rows_of}
 
 -- the first plan of the cluster at a place, from time 0 on; clusters have numbers from 1 on
 abbrev pub first_text : Flat → (place : ℕ) → First → List ℕ

@@ -7,9 +7,9 @@ ghost use Rattle.tdf_report.specs.Ending.{end_line, end_text, spent_line, stoppe
 
 use itoa::Buffer;
 use std::alloc::Global;
-use tdf_base::{Fault, Memory, Resolution, push_fault};
-use tdf_fixed::push_seconds_at;
 use tdf_io::{Sink, SinkErr, put_all};
+use tdf_world::low::base::{Fault, Memory, Resolution, push_fault};
+use tdf_world::low::fixed::push_seconds_at;
 
 /// How a run ended. Times are in counts of the model's resolution.
 #[derive(Drop)]

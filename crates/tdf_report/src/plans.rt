@@ -1,16 +1,16 @@
 //! The plans of all clusters at the start.
 
 ghost use Rattle.std.specs.Prelude.{◌≡◌, ◌<◌, ◌+◌, ◌^◌, IfOk, OnOk, length};
-ghost use Rattle.tdf_bind.specs.Ranges.{AreInRange};
+ghost use Rattle.tdf_world.specs.low.bind.Ranges.{AreInRange};
 ghost use Rattle.tdf_io.specs.Bytes.{WritesText};
 ghost use Rattle.tdf_report.specs.Plans.{ArePrintable, first_text, plans_of};
 
 use std::alloc::Global;
-use tdf_base::Memory;
-use tdf_dynamic::First;
-use tdf_flat::Flat;
 use tdf_io::{Sink, SinkErr, put_all};
-use tdf_notes::push_plan;
+use tdf_world::low::base::Memory;
+use tdf_world::low::dynamic::First;
+use tdf_world::low::flat::Flat;
+use tdf_world::low::notes::push_plan;
 
 /// The number of the cluster at a place. Clusters are so few that it has 32 bits; more do not fit in memory.
 ///

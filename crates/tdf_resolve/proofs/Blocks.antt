@@ -5,10 +5,10 @@ use Rattle.std.proofs.lemmas.List.{take_more, map-append}
 use Rattle.std.specs.Prelude.{map}
 use Rattle.tdf_links.specs.Ports.{Known, known_after, known_after_all, no_blocks, ports_of_composite, ports_of_de, ports_of_tdf, with_block}
 use Rattle.tdf_resolve.specs.Resolved.{AreBlocks, IsComposite}
-use Rattle.tdf_scope.specs.Names.{Names}
-use Rattle.tdf_tree.specs.Pure.{PureComposite, PureGlobal, GShape, GTdf, GDe, GNet}
-use Rattle.tdf_tree.specs.Views.{pure_global}
-use Rattle.tdf_tree.specs.declared.tree.Global1.{Global1}
+use Rattle.tdf_links.specs.low.scope.Names.{Names}
+use Rattle.tdf_links.specs.low.tree.Pure.{PureComposite, PureGlobal, GShape, GTdf, GDe, GNet}
+use Rattle.tdf_links.specs.low.tree.Views.{pure_global}
+use Rattle.tdf_links.specs.low.tree.declared.tree.Global1.{Global1}
 use Rattle.tdf_walk.specs.Blocks.{BlockOf}
 
 known_push : (gs : List PureGlobal) (g : PureGlobal) (k : Known) → known_after_all (gs ++ g ∷ []) k ≡ known_after g (known_after_all gs k)

@@ -16,11 +16,11 @@ use Rattle.tdf_resolve.specs.Laws.{BindsAll, RefersBack}
 use Rattle.tdf_resolve.specs.Resolved.{AreBlocks, IsComposite, instance_of, instance_with, targets_of, whole}
 use Rattle.tdf_resolve.specs.Signals.{declared_by, IsSignal}
 use Rattle.tdf_resolve.specs.Targets.{inside_of, name_of_signal, or_first, target_of}
-use Rattle.tdf_scope.specs.Names.{Names, at_place, globals_of, place_in}
-use Rattle.tdf_tree.specs.Pure.{PureComposite, PureGlobal, GShape, GTdf, GDe, GNet}
-use Rattle.tdf_tree.specs.declared.blocks.Member.{Member}
-use Rattle.tdf_tree.specs.declared.blocks.Member.TheVariants as member
-use Rattle.tdf_tree.specs.declared.blocks.PortLine.{PortLine}
+use Rattle.tdf_links.specs.low.scope.Names.{Names, at_place, globals_of, place_in}
+use Rattle.tdf_links.specs.low.tree.Pure.{PureComposite, PureGlobal, GShape, GTdf, GDe, GNet}
+use Rattle.tdf_links.specs.low.tree.declared.blocks.Member.{Member}
+use Rattle.tdf_links.specs.low.tree.declared.blocks.Member.TheVariants as member
+use Rattle.tdf_links.specs.low.tree.declared.blocks.PortLine.{PortLine}
 use Rattle.tdf_walk.specs.Blocks.{InstanceOf, BlockOf}
 use Rattle.tdf_walk.specs.Bound.{IsBound, IsTarget}
 use Rattle.tdf_walk.specs.declared.blocks.Target.{Target}

@@ -14,7 +14,7 @@ use Rattle.tdf_resolve.specs.Counts.{counts_signals, is_past, limit_of, met_weig
 use Rattle.tdf_resolve.specs.declared.measures.Measure.{Measure}
 use Rattle.tdf_resolve.specs.declared.measures.Measure.TheVariants as measure
 use Rattle.tdf_resolve.specs.machine.Counts.{capped, counted, own_signals, size, size_all, size_in, AreCounts}
-use Rattle.tdf_tree.specs.Pure.{PureTree}
+use Rattle.tdf_links.specs.low.tree.Pure.{PureTree}
 use Rattle.tdf_walk.specs.Blocks.{InstanceOf, BlockOf}
 use Rattle.tdf_walk.specs.Laws.{AreEarlier}
 use Rattle.tdf_walk.specs.Met.{Met, MetSignal, MetInstance, in_block, inside, met_in, placed, signal_at, with_inside}

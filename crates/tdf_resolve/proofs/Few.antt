@@ -13,8 +13,8 @@ use Rattle.tdf_resolve.specs.Counts.{is_past, met_weight, weight_of, weights_of}
 use Rattle.tdf_resolve.specs.Laws.{CountsAll}
 use Rattle.tdf_resolve.specs.Resolved.{AreBlocks, whole}
 use Rattle.tdf_resolve.specs.declared.measures.Measure.TheVariants as measure
-use Rattle.tdf_scope.specs.Names.{Names, globals_of}
-use Rattle.tdf_tree.specs.Pure.{PureGlobal, GShape, GTdf, GDe, GNet}
+use Rattle.tdf_links.specs.low.scope.Names.{Names, globals_of}
+use Rattle.tdf_links.specs.low.tree.Pure.{PureGlobal, GShape, GTdf, GDe, GNet}
 use Rattle.tdf_walk.specs.Blocks.{InstanceOf, BlockOf}
 use Rattle.tdf_walk.specs.Laws.{AreEarlier}
 use Rattle.tdf_walk.specs.Met.{Met, MetSignal, MetInstance, in_block, inside, met_in, placed, signal_at, with_inside}

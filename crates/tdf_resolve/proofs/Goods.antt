@@ -13,14 +13,14 @@ use Rattle.tdf_links.specs.Faults.{Wrong, UnknownPort, TwiceBound, Mismatch, Unb
 use Rattle.tdf_links.specs.Links.{Around, bind_faults, binds_faults, first_free, is_bound, port_faults, port_of, unbound_faults}
 use Rattle.tdf_links.specs.Ports.{port_of_member}
 use Rattle.tdf_resolve.specs.Targets.{Inside, inside_of, name_of_signal, own_or_outer, target_after, target_from, target_named}
-use Rattle.tdf_scope.specs.Names as names
-use Rattle.tdf_scope.specs.Names.{Names, Thing, at_place, format_of, kind_of, no_names, place_in, shape_of, thing_of, with_member, with_members, with_name}
-use Rattle.tdf_scope.specs.Scope.{first_some}
-use Rattle.tdf_tree.specs.declared.blocks.Member.{Member}
-use Rattle.tdf_tree.specs.declared.blocks.Member.TheVariants as member
-use Rattle.tdf_tree.specs.declared.blocks.PortKind.{PortKind}
-use Rattle.tdf_tree.specs.declared.blocks.PortLine.{PortLine}
-use Rattle.tdf_tree.specs.declared.stmt.Limit.TheVariants as limit
+use Rattle.tdf_links.specs.low.scope.Names as names
+use Rattle.tdf_links.specs.low.scope.Names.{Names, Thing, at_place, format_of, kind_of, no_names, place_in, shape_of, thing_of, with_member, with_members, with_name}
+use Rattle.tdf_links.specs.low.scope.Scope.{first_some}
+use Rattle.tdf_links.specs.low.tree.declared.blocks.Member.{Member}
+use Rattle.tdf_links.specs.low.tree.declared.blocks.Member.TheVariants as member
+use Rattle.tdf_links.specs.low.tree.declared.blocks.PortKind.{PortKind}
+use Rattle.tdf_links.specs.low.tree.declared.blocks.PortLine.{PortLine}
+use Rattle.tdf_links.specs.low.tree.declared.stmt.Limit.TheVariants as limit
 use Rattle.tdf_walk.specs.declared.blocks.Target.{Target}
 use Rattle.tdf_walk.specs.declared.blocks.Target.TheVariants.{Own, Outer}
 

@@ -7,9 +7,9 @@ use Rattle.std.specs.Prelude.{nat_eq, ◌&&◌, if◌then◌else◌}
 use Rattle.tdf_resolve.specs.Targets.{Inside, target_after, target_from, target_named, target_of}
 use Rattle.tdf_resolve.specs.declared.bindings.Bindings.{Bindings}
 use Rattle.tdf_resolve.specs.machine.Bindings.{AreTargets, target_at}
-use Rattle.tdf_scope.specs.Scope.{first_some}
-use Rattle.tdf_tree.specs.declared.blocks.Member.{Member}
-use Rattle.tdf_tree.specs.declared.blocks.Member.TheVariants as member
+use Rattle.tdf_links.specs.low.scope.Scope.{first_some}
+use Rattle.tdf_links.specs.low.tree.declared.blocks.Member.{Member}
+use Rattle.tdf_links.specs.low.tree.declared.blocks.Member.TheVariants as member
 use Rattle.tdf_walk.specs.declared.blocks.Target.{Target}
 
 -- what the code does at a line that binds a port to what a name stands for

@@ -8,9 +8,9 @@ use Rattle.tdf_links.specs.Ports.{Known}
 use Rattle.tdf_resolve.specs.Resolved.{instance_of, targets_of}
 use Rattle.tdf_resolve.specs.Signals.{declared_by, IsSignal}
 use Rattle.tdf_resolve.specs.Targets.{name_of_signal, or_first}
-use Rattle.tdf_scope.specs.Names.{Names}
-use Rattle.tdf_tree.specs.declared.blocks.Member.{Member}
-use Rattle.tdf_tree.specs.declared.blocks.PortLine.{PortLine}
+use Rattle.tdf_links.specs.low.scope.Names.{Names}
+use Rattle.tdf_links.specs.low.tree.declared.blocks.Member.{Member}
+use Rattle.tdf_links.specs.low.tree.declared.blocks.PortLine.{PortLine}
 use Rattle.tdf_walk.specs.Blocks.{InstanceOf}
 use Rattle.tdf_walk.specs.declared.blocks.SignalLine.{SignalLine}
 use Rattle.tdf_walk.specs.declared.blocks.Target.{Target}

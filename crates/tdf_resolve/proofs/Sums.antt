@@ -10,12 +10,12 @@ use Rattle.tdf_resolve.specs.Counts.{de_line_weight, instance_weight, tdf_line_w
 use Rattle.tdf_resolve.specs.declared.measures.Measure.{Measure}
 use Rattle.tdf_resolve.specs.declared.measures.Measure.TheVariants as measure
 use Rattle.tdf_resolve.specs.machine.Counts.{capped}
-use Rattle.tdf_tree.specs.Pure.{GNet}
-use Rattle.tdf_tree.specs.Views.{pure_de_line, pure_global, pure_tdf_line, pure_tree}
-use Rattle.tdf_tree.specs.declared.blocks.DeLine.{DeLine}
-use Rattle.tdf_tree.specs.declared.blocks.TdfLine.{TdfLine}
-use Rattle.tdf_tree.specs.declared.tree.Global1.{Global1}
-use Rattle.tdf_tree.specs.declared.tree.Tree.{Tree}
+use Rattle.tdf_links.specs.low.tree.Pure.{GNet}
+use Rattle.tdf_links.specs.low.tree.Views.{pure_de_line, pure_global, pure_tdf_line, pure_tree}
+use Rattle.tdf_links.specs.low.tree.declared.blocks.DeLine.{DeLine}
+use Rattle.tdf_links.specs.low.tree.declared.blocks.TdfLine.{TdfLine}
+use Rattle.tdf_links.specs.low.tree.declared.tree.Global1.{Global1}
+use Rattle.tdf_links.specs.low.tree.declared.tree.Tree.{Tree}
 
 pub cap_zero : capped 0 ≡ 0
 unfolding capped

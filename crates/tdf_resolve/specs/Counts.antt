@@ -3,14 +3,14 @@
 use Rattle.std.specs.Prelude.{ℕ, ◌+◌, ◌-◌, Bool, true, false, ◌||◌, if◌then◌else◌, nat_lt}
 use Rattle.std.specs.Prelude.{List, [], ◌∷◌, length, slice_index}
 use Rattle.std.specs.List.{flat_map, sum_by}
-use Rattle.tdf_base.specs.Limits.{most_cells, most_events, most_instances, most_ports}
-use Rattle.tdf_base.specs.Limits.{most_processes, most_signals}
+use Rattle.tdf_links.specs.low.base.Limits.{most_cells, most_events, most_instances, most_ports}
+use Rattle.tdf_links.specs.low.base.Limits.{most_processes, most_signals}
 use Rattle.tdf_resolve.specs.Resolved.{whole}
 use Rattle.tdf_resolve.specs.declared.measures.Measure.{Measure}
 use Rattle.tdf_resolve.specs.declared.measures.Measure.TheVariants as measure
-use Rattle.tdf_tree.specs.Pure.{PureStore, SConst, SVar, SArray}
-use Rattle.tdf_tree.specs.Pure.{PureTdfLine, TPort, TStore, TRate, PureDeLine, DPort, DStore, DEvent}
-use Rattle.tdf_tree.specs.Pure.{PureTdf, PureDe, PureGlobal, GShape, GTdf, GDe, GNet, PureTree}
+use Rattle.tdf_links.specs.low.tree.Pure.{PureStore, SConst, SVar, SArray}
+use Rattle.tdf_links.specs.low.tree.Pure.{PureTdfLine, TPort, TStore, TRate, PureDeLine, DPort, DStore, DEvent}
+use Rattle.tdf_links.specs.low.tree.Pure.{PureTdf, PureDe, PureGlobal, GShape, GTdf, GDe, GNet, PureTree}
 use Rattle.tdf_walk.specs.Blocks.{BlockOf}
 use Rattle.tdf_walk.specs.Met.{Met, MetSignal, MetInstance, met_in}
 

@@ -1,12 +1,12 @@
 -- What holds of the resolved blocks of each model.
 -- Source: own.
 use Rattle.std.specs.Prelude.{◌≡◌, ◌-◌, ◌≤◌, false, List, [], length, filter_map}
-use Rattle.tdf_base.specs.Limits.{most_instances, most_signals}
+use Rattle.tdf_links.specs.low.base.Limits.{most_instances, most_signals}
 use Rattle.tdf_links.specs.Links.{link_faults}
 use Rattle.tdf_links.specs.Ports.{ports_of_composite}
 use Rattle.tdf_resolve.specs.Counts.{is_too_many}
 use Rattle.tdf_resolve.specs.Resolved.{AreResolved}
-use Rattle.tdf_tree.specs.Pure.{PureTree}
+use Rattle.tdf_links.specs.low.tree.Pure.{PureTree}
 use Rattle.tdf_walk.specs.Blocks.{BlockOf}
 use Rattle.tdf_walk.specs.Bound.{AreBound}
 use Rattle.tdf_walk.specs.Laws.{AreEarlier}

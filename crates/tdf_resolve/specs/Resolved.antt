@@ -7,11 +7,11 @@ use Rattle.tdf_links.specs.Ports.{Known, no_blocks, with_block, ports_named}
 use Rattle.tdf_links.specs.Ports.{ports_of_tdf, ports_of_de, ports_of_composite}
 use Rattle.tdf_resolve.specs.Signals.{declared_by, IsSignal}
 use Rattle.tdf_resolve.specs.Targets.{inside_of, or_first, target_of}
-use Rattle.tdf_scope.specs.Names.{Names, globals_of, place_in}
-use Rattle.tdf_tree.specs.Pure.{PureComposite, PureGlobal, GShape, GTdf, GDe, GNet, PureTree}
-use Rattle.tdf_tree.specs.declared.blocks.Member.{Member}
-use Rattle.tdf_tree.specs.declared.blocks.Member.TheVariants as member
-use Rattle.tdf_tree.specs.declared.blocks.PortLine.{PortLine}
+use Rattle.tdf_links.specs.low.scope.Names.{Names, globals_of, place_in}
+use Rattle.tdf_links.specs.low.tree.Pure.{PureComposite, PureGlobal, GShape, GTdf, GDe, GNet, PureTree}
+use Rattle.tdf_links.specs.low.tree.declared.blocks.Member.{Member}
+use Rattle.tdf_links.specs.low.tree.declared.blocks.Member.TheVariants as member
+use Rattle.tdf_links.specs.low.tree.declared.blocks.PortLine.{PortLine}
 use Rattle.tdf_walk.specs.Blocks.{InstanceOf, BlockOf}
 use Rattle.tdf_walk.specs.declared.blocks.Target.{Target}
 

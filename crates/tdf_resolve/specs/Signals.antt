@@ -2,17 +2,17 @@
 -- Source: own.
 use Rattle.std.specs.Prelude.{◌≡◌, ℕ, Bool, true, false, if◌then◌else◌, pos}
 use Rattle.std.specs.Prelude.{List, [], ◌∷◌, Option, Some, None, Result, Ok, Err}
-use Rattle.tdf_fixed.specs.Cast.{IsLegal, fraction_of}
-use Rattle.tdf_fixed.specs.Literal.{decimal_of}
-use Rattle.tdf_fixed.specs.declared.format.Format.{Format}
-use Rattle.tdf_fixed.specs.declared.literals.DecimalErr.{DecimalErr}
-use Rattle.tdf_fixed.specs.declared.raw.Raw.{Raw}
-use Rattle.tdf_scope.specs.Names.{Names, format_of}
-use Rattle.tdf_tree.specs.declared.blocks.Member.{Member}
-use Rattle.tdf_tree.specs.declared.blocks.Member.TheVariants as member
-use Rattle.tdf_tree.specs.declared.names.Lit.{Lit}
-use Rattle.tdf_tree.specs.declared.shapes.FormatRef.{FormatRef}
-use Rattle.tdf_tree.specs.declared.shapes.Shape.{Shape}
+use Rattle.tdf_links.specs.low.fixed.Cast.{IsLegal, fraction_of}
+use Rattle.tdf_links.specs.low.fixed.Literal.{decimal_of}
+use Rattle.tdf_links.specs.low.fixed.declared.format.Format.{Format}
+use Rattle.tdf_links.specs.low.fixed.declared.literals.DecimalErr.{DecimalErr}
+use Rattle.tdf_links.specs.low.fixed.declared.raw.Raw.{Raw}
+use Rattle.tdf_links.specs.low.scope.Names.{Names, format_of}
+use Rattle.tdf_links.specs.low.tree.declared.blocks.Member.{Member}
+use Rattle.tdf_links.specs.low.tree.declared.blocks.Member.TheVariants as member
+use Rattle.tdf_links.specs.low.tree.declared.names.Lit.{Lit}
+use Rattle.tdf_links.specs.low.tree.declared.shapes.FormatRef.{FormatRef}
+use Rattle.tdf_links.specs.low.tree.declared.shapes.Shape.{Shape}
 use Rattle.tdf_walk.specs.declared.blocks.SignalLine.{SignalLine}
 
 -- a line that declares a signal: of samples, or of events with the literal of its first value

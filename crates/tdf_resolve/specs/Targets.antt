@@ -4,11 +4,11 @@ use Rattle.std.specs.Prelude.{ℕ, if◌then◌else◌, List, [], ◌∷◌, Opt
 use Rattle.std.specs.List.{flat_map}
 use Rattle.tdf_links.specs.Links.{binds}
 use Rattle.tdf_links.specs.Ports.{port_of_member}
-use Rattle.tdf_scope.specs.Names.{place_in}
-use Rattle.tdf_scope.specs.Scope.{first_some}
-use Rattle.tdf_tree.specs.declared.blocks.Member.{Member}
-use Rattle.tdf_tree.specs.declared.blocks.Member.TheVariants as member
-use Rattle.tdf_tree.specs.declared.blocks.PortLine.{PortLine}
+use Rattle.tdf_links.specs.low.scope.Names.{place_in}
+use Rattle.tdf_links.specs.low.scope.Scope.{first_some}
+use Rattle.tdf_links.specs.low.tree.declared.blocks.Member.{Member}
+use Rattle.tdf_links.specs.low.tree.declared.blocks.Member.TheVariants as member
+use Rattle.tdf_links.specs.low.tree.declared.blocks.PortLine.{PortLine}
 use Rattle.tdf_walk.specs.declared.blocks.Target.{Target}
 use Rattle.tdf_walk.specs.declared.blocks.Target.TheVariants.{Own, Outer}
 

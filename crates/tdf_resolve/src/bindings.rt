@@ -5,15 +5,15 @@ ghost use Rattle.std.specs.List.{flat_map};
 ghost use Rattle.std.specs.Prelude.{◌≡◌, ◌++◌, [], ◌&&◌, if◌then◌else◌, nat_eq, None, Some, OnOk, IfOk, ℕ, List, map};
 ghost use Rattle.tdf_resolve.specs.Targets.{inside_of, name_of_signal, target_after, target_named};
 ghost use Rattle.tdf_resolve.specs.machine.Bindings.{AreTargets, target_at};
-ghost use Rattle.tdf_scope.specs.Names.{place_in};
-ghost use Rattle.tdf_tree.specs.Views.{pure_composite};
+ghost use Rattle.tdf_links.specs.low.scope.Names.{place_in};
+ghost use Rattle.tdf_links.specs.low.tree.Views.{pure_composite};
 
 use indexmap::IndexMap;
 use std::alloc::Global;
 use std::marker::Model;
-use tdf_base::Memory;
+use tdf_links::low::base::Memory;
+use tdf_links::low::tree::{Composite, Member};
 use tdf_links::{Index, Ports, ports_of_composite};
-use tdf_tree::{Composite, Member};
 use tdf_walk::Target;
 
 /// The signals and the ports of a composite; each is found by a map.

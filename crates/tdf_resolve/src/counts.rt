@@ -4,13 +4,13 @@ ghost use Rattle.std.specs.Prelude.{◌≡◌, length, slice_index, IfOk};
 ghost use Rattle.tdf_resolve.specs.Counts.{is_past, is_too_many};
 ghost use Rattle.tdf_resolve.specs.Resolved.{AreResolved};
 ghost use Rattle.tdf_resolve.specs.machine.Counts.{capped, counted, own_signals, AreCounts};
-ghost use Rattle.tdf_tree.specs.Views.{pure_tree};
+ghost use Rattle.tdf_links.specs.low.tree.Views.{pure_tree};
 ghost use Rattle.tdf_walk.specs.Laws.{AreEarlier};
 
 use crate::measures::{Measure, add, counts_signals, limit_of, weights_of};
 use std::alloc::Global;
-use tdf_base::Memory;
-use tdf_tree::Tree;
+use tdf_links::low::base::Memory;
+use tdf_links::low::tree::Tree;
 use tdf_walk::{Block, Instance};
 
 fn at(list: &[u64], k: usize) -> u64

@@ -7,13 +7,13 @@ ghost use Rattle.tdf_resolve.specs.Resolved.{instance_of, instance_with, instanc
 ghost use Rattle.tdf_resolve.specs.Targets.{or_first};
 ghost use Rattle.tdf_resolve.specs.machine.Bindings.{target_at};
 ghost use Rattle.tdf_resolve.specs.machine.Lists.{list_of};
-ghost use Rattle.tdf_tree.specs.Views.{pure_composite};
+ghost use Rattle.tdf_links.specs.low.tree.Views.{pure_composite};
 
 use crate::bindings::Bindings;
 use std::alloc::Global;
-use tdf_base::{Memory, Name};
+use tdf_links::low::base::{Memory, Name};
+use tdf_links::low::tree::{Composite, Member, PortLine};
 use tdf_links::{Known, Ports};
-use tdf_tree::{Composite, Member, PortLine};
 use tdf_walk::{Instance, Target};
 
 fn or_first(target: Option<Target>) -> Target

@@ -6,13 +6,13 @@ ghost use Rattle.tdf_resolve.specs.Counts.{cells_of, counts_signals, de_line_wei
 ghost use Rattle.tdf_resolve.specs.Counts.{processes_weight, tdf_line_weight, tdf_weight, weight_of, weights_of};
 ghost use Rattle.tdf_resolve.specs.machine.Counts.{capped};
 ghost use Rattle.tdf_resolve.specs.machine.Lists.{list_of};
-ghost use Rattle.tdf_tree.specs.Views.{pure_de, pure_de_line, pure_global, pure_store, pure_tdf, pure_tdf_line, pure_tree};
+ghost use Rattle.tdf_links.specs.low.tree.Views.{pure_de, pure_de_line, pure_global, pure_store, pure_tdf, pure_tdf_line, pure_tree};
 
 use std::alloc::Global;
-use tdf_base::{
+use tdf_links::low::base::{
     MOST_CELLS, MOST_EVENTS, MOST_INSTANCES, MOST_PORTS, MOST_PROCESSES, MOST_SIGNALS, Memory,
 };
-use tdf_tree::{DeDecl, DeLine, Global1, Store, TdfDecl, TdfLine, Tree};
+use tdf_links::low::tree::{DeDecl, DeLine, Global1, Store, TdfDecl, TdfLine, Tree};
 
 /// What there is a limit for.
 #[derive(Clone, Copy)]

@@ -5,16 +5,16 @@ ghost use Rattle.std.specs.Prelude.{◌≡◌, ◌∷◌, [], ◌++◌, length, 
 ghost use Rattle.tdf_links.specs.Ports.{known_after_all, no_blocks, ports_of_composite, ports_of_de, ports_of_tdf};
 ghost use Rattle.tdf_resolve.specs.Resolved.{leaf, whole, AreBlocks, AreResolved, IsComposite};
 ghost use Rattle.tdf_resolve.specs.machine.Lists.{list_of};
-ghost use Rattle.tdf_scope.specs.Names.{globals_of};
-ghost use Rattle.tdf_tree.specs.Views.{pure_composite, pure_de, pure_global, pure_tdf, pure_tree};
+ghost use Rattle.tdf_links.specs.low.scope.Names.{globals_of};
+ghost use Rattle.tdf_links.specs.low.tree.Views.{pure_composite, pure_de, pure_global, pure_tdf, pure_tree};
 
 use crate::instances::instances_of;
 use crate::signals::signals_of;
 use std::alloc::Global;
-use tdf_base::Memory;
+use tdf_links::low::base::Memory;
+use tdf_links::low::scope::{Table, globals_of};
+use tdf_links::low::tree::{Composite, DeDecl, Global1, TdfDecl, Tree};
 use tdf_links::{Known, ports_of_composite, ports_of_de, ports_of_tdf};
-use tdf_scope::{Table, globals_of};
-use tdf_tree::{Composite, DeDecl, Global1, TdfDecl, Tree};
 use tdf_walk::Block;
 
 fn leaf(alloc: Global, ports: usize) -> Block

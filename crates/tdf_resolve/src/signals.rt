@@ -3,17 +3,17 @@
 ghost use Rattle.std.specs.List.{AllZip, flat_map};
 ghost use Rattle.std.specs.Option.{option_map};
 ghost use Rattle.std.specs.Prelude.{◌≡◌, ◌++◌, Some, IfOk, OnOk};
-ghost use Rattle.tdf_fixed.specs.Cast.{IsLegal};
-ghost use Rattle.tdf_fixed.specs.Literal.{decimal_of};
+ghost use Rattle.tdf_links.specs.low.fixed.Cast.{IsLegal};
+ghost use Rattle.tdf_links.specs.low.fixed.Literal.{decimal_of};
 ghost use Rattle.tdf_resolve.specs.Signals.{declared_by, or_zero, start_of, text_of, zero_of, IsFormatOf, IsSignal};
 ghost use Rattle.tdf_resolve.specs.machine.Lists.{list_of};
-ghost use Rattle.tdf_tree.specs.declared.shapes.Shape.{Shape as ShapeOf};
+ghost use Rattle.tdf_links.specs.low.tree.declared.shapes.Shape.{Shape as ShapeOf};
 
 use std::alloc::Global;
-use tdf_base::{Memory, Name};
-use tdf_fixed::{Format, Over, Quant, Raw, read_decimal};
-use tdf_scope::{Table, format_of};
-use tdf_tree::{FormatRef, Lit, Member, Shape};
+use tdf_links::low::base::{Memory, Name};
+use tdf_links::low::fixed::{Format, Over, Quant, Raw, read_decimal};
+use tdf_links::low::scope::{Table, format_of};
+use tdf_links::low::tree::{FormatRef, Lit, Member, Shape};
 use tdf_walk::SignalLine;
 
 /// A format that stands where a line has none.

@@ -1,3 +1,4 @@
+pub mod Api
 pub mod Listed
 pub mod Numbered
 pub mod Ported

@@ -7,13 +7,13 @@ use Rattle.std.specs.List.{cons_option, flat_map}
 use Rattle.std.specs.Prelude.{map}
 use Rattle.tdf_roles.specs.Roles.{event_of, places_among}
 use Rattle.tdf_roles.specs.machine.Processes.{found_place}
-use Rattle.tdf_scope.specs.Names.{place_in}
-use Rattle.tdf_tree.specs.Pure.{PureProcess}
-use Rattle.tdf_tree.specs.Views.{pure_de_line, pure_process}
-use Rattle.tdf_tree.specs.declared.blocks.Process.{Process}
-use Rattle.tdf_tree.specs.declared.blocks.DeLine.{DeLine}
-use Rattle.tdf_tree.specs.declared.blocks.PortLine.{PortLine}
-use Rattle.tdf_tree.specs.declared.blocks.Sense.{Sense}
+use Rattle.tdf_bodies.specs.low.scope.Names.{place_in}
+use Rattle.tdf_bodies.specs.low.tree.Pure.{PureProcess}
+use Rattle.tdf_bodies.specs.low.tree.Views.{pure_de_line, pure_process}
+use Rattle.tdf_bodies.specs.low.tree.declared.blocks.Process.{Process}
+use Rattle.tdf_bodies.specs.low.tree.declared.blocks.DeLine.{DeLine}
+use Rattle.tdf_bodies.specs.low.tree.declared.blocks.PortLine.{PortLine}
+use Rattle.tdf_bodies.specs.low.tree.declared.blocks.Sense.{Sense}
 use Rattle.tdf_wiring.specs.Roles.{ProcessOf}
 use Rattle.tdf_wiring.specs.declared.roles.PortData.{PortData}
 

@@ -6,9 +6,9 @@ use Rattle.std.proofs.Math.Seq.{get_or-append_seam}
 use Rattle.std.proofs.lemmas.Bool.{cases_lt}
 use Rattle.std.proofs.lemmas.Option.{slice_get_within}
 use Rattle.std.specs.Prelude.{slice_get, slice_index}
-use Rattle.tdf_meaning.specs.Places.{before, rates_of, rate_number}
+use Rattle.tdf_bodies.specs.low.meaning.Places.{before, rates_of, rate_number}
 use Rattle.tdf_roles.specs.machine.Numbers.{AreRateNumbers}
-use Rattle.tdf_scope.specs.Names.{Names, Thing}
+use Rattle.tdf_bodies.specs.low.scope.Names.{Names, Thing}
 
 pub variable_within : (own : Names) (numbers : List ℕ) (place : ℕ) (t : Thing) → AreRateNumbers own numbers → slice_get own.things place ≡ Some t → place < length numbers
 variable_within own numbers place t are at =

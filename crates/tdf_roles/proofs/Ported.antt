@@ -10,24 +10,24 @@ use Rattle.std.specs.BTreeMap.{insert_entry}
 use Rattle.std.specs.Cmp.Lexicographic.{pointwise, same_text}
 use Rattle.std.specs.Ordering.{nat_cmp}
 use Rattle.std.specs.Prelude.{nat_eq, slice_get, slice_index, slice_index_or, slice_set, replicate, map}
-use Rattle.tdf_fixed.specs.declared.raw.Raw.{Raw}
-use Rattle.tdf_meaning.specs.Value.{literal_in}
+use Rattle.tdf_bodies.specs.low.fixed.declared.raw.Raw.{Raw}
+use Rattle.tdf_bodies.specs.low.meaning.Value.{literal_in}
 use Rattle.tdf_roles.specs.Roles.{with_initial, with_initials, initials_of_port, port_of, port_data}
 use Rattle.tdf_roles.specs.Standing.{or_else, last_of, port_step}
 use Rattle.tdf_roles.specs.declared.ports.Gathered.{Gathered}
 use Rattle.tdf_roles.specs.machine.Found.{IsFound, initials_at, port_with}
 use Rattle.tdf_roles.specs.machine.Gathered.{IsGathered}
 use Rattle.tdf_roles.specs.machine.Standing.{put_at, stepped, stepped_all, put_value, initial_put, initials_put}
-use Rattle.tdf_scope.specs.Names.{Names, Thing, Port, at_place, place_in, place_of, thing_of}
-use Rattle.tdf_tree.specs.declared.blocks.Attr.{Attr}
-use Rattle.tdf_tree.specs.declared.blocks.Attr.TheVariants as attr
-use Rattle.tdf_tree.specs.declared.blocks.Initial.{Initial}
-use Rattle.tdf_scope.specs.Scope.{Scope}
-use Rattle.tdf_tree.specs.Pure.{PureTdf}
-use Rattle.tdf_tree.specs.declared.blocks.PortLine.{PortLine}
-use Rattle.tdf_tree.specs.declared.blocks.PortKind.{PortKind}
-use Rattle.tdf_tree.specs.declared.shapes.Shape.{Shape}
-use Rattle.tdf_tree.specs.declared.stmt.Limit.{Limit}
+use Rattle.tdf_bodies.specs.low.scope.Names.{Names, Thing, Port, at_place, place_in, place_of, thing_of}
+use Rattle.tdf_bodies.specs.low.tree.declared.blocks.Attr.{Attr}
+use Rattle.tdf_bodies.specs.low.tree.declared.blocks.Attr.TheVariants as attr
+use Rattle.tdf_bodies.specs.low.tree.declared.blocks.Initial.{Initial}
+use Rattle.tdf_bodies.specs.low.scope.Scope.{Scope}
+use Rattle.tdf_bodies.specs.low.tree.Pure.{PureTdf}
+use Rattle.tdf_bodies.specs.low.tree.declared.blocks.PortLine.{PortLine}
+use Rattle.tdf_bodies.specs.low.tree.declared.blocks.PortKind.{PortKind}
+use Rattle.tdf_bodies.specs.low.tree.declared.shapes.Shape.{Shape}
+use Rattle.tdf_bodies.specs.low.tree.declared.stmt.Limit.{Limit}
 
 held : (p q : ℕ) → Some p ≡ Some q → p ≡ q
 held p q e = ap given e

@@ -6,13 +6,13 @@ use Rattle.std.specs.Borrow.{Bor}
 use Rattle.std.specs.Prelude.{slice_get}
 use Rattle.tdf_roles.specs.Roles.{AreModulesSound, module_role, processes_role, roles_from}
 use Rattle.tdf_roles.specs.machine.Sound.{IsGood}
-use Rattle.tdf_scope.specs.Names.{Names}
-use Rattle.tdf_tree.specs.Kept.{Each, KeepsGlobal}
-use Rattle.tdf_tree.specs.Pure.{PureComposite, PureGlobal, GShape, GTdf, GDe, GNet}
-use Rattle.tdf_tree.specs.Views.{pure_global}
-use Rattle.tdf_tree.specs.declared.tree.Global1.{Global1}
-use Rattle.tdf_tree.specs.declared.blocks.PortKind.{PortKind}
-use Rattle.tdf_tree.specs.declared.blocks.PortLine.{PortLine}
+use Rattle.tdf_bodies.specs.low.scope.Names.{Names}
+use Rattle.tdf_bodies.specs.low.tree.Kept.{Each, KeepsGlobal}
+use Rattle.tdf_bodies.specs.low.tree.Pure.{PureComposite, PureGlobal, GShape, GTdf, GDe, GNet}
+use Rattle.tdf_bodies.specs.low.tree.Views.{pure_global}
+use Rattle.tdf_bodies.specs.low.tree.declared.tree.Global1.{Global1}
+use Rattle.tdf_bodies.specs.low.tree.declared.blocks.PortKind.{PortKind}
+use Rattle.tdf_bodies.specs.low.tree.declared.blocks.PortLine.{PortLine}
 use Rattle.tdf_wiring.specs.Roles.{ProcessOf, ProcessesOf}
 use Rattle.tdf_wiring.specs.declared.roles.Role.TheVariants.{Module, Processes, Composite}
 

@@ -6,17 +6,17 @@ use Rattle.std.proofs.lemmas.List.{drop_more, drop_all}
 use Rattle.std.specs.Prelude.{slice_get, slice_index_or, slice_set, replicate, map}
 use Rattle.tdf_roles.specs.Standing.{or_else, last_of, module_step, accepting}
 use Rattle.tdf_roles.specs.machine.Standing.{stepped, stepped_all, initial_put, initials_put}
-use Rattle.tdf_fixed.specs.Cast.{IsLegal}
-use Rattle.tdf_fixed.specs.declared.raw.Raw.{Raw}
-use Rattle.tdf_scope.specs.Names.{Names, Port}
-use Rattle.tdf_scope.specs.Scope.{Scope}
-use Rattle.tdf_scope.specs.Sound.{IsSound}
-use Rattle.tdf_tree.specs.Kept.{Each, KeepsInitial, KeepsLit}
-use Rattle.tdf_tree.specs.declared.blocks.PortKind.{PortKind}
-use Rattle.tdf_tree.specs.declared.shapes.Shape.{Shape}
-use Rattle.tdf_tree.specs.declared.stmt.Limit.{Limit}
-use Rattle.tdf_tree.specs.declared.blocks.Attr.{Attr}
-use Rattle.tdf_tree.specs.declared.blocks.Initial.{Initial}
+use Rattle.tdf_bodies.specs.low.fixed.Cast.{IsLegal}
+use Rattle.tdf_bodies.specs.low.fixed.declared.raw.Raw.{Raw}
+use Rattle.tdf_bodies.specs.low.scope.Names.{Names, Port}
+use Rattle.tdf_bodies.specs.low.scope.Scope.{Scope}
+use Rattle.tdf_bodies.specs.low.scope.Sound.{IsSound}
+use Rattle.tdf_bodies.specs.low.tree.Kept.{Each, KeepsInitial, KeepsLit}
+use Rattle.tdf_bodies.specs.low.tree.declared.blocks.PortKind.{PortKind}
+use Rattle.tdf_bodies.specs.low.tree.declared.shapes.Shape.{Shape}
+use Rattle.tdf_bodies.specs.low.tree.declared.stmt.Limit.{Limit}
+use Rattle.tdf_bodies.specs.low.tree.declared.blocks.Attr.{Attr}
+use Rattle.tdf_bodies.specs.low.tree.declared.blocks.Initial.{Initial}
 
 -- the rest of some lines
 pub last_next : {A B : Type 0} (said : A → Option B) (before : B) (xs : List A) (i : ℕ) (d : A) → i < length xs

@@ -1,3 +1,4 @@
 pub mod Roles
 pub mod Standing
+pub mod low
 pub mod machine

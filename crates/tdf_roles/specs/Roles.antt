@@ -7,24 +7,24 @@ use Rattle.std.specs.BTreeMap.{insert_entry}
 use Rattle.std.specs.Cmp.Lexicographic.{pointwise}
 use Rattle.std.specs.List.{flat_map}
 use Rattle.std.specs.Ordering.{nat_cmp}
-use Rattle.tdf_fixed.specs.declared.raw.Raw.{Raw}
+use Rattle.tdf_bodies.specs.low.fixed.declared.raw.Raw.{Raw}
 use Rattle.tdf_links.specs.Ports.{ports_of_tdf, ports_of_de}
-use Rattle.tdf_meaning.specs.Places.{rate_number}
-use Rattle.tdf_meaning.specs.Value.{literal_in}
+use Rattle.tdf_bodies.specs.low.meaning.Places.{rate_number}
+use Rattle.tdf_bodies.specs.low.meaning.Value.{literal_in}
 use Rattle.tdf_roles.specs.Standing.{last_of, module_step, port_step, accepting}
-use Rattle.tdf_scope.specs.Names.{Names, Thing, Port, RateVar, place_in, place_of, thing_of}
-use Rattle.tdf_scope.specs.Names.{globals_of}
-use Rattle.tdf_scope.specs.Scope.{Scope, tdf_scope, does_change}
-use Rattle.tdf_scope.specs.Sound.{IsSound}
-use Rattle.tdf_tree.specs.Pure.{PureDeLine, DPort, DStore, DEvent, PureTdf, PureDe, PureProcess}
-use Rattle.tdf_tree.specs.Pure.{PureGlobal, GShape, GTdf, GDe, GNet, PureTree}
-use Rattle.tdf_tree.specs.declared.blocks.Attr.{Attr}
-use Rattle.tdf_tree.specs.declared.blocks.Initial.{Initial}
-use Rattle.tdf_tree.specs.declared.blocks.PortLine.{PortLine}
-use Rattle.tdf_tree.specs.declared.blocks.Sense.{Sense}
-use Rattle.tdf_tree.specs.declared.shapes.Shape.{Shape}
-use Rattle.tdf_tree.specs.declared.stmt.Limit.{Limit}
-use Rattle.tdf_tree.specs.declared.stmt.Limit.TheVariants as limit
+use Rattle.tdf_bodies.specs.low.scope.Names.{Names, Thing, Port, RateVar, place_in, place_of, thing_of}
+use Rattle.tdf_bodies.specs.low.scope.Names.{globals_of}
+use Rattle.tdf_bodies.specs.low.scope.Scope.{Scope, tdf_scope, does_change}
+use Rattle.tdf_bodies.specs.low.scope.Sound.{IsSound}
+use Rattle.tdf_bodies.specs.low.tree.Pure.{PureDeLine, DPort, DStore, DEvent, PureTdf, PureDe, PureProcess}
+use Rattle.tdf_bodies.specs.low.tree.Pure.{PureGlobal, GShape, GTdf, GDe, GNet, PureTree}
+use Rattle.tdf_bodies.specs.low.tree.declared.blocks.Attr.{Attr}
+use Rattle.tdf_bodies.specs.low.tree.declared.blocks.Initial.{Initial}
+use Rattle.tdf_bodies.specs.low.tree.declared.blocks.PortLine.{PortLine}
+use Rattle.tdf_bodies.specs.low.tree.declared.blocks.Sense.{Sense}
+use Rattle.tdf_bodies.specs.low.tree.declared.shapes.Shape.{Shape}
+use Rattle.tdf_bodies.specs.low.tree.declared.stmt.Limit.{Limit}
+use Rattle.tdf_bodies.specs.low.tree.declared.stmt.Limit.TheVariants as limit
 use Rattle.tdf_wiring.specs.Roles.{ProcessOf, ProcessesOf, ModuleOf}
 use Rattle.tdf_wiring.specs.declared.roles.PortData.{PortData}
 use Rattle.tdf_wiring.specs.declared.roles.Rate.{Rate}

@@ -3,8 +3,8 @@
 use Rattle.std.specs.Prelude.{ℕ, Bool, true, false, List, [], ◌∷◌, Option, Some, None, nat_eq}
 use Rattle.std.specs.Prelude.{if◌then◌else◌}
 use Rattle.std.specs.Cmp.Lexicographic.{pointwise}
-use Rattle.tdf_tree.specs.declared.blocks.Attr.{Attr}
-use Rattle.tdf_tree.specs.declared.blocks.Attr.TheVariants as attr
+use Rattle.tdf_bodies.specs.low.tree.declared.blocks.Attr.{Attr}
+use Rattle.tdf_bodies.specs.low.tree.declared.blocks.Attr.TheVariants as attr
 
 -- a value that is said, or else the one from before
 abbrev pub or_else : {A : Type 0} → Option A → A → A

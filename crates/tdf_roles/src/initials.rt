@@ -3,20 +3,20 @@
 ghost use Rattle.std.specs.BTreeMap.{insert_entry};
 ghost use Rattle.std.specs.Ordering.{nat_cmp};
 ghost use Rattle.std.specs.Prelude.{◌≡◌, ◌<◌, ◌++◌, ◌∷◌, [], map, IfOk, OnOk, Some, length, replicate, slice_set, slice_index_or};
-ghost use Rattle.tdf_fixed.specs.Cast.{IsLegal};
-ghost use Rattle.tdf_meaning.specs.Value.{literal_in as literal_of};
+ghost use Rattle.tdf_bodies.specs.low.fixed.Cast.{IsLegal};
+ghost use Rattle.tdf_bodies.specs.low.meaning.Value.{literal_in as literal_of};
 ghost use Rattle.tdf_roles.specs.machine.Standing.{put_entry, initial_put, initials_put};
-ghost use Rattle.tdf_scope.specs.Sound.{IsSound};
-ghost use Rattle.tdf_tree.specs.Kept.{Each, KeepsInitial, KeepsLit};
+ghost use Rattle.tdf_bodies.specs.low.scope.Sound.{IsSound};
+ghost use Rattle.tdf_bodies.specs.low.tree.Kept.{Each, KeepsInitial, KeepsLit};
 
 use crate::rates::short;
 use std::alloc::Global;
 use std::collections::BTreeMap;
-use tdf_base::Memory;
 use tdf_bodies::literal_in;
-use tdf_fixed::Raw;
-use tdf_scope::{Scope, Thing};
-use tdf_tree::{Initial, Lit, Shape};
+use tdf_bodies::low::base::Memory;
+use tdf_bodies::low::fixed::Raw;
+use tdf_bodies::low::scope::{Scope, Thing};
+use tdf_bodies::low::tree::{Initial, Lit, Shape};
 
 /// A value goes to its place in the map of a name.
 ///

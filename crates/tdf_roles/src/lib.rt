@@ -6,9 +6,11 @@
 //! - `ports`: the ports of a module.
 //! - `processes`: blocks of processes.
 //! - `roles`: all blocks of a model.
+//! - `low`: what the crates above use of the crates further below.
 #![tactic(auto)]
 
 mod initials;
+pub mod low;
 mod ports;
 mod processes;
 mod rates;

@@ -7,23 +7,23 @@ ghost use Rattle.tdf_roles.specs.Roles.{delay_of_port, port_data, rate_of_port};
 ghost use Rattle.tdf_roles.specs.machine.Found.{IsFound, initials_at, port_with};
 ghost use Rattle.tdf_roles.specs.machine.Gathered.{IsGathered};
 ghost use Rattle.tdf_roles.specs.machine.Numbers.{AreRateNumbers};
-ghost use Rattle.tdf_scope.specs.Names.{thing_of};
-ghost use Rattle.tdf_scope.specs.Scope.{Scope as ScopeSeen};
-ghost use Rattle.tdf_scope.specs.Seen.{rate_or_one, seen};
-ghost use Rattle.tdf_scope.specs.Sound.{IsSound};
-ghost use Rattle.tdf_tree.specs.Kept.{Each, KeepsInitial};
-ghost use Rattle.tdf_tree.specs.Views.{pure_tdf};
+ghost use Rattle.tdf_bodies.specs.low.scope.Names.{thing_of};
+ghost use Rattle.tdf_bodies.specs.low.scope.Scope.{Scope as ScopeSeen};
+ghost use Rattle.tdf_bodies.specs.low.scope.Seen.{rate_or_one, seen};
+ghost use Rattle.tdf_bodies.specs.low.scope.Sound.{IsSound};
+ghost use Rattle.tdf_bodies.specs.low.tree.Kept.{Each, KeepsInitial};
+ghost use Rattle.tdf_bodies.specs.low.tree.Views.{pure_tdf};
 
 use crate::initials::initials_of;
 use crate::rates::{rate_in, rate_numbers, short};
 use crate::steps::port_steps;
 use std::alloc::Global;
 use std::collections::BTreeMap;
-use tdf_base::{Memory, Name};
-use tdf_fixed::Raw;
+use tdf_bodies::low::base::{Memory, Name};
+use tdf_bodies::low::fixed::Raw;
+use tdf_bodies::low::scope::{Scope, Thing};
+use tdf_bodies::low::tree::{Limit, PortLine, TdfDecl};
 use tdf_links::ports_of_tdf;
-use tdf_scope::{Scope, Thing};
-use tdf_tree::{Limit, PortLine, TdfDecl};
 use tdf_wiring::{Initials, PortData};
 
 /// What the lines of a block say of its ports, by the places of their names.

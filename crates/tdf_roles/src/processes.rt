@@ -5,13 +5,13 @@ ghost use Rattle.std.specs.Prelude.{◌≡◌, ◌++◌, map, filter_map, IfOk, 
 ghost use Rattle.tdf_links.specs.Ports.{ports_of_de as ports_seen};
 ghost use Rattle.tdf_roles.specs.Roles.{event_of, events_of, places_among, process_role, processes_role};
 ghost use Rattle.tdf_roles.specs.machine.Processes.{found_place, process_with};
-ghost use Rattle.tdf_scope.specs.Names.{place_in};
-ghost use Rattle.tdf_tree.specs.Views.{pure_de, pure_de_line, pure_process};
+ghost use Rattle.tdf_bodies.specs.low.scope.Names.{place_in};
+ghost use Rattle.tdf_bodies.specs.low.tree.Views.{pure_de, pure_de_line, pure_process};
 
 use std::alloc::Global;
-use tdf_base::{Memory, Name};
+use tdf_bodies::low::base::{Memory, Name};
+use tdf_bodies::low::tree::{DeDecl, DeLine, PortKind, PortLine, Process, Sense};
 use tdf_links::{Index, Ports, ports_of_de};
-use tdf_tree::{DeDecl, DeLine, PortKind, PortLine, Process, Sense};
 use tdf_wiring::{ProcessData, ProcessLine};
 
 fn push_event<'t>(names: &mut Index<'t>, line: &'t DeLine) -> Result<(), Memory>

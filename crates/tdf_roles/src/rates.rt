@@ -2,16 +2,16 @@
 
 ghost use Rattle.std.specs.Option.{option_map};
 ghost use Rattle.std.specs.Prelude.{◌≡◌, ◌<◌, ◌≤◌, ◌^◌, ◌+◌, ℕ, IfOk, Some, length, slice_get, slice_index};
-ghost use Rattle.tdf_meaning.specs.Places.{before, rates_of, rate_number};
+ghost use Rattle.tdf_bodies.specs.low.meaning.Places.{before, rates_of, rate_number};
 ghost use Rattle.tdf_roles.specs.Roles.{rate_in, variable_at, variable_of};
 ghost use Rattle.tdf_roles.specs.machine.Numbers.{AreRateNumbers};
-ghost use Rattle.tdf_scope.specs.Names.{place_of, Thing as ThingSeen};
-ghost use Rattle.tdf_scope.specs.Seen.{rate_or_one, seen};
+ghost use Rattle.tdf_bodies.specs.low.scope.Names.{place_of, Thing as ThingSeen};
+ghost use Rattle.tdf_bodies.specs.low.scope.Seen.{rate_or_one, seen};
 
 use std::alloc::Global;
-use tdf_base::{Memory, Name};
-use tdf_scope::{Scope, Thing};
-use tdf_tree::Limit;
+use tdf_bodies::low::base::{Memory, Name};
+use tdf_bodies::low::scope::{Scope, Thing};
+use tdf_bodies::low::tree::Limit;
 use tdf_wiring::Rate;
 
 /// A number of 32 bits.

@@ -3,20 +3,20 @@
 ghost use Rattle.std.specs.Prelude.{◌≡◌, ◌++◌, ◌∷◌, [], ◌+◌, ℕ, map, List, Some, slice_get, IfOk, OnOk};
 ghost use Rattle.tdf_roles.specs.Roles.{AreModulesSound, module_role, roles_from, roles_of};
 ghost use Rattle.tdf_roles.specs.machine.Sound.{IsGood};
-ghost use Rattle.tdf_scope.specs.Names.{globals_of};
-ghost use Rattle.tdf_scope.specs.Scope.{tdf_scope};
-ghost use Rattle.tdf_scope.specs.Sound.{IsSound};
-ghost use Rattle.tdf_tree.specs.Kept.{IsKept, KeepsTdf};
-ghost use Rattle.tdf_tree.specs.Pure.{PureGlobal, GNet};
-ghost use Rattle.tdf_tree.specs.Views.{pure_global, pure_tdf, pure_tree};
+ghost use Rattle.tdf_bodies.specs.low.scope.Names.{globals_of};
+ghost use Rattle.tdf_bodies.specs.low.scope.Scope.{tdf_scope};
+ghost use Rattle.tdf_bodies.specs.low.scope.Sound.{IsSound};
+ghost use Rattle.tdf_bodies.specs.low.tree.Kept.{IsKept, KeepsTdf};
+ghost use Rattle.tdf_bodies.specs.low.tree.Pure.{PureGlobal, GNet};
+ghost use Rattle.tdf_bodies.specs.low.tree.Views.{pure_global, pure_tdf, pure_tree};
 
 use crate::ports::ports_of;
 use crate::processes::processes_role;
 use crate::steps::{accepts, changes, module_step};
 use std::alloc::Global;
-use tdf_base::Memory;
-use tdf_scope::{Table, globals_of, tdf_scope};
-use tdf_tree::{Global1, TdfDecl, Tree};
+use tdf_bodies::low::base::Memory;
+use tdf_bodies::low::scope::{Table, globals_of, tdf_scope};
+use tdf_bodies::low::tree::{Global1, TdfDecl, Tree};
 use tdf_wiring::{ModuleData, Role};
 
 /// A module, where so many blocks stand before it.

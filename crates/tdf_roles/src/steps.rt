@@ -2,13 +2,13 @@
 
 ghost use Rattle.std.specs.Prelude.{◌≡◌, ◌<◌, false, IfOk, None, Some, length, replicate};
 ghost use Rattle.tdf_roles.specs.Standing.{accepting, last_of, module_step, or_else};
-ghost use Rattle.tdf_scope.specs.Scope.{does_change, is_does};
+ghost use Rattle.tdf_bodies.specs.low.scope.Scope.{does_change, is_does};
 ghost use Rattle.tdf_roles.specs.machine.Standing.{put_at, stepped, stepped_all};
 
 use std::alloc::Global;
-use tdf_base::Memory;
-use tdf_scope::Scope;
-use tdf_tree::Attr;
+use tdf_bodies::low::base::Memory;
+use tdf_bodies::low::scope::Scope;
+use tdf_bodies::low::tree::Attr;
 
 /// A timestep goes to its place.
 fn put(steps: &mut Vec<u64>, place: Option<usize>, step: u64)

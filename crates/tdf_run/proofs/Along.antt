@@ -1,16 +1,16 @@
 -- What a cluster in progress does within the turns that are left is what the history does.
 use Rattle.std.proofs.Common.{◌≡◌, ◌∙◌, ℕ, ◌+◌, ◌-◌, ◌≤◌, ◌++◌, Some, List, [], set, slice_get, refl, sym, ap, subst}
-use Rattle.tdf_convert.specs.Outputs.{OutputsOf}
-use Rattle.tdf_convert.specs.Sampled.{AreByOffset}
+use Rattle.tdf_exec.specs.low.convert.Outputs.{OutputsOf}
+use Rattle.tdf_exec.specs.low.convert.Sampled.{AreByOffset}
 use Rattle.tdf_exec.specs.Cluster.{ClusterOf, due_count, due_from, next_offset}
-use Rattle.tdf_expr.specs.Checked.{IsCheckedOf}
-use Rattle.tdf_fixed.specs.declared.raw.Raw.{Raw}
-use Rattle.tdf_flat.specs.Flat.{IsFlatOf}
-use Rattle.tdf_flat.specs.declared.model.Flat.{Flat}
+use Rattle.tdf_history.specs.low.expr.Checked.{IsCheckedOf}
+use Rattle.tdf_history.specs.low.fixed.declared.raw.Raw.{Raw}
+use Rattle.tdf_history.specs.low.flat.Flat.{IsFlatOf}
+use Rattle.tdf_history.specs.low.flat.declared.model.Flat.{Flat}
 use Rattle.tdf_history.specs.Instant.{all_firings}
 use Rattle.tdf_history.specs.World.{ClusterAt, Rules, SinkWrite, World}
-use Rattle.tdf_instants.specs.History.{Going, Past}
-use Rattle.tdf_limits.specs.Limits.{AreWithinLimits}
+use Rattle.tdf_history.specs.low.instants.History.{Going, Past}
+use Rattle.tdf_history.specs.low.limits.Limits.{AreWithinLimits}
 use Rattle.tdf_run.proofs.Arriving.{firings_keep_at, in_plan, not_late}
 use Rattle.tdf_run.proofs.Due.{due_counted}
 use Rattle.tdf_run.proofs.Firings.{due_fire, few_end}
@@ -20,7 +20,7 @@ use Rattle.tdf_run.specs.At.{AreSettled, IsAt}
 use Rattle.tdf_run.specs.Fired.{HasFired, HasTooFew}
 use Rattle.tdf_run.specs.Firings.{AreDueNext, after_firings, settled_values, world_after, writes_after}
 use Rattle.tdf_run.specs.Laws.{FiredGoesAlong, GoesAlong, TooFewIsSpent}
-use Rattle.tdf_tree.specs.Pure.{PureTree}
+use Rattle.tdf_history.specs.low.tree.Pure.{PureTree}
 
 -- the entries that are due, as the cluster counts them
 pub due_here : (model : PureTree) (flat : Flat) (number time : ℕ) (h : ClusterAt) (c : ClusterOf) → IsAt model flat number h c → AreByOffset c.entries → h.since ≤ time

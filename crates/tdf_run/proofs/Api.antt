@@ -13,3 +13,12 @@ pub use Rattle.tdf_run.proofs.Sinking.{drop_at, here_next, here_stands, keeps_to
 pub use Rattle.tdf_run.proofs.Starting.{all_starts_are_at}
 pub use Rattle.tdf_run.proofs.Taking.{have_one, sinks_take_one}
 pub use Rattle.tdf_run.proofs.Writing.{begins, enough, entry_in, given_here, sinks_write, turns_here}
+pub use Rattle.tdf_history.proofs.Api.{modules_few}
+pub use Rattle.tdf_exec.proofs.Api.{due_left, moved_sent, moved_traced}
+pub use Rattle.tdf_history.proofs.Api.{delays_are_short, fault_is_one, fault_or_flat, tables_are_one}
+pub use Rattle.tdf_history.proofs.Api.{find_more, get_high, get_inside, get_low, get_made_at, known_more, none_some, some_same, state_more}
+pub use Rattle.tdf_history.proofs.Api.{end_lies, happens, reached, skipped, spent_ends, starts, turns_more, turns_none, turns_past}
+pub use Rattle.tdf_exec.proofs.Api.{IsDriver, driver_is, edge_row, module_kind, sinks_read}
+pub use Rattle.tdf_history.proofs.Api.{texts_next}
+pub use Rattle.tdf_history.proofs.Api.{agree_trans, has_times, one_span, position_is, text_none, text_same, text_split}
+pub use Rattle.tdf_history.proofs.Api.{done_next, firing_known, is_wired, outputs_are, steps_whole}

@@ -5,19 +5,19 @@ use Rattle.std.proofs.lemmas.List.{length-append, length-replicate}
 use Rattle.std.proofs.lemmas.Option.{slice_get_past}
 use Rattle.std.specs.List.{sum_by}
 use Rattle.std.specs.Prelude.{slice_get, slice_index_or}
-use Rattle.tdf_bind.specs.declared.actors.ActorRow.{ActorRow}
-use Rattle.tdf_convert.specs.Sampled.{AreByOffset}
+use Rattle.tdf_history.specs.low.bind.declared.actors.ActorRow.{ActorRow}
+use Rattle.tdf_exec.specs.low.convert.Sampled.{AreByOffset}
 use Rattle.tdf_exec.specs.Cluster.{ClusterOf, due_from, is_offset, next_offset, offset_in}
 use Rattle.tdf_exec.specs.Made.{IsActorOf, IsClusterOf}
 use Rattle.tdf_exec.specs.Played.{AreAllGiven, AreDone, IsPeriodOf, KeepsStanding, play_of, turns_from}
 use Rattle.tdf_exec.specs.declared.runners.Runner.TheVariants as runner
-use Rattle.tdf_expr.specs.Checked.{IsCheckedOf}
-use Rattle.tdf_fixed.specs.declared.raw.Raw.{Raw}
-use Rattle.tdf_flat.specs.declared.model.Flat.{Flat}
-use Rattle.tdf_flow.proofs.Api.{get_high, get_inside, none_some, reads_keep, some_same}
-use Rattle.tdf_flow.specs.Net.{count}
-use Rattle.tdf_flow.specs.Stands.{Stands}
-use Rattle.tdf_graph.specs.declared.actors.Actor.TheVariants as actor
+use Rattle.tdf_history.specs.low.expr.Checked.{IsCheckedOf}
+use Rattle.tdf_history.specs.low.fixed.declared.raw.Raw.{Raw}
+use Rattle.tdf_history.specs.low.flat.declared.model.Flat.{Flat}
+use Rattle.tdf_history.proofs.Api.{get_high, get_inside, none_some, reads_keep, some_same}
+use Rattle.tdf_history.specs.low.flow.Net.{count}
+use Rattle.tdf_history.specs.low.flow.Stands.{Stands}
+use Rattle.tdf_history.specs.low.graph.declared.actors.Actor.TheVariants as actor
 use Rattle.tdf_history.specs.Instant.{is_entry_due}
 use Rattle.tdf_history.specs.World.{ClusterAt}
 use Rattle.tdf_run.proofs.Due.{due_counted, is_due_by, none_after, offset_is, true_false}
@@ -25,12 +25,12 @@ use Rattle.tdf_run.proofs.Sampling.{done_up, reads_kept, reads_long, sampler_rea
 use Rattle.tdf_run.specs.At.{AreSettled, IsAt}
 use Rattle.tdf_run.specs.Firings.{AreDueNext, IsNotLate, after_firings, reads_after, value_for}
 use Rattle.tdf_run.specs.Laws.{FiringsKeepAt}
-use Rattle.tdf_schedule.specs.Plan.{done}
-use Rattle.tdf_schedule.specs.declared.entry.Entry.{Entry}
-use Rattle.tdf_streams.proofs.Api.{done_next}
-use Rattle.tdf_streams.specs.Cluster.{cluster_net}
-use Rattle.tdf_streams.specs.Places.{kind_of_row}
-use Rattle.tdf_tree.specs.Pure.{PureTree}
+use Rattle.tdf_history.specs.low.schedule.Plan.{done}
+use Rattle.tdf_history.specs.low.schedule.declared.entry.Entry.{Entry}
+use Rattle.tdf_history.proofs.Api.{done_next}
+use Rattle.tdf_history.specs.low.streams.Cluster.{cluster_net}
+use Rattle.tdf_history.specs.low.streams.Places.{kind_of_row}
+use Rattle.tdf_history.specs.low.tree.Pure.{PureTree}
 
 replicate_at : {A : Type 0} (n k : ℕ) (x : A) → k < n → slice_get (replicate n x) k ≡ Some x
 replicate_at zero k x below = absurd (omega (arith, below))

@@ -8,31 +8,31 @@ use Rattle.std.proofs.lemmas.List.Sums.{sum_by-cons}
 use Rattle.std.proofs.lemmas.Option.{get_or_from_slice_get}
 use Rattle.std.specs.List.{count_by}
 use Rattle.std.specs.Prelude.{◌&&◌, cond, if◌then◌else◌, slice_get, slice_index, slice_index_or}
-use Rattle.tdf_bind.specs.Actors.{cluster_of}
-use Rattle.tdf_dynamic.specs.Attributes.{AttrsOf, clusters_of}
-use Rattle.tdf_dynamic.specs.Rates.{net_of}
-use Rattle.tdf_dynamic.specs.declared.first.First.{First}
+use Rattle.tdf_history.specs.low.bind.Actors.{cluster_of}
+use Rattle.tdf_history.specs.low.dynamic.Attributes.{AttrsOf, clusters_of}
+use Rattle.tdf_history.specs.low.dynamic.Rates.{net_of}
+use Rattle.tdf_history.specs.low.dynamic.declared.first.First.{First}
 use Rattle.tdf_exec.specs.Cluster.{ClusterOf}
 use Rattle.tdf_exec.specs.Played.{IsPeriodOf, play_of}
-use Rattle.tdf_expr.specs.Checked.{IsCheckedOf}
-use Rattle.tdf_fixed.specs.declared.raw.Raw.{Raw}
-use Rattle.tdf_flat.specs.Flat.{IsFlatOf}
-use Rattle.tdf_flat.specs.declared.model.Flat.{Flat}
-use Rattle.tdf_flow.proofs.Api.{get_made_at}
-use Rattle.tdf_flow.specs.Stands.{Stands}
-use Rattle.tdf_graph.specs.declared.actors.Edge.{Edge}
+use Rattle.tdf_history.specs.low.expr.Checked.{IsCheckedOf}
+use Rattle.tdf_history.specs.low.fixed.declared.raw.Raw.{Raw}
+use Rattle.tdf_history.specs.low.flat.Flat.{IsFlatOf}
+use Rattle.tdf_history.specs.low.flat.declared.model.Flat.{Flat}
+use Rattle.tdf_history.proofs.Api.{get_made_at}
+use Rattle.tdf_history.specs.low.flow.Stands.{Stands}
+use Rattle.tdf_history.specs.low.graph.declared.actors.Edge.{Edge}
 use Rattle.tdf_history.specs.Start.{counts_in, first_cluster}
-use Rattle.tdf_limits.specs.Limits.{AreWithinLimits}
+use Rattle.tdf_history.specs.low.limits.Limits.{AreWithinLimits}
 use Rattle.tdf_run.proofs.Arriving.{done_none}
 use Rattle.tdf_run.proofs.Writing.{done_all}
 use Rattle.tdf_run.specs.At.{HaveRead, IsAt}
 use Rattle.tdf_run.specs.Begun.{HasBegun, StartsAreAt}
-use Rattle.tdf_schedule.specs.Plan.{IsPlan, done, is_firing}
-use Rattle.tdf_schedule.specs.declared.entry.Entry.{Entry}
-use Rattle.tdf_streams.proofs.Api.{entry_active, first_record, text_has_lists}
-use Rattle.tdf_streams.specs.Cluster.{cluster_net, text_start}
-use Rattle.tdf_streams.specs.Periods.{IsWholeRecord, PeriodRecord, period_record, read_rates, write_rates}
-use Rattle.tdf_tree.specs.Pure.{PureTree}
+use Rattle.tdf_history.specs.low.schedule.Plan.{IsPlan, done, is_firing}
+use Rattle.tdf_history.specs.low.schedule.declared.entry.Entry.{Entry}
+use Rattle.tdf_history.proofs.Api.{entry_active, first_record, text_has_lists}
+use Rattle.tdf_history.specs.low.streams.Cluster.{cluster_net, text_start}
+use Rattle.tdf_history.specs.low.streams.Periods.{IsWholeRecord, PeriodRecord, period_record, read_rates, write_rates}
+use Rattle.tdf_history.specs.low.tree.Pure.{PureTree}
 
 abbrev weight : Bool → ℕ
 weight b = cond b 1 0

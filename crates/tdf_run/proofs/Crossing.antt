@@ -9,22 +9,22 @@ use Rattle.std.specs.Prelude.{drop, slice_get, slice_index, slice_index_or}
 use Rattle.tdf_exec.specs.Cluster.{ClusterOf, offset_in}
 use Rattle.tdf_exec.specs.Crossing.{at_place}
 use Rattle.tdf_exec.specs.Played.{IsPeriodOf, play_of, turns_from}
-use Rattle.tdf_expr.specs.Checked.{IsCheckedOf}
-use Rattle.tdf_flat.specs.declared.model.Flat.{Flat}
-use Rattle.tdf_flow.proofs.Api.{get_high, get_inside, none_some}
-use Rattle.tdf_flow.specs.Net.{count}
-use Rattle.tdf_flow.specs.Stands.{Crosses, Stands}
+use Rattle.tdf_history.specs.low.expr.Checked.{IsCheckedOf}
+use Rattle.tdf_history.specs.low.flat.declared.model.Flat.{Flat}
+use Rattle.tdf_history.proofs.Api.{get_high, get_inside, none_some}
+use Rattle.tdf_history.specs.low.flow.Net.{count}
+use Rattle.tdf_history.specs.low.flow.Stands.{Crosses, Stands}
 use Rattle.tdf_history.specs.Instant.{same_period}
 use Rattle.tdf_history.specs.World.{Change, ClusterAt}
 use Rattle.tdf_run.proofs.Arriving.{done_none}
 use Rattle.tdf_run.proofs.Writing.{enough}
 use Rattle.tdf_run.specs.At.{HaveRead, IsAt}
 use Rattle.tdf_run.specs.Boundary.{BoundariesKeepAt, HasPassedBoundary, after_boundary}
-use Rattle.tdf_schedule.specs.Plan.{done}
-use Rattle.tdf_streams.specs.Cluster.{Start, cluster_net}
-use Rattle.tdf_streams.specs.Periods.{IsWholeRecord, PeriodRecord}
-use Rattle.tdf_streams.specs.Starts.{ArePast}
-use Rattle.tdf_tree.specs.Pure.{PureTree}
+use Rattle.tdf_history.specs.low.schedule.Plan.{done}
+use Rattle.tdf_history.specs.low.streams.Cluster.{Start, cluster_net}
+use Rattle.tdf_history.specs.low.streams.Periods.{IsWholeRecord, PeriodRecord}
+use Rattle.tdf_history.specs.low.streams.Starts.{ArePast}
+use Rattle.tdf_history.specs.low.tree.Pure.{PureTree}
 
 all_at : {X : Type 0} (P : X → Type 0) (xs : List X) (j : ℕ) (x : X) → All P xs → slice_get xs j ≡ Some x → P x
 all_at P xs j x all is = subst P (get_or_from_slice_get xs j x x is) (all j x (slice_get_within xs j x is))

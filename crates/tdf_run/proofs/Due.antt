@@ -5,14 +5,14 @@ use Rattle.std.proofs.lemmas.List.Sums.{sum_by-cons}
 use Rattle.std.proofs.lemmas.Option.{get_or_from_slice_get, slice_get_past, slice_get_within}
 use Rattle.std.specs.List.{count_by}
 use Rattle.std.specs.Prelude.{cond, slice_get}
-use Rattle.tdf_convert.specs.Sampled.{AreByOffset}
+use Rattle.tdf_exec.specs.low.convert.Sampled.{AreByOffset}
 use Rattle.tdf_exec.specs.Cluster.{due_from}
-use Rattle.tdf_flow.proofs.Api.{get_inside}
+use Rattle.tdf_history.proofs.Api.{get_inside}
 use Rattle.tdf_history.specs.Instant.{is_entry_due}
 use Rattle.tdf_history.specs.World.{ClusterAt}
 use Rattle.tdf_run.specs.Firings.{AreDueNext, IsNotLate}
 use Rattle.tdf_run.specs.Laws.{DueAreCounted}
-use Rattle.tdf_schedule.specs.declared.entry.Entry.{Entry}
+use Rattle.tdf_history.specs.low.schedule.declared.entry.Entry.{Entry}
 
 pub true_false : true ≡ false → ⊥
 true_false h = subst (λ b. elim b as (λ _. Type 0) [ true ↦ Unit {0} | false ↦ ⊥ ]) h tt

@@ -4,21 +4,21 @@ use Rattle.std.proofs.lemmas.Bool.{ne_eqb, eq-eqb}
 use Rattle.std.proofs.lemmas.List.{append_assoc}
 use Rattle.std.proofs.lemmas.Option.{slice_get_within}
 use Rattle.std.specs.Prelude.{slice_get}
-use Rattle.tdf_bind.specs.declared.actors.ActorRow.{ActorRow}
-use Rattle.tdf_bind.specs.Flat.{FlatOf}
-use Rattle.tdf_fixed.specs.declared.raw.Raw.{Raw}
-use Rattle.tdf_flat.specs.declared.model.Flat.{Flat}
-use Rattle.tdf_flow.proofs.Api.{some_same}
-use Rattle.tdf_graph.specs.declared.actors.Actor.{Actor}
-use Rattle.tdf_graph.specs.declared.actors.Actor.TheVariants as actor
+use Rattle.tdf_history.specs.low.bind.declared.actors.ActorRow.{ActorRow}
+use Rattle.tdf_history.specs.low.bind.Flat.{FlatOf}
+use Rattle.tdf_history.specs.low.fixed.declared.raw.Raw.{Raw}
+use Rattle.tdf_history.specs.low.flat.declared.model.Flat.{Flat}
+use Rattle.tdf_history.proofs.Api.{some_same}
+use Rattle.tdf_history.specs.low.graph.declared.actors.Actor.{Actor}
+use Rattle.tdf_history.specs.low.graph.declared.actors.Actor.TheVariants as actor
 use Rattle.tdf_history.specs.Instant.{RunFault, all_firings, fired, fired_as, firing, firing_of, is_entry_due, next_entry, plan_length}
 use Rattle.tdf_history.specs.World.{ClusterAt, Rules, SinkWrite, World}
-use Rattle.tdf_instants.proofs.Api.{turns_more, turns_none, turns_past}
-use Rattle.tdf_instants.specs.History.{Step, Going, Past, turns_to}
+use Rattle.tdf_history.proofs.Api.{turns_more, turns_none, turns_past}
+use Rattle.tdf_history.specs.low.instants.History.{Step, Going, Past, turns_to}
 use Rattle.tdf_run.specs.Firings.{AreDueNext, actor_at, after_firings, read_by, reads_after, settled_values, world_after, write_by, writes_after}
-use Rattle.tdf_schedule.specs.declared.entry.Entry.{Entry}
-use Rattle.tdf_streams.specs.Places.{actor_kind, kind_of_row}
-use Rattle.tdf_tree.specs.Pure.{PureTree}
+use Rattle.tdf_history.specs.low.schedule.declared.entry.Entry.{Entry}
+use Rattle.tdf_history.specs.low.streams.Places.{actor_kind, kind_of_row}
+use Rattle.tdf_history.specs.low.tree.Pure.{PureTree}
 
 pub get_set_same : {A : Type 0} (xs : List A) (i : ℕ) (x : A) → i < length xs → slice_get (set xs i x) i ≡ Some x
 get_set_same [] i x inside = absurd (omega (arith, inside))

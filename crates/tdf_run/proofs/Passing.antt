@@ -3,25 +3,25 @@ use Rattle.std.proofs.Common.{◌≡◌, ◌≢◌, ◌⊎◌, ◌∙◌, ℕ, z
 use Rattle.std.proofs.lemmas.Bool.{cases_lt, eq-eqb, eqb-true, ne_eqb}
 use Rattle.std.proofs.lemmas.List.{append_assoc, map-append}
 use Rattle.std.proofs.lemmas.Option.{slice_get_within}
-use Rattle.tdf_convert.specs.declared.outputs.Sent.{Sent}
+use Rattle.tdf_exec.specs.low.convert.declared.outputs.Sent.{Sent}
 use Rattle.tdf_exec.specs.Cluster.{ClusterOf, is_due, is_offset, next_offset, offset_in}
-use Rattle.tdf_expr.specs.Checked.{IsCheckedOf}
-use Rattle.tdf_flat.specs.Flat.{IsFlatOf}
-use Rattle.tdf_flat.specs.declared.model.Flat.{Flat}
-use Rattle.tdf_flow.proofs.Api.{get_inside, some_same}
+use Rattle.tdf_history.specs.low.expr.Checked.{IsCheckedOf}
+use Rattle.tdf_history.specs.low.flat.Flat.{IsFlatOf}
+use Rattle.tdf_history.specs.low.flat.declared.model.Flat.{Flat}
+use Rattle.tdf_history.proofs.Api.{get_inside, some_same}
 use Rattle.tdf_history.specs.Instant.{RunFault, all_firings, is_entry_due, next_entry}
 use Rattle.tdf_history.specs.World.{ClusterAt, Rules, SinkWrite, World}
-use Rattle.tdf_instants.proofs.Api.{turns_more, turns_none, turns_past}
-use Rattle.tdf_instants.specs.History.{Step, Going, Past, turns_to}
-use Rattle.tdf_limits.specs.Limits.{AreWithinLimits}
+use Rattle.tdf_history.proofs.Api.{turns_more, turns_none, turns_past}
+use Rattle.tdf_history.specs.low.instants.History.{Step, Going, Past, turns_to}
+use Rattle.tdf_history.specs.low.limits.Limits.{AreWithinLimits}
 use Rattle.tdf_run.proofs.Along.{goes_along, is_spent}
 use Rattle.tdf_run.proofs.Due.{true_false}
 use Rattle.tdf_run.proofs.Firings.{get_set_same, none_fire, parts_same, set_own}
 use Rattle.tdf_run.specs.At.{AreSettled, IsAt}
 use Rattle.tdf_run.specs.Firings.{settled_values, world_after, write_of}
 use Rattle.tdf_run.specs.Pass.{AreAt, AreReady, HasDone, HasEnded, HasIdled, HasPassedAll, HasPassedPart, HasPassedTo, HasTurn, HavePassed, IsTurnOf, PassAt, PassEndsSpent, PassGoesAlong, PassIsSpent, PassesAlong, RunOf, TurnAt, world_with}
-use Rattle.tdf_schedule.specs.declared.entry.Entry.{Entry}
-use Rattle.tdf_tree.specs.Pure.{PureTree}
+use Rattle.tdf_history.specs.low.schedule.declared.entry.Entry.{Entry}
+use Rattle.tdf_history.specs.low.tree.Pure.{PureTree}
 
 pub same_or_not : (m n : ℕ) → (m ≡ n) ⊎ (m ≢ n)
 same_or_not m n = elim (cases_lt m n) [

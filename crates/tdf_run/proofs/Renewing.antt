@@ -2,21 +2,21 @@
 use Rattle.std.proofs.Common.{◌≡◌, ◌∙◌, ℕ, true, List, length, nat_eq, sym, ap, subst}
 use Rattle.std.specs.List.{count_by}
 use Rattle.std.specs.Prelude.{slice_index}
-use Rattle.tdf_changes.specs.Change.{Asks}
-use Rattle.tdf_dynamic.specs.Attributes.{AttrsOf}
-use Rattle.tdf_dynamic.specs.Faults.{IsTablePlan}
-use Rattle.tdf_dynamic.specs.Rates.{net_of}
-use Rattle.tdf_flat.specs.declared.model.Flat.{Flat}
+use Rattle.tdf_history.specs.low.changes.Change.{Asks}
+use Rattle.tdf_history.specs.low.dynamic.Attributes.{AttrsOf}
+use Rattle.tdf_history.specs.low.dynamic.Faults.{IsTablePlan}
+use Rattle.tdf_history.specs.low.dynamic.Rates.{net_of}
+use Rattle.tdf_history.specs.low.flat.declared.model.Flat.{Flat}
 use Rattle.tdf_history.specs.Answers.{IsNewPeriod}
 use Rattle.tdf_history.specs.Start.{counts_in}
 use Rattle.tdf_run.proofs.Beginning.{counted_in, plan_counts}
 use Rattle.tdf_run.proofs.Writing.{done_all}
 use Rattle.tdf_run.specs.Boundary.{IsNewRecord, NewPeriodsAreWhole}
-use Rattle.tdf_schedule.specs.Plan.{done}
-use Rattle.tdf_schedule.specs.declared.entry.Entry.{Entry}
-use Rattle.tdf_streams.proofs.Api.{table_record}
-use Rattle.tdf_streams.specs.Laws.{HasRecord}
-use Rattle.tdf_streams.specs.Periods.{AreAttributes, IsWholeRecord, period_record}
+use Rattle.tdf_history.specs.low.schedule.Plan.{done}
+use Rattle.tdf_history.specs.low.schedule.declared.entry.Entry.{Entry}
+use Rattle.tdf_history.proofs.Api.{table_record}
+use Rattle.tdf_history.specs.low.streams.Laws.{HasRecord}
+use Rattle.tdf_history.specs.low.streams.Periods.{AreAttributes, IsWholeRecord, period_record}
 
 module _ (flat : Flat) (number : ℕ) (asks : Asks) (table new : List AttrsOf) (counts : List ℕ) (period : ℕ) (entries : List Entry) (bounds : List ℕ) (attributes : AreAttributes flat number new)
     (is : IsNewPeriod flat.tables number asks table new counts period entries bounds) where

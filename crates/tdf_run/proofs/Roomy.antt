@@ -1,13 +1,13 @@
 -- How much a pass gives: room for all of it is room for each turn of it.
 use Rattle.std.proofs.Common.{◌≡◌, ◌∙◌, ℕ, zero, suc, ◌+◌, ◌-◌, ◌≤◌, Bool, true, List, [], ◌∷◌, Option, Some, length, drop, if◌then◌else◌, slice_get, refl, sym, ap, subst, arith}
-use Rattle.tdf_convert.specs.Outputs.{OutputsOf}
-use Rattle.tdf_convert.specs.declared.outputs.Sent.{Sent}
+use Rattle.tdf_exec.specs.low.convert.Outputs.{OutputsOf}
+use Rattle.tdf_exec.specs.low.convert.declared.outputs.Sent.{Sent}
 use Rattle.tdf_exec.proofs.Api.{gained_room, sent_total, traced_total}
 use Rattle.tdf_exec.specs.Cluster.{ClusterOf, is_due}
 use Rattle.tdf_exec.specs.Gained.{HaveRoom, sent_size, size_due, traced_size}
 use Rattle.tdf_exec.specs.declared.runners.Runner.{Runner}
-use Rattle.tdf_flat.specs.declared.model.Flat.{Flat}
-use Rattle.tdf_flow.proofs.Api.{some_same}
+use Rattle.tdf_history.specs.low.flat.declared.model.Flat.{Flat}
+use Rattle.tdf_history.proofs.Api.{some_same}
 use Rattle.tdf_run.proofs.Passing.{later}
 use Rattle.tdf_run.specs.Pass.{HasPassedAll, HasTurn, HaveRoomForAll, HavePassed, PassAt, RunOf, pass_size, turn_size}
 

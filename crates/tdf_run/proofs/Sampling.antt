@@ -4,20 +4,20 @@ use Rattle.std.proofs.lemmas.Bool.{cases_eq, cases_lt, eq-eqb, ne_eqb}
 use Rattle.std.proofs.lemmas.List.{append_assoc, get_or-set_other, get_or-set_same, get_or_past, length-set, replicate_more}
 use Rattle.std.proofs.lemmas.Option.{slice_get_within}
 use Rattle.std.specs.Prelude.{slice_get, slice_index_or}
-use Rattle.tdf_bind.specs.Flat.{FlatOf}
+use Rattle.tdf_history.specs.low.bind.Flat.{FlatOf}
 use Rattle.tdf_exec.specs.Played.{turns_from}
-use Rattle.tdf_fixed.specs.declared.raw.Raw.{Raw}
-use Rattle.tdf_flow.proofs.Api.{get_inside, get_low, none_some}
-use Rattle.tdf_flow.specs.Stands.{KeepsReads}
-use Rattle.tdf_graph.specs.declared.actors.Actor.{Actor}
-use Rattle.tdf_graph.specs.declared.actors.Actor.TheVariants as actor
+use Rattle.tdf_history.specs.low.fixed.declared.raw.Raw.{Raw}
+use Rattle.tdf_history.proofs.Api.{get_inside, get_low, none_some}
+use Rattle.tdf_history.specs.low.flow.Stands.{KeepsReads}
+use Rattle.tdf_history.specs.low.graph.declared.actors.Actor.{Actor}
+use Rattle.tdf_history.specs.low.graph.declared.actors.Actor.TheVariants as actor
 use Rattle.tdf_history.specs.Instant.{actor_of_entry}
 use Rattle.tdf_history.specs.World.{ClusterAt}
 use Rattle.tdf_run.specs.Firings.{actor_at, read_by, reads_after, value_for}
-use Rattle.tdf_schedule.specs.Plan.{done}
-use Rattle.tdf_schedule.specs.declared.entry.Entry.{Entry}
-use Rattle.tdf_streams.proofs.Api.{done_next}
-use Rattle.tdf_streams.specs.Places.{actor_kind}
+use Rattle.tdf_history.specs.low.schedule.Plan.{done}
+use Rattle.tdf_history.specs.low.schedule.declared.entry.Entry.{Entry}
+use Rattle.tdf_history.proofs.Api.{done_next}
+use Rattle.tdf_history.specs.low.streams.Places.{actor_kind}
 
 -- the firings done in a plan, from a place on
 module _ (entries : List Entry) (m : ℕ) where

@@ -5,39 +5,39 @@ use Rattle.std.proofs.lemmas.List.Sums.{sum_by-cons, sum_by-set}
 use Rattle.std.proofs.lemmas.List.{append_assoc, get_or-set_other, get_or-set_same, get_or_past, length-append, length-replicate, map-append}
 use Rattle.std.specs.List.{All, count_by, flat_map, sum_by}
 use Rattle.std.specs.Prelude.{cond, slice_get, slice_index, slice_index_or, sum, unwrap_or, ℤ}
-use Rattle.tdf_bind.specs.Flat.{FlatOf}
-use Rattle.tdf_convert.specs.declared.outputs.Sent.{Sent}
-use Rattle.tdf_convert.specs.declared.outputs.Traced.{Traced}
-use Rattle.tdf_dynamic.specs.Attributes.{clusters_of}
+use Rattle.tdf_history.specs.low.bind.Flat.{FlatOf}
+use Rattle.tdf_exec.specs.low.convert.declared.outputs.Sent.{Sent}
+use Rattle.tdf_exec.specs.low.convert.declared.outputs.Traced.{Traced}
+use Rattle.tdf_history.specs.low.dynamic.Attributes.{clusters_of}
 use Rattle.tdf_exec.specs.Gained.{GiveAll, sent_by, sent_sample}
 use Rattle.tdf_exec.specs.Made.{IsActorOf}
 use Rattle.tdf_exec.specs.Played.{turns_from}
-use Rattle.tdf_fixed.specs.declared.raw.Raw.{Raw}
-use Rattle.tdf_flat.specs.declared.model.Flat.{Flat}
-use Rattle.tdf_flow.proofs.Api.{get_inside, known_more, place_kept, reads_keep, none_some, some_same, step_keeps}
-use Rattle.tdf_flow.specs.Firing.{IsNextTurn, fronts, given, processed}
-use Rattle.tdf_flow.specs.Grounds.{firings}
-use Rattle.tdf_flow.specs.Net.{Net, Period, Turn, count, taken}
-use Rattle.tdf_flow.specs.Playing.{IsStep}
-use Rattle.tdf_flow.specs.Stands.{KeepsReads, Less, Play, Stands, run_of}
-use Rattle.tdf_flow.specs.Streams.{known, place}
-use Rattle.tdf_graph.specs.declared.actors.Actor.{Actor}
-use Rattle.tdf_graph.specs.declared.actors.Actor.TheVariants as actor
+use Rattle.tdf_history.specs.low.fixed.declared.raw.Raw.{Raw}
+use Rattle.tdf_history.specs.low.flat.declared.model.Flat.{Flat}
+use Rattle.tdf_history.proofs.Api.{get_inside, known_more, place_kept, reads_keep, none_some, some_same, step_keeps}
+use Rattle.tdf_history.specs.low.flow.Firing.{IsNextTurn, fronts, given, processed}
+use Rattle.tdf_history.specs.low.flow.Grounds.{firings}
+use Rattle.tdf_history.specs.low.flow.Net.{Net, Period, Turn, count, taken}
+use Rattle.tdf_history.specs.low.flow.Playing.{IsStep}
+use Rattle.tdf_history.specs.low.flow.Stands.{KeepsReads, Less, Play, Stands, run_of}
+use Rattle.tdf_history.specs.low.flow.Streams.{known, place}
+use Rattle.tdf_history.specs.low.graph.declared.actors.Actor.{Actor}
+use Rattle.tdf_history.specs.low.graph.declared.actors.Actor.TheVariants as actor
 use Rattle.tdf_history.specs.Instant.{activations, actor_of_entry, edge_from, sample_taken, signal_of}
 use Rattle.tdf_history.specs.World.{ClusterAt, SinkWrite}
-use Rattle.tdf_layout.specs.Wiring.{IsEdgeOf}
+use Rattle.tdf_exec.specs.low.layout.Wiring.{IsEdgeOf}
 use Rattle.tdf_run.proofs.Due.{true_false}
 use Rattle.tdf_run.proofs.Sampling.{done_up, read_kept, sampler_reads}
 use Rattle.tdf_run.proofs.Arriving.{kind_inside}
 use Rattle.tdf_run.specs.At.{HaveRead, HaveTakenOne}
 use Rattle.tdf_run.specs.Firings.{actor_at, after_firings, reads_after, value_for, write_by, write_of, writes_after}
-use Rattle.tdf_schedule.specs.Plan.{done}
-use Rattle.tdf_schedule.specs.declared.entry.Entry.{Entry}
-use Rattle.tdf_streams.proofs.Api.{done_next}
-use Rattle.tdf_streams.specs.Cluster.{cluster_net, is_outside, is_sampler_kind, zero_sample}
-use Rattle.tdf_streams.specs.Places.{actor_kind, reader_at}
-use Rattle.tdf_streams.specs.Periods.{PeriodInfo, PeriodRecord}
-use Rattle.tdf_tree.specs.Pure.{PureTree}
+use Rattle.tdf_history.specs.low.schedule.Plan.{done}
+use Rattle.tdf_history.specs.low.schedule.declared.entry.Entry.{Entry}
+use Rattle.tdf_history.proofs.Api.{done_next}
+use Rattle.tdf_history.specs.low.streams.Cluster.{cluster_net, is_outside, is_sampler_kind, zero_sample}
+use Rattle.tdf_history.specs.low.streams.Places.{actor_kind, reader_at}
+use Rattle.tdf_history.specs.low.streams.Periods.{PeriodInfo, PeriodRecord}
+use Rattle.tdf_history.specs.low.tree.Pure.{PureTree}
 
 -- a period has as many activations as its plan has entries
 pub many : (es : List Entry) (xs : List ℕ) → ((m : ℕ) → count_by (λ (x : Entry). nat_eq x.actor m) es ≤ slice_index xs m) → length es ≤ sum xs

@@ -4,15 +4,15 @@ use Rattle.std.proofs.lemmas.List.{length-map}
 use Rattle.std.proofs.lemmas.List.FromFn.{length-enumerate_from}
 use Rattle.std.specs.List.{enumerate_from}
 use Rattle.std.specs.Prelude.{slice_get}
-use Rattle.tdf_dynamic.specs.declared.first.First.{First}
-use Rattle.tdf_flat.specs.declared.model.Flat.{Flat}
-use Rattle.tdf_flow.proofs.Api.{none_some, some_same}
+use Rattle.tdf_history.specs.low.dynamic.declared.first.First.{First}
+use Rattle.tdf_history.specs.low.flat.declared.model.Flat.{Flat}
+use Rattle.tdf_history.proofs.Api.{none_some, some_same}
 use Rattle.tdf_history.specs.Start.{first_cluster}
 use Rattle.tdf_history.specs.World.{ClusterAt}
 use Rattle.tdf_run.proofs.Beginning.{start_at}
 use Rattle.tdf_run.specs.At.{IsAt}
 use Rattle.tdf_run.specs.Begun.{AllStartsAreAt}
-use Rattle.tdf_tree.specs.Pure.{PureTree}
+use Rattle.tdf_history.specs.low.tree.Pure.{PureTree}
 
 -- cluster n of the history's start is that of first n
 first_at : (model : PureTree) (flat : Flat) (k : ℕ) (firsts : List First) (n : ℕ) (h : ClusterAt) → slice_get (map (λ (first : ℕ × First). first_cluster model flat (first.0 + 1) first.1 []) (enumerate_from k firsts)) n ≡ Some h

@@ -3,26 +3,26 @@ use Rattle.std.proofs.Common.{◌≡◌, ◌∙◌, ℕ, ◌<◌, List, [], ◌�
 use Rattle.std.proofs.lemmas.Option.{get_or_from_slice_get, slice_get_within}
 use Rattle.std.specs.List.{All}
 use Rattle.std.specs.Prelude.{slice_get, slice_index}
-use Rattle.tdf_dynamic.specs.Attributes.{AttrsOf}
-use Rattle.tdf_dynamic.specs.Rates.{net_of}
-use Rattle.tdf_flat.specs.Flat.{IsFlatOf}
-use Rattle.tdf_flat.specs.declared.model.Flat.{Flat}
-use Rattle.tdf_flow.proofs.Api.{get_inside, get_low}
-use Rattle.tdf_graph.specs.declared.actors.Actor.TheVariants as actor
+use Rattle.tdf_history.specs.low.dynamic.Attributes.{AttrsOf}
+use Rattle.tdf_history.specs.low.dynamic.Rates.{net_of}
+use Rattle.tdf_history.specs.low.flat.Flat.{IsFlatOf}
+use Rattle.tdf_history.specs.low.flat.declared.model.Flat.{Flat}
+use Rattle.tdf_history.proofs.Api.{get_inside, get_low}
+use Rattle.tdf_history.specs.low.graph.declared.actors.Actor.TheVariants as actor
 use Rattle.tdf_history.specs.World.{ClusterAt}
-use Rattle.tdf_layout.proofs.Api.{edge_row, module_kind, sink_rates}
-use Rattle.tdf_layout.specs.Edges.{IsEdgeRow}
-use Rattle.tdf_layout.specs.Wiring.{Reads}
-use Rattle.tdf_limits.specs.Limits.{AreWithinLimits}
+use Rattle.tdf_exec.proofs.Api.{edge_row, module_kind, sink_rates}
+use Rattle.tdf_exec.specs.low.layout.Edges.{IsEdgeRow}
+use Rattle.tdf_exec.specs.low.layout.Wiring.{Reads}
+use Rattle.tdf_history.specs.low.limits.Limits.{AreWithinLimits}
 use Rattle.tdf_run.proofs.Due.{true_false}
 use Rattle.tdf_run.proofs.Writing.{is_sink}
 use Rattle.tdf_run.specs.At.{HaveTakenOne}
 use Rattle.tdf_run.specs.Laws.{SinksHaveTakenOne}
-use Rattle.tdf_streams.specs.Periods.{IsWholeRecord, PeriodRecord, read_rates}
-use Rattle.tdf_streams.specs.Places.{actor_kind, reader_of_row}
-use Rattle.tdf_tree.specs.Pure.{PureTree}
-use Rattle.tdf_wiring.specs.declared.edges.EdgeRow.{EdgeRow}
-use Rattle.tdf_wiring.specs.declared.modules.PortRow.{PortRow}
+use Rattle.tdf_history.specs.low.streams.Periods.{IsWholeRecord, PeriodRecord, read_rates}
+use Rattle.tdf_history.specs.low.streams.Places.{actor_kind, reader_of_row}
+use Rattle.tdf_history.specs.low.tree.Pure.{PureTree}
+use Rattle.tdf_history.specs.low.wiring.declared.edges.EdgeRow.{EdgeRow}
+use Rattle.tdf_history.specs.low.wiring.declared.modules.PortRow.{PortRow}
 
 all_at : {X : Type 0} (P : X → Type 0) (xs : List X) (j : ℕ) (x : X) → All P xs → slice_get xs j ≡ Some x → P x
 all_at P xs j x all is = subst P (get_or_from_slice_get xs j x x is) (all j x (slice_get_within xs j x is))

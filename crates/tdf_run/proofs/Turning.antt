@@ -1,15 +1,15 @@
 -- One turn of a pass, by what a cluster did in it.
 use Rattle.std.proofs.Common.{◌≡◌, ◌∙◌, ℕ, suc, ◌+◌, ◌-◌, ◌<◌, ◌≤◌, Bool, true, false, List, [], ◌++◌, Some, length, slice_get, slice_index_or, slice_set, refl, sym, ap, subst, arith, add-one}
 use Rattle.std.proofs.lemmas.Option.{slice_get-get_or, slice_get_within}
-use Rattle.tdf_convert.specs.Outputs.{OutputsOf}
-use Rattle.tdf_convert.specs.declared.outputs.Sent.{Sent}
+use Rattle.tdf_exec.specs.low.convert.Outputs.{OutputsOf}
+use Rattle.tdf_exec.specs.low.convert.declared.outputs.Sent.{Sent}
 use Rattle.tdf_exec.specs.Cluster.{ClusterOf, is_due}
 use Rattle.tdf_exec.specs.Gained.{HaveRoom}
 use Rattle.tdf_exec.specs.Made.{IsClusterOf}
 use Rattle.tdf_exec.specs.Played.{AreInputsFor}
-use Rattle.tdf_fixed.specs.declared.raw.Raw.{Raw}
-use Rattle.tdf_flat.specs.declared.model.Flat.{Flat}
-use Rattle.tdf_flow.proofs.Api.{get_inside}
+use Rattle.tdf_history.specs.low.fixed.declared.raw.Raw.{Raw}
+use Rattle.tdf_history.specs.low.flat.declared.model.Flat.{Flat}
+use Rattle.tdf_history.proofs.Api.{get_inside}
 use Rattle.tdf_run.proofs.Due.{true_false}
 use Rattle.tdf_run.proofs.Passing.{later}
 use Rattle.tdf_run.proofs.Roomy.{room_at}

@@ -5,35 +5,35 @@ use Rattle.std.proofs.lemmas.List.Sums.{sum_by-append, sum_by-cons}
 use Rattle.std.proofs.lemmas.Option.{get_or_from_slice_get}
 use Rattle.std.specs.List.{count_by, range_with_len, sum_by}
 use Rattle.std.specs.Prelude.{slice_get, slice_index, slice_index_or, sum}
-use Rattle.tdf_convert.specs.Outputs.{OutputsOf}
-use Rattle.tdf_convert.specs.Sampled.{AreByOffset}
+use Rattle.tdf_exec.specs.low.convert.Outputs.{OutputsOf}
+use Rattle.tdf_exec.specs.low.convert.Sampled.{AreByOffset}
 use Rattle.tdf_exec.specs.Cluster.{ClusterOf, due_from}
 use Rattle.tdf_exec.specs.Gained.{GiveAll, HasGained}
 use Rattle.tdf_exec.specs.Made.{IsActorOf, IsRunnerOf}
 use Rattle.tdf_exec.specs.Played.{AreDone, actors_between, play_of, turns_from}
 use Rattle.tdf_exec.specs.declared.runners.Runner.{Runner}
 use Rattle.tdf_exec.specs.declared.runners.Runner.TheVariants as runner
-use Rattle.tdf_expr.specs.Checked.{IsCheckedOf}
-use Rattle.tdf_fixed.specs.declared.raw.Raw.{Raw}
-use Rattle.tdf_flat.specs.declared.model.Flat.{Flat}
-use Rattle.tdf_flow.proofs.Api.{get_inside, get_made_at}
-use Rattle.tdf_flow.specs.Grounds.{firings}
-use Rattle.tdf_flow.specs.Stands.{Stands}
-use Rattle.tdf_graph.specs.declared.actors.Actor.{Actor}
-use Rattle.tdf_graph.specs.declared.actors.Actor.TheVariants as actor
+use Rattle.tdf_history.specs.low.expr.Checked.{IsCheckedOf}
+use Rattle.tdf_history.specs.low.fixed.declared.raw.Raw.{Raw}
+use Rattle.tdf_history.specs.low.flat.declared.model.Flat.{Flat}
+use Rattle.tdf_history.proofs.Api.{get_inside, get_made_at}
+use Rattle.tdf_history.specs.low.flow.Grounds.{firings}
+use Rattle.tdf_history.specs.low.flow.Stands.{Stands}
+use Rattle.tdf_history.specs.low.graph.declared.actors.Actor.{Actor}
+use Rattle.tdf_history.specs.low.graph.declared.actors.Actor.TheVariants as actor
 use Rattle.tdf_history.specs.World.{ClusterAt}
-use Rattle.tdf_layout.specs.Wiring.{IsEdgeOf}
+use Rattle.tdf_exec.specs.low.layout.Wiring.{IsEdgeOf}
 use Rattle.tdf_run.proofs.Arriving.{all_given, done_none, in_plan, kind_inside, not_late, place_d}
 use Rattle.tdf_run.proofs.Due.{due_counted, true_false}
 use Rattle.tdf_run.proofs.Sinking.{many, walk}
 use Rattle.tdf_run.specs.At.{AreSettled, HaveTakenOne, IsAt}
 use Rattle.tdf_run.specs.Firings.{AreDueNext, IsNotLate, reads_after, write_of, writes_after}
 use Rattle.tdf_run.specs.Laws.{SinksWrite}
-use Rattle.tdf_schedule.specs.Plan.{done}
-use Rattle.tdf_schedule.specs.declared.entry.Entry.{Entry}
-use Rattle.tdf_streams.specs.Cluster.{cluster_net}
-use Rattle.tdf_streams.specs.Periods.{PeriodRecord}
-use Rattle.tdf_tree.specs.Pure.{PureTree}
+use Rattle.tdf_history.specs.low.schedule.Plan.{done}
+use Rattle.tdf_history.specs.low.schedule.declared.entry.Entry.{Entry}
+use Rattle.tdf_history.specs.low.streams.Cluster.{cluster_net}
+use Rattle.tdf_history.specs.low.streams.Periods.{PeriodRecord}
+use Rattle.tdf_history.specs.low.tree.Pure.{PureTree}
 
 unfoldable pub is_sink : Option Actor → Bool
 is_sink None = false

@@ -2,26 +2,26 @@
 -- Source: own.
 use Rattle.std.specs.Prelude.{◌≡◌, ◌≤◌, ◌+◌, ℕ, false, List, [], All, length, Some}
 use Rattle.std.specs.Prelude.{slice_get, slice_index, slice_index_or}
-use Rattle.tdf_bind.specs.Flat.{FlatOf}
+use Rattle.tdf_history.specs.low.bind.Flat.{FlatOf}
 use Rattle.tdf_exec.specs.Cluster.{ClusterOf}
 use Rattle.tdf_exec.specs.Made.{IsActorOf, IsClusterOf}
 use Rattle.tdf_exec.specs.Played.{IsPeriodOf, play_of}
 use Rattle.tdf_exec.specs.Runners.{SamplerOf}
 use Rattle.tdf_exec.specs.declared.runners.Runner.TheVariants as runner
-use Rattle.tdf_fixed.specs.declared.raw.Raw.{Raw}
-use Rattle.tdf_flat.specs.declared.model.Flat.{Flat}
-use Rattle.tdf_flow.specs.Grounds.{firings}
-use Rattle.tdf_flow.specs.Stands.{Stands}
-use Rattle.tdf_graph.specs.declared.actors.Actor.TheVariants as actor
+use Rattle.tdf_history.specs.low.fixed.declared.raw.Raw.{Raw}
+use Rattle.tdf_history.specs.low.flat.declared.model.Flat.{Flat}
+use Rattle.tdf_history.specs.low.flow.Grounds.{firings}
+use Rattle.tdf_history.specs.low.flow.Stands.{Stands}
+use Rattle.tdf_history.specs.low.graph.declared.actors.Actor.TheVariants as actor
 use Rattle.tdf_history.specs.Instant.{activations, periods_of, run_in}
 use Rattle.tdf_history.specs.World.{ClusterAt}
-use Rattle.tdf_layout.specs.Wiring.{Reads}
+use Rattle.tdf_exec.specs.low.layout.Wiring.{Reads}
 use Rattle.tdf_run.specs.Firings.{value_for}
-use Rattle.tdf_schedule.specs.declared.entry.Entry.{Entry}
-use Rattle.tdf_streams.specs.Cluster.{cluster_net}
-use Rattle.tdf_streams.specs.Periods.{IsWholeRecord, PeriodRecord}
-use Rattle.tdf_streams.specs.Starts.{ArePast}
-use Rattle.tdf_tree.specs.Pure.{PureTree}
+use Rattle.tdf_history.specs.low.schedule.declared.entry.Entry.{Entry}
+use Rattle.tdf_history.specs.low.streams.Cluster.{cluster_net}
+use Rattle.tdf_history.specs.low.streams.Periods.{IsWholeRecord, PeriodRecord}
+use Rattle.tdf_history.specs.low.streams.Starts.{ArePast}
+use Rattle.tdf_history.specs.low.tree.Pure.{PureTree}
 
 -- each actor has its list of reads, and a sampler of the cluster has read once an activation
 pub record HaveRead (tables : FlatOf) (number : ℕ) (h : ClusterAt) : Type 0 where

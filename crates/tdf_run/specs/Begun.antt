@@ -1,19 +1,19 @@
 -- A cluster in progress at its start is what the history says of it at its start.
 -- Source: own.
 use Rattle.std.specs.Prelude.{◌≡◌, ℕ, ◌+◌, List, [], Some, length, replicate, slice_get}
-use Rattle.tdf_dynamic.specs.First.{IsFirstPlan}
-use Rattle.tdf_dynamic.specs.declared.first.First.{First}
+use Rattle.tdf_history.specs.low.dynamic.First.{IsFirstPlan}
+use Rattle.tdf_history.specs.low.dynamic.declared.first.First.{First}
 use Rattle.tdf_exec.specs.Cluster.{ClusterOf}
 use Rattle.tdf_exec.specs.Made.{IsClusterOf}
 use Rattle.tdf_exec.specs.Starts.{IsAtStart, StandsAtStart}
-use Rattle.tdf_expr.specs.Checked.{IsCheckedOf}
-use Rattle.tdf_flat.specs.Flat.{IsFlatOf}
-use Rattle.tdf_flat.specs.declared.model.Flat.{Flat}
+use Rattle.tdf_history.specs.low.expr.Checked.{IsCheckedOf}
+use Rattle.tdf_history.specs.low.flat.Flat.{IsFlatOf}
+use Rattle.tdf_history.specs.low.flat.declared.model.Flat.{Flat}
 use Rattle.tdf_history.specs.Start.{first_cluster, first_clusters}
-use Rattle.tdf_limits.specs.Limits.{AreWithinLimits}
+use Rattle.tdf_history.specs.low.limits.Limits.{AreWithinLimits}
 use Rattle.tdf_run.specs.At.{IsAt}
 use Rattle.tdf_run.specs.Pass.{AreAt}
-use Rattle.tdf_tree.specs.Pure.{PureTree}
+use Rattle.tdf_history.specs.low.tree.Pure.{PureTree}
 
 -- the cluster was made for its first attributes and plan, which are those of the text
 pub record HasBegun (flat : Flat) (number : ℕ) (first : First) (c : ClusterOf) : Type 0 where

@@ -2,21 +2,21 @@
 -- record of a new period.
 -- Source: own.
 use Rattle.std.specs.Prelude.{◌≡◌, ℕ, List, None, false, true, length, slice_index}
-use Rattle.tdf_changes.specs.Change.{Asks}
-use Rattle.tdf_dynamic.specs.Attributes.{AttrsOf}
+use Rattle.tdf_history.specs.low.changes.Change.{Asks}
+use Rattle.tdf_history.specs.low.dynamic.Attributes.{AttrsOf}
 use Rattle.tdf_exec.specs.Cluster.{ClusterOf, next_offset}
 use Rattle.tdf_exec.specs.Crossing.{CrossesFrom, StandsAtNext, at_place}
 use Rattle.tdf_exec.specs.Made.{IsClusterOf}
-use Rattle.tdf_expr.specs.Checked.{IsCheckedOf}
-use Rattle.tdf_flat.specs.declared.model.Flat.{Flat}
+use Rattle.tdf_history.specs.low.expr.Checked.{IsCheckedOf}
+use Rattle.tdf_history.specs.low.flat.declared.model.Flat.{Flat}
 use Rattle.tdf_history.specs.Answers.{IsNewPeriod}
 use Rattle.tdf_history.specs.Instant.{with_same}
 use Rattle.tdf_history.specs.World.{ClusterAt}
 use Rattle.tdf_run.specs.At.{IsAt}
-use Rattle.tdf_schedule.specs.Plan.{done}
-use Rattle.tdf_schedule.specs.declared.entry.Entry.{Entry}
-use Rattle.tdf_streams.specs.Periods.{AreAttributes, IsWholeRecord, period_record}
-use Rattle.tdf_tree.specs.Pure.{PureTree}
+use Rattle.tdf_history.specs.low.schedule.Plan.{done}
+use Rattle.tdf_history.specs.low.schedule.declared.entry.Entry.{Entry}
+use Rattle.tdf_history.specs.low.streams.Periods.{AreAttributes, IsWholeRecord, period_record}
+use Rattle.tdf_history.specs.low.tree.Pure.{PureTree}
 
 -- the period of a cluster is done, it crosses from it, and begins the next with the same plan
 pub record HasPassedBoundary (flat : Flat) (c crossed d : ClusterOf) : Type 0 where

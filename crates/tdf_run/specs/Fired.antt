@@ -1,13 +1,13 @@
 -- The entries of an offset are done within the turns that are left.
 -- Source: own.
 use Rattle.std.specs.Prelude.{◌≡◌, ◌≤◌, ◌<◌, ◌-◌, ℕ, List}
-use Rattle.tdf_convert.specs.Outputs.{OutputsOf}
+use Rattle.tdf_exec.specs.low.convert.Outputs.{OutputsOf}
 use Rattle.tdf_exec.specs.Cluster.{ClusterOf, due_count}
 use Rattle.tdf_exec.specs.Gained.{HasGained}
 use Rattle.tdf_exec.specs.Made.{IsClusterOf}
 use Rattle.tdf_exec.specs.Played.{AreDone, KeepsStanding}
-use Rattle.tdf_fixed.specs.declared.raw.Raw.{Raw}
-use Rattle.tdf_flat.specs.declared.model.Flat.{Flat}
+use Rattle.tdf_history.specs.low.fixed.declared.raw.Raw.{Raw}
+use Rattle.tdf_history.specs.low.flat.declared.model.Flat.{Flat}
 
 -- each entry of the offset took a turn, and a cluster did these entries
 pub record HasFired (flat : Flat) (offset : ℕ) (inputs : List Raw) (c d : ClusterOf)

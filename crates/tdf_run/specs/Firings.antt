@@ -3,18 +3,18 @@
 -- Source: own.
 use Rattle.std.specs.Prelude.{◌≡◌, ◌≤◌, ◌<◌, ℕ, zero, suc, ◌+◌, ◌-◌, true, false, List, [], ◌∷◌}
 use Rattle.std.specs.Prelude.{◌++◌, Option, Some, None, length, slice_get, slice_index_or, slice_set}
-use Rattle.tdf_bind.specs.Flat.{FlatOf}
-use Rattle.tdf_convert.specs.declared.outputs.Sent.{Sent}
-use Rattle.tdf_fixed.specs.declared.raw.Raw.{Raw}
-use Rattle.tdf_flat.specs.declared.model.Flat.{Flat}
-use Rattle.tdf_graph.specs.declared.actors.Actor.{Actor}
-use Rattle.tdf_graph.specs.declared.actors.Actor.TheVariants as actor
+use Rattle.tdf_history.specs.low.bind.Flat.{FlatOf}
+use Rattle.tdf_exec.specs.low.convert.declared.outputs.Sent.{Sent}
+use Rattle.tdf_history.specs.low.fixed.declared.raw.Raw.{Raw}
+use Rattle.tdf_history.specs.low.flat.declared.model.Flat.{Flat}
+use Rattle.tdf_history.specs.low.graph.declared.actors.Actor.{Actor}
+use Rattle.tdf_history.specs.low.graph.declared.actors.Actor.TheVariants as actor
 use Rattle.tdf_history.specs.Instant.{actor_of_entry, is_entry_due, sample_taken, signal_of}
 use Rattle.tdf_history.specs.World.{ClusterAt, Rules, SinkWrite, World}
-use Rattle.tdf_schedule.specs.declared.entry.Entry.{Entry}
-use Rattle.tdf_streams.specs.Cluster.{zero_sample}
-use Rattle.tdf_streams.specs.Places.{actor_kind}
-use Rattle.tdf_tree.specs.Pure.{PureTree}
+use Rattle.tdf_history.specs.low.schedule.declared.entry.Entry.{Entry}
+use Rattle.tdf_history.specs.low.streams.Cluster.{zero_sample}
+use Rattle.tdf_history.specs.low.streams.Places.{actor_kind}
+use Rattle.tdf_history.specs.low.tree.Pure.{PureTree}
 
 -- the next k entries of a cluster are due at a time, and the one after them isn't
 pub record AreDueNext (time k : ℕ) (h : ClusterAt) : Type 0 where

@@ -3,28 +3,28 @@
 -- Source: own.
 use Rattle.std.specs.Prelude.{◌≡◌, ◌≤◌, ◌<◌, ℕ, ◌+◌, ◌-◌, false, List, [], ◌++◌, Some, length}
 use Rattle.std.specs.Prelude.{map, replicate, slice_get, slice_index_or, slice_set}
-use Rattle.tdf_convert.specs.Sampled.{AreByOffset}
+use Rattle.tdf_exec.specs.low.convert.Sampled.{AreByOffset}
 use Rattle.tdf_exec.specs.Cluster.{ClusterOf, due_count, due_from, next_offset}
-use Rattle.tdf_convert.specs.Outputs.{OutputsOf}
-use Rattle.tdf_convert.specs.declared.outputs.Sent.{Sent}
+use Rattle.tdf_exec.specs.low.convert.Outputs.{OutputsOf}
+use Rattle.tdf_exec.specs.low.convert.declared.outputs.Sent.{Sent}
 use Rattle.tdf_exec.specs.Gained.{HasGained}
 use Rattle.tdf_exec.specs.Made.{IsClusterOf}
 use Rattle.tdf_exec.specs.Played.{AreDone, KeepsStanding, turns_from}
-use Rattle.tdf_expr.specs.Checked.{IsCheckedOf}
-use Rattle.tdf_fixed.specs.declared.raw.Raw.{Raw}
-use Rattle.tdf_flat.specs.Flat.{IsFlatOf}
-use Rattle.tdf_flat.specs.declared.model.Flat.{Flat}
-use Rattle.tdf_graph.specs.declared.actors.Actor.TheVariants as actor
+use Rattle.tdf_history.specs.low.expr.Checked.{IsCheckedOf}
+use Rattle.tdf_history.specs.low.fixed.declared.raw.Raw.{Raw}
+use Rattle.tdf_history.specs.low.flat.Flat.{IsFlatOf}
+use Rattle.tdf_history.specs.low.flat.declared.model.Flat.{Flat}
+use Rattle.tdf_history.specs.low.graph.declared.actors.Actor.TheVariants as actor
 use Rattle.tdf_history.specs.Instant.{all_firings, is_entry_due, next_entry}
 use Rattle.tdf_history.specs.World.{ClusterAt, Rules, World}
-use Rattle.tdf_instants.specs.History.{Going, Past}
-use Rattle.tdf_limits.specs.Limits.{AreWithinLimits}
+use Rattle.tdf_history.specs.low.instants.History.{Going, Past}
+use Rattle.tdf_history.specs.low.limits.Limits.{AreWithinLimits}
 use Rattle.tdf_run.specs.At.{AreSettled, HaveTakenOne, IsAt}
 use Rattle.tdf_run.specs.Fired.{HasFired, HasTooFew}
 use Rattle.tdf_run.specs.Firings.{AreDueNext, IsNotLate, after_firings, reads_after, value_for}
 use Rattle.tdf_run.specs.Firings.{settled_values, world_after, write_of, writes_after}
-use Rattle.tdf_streams.specs.Places.{actor_kind}
-use Rattle.tdf_tree.specs.Pure.{PureTree}
+use Rattle.tdf_history.specs.low.streams.Places.{actor_kind}
+use Rattle.tdf_history.specs.low.tree.Pure.{PureTree}
 
 -- where the turns are enough, the firings of a cluster at a time are its entries that are due
 abbrev pub DueEntriesFire : Type 0

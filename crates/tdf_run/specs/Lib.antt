@@ -5,3 +5,4 @@ pub mod Fired
 pub mod Firings
 pub mod Laws
 pub mod Pass
+pub mod low

@@ -7,9 +7,9 @@ ghost use Rattle.tdf_exec.specs.Made.{IsClusterOf};
 ghost use Rattle.tdf_exec.specs.Played.{AreInputsFor};
 ghost use Rattle.tdf_run.specs.Fired.{HasFired, HasTooFew};
 
-use tdf_convert::{Inputs, Outputs};
 use tdf_exec::Cluster;
-use tdf_flat::Flat;
+use tdf_exec::low::convert::{Inputs, Outputs};
+use tdf_history::low::flat::Flat;
 
 /// Does the entries of a cluster that have the offset of its next entry, each for one of the turns that are left. Where
 /// these are too few it does none of them, and the answer is false.

@@ -4,10 +4,12 @@
 //! - `laws`: what holds of the firings of an instant.
 //! - `periods`: what holds at the start and at the boundaries of a cluster.
 //! - `turns`: the pass over all clusters at a time.
+//! - `low`: what the crates above use of the crates further below.
 #![tactic(auto)]
 
 mod firing;
 mod laws;
+pub mod low;
 mod periods;
 mod turns;
 

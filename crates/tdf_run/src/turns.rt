@@ -9,9 +9,9 @@ ghost use Rattle.tdf_run.specs.Fired.{HasFired, HasStayed, HasTooFew};
 ghost use Rattle.tdf_run.specs.Pass.{CanPass, HasPassedAll, HasPassedPart, pass_at, run_of};
 
 use crate::firing::fire_due;
-use tdf_convert::{Inputs, Outputs};
 use tdf_exec::Cluster;
-use tdf_flat::Flat;
+use tdf_exec::low::convert::{Inputs, Outputs};
+use tdf_history::low::flat::Flat;
 
 /// The turn of a cluster: its entries of an offset, if its next one has this offset. The answer is false where the
 /// turns that are left are too few.

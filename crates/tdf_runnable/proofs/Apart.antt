@@ -3,7 +3,7 @@ use Rattle.std.proofs.Common.{◌≡◌, ◌≢◌, ◌∙◌, ℕ, Bool, true, 
 use Rattle.std.specs.Cmp.Lexicographic.{pointwise, same_text}
 use Rattle.std.specs.List.{AllByRecursion, list_any}
 use Rattle.std.specs.Prelude.{◌||◌, nat_eq}
-use Rattle.tdf_scope.specs.Names.{Names, Thing, with_name}
+use Rattle.tdf_events.specs.low.scope.Names.{Names, Thing, with_name}
 
 -- each item differs from those after it
 abbrev pub Differ : {A : Type 0} → List A → Type 0

@@ -7,26 +7,26 @@ use Rattle.std.proofs.lemmas.List.Sums.{sum_by-cons}
 use Rattle.std.proofs.lemmas.Option.{same_Some, none-some}
 use Rattle.std.specs.List.{AllZip, cons_option, enumerate_from, flat_map, sum_by}
 use Rattle.std.specs.Prelude.{◌||◌, filter, filter_map, nat_lt, slice_get, slice_index}
-use Rattle.tdf_flat.specs.Flat.{IsFlatOf}
-use Rattle.tdf_flat.specs.declared.model.Flat.{Flat}
-use Rattle.tdf_resolve.proofs.Api.{counts_all}
-use Rattle.tdf_resolve.specs.Counts.{cells_of, is_too_many, met_weight}
-use Rattle.tdf_resolve.specs.Resolved.{whole}
-use Rattle.tdf_roles.specs.Roles.{event_of, process_role, processes_role, roles_from, roles_of}
+use Rattle.tdf_events.specs.low.flat.Flat.{IsFlatOf}
+use Rattle.tdf_events.specs.low.flat.declared.model.Flat.{Flat}
+use Rattle.tdf_events.proofs.Api.{counts_all}
+use Rattle.tdf_events.specs.low.resolve.Counts.{cells_of, is_too_many, met_weight}
+use Rattle.tdf_events.specs.low.resolve.Resolved.{whole}
+use Rattle.tdf_events.specs.low.roles.Roles.{event_of, process_role, processes_role, roles_from, roles_of}
 use Rattle.tdf_runnable.specs.Runnable.{EventRowsAreFew}
-use Rattle.tdf_scope.specs.Names.{Names, globals_of}
-use Rattle.tdf_tree.specs.Pure.{PureDe, PureDeLine, DPort, DStore, DEvent, PureTdf, PureComposite, PureGlobal, GShape, GTdf, GDe, GNet, PureTree, TPort, TStore, TRate, PureTdfLine}
-use Rattle.tdf_tree.specs.declared.blocks.PortLine.{PortLine}
-use Rattle.tdf_links.specs.Ports.{port_of_de_line, ports_of_de}
-use Rattle.tdf_tree.specs.declared.shapes.TypeDecl.{TypeDecl}
-use Rattle.tdf_walk.specs.Blocks.{BlockOf}
-use Rattle.tdf_walk.specs.Met.{Met, MetSignal, MetInstance, met_in}
-use Rattle.tdf_walk.specs.Tables.{IsRowOf, RowOf, TablesOf, instance_of, is_of, signal_of}
-use Rattle.tdf_wiring.specs.Drivers.{signal_row, writers_in}
-use Rattle.tdf_wiring.specs.ProcessBlocks.{PlacedBlock, as_block, block_processes, block_row, event_row, events_from, placed_blocks, process_row, processes_from}
-use Rattle.tdf_wiring.specs.Roles.{ProcessesOf}
-use Rattle.tdf_wiring.specs.declared.roles.Role.{Role}
-use Rattle.tdf_wiring.specs.declared.roles.Role.TheVariants.{Module, Processes, Composite}
+use Rattle.tdf_events.specs.low.scope.Names.{Names, globals_of}
+use Rattle.tdf_events.specs.low.tree.Pure.{PureDe, PureDeLine, DPort, DStore, DEvent, PureTdf, PureComposite, PureGlobal, GShape, GTdf, GDe, GNet, PureTree, TPort, TStore, TRate, PureTdfLine}
+use Rattle.tdf_events.specs.low.tree.declared.blocks.PortLine.{PortLine}
+use Rattle.tdf_events.specs.low.links.Ports.{port_of_de_line, ports_of_de}
+use Rattle.tdf_events.specs.low.tree.declared.shapes.TypeDecl.{TypeDecl}
+use Rattle.tdf_events.specs.low.walk.Blocks.{BlockOf}
+use Rattle.tdf_events.specs.low.walk.Met.{Met, MetSignal, MetInstance, met_in}
+use Rattle.tdf_events.specs.low.walk.Tables.{IsRowOf, RowOf, TablesOf, instance_of, is_of, signal_of}
+use Rattle.tdf_events.specs.low.wiring.Drivers.{signal_row, writers_in}
+use Rattle.tdf_events.specs.low.wiring.ProcessBlocks.{PlacedBlock, as_block, block_processes, block_row, event_row, events_from, placed_blocks, process_row, processes_from}
+use Rattle.tdf_events.specs.low.wiring.Roles.{ProcessesOf}
+use Rattle.tdf_events.specs.low.wiring.declared.roles.Role.{Role}
+use Rattle.tdf_events.specs.low.wiring.declared.roles.Role.TheVariants.{Module, Processes, Composite}
 
 -- lists
 fewer : {A : Type 0} (p : A → Bool) (xs : List A) → length (filter p xs) ≤ length xs

@@ -6,35 +6,35 @@ use Rattle.std.proofs.lemmas.List.Elements.{filter-append}
 use Rattle.std.proofs.lemmas.Option.{same_Some, none-some, slice_get_within}
 use Rattle.std.specs.List.{AllByRecursion, cons_option, flat_map}
 use Rattle.std.specs.Prelude.{filter, nat_eq, slice_get}
-use Rattle.tdf_expr.specs.Blocks.{Module as TdfBlock, Events, PureBlock, blocks_of, scope_of}
-use Rattle.tdf_expr.specs.Compiled.{AreBlocksOf, IsBlockOf}
-use Rattle.tdf_expr.specs.Made.{events_in, spans_in}
-use Rattle.tdf_expr.specs.Plans.{PortPlace, place_of_port, written}
-use Rattle.tdf_expr.specs.declared.blocks.Block.{Block}
-use Rattle.tdf_expr.specs.declared.spans.PortSpan.{PortSpan}
-use Rattle.tdf_flat.specs.Flat.{IsFlatOf}
-use Rattle.tdf_flat.specs.declared.model.Flat.{Flat}
+use Rattle.tdf_events.specs.low.expr.Blocks.{Module as TdfBlock, Events, PureBlock, blocks_of, scope_of}
+use Rattle.tdf_events.specs.low.expr.Compiled.{AreBlocksOf, IsBlockOf}
+use Rattle.tdf_events.specs.low.expr.Made.{events_in, spans_in}
+use Rattle.tdf_events.specs.low.expr.Plans.{PortPlace, place_of_port, written}
+use Rattle.tdf_events.specs.low.expr.declared.blocks.Block.{Block}
+use Rattle.tdf_events.specs.low.expr.declared.spans.PortSpan.{PortSpan}
+use Rattle.tdf_events.specs.low.flat.Flat.{IsFlatOf}
+use Rattle.tdf_events.specs.low.flat.declared.model.Flat.{Flat}
 use Rattle.tdf_runnable.proofs.Apart.{Differ}
 use Rattle.tdf_formats.proofs.Api.{stays}
 use Rattle.tdf_formats.specs.Formats.{IsSoundModel}
-use Rattle.tdf_links.specs.Ports.{Known, known_after_all, no_blocks, ports_of_composite, ports_of_de, ports_of_tdf, with_block}
-use Rattle.tdf_names.specs.Law.{DeclaresOnce, HasNamesOnce, KeepsNamesOnce}
-use Rattle.tdf_names.specs.Names.{names_of_de_line, names_of_de_lines}
-use Rattle.tdf_resolve.specs.Resolved.{whole}
-use Rattle.tdf_roles.specs.Roles.{processes_role, roles_from, roles_of}
+use Rattle.tdf_events.specs.low.links.Ports.{Known, known_after_all, no_blocks, ports_of_composite, ports_of_de, ports_of_tdf, with_block}
+use Rattle.tdf_events.specs.low.names.Law.{DeclaresOnce, HasNamesOnce, KeepsNamesOnce}
+use Rattle.tdf_events.specs.low.names.Names.{names_of_de_line, names_of_de_lines}
+use Rattle.tdf_events.specs.low.resolve.Resolved.{whole}
+use Rattle.tdf_events.specs.low.roles.Roles.{processes_role, roles_from, roles_of}
 use Rattle.tdf_runnable.proofs.Counts.{few_ports, mapped_long}
 use Rattle.tdf_runnable.proofs.Lines.{apart_differ, events_total, place_at, place_line, places_long, places_of, ports_total}
 use Rattle.tdf_runnable.specs.Runnable.{HasBlock, InstancesHaveBlocks}
-use Rattle.tdf_scope.specs.Names.{Names, format_of, globals_of}
-use Rattle.tdf_tree.specs.Kept.{Each}
-use Rattle.tdf_tree.specs.Pure.{PureComposite, PureDe, PureGlobal, GShape, GTdf, GDe, GNet, PureTree}
-use Rattle.tdf_tree.specs.declared.blocks.PortLine.{PortLine}
-use Rattle.tdf_walk.specs.Tables.{RowOf}
-use Rattle.tdf_wiring.specs.ProcessBlocks.{BlockRowOf, PlacedBlock, as_block, block_row, event_row, events_from, placed_blocks}
-use Rattle.tdf_wiring.specs.Roles.{ProcessesOf}
-use Rattle.tdf_wiring.specs.declared.blocks.EventRow.{EventRow}
-use Rattle.tdf_wiring.specs.declared.roles.Role.{Role}
-use Rattle.tdf_wiring.specs.declared.roles.Role.TheVariants.{Module, Processes, Composite}
+use Rattle.tdf_events.specs.low.scope.Names.{Names, format_of, globals_of}
+use Rattle.tdf_events.specs.low.tree.Kept.{Each}
+use Rattle.tdf_events.specs.low.tree.Pure.{PureComposite, PureDe, PureGlobal, GShape, GTdf, GDe, GNet, PureTree}
+use Rattle.tdf_events.specs.low.tree.declared.blocks.PortLine.{PortLine}
+use Rattle.tdf_events.specs.low.walk.Tables.{RowOf}
+use Rattle.tdf_events.specs.low.wiring.ProcessBlocks.{BlockRowOf, PlacedBlock, as_block, block_row, event_row, events_from, placed_blocks}
+use Rattle.tdf_events.specs.low.wiring.Roles.{ProcessesOf}
+use Rattle.tdf_events.specs.low.wiring.declared.blocks.EventRow.{EventRow}
+use Rattle.tdf_events.specs.low.wiring.declared.roles.Role.{Role}
+use Rattle.tdf_events.specs.low.wiring.declared.roles.Role.TheVariants.{Module, Processes, Composite}
 
 -- the events of an instance
 abbrev is_of : ℕ → EventRow → Bool

@@ -5,18 +5,18 @@ use Rattle.std.proofs.lemmas.Option.{same_Some, none-some}
 use Rattle.std.specs.Cmp.Lexicographic.{pointwise}
 use Rattle.std.specs.List.{AllByRecursion, flat_map}
 use Rattle.std.specs.Prelude.{◌||◌, nat_eq, slice_get}
-use Rattle.tdf_expr.specs.Plans.{PortPlace, places_from}
+use Rattle.tdf_events.specs.low.expr.Plans.{PortPlace, places_from}
 use Rattle.tdf_runnable.proofs.Apart.{Differ, Pair, name_in, pair, pairs_plain, thing_in, with_pairs}
-use Rattle.tdf_links.specs.Ports.{port_of_de_line}
-use Rattle.tdf_meaning.specs.Places.{events_of, total}
-use Rattle.tdf_names.specs.Law.{AreApart}
-use Rattle.tdf_names.specs.Names.{Name, has, name_of_store, names_of_de_line}
-use Rattle.tdf_roles.specs.Roles.{event_of}
-use Rattle.tdf_scope.specs.Names.{Names, Thing, Const, Var, Array, Port, Event, de_names, format_of, no_names, with_de_lines, with_name, with_store}
-use Rattle.tdf_scope.specs.Scope.{greatest_of}
-use Rattle.tdf_tree.specs.Pure.{PureStore, SConst, SVar, SArray, PureDe, PureDeLine, DPort, DStore, DEvent}
-use Rattle.tdf_tree.specs.declared.blocks.PortLine.{PortLine}
-use Rattle.tdf_tree.specs.declared.stmt.Limit.TheVariants as limit
+use Rattle.tdf_events.specs.low.links.Ports.{port_of_de_line}
+use Rattle.tdf_events.specs.low.meaning.Places.{events_of, total}
+use Rattle.tdf_events.specs.low.names.Law.{AreApart}
+use Rattle.tdf_events.specs.low.names.Names.{Name, has, name_of_store, names_of_de_line}
+use Rattle.tdf_events.specs.low.roles.Roles.{event_of}
+use Rattle.tdf_events.specs.low.scope.Names.{Names, Thing, Const, Var, Array, Port, Event, de_names, format_of, no_names, with_de_lines, with_name, with_store}
+use Rattle.tdf_events.specs.low.scope.Scope.{greatest_of}
+use Rattle.tdf_events.specs.low.tree.Pure.{PureStore, SConst, SVar, SArray, PureDe, PureDeLine, DPort, DStore, DEvent}
+use Rattle.tdf_events.specs.low.tree.declared.blocks.PortLine.{PortLine}
+use Rattle.tdf_events.specs.low.tree.declared.stmt.Limit.TheVariants as limit
 
 -- names that are apart differ
 left_false : (a b : Bool) → a || b ≡ false → a ≡ false

@@ -5,20 +5,20 @@ use Rattle.std.proofs.lemmas.Option.{slice_get_within}
 use Rattle.std.specs.List.{AllByRecursion, cons_option, enumerate_from}
 use Rattle.std.specs.Prelude.{All, slice_get}
 use Rattle.tdf_formats.proofs.Api.{found_at}
-use Rattle.tdf_roles.specs.Roles.{events_of, places_among, process_role, processes_role, roles_from, roles_of}
+use Rattle.tdf_events.specs.low.roles.Roles.{events_of, places_among, process_role, processes_role, roles_from, roles_of}
 use Rattle.tdf_runnable.proofs.Counts.{event_total, events_long, held, mapped_long}
 use Rattle.tdf_runnable.specs.Runnable.{EventRowsHaveOwners}
-use Rattle.tdf_scope.specs.Names.{Names, globals_of, place_in}
-use Rattle.tdf_resolve.specs.Resolved.{whole}
-use Rattle.tdf_tree.specs.Pure.{PureDe, PureProcess, PureGlobal, GShape, GTdf, GDe, GNet}
-use Rattle.tdf_tree.specs.declared.blocks.Sense.{Sense}
-use Rattle.tdf_walk.specs.Tables.{RowOf}
-use Rattle.tdf_walk.specs.declared.tables.SignalNumber.{SignalNumber}
-use Rattle.tdf_wiring.specs.ProcessBlocks.{PlacedBlock, ProcessRowOf, as_block, block_processes, block_row, event_row, events_from, placed_blocks, process_row, processes_from}
-use Rattle.tdf_wiring.specs.Roles.{ProcessOf, ProcessesOf}
-use Rattle.tdf_wiring.specs.declared.blocks.EventRow.{EventRow}
-use Rattle.tdf_wiring.specs.declared.roles.Role.{Role}
-use Rattle.tdf_wiring.specs.declared.roles.Role.TheVariants.{Module, Processes, Composite}
+use Rattle.tdf_events.specs.low.scope.Names.{Names, globals_of, place_in}
+use Rattle.tdf_events.specs.low.resolve.Resolved.{whole}
+use Rattle.tdf_events.specs.low.tree.Pure.{PureDe, PureProcess, PureGlobal, GShape, GTdf, GDe, GNet}
+use Rattle.tdf_events.specs.low.tree.declared.blocks.Sense.{Sense}
+use Rattle.tdf_events.specs.low.walk.Tables.{RowOf}
+use Rattle.tdf_events.specs.low.walk.declared.tables.SignalNumber.{SignalNumber}
+use Rattle.tdf_events.specs.low.wiring.ProcessBlocks.{PlacedBlock, ProcessRowOf, as_block, block_processes, block_row, event_row, events_from, placed_blocks, process_row, processes_from}
+use Rattle.tdf_events.specs.low.wiring.Roles.{ProcessOf, ProcessesOf}
+use Rattle.tdf_events.specs.low.wiring.declared.blocks.EventRow.{EventRow}
+use Rattle.tdf_events.specs.low.wiring.declared.roles.Role.{Role}
+use Rattle.tdf_events.specs.low.wiring.declared.roles.Role.TheVariants.{Module, Processes, Composite}
 
 both_all : {A : Type 0} (P : A → Type 0) (xs ys : List A) → AllByRecursion P xs → AllByRecursion P ys → AllByRecursion P (xs ++ ys)
 both_all P [] ys one other = other

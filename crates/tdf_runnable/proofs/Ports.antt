@@ -5,36 +5,36 @@ use Rattle.std.specs.List.{AllByRecursion, cons_option, flat_map}
 use Rattle.std.specs.Option.{option_map}
 use Rattle.std.specs.Prelude.{slice_get, slice_index_or}
 use Rattle.tdf_events.specs.Runnable.{ArePortsOf, signal_formats}
-use Rattle.tdf_expr.specs.Made.{spans_in}
-use Rattle.tdf_expr.specs.Plans.{shape_of_format}
-use Rattle.tdf_expr.specs.declared.spans.PortSpan.{PortSpan}
-use Rattle.tdf_flat.specs.Flat.{IsFlatOf}
-use Rattle.tdf_flat.specs.declared.model.Flat.{Flat}
+use Rattle.tdf_events.specs.low.expr.Made.{spans_in}
+use Rattle.tdf_events.specs.low.expr.Plans.{shape_of_format}
+use Rattle.tdf_events.specs.low.expr.declared.spans.PortSpan.{PortSpan}
+use Rattle.tdf_events.specs.low.flat.Flat.{IsFlatOf}
+use Rattle.tdf_events.specs.low.flat.declared.model.Flat.{Flat}
 use Rattle.tdf_formats.proofs.Api.{IsNumberTag, IsTagged, model_tagged, number_is, rows_format, same_format, tags_there}
 use Rattle.tdf_formats.specs.Formats.{IsSoundModel, format_of_row}
 use Rattle.tdf_formats.specs.Tags.{Tag, model_tags, number_tag, port_tag, port_tags, tag_with}
-use Rattle.tdf_links.specs.Ports.{known_after_all, no_blocks, port_of_de_line, ports_of_de}
-use Rattle.tdf_names.specs.Law.{KeepsNamesOnce}
-use Rattle.tdf_resolve.specs.Resolved.{whole}
-use Rattle.tdf_roles.specs.Roles.{roles_of}
+use Rattle.tdf_events.specs.low.links.Ports.{known_after_all, no_blocks, port_of_de_line, ports_of_de}
+use Rattle.tdf_events.specs.low.names.Law.{KeepsNamesOnce}
+use Rattle.tdf_events.specs.low.resolve.Resolved.{whole}
+use Rattle.tdf_events.specs.low.roles.Roles.{roles_of}
 use Rattle.tdf_runnable.proofs.Counts.{mapped_long}
 use Rattle.tdf_runnable.proofs.Instances.{HasLines, item_at, mapped, unmapped}
 use Rattle.tdf_runnable.specs.Runnable.{HasBlock, HasEventPorts, IsEventKind, IsEventLine}
-use Rattle.tdf_scope.specs.Names.{Names, globals_of}
-use Rattle.tdf_tree.specs.Pure.{PureDe, PureDeLine, DPort, DStore, DEvent, PureTree}
-use Rattle.tdf_tree.specs.declared.blocks.PortKind.{PortKind}
-use Rattle.tdf_tree.specs.declared.blocks.PortKind.TheVariants.{In, Out, DeIn, DeOut}
-use Rattle.tdf_tree.specs.declared.blocks.PortLine.{PortLine}
-use Rattle.tdf_walk.specs.Tables.{RowOf, TablesOf, table}
-use Rattle.tdf_walk.specs.declared.tables.Signal.{Signal}
-use Rattle.tdf_walk.specs.declared.tables.SignalNumber.{SignalNumber}
-use Rattle.tdf_wiring.specs.Drivers.{writers_in}
-use Rattle.tdf_wiring.specs.Edges.{is_event_port}
-use Rattle.tdf_wiring.specs.Modules.{signal_at}
-use Rattle.tdf_wiring.specs.ProcessBlocks.{PlacedBlock, as_block, block_row, placed_blocks}
-use Rattle.tdf_wiring.specs.declared.drivers.SignalRow.{SignalRow}
-use Rattle.tdf_wiring.specs.declared.roles.Role.{Role}
-use Rattle.tdf_wiring.specs.declared.roles.Role.TheVariants.{Module, Processes, Composite}
+use Rattle.tdf_events.specs.low.scope.Names.{Names, globals_of}
+use Rattle.tdf_events.specs.low.tree.Pure.{PureDe, PureDeLine, DPort, DStore, DEvent, PureTree}
+use Rattle.tdf_events.specs.low.tree.declared.blocks.PortKind.{PortKind}
+use Rattle.tdf_events.specs.low.tree.declared.blocks.PortKind.TheVariants.{In, Out, DeIn, DeOut}
+use Rattle.tdf_events.specs.low.tree.declared.blocks.PortLine.{PortLine}
+use Rattle.tdf_events.specs.low.walk.Tables.{RowOf, TablesOf, table}
+use Rattle.tdf_events.specs.low.walk.declared.tables.Signal.{Signal}
+use Rattle.tdf_events.specs.low.walk.declared.tables.SignalNumber.{SignalNumber}
+use Rattle.tdf_events.specs.low.wiring.Drivers.{writers_in}
+use Rattle.tdf_events.specs.low.wiring.Edges.{is_event_port}
+use Rattle.tdf_events.specs.low.wiring.Modules.{signal_at}
+use Rattle.tdf_events.specs.low.wiring.ProcessBlocks.{PlacedBlock, as_block, block_row, placed_blocks}
+use Rattle.tdf_events.specs.low.wiring.declared.drivers.SignalRow.{SignalRow}
+use Rattle.tdf_events.specs.low.wiring.declared.roles.Role.{Role}
+use Rattle.tdf_events.specs.low.wiring.declared.roles.Role.TheVariants.{Module, Processes, Composite}
 
 -- what holds of all instances holds of those of blocks of processes
 placed_all : (Q : RowOf → Type 0) (roles : List Role) (rows : List RowOf) → AllByRecursion Q rows → AllByRecursion (λ (p : PlacedBlock). Q p.instance) (placed_blocks roles rows)

@@ -6,33 +6,33 @@ use Rattle.std.specs.List.{AllByRecursion, cons_option, enumerate_from}
 use Rattle.std.specs.Prelude.{All, cond, filter, if◌then◌else◌, nat_eq, slice_get}
 use Rattle.tdf_events.specs.Processes.{owned_from}
 use Rattle.tdf_events.specs.Runnable.{IsInstance, IsProcess, IsRunnable}
-use Rattle.tdf_expr.specs.Frames.{IsOfFormat}
-use Rattle.tdf_fixed.specs.declared.format.Format.{Format}
-use Rattle.tdf_fixed.specs.declared.raw.Raw.{Raw}
-use Rattle.tdf_flat.specs.Flat.{IsFlatOf}
-use Rattle.tdf_flat.specs.declared.model.Flat.{Flat}
+use Rattle.tdf_events.specs.low.expr.Frames.{IsOfFormat}
+use Rattle.tdf_events.specs.low.fixed.declared.format.Format.{Format}
+use Rattle.tdf_events.specs.low.fixed.declared.raw.Raw.{Raw}
+use Rattle.tdf_events.specs.low.flat.Flat.{IsFlatOf}
+use Rattle.tdf_events.specs.low.flat.declared.model.Flat.{Flat}
 use Rattle.tdf_formats.proofs.Api.{found_at}
 use Rattle.tdf_formats.specs.Formats.{IsSoundModel}
-use Rattle.tdf_links.specs.Ports.{ports_of_de}
-use Rattle.tdf_names.specs.Law.{KeepsNamesOnce}
-use Rattle.tdf_resolve.specs.Resolved.{whole}
-use Rattle.tdf_roles.specs.Roles.{places_among, process_role, processes_role, roles_of}
+use Rattle.tdf_events.specs.low.links.Ports.{ports_of_de}
+use Rattle.tdf_events.specs.low.names.Law.{KeepsNamesOnce}
+use Rattle.tdf_events.specs.low.resolve.Resolved.{whole}
+use Rattle.tdf_events.specs.low.roles.Roles.{places_among, process_role, processes_role, roles_of}
 use Rattle.tdf_runnable.proofs.Counts.{event_rows_are_few, mapped_long}
 use Rattle.tdf_runnable.proofs.Instances.{HasLines, all_push, has_block, has_lines, row_placed}
 use Rattle.tdf_runnable.proofs.Owned.{event_rows_have_owners}
 use Rattle.tdf_runnable.proofs.Ports.{ports_are, reached}
 use Rattle.tdf_runnable.proofs.Starts.{signals_start_in_format}
 use Rattle.tdf_runnable.specs.Runnable.{DeclareEventPorts, HasBlock, HasEventPorts, HasFewRows, HasOwners, SoundIsRunnable, StartsInFormat}
-use Rattle.tdf_scope.specs.Names.{place_in}
-use Rattle.tdf_tree.specs.Pure.{PureDe, PureProcess, GNet, PureTree}
-use Rattle.tdf_tree.specs.declared.blocks.PortLine.{PortLine}
-use Rattle.tdf_tree.specs.declared.blocks.Sense.{Sense}
-use Rattle.tdf_walk.specs.declared.tables.SignalNumber.{SignalNumber}
-use Rattle.tdf_wiring.specs.Modules.{signal_at}
-use Rattle.tdf_wiring.specs.ProcessBlocks.{PlacedBlock, ProcessRowOf, block_processes, block_row, placed_blocks, process_row, processes_from}
-use Rattle.tdf_wiring.specs.Roles.{ProcessOf, ProcessesOf}
-use Rattle.tdf_wiring.specs.declared.blocks.EventRow.{EventRow}
-use Rattle.tdf_wiring.specs.declared.drivers.SignalRow.{SignalRow}
+use Rattle.tdf_events.specs.low.scope.Names.{place_in}
+use Rattle.tdf_events.specs.low.tree.Pure.{PureDe, PureProcess, GNet, PureTree}
+use Rattle.tdf_events.specs.low.tree.declared.blocks.PortLine.{PortLine}
+use Rattle.tdf_events.specs.low.tree.declared.blocks.Sense.{Sense}
+use Rattle.tdf_events.specs.low.walk.declared.tables.SignalNumber.{SignalNumber}
+use Rattle.tdf_events.specs.low.wiring.Modules.{signal_at}
+use Rattle.tdf_events.specs.low.wiring.ProcessBlocks.{PlacedBlock, ProcessRowOf, block_processes, block_row, placed_blocks, process_row, processes_from}
+use Rattle.tdf_events.specs.low.wiring.Roles.{ProcessOf, ProcessesOf}
+use Rattle.tdf_events.specs.low.wiring.declared.blocks.EventRow.{EventRow}
+use Rattle.tdf_events.specs.low.wiring.declared.drivers.SignalRow.{SignalRow}
 
 -- lists
 both_all : {A : Type 0} (P : A → Type 0) (xs ys : List A) → AllByRecursion P xs → AllByRecursion P ys → AllByRecursion P (xs ++ ys)

@@ -5,30 +5,30 @@ use Rattle.std.proofs.lemmas.List.Elements.{All-from_recursion}
 use Rattle.std.proofs.lemmas.Option.{same_Some, none-some}
 use Rattle.std.specs.List.{AllByRecursion, AllZip, enumerate_from, flat_map}
 use Rattle.std.specs.Prelude.{All, Ok, Err, filter, filter_map, if◌then◌else◌, pos, slice_get}
-use Rattle.tdf_base.specs.Number.{is_short}
-use Rattle.tdf_expr.specs.Frames.{IsOfFormat}
-use Rattle.tdf_fixed.proofs.Api.{in_range}
-use Rattle.tdf_fixed.specs.Cast.{fraction_of}
-use Rattle.tdf_fixed.specs.Literal.{Literal, decimal_of, decimal_with, literal_cast, literal_of}
-use Rattle.tdf_fixed.specs.Overflow.{IsIn}
-use Rattle.tdf_fixed.specs.declared.format.Format.{Format}
-use Rattle.tdf_fixed.specs.declared.literals.DecimalErr.TheVariants.{TooManyDigits}
-use Rattle.tdf_links.specs.Ports.{Known, no_blocks, ports_of_composite, ports_of_de, ports_of_tdf, with_block}
-use Rattle.tdf_resolve.specs.Resolved.{AreBlocks, whole}
-use Rattle.tdf_resolve.specs.Signals.{Declared, IsSignal, or_zero, start_of, text_of, zero_of}
-use Rattle.tdf_roles.specs.Roles.{roles_of}
+use Rattle.tdf_events.specs.low.base.Number.{is_short}
+use Rattle.tdf_events.specs.low.expr.Frames.{IsOfFormat}
+use Rattle.tdf_events.proofs.Api.{in_range}
+use Rattle.tdf_events.specs.low.fixed.Cast.{fraction_of}
+use Rattle.tdf_events.specs.low.fixed.Literal.{Literal, decimal_of, decimal_with, literal_cast, literal_of}
+use Rattle.tdf_events.specs.low.fixed.Overflow.{IsIn}
+use Rattle.tdf_events.specs.low.fixed.declared.format.Format.{Format}
+use Rattle.tdf_events.specs.low.fixed.declared.literals.DecimalErr.TheVariants.{TooManyDigits}
+use Rattle.tdf_events.specs.low.links.Ports.{Known, no_blocks, ports_of_composite, ports_of_de, ports_of_tdf, with_block}
+use Rattle.tdf_events.specs.low.resolve.Resolved.{AreBlocks, whole}
+use Rattle.tdf_events.specs.low.resolve.Signals.{Declared, IsSignal, or_zero, start_of, text_of, zero_of}
+use Rattle.tdf_events.specs.low.roles.Roles.{roles_of}
 use Rattle.tdf_runnable.specs.Runnable.{SignalsStartInFormat, StartsInFormat}
-use Rattle.tdf_scope.specs.Names.{Names, globals_of}
-use Rattle.tdf_tree.specs.Pure.{PureGlobal, GShape, GTdf, GDe, GNet}
-use Rattle.tdf_tree.specs.declared.names.Lit.{Lit}
-use Rattle.tdf_walk.specs.Blocks.{BlockOf, InstanceOf}
-use Rattle.tdf_walk.specs.Met.{Met, MetSignal, MetInstance, InsideOf, in_block, inside, met_in, placed, signal_at, with_inside}
-use Rattle.tdf_walk.specs.Tables.{TablesOf, is_of, signal_of}
-use Rattle.tdf_walk.specs.declared.blocks.SignalLine.{SignalLine}
-use Rattle.tdf_walk.specs.declared.tables.Signal.{Signal}
-use Rattle.tdf_wiring.specs.Drivers.{signal_row, signal_rows, writers_in}
-use Rattle.tdf_wiring.specs.declared.drivers.SignalRow.{SignalRow}
-use Rattle.tdf_wiring.specs.declared.writers.Writer.{Writer}
+use Rattle.tdf_events.specs.low.scope.Names.{Names, globals_of}
+use Rattle.tdf_events.specs.low.tree.Pure.{PureGlobal, GShape, GTdf, GDe, GNet}
+use Rattle.tdf_events.specs.low.tree.declared.names.Lit.{Lit}
+use Rattle.tdf_events.specs.low.walk.Blocks.{BlockOf, InstanceOf}
+use Rattle.tdf_events.specs.low.walk.Met.{Met, MetSignal, MetInstance, InsideOf, in_block, inside, met_in, placed, signal_at, with_inside}
+use Rattle.tdf_events.specs.low.walk.Tables.{TablesOf, is_of, signal_of}
+use Rattle.tdf_events.specs.low.walk.declared.blocks.SignalLine.{SignalLine}
+use Rattle.tdf_events.specs.low.walk.declared.tables.Signal.{Signal}
+use Rattle.tdf_events.specs.low.wiring.Drivers.{signal_row, signal_rows, writers_in}
+use Rattle.tdf_events.specs.low.wiring.declared.drivers.SignalRow.{SignalRow}
+use Rattle.tdf_events.specs.low.wiring.declared.writers.Writer.{Writer}
 
 -- the first value of a line
 zero_in : (signed : Bool) (wl : ℕ) → IsIn signed wl (pos 0)

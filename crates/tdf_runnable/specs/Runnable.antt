@@ -2,19 +2,19 @@
 -- Source: own.
 use Rattle.std.specs.Prelude.{◌≡◌, ◌<◌, ◌≤◌, ℕ, length, Some, All, filter, nat_eq, slice_get}
 use Rattle.std.specs.List.{AllByRecursion}
-use Rattle.tdf_base.specs.Limits.{most_events, most_instances, most_ports, most_processes, most_signals}
+use Rattle.tdf_events.specs.low.base.Limits.{most_events, most_instances, most_ports, most_processes, most_signals}
 use Rattle.tdf_events.specs.Runnable.{IsRunnable}
-use Rattle.tdf_expr.specs.Frames.{IsOfFormat}
-use Rattle.tdf_expr.specs.Made.{block_count, event_count, port_spans_of}
-use Rattle.tdf_expr.specs.declared.spans.PortSpan.{PortSpan}
-use Rattle.tdf_flat.specs.Flat.{IsFlatOf}
-use Rattle.tdf_flat.specs.declared.model.Flat.{Flat}
+use Rattle.tdf_events.specs.low.expr.Frames.{IsOfFormat}
+use Rattle.tdf_events.specs.low.expr.Made.{block_count, event_count, port_spans_of}
+use Rattle.tdf_events.specs.low.expr.declared.spans.PortSpan.{PortSpan}
+use Rattle.tdf_events.specs.low.flat.Flat.{IsFlatOf}
+use Rattle.tdf_events.specs.low.flat.declared.model.Flat.{Flat}
 use Rattle.tdf_formats.specs.Formats.{IsSoundModel}
-use Rattle.tdf_tree.specs.Pure.{PureDeLine, DPort, PureGlobal, GDe, PureTree}
-use Rattle.tdf_tree.specs.declared.blocks.PortKind.{PortKind}
-use Rattle.tdf_tree.specs.declared.blocks.PortKind.TheVariants.{DeIn, DeOut}
-use Rattle.tdf_wiring.specs.ProcessBlocks.{BlockRowOf}
-use Rattle.tdf_wiring.specs.declared.drivers.SignalRow.{SignalRow}
+use Rattle.tdf_events.specs.low.tree.Pure.{PureDeLine, DPort, PureGlobal, GDe, PureTree}
+use Rattle.tdf_events.specs.low.tree.declared.blocks.PortKind.{PortKind}
+use Rattle.tdf_events.specs.low.tree.declared.blocks.PortKind.TheVariants.{DeIn, DeOut}
+use Rattle.tdf_events.specs.low.wiring.ProcessBlocks.{BlockRowOf}
+use Rattle.tdf_events.specs.low.wiring.declared.drivers.SignalRow.{SignalRow}
 
 -- no more of each kind than a model may have
 pub record HasFewRows (flat : Flat) : Type 0 where

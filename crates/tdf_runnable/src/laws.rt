@@ -4,7 +4,7 @@ ghost use Rattle.tdf_runnable.specs.Runnable.{EventRowsAreFew, EventRowsHaveOwne
 ghost use Rattle.tdf_runnable.specs.Runnable.{InstancesHaveBlocks, SignalsStartInFormat};
 ghost use Rattle.tdf_runnable.specs.Runnable.{SoundIsRunnable};
 
-use tdf_names::law_names_once;
+use tdf_events::low::names::law_names_once;
 
 /// The event side of a flat model has no more rows of a kind than a model may have of it.
 pub fn law_few_rows()

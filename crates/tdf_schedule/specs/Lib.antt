@@ -1,4 +1,5 @@
 pub mod Laws
 pub mod Needs
 pub mod Plan
+pub mod low
 pub mod views

@@ -5,21 +5,21 @@ use Rattle.std.proofs.lemmas.List.Elements.{All-head, All-map, All-nil, All-tail
 use Rattle.std.proofs.lemmas.Option.{get_or_from_slice_get, slice_get-map, slice_get_within}
 use Rattle.std.specs.List.{range_with_len, sum_by}
 use Rattle.std.specs.Prelude.{All}
-use Rattle.tdf_bind.specs.Flat.{FlatOf}
+use Rattle.tdf_traced.specs.low.bind.Flat.{FlatOf}
 use Rattle.tdf_columns.proofs.Api.{left_is}
 use Rattle.tdf_columns.specs.Calls.{HasNoneLeft}
-use Rattle.tdf_events.specs.Runnable.{AreOfSignals, signal_formats}
-use Rattle.tdf_expr.specs.Frames.{IsOfFormat}
-use Rattle.tdf_fixed.specs.Cast.{fraction_of}
-use Rattle.tdf_fixed.specs.declared.format.Format.{Format}
-use Rattle.tdf_fixed.specs.declared.raw.Raw.{Raw}
-use Rattle.tdf_flat.specs.Flat.{IsFlatOf}
-use Rattle.tdf_flat.specs.declared.model.Flat.{Flat}
-use Rattle.tdf_flow.proofs.Api.{get_inside}
-use Rattle.tdf_formats.specs.Formats.{IsOwnPort, IsSoundModel, PortsHaveFormats}
-use Rattle.tdf_history.specs.Cells.{samples_done}
-use Rattle.tdf_history.specs.Instant.{periods_of}
-use Rattle.tdf_rows.specs.Positions.{total}
+use Rattle.tdf_world.specs.low.events.Runnable.{AreOfSignals, signal_formats}
+use Rattle.tdf_traced.specs.low.expr.Frames.{IsOfFormat}
+use Rattle.tdf_traced.specs.low.fixed.Cast.{fraction_of}
+use Rattle.tdf_traced.specs.low.fixed.declared.format.Format.{Format}
+use Rattle.tdf_traced.specs.low.fixed.declared.raw.Raw.{Raw}
+use Rattle.tdf_traced.specs.low.flat.Flat.{IsFlatOf}
+use Rattle.tdf_traced.specs.low.flat.declared.model.Flat.{Flat}
+use Rattle.tdf_traced.proofs.Api.{get_inside}
+use Rattle.tdf_traced.specs.low.formats.Formats.{IsOwnPort, IsSoundModel, PortsHaveFormats}
+use Rattle.tdf_traced.specs.low.history.Cells.{samples_done}
+use Rattle.tdf_traced.specs.low.history.Instant.{periods_of}
+use Rattle.tdf_traced.specs.low.rows.Positions.{total}
 use Rattle.tdf_shown.proofs.Spans.{can_begin, none_left, spans_total}
 use Rattle.tdf_shown.proofs.Taking.{early, since_begins}
 use Rattle.tdf_shown.proofs.Telling.{few_traces, told}
@@ -30,13 +30,13 @@ use Rattle.tdf_shown.specs.Periods.{begins}
 use Rattle.tdf_shown.specs.Shown.{IsShownOf}
 use Rattle.tdf_shown.specs.Signals.{IsListed}
 use Rattle.tdf_shown.specs.declared.signals.TracedSignal.{TracedSignal}
-use Rattle.tdf_streams.specs.Cluster.{fraction_of_kind, fraction_of_row, given_at, initial_sample, initial_samples, zero_of}
-use Rattle.tdf_streams.specs.Signals.{positions}
-use Rattle.tdf_tree.specs.Pure.{PureTree}
-use Rattle.tdf_tree.specs.declared.blocks.PortKind.{PortKind}
-use Rattle.tdf_tree.specs.declared.blocks.PortKind.TheVariants.{In, Out, DeIn, DeOut}
-use Rattle.tdf_wiring.specs.declared.drivers.SignalRow.{SignalRow}
-use Rattle.tdf_wiring.specs.declared.modules.PortRow.{PortRow}
+use Rattle.tdf_traced.specs.low.streams.Cluster.{fraction_of_kind, fraction_of_row, given_at, initial_sample, initial_samples, zero_of}
+use Rattle.tdf_traced.specs.low.streams.Signals.{positions}
+use Rattle.tdf_traced.specs.low.tree.Pure.{PureTree}
+use Rattle.tdf_traced.specs.low.tree.declared.blocks.PortKind.{PortKind}
+use Rattle.tdf_traced.specs.low.tree.declared.blocks.PortKind.TheVariants.{In, Out, DeIn, DeOut}
+use Rattle.tdf_traced.specs.low.wiring.declared.drivers.SignalRow.{SignalRow}
+use Rattle.tdf_traced.specs.low.wiring.declared.modules.PortRow.{PortRow}
 use Rattle.tdf_world.specs.Rules.{start_world}
 
 -- a format has few places

@@ -1,18 +1,18 @@
 -- The periods of signals begin, one after the other.
 use Rattle.std.proofs.Common.{◌≡◌, ℕ, zero, suc, ◌+◌, ◌<◌, ◌≤◌, ◌⊎◌, Bool, true, false, if◌then◌else◌, Option, Some, None, List, [], ◌∷◌, ◌++◌, slice_get, refl, ap, sym, ◌∙◌, subst, inl, inr, arith}
 use Rattle.std.proofs.lemmas.Bool.{cases_eq, eq-eqb, ne_eqb}
-use Rattle.tdf_bind.specs.Flat.{FlatOf}
+use Rattle.tdf_traced.specs.low.bind.Flat.{FlatOf}
 use Rattle.tdf_columns.proofs.Api.{started_back}
 use Rattle.tdf_columns.specs.Calls.{HasNoneLeft, HasStarted, TakesPeriod, with_span}
 use Rattle.tdf_columns.specs.Tracked.{AreSince, TrackedOf, TrackingOf}
-use Rattle.tdf_exec.specs.Cluster.{ClusterOf}
-use Rattle.tdf_flow.proofs.Api.{none_some, some_same}
-use Rattle.tdf_rows.specs.Positions.{AreChained, Span}
+use Rattle.tdf_traced.specs.low.exec.Cluster.{ClusterOf}
+use Rattle.tdf_traced.proofs.Api.{none_some, some_same}
+use Rattle.tdf_traced.specs.low.rows.Positions.{AreChained, Span}
 use Rattle.tdf_shown.proofs.Items.{true_false}
 use Rattle.tdf_shown.specs.Periods.{ClockAt, begins, span_in}
 use Rattle.tdf_shown.specs.declared.signals.TracedSignal.{TracedSignal}
 use Rattle.tdf_shown.specs.machine.Beginning.{BeginsAmong, HaveStarted, IsBeginning, TakesBegun}
-use Rattle.tdf_trace.specs.Stands.{RowsSeen, TraceSeen}
+use Rattle.tdf_columns.specs.low.trace.Stands.{RowsSeen, TraceSeen}
 
 abbrev AreOnce : List TracedSignal → Type 0
 AreOnce signals = (i j : ℕ) (t u : TracedSignal) → slice_get signals i ≡ Some t → slice_get signals j ≡ Some u → t.signal ≡ u.signal → i ≡ j

@@ -3,15 +3,15 @@ use Rattle.std.proofs.Common.{◌≡◌, ◌∙◌, ℕ, zero, suc, ◌≤◌, B
 use Rattle.std.proofs.lemmas.Option.{get_or_from_slice_get, slice_get_within}
 use Rattle.std.specs.List.{cons_option}
 use Rattle.std.specs.Prelude.{IfSome, filter_map}
-use Rattle.tdf_bind.specs.Flat.{FlatOf}
-use Rattle.tdf_flow.proofs.Api.{get_inside, none_some, some_same}
+use Rattle.tdf_traced.specs.low.bind.Flat.{FlatOf}
+use Rattle.tdf_traced.proofs.Api.{get_inside, none_some, some_same}
 use Rattle.tdf_shown.specs.Calls.{CanBeShown}
 use Rattle.tdf_shown.specs.Variables.{traced_signal, variable_for, variable_of, variables_of}
-use Rattle.tdf_trace.specs.Columns.{HasFewPlaces}
-use Rattle.tdf_trace.specs.Writings.{CanBeTraced}
-use Rattle.tdf_trace.specs.declared.about.Variable.{Variable}
-use Rattle.tdf_wiring.specs.declared.drivers.SignalRow.{SignalRow}
-use Rattle.tdf_wiring.specs.declared.traces.TraceRow.{TraceRow}
+use Rattle.tdf_columns.specs.low.trace.Columns.{HasFewPlaces}
+use Rattle.tdf_columns.specs.low.trace.Writings.{CanBeTraced}
+use Rattle.tdf_columns.specs.low.trace.declared.about.Variable.{Variable}
+use Rattle.tdf_traced.specs.low.wiring.declared.drivers.SignalRow.{SignalRow}
+use Rattle.tdf_traced.specs.low.wiring.declared.traces.TraceRow.{TraceRow}
 
 -- where each item gives something, there are as many
 given_long : {A B : Type 0} (f : A → Option B) (xs : List A) → ((i : ℕ) (x : A) → slice_get xs i ≡ Some x → (y : B) × (f x ≡ Some y)) → length (filter_map f xs) ≡ length xs

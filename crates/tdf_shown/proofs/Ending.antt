@@ -4,17 +4,17 @@ use Rattle.std.proofs.lemmas.Bool.{eq-eqb, lt-ltb}
 use Rattle.tdf_columns.specs.Calls.{NotesRest}
 use Rattle.tdf_columns.specs.Tracks.{cells_by}
 use Rattle.tdf_columns.specs.Traces.{sample_or, with_samples}
-use Rattle.tdf_dynamic.specs.Attributes.{clusters_of}
-use Rattle.tdf_events.specs.Side.{SideOf}
-use Rattle.tdf_flat.specs.declared.model.Flat.{Flat}
-use Rattle.tdf_flow.proofs.Api.{none_some}
-use Rattle.tdf_history.specs.Cells.{cell_by_driver, driven_cell, driver_of_row, event_cell, port_cell, run_cells, signal_cell, trace_cell, world_before}
-use Rattle.tdf_history.specs.World.{World}
-use Rattle.tdf_layout.specs.Traced.{is_trace_of}
-use Rattle.tdf_rows.proofs.Api.{agree_trans}
-use Rattle.tdf_rows.specs.Laws.{Agree}
-use Rattle.tdf_rows.specs.Positions.{Span, cell_of, position_at}
-use Rattle.tdf_rows.specs.Rows.{Cells}
+use Rattle.tdf_traced.specs.low.dynamic.Attributes.{clusters_of}
+use Rattle.tdf_world.specs.low.events.Side.{SideOf}
+use Rattle.tdf_traced.specs.low.flat.declared.model.Flat.{Flat}
+use Rattle.tdf_traced.proofs.Api.{none_some}
+use Rattle.tdf_traced.specs.low.history.Cells.{cell_by_driver, driven_cell, driver_of_row, event_cell, port_cell, run_cells, signal_cell, trace_cell, world_before}
+use Rattle.tdf_traced.specs.low.history.World.{World}
+use Rattle.tdf_traced.specs.low.layout.Traced.{is_trace_of}
+use Rattle.tdf_traced.proofs.Api.{agree_trans}
+use Rattle.tdf_traced.specs.low.rows.Laws.{Agree}
+use Rattle.tdf_traced.specs.low.rows.Positions.{Span, cell_of, position_at}
+use Rattle.tdf_traced.specs.low.rows.Rows.{Cells}
 use Rattle.tdf_shown.proofs.Pushing.{any_here}
 use Rattle.tdf_shown.proofs.Telling.{told}
 use Rattle.tdf_shown.specs.Calls.{ShowsEnd}
@@ -23,8 +23,8 @@ use Rattle.tdf_shown.specs.Shown.{IsShown, IsShownOf}
 use Rattle.tdf_shown.specs.Signals.{AreTold, DrivesTraced, IsDriverOf, IsListed}
 use Rattle.tdf_shown.specs.declared.shown.Shown.{Shown}
 use Rattle.tdf_traced.proofs.Api.{cell_of_samples}
-use Rattle.tdf_tree.specs.Pure.{PureTree}
-use Rattle.tdf_wiring.specs.declared.traces.TraceRow.{TraceRow}
+use Rattle.tdf_traced.specs.low.tree.Pure.{PureTree}
+use Rattle.tdf_traced.specs.low.wiring.declared.traces.TraceRow.{TraceRow}
 use Rattle.tdf_world.specs.Rules.{rules_of}
 
 module _ (model : PureTree) (flat : Flat) (start : World SideOf) (end : ℕ) (s : Shown) (tells : AreTold flat.tables) (shown : IsShown model flat start end (world_before model flat (rules_of model flat) start end) s) where

@@ -1,14 +1,14 @@
 -- Signals get their initial samples, one after the other.
 use Rattle.std.proofs.Common.{◌≡◌, ℕ, ◌+◌, ◌<◌, List, [], ◌∷◌, ◌++◌, append-nil, Some, slice_get, refl, ap, sym, ◌∙◌, subst, inl, inr, arith}
 use Rattle.std.proofs.lemmas.Bool.{cases_eq, eq-eqb, ne_eqb}
-use Rattle.tdf_bind.specs.Flat.{FlatOf}
+use Rattle.tdf_traced.specs.low.bind.Flat.{FlatOf}
 use Rattle.tdf_columns.specs.Calls.{TakesSamples, with_traced}
 use Rattle.tdf_columns.specs.Tracked.{AreSince, TrackedOf, TrackingOf, labels, samples_of, sinces}
-use Rattle.tdf_fixed.specs.declared.raw.Raw.{Raw}
-use Rattle.tdf_flow.proofs.Api.{some_same}
+use Rattle.tdf_traced.specs.low.fixed.declared.raw.Raw.{Raw}
+use Rattle.tdf_traced.proofs.Api.{some_same}
 use Rattle.tdf_shown.specs.declared.signals.TracedSignal.{TracedSignal}
 use Rattle.tdf_shown.specs.machine.Giving.{IsAmong, IsGivingTo, TakesInitials, initials_of, traced_with}
-use Rattle.tdf_trace.specs.Stands.{RowsSeen, TraceSeen}
+use Rattle.tdf_columns.specs.low.trace.Stands.{RowsSeen, TraceSeen}
 
 -- samples of one signal are all of it, and none of another
 pub samples_here : (signal s : ℕ) (values : List Raw) → signal ≡ s → samples_of s (traced_with signal values) ≡ values

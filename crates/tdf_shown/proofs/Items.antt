@@ -2,7 +2,7 @@
 use Rattle.std.proofs.Common.{◌≡◌, ℕ, zero, suc, ◌<◌, true, false, Option, Some, None, List, [], ◌∷◌, ◌++◌, length, map, slice_get, option_map, refl, ap, sym, ◌∙◌, inl, inr, arith}
 use Rattle.std.proofs.lemmas.Bool.{cases_eq, cases_lt}
 use Rattle.std.proofs.lemmas.Option.{slice_get-map}
-use Rattle.tdf_flow.proofs.Api.{get_low, none_some, some_same}
+use Rattle.tdf_traced.proofs.Api.{get_low, none_some, some_same}
 
 pub true_false : true ≡ false → ⊥
 true_false e = absurd (grind (arith, e))

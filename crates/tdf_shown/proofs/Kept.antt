@@ -5,18 +5,18 @@ use Rattle.std.proofs.lemmas.Bool.Decides.{Decides-int_eq}
 use Rattle.std.specs.List.{list_any}
 use Rattle.std.specs.Ordering.{int_eq}
 use Rattle.tdf_columns.proofs.Api.{left_is}
-use Rattle.tdf_fixed.specs.declared.raw.Raw.{Raw}
-use Rattle.tdf_history.specs.Cells.{changed_cell, event_cell, is_same_value}
-use Rattle.tdf_rows.specs.Laws.{Agree}
-use Rattle.tdf_rows.specs.Positions.{total}
+use Rattle.tdf_traced.specs.low.fixed.declared.raw.Raw.{Raw}
+use Rattle.tdf_traced.specs.low.history.Cells.{changed_cell, event_cell, is_same_value}
+use Rattle.tdf_traced.specs.low.rows.Laws.{Agree}
+use Rattle.tdf_traced.specs.low.rows.Positions.{total}
 use Rattle.tdf_shown.proofs.Items.{true_false}
 use Rattle.tdf_shown.proofs.Noting.{holds_cells}
 use Rattle.tdf_shown.proofs.Pushing.{any_found, any_here}
 use Rattle.tdf_shown.specs.Events.{AreEventColumns, event_before, events_before, value_of, values_before}
 use Rattle.tdf_shown.specs.Laws.{LaterIsShown, RowsMayBeWritten, WrittenIsShown}
 use Rattle.tdf_shown.specs.declared.signals.TracedSignal.{TracedSignal}
-use Rattle.tdf_trace.specs.Writings.{AboutSeen}
-use Rattle.tdf_wiring.specs.declared.traces.TraceRow.{TraceRow}
+use Rattle.tdf_columns.specs.low.trace.Writings.{AboutSeen}
+use Rattle.tdf_traced.specs.low.wiring.declared.traces.TraceRow.{TraceRow}
 use Rattle.tdf_world.specs.Rules.{rules_of}
 
 -- rows

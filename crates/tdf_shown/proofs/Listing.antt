@@ -3,18 +3,18 @@ use Rattle.std.proofs.Common.{◌≡◌, ◌∙◌, ℕ, ◌+◌, Bool, true, fa
 use Rattle.std.proofs.lemmas.Bool.{eqb-true}
 use Rattle.std.specs.List.{cons_option}
 use Rattle.tdf_columns.specs.Tracked.{Label, TrackedOf, label, labels, samples_of, sinces}
-use Rattle.tdf_convert.specs.declared.outputs.Traced.{Traced}
-use Rattle.tdf_dynamic.specs.Attributes.{clusters_of}
-use Rattle.tdf_flat.specs.declared.model.Flat.{Flat}
-use Rattle.tdf_flow.proofs.Api.{some_same}
-use Rattle.tdf_history.specs.Cells.{driver_of_row}
-use Rattle.tdf_layout.specs.Traced.{is_trace_of}
+use Rattle.tdf_traced.specs.low.convert.declared.outputs.Traced.{Traced}
+use Rattle.tdf_traced.specs.low.dynamic.Attributes.{clusters_of}
+use Rattle.tdf_traced.specs.low.flat.declared.model.Flat.{Flat}
+use Rattle.tdf_traced.proofs.Api.{some_same}
+use Rattle.tdf_traced.specs.low.history.Cells.{driver_of_row}
+use Rattle.tdf_traced.specs.low.layout.Traced.{is_trace_of}
 use Rattle.tdf_shown.proofs.Items.{alike}
 use Rattle.tdf_shown.proofs.Pushing.{any_found}
 use Rattle.tdf_shown.specs.Signals.{AreTracedSignals, DrivesTraced, IsListed}
 use Rattle.tdf_shown.specs.declared.signals.TracedSignal.{TracedSignal}
 use Rattle.tdf_traced.specs.Samples.{samples_of as samples_in}
-use Rattle.tdf_wiring.specs.declared.modules.PortRow.{PortRow}
+use Rattle.tdf_traced.specs.low.wiring.declared.modules.PortRow.{PortRow}
 
 -- what is listed of a port
 pub record IsFound (list : List TracedSignal) (n number : ℕ) (port : PortRow) : Type 0 where

@@ -7,24 +7,24 @@ use Rattle.tdf_columns.specs.Calls.{Holds}
 use Rattle.tdf_columns.specs.Tracked.{TrackedOf}
 use Rattle.tdf_columns.specs.Tracks.{known_by}
 use Rattle.tdf_columns.specs.Traces.{sample_or, with_samples}
-use Rattle.tdf_events.specs.Side.{SideOf}
-use Rattle.tdf_fixed.specs.declared.raw.Raw.{Raw}
-use Rattle.tdf_flat.specs.declared.model.Flat.{Flat}
-use Rattle.tdf_flow.proofs.Api.{get_inside, none_some, some_same}
-use Rattle.tdf_history.specs.Cells.{changed_cell, event_cell, is_same_value}
-use Rattle.tdf_history.specs.World.{World}
-use Rattle.tdf_rows.specs.Laws.{Agree}
-use Rattle.tdf_rows.specs.Noted.{is_cell_of}
-use Rattle.tdf_rows.specs.Positions.{Span}
-use Rattle.tdf_rows.specs.Rows.{Cells}
+use Rattle.tdf_world.specs.low.events.Side.{SideOf}
+use Rattle.tdf_traced.specs.low.fixed.declared.raw.Raw.{Raw}
+use Rattle.tdf_traced.specs.low.flat.declared.model.Flat.{Flat}
+use Rattle.tdf_traced.proofs.Api.{get_inside, none_some, some_same}
+use Rattle.tdf_traced.specs.low.history.Cells.{changed_cell, event_cell, is_same_value}
+use Rattle.tdf_traced.specs.low.history.World.{World}
+use Rattle.tdf_traced.specs.low.rows.Laws.{Agree}
+use Rattle.tdf_traced.specs.low.rows.Noted.{is_cell_of}
+use Rattle.tdf_traced.specs.low.rows.Positions.{Span}
+use Rattle.tdf_traced.specs.low.rows.Rows.{Cells}
 use Rattle.tdf_shown.proofs.Items.{true_false}
 use Rattle.tdf_shown.specs.Events.{AreEventColumns, IsColumnOf, IsEventColumn, event_before, events_before, value_of, values_before}
 use Rattle.tdf_shown.specs.declared.events.EventColumn.{EventColumn}
 use Rattle.tdf_shown.specs.machine.Noting.{HaveShown, IsShowing, TakesChange, cell_for, with_change, with_changes, with_shown}
-use Rattle.tdf_trace.proofs.Api.{stands_alike}
-use Rattle.tdf_trace.specs.Stands.{RowsSeen, TakesCell, TraceSeen}
-use Rattle.tdf_tree.specs.Pure.{PureTree}
-use Rattle.tdf_wiring.specs.declared.traces.TraceRow.{TraceRow}
+use Rattle.tdf_columns.proofs.Api.{stands_alike}
+use Rattle.tdf_columns.specs.low.trace.Stands.{RowsSeen, TakesCell, TraceSeen}
+use Rattle.tdf_traced.specs.low.tree.Pure.{PureTree}
+use Rattle.tdf_traced.specs.low.wiring.declared.traces.TraceRow.{TraceRow}
 use Rattle.tdf_world.specs.Rules.{rules_of}
 
 -- cells that are alike

@@ -5,23 +5,23 @@ use Rattle.std.proofs.lemmas.Option.{get_or_from_slice_get, slice_get-map, slice
 use Rattle.std.proofs.lemmas.List.Elements.{filter_map-append}
 use Rattle.std.specs.List.{cons_option, list_any}
 use Rattle.std.specs.Prelude.{filter_map}
-use Rattle.tdf_bind.specs.Actors.{cluster_of}
-use Rattle.tdf_bind.specs.Flat.{FlatOf}
-use Rattle.tdf_bind.specs.declared.actors.ActorRow.{ActorRow}
-use Rattle.tdf_dynamic.specs.Attributes.{clusters_of}
-use Rattle.tdf_fixed.specs.declared.raw.Raw.{Raw}
-use Rattle.tdf_flat.specs.declared.model.Flat.{Flat}
-use Rattle.tdf_flow.proofs.Api.{get_low, none_some, some_same}
-use Rattle.tdf_history.specs.Cells.{driver_of_row}
-use Rattle.tdf_layout.specs.Traced.{is_trace_of}
+use Rattle.tdf_traced.specs.low.bind.Actors.{cluster_of}
+use Rattle.tdf_traced.specs.low.bind.Flat.{FlatOf}
+use Rattle.tdf_traced.specs.low.bind.declared.actors.ActorRow.{ActorRow}
+use Rattle.tdf_traced.specs.low.dynamic.Attributes.{clusters_of}
+use Rattle.tdf_traced.specs.low.fixed.declared.raw.Raw.{Raw}
+use Rattle.tdf_traced.specs.low.flat.declared.model.Flat.{Flat}
+use Rattle.tdf_traced.proofs.Api.{get_low, none_some, some_same}
+use Rattle.tdf_traced.specs.low.history.Cells.{driver_of_row}
+use Rattle.tdf_traced.specs.low.layout.Traced.{is_trace_of}
 use Rattle.tdf_shown.proofs.Items.{First, Last, get_last, pushed, true_false}
 use Rattle.tdf_shown.specs.Events.{AreEventColumns, IsEventColumn}
 use Rattle.tdf_shown.specs.Signals.{AreTracedSignals, IsDriverOf, IsListed, IsSignalOf}
 use Rattle.tdf_shown.specs.declared.events.EventColumn.{EventColumn}
 use Rattle.tdf_shown.specs.declared.signals.TracedSignal.{TracedSignal}
 use Rattle.tdf_shown.specs.machine.Pushing.{AreColumnsTo, AreSignalsTo, HasTrace, driver_of_trace}
-use Rattle.tdf_streams.specs.Cluster.{zero_sample}
-use Rattle.tdf_wiring.specs.declared.traces.TraceRow.{TraceRow}
+use Rattle.tdf_traced.specs.low.streams.Cluster.{zero_sample}
+use Rattle.tdf_traced.specs.low.wiring.declared.traces.TraceRow.{TraceRow}
 
 -- a list has an item that passes a test
 pub any_here : {A : Type 0} (f : A → Bool) (xs : List A) (i : ℕ) (x : A) → slice_get xs i ≡ Some x → f x ≡ true → list_any f xs ≡ true

@@ -6,28 +6,28 @@ use Rattle.std.proofs.Math.Nat.{mul-le-mul_left}
 use Rattle.std.proofs.lemmas.Option.{get_or_from_slice_get, slice_get_within}
 use Rattle.std.specs.List.{sum_by}
 use Rattle.std.specs.Prelude.{All}
-use Rattle.tdf_base.specs.Limits.{time_end}
-use Rattle.tdf_exec.specs.Cluster.{ClusterOf}
-use Rattle.tdf_exec.specs.Played.{turns_from}
-use Rattle.tdf_flat.specs.declared.model.Flat.{Flat}
-use Rattle.tdf_flow.proofs.Api.{get_low}
-use Rattle.tdf_history.specs.Cells.{samples_done, spans_from}
-use Rattle.tdf_history.specs.Instant.{is_over, periods_of}
-use Rattle.tdf_history.specs.World.{ClusterAt}
-use Rattle.tdf_limits.specs.Limits.{AreWithinLimits}
-use Rattle.tdf_rows.specs.Positions.{AreChained, span_of, total}
-use Rattle.tdf_run.specs.At.{IsAt}
-use Rattle.tdf_schedule.specs.Plan.{done}
+use Rattle.tdf_traced.specs.low.base.Limits.{time_end}
+use Rattle.tdf_traced.specs.low.exec.Cluster.{ClusterOf}
+use Rattle.tdf_traced.specs.low.exec.Played.{turns_from}
+use Rattle.tdf_traced.specs.low.flat.declared.model.Flat.{Flat}
+use Rattle.tdf_traced.proofs.Api.{get_low}
+use Rattle.tdf_traced.specs.low.history.Cells.{samples_done, spans_from}
+use Rattle.tdf_traced.specs.low.history.Instant.{is_over, periods_of}
+use Rattle.tdf_traced.specs.low.history.World.{ClusterAt}
+use Rattle.tdf_traced.specs.low.limits.Limits.{AreWithinLimits}
+use Rattle.tdf_traced.specs.low.rows.Positions.{AreChained, span_of, total}
+use Rattle.tdf_traced.specs.low.run.At.{IsAt}
+use Rattle.tdf_traced.specs.low.schedule.Plan.{done}
 use Rattle.tdf_shown.proofs.Items.{get_last}
 use Rattle.tdf_shown.specs.Periods.{CanBegin, positions_in, row_rate, span_in}
 use Rattle.tdf_shown.specs.Signals.{DrivesTraced}
 use Rattle.tdf_shown.specs.declared.signals.TracedSignal.{TracedSignal}
-use Rattle.tdf_streams.proofs.Api.{steps_whole}
-use Rattle.tdf_streams.specs.Laws.{IsClusterPort}
-use Rattle.tdf_streams.specs.Periods.{IsTimedRecord, IsWholeRecord, PeriodRecord}
-use Rattle.tdf_streams.specs.Signals.{outputs_in, positions, rate_in, step_in, time_of}
-use Rattle.tdf_tree.specs.Pure.{PureTree}
-use Rattle.tdf_wiring.specs.declared.modules.PortRow.{PortRow}
+use Rattle.tdf_traced.proofs.Api.{steps_whole}
+use Rattle.tdf_traced.specs.low.streams.Laws.{IsClusterPort}
+use Rattle.tdf_traced.specs.low.streams.Periods.{IsTimedRecord, IsWholeRecord, PeriodRecord}
+use Rattle.tdf_traced.specs.low.streams.Signals.{outputs_in, positions, rate_in, step_in, time_of}
+use Rattle.tdf_traced.specs.low.tree.Pure.{PureTree}
+use Rattle.tdf_traced.specs.low.wiring.declared.modules.PortRow.{PortRow}
 use Rattle.tdf_world.specs.Laws.{HasDone}
 
 all_at : {A : Type 0} (P : A → Type 0) (xs : List A) (i : ℕ) (x : A) → All P xs → slice_get xs i ≡ Some x → P x

@@ -7,20 +7,20 @@ use Rattle.std.specs.Prelude.{filter_map}
 use Rattle.tdf_columns.proofs.Api.{holds_fresh}
 use Rattle.tdf_columns.specs.Calls.{Holds}
 use Rattle.tdf_columns.specs.Tracked.{TrackingOf}
-use Rattle.tdf_dynamic.specs.declared.first.First.{First}
-use Rattle.tdf_events.specs.Side.{SideOf}
-use Rattle.tdf_flat.specs.declared.model.Flat.{Flat}
-use Rattle.tdf_flow.proofs.Api.{get_inside, none_some, some_same}
-use Rattle.tdf_history.specs.Cells.{event_cell, first_shown, spans_from, value_before}
-use Rattle.tdf_history.specs.Instant.{periods_of}
-use Rattle.tdf_history.specs.Start.{first_cluster, first_clusters}
-use Rattle.tdf_history.specs.World.{ClusterAt, World}
-use Rattle.tdf_instants.specs.History.{history}
-use Rattle.tdf_limits.specs.Limits.{AreWithinLimits}
-use Rattle.tdf_rows.specs.Laws.{Agree}
-use Rattle.tdf_rows.specs.Noted.{noted}
-use Rattle.tdf_rows.specs.Positions.{AreChained, span_of}
-use Rattle.tdf_run.specs.At.{IsAt}
+use Rattle.tdf_traced.specs.low.dynamic.declared.first.First.{First}
+use Rattle.tdf_world.specs.low.events.Side.{SideOf}
+use Rattle.tdf_traced.specs.low.flat.declared.model.Flat.{Flat}
+use Rattle.tdf_traced.proofs.Api.{get_inside, none_some, some_same}
+use Rattle.tdf_traced.specs.low.history.Cells.{event_cell, first_shown, spans_from, value_before}
+use Rattle.tdf_traced.specs.low.history.Instant.{periods_of}
+use Rattle.tdf_traced.specs.low.history.Start.{first_cluster, first_clusters}
+use Rattle.tdf_traced.specs.low.history.World.{ClusterAt, World}
+use Rattle.tdf_traced.specs.low.instants.History.{history}
+use Rattle.tdf_traced.specs.low.limits.Limits.{AreWithinLimits}
+use Rattle.tdf_traced.specs.low.rows.Laws.{Agree}
+use Rattle.tdf_traced.specs.low.rows.Noted.{noted}
+use Rattle.tdf_traced.specs.low.rows.Positions.{AreChained, span_of}
+use Rattle.tdf_traced.specs.low.run.At.{IsAt}
 use Rattle.tdf_shown.proofs.Listing.{IsFound, found, moved}
 use Rattle.tdf_shown.proofs.Spans.{chained_whole, span_is}
 use Rattle.tdf_shown.specs.Calls.{CanStart, StartsShowing, start_values}
@@ -33,18 +33,18 @@ use Rattle.tdf_shown.specs.declared.shown.Shown.{Shown}
 use Rattle.tdf_shown.specs.declared.signals.TracedSignal.{TracedSignal}
 use Rattle.tdf_shown.specs.machine.Beginning.{AreNext, BegunWith, IsBeginning}
 use Rattle.tdf_shown.specs.machine.Giving.{GivenWith, IsGivingTo}
-use Rattle.tdf_streams.specs.Cluster.{initial_samples, zero_sample}
-use Rattle.tdf_streams.specs.Signals.{positions, step_in, time_of}
-use Rattle.tdf_trace.proofs.Api.{stands_alike}
-use Rattle.tdf_trace.specs.Stands.{TraceSeen, no_cells}
-use Rattle.tdf_trace.specs.Writings.{AboutSeen, first_of}
-use Rattle.tdf_trace.specs.declared.about.Variable.{Variable}
+use Rattle.tdf_traced.specs.low.streams.Cluster.{initial_samples, zero_sample}
+use Rattle.tdf_traced.specs.low.streams.Signals.{positions, step_in, time_of}
+use Rattle.tdf_columns.proofs.Api.{stands_alike}
+use Rattle.tdf_columns.specs.low.trace.Stands.{TraceSeen, no_cells}
+use Rattle.tdf_columns.specs.low.trace.Writings.{AboutSeen, first_of}
+use Rattle.tdf_columns.specs.low.trace.declared.about.Variable.{Variable}
 use Rattle.tdf_traced.proofs.Api.{start_samples}
 use Rattle.tdf_traced.specs.Samples.{AreSamplesOf}
-use Rattle.tdf_tree.specs.Pure.{PureTree}
-use Rattle.tdf_wiring.specs.declared.drivers.SignalRow.{SignalRow}
-use Rattle.tdf_wiring.specs.declared.modules.PortRow.{PortRow}
-use Rattle.tdf_wiring.specs.declared.traces.TraceRow.{TraceRow}
+use Rattle.tdf_traced.specs.low.tree.Pure.{PureTree}
+use Rattle.tdf_traced.specs.low.wiring.declared.drivers.SignalRow.{SignalRow}
+use Rattle.tdf_traced.specs.low.wiring.declared.modules.PortRow.{PortRow}
+use Rattle.tdf_traced.specs.low.wiring.declared.traces.TraceRow.{TraceRow}
 use Rattle.tdf_world.specs.Rules.{rules_of, start_world}
 
 -- a cluster at the start

@@ -4,19 +4,19 @@ use Rattle.std.proofs.lemmas.Bool.{eq-eqb, eqb-true}
 use Rattle.std.proofs.lemmas.Option.{get_or_from_slice_get, slice_get_within}
 use Rattle.tdf_columns.specs.Calls.{Holds, TakesSamples, with_traced}
 use Rattle.tdf_columns.specs.Tracked.{AreSince, TrackedOf, TrackingOf, labels, sinces}
-use Rattle.tdf_convert.specs.declared.outputs.Traced.{Traced}
-use Rattle.tdf_events.specs.Side.{SideOf}
-use Rattle.tdf_exec.specs.Cluster.{ClusterOf}
-use Rattle.tdf_fixed.specs.declared.raw.Raw.{Raw}
-use Rattle.tdf_flat.specs.declared.model.Flat.{Flat}
-use Rattle.tdf_flow.proofs.Api.{get_inside, some_same}
-use Rattle.tdf_history.specs.Cells.{spans_from}
-use Rattle.tdf_history.specs.Instant.{is_over, periods_of}
-use Rattle.tdf_history.specs.World.{ClusterAt, World}
-use Rattle.tdf_limits.specs.Limits.{AreWithinLimits}
-use Rattle.tdf_rows.specs.Positions.{AreChained, Span, span_of}
-use Rattle.tdf_run.specs.At.{IsAt}
-use Rattle.tdf_run.specs.Pass.{AreAt}
+use Rattle.tdf_traced.specs.low.convert.declared.outputs.Traced.{Traced}
+use Rattle.tdf_world.specs.low.events.Side.{SideOf}
+use Rattle.tdf_traced.specs.low.exec.Cluster.{ClusterOf}
+use Rattle.tdf_traced.specs.low.fixed.declared.raw.Raw.{Raw}
+use Rattle.tdf_traced.specs.low.flat.declared.model.Flat.{Flat}
+use Rattle.tdf_traced.proofs.Api.{get_inside, some_same}
+use Rattle.tdf_traced.specs.low.history.Cells.{spans_from}
+use Rattle.tdf_traced.specs.low.history.Instant.{is_over, periods_of}
+use Rattle.tdf_traced.specs.low.history.World.{ClusterAt, World}
+use Rattle.tdf_traced.specs.low.limits.Limits.{AreWithinLimits}
+use Rattle.tdf_traced.specs.low.rows.Positions.{AreChained, Span, span_of}
+use Rattle.tdf_traced.specs.low.run.At.{IsAt}
+use Rattle.tdf_traced.specs.low.run.Pass.{AreAt}
 use Rattle.tdf_shown.proofs.Beginning.{begun_since}
 use Rattle.tdf_shown.proofs.Listing.{IsFound, found, moved, samples_same}
 use Rattle.tdf_shown.proofs.Noting.{columns_shown, events_agree, holds_cells}
@@ -32,12 +32,12 @@ use Rattle.tdf_shown.specs.declared.shown.Shown.{Shown}
 use Rattle.tdf_shown.specs.declared.signals.TracedSignal.{TracedSignal}
 use Rattle.tdf_shown.specs.machine.Beginning.{AreNext, BeginsAmong, BegunWith, First, HasBegun, IsBeginning, Later}
 use Rattle.tdf_shown.specs.machine.Noting.{HaveShown, IsShowing, with_changes}
-use Rattle.tdf_streams.specs.Signals.{positions, step_in, time_of}
-use Rattle.tdf_trace.specs.Stands.{TraceSeen}
-use Rattle.tdf_trace.specs.Writings.{AboutSeen}
+use Rattle.tdf_traced.specs.low.streams.Signals.{positions, step_in, time_of}
+use Rattle.tdf_columns.specs.low.trace.Stands.{TraceSeen}
+use Rattle.tdf_columns.specs.low.trace.Writings.{AboutSeen}
 use Rattle.tdf_traced.specs.Samples.{AreSamplesOf}
-use Rattle.tdf_tree.specs.Pure.{PureTree}
-use Rattle.tdf_wiring.specs.declared.modules.PortRow.{PortRow}
+use Rattle.tdf_traced.specs.low.tree.Pure.{PureTree}
+use Rattle.tdf_traced.specs.low.wiring.declared.modules.PortRow.{PortRow}
 
 -- the periods of each traced signal are those that its cluster has after the instant
 pub record IsOnward (flat : Flat) (model : PureTree) (start : World SideOf) (time : ℕ) (w v : World SideOf) (s : Shown) (samples : ℕ → List Raw) (t : TrackingOf) (r : TraceSeen) : Type 0 where

@@ -5,34 +5,34 @@ use Rattle.std.proofs.lemmas.List.{length-map}
 use Rattle.std.proofs.lemmas.List.FromFn.{length-enumerate_from}
 use Rattle.std.proofs.lemmas.Option.{get_or_from_slice_get, slice_get_within}
 use Rattle.std.specs.List.{AllZip, enumerate_from, find, flat_map}
-use Rattle.tdf_base.specs.Limits.{most_traces}
-use Rattle.tdf_checks.specs.Blocks.{composite_faults}
-use Rattle.tdf_checks.specs.Types.{extra_faults, global_faults, traces_faults, type_faults}
-use Rattle.tdf_dynamic.proofs.Api.{modules_few}
-use Rattle.tdf_faults.specs.First.{fault_if}
-use Rattle.tdf_flat.specs.Flat.{IsFlatOf, trace_line}
-use Rattle.tdf_flat.specs.declared.model.Flat.{Flat}
-use Rattle.tdf_flow.proofs.Api.{get_inside, none_some, some_same}
-use Rattle.tdf_history.specs.Cells.{driver_of_row}
-use Rattle.tdf_layout.proofs.Api.{IsDriver, driver_is}
-use Rattle.tdf_limits.specs.Limits.{AreWithinLimits}
-use Rattle.tdf_roles.specs.Roles.{roles_of}
-use Rattle.tdf_scope.specs.Names.{globals_of}
+use Rattle.tdf_traced.specs.low.base.Limits.{most_traces}
+use Rattle.tdf_traced.specs.low.checks.Blocks.{composite_faults}
+use Rattle.tdf_traced.specs.low.checks.Types.{extra_faults, global_faults, traces_faults, type_faults}
+use Rattle.tdf_traced.proofs.Api.{modules_few}
+use Rattle.tdf_traced.specs.low.faults.First.{fault_if}
+use Rattle.tdf_traced.specs.low.flat.Flat.{IsFlatOf, trace_line}
+use Rattle.tdf_traced.specs.low.flat.declared.model.Flat.{Flat}
+use Rattle.tdf_traced.proofs.Api.{get_inside, none_some, some_same}
+use Rattle.tdf_traced.specs.low.history.Cells.{driver_of_row}
+use Rattle.tdf_traced.proofs.Api.{IsDriver, driver_is}
+use Rattle.tdf_traced.specs.low.limits.Limits.{AreWithinLimits}
+use Rattle.tdf_traced.specs.low.roles.Roles.{roles_of}
+use Rattle.tdf_traced.specs.low.scope.Names.{globals_of}
 use Rattle.tdf_shown.proofs.Items.{true_false}
 use Rattle.tdf_shown.specs.Signals.{AreTold, IsDriverOf}
-use Rattle.tdf_streams.proofs.Api.{is_wired}
-use Rattle.tdf_tree.specs.Pure.{PureTrace, PureTree}
-use Rattle.tdf_walk.specs.Tables.{TablesOf, table}
-use Rattle.tdf_walk.specs.declared.tables.Signal.{Signal}
-use Rattle.tdf_wiring.specs.Drivers.{signal_row, signal_rows}
-use Rattle.tdf_wiring.specs.Edges.{driver_row}
-use Rattle.tdf_wiring.specs.ProcessBlocks.{placed_blocks}
-use Rattle.tdf_wiring.specs.Traces.{IsTraceOf, has_path, leads_to}
-use Rattle.tdf_wiring.specs.declared.drivers.SignalRow.{SignalRow}
-use Rattle.tdf_wiring.specs.declared.modules.PortRow.{PortRow}
-use Rattle.tdf_wiring.specs.declared.traces.TraceLine.{TraceLine}
-use Rattle.tdf_wiring.specs.declared.traces.TraceRow.{TraceRow}
-use Rattle.tdf_wiring.specs.declared.writers.Writer.{Writer}
+use Rattle.tdf_traced.proofs.Api.{is_wired}
+use Rattle.tdf_traced.specs.low.tree.Pure.{PureTrace, PureTree}
+use Rattle.tdf_traced.specs.low.walk.Tables.{TablesOf, table}
+use Rattle.tdf_traced.specs.low.walk.declared.tables.Signal.{Signal}
+use Rattle.tdf_traced.specs.low.wiring.Drivers.{signal_row, signal_rows}
+use Rattle.tdf_traced.specs.low.wiring.Edges.{driver_row}
+use Rattle.tdf_traced.specs.low.wiring.ProcessBlocks.{placed_blocks}
+use Rattle.tdf_traced.specs.low.wiring.Traces.{IsTraceOf, has_path, leads_to}
+use Rattle.tdf_traced.specs.low.wiring.declared.drivers.SignalRow.{SignalRow}
+use Rattle.tdf_traced.specs.low.wiring.declared.modules.PortRow.{PortRow}
+use Rattle.tdf_traced.specs.low.wiring.declared.traces.TraceLine.{TraceLine}
+use Rattle.tdf_traced.specs.low.wiring.declared.traces.TraceRow.{TraceRow}
+use Rattle.tdf_traced.specs.low.wiring.declared.writers.Writer.{Writer}
 use Rattle.tdf_world.proofs.Api.{port_cluster}
 
 -- what is found passes the test

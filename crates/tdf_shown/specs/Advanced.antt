@@ -1,15 +1,15 @@
 -- What an instant does to what a trace shows.
 -- Source: own.
 use Rattle.std.specs.Prelude.{◌≡◌, ◌+◌, ◌++◌, ℕ, true, false, List, Some, length, slice_get}
-use Rattle.tdf_convert.specs.declared.outputs.Traced.{Traced}
-use Rattle.tdf_events.specs.Side.{SideOf}
-use Rattle.tdf_fixed.specs.declared.raw.Raw.{Raw}
-use Rattle.tdf_flat.specs.declared.model.Flat.{Flat}
-use Rattle.tdf_history.specs.Instant.{is_over, periods_of}
-use Rattle.tdf_history.specs.World.{ClusterAt, World}
+use Rattle.tdf_traced.specs.low.convert.declared.outputs.Traced.{Traced}
+use Rattle.tdf_world.specs.low.events.Side.{SideOf}
+use Rattle.tdf_traced.specs.low.fixed.declared.raw.Raw.{Raw}
+use Rattle.tdf_traced.specs.low.flat.declared.model.Flat.{Flat}
+use Rattle.tdf_traced.specs.low.history.Instant.{is_over, periods_of}
+use Rattle.tdf_traced.specs.low.history.World.{ClusterAt, World}
 use Rattle.tdf_traced.specs.Samples.{AreSamplesOf, IsTracedPort, samples_of}
-use Rattle.tdf_tree.specs.Pure.{PureTree}
-use Rattle.tdf_wiring.specs.declared.modules.PortRow.{PortRow}
+use Rattle.tdf_traced.specs.low.tree.Pure.{PureTree}
+use Rattle.tdf_traced.specs.low.wiring.declared.modules.PortRow.{PortRow}
 
 -- a cluster before and after an instant: the period that was over made way for the next one, of
 -- whatever rates and steps, or it goes on

@@ -2,20 +2,20 @@
 -- Source: own.
 use Rattle.std.specs.Prelude.{◌≡◌, ◌<◌, ◌≤◌, ◌+◌, ℕ, List, [], All, Some, length, map}
 use Rattle.std.specs.Prelude.{slice_get}
-use Rattle.tdf_base.specs.Limits.{most_traces}
-use Rattle.tdf_bind.specs.Flat.{FlatOf}
+use Rattle.tdf_traced.specs.low.base.Limits.{most_traces}
+use Rattle.tdf_traced.specs.low.bind.Flat.{FlatOf}
 use Rattle.tdf_columns.specs.Calls.{IsFresh, StandBelow}
 use Rattle.tdf_columns.specs.Tracked.{AreSince}
-use Rattle.tdf_convert.specs.declared.outputs.Traced.{Traced}
-use Rattle.tdf_dynamic.specs.declared.first.First.{First}
-use Rattle.tdf_events.specs.Side.{SideOf}
-use Rattle.tdf_fixed.specs.declared.raw.Raw.{Raw}
-use Rattle.tdf_flat.specs.Flat.{IsFlatOf}
-use Rattle.tdf_flat.specs.declared.model.Flat.{Flat}
-use Rattle.tdf_history.specs.Cells.{run_cells, world_before}
-use Rattle.tdf_history.specs.World.{World}
-use Rattle.tdf_limits.specs.Limits.{AreWithinLimits}
-use Rattle.tdf_run.specs.Pass.{AreAt}
+use Rattle.tdf_traced.specs.low.convert.declared.outputs.Traced.{Traced}
+use Rattle.tdf_traced.specs.low.dynamic.declared.first.First.{First}
+use Rattle.tdf_world.specs.low.events.Side.{SideOf}
+use Rattle.tdf_traced.specs.low.fixed.declared.raw.Raw.{Raw}
+use Rattle.tdf_traced.specs.low.flat.Flat.{IsFlatOf}
+use Rattle.tdf_traced.specs.low.flat.declared.model.Flat.{Flat}
+use Rattle.tdf_traced.specs.low.history.Cells.{run_cells, world_before}
+use Rattle.tdf_traced.specs.low.history.World.{World}
+use Rattle.tdf_traced.specs.low.limits.Limits.{AreWithinLimits}
+use Rattle.tdf_traced.specs.low.run.Pass.{AreAt}
 use Rattle.tdf_shown.specs.Advanced.{HasAdvanced}
 use Rattle.tdf_shown.specs.Events.{AreEventColumns, values_before}
 use Rattle.tdf_shown.specs.Periods.{CanBeginAll, ClockAt}
@@ -25,11 +25,11 @@ use Rattle.tdf_shown.specs.Variables.{variables_of}
 use Rattle.tdf_shown.specs.declared.events.EventColumn.{EventColumn}
 use Rattle.tdf_shown.specs.declared.shown.Shown.{Shown}
 use Rattle.tdf_shown.specs.declared.signals.TracedSignal.{TracedSignal}
-use Rattle.tdf_streams.specs.Cluster.{initial_samples}
-use Rattle.tdf_trace.specs.Stands.{IsNew}
-use Rattle.tdf_trace.specs.Writings.{about_of}
-use Rattle.tdf_tree.specs.Pure.{PureTree}
-use Rattle.tdf_words.specs.declared.asked.TraceKind.{TraceKind}
+use Rattle.tdf_traced.specs.low.streams.Cluster.{initial_samples}
+use Rattle.tdf_columns.specs.low.trace.Stands.{IsNew}
+use Rattle.tdf_columns.specs.low.trace.Writings.{about_of}
+use Rattle.tdf_traced.specs.low.tree.Pure.{PureTree}
+use Rattle.tdf_columns.specs.low.words.declared.asked.TraceKind.{TraceKind}
 use Rattle.tdf_world.specs.Rules.{rules_of, start_world}
 
 -- what a flat model has, so that its traces can be shown: few traces of signals that are there, and

@@ -2,16 +2,16 @@
 -- Source: own.
 use Rattle.std.specs.Prelude.{◌≡◌, ◌&&◌, ℕ, true, nat_lt, if◌then◌else◌, List, Option, Some, None}
 use Rattle.std.specs.Prelude.{length, slice_get, slice_index_or}
-use Rattle.tdf_events.specs.Side.{SideOf}
-use Rattle.tdf_fixed.specs.declared.raw.Raw.{Raw}
-use Rattle.tdf_flat.specs.declared.model.Flat.{Flat}
-use Rattle.tdf_history.specs.Cells.{event_cell, first_shown, world_before}
-use Rattle.tdf_history.specs.World.{World}
-use Rattle.tdf_rows.specs.Rows.{Cells}
+use Rattle.tdf_world.specs.low.events.Side.{SideOf}
+use Rattle.tdf_traced.specs.low.fixed.declared.raw.Raw.{Raw}
+use Rattle.tdf_traced.specs.low.flat.declared.model.Flat.{Flat}
+use Rattle.tdf_traced.specs.low.history.Cells.{event_cell, first_shown, world_before}
+use Rattle.tdf_traced.specs.low.history.World.{World}
+use Rattle.tdf_traced.specs.low.rows.Rows.{Cells}
 use Rattle.tdf_shown.specs.declared.events.EventColumn.{EventColumn}
-use Rattle.tdf_streams.specs.Cluster.{zero_sample}
-use Rattle.tdf_tree.specs.Pure.{PureTree}
-use Rattle.tdf_wiring.specs.declared.traces.TraceRow.{TraceRow}
+use Rattle.tdf_traced.specs.low.streams.Cluster.{zero_sample}
+use Rattle.tdf_traced.specs.low.tree.Pure.{PureTree}
+use Rattle.tdf_traced.specs.low.wiring.declared.traces.TraceRow.{TraceRow}
 use Rattle.tdf_world.specs.Rules.{rules_of}
 
 -- the value of an event signal

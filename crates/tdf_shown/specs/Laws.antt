@@ -2,30 +2,30 @@
 -- Source: own.
 use Rattle.std.specs.Prelude.{◌≡◌, ◌<◌, ◌≤◌, ℕ, List, [], All, Some, length, slice_get}
 use Rattle.std.specs.Prelude.{slice_index}
-use Rattle.tdf_base.specs.Limits.{time_end}
+use Rattle.tdf_traced.specs.low.base.Limits.{time_end}
 use Rattle.tdf_columns.specs.Tracked.{AreSince}
-use Rattle.tdf_convert.specs.declared.outputs.Traced.{Traced}
-use Rattle.tdf_dynamic.specs.Attributes.{clusters_of}
-use Rattle.tdf_dynamic.specs.declared.first.First.{First}
-use Rattle.tdf_events.specs.Runnable.{AreOfSignals, IsRunnable, signal_formats}
-use Rattle.tdf_events.specs.Side.{SideOf}
-use Rattle.tdf_fixed.specs.declared.raw.Raw.{Raw}
-use Rattle.tdf_flat.specs.Flat.{IsFlatOf}
-use Rattle.tdf_flat.specs.declared.model.Flat.{Flat}
-use Rattle.tdf_formats.specs.Formats.{IsSoundModel}
-use Rattle.tdf_history.specs.World.{ClusterAt, World}
-use Rattle.tdf_limits.specs.Limits.{AreWithinLimits}
-use Rattle.tdf_rows.specs.Rows.{Cells}
-use Rattle.tdf_run.specs.Pass.{AreAt}
+use Rattle.tdf_traced.specs.low.convert.declared.outputs.Traced.{Traced}
+use Rattle.tdf_traced.specs.low.dynamic.Attributes.{clusters_of}
+use Rattle.tdf_traced.specs.low.dynamic.declared.first.First.{First}
+use Rattle.tdf_world.specs.low.events.Runnable.{AreOfSignals, IsRunnable, signal_formats}
+use Rattle.tdf_world.specs.low.events.Side.{SideOf}
+use Rattle.tdf_traced.specs.low.fixed.declared.raw.Raw.{Raw}
+use Rattle.tdf_traced.specs.low.flat.Flat.{IsFlatOf}
+use Rattle.tdf_traced.specs.low.flat.declared.model.Flat.{Flat}
+use Rattle.tdf_traced.specs.low.formats.Formats.{IsSoundModel}
+use Rattle.tdf_traced.specs.low.history.World.{ClusterAt, World}
+use Rattle.tdf_traced.specs.low.limits.Limits.{AreWithinLimits}
+use Rattle.tdf_traced.specs.low.rows.Rows.{Cells}
+use Rattle.tdf_traced.specs.low.run.Pass.{AreAt}
 use Rattle.tdf_shown.specs.Advanced.{HasAdvanced}
 use Rattle.tdf_shown.specs.Calls.{CanBeShown, CanStart, CanTake, IsUnshown}
 use Rattle.tdf_shown.specs.Events.{values_before}
 use Rattle.tdf_shown.specs.Periods.{ClockAt}
 use Rattle.tdf_shown.specs.Shown.{IsShown}
 use Rattle.tdf_shown.specs.declared.shown.Shown.{Shown}
-use Rattle.tdf_trace.specs.Stands.{Stands, TraceSeen}
-use Rattle.tdf_tree.specs.Pure.{PureTree}
-use Rattle.tdf_words.specs.declared.asked.TraceKind.{TraceKind}
+use Rattle.tdf_columns.specs.low.trace.Stands.{Stands, TraceSeen}
+use Rattle.tdf_traced.specs.low.tree.Pure.{PureTree}
+use Rattle.tdf_columns.specs.low.words.declared.asked.TraceKind.{TraceKind}
 use Rattle.tdf_world.specs.Laws.{AreSteady}
 use Rattle.tdf_world.specs.Rules.{start_world}
 

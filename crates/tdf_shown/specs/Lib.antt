@@ -6,4 +6,5 @@ pub mod Periods
 pub mod Shown
 pub mod Signals
 pub mod Variables
+pub mod low
 pub mod machine

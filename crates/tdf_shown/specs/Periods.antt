@@ -2,19 +2,19 @@
 -- Source: own.
 use Rattle.std.specs.Prelude.{◌≡◌, ◌<◌, ◌+◌, ◌*◌, ◌/◌, ◌^◌, ℕ, Bool, true, nat_eq, List, Option}
 use Rattle.std.specs.Prelude.{Some, None, length, slice_get, slice_index}
-use Rattle.tdf_bind.specs.Flat.{FlatOf}
+use Rattle.tdf_traced.specs.low.bind.Flat.{FlatOf}
 use Rattle.tdf_columns.specs.Calls.{HasNoneLeft}
 use Rattle.tdf_columns.specs.Tracked.{TrackedOf}
-use Rattle.tdf_dynamic.specs.Attributes.{AttrsOf}
-use Rattle.tdf_dynamic.specs.Rates.{port_rate}
-use Rattle.tdf_exec.specs.Cluster.{ClusterOf}
-use Rattle.tdf_exec.specs.Made.{IsClusterOf}
-use Rattle.tdf_exec.specs.Played.{turns_from}
-use Rattle.tdf_flat.specs.declared.model.Flat.{Flat}
-use Rattle.tdf_limits.specs.Limits.{AreWithinLimits}
-use Rattle.tdf_rows.specs.Positions.{Span, span_of}
+use Rattle.tdf_traced.specs.low.dynamic.Attributes.{AttrsOf}
+use Rattle.tdf_traced.specs.low.dynamic.Rates.{port_rate}
+use Rattle.tdf_traced.specs.low.exec.Cluster.{ClusterOf}
+use Rattle.tdf_traced.specs.low.exec.Made.{IsClusterOf}
+use Rattle.tdf_traced.specs.low.exec.Played.{turns_from}
+use Rattle.tdf_traced.specs.low.flat.declared.model.Flat.{Flat}
+use Rattle.tdf_traced.specs.low.limits.Limits.{AreWithinLimits}
+use Rattle.tdf_traced.specs.low.rows.Positions.{Span, span_of}
 use Rattle.tdf_shown.specs.declared.signals.TracedSignal.{TracedSignal}
-use Rattle.tdf_wiring.specs.declared.modules.PortRow.{PortRow}
+use Rattle.tdf_traced.specs.low.wiring.declared.modules.PortRow.{PortRow}
 
 -- what goes by time: the time, the start of the period of each cluster, and the clusters
 pub record ClockAt : Type 0 where

@@ -3,21 +3,21 @@
 use Rattle.std.specs.Prelude.{◌≡◌, ◌≤◌, ◌+◌, ◌-◌, ℕ, List, [], Some, length, slice_get}
 use Rattle.tdf_columns.specs.Calls.{Holds}
 use Rattle.tdf_columns.specs.Tracked.{TrackedOf}
-use Rattle.tdf_events.specs.Side.{SideOf}
-use Rattle.tdf_fixed.specs.declared.raw.Raw.{Raw}
-use Rattle.tdf_flat.specs.declared.model.Flat.{Flat}
-use Rattle.tdf_history.specs.Cells.{spans_from}
-use Rattle.tdf_history.specs.Instant.{periods_of}
-use Rattle.tdf_history.specs.World.{ClusterAt, World}
-use Rattle.tdf_rows.specs.Positions.{Span}
+use Rattle.tdf_world.specs.low.events.Side.{SideOf}
+use Rattle.tdf_traced.specs.low.fixed.declared.raw.Raw.{Raw}
+use Rattle.tdf_traced.specs.low.flat.declared.model.Flat.{Flat}
+use Rattle.tdf_traced.specs.low.history.Cells.{spans_from}
+use Rattle.tdf_traced.specs.low.history.Instant.{periods_of}
+use Rattle.tdf_traced.specs.low.history.World.{ClusterAt, World}
+use Rattle.tdf_traced.specs.low.rows.Positions.{Span}
 use Rattle.tdf_shown.specs.Events.{AreEventColumns, events_before, values_before}
 use Rattle.tdf_shown.specs.Signals.{AreTracedSignals, DrivesTraced}
 use Rattle.tdf_shown.specs.declared.shown.Shown.{Shown}
 use Rattle.tdf_shown.specs.declared.signals.TracedSignal.{TracedSignal}
-use Rattle.tdf_streams.specs.Signals.{time_of}
+use Rattle.tdf_traced.specs.low.streams.Signals.{time_of}
 use Rattle.tdf_traced.specs.Samples.{AreSamplesOf}
-use Rattle.tdf_tree.specs.Pure.{PureTree}
-use Rattle.tdf_wiring.specs.declared.modules.PortRow.{PortRow}
+use Rattle.tdf_traced.specs.low.tree.Pure.{PureTree}
+use Rattle.tdf_traced.specs.low.wiring.declared.modules.PortRow.{PortRow}
 
 -- the periods and samples of the signal that a port drives are those of the port's cluster, and
 -- what is tracked of the signal has the period that has begun last

@@ -1,15 +1,15 @@
 -- The traced signals of samples, and the ports that drive them.
 -- Source: own.
 use Rattle.std.specs.Prelude.{◌≡◌, ◌<◌, ℕ, true, false, ◌+◌, List, Some, length, slice_get, slice_index}
-use Rattle.tdf_bind.specs.Flat.{FlatOf}
-use Rattle.tdf_dynamic.specs.Attributes.{clusters_of}
-use Rattle.tdf_flat.specs.declared.model.Flat.{Flat}
-use Rattle.tdf_history.specs.Cells.{driver_of_row}
+use Rattle.tdf_traced.specs.low.bind.Flat.{FlatOf}
+use Rattle.tdf_traced.specs.low.dynamic.Attributes.{clusters_of}
+use Rattle.tdf_traced.specs.low.flat.declared.model.Flat.{Flat}
+use Rattle.tdf_traced.specs.low.history.Cells.{driver_of_row}
 use Rattle.tdf_shown.specs.declared.signals.TracedSignal.{TracedSignal}
 use Rattle.tdf_traced.specs.Samples.{IsTracedPort}
-use Rattle.tdf_tree.specs.declared.blocks.PortKind.TheVariants.{Out}
-use Rattle.tdf_wiring.specs.declared.modules.PortRow.{PortRow}
-use Rattle.tdf_wiring.specs.declared.traces.TraceRow.{TraceRow}
+use Rattle.tdf_traced.specs.low.tree.declared.blocks.PortKind.TheVariants.{Out}
+use Rattle.tdf_traced.specs.low.wiring.declared.modules.PortRow.{PortRow}
+use Rattle.tdf_traced.specs.low.wiring.declared.traces.TraceRow.{TraceRow}
 
 -- the port of a number, of a module of cluster n from 0, drives a traced signal of samples
 pub record DrivesTraced (flat : Flat) (n number : ℕ) (port : PortRow) : Type 0 where

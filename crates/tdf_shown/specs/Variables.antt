@@ -2,10 +2,10 @@
 -- Source: own.
 use Rattle.std.specs.Prelude.{Option, Some, None, option_map, List, filter_map, if◌then◌else◌}
 use Rattle.std.specs.Prelude.{slice_get}
-use Rattle.tdf_bind.specs.Flat.{FlatOf}
-use Rattle.tdf_trace.specs.declared.about.Variable.{Variable}
-use Rattle.tdf_wiring.specs.declared.drivers.SignalRow.{SignalRow}
-use Rattle.tdf_wiring.specs.declared.traces.TraceRow.{TraceRow}
+use Rattle.tdf_traced.specs.low.bind.Flat.{FlatOf}
+use Rattle.tdf_columns.specs.low.trace.declared.about.Variable.{Variable}
+use Rattle.tdf_traced.specs.low.wiring.declared.drivers.SignalRow.{SignalRow}
+use Rattle.tdf_traced.specs.low.wiring.declared.traces.TraceRow.{TraceRow}
 
 -- a signal of samples shows nothing before its first cell, an event signal its starting value
 abbrev pub variable_for : TraceRow → SignalRow → Variable

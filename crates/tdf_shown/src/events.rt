@@ -1,6 +1,6 @@
 //! The columns of event signals.
 
-use tdf_fixed::Raw;
+use tdf_traced::low::fixed::Raw;
 
 /// The column of a trace of an event signal.
 #[derive(Clone, Copy, Debug, PartialEq, Eq)]
@@ -14,8 +14,8 @@ pub struct EventColumn {
 }
 
 ghost use Rattle.std.specs.Prelude.{◌≡◌, ◌+◌, ◌<◌, ◌≤◌, Some, length, slice_get, All, IfOk, OnOk};
-ghost use Rattle.tdf_base.specs.Limits.{most_traces};
-ghost use Rattle.tdf_history.specs.Cells.{is_same_value};
+ghost use Rattle.tdf_traced.specs.low.base.Limits.{most_traces};
+ghost use Rattle.tdf_traced.specs.low.history.Cells.{is_same_value};
 ghost use Rattle.tdf_shown.specs.Calls.{CanBeShown, start_values};
 ghost use Rattle.tdf_shown.specs.Events.{AreEventColumns};
 ghost use Rattle.tdf_shown.specs.declared.events.EventColumn.{EventColumn as Column};
@@ -23,10 +23,10 @@ ghost use Rattle.tdf_shown.specs.machine.Noting.{IsShowing, TakesChange, with_sh
 ghost use Rattle.tdf_shown.specs.machine.Pushing.{AreColumnsTo};
 
 use std::alloc::Global;
-use tdf_base::Memory;
-use tdf_bind::Flat;
-use tdf_rows::Cell;
-use tdf_trace::Trace;
+use tdf_columns::low::trace::Trace;
+use tdf_traced::low::base::Memory;
+use tdf_traced::low::bind::Flat;
+use tdf_traced::low::rows::Cell;
 
 /// The trace of an event signal gets its column.
 fn push_column(tables: &Flat, column: usize, list: &mut Vec<EventColumn>) -> Result<(), Memory>

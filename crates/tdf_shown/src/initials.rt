@@ -5,18 +5,18 @@ ghost use Rattle.tdf_columns.specs.Calls.{TakesSamples};
 ghost use Rattle.tdf_columns.specs.Tracked.{AreSince, labels, sinces};
 ghost use Rattle.tdf_shown.specs.declared.signals.TracedSignal.{TracedSignal as Signal};
 ghost use Rattle.tdf_shown.specs.machine.Giving.{IsGivingTo, initials_of, traced_with};
-ghost use Rattle.tdf_streams.specs.Cluster.{initial_samples};
+ghost use Rattle.tdf_traced.specs.low.streams.Cluster.{initial_samples};
 
 use crate::signals::TracedSignal;
 use std::alloc::Global;
-use tdf_base::Memory;
-use tdf_bind::Flat;
 use tdf_columns::Tracking;
-use tdf_convert::Traced;
-use tdf_fixed::Raw;
-use tdf_layout::initial_samples;
-use tdf_trace::Trace;
-use tdf_wiring::EdgeRow;
+use tdf_columns::low::trace::Trace;
+use tdf_traced::low::base::Memory;
+use tdf_traced::low::bind::Flat;
+use tdf_traced::low::convert::Traced;
+use tdf_traced::low::fixed::Raw;
+use tdf_traced::low::layout::initial_samples;
+use tdf_traced::low::wiring::EdgeRow;
 
 /// The initial samples of a port: those of an edge that it gives and that no port drives.
 fn port_initials(alloc: Global, tables: &Flat, port: u32) -> Result<Vec<Raw>, Memory>

@@ -2,7 +2,7 @@
 
 ghost use Rattle.tdf_shown.specs.Laws.{AdvancedCanBeTaken, LaterIsShown, RowsMayBeWritten, SoundCanBeShown, SoundCanStart, WrittenIsShown};
 
-use tdf_formats::law_formats;
+use tdf_traced::low::formats::law_formats;
 
 /// The calls can be made for each sound model: its traces can be shown, its run can start, and what instants give can be taken.
 pub fn law_can()

@@ -7,11 +7,13 @@
 //! - `initials`: the samples that traced signals start with.
 //! - `shown`: the trace with all that leads to it, and its calls.
 //! - `laws`: what holds of the definitions.
+//! - `low`: what the crates above use of the crates further below.
 #![tactic(auto)]
 
 mod events;
 mod initials;
 mod laws;
+pub mod low;
 mod periods;
 mod shown;
 mod signals;

@@ -2,17 +2,17 @@
 
 ghost use Rattle.std.specs.Prelude.{◌≡◌, ◌<◌, ◌≤◌, ◌^◌, length, OnOk};
 ghost use Rattle.tdf_columns.specs.Calls.{HasNoneLeft, HasStarted, TakesPeriod};
-ghost use Rattle.tdf_exec.specs.Made.{IsClusterOf};
-ghost use Rattle.tdf_limits.specs.Limits.{AreWithinLimits};
+ghost use Rattle.tdf_traced.specs.low.exec.Made.{IsClusterOf};
+ghost use Rattle.tdf_traced.specs.low.limits.Limits.{AreWithinLimits};
 ghost use Rattle.tdf_shown.specs.Periods.{CanBegin, CanBeginAll, clock_at, positions_in, span_in};
 ghost use Rattle.tdf_shown.specs.machine.Beginning.{HasBegun, IsBeginning};
 
 use crate::signals::TracedSignal;
-use tdf_base::Memory;
 use tdf_columns::Tracking;
-use tdf_exec::Cluster;
-use tdf_flat::Flat;
-use tdf_trace::Trace;
+use tdf_columns::low::trace::Trace;
+use tdf_traced::low::base::Memory;
+use tdf_traced::low::exec::Cluster;
+use tdf_traced::low::flat::Flat;
 
 /// How many positions a signal has in a period of its cluster.
 fn positions(flat: &Flat, cluster: &Cluster, traced: TracedSignal) -> u64

@@ -3,7 +3,7 @@
 use crate::events::EventColumn;
 use crate::signals::TracedSignal;
 use tdf_columns::Tracking;
-use tdf_trace::Trace;
+use tdf_columns::low::trace::Trace;
 
 /// The trace of a run while it goes on: the trace, the samples on their way to it, and which signals it shows.
 #[derive(Drop)]
@@ -20,8 +20,8 @@ pub struct Shown {
 
 ghost use Rattle.std.specs.Prelude.{◌≡◌, ◌≤◌, length, IfOk, OnOk};
 ghost use Rattle.tdf_columns.specs.Tracked.{AreSince};
-ghost use Rattle.tdf_events.specs.Runnable.{IsRunnable};
-ghost use Rattle.tdf_exec.specs.Starts.{IsSoundFlat};
+ghost use Rattle.tdf_world.specs.low.events.Runnable.{IsRunnable};
+ghost use Rattle.tdf_traced.specs.low.exec.Starts.{IsSoundFlat};
 ghost use Rattle.tdf_shown.specs.Calls.{CanBeShown, CanStart, CanTake, IsUnshown, ShowsEnd, ShowsInstant, StartsShowing};
 ghost use Rattle.tdf_shown.specs.Periods.{clock_at};
 
@@ -31,12 +31,12 @@ use crate::periods::{begin_all, begin_later};
 use crate::signals::traced_signals;
 use crate::variables::variables;
 use std::alloc::Global;
-use tdf_base::Memory;
-use tdf_convert::Traced;
-use tdf_exec::Cluster;
-use tdf_fixed::Raw;
-use tdf_flat::Flat;
-use tdf_words::TraceKind;
+use tdf_columns::low::words::TraceKind;
+use tdf_traced::low::base::Memory;
+use tdf_traced::low::convert::Traced;
+use tdf_traced::low::exec::Cluster;
+use tdf_traced::low::fixed::Raw;
+use tdf_traced::low::flat::Flat;
 
 /// A number of rows has 32 bits; more rows do not fit in memory.
 fn short(count: usize) -> Result<u32, Memory>

@@ -15,14 +15,14 @@ pub struct TracedSignal {
 
 ghost use Rattle.std.specs.List.{list_any};
 ghost use Rattle.std.specs.Prelude.{◌≡◌, ◌+◌, ◌<◌, Some, length, nat_eq, slice_get, IfOk, OnOk, false};
-ghost use Rattle.tdf_history.specs.Cells.{driver_of_row};
+ghost use Rattle.tdf_traced.specs.low.history.Cells.{driver_of_row};
 ghost use Rattle.tdf_shown.specs.Signals.{AreTold, AreTracedSignals, IsDriverOf, IsListed};
 ghost use Rattle.tdf_shown.specs.machine.Pushing.{AreSignalsTo, HasTrace, driver_of_trace};
 
 use std::alloc::Global;
-use tdf_base::Memory;
-use tdf_flat::Flat;
-use tdf_wiring::TraceRow;
+use tdf_traced::low::base::Memory;
+use tdf_traced::low::flat::Flat;
+use tdf_traced::low::wiring::TraceRow;
 
 /// Whether a signal is listed.
 fn has_signal(list: &[TracedSignal], signal: u32) -> bool

@@ -5,10 +5,10 @@ ghost use Rattle.tdf_shown.specs.Signals.{AreTold};
 ghost use Rattle.tdf_shown.specs.Variables.{variable_for, variable_of, variables_of};
 
 use std::alloc::Global;
-use tdf_base::{Memory, Name};
-use tdf_bind::Flat;
-use tdf_trace::Variable;
-use tdf_wiring::{SignalRow, TraceRow};
+use tdf_columns::low::trace::Variable;
+use tdf_traced::low::base::{Memory, Name};
+use tdf_traced::low::bind::Flat;
+use tdf_traced::low::wiring::{SignalRow, TraceRow};
 
 /// The variable of a trace of a signal.
 fn variable(alloc: Global, row: &TraceRow, signal: &SignalRow) -> Result<Variable, Memory>

@@ -2,26 +2,26 @@
 use Rattle.std.proofs.Common.{◌≡◌, ◌∙◌, ℕ, zero, suc, List, [], ◌∷◌, Option, Some, None, map, nat_eq, if◌then◌else◌, refl, sym, ap, subst}
 use Rattle.std.specs.List.{cons_option, enumerate_from}
 use Rattle.std.specs.Prelude.{slice_get, slice_index, filter_map}
-use Rattle.tdf_base.specs.declared.faults.Fault.{Fault}
-use Rattle.tdf_bind.specs.Flat.{FlatOf}
-use Rattle.tdf_dynamic.specs.Attributes.{AttrsOf, clusters_of, ports_of}
-use Rattle.tdf_dynamic.specs.Faults.{IsTableFault, IsTablePlan}
-use Rattle.tdf_dynamic.specs.First.{IsFirstPlan, IsClusterFault}
-use Rattle.tdf_dynamic.specs.Text.{attrs_if, first_table, port_step}
-use Rattle.tdf_dynamic.specs.declared.first.First.{First}
-use Rattle.tdf_expr.specs.Blocks.{PureBlock, blocks_of}
-use Rattle.tdf_expr.specs.Checked.{IsCheckedOf}
-use Rattle.tdf_expr.specs.Compiled.{AreBlocksOf}
-use Rattle.tdf_expr.specs.Made.{rates_in, start_rates}
-use Rattle.tdf_expr.specs.declared.blocks.Block.{Block}
-use Rattle.tdf_expr.specs.declared.checked.Checked.{Checked}
-use Rattle.tdf_flat.proofs.Api.{tables_are_one}
-use Rattle.tdf_flat.specs.Flat.{IsFlatOf}
-use Rattle.tdf_flat.specs.Laws.{PassesChecks}
-use Rattle.tdf_flat.specs.declared.model.Flat.{Flat}
-use Rattle.tdf_scope.specs.Names.{Names, globals_of}
-use Rattle.tdf_tree.specs.Pure.{PureTree}
-use Rattle.tdf_wiring.specs.declared.modules.ModuleRow.{ModuleRow}
+use Rattle.tdf_loop.specs.low.base.declared.faults.Fault.{Fault}
+use Rattle.tdf_loop.specs.low.bind.Flat.{FlatOf}
+use Rattle.tdf_loop.specs.low.dynamic.Attributes.{AttrsOf, clusters_of, ports_of}
+use Rattle.tdf_loop.specs.low.dynamic.Faults.{IsTableFault, IsTablePlan}
+use Rattle.tdf_loop.specs.low.dynamic.First.{IsFirstPlan, IsClusterFault}
+use Rattle.tdf_loop.specs.low.dynamic.Text.{attrs_if, first_table, port_step}
+use Rattle.tdf_loop.specs.low.dynamic.declared.first.First.{First}
+use Rattle.tdf_loop.specs.low.expr.Blocks.{PureBlock, blocks_of}
+use Rattle.tdf_loop.specs.low.expr.Checked.{IsCheckedOf}
+use Rattle.tdf_loop.specs.low.expr.Compiled.{AreBlocksOf}
+use Rattle.tdf_loop.specs.low.expr.Made.{rates_in, start_rates}
+use Rattle.tdf_loop.specs.low.expr.declared.blocks.Block.{Block}
+use Rattle.tdf_loop.specs.low.expr.declared.checked.Checked.{Checked}
+use Rattle.tdf_loop.proofs.Api.{tables_are_one}
+use Rattle.tdf_loop.specs.low.flat.Flat.{IsFlatOf}
+use Rattle.tdf_loop.specs.low.flat.Laws.{PassesChecks}
+use Rattle.tdf_loop.specs.low.flat.declared.model.Flat.{Flat}
+use Rattle.tdf_loop.specs.low.scope.Names.{Names, globals_of}
+use Rattle.tdf_loop.specs.low.tree.Pure.{PureTree}
+use Rattle.tdf_loop.specs.low.wiring.declared.modules.ModuleRow.{ModuleRow}
 
 -- what of a flat model its clusters depend on
 pub record IsAlike (a b : Flat) : Type 0 where

@@ -1,3 +1,4 @@
+pub mod Api
 pub mod Alike
 pub mod Closed
 pub mod Clusters

@@ -8,15 +8,15 @@ use Rattle.std.proofs.lemmas.Option.{slice_get-map}
 use Rattle.std.specs.List.{count_by}
 use Rattle.std.specs.Option.{option_map}
 use Rattle.std.specs.Prelude.{slice_get, slice_index}
-use Rattle.tdf_bind.specs.Flat.{FlatOf}
-use Rattle.tdf_dynamic.specs.Attributes.{AttrsOf}
-use Rattle.tdf_dynamic.specs.First.{IsFirstPlan}
-use Rattle.tdf_dynamic.specs.Rates.{net_of}
-use Rattle.tdf_dynamic.specs.Text.{first_table}
-use Rattle.tdf_dynamic.specs.declared.first.First.{First}
-use Rattle.tdf_flat.specs.declared.model.Flat.{Flat}
-use Rattle.tdf_schedule.specs.Plan.{is_firing}
-use Rattle.tdf_schedule.specs.declared.entry.Entry.{Entry}
+use Rattle.tdf_loop.specs.low.bind.Flat.{FlatOf}
+use Rattle.tdf_loop.specs.low.dynamic.Attributes.{AttrsOf}
+use Rattle.tdf_loop.specs.low.dynamic.First.{IsFirstPlan}
+use Rattle.tdf_loop.specs.low.dynamic.Rates.{net_of}
+use Rattle.tdf_loop.specs.low.dynamic.Text.{first_table}
+use Rattle.tdf_loop.specs.low.dynamic.declared.first.First.{First}
+use Rattle.tdf_loop.specs.low.flat.declared.model.Flat.{Flat}
+use Rattle.tdf_loop.specs.low.schedule.Plan.{is_firing}
+use Rattle.tdf_loop.specs.low.schedule.declared.entry.Entry.{Entry}
 use Rattle.tdf_sim.specs.PlanText.{cluster_text, plan_rows}
 
 -- the text of the plan at a place

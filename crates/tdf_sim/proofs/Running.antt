@@ -2,17 +2,17 @@
 use Rattle.std.proofs.Common.{◌≡◌, ℕ, zero, suc, false, List, [], ◌∷◌, refl}
 use Rattle.std.proofs.lemmas.Bool.{or_parts}
 use Rattle.std.specs.List.{list_any}
-use Rattle.tdf_formats.specs.Formats.{IsSoundModel}
-use Rattle.tdf_limits.specs.Limits.{FlatIsWithinLimits}
+use Rattle.tdf_loop.specs.low.formats.Formats.{IsSoundModel}
+use Rattle.tdf_loop.specs.low.limits.Limits.{FlatIsWithinLimits}
 use Rattle.tdf_loop.specs.Runs.{CanRun}
-use Rattle.tdf_report.proofs.Api.{firsts_printable}
+use Rattle.tdf_loop.proofs.Api.{firsts_printable}
 use Rattle.tdf_runnable.specs.Runnable.{SoundIsRunnable}
 use Rattle.tdf_sim.proofs.Closed.{closed_top}
 use Rattle.tdf_sim.specs.Runs.{IsAcceptedTree, makes_changes}
 use Rattle.tdf_sim.specs.declared.sim.Sim.{Sim}
-use Rattle.tdf_streams.specs.Places.{has_changes}
-use Rattle.tdf_tree.specs.Pure.{PureTree}
-use Rattle.tdf_wiring.specs.declared.modules.ModuleRow.{ModuleRow}
+use Rattle.tdf_loop.specs.low.streams.Places.{has_changes}
+use Rattle.tdf_loop.specs.low.tree.Pure.{PureTree}
+use Rattle.tdf_loop.specs.low.wiring.declared.modules.ModuleRow.{ModuleRow}
 
 pub no_changes : (rows : List ModuleRow) → list_any (λ (row : ModuleRow). row.changes) rows ≡ false → (m : ℕ) → has_changes rows m ≡ false
 no_changes [] none m = refl

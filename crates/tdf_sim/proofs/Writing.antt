@@ -2,19 +2,19 @@
 use Rattle.std.proofs.Common.{◌≡◌, ◌∙◌, [], ap}
 use Rattle.tdf_alike.specs.Laws.{RunsWriteTheSame}
 use Rattle.tdf_alike.specs.Laws.{AreAlike as SayTheSame}
-use Rattle.tdf_base.specs.declared.resolution.Resolution.{Resolution}
-use Rattle.tdf_bind.specs.Flat.{FlatOf}
-use Rattle.tdf_flat.specs.declared.model.Flat.{Flat}
-use Rattle.tdf_history.specs.Texts.{run_trace}
+use Rattle.tdf_loop.specs.low.base.declared.resolution.Resolution.{Resolution}
+use Rattle.tdf_loop.specs.low.bind.Flat.{FlatOf}
+use Rattle.tdf_loop.specs.low.flat.declared.model.Flat.{Flat}
+use Rattle.tdf_loop.specs.low.history.Texts.{run_trace}
 use Rattle.tdf_loop.specs.Runs.{model_about}
 use Rattle.tdf_sim.specs.Accepted.{IsAccepted}
 use Rattle.tdf_sim.specs.Laws.{ModelsAreAlike, RunsAreAlike}
 use Rattle.tdf_sim.specs.declared.sim.Sim.{Sim}
-use Rattle.tdf_trace.specs.Writings.{AboutSeen, writing_of}
-use Rattle.tdf_tree.specs.Kept.{IsKept}
-use Rattle.tdf_tree.specs.Pure.{PureTree}
-use Rattle.tdf_words.specs.declared.asked.TraceKind.{TraceKind}
-use Rattle.tdf_world.specs.Rules.{rules_of, start_world}
+use Rattle.tdf_loop.specs.low.trace.Writings.{AboutSeen, writing_of}
+use Rattle.tdf_loop.specs.low.tree.Kept.{IsKept}
+use Rattle.tdf_loop.specs.low.tree.Pure.{PureTree}
+use Rattle.tdf_loop.specs.low.words.declared.asked.TraceKind.{TraceKind}
+use Rattle.tdf_loop.specs.low.world.Rules.{rules_of, start_world}
 
 same_about : (kind : TraceKind) (a b : Flat) → a.tables ≡ b.tables → a.resolution ≡ b.resolution → model_about kind a ≡ model_about kind b
 same_about kind a b tables unit =

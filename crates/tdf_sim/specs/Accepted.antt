@@ -2,15 +2,15 @@
 -- Source: own.
 use Rattle.std.specs.Prelude.{◌≡◌, ◌+◌, ℕ, List, length, Some, slice_get}
 use Rattle.tdf_blocks.specs.Refused.{SpellsText}
-use Rattle.tdf_dynamic.specs.First.{IsFirstPlan}
-use Rattle.tdf_dynamic.specs.declared.first.First.{First}
-use Rattle.tdf_flat.specs.Flat.{IsFlatOf}
-use Rattle.tdf_flat.specs.declared.model.Flat.{Flat}
+use Rattle.tdf_loop.specs.low.dynamic.First.{IsFirstPlan}
+use Rattle.tdf_loop.specs.low.dynamic.declared.first.First.{First}
+use Rattle.tdf_loop.specs.low.flat.Flat.{IsFlatOf}
+use Rattle.tdf_loop.specs.low.flat.declared.model.Flat.{Flat}
 use Rattle.tdf_sim.specs.FirstFault.{cluster_count, HasSoundLines, IsPlansFault, IsTreeFault, IsFirstFault}
 use Rattle.tdf_sim.specs.declared.sim.Sim.{Sim}
 use Rattle.tdf_sim.specs.declared.err.SimErr.{SimErr}
 use Rattle.tdf_sim.specs.declared.err.SimErr.TheVariants.{Refused, Memory}
-use Rattle.tdf_tree.specs.Pure.{PureTree}
+use Rattle.tdf_loop.specs.low.tree.Pure.{PureTree}
 
 -- the plans of all clusters in order
 pub record ArePlans (flat : Flat) (firsts : List First) : Type 0 where

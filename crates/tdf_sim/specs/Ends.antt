@@ -2,6 +2,6 @@
 -- the crates that say them.
 -- Source: own.
 pub use Rattle.tdf_loop.specs.Runs.{trace_of}
-pub use Rattle.tdf_report.specs.Ending.{run_end, run_note}
-pub use Rattle.tdf_report.specs.declared.ending.End.{End}
-pub use Rattle.tdf_report.specs.declared.ending.End.TheVariants.{Reached, Stopped, Spent}
+pub use Rattle.tdf_loop.specs.low.report.Ending.{run_end, run_note}
+pub use Rattle.tdf_loop.specs.low.report.declared.ending.End.{End}
+pub use Rattle.tdf_loop.specs.low.report.declared.ending.End.TheVariants.{Reached, Stopped, Spent}

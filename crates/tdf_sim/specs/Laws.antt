@@ -1,16 +1,16 @@
 -- What holds of the definitions.
 -- Source: own.
 use Rattle.std.specs.Prelude.{◌≡◌, ℕ, List, map}
-use Rattle.tdf_base.specs.declared.faults.Fault.{Fault}
+use Rattle.tdf_loop.specs.low.base.declared.faults.Fault.{Fault}
 use Rattle.tdf_loop.specs.Runs.{trace_of}
-use Rattle.tdf_report.specs.Ending.{run_end, run_note}
+use Rattle.tdf_loop.specs.low.report.Ending.{run_end, run_note}
 use Rattle.tdf_sim.specs.Accepted.{IsAccepted, IsAcceptedText}
 use Rattle.tdf_sim.specs.declared.sim.Sim.{Sim}
 use Rattle.tdf_sim.specs.FirstFault.{IsFirstFault}
 use Rattle.tdf_sim.specs.PlanText.{plan_rows}
-use Rattle.tdf_tree.specs.Kept.{IsKept}
-use Rattle.tdf_tree.specs.Pure.{PureTree}
-use Rattle.tdf_words.specs.declared.asked.TraceKind.{TraceKind}
+use Rattle.tdf_loop.specs.low.tree.Kept.{IsKept}
+use Rattle.tdf_loop.specs.low.tree.Pure.{PureTree}
+use Rattle.tdf_loop.specs.low.words.declared.asked.TraceKind.{TraceKind}
 
 -- a text has at most one first fault
 abbrev pub FaultsAreOne : Type 0

@@ -4,4 +4,5 @@ pub mod FirstFault
 pub mod Laws
 pub mod PlanText
 pub mod Runs
+pub mod low
 pub mod machine

@@ -2,11 +2,11 @@
 -- Source: own.
 use Rattle.std.specs.List.{flat_map, range_with_len}
 use Rattle.std.specs.Prelude.{◌+◌, ◌++◌, ℕ, List, [], length, map, Option, Some, None, slice_get}
-use Rattle.tdf_base.specs.declared.resolution.Resolution.{Resolution}
-use Rattle.tdf_bind.specs.Flat.{FlatOf}
-use Rattle.tdf_bind.specs.Ranges.{AreInRange}
-use Rattle.tdf_dynamic.specs.declared.first.First.{First}
-use Rattle.tdf_notes.specs.Plans.{PlanRows, rows_of, plan_text, fires_text}
+use Rattle.tdf_loop.specs.low.base.declared.resolution.Resolution.{Resolution}
+use Rattle.tdf_loop.specs.low.bind.Flat.{FlatOf}
+use Rattle.tdf_loop.specs.low.bind.Ranges.{AreInRange}
+use Rattle.tdf_loop.specs.low.dynamic.declared.first.First.{First}
+use Rattle.tdf_loop.specs.low.notes.Plans.{PlanRows, rows_of, plan_text, fires_text}
 use Rattle.tdf_sim.specs.Accepted.{ArePlans}
 use Rattle.tdf_sim.specs.declared.sim.Sim.{Sim}
 

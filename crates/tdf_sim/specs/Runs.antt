@@ -2,12 +2,12 @@
 -- Source: own.
 use Rattle.std.specs.List.{list_any}
 use Rattle.std.specs.Prelude.{Bool}
-use Rattle.tdf_bind.specs.Flat.{FlatOf}
+use Rattle.tdf_loop.specs.low.bind.Flat.{FlatOf}
 use Rattle.tdf_blocks.specs.Formed.{IsFormed}
 use Rattle.tdf_sim.specs.Accepted.{IsAccepted}
 use Rattle.tdf_sim.specs.declared.sim.Sim.{Sim}
-use Rattle.tdf_tree.specs.Kept.{IsKept}
-use Rattle.tdf_tree.specs.Pure.{PureTree}
+use Rattle.tdf_loop.specs.low.tree.Kept.{IsKept}
+use Rattle.tdf_loop.specs.low.tree.Pure.{PureTree}
 
 -- a tree without a fault, which has what the tree of each text has, and its model
 pub record IsAcceptedTree (tree : PureTree) (sim : Sim) : Type 0 where

@@ -3,7 +3,7 @@
 ghost use Rattle.tdf_sim.specs.Laws.{FaultOrAccepted, FaultsAreOne, ModelsAreAlike, RunsAreAlike};
 
 use tdf_alike::law_alike;
-use tdf_dynamic::{law_numbers, law_one_plan, law_plannable};
+use tdf_loop::low::dynamic::{law_numbers, law_one_plan, law_plannable};
 
 /// A text has at most one first fault, and with one it is not accepted.
 pub fn law_first_fault()

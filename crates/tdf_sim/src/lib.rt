@@ -5,11 +5,13 @@
 //! - `sim`: a model that was accepted.
 //! - `run`: a run of it.
 //! - `laws`: what holds of the definitions.
+//! - `low`: what the crates above use of the crates further below.
 #![tactic(auto)]
 
 mod elaboration;
 mod err;
 mod laws;
+pub mod low;
 mod run;
 mod sim;
 
@@ -19,4 +21,4 @@ pub use laws::{law_first_fault, law_one_model, law_one_run};
 pub use run::RunErr;
 pub use sim::Sim;
 pub use tdf_loop::Ran;
-pub use tdf_report::End;
+pub use tdf_loop::low::report::End;

@@ -1,6 +1,6 @@
 //! A run of a model that was accepted.
 
-use tdf_io::{Sink, SinkErr};
+use tdf_loop::low::in_out::{Sink, SinkErr};
 
 /// Why a run did not end.
 #[derive(Drop)]
@@ -15,23 +15,23 @@ pub enum RunErr {
 
 ghost use Rattle.std.specs.Io.KnownBytes.{Appends};
 ghost use Rattle.std.specs.Prelude.{◌≡◌, ◌<◌, ◌⊎◌, ℕ, true, IfOk, IsErrOf, OnErr, OnOk};
-ghost use Rattle.tdf_base.specs.Limits.{time_end};
-ghost use Rattle.tdf_io.specs.Bytes.{AppendsFront};
-ghost use Rattle.tdf_io.specs.Faults.{FaultsRose};
+ghost use Rattle.tdf_loop.specs.low.base.Limits.{time_end};
+ghost use Rattle.tdf_loop.specs.low.in_out.Bytes.{AppendsFront};
+ghost use Rattle.tdf_loop.specs.low.in_out.Faults.{FaultsRose};
 ghost use Rattle.tdf_loop.specs.Runs.{IsLeft, trace_of};
-ghost use Rattle.tdf_report.specs.Ending.{run_end, run_note};
-ghost use Rattle.tdf_report.specs.declared.ending.End.TheVariants.{Reached};
+ghost use Rattle.tdf_loop.specs.low.report.Ending.{run_end, run_note};
+ghost use Rattle.tdf_loop.specs.low.report.declared.ending.End.TheVariants.{Reached};
 ghost use Rattle.tdf_sim.specs.Runs.{IsAcceptedTree, IsSomeAccepted, makes_changes};
 ghost use Rattle.tdf_sim.specs.declared.run.RunErr.TheVariants as why;
 ghost use Rattle.tdf_sim.specs.machine.Steps.{by_sink};
-ghost use Rattle.tdf_tree.specs.Pure.{PureTree};
+ghost use Rattle.tdf_loop.specs.low.tree.Pure.{PureTree};
 
 use crate::sim::Sim;
 use std::alloc::Global;
-use tdf_limits::law_limits;
+use tdf_loop::low::limits::law_limits;
+use tdf_loop::low::words::TraceKind;
 use tdf_loop::{Ran, run_model};
 use tdf_runnable::law_runnable;
-use tdf_words::TraceKind;
 
 /// What a sink answered.
 fn by_sink(error: SinkErr) -> RunErr

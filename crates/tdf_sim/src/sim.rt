@@ -1,8 +1,8 @@
 //! A model that was accepted.
 
 ghost use Rattle.std.specs.Prelude.{◌≡◌, ◌+◌, ◌<◌, ◌≤◌, ◌++◌, ◌∷◌, [], IfErr, IfOk, OnErr, OnOk, ℕ, length, map, slice_get, Some, take};
-ghost use Rattle.tdf_bind.specs.Ranges.{AreInRange};
-ghost use Rattle.tdf_dynamic.specs.First.{IsFirstPlan, IsPlannable};
+ghost use Rattle.tdf_loop.specs.low.bind.Ranges.{AreInRange};
+ghost use Rattle.tdf_loop.specs.low.dynamic.First.{IsFirstPlan, IsPlannable};
 ghost use Rattle.tdf_sim.specs.Accepted.{ArePlans, IsPlansRefusal};
 ghost use Rattle.tdf_sim.specs.FirstFault.{cluster_count};
 ghost use Rattle.tdf_sim.specs.PlanText.{IsPrintable, cluster_text, clusters_text, plan_rows, plans_text};
@@ -11,10 +11,10 @@ ghost use Rattle.tdf_sim.specs.machine.Steps.{HavePlans, IsFirstRefusal};
 
 use crate::err::SimErr;
 use std::alloc::Global;
-use tdf_base::Memory;
-use tdf_dynamic::{ChangeErr, First, first_plan, law_numbers};
-use tdf_flat::Flat;
-use tdf_notes::{push_fires, push_plan};
+use tdf_loop::low::base::Memory;
+use tdf_loop::low::dynamic::{ChangeErr, First, first_plan, law_numbers};
+use tdf_loop::low::flat::Flat;
+use tdf_loop::low::notes::{push_fires, push_plan};
 
 /// A model that was accepted, before its run: its flat model, and for each cluster its attributes and its plan.
 #[derive(Drop)]

@@ -8,3 +8,11 @@ pub use Rattle.tdf_streams.proofs.Sound.{active_inside, all_known, are_sound, be
 pub use Rattle.tdf_streams.proofs.Standing.{are_active, cluster_stands}
 pub use Rattle.tdf_streams.proofs.Starts.{edges_all, text_has_lists, text_holds_delays, text_list}
 pub use Rattle.tdf_streams.proofs.Times.{steps_whole, times_inside, times_rise}
+pub use Rattle.tdf_dynamic.proofs.Api.{assigned_fit, clusters_are, fault_apart, fault_once, modules_few, net_clusters, net_fit, no_counts, no_steps, plan_once, ports_are, same_steps}
+pub use Rattle.tdf_dynamic.proofs.Api.{none_first, none_second}
+pub use Rattle.tdf_firing.proofs.Api.{Passes, any_cases, writer_cases}
+pub use Rattle.tdf_dynamic.proofs.Api.{delays_are_short, fault_is_one, fault_or_flat, tables_are_one}
+pub use Rattle.tdf_flow.proofs.Api.{change_crosses, find_more, get_high, get_inside, get_low, get_made_at, install_stands, known_more, none_some, order_keeps, place_kept, reads_keep, some_same, start_stands, state_more, step_keeps}
+pub use Rattle.tdf_limits.proofs.Api.{starts_are_allowed}
+pub use Rattle.tdf_dynamic.proofs.Api.{found, limits_placed, rates_set}
+pub use Rattle.tdf_dynamic.proofs.Api.{any_default, filtered_next}

@@ -8,8 +8,8 @@ use Rattle.std.proofs.lemmas.Nat.{div-mul-add, mod-mul-add}
 use Rattle.std.specs.List.{range_with_len, sum_by}
 use Rattle.std.specs.Option.{option_and_then}
 use Rattle.std.specs.Prelude.{All, IfSome}
-use Rattle.tdf_fixed.specs.declared.raw.Raw.{Raw}
-use Rattle.tdf_bind.specs.Flat.{FlatOf}
+use Rattle.tdf_dynamic.specs.low.fixed.declared.raw.Raw.{Raw}
+use Rattle.tdf_dynamic.specs.low.bind.Flat.{FlatOf}
 use Rattle.tdf_flow.proofs.Api.{find_more, find_now, get_high, get_low, get_made_at, none_some, some_same}
 use Rattle.tdf_flow.specs.Net.{Net, Past, Period, count, written}
 use Rattle.tdf_flow.specs.Streams.{Spot, find, output, place, spot}
@@ -22,19 +22,19 @@ use Rattle.tdf_streams.specs.Laws.{ClusterNet}
 use Rattle.tdf_streams.specs.Places.{driver_or, source_at, source_of_row, writer_at, writer_of_row}
 use Rattle.tdf_dynamic.specs.Attributes.{AttrsOf, clusters_of}
 use Rattle.tdf_dynamic.specs.Rates.{edge_kind, kind_of, net_ports, rated_port, write_rate_by}
-use Rattle.tdf_flat.specs.Flat.{IsFlatOf}
-use Rattle.tdf_flat.specs.declared.model.Flat.{Flat}
+use Rattle.tdf_dynamic.specs.low.flat.Flat.{IsFlatOf}
+use Rattle.tdf_dynamic.specs.low.flat.declared.model.Flat.{Flat}
 use Rattle.tdf_limits.specs.Limits.{AreWithinLimits}
-use Rattle.tdf_timestep.specs.Period.{rate_at, rate_of}
-use Rattle.tdf_tree.specs.Pure.{PureTree}
-use Rattle.tdf_tree.specs.declared.blocks.PortKind.{PortKind}
-use Rattle.tdf_tree.specs.declared.blocks.PortKind.TheVariants.{In, Out, DeIn, DeOut}
-use Rattle.tdf_wiring.specs.Edges.{driven_edge, driver_port, edge_from, edge_of_kind, sampler_edge, sink_edge}
-use Rattle.tdf_wiring.specs.declared.drivers.SignalRow.{SignalRow}
-use Rattle.tdf_wiring.specs.declared.edges.EdgeRow.{EdgeRow}
+use Rattle.tdf_dynamic.specs.low.timestep.Period.{rate_at, rate_of}
+use Rattle.tdf_dynamic.specs.low.tree.Pure.{PureTree}
+use Rattle.tdf_dynamic.specs.low.tree.declared.blocks.PortKind.{PortKind}
+use Rattle.tdf_dynamic.specs.low.tree.declared.blocks.PortKind.TheVariants.{In, Out, DeIn, DeOut}
+use Rattle.tdf_dynamic.specs.low.wiring.Edges.{driven_edge, driver_port, edge_from, edge_of_kind, sampler_edge, sink_edge}
+use Rattle.tdf_dynamic.specs.low.wiring.declared.drivers.SignalRow.{SignalRow}
+use Rattle.tdf_dynamic.specs.low.wiring.declared.edges.EdgeRow.{EdgeRow}
 use Rattle.tdf_streams.specs.Periods.{IsTimedRecord, PeriodInfo, PeriodRecord}
 use Rattle.tdf_streams.specs.Signals.{output_at_spot, outputs_in, port_output, rate_in, signal_sample}
-use Rattle.tdf_wiring.specs.declared.modules.PortRow.{PortRow}
+use Rattle.tdf_dynamic.specs.low.wiring.declared.modules.PortRow.{PortRow}
 
 pub outputs_are : OutputsAreSamples
 unfolding port_output

@@ -3,7 +3,7 @@ use Rattle.std.proofs.Common.{◌≡◌, ◌∙◌, ℕ, suc, ◌+◌, ◌*◌, 
 use Rattle.std.proofs.lemmas.Bool.{cases_eq, eq-eqb, ne_eqb}
 use Rattle.std.proofs.lemmas.List.Sums.{sum_by-cons}
 use Rattle.std.specs.Prelude.{cond}
-use Rattle.tdf_flat.specs.declared.model.Flat.{Flat}
+use Rattle.tdf_dynamic.specs.low.flat.declared.model.Flat.{Flat}
 use Rattle.tdf_flow.proofs.Api.{any_order, fired_turn, order_keeps, played_are_grounded, whole_past}
 use Rattle.tdf_flow.specs.Net.{Net, Period, count}
 use Rattle.tdf_flow.specs.Playing.{IsPlayed, IsStep}
@@ -16,8 +16,8 @@ use Rattle.tdf_streams.specs.Laws.{AnyOrder, ClusterPlay, EndsWhole, FiringIsKno
 use Rattle.tdf_streams.specs.Periods.{PeriodRecord, done_before}
 use Rattle.tdf_streams.specs.Places.{reader_at, writer_at}
 use Rattle.tdf_streams.specs.Starts.{ArePast, held_at_head}
-use Rattle.tdf_tree.specs.Pure.{PureTree}
-use Rattle.tdf_fixed.specs.declared.raw.Raw.{Raw}
+use Rattle.tdf_dynamic.specs.low.tree.Pure.{PureTree}
+use Rattle.tdf_dynamic.specs.low.fixed.declared.raw.Raw.{Raw}
 
 both : (a b c : ℕ) → (a + b) * c ≡ a * c + b * c
 both a b c = grind arith

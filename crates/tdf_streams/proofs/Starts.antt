@@ -5,10 +5,10 @@ use Rattle.std.proofs.lemmas.List.Elements.{All-from_recursion}
 use Rattle.std.proofs.lemmas.Option.{get_or_from_slice_get, slice_get-map}
 use Rattle.std.specs.List.{AllByRecursion, cons_option, enumerate_from}
 use Rattle.std.specs.Prelude.{All, IfSome, filter_map}
-use Rattle.tdf_bind.specs.Flat.{FlatOf}
+use Rattle.tdf_dynamic.specs.low.bind.Flat.{FlatOf}
 use Rattle.tdf_dynamic.specs.Attributes.{AttrsOf}
-use Rattle.tdf_flat.specs.Flat.{IsFlatOf}
-use Rattle.tdf_flat.specs.declared.model.Flat.{Flat}
+use Rattle.tdf_dynamic.specs.low.flat.Flat.{IsFlatOf}
+use Rattle.tdf_dynamic.specs.low.flat.declared.model.Flat.{Flat}
 use Rattle.tdf_flow.proofs.Api.{get_inside, none_some}
 use Rattle.tdf_streams.proofs.Rows.{all_at}
 use Rattle.tdf_streams.specs.Cluster.{driver_samples, initial_list, initial_sample, initial_samples, list_if_own, text_start}
@@ -16,13 +16,13 @@ use Rattle.tdf_streams.specs.Laws.{TextHasLists, TextHoldsDelays}
 use Rattle.tdf_streams.specs.Periods.{done_before}
 use Rattle.tdf_streams.specs.Places.{is_own, reader_at, writer_at}
 use Rattle.tdf_streams.specs.Starts.{initial_of_row}
-use Rattle.tdf_tree.specs.Pure.{PureTree}
-use Rattle.tdf_tree.specs.declared.blocks.PortKind.{PortKind}
-use Rattle.tdf_tree.specs.declared.blocks.PortKind.TheVariants.{In, Out, DeIn, DeOut}
-use Rattle.tdf_wiring.specs.Edges.{actor_at, driven_edge, driver_port, edge_by, edge_from, edge_of_kind, edges_of}
-use Rattle.tdf_wiring.specs.declared.drivers.SignalRow.{SignalRow}
-use Rattle.tdf_wiring.specs.declared.edges.EdgeRow.{EdgeRow}
-use Rattle.tdf_wiring.specs.declared.modules.PortRow.{PortRow}
+use Rattle.tdf_dynamic.specs.low.tree.Pure.{PureTree}
+use Rattle.tdf_dynamic.specs.low.tree.declared.blocks.PortKind.{PortKind}
+use Rattle.tdf_dynamic.specs.low.tree.declared.blocks.PortKind.TheVariants.{In, Out, DeIn, DeOut}
+use Rattle.tdf_dynamic.specs.low.wiring.Edges.{actor_at, driven_edge, driver_port, edge_by, edge_from, edge_of_kind, edges_of}
+use Rattle.tdf_dynamic.specs.low.wiring.declared.drivers.SignalRow.{SignalRow}
+use Rattle.tdf_dynamic.specs.low.wiring.declared.edges.EdgeRow.{EdgeRow}
+use Rattle.tdf_dynamic.specs.low.wiring.declared.modules.PortRow.{PortRow}
 
 -- a port has as many initial samples as its delay
 samples_long : (tables : FlatOf) (o : Option PortRow) (port : PortRow) → o ≡ Some port → length (initial_samples tables o) ≡ port.delay

@@ -2,20 +2,20 @@
 -- Source: own.
 use Rattle.std.specs.Prelude.{ℕ, ◌+◌, ◌*◌, ◌<◌, ◌≡◌, Some, List, ◌∷◌, ◌++◌, All, slice_get}
 use Rattle.std.specs.Prelude.{slice_index, sum_by, ℤ}
-use Rattle.tdf_bind.specs.Flat.{FlatOf}
+use Rattle.tdf_dynamic.specs.low.bind.Flat.{FlatOf}
 use Rattle.tdf_dynamic.specs.Attributes.{AttrsOf, clusters_of}
-use Rattle.tdf_fixed.specs.declared.raw.Raw.{Raw}
-use Rattle.tdf_flat.specs.Flat.{IsFlatOf}
-use Rattle.tdf_flat.specs.declared.model.Flat.{Flat}
+use Rattle.tdf_dynamic.specs.low.fixed.declared.raw.Raw.{Raw}
+use Rattle.tdf_dynamic.specs.low.flat.Flat.{IsFlatOf}
+use Rattle.tdf_dynamic.specs.low.flat.declared.model.Flat.{Flat}
 use Rattle.tdf_flow.specs.Net.{Past, Turn, count}
 use Rattle.tdf_flow.specs.Streams.{place}
 use Rattle.tdf_limits.specs.Limits.{AreWithinLimits}
 use Rattle.tdf_streams.specs.Cluster.{cluster_net, initial_sample, text_start}
 use Rattle.tdf_streams.specs.Periods.{IsTimedRecord, PeriodRecord}
 use Rattle.tdf_streams.specs.Signals.{outputs_in, rate_in, signal_sample}
-use Rattle.tdf_tree.specs.Pure.{PureTree}
-use Rattle.tdf_wiring.specs.declared.edges.EdgeRow.{EdgeRow}
-use Rattle.tdf_wiring.specs.declared.modules.PortRow.{PortRow}
+use Rattle.tdf_dynamic.specs.low.tree.Pure.{PureTree}
+use Rattle.tdf_dynamic.specs.low.wiring.declared.edges.EdgeRow.{EdgeRow}
+use Rattle.tdf_dynamic.specs.low.wiring.declared.modules.PortRow.{PortRow}
 
 -- output k of activation a of a period is, by what was put before it, a sample of the signal
 abbrev pub OutputsAreSamples : Type 0

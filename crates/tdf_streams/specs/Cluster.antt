@@ -4,23 +4,23 @@ use Rattle.std.specs.Prelude.{ℕ, Bool, true, false, not, ◌||◌, List, [], �
 use Rattle.std.specs.Prelude.{Option, Some, None, ℤ, pos, nat_eq, if◌then◌else◌}
 use Rattle.std.specs.Prelude.{slice_get, slice_index, slice_index_or}
 use Rattle.std.specs.List.{enumerate_from, range_with_len}
-use Rattle.tdf_bind.specs.Flat.{FlatOf}
+use Rattle.tdf_dynamic.specs.low.bind.Flat.{FlatOf}
 use Rattle.tdf_dynamic.specs.Attributes.{AttrsOf, attrs_at, clusters_of, rates_in}
-use Rattle.tdf_fixed.specs.Cast.{fraction_of}
-use Rattle.tdf_fixed.specs.declared.raw.Raw.{Raw}
-use Rattle.tdf_flat.specs.declared.model.Flat.{Flat}
+use Rattle.tdf_dynamic.specs.low.fixed.Cast.{fraction_of}
+use Rattle.tdf_dynamic.specs.low.fixed.declared.raw.Raw.{Raw}
+use Rattle.tdf_dynamic.specs.low.flat.declared.model.Flat.{Flat}
 use Rattle.tdf_flow.specs.Net.{Net}
-use Rattle.tdf_graph.specs.declared.actors.Actor.{Actor}
-use Rattle.tdf_graph.specs.declared.actors.Actor.TheVariants as actor
+use Rattle.tdf_dynamic.specs.low.graph.declared.actors.Actor.{Actor}
+use Rattle.tdf_dynamic.specs.low.graph.declared.actors.Actor.TheVariants as actor
 use Rattle.tdf_streams.specs.Bodies.{acted, changed, initialized, reinitialized}
 use Rattle.tdf_streams.specs.Periods.{PeriodInfo}
 use Rattle.tdf_streams.specs.Places.{actor_kind, is_own, reader_at, source_at, writer_at}
-use Rattle.tdf_tree.specs.Pure.{PureTree}
-use Rattle.tdf_tree.specs.declared.blocks.PortKind.{PortKind}
-use Rattle.tdf_tree.specs.declared.blocks.PortKind.TheVariants.{In, Out, DeIn, DeOut}
-use Rattle.tdf_wiring.specs.declared.drivers.SignalRow.{SignalRow}
-use Rattle.tdf_wiring.specs.declared.edges.EdgeRow.{EdgeRow}
-use Rattle.tdf_wiring.specs.declared.modules.PortRow.{PortRow}
+use Rattle.tdf_dynamic.specs.low.tree.Pure.{PureTree}
+use Rattle.tdf_dynamic.specs.low.tree.declared.blocks.PortKind.{PortKind}
+use Rattle.tdf_dynamic.specs.low.tree.declared.blocks.PortKind.TheVariants.{In, Out, DeIn, DeOut}
+use Rattle.tdf_dynamic.specs.low.wiring.declared.drivers.SignalRow.{SignalRow}
+use Rattle.tdf_dynamic.specs.low.wiring.declared.edges.EdgeRow.{EdgeRow}
+use Rattle.tdf_dynamic.specs.low.wiring.declared.modules.PortRow.{PortRow}
 
 -- what a cluster starts from: the samples that each edge holds, none for edges of other clusters,
 -- and what the variables of each module hold

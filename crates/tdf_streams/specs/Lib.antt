@@ -6,3 +6,4 @@ pub mod Periods
 pub mod Places
 pub mod Signals
 pub mod Starts
+pub mod low

@@ -2,18 +2,18 @@
 -- Source: own; counts after Lee and Messerschmitt 1987, timesteps after IEEE 1666.1-2016.
 use Rattle.std.specs.Prelude.{◌≡◌, ◌<◌, ◌≤◌, ◌-◌, ℕ, Bool, List, length, map, slice_get}
 use Rattle.std.specs.Prelude.{slice_index, All}
-use Rattle.tdf_bind.specs.Flat.{FlatOf}
+use Rattle.tdf_dynamic.specs.low.bind.Flat.{FlatOf}
 use Rattle.tdf_dynamic.specs.Assignments.{assignments}
 use Rattle.tdf_dynamic.specs.Attributes.{AttrsOf, IsOfCluster, clusters_of}
 use Rattle.tdf_dynamic.specs.Rates.{NetOf, net_of}
-use Rattle.tdf_flat.specs.declared.model.Flat.{Flat}
+use Rattle.tdf_dynamic.specs.low.flat.declared.model.Flat.{Flat}
 use Rattle.tdf_flow.specs.Net.{Period}
-use Rattle.tdf_graph.specs.Counts.{AreCounts}
-use Rattle.tdf_graph.specs.declared.actors.Edge.{Edge}
+use Rattle.tdf_dynamic.specs.low.graph.Counts.{AreCounts}
+use Rattle.tdf_dynamic.specs.low.graph.declared.actors.Edge.{Edge}
 use Rattle.tdf_limits.specs.Limits.{limits_in}
-use Rattle.tdf_meaning.specs.Fits.{RatesFit}
-use Rattle.tdf_schedule.specs.Needs.{IsGrounded}
-use Rattle.tdf_timestep.specs.Period.{IsPeriod}
+use Rattle.tdf_dynamic.specs.low.meaning.Fits.{RatesFit}
+use Rattle.tdf_dynamic.specs.low.schedule.Needs.{IsGrounded}
+use Rattle.tdf_dynamic.specs.low.timestep.Period.{IsPeriod}
 
 -- beside the counts of what is done in it and the rates: the attributes in force, the counts of the
 -- whole period, its time, in counts of the model's resolution, and whether its plan is a new one

@@ -3,14 +3,14 @@
 -- Source: own.
 use Rattle.std.specs.Prelude.{◌&&◌, ℕ, Bool, false, List, [], ◌∷◌, length, take, Option, Some, None}
 use Rattle.std.specs.Prelude.{filter, nat_eq, if◌then◌else◌, slice_get, slice_index}
-use Rattle.tdf_bind.specs.Flat.{FlatOf}
+use Rattle.tdf_dynamic.specs.low.bind.Flat.{FlatOf}
 use Rattle.tdf_dynamic.specs.Attributes.{clusters_of}
-use Rattle.tdf_fixed.specs.declared.raw.Raw.{Raw}
-use Rattle.tdf_graph.specs.declared.actors.Actor.{Actor}
-use Rattle.tdf_bind.specs.declared.actors.ActorRow.{ActorRow}
-use Rattle.tdf_wiring.specs.declared.edges.EdgeRow.{EdgeRow}
-use Rattle.tdf_wiring.specs.declared.modules.ModuleRow.{ModuleRow}
-use Rattle.tdf_wiring.specs.declared.modules.PortRow.{PortRow}
+use Rattle.tdf_dynamic.specs.low.fixed.declared.raw.Raw.{Raw}
+use Rattle.tdf_dynamic.specs.low.graph.declared.actors.Actor.{Actor}
+use Rattle.tdf_dynamic.specs.low.bind.declared.actors.ActorRow.{ActorRow}
+use Rattle.tdf_dynamic.specs.low.wiring.declared.edges.EdgeRow.{EdgeRow}
+use Rattle.tdf_dynamic.specs.low.wiring.declared.modules.ModuleRow.{ModuleRow}
+use Rattle.tdf_dynamic.specs.low.wiring.declared.modules.PortRow.{PortRow}
 
 -- the number of a module's block
 abbrev pub block_of_row : Option ModuleRow → ℕ

@@ -4,14 +4,14 @@ use Rattle.std.specs.Prelude.{ℕ, ◌+◌, ◌-◌, ◌*◌, ◌/◌, ◌%◌, 
 use Rattle.std.specs.Prelude.{nat_lt, if◌then◌else◌, ℤ, slice_index}
 use Rattle.std.specs.List.{sum_by}
 use Rattle.std.specs.Option.{option_and_then}
-use Rattle.tdf_bind.specs.Flat.{FlatOf}
+use Rattle.tdf_dynamic.specs.low.bind.Flat.{FlatOf}
 use Rattle.tdf_dynamic.specs.Rates.{port_rate}
-use Rattle.tdf_fixed.specs.declared.raw.Raw.{Raw}
+use Rattle.tdf_dynamic.specs.low.fixed.declared.raw.Raw.{Raw}
 use Rattle.tdf_flow.specs.Net.{Past, Turn}
 use Rattle.tdf_flow.specs.Streams.{Spot, find}
 use Rattle.tdf_streams.specs.Cluster.{initial_sample}
 use Rattle.tdf_streams.specs.Periods.{PeriodInfo, PeriodRecord}
-use Rattle.tdf_wiring.specs.declared.modules.PortRow.{PortRow}
+use Rattle.tdf_dynamic.specs.low.wiring.declared.modules.PortRow.{PortRow}
 
 -- samples of a port in one activation, in a period
 abbrev pub rate_in : PortRow → PeriodRecord → ℕ

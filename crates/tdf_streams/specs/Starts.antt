@@ -2,12 +2,12 @@
 -- Source: own.
 use Rattle.std.specs.Prelude.{◌≡◌, ◌<◌, ◌+◌, ◌*◌, ℕ, List, [], ◌∷◌, Option, Some, None, length}
 use Rattle.std.specs.Prelude.{if◌then◌else◌, slice_get, slice_index, slice_index_or, All}
-use Rattle.tdf_bind.specs.Flat.{FlatOf}
-use Rattle.tdf_flat.specs.declared.model.Flat.{Flat}
+use Rattle.tdf_dynamic.specs.low.bind.Flat.{FlatOf}
+use Rattle.tdf_dynamic.specs.low.flat.declared.model.Flat.{Flat}
 use Rattle.tdf_streams.specs.Cluster.{Start}
 use Rattle.tdf_streams.specs.Periods.{PeriodRecord, IsPeriodRecord, IsWholeRecord, done_before}
 use Rattle.tdf_streams.specs.Places.{is_own, reader_at, writer_at}
-use Rattle.tdf_wiring.specs.declared.edges.EdgeRow.{EdgeRow}
+use Rattle.tdf_dynamic.specs.low.wiring.declared.edges.EdgeRow.{EdgeRow}
 
 -- the samples that an edge of the cluster holds at the head of each whole period; of edges of other
 -- clusters nothing is held

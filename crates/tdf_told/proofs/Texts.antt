@@ -4,24 +4,24 @@ use Rattle.std.proofs.lemmas.List.{length-map}
 use Rattle.std.proofs.lemmas.Option.{slice_get-map}
 use Rattle.std.specs.List.{enumerate_from, flat_map, list_any, range_with_len}
 use Rattle.std.specs.Prelude.{◌||◌, slice_get, slice_index, slice_index_or}
-use Rattle.tdf_changes.specs.Laws.{BoundariesHaveOne}
-use Rattle.tdf_dynamic.specs.Attributes.{clusters_of}
-use Rattle.tdf_flat.specs.declared.model.Flat.{Flat}
+use Rattle.tdf_history.specs.low.changes.Laws.{BoundariesHaveOne}
+use Rattle.tdf_history.specs.low.dynamic.Attributes.{clusters_of}
+use Rattle.tdf_history.specs.low.flat.declared.model.Flat.{Flat}
 use Rattle.tdf_history.proofs.Api.{history_told, one_history}
 use Rattle.tdf_history.specs.Cells.{cell_by_driver, changed_cell, driven_cell, driver_of_row, first_shown, port_cell, run_cells, signal_cell, trace_cell, value_before, world_before, world_of}
 use Rattle.tdf_history.specs.Instant.{RunFault, engine, instant, is_cluster_due, is_due}
 use Rattle.tdf_history.specs.Telling.{AreTold, state_as, told_more, untold, world_told, world_untold}
 use Rattle.tdf_history.specs.Texts.{closing_text, end_of, first_plans, left_by, new_plans, notes_in, notes_to, plan_note, run_notes, run_trace}
 use Rattle.tdf_history.specs.World.{Change, ClusterAt, Rules, World}
-use Rattle.tdf_instants.specs.History.{Engine, Fault, Going, On, Past, Spent, State, Step, Stopped, after, end_time, history, state_of}
-use Rattle.tdf_rows.proofs.Api.{text_same}
-use Rattle.tdf_rows.specs.Laws.{Agree}
-use Rattle.tdf_rows.specs.Rows.{Writing, trace_text}
-use Rattle.tdf_streams.specs.Cluster.{zero_sample}
+use Rattle.tdf_history.specs.low.instants.History.{Engine, Fault, Going, On, Past, Spent, State, Step, Stopped, after, end_time, history, state_of}
+use Rattle.tdf_history.proofs.Api.{text_same}
+use Rattle.tdf_history.specs.low.rows.Laws.{Agree}
+use Rattle.tdf_history.specs.low.rows.Rows.{Writing, trace_text}
+use Rattle.tdf_history.specs.low.streams.Cluster.{zero_sample}
 use Rattle.tdf_told.specs.Laws.{AnswersWriteOne, MoreWritesTheSame}
-use Rattle.tdf_tree.specs.Pure.{PureTree}
-use Rattle.tdf_wiring.specs.declared.modules.PortRow.{PortRow}
-use Rattle.tdf_wiring.specs.declared.traces.TraceRow.{TraceRow}
+use Rattle.tdf_history.specs.low.tree.Pure.{PureTree}
+use Rattle.tdf_history.specs.low.wiring.declared.modules.PortRow.{PortRow}
+use Rattle.tdf_history.specs.low.wiring.declared.traces.TraceRow.{TraceRow}
 
 due_bare : (time : ℕ) (cs : List ClusterAt) → list_any (is_cluster_due time) (map untold cs) ≡ list_any (is_cluster_due time) cs
 due_bare time [] = refl

@@ -2,14 +2,14 @@
 -- their answers, by the model alone.
 -- Source: own.
 use Rattle.std.specs.Prelude.{◌≡◌, ℕ, List}
-use Rattle.tdf_changes.specs.Laws.{IsBoundary}
-use Rattle.tdf_flat.specs.declared.model.Flat.{Flat}
+use Rattle.tdf_history.specs.low.changes.Laws.{IsBoundary}
+use Rattle.tdf_history.specs.low.flat.declared.model.Flat.{Flat}
 use Rattle.tdf_history.specs.Answers.{AreAnswers, OfAll, asks_in}
 use Rattle.tdf_history.specs.Telling.{AreTold, world_told, world_untold}
 use Rattle.tdf_history.specs.Texts.{run_notes, run_trace}
 use Rattle.tdf_history.specs.World.{Change, Rules, World}
-use Rattle.tdf_rows.specs.Rows.{Writing}
-use Rattle.tdf_tree.specs.Pure.{PureTree}
+use Rattle.tdf_history.specs.low.rows.Rows.{Writing}
+use Rattle.tdf_history.specs.low.tree.Pure.{PureTree}
 
 -- from two starts a run has the same trace, written in some way, and the same notes
 pub record WriteTheSame (writing : Writing) (model : PureTree) (flat : Flat) (rules : Rules ℕ)

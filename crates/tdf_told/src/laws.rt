@@ -2,7 +2,7 @@
 
 ghost use Rattle.tdf_told.specs.Laws.{AnswersWriteOne, MoreWritesTheSame};
 
-use tdf_changes::law_one_answer;
+use tdf_history::low::changes::law_one_answer;
 
 /// Where something is told of each boundary up to a stop, a run writes the same when more is told.
 pub fn law_told()

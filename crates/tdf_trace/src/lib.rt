@@ -10,6 +10,7 @@
 //! - `heads`: writing what is before the rows, and after them.
 //! - `stage`, `trace`: the type [`Trace`] and its calls.
 //! - `laws`: what holds of the texts.
+//! - `low`: what the crates above use of the crates further below.
 #![tactic(auto)]
 
 mod about;
@@ -17,6 +18,7 @@ mod column;
 mod columns;
 mod heads;
 mod laws;
+pub mod low;
 mod rows;
 mod stage;
 mod tables;

@@ -7,31 +7,31 @@ use Rattle.std.proofs.lemmas.Option.{slice_get_within}
 use Rattle.std.specs.List.{count_by, sum_by}
 use Rattle.std.specs.Option.{option_and_then}
 use Rattle.std.specs.Prelude.{cond, nat_lt, slice_get, slice_index, ℤ}
-use Rattle.tdf_bind.specs.Flat.{FlatOf}
-use Rattle.tdf_exec.specs.Cluster.{ClusterOf}
-use Rattle.tdf_exec.specs.Played.{cells_of, play_of}
-use Rattle.tdf_fixed.specs.declared.raw.Raw.{Raw}
-use Rattle.tdf_flat.specs.declared.model.Flat.{Flat}
-use Rattle.tdf_flow.proofs.Api.{find_more, known_more, none_some, state_more}
-use Rattle.tdf_flow.specs.Grounds.{firings}
-use Rattle.tdf_flow.specs.Net.{Net, Past, Period, Turn, count}
-use Rattle.tdf_flow.specs.Stands.{KeepsReads, Less, run_of}
-use Rattle.tdf_flow.specs.Streams.{Spot, find, known, spot, state_before}
-use Rattle.tdf_history.specs.Answers.{last_cells}
-use Rattle.tdf_history.specs.Instant.{activations, periods_of, run_in}
-use Rattle.tdf_history.specs.World.{ClusterAt}
+use Rattle.tdf_run.specs.low.bind.Flat.{FlatOf}
+use Rattle.tdf_run.specs.low.exec.Cluster.{ClusterOf}
+use Rattle.tdf_run.specs.low.exec.Played.{cells_of, play_of}
+use Rattle.tdf_run.specs.low.fixed.declared.raw.Raw.{Raw}
+use Rattle.tdf_run.specs.low.flat.declared.model.Flat.{Flat}
+use Rattle.tdf_run.proofs.Api.{find_more, known_more, none_some, state_more}
+use Rattle.tdf_run.specs.low.flow.Grounds.{firings}
+use Rattle.tdf_run.specs.low.flow.Net.{Net, Past, Period, Turn, count}
+use Rattle.tdf_run.specs.low.flow.Stands.{KeepsReads, Less, run_of}
+use Rattle.tdf_run.specs.low.flow.Streams.{Spot, find, known, spot, state_before}
+use Rattle.tdf_run.specs.low.history.Answers.{last_cells}
+use Rattle.tdf_run.specs.low.history.Instant.{activations, periods_of, run_in}
+use Rattle.tdf_run.specs.low.history.World.{ClusterAt}
 use Rattle.tdf_run.proofs.Api.{done_none, enough, entry_in, in_plan, turns_here}
 use Rattle.tdf_run.specs.At.{IsAt}
-use Rattle.tdf_schedule.specs.Plan.{done}
-use Rattle.tdf_schedule.specs.declared.entry.Entry.{Entry}
-use Rattle.tdf_streams.specs.Cluster.{cluster_net, initial_sample, is_outside}
-use Rattle.tdf_streams.specs.Laws.{HasValue}
-use Rattle.tdf_streams.specs.Periods.{PeriodInfo, PeriodRecord}
-use Rattle.tdf_streams.specs.Signals.{output_at_spot, outputs_in, port_output, rate_in, signal_sample}
+use Rattle.tdf_run.specs.low.schedule.Plan.{done}
+use Rattle.tdf_run.specs.low.schedule.declared.entry.Entry.{Entry}
+use Rattle.tdf_run.specs.low.streams.Cluster.{cluster_net, initial_sample, is_outside}
+use Rattle.tdf_run.specs.low.streams.Laws.{HasValue}
+use Rattle.tdf_run.specs.low.streams.Periods.{PeriodInfo, PeriodRecord}
+use Rattle.tdf_run.specs.low.streams.Signals.{output_at_spot, outputs_in, port_output, rate_in, signal_sample}
 use Rattle.tdf_traced.specs.Laws.{DoneIsKnown, HeldIsKnown}
 use Rattle.tdf_traced.specs.Samples.{IsDoneKnown}
-use Rattle.tdf_tree.specs.Pure.{PureTree}
-use Rattle.tdf_wiring.specs.declared.modules.PortRow.{PortRow}
+use Rattle.tdf_run.specs.low.tree.Pure.{PureTree}
+use Rattle.tdf_run.specs.low.wiring.declared.modules.PortRow.{PortRow}
 
 -- more values of samplers and more steps keep what is known
 pub known_to : {S V I : Type 0} (net : Net S V I) (old : List (Period I)) (p : Period I) (short long : ℕ → List V) → KeepsReads short long → (f g : ℕ) → f ≤ g

@@ -3,35 +3,35 @@ use Rattle.std.proofs.Common.{◌≡◌, ◌≢◌, ◌⊎◌, ◌∙◌, ℕ, z
 use Rattle.std.proofs.lemmas.Bool.{cases_eq}
 use Rattle.std.proofs.lemmas.List.{append_assoc}
 use Rattle.std.proofs.lemmas.Option.{get_or_from_slice_get, slice_get_within}
-use Rattle.tdf_convert.specs.Outputs.{OutputsOf}
-use Rattle.tdf_convert.specs.declared.outputs.Sent.{Sent}
-use Rattle.tdf_exec.specs.Cluster.{due_count, is_due, next_offset}
-use Rattle.tdf_expr.specs.Checked.{IsCheckedOf}
-use Rattle.tdf_fixed.specs.declared.raw.Raw.{Raw}
-use Rattle.tdf_flat.specs.Flat.{IsFlatOf}
-use Rattle.tdf_flat.specs.declared.model.Flat.{Flat}
-use Rattle.tdf_flow.proofs.Api.{get_inside, some_same}
-use Rattle.tdf_formats.specs.Formats.{IsSoundModel}
-use Rattle.tdf_graph.specs.declared.actors.Actor.TheVariants as actor
-use Rattle.tdf_history.specs.Instant.{RunFault, all_firings}
-use Rattle.tdf_history.specs.Texts.{left_by}
-use Rattle.tdf_history.specs.World.{ClusterAt, Rules, World}
-use Rattle.tdf_instants.proofs.Api.{turns_more, turns_none}
-use Rattle.tdf_instants.specs.History.{Going, Step, turns_to}
-use Rattle.tdf_layout.proofs.Api.{module_kind}
-use Rattle.tdf_layout.specs.Traced.{SignalsHaveOnePort}
-use Rattle.tdf_limits.specs.Limits.{AreWithinLimits}
+use Rattle.tdf_run.specs.low.convert.Outputs.{OutputsOf}
+use Rattle.tdf_run.specs.low.convert.declared.outputs.Sent.{Sent}
+use Rattle.tdf_run.specs.low.exec.Cluster.{due_count, is_due, next_offset}
+use Rattle.tdf_run.specs.low.expr.Checked.{IsCheckedOf}
+use Rattle.tdf_run.specs.low.fixed.declared.raw.Raw.{Raw}
+use Rattle.tdf_run.specs.low.flat.Flat.{IsFlatOf}
+use Rattle.tdf_run.specs.low.flat.declared.model.Flat.{Flat}
+use Rattle.tdf_run.proofs.Api.{get_inside, some_same}
+use Rattle.tdf_run.specs.low.formats.Formats.{IsSoundModel}
+use Rattle.tdf_run.specs.low.graph.declared.actors.Actor.TheVariants as actor
+use Rattle.tdf_run.specs.low.history.Instant.{RunFault, all_firings}
+use Rattle.tdf_run.specs.low.history.Texts.{left_by}
+use Rattle.tdf_run.specs.low.history.World.{ClusterAt, Rules, World}
+use Rattle.tdf_run.proofs.Api.{turns_more, turns_none}
+use Rattle.tdf_run.specs.low.instants.History.{Going, Step, turns_to}
+use Rattle.tdf_run.proofs.Api.{module_kind}
+use Rattle.tdf_run.specs.low.layout.Traced.{SignalsHaveOnePort}
+use Rattle.tdf_run.specs.low.limits.Limits.{AreWithinLimits}
 use Rattle.tdf_run.proofs.Api.{due_here, due_offset, due_fire, later, none_due, none_fire, passes_along}
 use Rattle.tdf_run.specs.At.{AreSettled, IsAt}
 use Rattle.tdf_run.specs.Firings.{after_firings, settled_values, world_after}
 use Rattle.tdf_run.specs.Pass.{AreAt, AreReady, HasDone, HasIdled, HasTurn, HavePassed, IsTurnOf, PassAt, PassesAlong, RunOf, TurnAt, world_with}
-use Rattle.tdf_streams.specs.Places.{actor_kind}
+use Rattle.tdf_run.specs.low.streams.Places.{actor_kind}
 use Rattle.tdf_traced.proofs.Picked.{samples_append, samples_none}
 use Rattle.tdf_traced.proofs.Turned.{fired_other, fired_own}
 use Rattle.tdf_traced.specs.Laws.{PassesTrace}
 use Rattle.tdf_traced.specs.Samples.{AreSamplesOf, HaveTraced, IsTracedPort, samples_of}
-use Rattle.tdf_tree.specs.Pure.{PureTree}
-use Rattle.tdf_wiring.specs.declared.modules.PortRow.{PortRow}
+use Rattle.tdf_run.specs.low.tree.Pure.{PureTree}
+use Rattle.tdf_run.specs.low.wiring.declared.modules.PortRow.{PortRow}
 
 -- what is set is there, and nothing else changes
 set_there : {A : Type 0} (xs : List A) (i : ℕ) (x y : A) → i < length xs → slice_get (set xs i x) i ≡ Some y → x ≡ y

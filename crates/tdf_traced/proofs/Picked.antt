@@ -4,26 +4,26 @@ use Rattle.std.proofs.lemmas.Bool.{eq-eqb, eqb-true, ne_eqb}
 use Rattle.std.proofs.lemmas.List.Elements.{filter_map-append}
 use Rattle.std.specs.List.{cons_option, enumerate_from, filter_map, flat_map, list_any, range_with_len}
 use Rattle.std.specs.Prelude.{slice_get, ℤ}
-use Rattle.tdf_bind.specs.Flat.{FlatOf}
-use Rattle.tdf_convert.specs.declared.outputs.Traced.{Traced}
-use Rattle.tdf_dynamic.specs.Attributes.{AttrsOf}
-use Rattle.tdf_dynamic.specs.Rates.{port_rate}
-use Rattle.tdf_exec.specs.Gained.{traced_by}
-use Rattle.tdf_exec.specs.Traced.{rate_of_row, signal_of_row, traced_sample, turn_samples}
-use Rattle.tdf_fixed.specs.declared.raw.Raw.{Raw}
-use Rattle.tdf_flat.specs.Flat.{IsFlatOf}
-use Rattle.tdf_flat.specs.declared.model.Flat.{Flat}
-use Rattle.tdf_flow.proofs.Api.{none_some, some_same}
-use Rattle.tdf_flow.specs.Net.{Turn}
-use Rattle.tdf_formats.specs.Formats.{IsSoundModel}
-use Rattle.tdf_graph.specs.declared.actors.Actor.{Actor}
-use Rattle.tdf_graph.specs.declared.actors.Actor.TheVariants as actor
-use Rattle.tdf_layout.specs.Traced.{SignalsHaveOnePort, is_out, is_trace_of, is_traced, number_if_traced}
+use Rattle.tdf_run.specs.low.bind.Flat.{FlatOf}
+use Rattle.tdf_run.specs.low.convert.declared.outputs.Traced.{Traced}
+use Rattle.tdf_run.specs.low.dynamic.Attributes.{AttrsOf}
+use Rattle.tdf_run.specs.low.dynamic.Rates.{port_rate}
+use Rattle.tdf_run.specs.low.exec.Gained.{traced_by}
+use Rattle.tdf_run.specs.low.exec.Traced.{rate_of_row, signal_of_row, traced_sample, turn_samples}
+use Rattle.tdf_run.specs.low.fixed.declared.raw.Raw.{Raw}
+use Rattle.tdf_run.specs.low.flat.Flat.{IsFlatOf}
+use Rattle.tdf_run.specs.low.flat.declared.model.Flat.{Flat}
+use Rattle.tdf_run.proofs.Api.{none_some, some_same}
+use Rattle.tdf_run.specs.low.flow.Net.{Turn}
+use Rattle.tdf_run.specs.low.formats.Formats.{IsSoundModel}
+use Rattle.tdf_run.specs.low.graph.declared.actors.Actor.{Actor}
+use Rattle.tdf_run.specs.low.graph.declared.actors.Actor.TheVariants as actor
+use Rattle.tdf_run.specs.low.layout.Traced.{SignalsHaveOnePort, is_out, is_trace_of, is_traced, number_if_traced}
 use Rattle.tdf_traced.specs.Samples.{IsTracedPort, samples_of, value_if}
-use Rattle.tdf_tree.specs.Pure.{PureTree}
-use Rattle.tdf_tree.specs.declared.blocks.PortKind.{PortKind}
-use Rattle.tdf_tree.specs.declared.blocks.PortKind.TheVariants.{In, Out, DeIn, DeOut}
-use Rattle.tdf_wiring.specs.declared.modules.PortRow.{PortRow}
+use Rattle.tdf_run.specs.low.tree.Pure.{PureTree}
+use Rattle.tdf_run.specs.low.tree.declared.blocks.PortKind.{PortKind}
+use Rattle.tdf_run.specs.low.tree.declared.blocks.PortKind.TheVariants.{In, Out, DeIn, DeOut}
+use Rattle.tdf_run.specs.low.wiring.declared.modules.PortRow.{PortRow}
 
 pub samples_append : (signal : ℕ) (a b : List Traced) → samples_of signal (a ++ b) ≡ samples_of signal a ++ samples_of signal b
 unfolding samples_of

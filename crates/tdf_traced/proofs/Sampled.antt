@@ -6,31 +6,31 @@ use Rattle.std.proofs.lemmas.List.Sums.{sum_by-append, sum_by-cons}
 use Rattle.std.proofs.lemmas.Option.{slice_get_past, slice_get_within}
 use Rattle.std.specs.List.{range_with_len, sum_by}
 use Rattle.std.specs.Prelude.{drop, slice_get, sum}
-use Rattle.tdf_dynamic.specs.declared.first.First.{First}
-use Rattle.tdf_exec.specs.Cluster.{ClusterOf}
-use Rattle.tdf_fixed.specs.declared.raw.Raw.{Raw}
-use Rattle.tdf_flat.specs.declared.model.Flat.{Flat}
-use Rattle.tdf_flow.proofs.Api.{get_inside, get_made_at, known_more}
-use Rattle.tdf_flow.specs.Grounds.{firings}
-use Rattle.tdf_flow.specs.Stands.{Less}
-use Rattle.tdf_flow.specs.Streams.{known}
-use Rattle.tdf_history.specs.Cells.{sample_at, samples_done, spans_from}
-use Rattle.tdf_history.specs.Instant.{periods_of, run_in, same_period}
-use Rattle.tdf_history.specs.Start.{first_cluster}
-use Rattle.tdf_history.specs.World.{ClusterAt}
-use Rattle.tdf_rows.specs.Positions.{position_at}
+use Rattle.tdf_run.specs.low.dynamic.declared.first.First.{First}
+use Rattle.tdf_run.specs.low.exec.Cluster.{ClusterOf}
+use Rattle.tdf_run.specs.low.fixed.declared.raw.Raw.{Raw}
+use Rattle.tdf_run.specs.low.flat.declared.model.Flat.{Flat}
+use Rattle.tdf_run.proofs.Api.{get_inside, get_made_at, known_more}
+use Rattle.tdf_run.specs.low.flow.Grounds.{firings}
+use Rattle.tdf_run.specs.low.flow.Stands.{Less}
+use Rattle.tdf_run.specs.low.flow.Streams.{known}
+use Rattle.tdf_run.specs.low.history.Cells.{sample_at, samples_done, spans_from}
+use Rattle.tdf_run.specs.low.history.Instant.{periods_of, run_in, same_period}
+use Rattle.tdf_run.specs.low.history.Start.{first_cluster}
+use Rattle.tdf_run.specs.low.history.World.{ClusterAt}
+use Rattle.tdf_run.specs.low.rows.Positions.{position_at}
 use Rattle.tdf_run.proofs.Api.{done_none}
 use Rattle.tdf_run.specs.At.{IsAt}
-use Rattle.tdf_schedule.specs.Plan.{done}
-use Rattle.tdf_schedule.specs.declared.entry.Entry.{Entry}
-use Rattle.tdf_streams.specs.Cluster.{cluster_net, initial_sample}
-use Rattle.tdf_streams.specs.Periods.{PeriodRecord, period_record}
-use Rattle.tdf_streams.specs.Signals.{outputs_in, port_output, rate_in}
+use Rattle.tdf_run.specs.low.schedule.Plan.{done}
+use Rattle.tdf_run.specs.low.schedule.declared.entry.Entry.{Entry}
+use Rattle.tdf_run.specs.low.streams.Cluster.{cluster_net, initial_sample}
+use Rattle.tdf_run.specs.low.streams.Periods.{PeriodRecord, period_record}
+use Rattle.tdf_run.specs.low.streams.Signals.{outputs_in, port_output, rate_in}
 use Rattle.tdf_traced.proofs.Knowing.{done_known, signal_more}
 use Rattle.tdf_traced.specs.Laws.{BoundariesAddNone, CellsAreOfSamples, StartsHaveSamples}
 use Rattle.tdf_traced.specs.Samples.{AreSamplesOf, sample_known}
-use Rattle.tdf_tree.specs.Pure.{PureTree}
-use Rattle.tdf_wiring.specs.declared.modules.PortRow.{PortRow}
+use Rattle.tdf_run.specs.low.tree.Pure.{PureTree}
+use Rattle.tdf_run.specs.low.wiring.declared.modules.PortRow.{PortRow}
 
 -- at the start
 module _ (model : PureTree) (flat : Flat) (cluster number : ℕ) (port : PortRow) (first : First) where

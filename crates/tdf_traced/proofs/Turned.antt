@@ -1,31 +1,31 @@
 -- What a cluster traces in its turn.
 use Rattle.std.proofs.Common.{◌≡◌, ◌≢◌, ◌∙◌, ℕ, ◌+◌, ◌-◌, ◌<◌, ◌≤◌, List, [], ◌++◌, Some, length, sym, ap, subst, arith}
 use Rattle.std.specs.Prelude.{slice_get, slice_index, slice_index_or}
-use Rattle.tdf_convert.specs.Outputs.{OutputsOf}
-use Rattle.tdf_convert.specs.Sampled.{AreByOffset}
-use Rattle.tdf_dynamic.specs.Attributes.{clusters_of}
-use Rattle.tdf_exec.specs.Cluster.{ClusterOf, due_count, next_offset}
-use Rattle.tdf_exec.specs.Gained.{GiveAll}
-use Rattle.tdf_exec.specs.Played.{play_of}
-use Rattle.tdf_expr.specs.Checked.{IsCheckedOf}
-use Rattle.tdf_fixed.specs.declared.raw.Raw.{Raw}
-use Rattle.tdf_flat.specs.Flat.{IsFlatOf}
-use Rattle.tdf_flat.specs.declared.model.Flat.{Flat}
-use Rattle.tdf_formats.specs.Formats.{IsSoundModel}
-use Rattle.tdf_graph.specs.declared.actors.Actor.TheVariants as actor
-use Rattle.tdf_history.specs.World.{ClusterAt}
-use Rattle.tdf_layout.specs.Traced.{SignalsHaveOnePort}
+use Rattle.tdf_run.specs.low.convert.Outputs.{OutputsOf}
+use Rattle.tdf_run.specs.low.convert.Sampled.{AreByOffset}
+use Rattle.tdf_run.specs.low.dynamic.Attributes.{clusters_of}
+use Rattle.tdf_run.specs.low.exec.Cluster.{ClusterOf, due_count, next_offset}
+use Rattle.tdf_run.specs.low.exec.Gained.{GiveAll}
+use Rattle.tdf_run.specs.low.exec.Played.{play_of}
+use Rattle.tdf_run.specs.low.expr.Checked.{IsCheckedOf}
+use Rattle.tdf_run.specs.low.fixed.declared.raw.Raw.{Raw}
+use Rattle.tdf_run.specs.low.flat.Flat.{IsFlatOf}
+use Rattle.tdf_run.specs.low.flat.declared.model.Flat.{Flat}
+use Rattle.tdf_run.specs.low.formats.Formats.{IsSoundModel}
+use Rattle.tdf_run.specs.low.graph.declared.actors.Actor.TheVariants as actor
+use Rattle.tdf_run.specs.low.history.World.{ClusterAt}
+use Rattle.tdf_run.specs.low.layout.Traced.{SignalsHaveOnePort}
 use Rattle.tdf_run.proofs.Api.{begins, due_here, enough, entry_in, given_here, not_late, turns_here}
 use Rattle.tdf_run.specs.At.{AreSettled, IsAt}
 use Rattle.tdf_run.specs.Fired.{HasFired}
 use Rattle.tdf_run.specs.Firings.{AreDueNext, after_firings, reads_after}
-use Rattle.tdf_schedule.specs.declared.entry.Entry.{Entry}
-use Rattle.tdf_streams.specs.Cluster.{cluster_net}
-use Rattle.tdf_streams.specs.Places.{actor_kind}
+use Rattle.tdf_run.specs.low.schedule.declared.entry.Entry.{Entry}
+use Rattle.tdf_run.specs.low.streams.Cluster.{cluster_net}
+use Rattle.tdf_run.specs.low.streams.Places.{actor_kind}
 use Rattle.tdf_traced.proofs.Walked.{actors_in, nothing, walk}
 use Rattle.tdf_traced.specs.Samples.{AreSamplesOf, IsTracedPort, samples_of}
-use Rattle.tdf_tree.specs.Pure.{PureTree}
-use Rattle.tdf_wiring.specs.declared.modules.PortRow.{PortRow}
+use Rattle.tdf_run.specs.low.tree.Pure.{PureTree}
+use Rattle.tdf_run.specs.low.wiring.declared.modules.PortRow.{PortRow}
 
 after_none : (flat : Flat) (values : List Raw) (h : ClusterAt) → h ≡ after_firings flat.tables values h 0
 unfolding reads_after

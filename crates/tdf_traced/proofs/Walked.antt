@@ -6,38 +6,38 @@ use Rattle.std.proofs.lemmas.List.FromFn.{length-map-range_with_len}
 use Rattle.std.proofs.lemmas.Option.{slice_get_within}
 use Rattle.std.specs.List.{range_with_len, sum_by}
 use Rattle.std.specs.Prelude.{slice_get, slice_index, slice_index_or, ℤ}
-use Rattle.tdf_convert.specs.declared.outputs.Sent.{Sent}
-use Rattle.tdf_convert.specs.declared.outputs.Traced.{Traced}
-use Rattle.tdf_dynamic.specs.Attributes.{clusters_of}
-use Rattle.tdf_exec.specs.Gained.{GiveAll, traced_by}
-use Rattle.tdf_fixed.specs.declared.raw.Raw.{Raw}
-use Rattle.tdf_flat.specs.Flat.{IsFlatOf}
-use Rattle.tdf_flat.specs.declared.model.Flat.{Flat}
-use Rattle.tdf_flow.proofs.Api.{get_high, get_inside, get_low, get_made_at, some_same}
-use Rattle.tdf_flow.specs.Grounds.{firings}
-use Rattle.tdf_flow.specs.Net.{Net, Past, count}
-use Rattle.tdf_flow.specs.Playing.{IsStep}
-use Rattle.tdf_flow.specs.Stands.{Less, Play, Stands, run_of}
-use Rattle.tdf_flow.specs.Streams.{known}
-use Rattle.tdf_formats.specs.Formats.{IsSoundModel}
-use Rattle.tdf_graph.specs.declared.actors.Actor.TheVariants as actor
-use Rattle.tdf_history.specs.World.{ClusterAt}
-use Rattle.tdf_layout.specs.Traced.{SignalsHaveOnePort}
+use Rattle.tdf_run.specs.low.convert.declared.outputs.Sent.{Sent}
+use Rattle.tdf_run.specs.low.convert.declared.outputs.Traced.{Traced}
+use Rattle.tdf_run.specs.low.dynamic.Attributes.{clusters_of}
+use Rattle.tdf_run.specs.low.exec.Gained.{GiveAll, traced_by}
+use Rattle.tdf_run.specs.low.fixed.declared.raw.Raw.{Raw}
+use Rattle.tdf_run.specs.low.flat.Flat.{IsFlatOf}
+use Rattle.tdf_run.specs.low.flat.declared.model.Flat.{Flat}
+use Rattle.tdf_run.proofs.Api.{get_high, get_inside, get_low, get_made_at, some_same}
+use Rattle.tdf_run.specs.low.flow.Grounds.{firings}
+use Rattle.tdf_run.specs.low.flow.Net.{Net, Past, count}
+use Rattle.tdf_run.specs.low.flow.Playing.{IsStep}
+use Rattle.tdf_run.specs.low.flow.Stands.{Less, Play, Stands, run_of}
+use Rattle.tdf_run.specs.low.flow.Streams.{known}
+use Rattle.tdf_run.specs.low.formats.Formats.{IsSoundModel}
+use Rattle.tdf_run.specs.low.graph.declared.actors.Actor.TheVariants as actor
+use Rattle.tdf_run.specs.low.history.World.{ClusterAt}
+use Rattle.tdf_run.specs.low.layout.Traced.{SignalsHaveOnePort}
 use Rattle.tdf_run.proofs.Api.{drop_at, here_next, here_stands, keeps_to, stands_next, turns_next}
 use Rattle.tdf_run.specs.At.{HaveRead}
 use Rattle.tdf_run.specs.Firings.{after_firings, reads_after}
-use Rattle.tdf_schedule.specs.Plan.{done}
-use Rattle.tdf_schedule.specs.declared.entry.Entry.{Entry}
-use Rattle.tdf_streams.proofs.Api.{done_next, firing_known, outputs_are}
-use Rattle.tdf_streams.specs.Cluster.{cluster_net}
-use Rattle.tdf_streams.specs.Periods.{PeriodInfo, PeriodRecord}
-use Rattle.tdf_streams.specs.Places.{actor_kind}
-use Rattle.tdf_streams.specs.Signals.{outputs_in, rate_in, signal_sample}
+use Rattle.tdf_run.specs.low.schedule.Plan.{done}
+use Rattle.tdf_run.specs.low.schedule.declared.entry.Entry.{Entry}
+use Rattle.tdf_run.proofs.Api.{done_next, firing_known, outputs_are}
+use Rattle.tdf_run.specs.low.streams.Cluster.{cluster_net}
+use Rattle.tdf_run.specs.low.streams.Periods.{PeriodInfo, PeriodRecord}
+use Rattle.tdf_run.specs.low.streams.Places.{actor_kind}
+use Rattle.tdf_run.specs.low.streams.Signals.{outputs_in, rate_in, signal_sample}
 use Rattle.tdf_traced.proofs.Knowing.{known_to, signal_more}
 use Rattle.tdf_traced.proofs.Picked.{none_traced, own_traced, samples_append, samples_none}
 use Rattle.tdf_traced.specs.Samples.{AreSamplesOf, IsTracedPort, samples_of}
-use Rattle.tdf_tree.specs.Pure.{PureTree}
-use Rattle.tdf_wiring.specs.declared.modules.PortRow.{PortRow}
+use Rattle.tdf_run.specs.low.tree.Pure.{PureTree}
+use Rattle.tdf_run.specs.low.wiring.declared.modules.PortRow.{PortRow}
 
 one_more : (a b : ℕ) → (a + 1) * b ≡ a * b + b
 one_more a b = grind arith

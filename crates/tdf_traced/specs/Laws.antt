@@ -2,31 +2,31 @@
 -- Source: own.
 use Rattle.std.specs.List.{range_with_len}
 use Rattle.std.specs.Prelude.{◌≡◌, ℕ, ℤ, false, List, [], Some, length, map, slice_get}
-use Rattle.tdf_convert.specs.declared.outputs.Sent.{Sent}
-use Rattle.tdf_dynamic.specs.Attributes.{AttrsOf}
-use Rattle.tdf_dynamic.specs.declared.first.First.{First}
-use Rattle.tdf_exec.specs.Cluster.{ClusterOf}
-use Rattle.tdf_exec.specs.Played.{play_of}
-use Rattle.tdf_expr.specs.Checked.{IsCheckedOf}
-use Rattle.tdf_fixed.specs.declared.raw.Raw.{Raw}
-use Rattle.tdf_flat.specs.Flat.{IsFlatOf}
-use Rattle.tdf_flat.specs.declared.model.Flat.{Flat}
-use Rattle.tdf_formats.specs.Formats.{IsSoundModel}
-use Rattle.tdf_history.specs.Answers.{last_cells}
-use Rattle.tdf_history.specs.Cells.{port_cell, spans_from}
-use Rattle.tdf_history.specs.Instant.{periods_of, with_new, with_same}
-use Rattle.tdf_history.specs.Start.{first_cluster}
-use Rattle.tdf_history.specs.World.{ClusterAt, Rules, World}
-use Rattle.tdf_limits.specs.Limits.{AreWithinLimits}
-use Rattle.tdf_rows.specs.Positions.{cell_of}
+use Rattle.tdf_run.specs.low.convert.declared.outputs.Sent.{Sent}
+use Rattle.tdf_run.specs.low.dynamic.Attributes.{AttrsOf}
+use Rattle.tdf_run.specs.low.dynamic.declared.first.First.{First}
+use Rattle.tdf_run.specs.low.exec.Cluster.{ClusterOf}
+use Rattle.tdf_run.specs.low.exec.Played.{play_of}
+use Rattle.tdf_run.specs.low.expr.Checked.{IsCheckedOf}
+use Rattle.tdf_run.specs.low.fixed.declared.raw.Raw.{Raw}
+use Rattle.tdf_run.specs.low.flat.Flat.{IsFlatOf}
+use Rattle.tdf_run.specs.low.flat.declared.model.Flat.{Flat}
+use Rattle.tdf_run.specs.low.formats.Formats.{IsSoundModel}
+use Rattle.tdf_run.specs.low.history.Answers.{last_cells}
+use Rattle.tdf_run.specs.low.history.Cells.{port_cell, spans_from}
+use Rattle.tdf_run.specs.low.history.Instant.{periods_of, with_new, with_same}
+use Rattle.tdf_run.specs.low.history.Start.{first_cluster}
+use Rattle.tdf_run.specs.low.history.World.{ClusterAt, Rules, World}
+use Rattle.tdf_run.specs.low.limits.Limits.{AreWithinLimits}
+use Rattle.tdf_run.specs.low.rows.Positions.{cell_of}
 use Rattle.tdf_run.specs.At.{IsAt}
 use Rattle.tdf_run.specs.Firings.{settled_values}
 use Rattle.tdf_run.specs.Pass.{AreAt, AreReady, HavePassed, PassAt, PassesAlong, RunOf}
-use Rattle.tdf_schedule.specs.declared.entry.Entry.{Entry}
-use Rattle.tdf_streams.specs.Cluster.{initial_sample, is_outside}
+use Rattle.tdf_run.specs.low.schedule.declared.entry.Entry.{Entry}
+use Rattle.tdf_run.specs.low.streams.Cluster.{initial_sample, is_outside}
 use Rattle.tdf_traced.specs.Samples.{AreSamplesOf, HaveTraced, IsDoneKnown}
-use Rattle.tdf_tree.specs.Pure.{PureTree}
-use Rattle.tdf_wiring.specs.declared.modules.PortRow.{PortRow}
+use Rattle.tdf_run.specs.low.tree.Pure.{PureTree}
+use Rattle.tdf_run.specs.low.wiring.declared.modules.PortRow.{PortRow}
 
 -- at the start a port has its initial samples
 abbrev pub StartsHaveSamples : Type 0

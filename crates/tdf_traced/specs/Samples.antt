@@ -4,24 +4,24 @@
 use Rattle.std.specs.List.{filter_map, list_any}
 use Rattle.std.specs.Prelude.{◌≡◌, ◌<◌, ◌≤◌, ◌+◌, ◌++◌, ℕ, true, if◌then◌else◌, nat_eq, List, Option}
 use Rattle.std.specs.Prelude.{Some, None, length, slice_get, slice_index}
-use Rattle.tdf_convert.specs.declared.outputs.Traced.{Traced}
-use Rattle.tdf_dynamic.specs.Attributes.{clusters_of}
-use Rattle.tdf_fixed.specs.declared.raw.Raw.{Raw}
-use Rattle.tdf_flat.specs.declared.model.Flat.{Flat}
-use Rattle.tdf_flow.specs.Grounds.{firings}
-use Rattle.tdf_flow.specs.Streams.{known}
-use Rattle.tdf_history.specs.Cells.{samples_done}
-use Rattle.tdf_history.specs.Instant.{activations, periods_of, run_in}
-use Rattle.tdf_history.specs.World.{ClusterAt}
-use Rattle.tdf_layout.specs.Traced.{is_trace_of}
+use Rattle.tdf_run.specs.low.convert.declared.outputs.Traced.{Traced}
+use Rattle.tdf_run.specs.low.dynamic.Attributes.{clusters_of}
+use Rattle.tdf_run.specs.low.fixed.declared.raw.Raw.{Raw}
+use Rattle.tdf_run.specs.low.flat.declared.model.Flat.{Flat}
+use Rattle.tdf_run.specs.low.flow.Grounds.{firings}
+use Rattle.tdf_run.specs.low.flow.Streams.{known}
+use Rattle.tdf_run.specs.low.history.Cells.{samples_done}
+use Rattle.tdf_run.specs.low.history.Instant.{activations, periods_of, run_in}
+use Rattle.tdf_run.specs.low.history.World.{ClusterAt}
+use Rattle.tdf_run.specs.low.layout.Traced.{is_trace_of}
 use Rattle.tdf_run.specs.Pass.{RunOf}
-use Rattle.tdf_schedule.specs.Plan.{done}
-use Rattle.tdf_streams.specs.Cluster.{cluster_net}
-use Rattle.tdf_streams.specs.Laws.{HasValue}
-use Rattle.tdf_streams.specs.Signals.{signal_sample}
-use Rattle.tdf_tree.specs.Pure.{PureTree}
-use Rattle.tdf_tree.specs.declared.blocks.PortKind.TheVariants.{Out}
-use Rattle.tdf_wiring.specs.declared.modules.PortRow.{PortRow}
+use Rattle.tdf_run.specs.low.schedule.Plan.{done}
+use Rattle.tdf_run.specs.low.streams.Cluster.{cluster_net}
+use Rattle.tdf_run.specs.low.streams.Laws.{HasValue}
+use Rattle.tdf_run.specs.low.streams.Signals.{signal_sample}
+use Rattle.tdf_run.specs.low.tree.Pure.{PureTree}
+use Rattle.tdf_run.specs.low.tree.declared.blocks.PortKind.TheVariants.{Out}
+use Rattle.tdf_run.specs.low.wiring.declared.modules.PortRow.{PortRow}
 
 -- the value of a traced sample of this signal
 abbrev pub value_if : (signal : ℕ) → Traced → Option Raw

@@ -2,7 +2,7 @@
 
 ghost use Rattle.tdf_traced.specs.Laws.{BoundariesAddNone, CellsAreOfSamples, DoneIsKnown, HeldIsKnown, PassesTrace, StartsHaveSamples};
 
-use tdf_layout::law_one_port;
+use tdf_run::low::layout::law_one_port;
 
 /// The samples of a port's signal at the start, after a boundary and as cells; and that each activation that is done is
 /// known, and what modules hold when a period is done.

@@ -5,4 +5,5 @@ pub mod ProcessBlocks
 pub mod Roles
 pub mod Traces
 pub mod Writers
+pub mod low
 pub mod machine

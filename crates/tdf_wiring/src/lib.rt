@@ -7,11 +7,13 @@
 //! - `drivers`: the drivers of signals, and the signals that have none or several.
 //! - `edges`: the edges between modules, samplers and sinks.
 //! - `traces`: the signal that the path of each trace leads to.
+//! - `low`: what the crates above use of the crates further below.
 #![tactic(auto)]
 
 mod blocks;
 mod drivers;
 mod edges;
+pub mod low;
 mod modules;
 mod roles;
 mod traces;

@@ -6,23 +6,23 @@ use Rattle.std.proofs.lemmas.List.Sums.{sum_by-append, sum_by-cons}
 use Rattle.std.proofs.lemmas.Option.{get_or_from_slice_get, slice_get_within}
 use Rattle.std.specs.List.{All, sum, sum_by}
 use Rattle.std.specs.Option.{option_and_then}
-use Rattle.tdf_fixed.specs.declared.raw.Raw.{Raw}
-use Rattle.tdf_flat.specs.declared.model.Flat.{Flat}
-use Rattle.tdf_flow.proofs.Api.{find_more, get_high, known_more}
-use Rattle.tdf_flow.specs.Grounds.{firings}
-use Rattle.tdf_flow.specs.Net.{Past, Turn, count}
-use Rattle.tdf_flow.specs.Stands.{Less}
-use Rattle.tdf_flow.specs.Streams.{find, known}
+use Rattle.tdf_history.specs.low.fixed.declared.raw.Raw.{Raw}
+use Rattle.tdf_history.specs.low.flat.declared.model.Flat.{Flat}
+use Rattle.tdf_history.proofs.Api.{find_more, get_high, known_more}
+use Rattle.tdf_history.specs.low.flow.Grounds.{firings}
+use Rattle.tdf_history.specs.low.flow.Net.{Past, Turn, count}
+use Rattle.tdf_history.specs.low.flow.Stands.{Less}
+use Rattle.tdf_history.specs.low.flow.Streams.{find, known}
 use Rattle.tdf_history.specs.Cells.{port_cell, sample_at, samples_done, spans_from}
 use Rattle.tdf_history.specs.Instant.{periods_of, run_in}
 use Rattle.tdf_history.specs.World.{ClusterAt}
-use Rattle.tdf_rows.specs.Positions.{position_at}
-use Rattle.tdf_schedule.specs.Plan.{done}
-use Rattle.tdf_streams.specs.Cluster.{cluster_net}
-use Rattle.tdf_streams.specs.Periods.{IsWholeRecord, PeriodInfo, PeriodRecord}
-use Rattle.tdf_streams.specs.Signals.{output_at_spot, outputs_in, port_output, positions, rate_in, signal_sample, time_of}
-use Rattle.tdf_tree.specs.Pure.{PureTree}
-use Rattle.tdf_wiring.specs.declared.modules.PortRow.{PortRow}
+use Rattle.tdf_history.specs.low.rows.Positions.{position_at}
+use Rattle.tdf_history.specs.low.schedule.Plan.{done}
+use Rattle.tdf_history.specs.low.streams.Cluster.{cluster_net}
+use Rattle.tdf_history.specs.low.streams.Periods.{IsWholeRecord, PeriodInfo, PeriodRecord}
+use Rattle.tdf_history.specs.low.streams.Signals.{output_at_spot, outputs_in, port_output, positions, rate_in, signal_sample, time_of}
+use Rattle.tdf_history.specs.low.tree.Pure.{PureTree}
+use Rattle.tdf_history.specs.low.wiring.declared.modules.PortRow.{PortRow}
 use Rattle.tdf_world.proofs.Clusters.{done_within}
 use Rattle.tdf_world.proofs.Positions.{Made, made, position_within, same_front}
 use Rattle.tdf_world.specs.Continuing.{Continues, HasWholePlan}

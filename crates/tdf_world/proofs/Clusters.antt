@@ -6,18 +6,18 @@ use Rattle.std.proofs.lemmas.List.Sums.{sum_by-take-le, sum_by_push}
 use Rattle.std.proofs.lemmas.Option.{slice_get_within}
 use Rattle.std.specs.List.{All, sum_by}
 use Rattle.std.specs.Prelude.{cond, drop, nat_eq, slice_get, slice_index, slice_index_or, slice_set}
-use Rattle.tdf_bind.specs.Flat.{FlatOf}
-use Rattle.tdf_dynamic.specs.Attributes.{AttrsOf}
-use Rattle.tdf_fixed.specs.declared.raw.Raw.{Raw}
-use Rattle.tdf_flow.proofs.Api.{get_low, none_some}
+use Rattle.tdf_history.specs.low.bind.Flat.{FlatOf}
+use Rattle.tdf_history.specs.low.dynamic.Attributes.{AttrsOf}
+use Rattle.tdf_history.specs.low.fixed.declared.raw.Raw.{Raw}
+use Rattle.tdf_history.proofs.Api.{get_low, none_some}
 use Rattle.tdf_history.specs.Cells.{samples_done}
 use Rattle.tdf_history.specs.Instant.{periods_of, same_period, stepped, with_new, with_read, with_same}
 use Rattle.tdf_history.specs.World.{Change, ClusterAt, New, Same, next_change}
-use Rattle.tdf_schedule.specs.Plan.{done}
-use Rattle.tdf_schedule.specs.declared.entry.Entry.{Entry}
-use Rattle.tdf_streams.specs.Periods.{period_record}
-use Rattle.tdf_streams.specs.Signals.{outputs_in, rate_in}
-use Rattle.tdf_wiring.specs.declared.modules.PortRow.{PortRow}
+use Rattle.tdf_history.specs.low.schedule.Plan.{done}
+use Rattle.tdf_history.specs.low.schedule.declared.entry.Entry.{Entry}
+use Rattle.tdf_history.specs.low.streams.Periods.{period_record}
+use Rattle.tdf_history.specs.low.streams.Signals.{outputs_in, rate_in}
+use Rattle.tdf_history.specs.low.wiring.declared.modules.PortRow.{PortRow}
 use Rattle.tdf_world.specs.Continuing.{Continues, GoesOn, HasToldCounts, HasWholePlan}
 
 -- the firings of a plan that are done grow with the place, up to all of them

@@ -3,19 +3,19 @@ use Rattle.std.proofs.Common.{◌≡◌, ◌≢◌, ◌⊎◌, ◌∙◌, ℕ, z
 use Rattle.std.proofs.lemmas.List.{length-set}
 use Rattle.std.proofs.lemmas.Option.{slice_get_within}
 use Rattle.std.specs.Prelude.{◌||◌, slice_get, slice_set}
-use Rattle.tdf_bind.specs.declared.actors.ActorRow.{ActorRow}
-use Rattle.tdf_dynamic.specs.Attributes.{AttrsOf}
-use Rattle.tdf_fixed.specs.declared.raw.Raw.{Raw}
-use Rattle.tdf_flat.specs.declared.model.Flat.{Flat}
-use Rattle.tdf_flow.proofs.Api.{get_inside, some_same}
-use Rattle.tdf_graph.specs.declared.actors.Actor.{Actor}
-use Rattle.tdf_graph.specs.declared.actors.Actor.TheVariants as actor
+use Rattle.tdf_history.specs.low.bind.declared.actors.ActorRow.{ActorRow}
+use Rattle.tdf_history.specs.low.dynamic.Attributes.{AttrsOf}
+use Rattle.tdf_history.specs.low.fixed.declared.raw.Raw.{Raw}
+use Rattle.tdf_history.specs.low.flat.declared.model.Flat.{Flat}
+use Rattle.tdf_history.proofs.Api.{get_inside, some_same}
+use Rattle.tdf_history.specs.low.graph.declared.actors.Actor.{Actor}
+use Rattle.tdf_history.specs.low.graph.declared.actors.Actor.TheVariants as actor
 use Rattle.tdf_history.specs.Instant.{RunFault, actor_of_entry, all_firings, at_begin, boundary, boundary_of, changed_by, events_of, fired, fired_as, firing, firing_of, instant, is_entry_due, is_over, is_written, next_entry, plan_length, settled_as, stepped, with_cluster, with_new, with_read, with_same}
 use Rattle.tdf_history.specs.Texts.{left_by}
 use Rattle.tdf_history.specs.World.{Change, ClusterAt, New, Refused, Rules, Same, Settled, World, next_change}
-use Rattle.tdf_instants.specs.History.{Fault, Going, Past, Step, and_then, turns_to}
-use Rattle.tdf_schedule.specs.declared.entry.Entry.{Entry}
-use Rattle.tdf_tree.specs.Pure.{PureTree}
+use Rattle.tdf_history.specs.low.instants.History.{Fault, Going, Past, Step, and_then, turns_to}
+use Rattle.tdf_history.specs.low.schedule.declared.entry.Entry.{Entry}
+use Rattle.tdf_history.specs.low.tree.Pure.{PureTree}
 
 -- a list with one item set has at that place the item, and elsewhere what it had
 set_found : {A : Type 0} (xs : List A) (i j : ℕ) (x y : A) → i < length xs → slice_get (slice_set xs i y) j ≡ Some x → ((j ≡ i) × (y ≡ x)) ⊎ ((j ≢ i) × (slice_get xs j ≡ Some x))

@@ -4,14 +4,14 @@ use Rattle.std.proofs.lemmas.Bool.{cases_lt, le-leb, le-ltb, lt-leb, lt-ltb}
 use Rattle.std.proofs.lemmas.List.Sums.{sum_by-cons, sum_by_push}
 use Rattle.std.proofs.lemmas.Nat.{div_below}
 use Rattle.std.specs.List.{sum_by}
-use Rattle.tdf_flow.proofs.Api.{none_some, some_same}
-use Rattle.tdf_flow.specs.Net.{count}
-use Rattle.tdf_flow.specs.Streams.{Spot, find, spot}
+use Rattle.tdf_history.proofs.Api.{none_some, some_same}
+use Rattle.tdf_history.specs.low.flow.Net.{count}
+use Rattle.tdf_history.specs.low.flow.Streams.{Spot, find, spot}
 use Rattle.tdf_history.specs.Cells.{spans_from}
-use Rattle.tdf_rows.specs.Positions.{Span, end_of, place_in, position_at, span_of}
-use Rattle.tdf_streams.specs.Periods.{PeriodInfo, PeriodRecord}
-use Rattle.tdf_streams.specs.Signals.{outputs_in, positions, rate_in, step_in, time_of}
-use Rattle.tdf_wiring.specs.declared.modules.PortRow.{PortRow}
+use Rattle.tdf_history.specs.low.rows.Positions.{Span, end_of, place_in, position_at, span_of}
+use Rattle.tdf_history.specs.low.streams.Periods.{PeriodInfo, PeriodRecord}
+use Rattle.tdf_history.specs.low.streams.Signals.{outputs_in, positions, rate_in, step_in, time_of}
+use Rattle.tdf_history.specs.low.wiring.declared.modules.PortRow.{PortRow}
 
 same_else : {A : Type 0} (b : Bool) (x y z : A) → y ≡ z → (if b then x else y) ≡ (if b then x else z)
 same_else true x y z e = refl

@@ -2,23 +2,23 @@
 use Rattle.std.proofs.Common.{◌≡◌, ◌∙◌, ℕ, zero, suc, ◌+◌, ◌-◌, ◌<◌, ◌≤◌, Bool, true, false, Option, Some, None, List, if◌then◌else◌, length, slice_get, slice_index, refl, sym, ap, subst, inl, inr, arith}
 use Rattle.std.proofs.lemmas.Bool.{cases_lt}
 use Rattle.std.proofs.lemmas.Option.{slice_get_past}
-use Rattle.tdf_dynamic.proofs.Api.{modules_few}
-use Rattle.tdf_dynamic.specs.Attributes.{clusters_of}
-use Rattle.tdf_flat.specs.declared.model.Flat.{Flat}
-use Rattle.tdf_flow.proofs.Api.{get_inside}
-use Rattle.tdf_graph.specs.Clusters.{AreClusters}
-use Rattle.tdf_graph.specs.declared.actors.Edge.{Edge}
+use Rattle.tdf_history.proofs.Api.{modules_few}
+use Rattle.tdf_history.specs.low.dynamic.Attributes.{clusters_of}
+use Rattle.tdf_history.specs.low.flat.declared.model.Flat.{Flat}
+use Rattle.tdf_history.proofs.Api.{get_inside}
+use Rattle.tdf_history.specs.low.graph.Clusters.{AreClusters}
+use Rattle.tdf_history.specs.low.graph.declared.actors.Edge.{Edge}
 use Rattle.tdf_history.specs.Cells.{cell_by_driver, driven_cell, driver_of_row, event_cell, port_cell, run_cells, signal_cell, trace_cell, world_of}
 use Rattle.tdf_history.specs.Instant.{engine}
 use Rattle.tdf_history.specs.World.{ClusterAt, Rules, World}
-use Rattle.tdf_instants.specs.History.{On, history}
-use Rattle.tdf_limits.specs.Limits.{AreWithinLimits}
-use Rattle.tdf_rows.specs.Laws.{Agree}
-use Rattle.tdf_streams.proofs.Api.{is_wired}
-use Rattle.tdf_streams.specs.Signals.{time_of}
-use Rattle.tdf_tree.specs.Pure.{PureTree}
-use Rattle.tdf_wiring.specs.declared.modules.PortRow.{PortRow}
-use Rattle.tdf_wiring.specs.declared.traces.TraceRow.{TraceRow}
+use Rattle.tdf_history.specs.low.instants.History.{On, history}
+use Rattle.tdf_history.specs.low.limits.Limits.{AreWithinLimits}
+use Rattle.tdf_history.specs.low.rows.Laws.{Agree}
+use Rattle.tdf_history.proofs.Api.{is_wired}
+use Rattle.tdf_history.specs.low.streams.Signals.{time_of}
+use Rattle.tdf_history.specs.low.tree.Pure.{PureTree}
+use Rattle.tdf_history.specs.low.wiring.declared.modules.PortRow.{PortRow}
+use Rattle.tdf_history.specs.low.wiring.declared.traces.TraceRow.{TraceRow}
 use Rattle.tdf_world.proofs.Below.{all_at, cell_stays, whole_plan}
 use Rattle.tdf_world.proofs.Worlds.{go_on}
 use Rattle.tdf_world.specs.Continuing.{AllGoOn}

@@ -2,17 +2,17 @@
 use Rattle.std.proofs.Common.{◌≡◌, ℕ, zero, suc, ◌+◌, Bool, true, false, Some, List, [], if◌then◌else◌, ap, subst, arith}
 use Rattle.std.proofs.lemmas.Option.{slice_get_within}
 use Rattle.std.specs.Prelude.{drop, slice_get}
-use Rattle.tdf_bind.specs.Flat.{FlatOf}
-use Rattle.tdf_dynamic.specs.Attributes.{AttrsOf}
-use Rattle.tdf_fixed.specs.declared.raw.Raw.{Raw}
-use Rattle.tdf_flat.specs.declared.model.Flat.{Flat}
-use Rattle.tdf_flow.proofs.Api.{get_inside}
+use Rattle.tdf_history.specs.low.bind.Flat.{FlatOf}
+use Rattle.tdf_history.specs.low.dynamic.Attributes.{AttrsOf}
+use Rattle.tdf_history.specs.low.fixed.declared.raw.Raw.{Raw}
+use Rattle.tdf_history.specs.low.flat.declared.model.Flat.{Flat}
+use Rattle.tdf_history.proofs.Api.{get_inside}
 use Rattle.tdf_history.specs.Instant.{RunFault, engine, instant, is_due, stepped, with_new, with_read, with_same}
 use Rattle.tdf_history.specs.Texts.{left_by}
 use Rattle.tdf_history.specs.World.{Change, ClusterAt, New, Rules, World, next_change}
-use Rattle.tdf_instants.specs.History.{Fault, Going, On, Past, Spent, State, Step, Stopped, after, history, state_of}
-use Rattle.tdf_schedule.specs.declared.entry.Entry.{Entry}
-use Rattle.tdf_tree.specs.Pure.{PureTree}
+use Rattle.tdf_history.specs.low.instants.History.{Fault, Going, On, Past, Spent, State, Step, Stopped, after, history, state_of}
+use Rattle.tdf_history.specs.low.schedule.declared.entry.Entry.{Entry}
+use Rattle.tdf_history.specs.low.tree.Pure.{PureTree}
 use Rattle.tdf_world.proofs.Leading.{AllBy, instant_by}
 
 abbrev pub StaysUntold : ClusterAt → ClusterAt → Type 0

@@ -1,10 +1,10 @@
 -- Where an instant goes on, and so where a history does, all clusters go on.
 use Rattle.std.proofs.Common.{◌≡◌, ◌∙◌, ℕ, zero, suc, ◌+◌, ◌-◌, ◌≤◌, Bool, true, false, if◌then◌else◌, sym, ap, subst, arith}
-use Rattle.tdf_flat.specs.declared.model.Flat.{Flat}
+use Rattle.tdf_history.specs.low.flat.declared.model.Flat.{Flat}
 use Rattle.tdf_history.specs.Instant.{RunFault, all_firings, engine, instant}
 use Rattle.tdf_history.specs.World.{Rules, World}
-use Rattle.tdf_instants.specs.History.{Fault, Going, On, Past, Spent, State, Step, Stopped, after, history, state_of}
-use Rattle.tdf_tree.specs.Pure.{PureTree}
+use Rattle.tdf_history.specs.low.instants.History.{Fault, Going, On, Past, Spent, State, Step, Stopped, after, history, state_of}
+use Rattle.tdf_history.specs.low.tree.Pure.{PureTree}
 use Rattle.tdf_world.proofs.Clusters.{goes_refl, goes_trans, new_goes, read_goes, same_goes, step_goes}
 use Rattle.tdf_world.proofs.Leading.{AllBy}
 use Rattle.tdf_world.proofs.Leading as leading

@@ -1,13 +1,13 @@
 -- What later instants make of clusters: periods and values of samplers are added, and samples.
 -- Source: own.
 use Rattle.std.specs.Prelude.{◌≡◌, ◌≤◌, ℕ, List, All, Some, length, slice_get, slice_index}
-use Rattle.tdf_flow.specs.Stands.{Longer}
+use Rattle.tdf_history.specs.low.flow.Stands.{Longer}
 use Rattle.tdf_history.specs.Cells.{samples_done}
 use Rattle.tdf_history.specs.Instant.{run_in}
 use Rattle.tdf_history.specs.World.{Change, ClusterAt, New, Refused, Same, World}
-use Rattle.tdf_schedule.specs.Plan.{done}
-use Rattle.tdf_schedule.specs.declared.entry.Entry.{Entry}
-use Rattle.tdf_wiring.specs.declared.modules.PortRow.{PortRow}
+use Rattle.tdf_history.specs.low.schedule.Plan.{done}
+use Rattle.tdf_history.specs.low.schedule.declared.entry.Entry.{Entry}
+use Rattle.tdf_history.specs.low.wiring.declared.modules.PortRow.{PortRow}
 
 -- the streams of a cluster go on from one state of it to another: their start stays, periods and
 -- values of samplers are added, and no fewer samples of a signal are there

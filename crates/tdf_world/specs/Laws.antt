@@ -1,23 +1,23 @@
 -- Later instants change no cell below a mark.
 -- Source: own.
 use Rattle.std.specs.Prelude.{◌≡◌, ◌+◌, ◌<◌, ◌≤◌, ℕ, ℤ, List, All, Some, length, slice_get}
-use Rattle.tdf_fixed.specs.declared.raw.Raw.{Raw}
-use Rattle.tdf_flat.specs.declared.model.Flat.{Flat}
-use Rattle.tdf_flow.specs.Grounds.{firings}
-use Rattle.tdf_flow.specs.Net.{Turn}
-use Rattle.tdf_flow.specs.Streams.{known}
+use Rattle.tdf_history.specs.low.fixed.declared.raw.Raw.{Raw}
+use Rattle.tdf_history.specs.low.flat.declared.model.Flat.{Flat}
+use Rattle.tdf_history.specs.low.flow.Grounds.{firings}
+use Rattle.tdf_history.specs.low.flow.Net.{Turn}
+use Rattle.tdf_history.specs.low.flow.Streams.{known}
 use Rattle.tdf_events.specs.Side.{SideOf}
 use Rattle.tdf_history.specs.Cells.{run_cells}
 use Rattle.tdf_history.specs.Instant.{activations, periods_of, run_in}
 use Rattle.tdf_history.specs.World.{ClusterAt, World}
-use Rattle.tdf_instants.specs.History.{On, history}
-use Rattle.tdf_instants.specs.Laws.{IsOn}
-use Rattle.tdf_limits.specs.Limits.{AreWithinLimits}
-use Rattle.tdf_rows.specs.Laws.{Agree}
-use Rattle.tdf_streams.specs.Cluster.{cluster_net}
-use Rattle.tdf_streams.specs.Periods.{IsWholeRecord}
-use Rattle.tdf_streams.specs.Signals.{time_of}
-use Rattle.tdf_tree.specs.Pure.{PureTree}
+use Rattle.tdf_history.specs.low.instants.History.{On, history}
+use Rattle.tdf_history.specs.low.instants.Laws.{IsOn}
+use Rattle.tdf_history.specs.low.limits.Limits.{AreWithinLimits}
+use Rattle.tdf_history.specs.low.rows.Laws.{Agree}
+use Rattle.tdf_history.specs.low.streams.Cluster.{cluster_net}
+use Rattle.tdf_history.specs.low.streams.Periods.{IsWholeRecord}
+use Rattle.tdf_history.specs.low.streams.Signals.{time_of}
+use Rattle.tdf_history.specs.low.tree.Pure.{PureTree}
 use Rattle.tdf_world.specs.Continuing.{HasCounts, HasToldCounts}
 use Rattle.tdf_world.specs.Rules.{rules_of, world_engine}
 

@@ -1,3 +1,4 @@
 pub mod Continuing
 pub mod Laws
 pub mod Rules
+pub mod low

@@ -2,16 +2,16 @@
 -- Source: own; the event side after IEEE 1666-2011, 4.2.1.2 to 4.2.1.5.
 use Rattle.std.specs.List.{list_any}
 use Rattle.std.specs.Prelude.{ℕ, Bool, ◌||◌, not, Option, option_map, List, map}
-use Rattle.tdf_convert.specs.declared.writes.SignalWrite.{SignalWrite}
-use Rattle.tdf_dynamic.specs.declared.first.First.{First}
+use Rattle.tdf_events.specs.low.convert.declared.writes.SignalWrite.{SignalWrite}
+use Rattle.tdf_history.specs.low.dynamic.declared.first.First.{First}
 use Rattle.tdf_events.specs.Delta.{event_part, is_due, is_idle}
 use Rattle.tdf_events.specs.Side.{SideOf, start_side}
-use Rattle.tdf_flat.specs.declared.model.Flat.{Flat}
+use Rattle.tdf_history.specs.low.flat.declared.model.Flat.{Flat}
 use Rattle.tdf_history.specs.Instant.{RunFault, engine}
 use Rattle.tdf_history.specs.Start.{first_world}
 use Rattle.tdf_history.specs.World.{Change, EventSide, Rules, Settled, SinkWrite, World}
-use Rattle.tdf_instants.specs.History.{Engine}
-use Rattle.tdf_tree.specs.Pure.{PureTree}
+use Rattle.tdf_history.specs.low.instants.History.{Engine}
+use Rattle.tdf_history.specs.low.tree.Pure.{PureTree}
 
 -- what a sink wrote, as the event side takes it
 abbrev pub signal_write : SinkWrite → SignalWrite

@@ -3,8 +3,10 @@
 //! There is no code here but a law, and the definitions are in `specs`.
 //!
 //! - `laws`: what later instants leave as it is.
+//! - `low`: what the crates above use of the crates further below.
 #![tactic(auto)]
 
 mod laws;
+pub mod low;
 
 pub use laws::law_cells_stay;

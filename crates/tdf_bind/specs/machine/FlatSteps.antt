@@ -2,7 +2,7 @@
 -- Source: own.
 use Rattle.std.specs.Option.{option_map}
 use Rattle.std.specs.Prelude.{◌≡◌, ◌≤◌, ℕ, List, Some, length, map, slice_get}
-use Rattle.tdf_base.specs.Limits.{most_clusters}
+use Rattle.tdf_wiring.specs.low.base.Limits.{most_clusters}
 use Rattle.tdf_bind.specs.Actors.{cluster_of, AreActors}
 use Rattle.tdf_bind.specs.declared.actors.ActorRow.{ActorRow}
 use Rattle.tdf_graph.specs.Clusters.{greatest}
@@ -15,7 +15,7 @@ use Rattle.tdf_wiring.specs.declared.traces.TraceRow.{TraceRow}
 use Rattle.tdf_bind.specs.Flat.{driver_report, trace_report, clusters_report, FlatOf, HasManyClusters, IsFirstFault}
 use Rattle.tdf_bind.specs.declared.flat.BindErr.{BindErr}
 use Rattle.tdf_bind.specs.declared.flat.BindErr.TheVariants as bind
-use Rattle.tdf_walk.specs.Tables.{TablesOf}
+use Rattle.tdf_wiring.specs.low.walk.Tables.{TablesOf}
 use Rattle.tdf_wiring.specs.declared.drivers.DriverErr.{DriverErr}
 use Rattle.tdf_wiring.specs.declared.drivers.DriverErr.TheVariants as driver
 use Rattle.tdf_wiring.specs.declared.drivers.DriverFault.{DriverFault}

@@ -1,20 +1,20 @@
 -- How change bodies run, module by module.
 -- Source: own.
 use Rattle.std.specs.Prelude.{◌≡◌, ◌+◌, ◌<◌, ◌≤◌, ◌^◌, ℕ, List, length, Some, ℤ, pos, slice_get}
-use Rattle.tdf_base.specs.Limits.{time_end}
+use Rattle.tdf_streams.specs.low.base.Limits.{time_end}
 use Rattle.tdf_changes.specs.Asked.{AskedOf, asked, asked_in}
 use Rattle.tdf_changes.specs.declared.frames.ModuleFrame.{ModuleFrame}
-use Rattle.tdf_dynamic.specs.Attributes.{AttrsOf}
-use Rattle.tdf_expr.specs.Checked.{IsCheckedOf}
-use Rattle.tdf_expr.specs.Frames.{PortsSeen}
-use Rattle.tdf_expr.specs.Made.{AreMadeFor}
-use Rattle.tdf_firing.specs.Firing.{AreZerosBehind}
-use Rattle.tdf_firing.specs.Wires.{WiresOf}
-use Rattle.tdf_flat.specs.declared.model.Flat.{Flat}
-use Rattle.tdf_state.specs.State.{cell_at, state_of}
+use Rattle.tdf_streams.specs.low.dynamic.Attributes.{AttrsOf}
+use Rattle.tdf_streams.specs.low.expr.Checked.{IsCheckedOf}
+use Rattle.tdf_streams.specs.low.expr.Frames.{PortsSeen}
+use Rattle.tdf_streams.specs.low.expr.Made.{AreMadeFor}
+use Rattle.tdf_streams.specs.low.firing.Firing.{AreZerosBehind}
+use Rattle.tdf_streams.specs.low.firing.Wires.{WiresOf}
+use Rattle.tdf_streams.specs.low.flat.declared.model.Flat.{Flat}
+use Rattle.tdf_streams.specs.low.state.State.{cell_at, state_of}
 use Rattle.tdf_streams.specs.Periods.{HasAllowedRates}
 use Rattle.tdf_streams.specs.Places.{block_at}
-use Rattle.tdf_tree.specs.Pure.{PureTree}
+use Rattle.tdf_streams.specs.low.tree.Pure.{PureTree}
 
 -- the samples below a place are 0, and all but samples is as before
 pub record AreZeroBelow (n : ℕ) (old new : PortsSeen) : Type 0 where

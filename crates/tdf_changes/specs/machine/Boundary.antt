@@ -1,16 +1,16 @@
 -- What comes of the instances of the modules, before it is said of what they ask for.
 -- Source: own.
 use Rattle.std.specs.Prelude.{◌≡◌, ℕ, true, List, Some, length}
-use Rattle.tdf_base.specs.declared.codes.Code.TheVariants as code
-use Rattle.tdf_base.specs.declared.faults.Fault.{Fault}
-use Rattle.tdf_bind.specs.Flat.{FlatOf}
+use Rattle.tdf_streams.specs.low.base.declared.codes.Code.TheVariants as code
+use Rattle.tdf_streams.specs.low.base.declared.faults.Fault.{Fault}
+use Rattle.tdf_streams.specs.low.bind.Flat.{FlatOf}
 use Rattle.tdf_changes.specs.Change.{fault_of}
 use Rattle.tdf_changes.specs.declared.frames.ModuleFrame.{ModuleFrame}
 use Rattle.tdf_changes.specs.declared.next.Next.{Next}
 use Rattle.tdf_changes.specs.declared.next.Next.TheVariants.{Changed, Same}
 use Rattle.tdf_changes.specs.machine.Judging.{IsJudged, IsJudgedFault}
 use Rattle.tdf_changes.specs.machine.Rows.{AreAfter, HoldsBelow, IsFirstPlace}
-use Rattle.tdf_dynamic.specs.Attributes.{AttrsOf}
+use Rattle.tdf_streams.specs.low.dynamic.Attributes.{AttrsOf}
 
 -- a new table and its plan
 abbrev pub IsFound : FlatOf → (cluster : ℕ) → List AttrsOf → List ModuleFrame → Next → Type 0

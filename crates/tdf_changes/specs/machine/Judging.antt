@@ -1,16 +1,16 @@
 -- How a table that differs is judged.
 -- Source: own.
 use Rattle.std.specs.Prelude.{◌≡◌, ℕ, List, length, Some}
-use Rattle.tdf_base.specs.declared.codes.Code.TheVariants as code
-use Rattle.tdf_base.specs.declared.faults.Fault.{Fault}
-use Rattle.tdf_bind.specs.Flat.{FlatOf}
+use Rattle.tdf_streams.specs.low.base.declared.codes.Code.TheVariants as code
+use Rattle.tdf_streams.specs.low.base.declared.faults.Fault.{Fault}
+use Rattle.tdf_streams.specs.low.bind.Flat.{FlatOf}
 use Rattle.tdf_changes.specs.Change.{TimingOf, fault_of}
 use Rattle.tdf_changes.specs.declared.frames.ModuleFrame.{ModuleFrame}
 use Rattle.tdf_changes.specs.machine.Rows.{HoldsBelow, IsFirstPlace, IsRefusing}
-use Rattle.tdf_dynamic.specs.Attributes.{AttrsOf}
-use Rattle.tdf_dynamic.specs.Faults.{IsPlanFault, IsPlanOf, IsStepsFault}
-use Rattle.tdf_dynamic.specs.Rates.{net_of, net_ports}
-use Rattle.tdf_schedule.specs.declared.entry.Plan.{Plan}
+use Rattle.tdf_streams.specs.low.dynamic.Attributes.{AttrsOf}
+use Rattle.tdf_streams.specs.low.dynamic.Faults.{IsPlanFault, IsPlanOf, IsStepsFault}
+use Rattle.tdf_streams.specs.low.dynamic.Rates.{net_of, net_ports}
+use Rattle.tdf_streams.specs.low.schedule.declared.entry.Plan.{Plan}
 
 -- the counts and steps under two tables
 pub record AreTimed (tables : FlatOf) (cluster : ℕ) (old new : List AttrsOf) : Type 0 where

@@ -6,9 +6,9 @@ use Rattle.tdf_changes.specs.Asked.{HasSameRates, attrs_after, said_or}
 use Rattle.tdf_changes.specs.Change.{HasSameSteps}
 use Rattle.tdf_changes.specs.declared.frames.ModuleFrame.{ModuleFrame}
 use Rattle.tdf_changes.specs.machine.Asking.{told}
-use Rattle.tdf_dynamic.specs.Attributes.{AttrsOf}
-use Rattle.tdf_graph.specs.declared.actors.Port.{Port}
-use Rattle.tdf_timestep.specs.declared.assign.Steps.{Steps}
+use Rattle.tdf_streams.specs.low.dynamic.Attributes.{AttrsOf}
+use Rattle.tdf_streams.specs.low.graph.declared.actors.Port.{Port}
+use Rattle.tdf_streams.specs.low.timestep.declared.assign.Steps.{Steps}
 
 -- below a place something holds of the two that stand at the same place
 abbrev pub HoldsBelow : {A B : Type 0} → (A → B → Type 0) → List A → List B → ℕ → Type 0

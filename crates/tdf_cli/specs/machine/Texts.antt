@@ -5,7 +5,7 @@ use Rattle.tdf_cli.specs.declared.jobs.Texts.{Texts}
 use Rattle.tdf_print.specs.Canon.{canon}
 use Rattle.tdf_sim.specs.declared.sim.Sim.{Sim}
 use Rattle.tdf_sim.specs.PlanText.{plans_text}
-use Rattle.tdf_tree.specs.Pure.{PureTree}
+use Rattle.tdf_sim.specs.low.tree.Pure.{PureTree}
 
 pub record IsCheckText (tree : PureTree) (sim : Sim) (texts : Texts) : Type 0 where
   pub output : texts.output.items ≡ canon tree

@@ -2,8 +2,8 @@
 -- Source: own.
 use Rattle.std.specs.Prelude.{ℕ, nat_lt, if◌then◌else◌, Option, Some, None, List, slice_get}
 use Rattle.tdf_columns.specs.Tracks.{known_cell}
-use Rattle.tdf_fixed.specs.declared.raw.Raw.{Raw}
-use Rattle.tdf_rows.specs.Positions.{Span, cell_of, position_at}
+use Rattle.tdf_trace.specs.low.fixed.declared.raw.Raw.{Raw}
+use Rattle.tdf_trace.specs.low.rows.Positions.{Span, cell_of, position_at}
 
 -- the cells of the first n positions
 abbrev pub first_cell : List Raw → (n : ℕ) → Option ℕ → Option (Option Raw)

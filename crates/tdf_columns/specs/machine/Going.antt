@@ -7,9 +7,9 @@ use Rattle.tdf_columns.specs.Tracked.{AreSince, TrackedOf, TrackingOf, labels, s
 use Rattle.tdf_columns.specs.Tracks.{AreTracked, Tracks, cells_by, known_by}
 use Rattle.tdf_columns.specs.Traces.{IsTrackingOf, with_samples}
 use Rattle.tdf_convert.specs.declared.outputs.Traced.{Traced}
-use Rattle.tdf_fixed.specs.declared.raw.Raw.{Raw}
-use Rattle.tdf_rows.specs.Positions.{Span}
-use Rattle.tdf_rows.specs.Rows.{Cells}
+use Rattle.tdf_trace.specs.low.fixed.declared.raw.Raw.{Raw}
+use Rattle.tdf_trace.specs.low.rows.Positions.{Span}
+use Rattle.tdf_trace.specs.low.rows.Rows.{Cells}
 use Rattle.tdf_trace.specs.Stands.{RowsSeen, Stands, TraceSeen}
 use Rattle.tdf_wiring.specs.declared.traces.TraceRow.{TraceRow}
 

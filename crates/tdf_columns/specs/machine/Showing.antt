@@ -6,11 +6,11 @@ use Rattle.tdf_columns.specs.Tracked.{TrackedOf, label}
 use Rattle.tdf_columns.specs.Tracks.{Tracks}
 use Rattle.tdf_columns.specs.Traces.{is_among}
 use Rattle.tdf_columns.specs.machine.Firsts.{first_cells, known_cells}
-use Rattle.tdf_fixed.specs.declared.raw.Raw.{Raw}
-use Rattle.tdf_rows.specs.Positions.{AreChained, Span, cell_of}
-use Rattle.tdf_rows.specs.Rows.{Cells}
-use Rattle.tdf_rows.specs.Stamping.{IsStamping}
-use Rattle.tdf_rows.specs.declared.stamps.Stamps.{Stamps}
+use Rattle.tdf_trace.specs.low.fixed.declared.raw.Raw.{Raw}
+use Rattle.tdf_trace.specs.low.rows.Positions.{AreChained, Span, cell_of}
+use Rattle.tdf_trace.specs.low.rows.Rows.{Cells}
+use Rattle.tdf_trace.specs.low.rows.Stamping.{IsStamping}
+use Rattle.tdf_trace.specs.low.rows.declared.stamps.Stamps.{Stamps}
 use Rattle.tdf_trace.specs.Stands.{RowsSeen, Stands, TraceSeen}
 
 -- columns of a trace with so many

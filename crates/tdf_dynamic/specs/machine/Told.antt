@@ -1,7 +1,7 @@
 -- How a fault is told.
 -- Source: own.
 use Rattle.std.specs.Prelude.{◌≡◌, Option, Some}
-use Rattle.tdf_base.specs.declared.faults.Fault.{Fault}
+use Rattle.tdf_flat.specs.low.base.declared.faults.Fault.{Fault}
 use Rattle.tdf_dynamic.specs.declared.err.ChangeErr.{ChangeErr}
 use Rattle.tdf_dynamic.specs.declared.err.ChangeErr.TheVariants.{Refused, Memory}
 

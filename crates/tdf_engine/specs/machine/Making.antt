@@ -1,14 +1,14 @@
 -- How the parts of a run are made, by one look at each cluster.
 -- Source: own.
 use Rattle.std.specs.Prelude.{◌≡◌, ◌<◌, ◌≤◌, ◌+◌, ◌⊎◌, ℕ, List, Some, length, slice_get, take}
-use Rattle.tdf_bind.specs.Flat.{FlatOf}
-use Rattle.tdf_convert.specs.Links.{samplers_in}
-use Rattle.tdf_convert.specs.declared.links.Links.{Links}
+use Rattle.tdf_linked.specs.low.bind.Flat.{FlatOf}
+use Rattle.tdf_linked.specs.low.convert.Links.{samplers_in}
+use Rattle.tdf_linked.specs.low.convert.declared.links.Links.{Links}
 use Rattle.tdf_engine.specs.Engine.{HaveRooms}
-use Rattle.tdf_exec.specs.Cluster.{ClusterOf}
-use Rattle.tdf_exec.specs.Gained.{sent_size, traced_size}
-use Rattle.tdf_exec.specs.declared.telling.Room.{Room}
-use Rattle.tdf_fixed.specs.declared.raw.Raw.{Raw}
+use Rattle.tdf_linked.specs.low.exec.Cluster.{ClusterOf}
+use Rattle.tdf_linked.specs.low.exec.Gained.{sent_size, traced_size}
+use Rattle.tdf_linked.specs.low.exec.declared.telling.Room.{Room}
+use Rattle.tdf_linked.specs.low.fixed.declared.raw.Raw.{Raw}
 use Rattle.tdf_linked.specs.Linked.{AreSamplerLinks}
 
 abbrev pub room_of : (sent traced : ℕ) → Room

@@ -6,10 +6,10 @@ use Rattle.tdf_events.specs.Kernel.{KernelOf}
 use Rattle.tdf_events.specs.Notices.{noticed_first}
 use Rattle.tdf_events.specs.Processes.{written_first}
 use Rattle.tdf_events.specs.machine.Reading.{CanRead, HasRun}
-use Rattle.tdf_expr.specs.Frames.{ArePortsFit, FrameSeen, PortsSeen}
-use Rattle.tdf_expr.specs.Made.{AreMadeFor, event_count, port_spans_of}
-use Rattle.tdf_expr.specs.declared.checked.Checked.{Checked}
-use Rattle.tdf_wiring.specs.ProcessBlocks.{BlockRowOf}
+use Rattle.tdf_flat.specs.low.expr.Frames.{ArePortsFit, FrameSeen, PortsSeen}
+use Rattle.tdf_flat.specs.low.expr.Made.{AreMadeFor, event_count, port_spans_of}
+use Rattle.tdf_flat.specs.low.expr.declared.checked.Checked.{Checked}
+use Rattle.tdf_flat.specs.low.wiring.ProcessBlocks.{BlockRowOf}
 
 -- what a process of an instance needs
 pub record CanRun (checked : Checked) (owner : ℕ) (row : BlockRowOf) (k : KernelOf) : Type 0 where

@@ -6,7 +6,7 @@ use Rattle.tdf_calendar.specs.Lists.{list_at}
 use Rattle.tdf_calendar.specs.Sets.{is_on}
 use Rattle.tdf_events.specs.Delta.{differs}
 use Rattle.tdf_events.specs.Side.{value_at}
-use Rattle.tdf_fixed.specs.declared.raw.Raw.{Raw}
+use Rattle.tdf_flat.specs.low.fixed.declared.raw.Raw.{Raw}
 
 -- whether a signal changes
 abbrev pub does_change : List Raw → List (Option Raw) → ℕ → Bool

@@ -3,7 +3,7 @@
 use Rattle.std.specs.List.{All, count_by}
 use Rattle.std.specs.Prelude.{◌≡◌, ℕ, ◌+◌, ◌<◌, ◌++◌, if◌then◌else◌, nat_eq, List, [], length, drop}
 use Rattle.std.specs.Prelude.{◌≤◌, Some, slice_get, slice_index}
-use Rattle.tdf_bind.specs.Flat.{FlatOf}
+use Rattle.tdf_layout.specs.low.bind.Flat.{FlatOf}
 use Rattle.tdf_convert.specs.Outputs.{OutputsOf}
 use Rattle.tdf_convert.specs.declared.outputs.Sent.{Sent}
 use Rattle.tdf_convert.specs.declared.outputs.Traced.{Traced}
@@ -16,19 +16,19 @@ use Rattle.tdf_exec.specs.Played.{play_of}
 use Rattle.tdf_exec.specs.Runners.{SamplerOf}
 use Rattle.tdf_exec.specs.declared.runners.Runner.{Runner}
 use Rattle.tdf_exec.specs.declared.runners.Runner.TheVariants as runner
-use Rattle.tdf_expr.specs.Checked.{IsCheckedOf}
-use Rattle.tdf_expr.specs.Frames.{IsOfFormat}
-use Rattle.tdf_fixed.specs.declared.format.Format.{Format}
-use Rattle.tdf_fixed.specs.declared.raw.Raw.{Raw}
-use Rattle.tdf_flat.specs.declared.model.Flat.{Flat}
+use Rattle.tdf_layout.specs.low.expr.Checked.{IsCheckedOf}
+use Rattle.tdf_layout.specs.low.expr.Frames.{IsOfFormat}
+use Rattle.tdf_layout.specs.low.fixed.declared.format.Format.{Format}
+use Rattle.tdf_layout.specs.low.fixed.declared.raw.Raw.{Raw}
+use Rattle.tdf_layout.specs.low.flat.declared.model.Flat.{Flat}
 use Rattle.tdf_layout.specs.Wiring.{Writes}
-use Rattle.tdf_rings.specs.Carried.{ring_at}
-use Rattle.tdf_rings.specs.Rings.{RingOf, ring_of}
-use Rattle.tdf_schedule.specs.declared.entry.Entry.{Entry}
-use Rattle.tdf_streams.specs.Cluster.{Start, cluster_net}
-use Rattle.tdf_streams.specs.Periods.{PeriodRecord}
-use Rattle.tdf_streams.specs.Places.{reader_at, writer_at}
-use Rattle.tdf_tree.specs.Pure.{PureTree}
+use Rattle.tdf_layout.specs.low.rings.Carried.{ring_at}
+use Rattle.tdf_layout.specs.low.rings.Rings.{RingOf, ring_of}
+use Rattle.tdf_layout.specs.low.schedule.declared.entry.Entry.{Entry}
+use Rattle.tdf_layout.specs.low.streams.Cluster.{Start, cluster_net}
+use Rattle.tdf_layout.specs.low.streams.Periods.{PeriodRecord}
+use Rattle.tdf_layout.specs.low.streams.Places.{reader_at, writer_at}
+use Rattle.tdf_layout.specs.low.tree.Pure.{PureTree}
 
 -- there is an input for each sampler, and one of its format for the next entry
 pub record AreInputsNext (flat : Flat) (c : ClusterOf) (inputs : List Raw) : Type 0 where

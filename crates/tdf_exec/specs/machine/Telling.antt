@@ -7,7 +7,7 @@ use Rattle.tdf_exec.specs.Telling.{IsMostOf}
 use Rattle.tdf_exec.specs.declared.runners.Runner.{Runner}
 use Rattle.tdf_exec.specs.declared.telling.Room.{Room}
 use Rattle.tdf_exec.specs.declared.telling.Rooms.{Rooms}
-use Rattle.tdf_schedule.specs.declared.entry.Entry.{Entry}
+use Rattle.tdf_layout.specs.low.schedule.declared.entry.Entry.{Entry}
 
 -- a number is above the greatest of 32 bits
 pub data IsOver (sent traced : ℕ) : Type 0 where

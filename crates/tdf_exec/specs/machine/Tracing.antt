@@ -3,17 +3,17 @@
 use Rattle.std.specs.List.{enumerate_from, list_any}
 use Rattle.std.specs.Prelude.{◌≡◌, ◌<◌, ◌≤◌, ◌&&◌, ◌++◌, ℕ, Bool, true, false, List, [], ◌∷◌, length, map}
 use Rattle.std.specs.Prelude.{Some, filter_map, if◌then◌else◌, slice_get, slice_index_or, slice_set, take}
-use Rattle.tdf_bind.specs.Flat.{FlatOf}
-use Rattle.tdf_dynamic.specs.Attributes.{AttrsOf}
-use Rattle.tdf_dynamic.specs.Rates.{port_rate}
+use Rattle.tdf_layout.specs.low.bind.Flat.{FlatOf}
+use Rattle.tdf_layout.specs.low.dynamic.Attributes.{AttrsOf}
+use Rattle.tdf_layout.specs.low.dynamic.Rates.{port_rate}
 use Rattle.tdf_exec.specs.Traced.{traced_port}
 use Rattle.tdf_layout.specs.Traced.{is_out, is_trace_of, number_if_traced}
 use Rattle.tdf_exec.specs.declared.runners.Runner.{Runner}
 use Rattle.tdf_exec.specs.declared.runners.Runner.TheVariants as runner
 use Rattle.tdf_exec.specs.declared.runners.TracedPort.{TracedPort}
-use Rattle.tdf_streams.specs.Places.{place_of_port}
-use Rattle.tdf_wiring.specs.declared.modules.PortRow.{PortRow}
-use Rattle.tdf_wiring.specs.declared.traces.TraceRow.{TraceRow}
+use Rattle.tdf_layout.specs.low.streams.Places.{place_of_port}
+use Rattle.tdf_layout.specs.low.wiring.declared.modules.PortRow.{PortRow}
+use Rattle.tdf_layout.specs.low.wiring.declared.traces.TraceRow.{TraceRow}
 
 -- the signal of a trace is marked, where it is one of samples
 abbrev pub marked : TraceRow → List Bool → List Bool

@@ -7,11 +7,11 @@ use Rattle.tdf_expr.specs.declared.spans.PortSpan.{PortSpan}
 use Rattle.tdf_firing.specs.Activation.{num_of}
 use Rattle.tdf_firing.specs.Firing.{with_samples}
 use Rattle.tdf_firing.specs.declared.wires.InWire.{InWire}
-use Rattle.tdf_fixed.specs.Cast.{fraction_of}
-use Rattle.tdf_fixed.specs.declared.raw.Raw.{Raw}
+use Rattle.tdf_expr.specs.low.fixed.Cast.{fraction_of}
+use Rattle.tdf_expr.specs.low.fixed.declared.raw.Raw.{Raw}
 use Rattle.tdf_rings.specs.Carried.{ring_at}
 use Rattle.tdf_rings.specs.Rings.{RingOf}
-use Rattle.tdf_state.specs.State.{cell_at}
+use Rattle.tdf_expr.specs.low.state.State.{cell_at}
 
 -- the number of sample k, 0 where there is none
 abbrev pub num_at : List Raw → ℕ → ℤ

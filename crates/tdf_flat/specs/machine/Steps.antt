@@ -3,8 +3,8 @@ use Rattle.std.specs.Prelude.{ℕ, zero, suc, List, ◌∷◌, ◌++◌}
 use Rattle.tdf_bind.specs.Flat.{FlatOf, IsFlat}
 use Rattle.tdf_flat.specs.Flat.{IsLinked, top_place, trace_lines}
 use Rattle.tdf_roles.specs.Roles.{roles_of}
-use Rattle.tdf_tree.specs.Pure.{PureTree}
-use Rattle.tdf_walk.specs.Blocks.{BlockOf}
+use Rattle.tdf_roles.specs.low.tree.Pure.{PureTree}
+use Rattle.tdf_roles.specs.low.walk.Blocks.{BlockOf}
 
 -- the text of a path with the name at a place
 abbrev pub dotted_after : List ℕ → ℕ → List ℕ → List ℕ

@@ -3,18 +3,18 @@
 use Rattle.std.specs.List.{enumerate_from}
 use Rattle.std.specs.Prelude.{◌≡◌, ◌<◌, ◌≤◌, ℕ, Bool, false, true, List, [], ◌∷◌, ◌++◌, length, map, Option, Some}
 use Rattle.std.specs.Prelude.{None, filter_map, if◌then◌else◌, nat_eq, slice_get, slice_index, slice_index_or, slice_set, take}
-use Rattle.tdf_bind.specs.Flat.{FlatOf}
-use Rattle.tdf_bind.specs.declared.actors.ActorRow.{ActorRow}
-use Rattle.tdf_dynamic.specs.Attributes.{clusters_of}
-use Rattle.tdf_firing.specs.Wires.{WiresOf}
-use Rattle.tdf_firing.specs.declared.wires.InWire.{InWire}
-use Rattle.tdf_firing.specs.declared.wires.OutWire.{OutWire}
-use Rattle.tdf_graph.specs.declared.actors.Actor.{Actor}
-use Rattle.tdf_graph.specs.declared.actors.Actor.TheVariants as actor
+use Rattle.tdf_streams.specs.low.bind.Flat.{FlatOf}
+use Rattle.tdf_streams.specs.low.bind.declared.actors.ActorRow.{ActorRow}
+use Rattle.tdf_streams.specs.low.dynamic.Attributes.{clusters_of}
+use Rattle.tdf_streams.specs.low.firing.Wires.{WiresOf}
+use Rattle.tdf_streams.specs.low.firing.declared.wires.InWire.{InWire}
+use Rattle.tdf_streams.specs.low.firing.declared.wires.OutWire.{OutWire}
+use Rattle.tdf_streams.specs.low.graph.declared.actors.Actor.{Actor}
+use Rattle.tdf_streams.specs.low.graph.declared.actors.Actor.TheVariants as actor
 use Rattle.tdf_layout.specs.declared.wiring.ActorWires.{ActorWires}
 use Rattle.tdf_layout.specs.declared.wiring.ActorWires.TheVariants.{Module, Sampler, Sink, Elsewhere}
 use Rattle.tdf_streams.specs.Places.{driver_or, place_of_port}
-use Rattle.tdf_wiring.specs.declared.edges.EdgeRow.{EdgeRow}
+use Rattle.tdf_streams.specs.low.wiring.declared.edges.EdgeRow.{EdgeRow}
 
 abbrev pub no_ends : WiresOf
 no_ends = record { ins = []; outs = [] }

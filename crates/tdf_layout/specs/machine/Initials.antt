@@ -1,7 +1,7 @@
 -- How given samples come to their places.
 -- Source: own.
 use Rattle.std.specs.Prelude.{ℕ, List, [], ◌∷◌, if◌then◌else◌, length, nat_lt, slice_set}
-use Rattle.tdf_fixed.specs.declared.raw.Raw.{Raw}
+use Rattle.tdf_streams.specs.low.fixed.declared.raw.Raw.{Raw}
 
 -- one after another
 abbrev pub given_to : List (ℕ × Raw) → List Raw → List Raw

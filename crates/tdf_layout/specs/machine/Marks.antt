@@ -4,10 +4,10 @@ use Rattle.std.specs.List.{enumerate_from, list_any}
 use Rattle.std.specs.Prelude.{◌≡◌, ◌<◌, ◌≤◌, ◌&&◌, ◌++◌, ℕ, Bool, true, false, not, List, []}
 use Rattle.std.specs.Prelude.{◌∷◌, filter_map, if◌then◌else◌, length, nat_lt, slice_index_or}
 use Rattle.std.specs.Prelude.{slice_set, take}
-use Rattle.tdf_bind.specs.Flat.{FlatOf}
+use Rattle.tdf_streams.specs.low.bind.Flat.{FlatOf}
 use Rattle.tdf_layout.specs.Traced.{is_out, is_trace_of, number_if_traced}
-use Rattle.tdf_wiring.specs.declared.modules.PortRow.{PortRow}
-use Rattle.tdf_wiring.specs.declared.traces.TraceRow.{TraceRow}
+use Rattle.tdf_streams.specs.low.wiring.declared.modules.PortRow.{PortRow}
+use Rattle.tdf_streams.specs.low.wiring.declared.traces.TraceRow.{TraceRow}
 
 -- no trace is that of a signal of samples from a number on
 abbrev pub EndBefore : List TraceRow → ℕ → Type 0

@@ -2,7 +2,7 @@
 -- Source: own.
 use Rattle.std.specs.Prelude.{◌≡◌, ◌<◌, ℕ, List, filter, length, nat_eq, slice_index, take}
 use Rattle.tdf_streams.specs.Places.{place_of_port}
-use Rattle.tdf_wiring.specs.declared.modules.PortRow.{PortRow}
+use Rattle.tdf_streams.specs.low.wiring.declared.modules.PortRow.{PortRow}
 
 -- how many of some ports are those of a module
 abbrev pub count_of : List PortRow → ℕ → ℕ

@@ -2,12 +2,12 @@
 -- Source: own.
 use Rattle.std.specs.List.{count_by}
 use Rattle.std.specs.Prelude.{◌≡◌, ◌<◌, ℕ, Bool, true, false, List, Some, length, slice_get, take}
-use Rattle.tdf_bind.specs.Flat.{FlatOf}
-use Rattle.tdf_bind.specs.declared.actors.ActorRow.{ActorRow}
-use Rattle.tdf_convert.specs.Links.{AreBefore, AreLinks, HaveSignals, samplers_in}
-use Rattle.tdf_convert.specs.declared.links.Link.{Link}
-use Rattle.tdf_graph.specs.declared.actors.Actor.{Actor}
-use Rattle.tdf_graph.specs.declared.actors.Actor.TheVariants as actor
+use Rattle.tdf_run.specs.low.bind.Flat.{FlatOf}
+use Rattle.tdf_run.specs.low.bind.declared.actors.ActorRow.{ActorRow}
+use Rattle.tdf_run.specs.low.convert.Links.{AreBefore, AreLinks, HaveSignals, samplers_in}
+use Rattle.tdf_run.specs.low.convert.declared.links.Link.{Link}
+use Rattle.tdf_run.specs.low.graph.declared.actors.Actor.{Actor}
+use Rattle.tdf_run.specs.low.graph.declared.actors.Actor.TheVariants as actor
 use Rattle.tdf_linked.specs.Linked.{HaveSignalsOf, IsLinked, is_own_sampler}
 use Rattle.tdf_linked.specs.declared.linking.Wanted.{Wanted}
 use Rattle.tdf_linked.specs.declared.linking.Wanted.TheVariants.{SamplersOf, Sinks}

@@ -4,7 +4,7 @@ use Rattle.std.specs.Cmp.Lexicographic.{pointwise}
 use Rattle.indexmap.specs.IndexMap.{get_by}
 use Rattle.tdf_resolve.specs.Targets.{Inside, target_of}
 use Rattle.tdf_resolve.specs.declared.bindings.Bindings.{Bindings}
-use Rattle.tdf_tree.specs.declared.blocks.Member.{Member}
+use Rattle.tdf_links.specs.low.tree.declared.blocks.Member.{Member}
 use Rattle.tdf_walk.specs.declared.blocks.Target.{Target}
 
 abbrev pub target_at : Bindings → (instance port : List ℕ) → Option Target

@@ -1,9 +1,9 @@
 -- The name of a port that is found (own).
 use Rattle.std.specs.Prelude.{◌≡◌, ℕ, List, [], Option, Some, slice_get, slice_index, slice_index_or}
-use Rattle.tdf_fixed.specs.declared.raw.Raw.{Raw}
+use Rattle.tdf_bodies.specs.low.fixed.declared.raw.Raw.{Raw}
 use Rattle.tdf_roles.specs.Roles.{rate_in, rate_of_port, delay_of_port}
-use Rattle.tdf_scope.specs.Names.{Names, Thing, Port, place_of}
-use Rattle.tdf_tree.specs.declared.blocks.PortLine.{PortLine}
+use Rattle.tdf_bodies.specs.low.scope.Names.{Names, Thing, Port, place_of}
+use Rattle.tdf_bodies.specs.low.tree.declared.blocks.PortLine.{PortLine}
 use Rattle.tdf_wiring.specs.declared.roles.PortData.{PortData}
 
 pub record IsFound (own : Names) (steps : List ℕ) (name : List ℕ) (t : Thing) (step place : ℕ)

@@ -3,9 +3,9 @@ use Rattle.std.specs.Prelude.{◌≡◌, List, [], length, map, replicate}
 use Rattle.tdf_roles.specs.declared.ports.Gathered.{Gathered}
 use Rattle.tdf_roles.specs.machine.Numbers.{AreRateNumbers}
 use Rattle.tdf_roles.specs.machine.Standing.{stepped_all, initials_put}
-use Rattle.tdf_scope.specs.Names.{Names}
-use Rattle.tdf_tree.specs.declared.blocks.Attr.{Attr}
-use Rattle.tdf_tree.specs.declared.blocks.Initial.{Initial}
+use Rattle.tdf_bodies.specs.low.scope.Names.{Names}
+use Rattle.tdf_bodies.specs.low.tree.declared.blocks.Attr.{Attr}
+use Rattle.tdf_bodies.specs.low.tree.declared.blocks.Initial.{Initial}
 
 pub record IsGathered (own : Names) (attrs : List Attr) (initials : List Initial) (g : Gathered)
     : Type 0 where

@@ -1,7 +1,7 @@
 -- How the code gathers places (own).
 use Rattle.std.specs.Prelude.{ℕ, List, [], ◌∷◌, Option, Some, None}
 use Rattle.tdf_roles.specs.Roles.{places_among}
-use Rattle.tdf_tree.specs.Pure.{PureProcess}
+use Rattle.tdf_bodies.specs.low.tree.Pure.{PureProcess}
 use Rattle.tdf_wiring.specs.Roles.{ProcessOf}
 
 abbrev pub found_place : Option ℕ → List ℕ

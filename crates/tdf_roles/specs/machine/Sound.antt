@@ -1,9 +1,9 @@
 -- What the blocks of a model need so that their roles can be told (own).
-use Rattle.tdf_scope.specs.Names.{Names}
-use Rattle.tdf_scope.specs.Scope.{tdf_scope}
-use Rattle.tdf_scope.specs.Sound.{IsSound}
-use Rattle.tdf_tree.specs.Kept.{KeepsTdf}
-use Rattle.tdf_tree.specs.Pure.{PureGlobal, GShape, GTdf, GDe, GNet}
+use Rattle.tdf_bodies.specs.low.scope.Names.{Names}
+use Rattle.tdf_bodies.specs.low.scope.Scope.{tdf_scope}
+use Rattle.tdf_bodies.specs.low.scope.Sound.{IsSound}
+use Rattle.tdf_bodies.specs.low.tree.Kept.{KeepsTdf}
+use Rattle.tdf_bodies.specs.low.tree.Pure.{PureGlobal, GShape, GTdf, GDe, GNet}
 
 -- a module is kept, and its names are sound
 abbrev pub IsGood : Names → PureGlobal → Type 0

@@ -2,12 +2,12 @@
 use Rattle.std.specs.BTreeMap.{insert_entry}
 use Rattle.std.specs.Ordering.{nat_cmp}
 use Rattle.std.specs.Prelude.{ℕ, List, [], ◌∷◌, Option, Some, None, slice_index_or, slice_set}
-use Rattle.tdf_fixed.specs.declared.raw.Raw.{Raw}
-use Rattle.tdf_meaning.specs.Value.{literal_in}
-use Rattle.tdf_scope.specs.Names.{Names, Thing, Port, place_of, thing_of}
-use Rattle.tdf_tree.specs.declared.blocks.Attr.{Attr}
-use Rattle.tdf_tree.specs.declared.blocks.Attr.TheVariants as attr
-use Rattle.tdf_tree.specs.declared.blocks.Initial.{Initial}
+use Rattle.tdf_bodies.specs.low.fixed.declared.raw.Raw.{Raw}
+use Rattle.tdf_bodies.specs.low.meaning.Value.{literal_in}
+use Rattle.tdf_bodies.specs.low.scope.Names.{Names, Thing, Port, place_of, thing_of}
+use Rattle.tdf_bodies.specs.low.tree.declared.blocks.Attr.{Attr}
+use Rattle.tdf_bodies.specs.low.tree.declared.blocks.Attr.TheVariants as attr
+use Rattle.tdf_bodies.specs.low.tree.declared.blocks.Initial.{Initial}
 
 abbrev pub put_at : {A : Type 0} → Option ℕ → A → List A → List A
 put_at None x xs = xs

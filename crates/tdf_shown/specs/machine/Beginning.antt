@@ -2,17 +2,17 @@
 -- Source: own.
 use Rattle.std.specs.Prelude.{◌≡◌, ◌<◌, ◌≤◌, ℕ, true, List, [], ◌∷◌, ◌++◌, Some, length}
 use Rattle.std.specs.Prelude.{slice_get}
-use Rattle.tdf_bind.specs.Flat.{FlatOf}
+use Rattle.tdf_traced.specs.low.bind.Flat.{FlatOf}
 use Rattle.tdf_columns.specs.Calls.{HasNoneLeft, Holds}
 use Rattle.tdf_columns.specs.Tracked.{TrackedOf, TrackingOf, labels}
-use Rattle.tdf_exec.specs.Cluster.{ClusterOf}
-use Rattle.tdf_fixed.specs.declared.raw.Raw.{Raw}
-use Rattle.tdf_rows.specs.Positions.{AreChained, Span}
-use Rattle.tdf_rows.specs.Rows.{Cells}
+use Rattle.tdf_traced.specs.low.exec.Cluster.{ClusterOf}
+use Rattle.tdf_traced.specs.low.fixed.declared.raw.Raw.{Raw}
+use Rattle.tdf_traced.specs.low.rows.Positions.{AreChained, Span}
+use Rattle.tdf_traced.specs.low.rows.Rows.{Cells}
 use Rattle.tdf_shown.specs.Periods.{ClockAt, begins, span_in}
 use Rattle.tdf_shown.specs.declared.signals.TracedSignal.{TracedSignal}
-use Rattle.tdf_trace.specs.Stands.{RowsSeen, TraceSeen}
-use Rattle.tdf_wiring.specs.declared.traces.TraceRow.{TraceRow}
+use Rattle.tdf_columns.specs.low.trace.Stands.{RowsSeen, TraceSeen}
+use Rattle.tdf_traced.specs.low.wiring.declared.traces.TraceRow.{TraceRow}
 
 -- signal `signal` is one of the first k of these, and its period begins
 pub record BeginsAmong (clock : ClockAt) (signals : List TracedSignal) (k signal : ℕ)

@@ -1,17 +1,17 @@
 -- The first signals have got their initial samples.
 -- Source: own.
 use Rattle.std.specs.Prelude.{◌≡◌, ◌<◌, ℕ, List, ◌++◌, map, Some, slice_get}
-use Rattle.tdf_bind.specs.Flat.{FlatOf}
+use Rattle.tdf_traced.specs.low.bind.Flat.{FlatOf}
 use Rattle.tdf_columns.specs.Calls.{Holds}
 use Rattle.tdf_columns.specs.Tracked.{AreSince, TrackedOf, TrackingOf, labels, sinces}
-use Rattle.tdf_convert.specs.declared.outputs.Traced.{Traced}
-use Rattle.tdf_fixed.specs.declared.raw.Raw.{Raw}
-use Rattle.tdf_rows.specs.Positions.{Span}
-use Rattle.tdf_rows.specs.Rows.{Cells}
+use Rattle.tdf_traced.specs.low.convert.declared.outputs.Traced.{Traced}
+use Rattle.tdf_traced.specs.low.fixed.declared.raw.Raw.{Raw}
+use Rattle.tdf_traced.specs.low.rows.Positions.{Span}
+use Rattle.tdf_traced.specs.low.rows.Rows.{Cells}
 use Rattle.tdf_shown.specs.declared.signals.TracedSignal.{TracedSignal}
-use Rattle.tdf_streams.specs.Cluster.{initial_samples}
-use Rattle.tdf_trace.specs.Stands.{RowsSeen, TraceSeen}
-use Rattle.tdf_wiring.specs.declared.traces.TraceRow.{TraceRow}
+use Rattle.tdf_traced.specs.low.streams.Cluster.{initial_samples}
+use Rattle.tdf_columns.specs.low.trace.Stands.{RowsSeen, TraceSeen}
+use Rattle.tdf_traced.specs.low.wiring.declared.traces.TraceRow.{TraceRow}
 
 -- samples of one signal, as firings trace them
 abbrev pub traced_with : (signal : ℕ) → List Raw → List Traced

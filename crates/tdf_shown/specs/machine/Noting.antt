@@ -4,16 +4,16 @@ use Rattle.std.specs.Prelude.{◌≡◌, ◌<◌, ◌≤◌, ℕ, zero, suc, tru
 use Rattle.std.specs.Prelude.{Some, None, length, slice_get}
 use Rattle.tdf_columns.specs.Calls.{Holds}
 use Rattle.tdf_columns.specs.Tracked.{TrackedOf}
-use Rattle.tdf_fixed.specs.declared.raw.Raw.{Raw}
-use Rattle.tdf_history.specs.Cells.{is_same_value}
-use Rattle.tdf_rows.specs.Noted.{with_cell}
-use Rattle.tdf_rows.specs.Positions.{Span}
-use Rattle.tdf_rows.specs.Rows.{Cells}
-use Rattle.tdf_rows.specs.declared.cell.Cell.{Cell}
+use Rattle.tdf_traced.specs.low.fixed.declared.raw.Raw.{Raw}
+use Rattle.tdf_traced.specs.low.history.Cells.{is_same_value}
+use Rattle.tdf_traced.specs.low.rows.Noted.{with_cell}
+use Rattle.tdf_traced.specs.low.rows.Positions.{Span}
+use Rattle.tdf_traced.specs.low.rows.Rows.{Cells}
+use Rattle.tdf_traced.specs.low.rows.declared.cell.Cell.{Cell}
 use Rattle.tdf_shown.specs.Events.{value_of}
 use Rattle.tdf_shown.specs.declared.events.EventColumn.{EventColumn}
-use Rattle.tdf_trace.specs.Stands.{RowsSeen, TraceSeen}
-use Rattle.tdf_wiring.specs.declared.traces.TraceRow.{TraceRow}
+use Rattle.tdf_columns.specs.low.trace.Stands.{RowsSeen, TraceSeen}
+use Rattle.tdf_traced.specs.low.wiring.declared.traces.TraceRow.{TraceRow}
 
 -- a column that shows the value of a time
 abbrev pub with_shown : List Raw → EventColumn → EventColumn

@@ -1,6 +1,6 @@
 use Rattle.tdf_changes.proofs.Spans.{first_at}
 use Rattle.tdf_changes.specs.machine.Asking.{AreZeroBelow}
-use Rattle.tdf_expr.specs.Frames.{ArePortsFit}
+use Rattle.tdf_streams.specs.low.expr.Frames.{ArePortsFit}
 use Rattle.tdf_changes.proofs.asking.clear_all.Given as goal
 
 abbrev pub invariant-loop-port : goal.invariant-loop-port

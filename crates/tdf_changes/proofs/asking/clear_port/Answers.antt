@@ -3,9 +3,9 @@ use Rattle.std.proofs.lemmas.Option.{same_Some}
 use Rattle.std.specs.Prelude.{slice_get}
 use Rattle.tdf_changes.proofs.Spans.{next_long, next_same, next_zero, zero_format}
 use Rattle.tdf_changes.specs.machine.Asking.{AreZeroBelow}
-use Rattle.tdf_expr.specs.Frames.{IsOfFormat}
-use Rattle.tdf_expr.specs.declared.spans.PortSpan.{PortSpan}
-use Rattle.tdf_fixed.specs.Cast.{fraction_of}
+use Rattle.tdf_streams.specs.low.expr.Frames.{IsOfFormat}
+use Rattle.tdf_streams.specs.low.expr.declared.spans.PortSpan.{PortSpan}
+use Rattle.tdf_streams.specs.low.fixed.Cast.{fraction_of}
 use Rattle.tdf_changes.proofs.asking.clear_port.Goals as goal
 
 pub loop-i-init : goal.loop-i-init

@@ -1,8 +1,8 @@
 use Rattle.std.proofs.Common.{◌≡◌, ◌+◌, length, Some}
 use Rattle.std.specs.Prelude.{slice_get}
 use Rattle.tdf_changes.specs.machine.Asking.{AreZeroBelow}
-use Rattle.tdf_expr.specs.Frames.{PortsSeen}
-use Rattle.tdf_expr.specs.declared.spans.PortSpan.{PortSpan}
+use Rattle.tdf_streams.specs.low.expr.Frames.{PortsSeen}
+use Rattle.tdf_streams.specs.low.expr.declared.spans.PortSpan.{PortSpan}
 use Rattle.tdf_changes.proofs.asking.clear_port.Given as goal
 
 abbrev pub invariant-loop-i : goal.invariant-loop-i

@@ -2,7 +2,7 @@ use Rattle.std.proofs.Common.{rules, ◌≡◌, Some, ap, true, false}
 use Rattle.std.specs.Prelude.{slice_get}
 use Rattle.tdf_changes.proofs.Asks.{made_at, nothing_at, run_at}
 use Rattle.tdf_changes.proofs.Rows.{row_at}
-use Rattle.tdf_dynamic.specs.Attributes.{AttrsOf}
+use Rattle.tdf_streams.specs.low.dynamic.Attributes.{AttrsOf}
 use Rattle.tdf_changes.proofs.asking.run_if.Goals as goal
 
 pub returns-then-not-row : goal.returns-then-not-row

@@ -1,4 +1,4 @@
-use Rattle.tdf_base.specs.declared.codes.Code.TheVariants as code
+use Rattle.tdf_streams.specs.low.base.declared.codes.Code.TheVariants as code
 use Rattle.tdf_changes.proofs.Judging.{told_first}
 use Rattle.tdf_changes.specs.machine.Rows.{IsRefusing}
 use Rattle.tdf_changes.proofs.next.accepted.Goals as goal

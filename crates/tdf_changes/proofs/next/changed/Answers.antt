@@ -1,4 +1,4 @@
-use Rattle.tdf_base.specs.declared.codes.Code.TheVariants as code
+use Rattle.tdf_streams.specs.low.base.declared.codes.Code.TheVariants as code
 use Rattle.tdf_changes.proofs.Judging.{IsToldFirst, refusal_weaker, told_first}
 use Rattle.tdf_changes.specs.machine.Boundary.{InRange, IsRefusedAt, Marks}
 use Rattle.tdf_changes.proofs.next.changed.Goals as goal

@@ -1,8 +1,8 @@
 use Rattle.std.proofs.Common.{arith}
 use Rattle.std.specs.Prelude.{vec_len}
 use Rattle.tdf_changes.proofs.Judging.{steps_refused}
-use Rattle.tdf_dynamic.proofs.Api.{clusters_are, modules_few, ports_are}
-use Rattle.tdf_dynamic.specs.Rates.{seen}
+use Rattle.tdf_streams.proofs.Api.{clusters_are, modules_few, ports_are}
+use Rattle.tdf_streams.specs.low.dynamic.Rates.{seen}
 use Rattle.tdf_changes.proofs.next.judged.Goals as goal
 
 pub net_of-requires-clause-modules : goal.net_of-requires-clause-modules

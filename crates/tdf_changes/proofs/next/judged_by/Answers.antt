@@ -1,13 +1,13 @@
 use Rattle.std.proofs.Common.{arith}
 use Rattle.std.proofs.lemmas.Result.{IfOk-weaker}
 use Rattle.std.specs.Prelude.{vec_len}
-use Rattle.tdf_base.specs.declared.codes.Code.TheVariants as code
+use Rattle.tdf_streams.specs.low.base.declared.codes.Code.TheVariants as code
 use Rattle.tdf_changes.proofs.Judging.{IsToldFirst, all_weaker, change_refused, counts_long, is_judged, old_fails, plan_refused, refusal_weaker}
 use Rattle.tdf_changes.specs.machine.Judging.{IsJudged, IsJudgedFault}
 use Rattle.tdf_changes.specs.machine.Rows.{IsRefusing}
-use Rattle.tdf_dynamic.proofs.Api.{clusters_are, modules_few, ports_are}
-use Rattle.tdf_dynamic.specs.Faults.{IsPlanFault, IsPlanOf}
-use Rattle.tdf_dynamic.specs.Rates.{seen}
+use Rattle.tdf_streams.proofs.Api.{clusters_are, modules_few, ports_are}
+use Rattle.tdf_streams.specs.low.dynamic.Faults.{IsPlanFault, IsPlanOf}
+use Rattle.tdf_streams.specs.low.dynamic.Rates.{seen}
 use Rattle.tdf_changes.proofs.next.judged_by.Goals as goal
 
 pub net_of-requires-clause-modules : goal.net_of-requires-clause-modules

@@ -9,8 +9,8 @@ use Rattle.tdf_changes.specs.declared.frames.ModuleFrame.{ModuleFrame}
 use Rattle.tdf_changes.specs.machine.Asking.{AllTell, told}
 use Rattle.tdf_changes.specs.machine.Boundary.{IsFound, IsRefusedAt, NoneMarks}
 use Rattle.tdf_changes.specs.machine.Rows.{AreAfter, AreFlagged, HoldsBelow}
-use Rattle.tdf_dynamic.specs.Attributes.{AttrsOf}
-use Rattle.tdf_dynamic.specs.Faults.{IsRefusal}
+use Rattle.tdf_streams.specs.low.dynamic.Attributes.{AttrsOf}
+use Rattle.tdf_streams.specs.low.dynamic.Faults.{IsRefusal}
 use Rattle.tdf_streams.specs.Periods.{AreAttributes}
 use Rattle.tdf_changes.proofs.next.next_plan.Goals as goal
 

@@ -1,6 +1,6 @@
 use Rattle.std.proofs.Common.{List, subst, sym}
-use Rattle.tdf_dynamic.specs.Attributes.{AttrsOf}
-use Rattle.tdf_dynamic.specs.Rates.{AreRates}
+use Rattle.tdf_streams.specs.low.dynamic.Attributes.{AttrsOf}
+use Rattle.tdf_streams.specs.low.dynamic.Rates.{AreRates}
 use Rattle.tdf_streams.proofs.Api.{are_rates, is_wired}
 use Rattle.tdf_changes.proofs.next.with_table.Goals as goal
 

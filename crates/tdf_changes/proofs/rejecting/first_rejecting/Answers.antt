@@ -3,7 +3,7 @@ use Rattle.std.specs.Prelude.{slice_get}
 use Rattle.tdf_changes.proofs.Rows.{below_more, get_read, not_both}
 use Rattle.tdf_changes.specs.declared.frames.ModuleFrame.{ModuleFrame}
 use Rattle.tdf_changes.specs.machine.Rows.{IsRefusing}
-use Rattle.tdf_dynamic.specs.Attributes.{AttrsOf}
+use Rattle.tdf_streams.specs.low.dynamic.Attributes.{AttrsOf}
 use Rattle.tdf_changes.proofs.rejecting.first_rejecting.Goals as goal
 
 pub rejects-requires : goal.rejects-requires

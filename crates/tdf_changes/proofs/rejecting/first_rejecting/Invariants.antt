@@ -1,6 +1,6 @@
 use Rattle.tdf_changes.specs.declared.frames.ModuleFrame.{ModuleFrame}
 use Rattle.tdf_changes.specs.machine.Rows.{HoldsBelow, IsRefusing}
-use Rattle.tdf_dynamic.specs.Attributes.{AttrsOf}
+use Rattle.tdf_streams.specs.low.dynamic.Attributes.{AttrsOf}
 use Rattle.tdf_changes.proofs.rejecting.first_rejecting.Given as goal
 
 abbrev pub invariant-loop-i : goal.invariant-loop-i

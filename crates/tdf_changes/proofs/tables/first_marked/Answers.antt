@@ -2,8 +2,8 @@ use Rattle.std.proofs.Common.{rules, ◌≡◌, Some, arith, false, true}
 use Rattle.std.specs.Prelude.{slice_get}
 use Rattle.tdf_changes.proofs.Rows.{below_more, get_read, not_both}
 use Rattle.tdf_changes.specs.declared.frames.ModuleFrame.{ModuleFrame}
-use Rattle.tdf_dynamic.specs.Attributes.{AttrsOf}
-use Rattle.tdf_flow.proofs.Api.{get_inside}
+use Rattle.tdf_streams.specs.low.dynamic.Attributes.{AttrsOf}
+use Rattle.tdf_streams.proofs.Api.{get_inside}
 use Rattle.tdf_changes.proofs.tables.first_marked.Goals as goal
 
 pub returns-then-out_of_range-clause-first : goal.returns-then-out_of_range-clause-first

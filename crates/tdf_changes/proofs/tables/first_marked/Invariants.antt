@@ -1,7 +1,7 @@
 use Rattle.std.proofs.Common.{◌≡◌, true}
 use Rattle.tdf_changes.specs.declared.frames.ModuleFrame.{ModuleFrame}
 use Rattle.tdf_changes.specs.machine.Rows.{HoldsBelow}
-use Rattle.tdf_dynamic.specs.Attributes.{AttrsOf}
+use Rattle.tdf_streams.specs.low.dynamic.Attributes.{AttrsOf}
 use Rattle.tdf_changes.proofs.tables.first_marked.Given as goal
 
 abbrev pub invariant-loop-i : goal.invariant-loop-i

@@ -1,5 +1,5 @@
 use Rattle.std.proofs.Common.{subst, sym}
-use Rattle.tdf_base.specs.declared.faults.Fault.{Fault}
+use Rattle.tdf_sim.specs.low.base.declared.faults.Fault.{Fault}
 use Rattle.tdf_cli.proofs.Outcomes.{noted_all, noted_part}
 use Rattle.tdf_cli.specs.Input.{Text}
 use Rattle.tdf_cli.specs.Outcome.{HasOutcome, refused, too_late, unbuilt}

@@ -1,5 +1,5 @@
 use Rattle.std.proofs.Common.{Err, ap, subst, sym}
-use Rattle.tdf_base.specs.declared.faults.Fault.{Fault}
+use Rattle.tdf_sim.specs.low.base.declared.faults.Fault.{Fault}
 use Rattle.tdf_cli.proofs.Outcomes.{none_err, none_ok, noted_all, noted_part, ran_all, ran_part, unwritten_all, unwritten_part}
 use Rattle.tdf_cli.specs.Input.{Text}
 use Rattle.tdf_cli.specs.Outcome.{HasOutcome, refused, unbuilt}

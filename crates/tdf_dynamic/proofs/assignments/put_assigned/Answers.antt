@@ -3,7 +3,7 @@ use Rattle.std.proofs.Math.ListN.{get_or}
 use Rattle.std.specs.List.{cons_option}
 use Rattle.tdf_dynamic.specs.Assignments.{assign_at}
 use Rattle.tdf_dynamic.specs.Attributes.{AttrsOf}
-use Rattle.tdf_wiring.proofs.Api.{filtered_next}
+use Rattle.tdf_flat.proofs.Api.{filtered_next}
 use Rattle.tdf_dynamic.proofs.assignments.put_assigned.Goals as goal
 
 pub loop-place-preserved : goal.loop-place-preserved

@@ -1,5 +1,5 @@
 use Rattle.std.proofs.Common.{◌≡◌, map, take}
-use Rattle.tdf_bind.specs.Actors.{cluster_of}
+use Rattle.tdf_flat.specs.low.bind.Actors.{cluster_of}
 use Rattle.tdf_dynamic.proofs.plans.clusters_of.Given as goal
 
 abbrev pub invariant-loop-i : goal.invariant-loop-i

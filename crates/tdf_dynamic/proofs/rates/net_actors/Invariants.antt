@@ -1,5 +1,5 @@
 use Rattle.std.proofs.Common.{◌≡◌, map, take}
-use Rattle.tdf_bind.specs.declared.actors.ActorRow.{ActorRow}
+use Rattle.tdf_flat.specs.low.bind.declared.actors.ActorRow.{ActorRow}
 use Rattle.tdf_dynamic.proofs.rates.net_actors.Given as goal
 
 abbrev pub invariant-loop-i : goal.invariant-loop-i

@@ -1,7 +1,7 @@
 use Rattle.std.proofs.Common.{◌∙◌, ap, arith, length}
 use Rattle.std.specs.Prelude.{vec_len}
 use Rattle.std.proofs.lemmas.List.{length-map}
-use Rattle.tdf_bind.specs.declared.actors.ActorRow.{ActorRow}
+use Rattle.tdf_flat.specs.low.bind.declared.actors.ActorRow.{ActorRow}
 use Rattle.tdf_dynamic.proofs.Nets.{net_is_fit}
 use Rattle.tdf_dynamic.proofs.rates.net_of.Goals as goal
 

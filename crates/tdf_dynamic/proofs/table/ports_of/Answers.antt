@@ -1,7 +1,7 @@
 use Rattle.std.proofs.Common.{◌++◌, ◌∙◌, ap, []}
 use Rattle.std.specs.List.{cons_option}
 use Rattle.tdf_dynamic.specs.Attributes.{number_if}
-use Rattle.tdf_wiring.proofs.Api.{filtered_next}
+use Rattle.tdf_flat.proofs.Api.{filtered_next}
 use Rattle.tdf_dynamic.proofs.table.ports_of.Goals as goal
 
 pub loop-number-preserved : goal.loop-number-preserved

@@ -1,7 +1,7 @@
 use Rattle.std.proofs.Common.{◌++◌, ◌∙◌, ap, []}
 use Rattle.std.specs.List.{cons_option}
 use Rattle.tdf_dynamic.specs.Text.{attrs_if}
-use Rattle.tdf_wiring.proofs.Api.{filtered_next}
+use Rattle.tdf_flat.proofs.Api.{filtered_next}
 use Rattle.tdf_dynamic.proofs.table.table_rows.Goals as goal
 
 pub loop-number-preserved : goal.loop-number-preserved

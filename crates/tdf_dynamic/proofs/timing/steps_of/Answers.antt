@@ -5,7 +5,7 @@ use Rattle.tdf_dynamic.proofs.Phases.{from_period}
 use Rattle.tdf_dynamic.specs.Assignments.{assignments}
 use Rattle.tdf_dynamic.specs.Faults.{IsPeriodFault, IsRefusal}
 use Rattle.tdf_dynamic.specs.Rates.{seen, net_ports}
-use Rattle.tdf_timestep.specs.Period.{IsAssigned}
+use Rattle.tdf_schedule.specs.low.timestep.Period.{IsAssigned}
 use Rattle.tdf_dynamic.proofs.timing.steps_of.Goals as goal
 
 pub steps_or-requires-clause-assigned : goal.steps_or-requires-clause-assigned

@@ -1,8 +1,8 @@
 use Rattle.std.proofs.Common.{◌≡◌, ◌∙◌, Ok, Err, OnOk, Result, ap, subst, sym}
-use Rattle.tdf_changes.specs.declared.next.Next.{Next}
-use Rattle.tdf_changes.specs.declared.next.Next.TheVariants.{Same}
-use Rattle.tdf_dynamic.specs.declared.err.ChangeErr.{ChangeErr}
-use Rattle.tdf_exec.specs.Crossing.{HasBegun, StandsAfter}
+use Rattle.tdf_linked.specs.low.changes.declared.next.Next.{Next}
+use Rattle.tdf_linked.specs.low.changes.declared.next.Next.TheVariants.{Same}
+use Rattle.tdf_linked.specs.low.dynamic.declared.err.ChangeErr.{ChangeErr}
+use Rattle.tdf_linked.specs.low.exec.Crossing.{HasBegun, StandsAfter}
 use Rattle.tdf_engine.proofs.crossing.begin_next.Goals as goal
 
 on_ok : {T E P Q R S : Type 0} (r : Result T E) → OnOk r P → OnOk r Q → OnOk r R → (P → Q → R → S) → OnOk r S

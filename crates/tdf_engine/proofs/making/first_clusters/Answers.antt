@@ -3,8 +3,8 @@ use Rattle.std.proofs.lemmas.Iterator.Adapters.{YieldsList-from_vec}
 use Rattle.std.proofs.lemmas.Iterator.Consumers.{YieldsList-turn}
 use Rattle.std.proofs.lemmas.Option.{slice_get-get_or}
 use Rattle.tdf_engine.proofs.Beginning.{begun_more, plan_here}
-use Rattle.tdf_exec.specs.Cluster.{ClusterOf}
-use Rattle.tdf_run.specs.Begun.{HaveBegun}
+use Rattle.tdf_linked.specs.low.exec.Cluster.{ClusterOf}
+use Rattle.tdf_linked.specs.low.run.Begun.{HaveBegun}
 use Rattle.tdf_engine.proofs.making.first_clusters.Goals as goal
 
 pub cluster_at-requires-clause-plan : goal.cluster_at-requires-clause-plan

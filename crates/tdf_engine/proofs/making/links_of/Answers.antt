@@ -1,5 +1,5 @@
 use Rattle.std.proofs.Common.{◌+◌, List, subst, sym}
-use Rattle.tdf_convert.specs.declared.links.Links.{Links}
+use Rattle.tdf_linked.specs.low.convert.declared.links.Links.{Links}
 use Rattle.tdf_engine.proofs.Beginning.{linked_more}
 use Rattle.tdf_engine.specs.machine.Making.{AreLinkedUpTo}
 use Rattle.tdf_linked.specs.Linked.{AreSamplerLinks}

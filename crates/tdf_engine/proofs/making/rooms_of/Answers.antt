@@ -3,8 +3,8 @@ use Rattle.std.proofs.lemmas.List.{take_more}
 use Rattle.tdf_engine.proofs.Beginning.{rooms_more}
 use Rattle.tdf_engine.specs.machine.Making.{AreRoomsUpTo}
 use Rattle.tdf_engine.specs.Engine.{HaveRooms}
-use Rattle.tdf_exec.specs.Cluster.{ClusterOf}
-use Rattle.tdf_exec.specs.Gained.{sent_size, traced_size}
+use Rattle.tdf_linked.specs.low.exec.Cluster.{ClusterOf}
+use Rattle.tdf_linked.specs.low.exec.Gained.{sent_size, traced_size}
 use Rattle.tdf_engine.proofs.making.rooms_of.Goals as goal
 
 pub loop-n-preserved : goal.loop-n-preserved

@@ -1,5 +1,5 @@
 use Rattle.tdf_engine.proofs.Calm.{due_never, due_next}
-use Rattle.tdf_events.specs.Kernel.{side_of}
+use Rattle.tdf_linked.specs.low.events.Kernel.{side_of}
 use Rattle.tdf_engine.proofs.settling.is_due.Goals as goal
 
 pub returns-in-Some : goal.returns-in-Some

@@ -1,6 +1,6 @@
 use Rattle.std.proofs.Common.{arith}
 use Rattle.tdf_engine.proofs.Leasts.{next_kept, next_never, next_taken}
-use Rattle.tdf_events.specs.Kernel.{side_of}
+use Rattle.tdf_linked.specs.low.events.Kernel.{side_of}
 use Rattle.tdf_engine.proofs.times.next_time.Goals as goal
 
 pub returns-then-next-least : goal.returns-then-next-least

@@ -3,8 +3,8 @@ use Rattle.tdf_calendar.specs.Evaluation.{ran_first}
 use Rattle.tdf_events.specs.Kernel.{IsKernelOf, side_of}
 use Rattle.tdf_events.specs.Processes.{ran}
 use Rattle.tdf_events.specs.views.Parts.{kernel_of}
-use Rattle.tdf_expr.specs.Checked.{IsCheckedOf}
-use Rattle.tdf_tree.specs.Pure.{PureTree}
+use Rattle.tdf_flat.specs.low.expr.Checked.{IsCheckedOf}
+use Rattle.tdf_flat.specs.low.tree.Pure.{PureTree}
 use Rattle.tdf_events.proofs.evaluating.run_all.Given as goal
 
 abbrev pub invariant-loop-i : goal.invariant-loop-i

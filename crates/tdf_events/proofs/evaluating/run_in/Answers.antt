@@ -5,8 +5,8 @@ use Rattle.tdf_events.specs.Kernel.{KernelOf}
 use Rattle.tdf_events.specs.Notices.{noticed_first}
 use Rattle.tdf_events.specs.Processes.{written_first}
 use Rattle.tdf_events.specs.views.Parts.{kernel_of}
-use Rattle.tdf_expr.specs.Frames.{PortsSeen}
-use Rattle.tdf_wiring.specs.ProcessBlocks.{BlockRowOf}
+use Rattle.tdf_flat.specs.low.expr.Frames.{PortsSeen}
+use Rattle.tdf_flat.specs.low.wiring.ProcessBlocks.{BlockRowOf}
 use Rattle.tdf_events.proofs.evaluating.run_in.Goals as goal
 
 pub returns : goal.returns

@@ -1,9 +1,9 @@
 use Rattle.std.proofs.Common.{rules, ◌≡◌, ◌<◌, Some, length, slice_get, refl, ap, sym, ◌∙◌, subst}
 use Rattle.std.proofs.lemmas.Option.{slice_get_read}
-use Rattle.tdf_bind.specs.Flat.{FlatOf}
+use Rattle.tdf_flat.specs.low.bind.Flat.{FlatOf}
 use Rattle.tdf_events.proofs.Evaluated.{can_run, keeps, ran_is}
 use Rattle.tdf_events.specs.views.Parts.{kernel_of}
-use Rattle.tdf_wiring.specs.ProcessBlocks.{ProcessRowOf}
+use Rattle.tdf_flat.specs.low.wiring.ProcessBlocks.{ProcessRowOf}
 use Rattle.tdf_events.proofs.evaluating.run_process.Goals as goal
 
 pub run_in-requires : goal.run_in-requires

@@ -1,12 +1,12 @@
 use Rattle.std.proofs.Common.{rules, ◌≡◌, ◌<◌, ℕ, List, None, false, length, map, replicate, slice_get, sym, ap, ◌∙◌, subst}
-use Rattle.tdf_bind.specs.Flat.{FlatOf}
+use Rattle.tdf_flat.specs.low.bind.Flat.{FlatOf}
 use Rattle.tdf_events.proofs.Starting.{IsFresh, fresh_kernel, fresh_side}
 use Rattle.tdf_events.specs.Kernel.{AreSensitive}
 use Rattle.tdf_events.specs.Processes.{owned_from}
 use Rattle.tdf_events.specs.machine.Making.{AreAllPorts, AreFrames}
 use Rattle.tdf_events.specs.views.Parts.{kernel_of}
-use Rattle.tdf_wiring.specs.ProcessBlocks.{BlockRowOf, ProcessRowOf}
-use Rattle.tdf_wiring.specs.declared.drivers.SignalRow.{SignalRow}
+use Rattle.tdf_flat.specs.low.wiring.ProcessBlocks.{BlockRowOf, ProcessRowOf}
+use Rattle.tdf_flat.specs.low.wiring.declared.drivers.SignalRow.{SignalRow}
 use Rattle.tdf_events.proofs.kernel.parts_of.Goals as goal
 
 pub start_frames-requires-clause-inside : goal.start_frames-requires-clause-inside

@@ -4,9 +4,9 @@ use Rattle.tdf_exec.proofs.Marks.{traced_next}
 use Rattle.tdf_exec.proofs.Rows.{all_at}
 use Rattle.tdf_exec.specs.declared.runners.TracedPort.{TracedPort}
 use Rattle.tdf_exec.specs.machine.Tracing.{AreTracedUpTo, put_traced}
-use Rattle.tdf_flat.specs.declared.model.Flat.{Flat}
-use Rattle.tdf_flow.proofs.Api.{get_inside}
-use Rattle.tdf_wiring.specs.declared.modules.PortRow.{PortRow}
+use Rattle.tdf_layout.specs.low.flat.declared.model.Flat.{Flat}
+use Rattle.tdf_layout.proofs.Api.{get_inside}
+use Rattle.tdf_layout.specs.low.wiring.declared.modules.PortRow.{PortRow}
 use Rattle.tdf_exec.proofs.tracing.traced_rows.Goals as goal
 
 pub loop-n-preserved : goal.loop-n-preserved

@@ -9,7 +9,7 @@ use Rattle.tdf_firing.specs.declared.wires.InWire.{InWire}
 use Rattle.tdf_firing.specs.declared.wires.OutWire.{OutWire}
 use Rattle.tdf_firing.specs.machine.Filling.{AreFilledUpTo, count_read, list_read}
 use Rattle.tdf_firing.specs.machine.Moving.{AreChangedUpTo, in_edge, out_edge, put_by, taken_by}
-use Rattle.tdf_state.specs.State.{PortsState, state_of}
+use Rattle.tdf_expr.specs.low.state.State.{PortsState, state_of}
 use Rattle.tdf_firing.proofs.firing.fire_module.Goals as goal
 
 pub take_inputs-requires-clause-can : goal.take_inputs-requires-clause-can

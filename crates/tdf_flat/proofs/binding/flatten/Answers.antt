@@ -1,7 +1,7 @@
 use Rattle.tdf_flat.proofs.Linked.{modules_sound}
 use Rattle.tdf_flat.proofs.binding.flatten.Goals as goal
-use Rattle.tdf_scope.specs.Names.{globals_of}
-use Rattle.tdf_tree.specs.Views.{pure_tree}
+use Rattle.tdf_roles.specs.low.scope.Names.{globals_of}
+use Rattle.tdf_roles.specs.low.tree.Views.{pure_tree}
 
 pub tables_of-requires-clause-sound : goal.tables_of-requires-clause-sound
 tables_of-requires-clause-sound c =

@@ -2,7 +2,7 @@ use Rattle.std.proofs.Common.{◌∙◌, refl, sym, subst}
 use Rattle.tdf_bind.specs.declared.flat.BindErr.{BindErr}
 use Rattle.tdf_flat.proofs.binding.sized.Goals as goal
 use Rattle.tdf_flat.specs.Flat.{OfSize, IsBindRefusal}
-use Rattle.tdf_tree.specs.Views.{pure_tree}
+use Rattle.tdf_roles.specs.low.tree.Views.{pure_tree}
 
 pub returns-in-Ok-true-clause-refused : goal.returns-in-Ok-true-clause-refused
 returns-in-Ok-true-clause-refused c =

@@ -5,11 +5,11 @@ use Rattle.tdf_flat.proofs.Linked.{refused_by}
 use Rattle.tdf_flat.proofs.binding.tables_by.Goals as goal
 use Rattle.tdf_flat.specs.Flat.{trace_lines}
 use Rattle.tdf_roles.specs.Roles.{roles_of}
-use Rattle.tdf_tree.specs.Views.{pure_tree}
-use Rattle.tdf_walk.specs.Blocks.{BlockOf}
-use Rattle.tdf_walk.specs.Bound.{AreBound}
-use Rattle.tdf_wiring.specs.declared.roles.Role.{Role}
-use Rattle.tdf_wiring.specs.declared.traces.TraceLine.{TraceLine}
+use Rattle.tdf_roles.specs.low.tree.Views.{pure_tree}
+use Rattle.tdf_roles.specs.low.walk.Blocks.{BlockOf}
+use Rattle.tdf_roles.specs.low.walk.Bound.{AreBound}
+use Rattle.tdf_roles.specs.low.wiring.declared.roles.Role.{Role}
+use Rattle.tdf_roles.specs.low.wiring.declared.traces.TraceLine.{TraceLine}
 
 pub flat_of-requires-clause-bound : goal.flat_of-requires-clause-bound
 flat_of-requires-clause-bound c =

@@ -1,5 +1,5 @@
 use Rattle.std.proofs.Common.{◌≡◌, map, take}
-use Rattle.tdf_firing.specs.declared.wires.OutWire.{OutWire}
+use Rattle.tdf_streams.specs.low.firing.declared.wires.OutWire.{OutWire}
 use Rattle.tdf_layout.proofs.ends.edges_of.Given as goal
 
 abbrev pub invariant-loop-i : goal.invariant-loop-i

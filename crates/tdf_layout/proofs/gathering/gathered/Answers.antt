@@ -3,8 +3,8 @@ use Rattle.std.proofs.lemmas.Option.{slice_get_read}
 use Rattle.tdf_layout.proofs.Gathers.{ends_next}
 use Rattle.tdf_layout.proofs.Rows.{all_at}
 use Rattle.tdf_layout.specs.machine.Ends.{read_by, written_by}
-use Rattle.tdf_bind.specs.Flat.{FlatOf}
-use Rattle.tdf_wiring.specs.declared.edges.EdgeRow.{EdgeRow}
+use Rattle.tdf_streams.specs.low.bind.Flat.{FlatOf}
+use Rattle.tdf_streams.specs.low.wiring.declared.edges.EdgeRow.{EdgeRow}
 use Rattle.tdf_layout.proofs.gathering.gathered.Goals as goal
 
 pub loop-e-preserved : goal.loop-e-preserved

@@ -1,10 +1,10 @@
 use Rattle.std.proofs.Common.{rules, ◌≡◌, ◌∙◌, Some, ap, length, refl, sym, replicate, slice_get}
 use Rattle.std.proofs.lemmas.Option.{slice_get_read}
-use Rattle.tdf_bind.specs.Flat.{FlatOf}
+use Rattle.tdf_streams.specs.low.bind.Flat.{FlatOf}
 use Rattle.tdf_layout.proofs.Given.{port_given}
 use Rattle.tdf_layout.specs.machine.Initials.{given_to}
 use Rattle.tdf_streams.specs.Cluster.{initial_samples, zero_of}
-use Rattle.tdf_wiring.specs.declared.modules.PortRow.{PortRow}
+use Rattle.tdf_streams.specs.low.wiring.declared.modules.PortRow.{PortRow}
 use Rattle.tdf_layout.proofs.initial.port_samples.Goals as goal
 
 pub returns : goal.returns

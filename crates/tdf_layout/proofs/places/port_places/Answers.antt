@@ -1,8 +1,8 @@
 use Rattle.std.proofs.Common.{rules, ◌≡◌, ◌∙◌, ◌+◌, ◌<◌, Some, ap, arith, sym, length, slice_get, slice_index_or}
 use Rattle.std.proofs.lemmas.Option.{slice_get-get_or}
 use Rattle.tdf_layout.proofs.Counts.{places_next}
-use Rattle.tdf_wiring.proofs.Api.{any_default}
-use Rattle.tdf_wiring.specs.declared.modules.PortRow.{PortRow}
+use Rattle.tdf_streams.proofs.Api.{any_default}
+use Rattle.tdf_streams.specs.low.wiring.declared.modules.PortRow.{PortRow}
 use Rattle.tdf_layout.proofs.places.port_places.Goals as goal
 
 pub loop-number-preserved : goal.loop-number-preserved

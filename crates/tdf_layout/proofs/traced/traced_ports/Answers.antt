@@ -1,10 +1,10 @@
 use Rattle.std.proofs.Common.{rules, ◌≡◌, ◌∙◌, ◌<◌, Some, ap, arith, length, refl, sym, slice_get, subst}
 use Rattle.std.proofs.lemmas.Option.{slice_get_read}
-use Rattle.tdf_bind.specs.Flat.{FlatOf}
+use Rattle.tdf_streams.specs.low.bind.Flat.{FlatOf}
 use Rattle.tdf_layout.proofs.Listed.{all_listed, listed_next}
 use Rattle.tdf_layout.proofs.Rows.{all_at}
 use Rattle.tdf_layout.specs.machine.Marks.{ListedUpTo, is_shown, with_number}
-use Rattle.tdf_wiring.specs.declared.modules.PortRow.{PortRow}
+use Rattle.tdf_streams.specs.low.wiring.declared.modules.PortRow.{PortRow}
 use Rattle.tdf_layout.proofs.traced.traced_ports.Goals as goal
 
 pub loop-number-preserved : goal.loop-number-preserved

@@ -1,7 +1,7 @@
 use Rattle.std.proofs.Common.{◌≡◌, ◌∙◌, List, ap, length, subst}
 use Rattle.std.proofs.lemmas.Result.{IfOk-weaker}
-use Rattle.tdf_bind.specs.Flat.{FlatOf}
-use Rattle.tdf_bind.specs.declared.actors.ActorRow.{ActorRow}
+use Rattle.tdf_streams.specs.low.bind.Flat.{FlatOf}
+use Rattle.tdf_streams.specs.low.bind.declared.actors.ActorRow.{ActorRow}
 use Rattle.tdf_layout.proofs.Told.{all_are, sinks_have}
 use Rattle.tdf_layout.specs.machine.Ends.{ToldUpTo}
 use Rattle.tdf_layout.proofs.wiring.cluster_wires.Goals as goal

@@ -1,5 +1,5 @@
 use Rattle.std.proofs.Common.{List, subst, sym}
-use Rattle.tdf_convert.specs.declared.links.Link.{Link}
+use Rattle.tdf_run.specs.low.convert.declared.links.Link.{Link}
 use Rattle.tdf_linked.proofs.Found.{none_yet}
 use Rattle.tdf_linked.specs.machine.Linking.{AreLinkedUpTo}
 use Rattle.tdf_linked.proofs.linking.links_of.Goals as goal

@@ -1,7 +1,7 @@
 use Rattle.std.proofs.Common.{◌≡◌, ◌∙◌, Some, ap, sym, slice_get}
-use Rattle.tdf_bind.specs.Flat.{FlatOf}
-use Rattle.tdf_bind.specs.declared.actors.ActorRow.{ActorRow}
-use Rattle.tdf_history.specs.Instant.{signal_of_row}
+use Rattle.tdf_run.specs.low.bind.Flat.{FlatOf}
+use Rattle.tdf_run.specs.low.bind.declared.actors.ActorRow.{ActorRow}
+use Rattle.tdf_run.specs.low.history.Instant.{signal_of_row}
 use Rattle.tdf_linked.proofs.Found.{added, passed_over, row_read, wanted_converts}
 use Rattle.tdf_linked.proofs.linking.put.Goals as goal
 

@@ -1,9 +1,9 @@
 use Rattle.std.proofs.Common.{◌≡◌, ◌<◌, Some, ap, arith, length, sym, slice_get}
 use Rattle.std.proofs.lemmas.Option.{slice_get_within}
-use Rattle.tdf_bind.specs.Flat.{FlatOf}
-use Rattle.tdf_history.specs.Instant.{signal_of_port}
+use Rattle.tdf_run.specs.low.bind.Flat.{FlatOf}
+use Rattle.tdf_run.specs.low.history.Instant.{signal_of_port}
 use Rattle.tdf_linked.proofs.Found.{port_read, row_read}
-use Rattle.tdf_wiring.specs.declared.modules.PortRow.{PortRow}
+use Rattle.tdf_run.specs.low.wiring.declared.modules.PortRow.{PortRow}
 use Rattle.tdf_linked.proofs.linking.signal_at.Goals as goal
 
 pub index-requires : goal.index-requires

@@ -1,7 +1,7 @@
-use Rattle.tdf_history.specs.Cells.{run_cells}
+use Rattle.tdf_shown.specs.low.history.Cells.{run_cells}
 use Rattle.tdf_loop.proofs.Finishing.{writes_rest}
 use Rattle.tdf_loop.proofs.ending.finish.Goals as goal
-use Rattle.tdf_world.specs.Rules.{rules_of}
+use Rattle.tdf_shown.specs.low.world.Rules.{rules_of}
 
 pub returns-in-Ok-clause-wrote : goal.returns-in-Ok-clause-wrote
 returns-in-Ok-clause-wrote g c = λ model flat start is limits shown.

@@ -1,8 +1,8 @@
-use Rattle.tdf_history.specs.Cells.{run_cells}
+use Rattle.tdf_shown.specs.low.history.Cells.{run_cells}
 use Rattle.tdf_loop.proofs.Answering.{writes_err}
 use Rattle.tdf_loop.proofs.run.closed.Goals as goal
-use Rattle.tdf_trace.specs.Writings.{rest_text}
-use Rattle.tdf_world.specs.Rules.{rules_of}
+use Rattle.tdf_shown.specs.low.trace.Writings.{rest_text}
+use Rattle.tdf_shown.specs.low.world.Rules.{rules_of}
 
 pub returns-in-Err-clause-wrote : goal.returns-in-Err-clause-wrote
 returns-in-Err-clause-wrote g c = λ model flat start is limits shown.

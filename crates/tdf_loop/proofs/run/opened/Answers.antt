@@ -1,11 +1,11 @@
 use Rattle.std.proofs.Common.{Err, List, [], ℕ, ap, subst}
-use Rattle.tdf_io.specs.Bytes.{WritesText}
+use Rattle.tdf_shown.specs.low.in_out.Bytes.{WritesText}
 use Rattle.tdf_loop.proofs.Answering.{writes_err}
 use Rattle.tdf_loop.proofs.Opening.{opens, opens_run}
 use Rattle.tdf_loop.proofs.run.opened.Goals as goal
 use Rattle.tdf_loop.specs.Runs.{model_about}
-use Rattle.tdf_trace.specs.Writings.{head_of}
-use Rattle.tdf_world.specs.Rules.{start_world}
+use Rattle.tdf_shown.specs.low.trace.Writings.{head_of}
+use Rattle.tdf_shown.specs.low.world.Rules.{start_world}
 
 pub returns-in-Ok-begin-clause-can : goal.returns-in-Ok-begin-clause-can
 returns-in-Ok-begin-clause-can g c = opens c.args.flat.now c.in-Ok.run' c.begin-2.new.self c.begin-2.ensures.rows c.begin-2.ensures.about c.in-Ok.ensures.can

@@ -1,4 +1,4 @@
-use Rattle.tdf_io.proofs.Api.{front_none, front_whole}
+use Rattle.tdf_shown.proofs.Api.{front_none, front_whole}
 use Rattle.tdf_loop.proofs.Noting.{notes_part, notes_whole, plans_part, plans_whole}
 use Rattle.tdf_loop.proofs.run.run_model.Goals as goal
 use Rattle.tdf_loop.specs.Runs.{trace_of}

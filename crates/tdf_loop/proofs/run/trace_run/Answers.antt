@@ -1,9 +1,9 @@
 use Rattle.std.proofs.Common.{[], arith}
-use Rattle.tdf_io.proofs.Api.{counts_then}
+use Rattle.tdf_shown.proofs.Api.{counts_then}
 use Rattle.tdf_loop.proofs.Answering.{counts_err, on_err, then_ok}
 use Rattle.tdf_loop.proofs.WholeRun.{end_ok, head_part, left_ok, rows_part_of, whole_part, whole_text}
 use Rattle.tdf_loop.proofs.run.trace_run.Goals as goal
-use Rattle.tdf_world.specs.Rules.{start_world}
+use Rattle.tdf_shown.specs.low.world.Rules.{start_world}
 
 pub returns-in-Err-clause-part : goal.returns-in-Err-clause-part
 returns-in-Err-clause-part g c = λ model m. head_part c.args.kind model c.args.flat.now c.args.firsts.items c.args.stop c.args.turns m (g.O.Sink.taken c.args.out.now) (g.O.Sink.taken c.opened.new.out) c.in-Err.ensures.wrote.part

@@ -1,5 +1,5 @@
 use Rattle.std.proofs.Common.{◌≡◌, List, ℕ, subst, sym, rules}
-use Rattle.tdf_exec.specs.Cluster.{ClusterOf}
+use Rattle.tdf_shown.specs.low.exec.Cluster.{ClusterOf}
 use Rattle.tdf_loop.proofs.Beginning.{can_begin, can_start, runs_at_first}
 use Rattle.tdf_shown.specs.Calls.{CanStart, StartsShowing}
 use Rattle.tdf_shown.specs.Periods.{clock_at}

@@ -4,7 +4,7 @@ use Rattle.tdf_resolve.proofs.Counting.{past_is}
 use Rattle.tdf_resolve.proofs.counts.is_past.Goals as goal
 use Rattle.tdf_resolve.specs.Counts.{limit_of}
 use Rattle.tdf_resolve.specs.machine.Counts.{AreCounts}
-use Rattle.tdf_tree.specs.Views.{pure_tree}
+use Rattle.tdf_links.specs.low.tree.Views.{pure_tree}
 
 pub returns : goal.returns
 returns c =

@@ -6,7 +6,7 @@ use Rattle.tdf_resolve.proofs.Sums.{cap_left, cap_right}
 use Rattle.tdf_resolve.proofs.measures.de_weight.Goals as goal
 use Rattle.tdf_resolve.specs.Counts.{de_line_weight, instance_weight, processes_weight}
 use Rattle.tdf_resolve.specs.machine.Counts.{capped}
-use Rattle.tdf_tree.specs.Views.{pure_de_line, pure_process}
+use Rattle.tdf_links.specs.low.tree.Views.{pure_de_line, pure_process}
 
 pub returns : goal.returns
 returns c =

@@ -5,7 +5,7 @@ use Rattle.std.specs.Prelude.{map}
 use Rattle.tdf_resolve.proofs.measures.push_weights.Given as goal
 use Rattle.tdf_resolve.specs.Counts.{weight_of}
 use Rattle.tdf_resolve.specs.machine.Counts.{capped}
-use Rattle.tdf_tree.specs.Views.{pure_global}
+use Rattle.tdf_links.specs.low.tree.Views.{pure_global}
 
 abbrev pub invariant-loop-global : goal.invariant-loop-global
 invariant-loop-global l = l.out.items ++ map capped (flat_map (weight_of l.measure) (map pure_global (drop l.global-index l.global-items)))

@@ -5,7 +5,7 @@ use Rattle.std.specs.Prelude.{map}
 use Rattle.tdf_resolve.proofs.measures.tdf_lines_weight.Given as goal
 use Rattle.tdf_resolve.specs.Counts.{tdf_line_weight}
 use Rattle.tdf_resolve.specs.machine.Counts.{capped}
-use Rattle.tdf_tree.specs.Views.{pure_tdf_line}
+use Rattle.tdf_links.specs.low.tree.Views.{pure_tdf_line}
 
 abbrev pub invariant-loop-line : goal.invariant-loop-line
 invariant-loop-line l = l.total ≡ capped (sum_by (tdf_line_weight l.measure) (map pure_tdf_line (take l.line-index l.line-items)))

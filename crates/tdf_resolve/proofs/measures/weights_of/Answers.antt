@@ -5,7 +5,7 @@ use Rattle.tdf_resolve.proofs.Sums.{whole_weights}
 use Rattle.tdf_resolve.proofs.measures.weights_of.Goals as goal
 use Rattle.tdf_resolve.specs.Counts.{weight_of}
 use Rattle.tdf_resolve.specs.machine.Counts.{capped}
-use Rattle.tdf_tree.specs.Views.{pure_global}
+use Rattle.tdf_links.specs.low.tree.Views.{pure_global}
 
 pub returns : goal.returns
 returns c =

@@ -1,8 +1,8 @@
 use Rattle.std.specs.Prelude.{map}
 use Rattle.tdf_resolve.proofs.Blocks.{resolved_all}
 use Rattle.tdf_resolve.proofs.models.push_all.Goals as goal
-use Rattle.tdf_scope.specs.Names.{globals_of}
-use Rattle.tdf_tree.specs.Views.{pure_composite, pure_global}
+use Rattle.tdf_links.specs.low.scope.Names.{globals_of}
+use Rattle.tdf_links.specs.low.tree.Views.{pure_composite, pure_global}
 
 pub returns : goal.returns
 returns c =

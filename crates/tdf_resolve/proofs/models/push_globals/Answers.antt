@@ -4,7 +4,7 @@ use Rattle.tdf_resolve.proofs.Blocks.{blocks_more, known_more, known_none}
 use Rattle.tdf_resolve.proofs.models.push_globals.Goals as goal
 use Rattle.tdf_resolve.specs.Resolved.{AreBlocks}
 use Rattle.tdf_resolve.specs.machine.Lists.{list_of}
-use Rattle.tdf_tree.specs.Views.{pure_global}
+use Rattle.tdf_links.specs.low.tree.Views.{pure_global}
 
 pub loop-global-init : goal.loop-global-init
 loop-global-init c = record { blocks = c.requires.none; known = c.requires.known ∙ sym known_none }

@@ -4,7 +4,7 @@ use Rattle.std.specs.Prelude.{map}
 use Rattle.tdf_links.specs.Ports.{known_after_all, no_blocks}
 use Rattle.tdf_resolve.proofs.models.push_globals.Given as goal
 use Rattle.tdf_resolve.specs.Resolved.{AreBlocks}
-use Rattle.tdf_tree.specs.Views.{pure_global}
+use Rattle.tdf_links.specs.low.tree.Views.{pure_global}
 
 abbrev pub invariant-loop-global : goal.invariant-loop-global
 invariant-loop-global l = record {

@@ -3,8 +3,8 @@ use Rattle.std.specs.Prelude.{IfOk}
 use Rattle.tdf_roles.proofs.Ported.{steps_enough, maps_within, port_is}
 use Rattle.tdf_roles.proofs.ports.port_data.Goals as goal
 use Rattle.tdf_roles.specs.machine.Found.{IsFound, initials_at, port_with}
-use Rattle.tdf_scope.specs.Seen.{seen}
-use Rattle.tdf_tree.specs.Views.{pure_tdf}
+use Rattle.tdf_bodies.specs.low.scope.Seen.{seen}
+use Rattle.tdf_bodies.specs.low.tree.Views.{pure_tdf}
 use Rattle.tdf_wiring.specs.declared.roles.PortData.{PortData}
 
 pub find-requires : goal.find-requires

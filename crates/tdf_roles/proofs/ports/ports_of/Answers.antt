@@ -2,7 +2,7 @@ use Rattle.std.proofs.Common.{◌∙◌, ◌+◌, ◌≤◌, ◌++◌, List, len
 use Rattle.tdf_roles.proofs.Listed.{ports_next, ports_none}
 use Rattle.tdf_roles.proofs.ports.ports_of.Goals as goal
 use Rattle.tdf_roles.specs.Roles.{port_data}
-use Rattle.tdf_tree.specs.Views.{pure_tdf}
+use Rattle.tdf_bodies.specs.low.tree.Views.{pure_tdf}
 use Rattle.tdf_wiring.specs.declared.roles.PortData.{PortData}
 
 pub loop-line-preserved : goal.loop-line-preserved

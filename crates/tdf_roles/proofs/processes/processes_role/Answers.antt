@@ -4,8 +4,8 @@ use Rattle.tdf_roles.proofs.processes.processes_role.Goals as goal
 use Rattle.tdf_roles.specs.Roles.{events_of, process_role}
 use Rattle.tdf_roles.specs.machine.Processes.{process_with}
 use Rattle.tdf_links.specs.Ports.{ports_of_de}
-use Rattle.tdf_tree.specs.Views.{pure_de, pure_process}
-use Rattle.tdf_tree.specs.declared.blocks.PortLine.{PortLine}
+use Rattle.tdf_bodies.specs.low.tree.Views.{pure_de, pure_process}
+use Rattle.tdf_bodies.specs.low.tree.declared.blocks.PortLine.{PortLine}
 
 pub returns : goal.returns
 returns c =

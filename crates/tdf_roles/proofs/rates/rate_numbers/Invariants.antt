@@ -1,6 +1,6 @@
 use Rattle.std.proofs.Common.{◌≡◌, ◌<◌, ℕ, length}
 use Rattle.std.specs.Prelude.{slice_index}
-use Rattle.tdf_meaning.specs.Places.{before, rates_of, rate_number}
+use Rattle.tdf_bodies.specs.low.meaning.Places.{before, rates_of, rate_number}
 use Rattle.tdf_roles.proofs.rates.rate_numbers.Given as goal
 
 abbrev pub invariant-loop-place : goal.invariant-loop-place

@@ -3,9 +3,9 @@ use Rattle.std.proofs.lemmas.List.{drop_all}
 use Rattle.tdf_roles.proofs.Rolled.{global_at, rest_is}
 use Rattle.tdf_roles.proofs.roles.roles_in.Goals as goal
 use Rattle.tdf_roles.specs.Roles.{roles_from}
-use Rattle.tdf_tree.specs.Pure.{PureGlobal}
-use Rattle.tdf_tree.specs.Views.{pure_global}
-use Rattle.tdf_tree.specs.declared.tree.Global1.{Global1}
+use Rattle.tdf_bodies.specs.low.tree.Pure.{PureGlobal}
+use Rattle.tdf_bodies.specs.low.tree.Views.{pure_global}
+use Rattle.tdf_bodies.specs.low.tree.declared.tree.Global1.{Global1}
 
 pub push_role-requires : goal.push_role-requires
 push_role-requires c =

@@ -3,8 +3,8 @@ use Rattle.tdf_roles.proofs.Rolled.{all_good, top_last}
 use Rattle.tdf_roles.proofs.roles.roles_of.Goals as goal
 use Rattle.tdf_roles.specs.Roles.{roles_from}
 use Rattle.tdf_roles.specs.machine.Sound.{IsGood}
-use Rattle.tdf_scope.specs.Names.{Names, globals_of}
-use Rattle.tdf_tree.specs.Views.{pure_tree}
+use Rattle.tdf_bodies.specs.low.scope.Names.{Names, globals_of}
+use Rattle.tdf_bodies.specs.low.tree.Views.{pure_tree}
 use Rattle.tdf_wiring.specs.declared.roles.Role.{Role}
 use Rattle.tdf_wiring.specs.declared.roles.Role.TheVariants.{Composite}
 

@@ -1,5 +1,5 @@
 use Rattle.std.proofs.Common.{List}
-use Rattle.tdf_convert.specs.declared.outputs.Sent.{Sent}
+use Rattle.tdf_exec.specs.low.convert.declared.outputs.Sent.{Sent}
 use Rattle.tdf_run.proofs.turns.fire_all.Given as goal
 use Rattle.tdf_run.specs.Pass.{HavePassed, pass_at, run_of}
 

@@ -1,8 +1,8 @@
 use Rattle.std.proofs.Common.{rules, ◌≡◌, ◌≤◌, OnOk, subst}
 use Rattle.std.proofs.lemmas.List.Elements.{All-map, All-same}
 use Rattle.tdf_columns.specs.Calls.{TakesSamples}
-use Rattle.tdf_convert.specs.declared.outputs.Traced.{Traced}
-use Rattle.tdf_fixed.specs.declared.raw.Raw.{Raw}
+use Rattle.tdf_traced.specs.low.convert.declared.outputs.Traced.{Traced}
+use Rattle.tdf_traced.specs.low.fixed.declared.raw.Raw.{Raw}
 use Rattle.tdf_shown.proofs.initials.give_one.Goals as goal
 use Rattle.tdf_shown.specs.machine.Giving.{initials_of, traced_with}
 

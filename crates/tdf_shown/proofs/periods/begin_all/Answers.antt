@@ -6,7 +6,7 @@ use Rattle.tdf_shown.proofs.periods.begin_all.Goals.{then-since-place+in_ok-begi
 use Rattle.tdf_columns.specs.Tracked.{TrackingOf}
 use Rattle.tdf_shown.specs.Periods.{ClockAt, begins, clock_at}
 use Rattle.tdf_shown.specs.machine.Beginning.{IsBeginning}
-use Rattle.tdf_trace.specs.Stands.{TraceSeen}
+use Rattle.tdf_columns.specs.low.trace.Stands.{TraceSeen}
 use Rattle.tdf_shown.specs.declared.signals.TracedSignal.{TracedSignal}
 
 pub begin_one-requires-clause-can : goal.begin_one-requires-clause-can

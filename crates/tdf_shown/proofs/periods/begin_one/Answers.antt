@@ -1,6 +1,6 @@
 use Rattle.std.proofs.Common.{◌/◌, OnOk, subst}
 use Rattle.tdf_columns.specs.Calls.{TakesPeriod}
-use Rattle.tdf_rows.specs.Positions.{span_of}
+use Rattle.tdf_traced.specs.low.rows.Positions.{span_of}
 use Rattle.tdf_shown.proofs.periods.begin_one.Goals as goal
 
 pub returns-clause-took : goal.returns-clause-took

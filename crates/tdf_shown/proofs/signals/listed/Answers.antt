@@ -1,9 +1,9 @@
 use Rattle.std.proofs.Common.{rules, ◌≡◌, ◌-◌, ◌<◌, ◌∙◌, Some, length, slice_get, refl, ap, sym, subst}
 use Rattle.std.proofs.lemmas.Option.{slice_get_read, slice_get_within}
-use Rattle.tdf_flow.proofs.Api.{some_same}
+use Rattle.tdf_traced.proofs.Api.{some_same}
 use Rattle.tdf_shown.proofs.Pushing.{cluster_at, listed_is}
 use Rattle.tdf_shown.proofs.signals.listed.Goals as goal
-use Rattle.tdf_wiring.specs.declared.modules.PortRow.{PortRow}
+use Rattle.tdf_traced.specs.low.wiring.declared.modules.PortRow.{PortRow}
 
 pub returns-clause-listed : goal.returns-clause-listed
 returns-clause-listed c =

@@ -3,7 +3,7 @@ use Rattle.std.proofs.lemmas.Result.{IfOk-weaker}
 use Rattle.tdf_columns.proofs.Singles.{period_begun}
 use Rattle.tdf_columns.proofs.tracked.Tracked.begin.Goals as goal
 use Rattle.tdf_columns.specs.Tracked.{TrackedOf}
-use Rattle.tdf_rows.specs.Positions.{span_of}
+use Rattle.tdf_trace.specs.low.rows.Positions.{span_of}
 
 pub returns-clause-took : goal.returns-clause-took
 returns-clause-took c = IfOk-weaker c.catch_up.result _ _

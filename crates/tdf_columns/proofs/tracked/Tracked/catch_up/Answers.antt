@@ -4,7 +4,7 @@ use Rattle.tdf_columns.proofs.Singles.{at_same, caught_one, caught_up}
 use Rattle.tdf_columns.proofs.tracked.Tracked.catch_up.Goals as goal
 use Rattle.tdf_columns.specs.Tracked.{TrackedOf, label}
 use Rattle.tdf_columns.specs.machine.Showing.{HaveFewPlaces, IsAt}
-use Rattle.tdf_fixed.specs.declared.raw.Raw.{Raw}
+use Rattle.tdf_trace.specs.low.fixed.declared.raw.Raw.{Raw}
 
 pub returns-in-None-clause-took : goal.returns-in-None-clause-took
 returns-in-None-clause-took c = λ spans samples n cells at.

@@ -3,7 +3,7 @@ use Rattle.tdf_columns.proofs.Singles.{closed_all, closed_more, closing, still_s
 use Rattle.tdf_columns.proofs.tracked.Tracked.close.Goals as goal
 use Rattle.tdf_columns.specs.Tracked.{TrackedOf}
 use Rattle.tdf_columns.specs.machine.Showing.{ClosedTo, TakesCells}
-use Rattle.tdf_rows.specs.declared.stamps.Stamps.{Stamps}
+use Rattle.tdf_trace.specs.low.rows.declared.stamps.Stamps.{Stamps}
 
 pub loop-stamps-init : goal.loop-stamps-init
 loop-stamps-init c = record {

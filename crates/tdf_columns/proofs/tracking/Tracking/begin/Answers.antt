@@ -9,7 +9,7 @@ use Rattle.tdf_columns.specs.Calls.{HasStarted, TakesPeriod}
 use Rattle.tdf_columns.specs.Tracked.{TrackedOf, TrackingOf}
 use Rattle.tdf_columns.specs.machine.Finding.{StandsAt}
 use Rattle.tdf_columns.specs.machine.Showing.{AreColumns}
-use Rattle.tdf_rows.specs.Positions.{span_of}
+use Rattle.tdf_trace.specs.low.rows.Positions.{span_of}
 
 pub invariant_of-self : goal.invariant_of-self
 invariant_of-self c =

@@ -1,12 +1,12 @@
 use Rattle.std.proofs.Common.{◌∙◌, Ok, ap, map}
-use Rattle.tdf_convert.specs.Emitted.{write_of as write_to}
+use Rattle.tdf_linked.specs.low.convert.Emitted.{write_of as write_to}
 use Rattle.tdf_engine.proofs.Acting.{before_events, can_fire, can_settle, engine_after, ready_after, writes_room}
 use Rattle.tdf_engine.proofs.Calm.{calm_after}
 use Rattle.tdf_engine.proofs.Spending.{in_events, in_firings, same_answer}
 use Rattle.tdf_engine.specs.Crossing.{crossing_of}
 use Rattle.tdf_engine.specs.Engine.{HasBeenSpent}
 use Rattle.tdf_engine.specs.declared.crossing.Pass.TheVariants.{Done, Spent}
-use Rattle.tdf_events.specs.Kernel.{side_of}
+use Rattle.tdf_linked.specs.low.events.Kernel.{side_of}
 use Rattle.tdf_engine.proofs.engine.Engine.instant.Goals as goal
 
 pub returns-in-Spent-clause-spent : goal.returns-in-Spent-clause-spent

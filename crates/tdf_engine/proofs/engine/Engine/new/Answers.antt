@@ -1,9 +1,9 @@
 use Rattle.std.proofs.Common.{◌≡◌, List, length, subst, replicate, rules}
-use Rattle.tdf_convert.specs.declared.links.Links.{Links}
+use Rattle.tdf_linked.specs.low.convert.declared.links.Links.{Links}
 use Rattle.tdf_engine.specs.Engine.{HaveRooms}
 use Rattle.tdf_engine.specs.machine.Making.{AreGivenUpTo, AreLinkedUpTo}
-use Rattle.tdf_exec.specs.Cluster.{ClusterOf}
-use Rattle.tdf_exec.specs.Gained.{sent_size, traced_size}
+use Rattle.tdf_linked.specs.low.exec.Cluster.{ClusterOf}
+use Rattle.tdf_linked.specs.low.exec.Gained.{sent_size, traced_size}
 use Rattle.tdf_engine.proofs.Beginning.{engine_made, ready_made}
 use Rattle.tdf_engine.proofs.engine.Engine.new.Goals as goal
 

@@ -1,5 +1,5 @@
 use Rattle.std.proofs.Common.{IfSome, ◌<◌, ◌≤◌, Ok, ap, subst, refl, arith}
-use Rattle.tdf_io.proofs.Api.{counts_then}
+use Rattle.tdf_shown.proofs.Api.{counts_then}
 use Rattle.tdf_loop.proofs.Onward.{goes_quietly, goes_then}
 use Rattle.tdf_loop.proofs.Reaching.{end_then, part_then}
 use Rattle.tdf_loop.proofs.running.Running.go.Goals as goal

@@ -1,9 +1,9 @@
 use Rattle.std.proofs.Common.{◌≡◌, ◌≤◌, ◌-◌, Ok}
 use Rattle.std.specs.Prelude.{⊤}
-use Rattle.tdf_io.specs.Faults.{CountsSinkFaults}
+use Rattle.tdf_shown.specs.low.in_out.Faults.{CountsSinkFaults}
 use Rattle.tdf_loop.proofs.running.Running.go.Given as goal
 use Rattle.tdf_loop.specs.Running.{CanGoOn, GoesOn}
-use Rattle.tdf_trace.specs.declared.stage.Stage.TheVariants.{Open}
+use Rattle.tdf_shown.specs.low.trace.declared.stage.Stage.TheVariants.{Open}
 
 abbrev pub invariant-loop-ended : goal.invariant-loop-ended
 invariant-loop-ended g l = record {

@@ -1,7 +1,7 @@
 use Rattle.std.proofs.Common.{◌≡◌, ◌∙◌, ℕ, ◌<◌, ◌≤◌, Ok, ap, sym, subst, inl, inr, arith}
 use Rattle.std.proofs.lemmas.Bool.{cases_lt}
 use Rattle.tdf_engine.specs.Engine.{HasBeenSpent}
-use Rattle.tdf_history.specs.Cells.{run_cells}
+use Rattle.tdf_shown.specs.low.history.Cells.{run_cells}
 use Rattle.tdf_loop.proofs.Answering.{always_err}
 use Rattle.tdf_loop.proofs.Onward.{goes_then, waits, waits_goes, waits_later}
 use Rattle.tdf_loop.proofs.Reaching.{is_spent, part_then, part_to, reaches}
@@ -11,7 +11,7 @@ use Rattle.tdf_loop.specs.Ending.{GoesToEnd, end_from}
 use Rattle.tdf_loop.specs.Running.{CanGoOn, GoesOn}
 use Rattle.tdf_loop.specs.declared.going.Ended.TheVariants as ended
 use Rattle.tdf_loop.specs.declared.running.Running.{Running}
-use Rattle.tdf_world.specs.Rules.{rules_of}
+use Rattle.tdf_shown.specs.low.world.Rules.{rules_of}
 
 less_than : (t stop : ℕ) → t ≤ stop → (t ≡ stop → ⊥) → t < stop
 less_than t stop within other = elim (cases_lt t stop) [

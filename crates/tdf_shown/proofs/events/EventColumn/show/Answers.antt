@@ -1,6 +1,6 @@
 use Rattle.std.proofs.Common.{rules, ◌≡◌, false}
 use Rattle.std.proofs.lemmas.Result.{IfOk-weaker}
-use Rattle.tdf_history.specs.Cells.{is_same_value}
+use Rattle.tdf_traced.specs.low.history.Cells.{is_same_value}
 use Rattle.tdf_shown.proofs.Noting.{other_taken}
 use Rattle.tdf_shown.proofs.events.EventColumn.show.Goals as goal
 use Rattle.tdf_shown.specs.Events.{value_of}

@@ -2,10 +2,10 @@ use Rattle.std.proofs.Common.{rules, ◌≡◌, List, sym, subst}
 use Rattle.tdf_columns.specs.Calls.{IsFresh}
 use Rattle.tdf_shown.proofs.Columns.{can_be_traced, variables_long}
 use Rattle.tdf_shown.proofs.shown.Shown.new.Goals as goal
-use Rattle.tdf_trace.specs.Stands.{IsNew}
-use Rattle.tdf_trace.specs.Writings.{CanBeTraced, about_of}
-use Rattle.tdf_trace.specs.declared.about.Variable.{Variable}
-use Rattle.tdf_wiring.specs.declared.traces.TraceRow.{TraceRow}
+use Rattle.tdf_columns.specs.low.trace.Stands.{IsNew}
+use Rattle.tdf_columns.specs.low.trace.Writings.{CanBeTraced, about_of}
+use Rattle.tdf_columns.specs.low.trace.declared.about.Variable.{Variable}
+use Rattle.tdf_traced.specs.low.wiring.declared.traces.TraceRow.{TraceRow}
 
 pub new-requires-2 : goal.new-requires-2
 new-requires-2 c = subst CanBeTraced (sym c.in_ok-columns.ensures) (can_be_traced c.args.flat.now.tables c.requires.can)

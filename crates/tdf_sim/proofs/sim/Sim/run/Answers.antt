@@ -1,7 +1,7 @@
 use Rattle.std.proofs.Common.{◌∙◌, sym}
-use Rattle.tdf_io.proofs.Api.{front_none}
+use Rattle.tdf_loop.proofs.Api.{front_none}
 use Rattle.tdf_loop.specs.Runs.{trace_of}
-use Rattle.tdf_report.specs.Ending.{run_note}
+use Rattle.tdf_loop.specs.low.report.Ending.{run_note}
 use Rattle.tdf_sim.proofs.Running.{can_run}
 use Rattle.tdf_sim.proofs.sim.Sim.run.Goals as goal
 

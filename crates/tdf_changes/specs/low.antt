@@ -1,0 +1,23 @@
+-- What the crates further below define, for the crates above.
+pub mod base
+pub mod bind
+pub mod checks
+pub mod dynamic
+pub mod expr
+pub mod faults
+pub mod firing
+pub mod fixed
+pub mod flat
+pub mod flow
+pub mod graph
+pub mod limits
+pub mod links
+pub mod names
+pub mod roles
+pub mod schedule
+pub mod scope
+pub mod state
+pub mod streams
+pub mod tree
+pub mod walk
+pub mod wiring

@@ -1,0 +1,3 @@
+-- Definitions of tdf_checks.
+pub use Rattle.tdf_streams.specs.low.checks.Blocks
+pub use Rattle.tdf_streams.specs.low.checks.Types

@@ -1,0 +1,2 @@
+-- Definitions of tdf_names.
+pub use Rattle.tdf_streams.specs.low.names.Names

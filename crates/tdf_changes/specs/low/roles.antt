@@ -1,0 +1,2 @@
+-- Definitions of tdf_roles.
+pub use Rattle.tdf_streams.specs.low.roles.Roles

@@ -1,0 +1,22 @@
+-- What the crates further below define, for the crates above.
+pub mod balance
+pub mod base
+pub mod bind
+pub mod checks
+pub mod expr
+pub mod faults
+pub mod fixed
+pub mod flat
+pub mod graph
+pub mod links
+pub mod meaning
+pub mod names
+pub mod roles
+pub mod schedule
+pub mod scope
+pub mod state
+pub mod timestep
+pub mod tree
+pub mod walk
+pub mod widths
+pub mod wiring

@@ -1,0 +1,2 @@
+-- Definitions of tdf_balance.
+pub use Rattle.tdf_balance.specs.Laws

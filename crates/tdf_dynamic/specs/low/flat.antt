@@ -1,0 +1,4 @@
+-- Definitions of tdf_flat.
+pub use Rattle.tdf_flat.specs.Flat
+pub use Rattle.tdf_flat.specs.Laws
+pub use Rattle.tdf_flat.specs.declared

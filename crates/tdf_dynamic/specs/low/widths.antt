@@ -1,0 +1,2 @@
+-- Definitions of tdf_widths.
+pub use Rattle.tdf_flat.specs.low.widths.Bodies

@@ -1,0 +1,3 @@
+-- Definitions of tdf_base.
+pub use Rattle.tdf_flat.specs.low.base.Limits
+pub use Rattle.tdf_flat.specs.low.base.Number

@@ -1,0 +1,2 @@
+-- Definitions of tdf_convert.
+pub use Rattle.tdf_convert.specs.declared

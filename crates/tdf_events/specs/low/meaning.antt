@@ -1,0 +1,2 @@
+-- Definitions of tdf_meaning.
+pub use Rattle.tdf_flat.specs.low.meaning.Places

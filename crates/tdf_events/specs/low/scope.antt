@@ -1,0 +1,3 @@
+-- Definitions of tdf_scope.
+pub use Rattle.tdf_flat.specs.low.scope.Names
+pub use Rattle.tdf_flat.specs.low.scope.Scope

@@ -1,0 +1,4 @@
+-- Definitions of tdf_tree.
+pub use Rattle.tdf_flat.specs.low.tree.Kept
+pub use Rattle.tdf_flat.specs.low.tree.Pure
+pub use Rattle.tdf_flat.specs.low.tree.declared

@@ -1,0 +1,2 @@
+-- Definitions of tdf_wiring.
+pub use Rattle.tdf_layout.specs.low.wiring.declared

@@ -1,0 +1,19 @@
+-- What the crates further below define, for the crates above.
+pub mod base
+pub mod bind
+pub mod checks
+pub mod expr
+pub mod faults
+pub mod fixed
+pub mod graph
+pub mod links
+pub mod meaning
+pub mod names
+pub mod resolve
+pub mod roles
+pub mod scope
+pub mod state
+pub mod tree
+pub mod walk
+pub mod widths
+pub mod wiring

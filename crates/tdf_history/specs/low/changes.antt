@@ -1,0 +1,4 @@
+-- Definitions of tdf_changes.
+pub use Rattle.tdf_changes.specs.Change
+pub use Rattle.tdf_changes.specs.Laws
+pub use Rattle.tdf_changes.specs.declared

@@ -1,0 +1,24 @@
+-- What the crates further below define, for the crates above.
+pub mod base
+pub mod bind
+pub mod checks
+pub mod dynamic
+pub mod expr
+pub mod faults
+pub mod firing
+pub mod fixed
+pub mod flat
+pub mod flow
+pub mod formats
+pub mod graph
+pub mod limits
+pub mod meaning
+pub mod rings
+pub mod schedule
+pub mod scope
+pub mod state
+pub mod streams
+pub mod timestep
+pub mod tree
+pub mod widths
+pub mod wiring

@@ -1,0 +1,2 @@
+-- Definitions of tdf_faults.
+pub use Rattle.tdf_streams.specs.low.faults.First

@@ -1,0 +1,2 @@
+-- Definitions of tdf_base.
+pub use Rattle.tdf_flat.specs.low.base.Number

@@ -1,0 +1,3 @@
+-- Definitions of tdf_fixed.
+pub use Rattle.tdf_flat.specs.low.fixed.Overflow
+pub use Rattle.tdf_flat.specs.low.fixed.declared

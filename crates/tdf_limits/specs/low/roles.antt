@@ -1,0 +1,2 @@
+-- Definitions of tdf_roles.
+pub use Rattle.tdf_flat.specs.low.roles.Roles

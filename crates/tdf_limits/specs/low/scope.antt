@@ -1,0 +1,4 @@
+-- Definitions of tdf_scope.
+pub use Rattle.tdf_flat.specs.low.scope.Names
+pub use Rattle.tdf_flat.specs.low.scope.Scope
+pub use Rattle.tdf_flat.specs.low.scope.Sound

@@ -1,0 +1,21 @@
+-- What the crates further below define, for the crates above.
+pub mod base
+pub mod bind
+pub mod calendar
+pub mod changes
+pub mod convert
+pub mod dynamic
+pub mod events
+pub mod exec
+pub mod expr
+pub mod fixed
+pub mod flat
+pub mod formats
+pub mod graph
+pub mod history
+pub mod instants
+pub mod limits
+pub mod run
+pub mod schedule
+pub mod tree
+pub mod world

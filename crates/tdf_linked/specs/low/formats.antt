@@ -1,0 +1,2 @@
+-- Definitions of tdf_formats.
+pub use Rattle.tdf_run.specs.low.formats.Formats

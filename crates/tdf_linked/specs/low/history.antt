@@ -1,0 +1,3 @@
+-- Definitions of tdf_history.
+pub use Rattle.tdf_run.specs.low.history.Instant
+pub use Rattle.tdf_run.specs.low.history.World

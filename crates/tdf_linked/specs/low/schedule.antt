@@ -1,0 +1,2 @@
+-- Definitions of tdf_schedule.
+pub use Rattle.tdf_run.specs.low.schedule.declared

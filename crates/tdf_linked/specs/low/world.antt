@@ -1,0 +1,2 @@
+-- Definitions of tdf_world.
+pub use Rattle.tdf_world.specs.Rules

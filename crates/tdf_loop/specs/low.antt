@@ -1,0 +1,25 @@
+-- What the crates further below define, for the crates above.
+pub mod base
+pub mod bind
+pub mod checks
+pub mod dynamic
+pub mod expr
+pub mod faults
+pub mod flat
+pub mod formats
+pub mod graph
+pub mod history
+pub mod in_out
+pub mod limits
+pub mod links
+pub mod names
+pub mod notes
+pub mod report
+pub mod schedule
+pub mod scope
+pub mod streams
+pub mod trace
+pub mod tree
+pub mod wiring
+pub mod words
+pub mod world

@@ -1,0 +1,2 @@
+-- Definitions of tdf_history.
+pub use Rattle.tdf_shown.specs.low.history.Texts

@@ -1,0 +1,22 @@
+-- What the crates further below define, for the crates above.
+pub mod bind
+pub mod calendar
+pub mod convert
+pub mod dynamic
+pub mod events
+pub mod expr
+pub mod firing
+pub mod fixed
+pub mod flat
+pub mod flow
+pub mod graph
+pub mod history
+pub mod instants
+pub mod notes
+pub mod rows
+pub mod scope
+pub mod state
+pub mod streams
+pub mod tree
+pub mod wiring
+pub mod world

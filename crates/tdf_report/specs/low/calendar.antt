@@ -1,0 +1,2 @@
+-- Definitions of tdf_calendar.
+pub use Rattle.tdf_world.specs.low.calendar.Evaluation

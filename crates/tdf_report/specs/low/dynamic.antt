@@ -1,0 +1,3 @@
+-- Definitions of tdf_dynamic.
+pub use Rattle.tdf_world.specs.low.dynamic.Attributes
+pub use Rattle.tdf_world.specs.low.dynamic.declared

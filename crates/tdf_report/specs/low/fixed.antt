@@ -1,0 +1,2 @@
+-- Definitions of tdf_fixed.
+pub use Rattle.tdf_world.specs.low.fixed.declared

@@ -1,0 +1,3 @@
+-- Definitions of tdf_flow.
+pub use Rattle.tdf_world.specs.low.flow.Grounds
+pub use Rattle.tdf_world.specs.low.flow.Streams

@@ -1,0 +1,2 @@
+-- Definitions of tdf_tree.
+pub use Rattle.tdf_world.specs.low.tree.Pure

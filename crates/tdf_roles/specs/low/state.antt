@@ -1,0 +1,2 @@
+-- Definitions of tdf_state.
+pub use Rattle.tdf_bodies.specs.low.state.State

@@ -1,0 +1,7 @@
+-- Definitions of tdf_expr.
+pub use Rattle.tdf_history.specs.low.expr.Blocks
+pub use Rattle.tdf_history.specs.low.expr.Checked
+pub use Rattle.tdf_history.specs.low.expr.Compiled
+pub use Rattle.tdf_history.specs.low.expr.Frames
+pub use Rattle.tdf_history.specs.low.expr.Made
+pub use Rattle.tdf_history.specs.low.expr.declared

@@ -1,0 +1,2 @@
+-- Definitions of tdf_names.
+pub use Rattle.tdf_history.specs.low.names.Names

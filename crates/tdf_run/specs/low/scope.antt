@@ -1,0 +1,2 @@
+-- Definitions of tdf_scope.
+pub use Rattle.tdf_history.specs.low.scope.Names

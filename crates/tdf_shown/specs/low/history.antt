@@ -1,0 +1,5 @@
+-- Definitions of tdf_history.
+pub use Rattle.tdf_traced.specs.low.history.Cells
+pub use Rattle.tdf_traced.specs.low.history.Instant
+pub use Rattle.tdf_traced.specs.low.history.Texts
+pub use Rattle.tdf_traced.specs.low.history.World

@@ -1,0 +1,3 @@
+-- Definitions of tdf_fixed.
+pub use Rattle.tdf_run.specs.low.fixed.Cast
+pub use Rattle.tdf_run.specs.low.fixed.declared

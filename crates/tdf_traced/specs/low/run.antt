@@ -1,0 +1,4 @@
+-- Definitions of tdf_run.
+pub use Rattle.tdf_run.specs.At
+pub use Rattle.tdf_run.specs.Begun
+pub use Rattle.tdf_run.specs.Pass

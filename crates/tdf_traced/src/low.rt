@@ -1,0 +1,73 @@
+//! What the crates above use of the crates further below.
+
+pub mod base {
+    pub use tdf_run::low::base::{
+        Code, Fault, LONGEST_TEXT, Memory, Name, Place, Resolution, TIME_END, push_fault,
+    };
+}
+
+pub mod bind {
+    pub use tdf_run::low::bind::{BindErr, Flat};
+}
+
+pub mod convert {
+    pub use tdf_run::low::convert::Traced;
+}
+
+pub mod dynamic {
+    pub use tdf_run::low::dynamic::{
+        ChangeErr, First, first_plan, law_numbers, law_one_plan, law_plannable,
+    };
+}
+
+pub mod exec {
+    pub use tdf_run::low::exec::Cluster;
+}
+
+pub mod expr {
+    pub use tdf_run::low::expr::{Checked, check_bodies};
+}
+
+pub mod faults {
+    pub use tdf_run::low::faults::TypeErr;
+}
+
+pub mod fixed {
+    pub use tdf_run::low::fixed::Raw;
+}
+
+pub mod flat {
+    pub use tdf_run::low::flat::{Flat, flatten};
+}
+
+pub mod formats {
+    pub use tdf_run::low::formats::law_formats;
+}
+
+pub mod layout {
+    pub use tdf_run::low::layout::{initial_samples, law_one_port};
+}
+
+pub mod limits {
+    pub use tdf_run::low::limits::law_limits;
+}
+
+pub mod names {
+    pub use tdf_run::low::names::check_names;
+}
+
+pub mod notes {
+    pub use tdf_run::low::notes::{push_accepted, push_fires, push_plan};
+}
+
+pub mod rows {
+    pub use tdf_run::low::rows::Cell;
+}
+
+pub mod tree {
+    pub use tdf_run::low::tree::Tree;
+}
+
+pub mod wiring {
+    pub use tdf_run::low::wiring::{EdgeRow, SignalRow, TraceRow};
+}

@@ -1,0 +1,2 @@
+-- Definitions of tdf_firing.
+pub use Rattle.tdf_history.specs.low.firing.Activation

@@ -1,0 +1,2 @@
+-- Definitions of tdf_instants.
+pub use Rattle.tdf_history.specs.low.instants.History

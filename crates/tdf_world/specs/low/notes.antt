@@ -1,0 +1,2 @@
+-- Definitions of tdf_notes.
+pub use Rattle.tdf_history.specs.low.notes.Plans
