@@ -5,17 +5,17 @@ use Rattle.std.proofs.lemmas.Bool.{cases_lt, eq-eqb, ne_eqb}
 use Rattle.std.proofs.lemmas.Option.{slice_get_past, slice_get_within}
 use Rattle.tdf_engine.specs.Crossing.{CrossingOf, EndingAt, HasCrossed, HasEnding, HasGoneOn, HasNoTurn, HaveCrossed, IsEndingOf, is_ending}
 use Rattle.tdf_engine.specs.CrossingLaws.{Becomes, CrossesAlong, CrossingEndsSpent, CrossingGoesAlong, world_crossed}
+use Rattle.tdf_linked.specs.low.changes.declared.next.Next.TheVariants as answer
 use Rattle.tdf_linked.specs.low.exec.Cluster.{ClusterOf, next_offset, offset_in}
 use Rattle.tdf_linked.specs.low.expr.Checked.{IsCheckedOf}
 use Rattle.tdf_linked.specs.low.flat.declared.model.Flat.{Flat}
 use Rattle.tdf_linked.proofs.Api.{get_inside, some_same}
-use Rattle.tdf_linked.specs.low.history.Instant.{RunFault, boundary, boundary_of, changed_by, is_over, with_cluster}
+use Rattle.tdf_linked.specs.low.history.Instant.{RunFault, boundary, boundary_of, changed_by, is_over, with_cluster, with_same}
 use Rattle.tdf_linked.specs.low.history.World.{Change, ClusterAt, Same, World, next_change}
 use Rattle.tdf_linked.proofs.Api.{turns_more, turns_none, turns_past}
 use Rattle.tdf_linked.specs.low.instants.History.{Step, Going, Past, turns_to}
 use Rattle.tdf_linked.proofs.Api.{boundary_at, get_set_other, same_or_not, set_is, set_own}
 use Rattle.tdf_linked.specs.low.run.At.{IsAt}
-use Rattle.tdf_linked.specs.low.run.Boundary.{after_boundary}
 use Rattle.tdf_linked.specs.low.run.Pass.{AreAt}
 use Rattle.tdf_linked.specs.low.tree.Pure.{PureTree}
 
@@ -49,7 +49,7 @@ module _ {K : Type 0} (flat : Flat) (time n : ℕ) (h : ClusterAt) (v : World K)
   pub goes_on : is_over time h ≡ false → boundary flat.tables time n v ≡ Going v
   goes_on going = at_it false going
 
-  pub crosses_over : h.ahead ≡ [] → is_over time h ≡ true → 0 < v.left → boundary flat.tables time n v ≡ Going (with_cluster n (after_boundary time h) v)
+  pub crosses_over : h.ahead ≡ [] → is_over time h ≡ true → 0 < v.left → boundary flat.tables time n v ≡ Going (with_cluster n (with_same time h.now.info.table h) v)
   crosses_over none over some = at_it true over ∙ ap if_none (ne_eqb v.left 0 (λ e. omega (arith, some, e)))
       ∙ ap (λ (a : List Change). changed_by flat.tables time n h (slice_index_or a 0 (Same h.now.info.table)) v) none
 
@@ -142,8 +142,10 @@ module _ {K : Type 0} (model : PureTree) (flat : Flat) (time : ℕ) (w : World K
         let h = there turn.before is.before in
         let at = p.at.each n h.0 turn.before h.1 is.before in
         let over = sym (ending_over model flat (n + 1) time turn.since h.0 turn.before at (p.at.begun n turn.since h.0 h.1 is.since)) ∙ crossed.over in
-        let next = boundary_at model flat (n + 1) time h.0 turn.before crossed.between turn.after at crossed.passed checked in
-        let after = after_boundary time h.0 in
+        let after = with_same time h.0.now.info.table h.0 in
+        let table : crossed.between.table ≡ h.0.now.info.table = ap (λ (z : ClusterOf). z.table) crossed.unchanged ∙ at.table_is in
+        let next = subst (λ t. IsAt model flat (n + 1) (with_same time t h.0) turn.after) table
+        (boundary_at model flat (n + 1) time h.0 answer.Same turn.before crossed.between turn.after checked at crossed.passed) in
         record {
           clusters = set p.clusters n after;
           at = subst (λ l. AreAt model flat l (set p.clusters n after) y.clusters) (sym is.begun)

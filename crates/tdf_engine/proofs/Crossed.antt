@@ -30,7 +30,7 @@ module _ (flat : Flat) (time : ℕ) (x : CrossingOf) where
   -- what the turn of cluster n made of it
   turned : (n : ℕ) (mid y : CrossingOf) → HasEnding flat time n mid y → (turn : EndingAt) × IsEndingOf n mid y turn × Crosses flat time turn.before turn.after turn.since turn.begun
   turned n mid y (HasEnding.Open turn is gone) = (turn, is, Crosses.Stays gone.going gone.same gone.kept)
-  turned n mid y (HasEnding.Over turn is crossed) = (turn, is, Crosses.Begins (at_head turn.before crossed.between turn.after crossed.passed.crossed_is crossed.passed.begun) crossed.passed.of crossed.now)
+  turned n mid y (HasEnding.Over turn is crossed) = (turn, is, Crosses.Begins (at_head turn.before crossed.between turn.after crossed.unchanged crossed.passed.begun) crossed.passed.of crossed.now)
 
   abbrev From : (m t : ℕ) → ClusterOf → Type 0
   From m t d = (c : ClusterOf) × (s : ℕ) × (slice_get x.clusters m ≡ Some c) × (slice_get x.since m ≡ Some s) × Crosses flat time c d s t

@@ -4,7 +4,8 @@
 use Rattle.std.specs.Prelude.{◌≡◌, ◌<◌, ◌≤◌, ◌+◌, ◌-◌, ◌&&◌, ℕ, zero, suc, Bool, true, false, List}
 use Rattle.std.specs.Prelude.{Some, is_none, length, nat_eq, slice_get, slice_set}
 use Rattle.tdf_linked.specs.low.exec.Cluster.{ClusterOf, next_offset}
-use Rattle.tdf_linked.specs.low.exec.Crossing.{HasNoChanges}
+use Rattle.tdf_linked.specs.low.changes.declared.next.Next.TheVariants.{Same}
+use Rattle.tdf_linked.specs.low.exec.Crossing.{HasNoChanges, at_place}
 use Rattle.tdf_linked.specs.low.exec.Made.{IsClusterOf}
 use Rattle.tdf_linked.specs.low.flat.declared.model.Flat.{Flat}
 use Rattle.tdf_linked.specs.low.run.Boundary.{HasPassedBoundary}
@@ -52,7 +53,8 @@ pub record HasCrossed (flat : Flat) (time : ℕ) (turn : EndingAt) (left rest : 
   pub over : is_ending time turn.since turn.before ≡ true
   pub some : 0 < left
   pub between : ClusterOf
-  pub passed : HasPassedBoundary flat turn.before between turn.after
+  pub unchanged : between ≡ at_place turn.before turn.before.place true
+  pub passed : HasPassedBoundary flat Same turn.before between turn.after
   pub now : turn.begun ≡ time
   pub turns : rest ≡ left - 1
 

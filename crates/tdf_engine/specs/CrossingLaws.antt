@@ -5,17 +5,16 @@ use Rattle.tdf_engine.specs.Crossing.{CrossingOf, HasNoTurn, HaveCrossed}
 use Rattle.tdf_linked.specs.low.events.Side.{SideOf}
 use Rattle.tdf_linked.specs.low.expr.Checked.{IsCheckedOf}
 use Rattle.tdf_linked.specs.low.flat.declared.model.Flat.{Flat}
-use Rattle.tdf_linked.specs.low.history.Instant.{boundary, is_over}
+use Rattle.tdf_linked.specs.low.history.Instant.{boundary, is_over, with_same}
 use Rattle.tdf_linked.specs.low.history.World.{ClusterAt, World}
 use Rattle.tdf_linked.specs.low.instants.History.{Going, Past, turns_to}
-use Rattle.tdf_linked.specs.low.run.Boundary.{after_boundary}
 use Rattle.tdf_linked.specs.low.run.Pass.{AreAt}
 use Rattle.tdf_linked.specs.low.tree.Pure.{PureTree}
 
 -- a cluster of the history after its boundary at a time: it is as it was, or its next period began
 pub data Becomes (time : ℕ) (h g : ClusterAt) : Type 0 where
   Stayed : is_over time h ≡ false → g ≡ h → Becomes time h g
-  Began : is_over time h ≡ true → g ≡ after_boundary time h → Becomes time h g
+  Began : is_over time h ≡ true → g ≡ with_same time h.now.info.table h → Becomes time h g
 
 module _ {K : Type 0} where
   abbrev pub world_crossed : World K → List ClusterAt → (left : ℕ) → World K

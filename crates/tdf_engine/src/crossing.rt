@@ -14,7 +14,8 @@ ghost use Rattle.tdf_engine.specs.Crossing.{CanCross, HasCrossed, HasGoneOn, Has
 ghost use Rattle.tdf_engine.specs.Crossing.{crossing_of, ending_at, is_ending};
 ghost use Rattle.tdf_engine.specs.declared.crossing.Pass.TheVariants.{Done, Spent};
 ghost use Rattle.tdf_linked.specs.low.exec.Cluster.{ClusterOf, next_offset};
-ghost use Rattle.tdf_linked.specs.low.exec.Crossing.{HasNoChanges};
+ghost use Rattle.tdf_linked.specs.low.changes.declared.next.Next.TheVariants.{Same};
+ghost use Rattle.tdf_linked.specs.low.exec.Crossing.{HasNoChanges, at_place};
 ghost use Rattle.tdf_linked.specs.low.exec.Made.{IsClusterOf};
 ghost use Rattle.tdf_linked.specs.low.exec.Starts.{IsSoundFlat};
 ghost use Rattle.tdf_linked.specs.low.run.Boundary.{HasPassedBoundary};
@@ -42,7 +43,9 @@ fn begin_next(alloc: Global, flat: &Flat, cluster: &mut Cluster) -> Result<(), M
     requires over { next_offset cluster.old ≡ None }
     requires going { cluster.old.crossed ≡ false }
     requires still { HasNoChanges flat.now.tables cluster.old.number }
-    ensures { OnOk result ((between : ClusterOf) × HasPassedBoundary flat.now cluster.old between cluster.new) }
+    ensures { OnOk result ((between : ClusterOf)
+        × (between ≡ at_place cluster.old cluster.old.place true)
+        × HasPassedBoundary flat.now Same cluster.old between cluster.new) }
 {
     match cluster.boundary(alloc, flat) {
         Ok(next) => cluster.install(alloc, flat, next),

@@ -1,5 +1,5 @@
 -- The two ends of a boundary: no module of the cluster has changes, or one has.
-use Rattle.std.proofs.Common.{◌≡◌, ◌∙◌, ℕ, true, false, Some, None, refl, sym, ap}
+use Rattle.std.proofs.Common.{◌≡◌, ◌∙◌, ℕ, ℤ, true, false, List, Some, None, refl, sym, ap, subst}
 use Rattle.std.specs.Prelude.{slice_get}
 use Rattle.tdf_changes.specs.Change.{IsChangeFault, IsSame, asks_of, table_after}
 use Rattle.tdf_layout.specs.low.base.declared.faults.Fault.{Fault}
@@ -10,10 +10,11 @@ use Rattle.tdf_exec.proofs.Crosses.{crosses, of_crossed}
 use Rattle.tdf_exec.proofs.Kept.{true_false}
 use Rattle.tdf_exec.proofs.Nexts.{like_self}
 use Rattle.tdf_exec.specs.Cluster.{ClusterOf, next_offset}
-use Rattle.tdf_exec.specs.Crossing.{CrossesFrom, HasCrossed, HasNoChanges, at_place, values_at}
+use Rattle.tdf_exec.specs.Crossing.{CrossesFrom, HasCrossed, HasNoChanges, at_place}
 use Rattle.tdf_exec.specs.Made.{IsClusterOf}
 use Rattle.tdf_exec.specs.machine.Laid.{IsLaid}
 use Rattle.tdf_layout.specs.low.flat.declared.model.Flat.{Flat}
+use Rattle.tdf_layout.specs.low.streams.Periods.{AreAttributes}
 use Rattle.tdf_layout.specs.low.streams.Places.{has_changes}
 use Rattle.tdf_layout.specs.low.tree.Pure.{PureTree}
 
@@ -25,8 +26,11 @@ module _ (flat : Flat) (c : ClusterOf) (laid : IsLaid flat) (of : IsClusterOf fl
         let r = of.rows.each m below own in
         ap (has_changes flat.tables.modules) (sym r.3) ∙ none r.0 r.1 r.2
 
-    pub still_next : (model : PureTree) → IsSame (asks_of model flat (values_at c.runners)) c.table × (c.table ≡ table_after (asks_of model flat (values_at c.runners)) c.table)
-    still_next model = (still_same flat model (values_at c.runners) c.table none, still_table flat model (values_at c.runners) c.table none)
+    pub still_next : (model : PureTree) (cells : ℕ → List ℤ) → IsSame (asks_of model flat cells) c.table × (c.table ≡ table_after (asks_of model flat cells) c.table)
+    still_next model cells = (still_same flat model cells c.table none, still_table flat model cells c.table none)
+
+    pub still_after : (model : PureTree) (cells : ℕ → List ℤ) → AreAttributes flat c.number (table_after (asks_of model flat cells) c.table)
+    still_after model cells = subst (AreAttributes flat c.number) (still_next model cells).1 of.attributes
 
     pub still_crossed : HasCrossed c (at_place c c.place true)
     still_crossed = record {
@@ -43,8 +47,8 @@ module _ (flat : Flat) (c : ClusterOf) (laid : IsLaid flat) (of : IsClusterOf fl
     pub still_of : IsClusterOf flat (at_place c c.place true)
     still_of = of_crossed flat c.table c true of end
 
-    pub no_fault : {P : Type 0} (model : PureTree) (fault : Fault) → IsChangeFault flat.tables c.number (asks_of model flat (values_at c.runners)) c.table fault → P
-    no_fault model fault is = absurd (is.differs (still_next model).0)
+    pub no_fault : {P : Type 0} (model : PureTree) (cells : ℕ → List ℤ) (fault : Fault) → IsChangeFault flat.tables c.number (asks_of model flat cells) c.table fault → P
+    no_fault model cells fault is = absurd (is.differs (still_next model cells).0)
 
   -- one is
   pub not_still : {P : Type 0} (i : ℕ) (a : AttrsOf) → slice_get c.table i ≡ Some a → has_changes flat.tables.modules a.number ≡ true → HasNoChanges flat.tables c.number → P

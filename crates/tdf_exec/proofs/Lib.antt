@@ -23,7 +23,7 @@ mod Moved
 mod Moves
 mod Nexts
 mod Planned
-mod Playing
+pub mod Playing
 mod Rates
 mod Restarts
 mod Rows

@@ -1,5 +1,5 @@
 -- The instances of modules go into a list, and come back.
-use Rattle.std.proofs.Common.{◌≡◌, ◌∙◌, ◌≢◌, ℕ, zero, suc, ◌+◌, ◌-◌, ◌<◌, ◌≤◌, List, [], ◌∷◌, ◌++◌, Some, option_map, Result, Ok, Err, OnErr}
+use Rattle.std.proofs.Common.{◌≡◌, ◌∙◌, ◌≢◌, ℕ, ℤ, zero, suc, ◌+◌, ◌-◌, ◌<◌, ◌≤◌, List, [], ◌∷◌, ◌++◌, Some, option_map, Result, Ok, Err, OnErr}
 use Rattle.std.proofs.Common.{length, length-append, length-set, take, refl, sym, ap, subst, inl, inr, ◌⊎◌, arith}
 use Rattle.std.proofs.lemmas.Bool.{cases_eq, cases_lt}
 use Rattle.std.proofs.lemmas.List.{length-map}
@@ -18,11 +18,11 @@ use Rattle.tdf_layout.specs.low.dynamic.Attributes.{AttrsOf}
 use Rattle.tdf_layout.specs.low.dynamic.declared.err.ChangeErr.{ChangeErr}
 use Rattle.tdf_exec.proofs.Keeping.{get_set, get_set_other}
 use Rattle.tdf_exec.proofs.Moved.{some_inj}
-use Rattle.tdf_exec.specs.Crossing.{cells_in, values_at}
+use Rattle.tdf_exec.specs.Crossing.{cells_in}
 use Rattle.tdf_exec.specs.Runners.{ModuleOf}
 use Rattle.tdf_exec.specs.declared.runners.Runner.{Runner}
 use Rattle.tdf_exec.specs.declared.runners.Runner.TheVariants as runner
-use Rattle.tdf_exec.specs.machine.Moving.{AreBack, AreInstances, AreModules, AreOut, HaveInstances, IsNone, RestOf, frame_of, numbers_of, rest_of, whole_of}
+use Rattle.tdf_exec.specs.machine.Moving.{AreBack, AreInstances, AreModules, AreOut, AreValues, HaveInstances, IsNone, RestOf, frame_of, numbers_of, rest_of, whole_of}
 use Rattle.tdf_layout.specs.low.flat.declared.model.Flat.{Flat}
 use Rattle.tdf_layout.proofs.Api.{get_high, get_inside, get_low}
 
@@ -199,11 +199,11 @@ module _ (flat : Flat) (table : List AttrsOf) (old mid : List Runner) (frames : 
         subst (IsFrameOf flat a) s.is (record { made = inst.made i a s.x at s.there; rates = inst.rates i a s.x at s.there });
   }
 
-  pub have_cells : HaveCells table frames (values_at old)
-  have_cells = record {
+  pub have_cells : (cells : ℕ → List ℤ) → AreValues table old cells → HaveCells table frames cells
+  have_cells cells are = record {
     each = λ i a f at f_at.
         let s = stands_for i a f at f_at in
-        ap (λ (g : ModuleFrame). g.frame.state.cells) (sym s.is) ∙ sym (ap cells_in s.there);
+        ap (λ (g : ModuleFrame). g.frame.state.cells) (sym s.is) ∙ sym (ap cells_in s.there) ∙ sym (are i a at);
   }
 
 -- a boundary leaves the numbers of a table

@@ -44,10 +44,15 @@ cells_in (Some r) = cells_of r
 abbrev pub values_at : List Runner → ℕ → List ℤ
 values_at runners m = cells_in (slice_get runners m)
 
+-- these are the values of the modules of the cluster, by number
+pub record AreCellsOf (c : ClusterOf) (cells : ℕ → List ℤ) : Type 0 where
+  pub each : (i : ℕ) (attrs : AttrsOf) → slice_get c.table i ≡ Some attrs
+      → cells attrs.number ≡ values_at c.runners attrs.number
+
 -- for what the modules of the cluster ask for, by each model that the bodies are of
 abbrev pub WhenItAsks : Flat → ClusterOf → (Asks → Type 0) → Type 0
-WhenItAsks flat c P = (model : PureTree) → IsCheckedOf model flat.checked
-    → P (asks_of model flat (values_at c.runners))
+WhenItAsks flat c P = (model : PureTree) (cells : ℕ → List ℤ) → IsCheckedOf model flat.checked
+    → AreCellsOf c cells → P (asks_of model flat cells)
 
 -- the cluster has crossed: beside that, only the flags of its table have changed, and the values
 -- and ports of its modules

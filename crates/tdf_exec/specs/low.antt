@@ -1,4 +1,5 @@
 -- What the crates further below define, for the crates above.
+pub mod changes
 pub mod convert
 pub mod dynamic
 pub mod flat

@@ -83,21 +83,21 @@ impl Spare {
         requires modules { AreModules (numbers_of attrs.old) runners.old.items }
         requires instances { AreInstances flat.now attrs.old runners.old.items }
         requires room { length attrs.old ≤ self.old }
-        ensures next { WhenTheyAsk flat.now runners.old.items (λ asks.
+        ensures next { WhenTheyAsk flat.now attrs.old runners.old.items (λ asks.
             IfOk result (IsNext flat.now.tables cluster asks attrs.old attrs.new)) }
-        ensures refused { WhenTheyAsk flat.now runners.old.items (λ asks.
+        ensures refused { WhenTheyAsk flat.now attrs.old runners.old.items (λ asks.
             IfErr result (IsRefusal (IsChangeFault flat.now.tables cluster asks attrs.old))) }
         ensures kept { OnErr result (attrs.new ≡ attrs.old) }
-        ensures after { WhenTheyAsk flat.now runners.old.items (λ asks.
+        ensures after { WhenTheyAsk flat.now attrs.old runners.old.items (λ asks.
             AreAttributes flat.now cluster (table_after asks attrs.old)) }
-        ensures moved { WhenTheyAsk flat.now runners.old.items (λ asks.
+        ensures moved { WhenTheyAsk flat.now attrs.old runners.old.items (λ asks.
             HaveMoved flat.now asks attrs.old runners.old.items runners.new.items) }
-        ensures same_always { WhenTheyAsk flat.now runners.old.items (λ asks.
+        ensures same_always { WhenTheyAsk flat.now attrs.old runners.old.items (λ asks.
             IsSame asks attrs.old → result ≡ Ok Same) }
-        ensures refused_always { WhenTheyAsk flat.now runners.old.items (λ asks.
+        ensures refused_always { WhenTheyAsk flat.now attrs.old runners.old.items (λ asks.
             (fault : FaultOf) → IsChangeFault flat.now.tables cluster asks attrs.old fault
             → (result ≡ Err (Refused fault)) ⊎ (result ≡ Err NoMemory)) }
-        ensures new_always { WhenTheyAsk flat.now runners.old.items (λ asks.
+        ensures new_always { WhenTheyAsk flat.now attrs.old runners.old.items (λ asks.
             (plan : PlanOf) → IsNewPlan flat.now.tables cluster asks attrs.old plan
             → IsOk result ⊎ (result ≡ Err NoMemory)) }
         ensures room { self.old ≤ self.new }

@@ -2,7 +2,7 @@
 
 ghost use Rattle.std.specs.Prelude.{◌≡◌, ◌⊎◌, ◌<◌, ℕ, All, Err, IfErr, IfOk, IsOk, None, Ok, OnErr, OnOk, Some, false, length, slice_get, true};
 ghost use Rattle.tdf_layout.specs.low.base.declared.faults.Fault.{Fault as FaultOf};
-ghost use Rattle.tdf_changes.specs.Change.{IsChangeFault, IsNewPlan, IsSame};
+ghost use Rattle.tdf_changes.specs.Change.{IsChangeFault, IsNewPlan, IsSame, table_after};
 ghost use Rattle.tdf_changes.specs.Next.{IsNext};
 ghost use Rattle.tdf_changes.specs.declared.next.Next.TheVariants.{Same};
 ghost use Rattle.tdf_layout.specs.low.dynamic.Attributes.{AttrsOf};
@@ -13,6 +13,7 @@ ghost use Rattle.tdf_exec.specs.Crossing.{CanInstall, CrossesFrom, HasBegun, Has
 ghost use Rattle.tdf_exec.specs.Made.{IsClusterOf};
 ghost use Rattle.tdf_exec.specs.Starts.{IsSoundFlat};
 ghost use Rattle.tdf_layout.specs.low.schedule.declared.entry.Plan.{Plan as PlanOf};
+ghost use Rattle.tdf_layout.specs.low.streams.Periods.{AreAttributes};
 ghost use Rattle.tdf_layout.specs.low.streams.Places.{has_changes};
 
 use crate::cluster::Cluster;
@@ -64,6 +65,8 @@ impl Cluster {
         ensures refused { WhenItAsks flat.now self.old (λ asks. IfErr result
             (IsRefusal (IsChangeFault flat.now.tables self.old.number asks self.old.table))) }
         ensures kept { OnErr result (self.new.table ≡ self.old.table) }
+        ensures after { WhenItAsks flat.now self.old (λ asks.
+            AreAttributes flat.now self.old.number (table_after asks self.old.table)) }
         ensures heads { HoldHeads flat.now.tables self.old }
         ensures crossed { HasCrossed self.old self.new }
         ensures crosses { CrossesFrom flat.now self.old self.new }

@@ -37,7 +37,7 @@ use tdf_convert::{Inputs, Links, sample_due};
 use tdf_layout::low::base::Memory;
 use tdf_layout::low::fixed::Raw;
 use tdf_layout::low::flat::Flat;
-use tdf_layout::low::schedule::Entry;
+use tdf_layout::low::schedule::{Entry, Plan};
 
 /// A sum, if it has 32 bits.
 fn sum(a: u32, b: u32) -> Result<u32, Memory>
@@ -166,6 +166,15 @@ impl Cluster {
         ensures { result ≡ self.now.period }
     {
         self.plan.period
+    }
+
+    /// The plan in force.
+    pub fn plan(&self) -> &Plan
+        ensures entries { result.now.entries.items ≡ self.now.entries }
+        ensures bounds { result.now.bounds.items ≡ self.now.bounds }
+        ensures period { result.now.period ≡ self.now.period }
+    {
+        &self.plan
     }
 
     /// How many entries of the plan are of an actor.

@@ -1,4 +1,5 @@
 pub mod Along
+pub mod Answering
 pub mod Api
 pub mod Arriving
 pub mod Beginning

@@ -10,6 +10,10 @@ pub mod bind {
     pub use tdf_history::low::bind::{ActorRow, BindErr, Flat};
 }
 
+pub mod changes {
+    pub use tdf_exec::low::changes::Next;
+}
+
 pub mod convert {
     pub use tdf_exec::low::convert::{
         Inputs, Links, Outputs, SignalWrite, Traced, Writes, emit_due, law_by_offset,

@@ -1,7 +1,7 @@
 //! What holds of the periods of a cluster: each function here only carries its clauses.
 
 ghost use Rattle.tdf_run.specs.Begun.{AllStartsAreAt, StartsAreAt};
-ghost use Rattle.tdf_run.specs.Boundary.{BoundariesKeepAt, NewPeriodsAreWhole};
+ghost use Rattle.tdf_run.specs.Boundary.{AnswersLead, BoundariesKeepAt, NewPeriodsAreWhole};
 
 /// A cluster in progress that has just been made: it is what the history begins with.
 pub fn law_start()
@@ -9,9 +9,11 @@ pub fn law_start()
     ensures all { AllStartsAreAt }
 {}
 
-/// A boundary of a cluster that changes nothing: it stays what the history says of it. Where there
-/// is a new plan, its record is that of a whole period.
+/// A boundary of a cluster: what its modules ask for leads to what the answer tells, and the
+/// cluster stays what the history says of it. Where there is a new plan, its record is that of a
+/// whole period.
 pub fn law_boundary()
+    ensures leads { AnswersLead }
     ensures kept { BoundariesKeepAt }
     ensures new { NewPeriodsAreWhole }
 {}

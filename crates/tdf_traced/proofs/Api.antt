@@ -1,4 +1,5 @@
 -- The lemmas that other crates may use.
+pub use Rattle.tdf_traced.proofs.Answered.{answers_are_told}
 pub use Rattle.tdf_traced.proofs.Knowing.{done_known, held, known_to, signal_more}
 pub use Rattle.tdf_traced.proofs.Passes.{passes_trace}
 pub use Rattle.tdf_traced.proofs.Picked.{samples_append, samples_none}

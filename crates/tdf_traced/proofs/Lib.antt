@@ -1,3 +1,4 @@
+pub mod Answered
 pub mod Api
 pub mod Knowing
 pub mod Passes

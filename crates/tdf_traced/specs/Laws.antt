@@ -2,6 +2,7 @@
 -- Source: own.
 use Rattle.std.specs.List.{range_with_len}
 use Rattle.std.specs.Prelude.{◌≡◌, ℕ, ℤ, false, List, [], Some, length, map, slice_get}
+use Rattle.tdf_run.specs.low.changes.Laws.{IsBoundary}
 use Rattle.tdf_run.specs.low.convert.declared.outputs.Sent.{Sent}
 use Rattle.tdf_run.specs.low.dynamic.Attributes.{AttrsOf}
 use Rattle.tdf_run.specs.low.dynamic.declared.first.First.{First}
@@ -12,14 +13,15 @@ use Rattle.tdf_run.specs.low.fixed.declared.raw.Raw.{Raw}
 use Rattle.tdf_run.specs.low.flat.Flat.{IsFlatOf}
 use Rattle.tdf_run.specs.low.flat.declared.model.Flat.{Flat}
 use Rattle.tdf_run.specs.low.formats.Formats.{IsSoundModel}
-use Rattle.tdf_run.specs.low.history.Answers.{last_cells}
+use Rattle.tdf_run.specs.low.history.Answers.{IsAnswer, asks_in, last_cells}
 use Rattle.tdf_run.specs.low.history.Cells.{port_cell, spans_from}
 use Rattle.tdf_run.specs.low.history.Instant.{periods_of, with_new, with_same}
 use Rattle.tdf_run.specs.low.history.Start.{first_cluster}
-use Rattle.tdf_run.specs.low.history.World.{ClusterAt, Rules, World}
+use Rattle.tdf_run.specs.low.history.World.{Change, ClusterAt, Rules, World}
 use Rattle.tdf_run.specs.low.limits.Limits.{AreWithinLimits}
 use Rattle.tdf_run.specs.low.rows.Positions.{cell_of}
 use Rattle.tdf_run.specs.At.{IsAt}
+use Rattle.tdf_run.specs.Boundary.{HasAnswered}
 use Rattle.tdf_run.specs.Firings.{settled_values}
 use Rattle.tdf_run.specs.Pass.{AreAt, AreReady, HavePassed, PassAt, PassesAlong, RunOf}
 use Rattle.tdf_run.specs.low.schedule.declared.entry.Entry.{Entry}
@@ -68,6 +70,21 @@ HeldIsKnown = (model : PureTree) (flat : Flat) (cluster : ℕ) (h : ClusterAt) (
     → (m : ℕ) (cells : List ℤ) → IsAt model flat cluster h c → h.place ≡ length h.entries
     → slice_get (play_of 0 c).states m ≡ Some cells → is_outside flat.tables cluster m ≡ false
     → last_cells model flat cluster h m ≡ Some cells
+
+-- a change is the answer of the boundary of a cluster, and the boundary leads to a table of the
+-- cluster
+pub record HasAnswer (model : PureTree) (flat : Flat) (number : ℕ) (h : ClusterAt)
+    (change : Change) : Type 0 where
+  pub answer : IsAnswer model flat number h change
+  pub boundary : IsBoundary flat number (asks_in model flat number h) h.now.info.table
+
+-- where the period of a cluster is done and what its modules ask for leads to a change, that is the
+-- answer of its boundary, and it leads to a table of the cluster
+abbrev pub AnswersAreTold : Type 0
+AnswersAreTold = (model : PureTree) (flat : Flat) (number : ℕ) (h : ClusterAt) (c : ClusterOf)
+    → (change : Change) → IsCheckedOf model flat.checked → AreWithinLimits flat
+    → IsAt model flat number h c → HasAnswered flat c change
+    → HasAnswer model flat number h change
 
 -- what clusters in progress trace in a pass are the samples that the history has then
 abbrev pub PassesTrace : Type 0

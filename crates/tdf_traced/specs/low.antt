@@ -1,6 +1,7 @@
 -- What the crates further below define, for the crates above.
 pub mod base
 pub mod bind
+pub mod changes
 pub mod checks
 pub mod convert
 pub mod dynamic

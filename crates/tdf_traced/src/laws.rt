@@ -1,6 +1,6 @@
 //! What holds of the samples of a port's signal: each function here only carries its clauses.
 
-ghost use Rattle.tdf_traced.specs.Laws.{BoundariesAddNone, CellsAreOfSamples, DoneIsKnown, HeldIsKnown, PassesTrace, StartsHaveSamples};
+ghost use Rattle.tdf_traced.specs.Laws.{AnswersAreTold, BoundariesAddNone, CellsAreOfSamples, DoneIsKnown, HeldIsKnown, PassesTrace, StartsHaveSamples};
 
 use tdf_run::low::layout::law_one_port;
 
@@ -12,6 +12,12 @@ pub fn law_samples()
     ensures cells { CellsAreOfSamples }
     ensures done { DoneIsKnown }
     ensures held { HeldIsKnown }
+{}
+
+/// What the modules of a cluster ask for at the end of a period leads to the answer of its
+/// boundary.
+pub fn law_answers()
+    ensures { AnswersAreTold }
 {}
 
 /// What all clusters trace in a pass, in order of number, is what the history has then.

@@ -9,4 +9,4 @@
 mod laws;
 pub mod low;
 
-pub use laws::{law_samples, law_traced};
+pub use laws::{law_answers, law_samples, law_traced};

@@ -1,7 +1,7 @@
 -- How the modules of a cluster are asked for changes: their instances go into a list, in the order
 -- of the table, and come back from there.
 -- Source: own.
-use Rattle.std.specs.Prelude.{◌≡◌, ◌<◌, ◌≤◌, ℕ, List, length, map, Some}
+use Rattle.std.specs.Prelude.{◌≡◌, ◌<◌, ◌≤◌, ℕ, ℤ, List, length, map, Some}
 use Rattle.std.specs.Prelude.{slice_get}
 use Rattle.tdf_changes.specs.Change.{Asks, asks_of}
 use Rattle.tdf_changes.specs.Next.{HaveChanged}
@@ -92,10 +92,15 @@ pub record AreInstances (flat : Flat) (table : List AttrsOf) (runners : List Run
   pub rates : (i : ℕ) (a : AttrsOf) (x : ModuleOf) → slice_get table i ≡ Some a
       → slice_get runners a.number ≡ Some (runner.Module x) → x.frame.state.rates ≡ a.rates
 
+-- the values of the modules of a table
+abbrev pub AreValues : (table : List AttrsOf) → List Runner → (cells : ℕ → List ℤ) → Type 0
+AreValues table runners cells = (i : ℕ) (attrs : AttrsOf) → slice_get table i ≡ Some attrs
+    → cells attrs.number ≡ values_at runners attrs.number
+
 -- for what they ask for, by each model that the bodies are of
-abbrev pub WhenTheyAsk : Flat → List Runner → (Asks → Type 0) → Type 0
-WhenTheyAsk flat runners P = (model : PureTree) → IsCheckedOf model flat.checked
-    → P (asks_of model flat (values_at runners))
+abbrev pub WhenTheyAsk : Flat → (table : List AttrsOf) → List Runner → (Asks → Type 0) → Type 0
+WhenTheyAsk flat table runners P = (model : PureTree) (cells : ℕ → List ℤ)
+    → IsCheckedOf model flat.checked → AreValues table runners cells → P (asks_of model flat cells)
 
 -- the modules of a table have the instances that their change bodies left
 pub record HaveMoved (flat : Flat) (asks : Asks) (table : List AttrsOf) (old new : List Runner)

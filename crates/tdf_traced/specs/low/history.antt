@@ -1,4 +1,5 @@
 -- Definitions of tdf_history.
+pub use Rattle.tdf_run.specs.low.history.Answers
 pub use Rattle.tdf_run.specs.low.history.Cells
 pub use Rattle.tdf_run.specs.low.history.Instant
 pub use Rattle.tdf_run.specs.low.history.Start
