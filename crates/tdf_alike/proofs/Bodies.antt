@@ -25,7 +25,7 @@ abbrev pub with_bodies : Flat → Checked → Flat
 with_bodies flat y = record flat { checked = y }
 
 module _ (model : PureTree) (a : Flat) (y : Checked) (same : AreSame a.checked y) where
-  done_same : (m : ℕ) (part : Body) (cells : List ℤ) (rates : List ℕ) (read : ℕ → List Raw)
+  pub done_same : (m : ℕ) (part : Body) (cells : List ℤ) (rates : List ℕ) (read : ℕ → List Raw)
       → done_by model a m part cells rates read ≡ done_by model (with_bodies a y) m part cells rates read
   unfolding done_by
   done_same m part cells rates read = λ i. after_part model (slice_get (blocks_of model.globals) (block_at a.tables.modules m)) part

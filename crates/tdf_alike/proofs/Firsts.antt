@@ -1,6 +1,7 @@
 -- How a run starts is the same by compiled bodies of one text, and by first plans that say the same.
 use Rattle.std.proofs.Common.{◌≡◌, ◌∙◌, ℕ, ◌+◌, true, List, [], ◌∷◌, length, map, replicate, refl, sym, ap, subst}
 use Rattle.std.specs.List.{enumerate_from}
+use Rattle.std.specs.Prelude.{slice_index_or}
 use Rattle.tdf_alike.proofs.Bodies.{start_same, with_bodies}
 use Rattle.tdf_alike.proofs.Checks.{AreSame, IsFull, head_or, tail_of}
 use Rattle.tdf_alike.proofs.Events.{side_starts_same}
@@ -9,17 +10,17 @@ use Rattle.tdf_report.specs.low.dynamic.declared.first.First.{First}
 use Rattle.tdf_report.specs.low.expr.declared.checked.Checked.{Checked}
 use Rattle.tdf_report.specs.low.flat.declared.model.Flat.{Flat}
 use Rattle.tdf_report.specs.low.history.Start.{counts_in, first_cluster, first_clusters}
-use Rattle.tdf_report.specs.low.history.World.{ClusterAt}
+use Rattle.tdf_report.specs.low.history.World.{Change, ClusterAt}
 use Rattle.tdf_report.specs.low.notes.Plans.{PlanRows, rows_of}
 use Rattle.tdf_report.specs.low.streams.Cluster.{text_start}
 use Rattle.tdf_report.specs.low.streams.Periods.{period_record}
 use Rattle.tdf_report.specs.low.tree.Pure.{PureTree}
 use Rattle.tdf_report.specs.low.world.Rules.{start_world}
 
-module _ (model : PureTree) (a : Flat) where
+module _ (model : PureTree) (a : Flat) (ahead : List (List Change)) where
   -- a cluster at its start, by what its first plan says
-  abbrev cluster_by : (cluster : ℕ) → List AttrsOf → PlanRows → ClusterAt
-  cluster_by cluster attrs rows = record {
+  abbrev cluster_by : (cluster : ℕ) → List AttrsOf → PlanRows → (told : List Change) → ClusterAt
+  cluster_by cluster attrs rows told = record {
     begun = text_start model a cluster attrs;
     entries = rows.entries;
     bounds = rows.bounds;
@@ -28,11 +29,11 @@ module _ (model : PureTree) (a : Flat) where
     old = [];
     now = period_record a.tables attrs (counts_in a.tables rows.entries) rows.period true;
     reads = replicate (length a.tables.actors) [];
-    ahead = [];
+    ahead = told;
   }
 
   abbrev clusters_from : ℕ → List First → List ClusterAt
-  clusters_from k firsts = map (λ first. first_cluster model a (first.0 + 1) first.1 []) (enumerate_from k firsts)
+  clusters_from k firsts = map (λ first. first_cluster model a (first.0 + 1) first.1 (slice_index_or ahead first.0 [])) (enumerate_from k firsts)
 
   same_firsts : (k : ℕ) (firsts others : List First) → map (λ f. f.attrs) firsts ≡ map (λ f. f.attrs) others → map (λ f. rows_of f.plan) firsts ≡ map (λ f. rows_of f.plan) others
       → clusters_from k firsts ≡ clusters_from k others
@@ -42,17 +43,17 @@ module _ (model : PureTree) (a : Flat) where
   same_firsts k (f ∷ firsts) (g ∷ others) attrs plans =
       let ats : f.attrs ≡ g.attrs = ap (head_or f.attrs) attrs in
       let rows : rows_of f.plan ≡ rows_of g.plan = ap (head_or (rows_of f.plan)) plans in
-      λ i. cluster_by (k + 1) (ats i) (rows i) ∷ same_firsts (k + 1) firsts others (ap tail_of attrs) (ap tail_of plans) i
+      λ i. cluster_by (k + 1) (ats i) (rows i) (slice_index_or ahead k []) ∷ same_firsts (k + 1) firsts others (ap tail_of attrs) (ap tail_of plans) i
 
-module _ (model : PureTree) (a : Flat) (y : Checked) (same : AreSame a.checked y) where
-  clusters_same : (firsts : List First) → first_clusters model a firsts [] ≡ first_clusters model (with_bodies a y) firsts []
-  clusters_same firsts = λ i. map (λ (first : ℕ × First). record (first_cluster model a (first.0 + 1) first.1 []) {
+module _ (model : PureTree) (a : Flat) (y : Checked) (same : AreSame a.checked y) (ahead : List (List Change)) where
+  clusters_same : (firsts : List First) → first_clusters model a firsts ahead ≡ first_clusters model (with_bodies a y) firsts ahead
+  clusters_same firsts = λ i. map (λ (first : ℕ × First). record (first_cluster model a (first.0 + 1) first.1 (slice_index_or ahead first.0 [])) {
     begun = start_same model a y same (first.0 + 1) first.1.attrs i;
   }) (enumerate_from 0 firsts)
 
   pub world_same : (firsts others : List First) (turns : ℕ) → map (λ f. f.attrs) firsts ≡ map (λ f. f.attrs) others → map (λ f. rows_of f.plan) firsts ≡ map (λ f. rows_of f.plan) others
-      → start_world model a firsts [] turns ≡ start_world model (with_bodies a y) others [] turns
-  world_same firsts others turns attrs plans = λ i. record (start_world model a firsts [] turns) {
-    clusters = (clusters_same firsts ∙ same_firsts model (with_bodies a y) 0 firsts others attrs plans) i;
+      → start_world model a firsts ahead turns ≡ start_world model (with_bodies a y) others ahead turns
+  world_same firsts others turns attrs plans = λ i. record (start_world model a firsts ahead turns) {
+    clusters = (clusters_same firsts ∙ same_firsts model (with_bodies a y) ahead 0 firsts others attrs plans) i;
     events = side_starts_same model a y same i;
   }

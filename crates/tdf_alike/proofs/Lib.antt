@@ -1,3 +1,4 @@
+pub mod Answers
 pub mod Api
 pub mod Bodies
 pub mod Checks
@@ -5,4 +6,6 @@ pub mod Cells
 pub mod Events
 pub mod Firsts
 pub mod Instants
+pub mod News
 pub mod Runs
+pub mod Telling

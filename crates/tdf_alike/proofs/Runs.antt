@@ -1,52 +1,56 @@
 -- A run by two flat models of one model writes the same, and ends alike.
-use Rattle.std.proofs.Common.{◌≡◌, ◌∙◌, ℕ, List, [], ◌++◌, map, sym, subst}
+use Rattle.std.proofs.Common.{◌≡◌, ℕ, List, ◌++◌, map, subst}
+use Rattle.tdf_alike.proofs.Answers.{answers_same}
 use Rattle.tdf_alike.proofs.Bodies.{with_bodies}
 use Rattle.tdf_alike.proofs.Cells.{cells_same}
 use Rattle.tdf_alike.proofs.Checks.{AreSame, are_same}
 use Rattle.tdf_alike.proofs.Events.{rules_same}
 use Rattle.tdf_alike.proofs.Firsts.{world_same}
 use Rattle.tdf_alike.proofs.Instants.{history_same}
+use Rattle.tdf_alike.proofs.News.{news_same}
 use Rattle.tdf_alike.specs.Laws.{RunsWriteTheSame, WriteTheSame}
 use Rattle.tdf_report.specs.low.dynamic.declared.first.First.{First}
 use Rattle.tdf_report.specs.low.expr.declared.checked.Checked.{Checked}
 use Rattle.tdf_report.specs.low.flat.declared.model.Flat.{Flat}
 use Rattle.tdf_report.specs.low.history.Texts.{closing_text, first_plans, notes_to}
+use Rattle.tdf_report.specs.low.history.World.{Change}
 use Rattle.tdf_report.specs.low.instants.History.{end_time}
 use Rattle.tdf_report.specs.low.notes.Plans.{rows_of}
-use Rattle.tdf_report.proofs.Api.{no_new_plans, starts_untold}
 use Rattle.tdf_report.specs.Ending.{end_of, state_of}
 use Rattle.tdf_report.specs.low.rows.Rows.{Writing, trace_text}
 use Rattle.tdf_report.specs.low.tree.Pure.{PureTree}
 use Rattle.tdf_report.specs.low.world.Rules.{rules_of, start_world}
 
 -- with other compiled bodies of the text
-module _ (model : PureTree) (a : Flat) (y : Checked) (same : AreSame a.checked y) (firsts others : List First)
+module _ (model : PureTree) (a : Flat) (y : Checked) (same : AreSame a.checked y) (firsts others : List First) (ahead : List (List Change))
     (attrs : map (λ f. f.attrs) firsts ≡ map (λ f. f.attrs) others) (plans : map (λ f. rows_of f.plan) firsts ≡ map (λ f. rows_of f.plan) others) (stop turns : ℕ) where
-  starts : start_world model a firsts [] turns ≡ start_world model (with_bodies a y) others [] turns
-  starts = world_same model a y same firsts others turns attrs plans
+  starts : start_world model a firsts ahead turns ≡ start_world model (with_bodies a y) others ahead turns
+  starts = world_same model a y same ahead firsts others turns attrs plans
 
   rules : rules_of model a ≡ rules_of model (with_bodies a y)
   rules = rules_same model a y same
 
-  state : state_of model a firsts stop turns ≡ state_of model (with_bodies a y) others stop turns
+  state : state_of model a firsts ahead stop turns ≡ state_of model (with_bodies a y) others ahead stop turns
   state = λ i. history_same model a y same (rules i) (starts i) stop i
 
-  no_plans : (flat : Flat) (list : List First) → notes_to model flat (rules_of model flat) (start_world model flat list [] turns) stop ≡ []
-  no_plans flat list = no_new_plans model flat (rules_of model flat) (start_world model flat list [] turns) (starts_untold model flat list) stop
+  news : notes_to model a (rules_of model a) (start_world model a firsts ahead turns) stop
+      ≡ notes_to model (with_bodies a y) (rules_of model (with_bodies a y)) (start_world model (with_bodies a y) others ahead turns) stop
+  news = λ i. news_same model a y same (rules i) (starts i) stop i
 
-  news : notes_to model a (rules_of model a) (start_world model a firsts [] turns) stop
-      ≡ notes_to model (with_bodies a y) (rules_of model (with_bodies a y)) (start_world model (with_bodies a y) others [] turns) stop
-  news = no_plans a firsts ∙ sym (no_plans (with_bodies a y) others)
-
-  bodies_write : (writing : Writing) → WriteTheSame model a (with_bodies a y) firsts others writing stop turns
+  bodies_write : (writing : Writing) → WriteTheSame model a (with_bodies a y) firsts others ahead writing stop turns
   bodies_write writing = record {
     trace = λ i. trace_text writing (cells_same model a y same (rules i) (starts i) (end_time (state i) stop) i) (end_time (state i) stop);
     notes = λ i. first_plans a (starts i).clusters ++ news i ++ closing_text a.resolution stop (starts i).left (state i);
     end = λ i. end_of stop turns (state i);
+    answers = λ have. record {
+      are = answers_same model a y same (rules_of model a) (rules_of model (with_bodies a y)) (start_world model a firsts ahead turns)
+          (start_world model (with_bodies a y) others ahead turns) stop rules starts have.are;
+      counts = have.counts;
+    };
   }
 
 pub runs_write_the_same : RunsWriteTheSame
-runs_write_the_same model a b firsts others alike writing stop turns =
+runs_write_the_same model a b firsts others alike ahead writing stop turns =
     let moved : with_bodies a b.checked ≡ b = λ i. record { tables = alike.tables i; checked = b.checked; resolution = alike.unit i } in
-    subst (λ (flat : Flat). WriteTheSame model a flat firsts others writing stop turns) moved
-    (bodies_write model a b.checked (are_same model a.checked b.checked alike.one.bodies alike.other.bodies) firsts others alike.attrs alike.plans stop turns writing)
+    subst (λ (flat : Flat). WriteTheSame model a flat firsts others ahead writing stop turns) moved
+    (bodies_write model a b.checked (are_same model a.checked b.checked alike.one.bodies alike.other.bodies) firsts others ahead alike.attrs alike.plans stop turns writing)

@@ -1,8 +1,18 @@
 //! What holds of the definitions: each function here only carries its clauses.
 
-ghost use Rattle.tdf_alike.specs.Laws.{RunsWriteTheSame};
+ghost use Rattle.tdf_alike.specs.Laws.{AnswersWriteAlike, RunsWriteTheSame};
 
-/// By two flat models of one model, and by first plans that say the same, a run writes the same.
+use tdf_told::low::changes::law_one_answer;
+
+/// By two flat models of one model, and by first plans that say the same, a run writes the same, and its boundaries have the same
+/// answers.
 pub fn law_alike()
     ensures { RunsWriteTheSame }
 {}
+
+/// Two runs that are told the answers of their boundaries write the same.
+pub fn law_answers()
+    ensures { AnswersWriteAlike }
+{
+    law_one_answer();
+}

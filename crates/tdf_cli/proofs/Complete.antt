@@ -1,13 +1,12 @@
 -- Each reading has at most one outcome, and that is met where nothing hinders.
-use Rattle.std.proofs.Common.{map, Bool, true, false, ◌≡◌, ◌⊎◌, ℕ, ◌≤◌, List, ◌++◌, Option, Some, None, refl, sym, ap, ◌∙◌, subst, inl, inr, length, length-append, append-nil, codes, arith}
+use Rattle.std.proofs.Common.{map, ◌≡◌, ◌⊎◌, ℕ, ◌≤◌, List, ◌++◌, Option, Some, None, refl, sym, ap, ◌∙◌, subst, inl, inr, length, length-append, append-nil, arith}
 use Rattle.std.specs.Io.KnownBytes.{Consumes, IsAtEnd}
 use Rattle.tdf_sim.specs.low.base.Limits.{longest_text}
-use Rattle.tdf_sim.specs.low.base.declared.faults.Fault.{Fault}
-use Rattle.tdf_sim.proofs.Api.{one_tree, text_keeps}
+use Rattle.tdf_sim.proofs.Api.{text_keeps}
 use Rattle.tdf_sim.specs.low.blocks.Refused.{SpellsText}
+use Rattle.tdf_cli.proofs.Seen.{OfAccepted, OfEnd, OfText, Seen, same_tree, seen}
 use Rattle.tdf_cli.specs.Input.{Reading, BadWords, Text, TooLong, ReadFault, NoMemory, InputIs}
-use Rattle.tdf_cli.specs.Outcome.{Outcome, note, refused, ran, checked, planned, accepted_text, status_of, stop_in, HasOutcome, usage, read_fault, too_long, faulty, unbuilt, too_late, has_run, is_checked, is_planned, WritesOutcome, HasOneOutcome}
-use Rattle.tdf_cli.specs.Refusals.{unbuilt_fault}
+use Rattle.tdf_cli.specs.Outcome.{Outcome, refused, ran, accepted_text, status_of, stop_in, HasOutcome, usage, read_fault, too_long, faulty, too_late, has_run, is_checked, is_planned, WritesOutcome, HasOneOutcome}
 use Rattle.tdf_cli.specs.Status.{number_of}
 use Rattle.tdf_cli.specs.Words.{job_for}
 use Rattle.tdf_cli.specs.declared.status.Status.{Status}
@@ -18,93 +17,36 @@ use Rattle.tdf_sim.specs.low.bind.Flat.{FlatOf}
 use Rattle.tdf_sim.specs.low.in_out.Faults.{FaultsRose}
 use Rattle.tdf_sim.specs.low.notes.Plans.{PlanRows, accepted_line}
 use Rattle.tdf_print.specs.Canon.{canon}
+use Rattle.tdf_sim.specs.low.base.declared.faults.Fault.{Fault}
 use Rattle.tdf_sim.specs.low.base.declared.resolution.Resolution.{Resolution}
 use Rattle.tdf_sim.specs.Accepted.{IsAccepted}
 use Rattle.tdf_sim.specs.declared.sim.Sim.{Sim}
 use Rattle.tdf_sim.specs.FirstFault.{IsFirstFault, cluster_count}
-use Rattle.tdf_sim.specs.Laws.{FaultsAreOne, FaultOrAccepted, ModelsAreAlike, AreAlike, RunsAreAlike, RunAlike}
+use Rattle.tdf_sim.specs.Laws.{AnswersRunAlike, FaultsAreOne, FaultOrAccepted, ModelsAreAlike, AreAlike, RunsAreAlike, RunAlike}
 use Rattle.tdf_sim.specs.PlanText.{clusters_text, plan_rows, plans_text}
-use Rattle.tdf_sim.specs.Ends.{End, run_end, run_note, trace_of}
+use Rattle.tdf_sim.specs.Ends.{Change, End, run_end}
 use Rattle.tdf_sim.specs.Ends as ending
-use Rattle.tdf_sim.specs.Runs.{makes_changes}
-use Rattle.tdf_sim.specs.low.tokens.Rows.{rows_of}
+use Rattle.tdf_sim.specs.low.tree.Kept.{IsKept}
 use Rattle.tdf_sim.specs.low.tree.Pure.{PureTree}
 use Rattle.tdf_sim.specs.low.words.declared.asked.TraceKind.{TraceKind}
 
-same_tree : (text : List ℕ) (one other : PureTree) → SpellsText text one → SpellsText text other → other ≡ one
-same_tree text one other s t = one_tree (rows_of text) other one t.spelled s.spelled
+-- two runs that are alike have one outcome
+same_ran : (kind : TraceKind) (tree : PureTree) (a b : Sim) (ahead others : List (List Change)) (end turns : ℕ) → RunAlike tree a b ahead others kind end turns
+    → ran kind tree a ahead end turns ≡ ran kind tree b others end turns
+same_ran kind tree a b ahead others end turns alike = λ i. record { status = status_of (alike.end i); out = alike.trace i; notes = alike.notes i }
 
--- what an outcome of a reading is, by the reading
-stopped_at : TraceKind → PureTree → Sim → (turns : ℕ) → Option ℕ → Outcome
-stopped_at kind tree sim turns None = note status.StopTooLong (codes "stop too long\n")
-stopped_at kind tree sim turns (Some end) = ran kind tree sim end turns
+-- so have the runs of two models of one tree, whichever answers of their boundaries they are told
+module _ (runs : RunsAreAlike) (told : AnswersRunAlike) (kind : TraceKind) (turns : ℕ) (tree : PureTree) (a b : Sim) (kept : IsKept tree) (one_is : IsAccepted tree a) (other_is : IsAccepted tree b)
+    (one other : Outcome) where
+  same_end : (end : Option ℕ) → OfEnd kind turns tree a end one → OfEnd kind turns tree b end other → one ≡ other
+  same_end None s t = s ∙ sym t
+  same_end (Some end) s t =
+      let both = runs tree a b kept one_is other_is s.0 kind end turns in
+      s.2 ∙ same_ran kind tree a b s.0 s.0 end turns both.alike
+      ∙ same_ran kind tree b b s.0 t.0 end turns (told tree b kept other_is s.0 t.0 kind end turns (both.answers s.1) t.1) ∙ sym t.2
 
-run_by : TraceKind → PureTree → Sim → (turns : ℕ) → Bool → Option ℕ → Outcome
-run_by kind tree sim turns true end = refused unbuilt_fault
-run_by kind tree sim turns false end = stopped_at kind tree sim turns end
-
-run_outcome : (stop : ℕ) → TraceKind → (turns : ℕ) → PureTree → Sim → Outcome
-run_outcome stop kind turns tree sim = run_by kind tree sim turns (makes_changes sim.flat.tables) (stop_in sim.flat.resolution stop)
-
-abbrev OfAccepted : Job → PureTree → Sim → Outcome → Type 0
-OfAccepted (Run stop kind turns) tree sim o = o ≡ run_outcome stop kind turns tree sim
-OfAccepted Check tree sim o = o ≡ checked tree sim
-OfAccepted Plan tree sim o = o ≡ planned sim
-
-abbrev OfText : Job → List ℕ → Outcome → Type 0
-OfText job text o = ((fault : Fault) × IsFirstFault text fault × (o ≡ refused fault))
-    ⊎ ((tree : PureTree) × (sim : Sim) × SpellsText text tree × IsAccepted tree sim × OfAccepted job tree sim o)
-
-abbrev Seen : Reading → Outcome → Type 0
-Seen BadWords o = o ≡ note status.Usage (codes "usage\n")
-Seen (Text job text) o = OfText job text o
-Seen TooLong o = o ≡ note status.TooLong (codes "too long\n")
-Seen ReadFault o = o ≡ note status.ReadFault (codes "read fault\n")
-Seen NoMemory o = ⊥
-
-seen : {r : Reading} {o : Outcome} → HasOutcome r o → Seen r o
-unfolding run_by run_outcome stopped_at
-seen usage = refl
-seen read_fault = refl
-seen too_long = refl
-seen (faulty {fault = fault} is) = inl (fault, is, refl)
-seen (unbuilt {stop = stop} {turns = turns} {kind = kind} {tree = tree} {sim = sim} spells sound is) =
-    inr (tree, sim, spells, sound, sym (ap (λ changes. run_by kind tree sim turns changes (stop_in sim.flat.resolution stop)) is))
-seen (too_late {stop = stop} {turns = turns} {kind = kind} {tree = tree} {sim = sim} spells sound none is) =
-    inr (tree, sim, spells, sound, sym (ap (λ changes. run_by kind tree sim turns changes (stop_in sim.flat.resolution stop)) none ∙ ap (stopped_at kind tree sim turns) is))
-seen (has_run {stop = stop} {turns = turns} {kind = kind} {tree = tree} {sim = sim} spells sound none is) =
-    inr (tree, sim, spells, sound, sym (ap (λ changes. run_by kind tree sim turns changes (stop_in sim.flat.resolution stop)) none ∙ ap (stopped_at kind tree sim turns) is))
-seen (is_checked {tree = tree} {sim = sim} spells sound) = inr (tree, sim, spells, sound, refl)
-seen (is_planned {tree = tree} {sim = sim} spells sound) = inr (tree, sim, spells, sound, refl)
-
--- two models of one tree run alike
-ended : End → List ℕ → List ℕ → Outcome
-ended how out notes = record { status = status_of how; out = out; notes = notes }
-
-same_ran : (kind : TraceKind) (tree : PureTree) (a b : Sim) (end turns : ℕ) → RunAlike tree a b kind end turns → ran kind tree a end turns ≡ ran kind tree b end turns
-unfolding ended
-same_ran kind tree a b end turns alike =
-    ap (λ how. ended how (trace_of kind tree a.flat a.firsts.items end turns) (run_note tree a.flat a.firsts.items end turns)) alike.end
-    ∙ ap (λ out. ended (run_end tree b.flat b.firsts.items end turns) out (run_note tree a.flat a.firsts.items end turns)) alike.trace
-    ∙ ap (λ notes. ended (run_end tree b.flat b.firsts.items end turns) (trace_of kind tree b.flat b.firsts.items end turns) notes) alike.notes
-
-module _ (kind : TraceKind) (tree : PureTree) (a b : Sim) (turns : ℕ) (alike : AreAlike a b) (runs : (end : ℕ) → RunAlike tree a b kind end turns) where
-  same_stopped : (end : Option ℕ) → stopped_at kind tree a turns end ≡ stopped_at kind tree b turns end
-  unfolding stopped_at
-  same_stopped None = refl
-  same_stopped (Some end) = same_ran kind tree a b end turns (runs end)
-
-  same_by : (changes : Bool) (end : Option ℕ) → run_by kind tree a turns changes end ≡ run_by kind tree b turns changes end
-  unfolding run_by
-  same_by true end = refl
-  same_by false end = same_stopped end
-
-  same_run : (stop : ℕ) → run_outcome stop kind turns tree a ≡ run_outcome stop kind turns tree b
-  unfolding run_outcome
-  same_run stop =
-      same_by (makes_changes a.flat.tables) (stop_in a.flat.resolution stop)
-      ∙ ap (λ (tables : FlatOf). run_by kind tree b turns (makes_changes tables) (stop_in a.flat.resolution stop)) alike.tables
-      ∙ ap (λ (unit : Resolution). run_by kind tree b turns (makes_changes b.flat.tables) (stop_in unit stop)) alike.unit
+  same_run : (stop : ℕ) → a.flat.resolution ≡ b.flat.resolution → OfAccepted (Run stop kind turns) tree a one → OfAccepted (Run stop kind turns) tree b other → one ≡ other
+  same_run stop unit s t = same_end (stop_in b.flat.resolution stop) (subst (λ (u : Resolution). OfEnd kind turns tree a (stop_in u stop) one) unit s) t
 
 same_note : (a b : Sim) → AreAlike a b → accepted_text a ≡ accepted_text b
 same_note a b alike = ap (λ (tables : FlatOf). accepted_line (cluster_count tables)) alike.tables
@@ -118,16 +60,12 @@ same_plans a b alike =
 written : List ℕ → List ℕ → Outcome
 written out notes = record { status = status.Done; out = out; notes = notes }
 
--- two models run alike to each stop, within each number of turns
-abbrev RunTheSame : PureTree → (a b : Sim) → Type 0
-RunTheSame tree a b = (kind : TraceKind) (end turns : ℕ) → RunAlike tree a b kind end turns
-
-same_accepted : (job : Job) (tree : PureTree) (a b : Sim) (one other : Outcome) → AreAlike a b → RunTheSame tree a b → OfAccepted job tree a one → OfAccepted job tree b other → one ≡ other
+same_accepted : RunsAreAlike → AnswersRunAlike → (job : Job) (tree : PureTree) (a b : Sim) (one other : Outcome) → IsKept tree → IsAccepted tree a → IsAccepted tree b → AreAlike a b
+    → OfAccepted job tree a one → OfAccepted job tree b other → one ≡ other
 unfolding written
-same_accepted (Run stop kind turns) tree a b one other alike runs s t =
-    s ∙ same_run kind tree a b turns alike (λ end. runs kind end turns) stop ∙ sym t
-same_accepted Check tree a b one other alike runs s t = s ∙ ap (λ notes. written (canon tree) notes) (same_note a b alike) ∙ sym t
-same_accepted Plan tree a b one other alike runs s t =
+same_accepted runs told (Run stop kind turns) tree a b one other kept one_is other_is alike s t = same_run runs told kind turns tree a b kept one_is other_is one other stop alike.unit s t
+same_accepted runs told Check tree a b one other kept one_is other_is alike s t = s ∙ ap (λ notes. written (canon tree) notes) (same_note a b alike) ∙ sym t
+same_accepted runs told Plan tree a b one other kept one_is other_is alike s t =
     s ∙ ap (λ notes. written (plans_text a) notes) (same_note a b alike) ∙ ap (λ out. written out (accepted_text b)) (same_plans a b alike) ∙ sym t
 
 -- only a failed read is answered as one
@@ -141,10 +79,9 @@ read_failed usage is = absurd cc
 read_failed read_fault is = refl
 read_failed too_long is = absurd cc
 read_failed (faulty first) is = absurd cc
-read_failed (unbuilt spells sound changes) is = absurd cc
-read_failed (too_late spells sound none late) is = absurd cc
-read_failed (has_run {turns = turns} {end = end} {tree = tree} {sim = sim} spells sound none early) is =
-    absurd (ended_otherwise (run_end tree sim.flat sim.firsts.items end turns) is)
+read_failed (too_late spells sound late) is = absurd cc
+read_failed (has_run {turns = turns} {end = end} {tree = tree} {sim = sim} spells sound early ahead answers) is =
+    absurd (ended_otherwise (run_end tree sim.flat sim.firsts.items ahead end turns) is)
 read_failed (is_checked spells sound) is = absurd cc
 read_failed (is_planned spells sound) is = absurd cc
 
@@ -158,7 +95,7 @@ read_fault_rose words r s old new a b c d before now is wrote answered =
 some_job : (one other : Job) (o : Option Job) → o ≡ Some one → o ≡ Some other → one ≡ other
 some_job one other o s t = cc
 
-module _ (once : FaultsAreOne) (apart : FaultOrAccepted) (models : ModelsAreAlike) (runs : RunsAreAlike) where
+module _ (once : FaultsAreOne) (apart : FaultOrAccepted) (models : ModelsAreAlike) (runs : RunsAreAlike) (told : AnswersRunAlike) where
   -- a text with a fault is not accepted
   not_both : (text : List ℕ) (fault : Fault) (tree : PureTree) (sim : Sim) → IsFirstFault text fault → SpellsText text tree → IsAccepted tree sim → ⊥
   not_both text fault tree sim is spells accepted = apart text fault sim is (record { tree = tree; spelled = spells; accepted = accepted })
@@ -170,9 +107,8 @@ module _ (once : FaultsAreOne) (apart : FaultOrAccepted) (models : ModelsAreAlik
   same_text job text one other (inr s) (inr t) =
       let same = same_tree text s.0 t.0 s.2 t.2 in
       let other_sound : IsAccepted s.0 t.1 = subst (λ (x : PureTree). IsAccepted x t.1) same t.3 in
-      same_accepted job s.0 s.1 t.1 one other
+      same_accepted runs told job s.0 s.1 t.1 one other (text_keeps s.2) s.3 other_sound
       (models s.0 s.1 t.1 (text_keeps s.2) s.3 other_sound)
-      (runs s.0 s.1 t.1 (text_keeps s.2) s.3 other_sound)
       s.4 (subst (λ (x : PureTree). OfAccepted job x t.1 other) same t.4)
 
   same : (r : Reading) (one other : Outcome) → Seen r one → Seen r other → one ≡ other
@@ -214,12 +150,12 @@ input_text words TooLong job text old new before now is asks told short well =
 input_text words ReadFault job text old new before now is asks told short well = absurd (well is.2)
 input_text words NoMemory job text old new before now is asks told short well = inr refl
 
-module _ (once : FaultsAreOne) (apart : FaultOrAccepted) (models : ModelsAreAlike) (runs : RunsAreAlike) where
+module _ (law : HasOneOutcome) where
   met_other : (words : List (List ℕ)) (r : Reading) (s : Status) (job : Job) (text : List ℕ) (o : Outcome) (a b c d : Option (List ℕ))
       → WritesOutcome r s a b c d → HasOutcome (Text job text) o → (r ≡ Text job text) ⊎ (r ≡ NoMemory) → number_of s ≡ number_of o.status
   met_other words r s job text o a b c d wrote has (inl is) =
       let own : HasOutcome (Text job text) wrote.outcome = subst (λ (x : Reading). HasOutcome x wrote.outcome) is wrote.has in
-      ap number_of (sym wrote.answers ∙ ap (λ (x : Outcome). x.status) (has_one_outcome once apart models runs (Text job text) wrote.outcome o own has))
+      ap number_of (sym wrote.answers ∙ ap (λ (x : Outcome). x.status) (law (Text job text) wrote.outcome o own has))
   met_other words r s job text o a b c d wrote has (inr is) =
       absurd (seen (subst (λ (x : Reading). HasOutcome x wrote.outcome) is wrote.has))
 

@@ -1,2 +1,3 @@
 pub mod Complete
 pub mod Outcomes
+pub mod Seen

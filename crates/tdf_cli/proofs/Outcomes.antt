@@ -1,10 +1,11 @@
 -- How what the steps wrote makes an outcome.
-use Rattle.std.proofs.Common.{◌≡◌, ℕ, Bool, true, false, List, [], Option, Some, None, Result, Ok, Err, IfOk, IsErrOf, OnOk, OnErr, inl, inr, refl, sym, ap, ◌∙◌, subst, append_assoc, append-nil}
+use Rattle.std.proofs.Common.{◌≡◌, ℕ, List, [], Option, Some, Result, Ok, Err, IfOk, OnOk, OnErr, inl, inr, sym, ap, ◌∙◌, subst, append_assoc, append-nil}
 use Rattle.std.specs.Io.KnownBytes.{Appends}
 use Rattle.std.proofs.KnownBytes.{Appends-nil}
 use Rattle.tdf_sim.specs.low.blocks.Refused.{SpellsText}
 use Rattle.tdf_cli.specs.Input.{Reading, BadWords, Text, TooLong, ReadFault, NoMemory}
-use Rattle.tdf_cli.specs.Outcome.{Outcome, note, ran, status_of, stop_in, HasOutcome, usage, read_fault, too_long, faulty, unbuilt, too_late, has_run, is_checked, is_planned, WritesOutcome, WritesFrontOf, WritesNothingOrFront}
+use Rattle.tdf_cli.proofs.Seen.{OfAccepted, OfEnd, OfText, same_tree, seen}
+use Rattle.tdf_cli.specs.Outcome.{Outcome, note, ran, status_of, stop_in, HasOneOutcome, HasOutcome, usage, read_fault, too_long, faulty, too_late, has_run, is_checked, is_planned, WritesOutcome, WritesFrontOf, WritesNothingOrFront}
 use Rattle.tdf_sim.specs.Accepted.{IsAccepted}
 use Rattle.tdf_sim.specs.declared.sim.Sim.{Sim}
 use Rattle.tdf_cli.specs.declared.status.Status.{Status}
@@ -14,11 +15,12 @@ use Rattle.tdf_cli.specs.declared.words.Job.TheVariants.{Run, Check, Plan}
 use Rattle.tdf_cli.specs.machine.Texts.{IsCheckText, IsPlanText}
 use Rattle.tdf_print.specs.Canon.{canon}
 use Rattle.tdf_sim.specs.PlanText.{plans_text}
-use Rattle.tdf_sim.specs.Runs.{makes_changes}
-use Rattle.tdf_sim.proofs.Api.{front_none}
+use Rattle.tdf_sim.specs.Laws.{FaultOrAccepted, ModelsAreAlike, RunsAreAlike}
+use Rattle.tdf_sim.proofs.Api.{front_none, text_keeps}
 use Rattle.tdf_sim.specs.low.in_out.Bytes.{AppendsFront, WritesText}
 use Rattle.tdf_sim.specs.low.in_out.declared.writing.SinkErr.{SinkErr}
-use Rattle.tdf_sim.specs.Ends.{End, run_end, run_note, trace_of}
+use Rattle.tdf_sim.specs.Ends.{Change, End, HaveAnswers, run_end, run_note, trace_of}
+use Rattle.tdf_sim.specs.low.base.declared.resolution.Resolution.{Resolution}
 use Rattle.tdf_sim.specs.low.tree.Pure.{PureTree}
 use Rattle.tdf_sim.specs.low.words.declared.asked.TraceKind.{TraceKind}
 
@@ -32,18 +34,24 @@ has_some usage = tt
 has_some read_fault = tt
 has_some too_long = tt
 has_some (faulty is) = tt
-has_some (unbuilt spells sound is) = tt
-has_some (too_late spells sound none is) = tt
-has_some (has_run spells sound none is) = tt
+has_some (too_late spells sound is) = tt
+has_some (has_run spells sound is ahead answers) = tt
 has_some (is_checked spells sound) = tt
 has_some (is_planned spells sound) = tt
 
-front_of : (r : Reading) (a b c d : Option (List ℕ)) → WritesFrontOf r a b c d → WritesNothingOrFront r a b c d
-front_of BadWords a b c d w = inr w
-front_of (Text job text) a b c d w = inr w
-front_of TooLong a b c d w = inr w
-front_of ReadFault a b c d w = inr w
-front_of NoMemory a b c d w = absurd (has_some w.has)
+front_of : (r : Reading) (a b c d : Option (List ℕ)) → HasSome r → WritesFrontOf r a b c d → WritesNothingOrFront r a b c d
+front_of BadWords a b c d some w = inr w
+front_of (Text job text) a b c d some w = inr w
+front_of TooLong a b c d some w = inr w
+front_of ReadFault a b c d some w = inr w
+front_of NoMemory a b c d some w = absurd some
+
+-- front parts of the texts of an outcome are those of each, since there is no other
+front_each : HasOneOutcome → (r : Reading) (o : Outcome) (a b c d : Option (List ℕ)) → HasOutcome r o → AppendsFront a b o.out → AppendsFront c d o.notes → WritesNothingOrFront r a b c d
+front_each law r o a b c d has wrote noted = front_of r a b c d (has_some has) (record {
+  out = λ other is. subst (λ (x : Outcome). AppendsFront a b x.out) (law r o other has is) wrote;
+  notes = λ other is. subst (λ (x : Outcome). AppendsFront c d x.notes) (law r o other has is) noted;
+})
 
 -- a note that was written makes its outcome, and where it wasn't all written, a front part of it
 pub noted_all : {S : Type 0} {taken : S → Option (List ℕ)} {faults : S → ℕ} {old new : S} {text : List ℕ} (result : Result Status SinkErr) (r : Reading) (status : Status)
@@ -58,51 +66,54 @@ noted_all {text = text} (Ok s) r status a has is wrote = record {
 }
 noted_all (Err error) r status a has is wrote = tt
 
-pub noted_part : {S : Type 0} {taken : S → Option (List ℕ)} {faults : S → ℕ} {old new : S} {text : List ℕ} (result : Result Status SinkErr) (r : Reading) (status : Status)
+pub noted_part : {S : Type 0} {taken : S → Option (List ℕ)} {faults : S → ℕ} {old new : S} {text : List ℕ} → HasOneOutcome → (result : Result Status SinkErr) (r : Reading) (status : Status)
     (a : Option (List ℕ)) → HasOutcome r (note status text) → WritesText taken faults old new text result
     → OnErr result (WritesNothingOrFront r a a (taken old) (taken new))
-noted_part (Ok s) r status a has wrote = tt
-noted_part {taken = taken} {old = old} {new = new} {text = text} (Err error) r status a has wrote =
-    front_of r a a (taken old) (taken new) (record { outcome = note status text; has = has; out = front_none a []; notes = wrote.part })
+noted_part law (Ok s) r status a has wrote = tt
+noted_part {taken = taken} {old = old} {new = new} {text = text} law (Err error) r status a has wrote =
+    front_each law r (note status text) a a (taken old) (taken new) has (front_none a []) wrote.part
 
--- a run of a model in which nothing changes
+-- a run
 module _ (kind : TraceKind) (text : List ℕ) (tree : PureTree) (sim : Sim) (stop turns end : ℕ) (a b c d : Option (List ℕ)) (spells : SpellsText text tree) (sound : IsAccepted tree sim)
-    (none : makes_changes sim.flat.tables ≡ false) (is : stop_in sim.flat.resolution stop ≡ Some end) where
-  pub ran_all : (how : End) (answer : Status) → how ≡ run_end tree sim.flat sim.firsts.items end turns → answer ≡ status_of how
-      → Appends a b (trace_of kind tree sim.flat sim.firsts.items end turns) → Appends c d (run_note tree sim.flat sim.firsts.items end turns)
+    (is : stop_in sim.flat.resolution stop ≡ Some end) where
+  pub ran_all : (ahead : List (List Change)) → HaveAnswers tree sim.flat sim.firsts.items ahead end turns
+      → (how : End) (answer : Status) → how ≡ run_end tree sim.flat sim.firsts.items ahead end turns → answer ≡ status_of how
+      → Appends a b (trace_of kind tree sim.flat sim.firsts.items ahead end turns) → Appends c d (run_note tree sim.flat sim.firsts.items ahead end turns)
       → WritesOutcome (Text (Run stop kind turns) text) answer a b c d
-  ran_all how answer ended answers traced noted = record {
-    outcome = ran kind tree sim end turns;
-    has = has_run spells sound none is;
-    answers = sym (answers ∙ ap status_of ended);
+  ran_all ahead answers how answer ended answered traced noted = record {
+    outcome = ran kind tree sim ahead end turns;
+    has = has_run spells sound is ahead answers;
+    answers = sym (answered ∙ ap status_of ended);
     out = traced;
     notes = noted;
   }
 
-  pub ran_part : AppendsFront a b (trace_of kind tree sim.flat sim.firsts.items end turns) → AppendsFront c d (run_note tree sim.flat sim.firsts.items end turns)
-      → WritesNothingOrFront (Text (Run stop kind turns) text) a b c d
-  ran_part traced noted = inr (record { outcome = ran kind tree sim end turns; has = has_run spells sound none is; out = traced; notes = noted })
+  -- front parts of what it writes, whichever answers of its boundaries it is told, are front parts of the texts of each outcome
+  module _ (apart : FaultOrAccepted) (models : ModelsAreAlike) (runs : RunsAreAlike)
+      (traced : (ahead : List (List Change)) → HaveAnswers tree sim.flat sim.firsts.items ahead end turns → AppendsFront a b (trace_of kind tree sim.flat sim.firsts.items ahead end turns))
+      (noted : (ahead : List (List Change)) → HaveAnswers tree sim.flat sim.firsts.items ahead end turns → AppendsFront c d (run_note tree sim.flat sim.firsts.items ahead end turns)) where
+    -- of another model of the tree
+    front_at : (other : Sim) (o : Outcome) → IsAccepted tree other → OfEnd kind turns tree other (Some end) o → AppendsFront a b o.out × AppendsFront c d o.notes
+    front_at other o fine of =
+        let both = runs tree other sim (text_keeps spells) fine sound of.0 kind end turns in
+        let own = both.answers of.1 in (
+          subst (λ (t : List ℕ). AppendsFront a b t) (sym both.alike.trace ∙ ap (λ (x : Outcome). x.out) (sym of.2)) (traced of.0 own),
+          subst (λ (t : List ℕ). AppendsFront c d t) (sym both.alike.notes ∙ ap (λ (x : Outcome). x.notes) (sym of.2)) (noted of.0 own),
+        )
 
--- a run with another answer than that it is unbuilt is of a model in which nothing changes
-not_true : (changes : Bool) → ¬ (changes ≡ true) → changes ≡ false
-not_true true never = absurd (never refl)
-not_true false never = refl
+    front_here : (other : Sim) (o : Outcome) → IsAccepted tree other → OfAccepted (Run stop kind turns) tree other o → AppendsFront a b o.out × AppendsFront c d o.notes
+    front_here other o fine of =
+        let early : stop_in other.flat.resolution stop ≡ Some end = ap (λ (unit : Resolution). stop_in unit stop) (models tree other sim (text_keeps spells) fine sound).unit ∙ is in
+        front_at other o fine (subst (λ (e : Option ℕ). OfEnd kind turns tree other e o) early of)
 
-pub none_ok : {T E : Type 0} (changes : Bool) (x : T) (error : E) → (changes ≡ true → IsErrOf (Ok x) error) → changes ≡ false
-none_ok changes x error always = not_true changes (λ changed. let same = always changed in absurd cc)
+    front_by : (o : Outcome) → OfText (Run stop kind turns) text o → AppendsFront a b o.out × AppendsFront c d o.notes
+    front_by o (inl f) = absurd (apart text f.0 sim f.1 (record { tree = tree; spelled = spells; accepted = sound }))
+    front_by o (inr m) =
+        let same = same_tree text tree m.0 spells m.2 in
+        front_here m.1 o (subst (λ (x : PureTree). IsAccepted x m.1) same m.3) (subst (λ (x : PureTree). OfAccepted (Run stop kind turns) x m.1 o) same m.4)
 
-pub none_err : {T E : Type 0} (changes : Bool) (other error : E) → ¬ (other ≡ error) → (changes ≡ true → IsErrOf {T = T} (Err other) error) → changes ≡ false
-none_err changes other error differ always = not_true changes (λ changed. let same = always changed in differ cc)
-
--- it wrote nothing before its note
-module _ (result : Result Status SinkErr) (r : Reading) (a b c d e : Option (List ℕ)) (out : b ≡ a) (notes : d ≡ c) where
-  pub unwritten_all : IfOk result (λ s. WritesOutcome r s a a d e) → IfOk result (λ s. WritesOutcome r s a b c e)
-  unwritten_all wrote = subst (λ (x : Option (List ℕ)). IfOk result (λ s. WritesOutcome r s a x c e)) (sym out)
-      (subst (λ (x : Option (List ℕ)). IfOk result (λ s. WritesOutcome r s a a x e)) notes wrote)
-
-  pub unwritten_part : OnErr result (WritesNothingOrFront r a a d e) → OnErr result (WritesNothingOrFront r a b c e)
-  unwritten_part wrote = subst (λ (x : Option (List ℕ)). OnErr result (WritesNothingOrFront r a x c e)) (sym out)
-      (subst (λ (x : Option (List ℕ)). OnErr result (WritesNothingOrFront r a a x e)) notes wrote)
+    pub ran_part : WritesNothingOrFront (Text (Run stop kind turns) text) a b c d
+    ran_part = inr (record { out = λ o has. (front_by o (seen has)).0; notes = λ o has. (front_by o (seen has)).1 })
 
 -- what holds for each text that spells a tree
 pub each_ok : {T E : Type 0} (result : Result T E) (tree : PureTree) (P : List ℕ → T → Type 0) → ((text : List ℕ) → SpellsText text tree → IfOk result (P text))
@@ -129,11 +140,10 @@ texts_all (Ok s) r out notes a b c d has is wrote noted = record {
 }
 texts_all (Err error) r out notes a b c d has is wrote noted = tt
 
-pub texts_part : (result : Result Status SinkErr) (r : Reading) (out notes : List ℕ) (a b c d : Option (List ℕ)) → HasOutcome r (record { status = Done; out = out; notes = notes })
+pub texts_part : HasOneOutcome → (result : Result Status SinkErr) (r : Reading) (out notes : List ℕ) (a b c d : Option (List ℕ)) → HasOutcome r (record { status = Done; out = out; notes = notes })
     → OnErr result (AppendsFront a b out) → OnErr result (AppendsFront c d notes) → OnErr result (WritesNothingOrFront r a b c d)
-texts_part (Ok s) r out notes a b c d has wrote noted = tt
-texts_part (Err error) r out notes a b c d has wrote noted =
-    front_of r a b c d (record { outcome = record { status = Done; out = out; notes = notes }; has = has; out = wrote; notes = noted })
+texts_part law (Ok s) r out notes a b c d has wrote noted = tt
+texts_part law (Err error) r out notes a b c d has wrote noted = front_each law r (record { status = Done; out = out; notes = notes }) a b c d has wrote noted
 
 -- a check and its texts
 module _ (result : Result Status SinkErr) (text : List ℕ) (tree : PureTree) (sim : Sim) (texts : Texts) (a b c d : Option (List ℕ)) (spells : SpellsText text tree) (sound : IsAccepted tree sim) where
@@ -149,14 +159,14 @@ module _ (result : Result Status SinkErr) (text : List ℕ) (tree : PureTree) (s
       → IfOk result (λ s. WritesOutcome (Text Check text) s a b c d)
   check_all is = texts_all result (Text Check text) texts.output.items texts.note.items a b c d (checks is)
 
-  pub check_part : IsCheckText tree sim texts → OnErr result (AppendsFront a b texts.output.items) → OnErr result (AppendsFront c d texts.note.items)
+  pub check_part : HasOneOutcome → IsCheckText tree sim texts → OnErr result (AppendsFront a b texts.output.items) → OnErr result (AppendsFront c d texts.note.items)
       → OnErr result (WritesNothingOrFront (Text Check text) a b c d)
-  check_part is = texts_part result (Text Check text) texts.output.items texts.note.items a b c d (checks is)
+  check_part law is = texts_part law result (Text Check text) texts.output.items texts.note.items a b c d (checks is)
 
   pub plan_all : IsPlanText sim texts → IfOk result (λ s. s ≡ Done) → OnOk result (Appends a b texts.output.items) → OnOk result (Appends c d texts.note.items)
       → IfOk result (λ s. WritesOutcome (Text Plan text) s a b c d)
   plan_all is = texts_all result (Text Plan text) texts.output.items texts.note.items a b c d (plans is)
 
-  pub plan_part : IsPlanText sim texts → OnErr result (AppendsFront a b texts.output.items) → OnErr result (AppendsFront c d texts.note.items)
+  pub plan_part : HasOneOutcome → IsPlanText sim texts → OnErr result (AppendsFront a b texts.output.items) → OnErr result (AppendsFront c d texts.note.items)
       → OnErr result (WritesNothingOrFront (Text Plan text) a b c d)
-  plan_part is = texts_part result (Text Plan text) texts.output.items texts.note.items a b c d (plans is)
+  plan_part law is = texts_part law result (Text Plan text) texts.output.items texts.note.items a b c d (plans is)

@@ -1,6 +1,6 @@
 -- The outcome of the command: what it answers, and what it writes on its output and on its notes.
 -- Source: own.
-use Rattle.std.specs.Prelude.{ℕ, ◌≡◌, ◌⊎◌, ◌*◌, true, false, List, [], Option, Some, None, codes}
+use Rattle.std.specs.Prelude.{ℕ, ◌≡◌, ◌⊎◌, ◌*◌, List, [], Option, Some, None, codes}
 use Rattle.std.specs.Prelude.{if◌then◌else◌, nat_lt}
 use Rattle.std.specs.Io.KnownBytes.{Appends, Keeps}
 use Rattle.tdf_sim.specs.low.base.Limits.{time_end}
@@ -9,13 +9,13 @@ use Rattle.tdf_sim.specs.low.base.declared.resolution.Resolution.{Resolution}
 use Rattle.tdf_sim.specs.low.base.declared.resolution.Resolution.TheVariants.{Ps, Fs}
 use Rattle.tdf_sim.specs.low.blocks.Refused.{SpellsText}
 use Rattle.tdf_cli.specs.Input.{Reading, BadWords, Text, TooLong, ReadFault, NoMemory}
-use Rattle.tdf_cli.specs.Refusals.{refusal_text, unbuilt_fault}
+use Rattle.tdf_cli.specs.Refusals.{refusal_text}
 use Rattle.tdf_cli.specs.declared.status.Status.{Status}
 use Rattle.tdf_cli.specs.declared.status.Status.TheVariants as status
 use Rattle.tdf_cli.specs.declared.words.Job.{Job}
 use Rattle.tdf_cli.specs.declared.words.Job.TheVariants.{Run, Check, Plan}
 use Rattle.tdf_sim.specs.low.in_out.Bytes.{AppendsFront}
-use Rattle.tdf_sim.specs.Ends.{End, run_end, run_note, trace_of}
+use Rattle.tdf_sim.specs.Ends.{Change, End, HaveAnswers, run_end, run_note, trace_of}
 use Rattle.tdf_sim.specs.low.notes.Plans.{accepted_line}
 use Rattle.tdf_print.specs.Canon.{canon}
 use Rattle.tdf_sim.specs.Ends as ending
@@ -23,7 +23,6 @@ use Rattle.tdf_sim.specs.Accepted.{IsAccepted}
 use Rattle.tdf_sim.specs.declared.sim.Sim.{Sim}
 use Rattle.tdf_sim.specs.FirstFault.{cluster_count, IsFirstFault}
 use Rattle.tdf_sim.specs.PlanText.{plans_text}
-use Rattle.tdf_sim.specs.Runs.{makes_changes}
 use Rattle.tdf_sim.specs.low.tree.Pure.{PureTree}
 use Rattle.tdf_sim.specs.low.words.declared.asked.TraceKind.{TraceKind}
 
@@ -51,12 +50,14 @@ status_of (ending.Reached time turns) = status.Done
 status_of (ending.Stopped time cluster fault) = status.Stopped
 status_of (ending.Spent time) = status.Spent
 
--- a run that ended, whichever way; its stop is in counts of the resolution
-abbrev pub ran : TraceKind → PureTree → Sim → (stop turns : ℕ) → Outcome
-ran kind tree sim stop turns = record {
-  status = status_of (run_end tree sim.flat sim.firsts.items stop turns);
-  out = trace_of kind tree sim.flat sim.firsts.items stop turns;
-  notes = run_note tree sim.flat sim.firsts.items stop turns;
+-- a run that ended, whichever way, with what is told of its boundaries; its stop is in counts of
+-- the resolution
+abbrev pub ran : TraceKind → PureTree → Sim → (ahead : List (List Change)) → (stop turns : ℕ)
+    → Outcome
+ran kind tree sim ahead stop turns = record {
+  status = status_of (run_end tree sim.flat sim.firsts.items ahead stop turns);
+  out = trace_of kind tree sim.flat sim.firsts.items ahead stop turns;
+  notes = run_note tree sim.flat sim.firsts.items ahead stop turns;
 }
 
 -- the note of a model that was accepted: the number of its clusters
@@ -80,18 +81,15 @@ pub data HasOutcome : Reading → Outcome → Type 0 where
   too_long : HasOutcome TooLong (note status.TooLong (codes "too long\n"))
   faulty : {job : Job} {text : List ℕ} {fault : Fault} → IsFirstFault text fault
       → HasOutcome (Text job text) (refused fault)
-  unbuilt : {stop turns : ℕ} {kind : TraceKind} {text : List ℕ} {tree : PureTree} {sim : Sim}
-      → SpellsText text tree → IsAccepted tree sim → makes_changes sim.flat.tables ≡ true
-      → HasOutcome (Text (Run stop kind turns) text) (refused unbuilt_fault)
   too_late : {stop turns : ℕ} {kind : TraceKind} {text : List ℕ} {tree : PureTree} {sim : Sim}
-      → SpellsText text tree → IsAccepted tree sim → makes_changes sim.flat.tables ≡ false
-      → stop_in sim.flat.resolution stop ≡ None
+      → SpellsText text tree → IsAccepted tree sim → stop_in sim.flat.resolution stop ≡ None
       → HasOutcome (Text (Run stop kind turns) text)
       (note status.StopTooLong (codes "stop too long\n"))
   has_run : {stop turns end : ℕ} {kind : TraceKind} {text : List ℕ} {tree : PureTree} {sim : Sim}
-      → SpellsText text tree → IsAccepted tree sim → makes_changes sim.flat.tables ≡ false
-      → stop_in sim.flat.resolution stop ≡ Some end
-      → HasOutcome (Text (Run stop kind turns) text) (ran kind tree sim end turns)
+      → SpellsText text tree → IsAccepted tree sim → stop_in sim.flat.resolution stop ≡ Some end
+      → (ahead : List (List Change))
+      → HaveAnswers tree sim.flat sim.firsts.items ahead end turns
+      → HasOutcome (Text (Run stop kind turns) text) (ran kind tree sim ahead end turns)
   is_checked : {text : List ℕ} {tree : PureTree} {sim : Sim} → SpellsText text tree
       → IsAccepted tree sim → HasOutcome (Text Check text) (checked tree sim)
   is_planned : {text : List ℕ} {tree : PureTree} {sim : Sim} → SpellsText text tree
@@ -105,14 +103,13 @@ pub record WritesOutcome (r : Reading) (answer : Status) (out_old out_new notes_
   pub out : Appends out_old out_new outcome.out
   pub notes : Appends notes_old notes_new outcome.notes
 
--- both sinks gained front parts of the texts of the outcome
+-- both sinks gained front parts of the texts of each outcome
 pub record WritesFrontOf (r : Reading) (out_old out_new notes_old notes_new : Option (List ℕ)) : Type 0 where
-  pub outcome : Outcome
-  pub has : HasOutcome r outcome
-  pub out : AppendsFront out_old out_new outcome.out
-  pub notes : AppendsFront notes_old notes_new outcome.notes
+  pub out : (outcome : Outcome) → HasOutcome r outcome → AppendsFront out_old out_new outcome.out
+  pub notes : (outcome : Outcome) → HasOutcome r outcome
+      → AppendsFront notes_old notes_new outcome.notes
 
--- nothing was written, or, where the text could be read, both sinks gained front parts of the texts of the outcome
+-- nothing was written, or, where the text could be read, both sinks gained front parts of the texts of its outcome, if it has one
 abbrev pub WritesNothingOrFront : Reading → (out_old out_new notes_old notes_new : Option (List ℕ)) → Type 0
 WritesNothingOrFront NoMemory a b c d = Keeps a b × Keeps c d
 WritesNothingOrFront r a b c d = (Keeps a b × Keeps c d) ⊎ WritesFrontOf r a b c d

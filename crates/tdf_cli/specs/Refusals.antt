@@ -2,13 +2,7 @@
 -- Source: own.
 use Rattle.std.specs.Prelude.{ℕ, List, ◌++◌, codes}
 use Rattle.tdf_sim.specs.low.base.Fault.{fault_text}
-use Rattle.tdf_sim.specs.low.base.declared.codes.Code.TheVariants as code
 use Rattle.tdf_sim.specs.low.base.declared.faults.Fault.{Fault}
-use Rattle.tdf_sim.specs.low.base.declared.faults.Place.TheVariants as place
-
--- the model is none that runs yet
-abbrev pub unbuilt_fault : Fault
-unbuilt_fault = record { code = code.Unbuilt; place = place.Nowhere }
 
 -- the note of a text that isn't taken: the code of its first fault, and the fault's place
 unfoldable pub refusal_text : Fault → List ℕ

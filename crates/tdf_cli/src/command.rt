@@ -3,7 +3,7 @@
 ghost use Rattle.std.specs.Prelude.{◌≡◌, ◌≢◌, ◌⊎◌, ◌≤◌, ℕ, List, Some, None, length};
 ghost use Rattle.tdf_sim.specs.low.base.Limits.{longest_text};
 ghost use Rattle.tdf_cli.specs.Input.{InputIs, NoMemory, Reading, Text};
-ghost use Rattle.tdf_cli.specs.Outcome.{HasOneOutcome, HasOutcome, Outcome, WritesNothingOrFront, WritesOutcome};
+ghost use Rattle.tdf_cli.specs.Outcome.{HasOutcome, Outcome, WritesNothingOrFront, WritesOutcome};
 ghost use Rattle.tdf_cli.specs.Status.{no_memory, number_of, write_fault};
 ghost use Rattle.tdf_cli.specs.Words.{job_for};
 ghost use Rattle.tdf_cli.specs.declared.status.Status.{Status};
@@ -13,19 +13,19 @@ ghost use Rattle.tdf_sim.specs.low.words.Words.{texts_of};
 ghost use Rattle.tdf_sim.specs.low.in_out.Faults.{FaultsRose};
 
 use crate::jobs::finish;
+use crate::laws::law_one_outcome;
 use crate::load::load;
 use crate::status::{NO_MEMORY, WRITE_FAULT};
 use std::alloc::Global;
 use tdf_sim::low::in_out::{Sink, SinkErr, Source};
-use tdf_sim::{law_first_fault, law_one_model, law_one_run};
 
 /// The command: takes its words, those after the program's name, reads the model, does the job, and answers the status
 /// of the program.
 ///
 /// The status is 0 where the job is done, 1 where the text has a fault, 2 where the words are not accepted, 3 where a read
-/// failed, 4 where a write failed, 6 where the turns of a run were too few, 7 where it is out of memory, 8 where the text has more
-/// than 1,048,576 bytes, and 9 where the stop is too late for the resolution of the model. 5 is for a run that a refused change of
-/// attributes stops, and no model that runs today has one.
+/// failed, 4 where a write failed, 5 where a refused change of attributes stopped a run, 6 where the turns of a run were too few, 7
+/// where it is out of memory, 8 where the text has more than 1,048,576 bytes, and 9 where the stop is too late for the resolution
+/// of the model.
 pub fn tool<S: Source, O: Sink, N: Sink>(
     alloc: Global,
     words: &Vec<String>,
@@ -57,22 +57,11 @@ pub fn tool<S: Source, O: Sink, N: Sink>(
         → ¬ FaultsRose (S.faults model.old) (S.faults model.new) → ¬ FaultsRose (O.faults out.old) (O.faults out.new)
         → ¬ FaultsRose (N.faults notes.old) (N.faults notes.new) → (result ≡ number_of o.status) ⊎ (result ≡ no_memory) }
 {
-    law_first_fault();
-    law_one_model();
-    law_one_run();
+    law_one_outcome();
     let input = load(alloc, words, model);
     match finish(alloc, &input, out, notes) {
         Ok(status) => status.number(),
         Err(SinkErr::Failed) => WRITE_FAULT,
         Err(SinkErr::Memory) => NO_MEMORY,
     }
-}
-
-/// What comes of the words and of reading has at most one outcome.
-pub fn law_one_outcome()
-    ensures { HasOneOutcome }
-{
-    law_first_fault();
-    law_one_model();
-    law_one_run();
 }

@@ -21,6 +21,7 @@ ghost use Rattle.tdf_sim.specs.Runs.{IsAcceptedTree};
 ghost use Rattle.tdf_sim.specs.low.tree.Kept.{IsKept};
 ghost use Rattle.tdf_sim.specs.low.tree.Views.{pure_tree};
 
+use crate::laws::law_one_outcome;
 use crate::load::Input;
 use crate::notes::{noted, refuse};
 use crate::refusals::first_fault;
@@ -130,6 +131,7 @@ fn check<O: Sink, N: Sink>(
         (O.taken out.old) (O.taken out.new) (N.taken notes.old) (N.taken notes.new)) }
     ensures cause { IsErrOf result why.Failed → FaultsRose (O.faults out.old) (O.faults out.new) ⊎ FaultsRose (N.faults notes.old) (N.faults notes.new) }
 {
+    law_one_outcome();
     match check_texts(alloc, tree, sim) {
         Ok(texts) => put_texts(&texts, out, notes),
         Err(_) => Err(SinkErr::Memory),
@@ -152,6 +154,7 @@ fn plan<O: Sink, N: Sink>(
         (O.taken out.old) (O.taken out.new) (N.taken notes.old) (N.taken notes.new)) }
     ensures cause { IsErrOf result why.Failed → FaultsRose (O.faults out.old) (O.faults out.new) ⊎ FaultsRose (N.faults notes.old) (N.faults notes.new) }
 {
+    law_one_outcome();
     match plan_texts(alloc, sim) {
         Ok(texts) => put_texts(&texts, out, notes),
         Err(_) => Err(SinkErr::Memory),
@@ -200,6 +203,7 @@ fn do_tree<O: Sink, N: Sink>(
         (O.taken out.old) (O.taken out.new) (N.taken notes.old) (N.taken notes.new)) }
     ensures cause { IsErrOf result why.Failed → FaultsRose (O.faults out.old) (O.faults out.new) ⊎ FaultsRose (N.faults notes.old) (N.faults notes.new) }
 {
+    law_one_outcome();
     match elaborate_tree(alloc, tree) {
         Ok(sim) => do_accepted(alloc, tree, sim, job, out, notes),
         Err(SimErr::Refused(fault)) => refuse(alloc, notes, fault),
@@ -223,6 +227,7 @@ fn do_text<O: Sink, N: Sink>(
         (O.taken out.old) (O.taken out.new) (N.taken notes.old) (N.taken notes.new)) }
     ensures cause { IsErrOf result why.Failed → FaultsRose (O.faults out.old) (O.faults out.new) ⊎ FaultsRose (N.faults notes.old) (N.faults notes.new) }
 {
+    law_one_outcome();
     match parse(alloc, text) {
         Ok(tree) => do_tree(alloc, &tree, job, out, notes),
         Err(refused) => match first_fault(refused) {
@@ -247,6 +252,7 @@ pub(crate) fn finish<O: Sink, N: Sink>(
     ensures cause { IsErrOf result why.Failed → FaultsRose (O.faults out.old) (O.faults out.new) ⊎ FaultsRose (N.faults notes.old) (N.faults notes.new) }
     ensures cut { reading input.now ≡ NoMemory → result ≡ Err why.Memory }
 {
+    law_one_outcome();
     match input {
         Input::BadWords => noted(notes, b"usage\n", Status::Usage),
         Input::Text(job, text) => do_text(alloc, text, *job, out, notes),

@@ -8,10 +8,12 @@
 //! * `notes`: outcomes that only leave a note.
 //! * `refusals`: the faults of texts, and how they are noted.
 //! * `status`: the answers and their numbers.
+//! * `laws`: there is at most one outcome.
 #![tactic(auto)]
 
 mod command;
 mod jobs;
+mod laws;
 mod load;
 pub mod low;
 mod notes;
@@ -20,6 +22,7 @@ mod run;
 mod status;
 mod words;
 
-pub use command::{law_one_outcome, tool};
+pub use command::tool;
+pub use laws::law_one_outcome;
 pub use status::{NO_MEMORY, USAGE, WRITE_FAULT};
 pub use words::Job;

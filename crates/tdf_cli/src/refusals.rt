@@ -3,7 +3,7 @@
 ghost use Rattle.std.specs.Prelude.{◌≡◌, ◌++◌, List, ℕ, MatchOption, OnOk};
 ghost use Rattle.tdf_sim.specs.low.blocks.Refused.{IsWhy};
 ghost use Rattle.tdf_sim.specs.low.blocks.declared.err.LangErr.TheVariants as why;
-ghost use Rattle.tdf_cli.specs.Refusals.{refusal_text, unbuilt_fault};
+ghost use Rattle.tdf_cli.specs.Refusals.{refusal_text};
 ghost use Rattle.tdf_sim.specs.FirstFault.{IsFirstFault, on_line};
 
 use tdf_sim::low::base::{Code, Fault, Memory, Place, push_fault};
@@ -28,16 +28,6 @@ pub(crate) fn first_fault(refused: LangErr) -> Option<Fault>
         LangErr::LongLine { line } => Some(on_line(Code::LongLine, line)),
         LangErr::Syntax { line } => Some(on_line(Code::Syntax, line)),
         LangErr::Memory => None,
-    }
-}
-
-/// The model is none that runs yet.
-pub(crate) fn unbuilt() -> Fault
-    ensures { result ≡ unbuilt_fault }
-{
-    Fault {
-        code: Code::Unbuilt,
-        place: Place::Nowhere,
     }
 }
 

@@ -11,14 +11,14 @@ ghost use Rattle.tdf_sim.specs.low.in_out.declared.writing.SinkErr.TheVariants a
 ghost use Rattle.tdf_sim.specs.Runs.{IsAcceptedTree, IsSomeAccepted};
 ghost use Rattle.tdf_sim.specs.low.tree.Pure.{PureTree};
 
-use crate::notes::{noted, refuse};
-use crate::refusals::unbuilt;
+use crate::laws::law_one_outcome;
+use crate::notes::noted;
 use crate::status::Status;
 use std::alloc::Global;
 use tdf_sim::low::base::{Resolution, TIME_END};
 use tdf_sim::low::in_out::{Sink, SinkErr};
 use tdf_sim::low::words::TraceKind;
-use tdf_sim::{End, RunErr, Sim};
+use tdf_sim::{End, RunErr, Sim, law_first_fault, law_one_model, law_one_run};
 
 /// A stop in fs, where a run may have it.
 fn in_femtoseconds(stop: u64) -> Option<u64>
@@ -54,8 +54,7 @@ fn status_of(end: &End) -> Status
     }
 }
 
-/// Runs a model that was accepted to a stop in counts of its resolution, and answers how it ended; or notes that such a model isn't
-/// run yet, and answers `Refused`.
+/// Runs a model that was accepted to a stop in counts of its resolution, and answers how it ended.
 fn run_to<O: Sink, N: Sink>(
     alloc: Global,
     sim: Sim,
@@ -75,20 +74,21 @@ fn run_to<O: Sink, N: Sink>(
         (O.taken out.old) (O.taken out.new) (N.taken notes.old) (N.taken notes.new)) }
     ensures cause { IsErrOf result why.Failed → FaultsRose (O.faults out.old) (O.faults out.new) ⊎ FaultsRose (N.faults notes.old) (N.faults notes.new) }
 {
+    law_first_fault();
+    law_one_model();
+    law_one_run();
     match sim.run(alloc, end, turns, kind, out, notes) {
         Ok(ran) => {
             let status = status_of(&ran.end);
             drop(ran);
             Ok(status)
         }
-        Err(RunErr::Unbuilt) => refuse(alloc, notes, unbuilt()),
         Err(RunErr::WriteFault) => Err(SinkErr::Failed),
         Err(RunErr::Memory) => Err(SinkErr::Memory),
     }
 }
 
-/// Runs a model that was accepted to a stop in ps, and answers how it ended; or notes that the stop is too late for its resolution,
-/// or that such a model isn't run yet.
+/// Runs a model that was accepted to a stop in ps, and answers how it ended; or notes that the stop is too late for its resolution.
 pub(crate) fn run<O: Sink, N: Sink>(
     alloc: Global,
     sim: Sim,
@@ -106,14 +106,11 @@ pub(crate) fn run<O: Sink, N: Sink>(
         (O.taken out.old) (O.taken out.new) (N.taken notes.old) (N.taken notes.new)) }
     ensures cause { IsErrOf result why.Failed → FaultsRose (O.faults out.old) (O.faults out.new) ⊎ FaultsRose (N.faults notes.old) (N.faults notes.new) }
 {
+    law_one_outcome();
     match stop_in(sim.flat.resolution, stop) {
         Some(end) => run_to(alloc, sim, end, kind, turns, out, notes),
         None => {
-            let changes = sim.makes_changes();
             drop(sim);
-            if changes {
-                return refuse(alloc, notes, unbuilt());
-            }
             noted(notes, b"stop too long\n", Status::StopTooLong)
         }
     }

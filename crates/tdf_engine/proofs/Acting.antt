@@ -8,15 +8,15 @@ use Rattle.tdf_linked.specs.low.convert.Links.{AreLinks, AreRising, HaveSignals}
 use Rattle.tdf_linked.specs.low.convert.Outputs.{OutputsOf}
 use Rattle.tdf_linked.specs.low.convert.Sampled.{PlansGoByOffset}
 use Rattle.tdf_linked.specs.low.convert.declared.links.Links.{Links}
-use Rattle.tdf_engine.proofs.Crossed.{Crosses, all_crosses, crossed_long}
+use Rattle.tdf_engine.proofs.Crossed.{Crosses, GivesAsMuch, all_crosses, crossed_long}
 use Rattle.tdf_engine.proofs.Onward.{IsDueFrom, crossed_due, crossed_on, fired_on, turned_later}
 use Rattle.tdf_engine.proofs.Parts.{pass_sends, sorted_of}
 use Rattle.tdf_engine.proofs.Passed.{Turns, all_turns, passed_long}
 use Rattle.tdf_engine.proofs.Rooms.{room_for_pass, rooms_kept}
 use Rattle.tdf_engine.proofs.Samples.{samples_here}
-use Rattle.tdf_engine.specs.Crossing.{CanCross, CrossingOf, HaveCrossed, crossing_of}
-use Rattle.tdf_engine.specs.Engine.{CanFireAll, HaveRooms, IsEngineOf, IsInProgress, IsReadyAt}
-use Rattle.tdf_engine.specs.Sampling.{HaveSampled, sampling_at}
+use Rattle.tdf_engine.specs.Crossing.{CanCross, CrossingOf, crossing_of}
+use Rattle.tdf_engine.specs.Engine.{AreRoomy, CanFireAll, HaveBoundaries, HaveRooms, IsEngineOf, IsInProgress, IsReadyAt}
+use Rattle.tdf_engine.specs.Sampling.{CanSample, HaveSampled, sampling_at}
 use Rattle.tdf_engine.specs.Settling.{CanSettle, IsBefore}
 use Rattle.tdf_engine.specs.Times.{due_time}
 use Rattle.tdf_engine.specs.declared.engine.Engine.{Engine}
@@ -31,6 +31,7 @@ use Rattle.tdf_linked.specs.low.exec.Starts.{IsSoundFlat}
 use Rattle.tdf_linked.specs.low.exec.declared.runners.Runner.{Runner}
 use Rattle.tdf_linked.specs.low.fixed.declared.raw.Raw.{Raw}
 use Rattle.tdf_linked.specs.low.flat.declared.model.Flat.{Flat}
+use Rattle.tdf_linked.specs.low.limits.Limits.{AreWithinLimits}
 use Rattle.tdf_linked.proofs.Api.{get_inside}
 use Rattle.tdf_linked.proofs.Api.{emitted_to}
 use Rattle.tdf_linked.proofs.Api.{pass_rooms, pass_sent}
@@ -44,45 +45,54 @@ due_moved_traced : (offset : ℕ) (c b : ClusterOf) → IsMoved c b → size_due
 due_moved_traced offset c b moved = moved_traced c b moved offset b.entries ∙ ap (λ (z : ClusterOf). size_due traced_size c.runners offset z.entries) moved.rest
 
 -- boundaries can be had
-pub can_cross : (flat : Flat) (time left : ℕ) (e : Engine) → IsEngineOf flat e → IsReadyAt time e → CanCross flat time (crossing_of e.clusters.items e.since.items left)
+pub can_cross : (flat : Flat) (time left : ℕ) (e : Engine) → IsEngineOf flat e → IsReadyAt time e → CanCross flat time (crossing_of e.clusters.items e.since.items left [])
 can_cross flat time left e of ready = record {
   same = of.since;
   begun = ready.begun;
   of = λ n c at. (of.clusters n c at).of;
   going = λ n c at. (of.clusters n c at).going;
-  still = λ n c at. (of.clusters n c at).still;
 }
 
 -- after the boundaries
-module _ (flat : Flat) (time left : ℕ) (e : Engine) (of : IsEngineOf flat e) (ready : IsReadyAt time e) (e2 : Engine) (left2 : ℕ)
-    (crossed : HaveCrossed flat time (length e.clusters.items) (crossing_of e.clusters.items e.since.items left) (crossing_of e2.clusters.items e2.since.items left2)) where
+module _ (flat : Flat) (time left : ℕ) (e : Engine) (of : IsEngineOf flat e) (ready : IsReadyAt time e) (limits : AreWithinLimits flat) (e2 : Engine) (left2 : ℕ)
+    (crossed : HaveBoundaries flat time e left (crossing_of e2.clusters.items e2.since.items left2 e2.planned.items)) where
+  -- no cluster got a new plan
+  abbrev Unplanned : Type 0
+  Unplanned = e2.planned.items ≡ []
+
+  abbrev first : CrossingOf
+  first = crossing_of e.clusters.items e.since.items left []
+
   abbrev mid : CrossingOf
-  mid = crossing_of e2.clusters.items e2.since.items left2
+  mid = crossing_of e2.clusters.items e2.since.items left2 e2.planned.items
 
   long : (length mid.clusters ≡ length e.clusters.items) × (length mid.since ≡ length e.clusters.items)
-  long = let l = crossed_long flat time (crossing_of e.clusters.items e.since.items left) (length e.clusters.items) mid crossed in (l.0, l.1 ∙ of.since)
+  long = let l = crossed_long Unplanned flat time first (length e.clusters.items) mid crossed in (l.0, l.1 ∙ of.since)
 
   module _ (n t : ℕ) (d : ClusterOf) (d_at : slice_get mid.clusters n ≡ Some d) (t_at : slice_get mid.since n ≡ Some t) where
-    from : (c : ClusterOf) × (s : ℕ) × (slice_get e.clusters.items n ≡ Some c) × (slice_get e.since.items n ≡ Some s) × Crosses flat time c d s t
+    from : (c : ClusterOf) × (s : ℕ) × (slice_get e.clusters.items n ≡ Some c) × (slice_get e.since.items n ≡ Some s) × Crosses Unplanned flat time c d s t
     from = let i = slice_get_within mid.clusters n d d_at in let l = long.0 in
-        all_crosses flat time (crossing_of e.clusters.items e.since.items left) (length e.clusters.items) mid crossed n t d d_at t_at (omega (arith, i, l))
+        all_crosses Unplanned flat time first (length e.clusters.items) mid crossed (λ p. p) n t d d_at t_at (omega (arith, i, l))
 
     pub on_at : IsInProgress flat n d
-    on_at = crossed_on flat n time from.1 t from.0 d (of.clusters n from.0 from.2) from.4
+    on_at = crossed_on Unplanned flat n time from.1 t from.0 d limits (of.clusters n from.0 from.2) from.4
 
-    begun_by : (c : ClusterOf) (s : ℕ) → slice_get e.since.items n ≡ Some s → Crosses flat time c d s t → t ≤ time
+    begun_by : (c : ClusterOf) (s : ℕ) → slice_get e.since.items n ≡ Some s → Crosses Unplanned flat time c d s t → t ≤ time
     begun_by c s s_at (Crosses.Stays going same kept) = let b = ready.begun n s s_at in omega (arith, b, kept)
-    begun_by c s s_at (Crosses.Begins is d_of now) = omega (arith, now)
+    begun_by c s s_at (Crosses.Begins head much d_of now) = omega (arith, now)
 
     pub begun_at : t ≤ time
     begun_at = begun_by from.0 from.1 from.3 from.4
 
     pub due_at : IsDueFrom time t d
-    due_at = crossed_due flat time from.1 t from.0 d on_at.takes (ready.clusters n from.1 from.0 from.2 from.3) from.4
+    due_at = crossed_due Unplanned flat time from.1 t from.0 d on_at.takes (ready.clusters n from.1 from.0 from.2 from.3) from.4
 
-    alike_by : (size : Option Runner → ℕ) (offset : ℕ) (c : ClusterOf) (s : ℕ) → Crosses flat time c d s t → size_due size d.runners offset d.entries ≡ size_due size c.runners offset c.entries
-    alike_by size offset c s (Crosses.Stays going same kept) = ap (λ (z : ClusterOf). size_due size z.runners offset z.entries) same
-    alike_by size offset c s (Crosses.Begins is d_of now) = ap (λ (z : ClusterOf). size_due size z.runners offset z.entries) is
+    much_by : Unplanned → (c : ClusterOf) (s : ℕ) → Crosses Unplanned flat time c d s t → GivesAsMuch c d
+    much_by none c s (Crosses.Stays going same kept) = record {
+      sent = λ offset. ap (λ (z : ClusterOf). size_due sent_size z.runners offset z.entries) same;
+      traced = λ offset. ap (λ (z : ClusterOf). size_due traced_size z.runners offset z.entries) same;
+    }
+    much_by none c s (Crosses.Begins head much d_of now) = much none
 
   since_of : (n : ℕ) (d : ClusterOf) → slice_get mid.clusters n ≡ Some d → (t : ℕ) × (slice_get mid.since n ≡ Some t)
   since_of n d d_at = let i = slice_get_within mid.clusters n d d_at in let l0 = long.0 in let l1 = long.1 in get_inside mid.since n (omega (arith, i, l0, l1))
@@ -93,9 +103,21 @@ module _ (flat : Flat) (time left : ℕ) (e : Engine) (of : IsEngineOf flat e) (
   pub begun_mid : (n t : ℕ) → slice_get mid.since n ≡ Some t → t ≤ time
   begun_mid n t t_at = let d = cluster_of n t t_at in begun_at n t d.0 d.1 t_at
 
-  rooms_mid : (size : Option Runner → ℕ) (room : ℕ) → HaveRooms size e.clusters.items room → HaveRooms size mid.clusters room
-  rooms_mid size room rooms = rooms_kept size room e.clusters.items mid.clusters rooms long.0
-      (λ n offset d d_at. (let t = since_of n d d_at in let f = from n t.0 d d_at t.1 in (f.0, f.2, alike_by n t.0 d d_at t.1 size offset f.0 f.1 f.4)))
+  -- where no cluster got a new plan the rooms are enough
+  rooms_mid : Unplanned → (size : Option Runner → ℕ) → ((c d : ClusterOf) → GivesAsMuch c d → (offset : ℕ) → size_due size d.runners offset d.entries ≡ size_due size c.runners offset c.entries) → (room : ℕ)
+      → HaveRooms size e.clusters.items room → HaveRooms size mid.clusters room
+  rooms_mid none size of_size room rooms = rooms_kept size room e.clusters.items mid.clusters rooms long.0
+      (λ n offset d d_at. (let t = since_of n d d_at in let f = from n t.0 d d_at t.1 in (f.0, f.2, of_size f.0 d (much_by n t.0 d d_at t.1 none f.0 f.1 f.4) offset)))
+
+  pub roomy_if_none : Unplanned → e.outputs.traced ≡ [] → AreRoomy e2.clusters.items e.outputs e.writes
+  roomy_if_none none untraced = record {
+    sent_room = rooms_mid none sent_size (λ c d much. much.sent) e.outputs.sent_room of.sent_room;
+    traced_room = rooms_mid none traced_size (λ c d much. much.traced) e.outputs.traced_room of.traced_room;
+    write_room = of.write_room;
+    none_sent = of.none_sent;
+    none_traced = untraced;
+    none_written = of.none_written;
+  }
 
   placed : (n : ℕ) (l : Links) (i : List Raw) → slice_get e.links.items n ≡ Some l → slice_get e.inputs.items n ≡ Some i → AreLinks l.list.items (length i)
   placed n l i l_at i_at = subst (AreLinks l.list.items) (sym (of.given n l i l_at i_at)) (of.linked n l l_at).placed
@@ -104,38 +126,40 @@ module _ (flat : Flat) (time left : ℕ) (e : Engine) (of : IsEngineOf flat e) (
   signals n l l_at = subst (HaveSignals l.list.items) (sym (of.kernel.values.long ∙ length-map flat.tables.de_signals (λ row. row.format))) (of.linked n l l_at).signals
 
   abbrev crossed_engine : Engine
-  crossed_engine = record e { clusters = e2.clusters; since = e2.since }
+  crossed_engine = record e { clusters = e2.clusters; since = e2.since; planned = e2.planned; outputs = e2.outputs; writes = e2.writes }
 
-  can_pass : IsSoundFlat flat → e.outputs.traced ≡ [] → (inputs : List (List Raw)) → HaveSampled (sampling_at time mid.since mid.clusters e.links.items e.kernel.values) (length mid.clusters) e.inputs.items inputs
-      → CanPass flat (pass_at time mid.since inputs) (run_of mid.clusters e.outputs left2)
-  can_pass sound none inputs sampled = record {
-    since = let l0 = long.0 in let l1 = long.1 in omega (arith, l0, l1);
-    inputs = let l0 = long.0 in let i = of.inputs in let s = sampled.same in omega (arith, l0, i, s);
-    begun = begun_mid;
-    of = λ n c at. (let t = since_of n c at in (on_at n t.0 c at t.1).of);
-    given = λ n s c i c_at s_at i_at due. (samples_here sound.model flat sound.sound sound.is e of time mid.since mid.clusters inputs long.0 sampled n s c i c_at s_at i_at
-        (on_at n s c c_at s_at).of (on_at n s c c_at s_at).number due).1;
-    room = record {
-      sent = let r = room_for_pass sent_size time e.outputs.sent_room mid.since mid.clusters (rooms_mid sent_size e.outputs.sent_room of.sent_room) in let z = ap length of.none_sent in omega (arith, r, z);
-      traced = let r = room_for_pass traced_size time e.outputs.traced_room mid.since mid.clusters (rooms_mid traced_size e.outputs.traced_room of.traced_room) in let z = ap length none in omega (arith, r, z);
-    };
-  }
-
-  pub can_fire : IsSoundFlat flat → e.outputs.traced ≡ [] → e2 ≡ crossed_engine → CanFireAll flat time e2 left2
-  can_fire sound none rest = subst (λ (z : Engine). CanFireAll flat time z left2) (sym rest) (record {
-    sample = record {
-      since = long.1 ∙ sym long.0;
-      links = of.links ∙ sym long.0;
-      inputs = of.inputs ∙ sym long.0;
+  module _ (sound : IsSoundFlat flat) (roomy : AreRoomy e2.clusters.items e2.outputs e2.writes) where
+    can_pass : (inputs : List (List Raw)) → HaveSampled (sampling_at time mid.since mid.clusters e.links.items e.kernel.values) (length mid.clusters) e.inputs.items inputs
+        → CanPass flat (pass_at time mid.since inputs) (run_of mid.clusters e2.outputs left2)
+    can_pass inputs sampled = record {
+      since = let l0 = long.0 in let l1 = long.1 in omega (arith, l0, l1);
+      inputs = let l0 = long.0 in let i = of.inputs in let s = sampled.same in omega (arith, l0, i, s);
       begun = begun_mid;
-      placed = placed;
-      signals = signals;
-    };
-    pass = can_pass sound none;
-  })
+      of = λ n c at. (let t = since_of n c at in (on_at n t.0 c at t.1).of);
+      given = λ n s c i c_at s_at i_at due. (samples_here sound.model flat sound.sound sound.is e of time mid.since mid.clusters inputs long.0 sampled n s c i c_at s_at i_at
+          (on_at n s c c_at s_at).of (on_at n s c c_at s_at).number due).1;
+      room = record {
+        sent = let r = room_for_pass sent_size time e2.outputs.sent_room mid.since mid.clusters roomy.sent_room in let z = ap length roomy.none_sent in omega (arith, r, z);
+        traced = let r = room_for_pass traced_size time e2.outputs.traced_room mid.since mid.clusters roomy.traced_room in let z = ap length roomy.none_traced in omega (arith, r, z);
+      };
+    }
+
+    pub can_fire : e2 ≡ crossed_engine → CanFireAll flat time e2 left2
+    can_fire rest = record {
+      sample = subst (λ (z : Engine). CanSample (sampling_at time e2.since.items e2.clusters.items z.links.items z.kernel.values) z.inputs.items) (sym rest) (record {
+        since = long.1 ∙ sym long.0;
+        links = of.links ∙ sym long.0;
+        inputs = of.inputs ∙ sym long.0;
+        begun = begun_mid;
+        placed = placed;
+        signals = signals;
+      });
+      pass = λ inputs sampled. can_pass inputs
+          (subst (λ (z : Engine). HaveSampled (sampling_at time e2.since.items e2.clusters.items z.links.items z.kernel.values) (length e2.clusters.items) z.inputs.items inputs) rest sampled);
+    }
 
   -- after the firings
-  module _ (by : PlansGoByOffset) (sound : IsSoundFlat flat) (rest2 : e2 ≡ crossed_engine) (e3 : Engine) (left3 : ℕ)
+  module _ (by : PlansGoByOffset) (sound : IsSoundFlat flat) (roomy : AreRoomy e2.clusters.items e2.outputs e2.writes) (rest2 : e2 ≡ crossed_engine) (e3 : Engine) (left3 : ℕ)
       (all : HasPassedAll flat (pass_at time e2.since.items e3.inputs.items) (run_of e2.clusters.items e2.outputs left2) (run_of e3.clusters.items e3.outputs left3))
       (rest3 : e3 ≡ record e2 { clusters = e3.clusters; inputs = e3.inputs; outputs = e3.outputs }) where
     abbrev pass : PassAt
@@ -147,14 +171,11 @@ module _ (flat : Flat) (time left : ℕ) (e : Engine) (of : IsEngineOf flat e) (
     abbrev y : RunOf
     y = run_of e3.clusters.items e3.outputs left3
 
-    fired_engine : e3 ≡ record e { clusters = e3.clusters; since = e2.since; inputs = e3.inputs; outputs = e3.outputs }
+    fired_engine : e3 ≡ record e { clusters = e3.clusters; since = e2.since; planned = e2.planned; inputs = e3.inputs; outputs = e3.outputs; writes = e2.writes }
     fired_engine = rest3 ∙ ap (λ (z : Engine). record z { clusters = e3.clusters; inputs = e3.inputs; outputs = e3.outputs }) rest2
 
     long3 : length e3.clusters.items ≡ length e.clusters.items
     long3 = passed_long flat pass x (length e2.clusters.items) y all.sent all.passed ∙ long.0
-
-    outputs2 : e2.outputs ≡ e.outputs
-    outputs2 = ap (λ (z : Engine). z.outputs) rest2
 
     module _ (n s : ℕ) (d : ClusterOf) (d_at : slice_get e3.clusters.items n ≡ Some d) (s_at : slice_get e2.since.items n ≡ Some s) where
       turned : (c : ClusterOf) × (slice_get e2.clusters.items n ≡ Some c) × Turns flat (time - s) c d
@@ -177,23 +198,23 @@ module _ (flat : Flat) (time left : ℕ) (e : Engine) (of : IsEngineOf flat e) (
     since3 n d d_at = let i = slice_get_within e3.clusters.items n d d_at in let l = long3 in let l1 = long.1 in get_inside e2.since.items n (omega (arith, i, l, l1))
 
     rooms_after : (size : Option Runner → ℕ) → ((offset : ℕ) (c b : ClusterOf) → IsMoved c b → size_due size b.runners offset b.entries ≡ size_due size c.runners offset c.entries) → (room : ℕ)
-        → HaveRooms size e.clusters.items room → HaveRooms size e3.clusters.items room
-    rooms_after size moved room rooms = rooms_kept size room e2.clusters.items e3.clusters.items (rooms_mid size room rooms) (long3 ∙ sym long.0)
+        → HaveRooms size e2.clusters.items room → HaveRooms size e3.clusters.items room
+    rooms_after size moved room rooms = rooms_kept size room e2.clusters.items e3.clusters.items rooms (long3 ∙ sym long.0)
         (λ n offset d d_at. (let s = since3 n d d_at in let t = turned n s.0 d d_at s.1 in (t.0, t.1, alike_after n s.0 d d_at s.1 size moved offset t.0 t.2)))
 
-    rooms3 : (e3.outputs.sent_room ≡ e.outputs.sent_room) × (e3.outputs.traced_room ≡ e.outputs.traced_room)
-    rooms3 = let r = pass_rooms flat pass x y all in (r.0 ∙ ap (λ (o : OutputsOf). o.sent_room) outputs2, r.1 ∙ ap (λ (o : OutputsOf). o.traced_room) outputs2)
+    rooms3 : (e3.outputs.sent_room ≡ e2.outputs.sent_room) × (e3.outputs.traced_room ≡ e2.outputs.traced_room)
+    rooms3 = pass_rooms flat pass x y all
 
     sends : (e3.outputs.sent ≡ all.sent) × All (IsSentOf flat.tables) all.sent
     sends = let p = pass_sends flat pass x (length e2.clusters.items) y all.sent all.passed in
-        (p.0 ∙ ap (λ l. l ++ all.sent) (ap (λ (o : OutputsOf). o.sent) outputs2 ∙ of.none_sent), p.1)
+        (p.0 ∙ ap (λ l. l ++ all.sent) roomy.none_sent, p.1)
 
     pub writes_room : length e3.outputs.sent ≤ e3.writes.room
     writes_room =
         let p = pass_sent flat pass x y all in
-        let z = ap length (ap (λ (o : OutputsOf). o.sent) outputs2 ∙ of.none_sent) in
-        let r = room_for_pass sent_size time e.outputs.sent_room mid.since mid.clusters (rooms_mid sent_size e.outputs.sent_room of.sent_room) in
-        let w = of.write_room in
+        let z = ap length roomy.none_sent in
+        let r = room_for_pass sent_size time e2.outputs.sent_room mid.since mid.clusters roomy.sent_room in
+        let w = roomy.write_room in
         let k = ap (λ (q : Engine). q.writes.room) fired_engine in omega (arith, p, z, r, w, k)
 
     pub can_settle : IsRunnable flat → CanSettle flat time e3.kernel (map (write_to e3.sinks.list.items) e3.outputs.sent)
@@ -209,7 +230,7 @@ module _ (flat : Flat) (time left : ℕ) (e : Engine) (of : IsEngineOf flat e) (
     rising_after = subst (λ (q : Engine). AreRising q.sinks.list.items) (sym fired_engine) of.sinks.order
 
     pub none_after : e3.writes.list ≡ []
-    none_after = ap (λ (q : Engine). q.writes.list) fired_engine ∙ of.none_written
+    none_after = ap (λ (q : Engine). q.writes.list) fired_engine ∙ roomy.none_written
 
     pub before_events : IsBefore time (side_of e3.kernel)
     before_events = subst (λ (q : Engine). IsBefore time (side_of q.kernel)) (sym fired_engine) ready.side
@@ -219,9 +240,10 @@ module _ (flat : Flat) (time left : ℕ) (e : Engine) (of : IsEngineOf flat e) (
       whole : f ≡ record e {
         clusters = e3.clusters;
         since = e2.since;
+        planned = e2.planned;
         inputs = e3.inputs;
         outputs = record e3.outputs { sent = [] };
-        writes = record e.writes { list = [] };
+        writes = record e2.writes { list = [] };
         kernel = f.kernel;
       }
       whole = rest4 ∙ ap (λ (z : Engine). record z { outputs = record e3.outputs { sent = [] }; writes = record z.writes { list = [] }; kernel = f.kernel }) fired_engine
@@ -240,9 +262,9 @@ module _ (flat : Flat) (time left : ℕ) (e : Engine) (of : IsEngineOf flat e) (
             let old = get_inside e2.inputs.items n (omega (arith, i_in, sm)) in
             sampled.long n old.0 i old.1 i_at ∙ of.given n l old.0 l_at (sym (ap (λ (z : Engine). slice_get z.inputs.items n) rest2) ∙ old.1));
         sinks = of.sinks;
-        sent_room = subst (HaveRooms sent_size e3.clusters.items) (sym rooms3.0) (rooms_after sent_size due_moved_sent e.outputs.sent_room of.sent_room);
-        traced_room = subst (HaveRooms traced_size e3.clusters.items) (sym rooms3.1) (rooms_after traced_size due_moved_traced e.outputs.traced_room of.traced_room);
-        write_room = let r = rooms3.0 in let w = of.write_room in omega (arith, r, w);
+        sent_room = subst (HaveRooms sent_size e3.clusters.items) (sym rooms3.0) (rooms_after sent_size due_moved_sent e2.outputs.sent_room roomy.sent_room);
+        traced_room = subst (HaveRooms traced_size e3.clusters.items) (sym rooms3.1) (rooms_after traced_size due_moved_traced e2.outputs.traced_room roomy.traced_room);
+        write_room = let r = rooms3.0 in let w = roomy.write_room in omega (arith, r, w);
         none_sent = refl;
         none_written = refl;
         kernel = kernel;

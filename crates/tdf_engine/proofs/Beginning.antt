@@ -9,7 +9,7 @@ use Rattle.tdf_linked.specs.low.convert.declared.links.Links.{Links}
 use Rattle.tdf_linked.specs.low.dynamic.First.{IsFirstPlan}
 use Rattle.tdf_linked.specs.low.dynamic.declared.first.First.{First}
 use Rattle.tdf_engine.specs.Engine.{HaveRooms, IsEngineOf, IsInProgress, IsReadyAt}
-use Rattle.tdf_engine.specs.Making.{HaveNoChanges, HavePlans}
+use Rattle.tdf_engine.specs.Making.{HavePlans}
 use Rattle.tdf_engine.specs.Settling.{IsBefore}
 use Rattle.tdf_engine.specs.declared.engine.Engine.{Engine}
 use Rattle.tdf_engine.specs.machine.Making.{AreGivenUpTo, AreLinkedUpTo}
@@ -17,7 +17,6 @@ use Rattle.tdf_linked.proofs.Api.{none_at_start, none_pending_before}
 use Rattle.tdf_linked.specs.low.events.Kernel.{IsKernelOf, side_of}
 use Rattle.tdf_linked.specs.low.events.Side.{start_side}
 use Rattle.tdf_linked.specs.low.exec.Cluster.{ClusterOf}
-use Rattle.tdf_linked.specs.low.exec.Crossing.{HasNoChanges}
 use Rattle.tdf_linked.specs.low.exec.Gained.{sent_size, size_due, traced_size}
 use Rattle.tdf_linked.specs.low.exec.Telling.{IsMostOf}
 use Rattle.tdf_linked.specs.low.exec.declared.runners.Runner.{Runner}
@@ -91,8 +90,8 @@ rooms_more size cs room m c rooms is = record {
 -- all together
 module _ (flat : Flat) (firsts : List First) (limits : AreWithinLimits flat) (e : Engine) (begun : HaveBegun flat firsts e.clusters.items)
     (since : e.since.items ≡ replicate (length e.clusters.items) 0) where
-  in_progress : HaveNoChanges flat.tables (length firsts) → (n : ℕ) (c : ClusterOf) → slice_get e.clusters.items n ≡ Some c → IsInProgress flat n c
-  in_progress still n c at =
+  in_progress : (n : ℕ) (c : ClusterOf) → slice_get e.clusters.items n ≡ Some c → IsInProgress flat n c
+  in_progress n c at =
       let within = slice_get_within e.clusters.items n c at in
       let same = begun.same in
       let inside : n < length firsts = omega (arith, within, same) in
@@ -102,21 +101,20 @@ module _ (flat : Flat) (firsts : List First) (limits : AreWithinLimits flat) (e 
         of = b.of;
         number = b.start.number_is;
         going = b.start.not_crossed;
-        still = subst (HasNoChanges flat.tables) (sym b.start.number_is) (still n inside);
         takes = takes_time flat c limits b.of;
         inside = entries_inside flat c limits b.of;
       }
 
-  pub engine_made : HaveNoChanges flat.tables (length firsts) → length e.since.items ≡ length e.clusters.items → AreLinkedUpTo flat.tables (length e.clusters.items) e.links.items
+  pub engine_made : length e.since.items ≡ length e.clusters.items → AreLinkedUpTo flat.tables (length e.clusters.items) e.links.items
       → AreGivenUpTo e.links.items (length e.links.items) e.inputs.items → AreSinkLinks flat.tables e.sinks.list.items
       → (sent traced : ℕ) → HaveRooms sent_size e.clusters.items sent → HaveRooms traced_size e.clusters.items traced
       → e.outputs ≡ record { sent = []; traced = []; sent_room = sent; traced_room = traced }
       → e.writes ≡ record { list = []; room = sent } → IsKernelOf flat e.kernel → IsEngineOf flat e
-  engine_made still as_many linked given sinks sent traced sent_rooms traced_rooms outputs writes kernel = record {
+  engine_made as_many linked given sinks sent traced sent_rooms traced_rooms outputs writes kernel = record {
     since = as_many;
     links = linked.long;
     inputs = given.long ∙ linked.long;
-    clusters = in_progress still;
+    clusters = in_progress;
     linked = linked.each;
     given = given.each;
     sinks = sinks;

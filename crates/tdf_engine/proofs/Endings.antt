@@ -1,14 +1,18 @@
 -- One turn of the boundaries, by what a cluster did in it.
-use Rattle.std.proofs.Common.{◌≡◌, ◌∙◌, ℕ, suc, ◌+◌, ◌<◌, ◌≤◌, Bool, true, false, Some, length, slice_get, slice_index_or, slice_set, refl, sym, ap, subst, arith, add-one}
+use Rattle.std.proofs.Common.{◌≡◌, ◌⊎◌, ◌∙◌, ℕ, suc, ◌+◌, ◌<◌, ◌≤◌, Bool, true, false, List, [], ◌∷◌, ◌++◌, Some, length, slice_get, inl, inr, refl, sym, ap, subst, arith, add-one}
+use Rattle.std.proofs.lemmas.List.{append-nil}
 use Rattle.std.proofs.lemmas.Option.{slice_get-get_or, slice_get_within}
+use Rattle.std.specs.Prelude.{slice_index_or, slice_set}
 use Rattle.tdf_engine.proofs.Boundaries.{still_to_come}
-use Rattle.tdf_engine.specs.Crossing.{CanCross, CrossingOf, EndingAt, HasCrossed, HasEnding, HasGoneOn, HasNoTurn, HaveCrossed, IsEndingOf, crossing_of, ending_at, is_ending}
+use Rattle.tdf_engine.specs.Crossing.{CanCross, CrossingOf, EndingAt, HasCrossed, HasEnding, HasGoneOn, HasNoTurn, HasStopped, HaveCrossed, IsEndingOf, IsRefusedAt, crossing_of, ending_at, is_ending}
+use Rattle.tdf_engine.specs.declared.crossing.Turn.{Turn}
+use Rattle.tdf_engine.specs.declared.crossing.Turn.TheVariants.{Kept, Planned}
+use Rattle.tdf_engine.specs.machine.Crossing.{GoesOnBy}
+use Rattle.tdf_linked.specs.low.base.declared.faults.Fault.{Fault}
 use Rattle.tdf_linked.specs.low.exec.Cluster.{ClusterOf}
-use Rattle.tdf_linked.specs.low.exec.Crossing.{HasNoChanges}
 use Rattle.tdf_linked.specs.low.exec.Made.{IsClusterOf}
 use Rattle.tdf_linked.specs.low.flat.declared.model.Flat.{Flat}
-use Rattle.tdf_linked.proofs.Api.{get_inside}
-use Rattle.tdf_linked.proofs.Api.{set_own}
+use Rattle.tdf_linked.proofs.Api.{get_inside, set_own}
 
 pub nothing_crossed : (flat : Flat) (time : ℕ) (x : CrossingOf) → HaveCrossed flat time 0 x x
 unfolding HaveCrossed
@@ -43,28 +47,30 @@ module _ (flat : Flat) (time : ℕ) (x : CrossingOf) (can : CanCross flat time x
   pub going_now : c.crossed ≡ false
   going_now = can.going n c (sym same.0 ∙ c_at)
 
-  pub still_now : HasNoChanges flat.tables c.number
-  still_now = can.still n c (sym same.0 ∙ c_at)
-
-  module _ (t : ℕ) (d : ClusterOf) (rest : ℕ) where
+  module _ (t : ℕ) (d : ClusterOf) (rest : ℕ) (planned : List ℕ) where
     abbrev turn : EndingAt
     turn = ending_at s t c d
 
     abbrev z : CrossingOf
-    z = crossing_of (slice_set y.clusters n d) (slice_set y.since n t) rest
+    z = crossing_of (slice_set y.clusters n d) (slice_set y.since n t) rest planned
 
     is : IsEndingOf n y z turn
     is = record { before = c_at; since = s_at; after = refl; begun = refl }
 
-    pub crossed_more : (is_ending time s c ≡ false → HasGoneOn time turn y.left rest) → (is_ending time s c ≡ true → HasCrossed flat time turn y.left rest) → HaveCrossed flat time (n + 1) x z
-    crossed_more stays over = subst (λ k. HaveCrossed flat time k x z) (sym (add-one n)) (one_more flat time n x y z crossed (ended (is_ending time s c) refl))
-      where
-        ended : (b : Bool) → is_ending time s c ≡ b → HasEnding flat time n y z
-        ended true ending = HasEnding.Over turn is (over ending)
-        ended false ending = HasEnding.Open turn is (stays ending)
+    one : HasEnding flat time n y z → HaveCrossed flat time (n + 1) x z
+    one ending = subst (λ k. HaveCrossed flat time k x z) (sym (add-one n)) (one_more flat time n x y z crossed ending)
 
-    pub no_turn : is_ending time s c ≡ true → y.left ≡ 0 → (d ≡ c) × (t ≡ s) × (rest ≡ y.left) → HasNoTurn flat time x z
-    no_turn ending none kept = record {
+    pub crossed_more : (did : Turn) → GoesOnBy did n y.planned planned → (is_ending time s c ≡ false → HasGoneOn time turn y.left rest)
+        → (is_ending time s c ≡ true → did ≡ Kept → HasCrossed flat time false turn y.left rest) → (did ≡ Planned → HasCrossed flat time true turn y.left rest) → HaveCrossed flat time (n + 1) x z
+    crossed_more did (inl same) stays kept new = ended (is_ending time s c) refl
+      where
+        ended : (b : Bool) → is_ending time s c ≡ b → HaveCrossed flat time (n + 1) x z
+        ended true ending = one (HasEnding.Over turn false is (kept ending same.0) (same.1 ∙ sym (append-nil y.planned)))
+        ended false ending = one (HasEnding.Open turn is (stays ending) same.1)
+    crossed_more did (inr more) stays kept new = one (HasEnding.Over turn true is (new more.0) more.1)
+
+    pub no_turn : is_ending time s c ≡ true → y.left ≡ 0 → (d ≡ c) × (t ≡ s) × (rest ≡ y.left) → planned ≡ y.planned → HasNoTurn flat time x z
+    no_turn ending none kept same = record {
       number = n;
       passed = subst (HaveCrossed flat time n x) (sym z_is) crossed;
       cluster = c;
@@ -76,5 +82,20 @@ module _ (flat : Flat) (time : ℕ) (x : CrossingOf) (can : CanCross flat time x
     }
       where
         z_is : z ≡ y
-        z_is = ap (λ k. crossing_of (slice_set y.clusters n k) (slice_set y.since n t) rest) kept.0 ∙ ap (λ k. crossing_of k (slice_set y.since n t) rest) (set_own y.clusters n c c_at)
-            ∙ ap (λ k. crossing_of y.clusters (slice_set y.since n k) rest) kept.1 ∙ ap (λ k. crossing_of y.clusters k rest) (set_own y.since n s s_at) ∙ ap (crossing_of y.clusters y.since) kept.2
+        z_is = λ i. crossing_of ((ap (slice_set y.clusters n) kept.0 ∙ set_own y.clusters n c c_at) i) ((ap (slice_set y.since n) kept.1 ∙ set_own y.since n s s_at) i) (kept.2 i) (same i)
+
+    pub has_stopped : (number : ℕ) (fault : Fault) → number ≡ n + 1 → IsRefusedAt flat time fault s c d y.left → planned ≡ y.planned → HasStopped flat time number fault x z
+    has_stopped number fault is_number refused same = record {
+      place = n;
+      number_is = is_number;
+      mid = y;
+      passed = crossed;
+      since = s;
+      cluster = c;
+      after = d;
+      here = c_at;
+      begun = s_at;
+      refused = refused;
+      clusters = refl;
+      planned = same;
+    }

@@ -9,8 +9,10 @@ pub mod Leasts
 pub mod Onward
 pub mod Parts
 pub mod Passed
+pub mod Plans
 pub mod Rooms
 pub mod Sampled
 pub mod Samples
 pub mod Spending
+pub mod ToldAt
 pub mod Whole

@@ -11,26 +11,26 @@ use Rattle.tdf_engine.specs.Crossing.{is_ending}
 use Rattle.tdf_engine.specs.Engine.{IsInProgress}
 use Rattle.tdf_engine.specs.Times.{due_offset, due_time}
 use Rattle.tdf_linked.specs.low.exec.Cluster.{ClusterOf, is_due, is_offset, next_offset, offset_in}
-use Rattle.tdf_linked.specs.low.exec.Crossing.{HasNoChanges}
 use Rattle.tdf_linked.specs.low.exec.Played.{AreDone}
 use Rattle.tdf_linked.specs.low.flat.declared.model.Flat.{Flat}
 use Rattle.tdf_linked.proofs.Api.{get_inside}
+use Rattle.tdf_linked.specs.low.limits.Limits.{AreWithinLimits}
 use Rattle.tdf_linked.proofs.Api.{by_offset, true_false}
+use Rattle.tdf_offsets.proofs.Api.{entries_inside, takes_time}
 use Rattle.tdf_linked.specs.low.schedule.declared.entry.Entry.{Entry}
 
 all_at : {X : Type 0} (P : X → Type 0) (xs : List X) (j : ℕ) (x : X) → All P xs → slice_get xs j ≡ Some x → P x
 all_at P xs j x all is = subst P (get_or_from_slice_get xs j x x is) (all j x (slice_get_within xs j x is))
 
 -- a cluster in progress stays one
-pub crossed_on : (flat : Flat) (n time s t : ℕ) (c d : ClusterOf) → IsInProgress flat n c → Crosses flat time c d s t → IsInProgress flat n d
-crossed_on flat n time s t c d on (Crosses.Stays going same kept) = subst (IsInProgress flat n) (sym same) on
-crossed_on flat n time s t c d on (Crosses.Begins is of now) = record {
+pub crossed_on : (P : Type 0) (flat : Flat) (n time s t : ℕ) (c d : ClusterOf) → AreWithinLimits flat → IsInProgress flat n c → Crosses P flat time c d s t → IsInProgress flat n d
+crossed_on P flat n time s t c d limits on (Crosses.Stays going same kept) = subst (IsInProgress flat n) (sym same) on
+crossed_on P flat n time s t c d limits on (Crosses.Begins head much of now) = record {
   of = of;
-  number = ap (λ (z : ClusterOf). z.number) is ∙ on.number;
-  going = ap (λ (z : ClusterOf). z.crossed) is;
-  still = subst (λ (z : ClusterOf). HasNoChanges flat.tables z.number) (sym is) on.still;
-  takes = subst (λ (z : ClusterOf). 0 < z.period) (sym is) on.takes;
-  inside = subst (λ (z : ClusterOf). All (λ (x : Entry). x.offset < z.period) z.entries) (sym is) on.inside;
+  number = head.number ∙ on.number;
+  going = head.going;
+  takes = takes_time flat d limits of;
+  inside = entries_inside flat d limits of;
 }
 
 pub fired_on : (flat : Flat) (n offset : ℕ) (c d : ClusterOf) → IsInProgress flat n c → Turns flat offset c d → IsInProgress flat n d
@@ -39,7 +39,6 @@ fired_on flat n offset c d on (Turns.Fires due of did) = record {
   of = of;
   number = ap (λ (z : ClusterOf). z.number) did.moved.rest ∙ on.number;
   going = ap (λ (z : ClusterOf). z.crossed) did.moved.rest ∙ on.going;
-  still = subst (λ (z : ClusterOf). HasNoChanges flat.tables z.number) (sym did.moved.rest) on.still;
   takes = subst (λ (z : ClusterOf). 0 < z.period) (sym did.moved.rest) on.takes;
   inside = subst (λ (z : ClusterOf). All (λ (x : Entry). x.offset < z.period) z.entries) (sym did.moved.rest) on.inside;
 }
@@ -58,13 +57,13 @@ due_some s o c some = ap (λ p. s + due_offset c p) some
 not_ending : (time s : ℕ) (c : ClusterOf) → is_ending time s c ≡ false → next_offset c ≡ None → time ≡ s + c.period → ⊥
 not_ending time s c going none same = true_false (sym (ap (λ o. is_none o && nat_eq time (s + c.period)) none ∙ eq-eqb time (s + c.period) same) ∙ going)
 
-pub crossed_due : (flat : Flat) (time s t : ℕ) (c d : ClusterOf) → 0 < d.period → time ≤ due_time s c → Crosses flat time c d s t → IsDueFrom time t d
-crossed_due flat time s t c d takes from (Crosses.Stays going same kept) = record {
+pub crossed_due : (P : Type 0) (flat : Flat) (time s t : ℕ) (c d : ClusterOf) → 0 < d.period → time ≤ due_time s c → Crosses P flat time c d s t → IsDueFrom time t d
+crossed_due P flat time s t c d takes from (Crosses.Stays going same kept) = record {
   from = subst (λ k. time ≤ due_time k d) (sym kept) (subst (λ z. time ≤ due_time s z) (sym same) from);
   end = subst (λ k. next_offset d ≡ None → time < due_time k d) (sym kept) (subst (λ z. next_offset z ≡ None → time < due_time s z) (sym same)
       (λ none. (let n = not_ending time s c going none in let d = due_none s c none in omega (arith, n, d, from))));
 }
-crossed_due flat time s t c d takes from (Crosses.Begins is of now) = record {
+crossed_due P flat time s t c d takes from (Crosses.Begins head much of now) = record {
   from = omega (arith, now);
   end = λ none. (let e = due_none t d none in omega (arith, e, now, takes));
 }

@@ -1,23 +1,30 @@
 -- The boundaries of all clusters at one time, in order of number: each whose period ends then takes
--- a turn and begins its next one.
--- Source: own.
-use Rattle.std.specs.Prelude.{◌≡◌, ◌<◌, ◌≤◌, ◌+◌, ◌-◌, ◌&&◌, ℕ, zero, suc, Bool, true, false, List}
-use Rattle.std.specs.Prelude.{Some, is_none, length, nat_eq, slice_get, slice_set}
+-- a turn and begins its next one, or what its modules ask for has a fault.
+-- Source: own; changes of attributes between periods after IEEE 1666.1-2016.
+use Rattle.std.specs.Prelude.{◌≡◌, ◌<◌, ◌≤◌, ◌+◌, ◌-◌, ◌&&◌, ◌++◌, ℕ, zero, suc, Bool, true, false}
+use Rattle.std.specs.Prelude.{List, [], ◌∷◌, Some, is_none, length, nat_eq, slice_get, slice_set}
+use Rattle.tdf_linked.specs.low.base.declared.faults.Fault.{Fault}
+use Rattle.tdf_linked.specs.low.changes.declared.next.Next.{Next}
+use Rattle.tdf_linked.specs.low.changes.declared.next.Next.TheVariants as answer
 use Rattle.tdf_linked.specs.low.exec.Cluster.{ClusterOf, next_offset}
-use Rattle.tdf_linked.specs.low.changes.declared.next.Next.TheVariants.{Same}
-use Rattle.tdf_linked.specs.low.exec.Crossing.{HasNoChanges, at_place}
+use Rattle.tdf_linked.specs.low.exec.Crossing.{HasCrossed as HasLeft}
 use Rattle.tdf_linked.specs.low.exec.Made.{IsClusterOf}
 use Rattle.tdf_linked.specs.low.flat.declared.model.Flat.{Flat}
-use Rattle.tdf_linked.specs.low.run.Boundary.{HasPassedBoundary}
+use Rattle.tdf_linked.specs.low.history.World.{Refused}
+use Rattle.tdf_linked.specs.low.run.Boundary.{HasAnswered, HasPassedBoundary}
 
--- the clusters, the start of the period of each, and the turns that are left
+-- the clusters, the start of the period of each, the turns that are left, and which clusters got a
+-- new plan
 pub record CrossingOf : Type 0 where
   pub clusters : List ClusterOf
   pub since : List ℕ
   pub left : ℕ
+  pub planned : List ℕ
 
-abbrev pub crossing_of : List ClusterOf → (since : List ℕ) → (left : ℕ) → CrossingOf
-crossing_of clusters since left = record { clusters = clusters; since = since; left = left }
+abbrev pub crossing_of : List ClusterOf → (since : List ℕ) → (left : ℕ) → (planned : List ℕ)
+    → CrossingOf
+crossing_of clusters since left planned =
+    record { clusters = clusters; since = since; left = left; planned = planned }
 
 -- the period of a cluster, which began at a time, ends at another
 abbrev pub is_ending : (time since : ℕ) → ClusterOf → Bool
@@ -48,21 +55,34 @@ pub record HasGoneOn (time : ℕ) (turn : EndingAt) (left rest : ℕ) : Type 0 w
   pub kept : turn.begun ≡ turn.since
   pub turns : rest ≡ left
 
--- its period ends, for a turn, and the next one begins
-pub record HasCrossed (flat : Flat) (time : ℕ) (turn : EndingAt) (left rest : ℕ) : Type 0 where
+-- an answer has a new plan
+abbrev pub is_new : Next → Bool
+is_new answer.Same = false
+is_new (answer.Changed attrs plan) = true
+
+-- its period ends, for a turn, and the next one begins, with a new plan or with the same one
+pub record HasCrossed (flat : Flat) (time : ℕ) (new : Bool) (turn : EndingAt) (left rest : ℕ)
+    : Type 0 where
   pub over : is_ending time turn.since turn.before ≡ true
   pub some : 0 < left
+  pub next : Next
+  pub new_is : is_new next ≡ new
   pub between : ClusterOf
-  pub unchanged : between ≡ at_place turn.before turn.before.place true
-  pub passed : HasPassedBoundary flat Same turn.before between turn.after
+  pub passed : HasPassedBoundary flat next turn.before between turn.after
   pub now : turn.begun ≡ time
   pub turns : rest ≡ left - 1
 
+-- cluster n, if it got a new plan
+abbrev pub planned_if : Bool → (n : ℕ) → List ℕ
+planned_if true n = n ∷ []
+planned_if false n = []
+
 pub data HasEnding (flat : Flat) (time n : ℕ) (x y : CrossingOf) : Type 0 where
   Open : (turn : EndingAt) → IsEndingOf n x y turn → HasGoneOn time turn x.left y.left
-      → HasEnding flat time n x y
-  Over : (turn : EndingAt) → IsEndingOf n x y turn → HasCrossed flat time turn x.left y.left
-      → HasEnding flat time n x y
+      → y.planned ≡ x.planned → HasEnding flat time n x y
+  Over : (turn : EndingAt) (new : Bool) → IsEndingOf n x y turn
+      → HasCrossed flat time new turn x.left y.left
+      → y.planned ≡ x.planned ++ planned_if new n → HasEnding flat time n x y
 
 -- the first n clusters have had their boundaries
 unfoldable pub HaveCrossed : Flat → (time n : ℕ) → (x y : CrossingOf) → Type 0
@@ -81,11 +101,34 @@ pub record HasNoTurn (flat : Flat) (time : ℕ) (x y : CrossingOf) : Type 0 wher
   pub over : is_ending time since cluster ≡ true
   pub none : y.left ≡ 0
 
--- boundaries can be had: each cluster is one of the flat model, has a start, and changes nothing
+-- the period of a cluster ends, for a turn, and what its modules ask for has a fault
+pub record IsRefusedAt (flat : Flat) (time : ℕ) (fault : Fault) (since : ℕ) (c d : ClusterOf)
+    (left : ℕ) : Type 0 where
+  pub over : is_ending time since c ≡ true
+  pub some : 0 < left
+  pub answered : HasAnswered flat c (Refused fault)
+  pub crossed : HasLeft c d
+
+-- so it is at the boundary of the cluster of this number, from 1, after those before it have had
+-- theirs
+pub record HasStopped (flat : Flat) (time number : ℕ) (fault : Fault) (x y : CrossingOf)
+    : Type 0 where
+  pub place : ℕ
+  pub number_is : number ≡ place + 1
+  pub mid : CrossingOf
+  pub passed : HaveCrossed flat time place x mid
+  pub since : ℕ
+  pub cluster : ClusterOf
+  pub after : ClusterOf
+  pub here : slice_get mid.clusters place ≡ Some cluster
+  pub begun : slice_get mid.since place ≡ Some since
+  pub refused : IsRefusedAt flat time fault since cluster after mid.left
+  pub clusters : y.clusters ≡ slice_set mid.clusters place after
+  pub planned : y.planned ≡ mid.planned
+
+-- boundaries can be had: each cluster is one of the flat model and has a start
 pub record CanCross (flat : Flat) (time : ℕ) (x : CrossingOf) : Type 0 where
   pub same : length x.since ≡ length x.clusters
   pub begun : (n s : ℕ) → slice_get x.since n ≡ Some s → s ≤ time
   pub of : (n : ℕ) (c : ClusterOf) → slice_get x.clusters n ≡ Some c → IsClusterOf flat c
   pub going : (n : ℕ) (c : ClusterOf) → slice_get x.clusters n ≡ Some c → c.crossed ≡ false
-  pub still : (n : ℕ) (c : ClusterOf) → slice_get x.clusters n ≡ Some c
-      → HasNoChanges flat.tables c.number

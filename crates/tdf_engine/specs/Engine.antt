@@ -2,20 +2,21 @@
 -- Source: own.
 use Rattle.std.specs.Prelude.{◌≡◌, ◌<◌, ◌≤◌, ◌+◌, ℕ, false, List, [], Some, length, map}
 use Rattle.std.specs.Prelude.{None, Option, slice_get, sum}
+use Rattle.tdf_linked.specs.low.base.declared.faults.Fault.{Fault}
 use Rattle.tdf_linked.specs.low.convert.Emitted.{write_of}
 use Rattle.tdf_linked.specs.low.convert.Links.{samplers_in}
-use Rattle.tdf_linked.specs.low.convert.Outputs.{OutputsOf}
+use Rattle.tdf_linked.specs.low.convert.Outputs.{OutputsOf, WritesOf}
 use Rattle.tdf_linked.specs.low.convert.declared.links.Links.{Links}
 use Rattle.tdf_engine.specs.Ahead.{LieInside}
-use Rattle.tdf_engine.specs.Crossing.{CrossingOf, HasNoTurn, HaveCrossed, crossing_of}
+use Rattle.tdf_engine.specs.Crossing.{CrossingOf, HasNoTurn, HasStopped, HaveCrossed, crossing_of}
 use Rattle.tdf_linked.specs.Linked.{AreSamplerLinks, AreSinkLinks}
 use Rattle.tdf_engine.specs.Sampling.{CanSample, HaveSampled, sampling_at}
 use Rattle.tdf_engine.specs.Settling.{IsBefore, event_turn}
 use Rattle.tdf_engine.specs.Times.{due_time}
 use Rattle.tdf_engine.specs.declared.engine.Engine.{Engine}
 use Rattle.tdf_linked.specs.low.events.Kernel.{IsKernelOf, side_of}
+use Rattle.tdf_linked.specs.low.events.Side.{SideOf}
 use Rattle.tdf_linked.specs.low.exec.Cluster.{ClusterOf}
-use Rattle.tdf_linked.specs.low.exec.Crossing.{HasNoChanges}
 use Rattle.tdf_linked.specs.low.exec.Gained.{sent_size, size_due, traced_size}
 use Rattle.tdf_linked.specs.low.exec.Made.{IsClusterOf}
 use Rattle.tdf_linked.specs.low.exec.declared.runners.Runner.{Runner}
@@ -26,12 +27,11 @@ use Rattle.tdf_linked.specs.low.run.Pass.{CanPass, HasPassedAll, HasPassedPart, 
 use Rattle.tdf_linked.specs.low.tree.Pure.{PureTree}
 
 -- a cluster in progress, number n from 0: one of the flat model, in a period that takes some time
--- and has all its entries before its end; no module of it changes attributes
+-- and has all its entries before its end
 pub record IsInProgress (flat : Flat) (n : ℕ) (c : ClusterOf) : Type 0 where
   pub of : IsClusterOf flat c
   pub number : c.number ≡ n + 1
   pub going : c.crossed ≡ false
-  pub still : HasNoChanges flat.tables c.number
   pub takes : 0 < c.period
   pub inside : LieInside c
 
@@ -44,6 +44,16 @@ pub record HaveRooms (size : Option Runner → ℕ) (clusters : List ClusterOf) 
   pub each : (n m offset : ℕ) (c : ClusterOf) → slice_get clusters n ≡ Some c
       → slice_get most n ≡ Some m → size_due size c.runners offset c.entries ≤ m
   pub within : sum most ≤ room
+
+-- the lists are empty, and have room for all that one offset of each cluster gives
+pub record AreRoomy (clusters : List ClusterOf) (outputs : OutputsOf) (writes : WritesOf)
+    : Type 0 where
+  pub sent_room : HaveRooms sent_size clusters outputs.sent_room
+  pub traced_room : HaveRooms traced_size clusters outputs.traced_room
+  pub write_room : outputs.sent_room ≤ writes.room
+  pub none_sent : outputs.sent ≡ []
+  pub none_traced : outputs.traced ≡ []
+  pub none_written : writes.list ≡ []
 
 -- what holds of the parts of a run between two instants
 pub record IsEngineOf (flat : Flat) (e : Engine) : Type 0 where
@@ -81,44 +91,73 @@ pub record CanFireAll (flat : Flat) (time : ℕ) (e : Engine) (left : ℕ) : Typ
       → CanPass flat (pass_at time e.since.items inputs)
       (run_of e.clusters.items e.outputs left)
 
+-- the boundaries of an instant
+abbrev pub HaveBoundaries : Flat → (time : ℕ) → Engine → (left : ℕ) → CrossingOf → Type 0
+HaveBoundaries flat time e left crossed = HaveCrossed flat time (length e.clusters.items)
+    (crossing_of e.clusters.items e.since.items left []) crossed
+
+-- the samplers that are due then have read, and the clusters have fired what is due, from empty
+-- lists on that have room for it
+pub record HaveFired (flat : Flat) (time : ℕ) (e : Engine) (crossed : CrossingOf)
+    (inputs : List (List Raw)) (run : RunOf) : Type 0 where
+  pub sampled : HaveSampled (sampling_at time crossed.since crossed.clusters e.links.items
+      e.kernel.values) (length crossed.clusters) e.inputs.items inputs
+  pub outputs : OutputsOf
+  pub none_sent : outputs.sent ≡ []
+  pub none_traced : outputs.traced ≡ []
+  pub firings : HasPassedAll flat (pass_at time crossed.since inputs)
+      (run_of crossed.clusters outputs crossed.left) run
+
+-- the same, but the turns that are left are too few for one of the clusters
+pub record HaveFiredPart (flat : Flat) (time : ℕ) (e : Engine) (crossed : CrossingOf)
+    (inputs : List (List Raw)) (run : RunOf) : Type 0 where
+  pub sampled : HaveSampled (sampling_at time crossed.since crossed.clusters e.links.items
+      e.kernel.values) (length crossed.clusters) e.inputs.items inputs
+  pub outputs : OutputsOf
+  pub firings : HasPassedPart flat (pass_at time crossed.since inputs)
+      (run_of crossed.clusters outputs crossed.left) run
+
+-- what sinks sent is written, in the event part
+abbrev pub Settles : Flat → (time : ℕ) → Engine → RunOf → Option (SideOf × ℕ) → Type 0
+Settles flat time e run after = (model : PureTree) → IsCheckedOf model flat.checked
+    → event_turn model flat time (map (write_of e.sinks.list.items) run.outputs.sent)
+    (side_of e.kernel) run.left ≡ after
+
 -- the three parts of an instant: boundaries, then firings with the values that samplers read, then
 -- the event part with what sinks sent
 pub record HasHadInstant (flat : Flat) (time : ℕ) (e f : Engine) (left rest : ℕ) : Type 0 where
   pub crossed : CrossingOf
-  pub boundaries : HaveCrossed flat time (length e.clusters.items)
-      (crossing_of e.clusters.items e.since.items left) crossed
+  pub boundaries : HaveBoundaries flat time e left crossed
   pub since : f.since.items ≡ crossed.since
-  pub sampled : HaveSampled (sampling_at time crossed.since crossed.clusters e.links.items
-      e.kernel.values) (length crossed.clusters) e.inputs.items f.inputs.items
-  pub outputs : OutputsOf
-  pub between : ℕ
-  pub firings : HasPassedAll flat (pass_at time crossed.since f.inputs.items)
-      (run_of crossed.clusters e.outputs crossed.left) (run_of f.clusters.items outputs between)
-  pub traced : f.outputs ≡ record outputs { sent = [] }
-  pub events : (model : PureTree) → IsCheckedOf model flat.checked → event_turn model flat time
-      (map (write_of e.sinks.list.items) outputs.sent) (side_of e.kernel) between
-      ≡ Some (side_of f.kernel, rest)
+  pub planned : f.planned.items ≡ crossed.planned
+  pub run : RunOf
+  pub fired : HaveFired flat time e crossed f.inputs.items run
+  pub clusters : f.clusters.items ≡ run.clusters
+  pub traced : f.outputs ≡ record run.outputs { sent = [] }
+  pub events : Settles flat time e run (Some (side_of f.kernel, rest))
 
 -- the turns that are left are too few: in the boundaries, in the firings, or in the event part
-pub data HasBeenSpent (flat : Flat) (time : ℕ) (e : Engine) (left : ℕ) : Type 0 where
+pub data HasBeenSpent (flat : Flat) (time : ℕ) (e f : Engine) (left : ℕ) : Type 0 where
   InBoundaries : (crossed : CrossingOf)
-      → HasNoTurn flat time (crossing_of e.clusters.items e.since.items left) crossed
-      → HasBeenSpent flat time e left
+      → HasNoTurn flat time (crossing_of e.clusters.items e.since.items left []) crossed
+      → f.clusters.items ≡ crossed.clusters → f.planned.items ≡ crossed.planned
+      → HasBeenSpent flat time e f left
   InFirings : (crossed : CrossingOf) (inputs : List (List Raw)) (run : RunOf)
-      → HaveCrossed flat time (length e.clusters.items)
-      (crossing_of e.clusters.items e.since.items left) crossed
-      → HaveSampled (sampling_at time crossed.since crossed.clusters e.links.items
-      e.kernel.values) (length crossed.clusters) e.inputs.items inputs
-      → HasPassedPart flat (pass_at time crossed.since inputs)
-      (run_of crossed.clusters e.outputs crossed.left) run
-      → HasBeenSpent flat time e left
+      → HaveBoundaries flat time e left crossed
+      → HaveFiredPart flat time e crossed inputs run
+      → f.clusters.items ≡ run.clusters → f.planned.items ≡ crossed.planned
+      → HasBeenSpent flat time e f left
   InEvents : (crossed : CrossingOf) (inputs : List (List Raw)) (run : RunOf)
-      → HaveCrossed flat time (length e.clusters.items)
-      (crossing_of e.clusters.items e.since.items left) crossed
-      → HaveSampled (sampling_at time crossed.since crossed.clusters e.links.items
-      e.kernel.values) (length crossed.clusters) e.inputs.items inputs
-      → HasPassedAll flat (pass_at time crossed.since inputs)
-      (run_of crossed.clusters e.outputs crossed.left) run
-      → ((model : PureTree) → IsCheckedOf model flat.checked → event_turn model flat time
-      (map (write_of e.sinks.list.items) run.outputs.sent) (side_of e.kernel) run.left ≡ None)
-      → HasBeenSpent flat time e left
+      → HaveBoundaries flat time e left crossed
+      → HaveFired flat time e crossed inputs run → Settles flat time e run None
+      → f.clusters.items ≡ run.clusters → f.planned.items ≡ crossed.planned
+      → HasBeenSpent flat time e f left
+
+-- what the modules of the cluster of this number ask for at its boundary has a fault
+pub record HasBeenStopped (flat : Flat) (time number : ℕ) (fault : Fault) (e f : Engine)
+    (left : ℕ) : Type 0 where
+  pub crossed : CrossingOf
+  pub stopped : HasStopped flat time number fault
+      (crossing_of e.clusters.items e.since.items left []) crossed
+  pub clusters : f.clusters.items ≡ crossed.clusters
+  pub planned : f.planned.items ≡ crossed.planned

@@ -1,18 +1,21 @@
 -- What an instant of all that runs is to the history.
 -- Source: own.
-use Rattle.std.specs.Prelude.{◌≡◌, ℕ, length}
-use Rattle.tdf_engine.specs.CrossingLaws.{CrossesAlong, world_crossed}
-use Rattle.tdf_engine.specs.Engine.{HasBeenSpent, HasHadInstant, IsEngineOf, IsReadyAt}
+use Rattle.std.specs.Prelude.{◌≡◌, ℕ, List, length}
+use Rattle.tdf_engine.specs.CrossingLaws.{AreToldAt, CrossesAlong, HavePlansOf, world_crossed}
+use Rattle.tdf_engine.specs.Engine.{HasBeenSpent, HasBeenStopped, HasHadInstant, IsEngineOf}
+use Rattle.tdf_engine.specs.Engine.{IsReadyAt}
 use Rattle.tdf_engine.specs.declared.engine.Engine.{Engine}
+use Rattle.tdf_linked.specs.low.base.declared.faults.Fault.{Fault}
 use Rattle.tdf_linked.specs.low.events.Kernel.{side_of}
 use Rattle.tdf_linked.specs.low.events.Side.{SideOf}
 use Rattle.tdf_linked.specs.low.expr.Checked.{IsCheckedOf}
 use Rattle.tdf_linked.specs.low.flat.Flat.{IsFlatOf}
 use Rattle.tdf_linked.specs.low.flat.declared.model.Flat.{Flat}
 use Rattle.tdf_linked.specs.low.formats.Formats.{IsSoundModel}
-use Rattle.tdf_linked.specs.low.history.Instant.{at_begin, instant}
-use Rattle.tdf_linked.specs.low.history.World.{World}
-use Rattle.tdf_linked.specs.low.instants.History.{Going, Past}
+use Rattle.tdf_linked.specs.low.history.Instant.{RunFault, instant}
+use Rattle.tdf_linked.specs.low.history.Telling.{world_told}
+use Rattle.tdf_linked.specs.low.history.World.{Change, World}
+use Rattle.tdf_linked.specs.low.instants.History.{Fault as Faulted, Going, Past, Step}
 use Rattle.tdf_linked.specs.low.limits.Limits.{AreWithinLimits}
 use Rattle.tdf_linked.specs.low.run.Firings.{settled_values}
 use Rattle.tdf_linked.specs.low.run.Pass.{AreAt, AreReady, PassesAlong, pass_at, run_of}
@@ -33,22 +36,25 @@ pub record IsNow (model : PureTree) (flat : Flat) (w : World SideOf) (e : Engine
   pub side : side_of e.kernel ≡ w.events
   pub turns : w.left ≡ left
 
--- an instant goes along with the history: the boundaries, the firings, and what comes of it
+-- an instant goes along with the history, which is told what its boundaries lead to: the
+-- boundaries, the firings, and what comes of it
 pub record InstantGoes (model : PureTree) (flat : Flat) (time : ℕ) (w : World SideOf)
     (e f : Engine) (left rest : ℕ) (had : HasHadInstant flat time e f left rest) : Type 0 where
-  pub crossing : CrossesAlong model flat time (length w.clusters)
-      (at_begin w) had.crossed
+  pub crossing : CrossesAlong model flat time (length w.clusters) w had.crossed
+  pub are_told : (n : ℕ) → AreToldAt model flat time n w crossing.told
   pub ready : AreReady flat.tables (pass_at time had.crossed.since f.inputs.items)
-      (settled_values (rules_of model flat)
-      (world_crossed (at_begin w) crossing.clusters had.crossed.left)) had.crossed.clusters
+      (settled_values (rules_of model flat) (world_crossed w crossing.clusters had.crossed.left
+      had.crossed.planned)) had.crossed.clusters
   pub passing : PassesAlong model flat (rules_of model flat)
       (pass_at time had.crossed.since f.inputs.items) (length w.clusters)
-      (world_crossed (at_begin w) crossing.clusters had.crossed.left)
-      (run_of f.clusters.items had.outputs had.between) had.firings.sent
+      (world_crossed w crossing.clusters had.crossed.left had.crossed.planned) had.run
+      had.fired.firings.sent
   pub world : World SideOf
   pub same : world.clusters ≡ passing.clusters
   pub now : IsNow model flat world f rest
-  pub goes : instant model flat (rules_of model flat) time w ≡ Going world
+  pub planned : world.planned ≡ f.planned.items
+  pub goes : instant model flat (rules_of model flat) time (world_told crossing.told w)
+      ≡ Going world
 
 abbrev pub InstantGoesAlong : Type 0
 InstantGoesAlong = (model : PureTree) (flat : Flat) (time : ℕ) (w : World SideOf)
@@ -57,9 +63,32 @@ InstantGoesAlong = (model : PureTree) (flat : Flat) (time : ℕ) (w : World Side
     → (had : HasHadInstant flat time e f left rest)
     → InstantGoes model flat time w e f left rest had
 
+-- the world in which a run ends has the plans that there are, and those that are new
+pub record HasPlansIn (v : World SideOf) (f : Engine) : Type 0 where
+  pub plans : HavePlansOf v.clusters f.clusters.items
+  pub planned : v.planned ≡ f.planned.items
+
+-- an instant ends the history, which is told what its boundaries lead to
+pub record InstantEnds (model : PureTree) (flat : Flat) (time : ℕ) (w : World SideOf) (f : Engine)
+    (ends : World SideOf → Step (World SideOf) RunFault) : Type 0 where
+  pub told : List (List Change)
+  pub are_told : (n : ℕ) → AreToldAt model flat time n w told
+  pub last : World SideOf
+  pub has : HasPlansIn last f
+  pub goes : instant model flat (rules_of model flat) time (world_told told w) ≡ ends last
+
 -- where the turns were too few, the history is spent
 abbrev pub InstantEndsSpent : Type 0
 InstantEndsSpent = (model : PureTree) (flat : Flat) (time : ℕ) (w : World SideOf)
-    → (e : Engine) (left : ℕ) → IsModelOf model flat → IsEngineOf flat e
-    → IsReadyAt time e → IsNow model flat w e left → HasBeenSpent flat time e left
-    → (v : World SideOf) × (instant model flat (rules_of model flat) time w ≡ Past v)
+    → (e f : Engine) (left : ℕ) → IsModelOf model flat → IsEngineOf flat e
+    → IsReadyAt time e → IsNow model flat w e left → HasBeenSpent flat time e f left
+    → InstantEnds model flat time w f (λ v. Past v)
+
+-- where a boundary led to a fault, the history ends with it
+abbrev pub InstantEndsStopped : Type 0
+InstantEndsStopped = (model : PureTree) (flat : Flat) (time number : ℕ) (fault : Fault)
+    → (w : World SideOf) (e f : Engine) (left : ℕ) → IsModelOf model flat → IsEngineOf flat e
+    → IsReadyAt time e → IsNow model flat w e left
+    → HasBeenStopped flat time number fault e f left
+    → InstantEnds model flat time w f
+    (λ v. Faulted (record { cluster = number; fault = fault }) v)

@@ -1,11 +1,9 @@
--- What a model has, so that a run of it can begin: plans for its clusters, which no module changes.
+-- What a model has, so that a run of it can begin: plans for its clusters.
 -- Source: own.
-use Rattle.std.specs.Prelude.{◌≡◌, ◌<◌, ◌+◌, ℕ, List, Some, length, map, slice_get}
+use Rattle.std.specs.Prelude.{◌≡◌, ◌+◌, ℕ, List, Some, length, map, slice_get}
 use Rattle.tdf_linked.specs.low.bind.Actors.{cluster_of}
-use Rattle.tdf_linked.specs.low.bind.Flat.{FlatOf}
 use Rattle.tdf_linked.specs.low.dynamic.First.{IsFirstPlan}
 use Rattle.tdf_linked.specs.low.dynamic.declared.first.First.{First}
-use Rattle.tdf_linked.specs.low.exec.Crossing.{HasNoChanges}
 use Rattle.tdf_linked.specs.low.flat.declared.model.Flat.{Flat}
 use Rattle.tdf_linked.specs.low.graph.Clusters.{greatest}
 
@@ -14,7 +12,3 @@ pub record HavePlans (flat : Flat) (firsts : List First) : Type 0 where
   pub all : length firsts ≡ greatest (map cluster_of flat.tables.actors)
   pub each : (n : ℕ) (first : First) → slice_get firsts n ≡ Some first
       → IsFirstPlan flat (n + 1) first
-
--- no module of the first n clusters changes attributes
-abbrev pub HaveNoChanges : FlatOf → (n : ℕ) → Type 0
-HaveNoChanges tables n = (m : ℕ) → m < n → HasNoChanges tables (m + 1)

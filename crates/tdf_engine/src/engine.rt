@@ -23,18 +23,21 @@ pub struct Engine {
     pub writes: Writes,
     /// The event side.
     pub kernel: Kernel,
+    /// The clusters that got a new plan in the last instant, by place, in their order.
+    pub planned: Vec<usize>,
 }
 
-ghost use Rattle.std.specs.Prelude.{◌≡◌, ◌<◌, ◌≤◌, ◌+◌, [], false, true, length, map, None, Ok, Some};
+ghost use Rattle.std.specs.Prelude.{◌≡◌, ◌<◌, ◌≤◌, ◌+◌, ℕ, [], false, true, length, map, None, Ok, OnOk, Some};
 ghost use Rattle.tdf_linked.specs.low.base.Limits.{time_end};
+ghost use Rattle.tdf_linked.specs.low.base.declared.faults.Fault.{Fault as FaultOf};
 ghost use Rattle.tdf_linked.specs.low.convert.Emitted.{write_of};
 ghost use Rattle.tdf_linked.specs.low.convert.Links.{AreRising};
-ghost use Rattle.tdf_engine.specs.Crossing.{HasNoTurn, HaveCrossed, crossing_of};
-ghost use Rattle.tdf_engine.specs.Engine.{CanFireAll, HasBeenSpent, HasHadInstant, IsEngineOf, IsReadyAt};
+ghost use Rattle.tdf_engine.specs.Crossing.{HasNoTurn, HasStopped, crossing_of};
+ghost use Rattle.tdf_engine.specs.Engine.{AreRoomy, CanFireAll, HasBeenSpent, HasBeenStopped, HasHadInstant, HaveBoundaries, IsEngineOf, IsReadyAt};
 ghost use Rattle.tdf_engine.specs.Sampling.{HaveSampled, sampling_at};
 ghost use Rattle.tdf_engine.specs.Settling.{CanSettle, event_turn};
 ghost use Rattle.tdf_engine.specs.Times.{IsNextDue};
-ghost use Rattle.tdf_engine.specs.declared.crossing.Pass.TheVariants.{Done, Spent};
+ghost use Rattle.tdf_engine.specs.declared.crossing.Pass.TheVariants.{Done, Spent, Stopped};
 ghost use Rattle.tdf_linked.specs.low.events.Kernel.{IsKernelOf, side_of};
 ghost use Rattle.tdf_linked.specs.low.events.Runnable.{IsRunnable};
 ghost use Rattle.tdf_linked.specs.low.exec.Starts.{IsSoundFlat};
@@ -43,6 +46,7 @@ ghost use Rattle.tdf_linked.specs.low.run.Pass.{HasPassedAll, HasPassedPart, pas
 ghost use Rattle.tdf_linked.specs.low.tree.Pure.{PureTree};
 
 use crate::crossing::{Pass, cross_all};
+use crate::making::rooms_of;
 use crate::sampling::sample_all;
 use crate::settling::settle;
 use crate::times::next_time;
@@ -50,6 +54,7 @@ use std::alloc::Global;
 use tdf_linked::low::base::Memory;
 use tdf_linked::low::convert::{emit_due, law_by_offset};
 use tdf_linked::low::flat::Flat;
+use tdf_linked::low::limits::law_limits;
 use tdf_linked::low::run::fire_all;
 
 impl Engine {
@@ -73,16 +78,48 @@ impl Engine {
         requires sound { IsSoundFlat flat.now }
         requires engine { IsEngineOf flat.now self.old }
         requires ready { IsReadyAt time self.old }
-        ensures all { result ≡ Ok Done → HaveCrossed flat.now time (length self.old.clusters.items)
-            (crossing_of self.old.clusters.items self.old.since.items left.old)
-            (crossing_of self.new.clusters.items self.new.since.items left.new) }
+        ensures all { result ≡ Ok Done → HaveBoundaries flat.now time self.old left.old (crossing_of
+            self.new.clusters.items self.new.since.items left.new self.new.planned.items) }
         ensures part { result ≡ Ok Spent → HasNoTurn flat.now time
-            (crossing_of self.old.clusters.items self.old.since.items left.old)
-            (crossing_of self.new.clusters.items self.new.since.items left.new) }
-        ensures rest { self.new
-            ≡ record self.old { clusters = self.new.clusters; since = self.new.since } }
+            (crossing_of self.old.clusters.items self.old.since.items left.old []) (crossing_of
+            self.new.clusters.items self.new.since.items left.new self.new.planned.items) }
+        ensures stopped { (number : ℕ) (fault : FaultOf) → result ≡ Ok (Stopped number fault)
+            → HasStopped flat.now time number fault
+            (crossing_of self.old.clusters.items self.old.since.items left.old []) (crossing_of
+            self.new.clusters.items self.new.since.items left.new self.new.planned.items) }
+        ensures rest { self.new ≡ record self.old {
+          clusters = self.new.clusters;
+          since = self.new.since;
+          planned = self.new.planned;
+        } }
     {
-        cross_all(alloc, flat, time, &mut self.since, &mut self.clusters, left)
+        self.planned.clear();
+        cross_all(
+            alloc,
+            flat,
+            time,
+            &mut self.since,
+            &mut self.clusters,
+            &mut self.planned,
+            left,
+        )
+    }
+
+    /// Room for what one offset of each cluster gives at most, where one got a new plan.
+    fn make_room(&mut self, alloc: Global) -> Result<(), Memory>
+        requires kept { self.old.planned.items ≡ []
+            → AreRoomy self.old.clusters.items self.old.outputs self.old.writes }
+        ensures roomy { OnOk result (AreRoomy self.new.clusters.items self.new.outputs self.new.writes) }
+        ensures rest { self.new
+            ≡ record self.old { outputs = self.new.outputs; writes = self.new.writes } }
+    {
+        if self.planned.is_empty() {
+            return Ok(());
+        }
+        let room = rooms_of(&self.clusters)?;
+        self.outputs = Outputs::new(alloc, room.sent, room.traced)?;
+        self.writes = Writes::new(alloc, room.sent)?;
+        Ok(())
     }
 
     /// The firings of an instant, with the values that samplers read.
@@ -140,6 +177,7 @@ impl Engine {
             → event_turn model flat.now time
             (map (write_of self.old.sinks.list.items) self.old.outputs.sent)
             (side_of self.old.kernel) left.old ≡ None }
+        ensures never { (number : ℕ) (fault : FaultOf) → result ≡ Stopped number fault → ⊥ }
         ensures rest { self.new ≡ record self.old {
           outputs = record self.old.outputs { sent = [] };
           writes = record self.old.writes { list = [] };
@@ -156,7 +194,8 @@ impl Engine {
     }
 
     /// An instant, within the turns that are left: boundaries by cluster, then firings by cluster and in the order of the plan, then the
-    /// event part. Each boundary, firing, process that runs and delta step takes a turn.
+    /// event part. Each boundary, firing, process that runs and delta step takes a turn. However it ends, `planned` has the clusters
+    /// that got a new plan.
     ///
     /// # Errors
     /// Out of memory.
@@ -177,13 +216,18 @@ impl Engine {
         ensures had { result ≡ Ok Done
             → HasHadInstant flat.now time self.old self.new left.old left.new }
         ensures later { result ≡ Ok Done → IsReadyAt (time + 1) self.new }
-        ensures spent { result ≡ Ok Spent → HasBeenSpent flat.now time self.old left.old }
+        ensures spent { result ≡ Ok Spent
+            → HasBeenSpent flat.now time self.old self.new left.old }
+        ensures stopped { (number : ℕ) (fault : FaultOf) → result ≡ Ok (Stopped number fault)
+            → HasBeenStopped flat.now time number fault self.old self.new left.old }
     {
         law_by_offset();
+        law_limits();
         match self.cross(alloc, flat, time, left)? {
             Pass::Done => {}
-            Pass::Spent => return Ok(Pass::Spent),
+            ended => return Ok(ended),
         }
+        self.make_room(alloc)?;
         if !self.fire(flat, time, left) {
             return Ok(Pass::Spent);
         }

@@ -4,7 +4,7 @@ ghost use Rattle.std.specs.Prelude.{◌≡◌, ◌+◌, [], IfOk, length, replic
 ghost use Rattle.tdf_linked.specs.low.convert.Links.{samplers_in};
 ghost use Rattle.tdf_linked.specs.low.dynamic.First.{IsFirstPlan};
 ghost use Rattle.tdf_engine.specs.Engine.{HaveRooms, IsEngineOf, IsReadyAt};
-ghost use Rattle.tdf_engine.specs.Making.{HaveNoChanges, HavePlans};
+ghost use Rattle.tdf_engine.specs.Making.{HavePlans};
 ghost use Rattle.tdf_engine.specs.machine.Making.{AreGivenUpTo, AreLinkedUpTo, room_of};
 ghost use Rattle.tdf_linked.specs.low.events.Kernel.{side_of};
 ghost use Rattle.tdf_linked.specs.low.events.Runnable.{IsRunnable};
@@ -36,7 +36,7 @@ fn short(count: usize) -> Result<u32, Memory>
 }
 
 /// The number of the cluster at a place; more clusters do not fit in memory.
-fn number_at(place: usize) -> Result<u32, Memory>
+pub(crate) fn number_at(place: usize) -> Result<u32, Memory>
     ensures { IfOk result (λ number. number ≡ place + 1) }
 {
     if place > 4_294_967_294 {
@@ -127,7 +127,7 @@ fn inputs_of(alloc: Global, links: &[Links]) -> Result<Vec<Inputs>, Memory>
 }
 
 /// How many samples of sinks and of traced signals come from one offset of each cluster, at most.
-fn rooms_of(clusters: &[Cluster]) -> Result<Room, Memory>
+pub(crate) fn rooms_of(clusters: &[Cluster]) -> Result<Room, Memory>
     ensures sent { IfOk result (λ room. HaveRooms sent_size clusters.now room.sent) }
     ensures traced { IfOk result (λ room. HaveRooms traced_size clusters.now room.traced) }
 {
@@ -149,7 +149,6 @@ impl Engine {
         requires sound { IsSoundFlat flat.now }
         requires runnable { IsRunnable flat.now }
         requires plans { HavePlans flat.now firsts.items }
-        requires still { HaveNoChanges flat.now.tables (length firsts.items) }
         ensures engine { IfOk result (λ engine. IsEngineOf flat.now engine) }
         ensures begun { IfOk result (λ engine.
             HaveBegun flat.now firsts.items engine.clusters.items) }
@@ -179,6 +178,7 @@ impl Engine {
             outputs,
             writes,
             kernel,
+            planned: Vec::new(alloc),
         })
     }
 }

@@ -15,7 +15,9 @@ pub mod graph
 pub mod history
 pub mod instants
 pub mod limits
+pub mod notes
 pub mod run
 pub mod schedule
+pub mod streams
 pub mod tree
 pub mod world

@@ -1,7 +1,11 @@
 //! What the crates above use of the crates further below.
 
 pub mod base {
-    pub use tdf_run::low::base::Memory;
+    pub use tdf_run::low::base::{Fault, Memory};
+}
+
+pub mod changes {
+    pub use tdf_run::low::changes::Next;
 }
 
 pub mod convert {
@@ -11,7 +15,7 @@ pub mod convert {
 }
 
 pub mod dynamic {
-    pub use tdf_run::low::dynamic::First;
+    pub use tdf_run::low::dynamic::{ChangeErr, First};
 }
 
 pub mod events {
@@ -35,5 +39,5 @@ pub mod limits {
 }
 
 pub mod run {
-    pub use tdf_run::fire_all;
+    pub use tdf_run::{fire_all, law_boundary};
 }

@@ -1,5 +1,5 @@
 -- What an answer tells, used for what it is to tell.
-use Rattle.std.proofs.Common.{ℕ, List, Option, Result, Ok, Err, IfOk, OnErr, OnOk}
+use Rattle.std.proofs.Common.{◌≡◌, ℕ, List, Option, Result, Ok, Err, IfOk, OnErr, OnOk, ap}
 use Rattle.tdf_shown.specs.low.in_out.Bytes.{WritesText}
 use Rattle.tdf_shown.specs.low.in_out.Faults.{CountsSinkFaults}
 use Rattle.tdf_shown.specs.low.in_out.declared.writing.SinkErr.{SinkErr}
@@ -34,3 +34,20 @@ writes_err taken faults a b xs error wrote = record { all = tt; part = wrote.par
 
 pub counts_err : {T U : Type 0} (a b : ℕ) (error : SinkErr) → CountsSinkFaults {T = T} a b (Err error) → CountsSinkFaults {T = U} a b (Err error)
 counts_err a b error counted = record { later = counted.later; kept = counted.kept; rose = counted.rose }
+
+pub if_four : {T E : Type 0} {P Q R S U : T → Type 0} (r : Result T E) → IfOk r P → IfOk r Q → IfOk r R → IfOk r S → ((value : T) → P value → Q value → R value → S value → U value) → IfOk r U
+if_four (Ok x) p q r s then = then x p q r s
+if_four (Err e) p q r s then = tt
+
+-- two answers that are the same
+module _ {T E : Type 0} where
+  got : T → Result T E → T
+  got z (Ok x) = x
+  got z (Err e) = z
+
+  abbrev good : T → Result T E
+  good x = Ok x
+
+  pub same_ok : (a b : T) → good a ≡ good b → a ≡ b
+  unfolding got
+  same_ok a b same = ap (got a) same

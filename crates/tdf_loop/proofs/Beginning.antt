@@ -1,7 +1,10 @@
 -- How a run begins.
-use Rattle.std.proofs.Common.{◌≡◌, ◌∙◌, ℕ, zero, suc, ◌-◌, ◌≤◌, List, [], ◌∷◌, length, replicate, refl, sym, ap, subst, arith}
+use Rattle.std.proofs.Common.{◌≡◌, ◌∙◌, ℕ, zero, suc, ◌+◌, ◌-◌, ◌≤◌, All, List, [], ◌∷◌, ◌++◌, append-nil, length, map, replicate, slice_get, refl, sym, ap, subst, arith}
+use Rattle.std.proofs.lemmas.List.Elements.{All-head, All-nil, All-tail}
+use Rattle.std.proofs.lemmas.Option.{slice_get_within}
+use Rattle.std.specs.List.{enumerate_from}
 use Rattle.std.proofs.lemmas.List.{length-replicate}
-use Rattle.std.specs.Prelude.{slice_index}
+use Rattle.std.specs.Prelude.{slice_index, slice_index_or}
 use Rattle.tdf_shown.specs.low.dynamic.Attributes.{clusters_of}
 use Rattle.tdf_shown.specs.low.dynamic.declared.first.First.{First}
 use Rattle.tdf_engine.specs.Engine.{IsEngineOf, IsReadyAt}
@@ -13,7 +16,18 @@ use Rattle.tdf_shown.specs.low.events.Side.{SideOf, start_side}
 use Rattle.tdf_shown.specs.low.exec.Cluster.{ClusterOf}
 use Rattle.tdf_shown.specs.low.flat.declared.model.Flat.{Flat}
 use Rattle.tdf_shown.specs.low.graph.Clusters.{greatest}
-use Rattle.tdf_shown.specs.low.history.World.{World}
+use Rattle.tdf_shown.specs.low.bind.Ranges.{AreInRange}
+use Rattle.tdf_shown.specs.low.history.Telling.{told_more, world_told}
+use Rattle.tdf_shown.specs.low.history.Texts.{notes_to}
+use Rattle.tdf_shown.specs.low.history.World.{Change, ClusterAt, World}
+use Rattle.tdf_shown.specs.low.streams.Periods.{IsWholeRecord}
+use Rattle.tdf_shown.specs.low.world.Continuing.{HasToldCounts}
+use Rattle.tdf_shown.specs.low.instants.Laws.{IsOn}
+use Rattle.tdf_loop.specs.Ongoing.{CanBeTold}
+use Rattle.tdf_run.proofs.Api.{cluster_there}
+use Rattle.tdf_shown.proofs.Api.{done_known, get_inside}
+use Rattle.tdf_told.proofs.Api.{first_attributes}
+use Rattle.tdf_told.specs.Laws.{HaveAttributes}
 use Rattle.tdf_shown.proofs.Api.{starts}
 use Rattle.tdf_shown.specs.low.instants.History.{history}
 use Rattle.tdf_loop.specs.Running.{CanGoOn, IsRunning}
@@ -28,7 +42,7 @@ use Rattle.tdf_shown.specs.Shown.{IsShown}
 use Rattle.tdf_shown.specs.declared.shown.Shown.{Shown}
 use Rattle.tdf_shown.specs.low.tree.Pure.{PureTree}
 use Rattle.tdf_shown.specs.low.words.declared.asked.TraceKind.{TraceKind}
-use Rattle.tdf_shown.specs.low.world.Rules.{start_world, world_engine}
+use Rattle.tdf_shown.specs.low.world.Rules.{rules_of, start_world, world_engine}
 
 -- no number of a list is above the greatest
 at_most : (xs : List ℕ) (m : ℕ) → slice_index xs m ≤ greatest xs
@@ -57,53 +71,103 @@ module _ (flat : Flat) (firsts : List First) (clusters : List ClusterOf) (since 
       law model flat kind firsts 0 (clock_at 0 since clusters) s of.sound of.is of.limits un refl (starts_at model 0 of)
       (ap length zeros ∙ length-replicate (length clusters) 0) (all_there plans)
 
+-- nothing more is told
+none_from : (k : ℕ) (cs : List ClusterAt) → map (λ (c : ℕ × ClusterAt). told_more (slice_index_or [] c.0 []) c.1) (enumerate_from k cs) ≡ cs
+none_from k [] = refl
+none_from k (c ∷ cs) = λ i. record c { ahead = append-nil c.ahead i } ∷ none_from (k + 1) cs i
+
 -- a run before its first instant
-abbrev pub first_run : Engine → (left : ℕ) → Shown → Running
-first_run e left s = record { engine = e; shown = s; from = 0; left = left }
+abbrev pub first_run : Engine → (left : ℕ) → Shown → Running → Running
+first_run e left s r = record r { engine = e; shown = s; from = 0; left = left }
 
-module _ (flat : Flat) (firsts : List First) (e : Engine) (kind : TraceKind) (s t : Shown) (begun : HaveBegun flat firsts e.clusters.items) (zeros : e.since.items ≡ replicate (length e.clusters.items) 0)
+last_of : {A : Type 0} (P : A → Type 0) (xs : List A) (x : A) → All P (xs ++ x ∷ []) → P x
+last_of P [] x all = All-head P x [] all
+last_of P (y ∷ ys) x all = last_of P ys x (All-tail P y (ys ++ x ∷ []) all)
+
+no_notes : (model : PureTree) (flat : Flat) (start : World SideOf) → notes_to model flat (rules_of model flat) start 0 ≡ []
+unfolding notes_to
+no_notes model flat start = refl
+
+module _ (flat : Flat) (firsts : List First) (e : Engine) (kind : TraceKind) (s t : Shown) (plans : HavePlans flat firsts) (begun : HaveBegun flat firsts e.clusters.items) (zeros : e.since.items ≡ replicate (length e.clusters.items) 0)
     (side : side_of e.kernel ≡ start_side flat) (un : IsUnshown kind flat s) (shows : StartsShowing flat (clock_at 0 e.since.items e.clusters.items) s t) where
-  -- all that runs is what the history begins with
-  pub runs_at_first : (turns : ℕ) (model : PureTree) → IsModelOf model flat → IsRunning model flat (start_world model flat firsts [] turns) 0 e turns t
-  runs_at_first turns model of = record {
-    going = record {
-      world = start;
-      on = record {
-        reached = omega arith;
-        on = let z : 0 - 0 ≡ 0 = omega arith in ap (history (world_engine model flat) 0 start) z ∙ starts (world_engine model flat) 0 start;
-      };
-      now = record {
-        at = at;
-        side = side;
-        turns = refl;
-      };
-      timed = record { each = λ n h there. (shown.begun n h there).after_old };
-    };
-    shown = shown;
-  }
-    where
-      start : World SideOf
-      start = start_world model flat firsts [] turns
+  module _ (turns : ℕ) (model : PureTree) (of : IsModelOf model flat) where
+    abbrev start : World SideOf
+    start = start_world model flat firsts [] turns
 
-      at : AreAt model flat e.since.items start.clusters e.clusters.items
-      at = starts_at flat firsts e.clusters.items e.since.items begun zeros model turns of
+    at : AreAt model flat e.since.items start.clusters e.clusters.items
+    at = starts_at flat firsts e.clusters.items e.since.items begun zeros model turns of
 
-      shown : IsShown model flat start 0 start t
-      shown = shows model kind firsts turns un at
+    shown : IsShown model flat start 0 start t
+    shown = shows model kind firsts turns un at
+
+    -- nothing is told
+    untold_is : world_told [] start ≡ start
+    untold_is = λ i. record start { clusters = none_from 0 start.clusters i }
+
+    -- its clusters have attributes of theirs
+    have_attributes : HaveAttributes flat start
+    have_attributes = first_attributes model flat firsts [] (start_side flat) turns of.limits (λ n first there.
+        (let i = slice_get_within firsts n first there in
+        let l = begun.same in
+        let k = at.same in
+        let c = get_inside e.clusters.items n (omega (arith, i, l)) in
+        let h = get_inside start.clusters n (omega (arith, i, l, k)) in
+        (cluster_there flat (n + 1) h.0.now of.limits (last_of (IsWholeRecord flat (n + 1)) h.0.old h.0.now (at.each n h.0 c.0 h.1 c.1).whole), plans.each n first there)))
+
+    can_be_told : CanBeTold flat start
+    can_be_told = record {
+      attributes = have_attributes;
+      whole = λ n h there. (
+          let i = slice_get_within start.clusters n h there in
+          let l = at.same in
+          let c = get_inside e.clusters.items n (omega (arith, i, l)) in
+          let is = at.each n h c.0 there c.1 in
+          record {
+            counts = (done_known model flat (n + 1) h c.0 is).counts;
+            whole = (last_of (IsWholeRecord flat (n + 1)) h.old h.now is.whole).whole;
+            ahead = subst (λ (a : List Change). All HasToldCounts a) (sym is.none_ahead) (All-nil HasToldCounts);
+          });
+    }
+
+    -- all that runs is what the history begins with
+    pub runs_at_first : IsRunning model flat start 0 e turns t []
+    runs_at_first = record {
+      going = record {
+        can = can_be_told;
+        ahead = [];
+        told = record { answers = λ time n w below on due. absurd (omega (arith, below)); counts = All-nil (All HasToldCounts) };
+        some = λ time n w below on due. absurd (omega (arith, below));
+        world = start;
+        on = subst (λ (w : World SideOf). IsOn (world_engine model flat) 0 w 0 start) (sym untold_is) (record {
+          reached = omega arith;
+          on = let z : 0 - 0 ≡ 0 = omega arith in ap (history (world_engine model flat) 0 start) z ∙ starts (world_engine model flat) 0 start;
+        });
+        now = record {
+          at = at;
+          side = side;
+          turns = refl;
+        };
+        timed = record { each = λ n h there. (shown.begun n h there).after_old };
+      };
+      shown = subst (λ (w : World SideOf). IsShown model flat w 0 start t) (sym untold_is) shown;
+      news_are = sym (no_notes model flat (world_told [] start));
+    }
 
   -- so the run can go on
-  pub can_begin : IsEngineOf flat e → IsReadyAt 0 e → e.outputs.traced ≡ [] → t.trace.rows.upto ≡ s.trace.rows.upto → (model : PureTree) → IsModelOf model flat → (turns : ℕ) → CanGoOn flat (first_run e turns t)
-  can_begin engine ready none upto model of turns = record {
+  pub can_begin : (r : Running) → r.news.items ≡ [] → IsEngineOf flat e → IsReadyAt 0 e → e.outputs.traced ≡ [] → t.trace.rows.upto ≡ s.trace.rows.upto → AreInRange flat.tables → (model : PureTree) → IsModelOf model flat → (turns : ℕ)
+      → CanGoOn flat (first_run e turns t r)
+  can_begin r empty engine ready none upto range model of turns = record {
     engine = engine;
     ready = ready;
     none = none;
     early = omega (arith, upto, zero_upto);
     late = λ n s s_at. omega (arith, upto, zero_upto);
+    printable = range;
     some = record {
       model = model;
       of = of;
-      start = start_world model flat firsts [] turns;
-      is = runs_at_first turns model of;
+      start = start turns model of;
+      is = subst (IsRunning model flat (start turns model of) 0 e turns t) (sym empty) (runs_at_first turns model of);
     };
   }
     where

@@ -9,6 +9,7 @@ pub mod Finishing
 pub mod Keeping
 pub mod Leading
 pub mod Marking
+pub mod Plans
 pub mod Noting
 pub mod Onward
 pub mod Opening
@@ -16,6 +17,7 @@ pub mod Reaching
 pub mod RunStands
 pub mod Staying
 pub mod Stepping
+pub mod Told
 pub mod Waiting
 pub mod WholeRun
 pub mod Written

@@ -8,18 +8,22 @@ use Rattle.tdf_engine.specs.Telling.{IsLeastStart}
 use Rattle.tdf_shown.specs.low.events.Side.{SideOf}
 use Rattle.tdf_shown.specs.low.flat.declared.model.Flat.{Flat}
 use Rattle.tdf_shown.specs.low.history.Cells.{run_cells}
-use Rattle.tdf_shown.specs.low.history.World.{World}
+use Rattle.tdf_told.specs.low.changes.Laws.{BoundariesHaveOne}
+use Rattle.tdf_shown.specs.low.history.Telling.{world_told}
+use Rattle.tdf_shown.specs.low.history.World.{Change, World}
 use Rattle.tdf_shown.specs.low.in_out.Bytes.{AppendsFront}
 use Rattle.tdf_loop.proofs.Onward.{since_mark}
 use Rattle.tdf_loop.proofs.RunStands.{run_stands}
 use Rattle.tdf_loop.proofs.Finishing.{rows_same}
+use Rattle.tdf_loop.proofs.Told.{cells_told}
 use Rattle.tdf_loop.proofs.Written.{rows_alike, rows_past}
 use Rattle.tdf_loop.specs.Ending.{ShownStandsBelow}
+use Rattle.tdf_loop.specs.Ongoing.{AreToldTo}
 use Rattle.tdf_loop.specs.Running.{CanGoOn, GoesOn, IsRunningAt, WritesFrontTo}
 use Rattle.tdf_loop.specs.declared.running.Running.{Running}
 use Rattle.tdf_shown.specs.low.rows.Laws.{Agree}
 use Rattle.tdf_shown.specs.low.rows.Rows.{Cells}
-use Rattle.tdf_shown.proofs.Api.{written_is_shown}
+use Rattle.tdf_shown.proofs.Api.{agree_trans, written_is_shown}
 use Rattle.tdf_shown.specs.low.trace.Stands.{TraceSeen, WritesFront, WritesRows}
 use Rattle.tdf_shown.specs.low.trace.Writings.{AboutSeen, rows_text}
 use Rattle.tdf_shown.specs.low.tree.Pure.{PureTree}
@@ -32,19 +36,27 @@ rows_by about g h u v mark a b agree low within took = elim (cases_lt mark v) [
   | inl past ↦ subst (λ (t : List ℕ). Appends a b t) (rows_past about g u v (omega (arith, low, within, past)) ∙ sym (rows_past about h u v (omega (arith, low, within, past)))) took
 ]
 
-module _ (stands : ShownStandsBelow) (flat : Flat) (r : Running) (can : CanGoOn flat r) (mark : ℕ) (least : IsLeastStart r.engine.since.items r.from mark) where
-  stand : (model : PureTree) (start : World SideOf) → IsModelOf model flat → IsRunningAt model flat start r → StandBelow (run_cells model flat (rules_of model flat) start r.from) mark r.shown.trace.rows
-  stand model start m run = run_stands stands model flat start r.from mark r.left r.engine r.shown m run (since_mark flat r can mark least.each) least.within
+module _ (law : BoundariesHaveOne) (stands : ShownStandsBelow) (flat : Flat) (r : Running) (can : CanGoOn flat r) (mark : ℕ) (least : IsLeastStart r.engine.since.items r.from mark) where
+  stand : (model : PureTree) (start : World SideOf) → IsModelOf model flat → (run : IsRunningAt model flat start r)
+      → StandBelow (run_cells model flat (rules_of model flat) (world_told run.going.ahead start) r.from) mark r.shown.trace.rows
+  stand model start m run = run_stands stands model flat start r.from mark r.left r.engine r.shown r.news.items m run (since_mark flat r can mark least.each) least.within
+
+  -- they agree with the cells of the history that is told other answers
+  agrees : (model : PureTree) (start : World SideOf) (ahead : List (List Change)) → (m : IsModelOf model flat) → (run : IsRunningAt model flat start r) → AreToldTo model flat start r.from ahead
+      → (noted : Cells) → Agree noted (run_cells model flat (rules_of model flat) (world_told run.going.ahead start) r.from) mark → Agree noted (run_cells model flat (rules_of model flat) (world_told ahead start) r.from) mark
+  agrees model start ahead m run to noted agree = agree_trans noted (run_cells model flat (rules_of model flat) (world_told run.going.ahead start) r.from)
+      (run_cells model flat (rules_of model flat) (world_told ahead start) r.from) mark r.from least.within agree
+      (cells_told law model flat start r.from r.left r.engine m run.going ahead to)
 
   pub marks_part : (before after : Option (List ℕ)) → WritesFront r.shown.trace mark before after → WritesFrontTo flat r before after
   marks_part before after part = record {
     mark = mark;
     early = least.within;
     late = least.each;
-    front = λ model start m run. (
+    front = λ model start ahead m run to. (
         let s = stand model start m run in
         subst (λ (t : List ℕ). AppendsFront before after t)
-        (rows_same r.shown.trace.about s.noted (run_cells model flat (rules_of model flat) start r.from) r.shown.trace.rows.upto mark s.agree)
+        (rows_same r.shown.trace.about s.noted (run_cells model flat (rules_of model flat) (world_told ahead start) r.from) r.shown.trace.rows.upto mark (agrees model start ahead m run to s.noted s.agree))
         (part s.noted s.stand));
   }
 
@@ -58,7 +70,8 @@ module _ (stands : ShownStandsBelow) (flat : Flat) (r : Running) (can : CanGoOn 
     marks_run : (model : PureTree) (start : World SideOf) → IsModelOf model flat → IsRunningAt model flat start r → IsRunningAt model flat start marked
     marks_run model start m run = record {
       going = run.going;
-      shown = written_is_shown model flat start run.going.world r.from r.shown trace run.shown (λ cells old. (wrote cells old).stands) about;
+      shown = written_is_shown model flat (world_told run.going.ahead start) run.going.world r.from r.shown trace run.shown (λ cells old. (wrote cells old).stands) about;
+      news_are = run.news_are;
     }
 
     pub marks_can : CanGoOn flat marked
@@ -68,6 +81,7 @@ module _ (stands : ShownStandsBelow) (flat : Flat) (r : Running) (can : CanGoOn 
       none = can.none;
       early = (let e = can.early in let l = least.within in omega (arith, e, l, within));
       late = λ n s s_at. (let e = can.late n s s_at in let l = least.each n s s_at in omega (arith, e, l, within));
+      printable = can.printable;
       some = record { model = can.some.model; of = can.some.of; start = can.some.start; is = marks_run can.some.model can.some.start can.some.of can.some.is };
     }
 
@@ -77,8 +91,9 @@ module _ (stands : ShownStandsBelow) (flat : Flat) (r : Running) (can : CanGoOn 
       about = about;
       wrote = upto_later;
       runs = marks_run;
-      rows = λ model start m run. (
+      rows = λ model start ahead m run to. (
           let s = stand model start m run in
-          rows_by r.shown.trace.about s.noted (run_cells model flat (rules_of model flat) start r.from) r.shown.trace.rows.upto trace.rows.upto mark before after s.agree upto_later within
+          rows_by r.shown.trace.about s.noted (run_cells model flat (rules_of model flat) (world_told ahead start) r.from) r.shown.trace.rows.upto trace.rows.upto mark before after
+          (agrees model start ahead m run to s.noted s.agree) upto_later within
           (wrote s.noted s.stand).took);
     }

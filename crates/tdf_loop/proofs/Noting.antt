@@ -1,35 +1,48 @@
--- The notes of a run: its first plans, and how it ended.
-use Rattle.std.proofs.Common.{◌≡◌, ℕ, List, Option, sym, subst}
+-- The notes of a run: its first plans, the plans that came, and how it ended.
+use Rattle.std.proofs.Common.{◌≡◌, ◌∙◌, ◌++◌, ℕ, List, Option, append_assoc, ap, sym, subst}
 use Rattle.std.proofs.KnownBytes.{Appends-trans}
 use Rattle.std.specs.Io.KnownBytes.{Appends}
-use Rattle.tdf_shown.specs.low.dynamic.declared.first.First.{First}
-use Rattle.tdf_shown.specs.low.flat.declared.model.Flat.{Flat}
-use Rattle.tdf_shown.proofs.Api.{front_more, front_then, front_whole}
-use Rattle.tdf_shown.specs.low.in_out.Bytes.{AppendsFront}
 use Rattle.tdf_report.specs.Ending.{end_text, run_end, run_note}
 use Rattle.tdf_report.specs.Laws.{NotesAreWritten}
 use Rattle.tdf_report.specs.Plans.{plans_of}
 use Rattle.tdf_report.specs.declared.ending.End.{End}
+use Rattle.tdf_shown.proofs.Api.{front_more, front_then, front_whole}
+use Rattle.tdf_shown.specs.low.dynamic.declared.first.First.{First}
+use Rattle.tdf_shown.specs.low.flat.declared.model.Flat.{Flat}
+use Rattle.tdf_shown.specs.low.history.Texts.{notes_to}
+use Rattle.tdf_shown.specs.low.history.World.{Change}
+use Rattle.tdf_shown.specs.low.in_out.Bytes.{AppendsFront}
 use Rattle.tdf_shown.specs.low.tree.Pure.{PureTree}
+use Rattle.tdf_shown.specs.low.world.Rules.{rules_of, start_world}
 
-module _ (notes : NotesAreWritten) (model : PureTree) (flat : Flat) (firsts listed : List First) (same : listed ≡ firsts) (stop turns : ℕ) where
+module _ (notes : NotesAreWritten) (model : PureTree) (flat : Flat) (firsts listed : List First) (same : listed ≡ firsts) (ahead : List (List Change)) (stop turns : ℕ) where
+  abbrev news_of : List ℕ
+  news_of = notes_to model flat (rules_of model flat) (start_world model flat firsts ahead turns) stop
+
   abbrev closing : List ℕ
-  closing = end_text flat.resolution turns (run_end model flat firsts stop turns)
+  closing = end_text flat.resolution turns (run_end model flat firsts ahead stop turns)
 
-  pub plans_part : (a b : Option (List ℕ)) → AppendsFront a b (plans_of flat listed) → AppendsFront a b (run_note model flat firsts stop turns)
-  plans_part a b part = subst (λ (t : List ℕ). AppendsFront a b t) (sym (notes model flat firsts stop turns))
-      (front_more a b (plans_of flat firsts) closing (subst (λ (l : List First). AppendsFront a b (plans_of flat l)) same part))
+  abbrev whole : List ℕ
+  whole = run_note model flat firsts ahead stop turns
 
-  pub plans_whole : (a b : Option (List ℕ)) → Appends a b (plans_of flat listed) → AppendsFront a b (run_note model flat firsts stop turns)
+  -- the first plans, then the news and the closing line
+  text_is : whole ≡ plans_of flat listed ++ (news_of ++ closing)
+  text_is = notes model flat firsts ahead stop turns ∙ append_assoc (plans_of flat firsts) news_of closing ∙ ap (λ l. plans_of flat l ++ (news_of ++ closing)) (sym same)
+
+  pub plans_part : (a b : Option (List ℕ)) → AppendsFront a b (plans_of flat listed) → AppendsFront a b whole
+  plans_part a b part = subst (λ (t : List ℕ). AppendsFront a b t) (sym text_is) (front_more a b (plans_of flat listed) (news_of ++ closing) part)
+
+  pub plans_whole : (a b : Option (List ℕ)) → Appends a b (plans_of flat listed) → AppendsFront a b whole
   plans_whole a b done = plans_part a b (front_whole a b (plans_of flat listed) done)
 
-  module _ (end : End) (is : end ≡ run_end model flat firsts stop turns) (a b c : Option (List ℕ)) (plans : Appends a b (plans_of flat listed)) where
-    pub notes_whole : Appends b c (end_text flat.resolution turns end) → Appends a c (run_note model flat firsts stop turns)
-    notes_whole done = subst (λ (t : List ℕ). Appends a c t) (sym (notes model flat firsts stop turns))
-        (Appends-trans a b c (plans_of flat firsts) closing (subst (λ (l : List First). Appends a b (plans_of flat l)) same plans)
-        (subst (λ (e : End). Appends b c (end_text flat.resolution turns e)) is done))
+  module _ (a b : Option (List ℕ)) (plans : Appends a b (plans_of flat listed)) (news : List ℕ) (news_are : news ≡ news_of) (end : End) (is : end ≡ run_end model flat firsts ahead stop turns) (c : Option (List ℕ)) where
+    rest_is : news ++ end_text flat.resolution turns end ≡ news_of ++ closing
+    rest_is = λ i. news_are i ++ end_text flat.resolution turns (is i)
 
-    pub notes_part : AppendsFront b c (end_text flat.resolution turns end) → AppendsFront a c (run_note model flat firsts stop turns)
-    notes_part part = subst (λ (t : List ℕ). AppendsFront a c t) (sym (notes model flat firsts stop turns))
-        (front_then a b c (plans_of flat firsts) closing (subst (λ (l : List First). Appends a b (plans_of flat l)) same plans)
-        (subst (λ (e : End). AppendsFront b c (end_text flat.resolution turns e)) is part))
+    pub notes_whole : Appends b c (news ++ end_text flat.resolution turns end) → Appends a c whole
+    notes_whole rest = subst (λ (t : List ℕ). Appends a c t) (sym text_is)
+        (Appends-trans a b c (plans_of flat listed) (news_of ++ closing) plans (subst (λ (t : List ℕ). Appends b c t) rest_is rest))
+
+    pub notes_part : AppendsFront b c (news ++ end_text flat.resolution turns end) → AppendsFront a c whole
+    notes_part rest = subst (λ (t : List ℕ). AppendsFront a c t) (sym text_is)
+        (front_then a b c (plans_of flat listed) (news_of ++ closing) plans (subst (λ (t : List ℕ). AppendsFront b c t) rest_is rest))

@@ -2,6 +2,7 @@
 use Rattle.std.proofs.Common.{◌≡◌, sym, ap, subst, arith}
 use Rattle.tdf_shown.specs.low.events.Side.{SideOf}
 use Rattle.tdf_shown.specs.low.flat.declared.model.Flat.{Flat}
+use Rattle.tdf_shown.specs.low.history.Telling.{world_told}
 use Rattle.tdf_shown.specs.low.history.World.{World}
 use Rattle.tdf_loop.specs.Running.{CanGoOn, IsRunningAt}
 use Rattle.tdf_loop.specs.declared.running.Running.{Running}
@@ -16,7 +17,8 @@ module _ (flat : Flat) (r : Running) (trace : TraceSeen) (rows : trace.rows ≡ 
   pub opens_run : (model : PureTree) (start : World SideOf) → IsRunningAt model flat start r → IsRunningAt model flat start with_head
   opens_run model start run = record {
     going = run.going;
-    shown = written_is_shown model flat start run.going.world r.from r.shown trace run.shown (λ cells stands. subst (λ (x : RowsSeen). Stands cells x) (sym rows) stands) about;
+    shown = written_is_shown model flat (world_told run.going.ahead start) run.going.world r.from r.shown trace run.shown (λ cells stands. subst (λ (x : RowsSeen). Stands cells x) (sym rows) stands) about;
+    news_are = run.news_are;
   }
 
   pub opens : CanGoOn flat r → CanGoOn flat with_head
@@ -26,5 +28,6 @@ module _ (flat : Flat) (r : Running) (trace : TraceSeen) (rows : trace.rows ≡ 
     none = can.none;
     early = (let e = can.early in let u : trace.rows.upto ≡ r.shown.trace.rows.upto = ap (λ (x : RowsSeen). x.upto) rows in omega (arith, e, u));
     late = λ n s s_at. (let l = can.late n s s_at in let u : trace.rows.upto ≡ r.shown.trace.rows.upto = ap (λ (x : RowsSeen). x.upto) rows in omega (arith, l, u));
+    printable = can.printable;
     some = record { model = can.some.model; of = can.some.of; start = can.some.start; is = opens_run can.some.model can.some.start can.some.is };
   }

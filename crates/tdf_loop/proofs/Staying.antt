@@ -1,24 +1,22 @@
--- Later instants of a run leave the cells below a mark.
-use Rattle.std.proofs.Common.{◌≡◌, ◌∙◌, ℕ, ◌+◌, ◌-◌, ◌≤◌, List, Some, length, slice_get, sym, ap, subst, arith}
-use Rattle.std.proofs.lemmas.List.Elements.{All-nil}
+-- What there is in the history of a run is steady, also where more is told of its boundaries.
+use Rattle.std.proofs.Common.{◌≡◌, ◌∙◌, ℕ, zero, suc, ◌+◌, ◌≤◌, Option, Some, None, option_map, List, [], ◌∷◌, length, slice_get, slice_index_or, refl, sym, ap, subst, arith}
+use Rattle.std.proofs.lemmas.List.Elements.{All-append, All-head, All-nil, All-tail}
 use Rattle.std.proofs.lemmas.Option.{slice_get_within}
 use Rattle.std.specs.List.{All}
+use Rattle.tdf_engine.proofs.Api.{told_get}
 use Rattle.tdf_engine.specs.InstantLaws.{IsNow}
 use Rattle.tdf_engine.specs.declared.engine.Engine.{Engine}
 use Rattle.tdf_shown.specs.low.events.Side.{SideOf}
 use Rattle.tdf_shown.specs.low.flat.declared.model.Flat.{Flat}
-use Rattle.tdf_shown.proofs.Api.{get_inside}
+use Rattle.tdf_shown.proofs.Api.{get_inside, some_same}
+use Rattle.tdf_shown.specs.low.history.Telling.{told_more, world_told}
 use Rattle.tdf_shown.specs.low.history.World.{Change, ClusterAt, World}
-use Rattle.tdf_shown.specs.low.instants.History.{history}
 use Rattle.tdf_loop.specs.Ongoing.{AreTimed}
-use Rattle.tdf_loop.specs.Staying.{CellsStayBelow}
 use Rattle.tdf_shown.specs.low.streams.Signals.{time_of}
 use Rattle.tdf_shown.proofs.Api.{done_known}
 use Rattle.tdf_shown.specs.low.tree.Pure.{PureTree}
-use Rattle.tdf_shown.proofs.Api.{cells_agree}
 use Rattle.tdf_shown.specs.low.world.Continuing.{HasToldCounts}
-use Rattle.tdf_shown.specs.low.world.Laws.{AreSteady}
-use Rattle.tdf_shown.specs.low.world.Rules.{rules_of, world_engine}
+use Rattle.tdf_shown.specs.low.world.Laws.{AreSteady, HasDone}
 
 module _ (model : PureTree) (flat : Flat) (w : World SideOf) (e : Engine) (left : ℕ) (now : IsNow model flat w e left) where
   -- what there is in the history is steady
@@ -50,9 +48,18 @@ module _ (model : PureTree) (flat : Flat) (w : World SideOf) (e : Engine) (left 
       let b = now.at.begun n t.0 h h_at t.1 in
       let o = timed.each n h h_at in omega (arith, l, b, o)
 
-pub cells_stay_below : CellsStayBelow
-cells_stay_below model flat start last from end mark left e m of going low at_end below late =
-    let z : from ≡ from - 0 = omega arith in
-    cells_agree model flat (rules_of model flat) start going.world last from end mark m.limits
-    (ap (history (world_engine model flat) 0 start) z ∙ going.on.on) low at_end (steady model flat going.world e left going.now)
-    (starts_late model flat going.world e left going.now going.timed of.since mark late)
+-- what is told of a cluster has its counts where all that is told has
+pub counts_of : (ahead : List (List Change)) (n : ℕ) → All (All HasToldCounts) ahead → All HasToldCounts (slice_index_or ahead n [])
+counts_of [] n counts = All-nil HasToldCounts
+counts_of (a ∷ ahead) zero counts = All-head (All HasToldCounts) a ahead counts
+counts_of (a ∷ ahead) (suc n) counts = counts_of ahead n (All-tail (All HasToldCounts) a ahead counts)
+
+-- a steady world stays so where plans are told with their counts
+pub steady_more : (model : PureTree) (flat : Flat) (w : World SideOf) (told : List (List Change)) → All (All HasToldCounts) told → AreSteady model flat w → AreSteady model flat (world_told told w)
+steady_more model flat w told counts steady = record { each = λ n c at. go n c (slice_get w.clusters n) refl (sym (told_get told n w) ∙ at) }
+  where
+    go : (n : ℕ) (c : ClusterAt) (o : Option ClusterAt) → slice_get w.clusters n ≡ o → option_map (told_more (slice_index_or told n [])) o ≡ Some c → HasDone model flat (n + 1) c
+    go n c None there is = absurd cc
+    go n c (Some b) there is = subst (HasDone model flat (n + 1)) (some_same (told_more (slice_index_or told n []) b) c is) (
+        let d = steady.each n b there in
+        record { whole = d.whole; counts = d.counts; ahead = All-append HasToldCounts b.ahead (slice_index_or told n []) d.ahead (counts_of told n counts); place = d.place; known = d.known })

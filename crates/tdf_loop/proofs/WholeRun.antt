@@ -1,120 +1,227 @@
 -- What a whole run writes and leaves.
-use Rattle.std.proofs.Common.{◌≡◌, ◌∙◌, ℕ, ◌-◌, List, [], ◌++◌, Option, Result, IfOk, refl, sym, ap, subst, arith}
+use Rattle.std.proofs.Common.{◌≡◌, ◌∙◌, ℕ, suc, ◌-◌, ◌≤◌, List, [], ◌∷◌, ◌++◌, Option, Some, map, slice_get, refl, sym, ap, subst, arith}
 use Rattle.std.proofs.KnownBytes.{Appends-trans}
+use Rattle.std.proofs.lemmas.Option.{slice_get_within}
 use Rattle.std.specs.Io.KnownBytes.{Appends}
-use Rattle.tdf_shown.specs.low.dynamic.declared.first.First.{First}
+use Rattle.tdf_shown.specs.low.history.Instant.{RunFault}
 use Rattle.tdf_engine.specs.InstantLaws.{IsModelOf}
-use Rattle.tdf_shown.specs.low.events.Kernel.{KernelOf, side_of}
-use Rattle.tdf_shown.specs.low.events.Side.{SideOf}
-use Rattle.tdf_shown.specs.low.flat.declared.model.Flat.{Flat}
-use Rattle.tdf_shown.specs.low.history.Cells.{run_cells}
-use Rattle.tdf_shown.specs.low.history.World.{World}
-use Rattle.tdf_shown.proofs.Api.{front_then}
-use Rattle.tdf_shown.specs.low.in_out.Bytes.{AppendsFront}
-use Rattle.tdf_shown.specs.low.in_out.declared.writing.SinkErr.{SinkErr}
-use Rattle.tdf_loop.proofs.Answering.{if_both, if_ok}
-use Rattle.tdf_loop.specs.Ending.{EndsAs, EndsBy, GoesToEnd, WritesPart, end_from}
+use Rattle.tdf_loop.proofs.Ended.{end_lies_in}
+use Rattle.tdf_loop.proofs.Finishing.{rows_same}
+use Rattle.tdf_loop.proofs.Told.{ends_alike, ends_cells, on_untold}
+use Rattle.tdf_loop.specs.Ending.{EndsAs, EndsBy, GoesToEnd, WritesPart, end_by, end_from, state_from}
+use Rattle.tdf_loop.specs.Ongoing.{AreToldTo}
 use Rattle.tdf_loop.specs.Running.{IsRunningAt}
 use Rattle.tdf_loop.specs.Runs.{IsLeft, model_about, trace_of}
 use Rattle.tdf_loop.specs.declared.going.Ended.{Ended}
 use Rattle.tdf_loop.specs.declared.going.Ended.TheVariants as ended
 use Rattle.tdf_loop.specs.declared.run.Ran.{Ran}
+use Rattle.tdf_loop.specs.declared.run.Whole.{Whole}
 use Rattle.tdf_loop.specs.declared.running.Running.{Running}
-use Rattle.tdf_report.specs.Ending.{end_of, run_end}
-use Rattle.tdf_report.specs.declared.ending.End.{End}
-use Rattle.tdf_report.specs.declared.ending.End.TheVariants.{Reached, Spent}
+use Rattle.tdf_loop.specs.machine.Whole.{HasEnded}
+use Rattle.tdf_report.specs.Ending.{HaveAnswers, end_of, run_end, state_of}
+use Rattle.tdf_report.specs.declared.ending.End.TheVariants.{Reached, Spent, Stopped}
+use Rattle.tdf_shown.proofs.Api.{front_then, get_inside, head_front, makes_whole, rows_front, written_none}
+use Rattle.tdf_shown.specs.low.base.declared.faults.Fault.{Fault}
+use Rattle.tdf_told.specs.low.changes.Laws.{BoundariesHaveOne}
+use Rattle.tdf_shown.specs.low.dynamic.declared.first.First.{First}
+use Rattle.tdf_shown.specs.low.events.Kernel.{KernelOf, side_of}
+use Rattle.tdf_shown.specs.low.events.Side.{SideOf, start_side}
+use Rattle.tdf_shown.specs.low.flat.declared.model.Flat.{Flat}
+use Rattle.tdf_shown.specs.low.history.Answers.{AreAnswers}
+use Rattle.tdf_shown.specs.low.history.Cells.{run_cells}
+use Rattle.tdf_shown.specs.low.history.Telling.{untold, world_told, state_as, world_untold}
+use Rattle.tdf_shown.specs.low.history.Texts.{notes_to, run_trace}
+use Rattle.tdf_shown.specs.low.history.World.{Change, ClusterAt, World}
+use Rattle.tdf_shown.specs.low.in_out.Bytes.{AppendsFront}
+use Rattle.tdf_shown.specs.low.instants.History.{history, On, Spent, State, Stopped}
 use Rattle.tdf_shown.specs.low.rows.Rows.{Cells, trace_text}
 use Rattle.tdf_shown.specs.low.run.Pass.{AreAt}
-use Rattle.tdf_shown.proofs.Api.{head_front, makes_whole, rows_front, written_none}
 use Rattle.tdf_shown.specs.low.trace.Writings.{AboutSeen, head_of, rest_text, rows_text, writing_of, written_text}
 use Rattle.tdf_shown.specs.low.tree.Pure.{PureTree}
 use Rattle.tdf_shown.specs.low.words.declared.asked.TraceKind.{TraceKind}
-use Rattle.tdf_shown.specs.low.world.Rules.{rules_of, start_world}
+use Rattle.tdf_shown.specs.low.world.Rules.{rules_of, start_world, world_engine}
+use Rattle.tdf_told.proofs.Api.{starts_told, answers_agree, attributes_alike, to_same, untold_told}
 
-abbrev IsSpentEnd : End → Type 0
-IsSpentEnd (Spent time) = Unit {0}
-IsSpentEnd _ = ⊥
+spent_reached : (from time taken : ℕ) → Spent from ≡ Reached time taken → ⊥
+spent_reached from time taken same = absurd cc
 
-abbrev IsReachedStop : Ended → Type 0
-IsReachedStop ended.Reached = Unit {0}
-IsReachedStop ended.Spent = ⊥
+stopped_reached : (from cluster time taken : ℕ) (fault : Fault) → Stopped from cluster fault ≡ Reached time taken → ⊥
+stopped_reached from cluster time taken fault same = absurd cc
 
-spent_other : ended.Reached ≡ ended.Spent → ⊥
-spent_other is = subst IsReachedStop is tt
-
-module _ (kind : TraceKind) (model : PureTree) (flat : Flat) (firsts : List First) (stop turns : ℕ) (m : IsModelOf model flat) where
+module _ (law : BoundariesHaveOne) (kind : TraceKind) (model : PureTree) (flat : Flat) (firsts : List First) (ahead : List (List Change)) (stop turns : ℕ) (m : IsModelOf model flat) (have : HaveAnswers model flat firsts ahead stop turns) where
   abbrev about : AboutSeen
   about = model_about kind flat
 
   abbrev start : World SideOf
   start = start_world model flat firsts [] turns
 
+  -- a start of which this is told
+  told_is : world_told ahead start ≡ start_world model flat firsts ahead turns
+  told_is = starts_told model flat [] ahead firsts (start_side flat) turns
+
+  to : AreToldTo model flat start stop ahead
+  to = record {
+    answers = subst (λ (w : World SideOf). AreAnswers model flat (rules_of model flat) w stop) (sym told_is) have.are;
+    counts = have.counts;
+  }
+
   abbrev end : ℕ
-  end = end_from model flat start stop
+  end = end_from model flat start ahead stop
 
   abbrev cells_at : ℕ → Cells
-  cells_at time = run_cells model flat (rules_of model flat) start time
+  cells_at time = run_cells model flat (rules_of model flat) (world_told ahead start) time
+
+  abbrev whole_trace : List ℕ
+  whole_trace = trace_text (writing_of about) (cells_at end) end
+
+  trace_is : whole_trace ≡ trace_of kind model flat firsts ahead stop turns
+  trace_is = ap (λ (w : World SideOf). run_trace (writing_of about) model flat (rules_of model flat) w stop) told_is
 
   -- a front part of the head is one of the trace
-  pub head_part : (a b : Option (List ℕ)) → AppendsFront a b (head_of about) → AppendsFront a b (trace_of kind model flat firsts stop turns)
-  head_part a b part = head_front about (cells_at end) end a b part
+  pub head_part : (a b : Option (List ℕ)) → AppendsFront a b (head_of about) → AppendsFront a b (trace_of kind model flat firsts ahead stop turns)
+  head_part a b part = subst (λ (t : List ℕ). AppendsFront a b t) trace_is (head_front about (cells_at end) end a b part)
 
   module _ (r : Running) (from : r.from ≡ 0) (upto : r.shown.trace.rows.upto ≡ 0) (of : r.shown.trace.about ≡ about) (run : IsRunningAt model flat start r) (a b : Option (List ℕ)) (head : Appends a b (head_of about)) where
     -- and so is a front part of the rows after it
-    pub rows_part_of : (c : Option (List ℕ)) → WritesPart flat stop r b c → AppendsFront a c (trace_of kind model flat firsts stop turns)
-    rows_part_of c part =
+    pub rows_part_of : (c : Option (List ℕ)) → WritesPart flat stop r b c → AppendsFront a c (trace_of kind model flat firsts ahead stop turns)
+    rows_part_of c part = subst (λ (t : List ℕ). AppendsFront a c t) trace_is (
         rows_front about (cells_at end) 0 end end a b c (omega arith) (omega arith) (subst (λ (t : List ℕ). Appends a b t) (sym (written_none about (cells_at end))) head)
         (subst (λ u. AppendsFront b c (rows_text about (cells_at end) u end)) upto
-        (subst (λ (o : AboutSeen). AppendsFront b c (rows_text o (cells_at end) r.shown.trace.rows.upto end)) of (part model start m run)))
+        (subst (λ (o : AboutSeen). AppendsFront b c (rows_text o (cells_at end) r.shown.trace.rows.upto end)) of (part model start ahead m run to))))
 
-    module _ (last : Running) (how : Ended) (c : Option (List ℕ)) (to : GoesToEnd flat stop r last b c how) where
+    module _ (last : Running) (how : Ended) (c : Option (List ℕ)) (goes : GoesToEnd flat stop r last b c how) where
       abbrev ending : EndsAs model flat start stop last how
-      ending = to.ends model start m run
+      ending = goes.ends model start m run
+
+      end_is : end ≡ last.from
+      end_is = sym (ends_alike law model flat start ending.ahead ahead stop m ending.can ending.told to) ∙ ending.time
 
       written : Appends a c (written_text about (cells_at last.from) last.shown.trace.rows.upto)
       written = Appends-trans a b c (head_of about) (rows_text about (cells_at last.from) 0 last.shown.trace.rows.upto) head
           (subst (λ u. Appends b c (rows_text about (cells_at last.from) u last.shown.trace.rows.upto)) upto
-          (subst (λ (o : AboutSeen). Appends b c (rows_text o (cells_at last.from) r.shown.trace.rows.upto last.shown.trace.rows.upto)) of (to.rows model start m run)))
+          (subst (λ (o : AboutSeen). Appends b c (rows_text o (cells_at last.from) r.shown.trace.rows.upto last.shown.trace.rows.upto)) of (goes.rows model start ahead m run to)))
+
+      -- the rest, by the answers that the run was told, and by these
+      abbrev own_cells : Cells
+      own_cells = run_cells model flat (rules_of model flat) (world_told ending.ahead start) last.from
+
+      rest_is : rest_text last.shown.trace.about own_cells last.shown.trace.rows.upto last.from ≡ rest_text about (cells_at last.from) last.shown.trace.rows.upto last.from
+      rest_is = ap (λ (o : AboutSeen). rest_text o own_cells last.shown.trace.rows.upto last.from) (goes.about ∙ of)
+          ∙ ap (λ t. t ++ (writing_of about).tail last.from) (rows_same about own_cells (cells_at last.from) last.shown.trace.rows.upto last.from
+          (ends_cells law model flat start ending.ahead ahead stop last.from m ending.can ending.told to (last_within last.from)))
+        where
+          last_within : (time : ℕ) → last.from ≤ stop
+          last_within time = subst (λ n. n ≤ stop) ending.time (end_lies_in (world_engine model flat) (world_told ending.ahead start) stop)
+
+      text_is : written_text about (cells_at last.from) last.shown.trace.rows.upto ++ rest_text about (cells_at last.from) last.shown.trace.rows.upto last.from ≡ trace_of kind model flat firsts ahead stop turns
+      text_is = makes_whole about (cells_at last.from) last.shown.trace.rows.upto last.from (λ t low high. absurd (let e = goes.early in omega (arith, low, high, e)))
+          ∙ ap (λ t. trace_text (writing_of about) (cells_at t) t) (sym end_is) ∙ trace_is
 
       abbrev rest : List ℕ
-      rest = rest_text last.shown.trace.about (cells_at last.from) last.shown.trace.rows.upto last.from
+      rest = rest_text last.shown.trace.about own_cells last.shown.trace.rows.upto last.from
 
-      text_is : written_text about (cells_at last.from) last.shown.trace.rows.upto ++ rest_text about (cells_at last.from) last.shown.trace.rows.upto last.from ≡ trace_of kind model flat firsts stop turns
-      text_is = makes_whole about (cells_at last.from) last.shown.trace.rows.upto last.from (λ t low high. absurd (let e = to.early in omega (arith, low, high, e)))
-          ∙ ap (λ t. trace_text (writing_of about) (cells_at t) t) (sym ending.time)
-
-      pub whole_text : (d : Option (List ℕ)) → Appends c d rest → Appends a d (trace_of kind model flat firsts stop turns)
+      pub whole_text : (d : Option (List ℕ)) → Appends c d rest → Appends a d (trace_of kind model flat firsts ahead stop turns)
       whole_text d wrote = subst (λ (t : List ℕ). Appends a d t) text_is
           (Appends-trans a c d (written_text about (cells_at last.from) last.shown.trace.rows.upto) (rest_text about (cells_at last.from) last.shown.trace.rows.upto last.from) written
-          (subst (λ (o : AboutSeen). Appends c d (rest_text o (cells_at last.from) last.shown.trace.rows.upto last.from)) (to.about ∙ of) wrote))
+          (subst (λ (t : List ℕ). Appends c d t) rest_is wrote))
 
-      pub whole_part : (d : Option (List ℕ)) → AppendsFront c d rest → AppendsFront a d (trace_of kind model flat firsts stop turns)
+      pub whole_part : (d : Option (List ℕ)) → AppendsFront c d rest → AppendsFront a d (trace_of kind model flat firsts ahead stop turns)
       whole_part d part = subst (λ (t : List ℕ). AppendsFront a d t) text_is
           (front_then a c d (written_text about (cells_at last.from) last.shown.trace.rows.upto) (rest_text about (cells_at last.from) last.shown.trace.rows.upto last.from) written
-          (subst (λ (o : AboutSeen). AppendsFront c d (rest_text o (cells_at last.from) last.shown.trace.rows.upto last.from)) (to.about ∙ of) part))
+          (subst (λ (t : List ℕ). AppendsFront c d t) rest_is part))
 
-  -- how it ended, and what it leaves
-  module _ (last : Running) where
-    pub end_ok : (how : Ended) (r : Result Ran SinkErr) → EndsBy model flat start stop last how
-        → (how ≡ ended.Reached → IfOk r (λ (ran : Ran). ran.end ≡ Reached stop (turns - last.left))) → (how ≡ ended.Spent → IfOk r (λ (ran : Ran). ran.end ≡ Spent last.from))
-        → IfOk r (λ (ran : Ran). ran.end ≡ run_end model flat firsts stop turns)
-    end_ok ended.Reached r by reached spent = if_ok r (reached refl) (λ ran is. is ∙ ap (λ k. Reached stop (turns - k)) (sym by.2.turns) ∙ sym (ap (end_of stop turns) by.1))
-    end_ok ended.Spent r by reached spent = if_ok r (spent refl) (λ ran is. is ∙ sym (ap (end_of stop turns) by.1))
+-- how it ended, and what it leaves
+module _ (model : PureTree) (flat : Flat) (firsts : List First) (stop turns : ℕ) (last : Running) (how : Ended) (ending : EndsAs model flat (start_world model flat firsts [] turns) stop last how) where
+  abbrev first : World SideOf
+  first = start_world model flat firsts [] turns
 
-    left_by : (how : Ended) → EndsBy model flat start stop last how → (ran : Ran) → ran.clusters ≡ last.engine.clusters → ran.kernel ≡ last.engine.kernel
-        → (how ≡ ended.Spent → ran.end ≡ Spent last.from) → (time taken : ℕ) → ran.end ≡ Reached time taken → IsLeft model flat firsts stop turns ran
-    left_by ended.Reached by ran clusters kernel spent time taken is = record {
-      world = by.0;
-      on = by.1;
-      since = last.engine.since.items;
-      clusters = subst (λ cs. AreAt model flat last.engine.since.items by.0.clusters cs) (sym (ap (λ v. v.items) clusters)) by.2.at;
-      kernel = ap (λ (k : KernelOf). side_of k) kernel ∙ by.2.side;
-    }
-    left_by ended.Spent by ran clusters kernel spent time taken is = absurd (subst IsSpentEnd (sym (spent refl) ∙ is) tt)
+  told_ahead : world_told ending.ahead first ≡ start_world model flat firsts ending.ahead turns
+  told_ahead = starts_told model flat [] ending.ahead firsts (start_side flat) turns
 
-    pub left_ok : (how : Ended) (r : Result Ran SinkErr) → EndsBy model flat start stop last how → IfOk r (λ (ran : Ran). ran.clusters ≡ last.engine.clusters) → IfOk r (λ (ran : Ran). ran.kernel ≡ last.engine.kernel)
-        → (how ≡ ended.Spent → IfOk r (λ (ran : Ran). ran.end ≡ Spent last.from)) → IfOk r (λ (ran : Ran). (time taken : ℕ) → ran.end ≡ Reached time taken → IsLeft model flat firsts stop turns ran)
-    left_ok ended.Reached r by clusters kernel spent = if_both r clusters kernel (λ ran cs k. left_by ended.Reached by ran cs k (λ is. absurd (spent_other is)))
-    left_ok ended.Spent r by clusters kernel spent = if_both {P = λ (ran : Ran). (ran.clusters ≡ last.engine.clusters) × (ran.kernel ≡ last.engine.kernel)} r
-        (if_both {R = λ (ran : Ran). (ran.clusters ≡ last.engine.clusters) × (ran.kernel ≡ last.engine.kernel)} r clusters kernel (λ ran cs k. (cs, k)))
-        (spent refl) (λ ran both is. left_by ended.Spent by ran both.0 both.1 (λ _. is))
+  answers : HaveAnswers model flat firsts ending.ahead stop turns
+  answers = record {
+    are = subst (λ (w : World SideOf). AreAnswers model flat (rules_of model flat) w stop) told_ahead ending.told.answers;
+    counts = ending.told.counts;
+  }
+
+  state_is : state_from model flat first ending.ahead stop ≡ state_of model flat firsts ending.ahead stop turns
+  state_is = ap (λ (w : World SideOf). history (world_engine model flat) 0 w stop) told_ahead
+
+  ends_by : (h : Ended) → EndsBy model flat first ending.ahead stop last h → end_by last stop turns h ≡ run_end model flat firsts ending.ahead stop turns
+  ends_by ended.Reached by = ap (λ k. Reached stop (turns - k)) (sym by.2.turns) ∙ sym (ap (end_of stop turns) (sym state_is ∙ by.1))
+  ends_by ended.Spent by = sym (ap (end_of stop turns) (sym state_is ∙ by.1))
+  ends_by (ended.Stopped cluster fault) by = sym (ap (end_of stop turns) (sym state_is ∙ by.1))
+
+  bare_same : (cs : List ClusterAt) → ((n : ℕ) (c : ClusterAt) → slice_get cs n ≡ Some c → c.ahead ≡ []) → map untold cs ≡ cs
+  bare_same [] none = refl
+  bare_same (c ∷ cs) none = λ i. record c { ahead = sym (none 0 c refl) i } ∷ bare_same cs (λ n d at. none (suc n) d at) i
+
+  left_by : (h : Ended) → EndsBy model flat first ending.ahead stop last h → (ran : Ran) → ran.end ≡ end_by last stop turns h → ran.clusters ≡ last.engine.clusters → ran.kernel ≡ last.engine.kernel
+      → (time taken : ℕ) → ran.end ≡ Reached time taken → IsLeft model flat firsts ending.ahead stop turns ran
+  left_by ended.Reached by ran end clusters kernel time taken is = record {
+    world = by.0;
+    on = sym state_is ∙ by.1;
+    since = last.engine.since.items;
+    clusters = subst (λ hs. AreAt model flat last.engine.since.items hs ran.clusters.items) (sym (bare_same by.0.clusters (λ n c at. (
+        let i = slice_get_within by.0.clusters n c at in
+        let s = by.2.at.same in
+        let d = get_inside last.engine.clusters.items n (omega (arith, i, s)) in
+        (by.2.at.each n c d.0 at d.1).none_ahead))))
+        (subst (λ cs. AreAt model flat last.engine.since.items by.0.clusters cs) (sym (ap (λ v. v.items) clusters)) by.2.at);
+    kernel = ap (λ (k : KernelOf). side_of k) kernel ∙ by.2.side;
+  }
+  left_by ended.Spent by ran end clusters kernel time taken is = absurd (spent_reached last.from time taken (sym end ∙ is))
+  left_by (ended.Stopped cluster fault) by ran end clusters kernel time taken is = absurd (stopped_reached last.from cluster time taken fault (sym end ∙ is))
+
+  -- what ends as a history does that is told answers ends as each that is told some
+  module _ (law : BoundariesHaveOne) (m : IsModelOf model flat) (others : List (List Change)) (have : HaveAnswers model flat firsts others stop turns) where
+    abbrev one : World SideOf
+    one = world_told ending.ahead first
+
+    abbrev other : World SideOf
+    other = world_told others first
+
+    other_is : other ≡ start_world model flat firsts others turns
+    other_is = starts_told model flat [] others firsts (start_side flat) turns
+
+    same_start : world_untold one ≡ world_untold other
+    same_start = untold_told ending.ahead first ∙ sym (untold_told others first)
+
+    alike : (time : ℕ) → time ≤ stop → state_as world_untold (history (world_engine model flat) 0 one time) ≡ state_as world_untold (history (world_engine model flat) 0 other time)
+    alike time low = answers_agree law model flat (rules_of model flat) one other stop time m.sound.kept m.checked m.limits
+        (attributes_alike flat first one (sym (untold_told ending.ahead first)) ending.can.attributes) same_start ending.told.answers
+        (subst (λ (w : World SideOf). AreAnswers model flat (rules_of model flat) w stop) (sym other_is) have.are) low
+
+    bare_end : (s : State (World SideOf) RunFault) → end_of stop turns (state_as world_untold s) ≡ end_of stop turns s
+    bare_end (On w) = refl
+    bare_end (Stopped time fault w) = refl
+    bare_end (Spent time w) = refl
+
+    end_same : run_end model flat firsts ending.ahead stop turns ≡ run_end model flat firsts others stop turns
+    end_same = ap (λ (w : World SideOf). end_of stop turns (history (world_engine model flat) 0 w stop)) (sym told_ahead)
+        ∙ sym (bare_end (history (world_engine model flat) 0 one stop)) ∙ ap (end_of stop turns) (alike stop (omega arith)) ∙ bare_end (history (world_engine model flat) 0 other stop)
+        ∙ ap (λ (w : World SideOf). end_of stop turns (history (world_engine model flat) 0 w stop)) other_is
+
+    news_same : notes_to model flat (rules_of model flat) one stop ≡ notes_to model flat (rules_of model flat) (start_world model flat firsts others turns) stop
+    news_same = to_same model flat (rules_of model flat) one other stop same_start alike stop (omega arith) ∙ ap (λ (w : World SideOf). notes_to model flat (rules_of model flat) w stop) other_is
+
+    left_same : (ran : Ran) → IsLeft model flat firsts ending.ahead stop turns ran → IsLeft model flat firsts others stop turns ran
+    left_same ran is =
+        let x = on_untold is.world (history (world_engine model flat) 0 other stop) (ap (state_as world_untold) (sym (state_is ∙ is.on)) ∙ alike stop (omega arith)) in
+        record {
+          world = x.0;
+          on = ap (λ (w : World SideOf). history (world_engine model flat) 0 w stop) (sym other_is) ∙ x.1;
+          since = is.since;
+          clusters = subst (λ hs. AreAt model flat is.since hs ran.clusters.items) (sym (ap (λ (w : World SideOf). w.clusters) x.2)) is.clusters;
+          kernel = is.kernel ∙ sym (ap (λ (w : World SideOf). w.events) x.2);
+        }
+
+  pub has_ended : BoundariesHaveOne → IsModelOf model flat → (whole : Whole) → whole.ran.end ≡ end_by last stop turns how → whole.ran.clusters ≡ last.engine.clusters → whole.ran.kernel ≡ last.engine.kernel
+      → whole.news.items ≡ last.news.items → HasEnded model flat firsts stop turns whole
+  has_ended law m whole end clusters kernel news = record {
+    ahead = ending.ahead;
+    answers = answers;
+    end = λ others have. end ∙ ends_by how ending.by ∙ end_same law m others have;
+    news = λ others have. news ∙ ending.news ∙ news_same law m others have;
+    left = λ others have time taken is. left_same law m others have whole.ran (left_by how ending.by whole.ran end clusters kernel time taken is);
+  }

@@ -6,6 +6,7 @@ use Rattle.tdf_engine.specs.InstantLaws.{InstantGoes, IsModelOf, IsNow}
 use Rattle.tdf_engine.specs.declared.engine.Engine.{Engine}
 use Rattle.tdf_shown.specs.low.events.Side.{SideOf}
 use Rattle.tdf_shown.specs.low.flat.declared.model.Flat.{Flat}
+use Rattle.tdf_shown.specs.low.history.Telling.{world_told}
 use Rattle.tdf_shown.specs.low.history.World.{World}
 use Rattle.tdf_shown.specs.Advanced.{HasAdvanced}
 use Rattle.tdf_shown.specs.low.tree.Pure.{PureTree}
@@ -18,4 +19,4 @@ InstantAdvances = (model : PureTree) (flat : Flat) (time : ℕ) (w : World SideO
     → e.outputs.traced ≡ []
     → (had : HasHadInstant flat time e f left rest)
     → (goes : InstantGoes model flat time w e f left rest had)
-    → HasAdvanced model flat time w goes.world f.outputs.traced
+    → HasAdvanced model flat time (world_told goes.crossing.told w) goes.world f.outputs.traced

@@ -1,7 +1,7 @@
 -- How a run ends.
 -- Source: own.
 use Rattle.std.specs.Io.KnownBytes.{Appends}
-use Rattle.std.specs.Prelude.{◌≡◌, ◌≤◌, ℕ, List, Option, Result}
+use Rattle.std.specs.Prelude.{◌≡◌, ◌≤◌, ◌-◌, ℕ, List, Option, Result}
 use Rattle.tdf_shown.specs.low.columns.Calls.{StandBelow}
 use Rattle.tdf_shown.specs.low.columns.Tracked.{AreSince}
 use Rattle.tdf_engine.specs.InstantLaws.{IsModelOf, IsNow}
@@ -10,16 +10,20 @@ use Rattle.tdf_shown.specs.low.flat.Flat.{IsFlatOf}
 use Rattle.tdf_shown.specs.low.flat.declared.model.Flat.{Flat}
 use Rattle.tdf_shown.specs.low.history.Cells.{run_cells, world_before}
 use Rattle.tdf_shown.specs.low.history.Instant.{RunFault}
-use Rattle.tdf_shown.specs.low.history.Texts.{end_of as end_before, state_at}
-use Rattle.tdf_shown.specs.low.history.World.{World}
-use Rattle.tdf_shown.specs.low.instants.History.{On, Spent, State}
+use Rattle.tdf_shown.specs.low.history.Telling.{world_told}
+use Rattle.tdf_shown.specs.low.history.Texts.{end_of as end_before, notes_to, state_at}
+use Rattle.tdf_shown.specs.low.history.World.{Change, World}
+use Rattle.tdf_shown.specs.low.instants.History.{On, Spent, State, Stopped}
 use Rattle.tdf_shown.specs.low.in_out.Bytes.{AppendsFront, WritesText}
 use Rattle.tdf_shown.specs.low.in_out.declared.writing.SinkErr.{SinkErr}
 use Rattle.tdf_shown.specs.low.limits.Limits.{AreWithinLimits}
-use Rattle.tdf_loop.specs.Running.{IsRunningAt, run_rows}
+use Rattle.tdf_loop.specs.Ongoing.{AreToldTo, CanBeTold}
+use Rattle.tdf_loop.specs.Running.{IsRunningAt, told_rows}
 use Rattle.tdf_loop.specs.declared.going.Ended.{Ended}
 use Rattle.tdf_loop.specs.declared.going.Ended.TheVariants as ended
 use Rattle.tdf_loop.specs.declared.running.Running.{Running}
+use Rattle.tdf_report.specs.declared.ending.End.{End}
+use Rattle.tdf_report.specs.declared.ending.End.TheVariants as ending
 use Rattle.tdf_shown.specs.Shown.{IsShown}
 use Rattle.tdf_shown.specs.declared.shown.Shown.{Shown}
 use Rattle.tdf_shown.specs.low.trace.Writings.{rest_text}
@@ -46,31 +50,49 @@ WritesEnd taken faults old new s end result = (model : PureTree) (flat : Flat)
     → WritesText taken faults old new (rest_text s.trace.about
     (run_cells model flat (rules_of model flat) start end) s.trace.rows.upto end) result
 
--- the state of the history from a start at a stop
-abbrev pub state_from : PureTree → Flat → (start : World SideOf) → (stop : ℕ)
-    → State (World SideOf) RunFault
-state_from model flat start stop = state_at model flat (rules_of model flat) start stop
+-- the state at a stop of the history from a start that is told this of its boundaries
+abbrev pub state_from : PureTree → Flat → (start : World SideOf) → (ahead : List (List Change))
+    → (stop : ℕ) → State (World SideOf) RunFault
+state_from model flat start ahead stop =
+    state_at model flat (rules_of model flat) (world_told ahead start) stop
 
 -- the time at which a run ends
-abbrev pub end_from : PureTree → Flat → (start : World SideOf) → (stop : ℕ) → ℕ
-end_from model flat start stop = end_before model flat (rules_of model flat) start stop
+abbrev pub end_from : PureTree → Flat → (start : World SideOf) → (ahead : List (List Change))
+    → (stop : ℕ) → ℕ
+end_from model flat start ahead stop =
+    end_before model flat (rules_of model flat) (world_told ahead start) stop
 
--- the history has ended so: at its stop, where all that runs is what there is in it, or by a turn
--- too many at the time of the run
-abbrev pub EndsBy : PureTree → Flat → (start : World SideOf) → (stop : ℕ) → Running → Ended
-    → Type 0
-EndsBy model flat start stop r ended.Reached = (w : World SideOf)
-    × (state_from model flat start stop ≡ On w) × IsNow model flat w r.engine r.left
-EndsBy model flat start stop r ended.Spent =
-    (w : World SideOf) × (state_from model flat start stop ≡ Spent r.from w)
+-- the history has ended so: at its stop, where all that runs is what there is in it, by a turn too
+-- many at the time of the run, or by a fault of this cluster then
+abbrev pub EndsBy : PureTree → Flat → (start : World SideOf) → (ahead : List (List Change))
+    → (stop : ℕ) → Running → Ended → Type 0
+EndsBy model flat start ahead stop r ended.Reached = (w : World SideOf)
+    × (state_from model flat start ahead stop ≡ On w) × IsNow model flat w r.engine r.left
+EndsBy model flat start ahead stop r ended.Spent =
+    (w : World SideOf) × (state_from model flat start ahead stop ≡ Spent r.from w)
+EndsBy model flat start ahead stop r (ended.Stopped cluster fault) = (w : World SideOf)
+    × (state_from model flat start ahead stop
+    ≡ Stopped r.from (record { cluster = cluster; fault = fault }) w)
 
--- a run has ended as the history does, and its trace shows what it did before its end
+-- how a run of so many turns has ended
+abbrev pub end_by : Running → (stop turns : ℕ) → Ended → End
+end_by r stop turns ended.Reached = ending.Reached stop (turns - r.left)
+end_by r stop turns ended.Spent = ending.Spent r.from
+end_by r stop turns (ended.Stopped cluster fault) = ending.Stopped r.from cluster fault
+
+-- a run has ended as the history does that is told the answers of its boundaries; its trace shows
+-- what it did before its end, and the news are the plans that came
 pub record EndsAs (model : PureTree) (flat : Flat) (start : World SideOf) (stop : ℕ)
     (r : Running) (how : Ended) : Type 0 where
-  pub by : EndsBy model flat start stop r how
-  pub time : end_from model flat start stop ≡ r.from
-  pub shown : IsShown model flat start r.from
-      (world_before model flat (rules_of model flat) start r.from) r.shown
+  pub can : CanBeTold flat start
+  pub ahead : List (List Change)
+  pub told : AreToldTo model flat start stop ahead
+  pub by : EndsBy model flat start ahead stop r how
+  pub time : end_from model flat start ahead stop ≡ r.from
+  pub shown : IsShown model flat (world_told ahead start) r.from (world_before model flat
+      (rules_of model flat) (world_told ahead start) r.from) r.shown
+  pub news : r.news.items
+      ≡ notes_to model flat (rules_of model flat) (world_told ahead start) stop
 
 -- from one state of a run to its end
 pub record GoesToEnd (flat : Flat) (stop : ℕ) (old new : Running)
@@ -81,14 +103,19 @@ pub record GoesToEnd (flat : Flat) (stop : ℕ) (old new : Running)
   pub since : AreSince new.shown.trace.rows.upto new.shown.tracking.list
   pub ends : (model : PureTree) (start : World SideOf) → IsModelOf model flat
       → IsRunningAt model flat start old → EndsAs model flat start stop new how
-  pub rows : (model : PureTree) (start : World SideOf) → IsModelOf model flat
-      → IsRunningAt model flat start old → Appends before after (run_rows model flat start old
-      new.from old.shown.trace.rows.upto new.shown.trace.rows.upto)
+  pub rows : (model : PureTree) (start : World SideOf) (ahead : List (List Change))
+      → IsModelOf model flat → IsRunningAt model flat start old
+      → AreToldTo model flat start stop ahead → Appends before after
+      (told_rows model flat start ahead old.shown.trace.about new.from
+      old.shown.trace.rows.upto new.shown.trace.rows.upto)
 
--- a call was refused: the sink took a front part of the rows up to the end
+-- a call was refused: the sink took a front part of the rows up to the end, whatever answers the
+-- history is told
 abbrev pub WritesPart : Flat → (stop : ℕ) → (old : Running) → (before after : Option (List ℕ))
     → Type 0
 WritesPart flat stop old before after = (model : PureTree) (start : World SideOf)
-    → IsModelOf model flat → IsRunningAt model flat start old
-    → AppendsFront before after (run_rows model flat start old
-    (end_from model flat start stop) old.shown.trace.rows.upto (end_from model flat start stop))
+    → (ahead : List (List Change)) → IsModelOf model flat → IsRunningAt model flat start old
+    → AreToldTo model flat start stop ahead
+    → AppendsFront before after (told_rows model flat start ahead old.shown.trace.about
+    (end_from model flat start ahead stop) old.shown.trace.rows.upto
+    (end_from model flat start ahead stop))

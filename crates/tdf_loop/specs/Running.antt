@@ -9,26 +9,33 @@ use Rattle.tdf_engine.specs.declared.engine.Engine.{Engine}
 use Rattle.tdf_shown.specs.low.events.Kernel.{side_of}
 use Rattle.tdf_shown.specs.low.events.Side.{SideOf}
 use Rattle.tdf_shown.specs.low.flat.declared.model.Flat.{Flat}
+use Rattle.tdf_shown.specs.low.bind.Ranges.{AreInRange}
 use Rattle.tdf_shown.specs.low.history.Cells.{run_cells}
-use Rattle.tdf_shown.specs.low.history.World.{World}
+use Rattle.tdf_shown.specs.low.history.Telling.{world_told}
+use Rattle.tdf_shown.specs.low.history.Texts.{notes_to}
+use Rattle.tdf_shown.specs.low.history.World.{Change, World}
 use Rattle.tdf_shown.specs.low.in_out.Bytes.{AppendsFront}
-use Rattle.tdf_loop.specs.Ongoing.{IsOngoing}
+use Rattle.tdf_loop.specs.Ongoing.{AreToldTo, IsOngoing}
 use Rattle.tdf_loop.specs.declared.running.Running.{Running}
 use Rattle.tdf_shown.specs.Shown.{IsShown}
 use Rattle.tdf_shown.specs.declared.shown.Shown.{Shown}
-use Rattle.tdf_shown.specs.low.trace.Writings.{rows_text}
+use Rattle.tdf_shown.specs.low.trace.Writings.{AboutSeen, rows_text}
 use Rattle.tdf_shown.specs.low.tree.Pure.{PureTree}
 use Rattle.tdf_shown.specs.low.world.Rules.{rules_of}
 
--- a run goes on before a time, and its trace shows what it has done
+-- a run goes on before a time, its trace shows what it has done, and the news are the plans that
+-- came
 pub record IsRunning (model : PureTree) (flat : Flat) (start : World SideOf) (from : ℕ)
-    (e : Engine) (left : ℕ) (s : Shown) : Type 0 where
+    (e : Engine) (left : ℕ) (s : Shown) (news : List ℕ) : Type 0 where
   pub going : IsOngoing model flat start from e left
-  pub shown : IsShown model flat start from going.world s
+  pub shown : IsShown model flat (world_told going.ahead start) from going.world s
+  pub news_are : news
+      ≡ notes_to model flat (rules_of model flat) (world_told going.ahead start) from
 
 -- so does this run
 abbrev pub IsRunningAt : PureTree → Flat → World SideOf → Running → Type 0
-IsRunningAt model flat start r = IsRunning model flat start r.from r.engine r.left r.shown
+IsRunningAt model flat start r =
+    IsRunning model flat start r.from r.engine r.left r.shown r.news.items
 
 -- it does so for one model and start at least
 pub record IsSomeRun (flat : Flat) (r : Running) : Type 0 where
@@ -46,6 +53,7 @@ pub record CanGoOn (flat : Flat) (r : Running) : Type 0 where
   pub early : r.shown.trace.rows.upto ≤ r.from
   pub late : (n s : ℕ) → slice_get r.engine.since.items n ≡ Some s
       → r.shown.trace.rows.upto ≤ s
+  pub printable : AreInRange flat.tables
   pub some : IsSomeRun flat r
 
 -- something is due at a time, and nothing before
@@ -54,13 +62,15 @@ pub record IsDueNow (e : Engine) (time : ℕ) : Type 0 where
   pub below : time < stop
   pub next : IsNextDue e.clusters.items e.since.items (side_of e.kernel) stop time
 
--- the text of the rows of a run from a time on and below another, by what it has done before one
-abbrev pub run_rows : PureTree → Flat → (start : World SideOf) → (r : Running)
-    → (before from end : ℕ) → List ℕ
-run_rows model flat start r before from end =
-    rows_text r.shown.trace.about (run_cells model flat (rules_of model flat) start before) from end
+-- the text of the rows from a time on and below another, by what the history from a start has done
+-- before one that is told this of its boundaries
+abbrev pub told_rows : PureTree → Flat → (start : World SideOf) → (ahead : List (List Change))
+    → AboutSeen → (before from end : ℕ) → List ℕ
+told_rows model flat start ahead about before from end = rows_text about
+    (run_cells model flat (rules_of model flat) (world_told ahead start) before) from end
 
--- a run went on from one state to another, and the sink took the rows that were written
+-- a run went on from one state to another, and the sink took the rows that were written: those of
+-- the history, whatever answers it is told
 pub record GoesOn (flat : Flat) (old new : Running) (before after : Option (List ℕ))
     : Type 0 where
   pub later : old.from ≤ new.from
@@ -68,9 +78,11 @@ pub record GoesOn (flat : Flat) (old new : Running) (before after : Option (List
   pub wrote : old.shown.trace.rows.upto ≤ new.shown.trace.rows.upto
   pub runs : (model : PureTree) (start : World SideOf) → IsModelOf model flat
       → IsRunningAt model flat start old → IsRunningAt model flat start new
-  pub rows : (model : PureTree) (start : World SideOf) → IsModelOf model flat
-      → IsRunningAt model flat start old → Appends before after (run_rows model flat start old
-      new.from old.shown.trace.rows.upto new.shown.trace.rows.upto)
+  pub rows : (model : PureTree) (start : World SideOf) (ahead : List (List Change))
+      → IsModelOf model flat → IsRunningAt model flat start old
+      → AreToldTo model flat start new.from ahead → Appends before after
+      (told_rows model flat start ahead old.shown.trace.about new.from
+      old.shown.trace.rows.upto new.shown.trace.rows.upto)
 
 -- a call that writes was refused: the sink took a front part of the rows below a mark that no
 -- period began before
@@ -78,14 +90,15 @@ pub record WritesFrontTo (flat : Flat) (r : Running) (before after : Option (Lis
   pub mark : ℕ
   pub early : mark ≤ r.from
   pub late : (n s : ℕ) → slice_get r.engine.since.items n ≡ Some s → mark ≤ s
-  pub front : (model : PureTree) (start : World SideOf) → IsModelOf model flat
-      → IsRunningAt model flat start r → AppendsFront before after
-      (run_rows model flat start r r.from r.shown.trace.rows.upto mark)
+  pub front : (model : PureTree) (start : World SideOf) (ahead : List (List Change))
+      → IsModelOf model flat → IsRunningAt model flat start r
+      → AreToldTo model flat start r.from ahead → AppendsFront before after
+      (told_rows model flat start ahead r.shown.trace.about r.from r.shown.trace.rows.upto mark)
 
 -- where nothing is due before the next time, it goes on up to that time
 abbrev pub RunsToNext : Type 0
 RunsToNext = (model : PureTree) (flat : Flat) (start : World SideOf) (from stop time left : ℕ)
-    → (e : Engine) (s : Shown) → IsEngineOf flat e → IsReadyAt from e
-    → IsRunning model flat start from e left s → from ≤ stop
+    → (e : Engine) (s : Shown) (news : List ℕ) → IsEngineOf flat e → IsReadyAt from e
+    → IsRunning model flat start from e left s news → from ≤ stop
     → IsNextDue e.clusters.items e.since.items (side_of e.kernel) stop time
-    → IsRunning model flat start time e left s
+    → IsRunning model flat start time e left s news

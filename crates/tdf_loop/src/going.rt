@@ -1,19 +1,34 @@
 //! From instant to instant.
 
+use tdf_shown::low::base::Fault;
+
 /// Why a run goes no further.
-#[derive(Clone, Copy, Debug, PartialEq, Eq)]
+#[derive(Drop)]
 pub(crate) enum Ended {
     /// Nothing is due before the stop.
     Reached,
     /// The turns that are left are too few for the next instant.
     Spent,
+    /// What the modules of a cluster ask for at a boundary has a fault.
+    Stopped {
+        /// The number of the cluster, from 1.
+        cluster: u32,
+        /// The first fault.
+        fault: Fault,
+    },
 }
 
-ghost use Rattle.std.specs.Prelude.{◌≡◌, ◌<◌, ◌≤◌, ◌+◌, [], List, ℕ, None, Ok, IfOk, IfSome, OnErr, OnOk, Option, length};
+ghost use Rattle.std.specs.Prelude.{◌≡◌, ◌<◌, ◌≤◌, ◌+◌, ◌++◌, [], List, ℕ, None, Ok, IfOk, IfSome, OnErr, OnOk, Option, Some, length};
 ghost use Rattle.tdf_shown.specs.low.base.Limits.{time_end};
-ghost use Rattle.tdf_engine.specs.Engine.{HasBeenSpent};
+ghost use Rattle.tdf_engine.specs.Engine.{HasBeenSpent, HasBeenStopped, HasHadInstant, IsEngineOf, IsReadyAt};
 ghost use Rattle.tdf_engine.specs.Times.{IsNextDue};
+ghost use Rattle.tdf_engine.specs.declared.crossing.Pass.{Pass as PassOf};
 ghost use Rattle.tdf_engine.specs.declared.crossing.Pass.TheVariants as pass;
+ghost use Rattle.tdf_loop.specs.News.{news_text};
+ghost use Rattle.tdf_loop.specs.declared.going.Ended.TheVariants as ended;
+ghost use Rattle.tdf_shown.specs.low.base.declared.faults.Fault.{Fault as FaultOf};
+ghost use Rattle.tdf_shown.specs.low.bind.Ranges.{AreInRange};
+ghost use Rattle.tdf_shown.specs.low.exec.Starts.{IsSoundFlat};
 ghost use Rattle.tdf_shown.specs.low.events.Kernel.{side_of};
 ghost use Rattle.tdf_shown.specs.low.events.Runnable.{IsRunnable};
 ghost use Rattle.tdf_shown.specs.low.flat.declared.model.Flat.{Flat as FlatModel};
@@ -26,6 +41,7 @@ ghost use Rattle.tdf_shown.specs.low.trace.Stands.{IsStageAfter};
 ghost use Rattle.tdf_shown.specs.low.trace.declared.stage.Stage.TheVariants.{Open};
 
 use crate::laws::law_advancing;
+use crate::news::push_news;
 use crate::running::Running;
 use crate::standing::law_standing;
 use std::alloc::Global;
@@ -34,6 +50,7 @@ use tdf_shown::Shown;
 use tdf_shown::low::base::Memory;
 use tdf_shown::low::flat::Flat;
 use tdf_shown::low::in_out::{Sink, SinkErr};
+use tdf_told::low::changes::law_one_answer;
 
 /// Shows what an instant gave.
 fn show(shown: &mut Shown, engine: &Engine, flat: &Flat, time: u64) -> Result<(), Memory>
@@ -67,6 +84,52 @@ impl Running {
         self.from = self.engine.next_time(stop);
     }
 
+    /// The instant at its time, and the plans that it brings.
+    fn instant(&mut self, alloc: Global, flat: &Flat) -> Result<Pass, Memory>
+        requires runnable { IsRunnable flat.now }
+        requires sound { IsSoundFlat flat.now }
+        requires engine { IsEngineOf flat.now self.old.engine }
+        requires ready { IsReadyAt self.old.from self.old.engine }
+        requires none { self.old.engine.outputs.traced ≡ [] }
+        requires range { AreInRange flat.now.tables }
+        requires early { self.old.from < time_end }
+        ensures engine { result ≡ Ok pass.Done → IsEngineOf flat.now self.new.engine }
+        ensures had { result ≡ Ok pass.Done → HasHadInstant flat.now self.old.from
+            self.old.engine self.new.engine self.old.left self.new.left }
+        ensures later { result ≡ Ok pass.Done → IsReadyAt (self.old.from + 1) self.new.engine }
+        ensures spent { result ≡ Ok pass.Spent → HasBeenSpent flat.now self.old.from
+            self.old.engine self.new.engine self.old.left }
+        ensures stopped { (number : ℕ) (fault : FaultOf)
+            → result ≡ Ok (pass.Stopped number fault) → HasBeenStopped flat.now self.old.from number
+            fault self.old.engine self.new.engine self.old.left }
+        ensures news { IfOk result (λ pass. self.new.news.items ≡ self.old.news.items ++ news_text
+            flat.now self.old.from self.new.engine.clusters.items self.new.engine.planned.items) }
+        ensures rest { self.new ≡ record self.old {
+          engine = self.new.engine;
+          left = self.new.left;
+          news = self.new.news;
+        } }
+    {
+        let pass = match self.engine.instant(alloc, flat, self.from, &mut self.left) {
+            Ok(pass) => pass,
+            Err(failed) => return Err(failed),
+        };
+        let engine = &self.engine;
+        match push_news(
+            &mut self.news,
+            flat,
+            self.from,
+            &engine.clusters,
+            &engine.planned,
+        ) {
+            Ok(()) => Ok(pass),
+            Err(failed) => {
+                drop(pass);
+                Err(failed)
+            }
+        }
+    }
+
     /// The instant at its time, and what its trace shows of it.
     fn step(&mut self, alloc: Global, flat: &Flat) -> Result<Pass, Memory>
         requires runnable { IsRunnable flat.now }
@@ -78,16 +141,26 @@ impl Running {
             → GoesOn flat.now self.old self.new taken taken }
         ensures after { result ≡ Ok pass.Done → self.new.from ≡ self.old.from + 1 }
         ensures stage { self.new.shown.trace.stage ≡ self.old.shown.trace.stage }
-        ensures spent { result ≡ Ok pass.Spent
-            → HasBeenSpent flat.now self.old.from self.old.engine self.old.left }
-        ensures still { result ≡ Ok pass.Spent → self.new
-            ≡ record self.old { engine = self.new.engine; left = self.new.left } }
+        ensures spent { result ≡ Ok pass.Spent → HasBeenSpent flat.now self.old.from
+            self.old.engine self.new.engine self.old.left }
+        ensures stopped { (number : ℕ) (fault : FaultOf)
+            → result ≡ Ok (pass.Stopped number fault) → HasBeenStopped flat.now self.old.from number
+            fault self.old.engine self.new.engine self.old.left }
+        ensures news { (ended : PassOf) → result ≡ Ok ended → (ended ≡ pass.Done → ⊥)
+            → self.new.news.items ≡ self.old.news.items ++ news_text flat.now self.old.from
+            self.new.engine.clusters.items self.new.engine.planned.items }
+        ensures still { (ended : PassOf) → result ≡ Ok ended → (ended ≡ pass.Done → ⊥)
+            → self.new ≡ record self.old {
+              engine = self.new.engine;
+              left = self.new.left;
+              news = self.new.news;
+            } }
     {
         law_advancing();
         law_instant();
-        match self.engine.instant(alloc, flat, self.from, &mut self.left)? {
-            Pass::Spent => return Ok(Pass::Spent),
+        match self.instant(alloc, flat)? {
             Pass::Done => {}
+            ended => return Ok(ended),
         }
         show(&mut self.shown, &self.engine, flat, self.from)?;
         self.engine.clear_traced();
@@ -108,6 +181,7 @@ impl Running {
         ensures counted { CountsSinkFaults (K.faults out.old) (K.faults out.new) result }
     {
         law_standing();
+        law_one_answer();
         let mark = self.engine.least_start(self.from);
         self.shown.trace.advance(mark, out)
     }
@@ -137,6 +211,7 @@ impl Running {
         ensures counted { CountsSinkFaults (K.faults out.old) (K.faults out.new) result }
     {
         law_instant();
+        law_one_answer();
         self.wait(stop);
         if self.from == stop {
             return Ok(Some(Ended::Reached));
@@ -144,6 +219,9 @@ impl Running {
         match self.step(alloc, flat) {
             Ok(Pass::Done) => {}
             Ok(Pass::Spent) => return Ok(Some(Ended::Spent)),
+            Ok(Pass::Stopped { cluster, fault }) => {
+                return Ok(Some(Ended::Stopped { cluster, fault }));
+            }
             Err(_) => return Err(SinkErr::Memory),
         }
         self.write(flat, out)?;
@@ -169,6 +247,7 @@ impl Running {
         ensures part { OnErr result (WritesPart flat.now stop self.old (K.taken out.old) (K.taken out.new)) }
         ensures counted { CountsSinkFaults (K.faults out.old) (K.faults out.new) result }
     {
+        law_one_answer();
         loop {
             match self.turn(alloc, flat, stop, out) {
                 Ok(None) => {}

@@ -2,12 +2,13 @@
 
 ghost use Rattle.tdf_loop.specs.Advancing.{InstantAdvances};
 ghost use Rattle.tdf_loop.specs.Laws.{NextIsNext};
-ghost use Rattle.tdf_loop.specs.Ongoing.{InstantLeadsOn, InstantSpends, StopIsReached};
+ghost use Rattle.tdf_loop.specs.Ongoing.{InstantLeadsOn, InstantSpends, InstantStops, StopIsReached};
 ghost use Rattle.tdf_loop.specs.Running.{RunsToNext};
 ghost use Rattle.tdf_loop.specs.Staying.{CellsStayBelow};
 
 use tdf_engine::law_instant;
 use tdf_shown::low::layout::law_one_port;
+use tdf_told::low::changes::law_one_answer;
 
 /// The time at which something is next due in all that runs is the next time of the history.
 pub fn law_next()
@@ -18,6 +19,7 @@ pub fn law_next()
 pub fn law_going()
     ensures leads { InstantLeadsOn }
     ensures spends { InstantSpends }
+    ensures stops { InstantStops }
     ensures reached { StopIsReached }
 {
     law_instant();
@@ -26,7 +28,9 @@ pub fn law_going()
 /// Later instants change no cell of a run below a mark that no period began before.
 pub fn law_staying()
     ensures { CellsStayBelow }
-{}
+{
+    law_one_answer();
+}
 
 /// An instant begins the periods that the history begins, and what its firings trace are the next
 /// samples of their signals.

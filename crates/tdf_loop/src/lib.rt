@@ -5,6 +5,7 @@
 //! - `going`: from instant to instant.
 //! - `ending`: how the trace of a run ends.
 //! - `run`: a whole run.
+//! - `news`: the plans that boundaries bring, as text.
 //! - `laws`, `standing`: what holds of the definitions.
 //! - `low`: what the crates above use of the crates further below.
 #![tactic(auto)]
@@ -13,6 +14,7 @@ mod ending;
 mod going;
 mod laws;
 pub mod low;
+mod news;
 mod run;
 mod running;
 mod standing;

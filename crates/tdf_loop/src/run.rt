@@ -16,22 +16,23 @@ pub struct Ran {
 }
 
 ghost use Rattle.std.specs.Io.KnownBytes.{Appends};
-ghost use Rattle.std.specs.Prelude.{◌≡◌, ◌<◌, ◌≤◌, ◌-◌, ◌⊎◌, ℕ, [], length, IfOk, IsErrOf, OnErr, OnOk};
+ghost use Rattle.std.specs.Prelude.{◌≡◌, ◌<◌, ◌≤◌, ◌++◌, ◌⊎◌, ℕ, List, [], length, IfOk, IsErrOf, OnErr, OnOk};
 ghost use Rattle.tdf_shown.specs.low.base.Limits.{time_end};
 ghost use Rattle.tdf_shown.specs.low.columns.Tracked.{AreSince};
 ghost use Rattle.tdf_engine.specs.InstantLaws.{IsModelOf};
 ghost use Rattle.tdf_shown.specs.low.in_out.Bytes.{AppendsFront, WritesText};
 ghost use Rattle.tdf_shown.specs.low.in_out.Faults.{CountsSinkFaults, FaultsRose};
 ghost use Rattle.tdf_shown.specs.low.in_out.declared.writing.SinkErr.TheVariants.{Failed};
-ghost use Rattle.tdf_loop.specs.Ending.{WritesEnd};
+ghost use Rattle.tdf_loop.specs.Ending.{WritesEnd, end_by};
+ghost use Rattle.tdf_loop.specs.machine.Whole.{HasEnded};
 ghost use Rattle.tdf_loop.specs.Running.{CanGoOn, IsRunningAt};
 ghost use Rattle.tdf_loop.specs.Runs.{CanRun, IsLeft, model_about, trace_of};
-ghost use Rattle.tdf_loop.specs.declared.going.Ended.TheVariants as why;
-ghost use Rattle.tdf_report.specs.Ending.{run_end, run_note};
-ghost use Rattle.tdf_report.specs.declared.ending.End.TheVariants.{Reached, Spent};
+ghost use Rattle.tdf_report.specs.Ending.{HaveAnswers, end_text, run_end, run_note};
+ghost use Rattle.tdf_report.specs.declared.ending.End.TheVariants.{Reached};
 ghost use Rattle.tdf_shown.specs.low.trace.Writings.{head_of};
 ghost use Rattle.tdf_shown.specs.low.trace.declared.stage.Stage.TheVariants.{Open};
 ghost use Rattle.tdf_shown.specs.low.tree.Pure.{PureTree};
+ghost use Rattle.tdf_shown.specs.low.history.World.{Change};
 ghost use Rattle.tdf_shown.specs.low.world.Rules.{start_world};
 
 use crate::ending::finish;
@@ -42,13 +43,20 @@ use std::alloc::Global;
 use tdf_report::{law_report, write_closing, write_plans};
 use tdf_shown::low::dynamic::First;
 use tdf_shown::low::flat::Flat;
-use tdf_shown::low::in_out::{Sink, SinkErr};
+use tdf_shown::low::in_out::{Sink, SinkErr, put_all};
 use tdf_shown::low::words::TraceKind;
+use tdf_told::low::changes::law_one_answer;
+
+/// A run that ended, and the text of the plans that its boundaries brought.
+#[derive(Drop)]
+struct Whole {
+    ran: Ran,
+    news: Vec<u8>,
+}
 
 /// How a run of so many turns ended.
 fn end_of(run: &Running, ended: Ended, stop: u64, turns: u64) -> End
-    ensures reached { ended ≡ why.Reached → result ≡ Reached stop (turns - run.now.left) }
-    ensures spent { ended ≡ why.Spent → result ≡ Spent run.now.from }
+    ensures { result ≡ end_by run.now stop turns ended }
 {
     match ended {
         Ended::Reached => End::Reached {
@@ -56,6 +64,11 @@ fn end_of(run: &Running, ended: Ended, stop: u64, turns: u64) -> End
             turns: turns.saturating_sub(run.left),
         },
         Ended::Spent => End::Spent { time: run.from },
+        Ended::Stopped { cluster, fault } => End::Stopped {
+            time: run.from,
+            cluster,
+            fault,
+        },
     }
 }
 
@@ -98,24 +111,27 @@ fn closed<O: Sink>(
     stop: u64,
     turns: u64,
     out: &mut O,
-) -> Result<Ran, SinkErr>
+) -> Result<Whole, SinkErr>
     requires open { run.shown.trace.stage ≡ Open }
     requires width { run.shown.tracking.width ≤ length run.shown.trace.about.variables }
     requires since { AreSince run.shown.trace.rows.upto run.shown.tracking.list }
     ensures wrote { WritesEnd O.taken O.faults out.old out.new run.shown run.from result }
     ensures counted { CountsSinkFaults (O.faults out.old) (O.faults out.new) result }
-    ensures reached { ended ≡ why.Reached → IfOk result (λ ran.
-        ran.end ≡ Reached stop (turns - run.left)) }
-    ensures spent { ended ≡ why.Spent → IfOk result (λ ran. ran.end ≡ Spent run.from) }
-    ensures clusters { IfOk result (λ ran. ran.clusters ≡ run.engine.clusters) }
-    ensures kernel { IfOk result (λ ran. ran.kernel ≡ run.engine.kernel) }
+    ensures end { IfOk result (λ whole. whole.ran.end ≡ end_by run stop turns ended) }
+    ensures clusters { IfOk result (λ whole. whole.ran.clusters ≡ run.engine.clusters) }
+    ensures kernel { IfOk result (λ whole. whole.ran.kernel ≡ run.engine.kernel) }
+    ensures news { IfOk result (λ whole. whole.news.items ≡ run.news.items) }
 {
     let end = end_of(&run, ended, stop, turns);
+    let news = run.news;
     match finish(run.shown, run.from, out) {
-        Ok(()) => Ok(Ran {
-            end,
-            clusters: run.engine.clusters,
-            kernel: run.engine.kernel,
+        Ok(()) => Ok(Whole {
+            ran: Ran {
+                end,
+                clusters: run.engine.clusters,
+                kernel: run.engine.kernel,
+            },
+            news,
         }),
         Err(error) => Err(error),
     }
@@ -130,22 +146,22 @@ fn trace_run<O: Sink>(
     turns: u64,
     kind: TraceKind,
     out: &mut O,
-) -> Result<Ran, SinkErr>
+) -> Result<Whole, SinkErr>
     requires can { CanRun flat.now firsts.items }
     requires stop { stop < time_end }
-    ensures end { (model : PureTree) → IsModelOf model flat.now → IfOk result (λ ran.
-        ran.end ≡ run_end model flat.now firsts.items stop turns) }
+    ensures ended { (model : PureTree) → IsModelOf model flat.now → IfOk result (λ whole.
+        HasEnded model flat.now firsts.items stop turns whole) }
     ensures trace { (model : PureTree) → IsModelOf model flat.now
+        → (ahead : List (List Change)) → HaveAnswers model flat.now firsts.items ahead stop turns
         → OnOk result (Appends (O.taken out.old) (O.taken out.new)
-        (trace_of kind model flat.now firsts.items stop turns)) }
+        (trace_of kind model flat.now firsts.items ahead stop turns)) }
     ensures part { (model : PureTree) → IsModelOf model flat.now
+        → (ahead : List (List Change)) → HaveAnswers model flat.now firsts.items ahead stop turns
         → OnErr result (AppendsFront (O.taken out.old) (O.taken out.new)
-        (trace_of kind model flat.now firsts.items stop turns)) }
+        (trace_of kind model flat.now firsts.items ahead stop turns)) }
     ensures counted { CountsSinkFaults (O.faults out.old) (O.faults out.new) result }
-    ensures left { (model : PureTree) → IsModelOf model flat.now → IfOk result (λ ran.
-        (time taken : ℕ) → ran.end ≡ Reached time taken
-        → IsLeft model flat.now firsts.items stop turns ran) }
 {
+    law_one_answer();
     let mut run = match opened(alloc, flat, firsts, kind, turns, out) {
         Ok(run) => run,
         Err(error) => return Err(error),
@@ -159,8 +175,25 @@ fn trace_run<O: Sink>(
     }
 }
 
+/// Writes the plans that boundaries brought, and how the run ended.
+fn write_notes<N: Sink>(
+    alloc: Global,
+    flat: &Flat,
+    turns: u64,
+    whole: &Whole,
+    notes: &mut N,
+) -> Result<(), SinkErr>
+    ensures { WritesText N.taken N.faults notes.old notes.new (whole.now.news.items
+        ++ end_text flat.now.resolution turns whole.now.ran.end) result }
+{
+    match put_all(notes, &whole.news) {
+        Ok(()) => write_closing(alloc, flat.resolution, turns, &whole.ran.end, notes),
+        Err(error) => Err(error),
+    }
+}
+
 /// Runs a model from its first plans up to a stop, in counts of its resolution, within so many turns. It writes the trace on `out`,
-/// and on `notes` the plans and how it ended.
+/// and on `notes` the plans and how it ended. What it writes is that of the history which is told the answers of the boundaries.
 ///
 /// # Errors
 /// A write failed, or out of memory. Both sinks then hold front parts of their texts.
@@ -176,39 +209,50 @@ pub fn run_model<O: Sink, N: Sink>(
 ) -> Result<Ran, SinkErr>
     requires can { CanRun flat.now firsts.items }
     requires stop { stop < time_end }
-    ensures end { (model : PureTree) → IsModelOf model flat.now → IfOk result (λ ran.
-        ran.end ≡ run_end model flat.now firsts.items stop turns) }
-    ensures trace { (model : PureTree) → IsModelOf model flat.now → OnOk result
-        (Appends (O.taken out.old) (O.taken out.new)
-        (trace_of kind model flat.now firsts.items stop turns)) }
-    ensures notes { (model : PureTree) → IsModelOf model flat.now → OnOk result
-        (Appends (N.taken notes.old) (N.taken notes.new)
-        (run_note model flat.now firsts.items stop turns)) }
-    ensures trace_part { (model : PureTree) → IsModelOf model flat.now → OnErr result
-        (AppendsFront (O.taken out.old) (O.taken out.new)
-        (trace_of kind model flat.now firsts.items stop turns)) }
-    ensures notes_part { (model : PureTree) → IsModelOf model flat.now → OnErr result
-        (AppendsFront (N.taken notes.old) (N.taken notes.new)
-        (run_note model flat.now firsts.items stop turns)) }
+    ensures answered { (model : PureTree) → IsModelOf model flat.now → OnOk result
+        ((ahead : List (List Change)) × HaveAnswers model flat.now firsts.items ahead stop turns) }
+    ensures end { (model : PureTree) → IsModelOf model flat.now
+        → (ahead : List (List Change)) → HaveAnswers model flat.now firsts.items ahead stop turns
+        → IfOk result (λ ran.
+        ran.end ≡ run_end model flat.now firsts.items ahead stop turns) }
+    ensures trace { (model : PureTree) → IsModelOf model flat.now
+        → (ahead : List (List Change)) → HaveAnswers model flat.now firsts.items ahead stop turns
+        → OnOk result (Appends (O.taken out.old) (O.taken out.new)
+        (trace_of kind model flat.now firsts.items ahead stop turns)) }
+    ensures notes { (model : PureTree) → IsModelOf model flat.now
+        → (ahead : List (List Change)) → HaveAnswers model flat.now firsts.items ahead stop turns
+        → OnOk result (Appends (N.taken notes.old) (N.taken notes.new)
+        (run_note model flat.now firsts.items ahead stop turns)) }
+    ensures trace_part { (model : PureTree) → IsModelOf model flat.now
+        → (ahead : List (List Change)) → HaveAnswers model flat.now firsts.items ahead stop turns
+        → OnErr result (AppendsFront (O.taken out.old) (O.taken out.new)
+        (trace_of kind model flat.now firsts.items ahead stop turns)) }
+    ensures notes_part { (model : PureTree) → IsModelOf model flat.now
+        → (ahead : List (List Change)) → HaveAnswers model flat.now firsts.items ahead stop turns
+        → OnErr result (AppendsFront (N.taken notes.old) (N.taken notes.new)
+        (run_note model flat.now firsts.items ahead stop turns)) }
     ensures cause { IsErrOf result Failed → FaultsRose (O.faults out.old) (O.faults out.new)
         ⊎ FaultsRose (N.faults notes.old) (N.faults notes.new) }
-    ensures left { (model : PureTree) → IsModelOf model flat.now → IfOk result (λ ran.
+    ensures left { (model : PureTree) → IsModelOf model flat.now
+        → (ahead : List (List Change)) → HaveAnswers model flat.now firsts.items ahead stop turns
+        → IfOk result (λ ran.
         (time taken : ℕ) → ran.end ≡ Reached time taken
-        → IsLeft model flat.now firsts.items stop turns ran) }
+        → IsLeft model flat.now firsts.items ahead stop turns ran) }
 {
     law_report();
+    law_one_answer();
     if let Err(error) = write_plans(alloc, flat, &firsts, notes) {
         drop(firsts);
         return Err(error);
     }
-    let ran = match trace_run(alloc, flat, firsts, stop, turns, kind, out) {
-        Ok(ran) => ran,
+    let whole = match trace_run(alloc, flat, firsts, stop, turns, kind, out) {
+        Ok(whole) => whole,
         Err(error) => return Err(error),
     };
-    match write_closing(alloc, flat.resolution, turns, &ran.end, notes) {
-        Ok(()) => Ok(ran),
+    match write_notes(alloc, flat, turns, &whole, notes) {
+        Ok(()) => Ok(whole.ran),
         Err(error) => {
-            drop(ran);
+            drop(whole);
             Err(error)
         }
     }

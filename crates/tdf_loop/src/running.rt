@@ -14,4 +14,6 @@ pub struct Running {
     pub from: u64,
     /// The turns that are left.
     pub left: u64,
+    /// The text of the plans that its boundaries brought.
+    pub news: Vec<u8>,
 }

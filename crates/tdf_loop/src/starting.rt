@@ -46,5 +46,6 @@ pub(crate) fn begin(
         shown,
         from: 0,
         left: turns,
+        news: Vec::new(alloc),
     })
 }

@@ -1,4 +1,4 @@
 pub mod Api
 pub mod Listed
-pub mod Quiet
+pub mod Notes
 pub mod Texts

@@ -1,5 +1,5 @@
 -- The texts of the first plans, one by one.
-use Rattle.std.proofs.Common.{◌≡◌, ◌∙◌, ℕ, zero, suc, ◌+◌, ◌<◌, List, [], ◌∷◌, ◌++◌, Option, Some, None, length, map, slice_get, refl, sym, ap, subst, arith}
+use Rattle.std.proofs.Common.{◌≡◌, ◌∙◌, ℕ, zero, suc, ◌+◌, ◌<◌, List, [], ◌∷◌, ◌++◌, Option, Some, None, length, slice_get, refl, sym, ap, subst, arith}
 use Rattle.std.proofs.Math.ListN.{get_or}
 use Rattle.std.proofs.lemmas.List.{length-map}
 use Rattle.std.proofs.lemmas.List.FromFn.{length-enumerate_from}
@@ -15,10 +15,10 @@ use Rattle.tdf_world.specs.low.dynamic.Rates.{net_of}
 use Rattle.tdf_world.specs.low.dynamic.Text.{first_table}
 use Rattle.tdf_world.specs.low.dynamic.declared.first.First.{First}
 use Rattle.tdf_world.specs.low.flat.declared.model.Flat.{Flat}
-use Rattle.tdf_world.proofs.Api.{get_inside, none_some, some_same}
+use Rattle.tdf_world.proofs.Api.{get_inside, none_some}
 use Rattle.tdf_world.specs.low.history.Start.{first_cluster, first_clusters}
 use Rattle.tdf_world.specs.low.history.Texts.{first_plans, plan_note}
-use Rattle.tdf_world.specs.low.history.World.{Change, ClusterAt}
+use Rattle.tdf_world.specs.low.history.World.{Change}
 use Rattle.tdf_io.specs.Bytes.{pieces_text}
 use Rattle.tdf_world.proofs.Api.{texts_next}
 use Rattle.tdf_report.specs.Laws.{PlansAreFirst}
@@ -51,11 +51,10 @@ text_at flat place (Some first) = first_text flat place first
 abbrev pub piece_at : Flat → List First → ℕ → List ℕ
 piece_at flat firsts place = text_at flat place (slice_get firsts place)
 
-pub first_is : (flat : Flat) (firsts : List First) (place : ℕ) (first : First) → place < length firsts → first ≡ get_or firsts place first → first_text flat place first ≡ piece_at flat firsts place
-first_is flat firsts place first inside is =
+pub first_is : (flat : Flat) (firsts : List First) (place : ℕ) (first : First) → place < length firsts → first_text flat place (get_or firsts place first) ≡ piece_at flat firsts place
+first_is flat firsts place first inside =
     let here = get_inside firsts place inside in
-    let same : here.0 ≡ first = sym (is ∙ get_or_from_slice_get firsts place here.0 first here.1) in
-    sym (ap (text_at flat place) (here.1 ∙ ap Some same))
+    sym (ap (text_at flat place) (here.1 ∙ ap Some (sym (get_or_from_slice_get firsts place here.0 first here.1))))
 
 pub plans_are_pieces : (flat : Flat) (firsts : List First) → plans_of flat firsts ≡ pieces_text (piece_at flat firsts) (length firsts)
 plans_are_pieces flat firsts =
@@ -89,16 +88,6 @@ module _ (model : PureTree) (flat : Flat) (firsts : List First) (ahead : List (L
 
 pub plans_are_first : PlansAreFirst
 plans_are_first model flat firsts ahead = plans_same model flat firsts ahead
-
--- where nothing is told, nothing is told of the boundaries of any
-untold_from : (model : PureTree) (flat : Flat) (k : ℕ) (firsts : List First) (n : ℕ) (c : ClusterAt)
-    → slice_get (map (λ (first : ℕ × First). first_cluster model flat (first.0 + 1) first.1 []) (enumerate_from k firsts)) n ≡ Some c → c.ahead ≡ []
-untold_from model flat k [] n c at = absurd cc
-untold_from model flat k (x ∷ xs) zero c at = sym (ap (λ (d : ClusterAt). d.ahead) (some_same _ c at))
-untold_from model flat k (x ∷ xs) (suc n) c at = untold_from model flat (k + 1) xs n c at
-
-pub starts_untold : (model : PureTree) (flat : Flat) (firsts : List First) (n : ℕ) (c : ClusterAt) → slice_get (first_clusters model flat firsts []) n ≡ Some c → c.ahead ≡ []
-starts_untold model flat firsts n c at = untold_from model flat 0 firsts n c at
 
 -- plans of the text can be printed
 edges_same : (tables : FlatOf) (table : List AttrsOf) → length (net_of tables table).edges ≡ length tables.edges

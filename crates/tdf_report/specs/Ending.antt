@@ -1,7 +1,7 @@
 -- How the history of a model ended at a stop, and the closing line of its notes.
 -- Source: own.
 use Rattle.std.specs.Fmt.{decimal}
-use Rattle.std.specs.Prelude.{ℕ, ◌-◌, ◌++◌, List, [], codes}
+use Rattle.std.specs.Prelude.{ℕ, ◌-◌, ◌++◌, All, List, codes}
 use Rattle.tdf_world.specs.low.base.Fault.{fault_text}
 use Rattle.tdf_world.specs.low.base.declared.faults.Fault.{Fault}
 use Rattle.tdf_world.specs.low.base.declared.resolution.Resolution.{Resolution}
@@ -9,14 +9,16 @@ use Rattle.tdf_world.specs.low.dynamic.declared.first.First.{First}
 use Rattle.tdf_world.specs.low.events.Side.{SideOf}
 use Rattle.tdf_world.specs.low.fixed.Decimal.{seconds_text_at}
 use Rattle.tdf_world.specs.low.flat.declared.model.Flat.{Flat}
+use Rattle.tdf_world.specs.low.history.Answers.{AreAnswers}
 use Rattle.tdf_world.specs.low.history.Instant.{RunFault}
 use Rattle.tdf_world.specs.low.history.Texts.{run_notes, state_at}
-use Rattle.tdf_world.specs.low.history.World.{World}
+use Rattle.tdf_world.specs.low.history.World.{Change, World}
 use Rattle.tdf_world.specs.low.instants.History.{State, On, Spent, Stopped}
 use Rattle.tdf_world.specs.low.notes.Plans.{line}
 use Rattle.tdf_report.specs.declared.ending.End.{End}
 use Rattle.tdf_report.specs.declared.ending.End.TheVariants as ending
 use Rattle.tdf_world.specs.low.tree.Pure.{PureTree}
+use Rattle.tdf_world.specs.Continuing.{HasToldCounts}
 use Rattle.tdf_world.specs.Rules.{rules_of, start_world}
 
 -- how a history ended at a stop, of so many turns
@@ -25,19 +27,30 @@ end_of stop turns (On w) = ending.Reached stop (turns - w.left)
 end_of stop turns (Stopped time fault w) = ending.Stopped time fault.cluster fault.fault
 end_of stop turns (Spent time w) = ending.Spent time
 
--- the history of a model from its first plans on, at a stop
-abbrev pub state_of : PureTree → Flat → List First → (stop turns : ℕ)
-    → State (World SideOf) RunFault
-state_of model flat firsts stop turns =
-    state_at model flat (rules_of model flat) (start_world model flat firsts [] turns) stop
+-- the history of a model from its first plans on, with what is told of its boundaries, at a stop
+abbrev pub state_of : PureTree → Flat → List First → (ahead : List (List Change))
+    → (stop turns : ℕ) → State (World SideOf) RunFault
+state_of model flat firsts ahead stop turns =
+    state_at model flat (rules_of model flat) (start_world model flat firsts ahead turns) stop
+
+-- what is told of the boundaries of a model from its first plans on is their answers, up to a stop,
+-- and new plans come with their counts
+pub record HaveAnswers (model : PureTree) (flat : Flat) (firsts : List First)
+    (ahead : List (List Change)) (stop turns : ℕ) : Type 0 where
+  pub are : AreAnswers model flat (rules_of model flat) (start_world model flat firsts ahead turns)
+      stop
+  pub counts : All (All HasToldCounts) ahead
 
 -- how it ended, and its notes
-abbrev pub run_end : PureTree → Flat → List First → (stop turns : ℕ) → End
-run_end model flat firsts stop turns = end_of stop turns (state_of model flat firsts stop turns)
+abbrev pub run_end : PureTree → Flat → List First → (ahead : List (List Change))
+    → (stop turns : ℕ) → End
+run_end model flat firsts ahead stop turns =
+    end_of stop turns (state_of model flat firsts ahead stop turns)
 
-abbrev pub run_note : PureTree → Flat → List First → (stop turns : ℕ) → List ℕ
-run_note model flat firsts stop turns =
-    run_notes model flat (rules_of model flat) (start_world model flat firsts [] turns) stop
+abbrev pub run_note : PureTree → Flat → List First → (ahead : List (List Change))
+    → (stop turns : ℕ) → List ℕ
+run_note model flat firsts ahead stop turns =
+    run_notes model flat (rules_of model flat) (start_world model flat firsts ahead turns) stop
 
 -- `end TIME turns TAKEN`
 unfoldable pub end_line : Resolution → (time taken : ℕ) → List ℕ

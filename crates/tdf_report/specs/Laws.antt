@@ -1,7 +1,6 @@
--- Where no cluster changes its attributes, the notes of a run are its first plans and its closing
--- line.
+-- The notes of a run are its first plans, the new plans of its instants, and its closing line.
 -- Source: own.
-use Rattle.std.specs.Prelude.{◌≡◌, ℕ, List, [], ◌++◌}
+use Rattle.std.specs.Prelude.{◌≡◌, ℕ, List, ◌++◌}
 use Rattle.tdf_world.specs.low.dynamic.declared.first.First.{First}
 use Rattle.tdf_world.specs.low.flat.declared.model.Flat.{Flat}
 use Rattle.tdf_world.specs.low.history.Start.{first_clusters}
@@ -18,13 +17,10 @@ PlansAreFirst = (model : PureTree) (flat : Flat) (firsts : List First)
     → (ahead : List (List Change))
     → first_plans flat (first_clusters model flat firsts ahead) ≡ plans_of flat firsts
 
--- no instant has new plans
-abbrev pub PlansStay : Type 0
-PlansStay = (model : PureTree) (flat : Flat) (firsts : List First) (stop turns : ℕ)
-    → notes_to model flat (rules_of model flat) (start_world model flat firsts [] turns) stop ≡ []
-
--- so the notes are the first plans, and then how the run ended
+-- so the notes are the first plans, then the new ones of all instants, and then how the run ended
 abbrev pub NotesAreWritten : Type 0
-NotesAreWritten = (model : PureTree) (flat : Flat) (firsts : List First) (stop turns : ℕ)
-    → run_note model flat firsts stop turns ≡ plans_of flat firsts
-    ++ end_text flat.resolution turns (run_end model flat firsts stop turns)
+NotesAreWritten = (model : PureTree) (flat : Flat) (firsts : List First)
+    → (ahead : List (List Change)) (stop turns : ℕ)
+    → run_note model flat firsts ahead stop turns ≡ plans_of flat firsts
+    ++ notes_to model flat (rules_of model flat) (start_world model flat firsts ahead turns) stop
+    ++ end_text flat.resolution turns (run_end model flat firsts ahead stop turns)

@@ -1,6 +1,7 @@
 -- What the crates further below define, for the crates above.
 pub mod bind
 pub mod calendar
+pub mod changes
 pub mod convert
 pub mod dynamic
 pub mod events
@@ -12,6 +13,7 @@ pub mod flow
 pub mod graph
 pub mod history
 pub mod instants
+pub mod limits
 pub mod notes
 pub mod rows
 pub mod scope

@@ -1,5 +1,6 @@
 -- The lemmas that other crates may use.
 pub use Rattle.tdf_shown.proofs.Able.{advanced_can_be_taken, few_of, few_values, sound_can_be_shown, sound_can_start}
+pub use Rattle.tdf_shown.proofs.Ahead.{told_is_shown}
 pub use Rattle.tdf_shown.proofs.Ending.{run_agree}
 pub use Rattle.tdf_shown.proofs.Kept.{later_is_shown, rows_may_be_written, written_is_shown}
 pub use Rattle.tdf_shown.proofs.Listing.{IsFound, found, samples_same}
@@ -15,4 +16,4 @@ pub use Rattle.tdf_traced.proofs.Api.{agree_trans, has_times, one_span, position
 pub use Rattle.tdf_traced.proofs.Api.{all_starts_are_at, true_false}
 pub use Rattle.tdf_columns.proofs.Api.{head_front, makes_whole, rows_front, written_none}
 pub use Rattle.tdf_traced.proofs.Api.{boundaries_add_none, done_known, passes_trace}
-pub use Rattle.tdf_world.proofs.Api.{AllBy, LeadsBy, cells_agree, firings_by, turns_by}
+pub use Rattle.tdf_world.proofs.Api.{AllBy, LeadsBy, cells_agree, firings_by, go_on, turns_by}

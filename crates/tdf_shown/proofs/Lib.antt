@@ -1,4 +1,5 @@
 pub mod Able
+pub mod Ahead
 pub mod Api
 pub mod Beginning
 pub mod Columns

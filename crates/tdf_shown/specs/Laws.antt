@@ -13,7 +13,8 @@ use Rattle.tdf_traced.specs.low.fixed.declared.raw.Raw.{Raw}
 use Rattle.tdf_traced.specs.low.flat.Flat.{IsFlatOf}
 use Rattle.tdf_traced.specs.low.flat.declared.model.Flat.{Flat}
 use Rattle.tdf_traced.specs.low.formats.Formats.{IsSoundModel}
-use Rattle.tdf_traced.specs.low.history.World.{ClusterAt, World}
+use Rattle.tdf_world.specs.low.history.Telling.{AreTold, world_told}
+use Rattle.tdf_traced.specs.low.history.World.{Change, ClusterAt, World}
 use Rattle.tdf_traced.specs.low.limits.Limits.{AreWithinLimits}
 use Rattle.tdf_traced.specs.low.rows.Rows.{Cells}
 use Rattle.tdf_traced.specs.low.run.Pass.{AreAt}
@@ -27,7 +28,7 @@ use Rattle.tdf_columns.specs.low.trace.Stands.{Stands, TraceSeen}
 use Rattle.tdf_traced.specs.low.tree.Pure.{PureTree}
 use Rattle.tdf_columns.specs.low.words.declared.asked.TraceKind.{TraceKind}
 use Rattle.tdf_world.specs.Laws.{AreSteady}
-use Rattle.tdf_world.specs.Rules.{start_world}
+use Rattle.tdf_world.specs.Rules.{rules_of, start_world}
 
 -- the traces of a sound model can be shown
 abbrev pub SoundCanBeShown : Type 0
@@ -79,3 +80,10 @@ LaterIsShown = (model : PureTree) (flat : Flat) (start w : World SideOf) (from t
     → ((t : ℕ) → from ≤ t → t ≤ time
     → values_before model flat start t ≡ values_before model flat start from)
     → IsShown model flat start time w s
+
+-- and where more is told of the boundaries to come
+abbrev pub ToldIsShown : Type 0
+ToldIsShown = (model : PureTree) (flat : Flat) (start w : World SideOf) (from : ℕ)
+    → (more : List (List Change)) (s : Shown)
+    → AreTold model flat (rules_of model flat) start from → IsShown model flat start from w s
+    → IsShown model flat (world_told more start) from (world_told more w) s

@@ -1,6 +1,6 @@
 //! What holds of what is shown: each function here only carries its clauses.
 
-ghost use Rattle.tdf_shown.specs.Laws.{AdvancedCanBeTaken, LaterIsShown, RowsMayBeWritten, SoundCanBeShown, SoundCanStart, WrittenIsShown};
+ghost use Rattle.tdf_shown.specs.Laws.{AdvancedCanBeTaken, LaterIsShown, RowsMayBeWritten, SoundCanBeShown, SoundCanStart, ToldIsShown, WrittenIsShown};
 
 use tdf_traced::low::formats::law_formats;
 
@@ -14,9 +14,10 @@ pub fn law_can()
 }
 
 /// Rows may be written before the periods of all clusters, and what is shown stays so then, as it does at later times where nothing
-/// happens.
+/// happens, and where more is told of the boundaries to come.
 pub fn law_kept()
     ensures rows { RowsMayBeWritten }
     ensures written { WrittenIsShown }
     ensures later { LaterIsShown }
+    ensures told { ToldIsShown }
 {}

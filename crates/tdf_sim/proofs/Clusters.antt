@@ -19,25 +19,25 @@ use Rattle.tdf_sim.specs.PlanText.{plan_rows}
 same_count : (a b : Flat) → IsAlike a b → cluster_count a.tables ≡ cluster_count b.tables
 same_count a b same = ap cluster_count same.tables
 
-module _ (one : ClustersHaveOne) (whole : ClustersAreWhole) where
-  has_cluster : (flat : Flat) (cluster : ℕ) → IsPlannable flat → 1 ≤ cluster → cluster ≤ cluster_count flat.tables → IsClusterOf flat cluster
-  has_cluster flat cluster plannable some few = record {
-    plannable = plannable;
-    has = whole flat.tables cluster plannable.wired some few;
-  }
+pub has_cluster : ClustersAreWhole → (flat : Flat) (cluster : ℕ) → IsPlannable flat → 1 ≤ cluster → cluster ≤ cluster_count flat.tables → IsClusterOf flat cluster
+has_cluster whole flat cluster plannable some few = record {
+  plannable = plannable;
+  has = whole flat.tables cluster plannable.wired some few;
+}
 
+module _ (one : ClustersHaveOne) (whole : ClustersAreWhole) where
   -- of two models that are alike, the first cluster with a fault is the same, and so is the fault
   pub fault_once : (a b : Flat) (f g : Fault) → IsPlannable a → IsPlannable b → IsAlike a b → IsPlansFault a f → IsPlansFault b g → f ≡ g
   fault_once a b f g plan_a plan_b same p q = elim (cases_lt p.cluster q.cluster) [
     | inl less ↦ (let first = q.before p.cluster p.some less in let within = p.within in let count = same_count a b same in
-        absurd (one.fault_or_plan b p.cluster f first.0 (has_cluster b p.cluster plan_b p.some (omega (arith, within, count)))
+        absurd (one.fault_or_plan b p.cluster f first.0 (has_cluster whole b p.cluster plan_b p.some (omega (arith, within, count)))
         (move_fault a b p.cluster f same p.is) first.1))
     | inr not_less ↦ elim (cases_eq p.cluster q.cluster) [
-      | inl here ↦ one.one_fault b q.cluster f g (has_cluster b q.cluster plan_b q.some q.within)
+      | inl here ↦ one.one_fault b q.cluster f g (has_cluster whole b q.cluster plan_b q.some q.within)
           (move_fault a b q.cluster f same (subst (λ (c : ℕ). IsClusterFault a c f) here p.is)) q.is
       | inr apart ↦ (let some = q.some in let within = q.within in let count = same_count a b same in
           let first = p.before q.cluster q.some (omega (arith, not_less, apart)) in
-          absurd (one.fault_or_plan b q.cluster g first.0 (has_cluster b q.cluster plan_b q.some q.within) q.is
+          absurd (one.fault_or_plan b q.cluster g first.0 (has_cluster whole b q.cluster plan_b q.some q.within) q.is
           (move_plan a b q.cluster first.0 same first.1)))
     ]
   ]
@@ -48,7 +48,7 @@ module _ (one : ClustersHaveOne) (whole : ClustersAreWhole) where
       let within = p.within in let some = p.some in let count = same_count a b same in let all = plans.all in
       let here = there firsts (p.cluster - 1) (omega (arith, within, some, count, all)) in
       let number : p.cluster - 1 + 1 ≡ p.cluster = omega (arith, some) in
-      one.fault_or_plan b p.cluster f here.0 (has_cluster b p.cluster plan_b p.some (omega (arith, within, count))) (move_fault a b p.cluster f same p.is)
+      one.fault_or_plan b p.cluster f here.0 (has_cluster whole b p.cluster plan_b p.some (omega (arith, within, count))) (move_fault a b p.cluster f same p.is)
       (subst (λ (c : ℕ). IsFirstPlan b c here.0) number (plans.each (p.cluster - 1) here.0 here.1))
     where
       there : (xs : List First) (k : ℕ) → k < length xs → (x : First) × (slice_get xs k ≡ Some x)
@@ -90,6 +90,6 @@ module _ (one : ClustersHaveOne) (whole : ClustersAreWhole) where
       same_at : (k : ℕ) (x y : First) → slice_get xs k ≡ Some x → slice_get ys k ≡ Some y → plan_rows x ≡ plan_rows y
       same_at k x y x_is y_is =
           let low = within ys k y y_is in let q_all = q.all in
-          let both = one.one_plan b (k + 1) x y (has_cluster b (k + 1) plan_b (omega arith) (omega (arith, low, q_all)))
+          let both = one.one_plan b (k + 1) x y (has_cluster whole b (k + 1) plan_b (omega arith) (omega (arith, low, q_all)))
           (move_plan a b (k + 1) x same (p.each k x x_is)) (q.each k y y_is) in
           same_rows x.plan y.plan both.plans_are

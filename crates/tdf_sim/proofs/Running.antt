@@ -1,23 +1,13 @@
--- The model of an accepted tree can run where no module changes its attributes.
-use Rattle.std.proofs.Common.{◌≡◌, ℕ, zero, suc, false, List, [], ◌∷◌, refl}
-use Rattle.std.proofs.lemmas.Bool.{or_parts}
-use Rattle.std.specs.List.{list_any}
+-- The model of an accepted tree can run.
 use Rattle.tdf_loop.specs.low.formats.Formats.{IsSoundModel}
 use Rattle.tdf_loop.specs.low.limits.Limits.{FlatIsWithinLimits}
 use Rattle.tdf_loop.specs.Runs.{CanRun}
 use Rattle.tdf_loop.proofs.Api.{firsts_printable}
 use Rattle.tdf_runnable.specs.Runnable.{SoundIsRunnable}
 use Rattle.tdf_sim.proofs.Closed.{closed_top}
-use Rattle.tdf_sim.specs.Runs.{IsAcceptedTree, makes_changes}
+use Rattle.tdf_sim.specs.Runs.{IsAcceptedTree}
 use Rattle.tdf_sim.specs.declared.sim.Sim.{Sim}
-use Rattle.tdf_loop.specs.low.streams.Places.{has_changes}
 use Rattle.tdf_loop.specs.low.tree.Pure.{PureTree}
-use Rattle.tdf_loop.specs.low.wiring.declared.modules.ModuleRow.{ModuleRow}
-
-pub no_changes : (rows : List ModuleRow) → list_any (λ (row : ModuleRow). row.changes) rows ≡ false → (m : ℕ) → has_changes rows m ≡ false
-no_changes [] none m = refl
-no_changes (row ∷ rows) none zero = (or_parts row.changes (list_any (λ (r : ModuleRow). r.changes) rows) none).0
-no_changes (row ∷ rows) none (suc m) = no_changes rows (or_parts row.changes (list_any (λ (r : ModuleRow). r.changes) rows) none).1 m
 
 pub sound_model : (tree : PureTree) (sim : Sim) → IsAcceptedTree tree sim → IsSoundModel tree
 sound_model tree sim is = record {
@@ -28,8 +18,8 @@ sound_model tree sim is = record {
 }
 
 -- the model of a tree can run, and so it is one of this tree
-abbrev pub can_run : FlatIsWithinLimits → SoundIsRunnable → (tree : PureTree) (sim : Sim) → IsAcceptedTree tree sim → makes_changes sim.flat.tables ≡ false → CanRun sim.flat sim.firsts.items
-can_run within runnable tree sim is none =
+abbrev pub can_run : FlatIsWithinLimits → SoundIsRunnable → (tree : PureTree) (sim : Sim) → IsAcceptedTree tree sim → CanRun sim.flat sim.firsts.items
+can_run within runnable tree sim is =
     let limits = within tree sim.flat is.kept is.accepted.lines.types is.accepted.is_flat in record {
       model = tree;
       of = record {
@@ -40,6 +30,5 @@ can_run within runnable tree sim is none =
       };
       runnable = runnable tree sim.flat (sound_model tree sim is) is.formed.events is.accepted.is_flat;
       plans = record { all = is.accepted.plans.all; each = is.accepted.plans.each };
-      still = λ n less m inside here. no_changes sim.flat.tables.modules none m;
       printable = firsts_printable sim.flat sim.firsts.items limits.in_range is.accepted.plans.each;
     }

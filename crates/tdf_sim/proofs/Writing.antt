@@ -1,14 +1,19 @@
 -- What a run writes, told for the answer of a run, and for two models of one tree.
-use Rattle.std.proofs.Common.{◌≡◌, ◌∙◌, [], ap}
-use Rattle.tdf_alike.specs.Laws.{RunsWriteTheSame}
+use Rattle.std.proofs.Common.{◌≡◌, ◌∙◌, ◌+◌, ap, arith}
+use Rattle.std.proofs.lemmas.Option.{slice_get_within}
+use Rattle.tdf_alike.specs.Laws.{AnswersWriteAlike, AreFirstPlans, RunsWriteTheSame}
 use Rattle.tdf_alike.specs.Laws.{AreAlike as SayTheSame}
 use Rattle.tdf_loop.specs.low.base.declared.resolution.Resolution.{Resolution}
 use Rattle.tdf_loop.specs.low.bind.Flat.{FlatOf}
+use Rattle.tdf_loop.specs.low.dynamic.Laws.{ClustersAreWhole, FlatIsPlannable}
 use Rattle.tdf_loop.specs.low.flat.declared.model.Flat.{Flat}
 use Rattle.tdf_loop.specs.low.history.Texts.{run_trace}
+use Rattle.tdf_loop.specs.low.limits.Limits.{FlatIsWithinLimits}
 use Rattle.tdf_loop.specs.Runs.{model_about}
+use Rattle.tdf_sim.proofs.Clusters.{has_cluster}
+use Rattle.tdf_sim.proofs.Plannable.{can_be_planned}
 use Rattle.tdf_sim.specs.Accepted.{IsAccepted}
-use Rattle.tdf_sim.specs.Laws.{ModelsAreAlike, RunsAreAlike}
+use Rattle.tdf_sim.specs.Laws.{AnswersRunAlike, ModelsAreAlike, RunsAreAlike}
 use Rattle.tdf_sim.specs.declared.sim.Sim.{Sim}
 use Rattle.tdf_loop.specs.low.trace.Writings.{AboutSeen, writing_of}
 use Rattle.tdf_loop.specs.low.tree.Kept.{IsKept}
@@ -35,11 +40,34 @@ module _ (models : ModelsAreAlike) (writes : RunsWriteTheSame) where
 
   -- a run of either of two models of one tree writes the same
   pub runs_alike : RunsAreAlike
-  runs_alike tree one other kept a b kind stop turns =
+  runs_alike tree one other kept a b ahead kind stop turns =
       let say = say_the_same tree one other kept a b in
-      let runs = writes tree one.flat other.flat one.firsts.items other.firsts.items say (writing_of (model_about kind one.flat)) stop turns in record {
-        trace = runs.trace ∙ ap (λ (about : AboutSeen). run_trace (writing_of about) tree other.flat (rules_of tree other.flat) (start_world tree other.flat other.firsts.items [] turns) stop)
-            (same_about kind one.flat other.flat say.tables say.unit);
+      let runs = writes tree one.flat other.flat one.firsts.items other.firsts.items say ahead (writing_of (model_about kind one.flat)) stop turns in record {
+        alike = record {
+          trace = runs.trace ∙ ap (λ (about : AboutSeen). run_trace (writing_of about) tree other.flat (rules_of tree other.flat) (start_world tree other.flat other.firsts.items ahead turns) stop)
+              (same_about kind one.flat other.flat say.tables say.unit);
+          notes = runs.notes;
+          end = runs.end;
+        };
+        answers = runs.answers;
+      }
+
+-- and so do two runs of one model that are told the answers of their boundaries
+module _ (within : FlatIsWithinLimits) (whole : ClustersAreWhole) (plannable : FlatIsPlannable) (writes : AnswersWriteAlike) where
+  first_plans : (tree : PureTree) (sim : Sim) → IsKept tree → IsAccepted tree sim → AreFirstPlans sim.flat sim.firsts.items
+  first_plans tree sim kept accepted = record {
+    has = λ n first at. (
+        let low = slice_get_within sim.firsts.items n first at in
+        let all = accepted.plans.all in
+        (has_cluster whole sim.flat (n + 1) (can_be_planned plannable tree sim.flat kept accepted.lines accepted.is_flat) (omega arith) (omega (arith, low, all))).has);
+    each = accepted.plans.each;
+  }
+
+  pub answers_run_alike : AnswersRunAlike
+  answers_run_alike tree sim kept accepted ahead others kind stop turns answers same =
+      let runs = writes tree sim.flat sim.firsts.items kept accepted.is_flat (within tree sim.flat kept accepted.lines.types accepted.is_flat) (first_plans tree sim kept accepted)
+      ahead others (writing_of (model_about kind sim.flat)) stop turns answers same in record {
+        trace = runs.trace;
         notes = runs.notes;
         end = runs.end;
       }

@@ -3,7 +3,8 @@
 use Rattle.std.specs.Prelude.{◌≡◌, ℕ, List, map}
 use Rattle.tdf_loop.specs.low.base.declared.faults.Fault.{Fault}
 use Rattle.tdf_loop.specs.Runs.{trace_of}
-use Rattle.tdf_loop.specs.low.report.Ending.{run_end, run_note}
+use Rattle.tdf_loop.specs.low.history.World.{Change}
+use Rattle.tdf_loop.specs.low.report.Ending.{HaveAnswers, run_end, run_note}
 use Rattle.tdf_sim.specs.Accepted.{IsAccepted, IsAcceptedText}
 use Rattle.tdf_sim.specs.declared.sim.Sim.{Sim}
 use Rattle.tdf_sim.specs.FirstFault.{IsFirstFault}
@@ -34,18 +35,34 @@ abbrev pub ModelsAreAlike : Type 0
 ModelsAreAlike = (tree : PureTree) (one other : Sim) → IsKept tree
     → IsAccepted tree one → IsAccepted tree other → AreAlike one other
 
--- a run of either writes the same trace and the same notes, and ends alike
-pub record RunAlike (tree : PureTree) (one other : Sim) (kind : TraceKind) (stop turns : ℕ)
-    : Type 0 where
-  pub trace : trace_of kind tree one.flat one.firsts.items stop turns
-      ≡ trace_of kind tree other.flat other.firsts.items stop turns
-  pub notes : run_note tree one.flat one.firsts.items stop turns
-      ≡ run_note tree other.flat other.firsts.items stop turns
-  pub end : run_end tree one.flat one.firsts.items stop turns
-      ≡ run_end tree other.flat other.firsts.items stop turns
+-- two runs write the same trace and the same notes, and end alike: each of a model, and with what
+-- is told of its boundaries
+pub record RunAlike (tree : PureTree) (one other : Sim) (ahead others : List (List Change))
+    (kind : TraceKind) (stop turns : ℕ) : Type 0 where
+  pub trace : trace_of kind tree one.flat one.firsts.items ahead stop turns
+      ≡ trace_of kind tree other.flat other.firsts.items others stop turns
+  pub notes : run_note tree one.flat one.firsts.items ahead stop turns
+      ≡ run_note tree other.flat other.firsts.items others stop turns
+  pub end : run_end tree one.flat one.firsts.items ahead stop turns
+      ≡ run_end tree other.flat other.firsts.items others stop turns
+
+-- runs of two models do so that are told the same, and answers of the one are answers of the other
+pub record RunTheSame (tree : PureTree) (one other : Sim) (ahead : List (List Change))
+    (kind : TraceKind) (stop turns : ℕ) : Type 0 where
+  pub alike : RunAlike tree one other ahead ahead kind stop turns
+  pub answers : HaveAnswers tree one.flat one.firsts.items ahead stop turns
+      → HaveAnswers tree other.flat other.firsts.items ahead stop turns
 
 -- two models of one tree do so, whatever is asked of the run
 abbrev pub RunsAreAlike : Type 0
 RunsAreAlike = (tree : PureTree) (one other : Sim) → IsKept tree
-    → IsAccepted tree one → IsAccepted tree other
-    → (kind : TraceKind) (stop turns : ℕ) → RunAlike tree one other kind stop turns
+    → IsAccepted tree one → IsAccepted tree other → (ahead : List (List Change))
+    → (kind : TraceKind) (stop turns : ℕ) → RunTheSame tree one other ahead kind stop turns
+
+-- and two runs of a model do so that are told the answers of their boundaries
+abbrev pub AnswersRunAlike : Type 0
+AnswersRunAlike = (tree : PureTree) (sim : Sim) → IsKept tree → IsAccepted tree sim
+    → (ahead others : List (List Change)) (kind : TraceKind) (stop turns : ℕ)
+    → HaveAnswers tree sim.flat sim.firsts.items ahead stop turns
+    → HaveAnswers tree sim.flat sim.firsts.items others stop turns
+    → RunAlike tree sim sim ahead others kind stop turns

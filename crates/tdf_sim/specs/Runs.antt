@@ -1,8 +1,5 @@
 -- Models that can be run.
 -- Source: own.
-use Rattle.std.specs.List.{list_any}
-use Rattle.std.specs.Prelude.{Bool}
-use Rattle.tdf_loop.specs.low.bind.Flat.{FlatOf}
 use Rattle.tdf_blocks.specs.Formed.{IsFormed}
 use Rattle.tdf_sim.specs.Accepted.{IsAccepted}
 use Rattle.tdf_sim.specs.declared.sim.Sim.{Sim}
@@ -19,7 +16,3 @@ pub record IsAcceptedTree (tree : PureTree) (sim : Sim) : Type 0 where
 pub record IsSomeAccepted (sim : Sim) : Type 0 where
   pub tree : PureTree
   pub of : IsAcceptedTree tree sim
-
--- a module of the model changes its attributes
-abbrev pub makes_changes : FlatOf → Bool
-makes_changes tables = list_any (λ row. row.changes) tables.modules

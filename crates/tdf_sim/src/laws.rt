@@ -1,9 +1,10 @@
 //! What holds of the definitions.
 
-ghost use Rattle.tdf_sim.specs.Laws.{FaultOrAccepted, FaultsAreOne, ModelsAreAlike, RunsAreAlike};
+ghost use Rattle.tdf_sim.specs.Laws.{AnswersRunAlike, FaultOrAccepted, FaultsAreOne, ModelsAreAlike, RunsAreAlike};
 
-use tdf_alike::law_alike;
+use tdf_alike::{law_alike, law_answers};
 use tdf_loop::low::dynamic::{law_numbers, law_one_plan, law_plannable};
+use tdf_loop::low::limits::law_limits;
 
 /// A text has at most one first fault, and with one it is not accepted.
 pub fn law_first_fault()
@@ -24,10 +25,15 @@ pub fn law_one_model()
     law_plannable();
 }
 
-/// A run of either of two models of one tree writes the same, and ends alike.
+/// A run of either of two models of one tree writes the same, and ends alike, whichever answers of its boundaries it is told.
 pub fn law_one_run()
-    ensures { RunsAreAlike }
+    ensures models { RunsAreAlike }
+    ensures answers { AnswersRunAlike }
 {
     law_one_model();
     law_alike();
+    law_answers();
+    law_limits();
+    law_numbers();
+    law_plannable();
 }

@@ -5,8 +5,6 @@ use tdf_loop::low::in_out::{Sink, SinkErr};
 /// Why a run did not end.
 #[derive(Drop)]
 pub enum RunErr {
-    /// A module of the model changes its attributes, which no run does yet. Nothing was written.
-    Unbuilt,
     /// A write failed.
     WriteFault,
     /// Out of memory.
@@ -14,14 +12,15 @@ pub enum RunErr {
 }
 
 ghost use Rattle.std.specs.Io.KnownBytes.{Appends};
-ghost use Rattle.std.specs.Prelude.{◌≡◌, ◌<◌, ◌⊎◌, ℕ, true, IfOk, IsErrOf, OnErr, OnOk};
+ghost use Rattle.std.specs.Prelude.{◌≡◌, ◌<◌, ◌⊎◌, ℕ, List, IfOk, IsErrOf, OnErr, OnOk};
 ghost use Rattle.tdf_loop.specs.low.base.Limits.{time_end};
 ghost use Rattle.tdf_loop.specs.low.in_out.Bytes.{AppendsFront};
 ghost use Rattle.tdf_loop.specs.low.in_out.Faults.{FaultsRose};
 ghost use Rattle.tdf_loop.specs.Runs.{IsLeft, trace_of};
-ghost use Rattle.tdf_loop.specs.low.report.Ending.{run_end, run_note};
+ghost use Rattle.tdf_loop.specs.low.history.World.{Change};
+ghost use Rattle.tdf_loop.specs.low.report.Ending.{HaveAnswers, run_end, run_note};
 ghost use Rattle.tdf_loop.specs.low.report.declared.ending.End.TheVariants.{Reached};
-ghost use Rattle.tdf_sim.specs.Runs.{IsAcceptedTree, IsSomeAccepted, makes_changes};
+ghost use Rattle.tdf_sim.specs.Runs.{IsAcceptedTree, IsSomeAccepted};
 ghost use Rattle.tdf_sim.specs.declared.run.RunErr.TheVariants as why;
 ghost use Rattle.tdf_sim.specs.machine.Steps.{by_sink};
 ghost use Rattle.tdf_loop.specs.low.tree.Pure.{PureTree};
@@ -44,19 +43,12 @@ fn by_sink(error: SinkErr) -> RunErr
 }
 
 impl Sim {
-    /// Whether a module of the model changes its attributes.
-    pub fn makes_changes(&self) -> bool
-        ensures { result ≡ makes_changes self.now.flat.tables }
-    {
-        self.flat.tables.modules.iter().any(|row| row.changes)
-    }
-
     /// Runs the model from time 0 to a stop, in counts of its resolution, within so many turns. It writes the trace on `out`, and on
-    /// `notes` the plans and how it ended.
+    /// `notes` the plans, the new plans of boundaries where modules change their attributes, and how it ended. A fault of such a
+    /// change ends it at the time of the boundary.
     ///
     /// # Errors
-    /// `Unbuilt` exactly where a module changes its attributes; then nothing was written. `WriteFault` only where a count of faults
-    /// rose; after it and after `Memory` both sinks hold front parts of their texts.
+    /// `WriteFault` only where a count of faults rose; after it and after `Memory` both sinks hold front parts of their texts.
     pub fn run<O: Sink, N: Sink>(
         self,
         alloc: Global,
@@ -68,38 +60,40 @@ impl Sim {
     ) -> Result<Ran, RunErr>
         requires accepted { IsSomeAccepted self }
         requires stop { stop < time_end }
-        ensures end { (tree : PureTree) → IsAcceptedTree tree self → IfOk result (λ ran.
-            ran.end ≡ run_end tree self.flat self.firsts.items stop turns) }
-        ensures trace { (tree : PureTree) → IsAcceptedTree tree self → OnOk result
+        ensures answered { (tree : PureTree) → IsAcceptedTree tree self
+            → OnOk result ((ahead : List (List Change))
+            × HaveAnswers tree self.flat self.firsts.items ahead stop turns) }
+        ensures end { (tree : PureTree) → IsAcceptedTree tree self → (ahead : List (List Change))
+            → HaveAnswers tree self.flat self.firsts.items ahead stop turns → IfOk result (λ ran.
+            ran.end ≡ run_end tree self.flat self.firsts.items ahead stop turns) }
+        ensures trace { (tree : PureTree) → IsAcceptedTree tree self → (ahead : List (List Change))
+            → HaveAnswers tree self.flat self.firsts.items ahead stop turns → OnOk result
             (Appends (O.taken out.old) (O.taken out.new)
-            (trace_of kind tree self.flat self.firsts.items stop turns)) }
-        ensures notes { (tree : PureTree) → IsAcceptedTree tree self → OnOk result
+            (trace_of kind tree self.flat self.firsts.items ahead stop turns)) }
+        ensures notes { (tree : PureTree) → IsAcceptedTree tree self → (ahead : List (List Change))
+            → HaveAnswers tree self.flat self.firsts.items ahead stop turns → OnOk result
             (Appends (N.taken notes.old) (N.taken notes.new)
-            (run_note tree self.flat self.firsts.items stop turns)) }
-        ensures trace_part { (tree : PureTree) → IsAcceptedTree tree self → OnErr result
+            (run_note tree self.flat self.firsts.items ahead stop turns)) }
+        ensures trace_part { (tree : PureTree) → IsAcceptedTree tree self
+            → (ahead : List (List Change))
+            → HaveAnswers tree self.flat self.firsts.items ahead stop turns → OnErr result
             (AppendsFront (O.taken out.old) (O.taken out.new)
-            (trace_of kind tree self.flat self.firsts.items stop turns)) }
-        ensures notes_part { (tree : PureTree) → IsAcceptedTree tree self → OnErr result
+            (trace_of kind tree self.flat self.firsts.items ahead stop turns)) }
+        ensures notes_part { (tree : PureTree) → IsAcceptedTree tree self
+            → (ahead : List (List Change))
+            → HaveAnswers tree self.flat self.firsts.items ahead stop turns → OnErr result
             (AppendsFront (N.taken notes.old) (N.taken notes.new)
-            (run_note tree self.flat self.firsts.items stop turns)) }
-        ensures unbuilt { IsErrOf result why.Unbuilt → makes_changes self.flat.tables ≡ true }
-        ensures unbuilt_always { makes_changes self.flat.tables ≡ true
-            → IsErrOf result why.Unbuilt }
-        ensures unwritten { IsErrOf result why.Unbuilt
-            → (out.new ≡ out.old) × (notes.new ≡ notes.old) }
+            (run_note tree self.flat self.firsts.items ahead stop turns)) }
         ensures cause { IsErrOf result why.WriteFault
             → FaultsRose (O.faults out.old) (O.faults out.new)
             ⊎ FaultsRose (N.faults notes.old) (N.faults notes.new) }
-        ensures left { (tree : PureTree) → IsAcceptedTree tree self → IfOk result (λ ran.
+        ensures left { (tree : PureTree) → IsAcceptedTree tree self → (ahead : List (List Change))
+            → HaveAnswers tree self.flat self.firsts.items ahead stop turns → IfOk result (λ ran.
             (time taken : ℕ) → ran.end ≡ Reached time taken
-            → IsLeft tree self.flat self.firsts.items stop turns ran) }
+            → IsLeft tree self.flat self.firsts.items ahead stop turns ran) }
     {
         law_limits();
         law_runnable();
-        if self.makes_changes() {
-            drop(self);
-            return Err(RunErr::Unbuilt);
-        }
         let Sim { flat, firsts } = self;
         match run_model(alloc, &flat, firsts, stop, turns, kind, out, notes) {
             Ok(ran) => {

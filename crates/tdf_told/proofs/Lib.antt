@@ -1,2 +1,6 @@
 pub mod Api
+mod Keeping
+mod Staying
+mod Tables
 mod Texts
+mod Twice

@@ -5,11 +5,14 @@ use Rattle.std.proofs.lemmas.Option.{slice_get-map}
 use Rattle.std.specs.List.{enumerate_from, flat_map, list_any, range_with_len}
 use Rattle.std.specs.Prelude.{◌||◌, slice_get, slice_index, slice_index_or}
 use Rattle.tdf_history.specs.low.changes.Laws.{BoundariesHaveOne}
+use Rattle.tdf_history.specs.low.base.declared.resolution.Resolution.{Resolution}
 use Rattle.tdf_history.specs.low.dynamic.Attributes.{clusters_of}
 use Rattle.tdf_history.specs.low.flat.declared.model.Flat.{Flat}
 use Rattle.tdf_history.proofs.Api.{history_told, one_history}
+use Rattle.tdf_told.proofs.Twice.{next_is}
 use Rattle.tdf_history.specs.Cells.{cell_by_driver, changed_cell, driven_cell, driver_of_row, first_shown, port_cell, run_cells, signal_cell, trace_cell, value_before, world_before, world_of}
 use Rattle.tdf_history.specs.Instant.{RunFault, engine, instant, is_cluster_due, is_due}
+use Rattle.tdf_history.specs.Answers.{AreAnswers}
 use Rattle.tdf_history.specs.Telling.{AreTold, state_as, told_more, untold, world_told, world_untold}
 use Rattle.tdf_history.specs.Texts.{closing_text, end_of, first_plans, left_by, new_plans, notes_in, notes_to, plan_note, run_notes, run_trace}
 use Rattle.tdf_history.specs.World.{Change, ClusterAt, Rules, World}
@@ -63,6 +66,44 @@ module _ {K : Type 0} where
   world_as (Stopped time fault w) = refl
   world_as (Spent time w) = refl
 
+  end_as : (stop : ℕ) (s : State (World K) RunFault) → end_time (As s) stop ≡ end_time s stop
+  end_as stop (On w) = refl
+  end_as stop (Stopped time fault w) = refl
+  end_as stop (Spent time w) = refl
+
+  closing_as : (unit : Resolution) (stop turns : ℕ) (s : State (World K) RunFault) → closing_text unit stop turns (As s) ≡ closing_text unit stop turns s
+  closing_as unit stop turns (On w) = refl
+  closing_as unit stop turns (Stopped time fault w) = refl
+  closing_as unit stop turns (Spent time w) = refl
+
+  -- states that are the same but for what is told end alike, and leave the same
+  module _ (s t : State (World K) RunFault) (alike : As s ≡ As t) where
+    pub states_end : (stop : ℕ) → end_time s stop ≡ end_time t stop
+    states_end stop = sym (end_as stop s) ∙ ap (λ (u : State (World K) RunFault). end_time u stop) alike ∙ end_as stop t
+
+    pub states_close : (unit : Resolution) (stop turns : ℕ) → closing_text unit stop turns s ≡ closing_text unit stop turns t
+    states_close unit stop turns = sym (closing_as unit stop turns s) ∙ ap (closing_text unit stop turns) alike ∙ closing_as unit stop turns t
+
+    pub states_leave : world_untold (world_of s) ≡ world_untold (world_of t)
+    states_leave = world_as s ∙ ap world_of alike ∙ sym (world_as t)
+
+    pub states_on : (w : World K) → s ≡ On w → (v : World K) × (t ≡ On v) × (world_untold w ≡ world_untold v)
+    states_on w is = go t refl
+      where
+        go : (u : State (World K) RunFault) → t ≡ u → (v : World K) × (t ≡ On v) × (world_untold w ≡ world_untold v)
+        go (On v) to = (v, to, ap world_of (ap As (sym is) ∙ alike ∙ ap As to))
+        go (Stopped time fault v) to = (let e : As (On w) ≡ As (Stopped time fault v) = ap As (sym is) ∙ alike ∙ ap As to in absurd cc)
+        go (Spent time v) to = (let e : As (On w) ≡ As (Spent time v) = ap As (sym is) ∙ alike ∙ ap As to in absurd cc)
+
+  -- a world of which more is told
+  pub untold_told : (more : List (List Change)) (w : World K) → world_untold (world_told more w) ≡ world_untold w
+  untold_told more w = ap (λ l. record w { clusters = l }) (bare_told more 0 w.clusters)
+
+  as_bare : (more : List (List Change)) (s : State (World K) RunFault) → As (state_as (world_told more) s) ≡ As s
+  as_bare more (On w) = ap (λ u. On u) (untold_told more w)
+  as_bare more (Stopped time fault w) = ap (λ u. Stopped time fault u) (untold_told more w)
+  as_bare more (Spent time w) = ap (λ u. Spent time u) (untold_told more w)
+
   module _ (model : PureTree) (flat : Flat) where
     module _ (w v : World K) (same : world_untold w ≡ world_untold v) where
       driven_same : (time number : ℕ) (o : Option PortRow) → driven_cell model flat time w.clusters number o ≡ driven_cell model flat time v.clusters number o
@@ -91,10 +132,6 @@ module _ {K : Type 0} where
       abbrev E : Engine (World K) RunFault
       E = engine model flat rules
 
-      next_is : (start : World K) (time : ℕ) → history E 0 start (suc time) ≡ after E time (history E 0 start time)
-      unfolding history
-      next_is start time = let z : 0 + time ≡ time = omega arith in ap (λ t. after E t (history E 0 start time)) z
-
       -- a history that ended did so before the time up to which it is told
       abbrev EndsBy : ℕ → State (World K) RunFault → Type 0
       EndsBy k (On w) = Unit {0}
@@ -118,22 +155,12 @@ module _ {K : Type 0} where
       ends : (start : World K) (time : ℕ) → EndsBy time (history E 0 start time)
       unfolding history
       ends start zero = tt
-      ends start (suc time) = subst (EndsBy (suc time)) (sym (next_is start time)) (after_ends time (history E 0 start time) (ends start time))
+      ends start (suc time) = subst (EndsBy (suc time)) (sym (next_is E start time)) (after_ends time (history E 0 start time) (ends start time))
 
       end_within : (stop : ℕ) (s : State (World K) RunFault) → EndsBy stop s → end_time s stop ≤ stop
       end_within stop (On w) low = omega arith
       end_within stop (Stopped time fault w) low = low
       end_within stop (Spent time w) low = low
-
-      end_as : (stop : ℕ) (s : State (World K) RunFault) → end_time (As s) stop ≡ end_time s stop
-      end_as stop (On w) = refl
-      end_as stop (Stopped time fault w) = refl
-      end_as stop (Spent time w) = refl
-
-      closing_as : (stop turns : ℕ) (s : State (World K) RunFault) → closing_text flat.resolution stop turns (As s) ≡ closing_text flat.resolution stop turns s
-      closing_as stop turns (On w) = refl
-      closing_as stop turns (Stopped time fault w) = refl
-      closing_as stop turns (Spent time w) = refl
 
       world_left : (time : ℕ) (s : Step (World K) RunFault) → world_of (state_of time s) ≡ left_by s
       world_left time (Going w) = refl
@@ -142,7 +169,7 @@ module _ {K : Type 0} where
 
       module _ (one other : World K) (stop : ℕ) (start : world_untold one ≡ world_untold other) (alike : (time : ℕ) → time ≤ stop → As (history E 0 one time) ≡ As (history E 0 other time)) where
         worlds_same : (time : ℕ) → time ≤ stop → world_untold (world_before model flat rules one time) ≡ world_untold (world_before model flat rules other time)
-        worlds_same time low = world_as (history E 0 one time) ∙ ap world_of (alike time low) ∙ sym (world_as (history E 0 other time))
+        worlds_same time low = states_leave (history E 0 one time) (history E 0 other time) (alike time low)
 
         value_same : (signal time : ℕ) → time ≤ stop → value_before model flat rules one signal time ≡ value_before model flat rules other signal time
         value_same signal time low = ap (λ (u : World K). slice_index_or (rules.event_side.values u.events) signal zero_sample) (worlds_same time low)
@@ -166,9 +193,8 @@ module _ {K : Type 0} where
           cells = λ column time inside low. cell_same end time within low (slice_get flat.tables.traces column);
         }
 
-        end_same : end_of model flat rules one stop ≡ end_of model flat rules other stop
-        end_same = let low : stop ≤ stop = omega arith in
-            sym (end_as stop (history E 0 one stop)) ∙ ap (λ (s : State (World K) RunFault). end_time s stop) (alike stop low) ∙ end_as stop (history E 0 other stop)
+        pub end_same : end_of model flat rules one stop ≡ end_of model flat rules other stop
+        end_same = let low : stop ≤ stop = omega arith in states_end (history E 0 one stop) (history E 0 other stop) (alike stop low) stop
 
         -- the trace
         pub trace_same : (writing : Writing) → run_trace writing model flat rules one stop ≡ run_trace writing model flat rules other stop
@@ -181,7 +207,7 @@ module _ {K : Type 0} where
 
         left_after : (start : World K) (time : ℕ) (w : World K) → history E 0 start time ≡ On w → is_due rules w time ≡ true → world_before model flat rules start (suc time) ≡ left_by (instant model flat rules time w)
         left_after start time w on due =
-            ap world_of (next_is start time ∙ ap (after E time) on ∙ ap (λ b. if b then state_of time (instant model flat rules time w) else On w) due)
+            ap world_of (next_is E start time ∙ ap (after E time) on ∙ ap (λ b. if b then state_of time (instant model flat rules time w) else On w) due)
             ∙ world_left time (instant model flat rules time w)
 
         in_same : (time : ℕ) → time < stop → (s t : State (World K) RunFault) → history E 0 one time ≡ s → history E 0 other time ≡ t → As s ≡ As t → notes_in model flat rules time s ≡ notes_in model flat rules time t
@@ -211,7 +237,7 @@ module _ {K : Type 0} where
         in_same time low (Spent at w) (On v) is there e = absurd cc
         in_same time low (Spent at w) (Stopped to g v) is there e = refl
 
-        to_same : (time : ℕ) → time ≤ stop → notes_to model flat rules one time ≡ notes_to model flat rules other time
+        pub to_same : (time : ℕ) → time ≤ stop → notes_to model flat rules one time ≡ notes_to model flat rules other time
         unfolding notes_to
         to_same zero low = refl
         to_same (suc time) low =
@@ -224,26 +250,25 @@ module _ {K : Type 0} where
         notes_same =
             let low : stop ≤ stop = omega arith in
             let closing : closing_text flat.resolution stop one.left (history E 0 one stop) ≡ closing_text flat.resolution stop other.left (history E 0 other stop)
-            = sym (closing_as stop one.left (history E 0 one stop)) ∙ (λ i. closing_text flat.resolution stop ((start i).left) (alike stop low i)) ∙ closing_as stop other.left (history E 0 other stop) in
+            = states_close (history E 0 one stop) (history E 0 other stop) (alike stop low) flat.resolution stop one.left ∙ ap (λ (w : World K). closing_text flat.resolution stop w.left (history E 0 other stop)) start in
             λ i. plans_same one other start i ++ to_same stop low i ++ closing i
-
-      -- of a start of which more is told
-      told_bare : (more : List (List Change)) (w : World K) → world_untold (world_told more w) ≡ world_untold w
-      told_bare more w = ap (λ l. record w { clusters = l }) (bare_told more 0 w.clusters)
-
-      as_bare : (more : List (List Change)) (s : State (World K) RunFault) → As (state_as (world_told more) s) ≡ As s
-      as_bare more (On w) = ap (λ u. On u) (told_bare more w)
-      as_bare more (Stopped time fault w) = ap (λ u. Stopped time fault u) (told_bare more w)
-      as_bare more (Spent time w) = ap (λ u. Spent time u) (told_bare more w)
 
       pub told_alike : (start : World K) (more : List (List Change)) (stop : ℕ) → AreTold model flat rules start stop → (time : ℕ) → time ≤ stop
           → As (history E 0 (world_told more start) time) ≡ As (history E 0 start time)
       told_alike start more stop told time low = ap As (history_told more model flat rules start stop told time low) ∙ as_bare more (history E 0 start time)
 
+-- what is said of the boundaries below a stop is said of those below an earlier one
+module _ {K : Type 0} (model : PureTree) (flat : Flat) (rules : Rules K) (start : World K) (stop now : ℕ) (low : now ≤ stop) where
+  pub told_below : AreTold model flat rules start stop → AreTold model flat rules start now
+  told_below told time n w below on due = told time n w (omega (arith, below, low)) on due
+
+  pub answers_below : AreAnswers model flat rules start stop → AreAnswers model flat rules start now
+  answers_below answers time n w below on due = answers time n w (omega (arith, below, low)) on due
+
 pub more_writes_the_same : MoreWritesTheSame
 more_writes_the_same writing model flat rules start more stop told = record {
-  trace = trace_same model flat rules (world_told more start) start stop (told_bare model flat rules more start) (told_alike model flat rules start more stop told) writing;
-  notes = notes_same model flat rules (world_told more start) start stop (told_bare model flat rules more start) (told_alike model flat rules start more stop told);
+  trace = trace_same model flat rules (world_told more start) start stop (untold_told more start) (told_alike model flat rules start more stop told) writing;
+  notes = notes_same model flat rules (world_told more start) start stop (untold_told more start) (told_alike model flat rules start more stop told);
 }
 
 pub answers_write_one : BoundariesHaveOne → AnswersWriteOne

@@ -1,6 +1,7 @@
 //! What holds of the definitions: each function here only carries its clauses.
 
-ghost use Rattle.tdf_told.specs.Laws.{AnswersWriteOne, MoreWritesTheSame};
+ghost use Rattle.tdf_told.specs.Laws.{AnswersAgree, AnswersWriteOne, BoundariesHaveTables};
+ghost use Rattle.tdf_told.specs.Laws.{MoreWritesTheSame};
 
 use tdf_history::low::changes::law_one_answer;
 
@@ -12,6 +13,18 @@ pub fn law_told()
 /// Two starts of whose boundaries the answers are told write the same.
 pub fn law_one_text()
     ensures { AnswersWriteOne }
+{
+    law_one_answer();
+}
+
+/// Where the answers of its boundaries are told, each leads to attributes of its cluster.
+pub fn law_tables()
+    ensures { BoundariesHaveTables }
+{}
+
+/// Two starts of whose boundaries the answers are told have one history, by the model alone.
+pub fn law_agree()
+    ensures { AnswersAgree }
 {
     law_one_answer();
 }

@@ -7,4 +7,5 @@ pub use Rattle.tdf_world.proofs.Worlds.{all_refl, all_trans, firings_lead, go_on
 pub use Rattle.tdf_world.proofs.Leading.{AllBy, LeadsBy, all_itself, all_through, boundaries_by, firing_by, firings_by, instant_by, then_by, turns_by}
 pub use Rattle.tdf_events.proofs.Api.{ends_idle, none_at_start, none_pending_before, only_later_stay}
 pub use Rattle.tdf_history.proofs.Api.{get_inside, none_some, some_same}
+pub use Rattle.tdf_history.proofs.Api.{history_told}
 pub use Rattle.tdf_history.proofs.Api.{texts_next}

@@ -2,6 +2,7 @@
 pub mod base
 pub mod bind
 pub mod calendar
+pub mod changes
 pub mod convert
 pub mod dynamic
 pub mod events
@@ -13,6 +14,7 @@ pub mod flow
 pub mod graph
 pub mod history
 pub mod instants
+pub mod limits
 pub mod notes
 pub mod rows
 pub mod scope

@@ -242,10 +242,6 @@ const TEXTS: &[(&str, &str)] = &[
     ("language 1\n", "refused SYNTAX line 2\n"),
     ("language 1\n#\r\nend\n", "refused BYTE line 2\n"),
     (
-        "language 1\ntdf m\nset_attributes\ntimestep 1us\ndoes_attribute_changes\nend\nend\ntop\ninstance u m\nend\n",
-        "refused UNBUILT\n",
-    ),
-    (
         "language 2\nresolution 1ps\ntop\nend\n",
         "refused SYNTAX line 2\n",
     ),
@@ -313,10 +309,62 @@ fn wrong_other(alloc: Global) -> Result<&'static str, Memory> {
     Ok("")
 }
 
+/// Runs of models whose modules change their attributes: the words, the text, the status, the output, and the notes.
+const CHANGES: &[(&[&str], &str, u8, &str, &str)] = &[
+    // A rate that leaves a loop without enough delay: the fault ends the run at the boundary.
+    (
+        &[
+            "run", "--stop", "40us", "--format", "vcd", "--turns", "20000",
+        ],
+        "language 2\ntype t0 ufixed 8 7 rnd_inf wrap\ntype t1 fixed 16 8 rnd_zero sat_zero\ntype zw fixed 16 16\ntdf zz\nin x zw\nout y zw\nrate r 1 2 1\nset_attributes\nrate x r\nrate y r\ndelay x 1\ntimestep 2us\ndoes_attribute_changes\nend\nchange_attributes\nrate r = 2\nend\nend\ntop\nsignal zs zw\ninstance zi zz\nbind zi.x zs\nbind zi.y zs\nend\n",
+        5,
+        "$timescale 1 ps $end\n$scope module top $end\n$upscope $end\n$enddefinitions $end\n#0\n$dumpvars\n$end\n#2000000\n",
+        "cluster 1 at 0 period 0.000002 firings 1\nactor zi count 1 step 0.000002\nedge zi.x delay 1 bound 1\nstopped 0.000002 cluster 1 DEADLOCK path zi\n",
+    ),
+    // A module that asks for nothing at its first boundary, and at the second one for a new plan.
+    (
+        &[
+            "run", "--stop", "40us", "--format", "vcd", "--turns", "20000",
+        ],
+        "language 1\ntype t0 fixed 16 4 rnd\ntype t1 ufixed 12 8\ntype t2 fixed 8 3\ntype t3 fixed 8 6 rnd_conv sat\ntdf m5\nvar v6 fixed 16 4 rnd -2\nout y1 t2\nde_out o3 t2\nset_attributes\nreject_attribute_changes\ntimestep 25ns\ndelay o3 1\nend\ninitialize\nv6 = v6\nv6 = t2(-7.1875)\nend\nprocessing\ny1 = v6\ny1[0] = v6 - v6\ny1 = t1((1.5 * 2) > (v6 >= v6))\no3 = v6\nend\nend\ncomposite h8\nsignal s2 fixed 8 3\nde_signal d4 t2\ninstance u7 m5\nbind u7.y1 s2\nbind u7.o3 d4\nend\ncomposite h10\ninstance v9 h8\nend\ntype zw fixed 16 16\ntdf zz\nout y zw\nvar k zw\nset_attributes\ntimestep 2us\ndoes_attribute_changes\nend\nchange_attributes\nk = k + 1\nif k == 2\ntimestep y 2us\naccept_attribute_changes\nend\nend\nend\ntdf zr\nin x zw\nset_attributes\naccept_attribute_changes\nend\nend\ntop\ninstance v11 h10\nsignal zs zw\ninstance zi zz\nbind zi.y zs\ninstance zj zr\nbind zj.x zs\nend\ntrace v11.v9.s2 z0\ntrace v11.v9.d4 z1\ntrace v11.v9.s2 z2\n",
+        0,
+        "$timescale 1 ps $end\n$scope module top $end\n$var wire 8 ! z0 $end\n$var wire 8 \" z1 $end\n$var wire 8 # z2 $end\n$upscope $end\n$enddefinitions $end\n#0\n$dumpvars\nb00100000 !\nb00000000 \"\nb00100000 #\n$end\n#25000\nb00011010 \"\n#40000000\n",
+        "cluster 1 at 0 period 0.000000025 firings 2\nactor v11.v9.u7 count 1 step 0.000000025\nactor v11.v9.u7.o3 count 1 step 0.000000025\nedge v11.v9.u7.o3 delay 1 bound 2\ncluster 2 at 0 period 0.000002 firings 2\nactor zi count 1 step 0.000002\nactor zj count 1 step 0.000002\nedge zj.x delay 0 bound 1\ncluster 2 at 0.000004 period 0.000002 firings 2\nactor zi count 1 step 0.000002\nactor zj count 1 step 0.000002\nedge zj.x delay 0 bound 1\nend 0.00004 turns 6458\n",
+    ),
+    // Change bodies that ask for nothing new: the first plan stays.
+    (
+        &[
+            "run",
+            "--stop",
+            "7654321ps",
+            "--format",
+            "table",
+            "--turns",
+            "500",
+        ],
+        "language 1\ntype t0 fixed 24 15\ntype t1 fixed 6 1\ntype t2 fixed 20 10 rnd_zero\ntype t3 fixed 4 2 rnd_zero wrap\ntype t4 fixed 8 6 trn sat_zero\ntdf m3\nvar v5 t3 -0.1\nconst c6 t1 3.25\nvar v4 t0 1\nout y1 fixed 4 2 rnd_zero wrap\nset_attributes\ntimestep 250000ps\naccept_attribute_changes\ndoes_attribute_changes\nend\ninitialize\nend\nprocessing\ny1 = ((not c6) + (7 * c6)) * v5\n  end\nchange_attributes\nv4 = v4\nv4 = t3((v5 >> 9) - (3.5 * 3.75))\nv5 = -c6\n  end\n\tend\nde e8 # end\nevent g14\nde_out q9 t3\nevent g13\nconst c12 t2 100\nconst c11 t2 12.375\nprocess\nsensitive g13\nsensitive g14#x\nif (c12 * c11) * (c12 + c12)\nelse\nq9 = c11\nend\nnotify g14 after 2500000ps\nq9 = not t0(0.25 - c12)\nend\nend\ntop\nde_signal d10 t3\nsignal s2 t3\n\tinstance u7 m3\n  instance k15 e8\nbind u7.y1 s2\nbind k15.q9 d10\nend\n# a comment\ntrace s2 z0\ntrace s2 z1\n  trace d10 z2\ntrace s2 z3\ntrace s2 z4\n",
+        0,
+        "%time z0 z1 z2 z3 z4\n0 0 0 0 0 0\n0.00000025 0 0 0 0 0\n0.0000005 0 0 0 0 0\n0.00000075 0 0 0 0 0\n0.000001 0 0 0 0 0\n0.00000125 0 0 0 0 0\n0.0000015 0 0 0 0 0\n0.00000175 0 0 0 0 0\n0.000002 0 0 0 0 0\n0.00000225 0 0 0 0 0\n0.0000025 0 0 0 0 0\n0.00000275 0 0 0 0 0\n0.000003 0 0 0 0 0\n0.00000325 0 0 0 0 0\n0.0000035 0 0 0 0 0\n0.00000375 0 0 0 0 0\n0.000004 0 0 0 0 0\n0.00000425 0 0 0 0 0\n0.0000045 0 0 0 0 0\n0.00000475 0 0 0 0 0\n0.000005 0 0 0 0 0\n0.00000525 0 0 0 0 0\n0.0000055 0 0 0 0 0\n0.00000575 0 0 0 0 0\n0.000006 0 0 0 0 0\n0.00000625 0 0 0 0 0\n0.0000065 0 0 0 0 0\n0.00000675 0 0 0 0 0\n0.000007 0 0 0 0 0\n0.00000725 0 0 0 0 0\n0.0000075 0 0 0 0 0\n",
+        "cluster 1 at 0 period 0.00000025 firings 1\nactor u7 count 1 step 0.00000025\nend 0.000007654321 turns 69\n",
+    ),
+];
+
+/// The notes of the first run with changes that has another answer, or nothing.
+fn wrong_change(alloc: Global) -> Result<&'static str, Memory> {
+    for &(words, text, status, output, notes) in CHANGES {
+        let wanted = (status, output.as_bytes(), notes.as_bytes());
+        if !answers(alloc, words, text.as_bytes(), wanted)? {
+            return Ok(notes);
+        }
+    }
+    Ok("")
+}
+
 #[test]
 fn runs_and_refuses_by_name(rt: HostRuntime) -> Result<(), Fail> {
     assert_eq!(rt; wrong_run(rt.alloc())?, "");
     assert_eq!(rt; wrong_other(rt.alloc())?, "");
+    assert_eq!(rt; wrong_change(rt.alloc())?, "");
     assert_eq!(rt; wrong_refusal(rt.alloc())?, "");
     Ok(())
 }

@@ -11,6 +11,6 @@ returns-in-Ok-clause-read_fault g c = λ is.
 
 pub returns-in-Ok-clause-complete : goal.returns-in-Ok-clause-complete
 returns-in-Ok-clause-complete g c = λ job text o asks told short has read_well out_well notes_well.
-    inl (c.number.ensures ∙ met c.law_first_fault.ensures.one c.law_first_fault.ensures.apart c.law_one_model.ensures c.law_one_run.ensures
+    inl (c.number.ensures ∙ met c.law_one_outcome.ensures
     (texts_of c.args.words.now.items) (reading c.load-input.result) c.in-Ok.status job text o _ _ _ _ _ _ _ _
     c.load-input.ensures.input c.in-Ok.ensures.all asks told short has read_well)

@@ -1,47 +1,89 @@
-use Rattle.std.proofs.Common.{◌≡◌, ◌∙◌, Ok, Err, IfOk, OnOk, Result, ap, subst, sym}
+use Rattle.std.proofs.Common.{◌≡◌, ◌∙◌, Ok, Err, IfOk, IfErr, OnOk, OnErr, Result, ap, refl, subst, sym}
 use Rattle.tdf_linked.proofs.Api.{answers_lead}
-use Rattle.tdf_linked.specs.low.changes.Change.{asks_of}
+use Rattle.tdf_linked.specs.low.base.declared.faults.Fault.{Fault}
+use Rattle.tdf_linked.specs.low.changes.Change.{IsChangeFault, asks_of}
 use Rattle.tdf_linked.specs.low.changes.Next.{IsNext}
 use Rattle.tdf_linked.specs.low.changes.declared.next.Next.{Next}
-use Rattle.tdf_linked.specs.low.changes.declared.next.Next.TheVariants.{Same}
+use Rattle.tdf_linked.specs.low.dynamic.Faults.{IsRefusal}
 use Rattle.tdf_linked.specs.low.dynamic.declared.err.ChangeErr.{ChangeErr}
-use Rattle.tdf_linked.specs.low.exec.Crossing.{CanInstall, HasBegun, StandsAfter}
+use Rattle.tdf_linked.specs.low.dynamic.declared.err.ChangeErr.TheVariants as err
+use Rattle.tdf_linked.specs.low.exec.Crossing.{CanInstall, HasBegun, HasCrossed as HasLeft, StandsAfter}
 use Rattle.tdf_engine.proofs.crossing.begin_next.Goals as goal
 
-on_ok : {T E P Q R S : Type 0} (r : Result T E) → OnOk r P → OnOk r Q → OnOk r R → (P → Q → R → S) → OnOk r S
-on_ok (Ok x) p q s then = then p q s
-on_ok (Err e) p q s then = tt
-
-abbrev next_of : Result Next ChangeErr → Next
-next_of (Ok x) = x
-next_of (Err e) = Same
+-- a fact of the answer that there is, from four others
+if_ok : {T E : Type 0} {P U : T → Type 0} {Q R S : Type 0} (r : Result T E) → IfOk r P → OnOk r Q → OnOk r R → OnOk r S → ((x : T) → P x → Q → R → S → U x) → IfOk r U
+if_ok (Ok x) p q r s then = then x p q r s
+if_ok (Err e) p q r s then = tt
 
 -- an answer that there is, of which a fact holds
 ok_is : {T E : Type 0} (r : Result T E) (x : T) (P : T → Type 0) → r ≡ Ok x → IfOk r P → P x
 ok_is r x P is holds = subst (λ z. IfOk z P) is holds
 
-pub returns-in-Ok : goal.returns-in-Ok
-returns-in-Ok c =
-    let still = c.boundary.ensures.still c.requires.still in
-    let same : c.in-Ok.next ≡ Same = ap next_of (sym c.in-Ok.is ∙ still.0) in
+err_is : {T E : Type 0} (r : Result T E) (x : E) (P : E → Type 0) → r ≡ Err x → IfErr r P → P x
+err_is r x P is holds = subst (λ z. IfErr z P) is holds
+
+on_err : {T E : Type 0} {P Q : Type 0} (r : Result T E) → OnErr r P → (P → Q) → OnErr r Q
+on_err (Ok x) p then = tt
+on_err (Err e) p then = then p
+
+no_fault : (P : Fault → Type 0) (e : ChangeErr) → IsRefusal (λ fault. ⊥) e → IsRefusal P e
+no_fault P (err.Refused fault) none = absurd none
+no_fault P err.Memory none = tt
+
+if_err : {T : Type 0} {P Q : ChangeErr → Type 0} (r : Result T ChangeErr) → IfErr r P → ((e : ChangeErr) → P e → Q e) → IfErr r Q
+if_err (Ok x) p then = tt
+if_err (Err e) p then = then e p
+
+refusal : (P : Fault → Type 0) (e : ChangeErr) → ((fault : Fault) → e ≡ err.Refused fault → P fault) → IsRefusal P e
+refusal P (err.Refused fault) then = then fault refl
+refusal P err.Memory then = tt
+
+pub install-requires-clause-can : goal.install-requires-clause-can
+install-requires-clause-can c = ok_is c.boundary.result c.in-Ok.next (CanInstall c.args.flat.now c.boundary.new.self) c.in-Ok.is c.boundary.ensures.of
+
+pub returns-in-Ok-clause-passed : goal.returns-in-Ok-clause-passed
+returns-in-Ok-clause-passed c =
     let flat = c.args.flat.now in
     let old = c.args.cluster.now in
     let crossed = c.boundary.new.self in
-    on_ok c.install.result c.install.ensures.begun c.install.ensures.of c.install.ensures.stands (λ begun of stands. (
+    let next = c.in-Ok.next in
+    if_ok c.install.result c.install.ensures.new c.install.ensures.begun c.install.ensures.of c.install.ensures.stands (λ new new_is begun of stands. (
+      next,
+      new_is,
       crossed,
-      still.1,
       record {
         crossed_is = c.boundary.ensures.crossed;
         crosses = c.boundary.ensures.crosses;
-        can = ok_is c.boundary.result Same (CanInstall flat crossed) still.0 c.boundary.ensures.of;
-        begun = subst (λ (n : Next). HasBegun crossed n c.install.new.self) same begun;
+        can = ok_is c.boundary.result next (CanInstall flat crossed) c.in-Ok.is c.boundary.ensures.of;
+        begun = begun;
         of = of;
-        stands = subst (λ (n : Next). StandsAfter flat n crossed c.install.new.self) same stands;
+        stands = stands;
         answered = record {
           done = c.requires.over;
-          leads = λ model cells checked own. answers_lead flat.tables old.number (asks_of model flat cells) old.table crossed.table Same
-              (ok_is c.boundary.result Same (IsNext flat.tables old.number (asks_of model flat cells) old.table crossed.table) still.0 (c.boundary.ensures.next model cells checked own));
+          leads = λ model cells checked own. answers_lead flat.tables old.number (asks_of model flat cells) old.table crossed.table next
+              (ok_is c.boundary.result next (IsNext flat.tables old.number (asks_of model flat cells) old.table crossed.table) c.in-Ok.is (c.boundary.ensures.next model cells checked own));
           after = c.boundary.ensures.after;
         };
       },
     ))
+
+pub returns-in-Ok-clause-refused : goal.returns-in-Ok-clause-refused
+returns-in-Ok-clause-refused c = if_err c.install.result c.install.ensures.memory (λ e none. no_fault _ e none)
+
+pub returns-in-Ok-clause-left : goal.returns-in-Ok-clause-left
+returns-in-Ok-clause-left c = on_err c.install.result c.install.ensures.err (λ same. subst (HasLeft c.args.cluster.now) (sym same) c.boundary.ensures.crossed)
+
+pub returns-in-Err-clause-refused : goal.returns-in-Err-clause-refused
+returns-in-Err-clause-refused c =
+    let flat = c.args.flat.now in
+    let old = c.args.cluster.now in
+    refusal _ c.in-Err.refused (λ fault is. record {
+      done = c.requires.over;
+      leads = λ model cells checked own.
+          (let P = IsChangeFault flat.tables old.number (asks_of model flat cells) old.table in
+          subst (IsRefusal P) is (err_is c.boundary.result c.in-Err.refused (IsRefusal P) c.in-Err.is (c.boundary.ensures.refused model cells checked own)));
+      after = c.boundary.ensures.after;
+    })
+
+pub returns-in-Err-clause-left : goal.returns-in-Err-clause-left
+returns-in-Err-clause-left c = c.boundary.ensures.crossed

@@ -1,12 +1,13 @@
 use Rattle.std.proofs.Common.{[], arith}
 use Rattle.tdf_shown.proofs.Api.{counts_then}
-use Rattle.tdf_loop.proofs.Answering.{counts_err, on_err, then_ok}
-use Rattle.tdf_loop.proofs.WholeRun.{end_ok, head_part, left_ok, rows_part_of, whole_part, whole_text}
+use Rattle.tdf_loop.proofs.Answering.{counts_err, if_four, on_err, then_ok}
+use Rattle.tdf_loop.proofs.WholeRun.{has_ended, head_part, rows_part_of, whole_part, whole_text}
 use Rattle.tdf_loop.proofs.run.trace_run.Goals as goal
+use Rattle.tdf_shown.specs.low.history.Telling.{world_told}
 use Rattle.tdf_shown.specs.low.world.Rules.{start_world}
 
 pub returns-in-Err-clause-part : goal.returns-in-Err-clause-part
-returns-in-Err-clause-part g c = λ model m. head_part c.args.kind model c.args.flat.now c.args.firsts.items c.args.stop c.args.turns m (g.O.Sink.taken c.args.out.now) (g.O.Sink.taken c.opened.new.out) c.in-Err.ensures.wrote.part
+returns-in-Err-clause-part g c = λ model m ahead have. head_part c.law_one_answer.ensures c.args.kind model c.args.flat.now c.args.firsts.items ahead c.args.stop c.args.turns m have (g.O.Sink.taken c.args.out.now) (g.O.Sink.taken c.opened.new.out) c.in-Err.ensures.wrote.part
 
 pub closed-requires-clause-width : goal.closed-requires-clause-width
 closed-requires-clause-width g c =
@@ -17,43 +18,35 @@ closed-requires-clause-width g c =
     let l = e.shown.columns in
     omega (arith, w, l)
 
-pub returns-in-Ok-go-clause-end : goal.returns-in-Ok-go-clause-end
-returns-in-Ok-go-clause-end g c = λ model m.
-    end_ok c.args.kind model c.args.flat.now c.args.firsts.items c.args.stop c.args.turns m c.go.new.self c.in-Ok-go.ended c.closed.result
-    (c.in-Ok-go.ensures.ends.ends model (start_world model c.args.flat.now c.args.firsts.items [] c.args.turns) m (c.in-Ok.ensures.runs model m)).by c.closed.ensures.reached c.closed.ensures.spent
-
-pub returns-in-Ok-go-clause-left : goal.returns-in-Ok-go-clause-left
-returns-in-Ok-go-clause-left g c = λ model m.
-    left_ok c.args.kind model c.args.flat.now c.args.firsts.items c.args.stop c.args.turns m c.go.new.self c.in-Ok-go.ended c.closed.result
-    (c.in-Ok-go.ensures.ends.ends model (start_world model c.args.flat.now c.args.firsts.items [] c.args.turns) m (c.in-Ok.ensures.runs model m)).by c.closed.ensures.clusters c.closed.ensures.kernel c.closed.ensures.spent
+pub returns-in-Ok-go-clause-ended : goal.returns-in-Ok-go-clause-ended
+returns-in-Ok-go-clause-ended g c = λ model m.
+    (let start = start_world model c.args.flat.now c.args.firsts.items [] c.args.turns in
+    if_four c.closed.result c.closed.ensures.end c.closed.ensures.clusters c.closed.ensures.kernel c.closed.ensures.news (λ whole end clusters kernel news.
+    has_ended model c.args.flat.now c.args.firsts.items c.args.stop c.args.turns c.go.new.self c.in-Ok-go.ended (c.in-Ok-go.ensures.ends.ends model start m (c.in-Ok.ensures.runs model m)) c.law_one_answer.ensures m whole end clusters kernel news))
 
 pub returns-in-Ok-go-clause-trace : goal.returns-in-Ok-go-clause-trace
-returns-in-Ok-go-clause-trace g c = λ model m.
+returns-in-Ok-go-clause-trace g c = λ model m ahead have.
     let flat = c.args.flat.now in
     let start = start_world model flat c.args.firsts.items [] c.args.turns in
-    let run = c.in-Ok.ensures.runs model m in
-    let to = c.in-Ok-go.ensures.ends in
-    let ending = to.ends model start m run in
-    let wrote = c.closed.ensures.wrote model flat start m.is m.limits ending.shown in
+    let ending = c.in-Ok-go.ensures.ends.ends model start m (c.in-Ok.ensures.runs model m) in
+    let wrote = c.closed.ensures.wrote model flat (world_told ending.ahead start) m.is m.limits ending.shown in
     then_ok c.closed.result wrote.all (λ rest.
-    whole_text c.args.kind model flat c.args.firsts.items c.args.stop c.args.turns m c.in-Ok.run' c.in-Ok.ensures.from c.in-Ok.ensures.upto c.in-Ok.ensures.about run
-    (g.O.Sink.taken c.args.out.now) (g.O.Sink.taken c.opened.new.out) c.in-Ok.ensures.wrote.all c.go.new.self c.in-Ok-go.ended (g.O.Sink.taken c.go.new.out) to (g.O.Sink.taken c.closed.new.out) rest)
+    whole_text c.law_one_answer.ensures c.args.kind model c.args.flat.now c.args.firsts.items ahead c.args.stop c.args.turns m have c.in-Ok.run' c.in-Ok.ensures.from c.in-Ok.ensures.upto c.in-Ok.ensures.about (c.in-Ok.ensures.runs model m)
+    (g.O.Sink.taken c.args.out.now) (g.O.Sink.taken c.opened.new.out) c.in-Ok.ensures.wrote.all c.go.new.self c.in-Ok-go.ended (g.O.Sink.taken c.go.new.out) c.in-Ok-go.ensures.ends (g.O.Sink.taken c.closed.new.out) rest)
 
 pub returns-in-Ok-go-clause-part : goal.returns-in-Ok-go-clause-part
-returns-in-Ok-go-clause-part g c = λ model m.
+returns-in-Ok-go-clause-part g c = λ model m ahead have.
     let flat = c.args.flat.now in
     let start = start_world model flat c.args.firsts.items [] c.args.turns in
-    let run = c.in-Ok.ensures.runs model m in
-    let to = c.in-Ok-go.ensures.ends in
-    let ending = to.ends model start m run in
-    let wrote = c.closed.ensures.wrote model flat start m.is m.limits ending.shown in
+    let ending = c.in-Ok-go.ensures.ends.ends model start m (c.in-Ok.ensures.runs model m) in
+    let wrote = c.closed.ensures.wrote model flat (world_told ending.ahead start) m.is m.limits ending.shown in
     on_err c.closed.result wrote.part (λ rest.
-    whole_part c.args.kind model flat c.args.firsts.items c.args.stop c.args.turns m c.in-Ok.run' c.in-Ok.ensures.from c.in-Ok.ensures.upto c.in-Ok.ensures.about run
-    (g.O.Sink.taken c.args.out.now) (g.O.Sink.taken c.opened.new.out) c.in-Ok.ensures.wrote.all c.go.new.self c.in-Ok-go.ended (g.O.Sink.taken c.go.new.out) to (g.O.Sink.taken c.closed.new.out) rest)
+    whole_part c.law_one_answer.ensures c.args.kind model c.args.flat.now c.args.firsts.items ahead c.args.stop c.args.turns m have c.in-Ok.run' c.in-Ok.ensures.from c.in-Ok.ensures.upto c.in-Ok.ensures.about (c.in-Ok.ensures.runs model m)
+    (g.O.Sink.taken c.args.out.now) (g.O.Sink.taken c.opened.new.out) c.in-Ok.ensures.wrote.all c.go.new.self c.in-Ok-go.ended (g.O.Sink.taken c.go.new.out) c.in-Ok-go.ensures.ends (g.O.Sink.taken c.closed.new.out) rest)
 
 pub returns-in-Err-go-clause-part : goal.returns-in-Err-go-clause-part
-returns-in-Err-go-clause-part g c = λ model m.
-    rows_part_of c.args.kind model c.args.flat.now c.args.firsts.items c.args.stop c.args.turns m c.in-Ok.run' c.in-Ok.ensures.from c.in-Ok.ensures.upto c.in-Ok.ensures.about (c.in-Ok.ensures.runs model m)
+returns-in-Err-go-clause-part g c = λ model m ahead have.
+    rows_part_of c.law_one_answer.ensures c.args.kind model c.args.flat.now c.args.firsts.items ahead c.args.stop c.args.turns m have c.in-Ok.run' c.in-Ok.ensures.from c.in-Ok.ensures.upto c.in-Ok.ensures.about (c.in-Ok.ensures.runs model m)
     (g.O.Sink.taken c.args.out.now) (g.O.Sink.taken c.opened.new.out) c.in-Ok.ensures.wrote.all (g.O.Sink.taken c.go.new.out) c.in-Err-go.ensures.part
 
 pub returns-in-Err-go-clause-counted : goal.returns-in-Err-go-clause-counted

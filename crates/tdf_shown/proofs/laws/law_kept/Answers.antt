@@ -1,3 +1,4 @@
+use Rattle.tdf_shown.proofs.Ahead.{told_is_shown}
 use Rattle.tdf_shown.proofs.Kept.{later_is_shown, rows_may_be_written, written_is_shown}
 use Rattle.tdf_shown.proofs.laws.law_kept.Goals as goal
 
@@ -9,3 +10,6 @@ returns-clause-written c = written_is_shown
 
 pub returns-clause-later : goal.returns-clause-later
 returns-clause-later c = later_is_shown
+
+pub returns-clause-told : goal.returns-clause-told
+returns-clause-told c = told_is_shown

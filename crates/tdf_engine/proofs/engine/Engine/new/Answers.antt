@@ -21,7 +21,7 @@ returns-clause-engine c =
     let count : c.len-2.result ≡ length clusters = search rules in
     let as_many : length c.in_ok-since.since.items ≡ length clusters = search rules in
     engine_made c.args.flat.now c.args.firsts.items (c.law_limits.ensures c.requires.sound.model c.args.flat.now c.requires.sound.sound.kept c.requires.sound.sound.types c.requires.sound.is) _
-    c.in_ok-clusters.ensures since c.requires.still as_many (subst (λ k. AreLinkedUpTo t k c.in_ok-links.links.items) count c.in_ok-links.ensures)
+    c.in_ok-clusters.ensures since as_many (subst (λ k. AreLinkedUpTo t k c.in_ok-links.links.items) count c.in_ok-links.ensures)
     (subst (λ (l : List Links). AreGivenUpTo l (length l) c.in_ok-inputs.inputs.items) c.deref-2.ensures.value c.in_ok-inputs.ensures) c.in_ok-sinks.ensures.links c.in_ok-room.room.sent c.in_ok-room.room.traced
     (subst (λ (l : List ClusterOf). HaveRooms sent_size l c.in_ok-room.room.sent) c.deref.ensures.value c.in_ok-room.ensures.sent)
     (subst (λ (l : List ClusterOf). HaveRooms traced_size l c.in_ok-room.room.traced) c.deref.ensures.value c.in_ok-room.ensures.traced)

@@ -36,7 +36,7 @@ loop-ended-preserved g c =
     let on = counts_then _ _ _ tt _ c.loop-ended.invariant.counted c.in-Ok-None.ensures.counted in
     record {
       can = c.in-Ok-None.ensures.can is;
-      goes = goes_then c.args.flat.now c.args.self.now c.loop-ended.self c.turn.new.self (g.K.Sink.taken c.args.out.now) (g.K.Sink.taken c.loop-ended.out) (g.K.Sink.taken c.turn.new.out)
+      goes = goes_then c.law_one_answer.ensures c.args.flat.now c.args.self.now c.loop-ended.self c.turn.new.self (g.K.Sink.taken c.args.out.now) (g.K.Sink.taken c.loop-ended.out) (g.K.Sink.taken c.turn.new.out)
           c.loop-ended.invariant.can c.loop-ended.invariant.goes (c.in-Ok-None.ensures.goes is);
       within = c.in-Ok-None.ensures.within is;
       opened = c.in-Ok-None.ensures.«open»;
@@ -47,7 +47,7 @@ pub returns-in-Ok-Some : goal.returns-in-Ok-Some
 returns-in-Ok-Some g c =
     let on = counts_then _ _ _ tt _ c.loop-ended.invariant.counted c.in-Ok-Some.ensures.counted in
     record {
-      ends = end_then c.args.flat.now c.args.self.now c.loop-ended.self c.turn.new.self c.args.stop c.in-Ok-Some.ended (g.K.Sink.taken c.args.out.now) (g.K.Sink.taken c.loop-ended.out) (g.K.Sink.taken c.turn.new.out)
+      ends = end_then c.law_one_answer.ensures c.args.flat.now c.args.self.now c.loop-ended.self c.turn.new.self c.args.stop c.in-Ok-Some.ended (g.K.Sink.taken c.args.out.now) (g.K.Sink.taken c.loop-ended.out) (g.K.Sink.taken c.turn.new.out)
           c.loop-ended.invariant.can c.loop-ended.invariant.within c.loop-ended.invariant.goes
           (subst (λ o. IfSome o (GoesToEnd c.args.flat.now c.args.stop c.loop-ended.self c.turn.new.self (g.K.Sink.taken c.loop-ended.out) (g.K.Sink.taken c.turn.new.out))) c.in-Ok-Some.field-0-is c.in-Ok-Some.ensures.ends);
       «open» = c.in-Ok-Some.ensures.«open»;
@@ -56,7 +56,7 @@ returns-in-Ok-Some g c =
     }
 
 pub returns-in-Err-clause-part : goal.returns-in-Err-clause-part
-returns-in-Err-clause-part g c = part_then c.args.flat.now c.args.self.now c.loop-ended.self c.args.stop (g.K.Sink.taken c.args.out.now) (g.K.Sink.taken c.loop-ended.out) (g.K.Sink.taken c.turn.new.out)
+returns-in-Err-clause-part g c = part_then c.law_one_answer.ensures c.args.flat.now c.args.self.now c.loop-ended.self c.args.stop (g.K.Sink.taken c.args.out.now) (g.K.Sink.taken c.loop-ended.out) (g.K.Sink.taken c.turn.new.out)
     c.loop-ended.invariant.can c.loop-ended.invariant.within c.loop-ended.invariant.goes c.in-Err.ensures.part
 
 pub returns-in-Err-clause-counted : goal.returns-in-Err-clause-counted

@@ -1,0 +1,53 @@
+-- What an outcome of a reading is, by the reading.
+use Rattle.std.proofs.Common.{◌≡◌, ◌⊎◌, ℕ, List, Option, Some, None, refl, sym, subst, inl, inr, codes}
+use Rattle.tdf_sim.proofs.Api.{one_tree}
+use Rattle.tdf_sim.specs.low.base.declared.faults.Fault.{Fault}
+use Rattle.tdf_sim.specs.low.blocks.Refused.{SpellsText}
+use Rattle.tdf_cli.specs.Input.{Reading, BadWords, Text, TooLong, ReadFault, NoMemory}
+use Rattle.tdf_cli.specs.Outcome.{Outcome, note, refused, ran, checked, planned, stop_in, HasOutcome, usage, read_fault, too_long, faulty, too_late, has_run, is_checked, is_planned}
+use Rattle.tdf_cli.specs.declared.status.Status.TheVariants as status
+use Rattle.tdf_cli.specs.declared.words.Job.{Job}
+use Rattle.tdf_cli.specs.declared.words.Job.TheVariants.{Run, Check, Plan}
+use Rattle.tdf_sim.specs.Accepted.{IsAccepted}
+use Rattle.tdf_sim.specs.declared.sim.Sim.{Sim}
+use Rattle.tdf_sim.specs.Ends.{Change, HaveAnswers}
+use Rattle.tdf_sim.specs.FirstFault.{IsFirstFault}
+use Rattle.tdf_sim.specs.low.tokens.Rows.{rows_of}
+use Rattle.tdf_sim.specs.low.tree.Pure.{PureTree}
+use Rattle.tdf_sim.specs.low.words.declared.asked.TraceKind.{TraceKind}
+
+pub same_tree : (text : List ℕ) (one other : PureTree) → SpellsText text one → SpellsText text other → other ≡ one
+same_tree text one other s t = one_tree (rows_of text) other one t.spelled s.spelled
+
+-- of a run with a stop in counts of the resolution, if there is one
+abbrev pub OfEnd : TraceKind → (turns : ℕ) → PureTree → Sim → Option ℕ → Outcome → Type 0
+OfEnd kind turns tree sim None o = o ≡ note status.StopTooLong (codes "stop too long\n")
+OfEnd kind turns tree sim (Some end) o = (ahead : List (List Change)) × HaveAnswers tree sim.flat sim.firsts.items ahead end turns × (o ≡ ran kind tree sim ahead end turns)
+
+abbrev pub OfAccepted : Job → PureTree → Sim → Outcome → Type 0
+OfAccepted (Run stop kind turns) tree sim o = OfEnd kind turns tree sim (stop_in sim.flat.resolution stop) o
+OfAccepted Check tree sim o = o ≡ checked tree sim
+OfAccepted Plan tree sim o = o ≡ planned sim
+
+abbrev pub OfText : Job → List ℕ → Outcome → Type 0
+OfText job text o = ((fault : Fault) × IsFirstFault text fault × (o ≡ refused fault))
+    ⊎ ((tree : PureTree) × (sim : Sim) × SpellsText text tree × IsAccepted tree sim × OfAccepted job tree sim o)
+
+abbrev pub Seen : Reading → Outcome → Type 0
+Seen BadWords o = o ≡ note status.Usage (codes "usage\n")
+Seen (Text job text) o = OfText job text o
+Seen TooLong o = o ≡ note status.TooLong (codes "too long\n")
+Seen ReadFault o = o ≡ note status.ReadFault (codes "read fault\n")
+Seen NoMemory o = ⊥
+
+pub seen : {r : Reading} {o : Outcome} → HasOutcome r o → Seen r o
+seen usage = refl
+seen read_fault = refl
+seen too_long = refl
+seen (faulty {fault = fault} is) = inl (fault, is, refl)
+seen (too_late {turns = turns} {kind = kind} {tree = tree} {sim = sim} spells sound is) =
+    inr (tree, sim, spells, sound, subst (λ (end : Option ℕ). OfEnd kind turns tree sim end (note status.StopTooLong (codes "stop too long\n"))) (sym is) refl)
+seen (has_run {turns = turns} {end = end} {kind = kind} {tree = tree} {sim = sim} spells sound is ahead answers) =
+    inr (tree, sim, spells, sound, subst (λ (e : Option ℕ). OfEnd kind turns tree sim e (ran kind tree sim ahead end turns)) (sym is) (ahead, answers, refl))
+seen (is_checked {tree = tree} {sim = sim} spells sound) = inr (tree, sim, spells, sound, refl)
+seen (is_planned {tree = tree} {sim = sim} spells sound) = inr (tree, sim, spells, sound, refl)

@@ -1,5 +1,0 @@
-use Rattle.tdf_cli.proofs.Complete.{has_one_outcome}
-use Rattle.tdf_cli.proofs.command.law_one_outcome.Goals as goal
-
-pub returns : goal.returns
-returns c = has_one_outcome c.law_first_fault.ensures.one c.law_first_fault.ensures.apart c.law_one_model.ensures c.law_one_run.ensures

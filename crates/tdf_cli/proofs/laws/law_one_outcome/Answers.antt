@@ -1,0 +1,5 @@
+use Rattle.tdf_cli.proofs.Complete.{has_one_outcome}
+use Rattle.tdf_cli.proofs.laws.law_one_outcome.Goals as goal
+
+pub returns : goal.returns
+returns c = has_one_outcome c.law_first_fault.ensures.one c.law_first_fault.ensures.apart c.law_one_model.ensures c.law_one_run.ensures.models c.law_one_run.ensures.answers

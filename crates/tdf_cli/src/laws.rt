@@ -1,0 +1,14 @@
+//! What holds of the definitions.
+
+ghost use Rattle.tdf_cli.specs.Outcome.{HasOneOutcome};
+
+use tdf_sim::{law_first_fault, law_one_model, law_one_run};
+
+/// What comes of the words and of reading has at most one outcome.
+pub fn law_one_outcome()
+    ensures { HasOneOutcome }
+{
+    law_first_fault();
+    law_one_model();
+    law_one_run();
+}

@@ -1,0 +1,2 @@
+-- Definitions of tdf_notes.
+pub use Rattle.tdf_run.specs.low.notes.Plans

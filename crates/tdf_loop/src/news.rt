@@ -1,0 +1,86 @@
+//! The plans that the boundaries of an instant bring, as text.
+
+ghost use Rattle.std.specs.Prelude.{◌≡◌, ◌+◌, ◌++◌, IfOk, length, option_map, slice_get, OnOk, Some};
+ghost use Rattle.tdf_engine.specs.CrossingLaws.{rows_in};
+ghost use Rattle.tdf_loop.specs.News.{news_text, rows_note};
+ghost use Rattle.tdf_shown.specs.low.bind.Ranges.{AreInRange};
+
+use tdf_shown::low::base::Memory;
+use tdf_shown::low::exec::Cluster;
+use tdf_shown::low::flat::Flat;
+use tdf_shown::low::notes::push_plan;
+
+/// The number of the cluster at a place; more clusters do not fit in memory.
+fn number_at(place: usize) -> Result<u32, Memory>
+    ensures { IfOk result (λ number. number ≡ place + 1) }
+{
+    if place > 4_294_967_294 {
+        return Err(Memory);
+    }
+    Ok(place as u32 + 1)
+}
+
+/// Appends the plan of the cluster at a place, which begins at a time. A plan has a bound for each edge; no other is written.
+///
+/// # Errors
+/// Out of memory.
+fn push_one(
+    news: &mut Vec<u8>,
+    flat: &Flat,
+    time: u64,
+    place: usize,
+    cluster: &Cluster,
+) -> Result<(), Memory>
+    requires range { AreInRange flat.now.tables }
+    ensures { OnOk result (news.new.items
+        ≡ news.old.items ++ rows_note flat.now time (place + 1) (Some (rows_in cluster.now))) }
+{
+    let plan = cluster.plan();
+    if plan.bounds.len() != flat.tables.edges.len() {
+        return Err(Memory);
+    }
+    let number = number_at(place)?;
+    push_plan(news, &flat.tables, number, time, plan, flat.resolution)
+}
+
+/// Appends the plan of the cluster at a place, which begins at a time, if there is one.
+///
+/// # Errors
+/// Out of memory.
+fn push_at(
+    news: &mut Vec<u8>,
+    flat: &Flat,
+    time: u64,
+    clusters: &[Cluster],
+    place: usize,
+) -> Result<(), Memory>
+    requires range { AreInRange flat.now.tables }
+    ensures { OnOk result (news.new.items ≡ news.old.items ++ rows_note flat.now time (place + 1)
+        (option_map rows_in (slice_get clusters.now place))) }
+{
+    match clusters.get(place) {
+        Some(cluster) => push_one(news, flat, time, place, cluster),
+        None => Ok(()),
+    }
+}
+
+/// Appends the plans of the clusters at these places, which begin at a time.
+///
+/// # Errors
+/// Out of memory.
+pub(crate) fn push_news(
+    news: &mut Vec<u8>,
+    flat: &Flat,
+    time: u64,
+    clusters: &Vec<Cluster>,
+    planned: &Vec<usize>,
+) -> Result<(), Memory>
+    requires range { AreInRange flat.now.tables }
+    ensures { OnOk result (news.new.items
+        ≡ news.old.items ++ news_text flat.now time clusters.now.items planned.now.items) }
+{
+    for k in 0..planned.len() {
+        push_at(news, flat, time, clusters, planned[k])?;
+    }
+    Ok(())
+}

@@ -1,0 +1,2 @@
+-- Definitions of tdf_changes.
+pub use Rattle.tdf_history.specs.low.changes.Change
