@@ -1,6 +1,7 @@
 -- The lemmas that other crates may use.
 pub use Rattle.tdf_changes.proofs.Asks.{frame_few}
 pub use Rattle.tdf_changes.proofs.Begins.{begun_zeros, run_zeros}
+pub use Rattle.tdf_changes.proofs.Staying.{attributes_stay}
 pub use Rattle.tdf_changes.proofs.Steps.{steps_long}
 pub use Rattle.tdf_streams.proofs.Api.{modules_few}
 pub use Rattle.tdf_streams.proofs.Api.{delays_are_short, fault_is_one, fault_or_flat, tables_are_one}

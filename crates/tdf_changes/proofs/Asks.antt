@@ -1,11 +1,11 @@
 -- What a module asks for.
 use Rattle.std.proofs.Common.{◌≡◌, ◌∙◌, ℕ, zero, suc, ◌+◌, ◌<◌, ◌≤◌, ◌^◌, Bool, true, false, if◌then◌else◌, List, [], ◌∷◌, Option, Some, None, length, map, refl, sym, ap, subst, arith}
 use Rattle.std.proofs.lemmas.List.{length-map, length-replicate}
-use Rattle.std.specs.List.{flat_map}
 use Rattle.std.specs.Prelude.{replicate, slice_get}
 use Rattle.tdf_streams.specs.low.base.Limits.{deepest_nesting}
 use Rattle.tdf_changes.proofs.Begins.{begun_zeros, run_zeros}
 use Rattle.tdf_changes.proofs.Keeping.{AreShort, Stays, stmts_stay}
+use Rattle.tdf_changes.proofs.Staying.{change_kept, limits_at, limits_same, none_short}
 use Rattle.tdf_changes.specs.Asked.{asked, asked_in, nothing_asked, port_count}
 use Rattle.tdf_changes.specs.Given.{IsFrameOf, IsOfText}
 use Rattle.tdf_changes.specs.declared.frames.ModuleFrame.{ModuleFrame}
@@ -17,7 +17,6 @@ use Rattle.tdf_streams.specs.low.expr.Checked.{IsCheckedOf}
 use Rattle.tdf_streams.specs.low.expr.Compiled.{AreBlocksOf, IsBlockOf}
 use Rattle.tdf_streams.specs.low.expr.Frames.{ArePortsFit, FrameSeen, KeepsRead, PortsSeen, limits_of_rate}
 use Rattle.tdf_streams.specs.low.expr.Made.{AreMadeFor, event_count, port_spans_of, rate_spans_of, rates_in, spans_in}
-use Rattle.tdf_streams.specs.low.expr.Plans.{rate_span}
 use Rattle.tdf_streams.specs.low.expr.Runs.{Ran, scope_in}
 use Rattle.tdf_streams.specs.low.expr.declared.blocks.Block.{Block}
 use Rattle.tdf_streams.specs.low.expr.declared.bodies.Body.TheVariants as body
@@ -29,14 +28,13 @@ use Rattle.tdf_streams.proofs.Api.{get_inside}
 use Rattle.tdf_streams.specs.low.limits.Limits.{limits_in}
 use Rattle.tdf_streams.specs.low.meaning.Bodies.{after_body}
 use Rattle.tdf_streams.specs.low.meaning.Fits.{RatesFit}
-use Rattle.tdf_streams.specs.low.meaning.Places.{RateLimits, limits_of, rate_limits}
-use Rattle.tdf_streams.specs.low.scope.Names.{Names, Thing, RateVar, globals_of}
+use Rattle.tdf_streams.specs.low.meaning.Places.{RateLimits, rate_limits}
+use Rattle.tdf_streams.specs.low.scope.Names.{Names, globals_of}
 use Rattle.tdf_streams.specs.low.state.State.{State, state_of}
 use Rattle.tdf_streams.specs.Bodies.{after_part, done_by, nothing_read}
 use Rattle.tdf_streams.specs.Periods.{HasAllowedRates}
 use Rattle.tdf_streams.specs.Places.{block_at, block_of_row, changes_row, has_changes}
-use Rattle.tdf_streams.specs.low.tree.Kept.{Each, KeepsGlobal, KeepsStmts}
-use Rattle.tdf_streams.specs.low.tree.Pure.{GDe, GNet, GShape, GTdf, PureGlobal, PureTree}
+use Rattle.tdf_streams.specs.low.tree.Pure.{PureTree}
 use Rattle.tdf_streams.specs.low.wiring.declared.modules.ModuleRow.{ModuleRow}
 
 -- a block has few ports
@@ -66,38 +64,6 @@ compiled globals (p ∷ ps) (b ∷ bs) zero are below = record { block = p; code
 compiled globals (p ∷ ps) (b ∷ bs) (suc n) are below =
     let rest = compiled globals ps bs n are.1 (omega (arith, below)) in
     record { block = rest.block; code = rest.code; block_at = rest.block_at; code_at = rest.code_at; is = rest.is }
-
--- the statements of a change body are kept
-change_kept : (list : List PureGlobal) (n : ℕ) (p : PureBlock) → Each KeepsGlobal list → slice_get (blocks_of list) n ≡ Some p → KeepsStmts deepest_nesting (body_of p body.Change)
-change_kept [] n p kept at = absurd cc
-change_kept (GShape t ∷ list) n p kept at = change_kept list n p kept.1 at
-change_kept (GTdf block ∷ list) zero p kept at = subst (λ (o : Option PureBlock). statements o) at kept.0.change
-  where
-    statements : Option PureBlock → Type 0
-    statements None = Unit {0}
-    statements (Some b) = KeepsStmts deepest_nesting (body_of b body.Change)
-change_kept (GTdf block ∷ list) (suc n) p kept at = change_kept list n p kept.1 at
-change_kept (GDe block ∷ list) zero p kept at = subst (λ (o : Option PureBlock). statements o) at tt
-  where
-    statements : Option PureBlock → Type 0
-    statements None = Unit {0}
-    statements (Some b) = KeepsStmts deepest_nesting (body_of b body.Change)
-change_kept (GDe block ∷ list) (suc n) p kept at = change_kept list n p kept.1 at
-change_kept (GNet block ∷ list) n p kept at = change_kept list n p kept.1 at
-
-limits_same : (things : List Thing) → flat_map limits_of things ≡ map limits_of_rate (flat_map rate_span things)
-limits_same [] = refl
-limits_same (RateVar least greatest start ∷ things) = ap (λ l. record { least = least; greatest = greatest } ∷ l) (limits_same things)
-limits_same (_ ∷ things) = limits_same things
-
-limits_at : (checked : Checked) (o : Option ModuleRow) (row : ModuleRow) → o ≡ Some row → limits_in checked o ≡ map limits_of_rate (rate_spans_of checked (block_of_row o))
-limits_at checked None row is = absurd cc
-limits_at checked (Some other) row is = refl
-
-none_short : (n : ℕ) → AreShort (replicate n None)
-none_short zero j step at = absurd cc
-none_short (suc n) zero step at = absurd cc
-none_short (suc n) (suc j) step at = none_short n j step at
 
 module _ (flat : Flat) (attrs : AttrsOf) (text : IsOfText flat) (inside : attrs.number < length flat.tables.modules) (allowed : HasAllowedRates flat attrs) (old : ModuleFrame)
     (frame : IsFrameOf flat attrs old) (begun : AreBegun old.ports old.ports) where

@@ -57,7 +57,7 @@ steps_short (x ∷ steps) [] all short = all
 steps_short (x ∷ steps) (None ∷ said) all short = (all.0, steps_short steps said all.1 (λ j s at. short (suc j) s at))
 steps_short (x ∷ steps) (Some s ∷ said) all short = (short 0 s refl, steps_short steps said all.1 (λ j t at. short (suc j) t at))
 
-of_cluster : (tables : FlatOf) (cluster : ℕ) (a : AttrsOf) (q : AskedOf) → IsOfCluster tables cluster a → AreShort q.steps → IsOfCluster tables cluster (attrs_after a q)
+pub of_cluster : (tables : FlatOf) (cluster : ℕ) (a : AttrsOf) (q : AskedOf) → IsOfCluster tables cluster a → AreShort q.steps → IsOfCluster tables cluster (attrs_after a q)
 of_cluster tables cluster a q of short = record {
   is_module = of.is_module;
   inside = of.inside;

@@ -8,4 +8,5 @@ mod Keeping
 mod Once
 mod Rows
 mod Spans
+mod Staying
 pub mod Steps

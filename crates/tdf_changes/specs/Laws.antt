@@ -1,14 +1,17 @@
--- What holds of the answers of a boundary.
+-- What holds of the answers of a boundary, and of what modules ask for.
 -- Source: own.
-use Rattle.std.specs.Prelude.{◌≡◌, ℕ, List, Contains}
+use Rattle.std.specs.Prelude.{◌≡◌, ℕ, ℤ, List, Contains}
 use Rattle.tdf_streams.specs.low.base.declared.faults.Fault.{Fault}
-use Rattle.tdf_changes.specs.Change.{Asks, IsChangeFault, IsNewPlan, IsSame, table_after}
+use Rattle.tdf_changes.specs.Change.{Asks, IsChangeFault, IsNewPlan, IsSame, asks_of, table_after}
 use Rattle.tdf_streams.specs.low.dynamic.Attributes.{AttrsOf, clusters_of}
 use Rattle.tdf_streams.specs.low.dynamic.Laws.{AreSamePlans}
+use Rattle.tdf_streams.specs.low.expr.Checked.{IsCheckedOf}
 use Rattle.tdf_streams.specs.low.flat.declared.model.Flat.{Flat}
 use Rattle.tdf_streams.specs.low.limits.Limits.{AreWithinLimits}
 use Rattle.tdf_streams.specs.low.schedule.declared.entry.Plan.{Plan}
 use Rattle.tdf_streams.specs.Periods.{AreAttributes}
+use Rattle.tdf_streams.specs.low.tree.Kept.{IsKept}
+use Rattle.tdf_streams.specs.low.tree.Pure.{PureTree}
 
 -- a table of a cluster and what its modules ask for, which leads to a table of the cluster
 pub record IsBoundary (flat : Flat) (cluster : ℕ) (asks : Asks) (table : List AttrsOf)
@@ -38,3 +41,11 @@ pub record BoundariesHaveOne : Type 0 where
       → (one other : Plan) → IsBoundary flat cluster asks table
       → IsNewPlan flat.tables cluster asks table one
       → IsNewPlan flat.tables cluster asks table other → AreSamePlans one other
+
+-- whatever their variables hold, the attributes that the modules of a text ask for are of the
+-- cluster
+abbrev pub AttributesStay : Type 0
+AttributesStay = (model : PureTree) (flat : Flat) (cluster : ℕ) (table : List AttrsOf)
+    → (cells : ℕ → List ℤ) → IsKept model → IsCheckedOf model flat.checked
+    → AreAttributes flat cluster table
+    → AreAttributes flat cluster (table_after (asks_of model flat cells) table)

@@ -1,6 +1,6 @@
-//! What holds of the answers of a boundary: the function here only carries its clause.
+//! What holds of the answers of a boundary, and of what modules ask for: each function here only carries its clause.
 
-ghost use Rattle.tdf_changes.specs.Laws.{BoundariesHaveOne};
+ghost use Rattle.tdf_changes.specs.Laws.{AttributesStay, BoundariesHaveOne};
 
 use tdf_streams::low::balance::law_counts;
 use tdf_streams::low::schedule::law_plans;
@@ -12,3 +12,8 @@ pub fn law_one_answer()
     law_counts();
     law_plans();
 }
+
+/// What the modules of a text ask for leads to attributes of their cluster, whatever their variables hold.
+pub fn law_attributes()
+    ensures { AttributesStay }
+{}

@@ -5,7 +5,7 @@
 //! - `tables`: the table of attributes that comes of it, and whether it differs.
 //! - `rejecting`: whether a module rejects new steps.
 //! - `next`: what a boundary leads to.
-//! - `laws`: what holds of its answers.
+//! - `laws`: what holds of its answers, and of what modules ask for.
 //! - `low`: what the crates above use of the crates further below.
 #![tactic(auto)]
 
@@ -19,5 +19,5 @@ mod tables;
 
 pub use asking::begin;
 pub use frames::{Frames, ModuleFrame};
-pub use laws::law_one_answer;
+pub use laws::{law_attributes, law_one_answer};
 pub use next::{Next, next_plan};

@@ -44,6 +44,10 @@ pub mod names {
     pub use tdf_streams::low::names::check_names;
 }
 
+pub mod schedule {
+    pub use tdf_streams::low::schedule::Plan;
+}
+
 pub mod tree {
     pub use tdf_streams::low::tree::Tree;
 }

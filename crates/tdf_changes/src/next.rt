@@ -31,7 +31,7 @@ use std::alloc::Global;
 use tdf_streams::low::balance::law_counts;
 use tdf_streams::low::base::{Code, Fault, Place};
 use tdf_streams::low::dynamic::{
-    Attrs, ChangeErr, ModuleAttrs, Timing, clusters_of, module_path, net_of, plan_of, steps_of,
+    Attrs, ChangeErr, KnownPlans, ModuleAttrs, Timing, clusters_of, module_path, net_of, steps_of,
 };
 use tdf_streams::low::flat::Flat;
 use tdf_streams::low::graph::Net;
@@ -92,8 +92,9 @@ fn judged_by(
     table: &[ModuleAttrs],
     frames: &[ModuleFrame],
     new: &[ModuleAttrs],
-    after: &Net,
-    timing: &Timing,
+    after: Net,
+    timing: Timing,
+    known: &mut KnownPlans,
 ) -> Result<Plan, ChangeErr>
     requires wired { IsWired flat.now.tables }
     requires own { clusters.now ≡ clusters_of flat.now.tables }
@@ -101,8 +102,8 @@ fn judged_by(
     requires table { All (IsOfCluster flat.now.tables cluster) table.now }
     requires rates { AreRates flat.now.tables table.now }
     requires planned { IsPlanned flat.now.tables cluster table.now }
-    requires net { seen after.now ≡ net_of flat.now.tables new.now }
-    requires timing { HasTiming flat.now.tables (net_of flat.now.tables new.now) cluster new.now timing.now.counts.items timing.now.steps }
+    requires net { seen after ≡ net_of flat.now.tables new.now }
+    requires timing { HasTiming flat.now.tables (net_of flat.now.tables new.now) cluster new.now timing.counts.items timing.steps }
     requires tells { AllTell flat.now table.now frames.now }
     ensures plan { IfOk result (IsJudged flat.now.tables cluster table.now new.now frames.now) }
     ensures refused { IfErr result (IsRefusal (IsJudgedFault flat.now.tables cluster table.now new.now frames.now)) }
@@ -113,8 +114,8 @@ fn judged_by(
         Ok(old) => old,
         Err(refused) => return Err(refused),
     };
-    match accepted(alloc, flat, table, frames, &before, &old, after, timing) {
-        Ok(()) => plan_of(alloc, &flat.tables, after, new, timing),
+    match accepted(alloc, flat, table, frames, &before, &old, &after, &timing) {
+        Ok(()) => known.plan_of(alloc, &flat.tables, after, new, timing),
         Err(refused) => Err(refused),
     }
 }
@@ -128,6 +129,7 @@ fn judged(
     table: &[ModuleAttrs],
     frames: &[ModuleFrame],
     new: &[ModuleAttrs],
+    known: &mut KnownPlans,
 ) -> Result<Plan, ChangeErr>
     requires wired { IsWired flat.now.tables }
     requires own { clusters.now ≡ clusters_of flat.now.tables }
@@ -144,7 +146,7 @@ fn judged(
     let after = net_of(alloc, &flat.tables, new)?;
     match steps_of(alloc, &flat.tables, &after, clusters, cluster, new) {
         Ok(timing) => judged_by(
-            alloc, flat, clusters, cluster, table, frames, new, &after, &timing,
+            alloc, flat, clusters, cluster, table, frames, new, after, timing, known,
         ),
         Err(refused) => Err(refused),
     }
@@ -157,6 +159,7 @@ fn with_table(
     cluster: u32,
     table: &[ModuleAttrs],
     frames: &[ModuleFrame],
+    known: &mut KnownPlans,
 ) -> Result<Next, ChangeErr>
     requires limits { AreWithinLimits flat.now }
     requires has { Contains (clusters_of flat.now.tables) cluster }
@@ -169,8 +172,10 @@ fn with_table(
 {
     let after = table_after(alloc, flat, table, frames)?;
     let clusters = clusters_of(alloc, &flat.tables)?;
-    match judged(alloc, flat, &clusters, cluster, table, frames, &after) {
-        Ok(plan) => Ok(Next::Changed(Attrs::new(after), plan)),
+    match judged(
+        alloc, flat, &clusters, cluster, table, frames, &after, known,
+    ) {
+        Ok(plan) => Ok(Next::Changed(Attrs::new(after, known.take(alloc)), plan)),
         Err(refused) => Err(refused),
     }
 }
@@ -182,6 +187,7 @@ fn changed(
     cluster: u32,
     table: &[ModuleAttrs],
     frames: &[ModuleFrame],
+    known: &mut KnownPlans,
 ) -> Result<Next, ChangeErr>
     requires limits { AreWithinLimits flat.now }
     requires has { Contains (clusters_of flat.now.tables) cluster }
@@ -194,7 +200,7 @@ fn changed(
     ensures refused { IfErr result (IsRefusal (IsRefusedAt flat.now.tables cluster table.now frames.now)) }
 {
     match first_marked(table, frames) {
-        None => with_table(alloc, flat, cluster, table, frames),
+        None => with_table(alloc, flat, cluster, table, frames, known),
         Some(place) => Err(module_fault(alloc, flat, Code::Range, &table[place])),
     }
 }
@@ -247,5 +253,12 @@ pub fn next_plan(
         set_flags(&mut attrs.rows, &frames.modules);
         return Ok(Next::Same);
     }
-    changed(alloc, flat, cluster, &attrs.rows, &frames.modules)
+    changed(
+        alloc,
+        flat,
+        cluster,
+        &attrs.rows,
+        &frames.modules,
+        &mut attrs.known,
+    )
 }

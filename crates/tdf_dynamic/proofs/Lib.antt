@@ -4,6 +4,7 @@ pub mod Delays
 pub mod Excludes
 pub mod Fine
 pub mod Firsts
+pub mod Keeping
 pub mod Nets
 pub mod Numbers
 pub mod Periods

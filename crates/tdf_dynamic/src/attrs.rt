@@ -1,5 +1,6 @@
 //! The attributes of the modules of a cluster.
 
+use crate::known::KnownPlans;
 use std::marker::Model;
 
 /// A module, the numbers of its ports, and their attributes.
@@ -36,6 +37,8 @@ impl Model for ModuleAttrs {
 pub struct Attrs {
     /// The modules of the cluster with their attributes, in order.
     pub rows: Vec<ModuleAttrs>,
+    /// The plans of the cluster that were made last; contracts do not see them.
+    pub known: KnownPlans,
 }
 
 impl Model for Attrs {
@@ -51,11 +54,17 @@ ghost use Rattle.std.specs.Prelude.{◌≡◌, ◌<◌, length, slice_index};
 ghost use Rattle.tdf_dynamic.specs.Attributes.{table_rates, table_steps, table_accepts};
 
 impl Attrs {
-    /// The table of these modules. It takes no memory.
-    pub fn new(rows: Vec<ModuleAttrs>) -> Attrs
+    /// The table of these modules, with the plans that are known. It takes no memory.
+    pub fn new(rows: Vec<ModuleAttrs>, known: KnownPlans) -> Attrs
         ensures table { result ≡ rows.items }
     {
-        Attrs { rows }
+        Attrs { rows, known }
+    }
+
+    /// How often a plan was made for this cluster, the first one included; a number that is the greatest stays. No clause ties it
+    /// to the work that was done.
+    pub fn plannings(&self) -> u64 {
+        self.known.plannings()
     }
 
     /// The modules of the cluster with their attributes, in order.

@@ -44,8 +44,8 @@ pub fn first_plan(alloc: Global, flat: &Flat, cluster: u32) -> Result<First, Cha
         → IsOk result ⊎ (result ≡ Err Memory) }
 {
     law_one_plan();
-    let attrs = first_table(alloc, flat, cluster)?;
-    match table_plan(alloc, &flat.tables, cluster, attrs.rows()) {
+    let mut attrs = first_table(alloc, flat, cluster)?;
+    match table_plan(alloc, &flat.tables, cluster, &attrs.rows, &mut attrs.known) {
         Ok(plan) => Ok(First { attrs, plan }),
         Err(refused) => {
             drop(attrs);

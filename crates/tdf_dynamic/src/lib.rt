@@ -9,6 +9,7 @@
 //! - `faults`: how the faults of a cluster are told.
 //! - `timing`: the first phase, counts and steps.
 //! - `planning`: the second phase, the plan.
+//! - `known`: the plans that were made last.
 //! - `plans`: the plan under a table, or the first fault.
 //! - `first`: the plan as the text says it, or the first fault.
 //! - `laws`: what holds of faults and plans.
@@ -20,6 +21,7 @@ mod attrs;
 mod err;
 mod faults;
 mod first;
+mod known;
 mod laws;
 pub mod low;
 mod places;
@@ -33,8 +35,8 @@ pub use attrs::{Attrs, ModuleAttrs};
 pub use err::ChangeErr;
 pub use faults::module_path;
 pub use first::{First, first_plan};
+pub use known::KnownPlans;
 pub use laws::{law_numbers, law_one_plan, law_plannable};
-pub use planning::plan_of;
 pub use plans::clusters_of;
 pub use rates::net_of;
 pub use timing::{Timing, steps_of};

@@ -19,7 +19,7 @@ use tdf_schedule::{Plan, plan};
 ///
 /// # Errors
 /// The first fault of buffers, firings that wait for themselves, or sinks that are late; or out of memory.
-pub fn plan_of(
+pub(crate) fn plan_of(
     alloc: Global,
     tables: &FlatTables,
     net: &Net,

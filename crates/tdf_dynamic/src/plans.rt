@@ -8,7 +8,7 @@ ghost use Rattle.tdf_flat.specs.low.graph.Clusters.{AreClusters};
 
 use crate::attrs::ModuleAttrs;
 use crate::err::ChangeErr;
-use crate::planning::plan_of;
+use crate::known::KnownPlans;
 use crate::rates::net_of;
 use crate::timing::steps_of;
 use std::alloc::Global;
@@ -35,30 +35,31 @@ pub fn clusters_of(alloc: Global, tables: &FlatTables) -> Result<Vec<u32>, Memor
 fn net_plan(
     alloc: Global,
     tables: &FlatTables,
-    net: &Net,
+    net: Net,
     clusters: &[u32],
     cluster: u32,
     table: &[ModuleAttrs],
+    known: &mut KnownPlans,
 ) -> Result<Plan, ChangeErr>
     requires wired { IsWired tables.now }
     requires own { clusters.now ≡ clusters_of tables.now }
-    requires clusters { AreClusters (vec_len net.now.actors) net.now.edges.items clusters.now }
+    requires clusters { AreClusters (vec_len net.actors) net.edges.items clusters.now }
     requires has { Contains clusters.now cluster }
-    requires ports { net.now.ports.items ≡ net_ports tables.now table.now }
+    requires ports { net.ports.items ≡ net_ports tables.now table.now }
     requires table { All (IsOfCluster tables.now cluster) table.now }
-    ensures plan { IfOk result (IsNetPlan tables.now (seen net.now) cluster table.now) }
-    ensures refused { IfErr result (IsRefusal (IsNetFault tables.now (seen net.now) cluster table.now)) }
+    ensures plan { IfOk result (IsNetPlan tables.now (seen net) cluster table.now) }
+    ensures refused { IfErr result (IsRefusal (IsNetFault tables.now (seen net) cluster table.now)) }
 {
-    let timing = match steps_of(alloc, tables, net, clusters, cluster, table) {
-        Ok(timing) => timing,
-        Err(refused) => return Err(refused),
-    };
-    let found = plan_of(alloc, tables, net, table, &timing);
-    drop(timing);
-    found
+    match steps_of(alloc, tables, &net, clusters, cluster, table) {
+        Ok(timing) => known.plan_of(alloc, tables, net, table, timing),
+        Err(refused) => {
+            drop(net);
+            Err(refused)
+        }
+    }
 }
 
-/// The plan of a cluster under a table.
+/// The plan of a cluster under a table, which is then known.
 ///
 /// # Errors
 /// The first fault of the cluster under this table; or out of memory.
@@ -67,6 +68,7 @@ pub(crate) fn table_plan(
     tables: &FlatTables,
     cluster: u32,
     table: &[ModuleAttrs],
+    known: &mut KnownPlans,
 ) -> Result<Plan, ChangeErr>
     requires wired { IsWired tables.now }
     requires has { Contains (clusters_of tables.now) cluster }
@@ -77,8 +79,7 @@ pub(crate) fn table_plan(
 {
     let clusters = clusters_of(alloc, tables)?;
     let net = net_of(alloc, tables, table)?;
-    let found = net_plan(alloc, tables, &net, &clusters, cluster, table);
+    let found = net_plan(alloc, tables, net, &clusters, cluster, table, known);
     drop(clusters);
-    drop(net);
     found
 }

@@ -8,10 +8,12 @@ ghost use Rattle.tdf_flat.specs.low.expr.Checked.{IsChecked};
 ghost use Rattle.tdf_flat.specs.low.expr.Made.{block_count, start_rates};
 
 use crate::attrs::{Attrs, ModuleAttrs};
+use crate::known::KnownPlans;
 use crate::places::short;
 use std::alloc::Global;
 use tdf_flat::Flat;
 use tdf_flat::low::base::Memory;
+use tdf_flat::low::bind::Flat as FlatTables;
 use tdf_flat::low::expr::{Checked, Frame};
 use tdf_flat::low::wiring::{ModuleRow, PortRow};
 
@@ -170,7 +172,17 @@ fn table_rows(
     Ok(rows)
 }
 
-/// The table of a cluster.
+fn changes_at(tables: &FlatTables, number: u32) -> bool {
+    let place = number as usize;
+    place < tables.modules.len() && tables.modules[place].changes
+}
+
+/// Whether a module of a table has a body that changes attributes.
+fn has_changes(tables: &FlatTables, rows: &[ModuleAttrs]) -> bool {
+    rows.iter().any(|attrs| changes_at(tables, attrs.number))
+}
+
+/// The table of a cluster. Plans are kept where the table can change.
 ///
 /// # Errors
 /// Out of memory.
@@ -181,5 +193,7 @@ pub(crate) fn first_table(alloc: Global, flat: &Flat, cluster: u32) -> Result<At
     requires actors { length flat.now.tables.modules ≤ length flat.now.tables.actors }
     ensures { IfOk result (λ attrs. attrs ≡ first_table flat.now cluster) }
 {
-    Ok(Attrs::new(table_rows(alloc, flat, cluster, &flat.tables.modules)?))
+    let rows = table_rows(alloc, flat, cluster, &flat.tables.modules)?;
+    let changes = has_changes(&flat.tables, &rows);
+    Ok(Attrs::new(rows, KnownPlans::new(alloc, changes)))
 }

@@ -5,7 +5,6 @@ use Rattle.std.proofs.lemmas.Option.{slice_get_within}
 use Rattle.std.specs.List.{All}
 use Rattle.tdf_linked.specs.low.convert.Emitted.{write_of as write_to}
 use Rattle.tdf_linked.specs.low.convert.Links.{AreLinks, AreRising, HaveSignals}
-use Rattle.tdf_linked.specs.low.convert.Outputs.{OutputsOf}
 use Rattle.tdf_linked.specs.low.convert.Sampled.{PlansGoByOffset}
 use Rattle.tdf_linked.specs.low.convert.declared.links.Links.{Links}
 use Rattle.tdf_engine.proofs.Crossed.{Crosses, GivesAsMuch, all_crosses, crossed_long}

@@ -8,7 +8,7 @@ use Rattle.std.proofs.lemmas.List.Elements.{All-append, All-cons, All-head, All-
 use Rattle.std.proofs.lemmas.Option.{slice_get_past, slice_get_within}
 use Rattle.tdf_engine.proofs.ToldAt.{nothing_told, set_told, told_at, told_get, told_here, told_long}
 use Rattle.tdf_engine.specs.Crossing.{CrossingOf, EndingAt, HasCrossed, HasEnding, HasGoneOn, HasNoTurn, HasStopped, HaveCrossed, IsEndingOf, is_ending, is_new, planned_if}
-use Rattle.tdf_engine.specs.CrossingLaws.{AreToldAt, Becomes, CrossesAlong, CrossingEndsSpent, CrossingEndsStopped, CrossingGoesAlong, CrossingIsSpent, CrossingStops, HavePlansOf, IsCrossing, rows_in, world_crossed}
+use Rattle.tdf_engine.specs.CrossingLaws.{AreToldAt, Becomes, CrossesAlong, CrossingEndsSpent, CrossingEndsStopped, CrossingGoesAlong, CrossingIsSpent, CrossingStops, HavePlansOf, rows_in, world_crossed}
 use Rattle.tdf_linked.specs.low.base.declared.faults.Fault.{Fault}
 use Rattle.tdf_linked.specs.low.bind.Flat.{FlatOf}
 use Rattle.tdf_linked.specs.low.changes.Change.{asks_of}
@@ -20,13 +20,13 @@ use Rattle.tdf_linked.specs.low.exec.Crossing.{AreCellsOf, values_at}
 use Rattle.tdf_linked.specs.low.expr.Checked.{IsCheckedOf}
 use Rattle.tdf_linked.specs.low.flat.declared.model.Flat.{Flat}
 use Rattle.tdf_linked.specs.low.limits.Limits.{AreWithinLimits}
-use Rattle.tdf_linked.proofs.Api.{get_inside, none_some, some_same, true_false}
+use Rattle.tdf_linked.proofs.Api.{get_inside, some_same, true_false}
 use Rattle.tdf_linked.specs.low.history.Answers.{AreFirstAnswers, HasTurn, IsAnswer, OfClusters, OfFirst}
-use Rattle.tdf_linked.specs.low.history.Instant.{RunFault, at_begin, boundary, boundary_of, changed_by, is_over, with_cluster, with_new, with_same}
+use Rattle.tdf_linked.specs.low.history.Instant.{RunFault, at_begin, boundary, boundary_of, changed_by, is_over, with_cluster, with_same}
 use Rattle.tdf_linked.specs.low.history.Telling.{IsTold, all_told, step_as, told_more, world_told}
 use Rattle.tdf_linked.specs.low.history.Texts.{left_by, plan_of}
 use Rattle.tdf_linked.specs.low.history.World.{Change, ClusterAt, New, Refused, Rules, Same, World, next_change}
-use Rattle.tdf_linked.proofs.Api.{AllBy, boundaries_by, turns_by}
+use Rattle.tdf_linked.proofs.Api.{boundaries_by, turns_by}
 use Rattle.tdf_linked.proofs.Api.{first_answers, first_told, turns_more, turns_none, turns_past, turns_told}
 use Rattle.tdf_linked.specs.low.instants.History.{Step, Fault as Faulted, Going, Past, turns_to}
 use Rattle.tdf_linked.proofs.Api.{boundary_at, get_set_other, get_set_same, new_record, same_or_not, set_is, set_own}

@@ -9,7 +9,6 @@ use Rattle.tdf_linked.specs.low.exec.Cluster.{ClusterOf}
 use Rattle.tdf_linked.specs.low.exec.Crossing.{HasBegun, HasCrossed as HasLeft}
 use Rattle.tdf_linked.specs.low.exec.Gained.{sent_size, size_due, traced_size}
 use Rattle.tdf_linked.specs.low.exec.Made.{IsClusterOf}
-use Rattle.tdf_linked.specs.low.exec.declared.runners.Runner.{Runner}
 use Rattle.tdf_linked.specs.low.flat.declared.model.Flat.{Flat}
 use Rattle.tdf_linked.proofs.Api.{due_alike, get_set_other, like_sent, like_traced, same_or_not, set_is, sizes_alike}
 

@@ -3,7 +3,6 @@ use Rattle.std.proofs.Common.{◌≡◌, ◌≢◌, ◌⊎◌, ◌∙◌, ℕ, L
 use Rattle.std.proofs.lemmas.Option.{slice_get_within}
 use Rattle.tdf_engine.proofs.Boundaries.{have_plans}
 use Rattle.tdf_engine.specs.CrossingLaws.{HavePlansOf, rows_in}
-use Rattle.tdf_linked.specs.low.convert.declared.outputs.Sent.{Sent}
 use Rattle.tdf_linked.specs.low.flat.declared.model.Flat.{Flat}
 use Rattle.tdf_linked.specs.low.history.Texts.{plan_of}
 use Rattle.tdf_linked.specs.low.history.World.{ClusterAt, Rules, World}

@@ -12,7 +12,7 @@ use Rattle.tdf_linked.specs.low.exec.Cluster.{ClusterOf}
 use Rattle.tdf_linked.specs.low.expr.Checked.{IsCheckedOf}
 use Rattle.tdf_linked.specs.low.flat.declared.model.Flat.{Flat}
 use Rattle.tdf_linked.specs.low.history.Answers.{AreFirstAnswers, OfFirst}
-use Rattle.tdf_linked.specs.low.history.Instant.{RunFault, at_begin, boundary, is_over, with_new}
+use Rattle.tdf_linked.specs.low.history.Instant.{at_begin, boundary, is_over, with_new}
 use Rattle.tdf_linked.specs.low.history.Instant.{with_same}
 use Rattle.tdf_linked.specs.low.history.Telling.{IsTold, world_told}
 use Rattle.tdf_linked.specs.low.history.Texts.{plan_of}

@@ -18,7 +18,7 @@ use Rattle.tdf_linked.specs.low.history.World.{Change, World}
 use Rattle.tdf_linked.specs.low.instants.History.{Fault as Faulted, Going, Past, Step}
 use Rattle.tdf_linked.specs.low.limits.Limits.{AreWithinLimits}
 use Rattle.tdf_linked.specs.low.run.Firings.{settled_values}
-use Rattle.tdf_linked.specs.low.run.Pass.{AreAt, AreReady, PassesAlong, pass_at, run_of}
+use Rattle.tdf_linked.specs.low.run.Pass.{AreAt, AreReady, PassesAlong, pass_at}
 use Rattle.tdf_linked.specs.low.tree.Pure.{PureTree}
 use Rattle.tdf_linked.specs.low.world.Rules.{rules_of}
 

@@ -177,6 +177,12 @@ impl Cluster {
         &self.plan
     }
 
+    /// How often a plan was made for this cluster, the first one included; a number that is the greatest stays. A plan that was
+    /// kept is not made again. No clause ties it to the work that was done.
+    pub fn plannings(&self) -> u64 {
+        self.attrs.plannings()
+    }
+
     /// How many entries of the plan are of an actor.
     pub fn activations(&self, actor: u32) -> u64
         ensures { result ≡ turns_from self.now.entries 0 (length self.now.entries) actor }

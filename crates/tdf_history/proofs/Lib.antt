@@ -3,4 +3,5 @@ pub mod Api
 mod Idle
 mod Once
 mod Told
+mod Twice
 mod Unchanged

@@ -56,6 +56,10 @@ pub mod rows {
     pub use tdf_rows::Cell;
 }
 
+pub mod schedule {
+    pub use tdf_changes::low::schedule::Plan;
+}
+
 pub mod tree {
     pub use tdf_changes::low::tree::Tree;
 }

@@ -21,7 +21,7 @@ use Rattle.tdf_shown.specs.low.history.Telling.{AreTold, IsTold, all_told, state
 use Rattle.tdf_shown.specs.low.history.Texts.{left_by, new_plans, notes_in, notes_to}
 use Rattle.tdf_shown.specs.low.history.World.{Change, ClusterAt, Rules, World, next_change}
 use Rattle.tdf_shown.proofs.Api.{happens, reached, skipped, spent_ends}
-use Rattle.tdf_shown.specs.low.instants.History.{State, Step, Fault, Going, Past, On, Spent, Stopped, history, state_of}
+use Rattle.tdf_shown.specs.low.instants.History.{State, Step, Fault, Past, On, Spent, Stopped, history, state_of}
 use Rattle.tdf_shown.specs.low.instants.Laws.{IsNextTime, IsOn}
 use Rattle.tdf_loop.proofs.Dues.{next_is}
 use Rattle.tdf_loop.proofs.Keeping.{IsInPeriod, firings_keep}

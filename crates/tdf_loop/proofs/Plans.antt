@@ -1,13 +1,13 @@
 -- The notes of new plans, from one instant to the next.
-use Rattle.std.proofs.Common.{◌≡◌, ◌∙◌, ℕ, zero, suc, ◌+◌, ◌-◌, ◌<◌, ◌≤◌, Option, Some, None, option_map, List, [], ◌++◌, slice_get, true, false, if◌then◌else◌, refl, sym, ap, subst, arith}
+use Rattle.std.proofs.Common.{◌≡◌, ◌∙◌, ℕ, zero, suc, ◌+◌, ◌-◌, ◌<◌, ◌≤◌, Option, Some, None, option_map, List, [], ◌++◌, slice_get, if◌then◌else◌, refl, sym, ap, arith}
 use Rattle.std.proofs.lemmas.List.{append-nil}
 use Rattle.std.specs.List.{flat_map}
-use Rattle.tdf_engine.specs.CrossingLaws.{HavePlansOf, rows_in}
+use Rattle.tdf_engine.specs.CrossingLaws.{HavePlansOf}
 use Rattle.tdf_loop.specs.News.{news_text, rows_note}
 use Rattle.tdf_shown.specs.low.events.Side.{SideOf}
 use Rattle.tdf_shown.specs.low.exec.Cluster.{ClusterOf}
 use Rattle.tdf_shown.specs.low.flat.declared.model.Flat.{Flat}
-use Rattle.tdf_shown.specs.low.history.Instant.{instant, is_due}
+use Rattle.tdf_shown.specs.low.history.Instant.{instant}
 use Rattle.tdf_shown.specs.low.history.Texts.{left_by, new_plans, notes_in, notes_to, plan_note, plan_of}
 use Rattle.tdf_shown.specs.low.history.World.{ClusterAt, Rules, World}
 use Rattle.tdf_shown.specs.low.instants.History.{On, history}

@@ -14,7 +14,7 @@ use Rattle.tdf_shown.specs.low.history.Cells.{world_of}
 use Rattle.tdf_shown.specs.low.history.Instant.{RunFault, instant, is_cluster_due, is_due}
 use Rattle.tdf_shown.specs.low.history.Answers.{IsAnswer, OfAll, OfClusters}
 use Rattle.tdf_shown.specs.low.history.Telling.{IsTold, told_more, world_told}
-use Rattle.tdf_shown.specs.low.history.Texts.{new_plans, notes_in, notes_to, left_by}
+use Rattle.tdf_shown.specs.low.history.Texts.{new_plans, notes_in, left_by}
 use Rattle.tdf_shown.specs.low.history.World.{Change, ClusterAt, Rules, World, next_change}
 use Rattle.tdf_shown.proofs.Api.{skipped, true_false}
 use Rattle.tdf_shown.specs.low.instants.History.{On, State, history}

@@ -1,24 +1,14 @@
 //! The plans that the boundaries of an instant bring, as text.
 
-ghost use Rattle.std.specs.Prelude.{◌≡◌, ◌+◌, ◌++◌, IfOk, length, option_map, slice_get, OnOk, Some};
+ghost use Rattle.std.specs.Prelude.{◌≡◌, ◌+◌, ◌++◌, length, option_map, slice_get, OnOk, Some};
 ghost use Rattle.tdf_engine.specs.CrossingLaws.{rows_in};
 ghost use Rattle.tdf_loop.specs.News.{news_text, rows_note};
 ghost use Rattle.tdf_shown.specs.low.bind.Ranges.{AreInRange};
 
+use tdf_report::push_plan_at;
 use tdf_shown::low::base::Memory;
 use tdf_shown::low::exec::Cluster;
 use tdf_shown::low::flat::Flat;
-use tdf_shown::low::notes::push_plan;
-
-/// The number of the cluster at a place; more clusters do not fit in memory.
-fn number_at(place: usize) -> Result<u32, Memory>
-    ensures { IfOk result (λ number. number ≡ place + 1) }
-{
-    if place > 4_294_967_294 {
-        return Err(Memory);
-    }
-    Ok(place as u32 + 1)
-}
 
 /// Appends the plan of the cluster at a place, which begins at a time. A plan has a bound for each edge; no other is written.
 ///
@@ -39,8 +29,7 @@ fn push_one(
     if plan.bounds.len() != flat.tables.edges.len() {
         return Err(Memory);
     }
-    let number = number_at(place)?;
-    push_plan(news, &flat.tables, number, time, plan, flat.resolution)
+    push_plan_at(news, flat, time, place, plan)
 }
 
 /// Appends the plan of the cluster at a place, which begins at a time, if there is one.

@@ -13,5 +13,5 @@ mod plans;
 
 pub use ending::{End, push_closing, write_closing};
 pub use laws::law_report;
-pub use news::write_plan;
+pub use news::{push_plan_at, write_plan};
 pub use plans::write_plans;

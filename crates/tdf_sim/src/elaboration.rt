@@ -12,7 +12,7 @@ ghost use Rattle.tdf_sim.specs.Accepted.{IsAccepted, IsAcceptedText, IsTextRefus
 ghost use Rattle.tdf_sim.specs.FirstFault.{HasSoundLines, IsFirstFault, on_line};
 ghost use Rattle.tdf_loop.specs.low.dynamic.First.{IsPlannable};
 ghost use Rattle.tdf_sim.specs.PlanText.{IsPrintable};
-ghost use Rattle.tdf_sim.specs.Runs.{IsAcceptedTree};
+ghost use Rattle.tdf_sim.specs.Runs.{IsAcceptedTree, IsSomeAccepted};
 ghost use Rattle.tdf_sim.specs.declared.err.SimErr.TheVariants as why;
 ghost use Rattle.tdf_sim.specs.machine.Steps.{by_line, by_parser};
 ghost use Rattle.tdf_loop.specs.low.tree.Kept.{IsKept};
@@ -142,6 +142,7 @@ pub fn elaborate(alloc: Global, text: &[u8]) -> Result<Sim, SimErr>
     requires { length text.now ≤ longest_text }
     ensures accepted { IfOk result (IsAcceptedText text.now) }
     ensures printable { IfOk result IsPrintable }
+    ensures runs { IfOk result IsSomeAccepted }
     ensures refused { IfErr result (IsTextRefusal text.now) }
     ensures always { (fault : Fault) → IsFirstFault text.now fault
         → (result ≡ Err (why.Refused fault)) ⊎ (result ≡ Err why.Memory) }

@@ -16,8 +16,8 @@ pub mod bind {
 
 pub mod dynamic {
     pub use tdf_dynamic::{
-        Attrs, ChangeErr, First, ModuleAttrs, Timing, clusters_of, first_plan, law_numbers,
-        law_one_plan, law_plannable, module_path, net_of, plan_of, steps_of,
+        Attrs, ChangeErr, First, KnownPlans, ModuleAttrs, Timing, clusters_of, first_plan,
+        law_numbers, law_one_plan, law_plannable, module_path, net_of, steps_of,
     };
 }
 

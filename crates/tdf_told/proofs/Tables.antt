@@ -4,9 +4,7 @@ use Rattle.std.proofs.lemmas.Bool.Decides.{nat_tests}
 use Rattle.std.proofs.lemmas.Option.{slice_get-map}
 use Rattle.std.specs.List.{enumerate_from}
 use Rattle.std.specs.Prelude.{◌||◌, Contains, slice_get, slice_index_or, slice_set, unwrap_or}
-use Rattle.tdf_history.proofs.Api.{first_record, one_history, some_same}
-use Rattle.tdf_told.proofs.Staying.{attributes_stay}
-use Rattle.tdf_told.proofs.Twice.{next_is}
+use Rattle.tdf_history.proofs.Api.{attributes_stay, first_record, next_is, one_history, some_same}
 use Rattle.tdf_history.specs.Answers.{AreAnswers, AreFirstAnswers, IsAnswer, Leads, OfAll, asks_in, last_cells}
 use Rattle.tdf_history.specs.Instant.{RunFault, actor_of_entry, all_firings, at_begin, boundary, boundary_of, changed_by, engine, events_of, fired, fired_as, firing, firing_of, instant, is_due, is_entry_due, is_over, is_written, next_entry, plan_length, settled_as, signal_of, stepped, with_cluster, with_new, with_read, with_same}
 use Rattle.tdf_history.specs.Start.{first_cluster, first_world}

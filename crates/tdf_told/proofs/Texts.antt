@@ -8,8 +8,7 @@ use Rattle.tdf_history.specs.low.changes.Laws.{BoundariesHaveOne}
 use Rattle.tdf_history.specs.low.base.declared.resolution.Resolution.{Resolution}
 use Rattle.tdf_history.specs.low.dynamic.Attributes.{clusters_of}
 use Rattle.tdf_history.specs.low.flat.declared.model.Flat.{Flat}
-use Rattle.tdf_history.proofs.Api.{history_told, one_history}
-use Rattle.tdf_told.proofs.Twice.{next_is}
+use Rattle.tdf_history.proofs.Api.{history_told, next_is, one_history}
 use Rattle.tdf_history.specs.Cells.{cell_by_driver, changed_cell, driven_cell, driver_of_row, first_shown, port_cell, run_cells, signal_cell, trace_cell, value_before, world_before, world_of}
 use Rattle.tdf_history.specs.Instant.{RunFault, engine, instant, is_cluster_due, is_due}
 use Rattle.tdf_history.specs.Answers.{AreAnswers}

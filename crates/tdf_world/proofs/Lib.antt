@@ -4,5 +4,4 @@ pub mod Clusters
 pub mod Leading
 pub mod Positions
 pub mod Staying
-mod Untold
 pub mod Worlds

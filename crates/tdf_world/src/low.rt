@@ -23,3 +23,7 @@ pub mod flat {
 pub mod notes {
     pub use tdf_history::low::notes::push_plan;
 }
+
+pub mod schedule {
+    pub use tdf_history::low::schedule::Plan;
+}

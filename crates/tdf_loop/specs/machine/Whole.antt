@@ -1,7 +1,6 @@
 -- What a run leaves before its notes are written.
 -- Source: own.
 use Rattle.std.specs.Prelude.{◌≡◌, ℕ, List}
-use Rattle.tdf_engine.specs.InstantLaws.{IsModelOf}
 use Rattle.tdf_loop.specs.Runs.{IsLeft}
 use Rattle.tdf_loop.specs.declared.run.Whole.{Whole}
 use Rattle.tdf_report.specs.Ending.{HaveAnswers, run_end}

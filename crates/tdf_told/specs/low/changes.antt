@@ -1,3 +1,3 @@
 -- Definitions of tdf_changes.
+pub use Rattle.tdf_history.specs.low.changes.Asked
 pub use Rattle.tdf_history.specs.low.changes.Laws
-pub use Rattle.tdf_changes.specs.Asked

@@ -18,5 +18,5 @@ steps_of-requires-clause-ports c = ports_are c.args.flat.now.tables c.args.new.n
 pub steps_of-requires-clause-modules : goal.steps_of-requires-clause-modules
 steps_of-requires-clause-modules c = modules_few c.args.flat.now.tables c.requires.wired
 
-pub returns-clause-refused : goal.returns-clause-refused
-returns-clause-refused c = steps_refused c.args.flat.now.tables c.args.cluster c.args.table.now c.args.new.now c.args.frames.now (seen c.in_ok-after.after) c.in_ok-after.ensures.net c.in-Err.refused c.in-Err.ensures.refused
+pub returns-in-Err-clause-refused : goal.returns-in-Err-clause-refused
+returns-in-Err-clause-refused c = steps_refused c.args.flat.now.tables c.args.cluster c.args.table.now c.args.new.now c.args.frames.now (seen c.in_ok-after.after) c.in_ok-after.ensures.net c.in-Err.refused c.in-Err.ensures.refused

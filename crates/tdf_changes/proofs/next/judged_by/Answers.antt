@@ -29,26 +29,26 @@ returns-in-Err-clause-refused c =
     (seen c.in_ok-before.before) c.in_ok-before.ensures.net (IsJudgedFault c.args.flat.now.tables c.args.cluster c.args.table.now c.args.new.now c.args.frames.now) c.in-Err.refused c.in-Err.ensures.refused
 
 pub plan_of-requires-clause-actors : goal.plan_of-requires-clause-actors
-plan_of-requires-clause-actors c = counts_long c.args.flat.now.tables c.args.new.now c.args.after.now (vec_len c.args.after.now.actors) c.args.timing.now.counts.items c.requires.net
-    (let o = c.args.after.now.actors.ok in omega (arith, o)) c.requires.timing.counts_are.counts_are.long
+plan_of-requires-clause-actors c = counts_long c.args.flat.now.tables c.args.new.now c.args.after (vec_len c.args.after.actors) c.args.timing.counts.items c.requires.net
+    (let o = c.args.after.actors.ok in omega (arith, o)) c.requires.timing.counts_are.counts_are.long
 
 pub returns-in-Ok-accepted-clause-plan : goal.returns-in-Ok-accepted-clause-plan
 returns-in-Ok-accepted-clause-plan c =
-    IfOk-weaker c.plan_of.result (IsPlanOf (seen c.args.after.now) c.args.timing.now.counts.items c.args.timing.now.steps)
+    IfOk-weaker c.plan_of.result (IsPlanOf (seen c.args.after) c.args.timing.counts.items c.args.timing.steps)
     (IsJudged c.args.flat.now.tables c.args.cluster c.args.table.now c.args.new.now c.args.frames.now)
-    (is_judged c.args.flat.now.tables c.args.cluster c.args.table.now c.args.new.now c.args.frames.now c.in_ok-before.before c.args.after.now c.in_ok-before.ensures.net c.requires.net
-    c.in-Ok.old.counts.items c.args.timing.now.counts.items c.in-Ok.old.steps c.args.timing.now.steps c.in-Ok.ensures.timing c.requires.timing c.in-Ok-accepted.ensures.none) c.plan_of.ensures.plan
+    (is_judged c.args.flat.now.tables c.args.cluster c.args.table.now c.args.new.now c.args.frames.now c.in_ok-before.before c.args.after c.in_ok-before.ensures.net c.requires.net
+    c.in-Ok.old.counts.items c.args.timing.counts.items c.in-Ok.old.steps c.args.timing.steps c.in-Ok.ensures.timing c.requires.timing c.in-Ok-accepted.ensures.none) c.plan_of.ensures.plan
 
 pub returns-in-Ok-accepted-clause-refused : goal.returns-in-Ok-accepted-clause-refused
 returns-in-Ok-accepted-clause-refused c =
-    all_weaker (IsPlanFault c.args.flat.now.tables (seen c.args.after.now) c.args.new.now c.args.timing.now.counts.items c.args.timing.now.steps)
+    all_weaker (IsPlanFault c.args.flat.now.tables (seen c.args.after) c.args.new.now c.args.timing.counts.items c.args.timing.steps)
     (IsJudgedFault c.args.flat.now.tables c.args.cluster c.args.table.now c.args.new.now c.args.frames.now)
-    (plan_refused c.args.flat.now.tables c.args.cluster c.args.table.now c.args.new.now c.args.frames.now c.in_ok-before.before c.args.after.now c.in_ok-before.ensures.net c.requires.net
-    c.in-Ok.old.counts.items c.args.timing.now.counts.items c.in-Ok.old.steps c.args.timing.now.steps c.in-Ok.ensures.timing c.requires.timing c.in-Ok-accepted.ensures.none) c.plan_of.result c.plan_of.ensures.refused
+    (plan_refused c.args.flat.now.tables c.args.cluster c.args.table.now c.args.new.now c.args.frames.now c.in_ok-before.before c.args.after c.in_ok-before.ensures.net c.requires.net
+    c.in-Ok.old.counts.items c.args.timing.counts.items c.in-Ok.old.steps c.args.timing.steps c.in-Ok.ensures.timing c.requires.timing c.in-Ok-accepted.ensures.none) c.plan_of.result c.plan_of.ensures.refused
 
-pub returns-clause-refused : goal.returns-clause-refused
-returns-clause-refused c =
-    refusal_weaker (IsToldFirst (IsRefusing c.in_ok-before.before.ports.items c.args.after.now.ports.items c.in-Ok.old.steps c.args.timing.now.steps) c.args.flat.now.tables code.Rejected c.args.table.now c.args.frames.now)
+pub returns-in-Err-accepted-clause-refused : goal.returns-in-Err-accepted-clause-refused
+returns-in-Err-accepted-clause-refused c =
+    refusal_weaker (IsToldFirst (IsRefusing c.in_ok-before.before.ports.items c.args.after.ports.items c.in-Ok.old.steps c.args.timing.steps) c.args.flat.now.tables code.Rejected c.args.table.now c.args.frames.now)
     (IsJudgedFault c.args.flat.now.tables c.args.cluster c.args.table.now c.args.new.now c.args.frames.now)
-    (change_refused c.args.flat.now.tables c.args.cluster c.args.table.now c.args.new.now c.args.frames.now c.in_ok-before.before c.args.after.now c.in_ok-before.ensures.net c.requires.net
-    c.in-Ok.old.counts.items c.args.timing.now.counts.items c.in-Ok.old.steps c.args.timing.now.steps c.in-Ok.ensures.timing c.requires.timing) c.in-Err-accepted.refused c.in-Err-accepted.ensures.refused
+    (change_refused c.args.flat.now.tables c.args.cluster c.args.table.now c.args.new.now c.args.frames.now c.in_ok-before.before c.args.after c.in_ok-before.ensures.net c.requires.net
+    c.in-Ok.old.counts.items c.args.timing.counts.items c.in-Ok.old.steps c.args.timing.steps c.in-Ok.ensures.timing c.requires.timing) c.in-Err-accepted.refused c.in-Err-accepted.ensures.refused

@@ -1,10 +1,11 @@
-use Rattle.std.proofs.Common.{◌∙◌, List, length, sym}
+use Rattle.std.proofs.Common.{◌∙◌, List, length, subst, sym}
 use Rattle.std.specs.Prelude.{IfErr, IfOk, IsOk}
 use Rattle.tdf_changes.proofs.Answering.{after_attributes, all_found, all_refused, all_tell, along, have_changed, have_table, is_after, new_is, refused_is, tell}
 use Rattle.tdf_changes.proofs.Boundary.{Tell, flags_are, same_from, same_is}
 use Rattle.tdf_changes.proofs.Rows.{not_both}
 use Rattle.tdf_changes.specs.Asked.{IsQuiet}
 use Rattle.tdf_changes.specs.Change.{IsSame, asks_of, table_after}
+use Rattle.tdf_changes.specs.Next.{IsNext}
 use Rattle.tdf_changes.specs.declared.frames.ModuleFrame.{ModuleFrame}
 use Rattle.tdf_changes.specs.machine.Asking.{AllTell, told}
 use Rattle.tdf_changes.specs.machine.Boundary.{IsFound, IsRefusedAt, NoneMarks}
@@ -58,7 +59,7 @@ returns-clause-next c = λ model cells checked have.
     let found = all_found c.law_one_answer.ensures c.args.flat.now c.args.cluster c.requires.limits c.requires.has (asks_of model c.args.flat.now cells) c.args.attrs.now c.run_changes.new.frames.items tell c.requires.attributes differs c.changed.result
     (along (λ (t : List AttrsOf) (k : List ModuleFrame). IsOk c.changed.result → NoneMarks t k) c.deref-4.result.now c.args.attrs.now c.deref-5.result.now c.run_changes.new.frames.items (c.deref-4.ensures.value ∙ c.attrs.view_is) c.deref-5.ensures.value c.changed.ensures.unmarked)
     (along (λ (t : List AttrsOf) (k : List ModuleFrame). IfOk c.changed.result (IsFound c.args.flat.now.tables c.args.cluster t k)) c.deref-4.result.now c.args.attrs.now c.deref-5.result.now c.run_changes.new.frames.items (c.deref-4.ensures.value ∙ c.attrs.view_is) c.deref-5.ensures.value c.changed.ensures.found) in
-    found
+    subst (λ (t : List AttrsOf). IfOk c.changed.result (IsNext c.args.flat.now.tables c.args.cluster (asks_of model c.args.flat.now cells) c.args.attrs.now t)) (sym c.attrs.view_is) found
 
 pub returns-clause-refused : goal.returns-clause-refused
 returns-clause-refused c = λ model cells checked have.

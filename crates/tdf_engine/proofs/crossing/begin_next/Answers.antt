@@ -1,4 +1,4 @@
-use Rattle.std.proofs.Common.{◌≡◌, ◌∙◌, Ok, Err, IfOk, IfErr, OnOk, OnErr, Result, ap, refl, subst, sym}
+use Rattle.std.proofs.Common.{◌≡◌, Ok, Err, IfOk, IfErr, OnOk, OnErr, Result, refl, subst, sym}
 use Rattle.tdf_linked.proofs.Api.{answers_lead}
 use Rattle.tdf_linked.specs.low.base.declared.faults.Fault.{Fault}
 use Rattle.tdf_linked.specs.low.changes.Change.{IsChangeFault, asks_of}
@@ -7,7 +7,7 @@ use Rattle.tdf_linked.specs.low.changes.declared.next.Next.{Next}
 use Rattle.tdf_linked.specs.low.dynamic.Faults.{IsRefusal}
 use Rattle.tdf_linked.specs.low.dynamic.declared.err.ChangeErr.{ChangeErr}
 use Rattle.tdf_linked.specs.low.dynamic.declared.err.ChangeErr.TheVariants as err
-use Rattle.tdf_linked.specs.low.exec.Crossing.{CanInstall, HasBegun, HasCrossed as HasLeft, StandsAfter}
+use Rattle.tdf_linked.specs.low.exec.Crossing.{CanInstall, HasCrossed as HasLeft}
 use Rattle.tdf_engine.proofs.crossing.begin_next.Goals as goal
 
 -- a fact of the answer that there is, from four others

@@ -1,4 +1,4 @@
-use Rattle.std.proofs.Common.{[], length, subst, sym}
+use Rattle.std.proofs.Common.{length, subst, sym}
 use Rattle.tdf_engine.proofs.Acting.{can_cross}
 use Rattle.tdf_engine.specs.Crossing.{CanCross, HasNoTurn, HasStopped, HaveCrossed, crossing_of}
 use Rattle.tdf_engine.proofs.engine.Engine.cross.Goals as goal

@@ -1,15 +1,14 @@
 -- What the modules ask for leads to attributes of their cluster, whatever their variables hold.
 use Rattle.std.proofs.Common.{◌≡◌, ◌∙◌, ℕ, zero, suc, ◌+◌, ◌<◌, Bool, true, false, if◌then◌else◌, List, [], ◌∷◌, Option, Some, None, length, map, refl, sym, ap, subst, ℤ}
-use Rattle.std.proofs.lemmas.List.Elements.{All-from_recursion, All-map, recursion_from_All}
+use Rattle.std.proofs.lemmas.List.Elements.{All-map}
 use Rattle.std.proofs.lemmas.Option.{same_Some}
-use Rattle.std.specs.List.{AllByRecursion, flat_map}
+use Rattle.std.specs.List.{flat_map}
 use Rattle.std.specs.Prelude.{replicate, slice_get, slice_index_or}
-use Rattle.tdf_streams.specs.low.base.Limits.{deepest_nesting, time_end}
-use Rattle.tdf_streams.specs.low.bind.Flat.{FlatOf}
-use Rattle.tdf_changes.proofs.Api.{steps_long}
-use Rattle.tdf_told.proofs.Keeping.{AreShort, stmts_stay}
-use Rattle.tdf_changes.specs.Asked.{AskedOf, asked, asked_in, attrs_after, nothing_asked, port_count, steps_after}
-use Rattle.tdf_told.specs.Staying.{AttributesStay}
+use Rattle.tdf_streams.specs.low.base.Limits.{deepest_nesting}
+use Rattle.tdf_changes.proofs.Boundary.{of_cluster}
+use Rattle.tdf_changes.proofs.Keeping.{AreShort, stmts_stay}
+use Rattle.tdf_changes.specs.Asked.{AskedOf, asked, asked_in, attrs_after, nothing_asked, port_count}
+use Rattle.tdf_changes.specs.Laws.{AttributesStay}
 use Rattle.tdf_streams.specs.low.dynamic.Attributes.{AttrsOf, IsOfCluster}
 use Rattle.tdf_streams.specs.low.expr.Blocks.{PureBlock, blocks_of, body_of, scope_of}
 use Rattle.tdf_streams.specs.low.expr.Checked.{IsCheckedOf}
@@ -37,22 +36,6 @@ use Rattle.tdf_streams.specs.low.tree.Kept.{Each, IsKept, KeepsGlobal, KeepsStmt
 use Rattle.tdf_streams.specs.low.tree.Pure.{GDe, GNet, GShape, GTdf, PureGlobal, PureTree}
 use Rattle.tdf_streams.specs.low.wiring.declared.modules.ModuleRow.{ModuleRow}
 
--- steps that are said are as short as those before
-steps_short : (steps : List ℕ) (said : List (Option ℕ)) → AllByRecursion (λ s. s < time_end) steps → AreShort said → AllByRecursion (λ s. s < time_end) (steps_after steps said)
-steps_short [] said all short = tt
-steps_short (x ∷ steps) [] all short = all
-steps_short (x ∷ steps) (None ∷ said) all short = (all.0, steps_short steps said all.1 (λ j s at. short (suc j) s at))
-steps_short (x ∷ steps) (Some s ∷ said) all short = (short 0 s refl, steps_short steps said all.1 (λ j t at. short (suc j) t at))
-
-of_cluster : (tables : FlatOf) (cluster : ℕ) (a : AttrsOf) (q : AskedOf) → IsOfCluster tables cluster a → AreShort q.steps → IsOfCluster tables cluster (attrs_after a q)
-of_cluster tables cluster a q of short = record {
-  is_module = of.is_module;
-  inside = of.inside;
-  own = of.own;
-  each = steps_long a.steps q.steps ∙ of.each;
-  short = All-from_recursion (λ s. s < time_end) (steps_after a.steps q.steps) (steps_short a.steps q.steps (recursion_from_All (λ s. s < time_end) a.steps of.short) short);
-}
-
 -- what a module may ask for: rates within their limits, and timesteps that are short
 pub record CanAsk (flat : Flat) (attrs : AttrsOf) (q : AskedOf) : Type 0 where
   pub rates : HasAllowedRates flat (record attrs { rates = q.rates })
@@ -67,7 +50,7 @@ coded globals (q ∷ ps) (b ∷ bs) zero p are at = (b, refl, subst (λ x. IsBlo
 coded globals (q ∷ ps) (b ∷ bs) (suc n) p are at = coded globals ps bs n p are.1 at
 
 -- the statements of a change body are kept
-change_kept : (list : List PureGlobal) (n : ℕ) (p : PureBlock) → Each KeepsGlobal list → slice_get (blocks_of list) n ≡ Some p → KeepsStmts deepest_nesting (body_of p body.Change)
+pub change_kept : (list : List PureGlobal) (n : ℕ) (p : PureBlock) → Each KeepsGlobal list → slice_get (blocks_of list) n ≡ Some p → KeepsStmts deepest_nesting (body_of p body.Change)
 change_kept [] n p kept at = absurd cc
 change_kept (GShape t ∷ list) n p kept at = change_kept list n p kept.1 at
 change_kept (GTdf block ∷ list) zero p kept at = subst (λ (o : Option PureBlock). statements o) at kept.0.change
@@ -84,7 +67,7 @@ change_kept (GDe block ∷ list) zero p kept at = subst (λ (o : Option PureBloc
 change_kept (GDe block ∷ list) (suc n) p kept at = change_kept list n p kept.1 at
 change_kept (GNet block ∷ list) n p kept at = change_kept list n p kept.1 at
 
-limits_same : (things : List Thing) → flat_map limits_of things ≡ map limits_of_rate (flat_map rate_span things)
+pub limits_same : (things : List Thing) → flat_map limits_of things ≡ map limits_of_rate (flat_map rate_span things)
 limits_same [] = refl
 limits_same (RateVar least greatest start ∷ things) = ap (λ l. record { least = least; greatest = greatest } ∷ l) (limits_same things)
 limits_same (_ ∷ things) = limits_same things

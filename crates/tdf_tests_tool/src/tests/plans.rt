@@ -1,0 +1,39 @@
+//! How often a plan is made in a run.
+
+ghost use Rattle.std.specs.Prelude.{◌<◌, ◌^◌};
+
+use std::alloc::Global;
+use std::test::Fail;
+use tdf_io::SureSink;
+use tdf_sim::elaborate;
+use tdf_sim::low::words::TraceKind;
+
+/// A module whose rate goes from one to four at the first boundary, and back to one at the second.
+const TEXT: &str =
+    "language 1\ntype w fixed 16 16\ntdf vary\nout y w\nvar n w\nvar k w\nrate r 1 4 1\n\
+    set_attributes\nrate y r\ntimestep 4us\ndoes_attribute_changes\nend\nprocessing\nfor i 0 r\n\
+    y[i] = n\nn = n + 1\nend\nend\nchange_attributes\nk = k + 1\nif k == 1\nrate r = 4\nelse\n\
+    rate r = 1\nend\nend\nend\ntdf lag\nin x w\nout y w\nset_attributes\ndelay x 3\n\
+    accept_attribute_changes\nend\nprocessing\ny = x\nend\nend\ntop\nsignal s w\nsignal t w\n\
+    instance a vary\ninstance b lag\nbind a.y s\nbind b.x s\nbind b.y t\nend\ntrace s s\n";
+
+/// How often a plan was made for its cluster up to a time in picoseconds, if it ran.
+fn plannings(alloc: Global, stop: u64) -> Option<u64>
+    requires { stop < 10 ^ 18 }
+{
+    let sim = elaborate(alloc, TEXT.as_bytes()).ok()?;
+    let mut out = SureSink::new(alloc);
+    let mut notes = SureSink::new(alloc);
+    let ran = sim
+        .run(alloc, stop, 1_000, TraceKind::Table, &mut out, &mut notes)
+        .ok()?;
+    Some(ran.clusters.get(0)?.plannings())
+}
+
+#[test]
+fn known_plans_are_not_made_again(rt: HostRuntime) -> Result<(), Fail> {
+    assert!(rt; plannings(rt.alloc(), 4_000_000) == Some(1));
+    assert!(rt; plannings(rt.alloc(), 8_000_000) == Some(2));
+    assert!(rt; plannings(rt.alloc(), 12_000_000) == Some(2));
+    Ok(())
+}
