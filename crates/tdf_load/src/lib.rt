@@ -1,0 +1,12 @@
+//! The text of a model with a chain of modules, to measure with: a seed and a size say all of it.
+//!
+//! - `chain`: the numbers of a seed, the kinds of its modules, and the levels between them.
+//! - `text`: the lines of the model.
+//! - `words`: words and numbers of a line.
+#![tactic(auto)]
+
+mod chain;
+mod text;
+mod words;
+
+pub use text::load_text;
