@@ -1,18 +1,18 @@
 -- Each reading has at most one outcome, and that is met where nothing hinders.
-use Rattle.std.proofs.Common.{map, ◌≡◌, ◌⊎◌, ℕ, ◌≤◌, List, ◌++◌, Option, Some, None, refl, sym, ap, ◌∙◌, subst, inl, inr, length, length-append, append-nil, arith}
+use Rattle.std.proofs.Common.{map, ◌≡◌, ◌⊎◌, ℕ, ◌≤◌, true, false, List, ◌++◌, Option, Some, None, refl, sym, ap, ◌∙◌, subst, inl, inr, length, length-append, append-nil, arith}
 use Rattle.std.specs.Io.KnownBytes.{Consumes, IsAtEnd}
 use Rattle.tdf_sim.specs.low.base.Limits.{longest_text}
 use Rattle.tdf_sim.proofs.Api.{text_keeps}
 use Rattle.tdf_sim.specs.low.blocks.Refused.{SpellsText}
-use Rattle.tdf_cli.proofs.Seen.{OfAccepted, OfEnd, OfText, Seen, same_tree, seen}
-use Rattle.tdf_cli.specs.Input.{Reading, BadWords, Text, TooLong, ReadFault, NoMemory, InputIs}
-use Rattle.tdf_cli.specs.Outcome.{Outcome, refused, ran, accepted_text, status_of, stop_in, HasOutcome, usage, read_fault, too_long, faulty, too_late, has_run, is_checked, is_planned, WritesOutcome, HasOneOutcome}
+use Rattle.tdf_cli.proofs.Seen.{OfAccepted, OfEnd, OfLoad, OfText, Seen, line_of, same_tree, seen}
+use Rattle.tdf_cli.specs.Input.{Reading, BadWords, Text, TooLong, ReadFault, NoMemory, AskToRead, ComesFrom, InputIs, reads_text}
+use Rattle.tdf_cli.specs.Outcome.{Outcome, refused, ran, accepted_text, status_of, stop_in, HasOutcome, usage, read_fault, too_long, faulty, too_late, has_run, is_checked, is_planned, is_loaded, load_end, WritesOutcome, HasOneOutcome}
 use Rattle.tdf_cli.specs.Status.{number_of}
-use Rattle.tdf_cli.specs.Words.{job_for}
+use Rattle.tdf_sim.specs.low.words.Words.{taken_of}
 use Rattle.tdf_cli.specs.declared.status.Status.{Status}
 use Rattle.tdf_cli.specs.declared.status.Status.TheVariants as status
-use Rattle.tdf_cli.specs.declared.words.Job.{Job}
-use Rattle.tdf_cli.specs.declared.words.Job.TheVariants.{Run, Check, Plan}
+use Rattle.tdf_sim.specs.low.words.declared.asked.Settings.{Settings}
+use Rattle.tdf_sim.specs.low.words.declared.asked.Settings.TheVariants.{Run, Check, Plan, Load}
 use Rattle.tdf_sim.specs.low.bind.Flat.{FlatOf}
 use Rattle.tdf_sim.specs.low.in_out.Faults.{FaultsRose}
 use Rattle.tdf_sim.specs.low.notes.Plans.{PlanRows, accepted_line}
@@ -24,11 +24,14 @@ use Rattle.tdf_sim.specs.declared.sim.Sim.{Sim}
 use Rattle.tdf_sim.specs.FirstFault.{IsFirstFault, cluster_count}
 use Rattle.tdf_sim.specs.Laws.{AnswersRunAlike, FaultsAreOne, FaultOrAccepted, ModelsAreAlike, AreAlike, RunsAreAlike, RunAlike}
 use Rattle.tdf_sim.specs.PlanText.{clusters_text, plan_rows, plans_text}
-use Rattle.tdf_sim.specs.Ends.{Change, End, run_end}
+use Rattle.tdf_load.specs.Text.{load_text}
+use Rattle.tdf_sim.specs.Ends.{Change, End, run_end, trace_of}
 use Rattle.tdf_sim.specs.Ends as ending
 use Rattle.tdf_sim.specs.low.tree.Kept.{IsKept}
 use Rattle.tdf_sim.specs.low.tree.Pure.{PureTree}
+use Rattle.tdf_sim.specs.low.words.Jobs.{usual_turns}
 use Rattle.tdf_sim.specs.low.words.declared.asked.TraceKind.{TraceKind}
+use Rattle.tdf_sim.specs.low.words.declared.asked.TraceKind.TheVariants.{Table}
 
 -- two runs that are alike have one outcome
 same_ran : (kind : TraceKind) (tree : PureTree) (a b : Sim) (ahead others : List (List Change)) (end turns : ℕ) → RunAlike tree a b ahead others kind end turns
@@ -48,6 +51,22 @@ module _ (runs : RunsAreAlike) (told : AnswersRunAlike) (kind : TraceKind) (turn
   same_run : (stop : ℕ) → a.flat.resolution ≡ b.flat.resolution → OfAccepted (Run stop kind turns) tree a one → OfAccepted (Run stop kind turns) tree b other → one ≡ other
   same_run stop unit s t = same_end (stop_in b.flat.resolution stop) (subst (λ (u : Resolution). OfEnd kind turns tree a (stop_in u stop) one) unit s) t
 
+-- and the line on a run that is only measured
+same_line : (size : ℕ) (tree : PureTree) (a b : Sim) (ahead others : List (List Change)) (end : ℕ) → RunAlike tree a b ahead others Table end usual_turns
+    → line_of size (run_end tree a.flat a.firsts.items ahead end usual_turns) (trace_of Table tree a.flat a.firsts.items ahead end usual_turns)
+    ≡ line_of size (run_end tree b.flat b.firsts.items others end usual_turns) (trace_of Table tree b.flat b.firsts.items others end usual_turns)
+same_line size tree a b ahead others end alike = λ i. line_of size (alike.end i) (alike.trace i)
+
+module _ (runs : RunsAreAlike) (told : AnswersRunAlike) (size : ℕ) (tree : PureTree) (a b : Sim) (kept : IsKept tree) (one_is : IsAccepted tree a) (other_is : IsAccepted tree b) (one other : Outcome) where
+  same_measured : (end : ℕ) → OfLoad size tree a end one → OfLoad size tree b end other → one ≡ other
+  same_measured end s t =
+      let both = runs tree a b kept one_is other_is s.0 Table end usual_turns in
+      s.2 ∙ same_line size tree a b s.0 s.0 end both.alike
+      ∙ same_line size tree b b s.0 t.0 end (told tree b kept other_is s.0 t.0 Table end usual_turns (both.answers s.1) t.1) ∙ sym t.2
+
+  same_load : a.flat.resolution ≡ b.flat.resolution → OfLoad size tree a (load_end a.flat.resolution) one → OfLoad size tree b (load_end b.flat.resolution) other → one ≡ other
+  same_load unit s t = same_measured (load_end b.flat.resolution) (subst (λ (u : Resolution). OfLoad size tree a (load_end u) one) unit s) t
+
 same_note : (a b : Sim) → AreAlike a b → accepted_text a ≡ accepted_text b
 same_note a b alike = ap (λ (tables : FlatOf). accepted_line (cluster_count tables)) alike.tables
 
@@ -60,13 +79,14 @@ same_plans a b alike =
 written : List ℕ → List ℕ → Outcome
 written out notes = record { status = status.Done; out = out; notes = notes }
 
-same_accepted : RunsAreAlike → AnswersRunAlike → (job : Job) (tree : PureTree) (a b : Sim) (one other : Outcome) → IsKept tree → IsAccepted tree a → IsAccepted tree b → AreAlike a b
+same_accepted : RunsAreAlike → AnswersRunAlike → (job : Settings) (tree : PureTree) (a b : Sim) (one other : Outcome) → IsKept tree → IsAccepted tree a → IsAccepted tree b → AreAlike a b
     → OfAccepted job tree a one → OfAccepted job tree b other → one ≡ other
 unfolding written
 same_accepted runs told (Run stop kind turns) tree a b one other kept one_is other_is alike s t = same_run runs told kind turns tree a b kept one_is other_is one other stop alike.unit s t
 same_accepted runs told Check tree a b one other kept one_is other_is alike s t = s ∙ ap (λ notes. written (canon tree) notes) (same_note a b alike) ∙ sym t
 same_accepted runs told Plan tree a b one other kept one_is other_is alike s t =
     s ∙ ap (λ notes. written (plans_text a) notes) (same_note a b alike) ∙ ap (λ out. written out (accepted_text b)) (same_plans a b alike) ∙ sym t
+same_accepted runs told (Load seed size) tree a b one other kept one_is other_is alike s t = same_load runs told size tree a b kept one_is other_is one other alike.unit s t
 
 -- only a failed read is answered as one
 ended_otherwise : (how : End) → ¬ (number_of (status_of how) ≡ number_of status.ReadFault)
@@ -84,6 +104,8 @@ read_failed (has_run {turns = turns} {end = end} {tree = tree} {sim = sim} spell
     absurd (ended_otherwise (run_end tree sim.flat sim.firsts.items ahead end turns) is)
 read_failed (is_checked spells sound) is = absurd cc
 read_failed (is_planned spells sound) is = absurd cc
+read_failed (is_loaded {tree = tree} {sim = sim} spells sound ahead answers) is =
+    absurd (ended_otherwise (run_end tree sim.flat sim.firsts.items ahead (load_end sim.flat.resolution) usual_turns) is)
 
 pub read_fault_rose : (words : List (List ℕ)) (r : Reading) (s : Status) (old new a b c d : Option (List ℕ)) (before now : ℕ) → InputIs words r old new before now
     → WritesOutcome r s a b c d → number_of s ≡ number_of status.ReadFault → FaultsRose before now
@@ -92,7 +114,10 @@ read_fault_rose words r s old new a b c d before now is wrote answered =
     let input : InputIs words ReadFault old new before now = subst (λ (x : Reading). InputIs words x old new before now) failed is in
     input.2
 
-some_job : (one other : Job) (o : Option Job) → o ≡ Some one → o ≡ Some other → one ≡ other
+some_none : (one : Settings) (o : Option Settings) → o ≡ Some one → o ≡ None → ⊥
+some_none one o s t = absurd cc
+
+some_job : (one other : Settings) (o : Option Settings) → o ≡ Some one → o ≡ Some other → one ≡ other
 some_job one other o s t = cc
 
 module _ (once : FaultsAreOne) (apart : FaultOrAccepted) (models : ModelsAreAlike) (runs : RunsAreAlike) (told : AnswersRunAlike) where
@@ -100,7 +125,7 @@ module _ (once : FaultsAreOne) (apart : FaultOrAccepted) (models : ModelsAreAlik
   not_both : (text : List ℕ) (fault : Fault) (tree : PureTree) (sim : Sim) → IsFirstFault text fault → SpellsText text tree → IsAccepted tree sim → ⊥
   not_both text fault tree sim is spells accepted = apart text fault sim is (record { tree = tree; spelled = spells; accepted = accepted })
 
-  same_text : (job : Job) (text : List ℕ) (one other : Outcome) → OfText job text one → OfText job text other → one ≡ other
+  same_text : (job : Settings) (text : List ℕ) (one other : Outcome) → OfText job text one → OfText job text other → one ≡ other
   same_text job text one other (inl s) (inl t) = s.2 ∙ ap refused (once text s.0 t.0 s.1 t.1) ∙ sym t.2
   same_text job text one other (inl s) (inr t) = absurd (not_both text s.0 t.0 t.1 s.1 t.2 t.3)
   same_text job text one other (inr s) (inl t) = absurd (not_both text t.0 s.0 s.1 t.1 s.2 s.3)
@@ -138,20 +163,45 @@ few_read text given (Some left) (Some rest) told gave =
     let whole : text ≡ given ++ rest = sym is ∙ gave in
     omega (arith, ap length whole, length-append given rest)
 
--- what came of the words and of reading, where they are accepted and no read failed: what the words ask, and the text
-pub input_text : (words : List (List ℕ)) (r : Reading) (job : Job) (text : List ℕ) (old new : Option (List ℕ)) (before now : ℕ)
-    → InputIs words r old new before now → job_for words ≡ Some job → old ≡ Some text → length text ≤ longest_text → ¬ FaultsRose before now
+-- a job that reads its text has read it
+has_read : (job : Settings) (text : List ℕ) (old new : Option (List ℕ)) → reads_text job ≡ true → ComesFrom job text old new → Consumes old new text × IsAtEnd new
+has_read (Run stop kind turns) text old new reads comes = comes
+has_read Check text old new reads comes = comes
+has_read Plan text old new reads comes = comes
+has_read (Load seed size) text old new reads comes = absurd cc
+
+-- what came of the words and of reading, where they ask for a job that reads and no read failed: what the words ask, and the text
+pub input_text : (words : List (List ℕ)) (r : Reading) (job : Settings) (text : List ℕ) (old new : Option (List ℕ)) (before now : ℕ)
+    → InputIs words r old new before now → taken_of words ≡ Some job → reads_text job ≡ true → old ≡ Some text → length text ≤ longest_text → ¬ FaultsRose before now
     → (r ≡ Text job text) ⊎ (r ≡ NoMemory)
-input_text words BadWords job text old new before now is asks told short well = absurd cc
-input_text words (Text own given) job text old new before now is asks told short well =
-    inl (ap (λ x. Text x given) (some_job own job (job_for words) is.0 asks) ∙ ap (Text job) (all_read text given old new told is.2 is.3))
-input_text words TooLong job text old new before now is asks told short well =
+input_text words BadWords job text old new before now is asks reads told short well = absurd (some_none job (taken_of words) asks is.0)
+input_text words (Text own given) job text old new before now is asks reads told short well =
+    let same = some_job own job (taken_of words) is.0 asks in
+    let read = has_read job given old new reads (subst (λ (x : Settings). ComesFrom x given old new) same is.2) in
+    inl (ap (λ x. Text x given) same ∙ ap (Text job) (all_read text given old new told read.0 read.1))
+input_text words TooLong job text old new before now is asks reads told short well =
     absurd (omega (arith, few_read text is.1.bytes old new told is.1.gave, is.1.many))
-input_text words ReadFault job text old new before now is asks told short well = absurd (well is.2)
-input_text words NoMemory job text old new before now is asks told short well = inr refl
+input_text words ReadFault job text old new before now is asks reads told short well = absurd (well is.2)
+input_text words NoMemory job text old new before now is asks reads told short well = inr refl
+
+-- `load` asks for no job that reads
+none_read : (words : List (List ℕ)) (seed size : ℕ) → taken_of words ≡ Some (Load seed size) → AskToRead words → ⊥
+none_read words seed size asks ask =
+    let unread : false ≡ true = ap reads_text (some_job (Load seed size) ask.job (taken_of words) asks ask.asked) ∙ ask.reads in absurd cc
+
+-- the same where they ask for `load`: its text
+input_load : (words : List (List ℕ)) (r : Reading) (seed size : ℕ) (old new : Option (List ℕ)) (before now : ℕ) → InputIs words r old new before now
+    → taken_of words ≡ Some (Load seed size) → (r ≡ Text (Load seed size) (load_text seed size)) ⊎ (r ≡ NoMemory)
+input_load words BadWords seed size old new before now is asks = absurd (some_none (Load seed size) (taken_of words) asks is.0)
+input_load words (Text own given) seed size old new before now is asks =
+    let same = some_job own (Load seed size) (taken_of words) is.0 asks in
+    inl (ap (λ x. Text x given) same ∙ ap (Text (Load seed size)) (subst (λ (x : Settings). ComesFrom x given old new) same is.2).0)
+input_load words TooLong seed size old new before now is asks = absurd (none_read words seed size asks is.0)
+input_load words ReadFault seed size old new before now is asks = absurd (none_read words seed size asks is.0)
+input_load words NoMemory seed size old new before now is asks = inr refl
 
 module _ (law : HasOneOutcome) where
-  met_other : (words : List (List ℕ)) (r : Reading) (s : Status) (job : Job) (text : List ℕ) (o : Outcome) (a b c d : Option (List ℕ))
+  met_other : (words : List (List ℕ)) (r : Reading) (s : Status) (job : Settings) (text : List ℕ) (o : Outcome) (a b c d : Option (List ℕ))
       → WritesOutcome r s a b c d → HasOutcome (Text job text) o → (r ≡ Text job text) ⊎ (r ≡ NoMemory) → number_of s ≡ number_of o.status
   met_other words r s job text o a b c d wrote has (inl is) =
       let own : HasOutcome (Text job text) wrote.outcome = subst (λ (x : Reading). HasOutcome x wrote.outcome) is wrote.has in
@@ -159,8 +209,14 @@ module _ (law : HasOneOutcome) where
   met_other words r s job text o a b c d wrote has (inr is) =
       absurd (seen (subst (λ (x : Reading). HasOutcome x wrote.outcome) is wrote.has))
 
-  pub met : (words : List (List ℕ)) (r : Reading) (s : Status) (job : Job) (text : List ℕ) (o : Outcome) (old new a b c d : Option (List ℕ)) (before now : ℕ)
-      → InputIs words r old new before now → WritesOutcome r s a b c d → job_for words ≡ Some job → old ≡ Some text → length text ≤ longest_text
+  pub met : (words : List (List ℕ)) (r : Reading) (s : Status) (job : Settings) (text : List ℕ) (o : Outcome) (old new a b c d : Option (List ℕ)) (before now : ℕ)
+      → InputIs words r old new before now → WritesOutcome r s a b c d → taken_of words ≡ Some job → reads_text job ≡ true → old ≡ Some text → length text ≤ longest_text
       → HasOutcome (Text job text) o → ¬ FaultsRose before now → number_of s ≡ number_of o.status
-  met words r s job text o old new a b c d before now is wrote asks told short has well =
-      met_other words r s job text o a b c d wrote has (input_text words r job text old new before now is asks told short well)
+  met words r s job text o old new a b c d before now is wrote asks reads told short has well =
+      met_other words r s job text o a b c d wrote has (input_text words r job text old new before now is asks reads told short well)
+
+  pub met_load : (words : List (List ℕ)) (r : Reading) (s : Status) (seed size : ℕ) (o : Outcome) (old new a b c d : Option (List ℕ)) (before now : ℕ)
+      → InputIs words r old new before now → WritesOutcome r s a b c d → taken_of words ≡ Some (Load seed size)
+      → HasOutcome (Text (Load seed size) (load_text seed size)) o → number_of s ≡ number_of o.status
+  met_load words r s seed size o old new a b c d before now is wrote asks has =
+      met_other words r s (Load seed size) (load_text seed size) o a b c d wrote has (input_load words r seed size old new before now is asks)

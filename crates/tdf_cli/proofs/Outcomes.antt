@@ -1,18 +1,20 @@
 -- How what the steps wrote makes an outcome.
 use Rattle.std.proofs.Common.{◌≡◌, ℕ, List, [], Option, Some, Result, Ok, Err, IfOk, OnOk, OnErr, inl, inr, sym, ap, ◌∙◌, subst, append_assoc, append-nil}
 use Rattle.std.specs.Io.KnownBytes.{Appends}
+use Rattle.std.specs.Prelude.{string_bytes}
 use Rattle.std.proofs.KnownBytes.{Appends-nil}
 use Rattle.tdf_sim.specs.low.blocks.Refused.{SpellsText}
 use Rattle.tdf_cli.specs.Input.{Reading, BadWords, Text, TooLong, ReadFault, NoMemory}
 use Rattle.tdf_cli.proofs.Seen.{OfAccepted, OfEnd, OfText, same_tree, seen}
-use Rattle.tdf_cli.specs.Outcome.{Outcome, note, ran, status_of, stop_in, HasOneOutcome, HasOutcome, usage, read_fault, too_long, faulty, too_late, has_run, is_checked, is_planned, WritesOutcome, WritesFrontOf, WritesNothingOrFront}
+use Rattle.tdf_cli.specs.Outcome.{Outcome, note, ran, status_of, stop_in, HasOneOutcome, HasOutcome, usage, read_fault, too_long, faulty, too_late, has_run, is_checked, is_planned, is_loaded, load_end, load_line, loaded, turns_taken, WritesOutcome, WritesFrontOf, WritesNothingOrFront}
 use Rattle.tdf_sim.specs.Accepted.{IsAccepted}
 use Rattle.tdf_sim.specs.declared.sim.Sim.{Sim}
 use Rattle.tdf_cli.specs.declared.status.Status.{Status}
 use Rattle.tdf_cli.specs.declared.status.Status.TheVariants.{Done}
 use Rattle.tdf_cli.specs.declared.jobs.Texts.{Texts}
-use Rattle.tdf_cli.specs.declared.words.Job.TheVariants.{Run, Check, Plan}
-use Rattle.tdf_cli.specs.machine.Texts.{IsCheckText, IsPlanText}
+use Rattle.tdf_sim.specs.low.words.declared.asked.Settings.TheVariants.{Run, Check, Plan, Load}
+use Rattle.tdf_cli.specs.declared.measure.Measurement.{Measurement}
+use Rattle.tdf_cli.specs.machine.Texts.{IsCheckText, IsMeasured, IsPlanText}
 use Rattle.tdf_print.specs.Canon.{canon}
 use Rattle.tdf_sim.specs.PlanText.{plans_text}
 use Rattle.tdf_sim.specs.Laws.{FaultOrAccepted, ModelsAreAlike, RunsAreAlike}
@@ -22,7 +24,10 @@ use Rattle.tdf_sim.specs.low.in_out.declared.writing.SinkErr.{SinkErr}
 use Rattle.tdf_sim.specs.Ends.{Change, End, HaveAnswers, run_end, run_note, trace_of}
 use Rattle.tdf_sim.specs.low.base.declared.resolution.Resolution.{Resolution}
 use Rattle.tdf_sim.specs.low.tree.Pure.{PureTree}
+use Rattle.tdf_sim.specs.low.base.declared.memory.Memory.{Memory}
+use Rattle.tdf_sim.specs.low.words.Jobs.{usual_turns}
 use Rattle.tdf_sim.specs.low.words.declared.asked.TraceKind.{TraceKind}
+use Rattle.tdf_sim.specs.low.words.declared.asked.TraceKind.TheVariants.{Table}
 
 -- being out of memory while the text is read has no outcome
 abbrev HasSome : Reading → Type 0
@@ -38,6 +43,7 @@ has_some (too_late spells sound is) = tt
 has_some (has_run spells sound is ahead answers) = tt
 has_some (is_checked spells sound) = tt
 has_some (is_planned spells sound) = tt
+has_some (is_loaded spells sound ahead answers) = tt
 
 front_of : (r : Reading) (a b c d : Option (List ℕ)) → HasSome r → WritesFrontOf r a b c d → WritesNothingOrFront r a b c d
 front_of BadWords a b c d some w = inr w
@@ -170,3 +176,34 @@ module _ (result : Result Status SinkErr) (text : List ℕ) (tree : PureTree) (s
   pub plan_part : HasOneOutcome → IsPlanText sim texts → OnErr result (AppendsFront a b texts.output.items) → OnErr result (AppendsFront c d texts.note.items)
       → OnErr result (WritesNothingOrFront (Text Plan text) a b c d)
   plan_part law is = texts_part law result (Text Plan text) texts.output.items texts.note.items a b c d (plans is)
+
+-- what is told of the run of `load`
+pub measured_is : (size : ℕ) (tree : PureTree) (sim : Sim) (how : End) (table : List ℕ) (result : Result Measurement Memory) → IfOk result (λ m. m.status ≡ status_of how)
+    → IfOk result (λ m. string_bytes m.line ≡ load_line size (turns_taken how) table) → (ahead : List (List Change))
+    → HaveAnswers tree sim.flat sim.firsts.items ahead (load_end sim.flat.resolution) usual_turns
+    → how ≡ run_end tree sim.flat sim.firsts.items ahead (load_end sim.flat.resolution) usual_turns
+    → table ≡ trace_of Table tree sim.flat sim.firsts.items ahead (load_end sim.flat.resolution) usual_turns → IfOk result (IsMeasured tree sim size)
+measured_is size tree sim how table (Ok m) status line ahead answers ended traced = record {
+  ahead = ahead;
+  answers = answers;
+  status = sym (status ∙ ap status_of ended);
+  line = line ∙ ap (λ (h : End). load_line size (turns_taken h) table) ended
+      ∙ ap (load_line size (turns_taken (run_end tree sim.flat sim.firsts.items ahead (load_end sim.flat.resolution) usual_turns))) traced;
+}
+measured_is size tree sim how table (Err error) status line ahead answers ended traced = tt
+
+-- its line that was written makes its outcome, and where it wasn't all written, a front part of it
+module _ (text : List ℕ) (tree : PureTree) (sim : Sim) (seed size : ℕ) (m : Measurement) (a b c : Option (List ℕ)) (spells : SpellsText text tree) (sound : IsAccepted tree sim)
+    (is : IsMeasured tree sim size m) where
+  pub loaded_all : Appends a b (string_bytes m.line) → WritesOutcome (Text (Load seed size) text) m.status a b c c
+  loaded_all wrote = record {
+    outcome = loaded size tree sim is.ahead;
+    has = is_loaded spells sound is.ahead is.answers;
+    answers = is.status;
+    out = subst (λ (t : List ℕ). Appends a b t) is.line wrote;
+    notes = Appends-nil c;
+  }
+
+  pub loaded_part : HasOneOutcome → AppendsFront a b (string_bytes m.line) → WritesNothingOrFront (Text (Load seed size) text) a b c c
+  loaded_part law wrote = front_each law (Text (Load seed size) text) (loaded size tree sim is.ahead) a b c c (is_loaded spells sound is.ahead is.answers)
+      (subst (λ (t : List ℕ). AppendsFront a b t) is.line wrote) (front_none c [])

@@ -1,20 +1,22 @@
 -- What an outcome of a reading is, by the reading.
-use Rattle.std.proofs.Common.{◌≡◌, ◌⊎◌, ℕ, List, Option, Some, None, refl, sym, subst, inl, inr, codes}
+use Rattle.std.proofs.Common.{◌≡◌, ◌⊎◌, ℕ, List, [], Option, Some, None, refl, sym, subst, inl, inr, codes}
 use Rattle.tdf_sim.proofs.Api.{one_tree}
 use Rattle.tdf_sim.specs.low.base.declared.faults.Fault.{Fault}
 use Rattle.tdf_sim.specs.low.blocks.Refused.{SpellsText}
 use Rattle.tdf_cli.specs.Input.{Reading, BadWords, Text, TooLong, ReadFault, NoMemory}
-use Rattle.tdf_cli.specs.Outcome.{Outcome, note, refused, ran, checked, planned, stop_in, HasOutcome, usage, read_fault, too_long, faulty, too_late, has_run, is_checked, is_planned}
+use Rattle.tdf_cli.specs.Outcome.{Outcome, note, refused, ran, checked, planned, stop_in, HasOutcome, usage, read_fault, too_long, faulty, too_late, has_run, is_checked, is_planned, is_loaded, load_end, load_line, loaded, status_of, turns_taken}
 use Rattle.tdf_cli.specs.declared.status.Status.TheVariants as status
-use Rattle.tdf_cli.specs.declared.words.Job.{Job}
-use Rattle.tdf_cli.specs.declared.words.Job.TheVariants.{Run, Check, Plan}
+use Rattle.tdf_sim.specs.low.words.declared.asked.Settings.{Settings}
+use Rattle.tdf_sim.specs.low.words.declared.asked.Settings.TheVariants.{Run, Check, Plan, Load}
 use Rattle.tdf_sim.specs.Accepted.{IsAccepted}
 use Rattle.tdf_sim.specs.declared.sim.Sim.{Sim}
-use Rattle.tdf_sim.specs.Ends.{Change, HaveAnswers}
+use Rattle.tdf_sim.specs.Ends.{Change, End, HaveAnswers, run_end, trace_of}
 use Rattle.tdf_sim.specs.FirstFault.{IsFirstFault}
 use Rattle.tdf_sim.specs.low.tokens.Rows.{rows_of}
 use Rattle.tdf_sim.specs.low.tree.Pure.{PureTree}
+use Rattle.tdf_sim.specs.low.words.Jobs.{usual_turns}
 use Rattle.tdf_sim.specs.low.words.declared.asked.TraceKind.{TraceKind}
+use Rattle.tdf_sim.specs.low.words.declared.asked.TraceKind.TheVariants.{Table}
 
 pub same_tree : (text : List ℕ) (one other : PureTree) → SpellsText text one → SpellsText text other → other ≡ one
 same_tree text one other s t = one_tree (rows_of text) other one t.spelled s.spelled
@@ -24,12 +26,22 @@ abbrev pub OfEnd : TraceKind → (turns : ℕ) → PureTree → Sim → Option �
 OfEnd kind turns tree sim None o = o ≡ note status.StopTooLong (codes "stop too long\n")
 OfEnd kind turns tree sim (Some end) o = (ahead : List (List Change)) × HaveAnswers tree sim.flat sim.firsts.items ahead end turns × (o ≡ ran kind tree sim ahead end turns)
 
-abbrev pub OfAccepted : Job → PureTree → Sim → Outcome → Type 0
+-- a line on a run that ended so and made this table
+abbrev pub line_of : (size : ℕ) → End → (table : List ℕ) → Outcome
+line_of size how table = record { status = status_of how; out = load_line size (turns_taken how) table; notes = [] }
+
+-- of the run of `load` to an end
+abbrev pub OfLoad : (size : ℕ) → PureTree → Sim → (end : ℕ) → Outcome → Type 0
+OfLoad size tree sim end o = (ahead : List (List Change)) × HaveAnswers tree sim.flat sim.firsts.items ahead end usual_turns
+    × (o ≡ line_of size (run_end tree sim.flat sim.firsts.items ahead end usual_turns) (trace_of Table tree sim.flat sim.firsts.items ahead end usual_turns))
+
+abbrev pub OfAccepted : Settings → PureTree → Sim → Outcome → Type 0
 OfAccepted (Run stop kind turns) tree sim o = OfEnd kind turns tree sim (stop_in sim.flat.resolution stop) o
 OfAccepted Check tree sim o = o ≡ checked tree sim
 OfAccepted Plan tree sim o = o ≡ planned sim
+OfAccepted (Load seed size) tree sim o = OfLoad size tree sim (load_end sim.flat.resolution) o
 
-abbrev pub OfText : Job → List ℕ → Outcome → Type 0
+abbrev pub OfText : Settings → List ℕ → Outcome → Type 0
 OfText job text o = ((fault : Fault) × IsFirstFault text fault × (o ≡ refused fault))
     ⊎ ((tree : PureTree) × (sim : Sim) × SpellsText text tree × IsAccepted tree sim × OfAccepted job tree sim o)
 
@@ -51,3 +63,4 @@ seen (has_run {turns = turns} {end = end} {kind = kind} {tree = tree} {sim = sim
     inr (tree, sim, spells, sound, subst (λ (e : Option ℕ). OfEnd kind turns tree sim e (ran kind tree sim ahead end turns)) (sym is) (ahead, answers, refl))
 seen (is_checked {tree = tree} {sim = sim} spells sound) = inr (tree, sim, spells, sound, refl)
 seen (is_planned {tree = tree} {sim = sim} spells sound) = inr (tree, sim, spells, sound, refl)
+seen (is_loaded {tree = tree} {sim = sim} spells sound ahead answers) = inr (tree, sim, spells, sound, (ahead, answers, refl))

@@ -1,20 +1,23 @@
 -- What came of the words and of reading the model.
 -- Source: own.
-use Rattle.std.specs.Prelude.{ℕ, ◌≡◌, ◌+◌, ◌≤◌, List, Option, Some, None, IsSome, length}
+use Rattle.std.specs.Prelude.{ℕ, ◌≡◌, ◌+◌, ◌≤◌, Bool, true, false, List, Option, Some, None, length}
 use Rattle.std.specs.Io.KnownBytes.{Consumes, IsAtEnd}
 use Rattle.tdf_sim.specs.low.base.Limits.{longest_text}
-use Rattle.tdf_cli.specs.Words.{job_for, StopsEarly}
 use Rattle.tdf_cli.specs.declared.load.Input.{Input}
 use Rattle.tdf_cli.specs.declared.load.Input.TheVariants as input
-use Rattle.tdf_cli.specs.declared.words.Job.{Job}
 use Rattle.tdf_sim.specs.low.in_out.Bytes.{GivesExactly, GivesAtMost}
+use Rattle.tdf_load.specs.Text.{load_text}
 use Rattle.tdf_sim.specs.low.in_out.Faults.{FaultsRose}
+use Rattle.tdf_sim.specs.low.words.Jobs.{IsWithin}
+use Rattle.tdf_sim.specs.low.words.Words.{taken_of}
+use Rattle.tdf_sim.specs.low.words.declared.asked.Settings.{Settings}
+use Rattle.tdf_sim.specs.low.words.declared.asked.Settings.TheVariants.{Run, Check, Plan, Load}
 
 pub data Reading : Type 0 where
   -- the words are not accepted, and nothing is read
   BadWords : Reading
-  -- all that was left, for what the words ask
-  Text : Job → List ℕ → Reading
+  -- the text for what the words ask: all that was left, or one that was made
+  Text : Settings → List ℕ → Reading
   -- a byte more than the longest text
   TooLong : Reading
   -- a read failed
@@ -29,17 +32,38 @@ reading input.TooLong = TooLong
 reading input.ReadFault = ReadFault
 reading input.NoMemory = NoMemory
 
--- how it comes to this: by the words, by what the source had left before and has left after, and by its counts of faults
-abbrev pub InputIs : List (List ℕ) → Reading → (old new : Option (List ℕ)) → (before now : ℕ) → Type 0
-InputIs words BadWords old new before now = (job_for words ≡ None) × (new ≡ old)
+-- whether a job reads its text; `load` makes one
+abbrev pub reads_text : Settings → Bool
+reads_text (Load seed size) = false
+reads_text _ = true
+
+-- the words ask for a job that reads its text
+pub record AskToRead (words : List (List ℕ)) : Type 0 where
+  pub job : Settings
+  pub asked : taken_of words ≡ Some job
+  pub reads : reads_text job ≡ true
+
+-- where the text of a job comes from, by what the source had left before and has left after
+abbrev pub ComesFrom : Settings → List ℕ → (old new : Option (List ℕ)) → Type 0
+ComesFrom (Load seed size) text old new = (text ≡ load_text seed size) × (new ≡ old)
+ComesFrom (Run stop kind turns) text old new = Consumes old new text × IsAtEnd new
+ComesFrom Check text old new = Consumes old new text × IsAtEnd new
+ComesFrom Plan text old new = Consumes old new text × IsAtEnd new
+
+-- how it comes to this: by the words, by what the source had left before and has left after, and by
+-- its counts of faults
+abbrev pub InputIs : List (List ℕ) → Reading → (old new : Option (List ℕ)) → (before now : ℕ)
+    → Type 0
+InputIs words BadWords old new before now = (taken_of words ≡ None) × (new ≡ old)
 InputIs words (Text job text) old new before now =
-    (job_for words ≡ Some job) × (length text ≤ longest_text) × Consumes old new text × IsAtEnd new
-InputIs words TooLong old new before now = IsSome (job_for words) × GivesExactly old new (longest_text + 1)
+    (taken_of words ≡ Some job) × (length text ≤ longest_text) × ComesFrom job text old new
+InputIs words TooLong old new before now =
+    AskToRead words × GivesExactly old new (longest_text + 1)
 InputIs words ReadFault old new before now =
-    IsSome (job_for words) × GivesAtMost old new longest_text × FaultsRose before now
+    AskToRead words × GivesAtMost old new longest_text × FaultsRose before now
 InputIs words NoMemory old new before now = GivesAtMost old new longest_text
 
--- a job for a text that isn't too long, to a stop that a run may have
+-- a job within its limits for a text that isn't too long
 abbrev pub IsReady : Reading → Type 0
-IsReady (Text job text) = (length text ≤ longest_text) × StopsEarly job
+IsReady (Text job text) = (length text ≤ longest_text) × IsWithin job
 IsReady _ = Unit {0}

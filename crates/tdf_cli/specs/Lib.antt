@@ -6,5 +6,4 @@ pub mod Input
 pub mod Outcome
 pub mod Refusals
 pub mod Status
-pub mod Words
 pub mod machine

@@ -1,7 +1,9 @@
 -- The outcome of the command: what it answers, and what it writes on its output and on its notes.
 -- Source: own.
-use Rattle.std.specs.Prelude.{ℕ, ◌≡◌, ◌⊎◌, ◌*◌, List, [], Option, Some, None, codes}
-use Rattle.std.specs.Prelude.{if◌then◌else◌, nat_lt}
+use Rattle.std.specs.Fmt.{decimal}
+use Rattle.std.specs.List.{count_by}
+use Rattle.std.specs.Prelude.{ℕ, ◌≡◌, ◌⊎◌, ◌*◌, ◌-◌, ◌++◌, List, [], Option, Some, None, codes}
+use Rattle.std.specs.Prelude.{if◌then◌else◌, length, nat_eq, nat_lt}
 use Rattle.std.specs.Io.KnownBytes.{Appends, Keeps}
 use Rattle.tdf_sim.specs.low.base.Limits.{time_end}
 use Rattle.tdf_sim.specs.low.base.declared.faults.Fault.{Fault}
@@ -12,8 +14,6 @@ use Rattle.tdf_cli.specs.Input.{Reading, BadWords, Text, TooLong, ReadFault, NoM
 use Rattle.tdf_cli.specs.Refusals.{refusal_text}
 use Rattle.tdf_cli.specs.declared.status.Status.{Status}
 use Rattle.tdf_cli.specs.declared.status.Status.TheVariants as status
-use Rattle.tdf_cli.specs.declared.words.Job.{Job}
-use Rattle.tdf_cli.specs.declared.words.Job.TheVariants.{Run, Check, Plan}
 use Rattle.tdf_sim.specs.low.in_out.Bytes.{AppendsFront}
 use Rattle.tdf_sim.specs.Ends.{Change, End, HaveAnswers, run_end, run_note, trace_of}
 use Rattle.tdf_sim.specs.low.notes.Plans.{accepted_line}
@@ -24,7 +24,11 @@ use Rattle.tdf_sim.specs.declared.sim.Sim.{Sim}
 use Rattle.tdf_sim.specs.FirstFault.{cluster_count, IsFirstFault}
 use Rattle.tdf_sim.specs.PlanText.{plans_text}
 use Rattle.tdf_sim.specs.low.tree.Pure.{PureTree}
+use Rattle.tdf_sim.specs.low.words.Jobs.{usual_turns}
+use Rattle.tdf_sim.specs.low.words.declared.asked.Settings.{Settings}
+use Rattle.tdf_sim.specs.low.words.declared.asked.Settings.TheVariants.{Run, Check, Plan, Load}
 use Rattle.tdf_sim.specs.low.words.declared.asked.TraceKind.{TraceKind}
+use Rattle.tdf_sim.specs.low.words.declared.asked.TraceKind.TheVariants.{Table}
 
 pub record Outcome : Type 0 where
   pub status : Status
@@ -74,12 +78,44 @@ abbrev pub planned : Sim → Outcome
 planned sim =
     record { status = status.Done; out = plans_text sim; notes = accepted_text sim }
 
+-- where the run of `load` ends: at 100 us, in counts of a resolution
+abbrev pub load_end : Resolution → ℕ
+load_end Ps = 100000000
+load_end Fs = 100000000000
+
+-- the turns that such a run took
+abbrev pub turns_taken : End → ℕ
+turns_taken (ending.Reached time turns) = turns
+turns_taken (ending.Stopped time cluster fault) = usual_turns
+turns_taken (ending.Spent time) = usual_turns
+
+-- the rows of a table below its head
+abbrev pub rows_below : List ℕ → ℕ
+rows_below table = count_by (λ byte. nat_eq byte 10) table - 1
+
+-- `load size N turns T rows R bytes B`
+unfoldable pub load_line : (size turns : ℕ) → (table : List ℕ) → List ℕ
+load_line size turns table = codes "load size " ++ decimal size ++ codes " turns " ++ decimal turns
+    ++ codes " rows " ++ decimal (rows_below table) ++ codes " bytes " ++ decimal (length table)
+    ++ codes "\n"
+
+-- a line on a run with a table that isn't written
+abbrev pub loaded : (size : ℕ) → PureTree → Sim → (ahead : List (List Change)) → Outcome
+loaded size tree sim ahead = record {
+  status = status_of (run_end tree sim.flat sim.firsts.items ahead (load_end sim.flat.resolution)
+      usual_turns);
+  out = load_line size (turns_taken (run_end tree sim.flat sim.firsts.items ahead
+      (load_end sim.flat.resolution) usual_turns)) (trace_of Table tree sim.flat sim.firsts.items
+      ahead (load_end sim.flat.resolution) usual_turns);
+  notes = [];
+}
+
 -- what comes of a reading has this outcome, case by case; being out of memory has none
 pub data HasOutcome : Reading → Outcome → Type 0 where
   usage : HasOutcome BadWords (note status.Usage (codes "usage\n"))
   read_fault : HasOutcome ReadFault (note status.ReadFault (codes "read fault\n"))
   too_long : HasOutcome TooLong (note status.TooLong (codes "too long\n"))
-  faulty : {job : Job} {text : List ℕ} {fault : Fault} → IsFirstFault text fault
+  faulty : {job : Settings} {text : List ℕ} {fault : Fault} → IsFirstFault text fault
       → HasOutcome (Text job text) (refused fault)
   too_late : {stop turns : ℕ} {kind : TraceKind} {text : List ℕ} {tree : PureTree} {sim : Sim}
       → SpellsText text tree → IsAccepted tree sim → stop_in sim.flat.resolution stop ≡ None
@@ -94,6 +130,10 @@ pub data HasOutcome : Reading → Outcome → Type 0 where
       → IsAccepted tree sim → HasOutcome (Text Check text) (checked tree sim)
   is_planned : {text : List ℕ} {tree : PureTree} {sim : Sim} → SpellsText text tree
       → IsAccepted tree sim → HasOutcome (Text Plan text) (planned sim)
+  is_loaded : {seed size : ℕ} {text : List ℕ} {tree : PureTree} {sim : Sim}
+      → SpellsText text tree → IsAccepted tree sim → (ahead : List (List Change))
+      → HaveAnswers tree sim.flat sim.firsts.items ahead (load_end sim.flat.resolution) usual_turns
+      → HasOutcome (Text (Load seed size) text) (loaded size tree sim ahead)
 
 -- the answer and the bytes that both sinks gained are those of the outcome
 pub record WritesOutcome (r : Reading) (answer : Status) (out_old out_new notes_old notes_new : Option (List ℕ)) : Type 0 where

@@ -1,15 +1,16 @@
 //! The top call.
 
-ghost use Rattle.std.specs.Prelude.{◌≡◌, ◌≢◌, ◌⊎◌, ◌≤◌, ℕ, List, Some, None, length};
+ghost use Rattle.std.specs.Prelude.{◌≡◌, ◌≢◌, ◌⊎◌, ◌≤◌, ℕ, List, Some, length, true};
 ghost use Rattle.tdf_sim.specs.low.base.Limits.{longest_text};
-ghost use Rattle.tdf_cli.specs.Input.{InputIs, NoMemory, Reading, Text};
+ghost use Rattle.tdf_cli.specs.Input.{AskToRead, InputIs, NoMemory, Reading, Text, reads_text};
 ghost use Rattle.tdf_cli.specs.Outcome.{HasOutcome, Outcome, WritesNothingOrFront, WritesOutcome};
 ghost use Rattle.tdf_cli.specs.Status.{no_memory, number_of, write_fault};
-ghost use Rattle.tdf_cli.specs.Words.{job_for};
 ghost use Rattle.tdf_cli.specs.declared.status.Status.{Status};
 ghost use Rattle.tdf_cli.specs.declared.status.Status.TheVariants.{ReadFault};
-ghost use Rattle.tdf_cli.specs.declared.words.Job.{Job};
-ghost use Rattle.tdf_sim.specs.low.words.Words.{texts_of};
+ghost use Rattle.tdf_load.specs.Text.{load_text};
+ghost use Rattle.tdf_sim.specs.low.words.Words.{taken_of, texts_of};
+ghost use Rattle.tdf_sim.specs.low.words.declared.asked.Settings.{Settings};
+ghost use Rattle.tdf_sim.specs.low.words.declared.asked.Settings.TheVariants.{Load};
 ghost use Rattle.tdf_sim.specs.low.in_out.Faults.{FaultsRose};
 
 use crate::jobs::finish;
@@ -19,8 +20,8 @@ use crate::status::{NO_MEMORY, WRITE_FAULT};
 use std::alloc::Global;
 use tdf_sim::low::in_out::{Sink, SinkErr, Source};
 
-/// The command: takes its words, those after the program's name, reads the model, does the job, and answers the status
-/// of the program.
+/// The command: takes its words, those after the program's name, reads the model, or makes one for `load`, does the job, and
+/// answers the status of the program.
 ///
 /// The status is 0 where the job is done, 1 where the text has a fault, 2 where the words are not accepted, 3 where a read
 /// failed, 4 where a write failed, 5 where a refused change of attributes stopped a run, 6 where the turns of a run were too few, 7
@@ -45,16 +46,21 @@ pub fn tool<S: Source, O: Sink, N: Sink>(
         × InputIs (texts_of words.now.items) r (S.left model.old) (S.left model.new) (S.faults model.old) (S.faults model.new)
         × WritesNothingOrFront r (O.taken out.old) (O.taken out.new) (N.taken notes.old) (N.taken notes.new) }
 
-    // Where the words are not accepted nothing is read.
-    ensures unread { job_for (texts_of words.now.items) ≡ None → model.new ≡ model.old }
+    // Where the words are not accepted, or ask for `load`, nothing is read.
+    ensures unread { ¬ AskToRead (texts_of words.now.items) → model.new ≡ model.old }
     ensures read_fault { result ≡ number_of ReadFault → FaultsRose (S.faults model.old) (S.faults model.new) }
     ensures write_fault { result ≡ write_fault → FaultsRose (O.faults out.old) (O.faults out.new) ⊎ FaultsRose (N.faults notes.old) (N.faults notes.new) }
 
     // Words that are accepted, a text of a length that is, an outcome for them, and no count of faults that rose: the status
     // is that of the outcome, or it is out of memory.
-    ensures complete { (job : Job) (text : List ℕ) (o : Outcome) → job_for (texts_of words.now.items) ≡ Some job
-        → S.left model.old ≡ Some text → length text ≤ longest_text → HasOutcome (Text job text) o
+    ensures complete { (job : Settings) (text : List ℕ) (o : Outcome) → taken_of (texts_of words.now.items) ≡ Some job
+        → reads_text job ≡ true → S.left model.old ≡ Some text → length text ≤ longest_text → HasOutcome (Text job text) o
         → ¬ FaultsRose (S.faults model.old) (S.faults model.new) → ¬ FaultsRose (O.faults out.old) (O.faults out.new)
+        → ¬ FaultsRose (N.faults notes.old) (N.faults notes.new) → (result ≡ number_of o.status) ⊎ (result ≡ no_memory) }
+
+    // The same for `load`, whose text is made.
+    ensures complete_load { (seed size : ℕ) (o : Outcome) → taken_of (texts_of words.now.items) ≡ Some (Load seed size)
+        → HasOutcome (Text (Load seed size) (load_text seed size)) o → ¬ FaultsRose (O.faults out.old) (O.faults out.new)
         → ¬ FaultsRose (N.faults notes.old) (N.faults notes.new) → (result ≡ number_of o.status) ⊎ (result ≡ no_memory) }
 {
     law_one_outcome();

@@ -9,8 +9,6 @@ ghost use Rattle.tdf_cli.specs.Input.{NoMemory, Reading, Text, reading, IsReady}
 ghost use Rattle.tdf_cli.specs.Outcome.{WritesNothingOrFront, WritesOutcome, accepted_text};
 ghost use Rattle.tdf_cli.specs.declared.status.Status.TheVariants.{Done};
 ghost use Rattle.tdf_print.specs.Canon.{canon};
-ghost use Rattle.tdf_cli.specs.Words.{StopsEarly};
-ghost use Rattle.tdf_cli.specs.declared.words.Job.TheVariants.{Check, Plan};
 ghost use Rattle.tdf_cli.specs.machine.Texts.{IsCheckText, IsPlanText};
 ghost use Rattle.tdf_sim.specs.low.in_out.Bytes.{AppendsFront};
 ghost use Rattle.tdf_sim.specs.low.in_out.Faults.{FaultsRose};
@@ -18,16 +16,18 @@ ghost use Rattle.tdf_sim.specs.low.in_out.declared.writing.SinkErr.TheVariants a
 ghost use Rattle.tdf_sim.specs.Accepted.{IsAccepted};
 ghost use Rattle.tdf_sim.specs.PlanText.{IsPrintable, plans_text};
 ghost use Rattle.tdf_sim.specs.Runs.{IsAcceptedTree};
+ghost use Rattle.tdf_sim.specs.low.words.Jobs.{IsWithin};
+ghost use Rattle.tdf_sim.specs.low.words.declared.asked.Settings.TheVariants.{Check, Plan};
 ghost use Rattle.tdf_sim.specs.low.tree.Kept.{IsKept};
 ghost use Rattle.tdf_sim.specs.low.tree.Views.{pure_tree};
 
 use crate::laws::law_one_outcome;
 use crate::load::Input;
+use crate::measure::measure;
 use crate::notes::{noted, refuse};
 use crate::refusals::first_fault;
 use crate::run::run;
 use crate::status::Status;
-use crate::words::Job;
 use std::alloc::Global;
 use tdf_print::push_tree;
 use tdf_sim::low::base::Memory;
@@ -35,6 +35,7 @@ use tdf_sim::low::blocks::parse;
 use tdf_sim::low::in_out::{Sink, SinkErr, put_all};
 use tdf_sim::low::notes::push_accepted;
 use tdf_sim::low::tree::Tree;
+use tdf_sim::low::words::Settings;
 use tdf_sim::{Sim, SimErr, elaborate_tree};
 
 /// An output and a note.
@@ -166,11 +167,11 @@ fn do_accepted<O: Sink, N: Sink>(
     alloc: Global,
     tree: &Tree,
     sim: Sim,
-    job: Job,
+    job: Settings,
     out: &mut O,
     notes: &mut N,
 ) -> Result<Status, SinkErr>
-    requires stop { StopsEarly job }
+    requires within { IsWithin job }
     requires accepted { IsAcceptedTree (pure_tree tree.now) sim }
     requires printable { IsPrintable sim }
     ensures all { IfOk result (λ s. (text : List ℕ) → SpellsText text (pure_tree tree.now) → WritesOutcome (Text job text) s
@@ -180,9 +181,10 @@ fn do_accepted<O: Sink, N: Sink>(
     ensures cause { IsErrOf result why.Failed → FaultsRose (O.faults out.old) (O.faults out.new) ⊎ FaultsRose (N.faults notes.old) (N.faults notes.new) }
 {
     match job {
-        Job::Run { stop, kind, turns } => run(alloc, sim, stop, kind, turns, out, notes),
-        Job::Check => check(alloc, tree, &sim, out, notes),
-        Job::Plan => plan(alloc, tree, &sim, out, notes),
+        Settings::Run { stop, kind, turns } => run(alloc, sim, stop, kind, turns, out, notes),
+        Settings::Check => check(alloc, tree, &sim, out, notes),
+        Settings::Plan => plan(alloc, tree, &sim, out, notes),
+        Settings::Load { size, .. } => measure(alloc, sim, size, out),
     }
 }
 
@@ -190,11 +192,11 @@ fn do_accepted<O: Sink, N: Sink>(
 fn do_tree<O: Sink, N: Sink>(
     alloc: Global,
     tree: &Tree,
-    job: Job,
+    job: Settings,
     out: &mut O,
     notes: &mut N,
 ) -> Result<Status, SinkErr>
-    requires stop { StopsEarly job }
+    requires within { IsWithin job }
     requires kept { IsKept (pure_tree tree.now) }
     requires formed { IsFormed (pure_tree tree.now) }
     ensures all { IfOk result (λ s. (text : List ℕ) → SpellsText text (pure_tree tree.now) → WritesOutcome (Text job text) s
@@ -215,12 +217,12 @@ fn do_tree<O: Sink, N: Sink>(
 fn do_text<O: Sink, N: Sink>(
     alloc: Global,
     text: &Vec<u8>,
-    job: Job,
+    job: Settings,
     out: &mut O,
     notes: &mut N,
 ) -> Result<Status, SinkErr>
     requires text { length text.now.items ≤ longest_text }
-    requires stop { StopsEarly job }
+    requires within { IsWithin job }
     ensures all { IfOk result (λ s. WritesOutcome (Text job text.now.items) s
         (O.taken out.old) (O.taken out.new) (N.taken notes.old) (N.taken notes.new)) }
     ensures part { OnErr result (WritesNothingOrFront (Text job text.now.items)

@@ -1,10 +1,10 @@
 //! The command: its words, its jobs and its answer.
 //!
 //! * `command`: the top call.
-//! * `words`: what the words ask for.
-//! * `load`: reads the model.
+//! * `load`: the words, and the text of the model: read, or made.
 //! * `jobs`: what each outcome writes, but for runs.
 //! * `run`: the job `run`.
+//! * `measure`: the job `load`.
 //! * `notes`: outcomes that only leave a note.
 //! * `refusals`: the faults of texts, and how they are noted.
 //! * `status`: the answers and their numbers.
@@ -16,13 +16,12 @@ mod jobs;
 mod laws;
 mod load;
 pub mod low;
+mod measure;
 mod notes;
 mod refusals;
 mod run;
 mod status;
-mod words;
 
 pub use command::tool;
 pub use laws::law_one_outcome;
 pub use status::{NO_MEMORY, USAGE, WRITE_FAULT};
-pub use words::Job;

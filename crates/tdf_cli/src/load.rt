@@ -1,22 +1,24 @@
-//! The words, and then the model.
+//! The words, and then the text of the model.
 
-ghost use Rattle.std.specs.Prelude.{◌≡◌, ◌≤◌, List, None, ℕ};
-ghost use Rattle.tdf_cli.specs.Input.{InputIs, IsReady, reading};
-ghost use Rattle.tdf_cli.specs.Words.{job_for};
-ghost use Rattle.tdf_sim.specs.low.words.Words.{texts_of};
+ghost use Rattle.std.specs.Prelude.{◌≡◌, ◌≤◌, List, Option, Some, true, ℕ};
+ghost use Rattle.tdf_cli.specs.Input.{AskToRead, InputIs, IsReady, reading, reads_text};
+ghost use Rattle.tdf_sim.specs.low.words.Jobs.{IsLoad, IsWithin};
+ghost use Rattle.tdf_sim.specs.low.words.Words.{taken_of, texts_of};
+ghost use Rattle.tdf_sim.specs.low.words.declared.asked.Settings.TheVariants.{Load};
 
-use crate::words::{Job, read_words};
 use std::alloc::Global;
+use tdf_load::load_text;
 use tdf_sim::low::base::LONGEST_TEXT;
 use tdf_sim::low::in_out::{LoadErr, Source, read_all};
+use tdf_sim::low::words::{Settings, WordsErr, settings};
 
 /// What came of the words and of reading the model.
 #[derive(Drop)]
 pub(crate) enum Input {
     /// The words are not accepted, and nothing was read.
     BadWords,
-    /// What the words ask for, and all that the source had left.
-    Text(Job, Vec<u8>),
+    /// What the words ask for, and its text: all that the source had left, or one that was made.
+    Text(Settings, Vec<u8>),
     /// A byte more than the longest text was read.
     TooLong,
     /// A read failed.
@@ -25,21 +27,47 @@ pub(crate) enum Input {
     NoMemory,
 }
 
-/// Takes the words, and then reads the model.
-pub(crate) fn load<S: Source>(alloc: Global, words: &Vec<String>, model: &mut S) -> Input
-    ensures input { InputIs (texts_of words.now.items) (reading result) (S.left model.old) (S.left model.new) (S.faults model.old) (S.faults model.new) }
+/// Makes the text of `load`.
+fn make(alloc: Global, seed: u64, size: u64) -> Input
+    requires within { IsLoad seed size }
+    ensures input { (words : List (List ℕ)) (old : Option (List ℕ)) (before : ℕ) → taken_of words ≡ Some (Load seed size)
+        → InputIs words (reading result) old old before before }
     ensures ready { IsReady (reading result) }
-    ensures unread { job_for (texts_of words.now.items) ≡ None → model.new ≡ model.old }
 {
-    let job = match read_words(alloc, words) {
-        Ok(Some(job)) => job,
-        Ok(None) => return Input::BadWords,
-        Err(_) => return Input::NoMemory,
-    };
+    match load_text(alloc, seed, size) {
+        Ok(text) if text.len() <= LONGEST_TEXT => {
+            Input::Text(Settings::Load { seed, size }, text)
+        }
+        _ => Input::NoMemory,
+    }
+}
+
+/// Reads the text of a job.
+fn read<S: Source>(alloc: Global, job: Settings, model: &mut S) -> Input
+    requires within { IsWithin job }
+    requires reads { reads_text job ≡ true }
+    ensures input { (words : List (List ℕ)) → taken_of words ≡ Some job
+        → InputIs words (reading result) (S.left model.old) (S.left model.new) (S.faults model.old) (S.faults model.new) }
+    ensures ready { IsReady (reading result) }
+{
     match read_all(alloc, model, LONGEST_TEXT) {
         Ok(text) => Input::Text(job, text),
         Err(LoadErr::TooLong) => Input::TooLong,
         Err(LoadErr::ReadFault) => Input::ReadFault,
         Err(LoadErr::Memory) => Input::NoMemory,
+    }
+}
+
+/// Takes the words, and then reads the model, or makes one.
+pub(crate) fn load<S: Source>(alloc: Global, words: &Vec<String>, model: &mut S) -> Input
+    ensures input { InputIs (texts_of words.now.items) (reading result) (S.left model.old) (S.left model.new) (S.faults model.old) (S.faults model.new) }
+    ensures ready { IsReady (reading result) }
+    ensures unread { ¬ AskToRead (texts_of words.now.items) → model.new ≡ model.old }
+{
+    match settings(alloc, words) {
+        Ok(Settings::Load { seed, size }) => make(alloc, seed, size),
+        Ok(job) => read(alloc, job, model),
+        Err(WordsErr::Usage) => Input::BadWords,
+        Err(WordsErr::Memory) => Input::NoMemory,
     }
 }

@@ -5,10 +5,10 @@ ghost use Rattle.tdf_sim.specs.low.base.Limits.{time_end};
 ghost use Rattle.tdf_sim.specs.low.blocks.Refused.{SpellsText};
 ghost use Rattle.tdf_cli.specs.Input.{Text};
 ghost use Rattle.tdf_cli.specs.Outcome.{WritesNothingOrFront, WritesOutcome, status_of, stop_in};
-ghost use Rattle.tdf_cli.specs.declared.words.Job.TheVariants.{Run};
 ghost use Rattle.tdf_sim.specs.low.in_out.Faults.{FaultsRose};
 ghost use Rattle.tdf_sim.specs.low.in_out.declared.writing.SinkErr.TheVariants as why;
 ghost use Rattle.tdf_sim.specs.Runs.{IsAcceptedTree, IsSomeAccepted};
+ghost use Rattle.tdf_sim.specs.low.words.declared.asked.Settings.TheVariants.{Run};
 ghost use Rattle.tdf_sim.specs.low.tree.Pure.{PureTree};
 
 use crate::laws::law_one_outcome;
@@ -44,7 +44,7 @@ fn stop_in(unit: Resolution, stop: u64) -> Option<u64>
 }
 
 /// The answer of a run that ended so.
-fn status_of(end: &End) -> Status
+pub(crate) fn status_of(end: &End) -> Status
     ensures { result ≡ status_of end.now }
 {
     match end {

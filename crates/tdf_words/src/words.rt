@@ -2,24 +2,14 @@
 
 ghost use Rattle.std.specs.Prelude.{◌≡◌, ◌⊎◌, Err, IfOk, Ok, Some, None};
 ghost use Rattle.tdf_words.specs.Jobs.{IsWithin};
-ghost use Rattle.tdf_words.specs.Words.{is_built, taken_of, texts_of};
+ghost use Rattle.tdf_words.specs.Words.{taken_of, texts_of};
 ghost use Rattle.tdf_words.specs.declared.asked.Settings.{Settings};
 ghost use Rattle.tdf_words.specs.declared.asked.WordsErr.TheVariants.{Usage, Memory};
 
 use crate::asked::{Settings, WordsErr};
-use crate::command::{Given, read_texts};
+use crate::command::read_texts;
 use crate::jobs::settings_given;
 use std::alloc::Global;
-
-/// Whether what is asked for is built.
-fn is_built(given: &Given) -> bool
-    ensures { result ≡ is_built given.now }
-{
-    match given.job {
-        None => true,
-        Some(job) => job != "load",
-    }
-}
 
 /// What the words ask for: the words after the program's name.
 ///
@@ -27,7 +17,7 @@ fn is_built(given: &Given) -> bool
 ///
 /// # Errors
 /// `Usage` exactly where the words are not taken, and else only `Memory`: out of memory.
-#[tactic(auto, using(crate::proofs::Taken::unmatched, crate::proofs::Taken::unbuilt, crate::proofs::Taken::built))]
+#[tactic(auto, using(crate::proofs::Taken::unmatched, crate::proofs::Taken::matched))]
 pub fn settings(alloc: Global, words: &Vec<String>) -> Result<Settings, WordsErr>
     ensures settings { IfOk result (λ s. taken_of (texts_of words.now.items) ≡ Some s) }
     ensures within { IfOk result IsWithin }
@@ -43,9 +33,6 @@ pub fn settings(alloc: Global, words: &Vec<String>) -> Result<Settings, WordsErr
         Ok(given) => given,
         Err(why) => return Err(why),
     };
-    if !is_built(&given) {
-        return Err(WordsErr::Usage);
-    }
     match settings_given(&given) {
         Some(settings) => Ok(settings),
         None => Err(WordsErr::Usage),

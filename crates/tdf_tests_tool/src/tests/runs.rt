@@ -349,6 +349,36 @@ const CHANGES: &[(&[&str], &str, u8, &str, &str)] = &[
     ),
 ];
 
+/// Words of `load`, the status, the output and the notes. Seed 1 makes modules `up`, `down` and `up`: four firings a microsecond and a
+/// boundary between two, and two samples a microsecond of the last signal.
+const LOADS: &[(&[&str], u8, &str, &str)] = &[
+    (
+        &["load", "--seed", "1", "--size", "3"],
+        0,
+        "load size 3 turns 499 rows 200 bytes 2587\n",
+        "",
+    ),
+    (
+        &["load", "--seed", "65537", "--size", "3"],
+        2,
+        "",
+        "usage\n",
+    ),
+    (&["load", "--seed", "1", "--size", "0"], 2, "", "usage\n"),
+    (&["load", "--size", "3"], 2, "", "usage\n"),
+];
+
+/// Whether each of these words of `load` has its answer, whatever there is to read.
+fn loads(alloc: Global) -> Result<bool, Memory> {
+    for &(words, status, output, notes) in LOADS {
+        let wanted = (status, output.as_bytes(), notes.as_bytes());
+        if !answers(alloc, words, b"not read", wanted)? {
+            return Ok(false);
+        }
+    }
+    Ok(true)
+}
+
 /// The notes of the first run with changes that has another answer, or nothing.
 fn wrong_change(alloc: Global) -> Result<&'static str, Memory> {
     for &(words, text, status, output, notes) in CHANGES {
@@ -489,6 +519,12 @@ fn stops_at_a_long_text(alloc: Global) -> Result<bool, Memory> {
     let fits = answers(alloc, RUN, &spaces, (1, b"", b"refused LONG_LINE line 1\n"))?;
     spaces.push(b' ')?;
     Ok(fits && answers(alloc, RUN, &spaces, (8, b"", b"too long\n"))?)
+}
+
+#[test]
+fn makes_models_and_measures_them(rt: HostRuntime) -> Result<(), Fail> {
+    assert!(rt; loads(rt.alloc())?);
+    Ok(())
 }
 
 #[test]

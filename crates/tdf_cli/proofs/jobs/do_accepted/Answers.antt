@@ -1,0 +1,21 @@
+use Rattle.std.proofs.Common.{IfOk, OnErr, subst, sym}
+use Rattle.tdf_cli.proofs.Outcomes.{each_err, each_ok}
+use Rattle.tdf_cli.specs.Input.{Text}
+use Rattle.tdf_cli.specs.Outcome.{WritesNothingOrFront, WritesOutcome}
+use Rattle.tdf_sim.specs.low.tree.Views.{pure_tree}
+use Rattle.tdf_sim.specs.low.words.declared.asked.Settings.{Settings}
+use Rattle.tdf_cli.proofs.jobs.do_accepted.Goals as goal
+
+pub returns-in-Load-clause-all : goal.returns-in-Load-clause-all
+returns-in-Load-clause-all g c = each_ok c.measure.result (pure_tree c.args.tree.now)
+    (λ text s. WritesOutcome (Text c.args.job text) s (g.O.Sink.taken c.args.out.now) (g.O.Sink.taken c.measure.new.out) (g.N.Sink.taken c.args.notes.now) (g.N.Sink.taken c.args.notes.now))
+    (λ text spells. subst (λ (job : Settings). IfOk c.measure.result (λ s. WritesOutcome (Text job text) s (g.O.Sink.taken c.args.out.now) (g.O.Sink.taken c.measure.new.out)
+    (g.N.Sink.taken c.args.notes.now) (g.N.Sink.taken c.args.notes.now))) (sym c.in-Load.is)
+    (c.measure.ensures.all (pure_tree c.args.tree.now) text c.in-Load.seed (g.N.Sink.taken c.args.notes.now) spells c.requires.accepted))
+
+pub returns-in-Load-clause-part : goal.returns-in-Load-clause-part
+returns-in-Load-clause-part g c = each_err c.measure.result (pure_tree c.args.tree.now)
+    (λ text. WritesNothingOrFront (Text c.args.job text) (g.O.Sink.taken c.args.out.now) (g.O.Sink.taken c.measure.new.out) (g.N.Sink.taken c.args.notes.now) (g.N.Sink.taken c.args.notes.now))
+    (λ text spells. subst (λ (job : Settings). OnErr c.measure.result (WritesNothingOrFront (Text job text) (g.O.Sink.taken c.args.out.now) (g.O.Sink.taken c.measure.new.out)
+    (g.N.Sink.taken c.args.notes.now) (g.N.Sink.taken c.args.notes.now))) (sym c.in-Load.is)
+    (c.measure.ensures.part (pure_tree c.args.tree.now) text c.in-Load.seed (g.N.Sink.taken c.args.notes.now) spells c.requires.accepted))
