@@ -11,7 +11,7 @@ use Rattle.tdf_base.specs.declared.codes.Code.TheVariants.{TwoDrivers, UnknownPa
 use Rattle.tdf_base.specs.declared.codes.Code.TheVariants.{Size, NoTimestep}
 use Rattle.tdf_base.specs.declared.codes.Code.TheVariants.{Disagree, TooLong, Inexact, Buffers}
 use Rattle.tdf_base.specs.declared.codes.Code.TheVariants.{Deadlock, Noncausal}
-use Rattle.tdf_base.specs.declared.codes.Code.TheVariants.{Range, Rejected, Unbuilt}
+use Rattle.tdf_base.specs.declared.codes.Code.TheVariants.{Range, Rejected}
 use Rattle.tdf_base.specs.declared.faults.Fault.{Fault}
 use Rattle.tdf_base.specs.declared.faults.Place.{Place}
 use Rattle.tdf_base.specs.declared.faults.Place.TheVariants.{Nowhere, Line, LinePort, At, Both}
@@ -53,7 +53,6 @@ word_of Deadlock = codes "DEADLOCK"
 word_of Noncausal = codes "NONCAUSAL"
 word_of Range = codes "RANGE"
 word_of Rejected = codes "REJECTED"
-word_of Unbuilt = codes "UNBUILT"
 
 -- a word and what it names, as ` line 3`
 abbrev pub line_text : ℕ → List ℕ

@@ -74,8 +74,6 @@ pub enum Code {
     Range,
     /// `REJECTED`: a change of attributes that a module rejects.
     Rejected,
-    /// `UNBUILT`: a model that is not run yet.
-    Unbuilt,
 }
 
 impl Code {
@@ -118,7 +116,6 @@ impl Code {
             Code::Noncausal => b"NONCAUSAL",
             Code::Range => b"RANGE",
             Code::Rejected => b"REJECTED",
-            Code::Unbuilt => b"UNBUILT",
         }
     }
 }

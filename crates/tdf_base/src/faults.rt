@@ -1,11 +1,11 @@
 //! A fault of a model: what is wrong, where it is, and how it is printed.
 
-ghost use Rattle.std.specs.Prelude.{◌≡◌, ◌++◌, take, length, decimal, IfOk, OnOk, OnErr};
+ghost use Rattle.std.specs.Prelude.{◌≡◌, ◌++◌, take, length, IfOk, OnOk, OnErr};
 ghost use Rattle.tdf_base.specs.Fault.{fault_text, place_text, line_text, port_text, path_text, index_text};
 
 use crate::codes::Code;
 use crate::memory::Memory;
-use itoa::Buffer;
+use crate::texts::{push_number, push_word};
 use std::alloc::Global;
 use std::marker::Model;
 
@@ -73,21 +73,6 @@ pub struct Fault {
     pub code: Code,
     /// Where it is.
     pub place: Place,
-}
-
-fn push_word(out: &mut Vec<u8>, word: &[u8]) -> Result<(), Memory>
-    ensures ok { OnOk result (out.new.items ≡ out.old.items ++ word.now) }
-    ensures kept { take (length out.old.items) out.new.items ≡ out.old.items }
-{
-    out.extend_from_slice(word)?;
-    Ok(())
-}
-
-fn push_number(out: &mut Vec<u8>, number: u64) -> Result<(), Memory>
-    ensures ok { OnOk result (out.new.items ≡ out.old.items ++ decimal number) }
-    ensures kept { take (length out.old.items) out.new.items ≡ out.old.items }
-{
-    push_word(out, Buffer::new().format(number).as_bytes())
 }
 
 fn push_line(out: &mut Vec<u8>, line: u32) -> Result<(), Memory>

@@ -6,6 +6,7 @@
 //! - `names`: names, and numbers as they are written.
 //! - `numerals`: the forms of numbers, and the reader of whole numbers.
 //! - `resolution`: the unit of time of a model.
+//! - `texts`: words and numbers of a line, and numbers of rows.
 //! - `times`: the readers of times.
 //! - `laws`: what holds of the definitions.
 #![tactic(auto)]
@@ -18,6 +19,7 @@ mod memory;
 mod names;
 mod numerals;
 mod resolution;
+mod texts;
 mod times;
 
 pub use codes::Code;
@@ -35,4 +37,5 @@ pub use numerals::{
     Numeral, are_digits, is_number, is_short, power_of_ten, read_int, split, value,
 };
 pub use resolution::Resolution;
+pub use texts::{cluster_number, push_number, push_word, row_number};
 pub use times::{TimeErr, read_time, read_time_at};

@@ -47,9 +47,8 @@ ghost use Rattle.tdf_linked.specs.low.exec.Starts.{IsSoundFlat};
 ghost use Rattle.tdf_linked.specs.low.history.World.{Refused};
 ghost use Rattle.tdf_linked.specs.low.run.Boundary.{HasAnswered, HasPassedBoundary};
 
-use crate::making::number_at;
 use std::alloc::Global;
-use tdf_linked::low::base::Memory;
+use tdf_base::{Memory, cluster_number};
 use tdf_linked::low::changes::Next;
 use tdf_linked::low::dynamic::ChangeErr;
 use tdf_linked::low::exec::Cluster;
@@ -205,7 +204,7 @@ fn stopped(place: usize, fault: Fault) -> Result<Option<Pass>, Memory>
     ensures { IfOk result (λ ended. (number : ℕ) × (number ≡ place + 1)
         × (ended ≡ Some (Stopped number fault))) }
 {
-    match number_at(place) {
+    match cluster_number(place) {
         Ok(cluster) => Ok(Some(Pass::Stopped { cluster, fault })),
         Err(failed) => {
             drop(fault);

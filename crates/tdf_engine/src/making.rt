@@ -16,7 +16,7 @@ ghost use Rattle.tdf_linked.specs.low.run.Begun.{HasBegun, HaveBegun};
 
 use crate::engine::Engine;
 use std::alloc::Global;
-use tdf_linked::low::base::Memory;
+use tdf_base::{Memory, cluster_number, row_number};
 use tdf_linked::low::convert::{Inputs, Links, Outputs, Writes};
 use tdf_linked::low::dynamic::First;
 use tdf_linked::low::events::Kernel;
@@ -24,26 +24,6 @@ use tdf_linked::low::exec::{Cluster, Room};
 use tdf_linked::low::flat::Flat;
 use tdf_linked::low::limits::law_limits;
 use tdf_linked::{law_ports, sampler_links, sink_links};
-
-/// A count of 32 bits; more do not fit in memory.
-fn short(count: usize) -> Result<u32, Memory>
-    ensures { IfOk result (λ number. number ≡ count) }
-{
-    if count > 4_294_967_295 {
-        return Err(Memory);
-    }
-    Ok(count as u32)
-}
-
-/// The number of the cluster at a place; more clusters do not fit in memory.
-pub(crate) fn number_at(place: usize) -> Result<u32, Memory>
-    ensures { IfOk result (λ number. number ≡ place + 1) }
-{
-    if place > 4_294_967_294 {
-        return Err(Memory);
-    }
-    Ok(place as u32 + 1)
-}
 
 /// A sum, if it has 32 bits.
 fn sum(a: u32, b: u32) -> Result<u32, Memory>
@@ -70,7 +50,7 @@ fn cluster_at(alloc: Global, flat: &Flat, place: usize, first: First) -> Result<
     requires plan { IsFirstPlan flat.now (place + 1) first }
     ensures { IfOk result (λ c. HasBegun flat.now (place + 1) first c) }
 {
-    match number_at(place) {
+    match cluster_number(place) {
         Ok(number) => Cluster::new(alloc, flat, number, first),
         Err(failed) => {
             drop(first);
@@ -100,7 +80,7 @@ fn links_of(alloc: Global, flat: &Flat, count: usize) -> Result<Vec<Links>, Memo
 {
     let mut links = Vec::new(alloc);
     for n in 0..count {
-        let own = sampler_links(alloc, &flat.tables, number_at(n)?)?;
+        let own = sampler_links(alloc, &flat.tables, cluster_number(n)?)?;
         links.push(own)?;
     }
     Ok(links)
@@ -111,7 +91,7 @@ fn first_inputs(alloc: Global, links: &Links) -> Result<Inputs, Memory>
     ensures { IfOk result (λ inputs. length inputs ≡ samplers_in links.now.list.items) }
 {
     let samplers = links.list.iter().filter(|link| link.sampler).count();
-    Inputs::new(alloc, short(samplers)?)
+    Inputs::new(alloc, row_number(samplers)?)
 }
 
 /// A 0 for each sampler of each cluster.

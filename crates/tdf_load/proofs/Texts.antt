@@ -1,5 +1,5 @@
 -- Texts that are put together piece by piece.
-use Rattle.std.proofs.Common.{◌≡◌, ◌+◌, ℕ, zero, suc, arith, List, [], ◌∷◌, ◌++◌, append_assoc, append-nil, refl, sym, ap, ◌∙◌}
+use Rattle.std.proofs.Common.{◌≡◌, ◌+◌, ℕ, zero, suc, arith, List, [], ◌∷◌, ◌++◌, append_assoc, append-nil, refl, sym, ap, ◌∙◌, Result, Ok, Err, OnOk}
 use Rattle.std.proofs.lemmas.List.{flat_map_more}
 use Rattle.std.specs.List.{flat_map, range_with_len}
 
@@ -16,3 +16,10 @@ pub texts_next : (f : ℕ → List ℕ) (a n j : ℕ) (before out new : List ℕ
 texts_next f a n j before out new at is more =
     more ∙ ap (λ text. text ++ f j) is ∙ flat_map_more f before (range_with_len a n) j
     ∙ ap (λ list. before ++ flat_map f list) (sym (range_next a n j at))
+
+-- three pieces, one after the other
+pub three_joined : {T E : Type 0} (r : Result T E) (before a b c one two new : List ℕ) → one ≡ before ++ a → two ≡ one ++ b → OnOk r (new ≡ two ++ c)
+    → OnOk r (new ≡ before ++ (a ++ (b ++ c)))
+three_joined (Ok x) before a b c one two new first second third =
+    third ∙ ap (λ l. l ++ c) (second ∙ ap (λ l. l ++ b) first) ∙ append_assoc (before ++ a) b c ∙ append_assoc before a (b ++ c)
+three_joined (Err e) before a b c one two new first second third = tt

@@ -2,11 +2,9 @@
 //!
 //! - `chain`: the numbers of a seed, the kinds of its modules, and the levels between them.
 //! - `text`: the lines of the model.
-//! - `words`: words and numbers of a line.
 #![tactic(auto)]
 
 mod chain;
 mod text;
-mod words;
 
 pub use text::load_text;

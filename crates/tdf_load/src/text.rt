@@ -7,9 +7,8 @@ ghost use Rattle.tdf_load.specs.Text.{load_text, module_at, module_text, signal_
 ghost use Rattle.tdf_load.specs.Text.{top_text, trace_line, types_text, up_block};
 
 use crate::chain::{Kind, Level, next_number};
-use crate::words::{push_number, push_word};
 use std::alloc::Global;
-use tdf_base::Memory;
+use tdf_base::{Memory, push_number, push_word};
 
 /// Appends the version, and the type of all signals.
 #[tactic(auto, unfolding(crate::specs::Text::types_text), using(crate::proofs::Texts::text_laws))]

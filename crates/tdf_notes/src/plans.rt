@@ -7,9 +7,8 @@ ghost use Rattle.tdf_notes.specs.Plans.{accepted_line, actor_line, actor_text, c
 ghost use Rattle.tdf_notes.specs.views.Counted.{AreCounted};
 
 use crate::counting::counted;
-use crate::words::{push_number, push_word, short};
+use tdf_base::{Memory, Resolution, push_number, push_word, row_number};
 use tdf_bind::Flat;
-use tdf_bind::low::base::{Memory, Resolution};
 use tdf_bind::low::fixed::push_seconds_at;
 use tdf_bind::low::walk::SharedPath;
 use tdf_schedule::{Entry, Plan};
@@ -123,7 +122,7 @@ fn push_actor(
     if flat.actors[place].cluster != cluster {
         return Ok(());
     }
-    let path = flat.actor_path(short(place)?);
+    let path = flat.actor_path(row_number(place)?);
     let count = counts[place];
     push_actor_line(out, path, count, step_of(plan.period, count), unit)
 }
@@ -145,7 +144,7 @@ fn push_edge(
     if flat.actors[row.writer as usize].cluster != cluster {
         return Ok(());
     }
-    let path = flat.edge_path(short(place)?);
+    let path = flat.edge_path(row_number(place)?);
     push_edge_line(out, path, row.initial, plan.bounds[place])
 }
 

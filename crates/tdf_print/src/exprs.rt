@@ -6,17 +6,8 @@ ghost use Rattle.tdf_tree.specs.Pure.{EAt};
 ghost use Rattle.tdf_tree.specs.Views.{pure_expr};
 ghost use Rattle.tdf_print.specs.Exprs.{op_text, shift_text, index_text, is_single, operand_text, expr_text};
 
-use itoa::Buffer;
-use tdf_base::Memory;
+use tdf_base::{Memory, push_number};
 use tdf_tree::{Expr, Index, Name, Op};
-
-/// Appends a whole number in decimal digits.
-pub(crate) fn push_number(out: &mut Vec<u8>, number: u64) -> Result<(), Memory>
-    ensures { OnOk result (out.new.items ≡ out.old.items ++ decimal number) }
-{
-    out.extend_from_slice(Buffer::new().format(number).as_bytes())?;
-    Ok(())
-}
 
 fn op_text(op: Op) -> &'static [u8]
     ensures { result.now ≡ op_text op }

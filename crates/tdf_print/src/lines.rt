@@ -8,12 +8,11 @@ ghost use Rattle.tdf_base.specs.declared.resolution.Resolution.TheVariants.{Ps};
 ghost use Rattle.tdf_tree.specs.Forms.{FStep};
 ghost use Rattle.tdf_print.specs.machine.Texts.{value_line, store_text, tdf_line_text, attr_text, initial_text, de_line_text, sense_text, member_text, trace_text};
 
-use crate::exprs::push_number;
 use crate::words::{
     port_text, push_count, push_format, push_head, push_limit, push_lit, push_lits, push_name,
     push_path, push_time,
 };
-use tdf_base::{Memory, Resolution};
+use tdf_base::{Memory, Resolution, push_number};
 use tdf_tree::{
     Attr, DeLine, FormatRef, Initial, Lit, Member, Name, PortLine, Sense, Store, TdfLine, Trace1,
 };

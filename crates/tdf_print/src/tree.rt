@@ -10,10 +10,9 @@ ghost use Rattle.tdf_print.specs.Lines.{full_line};
 ghost use Rattle.tdf_print.specs.machine.Texts.{global_text};
 
 use crate::blocks::{push_composite, push_de, push_tdf};
-use crate::exprs::push_number;
 use crate::lines::{push_end, push_members, push_pair, push_traces, push_word};
 use crate::words::{push_head, push_spaced_shape, unit_text};
-use tdf_base::{Memory, Resolution};
+use tdf_base::{Memory, Resolution, push_number};
 use tdf_tree::{Global1, Tree, TypeDecl};
 
 fn push_type(out: &mut Vec<u8>, decl: &TypeDecl) -> Result<(), Memory>

@@ -6,8 +6,7 @@ ghost use Rattle.std.specs.List.{flat_map};
 ghost use Rattle.tdf_print.specs.Lines.{sign_text, quant_text, over_text, shape_text, format_text, minus_text, lit_text, lits_text, time_text, limit_text, points_text, path_text, port_text, unit_text};
 ghost use Rattle.tdf_print.specs.machine.Texts.{point_text, value_text};
 
-use crate::exprs::push_number;
-use tdf_base::{Memory, Resolution};
+use tdf_base::{Memory, Resolution, push_number};
 use tdf_fixed::{Over, Quant};
 use tdf_tree::{FormatRef, Limit, Lit, Name, PortKind, Shape};
 

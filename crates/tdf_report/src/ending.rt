@@ -5,10 +5,9 @@ ghost use Rattle.std.specs.Prelude.{◌≡◌, ◌++◌, OnOk, codes};
 ghost use Rattle.tdf_io.specs.Bytes.{WritesText};
 ghost use Rattle.tdf_report.specs.Ending.{end_line, end_text, spent_line, stopped_line};
 
-use itoa::Buffer;
 use std::alloc::Global;
+use tdf_base::{Fault, Memory, Resolution, push_fault, push_number, push_word};
 use tdf_io::{Sink, SinkErr, put_all};
-use tdf_world::low::base::{Fault, Memory, Resolution, push_fault};
 use tdf_world::low::fixed::push_seconds_at;
 
 /// How a run ended. Times are in counts of the model's resolution.
@@ -35,21 +34,6 @@ pub enum End {
         /// The time of the instant that needed them.
         time: u64,
     },
-}
-
-/// Appends a word.
-fn push_word(out: &mut Vec<u8>, word: &[u8]) -> Result<(), Memory>
-    ensures { OnOk result (out.new.items ≡ out.old.items ++ word.now) }
-{
-    out.extend_from_slice(word)?;
-    Ok(())
-}
-
-/// Appends a number in decimal digits.
-fn push_number(out: &mut Vec<u8>, number: u64) -> Result<(), Memory>
-    ensures { OnOk result (out.new.items ≡ out.old.items ++ decimal number) }
-{
-    push_word(out, Buffer::new().format(number).as_bytes())
 }
 
 /// Appends ` turns N` and ends the line.

@@ -1,25 +1,15 @@
 //! The plan of a cluster as a note.
 
-ghost use Rattle.std.specs.Prelude.{◌≡◌, ◌+◌, ◌++◌, IfOk, OnOk, length};
+ghost use Rattle.std.specs.Prelude.{◌≡◌, ◌+◌, ◌++◌, OnOk, length};
 ghost use Rattle.tdf_world.specs.low.bind.Ranges.{AreInRange};
 ghost use Rattle.tdf_world.specs.low.notes.Plans.{plan_text, rows_of};
 ghost use Rattle.tdf_io.specs.Bytes.{WritesText};
 
+use tdf_base::{Memory, cluster_number};
 use tdf_io::{Sink, SinkErr, put_all};
-use tdf_world::low::base::Memory;
 use tdf_world::low::flat::Flat;
 use tdf_world::low::notes::push_plan;
 use tdf_world::low::schedule::Plan;
-
-/// The number of the cluster at a place; more clusters do not fit in memory.
-fn number_at(place: usize) -> Result<u32, Memory>
-    ensures { IfOk result (λ number. number ≡ place + 1) }
-{
-    if place > 4_294_967_294 {
-        return Err(Memory);
-    }
-    Ok(place as u32 + 1)
-}
 
 /// Appends the plan of the cluster at a place, from a time on. Clusters have numbers from 1 on, and places from 0 on.
 ///
@@ -37,7 +27,7 @@ pub fn push_plan_at(
     ensures plan { OnOk result (text.new.items ≡ text.old.items
         ++ plan_text flat.now.resolution flat.now.tables (place + 1) time (rows_of plan.now)) }
 {
-    let number = number_at(place)?;
+    let number = cluster_number(place)?;
     push_plan(text, &flat.tables, number, time, plan, flat.resolution)
 }
 

@@ -7,8 +7,8 @@ ghost use Rattle.std.specs.Prelude.{◌*◌, ◌≤◌, ◌^◌, IsTrue, unsigne
 use std::test::Fail;
 use tdf_base::{
     Code, Digits, Fault, LONGEST_NAME, Memory, Name, Path, Place, Resolution, TIME_END, TimeErr,
-    all_limits, are_digits, is_number, is_short, power_of_ten, push_fault, read_int, read_time,
-    read_time_at, split, value,
+    all_limits, are_digits, cluster_number, is_number, is_short, power_of_ten, push_fault,
+    push_number, push_word, read_int, read_time, read_time_at, row_number, split, value,
 };
 use tdf_fixed::{
     DecimalErr, Format, NumErr, Over, Quant, Raw, cast, cast_trn_wrap, push_bits, push_decimal,
@@ -482,9 +482,19 @@ fn printed(out: &mut Vec<u8>, code: Code, place: Place) -> Result<(), Memory> {
 #[test]
 fn faults(rt: HostRuntime) -> Result<(), Fail> {
     let mut out = Vec::new(rt.alloc());
-    printed(&mut out, Code::Unbuilt, Place::Nowhere)?;
+    printed(&mut out, Code::TooLong, Place::Nowhere)?;
     printed(&mut out, Code::LongLine, Place::Line(2))?;
-    assert_eq!(rt; out.as_slice(), b"UNBUILT;LONG_LINE line 2;".as_slice());
+    assert_eq!(rt; out.as_slice(), b"TOO_LONG;LONG_LINE line 2;".as_slice());
+    Ok(())
+}
+
+#[test]
+fn words(rt: HostRuntime) -> Result<(), Fail> {
+    let mut out = Vec::new(rt.alloc());
+    push_word(&mut out, b"cluster ")?;
+    push_number(&mut out, u64::from(cluster_number(4)?))?;
+    assert_eq!(rt; out.as_slice(), b"cluster 5".as_slice());
+    assert_eq!(rt; row_number(4)?, 4);
     Ok(())
 }
 

@@ -5,7 +5,7 @@
 //!
 //! - `about`: what a trace is of, its variables.
 //! - `column`, `columns`: the cells of one column that wait; going from row to row.
-//! - `words`, `tables`, `vcd`: the lines of both kinds.
+//! - `tables`, `vcd`: the lines of both kinds.
 //! - `rows`: writing rows up to a time.
 //! - `heads`: writing what is before the rows, and after them.
 //! - `stage`, `trace`: the type [`Trace`] and its calls.
@@ -24,7 +24,6 @@ mod stage;
 mod tables;
 mod trace;
 mod vcd;
-mod words;
 
 pub use about::Variable;
 pub use laws::law_whole;

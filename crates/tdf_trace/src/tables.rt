@@ -8,8 +8,7 @@ ghost use Rattle.tdf_trace.specs.views.Seen.{AreShown};
 
 use crate::about::Variable;
 use crate::column::Column;
-use crate::words::push_word;
-use tdf_base::{Memory, Resolution};
+use tdf_base::{Memory, Resolution, push_word};
 use tdf_fixed::{Raw, push_decimal, push_seconds_at};
 
 /// Appends a label with a space before it.

@@ -10,8 +10,7 @@ ghost use Rattle.tdf_trace.specs.Writings.{labels_of, sizes_of};
 
 use crate::about::Variable;
 use crate::column::Column;
-use crate::words::{push_number, push_word};
-use tdf_base::{Memory, Resolution};
+use tdf_base::{Memory, Resolution, push_number, push_word};
 use tdf_fixed::{Raw, push_bits};
 
 /// Appends the character that stands for a variable.

@@ -10,4 +10,4 @@ loop-n-preserved c =
     let t = c.args.flat.now.tables in
     subst (λ (l : List Links). AreLinkedUpTo t (c.loop-n.n + 1) l) (sym c.in_ok-push.ensures.items)
     (linked_more t c.loop-n.n c.loop-n.links.items c.in_ok-own.own c.loop-n.invariant
-    (subst (λ k. AreSamplerLinks t k c.in_ok-own.own.list.items) c.in_ok-number_at.ensures c.in_ok-own.ensures.links))
+    (subst (λ k. AreSamplerLinks t k c.in_ok-own.own.list.items) c.in_ok-cluster_number.ensures c.in_ok-own.ensures.links))
