@@ -2,6 +2,7 @@ pub mod Assignments
 pub mod Attributes
 pub mod Faults
 pub mod First
+pub mod Known
 pub mod Laws
 pub mod Rates
 pub mod Text

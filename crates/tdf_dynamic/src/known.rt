@@ -1,10 +1,11 @@
 //! The plans of a cluster that were made last, each with what it was made from.
 
-ghost use Rattle.std.specs.Prelude.{◌≡◌, IfErr, IfOk, IfSome, length, true, vec_len};
+ghost use Rattle.std.specs.Prelude.{◌≡◌, ◌<◌, ◌≤◌, ◌+◌, ◌-◌, ◌^◌, IfErr, IfOk, IfSome, [], None, Ok, OnOk, drop, false, if◌then◌else◌, length, min, true, vec_len};
 ghost use Rattle.tdf_flat.specs.low.bind.Ranges.{AreInRange};
 ghost use Rattle.tdf_dynamic.specs.Faults.{IsPlanFault, IsPlanOf, IsRefusal};
 ghost use Rattle.tdf_dynamic.specs.Rates.{seen};
-ghost use Rattle.tdf_dynamic.specs.machine.Kept.{HasSameItems, IsMadeFrom, IsPlanIn};
+ghost use Rattle.tdf_dynamic.specs.Known.{HasKept, HasSameItems, IsKnown, IsMadeFrom, IsShort};
+ghost use Rattle.tdf_dynamic.specs.machine.Kept.{IsPlanIn};
 ghost use Rattle.tdf_schedule.specs.Plan.{IsPaced};
 
 use crate::attrs::ModuleAttrs;
@@ -35,7 +36,7 @@ pub(crate) struct KnownPlan {
 impl Model for KnownPlan {
     ghost use Rattle.tdf_dynamic.specs.Faults.{IsPlanOf};
     ghost use Rattle.tdf_dynamic.specs.Rates.{seen};
-    ghost use Rattle.tdf_dynamic.specs.machine.Kept.{KnownOf};
+    ghost use Rattle.tdf_dynamic.specs.Known.{KnownOf};
 
     ghost Value = { KnownOf };
 
@@ -52,31 +53,36 @@ impl Model for KnownPlan {
 }
 
 fn are_same_actors(one: &[Actor], other: &[Actor]) -> bool
-    ensures { result ≡ true → one.now ≡ other.now }
+    ensures same { result ≡ true → one.now ≡ other.now }
+    ensures other { result ≡ false → one.now ≡ other.now → ⊥ }
 {
     one == other
 }
 
 fn are_same_edges(one: &[Edge], other: &[Edge]) -> bool
-    ensures { result ≡ true → one.now ≡ other.now }
+    ensures same { result ≡ true → one.now ≡ other.now }
+    ensures other { result ≡ false → one.now ≡ other.now → ⊥ }
 {
     one == other
 }
 
 fn are_same_ports(one: &[Port], other: &[Port]) -> bool
-    ensures { result ≡ true → one.now ≡ other.now }
+    ensures same { result ≡ true → one.now ≡ other.now }
+    ensures other { result ≡ false → one.now ≡ other.now → ⊥ }
 {
     one == other
 }
 
 fn are_same_numbers(one: &[u64], other: &[u64]) -> bool
-    ensures { result ≡ true → one.now ≡ other.now }
+    ensures same { result ≡ true → one.now ≡ other.now }
+    ensures other { result ≡ false → one.now ≡ other.now → ⊥ }
 {
     one == other
 }
 
 fn is_same_net(one: &Net, other: &Net) -> bool
-    ensures { result ≡ true → seen one.now ≡ seen other.now }
+    ensures same { result ≡ true → seen one.now ≡ seen other.now }
+    ensures other { result ≡ false → seen one.now ≡ seen other.now → ⊥ }
 {
     are_same_actors(one.actors(), other.actors())
         && are_same_edges(one.edges(), other.edges())
@@ -99,7 +105,8 @@ fn copy_of(alloc: Global, plan: &Plan) -> Result<Plan, Memory>
 impl KnownPlan {
     /// Whether it was made from this net with these counts and steps.
     fn is_of(&self, net: &Net, timing: &Timing) -> bool
-        ensures { result ≡ true → IsMadeFrom self.now (seen net.now) timing.now.counts.items timing.now.steps }
+        ensures made { result ≡ true → IsMadeFrom self.now (seen net.now) timing.now.counts.items timing.now.steps }
+        ensures other { result ≡ false → IsMadeFrom self.now (seen net.now) timing.now.counts.items timing.now.steps → ⊥ }
     {
         self.timing.steps.period == timing.steps.period
             && are_same_numbers(&self.timing.counts, &timing.counts)
@@ -122,7 +129,9 @@ fn found_in(
     net: &Net,
     timing: &Timing,
 ) -> Result<Option<Plan>, Memory>
-    ensures { IfOk result (λ found. IfSome found (IsPlanOf (seen net.now) timing.now.counts.items timing.now.steps)) }
+    ensures plan { IfOk result (λ found. IfSome found (IsPlanOf (seen net.now) timing.now.counts.items timing.now.steps)) }
+    ensures known { IfOk result (λ found. IfSome found (λ _. IsKnown plans.now (seen net.now) timing.now.counts.items timing.now.steps)) }
+    ensures none { result ≡ Ok None → IsKnown plans.now (seen net.now) timing.now.counts.items timing.now.steps → ⊥ }
 {
     for i in 0..plans.len() {
         let known = &plans[i];
@@ -131,6 +140,18 @@ fn found_in(
         }
     }
     Ok(None)
+}
+
+/// Has room for one more plan: the one that was kept first gives way, where there are as many as may be.
+fn make_room(plans: &mut Vec<KnownPlan>, most: usize)
+    requires some { 1 ≤ most }
+    requires few { length plans.old.items ≤ most }
+    ensures rest { plans.new.items ≡ drop (length plans.old.items + 1 - most) plans.old.items }
+    ensures room { length plans.new.items < most }
+{
+    if plans.len() >= most {
+        drop(plans.remove(0));
+    }
 }
 
 /// The plans of a cluster that were made last, each with what it was made from, and how many were made. No more than eight are
@@ -142,9 +163,23 @@ pub struct KnownPlans {
     made: u64,
 }
 
+impl Model for KnownPlans {
+    ghost use Rattle.tdf_dynamic.specs.Known.{AreFew, PlansOf};
+
+    ghost Value = { PlansOf };
+
+    ghost view = { λ a. record { plans = a.plans.items; most = a.most; made = a.made } };
+
+    ghost invariant = { λ a. AreFew (record { plans = a.plans.items; most = a.most; made = a.made }) };
+}
+
 impl KnownPlans {
     /// None yet. Plans are kept where the table can change. It takes no memory.
-    pub(crate) fn new(alloc: Global, changes: bool) -> KnownPlans {
+    pub(crate) fn new(alloc: Global, changes: bool) -> KnownPlans
+        ensures plans { result.plans ≡ [] }
+        ensures most { result.most ≡ (if changes then 8 else 0) }
+        ensures made { result.made ≡ 0 }
+    {
         KnownPlans {
             plans: Vec::new(alloc),
             most: if changes { MOST_PLANS } else { 0 },
@@ -153,7 +188,10 @@ impl KnownPlans {
     }
 
     /// All that are kept, for the table that comes after this one. It takes no memory.
-    pub fn take(&mut self, alloc: Global) -> KnownPlans {
+    pub fn take(&mut self, alloc: Global) -> KnownPlans
+        ensures all { result ≡ self.old }
+        ensures rest { self.new ≡ record self.old { plans = [] } }
+    {
         let rest = KnownPlans {
             plans: Vec::new(alloc),
             most: self.most,
@@ -163,25 +201,36 @@ impl KnownPlans {
     }
 
     /// How often a plan was made; a number that is the greatest stays.
-    pub fn plannings(&self) -> u64 {
+    pub fn plannings(&self) -> u64
+        ensures { result ≡ self.now.made }
+    {
         self.made
     }
 
-    /// Keeps a plan, if it is short enough.
+    /// Keeps a plan that was made, if it is short enough.
     fn keep(&mut self, alloc: Global, net: Net, timing: Timing, plan: &Plan) -> Result<(), Memory>
         requires { IsPlanOf (seen net) timing.counts.items timing.steps plan.now }
+        ensures kept { OnOk result (HasKept (seen net) timing.counts.items timing.steps plan.now self.old self.new) }
+        ensures made { OnOk result (self.new.made ≡ min (self.old.made + 1) (2 ^ 64 - 1)) }
     {
+        self.made = self.made.saturating_add(1);
         if self.most == 0 || plan.entries.len() > MOST_ENTRIES {
             drop(net);
             drop(timing);
             return Ok(());
         }
-        let plan = copy_of(alloc, plan)?;
-        if self.plans.len() >= self.most {
-            drop(self.plans.remove(0));
+        match copy_of(alloc, plan) {
+            Ok(plan) => {
+                make_room(&mut self.plans, self.most);
+                self.plans.push(KnownPlan { net, timing, plan })?;
+                Ok(())
+            }
+            Err(refused) => {
+                drop(net);
+                drop(timing);
+                Err(refused)
+            }
         }
-        self.plans.push(KnownPlan { net, timing, plan })?;
-        Ok(())
     }
 
     /// The plan of a cluster under a table, made and kept.
@@ -198,13 +247,17 @@ impl KnownPlans {
         requires paced { IsPaced net.edges.items timing.counts.items timing.steps.actor_steps.items }
         ensures plan { IfOk result (IsPlanOf (seen net) timing.counts.items timing.steps) }
         ensures refused { IfErr result (IsRefusal (IsPlanFault tables.now (seen net) table.now timing.counts.items timing.steps)) }
+        ensures kept { IfOk result (λ plan. HasKept (seen net) timing.counts.items timing.steps plan self.old self.new) }
+        ensures made { OnOk result (self.new.made ≡ min (self.old.made + 1) (2 ^ 64 - 1)) }
     {
         match plan_of(alloc, tables, &net, table, &timing) {
-            Ok(plan) => {
-                self.made = self.made.saturating_add(1);
-                self.keep(alloc, net, timing, &plan)?;
-                Ok(plan)
-            }
+            Ok(plan) => match self.keep(alloc, net, timing, &plan) {
+                Ok(()) => Ok(plan),
+                Err(refused) => {
+                    drop(plan);
+                    Err(ChangeErr::from(refused))
+                }
+            },
             Err(refused) => {
                 drop(net);
                 drop(timing);
@@ -232,14 +285,26 @@ impl KnownPlans {
         ensures plan { IfOk result (IsPlanOf (seen net) timing.counts.items timing.steps) }
         ensures refused { IfErr result (IsRefusal (IsPlanFault tables.now (seen net) table.now
             timing.counts.items timing.steps)) }
+        ensures known { IsKnown self.old.plans (seen net) timing.counts.items timing.steps
+            → self.new ≡ self.old }
+        ensures kept { (IsKnown self.old.plans (seen net) timing.counts.items timing.steps → ⊥)
+            → IfOk result (λ plan. HasKept (seen net) timing.counts.items timing.steps plan
+            self.old self.new) }
+        ensures made { (IsKnown self.old.plans (seen net) timing.counts.items timing.steps → ⊥)
+            → OnOk result (self.new.made ≡ min (self.old.made + 1) (2 ^ 64 - 1)) }
     {
-        match found_in(alloc, &self.plans, &net, &timing)? {
-            Some(plan) => {
+        match found_in(alloc, &self.plans, &net, &timing) {
+            Ok(Some(plan)) => {
                 drop(net);
                 drop(timing);
                 Ok(plan)
             }
-            None => self.make(alloc, tables, net, table, timing),
+            Ok(None) => self.make(alloc, tables, net, table, timing),
+            Err(refused) => {
+                drop(net);
+                drop(timing);
+                Err(ChangeErr::from(refused))
+            }
         }
     }
 }
