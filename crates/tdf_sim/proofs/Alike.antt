@@ -51,6 +51,9 @@ alike tree a b passes h k = let same = tables_are_one tree a b passes h k in rec
 pub turned : (a b : Flat) → IsAlike a b → IsAlike b a
 turned a b same = record { tables = sym same.tables; unit = sym same.unit; rates = λ n. sym (same.rates n) }
 
+pub itself : (a : Flat) → IsAlike a a
+itself a = record { tables = refl; unit = refl; rates = λ n. refl }
+
 -- the attributes of a module, by the tables and the values that its rate variables start with
 attrs_by : FlatOf → List ℕ → ℕ → ℕ → ModuleRow → Option AttrsOf
 attrs_by tables rates cluster number row =

@@ -43,7 +43,7 @@ passes tree kept sound = record { kept = kept; names = sound.names; types = soun
 
 module _ (one_cluster : ClustersHaveOne) (whole : ClustersAreWhole) (plannable : FlatIsPlannable) where
   -- a tree has at most one first fault
-  one_in_tree : (tree : PureTree) (one other : Fault) → IsKept tree → IsTreeFault tree one → IsTreeFault tree other → one ≡ other
+  pub one_in_tree : (tree : PureTree) (one other : Fault) → IsKept tree → IsTreeFault tree one → IsTreeFault tree other → one ≡ other
   one_in_tree tree one other kept (of_names f f_is one_is) (of_names g g_is other_is) = same_line (name_faults tree) f g one other f_is g_is one_is other_is
   one_in_tree tree one other kept (of_names f f_is one_is) (of_types g none g_is other_is) = absurd (none_first (name_faults tree) f none f_is)
   one_in_tree tree one other kept (of_names f f_is one_is) (of_binding sound bound) = absurd (none_first (name_faults tree) f sound.names f_is)
@@ -64,7 +64,7 @@ module _ (one_cluster : ClustersHaveOne) (whole : ClustersAreWhole) (plannable :
       (alike tree flat flat2 (passes tree kept sound) is_flat is_flat2) planned planned2
 
   -- a tree with a fault is not accepted
-  tree_or_accepted : (tree : PureTree) (fault : Fault) (sim : Sim) → IsKept tree → IsTreeFault tree fault → IsAccepted tree sim → ⊥
+  pub tree_or_accepted : (tree : PureTree) (fault : Fault) (sim : Sim) → IsKept tree → IsTreeFault tree fault → IsAccepted tree sim → ⊥
   tree_or_accepted tree fault sim kept (of_names f f_is is) accepted = none_first (name_faults tree) f accepted.lines.names f_is
   tree_or_accepted tree fault sim kept (of_types f none f_is is) accepted = none_first (type_faults tree) f accepted.lines.types f_is
   tree_or_accepted tree fault sim kept (of_binding sound bound) accepted = fault_or_flat tree fault sim.flat (passes tree kept sound) bound accepted.is_flat

@@ -8,7 +8,7 @@ use Rattle.tdf_blocks.specs.Refused.{IsWhy, SpellsText}
 use Rattle.tdf_blocks.specs.declared.err.LangErr.{LangErr}
 use Rattle.tdf_blocks.specs.declared.err.LangErr.TheVariants as why
 use Rattle.tdf_loop.specs.low.checks.Types.{type_faults}
-use Rattle.tdf_loop.specs.low.dynamic.First.{IsFirstPlan}
+use Rattle.tdf_loop.specs.low.dynamic.First.{IsFirstPlan, IsPlannable}
 use Rattle.tdf_loop.specs.low.dynamic.declared.first.First.{First}
 use Rattle.tdf_loop.specs.low.faults.First.{first_of, verdict_of}
 use Rattle.tdf_loop.specs.low.faults.declared.first.LineFault.{LineFault}
@@ -18,8 +18,8 @@ use Rattle.tdf_loop.specs.low.flat.Flat.{IsFlatOf}
 use Rattle.tdf_loop.specs.low.flat.declared.model.Flat.{Flat}
 use Rattle.tdf_loop.specs.low.names.Names.{name_faults}
 use Rattle.tdf_sim.specs.Accepted.{ArePlans, IsAccepted, IsAcceptedText, IsPlansRefusal, IsTextRefusal, IsTreeRefusal}
-use Rattle.tdf_sim.specs.FirstFault.{HasSoundLines, IsFirstFault, cluster_count, of_bytes, of_length, of_syntax, of_tree, of_names, of_types, of_clusters, on_line, at_line}
-use Rattle.tdf_sim.specs.Laws.{FaultsAreOne, FaultOrAccepted}
+use Rattle.tdf_sim.specs.FirstFault.{HasSoundLines, IsFirstFault, IsPlansFault, IsTreeFault, cluster_count, of_bytes, of_length, of_syntax, of_tree, of_names, of_types, of_clusters, on_line, at_line}
+use Rattle.tdf_sim.specs.Laws.{FaultsAreOne, FaultOrAccepted, FaultsOfPlansAreOne, FaultsOfTreesAreOne, TreeFaultOrAccepted}
 use Rattle.tdf_sim.specs.Runs.{IsAcceptedTree}
 use Rattle.tdf_sim.specs.declared.err.SimErr.{SimErr}
 use Rattle.tdf_sim.specs.declared.err.SimErr.TheVariants.{Refused, Memory}
@@ -136,11 +136,28 @@ text_refused text tree (Ok sim) spells is = tt
 text_refused text tree (Err (Refused fault)) spells is = of_tree tree spells is
 text_refused text tree (Err Memory) spells is = tt
 
--- where a text has a fault, the answer is that fault, or out of memory
+-- where there is a first fault, the answer is that fault, or out of memory
+pub refused_always : {X : Type 0} (Is : Fault → Type 0) (r : SimErr) → ((one other : Fault) → Is one → Is other → one ≡ other) → ((g : Fault) → r ≡ Refused g → Is g)
+    → (fault : Fault) → Is fault → (◌≡◌ {A = Result X SimErr} (Err r) (Err (Refused fault))) ⊎ (◌≡◌ {A = Result X SimErr} (Err r) (Err Memory))
+refused_always Is (Refused g) one says fault has = inl (ap (λ (f : Fault). Err (Refused f)) (one g fault (says g refl) has))
+refused_always Is Memory one says fault has = inr refl
+
 pub err_always : (text : List ℕ) (r : SimErr) → FaultsAreOne → IsTextRefusal text r → (fault : Fault) → IsFirstFault text fault
     → (◌≡◌ {A = Result Sim SimErr} (Err r) (Err (Refused fault))) ⊎ (◌≡◌ {A = Result Sim SimErr} (Err r) (Err Memory))
-err_always text (Refused g) one is fault has = inl (ap (λ (f : Fault). Err (Refused f)) (one text g fault is has))
-err_always text Memory one is fault has = inr refl
+err_always text r one is = refused_always (IsFirstFault text) r (one text) (λ g e. subst (IsTextRefusal text) e is)
+
+pub tree_err_always : (tree : PureTree) (r : SimErr) → FaultsOfTreesAreOne → IsKept tree → IsTreeRefusal tree r → (fault : Fault) → IsTreeFault tree fault
+    → (◌≡◌ {A = Result Sim SimErr} (Err r) (Err (Refused fault))) ⊎ (◌≡◌ {A = Result Sim SimErr} (Err r) (Err Memory))
+tree_err_always tree r one kept is = refused_always (IsTreeFault tree) r (λ f g. one tree f g kept) (λ g e. subst (IsTreeRefusal tree) e is)
+
+pub tree_always : (tree : PureTree) (result : Result Sim SimErr) → FaultsOfTreesAreOne → TreeFaultOrAccepted → IsKept tree → IfOk result (IsAcceptedTree tree) → IfErr result (IsTreeRefusal tree)
+    → (fault : Fault) → IsTreeFault tree fault → (result ≡ Err (Refused fault)) ⊎ (result ≡ Err Memory)
+tree_always tree (Ok sim) one apart kept accepted is fault has = absurd (apart tree fault sim kept has accepted.accepted)
+tree_always tree (Err r) one apart kept accepted is fault has = tree_err_always tree r one kept is fault has
+
+pub plans_err_always : (flat : Flat) (r : SimErr) → FaultsOfPlansAreOne → IsPlannable flat → IsPlansRefusal flat r → (fault : Fault) → IsPlansFault flat fault
+    → (◌≡◌ {A = Result Sim SimErr} (Err r) (Err (Refused fault))) ⊎ (◌≡◌ {A = Result Sim SimErr} (Err r) (Err Memory))
+plans_err_always flat r one can is = refused_always (IsPlansFault flat) r (λ f g. one flat f g can) (λ g e. subst (IsPlansRefusal flat) e is)
 
 pub always : (text : List ℕ) (result : Result Sim SimErr) → FaultsAreOne → FaultOrAccepted → IfOk result (IsAcceptedText text) → IfErr result (IsTextRefusal text)
     → (fault : Fault) → IsFirstFault text fault → (result ≡ Err (Refused fault)) ⊎ (result ≡ Err Memory)

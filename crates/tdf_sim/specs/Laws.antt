@@ -3,11 +3,14 @@
 use Rattle.std.specs.Prelude.{◌≡◌, ℕ, List, map}
 use Rattle.tdf_loop.specs.low.base.declared.faults.Fault.{Fault}
 use Rattle.tdf_loop.specs.Runs.{trace_of}
+use Rattle.tdf_loop.specs.low.dynamic.First.{IsPlannable}
+use Rattle.tdf_loop.specs.low.dynamic.declared.first.First.{First}
+use Rattle.tdf_loop.specs.low.flat.declared.model.Flat.{Flat}
 use Rattle.tdf_loop.specs.low.history.World.{Change}
 use Rattle.tdf_loop.specs.low.report.Ending.{HaveAnswers, run_end, run_note}
-use Rattle.tdf_sim.specs.Accepted.{IsAccepted, IsAcceptedText}
+use Rattle.tdf_sim.specs.Accepted.{ArePlans, IsAccepted, IsAcceptedText}
 use Rattle.tdf_sim.specs.declared.sim.Sim.{Sim}
-use Rattle.tdf_sim.specs.FirstFault.{IsFirstFault}
+use Rattle.tdf_sim.specs.FirstFault.{IsFirstFault, IsPlansFault, IsTreeFault}
 use Rattle.tdf_sim.specs.PlanText.{plan_rows}
 use Rattle.tdf_loop.specs.low.tree.Kept.{IsKept}
 use Rattle.tdf_loop.specs.low.tree.Pure.{PureTree}
@@ -22,6 +25,26 @@ FaultsAreOne = (text : List ℕ) (one other : Fault)
 abbrev pub FaultOrAccepted : Type 0
 FaultOrAccepted = (text : List ℕ) (fault : Fault) (sim : Sim)
     → IsFirstFault text fault → IsAcceptedText text sim → ⊥
+
+-- a tree that keeps what a spelled tree keeps has at most one first fault
+abbrev pub FaultsOfTreesAreOne : Type 0
+FaultsOfTreesAreOne = (tree : PureTree) (one other : Fault) → IsKept tree
+    → IsTreeFault tree one → IsTreeFault tree other → one ≡ other
+
+-- with a fault it is not accepted
+abbrev pub TreeFaultOrAccepted : Type 0
+TreeFaultOrAccepted = (tree : PureTree) (fault : Fault) (sim : Sim) → IsKept tree
+    → IsTreeFault tree fault → IsAccepted tree sim → ⊥
+
+-- of the faults of the clusters of a flat model at most one is the first
+abbrev pub FaultsOfPlansAreOne : Type 0
+FaultsOfPlansAreOne = (flat : Flat) (one other : Fault) → IsPlannable flat
+    → IsPlansFault flat one → IsPlansFault flat other → one ≡ other
+
+-- with such a fault not every cluster has a plan
+abbrev pub PlansFaultOrPlans : Type 0
+PlansFaultOrPlans = (flat : Flat) (fault : Fault) (firsts : List First) → IsPlannable flat
+    → IsPlansFault flat fault → ArePlans flat firsts → ⊥
 
 -- two models of one tree have the same tables, the same unit of time, and for each cluster the same
 -- attributes and the same plan

@@ -9,7 +9,7 @@ ghost use Rattle.tdf_loop.specs.low.expr.Checked.{IsCheckedOf};
 ghost use Rattle.tdf_loop.specs.low.flat.Flat.{IsFlatOf};
 ghost use Rattle.tdf_loop.specs.low.names.Names.{name_faults};
 ghost use Rattle.tdf_sim.specs.Accepted.{IsAccepted, IsAcceptedText, IsTextRefusal, IsTreeRefusal};
-ghost use Rattle.tdf_sim.specs.FirstFault.{HasSoundLines, IsFirstFault, on_line};
+ghost use Rattle.tdf_sim.specs.FirstFault.{HasSoundLines, IsFirstFault, IsTreeFault, on_line};
 ghost use Rattle.tdf_loop.specs.low.dynamic.First.{IsPlannable};
 ghost use Rattle.tdf_sim.specs.PlanText.{IsPrintable};
 ghost use Rattle.tdf_sim.specs.Runs.{IsAcceptedTree, IsSomeAccepted};
@@ -19,7 +19,7 @@ ghost use Rattle.tdf_loop.specs.low.tree.Kept.{IsKept};
 ghost use Rattle.tdf_loop.specs.low.tree.Views.{pure_tree};
 
 use crate::err::SimErr;
-use crate::laws::law_first_fault;
+use crate::laws::{law_first_fault, law_tree_fault};
 use crate::sim::Sim;
 use std::alloc::Global;
 use tdf_blocks::{LangErr, parse};
@@ -129,9 +129,14 @@ pub fn elaborate_tree(alloc: Global, tree: &Tree) -> Result<Sim, SimErr>
     ensures of { IfOk result (IsAcceptedTree (pure_tree tree.now)) }
     ensures printable { IfOk result IsPrintable }
     ensures refused { IfErr result (IsTreeRefusal (pure_tree tree.now)) }
+    ensures always { (fault : Fault) → IsTreeFault (pure_tree tree.now) fault
+        → (result ≡ Err (why.Refused fault)) ⊎ (result ≡ Err why.Memory) }
 {
-    let flat = bound(alloc, tree)?;
-    Sim::new(alloc, flat)
+    law_tree_fault();
+    match bound(alloc, tree) {
+        Ok(flat) => Sim::new(alloc, flat),
+        Err(error) => Err(error),
+    }
 }
 
 /// The model of a text that has no fault.

@@ -1,6 +1,7 @@
 //! What holds of the definitions.
 
-ghost use Rattle.tdf_sim.specs.Laws.{AnswersRunAlike, FaultOrAccepted, FaultsAreOne, ModelsAreAlike, RunsAreAlike};
+ghost use Rattle.tdf_sim.specs.Laws.{AnswersRunAlike, FaultOrAccepted, FaultsAreOne, FaultsOfPlansAreOne, FaultsOfTreesAreOne};
+ghost use Rattle.tdf_sim.specs.Laws.{ModelsAreAlike, PlansFaultOrPlans, RunsAreAlike, TreeFaultOrAccepted};
 
 use tdf_alike::{law_alike, law_answers};
 use tdf_loop::low::dynamic::{law_numbers, law_one_plan, law_plannable};
@@ -14,6 +15,25 @@ pub fn law_first_fault()
     law_one_plan();
     law_numbers();
     law_plannable();
+}
+
+/// So has a tree that keeps what a spelled tree keeps.
+pub fn law_tree_fault()
+    ensures one { FaultsOfTreesAreOne }
+    ensures apart { TreeFaultOrAccepted }
+{
+    law_one_plan();
+    law_numbers();
+    law_plannable();
+}
+
+/// The clusters of a flat model have at most one first fault, and with one not each has a plan.
+pub fn law_plans_fault()
+    ensures one { FaultsOfPlansAreOne }
+    ensures apart { PlansFaultOrPlans }
+{
+    law_one_plan();
+    law_numbers();
 }
 
 /// Two models of one tree have the same tables, and for each cluster the same attributes and the same plan.

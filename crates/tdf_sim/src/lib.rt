@@ -17,7 +17,7 @@ mod sim;
 
 pub use elaboration::{elaborate, elaborate_tree};
 pub use err::SimErr;
-pub use laws::{law_first_fault, law_one_model, law_one_run};
+pub use laws::{law_first_fault, law_one_model, law_one_run, law_plans_fault, law_tree_fault};
 pub use run::RunErr;
 pub use sim::Sim;
 pub use tdf_loop::Ran;

@@ -1,15 +1,17 @@
 //! A model that was accepted.
 
-ghost use Rattle.std.specs.Prelude.{◌≡◌, ◌+◌, ◌<◌, ◌≤◌, ◌++◌, ◌∷◌, [], IfErr, IfOk, OnErr, OnOk, ℕ, length, map, slice_get, Some, take};
+ghost use Rattle.std.specs.Prelude.{◌≡◌, ◌+◌, ◌<◌, ◌≤◌, ◌⊎◌, ◌++◌, ◌∷◌, [], Err, IfErr, IfOk, OnErr, OnOk, ℕ, length, map, slice_get, Some, take};
+ghost use Rattle.tdf_loop.specs.low.base.declared.faults.Fault.{Fault};
 ghost use Rattle.tdf_loop.specs.low.bind.Ranges.{AreInRange};
 ghost use Rattle.tdf_loop.specs.low.dynamic.First.{IsFirstPlan, IsPlannable};
 ghost use Rattle.tdf_sim.specs.Accepted.{ArePlans, IsPlansRefusal};
-ghost use Rattle.tdf_sim.specs.FirstFault.{cluster_count};
+ghost use Rattle.tdf_sim.specs.FirstFault.{IsPlansFault, cluster_count};
 ghost use Rattle.tdf_sim.specs.PlanText.{IsPrintable, cluster_text, clusters_text, plan_rows, plans_text};
 ghost use Rattle.tdf_sim.specs.declared.err.SimErr.TheVariants as why;
 ghost use Rattle.tdf_sim.specs.machine.Steps.{HavePlans, IsFirstRefusal};
 
 use crate::err::SimErr;
+use crate::laws::law_plans_fault;
 use std::alloc::Global;
 use tdf_loop::low::base::Memory;
 use tdf_loop::low::dynamic::{ChangeErr, First, first_plan, law_numbers};
@@ -143,7 +145,10 @@ impl Sim {
         ensures own { IfOk result (λ sim. sim.flat ≡ flat) }
         ensures plans { IfOk result (λ sim. ArePlans sim.flat sim.firsts.items) }
         ensures refused { IfErr result (IsPlansRefusal flat) }
+        ensures always { (fault : Fault) → IsPlansFault flat fault
+            → (result ≡ Err (why.Refused fault)) ⊎ (result ≡ Err why.Memory) }
     {
+        law_plans_fault();
         match plans_of(alloc, &flat) {
             Ok(firsts) => Ok(Sim { flat, firsts }),
             Err(error) => {

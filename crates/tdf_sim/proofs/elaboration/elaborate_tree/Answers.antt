@@ -1,10 +1,18 @@
-use Rattle.tdf_sim.proofs.Refusing.{clusters_accepted, clusters_refused}
+use Rattle.tdf_sim.proofs.Refusing.{clusters_accepted, clusters_refused, tree_always, tree_err_always}
 use Rattle.tdf_sim.proofs.elaboration.elaborate_tree.Goals as goal
 use Rattle.tdf_loop.specs.low.tree.Views.{pure_tree}
 
-pub returns-clause-refused : goal.returns-clause-refused
-returns-clause-refused c = clusters_refused (pure_tree c.args.tree.now) c.in_ok-flat.flat c.new.result c.in_ok-flat.ensures.sound c.in_ok-flat.ensures.flat c.new.ensures.refused
+pub returns-in-Ok-clause-refused : goal.returns-in-Ok-clause-refused
+returns-in-Ok-clause-refused c = clusters_refused (pure_tree c.args.tree.now) c.in-Ok.flat c.new.result c.in-Ok.ensures.sound c.in-Ok.ensures.flat c.new.ensures.refused
 
-pub returns-clause-of : goal.returns-clause-of
-returns-clause-of c = clusters_accepted (pure_tree c.args.tree.now) c.in_ok-flat.flat c.new.result c.requires.kept c.requires.formed c.in_ok-flat.ensures.sound c.in_ok-flat.ensures.flat
+pub returns-in-Ok-clause-of : goal.returns-in-Ok-clause-of
+returns-in-Ok-clause-of c = clusters_accepted (pure_tree c.args.tree.now) c.in-Ok.flat c.new.result c.requires.kept c.requires.formed c.in-Ok.ensures.sound c.in-Ok.ensures.flat
     c.new.ensures.own c.new.ensures.plans
+
+pub returns-in-Ok-clause-always : goal.returns-in-Ok-clause-always
+returns-in-Ok-clause-always c = tree_always (pure_tree c.args.tree.now) c.new.result c.law_tree_fault.ensures.one c.law_tree_fault.ensures.apart c.requires.kept
+    (clusters_accepted (pure_tree c.args.tree.now) c.in-Ok.flat c.new.result c.requires.kept c.requires.formed c.in-Ok.ensures.sound c.in-Ok.ensures.flat c.new.ensures.own c.new.ensures.plans)
+    (clusters_refused (pure_tree c.args.tree.now) c.in-Ok.flat c.new.result c.in-Ok.ensures.sound c.in-Ok.ensures.flat c.new.ensures.refused)
+
+pub returns-in-Err-clause-always : goal.returns-in-Err-clause-always
+returns-in-Err-clause-always c = tree_err_always (pure_tree c.args.tree.now) c.in-Err.error c.law_tree_fault.ensures.one c.requires.kept c.in-Err.ensures.refused
