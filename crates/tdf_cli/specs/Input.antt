@@ -3,15 +3,15 @@
 use Rattle.std.specs.Prelude.{ℕ, ◌≡◌, ◌+◌, ◌≤◌, Bool, true, false, List, Option, Some, None, length}
 use Rattle.std.specs.Io.KnownBytes.{Consumes, IsAtEnd}
 use Rattle.tdf_sim.specs.low.base.Limits.{longest_text}
-use Rattle.tdf_cli.specs.declared.load.Input.{Input}
-use Rattle.tdf_cli.specs.declared.load.Input.TheVariants as input
+use Rattle.tdf_cli.specs.declared.input.Input.{Input}
+use Rattle.tdf_cli.specs.declared.input.Input.TheVariants as input
 use Rattle.tdf_sim.specs.low.in_out.Bytes.{GivesExactly, GivesAtMost}
 use Rattle.tdf_load.specs.Text.{load_text}
 use Rattle.tdf_sim.specs.low.in_out.Faults.{FaultsRose}
 use Rattle.tdf_sim.specs.low.words.Jobs.{IsWithin}
 use Rattle.tdf_sim.specs.low.words.Words.{taken_of}
 use Rattle.tdf_sim.specs.low.words.declared.asked.Settings.{Settings}
-use Rattle.tdf_sim.specs.low.words.declared.asked.Settings.TheVariants.{Run, Check, Plan, Load}
+use Rattle.tdf_sim.specs.low.words.declared.asked.Settings.TheVariants.{Load}
 
 pub data Reading : Type 0 where
   -- the words are not accepted, and nothing is read
@@ -46,9 +46,7 @@ pub record AskToRead (words : List (List ℕ)) : Type 0 where
 -- where the text of a job comes from, by what the source had left before and has left after
 abbrev pub ComesFrom : Settings → List ℕ → (old new : Option (List ℕ)) → Type 0
 ComesFrom (Load seed size) text old new = (text ≡ load_text seed size) × (new ≡ old)
-ComesFrom (Run stop kind turns) text old new = Consumes old new text × IsAtEnd new
-ComesFrom Check text old new = Consumes old new text × IsAtEnd new
-ComesFrom Plan text old new = Consumes old new text × IsAtEnd new
+ComesFrom _ text old new = Consumes old new text × IsAtEnd new
 
 -- how it comes to this: by the words, by what the source had left before and has left after, and by
 -- its counts of faults

@@ -13,9 +13,9 @@ ghost use Rattle.tdf_sim.specs.low.words.declared.asked.Settings.{Settings};
 ghost use Rattle.tdf_sim.specs.low.words.declared.asked.Settings.TheVariants.{Load};
 ghost use Rattle.tdf_sim.specs.low.in_out.Faults.{FaultsRose};
 
+use crate::input::input_of;
 use crate::jobs::finish;
 use crate::laws::law_one_outcome;
-use crate::load::load;
 use crate::status::{NO_MEMORY, WRITE_FAULT};
 use std::alloc::Global;
 use tdf_sim::low::in_out::{Sink, SinkErr, Source};
@@ -64,7 +64,7 @@ pub fn tool<S: Source, O: Sink, N: Sink>(
         → ¬ FaultsRose (N.faults notes.old) (N.faults notes.new) → (result ≡ number_of o.status) ⊎ (result ≡ no_memory) }
 {
     law_one_outcome();
-    let input = load(alloc, words, model);
+    let input = input_of(alloc, words, model);
     match finish(alloc, &input, out, notes) {
         Ok(status) => status.number(),
         Err(SinkErr::Failed) => WRITE_FAULT,

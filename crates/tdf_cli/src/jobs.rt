@@ -21,8 +21,8 @@ ghost use Rattle.tdf_sim.specs.low.words.declared.asked.Settings.TheVariants.{Ch
 ghost use Rattle.tdf_sim.specs.low.tree.Kept.{IsKept};
 ghost use Rattle.tdf_sim.specs.low.tree.Views.{pure_tree};
 
+use crate::input::Input;
 use crate::laws::law_one_outcome;
-use crate::load::Input;
 use crate::measure::measure;
 use crate::notes::{noted, refuse};
 use crate::refusals::first_fault;

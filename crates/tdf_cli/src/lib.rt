@@ -1,7 +1,7 @@
 //! The command: its words, its jobs and its answer.
 //!
 //! * `command`: the top call.
-//! * `load`: the words, and the text of the model: read, or made.
+//! * `input`: the words, and the text of the model: read, or made.
 //! * `jobs`: what each outcome writes, but for runs.
 //! * `run`: the job `run`.
 //! * `measure`: the job `load`.
@@ -12,9 +12,9 @@
 #![tactic(auto)]
 
 mod command;
+mod input;
 mod jobs;
 mod laws;
-mod load;
 pub mod low;
 mod measure;
 mod notes;

@@ -59,7 +59,7 @@ fn read<S: Source>(alloc: Global, job: Settings, model: &mut S) -> Input
 }
 
 /// Takes the words, and then reads the model, or makes one.
-pub(crate) fn load<S: Source>(alloc: Global, words: &Vec<String>, model: &mut S) -> Input
+pub(crate) fn input_of<S: Source>(alloc: Global, words: &Vec<String>, model: &mut S) -> Input
     ensures input { InputIs (texts_of words.now.items) (reading result) (S.left model.old) (S.left model.new) (S.faults model.old) (S.faults model.new) }
     ensures ready { IsReady (reading result) }
     ensures unread { ¬ AskToRead (texts_of words.now.items) → model.new ≡ model.old }
