@@ -1,9 +1,11 @@
 //! Tests of the command.
 //!
 //! - `devices`: sources and sinks.
+//! - `failing`: devices that fail under the command.
 //! - `plans`: how often a plan is made in a run.
-//! - `runs`: runs and refusals of the command, and devices that fail under it.
+//! - `runs`: runs and refusals of the command.
 
 mod devices;
+mod failing;
 mod plans;
 mod runs;

@@ -1,10 +1,10 @@
-//! The command over sources and sinks in memory: worked runs, refusals by name, and devices that fail.
+//! The command over sources and sinks in memory that never fail: worked runs, and refusals by name.
 
 use std::alloc::Global;
 use std::test::Fail;
 use tdf_base::Memory;
-use tdf_cli::{NO_MEMORY, USAGE, WRITE_FAULT, tool};
-use tdf_io::{MemSink, MemSource, SureSink, SureSource};
+use tdf_cli::{NO_MEMORY, USAGE, tool};
+use tdf_io::{SureSink, SureSource};
 
 /// The bytes of some texts, one after another.
 fn joined(alloc: Global, parts: &[&str]) -> Result<Vec<u8>, Memory> {
@@ -17,7 +17,7 @@ fn joined(alloc: Global, parts: &[&str]) -> Result<Vec<u8>, Memory> {
 
 /// The ramp: its first lines, the bits of its word, its timestep, and what each sample adds.
 #[derive(Clone, Copy)]
-struct Ramp<'a> {
+pub(crate) struct Ramp<'a> {
     first: &'a str,
     bits: &'a str,
     step: &'a str,
@@ -25,7 +25,7 @@ struct Ramp<'a> {
 }
 
 impl<'a> Ramp<'a> {
-    fn text(self, alloc: Global) -> Result<Vec<u8>, Memory> {
+    pub(crate) fn text(self, alloc: Global) -> Result<Vec<u8>, Memory> {
         joined(
             alloc,
             &[
@@ -44,7 +44,15 @@ impl<'a> Ramp<'a> {
     }
 }
 
-fn words_of(alloc: Global, words: &[&str]) -> Result<Vec<String>, Memory> {
+/// The ramp of 16 bits, one sample a microsecond.
+pub(crate) const RAMP: Ramp<'static> = Ramp {
+    first: "language 1",
+    bits: "16",
+    step: "1us",
+    add: "1",
+};
+
+pub(crate) fn words_of(alloc: Global, words: &[&str]) -> Result<Vec<String>, Memory> {
     let mut list = Vec::new(alloc);
     for word in words {
         list.push(String::from_str(alloc, word)?)?;
@@ -53,7 +61,7 @@ fn words_of(alloc: Global, words: &[&str]) -> Result<Vec<String>, Memory> {
 }
 
 /// Whether the command, over devices that never fail, answers this status, this output and these notes.
-fn answers(
+pub(crate) fn answers(
     alloc: Global,
     words: &[&str],
     text: &[u8],
@@ -179,7 +187,7 @@ fn wrong_run(alloc: Global) -> Result<&'static str, Memory> {
     Ok("")
 }
 
-const RUN: &[&str] = &["run", "--stop", "3us"];
+pub(crate) const RUN: &[&str] = &["run", "--stop", "3us"];
 
 /// Ramps that do not run: the first lines, bits, timestep, the words, the status and the note.
 const RAMPS: &[(&str, &str, &str, &[&str], u8, &str)] = &[
@@ -287,13 +295,7 @@ const OTHERS: &[(&[&str], u8, &str, &str)] = &[
 
 /// The closing note of the first of the other runs with another answer, or nothing.
 fn wrong_other(alloc: Global) -> Result<&'static str, Memory> {
-    let ramp = Ramp {
-        first: "language 1",
-        bits: "16",
-        step: "1us",
-        add: "1",
-    };
-    let text = ramp.text(alloc)?;
+    let text = RAMP.text(alloc)?;
     for &(words, status, output, closing) in OTHERS {
         let notes = joined(
             alloc,
@@ -399,144 +401,8 @@ fn runs_and_refuses_by_name(rt: HostRuntime) -> Result<(), Fail> {
     Ok(())
 }
 
-/// The calls that fail: of the source, of the sink of output, of the sink of notes.
-type Fails<'a> = (&'a [u64], &'a [u64], &'a [u64]);
-
-/// What the command answers to RUN or other words for the ramp, its output and its notes, where these calls fail, a read gives at
-/// most 8 bytes, and a write takes at most 4.
-fn failing(
-    alloc: Global,
-    words: &[&str],
-    fails: Fails<'_>,
-) -> Result<(u8, MemSink, MemSink), Memory> {
-    let words = words_of(alloc, words)?;
-    let ramp = Ramp {
-        first: "language 1",
-        bits: "16",
-        step: "1us",
-        add: "1",
-    };
-    let reads = Vec::from_slice(alloc, fails.0)?;
-    let mut model = MemSource::new(ramp.text(alloc)?, reads, 8);
-    let mut out = MemSink::new(alloc, Vec::from_slice(alloc, fails.1)?, 4);
-    let mut notes = MemSink::new(alloc, Vec::from_slice(alloc, fails.2)?, 4);
-    let status = tool(alloc, &words, &mut model, &mut out, &mut notes);
-    if status == NO_MEMORY {
-        return Err(Memory);
-    }
-    Ok((status, out, notes))
-}
-
-const TABLE: &[u8] = b"%time s\n0 0\n0.000001 1\n0.000002 2\n";
-
-const NOTES: &[u8] =
-    b"cluster 1 at 0 period 0.000001 firings 1\nactor u count 1 step 0.000001\nend 0.000003 turns 5\n";
-
-/// Whether the command answers this status, where these calls fail, and writes front parts: all of the table or the notes
-/// where this says so.
-fn writes_fronts(
-    alloc: Global,
-    fails: Fails<'_>,
-    wanted: u8,
-    whole: (bool, bool),
-) -> Result<bool, Memory> {
-    let (status, out, notes) = failing(alloc, RUN, fails)?;
-    Ok(
-        status == wanted
-            && TABLE.starts_with(out.bytes())
-            && NOTES.starts_with(notes.bytes())
-            && (out.bytes().len() == TABLE.len() || !whole.0)
-            && (notes.bytes().len() == NOTES.len() || !whole.1),
-    )
-}
-
-/// Whether the command answers this status, this output and these notes, where these calls fail.
-fn fails_with(
-    alloc: Global,
-    words: &[&str],
-    fails: Fails<'_>,
-    wanted: (u8, &[u8], &[u8]),
-) -> Result<bool, Memory> {
-    let (status, out, notes) = failing(alloc, words, fails)?;
-    Ok(status == wanted.0 && out.bytes() == wanted.1 && notes.bytes() == wanted.2)
-}
-
-const NO_CALLS: &[u64] = &[];
-
-/// The number of the first call whose failure has another answer: a read, a write of output, or a note; else 25. There
-/// are 24 reads, 9 writes and 24 notes.
-fn first_wrong_call(alloc: Global) -> Result<u64, Memory> {
-    for call in 0..25u64 {
-        let one: &[u64] = &[call];
-        let written = call >= 9;
-        let noted = call >= 24;
-        let read = if noted {
-            writes_fronts(alloc, (one, NO_CALLS, NO_CALLS), 0, (true, true))?
-        } else {
-            fails_with(
-                alloc,
-                RUN,
-                (one, NO_CALLS, NO_CALLS),
-                (3, b"", b"read fault\n"),
-            )?
-        };
-        let status = if written { 0 } else { WRITE_FAULT };
-        let write = writes_fronts(alloc, (NO_CALLS, one, NO_CALLS), status, (written, written))?;
-        let status = if noted { 0 } else { WRITE_FAULT };
-        let note = writes_fronts(alloc, (NO_CALLS, NO_CALLS, one), status, (noted, noted))?;
-        if !read || !write || !note {
-            return Ok(call);
-        }
-    }
-    Ok(25)
-}
-
-/// A write of output that fails after four bytes.
-fn stops_at_a_write(alloc: Global) -> Result<bool, Memory> {
-    let (status, out, notes) = failing(alloc, RUN, (NO_CALLS, &[1], NO_CALLS))?;
-    Ok(
-        status == WRITE_FAULT
-            && out.bytes() == b"%tim".as_slice()
-            && NOTES.starts_with(notes.bytes()),
-    )
-}
-
-/// A read that fails, and words that are not accepted, which leave the source unread.
-fn stops_before_the_text(alloc: Global) -> Result<bool, Memory> {
-    let read = (&[0][..], NO_CALLS, NO_CALLS);
-    Ok(
-        fails_with(alloc, RUN, read, (3, b"", b"read fault\n"))?
-            && fails_with(alloc, &["run"], read, (USAGE, b"", b"usage\n"))?,
-    )
-}
-
-/// A text of 1,048,577 spaces is too long, and one of 1,048,576 is not.
-fn stops_at_a_long_text(alloc: Global) -> Result<bool, Memory> {
-    let mut spaces = Vec::new(alloc);
-    for _ in 0..1_048_576u64 {
-        spaces.push(b' ')?;
-    }
-    let fits = answers(alloc, RUN, &spaces, (1, b"", b"refused LONG_LINE line 1\n"))?;
-    spaces.push(b' ')?;
-    Ok(fits && answers(alloc, RUN, &spaces, (8, b"", b"too long\n"))?)
-}
-
 #[test]
 fn makes_models_and_measures_them(rt: HostRuntime) -> Result<(), Fail> {
     assert!(rt; loads(rt.alloc())?);
-    Ok(())
-}
-
-#[test]
-fn survives_devices_that_fail(rt: HostRuntime) -> Result<(), Fail> {
-    assert_eq!(rt; first_wrong_call(rt.alloc())?, 25);
-    Ok(())
-}
-
-#[test]
-fn the_outside(rt: HostRuntime) -> Result<(), Fail> {
-    assert!(rt; stops_at_a_write(rt.alloc())?);
-    assert!(rt; stops_before_the_text(rt.alloc())?);
-    assert!(rt; stops_at_a_long_text(rt.alloc())?);
     Ok(())
 }
