@@ -10,7 +10,14 @@ work=$(mktemp -d)
 mkdir -p "$work/crates/bodies_bench/src" "$work/.git"
 cp "$top/HANDLES" "$work"
 cp "$here/program.txt" "$work/crates/bodies_bench/src/main.rt"
-names=$(sed -n 's/^\(tdf_[a-z]*\):.*/\1/p' "$top/crates.txt" | grep -v -e tests -e tdf_cli -e tdf_lang -e tdf_print -e tdf_names)
+below="tdf_base tdf_fixed tdf_tree tdf_expr tdf_blocks"
+# These crates, and all that they stand on.
+names=$(awk -v want="$below" '
+    /^[a-z_]+:/ { name = $1; sub(":", "", name); $1 = ""; deps[name] = $0 }
+    END { n = split(want, list); for (i = 1; i <= n; i++) seen[list[i]] = 1
+          for (i = 1; i <= n; i++) { m = split(deps[list[i]], more)
+              for (k = 1; k <= m; k++) if ((more[k] in deps) && !(more[k] in seen)) { seen[more[k]] = 1; list[++n] = more[k] } }
+          for (i = 1; i <= n; i++) print list[i] }' "$top/crates.txt")
 for name in $names; do
     mkdir "$work/crates/$name"
     for part in src specs proofs; do
@@ -18,13 +25,14 @@ for name in $names; do
     done
     grep "^$name:" "$top/crates.txt" >>"$work/crates.txt"
 done
-echo "bodies_bench: tdf_base tdf_fixed tdf_tree tdf_expr tdf_blocks" >>"$work/crates.txt"
+echo "bodies_bench: $below" >>"$work/crates.txt"
 bench=$work/crates/bodies_bench
 mkdir -p "$bench/proofs/put" "$bench/proofs/checked_of" "$bench/proofs/run_turns"
 cp "$here/answers_put.txt" "$bench/proofs/put/Answers.antt"
 cp "$here/answers_checked_of.txt" "$bench/proofs/checked_of/Answers.antt"
 cp "$here/invariants_run_turns.txt" "$bench/proofs/run_turns/Invariants.antt"
-(cd "$bench" && rt fmt >"$work/log" 2>&1 && rt run >>"$work/log" 2>&1) || tail -20 "$work/log"
+# rt ci takes what was proved on this machine before, as rt run does not.
+(cd "$bench" && rt fmt >"$work/log" 2>&1; cd "$work" && rt ci bodies_bench >>"$work/log" 2>&1) || tail -20 "$work/log"
 rustc -O "$here/bodies.rs" -o "$work/bodies"
 echo "this repository"
 "$bench/out/bodies_bench"
