@@ -212,6 +212,7 @@ impl KnownPlans {
         requires { IsPlanOf (seen net) timing.counts.items timing.steps plan.now }
         ensures kept { OnOk result (HasKept (seen net) timing.counts.items timing.steps plan.now self.old self.new) }
         ensures made { OnOk result (self.new.made ≡ min (self.old.made + 1) (2 ^ 64 - 1)) }
+        ensures most { self.new.most ≡ self.old.most }
     {
         self.made = self.made.saturating_add(1);
         if self.most == 0 || plan.entries.len() > MOST_ENTRIES {
@@ -249,6 +250,7 @@ impl KnownPlans {
         ensures refused { IfErr result (IsRefusal (IsPlanFault tables.now (seen net) table.now timing.counts.items timing.steps)) }
         ensures kept { IfOk result (λ plan. HasKept (seen net) timing.counts.items timing.steps plan self.old self.new) }
         ensures made { OnOk result (self.new.made ≡ min (self.old.made + 1) (2 ^ 64 - 1)) }
+        ensures most { self.new.most ≡ self.old.most }
     {
         match plan_of(alloc, tables, &net, table, &timing) {
             Ok(plan) => match self.keep(alloc, net, timing, &plan) {
@@ -292,6 +294,7 @@ impl KnownPlans {
             self.old self.new) }
         ensures made { (IsKnown self.old.plans (seen net) timing.counts.items timing.steps → ⊥)
             → OnOk result (self.new.made ≡ min (self.old.made + 1) (2 ^ 64 - 1)) }
+        ensures most { self.new.most ≡ self.old.most }
     {
         match found_in(alloc, &self.plans, &net, &timing) {
             Ok(Some(plan)) => {
