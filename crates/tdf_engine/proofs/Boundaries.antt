@@ -38,7 +38,6 @@ use Rattle.tdf_linked.specs.low.tree.Pure.{PureTree}
 use Rattle.tdf_linked.specs.low.world.Continuing.{HasToldCounts}
 use Rattle.tdf_told.proofs.Api.{told_twice, turns_fault}
 use Rattle.tdf_traced.proofs.Api.{answers_are_told}
-use Rattle.tdf_traced.specs.Laws.{HasAnswer}
 
 -- a cluster has no next entry where its place is the end of its plan
 none_at_end : (c : ClusterOf) → c.place ≤ length c.entries → is_none (next_offset c) ≡ nat_eq c.place (length c.entries)

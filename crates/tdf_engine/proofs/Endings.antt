@@ -1,5 +1,5 @@
 -- One turn of the boundaries, by what a cluster did in it.
-use Rattle.std.proofs.Common.{◌≡◌, ◌∙◌, ℕ, suc, ◌+◌, ◌<◌, ◌≤◌, Bool, true, false, List, Some, length, slice_get, inl, inr, refl, sym, ap, subst, arith, add-one}
+use Rattle.std.proofs.Common.{◌≡◌, ◌∙◌, ℕ, suc, ◌+◌, ◌-◌, ◌<◌, ◌≤◌, Bool, true, false, List, Some, length, slice_get, inl, inr, refl, sym, ap, subst, arith, add-one}
 use Rattle.std.proofs.lemmas.List.{append-nil}
 use Rattle.std.proofs.lemmas.Option.{slice_get-get_or, slice_get_within}
 use Rattle.std.specs.Prelude.{slice_index_or, slice_set}
@@ -84,8 +84,8 @@ module _ (flat : Flat) (time : ℕ) (x : CrossingOf) (can : CanCross flat time x
         z_is : z ≡ y
         z_is = λ i. crossing_of ((ap (slice_set y.clusters n) kept.0 ∙ set_own y.clusters n c c_at) i) ((ap (slice_set y.since n) kept.1 ∙ set_own y.since n s s_at) i) (kept.2 i) (same i)
 
-    pub has_stopped : (number : ℕ) (fault : Fault) → number ≡ n + 1 → IsRefusedAt flat time fault s c d y.left → planned ≡ y.planned → HasStopped flat time number fault x z
-    has_stopped number fault is_number refused same = record {
+    pub has_stopped : (number : ℕ) (fault : Fault) → number ≡ n + 1 → IsRefusedAt flat time fault s c d y.left → (t ≡ time) × (rest ≡ y.left - 1) → planned ≡ y.planned → HasStopped flat time number fault x z
+    has_stopped number fault is_number refused taken same = record {
       place = n;
       number_is = is_number;
       mid = y;
@@ -97,5 +97,7 @@ module _ (flat : Flat) (time : ℕ) (x : CrossingOf) (can : CanCross flat time x
       begun = s_at;
       refused = refused;
       clusters = refl;
+      starts = ap (slice_set y.since n) taken.0;
+      turns = taken.1;
       planned = same;
     }

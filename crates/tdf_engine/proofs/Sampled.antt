@@ -1,5 +1,5 @@
 -- The samplers of one cluster more get the values of their signals.
-use Rattle.std.proofs.Common.{◌≡◌, ◌≢◌, ◌⊎◌, ◌∙◌, ℕ, ◌+◌, ◌-◌, ◌<◌, true, List, Some, length, length-set, set, slice_get, slice_index_or, inl, inr, sym, ap, subst, arith}
+use Rattle.std.proofs.Common.{◌≡◌, ◌≢◌, ◌⊎◌, ◌∙◌, ℕ, ◌+◌, ◌-◌, ◌<◌, true, false, List, Some, length, length-set, set, slice_get, slice_index_or, inl, inr, sym, ap, subst, arith}
 use Rattle.std.proofs.lemmas.Option.{get_or_from_slice_get, slice_get-get_or, slice_get_within}
 use Rattle.tdf_linked.specs.low.convert.Links.{AreLinks, HaveSignals}
 use Rattle.tdf_linked.specs.low.convert.Sampled.{AreSampled}
@@ -33,7 +33,8 @@ module _ (at : SamplingAt) (first : List (List Raw)) (can : CanSample at first) 
   pub signals_now : HaveSignals l.list.items (length at.values)
   signals_now = can.signals n l l_at
 
-  module _ (j : List Raw) (sampled : is_due c (at.time - slice_index_or at.since n 0) ≡ true → AreSampled c.entries (at.time - slice_index_or at.since n 0) l.list.items at.values i j) (long : length j ≡ length i) where
+  module _ (j : List Raw) (sampled : is_due c (at.time - slice_index_or at.since n 0) ≡ true → AreSampled c.entries (at.time - slice_index_or at.since n 0) l.list.items at.values i j)
+      (kept : is_due c (at.time - slice_index_or at.since n 0) ≡ false → j ≡ i) (long : length j ≡ length i) where
     abbrev Due : (s : ℕ) → ClusterOf → Links → (x y : List Raw) → Type 0
     Due s d k x y = is_due d (at.time - s) ≡ true → AreSampled d.entries (at.time - s) k.list.items at.values x y
 
@@ -59,10 +60,29 @@ module _ (at : SamplingAt) (first : List (List Raw)) (can : CanSample at first) 
     due_at m s d k x y below s_at d_at k_at x_at y_at (inr apart) =
         before.due m s d k x y (omega (arith, below, apart)) s_at d_at k_at x_at (sym (get_set_other now n m j apart) ∙ y_at)
 
+    abbrev Idle : (s : ℕ) → ClusterOf → (x y : List Raw) → Type 0
+    Idle s d x y = is_due d (at.time - s) ≡ false → y ≡ x
+
+    idle_here : (s : ℕ) (d : ClusterOf) (x y : List Raw) → s ≡ slice_index_or at.since n 0 → d ≡ c → x ≡ i → y ≡ j → Idle s d x y
+    idle_here s d x y s_is d_is x_is y_is =
+        subst (λ q. Idle q d x y) (sym s_is) (subst (λ q. Idle (slice_index_or at.since n 0) q x y) (sym d_is)
+        (subst (λ q. Idle (slice_index_or at.since n 0) c q y) (sym x_is) (subst (λ q. Idle (slice_index_or at.since n 0) c i q) (sym y_is) kept)))
+
+    idle_at : (m s : ℕ) (d : ClusterOf) (x y : List Raw) → m < n + 1 → slice_get at.since m ≡ Some s → slice_get at.clusters m ≡ Some d → slice_get first m ≡ Some x → slice_get (set now n j) m ≡ Some y
+        → (m ≡ n) ⊎ (m ≢ n) → Idle s d x y
+    idle_at m s d x y below s_at d_at x_at y_at (inl same) = idle_here s d x y
+        (sym (get_or_from_slice_get at.since n s 0 (ap (slice_get at.since) (sym same) ∙ s_at)))
+        (some_same d c (sym d_at ∙ ap (slice_get at.clusters) same ∙ c_at))
+        (some_same x i (sym x_at ∙ ap (slice_get first) same ∙ old_at))
+        (sym (set_is now n m j y (slice_get_within now n i i_at) same y_at))
+    idle_at m s d x y below s_at d_at x_at y_at (inr apart) =
+        before.idle m s d x y (omega (arith, below, apart)) s_at d_at x_at (sym (get_set_other now n m j apart) ∙ y_at)
+
     pub sampled_more : HaveSampled at (n + 1) first (set now n j)
     sampled_more = record {
       same = length-set now n j ∙ before.same;
       long = λ m x y x_at y_at. long_at m x y x_at y_at (same_or_not m n);
       due = λ m s d k x y below s_at d_at k_at x_at y_at. due_at m s d k x y below s_at d_at k_at x_at y_at (same_or_not m n);
+      idle = λ m s d x y below s_at d_at x_at y_at. idle_at m s d x y below s_at d_at x_at y_at (same_or_not m n);
       rest = λ m low. get_set_other now n m j (λ e. omega (arith, low, e)) ∙ before.rest m (omega (arith, low));
     }

@@ -109,8 +109,8 @@ pub record IsRefusedAt (flat : Flat) (time : ℕ) (fault : Fault) (since : ℕ) 
   pub answered : HasAnswered flat c (Refused fault)
   pub crossed : HasLeft c d
 
--- so it is at the boundary of the cluster of this number, from 1, after those before it have had
--- theirs
+-- so it is at the boundary of the cluster of this number, from 1, which took its turn, after those
+-- before it have had theirs
 pub record HasStopped (flat : Flat) (time number : ℕ) (fault : Fault) (x y : CrossingOf)
     : Type 0 where
   pub place : ℕ
@@ -124,6 +124,8 @@ pub record HasStopped (flat : Flat) (time number : ℕ) (fault : Fault) (x y : C
   pub begun : slice_get mid.since place ≡ Some since
   pub refused : IsRefusedAt flat time fault since cluster after mid.left
   pub clusters : y.clusters ≡ slice_set mid.clusters place after
+  pub starts : y.since ≡ slice_set mid.since place time
+  pub turns : y.left ≡ mid.left - 1
   pub planned : y.planned ≡ mid.planned
 
 -- boundaries can be had: each cluster is one of the flat model and has a start

@@ -160,4 +160,6 @@ pub record HasBeenStopped (flat : Flat) (time number : ℕ) (fault : Fault) (e f
   pub stopped : HasStopped flat time number fault
       (crossing_of e.clusters.items e.since.items left []) crossed
   pub clusters : f.clusters.items ≡ crossed.clusters
+  pub since : f.since.items ≡ crossed.since
   pub planned : f.planned.items ≡ crossed.planned
+  pub rest : f ≡ record e { clusters = f.clusters; since = f.since; planned = f.planned }

@@ -1,6 +1,7 @@
 -- The samplers that are due at a time get the values of their signals.
 -- Source: IEEE 1666.1-2016, converter ports of TDF modules.
-use Rattle.std.specs.Prelude.{◌≡◌, ◌-◌, ◌<◌, ◌≤◌, ℕ, true, List, Some, length, slice_get}
+use Rattle.std.specs.Prelude.{◌≡◌, ◌-◌, ◌<◌, ◌≤◌, ℕ, true, false, List, Some, length}
+use Rattle.std.specs.Prelude.{slice_get}
 use Rattle.tdf_linked.specs.low.convert.Links.{AreLinks, HaveSignals}
 use Rattle.tdf_linked.specs.low.convert.Sampled.{AreSampled}
 use Rattle.tdf_linked.specs.low.convert.declared.links.Links.{Links}
@@ -25,7 +26,8 @@ sampling_at time since clusters links values = record {
   values = values;
 }
 
--- the samplers of the first n clusters that are due have the values of their signals
+-- the samplers of the first n clusters that are due have the values of their signals, and those of
+-- a cluster of which nothing is due have what they had
 pub record HaveSampled (at : SamplingAt) (n : ℕ) (old new : List (List Raw)) : Type 0 where
   pub same : length new ≡ length old
   pub long : (m : ℕ) (i j : List Raw) → slice_get old m ≡ Some i → slice_get new m ≡ Some j
@@ -35,6 +37,10 @@ pub record HaveSampled (at : SamplingAt) (n : ℕ) (old new : List (List Raw)) :
       → slice_get at.links m ≡ Some l → slice_get old m ≡ Some i → slice_get new m ≡ Some j
       → is_due c (at.time - s) ≡ true
       → AreSampled c.entries (at.time - s) l.list.items at.values i j
+  pub idle : (m s : ℕ) (c : ClusterOf) (i j : List Raw) → m < n
+      → slice_get at.since m ≡ Some s → slice_get at.clusters m ≡ Some c
+      → slice_get old m ≡ Some i → slice_get new m ≡ Some j
+      → is_due c (at.time - s) ≡ false → j ≡ i
   pub rest : (m : ℕ) → n ≤ m → slice_get new m ≡ slice_get old m
 
 -- so it can be done: each cluster has a start, its links and its inputs

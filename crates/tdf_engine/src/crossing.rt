@@ -31,7 +31,7 @@ pub(crate) enum Turn {
     Refused(Fault),
 }
 
-ghost use Rattle.std.specs.Prelude.{◌≡◌, ◌≤◌, ◌+◌, ◌++◌, ◌∷◌, ℕ, [], false, true, length, IfErr, IfOk, IfSome, None, Ok, OnErr, OnOk, Some};
+ghost use Rattle.std.specs.Prelude.{◌≡◌, ◌≤◌, ◌+◌, ◌-◌, ◌++◌, ◌∷◌, ℕ, [], false, true, length, IfErr, IfOk, IfSome, None, Ok, OnErr, OnOk, Some};
 ghost use Rattle.tdf_engine.specs.Crossing.{CanCross, HasCrossed, HasGoneOn, HasNoTurn, HasStopped, HaveCrossed, IsRefusedAt};
 ghost use Rattle.tdf_engine.specs.Crossing.{crossing_of, ending_at, is_ending, is_new};
 ghost use Rattle.tdf_engine.specs.machine.Crossing.{GoesOnBy};
@@ -170,6 +170,8 @@ fn cross_turn(
         × (left.new ≡ left.old) }
     ensures refused { (fault : FaultOf) → result ≡ Ok (came.Refused fault)
         → IsRefusedAt flat.now time fault since.old cluster.old cluster.new left.old }
+    ensures taken { (fault : FaultOf) → result ≡ Ok (came.Refused fault)
+        → (since.new ≡ time) × (left.new ≡ left.old - 1) }
 {
     if !is_ending(cluster, *since, time) {
         return Ok(Turn::Kept);

@@ -136,6 +136,7 @@ impl Engine {
             engine.since.items ≡ replicate (length engine.clusters.items) 0) }
         ensures ready { IfOk result (λ engine. IsReadyAt 0 engine) }
         ensures none { IfOk result (λ engine. engine.outputs.traced ≡ []) }
+        ensures planned { IfOk result (λ engine. engine.planned.items ≡ []) }
         ensures side { IfOk result (λ engine. side_of engine.kernel ≡ start_side flat.now) }
     {
         law_limits();

@@ -1,6 +1,6 @@
 //! The samplers that are due get the values of their signals.
 
-ghost use Rattle.std.specs.Prelude.{◌≡◌, ◌≤◌, length, true};
+ghost use Rattle.std.specs.Prelude.{◌≡◌, ◌≤◌, length, false, true};
 ghost use Rattle.tdf_linked.specs.low.convert.Links.{AreLinks, HaveSignals};
 ghost use Rattle.tdf_linked.specs.low.convert.Sampled.{AreSampled};
 ghost use Rattle.tdf_engine.specs.Sampling.{CanSample, HaveSampled, sampling_at};
@@ -16,6 +16,7 @@ fn sample_turn(cluster: &Cluster, offset: u64, links: &Links, values: &[Raw], in
     requires signals { HaveSignals links.now.list.items (length values.now) }
     ensures due { is_due cluster.now offset ≡ true → AreSampled cluster.now.entries offset
         links.now.list.items values.now inputs.old inputs.new }
+    ensures idle { is_due cluster.now offset ≡ false → inputs.new ≡ inputs.old }
     ensures long { length inputs.new ≡ length inputs.old }
 {
     if let Some(next) = cluster.next_offset() {

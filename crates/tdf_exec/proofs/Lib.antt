@@ -10,6 +10,7 @@ mod Crosses
 mod EdgeRates
 mod Empty
 mod Ends
+mod Few
 mod Flags
 mod Formed
 mod Gains

@@ -1,15 +1,17 @@
 -- What holds of clusters in progress.
 -- Source: own.
-use Rattle.std.specs.Prelude.{◌≡◌, ℕ, ◌+◌, ◌*◌, [], length, slice_index}
+use Rattle.std.specs.Prelude.{◌≡◌, ℕ, ◌+◌, ◌*◌, ◌≤◌, [], length, slice_index, sum_by}
 use Rattle.tdf_layout.specs.low.checks.Types.{type_faults}
 use Rattle.tdf_layout.specs.low.dynamic.Rates.{net_of}
 use Rattle.tdf_exec.specs.Cluster.{ClusterOf}
-use Rattle.tdf_exec.specs.Made.{IsPlanned, IsSafe, KeepRates}
+use Rattle.tdf_exec.specs.Made.{IsClusterOf, IsPlanned, IsSafe, KeepRates}
 use Rattle.tdf_exec.specs.Starts.{BeginWithRates}
 use Rattle.tdf_layout.specs.low.expr.Checked.{IsCheckedOf}
+use Rattle.tdf_layout.specs.low.flat.Flat.{IsFlatOf}
 use Rattle.tdf_layout.specs.low.flat.declared.model.Flat.{Flat}
 use Rattle.tdf_layout.specs.low.limits.Limits.{AreWithinLimits}
 use Rattle.tdf_layout.specs.low.rings.Carried.{ring_at}
+use Rattle.tdf_layout.specs.low.rings.Rings.{RingOf}
 use Rattle.tdf_layout.specs.low.schedule.Plan.{done}
 use Rattle.tdf_layout.specs.low.streams.Periods.{AreAttributes, read_rates, write_rates}
 use Rattle.tdf_layout.specs.low.streams.Places.{reader_at, writer_at}
@@ -31,6 +33,16 @@ HeadsHold = (flat : Flat) (c : ClusterOf) (e : ℕ) → c.place ≡ 0
     + done c.entries c.place (reader_at flat.tables.edges e) * slice_index c.reads e
     ≡ held_at_head flat.tables c.number e
     + done c.entries c.place (writer_at flat.tables.edges e) * slice_index c.writes e
+
+-- how many samples the edges of a cluster hold together
+abbrev pub samples_held : ClusterOf → ℕ
+samples_held c = sum_by (λ (r : RingOf). length r.samples) c.rings
+
+-- they are never more than the buffers of a cluster may have: the limit beyond which there is no
+-- plan, `most_samples` of `tdf_base`
+abbrev pub ClustersHoldFew : Type 0
+ClustersHoldFew = (model : PureTree) (flat : Flat) (c : ClusterOf) → IsFlatOf model flat
+    → AreWithinLimits flat → IsClusterOf flat c → samples_held c ≤ 1048576
 
 -- where a model has no fault of types, no processing or reinitialize body sets a rate variable
 abbrev pub RatesAreKept : Type 0

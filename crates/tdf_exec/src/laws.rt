@@ -1,8 +1,10 @@
 //! What holds of clusters in progress: each function here only carries its clauses.
 
-ghost use Rattle.tdf_exec.specs.Laws.{HeadsHold, PlansAreSafe, RatesAreBegun, RatesAreKept};
+ghost use Rattle.tdf_exec.specs.Laws.{ClustersHoldFew, HeadsHold, PlansAreSafe, RatesAreBegun};
+ghost use Rattle.tdf_exec.specs.Laws.{RatesAreKept};
 
 use tdf_layout::low::schedule::law_present;
+use tdf_layout::{law_edges, law_rates as law_edge_rates};
 
 /// Along the plan of its table only actors of a cluster fire, each firing finds its samples, and no edge holds more than
 /// its bound.
@@ -16,6 +18,14 @@ pub fn law_safe()
 pub fn law_heads()
     ensures { HeadsHold }
 {}
+
+/// All edges of a cluster together hold no more samples than the buffers of a cluster may have.
+pub fn law_few()
+    ensures { ClustersHoldFew }
+{
+    law_edges();
+    law_edge_rates();
+}
 
 /// No initialize, processing or reinitialize body of a model without a fault of types sets a rate
 /// variable.

@@ -35,6 +35,7 @@ use crate::cluster::Cluster;
 use crate::runners::{Runner, TracedPort};
 use tdf_convert::{Inputs, Links, sample_due};
 use tdf_layout::low::base::Memory;
+use tdf_layout::low::dynamic::Attrs;
 use tdf_layout::low::fixed::Raw;
 use tdf_layout::low::flat::Flat;
 use tdf_layout::low::schedule::{Entry, Plan};
@@ -175,6 +176,13 @@ impl Cluster {
         ensures period { result.now.period ≡ self.now.period }
     {
         &self.plan
+    }
+
+    /// The table in force: the attributes of the modules of the cluster.
+    pub fn attrs(&self) -> &Attrs
+        ensures { result.now ≡ self.now.table }
+    {
+        &self.attrs
     }
 
     /// How often a plan was made for this cluster, the first one included; a number that is the greatest stays. A plan that was

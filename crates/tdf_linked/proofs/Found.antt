@@ -1,9 +1,10 @@
 -- The links that are found, one actor after the other.
-use Rattle.std.proofs.Common.{◌≡◌, ◌∙◌, ℕ, ◌+◌, ◌-◌, ◌<◌, ◌≤◌, Bool, true, false, Option, Some, None, Result, Ok, Err, OnOk, get_or, eq-eqb, List, [], ◌∷◌, ◌++◌, length, cond, nat_eq, ◌&&◌, refl, ap, sym, subst, inl, inr, ◌⊎◌, arith, slice_get}
+use Rattle.std.proofs.Common.{◌≡◌, ◌∙◌, ℕ, ◌+◌, ◌-◌, ◌<◌, ◌≤◌, Bool, true, false, Option, Some, None, Result, Ok, Err, OnOk, get_or, eq-eqb, List, [], ◌∷◌, ◌++◌, length, cond, nat_eq, ◌&&◌, refl, ap, sym, subst, inl, inr, ◌⊎◌, arith, slice_get, take}
+use Rattle.std.specs.List.{count_by}
 use Rattle.std.proofs.lemmas.Bool.{cases_lt}
 use Rattle.std.proofs.lemmas.Bool.Decides.{nat_tests}
 use Rattle.std.proofs.lemmas.List.{length-append}
-use Rattle.std.proofs.lemmas.List.Sums.{count_by_more_no, count_by_more_yes, sum_by_push}
+use Rattle.std.proofs.lemmas.List.Sums.{count_by_more_no, count_by_more_yes, sum_by-cons, sum_by_push}
 use Rattle.std.proofs.lemmas.Option.{get_or_from_slice_get, slice_get_read, slice_get_within}
 use Rattle.tdf_run.specs.low.bind.Actors.{cluster_of}
 use Rattle.tdf_run.specs.low.bind.Flat.{FlatOf}
@@ -207,9 +208,25 @@ sink_kind actor.Module h = false_true h
 sink_kind actor.Sampler h = false_true h
 sink_kind actor.Sink h = refl
 
+-- no sampler is among the sinks
+none_counted : (rows : List ActorRow) → count_by (is_counted Sinks) rows ≡ 0
+none_counted [] = refl
+none_counted (row ∷ rows) =
+    let s = sum_by-cons (λ r. cond {A = ℕ} (is_counted Sinks r) 1 0) row rows in
+    let z : cond {A = ℕ} (is_counted Sinks row) 1 0 ≡ 0 = refl in
+    let n = none_counted rows in omega (arith, s, z, n)
+
 -- and those of all sinks
 pub sink_links_are : (tables : FlatOf) (links : List Link) → AreLinkedUpTo tables Sinks (length tables.actors) links → AreSinkLinks tables links
-sink_links_are tables links are = record { order = are.placed.order; signals = are.signals; of = are.of; each = each; all = all }
+unfolding counted_before
+sink_links_are tables links are = record {
+  order = are.placed.order;
+  places = λ j l at. (are.each j l at).place ∙ none_counted (take l.actor tables.actors);
+  signals = are.signals;
+  of = are.of;
+  each = each;
+  all = all;
+}
   where
     each : (j : ℕ) (l : Link) → slice_get links j ≡ Some l → (actor_kind tables l.actor ≡ Some actor.Sink) × (l.sampler ≡ false)
     each j l at = let h : IsLinkOf tables Sinks l = are.each j l at in (ap kind_of_row h.at ∙ ap Some (sink_kind h.row.kind h.is), h.sampler)

@@ -66,9 +66,10 @@ pub record AreSamplerLinks (tables : FlatOf) (cluster : ℕ) (links : List Link)
       → l.place ≡ own_samplers tables cluster l.actor
   pub many : samplers_in links ≡ own_samplers tables cluster (length tables.actors)
 
--- the links of all sinks of a model: one for each, by rising actor
+-- the links of all sinks of a model: one for each, by rising actor; no sampler is among them
 pub record AreSinkLinks (tables : FlatOf) (links : List Link) : Type 0 where
   pub order : AreRising links
+  pub places : (j : ℕ) (l : Link) → slice_get links j ≡ Some l → l.place ≡ 0
   pub signals : HaveSignals links (length tables.de_signals)
   pub of : HaveSignalsOf tables links
   pub each : (j : ℕ) (l : Link) → slice_get links j ≡ Some l

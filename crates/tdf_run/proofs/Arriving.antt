@@ -4,12 +4,12 @@ use Rattle.std.proofs.lemmas.Bool.{cases_lt, eq-eqb}
 use Rattle.std.proofs.lemmas.List.{length-append, length-replicate}
 use Rattle.std.proofs.lemmas.Option.{slice_get_past}
 use Rattle.std.specs.List.{sum_by}
-use Rattle.std.specs.Prelude.{slice_get, slice_index_or}
+use Rattle.std.specs.Prelude.{slice_get, slice_index, slice_index_or}
 use Rattle.tdf_history.specs.low.bind.declared.actors.ActorRow.{ActorRow}
 use Rattle.tdf_exec.specs.low.convert.Sampled.{AreByOffset}
 use Rattle.tdf_exec.specs.Cluster.{ClusterOf, due_from, is_offset, next_offset, offset_in}
 use Rattle.tdf_exec.specs.Made.{IsActorOf, IsClusterOf}
-use Rattle.tdf_exec.specs.Played.{AreAllGiven, AreDone, IsPeriodOf, KeepsStanding, play_of, turns_from}
+use Rattle.tdf_exec.specs.Played.{AreAllGiven, AreDone, IsPeriodOf, KeepsStanding, counted, play_of, turns_from}
 use Rattle.tdf_exec.specs.declared.runners.Runner.TheVariants as runner
 use Rattle.tdf_history.specs.low.expr.Checked.{IsCheckedOf}
 use Rattle.tdf_history.specs.low.fixed.declared.raw.Raw.{Raw}
@@ -107,6 +107,18 @@ module _ (model : PureTree) (flat : Flat) (number time : ℕ) (values : List Raw
         table = at.period.table ∙ sym (ap (λ (z : ClusterOf). z.table) all.moved.rest);
       }
 
+      -- how often each actor was activated
+      module _ (of : IsClusterOf flat d) (m : ℕ) (below : m < length d.positions) where
+        turns_are : turns_from c.entries c.place d.place m ≡ turns_from h.entries h.place (h.place + k) m
+        turns_are = ap (λ l. turns_from l c.place d.place m) at.entries_are ∙ ap (λ p. turns_from h.entries p d.place m) at.place_is ∙ ap (λ p. turns_from h.entries h.place p m) place_d
+
+        pub position_d : slice_index d.positions m ≡ counted (sum_by (count m) h.old + done h.entries (h.place + k) m)
+        position_d =
+            let long = of.positions in let as_long = at.of.positions in
+            let inside : m < length c.positions = omega (arith, below, long, as_long) in
+            let was = at.positions m inside in let more = all.moved.positions m inside in let t = turns_are in
+            let u = done_up h.entries m h.place k due.within in omega (arith, was, more, t, u)
+
     -- what samplers have read
     abbrev reads : ℕ → List Raw
     reads m = slice_index_or (reads_after flat.tables values h k) m []
@@ -173,6 +185,7 @@ module _ (model : PureTree) (flat : Flat) (number time : ℕ) (values : List Raw
       whole = at.whole;
       past = at.past;
       have_read = record { same = reads_long flat.tables values h k ∙ at.have_read.same; samplers = λ m is. reads_count m is };
+      positions = λ m below. position_d all of m below;
       steps = d.place - c.place + at.steps;
       few = (let e = place_d all in let p = at.place_is in let up = all.moved.up in let f = at.few in omega (arith, e, p, up, f));
       stands = subst (λ j. Stands (cluster_net model flat j h.begun) h.old h.now reads (d.place - c.place + at.steps) (play_of 0 d)) at.number_is

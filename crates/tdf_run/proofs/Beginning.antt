@@ -184,6 +184,7 @@ module _ (model : PureTree) (flat : Flat) (number : ℕ) (first : First) (c : Cl
     whole = All-cons (IsWholeRecord flat number) now [] first_whole (All-nil (IsWholeRecord flat number));
     past = text_has_lists model flat number first.attrs now is refl;
     have_read = first_read;
+    positions = λ m below. (let z = begun.start.none_done m in let n = done_none entries m in omega (arith, z, n));
     steps = 0;
     few = omega arith;
     stands = first_stands (λ m. slice_index_or (replicate (length flat.tables.actors) []) m []);

@@ -1,5 +1,5 @@
 -- A cluster in progress comes to what the history says of it after a boundary.
-use Rattle.std.proofs.Common.{◌≡◌, ◌∙◌, ℕ, ◌-◌, ◌≤◌, Bool, List, [], ◌∷◌, ◌++◌, None, Some, false, true, suc, length, nat_eq, inl, inr, refl, sym, ap, subst, arith}
+use Rattle.std.proofs.Common.{◌≡◌, ◌∙◌, ℕ, ◌-◌, ◌<◌, ◌≤◌, ◌^◌, min, Bool, List, [], ◌∷◌, ◌++◌, None, Some, false, true, suc, length, nat_eq, inl, inr, refl, sym, ap, subst, arith}
 use Rattle.std.proofs.lemmas.Bool.{cases_lt}
 use Rattle.std.proofs.lemmas.List.Elements.{All-append, All-cons, All-nil}
 use Rattle.std.proofs.lemmas.List.Sums.{sum_by-append, sum_by-cons}
@@ -9,7 +9,7 @@ use Rattle.std.specs.Prelude.{drop, slice_get, slice_index, slice_index_or}
 use Rattle.tdf_exec.specs.Cluster.{ClusterOf, next_offset, offset_in}
 use Rattle.tdf_exec.specs.Crossing.{CrossesFrom, HasBegun, HasCrossed}
 use Rattle.tdf_exec.specs.Made.{IsClusterOf}
-use Rattle.tdf_exec.specs.Played.{IsPeriodOf, play_of, turns_from}
+use Rattle.tdf_exec.specs.Played.{IsPeriodOf, play_of}
 use Rattle.tdf_history.specs.low.changes.declared.next.Next.TheVariants as next
 use Rattle.tdf_history.specs.low.dynamic.Attributes.{AttrsOf}
 use Rattle.tdf_history.specs.low.dynamic.Rates.{net_of}
@@ -18,7 +18,7 @@ use Rattle.tdf_history.specs.low.flat.declared.model.Flat.{Flat}
 use Rattle.tdf_history.proofs.Api.{get_high, get_inside, none_some, table_record}
 use Rattle.tdf_history.specs.low.flow.Net.{count}
 use Rattle.tdf_history.specs.low.flow.Stands.{Crosses, Stands}
-use Rattle.tdf_history.specs.Instant.{periods_of, same_period, with_new, with_same}
+use Rattle.tdf_history.specs.Instant.{activations, periods_of, same_period, with_new, with_same}
 use Rattle.tdf_history.specs.Start.{counts_in}
 use Rattle.tdf_history.specs.World.{Change, ClusterAt}
 use Rattle.tdf_run.proofs.Arriving.{done_none}
@@ -119,6 +119,7 @@ module _ (model : PureTree) (flat : Flat) (number time : ℕ) (h : ClusterAt) (c
 
   module _ (d : ClusterOf) (entries : List Entry) (bounds : List ℕ) (next : PeriodRecord) (is_new : Bool) (of : IsClusterOf flat d) (number_is : d.number ≡ number) (place_is : d.place ≡ 0)
       (not_crossed : d.crossed ≡ false) (entries_are : d.entries ≡ entries) (bounds_are : d.bounds ≡ bounds) (next_is : own_record flat d of is_new ≡ next)
+      (positions_are : d.positions ≡ c.positions)
       (stands : Stands (cluster_net model flat number h.begun) (h.old ++ h.now ∷ []) next (λ m. slice_index_or h.reads m []) at.steps (play_of 0 d)) where
     abbrev after : ClusterAt
     after = record h { entries = entries; bounds = bounds; since = time; place = 0; old = periods_of h; now = next; ahead = drop 1 h.ahead }
@@ -126,20 +127,25 @@ module _ (model : PureTree) (flat : Flat) (number time : ℕ) (h : ClusterAt) (c
     next_whole : IsWholeRecord flat number next
     next_whole = subst (λ n. IsWholeRecord flat n next) number_is (subst (IsWholeRecord flat d.number) next_is (own_whole flat d of is_new))
 
+    -- at the end of a period as at the head of the next
+    next_activations : (m : ℕ) → activations h m ≡ activations after m
+    next_activations m =
+        let s = sum_by-append (λ (q : PeriodRecord). count m q) h.old (h.now ∷ []) in
+        let o = sum_by-cons (λ (q : PeriodRecord). count m q) h.now [] in
+        let n : sum_by (λ (q : PeriodRecord). count m q) [] ≡ 0 = refl in
+        let k = at.period.counts m in
+        let z = done_none c.entries m in
+        let y = done_none entries m in
+        let e = ap (λ es. done es (length es) m) at.entries_are in
+        let p = ap (λ i. done h.entries i m) (all_done model flat number h c at end) in omega (arith, s, o, n, k, z, y, e, p)
+
     next_read : HaveRead flat.tables number after
-    next_read = record {
-      same = at.have_read.same;
-      samplers = λ m sampler. (
-          let r = at.have_read.samplers m sampler in
-          let s = sum_by-append (λ (q : PeriodRecord). count m q) h.old (h.now ∷ []) in
-          let o = sum_by-cons (λ (q : PeriodRecord). count m q) h.now [] in
-          let n : sum_by (λ (q : PeriodRecord). count m q) [] ≡ 0 = refl in
-          let k = at.period.counts m in
-          let z = done_none c.entries m in
-          let y = done_none entries m in
-          let e = ap (λ es. done es (length es) m) at.entries_are in
-          let p = ap (λ i. done h.entries i m) (all_done model flat number h c at end) in omega (arith, r, s, o, n, k, z, y, e, p));
-    }
+    next_read = record { same = at.have_read.same; samplers = λ m sampler. at.have_read.samplers m sampler ∙ next_activations m }
+
+    next_positions : (m : ℕ) → m < length d.positions → slice_index d.positions m ≡ min (activations after m) (2 ^ 64 - 1)
+    next_positions m below =
+        let l = ap length positions_are in let p = ap (λ l. slice_index l m) positions_are in
+        let was = at.positions m (omega (arith, below, l)) in let n = next_activations m in omega (arith, p, was, n)
 
     pub begins_at : IsAt model flat number after d
     begins_at = record {
@@ -156,6 +162,7 @@ module _ (model : PureTree) (flat : Flat) (number time : ℕ) (h : ClusterAt) (c
       whole = All-append (IsWholeRecord flat number) (h.old ++ h.now ∷ []) (next ∷ []) at.whole (All-cons (IsWholeRecord flat number) next [] next_whole (All-nil (IsWholeRecord flat number)));
       past = past_next flat number h.begun h.old h.now next at.whole last next_whole.whole at.past;
       have_read = next_read;
+      positions = next_positions;
       steps = at.steps;
       few = (
           let p = all_done model flat number h c at end in
@@ -195,7 +202,7 @@ module _ (model : PureTree) (flat : Flat) (number time : ℕ) (h : ClusterAt) (c
         → IsAt model flat number (with_same time crossed.table h) d
     same_at stands = begins_at d h.entries h.bounds (same_period crossed.table h.now) false of
         (ap (λ (z : ClusterOf). z.number) d_is ∙ at.number_is) (ap (λ (z : ClusterOf). z.place) d_is) (ap (λ (z : ClusterOf). z.crossed) d_is)
-        (ap (λ (z : ClusterOf). z.entries) d_is ∙ at.entries_are) (ap (λ (z : ClusterOf). z.bounds) d_is ∙ at.bounds_are) same_is stands
+        (ap (λ (z : ClusterOf). z.entries) d_is ∙ at.entries_are) (ap (λ (z : ClusterOf). z.bounds) d_is ∙ at.bounds_are) same_is (ap (λ (z : ClusterOf). z.positions) d_is) stands
 
   -- with a new one
   module _ (crossed d : ClusterOf) (attrs : List AttrsOf) (plan : Plan) (is : HasCrossed c crossed) (begun : HasBegun crossed (next.Changed attrs plan) d) (of : IsClusterOf flat d) where
@@ -206,7 +213,8 @@ module _ (model : PureTree) (flat : Flat) (number time : ℕ) (h : ClusterAt) (c
     new_at stands = begins_at d plan.entries.items plan.bounds.items new.now true of
         (ap (λ (z : ClusterOf). z.number) begun.rest ∙ ap (λ (z : ClusterOf). z.number) is.rest ∙ at.number_is) (ap (λ (z : ClusterOf). z.place) begun.rest) (ap (λ (z : ClusterOf). z.crossed) begun.rest)
         (ap (λ (z : ClusterOf). z.entries) begun.rest) (ap (λ (z : ClusterOf). z.bounds) begun.rest)
-        (ap (λ (z : ClusterOf). period_record flat.tables z.table (counts_in flat.tables z.entries) z.period true) begun.rest) stands
+        (ap (λ (z : ClusterOf). period_record flat.tables z.table (counts_in flat.tables z.entries) z.period true) begun.rest)
+        (ap (λ (z : ClusterOf). z.positions) begun.rest ∙ ap (λ (z : ClusterOf). z.positions) is.rest) stands
 
 pub boundary_at : BoundariesKeepAt
 boundary_at model flat number time h next.Same c crossed d checked at passed =

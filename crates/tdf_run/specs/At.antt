@@ -1,11 +1,11 @@
 -- When a cluster in progress is what the history says of it.
 -- Source: own.
-use Rattle.std.specs.Prelude.{◌≡◌, ◌≤◌, ◌+◌, ℕ, false, List, [], All, length, Some}
+use Rattle.std.specs.Prelude.{◌≡◌, ◌≤◌, ◌<◌, ◌+◌, ℕ, false, List, [], All, length, Some}
 use Rattle.std.specs.Prelude.{slice_get, slice_index, slice_index_or}
 use Rattle.tdf_history.specs.low.bind.Flat.{FlatOf}
 use Rattle.tdf_exec.specs.Cluster.{ClusterOf}
 use Rattle.tdf_exec.specs.Made.{IsActorOf, IsClusterOf}
-use Rattle.tdf_exec.specs.Played.{IsPeriodOf, play_of}
+use Rattle.tdf_exec.specs.Played.{IsPeriodOf, counted, play_of}
 use Rattle.tdf_exec.specs.Runners.{SamplerOf}
 use Rattle.tdf_exec.specs.declared.runners.Runner.TheVariants as runner
 use Rattle.tdf_history.specs.low.fixed.declared.raw.Raw.{Raw}
@@ -47,6 +47,9 @@ pub record IsAt (model : PureTree) (flat : Flat) (number : ℕ) (h : ClusterAt) 
   pub whole : All (IsWholeRecord flat number) (periods_of h)
   pub past : ArePast flat number h.begun h.old h.now
   pub have_read : HaveRead flat.tables number h
+  -- each actor was activated as often as in the history, or as often as can be counted
+  pub positions : (m : ℕ) → m < length c.positions
+      → slice_index c.positions m ≡ counted (activations h m)
   pub steps : ℕ
   pub few : steps ≤ firings h.old + h.place
   pub stands : Stands (cluster_net model flat number h.begun) h.old h.now (run_in h).reads steps

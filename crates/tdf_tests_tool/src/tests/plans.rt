@@ -1,12 +1,12 @@
-//! How often a plan is made in a run.
+//! How often a plan is made in a run, and which rates are in force after it.
 
 ghost use Rattle.std.specs.Prelude.{◌<◌, ◌^◌};
 
 use std::alloc::Global;
 use std::test::Fail;
 use tdf_io::SureSink;
-use tdf_sim::elaborate;
 use tdf_sim::low::words::TraceKind;
+use tdf_sim::{Ran, elaborate};
 
 /// A module whose rate goes from one to four at the first boundary, and back to one at the second.
 const TEXT: &str =
@@ -17,17 +17,32 @@ const TEXT: &str =
     accept_attribute_changes\nend\nprocessing\ny = x\nend\nend\ntop\nsignal s w\nsignal t w\n\
     instance a vary\ninstance b lag\nbind a.y s\nbind b.x s\nbind b.y t\nend\ntrace s s\n";
 
-/// How often a plan was made for its cluster up to a time in picoseconds, if it ran.
-fn plannings(alloc: Global, stop: u64) -> Option<u64>
+/// What a run of it up to a time in picoseconds leaves.
+fn ran(alloc: Global, stop: u64) -> Option<Ran>
     requires { stop < 10 ^ 18 }
 {
     let sim = elaborate(alloc, TEXT.as_bytes()).ok()?;
     let mut out = SureSink::new(alloc);
     let mut notes = SureSink::new(alloc);
-    let ran = sim
-        .run(alloc, stop, 1_000, TraceKind::Table, &mut out, &mut notes)
-        .ok()?;
+    sim.run(alloc, stop, 1_000, TraceKind::Table, &mut out, &mut notes)
+        .ok()
+}
+
+/// How often a plan was made for its cluster up to a time.
+fn plannings(alloc: Global, stop: u64) -> Option<u64>
+    requires { stop < 10 ^ 18 }
+{
+    let ran = ran(alloc, stop)?;
     Some(ran.clusters.get(0)?.plannings())
+}
+
+/// The rate of its first module that is in force at a time.
+fn rate(alloc: Global, stop: u64) -> Option<u32>
+    requires { stop < 10 ^ 18 }
+{
+    let ran = ran(alloc, stop)?;
+    let row = ran.clusters.get(0)?.attrs().rows().get(0)?;
+    Some(*row.rates.get(0)?)
 }
 
 #[test]
@@ -35,5 +50,12 @@ fn known_plans_are_not_made_again(rt: HostRuntime) -> Result<(), Fail> {
     assert!(rt; plannings(rt.alloc(), 4_000_000) == Some(1));
     assert!(rt; plannings(rt.alloc(), 8_000_000) == Some(2));
     assert!(rt; plannings(rt.alloc(), 12_000_000) == Some(2));
+    Ok(())
+}
+
+#[test]
+fn rates_in_force_are_told(rt: HostRuntime) -> Result<(), Fail> {
+    assert!(rt; rate(rt.alloc(), 4_000_000) == Some(1));
+    assert!(rt; rate(rt.alloc(), 8_000_000) == Some(4));
     Ok(())
 }

@@ -3,7 +3,6 @@ use Rattle.tdf_linked.proofs.Api.{answers_lead}
 use Rattle.tdf_linked.specs.low.base.declared.faults.Fault.{Fault}
 use Rattle.tdf_linked.specs.low.changes.Change.{IsChangeFault, asks_of}
 use Rattle.tdf_linked.specs.low.changes.Next.{IsNext}
-use Rattle.tdf_linked.specs.low.changes.declared.next.Next.{Next}
 use Rattle.tdf_linked.specs.low.dynamic.Faults.{IsRefusal}
 use Rattle.tdf_linked.specs.low.dynamic.declared.err.ChangeErr.{ChangeErr}
 use Rattle.tdf_linked.specs.low.dynamic.declared.err.ChangeErr.TheVariants as err

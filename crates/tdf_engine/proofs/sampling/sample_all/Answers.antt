@@ -16,4 +16,4 @@ pub loop-n-preserved : goal.loop-n-preserved
 loop-n-preserved c =
     sampled_more (sampling_at c.args.time c.args.since.now c.args.clusters.now c.args.links.now c.args.values.now) c.args.inputs.now.items c.requires c.loop-n.n c.loop-n.inputs.items c.loop-n.invariant c.loop-n-test.true
     c.index-clusters-n.result c.index-links-n.result c.index_mut.result.now c.index-clusters-n.is c.index-links-n.is c.index_mut.ensures.value
-    c.sample_turn.new.inputs c.sample_turn.ensures.due c.sample_turn.ensures.long
+    c.sample_turn.new.inputs c.sample_turn.ensures.due c.sample_turn.ensures.idle c.sample_turn.ensures.long
