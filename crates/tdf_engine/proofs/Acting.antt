@@ -145,6 +145,7 @@ module _ (flat : Flat) (time left : ℕ) (e : Engine) (of : IsEngineOf flat e) (
 
     pub can_fire : e2 ≡ crossed_engine → CanFireAll flat time e2 left2
     can_fire rest = record {
+      going = ap (λ (z : Engine). z.kernel.spent) rest ∙ of.kernel.going;
       sample = subst (λ (z : Engine). CanSample (sampling_at time e2.since.items e2.clusters.items z.links.items z.kernel.values) z.inputs.items) (sym rest) (record {
         since = long.1 ∙ sym long.0;
         links = of.links ∙ sym long.0;

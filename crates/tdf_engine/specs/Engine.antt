@@ -83,6 +83,7 @@ pub record IsReadyAt (time : ℕ) (e : Engine) : Type 0 where
 
 -- the firings of a time can be done, with what the samplers that are due are given
 pub record CanFireAll (flat : Flat) (time : ℕ) (e : Engine) (left : ℕ) : Type 0 where
+  pub going : e.kernel.spent ≡ false
   pub sample : CanSample (sampling_at time e.since.items e.clusters.items e.links.items
       e.kernel.values) e.inputs.items
   pub pass : (inputs : List (List Raw)) → HaveSampled (sampling_at time e.since.items

@@ -60,7 +60,8 @@ use tdf_linked::low::run::fire_all;
 impl Engine {
     /// The least time at which something is next due; the stop where there is none before it.
     pub fn next_time(&self, stop: u64) -> u64
-        requires { length self.now.clusters.items ≤ length self.now.since.items }
+        requires starts { length self.now.clusters.items ≤ length self.now.since.items }
+        requires going { self.now.kernel.spent ≡ false }
         ensures { IsNextDue self.now.clusters.items self.now.since.items
             (side_of self.now.kernel) stop result }
     {

@@ -1,6 +1,6 @@
 //! The event part of an instant.
 
-ghost use Rattle.std.specs.Prelude.{◌≡◌, ◌<◌, ◌^◌, None, OnErr, OnOk, Some};
+ghost use Rattle.std.specs.Prelude.{◌≡◌, ◌<◌, ◌^◌, false, None, OnErr, OnOk, Some};
 ghost use Rattle.tdf_engine.specs.Settling.{CanSettle, IsBefore, event_turn};
 ghost use Rattle.tdf_linked.specs.low.events.Kernel.{IsKernelOf, side_of};
 ghost use Rattle.tdf_linked.specs.low.expr.Checked.{IsCheckedOf};
@@ -13,7 +13,8 @@ use tdf_linked::low::flat::Flat;
 
 /// Whether something is due on the event side at this time.
 fn is_due(kernel: &Kernel, time: u64) -> bool
-    requires { IsBefore time (side_of kernel.now) }
+    requires before { IsBefore time (side_of kernel.now) }
+    requires going { kernel.now.spent ≡ false }
     ensures { result ≡ is_side_due (side_of kernel.now) time }
 {
     match kernel.next_time() {

@@ -1,6 +1,6 @@
 //! The next time at which something is due.
 
-ghost use Rattle.std.specs.Prelude.{◌≡◌, ◌≤◌, ◌-◌, ◌^◌, length, min};
+ghost use Rattle.std.specs.Prelude.{◌≡◌, ◌≤◌, ◌-◌, ◌^◌, false, length, min};
 ghost use Rattle.tdf_engine.specs.Times.{IsLeastDue, IsNextDue, due_time};
 ghost use Rattle.tdf_linked.specs.low.events.Kernel.{side_of};
 
@@ -35,7 +35,8 @@ fn least_due(clusters: &[Cluster], since: &[u64], limit: u64) -> u64
 
 /// The least time at which something is next due, in a cluster or on the event side; the stop where there is none before it.
 pub(crate) fn next_time(clusters: &[Cluster], since: &[u64], kernel: &Kernel, stop: u64) -> u64
-    requires { length clusters.now ≤ length since.now }
+    requires starts { length clusters.now ≤ length since.now }
+    requires going { kernel.now.spent ≡ false }
     ensures { IsNextDue clusters.now since.now (side_of kernel.now) stop result }
 {
     let least = least_due(clusters, since, stop);

@@ -94,6 +94,7 @@ begun_kernel flat time k writes notices triggered waiting kernel are n t w = rec
   by_event = kernel.by_event;
   own_lists = kernel.own_lists;
   own = kernel.own;
+  going = kernel.going;
 }
 
 abbrev with : KernelOf → NoticesOf → List Bool → List (Option Raw) → SideOf

@@ -201,6 +201,7 @@ module _ (flat : Flat) (time owner number : ℕ) (row : BlockRowOf) (old new : K
     by_event = kernel.by_event;
     own_lists = kernel.own_lists;
     own = kernel.own;
+    going = kernel.going;
   })
 
   -- the same by the definition

@@ -52,6 +52,7 @@ pub record IsFresh (flat : Flat) (k : KernelOf) : Type 0 where
   pub by_event : AreSensitive (λ row. row.events) flat.tables.processes (length flat.tables.processes) k.by_event
   pub own_lists : length k.own_events ≡ length flat.tables.blocks
   pub own : (n : ℕ) → n < length flat.tables.blocks → list_at k.own_events n ≡ events_of flat n
+  pub going : k.spent ≡ false
 
 abbrev with : List Raw → List FrameState → NoticesOf → List Bool → List (Option Raw) → SideOf
 with values frames notices triggered waiting = record { values = values; frames = frames; notices = notices; triggered = triggered; waiting = waiting }
@@ -96,4 +97,5 @@ fresh_kernel flat k can new = record {
   by_event = new.by_event;
   own_lists = new.own_lists;
   own = new.own;
+  going = new.going;
 }

@@ -149,6 +149,7 @@ stepped_kernel flat k values notices triggered waiting kernel v n t w = record {
   by_event = kernel.by_event;
   own_lists = kernel.own_lists;
   own = kernel.own;
+  going = kernel.going;
 }
   where
     gone : (xs : List (Option Raw)) (i : ℕ) (x : Raw) → slice_get (map (λ (value : Option Raw). nothing) xs) i ≡ Some (Some x) → ⊥

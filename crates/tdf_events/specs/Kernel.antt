@@ -1,6 +1,7 @@
 -- What a kernel holds: the event side of its model, and lists of who is sensitive to what.
 -- Source: own.
-use Rattle.std.specs.Prelude.{◌≡◌, ◌<◌, ◌⊎◌, ℕ, List, length, map, Option, Some, slice_get}
+use Rattle.std.specs.Prelude.{◌≡◌, ◌<◌, ◌⊎◌, ℕ, Bool, false, List, length, map, Option, Some}
+use Rattle.std.specs.Prelude.{slice_get}
 use Rattle.tdf_calendar.specs.Lists.{list_at}
 use Rattle.tdf_calendar.specs.Sets.{SetOf, count_on}
 use Rattle.tdf_calendar.specs.Times.{IsNextTime}
@@ -27,6 +28,8 @@ pub record KernelOf : Type 0 where
   pub by_event : List (List ℕ)
   -- by instance of a block of processes, its events
   pub own_events : List (List ℕ)
+  -- an instant needed more turns than were left: no further call may be made
+  pub spent : Bool
 
 -- the event side
 abbrev pub side_of : KernelOf → SideOf
@@ -48,6 +51,7 @@ pub record AreSensitive (numbers : ProcessRowOf → List ℕ) (rows : List Proce
 
 -- what a kernel keeps of its model
 pub record IsKernelOf (flat : Flat) (k : KernelOf) : Type 0 where
+  pub going : k.spent ≡ false
   pub values : AreOfSignals (signal_formats flat) k.values
   pub frames : length k.frames ≡ length flat.tables.blocks
   pub ports : length k.ports ≡ length flat.tables.blocks

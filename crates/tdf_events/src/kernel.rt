@@ -7,6 +7,7 @@ use std::marker::Model;
 #[derive(Drop)]
 pub struct Kernel {
     parts: Parts,
+    spent: bool,
 }
 
 impl Model for Kernel {
@@ -15,10 +16,10 @@ impl Model for Kernel {
 
     ghost Value = { KernelOf };
 
-    ghost view = { λ a. kernel_of a.parts };
+    ghost view = { λ a. record (kernel_of a.parts) { spent = a.spent } };
 }
 
-ghost use Rattle.std.specs.Prelude.{◌≡◌, ◌<◌, ◌+◌, ◌^◌, IfOk, OnErr, OnOk, None, Some};
+ghost use Rattle.std.specs.Prelude.{◌≡◌, ◌<◌, ◌+◌, ◌^◌, IfOk, OnErr, OnOk, None, Some, false, true};
 ghost use Rattle.tdf_events.specs.Delta.{AreWritesOf, IsNoneBefore, event_part};
 ghost use Rattle.tdf_events.specs.Kernel.{IsKernelOf, IsNextOf, side_of};
 ghost use Rattle.tdf_events.specs.Runnable.{IsRunnable, signal_formats};
@@ -84,11 +85,13 @@ impl Kernel {
     {
         Ok(Kernel {
             parts: parts_of(alloc, flat)?,
+            spent: false,
         })
     }
 
     /// The settled values of the event signals.
     pub fn values(&self) -> &[Raw]
+        requires going { self.now.spent ≡ false }
         ensures { result.now ≡ self.now.values }
     {
         &self.parts.values
@@ -97,6 +100,7 @@ impl Kernel {
     /// The next time at which something is to be done: 0 where a process is to run at the start, else the least pending
     /// time, and none where there is none.
     pub fn next_time(&self) -> Option<u64>
+        requires going { self.now.spent ≡ false }
         ensures { IsNextOf (side_of self.now) result }
     {
         if 0 < self.parts.triggered.len() {
@@ -110,7 +114,7 @@ impl Kernel {
     /// none is. Each process that runs and each delta step takes a turn.
     ///
     /// # Errors
-    /// More turns are needed than are left; what the kernel and the turns hold then isn't stated.
+    /// More turns are needed than are left; what the kernel and the turns hold then isn't stated, and no further call may be made.
     pub fn instant(
         &mut self,
         flat: &Flat,
@@ -132,7 +136,14 @@ impl Kernel {
         ensures spent { (model : PureTree) → IsCheckedOf model flat.now.checked
             → OnErr result (event_part model flat.now time writes.now (side_of self.old)
             turns.old.left ≡ None) }
+        ensures closed { OnErr result (self.new.spent ≡ true) }
     {
-        run_instant(&mut self.parts, flat, time, writes, turns)
+        match run_instant(&mut self.parts, flat, time, writes, turns) {
+            Ok(()) => Ok(()),
+            Err(spent) => {
+                self.spent = true;
+                Err(spent)
+            }
+        }
     }
 }

@@ -18,7 +18,7 @@ pub(crate) enum Ended {
     },
 }
 
-ghost use Rattle.std.specs.Prelude.{◌≡◌, ◌<◌, ◌≤◌, ◌+◌, ◌++◌, [], List, ℕ, None, Ok, IfOk, IfSome, OnErr, OnOk, Option, Some, length};
+ghost use Rattle.std.specs.Prelude.{◌≡◌, ◌<◌, ◌≤◌, ◌+◌, ◌++◌, [], List, ℕ, false, None, Ok, IfOk, IfSome, OnErr, OnOk, Option, Some, length};
 ghost use Rattle.tdf_shown.specs.low.base.Limits.{time_end};
 ghost use Rattle.tdf_engine.specs.Engine.{HasBeenSpent, HasBeenStopped, HasHadInstant, IsEngineOf, IsReadyAt};
 ghost use Rattle.tdf_engine.specs.Times.{IsNextDue};
@@ -54,7 +54,8 @@ use tdf_told::low::changes::law_one_answer;
 
 /// Shows what an instant gave.
 fn show(shown: &mut Shown, engine: &Engine, flat: &Flat, time: u64) -> Result<(), Memory>
-    requires { CanTake flat.now (clock_at time engine.now.since.items engine.now.clusters.items)
+    requires going { engine.now.kernel.spent ≡ false }
+    requires take { CanTake flat.now (clock_at time engine.now.since.items engine.now.clusters.items)
         engine.now.outputs.traced engine.now.kernel.values shown.old }
     ensures shown { OnOk result (ShowsInstant flat.now
         (clock_at time engine.now.since.items engine.now.clusters.items)
@@ -77,6 +78,7 @@ impl Running {
     /// Goes on to the next time at which something is due, or to the stop.
     fn wait(&mut self, stop: u64)
         requires clocks { length self.old.engine.clusters.items ≤ length self.old.engine.since.items }
+        requires going { self.old.engine.kernel.spent ≡ false }
         ensures rest { self.new ≡ record self.old { from = self.new.from } }
         ensures next { IsNextDue self.old.engine.clusters.items self.old.engine.since.items
             (side_of self.old.engine.kernel) stop self.new.from }

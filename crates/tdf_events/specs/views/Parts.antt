@@ -1,5 +1,6 @@
 -- What the parts of a kernel stand for.
 -- Source: own.
+use Rattle.std.specs.Prelude.{false}
 use Rattle.tdf_events.specs.Kernel.{KernelOf}
 use Rattle.tdf_events.specs.declared.parts.Parts.{Parts}
 
@@ -14,4 +15,5 @@ kernel_of parts = record {
   by_signal = parts.by_signal;
   by_event = parts.by_event;
   own_events = parts.own_events;
+  spent = false;
 }

@@ -1,4 +1,4 @@
-use Rattle.std.proofs.Common.{rules, ◌≡◌, ◌<◌, ℕ, List, None, false, length, map, replicate, slice_get, sym, ap, ◌∙◌, subst}
+use Rattle.std.proofs.Common.{rules, refl, ◌≡◌, ◌<◌, ℕ, List, None, false, length, map, replicate, slice_get, sym, ap, ◌∙◌, subst}
 use Rattle.tdf_flat.specs.low.bind.Flat.{FlatOf}
 use Rattle.tdf_events.proofs.Starting.{IsFresh, fresh_kernel, fresh_side}
 use Rattle.tdf_events.specs.Kernel.{AreSensitive}
@@ -40,6 +40,7 @@ returns-clause-side c =
       by_event = subst (λ (xs : List ProcessRowOf). AreSensitive (λ row. row.events) xs (length xs) c.in_ok-by_event.by_event) of_events c.in_ok-by_event.ensures.lists;
       own_lists = c.in_ok-own_events.ensures.long ∙ block_count;
       own = λ n less. c.in_ok-own_events.ensures.lists n (subst (λ m. n < m) (sym block_count) less) ∙ ap (owned_from n 0) events;
+      going = refl;
     } in
     fresh_side c.args.flat.now _ fresh
 
@@ -68,5 +69,6 @@ returns-clause-kernel c =
       by_event = subst (λ (xs : List ProcessRowOf). AreSensitive (λ row. row.events) xs (length xs) c.in_ok-by_event.by_event) of_events c.in_ok-by_event.ensures.lists;
       own_lists = c.in_ok-own_events.ensures.long ∙ block_count;
       own = λ n less. c.in_ok-own_events.ensures.lists n (subst (λ m. n < m) (sym block_count) less) ∙ ap (owned_from n 0) events;
+      going = refl;
     } in
     fresh_kernel c.args.flat.now _ c.requires fresh

@@ -9,8 +9,11 @@ use Rattle.tdf_loop.specs.declared.running.Running.{Running}
 use Rattle.tdf_shown.specs.Calls.{CanTake, ShowsInstant}
 use Rattle.tdf_shown.specs.Periods.{clock_at}
 
-pub show-requires : goal.show-requires
-show-requires c = subst (λ (z : Running). CanTake c.args.flat.now (clock_at z.from c.instant.new.self.engine.since.items c.instant.new.self.engine.clusters.items) c.instant.new.self.engine.outputs.traced c.instant.new.self.engine.kernel.values z.shown) (sym c.instant.ensures.rest)
+pub show-requires-clause-going : goal.show-requires-clause-going
+show-requires-clause-going c = (c.in_ok-ended.ensures.engine (ap Ok c.in-Done.is)).kernel.going
+
+pub show-requires-clause-take : goal.show-requires-clause-take
+show-requires-clause-take c = subst (λ (z : Running). CanTake c.args.flat.now (clock_at z.from c.instant.new.self.engine.since.items c.instant.new.self.engine.clusters.items) c.instant.new.self.engine.outputs.traced c.instant.new.self.engine.kernel.values z.shown) (sym c.instant.ensures.rest)
     (can_take c.law_instant.ensures.along c.law_advancing.ensures c.args.flat.now c.args.self.now c.requires.can c.requires.due c.instant.new.self.engine c.instant.new.self.left
     (c.in_ok-ended.ensures.engine (ap Ok c.in-Done.is)) (c.in_ok-ended.ensures.had (ap Ok c.in-Done.is)) c.requires.early)
 

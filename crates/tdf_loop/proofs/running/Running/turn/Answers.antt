@@ -28,6 +28,9 @@ returns-then-self-stop-clause-ends g c =
     subst (λ (x : Running). GoesToEnd c.args.flat.now c.args.stop c.args.self.now x taken taken ended.Reached) (sym c.wait.ensures.rest)
     (reaches c.args.flat.now c.args.self.now c.args.stop c.wait.new.self.from c.requires.can c.requires.within c.wait.ensures.next c.if-self-stop.true taken)
 
+pub wait-requires-clause-going : goal.wait-requires-clause-going
+wait-requires-clause-going g c = c.requires.can.engine.kernel.going
+
 pub step-requires-clause-can : goal.step-requires-clause-can
 step-requires-clause-can g c = subst (CanGoOn c.args.flat.now) (sym c.wait.ensures.rest)
     (waits c.args.flat.now c.args.self.now c.args.stop c.wait.new.self.from c.requires.can c.requires.within c.wait.ensures.next)
