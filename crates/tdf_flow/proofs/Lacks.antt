@@ -8,6 +8,37 @@ use Rattle.tdf_flow.specs.Grounds.{EndsIn, Takes}
 one_more : (a b : ℕ) → (a + 1) * b ≡ a * b + b
 one_more a b = grind arith
 
+module _ {S V I : Type 0} (net : Net S V I) (p : Period I) (held : ℕ → ℕ) where
+  -- an edge that actor m reads holds too little for it
+  pub record Short (m : ℕ) : Type 0 where
+    pub edge : ℕ
+    pub inside : edge < net.edges
+    pub reads : net.reader edge ≡ m
+    pub few : held edge < slice_index p.reads edge
+
+  -- over the first n edges
+  abbrev pub ArePresent : ℕ → ℕ → Type 0
+  ArePresent m n = (e : ℕ) → e < n → net.reader e ≡ m → slice_index p.reads e ≤ held e
+
+  pub present_or_short : (m n : ℕ) → n ≤ net.edges → ArePresent m n ⊎ Short m
+  present_or_short m zero inside = inl (λ e below reads. absurd (omega (arith, below)))
+  present_or_short m (suc n) inside = elim (present_or_short m n (omega (arith, inside))) [
+    | inr short ↦ inr short
+    | inl before ↦ elim (cases_eq (net.reader n) m) [
+      | inr apart ↦ inl (λ e below reads. elim (cases_eq e n) [
+        | inl same ↦ absurd (apart (subst (λ k. net.reader k ≡ m) same reads))
+        | inr other ↦ before e (omega (arith, below, other)) reads
+      ])
+      | inl reader ↦ elim (cases_lt (held n) (slice_index p.reads n)) [
+        | inl few ↦ inr (record { edge = n; inside = omega (arith, inside); reads = reader; few = few })
+        | inr enough ↦ inl (λ e below reads. elim (cases_eq e n) [
+          | inl same ↦ subst (λ k. slice_index p.reads k ≤ held k) (sym same) enough
+          | inr other ↦ before e (omega (arith, below, other)) reads
+        ])
+      ]
+    ]
+  ]
+
 module _ {S V I : Type 0} (net : Net S V I) (delay : ℕ → ℕ) (p : Period I) (q done held : ℕ → ℕ) where
   -- where a period is, in the numbers of whole periods
   pub record IsAt : Type 0 where
@@ -63,37 +94,17 @@ module _ {S V I : Type 0} (net : Net S V I) (delay : ℕ → ℕ) (p : Period I)
         whole : (done (net.reader e) + 1) * slice_index p.reads e ≤ q (net.reader e) * slice_index p.reads e
         whole = mul-le-mul_right (slice_index p.reads e) (omega (arith, left))
 
-    -- over the first n edges
-    ArePresent : ℕ → ℕ → Type 0
-    ArePresent m n = (e : ℕ) → e < n → net.reader e ≡ m → slice_index p.reads e ≤ held e
-
-    present_or_lacks : (m n : ℕ) → n ≤ net.edges → done m < q m → ArePresent m n ⊎ Lack m
-    unfolding ArePresent
-    present_or_lacks m zero inside left = inl (λ e below reads. absurd (omega (arith, below)))
-    present_or_lacks m (suc n) inside left = elim (present_or_lacks m n (omega (arith, inside)) left) [
-      | inr lack ↦ inr lack
-      | inl before ↦ elim (cases_eq (net.reader n) m) [
-        | inr apart ↦ inl (λ e below reads. elim (cases_eq e n) [
-          | inl same ↦ absurd (apart (subst (λ k. net.reader k ≡ m) same reads))
-          | inr other ↦ before e (omega (arith, below, other)) reads
-        ])
-        | inl reader ↦ elim (cases_lt (held n) (slice_index p.reads n)) [
-          | inl short ↦ inr (subst (λ k. Lack k) reader (lack_at n (omega (arith, inside)) (subst (λ k. done k < q k) (sym reader) left) short))
-          | inr enough ↦ inl (λ e below reads. elim (cases_eq e n) [
-            | inl same ↦ subst (λ k. slice_index p.reads k ≤ held k) (sym same) enough
-            | inr other ↦ before e (omega (arith, below, other)) reads
-          ])
-        ]
-      ]
-    ]
+    lack_of : (m : ℕ) → Short net p held m → done m < q m → Lack m
+    lack_of m short left = subst (λ k. Lack k) short.reads (lack_at short.edge short.inside (subst (λ k. done k < q k) (sym short.reads) left) short.few)
 
     pub some_can_fire : (f m a : ℕ) → EndsIn net delay p f m a → done m ≤ a → a < q m → CanFire
-    unfolding EndsIn ArePresent
+    unfolding EndsIn
     some_can_fire zero m a ends low high = absurd ends
     some_can_fire (suc f) m a ends low high = elim (cases_lt (done m) a) [
       | inl before ↦ some_can_fire f m (a - 1) (ends m (a - 1) (inl (refl, omega (arith, before)))) (omega (arith, before)) (omega (arith, before, high))
-      | inr here ↦ (let same : a ≡ done m = omega (arith, low, here) in elim (present_or_lacks m net.edges (omega arith) (subst (λ k. k < q m) same high)) [
-        | inl present ↦ record { actor = m; left = subst (λ k. k < q m) same high; present = present }
-        | inr lack ↦ some_can_fire f lack.actor lack.firing (ends lack.actor lack.firing (inr (subst (λ k. Takes net delay p m k lack.actor lack.firing) (sym same) lack.needed))) lack.later lack.inside
+      | inr here ↦ (let same : a ≡ done m = omega (arith, low, here) in let left : done m < q m = subst (λ k. k < q m) same high in elim (present_or_short net p held m net.edges (omega arith)) [
+        | inl present ↦ record { actor = m; left = left; present = present }
+        | inr short ↦ (let lack = lack_of m short left in
+            some_can_fire f lack.actor lack.firing (ends lack.actor lack.firing (inr (subst (λ k. Takes net delay p m k lack.actor lack.firing) (sym same) lack.needed))) lack.later lack.inside)
       ])
     ]

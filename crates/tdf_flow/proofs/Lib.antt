@@ -1,11 +1,13 @@
 pub mod Api
 pub mod Boundary
 pub mod Fed
+pub mod Fired
 pub mod Firing
 pub mod Known
 pub mod Lacks
 pub mod Lists
 pub mod Played
+pub mod Plays
 pub mod Playing
 pub mod Starts
 pub mod Steps

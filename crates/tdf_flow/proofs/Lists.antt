@@ -74,3 +74,28 @@ unfolding zeros
 zeros_at [] i = refl
 zeros_at (x ∷ xs) zero = refl
 zeros_at (x ∷ xs) (suc i) = zeros_at xs i
+
+-- the list with number x at place i, and with zeros before that where it is too short
+unfoldable pub placed : List ℕ → ℕ → ℕ → List ℕ
+placed [] zero x = x ∷ []
+placed [] (suc i) x = 0 ∷ placed [] i x
+placed (y ∷ ys) zero x = x ∷ ys
+placed (y ∷ ys) (suc i) x = y ∷ placed ys i x
+
+pub placed_same : (xs : List ℕ) (i x : ℕ) → slice_index (placed xs i x) i ≡ x
+unfolding placed
+placed_same [] zero x = refl
+placed_same [] (suc i) x = placed_same [] i x
+placed_same (y ∷ ys) zero x = refl
+placed_same (y ∷ ys) (suc i) x = placed_same ys i x
+
+pub placed_other : (xs : List ℕ) (i j x : ℕ) → j ≢ i → slice_index (placed xs i x) j ≡ slice_index xs j
+unfolding placed
+placed_other [] zero zero x apart = absurd (apart refl)
+placed_other [] zero (suc j) x apart = refl
+placed_other [] (suc i) zero x apart = refl
+placed_other [] (suc i) (suc j) x apart = placed_other [] i j x (λ e. apart (ap suc e))
+placed_other (y ∷ ys) zero zero x apart = absurd (apart refl)
+placed_other (y ∷ ys) zero (suc j) x apart = refl
+placed_other (y ∷ ys) (suc i) zero x apart = refl
+placed_other (y ∷ ys) (suc i) (suc j) x apart = placed_other ys i j x (λ e. apart (ap suc e))

@@ -1,15 +1,34 @@
 -- An order leads from what stands to what stands, and what stands is the same wherever as much was done.
-use Rattle.std.proofs.Common.{◌≡◌, ℕ, suc, ◌+◌, ◌*◌, List, [], ◌∷◌, ◌++◌, length, append-nil, slice_index, slice_index_or, ap, sym, ◌∙◌, subst, arith}
+use Rattle.std.proofs.Common.{◌≡◌, ℕ, suc, ◌+◌, ◌*◌, List, [], ◌∷◌, ◌++◌, length, append-nil, nat_eq, slice_index, slice_index_or, ap, sym, ◌∙◌, subst, inl, inr, arith}
+use Rattle.std.proofs.lemmas.Bool.{cases_eq, eq-eqb, ne_eqb}
+use Rattle.std.proofs.lemmas.List.Sums.{sum_by-cons}
 use Rattle.std.specs.List.{sum_by}
+use Rattle.std.specs.Prelude.{cond}
 use Rattle.tdf_flow.specs.Net.{Net, Past, Period, count, taken, written}
 use Rattle.tdf_flow.specs.Streams.{known, spot, state_before}
 use Rattle.tdf_flow.specs.Stands.{Holds, Less, Play, Stands, run_of}
-use Rattle.tdf_flow.specs.Playing.{IsPlayed, IsSame, IsStep}
+use Rattle.tdf_flow.specs.Playing.{IsPlayed, IsSame, IsStep, turns_in}
 use Rattle.tdf_flow.proofs.Firing.{firing_keeps}
 use Rattle.tdf_flow.proofs.Known.{known_more, place_kept, state_more}
 use Rattle.tdf_flow.proofs.Lists.{same_items, some_same}
 
+pub turns_cons : (k m : ℕ) (order : List ℕ) → turns_in (k ∷ order) m ≡ cond (nat_eq k m) 1 0 + turns_in order m
+turns_cons k m order = sum_by-cons (λ (x : ℕ). cond (nat_eq x m) 1 0) k order
+
 module _ {S V I : Type 0} (net : Net S V I) (old : List (Period I)) (p : Period I) (reads : ℕ → List V) where
+  pub step_turns : (k m : ℕ) (y z : Play S V) → IsStep net old p reads k y z → slice_index z.turns m ≡ slice_index y.turns m + (cond (nat_eq k m) 1 0)
+  step_turns k m y z step = elim (cases_eq k m) [
+    | inl same ↦ rw (eq-eqb k m same) (subst (λ q. slice_index z.turns q ≡ slice_index y.turns q + 1) same step.flows.turn)
+    | inr apart ↦ rw (ne_eqb k m apart) (let o = step.flows.other_turns m (λ e. apart (sym e)) in omega (arith, o))
+  ]
+
+  pub played_turns : (order : List ℕ) (m : ℕ) (y z : Play S V) → IsPlayed net old p reads order y z → slice_index z.turns m ≡ slice_index y.turns m + turns_in order m
+  unfolding IsPlayed
+  played_turns [] m y z played = ap (λ (w : Play S V). slice_index w.turns m) played ∙ omega arith
+  played_turns (k ∷ order) m y z played =
+      let here = step_turns k m y played.0 played.1 in let rest = played_turns order m played.0 z played.2 in let cons = turns_cons k m order in
+      omega (arith, here, rest, cons)
+
   pub step_keeps : (f m : ℕ) (y z : Play S V) → Stands net old p reads f y → IsStep net old p reads m y z → Stands net old p reads (suc f) z
   step_keeps f m y z stands step = firing_keeps net old p reads f m step.turn y z stands step.left step.present step.next step.flows
 

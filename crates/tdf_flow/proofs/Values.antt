@@ -1,5 +1,5 @@
 -- From a start on, sound periods can be played out one after the other: so each activation has a value.
-use Rattle.std.proofs.Common.{◌≡◌, ℕ, zero, suc, ◌+◌, ◌*◌, ◌<◌, ◌≤◌, Bool, true, false, Some, List, [], ◌∷◌, ◌++◌, length, length-set, append_assoc, map, set, slice_get, slice_index, slice_index_or, refl, ap, sym, ◌∙◌, subst, inl, inr, arith}
+use Rattle.std.proofs.Common.{◌≡◌, ℕ, zero, suc, ◌+◌, ◌*◌, ◌<◌, ◌≤◌, false, Some, List, [], ◌∷◌, ◌++◌, length, length-set, append_assoc, map, set, slice_get, slice_index, slice_index_or, refl, ap, sym, ◌∙◌, subst, inl, inr, arith}
 use Rattle.std.specs.List.{All, range_with_len, sum, sum_by}
 use Rattle.std.proofs.lemmas.Bool.{cases_eq}
 use Rattle.std.proofs.lemmas.List.{get_or-set_same, get_or-set_other}
@@ -7,35 +7,22 @@ use Rattle.std.proofs.lemmas.List.FromFn.{get_or-map-range_with_len, length-map-
 use Rattle.std.proofs.lemmas.List.Sums.{sum_by-append, sum_by-cons, sum_by_push}
 use Rattle.std.proofs.lemmas.Option.{slice_get-get_or}
 use Rattle.tdf_flow.specs.Net.{Net, Period, Turn, count, taken, written}
-use Rattle.tdf_flow.specs.Streams.{known, sampled}
+use Rattle.tdf_flow.specs.Streams.{known}
 use Rattle.tdf_flow.specs.Stands.{AreActive, Changed, HasValues, Installed, IsStart, Play, Stands, run_of}
-use Rattle.tdf_flow.specs.Firing.{Flows, IsNextTurn, IsPresent, fronts, given, moved, processed}
+use Rattle.tdf_flow.specs.Firing.{Flows, IsNextTurn, IsPresent}
 use Rattle.tdf_flow.specs.Grounds.{AreGiven, AreSound, AreSoundTo, IsSound, firings}
 use Rattle.tdf_flow.proofs.Boundary.{change_crosses, install_stands}
+use Rattle.tdf_flow.proofs.Fired.{fired_flows, fired_with, next_turn}
 use Rattle.tdf_flow.proofs.Firing.{firing_keeps}
 use Rattle.tdf_flow.proofs.Lacks.{CanFire, IsAt, some_can_fire}
-use Rattle.tdf_flow.proofs.Lists.{get_inside, get_made, get_made_at, get_set_other, get_set_same, index_inside, zeros, zeros_at, zeros_long}
+use Rattle.tdf_flow.proofs.Lists.{get_inside, get_made, get_made_at, index_inside, zeros, zeros_at, zeros_long}
 use Rattle.tdf_flow.proofs.Starts.{start_stands}
 use Rattle.tdf_flow.proofs.Sums.{all_same, grown_sum, some_less, zeros_sum}
 
 module _ {S V I : Type 0} (net : Net S V I) where
   -- what a firing leaves
   fired : Period I → ℕ → Turn S V → Play S V → Play S V
-  fired p m t y = record {
-    turns = set y.turns m (slice_index y.turns m + 1);
-    states = set y.states m t.state;
-    lists = map (λ (e : ℕ). moved net p m t e (slice_index_or y.lists e [])) (range_with_len 0 net.edges);
-  }
-
-  fired_flows : (p : Period I) (m : ℕ) (t : Turn S V) (y : Play S V) → m < length y.turns → m < length y.states → Flows net p m t y (fired p m t y)
-  unfolding fired
-  fired_flows p m t y inside there = record {
-    turn = get_or-set_same y.turns m (slice_index y.turns m + 1) 0 inside;
-    other_turns = λ k apart. get_or-set_other y.turns m k (slice_index y.turns m + 1) 0 apart;
-    state = λ plain. get_set_same y.states m t.state there;
-    other_states = λ k apart. get_set_other y.states m k t.state apart;
-    lists = λ e below. get_or-map-range_with_len (λ (e : ℕ). moved net p m t e (slice_index_or y.lists e [])) 0 net.edges e e [] below (omega arith);
-  }
+  fired p m t y = fired_with net p m t y (set y.turns m (slice_index y.turns m + 1))
 
 module _ {S V I : Type 0} (net : Net S V I) (actors : ℕ) (delay : ℕ → ℕ) (reads : ℕ → List V) where
   -- a play that goes on
@@ -50,20 +37,9 @@ module _ {S V I : Type 0} (net : Net S V I) (actors : ℕ) (delay : ℕ → ℕ)
   IsBack old p begun = (e : ℕ) → e < net.edges → net.delay e + sum_by (written net e) old + begun (net.reader e) * slice_index p.reads e
       ≡ delay e + sum_by (taken net e) old + begun (net.writer e) * slice_index p.writes e
 
-  next_turn : (old : List (Period I)) (p : Period I) (f m : ℕ) (y : Play S V) → IsOn old p f y → AreGiven net reads (old ++ p ∷ []) → m < actors
-      → slice_index y.turns m < slice_index p.counts m → (t : Turn S V) × IsNextTurn net old p reads m y t
-  next_turn old p f m y on are_given inside left = go (net.is_sampler m) refl
-    where
-      go : (b : Bool) → net.is_sampler m ≡ b → (t : Turn S V) × IsNextTurn net old p reads m y t
-      go true is = (let s = sum_by_push (count m) old p in
-          let x = get_inside (reads m) (sum_by (count m) old + slice_index y.turns m) (are_given m (sum_by (count m) old + slice_index y.turns m) is (omega (arith, s, left))) in
-          (sampled net m x.0, given x.0 is x.1 refl))
-      go false plain = (let s = get_inside y.states m (let l = on.states_long in omega (arith, l, inside)) in
-          (net.process m p s.0 (fronts net p m y.lists 0 net.edges), processed s.0 plain s.1 refl))
-
   step_on : (old : List (Period I)) (p : Period I) (f m : ℕ) (t : Turn S V) (y : Play S V) → IsOn old p f y → m < actors → slice_index y.turns m < slice_index p.counts m
       → IsPresent net p m y → IsNextTurn net old p reads m y t → IsOn old p (suc f) (fired net p m t y)
-  unfolding fired
+  unfolding fired fired_with
   step_on old p f m t y on inside left present next = record {
     stands = firing_keeps net old p reads f m t y (fired net p m t y) on.stands left present next flows;
     turns_long = length-set y.turns m (slice_index y.turns m + 1) ∙ on.turns_long;
@@ -75,7 +51,8 @@ module _ {S V I : Type 0} (net : Net S V I) (actors : ℕ) (delay : ℕ → ℕ)
   }
     where
       flows : Flows net p m t y (fired net p m t y)
-      flows = fired_flows net p m t y (let l = on.turns_long in omega (arith, l, inside)) (let l = on.states_long in omega (arith, l, inside))
+      flows = fired_flows net p m t y (set y.turns m (slice_index y.turns m + 1)) (get_or-set_same y.turns m (slice_index y.turns m + 1) 0 (let l = on.turns_long in omega (arith, l, inside)))
+          (λ k apart. get_or-set_other y.turns m k (slice_index y.turns m + 1) 0 apart) (λ plain. (let l = on.states_long in omega (arith, l, inside)))
 
   module _ (old : List (Period I)) (p : Period I) (begun : ℕ → ℕ) (sound : IsSound net actors delay begun p) (back : IsBack old p begun)
       (are_given : AreGiven net reads (old ++ p ∷ [])) where
@@ -102,7 +79,7 @@ module _ {S V I : Type 0} (net : Net S V I) (actors : ℕ) (delay : ℕ → ℕ)
 
     pub play_out : (k f : ℕ) (y : Play S V) → IsOn old p f y → sum y.turns + k ≡ sum p.counts
         → (z : Play S V) × IsOn old p (k + f) z × ((m : ℕ) → slice_index z.turns m ≡ slice_index p.counts m)
-    unfolding fired
+    unfolding fired fired_with
     play_out zero f y on same = (
       y,
       subst (λ (n : ℕ). IsOn old p n y) (let e : f ≡ 0 + f = omega arith in e) on,
@@ -113,7 +90,7 @@ module _ {S V I : Type 0} (net : Net S V I) (actors : ℕ) (delay : ℕ → ℕ)
         let m = can.actor in
         let left : slice_index y.turns can.actor < slice_index p.counts can.actor = (let l = can.left in omega (arith, l)) in
         let inside : can.actor < actors = (let i = index_inside p.counts can.actor (slice_index y.turns can.actor) left in let a = sound.actors_are in omega (arith, i, a)) in
-        let t = next_turn old p f can.actor y on are_given inside left in
+        let t = next_turn net old p reads can.actor y are_given (λ plain. get_inside y.states can.actor (let l = on.states_long in omega (arith, l, inside))) left in
         let on_then = step_on old p f can.actor t.0 y on inside left can.present t.1 in
         let grown = grown_sum y.turns can.actor (let l = on.turns_long in omega (arith, l, inside)) in
         let rest = play_out k (suc f) (fired net p can.actor t.0 y) on_then (omega (arith, grown, same)) in

@@ -1,14 +1,14 @@
 -- What holds of the definitions, said of numbers: a statement about all types is no clause. The
 -- lemmas that show it are about all types.
 -- Source: own.
-use Rattle.std.specs.Prelude.{ℕ, suc, ◌+◌, ◌<◌, ◌≡◌, Some, List, [], ◌∷◌, ◌++◌, length, slice_index}
-use Rattle.std.specs.Prelude.{slice_index_or}
+use Rattle.std.specs.Prelude.{ℕ, suc, ◌+◌, ◌<◌, ◌≤◌, ◌≡◌, ◌⊎◌, Some, List, [], ◌∷◌, ◌++◌, length}
+use Rattle.std.specs.Prelude.{slice_index, slice_index_or}
 use Rattle.std.specs.List.{sum_by}
 use Rattle.tdf_flow.specs.Fed.{IsFed}
 use Rattle.tdf_flow.specs.Firing.{Flows, IsNextTurn, IsPresent}
 use Rattle.tdf_flow.specs.Grounds.{AreGiven, AreSound, AreSoundTo, IsGrounded, IsHead, firings}
 use Rattle.tdf_flow.specs.Net.{Net, Period, Run, Turn, count}
-use Rattle.tdf_flow.specs.Playing.{IsPlayed, IsSame}
+use Rattle.tdf_flow.specs.Playing.{HasStates, IsPlayed, IsSame, StopsShort, turns_in}
 use Rattle.tdf_flow.specs.Stands.{AreActive, Changed, Crosses, HasValues, Installed, IsStart}
 use Rattle.tdf_flow.specs.Stands.{KeepsReads, Less, Longer, Play, Stands, run_of}
 use Rattle.tdf_flow.specs.Streams.{known}
@@ -70,6 +70,14 @@ AnyOrder = (net : Net ℕ ℕ ℕ) (old : List (Period ℕ)) (p : Period ℕ) (r
     → (f : ℕ) (y z v : Play ℕ ℕ) (one other : List ℕ) → Stands net old p reads f y
     → IsPlayed net old p reads one y z → IsPlayed net old p reads other y v
     → ((m : ℕ) → slice_index z.turns m ≡ slice_index v.turns m) → IsSame net z v
+
+-- where each actor has its state and each sampler its values, an order with no more activations of
+-- an actor than it has left can be played, or it is played up to a step that lacks a sample
+abbrev pub OrderPlays : Type 0
+OrderPlays = (net : Net ℕ ℕ ℕ) (old : List (Period ℕ)) (p : Period ℕ) (reads : ℕ → List ℕ)
+    → (order : List ℕ) (y : Play ℕ ℕ) → HasStates net p y → AreGiven net reads (old ++ p ∷ [])
+    → ((m : ℕ) → slice_index y.turns m + turns_in order m ≤ slice_index p.counts m)
+    → ((z : Play ℕ ℕ) × IsPlayed net old p reads order y z) ⊎ StopsShort net old p reads order y
 
 -- from a start on, each activation has a value, in as many steps as there are firings, where the
 -- samplers that it follows were given theirs

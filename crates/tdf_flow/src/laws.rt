@@ -2,7 +2,7 @@
 
 ghost use Rattle.tdf_flow.specs.Laws.{AllAreKnown, AnyOrder, ChangeCrosses, EndsWhole};
 ghost use Rattle.tdf_flow.specs.Laws.{FedAreKnown, FiringIsKnown, FiringKeeps, HeadsWhole};
-ghost use Rattle.tdf_flow.specs.Laws.{InstallStands, MoreKeeps, OrderStands};
+ghost use Rattle.tdf_flow.specs.Laws.{InstallStands, MoreKeeps, OrderPlays, OrderStands};
 ghost use Rattle.tdf_flow.specs.Laws.{PlayedAreGrounded, ReadsKeep, StartStands};
 ghost use Rattle.tdf_flow.specs.Worked.{IsWorked};
 
@@ -47,11 +47,13 @@ pub fn law_whole()
 
 /// An order of firings leads from what stands to what stands, and any two orders with as many
 /// activations of each actor lead to the same states and samples. Where an order is played from
-/// the head of a period, all its firings are grounded.
+/// the head of a period, all its firings are grounded. An order with no more activations than are
+/// left can be played, or a step of it lacks a sample.
 pub fn law_order()
     ensures stands { OrderStands }
     ensures any { AnyOrder }
     ensures grounded { PlayedAreGrounded }
+    ensures plays { OrderPlays }
 {}
 
 /// From a start on, through periods with sound counts whose firings are all grounded, each

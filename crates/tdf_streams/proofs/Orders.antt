@@ -1,18 +1,15 @@
 -- Orders in which the firings of a period are played.
-use Rattle.std.proofs.Common.{◌≡◌, ◌∙◌, ℕ, suc, ◌+◌, ◌*◌, ◌<◌, List, [], ◌∷◌, length, nat_eq, slice_index, slice_index_or, ap, sym, subst, inl, inr, arith}
-use Rattle.std.proofs.lemmas.Bool.{cases_eq, eq-eqb, ne_eqb}
-use Rattle.std.proofs.lemmas.List.Sums.{sum_by-cons}
-use Rattle.std.specs.Prelude.{cond}
+use Rattle.std.proofs.Common.{◌≡◌, ◌∙◌, ℕ, suc, ◌+◌, ◌*◌, ◌<◌, List, [], ◌∷◌, length, slice_index, slice_index_or, ap, inl, inr, arith}
 use Rattle.tdf_dynamic.specs.low.flat.declared.model.Flat.{Flat}
-use Rattle.tdf_flow.proofs.Api.{any_order, fired_turn, order_keeps, played_are_grounded, whole_past}
-use Rattle.tdf_flow.specs.Net.{Net, Period, count}
-use Rattle.tdf_flow.specs.Playing.{IsPlayed, IsStep}
-use Rattle.tdf_flow.specs.Stands.{Play, Stands}
+use Rattle.tdf_flow.proofs.Api.{any_order, fired_turn, order_keeps, order_plays, played_are_grounded, played_turns, whole_past}
+use Rattle.tdf_flow.specs.Net.{count}
+use Rattle.tdf_flow.specs.Playing.{IsPlayed}
+use Rattle.tdf_flow.specs.Stands.{Stands}
 use Rattle.tdf_limits.specs.Limits.{AreWithinLimits}
 use Rattle.tdf_streams.proofs.Grounds.{grounded_here}
 use Rattle.tdf_streams.proofs.Sound.{active_inside, are_sound, balanced_at, before_and_left, rates_positive}
 use Rattle.tdf_streams.specs.Cluster.{Start, cluster_net}
-use Rattle.tdf_streams.specs.Laws.{AnyOrder, ClusterPlay, EndsWhole, FiringIsKnown, IsComplete, OrderStands, PlayedAreGrounded, StandsAtHead, turns_in}
+use Rattle.tdf_streams.specs.Laws.{AnyOrder, ClusterPlay, EndsWhole, FiringIsKnown, IsComplete, OrderPlays, OrderStands, PlayedAreGrounded, StandsAtHead, UngroundedStops}
 use Rattle.tdf_streams.specs.Periods.{PeriodRecord, done_before}
 use Rattle.tdf_streams.specs.Places.{reader_at, writer_at}
 use Rattle.tdf_streams.specs.Starts.{ArePast, held_at_head}
@@ -25,20 +22,6 @@ both a b c = grind arith
 none_before : (p : PeriodRecord) → p.counts ≡ p.info.counts → (m k : ℕ) → done_before p m * k ≡ 0
 none_before p whole m k = let same : slice_index p.counts m ≡ slice_index p.info.counts m = ap (λ l. slice_index l m) whole in
     let z : done_before p m ≡ 0 = omega (arith, same) in rw z (omega arith)
-
-module _ {S V I : Type 0} (net : Net S V I) (old : List (Period I)) (p : Period I) (reads : ℕ → List V) where
-  step_turns : (k m : ℕ) (y z : Play S V) → IsStep net old p reads k y z → slice_index z.turns m ≡ slice_index y.turns m + (cond (nat_eq k m) 1 0)
-  step_turns k m y z step = elim (cases_eq k m) [
-    | inl same ↦ rw (eq-eqb k m same) (subst (λ q. slice_index z.turns q ≡ slice_index y.turns q + 1) same step.flows.turn)
-    | inr apart ↦ rw (ne_eqb k m apart) (let o = step.flows.other_turns m (λ e. apart (sym e)) in omega (arith, o))
-  ]
-
-  pub played_turns : (order : List ℕ) (m : ℕ) (y z : Play S V) → IsPlayed net old p reads order y z → slice_index z.turns m ≡ slice_index y.turns m + turns_in order m
-  unfolding IsPlayed
-  played_turns [] m y z played = ap (λ (w : Play S V). slice_index w.turns m) played ∙ omega arith
-  played_turns (k ∷ order) m y z played =
-      let here = step_turns k m y played.0 played.1 in let rest = played_turns order m played.0 z played.2 in
-      let cons = sum_by-cons (λ (x : ℕ). cond (nat_eq x m) 1 0) k order in omega (arith, here, rest, cons)
 
 pub order_stands : OrderStands
 order_stands model flat cluster start old p reads order f y z = order_keeps (cluster_net model flat cluster start) old p reads order f y z
@@ -105,3 +88,14 @@ played_grounded model flat cluster start old p reads order f y z limits past tim
     head_lists : (e : ℕ) → e < length flat.tables.edges → length (slice_index_or y.lists e []) ≡ held_at_head flat.tables cluster e
     head_lists e inside = let c = list_counts model flat cluster start limits old p reads f y past head.stands e inside in
         let r = none_done (reader_at flat.tables.edges e) (slice_index p.reads e) in let w = none_done (writer_at flat.tables.edges e) (slice_index p.writes e) in omega (arith, c, r, w)
+
+pub complete_plays : OrderPlays
+complete_plays model flat cluster start old p reads order f y head states are_given complete =
+    order_plays (cluster_net model flat cluster start) old p reads are_given order y states (λ m. (let t = head.turns m in let c = complete m in omega (arith, t, c)))
+
+pub ungrounded_stops : UngroundedStops
+ungrounded_stops model flat cluster start old p reads order f y limits past timed whole head states are_given complete none =
+    elim (complete_plays model flat cluster start old p reads order f y head states are_given complete) [
+      | inl played ↦ absurd (none (played_grounded model flat cluster start old p reads order f y played.0 limits past timed whole head played.1 complete))
+      | inr stops ↦ stops
+    ]

@@ -1,7 +1,7 @@
 -- What holds of the streams of a cluster.
 -- Source: own.
-use Rattle.std.specs.Prelude.{ℕ, Bool, ◌+◌, ◌*◌, ◌<◌, ◌≤◌, ◌≡◌, true, Some, List, [], ◌∷◌, All, length}
-use Rattle.std.specs.Prelude.{count_by, nat_eq, slice_get, slice_index, slice_index_or, sum_by, ℤ}
+use Rattle.std.specs.Prelude.{ℕ, Bool, ◌+◌, ◌*◌, ◌<◌, ◌≤◌, ◌≡◌, ◌⊎◌, true, Some, List, [], ◌∷◌, ◌++◌}
+use Rattle.std.specs.Prelude.{All, length, slice_get, slice_index, slice_index_or, sum_by, ℤ}
 use Rattle.tdf_dynamic.specs.Attributes.{AttrsOf, clusters_of}
 use Rattle.tdf_dynamic.specs.Faults.{HasStepsOf, IsTablePlan, pace_in}
 use Rattle.tdf_dynamic.specs.First.{IsFirstPlan}
@@ -14,7 +14,7 @@ use Rattle.tdf_flow.specs.Fed.{IsFed}
 use Rattle.tdf_flow.specs.Firing.{Flows, IsNextTurn, IsPresent}
 use Rattle.tdf_flow.specs.Grounds.{AreGiven, firings}
 use Rattle.tdf_flow.specs.Net.{Net, Run, Turn, count}
-use Rattle.tdf_flow.specs.Playing.{IsPlayed, IsSame}
+use Rattle.tdf_flow.specs.Playing.{HasStates, IsPlayed, IsSame, StopsShort, turns_in}
 use Rattle.tdf_flow.specs.Stands.{Less, Longer, Play, Stands, run_of}
 use Rattle.tdf_flow.specs.Streams.{Spot, find, known}
 use Rattle.tdf_limits.specs.Limits.{AreWithinLimits}
@@ -73,10 +73,6 @@ MoreKeeps = (model : PureTree) (flat : Flat) (cluster : ℕ) (start : Start)
     → (short long : ClusterRun) → Longer short long → (f d : ℕ)
     → Less (known (cluster_net model flat cluster start) short f)
     (known (cluster_net model flat cluster start) long (d + f))
-
--- how often an actor is in an order
-abbrev pub turns_in : List ℕ → ℕ → ℕ
-turns_in order m = count_by (λ k. nat_eq k m) order
 
 -- each actor is in it as often as it is activated in the period
 abbrev pub IsComplete : List ℕ → PeriodRecord → Type 0
@@ -141,6 +137,30 @@ PlayedAreGrounded = (model : PureTree) (flat : Flat) (cluster : ℕ) (start : St
     → StandsAtHead (cluster_net model flat cluster start) old p reads f y
     → IsPlayed (cluster_net model flat cluster start) old p reads order y z → IsComplete order p
     → AreGrounded flat p
+
+-- where each actor has its state and each sampler its values, a complete order can be played from
+-- the head of a period, or it is played up to a step that lacks a sample
+abbrev pub OrderPlays : Type 0
+OrderPlays = (model : PureTree) (flat : Flat) (cluster : ℕ) (start : Start)
+    → (old : List PeriodRecord) (p : PeriodRecord) (reads : ℕ → List Raw) (order : List ℕ)
+    → (f : ℕ) (y : ClusterPlay)
+    → StandsAtHead (cluster_net model flat cluster start) old p reads f y
+    → HasStates (cluster_net model flat cluster start) p y
+    → AreGiven (cluster_net model flat cluster start) reads (old ++ p ∷ []) → IsComplete order p
+    → ((z : ClusterPlay) × IsPlayed (cluster_net model flat cluster start) old p reads order y z)
+    ⊎ StopsShort (cluster_net model flat cluster start) old p reads order y
+
+-- where some firing of a whole period isn't grounded, each complete order comes to such a step
+abbrev pub UngroundedStops : Type 0
+UngroundedStops = (model : PureTree) (flat : Flat) (cluster : ℕ) (start : Start)
+    → (old : List PeriodRecord) (p : PeriodRecord) (reads : ℕ → List Raw) (order : List ℕ)
+    → (f : ℕ) (y : ClusterPlay) → AreWithinLimits flat → ArePast flat cluster start old p
+    → IsTimedRecord flat cluster p → p.counts ≡ p.info.counts
+    → StandsAtHead (cluster_net model flat cluster start) old p reads f y
+    → HasStates (cluster_net model flat cluster start) p y
+    → AreGiven (cluster_net model flat cluster start) reads (old ++ p ∷ []) → IsComplete order p
+    → (AreGrounded flat p → ⊥)
+    → StopsShort (cluster_net model flat cluster start) old p reads order y
 
 -- at the start as the text says it each edge of the cluster holds as many samples as the delays of
 -- its ports say, and edges of other clusters hold none

@@ -3,9 +3,10 @@
 ghost use Rattle.tdf_streams.specs.Carried.{EdgesBeginAsRead, EdgesCarrySignals};
 ghost use Rattle.tdf_streams.specs.Carried.{OutputsAreSamples};
 ghost use Rattle.tdf_streams.specs.Laws.{AllAreKnown, AnyOrder, EndsWhole, FedAreKnown};
-ghost use Rattle.tdf_streams.specs.Laws.{FiringIsKnown, FirstPlanIsRecord, MoreKeeps, OrderStands};
-ghost use Rattle.tdf_streams.specs.Laws.{PlayedAreGrounded, StepsAreWhole, TablePlanIsRecord};
-ghost use Rattle.tdf_streams.specs.Laws.{TextHasLists, TextHoldsDelays, TimesLieInside, TimesRise};
+ghost use Rattle.tdf_streams.specs.Laws.{FiringIsKnown, FirstPlanIsRecord, MoreKeeps, OrderPlays};
+ghost use Rattle.tdf_streams.specs.Laws.{OrderStands, PlayedAreGrounded, StepsAreWhole};
+ghost use Rattle.tdf_streams.specs.Laws.{TablePlanIsRecord, TextHasLists, TextHoldsDelays};
+ghost use Rattle.tdf_streams.specs.Laws.{TimesLieInside, TimesRise, UngroundedStops};
 
 /// From a start on, through periods with counts and a time of their own and with rates within their
 /// limits, in which each firing is grounded, each activation has a value where the samplers that it
@@ -16,14 +17,17 @@ pub fn law_known()
     ensures more { MoreKeeps }
 {}
 
-/// An order of firings in which no step lacks a sample leads to the states and samples of the
-/// streams, whatever order it is; and where some firing isn't grounded there is no complete one.
+/// An order of firings in which no step lacks a sample can be played and leads to the states and
+/// samples of the streams, whatever order it is; and where some firing isn't grounded there is no
+/// complete one: a step of each complete order lacks a sample.
 pub fn law_any_order()
     ensures stands { OrderStands }
     ensures known { FiringIsKnown }
     ensures any { AnyOrder }
     ensures whole { EndsWhole }
     ensures grounded { PlayedAreGrounded }
+    ensures plays { OrderPlays }
+    ensures stops { UngroundedStops }
 {}
 
 /// At the start as the text says it each edge holds as many samples as the delays of its ports say.

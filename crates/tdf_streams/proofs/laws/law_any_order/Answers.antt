@@ -1,4 +1,4 @@
-use Rattle.tdf_streams.proofs.Api.{alike_orders, ends_whole, firing_known, order_stands, played_grounded}
+use Rattle.tdf_streams.proofs.Api.{alike_orders, complete_plays, ends_whole, firing_known, order_stands, played_grounded, ungrounded_stops}
 use Rattle.tdf_streams.proofs.laws.law_any_order.Goals as goal
 
 pub returns : goal.returns
@@ -8,4 +8,6 @@ returns c = record {
   any = alike_orders;
   whole = ends_whole;
   grounded = played_grounded;
+  plays = complete_plays;
+  stops = ungrounded_stops;
 }
