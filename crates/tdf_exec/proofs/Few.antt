@@ -1,11 +1,11 @@
 -- All edges of a cluster together hold few samples: no more than are there at first, and than its ports move in a period.
-use Rattle.std.proofs.Common.{◌≡◌, ◌∙◌, ◌≢◌, ℕ, zero, suc, ◌+◌, ◌-◌, ◌*◌, ◌<◌, ◌≤◌, Bool, true, false, List, [], ◌∷◌, Some, option_map}
-use Rattle.std.proofs.Common.{length, map, set, replicate, nat_eq, nat_lt, if◌then◌else◌, refl, sym, ap, subst, inl, inr, arith, mul-le-mul_right}
-use Rattle.std.proofs.lemmas.Bool.{cases_eq, cases_lt, eq-eqb, ne_eqb, le-ltb, lt-ltb}
-use Rattle.std.proofs.lemmas.List.{get_or-replicate, get_or-set_other, get_or-set_same, get_or_past, length-map}
-use Rattle.std.proofs.lemmas.List.Sums.{sum-map, sum_by-cons, sum_by-le-sum_by, sum_by-set, sum_by-take-le}
+use Rattle.std.proofs.Common.{◌≡◌, ◌∙◌, ◌≢◌, ℕ, suc, ◌+◌, ◌-◌, ◌*◌, ◌<◌, ◌≤◌, Bool, List, [], ◌∷◌, Some, option_map}
+use Rattle.std.proofs.Common.{length, map, set, nat_eq, if◌then◌else◌, refl, sym, ap, subst, inl, inr, arith, mul-le-mul_right}
+use Rattle.std.proofs.lemmas.Bool.{cases_eq, cases_lt, eq-eqb, ne_eqb}
+use Rattle.std.proofs.lemmas.List.{get_or-set_other, get_or-set_same, get_or_past, length-map}
+use Rattle.std.proofs.lemmas.List.Sums.{sum-map, sum_by-cons, sum_by-set, sum_by-take-le}
 use Rattle.std.proofs.lemmas.Option.{get_or_from_slice_get, slice_get-map, slice_get_within}
-use Rattle.std.specs.Prelude.{◌&&◌, cond, slice_get, slice_index, sum, sum_by}
+use Rattle.std.specs.Prelude.{cond, slice_get, slice_index, sum, sum_by}
 use Rattle.tdf_layout.specs.low.bind.Actors.{cluster_of}
 use Rattle.tdf_layout.specs.low.dynamic.Attributes.{clusters_of}
 use Rattle.tdf_layout.specs.low.dynamic.Faults.{pace_in, samples_in}
@@ -18,13 +18,14 @@ use Rattle.tdf_layout.specs.low.flat.declared.model.Flat.{Flat}
 use Rattle.tdf_layout.specs.low.graph.Counts.{AreCounts}
 use Rattle.tdf_layout.specs.low.graph.declared.actors.Edge.{Edge}
 use Rattle.tdf_layout.specs.low.graph.declared.actors.Port.{Port}
+use Rattle.tdf_exec.proofs.Entries.{plan_counts}
 use Rattle.tdf_exec.proofs.EdgeRates.{edge_reads, edge_writes, reads_at, writes_at}
 use Rattle.tdf_exec.proofs.Rows.{all_at, index_at}
 use Rattle.tdf_layout.specs.Edges.{EdgesAreRows, IsEdgeRow, PortsGiveOnce}
 use Rattle.tdf_layout.specs.Rates.{PortsSetRates, SamplersPutOne, SinksTakeOne}
 use Rattle.tdf_layout.specs.low.limits.Limits.{AreWithinLimits}
 use Rattle.tdf_layout.specs.low.rings.Rings.{RingOf, ring_of}
-use Rattle.tdf_layout.specs.low.schedule.Plan.{IsPlan, done, is_firing}
+use Rattle.tdf_layout.specs.low.schedule.Plan.{IsPlan, done}
 use Rattle.tdf_layout.specs.low.schedule.declared.entry.Entry.{Entry}
 use Rattle.tdf_layout.specs.low.schedule.declared.err.PlanErr.TheVariants.{TooLarge}
 use Rattle.tdf_layout.specs.low.streams.Places.{writer_at, writer_of_row}
@@ -124,43 +125,13 @@ over_map : {X Y : Type 0} (g : X → Y) (f : Y → ℕ) (xs : List X) → sum_by
 over_map g f [] = refl
 over_map g f (x ∷ xs) = omega (arith, sum_by-cons f (g x) (map g xs), sum_by-cons (λ y. f (g y)) x xs, over_map g f xs)
 
-ones : (n : ℕ) → sum (replicate n 1) ≡ n
-ones zero = refl
-ones (suc n) = omega (arith, sum_by-cons (λ (k : ℕ). k) 1 (replicate n 1), ones n)
-
-both : (a b : Bool) → (if b then cond {A = ℕ} a 1 0 else 0) ≤ cond {A = ℕ} (a && b) 1 0
-both true true = omega arith
-both true false = omega arith
-both false true = omega arith
-both false false = omega arith
-
-abbrev fires : ℕ → Entry → ℕ
-fires m x = cond {A = ℕ} (nat_eq x.actor m) 1 0
-
 -- no actor fires more often than its count says
-module _ (edges : List Edge) (pace : ℕ → ℕ) (counts : List ℕ) (entries : List Entry) (plan : IsPlan edges pace counts entries) where
-  each_once : (m k : ℕ) → by_key (λ (x : Entry). x.index) (fires m) k entries ≤ slice_index (replicate (slice_index counts m) 1) k
-  each_once m k =
-      let l = sum_by-le-sum_by (λ (x : Entry). if nat_eq x.index k then fires m x else 0) (λ (x : Entry). cond {A = ℕ} (is_firing m k x) 1 0) entries
-      (λ x. both (nat_eq x.actor m) (nat_eq x.index k)) in
-      let c = plan.complete m k in
-      elim (cases_lt k (slice_index counts m)) [
-        | inl inside ↦ (
-            let t : (if nat_lt k (slice_index counts m) then 1 else 0) ≡ 1 = ap (λ (b : Bool). cond {A = ℕ} b 1 0) (lt-ltb k (slice_index counts m) inside) in
-            let o : slice_index (replicate (slice_index counts m) 1) k ≡ 1 = get_or-replicate (slice_index counts m) k 1 0 inside in
-            omega (arith, l, c, t, o))
-        | inr past ↦ (
-            let t : (if nat_lt k (slice_index counts m) then 1 else 0) ≡ 0 = ap (λ (b : Bool). cond {A = ℕ} b 1 0) (le-ltb k (slice_index counts m) past) in
-            omega (arith, l, c, t))
-      ]
-
-  fired : (m i : ℕ) → done entries i m ≤ slice_index counts m
-  unfolding done
-  fired m i =
-      let t = sum_by-take-le (fires m) entries i in
-      let a = all_keys (λ (x : Entry). x.index) (fires m) entries (replicate (slice_index counts m) 1) (each_once m) in
-      let o = ones (slice_index counts m) in
-      omega (arith, t, a, o)
+fired : (edges : List Edge) (pace : ℕ → ℕ) (counts : List ℕ) (entries : List Entry) → IsPlan edges pace counts entries → (m i : ℕ) → done entries i m ≤ slice_index counts m
+unfolding done
+fired edges pace counts entries plan m i =
+    let t = sum_by-take-le (λ (x : Entry). cond {A = ℕ} (nat_eq x.actor m) 1 0) entries i in
+    let a = plan_counts edges pace counts entries plan m in
+    omega (arith, t, a)
 
 module _ (rows : EdgesAreRows) (given_once : PortsGiveOnce) (between : PortsSetRates) (from : SamplersPutOne) (to : SinksTakeOne)
     (model : PureTree) (flat : Flat) (c : ClusterOf) (is : IsFlatOf model flat) (limits : AreWithinLimits flat) (of : IsClusterOf flat c) where

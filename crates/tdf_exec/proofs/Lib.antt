@@ -10,6 +10,7 @@ mod Crosses
 mod EdgeRates
 mod Empty
 mod Ends
+pub mod Entries
 mod Few
 mod Flags
 mod Formed

@@ -2,7 +2,7 @@
 pub use Rattle.tdf_run.proofs.Along.{due_here, goes_along, is_spent}
 pub use Rattle.tdf_run.proofs.Answering.{answers_lead, cluster_there}
 pub use Rattle.tdf_run.proofs.Arriving.{arrives, done_none, firings_keep_at, in_plan, not_late, place_d}
-pub use Rattle.tdf_run.proofs.Beginning.{counted_in, plan_counts, start_at, starts_are_at}
+pub use Rattle.tdf_run.proofs.Beginning.{counted_in, start_at, starts_are_at}
 pub use Rattle.tdf_run.proofs.Crossing.{all_at, all_done, boundary_at, last_whole, past_next}
 pub use Rattle.tdf_run.proofs.Due.{by_offset, due_counted, due_is, some_next, true_false}
 pub use Rattle.tdf_run.proofs.Firings.{due_fire, few_end, get_set_same, none_fire, set_own}

@@ -22,7 +22,8 @@ use Rattle.tdf_history.specs.Instant.{activations, periods_of, same_period, with
 use Rattle.tdf_history.specs.Start.{counts_in}
 use Rattle.tdf_history.specs.World.{Change, ClusterAt}
 use Rattle.tdf_run.proofs.Arriving.{done_none}
-use Rattle.tdf_run.proofs.Beginning.{counted_in, plan_counts}
+use Rattle.tdf_exec.proofs.Api.{plan_counts}
+use Rattle.tdf_run.proofs.Beginning.{counted_in}
 use Rattle.tdf_run.proofs.Writing.{done_all, enough}
 use Rattle.tdf_run.specs.At.{HaveRead, IsAt}
 use Rattle.tdf_run.specs.Boundary.{BoundariesKeepAt}

@@ -9,7 +9,8 @@ use Rattle.tdf_history.specs.low.dynamic.Rates.{net_of}
 use Rattle.tdf_history.specs.low.flat.declared.model.Flat.{Flat}
 use Rattle.tdf_history.specs.Answers.{IsNewPeriod}
 use Rattle.tdf_history.specs.Start.{counts_in}
-use Rattle.tdf_run.proofs.Beginning.{counted_in, plan_counts}
+use Rattle.tdf_exec.proofs.Api.{plan_counts}
+use Rattle.tdf_run.proofs.Beginning.{counted_in}
 use Rattle.tdf_run.proofs.Writing.{done_all}
 use Rattle.tdf_run.specs.Boundary.{IsNewRecord, NewPeriodsAreWhole}
 use Rattle.tdf_history.specs.low.schedule.Plan.{done}
