@@ -114,7 +114,8 @@ impl Kernel {
     /// none is. Each process that runs and each delta step takes a turn.
     ///
     /// # Errors
-    /// More turns are needed than are left; what the kernel and the turns hold then isn't stated, and no further call may be made.
+    /// More turns are needed than are left. The turns are then as they were; what the kernel holds isn't stated, and no further call
+    /// may be made.
     pub fn instant(
         &mut self,
         flat: &Flat,
@@ -137,9 +138,14 @@ impl Kernel {
             → OnErr result (event_part model flat.now time writes.now (side_of self.old)
             turns.old.left ≡ None) }
         ensures closed { OnErr result (self.new.spent ≡ true) }
+        ensures kept { OnErr result (turns.new ≡ turns.old) }
     {
-        match run_instant(&mut self.parts, flat, time, writes, turns) {
-            Ok(()) => Ok(()),
+        let mut counted = *turns;
+        match run_instant(&mut self.parts, flat, time, writes, &mut counted) {
+            Ok(()) => {
+                *turns = counted;
+                Ok(())
+            }
             Err(spent) => {
                 self.spent = true;
                 Err(spent)
