@@ -1,8 +1,8 @@
 -- A cluster that goes on has the samples that it had, and the cells below the start of its period.
-use Rattle.std.proofs.Common.{◌≡◌, ◌∙◌, ℕ, ℤ, suc, ◌+◌, ◌-◌, ◌*◌, ◌/◌, ◌%◌, ◌<◌, ◌≤◌, Option, Some, None, option_map, List, [], ◌∷◌, ◌++◌, if◌then◌else◌, length, slice_get, slice_index, refl, sym, ap, subst, inl, inr, arith, lt_of_lt_of_le}
+use Rattle.std.proofs.Common.{◌≡◌, ◌∙◌, ℕ, ℤ, ◌+◌, ◌-◌, ◌*◌, ◌/◌, ◌<◌, ◌≤◌, Option, Some, None, option_map, List, [], ◌∷◌, ◌++◌, if◌then◌else◌, length, slice_get, refl, sym, ap, subst, inl, inr, arith, lt_of_lt_of_le}
 use Rattle.std.proofs.lemmas.Bool.{cases_lt, le-ltb, lt-ltb}
 use Rattle.std.proofs.lemmas.List.{append_assoc}
-use Rattle.std.proofs.lemmas.List.Sums.{sum_by-append, sum_by-cons}
+use Rattle.std.proofs.lemmas.List.Sums.{sum_by-append}
 use Rattle.std.proofs.lemmas.Option.{get_or_from_slice_get, slice_get_within}
 use Rattle.std.specs.List.{All, sum, sum_by}
 use Rattle.std.specs.Option.{option_and_then}
@@ -10,7 +10,7 @@ use Rattle.tdf_history.specs.low.fixed.declared.raw.Raw.{Raw}
 use Rattle.tdf_history.specs.low.flat.declared.model.Flat.{Flat}
 use Rattle.tdf_history.proofs.Api.{find_more, get_high, known_more}
 use Rattle.tdf_history.specs.low.flow.Grounds.{firings}
-use Rattle.tdf_history.specs.low.flow.Net.{Past, Turn, count}
+use Rattle.tdf_history.specs.low.flow.Net.{Past, count}
 use Rattle.tdf_history.specs.low.flow.Stands.{Less}
 use Rattle.tdf_history.specs.low.flow.Streams.{find, known}
 use Rattle.tdf_history.specs.Cells.{port_cell, sample_at, samples_done, spans_from}
@@ -19,12 +19,12 @@ use Rattle.tdf_history.specs.World.{ClusterAt}
 use Rattle.tdf_history.specs.low.rows.Positions.{position_at}
 use Rattle.tdf_history.specs.low.schedule.Plan.{done}
 use Rattle.tdf_history.specs.low.streams.Cluster.{cluster_net}
-use Rattle.tdf_history.specs.low.streams.Periods.{IsWholeRecord, PeriodInfo, PeriodRecord}
-use Rattle.tdf_history.specs.low.streams.Signals.{output_at_spot, outputs_in, port_output, positions, rate_in, signal_sample, time_of}
+use Rattle.tdf_history.specs.low.streams.Periods.{IsWholeRecord, PeriodRecord}
+use Rattle.tdf_history.specs.low.streams.Signals.{output_at_spot, outputs_in, port_output, rate_in, signal_sample, time_of}
 use Rattle.tdf_history.specs.low.tree.Pure.{PureTree}
 use Rattle.tdf_history.specs.low.wiring.declared.modules.PortRow.{PortRow}
-use Rattle.tdf_world.proofs.Clusters.{done_within}
-use Rattle.tdf_world.proofs.Positions.{Made, made, position_within, same_front}
+use Rattle.tdf_world.proofs.Known.{before_now, done_before, made_of, output_made, output_of, turn_of}
+use Rattle.tdf_world.proofs.Positions.{Made, same_front}
 use Rattle.tdf_world.specs.Continuing.{Continues, HasWholePlan}
 use Rattle.tdf_world.specs.Laws.{HasDone}
 
@@ -38,16 +38,6 @@ last_at xs x = let low : length xs ≤ length xs = omega arith in let z : length
 mapped : {A B : Type 0} (f g : A → B) (o : Option A) → ((a : A) → o ≡ Some a → f a ≡ g a) → option_map f o ≡ option_map g o
 mapped f g None same = refl
 mapped f g (Some a) same = ap Some (same a refl)
-
--- a whole period has as many outputs of a port as positions of its signal
-whole_sum : (flat : Flat) (number : ℕ) (port : PortRow) (ps qs : List PeriodRecord) → All (IsWholeRecord flat number) (ps ++ qs) → sum_by (positions port) ps ≡ sum_by (outputs_in port) ps
-whole_sum flat number port [] qs whole = refl
-whole_sum flat number port (p ∷ ps) qs whole =
-    let a = sum_by-cons (positions port) p ps in
-    let b = sum_by-cons (outputs_in port) p ps in
-    let e : positions port p ≡ outputs_in port p = ap (λ l. slice_index l port.«module» * rate_in port p) (sym (whole 0 p (omega arith)).whole) in
-    let r = whole_sum flat number port ps qs (λ k x inside. whole (suc k) x (omega (arith, inside))) in
-    omega (arith, a, b, e, r)
 
 -- a cluster that has done its firings has a whole plan
 pub whole_plan : (model : PureTree) (flat : Flat) (number : ℕ) (c : ClusterAt) → HasDone model flat number c → HasWholePlan c
@@ -73,32 +63,20 @@ module _ (model : PureTree) (flat : Flat) (number : ℕ) (c d : ClusterAt) (has 
       (known_more (cluster_net model flat number c.begun) (run_in c) (run_in d) goes.longer (firings (periods_of c)) (firings goes.longer.rest)))
 
   module _ (port : PortRow) (out : ℕ) where
-    abbrev ready : ℕ
-    ready = done c.entries c.place port.«module»
-
-    most : ready ≤ slice_index c.now.counts port.«module»
-    most = let d = done_within c.entries port.«module» c.place in let k = has.counts port.«module» in omega (arith, d, k)
-
-    module _ (n : ℕ) (m : Made port [] c.old c.now ready n) where
-      abbrev place : ℕ
-      place = sum_by (count port.«module») m.at.before + m.at.rest / rate_in port m.at.period
-
-      abbrev value : Turn (List ℤ) Raw → Raw
-      value t = t.outputs out (m.at.rest % rate_in port m.at.period)
-
-      turn : (t : Turn (List ℤ) Raw) × (known_in c port.«module» place ≡ Some t)
-      turn = has.known port.«module» place (let e = m.early in let z : sum_by (count {I = PeriodInfo} port.«module») [] ≡ 0 = refl in omega (arith, e, z))
-
+    module _ (n : ℕ) (m : Made port [] c.old c.now (done c.entries c.place port.«module») n) where
       found_later : find (outputs_in port) [] (periods_of d) n ≡ Some m.at
       found_later = ap (λ ps. find (outputs_in port) [] ps n) goes.longer.periods ∙ find_more (outputs_in port) [] (periods_of c) goes.longer.rest n m.at m.found
 
       made_stays : port_output (periods_of c) port out (known_in c) n ≡ port_output (periods_of d) port out (known_in d) n
       unfolding port_output
-      made_stays = ap (option_and_then (output_at_spot port out (known_in c))) m.found ∙ ap (option_map value) turn.1
-          ∙ sym (ap (option_and_then (output_at_spot port out (known_in d))) found_later ∙ ap (option_map value) (known_less.keeps port.«module» place turn.0 turn.1))
+      made_stays =
+          let turn = turn_of model flat number c has port out n m in
+          output_made model flat number c has port out n m
+          ∙ sym (ap (option_and_then (output_at_spot port out (known_in d))) found_later ∙ ap (option_map (output_of model flat number c has port out n m)) (known_less.keeps port.«module»
+          (sum_by (count port.«module») m.at.before + m.at.rest / rate_in port m.at.period) turn.0 turn.1))
 
-    output_stays : (n : ℕ) → n < sum_by (outputs_in port) c.old + ready * rate_in port c.now → port_output (periods_of c) port out (known_in c) n ≡ port_output (periods_of d) port out (known_in d) n
-    output_stays n low = made_stays n (made port [] c.old c.now ready n most low)
+    output_stays : (n : ℕ) → n < sum_by (outputs_in port) c.old + done c.entries c.place port.«module» * rate_in port c.now → port_output (periods_of c) port out (known_in c) n ≡ port_output (periods_of d) port out (known_in d) n
+    output_stays n low = made_stays n (made_of model flat number c has port out n low)
 
     signal_stays : (j : ℕ) → j < samples_done port c → signal_sample flat.tables (periods_of c) port out (known_in c) j ≡ signal_sample flat.tables (periods_of d) port out (known_in d) j
     signal_stays j low = elim (cases_lt j port.delay) [
@@ -117,21 +95,13 @@ module _ (model : PureTree) (flat : Flat) (number : ℕ) (c d : ClusterAt) (has 
       abbrev position : Option ℕ
       position = position_at 0 (spans_from port 0 c.old) time
 
-      before : time < 0 + time_of c.old
-      before = omega (arith, low)
-
       position_later : position_at 0 (spans_from port 0 (periods_of d)) time ≡ position
       position_later = ap (λ ps. position_at 0 (spans_from port 0 ps) time) (goes.longer.periods ∙ append_assoc c.old (c.now ∷ []) goes.longer.rest)
-          ∙ same_front port 0 0 c.old (c.now ∷ goes.longer.rest) time before
-
-      inside : (j : ℕ) → position ≡ Some j → j < samples_done port c
-      inside j at =
-          let w = position_within port 0 0 c.old time j at in
-          let s = whole_sum flat number port c.old (c.now ∷ []) has.whole in omega (arith, w, s)
+          ∙ same_front port 0 0 c.old (c.now ∷ goes.longer.rest) time (before_now model flat number c has port out time low)
 
       -- and so does a cell below the start of the period
       pub cell_stays : port_cell model flat number port out time (Some c) ≡ port_cell model flat number port out time (Some d)
       cell_stays =
-          ap (option_map (sample_at model flat number c port out)) (same_front port 0 0 c.old (c.now ∷ []) time before)
-          ∙ mapped (sample_at model flat number c port out) (sample_at model flat number d port out) position (λ j at. sample_stays j (inside j at))
+          ap (option_map (sample_at model flat number c port out)) (same_front port 0 0 c.old (c.now ∷ []) time (before_now model flat number c has port out time low))
+          ∙ mapped (sample_at model flat number c port out) (sample_at model flat number d port out) position (λ j at. sample_stays j (done_before model flat number c has port out time low j at))
           ∙ sym (ap (option_map (sample_at model flat number d port out)) position_later)

@@ -1,6 +1,7 @@
 pub mod Api
 pub mod Below
 pub mod Clusters
+pub mod Known
 pub mod Leading
 pub mod Positions
 pub mod Staying

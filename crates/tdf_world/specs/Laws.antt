@@ -7,17 +7,19 @@ use Rattle.tdf_history.specs.low.flow.Grounds.{firings}
 use Rattle.tdf_history.specs.low.flow.Net.{Turn}
 use Rattle.tdf_history.specs.low.flow.Streams.{known}
 use Rattle.tdf_events.specs.Side.{SideOf}
-use Rattle.tdf_history.specs.Cells.{run_cells}
+use Rattle.tdf_history.specs.Cells.{run_cells, sample_at, samples_done, spans_from}
 use Rattle.tdf_history.specs.Instant.{activations, periods_of, run_in}
 use Rattle.tdf_history.specs.World.{ClusterAt, World}
 use Rattle.tdf_history.specs.low.instants.History.{On, history}
 use Rattle.tdf_history.specs.low.instants.Laws.{IsOn}
 use Rattle.tdf_history.specs.low.limits.Limits.{AreWithinLimits}
 use Rattle.tdf_history.specs.low.rows.Laws.{Agree}
+use Rattle.tdf_history.specs.low.rows.Positions.{position_at}
 use Rattle.tdf_history.specs.low.streams.Cluster.{cluster_net}
 use Rattle.tdf_history.specs.low.streams.Periods.{IsWholeRecord}
 use Rattle.tdf_history.specs.low.streams.Signals.{time_of}
 use Rattle.tdf_history.specs.low.tree.Pure.{PureTree}
+use Rattle.tdf_history.specs.low.wiring.declared.modules.PortRow.{PortRow}
 use Rattle.tdf_world.specs.Continuing.{HasCounts, HasToldCounts}
 use Rattle.tdf_world.specs.Rules.{rules_of, world_engine}
 
@@ -36,6 +38,21 @@ pub record HasDone (model : PureTree) (flat : Flat) (number : ℕ) (c : ClusterA
 pub record AreSteady {K : Type 0} (model : PureTree) (flat : Flat) (w : World K) : Type 0 where
   pub each : (n : ℕ) (c : ClusterAt) → slice_get w.clusters n ≡ Some c
       → HasDone model flat (n + 1) c
+
+-- sample j of the signal of a port is there: an initial one, or an output of an activation that is
+-- done
+pub record IsThere (model : PureTree) (flat : Flat) (number : ℕ) (c : ClusterAt) (port : PortRow)
+    (out j : ℕ) : Type 0 where
+  pub done : j < samples_done port c
+  pub value : Raw
+  pub sample : sample_at model flat number c port out j ≡ Some value
+
+-- so it is at each position whose time is below the start of the period in progress
+abbrev pub SamplesAreThere : Type 0
+SamplesAreThere = (model : PureTree) (flat : Flat) (number : ℕ) (c : ClusterAt) (port : PortRow)
+    → (out time j : ℕ) → HasDone model flat number c → time < time_of c.old
+    → position_at 0 (spans_from port 0 (periods_of c)) time ≡ Some j
+    → IsThere model flat number c port out j
 
 -- where the history goes on to a later end, the cells below a mark stay as they are, if no cluster
 -- began its period before the mark
