@@ -1,8 +1,10 @@
 //! The plans of a cluster that were made last, each with what it was made from.
 
-ghost use Rattle.std.specs.Prelude.{◌≡◌, ◌<◌, ◌≤◌, ◌+◌, ◌-◌, ◌^◌, IfErr, IfOk, IfSome, [], None, Ok, OnOk, drop, false, if◌then◌else◌, length, min, true, vec_len};
+ghost use Rattle.std.specs.Prelude.{◌≡◌, ◌<◌, ◌≤◌, ◌+◌, ◌-◌, ◌^◌, Err, IfErr, IfOk, IfSome, [], None, Ok, OnOk, drop, false, if◌then◌else◌, length, min, true, vec_len};
 ghost use Rattle.tdf_flat.specs.low.bind.Ranges.{AreInRange};
+ghost use Rattle.tdf_flat.specs.low.base.declared.faults.Fault.{Fault as FaultOf};
 ghost use Rattle.tdf_dynamic.specs.Faults.{IsPlanFault, IsPlanOf, IsRefusal};
+ghost use Rattle.tdf_dynamic.specs.declared.err.ChangeErr.TheVariants.{Refused};
 ghost use Rattle.tdf_dynamic.specs.Rates.{seen};
 ghost use Rattle.tdf_dynamic.specs.Known.{HasKept, HasSameItems, IsKnown, IsMadeFrom, IsShort};
 ghost use Rattle.tdf_dynamic.specs.machine.Kept.{IsPlanIn};
@@ -251,6 +253,7 @@ impl KnownPlans {
         ensures kept { IfOk result (λ plan. HasKept (seen net) timing.counts.items timing.steps plan self.old self.new) }
         ensures made { OnOk result (self.new.made ≡ min (self.old.made + 1) (2 ^ 64 - 1)) }
         ensures most { self.new.most ≡ self.old.most }
+        ensures unplanned { (fault : FaultOf) → result ≡ Err (Refused fault) → self.new ≡ self.old }
     {
         match plan_of(alloc, tables, &net, table, &timing) {
             Ok(plan) => match self.keep(alloc, net, timing, &plan) {
@@ -295,6 +298,8 @@ impl KnownPlans {
         ensures made { (IsKnown self.old.plans (seen net) timing.counts.items timing.steps → ⊥)
             → OnOk result (self.new.made ≡ min (self.old.made + 1) (2 ^ 64 - 1)) }
         ensures most { self.new.most ≡ self.old.most }
+        ensures unplanned { (fault : FaultOf) → result ≡ Err (Refused fault)
+            → self.new ≡ self.old }
     {
         match found_in(alloc, &self.plans, &net, &timing) {
             Ok(Some(plan)) => {
