@@ -51,6 +51,10 @@ pub fn tool<S: Source, O: Sink, N: Sink>(
     ensures read_fault { result ≡ number_of ReadFault → FaultsRose (S.faults model.old) (S.faults model.new) }
     ensures write_fault { result ≡ write_fault → FaultsRose (O.faults out.old) (O.faults out.new) ⊎ FaultsRose (N.faults notes.old) (N.faults notes.new) }
 
+    // Where the status isn't 4, no write failed: the counts of faults of both sinks are as they were.
+    ensures out_kept { result ≢ write_fault → O.faults out.new ≡ O.faults out.old }
+    ensures notes_kept { result ≢ write_fault → N.faults notes.new ≡ N.faults notes.old }
+
     // Words that are accepted, a text of a length that is, an outcome for them, and no count of faults that rose: the status
     // is that of the outcome, or it is out of memory.
     ensures complete { (job : Settings) (text : List ℕ) (o : Outcome) → taken_of (texts_of words.now.items) ≡ Some job

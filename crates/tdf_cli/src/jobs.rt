@@ -110,6 +110,8 @@ fn put_texts<O: Sink, N: Sink>(texts: &Texts, out: &mut O, notes: &mut N) -> Res
     ensures out_part { OnErr result (AppendsFront (O.taken out.old) (O.taken out.new) texts.now.output.items) }
     ensures notes_part { OnErr result (AppendsFront (N.taken notes.old) (N.taken notes.new) texts.now.note.items) }
     ensures cause { IsErrOf result why.Failed → FaultsRose (O.faults out.old) (O.faults out.new) ⊎ FaultsRose (N.faults notes.old) (N.faults notes.new) }
+    ensures out_kept { ¬ IsErrOf result why.Failed → O.faults out.new ≡ O.faults out.old }
+    ensures notes_kept { ¬ IsErrOf result why.Failed → N.faults notes.new ≡ N.faults notes.old }
 {
     match put_all(out, &texts.output) {
         Ok(()) => noted(notes, &texts.note, Status::Done),
@@ -131,6 +133,8 @@ fn check<O: Sink, N: Sink>(
     ensures part { OnErr result ((text : List ℕ) → SpellsText text (pure_tree tree.now) → WritesNothingOrFront (Text Check text)
         (O.taken out.old) (O.taken out.new) (N.taken notes.old) (N.taken notes.new)) }
     ensures cause { IsErrOf result why.Failed → FaultsRose (O.faults out.old) (O.faults out.new) ⊎ FaultsRose (N.faults notes.old) (N.faults notes.new) }
+    ensures out_kept { ¬ IsErrOf result why.Failed → O.faults out.new ≡ O.faults out.old }
+    ensures notes_kept { ¬ IsErrOf result why.Failed → N.faults notes.new ≡ N.faults notes.old }
 {
     law_one_outcome();
     match check_texts(alloc, tree, sim) {
@@ -154,6 +158,8 @@ fn plan<O: Sink, N: Sink>(
     ensures part { OnErr result ((text : List ℕ) → SpellsText text (pure_tree tree.now) → WritesNothingOrFront (Text Plan text)
         (O.taken out.old) (O.taken out.new) (N.taken notes.old) (N.taken notes.new)) }
     ensures cause { IsErrOf result why.Failed → FaultsRose (O.faults out.old) (O.faults out.new) ⊎ FaultsRose (N.faults notes.old) (N.faults notes.new) }
+    ensures out_kept { ¬ IsErrOf result why.Failed → O.faults out.new ≡ O.faults out.old }
+    ensures notes_kept { ¬ IsErrOf result why.Failed → N.faults notes.new ≡ N.faults notes.old }
 {
     law_one_outcome();
     match plan_texts(alloc, sim) {
@@ -179,6 +185,8 @@ fn do_accepted<O: Sink, N: Sink>(
     ensures part { OnErr result ((text : List ℕ) → SpellsText text (pure_tree tree.now) → WritesNothingOrFront (Text job text)
         (O.taken out.old) (O.taken out.new) (N.taken notes.old) (N.taken notes.new)) }
     ensures cause { IsErrOf result why.Failed → FaultsRose (O.faults out.old) (O.faults out.new) ⊎ FaultsRose (N.faults notes.old) (N.faults notes.new) }
+    ensures out_kept { ¬ IsErrOf result why.Failed → O.faults out.new ≡ O.faults out.old }
+    ensures notes_kept { ¬ IsErrOf result why.Failed → N.faults notes.new ≡ N.faults notes.old }
 {
     match job {
         Settings::Run { stop, kind, turns } => run(alloc, sim, stop, kind, turns, out, notes),
@@ -204,6 +212,8 @@ fn do_tree<O: Sink, N: Sink>(
     ensures part { OnErr result ((text : List ℕ) → SpellsText text (pure_tree tree.now) → WritesNothingOrFront (Text job text)
         (O.taken out.old) (O.taken out.new) (N.taken notes.old) (N.taken notes.new)) }
     ensures cause { IsErrOf result why.Failed → FaultsRose (O.faults out.old) (O.faults out.new) ⊎ FaultsRose (N.faults notes.old) (N.faults notes.new) }
+    ensures out_kept { ¬ IsErrOf result why.Failed → O.faults out.new ≡ O.faults out.old }
+    ensures notes_kept { ¬ IsErrOf result why.Failed → N.faults notes.new ≡ N.faults notes.old }
 {
     law_one_outcome();
     match elaborate_tree(alloc, tree) {
@@ -228,6 +238,8 @@ fn do_text<O: Sink, N: Sink>(
     ensures part { OnErr result (WritesNothingOrFront (Text job text.now.items)
         (O.taken out.old) (O.taken out.new) (N.taken notes.old) (N.taken notes.new)) }
     ensures cause { IsErrOf result why.Failed → FaultsRose (O.faults out.old) (O.faults out.new) ⊎ FaultsRose (N.faults notes.old) (N.faults notes.new) }
+    ensures out_kept { ¬ IsErrOf result why.Failed → O.faults out.new ≡ O.faults out.old }
+    ensures notes_kept { ¬ IsErrOf result why.Failed → N.faults notes.new ≡ N.faults notes.old }
 {
     law_one_outcome();
     match parse(alloc, text) {
@@ -252,6 +264,8 @@ pub(crate) fn finish<O: Sink, N: Sink>(
     ensures part { OnErr result (WritesNothingOrFront (reading input.now)
         (O.taken out.old) (O.taken out.new) (N.taken notes.old) (N.taken notes.new)) }
     ensures cause { IsErrOf result why.Failed → FaultsRose (O.faults out.old) (O.faults out.new) ⊎ FaultsRose (N.faults notes.old) (N.faults notes.new) }
+    ensures out_kept { ¬ IsErrOf result why.Failed → O.faults out.new ≡ O.faults out.old }
+    ensures notes_kept { ¬ IsErrOf result why.Failed → N.faults notes.new ≡ N.faults notes.old }
     ensures cut { reading input.now ≡ NoMemory → result ≡ Err why.Memory }
 {
     law_one_outcome();

@@ -122,6 +122,7 @@ pub(crate) fn measure<O: Sink>(
     ensures part { (tree : PureTree) (text : List ℕ) (seed : ℕ) (notes : Option (List ℕ)) → SpellsText text tree → IsAcceptedTree tree sim
         → OnErr result (WritesNothingOrFront (Text (Load seed size) text) (O.taken out.old) (O.taken out.new) notes notes) }
     ensures cause { IsErrOf result why.Failed → FaultsRose (O.faults out.old) (O.faults out.new) }
+    ensures kept { ¬ IsErrOf result why.Failed → O.faults out.new ≡ O.faults out.old }
 {
     law_one_outcome();
     match measured(alloc, sim, size) {

@@ -73,6 +73,8 @@ fn run_to<O: Sink, N: Sink>(
         → OnErr result (WritesNothingOrFront (Text (Run stop kind turns) text)
         (O.taken out.old) (O.taken out.new) (N.taken notes.old) (N.taken notes.new)) }
     ensures cause { IsErrOf result why.Failed → FaultsRose (O.faults out.old) (O.faults out.new) ⊎ FaultsRose (N.faults notes.old) (N.faults notes.new) }
+    ensures out_kept { ¬ IsErrOf result why.Failed → O.faults out.new ≡ O.faults out.old }
+    ensures notes_kept { ¬ IsErrOf result why.Failed → N.faults notes.new ≡ N.faults notes.old }
 {
     law_first_fault();
     law_one_model();
@@ -105,6 +107,8 @@ pub(crate) fn run<O: Sink, N: Sink>(
     ensures part { (tree : PureTree) (text : List ℕ) → SpellsText text tree → IsAcceptedTree tree sim → OnErr result (WritesNothingOrFront (Text (Run stop kind turns) text)
         (O.taken out.old) (O.taken out.new) (N.taken notes.old) (N.taken notes.new)) }
     ensures cause { IsErrOf result why.Failed → FaultsRose (O.faults out.old) (O.faults out.new) ⊎ FaultsRose (N.faults notes.old) (N.faults notes.new) }
+    ensures out_kept { ¬ IsErrOf result why.Failed → O.faults out.new ≡ O.faults out.old }
+    ensures notes_kept { ¬ IsErrOf result why.Failed → N.faults notes.new ≡ N.faults notes.old }
 {
     law_one_outcome();
     match stop_in(sim.flat.resolution, stop) {

@@ -9,7 +9,7 @@ use tdf_shown::low::exec::Cluster;
 pub struct Ran {
     /// How it ended.
     pub end: End,
-    /// Its clusters, in order of number. Where it reached its stop, they have done every firing of the run.
+    /// Its clusters. Where it reached its stop, they are in order of number and have done every firing of the run.
     pub clusters: Vec<Cluster>,
     /// Its event side. Where it reached its stop, it is the one after the last instant.
     pub kernel: Kernel,
@@ -196,7 +196,8 @@ fn write_notes<N: Sink>(
 /// and on `notes` the plans and how it ended. What it writes is that of the history which is told the answers of the boundaries.
 ///
 /// # Errors
-/// A write failed, or out of memory. Both sinks then hold front parts of their texts.
+/// A write failed, or out of memory. Both sinks then hold front parts of their texts. Where no write failed, no count of faults
+/// changes.
 pub fn run_model<O: Sink, N: Sink>(
     alloc: Global,
     flat: &Flat,
@@ -233,6 +234,8 @@ pub fn run_model<O: Sink, N: Sink>(
         (run_note model flat.now firsts.items ahead stop turns)) }
     ensures cause { IsErrOf result Failed → FaultsRose (O.faults out.old) (O.faults out.new)
         ⊎ FaultsRose (N.faults notes.old) (N.faults notes.new) }
+    ensures out_kept { ¬ IsErrOf result Failed → O.faults out.new ≡ O.faults out.old }
+    ensures notes_kept { ¬ IsErrOf result Failed → N.faults notes.new ≡ N.faults notes.old }
     ensures left { (model : PureTree) → IsModelOf model flat.now
         → (ahead : List (List Change)) → HaveAnswers model flat.now firsts.items ahead stop turns
         → IfOk result (λ ran.

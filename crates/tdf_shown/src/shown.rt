@@ -155,6 +155,7 @@ impl Shown {
         ensures upto { self.new.trace.rows.upto ≡ self.old.trace.rows.upto }
         ensures stage { self.new.trace.stage ≡ self.old.trace.stage }
         ensures about { self.new.trace.about ≡ self.old.trace.about }
+        ensures rest { self.new ≡ record self.old { trace = self.new.trace } }
     {
         self.tracking.close(&mut self.trace, end)
     }

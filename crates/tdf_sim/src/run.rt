@@ -48,7 +48,8 @@ impl Sim {
     /// change ends it at the time of the boundary.
     ///
     /// # Errors
-    /// `WriteFault` only where a count of faults rose; after it and after `Memory` both sinks hold front parts of their texts.
+    /// `WriteFault` only where a count of faults rose, and no other answer changes one; after it and after `Memory` both sinks hold
+    /// front parts of their texts.
     pub fn run<O: Sink, N: Sink>(
         self,
         alloc: Global,
@@ -87,6 +88,10 @@ impl Sim {
         ensures cause { IsErrOf result why.WriteFault
             → FaultsRose (O.faults out.old) (O.faults out.new)
             ⊎ FaultsRose (N.faults notes.old) (N.faults notes.new) }
+        ensures out_kept { ¬ IsErrOf result why.WriteFault
+            → O.faults out.new ≡ O.faults out.old }
+        ensures notes_kept { ¬ IsErrOf result why.WriteFault
+            → N.faults notes.new ≡ N.faults notes.old }
         ensures left { (tree : PureTree) → IsAcceptedTree tree self → (ahead : List (List Change))
             → HaveAnswers tree self.flat self.firsts.items ahead stop turns → IfOk result (λ ran.
             (time taken : ℕ) → ran.end ≡ Reached time taken
