@@ -200,6 +200,12 @@ input_load words TooLong seed size old new before now is asks = absurd (none_rea
 input_load words ReadFault seed size old new before now is asks = absurd (none_read words seed size asks is.0)
 input_load words NoMemory seed size old new before now is asks = inr refl
 
+-- a read that failed is noted
+pub read_noted : HasOneOutcome → (r : Reading) (s : Status) (a b c d : Option (List ℕ)) → WritesOutcome r s a b c d → r ≡ ReadFault → number_of s ≡ number_of status.ReadFault
+read_noted law r s a b c d wrote is =
+    let own : HasOutcome ReadFault wrote.outcome = subst (λ (x : Reading). HasOutcome x wrote.outcome) is wrote.has in
+    ap number_of (sym wrote.answers ∙ ap (λ (x : Outcome). x.status) (law ReadFault wrote.outcome _ own read_fault))
+
 module _ (law : HasOneOutcome) where
   met_other : (words : List (List ℕ)) (r : Reading) (s : Status) (job : Settings) (text : List ℕ) (o : Outcome) (a b c d : Option (List ℕ))
       → WritesOutcome r s a b c d → HasOutcome (Text job text) o → (r ≡ Text job text) ⊎ (r ≡ NoMemory) → number_of s ≡ number_of o.status

@@ -4,7 +4,7 @@ use Rattle.tdf_sim.proofs.Api.{one_tree}
 use Rattle.tdf_sim.specs.low.base.declared.faults.Fault.{Fault}
 use Rattle.tdf_sim.specs.low.blocks.Refused.{SpellsText}
 use Rattle.tdf_cli.specs.Input.{Reading, BadWords, Text, TooLong, ReadFault, NoMemory}
-use Rattle.tdf_cli.specs.Outcome.{Outcome, note, refused, ran, checked, planned, stop_in, HasOutcome, usage, read_fault, too_long, faulty, too_late, has_run, is_checked, is_planned, is_loaded, load_end, load_line, loaded, status_of, turns_taken}
+use Rattle.tdf_cli.specs.Outcome.{Outcome, note, refused, ran, checked, planned, stop_in, HasOutcome, usage, read_fault, too_long, faulty, too_late, has_run, is_checked, is_planned, is_loaded, load_end, load_line, status_of, turns_taken}
 use Rattle.tdf_cli.specs.declared.status.Status.TheVariants as status
 use Rattle.tdf_sim.specs.low.words.declared.asked.Settings.{Settings}
 use Rattle.tdf_sim.specs.low.words.declared.asked.Settings.TheVariants.{Run, Check, Plan, Load}

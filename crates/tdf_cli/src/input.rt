@@ -1,7 +1,7 @@
 //! The words, and then the text of the model.
 
 ghost use Rattle.std.specs.Prelude.{◌≡◌, ◌≤◌, List, Option, Some, true, ℕ};
-ghost use Rattle.tdf_cli.specs.Input.{AskToRead, InputIs, IsReady, reading, reads_text};
+ghost use Rattle.tdf_cli.specs.Input.{AskToRead, InputIs, IsReady, ReadFault, reading, reads_text};
 ghost use Rattle.tdf_sim.specs.low.words.Jobs.{IsLoad, IsWithin};
 ghost use Rattle.tdf_sim.specs.low.words.Words.{taken_of, texts_of};
 ghost use Rattle.tdf_sim.specs.low.words.declared.asked.Settings.TheVariants.{Load};
@@ -49,6 +49,7 @@ fn read<S: Source>(alloc: Global, job: Settings, model: &mut S) -> Input
     ensures input { (words : List (List ℕ)) → taken_of words ≡ Some job
         → InputIs words (reading result) (S.left model.old) (S.left model.new) (S.faults model.old) (S.faults model.new) }
     ensures ready { IsReady (reading result) }
+    ensures kept { ¬ (reading result ≡ ReadFault) → S.faults model.new ≡ S.faults model.old }
 {
     match read_all(alloc, model, LONGEST_TEXT) {
         Ok(text) => Input::Text(job, text),
@@ -62,6 +63,7 @@ fn read<S: Source>(alloc: Global, job: Settings, model: &mut S) -> Input
 pub(crate) fn input_of<S: Source>(alloc: Global, words: &Vec<String>, model: &mut S) -> Input
     ensures input { InputIs (texts_of words.now.items) (reading result) (S.left model.old) (S.left model.new) (S.faults model.old) (S.faults model.new) }
     ensures ready { IsReady (reading result) }
+    ensures kept { ¬ (reading result ≡ ReadFault) → S.faults model.new ≡ S.faults model.old }
     ensures unread { ¬ AskToRead (texts_of words.now.items) → model.new ≡ model.old }
 {
     match settings(alloc, words) {
