@@ -1,15 +1,14 @@
 -- All edges of a cluster together hold few samples: no more than are there at first, and than its ports move in a period.
-use Rattle.std.proofs.Common.{◌≡◌, ◌∙◌, ◌≢◌, ℕ, suc, ◌+◌, ◌-◌, ◌*◌, ◌<◌, ◌≤◌, Bool, List, [], ◌∷◌, Some, option_map}
-use Rattle.std.proofs.Common.{length, map, set, nat_eq, if◌then◌else◌, refl, sym, ap, subst, inl, inr, arith, mul-le-mul_right}
-use Rattle.std.proofs.lemmas.Bool.{cases_eq, cases_lt, eq-eqb, ne_eqb}
-use Rattle.std.proofs.lemmas.List.{get_or-set_other, get_or-set_same, get_or_past, length-map}
-use Rattle.std.proofs.lemmas.List.Sums.{sum-map, sum_by-cons, sum_by-set, sum_by-take-le}
+use Rattle.std.proofs.Common.{◌≡◌, ◌∙◌, ℕ, ◌+◌, ◌*◌, ◌<◌, ◌≤◌, Bool, List, [], Some, option_map}
+use Rattle.std.proofs.Common.{length, map, nat_eq, if◌then◌else◌, sym, ap, subst, inl, inr, arith, mul-le-mul_right}
+use Rattle.std.proofs.lemmas.Bool.{cases_eq, eq-eqb, ne_eqb}
+use Rattle.std.proofs.lemmas.List.{length-map}
+use Rattle.std.proofs.lemmas.List.Sums.{sum-map, sum_by-take-le}
 use Rattle.std.proofs.lemmas.Option.{get_or_from_slice_get, slice_get-map, slice_get_within}
-use Rattle.std.specs.Prelude.{cond, slice_get, slice_index, sum, sum_by}
+use Rattle.std.specs.Prelude.{cond, slice_get, slice_index, sum_by}
 use Rattle.tdf_layout.specs.low.bind.Actors.{cluster_of}
 use Rattle.tdf_layout.specs.low.dynamic.Attributes.{clusters_of}
-use Rattle.tdf_layout.specs.low.dynamic.Faults.{pace_in, samples_in}
-use Rattle.tdf_layout.specs.low.dynamic.Rates.{NetOf, net_of, net_ports, port_rate, rated_edge, rated_port}
+use Rattle.tdf_layout.specs.low.dynamic.Rates.{NetOf, net_of, net_ports, port_rate, rated_edge}
 use Rattle.tdf_exec.specs.Cluster.{ClusterOf}
 use Rattle.tdf_exec.specs.Laws.{ClustersHoldFew, samples_held}
 use Rattle.tdf_exec.specs.Made.{IsClusterOf}
@@ -17,121 +16,21 @@ use Rattle.tdf_layout.specs.low.flat.Flat.{IsFlatOf}
 use Rattle.tdf_layout.specs.low.flat.declared.model.Flat.{Flat}
 use Rattle.tdf_layout.specs.low.graph.Counts.{AreCounts}
 use Rattle.tdf_layout.specs.low.graph.declared.actors.Edge.{Edge}
-use Rattle.tdf_layout.specs.low.graph.declared.actors.Port.{Port}
-use Rattle.tdf_exec.proofs.Entries.{plan_counts}
+use Rattle.tdf_exec.proofs.Sums.{all_keys, by_key, once, over_map, pair_sums}
+use Rattle.tdf_exec.proofs.Traffic.{counts_in, entries_of, moved_in, within}
 use Rattle.tdf_exec.proofs.EdgeRates.{edge_reads, edge_writes, reads_at, writes_at}
 use Rattle.tdf_exec.proofs.Rows.{all_at, index_at}
 use Rattle.tdf_layout.specs.Edges.{EdgesAreRows, IsEdgeRow, PortsGiveOnce}
 use Rattle.tdf_layout.specs.Rates.{PortsSetRates, SamplersPutOne, SinksTakeOne}
 use Rattle.tdf_layout.specs.low.limits.Limits.{AreWithinLimits}
 use Rattle.tdf_layout.specs.low.rings.Rings.{RingOf, ring_of}
-use Rattle.tdf_layout.specs.low.schedule.Plan.{IsPlan, done}
+use Rattle.tdf_layout.specs.low.schedule.Plan.{done}
 use Rattle.tdf_layout.specs.low.schedule.declared.entry.Entry.{Entry}
-use Rattle.tdf_layout.specs.low.schedule.declared.err.PlanErr.TheVariants.{TooLarge}
 use Rattle.tdf_layout.specs.low.streams.Places.{writer_at, writer_of_row}
 use Rattle.tdf_layout.specs.low.streams.Starts.{held_at_head, initial_of_row}
 use Rattle.tdf_layout.specs.low.tree.Pure.{PureTree}
 use Rattle.tdf_layout.specs.low.wiring.declared.edges.EdgeRow.{EdgeRow}
 use Rattle.tdf_layout.specs.low.wiring.declared.modules.PortRow.{PortRow}
-
--- elements that have keys and weights
-module _ {X : Type 0} (key weight : X → ℕ) where
-  -- what those with one key weigh together
-  abbrev by_key : ℕ → List X → ℕ
-  by_key k xs = sum_by (λ (x : X). if nat_eq (key x) k then weight x else 0) xs
-
-  own : (k : ℕ) (x : X) (xs : List X) → key x ≡ k → by_key k (x ∷ xs) ≡ weight x + by_key k xs
-  own k x xs same = sum_by-cons (λ (y : X). if nat_eq (key y) k then weight y else 0) x xs
-      ∙ ap (λ (b : Bool). (if b then weight x else 0) + by_key k xs) (eq-eqb (key x) k same)
-
-  other : (k : ℕ) (x : X) (xs : List X) → key x ≢ k → by_key k (x ∷ xs) ≡ by_key k xs
-  other k x xs apart =
-      let s = sum_by-cons (λ (y : X). if nat_eq (key y) k then weight y else 0) x xs in
-      let z : (if nat_eq (key x) k then weight x else 0) ≡ 0 = ap (λ (b : Bool). if b then weight x else 0) (ne_eqb (key x) k apart) in
-      omega (arith, s, z)
-
-  -- one element less
-  abbrev less : X → List ℕ → List ℕ
-  less x most = set most (key x) (slice_index most (key x) - weight x)
-
-  lowered : (x : X) (xs : List X) (most : List ℕ) → ((k : ℕ) → by_key k (x ∷ xs) ≤ slice_index most k) → key x < length most
-      → (k : ℕ) → by_key k xs ≤ slice_index (less x most) k
-  lowered x xs most each inside k = elim (cases_eq k (key x)) [
-    | inl same ↦ subst (λ j. by_key j xs ≤ slice_index (less x most) j) (sym same) (
-        let h = each (key x) in
-        let o = own (key x) x xs refl in
-        let g : slice_index (less x most) (key x) ≡ slice_index most (key x) - weight x = get_or-set_same most (key x) _ 0 inside in
-        omega (arith, h, o, g))
-    | inr apart ↦ (
-        let h = each k in
-        let o = other k x xs (λ e. apart (sym e)) in
-        let g : slice_index (less x most) k ≡ slice_index most k = get_or-set_other most (key x) k _ 0 apart in
-        omega (arith, h, o, g))
-  ]
-
-  -- where those with each key weigh at most a number, all weigh at most the sum of these numbers
-  all_keys : (xs : List X) (most : List ℕ) → ((k : ℕ) → by_key k xs ≤ slice_index most k) → sum_by weight xs ≤ sum most
-  all_keys [] most each = omega arith
-  all_keys (x ∷ xs) most each =
-      let s = sum_by-cons weight x xs in
-      let o = own (key x) x xs refl in
-      let h = each (key x) in
-      elim (cases_lt (key x) (length most)) [
-        | inl inside ↦ (
-            let r = all_keys xs (less x most) (lowered x xs most each inside) in
-            let t : sum (less x most) + slice_index most (key x) ≡ sum most + (slice_index most (key x) - weight x) =
-            sum_by-set (λ n. n) most (key x) _ 0 inside in
-            omega (arith, s, o, h, r, t))
-        | inr past ↦ (
-            let z : slice_index most (key x) ≡ 0 = get_or_past most (key x) 0 past in
-            let r = all_keys xs most (λ k. omega (arith, sum_by-cons (λ (y : X). if nat_eq (key y) k then weight y else 0) x xs, each k)) in
-            omega (arith, s, o, h, z, r))
-      ]
-
-  none : (k : ℕ) (xs : List X) → ((j : ℕ) (x : X) → slice_get xs j ≡ Some x → key x ≢ k) → by_key k xs ≡ 0
-  none k [] away = refl
-  none k (x ∷ xs) away = other k x xs (away 0 x refl) ∙ none k xs (λ j y at. away (suc j) y at)
-
-  -- where no two have one key
-  once : (k n : ℕ) (xs : List X) → ((i j : ℕ) (x y : X) → slice_get xs i ≡ Some x → slice_get xs j ≡ Some y → key x ≡ key y → i ≡ j)
-      → ((j : ℕ) (x : X) → slice_get xs j ≡ Some x → key x ≡ k → weight x ≤ n) → by_key k xs ≤ n
-  once k n [] apart small = omega arith
-  once k n (x ∷ xs) apart small = elim (cases_eq (key x) k) [
-    | inl same ↦ (
-        let o = own k x xs same in
-        let w = small 0 x refl same in
-        let z = none k xs (λ j y at e. let q = apart 0 (suc j) x y refl at (same ∙ sym e) in omega (arith, q)) in
-        omega (arith, o, w, z))
-    | inr away ↦ (
-        let o = other k x xs away in
-        let r = once k n xs (λ i j y z yat zat e. let q = apart (suc i) (suc j) y z yat zat e in omega (arith, q)) (λ j y at e. small (suc j) y at e) in
-        omega (arith, o, r))
-  ]
-
--- a sum over one list is at most two sums over another
-pair_sums : {X Y : Type 0} (f : X → ℕ) (g h : Y → ℕ) (xs : List X) (ys : List Y) → length xs ≡ length ys
-    → ((e : ℕ) (x : X) (y : Y) → slice_get xs e ≡ Some x → slice_get ys e ≡ Some y → f x ≤ g y + h y) → sum_by f xs ≤ sum_by g ys + sum_by h ys
-pair_sums f g h [] ys same each = omega arith
-pair_sums f g h (x ∷ xs) [] same each = absurd (omega (arith, same))
-pair_sums f g h (x ∷ xs) (y ∷ ys) same each =
-    let a = sum_by-cons f x xs in
-    let b = sum_by-cons g y ys in
-    let c = sum_by-cons h y ys in
-    let i = each 0 x y refl refl in
-    let r = pair_sums f g h xs ys (omega (arith, same)) (λ e v w vat wat. each (suc e) v w vat wat) in
-    omega (arith, a, b, c, i, r)
-
-over_map : {X Y : Type 0} (g : X → Y) (f : Y → ℕ) (xs : List X) → sum_by f (map g xs) ≡ sum_by (λ (x : X). f (g x)) xs
-over_map g f [] = refl
-over_map g f (x ∷ xs) = omega (arith, sum_by-cons f (g x) (map g xs), sum_by-cons (λ y. f (g y)) x xs, over_map g f xs)
-
--- no actor fires more often than its count says
-fired : (edges : List Edge) (pace : ℕ → ℕ) (counts : List ℕ) (entries : List Entry) → IsPlan edges pace counts entries → (m i : ℕ) → done entries i m ≤ slice_index counts m
-unfolding done
-fired edges pace counts entries plan m i =
-    let t = sum_by-take-le (λ (x : Entry). cond {A = ℕ} (nat_eq x.actor m) 1 0) entries i in
-    let a = plan_counts edges pace counts entries plan m in
-    omega (arith, t, a)
 
 module _ (rows : EdgesAreRows) (given_once : PortsGiveOnce) (between : PortsSetRates) (from : SamplersPutOne) (to : SinksTakeOne)
     (model : PureTree) (flat : Flat) (c : ClusterOf) (is : IsFlatOf model flat) (limits : AreWithinLimits flat) (of : IsClusterOf flat c) where
@@ -139,7 +38,7 @@ module _ (rows : EdgesAreRows) (given_once : PortsGiveOnce) (between : PortsSetR
   net = net_of flat.tables c.table
 
   abbrev counts : List ℕ
-  counts = of.planned.plan_is.counts
+  counts = counts_in flat c of
 
   counts_are : AreCounts net.edges (clusters_of flat.tables) c.number counts
   counts_are = of.planned.plan_is.timing.counts_are.counts_are
@@ -161,7 +60,7 @@ module _ (rows : EdgesAreRows) (given_once : PortsGiveOnce) (between : PortsSetR
   traffic edge = slice_index counts edge.writer * writes edge
 
   abbrev moved : PortRow → ℕ
-  moved port = slice_index counts port.«module» * port_rate c.table port
+  moved = moved_in flat c of
 
   net_edge : (e : ℕ) (edge : EdgeRow) → slice_get flat.tables.edges e ≡ Some edge → slice_get net.edges e ≡ Some (rated edge)
   unfolding net_of
@@ -227,9 +126,13 @@ module _ (rows : EdgesAreRows) (given_once : PortsGiveOnce) (between : PortsSetR
         omega (arith, a))
   ]
 
-  fired_here : (m : ℕ) → done c.entries c.place m ≤ slice_index counts m
-  fired_here m = subst (λ (l : List Entry). done l c.place m ≤ slice_index counts m) of.planned.entries_are
-      (fired net.edges (pace_in net of.planned.plan_is.steps) counts of.planned.plan.entries.items of.planned.plan_is.plan_is.planned.planned m c.place)
+  -- no actor fires more often than its count says
+  fired : (m : ℕ) → done c.entries c.place m ≤ slice_index counts m
+  unfolding done
+  fired m =
+      let t = sum_by-take-le (λ (x : Entry). cond {A = ℕ} (nat_eq x.actor m) 1 0) c.entries c.place in
+      let n = entries_of flat c of m in
+      omega (arith, t, n)
 
   -- what an edge holds is there at first, or was written in this period
   ring_few : (e : ℕ) (ring : RingOf) (edge : EdgeRow) → slice_get c.rings e ≡ Some ring → slice_get flat.tables.edges e ≡ Some edge
@@ -240,7 +143,7 @@ module _ (rows : EdgesAreRows) (given_once : PortsGiveOnce) (between : PortsSetR
       let w : slice_index c.writes e ≡ writes edge = ap (λ l. slice_index l e) of.writes_are ∙ writes_at flat.tables c.table e edge at in
       let n : done c.entries c.place (writer_at flat.tables.edges e) * slice_index c.writes e ≡ done c.entries c.place edge.writer * writes edge =
       ap (λ o. done c.entries c.place (writer_of_row o) * slice_index c.writes e) at ∙ ap (λ k. done c.entries c.place edge.writer * k) w in
-      let t : done c.entries c.place edge.writer * writes edge ≤ traffic edge = mul-le-mul_right (writes edge) (fired_here edge.writer) in
+      let t : done c.entries c.place edge.writer * writes edge ≤ traffic edge = mul-le-mul_right (writes edge) (fired edge.writer) in
       let f = held_first e edge at in
       omega (arith, h, r, n, t, f)
 
@@ -248,23 +151,12 @@ module _ (rows : EdgesAreRows) (given_once : PortsGiveOnce) (between : PortsSetR
   unfolding net_of
   edges_sum = over_map rated (λ (x : Edge). if nat_eq (slice_index counts x.writer) 0 then 0 else x.initial) flat.tables.edges
 
-  ports_sum : sum_by (λ (p : Port). slice_index counts p.actor * p.rate) net.ports ≡ sum_by moved flat.tables.ports
-  unfolding net_of net_ports
-  ports_sum = over_map (rated_port c.table) (λ (p : Port). slice_index counts p.actor * p.rate) flat.tables.ports
-
-  -- the plan would not be there, were these too many
-  within : samples_in net counts ≤ 1048576
-  within = elim (cases_lt 1048576 (samples_in net counts)) [
-    | inl many ↦ absurd (of.planned.plan_is.plan_is.none TooLarge many)
-    | inr few ↦ few
-  ]
-
   few_held : samples_held c ≤ 1048576
   few_held =
       let p = pair_sums (λ (r : RingOf). length r.samples) first traffic c.rings flat.tables.edges of.held.same ring_few in
       let k = all_keys (λ (x : EdgeRow). x.port) traffic flat.tables.edges (map moved flat.tables.ports) through_port in
       let m = sum-map moved flat.tables.ports in
-      omega (arith, p, k, m, edges_sum, ports_sum, within)
+      omega (arith, p, k, m, edges_sum, within flat c of)
 
 pub clusters_hold_few : EdgesAreRows → PortsGiveOnce → PortsSetRates → SamplersPutOne → SinksTakeOne → ClustersHoldFew
 clusters_hold_few rows given_once between from to model flat c is limits of = few_held rows given_once between from to model flat c is limits of

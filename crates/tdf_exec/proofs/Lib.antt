@@ -28,8 +28,11 @@ mod Planned
 pub mod Playing
 mod Rates
 mod Restarts
+mod Rooms
 mod Rows
 mod Runs
 mod Safe
 mod Stepping
+mod Sums
 pub mod Totals
+mod Traffic

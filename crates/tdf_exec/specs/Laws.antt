@@ -6,6 +6,7 @@ use Rattle.tdf_layout.specs.low.dynamic.Rates.{net_of}
 use Rattle.tdf_exec.specs.Cluster.{ClusterOf}
 use Rattle.tdf_exec.specs.Made.{IsClusterOf, IsPlanned, IsSafe, KeepRates}
 use Rattle.tdf_exec.specs.Starts.{BeginWithRates}
+use Rattle.tdf_exec.specs.Telling.{GivesTooMany}
 use Rattle.tdf_layout.specs.low.expr.Checked.{IsCheckedOf}
 use Rattle.tdf_layout.specs.low.flat.Flat.{IsFlatOf}
 use Rattle.tdf_layout.specs.low.flat.declared.model.Flat.{Flat}
@@ -43,6 +44,11 @@ samples_held c = sum_by (λ (r : RingOf). length r.samples) c.rings
 abbrev pub ClustersHoldFew : Type 0
 ClustersHoldFew = (model : PureTree) (flat : Flat) (c : ClusterOf) → IsFlatOf model flat
     → AreWithinLimits flat → IsClusterOf flat c → samples_held c ≤ 1048576
+
+-- no offset of the plan of a cluster gives 2 ^ 32 samples of sinks or more, nor of traced signals
+abbrev pub RoomIsThere : Type 0
+RoomIsThere = (flat : Flat) (c : ClusterOf) → IsClusterOf flat c
+    → GivesTooMany c.runners c.entries → ⊥
 
 -- where a model has no fault of types, no processing or reinitialize body sets a rate variable
 abbrev pub RatesAreKept : Type 0

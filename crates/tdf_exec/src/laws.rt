@@ -1,7 +1,7 @@
 //! What holds of clusters in progress: each function here only carries its clauses.
 
 ghost use Rattle.tdf_exec.specs.Laws.{ClustersHoldFew, HeadsHold, PlansAreSafe, RatesAreBegun};
-ghost use Rattle.tdf_exec.specs.Laws.{RatesAreKept};
+ghost use Rattle.tdf_exec.specs.Laws.{RatesAreKept, RoomIsThere};
 
 use tdf_layout::low::schedule::law_present;
 use tdf_layout::{law_edges, law_rates as law_edge_rates};
@@ -26,6 +26,11 @@ pub fn law_few()
     law_edges();
     law_edge_rates();
 }
+
+/// No offset of the plan of a cluster gives more samples than `Cluster::room` has numbers for.
+pub fn law_room()
+    ensures { RoomIsThere }
+{}
 
 /// No initialize, processing or reinitialize body of a model without a fault of types sets a rate
 /// variable.

@@ -32,7 +32,7 @@ mod telling;
 mod tracing;
 
 pub use cluster::Cluster;
-pub use laws::{law_few, law_heads, law_rates, law_safe};
+pub use laws::{law_few, law_heads, law_rates, law_room, law_safe};
 pub use runners::{ModuleRunner, Runner, SamplerRunner, SinkRunner, TracedPort};
 pub use tdf_changes::Next;
 pub use telling::Room;
