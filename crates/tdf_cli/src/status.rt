@@ -42,7 +42,7 @@ impl Status {
         match self {
             Status::Done => 0,
             Status::Refused => 1,
-            Status::Usage => 2,
+            Status::Usage => USAGE,
             Status::ReadFault => 3,
             Status::Stopped => 5,
             Status::Spent => 6,

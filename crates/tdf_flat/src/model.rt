@@ -14,3 +14,14 @@ pub struct Flat {
     /// The unit of all times.
     pub resolution: Resolution,
 }
+
+ghost use Rattle.std.specs.Prelude.{◌≡◌};
+
+impl Flat {
+    /// The unit of all times: what one count of them stands for. It takes no memory.
+    pub fn resolution(&self) -> Resolution
+        ensures { result ≡ self.now.resolution }
+    {
+        self.resolution
+    }
+}

@@ -13,7 +13,7 @@ ghost use Rattle.tdf_sim.specs.machine.Steps.{HavePlans, IsFirstRefusal};
 use crate::err::SimErr;
 use crate::laws::law_plans_fault;
 use std::alloc::Global;
-use tdf_loop::low::base::Memory;
+use tdf_loop::low::base::{Memory, Resolution};
 use tdf_loop::low::dynamic::{ChangeErr, First, first_plan, law_numbers};
 use tdf_loop::low::flat::Flat;
 use tdf_loop::low::notes::{push_fires, push_plan};
@@ -156,6 +156,13 @@ impl Sim {
                 Err(error)
             }
         }
+    }
+
+    /// The unit of all times of the model, in which stops are counted. It takes no memory.
+    pub fn resolution(&self) -> Resolution
+        ensures { result ≡ self.now.flat.resolution }
+    {
+        self.flat.resolution()
     }
 
     /// The number of clusters. It takes no memory.

@@ -1,10 +1,11 @@
-//! How often a plan is made in a run, and which rates are in force after it.
+//! How often a plan is made in a run, which rates are in force after it, and the unit of its times.
 
 ghost use Rattle.std.specs.Prelude.{◌<◌, ◌^◌};
 
 use std::alloc::Global;
 use std::test::Fail;
 use tdf_io::SureSink;
+use tdf_sim::low::base::Resolution;
 use tdf_sim::low::words::TraceKind;
 use tdf_sim::{Ran, elaborate};
 
@@ -45,6 +46,18 @@ fn rate(alloc: Global, stop: u64) -> Option<u32>
     Some(*row.rates.get(0)?)
 }
 
+/// What one count of its times stands for, as the accepted model tells it.
+fn unit(alloc: Global) -> Option<Resolution> {
+    let sim = elaborate(alloc, TEXT.as_bytes()).ok()?;
+    Some(sim.resolution())
+}
+
+/// The same, as its flat model tells it.
+fn flat_unit(alloc: Global) -> Option<Resolution> {
+    let sim = elaborate(alloc, TEXT.as_bytes()).ok()?;
+    Some(sim.flat.resolution())
+}
+
 #[test]
 fn known_plans_are_not_made_again(rt: HostRuntime) -> Result<(), Fail> {
     assert!(rt; plannings(rt.alloc(), 4_000_000) == Some(1));
@@ -57,5 +70,12 @@ fn known_plans_are_not_made_again(rt: HostRuntime) -> Result<(), Fail> {
 fn rates_in_force_are_told(rt: HostRuntime) -> Result<(), Fail> {
     assert!(rt; rate(rt.alloc(), 4_000_000) == Some(1));
     assert!(rt; rate(rt.alloc(), 8_000_000) == Some(4));
+    Ok(())
+}
+
+#[test]
+fn times_have_a_unit(rt: HostRuntime) -> Result<(), Fail> {
+    assert!(rt; unit(rt.alloc()) == Some(Resolution::Ps));
+    assert!(rt; flat_unit(rt.alloc()) == Some(Resolution::Ps));
     Ok(())
 }
