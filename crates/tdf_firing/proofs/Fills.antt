@@ -21,7 +21,7 @@ use Rattle.tdf_expr.specs.low.state.State.{cell_at}
 pub old_span : (samples : List ℤ) (old new : PortsSeen) (n : ℕ) (p : PortSpan) → new ≡ with_samples samples old → slice_get new.spans n ≡ Some p → slice_get old.spans n ≡ Some p
 old_span samples old new n p is at = sym (ap (λ (q : PortsSeen). slice_get q.spans n) is) ∙ at
 
-pub new_span : (samples : List ℤ) (old new : PortsSeen) (n : ℕ) (p : PortSpan) → new ≡ with_samples samples old → slice_get old.spans n ≡ Some p → slice_get new.spans n ≡ Some p
+new_span : (samples : List ℤ) (old new : PortsSeen) (n : ℕ) (p : PortSpan) → new ≡ with_samples samples old → slice_get old.spans n ≡ Some p → slice_get new.spans n ≡ Some p
 new_span samples old new n p is at = ap (λ (q : PortsSeen). slice_get q.spans n) is ∙ at
 
 pub all_at : {A : Type 0} (P : A → Type 0) (list : List A) (i : ℕ) (x : A) → All P list → slice_get list i ≡ Some x → P x

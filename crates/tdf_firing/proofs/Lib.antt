@@ -1,7 +1,6 @@
 pub mod Api
 pub mod Begins
 mod Cells
-mod Clears
 mod Fills
 mod Formats
 mod Gives

@@ -107,12 +107,6 @@ pub record AreZerosBehind (wires : WiresOf) (reads : List ℕ) (ports : PortsSee
       → is_written p.word ≡ false → rate_on reads (wire_of wires.ins n) ≤ k → k < p.count
       → cell_at ports.state.samples (p.first + k) ≡ pos 0
 
--- nothing but samples has changed, and whatever rates were in force before, the next may be any
-pub record AreReadyFor (wires : WiresOf) (old new : PortsSeen) : Type 0 where
-  pub rest : new ≡ with_samples new.state.samples old
-  pub zeros : (reads next : List ℕ) → AreZerosBehind wires reads old
-      → AreZerosBehind wires next new
-
 -- ports whose samples are all 0 have zeros behind what they read, at all rates
 abbrev pub BeginReady : Type 0
 BeginReady = (wires : WiresOf) (reads : List ℕ) (ports : PortsSeen) (count : ℕ)

@@ -4,13 +4,11 @@
 //! - `wires`: which edges a module reads and writes.
 //! - `taking`: the samples that a module reads go from its rings into its ports.
 //! - `putting`: the samples that an actor writes go on its rings.
-//! - `clearing`: the samples that ports read are 0 again.
 //! - `firing`: one firing of a module, of a sampler and of a sink.
 //! - `laws`: what holds of the definitions.
 //! - `low`: what the crates above use of the crates further below.
 #![tactic(auto)]
 
-mod clearing;
 mod firing;
 mod laws;
 pub mod low;
@@ -18,7 +16,6 @@ mod putting;
 mod taking;
 mod wires;
 
-pub use clearing::clear_inputs;
 pub use firing::{fire_module, fire_sampler, fire_sink};
 pub use laws::{law_begin, law_formats};
 pub use wires::{InWire, OutWire, Wires};

@@ -1,13 +1,12 @@
 -- How the ports of a module are filled (own): wire by wire, and sample by sample.
 use Rattle.std.specs.List.{All}
 use Rattle.std.specs.Prelude.{◌≡◌, ℕ, ◌+◌, ◌<◌, ◌≤◌, ◌⊎◌, false, if◌then◌else◌, List, length, map}
-use Rattle.std.specs.Prelude.{[], replicate, Option, Some, None, ℤ, pos, slice_get, slice_index}
+use Rattle.std.specs.Prelude.{replicate, Some, None, ℤ, pos, slice_get, slice_index}
 use Rattle.tdf_expr.specs.Frames.{IsOfFormat, PortsSeen, is_written}
 use Rattle.tdf_expr.specs.declared.spans.PortSpan.{PortSpan}
 use Rattle.tdf_firing.specs.Activation.{num_of}
 use Rattle.tdf_firing.specs.Firing.{with_samples}
 use Rattle.tdf_firing.specs.declared.wires.InWire.{InWire}
-use Rattle.tdf_expr.specs.low.fixed.Cast.{fraction_of}
 use Rattle.tdf_expr.specs.low.fixed.declared.raw.Raw.{Raw}
 use Rattle.tdf_rings.specs.Carried.{ring_at}
 use Rattle.tdf_rings.specs.Rings.{RingOf}
@@ -58,24 +57,6 @@ count_read reads w = slice_index reads w.edge
 
 abbrev pub list_read : List RingOf → InWire → List Raw
 list_read rings w = (ring_at rings w.edge).samples
-
--- a zero for each sample of a port
-abbrev pub zeros : PortSpan → List Raw
-zeros p = replicate p.count (record { num = pos 0; frac = fraction_of p.format })
-
-abbrev pub count_in : Option PortSpan → ℕ
-count_in None = 0
-count_in (Some p) = p.count
-
-abbrev pub zeros_in : Option PortSpan → List Raw
-zeros_in None = []
-zeros_in (Some p) = zeros p
-
-abbrev pub count_all : List PortSpan → InWire → ℕ
-count_all spans w = count_in (slice_get spans w.port)
-
-abbrev pub list_zero : List PortSpan → InWire → List Raw
-list_zero spans w = zeros_in (slice_get spans w.port)
 
 -- the ports of the wires before place n have the first samples of their lists; all others are as
 -- they were
