@@ -233,11 +233,4 @@ impl Cluster {
     {
         sample_due(&self.plan, offset, links, values, inputs);
     }
-
-    /// The entries of the plan go by offset.
-    pub fn by_offset(&self)
-        ensures { AreByOffset self.now.entries }
-    {
-        let _ = &self.plan;
-    }
 }

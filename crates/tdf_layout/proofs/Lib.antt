@@ -5,7 +5,6 @@ pub mod Drivers
 pub mod Edges
 pub mod Gathers
 pub mod Given
-pub mod Listed
 pub mod OnePort
 pub mod Picked
 pub mod Rates

@@ -1,7 +1,7 @@
 -- The ports of modules whose signals are traced.
 -- Source: own.
 use Rattle.std.specs.List.{enumerate_from, list_any}
-use Rattle.std.specs.Prelude.{◌≡◌, ◌<◌, ◌&&◌, ℕ, Bool, true, false, not, List, length, Option, Some}
+use Rattle.std.specs.Prelude.{◌≡◌, ◌&&◌, ℕ, Bool, true, false, not, List, Option, Some}
 use Rattle.std.specs.Prelude.{None, filter_map, if◌then◌else◌, nat_eq, slice_get}
 use Rattle.tdf_streams.specs.low.bind.Flat.{FlatOf}
 use Rattle.tdf_streams.specs.low.flat.Flat.{IsFlatOf}
@@ -35,12 +35,6 @@ number_if_traced tables m number port = if is_traced tables m port then Some num
 abbrev pub traced_ports : FlatOf → ℕ → List ℕ
 traced_ports tables m = filter_map (λ port. number_if_traced tables m port.0 port.1)
     (enumerate_from 0 tables.ports)
-
--- those of each module
-pub record AreTracedPorts (tables : FlatOf) (lists : List (List ℕ)) : Type 0 where
-  pub long : length lists ≡ length tables.modules
-  pub each : (m : ℕ) → m < length tables.modules
-      → slice_get lists m ≡ Some (traced_ports tables m)
 
 -- a signal of samples has one `out` port, so no signal is traced at two ports
 abbrev pub SignalsHaveOnePort : Type 0

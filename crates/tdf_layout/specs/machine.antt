@@ -1,4 +1,3 @@
 pub mod Ends
 pub mod Initials
-pub mod Marks
 pub mod Places

@@ -5,7 +5,6 @@
 //! - `gathering`: each edge goes to its writer and to its reader.
 //! - `wiring`: what each actor of a cluster reads and writes.
 //! - `initial`: the samples that an edge holds at first.
-//! - `traced`: the ports whose signals are traced.
 //! - `laws`: what holds of all flat models.
 //! - `low`: what the crates above use of the crates further below.
 #![tactic(auto)]
@@ -16,11 +15,9 @@ mod initial;
 mod laws;
 pub mod low;
 mod places;
-mod traced;
 mod wiring;
 
 pub use initial::initial_samples;
 pub use laws::{law_edge_formats, law_edges, law_one_port, law_rates, law_rates_within, law_wired};
 pub use places::port_places;
-pub use traced::{PortNumbers, traced_ports};
 pub use wiring::{ActorWires, cluster_wires};
