@@ -51,10 +51,10 @@ pub fn tool<S: Source, O: Sink, N: Sink>(
     ensures read_fault { result ≡ number_of ReadFault → FaultsRose (S.faults model.old) (S.faults model.new) }
     ensures write_fault { result ≡ write_fault → FaultsRose (O.faults out.old) (O.faults out.new) ⊎ FaultsRose (N.faults notes.old) (N.faults notes.new) }
 
-    // Where the status is none of 3, 4 and 7, no read failed: the count of faults of the source is as it was.
+    // Where the status is none of 3, 4 and 7, the count of faults of the source is as it was.
     ensures source_kept { result ≢ number_of ReadFault → result ≢ write_fault → result ≢ no_memory → S.faults model.new ≡ S.faults model.old }
 
-    // Where the status isn't 4, no write failed: the counts of faults of both sinks are as they were.
+    // Where the status isn't 4, the counts of faults of both sinks are as they were.
     ensures out_kept { result ≢ write_fault → O.faults out.new ≡ O.faults out.old }
     ensures notes_kept { result ≢ write_fault → N.faults notes.new ≡ N.faults notes.old }
 
