@@ -4,12 +4,13 @@ use Rattle.std.proofs.lemmas.List.{append-nil}
 use Rattle.std.proofs.lemmas.Option.{slice_get-get_or, slice_get_within}
 use Rattle.std.specs.Prelude.{slice_index_or, slice_set}
 use Rattle.tdf_engine.proofs.Boundaries.{still_to_come}
-use Rattle.tdf_engine.specs.Crossing.{CanCross, CrossingOf, EndingAt, HasCrossed, HasEnding, HasGoneOn, HasNoTurn, HasStopped, HaveCrossed, IsEndingOf, IsRefusedAt, crossing_of, ending_at, is_ending}
+use Rattle.tdf_engine.specs.Crossing.{CanCross, CrossingOf, EndingAt, HasCrossed, HasEnding, HasGoneOn, HasNoTurn, HasStopped, HaveCrossed, IsEndingOf, IsRefusedAt, NoneChanges, crossing_of, ending_at, is_ending}
 use Rattle.tdf_engine.specs.declared.crossing.Turn.{Turn}
 use Rattle.tdf_engine.specs.declared.crossing.Turn.TheVariants.{Kept, Planned}
 use Rattle.tdf_engine.specs.machine.Crossing.{GoesOnBy}
 use Rattle.tdf_linked.specs.low.base.declared.faults.Fault.{Fault}
 use Rattle.tdf_linked.specs.low.exec.Cluster.{ClusterOf}
+use Rattle.tdf_linked.specs.low.exec.Crossing.{HasNoChanges}
 use Rattle.tdf_linked.specs.low.exec.Made.{IsClusterOf}
 use Rattle.tdf_linked.specs.low.flat.declared.model.Flat.{Flat}
 use Rattle.tdf_linked.proofs.Api.{get_inside, set_own}
@@ -46,6 +47,10 @@ module _ (flat : Flat) (time : ℕ) (x : CrossingOf) (can : CanCross flat time x
 
   pub going_now : c.crossed ≡ false
   going_now = can.going n c (sym same.0 ∙ c_at)
+
+  -- it has no changes where none has
+  pub still_now : NoneChanges flat x.clusters → HasNoChanges flat.tables c.number
+  still_now none = none n c (sym same.0 ∙ c_at)
 
   module _ (t : ℕ) (d : ClusterOf) (rest : ℕ) (planned : List ℕ) where
     abbrev turn : EndingAt

@@ -7,7 +7,7 @@ use Rattle.tdf_linked.specs.low.base.declared.faults.Fault.{Fault}
 use Rattle.tdf_linked.specs.low.changes.declared.next.Next.{Next}
 use Rattle.tdf_linked.specs.low.changes.declared.next.Next.TheVariants as answer
 use Rattle.tdf_linked.specs.low.exec.Cluster.{ClusterOf, next_offset}
-use Rattle.tdf_linked.specs.low.exec.Crossing.{HasCrossed as HasLeft}
+use Rattle.tdf_linked.specs.low.exec.Crossing.{HasCrossed as HasLeft, HasNoChanges}
 use Rattle.tdf_linked.specs.low.exec.Made.{IsClusterOf}
 use Rattle.tdf_linked.specs.low.flat.declared.model.Flat.{Flat}
 use Rattle.tdf_linked.specs.low.history.World.{Refused}
@@ -134,3 +134,8 @@ pub record CanCross (flat : Flat) (time : ℕ) (x : CrossingOf) : Type 0 where
   pub begun : (n s : ℕ) → slice_get x.since n ≡ Some s → s ≤ time
   pub of : (n : ℕ) (c : ClusterOf) → slice_get x.clusters n ≡ Some c → IsClusterOf flat c
   pub going : (n : ℕ) (c : ClusterOf) → slice_get x.clusters n ≡ Some c → c.crossed ≡ false
+
+-- no module of these clusters has a body that changes attributes
+abbrev pub NoneChanges : Flat → List ClusterOf → Type 0
+NoneChanges flat clusters = (n : ℕ) (c : ClusterOf) → slice_get clusters n ≡ Some c
+    → HasNoChanges flat.tables c.number

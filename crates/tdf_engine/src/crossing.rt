@@ -31,17 +31,18 @@ pub(crate) enum Turn {
     Refused(Fault),
 }
 
-ghost use Rattle.std.specs.Prelude.{◌≡◌, ◌≤◌, ◌+◌, ◌-◌, ◌++◌, ◌∷◌, ℕ, [], false, true, length, IfErr, IfOk, IfSome, None, Ok, OnErr, OnOk, Some};
-ghost use Rattle.tdf_engine.specs.Crossing.{CanCross, HasCrossed, HasGoneOn, HasNoTurn, HasStopped, HaveCrossed, IsRefusedAt};
+ghost use Rattle.std.specs.Prelude.{◌≡◌, ◌⊎◌, ◌≤◌, ◌+◌, ◌-◌, ◌++◌, ◌∷◌, ℕ, [], false, true, length, IfErr, IfOk, IfSome, IsOk, None, Ok, OnErr, OnOk, Some};
+ghost use Rattle.tdf_engine.specs.Crossing.{CanCross, HasCrossed, HasGoneOn, HasNoTurn, HasStopped, HaveCrossed, IsRefusedAt, NoneChanges};
 ghost use Rattle.tdf_engine.specs.Crossing.{crossing_of, ending_at, is_ending, is_new};
 ghost use Rattle.tdf_engine.specs.machine.Crossing.{GoesOnBy};
 ghost use Rattle.tdf_engine.specs.declared.crossing.Pass.TheVariants.{Done, Spent, Stopped};
 ghost use Rattle.tdf_engine.specs.declared.crossing.Turn.TheVariants as came;
 ghost use Rattle.tdf_linked.specs.low.base.declared.faults.Fault.{Fault as FaultOf};
 ghost use Rattle.tdf_linked.specs.low.changes.declared.next.Next.{Next as NextOf};
+ghost use Rattle.tdf_linked.specs.low.changes.declared.next.Next.TheVariants.{Same};
 ghost use Rattle.tdf_linked.specs.low.dynamic.Faults.{IsRefusal};
 ghost use Rattle.tdf_linked.specs.low.exec.Cluster.{ClusterOf, next_offset};
-ghost use Rattle.tdf_linked.specs.low.exec.Crossing.{HasCrossed as HasLeft, CanInstall, HasBegun, StandsAfter};
+ghost use Rattle.tdf_linked.specs.low.exec.Crossing.{HasCrossed as HasLeft, CanInstall, HasBegun, HasNoChanges, StandsAfter};
 ghost use Rattle.tdf_linked.specs.low.exec.Made.{IsClusterOf};
 ghost use Rattle.tdf_linked.specs.low.exec.Starts.{IsSoundFlat};
 ghost use Rattle.tdf_linked.specs.low.history.World.{Refused};
@@ -78,6 +79,7 @@ fn install(alloc: Global, flat: &Flat, cluster: &mut Cluster, next: Next) -> Res
     requires sound { IsSoundFlat flat.now }
     requires crossed { cluster.old.crossed ≡ true }
     requires can { CanInstall flat.now cluster.old next }
+    ensures same { next ≡ Same → result ≡ Ok false }
     ensures new { IfOk result (λ new. is_new next ≡ new) }
     ensures begun { OnOk result (HasBegun cluster.old next cluster.new) }
     ensures of { OnOk result (IsClusterOf flat.now cluster.new) }
@@ -106,6 +108,7 @@ fn begin_next(alloc: Global, flat: &Flat, cluster: &mut Cluster) -> Result<bool,
     ensures refused { IfErr result (IsRefusal (λ fault.
         HasAnswered flat.now cluster.old (Refused fault))) }
     ensures left { OnErr result (HasLeft cluster.old cluster.new) }
+    ensures still { HasNoChanges flat.now.tables cluster.old.number → result ≡ Ok false }
 {
     law_boundary();
     match cluster.boundary(alloc, flat) {
@@ -130,6 +133,7 @@ fn cross(alloc: Global, flat: &Flat, cluster: &mut Cluster) -> Result<Turn, Memo
     ensures turns { result ≡ Ok came.Spent → ⊥ }
     ensures refused { (fault : FaultOf) → result ≡ Ok (came.Refused fault)
         → HasAnswered flat.now cluster.old (Refused fault) × HasLeft cluster.old cluster.new }
+    ensures still { HasNoChanges flat.now.tables cluster.old.number → result ≡ Ok came.Kept }
 {
     match begin_next(alloc, flat, cluster) {
         Ok(true) => Ok(Turn::Planned),
@@ -172,6 +176,8 @@ fn cross_turn(
         → IsRefusedAt flat.now time fault since.old cluster.old cluster.new left.old }
     ensures taken { (fault : FaultOf) → result ≡ Ok (came.Refused fault)
         → (since.new ≡ time) × (left.new ≡ left.old - 1) }
+    ensures still { HasNoChanges flat.now.tables cluster.old.number
+        → (result ≡ Ok came.Kept) ⊎ (result ≡ Ok came.Spent) }
 {
     if !is_ending(cluster, *since, time) {
         return Ok(Turn::Kept);
@@ -226,6 +232,8 @@ fn noted(planned: &mut Vec<usize>, place: usize, turn: Turn) -> Result<Option<Pa
         → (turn ≡ came.Refused fault) × (number ≡ place + 1) }
     ensures done { result ≡ Ok (Some Done) → ⊥ }
     ensures kept { IfOk result (λ ended. IfSome ended (λ _. planned.new.items ≡ planned.old.items)) }
+    ensures never { (turn ≡ came.Kept) ⊎ (turn ≡ came.Spent) → IsOk result }
+    ensures unplanned { (turn ≡ came.Kept) ⊎ (turn ≡ came.Spent) → planned.new.items ≡ planned.old.items }
 {
     match turn {
         Turn::Kept => Ok(None),
@@ -239,7 +247,7 @@ fn noted(planned: &mut Vec<usize>, place: usize, turn: Turn) -> Result<Option<Pa
 /// `planned` gains the places of those that got a new plan.
 ///
 /// # Errors
-/// Out of memory.
+/// Out of memory; only where some cluster's modules may change attributes.
 pub fn cross_all(
     alloc: Global,
     flat: &Flat,
@@ -262,6 +270,9 @@ pub fn cross_all(
         → HasStopped flat.now time number fault
         (crossing_of clusters.old.items since.old.items left.old planned.old.items)
         (crossing_of clusters.new.items since.new.items left.new planned.new.items) }
+    ensures never { NoneChanges flat.now clusters.old.items → IsOk result }
+    ensures unplanned { NoneChanges flat.now clusters.old.items
+        → planned.new.items ≡ planned.old.items }
 {
     for n in 0..clusters.len() {
         let turn = cross_turn(alloc, flat, time, &mut since[n], &mut clusters[n], left)?;

@@ -27,12 +27,12 @@ pub struct Engine {
     pub planned: Vec<usize>,
 }
 
-ghost use Rattle.std.specs.Prelude.{◌≡◌, ◌<◌, ◌≤◌, ◌+◌, ℕ, [], false, true, length, map, None, Ok, OnOk, Some};
+ghost use Rattle.std.specs.Prelude.{◌≡◌, ◌<◌, ◌≤◌, ◌+◌, ℕ, [], false, true, length, map, IsOk, None, Ok, OnOk, Some};
 ghost use Rattle.tdf_linked.specs.low.base.Limits.{time_end};
 ghost use Rattle.tdf_linked.specs.low.base.declared.faults.Fault.{Fault as FaultOf};
 ghost use Rattle.tdf_linked.specs.low.convert.Emitted.{write_of};
 ghost use Rattle.tdf_linked.specs.low.convert.Links.{AreRising};
-ghost use Rattle.tdf_engine.specs.Crossing.{HasNoTurn, HasStopped, crossing_of};
+ghost use Rattle.tdf_engine.specs.Crossing.{HasNoTurn, HasStopped, NoneChanges, crossing_of};
 ghost use Rattle.tdf_engine.specs.Engine.{AreRoomy, CanFireAll, HasBeenSpent, HasBeenStopped, HasHadInstant, HaveBoundaries, IsEngineOf, IsReadyAt};
 ghost use Rattle.tdf_engine.specs.Sampling.{HaveSampled, sampling_at};
 ghost use Rattle.tdf_engine.specs.Settling.{CanSettle, event_turn};
@@ -93,6 +93,9 @@ impl Engine {
           since = self.new.since;
           planned = self.new.planned;
         } }
+        ensures never { NoneChanges flat.now self.old.clusters.items → IsOk result }
+        ensures unplanned { NoneChanges flat.now self.old.clusters.items
+            → self.new.planned.items ≡ [] }
     {
         self.planned.clear();
         cross_all(
@@ -113,6 +116,7 @@ impl Engine {
         ensures roomy { OnOk result (AreRoomy self.new.clusters.items self.new.outputs self.new.writes) }
         ensures rest { self.new
             ≡ record self.old { outputs = self.new.outputs; writes = self.new.writes } }
+        ensures never { self.old.planned.items ≡ [] → IsOk result }
     {
         if self.planned.is_empty() {
             return Ok(());
@@ -199,7 +203,7 @@ impl Engine {
     /// that got a new plan.
     ///
     /// # Errors
-    /// Out of memory.
+    /// Out of memory; only where some cluster's modules may change attributes.
     pub fn instant(
         &mut self,
         alloc: Global,
@@ -221,6 +225,7 @@ impl Engine {
             → HasBeenSpent flat.now time self.old self.new left.old }
         ensures stopped { (number : ℕ) (fault : FaultOf) → result ≡ Ok (Stopped number fault)
             → HasBeenStopped flat.now time number fault self.old self.new left.old }
+        ensures never { NoneChanges flat.now self.old.clusters.items → IsOk result }
     {
         law_by_offset();
         law_limits();

@@ -1,10 +1,10 @@
-use Rattle.std.proofs.Common.{◌∙◌, None, Ok, ap, map, refl, subst, sym}
+use Rattle.std.proofs.Common.{◌∙◌, None, Ok, Some, ap, map, refl, subst, sym}
 use Rattle.tdf_linked.specs.low.convert.Emitted.{write_of as write_to}
 use Rattle.tdf_engine.proofs.Acting.{before_events, can_fire, can_settle, engine_after, ready_after, roomy_if_none, writes_room}
 use Rattle.tdf_engine.proofs.Calm.{calm_after}
 use Rattle.tdf_engine.proofs.Spending.{crossing_now, fired_all, fired_part, on_is, rest_now, same_answer, settles_as}
 use Rattle.tdf_engine.specs.Crossing.{crossing_of}
-use Rattle.tdf_engine.specs.Engine.{AreRoomy, HasBeenSpent, HaveBoundaries}
+use Rattle.tdf_engine.specs.Engine.{AreRoomy, HasBeenSpent, HaveBoundaries, HaveFired}
 use Rattle.tdf_engine.specs.declared.crossing.Pass.TheVariants.{Done, Spent, Stopped}
 use Rattle.tdf_engine.specs.declared.engine.Engine.{Engine}
 use Rattle.tdf_linked.specs.low.events.Kernel.{side_of}
@@ -20,6 +20,7 @@ returns-in_default c =
       later = λ same. absurd (c.in_default.not-Done (same_answer c.in_ok-ended.ended Done same));
       spent = λ same. HasBeenSpent.InBoundaries crossed (c.cross.ensures.part (c.in_ok-ended.was ∙ same)) refl refl;
       stopped = λ number fault same. record { crossed = crossed; stopped = c.cross.ensures.stopped number fault (c.in_ok-ended.was ∙ same); clusters = refl; since = refl; planned = refl; rest = c.cross.ensures.rest };
+      never = λ none. refl;
     }
 
 pub make_room-requires : goal.make_room-requires
@@ -55,6 +56,21 @@ pub returns-clause-engine : goal.returns-clause-engine
 returns-clause-engine c = λ same. engine_after c.args.flat.now c.args.time c.args.left.now c.args.self.now c.requires.engine c.requires.ready (c.law_limits.ensures c.requires.sound.model c.args.flat.now c.requires.sound.sound.kept c.requires.sound.sound.types c.requires.sound.is) c.make_room.new.self c.cross.new.left
     (subst (HaveBoundaries c.args.flat.now c.args.time c.args.self.now c.args.left.now) (crossing_now c.args.self.now c.cross.new.self c.make_room.new.self c.make_room.ensures.rest c.cross.new.left) (c.cross.ensures.all (c.in_ok-ended.was ∙ ap Ok c.in-Done.is)))
     c.law_by_offset.ensures c.requires.sound (on_is c.make_room.result c.in_ok-make_room.was c.make_room.ensures.roomy) (rest_now c.args.self.now c.cross.new.self c.make_room.new.self c.make_room.ensures.rest c.cross.ensures.rest) c.fire.new.self c.fire.new.left (c.fire.ensures.all c.if-not-fire.false) c.fire.ensures.rest c.settle.new.self c.settle.ensures.rest c.fire.ensures.sampled (c.settle.ensures.kernel (same_answer c.settle.result Done same))
+
+pub returns-clause-had : goal.returns-clause-had
+returns-clause-had c = λ same. record {
+  crossed = crossing_of c.make_room.new.self.clusters.items c.make_room.new.self.since.items c.cross.new.left c.make_room.new.self.planned.items;
+  boundaries = subst (HaveBoundaries c.args.flat.now c.args.time c.args.self.now c.args.left.now) (crossing_now c.args.self.now c.cross.new.self c.make_room.new.self c.make_room.ensures.rest c.cross.new.left) (c.cross.ensures.all (c.in_ok-ended.was ∙ ap Ok c.in-Done.is));
+  since = ap (λ (z : Engine). z.since.items) c.settle.ensures.rest ∙ ap (λ (z : Engine). z.since.items) c.fire.ensures.rest;
+  planned = ap (λ (z : Engine). z.planned.items) c.settle.ensures.rest ∙ ap (λ (z : Engine). z.planned.items) c.fire.ensures.rest;
+  run = run_of c.fire.new.self.clusters.items c.fire.new.self.outputs c.fire.new.left;
+  fired = subst (λ inputs. HaveFired c.args.flat.now c.args.time c.args.self.now (crossing_of c.make_room.new.self.clusters.items c.make_room.new.self.since.items c.cross.new.left c.make_room.new.self.planned.items)
+      inputs (run_of c.fire.new.self.clusters.items c.fire.new.self.outputs c.fire.new.left)) (sym (ap (λ (z : Engine). z.inputs.items) c.settle.ensures.rest))
+      (fired_all c.args.flat.now c.args.time c.args.left.now c.args.self.now c.make_room.new.self c.fire.new.self c.cross.new.left c.fire.new.left (rest_now c.args.self.now c.cross.new.self c.make_room.new.self c.make_room.ensures.rest c.cross.ensures.rest) c.fire.ensures.sampled (on_is c.make_room.result c.in_ok-make_room.was c.make_room.ensures.roomy) (c.fire.ensures.all c.if-not-fire.false));
+  clusters = ap (λ (z : Engine). z.clusters.items) c.settle.ensures.rest;
+  traced = ap (λ (z : Engine). z.outputs) c.settle.ensures.rest;
+  events = settles_as c.args.flat.now c.args.time c.args.left.now c.args.self.now c.make_room.new.self c.fire.new.self c.cross.new.left c.fire.new.left (rest_now c.args.self.now c.cross.new.self c.make_room.new.self c.make_room.ensures.rest c.cross.ensures.rest) c.fire.ensures.sampled (Some (side_of c.settle.new.self.kernel, c.settle.new.left)) c.fire.ensures.rest (λ model checked. c.settle.ensures.events model checked (same_answer c.settle.result Done same));
+}
 
 pub returns-clause-later : goal.returns-clause-later
 returns-clause-later c = λ same. ready_after c.args.flat.now c.args.time c.args.left.now c.args.self.now c.requires.engine c.requires.ready (c.law_limits.ensures c.requires.sound.model c.args.flat.now c.requires.sound.sound.kept c.requires.sound.sound.types c.requires.sound.is) c.make_room.new.self c.cross.new.left
