@@ -10,7 +10,7 @@ work=$(mktemp -d)
 mkdir -p "$work/crates/bodies_bench/src" "$work/.git"
 cp "$top/HANDLES" "$work"
 cp "$here/program.txt" "$work/crates/bodies_bench/src/main.rt"
-below="tdf_base tdf_fixed tdf_tree tdf_expr tdf_blocks"
+below="tdf_base tdf_fixed tdf_lang_tree tdf_expr tdf_lang_parser"
 # These crates, and all that they stand on.
 names=$(awk -v want="$below" '
     /^[a-z_]+:/ { name = $1; sub(":", "", name); $1 = ""; deps[name] = $0 }

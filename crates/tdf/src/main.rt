@@ -9,8 +9,8 @@ ghost use Rattle.tdf_cli.specs.Status.{write_fault};
 use crate::words::{Words, words_of};
 use std::io::Write;
 use std::process::ExitCode;
-use tdf_cli::low::in_out::{StdSink, StdSource, put_all};
 use tdf_cli::{NO_MEMORY, USAGE, WRITE_FAULT, tool};
+use tdf_io::{StdSink, StdSource, put_all};
 
 /// Hands on what both streams have gathered, the output first: where that fails, what is left of the notes is dropped, so
 /// that they tell of no end that the output doesn't have. The status stands, unless one of them fails.

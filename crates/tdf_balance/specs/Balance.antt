@@ -1,7 +1,6 @@
 -- Which edge of a cluster makes its balance equations unsolvable, or its counts too large.
 -- Source: own.
-use Rattle.std.specs.Prelude.{ℕ, ◌<◌, ◌≤◌, ◌+◌, List, length, sum, nat_eq, take, ◌⊎◌}
-use Rattle.std.specs.Prelude.{slice_index}
+use Rattle.std.specs.Prelude.{ℕ, ◌<◌, ◌≤◌, ◌+◌, List, length, sum, nat_eq, take, ◌⊎◌, slice_index}
 use Rattle.std.specs.List.{filter}
 use Rattle.tdf_base.specs.Limits.{most_firings}
 use Rattle.tdf_graph.specs.Counts.{Solves, IsLeast, AreCounts}

@@ -1,5 +1,7 @@
 pub mod Api
 pub mod DecimalDigits
+pub mod IsFirst
+pub mod Leasts
 pub mod NumeralReaders
 pub mod Places
 pub mod Powers

@@ -3,8 +3,7 @@ use Rattle.std.proofs.Common.{◌≡◌, ℕ, ◌<◌, ◌^◌, Option, Some, No
 use Rattle.std.proofs.lemmas.Bool.Decides.{nat_tests}
 use Rattle.std.specs.Prelude.{position}
 use Rattle.tdf_base.specs.Number.{Numeral, numeral_of}
-use Rattle.tdf_base.specs.Time.{time_of, time_at, time_split, time_with, count_of, whole_time}
-use Rattle.tdf_base.specs.Time.{starts_unit, picoseconds_of, femtoseconds_of, femtoseconds_in}
+use Rattle.tdf_base.specs.Time.{time_of, time_at, time_split, time_with, count_of, whole_time, starts_unit, picoseconds_of, femtoseconds_of, femtoseconds_in}
 use Rattle.tdf_base.specs.declared.resolution.Resolution.{Resolution}
 
 whole_small : (n d t : ℕ) → whole_time n d ≡ Ok t → t < 10 ^ 18

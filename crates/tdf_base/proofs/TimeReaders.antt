@@ -1,7 +1,5 @@
 -- A time is read exactly where it is spelled so, whatever the table of units.
-use Rattle.std.proofs.Common.{◌≡◌, ℕ, ◌+◌, ◌*◌, ◌/◌, ◌%◌, ◌^◌, ◌<◌, true, false, not, nat_eq, nat_lt, if◌then◌else◌}
-use Rattle.std.proofs.Common.{Option, Some, None, Result, Ok, Err, List, [], ◌∷◌, ◌++◌, length, take, drop, codes}
-use Rattle.std.proofs.Common.{⊎_elim, refl, sym, ap, ◌∙◌, subst, arith}
+use Rattle.std.proofs.Common.{◌≡◌, ℕ, ◌+◌, ◌*◌, ◌/◌, ◌%◌, ◌^◌, ◌<◌, true, false, not, nat_eq, nat_lt, if◌then◌else◌, Option, Some, None, Result, Ok, Err, List, [], ◌∷◌, ◌++◌, length, take, drop, codes, ⊎_elim, refl, sym, ap, ◌∙◌, subst, arith}
 use Rattle.std.proofs.Math.Nat.{mul-pos}
 use Rattle.std.proofs.Math.Seq.{take-append_seam, drop-append_seam}
 use Rattle.std.proofs.lemmas.Bool.{and_parts, and_from, cases_Bool, eqb-true, lt-ltb, ltb-true}
@@ -12,12 +10,10 @@ use Rattle.std.specs.Cmp.Lexicographic.{pointwise, bytes_decides}
 use Rattle.std.specs.List.{list_all, position}
 use Rattle.tdf_base.specs.Digits.{is_digit}
 use Rattle.tdf_base.specs.Number.{Numeral, numeral_of, is_short, scaled_count}
-use Rattle.tdf_base.specs.Spelling.{after_point, SpellsNumeral, SpellsTimeBy, SpellsTime, SpellsTimeAt, ReadsTimes, ReadsTimesAt, ReadsBoth}
-use Rattle.tdf_base.specs.Spelling.{IsPicoseconds, IsFemtoseconds}
+use Rattle.tdf_base.specs.Spelling.{after_point, SpellsNumeral, SpellsTimeBy, SpellsTime, SpellsTimeAt, ReadsTimes, ReadsTimesAt, ReadsBoth, IsPicoseconds, IsFemtoseconds}
 use Rattle.tdf_base.specs.Spelling.IsPicoseconds.{Second, Millisecond, Microsecond, Nanosecond, Picosecond}
 use Rattle.tdf_base.specs.Spelling.IsFemtoseconds.{Longer, Femtosecond}
-use Rattle.tdf_base.specs.Time.{time_of, time_at, time_by, time_split, time_with, count_of, whole_time, starts_unit}
-use Rattle.tdf_base.specs.Time.{picoseconds_of, femtoseconds_of, femtoseconds_in}
+use Rattle.tdf_base.specs.Time.{time_of, time_at, time_by, time_split, time_with, count_of, whole_time, starts_unit, picoseconds_of, femtoseconds_of, femtoseconds_in}
 use Rattle.tdf_base.specs.declared.resolution.Resolution.{Resolution}
 use Rattle.tdf_base.specs.declared.resolution.Resolution.TheVariants.{Ps, Fs}
 use Rattle.tdf_base.specs.declared.times.TimeErr.{TimeErr}

@@ -1,21 +1,10 @@
 -- A fault of a model: what is wrong, and where; and how it is printed (own).
 use Rattle.std.specs.Prelude.{ℕ, List, [], ◌++◌, codes, decimal}
 use Rattle.tdf_base.specs.declared.codes.Code.{Code}
-use Rattle.tdf_base.specs.declared.codes.Code.TheVariants.{Byte, LongLine, Syntax, Duplicate}
-use Rattle.tdf_base.specs.declared.codes.Code.TheVariants.{Unknown, Limit, Format}
-use Rattle.tdf_base.specs.declared.codes.Code.TheVariants.{Kind, InexactLiteral, Wide, WideCast}
-use Rattle.tdf_base.specs.declared.codes.Code.TheVariants.{Index, Heavy, Writers}
-use Rattle.tdf_base.specs.declared.codes.Code.TheVariants.{UnknownPort, TwiceBound, Mismatch}
-use Rattle.tdf_base.specs.declared.codes.Code.TheVariants.{Unbound, TooMany, NoDriver}
-use Rattle.tdf_base.specs.declared.codes.Code.TheVariants.{TwoDrivers, UnknownPath, Clusters, Rates}
-use Rattle.tdf_base.specs.declared.codes.Code.TheVariants.{Size, NoTimestep}
-use Rattle.tdf_base.specs.declared.codes.Code.TheVariants.{Disagree, TooLong, Inexact, Buffers}
-use Rattle.tdf_base.specs.declared.codes.Code.TheVariants.{Deadlock, Noncausal}
-use Rattle.tdf_base.specs.declared.codes.Code.TheVariants.{Range, Rejected}
+use Rattle.tdf_base.specs.declared.codes.Code.TheVariants.{Byte, LongLine, Syntax, Duplicate, Unknown, Limit, Format, Kind, InexactLiteral, Wide, WideCast, Index, Heavy, Writers, UnknownPort, TwiceBound, Mismatch, Unbound, TooMany, NoDriver, TwoDrivers, UnknownPath, Clusters, Rates, Size, NoTimestep, Disagree, TooLong, Inexact, Buffers, Deadlock, Noncausal, Range, Rejected}
 use Rattle.tdf_base.specs.declared.faults.Fault.{Fault}
 use Rattle.tdf_base.specs.declared.faults.Place.{Place}
-use Rattle.tdf_base.specs.declared.faults.Place.TheVariants.{Nowhere, Line, LinePort, At, Both}
-use Rattle.tdf_base.specs.declared.faults.Place.TheVariants.{AtIndex}
+use Rattle.tdf_base.specs.declared.faults.Place.TheVariants.{Nowhere, Line, LinePort, At, Both, AtIndex}
 
 -- the printed word of a code
 abbrev pub word_of : Code → List ℕ

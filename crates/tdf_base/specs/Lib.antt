@@ -1,5 +1,7 @@
 pub mod Digits
 pub mod Fault
+pub mod First
+pub mod FirstLaws
 pub mod Limits
 pub mod Names
 pub mod Number

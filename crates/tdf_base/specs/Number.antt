@@ -1,6 +1,5 @@
 -- The form of a number in a text: digits, or digits, a point and digits (own).
-use Rattle.std.specs.Prelude.{ℕ, ◌+◌, ◌*◌, ◌^◌, Bool, false, ◌&&◌, nat_le, ◌==◌, if◌then◌else◌}
-use Rattle.std.specs.Prelude.{Option, Some, None, List, [], length, take, drop, position}
+use Rattle.std.specs.Prelude.{ℕ, ◌+◌, ◌*◌, ◌^◌, Bool, false, ◌&&◌, nat_le, ◌==◌, if◌then◌else◌, Option, Some, None, List, [], length, take, drop, position}
 use Rattle.tdf_base.specs.Digits.{are_digits, number}
 use Rattle.tdf_base.specs.Limits.{most_digits}
 

@@ -1,6 +1,5 @@
 -- How numerals and times are spelled, apart from how they are read (own).
-use Rattle.std.specs.Prelude.{◌≡◌, ℕ, ◌*◌, ◌^◌, ◌<◌, ◌↔◌, true, Some, Ok, List, [], ◌∷◌, ◌++◌}
-use Rattle.std.specs.Prelude.{length, codes, decimal}
+use Rattle.std.specs.Prelude.{◌≡◌, ℕ, ◌*◌, ◌^◌, ◌<◌, ◌↔◌, true, Some, Ok, List, [], ◌∷◌, ◌++◌, length, codes, decimal}
 use Rattle.std.specs.List.{list_all}
 use Rattle.tdf_base.specs.Limits.{time_end}
 use Rattle.tdf_base.specs.Digits.{is_digit, are_digits, int_of}

@@ -1,7 +1,5 @@
 -- Times in a text: a number directly followed by its unit, as a count of the unit of time (own).
-use Rattle.std.specs.Prelude.{ℕ, ◌*◌, ◌/◌, ◌%◌, ◌^◌, Bool, not, ◌&&◌, nat_eq, nat_lt, if◌then◌else◌}
-use Rattle.std.specs.Prelude.{Option, Some, None, Result, Ok, Err, List, length, take, drop}
-use Rattle.std.specs.Prelude.{position, codes}
+use Rattle.std.specs.Prelude.{ℕ, ◌*◌, ◌/◌, ◌%◌, ◌^◌, Bool, not, ◌&&◌, nat_eq, nat_lt, if◌then◌else◌, Option, Some, None, Result, Ok, Err, List, length, take, drop, position, codes}
 use Rattle.std.specs.Cmp.Lexicographic.{pointwise}
 use Rattle.tdf_base.specs.Digits.{is_digit}
 use Rattle.tdf_base.specs.Limits.{time_end}

@@ -8,23 +8,28 @@
 //! - `resolution`: the unit of time of a model.
 //! - `texts`: words and numbers of a line, and numbers of rows.
 //! - `times`: the readers of times.
+//! - `first`: a fault of a line, the order of faults, and the first so far.
+//! - `refusal`: the answer of a check that goes by line.
 //! - `laws`: what holds of the definitions.
 #![tactic(auto)]
 
 mod codes;
 mod faults;
+mod first;
 mod laws;
 mod limits;
 mod memory;
 mod names;
 mod numerals;
+mod refusal;
 mod resolution;
 mod texts;
 mod times;
 
 pub use codes::Code;
 pub use faults::{Fault, Path, Place, push_fault};
-pub use laws::{law_names, law_spelling};
+pub use first::{LineFault, noted};
+pub use laws::{law_first, law_names, law_spelling};
 pub use limits::{
     DEEPEST_NESTING, GREATEST_DELAY, GREATEST_RATE, HEAVIEST_BODY, LONGEST_LINE, LONGEST_NAME,
     LONGEST_TEXT, MOST_CELLS, MOST_CLUSTERS, MOST_DIGITS, MOST_EVENTS, MOST_FIRINGS,
@@ -36,6 +41,7 @@ pub use names::{Digits, Name};
 pub use numerals::{
     Numeral, are_digits, is_number, is_short, power_of_ten, read_int, split, value,
 };
+pub use refusal::{TypeErr, verdict};
 pub use resolution::Resolution;
 pub use texts::{cluster_number, push_number, push_word, row_number};
 pub use times::{TimeErr, read_time, read_time_at};

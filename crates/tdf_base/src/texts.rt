@@ -1,6 +1,6 @@
 //! Words and numbers of a line, and numbers of rows.
 
-ghost use Rattle.std.specs.Prelude.{◌≡◌, ◌+◌, ◌++◌, IfOk, OnOk, decimal, length, take};
+ghost use Rattle.std.specs.Prelude.{◌≡◌, ◌<◌, ◌+◌, ◌++◌, IfOk, OnErr, OnOk, decimal, length, take};
 
 use crate::memory::Memory;
 use itoa::Buffer;
@@ -31,9 +31,10 @@ pub fn push_number(out: &mut Vec<u8>, number: u64) -> Result<(), Memory>
 /// The number of a row at a place, counted from 0, in 32 bits. More rows do not fit in memory.
 ///
 /// # Errors
-/// Out of memory.
+/// Out of memory, where the place has more bits.
 pub fn row_number(place: usize) -> Result<u32, Memory>
-    ensures { IfOk result (λ number. number ≡ place) }
+    ensures number { IfOk result (λ number. number ≡ place) }
+    ensures large { OnErr result (4294967295 < place) }
 {
     u32::try_from(place).map_err(|_| Memory)
 }
@@ -41,9 +42,10 @@ pub fn row_number(place: usize) -> Result<u32, Memory>
 /// The number of the cluster at a place: places count from 0, and clusters from 1. More clusters do not fit in memory.
 ///
 /// # Errors
-/// Out of memory.
+/// Out of memory, where the number has more bits.
 pub fn cluster_number(place: usize) -> Result<u32, Memory>
-    ensures { IfOk result (λ number. number ≡ place + 1) }
+    ensures number { IfOk result (λ number. number ≡ place + 1) }
+    ensures large { OnErr result (4294967294 < place) }
 {
     if place > 4_294_967_294 {
         return Err(Memory);

@@ -1,30 +1,27 @@
 //! What holds of all flat models: each function here only carries its clauses.
 
-ghost use Rattle.tdf_bind.specs.Ranges.{FlatIsInRange};
-ghost use Rattle.tdf_bind.specs.Reach.{PortsReachSignals};
-ghost use Rattle.tdf_bind.specs.Whole.{EdgesAreWhole};
+ghost use Rattle.tdf_bind.specs.Laws.{BlocksAreOne, DelaysAreShort, FaultIsOne, FaultOrFlat, FlatPathsAreUnique, PathsAreUnique, TablesAreOne};
 
-use tdf_wiring::low::walk::{law_kinds, law_numbers};
-
-/// The numbers of modules, ports and actors in the tables of a flat model are those of rows.
-pub fn law_ranges()
-    ensures { FlatIsInRange }
+/// A model without a fault of types has one list of resolved blocks.
+pub fn law_blocks()
+    ensures { BlocksAreOne }
 {}
 
-/// Where the ports of modules are of the kinds of their blocks,
-/// each has the number of a signal of its kind.
-pub fn law_signals()
-    ensures { PortsReachSignals }
-{
-    law_numbers();
-    law_kinds();
-}
+/// No two signals of a model have the same path, nor have two rows of its flat model, so a path
+/// leads to one signal at most.
+pub fn law_paths()
+    ensures paths { PathsAreUnique }
+    ensures flat_paths { FlatPathsAreUnique }
+{}
 
-/// Where the ports of modules are of the kinds of their blocks,
-/// and those of processes are for event signals, each port of a module but an `out` port gives one edge.
-pub fn law_edges()
-    ensures { EdgesAreWhole }
-{
-    law_numbers();
-    law_kinds();
-}
+/// A model has one answer: one fault of binding, or tables, which are one.
+pub fn law_one_fault()
+    ensures one_fault { FaultIsOne }
+    ensures fault_or_flat { FaultOrFlat }
+    ensures one_flat { TablesAreOne }
+{}
+
+/// The delays of all ports of a model without a fault of types are within their limit.
+pub fn law_delays()
+    ensures { DelaysAreShort }
+{}

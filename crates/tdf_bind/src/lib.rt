@@ -1,18 +1,16 @@
-//! The flat model of a hierarchy: all tables, with the clusters of its actors, or the first fault of binding.
+//! The flat model of a text, or its first fault of binding.
 //!
-//! - `actors`: modules, samplers and sinks, with their clusters.
-//! - `flat`: all tables, or the first fault.
-//! - `reading`: the number of clusters, and the paths of actors and edges.
+//! - `model`: the flat model.
+//! - `lines`: the lines that ask for traces.
+//! - `binding`: how a tree is made flat.
 //! - `laws`: what holds of all flat models.
-//! - `low`: what the crates above use of the crates further below.
 #![tactic(auto)]
 
-mod actors;
-mod flat;
+mod binding;
 mod laws;
-pub mod low;
-mod reading;
+mod lines;
+mod model;
 
-pub use actors::{ActorRow, actors_of};
-pub use flat::{BindErr, Flat, flat_of};
-pub use laws::{law_edges, law_ranges, law_signals};
+pub use binding::flatten;
+pub use laws::{law_blocks, law_delays, law_one_fault, law_paths};
+pub use model::Flat;

@@ -1,37 +1,37 @@
 -- Each reading has at most one outcome, and that is met where nothing hinders.
 use Rattle.std.proofs.Common.{map, ◌≡◌, ◌⊎◌, ℕ, ◌≤◌, true, false, List, ◌++◌, Option, Some, None, refl, sym, ap, ◌∙◌, subst, inl, inr, length, length-append, append-nil, arith}
 use Rattle.std.specs.Io.KnownBytes.{Consumes, IsAtEnd}
-use Rattle.tdf_sim.specs.low.base.Limits.{longest_text}
-use Rattle.tdf_sim.proofs.Api.{text_keeps}
-use Rattle.tdf_sim.specs.low.blocks.Refused.{SpellsText}
+use Rattle.tdf_base.specs.Limits.{longest_text}
+use Rattle.tdf_lang_parser.proofs.Api.{text_keeps}
+use Rattle.tdf_lang_parser.specs.Refused.{SpellsText}
 use Rattle.tdf_cli.proofs.Seen.{OfAccepted, OfEnd, OfLoad, OfText, Seen, line_of, same_tree, seen}
 use Rattle.tdf_cli.specs.Input.{Reading, BadWords, Text, TooLong, ReadFault, NoMemory, AskToRead, ComesFrom, InputIs, reads_text}
 use Rattle.tdf_cli.specs.Outcome.{Outcome, refused, ran, accepted_text, status_of, stop_in, HasOutcome, usage, read_fault, too_long, faulty, too_late, has_run, is_checked, is_planned, is_loaded, load_end, WritesOutcome, HasOneOutcome}
 use Rattle.tdf_cli.specs.Status.{number_of}
-use Rattle.tdf_sim.specs.low.words.Words.{taken_of}
+use Rattle.tdf_cli_words.specs.Words.{taken_of}
 use Rattle.tdf_cli.specs.declared.status.Status.{Status}
 use Rattle.tdf_cli.specs.declared.status.Status.TheVariants as status
-use Rattle.tdf_sim.specs.low.words.declared.asked.Settings.{Settings}
-use Rattle.tdf_sim.specs.low.words.declared.asked.Settings.TheVariants.{Run, Check, Plan, Load}
-use Rattle.tdf_sim.specs.low.bind.Flat.{FlatOf}
-use Rattle.tdf_sim.specs.low.in_out.Faults.{FaultsRose}
-use Rattle.tdf_sim.specs.low.notes.Plans.{PlanRows, accepted_line}
-use Rattle.tdf_print.specs.Canon.{canon}
-use Rattle.tdf_sim.specs.low.base.declared.faults.Fault.{Fault}
-use Rattle.tdf_sim.specs.low.base.declared.resolution.Resolution.{Resolution}
+use Rattle.tdf_cli_words.specs.declared.asked.Settings.{Settings}
+use Rattle.tdf_cli_words.specs.declared.asked.Settings.TheVariants.{Run, Check, Plan, Load}
+use Rattle.tdf_bind_tables.specs.FlatTables.{FlatTablesOf}
+use Rattle.tdf_io.specs.Faults.{FaultsRose}
+use Rattle.tdf_dynamic_texts.specs.Plans.{PlanRows, accepted_line}
+use Rattle.tdf_lang_printer.specs.Canon.{canon}
+use Rattle.tdf_base.specs.declared.faults.Fault.{Fault}
+use Rattle.tdf_base.specs.declared.resolution.Resolution.{Resolution}
 use Rattle.tdf_sim.specs.Accepted.{IsAccepted}
 use Rattle.tdf_sim.specs.declared.sim.Sim.{Sim}
 use Rattle.tdf_sim.specs.FirstFault.{IsFirstFault, cluster_count}
 use Rattle.tdf_sim.specs.Laws.{AnswersRunAlike, FaultsAreOne, FaultOrAccepted, ModelsAreAlike, AreAlike, RunsAreAlike, RunAlike}
 use Rattle.tdf_sim.specs.PlanText.{clusters_text, plan_rows, plans_text}
-use Rattle.tdf_load.specs.Text.{load_text}
+use Rattle.tdf_cli_load.specs.Text.{load_text}
 use Rattle.tdf_sim.specs.Ends.{Change, End, run_end, trace_of}
 use Rattle.tdf_sim.specs.Ends as ending
-use Rattle.tdf_sim.specs.low.tree.Kept.{IsKept}
-use Rattle.tdf_sim.specs.low.tree.Pure.{PureTree}
-use Rattle.tdf_sim.specs.low.words.Jobs.{usual_turns}
-use Rattle.tdf_sim.specs.low.words.declared.asked.TraceKind.{TraceKind}
-use Rattle.tdf_sim.specs.low.words.declared.asked.TraceKind.TheVariants.{Table}
+use Rattle.tdf_lang_tree.specs.Kept.{IsKept}
+use Rattle.tdf_lang_tree.specs.Pure.{PureTree}
+use Rattle.tdf_cli_words.specs.Jobs.{usual_turns}
+use Rattle.tdf_cli_words.specs.declared.asked.TraceKind.{TraceKind}
+use Rattle.tdf_cli_words.specs.declared.asked.TraceKind.TheVariants.{Table}
 
 -- two runs that are alike have one outcome
 same_ran : (kind : TraceKind) (tree : PureTree) (a b : Sim) (ahead others : List (List Change)) (end turns : ℕ) → RunAlike tree a b ahead others kind end turns
@@ -68,12 +68,12 @@ module _ (runs : RunsAreAlike) (told : AnswersRunAlike) (size : ℕ) (tree : Pur
   same_load unit s t = same_measured (load_end b.flat.resolution) (subst (λ (u : Resolution). OfLoad size tree a (load_end u) one) unit s) t
 
 same_note : (a b : Sim) → AreAlike a b → accepted_text a ≡ accepted_text b
-same_note a b alike = ap (λ (tables : FlatOf). accepted_line (cluster_count tables)) alike.tables
+same_note a b alike = ap (λ (tables : FlatTablesOf). accepted_line (cluster_count tables)) alike.tables
 
 same_plans : (a b : Sim) → AreAlike a b → plans_text a ≡ plans_text b
 same_plans a b alike =
     ap (λ (unit : Resolution). clusters_text unit a.flat.tables (map plan_rows a.firsts.items)) alike.unit
-    ∙ ap (λ (tables : FlatOf). clusters_text b.flat.resolution tables (map plan_rows a.firsts.items)) alike.tables
+    ∙ ap (λ (tables : FlatTablesOf). clusters_text b.flat.resolution tables (map plan_rows a.firsts.items)) alike.tables
     ∙ ap (λ (plans : List PlanRows). clusters_text b.flat.resolution b.flat.tables plans) alike.plans
 
 written : List ℕ → List ℕ → Outcome

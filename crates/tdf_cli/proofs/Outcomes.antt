@@ -3,7 +3,7 @@ use Rattle.std.proofs.Common.{◌≡◌, ℕ, List, [], Option, Some, Result, Ok
 use Rattle.std.specs.Io.KnownBytes.{Appends}
 use Rattle.std.specs.Prelude.{string_bytes}
 use Rattle.std.proofs.KnownBytes.{Appends-nil}
-use Rattle.tdf_sim.specs.low.blocks.Refused.{SpellsText}
+use Rattle.tdf_lang_parser.specs.Refused.{SpellsText}
 use Rattle.tdf_cli.specs.Input.{Reading, BadWords, Text, TooLong, ReadFault, NoMemory}
 use Rattle.tdf_cli.proofs.Seen.{OfAccepted, OfEnd, OfText, same_tree, seen}
 use Rattle.tdf_cli.specs.Outcome.{Outcome, note, ran, status_of, stop_in, HasOneOutcome, HasOutcome, usage, read_fault, too_long, faulty, too_late, has_run, is_checked, is_planned, is_loaded, load_end, load_line, loaded, turns_taken, WritesOutcome, WritesFrontOf, WritesNothingOrFront}
@@ -12,22 +12,23 @@ use Rattle.tdf_sim.specs.declared.sim.Sim.{Sim}
 use Rattle.tdf_cli.specs.declared.status.Status.{Status}
 use Rattle.tdf_cli.specs.declared.status.Status.TheVariants.{Done}
 use Rattle.tdf_cli.specs.declared.jobs.Texts.{Texts}
-use Rattle.tdf_sim.specs.low.words.declared.asked.Settings.TheVariants.{Run, Check, Plan, Load}
+use Rattle.tdf_cli_words.specs.declared.asked.Settings.TheVariants.{Run, Check, Plan, Load}
 use Rattle.tdf_cli.specs.declared.measure.Measurement.{Measurement}
 use Rattle.tdf_cli.specs.machine.Texts.{IsCheckText, IsMeasured, IsPlanText}
-use Rattle.tdf_print.specs.Canon.{canon}
+use Rattle.tdf_lang_printer.specs.Canon.{canon}
 use Rattle.tdf_sim.specs.PlanText.{plans_text}
 use Rattle.tdf_sim.specs.Laws.{FaultOrAccepted, ModelsAreAlike, RunsAreAlike}
-use Rattle.tdf_sim.proofs.Api.{front_none, text_keeps}
-use Rattle.tdf_sim.specs.low.in_out.Bytes.{AppendsFront, WritesText}
-use Rattle.tdf_sim.specs.low.in_out.declared.writing.SinkErr.{SinkErr}
+use Rattle.tdf_io.proofs.Api.{front_none}
+use Rattle.tdf_lang_parser.proofs.Api.{text_keeps}
+use Rattle.tdf_io.specs.Bytes.{AppendsFront, WritesText}
+use Rattle.tdf_io.specs.declared.writing.SinkErr.{SinkErr}
 use Rattle.tdf_sim.specs.Ends.{Change, End, HaveAnswers, run_end, run_note, trace_of}
-use Rattle.tdf_sim.specs.low.base.declared.resolution.Resolution.{Resolution}
-use Rattle.tdf_sim.specs.low.tree.Pure.{PureTree}
-use Rattle.tdf_sim.specs.low.base.declared.memory.Memory.{Memory}
-use Rattle.tdf_sim.specs.low.words.Jobs.{usual_turns}
-use Rattle.tdf_sim.specs.low.words.declared.asked.TraceKind.{TraceKind}
-use Rattle.tdf_sim.specs.low.words.declared.asked.TraceKind.TheVariants.{Table}
+use Rattle.tdf_base.specs.declared.resolution.Resolution.{Resolution}
+use Rattle.tdf_lang_tree.specs.Pure.{PureTree}
+use Rattle.tdf_base.specs.declared.memory.Memory.{Memory}
+use Rattle.tdf_cli_words.specs.Jobs.{usual_turns}
+use Rattle.tdf_cli_words.specs.declared.asked.TraceKind.{TraceKind}
+use Rattle.tdf_cli_words.specs.declared.asked.TraceKind.TheVariants.{Table}
 
 -- being out of memory while the text is read has no outcome
 abbrev HasSome : Reading → Type 0

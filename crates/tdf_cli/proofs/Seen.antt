@@ -1,22 +1,22 @@
 -- What an outcome of a reading is, by the reading.
 use Rattle.std.proofs.Common.{◌≡◌, ◌⊎◌, ℕ, List, [], Option, Some, None, refl, sym, subst, inl, inr, codes}
-use Rattle.tdf_sim.proofs.Api.{one_tree}
-use Rattle.tdf_sim.specs.low.base.declared.faults.Fault.{Fault}
-use Rattle.tdf_sim.specs.low.blocks.Refused.{SpellsText}
+use Rattle.tdf_lang_parser.proofs.Api.{one_tree}
+use Rattle.tdf_base.specs.declared.faults.Fault.{Fault}
+use Rattle.tdf_lang_parser.specs.Refused.{SpellsText}
 use Rattle.tdf_cli.specs.Input.{Reading, BadWords, Text, TooLong, ReadFault, NoMemory}
 use Rattle.tdf_cli.specs.Outcome.{Outcome, note, refused, ran, checked, planned, stop_in, HasOutcome, usage, read_fault, too_long, faulty, too_late, has_run, is_checked, is_planned, is_loaded, load_end, load_line, status_of, turns_taken}
 use Rattle.tdf_cli.specs.declared.status.Status.TheVariants as status
-use Rattle.tdf_sim.specs.low.words.declared.asked.Settings.{Settings}
-use Rattle.tdf_sim.specs.low.words.declared.asked.Settings.TheVariants.{Run, Check, Plan, Load}
+use Rattle.tdf_cli_words.specs.declared.asked.Settings.{Settings}
+use Rattle.tdf_cli_words.specs.declared.asked.Settings.TheVariants.{Run, Check, Plan, Load}
 use Rattle.tdf_sim.specs.Accepted.{IsAccepted}
 use Rattle.tdf_sim.specs.declared.sim.Sim.{Sim}
 use Rattle.tdf_sim.specs.Ends.{Change, End, HaveAnswers, run_end, trace_of}
 use Rattle.tdf_sim.specs.FirstFault.{IsFirstFault}
-use Rattle.tdf_sim.specs.low.tokens.Rows.{rows_of}
-use Rattle.tdf_sim.specs.low.tree.Pure.{PureTree}
-use Rattle.tdf_sim.specs.low.words.Jobs.{usual_turns}
-use Rattle.tdf_sim.specs.low.words.declared.asked.TraceKind.{TraceKind}
-use Rattle.tdf_sim.specs.low.words.declared.asked.TraceKind.TheVariants.{Table}
+use Rattle.tdf_lang_lexer.specs.Rows.{rows_of}
+use Rattle.tdf_lang_tree.specs.Pure.{PureTree}
+use Rattle.tdf_cli_words.specs.Jobs.{usual_turns}
+use Rattle.tdf_cli_words.specs.declared.asked.TraceKind.{TraceKind}
+use Rattle.tdf_cli_words.specs.declared.asked.TraceKind.TheVariants.{Table}
 
 pub same_tree : (text : List ℕ) (one other : PureTree) → SpellsText text one → SpellsText text other → other ≡ one
 same_tree text one other s t = one_tree (rows_of text) other one t.spelled s.spelled

@@ -2,16 +2,16 @@
 -- Source: own.
 use Rattle.std.specs.Prelude.{ℕ, ◌≡◌, ◌+◌, ◌≤◌, Bool, true, false, List, Option, Some, None, length}
 use Rattle.std.specs.Io.KnownBytes.{Consumes, IsAtEnd}
-use Rattle.tdf_sim.specs.low.base.Limits.{longest_text}
+use Rattle.tdf_base.specs.Limits.{longest_text}
 use Rattle.tdf_cli.specs.declared.input.Input.{Input}
 use Rattle.tdf_cli.specs.declared.input.Input.TheVariants as input
-use Rattle.tdf_sim.specs.low.in_out.Bytes.{GivesExactly, GivesAtMost}
-use Rattle.tdf_load.specs.Text.{load_text}
-use Rattle.tdf_sim.specs.low.in_out.Faults.{FaultsRose}
-use Rattle.tdf_sim.specs.low.words.Jobs.{IsWithin}
-use Rattle.tdf_sim.specs.low.words.Words.{taken_of}
-use Rattle.tdf_sim.specs.low.words.declared.asked.Settings.{Settings}
-use Rattle.tdf_sim.specs.low.words.declared.asked.Settings.TheVariants.{Load}
+use Rattle.tdf_io.specs.Bytes.{GivesExactly, GivesAtMost}
+use Rattle.tdf_cli_load.specs.Text.{load_text}
+use Rattle.tdf_io.specs.Faults.{FaultsRose}
+use Rattle.tdf_cli_words.specs.Jobs.{IsWithin}
+use Rattle.tdf_cli_words.specs.Words.{taken_of}
+use Rattle.tdf_cli_words.specs.declared.asked.Settings.{Settings}
+use Rattle.tdf_cli_words.specs.declared.asked.Settings.TheVariants.{Load}
 
 pub data Reading : Type 0 where
   -- the words are not accepted, and nothing is read

@@ -1,7 +1,7 @@
-pub use Rattle.tdf_sim.specs.low.base.Fault
-pub use Rattle.tdf_sim.specs.low.blocks.Refused
-pub use Rattle.tdf_sim.specs.low.in_out.Bytes
-pub use Rattle.tdf_sim.specs.low.in_out.Faults
+pub use Rattle.tdf_base.specs.Fault
+pub use Rattle.tdf_lang_parser.specs.Refused
+pub use Rattle.tdf_io.specs.Bytes
+pub use Rattle.tdf_io.specs.Faults
 pub mod Input
 pub mod Outcome
 pub mod Refusals

@@ -2,33 +2,32 @@
 -- Source: own.
 use Rattle.std.specs.Fmt.{decimal}
 use Rattle.std.specs.List.{count_by}
-use Rattle.std.specs.Prelude.{ℕ, ◌≡◌, ◌⊎◌, ◌*◌, ◌-◌, ◌++◌, List, [], Option, Some, None, codes}
-use Rattle.std.specs.Prelude.{if◌then◌else◌, length, nat_eq, nat_lt}
+use Rattle.std.specs.Prelude.{ℕ, ◌≡◌, ◌⊎◌, ◌*◌, ◌-◌, ◌++◌, List, [], Option, Some, None, codes, if◌then◌else◌, length, nat_eq, nat_lt}
 use Rattle.std.specs.Io.KnownBytes.{Appends, Keeps}
-use Rattle.tdf_sim.specs.low.base.Limits.{time_end}
-use Rattle.tdf_sim.specs.low.base.declared.faults.Fault.{Fault}
-use Rattle.tdf_sim.specs.low.base.declared.resolution.Resolution.{Resolution}
-use Rattle.tdf_sim.specs.low.base.declared.resolution.Resolution.TheVariants.{Ps, Fs}
-use Rattle.tdf_sim.specs.low.blocks.Refused.{SpellsText}
+use Rattle.tdf_base.specs.Limits.{time_end}
+use Rattle.tdf_base.specs.declared.faults.Fault.{Fault}
+use Rattle.tdf_base.specs.declared.resolution.Resolution.{Resolution}
+use Rattle.tdf_base.specs.declared.resolution.Resolution.TheVariants.{Ps, Fs}
+use Rattle.tdf_lang_parser.specs.Refused.{SpellsText}
 use Rattle.tdf_cli.specs.Input.{Reading, BadWords, Text, TooLong, ReadFault, NoMemory}
 use Rattle.tdf_cli.specs.Refusals.{refusal_text}
 use Rattle.tdf_cli.specs.declared.status.Status.{Status}
 use Rattle.tdf_cli.specs.declared.status.Status.TheVariants as status
-use Rattle.tdf_sim.specs.low.in_out.Bytes.{AppendsFront}
+use Rattle.tdf_io.specs.Bytes.{AppendsFront}
 use Rattle.tdf_sim.specs.Ends.{Change, End, HaveAnswers, run_end, run_note, trace_of}
-use Rattle.tdf_sim.specs.low.notes.Plans.{accepted_line}
-use Rattle.tdf_print.specs.Canon.{canon}
+use Rattle.tdf_dynamic_texts.specs.Plans.{accepted_line}
+use Rattle.tdf_lang_printer.specs.Canon.{canon}
 use Rattle.tdf_sim.specs.Ends as ending
 use Rattle.tdf_sim.specs.Accepted.{IsAccepted}
 use Rattle.tdf_sim.specs.declared.sim.Sim.{Sim}
 use Rattle.tdf_sim.specs.FirstFault.{cluster_count, IsFirstFault}
 use Rattle.tdf_sim.specs.PlanText.{plans_text}
-use Rattle.tdf_sim.specs.low.tree.Pure.{PureTree}
-use Rattle.tdf_sim.specs.low.words.Jobs.{usual_turns}
-use Rattle.tdf_sim.specs.low.words.declared.asked.Settings.{Settings}
-use Rattle.tdf_sim.specs.low.words.declared.asked.Settings.TheVariants.{Run, Check, Plan, Load}
-use Rattle.tdf_sim.specs.low.words.declared.asked.TraceKind.{TraceKind}
-use Rattle.tdf_sim.specs.low.words.declared.asked.TraceKind.TheVariants.{Table}
+use Rattle.tdf_lang_tree.specs.Pure.{PureTree}
+use Rattle.tdf_cli_words.specs.Jobs.{usual_turns}
+use Rattle.tdf_cli_words.specs.declared.asked.Settings.{Settings}
+use Rattle.tdf_cli_words.specs.declared.asked.Settings.TheVariants.{Run, Check, Plan, Load}
+use Rattle.tdf_cli_words.specs.declared.asked.TraceKind.{TraceKind}
+use Rattle.tdf_cli_words.specs.declared.asked.TraceKind.TheVariants.{Table}
 
 pub record Outcome : Type 0 where
   pub status : Status

@@ -1,8 +1,8 @@
 -- How a text that is refused is noted.
 -- Source: own.
 use Rattle.std.specs.Prelude.{ℕ, List, ◌++◌, codes}
-use Rattle.tdf_sim.specs.low.base.Fault.{fault_text}
-use Rattle.tdf_sim.specs.low.base.declared.faults.Fault.{Fault}
+use Rattle.tdf_base.specs.Fault.{fault_text}
+use Rattle.tdf_base.specs.declared.faults.Fault.{Fault}
 
 -- the note of a text that isn't taken: the code of its first fault, and the fault's place
 unfoldable pub refusal_text : Fault → List ℕ

@@ -1,24 +1,24 @@
 //! The top call.
 
 ghost use Rattle.std.specs.Prelude.{◌≡◌, ◌≢◌, ◌⊎◌, ◌≤◌, ℕ, List, Some, length, true};
-ghost use Rattle.tdf_sim.specs.low.base.Limits.{longest_text};
+ghost use Rattle.tdf_base.specs.Limits.{longest_text};
 ghost use Rattle.tdf_cli.specs.Input.{AskToRead, InputIs, NoMemory, Reading, Text, reads_text};
 ghost use Rattle.tdf_cli.specs.Outcome.{HasOutcome, Outcome, WritesNothingOrFront, WritesOutcome};
 ghost use Rattle.tdf_cli.specs.Status.{no_memory, number_of, write_fault};
 ghost use Rattle.tdf_cli.specs.declared.status.Status.{Status};
 ghost use Rattle.tdf_cli.specs.declared.status.Status.TheVariants.{ReadFault};
-ghost use Rattle.tdf_load.specs.Text.{load_text};
-ghost use Rattle.tdf_sim.specs.low.words.Words.{taken_of, texts_of};
-ghost use Rattle.tdf_sim.specs.low.words.declared.asked.Settings.{Settings};
-ghost use Rattle.tdf_sim.specs.low.words.declared.asked.Settings.TheVariants.{Load};
-ghost use Rattle.tdf_sim.specs.low.in_out.Faults.{FaultsRose};
+ghost use Rattle.tdf_cli_load.specs.Text.{load_text};
+ghost use Rattle.tdf_cli_words.specs.Words.{taken_of, texts_of};
+ghost use Rattle.tdf_cli_words.specs.declared.asked.Settings.{Settings};
+ghost use Rattle.tdf_cli_words.specs.declared.asked.Settings.TheVariants.{Load};
+ghost use Rattle.tdf_io.specs.Faults.{FaultsRose};
 
 use crate::input::input_of;
 use crate::jobs::finish;
 use crate::laws::law_one_outcome;
 use crate::status::{NO_MEMORY, WRITE_FAULT};
 use std::alloc::Global;
-use tdf_sim::low::in_out::{Sink, SinkErr, Source};
+use tdf_io::{Sink, SinkErr, Source};
 
 /// The command: takes its words, those after the program's name, reads the model, or makes one for `load`, does the job, and
 /// answers the status of the program.

@@ -2,15 +2,15 @@
 
 ghost use Rattle.std.specs.Prelude.{◌≡◌, ◌≤◌, List, Option, Some, true, ℕ};
 ghost use Rattle.tdf_cli.specs.Input.{AskToRead, InputIs, IsReady, ReadFault, reading, reads_text};
-ghost use Rattle.tdf_sim.specs.low.words.Jobs.{IsLoad, IsWithin};
-ghost use Rattle.tdf_sim.specs.low.words.Words.{taken_of, texts_of};
-ghost use Rattle.tdf_sim.specs.low.words.declared.asked.Settings.TheVariants.{Load};
+ghost use Rattle.tdf_cli_words.specs.Jobs.{IsLoad, IsWithin};
+ghost use Rattle.tdf_cli_words.specs.Words.{taken_of, texts_of};
+ghost use Rattle.tdf_cli_words.specs.declared.asked.Settings.TheVariants.{Load};
 
 use std::alloc::Global;
-use tdf_load::load_text;
-use tdf_sim::low::base::LONGEST_TEXT;
-use tdf_sim::low::in_out::{LoadErr, Source, read_all};
-use tdf_sim::low::words::{Settings, WordsErr, settings};
+use tdf_base::LONGEST_TEXT;
+use tdf_cli_load::load_text;
+use tdf_cli_words::{Settings, WordsErr, settings};
+use tdf_io::{LoadErr, Source, read_all};
 
 /// What came of the words and of reading the model.
 #[derive(Drop)]

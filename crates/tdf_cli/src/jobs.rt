@@ -2,24 +2,24 @@
 
 ghost use Rattle.std.specs.Io.KnownBytes.{Appends};
 ghost use Rattle.std.specs.Prelude.{◌≡◌, ◌⊎◌, ◌≤◌, ◌<◌, List, ℕ, Err, length, IfOk, OnErr, OnOk, IsErrOf};
-ghost use Rattle.tdf_sim.specs.low.base.Limits.{longest_text};
-ghost use Rattle.tdf_sim.specs.low.blocks.Formed.{IsFormed};
-ghost use Rattle.tdf_sim.specs.low.blocks.Refused.{SpellsText};
+ghost use Rattle.tdf_base.specs.Limits.{longest_text};
+ghost use Rattle.tdf_lang_parser.specs.Formed.{IsFormed};
+ghost use Rattle.tdf_lang_parser.specs.Refused.{SpellsText};
 ghost use Rattle.tdf_cli.specs.Input.{NoMemory, Reading, Text, reading, IsReady};
 ghost use Rattle.tdf_cli.specs.Outcome.{WritesNothingOrFront, WritesOutcome, accepted_text};
 ghost use Rattle.tdf_cli.specs.declared.status.Status.TheVariants.{Done};
-ghost use Rattle.tdf_print.specs.Canon.{canon};
+ghost use Rattle.tdf_lang_printer.specs.Canon.{canon};
 ghost use Rattle.tdf_cli.specs.machine.Texts.{IsCheckText, IsPlanText};
-ghost use Rattle.tdf_sim.specs.low.in_out.Bytes.{AppendsFront};
-ghost use Rattle.tdf_sim.specs.low.in_out.Faults.{FaultsRose};
-ghost use Rattle.tdf_sim.specs.low.in_out.declared.writing.SinkErr.TheVariants as why;
+ghost use Rattle.tdf_io.specs.Bytes.{AppendsFront};
+ghost use Rattle.tdf_io.specs.Faults.{FaultsRose};
+ghost use Rattle.tdf_io.specs.declared.writing.SinkErr.TheVariants as why;
 ghost use Rattle.tdf_sim.specs.Accepted.{IsAccepted};
 ghost use Rattle.tdf_sim.specs.PlanText.{IsPrintable, plans_text};
 ghost use Rattle.tdf_sim.specs.Runs.{IsAcceptedTree};
-ghost use Rattle.tdf_sim.specs.low.words.Jobs.{IsWithin};
-ghost use Rattle.tdf_sim.specs.low.words.declared.asked.Settings.TheVariants.{Check, Plan};
-ghost use Rattle.tdf_sim.specs.low.tree.Kept.{IsKept};
-ghost use Rattle.tdf_sim.specs.low.tree.Views.{pure_tree};
+ghost use Rattle.tdf_cli_words.specs.Jobs.{IsWithin};
+ghost use Rattle.tdf_cli_words.specs.declared.asked.Settings.TheVariants.{Check, Plan};
+ghost use Rattle.tdf_lang_tree.specs.Kept.{IsKept};
+ghost use Rattle.tdf_lang_tree.specs.Views.{pure_tree};
 
 use crate::input::Input;
 use crate::laws::law_one_outcome;
@@ -29,13 +29,13 @@ use crate::refusals::first_fault;
 use crate::run::run;
 use crate::status::Status;
 use std::alloc::Global;
-use tdf_print::push_tree;
-use tdf_sim::low::base::Memory;
-use tdf_sim::low::blocks::parse;
-use tdf_sim::low::in_out::{Sink, SinkErr, put_all};
-use tdf_sim::low::notes::push_accepted;
-use tdf_sim::low::tree::Tree;
-use tdf_sim::low::words::Settings;
+use tdf_base::Memory;
+use tdf_cli_words::Settings;
+use tdf_dynamic_texts::push_accepted;
+use tdf_io::{Sink, SinkErr, put_all};
+use tdf_lang_parser::parse;
+use tdf_lang_printer::push_tree;
+use tdf_lang_tree::Tree;
 use tdf_sim::{Sim, SimErr, elaborate_tree};
 
 /// An output and a note.

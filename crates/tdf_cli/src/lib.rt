@@ -15,7 +15,6 @@ mod command;
 mod input;
 mod jobs;
 mod laws;
-pub mod low;
 mod measure;
 mod notes;
 mod refusals;

@@ -5,21 +5,20 @@ ghost use Rattle.tdf_cli.specs.Input.{Text};
 ghost use Rattle.tdf_cli.specs.Outcome.{WritesNothingOrFront, WritesOutcome, load_end, load_line, rows_below, status_of, turns_taken};
 ghost use Rattle.tdf_cli.specs.machine.Texts.{IsMeasured};
 ghost use Rattle.tdf_sim.specs.Runs.{IsAcceptedTree, IsSomeAccepted};
-ghost use Rattle.tdf_sim.specs.low.base.Limits.{time_end};
-ghost use Rattle.tdf_sim.specs.low.blocks.Refused.{SpellsText};
-ghost use Rattle.tdf_sim.specs.low.in_out.Faults.{FaultsRose};
-ghost use Rattle.tdf_sim.specs.low.in_out.declared.writing.SinkErr.TheVariants as why;
-ghost use Rattle.tdf_sim.specs.low.tree.Pure.{PureTree};
-ghost use Rattle.tdf_sim.specs.low.words.declared.asked.Settings.TheVariants.{Load};
+ghost use Rattle.tdf_base.specs.Limits.{time_end};
+ghost use Rattle.tdf_lang_parser.specs.Refused.{SpellsText};
+ghost use Rattle.tdf_io.specs.Faults.{FaultsRose};
+ghost use Rattle.tdf_io.specs.declared.writing.SinkErr.TheVariants as why;
+ghost use Rattle.tdf_lang_tree.specs.Pure.{PureTree};
+ghost use Rattle.tdf_cli_words.specs.declared.asked.Settings.TheVariants.{Load};
 
 use crate::laws::law_one_outcome;
 use crate::run::status_of;
 use crate::status::Status;
 use std::alloc::Global;
-use tdf_io::SureSink;
-use tdf_sim::low::base::{Memory, Resolution};
-use tdf_sim::low::in_out::{Sink, SinkErr, put_all};
-use tdf_sim::low::words::TraceKind;
+use tdf_base::{Memory, Resolution};
+use tdf_cli_words::TraceKind;
+use tdf_io::{Sink, SinkErr, SureSink, put_all};
 use tdf_sim::{End, Sim};
 
 /// The turns that the run of `load` may take.

@@ -3,13 +3,13 @@
 ghost use Rattle.std.specs.Prelude.{◌≡◌, IfOk};
 ghost use Rattle.tdf_cli.specs.Refusals.{refusal_text};
 ghost use Rattle.tdf_cli.specs.declared.status.Status.TheVariants.{Refused};
-ghost use Rattle.tdf_sim.specs.low.in_out.Bytes.{WritesText};
+ghost use Rattle.tdf_io.specs.Bytes.{WritesText};
 
 use crate::refusals::push_refusal;
 use crate::status::Status;
 use std::alloc::Global;
-use tdf_sim::low::base::Fault;
-use tdf_sim::low::in_out::{Sink, SinkErr, put_all};
+use tdf_base::Fault;
+use tdf_io::{Sink, SinkErr, put_all};
 
 /// Leaves a note, and answers this status.
 pub(crate) fn noted<N: Sink>(notes: &mut N, text: &[u8], status: Status) -> Result<Status, SinkErr>

@@ -1,13 +1,13 @@
 //! The faults of texts, and how they are noted.
 
 ghost use Rattle.std.specs.Prelude.{◌≡◌, ◌++◌, List, ℕ, MatchOption, OnOk};
-ghost use Rattle.tdf_sim.specs.low.blocks.Refused.{IsWhy};
-ghost use Rattle.tdf_sim.specs.low.blocks.declared.err.LangErr.TheVariants as why;
+ghost use Rattle.tdf_lang_parser.specs.Refused.{IsWhy};
+ghost use Rattle.tdf_lang_parser.specs.declared.err.LangErr.TheVariants as why;
 ghost use Rattle.tdf_cli.specs.Refusals.{refusal_text};
 ghost use Rattle.tdf_sim.specs.FirstFault.{IsFirstFault, on_line};
 
-use tdf_sim::low::base::{Code, Fault, Memory, Place, push_fault};
-use tdf_sim::low::blocks::LangErr;
+use tdf_base::{Code, Fault, Memory, Place, push_fault};
+use tdf_lang_parser::LangErr;
 
 /// A fault of a line.
 fn on_line(code: Code, line: u32) -> Fault

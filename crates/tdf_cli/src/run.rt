@@ -1,23 +1,23 @@
 //! The job `run`.
 
 ghost use Rattle.std.specs.Prelude.{◌≡◌, ◌⊎◌, ◌*◌, ◌<◌, ℕ, List, true, None, Some, IfOk, IfSome, IsErrOf, OnErr, if◌then◌else◌, nat_lt};
-ghost use Rattle.tdf_sim.specs.low.base.Limits.{time_end};
-ghost use Rattle.tdf_sim.specs.low.blocks.Refused.{SpellsText};
+ghost use Rattle.tdf_base.specs.Limits.{time_end};
+ghost use Rattle.tdf_lang_parser.specs.Refused.{SpellsText};
 ghost use Rattle.tdf_cli.specs.Input.{Text};
 ghost use Rattle.tdf_cli.specs.Outcome.{WritesNothingOrFront, WritesOutcome, status_of, stop_in};
-ghost use Rattle.tdf_sim.specs.low.in_out.Faults.{FaultsRose};
-ghost use Rattle.tdf_sim.specs.low.in_out.declared.writing.SinkErr.TheVariants as why;
+ghost use Rattle.tdf_io.specs.Faults.{FaultsRose};
+ghost use Rattle.tdf_io.specs.declared.writing.SinkErr.TheVariants as why;
 ghost use Rattle.tdf_sim.specs.Runs.{IsAcceptedTree, IsSomeAccepted};
-ghost use Rattle.tdf_sim.specs.low.words.declared.asked.Settings.TheVariants.{Run};
-ghost use Rattle.tdf_sim.specs.low.tree.Pure.{PureTree};
+ghost use Rattle.tdf_cli_words.specs.declared.asked.Settings.TheVariants.{Run};
+ghost use Rattle.tdf_lang_tree.specs.Pure.{PureTree};
 
 use crate::laws::law_one_outcome;
 use crate::notes::noted;
 use crate::status::Status;
 use std::alloc::Global;
-use tdf_sim::low::base::{Resolution, TIME_END};
-use tdf_sim::low::in_out::{Sink, SinkErr};
-use tdf_sim::low::words::TraceKind;
+use tdf_base::{Resolution, TIME_END};
+use tdf_cli_words::TraceKind;
+use tdf_io::{Sink, SinkErr};
 use tdf_sim::{End, RunErr, Sim, law_first_fault, law_one_model, law_one_run};
 
 /// A stop in fs, where a run may have it.

@@ -1,7 +1,6 @@
 -- The samplers and sinks of a cluster with their signals (own).
 use Rattle.std.specs.List.{count_by}
-use Rattle.std.specs.Prelude.{◌≡◌, ℕ, ◌<◌, if◌then◌else◌, nat_eq, List, [], ◌∷◌, take}
-use Rattle.std.specs.Prelude.{Option, Some, None, slice_get}
+use Rattle.std.specs.Prelude.{◌≡◌, ℕ, ◌<◌, if◌then◌else◌, nat_eq, List, [], ◌∷◌, take, Option, Some, None, slice_get}
 use Rattle.tdf_convert.specs.declared.links.Link.{Link}
 
 -- by rising actor

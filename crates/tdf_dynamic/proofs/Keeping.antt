@@ -1,89 +1,135 @@
--- A plan that is known is that of what it was made from.
-use Rattle.std.proofs.Common.{◌≡◌, ◌∙◌, ◌+◌, ◌-◌, ◌<◌, ◌++◌, ◌∷◌, [], ℕ, zero, suc, List, Some, All, drop, length, inl, inr, refl, slice_index_or, sym, ap, subst, arith}
-use Rattle.std.proofs.lemmas.Bool.{cases_eq}
-use Rattle.std.proofs.lemmas.List.Elements.{All-drop, All-push}
-use Rattle.std.specs.Prelude.{slice_get, slice_index}
-use Rattle.tdf_dynamic.specs.Faults.{IsPlanErr, IsPlanOf}
-use Rattle.tdf_dynamic.specs.Rates.{NetOf}
-use Rattle.tdf_dynamic.specs.Known.{AreFew, HasSameItems, IsMadeFrom, IsShort, KnownOf, PlansOf}
-use Rattle.tdf_dynamic.specs.machine.Kept.{IsPlanIn}
-use Rattle.tdf_schedule.specs.Plan.{pace_of, IsBound, IsDeadlock, IsNoncausal, IsPlan}
-use Rattle.tdf_schedule.specs.declared.entry.Entry.{Entry}
-use Rattle.tdf_schedule.specs.declared.entry.Plan.{Plan}
-use Rattle.tdf_schedule.specs.declared.err.PlanErr.{PlanErr}
-use Rattle.tdf_schedule.specs.declared.err.PlanErr.TheVariants as planning
-use Rattle.tdf_schedule.specs.low.timestep.declared.assign.Steps.{Steps}
+-- Bodies leave rates within their limits, and assign timesteps that are short.
+use Rattle.std.proofs.Common.{◌≡◌, ◌∙◌, ℕ, zero, suc, ◌+◌, ◌-◌, ◌/◌, ◌%◌, ◌^◌, ◌≤◌, ◌<◌, ◌&&◌, Bool, true, false, List, [], ◌∷◌, ◌++◌, Option, Some, None, ℤ, pos, negsuc, refl, sym, ap, subst, arith, if◌then◌else◌, nat_eq}
+use Rattle.std.proofs.lemmas.Bool.Decides.{nat_tests}
+use Rattle.std.proofs.lemmas.Option.{same_Some}
+use Rattle.std.specs.Prelude.{nat_le, slice_get, slice_set}
+use Rattle.tdf_base.specs.Limits.{time_end}
+use Rattle.tdf_fixed.specs.declared.raw.Raw.{Raw}
+use Rattle.tdf_expr_semantics.proofs.Api.{found, limits_placed, rates_set}
+use Rattle.tdf_expr_semantics.specs.Bodies.{after, after_all, assigned_at, limit_value, noticed_at, rate_set, repeated, stepped, stepped_at, target_index, whole_within, with_element, with_whole}
+use Rattle.tdf_expr_semantics.specs.Fits.{RatesFit}
+use Rattle.tdf_expr_semantics.specs.Places.{port_number, rate_limits, rate_number}
+use Rattle.tdf_expr_semantics.specs.Value.{holds, value}
+use Rattle.tdf_expr_symbols.specs.Faults.{opened}
+use Rattle.tdf_expr_symbols.specs.Names.{Names, Thing, Var, Array, Port, RateVar, place_of, thing_of}
+use Rattle.tdf_expr_symbols.specs.Scope.{OpenLoop, Scope}
+use Rattle.tdf_expr_state.specs.State.{State, with_range_fault, with_step}
+use Rattle.tdf_lang_tree.specs.Kept.{KeepsStmt, KeepsStmts}
+use Rattle.tdf_lang_tree.specs.Pure.{Done, More, PureStmt, PureStmts, SAccept, SAssign, SFor, SIf, SNotify, SReject, SSetRate, SSetStep}
 
-module _ (net : NetOf) (counts : List ℕ) (one other : Steps) (same : one.actor_steps.items ≡ other.actor_steps.items) where
-  fault_same : (why : PlanErr) → IsPlanErr net counts other why → IsPlanErr net counts one why
-  fault_same planning.TooLarge is = is
-  fault_same (planning.Deadlock m) is = (is.0, subst (λ (l : List ℕ). IsDeadlock net.edges (pace_of net.actors l) counts m) (sym same) is.1)
-  fault_same (planning.Noncausal m a) is = (is.0, subst (λ (l : List ℕ). IsNoncausal net.edges net.actors (pace_of net.actors l) counts m a) (sym same) is.1)
-  fault_same planning.Memory is = is
+-- the timesteps that are assigned
+abbrev pub AreShort : List (Option ℕ) → Type 0
+AreShort steps = (j step : ℕ) → slice_get steps j ≡ Some (Some step) → step < time_end
 
-  -- the same by steps that are the same, and for a plan that is the same
-  pub plan_same : (p q : Plan) → one.period ≡ other.period → HasSameItems p q → IsPlanOf net counts one p → IsPlanOf net counts other q
-  plan_same p q period items is = record {
-    none = λ why fault. is.none why (fault_same why fault);
-    planned = record {
-      planned = subst (λ (l : List ℕ). IsPlan net.edges (pace_of net.actors l) counts q.entries.items) same
-          (subst (λ (l : List Entry). IsPlan net.edges (pace_of net.actors one.actor_steps.items) counts l) (sym items.entries) is.planned.planned);
-      long = ap length items.bounds ∙ is.planned.long;
-      bounded = λ k e at some. subst (λ (l : List Entry). IsBound l e (slice_index q.bounds.items k)) (sym items.entries)
-          (subst (λ (l : List ℕ). IsBound p.entries.items e (slice_index l k)) (sym items.bounds) (is.planned.bounded k e at some));
-      outside = λ k e at none. ap (λ (l : List ℕ). slice_index l k) items.bounds ∙ is.planned.outside k e at none;
-      same = items.period ∙ is.planned.same ∙ period;
-    };
-  }
+pub record Stays (own : Names) (s : State) : Type 0 where
+  pub rates : RatesFit (rate_limits own) s.frame.rates
+  pub short : AreShort s.ports.steps
 
--- a plan of a known net, counts and steps is one of those that it was made from
-pub made_from : (known : KnownOf) (net : NetOf) (counts : List ℕ) (steps : Steps) → IsMadeFrom known net counts steps → (plan : Plan) → IsPlanIn known plan → IsPlanOf net counts steps plan
-made_from known net counts steps from plan is =
-    plan_same net counts known.steps steps from.steps_are plan plan from.period_is (record { entries = λ _. plan.entries.items; bounds = λ _. plan.bounds.items; period = λ _. plan.period })
-    (subst (λ (n : NetOf). IsPlanOf n counts known.steps plan) from.net_is (subst (λ (l : List ℕ). IsPlanOf known.net l known.steps plan) from.counts_are is))
+-- one timestep more
+set_short : (steps : List (Option ℕ)) (place step : ℕ) → AreShort steps → step < time_end → AreShort (slice_set steps place (Some step))
+set_short [] place step short few j other at = absurd cc
+set_short (x ∷ steps) zero step short few zero other at = subst (λ n. n < time_end) (same_Some step other (same_Some (Some step) (Some other) at)) few
+set_short (x ∷ steps) zero step short few (suc j) other at = short (suc j) other at
+set_short (x ∷ steps) (suc place) step short few zero other at = short 0 other at
+set_short (x ∷ steps) (suc place) step short few (suc j) other at = set_short steps place step (λ k o is. short (suc k) o is) few j other at
 
--- an element that is there is within the list
-pub within : {A : Type 0} (xs : List A) (i : ℕ) (x : A) → slice_get xs i ≡ Some x → i < length xs
-within [] zero x at = absurd cc
-within [] (suc i) x at = absurd cc
-within (y ∷ ys) zero x at = omega arith
-within (y ∷ ys) (suc i) x at = let h = within ys i x at in omega (arith, h)
+module _ (own : Names) (s : State) (stays : Stays own s) where
+  element_stays : (n k : ℕ) (t : Thing) (v : Raw) → Stays own (with_element own n t k v s)
+  element_stays n k (Var (Some shape) start) v = record { rates = stays.rates; short = stays.short }
+  element_stays n k (Array (Some shape) size starts) v = record { rates = stays.rates; short = stays.short }
+  element_stays n k (Port word (Some shape) rate delay) v = record { rates = stays.rates; short = stays.short }
+  element_stays n k _ v = stays
 
--- what is at an index is there
-pub at_index : {A : Type 0} (xs : List A) (i : ℕ) (x : A) → i < length xs → x ≡ slice_index_or xs i x → slice_get xs i ≡ Some x
-at_index [] i x less is = absurd (omega (arith, less))
-at_index (y ∷ ys) zero x less is = ap Some (sym is)
-at_index (y ∷ ys) (suc i) x less is = at_index ys i x (omega (arith, less)) is
+  assigned_stays : (n : Option ℕ) (t : Option Thing) (k : ℤ) (v : Raw) → Stays own (assigned_at own n t k v s)
+  assigned_stays (Some n) (Some t) (pos k) v = element_stays n k t v
+  assigned_stays _ _ k v = stays
 
-length_push : {A : Type 0} (xs : List A) (x : A) → length (xs ++ x ∷ []) ≡ length xs + 1
-length_push [] x = refl
-length_push (y ∷ ys) x = let h = length_push ys x in omega (arith, h)
+  step_stays : (place step : ℕ) → step < time_end → Stays own (with_step place step s)
+  step_stays place step few = record { rates = stays.rates; short = set_short s.ports.steps place step stays.short few }
 
--- none of the plans up to here was made from these, nor this one
-pub one_more : (plans : List KnownOf) (net : NetOf) (counts : List ℕ) (steps : Steps) (i : ℕ) (here : KnownOf) → slice_get plans i ≡ Some here → (IsMadeFrom here net counts steps → ⊥)
-    → ((j : ℕ) (k : KnownOf) → j < i → slice_get plans j ≡ Some k → IsMadeFrom k net counts steps → ⊥)
-    → (j : ℕ) (k : KnownOf) → j < i + 1 → slice_get plans j ≡ Some k → IsMadeFrom k net counts steps → ⊥
-one_more plans net counts steps i here at not before j k less at_j made = elim (cases_eq j i) [
-  | inl same ↦ (let there : slice_get plans i ≡ Some k = subst (λ (n : ℕ). slice_get plans n ≡ Some k) same at_j in
-      let is : k ≡ here = cc (sym there ∙ at) in
-      not (subst (λ (x : KnownOf). IsMadeFrom x net counts steps) is made))
-  | inr apart ↦ before j k (omega (arith, less, apart)) at_j made
-]
+  stepped_stays : (port : Option (List ℕ)) (step : ℕ) → step < time_end → Stays own (stepped own port step s)
+  stepped_stays None step few = step_stays 0 step few
+  stepped_stays (Some name) step few = go (place_of own name)
+    where
+      go : (o : Option ℕ) → Stays own (stepped_at own o step s)
+      go None = stays
+      go (Some n) = step_stays (1 + port_number own n) step few
 
--- the plans that stay where there is room for one more, and that one
-pub few_after : (kept : PlansOf) (room new : List KnownOf) (made : ℕ) → AreFew kept → room ≡ drop (length kept.plans + 1 - kept.most) kept.plans → length room < kept.most → new ≡ room
-    → AreFew (record { plans = new; most = kept.most; made = made })
-few_after kept room new made are rest less is = record {
-  few = let long = ap length is in omega (arith, less, long);
-  most = are.most;
-  short = subst (All (λ (x : KnownOf). IsShort x.plan)) (sym (is ∙ rest)) (All-drop (λ (x : KnownOf). IsShort x.plan) (length kept.plans + 1 - kept.most) kept.plans are.short);
-}
+  noticed_stays : (o : Option ℕ) (time : ℕ) → Stays own (noticed_at own o time s)
+  noticed_stays None time = stays
+  noticed_stays (Some n) time = record { rates = stays.rates; short = stays.short }
 
-pub few_more : (kept : PlansOf) (room new : List KnownOf) (known : KnownOf) (made : ℕ) → AreFew kept → room ≡ drop (length kept.plans + 1 - kept.most) kept.plans → length room < kept.most
-    → IsShort known.plan → new ≡ room ++ known ∷ [] → AreFew (record { plans = new; most = kept.most; made = made })
-few_more kept room new known made are rest less short is = record {
-  few = let long = ap length is in let one = length_push room known in omega (arith, less, long, one);
-  most = are.most;
-  short = subst (All (λ (x : KnownOf). IsShort x.plan)) (sym is) (All-push (λ (x : KnownOf). IsShort x.plan) room known
-      (subst (All (λ (x : KnownOf). IsShort x.plan)) (sym rest) (All-drop (λ (x : KnownOf). IsShort x.plan) (length kept.plans + 1 - kept.most) kept.plans are.short)) short);
-}
+  range_stays : Stays own (with_range_fault s)
+  range_stays = record { rates = stays.rates; short = stays.short }
+
+  whole_stays : (n least greatest start frac : ℕ) (num : ℤ) → slice_get own.things n ≡ Some (RateVar least greatest start)
+      → Stays own (with_whole (rate_number own n) (whole_within least greatest frac num) s)
+  whole_stays n least greatest start frac (negsuc m) is = range_stays
+  whole_stays n least greatest start frac (pos m) is =
+      go (nat_eq (m % 2 ^ frac) 0 && (nat_le least (m / 2 ^ frac) && nat_le (m / 2 ^ frac) greatest)) refl
+    where
+      low : (a : Bool) (l x g : ℕ) → a && (nat_le l x && nat_le x g) ≡ true → l ≤ x
+      low a l x g e = grind (arith, nat_tests)
+
+      high : (a : Bool) (l x g : ℕ) → a && (nat_le l x && nat_le x g) ≡ true → x ≤ g
+      high a l x g e = grind (arith, nat_tests)
+
+      go : (b : Bool) → nat_eq (m % 2 ^ frac) 0 && (nat_le least (m / 2 ^ frac) && nat_le (m / 2 ^ frac) greatest) ≡ b
+          → Stays own (with_whole (rate_number own n) (if b then Some (m / 2 ^ frac) else None) s)
+      go false e = range_stays
+      go true e = record {
+        rates = rates_set (rate_limits own) s.frame.rates (rate_number own n) (m / 2 ^ frac) (record { least = least; greatest = greatest }) stays.rates
+            (limits_placed own.things n least greatest start is) (low (nat_eq (m % 2 ^ frac) 0) least (m / 2 ^ frac) greatest e)
+            (high (nat_eq (m % 2 ^ frac) 0) least (m / 2 ^ frac) greatest e);
+        short = stays.short;
+      }
+
+  set_stays : (name : List ℕ) (v : Raw) → Stays own (rate_set own (place_of own name) (thing_of own name) v s)
+  set_stays name v = go (place_of own name) refl (thing_of own name) refl
+    where
+      go : (o : Option ℕ) → place_of own name ≡ o → (x : Option Thing) → thing_of own name ≡ x → Stays own (rate_set own o x v s)
+      go None at x is = stays
+      go (Some n) at None is = stays
+      go (Some n) at (Some (RateVar least greatest start)) is =
+          let here = found own.things (place_of own name) (RateVar least greatest start) is in
+          let same : here.0 ≡ n = ap (λ (o : Option ℕ). held o) (sym here.1 ∙ at) in
+          whole_stays n least greatest start v.frac v.num (ap (slice_get own.things) (sym same) ∙ here.2)
+        where
+          held : Option ℕ → ℕ
+          held None = n
+          held (Some m) = m
+      go (Some n) at (Some _) is = stays
+
+repeated_stays : (own : Names) (turn : ℕ → State → State) → ((i : ℕ) (s : State) → Stays own s → Stays own (turn i s))
+    → (from count : ℕ) (s : State) → Stays own s → Stays own (repeated turn from count s)
+repeated_stays own turn each from zero s stays = stays
+repeated_stays own turn each from (suc count) s stays = each (from + count) (repeated turn from count s) (repeated_stays own turn each from count s stays)
+
+either_stays : (own : Names) (c : Bool) (s t : State) → Stays own s → Stays own t → Stays own (if c then s else t)
+either_stays own true s t one other = one
+either_stays own false s t one other = other
+
+mutual
+  stmt_stays : (scope : Scope) (d : ℕ) (loops : List OpenLoop) (turns : List ℕ) (x : PureStmt) (s : State) → KeepsStmt d x → Stays scope.own s → Stays scope.own (after scope loops turns x s)
+  stmt_stays scope d loops turns (SAssign line name i e) s kept stays =
+      assigned_stays scope.own s stays (place_of scope.own name) (thing_of scope.own name) (target_index loops turns i) (value scope loops turns s e)
+  stmt_stays scope zero loops turns (SIf line test a b) s kept stays = absurd kept
+  stmt_stays scope (suc d) loops turns (SIf line test a b) s kept stays =
+      either_stays scope.own (holds (value scope loops turns s test)) (after_all scope loops turns a s) (after_all scope loops turns b s)
+      (stmts_stay scope d loops turns a s kept.1 stays) (stmts_stay scope d loops turns b s kept.2 stays)
+  stmt_stays scope zero loops turns (SFor line name from end body) s kept stays = absurd kept
+  stmt_stays scope (suc d) loops turns (SFor line name from end body) s kept stays =
+      repeated_stays scope.own (λ i rest. after_all scope (loops ++ opened name from end ∷ []) (turns ++ i ∷ []) body rest)
+      (λ i rest here. stmts_stay scope d (loops ++ opened name from end ∷ []) (turns ++ i ∷ []) body rest kept.3 here)
+      from (limit_value scope.own s end - from) s stays
+  stmt_stays scope d loops turns (SNotify line event time) s kept stays = noticed_stays scope.own s stays (place_of scope.own event) time
+  stmt_stays scope d loops turns (SSetRate line name e) s kept stays = set_stays scope.own s stays name (value scope loops turns s e)
+  stmt_stays scope d loops turns (SSetStep line port step) s kept stays = stepped_stays scope.own s stays port step kept.1
+  stmt_stays scope d loops turns (SAccept line) s kept stays = record { rates = stays.rates; short = stays.short }
+  stmt_stays scope d loops turns (SReject line) s kept stays = record { rates = stays.rates; short = stays.short }
+
+  pub stmts_stay : (scope : Scope) (d : ℕ) (loops : List OpenLoop) (turns : List ℕ) (xs : PureStmts) (s : State) → KeepsStmts d xs → Stays scope.own s
+      → Stays scope.own (after_all scope loops turns xs s)
+  stmts_stay scope d loops turns Done s kept stays = stays
+  stmts_stay scope d loops turns (More x xs) s kept stays =
+      stmts_stay scope d loops turns xs (after scope loops turns x s) kept.1 (stmt_stays scope d loops turns x s kept.0 stays)

@@ -1,13 +1,12 @@
+mod Answering
 pub mod Api
-pub mod Assigned
-pub mod Delays
-pub mod Excludes
-pub mod Fine
-pub mod Firsts
-pub mod Keeping
-pub mod Nets
-pub mod Numbers
-pub mod Periods
-pub mod Phases
-pub mod Plannable
-pub mod Tables
+pub mod Asks
+pub mod Begins
+mod Boundary
+mod Judging
+mod Keeping
+mod Once
+mod Rows
+mod Spans
+mod Staying
+pub mod Steps

@@ -1,52 +1,51 @@
--- What holds of the faults and plans of clusters.
+-- What holds of the answers of a boundary, and of what modules ask for.
 -- Source: own.
-use Rattle.std.specs.Prelude.{◌≡◌, ◌≤◌, ℕ, Contains}
-use Rattle.tdf_flat.specs.low.base.declared.faults.Fault.{Fault}
-use Rattle.tdf_flat.specs.low.bind.Flat.{FlatOf, AreShort}
-use Rattle.tdf_dynamic.specs.Attributes.{clusters_of}
-use Rattle.tdf_dynamic.specs.First.{IsFirstPlan, IsClusterFault, IsPlannable}
-use Rattle.tdf_dynamic.specs.Rates.{IsWired}
-use Rattle.tdf_dynamic.specs.declared.first.First.{First}
-use Rattle.tdf_flat.specs.Flat.{IsFlatOf}
-use Rattle.tdf_flat.specs.declared.model.Flat.{Flat}
-use Rattle.tdf_flat.specs.low.graph.Clusters.{greatest}
-use Rattle.tdf_flat.specs.low.roles.Roles.{roles_of}
+use Rattle.std.specs.Prelude.{◌≡◌, ℕ, ℤ, List, Contains}
+use Rattle.tdf_base.specs.declared.faults.Fault.{Fault}
+use Rattle.tdf_dynamic.specs.Change.{Asks, IsChangeFault, IsNewPlan, IsSame, asks_of, table_after}
+use Rattle.tdf_dynamic_plans.specs.Attributes.{AttrsOf, clusters_of}
+use Rattle.tdf_dynamic_plans.specs.Same.{AreSamePlans}
+use Rattle.tdf_expr.specs.Checked.{IsCheckedOf}
+use Rattle.tdf_bind.specs.declared.model.Flat.{Flat}
+use Rattle.tdf_bind_invariants.specs.Limits.{AreWithinLimits}
 use Rattle.tdf_schedule.specs.declared.entry.Plan.{Plan}
-use Rattle.tdf_flat.specs.low.tree.Kept.{IsKept}
-use Rattle.tdf_flat.specs.low.tree.Pure.{PureTree}
+use Rattle.tdf_streams.specs.Periods.{AreAttributes}
+use Rattle.tdf_lang_tree.specs.Kept.{IsKept}
+use Rattle.tdf_lang_tree.specs.Pure.{PureTree}
 
--- two plans are the same
-pub record AreSamePlans (one other : Plan) : Type 0 where
-  pub entries : one.entries.items ≡ other.entries.items
-  pub bounds : one.bounds.items ≡ other.bounds.items
-  pub period : one.period ≡ other.period
-
-pub record AreSameFirsts (one other : First) : Type 0 where
-  pub attrs_are : one.attrs ≡ other.attrs
-  pub plans_are : AreSamePlans one.plan other.plan
-
--- a cluster of a flat model
-pub record IsClusterOf (flat : Flat) (cluster : ℕ) : Type 0 where
-  pub plannable : IsPlannable flat
+-- a table of a cluster and what its modules ask for, which leads to a table of the cluster
+pub record IsBoundary (flat : Flat) (cluster : ℕ) (asks : Asks) (table : List AttrsOf)
+    : Type 0 where
+  pub limits : AreWithinLimits flat
   pub has : Contains (clusters_of flat.tables) cluster
+  pub before : AreAttributes flat cluster table
+  pub after : AreAttributes flat cluster (table_after asks table)
 
--- of the faults and plans of a cluster there is at most one
-pub record ClustersHaveOne : Type 0 where
-  pub one_fault : (flat : Flat) (cluster : ℕ) (one other : Fault) → IsClusterOf flat cluster
-      → IsClusterFault flat cluster one → IsClusterFault flat cluster other → one ≡ other
-  pub fault_or_plan : (flat : Flat) (cluster : ℕ) (fault : Fault) (first : First)
-      → IsClusterOf flat cluster → IsClusterFault flat cluster fault
-      → IsFirstPlan flat cluster first → ⊥
-  pub one_plan : (flat : Flat) (cluster : ℕ) (one other : First) → IsClusterOf flat cluster
-      → IsFirstPlan flat cluster one → IsFirstPlan flat cluster other → AreSameFirsts one other
+-- of the answers of a boundary there is at most one
+pub record BoundariesHaveOne : Type 0 where
+  pub same_or_fault : (flat : Flat) (cluster : ℕ) (asks : Asks) (table : List AttrsOf)
+      → (fault : Fault) → IsSame asks table
+      → IsChangeFault flat.tables cluster asks table fault → ⊥
+  pub same_or_plan : (flat : Flat) (cluster : ℕ) (asks : Asks) (table : List AttrsOf)
+      → (plan : Plan) → IsSame asks table
+      → IsNewPlan flat.tables cluster asks table plan → ⊥
+  pub one_fault : (flat : Flat) (cluster : ℕ) (asks : Asks) (table : List AttrsOf)
+      → (one other : Fault) → IsBoundary flat cluster asks table
+      → IsChangeFault flat.tables cluster asks table one
+      → IsChangeFault flat.tables cluster asks table other → one ≡ other
+  pub fault_or_plan : (flat : Flat) (cluster : ℕ) (asks : Asks) (table : List AttrsOf)
+      → (fault : Fault) (plan : Plan) → IsBoundary flat cluster asks table
+      → IsChangeFault flat.tables cluster asks table fault
+      → IsNewPlan flat.tables cluster asks table plan → ⊥
+  pub one_plan : (flat : Flat) (cluster : ℕ) (asks : Asks) (table : List AttrsOf)
+      → (one other : Plan) → IsBoundary flat cluster asks table
+      → IsNewPlan flat.tables cluster asks table one
+      → IsNewPlan flat.tables cluster asks table other → AreSamePlans one other
 
--- a flat model of a tree that keeps what a spelled tree keeps, and whose delays are within their
--- limit, can be planned
-abbrev pub FlatIsPlannable : Type 0
-FlatIsPlannable = (model : PureTree) (flat : Flat) → IsKept model → AreShort (roles_of model)
-    → IsFlatOf model flat → IsPlannable flat
-
--- each number from 1 to the greatest is that of a cluster
-abbrev pub ClustersAreWhole : Type 0
-ClustersAreWhole = (tables : FlatOf) (cluster : ℕ) → IsWired tables → 1 ≤ cluster
-    → cluster ≤ greatest (clusters_of tables) → Contains (clusters_of tables) cluster
+-- whatever their variables hold, the attributes that the modules of a text ask for are of the
+-- cluster
+abbrev pub AttributesStay : Type 0
+AttributesStay = (model : PureTree) (flat : Flat) (cluster : ℕ) (table : List AttrsOf)
+    → (cells : ℕ → List ℤ) → IsKept model → IsCheckedOf model flat.checked
+    → AreAttributes flat cluster table
+    → AreAttributes flat cluster (table_after (asks_of model flat cells) table)

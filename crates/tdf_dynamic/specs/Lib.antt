@@ -1,10 +1,7 @@
-pub mod Assignments
-pub mod Attributes
-pub mod Faults
-pub mod First
-pub mod Known
+pub mod Asked
+pub mod Change
+pub mod Given
 pub mod Laws
-pub mod Rates
-pub mod Text
-pub mod low
+pub mod Next
+pub mod Ports
 pub mod machine

@@ -1,3 +1,5 @@
 -- How the code of this crate works.
-pub mod Kept
-pub mod Told
+pub mod Asking
+pub mod Boundary
+pub mod Judging
+pub mod Rows

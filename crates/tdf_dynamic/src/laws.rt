@@ -1,27 +1,19 @@
-//! What holds of the faults and plans of clusters: each function here only carries its clauses.
+//! What holds of the answers of a boundary, and of what modules ask for: each function here only carries its clause.
 
-ghost use Rattle.tdf_dynamic.specs.Laws.{ClustersAreWhole, ClustersHaveOne, FlatIsPlannable};
+ghost use Rattle.tdf_dynamic.specs.Laws.{AttributesStay, BoundariesHaveOne};
 
 use tdf_balance::law_counts;
-use tdf_flat::low::bind::law_ranges;
 use tdf_schedule::law_plans;
 
-/// Of the faults and plans of a cluster there is at most one.
-pub fn law_one_plan()
-    ensures { ClustersHaveOne }
+/// Of the answers of a boundary there is at most one.
+pub fn law_one_answer()
+    ensures { BoundariesHaveOne }
 {
     law_counts();
     law_plans();
 }
 
-/// The clusters of the flat model of a tree can be planned, where the delays of ports are within their limit.
-pub fn law_plannable()
-    ensures { FlatIsPlannable }
-{
-    law_ranges();
-}
-
-/// Each number from 1 to the count of the clusters is that of a cluster.
-pub fn law_numbers()
-    ensures { ClustersAreWhole }
+/// What the modules of a text ask for leads to attributes of their cluster, whatever their variables hold.
+pub fn law_attributes()
+    ensures { AttributesStay }
 {}

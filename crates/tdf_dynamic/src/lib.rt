@@ -1,42 +1,21 @@
-//! The attributes of a cluster and its plan under them.
+//! What a change of attributes leads to, between two periods of a cluster.
 //!
-//! - `attrs`: the attributes of the modules of a cluster.
-//! - `places`: places in tables.
-//! - `table`: the table of attributes as the text says it.
-//! - `rates`: the net with the rates that a table gives.
-//! - `assignments`: the timesteps that a table assigns.
-//! - `err`: why a cluster has no plan.
-//! - `faults`: how the faults of a cluster are told.
-//! - `timing`: the first phase, counts and steps.
-//! - `planning`: the second phase, the plan.
-//! - `known`: the plans that were made last.
-//! - `plans`: the plan under a table, or the first fault.
-//! - `first`: the plan as the text says it, or the first fault.
-//! - `laws`: what holds of faults and plans.
-//! - `low`: what the crates above use of the crates further below.
+//! - `frames`: the instances of the modules of a cluster.
+//! - `asking`: the change bodies, and what each asks for.
+//! - `tables`: the table of attributes that comes of it, and whether it differs.
+//! - `rejecting`: whether a module rejects new steps.
+//! - `next`: what a boundary leads to.
+//! - `laws`: what holds of its answers, and of what modules ask for.
 #![tactic(auto)]
 
-mod assignments;
-mod attrs;
-mod err;
-mod faults;
-mod first;
-mod known;
+mod asking;
+mod frames;
 mod laws;
-pub mod low;
-mod places;
-mod planning;
-mod plans;
-mod rates;
-mod table;
-mod timing;
+mod next;
+mod rejecting;
+mod tables;
 
-pub use attrs::{Attrs, ModuleAttrs};
-pub use err::ChangeErr;
-pub use faults::module_path;
-pub use first::{First, first_plan};
-pub use known::KnownPlans;
-pub use laws::{law_numbers, law_one_plan, law_plannable};
-pub use plans::clusters_of;
-pub use rates::net_of;
-pub use timing::{Timing, steps_of};
+pub use asking::begin;
+pub use frames::{Frames, ModuleFrame};
+pub use laws::{law_attributes, law_one_answer};
+pub use next::{Next, next_plan};

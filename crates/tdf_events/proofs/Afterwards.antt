@@ -3,9 +3,9 @@ use Rattle.std.proofs.Common.{◌≡◌, ℕ, zero, suc, ◌+◌, ◌-◌, ◌^�
 use Rattle.std.proofs.lemmas.Bool.{true≢false}
 use Rattle.std.proofs.lemmas.Bool.Decides.{eqb_tells}
 use Rattle.std.proofs.lemmas.Option.{same_Some}
-use Rattle.tdf_calendar.specs.Evaluation.{evaluated}
-use Rattle.tdf_calendar.specs.Sets.{count_on, is_on}
-use Rattle.tdf_calendar.specs.Times.{earliest, time_of}
+use Rattle.tdf_events_queue.specs.Evaluation.{evaluated}
+use Rattle.tdf_events_queue.specs.Sets.{count_on, is_on}
+use Rattle.tdf_events_queue.specs.Times.{earliest, time_of}
 use Rattle.tdf_convert.specs.declared.writes.SignalWrite.{SignalWrite}
 use Rattle.tdf_events.proofs.Dues.{some_none}
 use Rattle.tdf_events.specs.Delta.{IsNoneBefore, after_evaluation, begun, event_part, is_due, is_idle, settled_by, stepped, turns_of, waiting_with}
@@ -13,11 +13,11 @@ use Rattle.tdf_events.specs.Laws.{EndsIdle, HasNothingWaiting, NextIsLater, None
 use Rattle.tdf_events.specs.Notices.{NoticesOf, noticed, noticed_first, time_after}
 use Rattle.tdf_events.specs.Processes.{events_of, owner_of, process_done, frame_at, ran, run_of}
 use Rattle.tdf_events.specs.Side.{SideOf}
-use Rattle.tdf_flat.specs.low.fixed.declared.raw.Raw.{Raw}
-use Rattle.tdf_flat.specs.declared.model.Flat.{Flat}
-use Rattle.tdf_flat.specs.low.state.State.{standing}
-use Rattle.tdf_flat.specs.low.tree.Pure.{PureTree}
-use Rattle.tdf_flat.specs.low.wiring.ProcessBlocks.{BlockRowOf, ProcessRowOf}
+use Rattle.tdf_fixed.specs.declared.raw.Raw.{Raw}
+use Rattle.tdf_bind.specs.declared.model.Flat.{Flat}
+use Rattle.tdf_expr_state.specs.State.{standing}
+use Rattle.tdf_lang_tree.specs.Pure.{PureTree}
+use Rattle.tdf_bind_connections.specs.ProcessBlocks.{BlockRowOf, ProcessRowOf}
 
 -- delta steps: what a step keeps holds of where they end
 module _ (model : PureTree) (flat : Flat) (time : ℕ) (P : SideOf → Type 0) (keep : (s : SideOf) → P s → P (stepped model flat time s)) where

@@ -4,7 +4,7 @@ use Rattle.std.specs.List.{list_any}
 use Rattle.std.proofs.lemmas.Bool.{cases_eq}
 use Rattle.std.proofs.lemmas.List.{ext_get_or, length-map}
 use Rattle.std.proofs.lemmas.Option.{same_Some, slice_get_within}
-use Rattle.tdf_calendar.specs.Sets.{SetOf, is_on}
+use Rattle.tdf_events_queue.specs.Sets.{SetOf, is_on}
 use Rattle.tdf_convert.specs.declared.writes.SignalWrite.{SignalWrite}
 use Rattle.tdf_events.proofs.Evaluated.{elsewhere, there_is}
 use Rattle.tdf_events.proofs.Reading.{has_at}
@@ -17,11 +17,11 @@ use Rattle.tdf_events.specs.Runnable.{signal_formats}
 use Rattle.tdf_events.specs.Side.{SideOf}
 use Rattle.tdf_events.specs.machine.Due.{comes}
 use Rattle.tdf_events.specs.machine.Updating.{AreAllReached}
-use Rattle.tdf_flat.specs.low.expr.Frames.{IsOfFormat}
-use Rattle.tdf_flat.specs.low.fixed.declared.format.Format.{Format}
-use Rattle.tdf_flat.specs.low.fixed.declared.raw.Raw.{Raw}
-use Rattle.tdf_flat.specs.declared.model.Flat.{Flat}
-use Rattle.tdf_flat.specs.low.wiring.ProcessBlocks.{ProcessRowOf}
+use Rattle.tdf_expr.specs.Frames.{IsOfFormat}
+use Rattle.tdf_fixed.specs.declared.format.Format.{Format}
+use Rattle.tdf_fixed.specs.declared.raw.Raw.{Raw}
+use Rattle.tdf_bind.specs.declared.model.Flat.{Flat}
+use Rattle.tdf_bind_connections.specs.ProcessBlocks.{ProcessRowOf}
 
 -- whether a process is triggered when the notifications of a time have come
 abbrev pub is_begun : (time : ℕ) → KernelOf → ℕ → ProcessRowOf → Bool

@@ -6,9 +6,9 @@ use Rattle.std.proofs.lemmas.Bool.Decides.{eqb_tells}
 use Rattle.std.proofs.lemmas.List.{ext_get_or, get_or_past, length-map}
 use Rattle.std.proofs.lemmas.List.Sums.{sum_by-set}
 use Rattle.std.proofs.lemmas.Option.{slice_get_within}
-use Rattle.tdf_calendar.specs.Lists.{list_at}
-use Rattle.tdf_calendar.specs.Times.{IsFirst, IsNonePending, time_of}
-use Rattle.tdf_calendar.specs.Triggered.{AreTriggered}
+use Rattle.tdf_events_queue.specs.Lists.{list_at}
+use Rattle.tdf_events_queue.specs.Times.{IsFirst, IsNonePending, time_of}
+use Rattle.tdf_events_queue.specs.Triggered.{AreTriggered}
 use Rattle.tdf_events.specs.Delta.{is_due}
 use Rattle.tdf_events.specs.machine.Due.{HaveCome, comes}
 use Rattle.tdf_events.specs.machine.Updating.{AreAllReached}

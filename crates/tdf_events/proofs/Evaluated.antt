@@ -4,8 +4,8 @@ use Rattle.std.specs.Option.{option_map}
 use Rattle.std.proofs.lemmas.Bool.{cases_eq, cases_lt, true≢false}
 use Rattle.std.proofs.lemmas.List.{get_or_past, length-map, map-set}
 use Rattle.std.proofs.lemmas.Option.{get_or_from_slice_get, same_Some, slice_get-get_or, slice_get-map, slice_get_within}
-use Rattle.tdf_calendar.specs.Lists.{list_at}
-use Rattle.tdf_calendar.specs.Sets.{AreListed}
+use Rattle.tdf_events_queue.specs.Lists.{list_at}
+use Rattle.tdf_events_queue.specs.Sets.{AreListed}
 use Rattle.tdf_events.proofs.Noticing.{noticed_same}
 use Rattle.tdf_events.proofs.Reading.{has_at}
 use Rattle.tdf_events.proofs.Writing.{written_same}
@@ -16,23 +16,23 @@ use Rattle.tdf_events.specs.Runnable.{ArePortsOf, AreOfSignals, IsRunnable, sign
 use Rattle.tdf_events.specs.Side.{SideOf, value_at}
 use Rattle.tdf_events.specs.machine.Reading.{CanRead}
 use Rattle.tdf_events.specs.machine.Running.{CanRun, HasRunIn}
-use Rattle.tdf_flat.specs.low.expr.Blocks.{PureBlock, blocks_of}
-use Rattle.tdf_flat.specs.low.expr.Checked.{IsCheckedOf}
-use Rattle.tdf_flat.specs.low.expr.Compiled.{AreBlocksOf}
-use Rattle.tdf_flat.specs.low.expr.Frames.{ArePortsFit, FrameSeen, IsOfFormat, PortsSeen, sample_formats}
-use Rattle.tdf_flat.specs.low.expr.Made.{AreMadeFor, event_count, port_spans_of}
-use Rattle.tdf_flat.specs.low.expr.Plans.{shape_of_format, written as shape_written}
-use Rattle.tdf_flat.specs.low.expr.declared.blocks.Block.{Block}
-use Rattle.tdf_flat.specs.low.expr.declared.spans.PortSpan.{PortSpan}
-use Rattle.tdf_flat.specs.low.fixed.declared.format.Format.{Format}
-use Rattle.tdf_flat.specs.low.fixed.declared.raw.Raw.{Raw}
-use Rattle.tdf_flat.specs.declared.model.Flat.{Flat}
-use Rattle.tdf_flat.specs.low.scope.Names.{globals_of}
-use Rattle.tdf_flat.specs.low.state.State.{FrameState, PortsState, State, standing, state_of}
-use Rattle.tdf_flat.specs.low.tree.Pure.{PureTree}
-use Rattle.tdf_flat.specs.low.wiring.ProcessBlocks.{BlockRowOf, ProcessRowOf}
-use Rattle.tdf_flat.specs.low.wiring.declared.blocks.EventRow.{EventRow}
-use Rattle.tdf_flat.specs.low.wiring.declared.drivers.SignalRow.{SignalRow}
+use Rattle.tdf_expr.specs.Blocks.{PureBlock, blocks_of}
+use Rattle.tdf_expr.specs.Checked.{IsCheckedOf}
+use Rattle.tdf_expr.specs.Compiled.{AreBlocksOf}
+use Rattle.tdf_expr.specs.Frames.{ArePortsFit, FrameSeen, IsOfFormat, PortsSeen, sample_formats}
+use Rattle.tdf_expr.specs.Made.{AreMadeFor, event_count, port_spans_of}
+use Rattle.tdf_expr.specs.Plans.{shape_of_format, written as shape_written}
+use Rattle.tdf_expr.specs.declared.blocks.Block.{Block}
+use Rattle.tdf_expr.specs.declared.spans.PortSpan.{PortSpan}
+use Rattle.tdf_fixed.specs.declared.format.Format.{Format}
+use Rattle.tdf_fixed.specs.declared.raw.Raw.{Raw}
+use Rattle.tdf_bind.specs.declared.model.Flat.{Flat}
+use Rattle.tdf_expr_symbols.specs.Names.{globals_of}
+use Rattle.tdf_expr_state.specs.State.{FrameState, PortsState, State, standing, state_of}
+use Rattle.tdf_lang_tree.specs.Pure.{PureTree}
+use Rattle.tdf_bind_connections.specs.ProcessBlocks.{BlockRowOf, ProcessRowOf}
+use Rattle.tdf_bind_connections.specs.declared.blocks.EventRow.{EventRow}
+use Rattle.tdf_bind_connections.specs.declared.drivers.SignalRow.{SignalRow}
 
 -- what is read where it was written
 pub index_set : {X : Type 0} (xs ys : List X) (i : ℕ) (x r : X) → ys ≡ slice_set xs i x → i < length xs → r ≡ slice_index_or ys i r → r ≡ x

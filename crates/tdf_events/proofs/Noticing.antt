@@ -1,9 +1,9 @@
 -- One event more of those that a process notifies.
 use Rattle.std.proofs.Common.{◌≡◌, ℕ, ◌+◌, Bool, true, false, if◌then◌else◌, nat_eq, List, Option, Some, None, length, length-set, slice_get, slice_index, slice_set, refl, add-one}
-use Rattle.tdf_calendar.specs.Sets.{is_on}
-use Rattle.tdf_calendar.specs.Times.{earliest, time_of}
+use Rattle.tdf_events_queue.specs.Sets.{is_on}
+use Rattle.tdf_events_queue.specs.Times.{earliest, time_of}
 use Rattle.tdf_events.specs.Notices.{NoticesOf, noticed, noticed_first, time_after}
-use Rattle.tdf_flat.specs.low.state.State.{standing}
+use Rattle.tdf_expr_state.specs.State.{standing}
 
 pub noticed_none : (time : ℕ) (events : List ℕ) (asked : List (Option ℕ)) (n : NoticesOf) → noticed_first time events asked 0 n ≡ n
 unfolding noticed_first

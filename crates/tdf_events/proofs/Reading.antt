@@ -6,12 +6,12 @@ use Rattle.std.proofs.lemmas.List.{ext_get_or, length-append, length-replicate}
 use Rattle.std.proofs.lemmas.Option.{same_Some, slice_get-get_or}
 use Rattle.tdf_events.specs.Processes.{ports_before, sample_before, samples_before}
 use Rattle.tdf_events.specs.machine.Reading.{AreRead, CanRead, with_samples}
-use Rattle.tdf_flat.specs.low.expr.Frames.{ArePortsFit, PortsSeen, reset_state, sample_formats}
-use Rattle.tdf_flat.specs.low.expr.Plans.{written}
-use Rattle.tdf_flat.specs.low.expr.declared.spans.PortSpan.{PortSpan}
-use Rattle.tdf_flat.specs.low.fixed.Overflow.{IsIn}
-use Rattle.tdf_flat.specs.low.fixed.declared.raw.Raw.{Raw}
-use Rattle.tdf_flat.specs.low.state.State.{PortsState, cell_at}
+use Rattle.tdf_expr.specs.Frames.{ArePortsFit, PortsSeen, reset_state, sample_formats}
+use Rattle.tdf_expr.specs.Plans.{written}
+use Rattle.tdf_expr.specs.declared.spans.PortSpan.{PortSpan}
+use Rattle.tdf_fixed.specs.Overflow.{IsIn}
+use Rattle.tdf_fixed.specs.declared.raw.Raw.{Raw}
+use Rattle.tdf_expr_state.specs.State.{PortsState, cell_at}
 
 -- ports with one sample each have as many samples as there are ports
 pub ones_long : (spans : List PortSpan) → ((n : ℕ) (p : PortSpan) → slice_get spans n ≡ Some p → p.count ≡ 1) → length (sample_formats spans) ≡ length spans

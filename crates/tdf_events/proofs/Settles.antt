@@ -3,8 +3,8 @@ use Rattle.std.proofs.Common.{◌≡◌, ℕ, zero, suc, ◌+◌, ◌-◌, ◌<�
 use Rattle.std.proofs.lemmas.Bool.{lt-ltb, le-ltb, ltb-false}
 use Rattle.tdf_events.specs.Delta.{is_idle, settled, settled_by, stepped, turns_of}
 use Rattle.tdf_events.specs.Side.{SideOf}
-use Rattle.tdf_flat.specs.declared.model.Flat.{Flat}
-use Rattle.tdf_flat.specs.low.tree.Pure.{PureTree}
+use Rattle.tdf_bind.specs.declared.model.Flat.{Flat}
+use Rattle.tdf_lang_tree.specs.Pure.{PureTree}
 
 module _ (model : PureTree) (flat : Flat) (time : ℕ) where
   -- more fuel than turns changes nothing

@@ -4,7 +4,7 @@ use Rattle.std.proofs.lemmas.Bool.{cases_lt}
 use Rattle.std.proofs.lemmas.List.{ext_get_or, get_or-replicate, get_or_past, length-map, length-replicate}
 use Rattle.std.proofs.lemmas.Option.{get_or_from_slice_get, slice_get-map}
 use Rattle.std.specs.Option.{option_map}
-use Rattle.tdf_calendar.specs.Lists.{list_at}
+use Rattle.tdf_events_queue.specs.Lists.{list_at}
 use Rattle.tdf_events.proofs.Reading.{has_at}
 use Rattle.tdf_events.specs.Kernel.{AreSensitive, IsKernelOf, KernelOf, side_of}
 use Rattle.tdf_events.specs.Notices.{NoticesOf}
@@ -12,14 +12,14 @@ use Rattle.tdf_events.specs.Processes.{events_of}
 use Rattle.tdf_events.specs.Runnable.{AreOfSignals, IsRunnable, signal_formats}
 use Rattle.tdf_events.specs.Side.{SideOf, start_side}
 use Rattle.tdf_events.specs.machine.Making.{AreAllPorts, AreFrames}
-use Rattle.tdf_flat.specs.low.expr.Frames.{FrameSeen}
-use Rattle.tdf_flat.specs.low.expr.Made.{start_cells, start_rates}
-use Rattle.tdf_flat.specs.low.expr.declared.checked.Checked.{Checked}
-use Rattle.tdf_flat.specs.low.fixed.declared.raw.Raw.{Raw}
-use Rattle.tdf_flat.specs.declared.model.Flat.{Flat}
-use Rattle.tdf_flat.specs.low.state.State.{FrameState}
-use Rattle.tdf_flat.specs.low.wiring.ProcessBlocks.{BlockRowOf, ProcessRowOf}
-use Rattle.tdf_flat.specs.low.wiring.declared.drivers.SignalRow.{SignalRow}
+use Rattle.tdf_expr.specs.Frames.{FrameSeen}
+use Rattle.tdf_expr.specs.Made.{start_cells, start_rates}
+use Rattle.tdf_expr.specs.declared.checked.Checked.{Checked}
+use Rattle.tdf_fixed.specs.declared.raw.Raw.{Raw}
+use Rattle.tdf_bind.specs.declared.model.Flat.{Flat}
+use Rattle.tdf_expr_state.specs.State.{FrameState}
+use Rattle.tdf_bind_connections.specs.ProcessBlocks.{BlockRowOf, ProcessRowOf}
+use Rattle.tdf_bind_connections.specs.declared.drivers.SignalRow.{SignalRow}
 
 abbrev no_frame : FrameState
 no_frame = record { cells = []; rates = [] }

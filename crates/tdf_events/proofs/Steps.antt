@@ -4,8 +4,8 @@ use Rattle.std.specs.List.{list_any}
 use Rattle.std.proofs.lemmas.Bool.{cases_Bool, cases_lt, true≢false}
 use Rattle.std.proofs.lemmas.List.{ext_get_or, get_or-replicate, get_or_past, length-map, length-replicate}
 use Rattle.std.proofs.lemmas.Option.{get_or_from_slice_get, same_Some, slice_get-get_or, slice_get_within}
-use Rattle.tdf_calendar.specs.Lists.{list_at}
-use Rattle.tdf_calendar.specs.Sets.{SetOf, is_on}
+use Rattle.tdf_events_queue.specs.Lists.{list_at}
+use Rattle.tdf_events_queue.specs.Sets.{SetOf, is_on}
 use Rattle.tdf_events.proofs.Reading.{has_at}
 use Rattle.tdf_events.proofs.Updates.{updated_at, updated_long}
 use Rattle.tdf_events.specs.Delta.{after_update, changes, flags_from, is_next, updated}
@@ -14,12 +14,12 @@ use Rattle.tdf_events.specs.Notices.{NoticesOf}
 use Rattle.tdf_events.specs.Runnable.{AreOfSignals, signal_formats}
 use Rattle.tdf_events.specs.Side.{SideOf, value_at}
 use Rattle.tdf_events.specs.machine.Updating.{AreAllReached, does_change}
-use Rattle.tdf_flat.specs.low.expr.Frames.{IsOfFormat}
-use Rattle.tdf_flat.specs.low.fixed.declared.format.Format.{Format}
-use Rattle.tdf_flat.specs.low.fixed.declared.raw.Raw.{Raw}
-use Rattle.tdf_flat.specs.declared.model.Flat.{Flat}
-use Rattle.tdf_flat.specs.low.state.State.{FrameState}
-use Rattle.tdf_flat.specs.low.wiring.ProcessBlocks.{ProcessRowOf}
+use Rattle.tdf_expr.specs.Frames.{IsOfFormat}
+use Rattle.tdf_fixed.specs.declared.format.Format.{Format}
+use Rattle.tdf_fixed.specs.declared.raw.Raw.{Raw}
+use Rattle.tdf_bind.specs.declared.model.Flat.{Flat}
+use Rattle.tdf_expr_state.specs.State.{FrameState}
+use Rattle.tdf_bind_connections.specs.ProcessBlocks.{ProcessRowOf}
 
 abbrev nothing : Option Raw
 nothing = None

@@ -5,16 +5,16 @@ use Rattle.std.proofs.lemmas.Bool.{cases_eq, cases_lt}
 use Rattle.std.proofs.lemmas.Bool.Decides.{eqb_tells}
 use Rattle.std.proofs.lemmas.List.{append-nil, ext_get_or, get_or-replicate, get_or_past, length-map, length-replicate, take_more}
 use Rattle.std.proofs.lemmas.Option.{same_Some, slice_get_within, slice_get-get_or, slice_get-map, get_or_from_slice_get}
-use Rattle.tdf_calendar.specs.Lists.{list_at}
-use Rattle.tdf_calendar.specs.Sets.{is_on}
+use Rattle.tdf_events_queue.specs.Lists.{list_at}
+use Rattle.tdf_events_queue.specs.Sets.{is_on}
 use Rattle.tdf_events.proofs.Reading.{has_at}
 use Rattle.tdf_events.specs.Kernel.{AreSensitive}
 use Rattle.tdf_events.specs.Processes.{owned_from}
 use Rattle.tdf_events.specs.machine.Making.{AreAdded, AreAllPorts, AreFirstPorts, AreFrames, AreStarted, IsFirstFrame}
-use Rattle.tdf_flat.specs.low.expr.Frames.{FrameSeen, PortsSeen}
-use Rattle.tdf_flat.specs.low.expr.declared.checked.Checked.{Checked}
-use Rattle.tdf_flat.specs.low.wiring.ProcessBlocks.{BlockRowOf, ProcessRowOf}
-use Rattle.tdf_flat.specs.low.wiring.declared.blocks.EventRow.{EventRow}
+use Rattle.tdf_expr.specs.Frames.{FrameSeen, PortsSeen}
+use Rattle.tdf_expr.specs.declared.checked.Checked.{Checked}
+use Rattle.tdf_bind_connections.specs.ProcessBlocks.{BlockRowOf, ProcessRowOf}
+use Rattle.tdf_bind_connections.specs.declared.blocks.EventRow.{EventRow}
 
 at_end : (xs : List ℕ) (p : ℕ) → slice_get (xs ++ p ∷ []) (length xs) ≡ Some p
 at_end [] p = refl

@@ -3,13 +3,13 @@ use Rattle.std.proofs.Common.{◌≡◌, ℕ, zero, suc, ◌<◌, Bool, true, fa
 use Rattle.std.proofs.lemmas.Bool.{cases_lt, true≢false}
 use Rattle.std.proofs.lemmas.List.{ext_get_or, get_or_past, length-map}
 use Rattle.std.proofs.lemmas.Option.{slice_get_within}
-use Rattle.tdf_calendar.specs.Lists.{list_at}
-use Rattle.tdf_calendar.specs.Sets.{AreListed, is_on}
-use Rattle.tdf_calendar.specs.Triggered.{AreAllTriggered}
+use Rattle.tdf_events_queue.specs.Lists.{list_at}
+use Rattle.tdf_events_queue.specs.Sets.{AreListed, is_on}
+use Rattle.tdf_events_queue.specs.Triggered.{AreAllTriggered}
 use Rattle.tdf_events.specs.Delta.{differs, updated}
 use Rattle.tdf_events.specs.Side.{value_at}
 use Rattle.tdf_events.specs.machine.Updating.{AreAllReached, AreForgotten, AreReached, AreTaken, does_change}
-use Rattle.tdf_flat.specs.low.fixed.declared.raw.Raw.{Raw}
+use Rattle.tdf_fixed.specs.declared.raw.Raw.{Raw}
 
 abbrev nothing : Option Raw
 nothing = None

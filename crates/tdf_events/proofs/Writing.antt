@@ -5,10 +5,10 @@ use Rattle.tdf_events.proofs.Reading.{has_at}
 use Rattle.tdf_convert.specs.declared.writes.SignalWrite.{SignalWrite}
 use Rattle.tdf_events.specs.Delta.{waiting_with}
 use Rattle.tdf_events.specs.Processes.{value_of_port, written, written_first}
-use Rattle.tdf_flat.specs.low.expr.declared.spans.PortSpan.{PortSpan}
-use Rattle.tdf_flat.specs.low.fixed.Cast.{fraction_of}
-use Rattle.tdf_flat.specs.low.fixed.declared.raw.Raw.{Raw}
-use Rattle.tdf_flat.specs.low.state.State.{PortsState, cell_at}
+use Rattle.tdf_expr.specs.declared.spans.PortSpan.{PortSpan}
+use Rattle.tdf_fixed.specs.Cast.{fraction_of}
+use Rattle.tdf_fixed.specs.declared.raw.Raw.{Raw}
+use Rattle.tdf_expr_state.specs.State.{PortsState, cell_at}
 
 pub written_none : (signals : List ℕ) (spans : List PortSpan) (ports : PortsState) (waiting : List (Option Raw)) → written_first signals spans ports 0 waiting ≡ waiting
 unfolding written_first

@@ -2,21 +2,19 @@
 -- Source: IEEE 1666-2011, 4.2.1.2 to 4.2.1.5 (evaluation, update, delta and timed notification).
 use Rattle.std.specs.List.{list_any}
 use Rattle.std.specs.Ordering.{int_eq}
-use Rattle.std.specs.Prelude.{◌≡◌, ◌≤◌, ℕ, zero, suc, ◌+◌, ◌-◌, Bool, false, ◌||◌, ◌&&◌, not}
-use Rattle.std.specs.Prelude.{if◌then◌else◌, nat_eq, nat_lt, List, [], ◌∷◌, length, map, Option, Some}
-use Rattle.std.specs.Prelude.{None, unwrap_or, slice_get, slice_index_or, slice_set}
-use Rattle.tdf_calendar.specs.Evaluation.{evaluated}
-use Rattle.tdf_calendar.specs.Sets.{count_on, is_on}
-use Rattle.tdf_calendar.specs.Times.{time_of}
+use Rattle.std.specs.Prelude.{◌≡◌, ◌≤◌, ℕ, zero, suc, ◌+◌, ◌-◌, Bool, false, ◌||◌, ◌&&◌, not, if◌then◌else◌, nat_eq, nat_lt, List, [], ◌∷◌, length, map, Option, Some, None, unwrap_or, slice_get, slice_index_or, slice_set}
+use Rattle.tdf_events_queue.specs.Evaluation.{evaluated}
+use Rattle.tdf_events_queue.specs.Sets.{count_on, is_on}
+use Rattle.tdf_events_queue.specs.Times.{time_of}
 use Rattle.tdf_convert.specs.declared.writes.SignalWrite.{SignalWrite}
 use Rattle.tdf_events.specs.Processes.{ran}
 use Rattle.tdf_events.specs.Side.{SideOf, value_at}
-use Rattle.tdf_flat.specs.low.expr.Frames.{IsOfFormat}
-use Rattle.tdf_flat.specs.low.fixed.declared.format.Format.{Format}
-use Rattle.tdf_flat.specs.low.fixed.declared.raw.Raw.{Raw}
-use Rattle.tdf_flat.specs.declared.model.Flat.{Flat}
-use Rattle.tdf_flat.specs.low.tree.Pure.{PureTree}
-use Rattle.tdf_flat.specs.low.wiring.ProcessBlocks.{ProcessRowOf}
+use Rattle.tdf_expr.specs.Frames.{IsOfFormat}
+use Rattle.tdf_fixed.specs.declared.format.Format.{Format}
+use Rattle.tdf_fixed.specs.declared.raw.Raw.{Raw}
+use Rattle.tdf_bind.specs.declared.model.Flat.{Flat}
+use Rattle.tdf_lang_tree.specs.Pure.{PureTree}
+use Rattle.tdf_bind_connections.specs.ProcessBlocks.{ProcessRowOf}
 
 -- a flag for each process, numbered from `first`
 unfoldable pub flags_from : (ℕ → ProcessRowOf → Bool) → (first : ℕ) → List ProcessRowOf → List Bool

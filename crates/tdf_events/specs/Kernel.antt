@@ -1,20 +1,19 @@
 -- What a kernel holds: the event side of its model, and lists of who is sensitive to what.
 -- Source: own.
-use Rattle.std.specs.Prelude.{◌≡◌, ◌<◌, ◌⊎◌, ℕ, Bool, false, List, length, map, Option, Some}
-use Rattle.std.specs.Prelude.{slice_get}
-use Rattle.tdf_calendar.specs.Lists.{list_at}
-use Rattle.tdf_calendar.specs.Sets.{SetOf, count_on}
-use Rattle.tdf_calendar.specs.Times.{IsNextTime}
+use Rattle.std.specs.Prelude.{◌≡◌, ◌<◌, ◌⊎◌, ℕ, Bool, false, List, length, map, Option, Some, slice_get}
+use Rattle.tdf_events_queue.specs.Lists.{list_at}
+use Rattle.tdf_events_queue.specs.Sets.{SetOf, count_on}
+use Rattle.tdf_events_queue.specs.Times.{IsNextTime}
 use Rattle.tdf_events.specs.Notices.{NoticesOf}
 use Rattle.tdf_events.specs.Processes.{events_of}
 use Rattle.tdf_events.specs.Runnable.{AreOfSignals, signal_formats}
 use Rattle.tdf_events.specs.Side.{SideOf}
-use Rattle.tdf_flat.specs.low.expr.Frames.{FrameSeen, IsOfFormat, PortsSeen}
-use Rattle.tdf_flat.specs.low.expr.Made.{AreMadeFor}
-use Rattle.tdf_flat.specs.low.fixed.declared.format.Format.{Format}
-use Rattle.tdf_flat.specs.low.fixed.declared.raw.Raw.{Raw}
-use Rattle.tdf_flat.specs.declared.model.Flat.{Flat}
-use Rattle.tdf_flat.specs.low.wiring.ProcessBlocks.{BlockRowOf, ProcessRowOf}
+use Rattle.tdf_expr.specs.Frames.{FrameSeen, IsOfFormat, PortsSeen}
+use Rattle.tdf_expr.specs.Made.{AreMadeFor}
+use Rattle.tdf_fixed.specs.declared.format.Format.{Format}
+use Rattle.tdf_fixed.specs.declared.raw.Raw.{Raw}
+use Rattle.tdf_bind.specs.declared.model.Flat.{Flat}
+use Rattle.tdf_bind_connections.specs.ProcessBlocks.{BlockRowOf, ProcessRowOf}
 
 pub record KernelOf : Type 0 where
   pub values : List Raw

@@ -1,16 +1,15 @@
 -- What holds of the event part of an instant and of the next time, so that instants can follow one
 -- another.
 -- Source: IEEE 1666-2011, 4.2.1.2 to 4.2.1.5.
-use Rattle.std.specs.Prelude.{◌≡◌, ◌<◌, ◌≤◌, ℕ, ◌+◌, ◌^◌, true, false, List, Option, Some}
-use Rattle.std.specs.Prelude.{None, slice_index_or}
-use Rattle.tdf_calendar.specs.Sets.{is_on}
-use Rattle.tdf_calendar.specs.Times.{IsNonePending}
+use Rattle.std.specs.Prelude.{◌≡◌, ◌<◌, ◌≤◌, ℕ, ◌+◌, ◌^◌, true, false, List, Option, Some, None, slice_index_or}
+use Rattle.tdf_events_queue.specs.Sets.{is_on}
+use Rattle.tdf_events_queue.specs.Times.{IsNonePending}
 use Rattle.tdf_convert.specs.declared.writes.SignalWrite.{SignalWrite}
 use Rattle.tdf_events.specs.Delta.{IsNoneBefore, event_part, is_idle}
 use Rattle.tdf_events.specs.Kernel.{IsNextOf}
 use Rattle.tdf_events.specs.Side.{SideOf, start_side}
-use Rattle.tdf_flat.specs.declared.model.Flat.{Flat}
-use Rattle.tdf_flat.specs.low.tree.Pure.{PureTree}
+use Rattle.tdf_bind.specs.declared.model.Flat.{Flat}
+use Rattle.tdf_lang_tree.specs.Pure.{PureTree}
 
 -- no value waits for a signal, and no event has a delta notification
 pub record HasNothingWaiting (s : SideOf) : Type 0 where

@@ -5,6 +5,5 @@ pub mod Notices
 pub mod Processes
 pub mod Runnable
 pub mod Side
-pub mod low
 pub mod machine
 pub mod views

@@ -1,11 +1,10 @@
 -- Pending notifications: an event has at most one. A delta notification takes the place of a timed
 -- one and lets later ones be ignored; a timed one gives way to an earlier time alone.
 -- Source: IEEE 1666-2011, 5.10.8 (notify and cancel).
-use Rattle.std.specs.Prelude.{ℕ, zero, suc, ◌+◌, ◌-◌, ◌^◌, Bool, true, if◌then◌else◌, nat_eq, min}
-use Rattle.std.specs.Prelude.{List, Option, Some, None, slice_get, slice_index, slice_set}
-use Rattle.tdf_calendar.specs.Sets.{is_on}
-use Rattle.tdf_calendar.specs.Times.{earliest, time_of}
-use Rattle.tdf_flat.specs.low.state.State.{standing}
+use Rattle.std.specs.Prelude.{ℕ, zero, suc, ◌+◌, ◌-◌, ◌^◌, Bool, true, if◌then◌else◌, nat_eq, min, List, Option, Some, None, slice_get, slice_index, slice_set}
+use Rattle.tdf_events_queue.specs.Sets.{is_on}
+use Rattle.tdf_events_queue.specs.Times.{earliest, time_of}
+use Rattle.tdf_expr_state.specs.State.{standing}
 
 -- by event: the time of its timed notification, and whether it has a delta notification
 pub record NoticesOf : Type 0 where

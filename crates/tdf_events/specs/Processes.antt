@@ -1,24 +1,22 @@
 -- A process runs: it reads current values, what it writes waits, and it notifies events.
 -- Source: IEEE 1666-2011, 4.2.1.2 (evaluation phase) and 6.4 (sc_signal: write).
-use Rattle.std.specs.Prelude.{ℕ, zero, suc, ◌+◌, false, if◌then◌else◌, nat_eq, List, [], ◌∷◌}
-use Rattle.std.specs.Prelude.{length, replicate, Option, Some, None, ℤ, pos, slice_get, slice_index}
-use Rattle.std.specs.Prelude.{slice_index_or, slice_set}
+use Rattle.std.specs.Prelude.{ℕ, zero, suc, ◌+◌, false, if◌then◌else◌, nat_eq, List, [], ◌∷◌, length, replicate, Option, Some, None, ℤ, pos, slice_get, slice_index, slice_index_or, slice_set}
 use Rattle.tdf_events.specs.Notices.{noticed_first}
 use Rattle.tdf_events.specs.Side.{SideOf, value_at}
-use Rattle.tdf_flat.specs.low.expr.Blocks.{PureBlock, blocks_of, body_of}
-use Rattle.tdf_flat.specs.low.expr.Frames.{is_written}
-use Rattle.tdf_flat.specs.low.expr.Made.{port_spans_of, event_count}
-use Rattle.tdf_flat.specs.low.expr.Runs.{scope_in}
-use Rattle.tdf_flat.specs.low.expr.declared.bodies.Body.TheVariants.{Process}
-use Rattle.tdf_flat.specs.low.expr.declared.spans.PortSpan.{PortSpan}
-use Rattle.tdf_flat.specs.low.fixed.Cast.{fraction_of}
-use Rattle.tdf_flat.specs.low.fixed.declared.raw.Raw.{Raw}
-use Rattle.tdf_flat.specs.declared.model.Flat.{Flat}
-use Rattle.tdf_flat.specs.low.meaning.Bodies.{after_body}
-use Rattle.tdf_flat.specs.low.state.State.{FrameState, PortsState, State, cell_at, state_of}
-use Rattle.tdf_flat.specs.low.tree.Pure.{PureTree}
-use Rattle.tdf_flat.specs.low.wiring.ProcessBlocks.{BlockRowOf, ProcessRowOf}
-use Rattle.tdf_flat.specs.low.wiring.declared.blocks.EventRow.{EventRow}
+use Rattle.tdf_expr.specs.Blocks.{PureBlock, blocks_of, body_of}
+use Rattle.tdf_expr.specs.Frames.{is_written}
+use Rattle.tdf_expr.specs.Made.{port_spans_of, event_count}
+use Rattle.tdf_expr.specs.Runs.{scope_in}
+use Rattle.tdf_expr.specs.declared.bodies.Body.TheVariants.{Process}
+use Rattle.tdf_expr.specs.declared.spans.PortSpan.{PortSpan}
+use Rattle.tdf_fixed.specs.Cast.{fraction_of}
+use Rattle.tdf_fixed.specs.declared.raw.Raw.{Raw}
+use Rattle.tdf_bind.specs.declared.model.Flat.{Flat}
+use Rattle.tdf_expr_semantics.specs.Bodies.{after_body}
+use Rattle.tdf_expr_state.specs.State.{FrameState, PortsState, State, cell_at, state_of}
+use Rattle.tdf_lang_tree.specs.Pure.{PureTree}
+use Rattle.tdf_bind_connections.specs.ProcessBlocks.{BlockRowOf, ProcessRowOf}
+use Rattle.tdf_bind_connections.specs.declared.blocks.EventRow.{EventRow}
 
 -- the sample of a port before a process runs: the current value of the signal of one that processes
 -- read, 0 for one that they write

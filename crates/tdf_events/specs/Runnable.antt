@@ -3,14 +3,14 @@
 -- Source: own.
 use Rattle.std.specs.Prelude.{◌≡◌, ◌<◌, ◌^◌, ℕ, List, length, map, Some, All, slice_get}
 use Rattle.tdf_events.specs.Processes.{events_of}
-use Rattle.tdf_flat.specs.low.expr.Checked.{IsChecked}
-use Rattle.tdf_flat.specs.low.expr.Frames.{IsOfFormat}
-use Rattle.tdf_flat.specs.low.expr.Made.{block_count, event_count, port_spans_of}
-use Rattle.tdf_flat.specs.low.expr.declared.spans.PortSpan.{PortSpan}
-use Rattle.tdf_flat.specs.low.fixed.declared.format.Format.{Format}
-use Rattle.tdf_flat.specs.low.fixed.declared.raw.Raw.{Raw}
-use Rattle.tdf_flat.specs.declared.model.Flat.{Flat}
-use Rattle.tdf_flat.specs.low.wiring.ProcessBlocks.{BlockRowOf, ProcessRowOf}
+use Rattle.tdf_expr.specs.Checked.{IsChecked}
+use Rattle.tdf_expr.specs.Frames.{IsOfFormat}
+use Rattle.tdf_expr.specs.Made.{block_count, event_count, port_spans_of}
+use Rattle.tdf_expr.specs.declared.spans.PortSpan.{PortSpan}
+use Rattle.tdf_fixed.specs.declared.format.Format.{Format}
+use Rattle.tdf_fixed.specs.declared.raw.Raw.{Raw}
+use Rattle.tdf_bind.specs.declared.model.Flat.{Flat}
+use Rattle.tdf_bind_connections.specs.ProcessBlocks.{BlockRowOf, ProcessRowOf}
 
 -- the formats of the event signals
 abbrev pub signal_formats : Flat → List Format

@@ -1,12 +1,11 @@
 -- The event side of a model: what stands between two instants, and what waits within one.
 -- Source: IEEE 1666-2011, 4.2.1 (scheduling) and 5.10 (events).
-use Rattle.std.specs.Prelude.{ℕ, Bool, false, List, length, map, replicate, Option, None, pos}
-use Rattle.std.specs.Prelude.{slice_index_or}
+use Rattle.std.specs.Prelude.{ℕ, Bool, false, List, length, map, replicate, Option, None, pos, slice_index_or}
 use Rattle.tdf_events.specs.Notices.{NoticesOf}
-use Rattle.tdf_flat.specs.low.expr.Made.{start_cells, start_rates}
-use Rattle.tdf_flat.specs.low.fixed.declared.raw.Raw.{Raw}
-use Rattle.tdf_flat.specs.declared.model.Flat.{Flat}
-use Rattle.tdf_flat.specs.low.state.State.{FrameState}
+use Rattle.tdf_expr.specs.Made.{start_cells, start_rates}
+use Rattle.tdf_fixed.specs.declared.raw.Raw.{Raw}
+use Rattle.tdf_bind.specs.declared.model.Flat.{Flat}
+use Rattle.tdf_expr_state.specs.State.{FrameState}
 
 pub record SideOf : Type 0 where
   -- the settled value of each event signal

@@ -1,13 +1,13 @@
 //! Timed notifications come.
 
 ghost use Rattle.std.specs.Prelude.{◌≡◌, ◌<◌, ◌≤◌, ℕ, None, Some, if◌then◌else◌, length, map, slice_get};
-ghost use Rattle.tdf_calendar.specs.Lists.{list_at};
-ghost use Rattle.tdf_calendar.specs.Times.{time_of};
+ghost use Rattle.tdf_events_queue.specs.Lists.{list_at};
+ghost use Rattle.tdf_events_queue.specs.Times.{time_of};
 ghost use Rattle.tdf_events.specs.Delta.{is_due};
 ghost use Rattle.tdf_events.specs.machine.Due.{IsDueEvent, comes};
 ghost use Rattle.tdf_events.specs.machine.Updating.{AreAllReached};
 
-use tdf_calendar::{Calendar, Lists, NumberSet, trigger};
+use tdf_events_queue::{Calendar, Lists, NumberSet, trigger};
 
 /// An event whose notification comes at a time, where none is pending before it.
 fn due_event(calendar: &Calendar, time: u64) -> Option<u32>

@@ -1,23 +1,23 @@
 //! The triggered processes run.
 
 ghost use Rattle.std.specs.Prelude.{◌≡◌, ◌<◌, length};
-ghost use Rattle.tdf_calendar.specs.Evaluation.{ran_first};
+ghost use Rattle.tdf_events_queue.specs.Evaluation.{ran_first};
 ghost use Rattle.tdf_events.specs.Delta.{after_evaluation};
 ghost use Rattle.tdf_events.specs.Kernel.{IsKernelOf, side_of};
 ghost use Rattle.tdf_events.specs.Processes.{ran};
 ghost use Rattle.tdf_events.specs.Runnable.{IsRunnable};
 ghost use Rattle.tdf_events.specs.machine.Running.{CanRun, HasActed, HasRunIn};
 ghost use Rattle.tdf_events.specs.views.Parts.{kernel_of};
-ghost use Rattle.tdf_flat.specs.low.expr.Checked.{IsCheckedOf};
-ghost use Rattle.tdf_flat.specs.low.tree.Pure.{PureTree};
+ghost use Rattle.tdf_expr.specs.Checked.{IsCheckedOf};
+ghost use Rattle.tdf_lang_tree.specs.Pure.{PureTree};
 
 use crate::notices::notify_all;
 use crate::parts::Parts;
 use crate::running::act;
 use crate::waiting::write_all;
-use tdf_flat::Flat;
-use tdf_flat::low::expr::Checked;
-use tdf_flat::low::wiring::BlockRow;
+use tdf_bind::Flat;
+use tdf_bind_connections::BlockRow;
+use tdf_expr::Checked;
 
 /// The body of a process of an instance runs.
 fn act_in(parts: &mut Parts, checked: &Checked, block: &BlockRow, owner: u32, number: u32)

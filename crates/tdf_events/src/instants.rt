@@ -5,14 +5,14 @@ ghost use Rattle.tdf_events.specs.Delta.{AreWritesOf, IsNoneBefore, begun, event
 ghost use Rattle.tdf_events.specs.Kernel.{IsKernelOf, side_of};
 ghost use Rattle.tdf_events.specs.Runnable.{IsRunnable, signal_formats};
 ghost use Rattle.tdf_events.specs.views.Parts.{kernel_of};
-ghost use Rattle.tdf_flat.specs.low.expr.Checked.{IsCheckedOf};
-ghost use Rattle.tdf_flat.specs.low.tree.Pure.{PureTree};
+ghost use Rattle.tdf_expr.specs.Checked.{IsCheckedOf};
+ghost use Rattle.tdf_lang_tree.specs.Pure.{PureTree};
 
 use crate::parts::Parts;
 use crate::turns::{Spent, Turns, check_idle, settle};
 use crate::waiting::write_sinks;
+use tdf_bind::Flat;
 use tdf_convert::SignalWrite;
-use tdf_flat::Flat;
 
 /// An instant begins: the notifications of its time come, and the values that sinks write wait.
 fn begin(parts: &mut Parts, flat: &Flat, time: u64, writes: &[SignalWrite])

@@ -25,8 +25,8 @@ ghost use Rattle.tdf_events.specs.Kernel.{IsKernelOf, IsNextOf, side_of};
 ghost use Rattle.tdf_events.specs.Runnable.{IsRunnable, signal_formats};
 ghost use Rattle.tdf_events.specs.Side.{start_side};
 ghost use Rattle.tdf_events.specs.views.Parts.{kernel_of};
-ghost use Rattle.tdf_flat.specs.low.expr.Checked.{IsCheckedOf};
-ghost use Rattle.tdf_flat.specs.low.tree.Pure.{PureTree};
+ghost use Rattle.tdf_expr.specs.Checked.{IsCheckedOf};
+ghost use Rattle.tdf_lang_tree.specs.Pure.{PureTree};
 
 use crate::instants::run_instant;
 use crate::making::{
@@ -36,10 +36,10 @@ use crate::notices::Notices;
 use crate::turns::{Spent, Turns};
 use crate::waiting::Waiting;
 use std::alloc::Global;
+use tdf_base::Memory;
+use tdf_bind::Flat;
 use tdf_convert::SignalWrite;
-use tdf_flat::Flat;
-use tdf_flat::low::base::Memory;
-use tdf_flat::low::fixed::Raw;
+use tdf_fixed::Raw;
 
 /// The parts before the first instant.
 fn parts_of(alloc: Global, flat: &Flat) -> Result<Parts, Memory>

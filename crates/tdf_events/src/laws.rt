@@ -1,8 +1,6 @@
 //! What holds of instants that follow one another: each function here only carries its clauses.
 
-ghost use Rattle.tdf_events.specs.Laws.{EndsIdle, NextIsLater, NoneAtStart, NoneBeforeNext};
-ghost use Rattle.tdf_events.specs.Laws.{NonePendingNoneBefore, NoneStaysBefore, NoneWithoutNext};
-ghost use Rattle.tdf_events.specs.Laws.{NothingStaysWaiting, OnlyLaterStay, TurnsNeverGrow};
+ghost use Rattle.tdf_events.specs.Laws.{EndsIdle, NextIsLater, NoneAtStart, NoneBeforeNext, NonePendingNoneBefore, NoneStaysBefore, NoneWithoutNext, NothingStaysWaiting, OnlyLaterStay, TurnsNeverGrow};
 
 /// After the event part of an instant no process is triggered, nothing waits where nothing did
 /// before, the turns that are left are no more, and only later notifications are pending.

@@ -13,7 +13,6 @@
 //! - `waiting`: the values that wait for the next update.
 //! - `notices`: pending notifications.
 //! - `laws`: what holds of instants that follow one another.
-//! - `low`: what the crates above use of the crates further below.
 #![tactic(auto)]
 
 mod due;
@@ -21,7 +20,6 @@ mod evaluating;
 mod instants;
 mod kernel;
 mod laws;
-pub mod low;
 mod making;
 mod notices;
 mod parts;

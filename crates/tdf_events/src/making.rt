@@ -2,20 +2,20 @@
 
 ghost use Rattle.std.specs.List.{All};
 ghost use Rattle.std.specs.Prelude.{◌≡◌, ◌<◌, ◌^◌, ℕ, IfOk, OnOk, Some, length, map, slice_get};
-ghost use Rattle.tdf_calendar.specs.Lists.{list_at};
+ghost use Rattle.tdf_events_queue.specs.Lists.{list_at};
 ghost use Rattle.tdf_events.specs.Kernel.{AreSensitive};
 ghost use Rattle.tdf_events.specs.Processes.{owned_from};
 ghost use Rattle.tdf_events.specs.machine.Making.{AreAdded, AreAllPorts, AreFrames, AreStarted};
-ghost use Rattle.tdf_flat.specs.low.expr.Checked.{IsChecked};
-ghost use Rattle.tdf_flat.specs.low.expr.Made.{block_count};
-ghost use Rattle.tdf_flat.specs.low.wiring.ProcessBlocks.{BlockRowOf, ProcessRowOf};
+ghost use Rattle.tdf_expr.specs.Checked.{IsChecked};
+ghost use Rattle.tdf_expr.specs.Made.{block_count};
+ghost use Rattle.tdf_bind_connections.specs.ProcessBlocks.{BlockRowOf, ProcessRowOf};
 
 use std::alloc::Global;
-use tdf_calendar::{Lists, NumberSet};
-use tdf_flat::low::base::Memory;
-use tdf_flat::low::expr::{Checked, Frame, Ports};
-use tdf_flat::low::fixed::Raw;
-use tdf_flat::low::wiring::{BlockRow, EventRow, ProcessRow, SignalRow};
+use tdf_base::Memory;
+use tdf_bind_connections::{BlockRow, EventRow, ProcessRow, SignalRow};
+use tdf_events_queue::{Lists, NumberSet};
+use tdf_expr::{Checked, Frame, Ports};
+use tdf_fixed::Raw;
 
 /// The starting values of signals.
 pub(crate) fn start_values(alloc: Global, signals: &[SignalRow]) -> Result<Vec<Raw>, Memory>

@@ -1,7 +1,7 @@
 //! Pending notifications: at most one for each event.
 
 use std::marker::Model;
-use tdf_calendar::{Calendar, NumberSet};
+use tdf_events_queue::{Calendar, NumberSet};
 
 /// The pending notifications. None of its calls but [`Notices::new`] takes memory.
 #[derive(Drop)]
@@ -22,20 +22,20 @@ impl Model for Notices {
 }
 
 ghost use Rattle.std.specs.Prelude.{◌≡◌, ◌<◌, ◌^◌, ℕ, IfOk, None, Some, false, if◌then◌else◌, length, map, replicate, slice_get};
-ghost use Rattle.tdf_calendar.specs.Lists.{list_at};
-ghost use Rattle.tdf_calendar.specs.Sets.{is_on};
-ghost use Rattle.tdf_calendar.specs.Times.{IsNextTime};
+ghost use Rattle.tdf_events_queue.specs.Lists.{list_at};
+ghost use Rattle.tdf_events_queue.specs.Sets.{is_on};
+ghost use Rattle.tdf_events_queue.specs.Times.{IsNextTime};
 ghost use Rattle.tdf_events.specs.Delta.{IsNoneBefore, is_due};
 ghost use Rattle.tdf_events.specs.machine.Due.{comes};
 ghost use Rattle.tdf_events.specs.machine.Updating.{AreAllReached};
 ghost use Rattle.tdf_events.specs.Notices.{noticed, noticed_after, noticed_first, time_after};
-ghost use Rattle.tdf_flat.specs.low.expr.Frames.{ArePortsFit};
+ghost use Rattle.tdf_expr.specs.Frames.{ArePortsFit};
 
 use crate::due::take_due;
 use std::alloc::Global;
-use tdf_calendar::{Lists, trigger_all};
-use tdf_flat::low::base::Memory;
-use tdf_flat::low::expr::Ports;
+use tdf_base::Memory;
+use tdf_events_queue::{Lists, trigger_all};
+use tdf_expr::Ports;
 
 /// The time after another one, at most the greatest.
 fn time_after(time: u64, after: u64) -> u64

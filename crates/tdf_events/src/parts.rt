@@ -2,9 +2,9 @@
 
 use crate::notices::Notices;
 use crate::waiting::Waiting;
-use tdf_calendar::{Lists, NumberSet};
-use tdf_flat::low::expr::{Frame, Ports};
-use tdf_flat::low::fixed::Raw;
+use tdf_events_queue::{Lists, NumberSet};
+use tdf_expr::{Frame, Ports};
+use tdf_fixed::Raw;
 
 /// What a kernel holds.
 #[derive(Drop)]

@@ -4,13 +4,13 @@ ghost use Rattle.std.specs.Prelude.{◌≡◌, ◌<◌, ℕ, Some, if◌then◌e
 ghost use Rattle.tdf_events.specs.Processes.{ports_before, sample_before};
 ghost use Rattle.tdf_events.specs.Side.{value_at};
 ghost use Rattle.tdf_events.specs.machine.Reading.{AreRead, CanRead, HasRun, with_samples};
-ghost use Rattle.tdf_flat.specs.low.expr.Frames.{ArePortsFit, IsOfFormat, is_written};
-ghost use Rattle.tdf_flat.specs.low.expr.Made.{AreMadeFor};
-ghost use Rattle.tdf_flat.specs.low.expr.declared.spans.PortSpan.{PortSpan as PortSpanOf};
+ghost use Rattle.tdf_expr.specs.Frames.{ArePortsFit, IsOfFormat, is_written};
+ghost use Rattle.tdf_expr.specs.Made.{AreMadeFor};
+ghost use Rattle.tdf_expr.specs.declared.spans.PortSpan.{PortSpan as PortSpanOf};
 
-use tdf_flat::low::expr::{Body, Checked, Frame, PortSpan, Ports, run_body};
-use tdf_flat::low::fixed::Raw;
-use tdf_flat::low::tree::PortKind;
+use tdf_expr::{Body, Checked, Frame, PortSpan, Ports, run_body};
+use tdf_fixed::Raw;
+use tdf_lang_tree::PortKind;
 
 /// The sample of a port before a process runs: the value of its signal, or 0 for one that processes write.
 #[tactic(auto, using(crate::proofs::Reading::zero_laws))]

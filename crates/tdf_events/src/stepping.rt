@@ -5,12 +5,12 @@ ghost use Rattle.tdf_events.specs.Delta.{stepped};
 ghost use Rattle.tdf_events.specs.Kernel.{IsKernelOf, side_of};
 ghost use Rattle.tdf_events.specs.Runnable.{IsRunnable};
 ghost use Rattle.tdf_events.specs.views.Parts.{kernel_of};
-ghost use Rattle.tdf_flat.specs.low.expr.Checked.{IsCheckedOf};
-ghost use Rattle.tdf_flat.specs.low.tree.Pure.{PureTree};
+ghost use Rattle.tdf_expr.specs.Checked.{IsCheckedOf};
+ghost use Rattle.tdf_lang_tree.specs.Pure.{PureTree};
 
 use crate::evaluating::evaluate;
 use crate::parts::Parts;
-use tdf_flat::Flat;
+use tdf_bind::Flat;
 
 /// One delta step: evaluation, update and delta notification.
 pub(crate) fn step(parts: &mut Parts, flat: &Flat, time: u64)

@@ -1,17 +1,17 @@
 //! Turns, and delta steps until no process is triggered.
 
 ghost use Rattle.std.specs.Prelude.{◌≡◌, ◌<◌, ◌≤◌, ◌+◌, ◌^◌, OnErr, OnOk, None, Some, length, nat_eq};
-ghost use Rattle.tdf_calendar.specs.Sets.{count_on};
+ghost use Rattle.tdf_events_queue.specs.Sets.{count_on};
 ghost use Rattle.tdf_events.specs.Delta.{is_idle, settled, turns_of};
 ghost use Rattle.tdf_events.specs.Kernel.{IsKernelOf, side_of};
 ghost use Rattle.tdf_events.specs.Runnable.{IsRunnable};
 ghost use Rattle.tdf_events.specs.views.Parts.{kernel_of};
-ghost use Rattle.tdf_flat.specs.low.expr.Checked.{IsCheckedOf};
-ghost use Rattle.tdf_flat.specs.low.tree.Pure.{PureTree};
+ghost use Rattle.tdf_expr.specs.Checked.{IsCheckedOf};
+ghost use Rattle.tdf_lang_tree.specs.Pure.{PureTree};
 
 use crate::parts::Parts;
 use crate::stepping::step;
-use tdf_flat::Flat;
+use tdf_bind::Flat;
 
 /// Turns of a run: one for each boundary, firing, process run and delta step.
 #[derive(Clone, Copy, Debug)]

@@ -1,12 +1,12 @@
 //! Update and delta notification.
 
 ghost use Rattle.std.specs.Prelude.{◌≡◌, ◌<◌, ℕ, Some, length, slice_get};
-ghost use Rattle.tdf_calendar.specs.Lists.{list_at};
+ghost use Rattle.tdf_events_queue.specs.Lists.{list_at};
 ghost use Rattle.tdf_events.specs.Delta.{differs};
 ghost use Rattle.tdf_events.specs.machine.Updating.{AreForgotten, AreReached, AreTaken, does_change};
 
-use tdf_calendar::{Lists, NumberSet, trigger};
-use tdf_flat::low::fixed::Raw;
+use tdf_events_queue::{Lists, NumberSet, trigger};
+use tdf_fixed::Raw;
 
 /// Whether a value that waits differs from the one of its signal.
 fn differs(value: Raw, waiting: Option<Raw>) -> bool

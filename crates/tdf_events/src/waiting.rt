@@ -1,8 +1,8 @@
 //! The values that wait for the next update.
 
 use std::marker::Model;
-use tdf_calendar::NumberSet;
-use tdf_flat::low::fixed::Raw;
+use tdf_events_queue::NumberSet;
+use tdf_fixed::Raw;
 
 /// By signal the value that waits for it, with a list of those signals. None of its calls but [`Waiting::new`] takes memory.
 #[derive(Drop)]
@@ -13,7 +13,7 @@ pub(crate) struct Waiting {
 
 impl Model for Waiting {
     ghost use Rattle.std.specs.Prelude.{List, Option, ◌≡◌, is_some, map};
-    ghost use Rattle.tdf_flat.specs.low.fixed.declared.raw.Raw.{Raw};
+    ghost use Rattle.tdf_fixed.specs.declared.raw.Raw.{Raw};
 
     ghost Value = { List (Option Raw) };
 
@@ -23,19 +23,19 @@ impl Model for Waiting {
 }
 
 ghost use Rattle.std.specs.Prelude.{◌≡◌, ◌<◌, ◌^◌, ℕ, IfOk, None, Some, length, map, replicate, slice_get, slice_set};
-ghost use Rattle.tdf_calendar.specs.Lists.{list_at};
+ghost use Rattle.tdf_events_queue.specs.Lists.{list_at};
 ghost use Rattle.tdf_convert.specs.declared.writes.SignalWrite.{SignalWrite as SignalWriteOf};
 ghost use Rattle.tdf_events.specs.Delta.{updated, waiting_with};
 ghost use Rattle.tdf_events.specs.Processes.{written, written_first, value_of_port};
 ghost use Rattle.tdf_events.specs.machine.Updating.{AreAllReached, does_change};
-ghost use Rattle.tdf_flat.specs.low.expr.declared.spans.PortSpan.{PortSpan as PortSpanOf};
+ghost use Rattle.tdf_expr.specs.declared.spans.PortSpan.{PortSpan as PortSpanOf};
 
 use crate::updating::{forget, take_values, trigger_changed};
 use std::alloc::Global;
-use tdf_calendar::Lists;
+use tdf_base::Memory;
 use tdf_convert::SignalWrite;
-use tdf_flat::low::base::Memory;
-use tdf_flat::low::expr::Ports;
+use tdf_events_queue::Lists;
+use tdf_expr::Ports;
 
 impl Waiting {
     /// Nothing waits, for signals below a bound.

@@ -1,44 +1,43 @@
 -- What the body of a module does, as the streams of its cluster say it.
-use Rattle.std.proofs.Common.{◌≡◌, ◌∙◌, ◌≢◌, ℕ, zero, suc, ◌+◌, ◌<◌, ◌&&◌, Bool, true, false, List, [], ◌∷◌, ◌++◌, Option, Some, None}
-use Rattle.std.proofs.Common.{if◌then◌else◌, nat_eq, length, take, refl, sym, ap, inl, inr, ◌⊎◌, arith}
+use Rattle.std.proofs.Common.{◌≡◌, ◌∙◌, ◌≢◌, ℕ, zero, suc, ◌+◌, ◌<◌, ◌&&◌, Bool, true, false, List, [], ◌∷◌, ◌++◌, Option, Some, None, if◌then◌else◌, nat_eq, length, take, refl, sym, ap, inl, inr, ◌⊎◌, arith}
 use Rattle.std.proofs.lemmas.Bool.{cases_eq, eq-eqb, eqb-true, and_parts, ne_eqb}
 use Rattle.std.proofs.lemmas.Option.{slice_get_within}
 use Rattle.std.specs.Prelude.{ℤ, slice_get, slice_index, slice_index_or}
-use Rattle.tdf_layout.specs.low.dynamic.Attributes.{attrs_at, rates_in}
+use Rattle.tdf_dynamic_plans.specs.Attributes.{attrs_at, rates_in}
 use Rattle.tdf_exec.proofs.Moved.{some_at, some_inj}
 use Rattle.tdf_exec.specs.Cluster.{ClusterOf}
 use Rattle.tdf_exec.specs.machine.Fired.{HasFired}
 use Rattle.tdf_exec.specs.Made.{IsModuleOf}
 use Rattle.tdf_exec.specs.Runners.{ModuleOf}
-use Rattle.tdf_layout.specs.low.expr.Blocks.{PureBlock, blocks_of, body_of}
-use Rattle.tdf_layout.specs.low.expr.Checked.{IsCheckedOf}
-use Rattle.tdf_layout.specs.low.expr.Compiled.{AreBlocksOf}
-use Rattle.tdf_layout.specs.low.expr.Made.{event_count, port_spans_of}
-use Rattle.tdf_layout.specs.low.expr.Runs.{scope_in}
-use Rattle.tdf_layout.specs.low.expr.declared.blocks.Block.{Block}
-use Rattle.tdf_layout.specs.low.expr.declared.bodies.Body.TheVariants as body
-use Rattle.tdf_layout.specs.low.expr.declared.spans.PortSpan.{PortSpan}
-use Rattle.tdf_layout.specs.low.firing.Activation.{port_samples, ports_before, sample_at, samples_from}
-use Rattle.tdf_layout.specs.low.firing.Firing.{read_on, samples_read, wire_of}
-use Rattle.tdf_layout.specs.low.firing.Wires.{AreWired, WiresOf}
-use Rattle.tdf_layout.specs.low.firing.declared.wires.InWire.{InWire}
-use Rattle.tdf_layout.specs.low.fixed.declared.raw.Raw.{Raw}
-use Rattle.tdf_layout.specs.low.flat.declared.model.Flat.{Flat}
-use Rattle.tdf_layout.specs.low.flow.Firing.{fronts}
-use Rattle.tdf_layout.specs.low.flow.Net.{Net, Period, Turn}
-use Rattle.tdf_layout.specs.Wiring.{AreWiresOf, Reads, port_at, port_of_row}
-use Rattle.tdf_layout.specs.low.bind.Flat.{FlatOf}
-use Rattle.tdf_layout.specs.low.meaning.Bodies.{after_body}
-use Rattle.tdf_layout.specs.low.rings.Carried.{ring_at}
-use Rattle.tdf_layout.specs.low.rings.Rings.{RingOf}
-use Rattle.tdf_layout.specs.low.scope.Names.{Names}
-use Rattle.tdf_layout.specs.low.state.State.{State, state_of}
-use Rattle.tdf_layout.specs.low.streams.Bodies.{acted, after_part, done_by, rates_of, written_by}
-use Rattle.tdf_layout.specs.low.streams.Periods.{PeriodInfo}
-use Rattle.tdf_layout.specs.low.streams.Places.{actor_kind, block_at, place_of_port, read_through, reader_at, reader_of_row}
-use Rattle.tdf_layout.specs.low.tree.Pure.{PureTree}
-use Rattle.tdf_layout.specs.low.wiring.declared.edges.EdgeRow.{EdgeRow}
-use Rattle.tdf_layout.specs.low.wiring.declared.modules.PortRow.{PortRow}
+use Rattle.tdf_expr.specs.Blocks.{PureBlock, blocks_of, body_of}
+use Rattle.tdf_expr.specs.Checked.{IsCheckedOf}
+use Rattle.tdf_expr.specs.Compiled.{AreBlocksOf}
+use Rattle.tdf_expr.specs.Made.{event_count, port_spans_of}
+use Rattle.tdf_expr.specs.Runs.{scope_in}
+use Rattle.tdf_expr.specs.declared.blocks.Block.{Block}
+use Rattle.tdf_expr.specs.declared.bodies.Body.TheVariants as body
+use Rattle.tdf_expr.specs.declared.spans.PortSpan.{PortSpan}
+use Rattle.tdf_exec_firing.specs.Activation.{port_samples, ports_before, sample_at, samples_from}
+use Rattle.tdf_exec_firing.specs.Firing.{read_on, samples_read, wire_of}
+use Rattle.tdf_exec_firing.specs.Wires.{AreWired, WiresOf}
+use Rattle.tdf_exec_firing.specs.declared.wires.InWire.{InWire}
+use Rattle.tdf_fixed.specs.declared.raw.Raw.{Raw}
+use Rattle.tdf_bind.specs.declared.model.Flat.{Flat}
+use Rattle.tdf_streams.specs.Firing.{fronts}
+use Rattle.tdf_streams.specs.Net.{Net, Period, Turn}
+use Rattle.tdf_exec_layout.specs.Wiring.{AreWiresOf, Reads, port_at, port_of_row}
+use Rattle.tdf_bind_tables.specs.FlatTables.{FlatTablesOf}
+use Rattle.tdf_expr_semantics.specs.Bodies.{after_body}
+use Rattle.tdf_rings.specs.Carried.{ring_at}
+use Rattle.tdf_rings.specs.Rings.{RingOf}
+use Rattle.tdf_expr_symbols.specs.Names.{Names}
+use Rattle.tdf_expr_state.specs.State.{State, state_of}
+use Rattle.tdf_streams.specs.Bodies.{acted, after_part, done_by, rates_of, written_by}
+use Rattle.tdf_streams.specs.Periods.{PeriodInfo}
+use Rattle.tdf_streams.specs.Places.{actor_kind, block_at, place_of_port, read_through, reader_at, reader_of_row}
+use Rattle.tdf_lang_tree.specs.Pure.{PureTree}
+use Rattle.tdf_bind_connections.specs.declared.edges.EdgeRow.{EdgeRow}
+use Rattle.tdf_bind_connections.specs.declared.modules.PortRow.{PortRow}
 
 -- a block that was checked is one of the model
 pub block_there : (globals : Names) (ps : List PureBlock) (bs : List Block) (n : ℕ) → AreBlocksOf globals ps bs → n < length bs → (p : PureBlock) × (slice_get ps n ≡ Some p)
@@ -119,7 +118,7 @@ unfolding fronts
 fronts_long net p m lists e zero = refl
 fronts_long net p m lists e (suc n) = ap suc (fronts_long net p m lists (e + 1) n)
 
-module _ (tables : FlatOf) (m : ℕ) (wires : WiresOf) (spans : List PortSpan) (are : AreWiresOf tables m wires) (wired : AreWired wires spans (length tables.edges))
+module _ (tables : FlatTablesOf) (m : ℕ) (wires : WiresOf) (spans : List PortSpan) (are : AreWiresOf tables m wires) (wired : AreWired wires spans (length tables.edges))
     (lists : List (List Raw)) (long : length lists ≡ length tables.edges) (reads : List ℕ) (rings : List RingOf)
     (fronts_are : (e : ℕ) → e < length tables.edges → reader_at tables.edges e ≡ m → slice_index_or lists e [] ≡ take (slice_index reads e) (ring_at rings e).samples) where
   -- an edge that passes the test is read, through the port at the place

@@ -2,11 +2,11 @@
 use Rattle.std.proofs.Common.{◌≡◌, ◌∙◌, ℕ, ◌<◌, List, Option, Some, None, option_map, length, refl, sym, ap, subst, arith}
 use Rattle.std.proofs.lemmas.Option.{get_or_from_slice_get, slice_get-map}
 use Rattle.std.specs.Prelude.{Contains, slice_get, slice_index}
-use Rattle.tdf_layout.specs.low.bind.Actors.{cluster_of}
+use Rattle.tdf_bind_tables.specs.Actors.{cluster_of}
 use Rattle.std.proofs.lemmas.List.{length-map}
-use Rattle.tdf_changes.specs.Given.{IsOfText, IsPlanned}
-use Rattle.tdf_layout.proofs.Api.{modules_few}
-use Rattle.tdf_layout.specs.low.dynamic.Attributes.{AttrsOf, IsOfCluster, clusters_of, rates_in}
+use Rattle.tdf_dynamic.specs.Given.{IsOfText, IsPlanned}
+use Rattle.tdf_dynamic_plans.proofs.Api.{modules_few}
+use Rattle.tdf_dynamic_plans.specs.Attributes.{AttrsOf, IsOfCluster, clusters_of, rates_in}
 use Rattle.tdf_exec.proofs.Ends.{module_kind, no_sampler, no_sink}
 use Rattle.tdf_exec.proofs.Formed.{row_found}
 use Rattle.tdf_exec.proofs.Rows.{all_at}
@@ -18,11 +18,10 @@ use Rattle.tdf_exec.specs.declared.runners.Runner.{Runner}
 use Rattle.tdf_exec.specs.declared.runners.Runner.TheVariants as runner
 use Rattle.tdf_exec.specs.machine.Laid.{IsLaid}
 use Rattle.tdf_exec.specs.machine.Moving.{AreInstances, AreModules, numbers_of}
-use Rattle.tdf_layout.specs.low.expr.Made.{AreMadeFor}
-use Rattle.tdf_layout.specs.low.flat.declared.model.Flat.{Flat}
-use Rattle.tdf_layout.proofs.Api.{get_inside, none_some, some_same}
-use Rattle.tdf_layout.proofs.Api.{is_wired}
-use Rattle.tdf_layout.specs.low.streams.Places.{actor_kind}
+use Rattle.tdf_expr.specs.Made.{AreMadeFor}
+use Rattle.tdf_bind.specs.declared.model.Flat.{Flat}
+use Rattle.tdf_streams.proofs.Api.{get_inside, none_some, some_same, is_wired}
+use Rattle.tdf_streams.specs.Places.{actor_kind}
 
 -- the row of a number
 pub row_of : (table : List AttrsOf) (i m : ℕ) → slice_get (numbers_of table) i ≡ Some m → (a : AttrsOf) × (slice_get table i ≡ Some a) × (a.number ≡ m)

@@ -1,6 +1,5 @@
 -- What the actors of a cluster keep at its start.
-use Rattle.std.proofs.Common.{◌≡◌, ◌∙◌, ℕ, ◌+◌, ◌-◌, ◌<◌, ◌≤◌, Bool, true, false, if◌then◌else◌, List, [], ◌∷◌, ◌++◌, Some, None, pos}
-use Rattle.std.proofs.Common.{length, length-append, length-set, take, refl, sym, ap, subst, inl, inr, ◌⊎◌, arith}
+use Rattle.std.proofs.Common.{◌≡◌, ◌∙◌, ℕ, ◌+◌, ◌-◌, ◌<◌, ◌≤◌, Bool, true, false, if◌then◌else◌, List, [], ◌∷◌, ◌++◌, Some, None, pos, length, length-append, length-set, take, refl, sym, ap, subst, inl, inr, ◌⊎◌, arith}
 use Rattle.std.proofs.Math.Seq.{take-append_seam, take-nil}
 use Rattle.std.proofs.lemmas.Bool.{cases_lt}
 use Rattle.std.proofs.lemmas.List.{length-replicate, replicate-append-replicate, take-append-le}
@@ -16,25 +15,25 @@ use Rattle.tdf_exec.specs.Made.{is_sampler, samplers_before}
 use Rattle.tdf_exec.specs.declared.runners.Runner.{Runner}
 use Rattle.tdf_exec.specs.declared.runners.TracedPort.{TracedPort}
 use Rattle.tdf_exec.specs.machine.Starting.{AreFirstRunners, CanBegin, IsBegun, IsFirstRunner}
-use Rattle.tdf_layout.specs.low.expr.Blocks.{PureBlock, blocks_of}
-use Rattle.tdf_layout.specs.low.expr.Checked.{IsCheckedOf}
-use Rattle.tdf_layout.specs.low.expr.Frames.{ArePortsFit, FrameSeen, KeepsRead, PortsSeen, sample_formats}
-use Rattle.tdf_layout.specs.low.expr.Made.{AreMadeFor, event_count, port_spans_of, start_cells, start_rates}
-use Rattle.tdf_layout.specs.low.expr.Plans.{written}
-use Rattle.tdf_layout.specs.low.expr.Runs.{Ran}
-use Rattle.tdf_layout.specs.low.expr.declared.bodies.Body.TheVariants.{Initialize}
-use Rattle.tdf_layout.specs.low.expr.declared.spans.PortSpan.{PortSpan}
-use Rattle.tdf_layout.specs.low.firing.Activation.{port_samples, ports_before, samples_from}
-use Rattle.tdf_layout.specs.low.firing.Firing.{BeginReady}
-use Rattle.tdf_layout.specs.low.firing.Wires.{WiresOf}
-use Rattle.tdf_layout.specs.low.flat.declared.model.Flat.{Flat}
-use Rattle.tdf_layout.proofs.Api.{get_high, get_low}
-use Rattle.tdf_layout.specs.declared.wiring.ActorWires.{ActorWires}
-use Rattle.tdf_layout.specs.low.state.State.{State, state_of}
-use Rattle.tdf_layout.specs.low.streams.Bodies.{after_part, done_by, initialized, nothing_read}
-use Rattle.tdf_layout.specs.low.streams.Places.{block_of_row}
-use Rattle.tdf_layout.specs.low.tree.Pure.{PureTree}
-use Rattle.tdf_layout.specs.low.wiring.declared.modules.ModuleRow.{ModuleRow}
+use Rattle.tdf_expr.specs.Blocks.{PureBlock, blocks_of}
+use Rattle.tdf_expr.specs.Checked.{IsCheckedOf}
+use Rattle.tdf_expr.specs.Frames.{ArePortsFit, FrameSeen, KeepsRead, PortsSeen, sample_formats}
+use Rattle.tdf_expr.specs.Made.{AreMadeFor, event_count, port_spans_of, start_cells, start_rates}
+use Rattle.tdf_expr.specs.Plans.{written}
+use Rattle.tdf_expr.specs.Runs.{Ran}
+use Rattle.tdf_expr.specs.declared.bodies.Body.TheVariants.{Initialize}
+use Rattle.tdf_expr.specs.declared.spans.PortSpan.{PortSpan}
+use Rattle.tdf_exec_firing.specs.Activation.{port_samples, ports_before, samples_from}
+use Rattle.tdf_exec_firing.specs.Firing.{BeginReady}
+use Rattle.tdf_exec_firing.specs.Wires.{WiresOf}
+use Rattle.tdf_bind.specs.declared.model.Flat.{Flat}
+use Rattle.tdf_streams.proofs.Api.{get_high, get_low}
+use Rattle.tdf_exec_layout.specs.declared.wiring.ActorWires.{ActorWires}
+use Rattle.tdf_expr_state.specs.State.{State, state_of}
+use Rattle.tdf_streams.specs.Bodies.{after_part, done_by, initialized, nothing_read}
+use Rattle.tdf_streams.specs.Places.{block_of_row}
+use Rattle.tdf_lang_tree.specs.Pure.{PureTree}
+use Rattle.tdf_bind_connections.specs.declared.modules.ModuleRow.{ModuleRow}
 
 -- ports that read nothing hold zeros
 nothing_there : (k : ℕ) (spans : List PortSpan) → samples_from nothing_read k spans ≡ replicate (length (sample_formats spans)) (pos 0)

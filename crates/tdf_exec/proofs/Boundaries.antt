@@ -1,9 +1,9 @@
 -- The two ends of a boundary: no module of the cluster has changes, or one has.
 use Rattle.std.proofs.Common.{◌≡◌, ◌∙◌, ℕ, ℤ, true, false, List, Some, None, refl, sym, ap, subst}
 use Rattle.std.specs.Prelude.{slice_get}
-use Rattle.tdf_changes.specs.Change.{IsChangeFault, IsSame, asks_of, table_after}
-use Rattle.tdf_layout.specs.low.base.declared.faults.Fault.{Fault}
-use Rattle.tdf_layout.specs.low.dynamic.Attributes.{AttrsOf}
+use Rattle.tdf_dynamic.specs.Change.{IsChangeFault, IsSame, asks_of, table_after}
+use Rattle.tdf_base.specs.declared.faults.Fault.{Fault}
+use Rattle.tdf_dynamic_plans.specs.Attributes.{AttrsOf}
 use Rattle.tdf_exec.proofs.Asks.{row_own}
 use Rattle.tdf_exec.proofs.Changing.{still_same, still_table}
 use Rattle.tdf_exec.proofs.Crosses.{crosses, of_crossed}
@@ -13,10 +13,10 @@ use Rattle.tdf_exec.specs.Cluster.{ClusterOf, next_offset}
 use Rattle.tdf_exec.specs.Crossing.{CrossesFrom, HasCrossed, HasNoChanges, at_place}
 use Rattle.tdf_exec.specs.Made.{IsClusterOf}
 use Rattle.tdf_exec.specs.machine.Laid.{IsLaid}
-use Rattle.tdf_layout.specs.low.flat.declared.model.Flat.{Flat}
-use Rattle.tdf_layout.specs.low.streams.Periods.{AreAttributes}
-use Rattle.tdf_layout.specs.low.streams.Places.{has_changes}
-use Rattle.tdf_layout.specs.low.tree.Pure.{PureTree}
+use Rattle.tdf_bind.specs.declared.model.Flat.{Flat}
+use Rattle.tdf_streams.specs.Periods.{AreAttributes}
+use Rattle.tdf_streams.specs.Places.{has_changes}
+use Rattle.tdf_lang_tree.specs.Pure.{PureTree}
 
 module _ (flat : Flat) (c : ClusterOf) (laid : IsLaid flat) (of : IsClusterOf flat c) (end : next_offset c ≡ None) where
   -- no row is that of a module with changes

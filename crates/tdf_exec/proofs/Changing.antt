@@ -1,19 +1,18 @@
 -- A cluster whose modules have been asked for changes.
-use Rattle.std.proofs.Common.{◌≡◌, ◌∙◌, ℕ, zero, suc, ◌+◌, Bool, true, false, if◌then◌else◌, nat_eq, List, [], ◌∷◌, ◌++◌, Option, Some, None, option_map, ℤ}
-use Rattle.std.proofs.Common.{length, map, refl, sym, ap, subst, arith, Result, Ok, Err, OnErr}
+use Rattle.std.proofs.Common.{◌≡◌, ◌∙◌, ℕ, zero, suc, ◌+◌, Bool, true, false, if◌then◌else◌, nat_eq, List, [], ◌∷◌, ◌++◌, Option, Some, None, option_map, ℤ, length, map, refl, sym, ap, subst, arith, Result, Ok, Err, OnErr}
 use Rattle.std.proofs.lemmas.Bool.{eqb-true}
 use Rattle.std.proofs.lemmas.List.{length-map}
 use Rattle.std.proofs.lemmas.Option.{slice_get-get_or, slice_get-map, slice_get_within}
 use Rattle.std.specs.List.{range_with_len}
 use Rattle.std.specs.Prelude.{All, IfOk, replicate, slice_get, slice_index, slice_index_or}
-use Rattle.tdf_changes.specs.Asked.{AskedOf, IsQuiet, asked, asked_in, attrs_after, nothing_asked, port_count, steps_after}
-use Rattle.tdf_changes.specs.Change.{Asks, IsSame, asks_of, table_after}
-use Rattle.tdf_changes.specs.Next.{HasChanged, IsNext}
-use Rattle.tdf_changes.specs.declared.frames.ModuleFrame.{ModuleFrame}
-use Rattle.tdf_changes.specs.declared.next.Next.{Next}
-use Rattle.tdf_changes.specs.declared.next.Next.TheVariants.{Changed, Same}
-use Rattle.tdf_layout.specs.low.dynamic.Attributes.{AttrsOf, attrs_at, clusters_of, rates_in}
-use Rattle.tdf_layout.specs.low.dynamic.declared.err.ChangeErr.{ChangeErr}
+use Rattle.tdf_dynamic.specs.Asked.{AskedOf, IsQuiet, asked, asked_in, attrs_after, nothing_asked, port_count, steps_after}
+use Rattle.tdf_dynamic.specs.Change.{Asks, IsSame, asks_of, table_after}
+use Rattle.tdf_dynamic.specs.Next.{HasChanged, IsNext}
+use Rattle.tdf_dynamic.specs.declared.frames.ModuleFrame.{ModuleFrame}
+use Rattle.tdf_dynamic.specs.declared.next.Next.{Next}
+use Rattle.tdf_dynamic.specs.declared.next.Next.TheVariants.{Changed, Same}
+use Rattle.tdf_dynamic_plans.specs.Attributes.{AttrsOf, attrs_at, clusters_of, rates_in}
+use Rattle.tdf_dynamic_plans.specs.declared.err.ChangeErr.{ChangeErr}
 use Rattle.tdf_exec.proofs.Asks.{modules_are}
 use Rattle.tdf_exec.proofs.Crosses.{turns_are}
 use Rattle.tdf_exec.proofs.Ends.{below_modules, module_kind, no_sink}
@@ -32,18 +31,18 @@ use Rattle.tdf_exec.specs.declared.runners.Runner.{Runner}
 use Rattle.tdf_exec.specs.declared.runners.Runner.TheVariants as runner
 use Rattle.tdf_exec.specs.machine.Laid.{IsLaid}
 use Rattle.tdf_exec.specs.machine.Moving.{HaveMoved, IsNone, numbers_of, rest_of, whole_of}
-use Rattle.tdf_layout.specs.low.expr.Checked.{IsCheckedOf}
-use Rattle.tdf_layout.specs.low.expr.Made.{AreMadeFor}
-use Rattle.tdf_layout.specs.low.expr.declared.bodies.Body.TheVariants as body
-use Rattle.tdf_layout.specs.low.expr.declared.spans.PortSpan.{PortSpan}
-use Rattle.tdf_layout.specs.low.firing.Wires.{AreWired}
-use Rattle.tdf_layout.specs.low.flat.declared.model.Flat.{Flat}
-use Rattle.tdf_layout.proofs.Api.{change_crosses, get_inside, none_some, some_same}
-use Rattle.tdf_layout.specs.low.streams.Bodies.{changed, done_by, nothing_read, rates_of}
-use Rattle.tdf_layout.specs.low.streams.Cluster.{cluster_net, is_outside, is_sampler_kind}
-use Rattle.tdf_layout.specs.low.streams.Periods.{AreAttributes, PeriodRecord}
-use Rattle.tdf_layout.specs.low.streams.Places.{actor_kind, block_at, changes_row, has_changes}
-use Rattle.tdf_layout.specs.low.tree.Pure.{PureTree}
+use Rattle.tdf_expr.specs.Checked.{IsCheckedOf}
+use Rattle.tdf_expr.specs.Made.{AreMadeFor}
+use Rattle.tdf_expr.specs.declared.bodies.Body.TheVariants as body
+use Rattle.tdf_expr.specs.declared.spans.PortSpan.{PortSpan}
+use Rattle.tdf_exec_firing.specs.Wires.{AreWired}
+use Rattle.tdf_bind.specs.declared.model.Flat.{Flat}
+use Rattle.tdf_streams.proofs.Api.{change_crosses, get_inside, none_some, some_same}
+use Rattle.tdf_streams.specs.Bodies.{changed, done_by, nothing_read, rates_of}
+use Rattle.tdf_streams.specs.Cluster.{cluster_net, is_outside, is_sampler_kind}
+use Rattle.tdf_streams.specs.Periods.{AreAttributes, PeriodRecord}
+use Rattle.tdf_streams.specs.Places.{actor_kind, block_at, changes_row, has_changes}
+use Rattle.tdf_lang_tree.specs.Pure.{PureTree}
 
 abbrev pub crossed_of : ClusterOf → List AttrsOf → List Runner → ClusterOf
 crossed_of c table runners = record c { table = table; crossed = true; runners = runners }

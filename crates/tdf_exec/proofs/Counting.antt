@@ -1,27 +1,26 @@
 -- What a plan gives to the next firing, and the samples held after it.
-use Rattle.std.proofs.Common.{◌≡◌, ◌∙◌, ◌≢◌, ℕ, ◌+◌, ◌-◌, ◌*◌, ◌<◌, ◌≤◌, Bool, true, false, List, [], ◌++◌, Some}
-use Rattle.std.proofs.Common.{if◌then◌else◌, nat_eq, length, drop, sym, ap, subst, inl, inr, arith, length-append, length-drop}
+use Rattle.std.proofs.Common.{◌≡◌, ◌∙◌, ◌≢◌, ℕ, ◌+◌, ◌-◌, ◌*◌, ◌<◌, ◌≤◌, Bool, true, false, List, [], ◌++◌, Some, if◌then◌else◌, nat_eq, length, drop, sym, ap, subst, inl, inr, arith, length-append, length-drop}
 use Rattle.std.proofs.lemmas.Bool.{cases_eq, eq-eqb, ne_eqb}
 use Rattle.std.proofs.lemmas.List.Elements.{All-append, All-drop, All-nil}
 use Rattle.std.proofs.lemmas.List.Sums.{count_by_more_yes, count_by_more_no}
 use Rattle.std.proofs.lemmas.Option.{get_or_from_slice_get, slice_get_within}
 use Rattle.std.specs.List.{All}
 use Rattle.std.specs.Prelude.{slice_get, slice_index}
-use Rattle.tdf_layout.specs.low.bind.Flat.{FlatOf}
+use Rattle.tdf_bind_tables.specs.FlatTables.{FlatTablesOf}
 use Rattle.tdf_exec.specs.Cluster.{ClusterOf}
 use Rattle.tdf_exec.specs.Made.{AreHeld, IsSafe}
-use Rattle.tdf_layout.specs.Samples.{edge_format}
+use Rattle.tdf_exec_layout.specs.Samples.{edge_format}
 use Rattle.tdf_exec.specs.declared.runners.Runner.{Runner}
 use Rattle.tdf_exec.specs.machine.Steps.{AreMovedBy, kept, with_parts}
-use Rattle.tdf_layout.specs.low.expr.Frames.{IsOfFormat}
-use Rattle.tdf_layout.specs.low.fixed.declared.format.Format.{Format}
-use Rattle.tdf_layout.specs.low.fixed.declared.raw.Raw.{Raw}
-use Rattle.tdf_layout.specs.low.rings.Carried.{ring_at}
-use Rattle.tdf_layout.specs.low.rings.Rings.{RingOf}
-use Rattle.tdf_layout.specs.low.schedule.Plan.{done}
-use Rattle.tdf_layout.specs.low.schedule.declared.entry.Entry.{Entry}
-use Rattle.tdf_layout.specs.low.streams.Places.{reader_at, writer_at}
-use Rattle.tdf_layout.specs.low.streams.Starts.{held_at_head}
+use Rattle.tdf_expr.specs.Frames.{IsOfFormat}
+use Rattle.tdf_fixed.specs.declared.format.Format.{Format}
+use Rattle.tdf_fixed.specs.declared.raw.Raw.{Raw}
+use Rattle.tdf_rings.specs.Carried.{ring_at}
+use Rattle.tdf_rings.specs.Rings.{RingOf}
+use Rattle.tdf_schedule.specs.Plan.{done}
+use Rattle.tdf_schedule.specs.declared.entry.Entry.{Entry}
+use Rattle.tdf_streams.specs.Places.{reader_at, writer_at}
+use Rattle.tdf_streams.specs.Starts.{held_at_head}
 
 more : (a b : ℕ) → (a + 1) * b ≡ a * b + b
 more a b = grind arith
@@ -38,7 +37,7 @@ module _ (entries : List Entry) (i : ℕ) (x : Entry) (at : slice_get entries i 
   done_other m other = count_by_more_no (λ (y : Entry). nat_eq y.actor m) entries i x (slice_get_within entries i x at)
       (ne_eqb _ m (λ e. other (sym (ap (λ (y : Entry). y.actor) (get_or_from_slice_get entries i x x at)) ∙ e)))
 
-module _ (tables : FlatOf) (c : ClusterOf) (safe : IsSafe tables c) (x : Entry) (at : slice_get c.entries c.place ≡ Some x) (held : AreHeld tables c)
+module _ (tables : FlatTablesOf) (c : ClusterOf) (safe : IsSafe tables c) (x : Entry) (at : slice_get c.entries c.place ≡ Some x) (held : AreHeld tables c)
     (e : ℕ) (inside : e < length tables.edges) where
   pub present_now : reader_at tables.edges e ≡ x.actor → slice_index c.reads e ≤ length (ring_at c.rings e).samples
   present_now reads =
@@ -128,7 +127,7 @@ module _ (tables : FlatOf) (c : ClusterOf) (safe : IsSafe tables c) (x : Entry) 
         | inr apart ↦ subst (λ b. All (IsOfFormat f) (if b then given e else [])) (sym (ne_eqb _ _ apart)) (All-nil (IsOfFormat f))
       ]
 
-pub held_after : (tables : FlatOf) (c : ClusterOf) (x : Entry) (given : ℕ → List Raw) (new : List RingOf) (runners : List Runner) (positions : List ℕ)
+pub held_after : (tables : FlatTablesOf) (c : ClusterOf) (x : Entry) (given : ℕ → List Raw) (new : List RingOf) (runners : List Runner) (positions : List ℕ)
     → IsSafe tables c → slice_get c.entries c.place ≡ Some x → AreHeld tables c → AreMovedBy tables c x.actor given new
     → AreHeld tables (with_parts c (c.place + 1) new runners positions)
 unfolding after

@@ -8,7 +8,7 @@ use Rattle.std.specs.List.Sorted.{IsPartitionPoint}
 use Rattle.std.specs.List.{count_by}
 use Rattle.std.specs.Prelude.{cond, slice_get}
 use Rattle.tdf_exec.specs.Cluster.{due_from}
-use Rattle.tdf_layout.specs.low.schedule.declared.entry.Entry.{Entry}
+use Rattle.tdf_schedule.specs.declared.entry.Entry.{Entry}
 
 -- what halving finds in a plan
 module _ (offset : ℕ) (entries : List Entry) (i : ℕ) where

@@ -1,13 +1,12 @@
 -- A cluster at another place of its plan, and at the end of a period.
-use Rattle.std.proofs.Common.{◌≡◌, ◌∙◌, ℕ, ◌+◌, ◌*◌, ◌<◌, ◌≤◌, Bool, true, false, if◌then◌else◌, nat_eq, List, [], ◌∷◌, ◌++◌, None, ℤ}
-use Rattle.std.proofs.Common.{length, refl, sym, ap, inl, inr, ◌⊎◌, arith}
+use Rattle.std.proofs.Common.{◌≡◌, ◌∙◌, ℕ, ◌+◌, ◌*◌, ◌<◌, ◌≤◌, Bool, true, false, if◌then◌else◌, nat_eq, List, [], ◌∷◌, ◌++◌, None, ℤ, length, refl, sym, ap, inl, inr, ◌⊎◌, arith}
 use Rattle.std.proofs.lemmas.Bool.{cases_lt, eqb-true, ne_eqb}
 use Rattle.std.proofs.lemmas.List.{get_or_past, length-map}
 use Rattle.std.proofs.lemmas.List.FromFn.{length-map-range_with_len}
 use Rattle.std.proofs.lemmas.Option.{get_or_from_slice_get, slice_get_past}
 use Rattle.std.specs.List.{range_with_len}
 use Rattle.std.specs.Prelude.{slice_get, slice_index}
-use Rattle.tdf_layout.specs.low.dynamic.Attributes.{AttrsOf, clusters_of}
+use Rattle.tdf_dynamic_plans.specs.Attributes.{AttrsOf, clusters_of}
 use Rattle.tdf_exec.proofs.Kept.{false_true, neither, not_not, zero_in}
 use Rattle.tdf_exec.proofs.Planned.{no_times, none_before}
 use Rattle.tdf_exec.specs.Cluster.{ClusterOf, next_offset, offset_in}
@@ -16,25 +15,24 @@ use Rattle.tdf_exec.specs.Made.{AreHeld, IsClusterWith, IsRunnerWith}
 use Rattle.tdf_exec.specs.Played.{IsPeriodOf, cells_of, play_of, turns_from}
 use Rattle.tdf_exec.specs.declared.runners.Runner.{Runner}
 use Rattle.tdf_exec.specs.declared.runners.Runner.TheVariants as runner
-use Rattle.tdf_layout.specs.low.flat.declared.model.Flat.{Flat}
-use Rattle.tdf_layout.proofs.Api.{change_crosses, install_stands, get_inside, get_made_at, none_some}
-use Rattle.tdf_layout.specs.low.schedule.Plan.{done}
-use Rattle.tdf_layout.specs.low.schedule.declared.entry.Entry.{Entry}
-use Rattle.tdf_layout.specs.low.streams.Bodies.{changed, done_by, nothing_read, rates_of}
-use Rattle.tdf_layout.specs.low.streams.Cluster.{cluster_net, is_outside, is_sampler_kind}
-use Rattle.tdf_layout.specs.low.streams.Periods.{PeriodRecord, period_record}
-use Rattle.tdf_layout.specs.low.streams.Places.{actor_kind, changes_row, has_changes, reader_at, writer_at}
-use Rattle.tdf_layout.specs.low.expr.declared.bodies.Body.TheVariants as body
-use Rattle.tdf_layout.specs.low.dynamic.Faults.{pace_in}
-use Rattle.tdf_layout.specs.low.dynamic.Rates.{net_of}
+use Rattle.tdf_bind.specs.declared.model.Flat.{Flat}
+use Rattle.tdf_streams.proofs.Api.{change_crosses, install_stands, get_inside, get_made_at, none_some, are_active, record_present, table_record, whole_sound}
+use Rattle.tdf_schedule.specs.Plan.{done}
+use Rattle.tdf_schedule.specs.declared.entry.Entry.{Entry}
+use Rattle.tdf_streams.specs.Bodies.{changed, done_by, nothing_read, rates_of}
+use Rattle.tdf_streams.specs.Cluster.{cluster_net, is_outside, is_sampler_kind}
+use Rattle.tdf_streams.specs.Periods.{PeriodRecord, period_record}
+use Rattle.tdf_streams.specs.Places.{actor_kind, changes_row, has_changes, reader_at, writer_at}
+use Rattle.tdf_expr.specs.declared.bodies.Body.TheVariants as body
+use Rattle.tdf_dynamic_plans.specs.Faults.{pace_in}
+use Rattle.tdf_dynamic_plans.specs.Rates.{net_of}
 use Rattle.tdf_exec.specs.Starts.{IsSoundFlat}
-use Rattle.tdf_layout.specs.low.limits.Limits.{AreWithinLimits}
-use Rattle.tdf_layout.specs.low.rings.Carried.{ring_at}
-use Rattle.tdf_layout.specs.low.schedule.Laws.{PlansArePresent}
-use Rattle.tdf_layout.proofs.Api.{are_active, record_present, table_record, whole_sound}
-use Rattle.tdf_layout.specs.low.streams.Laws.{HasRecord}
-use Rattle.tdf_layout.specs.low.streams.Starts.{held_at_head}
-use Rattle.tdf_layout.specs.low.tree.Pure.{PureTree}
+use Rattle.tdf_bind_invariants.specs.Limits.{AreWithinLimits}
+use Rattle.tdf_rings.specs.Carried.{ring_at}
+use Rattle.tdf_schedule.specs.Laws.{PlansArePresent}
+use Rattle.tdf_streams.specs.Laws.{HasRecord}
+use Rattle.tdf_streams.specs.Starts.{held_at_head}
+use Rattle.tdf_lang_tree.specs.Pure.{PureTree}
 
 -- what is kept for an actor doesn't ask where the cluster is in its period
 kept_at : (flat : Flat) (held : List AttrsOf) (c : ClusterOf) (place : ℕ) (crossed : Bool) (m : ℕ) (r : Runner) → IsRunnerWith flat held c m r → IsRunnerWith flat held (at_place c place crossed) m r

@@ -4,17 +4,17 @@ use Rattle.std.proofs.lemmas.List.{take_all}
 use Rattle.std.proofs.lemmas.Option.{slice_get-map, slice_get_past}
 use Rattle.std.proofs.lemmas.Simd.{map-map}
 use Rattle.std.specs.Prelude.{slice_get, slice_index}
-use Rattle.tdf_layout.specs.low.bind.Flat.{FlatOf}
-use Rattle.tdf_layout.specs.low.dynamic.Attributes.{AttrsOf}
-use Rattle.tdf_layout.specs.low.dynamic.Rates.{edge_kind, net_of, net_ports, port_rate, rated_edge, rated_port, read_rate_by, write_rate_by}
-use Rattle.tdf_layout.specs.low.graph.declared.actors.Edge.{Edge}
+use Rattle.tdf_bind_tables.specs.FlatTables.{FlatTablesOf}
+use Rattle.tdf_dynamic_plans.specs.Attributes.{AttrsOf}
+use Rattle.tdf_dynamic_plans.specs.Rates.{edge_kind, net_of, net_ports, port_rate, rated_edge, rated_port, read_rate_by, write_rate_by}
+use Rattle.tdf_graph.specs.declared.actors.Edge.{Edge}
 use Rattle.tdf_exec.proofs.Rows.{index_at}
-use Rattle.tdf_layout.specs.low.streams.Periods.{read_rates, write_rates}
-use Rattle.tdf_layout.specs.low.timestep.Period.{rate_at, rate_of}
-use Rattle.tdf_layout.specs.low.wiring.declared.edges.EdgeRow.{EdgeRow}
-use Rattle.tdf_layout.specs.low.wiring.declared.modules.PortRow.{PortRow}
+use Rattle.tdf_streams.specs.Periods.{read_rates, write_rates}
+use Rattle.tdf_timestep.specs.Period.{rate_at, rate_of}
+use Rattle.tdf_bind_connections.specs.declared.edges.EdgeRow.{EdgeRow}
+use Rattle.tdf_bind_connections.specs.declared.modules.PortRow.{PortRow}
 
-module _ (tables : FlatOf) (table : List AttrsOf) where
+module _ (tables : FlatTablesOf) (table : List AttrsOf) where
   -- the rate of a port, and of one that isn't there
   pub rate_there : (n : ℕ) (row : PortRow) → slice_get tables.ports n ≡ Some row → rate_of (net_ports tables table) (Some n) ≡ port_rate table row
   unfolding net_ports

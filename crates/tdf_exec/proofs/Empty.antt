@@ -1,21 +1,21 @@
 -- A body that begins with no variables leaves none: so nothing is said of an actor that is no module.
 use Rattle.std.proofs.Common.{◌≡◌, ℕ, zero, suc, ◌+◌, ◌-◌, Bool, true, false, List, [], ◌∷◌, ◌++◌, Option, Some, None, refl, ap, ℤ, pos, negsuc, if◌then◌else◌}
 use Rattle.std.specs.Prelude.{slice_get, slice_set}
-use Rattle.tdf_layout.specs.low.expr.Blocks.{PureBlock, blocks_of, body_of}
-use Rattle.tdf_layout.specs.low.expr.Runs.{scope_in}
-use Rattle.tdf_layout.specs.low.expr.declared.bodies.Body.{Body}
-use Rattle.tdf_layout.specs.low.fixed.declared.raw.Raw.{Raw}
-use Rattle.tdf_layout.specs.low.flat.declared.model.Flat.{Flat}
-use Rattle.tdf_layout.specs.low.meaning.Bodies.{after, after_all, assigned_at, limit_value, noticed_at, rate_set, repeated, stepped, stepped_at, target_index, whole_within, with_element, with_whole}
-use Rattle.tdf_layout.specs.low.meaning.Places.{first_cell, rate_number}
-use Rattle.tdf_layout.specs.low.meaning.Value.{cast_number, holds, value}
-use Rattle.tdf_layout.specs.low.scope.Faults.{opened}
-use Rattle.tdf_layout.specs.low.scope.Names.{Array, Composite, Const, De, DeSignal, Event, Instance, Loop, Names, Port, RateVar, Signal, Tdf, Thing, TypeName, Var, place_of, thing_of}
-use Rattle.tdf_layout.specs.low.scope.Scope.{OpenLoop, Scope}
-use Rattle.tdf_layout.specs.low.state.State.{State}
-use Rattle.tdf_layout.specs.low.streams.Bodies.{after_part, done_by}
-use Rattle.tdf_layout.specs.low.streams.Places.{block_at}
-use Rattle.tdf_layout.specs.low.tree.Pure.{Done, More, PureStmt, PureStmts, PureTree, SAccept, SAssign, SFor, SIf, SNotify, SReject, SSetRate, SSetStep}
+use Rattle.tdf_expr.specs.Blocks.{PureBlock, blocks_of, body_of}
+use Rattle.tdf_expr.specs.Runs.{scope_in}
+use Rattle.tdf_expr.specs.declared.bodies.Body.{Body}
+use Rattle.tdf_fixed.specs.declared.raw.Raw.{Raw}
+use Rattle.tdf_bind.specs.declared.model.Flat.{Flat}
+use Rattle.tdf_expr_semantics.specs.Bodies.{after, after_all, assigned_at, limit_value, noticed_at, rate_set, repeated, stepped, stepped_at, target_index, whole_within, with_element, with_whole}
+use Rattle.tdf_expr_semantics.specs.Places.{first_cell, rate_number}
+use Rattle.tdf_expr_semantics.specs.Value.{cast_number, holds, value}
+use Rattle.tdf_expr_symbols.specs.Faults.{opened}
+use Rattle.tdf_expr_symbols.specs.Names.{Array, Composite, Const, De, DeSignal, Event, Instance, Loop, Names, Port, RateVar, Signal, Tdf, Thing, TypeName, Var, place_of, thing_of}
+use Rattle.tdf_expr_symbols.specs.Scope.{OpenLoop, Scope}
+use Rattle.tdf_expr_state.specs.State.{State}
+use Rattle.tdf_streams.specs.Bodies.{after_part, done_by}
+use Rattle.tdf_streams.specs.Places.{block_at}
+use Rattle.tdf_lang_tree.specs.Pure.{Done, More, PureStmt, PureStmts, PureTree, SAccept, SAssign, SFor, SIf, SNotify, SReject, SSetRate, SSetStep}
 
 -- no variables are there
 abbrev Bare : State → Type 0

@@ -5,25 +5,25 @@ use Rattle.std.proofs.lemmas.List.FromFn.{length-map-range_with_len}
 use Rattle.std.proofs.lemmas.Option.{slice_get-map}
 use Rattle.std.specs.List.{cons_option, enumerate_from, range_with_len}
 use Rattle.std.specs.Prelude.{filter_map, slice_get}
-use Rattle.tdf_layout.specs.low.bind.Actors.{actor_of_kind, actor_places, module_actor, place_of, port_actor}
-use Rattle.tdf_layout.specs.low.bind.declared.actors.ActorPlace.{ActorPlace}
-use Rattle.tdf_layout.specs.low.bind.declared.actors.ActorRow.{ActorRow}
-use Rattle.tdf_layout.specs.low.dynamic.Attributes.{AttrsOf}
-use Rattle.tdf_layout.specs.low.dynamic.Rates.{kind_of, net_ports, port_rate, read_rate_by, write_rate_by}
+use Rattle.tdf_bind_tables.specs.Actors.{actor_of_kind, actor_places, module_actor, place_of, port_actor}
+use Rattle.tdf_bind_tables.specs.declared.actors.ActorPlace.{ActorPlace}
+use Rattle.tdf_bind_tables.specs.declared.actors.ActorRow.{ActorRow}
+use Rattle.tdf_dynamic_plans.specs.Attributes.{AttrsOf}
+use Rattle.tdf_dynamic_plans.specs.Rates.{kind_of, net_ports, port_rate, read_rate_by, write_rate_by}
 use Rattle.tdf_exec.proofs.EdgeRates.{edge_reads, edge_writes, rate_there}
 use Rattle.tdf_exec.proofs.Rows.{all_at}
 use Rattle.tdf_exec.specs.machine.Laid.{IsLaid}
-use Rattle.tdf_layout.specs.low.flat.declared.model.Flat.{Flat}
-use Rattle.tdf_layout.proofs.Api.{get_high, get_low, get_made_at, none_some, some_same}
-use Rattle.tdf_layout.specs.low.graph.declared.actors.Actor.{Actor}
-use Rattle.tdf_layout.specs.low.graph.declared.actors.Actor.TheVariants as actor
-use Rattle.tdf_layout.specs.Edges.{IsEdgeRow}
-use Rattle.tdf_layout.specs.low.streams.Places.{actor_kind, driver_or, kind_of_row}
-use Rattle.tdf_layout.specs.low.timestep.Period.{rate_of}
-use Rattle.tdf_layout.specs.low.tree.declared.blocks.PortKind.{PortKind}
-use Rattle.tdf_layout.specs.low.tree.declared.blocks.PortKind.TheVariants.{In, Out, DeIn, DeOut}
-use Rattle.tdf_layout.specs.low.wiring.declared.edges.EdgeRow.{EdgeRow}
-use Rattle.tdf_layout.specs.low.wiring.declared.modules.PortRow.{PortRow}
+use Rattle.tdf_bind.specs.declared.model.Flat.{Flat}
+use Rattle.tdf_streams.proofs.Api.{get_high, get_low, get_made_at, none_some, some_same}
+use Rattle.tdf_graph.specs.declared.actors.Actor.{Actor}
+use Rattle.tdf_graph.specs.declared.actors.Actor.TheVariants as actor
+use Rattle.tdf_exec_layout.specs.Edges.{IsEdgeRow}
+use Rattle.tdf_streams.specs.Places.{actor_kind, driver_or, kind_of_row}
+use Rattle.tdf_timestep.specs.Period.{rate_of}
+use Rattle.tdf_lang_tree.specs.declared.blocks.PortKind.{PortKind}
+use Rattle.tdf_lang_tree.specs.declared.blocks.PortKind.TheVariants.{In, Out, DeIn, DeOut}
+use Rattle.tdf_bind_connections.specs.declared.edges.EdgeRow.{EdgeRow}
+use Rattle.tdf_bind_connections.specs.declared.modules.PortRow.{PortRow}
 
 abbrev pub kind_tag : Option Actor → ℕ
 kind_tag None = 0

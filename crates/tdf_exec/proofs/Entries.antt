@@ -4,10 +4,10 @@ use Rattle.std.proofs.lemmas.Bool.{cases_eq, cases_lt, eq-eqb, ne_eqb, lt-ltb}
 use Rattle.std.proofs.lemmas.List.Sums.{sum_by-cons}
 use Rattle.std.specs.List.{count_by}
 use Rattle.std.specs.Prelude.{◌&&◌, cond, if◌then◌else◌, slice_get, slice_index}
-use Rattle.tdf_layout.proofs.Api.{entry_active}
-use Rattle.tdf_layout.specs.low.graph.declared.actors.Edge.{Edge}
-use Rattle.tdf_layout.specs.low.schedule.Plan.{IsPlan, is_firing}
-use Rattle.tdf_layout.specs.low.schedule.declared.entry.Entry.{Entry}
+use Rattle.tdf_streams.proofs.Api.{entry_active}
+use Rattle.tdf_graph.specs.declared.actors.Edge.{Edge}
+use Rattle.tdf_schedule.specs.Plan.{IsPlan, is_firing}
+use Rattle.tdf_schedule.specs.declared.entry.Entry.{Entry}
 
 abbrev weight : Bool → ℕ
 weight b = cond b 1 0

@@ -1,36 +1,35 @@
 -- All edges of a cluster together hold few samples: no more than are there at first, and than its ports move in a period.
-use Rattle.std.proofs.Common.{◌≡◌, ◌∙◌, ℕ, ◌+◌, ◌*◌, ◌<◌, ◌≤◌, Bool, List, [], Some, option_map}
-use Rattle.std.proofs.Common.{length, map, nat_eq, if◌then◌else◌, sym, ap, subst, inl, inr, arith, mul-le-mul_right}
+use Rattle.std.proofs.Common.{◌≡◌, ◌∙◌, ℕ, ◌+◌, ◌*◌, ◌<◌, ◌≤◌, Bool, List, [], Some, option_map, length, map, nat_eq, if◌then◌else◌, sym, ap, subst, inl, inr, arith, mul-le-mul_right}
 use Rattle.std.proofs.lemmas.Bool.{cases_eq, eq-eqb, ne_eqb}
 use Rattle.std.proofs.lemmas.List.{length-map}
 use Rattle.std.proofs.lemmas.List.Sums.{sum-map, sum_by-take-le}
 use Rattle.std.proofs.lemmas.Option.{get_or_from_slice_get, slice_get-map, slice_get_within}
 use Rattle.std.specs.Prelude.{cond, slice_get, slice_index, sum_by}
-use Rattle.tdf_layout.specs.low.bind.Actors.{cluster_of}
-use Rattle.tdf_layout.specs.low.dynamic.Attributes.{clusters_of}
-use Rattle.tdf_layout.specs.low.dynamic.Rates.{NetOf, net_of, net_ports, port_rate, rated_edge}
+use Rattle.tdf_bind_tables.specs.Actors.{cluster_of}
+use Rattle.tdf_dynamic_plans.specs.Attributes.{clusters_of}
+use Rattle.tdf_dynamic_plans.specs.Rates.{NetOf, net_of, net_ports, port_rate, rated_edge}
 use Rattle.tdf_exec.specs.Cluster.{ClusterOf}
 use Rattle.tdf_exec.specs.Laws.{ClustersHoldFew, samples_held}
 use Rattle.tdf_exec.specs.Made.{IsClusterOf}
-use Rattle.tdf_layout.specs.low.flat.Flat.{IsFlatOf}
-use Rattle.tdf_layout.specs.low.flat.declared.model.Flat.{Flat}
-use Rattle.tdf_layout.specs.low.graph.Counts.{AreCounts}
-use Rattle.tdf_layout.specs.low.graph.declared.actors.Edge.{Edge}
+use Rattle.tdf_bind.specs.Flat.{IsFlatOf}
+use Rattle.tdf_bind.specs.declared.model.Flat.{Flat}
+use Rattle.tdf_graph.specs.Counts.{AreCounts}
+use Rattle.tdf_graph.specs.declared.actors.Edge.{Edge}
 use Rattle.tdf_exec.proofs.Sums.{all_keys, by_key, once, over_map, pair_sums}
 use Rattle.tdf_exec.proofs.Traffic.{counts_in, entries_of, moved_in, within}
 use Rattle.tdf_exec.proofs.EdgeRates.{edge_reads, edge_writes, reads_at, writes_at}
 use Rattle.tdf_exec.proofs.Rows.{all_at, index_at}
-use Rattle.tdf_layout.specs.Edges.{EdgesAreRows, IsEdgeRow, PortsGiveOnce}
-use Rattle.tdf_layout.specs.Rates.{PortsSetRates, SamplersPutOne, SinksTakeOne}
-use Rattle.tdf_layout.specs.low.limits.Limits.{AreWithinLimits}
-use Rattle.tdf_layout.specs.low.rings.Rings.{RingOf, ring_of}
-use Rattle.tdf_layout.specs.low.schedule.Plan.{done}
-use Rattle.tdf_layout.specs.low.schedule.declared.entry.Entry.{Entry}
-use Rattle.tdf_layout.specs.low.streams.Places.{writer_at, writer_of_row}
-use Rattle.tdf_layout.specs.low.streams.Starts.{held_at_head, initial_of_row}
-use Rattle.tdf_layout.specs.low.tree.Pure.{PureTree}
-use Rattle.tdf_layout.specs.low.wiring.declared.edges.EdgeRow.{EdgeRow}
-use Rattle.tdf_layout.specs.low.wiring.declared.modules.PortRow.{PortRow}
+use Rattle.tdf_exec_layout.specs.Edges.{EdgesAreRows, IsEdgeRow, PortsGiveOnce}
+use Rattle.tdf_exec_layout.specs.Rates.{PortsSetRates, SamplersPutOne, SinksTakeOne}
+use Rattle.tdf_bind_invariants.specs.Limits.{AreWithinLimits}
+use Rattle.tdf_rings.specs.Rings.{RingOf, ring_of}
+use Rattle.tdf_schedule.specs.Plan.{done}
+use Rattle.tdf_schedule.specs.declared.entry.Entry.{Entry}
+use Rattle.tdf_streams.specs.Places.{writer_at, writer_of_row}
+use Rattle.tdf_streams.specs.Starts.{held_at_head, initial_of_row}
+use Rattle.tdf_lang_tree.specs.Pure.{PureTree}
+use Rattle.tdf_bind_connections.specs.declared.edges.EdgeRow.{EdgeRow}
+use Rattle.tdf_bind_connections.specs.declared.modules.PortRow.{PortRow}
 
 module _ (rows : EdgesAreRows) (given_once : PortsGiveOnce) (between : PortsSetRates) (from : SamplersPutOne) (to : SinksTakeOne)
     (model : PureTree) (flat : Flat) (c : ClusterOf) (is : IsFlatOf model flat) (limits : AreWithinLimits flat) (of : IsClusterOf flat c) where

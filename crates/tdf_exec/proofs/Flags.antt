@@ -1,26 +1,25 @@
 -- Tables that differ in their flags alone: nets, plans and rates are the same.
-use Rattle.std.proofs.Common.{◌≡◌, ◌∙◌, ℕ, suc, Bool, true, false, if◌then◌else◌, nat_eq, List, [], ◌∷◌, ◌++◌, Option, Some, None}
-use Rattle.std.proofs.Common.{length, map, refl, sym, ap, subst, arith}
+use Rattle.std.proofs.Common.{◌≡◌, ◌∙◌, ℕ, suc, Bool, true, false, if◌then◌else◌, nat_eq, List, [], ◌∷◌, ◌++◌, Option, Some, None, length, map, refl, sym, ap, subst, arith}
 use Rattle.std.specs.List.{flat_map}
 use Rattle.std.specs.Prelude.{slice_get}
-use Rattle.tdf_layout.specs.low.bind.Flat.{FlatOf}
-use Rattle.tdf_layout.specs.low.dynamic.Assignments.{assigned_by, assignments}
-use Rattle.tdf_layout.specs.low.dynamic.Attributes.{AttrsOf, attrs_at, rates_in}
-use Rattle.tdf_layout.specs.low.dynamic.Faults.{HasCountsOf, IsPlanOf, IsTablePlan}
-use Rattle.tdf_layout.specs.low.dynamic.Rates.{NetOf, net_of, net_ports, port_rate, rate_by, rated_edge, rated_port}
+use Rattle.tdf_bind_tables.specs.FlatTables.{FlatTablesOf}
+use Rattle.tdf_dynamic_plans.specs.Assignments.{assigned_by, assignments}
+use Rattle.tdf_dynamic_plans.specs.Attributes.{AttrsOf, attrs_at, rates_in}
+use Rattle.tdf_dynamic_plans.specs.Faults.{HasCountsOf, IsPlanOf, IsTablePlan}
+use Rattle.tdf_dynamic_plans.specs.Rates.{NetOf, net_of, net_ports, port_rate, rate_by, rated_edge, rated_port}
 use Rattle.tdf_exec.specs.Cluster.{ClusterOf}
 use Rattle.tdf_exec.specs.Made.{HasRows, IsClusterWith, IsRunnerWith}
 use Rattle.tdf_exec.specs.Traced.{rate_of_row, traced_port}
 use Rattle.tdf_exec.specs.declared.runners.Runner.{Runner}
 use Rattle.tdf_exec.specs.declared.runners.Runner.TheVariants as runner
-use Rattle.tdf_layout.specs.low.flat.declared.model.Flat.{Flat}
-use Rattle.tdf_layout.specs.low.graph.declared.actors.Port.{Port}
-use Rattle.tdf_layout.specs.Traced.{traced_ports}
-use Rattle.tdf_layout.specs.low.schedule.declared.entry.Plan.{Plan}
-use Rattle.tdf_layout.specs.low.streams.Periods.{AreAttributes, read_rates, write_rates}
-use Rattle.tdf_layout.specs.low.timestep.Period.{HasSteps}
-use Rattle.tdf_layout.specs.low.timestep.declared.assign.Assign.{Assign}
-use Rattle.tdf_layout.specs.low.wiring.declared.modules.PortRow.{PortRow}
+use Rattle.tdf_bind.specs.declared.model.Flat.{Flat}
+use Rattle.tdf_graph.specs.declared.actors.Port.{Port}
+use Rattle.tdf_exec_layout.specs.Traced.{traced_ports}
+use Rattle.tdf_schedule.specs.declared.entry.Plan.{Plan}
+use Rattle.tdf_streams.specs.Periods.{AreAttributes, read_rates, write_rates}
+use Rattle.tdf_timestep.specs.Period.{HasSteps}
+use Rattle.tdf_timestep.specs.declared.assign.Assign.{Assign}
+use Rattle.tdf_bind_connections.specs.declared.modules.PortRow.{PortRow}
 
 -- a row with another flag
 abbrev pub with_flag : Bool → AttrsOf → AttrsOf
@@ -57,7 +56,7 @@ found_same f blind (a ∷ old) (b ∷ new) differ m =
     go true rest = blind a b.accepts
     go false rest = rest
 
-module _ (tables : FlatOf) (old new : List AttrsOf) (differ : DifferInFlags old new) where
+module _ (tables : FlatTablesOf) (old new : List AttrsOf) (differ : DifferInFlags old new) where
   pub rate_same : (port : PortRow) → port_rate new port ≡ port_rate old port
   rate_same port = found_same (rate_by port) (λ a flag. refl) old new differ port.«module»
 
@@ -88,7 +87,7 @@ assigned_same (a ∷ old) (b ∷ new) differ =
     ap (λ (x : AttrsOf). assigned_by x ++ flat_map assigned_by new) differ.0 ∙ ap (λ l. assigned_by a ++ l) (assigned_same old new differ.1)
 
 -- the plan is one of the other table too
-pub plan_same : (tables : FlatOf) (cluster : ℕ) (old new : List AttrsOf) (plan : Plan) → DifferInFlags old new → IsTablePlan tables cluster old plan → IsTablePlan tables cluster new plan
+pub plan_same : (tables : FlatTablesOf) (cluster : ℕ) (old new : List AttrsOf) (plan : Plan) → DifferInFlags old new → IsTablePlan tables cluster old plan → IsTablePlan tables cluster new plan
 plan_same tables cluster old new plan differ is = record {
   counts = is.counts;
   steps = is.steps;

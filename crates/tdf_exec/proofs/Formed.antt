@@ -1,48 +1,47 @@
 -- What is kept for the actors of a cluster at its start is their own.
-use Rattle.std.proofs.Common.{◌≡◌, ◌∙◌, ◌≢◌, ℕ, zero, suc, ◌+◌, ◌<◌, ◌≤◌, Bool, true, false, if◌then◌else◌, nat_eq, List, [], ◌∷◌, Option, Some, None, option_map}
-use Rattle.std.proofs.Common.{length, map, refl, sym, ap, subst, inl, inr, ◌⊎◌, arith}
+use Rattle.std.proofs.Common.{◌≡◌, ◌∙◌, ◌≢◌, ℕ, zero, suc, ◌+◌, ◌<◌, ◌≤◌, Bool, true, false, if◌then◌else◌, nat_eq, List, [], ◌∷◌, Option, Some, None, option_map, length, map, refl, sym, ap, subst, inl, inr, ◌⊎◌, arith}
 use Rattle.std.proofs.lemmas.Bool.{and_parts, cases_eq, eq-eqb, eqb-true, ne_eqb}
 use Rattle.std.proofs.lemmas.Option.{slice_get-map, slice_get_within}
 use Rattle.std.specs.List.{cons_option, enumerate_from}
 use Rattle.std.specs.Prelude.{filter_map, slice_get, slice_index}
-use Rattle.tdf_layout.specs.low.bind.Flat.{FlatOf}
-use Rattle.tdf_layout.specs.low.dynamic.Attributes.{AttrsOf, attrs_at, clusters_of, rates_in}
-use Rattle.tdf_layout.specs.low.dynamic.First.{IsFirstPlan}
-use Rattle.tdf_layout.specs.low.dynamic.Rates.{net_of, port_rate, rate_by}
-use Rattle.tdf_layout.specs.low.dynamic.Text.{attrs_if, first_attrs, first_table}
-use Rattle.tdf_layout.specs.low.dynamic.declared.first.First.{First}
+use Rattle.tdf_bind_tables.specs.FlatTables.{FlatTablesOf}
+use Rattle.tdf_dynamic_plans.specs.Attributes.{AttrsOf, attrs_at, clusters_of, rates_in}
+use Rattle.tdf_dynamic_first.specs.First.{IsFirstPlan}
+use Rattle.tdf_dynamic_plans.specs.Rates.{net_of, port_rate, rate_by}
+use Rattle.tdf_dynamic_first.specs.Text.{attrs_if, first_attrs, first_table}
+use Rattle.tdf_dynamic_first.specs.declared.first.First.{First}
 use Rattle.tdf_exec.proofs.Ends.{HasPort, below_modules, module_reads, module_writes}
 use Rattle.tdf_exec.proofs.Planned.{start_of}
 use Rattle.tdf_exec.proofs.EdgeRates.{edge_reads, edge_writes, reads_at, writes_at}
 use Rattle.tdf_exec.proofs.Rows.{all_at}
 use Rattle.tdf_exec.specs.Cluster.{ClusterOf}
 use Rattle.tdf_exec.specs.Made.{HasRows, IsInSpans, IsModuleOf}
-use Rattle.tdf_layout.specs.Samples.{edge_format}
+use Rattle.tdf_exec_layout.specs.Samples.{edge_format}
 use Rattle.tdf_exec.specs.Runners.{ModuleOf}
 use Rattle.tdf_exec.specs.Traced.{rate_of_row, traced_port}
-use Rattle.tdf_layout.specs.Traced.{is_traced, number_if_traced, traced_ports}
+use Rattle.tdf_exec_layout.specs.Traced.{is_traced, number_if_traced, traced_ports}
 use Rattle.tdf_exec.specs.declared.runners.Runner.{Runner}
 use Rattle.tdf_exec.specs.declared.runners.TracedPort.{TracedPort}
 use Rattle.tdf_exec.specs.machine.Laid.{IsLaid}
 use Rattle.tdf_exec.specs.machine.Starting.{IsBegun}
-use Rattle.tdf_layout.specs.low.expr.Made.{port_spans_of, start_rates}
-use Rattle.tdf_layout.specs.low.expr.declared.spans.PortSpan.{PortSpan}
-use Rattle.tdf_layout.specs.low.firing.Wires.{AreWired, WiresOf}
-use Rattle.tdf_layout.specs.low.firing.declared.wires.InWire.{InWire}
-use Rattle.tdf_layout.specs.low.firing.declared.wires.OutWire.{OutWire}
-use Rattle.tdf_layout.specs.low.flat.declared.model.Flat.{Flat}
-use Rattle.tdf_layout.proofs.Api.{get_inside, none_some, some_same}
-use Rattle.tdf_layout.specs.low.formats.Formats.{IsOwnPort}
-use Rattle.tdf_layout.specs.low.graph.declared.actors.Actor.TheVariants as actor
-use Rattle.tdf_layout.specs.Wiring.{AreWiresOf, port_of_row}
-use Rattle.tdf_layout.proofs.Api.{starts_are_allowed}
-use Rattle.tdf_layout.specs.low.limits.Limits.{limits_in}
-use Rattle.tdf_layout.specs.low.meaning.Fits.{RatesFit}
-use Rattle.tdf_layout.specs.low.rings.Rings.{RingOf}
-use Rattle.tdf_layout.specs.low.streams.Periods.{AreAttributes, HasAllowedRates, read_rates, write_rates}
-use Rattle.tdf_layout.specs.low.streams.Places.{actor_kind, block_at, block_of_row, driver_or, module_of_row, place_of_port, reader_of_row, source_of_row, writer_of_row}
-use Rattle.tdf_layout.specs.low.wiring.declared.modules.ModuleRow.{ModuleRow}
-use Rattle.tdf_layout.specs.low.wiring.declared.modules.PortRow.{PortRow}
+use Rattle.tdf_expr.specs.Made.{port_spans_of, start_rates}
+use Rattle.tdf_expr.specs.declared.spans.PortSpan.{PortSpan}
+use Rattle.tdf_exec_firing.specs.Wires.{AreWired, WiresOf}
+use Rattle.tdf_exec_firing.specs.declared.wires.InWire.{InWire}
+use Rattle.tdf_exec_firing.specs.declared.wires.OutWire.{OutWire}
+use Rattle.tdf_bind.specs.declared.model.Flat.{Flat}
+use Rattle.tdf_streams.proofs.Api.{get_inside, none_some, some_same}
+use Rattle.tdf_bind_invariants.specs.Formats.{IsOwnPort}
+use Rattle.tdf_graph.specs.declared.actors.Actor.TheVariants as actor
+use Rattle.tdf_exec_layout.specs.Wiring.{AreWiresOf, port_of_row}
+use Rattle.tdf_bind_invariants.proofs.Api.{starts_are_allowed}
+use Rattle.tdf_bind_invariants.specs.Limits.{limits_in}
+use Rattle.tdf_expr_semantics.specs.Fits.{RatesFit}
+use Rattle.tdf_rings.specs.Rings.{RingOf}
+use Rattle.tdf_streams.specs.Periods.{AreAttributes, HasAllowedRates, read_rates, write_rates}
+use Rattle.tdf_streams.specs.Places.{actor_kind, block_at, block_of_row, driver_or, module_of_row, place_of_port, reader_of_row, source_of_row, writer_of_row}
+use Rattle.tdf_bind_connections.specs.declared.modules.ModuleRow.{ModuleRow}
+use Rattle.tdf_bind_connections.specs.declared.modules.PortRow.{PortRow}
 
 -- the attributes of a module in the table of the text
 module _ (flat : Flat) (cluster : ℕ) where
@@ -175,14 +174,14 @@ attrs_place (x ∷ table) number a is = go (cases_eq x.number number) (attrs_pla
         (suc found.0, found.1, found.2)
 
 -- in a table with one row a module, each row is the one that is found
-pub row_found : (tables : FlatOf) (cluster : ℕ) (table : List AttrsOf) → HasRows tables cluster table → (i : ℕ) (a : AttrsOf) → slice_get table i ≡ Some a → attrs_at table a.number ≡ Some a
+pub row_found : (tables : FlatTablesOf) (cluster : ℕ) (table : List AttrsOf) → HasRows tables cluster table → (i : ℕ) (a : AttrsOf) → slice_get table i ≡ Some a → attrs_at table a.number ≡ Some a
 row_found tables cluster table rows i a at =
     let f : FoundAt table a.number = find_row table i a a.number at refl in
     let place : f.place ≡ i = rows.once f.place i f.attrs a f.at at f.own in
     f.found ∙ ap Some (some_same f.attrs a (sym f.at ∙ ap (slice_get table) place ∙ at))
 
 -- the row of a module of the cluster
-pub module_row : (tables : FlatOf) (cluster : ℕ) (table : List AttrsOf) → HasRows tables cluster table → (m : ℕ) → m < length tables.modules → slice_index (clusters_of tables) m ≡ cluster
+pub module_row : (tables : FlatTablesOf) (cluster : ℕ) (table : List AttrsOf) → HasRows tables cluster table → (m : ℕ) → m < length tables.modules → slice_index (clusters_of tables) m ≡ cluster
     → FoundAt table m
 module_row tables cluster table rows m below own = let r = rows.each m below own in find_row table r.0 r.1 m r.2 r.3
 

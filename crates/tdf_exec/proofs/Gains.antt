@@ -14,12 +14,12 @@ use Rattle.tdf_exec.specs.Gained.{HasFewPlaces, with_gains}
 use Rattle.tdf_exec.specs.Made.{IsInSpans}
 use Rattle.tdf_exec.specs.Traced.{first_samples, port_samples, traced_count, traced_sample}
 use Rattle.tdf_exec.specs.declared.runners.TracedPort.{TracedPort}
-use Rattle.tdf_layout.specs.low.expr.Frames.{PortsSeen}
-use Rattle.tdf_layout.specs.low.expr.declared.spans.PortSpan.{PortSpan}
-use Rattle.tdf_layout.specs.low.firing.Activation.{sample_at, sample_of}
-use Rattle.tdf_layout.specs.low.fixed.Cast.{fraction_of}
-use Rattle.tdf_layout.specs.low.fixed.declared.raw.Raw.{Raw}
-use Rattle.tdf_layout.specs.low.state.State.{cell_at}
+use Rattle.tdf_expr.specs.Frames.{PortsSeen}
+use Rattle.tdf_expr.specs.declared.spans.PortSpan.{PortSpan}
+use Rattle.tdf_exec_firing.specs.Activation.{sample_at, sample_of}
+use Rattle.tdf_fixed.specs.Cast.{fraction_of}
+use Rattle.tdf_fixed.specs.declared.raw.Raw.{Raw}
+use Rattle.tdf_expr_state.specs.State.{cell_at}
 
 pub gains_none : (o : OutputsOf) → o ≡ with_gains o [] []
 gains_none o =

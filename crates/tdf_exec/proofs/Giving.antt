@@ -1,6 +1,5 @@
 -- What a firing gives is what the step of the streams gives.
-use Rattle.std.proofs.Common.{◌≡◌, ◌∙◌, ◌≢◌, ℕ, zero, suc, ◌+◌, ◌<◌, ◌≤◌, Bool, List, [], ◌∷◌, ◌++◌, Some}
-use Rattle.std.proofs.Common.{if◌then◌else◌, nat_eq, length, map, take, refl, sym, ap, subst, inl, inr, arith, append-nil}
+use Rattle.std.proofs.Common.{◌≡◌, ◌∙◌, ◌≢◌, ℕ, zero, suc, ◌+◌, ◌<◌, ◌≤◌, Bool, List, [], ◌∷◌, ◌++◌, Some, if◌then◌else◌, nat_eq, length, map, take, refl, sym, ap, subst, inl, inr, arith, append-nil}
 use Rattle.std.proofs.lemmas.Bool.{cases_lt, ne_eqb}
 use Rattle.std.proofs.lemmas.List.{get_or_past}
 use Rattle.std.proofs.lemmas.List.Elements.{All-cons, All-nil}
@@ -22,25 +21,25 @@ use Rattle.tdf_exec.specs.Made.{IsClusterOf, IsModuleOf, IsSamplerOf, IsSinkOf}
 use Rattle.tdf_exec.specs.Played.{IsPeriodOf, play_of}
 use Rattle.tdf_exec.specs.Runners.{ModuleOf, SamplerOf}
 use Rattle.tdf_exec.specs.Traced.{port_samples, traced_count, traced_port, turn_samples}
-use Rattle.tdf_layout.specs.Samples.{edge_format}
-use Rattle.tdf_layout.specs.Traced.{traced_ports}
+use Rattle.tdf_exec_layout.specs.Samples.{edge_format}
+use Rattle.tdf_exec_layout.specs.Traced.{traced_ports}
 use Rattle.tdf_exec.specs.declared.runners.Runner.{Runner}
 use Rattle.tdf_exec.specs.declared.runners.Runner.TheVariants as runner
 use Rattle.tdf_exec.specs.declared.runners.SinkRunner.{SinkRunner}
 use Rattle.tdf_exec.specs.machine.Steps.{AreInputsNext, IsAnyStep, with_parts}
-use Rattle.tdf_layout.specs.low.expr.Checked.{IsCheckedOf}
-use Rattle.tdf_layout.specs.low.expr.Frames.{IsOfFormat}
-use Rattle.tdf_layout.specs.low.firing.Actors.{HasTaken}
-use Rattle.tdf_layout.specs.low.fixed.declared.raw.Raw.{Raw}
-use Rattle.tdf_layout.specs.low.flat.declared.model.Flat.{Flat}
-use Rattle.tdf_layout.specs.low.flow.Firing.{fronts}
-use Rattle.tdf_layout.specs.low.rings.Carried.{ring_at}
-use Rattle.tdf_layout.specs.low.rings.Rings.{RingOf}
-use Rattle.tdf_layout.specs.low.schedule.declared.entry.Entry.{Entry}
-use Rattle.tdf_layout.specs.low.streams.Cluster.{Start, cluster_net}
-use Rattle.tdf_layout.specs.low.streams.Periods.{PeriodRecord}
-use Rattle.tdf_layout.specs.low.streams.Places.{actor_kind, reader_at}
-use Rattle.tdf_layout.specs.low.tree.Pure.{PureTree}
+use Rattle.tdf_expr.specs.Checked.{IsCheckedOf}
+use Rattle.tdf_expr.specs.Frames.{IsOfFormat}
+use Rattle.tdf_exec_firing.specs.Actors.{HasTaken}
+use Rattle.tdf_fixed.specs.declared.raw.Raw.{Raw}
+use Rattle.tdf_bind.specs.declared.model.Flat.{Flat}
+use Rattle.tdf_streams.specs.Firing.{fronts}
+use Rattle.tdf_rings.specs.Carried.{ring_at}
+use Rattle.tdf_rings.specs.Rings.{RingOf}
+use Rattle.tdf_schedule.specs.declared.entry.Entry.{Entry}
+use Rattle.tdf_streams.specs.Cluster.{Start, cluster_net}
+use Rattle.tdf_streams.specs.Periods.{PeriodRecord}
+use Rattle.tdf_streams.specs.Places.{actor_kind, reader_at}
+use Rattle.tdf_lang_tree.specs.Pure.{PureTree}
 
 -- lists of which one at most holds something
 flat_none : (ls : List (List Raw)) → ((d : ℕ) → slice_index_or ls d [] ≡ []) → flat_map (λ (l : List Raw). l) ls ≡ []

@@ -17,8 +17,8 @@ use Rattle.tdf_exec.specs.declared.runners.Runner.{Runner}
 use Rattle.tdf_exec.specs.declared.telling.Room.{Room}
 use Rattle.tdf_exec.specs.declared.telling.Rooms.{Rooms}
 use Rattle.tdf_exec.specs.machine.Telling.{AreCounted, AreRooms, IsOver, here_at, room_of, rooms_with, sent_with, traced_with}
-use Rattle.tdf_layout.specs.low.schedule.Plan.{done}
-use Rattle.tdf_layout.specs.low.schedule.declared.entry.Entry.{Entry}
+use Rattle.tdf_schedule.specs.Plan.{done}
+use Rattle.tdf_schedule.specs.declared.entry.Entry.{Entry}
 
 -- what is left from a place on is no more than all
 pub due_left : (size : Option Runner → ℕ) (runners : List Runner) (offset place : ℕ) (entries : List Entry)

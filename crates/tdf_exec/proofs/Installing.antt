@@ -1,13 +1,12 @@
 -- A cluster at the head of a period with a new plan.
-use Rattle.std.proofs.Common.{◌≡◌, ◌∙◌, ℕ, zero, suc, ◌<◌, ◌≤◌, Bool, true, if◌then◌else◌, List, [], ◌∷◌, Option, Some, None, option_map, ℤ}
-use Rattle.std.proofs.Common.{length, map, refl, sym, ap, subst, inl, inr, ◌⊎◌, arith}
+use Rattle.std.proofs.Common.{◌≡◌, ◌∙◌, ℕ, zero, suc, ◌<◌, ◌≤◌, Bool, true, if◌then◌else◌, List, [], ◌∷◌, Option, Some, None, option_map, ℤ, length, map, refl, sym, ap, subst, inl, inr, ◌⊎◌, arith}
 use Rattle.std.proofs.lemmas.Bool.{cases_lt}
 use Rattle.std.proofs.lemmas.List.{length-map, take_all}
 use Rattle.std.proofs.lemmas.Option.{get_or_from_slice_get, slice_get-map, slice_get_within}
 use Rattle.std.specs.List.{enumerate_from, range_with_len}
 use Rattle.std.specs.Prelude.{All, filter_map, slice_get, slice_index, slice_index_or}
-use Rattle.tdf_layout.specs.low.dynamic.Attributes.{AttrsOf, attrs_at, clusters_of, rates_in}
-use Rattle.tdf_layout.specs.low.dynamic.Rates.{net_of, net_ports, rated_edge}
+use Rattle.tdf_dynamic_plans.specs.Attributes.{AttrsOf, attrs_at, clusters_of, rates_in}
+use Rattle.tdf_dynamic_plans.specs.Rates.{net_of, net_ports, rated_edge}
 use Rattle.tdf_exec.proofs.Acting.{block_there}
 use Rattle.tdf_exec.proofs.Crosses.{head_held}
 use Rattle.tdf_exec.proofs.EdgeRates.{reads_at, writes_at}
@@ -32,34 +31,33 @@ use Rattle.tdf_exec.specs.declared.runners.TracedPort.{TracedPort}
 use Rattle.tdf_exec.specs.machine.Laid.{IsLaid}
 use Rattle.tdf_exec.specs.machine.Restarting.{CanRestart, HasReplaced, HasRestarted, IsRestarted}
 use Rattle.tdf_exec.specs.machine.Tracing.{AreGivenTraced, traced_before, with_traced}
-use Rattle.tdf_layout.specs.low.expr.Blocks.{PureBlock, blocks_of}
-use Rattle.tdf_layout.specs.low.expr.Checked.{IsCheckedOf}
-use Rattle.tdf_layout.specs.low.expr.Frames.{IsOfFormat}
-use Rattle.tdf_layout.specs.low.expr.Made.{AreMadeFor, event_count, port_spans_of}
-use Rattle.tdf_layout.specs.low.expr.declared.bodies.Body.TheVariants as body
-use Rattle.tdf_layout.specs.low.expr.declared.checked.Checked.{Checked}
-use Rattle.tdf_layout.specs.low.expr.declared.spans.PortSpan.{PortSpan}
-use Rattle.tdf_layout.specs.low.firing.Activation.{ports_before}
-use Rattle.tdf_layout.specs.low.firing.Wires.{AreWired}
-use Rattle.tdf_layout.specs.low.flat.declared.model.Flat.{Flat}
-use Rattle.tdf_layout.proofs.Api.{get_inside, install_stands, none_some, some_same}
-use Rattle.tdf_layout.specs.low.graph.declared.actors.Actor.TheVariants as actor
-use Rattle.tdf_layout.specs.Traced.{number_if_traced, traced_ports}
-use Rattle.tdf_layout.specs.Wiring.{AreWiresOf}
-use Rattle.tdf_layout.specs.low.rings.Carried.{FitIn, ring_at}
-use Rattle.tdf_layout.specs.low.rings.Rings.{RingOf, ring_of}
-use Rattle.tdf_layout.specs.low.schedule.Laws.{PlansArePresent}
-use Rattle.tdf_layout.specs.low.schedule.Plan.{done}
-use Rattle.tdf_layout.specs.low.schedule.declared.entry.Plan.{Plan}
-use Rattle.tdf_layout.specs.low.state.State.{State, state_of}
-use Rattle.tdf_layout.proofs.Api.{are_active, table_record}
-use Rattle.tdf_layout.specs.low.streams.Bodies.{after_part, done_by, nothing_read, rates_of, reinitialized}
-use Rattle.tdf_layout.specs.low.streams.Cluster.{cluster_net}
-use Rattle.tdf_layout.specs.low.streams.Laws.{HasRecord}
-use Rattle.tdf_layout.specs.low.streams.Periods.{PeriodInfo, read_rates, write_rates}
-use Rattle.tdf_layout.specs.low.streams.Places.{actor_kind, block_at, reader_at, reader_of_row, writer_at, writer_of_row}
-use Rattle.tdf_layout.specs.low.streams.Starts.{held_at_head}
-use Rattle.tdf_layout.specs.low.tree.Pure.{PureTree}
+use Rattle.tdf_expr.specs.Blocks.{PureBlock, blocks_of}
+use Rattle.tdf_expr.specs.Checked.{IsCheckedOf}
+use Rattle.tdf_expr.specs.Frames.{IsOfFormat}
+use Rattle.tdf_expr.specs.Made.{AreMadeFor, event_count, port_spans_of}
+use Rattle.tdf_expr.specs.declared.bodies.Body.TheVariants as body
+use Rattle.tdf_expr.specs.declared.checked.Checked.{Checked}
+use Rattle.tdf_expr.specs.declared.spans.PortSpan.{PortSpan}
+use Rattle.tdf_exec_firing.specs.Activation.{ports_before}
+use Rattle.tdf_exec_firing.specs.Wires.{AreWired}
+use Rattle.tdf_bind.specs.declared.model.Flat.{Flat}
+use Rattle.tdf_streams.proofs.Api.{get_inside, install_stands, none_some, some_same, are_active, table_record}
+use Rattle.tdf_graph.specs.declared.actors.Actor.TheVariants as actor
+use Rattle.tdf_exec_layout.specs.Traced.{number_if_traced, traced_ports}
+use Rattle.tdf_exec_layout.specs.Wiring.{AreWiresOf}
+use Rattle.tdf_rings.specs.Carried.{FitIn, ring_at}
+use Rattle.tdf_rings.specs.Rings.{RingOf, ring_of}
+use Rattle.tdf_schedule.specs.Laws.{PlansArePresent}
+use Rattle.tdf_schedule.specs.Plan.{done}
+use Rattle.tdf_schedule.specs.declared.entry.Plan.{Plan}
+use Rattle.tdf_expr_state.specs.State.{State, state_of}
+use Rattle.tdf_streams.specs.Bodies.{after_part, done_by, nothing_read, rates_of, reinitialized}
+use Rattle.tdf_streams.specs.Cluster.{cluster_net}
+use Rattle.tdf_streams.specs.Laws.{HasRecord}
+use Rattle.tdf_streams.specs.Periods.{PeriodInfo, read_rates, write_rates}
+use Rattle.tdf_streams.specs.Places.{actor_kind, block_at, reader_at, reader_of_row, writer_at, writer_of_row}
+use Rattle.tdf_streams.specs.Starts.{held_at_head}
+use Rattle.tdf_lang_tree.specs.Pure.{PureTree}
 
 -- room for each bound
 pub room_index : (bounds : List ℕ) (e : ℕ) → e < length bounds → slice_index (map room_for bounds) e ≡ room_for (slice_index bounds e)

@@ -1,6 +1,5 @@
 -- After a firing the cluster is still one of its flat model.
-use Rattle.std.proofs.Common.{◌≡◌, ◌∙◌, ◌≢◌, ℕ, zero, suc, ◌+◌, ◌-◌, ◌^◌, ◌<◌, ◌≤◌, Bool, List, [], ◌∷◌, Some}
-use Rattle.std.proofs.Common.{length, length-set, take, refl, sym, ap, subst, inl, inr, ◌⊎◌, arith}
+use Rattle.std.proofs.Common.{◌≡◌, ◌∙◌, ◌≢◌, ℕ, zero, suc, ◌+◌, ◌-◌, ◌^◌, ◌<◌, ◌≤◌, Bool, List, [], ◌∷◌, Some, length, length-set, take, refl, sym, ap, subst, inl, inr, ◌⊎◌, arith}
 use Rattle.std.proofs.lemmas.Bool.{cases_eq}
 use Rattle.std.proofs.lemmas.List.{get_or-set_same, get_or-set_other}
 use Rattle.std.proofs.lemmas.List.Sums.{sum_by-cons}
@@ -19,21 +18,21 @@ use Rattle.tdf_exec.specs.Runners.{ModuleOf, SamplerOf}
 use Rattle.tdf_exec.specs.declared.runners.Runner.{Runner}
 use Rattle.tdf_exec.specs.declared.runners.Runner.TheVariants as runner
 use Rattle.tdf_exec.specs.machine.Steps.{AreInputsNext, AreMovedBy, with_parts}
-use Rattle.tdf_layout.specs.low.expr.Blocks.{blocks_of}
-use Rattle.tdf_layout.specs.low.expr.Made.{AreMadeFor, event_count}
-use Rattle.tdf_layout.specs.low.expr.declared.spans.PortSpan.{PortSpan}
-use Rattle.tdf_layout.specs.low.firing.Activation.{ports_before}
-use Rattle.tdf_layout.specs.low.firing.Firing.{AreZerosBehind, samples_read}
-use Rattle.tdf_layout.specs.low.firing.Wires.{AreWired, WiresOf}
-use Rattle.tdf_layout.specs.low.firing.declared.wires.InWire.{InWire}
-use Rattle.tdf_layout.specs.low.firing.declared.wires.OutWire.{OutWire}
-use Rattle.tdf_layout.specs.low.fixed.declared.raw.Raw.{Raw}
-use Rattle.tdf_layout.specs.low.flat.declared.model.Flat.{Flat}
-use Rattle.tdf_layout.proofs.Api.{none_some}
-use Rattle.tdf_layout.specs.Wiring.{AreWiresOf}
-use Rattle.tdf_layout.specs.low.rings.Rings.{RingOf}
-use Rattle.tdf_layout.specs.low.schedule.declared.entry.Entry.{Entry}
-use Rattle.tdf_layout.specs.low.state.State.{State, state_of}
+use Rattle.tdf_expr.specs.Blocks.{blocks_of}
+use Rattle.tdf_expr.specs.Made.{AreMadeFor, event_count}
+use Rattle.tdf_expr.specs.declared.spans.PortSpan.{PortSpan}
+use Rattle.tdf_exec_firing.specs.Activation.{ports_before}
+use Rattle.tdf_exec_firing.specs.Firing.{AreZerosBehind, samples_read}
+use Rattle.tdf_exec_firing.specs.Wires.{AreWired, WiresOf}
+use Rattle.tdf_exec_firing.specs.declared.wires.InWire.{InWire}
+use Rattle.tdf_exec_firing.specs.declared.wires.OutWire.{OutWire}
+use Rattle.tdf_fixed.specs.declared.raw.Raw.{Raw}
+use Rattle.tdf_bind.specs.declared.model.Flat.{Flat}
+use Rattle.tdf_streams.proofs.Api.{none_some}
+use Rattle.tdf_exec_layout.specs.Wiring.{AreWiresOf}
+use Rattle.tdf_rings.specs.Rings.{RingOf}
+use Rattle.tdf_schedule.specs.declared.entry.Entry.{Entry}
+use Rattle.tdf_expr_state.specs.State.{State, state_of}
 
 -- the processing body sets no rate variable
 rates_kept : (flat : Flat) (c : ClusterOf) (m : ℕ) (x y : ModuleOf) (new : List RingOf) → IsModuleOf flat c m x → HasFired flat.checked c.reads c.writes c.rings new x y

@@ -1,6 +1,5 @@
 -- A cluster at its start is one of its flat model, and stands for its streams.
-use Rattle.std.proofs.Common.{◌≡◌, ◌∙◌, ◌≢◌, ℕ, zero, suc, ◌+◌, ◌<◌, ◌≤◌, ◌||◌, Bool, true, false, not, List, [], ◌∷◌, Option, Some, None, option_map, ℤ}
-use Rattle.std.proofs.Common.{length, map, take, refl, sym, ap, subst, inl, inr, ◌⊎◌, arith}
+use Rattle.std.proofs.Common.{◌≡◌, ◌∙◌, ◌≢◌, ℕ, zero, suc, ◌+◌, ◌<◌, ◌≤◌, ◌||◌, Bool, true, false, not, List, [], ◌∷◌, Option, Some, None, option_map, ℤ, length, map, take, refl, sym, ap, subst, inl, inr, ◌⊎◌, arith}
 use Rattle.std.proofs.Math.ListN.{get_or-map}
 use Rattle.std.proofs.lemmas.Bool.{cases_eq, cases_lt, eqb-true}
 use Rattle.std.proofs.lemmas.List.{get_or-replicate, get_or_past, length-replicate, take_all}
@@ -9,13 +8,13 @@ use Rattle.std.proofs.lemmas.List.Sums.{sum_by-cons}
 use Rattle.std.proofs.lemmas.Option.{get_or_from_slice_get, slice_get-map, slice_get_within}
 use Rattle.std.specs.List.{enumerate_from, range_with_len}
 use Rattle.std.specs.Prelude.{cond, filter_map, replicate, slice_get, slice_index, slice_index_or}
-use Rattle.tdf_layout.specs.low.bind.Actors.{cluster_of}
-use Rattle.tdf_layout.specs.low.bind.declared.actors.ActorRow.{ActorRow}
-use Rattle.tdf_layout.specs.low.dynamic.Attributes.{AttrsOf, attrs_at, clusters_of, rates_in}
-use Rattle.tdf_layout.specs.low.dynamic.Faults.{IsTablePlan}
-use Rattle.tdf_layout.specs.low.dynamic.First.{IsFirstPlan}
-use Rattle.tdf_layout.specs.low.dynamic.Rates.{AreRates, net_of}
-use Rattle.tdf_layout.specs.low.dynamic.declared.first.First.{First}
+use Rattle.tdf_bind_tables.specs.Actors.{cluster_of}
+use Rattle.tdf_bind_tables.specs.declared.actors.ActorRow.{ActorRow}
+use Rattle.tdf_dynamic_plans.specs.Attributes.{AttrsOf, attrs_at, clusters_of, rates_in}
+use Rattle.tdf_dynamic_plans.specs.Faults.{IsTablePlan}
+use Rattle.tdf_dynamic_first.specs.First.{IsFirstPlan}
+use Rattle.tdf_dynamic_plans.specs.Rates.{AreRates, net_of}
+use Rattle.tdf_dynamic_first.specs.declared.first.First.{First}
 use Rattle.tdf_exec.proofs.Ends.{below_modules, module_kind, no_sink, sampler_never, sampler_writes, sink_never, sink_reads}
 use Rattle.tdf_exec.proofs.EdgeRates.{reads_at, writes_at}
 use Rattle.tdf_exec.proofs.Formed.{attrs_found, first_rows, is_module}
@@ -28,32 +27,31 @@ use Rattle.tdf_exec.specs.Played.{cells_of, play_of, turns_from}
 use Rattle.tdf_exec.specs.Runners.{ModuleOf, SamplerOf}
 use Rattle.tdf_exec.specs.Starts.{IsSoundFlat, StandsAtStart}
 use Rattle.tdf_exec.specs.Traced.{traced_port}
-use Rattle.tdf_layout.specs.Traced.{number_if_traced, traced_ports}
+use Rattle.tdf_exec_layout.specs.Traced.{number_if_traced, traced_ports}
 use Rattle.tdf_exec.specs.declared.runners.Runner.{Runner}
 use Rattle.tdf_exec.specs.declared.runners.Runner.TheVariants as runner
 use Rattle.tdf_exec.specs.declared.runners.TracedPort.{TracedPort}
 use Rattle.tdf_exec.specs.machine.Laid.{AreParts, AreRunnersOf, IsLaid}
 use Rattle.tdf_exec.specs.machine.Starting.{AreFirstRings, IsBegun, IsFirstRunner, IsOfModule}
 use Rattle.tdf_exec.specs.machine.Tracing.{traced_before, with_traced}
-use Rattle.tdf_layout.specs.low.expr.Checked.{IsCheckedOf}
-use Rattle.tdf_layout.specs.low.expr.Made.{start_rates}
-use Rattle.tdf_layout.specs.low.firing.Wires.{WiresOf}
-use Rattle.tdf_layout.specs.low.flat.declared.model.Flat.{Flat}
-use Rattle.tdf_layout.proofs.Api.{get_inside, get_made_at, none_some, some_same, start_stands}
-use Rattle.tdf_layout.specs.low.graph.declared.actors.Actor.{Actor}
-use Rattle.tdf_layout.specs.low.graph.declared.actors.Actor.TheVariants as actor
-use Rattle.tdf_layout.specs.Wires.{AreClusterWires, IsWiringOf}
-use Rattle.tdf_layout.specs.Wiring.{AreEdgesOf, IsEdgeOf}
-use Rattle.tdf_layout.specs.declared.wiring.ActorWires.{ActorWires}
-use Rattle.tdf_layout.specs.declared.wiring.ActorWires.TheVariants as wires
-use Rattle.tdf_layout.specs.low.rings.Rings.{RingOf, ring_of}
-use Rattle.tdf_layout.specs.low.schedule.Laws.{PlansArePresent}
-use Rattle.tdf_layout.proofs.Api.{are_rates}
-use Rattle.tdf_layout.specs.low.streams.Bodies.{initialized}
-use Rattle.tdf_layout.specs.low.streams.Cluster.{cluster_net, is_outside, is_sampler_kind, text_start, zero_sample}
-use Rattle.tdf_layout.specs.low.streams.Periods.{read_rates, write_rates}
-use Rattle.tdf_layout.specs.low.streams.Places.{actor_kind, block_of_row, kind_of_row, reader_of_row, writer_of_row}
-use Rattle.tdf_layout.specs.low.tree.Pure.{PureTree}
+use Rattle.tdf_expr.specs.Checked.{IsCheckedOf}
+use Rattle.tdf_expr.specs.Made.{start_rates}
+use Rattle.tdf_exec_firing.specs.Wires.{WiresOf}
+use Rattle.tdf_bind.specs.declared.model.Flat.{Flat}
+use Rattle.tdf_streams.proofs.Api.{get_inside, get_made_at, none_some, some_same, start_stands, are_rates}
+use Rattle.tdf_graph.specs.declared.actors.Actor.{Actor}
+use Rattle.tdf_graph.specs.declared.actors.Actor.TheVariants as actor
+use Rattle.tdf_exec_layout.specs.Wires.{AreClusterWires, IsWiringOf}
+use Rattle.tdf_exec_layout.specs.Wiring.{AreEdgesOf, IsEdgeOf}
+use Rattle.tdf_exec_layout.specs.declared.wiring.ActorWires.{ActorWires}
+use Rattle.tdf_exec_layout.specs.declared.wiring.ActorWires.TheVariants as wires
+use Rattle.tdf_rings.specs.Rings.{RingOf, ring_of}
+use Rattle.tdf_schedule.specs.Laws.{PlansArePresent}
+use Rattle.tdf_streams.specs.Bodies.{initialized}
+use Rattle.tdf_streams.specs.Cluster.{cluster_net, is_outside, is_sampler_kind, text_start, zero_sample}
+use Rattle.tdf_streams.specs.Periods.{read_rates, write_rates}
+use Rattle.tdf_streams.specs.Places.{actor_kind, block_of_row, kind_of_row, reader_of_row, writer_of_row}
+use Rattle.tdf_lang_tree.specs.Pure.{PureTree}
 
 -- what is told of edges is told of modules alone
 module _ (flat : Flat) (laid : IsLaid flat) (cluster : ℕ) (ws : List ActorWires) (are : AreClusterWires flat.tables cluster ws) where

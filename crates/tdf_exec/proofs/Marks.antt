@@ -1,23 +1,22 @@
 -- The ports whose signals are traced, as they are gathered.
-use Rattle.std.proofs.Common.{◌≡◌, ◌∙◌, ◌≢◌, ℕ, ◌+◌, ◌<◌, ◌&&◌, Bool, true, false, if◌then◌else◌, nat_eq, List, [], ◌∷◌, ◌++◌, Some, None}
-use Rattle.std.proofs.Common.{append-nil, length, length-set, map, refl, sym, ap, inl, inr, ◌⊎◌, arith}
+use Rattle.std.proofs.Common.{◌≡◌, ◌∙◌, ◌≢◌, ℕ, ◌+◌, ◌<◌, ◌&&◌, Bool, true, false, if◌then◌else◌, nat_eq, List, [], ◌∷◌, ◌++◌, Some, None, append-nil, length, length-set, map, refl, sym, ap, inl, inr, ◌⊎◌, arith}
 use Rattle.std.proofs.lemmas.Bool.{cases_eq, eq-eqb, ne_eqb}
 use Rattle.std.proofs.lemmas.List.{get_or-set_other, get_or-set_same, map-append}
 use Rattle.std.proofs.lemmas.Option.{get_or_from_slice_get, slice_get_within}
 use Rattle.std.specs.List.{cons_option}
 use Rattle.std.specs.Prelude.{slice_get, slice_index_or, slice_set}
-use Rattle.tdf_layout.specs.low.bind.Flat.{FlatOf}
-use Rattle.tdf_layout.specs.low.dynamic.Attributes.{AttrsOf}
+use Rattle.tdf_bind_tables.specs.FlatTables.{FlatTablesOf}
+use Rattle.tdf_dynamic_plans.specs.Attributes.{AttrsOf}
 use Rattle.tdf_exec.specs.Traced.{rate_of_row, signal_of_row, traced_port}
-use Rattle.tdf_layout.specs.Traced.{number_if_traced}
+use Rattle.tdf_exec_layout.specs.Traced.{number_if_traced}
 use Rattle.tdf_exec.specs.declared.runners.TracedPort.{TracedPort}
 use Rattle.tdf_exec.specs.machine.Tracing.{AreTracedUpTo, is_written_traced, put_traced, traced_before, traced_row}
-use Rattle.tdf_layout.specs.low.streams.Places.{place_of_port}
-use Rattle.tdf_layout.proofs.Api.{filtered_next}
-use Rattle.tdf_layout.specs.low.wiring.declared.modules.PortRow.{PortRow}
+use Rattle.tdf_streams.specs.Places.{place_of_port}
+use Rattle.tdf_bind_connections.proofs.Api.{filtered_next}
+use Rattle.tdf_bind_connections.specs.declared.modules.PortRow.{PortRow}
 
 -- one port more
-module _ (tables : FlatOf) (table : List AttrsOf) (n : ℕ) (port : PortRow) (at : slice_get tables.ports n ≡ Some port) where
+module _ (tables : FlatTablesOf) (table : List AttrsOf) (n : ℕ) (port : PortRow) (at : slice_get tables.ports n ≡ Some port) where
   row_is : traced_row tables table n port ≡ traced_port tables table n
   row_is = ap (λ o. record { port = place_of_port tables.ports n; signal = signal_of_row o; rate = rate_of_row table o }) (sym at)
 

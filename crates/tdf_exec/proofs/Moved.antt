@@ -1,35 +1,34 @@
 -- How a firing of a module, of a sampler and of a sink moves samples, by the edges of the flat model.
-use Rattle.std.proofs.Common.{◌≡◌, ◌∙◌, ◌≢◌, ℕ, zero, suc, ◌+◌, ◌<◌, ◌≤◌, Bool, true, false, List, [], ◌∷◌, ◌++◌, Some, None}
-use Rattle.std.proofs.Common.{if◌then◌else◌, nat_eq, length, drop, map, refl, sym, ap, subst, inl, inr, ◌⊎◌, arith, append-nil}
+use Rattle.std.proofs.Common.{◌≡◌, ◌∙◌, ◌≢◌, ℕ, zero, suc, ◌+◌, ◌<◌, ◌≤◌, Bool, true, false, List, [], ◌∷◌, ◌++◌, Some, None, if◌then◌else◌, nat_eq, length, drop, map, refl, sym, ap, subst, inl, inr, ◌⊎◌, arith, append-nil}
 use Rattle.std.proofs.lemmas.Bool.{cases_eq, eq-eqb, eqb-true, eqb-false, ne_eqb}
 use Rattle.std.proofs.lemmas.List.Elements.{All-cons, All-nil}
 use Rattle.std.proofs.lemmas.List.FromFn.{length-map-range_with_len}
 use Rattle.std.proofs.lemmas.Option.{same_Some}
 use Rattle.std.specs.List.{All, list_any, range_with_len}
 use Rattle.std.specs.Prelude.{slice_get, slice_index}
-use Rattle.tdf_layout.specs.low.bind.Flat.{FlatOf}
+use Rattle.tdf_bind_tables.specs.FlatTables.{FlatTablesOf}
 use Rattle.tdf_exec.specs.Cluster.{ClusterOf}
 use Rattle.tdf_exec.specs.Made.{IsModuleOf, IsSamplerOf, IsSinkOf}
-use Rattle.tdf_layout.specs.Samples.{edge_format}
+use Rattle.tdf_exec_layout.specs.Samples.{edge_format}
 use Rattle.tdf_exec.specs.machine.Fired.{HasFired}
 use Rattle.tdf_exec.specs.Runners.{ModuleOf, SamplerOf}
 use Rattle.tdf_exec.specs.machine.Steps.{AreMovedBy, kept}
-use Rattle.tdf_layout.specs.low.expr.Frames.{IsOfFormat, PortsSeen}
-use Rattle.tdf_layout.specs.low.expr.declared.spans.PortSpan.{PortSpan}
-use Rattle.tdf_layout.proofs.Api.{Passes, any_cases, writer_cases}
-use Rattle.tdf_layout.specs.low.firing.Activation.{sample_at}
-use Rattle.tdf_layout.specs.low.firing.Actors.{HasTaken, HavePut}
-use Rattle.tdf_layout.specs.low.firing.Firing.{front_of, is_read, writer_of}
-use Rattle.tdf_layout.specs.low.firing.Wires.{WiresOf}
-use Rattle.tdf_layout.specs.low.firing.declared.wires.InWire.{InWire}
-use Rattle.tdf_layout.specs.low.firing.declared.wires.OutWire.{OutWire}
-use Rattle.tdf_layout.specs.low.fixed.declared.format.Format.{Format}
-use Rattle.tdf_layout.specs.low.fixed.declared.raw.Raw.{Raw}
-use Rattle.tdf_layout.specs.low.flat.declared.model.Flat.{Flat}
-use Rattle.tdf_layout.specs.Wiring.{AreWiresOf, Writes}
-use Rattle.tdf_layout.specs.low.rings.Carried.{ring_at}
-use Rattle.tdf_layout.specs.low.rings.Rings.{RingOf, ring_of}
-use Rattle.tdf_layout.specs.low.streams.Places.{place_of_port, reader_at, source_at, writer_at}
+use Rattle.tdf_expr.specs.Frames.{IsOfFormat, PortsSeen}
+use Rattle.tdf_expr.specs.declared.spans.PortSpan.{PortSpan}
+use Rattle.tdf_exec_firing.proofs.Api.{Passes, any_cases, writer_cases}
+use Rattle.tdf_exec_firing.specs.Activation.{sample_at}
+use Rattle.tdf_exec_firing.specs.Actors.{HasTaken, HavePut}
+use Rattle.tdf_exec_firing.specs.Firing.{front_of, is_read, writer_of}
+use Rattle.tdf_exec_firing.specs.Wires.{WiresOf}
+use Rattle.tdf_exec_firing.specs.declared.wires.InWire.{InWire}
+use Rattle.tdf_exec_firing.specs.declared.wires.OutWire.{OutWire}
+use Rattle.tdf_fixed.specs.declared.format.Format.{Format}
+use Rattle.tdf_fixed.specs.declared.raw.Raw.{Raw}
+use Rattle.tdf_bind.specs.declared.model.Flat.{Flat}
+use Rattle.tdf_exec_layout.specs.Wiring.{AreWiresOf, Writes}
+use Rattle.tdf_rings.specs.Carried.{ring_at}
+use Rattle.tdf_rings.specs.Rings.{RingOf, ring_of}
+use Rattle.tdf_streams.specs.Places.{place_of_port, reader_at, source_at, writer_at}
 
 pub some_inj : {A : Type 0} (a b : A) → Some a ≡ Some b → a ≡ b
 some_inj a b e = same_Some a b e
@@ -44,7 +43,7 @@ all_range : {A : Type 0} (P : A → Type 0) (g : ℕ → A) (a n : ℕ) → ((k 
 all_range P g a zero each = All-nil P
 all_range P g a (suc n) each = All-cons P (g a) _ (each a (omega arith) (omega arith)) (all_range P g (a + 1) n (λ k low high. each k (omega (arith, low)) (omega (arith, high))))
 
-module _ (tables : FlatOf) (m : ℕ) (wires : WiresOf) (are : AreWiresOf tables m wires) (e : ℕ) (inside : e < length tables.edges) where
+module _ (tables : FlatTablesOf) (m : ℕ) (wires : WiresOf) (are : AreWiresOf tables m wires) (e : ℕ) (inside : e < length tables.edges) where
   -- a wire reads an edge where its reader is the module
   pub reads_it : is_read wires.ins e ≡ nat_eq (reader_at tables.edges e) m
   reads_it = choose (any_cases (λ (w : InWire). nat_eq w.edge e) wires.ins)
@@ -81,7 +80,7 @@ module _ (tables : FlatOf) (m : ℕ) (wires : WiresOf) (are : AreWiresOf tables 
       choose (inr (none, is)) = is
 
 -- what a module puts on an edge
-abbrev pub given_by : FlatOf → (writes : List ℕ) → PortsSeen → ℕ → List Raw
+abbrev pub given_by : FlatTablesOf → (writes : List ℕ) → PortsSeen → ℕ → List Raw
 given_by tables writes ports e = front_of ports (Some (place_of_port tables.ports (source_at tables.edges e))) (slice_index writes e)
 
 module _ (flat : Flat) (c : ClusterOf) (m : ℕ) (x y : ModuleOf) (is : IsModuleOf flat c m x) (new : List RingOf)

@@ -1,21 +1,20 @@
 -- The instances of modules go into a list, and come back.
-use Rattle.std.proofs.Common.{◌≡◌, ◌∙◌, ◌≢◌, ℕ, ℤ, zero, suc, ◌+◌, ◌-◌, ◌<◌, ◌≤◌, List, [], ◌∷◌, ◌++◌, Some, option_map, Result, Ok, Err, OnErr}
-use Rattle.std.proofs.Common.{length, length-append, length-set, take, refl, sym, ap, subst, inl, inr, ◌⊎◌, arith}
+use Rattle.std.proofs.Common.{◌≡◌, ◌∙◌, ◌≢◌, ℕ, ℤ, zero, suc, ◌+◌, ◌-◌, ◌<◌, ◌≤◌, List, [], ◌∷◌, ◌++◌, Some, option_map, Result, Ok, Err, OnErr, length, length-append, length-set, take, refl, sym, ap, subst, inl, inr, ◌⊎◌, arith}
 use Rattle.std.proofs.lemmas.Bool.{cases_eq, cases_lt}
 use Rattle.std.proofs.lemmas.List.{length-map}
 use Rattle.std.proofs.lemmas.Option.{slice_get-map, slice_get_read, slice_get_within}
 use Rattle.std.proofs.lemmas.Simd.{map-map}
 use Rattle.std.specs.Prelude.{IfOk, slice_get, slice_index_or, slice_set}
-use Rattle.tdf_layout.specs.low.bind.Flat.{FlatOf}
-use Rattle.tdf_changes.specs.Asked.{attrs_after}
-use Rattle.tdf_changes.specs.Change.{Asks}
-use Rattle.tdf_changes.specs.Given.{AreFramesOf, HaveCells, IsFrameOf}
-use Rattle.tdf_changes.specs.Next.{IsNext}
-use Rattle.tdf_changes.specs.declared.frames.ModuleFrame.{ModuleFrame}
-use Rattle.tdf_changes.specs.declared.next.Next.{Next}
-use Rattle.tdf_changes.specs.declared.next.Next.TheVariants.{Changed, Same}
-use Rattle.tdf_layout.specs.low.dynamic.Attributes.{AttrsOf}
-use Rattle.tdf_layout.specs.low.dynamic.declared.err.ChangeErr.{ChangeErr}
+use Rattle.tdf_bind_tables.specs.FlatTables.{FlatTablesOf}
+use Rattle.tdf_dynamic.specs.Asked.{attrs_after}
+use Rattle.tdf_dynamic.specs.Change.{Asks}
+use Rattle.tdf_dynamic.specs.Given.{AreFramesOf, HaveCells, IsFrameOf}
+use Rattle.tdf_dynamic.specs.Next.{IsNext}
+use Rattle.tdf_dynamic.specs.declared.frames.ModuleFrame.{ModuleFrame}
+use Rattle.tdf_dynamic.specs.declared.next.Next.{Next}
+use Rattle.tdf_dynamic.specs.declared.next.Next.TheVariants.{Changed, Same}
+use Rattle.tdf_dynamic_plans.specs.Attributes.{AttrsOf}
+use Rattle.tdf_dynamic_plans.specs.declared.err.ChangeErr.{ChangeErr}
 use Rattle.tdf_exec.proofs.Keeping.{get_set, get_set_other}
 use Rattle.tdf_exec.proofs.Moved.{some_inj}
 use Rattle.tdf_exec.specs.Crossing.{cells_in}
@@ -23,8 +22,8 @@ use Rattle.tdf_exec.specs.Runners.{ModuleOf}
 use Rattle.tdf_exec.specs.declared.runners.Runner.{Runner}
 use Rattle.tdf_exec.specs.declared.runners.Runner.TheVariants as runner
 use Rattle.tdf_exec.specs.machine.Moving.{AreBack, AreInstances, AreModules, AreOut, AreValues, HaveInstances, IsNone, RestOf, frame_of, numbers_of, rest_of, whole_of}
-use Rattle.tdf_layout.specs.low.flat.declared.model.Flat.{Flat}
-use Rattle.tdf_layout.proofs.Api.{get_high, get_inside, get_low}
+use Rattle.tdf_bind.specs.declared.model.Flat.{Flat}
+use Rattle.tdf_streams.proofs.Api.{get_high, get_inside, get_low}
 
 -- the number of a row that was read
 pub number_at : (rows : List AttrsOf) (i : ℕ) (x : AttrsOf) (n : ℕ) → i < length rows → x ≡ slice_index_or rows i x → n ≡ x.number → slice_get (numbers_of rows) i ≡ Some n
@@ -207,7 +206,7 @@ module _ (flat : Flat) (table : List AttrsOf) (old mid : List Runner) (frames : 
   }
 
 -- a boundary leaves the numbers of a table
-pub numbers_same : (tables : FlatOf) (cluster : ℕ) (asks : Asks) (table new : List AttrsOf) (r : Result Next ChangeErr) → IfOk r (IsNext tables cluster asks table new) → OnErr r (new ≡ table)
+pub numbers_same : (tables : FlatTablesOf) (cluster : ℕ) (asks : Asks) (table new : List AttrsOf) (r : Result Next ChangeErr) → IfOk r (IsNext tables cluster asks table new) → OnErr r (new ≡ table)
     → numbers_of new ≡ numbers_of table
 numbers_same tables cluster asks table new (Ok Same) is kept = ap numbers_of is.1 ∙ map-map (λ (a : AttrsOf). a.number) (λ (a : AttrsOf). attrs_after a (asks a)) table
 numbers_same tables cluster asks table new (Ok (Changed attrs plan)) is kept = ap numbers_of is.0

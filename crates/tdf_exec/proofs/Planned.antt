@@ -1,42 +1,40 @@
 -- The first plan of a cluster is safe, and the rings at its start fit it.
-use Rattle.std.proofs.Common.{◌≡◌, ◌∙◌, ◌≢◌, ℕ, zero, suc, ◌+◌, ◌*◌, ◌<◌, ◌≤◌, Bool, true, false, if◌then◌else◌, nat_eq, List, [], ◌∷◌, Some}
-use Rattle.std.proofs.Common.{length, take, refl, sym, ap, subst, inl, inr, ◌⊎◌, arith}
+use Rattle.std.proofs.Common.{◌≡◌, ◌∙◌, ◌≢◌, ℕ, zero, suc, ◌+◌, ◌*◌, ◌<◌, ◌≤◌, Bool, true, false, if◌then◌else◌, nat_eq, List, [], ◌∷◌, Some, length, take, refl, sym, ap, subst, inl, inr, ◌⊎◌, arith}
 use Rattle.std.proofs.lemmas.Bool.{cases_eq, cases_lt, ne_eqb}
 use Rattle.std.proofs.lemmas.List.{get_or_past, length-map}
 use Rattle.std.proofs.lemmas.List.Sums.{sum_by-cons}
 use Rattle.std.proofs.lemmas.Option.{slice_get_within}
 use Rattle.std.specs.List.{count_by}
 use Rattle.std.specs.Prelude.{All, cond, slice_get, slice_index, slice_index_or}
-use Rattle.tdf_layout.specs.low.bind.Actors.{cluster_of}
-use Rattle.tdf_layout.specs.low.dynamic.Attributes.{clusters_of}
-use Rattle.tdf_layout.specs.low.dynamic.Faults.{pace_in}
-use Rattle.tdf_layout.specs.low.dynamic.First.{IsFirstPlan}
-use Rattle.tdf_layout.specs.low.dynamic.Rates.{net_of, net_ports, rated_edge}
-use Rattle.tdf_layout.specs.low.dynamic.declared.first.First.{First}
+use Rattle.tdf_bind_tables.specs.Actors.{cluster_of}
+use Rattle.tdf_dynamic_plans.specs.Attributes.{clusters_of}
+use Rattle.tdf_dynamic_plans.specs.Faults.{pace_in}
+use Rattle.tdf_dynamic_first.specs.First.{IsFirstPlan}
+use Rattle.tdf_dynamic_plans.specs.Rates.{net_of, net_ports, rated_edge}
+use Rattle.tdf_dynamic_first.specs.declared.first.First.{First}
 use Rattle.tdf_exec.specs.Cluster.{ClusterOf}
 use Rattle.tdf_exec.specs.Made.{AreHeld, IsSafe, room_for}
-use Rattle.tdf_layout.specs.Samples.{edge_format}
+use Rattle.tdf_exec_layout.specs.Samples.{edge_format}
 use Rattle.tdf_exec.specs.Starts.{IsSoundFlat}
 use Rattle.tdf_exec.specs.declared.runners.Runner.{Runner}
 use Rattle.tdf_exec.specs.machine.Laid.{IsLaid}
 use Rattle.tdf_exec.specs.machine.Starting.{AreFirstRings, FitAtFirst, list_of}
-use Rattle.tdf_layout.specs.low.expr.Frames.{IsOfFormat}
-use Rattle.tdf_layout.specs.low.fixed.declared.format.Format.{Format}
-use Rattle.tdf_layout.specs.low.fixed.declared.raw.Raw.{Raw}
-use Rattle.tdf_layout.specs.low.flat.declared.model.Flat.{Flat}
-use Rattle.tdf_layout.proofs.Api.{get_inside, some_same}
-use Rattle.tdf_layout.specs.low.rings.Carried.{ring_at}
-use Rattle.tdf_layout.specs.low.rings.Rings.{RingOf}
-use Rattle.tdf_layout.specs.low.schedule.Laws.{PlansArePresent}
-use Rattle.tdf_layout.specs.low.schedule.Plan.{IsPlan, done}
-use Rattle.tdf_layout.specs.low.schedule.declared.entry.Entry.{Entry}
-use Rattle.tdf_layout.proofs.Api.{active_inside, bound_at, entry_active, first_record, present_at, record_present, text_holds_delays, text_list}
-use Rattle.tdf_layout.specs.low.streams.Cluster.{initial_list, text_start}
-use Rattle.tdf_layout.specs.low.streams.Laws.{HasRecord}
-use Rattle.tdf_layout.specs.low.streams.Periods.{IsTimedRecord, PeriodRecord, period_record, read_rates, write_rates}
-use Rattle.tdf_layout.specs.low.streams.Places.{reader_at, writer_at, writer_of_row}
-use Rattle.tdf_layout.specs.low.streams.Starts.{held_at_head, initial_of_row}
-use Rattle.tdf_layout.specs.low.wiring.declared.edges.EdgeRow.{EdgeRow}
+use Rattle.tdf_expr.specs.Frames.{IsOfFormat}
+use Rattle.tdf_fixed.specs.declared.format.Format.{Format}
+use Rattle.tdf_fixed.specs.declared.raw.Raw.{Raw}
+use Rattle.tdf_bind.specs.declared.model.Flat.{Flat}
+use Rattle.tdf_streams.proofs.Api.{get_inside, some_same, active_inside, bound_at, entry_active, first_record, present_at, record_present, text_holds_delays, text_list}
+use Rattle.tdf_rings.specs.Carried.{ring_at}
+use Rattle.tdf_rings.specs.Rings.{RingOf}
+use Rattle.tdf_schedule.specs.Laws.{PlansArePresent}
+use Rattle.tdf_schedule.specs.Plan.{IsPlan, done}
+use Rattle.tdf_schedule.specs.declared.entry.Entry.{Entry}
+use Rattle.tdf_streams.specs.Cluster.{initial_list, text_start}
+use Rattle.tdf_streams.specs.Laws.{HasRecord}
+use Rattle.tdf_streams.specs.Periods.{IsTimedRecord, PeriodRecord, period_record, read_rates, write_rates}
+use Rattle.tdf_streams.specs.Places.{reader_at, writer_at, writer_of_row}
+use Rattle.tdf_streams.specs.Starts.{held_at_head, initial_of_row}
+use Rattle.tdf_bind_connections.specs.declared.edges.EdgeRow.{EdgeRow}
 
 -- a cluster in its first period, with these parts
 abbrev pub start_of : (cluster : ℕ) → First → (reads writes : List ℕ) → List RingOf → List Runner → (positions : List ℕ) → ClusterOf

@@ -1,6 +1,5 @@
 -- One entry more is played.
-use Rattle.std.proofs.Common.{◌≡◌, ◌∙◌, ◌≢◌, ℕ, suc, ◌+◌, ◌-◌, ◌^◌, ◌<◌, ◌≤◌, Bool, true, List, [], ◌∷◌, ◌++◌, Option, Some, None}
-use Rattle.std.proofs.Common.{length, length-drop, length-append, length-take-le, append_assoc, append-nil, nat_eq, if◌then◌else◌, get_or-drop, take-suc, drop, take, map, refl, sym, ap, subst, inl, inr, ◌⊎◌, arith}
+use Rattle.std.proofs.Common.{◌≡◌, ◌∙◌, ◌≢◌, ℕ, suc, ◌+◌, ◌-◌, ◌^◌, ◌<◌, ◌≤◌, Bool, true, List, [], ◌∷◌, ◌++◌, Option, Some, None, length, length-drop, length-append, length-take-le, append_assoc, append-nil, nat_eq, if◌then◌else◌, get_or-drop, take-suc, drop, take, map, refl, sym, ap, subst, inl, inr, ◌⊎◌, arith}
 use Rattle.std.proofs.lemmas.Bool.{cases_eq, cases_lt, eq-eqb, eqb-true}
 use Rattle.std.proofs.lemmas.List.{length-map, map-append}
 use Rattle.std.proofs.lemmas.List.Elements.{All-append, All-nil}
@@ -26,17 +25,17 @@ use Rattle.tdf_exec.specs.Traced.{traced_count}
 use Rattle.tdf_exec.specs.declared.runners.Runner.{Runner}
 use Rattle.tdf_exec.specs.declared.runners.Runner.TheVariants as runner
 use Rattle.tdf_exec.specs.machine.Steps.{AreInputsNext, ArePlayed, HasRoomNext, HasStepped, with_parts}
-use Rattle.tdf_layout.specs.low.fixed.declared.raw.Raw.{Raw}
-use Rattle.tdf_layout.specs.low.flat.declared.model.Flat.{Flat}
-use Rattle.tdf_layout.proofs.Api.{order_keeps}
-use Rattle.tdf_layout.specs.low.flow.Net.{Net, Period}
-use Rattle.tdf_layout.specs.low.flow.Playing.{IsPlayed, IsStep}
-use Rattle.tdf_layout.specs.low.flow.Stands.{Play, Stands}
-use Rattle.tdf_layout.specs.low.rings.Rings.{RingOf}
-use Rattle.tdf_layout.specs.low.schedule.Plan.{done}
-use Rattle.tdf_layout.specs.low.schedule.declared.entry.Entry.{Entry}
-use Rattle.tdf_layout.specs.low.streams.Cluster.{cluster_net}
-use Rattle.tdf_layout.specs.low.streams.Periods.{PeriodInfo, PeriodRecord}
+use Rattle.tdf_fixed.specs.declared.raw.Raw.{Raw}
+use Rattle.tdf_bind.specs.declared.model.Flat.{Flat}
+use Rattle.tdf_streams.proofs.Api.{order_keeps}
+use Rattle.tdf_streams.specs.Net.{Net, Period}
+use Rattle.tdf_streams.specs.Playing.{IsPlayed, IsStep}
+use Rattle.tdf_streams.specs.Stands.{Play, Stands}
+use Rattle.tdf_rings.specs.Rings.{RingOf}
+use Rattle.tdf_schedule.specs.Plan.{done}
+use Rattle.tdf_schedule.specs.declared.entry.Entry.{Entry}
+use Rattle.tdf_streams.specs.Cluster.{cluster_net}
+use Rattle.tdf_streams.specs.Periods.{PeriodInfo, PeriodRecord}
 
 played_more : {S V I : Type 0} (net : Net S V I) (old : List (Period I)) (p : Period I) (reads : ℕ → List V) (order : List ℕ) (m : ℕ) (y mid z : Play S V)
     → IsPlayed net old p reads order y mid → IsStep net old p reads m mid z → IsPlayed net old p reads (order ++ m ∷ []) y z

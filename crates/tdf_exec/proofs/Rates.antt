@@ -3,28 +3,28 @@ use Rattle.std.proofs.Common.{◌≡◌, ◌∙◌, ℕ, zero, suc, ◌+◌, ◌
 use Rattle.std.proofs.lemmas.Option.{same_Some}
 use Rattle.std.specs.List.{flat_map}
 use Rattle.std.specs.Prelude.{slice_get}
-use Rattle.tdf_layout.specs.low.base.declared.codes.Code.{Code}
-use Rattle.tdf_layout.specs.low.base.declared.codes.Code.TheVariants as code
-use Rattle.tdf_layout.specs.low.checks.Blocks.{bodies_faults, tdf_faults}
-use Rattle.tdf_layout.specs.low.checks.Lines.{attr_faults, initial_faults, tdf_line_faults}
-use Rattle.tdf_layout.specs.low.checks.Types.{global_faults, type_faults}
+use Rattle.tdf_base.specs.declared.codes.Code.{Code}
+use Rattle.tdf_base.specs.declared.codes.Code.TheVariants as code
+use Rattle.tdf_expr_blocks.specs.Blocks.{bodies_faults, tdf_faults}
+use Rattle.tdf_expr_blocks.specs.Lines.{attr_faults, initial_faults, tdf_line_faults}
+use Rattle.tdf_expr_blocks.specs.Types.{global_faults, type_faults}
 use Rattle.tdf_exec.specs.Laws.{RatesAreBegun, RatesAreKept}
-use Rattle.tdf_layout.specs.low.expr.Blocks.{Events, Module, PureBlock, blocks_of, body_of}
-use Rattle.tdf_layout.specs.low.expr.Runs.{scope_in}
-use Rattle.tdf_layout.specs.low.expr.declared.bodies.Body.TheVariants.{Initialize, Processing, Reinitialize}
-use Rattle.tdf_layout.proofs.Api.{none_first, none_second}
-use Rattle.tdf_layout.specs.low.faults.First.{fault_if}
-use Rattle.tdf_layout.specs.low.fixed.declared.raw.Raw.{Raw}
-use Rattle.tdf_layout.specs.low.meaning.Bodies.{after, after_all, after_body, assigned_at, limit_value, noticed_at, repeated, stepped, stepped_at, target_index, with_element}
-use Rattle.tdf_layout.specs.low.meaning.Value.{holds, value}
-use Rattle.tdf_layout.specs.low.scope.Faults.{changes, expr_faults, limit_faults, opened, stmt_faults, stmts_faults}
-use Rattle.tdf_layout.specs.low.scope.Names.{Array, Composite, Const, De, DeSignal, Event, Instance, Loop, Names, Port, RateVar, Signal, Tdf, Thing, TypeName, Var, globals_of, place_of, thing_of}
-use Rattle.tdf_layout.specs.low.scope.Scope.{OpenLoop, Scope, tdf_scope}
-use Rattle.tdf_layout.specs.low.scope.declared.kinds.Part.{Part}
-use Rattle.tdf_layout.specs.low.scope.declared.kinds.Part.TheVariants as part
-use Rattle.tdf_layout.specs.low.state.State.{State}
-use Rattle.tdf_layout.specs.low.widths.Bodies as widths
-use Rattle.tdf_layout.specs.low.tree.Pure.{Done, GDe, GNet, GShape, GTdf, More, PureGlobal, PureStmt, PureStmts, PureTdf, SAccept, SAssign, SFor, SIf, SNotify, SReject, SSetRate, SSetStep}
+use Rattle.tdf_expr.specs.Blocks.{Events, Module, PureBlock, blocks_of, body_of}
+use Rattle.tdf_expr.specs.Runs.{scope_in}
+use Rattle.tdf_expr.specs.declared.bodies.Body.TheVariants.{Initialize, Processing, Reinitialize}
+use Rattle.tdf_base.proofs.Api.{none_first, none_second}
+use Rattle.tdf_base.specs.First.{fault_if}
+use Rattle.tdf_fixed.specs.declared.raw.Raw.{Raw}
+use Rattle.tdf_expr_semantics.specs.Bodies.{after, after_all, after_body, assigned_at, limit_value, noticed_at, repeated, stepped, stepped_at, target_index, with_element}
+use Rattle.tdf_expr_semantics.specs.Value.{holds, value}
+use Rattle.tdf_expr_symbols.specs.Faults.{changes, expr_faults, limit_faults, opened, stmt_faults, stmts_faults}
+use Rattle.tdf_expr_symbols.specs.Names.{Array, Composite, Const, De, DeSignal, Event, Instance, Loop, Names, Port, RateVar, Signal, Tdf, Thing, TypeName, Var, globals_of, place_of, thing_of}
+use Rattle.tdf_expr_symbols.specs.Scope.{OpenLoop, Scope, tdf_scope}
+use Rattle.tdf_expr_symbols.specs.declared.kinds.Part.{Part}
+use Rattle.tdf_expr_symbols.specs.declared.kinds.Part.TheVariants as part
+use Rattle.tdf_expr_state.specs.State.{State}
+use Rattle.tdf_expr_types.specs.Bodies as widths
+use Rattle.tdf_lang_tree.specs.Pure.{Done, GDe, GNet, GShape, GTdf, More, PureGlobal, PureStmt, PureStmts, PureTdf, SAccept, SAssign, SFor, SIf, SNotify, SReject, SSetRate, SSetStep}
 
 element_rates : (own : Names) (n : ℕ) (t : Thing) (k : ℕ) (v : Raw) (s : State) → (with_element own n t k v s).frame.rates ≡ s.frame.rates
 element_rates own n (Const (Some x) y) k v s = refl

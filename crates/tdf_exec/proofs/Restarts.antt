@@ -1,15 +1,15 @@
 -- A module that begins again.
 use Rattle.std.proofs.Common.{◌≡◌, ◌∙◌, subst, sym, refl}
-use Rattle.tdf_changes.proofs.Api.{run_zeros}
-use Rattle.tdf_changes.specs.Ports.{AreBegun}
+use Rattle.tdf_dynamic.proofs.Api.{run_zeros}
+use Rattle.tdf_dynamic.specs.Ports.{AreBegun}
 use Rattle.tdf_exec.specs.Runners.{ModuleOf}
 use Rattle.tdf_exec.specs.machine.Restarting.{HasRestarted}
-use Rattle.tdf_layout.specs.low.expr.Frames.{FrameSeen, KeepsRead, PortsSeen}
-use Rattle.tdf_layout.specs.low.expr.Made.{AreMadeFor}
-use Rattle.tdf_layout.specs.low.expr.Runs.{Ran}
-use Rattle.tdf_layout.specs.low.expr.declared.bodies.Body.TheVariants.{Reinitialize}
-use Rattle.tdf_layout.specs.low.expr.declared.checked.Checked.{Checked}
-use Rattle.tdf_layout.specs.low.state.State.{state_of}
+use Rattle.tdf_expr.specs.Frames.{FrameSeen, KeepsRead, PortsSeen}
+use Rattle.tdf_expr.specs.Made.{AreMadeFor}
+use Rattle.tdf_expr.specs.Runs.{Ran}
+use Rattle.tdf_expr.specs.declared.bodies.Body.TheVariants.{Reinitialize}
+use Rattle.tdf_expr.specs.declared.checked.Checked.{Checked}
+use Rattle.tdf_expr_state.specs.State.{state_of}
 
 restarted : (checked : Checked) (x : ModuleOf) (mid ports : PortsSeen) (frame : FrameSeen) → AreMadeFor checked x.block x.frame x.ports → AreBegun x.ports mid
     → Ran checked x.block Reinitialize (state_of x.frame.state mid.state) (state_of frame.state ports.state) → AreMadeFor checked x.block frame ports → KeepsRead mid ports

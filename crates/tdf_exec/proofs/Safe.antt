@@ -5,23 +5,23 @@ use Rattle.std.proofs.lemmas.List.{get_or_past, length-map}
 use Rattle.std.proofs.lemmas.List.Sums.{sum_by-cons}
 use Rattle.std.specs.List.{count_by}
 use Rattle.std.specs.Prelude.{cond, slice_get, slice_index}
-use Rattle.tdf_layout.specs.low.dynamic.Attributes.{AttrsOf, clusters_of}
-use Rattle.tdf_layout.specs.low.dynamic.Faults.{pace_in}
-use Rattle.tdf_layout.specs.low.dynamic.Rates.{net_of}
+use Rattle.tdf_dynamic_plans.specs.Attributes.{AttrsOf, clusters_of}
+use Rattle.tdf_dynamic_plans.specs.Faults.{pace_in}
+use Rattle.tdf_dynamic_plans.specs.Rates.{net_of}
 use Rattle.tdf_exec.specs.Cluster.{ClusterOf}
 use Rattle.tdf_exec.specs.Laws.{HeadsHold, PlansAreSafe}
 use Rattle.tdf_exec.specs.Made.{IsSafe, room_for}
-use Rattle.tdf_layout.specs.low.flat.declared.model.Flat.{Flat}
-use Rattle.tdf_layout.specs.low.limits.Limits.{AreWithinLimits}
-use Rattle.tdf_layout.specs.low.schedule.Laws.{PlansArePresent}
-use Rattle.tdf_layout.specs.low.schedule.Plan.{done}
-use Rattle.tdf_layout.specs.low.schedule.declared.entry.Entry.{Entry}
-use Rattle.tdf_layout.specs.low.schedule.declared.entry.Plan.{Plan}
-use Rattle.tdf_layout.proofs.Api.{active_inside, bound_at, entry_active, present_at, record_present, table_record}
-use Rattle.tdf_layout.specs.low.streams.Laws.{HasRecord}
-use Rattle.tdf_layout.specs.low.streams.Periods.{AreAttributes, IsTimedRecord, PeriodRecord, period_record}
-use Rattle.tdf_layout.specs.low.streams.Places.{reader_at, writer_at}
-use Rattle.tdf_layout.specs.low.streams.Starts.{held_at_head, initial_of_row}
+use Rattle.tdf_bind.specs.declared.model.Flat.{Flat}
+use Rattle.tdf_bind_invariants.specs.Limits.{AreWithinLimits}
+use Rattle.tdf_schedule.specs.Laws.{PlansArePresent}
+use Rattle.tdf_schedule.specs.Plan.{done}
+use Rattle.tdf_schedule.specs.declared.entry.Entry.{Entry}
+use Rattle.tdf_schedule.specs.declared.entry.Plan.{Plan}
+use Rattle.tdf_streams.proofs.Api.{active_inside, bound_at, entry_active, present_at, record_present, table_record}
+use Rattle.tdf_streams.specs.Laws.{HasRecord}
+use Rattle.tdf_streams.specs.Periods.{AreAttributes, IsTimedRecord, PeriodRecord, period_record}
+use Rattle.tdf_streams.specs.Places.{reader_at, writer_at}
+use Rattle.tdf_streams.specs.Starts.{held_at_head, initial_of_row}
 
 count_none : {A : Type 0} (p : A → Bool) (xs : List A) → ((j : ℕ) (x : A) → slice_get xs j ≡ Some x → p x ≡ false) → count_by p xs ≡ 0
 count_none p [] none = refl

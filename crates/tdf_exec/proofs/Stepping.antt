@@ -1,11 +1,10 @@
 -- A firing is a step of the streams of the cluster.
-use Rattle.std.proofs.Common.{◌≡◌, ◌∙◌, ℕ, zero, suc, ◌+◌, ◌-◌, ◌<◌, ◌≤◌, ◌||◌, not, Bool, true, false, List, [], ◌∷◌, ◌++◌, Some}
-use Rattle.std.proofs.Common.{if◌then◌else◌, nat_eq, length, length-set, drop, take, map, refl, sym, ap, subst, arith}
+use Rattle.std.proofs.Common.{◌≡◌, ◌∙◌, ℕ, zero, suc, ◌+◌, ◌-◌, ◌<◌, ◌≤◌, ◌||◌, not, Bool, true, false, List, [], ◌∷◌, ◌++◌, Some, if◌then◌else◌, nat_eq, length, length-set, drop, take, map, refl, sym, ap, subst, arith}
 use Rattle.std.proofs.lemmas.Bool.{eq-eqb, eqb-true}
 use Rattle.std.proofs.lemmas.Option.{slice_get-map, slice_get_within}
 use Rattle.std.specs.List.{range_with_len, sum_by}
 use Rattle.std.specs.Prelude.{ℤ, option_map, slice_get, slice_index, slice_index_or, slice_set}
-use Rattle.tdf_layout.specs.low.dynamic.Attributes.{clusters_of}
+use Rattle.tdf_dynamic_plans.specs.Attributes.{clusters_of}
 use Rattle.tdf_exec.proofs.Acting.{fronts_at, fronts_long, turn_is, turn_of}
 use Rattle.tdf_exec.proofs.Counting.{done_other, done_own, present_now}
 use Rattle.tdf_exec.proofs.Keeping.{get_set, get_set_other, sampler_value}
@@ -20,25 +19,25 @@ use Rattle.tdf_exec.specs.declared.runners.Runner.{Runner}
 use Rattle.tdf_exec.specs.declared.runners.Runner.TheVariants as runner
 use Rattle.tdf_exec.specs.declared.runners.SinkRunner.{SinkRunner}
 use Rattle.tdf_exec.specs.machine.Steps.{AreInputsNext, AreMovedBy, kept, with_parts}
-use Rattle.tdf_layout.specs.low.expr.Checked.{IsCheckedOf}
-use Rattle.tdf_layout.specs.low.firing.Actors.{HasTaken}
-use Rattle.tdf_layout.specs.low.fixed.declared.raw.Raw.{Raw}
-use Rattle.tdf_layout.specs.low.flat.declared.model.Flat.{Flat}
-use Rattle.tdf_layout.specs.low.flow.Firing.{Flows, fronts, given, processed}
-use Rattle.tdf_layout.specs.low.flow.Net.{Net, Turn, count}
-use Rattle.tdf_layout.specs.low.flow.Playing.{IsStep}
-use Rattle.tdf_layout.specs.low.flow.Streams.{sampled}
-use Rattle.tdf_layout.specs.low.graph.declared.actors.Actor.{Actor}
-use Rattle.tdf_layout.specs.low.graph.declared.actors.Actor.TheVariants as actor
-use Rattle.tdf_layout.specs.low.rings.Carried.{ring_at}
-use Rattle.tdf_layout.specs.low.rings.Rings.{RingOf, ring_of}
-use Rattle.tdf_layout.specs.low.schedule.Plan.{done}
-use Rattle.tdf_layout.specs.low.schedule.declared.entry.Entry.{Entry}
-use Rattle.tdf_layout.specs.low.streams.Bodies.{acted, no_output}
-use Rattle.tdf_layout.specs.low.streams.Cluster.{Start, cluster_net, is_outside, is_sampler_kind}
-use Rattle.tdf_layout.specs.low.streams.Periods.{PeriodInfo, PeriodRecord}
-use Rattle.tdf_layout.specs.low.streams.Places.{reader_at, source_at, writer_at}
-use Rattle.tdf_layout.specs.low.tree.Pure.{PureTree}
+use Rattle.tdf_expr.specs.Checked.{IsCheckedOf}
+use Rattle.tdf_exec_firing.specs.Actors.{HasTaken}
+use Rattle.tdf_fixed.specs.declared.raw.Raw.{Raw}
+use Rattle.tdf_bind.specs.declared.model.Flat.{Flat}
+use Rattle.tdf_streams.specs.Firing.{Flows, fronts, given, processed}
+use Rattle.tdf_streams.specs.Net.{Net, Turn, count}
+use Rattle.tdf_streams.specs.Playing.{IsStep}
+use Rattle.tdf_streams.specs.Streams.{sampled}
+use Rattle.tdf_graph.specs.declared.actors.Actor.{Actor}
+use Rattle.tdf_graph.specs.declared.actors.Actor.TheVariants as actor
+use Rattle.tdf_rings.specs.Carried.{ring_at}
+use Rattle.tdf_rings.specs.Rings.{RingOf, ring_of}
+use Rattle.tdf_schedule.specs.Plan.{done}
+use Rattle.tdf_schedule.specs.declared.entry.Entry.{Entry}
+use Rattle.tdf_streams.specs.Bodies.{acted, no_output}
+use Rattle.tdf_streams.specs.Cluster.{Start, cluster_net, is_outside, is_sampler_kind}
+use Rattle.tdf_streams.specs.Periods.{PeriodInfo, PeriodRecord}
+use Rattle.tdf_streams.specs.Places.{reader_at, source_at, writer_at}
+use Rattle.tdf_lang_tree.specs.Pure.{PureTree}
 
 range_same : (f g : ℕ → ℕ) (a n k d : ℕ) → f (a + k) ≡ g (a + k) → slice_index_or (map f (range_with_len a n)) k d ≡ slice_index_or (map g (range_with_len a n)) k d
 range_same f g a zero k d same = refl

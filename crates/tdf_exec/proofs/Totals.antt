@@ -3,8 +3,8 @@ use Rattle.std.proofs.Common.{◌≡◌, ℕ, ◌+◌, List, drop, length, lengt
 use Rattle.tdf_convert.specs.Outputs.{OutputsOf}
 use Rattle.tdf_exec.specs.Cluster.{ClusterOf}
 use Rattle.tdf_exec.specs.Gained.{HasGained, sent_size, size_due, traced_size}
-use Rattle.tdf_layout.specs.low.fixed.declared.raw.Raw.{Raw}
-use Rattle.tdf_layout.specs.low.flat.declared.model.Flat.{Flat}
+use Rattle.tdf_fixed.specs.declared.raw.Raw.{Raw}
+use Rattle.tdf_bind.specs.declared.model.Flat.{Flat}
 
 module _ (flat : Flat) (offset : ℕ) (inputs : List Raw) (c d : ClusterOf) (before after : OutputsOf) (gained : HasGained flat offset inputs c d before after) where
   pub sent_total : length after.sent + size_due sent_size d.runners offset (drop d.place d.entries) ≡ length before.sent + size_due sent_size c.runners offset (drop c.place c.entries)

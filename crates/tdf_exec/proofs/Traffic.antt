@@ -7,14 +7,14 @@ use Rattle.tdf_exec.proofs.Entries.{plan_counts}
 use Rattle.tdf_exec.proofs.Sums.{over_map}
 use Rattle.tdf_exec.specs.Cluster.{ClusterOf}
 use Rattle.tdf_exec.specs.Made.{IsClusterOf}
-use Rattle.tdf_layout.specs.low.dynamic.Faults.{pace_in, samples_in}
-use Rattle.tdf_layout.specs.low.dynamic.Rates.{NetOf, net_of, net_ports, port_rate, rated_port}
-use Rattle.tdf_layout.specs.low.flat.declared.model.Flat.{Flat}
-use Rattle.tdf_layout.specs.low.graph.declared.actors.Edge.{Edge}
-use Rattle.tdf_layout.specs.low.graph.declared.actors.Port.{Port}
-use Rattle.tdf_layout.specs.low.schedule.declared.entry.Entry.{Entry}
-use Rattle.tdf_layout.specs.low.schedule.declared.err.PlanErr.TheVariants.{TooLarge}
-use Rattle.tdf_layout.specs.low.wiring.declared.modules.PortRow.{PortRow}
+use Rattle.tdf_dynamic_plans.specs.Faults.{pace_in, samples_in}
+use Rattle.tdf_dynamic_plans.specs.Rates.{NetOf, net_of, net_ports, port_rate, rated_port}
+use Rattle.tdf_bind.specs.declared.model.Flat.{Flat}
+use Rattle.tdf_graph.specs.declared.actors.Edge.{Edge}
+use Rattle.tdf_graph.specs.declared.actors.Port.{Port}
+use Rattle.tdf_schedule.specs.declared.entry.Entry.{Entry}
+use Rattle.tdf_schedule.specs.declared.err.PlanErr.TheVariants.{TooLarge}
+use Rattle.tdf_bind_connections.specs.declared.modules.PortRow.{PortRow}
 
 module _ (flat : Flat) (c : ClusterOf) (of : IsClusterOf flat c) where
   -- its actors, edges and ports with their rates

@@ -1,12 +1,11 @@
 -- A cluster in progress, and what its plan still holds.
 -- Source: own.
 use Rattle.std.specs.List.{count_by}
-use Rattle.std.specs.Prelude.{ℕ, Bool, false, List, Option, Some, None, drop, nat_eq}
-use Rattle.std.specs.Prelude.{option_map, slice_get}
-use Rattle.tdf_layout.specs.low.dynamic.Attributes.{AttrsOf}
+use Rattle.std.specs.Prelude.{ℕ, Bool, false, List, Option, Some, None, drop, nat_eq, option_map, slice_get}
+use Rattle.tdf_dynamic_plans.specs.Attributes.{AttrsOf}
 use Rattle.tdf_exec.specs.declared.runners.Runner.{Runner}
-use Rattle.tdf_layout.specs.low.rings.Rings.{RingOf}
-use Rattle.tdf_layout.specs.low.schedule.declared.entry.Entry.{Entry}
+use Rattle.tdf_rings.specs.Rings.{RingOf}
+use Rattle.tdf_schedule.specs.declared.entry.Entry.{Entry}
 
 pub record ClusterOf : Type 0 where
   pub number : ℕ

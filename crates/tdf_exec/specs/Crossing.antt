@@ -1,34 +1,33 @@
 -- From the end of a period to the next.
 -- Source: IEEE 1666.1-2016, changes of attributes between periods; the rest is own.
-use Rattle.std.specs.Prelude.{◌≡◌, ◌<◌, ◌++◌, ℕ, Bool, true, false, List, [], ◌∷◌, length, Some, ℤ}
-use Rattle.std.specs.Prelude.{Option, None, slice_get, slice_index}
-use Rattle.tdf_layout.specs.low.bind.Flat.{FlatOf}
-use Rattle.tdf_changes.specs.Change.{Asks, asks_of}
-use Rattle.tdf_changes.specs.declared.next.Next.{Next}
-use Rattle.tdf_changes.specs.declared.next.Next.TheVariants.{Changed, Same}
-use Rattle.tdf_layout.specs.low.dynamic.Attributes.{AttrsOf, clusters_of}
-use Rattle.tdf_layout.specs.low.dynamic.Faults.{IsTablePlan}
+use Rattle.std.specs.Prelude.{◌≡◌, ◌<◌, ◌++◌, ℕ, Bool, true, false, List, [], ◌∷◌, length, Some, ℤ, Option, None, slice_get, slice_index}
+use Rattle.tdf_bind_tables.specs.FlatTables.{FlatTablesOf}
+use Rattle.tdf_dynamic.specs.Change.{Asks, asks_of}
+use Rattle.tdf_dynamic.specs.declared.next.Next.{Next}
+use Rattle.tdf_dynamic.specs.declared.next.Next.TheVariants.{Changed, Same}
+use Rattle.tdf_dynamic_plans.specs.Attributes.{AttrsOf, clusters_of}
+use Rattle.tdf_dynamic_plans.specs.Faults.{IsTablePlan}
 use Rattle.tdf_exec.specs.Cluster.{ClusterOf}
 use Rattle.tdf_exec.specs.Made.{HasRows, IsClusterOf, IsClusterWith, room_for}
 use Rattle.tdf_exec.specs.Played.{IsLike, IsPeriodOf, cells_of, play_of}
 use Rattle.tdf_exec.specs.Runners.{ModuleOf}
 use Rattle.tdf_exec.specs.declared.runners.Runner.{Runner}
 use Rattle.tdf_exec.specs.declared.runners.Runner.TheVariants as runner
-use Rattle.tdf_layout.specs.low.expr.Checked.{IsCheckedOf}
-use Rattle.tdf_layout.specs.low.fixed.declared.raw.Raw.{Raw}
-use Rattle.tdf_layout.specs.low.flat.declared.model.Flat.{Flat}
-use Rattle.tdf_layout.specs.low.flow.Stands.{Crosses, Stands}
-use Rattle.tdf_layout.specs.low.rings.Carried.{ring_at}
-use Rattle.tdf_layout.specs.low.rings.Rings.{RingOf, ring_of}
-use Rattle.tdf_layout.specs.low.schedule.declared.entry.Plan.{Plan}
-use Rattle.tdf_layout.specs.low.streams.Cluster.{Start, cluster_net}
-use Rattle.tdf_layout.specs.low.streams.Periods.{AreAttributes, IsTimedRecord, PeriodRecord}
-use Rattle.tdf_layout.specs.low.streams.Places.{has_changes}
-use Rattle.tdf_layout.specs.low.streams.Starts.{ArePast, held_at_head}
-use Rattle.tdf_layout.specs.low.tree.Pure.{PureTree}
+use Rattle.tdf_expr.specs.Checked.{IsCheckedOf}
+use Rattle.tdf_fixed.specs.declared.raw.Raw.{Raw}
+use Rattle.tdf_bind.specs.declared.model.Flat.{Flat}
+use Rattle.tdf_streams.specs.Stands.{Crosses, Stands}
+use Rattle.tdf_rings.specs.Carried.{ring_at}
+use Rattle.tdf_rings.specs.Rings.{RingOf, ring_of}
+use Rattle.tdf_schedule.specs.declared.entry.Plan.{Plan}
+use Rattle.tdf_streams.specs.Cluster.{Start, cluster_net}
+use Rattle.tdf_streams.specs.Periods.{AreAttributes, IsTimedRecord, PeriodRecord}
+use Rattle.tdf_streams.specs.Places.{has_changes}
+use Rattle.tdf_streams.specs.Starts.{ArePast, held_at_head}
+use Rattle.tdf_lang_tree.specs.Pure.{PureTree}
 
 -- no module of the cluster has a body that changes attributes
-abbrev pub HasNoChanges : FlatOf → (cluster : ℕ) → Type 0
+abbrev pub HasNoChanges : FlatTablesOf → (cluster : ℕ) → Type 0
 HasNoChanges tables cluster = (m : ℕ) → m < length tables.modules
     → slice_index (clusters_of tables) m ≡ cluster → has_changes tables.modules m ≡ false
 
@@ -105,7 +104,7 @@ with_plan c attrs plan reads writes rings runners = record c {
 }
 
 -- each edge holds as many samples as at the head of each period
-abbrev pub HoldHeads : FlatOf → ClusterOf → Type 0
+abbrev pub HoldHeads : FlatTablesOf → ClusterOf → Type 0
 HoldHeads tables c = (e : ℕ) → e < length tables.edges
     → length (ring_at c.rings e).samples ≡ held_at_head tables c.number e
 

@@ -1,37 +1,36 @@
 -- What firings give: the samples of sinks, and those of traced signals.
 -- Source: own.
 use Rattle.std.specs.List.{flat_map, sum_by}
-use Rattle.std.specs.Prelude.{◌≡◌, ℕ, ◌+◌, ◌≤◌, if◌then◌else◌, nat_eq, List, [], ◌∷◌, ◌++◌}
-use Rattle.std.specs.Prelude.{All, length, map, drop, Option, Some, slice_get, ℤ}
-use Rattle.tdf_layout.specs.low.bind.Flat.{FlatOf}
+use Rattle.std.specs.Prelude.{◌≡◌, ℕ, ◌+◌, ◌≤◌, if◌then◌else◌, nat_eq, List, [], ◌∷◌, ◌++◌, All, length, map, drop, Option, Some, slice_get, ℤ}
+use Rattle.tdf_bind_tables.specs.FlatTables.{FlatTablesOf}
 use Rattle.tdf_convert.specs.Outputs.{OutputsOf}
 use Rattle.tdf_convert.specs.declared.outputs.Sent.{Sent}
 use Rattle.tdf_convert.specs.declared.outputs.Traced.{Traced}
-use Rattle.tdf_layout.specs.low.dynamic.Attributes.{AttrsOf}
+use Rattle.tdf_dynamic_plans.specs.Attributes.{AttrsOf}
 use Rattle.tdf_exec.specs.Cluster.{ClusterOf}
 use Rattle.tdf_exec.specs.Played.{AreAllGiven, IsPeriodOf, actors_between, play_of}
 use Rattle.tdf_exec.specs.Traced.{traced_count, turn_samples}
-use Rattle.tdf_layout.specs.Samples.{edge_format}
-use Rattle.tdf_layout.specs.Traced.{traced_ports}
-use Rattle.tdf_layout.specs.Wiring.{Reads}
+use Rattle.tdf_exec_layout.specs.Samples.{edge_format}
+use Rattle.tdf_exec_layout.specs.Traced.{traced_ports}
+use Rattle.tdf_exec_layout.specs.Wiring.{Reads}
 use Rattle.tdf_exec.specs.declared.runners.Runner.{Runner}
 use Rattle.tdf_exec.specs.declared.runners.Runner.TheVariants as runner
-use Rattle.tdf_layout.specs.low.expr.Checked.{IsCheckedOf}
-use Rattle.tdf_layout.specs.low.expr.Frames.{IsOfFormat}
-use Rattle.tdf_layout.specs.low.fixed.declared.format.Format.{Format}
-use Rattle.tdf_layout.specs.low.fixed.declared.raw.Raw.{Raw}
-use Rattle.tdf_layout.specs.low.flat.declared.model.Flat.{Flat}
-use Rattle.tdf_layout.specs.low.flow.Firing.{fronts}
-use Rattle.tdf_layout.specs.low.flow.Net.{Net, Turn}
-use Rattle.tdf_layout.specs.low.flow.Playing.{IsStep}
-use Rattle.tdf_layout.specs.low.flow.Stands.{Play}
-use Rattle.tdf_layout.specs.low.graph.declared.actors.Actor.{Actor}
-use Rattle.tdf_layout.specs.low.graph.declared.actors.Actor.TheVariants as actor
-use Rattle.tdf_layout.specs.low.schedule.declared.entry.Entry.{Entry}
-use Rattle.tdf_layout.specs.low.streams.Cluster.{Start, cluster_net}
-use Rattle.tdf_layout.specs.low.streams.Periods.{PeriodInfo, PeriodRecord}
-use Rattle.tdf_layout.specs.low.streams.Places.{actor_kind}
-use Rattle.tdf_layout.specs.low.tree.Pure.{PureTree}
+use Rattle.tdf_expr.specs.Checked.{IsCheckedOf}
+use Rattle.tdf_expr.specs.Frames.{IsOfFormat}
+use Rattle.tdf_fixed.specs.declared.format.Format.{Format}
+use Rattle.tdf_fixed.specs.declared.raw.Raw.{Raw}
+use Rattle.tdf_bind.specs.declared.model.Flat.{Flat}
+use Rattle.tdf_streams.specs.Firing.{fronts}
+use Rattle.tdf_streams.specs.Net.{Net, Turn}
+use Rattle.tdf_streams.specs.Playing.{IsStep}
+use Rattle.tdf_streams.specs.Stands.{Play}
+use Rattle.tdf_graph.specs.declared.actors.Actor.{Actor}
+use Rattle.tdf_graph.specs.declared.actors.Actor.TheVariants as actor
+use Rattle.tdf_schedule.specs.declared.entry.Entry.{Entry}
+use Rattle.tdf_streams.specs.Cluster.{Start, cluster_net}
+use Rattle.tdf_streams.specs.Periods.{PeriodInfo, PeriodRecord}
+use Rattle.tdf_streams.specs.Places.{actor_kind}
+use Rattle.tdf_lang_tree.specs.Pure.{PureTree}
 
 abbrev pub sent_sample : (m : ℕ) → Raw → Sent
 sent_sample m value = record { actor = m; value = value }
@@ -42,7 +41,8 @@ sent_by (Some actor.Sink) m read = map (sent_sample m) (flat_map (λ (xs : List 
 sent_by _ m read = []
 
 -- the samples of traced signals that a module writes in an activation, port after port
-abbrev pub traced_by : FlatOf → Option Actor → ℕ → List AttrsOf → Turn (List ℤ) Raw → List Traced
+abbrev pub traced_by : FlatTablesOf → Option Actor → ℕ → List AttrsOf → Turn (List ℤ) Raw
+    → List Traced
 traced_by tables (Some actor.Module) m table turn =
     flat_map (turn_samples tables table turn) (traced_ports tables m)
 traced_by tables _ m table turn = []
@@ -89,7 +89,7 @@ unfoldable pub size_due : (size : Option Runner → ℕ) → List Runner → (of
 size_due size runners offset entries = sum_by (size_if size runners offset) entries
 
 -- a sample that a sink sent: it is of the format of the edge that the sink reads
-pub record IsSentOf (tables : FlatOf) (s : Sent) : Type 0 where
+pub record IsSentOf (tables : FlatTablesOf) (s : Sent) : Type 0 where
   pub sink : actor_kind tables s.actor ≡ Some actor.Sink
   pub fits : (e : ℕ) (f : Format) → Reads tables s.actor e → edge_format tables e ≡ Some f
       → IsOfFormat f s.value

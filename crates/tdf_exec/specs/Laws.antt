@@ -1,23 +1,23 @@
 -- What holds of clusters in progress.
 -- Source: own.
 use Rattle.std.specs.Prelude.{◌≡◌, ℕ, ◌+◌, ◌*◌, ◌≤◌, [], length, slice_index, sum_by}
-use Rattle.tdf_layout.specs.low.checks.Types.{type_faults}
-use Rattle.tdf_layout.specs.low.dynamic.Rates.{net_of}
+use Rattle.tdf_expr_blocks.specs.Types.{type_faults}
+use Rattle.tdf_dynamic_plans.specs.Rates.{net_of}
 use Rattle.tdf_exec.specs.Cluster.{ClusterOf}
 use Rattle.tdf_exec.specs.Made.{IsClusterOf, IsPlanned, IsSafe, KeepRates}
 use Rattle.tdf_exec.specs.Starts.{BeginWithRates}
 use Rattle.tdf_exec.specs.Telling.{GivesTooMany}
-use Rattle.tdf_layout.specs.low.expr.Checked.{IsCheckedOf}
-use Rattle.tdf_layout.specs.low.flat.Flat.{IsFlatOf}
-use Rattle.tdf_layout.specs.low.flat.declared.model.Flat.{Flat}
-use Rattle.tdf_layout.specs.low.limits.Limits.{AreWithinLimits}
-use Rattle.tdf_layout.specs.low.rings.Carried.{ring_at}
-use Rattle.tdf_layout.specs.low.rings.Rings.{RingOf}
-use Rattle.tdf_layout.specs.low.schedule.Plan.{done}
-use Rattle.tdf_layout.specs.low.streams.Periods.{AreAttributes, read_rates, write_rates}
-use Rattle.tdf_layout.specs.low.streams.Places.{reader_at, writer_at}
-use Rattle.tdf_layout.specs.low.streams.Starts.{held_at_head}
-use Rattle.tdf_layout.specs.low.tree.Pure.{PureTree}
+use Rattle.tdf_expr.specs.Checked.{IsCheckedOf}
+use Rattle.tdf_bind.specs.Flat.{IsFlatOf}
+use Rattle.tdf_bind.specs.declared.model.Flat.{Flat}
+use Rattle.tdf_bind_invariants.specs.Limits.{AreWithinLimits}
+use Rattle.tdf_rings.specs.Carried.{ring_at}
+use Rattle.tdf_rings.specs.Rings.{RingOf}
+use Rattle.tdf_schedule.specs.Plan.{done}
+use Rattle.tdf_streams.specs.Periods.{AreAttributes, read_rates, write_rates}
+use Rattle.tdf_streams.specs.Places.{reader_at, writer_at}
+use Rattle.tdf_streams.specs.Starts.{held_at_head}
+use Rattle.tdf_lang_tree.specs.Pure.{PureTree}
 
 -- along the plan of its table a cluster is safe, whatever it holds
 abbrev pub PlansAreSafe : Type 0

@@ -8,5 +8,4 @@ pub mod Runners
 pub mod Starts
 pub mod Telling
 pub mod Traced
-pub mod low
 pub mod machine

@@ -2,50 +2,49 @@
 -- model, and each edge holds as many samples as its firings have left.
 -- Source: own.
 use Rattle.std.specs.List.{All, count_by}
-use Rattle.std.specs.Prelude.{◌≡◌, ℕ, zero, suc, ◌+◌, ◌-◌, ◌*◌, ◌^◌, ◌<◌, ◌≤◌, Bool, true, false}
-use Rattle.std.specs.Prelude.{List, None, Some, length, slice_get, slice_index, map, take}
-use Rattle.tdf_layout.specs.low.bind.Flat.{FlatOf}
-use Rattle.tdf_layout.specs.low.dynamic.Attributes.{AttrsOf, attrs_at, clusters_of, rates_in}
-use Rattle.tdf_layout.specs.low.dynamic.Faults.{IsTablePlan}
-use Rattle.tdf_layout.specs.low.dynamic.Rates.{net_of}
+use Rattle.std.specs.Prelude.{◌≡◌, ℕ, zero, suc, ◌+◌, ◌-◌, ◌*◌, ◌^◌, ◌<◌, ◌≤◌, Bool, true, false, List, None, Some, length, slice_get, slice_index, map, take}
+use Rattle.tdf_bind_tables.specs.FlatTables.{FlatTablesOf}
+use Rattle.tdf_dynamic_plans.specs.Attributes.{AttrsOf, attrs_at, clusters_of, rates_in}
+use Rattle.tdf_dynamic_plans.specs.Faults.{IsTablePlan}
+use Rattle.tdf_dynamic_plans.specs.Rates.{net_of}
 use Rattle.tdf_exec.specs.Cluster.{ClusterOf, next_offset}
 use Rattle.tdf_exec.specs.Runners.{ModuleOf, SamplerOf}
 use Rattle.tdf_exec.specs.Traced.{traced_port}
-use Rattle.tdf_layout.specs.Traced.{traced_ports}
+use Rattle.tdf_exec_layout.specs.Traced.{traced_ports}
 use Rattle.tdf_exec.specs.declared.runners.Runner.{Runner}
 use Rattle.tdf_exec.specs.declared.runners.Runner.TheVariants as runner
 use Rattle.tdf_exec.specs.declared.runners.TracedPort.{TracedPort}
-use Rattle.tdf_layout.specs.low.expr.Blocks.{PureBlock, blocks_of, body_of}
-use Rattle.tdf_layout.specs.low.expr.Checked.{IsCheckedOf}
-use Rattle.tdf_layout.specs.low.expr.Frames.{IsOfFormat}
-use Rattle.tdf_layout.specs.low.expr.Made.{AreMadeFor}
-use Rattle.tdf_layout.specs.low.expr.Runs.{scope_in}
-use Rattle.tdf_layout.specs.low.expr.declared.bodies.Body.TheVariants.{Processing, Reinitialize}
-use Rattle.tdf_layout.specs.low.expr.declared.checked.Checked.{Checked}
-use Rattle.tdf_layout.specs.low.expr.declared.spans.PortSpan.{PortSpan}
-use Rattle.tdf_layout.specs.low.firing.Firing.{AreZerosBehind}
-use Rattle.tdf_layout.specs.low.firing.Wires.{AreWired}
-use Rattle.tdf_layout.specs.low.firing.declared.wires.InWire.{InWire}
-use Rattle.tdf_layout.specs.low.firing.declared.wires.OutWire.{OutWire}
-use Rattle.tdf_layout.specs.low.fixed.declared.format.Format.{Format}
-use Rattle.tdf_layout.specs.low.flat.declared.model.Flat.{Flat}
-use Rattle.tdf_layout.specs.low.graph.declared.actors.Actor.{Actor}
-use Rattle.tdf_layout.specs.low.graph.declared.actors.Actor.TheVariants as actor
-use Rattle.tdf_layout.specs.Samples.{edge_format}
-use Rattle.tdf_layout.specs.Wiring.{AreEdgesOf, AreWiresOf, IsEdgeOf, Reads, Writes}
-use Rattle.tdf_layout.specs.low.meaning.Bodies.{after_body}
-use Rattle.tdf_layout.specs.low.rings.Carried.{ring_at}
-use Rattle.tdf_layout.specs.low.schedule.Plan.{done}
-use Rattle.tdf_layout.specs.low.schedule.declared.entry.Entry.{Entry}
-use Rattle.tdf_layout.specs.low.schedule.declared.entry.Plan.{Plan}
-use Rattle.tdf_layout.specs.low.state.State.{State}
-use Rattle.tdf_layout.specs.low.streams.Periods.{AreAttributes, read_rates, write_rates}
-use Rattle.tdf_layout.specs.low.streams.Places.{actor_kind, block_at, reader_at, writer_at}
-use Rattle.tdf_layout.specs.low.streams.Starts.{held_at_head}
-use Rattle.tdf_layout.specs.low.tree.Pure.{PureTree}
+use Rattle.tdf_expr.specs.Blocks.{PureBlock, blocks_of, body_of}
+use Rattle.tdf_expr.specs.Checked.{IsCheckedOf}
+use Rattle.tdf_expr.specs.Frames.{IsOfFormat}
+use Rattle.tdf_expr.specs.Made.{AreMadeFor}
+use Rattle.tdf_expr.specs.Runs.{scope_in}
+use Rattle.tdf_expr.specs.declared.bodies.Body.TheVariants.{Processing, Reinitialize}
+use Rattle.tdf_expr.specs.declared.checked.Checked.{Checked}
+use Rattle.tdf_expr.specs.declared.spans.PortSpan.{PortSpan}
+use Rattle.tdf_exec_firing.specs.Firing.{AreZerosBehind}
+use Rattle.tdf_exec_firing.specs.Wires.{AreWired}
+use Rattle.tdf_exec_firing.specs.declared.wires.InWire.{InWire}
+use Rattle.tdf_exec_firing.specs.declared.wires.OutWire.{OutWire}
+use Rattle.tdf_fixed.specs.declared.format.Format.{Format}
+use Rattle.tdf_bind.specs.declared.model.Flat.{Flat}
+use Rattle.tdf_graph.specs.declared.actors.Actor.{Actor}
+use Rattle.tdf_graph.specs.declared.actors.Actor.TheVariants as actor
+use Rattle.tdf_exec_layout.specs.Samples.{edge_format}
+use Rattle.tdf_exec_layout.specs.Wiring.{AreEdgesOf, AreWiresOf, IsEdgeOf, Reads, Writes}
+use Rattle.tdf_expr_semantics.specs.Bodies.{after_body}
+use Rattle.tdf_rings.specs.Carried.{ring_at}
+use Rattle.tdf_schedule.specs.Plan.{done}
+use Rattle.tdf_schedule.specs.declared.entry.Entry.{Entry}
+use Rattle.tdf_schedule.specs.declared.entry.Plan.{Plan}
+use Rattle.tdf_expr_state.specs.State.{State}
+use Rattle.tdf_streams.specs.Periods.{AreAttributes, read_rates, write_rates}
+use Rattle.tdf_streams.specs.Places.{actor_kind, block_at, reader_at, writer_at}
+use Rattle.tdf_streams.specs.Starts.{held_at_head}
+use Rattle.tdf_lang_tree.specs.Pure.{PureTree}
 
 -- an actor of a cluster, of a kind
-pub record IsActorOf (tables : FlatOf) (cluster m : ℕ) (kind : Actor) : Type 0 where
+pub record IsActorOf (tables : FlatTablesOf) (cluster m : ℕ) (kind : Actor) : Type 0 where
   pub kind_is : actor_kind tables m ≡ Some kind
   pub inside : slice_index (clusters_of tables) m ≡ cluster
 
@@ -118,14 +117,14 @@ abbrev pub IsRunnerOf : Flat → ClusterOf → ℕ → Runner → Type 0
 IsRunnerOf flat c m r = IsRunnerWith flat c.table c m r
 
 -- each module of a cluster has a row in its table, and one alone
-pub record HasRows (tables : FlatOf) (cluster : ℕ) (table : List AttrsOf) : Type 0 where
+pub record HasRows (tables : FlatTablesOf) (cluster : ℕ) (table : List AttrsOf) : Type 0 where
   pub each : (m : ℕ) → m < length tables.modules → slice_index (clusters_of tables) m ≡ cluster
       → (i : ℕ) × (attrs : AttrsOf) × (slice_get table i ≡ Some attrs) × (attrs.number ≡ m)
   pub once : (i j : ℕ) (one other : AttrsOf) → slice_get table i ≡ Some one
       → slice_get table j ≡ Some other → one.number ≡ other.number → i ≡ j
 
 -- the plan is that of the table
-pub record IsPlanned (tables : FlatOf) (c : ClusterOf) : Type 0 where
+pub record IsPlanned (tables : FlatTablesOf) (c : ClusterOf) : Type 0 where
   pub plan : Plan
   pub plan_is : IsTablePlan tables c.number c.table plan
   pub entries_are : plan.entries.items ≡ c.entries
@@ -139,7 +138,7 @@ room_for (suc n) = suc n
 
 -- along the plan only actors of the cluster fire, the samples that a firing reads are there, and no
 -- edge holds more than it has room for
-pub record IsSafe (tables : FlatOf) (c : ClusterOf) : Type 0 where
+pub record IsSafe (tables : FlatTablesOf) (c : ClusterOf) : Type 0 where
   pub inside : (i : ℕ) (x : Entry) → slice_get c.entries i ≡ Some x
       → x.actor < length tables.actors
   pub own : (i : ℕ) (x : Entry) → slice_get c.entries i ≡ Some x
@@ -157,7 +156,7 @@ pub record IsSafe (tables : FlatOf) (c : ClusterOf) : Type 0 where
       + done c.entries i (reader_at tables.edges e) * slice_index c.reads e
 
 -- each edge holds what was written and not read, in its format, and has room for its bound
-pub record AreHeld (tables : FlatOf) (c : ClusterOf) : Type 0 where
+pub record AreHeld (tables : FlatTablesOf) (c : ClusterOf) : Type 0 where
   pub same : length c.rings ≡ length tables.edges
   pub held : (e : ℕ) → e < length tables.edges
       → length (ring_at c.rings e).samples

@@ -1,29 +1,28 @@
 -- What firings do to a cluster in progress, as steps of its streams.
 -- Source: own.
 use Rattle.std.specs.List.{count_by, range_with_len, sum_by}
-use Rattle.std.specs.Prelude.{◌≡◌, ℕ, ◌+◌, ◌-◌, ◌^◌, ◌<◌, ◌≤◌, false, List, [], length, map, min}
-use Rattle.std.specs.Prelude.{Some, drop, take, slice_get, slice_index, ℤ}
+use Rattle.std.specs.Prelude.{◌≡◌, ℕ, ◌+◌, ◌-◌, ◌^◌, ◌<◌, ◌≤◌, false, List, [], length, map, min, Some, drop, take, slice_get, slice_index, ℤ}
 use Rattle.tdf_exec.specs.Cluster.{ClusterOf, is_due}
 use Rattle.tdf_exec.specs.Made.{is_sampler}
-use Rattle.tdf_layout.specs.Samples.{edge_format}
+use Rattle.tdf_exec_layout.specs.Samples.{edge_format}
 use Rattle.tdf_exec.specs.Runners.{ModuleOf, SamplerOf}
 use Rattle.tdf_exec.specs.declared.runners.Runner.{Runner}
 use Rattle.tdf_exec.specs.declared.runners.Runner.TheVariants as runner
-use Rattle.tdf_layout.specs.low.expr.Checked.{IsCheckedOf}
-use Rattle.tdf_layout.specs.low.expr.Frames.{IsOfFormat}
-use Rattle.tdf_layout.specs.low.fixed.declared.format.Format.{Format}
-use Rattle.tdf_layout.specs.low.fixed.declared.raw.Raw.{Raw}
-use Rattle.tdf_layout.specs.low.flat.declared.model.Flat.{Flat}
-use Rattle.tdf_layout.specs.low.flow.Net.{count}
-use Rattle.tdf_layout.specs.low.flow.Playing.{IsPlayed}
-use Rattle.tdf_layout.specs.low.flow.Stands.{Play, Stands}
-use Rattle.tdf_layout.specs.Wiring.{Writes}
-use Rattle.tdf_layout.specs.low.rings.Rings.{RingOf}
-use Rattle.tdf_layout.specs.low.schedule.Plan.{done}
-use Rattle.tdf_layout.specs.low.schedule.declared.entry.Entry.{Entry}
-use Rattle.tdf_layout.specs.low.streams.Cluster.{Start, cluster_net}
-use Rattle.tdf_layout.specs.low.streams.Periods.{PeriodRecord}
-use Rattle.tdf_layout.specs.low.tree.Pure.{PureTree}
+use Rattle.tdf_expr.specs.Checked.{IsCheckedOf}
+use Rattle.tdf_expr.specs.Frames.{IsOfFormat}
+use Rattle.tdf_fixed.specs.declared.format.Format.{Format}
+use Rattle.tdf_fixed.specs.declared.raw.Raw.{Raw}
+use Rattle.tdf_bind.specs.declared.model.Flat.{Flat}
+use Rattle.tdf_streams.specs.Net.{count}
+use Rattle.tdf_streams.specs.Playing.{IsPlayed}
+use Rattle.tdf_streams.specs.Stands.{Play, Stands}
+use Rattle.tdf_exec_layout.specs.Wiring.{Writes}
+use Rattle.tdf_rings.specs.Rings.{RingOf}
+use Rattle.tdf_schedule.specs.Plan.{done}
+use Rattle.tdf_schedule.specs.declared.entry.Entry.{Entry}
+use Rattle.tdf_streams.specs.Cluster.{Start, cluster_net}
+use Rattle.tdf_streams.specs.Periods.{PeriodRecord}
+use Rattle.tdf_lang_tree.specs.Pure.{PureTree}
 
 -- what an actor keeps: the values of the variables of a module
 abbrev pub cells_of : Runner → List ℤ

@@ -2,8 +2,8 @@
 -- Source: own.
 use Rattle.std.specs.Prelude.{ℕ, List}
 use Rattle.tdf_exec.specs.declared.runners.TracedPort.{TracedPort}
-use Rattle.tdf_layout.specs.low.expr.Frames.{FrameSeen, PortsSeen}
-use Rattle.tdf_layout.specs.low.firing.Wires.{WiresOf}
+use Rattle.tdf_expr.specs.Frames.{FrameSeen, PortsSeen}
+use Rattle.tdf_exec_firing.specs.Wires.{WiresOf}
 
 pub record ModuleOf : Type 0 where
   -- the number of its block

@@ -1,24 +1,24 @@
 -- A cluster at the start of its first period.
 -- Source: IEEE 1666.1-2016, delays of TDF ports and the callback initialize.
 use Rattle.std.specs.Prelude.{◌≡◌, ℕ, false, List, [], Some, slice_get, slice_index}
-use Rattle.tdf_layout.specs.low.dynamic.declared.first.First.{First}
+use Rattle.tdf_dynamic_first.specs.declared.first.First.{First}
 use Rattle.tdf_exec.specs.Cluster.{ClusterOf}
 use Rattle.tdf_exec.specs.Played.{play_of}
-use Rattle.tdf_layout.specs.low.expr.Blocks.{PureBlock, blocks_of, body_of}
-use Rattle.tdf_layout.specs.low.expr.Checked.{IsCheckedOf}
-use Rattle.tdf_layout.specs.low.expr.Runs.{scope_in}
-use Rattle.tdf_layout.specs.low.expr.declared.bodies.Body.TheVariants.{Initialize}
-use Rattle.tdf_layout.specs.low.expr.declared.checked.Checked.{Checked}
-use Rattle.tdf_layout.specs.low.fixed.declared.raw.Raw.{Raw}
-use Rattle.tdf_layout.specs.low.flat.Flat.{IsFlatOf}
-use Rattle.tdf_layout.specs.low.flat.declared.model.Flat.{Flat}
-use Rattle.tdf_layout.specs.low.flow.Stands.{Stands}
-use Rattle.tdf_layout.specs.low.formats.Formats.{IsSoundModel}
-use Rattle.tdf_layout.specs.low.meaning.Bodies.{after_body}
-use Rattle.tdf_layout.specs.low.state.State.{State}
-use Rattle.tdf_layout.specs.low.streams.Cluster.{cluster_net, text_start}
-use Rattle.tdf_layout.specs.low.streams.Periods.{PeriodRecord}
-use Rattle.tdf_layout.specs.low.tree.Pure.{PureTree}
+use Rattle.tdf_expr.specs.Blocks.{PureBlock, blocks_of, body_of}
+use Rattle.tdf_expr.specs.Checked.{IsCheckedOf}
+use Rattle.tdf_expr.specs.Runs.{scope_in}
+use Rattle.tdf_expr.specs.declared.bodies.Body.TheVariants.{Initialize}
+use Rattle.tdf_expr.specs.declared.checked.Checked.{Checked}
+use Rattle.tdf_fixed.specs.declared.raw.Raw.{Raw}
+use Rattle.tdf_bind.specs.Flat.{IsFlatOf}
+use Rattle.tdf_bind.specs.declared.model.Flat.{Flat}
+use Rattle.tdf_streams.specs.Stands.{Stands}
+use Rattle.tdf_bind_invariants.specs.Formats.{IsSoundModel}
+use Rattle.tdf_expr_semantics.specs.Bodies.{after_body}
+use Rattle.tdf_expr_state.specs.State.{State}
+use Rattle.tdf_streams.specs.Cluster.{cluster_net, text_start}
+use Rattle.tdf_streams.specs.Periods.{PeriodRecord}
+use Rattle.tdf_lang_tree.specs.Pure.{PureTree}
 
 -- no initialize body of the model sets a rate variable
 pub record BeginWithRates (checked : Checked) : Type 0 where

@@ -3,7 +3,7 @@
 use Rattle.std.specs.Prelude.{◌≡◌, ℕ, ◌^◌, ◌<◌, ◌≤◌, List, Option}
 use Rattle.tdf_exec.specs.Gained.{sent_size, size_due, traced_size}
 use Rattle.tdf_exec.specs.declared.runners.Runner.{Runner}
-use Rattle.tdf_layout.specs.low.schedule.declared.entry.Entry.{Entry}
+use Rattle.tdf_schedule.specs.declared.entry.Entry.{Entry}
 
 -- no offset of these entries gives more samples, and one gives as many
 pub record IsMostOf (size : Option Runner → ℕ) (runners : List Runner) (entries : List Entry)

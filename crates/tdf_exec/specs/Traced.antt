@@ -1,19 +1,18 @@
 -- The ports of a module whose signals are traced, and their samples of one activation.
 -- Source: own.
 use Rattle.std.specs.List.{range_with_len, sum_by}
-use Rattle.std.specs.Prelude.{ℕ, List, map}
-use Rattle.std.specs.Prelude.{Option, Some, None, slice_get, ℤ}
-use Rattle.tdf_layout.specs.low.bind.Flat.{FlatOf}
+use Rattle.std.specs.Prelude.{ℕ, List, map, Option, Some, None, slice_get, ℤ}
+use Rattle.tdf_bind_tables.specs.FlatTables.{FlatTablesOf}
 use Rattle.tdf_convert.specs.declared.outputs.Traced.{Traced}
-use Rattle.tdf_layout.specs.low.dynamic.Attributes.{AttrsOf}
-use Rattle.tdf_layout.specs.low.dynamic.Rates.{port_rate}
+use Rattle.tdf_dynamic_plans.specs.Attributes.{AttrsOf}
+use Rattle.tdf_dynamic_plans.specs.Rates.{port_rate}
 use Rattle.tdf_exec.specs.declared.runners.TracedPort.{TracedPort}
-use Rattle.tdf_layout.specs.low.expr.Frames.{PortsSeen}
-use Rattle.tdf_layout.specs.low.firing.Activation.{sample_at}
-use Rattle.tdf_layout.specs.low.fixed.declared.raw.Raw.{Raw}
-use Rattle.tdf_layout.specs.low.flow.Net.{Turn}
-use Rattle.tdf_layout.specs.low.streams.Places.{place_of_port}
-use Rattle.tdf_layout.specs.low.wiring.declared.modules.PortRow.{PortRow}
+use Rattle.tdf_expr.specs.Frames.{PortsSeen}
+use Rattle.tdf_exec_firing.specs.Activation.{sample_at}
+use Rattle.tdf_fixed.specs.declared.raw.Raw.{Raw}
+use Rattle.tdf_streams.specs.Net.{Turn}
+use Rattle.tdf_streams.specs.Places.{place_of_port}
+use Rattle.tdf_bind_connections.specs.declared.modules.PortRow.{PortRow}
 
 abbrev pub signal_of_row : Option PortRow → ℕ
 signal_of_row None = 0
@@ -24,7 +23,7 @@ rate_of_row table None = 0
 rate_of_row table (Some port) = port_rate table port
 
 -- a port of this number, as it is kept for its module
-abbrev pub traced_port : FlatOf → List AttrsOf → ℕ → TracedPort
+abbrev pub traced_port : FlatTablesOf → List AttrsOf → ℕ → TracedPort
 traced_port tables table number = record {
   port = place_of_port tables.ports number;
   signal = signal_of_row (slice_get tables.ports number);
@@ -44,7 +43,7 @@ abbrev pub port_samples : PortsSeen → TracedPort → List Traced
 port_samples ports t = first_samples ports t t.rate
 
 -- its samples in an activation of its module, in a period with this table
-abbrev pub turn_samples : FlatOf → List AttrsOf → Turn (List ℤ) Raw → ℕ → List Traced
+abbrev pub turn_samples : FlatTablesOf → List AttrsOf → Turn (List ℤ) Raw → ℕ → List Traced
 turn_samples tables table turn number =
     map (λ k. traced_sample (signal_of_row (slice_get tables.ports number)) (turn.outputs number k))
     (range_with_len 0 (rate_of_row table (slice_get tables.ports number)))

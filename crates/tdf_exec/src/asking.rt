@@ -2,7 +2,7 @@
 
 use crate::moving::Rest;
 use std::marker::Model;
-use tdf_changes::Frames;
+use tdf_dynamic::Frames;
 
 /// Room for the instances of the modules of a cluster, while they are asked; else it is empty.
 #[derive(Drop)]
@@ -26,26 +26,26 @@ impl Model for Spare {
 }
 
 ghost use Rattle.std.specs.Prelude.{◌≡◌, ◌⊎◌, ◌≤◌, ℕ, Contains, Err, IfErr, IfOk, IsOk, length, Ok, OnErr, Some, slice_get};
-ghost use Rattle.tdf_layout.specs.low.base.declared.faults.Fault.{Fault as FaultOf};
-ghost use Rattle.tdf_changes.specs.Change.{IsChangeFault, IsNewPlan, IsSame, table_after};
-ghost use Rattle.tdf_changes.specs.Given.{IsOfText, IsPlanned};
-ghost use Rattle.tdf_changes.specs.Next.{IsNext};
-ghost use Rattle.tdf_changes.specs.declared.next.Next.TheVariants.{Same};
-ghost use Rattle.tdf_layout.specs.low.dynamic.Attributes.{clusters_of};
-ghost use Rattle.tdf_layout.specs.low.dynamic.Faults.{IsRefusal};
-ghost use Rattle.tdf_layout.specs.low.dynamic.declared.err.ChangeErr.TheVariants.{Memory as NoMemory, Refused};
+ghost use Rattle.tdf_base.specs.declared.faults.Fault.{Fault as FaultOf};
+ghost use Rattle.tdf_dynamic.specs.Change.{IsChangeFault, IsNewPlan, IsSame, table_after};
+ghost use Rattle.tdf_dynamic.specs.Given.{IsOfText, IsPlanned};
+ghost use Rattle.tdf_dynamic.specs.Next.{IsNext};
+ghost use Rattle.tdf_dynamic.specs.declared.next.Next.TheVariants.{Same};
+ghost use Rattle.tdf_dynamic_plans.specs.Attributes.{clusters_of};
+ghost use Rattle.tdf_dynamic_plans.specs.Faults.{IsRefusal};
+ghost use Rattle.tdf_dynamic_plans.specs.declared.err.ChangeErr.TheVariants.{Memory as NoMemory, Refused};
 ghost use Rattle.tdf_exec.specs.machine.Moving.{AreInstances, AreModules, HaveMoved, WhenTheyAsk, numbers_of};
-ghost use Rattle.tdf_layout.specs.low.limits.Limits.{AreWithinLimits};
-ghost use Rattle.tdf_layout.specs.low.schedule.declared.entry.Plan.{Plan as PlanOf};
-ghost use Rattle.tdf_layout.specs.low.streams.Periods.{AreAttributes};
+ghost use Rattle.tdf_bind_invariants.specs.Limits.{AreWithinLimits};
+ghost use Rattle.tdf_schedule.specs.declared.entry.Plan.{Plan as PlanOf};
+ghost use Rattle.tdf_streams.specs.Periods.{AreAttributes};
 
 use crate::moving::{put_back, take_out};
 use crate::runners::Runner;
 use std::alloc::Global;
-use tdf_changes::{Next, next_plan};
-use tdf_layout::low::base::Memory;
-use tdf_layout::low::dynamic::{Attrs, ChangeErr};
-use tdf_layout::low::flat::Flat;
+use tdf_base::Memory;
+use tdf_bind::Flat;
+use tdf_dynamic::{Next, next_plan};
+use tdf_dynamic_plans::{Attrs, ChangeErr};
 
 impl Spare {
     /// Room for so many modules.

@@ -3,16 +3,16 @@
 ghost use Rattle.std.specs.Prelude.{◌≡◌, ◌+◌, ◌<◌, ℕ, IfOk, if◌then◌else◌, length, Some, slice_get};
 ghost use Rattle.tdf_exec.specs.Made.{is_sampler};
 ghost use Rattle.tdf_exec.specs.machine.Starting.{AreFirstRunners, CanBegin, IsBegun, IsFirstRunner, IsOfModule};
-ghost use Rattle.tdf_layout.specs.declared.wiring.ActorWires.{ActorWires as ActorWiresOf};
+ghost use Rattle.tdf_exec_layout.specs.declared.wiring.ActorWires.{ActorWires as ActorWiresOf};
 
 use crate::runners::{ModuleRunner, Runner, SamplerRunner, SinkRunner};
 use std::alloc::Global;
 use std::mem;
-use tdf_layout::ActorWires;
-use tdf_layout::low::base::Memory;
-use tdf_layout::low::expr::{Body, Frame, Ports, run_body};
-use tdf_layout::low::firing::{Wires, law_begin};
-use tdf_layout::low::flat::Flat;
+use tdf_base::Memory;
+use tdf_bind::Flat;
+use tdf_exec_firing::{Wires, law_begin};
+use tdf_exec_layout::ActorWires;
+use tdf_expr::{Body, Frame, Ports, run_body};
 
 /// A module, whose initialize body has run.
 fn begun(alloc: Global, flat: &Flat, number: usize, wires: Wires) -> Result<ModuleRunner, Memory>

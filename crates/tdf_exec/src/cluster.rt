@@ -3,9 +3,9 @@
 use crate::asking::Spare;
 use crate::runners::Runner;
 use std::marker::Model;
-use tdf_layout::low::dynamic::Attrs;
-use tdf_layout::low::rings::Ring;
-use tdf_layout::low::schedule::{Entry, Plan};
+use tdf_dynamic_plans::Attrs;
+use tdf_rings::Ring;
+use tdf_schedule::{Entry, Plan};
 
 /// A cluster in progress: its attributes, its plan and the place in it, the rates in force and the samples by edge, and
 /// what its actors need to fire. Edges and actors have the numbers of the flat model.
@@ -58,12 +58,12 @@ ghost use Rattle.tdf_exec.specs.Cluster.{due_count, due_from, is_due, next_offse
 ghost use Rattle.tdf_exec.specs.Gained.{HasGained, HaveRoom};
 ghost use Rattle.tdf_exec.specs.Made.{IsClusterOf};
 ghost use Rattle.tdf_exec.specs.Played.{AreDone, AreInputsFor, HasPlayed, KeepsStanding};
-ghost use Rattle.tdf_layout.specs.low.schedule.declared.entry.Entry.{Entry as EntryOf};
+ghost use Rattle.tdf_schedule.specs.declared.entry.Entry.{Entry as EntryOf};
 ghost use Rattle.tdf_exec.specs.machine.Steps.{AreInputsNext, HasRoomNext, HasStepped};
 
 use crate::runners::fire_runner;
+use tdf_bind::Flat;
 use tdf_convert::{Inputs, Outputs};
-use tdf_layout::low::flat::Flat;
 
 /// The place of the first entry at this offset or after, found by halving.
 fn first_from(entries: &[Entry], offset: u64) -> usize

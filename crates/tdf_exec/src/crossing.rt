@@ -1,28 +1,28 @@
 //! From the end of a period to the next.
 
 ghost use Rattle.std.specs.Prelude.{◌≡◌, ◌⊎◌, ◌<◌, ℕ, All, Err, IfErr, IfOk, IsOk, None, Ok, OnErr, OnOk, Some, false, length, slice_get, true};
-ghost use Rattle.tdf_layout.specs.low.base.declared.faults.Fault.{Fault as FaultOf};
-ghost use Rattle.tdf_changes.specs.Change.{IsChangeFault, IsNewPlan, IsSame, table_after};
-ghost use Rattle.tdf_changes.specs.Next.{IsNext};
-ghost use Rattle.tdf_changes.specs.declared.next.Next.TheVariants.{Same};
-ghost use Rattle.tdf_layout.specs.low.dynamic.Attributes.{AttrsOf};
-ghost use Rattle.tdf_layout.specs.low.dynamic.Faults.{IsRefusal};
-ghost use Rattle.tdf_layout.specs.low.dynamic.declared.err.ChangeErr.TheVariants.{Memory as NoMemory, Refused};
+ghost use Rattle.tdf_base.specs.declared.faults.Fault.{Fault as FaultOf};
+ghost use Rattle.tdf_dynamic.specs.Change.{IsChangeFault, IsNewPlan, IsSame, table_after};
+ghost use Rattle.tdf_dynamic.specs.Next.{IsNext};
+ghost use Rattle.tdf_dynamic.specs.declared.next.Next.TheVariants.{Same};
+ghost use Rattle.tdf_dynamic_plans.specs.Attributes.{AttrsOf};
+ghost use Rattle.tdf_dynamic_plans.specs.Faults.{IsRefusal};
+ghost use Rattle.tdf_dynamic_plans.specs.declared.err.ChangeErr.TheVariants.{Memory as NoMemory, Refused};
 ghost use Rattle.tdf_exec.specs.Cluster.{next_offset};
 ghost use Rattle.tdf_exec.specs.Crossing.{CanInstall, CrossesFrom, HasBegun, HasCrossed, HasNoChanges, HoldHeads, StandsAfter, WhenItAsks, at_place};
 ghost use Rattle.tdf_exec.specs.Made.{IsClusterOf};
 ghost use Rattle.tdf_exec.specs.Starts.{IsSoundFlat};
-ghost use Rattle.tdf_layout.specs.low.schedule.declared.entry.Plan.{Plan as PlanOf};
-ghost use Rattle.tdf_layout.specs.low.streams.Periods.{AreAttributes};
-ghost use Rattle.tdf_layout.specs.low.streams.Places.{has_changes};
+ghost use Rattle.tdf_schedule.specs.declared.entry.Plan.{Plan as PlanOf};
+ghost use Rattle.tdf_streams.specs.Periods.{AreAttributes};
+ghost use Rattle.tdf_streams.specs.Places.{has_changes};
 
 use crate::cluster::Cluster;
 use crate::starting::law_laid;
 use std::alloc::Global;
-use tdf_changes::Next;
-use tdf_layout::low::base::Memory;
-use tdf_layout::low::dynamic::{ChangeErr, ModuleAttrs};
-use tdf_layout::low::flat::Flat;
+use tdf_base::Memory;
+use tdf_bind::Flat;
+use tdf_dynamic::Next;
+use tdf_dynamic_plans::{ChangeErr, ModuleAttrs};
 
 /// Whether a module has a body that changes attributes.
 fn changes_at(flat: &Flat, number: u32) -> bool

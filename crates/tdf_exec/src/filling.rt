@@ -3,15 +3,15 @@
 ghost use Rattle.std.specs.Prelude.{◌≡◌, ◌<◌, ◌≤◌, [], All, IfOk, length};
 ghost use Rattle.tdf_exec.specs.Made.{room_for};
 ghost use Rattle.tdf_exec.specs.machine.Starting.{AreFirstRings, FitAtFirst, list_of};
-ghost use Rattle.tdf_layout.specs.low.rings.Rings.{ring_of};
+ghost use Rattle.tdf_rings.specs.Rings.{ring_of};
 
 use std::alloc::Global;
-use tdf_layout::initial_samples;
-use tdf_layout::low::base::Memory;
-use tdf_layout::low::bind::Flat as FlatTables;
-use tdf_layout::low::fixed::Raw;
-use tdf_layout::low::rings::Ring;
-use tdf_layout::low::wiring::EdgeRow;
+use tdf_base::Memory;
+use tdf_bind_connections::EdgeRow;
+use tdf_bind_tables::FlatTables;
+use tdf_exec_layout::initial_samples;
+use tdf_fixed::Raw;
+use tdf_rings::Ring;
 
 /// How many samples a ring has room for.
 pub(crate) fn room_for(bound: u32) -> u32

@@ -1,10 +1,9 @@
 //! What holds of clusters in progress: each function here only carries its clauses.
 
-ghost use Rattle.tdf_exec.specs.Laws.{ClustersHoldFew, HeadsHold, PlansAreSafe, RatesAreBegun};
-ghost use Rattle.tdf_exec.specs.Laws.{RatesAreKept, RoomIsThere};
+ghost use Rattle.tdf_exec.specs.Laws.{ClustersHoldFew, HeadsHold, PlansAreSafe, RatesAreBegun, RatesAreKept, RoomIsThere};
 
-use tdf_layout::low::schedule::law_present;
-use tdf_layout::{law_edges, law_rates as law_edge_rates};
+use tdf_exec_layout::{law_edges, law_rates as law_edge_rates};
+use tdf_schedule::law_present;
 
 /// Along the plan of its table only actors of a cluster fire, each firing finds its samples, and no edge holds more than
 /// its bound.

@@ -13,7 +13,6 @@
 //! - `tracing`: the ports of modules whose signals are traced.
 //! - `telling`: what a cluster in progress tells of itself.
 //! - `laws`: what holds of clusters in progress.
-//! - `low`: what the crates above use of the crates further below.
 #![tactic(auto)]
 
 mod asking;
@@ -22,7 +21,6 @@ mod cluster;
 mod crossing;
 mod filling;
 mod laws;
-pub mod low;
 mod moving;
 mod rating;
 mod restarting;
@@ -34,5 +32,5 @@ mod tracing;
 pub use cluster::Cluster;
 pub use laws::{law_few, law_heads, law_rates, law_room, law_safe};
 pub use runners::{ModuleRunner, Runner, SamplerRunner, SinkRunner, TracedPort};
-pub use tdf_changes::Next;
+pub use tdf_dynamic::Next;
 pub use telling::Room;

@@ -2,7 +2,7 @@
 
 use crate::runners::{ModuleRunner, Runner, TracedPort};
 use std::marker::Model;
-use tdf_layout::low::firing::Wires;
+use tdf_exec_firing::Wires;
 
 /// What is kept of a module beside its values and ports.
 #[derive(Drop)]
@@ -22,14 +22,14 @@ impl Model for Rest {
 
 ghost use Rattle.std.specs.Prelude.{◌≡◌, ◌++◌, ◌+◌, ◌-◌, ◌<◌, ◌≤◌, ◌∷◌, ℕ, [], length, Some, slice_get, slice_set, take};
 ghost use Rattle.std.specs.Vec.{vec_capacity, vec_len};
-ghost use Rattle.tdf_changes.specs.declared.frames.ModuleFrame.{ModuleFrame as ModuleFrameOf};
+ghost use Rattle.tdf_dynamic.specs.declared.frames.ModuleFrame.{ModuleFrame as ModuleFrameOf};
 ghost use Rattle.tdf_exec.specs.Runners.{ModuleOf};
 ghost use Rattle.tdf_exec.specs.declared.runners.Runner.TheVariants.{Module, Outside};
 ghost use Rattle.tdf_exec.specs.machine.Moving.{AreBack, AreModules, AreOut, RestOf, frame_of, numbers_of, rest_of, whole_of};
 
 use std::mem;
-use tdf_changes::ModuleFrame;
-use tdf_layout::low::dynamic::ModuleAttrs;
+use tdf_dynamic::ModuleFrame;
+use tdf_dynamic_plans::ModuleAttrs;
 
 /// Appends where there is room: it takes no memory.
 fn put_frame(list: &mut Vec<ModuleFrame>, frame: ModuleFrame)

@@ -1,16 +1,16 @@
 //! The rates in force, by edge.
 
 ghost use Rattle.std.specs.Prelude.{◌≡◌, IfOk, Some};
-ghost use Rattle.tdf_layout.specs.low.dynamic.Rates.{AreRates, edge_kind, net_of, net_ports, read_rate_by, write_rate_by};
-ghost use Rattle.tdf_layout.specs.low.streams.Periods.{read_rates, write_rates};
-ghost use Rattle.tdf_layout.specs.low.timestep.Period.{rate_of};
+ghost use Rattle.tdf_dynamic_plans.specs.Rates.{AreRates, edge_kind, net_of, net_ports, read_rate_by, write_rate_by};
+ghost use Rattle.tdf_streams.specs.Periods.{read_rates, write_rates};
+ghost use Rattle.tdf_timestep.specs.Period.{rate_of};
 
 use std::alloc::Global;
-use tdf_layout::low::base::Memory;
-use tdf_layout::low::dynamic::Attrs;
-use tdf_layout::low::flat::Flat;
-use tdf_layout::low::tree::PortKind;
-use tdf_layout::low::wiring::{EdgeRow, PortRow};
+use tdf_base::Memory;
+use tdf_bind::Flat;
+use tdf_bind_connections::{EdgeRow, PortRow};
+use tdf_dynamic_plans::Attrs;
+use tdf_lang_tree::PortKind;
 
 /// The word of the port that gives an edge.
 fn edge_kind(ports: &[PortRow], edge: EdgeRow) -> Option<PortKind>
@@ -28,7 +28,7 @@ fn rate_at(flat: &Flat, attrs: &Attrs, port: u32) -> u32
     ensures { result ≡ rate_of (net_ports flat.now.tables attrs.now) (Some port) }
 {
     if (port as usize) < flat.tables.ports.len() {
-        return attrs.port_rate(flat, port);
+        return attrs.port_rate(&flat.tables, port);
     }
     1
 }

@@ -1,13 +1,13 @@
 //! The next period with a new plan: what is made first, and how the modules begin again.
 
 ghost use Rattle.std.specs.Prelude.{◌≡◌, ℕ, IfOk, length, map, OnErr, OnOk, Some, slice_get, true};
-ghost use Rattle.tdf_layout.specs.low.dynamic.Rates.{AreRates};
+ghost use Rattle.tdf_dynamic_plans.specs.Rates.{AreRates};
 ghost use Rattle.tdf_exec.specs.Crossing.{IsReadyFor};
 ghost use Rattle.tdf_exec.specs.Made.{room_for};
 ghost use Rattle.tdf_exec.specs.Starts.{IsSoundFlat};
 ghost use Rattle.tdf_exec.specs.declared.runners.Runner.{Runner as RunnerOf};
 ghost use Rattle.tdf_exec.specs.machine.Restarting.{AreNextParts, AreRestarted, CanRestart, HasReplaced, HasRestarted, IsRestarted};
-ghost use Rattle.tdf_layout.specs.low.expr.Made.{AreMadeFor};
+ghost use Rattle.tdf_expr.specs.Made.{AreMadeFor};
 
 use crate::cluster::Cluster;
 use crate::filling::room_for;
@@ -16,13 +16,13 @@ use crate::runners::{ModuleRunner, Runner};
 use crate::starting::law_laid;
 use crate::tracing::{TracedPorts, give_all, traced_rows};
 use std::alloc::Global;
-use tdf_changes::begin;
-use tdf_layout::low::base::Memory;
-use tdf_layout::low::dynamic::Attrs;
-use tdf_layout::low::expr::{Body, Checked, run_body};
-use tdf_layout::low::flat::Flat;
-use tdf_layout::low::rings::carry;
-use tdf_layout::low::schedule::Plan;
+use tdf_base::Memory;
+use tdf_bind::Flat;
+use tdf_dynamic::begin;
+use tdf_dynamic_plans::Attrs;
+use tdf_expr::{Body, Checked, run_body};
+use tdf_rings::carry;
+use tdf_schedule::Plan;
 
 /// The ports of a module are set back, and its reinitialize body runs.
 fn restart(checked: &Checked, instance: &mut ModuleRunner)

@@ -1,8 +1,8 @@
 //! What each actor needs to fire, and one firing.
 
 use std::marker::Model;
-use tdf_layout::low::expr::{Frame, Ports};
-use tdf_layout::low::firing::Wires;
+use tdf_exec_firing::Wires;
+use tdf_expr::{Frame, Ports};
 
 /// A port that a body writes, whose signal is traced.
 #[derive(Clone, Copy, Debug, PartialEq, Eq)]
@@ -71,19 +71,18 @@ pub enum Runner {
 
 ghost use Rattle.std.specs.List.{flat_map};
 ghost use Rattle.std.specs.Prelude.{◌≡◌, ℕ, ◌+◌, ◌≤◌, [], length, Some, slice_get};
-ghost use Rattle.tdf_exec.specs.machine.Fired.{CanFireModule, CanGive, CanRun, CanSink};
-ghost use Rattle.tdf_exec.specs.machine.Fired.{HasFired, HasGiven, HasRun, HasSent};
+ghost use Rattle.tdf_exec.specs.machine.Fired.{CanFireModule, CanGive, CanRun, CanSink, HasFired, HasGiven, HasRun, HasSent};
 ghost use Rattle.tdf_exec.specs.Gained.{with_gains};
 ghost use Rattle.tdf_exec.specs.Made.{IsInSpans};
 ghost use Rattle.tdf_exec.specs.Traced.{port_samples, traced_count};
 ghost use Rattle.tdf_exec.specs.declared.runners.Runner.TheVariants.{Module};
 ghost use Rattle.tdf_exec.specs.declared.runners.TracedPort.{TracedPort as TracedPortOf};
-ghost use Rattle.tdf_layout.specs.low.firing.Actors.{HasTaken};
+ghost use Rattle.tdf_exec_firing.specs.Actors.{HasTaken};
 
 use tdf_convert::{Inputs, Outputs, Sent, Traced};
-use tdf_layout::low::expr::Checked;
-use tdf_layout::low::firing::{fire_module, fire_sampler, fire_sink};
-use tdf_layout::low::rings::Ring;
+use tdf_exec_firing::{fire_module, fire_sampler, fire_sink};
+use tdf_expr::Checked;
+use tdf_rings::Ring;
 
 impl ModuleRunner {
     /// One firing.

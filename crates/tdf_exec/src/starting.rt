@@ -2,12 +2,12 @@
 
 ghost use Rattle.std.specs.Prelude.{◌≤◌, IfOk, length};
 ghost use Rattle.tdf_convert.specs.Sampled.{PlansGoByOffset};
-ghost use Rattle.tdf_layout.specs.low.dynamic.First.{IsFirstPlan};
-ghost use Rattle.tdf_layout.specs.low.dynamic.Rates.{AreRates};
+ghost use Rattle.tdf_dynamic_first.specs.First.{IsFirstPlan};
+ghost use Rattle.tdf_dynamic_plans.specs.Rates.{AreRates};
 ghost use Rattle.tdf_exec.specs.Made.{IsClusterOf};
 ghost use Rattle.tdf_exec.specs.Starts.{IsAtStart, IsSoundFlat, StandsAtStart};
 ghost use Rattle.tdf_exec.specs.machine.Laid.{AreParts, AreRunnersOf, SoundIsLaid};
-ghost use Rattle.tdf_layout.specs.low.schedule.Laws.{PlansArePresent};
+ghost use Rattle.tdf_schedule.specs.Laws.{PlansArePresent};
 
 use crate::asking::Spare;
 use crate::beginning::first_runners;
@@ -18,15 +18,15 @@ use crate::rating::{read_rates, write_rates};
 use crate::runners::Runner;
 use crate::tracing::{give_all, traced_rows};
 use std::alloc::Global;
+use tdf_base::Memory;
+use tdf_bind::Flat;
+use tdf_bind_invariants::{law_formats, law_limits};
 use tdf_convert::law_by_offset;
-use tdf_layout::low::base::Memory;
-use tdf_layout::low::dynamic::{Attrs, First};
-use tdf_layout::low::flat::Flat;
-use tdf_layout::low::formats::law_formats;
-use tdf_layout::low::limits::law_limits;
-use tdf_layout::low::rings::Ring;
-use tdf_layout::low::schedule::law_present;
-use tdf_layout::{cluster_wires, law_edge_formats, law_edges, law_wired};
+use tdf_dynamic_first::First;
+use tdf_dynamic_plans::Attrs;
+use tdf_exec_layout::{cluster_wires, law_edge_formats, law_edges, law_wired};
+use tdf_rings::Ring;
+use tdf_schedule::law_present;
 
 /// What the tables of a sound flat model have, and what holds along plans.
 pub(crate) fn law_laid()

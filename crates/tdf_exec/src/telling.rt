@@ -21,24 +21,24 @@ ghost use Rattle.std.specs.List.{count_by};
 ghost use Rattle.std.specs.Prelude.{◌≡◌, ◌+◌, ◌<◌, ◌≤◌, ◌^◌, IfOk, OnErr, Some, length, max, nat_eq, slice_get};
 ghost use Rattle.tdf_convert.specs.Links.{AreLinks, HaveSignals};
 ghost use Rattle.tdf_convert.specs.Sampled.{AreByOffset, AreSampled};
-ghost use Rattle.tdf_layout.specs.low.dynamic.Rates.{port_rate};
+ghost use Rattle.tdf_dynamic_plans.specs.Rates.{port_rate};
 ghost use Rattle.tdf_exec.specs.Gained.{sent_size, traced_size};
 ghost use Rattle.tdf_exec.specs.Made.{IsClusterOf};
 ghost use Rattle.tdf_exec.specs.Played.{turns_from};
 ghost use Rattle.tdf_exec.specs.Telling.{GivesTooMany, IsMostOf};
 ghost use Rattle.tdf_exec.specs.Traced.{traced_count};
 ghost use Rattle.tdf_exec.specs.machine.Telling.{IsOver, here_at, room_of, rooms_with, sent_with, traced_with};
-ghost use Rattle.tdf_layout.specs.low.limits.Limits.{AreWithinLimits};
-ghost use Rattle.tdf_layout.specs.low.wiring.declared.modules.PortRow.{PortRow as PortRowOf};
+ghost use Rattle.tdf_bind_invariants.specs.Limits.{AreWithinLimits};
+ghost use Rattle.tdf_bind_connections.specs.declared.modules.PortRow.{PortRow as PortRowOf};
 
 use crate::cluster::Cluster;
 use crate::runners::{Runner, TracedPort};
+use tdf_base::Memory;
+use tdf_bind::Flat;
 use tdf_convert::{Inputs, Links, sample_due};
-use tdf_layout::low::base::Memory;
-use tdf_layout::low::dynamic::Attrs;
-use tdf_layout::low::fixed::Raw;
-use tdf_layout::low::flat::Flat;
-use tdf_layout::low::schedule::{Entry, Plan};
+use tdf_dynamic_plans::Attrs;
+use tdf_fixed::Raw;
+use tdf_schedule::{Entry, Plan};
 
 /// A sum, if it has 32 bits.
 fn sum(a: u32, b: u32) -> Result<u32, Memory>
@@ -206,7 +206,7 @@ impl Cluster {
         ensures { (row : PortRowOf) → slice_get flat.now.tables.ports port ≡ Some row
             → result ≡ port_rate self.now.table row }
     {
-        self.attrs.port_rate(flat, port)
+        self.attrs.port_rate(&flat.tables, port)
     }
 
     /// The greatest numbers of samples of sinks and of traced samples that the entries of one offset give, by one look at

@@ -20,22 +20,22 @@ impl Model for TracedPorts {
 
 ghost use Rattle.std.specs.List.{list_any};
 ghost use Rattle.std.specs.Prelude.{◌≡◌, ◌&&◌, ◌++◌, ◌∷◌, ◌<◌, ◌≤◌, ℕ, [], All, IfOk, OnOk, Some, length, replicate, slice_get};
-ghost use Rattle.tdf_layout.specs.low.dynamic.Rates.{AreRates};
-ghost use Rattle.tdf_layout.specs.Traced.{is_trace_of};
+ghost use Rattle.tdf_dynamic_plans.specs.Rates.{AreRates};
+ghost use Rattle.tdf_exec_layout.specs.Traced.{is_trace_of};
 ghost use Rattle.tdf_exec.specs.machine.Tracing.{AreGivenTraced, AreMarked, AreTracedUpTo, is_written_traced, marked, put_traced, with_traced};
-ghost use Rattle.tdf_layout.specs.low.streams.Places.{place_of_port};
-ghost use Rattle.tdf_layout.specs.low.wiring.declared.modules.PortRow.{PortRow as PortRowOf};
+ghost use Rattle.tdf_streams.specs.Places.{place_of_port};
+ghost use Rattle.tdf_bind_connections.specs.declared.modules.PortRow.{PortRow as PortRowOf};
 
 use crate::runners::Runner;
 use std::alloc::Global;
 use std::mem;
-use tdf_layout::low::base::Memory;
-use tdf_layout::low::bind::Flat as FlatTables;
-use tdf_layout::low::dynamic::Attrs;
-use tdf_layout::low::flat::Flat;
-use tdf_layout::low::tree::PortKind;
-use tdf_layout::low::wiring::{PortRow, TraceRow};
-use tdf_layout::port_places;
+use tdf_base::{Memory, row_number};
+use tdf_bind::Flat;
+use tdf_bind_connections::{PortRow, TraceRow};
+use tdf_bind_tables::FlatTables;
+use tdf_dynamic_plans::Attrs;
+use tdf_exec_layout::port_places;
+use tdf_lang_tree::PortKind;
 
 impl TracedPorts {
     fn new(alloc: Global) -> TracedPorts
@@ -110,16 +110,6 @@ fn is_traced(marks: &Vec<bool>, traces: &[TraceRow], port: &PortRow) -> bool
     }
 }
 
-/// The number of a port has 32 bits; more ports do not fit in memory.
-fn short(place: usize) -> Result<u32, Memory>
-    ensures { IfOk result (λ number. number ≡ place) }
-{
-    if place > 4_294_967_295 {
-        return Err(Memory);
-    }
-    Ok(place as u32)
-}
-
 /// A port comes to its module, if its signal is traced.
 fn put_port(
     flat: &Flat,
@@ -145,7 +135,7 @@ fn put_port(
     rows[port.module as usize].put(TracedPort {
         port: place,
         signal: port.signal,
-        rate: attrs.port_rate(flat, number),
+        rate: attrs.port_rate(&flat.tables, number),
     })
 }
 
@@ -178,7 +168,7 @@ pub(crate) fn traced_rows(
     let places = port_places(alloc, flat.tables.modules.len(), &flat.tables.ports)?;
     let mut rows = no_rows(alloc, flat.tables.modules.len())?;
     for n in 0..flat.tables.ports.len() {
-        put_port(flat, attrs, &marks, places[n], short(n)?, &mut rows)?;
+        put_port(flat, attrs, &marks, places[n], row_number(n)?, &mut rows)?;
     }
     Ok(rows)
 }

@@ -5,20 +5,20 @@ use Rattle.std.proofs.lemmas.List.{length-map, length-append}
 use Rattle.std.proofs.lemmas.Option.{slice_get-map, slice_get_read}
 use Rattle.std.specs.Option.{option_map}
 use Rattle.std.specs.Prelude.{map, slice_get}
-use Rattle.tdf_bodies.specs.Promises.{PerformsAll}
+use Rattle.tdf_expr_compiler.specs.Promises.{PerformsAll}
 use Rattle.std.specs.declared.alloc.Global.{Global}
 use Rattle.tdf_expr.specs.Blocks.{PureBlock, Events, body_of, scope_of, process_body}
 use Rattle.tdf_expr.specs.declared.blocks.Block.{Block}
-use Rattle.tdf_scope.specs.Names.{Names}
+use Rattle.tdf_expr_symbols.specs.Names.{Names}
 use Rattle.tdf_expr.specs.Compiled.{AreProcesses, IsActOf, IsBlockOf, AreBlocksOf, act_of}
 use Rattle.tdf_expr.specs.declared.bodies.Body.{Body}
 use Rattle.tdf_expr.specs.declared.bodies.Body.TheVariants as body
 use Rattle.tdf_expr.specs.declared.blocks.Acts.TheVariants as acts
-use Rattle.tdf_machine.specs.declared.acts.Act.{Act}
-use Rattle.tdf_scope.specs.Scope.{Scope}
-use Rattle.tdf_tree.specs.Pure.{PureProcess, PureDe}
-use Rattle.tdf_tree.specs.Views.{pure_process}
-use Rattle.tdf_tree.specs.declared.blocks.Process.{Process}
+use Rattle.tdf_expr_machine.specs.declared.acts.Act.{Act}
+use Rattle.tdf_expr_symbols.specs.Scope.{Scope}
+use Rattle.tdf_lang_tree.specs.Pure.{PureProcess, PureDe}
+use Rattle.tdf_lang_tree.specs.Views.{pure_process}
+use Rattle.tdf_lang_tree.specs.declared.blocks.Process.{Process}
 
 -- the processes whose acts are made
 pub record AreMade (scope : Scope) (processes : List PureProcess) (n : ℕ) (list : List Act) : Type 0 where

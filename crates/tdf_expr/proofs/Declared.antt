@@ -1,6 +1,5 @@
 -- What holds of the names of blocks whose declarations have no fault.
-use Rattle.std.proofs.Common.{◌≡◌, ◌∙◌, ℕ, zero, suc, ◌*◌, ◌≤◌, Bool, true, false, List, [], ◌∷◌, ◌++◌}
-use Rattle.std.proofs.Common.{Option, Some, None, length, refl, sym, ap, subst, arith}
+use Rattle.std.proofs.Common.{◌≡◌, ◌∙◌, ℕ, zero, suc, ◌*◌, ◌≤◌, Bool, true, false, List, [], ◌∷◌, ◌++◌, Option, Some, None, length, refl, sym, ap, subst, arith}
 use Rattle.std.proofs.Math.Nat.{mul-le-mul}
 use Rattle.std.proofs.lemmas.Bool.Decides.{nat_tests}
 use Rattle.std.specs.Cmp.Lexicographic.{pointwise}
@@ -8,32 +7,29 @@ use Rattle.std.specs.List.{list_any, flat_map}
 use Rattle.std.specs.Prelude.{not, ◌||◌, nat_eq, nat_lt, if◌then◌else◌, slice_get, slice_set}
 use Rattle.tdf_base.specs.Limits.{greatest_rate as most_rate}
 use Rattle.tdf_base.specs.declared.codes.Code.TheVariants as code
-use Rattle.tdf_checks.specs.Lines.{is_format, shape_faults, format_faults, is_no_rate, array_faults, store_faults, is_range, tdf_line_faults, de_line_faults}
-use Rattle.tdf_checks.specs.Lines.{rate_faults, attr_faults}
-use Rattle.tdf_checks.specs.Types.{global_faults}
-use Rattle.tdf_faults.proofs.Api.{if_none, none_first, none_second}
+use Rattle.tdf_expr_blocks.specs.Lines.{is_format, shape_faults, format_faults, is_no_rate, array_faults, store_faults, is_range, tdf_line_faults, de_line_faults, rate_faults, attr_faults}
+use Rattle.tdf_expr_blocks.specs.Types.{global_faults}
+use Rattle.tdf_base.proofs.Api.{if_none, none_first, none_second}
 use Rattle.tdf_fixed.specs.Cast.{IsLegal}
-use Rattle.tdf_scope.specs.Names.{Names, Thing, Const, Var, Array, Port, RateVar, Event, Signal, DeSignal, Instance, Loop, TypeName, Tdf, De, Composite}
-use Rattle.tdf_scope.specs.Names.{no_names, at_place, with_name, place_of, thing_of, changed, changed_at, with_global, with_globals, globals_of, format_of, type_shape, kind_of}
-use Rattle.tdf_scope.specs.Names.{with_port, with_store, with_tdf_line, with_tdf_lines, at_rate, at_delay, with_attr, with_attrs, tdf_names, with_de_line, with_de_lines, de_names}
-use Rattle.tdf_meaning.proofs.Api.{found, of_kind}
-use Rattle.tdf_scope.specs.Faults.{multiple_faults}
-use Rattle.tdf_scope.specs.Index.{kind_faults}
-use Rattle.tdf_scope.specs.Kinds.{is_allowed}
-use Rattle.tdf_scope.specs.declared.kinds.Place.TheVariants as place
-use Rattle.tdf_tree.specs.declared.blocks.PortKind.TheVariants.{In, Out, DeIn, DeOut}
-use Rattle.tdf_scope.specs.Sound.{HasFormat, IsThingSound, IsSound}
-use Rattle.tdf_tree.specs.Kept.{Each, KeepsLit, KeepsStore, KeepsTdfLine, KeepsDeLine}
-use Rattle.tdf_tree.specs.Pure.{PureGlobal, GShape, GTdf, GDe, GNet, PureStore, SConst, SVar, SArray, PureTdfLine, TPort, TStore, TRate, PureTdf, PureDeLine, DPort, DStore, DEvent, PureDe}
-use Rattle.tdf_tree.specs.declared.blocks.Attr.{Attr}
-use Rattle.tdf_tree.specs.declared.blocks.Attr.TheVariants as attr
-use Rattle.tdf_tree.specs.declared.stmt.Limit.{Limit}
-use Rattle.tdf_tree.specs.declared.stmt.Limit.TheVariants as limit
-use Rattle.tdf_scope.specs.Scope.{Scope, least_of, greatest_of, least_rate, greatest_rate, tdf_scope, de_scope}
-use Rattle.tdf_tree.specs.declared.blocks.PortLine.{PortLine}
-use Rattle.tdf_tree.specs.declared.shapes.FormatRef.{FormatRef}
-use Rattle.tdf_tree.specs.declared.shapes.FormatRef.TheVariants as format
-use Rattle.tdf_tree.specs.declared.shapes.Shape.{Shape}
+use Rattle.tdf_expr_symbols.specs.Names.{Names, Thing, Const, Var, Array, Port, RateVar, Event, Signal, DeSignal, Instance, Loop, TypeName, Tdf, De, Composite, no_names, at_place, with_name, place_of, thing_of, changed, changed_at, with_global, with_globals, globals_of, format_of, type_shape, kind_of, with_port, with_store, with_tdf_line, with_tdf_lines, at_rate, at_delay, with_attr, with_attrs, tdf_names, with_de_line, with_de_lines, de_names}
+use Rattle.tdf_expr_semantics.proofs.Api.{found, of_kind}
+use Rattle.tdf_expr_symbols.specs.Faults.{multiple_faults}
+use Rattle.tdf_expr_symbols.specs.Index.{kind_faults}
+use Rattle.tdf_expr_symbols.specs.Kinds.{is_allowed}
+use Rattle.tdf_expr_symbols.specs.declared.kinds.Place.TheVariants as place
+use Rattle.tdf_lang_tree.specs.declared.blocks.PortKind.TheVariants.{In, Out, DeIn, DeOut}
+use Rattle.tdf_expr_symbols.specs.Sound.{HasFormat, IsThingSound, IsSound}
+use Rattle.tdf_lang_tree.specs.Kept.{Each, KeepsLit, KeepsStore, KeepsTdfLine, KeepsDeLine}
+use Rattle.tdf_lang_tree.specs.Pure.{PureGlobal, GShape, GTdf, GDe, GNet, PureStore, SConst, SVar, SArray, PureTdfLine, TPort, TStore, TRate, PureTdf, PureDeLine, DPort, DStore, DEvent, PureDe}
+use Rattle.tdf_lang_tree.specs.declared.blocks.Attr.{Attr}
+use Rattle.tdf_lang_tree.specs.declared.blocks.Attr.TheVariants as attr
+use Rattle.tdf_lang_tree.specs.declared.stmt.Limit.{Limit}
+use Rattle.tdf_lang_tree.specs.declared.stmt.Limit.TheVariants as limit
+use Rattle.tdf_expr_symbols.specs.Scope.{Scope, least_of, greatest_of, least_rate, greatest_rate, tdf_scope, de_scope}
+use Rattle.tdf_lang_tree.specs.declared.blocks.PortLine.{PortLine}
+use Rattle.tdf_lang_tree.specs.declared.shapes.FormatRef.{FormatRef}
+use Rattle.tdf_lang_tree.specs.declared.shapes.FormatRef.TheVariants as format
+use Rattle.tdf_lang_tree.specs.declared.shapes.Shape.{Shape}
 
 -- a fact of each thing of a name space
 abbrev pub AllThings : (Thing → Type 0) → Names → Type 0

@@ -3,26 +3,26 @@ use Rattle.std.proofs.Common.{◌≡◌, ℕ, zero, suc, List, [], ◌∷◌, �
 use Rattle.std.specs.List.{flat_map}
 use Rattle.std.specs.Prelude.{slice_get}
 use Rattle.tdf_base.specs.Limits.{deepest_nesting}
-use Rattle.tdf_bodies.proofs.Api.{faultless}
-use Rattle.tdf_bodies.specs.Promises.{AreFaultless}
-use Rattle.tdf_checks.specs.Blocks.{bodies_faults, process_faults, tdf_faults, de_faults, composite_faults}
-use Rattle.tdf_checks.specs.Lines.{tdf_line_faults, attr_faults, initial_faults, de_line_faults, sense_faults}
-use Rattle.tdf_checks.specs.Types.{global_faults, traces_faults, type_faults}
-use Rattle.tdf_checks.specs.Writers.{writer_faults}
+use Rattle.tdf_expr_compiler.proofs.Api.{faultless}
+use Rattle.tdf_expr_compiler.specs.Promises.{AreFaultless}
+use Rattle.tdf_expr_blocks.specs.Blocks.{bodies_faults, process_faults, tdf_faults, de_faults, composite_faults}
+use Rattle.tdf_expr_blocks.specs.Lines.{tdf_line_faults, attr_faults, initial_faults, de_line_faults, sense_faults}
+use Rattle.tdf_expr_blocks.specs.Types.{global_faults, traces_faults, type_faults}
+use Rattle.tdf_expr_blocks.specs.Writers.{writer_faults}
 use Rattle.tdf_expr.proofs.Declared.{AllThings, IsGlobal, globals_all, tdf_sound, de_sound}
 use Rattle.tdf_expr.specs.Blocks.{Module, Events, body_of, process_body}
 use Rattle.tdf_expr.specs.declared.bodies.Body.{Body}
 use Rattle.tdf_expr.specs.declared.bodies.Body.TheVariants as body
 use Rattle.tdf_expr.specs.machine.Fine.{IsFine, IsBlockFine}
-use Rattle.tdf_faults.proofs.Api.{none_first, none_second}
-use Rattle.tdf_scope.specs.Faults.{stmts_faults}
-use Rattle.tdf_scope.specs.Names.{Names, globals_of}
-use Rattle.tdf_scope.specs.Scope.{Scope, tdf_scope, de_scope}
-use Rattle.tdf_scope.specs.declared.kinds.Part.{Part}
-use Rattle.tdf_scope.specs.declared.kinds.Part.TheVariants as part
-use Rattle.tdf_tree.specs.Kept.{Each, KeepsStmts, KeepsTdf, KeepsDe, KeepsProcess, KeepsGlobal, IsKept}
-use Rattle.tdf_tree.specs.Pure.{Done, PureBody, PureGlobal, GShape, GTdf, GDe, GNet, PureTdf, PureDe, PureProcess, PureTree}
-use Rattle.tdf_widths.specs.Bodies.{body_faults}
+use Rattle.tdf_base.proofs.Api.{none_first, none_second}
+use Rattle.tdf_expr_symbols.specs.Faults.{stmts_faults}
+use Rattle.tdf_expr_symbols.specs.Names.{Names, globals_of}
+use Rattle.tdf_expr_symbols.specs.Scope.{Scope, tdf_scope, de_scope}
+use Rattle.tdf_expr_symbols.specs.declared.kinds.Part.{Part}
+use Rattle.tdf_expr_symbols.specs.declared.kinds.Part.TheVariants as part
+use Rattle.tdf_lang_tree.specs.Kept.{Each, KeepsStmts, KeepsTdf, KeepsDe, KeepsProcess, KeepsGlobal, IsKept}
+use Rattle.tdf_lang_tree.specs.Pure.{Done, PureBody, PureGlobal, GShape, GTdf, GDe, GNet, PureTdf, PureDe, PureProcess, PureTree}
+use Rattle.tdf_expr_types.specs.Bodies.{body_faults}
 
 -- no statement at all
 done_faultless : (scope : Scope) → AreFaultless scope Done

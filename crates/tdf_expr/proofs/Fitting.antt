@@ -1,6 +1,5 @@
 -- Numbers that fit their formats.
-use Rattle.std.proofs.Common.{◌≡◌, ◌∙◌, ℕ, zero, suc, ◌+◌, ◌-◌, ◌<◌, ◌≤◌, Bool, true, false, List, [], ◌∷◌, ◌++◌, Option, Some, None, ℤ, pos}
-use Rattle.std.proofs.Common.{length, take, drop, refl, sym, ap, subst, arith}
+use Rattle.std.proofs.Common.{◌≡◌, ◌∙◌, ℕ, zero, suc, ◌+◌, ◌-◌, ◌<◌, ◌≤◌, Bool, true, false, List, [], ◌∷◌, ◌++◌, Option, Some, None, ℤ, pos, length, take, drop, refl, sym, ap, subst, arith}
 use Rattle.std.proofs.lemmas.Int.{ints}
 use Rattle.std.proofs.lemmas.List.{replicate-append-replicate, length-append, length-replicate, length-map}
 use Rattle.std.proofs.lemmas.Nat.{pow_pos}
@@ -13,15 +12,15 @@ use Rattle.tdf_expr.specs.declared.spans.RateSpan.{RateSpan}
 use Rattle.tdf_expr.specs.machine.Fitting.{FitsShape, AllFit}
 use Rattle.tdf_fixed.proofs.Api.{in_range}
 use Rattle.tdf_fixed.specs.Overflow.{IsIn}
-use Rattle.tdf_meaning.specs.Fits.{NumbersFit, RatesFit}
-use Rattle.tdf_meaning.specs.Places.{RateLimits, cells_of, cell_shapes, limits_of, rate_limits}
-use Rattle.tdf_meaning.specs.Value.{literal_number}
-use Rattle.tdf_scope.specs.Names.{Names, Thing, Var, Array, RateVar, shape_of}
-use Rattle.tdf_scope.specs.Scope.{Scope}
-use Rattle.tdf_scope.specs.Sound.{HasFormat, IsSound, IsThingSound}
-use Rattle.tdf_state.specs.State.{cell_at}
-use Rattle.tdf_tree.specs.declared.names.Lit.{Lit}
-use Rattle.tdf_tree.specs.declared.shapes.Shape.{Shape}
+use Rattle.tdf_expr_semantics.specs.Fits.{NumbersFit, RatesFit}
+use Rattle.tdf_expr_semantics.specs.Places.{RateLimits, cells_of, cell_shapes, limits_of, rate_limits}
+use Rattle.tdf_expr_semantics.specs.Value.{literal_number}
+use Rattle.tdf_expr_symbols.specs.Names.{Names, Thing, Var, Array, RateVar, shape_of}
+use Rattle.tdf_expr_symbols.specs.Scope.{Scope}
+use Rattle.tdf_expr_symbols.specs.Sound.{HasFormat, IsSound, IsThingSound}
+use Rattle.tdf_expr_state.specs.State.{cell_at}
+use Rattle.tdf_lang_tree.specs.declared.names.Lit.{Lit}
+use Rattle.tdf_lang_tree.specs.declared.shapes.Shape.{Shape}
 
 -- 0 is a number of every range
 pub zero_in : (signed : Bool) (wl : ℕ) → IsIn signed wl (pos 0)

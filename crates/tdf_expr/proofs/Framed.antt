@@ -1,6 +1,5 @@
 -- The samples of an instance, port after port.
-use Rattle.std.proofs.Common.{◌≡◌, ◌∙◌, ℕ, zero, suc, ◌+◌, ◌-◌, ◌<◌, ◌≤◌, Bool, true, false, List, [], ◌∷◌, ◌++◌, Option, Some, None, ℤ, pos}
-use Rattle.std.proofs.Common.{length, take, drop, refl, sym, ap, subst, arith, append_assoc, append-nil, if◌then◌else◌}
+use Rattle.std.proofs.Common.{◌≡◌, ◌∙◌, ℕ, zero, suc, ◌+◌, ◌-◌, ◌<◌, ◌≤◌, Bool, true, false, List, [], ◌∷◌, ◌++◌, Option, Some, None, ℤ, pos, length, take, drop, refl, sym, ap, subst, arith, append_assoc, append-nil, if◌then◌else◌}
 use Rattle.std.proofs.Math.ListN.{get_or}
 use Rattle.std.proofs.Math.Seq.{take-append_seam, drop-append_seam, drop-append-add}
 use Rattle.std.proofs.lemmas.Option.{slice_get_within}
@@ -10,8 +9,7 @@ use Rattle.std.specs.Option.{option_map}
 use Rattle.std.specs.Prelude.{map, replicate, slice_get, slice_set}
 use Rattle.tdf_expr.proofs.Planned.{has_at}
 use Rattle.tdf_expr.proofs.Fitting.{zero_fits, blanks_fit, fit_both, fit_first, fit_second, all_fit, numbers_fit}
-use Rattle.tdf_expr.specs.Frames.{FrameSeen, PortsSeen, IsFrameFit, ArePortsFit, IsAllowedRate, limits_of_rate}
-use Rattle.tdf_expr.specs.Frames.{sample_formats, AreConsecutive, is_written, reset_port, reset_samples, reset_state}
+use Rattle.tdf_expr.specs.Frames.{FrameSeen, PortsSeen, IsFrameFit, ArePortsFit, IsAllowedRate, limits_of_rate, sample_formats, AreConsecutive, is_written, reset_port, reset_samples, reset_state}
 use Rattle.tdf_expr.specs.Plans.{PortPlace, shape_of_format, written, place_of_port, places_from, port_places}
 use Rattle.tdf_expr.specs.declared.spans.PortSpan.{PortSpan}
 use Rattle.tdf_expr.specs.declared.spans.RateSpan.{RateSpan}
@@ -19,14 +17,14 @@ use Rattle.tdf_expr.specs.machine.Fitting.{FitsShape, AllFit}
 use Rattle.tdf_expr.specs.machine.Zeroed.{zeroed_one, zeroed}
 use Rattle.tdf_fixed.specs.Overflow.{IsIn}
 use Rattle.tdf_fixed.specs.declared.format.Format.{Format}
-use Rattle.tdf_meaning.proofs.Api.{slice_replicate, slice_left, slice_right, numbers_set, rates_set}
-use Rattle.tdf_meaning.specs.Fits.{NumbersFit}
-use Rattle.tdf_meaning.specs.Places.{samples_of, ports_of, sample_shapes, total}
-use Rattle.tdf_scope.specs.Names.{Names, Thing, Port, shape_of}
-use Rattle.tdf_scope.specs.Scope.{greatest_of}
-use Rattle.tdf_state.specs.Resets.{with_zeros}
-use Rattle.tdf_state.specs.State.{PortsState}
-use Rattle.tdf_tree.specs.declared.shapes.Shape.{Shape}
+use Rattle.tdf_expr_semantics.proofs.Api.{slice_replicate, slice_left, slice_right, numbers_set, rates_set}
+use Rattle.tdf_expr_semantics.specs.Fits.{NumbersFit}
+use Rattle.tdf_expr_semantics.specs.Places.{samples_of, ports_of, sample_shapes, total}
+use Rattle.tdf_expr_symbols.specs.Names.{Names, Thing, Port, shape_of}
+use Rattle.tdf_expr_symbols.specs.Scope.{greatest_of}
+use Rattle.tdf_expr_state.specs.Resets.{with_zeros}
+use Rattle.tdf_expr_state.specs.State.{PortsState}
+use Rattle.tdf_lang_tree.specs.declared.shapes.Shape.{Shape}
 
 -- what a list of images has at a place
 pub map_at : {A B : Type 0} (f : A → B) (xs : List A) (n : ℕ) (x : A) → slice_get xs n ≡ Some x → slice_get (map f xs) n ≡ Some (f x)

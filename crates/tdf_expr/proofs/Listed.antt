@@ -6,9 +6,9 @@ use Rattle.std.proofs.lemmas.Option.{slice_get-map, slice_get_read}
 use Rattle.std.specs.Option.{option_map}
 use Rattle.std.specs.Prelude.{map, slice_get}
 use Rattle.tdf_expr.specs.Blocks.{PureBlock, block_of, blocks_of}
-use Rattle.tdf_tree.specs.Pure.{PureGlobal}
-use Rattle.tdf_tree.specs.Views.{pure_global}
-use Rattle.tdf_tree.specs.declared.tree.Global1.{Global1}
+use Rattle.tdf_lang_tree.specs.Pure.{PureGlobal}
+use Rattle.tdf_lang_tree.specs.Views.{pure_global}
+use Rattle.tdf_lang_tree.specs.declared.tree.Global1.{Global1}
 
 pub global_at : (list : List Global1) (n : ℕ) (g : Global1) → n < length list → g ≡ get_or list n g → slice_get (map pure_global list) n ≡ Some (pure_global g)
 global_at list n g within is = slice_get-map pure_global list n ∙ ap (option_map pure_global) (slice_get_read list (length list) n g refl within is)

@@ -4,9 +4,9 @@ use Rattle.std.proofs.lemmas.List.{drop_all}
 use Rattle.std.specs.List.{flat_map}
 use Rattle.std.specs.Prelude.{slice_get}
 use Rattle.tdf_expr.specs.machine.Cells.{AreStartsKept, IsRateKept, IsPortKept}
-use Rattle.tdf_scope.specs.Names.{Names, Thing, Var, Array, Port, RateVar}
-use Rattle.tdf_scope.specs.Scope.{Scope}
-use Rattle.tdf_scope.specs.Sound.{IsSound, IsThingSound}
+use Rattle.tdf_expr_symbols.specs.Names.{Names, Thing, Var, Array, Port, RateVar}
+use Rattle.tdf_expr_symbols.specs.Scope.{Scope}
+use Rattle.tdf_expr_symbols.specs.Sound.{IsSound, IsThingSound}
 
 -- what is at a place, and what comes after it
 pub drop_at : (things : List Thing) (n : ℕ) (t : Thing) → slice_get things n ≡ Some t → drop n things ≡ t ∷ drop (n + 1) things

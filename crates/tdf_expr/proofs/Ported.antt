@@ -4,18 +4,18 @@ use Rattle.std.proofs.lemmas.List.{drop_all, length-append, length-replicate, ma
 use Rattle.std.specs.List.{flat_map}
 use Rattle.std.specs.Prelude.{map, slice_get, replicate}
 use Rattle.tdf_expr.proofs.Planned.{drop_at, has_at}
-use Rattle.tdf_meaning.specs.Places.{before, total, samples_of, sample_shapes}
+use Rattle.tdf_expr_semantics.specs.Places.{before, total, samples_of, sample_shapes}
 use Rattle.tdf_expr.specs.Plans.{PortPlace, written, place_of_port, places_from, port_places}
-use Rattle.tdf_bodies.specs.Formats.{IsFormatOf}
+use Rattle.tdf_expr_compiler.specs.Formats.{IsFormatOf}
 use Rattle.tdf_expr.proofs.Pushes.{written_is}
 use Rattle.tdf_expr.specs.declared.spans.PortSpan.{PortSpan}
 use Rattle.tdf_fixed.specs.declared.format.Format.{Format}
-use Rattle.tdf_scope.specs.Names.{Names, Thing, Const, Var, Array, Port, shape_of}
-use Rattle.tdf_scope.specs.Scope.{greatest_of}
-use Rattle.tdf_tree.specs.declared.blocks.PortKind.{PortKind}
-use Rattle.tdf_tree.specs.declared.names.Lit.{Lit}
-use Rattle.tdf_tree.specs.declared.shapes.Shape.{Shape}
-use Rattle.tdf_tree.specs.declared.stmt.Limit.{Limit}
+use Rattle.tdf_expr_symbols.specs.Names.{Names, Thing, Const, Var, Array, Port, shape_of}
+use Rattle.tdf_expr_symbols.specs.Scope.{greatest_of}
+use Rattle.tdf_lang_tree.specs.declared.blocks.PortKind.{PortKind}
+use Rattle.tdf_lang_tree.specs.declared.names.Lit.{Lit}
+use Rattle.tdf_lang_tree.specs.declared.shapes.Shape.{Shape}
+use Rattle.tdf_lang_tree.specs.declared.stmt.Limit.{Limit}
 
 -- a port
 pub span_port : (own : Names) (xs : List PortSpan) (word : PortKind) (shape : Shape) (format : Format) (rate : Limit) (delay first count next : ℕ) (rest : List Thing)

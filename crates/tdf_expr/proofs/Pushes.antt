@@ -5,13 +5,13 @@ use Rattle.std.proofs.lemmas.List.{drop_more, drop_all, map-append}
 use Rattle.std.proofs.lemmas.Grind.{replicate_next}
 use Rattle.std.specs.Prelude.{replicate, map, Result, Ok, Err, OnOk}
 use Rattle.tdf_base.specs.declared.memory.Memory.{Memory}
-use Rattle.tdf_bodies.specs.Formats.{IsFormatOf}
+use Rattle.tdf_expr_compiler.specs.Formats.{IsFormatOf}
 use Rattle.tdf_expr.specs.Plans.{written, start_of}
 use Rattle.tdf_expr.specs.declared.spans.RateSpan.{RateSpan}
 use Rattle.tdf_fixed.specs.declared.format.Format.{Format}
-use Rattle.tdf_tree.specs.Kept.{Each, KeepsLit}
-use Rattle.tdf_tree.specs.declared.names.Lit.{Lit}
-use Rattle.tdf_tree.specs.declared.shapes.Shape.{Shape}
+use Rattle.tdf_lang_tree.specs.Kept.{Each, KeepsLit}
+use Rattle.tdf_lang_tree.specs.declared.names.Lit.{Lit}
+use Rattle.tdf_lang_tree.specs.declared.shapes.Shape.{Shape}
 
 -- one more of an item
 pub push_next : {A : Type 0} (xs : List A) (n : ℕ) (x : A) → (xs ++ replicate n x) ++ x ∷ [] ≡ xs ++ replicate (n + 1) x

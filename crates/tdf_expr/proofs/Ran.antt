@@ -13,22 +13,22 @@ use Rattle.tdf_expr.proofs.Fitting.{limits_same, cells_start, rates_start, rates
 use Rattle.tdf_expr.proofs.Framed.{spans_row, spans_shapes, spans_count}
 use Rattle.tdf_expr.proofs.Unwritten.{stmts_left, ports_left}
 use Rattle.tdf_expr.specs.machine.Inputs.{KeepsInputs}
-use Rattle.tdf_meaning.proofs.Api.{keeps}
-use Rattle.tdf_meaning.specs.Places.{cell_shapes, rate_limits}
+use Rattle.tdf_expr_semantics.proofs.Api.{keeps}
+use Rattle.tdf_expr_semantics.specs.Places.{cell_shapes, rate_limits}
 use Rattle.tdf_expr.specs.declared.bodies.Body.{Body}
 use Rattle.tdf_expr.specs.declared.blocks.Block.{Block}
 use Rattle.tdf_expr.specs.declared.checked.Checked.{Checked}
 use Rattle.tdf_expr.specs.declared.spans.RateSpan.{RateSpan}
 use Rattle.tdf_fixed.specs.declared.format.Format.{Format}
-use Rattle.tdf_tree.specs.declared.shapes.Shape.{Shape}
+use Rattle.tdf_lang_tree.specs.declared.shapes.Shape.{Shape}
 use Rattle.tdf_expr.specs.machine.Parts.{IsSafePart, part_done}
-use Rattle.tdf_machine.specs.declared.acts.Act.{Act}
-use Rattle.tdf_meaning.specs.Bodies.{after_body}
-use Rattle.tdf_meaning.specs.Fits.{StateFits, LoopsFit, NumbersFit, RatesFit}
-use Rattle.tdf_scope.specs.Names.{Names, globals_of}
-use Rattle.tdf_scope.specs.Scope.{Scope}
-use Rattle.tdf_state.specs.State.{State, state_of}
-use Rattle.tdf_tree.specs.Pure.{PureStmts, PureTree}
+use Rattle.tdf_expr_machine.specs.declared.acts.Act.{Act}
+use Rattle.tdf_expr_semantics.specs.Bodies.{after_body}
+use Rattle.tdf_expr_semantics.specs.Fits.{StateFits, LoopsFit, NumbersFit, RatesFit}
+use Rattle.tdf_expr_symbols.specs.Names.{Names, globals_of}
+use Rattle.tdf_expr_symbols.specs.Scope.{Scope}
+use Rattle.tdf_expr_state.specs.State.{State, state_of}
+use Rattle.tdf_lang_tree.specs.Pure.{PureStmts, PureTree}
 
 pub block_found : (globals : Names) (ps : List PureBlock) (bs : List Block) (n : ℕ) (p : PureBlock) (b : Block) → AreBlocksOf globals ps bs
     → slice_get ps n ≡ Some p → slice_get bs n ≡ Some b → IsBlockOf (scope_of globals p) p b

@@ -1,6 +1,5 @@
 -- Statements without a fault write no sample of a port that bodies read.
-use Rattle.std.proofs.Common.{◌≡◌, ◌∙◌, ℕ, zero, suc, ◌+◌, ◌-◌, ◌<◌, ◌≤◌, Bool, true, false, List, [], ◌∷◌, ◌++◌}
-use Rattle.std.proofs.Common.{Option, Some, None, length, refl, sym, ap, subst, arith, ℤ, pos, if◌then◌else◌}
+use Rattle.std.proofs.Common.{◌≡◌, ◌∙◌, ℕ, zero, suc, ◌+◌, ◌-◌, ◌<◌, ◌≤◌, Bool, true, false, List, [], ◌∷◌, ◌++◌, Option, Some, None, length, refl, sym, ap, subst, arith, ℤ, pos, if◌then◌else◌}
 use Rattle.std.proofs.lemmas.List.{get_or-set_other}
 use Rattle.std.specs.Option.{option_map}
 use Rattle.std.specs.Prelude.{map, slice_get}
@@ -9,30 +8,29 @@ use Rattle.tdf_expr.specs.Frames.{is_written, KeepsRead}
 use Rattle.tdf_expr.specs.Plans.{PortPlace, place_of_port, places_from, port_places}
 use Rattle.tdf_expr.specs.declared.spans.PortSpan.{PortSpan}
 use Rattle.tdf_expr.specs.machine.Inputs.{KeepsInputs, NeverWritesInputs}
-use Rattle.tdf_faults.proofs.Api.{none_first, none_second}
+use Rattle.tdf_base.proofs.Api.{none_first, none_second}
 use Rattle.tdf_fixed.specs.declared.raw.Raw.{Raw}
-use Rattle.tdf_meaning.proofs.Api.{found, thing_sound, of_kind, is_limit, loops_more, target_element, has_element, first_element, keeps}
-use Rattle.tdf_meaning.specs.Bodies.{with_element, assigned_at, assigned, target_index, limit_value, whole_within, with_whole, rate_set}
-use Rattle.tdf_meaning.specs.Bodies.{noticed_at, stepped_at, stepped, repeated, after, after_all}
-use Rattle.tdf_meaning.specs.Fits.{StateFits, LoopsFit}
-use Rattle.tdf_meaning.specs.Places.{HasElement, before, samples_of, first_sample, rate_number, port_number}
-use Rattle.tdf_meaning.specs.Value.{value, holds, cast_number}
-use Rattle.tdf_scope.specs.Faults.{expr_faults, stmts_faults, stmt_faults, target_faults, limit_faults, opened}
-use Rattle.tdf_scope.specs.Index.{kind_faults, index_faults}
-use Rattle.tdf_scope.specs.Kinds.{is_allowed}
-use Rattle.tdf_scope.specs.Names.{Names, Thing, Var, Array, Port, RateVar, Loop, at_place, place_of, thing_of, kind_of}
-use Rattle.tdf_scope.specs.Scope.{Scope, OpenLoop, named, loop_place, as_thing, first_some, greatest_of}
-use Rattle.tdf_scope.specs.Sound.{IsSound, IsThingSound}
-use Rattle.tdf_scope.specs.declared.kinds.Part.{Part}
-use Rattle.tdf_scope.specs.declared.kinds.Part.TheVariants as part
-use Rattle.tdf_scope.specs.declared.kinds.Place.TheVariants as place
-use Rattle.tdf_state.specs.State.{State, cell_at, with_sample}
-use Rattle.tdf_tree.specs.Pure.{PureStmt, PureStmts, SAssign, SIf, SFor, SNotify, SSetRate, SSetStep, SAccept, SReject, Done, More}
-use Rattle.tdf_tree.specs.declared.blocks.PortKind.{PortKind}
-use Rattle.tdf_tree.specs.declared.blocks.PortKind.TheVariants.{In, Out, DeIn, DeOut}
-use Rattle.tdf_tree.specs.declared.expr.Index.{Index}
-use Rattle.tdf_tree.specs.declared.shapes.Shape.{Shape}
-use Rattle.tdf_tree.specs.declared.stmt.Limit.{Limit}
+use Rattle.tdf_expr_semantics.proofs.Api.{found, thing_sound, of_kind, is_limit, loops_more, target_element, has_element, first_element, keeps}
+use Rattle.tdf_expr_semantics.specs.Bodies.{with_element, assigned_at, assigned, target_index, limit_value, whole_within, with_whole, rate_set, noticed_at, stepped_at, stepped, repeated, after, after_all}
+use Rattle.tdf_expr_semantics.specs.Fits.{StateFits, LoopsFit}
+use Rattle.tdf_expr_semantics.specs.Places.{HasElement, before, samples_of, first_sample, rate_number, port_number}
+use Rattle.tdf_expr_semantics.specs.Value.{value, holds, cast_number}
+use Rattle.tdf_expr_symbols.specs.Faults.{expr_faults, stmts_faults, stmt_faults, target_faults, limit_faults, opened}
+use Rattle.tdf_expr_symbols.specs.Index.{kind_faults, index_faults}
+use Rattle.tdf_expr_symbols.specs.Kinds.{is_allowed}
+use Rattle.tdf_expr_symbols.specs.Names.{Names, Thing, Var, Array, Port, RateVar, Loop, at_place, place_of, thing_of, kind_of}
+use Rattle.tdf_expr_symbols.specs.Scope.{Scope, OpenLoop, named, loop_place, as_thing, first_some, greatest_of}
+use Rattle.tdf_expr_symbols.specs.Sound.{IsSound, IsThingSound}
+use Rattle.tdf_expr_symbols.specs.declared.kinds.Part.{Part}
+use Rattle.tdf_expr_symbols.specs.declared.kinds.Part.TheVariants as part
+use Rattle.tdf_expr_symbols.specs.declared.kinds.Place.TheVariants as place
+use Rattle.tdf_expr_state.specs.State.{State, cell_at, with_sample}
+use Rattle.tdf_lang_tree.specs.Pure.{PureStmt, PureStmts, SAssign, SIf, SFor, SNotify, SSetRate, SSetStep, SAccept, SReject, Done, More}
+use Rattle.tdf_lang_tree.specs.declared.blocks.PortKind.{PortKind}
+use Rattle.tdf_lang_tree.specs.declared.blocks.PortKind.TheVariants.{In, Out, DeIn, DeOut}
+use Rattle.tdf_lang_tree.specs.declared.expr.Index.{Index}
+use Rattle.tdf_lang_tree.specs.declared.shapes.Shape.{Shape}
+use Rattle.tdf_lang_tree.specs.declared.stmt.Limit.{Limit}
 
 same_inputs : (own : Names) (s : State) → KeepsInputs own s s
 same_inputs own s = record { same = λ n k word shape rate delay at unwritten below. refl }

@@ -4,10 +4,9 @@ use Rattle.std.specs.List.{flat_map}
 use Rattle.std.specs.Prelude.{List, [], ◌∷◌, Option, Some, None, slice_get}
 use Rattle.tdf_expr.specs.declared.bodies.Body.{Body}
 use Rattle.tdf_expr.specs.declared.bodies.Body.TheVariants as body
-use Rattle.tdf_scope.specs.Names.{Names}
-use Rattle.tdf_scope.specs.Scope.{Scope, tdf_scope, de_scope}
-use Rattle.tdf_tree.specs.Pure.{PureStmts, Done, PureTdf, PureDe, PureProcess}
-use Rattle.tdf_tree.specs.Pure.{PureGlobal, GShape, GTdf, GDe, GNet}
+use Rattle.tdf_expr_symbols.specs.Names.{Names}
+use Rattle.tdf_expr_symbols.specs.Scope.{Scope, tdf_scope, de_scope}
+use Rattle.tdf_lang_tree.specs.Pure.{PureStmts, Done, PureTdf, PureDe, PureProcess, PureGlobal, GShape, GTdf, GDe, GNet}
 
 pub data PureBlock : Type 0 where
   Module : PureTdf → PureBlock

@@ -2,8 +2,8 @@
 use Rattle.tdf_expr.specs.Blocks.{blocks_of}
 use Rattle.tdf_expr.specs.Compiled.{AreBlocksOf}
 use Rattle.tdf_expr.specs.declared.checked.Checked.{Checked}
-use Rattle.tdf_scope.specs.Names.{globals_of}
-use Rattle.tdf_tree.specs.Pure.{PureTree}
+use Rattle.tdf_expr_symbols.specs.Names.{globals_of}
+use Rattle.tdf_lang_tree.specs.Pure.{PureTree}
 
 abbrev pub IsCheckedOf : PureTree → Checked → Type 0
 IsCheckedOf model checked =

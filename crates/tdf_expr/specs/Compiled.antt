@@ -1,7 +1,7 @@
 -- A block, compiled (own): what its values look like, and for each of its bodies code that is safe
 -- and does what the language says.
 use Rattle.std.specs.Prelude.{◌≡◌, ℕ, List, [], ◌∷◌, length, map, Option, Some, None, slice_get}
-use Rattle.tdf_bodies.specs.Promises.{PerformsAll, AreFaultless}
+use Rattle.tdf_expr_compiler.specs.Promises.{PerformsAll, AreFaultless}
 use Rattle.tdf_expr.specs.Blocks.{PureBlock, scope_of, body_of}
 use Rattle.tdf_expr.specs.Plans.{written, cell_starts, rate_spans, place_of_port, port_places}
 use Rattle.tdf_expr.specs.declared.bodies.Body.{Body}
@@ -9,12 +9,12 @@ use Rattle.tdf_expr.specs.declared.bodies.Body.TheVariants as body
 use Rattle.tdf_expr.specs.declared.blocks.Acts.{Acts}
 use Rattle.tdf_expr.specs.declared.blocks.Acts.TheVariants as acts
 use Rattle.tdf_expr.specs.declared.blocks.Block.{Block}
-use Rattle.tdf_machine.specs.declared.acts.Act.{Act}
-use Rattle.tdf_meaning.specs.Places.{cell_shapes, sample_shapes, events_of, total}
-use Rattle.tdf_scope.specs.Names.{Names}
-use Rattle.tdf_scope.specs.Scope.{Scope}
-use Rattle.tdf_scope.specs.Sound.{IsSound}
-use Rattle.tdf_tree.specs.Pure.{PureStmts, Done, PureProcess}
+use Rattle.tdf_expr_machine.specs.declared.acts.Act.{Act}
+use Rattle.tdf_expr_semantics.specs.Places.{cell_shapes, sample_shapes, events_of, total}
+use Rattle.tdf_expr_symbols.specs.Names.{Names}
+use Rattle.tdf_expr_symbols.specs.Scope.{Scope}
+use Rattle.tdf_expr_symbols.specs.Sound.{IsSound}
+use Rattle.tdf_lang_tree.specs.Pure.{PureStmts, Done, PureProcess}
 
 -- the code of a body; none where the block has no such body
 abbrev pub act_of : Acts → Body → Option Act

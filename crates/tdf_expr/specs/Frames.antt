@@ -1,9 +1,7 @@
 -- What is held of one instance of a block (own): the values of its variables, elements and rates,
 -- and the samples of its ports with what its bodies asked for.
 use Rattle.std.specs.List.{flat_map}
-use Rattle.std.specs.Prelude.{◌≡◌, ℕ, ◌+◌, ◌<◌, ◌≤◌, ◌^◌, Bool, true, false, if◌then◌else◌, List, []}
-use Rattle.std.specs.Prelude.{◌∷◌, ◌++◌, Option, ℤ, pos, length, map, replicate, take, drop}
-use Rattle.std.specs.Prelude.{Some, None, slice_get}
+use Rattle.std.specs.Prelude.{◌≡◌, ℕ, ◌+◌, ◌<◌, ◌≤◌, ◌^◌, Bool, true, false, if◌then◌else◌, List, [], ◌∷◌, ◌++◌, Option, ℤ, pos, length, map, replicate, take, drop, Some, None, slice_get}
 use Rattle.tdf_expr.specs.Plans.{written}
 use Rattle.tdf_expr.specs.declared.spans.PortSpan.{PortSpan}
 use Rattle.tdf_expr.specs.declared.spans.RateSpan.{RateSpan}
@@ -11,13 +9,13 @@ use Rattle.tdf_fixed.specs.Cast.{fraction_of}
 use Rattle.tdf_fixed.specs.Overflow.{IsIn}
 use Rattle.tdf_fixed.specs.declared.format.Format.{Format}
 use Rattle.tdf_fixed.specs.declared.raw.Raw.{Raw}
-use Rattle.tdf_meaning.specs.Fits.{NumbersFit, RatesFit}
-use Rattle.tdf_meaning.specs.Places.{RateLimits}
-use Rattle.tdf_state.specs.Resets.{none_set, no_times}
-use Rattle.tdf_state.specs.State.{FrameState, PortsState, cell_at}
-use Rattle.tdf_tree.specs.declared.blocks.PortKind.{PortKind}
-use Rattle.tdf_tree.specs.declared.blocks.PortKind.TheVariants.{In, Out, DeIn, DeOut}
-use Rattle.tdf_tree.specs.declared.shapes.Shape.{Shape}
+use Rattle.tdf_expr_semantics.specs.Fits.{NumbersFit, RatesFit}
+use Rattle.tdf_expr_semantics.specs.Places.{RateLimits}
+use Rattle.tdf_expr_state.specs.Resets.{none_set, no_times}
+use Rattle.tdf_expr_state.specs.State.{FrameState, PortsState, cell_at}
+use Rattle.tdf_lang_tree.specs.declared.blocks.PortKind.{PortKind}
+use Rattle.tdf_lang_tree.specs.declared.blocks.PortKind.TheVariants.{In, Out, DeIn, DeOut}
+use Rattle.tdf_lang_tree.specs.declared.shapes.Shape.{Shape}
 
 -- a value of a format
 pub record IsOfFormat (f : Format) (value : Raw) : Type 0 where

@@ -5,5 +5,4 @@ pub mod Frames
 pub mod Made
 pub mod Plans
 pub mod Runs
-pub mod low
 pub mod machine

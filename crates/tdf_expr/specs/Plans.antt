@@ -5,12 +5,12 @@ use Rattle.std.specs.Prelude.{ℕ, ◌+◌, ◌-◌, List, [], ◌∷◌, ◌++�
 use Rattle.tdf_expr.specs.declared.spans.PortSpan.{PortSpan}
 use Rattle.tdf_expr.specs.declared.spans.RateSpan.{RateSpan}
 use Rattle.tdf_fixed.specs.declared.format.Format.{Format}
-use Rattle.tdf_meaning.specs.Value.{literal_in}
-use Rattle.tdf_scope.specs.Names.{Names, Thing, Var, Array, Port, RateVar}
-use Rattle.tdf_scope.specs.Scope.{greatest_of}
-use Rattle.tdf_tree.specs.declared.blocks.PortKind.{PortKind}
-use Rattle.tdf_tree.specs.declared.names.Lit.{Lit}
-use Rattle.tdf_tree.specs.declared.shapes.Shape.{Shape}
+use Rattle.tdf_expr_semantics.specs.Value.{literal_in}
+use Rattle.tdf_expr_symbols.specs.Names.{Names, Thing, Var, Array, Port, RateVar}
+use Rattle.tdf_expr_symbols.specs.Scope.{greatest_of}
+use Rattle.tdf_lang_tree.specs.declared.blocks.PortKind.{PortKind}
+use Rattle.tdf_lang_tree.specs.declared.names.Lit.{Lit}
+use Rattle.tdf_lang_tree.specs.declared.shapes.Shape.{Shape}
 
 -- a format as a line writes it
 abbrev pub shape_of_format : Format → Shape

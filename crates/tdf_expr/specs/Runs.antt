@@ -4,12 +4,12 @@ use Rattle.tdf_expr.specs.Blocks.{PureBlock, blocks_of, scope_of, body_of}
 use Rattle.tdf_expr.specs.Checked.{IsCheckedOf}
 use Rattle.tdf_expr.specs.declared.bodies.Body.{Body}
 use Rattle.tdf_expr.specs.declared.checked.Checked.{Checked}
-use Rattle.tdf_meaning.specs.Bodies.{after_body}
-use Rattle.tdf_meaning.specs.Fits.{StateFits}
-use Rattle.tdf_scope.specs.Names.{globals_of}
-use Rattle.tdf_scope.specs.Scope.{Scope}
-use Rattle.tdf_state.specs.State.{State}
-use Rattle.tdf_tree.specs.Pure.{PureTree}
+use Rattle.tdf_expr_semantics.specs.Bodies.{after_body}
+use Rattle.tdf_expr_semantics.specs.Fits.{StateFits}
+use Rattle.tdf_expr_symbols.specs.Names.{globals_of}
+use Rattle.tdf_expr_symbols.specs.Scope.{Scope}
+use Rattle.tdf_expr_state.specs.State.{State}
+use Rattle.tdf_lang_tree.specs.Pure.{PureTree}
 
 -- the names in force in a block of a model
 abbrev pub scope_in : PureTree → PureBlock → Scope

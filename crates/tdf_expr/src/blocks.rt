@@ -5,7 +5,7 @@ ghost use Rattle.std.specs.Prelude.{◌≤◌, ◌^◌, length};
 use crate::cells::CellPlan;
 use crate::ports::PortPlan;
 use crate::spans::RateSpan;
-use tdf_machine::Act;
+use tdf_expr_machine::Act;
 
 /// The compiled bodies of a block: the four of a `tdf` block, or one for each process of a `de` block.
 #[derive(Drop)]

@@ -5,18 +5,18 @@ ghost use Rattle.std.specs.Prelude.{◌≡◌, ◌≤◌, ◌-◌, ◌^◌, ◌+
 ghost use Rattle.tdf_expr.specs.machine.Cells.{AreStartsKept};
 ghost use Rattle.tdf_expr.specs.Plans.{written, start_of, starts_of, cell_starts};
 ghost use Rattle.tdf_fixed.specs.Cast.{IsLegal};
-ghost use Rattle.tdf_meaning.specs.Places.{cells_of, cell_shapes};
-ghost use Rattle.tdf_scope.specs.Names.{Thing as ThingSeen, shape_of};
-ghost use Rattle.tdf_scope.specs.Seen.{seen};
-ghost use Rattle.tdf_scope.specs.Sound.{HasFormat, IsSound, IsThingSound};
-ghost use Rattle.tdf_tree.specs.Kept.{Each, KeepsLit};
+ghost use Rattle.tdf_expr_semantics.specs.Places.{cells_of, cell_shapes};
+ghost use Rattle.tdf_expr_symbols.specs.Names.{Thing as ThingSeen, shape_of};
+ghost use Rattle.tdf_expr_symbols.specs.Seen.{seen};
+ghost use Rattle.tdf_expr_symbols.specs.Sound.{HasFormat, IsSound, IsThingSound};
+ghost use Rattle.tdf_lang_tree.specs.Kept.{Each, KeepsLit};
 
 use std::alloc::Global;
 use tdf_base::Memory;
-use tdf_bodies::{format_of, literal_in};
+use tdf_expr_compiler::{format_of, literal_in};
+use tdf_expr_symbols::{Scope, Thing};
 use tdf_fixed::Format;
-use tdf_scope::{Scope, Thing};
-use tdf_tree::{Lit, Shape};
+use tdf_lang_tree::{Lit, Shape};
 
 /// One format, so many times.
 #[tactic(auto, using(crate::proofs::Pushes::push_laws))]

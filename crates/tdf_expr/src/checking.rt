@@ -1,25 +1,24 @@
 //! The check of a model's bodies, and what is known of its blocks then.
 
 ghost use Rattle.std.specs.Prelude.{◌≡◌, ◌≢◌, ◌<◌, Err, List, [], length, slice_get, Some, IfOk, OnOk};
-ghost use Rattle.tdf_checks.specs.Types.{type_faults};
+ghost use Rattle.tdf_expr_blocks.specs.Types.{type_faults};
 ghost use Rattle.tdf_expr.specs.Checked.{IsCheckedOf};
 ghost use Rattle.tdf_expr.specs.Made.{block_count, cell_formats, rate_spans_of, event_count};
 ghost use Rattle.tdf_expr.specs.declared.spans.RateSpan.{RateSpan as RateSpanOf};
-ghost use Rattle.tdf_faults.specs.First.{first_of, verdict_of};
-ghost use Rattle.tdf_faults.specs.declared.refusal.TypeErr.{TypeErr as TypeErrOf};
-ghost use Rattle.tdf_faults.specs.declared.refusal.TypeErr.TheVariants as why;
-ghost use Rattle.tdf_tree.specs.Kept.{IsKept};
-ghost use Rattle.tdf_tree.specs.Views.{pure_tree};
+ghost use Rattle.tdf_base.specs.First.{first_of, verdict_of};
+ghost use Rattle.tdf_base.specs.declared.refusal.TypeErr.{TypeErr as TypeErrOf};
+ghost use Rattle.tdf_base.specs.declared.refusal.TypeErr.TheVariants as why;
+ghost use Rattle.tdf_lang_tree.specs.Kept.{IsKept};
+ghost use Rattle.tdf_lang_tree.specs.Views.{pure_tree};
 
 use crate::checked::Checked;
 use crate::modules::block_list;
 use std::alloc::Global;
-use tdf_base::Memory;
-use tdf_checks::check_types;
-use tdf_faults::TypeErr;
+use tdf_base::{Memory, TypeErr};
+use tdf_expr_blocks::check_types;
+use tdf_expr_symbols::globals_of;
 use tdf_fixed::Format;
-use tdf_scope::globals_of;
-use tdf_tree::Tree;
+use tdf_lang_tree::Tree;
 
 /// The blocks of a model without a fault of types, widths and bodies.
 #[tactic(auto, using(crate::proofs::Finely::all_fine))]

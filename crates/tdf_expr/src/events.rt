@@ -1,12 +1,12 @@
 //! The events of a block.
 
 ghost use Rattle.std.specs.Prelude.{◌≡◌, ◌+◌, slice_get, Some, IfOk};
-ghost use Rattle.tdf_meaning.specs.Places.{events_of, total};
-ghost use Rattle.tdf_scope.specs.Names.{Thing as ThingSeen};
-ghost use Rattle.tdf_scope.specs.Seen.{seen};
+ghost use Rattle.tdf_expr_semantics.specs.Places.{events_of, total};
+ghost use Rattle.tdf_expr_symbols.specs.Names.{Thing as ThingSeen};
+ghost use Rattle.tdf_expr_symbols.specs.Seen.{seen};
 
 use tdf_base::Memory;
-use tdf_scope::{Scope, Thing};
+use tdf_expr_symbols::{Scope, Thing};
 
 fn one_more(count: u32) -> Result<u32, Memory>
     ensures { IfOk result (λ n. n ≡ count + 1) }

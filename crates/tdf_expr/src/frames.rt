@@ -2,8 +2,8 @@
 
 use crate::spans::RateSpan;
 use std::marker::Model;
+use tdf_expr_state::Cells;
 use tdf_fixed::Format;
-use tdf_state::Cells;
 
 /// The values of the variables and elements of an instance of a block, and of its rate variables, each in order of
 /// declaration. Each value is of its format, and each rate within its limits.
@@ -40,7 +40,7 @@ ghost use Rattle.tdf_expr.specs.declared.spans.RateSpan.{RateSpan as RateSpanOf}
 ghost use Rattle.tdf_fixed.specs.Cast.{fraction_of};
 ghost use Rattle.tdf_fixed.specs.Overflow.{IsIn};
 ghost use Rattle.tdf_fixed.specs.declared.format.Format.{Format as FormatOf};
-ghost use Rattle.tdf_state.specs.State.{cell_at};
+ghost use Rattle.tdf_expr_state.specs.State.{cell_at};
 
 use crate::checked::Checked;
 use std::alloc::Global;

@@ -7,7 +7,6 @@
 //! - `frames`: the values of an instance of a block.
 //! - `samples`: the samples of its ports, and what its bodies asked for.
 //! - `cells`, `rates`, `ports`, `events`, `spans`: what the values of a block look like.
-//! - `low`: what the crates above use of the crates further below.
 #![tactic(auto)]
 
 mod blocks;
@@ -17,7 +16,6 @@ mod checked;
 mod checking;
 mod events;
 mod frames;
-pub mod low;
 mod modules;
 mod ports;
 mod rates;

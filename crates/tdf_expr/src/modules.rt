@@ -2,15 +2,15 @@
 
 ghost use Rattle.std.specs.Prelude.{◌≡◌, ℕ, IfOk, OnOk, List, ◌++◌, [], map, slice_get, Some};
 ghost use Rattle.tdf_base.specs.Limits.{deepest_nesting};
-ghost use Rattle.tdf_bodies.specs.Promises.{AreFaultless, PerformsAll};
+ghost use Rattle.tdf_expr_compiler.specs.Promises.{AreFaultless, PerformsAll};
 ghost use Rattle.tdf_expr.specs.Blocks.{PureBlock, Module, Events, block_of, blocks_of, body_of};
 ghost use Rattle.tdf_expr.specs.machine.Fine.{IsBlockFine};
 ghost use Rattle.tdf_expr.specs.Compiled.{AreBlocksOf, IsBlockOf, IsActOf, AreProcesses, act_of};
 ghost use Rattle.tdf_expr.specs.declared.bodies.Body.{Body as BodyOf};
-ghost use Rattle.tdf_scope.specs.Sound.{IsSound};
-ghost use Rattle.tdf_tree.specs.Pure.{PureGlobal, PureProcess};
-ghost use Rattle.tdf_tree.specs.Kept.{KeepsStmts};
-ghost use Rattle.tdf_tree.specs.Views.{pure_global, pure_tdf, pure_de, pure_process, pure_stmts};
+ghost use Rattle.tdf_expr_symbols.specs.Sound.{IsSound};
+ghost use Rattle.tdf_lang_tree.specs.Pure.{PureGlobal, PureProcess};
+ghost use Rattle.tdf_lang_tree.specs.Kept.{KeepsStmts};
+ghost use Rattle.tdf_lang_tree.specs.Views.{pure_global, pure_tdf, pure_de, pure_process, pure_stmts};
 
 use crate::blocks::{Acts, Block};
 use crate::cells::cell_plan;
@@ -19,10 +19,10 @@ use crate::ports::port_plan;
 use crate::rates::rate_plan;
 use std::alloc::Global;
 use tdf_base::Memory;
-use tdf_bodies::{Layout, compile_body};
-use tdf_machine::Act;
-use tdf_scope::{Scope, Table, de_scope, tdf_scope};
-use tdf_tree::{DeDecl, Global1, Process, TdfDecl};
+use tdf_expr_compiler::{Layout, compile_body};
+use tdf_expr_machine::Act;
+use tdf_expr_symbols::{Scope, Table, de_scope, tdf_scope};
+use tdf_lang_tree::{DeDecl, Global1, Process, TdfDecl};
 
 /// The compiled bodies of a `tdf` block.
 fn module_acts(alloc: Global, scope: &Scope, block: &TdfDecl) -> Result<Acts, Memory>

@@ -3,21 +3,21 @@
 ghost use Rattle.std.specs.Prelude.{◌≡◌, ◌++◌, ◌+◌, ◌∷◌, ◌≤◌, ◌^◌, List, length, map, slice_get, Some, OnOk, IfOk};
 ghost use Rattle.tdf_expr.specs.machine.Cells.{IsPortKept};
 ghost use Rattle.tdf_expr.specs.Plans.{place_of_port, places_from, port_places};
-ghost use Rattle.tdf_meaning.specs.Places.{samples_of, sample_shapes};
-ghost use Rattle.tdf_scope.specs.Names.{Thing as ThingSeen};
-ghost use Rattle.tdf_scope.specs.Scope.{greatest_of};
-ghost use Rattle.tdf_scope.specs.Seen.{rate_or_one, seen};
-ghost use Rattle.tdf_scope.specs.Sound.{IsSound};
+ghost use Rattle.tdf_expr_semantics.specs.Places.{samples_of, sample_shapes};
+ghost use Rattle.tdf_expr_symbols.specs.Names.{Thing as ThingSeen};
+ghost use Rattle.tdf_expr_symbols.specs.Scope.{greatest_of};
+ghost use Rattle.tdf_expr_symbols.specs.Seen.{rate_or_one, seen};
+ghost use Rattle.tdf_expr_symbols.specs.Sound.{IsSound};
 
 use crate::spans::PortSpan;
 use std::alloc::Global;
 use tdf_base::Memory;
-use tdf_bodies::format_of;
-use tdf_scope::{Scope, Thing};
-use tdf_tree::Limit;
+use tdf_expr_compiler::format_of;
+use tdf_expr_symbols::{Scope, Thing};
+use tdf_lang_tree::Limit;
 
 /// The greatest rate of a port.
-#[tactic(auto, unfolding(tdf_scope::specs::Scope::greatest_of))]
+#[tactic(auto, unfolding(tdf_expr_symbols::specs::Scope::greatest_of))]
 fn greatest(scope: &Scope, rate: Option<&Limit>) -> u128
     ensures { result ≡ greatest_of scope.now.own (rate_or_one rate.entry) }
 {

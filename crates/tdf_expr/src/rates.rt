@@ -3,14 +3,14 @@
 ghost use Rattle.std.specs.Prelude.{◌≡◌, ◌≤◌, ◌^◌, ◌++◌, length, slice_get, Some, OnOk, IfOk};
 ghost use Rattle.tdf_expr.specs.machine.Cells.{IsRateKept};
 ghost use Rattle.tdf_expr.specs.Plans.{rate_span, rate_spans};
-ghost use Rattle.tdf_scope.specs.Names.{Thing as ThingSeen};
-ghost use Rattle.tdf_scope.specs.Seen.{seen};
-ghost use Rattle.tdf_scope.specs.Sound.{IsSound};
+ghost use Rattle.tdf_expr_symbols.specs.Names.{Thing as ThingSeen};
+ghost use Rattle.tdf_expr_symbols.specs.Seen.{seen};
+ghost use Rattle.tdf_expr_symbols.specs.Sound.{IsSound};
 
 use crate::spans::RateSpan;
 use std::alloc::Global;
 use tdf_base::Memory;
-use tdf_scope::{Scope, Thing};
+use tdf_expr_symbols::{Scope, Thing};
 
 /// The limits of a name that is a rate variable.
 #[tactic(auto, using(crate::proofs::Pushes::cell_laws))]

@@ -6,15 +6,15 @@ ghost use Rattle.tdf_expr.specs.Frames.{KeepsRead};
 ghost use Rattle.tdf_expr.specs.machine.Parts.{IsSafePart, part_done};
 ghost use Rattle.tdf_expr.specs.Made.{AreMadeFor};
 ghost use Rattle.tdf_expr.specs.Runs.{Ran};
-ghost use Rattle.tdf_state.specs.State.{state_of};
+ghost use Rattle.tdf_expr_state.specs.State.{state_of};
 
 use crate::blocks::Acts;
 use crate::bodies::Body;
 use crate::checked::Checked;
 use crate::frames::Frame;
 use crate::samples::Ports;
-use tdf_machine::{Act, run};
-use tdf_state::{Cells, Signals};
+use tdf_expr_machine::{Act, run};
+use tdf_expr_state::{Cells, Signals};
 
 /// Runs the process of a number, if there is one.
 fn run_process(list: &Vec<Act>, number: u32, cells: &mut Cells, signals: &mut Signals)

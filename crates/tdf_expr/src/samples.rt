@@ -2,7 +2,7 @@
 
 use crate::spans::PortSpan;
 use std::marker::Model;
-use tdf_state::Signals;
+use tdf_expr_state::Signals;
 
 /// The ports of an instance of a block, each with as many samples as its greatest rate, and what the bodies that ran
 /// since `new` or `reset` asked for. Each sample is of its port's format.
@@ -22,21 +22,20 @@ impl Model for Ports {
     ghost invariant = { λ a. ArePortsFit (record { spans = a.spans.items; state = a.signals }) };
 }
 
-ghost use Rattle.std.specs.Prelude.{◌≡◌, ℕ, ◌<◌, ◌≤◌, ◌+◌, length, replicate, slice_get, slice_set, slice_index_or};
-ghost use Rattle.std.specs.Prelude.{Some, None, true, false, pos, IfOk};
+ghost use Rattle.std.specs.Prelude.{◌≡◌, ℕ, ◌<◌, ◌≤◌, ◌+◌, length, replicate, slice_get, slice_set, slice_index_or, Some, None, true, false, pos, IfOk};
 ghost use Rattle.tdf_expr.specs.Checked.{IsChecked};
 ghost use Rattle.tdf_expr.specs.Frames.{ArePortsFit, IsOfFormat, is_written, reset_state};
 ghost use Rattle.tdf_expr.specs.machine.Zeroed.{zeroed_one, zeroed};
 ghost use Rattle.tdf_expr.specs.Made.{block_count, port_spans_of, sample_count, event_count};
 ghost use Rattle.tdf_expr.specs.declared.spans.PortSpan.{PortSpan as PortSpanOf};
 ghost use Rattle.tdf_fixed.specs.Cast.{fraction_of};
-ghost use Rattle.tdf_state.specs.State.{cell_at, standing};
+ghost use Rattle.tdf_expr_state.specs.State.{cell_at, standing};
 
 use crate::checked::Checked;
 use std::alloc::Global;
 use tdf_base::Memory;
 use tdf_fixed::Raw;
-use tdf_tree::PortKind;
+use tdf_lang_tree::PortKind;
 
 /// Whether a body writes the samples of a port.
 fn is_written(word: PortKind) -> bool

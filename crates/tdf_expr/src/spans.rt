@@ -1,7 +1,7 @@
 //! What the values of a block look like.
 
 use tdf_fixed::Format;
-use tdf_tree::PortKind;
+use tdf_lang_tree::PortKind;
 
 /// A rate variable: its least, greatest and starting value.
 #[derive(Clone, Copy, Debug, PartialEq, Eq)]

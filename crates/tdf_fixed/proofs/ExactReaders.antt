@@ -11,8 +11,7 @@ use Rattle.tdf_fixed.specs.Literal.{Literal, literal_count, literal_parts, liter
 use Rattle.tdf_base.specs.Number.{scaled_count}
 use Rattle.tdf_fixed.specs.Spelling.{IsWholeAt, IsExact, ReadsExactly}
 use Rattle.tdf_fixed.proofs.Placed.{all_parts}
-use Rattle.tdf_base.proofs.Api.{power_some}
-use Rattle.tdf_base.proofs.Api.{of_parts, times_mod}
+use Rattle.tdf_base.proofs.Api.{power_some, of_parts, times_mod}
 use Rattle.tdf_fixed.proofs.Scaling.{negative_times}
 
 -- ---- the least count

@@ -1,6 +1,5 @@
 -- What holds of rounding, overflow and casts, whatever the numbers (own).
-use Rattle.std.specs.Prelude.{◌≡◌, ℕ, ◌+◌, ◌*◌, ◌<◌, ◌≤◌, Bool, ℤ, pos, ◌+ℤ◌, ◌-ℤ◌, ◌*ℤ◌, ◌≤ℤ◌}
-use Rattle.std.specs.Prelude.{◌<ℤ◌, unsigned_abs, ◌^◌, true, false}
+use Rattle.std.specs.Prelude.{◌≡◌, ℕ, ◌+◌, ◌*◌, ◌<◌, ◌≤◌, Bool, ℤ, pos, ◌+ℤ◌, ◌-ℤ◌, ◌*ℤ◌, ◌≤ℤ◌, ◌<ℤ◌, unsigned_abs, ◌^◌, true, false}
 use Rattle.tdf_fixed.specs.Cast.{cast_of, fraction_of}
 use Rattle.tdf_fixed.specs.Overflow.{least, least_symmetric, most, overflowed, wrapped, IsIn}
 use Rattle.tdf_fixed.specs.Quantise.{below, above_by, quantised}

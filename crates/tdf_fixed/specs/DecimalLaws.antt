@@ -1,6 +1,5 @@
 -- The form and the value of a decimal text, apart from how it is made (own).
-use Rattle.std.specs.Prelude.{◌≡◌, ℕ, suc, ◌+◌, ◌*◌, ◌^◌, ◌<◌, ◌↔◌, true, List, [], ◌∷◌, ◌++◌}
-use Rattle.std.specs.Prelude.{length, slice_index, ℤ, pos, negsuc, unsigned_abs}
+use Rattle.std.specs.Prelude.{◌≡◌, ℕ, suc, ◌+◌, ◌*◌, ◌^◌, ◌<◌, ◌↔◌, true, List, [], ◌∷◌, ◌++◌, length, slice_index, ℤ, pos, negsuc, unsigned_abs}
 use Rattle.std.specs.List.{list_all}
 use Rattle.tdf_fixed.specs.Decimal.{value_text, places_of, seconds_text, seconds_text_at}
 use Rattle.tdf_base.specs.declared.resolution.Resolution.{Resolution}

@@ -1,7 +1,5 @@
 -- Literals: a number with or without a `-` directly in front (own).
-use Rattle.std.specs.Prelude.{ℕ, zero, suc, ◌+◌, ◌*◌, ◌/◌, ◌%◌, ◌^◌, Bool, true, false, nat_eq}
-use Rattle.std.specs.Prelude.{if◌then◌else◌, Option, Some, None, Result, Ok, Err, List, length}
-use Rattle.std.specs.Prelude.{drop, slice_index, ℤ, pos, ◌*ℤ◌, neg_ℤ}
+use Rattle.std.specs.Prelude.{ℕ, zero, suc, ◌+◌, ◌*◌, ◌/◌, ◌%◌, ◌^◌, Bool, true, false, nat_eq, if◌then◌else◌, Option, Some, None, Result, Ok, Err, List, length, drop, slice_index, ℤ, pos, ◌*ℤ◌, neg_ℤ}
 use Rattle.std.specs.Option.{option_map}
 use Rattle.tdf_fixed.specs.Cast.{fraction_of}
 use Rattle.tdf_base.specs.Digits.{number}
@@ -12,9 +10,7 @@ use Rattle.tdf_fixed.specs.declared.format.Format.{Format}
 use Rattle.tdf_fixed.specs.declared.literals.DecimalErr.{DecimalErr}
 use Rattle.tdf_fixed.specs.declared.literals.DecimalErr.TheVariants.{NotNumber, TooManyDigits}
 use Rattle.tdf_fixed.specs.declared.literals.NumErr.{NumErr}
-use Rattle.tdf_fixed.specs.declared.literals.NumErr.TheVariants.{NotNumber as IsNotNumber}
-use Rattle.tdf_fixed.specs.declared.literals.NumErr.TheVariants.{TooManyDigits as HasTooManyDigits}
-use Rattle.tdf_fixed.specs.declared.literals.NumErr.TheVariants.{Inexact}
+use Rattle.tdf_fixed.specs.declared.literals.NumErr.TheVariants.{NotNumber as IsNotNumber, TooManyDigits as HasTooManyDigits, Inexact}
 use Rattle.tdf_fixed.specs.declared.quant.Quant.{Quant}
 use Rattle.tdf_fixed.specs.declared.raw.Raw.{Raw}
 

@@ -1,7 +1,6 @@
 -- Fitting a whole number into a format's range: overflow modes (IEEE 1666-2011, 7.10); the result
 -- of `sat_sym` on the exact signed minimum is as in SystemC's library (own).
-use Rattle.std.specs.Prelude.{ℕ, ◌-◌, ◌^◌, Bool, ◌&&◌, nat_lt, int_le, if◌then◌else◌, ℤ, pos, ◌-ℤ◌}
-use Rattle.std.specs.Prelude.{neg_ℤ, ◌≤ℤ◌}
+use Rattle.std.specs.Prelude.{ℕ, ◌-◌, ◌^◌, Bool, ◌&&◌, nat_lt, int_le, if◌then◌else◌, ℤ, pos, ◌-ℤ◌, neg_ℤ, ◌≤ℤ◌}
 use Rattle.std.specs.Int.{int_min, int_max}
 use Rattle.tdf_fixed.specs.Quantise.{above_by}
 use Rattle.tdf_fixed.specs.declared.over.Over.{Over}

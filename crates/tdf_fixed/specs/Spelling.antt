@@ -1,10 +1,8 @@
 -- How literals are spelled, apart from how they are read (own).
-use Rattle.std.specs.Prelude.{◌≡◌, ℕ, ◌*◌, ◌^◌, ◌≤◌, ◌↔◌, if◌then◌else◌, Some, Result, Ok, Err}
-use Rattle.std.specs.Prelude.{List, ◌∷◌, ◌<◌, ℤ, pos, ◌*ℤ◌, unsigned_abs}
+use Rattle.std.specs.Prelude.{◌≡◌, ℕ, ◌*◌, ◌^◌, ◌≤◌, ◌↔◌, if◌then◌else◌, Some, Result, Ok, Err, List, ◌∷◌, ◌<◌, ℤ, pos, ◌*ℤ◌, unsigned_abs}
 use Rattle.tdf_base.specs.Limits.{most_digits}
 use Rattle.tdf_base.specs.Spelling.{SpellsNumeral}
-use Rattle.tdf_fixed.specs.Literal.{Literal, literal_of, literal_count, literal_parts}
-use Rattle.tdf_fixed.specs.Literal.{literal_exact, exact_of}
+use Rattle.tdf_fixed.specs.Literal.{Literal, literal_of, literal_count, literal_parts, literal_exact, exact_of}
 use Rattle.tdf_fixed.specs.Decimal.{value_text}
 use Rattle.tdf_fixed.specs.declared.literals.NumErr.{NumErr}
 use Rattle.tdf_fixed.specs.declared.literals.NumErr.TheVariants.{Inexact}

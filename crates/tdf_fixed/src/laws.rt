@@ -1,7 +1,6 @@
 //! What holds of the definitions, whatever the numbers and texts: each function here only carries its clauses.
 
-ghost use Rattle.tdf_fixed.specs.CastLaws.{AreNeighbours, IsMonotone, RoundsToNearest, RoundsDown, IsByValue, CastsExactly};
-ghost use Rattle.tdf_fixed.specs.CastLaws.{IsKept, IsIdempotent, IsNearest, IsWrap, IsOnlyWrap};
+ghost use Rattle.tdf_fixed.specs.CastLaws.{AreNeighbours, IsMonotone, RoundsToNearest, RoundsDown, IsByValue, CastsExactly, IsKept, IsIdempotent, IsNearest, IsWrap, IsOnlyWrap};
 ghost use Rattle.tdf_fixed.specs.DecimalLaws.{IsValueText, IsTimeText};
 ghost use Rattle.tdf_fixed.specs.Spelling.{ReadsLiterals, ReadsExactly, ReadsBack};
 

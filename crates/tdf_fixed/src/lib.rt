@@ -5,6 +5,8 @@
 //! - `literals`, `placing`: decimal numbers, read into a format or exactly.
 //! - `decimals`, `digits`: the texts of values, times and bits.
 //! - `laws`: what holds of the definitions.
+//!
+//! The readers of times, and the unit of time of a model, are passed on from `tdf_base`.
 #![tactic(auto)]
 
 mod bits;
@@ -31,3 +33,4 @@ pub use literals::{DecimalErr, NumErr, read_decimal, read_exact};
 pub use over::Over;
 pub use quant::Quant;
 pub use raw::Raw;
+pub use tdf_base::{Resolution, TimeErr, read_time, read_time_at};

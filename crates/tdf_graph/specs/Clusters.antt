@@ -1,7 +1,6 @@
 -- Actors that a chain of edges joins, walked either way, and their numbers by the least actor.
 -- Source: own.
-use Rattle.std.specs.Prelude.{ℕ, ◌≡◌, ◌<◌, ◌+◌, List, [], ◌∷◌, length, max, take}
-use Rattle.std.specs.Prelude.{slice_index, Contains}
+use Rattle.std.specs.Prelude.{ℕ, ◌≡◌, ◌<◌, ◌+◌, List, [], ◌∷◌, length, max, take, slice_index, Contains}
 use Rattle.tdf_graph.specs.declared.actors.Edge.{Edge}
 
 -- a chain of edges leads from one actor to the other; each edge may be walked either way

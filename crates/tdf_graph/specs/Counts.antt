@@ -1,8 +1,7 @@
 -- How often each actor of a cluster fires in one period: the least positive whole numbers that
 -- meet the balance equations.
 -- Source: E. A. Lee, D. G. Messerschmitt, Synchronous data flow, Proceedings of the IEEE, 1987.
-use Rattle.std.specs.Prelude.{ℕ, ◌≡◌, ◌≢◌, ◌<◌, ◌*◌, List, length}
-use Rattle.std.specs.Prelude.{slice_index, Contains}
+use Rattle.std.specs.Prelude.{ℕ, ◌≡◌, ◌≢◌, ◌<◌, ◌*◌, List, length, slice_index, Contains}
 use Rattle.std.specs.Int.{◌∣◌}
 use Rattle.tdf_graph.specs.Clusters.{Joined}
 use Rattle.tdf_graph.specs.declared.actors.Edge.{Edge}

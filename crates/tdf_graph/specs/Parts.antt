@@ -1,7 +1,6 @@
 -- Actors in parts, each part with a label.
 -- Source: own.
-use Rattle.std.specs.Prelude.{ℕ, ◌≡◌, ◌≢◌, ◌<◌, List, Some, Vec, length, nat_eq, if◌then◌else◌, ◌⊎◌}
-use Rattle.std.specs.Prelude.{slice_get, slice_index, Contains}
+use Rattle.std.specs.Prelude.{ℕ, ◌≡◌, ◌≢◌, ◌<◌, List, Some, Vec, length, nat_eq, if◌then◌else◌, ◌⊎◌, slice_get, slice_index, Contains}
 use Rattle.std.specs.Global.{Global}
 use Rattle.tdf_graph.specs.Clusters.{Joined}
 use Rattle.tdf_graph.specs.declared.actors.Edge.{Edge}

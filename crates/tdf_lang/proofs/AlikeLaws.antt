@@ -1,22 +1,16 @@
 -- The canonical text has no line numbers: trees that are alike have one.
 use Rattle.std.proofs.Common.{◌≡◌, List, [], ◌∷◌, ◌++◌, map, refl, sym, ap, ◌∙◌}
 use Rattle.std.specs.List.{flat_map}
-use Rattle.tdf_tree.specs.Forms.{Form, FTdf, FDe, FComposite, FTop, FEnd}
-use Rattle.tdf_tree.specs.Forms.{FSetAttributes, FInitialize, FProcessing, FChangeAttributes, FReinitialize}
-use Rattle.tdf_tree.specs.Forms.{FProcess}
-use Rattle.tdf_tree.specs.Forms.{FIf, FElse, FFor}
-use Rattle.tdf_tree.specs.Alike.{bare_stmt, bare_stmts, bare_store, bare_tdf_line, bare_attr, bare_initial, bare_tdf, bare_de_line, bare_sense, bare_process, bare_member, bare_global, bare_trace, bare, Alike}
-use Rattle.tdf_tree.specs.Pure.{PureStmt, SAssign, SIf, SFor, SNotify, SSetRate, SSetStep, SAccept, SReject}
-use Rattle.tdf_tree.specs.Pure.{PureStmts, Done, More, PureStore, SConst, SVar, SArray}
-use Rattle.tdf_tree.specs.Pure.{PureTdfLine, TPort, TStore, TRate, PureTdf, PureDeLine, DPort, DStore, DEvent}
-use Rattle.tdf_tree.specs.Pure.{PureProcess, PureGlobal, GShape, GTdf, GDe, GNet, PureTree}
-use Rattle.tdf_tree.specs.declared.blocks.Attr.{Attr}
-use Rattle.tdf_tree.specs.declared.blocks.Attr.TheVariants as attr
-use Rattle.tdf_tree.specs.declared.blocks.Initial.{Initial}
-use Rattle.tdf_tree.specs.declared.blocks.Member.{Member}
-use Rattle.tdf_tree.specs.declared.blocks.Member.TheVariants as member
-use Rattle.tdf_print.specs.Canon.{canon, head_text, tdf_line, attr_line, initial_line, de_line, sense_line, member_line, trace_line, store_line, stmt_lines, stmts_lines, else_lines, part_lines, attributes_lines, initialize_lines, tdf_lines, dont_lines, process_lines, global_lines, tree_lines}
-use Rattle.tdf_print.specs.Lines.{lines_text}
+use Rattle.tdf_lang_tree.specs.Forms.{Form, FTdf, FDe, FComposite, FTop, FEnd, FSetAttributes, FInitialize, FProcessing, FChangeAttributes, FReinitialize, FProcess, FIf, FElse, FFor}
+use Rattle.tdf_lang_tree.specs.Alike.{bare_stmt, bare_stmts, bare_store, bare_tdf_line, bare_attr, bare_initial, bare_tdf, bare_de_line, bare_sense, bare_process, bare_member, bare_global, bare_trace, bare, Alike}
+use Rattle.tdf_lang_tree.specs.Pure.{PureStmt, SAssign, SIf, SFor, SNotify, SSetRate, SSetStep, SAccept, SReject, PureStmts, Done, More, PureStore, SConst, SVar, SArray, PureTdfLine, TPort, TStore, TRate, PureTdf, PureDeLine, DPort, DStore, DEvent, PureProcess, PureGlobal, GShape, GTdf, GDe, GNet, PureTree}
+use Rattle.tdf_lang_tree.specs.declared.blocks.Attr.{Attr}
+use Rattle.tdf_lang_tree.specs.declared.blocks.Attr.TheVariants as attr
+use Rattle.tdf_lang_tree.specs.declared.blocks.Initial.{Initial}
+use Rattle.tdf_lang_tree.specs.declared.blocks.Member.{Member}
+use Rattle.tdf_lang_tree.specs.declared.blocks.Member.TheVariants as member
+use Rattle.tdf_lang_printer.specs.Canon.{canon, head_text, tdf_line, attr_line, initial_line, de_line, sense_line, member_line, trace_line, store_line, stmt_lines, stmts_lines, else_lines, part_lines, attributes_lines, initialize_lines, tdf_lines, dont_lines, process_lines, global_lines, tree_lines}
+use Rattle.tdf_lang_printer.specs.Lines.{lines_text}
 
 same_map : {X L : Type 0} (line : X → L) (bare_of : X → X) → ((x : X) → line (bare_of x) ≡ line x) → (xs : List X) → map line (map bare_of xs) ≡ map line xs
 same_map line bare_of h [] = refl

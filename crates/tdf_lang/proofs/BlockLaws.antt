@@ -3,32 +3,25 @@ use Rattle.std.proofs.Common.{◌≡◌, ℕ, Bool, true, false, List, [], ◌�
 use Rattle.std.proofs.lemmas.List.{append-nil}
 use Rattle.std.specs.Prelude.{codes}
 use Rattle.std.specs.List.{flat_map}
-use Rattle.tdf_tree.specs.Forms.{Form, FType, FTdf, FDe, FComposite, FTop, FEnd}
-use Rattle.tdf_tree.specs.Forms.{FSetAttributes, FInitialize, FProcessing, FChangeAttributes, FReinitialize}
-use Rattle.tdf_tree.specs.Forms.{FProcess, FDontInitialize}
-use Rattle.tdf_blocks.specs.Items.{tdf_line_of, attr_of, initial_of, de_line_of, sense_of, member_of, net_line_of, trace_of, BodyKind, Plain}
-use Rattle.tdf_lines.specs.SpellsLine.{SpellsLine}
+use Rattle.tdf_lang_tree.specs.Forms.{Form, FType, FTdf, FDe, FComposite, FTop, FEnd, FSetAttributes, FInitialize, FProcessing, FChangeAttributes, FReinitialize, FProcess, FDontInitialize}
+use Rattle.tdf_lang_parser.specs.Items.{tdf_line_of, attr_of, initial_of, de_line_of, sense_of, member_of, net_line_of, trace_of, BodyKind, Plain}
+use Rattle.tdf_lang_lines.specs.SpellsLine.{SpellsLine}
 use Rattle.tdf_base.specs.declared.resolution.Resolution.{Resolution}
-use Rattle.tdf_tokens.specs.Token.{TokenLine}
-use Rattle.tdf_tree.specs.Alike.{bare_stmt, bare_stmts, bare_body, bare_tdf_line, bare_attr, bare_initial, bare_tdf, bare_de_line, bare_sense, bare_process, bare_member, bare_global, bare_trace, Alike}
-use Rattle.tdf_tree.specs.Pure.{PureStmt}
-use Rattle.tdf_tree.specs.Pure.{PureStmts, PureBody}
-use Rattle.tdf_tree.specs.Pure.{PureTdfLine, PureTdf, PureDeLine}
-use Rattle.tdf_tree.specs.Pure.{PureProcess, PureGlobal, GShape, GTdf, GDe, GNet, PureTrace, PureTree}
-use Rattle.tdf_tree.specs.Views.{sts}
-use Rattle.tdf_tree.specs.declared.blocks.Attr.{Attr}
-use Rattle.tdf_tree.specs.declared.blocks.Initial.{Initial}
-use Rattle.tdf_tree.specs.declared.blocks.Member.{Member}
-use Rattle.tdf_tree.specs.declared.blocks.Sense.{Sense}
-use Rattle.tdf_blocks.specs.SpellsTree.{Lines, SpellsAll, deepest, body_of, no_body, SpellsPart, part_none, part_some, SpellsAttributes, attributes_none, attributes_some}
-use Rattle.tdf_blocks.specs.SpellsTree.{SpellsInitialize, initialize_none, initialize_some, SpellsTdf, tdf, SpellsDont, dont_none, dont_some, SpellsProcess, process, SpellsProcesses, processes_none, processes_more}
-use Rattle.tdf_blocks.specs.SpellsTree.{SpellsGlobal, global_type, global_tdf, global_de, global_net, SpellsGlobals, globals_none, globals_more, SpellsModel, model}
-use Rattle.tdf_print.specs.Canon.{tdf_line, attr_line, initial_line, de_line, sense_line, member_line, trace_line, stmts_lines, block_lines, part_lines, attributes_lines, initialize_lines, tdf_lines, dont_lines, process_lines, global_lines, tree_lines}
+use Rattle.tdf_lang_lexer.specs.Token.{TokenLine}
+use Rattle.tdf_lang_tree.specs.Alike.{bare_stmt, bare_stmts, bare_body, bare_tdf_line, bare_attr, bare_initial, bare_tdf, bare_de_line, bare_sense, bare_process, bare_member, bare_global, bare_trace, Alike}
+use Rattle.tdf_lang_tree.specs.Pure.{PureStmt, PureStmts, PureBody, PureTdfLine, PureTdf, PureDeLine, PureProcess, PureGlobal, GShape, GTdf, GDe, GNet, PureTrace, PureTree}
+use Rattle.tdf_lang_tree.specs.Views.{sts}
+use Rattle.tdf_lang_tree.specs.declared.blocks.Attr.{Attr}
+use Rattle.tdf_lang_tree.specs.declared.blocks.Initial.{Initial}
+use Rattle.tdf_lang_tree.specs.declared.blocks.Member.{Member}
+use Rattle.tdf_lang_tree.specs.declared.blocks.Sense.{Sense}
+use Rattle.tdf_lang_parser.specs.SpellsTree.{Lines, SpellsAll, deepest, body_of, no_body, SpellsPart, part_none, part_some, SpellsAttributes, attributes_none, attributes_some, SpellsInitialize, initialize_none, initialize_some, SpellsTdf, tdf, SpellsDont, dont_none, dont_some, SpellsProcess, process, SpellsProcesses, processes_none, processes_more, SpellsGlobal, global_type, global_tdf, global_de, global_net, SpellsGlobals, globals_none, globals_more, SpellsModel, model}
+use Rattle.tdf_lang_printer.specs.Canon.{tdf_line, attr_line, initial_line, de_line, sense_line, member_line, trace_line, stmts_lines, block_lines, part_lines, attributes_lines, initialize_lines, tdf_lines, dont_lines, process_lines, global_lines, tree_lines}
 use Rattle.tdf_lang.proofs.FormWords.{form_tokens}
 use Rattle.tdf_lang.proofs.RowLaws.{Shows}
 use Rattle.tdf_lang.proofs.StmtLaws.{cut_rows, one_row, head_row, no_rows, means_at, more_same, lines_again, same_sts, all_again}
 use Rattle.tdf_lang.proofs.Tables.{tdf_table, attr_table, initial_table, de_table, sense_table, member_table, net_table, trace_table}
-use Rattle.tdf_tokens.specs.declared.dialect.Dialect.{Dialect}
+use Rattle.tdf_lang_lexer.specs.declared.dialect.Dialect.{Dialect}
 
 -- a body without its line number
 bare_body_of : (ss : List PureStmt) (n : ℕ) → bare_body (body_of ss n) ≡ record { list = bare_stmts (sts ss); end = 0 }

@@ -4,21 +4,21 @@ use Rattle.std.proofs.lemmas.Bool.{and_parts, and_from}
 use Rattle.std.proofs.lemmas.Bool.Decides.{nat_tests}
 use Rattle.std.proofs.lemmas.List.Folds.{list_all-append}
 use Rattle.std.specs.List.{list_all}
-use Rattle.tdf_blocks.proofs.Api.{one_tree}
-use Rattle.tdf_blocks.specs.Refused.{SpellsText}
-use Rattle.tdf_blocks.specs.SpellsTree.{SpellsTree, whole_text, SpellsModel, model}
-use Rattle.tdf_print.specs.Canon.{canon, head_text, tree_lines}
-use Rattle.tdf_print.specs.Lines.{line_text, lines_text}
-use Rattle.tdf_tokens.specs.Dialect.{token_lines}
-use Rattle.tdf_tokens.specs.Rows.{Row, rows_from, rows_of}
-use Rattle.tdf_tokens.specs.Text.{fault_of, first_fault, is_allowed, line_fault_of, lines_of, or_else}
-use Rattle.tdf_tokens.specs.Token.{TokenLine}
-use Rattle.tdf_tokens.specs.declared.dialect.Dialect.{Dialect}
-use Rattle.tdf_tokens.specs.declared.text.TextFault.{TextFault}
-use Rattle.tdf_tokens.specs.declared.text.TextFault.TheVariants as fault
-use Rattle.tdf_tree.specs.Alike.{Alike, bare}
-use Rattle.tdf_tree.specs.Forms.{Form}
-use Rattle.tdf_tree.specs.Pure.{PureTree}
+use Rattle.tdf_lang_parser.proofs.Api.{one_tree}
+use Rattle.tdf_lang_parser.specs.Refused.{SpellsText}
+use Rattle.tdf_lang_parser.specs.SpellsTree.{SpellsTree, whole_text, SpellsModel, model}
+use Rattle.tdf_lang_printer.specs.Canon.{canon, head_text, tree_lines}
+use Rattle.tdf_lang_printer.specs.Lines.{line_text, lines_text}
+use Rattle.tdf_lang_lexer.specs.Dialect.{token_lines}
+use Rattle.tdf_lang_lexer.specs.Rows.{Row, rows_from, rows_of}
+use Rattle.tdf_lang_lexer.specs.Text.{fault_of, first_fault, is_allowed, line_fault_of, lines_of, or_else}
+use Rattle.tdf_lang_lexer.specs.Token.{TokenLine}
+use Rattle.tdf_lang_lexer.specs.declared.dialect.Dialect.{Dialect}
+use Rattle.tdf_lang_lexer.specs.declared.text.TextFault.{TextFault}
+use Rattle.tdf_lang_lexer.specs.declared.text.TextFault.TheVariants as fault
+use Rattle.tdf_lang_tree.specs.Alike.{Alike, bare}
+use Rattle.tdf_lang_tree.specs.Forms.{Form}
+use Rattle.tdf_lang_tree.specs.Pure.{PureTree}
 use Rattle.tdf_lang.specs.Laws.{IsSpelled, HasShortLines}
 use Rattle.tdf_lang.proofs.BlockLaws.{model_again}
 use Rattle.tdf_lang.proofs.HeadRows.{headed, text_lines, text_rows}

@@ -2,24 +2,24 @@
 use Rattle.std.proofs.Common.{◌≡◌, ℕ, suc, ◌^◌, ◌<◌, Bool, true, false, cond, List, [], ◌∷◌, ◌++◌, Some, refl, subst, arith}
 use Rattle.std.proofs.lemmas.List.{append-nil}
 use Rattle.std.specs.Fmt.{decimal}
-use Rattle.tdf_tokens.specs.Token.{Tok, TName, TNumber, TSymbol}
-use Rattle.tdf_tokens.specs.declared.dialect.Dialect.{Dialect}
-use Rattle.tdf_tokens.specs.Words as words
-use Rattle.tdf_tokens.specs.Words.{spelling}
-use Rattle.tdf_tokens.specs.declared.key.Key.TheVariants as key
-use Rattle.tdf_tokens.specs.declared.key.Symbol.TheVariants as symbol
-use Rattle.tdf_tree.specs.Pure.{PureExpr, ENumber, EName, EAt, ECast, ESelect, ENot, ENeg, EShift, EBinary}
-use Rattle.tdf_tree.specs.declared.expr.Index.{Index}
-use Rattle.tdf_tree.specs.declared.expr.Index.TheVariants as index
-use Rattle.tdf_tree.specs.declared.expr.Op.{Op}
-use Rattle.tdf_tree.specs.declared.expr.Op.TheVariants.{Or, And, Lt, Le, Eq, Ne, Gt, Ge, Add, Sub, Mul}
-use Rattle.tdf_exprs.specs.Numbers.{trimmed}
+use Rattle.tdf_lang_lexer.specs.Token.{Tok, TName, TNumber, TSymbol}
+use Rattle.tdf_lang_lexer.specs.declared.dialect.Dialect.{Dialect}
+use Rattle.tdf_lang_lexer.specs.Words as words
+use Rattle.tdf_lang_lexer.specs.Words.{spelling}
+use Rattle.tdf_lang_lexer.specs.declared.key.Key.TheVariants as key
+use Rattle.tdf_lang_lexer.specs.declared.key.Symbol.TheVariants as symbol
+use Rattle.tdf_lang_tree.specs.Pure.{PureExpr, ENumber, EName, EAt, ECast, ESelect, ENot, ENeg, EShift, EBinary}
+use Rattle.tdf_lang_tree.specs.declared.expr.Index.{Index}
+use Rattle.tdf_lang_tree.specs.declared.expr.Index.TheVariants as index
+use Rattle.tdf_lang_tree.specs.declared.expr.Op.{Op}
+use Rattle.tdf_lang_tree.specs.declared.expr.Op.TheVariants.{Or, And, Lt, Le, Eq, Ne, Gt, Ge, Add, Sub, Mul}
+use Rattle.tdf_lang_exprs.specs.Numbers.{trimmed}
 use Rattle.tdf_base.proofs.Api.{int_small, int_decimal}
 use Rattle.tdf_base.specs.Digits.{int_of}
-use Rattle.tdf_exprs.specs.Index.{SpellsIndex, index_int, index_var, index_plus, index_minus, index_from, index_times, index_times_plus}
-use Rattle.tdf_exprs.specs.SpellsExpr.{level, left_level, sign, shift_sign, SpellsExpr, number, variable, item, cast, select, parens, negation, shift, contrary, binary, tighter}
-use Rattle.tdf_exprs.proofs.Api.{lower, left_le_five, level_lt_six}
-use Rattle.tdf_print.specs.Exprs.{is_single}
+use Rattle.tdf_lang_exprs.specs.Index.{SpellsIndex, index_int, index_var, index_plus, index_minus, index_from, index_times, index_times_plus}
+use Rattle.tdf_lang_exprs.specs.SpellsExpr.{level, left_level, sign, shift_sign, SpellsExpr, number, variable, item, cast, select, parens, negation, shift, contrary, binary, tighter}
+use Rattle.tdf_lang_exprs.proofs.Api.{lower, left_le_five, level_lt_six}
+use Rattle.tdf_lang_printer.specs.Exprs.{is_single}
 use Rattle.tdf_lang.proofs.TokenLines.{IsToken, AreTokens}
 use Rattle.tdf_lang.proofs.ExprWords.{opens, closes, comma, index_words, wrap_words, expr_words, index_tokens, wrap_tokens, expr_tokens, NameOk, NumberOk, IndexOk, ExprOk}
 use Rattle.tdf_lang.proofs.Gaps.{Word, tight, loose, word, gap, ApartTo, apart_append, SoftText, by_space, by_soft, by_byte, by_open, by_close, by_open_square, by_close_square, by_minus}

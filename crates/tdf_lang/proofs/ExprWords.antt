@@ -3,19 +3,19 @@ use Rattle.std.proofs.Common.{◌≡◌, ℕ, Bool, true, false, cond, List, [],
 use Rattle.std.proofs.lemmas.List.{append-nil}
 use Rattle.std.specs.Prelude.{codes}
 use Rattle.std.specs.Fmt.{decimal}
-use Rattle.tdf_tokens.specs.Token.{Tok, TName, TKey, TNumber, TSymbol}
-use Rattle.tdf_tokens.specs.declared.dialect.Dialect.{Dialect}
-use Rattle.tdf_tokens.specs.Words as words
-use Rattle.tdf_tokens.specs.Words.{spelling}
-use Rattle.tdf_tokens.specs.declared.key.Key.TheVariants as key
-use Rattle.tdf_tokens.specs.declared.key.Symbol.TheVariants as symbol
-use Rattle.tdf_tree.specs.Pure.{PureExpr, ENumber, EName, EAt, ECast, ESelect, ENot, ENeg, EShift, EBinary}
-use Rattle.tdf_tree.specs.declared.expr.Index.{Index}
-use Rattle.tdf_tree.specs.declared.expr.Index.TheVariants as index
-use Rattle.tdf_tree.specs.declared.expr.Op.{Op}
-use Rattle.tdf_tree.specs.declared.expr.Op.TheVariants.{Or, And, Lt, Le, Eq, Ne, Gt, Ge, Add, Sub, Mul}
-use Rattle.tdf_exprs.specs.SpellsExpr.{sign, shift_sign}
-use Rattle.tdf_print.specs.Exprs.{op_text, shift_text, index_text, is_single, operand_text, expr_text}
+use Rattle.tdf_lang_lexer.specs.Token.{Tok, TName, TKey, TNumber, TSymbol}
+use Rattle.tdf_lang_lexer.specs.declared.dialect.Dialect.{Dialect}
+use Rattle.tdf_lang_lexer.specs.Words as words
+use Rattle.tdf_lang_lexer.specs.Words.{spelling}
+use Rattle.tdf_lang_lexer.specs.declared.key.Key.TheVariants as key
+use Rattle.tdf_lang_lexer.specs.declared.key.Symbol.TheVariants as symbol
+use Rattle.tdf_lang_tree.specs.Pure.{PureExpr, ENumber, EName, EAt, ECast, ESelect, ENot, ENeg, EShift, EBinary}
+use Rattle.tdf_lang_tree.specs.declared.expr.Index.{Index}
+use Rattle.tdf_lang_tree.specs.declared.expr.Index.TheVariants as index
+use Rattle.tdf_lang_tree.specs.declared.expr.Op.{Op}
+use Rattle.tdf_lang_tree.specs.declared.expr.Op.TheVariants.{Or, And, Lt, Le, Eq, Ne, Gt, Ge, Add, Sub, Mul}
+use Rattle.tdf_lang_exprs.specs.SpellsExpr.{sign, shift_sign}
+use Rattle.tdf_lang_printer.specs.Exprs.{op_text, shift_text, index_text, is_single, operand_text, expr_text}
 use Rattle.tdf_lang.proofs.Tokens.{spelled, Writable, first_part, first_letter}
 use Rattle.tdf_lang.proofs.Gaps.{Word, tight, loose, word, gap, written, tokens_in, written_append}
 

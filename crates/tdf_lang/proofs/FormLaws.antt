@@ -6,26 +6,22 @@ use Rattle.tdf_fixed.specs.declared.over.Over.{Over}
 use Rattle.tdf_fixed.specs.declared.over.Over.TheVariants.{Wrap, Sat, SatZero, SatSym}
 use Rattle.tdf_fixed.specs.declared.quant.Quant.{Quant}
 use Rattle.tdf_fixed.specs.declared.quant.Quant.TheVariants.{Trn, TrnZero, Rnd, RndZero, RndMinInf, RndInf, RndConv}
-use Rattle.tdf_tree.specs.Forms.{Form}
-use Rattle.tdf_tree.specs.Forms.{FAssign}
-use Rattle.tdf_lines.specs.SpellsLine.{zero_lit, SpellsStart, start_none, start_some, SpellsLimit, limit_int, limit_var, limit_times, SpellsPort, port_in, port_out, port_de_in, port_de_out}
-use Rattle.tdf_lines.specs.SpellsLine.{SpellsWord, word_top, word_end, word_set_attributes, word_initialize, word_processing, word_change_attributes, word_reinitialize, word_does, word_accept, word_reject, word_process, word_dont_initialize, word_else}
-use Rattle.tdf_lines.specs.SpellsLine.{SpellsNamed, named_tdf, named_de, named_composite, named_event, named_sensitive}
-use Rattle.tdf_lines.specs.SpellsLine.{SpellsLine, word_line, named_line, type_line, port_line, const_line, var_line, array_line, rate_var_line, step_line, port_step_line, rate_line, delay_line, initial_line, notify_line, notify_after_line, signal_line, de_signal_line, instance_line, bind_line, trace_line, assign_line, assign_item_line, if_line, for_line, set_rate_line}
-use Rattle.tdf_exprs.specs.Numbers.{trimmed}
-use Rattle.tdf_exprs.specs.Formats.{sign_of, quant_of, over_of, modes_both, SpellsShape, shape, SpellsFormat, format_own, format_named}
-use Rattle.tdf_exprs.specs.Literals.{is_nought, SpellsLit, lit_plain, lit_minus, SpellsLits, lits_none, lits_more}
-use Rattle.tdf_exprs.specs.Paths.{SpellsPath, path_one, path_more}
-use Rattle.tdf_tokens.specs.Token.{Tok, TName, TNumber, TSymbol}
-use Rattle.tdf_tokens.specs.declared.dialect.Dialect.{Dialect}
-use Rattle.tdf_tokens.specs.declared.key.Key.{Key}
-use Rattle.tdf_tokens.specs.declared.key.Key.TheVariants as key
-use Rattle.tdf_tokens.specs.declared.key.Symbol.TheVariants as symbol
-use Rattle.tdf_tree.specs.declared.blocks.PortKind.{PortKind}
-use Rattle.tdf_tree.specs.declared.names.Lit.{Lit}
-use Rattle.tdf_tree.specs.declared.shapes.FormatRef.{FormatRef}
-use Rattle.tdf_tree.specs.declared.shapes.Shape.{Shape}
-use Rattle.tdf_tree.specs.declared.stmt.Limit.{Limit}
+use Rattle.tdf_lang_tree.specs.Forms.{Form, FAssign}
+use Rattle.tdf_lang_lines.specs.SpellsLine.{zero_lit, SpellsStart, start_none, start_some, SpellsLimit, limit_int, limit_var, limit_times, SpellsPort, port_in, port_out, port_de_in, port_de_out, SpellsWord, word_top, word_end, word_set_attributes, word_initialize, word_processing, word_change_attributes, word_reinitialize, word_does, word_accept, word_reject, word_process, word_dont_initialize, word_else, SpellsNamed, named_tdf, named_de, named_composite, named_event, named_sensitive, SpellsLine, word_line, named_line, type_line, port_line, const_line, var_line, array_line, rate_var_line, step_line, port_step_line, rate_line, delay_line, initial_line, notify_line, notify_after_line, signal_line, de_signal_line, instance_line, bind_line, trace_line, assign_line, assign_item_line, if_line, for_line, set_rate_line}
+use Rattle.tdf_lang_exprs.specs.Numbers.{trimmed}
+use Rattle.tdf_lang_exprs.specs.Formats.{sign_of, quant_of, over_of, modes_both, SpellsShape, shape, SpellsFormat, format_own, format_named}
+use Rattle.tdf_lang_exprs.specs.Literals.{is_nought, SpellsLit, lit_plain, lit_minus, SpellsLits, lits_none, lits_more}
+use Rattle.tdf_lang_exprs.specs.Paths.{SpellsPath, path_one, path_more}
+use Rattle.tdf_lang_lexer.specs.Token.{Tok, TName, TNumber, TSymbol}
+use Rattle.tdf_lang_lexer.specs.declared.dialect.Dialect.{Dialect}
+use Rattle.tdf_lang_lexer.specs.declared.key.Key.{Key}
+use Rattle.tdf_lang_lexer.specs.declared.key.Key.TheVariants as key
+use Rattle.tdf_lang_lexer.specs.declared.key.Symbol.TheVariants as symbol
+use Rattle.tdf_lang_tree.specs.declared.blocks.PortKind.{PortKind}
+use Rattle.tdf_lang_tree.specs.declared.names.Lit.{Lit}
+use Rattle.tdf_lang_tree.specs.declared.shapes.FormatRef.{FormatRef}
+use Rattle.tdf_lang_tree.specs.declared.shapes.Shape.{Shape}
+use Rattle.tdf_lang_tree.specs.declared.stmt.Limit.{Limit}
 use Rattle.tdf_lang.proofs.TokenLines.{AreTokens}
 use Rattle.tdf_lang.proofs.ExprLaws.{name_ok, int_ok, int_again, index_ok, index_again, expr_ok, expr_again, digits_ok, all_left, all_right}
 use Rattle.tdf_lang.proofs.ExprWords.{NameOk, index_tokens, expr_tokens}

@@ -7,28 +7,25 @@ use Rattle.tdf_fixed.specs.declared.over.Over.{Over}
 use Rattle.tdf_fixed.specs.declared.over.Over.TheVariants.{Wrap, Sat, SatZero, SatSym}
 use Rattle.tdf_fixed.specs.declared.quant.Quant.{Quant}
 use Rattle.tdf_fixed.specs.declared.quant.Quant.TheVariants.{Trn, TrnZero, Rnd, RndZero, RndMinInf, RndInf, RndConv}
-use Rattle.tdf_tree.specs.Forms.{Form, FType, FTdf, FDe, FComposite, FTop, FEnd, FPort, FConst, FVar, FArray, FRateVar}
-use Rattle.tdf_tree.specs.Forms.{FSetAttributes, FInitialize, FProcessing, FChangeAttributes, FReinitialize, FStep, FRate, FDelay, FDoes, FAccept, FReject}
-use Rattle.tdf_tree.specs.Forms.{FInitial, FEvent, FProcess, FSensitive, FDontInitialize, FNotify, FSignal, FDeSignal, FInstance, FBind, FTrace}
-use Rattle.tdf_tree.specs.Forms.{FAssign, FIf, FElse, FFor, FSetRate}
-use Rattle.tdf_tokens.specs.Token.{Tok, TName, TKey, TNumber, TTime, TSymbol}
-use Rattle.tdf_tokens.specs.declared.dialect.Dialect.{Dialect}
-use Rattle.tdf_tokens.specs.Words as words
-use Rattle.tdf_tokens.specs.Words.{spelling}
-use Rattle.tdf_tokens.specs.declared.key.Key.{Key}
-use Rattle.tdf_tokens.specs.declared.key.Key.TheVariants as key
-use Rattle.tdf_tokens.specs.declared.key.Symbol.TheVariants as symbol
-use Rattle.tdf_tree.specs.declared.blocks.PortKind.{PortKind}
-use Rattle.tdf_tree.specs.declared.blocks.PortKind.TheVariants as port_kind
-use Rattle.tdf_tree.specs.declared.expr.Index.{Index}
-use Rattle.tdf_tree.specs.declared.names.Lit.{Lit}
-use Rattle.tdf_tree.specs.declared.shapes.FormatRef.{FormatRef}
-use Rattle.tdf_tree.specs.declared.shapes.FormatRef.TheVariants.{Own, Named}
-use Rattle.tdf_tree.specs.declared.shapes.Shape.{Shape}
-use Rattle.tdf_tree.specs.declared.stmt.Limit.{Limit}
-use Rattle.tdf_tree.specs.declared.stmt.Limit.TheVariants as limit
-use Rattle.tdf_print.specs.Exprs.{index_text, expr_text}
-use Rattle.tdf_print.specs.Lines.{sign_text, quant_text, over_text, shape_text, format_text, minus_text, lit_text, lits_text, time_text, limit_text, points_text, path_text, port_text, step_text, target_text, line_text}
+use Rattle.tdf_lang_tree.specs.Forms.{Form, FType, FTdf, FDe, FComposite, FTop, FEnd, FPort, FConst, FVar, FArray, FRateVar, FSetAttributes, FInitialize, FProcessing, FChangeAttributes, FReinitialize, FStep, FRate, FDelay, FDoes, FAccept, FReject, FInitial, FEvent, FProcess, FSensitive, FDontInitialize, FNotify, FSignal, FDeSignal, FInstance, FBind, FTrace, FAssign, FIf, FElse, FFor, FSetRate}
+use Rattle.tdf_lang_lexer.specs.Token.{Tok, TName, TKey, TNumber, TTime, TSymbol}
+use Rattle.tdf_lang_lexer.specs.declared.dialect.Dialect.{Dialect}
+use Rattle.tdf_lang_lexer.specs.Words as words
+use Rattle.tdf_lang_lexer.specs.Words.{spelling}
+use Rattle.tdf_lang_lexer.specs.declared.key.Key.{Key}
+use Rattle.tdf_lang_lexer.specs.declared.key.Key.TheVariants as key
+use Rattle.tdf_lang_lexer.specs.declared.key.Symbol.TheVariants as symbol
+use Rattle.tdf_lang_tree.specs.declared.blocks.PortKind.{PortKind}
+use Rattle.tdf_lang_tree.specs.declared.blocks.PortKind.TheVariants as port_kind
+use Rattle.tdf_lang_tree.specs.declared.expr.Index.{Index}
+use Rattle.tdf_lang_tree.specs.declared.names.Lit.{Lit}
+use Rattle.tdf_lang_tree.specs.declared.shapes.FormatRef.{FormatRef}
+use Rattle.tdf_lang_tree.specs.declared.shapes.FormatRef.TheVariants.{Own, Named}
+use Rattle.tdf_lang_tree.specs.declared.shapes.Shape.{Shape}
+use Rattle.tdf_lang_tree.specs.declared.stmt.Limit.{Limit}
+use Rattle.tdf_lang_tree.specs.declared.stmt.Limit.TheVariants as limit
+use Rattle.tdf_lang_printer.specs.Exprs.{index_text, expr_text}
+use Rattle.tdf_lang_printer.specs.Lines.{sign_text, quant_text, over_text, shape_text, format_text, minus_text, lit_text, lits_text, time_text, limit_text, points_text, path_text, port_text, step_text, target_text, line_text}
 use Rattle.tdf_lang.proofs.ExprLaws.{name_first, last_apart, close_square_apart, index_apart, expr_apart}
 use Rattle.tdf_lang.proofs.ExprWords.{index_words, expr_words, index_tokens, expr_tokens, index_written, expr_written, index_tokens_are, expr_tokens_are, tokens_then, written_then, last_written, NameOk, NumberOk, IndexOk, ExprOk}
 use Rattle.tdf_lang.proofs.Gaps.{Word, tight, loose, word, gap, written, tokens_in, ApartTo, apart_append, SoftText, by_space, by_byte, by_point, by_open_square, by_minus, by_dot}

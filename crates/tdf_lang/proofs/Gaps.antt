@@ -7,13 +7,13 @@ use Rattle.std.proofs.lemmas.List.Folds.{list_all-append}
 use Rattle.std.specs.List.{list_all}
 use Rattle.tdf_base.specs.Digits.{is_digit}
 use Rattle.tdf_base.specs.Names.{is_letter, is_part}
-use Rattle.tdf_tokens.specs.Pieces.{is_pair, joins, pieces_from, pieces_of}
-use Rattle.tdf_tokens.specs.Dialect.{token_of}
-use Rattle.tdf_tokens.specs.declared.dialect.Dialect.{Dialect}
-use Rattle.tdf_tokens.specs.Token.{Tok}
-use Rattle.tdf_tokens.specs.Words as words
-use Rattle.tdf_tokens.specs.Words.{spelling}
-use Rattle.tdf_tokens.specs.declared.key.Symbol.TheVariants as symbol
+use Rattle.tdf_lang_lexer.specs.Pieces.{is_pair, joins, pieces_from, pieces_of}
+use Rattle.tdf_lang_lexer.specs.Dialect.{token_of}
+use Rattle.tdf_lang_lexer.specs.declared.dialect.Dialect.{Dialect}
+use Rattle.tdf_lang_lexer.specs.Token.{Tok}
+use Rattle.tdf_lang_lexer.specs.Words as words
+use Rattle.tdf_lang_lexer.specs.Words.{spelling}
+use Rattle.tdf_lang_lexer.specs.declared.key.Symbol.TheVariants as symbol
 use Rattle.tdf_lang.proofs.Scan.{EndsAt, space_ends, skip_space}
 use Rattle.tdf_lang.proofs.Tokens.{spelled, is_plain, Writable, first_part, first_letter, letter_part}
 

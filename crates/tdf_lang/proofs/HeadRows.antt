@@ -5,14 +5,14 @@ use Rattle.std.specs.Prelude.{codes}
 use Rattle.std.specs.List.{list_all}
 use Rattle.tdf_base.specs.declared.resolution.Resolution.{Resolution}
 use Rattle.tdf_base.specs.declared.resolution.Resolution.TheVariants.{Ps, Fs}
-use Rattle.tdf_blocks.specs.Head.{SpellsVersion, language_1, language_2, language_3, SpellsResolution, resolution_ps, resolution_fs, SpellsHead, head_version, head_resolution}
-use Rattle.tdf_tokens.specs.Pieces.{pieces_of, pieces_from}
-use Rattle.tdf_tokens.specs.Rows.{Row, rows_from, rows_of}
-use Rattle.tdf_tokens.specs.Text.{is_allowed, lines_from, lines_of}
-use Rattle.tdf_tokens.specs.declared.dialect.Dialect.{Dialect}
-use Rattle.tdf_print.specs.Canon.{head_text, language_text, resolution_text, unit_line}
-use Rattle.tdf_print.specs.Lines.{line_text, lines_text}
-use Rattle.tdf_tree.specs.Forms.{Form}
+use Rattle.tdf_lang_parser.specs.Head.{SpellsVersion, language_1, language_2, language_3, SpellsResolution, resolution_ps, resolution_fs, SpellsHead, head_version, head_resolution}
+use Rattle.tdf_lang_lexer.specs.Pieces.{pieces_of, pieces_from}
+use Rattle.tdf_lang_lexer.specs.Rows.{Row, rows_from, rows_of}
+use Rattle.tdf_lang_lexer.specs.Text.{is_allowed, lines_from, lines_of}
+use Rattle.tdf_lang_lexer.specs.declared.dialect.Dialect.{Dialect}
+use Rattle.tdf_lang_printer.specs.Canon.{head_text, language_text, resolution_text, unit_line}
+use Rattle.tdf_lang_printer.specs.Lines.{line_text, lines_text}
+use Rattle.tdf_lang_tree.specs.Forms.{Form}
 use Rattle.tdf_lang.proofs.RowLaws.{FormsOk, lines_cut}
 use Rattle.tdf_lang.proofs.Tokens.{Sound, sound_old, sound_new}
 

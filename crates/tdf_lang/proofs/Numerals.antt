@@ -12,7 +12,7 @@ use Rattle.tdf_base.specs.Digits.{is_digit, are_digits}
 use Rattle.tdf_base.specs.Number.{Numeral, numeral_of, is_short, is_short_numeral, is_number}
 use Rattle.tdf_base.specs.Spelling as base
 use Rattle.tdf_base.specs.Spelling.{SpellsNumeral}
-use Rattle.tdf_exprs.specs.Numbers.{is_zero, is_point, without_first_zeros, without_last_zeros, or_zero, after_point, trimmed}
+use Rattle.tdf_lang_exprs.specs.Numbers.{is_zero, is_point, without_first_zeros, without_last_zeros, or_zero, after_point, trimmed}
 
 -- zeros in front
 strip : List ℕ → List ℕ

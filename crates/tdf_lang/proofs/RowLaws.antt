@@ -4,17 +4,14 @@ use Rattle.std.proofs.Math.Seq.{take-length}
 use Rattle.std.proofs.lemmas.Bool.{and_parts}
 use Rattle.std.proofs.lemmas.List.{append-nil}
 use Rattle.std.specs.List.{list_all, prefix_len}
-use Rattle.tdf_tree.specs.Forms.{Form, FType, FTdf, FDe, FComposite, FTop, FEnd, FPort, FConst, FVar, FArray, FRateVar}
-use Rattle.tdf_tree.specs.Forms.{FSetAttributes, FInitialize, FProcessing, FChangeAttributes, FReinitialize, FStep, FRate, FDelay, FDoes, FAccept, FReject}
-use Rattle.tdf_tree.specs.Forms.{FInitial, FEvent, FProcess, FSensitive, FDontInitialize, FNotify, FSignal, FDeSignal, FInstance, FBind, FTrace}
-use Rattle.tdf_tree.specs.Forms.{FAssign, FIf, FElse, FFor, FSetRate}
-use Rattle.tdf_tokens.specs.Pieces.{is_comment, code_of, pieces_of}
-use Rattle.tdf_tokens.specs.Dialect.{token_of, token_lines}
-use Rattle.tdf_tokens.specs.Rows.{Row, row_unless_bare, rows_from}
-use Rattle.tdf_tokens.specs.declared.dialect.Dialect.{Dialect}
-use Rattle.tdf_tokens.specs.Text.{lines_from}
-use Rattle.tdf_tokens.specs.Token.{Tok, TokenLine}
-use Rattle.tdf_print.specs.Lines.{line_text, lines_text}
+use Rattle.tdf_lang_tree.specs.Forms.{Form, FType, FTdf, FDe, FComposite, FTop, FEnd, FPort, FConst, FVar, FArray, FRateVar, FSetAttributes, FInitialize, FProcessing, FChangeAttributes, FReinitialize, FStep, FRate, FDelay, FDoes, FAccept, FReject, FInitial, FEvent, FProcess, FSensitive, FDontInitialize, FNotify, FSignal, FDeSignal, FInstance, FBind, FTrace, FAssign, FIf, FElse, FFor, FSetRate}
+use Rattle.tdf_lang_lexer.specs.Pieces.{is_comment, code_of, pieces_of}
+use Rattle.tdf_lang_lexer.specs.Dialect.{token_of, token_lines}
+use Rattle.tdf_lang_lexer.specs.Rows.{Row, row_unless_bare, rows_from}
+use Rattle.tdf_lang_lexer.specs.declared.dialect.Dialect.{Dialect}
+use Rattle.tdf_lang_lexer.specs.Text.{lines_from}
+use Rattle.tdf_lang_lexer.specs.Token.{Tok, TokenLine}
+use Rattle.tdf_lang_printer.specs.Lines.{line_text, lines_text}
 use Rattle.tdf_lang.proofs.FormWords.{form_words, form_tokens, form_written, form_tokens_are, form_apart, FormOk}
 use Rattle.tdf_lang.proofs.Gaps.{Word, written, tokens_in, ApartTo, words_read, words_plain}
 use Rattle.tdf_lang.proofs.Tokens.{is_plain, plain_code, plain_line}

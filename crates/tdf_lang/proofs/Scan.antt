@@ -6,7 +6,7 @@ use Rattle.std.proofs.lemmas.List.{append-nil}
 use Rattle.std.specs.List.{list_all}
 use Rattle.tdf_base.specs.Digits.{is_digit}
 use Rattle.tdf_base.specs.Names.{is_part}
-use Rattle.tdf_tokens.specs.Pieces.{is_space, is_pair, joins, begins_with_digit, pieces_from}
+use Rattle.tdf_lang_lexer.specs.Pieces.{is_space, is_pair, joins, begins_with_digit, pieces_from}
 
 -- the byte after a piece doesn't make it longer
 abbrev pub EndsAt : List ℕ → List ℕ → Type 0

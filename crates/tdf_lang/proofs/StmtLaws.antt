@@ -1,23 +1,21 @@
 -- Token lines that have the canonical tokens of lines and statements spell lines and statements alike these.
 use Rattle.std.proofs.Common.{◌≡◌, ℕ, suc, List, [], ◌∷◌, ◌++◌, Option, Some, map, refl, sym, ap, subst, ◌∙◌, append_assoc}
 use Rattle.std.proofs.lemmas.List.{append-nil}
-use Rattle.tdf_tree.specs.Forms.{Form, FEnd}
-use Rattle.tdf_tree.specs.Forms.{FIf, FElse, FFor}
-use Rattle.tdf_blocks.specs.Items.{BodyKind, stmt_of}
-use Rattle.tdf_lines.specs.SpellsLine.{SpellsLine}
-use Rattle.tdf_tokens.specs.Token.{Tok, TokenLine}
-use Rattle.tdf_tree.specs.Alike.{bare_stmt, bare_stmts}
-use Rattle.tdf_tree.specs.Pure.{PureStmt, SIf, SFor}
-use Rattle.tdf_tree.specs.Pure.{Done, More, PureExpr}
-use Rattle.tdf_tree.specs.Views.{sts}
-use Rattle.tdf_blocks.specs.SpellsTree.{Lines, lines_none, lines_more, SpellsOne, simple, choice, both, turns, SpellsAll, stmts_none, stmts_more}
-use Rattle.tdf_tree.specs.declared.stmt.Limit.{Limit}
-use Rattle.tdf_print.specs.Canon.{stmt_lines, stmts_lines}
+use Rattle.tdf_lang_tree.specs.Forms.{Form, FEnd, FIf, FElse, FFor}
+use Rattle.tdf_lang_parser.specs.Items.{BodyKind, stmt_of}
+use Rattle.tdf_lang_lines.specs.SpellsLine.{SpellsLine}
+use Rattle.tdf_lang_lexer.specs.Token.{Tok, TokenLine}
+use Rattle.tdf_lang_tree.specs.Alike.{bare_stmt, bare_stmts}
+use Rattle.tdf_lang_tree.specs.Pure.{PureStmt, SIf, SFor, Done, More, PureExpr}
+use Rattle.tdf_lang_tree.specs.Views.{sts}
+use Rattle.tdf_lang_parser.specs.SpellsTree.{Lines, lines_none, lines_more, SpellsOne, simple, choice, both, turns, SpellsAll, stmts_none, stmts_more}
+use Rattle.tdf_lang_tree.specs.declared.stmt.Limit.{Limit}
+use Rattle.tdf_lang_printer.specs.Canon.{stmt_lines, stmts_lines}
 use Rattle.tdf_lang.proofs.FormLaws.{form_again}
 use Rattle.tdf_lang.proofs.FormWords.{form_tokens}
 use Rattle.tdf_lang.proofs.RowLaws.{Shows}
 use Rattle.tdf_lang.proofs.Tables.{Moved, stmt_table}
-use Rattle.tdf_tokens.specs.declared.dialect.Dialect.{Dialect}
+use Rattle.tdf_lang_lexer.specs.declared.dialect.Dialect.{Dialect}
 
 -- rows that show one list of forms after another
 pub record Cut (a b : List Form) (rows : List TokenLine) : Type 0 where

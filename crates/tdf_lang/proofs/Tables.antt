@@ -1,25 +1,19 @@
 -- Token lines that have the canonical tokens of a tree spell a tree alike it.
 use Rattle.std.proofs.Common.{◌≡◌, ℕ, List, [], ◌∷◌, Option, Some, refl, sym, ap, ◌∙◌}
-use Rattle.tdf_tree.specs.Forms.{Form, FPort, FConst, FVar, FArray, FRateVar}
-use Rattle.tdf_tree.specs.Forms.{FStep, FRate, FDelay, FDoes, FAccept, FReject}
-use Rattle.tdf_tree.specs.Forms.{FInitial, FEvent, FSensitive, FNotify, FSignal, FDeSignal, FInstance, FBind, FTrace}
-use Rattle.tdf_tree.specs.Forms.{FAssign, FSetRate}
-use Rattle.tdf_blocks.specs.Items.{tdf_line_of, attr_of, initial_of, de_port_of, de_line_of, sense_of, member_of, net_line_of, trace_of, BodyKind, Plain, OfChange, OfProcess, plain_of, change_of, process_of, stmt_of}
-use Rattle.tdf_tree.specs.Alike.{bare_stmt, bare_tdf_line, bare_attr, bare_initial, bare_de_line, bare_sense, bare_member, bare_trace}
-use Rattle.tdf_tree.specs.Pure.{PureStmt, SAssign, SNotify, SSetRate, SSetStep, SAccept, SReject}
-use Rattle.tdf_tree.specs.Pure.{SConst, SVar, SArray}
-use Rattle.tdf_tree.specs.Pure.{PureTdfLine, TPort, TStore, TRate, PureDeLine, DPort, DStore, DEvent}
-use Rattle.tdf_tree.specs.Pure.{PureTrace}
-use Rattle.tdf_tree.specs.declared.blocks.Attr.{Attr}
-use Rattle.tdf_tree.specs.declared.blocks.Attr.TheVariants as attr
-use Rattle.tdf_tree.specs.declared.blocks.Initial.{Initial}
-use Rattle.tdf_tree.specs.declared.blocks.Member.{Member}
-use Rattle.tdf_tree.specs.declared.blocks.Member.TheVariants as member
-use Rattle.tdf_tree.specs.declared.blocks.PortKind.{PortKind}
-use Rattle.tdf_tree.specs.declared.blocks.PortKind.TheVariants as port_kind
-use Rattle.tdf_tree.specs.declared.blocks.Sense.{Sense}
-use Rattle.tdf_tree.specs.declared.shapes.FormatRef.{FormatRef}
-use Rattle.tdf_print.specs.Canon.{tdf_line, attr_line, initial_line, de_line, sense_line, member_line, trace_line, stmt_lines}
+use Rattle.tdf_lang_tree.specs.Forms.{Form, FPort, FConst, FVar, FArray, FRateVar, FStep, FRate, FDelay, FDoes, FAccept, FReject, FInitial, FEvent, FSensitive, FNotify, FSignal, FDeSignal, FInstance, FBind, FTrace, FAssign, FSetRate}
+use Rattle.tdf_lang_parser.specs.Items.{tdf_line_of, attr_of, initial_of, de_port_of, de_line_of, sense_of, member_of, net_line_of, trace_of, BodyKind, Plain, OfChange, OfProcess, plain_of, change_of, process_of, stmt_of}
+use Rattle.tdf_lang_tree.specs.Alike.{bare_stmt, bare_tdf_line, bare_attr, bare_initial, bare_de_line, bare_sense, bare_member, bare_trace}
+use Rattle.tdf_lang_tree.specs.Pure.{PureStmt, SAssign, SNotify, SSetRate, SSetStep, SAccept, SReject, SConst, SVar, SArray, PureTdfLine, TPort, TStore, TRate, PureDeLine, DPort, DStore, DEvent, PureTrace}
+use Rattle.tdf_lang_tree.specs.declared.blocks.Attr.{Attr}
+use Rattle.tdf_lang_tree.specs.declared.blocks.Attr.TheVariants as attr
+use Rattle.tdf_lang_tree.specs.declared.blocks.Initial.{Initial}
+use Rattle.tdf_lang_tree.specs.declared.blocks.Member.{Member}
+use Rattle.tdf_lang_tree.specs.declared.blocks.Member.TheVariants as member
+use Rattle.tdf_lang_tree.specs.declared.blocks.PortKind.{PortKind}
+use Rattle.tdf_lang_tree.specs.declared.blocks.PortKind.TheVariants as port_kind
+use Rattle.tdf_lang_tree.specs.declared.blocks.Sense.{Sense}
+use Rattle.tdf_lang_tree.specs.declared.shapes.FormatRef.{FormatRef}
+use Rattle.tdf_lang_printer.specs.Canon.{tdf_line, attr_line, initial_line, de_line, sense_line, member_line, trace_line, stmt_lines}
 
 -- an item that a line gives, at the line of another number
 pub record Moved {X L : Type 0} (of : ℕ → Form → Option X) (line : X → L) (bare_of : X → X) (m : ℕ) (f : Form) (want : L) (x : X) : Type 0 where

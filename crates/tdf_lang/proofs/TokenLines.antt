@@ -1,9 +1,9 @@
 -- Tokens of a text.
 use Rattle.std.proofs.Common.{◌≡◌, ℕ, List, [], ◌∷◌, map, refl}
-use Rattle.tdf_tokens.specs.Dialect.{token_of, token_lines}
-use Rattle.tdf_tokens.specs.Rows.{Row}
-use Rattle.tdf_tokens.specs.Token.{Tok, TokenLine}
-use Rattle.tdf_tokens.specs.declared.dialect.Dialect.{Dialect}
+use Rattle.tdf_lang_lexer.specs.Dialect.{token_of, token_lines}
+use Rattle.tdf_lang_lexer.specs.Rows.{Row}
+use Rattle.tdf_lang_lexer.specs.Token.{Tok, TokenLine}
+use Rattle.tdf_lang_lexer.specs.declared.dialect.Dialect.{Dialect}
 
 -- the token of some piece of a line
 abbrev pub IsToken : Dialect → Tok → Type 0

@@ -17,19 +17,19 @@ use Rattle.tdf_base.specs.Time.{time_of, time_at}
 use Rattle.tdf_base.specs.declared.resolution.Resolution.{Resolution}
 use Rattle.tdf_base.specs.declared.resolution.Resolution.TheVariants.{Ps, Fs}
 use Rattle.tdf_base.specs.declared.times.TimeErr.{TimeErr}
-use Rattle.tdf_tokens.proofs.Api.{key_of-spelling, symbol_of-sign, words_are_read, symbols_are_read}
-use Rattle.tdf_tokens.specs.Dialect.{is_resolution, time_in, token_of, time_or_wrong}
-use Rattle.tdf_tokens.specs.Text.{is_allowed}
-use Rattle.tdf_tokens.specs.Token.{Tok, TName, TKey, TNumber, TTime, TSymbol, TWrong}
-use Rattle.tdf_tokens.specs.Words.{spelling, sign, key_of, symbol_of}
-use Rattle.tdf_tokens.specs.declared.dialect.Dialect.{Dialect}
-use Rattle.tdf_tokens.specs.declared.key.Key.{Key}
-use Rattle.tdf_tokens.specs.declared.key.Key.TheVariants as key
-use Rattle.tdf_tokens.specs.declared.key.Symbol.{Symbol}
-use Rattle.tdf_tokens.specs.declared.key.Symbol.TheVariants as symbol
-use Rattle.tdf_print.specs.Lines.{unit_text, time_text}
+use Rattle.tdf_lang_lexer.proofs.Api.{key_of-spelling, symbol_of-sign, words_are_read, symbols_are_read}
+use Rattle.tdf_lang_lexer.specs.Dialect.{is_resolution, time_in, token_of, time_or_wrong}
+use Rattle.tdf_lang_lexer.specs.Text.{is_allowed}
+use Rattle.tdf_lang_lexer.specs.Token.{Tok, TName, TKey, TNumber, TTime, TSymbol, TWrong}
+use Rattle.tdf_lang_lexer.specs.Words.{spelling, sign, key_of, symbol_of}
+use Rattle.tdf_lang_lexer.specs.declared.dialect.Dialect.{Dialect}
+use Rattle.tdf_lang_lexer.specs.declared.key.Key.{Key}
+use Rattle.tdf_lang_lexer.specs.declared.key.Key.TheVariants as key
+use Rattle.tdf_lang_lexer.specs.declared.key.Symbol.{Symbol}
+use Rattle.tdf_lang_lexer.specs.declared.key.Symbol.TheVariants as symbol
+use Rattle.tdf_lang_printer.specs.Lines.{unit_text, time_text}
 use Rattle.tdf_lang.proofs.Numerals.{Written, whole_number, with_fraction, written_number, number_written, trimmed_written, decimal_side}
-use Rattle.tdf_exprs.specs.Numbers.{trimmed}
+use Rattle.tdf_lang_exprs.specs.Numbers.{trimmed}
 use Rattle.tdf_lang.proofs.Scan.{IsPiece, word_piece, digits_piece, number_piece, byte_piece, pair_piece}
 
 -- what is written of a token

@@ -1,22 +1,16 @@
 -- Each line of a tree that token lines spell can be written.
 use Rattle.std.proofs.Common.{◌≡◌, ℕ, Bool, List, [], ◌∷◌, ◌++◌, Option, Some, map, sym, subst}
 use Rattle.std.specs.List.{flat_map}
-use Rattle.tdf_tree.specs.Forms.{Form, FEnd}
-use Rattle.tdf_tree.specs.Forms.{FProcessing, FChangeAttributes, FReinitialize}
-use Rattle.tdf_blocks.specs.Items.{tdf_line_of, attr_of, initial_of, de_line_of, sense_of, member_of, net_line_of, trace_of, BodyKind}
-use Rattle.tdf_tokens.specs.Token.{TokenLine}
-use Rattle.tdf_tree.specs.Alike.{bare_tdf_line, bare_attr, bare_initial, bare_de_line, bare_sense, bare_member, bare_trace}
-use Rattle.tdf_tree.specs.Pure.{PureStmt}
-use Rattle.tdf_tree.specs.Pure.{PureStmts, Done, More, PureBody}
-use Rattle.tdf_tree.specs.Pure.{PureTdf}
-use Rattle.tdf_tree.specs.Pure.{PureProcess, PureGlobal, PureTree}
-use Rattle.tdf_tree.specs.Views.{sts}
-use Rattle.tdf_tree.specs.declared.blocks.Attr.{Attr}
-use Rattle.tdf_tree.specs.declared.blocks.Initial.{Initial}
-use Rattle.tdf_blocks.specs.SpellsTree.{Lines, lines_none, lines_more, SpellsOne, simple, choice, both, turns, SpellsAll, stmts_none, stmts_more, body_of, SpellsPart, part_none, part_some, SpellsAttributes, attributes_none, attributes_some}
-use Rattle.tdf_blocks.specs.SpellsTree.{SpellsInitialize, initialize_none, initialize_some, SpellsTdf, tdf, SpellsDont, dont_none, dont_some, SpellsProcess, process, SpellsProcesses, processes_none, processes_more}
-use Rattle.tdf_blocks.specs.SpellsTree.{SpellsGlobal, global_type, global_tdf, global_de, global_net, SpellsGlobals, globals_none, globals_more, SpellsModel, model}
-use Rattle.tdf_print.specs.Canon.{tdf_line, attr_line, initial_line, de_line, sense_line, member_line, trace_line, stmt_lines, stmts_lines, else_lines, part_lines, attributes_lines, initialize_lines, tdf_lines, dont_lines, process_lines, global_lines, tree_lines}
+use Rattle.tdf_lang_tree.specs.Forms.{Form, FEnd, FProcessing, FChangeAttributes, FReinitialize}
+use Rattle.tdf_lang_parser.specs.Items.{tdf_line_of, attr_of, initial_of, de_line_of, sense_of, member_of, net_line_of, trace_of, BodyKind}
+use Rattle.tdf_lang_lexer.specs.Token.{TokenLine}
+use Rattle.tdf_lang_tree.specs.Alike.{bare_tdf_line, bare_attr, bare_initial, bare_de_line, bare_sense, bare_member, bare_trace}
+use Rattle.tdf_lang_tree.specs.Pure.{PureStmt, PureStmts, Done, More, PureBody, PureTdf, PureProcess, PureGlobal, PureTree}
+use Rattle.tdf_lang_tree.specs.Views.{sts}
+use Rattle.tdf_lang_tree.specs.declared.blocks.Attr.{Attr}
+use Rattle.tdf_lang_tree.specs.declared.blocks.Initial.{Initial}
+use Rattle.tdf_lang_parser.specs.SpellsTree.{Lines, lines_none, lines_more, SpellsOne, simple, choice, both, turns, SpellsAll, stmts_none, stmts_more, body_of, SpellsPart, part_none, part_some, SpellsAttributes, attributes_none, attributes_some, SpellsInitialize, initialize_none, initialize_some, SpellsTdf, tdf, SpellsDont, dont_none, dont_some, SpellsProcess, process, SpellsProcesses, processes_none, processes_more, SpellsGlobal, global_type, global_tdf, global_de, global_net, SpellsGlobals, globals_none, globals_more, SpellsModel, model}
+use Rattle.tdf_lang_printer.specs.Canon.{tdf_line, attr_line, initial_line, de_line, sense_line, member_line, trace_line, stmt_lines, stmts_lines, else_lines, part_lines, attributes_lines, initialize_lines, tdf_lines, dont_lines, process_lines, global_lines, tree_lines}
 use Rattle.tdf_lang.proofs.TokenLines.{AreTokenLines}
 use Rattle.tdf_lang.proofs.BlockLaws.{body_list, flat_push}
 use Rattle.tdf_lang.proofs.FormLaws.{form_ok}
@@ -25,7 +19,7 @@ use Rattle.tdf_lang.proofs.RowLaws.{FormsOk}
 use Rattle.tdf_lang.proofs.StmtLaws.{map_push, sts_push}
 use Rattle.tdf_lang.proofs.Tables.{Moved, stmt_table, tdf_table, attr_table, initial_table, de_table, sense_table, member_table, net_table, trace_table}
 use Rattle.tdf_lang.proofs.Tokens.{Sound}
-use Rattle.tdf_tokens.specs.declared.dialect.Dialect.{Dialect}
+use Rattle.tdf_lang_lexer.specs.declared.dialect.Dialect.{Dialect}
 
 rows_left : (lang : Dialect) (a b : List TokenLine) → AreTokenLines lang (a ++ b) → AreTokenLines lang a
 rows_left lang [] b h = tt

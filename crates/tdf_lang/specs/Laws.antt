@@ -1,20 +1,20 @@
 -- What the canonical text promises (own): how trees and their texts come back from each other.
 use Rattle.std.specs.Prelude.{◌≡◌, ◌≢◌, ◌↔◌, ℕ, true, nat_le, List, length, map, Some}
 use Rattle.std.specs.List.{list_all}
-use Rattle.tdf_blocks.specs.Refused.{SpellsText}
-use Rattle.tdf_blocks.specs.SpellsTree.{SpellsTree}
-use Rattle.tdf_exprs.specs.SpellsExpr.{SpellsExpr}
+use Rattle.tdf_lang_parser.specs.Refused.{SpellsText}
+use Rattle.tdf_lang_parser.specs.SpellsTree.{SpellsTree}
+use Rattle.tdf_lang_exprs.specs.SpellsExpr.{SpellsExpr}
 use Rattle.tdf_lang.specs.Texts.{tokens_of}
-use Rattle.tdf_print.specs.Canon.{canon}
-use Rattle.tdf_print.specs.Exprs.{expr_text}
-use Rattle.tdf_tokens.specs.Dialect.{token_of}
-use Rattle.tdf_tokens.specs.Rows.{Row, rows_of}
-use Rattle.tdf_tokens.specs.Text.{fault_of, is_allowed, lines_of}
+use Rattle.tdf_lang_printer.specs.Canon.{canon}
+use Rattle.tdf_lang_printer.specs.Exprs.{expr_text}
+use Rattle.tdf_lang_lexer.specs.Dialect.{token_of}
+use Rattle.tdf_lang_lexer.specs.Rows.{Row, rows_of}
+use Rattle.tdf_lang_lexer.specs.Text.{fault_of, is_allowed, lines_of}
 use Rattle.tdf_base.specs.Limits.{longest_line}
-use Rattle.tdf_tokens.specs.declared.dialect.Dialect.{Dialect}
-use Rattle.tdf_tokens.specs.declared.text.TextFault.TheVariants as fault
-use Rattle.tdf_tree.specs.Alike.{Alike}
-use Rattle.tdf_tree.specs.Pure.{PureExpr, PureTree}
+use Rattle.tdf_lang_lexer.specs.declared.dialect.Dialect.{Dialect}
+use Rattle.tdf_lang_lexer.specs.declared.text.TextFault.TheVariants as fault
+use Rattle.tdf_lang_tree.specs.Alike.{Alike}
+use Rattle.tdf_lang_tree.specs.Pure.{PureExpr, PureTree}
 
 -- pieces that spell an expression in some dialect: the pieces of its canonical text spell it too
 abbrev pub ExprsComeBack : Type 0

@@ -1,9 +1,9 @@
 -- The tokens of one line in a dialect (own).
 use Rattle.std.specs.Prelude.{ℕ, List, map}
-use Rattle.tdf_tokens.specs.Dialect.{token_of}
-use Rattle.tdf_tokens.specs.Pieces.{code_of, pieces_of}
-use Rattle.tdf_tokens.specs.Token.{Tok}
-use Rattle.tdf_tokens.specs.declared.dialect.Dialect.{Dialect}
+use Rattle.tdf_lang_lexer.specs.Dialect.{token_of}
+use Rattle.tdf_lang_lexer.specs.Pieces.{code_of, pieces_of}
+use Rattle.tdf_lang_lexer.specs.Token.{Tok}
+use Rattle.tdf_lang_lexer.specs.declared.dialect.Dialect.{Dialect}
 
 -- the tokens of a line, which may have a comment
 abbrev pub tokens_of : Dialect → List ℕ → List Tok

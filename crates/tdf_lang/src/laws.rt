@@ -1,8 +1,7 @@
 //! The laws of the language: each is the contract of a function that does nothing.
 
-ghost use Rattle.tdf_blocks.specs.Laws.{NoFault, OneFault, OneTree, TreeOrFault};
-ghost use Rattle.tdf_lang.specs.Laws.{AlikeHaveOneText, ExprsComeBack, NoBytesAtFault};
-ghost use Rattle.tdf_lang.specs.Laws.{TextsParseAgain, TextsTellAlike, TreesComeBack};
+ghost use Rattle.tdf_lang_parser.specs.Laws.{NoFault, OneFault, OneTree, TreeOrFault};
+ghost use Rattle.tdf_lang.specs.Laws.{AlikeHaveOneText, ExprsComeBack, NoBytesAtFault, TextsParseAgain, TextsTellAlike, TreesComeBack};
 
 /// What holds of texts and trees, whatever they are, in every version of the language.
 ///
@@ -25,7 +24,7 @@ pub fn law_spelled()
     ensures no_bytes_at_fault { NoBytesAtFault }
     ensures parses_again { TextsParseAgain }
 {
-    tdf_blocks::law_spelled();
+    tdf_lang_parser::law_spelled();
 }
 
 /// In every dialect the pieces of an expression's canonical text spell the expression again.

@@ -274,8 +274,15 @@ module _ (edges : List Edge) (pace : ℕ → ℕ) (counts : List ℕ) (entries :
           absurd (omega (arith, b, e))
       go (inr high) = let f = few_done (length entries) m (omega arith) in omega (arith, f, high)
 
+  pub back_at_first : (e : Edge) → Contains edges e
+      → e.initial + done entries (length entries) e.writer * e.write_rate - done entries (length entries) e.reader * e.read_rate ≡ e.initial
+  back_at_first e there =
+      let b : done entries (length entries) e.writer * e.write_rate ≡ done entries (length entries) e.reader * e.read_rate =
+      ap (λ n. n * e.write_rate) (all_done e.writer) ∙ balanced e there ∙ ap (λ n. n * e.read_rate) (sym (all_done e.reader)) in
+      omega (arith, b)
+
   pub is_present : IsPresent edges counts entries
-  is_present = record { by_index = by_index; needs = before_it; present = present_at; held = held_at; all_done = all_done }
+  is_present = record { by_index = by_index; needs = before_it; present = present_at; held = held_at; all_done = all_done; back = back_at_first }
 
   pub is_narrow : (e : Edge) (bound : ℕ) → Contains edges e → 0 < get_or counts e.reader 0 → IsBound entries e bound → IsNarrow e counts bound
   is_narrow e bound there some is = record {

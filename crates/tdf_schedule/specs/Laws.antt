@@ -1,7 +1,6 @@
 -- What holds along a plan.
 -- Source: own.
-use Rattle.std.specs.Prelude.{ℕ, ◌+◌, ◌*◌, ◌<◌, ◌≤◌, ◌≡◌, Some, List, length, All, Contains}
-use Rattle.std.specs.Prelude.{slice_get, slice_index}
+use Rattle.std.specs.Prelude.{ℕ, ◌+◌, ◌-◌, ◌*◌, ◌<◌, ◌≤◌, ◌≡◌, Some, List, length, All, Contains, slice_get, slice_index}
 use Rattle.tdf_graph.specs.Counts.{IsBalanced}
 use Rattle.tdf_graph.specs.Ranges.{IsEdge}
 use Rattle.tdf_graph.specs.declared.actors.Edge.{Edge}
@@ -32,6 +31,9 @@ pub record IsPresent (edges : List Edge) (counts : List ℕ) (entries : List Ent
   pub held : (i : ℕ) (e : Edge) → i ≤ length entries → Contains edges e
       → done entries i e.reader * e.read_rate ≤ e.initial + done entries i e.writer * e.write_rate
   pub all_done : (m : ℕ) → done entries (length entries) m ≡ slice_index counts m
+  pub back : (e : Edge) → Contains edges e
+      → e.initial + done entries (length entries) e.writer * e.write_rate
+      - done entries (length entries) e.reader * e.read_rate ≡ e.initial
 
 -- the bound is at least what is read at once and what is there at first, and at most a period more
 pub record IsNarrow (e : Edge) (counts : List ℕ) (bound : ℕ) : Type 0 where

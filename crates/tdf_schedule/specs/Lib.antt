@@ -1,5 +1,4 @@
 pub mod Laws
 pub mod Needs
 pub mod Plan
-pub mod low
 pub mod views

@@ -1,8 +1,6 @@
 -- The plan of a cluster, what an edge holds along it, and the faults of a cluster without one.
 -- Source: own.
-use Rattle.std.specs.Prelude.{ℕ, ◌+◌, ◌*◌, ◌<◌, ◌≤◌, ◌≡◌, Bool, false, ◌&&◌, ◌||◌}
-use Rattle.std.specs.Prelude.{nat_eq, nat_lt, if◌then◌else◌, Option, Some, None, List, length, take}
-use Rattle.std.specs.Prelude.{sum, All, Contains, slice_get, slice_index}
+use Rattle.std.specs.Prelude.{ℕ, ◌+◌, ◌*◌, ◌<◌, ◌≤◌, ◌≡◌, Bool, false, ◌&&◌, ◌||◌, nat_eq, nat_lt, if◌then◌else◌, Option, Some, None, List, length, take, sum, All, Contains, slice_get, slice_index}
 use Rattle.std.specs.List.{count_by, sum_by}
 use Rattle.tdf_base.specs.Limits.{most_firings, time_end}
 use Rattle.tdf_graph.specs.Counts.{IsBalanced}

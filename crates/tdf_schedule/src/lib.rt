@@ -11,7 +11,6 @@
 //! - `bounds`: the most samples that each edge holds.
 //! - `cluster`: the plan of one cluster.
 //! - `laws`: what holds along a plan.
-//! - `low`: what the crates above use of the crates further below.
 #![tactic(auto)]
 
 mod bounds;
@@ -23,7 +22,6 @@ mod join;
 mod key;
 mod laws;
 mod links;
-pub mod low;
 mod sorted;
 mod work;
 

@@ -2,26 +2,26 @@
 use Rattle.std.proofs.Common.{◌≡◌, ◌∙◌, ℕ, zero, suc, List, [], ◌∷◌, Option, Some, None, map, nat_eq, if◌then◌else◌, refl, sym, ap, subst}
 use Rattle.std.specs.List.{cons_option, enumerate_from}
 use Rattle.std.specs.Prelude.{slice_get, slice_index, filter_map}
-use Rattle.tdf_loop.specs.low.base.declared.faults.Fault.{Fault}
-use Rattle.tdf_loop.specs.low.bind.Flat.{FlatOf}
-use Rattle.tdf_loop.specs.low.dynamic.Attributes.{AttrsOf, clusters_of, ports_of}
-use Rattle.tdf_loop.specs.low.dynamic.Faults.{IsTableFault, IsTablePlan}
-use Rattle.tdf_loop.specs.low.dynamic.First.{IsFirstPlan, IsClusterFault}
-use Rattle.tdf_loop.specs.low.dynamic.Text.{attrs_if, first_table, port_step}
-use Rattle.tdf_loop.specs.low.dynamic.declared.first.First.{First}
-use Rattle.tdf_loop.specs.low.expr.Blocks.{PureBlock, blocks_of}
-use Rattle.tdf_loop.specs.low.expr.Checked.{IsCheckedOf}
-use Rattle.tdf_loop.specs.low.expr.Compiled.{AreBlocksOf}
-use Rattle.tdf_loop.specs.low.expr.Made.{rates_in, start_rates}
-use Rattle.tdf_loop.specs.low.expr.declared.blocks.Block.{Block}
-use Rattle.tdf_loop.specs.low.expr.declared.checked.Checked.{Checked}
-use Rattle.tdf_loop.proofs.Api.{tables_are_one}
-use Rattle.tdf_loop.specs.low.flat.Flat.{IsFlatOf}
-use Rattle.tdf_loop.specs.low.flat.Laws.{PassesChecks}
-use Rattle.tdf_loop.specs.low.flat.declared.model.Flat.{Flat}
-use Rattle.tdf_loop.specs.low.scope.Names.{Names, globals_of}
-use Rattle.tdf_loop.specs.low.tree.Pure.{PureTree}
-use Rattle.tdf_loop.specs.low.wiring.declared.modules.ModuleRow.{ModuleRow}
+use Rattle.tdf_base.specs.declared.faults.Fault.{Fault}
+use Rattle.tdf_bind_tables.specs.FlatTables.{FlatTablesOf}
+use Rattle.tdf_dynamic_plans.specs.Attributes.{AttrsOf, clusters_of, ports_of}
+use Rattle.tdf_dynamic_plans.specs.Faults.{IsTableFault, IsTablePlan}
+use Rattle.tdf_dynamic_first.specs.First.{IsFirstPlan, IsClusterFault}
+use Rattle.tdf_dynamic_first.specs.Text.{attrs_if, first_table, port_step}
+use Rattle.tdf_dynamic_first.specs.declared.first.First.{First}
+use Rattle.tdf_expr.specs.Blocks.{PureBlock, blocks_of}
+use Rattle.tdf_expr.specs.Checked.{IsCheckedOf}
+use Rattle.tdf_expr.specs.Compiled.{AreBlocksOf}
+use Rattle.tdf_expr.specs.Made.{rates_in, start_rates}
+use Rattle.tdf_expr.specs.declared.blocks.Block.{Block}
+use Rattle.tdf_expr.specs.declared.checked.Checked.{Checked}
+use Rattle.tdf_bind.proofs.Api.{tables_are_one}
+use Rattle.tdf_bind.specs.Flat.{IsFlatOf}
+use Rattle.tdf_bind.specs.Laws.{PassesChecks}
+use Rattle.tdf_bind.specs.declared.model.Flat.{Flat}
+use Rattle.tdf_expr_symbols.specs.Names.{Names, globals_of}
+use Rattle.tdf_lang_tree.specs.Pure.{PureTree}
+use Rattle.tdf_bind_connections.specs.declared.modules.ModuleRow.{ModuleRow}
 
 -- what of a flat model its clusters depend on
 pub record IsAlike (a b : Flat) : Type 0 where
@@ -55,7 +55,7 @@ pub itself : (a : Flat) → IsAlike a a
 itself a = record { tables = refl; unit = refl; rates = λ n. refl }
 
 -- the attributes of a module, by the tables and the values that its rate variables start with
-attrs_by : FlatOf → List ℕ → ℕ → ℕ → ModuleRow → Option AttrsOf
+attrs_by : FlatTablesOf → List ℕ → ℕ → ℕ → ModuleRow → Option AttrsOf
 attrs_by tables rates cluster number row =
     if nat_eq (slice_index (clusters_of tables) number) cluster
     then Some (record {
@@ -69,7 +69,7 @@ attrs_by tables rates cluster number row =
 same_attrs : (a b : Flat) (cluster number : ℕ) (row : ModuleRow) → IsAlike a b → attrs_if a cluster number row ≡ attrs_if b cluster number row
 unfolding attrs_by
 same_attrs a b cluster number row same =
-    ap (λ (tables : FlatOf). attrs_by tables (start_rates a.checked row.block) cluster number row) same.tables
+    ap (λ (tables : FlatTablesOf). attrs_by tables (start_rates a.checked row.block) cluster number row) same.tables
     ∙ ap (λ (rates : List ℕ). attrs_by b.tables rates cluster number row) (same.rates row.block)
 
 same_filter : {X Y : Type 0} (f g : X → Option Y) → ((x : X) → f x ≡ g x) → (xs : List X) → filter_map f xs ≡ filter_map g xs
@@ -81,16 +81,16 @@ unfolding first_table
 same_table a b cluster same =
     same_filter (λ (row : ℕ × ModuleRow). attrs_if a cluster row.0 row.1) (λ (row : ℕ × ModuleRow). attrs_if b cluster row.0 row.1)
     (λ row. same_attrs a b cluster row.0 row.1 same) (enumerate_from 0 a.tables.modules)
-    ∙ ap (λ (tables : FlatOf). filter_map (λ (row : ℕ × ModuleRow). attrs_if b cluster row.0 row.1) (enumerate_from 0 tables.modules)) same.tables
+    ∙ ap (λ (tables : FlatTablesOf). filter_map (λ (row : ℕ × ModuleRow). attrs_if b cluster row.0 row.1) (enumerate_from 0 tables.modules)) same.tables
 
 pub move_fault : (a b : Flat) (cluster : ℕ) (fault : Fault) → IsAlike a b → IsClusterFault a cluster fault → IsClusterFault b cluster fault
 move_fault a b cluster fault same is =
     subst (λ (table : List AttrsOf). IsTableFault b.tables cluster table fault) (same_table a b cluster same)
-    (subst (λ (tables : FlatOf). IsTableFault tables cluster (first_table a cluster) fault) same.tables is)
+    (subst (λ (tables : FlatTablesOf). IsTableFault tables cluster (first_table a cluster) fault) same.tables is)
 
 pub move_plan : (a b : Flat) (cluster : ℕ) (first : First) → IsAlike a b → IsFirstPlan a cluster first → IsFirstPlan b cluster first
 move_plan a b cluster first same is = record {
   attrs_are = is.attrs_are ∙ same_table a b cluster same;
   plan_is = subst (λ (table : List AttrsOf). IsTablePlan b.tables cluster table first.plan) (same_table a b cluster same)
-      (subst (λ (tables : FlatOf). IsTablePlan tables cluster (first_table a cluster) first.plan) same.tables is.plan_is);
+      (subst (λ (tables : FlatTablesOf). IsTablePlan tables cluster (first_table a cluster) first.plan) same.tables is.plan_is);
 }

@@ -1,11 +1,11 @@
 -- A `top` without a port has none.
 use Rattle.std.proofs.Common.{◌≡◌, List, [], ◌∷◌, refl}
 use Rattle.std.specs.List.{AllByRecursion, flat_map}
-use Rattle.tdf_blocks.specs.Formed.{IsFormed, IsNoPort}
-use Rattle.tdf_loop.specs.low.links.Ports.{port_of_member, ports_of_composite}
-use Rattle.tdf_loop.specs.low.tree.Pure.{PureTree}
-use Rattle.tdf_loop.specs.low.tree.declared.blocks.Member.{Member}
-use Rattle.tdf_loop.specs.low.tree.declared.blocks.Member.TheVariants as member
+use Rattle.tdf_lang_parser.specs.Formed.{IsFormed, IsNoPort}
+use Rattle.tdf_bind_ports.specs.Ports.{port_of_member, ports_of_composite}
+use Rattle.tdf_lang_tree.specs.Pure.{PureTree}
+use Rattle.tdf_lang_tree.specs.declared.blocks.Member.{Member}
+use Rattle.tdf_lang_tree.specs.declared.blocks.Member.TheVariants as member
 
 no_ports : (ms : List Member) → AllByRecursion IsNoPort ms → flat_map port_of_member ms ≡ []
 no_ports [] all = refl

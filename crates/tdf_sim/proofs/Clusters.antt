@@ -3,14 +3,15 @@ use Rattle.std.proofs.Common.{◌≡◌, ◌∙◌, ℕ, zero, suc, ◌+◌, ◌
 use Rattle.std.proofs.lemmas.Bool.{cases_eq, cases_lt}
 use Rattle.std.proofs.lemmas.Option.{slice_get_within}
 use Rattle.std.specs.Prelude.{slice_get}
-use Rattle.tdf_loop.specs.low.base.declared.faults.Fault.{Fault}
-use Rattle.tdf_loop.specs.low.dynamic.First.{IsFirstPlan, IsClusterFault, IsPlannable}
-use Rattle.tdf_loop.specs.low.dynamic.Laws.{ClustersAreWhole, ClustersHaveOne, IsClusterOf, AreSamePlans}
-use Rattle.tdf_loop.specs.low.dynamic.declared.first.First.{First}
-use Rattle.tdf_loop.specs.low.flat.declared.model.Flat.{Flat}
-use Rattle.tdf_loop.specs.low.notes.Plans.{PlanRows, rows_of}
-use Rattle.tdf_loop.specs.low.schedule.declared.entry.Entry.{Entry}
-use Rattle.tdf_loop.specs.low.schedule.declared.entry.Plan.{Plan}
+use Rattle.tdf_base.specs.declared.faults.Fault.{Fault}
+use Rattle.tdf_dynamic_first.specs.First.{IsFirstPlan, IsClusterFault, IsPlannable}
+use Rattle.tdf_dynamic_first.specs.Laws.{ClustersAreWhole, ClustersHaveOne, IsClusterOf}
+use Rattle.tdf_dynamic_plans.specs.Same.{AreSamePlans}
+use Rattle.tdf_dynamic_first.specs.declared.first.First.{First}
+use Rattle.tdf_bind.specs.declared.model.Flat.{Flat}
+use Rattle.tdf_dynamic_texts.specs.Plans.{PlanRows, rows_of}
+use Rattle.tdf_schedule.specs.declared.entry.Entry.{Entry}
+use Rattle.tdf_schedule.specs.declared.entry.Plan.{Plan}
 use Rattle.tdf_sim.proofs.Alike.{IsAlike, move_fault, move_plan, same_table}
 use Rattle.tdf_sim.specs.Accepted.{ArePlans}
 use Rattle.tdf_sim.specs.FirstFault.{IsPlansFault, cluster_count}

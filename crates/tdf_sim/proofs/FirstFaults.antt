@@ -1,16 +1,16 @@
 -- A text has at most one first fault, and with one it is not accepted.
 use Rattle.std.proofs.Common.{◌≡◌, ◌⊎◌, ℕ, List, [], Some, None, sym, ap, ◌∙◌, subst, inl, inr}
-use Rattle.tdf_loop.specs.low.base.declared.codes.Code.TheVariants as code
-use Rattle.tdf_loop.specs.low.base.declared.faults.Fault.{Fault}
-use Rattle.tdf_blocks.proofs.Api.{one_tree, never_both, one_line_at_fault, text_keeps}
-use Rattle.tdf_blocks.specs.Refused.{SpellsText, HasSyntaxFault}
-use Rattle.tdf_loop.specs.low.checks.Types.{type_faults}
-use Rattle.tdf_loop.specs.low.faults.First.{first_of, least_with}
-use Rattle.tdf_loop.specs.low.faults.declared.first.LineFault.{LineFault}
-use Rattle.tdf_loop.specs.low.dynamic.Laws.{ClustersAreWhole, ClustersHaveOne, FlatIsPlannable}
-use Rattle.tdf_loop.proofs.Api.{fault_is_one, fault_or_flat}
-use Rattle.tdf_loop.specs.low.flat.Laws.{PassesChecks}
-use Rattle.tdf_loop.specs.low.names.Names.{name_faults}
+use Rattle.tdf_base.specs.declared.codes.Code.TheVariants as code
+use Rattle.tdf_base.specs.declared.faults.Fault.{Fault}
+use Rattle.tdf_lang_parser.proofs.Api.{one_tree, never_both, one_line_at_fault, text_keeps}
+use Rattle.tdf_lang_parser.specs.Refused.{SpellsText, HasSyntaxFault}
+use Rattle.tdf_expr_blocks.specs.Types.{type_faults}
+use Rattle.tdf_base.specs.First.{first_of, least_with}
+use Rattle.tdf_base.specs.declared.first.LineFault.{LineFault}
+use Rattle.tdf_dynamic_first.specs.Laws.{ClustersAreWhole, ClustersHaveOne, FlatIsPlannable}
+use Rattle.tdf_bind.proofs.Api.{fault_is_one, fault_or_flat}
+use Rattle.tdf_bind.specs.Laws.{PassesChecks}
+use Rattle.tdf_expr_names.specs.Names.{name_faults}
 use Rattle.tdf_sim.proofs.Alike.{alike}
 use Rattle.tdf_sim.proofs.Plannable.{can_be_planned}
 use Rattle.tdf_sim.proofs.Clusters.{attrs_alike, fault_once, fault_or_plans, firsts_alike}
@@ -18,12 +18,12 @@ use Rattle.tdf_sim.specs.Accepted.{IsAccepted, IsAcceptedText}
 use Rattle.tdf_sim.specs.declared.sim.Sim.{Sim}
 use Rattle.tdf_sim.specs.FirstFault.{IsFirstFault, IsTreeFault, HasSoundLines, of_bytes, of_length, of_syntax, of_tree, of_names, of_types, of_binding, of_clusters, on_line, at_line}
 use Rattle.tdf_sim.specs.Laws.{FaultsAreOne, FaultOrAccepted, ModelsAreAlike}
-use Rattle.tdf_blocks.specs.low.tokens.Rows.{rows_of}
-use Rattle.tdf_blocks.specs.low.tokens.Text.{fault_of}
-use Rattle.tdf_blocks.specs.low.tokens.declared.text.TextFault.{TextFault}
-use Rattle.tdf_blocks.specs.low.tokens.declared.text.TextFault.TheVariants as bytes
-use Rattle.tdf_loop.specs.low.tree.Kept.{IsKept}
-use Rattle.tdf_loop.specs.low.tree.Pure.{PureTree}
+use Rattle.tdf_lang_lexer.specs.Rows.{rows_of}
+use Rattle.tdf_lang_lexer.specs.Text.{fault_of}
+use Rattle.tdf_lang_lexer.specs.declared.text.TextFault.{TextFault}
+use Rattle.tdf_lang_lexer.specs.declared.text.TextFault.TheVariants as bytes
+use Rattle.tdf_lang_tree.specs.Kept.{IsKept}
+use Rattle.tdf_lang_tree.specs.Pure.{PureTree}
 
 -- no faults have no first one
 none_first : (faults : List LineFault) (f : LineFault) → faults ≡ [] → first_of faults ≡ Some f → ⊥

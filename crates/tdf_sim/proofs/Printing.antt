@@ -8,15 +8,15 @@ use Rattle.std.proofs.lemmas.Option.{slice_get-map}
 use Rattle.std.specs.List.{count_by}
 use Rattle.std.specs.Option.{option_map}
 use Rattle.std.specs.Prelude.{slice_get, slice_index}
-use Rattle.tdf_loop.specs.low.bind.Flat.{FlatOf}
-use Rattle.tdf_loop.specs.low.dynamic.Attributes.{AttrsOf}
-use Rattle.tdf_loop.specs.low.dynamic.First.{IsFirstPlan}
-use Rattle.tdf_loop.specs.low.dynamic.Rates.{net_of}
-use Rattle.tdf_loop.specs.low.dynamic.Text.{first_table}
-use Rattle.tdf_loop.specs.low.dynamic.declared.first.First.{First}
-use Rattle.tdf_loop.specs.low.flat.declared.model.Flat.{Flat}
-use Rattle.tdf_loop.specs.low.schedule.Plan.{is_firing}
-use Rattle.tdf_loop.specs.low.schedule.declared.entry.Entry.{Entry}
+use Rattle.tdf_bind_tables.specs.FlatTables.{FlatTablesOf}
+use Rattle.tdf_dynamic_plans.specs.Attributes.{AttrsOf}
+use Rattle.tdf_dynamic_first.specs.First.{IsFirstPlan}
+use Rattle.tdf_dynamic_plans.specs.Rates.{net_of}
+use Rattle.tdf_dynamic_first.specs.Text.{first_table}
+use Rattle.tdf_dynamic_first.specs.declared.first.First.{First}
+use Rattle.tdf_bind.specs.declared.model.Flat.{Flat}
+use Rattle.tdf_schedule.specs.Plan.{is_firing}
+use Rattle.tdf_schedule.specs.declared.entry.Entry.{Entry}
 use Rattle.tdf_sim.specs.PlanText.{cluster_text, plan_rows}
 
 -- the text of the plan at a place
@@ -29,7 +29,7 @@ text_is flat firsts k first is =
     ap (cluster_text flat.resolution flat.tables (k + 1)) (sym (slice_get-map plan_rows firsts k ∙ ap (option_map plan_rows) is))
 
 -- a plan has a bound for each edge
-edges_same : (tables : FlatOf) (table : List AttrsOf) → length (net_of tables table).edges ≡ length tables.edges
+edges_same : (tables : FlatTablesOf) (table : List AttrsOf) → length (net_of tables table).edges ≡ length tables.edges
 unfolding net_of
 edges_same tables table = length-map tables.edges _
 

@@ -1,22 +1,22 @@
 -- What refusals of the steps say of a text.
 use Rattle.std.proofs.Common.{◌≡◌, ◌≢◌, ◌⊎◌, ℕ, suc, zero, ◌+◌, ◌-◌, ◌<◌, ◌≤◌, List, [], ◌∷◌, ◌++◌, Option, Some, None, Result, Ok, Err, IfOk, IfErr, OnOk, length, refl, sym, ap, subst, inl, inr, arith}
 use Rattle.std.specs.Prelude.{slice_get}
-use Rattle.tdf_loop.specs.low.base.declared.codes.Code.{Code}
-use Rattle.tdf_loop.specs.low.base.declared.faults.Fault.{Fault}
-use Rattle.tdf_blocks.specs.Formed.{IsFormed}
-use Rattle.tdf_blocks.specs.Refused.{IsWhy, SpellsText}
-use Rattle.tdf_blocks.specs.declared.err.LangErr.{LangErr}
-use Rattle.tdf_blocks.specs.declared.err.LangErr.TheVariants as why
-use Rattle.tdf_loop.specs.low.checks.Types.{type_faults}
-use Rattle.tdf_loop.specs.low.dynamic.First.{IsFirstPlan, IsPlannable}
-use Rattle.tdf_loop.specs.low.dynamic.declared.first.First.{First}
-use Rattle.tdf_loop.specs.low.faults.First.{first_of, verdict_of}
-use Rattle.tdf_loop.specs.low.faults.declared.first.LineFault.{LineFault}
-use Rattle.tdf_loop.specs.low.faults.declared.refusal.TypeErr.{TypeErr}
-use Rattle.tdf_loop.specs.low.faults.declared.refusal.TypeErr.TheVariants as by
-use Rattle.tdf_loop.specs.low.flat.Flat.{IsFlatOf}
-use Rattle.tdf_loop.specs.low.flat.declared.model.Flat.{Flat}
-use Rattle.tdf_loop.specs.low.names.Names.{name_faults}
+use Rattle.tdf_base.specs.declared.codes.Code.{Code}
+use Rattle.tdf_base.specs.declared.faults.Fault.{Fault}
+use Rattle.tdf_lang_parser.specs.Formed.{IsFormed}
+use Rattle.tdf_lang_parser.specs.Refused.{IsWhy, SpellsText}
+use Rattle.tdf_lang_parser.specs.declared.err.LangErr.{LangErr}
+use Rattle.tdf_lang_parser.specs.declared.err.LangErr.TheVariants as why
+use Rattle.tdf_expr_blocks.specs.Types.{type_faults}
+use Rattle.tdf_dynamic_first.specs.First.{IsFirstPlan, IsPlannable}
+use Rattle.tdf_dynamic_first.specs.declared.first.First.{First}
+use Rattle.tdf_base.specs.First.{first_of, verdict_of}
+use Rattle.tdf_base.specs.declared.first.LineFault.{LineFault}
+use Rattle.tdf_base.specs.declared.refusal.TypeErr.{TypeErr}
+use Rattle.tdf_base.specs.declared.refusal.TypeErr.TheVariants as by
+use Rattle.tdf_bind.specs.Flat.{IsFlatOf}
+use Rattle.tdf_bind.specs.declared.model.Flat.{Flat}
+use Rattle.tdf_expr_names.specs.Names.{name_faults}
 use Rattle.tdf_sim.specs.Accepted.{ArePlans, IsAccepted, IsAcceptedText, IsPlansRefusal, IsTextRefusal, IsTreeRefusal}
 use Rattle.tdf_sim.specs.FirstFault.{HasSoundLines, IsFirstFault, IsPlansFault, IsTreeFault, cluster_count, of_bytes, of_length, of_syntax, of_tree, of_names, of_types, of_clusters, on_line, at_line}
 use Rattle.tdf_sim.specs.Laws.{FaultsAreOne, FaultOrAccepted, FaultsOfPlansAreOne, FaultsOfTreesAreOne, TreeFaultOrAccepted}
@@ -25,8 +25,8 @@ use Rattle.tdf_sim.specs.declared.err.SimErr.{SimErr}
 use Rattle.tdf_sim.specs.declared.err.SimErr.TheVariants.{Refused, Memory}
 use Rattle.tdf_sim.specs.declared.sim.Sim.{Sim}
 use Rattle.tdf_sim.specs.machine.Steps.{HavePlans, IsFirstRefusal, by_line, by_parser}
-use Rattle.tdf_loop.specs.low.tree.Kept.{IsKept}
-use Rattle.tdf_loop.specs.low.tree.Pure.{PureTree}
+use Rattle.tdf_lang_tree.specs.Kept.{IsKept}
+use Rattle.tdf_lang_tree.specs.Pure.{PureTree}
 
 abbrev Answer : Type 0
 Answer = Result (Unit {0}) TypeErr

@@ -1,13 +1,13 @@
 -- The model of an accepted tree can run.
-use Rattle.tdf_loop.specs.low.formats.Formats.{IsSoundModel}
-use Rattle.tdf_loop.specs.low.limits.Limits.{FlatIsWithinLimits}
-use Rattle.tdf_loop.specs.Runs.{CanRun}
-use Rattle.tdf_loop.proofs.Api.{firsts_printable}
-use Rattle.tdf_runnable.specs.Runnable.{SoundIsRunnable}
+use Rattle.tdf_bind_invariants.specs.Formats.{IsSoundModel}
+use Rattle.tdf_bind_invariants.specs.Limits.{FlatIsWithinLimits}
+use Rattle.tdf_sim_runs.specs.Runs.{CanRun}
+use Rattle.tdf_sim_notes.proofs.Api.{firsts_printable}
+use Rattle.tdf_events_invariants.specs.Runnable.{SoundIsRunnable}
 use Rattle.tdf_sim.proofs.Closed.{closed_top}
 use Rattle.tdf_sim.specs.Runs.{IsAcceptedTree}
 use Rattle.tdf_sim.specs.declared.sim.Sim.{Sim}
-use Rattle.tdf_loop.specs.low.tree.Pure.{PureTree}
+use Rattle.tdf_lang_tree.specs.Pure.{PureTree}
 
 pub sound_model : (tree : PureTree) (sim : Sim) → IsAcceptedTree tree sim → IsSoundModel tree
 sound_model tree sim is = record {

@@ -1,29 +1,28 @@
 -- What a run writes, told for the answer of a run, and for two models of one tree.
 use Rattle.std.proofs.Common.{◌≡◌, ◌∙◌, ◌+◌, ap, arith}
 use Rattle.std.proofs.lemmas.Option.{slice_get_within}
-use Rattle.tdf_alike.specs.Laws.{AnswersWriteAlike, AreFirstPlans, RunsWriteTheSame}
-use Rattle.tdf_alike.specs.Laws.{AreAlike as SayTheSame}
-use Rattle.tdf_loop.specs.low.base.declared.resolution.Resolution.{Resolution}
-use Rattle.tdf_loop.specs.low.bind.Flat.{FlatOf}
-use Rattle.tdf_loop.specs.low.dynamic.Laws.{ClustersAreWhole, FlatIsPlannable}
-use Rattle.tdf_loop.specs.low.flat.declared.model.Flat.{Flat}
-use Rattle.tdf_loop.specs.low.history.Texts.{run_trace}
-use Rattle.tdf_loop.specs.low.limits.Limits.{FlatIsWithinLimits}
-use Rattle.tdf_loop.specs.Runs.{model_about}
+use Rattle.tdf_sim_unique.specs.Laws.{AnswersWriteAlike, AreFirstPlans, RunsWriteTheSame, AreAlike as SayTheSame}
+use Rattle.tdf_base.specs.declared.resolution.Resolution.{Resolution}
+use Rattle.tdf_bind_tables.specs.FlatTables.{FlatTablesOf}
+use Rattle.tdf_dynamic_first.specs.Laws.{ClustersAreWhole, FlatIsPlannable}
+use Rattle.tdf_bind.specs.declared.model.Flat.{Flat}
+use Rattle.tdf_sim_history.specs.Texts.{run_trace}
+use Rattle.tdf_bind_invariants.specs.Limits.{FlatIsWithinLimits}
+use Rattle.tdf_sim_runs.specs.Runs.{model_about}
 use Rattle.tdf_sim.proofs.Clusters.{has_cluster}
 use Rattle.tdf_sim.proofs.Plannable.{can_be_planned}
 use Rattle.tdf_sim.specs.Accepted.{IsAccepted}
 use Rattle.tdf_sim.specs.Laws.{AnswersRunAlike, ModelsAreAlike, RunsAreAlike}
 use Rattle.tdf_sim.specs.declared.sim.Sim.{Sim}
-use Rattle.tdf_loop.specs.low.trace.Writings.{AboutSeen, writing_of}
-use Rattle.tdf_loop.specs.low.tree.Kept.{IsKept}
-use Rattle.tdf_loop.specs.low.tree.Pure.{PureTree}
-use Rattle.tdf_loop.specs.low.words.declared.asked.TraceKind.{TraceKind}
-use Rattle.tdf_loop.specs.low.world.Rules.{rules_of, start_world}
+use Rattle.tdf_trace.specs.Writings.{AboutSeen, writing_of}
+use Rattle.tdf_lang_tree.specs.Kept.{IsKept}
+use Rattle.tdf_lang_tree.specs.Pure.{PureTree}
+use Rattle.tdf_cli_words.specs.declared.asked.TraceKind.{TraceKind}
+use Rattle.tdf_sim_history.specs.Rules.{rules_of, start_world}
 
 same_about : (kind : TraceKind) (a b : Flat) → a.tables ≡ b.tables → a.resolution ≡ b.resolution → model_about kind a ≡ model_about kind b
 same_about kind a b tables unit =
-    ap (λ (t : FlatOf). model_about kind (record a { tables = t })) tables
+    ap (λ (t : FlatTablesOf). model_about kind (record a { tables = t })) tables
     ∙ ap (λ (u : Resolution). model_about kind (record b { resolution = u })) unit
 
 module _ (models : ModelsAreAlike) (writes : RunsWriteTheSame) where

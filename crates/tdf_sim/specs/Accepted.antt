@@ -1,16 +1,16 @@
 -- Models that are accepted.
 -- Source: own.
 use Rattle.std.specs.Prelude.{◌≡◌, ◌+◌, ℕ, List, length, Some, slice_get}
-use Rattle.tdf_blocks.specs.Refused.{SpellsText}
-use Rattle.tdf_loop.specs.low.dynamic.First.{IsFirstPlan}
-use Rattle.tdf_loop.specs.low.dynamic.declared.first.First.{First}
-use Rattle.tdf_loop.specs.low.flat.Flat.{IsFlatOf}
-use Rattle.tdf_loop.specs.low.flat.declared.model.Flat.{Flat}
+use Rattle.tdf_lang_parser.specs.Refused.{SpellsText}
+use Rattle.tdf_dynamic_first.specs.First.{IsFirstPlan}
+use Rattle.tdf_dynamic_first.specs.declared.first.First.{First}
+use Rattle.tdf_bind.specs.Flat.{IsFlatOf}
+use Rattle.tdf_bind.specs.declared.model.Flat.{Flat}
 use Rattle.tdf_sim.specs.FirstFault.{cluster_count, HasSoundLines, IsPlansFault, IsTreeFault, IsFirstFault}
 use Rattle.tdf_sim.specs.declared.sim.Sim.{Sim}
 use Rattle.tdf_sim.specs.declared.err.SimErr.{SimErr}
 use Rattle.tdf_sim.specs.declared.err.SimErr.TheVariants.{Refused, Memory}
-use Rattle.tdf_loop.specs.low.tree.Pure.{PureTree}
+use Rattle.tdf_lang_tree.specs.Pure.{PureTree}
 
 -- the plans of all clusters in order
 pub record ArePlans (flat : Flat) (firsts : List First) : Type 0 where

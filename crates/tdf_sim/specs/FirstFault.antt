@@ -2,25 +2,25 @@
 -- else of its types and bodies, else of binding, else of its clusters in order.
 -- Source: own.
 use Rattle.std.specs.Prelude.{◌≡◌, ◌<◌, ◌≤◌, ℕ, List, [], map, Some}
-use Rattle.tdf_loop.specs.low.base.declared.codes.Code.{Code}
-use Rattle.tdf_loop.specs.low.base.declared.codes.Code.TheVariants as code
-use Rattle.tdf_loop.specs.low.base.declared.faults.Fault.{Fault}
-use Rattle.tdf_loop.specs.low.base.declared.faults.Place.TheVariants as place
-use Rattle.tdf_loop.specs.low.bind.Actors.{cluster_of}
-use Rattle.tdf_loop.specs.low.bind.Flat.{FlatOf}
-use Rattle.tdf_blocks.specs.Refused.{HasSyntaxFault, SpellsText}
-use Rattle.tdf_loop.specs.low.checks.Types.{type_faults}
-use Rattle.tdf_loop.specs.low.dynamic.First.{IsClusterFault, IsFirstPlan}
-use Rattle.tdf_loop.specs.low.dynamic.declared.first.First.{First}
-use Rattle.tdf_loop.specs.low.faults.First.{first_of}
-use Rattle.tdf_loop.specs.low.faults.declared.first.LineFault.{LineFault}
-use Rattle.tdf_loop.specs.low.flat.Flat.{IsBindFault, IsFlatOf}
-use Rattle.tdf_loop.specs.low.flat.declared.model.Flat.{Flat}
-use Rattle.tdf_loop.specs.low.graph.Clusters.{greatest}
-use Rattle.tdf_loop.specs.low.names.Names.{name_faults}
-use Rattle.tdf_blocks.specs.low.tokens.Text.{fault_of}
-use Rattle.tdf_blocks.specs.low.tokens.declared.text.TextFault.TheVariants as bytes
-use Rattle.tdf_loop.specs.low.tree.Pure.{PureTree}
+use Rattle.tdf_base.specs.declared.codes.Code.{Code}
+use Rattle.tdf_base.specs.declared.codes.Code.TheVariants as code
+use Rattle.tdf_base.specs.declared.faults.Fault.{Fault}
+use Rattle.tdf_base.specs.declared.faults.Place.TheVariants as place
+use Rattle.tdf_bind_tables.specs.Actors.{cluster_of}
+use Rattle.tdf_bind_tables.specs.FlatTables.{FlatTablesOf}
+use Rattle.tdf_lang_parser.specs.Refused.{HasSyntaxFault, SpellsText}
+use Rattle.tdf_expr_blocks.specs.Types.{type_faults}
+use Rattle.tdf_dynamic_first.specs.First.{IsClusterFault, IsFirstPlan}
+use Rattle.tdf_dynamic_first.specs.declared.first.First.{First}
+use Rattle.tdf_base.specs.First.{first_of}
+use Rattle.tdf_base.specs.declared.first.LineFault.{LineFault}
+use Rattle.tdf_bind.specs.Flat.{IsBindFault, IsFlatOf}
+use Rattle.tdf_bind.specs.declared.model.Flat.{Flat}
+use Rattle.tdf_graph.specs.Clusters.{greatest}
+use Rattle.tdf_expr_names.specs.Names.{name_faults}
+use Rattle.tdf_lang_lexer.specs.Text.{fault_of}
+use Rattle.tdf_lang_lexer.specs.declared.text.TextFault.TheVariants as bytes
+use Rattle.tdf_lang_tree.specs.Pure.{PureTree}
 
 -- a fault of a line
 abbrev pub on_line : Code → ℕ → Fault
@@ -35,7 +35,7 @@ pub record HasSoundLines (tree : PureTree) : Type 0 where
   pub types : type_faults tree ≡ []
 
 -- the clusters are numbered from 1 to their count
-abbrev pub cluster_count : FlatOf → ℕ
+abbrev pub cluster_count : FlatTablesOf → ℕ
 cluster_count tables = greatest (map cluster_of tables.actors)
 
 -- the clusters before this one have a plan

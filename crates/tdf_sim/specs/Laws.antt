@@ -1,20 +1,20 @@
 -- What holds of the definitions.
 -- Source: own.
 use Rattle.std.specs.Prelude.{◌≡◌, ℕ, List, map}
-use Rattle.tdf_loop.specs.low.base.declared.faults.Fault.{Fault}
-use Rattle.tdf_loop.specs.Runs.{trace_of}
-use Rattle.tdf_loop.specs.low.dynamic.First.{IsPlannable}
-use Rattle.tdf_loop.specs.low.dynamic.declared.first.First.{First}
-use Rattle.tdf_loop.specs.low.flat.declared.model.Flat.{Flat}
-use Rattle.tdf_loop.specs.low.history.World.{Change}
-use Rattle.tdf_loop.specs.low.report.Ending.{HaveAnswers, run_end, run_note}
+use Rattle.tdf_base.specs.declared.faults.Fault.{Fault}
+use Rattle.tdf_sim_runs.specs.Runs.{trace_of}
+use Rattle.tdf_dynamic_first.specs.First.{IsPlannable}
+use Rattle.tdf_dynamic_first.specs.declared.first.First.{First}
+use Rattle.tdf_bind.specs.declared.model.Flat.{Flat}
+use Rattle.tdf_sim_history.specs.World.{Change}
+use Rattle.tdf_sim_notes.specs.Ending.{HaveAnswers, run_end, run_note}
 use Rattle.tdf_sim.specs.Accepted.{ArePlans, IsAccepted, IsAcceptedText}
 use Rattle.tdf_sim.specs.declared.sim.Sim.{Sim}
 use Rattle.tdf_sim.specs.FirstFault.{IsFirstFault, IsPlansFault, IsTreeFault}
 use Rattle.tdf_sim.specs.PlanText.{plan_rows}
-use Rattle.tdf_loop.specs.low.tree.Kept.{IsKept}
-use Rattle.tdf_loop.specs.low.tree.Pure.{PureTree}
-use Rattle.tdf_loop.specs.low.words.declared.asked.TraceKind.{TraceKind}
+use Rattle.tdf_lang_tree.specs.Kept.{IsKept}
+use Rattle.tdf_lang_tree.specs.Pure.{PureTree}
+use Rattle.tdf_cli_words.specs.declared.asked.TraceKind.{TraceKind}
 
 -- a text has at most one first fault
 abbrev pub FaultsAreOne : Type 0

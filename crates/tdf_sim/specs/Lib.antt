@@ -4,5 +4,4 @@ pub mod FirstFault
 pub mod Laws
 pub mod PlanText
 pub mod Runs
-pub mod low
 pub mod machine

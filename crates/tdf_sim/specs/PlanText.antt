@@ -2,22 +2,22 @@
 -- Source: own.
 use Rattle.std.specs.List.{flat_map, range_with_len}
 use Rattle.std.specs.Prelude.{◌+◌, ◌++◌, ℕ, List, [], length, map, Option, Some, None, slice_get}
-use Rattle.tdf_loop.specs.low.base.declared.resolution.Resolution.{Resolution}
-use Rattle.tdf_loop.specs.low.bind.Flat.{FlatOf}
-use Rattle.tdf_loop.specs.low.bind.Ranges.{AreInRange}
-use Rattle.tdf_loop.specs.low.dynamic.declared.first.First.{First}
-use Rattle.tdf_loop.specs.low.notes.Plans.{PlanRows, rows_of, plan_text, fires_text}
+use Rattle.tdf_base.specs.declared.resolution.Resolution.{Resolution}
+use Rattle.tdf_bind_tables.specs.FlatTables.{FlatTablesOf}
+use Rattle.tdf_bind_tables.specs.Ranges.{AreInRange}
+use Rattle.tdf_dynamic_first.specs.declared.first.First.{First}
+use Rattle.tdf_dynamic_texts.specs.Plans.{PlanRows, rows_of, plan_text, fires_text}
 use Rattle.tdf_sim.specs.Accepted.{ArePlans}
 use Rattle.tdf_sim.specs.declared.sim.Sim.{Sim}
 
 -- the plan of a cluster from time 0 on, with its firings
-abbrev pub cluster_text : Resolution → FlatOf → (cluster : ℕ) → Option PlanRows → List ℕ
+abbrev pub cluster_text : Resolution → FlatTablesOf → (cluster : ℕ) → Option PlanRows → List ℕ
 cluster_text unit tables cluster None = []
 cluster_text unit tables cluster (Some rows) =
     plan_text unit tables cluster 0 rows ++ fires_text unit tables rows
 
 -- the plans of all clusters, in order
-unfoldable pub clusters_text : Resolution → FlatOf → List PlanRows → List ℕ
+unfoldable pub clusters_text : Resolution → FlatTablesOf → List PlanRows → List ℕ
 clusters_text unit tables plans =
     flat_map (λ k. cluster_text unit tables (k + 1) (slice_get plans k))
     (range_with_len 0 (length plans))

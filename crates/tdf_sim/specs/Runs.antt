@@ -1,10 +1,10 @@
 -- Models that can be run.
 -- Source: own.
-use Rattle.tdf_blocks.specs.Formed.{IsFormed}
+use Rattle.tdf_lang_parser.specs.Formed.{IsFormed}
 use Rattle.tdf_sim.specs.Accepted.{IsAccepted}
 use Rattle.tdf_sim.specs.declared.sim.Sim.{Sim}
-use Rattle.tdf_loop.specs.low.tree.Kept.{IsKept}
-use Rattle.tdf_loop.specs.low.tree.Pure.{PureTree}
+use Rattle.tdf_lang_tree.specs.Kept.{IsKept}
+use Rattle.tdf_lang_tree.specs.Pure.{PureTree}
 
 -- a tree without a fault, which has what the tree of each text has, and its model
 pub record IsAcceptedTree (tree : PureTree) (sim : Sim) : Type 0 where

@@ -1,36 +1,35 @@
 //! All checks of a text, in their order.
 
 ghost use Rattle.std.specs.Prelude.{◌≡◌, ◌≤◌, ◌⊎◌, [], Err, IfErr, IfOk, OnOk, length};
-ghost use Rattle.tdf_loop.specs.low.base.declared.faults.Fault.{Fault};
-ghost use Rattle.tdf_loop.specs.low.base.Limits.{longest_text};
-ghost use Rattle.tdf_blocks.specs.Formed.{IsFormed};
-ghost use Rattle.tdf_blocks.specs.Refused.{IsWhy, SpellsText};
-ghost use Rattle.tdf_loop.specs.low.expr.Checked.{IsCheckedOf};
-ghost use Rattle.tdf_loop.specs.low.flat.Flat.{IsFlatOf};
-ghost use Rattle.tdf_loop.specs.low.names.Names.{name_faults};
+ghost use Rattle.tdf_base.specs.declared.faults.Fault.{Fault};
+ghost use Rattle.tdf_base.specs.Limits.{longest_text};
+ghost use Rattle.tdf_lang_parser.specs.Formed.{IsFormed};
+ghost use Rattle.tdf_lang_parser.specs.Refused.{IsWhy, SpellsText};
+ghost use Rattle.tdf_expr.specs.Checked.{IsCheckedOf};
+ghost use Rattle.tdf_bind.specs.Flat.{IsFlatOf};
+ghost use Rattle.tdf_expr_names.specs.Names.{name_faults};
 ghost use Rattle.tdf_sim.specs.Accepted.{IsAccepted, IsAcceptedText, IsTextRefusal, IsTreeRefusal};
 ghost use Rattle.tdf_sim.specs.FirstFault.{HasSoundLines, IsFirstFault, IsTreeFault, on_line};
-ghost use Rattle.tdf_loop.specs.low.dynamic.First.{IsPlannable};
+ghost use Rattle.tdf_dynamic_first.specs.First.{IsPlannable};
 ghost use Rattle.tdf_sim.specs.PlanText.{IsPrintable};
 ghost use Rattle.tdf_sim.specs.Runs.{IsAcceptedTree, IsSomeAccepted};
 ghost use Rattle.tdf_sim.specs.declared.err.SimErr.TheVariants as why;
 ghost use Rattle.tdf_sim.specs.machine.Steps.{by_line, by_parser};
-ghost use Rattle.tdf_loop.specs.low.tree.Kept.{IsKept};
-ghost use Rattle.tdf_loop.specs.low.tree.Views.{pure_tree};
+ghost use Rattle.tdf_lang_tree.specs.Kept.{IsKept};
+ghost use Rattle.tdf_lang_tree.specs.Views.{pure_tree};
 
 use crate::err::SimErr;
 use crate::laws::{law_first_fault, law_tree_fault};
 use crate::sim::Sim;
 use std::alloc::Global;
-use tdf_blocks::{LangErr, parse};
-use tdf_loop::low::base::{Code, Fault, Place};
-use tdf_loop::low::bind::BindErr;
-use tdf_loop::low::dynamic::law_plannable;
-use tdf_loop::low::expr::{Checked, check_bodies};
-use tdf_loop::low::faults::TypeErr;
-use tdf_loop::low::flat::{Flat, flatten};
-use tdf_loop::low::names::check_names;
-use tdf_loop::low::tree::Tree;
+use tdf_base::{Code, Fault, Place, TypeErr};
+use tdf_bind::{Flat, flatten};
+use tdf_bind_tables::BindErr;
+use tdf_dynamic_first::law_plannable;
+use tdf_expr::{Checked, check_bodies};
+use tdf_expr_names::check_names;
+use tdf_lang_parser::{LangErr, parse};
+use tdf_lang_tree::Tree;
 
 /// A fault of a line.
 fn on_line(code: Code, line: u32) -> Fault

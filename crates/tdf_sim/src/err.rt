@@ -1,6 +1,6 @@
 //! Why a text is not accepted.
 
-use tdf_loop::low::base::{Fault, Memory};
+use tdf_base::{Fault, Memory};
 use thiserror::Error;
 
 /// Why a text is not accepted.

@@ -1,11 +1,10 @@
 //! What holds of the definitions.
 
-ghost use Rattle.tdf_sim.specs.Laws.{AnswersRunAlike, FaultOrAccepted, FaultsAreOne, FaultsOfPlansAreOne, FaultsOfTreesAreOne};
-ghost use Rattle.tdf_sim.specs.Laws.{ModelsAreAlike, PlansFaultOrPlans, RunsAreAlike, TreeFaultOrAccepted};
+ghost use Rattle.tdf_sim.specs.Laws.{AnswersRunAlike, FaultOrAccepted, FaultsAreOne, FaultsOfPlansAreOne, FaultsOfTreesAreOne, ModelsAreAlike, PlansFaultOrPlans, RunsAreAlike, TreeFaultOrAccepted};
 
-use tdf_alike::{law_alike, law_answers};
-use tdf_loop::low::dynamic::{law_numbers, law_one_plan, law_plannable};
-use tdf_loop::low::limits::law_limits;
+use tdf_bind_invariants::law_limits;
+use tdf_dynamic_first::{law_numbers, law_one_plan, law_plannable};
+use tdf_sim_unique::{law_alike, law_answers};
 
 /// A text has at most one first fault, and with one it is not accepted.
 pub fn law_first_fault()

@@ -5,13 +5,11 @@
 //! - `sim`: a model that was accepted.
 //! - `run`: a run of it.
 //! - `laws`: what holds of the definitions.
-//! - `low`: what the crates above use of the crates further below.
 #![tactic(auto)]
 
 mod elaboration;
 mod err;
 mod laws;
-pub mod low;
 mod run;
 mod sim;
 
@@ -20,5 +18,5 @@ pub use err::SimErr;
 pub use laws::{law_first_fault, law_one_model, law_one_run, law_plans_fault, law_tree_fault};
 pub use run::RunErr;
 pub use sim::Sim;
-pub use tdf_loop::Ran;
-pub use tdf_loop::low::report::End;
+pub use tdf_sim_notes::End;
+pub use tdf_sim_runs::Ran;

@@ -1,6 +1,6 @@
 //! A run of a model that was accepted.
 
-use tdf_loop::low::in_out::{Sink, SinkErr};
+use tdf_io::{Sink, SinkErr};
 
 /// Why a run did not end.
 #[derive(Drop)]
@@ -13,24 +13,24 @@ pub enum RunErr {
 
 ghost use Rattle.std.specs.Io.KnownBytes.{Appends};
 ghost use Rattle.std.specs.Prelude.{◌≡◌, ◌<◌, ◌⊎◌, ℕ, List, IfOk, IsErrOf, OnErr, OnOk};
-ghost use Rattle.tdf_loop.specs.low.base.Limits.{time_end};
-ghost use Rattle.tdf_loop.specs.low.in_out.Bytes.{AppendsFront};
-ghost use Rattle.tdf_loop.specs.low.in_out.Faults.{FaultsRose};
-ghost use Rattle.tdf_loop.specs.Runs.{IsLeft, trace_of};
-ghost use Rattle.tdf_loop.specs.low.history.World.{Change};
-ghost use Rattle.tdf_loop.specs.low.report.Ending.{HaveAnswers, run_end, run_note};
-ghost use Rattle.tdf_loop.specs.low.report.declared.ending.End.TheVariants.{Reached};
+ghost use Rattle.tdf_base.specs.Limits.{time_end};
+ghost use Rattle.tdf_io.specs.Bytes.{AppendsFront};
+ghost use Rattle.tdf_io.specs.Faults.{FaultsRose};
+ghost use Rattle.tdf_sim_runs.specs.Runs.{IsLeft, trace_of};
+ghost use Rattle.tdf_sim_history.specs.World.{Change};
+ghost use Rattle.tdf_sim_notes.specs.Ending.{HaveAnswers, run_end, run_note};
+ghost use Rattle.tdf_sim_notes.specs.declared.ending.End.TheVariants.{Reached};
 ghost use Rattle.tdf_sim.specs.Runs.{IsAcceptedTree, IsSomeAccepted};
 ghost use Rattle.tdf_sim.specs.declared.run.RunErr.TheVariants as why;
 ghost use Rattle.tdf_sim.specs.machine.Steps.{by_sink};
-ghost use Rattle.tdf_loop.specs.low.tree.Pure.{PureTree};
+ghost use Rattle.tdf_lang_tree.specs.Pure.{PureTree};
 
 use crate::sim::Sim;
 use std::alloc::Global;
-use tdf_loop::low::limits::law_limits;
-use tdf_loop::low::words::TraceKind;
-use tdf_loop::{Ran, run_model};
-use tdf_runnable::law_runnable;
+use tdf_bind_invariants::law_limits;
+use tdf_cli_words::TraceKind;
+use tdf_events_invariants::law_runnable;
+use tdf_sim_runs::{Ran, run_model};
 
 /// What a sink answered.
 fn by_sink(error: SinkErr) -> RunErr

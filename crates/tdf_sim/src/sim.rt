@@ -1,9 +1,9 @@
 //! A model that was accepted.
 
 ghost use Rattle.std.specs.Prelude.{◌≡◌, ◌+◌, ◌<◌, ◌≤◌, ◌⊎◌, ◌++◌, ◌∷◌, [], Err, IfErr, IfOk, OnErr, OnOk, ℕ, length, map, slice_get, Some, take};
-ghost use Rattle.tdf_loop.specs.low.base.declared.faults.Fault.{Fault};
-ghost use Rattle.tdf_loop.specs.low.bind.Ranges.{AreInRange};
-ghost use Rattle.tdf_loop.specs.low.dynamic.First.{IsFirstPlan, IsPlannable};
+ghost use Rattle.tdf_base.specs.declared.faults.Fault.{Fault};
+ghost use Rattle.tdf_bind_tables.specs.Ranges.{AreInRange};
+ghost use Rattle.tdf_dynamic_first.specs.First.{IsFirstPlan, IsPlannable};
 ghost use Rattle.tdf_sim.specs.Accepted.{ArePlans, IsPlansRefusal};
 ghost use Rattle.tdf_sim.specs.FirstFault.{IsPlansFault, cluster_count};
 ghost use Rattle.tdf_sim.specs.PlanText.{IsPrintable, cluster_text, clusters_text, plan_rows, plans_text};
@@ -13,10 +13,11 @@ ghost use Rattle.tdf_sim.specs.machine.Steps.{HavePlans, IsFirstRefusal};
 use crate::err::SimErr;
 use crate::laws::law_plans_fault;
 use std::alloc::Global;
-use tdf_loop::low::base::{Memory, Resolution};
-use tdf_loop::low::dynamic::{ChangeErr, First, first_plan, law_numbers};
-use tdf_loop::low::flat::Flat;
-use tdf_loop::low::notes::{push_fires, push_plan};
+use tdf_base::{Memory, Resolution};
+use tdf_bind::Flat;
+use tdf_dynamic_first::{First, first_plan, law_numbers};
+use tdf_dynamic_plans::ChangeErr;
+use tdf_dynamic_texts::{push_fires, push_plan};
 
 /// A model that was accepted, before its run: its flat model, and for each cluster its attributes and its plan.
 #[derive(Drop)]

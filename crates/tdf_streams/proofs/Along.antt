@@ -4,20 +4,20 @@ use Rattle.std.proofs.lemmas.Bool.{cases_eq, cases_lt, eq-eqb, le-ltb, ne_eqb}
 use Rattle.std.proofs.lemmas.List.Sums.{sum_by-cons, sum_by_more}
 use Rattle.std.proofs.lemmas.Option.{get_or_from_slice_get, slice_get_within}
 use Rattle.std.specs.Prelude.{All, cond, count_by}
-use Rattle.tdf_dynamic.proofs.Api.{net_fit}
-use Rattle.tdf_dynamic.specs.Attributes.{clusters_of}
-use Rattle.tdf_dynamic.specs.low.fixed.declared.raw.Raw.{Raw}
-use Rattle.tdf_dynamic.specs.low.flat.declared.model.Flat.{Flat}
-use Rattle.tdf_flow.proofs.Api.{some_same}
-use Rattle.tdf_flow.specs.Firing.{IsPresent}
-use Rattle.tdf_flow.specs.Stands.{Stands}
-use Rattle.tdf_dynamic.specs.low.graph.Ranges.{IsEdge}
-use Rattle.tdf_dynamic.specs.low.graph.declared.actors.Edge.{Edge}
-use Rattle.tdf_limits.specs.Limits.{AreWithinLimits}
-use Rattle.tdf_dynamic.specs.low.schedule.Laws.{IsPresent as IsPlanPresent, PlansArePresent}
-use Rattle.tdf_dynamic.specs.low.schedule.Plan.{HasPlan, IsPlan, done, is_firing}
-use Rattle.tdf_dynamic.specs.low.schedule.declared.entry.Entry.{Entry}
-use Rattle.tdf_dynamic.specs.low.schedule.declared.entry.Plan.{Plan}
+use Rattle.tdf_dynamic_first.proofs.Api.{net_fit}
+use Rattle.tdf_dynamic_plans.specs.Attributes.{clusters_of}
+use Rattle.tdf_fixed.specs.declared.raw.Raw.{Raw}
+use Rattle.tdf_bind.specs.declared.model.Flat.{Flat}
+use Rattle.tdf_streams.proofs.Lists.{some_same}
+use Rattle.tdf_streams.specs.Firing.{IsPresent}
+use Rattle.tdf_streams.specs.Stands.{Stands}
+use Rattle.tdf_graph.specs.Ranges.{IsEdge}
+use Rattle.tdf_graph.specs.declared.actors.Edge.{Edge}
+use Rattle.tdf_bind_invariants.specs.Limits.{AreWithinLimits}
+use Rattle.tdf_schedule.specs.Laws.{IsPresent as IsPlanPresent, PlansArePresent}
+use Rattle.tdf_schedule.specs.Plan.{HasPlan, IsPlan, done, is_firing}
+use Rattle.tdf_schedule.specs.declared.entry.Entry.{Entry}
+use Rattle.tdf_schedule.specs.declared.entry.Plan.{Plan}
 use Rattle.tdf_streams.proofs.Edges.{EdgeIn, are_rates, edge_in, held_own, is_wired, one_cluster, rated}
 use Rattle.tdf_streams.proofs.Orders.{list_counts}
 use Rattle.tdf_streams.proofs.Rows.{at_contains}
@@ -26,7 +26,7 @@ use Rattle.tdf_streams.specs.Laws.{ClusterPlay}
 use Rattle.tdf_streams.specs.Periods.{IsTimedRecord, PeriodRecord, done_before, net_in}
 use Rattle.tdf_streams.specs.Places.{reader_at, reader_of_row, writer_at, writer_of_row}
 use Rattle.tdf_streams.specs.Starts.{ArePast, held_at_head}
-use Rattle.tdf_dynamic.specs.low.tree.Pure.{PureTree}
+use Rattle.tdf_lang_tree.specs.Pure.{PureTree}
 
 -- one that passes is counted
 counted : {X : Type 0} (p : X → Bool) (xs : List X) (i : ℕ) (x : X) → slice_get xs i ≡ Some x → p x ≡ true → 0 < count_by p xs

@@ -8,11 +8,14 @@ use Rattle.std.proofs.lemmas.Nat.{div-mul-add, mod-mul-add}
 use Rattle.std.specs.List.{range_with_len, sum_by}
 use Rattle.std.specs.Option.{option_and_then}
 use Rattle.std.specs.Prelude.{All, IfSome}
-use Rattle.tdf_dynamic.specs.low.fixed.declared.raw.Raw.{Raw}
-use Rattle.tdf_dynamic.specs.low.bind.Flat.{FlatOf}
-use Rattle.tdf_flow.proofs.Api.{find_more, find_now, get_high, get_low, get_made_at, none_some, some_same}
-use Rattle.tdf_flow.specs.Net.{Net, Past, Period, count, written}
-use Rattle.tdf_flow.specs.Streams.{Spot, find, output, place, spot}
+use Rattle.tdf_fixed.specs.declared.raw.Raw.{Raw}
+use Rattle.tdf_bind_tables.specs.FlatTables.{FlatTablesOf}
+use Rattle.tdf_streams.proofs.Known.{find_more}
+use Rattle.tdf_streams.proofs.Firing.{find_now}
+use Rattle.tdf_streams.proofs.Lists.{get_high, get_low, get_made_at, some_same}
+use Rattle.tdf_streams.proofs.Steps.{none_some}
+use Rattle.tdf_streams.specs.Net.{Net, Past, Period, count, written}
+use Rattle.tdf_streams.specs.Streams.{Spot, find, output, place, spot}
 use Rattle.tdf_streams.specs.Carried.{EdgesBeginAsRead, EdgesCarrySignals, IsDriven, OutputsAreSamples}
 use Rattle.tdf_streams.proofs.Edges.{EdgeIn, edge_in}
 use Rattle.tdf_streams.proofs.Rows.{all_at}
@@ -20,21 +23,21 @@ use Rattle.tdf_streams.proofs.Starts.{edges_all, text_list}
 use Rattle.tdf_streams.specs.Cluster.{cluster_net, driver_samples, initial_list, initial_sample, initial_samples, text_start, zero_sample}
 use Rattle.tdf_streams.specs.Laws.{ClusterNet}
 use Rattle.tdf_streams.specs.Places.{driver_or, source_at, source_of_row, writer_at, writer_of_row}
-use Rattle.tdf_dynamic.specs.Attributes.{AttrsOf, clusters_of}
-use Rattle.tdf_dynamic.specs.Rates.{edge_kind, kind_of, net_ports, rated_port, write_rate_by}
-use Rattle.tdf_dynamic.specs.low.flat.Flat.{IsFlatOf}
-use Rattle.tdf_dynamic.specs.low.flat.declared.model.Flat.{Flat}
-use Rattle.tdf_limits.specs.Limits.{AreWithinLimits}
-use Rattle.tdf_dynamic.specs.low.timestep.Period.{rate_at, rate_of}
-use Rattle.tdf_dynamic.specs.low.tree.Pure.{PureTree}
-use Rattle.tdf_dynamic.specs.low.tree.declared.blocks.PortKind.{PortKind}
-use Rattle.tdf_dynamic.specs.low.tree.declared.blocks.PortKind.TheVariants.{In, Out, DeIn, DeOut}
-use Rattle.tdf_dynamic.specs.low.wiring.Edges.{driven_edge, driver_port, edge_from, edge_of_kind, sampler_edge, sink_edge}
-use Rattle.tdf_dynamic.specs.low.wiring.declared.drivers.SignalRow.{SignalRow}
-use Rattle.tdf_dynamic.specs.low.wiring.declared.edges.EdgeRow.{EdgeRow}
+use Rattle.tdf_dynamic_plans.specs.Attributes.{AttrsOf, clusters_of}
+use Rattle.tdf_dynamic_plans.specs.Rates.{edge_kind, kind_of, net_ports, rated_port, write_rate_by}
+use Rattle.tdf_bind.specs.Flat.{IsFlatOf}
+use Rattle.tdf_bind.specs.declared.model.Flat.{Flat}
+use Rattle.tdf_bind_invariants.specs.Limits.{AreWithinLimits}
+use Rattle.tdf_timestep.specs.Period.{rate_at, rate_of}
+use Rattle.tdf_lang_tree.specs.Pure.{PureTree}
+use Rattle.tdf_lang_tree.specs.declared.blocks.PortKind.{PortKind}
+use Rattle.tdf_lang_tree.specs.declared.blocks.PortKind.TheVariants.{In, Out, DeIn, DeOut}
+use Rattle.tdf_bind_connections.specs.Edges.{driven_edge, driver_port, edge_from, edge_of_kind, sampler_edge, sink_edge}
+use Rattle.tdf_bind_connections.specs.declared.drivers.SignalRow.{SignalRow}
+use Rattle.tdf_bind_connections.specs.declared.edges.EdgeRow.{EdgeRow}
 use Rattle.tdf_streams.specs.Periods.{IsTimedRecord, PeriodInfo, PeriodRecord}
 use Rattle.tdf_streams.specs.Signals.{output_at_spot, outputs_in, port_output, rate_in, signal_sample}
-use Rattle.tdf_dynamic.specs.low.wiring.declared.modules.PortRow.{PortRow}
+use Rattle.tdf_bind_connections.specs.declared.modules.PortRow.{PortRow}
 
 pub outputs_are : OutputsAreSamples
 unfolding port_output
@@ -89,18 +92,18 @@ module _ {S V I : Type 0} (net : Net S V I) (periods : List (Period I)) (past : 
   place_late late = rw (le-ltb k (net.delay e) late) refl
 
 -- an item of the samples that a port begins with, after some others
-item_after : (tables : FlatOf) (front : List Raw) (port : PortRow) (d : Raw) (j : ℕ) → j < port.delay → slice_index_or (front ++ map (initial_sample tables port) (range_with_len 0 port.delay)) (length front + j) d ≡ initial_sample tables port j
+item_after : (tables : FlatTablesOf) (front : List Raw) (port : PortRow) (d : Raw) (j : ℕ) → j < port.delay → slice_index_or (front ++ map (initial_sample tables port) (range_with_len 0 port.delay)) (length front + j) d ≡ initial_sample tables port j
 item_after tables front port d j inside = get_or_from_slice_get _ (length front + j) (initial_sample tables port j) d
     (get_high front (map (initial_sample tables port) (range_with_len 0 port.delay)) (length front + j) (omega arith)
     ∙ ap (slice_get (map (initial_sample tables port) (range_with_len 0 port.delay))) (omega arith)
     ∙ get_made_at (initial_sample tables port) 0 port.delay j inside ∙ ap (λ n. Some (initial_sample tables port n)) (omega arith))
 
 -- the edge of a port that reads a signal of samples
-IsOfDriver : FlatOf → EdgeRow → Type 0
+IsOfDriver : FlatTablesOf → EdgeRow → Type 0
 IsOfDriver tables edge = (out : ℕ) (port driver : PortRow) → IsDriven tables edge out port driver
     → (port.kind ≡ In) × (edge.writer ≡ driver.«module») × (edge.initial ≡ port.delay + driver.delay)
 
-module _ (tables : FlatOf) (signals : List SignalRow) where
+module _ (tables : FlatTablesOf) (signals : List SignalRow) where
   undriven : (edge : EdgeRow) → edge.driver ≡ None → IsOfDriver tables edge
   unfolding IsOfDriver
   undriven edge none out port driver is = none_some out (sym none ∙ is.driven)

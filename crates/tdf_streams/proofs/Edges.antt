@@ -4,24 +4,24 @@ use Rattle.std.proofs.lemmas.Bool.{cases_eq, eq-eqb, ne_eqb}
 use Rattle.std.proofs.lemmas.List.{length-map}
 use Rattle.std.proofs.lemmas.Option.{slice_get-map, slice_get_within}
 use Rattle.std.specs.Prelude.{All, Contains, IfSome}
-use Rattle.tdf_dynamic.specs.low.bind.Actors.{net_edge}
-use Rattle.tdf_dynamic.proofs.Api.{net_fit}
-use Rattle.tdf_dynamic.specs.Attributes.{AttrsOf, attrs_at, clusters_of}
-use Rattle.tdf_dynamic.specs.First.{IsPlannable}
-use Rattle.tdf_dynamic.specs.Rates.{AreRates, IsWired, net_of, net_ports, rate_by, rated_edge}
-use Rattle.tdf_dynamic.specs.low.flat.declared.model.Flat.{Flat}
-use Rattle.tdf_flow.proofs.Api.{get_inside}
-use Rattle.tdf_dynamic.specs.low.graph.Clusters.{goes, stays}
-use Rattle.tdf_dynamic.specs.low.graph.Ranges.{IsEdge, IsRate}
-use Rattle.tdf_dynamic.specs.low.graph.declared.actors.Edge.{Edge}
-use Rattle.tdf_limits.specs.Limits.{AreWithinLimits, IsAlwaysRate, limits_in}
-use Rattle.tdf_dynamic.specs.low.meaning.Fits.{RatesFit}
+use Rattle.tdf_bind_tables.specs.Actors.{net_edge}
+use Rattle.tdf_dynamic_first.proofs.Api.{net_fit}
+use Rattle.tdf_dynamic_plans.specs.Attributes.{AttrsOf, attrs_at, clusters_of}
+use Rattle.tdf_dynamic_first.specs.First.{IsPlannable}
+use Rattle.tdf_dynamic_plans.specs.Rates.{AreRates, IsWired, net_of, net_ports, rate_by, rated_edge}
+use Rattle.tdf_bind.specs.declared.model.Flat.{Flat}
+use Rattle.tdf_streams.proofs.Lists.{get_inside}
+use Rattle.tdf_graph.specs.Clusters.{goes, stays}
+use Rattle.tdf_graph.specs.Ranges.{IsEdge, IsRate}
+use Rattle.tdf_graph.specs.declared.actors.Edge.{Edge}
+use Rattle.tdf_bind_invariants.specs.Limits.{AreWithinLimits, IsAlwaysRate, limits_in}
+use Rattle.tdf_expr_semantics.specs.Fits.{RatesFit}
 use Rattle.tdf_streams.proofs.Rows.{all_at, at_contains, contains_at, index_map}
 use Rattle.tdf_streams.specs.Periods.{HasAllowedRates, IsTimedRecord, PeriodRecord, net_in}
 use Rattle.tdf_streams.specs.Places.{writer_at, writer_of_row}
 use Rattle.tdf_streams.specs.Starts.{held_at_head, initial_of_row}
-use Rattle.tdf_dynamic.specs.low.wiring.declared.edges.EdgeRow.{EdgeRow}
-use Rattle.tdf_dynamic.specs.low.wiring.declared.modules.PortRow.{PortRow}
+use Rattle.tdf_bind_connections.specs.declared.edges.EdgeRow.{EdgeRow}
+use Rattle.tdf_bind_connections.specs.declared.modules.PortRow.{PortRow}
 
 module _ (flat : Flat) (limits : AreWithinLimits flat) where
   pub is_wired : IsWired flat.tables

@@ -1,19 +1,19 @@
 -- A firing is grounded in the net of a cluster exactly where it is grounded among the edges of the model, whatever its pace.
 use Rattle.std.proofs.Common.{◌≡◌, ◌∙◌, ℕ, zero, suc, ◌+◌, ◌-◌, ◌*◌, ◌/◌, ◌<◌, ◌≤◌, Some, List, length, slice_get, slice_index, ap, sym, subst, inl, inr, arith}
-use Rattle.tdf_dynamic.specs.Attributes.{clusters_of}
-use Rattle.tdf_dynamic.specs.low.flat.declared.model.Flat.{Flat}
-use Rattle.tdf_flow.proofs.Api.{some_same}
-use Rattle.tdf_flow.specs.Grounds.{EndsIn, IsGrounded, Takes}
-use Rattle.tdf_dynamic.specs.low.graph.declared.actors.Edge.{Edge}
-use Rattle.tdf_limits.specs.Limits.{AreWithinLimits}
-use Rattle.tdf_dynamic.specs.low.schedule.Needs.{IsGrounded as IsPlanned, Takes as PlanTakes, Within}
+use Rattle.tdf_dynamic_plans.specs.Attributes.{clusters_of}
+use Rattle.tdf_bind.specs.declared.model.Flat.{Flat}
+use Rattle.tdf_streams.proofs.Lists.{some_same}
+use Rattle.tdf_streams.specs.Grounds.{EndsIn, IsGrounded, Takes}
+use Rattle.tdf_graph.specs.declared.actors.Edge.{Edge}
+use Rattle.tdf_bind_invariants.specs.Limits.{AreWithinLimits}
+use Rattle.tdf_schedule.specs.Needs.{IsGrounded as IsPlanned, Takes as PlanTakes, Within}
 use Rattle.tdf_streams.proofs.Edges.{EdgeIn, edge_in, edge_number, held_own, one_cluster, rated}
 use Rattle.tdf_streams.proofs.Rows.{at_contains}
 use Rattle.tdf_streams.specs.Cluster.{Start, cluster_net}
 use Rattle.tdf_streams.specs.Periods.{IsTimedRecord, PeriodRecord, net_in}
 use Rattle.tdf_streams.specs.Places.{reader_of_row, writer_of_row}
 use Rattle.tdf_streams.specs.Starts.{held_at_head}
-use Rattle.tdf_dynamic.specs.low.tree.Pure.{PureTree}
+use Rattle.tdf_lang_tree.specs.Pure.{PureTree}
 
 -- what can be done by a time can be done by that time whatever the pace of each actor, if that is none
 pub no_pace : (edges : List Edge) (pace : ℕ → ℕ) (f o m a : ℕ) → Within edges pace f o m a → Within edges (λ k. 0) f 0 m a

@@ -1,20 +1,25 @@
 -- Orders in which the firings of a period are played.
 use Rattle.std.proofs.Common.{◌≡◌, ◌∙◌, ℕ, suc, ◌+◌, ◌*◌, ◌<◌, List, [], ◌∷◌, length, slice_index, slice_index_or, ap, inl, inr, arith}
-use Rattle.tdf_dynamic.specs.low.flat.declared.model.Flat.{Flat}
-use Rattle.tdf_flow.proofs.Api.{any_order, fired_turn, order_keeps, order_plays, played_are_grounded, played_turns, whole_past}
-use Rattle.tdf_flow.specs.Net.{count}
-use Rattle.tdf_flow.specs.Playing.{IsPlayed}
-use Rattle.tdf_flow.specs.Stands.{Stands}
-use Rattle.tdf_limits.specs.Limits.{AreWithinLimits}
+use Rattle.tdf_bind.specs.declared.model.Flat.{Flat}
+use Rattle.tdf_streams.proofs.Playing.{any_order, order_keeps, played_turns}
+use Rattle.tdf_streams.proofs.Firing.{fired_turn}
+use Rattle.tdf_streams.proofs.Plays.{order_plays}
+use Rattle.tdf_streams.proofs.Played.{played_are_grounded}
+use Rattle.tdf_streams.proofs.Values.{whole_past}
+use Rattle.tdf_streams.specs.Net.{count}
+use Rattle.tdf_streams.specs.Playing.{IsPlayed}
+use Rattle.tdf_streams.specs.Stands.{Stands}
+use Rattle.tdf_bind_invariants.specs.Limits.{AreWithinLimits}
 use Rattle.tdf_streams.proofs.Grounds.{grounded_here}
 use Rattle.tdf_streams.proofs.Sound.{active_inside, are_sound, balanced_at, before_and_left, rates_positive}
 use Rattle.tdf_streams.specs.Cluster.{Start, cluster_net}
 use Rattle.tdf_streams.specs.Laws.{AnyOrder, ClusterPlay, EndsWhole, FiringIsKnown, IsComplete, OrderPlays, OrderStands, PlayedAreGrounded, StandsAtHead, UngroundedStops}
 use Rattle.tdf_streams.specs.Periods.{PeriodRecord, done_before}
 use Rattle.tdf_streams.specs.Places.{reader_at, writer_at}
+use Rattle.tdf_streams.specs.StandingLaws.{HeadsWhole}
 use Rattle.tdf_streams.specs.Starts.{ArePast, held_at_head}
-use Rattle.tdf_dynamic.specs.low.tree.Pure.{PureTree}
-use Rattle.tdf_dynamic.specs.low.fixed.declared.raw.Raw.{Raw}
+use Rattle.tdf_lang_tree.specs.Pure.{PureTree}
+use Rattle.tdf_fixed.specs.declared.raw.Raw.{Raw}
 
 both : (a b c : ℕ) → (a + b) * c ≡ a * c + b * c
 both a b c = grind arith
@@ -73,21 +78,22 @@ ends_whole model flat cluster start old p reads order f y z limits past timed he
     all_done : (m k : ℕ) → (done_before p m + slice_index z.turns m) * k ≡ slice_index p.info.counts m * k
     all_done m k = ap (λ n. n * k) (ap (λ n. done_before p m + n) (complete_turns model flat cluster start limits old p reads order f y z head played complete m) ∙ before_and_left flat cluster p timed m)
 
-pub played_grounded : PlayedAreGrounded
-played_grounded model flat cluster start old p reads order f y z limits past timed whole head played complete m a below =
-    grounded_here model flat cluster start p limits timed m a (active_inside flat cluster p timed m a below)
-    (played_are_grounded (cluster_net model flat cluster start) (held_at_head flat.tables cluster) old p reads f y z order
-    (record { positive = rates_positive model flat cluster start limits p timed; turns = head.turns; lists = head_lists })
-    head.stands played m a (let t = complete_turns model flat cluster start limits old p reads order f y z head played complete m in
-    let w : slice_index p.counts m ≡ slice_index p.info.counts m = ap (λ l. slice_index l m) whole in omega (arith, below, t, w)))
+pub heads_whole : HeadsWhole
+heads_whole model flat cluster start old p reads f y limits past whole head e inside =
+    let c = list_counts model flat cluster start limits old p reads f y past head.stands e inside in
+    let r = none_done (reader_at flat.tables.edges e) (slice_index p.reads e) in let w = none_done (writer_at flat.tables.edges e) (slice_index p.writes e) in omega (arith, c, r, w)
   where
     none_done : (k n : ℕ) → (done_before p k + slice_index y.turns k) * n ≡ 0
     none_done k n = let same : slice_index p.counts k ≡ slice_index p.info.counts k = ap (λ l. slice_index l k) whole in let t = head.turns k in
         let z : done_before p k + slice_index y.turns k ≡ 0 = omega (arith, same, t) in rw z (omega arith)
 
-    head_lists : (e : ℕ) → e < length flat.tables.edges → length (slice_index_or y.lists e []) ≡ held_at_head flat.tables cluster e
-    head_lists e inside = let c = list_counts model flat cluster start limits old p reads f y past head.stands e inside in
-        let r = none_done (reader_at flat.tables.edges e) (slice_index p.reads e) in let w = none_done (writer_at flat.tables.edges e) (slice_index p.writes e) in omega (arith, c, r, w)
+pub played_grounded : PlayedAreGrounded
+played_grounded model flat cluster start old p reads order f y z limits past timed whole head played complete m a below =
+    grounded_here model flat cluster start p limits timed m a (active_inside flat cluster p timed m a below)
+    (played_are_grounded (cluster_net model flat cluster start) (held_at_head flat.tables cluster) old p reads f y z order
+    (record { positive = rates_positive model flat cluster start limits p timed; turns = head.turns; lists = heads_whole model flat cluster start old p reads f y limits past whole head })
+    head.stands played m a (let t = complete_turns model flat cluster start limits old p reads order f y z head played complete m in
+    let w : slice_index p.counts m ≡ slice_index p.info.counts m = ap (λ l. slice_index l m) whole in omega (arith, below, t, w)))
 
 pub complete_plays : OrderPlays
 complete_plays model flat cluster start old p reads order f y head states are_given complete =

@@ -5,29 +5,28 @@ use Rattle.std.proofs.lemmas.List.Elements.{All-from_recursion}
 use Rattle.std.proofs.lemmas.List.Sums.{sum_by-cons}
 use Rattle.std.specs.List.{AllByRecursion, cons_option, enumerate_from}
 use Rattle.std.specs.Prelude.{cond, count_by, filter_map}
-use Rattle.tdf_dynamic.proofs.Api.{table_is}
-use Rattle.tdf_dynamic.specs.Assignments.{assignments}
-use Rattle.tdf_dynamic.specs.Attributes.{AttrsOf, clusters_of}
-use Rattle.tdf_dynamic.specs.Faults.{IsTablePlan, pace_in}
-use Rattle.tdf_dynamic.specs.Rates.{net_of}
-use Rattle.tdf_dynamic.specs.Text.{attrs_if, first_attrs, first_table}
-use Rattle.tdf_dynamic.specs.low.expr.Made.{start_rates}
-use Rattle.tdf_dynamic.specs.low.flat.declared.model.Flat.{Flat}
-use Rattle.tdf_dynamic.specs.low.graph.declared.actors.Edge.{Edge}
-use Rattle.tdf_limits.proofs.Api.{starts_are_allowed}
-use Rattle.tdf_limits.specs.Limits.{AreWithinLimits, limits_in}
-use Rattle.tdf_dynamic.specs.low.meaning.Fits.{RatesFit}
-use Rattle.tdf_dynamic.specs.low.schedule.Needs.{IsGrounded, Within}
-use Rattle.tdf_dynamic.specs.low.schedule.Plan.{HasPlan, IsPlan, is_firing, key_in}
-use Rattle.tdf_dynamic.specs.low.schedule.declared.entry.Entry.{Entry}
-use Rattle.tdf_dynamic.specs.low.schedule.Needs.{HasKey}
+use Rattle.tdf_dynamic_first.proofs.Api.{table_is}
+use Rattle.tdf_dynamic_plans.specs.Assignments.{assignments}
+use Rattle.tdf_dynamic_plans.specs.Attributes.{AttrsOf, clusters_of}
+use Rattle.tdf_dynamic_plans.specs.Faults.{IsTablePlan, pace_in}
+use Rattle.tdf_dynamic_plans.specs.Rates.{net_of}
+use Rattle.tdf_dynamic_first.specs.Text.{attrs_if, first_attrs, first_table}
+use Rattle.tdf_expr.specs.Made.{start_rates}
+use Rattle.tdf_bind.specs.declared.model.Flat.{Flat}
+use Rattle.tdf_graph.specs.declared.actors.Edge.{Edge}
+use Rattle.tdf_bind_invariants.proofs.Api.{starts_are_allowed}
+use Rattle.tdf_bind_invariants.specs.Limits.{AreWithinLimits, limits_in}
+use Rattle.tdf_expr_semantics.specs.Fits.{RatesFit}
+use Rattle.tdf_schedule.specs.Needs.{IsGrounded, Within, HasKey}
+use Rattle.tdf_schedule.specs.Plan.{HasPlan, IsPlan, is_firing, key_in}
+use Rattle.tdf_schedule.specs.declared.entry.Entry.{Entry}
 use Rattle.tdf_streams.proofs.Edges.{is_plannable}
 use Rattle.tdf_streams.proofs.Grounds.{no_pace}
 use Rattle.tdf_streams.proofs.Rows.{all_at}
 use Rattle.tdf_streams.specs.Laws.{FirstPlanIsRecord, TablePlanIsRecord}
 use Rattle.tdf_streams.specs.Periods.{AreAttributes, HasAllowedRates}
-use Rattle.tdf_dynamic.specs.low.timestep.Period.{IsPeriod}
-use Rattle.tdf_dynamic.specs.low.wiring.declared.modules.ModuleRow.{ModuleRow}
+use Rattle.tdf_timestep.specs.Period.{IsPeriod}
+use Rattle.tdf_bind_connections.specs.declared.modules.ModuleRow.{ModuleRow}
 
 -- one that is counted is there
 pub record Counted {X : Type 0} (p : X → Bool) (xs : List X) : Type 0 where

@@ -2,13 +2,15 @@
 use Rattle.std.proofs.Common.{◌≡◌, ◌∙◌, ℕ, ◌+◌, ◌*◌, ◌<◌, List, length, slice_index, slice_index_or, ap, sym, subst, inl, inr, arith}
 use Rattle.std.proofs.lemmas.Bool.{cases_eq, eqb-true}
 use Rattle.std.proofs.lemmas.List.{length-map}
-use Rattle.tdf_dynamic.specs.low.bind.Actors.{cluster_of}
-use Rattle.tdf_dynamic.specs.Attributes.{clusters_of}
-use Rattle.tdf_dynamic.specs.low.flat.declared.model.Flat.{Flat}
-use Rattle.tdf_flow.proofs.Api.{all_are_known, fed_are_known, known_more}
-use Rattle.tdf_flow.specs.Grounds.{AreSound, IsSound}
-use Rattle.tdf_flow.specs.Net.{count}
-use Rattle.tdf_limits.specs.Limits.{AreWithinLimits}
+use Rattle.tdf_bind_tables.specs.Actors.{cluster_of}
+use Rattle.tdf_dynamic_plans.specs.Attributes.{clusters_of}
+use Rattle.tdf_bind.specs.declared.model.Flat.{Flat}
+use Rattle.tdf_streams.proofs.Values.{all_are_known}
+use Rattle.tdf_streams.proofs.Fed.{fed_are_known}
+use Rattle.tdf_streams.proofs.Known.{known_more}
+use Rattle.tdf_streams.specs.Grounds.{AreSound, IsSound}
+use Rattle.tdf_streams.specs.Net.{count}
+use Rattle.tdf_bind_invariants.specs.Limits.{AreWithinLimits}
 use Rattle.tdf_streams.proofs.Edges.{EdgeIn, edge_in, rated}
 use Rattle.tdf_streams.proofs.Grounds.{grounded_there}
 use Rattle.tdf_streams.proofs.Rows.{at_contains, not_true, or_right}
@@ -17,7 +19,7 @@ use Rattle.tdf_streams.specs.Laws.{AllAreKnown, FedAreKnown, MoreKeeps}
 use Rattle.tdf_streams.specs.Periods.{IsPeriodRecord, IsTimedRecord, IsWholeRecord, PeriodRecord, done_before, net_in}
 use Rattle.tdf_streams.specs.Places.{actor_kind, reader_at, reader_of_row, writer_at, writer_of_row}
 use Rattle.tdf_streams.specs.Starts.{AreRecords, held_at_head}
-use Rattle.tdf_dynamic.specs.low.tree.Pure.{PureTree}
+use Rattle.tdf_lang_tree.specs.Pure.{PureTree}
 
 module _ (flat : Flat) (cluster : ℕ) (p : PeriodRecord) (timed : IsTimedRecord flat cluster p) where
   pub before_and_left : (m : ℕ) → done_before p m + count m p ≡ slice_index p.info.counts m

@@ -3,19 +3,19 @@ use Rattle.std.proofs.Common.{◌≡◌, ◌∙◌, ℕ, ◌≤◌, List, [], �
 use Rattle.std.proofs.lemmas.Bool.{eqb-true}
 use Rattle.std.proofs.lemmas.List.{length-map}
 use Rattle.std.proofs.lemmas.Option.{get_or_from_slice_get, slice_get_within}
-use Rattle.tdf_dynamic.specs.low.bind.Actors.{cluster_of}
-use Rattle.tdf_dynamic.specs.Attributes.{clusters_of}
-use Rattle.tdf_dynamic.specs.low.fixed.declared.raw.Raw.{Raw}
-use Rattle.tdf_dynamic.specs.low.flat.declared.model.Flat.{Flat}
-use Rattle.tdf_flow.proofs.Api.{start_stands}
-use Rattle.tdf_flow.specs.Stands.{AreActive, Stands}
+use Rattle.tdf_bind_tables.specs.Actors.{cluster_of}
+use Rattle.tdf_dynamic_plans.specs.Attributes.{clusters_of}
+use Rattle.tdf_fixed.specs.declared.raw.Raw.{Raw}
+use Rattle.tdf_bind.specs.declared.model.Flat.{Flat}
+use Rattle.tdf_streams.proofs.FlowStarts.{start_stands}
+use Rattle.tdf_streams.specs.Stands.{AreActive, Stands}
 use Rattle.tdf_streams.proofs.Rows.{not_true, or_right}
 use Rattle.tdf_streams.specs.Cluster.{Start, cluster_net, is_sampler_kind, zero_sample}
 use Rattle.tdf_streams.specs.Laws.{ClusterPlay}
 use Rattle.tdf_streams.specs.Periods.{IsTimedRecord, PeriodRecord}
 use Rattle.tdf_streams.specs.Places.{actor_kind}
 use Rattle.tdf_streams.specs.Starts.{ArePast}
-use Rattle.tdf_dynamic.specs.low.tree.Pure.{PureTree}
+use Rattle.tdf_lang_tree.specs.Pure.{PureTree}
 
 module _ (model : PureTree) (flat : Flat) (cluster : ℕ) (start : Start) where
   -- with the lists and the states of the start, and nothing done since

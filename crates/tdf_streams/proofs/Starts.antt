@@ -5,30 +5,31 @@ use Rattle.std.proofs.lemmas.List.Elements.{All-from_recursion}
 use Rattle.std.proofs.lemmas.Option.{get_or_from_slice_get, slice_get-map}
 use Rattle.std.specs.List.{AllByRecursion, cons_option, enumerate_from}
 use Rattle.std.specs.Prelude.{All, IfSome, filter_map}
-use Rattle.tdf_dynamic.specs.low.bind.Flat.{FlatOf}
-use Rattle.tdf_dynamic.specs.Attributes.{AttrsOf}
-use Rattle.tdf_dynamic.specs.low.flat.Flat.{IsFlatOf}
-use Rattle.tdf_dynamic.specs.low.flat.declared.model.Flat.{Flat}
-use Rattle.tdf_flow.proofs.Api.{get_inside, none_some}
+use Rattle.tdf_bind_tables.specs.FlatTables.{FlatTablesOf}
+use Rattle.tdf_dynamic_plans.specs.Attributes.{AttrsOf}
+use Rattle.tdf_bind.specs.Flat.{IsFlatOf}
+use Rattle.tdf_bind.specs.declared.model.Flat.{Flat}
+use Rattle.tdf_streams.proofs.Lists.{get_inside}
+use Rattle.tdf_streams.proofs.Steps.{none_some}
 use Rattle.tdf_streams.proofs.Rows.{all_at}
 use Rattle.tdf_streams.specs.Cluster.{driver_samples, initial_list, initial_sample, initial_samples, list_if_own, text_start}
 use Rattle.tdf_streams.specs.Laws.{TextHasLists, TextHoldsDelays}
 use Rattle.tdf_streams.specs.Periods.{done_before}
 use Rattle.tdf_streams.specs.Places.{is_own, reader_at, writer_at}
 use Rattle.tdf_streams.specs.Starts.{initial_of_row}
-use Rattle.tdf_dynamic.specs.low.tree.Pure.{PureTree}
-use Rattle.tdf_dynamic.specs.low.tree.declared.blocks.PortKind.{PortKind}
-use Rattle.tdf_dynamic.specs.low.tree.declared.blocks.PortKind.TheVariants.{In, Out, DeIn, DeOut}
-use Rattle.tdf_dynamic.specs.low.wiring.Edges.{actor_at, driven_edge, driver_port, edge_by, edge_from, edge_of_kind, edges_of}
-use Rattle.tdf_dynamic.specs.low.wiring.declared.drivers.SignalRow.{SignalRow}
-use Rattle.tdf_dynamic.specs.low.wiring.declared.edges.EdgeRow.{EdgeRow}
-use Rattle.tdf_dynamic.specs.low.wiring.declared.modules.PortRow.{PortRow}
+use Rattle.tdf_lang_tree.specs.Pure.{PureTree}
+use Rattle.tdf_lang_tree.specs.declared.blocks.PortKind.{PortKind}
+use Rattle.tdf_lang_tree.specs.declared.blocks.PortKind.TheVariants.{In, Out, DeIn, DeOut}
+use Rattle.tdf_bind_connections.specs.Edges.{actor_at, driven_edge, driver_port, edge_by, edge_from, edge_of_kind, edges_of}
+use Rattle.tdf_bind_connections.specs.declared.drivers.SignalRow.{SignalRow}
+use Rattle.tdf_bind_connections.specs.declared.edges.EdgeRow.{EdgeRow}
+use Rattle.tdf_bind_connections.specs.declared.modules.PortRow.{PortRow}
 
 -- a port has as many initial samples as its delay
-samples_long : (tables : FlatOf) (o : Option PortRow) (port : PortRow) → o ≡ Some port → length (initial_samples tables o) ≡ port.delay
+samples_long : (tables : FlatTablesOf) (o : Option PortRow) (port : PortRow) → o ≡ Some port → length (initial_samples tables o) ≡ port.delay
 samples_long tables o port is = ap (λ x. length (initial_samples tables x)) is ∙ length-map-range_with_len (initial_sample tables port) 0 port.delay
 
-module _ (tables : FlatOf) (signals : List SignalRow) where
+module _ (tables : FlatTablesOf) (signals : List SignalRow) where
   -- the samples of an edge are as many as it says
   IsLong : EdgeRow → Type 0
   IsLong edge = length (initial_list tables edge) ≡ edge.initial
@@ -92,7 +93,7 @@ numbered k [] j x at = none_some x at
 numbered k (y ∷ xs) zero x at = let z : k ≡ k + 0 = omega arith in ap (λ n. Some (n, y)) z ∙ ap (option_map (λ q. (k + 0, q))) at
 numbered k (y ∷ xs) (suc j) x at = let n : k + 1 + j ≡ k + suc j = omega arith in numbered (k + 1) xs j x at ∙ ap (λ q. Some (q, x)) n
 
-own_long : (tables : FlatOf) (cluster e : ℕ) (edge : EdgeRow) (own : Bool) → length (initial_list tables edge) ≡ edge.initial
+own_long : (tables : FlatTablesOf) (cluster e : ℕ) (edge : EdgeRow) (own : Bool) → length (initial_list tables edge) ≡ edge.initial
     → length (if own then initial_list tables edge else []) ≡ (if own then edge.initial else 0)
 own_long tables cluster e edge true long = long
 own_long tables cluster e edge false long = refl

@@ -8,24 +8,25 @@ use Rattle.std.proofs.lemmas.Option.{slice_get-map}
 use Rattle.std.specs.Int.{◌∣◌}
 use Rattle.std.specs.List.{sum_by}
 use Rattle.std.specs.Prelude.{All}
-use Rattle.tdf_dynamic.specs.low.bind.Actors.{cluster_of}
-use Rattle.tdf_dynamic.proofs.Api.{assigned_fit, modules_few}
-use Rattle.tdf_dynamic.specs.Assignments.{assignments}
-use Rattle.tdf_dynamic.specs.Rates.{net_of, net_ports, port_rate, rated_port}
-use Rattle.tdf_dynamic.specs.low.flat.declared.model.Flat.{Flat}
-use Rattle.tdf_flow.proofs.Api.{get_inside, none_some, some_same}
-use Rattle.tdf_flow.specs.Streams.{Spot, find, spot}
-use Rattle.tdf_dynamic.specs.low.graph.Ranges.{IsRate}
-use Rattle.tdf_limits.specs.Limits.{AreWithinLimits}
+use Rattle.tdf_bind_tables.specs.Actors.{cluster_of}
+use Rattle.tdf_dynamic_plans.proofs.Api.{assigned_fit, modules_few}
+use Rattle.tdf_dynamic_plans.specs.Assignments.{assignments}
+use Rattle.tdf_dynamic_plans.specs.Rates.{net_of, net_ports, port_rate, rated_port}
+use Rattle.tdf_bind.specs.declared.model.Flat.{Flat}
+use Rattle.tdf_streams.proofs.Lists.{get_inside, some_same}
+use Rattle.tdf_streams.proofs.Steps.{none_some}
+use Rattle.tdf_streams.specs.Streams.{Spot, find, spot}
+use Rattle.tdf_graph.specs.Ranges.{IsRate}
+use Rattle.tdf_bind_invariants.specs.Limits.{AreWithinLimits}
 use Rattle.tdf_streams.proofs.Edges.{are_rates, is_wired}
 use Rattle.tdf_streams.proofs.Rows.{all_at, at_contains}
 use Rattle.tdf_streams.specs.Laws.{IsClusterPort, StepsAreWhole, TimesLieInside, TimesRise}
 use Rattle.tdf_streams.specs.Periods.{IsTimedRecord, PeriodInfo, PeriodRecord, net_in}
 use Rattle.tdf_streams.specs.Signals.{position_time, positions, rate_in, step_in, time_at_spot, time_of}
-use Rattle.tdf_dynamic.specs.low.timestep.Period.{IsAssigned, rate_at, rate_of, share_of}
-use Rattle.tdf_dynamic.specs.low.timestep.declared.assign.Assign.{Assign}
-use Rattle.tdf_dynamic.specs.low.timestep.declared.assign.Spot.{Spot as TimeSpot}
-use Rattle.tdf_dynamic.specs.low.wiring.declared.modules.PortRow.{PortRow}
+use Rattle.tdf_timestep.specs.Period.{IsAssigned, rate_at, rate_of, share_of}
+use Rattle.tdf_timestep.specs.declared.assign.Assign.{Assign}
+use Rattle.tdf_timestep.specs.declared.assign.Spot.{Spot as TimeSpot}
+use Rattle.tdf_bind_connections.specs.declared.modules.PortRow.{PortRow}
 
 both_some : (a b : ℕ) → 0 < a → 0 < b → 0 < a * b
 both_some a b some other = let m : 1 * b ≤ a * b = mul-le-mul_right b (omega (arith, some)) in omega (arith, m, other)

@@ -1,25 +1,24 @@
 -- What the bodies of a module do to its variables, and what it writes.
 -- Source: IEEE 1666.1-2016, the callbacks initialize, processing, change_attributes and
 -- reinitialize of a TDF module.
-use Rattle.std.specs.Prelude.{ℕ, List, [], ◌∷◌, Option, Some, None, ℤ, pos, if◌then◌else◌}
-use Rattle.std.specs.Prelude.{slice_get}
-use Rattle.tdf_dynamic.specs.Attributes.{attrs_at, rates_in}
-use Rattle.tdf_dynamic.specs.low.expr.Blocks.{PureBlock, blocks_of, body_of}
-use Rattle.tdf_dynamic.specs.low.expr.Made.{port_spans_of, event_count, start_cells}
-use Rattle.tdf_dynamic.specs.low.expr.Runs.{scope_in}
-use Rattle.tdf_dynamic.specs.low.expr.declared.bodies.Body.{Body}
-use Rattle.tdf_dynamic.specs.low.expr.declared.bodies.Body.TheVariants as body
-use Rattle.tdf_firing.specs.Activation.{ports_before, sample_at}
-use Rattle.tdf_dynamic.specs.low.fixed.declared.raw.Raw.{Raw}
-use Rattle.tdf_dynamic.specs.low.flat.declared.model.Flat.{Flat}
-use Rattle.tdf_flow.specs.Net.{Turn}
-use Rattle.tdf_dynamic.specs.low.graph.declared.actors.Actor.{Actor}
-use Rattle.tdf_dynamic.specs.low.graph.declared.actors.Actor.TheVariants as actor
-use Rattle.tdf_dynamic.specs.low.meaning.Bodies.{after_body}
-use Rattle.tdf_dynamic.specs.low.state.State.{State, state_of}
+use Rattle.std.specs.Prelude.{ℕ, List, [], ◌∷◌, Option, Some, None, ℤ, pos, if◌then◌else◌, slice_get}
+use Rattle.tdf_dynamic_plans.specs.Attributes.{attrs_at, rates_in}
+use Rattle.tdf_expr.specs.Blocks.{PureBlock, blocks_of, body_of}
+use Rattle.tdf_expr.specs.Made.{port_spans_of, event_count, start_cells}
+use Rattle.tdf_expr.specs.Runs.{scope_in}
+use Rattle.tdf_expr.specs.declared.bodies.Body.{Body}
+use Rattle.tdf_expr.specs.declared.bodies.Body.TheVariants as body
+use Rattle.tdf_exec_firing.specs.Activation.{ports_before, sample_at}
+use Rattle.tdf_fixed.specs.declared.raw.Raw.{Raw}
+use Rattle.tdf_bind.specs.declared.model.Flat.{Flat}
+use Rattle.tdf_streams.specs.Net.{Turn}
+use Rattle.tdf_graph.specs.declared.actors.Actor.{Actor}
+use Rattle.tdf_graph.specs.declared.actors.Actor.TheVariants as actor
+use Rattle.tdf_expr_semantics.specs.Bodies.{after_body}
+use Rattle.tdf_expr_state.specs.State.{State, state_of}
 use Rattle.tdf_streams.specs.Periods.{PeriodInfo, PeriodRecord}
 use Rattle.tdf_streams.specs.Places.{block_at, has_changes, place_of_port, read_through}
-use Rattle.tdf_dynamic.specs.low.tree.Pure.{PureTree}
+use Rattle.tdf_lang_tree.specs.Pure.{PureTree}
 
 -- the state after a body of a block
 abbrev pub after_part : PureTree → Option PureBlock → Body → State → State

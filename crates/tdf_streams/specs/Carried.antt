@@ -1,25 +1,24 @@
 -- Which samples a signal and the edges of its readers have.
 -- Source: own.
-use Rattle.std.specs.Prelude.{ℕ, ◌+◌, ◌*◌, ◌<◌, ◌≡◌, Some, List, ◌∷◌, ◌++◌, All, slice_get}
-use Rattle.std.specs.Prelude.{slice_index, sum_by, ℤ}
-use Rattle.tdf_dynamic.specs.low.bind.Flat.{FlatOf}
-use Rattle.tdf_dynamic.specs.Attributes.{AttrsOf, clusters_of}
-use Rattle.tdf_dynamic.specs.low.fixed.declared.raw.Raw.{Raw}
-use Rattle.tdf_dynamic.specs.low.flat.Flat.{IsFlatOf}
-use Rattle.tdf_dynamic.specs.low.flat.declared.model.Flat.{Flat}
-use Rattle.tdf_flow.specs.Net.{Past, Turn, count}
-use Rattle.tdf_flow.specs.Streams.{place}
-use Rattle.tdf_limits.specs.Limits.{AreWithinLimits}
+use Rattle.std.specs.Prelude.{ℕ, ◌+◌, ◌*◌, ◌<◌, ◌≡◌, Some, List, ◌∷◌, ◌++◌, All, slice_get, slice_index, sum_by, ℤ}
+use Rattle.tdf_bind_tables.specs.FlatTables.{FlatTablesOf}
+use Rattle.tdf_dynamic_plans.specs.Attributes.{AttrsOf, clusters_of}
+use Rattle.tdf_fixed.specs.declared.raw.Raw.{Raw}
+use Rattle.tdf_bind.specs.Flat.{IsFlatOf}
+use Rattle.tdf_bind.specs.declared.model.Flat.{Flat}
+use Rattle.tdf_streams.specs.Net.{Past, Turn, count}
+use Rattle.tdf_streams.specs.Streams.{place}
+use Rattle.tdf_bind_invariants.specs.Limits.{AreWithinLimits}
 use Rattle.tdf_streams.specs.Cluster.{cluster_net, initial_sample, text_start}
 use Rattle.tdf_streams.specs.Periods.{IsTimedRecord, PeriodRecord}
 use Rattle.tdf_streams.specs.Signals.{outputs_in, rate_in, signal_sample}
-use Rattle.tdf_dynamic.specs.low.tree.Pure.{PureTree}
-use Rattle.tdf_dynamic.specs.low.wiring.declared.edges.EdgeRow.{EdgeRow}
-use Rattle.tdf_dynamic.specs.low.wiring.declared.modules.PortRow.{PortRow}
+use Rattle.tdf_lang_tree.specs.Pure.{PureTree}
+use Rattle.tdf_bind_connections.specs.declared.edges.EdgeRow.{EdgeRow}
+use Rattle.tdf_bind_connections.specs.declared.modules.PortRow.{PortRow}
 
 -- output k of activation a of a period is, by what was put before it, a sample of the signal
 abbrev pub OutputsAreSamples : Type 0
-OutputsAreSamples = (tables : FlatOf) (old : List PeriodRecord) (p : PeriodRecord)
+OutputsAreSamples = (tables : FlatTablesOf) (old : List PeriodRecord) (p : PeriodRecord)
     → (later : List PeriodRecord) (port : PortRow) (number a k : ℕ) (past : Past (List ℤ) Raw)
     → (t : Turn (List ℤ) Raw) → a < count port.«module» p → k < rate_in port p
     → past port.«module» (sum_by (count port.«module») old + a) ≡ Some t
@@ -28,7 +27,7 @@ OutputsAreSamples = (tables : FlatOf) (old : List PeriodRecord) (p : PeriodRecor
     ≡ Some (t.outputs number k)
 
 -- an edge from a port to the port that reads its signal
-pub record IsDriven (tables : FlatOf) (edge : EdgeRow) (out : ℕ) (port driver : PortRow)
+pub record IsDriven (tables : FlatTablesOf) (edge : EdgeRow) (out : ℕ) (port driver : PortRow)
     : Type 0 where
   pub reader : slice_get tables.ports edge.port ≡ Some port
   pub driven : edge.driver ≡ Some out

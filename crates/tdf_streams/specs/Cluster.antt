@@ -1,26 +1,24 @@
 -- A cluster of a flat model as a net of streams, and how it starts.
 -- Source: own; initial samples after IEEE 1666.1-2016, delays of TDF ports.
-use Rattle.std.specs.Prelude.{ℕ, Bool, true, false, not, ◌||◌, List, [], ◌∷◌, ◌++◌, length, map}
-use Rattle.std.specs.Prelude.{Option, Some, None, ℤ, pos, nat_eq, if◌then◌else◌}
-use Rattle.std.specs.Prelude.{slice_get, slice_index, slice_index_or}
+use Rattle.std.specs.Prelude.{ℕ, Bool, true, false, not, ◌||◌, List, [], ◌∷◌, ◌++◌, length, map, Option, Some, None, ℤ, pos, nat_eq, if◌then◌else◌, slice_get, slice_index, slice_index_or}
 use Rattle.std.specs.List.{enumerate_from, range_with_len}
-use Rattle.tdf_dynamic.specs.low.bind.Flat.{FlatOf}
-use Rattle.tdf_dynamic.specs.Attributes.{AttrsOf, attrs_at, clusters_of, rates_in}
-use Rattle.tdf_dynamic.specs.low.fixed.Cast.{fraction_of}
-use Rattle.tdf_dynamic.specs.low.fixed.declared.raw.Raw.{Raw}
-use Rattle.tdf_dynamic.specs.low.flat.declared.model.Flat.{Flat}
-use Rattle.tdf_flow.specs.Net.{Net}
-use Rattle.tdf_dynamic.specs.low.graph.declared.actors.Actor.{Actor}
-use Rattle.tdf_dynamic.specs.low.graph.declared.actors.Actor.TheVariants as actor
+use Rattle.tdf_bind_tables.specs.FlatTables.{FlatTablesOf}
+use Rattle.tdf_dynamic_plans.specs.Attributes.{AttrsOf, attrs_at, clusters_of, rates_in}
+use Rattle.tdf_fixed.specs.Cast.{fraction_of}
+use Rattle.tdf_fixed.specs.declared.raw.Raw.{Raw}
+use Rattle.tdf_bind.specs.declared.model.Flat.{Flat}
+use Rattle.tdf_streams.specs.Net.{Net}
+use Rattle.tdf_graph.specs.declared.actors.Actor.{Actor}
+use Rattle.tdf_graph.specs.declared.actors.Actor.TheVariants as actor
 use Rattle.tdf_streams.specs.Bodies.{acted, changed, initialized, reinitialized}
 use Rattle.tdf_streams.specs.Periods.{PeriodInfo}
 use Rattle.tdf_streams.specs.Places.{actor_kind, is_own, reader_at, source_at, writer_at}
-use Rattle.tdf_dynamic.specs.low.tree.Pure.{PureTree}
-use Rattle.tdf_dynamic.specs.low.tree.declared.blocks.PortKind.{PortKind}
-use Rattle.tdf_dynamic.specs.low.tree.declared.blocks.PortKind.TheVariants.{In, Out, DeIn, DeOut}
-use Rattle.tdf_dynamic.specs.low.wiring.declared.drivers.SignalRow.{SignalRow}
-use Rattle.tdf_dynamic.specs.low.wiring.declared.edges.EdgeRow.{EdgeRow}
-use Rattle.tdf_dynamic.specs.low.wiring.declared.modules.PortRow.{PortRow}
+use Rattle.tdf_lang_tree.specs.Pure.{PureTree}
+use Rattle.tdf_lang_tree.specs.declared.blocks.PortKind.{PortKind}
+use Rattle.tdf_lang_tree.specs.declared.blocks.PortKind.TheVariants.{In, Out, DeIn, DeOut}
+use Rattle.tdf_bind_connections.specs.declared.drivers.SignalRow.{SignalRow}
+use Rattle.tdf_bind_connections.specs.declared.edges.EdgeRow.{EdgeRow}
+use Rattle.tdf_bind_connections.specs.declared.modules.PortRow.{PortRow}
 
 -- what a cluster starts from: the samples that each edge holds, none for edges of other clusters,
 -- and what the variables of each module hold
@@ -34,7 +32,7 @@ is_sampler_kind _ = false
 
 -- a sampler's values come from outside; and an actor of another cluster counts as one, so that
 -- nothing is said of it
-abbrev pub is_outside : FlatOf → (cluster : ℕ) → ℕ → Bool
+abbrev pub is_outside : FlatTablesOf → (cluster : ℕ) → ℕ → Bool
 is_outside tables cluster m = is_sampler_kind (actor_kind tables m)
     || not (nat_eq (slice_index (clusters_of tables) m) cluster)
 
@@ -62,14 +60,14 @@ abbrev pub fraction_of_row : Option SignalRow → ℕ
 fraction_of_row None = 0
 fraction_of_row (Some signal) = fraction_of signal.format
 
-abbrev pub fraction_of_kind : FlatOf → PortKind → ℕ → ℕ
+abbrev pub fraction_of_kind : FlatTablesOf → PortKind → ℕ → ℕ
 fraction_of_kind tables In signal = fraction_of_row (slice_get tables.signals signal)
 fraction_of_kind tables Out signal = fraction_of_row (slice_get tables.signals signal)
 fraction_of_kind tables DeIn signal = fraction_of_row (slice_get tables.de_signals signal)
 fraction_of_kind tables DeOut signal = fraction_of_row (slice_get tables.de_signals signal)
 
 -- a sample 0 of the format of a port's signal
-abbrev pub zero_of : FlatOf → PortRow → Raw
+abbrev pub zero_of : FlatTablesOf → PortRow → Raw
 zero_of tables port =
     record { num = pos 0; frac = fraction_of_kind tables port.kind port.signal }
 
@@ -79,26 +77,26 @@ given_at zero k [] = zero
 given_at zero k (given ∷ rest) =
     given_at (if nat_eq given.0 k then given.1 else zero) k rest
 
-abbrev pub initial_sample : FlatOf → PortRow → ℕ → Raw
+abbrev pub initial_sample : FlatTablesOf → PortRow → ℕ → Raw
 initial_sample tables port k = given_at (zero_of tables port) k port.initials
 
 -- those of a port, as many as its delay
-abbrev pub initial_samples : FlatOf → Option PortRow → List Raw
+abbrev pub initial_samples : FlatTablesOf → Option PortRow → List Raw
 initial_samples tables None = []
 initial_samples tables (Some port) =
     map (initial_sample tables port) (range_with_len 0 port.delay)
 
-abbrev pub driver_samples : FlatOf → Option ℕ → List Raw
+abbrev pub driver_samples : FlatTablesOf → Option ℕ → List Raw
 driver_samples tables None = []
 driver_samples tables (Some driver) = initial_samples tables (slice_get tables.ports driver)
 
 -- the samples that an edge holds at first: the initial ones of the port that gives it, then those
 -- of the port that drives it
-abbrev pub initial_list : FlatOf → EdgeRow → List Raw
+abbrev pub initial_list : FlatTablesOf → EdgeRow → List Raw
 initial_list tables edge =
     initial_samples tables (slice_get tables.ports edge.port) ++ driver_samples tables edge.driver
 
-abbrev pub list_if_own : FlatOf → (cluster : ℕ) → ℕ → EdgeRow → List Raw
+abbrev pub list_if_own : FlatTablesOf → (cluster : ℕ) → ℕ → EdgeRow → List Raw
 list_if_own tables cluster e edge =
     if is_own tables cluster e then initial_list tables edge else []
 

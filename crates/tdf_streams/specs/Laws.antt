@@ -1,33 +1,31 @@
 -- What holds of the streams of a cluster.
 -- Source: own.
-use Rattle.std.specs.Prelude.{ℕ, Bool, ◌+◌, ◌*◌, ◌<◌, ◌≤◌, ◌≡◌, ◌⊎◌, true, Some, List, [], ◌∷◌, ◌++◌}
-use Rattle.std.specs.Prelude.{All, length, slice_get, slice_index, slice_index_or, sum_by, ℤ}
-use Rattle.tdf_dynamic.specs.Attributes.{AttrsOf, clusters_of}
-use Rattle.tdf_dynamic.specs.Faults.{HasStepsOf, IsTablePlan, pace_in}
-use Rattle.tdf_dynamic.specs.First.{IsFirstPlan}
-use Rattle.tdf_dynamic.specs.Rates.{net_of}
-use Rattle.tdf_dynamic.specs.declared.first.First.{First}
-use Rattle.tdf_dynamic.specs.low.fixed.declared.raw.Raw.{Raw}
-use Rattle.tdf_dynamic.specs.low.flat.Flat.{IsFlatOf}
-use Rattle.tdf_dynamic.specs.low.flat.declared.model.Flat.{Flat}
-use Rattle.tdf_flow.specs.Fed.{IsFed}
-use Rattle.tdf_flow.specs.Firing.{Flows, IsNextTurn, IsPresent}
-use Rattle.tdf_flow.specs.Grounds.{AreGiven, firings}
-use Rattle.tdf_flow.specs.Net.{Net, Run, Turn, count}
-use Rattle.tdf_flow.specs.Playing.{HasStates, IsPlayed, IsSame, StopsShort, turns_in}
-use Rattle.tdf_flow.specs.Stands.{Less, Longer, Play, Stands, run_of}
-use Rattle.tdf_flow.specs.Streams.{Spot, find, known}
-use Rattle.tdf_limits.specs.Limits.{AreWithinLimits}
-use Rattle.tdf_dynamic.specs.low.schedule.Plan.{HasPlan}
-use Rattle.tdf_dynamic.specs.low.schedule.declared.entry.Plan.{Plan}
+use Rattle.std.specs.Prelude.{ℕ, Bool, ◌+◌, ◌*◌, ◌<◌, ◌≤◌, ◌≡◌, ◌⊎◌, true, Some, List, [], ◌∷◌, ◌++◌, All, length, slice_get, slice_index, slice_index_or, sum_by, ℤ}
+use Rattle.tdf_dynamic_plans.specs.Attributes.{AttrsOf, clusters_of}
+use Rattle.tdf_dynamic_plans.specs.Faults.{HasStepsOf, IsTablePlan, pace_in}
+use Rattle.tdf_dynamic_first.specs.First.{IsFirstPlan}
+use Rattle.tdf_dynamic_plans.specs.Rates.{net_of}
+use Rattle.tdf_dynamic_first.specs.declared.first.First.{First}
+use Rattle.tdf_fixed.specs.declared.raw.Raw.{Raw}
+use Rattle.tdf_bind.specs.Flat.{IsFlatOf}
+use Rattle.tdf_bind.specs.declared.model.Flat.{Flat}
+use Rattle.tdf_streams.specs.Fed.{IsFed}
+use Rattle.tdf_streams.specs.Firing.{Flows, IsNextTurn, IsPresent}
+use Rattle.tdf_streams.specs.Grounds.{AreGiven, firings}
+use Rattle.tdf_streams.specs.Net.{Net, Run, Turn, count}
+use Rattle.tdf_streams.specs.Playing.{HasStates, IsPlayed, IsSame, StopsShort, turns_in}
+use Rattle.tdf_streams.specs.Stands.{Less, Longer, Play, Stands, run_of}
+use Rattle.tdf_streams.specs.Streams.{Spot, find, known}
+use Rattle.tdf_bind_invariants.specs.Limits.{AreWithinLimits}
+use Rattle.tdf_schedule.specs.Plan.{HasPlan}
+use Rattle.tdf_schedule.specs.declared.entry.Plan.{Plan}
 use Rattle.tdf_streams.specs.Cluster.{Start, cluster_net, text_start}
-use Rattle.tdf_streams.specs.Periods.{AreAttributes, AreGrounded, IsTimedRecord, IsWholeRecord}
-use Rattle.tdf_streams.specs.Periods.{PeriodInfo, PeriodRecord, period_record}
+use Rattle.tdf_streams.specs.Periods.{AreAttributes, AreGrounded, IsTimedRecord, IsWholeRecord, PeriodInfo, PeriodRecord, period_record}
 use Rattle.tdf_streams.specs.Signals.{position_time, positions, step_in, time_at_spot, time_of}
 use Rattle.tdf_streams.specs.Starts.{ArePast, AreRecords, HasLists, held_at_head}
-use Rattle.tdf_dynamic.specs.low.timestep.declared.assign.Steps.{Steps}
-use Rattle.tdf_dynamic.specs.low.tree.Pure.{PureTree}
-use Rattle.tdf_dynamic.specs.low.wiring.declared.modules.PortRow.{PortRow}
+use Rattle.tdf_timestep.specs.declared.assign.Steps.{Steps}
+use Rattle.tdf_lang_tree.specs.Pure.{PureTree}
+use Rattle.tdf_bind_connections.specs.declared.modules.PortRow.{PortRow}
 
 -- the net of a cluster, one of its runs, and a cluster in progress, at their types
 abbrev pub ClusterNet : Type 0

@@ -1,19 +1,18 @@
 -- The periods of a cluster: what each of them records.
 -- Source: own; counts after Lee and Messerschmitt 1987, timesteps after IEEE 1666.1-2016.
-use Rattle.std.specs.Prelude.{◌≡◌, ◌<◌, ◌≤◌, ◌-◌, ℕ, Bool, List, length, map, slice_get}
-use Rattle.std.specs.Prelude.{slice_index, All}
-use Rattle.tdf_dynamic.specs.low.bind.Flat.{FlatOf}
-use Rattle.tdf_dynamic.specs.Assignments.{assignments}
-use Rattle.tdf_dynamic.specs.Attributes.{AttrsOf, IsOfCluster, clusters_of}
-use Rattle.tdf_dynamic.specs.Rates.{NetOf, net_of}
-use Rattle.tdf_dynamic.specs.low.flat.declared.model.Flat.{Flat}
-use Rattle.tdf_flow.specs.Net.{Period}
-use Rattle.tdf_dynamic.specs.low.graph.Counts.{AreCounts}
-use Rattle.tdf_dynamic.specs.low.graph.declared.actors.Edge.{Edge}
-use Rattle.tdf_limits.specs.Limits.{limits_in}
-use Rattle.tdf_dynamic.specs.low.meaning.Fits.{RatesFit}
-use Rattle.tdf_dynamic.specs.low.schedule.Needs.{IsGrounded}
-use Rattle.tdf_dynamic.specs.low.timestep.Period.{IsPeriod}
+use Rattle.std.specs.Prelude.{◌≡◌, ◌<◌, ◌≤◌, ◌-◌, ℕ, Bool, List, length, map, slice_get, slice_index, All}
+use Rattle.tdf_bind_tables.specs.FlatTables.{FlatTablesOf}
+use Rattle.tdf_dynamic_plans.specs.Assignments.{assignments}
+use Rattle.tdf_dynamic_plans.specs.Attributes.{AttrsOf, IsOfCluster, clusters_of}
+use Rattle.tdf_dynamic_plans.specs.Rates.{NetOf, net_of}
+use Rattle.tdf_bind.specs.declared.model.Flat.{Flat}
+use Rattle.tdf_streams.specs.Net.{Period}
+use Rattle.tdf_graph.specs.Counts.{AreCounts}
+use Rattle.tdf_graph.specs.declared.actors.Edge.{Edge}
+use Rattle.tdf_bind_invariants.specs.Limits.{limits_in}
+use Rattle.tdf_expr_semantics.specs.Fits.{RatesFit}
+use Rattle.tdf_schedule.specs.Needs.{IsGrounded}
+use Rattle.tdf_timestep.specs.Period.{IsPeriod}
 
 -- beside the counts of what is done in it and the rates: the attributes in force, the counts of the
 -- whole period, its time, in counts of the model's resolution, and whether its plan is a new one
@@ -27,7 +26,7 @@ abbrev pub PeriodRecord : Type 0
 PeriodRecord = Period PeriodInfo
 
 -- the net of the model in a period
-abbrev pub net_in : FlatOf → PeriodRecord → NetOf
+abbrev pub net_in : FlatTablesOf → PeriodRecord → NetOf
 net_in tables p = net_of tables p.info.table
 
 -- the rates of the edges of a net
@@ -38,7 +37,7 @@ abbrev pub read_rates : NetOf → List ℕ
 read_rates net = map (λ (e : Edge). e.read_rate) net.edges
 
 -- the whole period with these attributes and counts
-abbrev pub period_record : FlatOf → List AttrsOf → (counts : List ℕ) → (period : ℕ) → Bool
+abbrev pub period_record : FlatTablesOf → List AttrsOf → (counts : List ℕ) → (period : ℕ) → Bool
     → PeriodRecord
 period_record tables table counts period is_new = record {
   counts = counts;

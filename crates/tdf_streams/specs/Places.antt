@@ -1,16 +1,15 @@
 -- Where things are in the tables of a flat model: the block of a module, the place of a port in its
 -- block, the actors at an edge's ends, and the port whose samples it carries.
 -- Source: own.
-use Rattle.std.specs.Prelude.{◌&&◌, ℕ, Bool, false, List, [], ◌∷◌, length, take, Option, Some, None}
-use Rattle.std.specs.Prelude.{filter, nat_eq, if◌then◌else◌, slice_get, slice_index}
-use Rattle.tdf_dynamic.specs.low.bind.Flat.{FlatOf}
-use Rattle.tdf_dynamic.specs.Attributes.{clusters_of}
-use Rattle.tdf_dynamic.specs.low.fixed.declared.raw.Raw.{Raw}
-use Rattle.tdf_dynamic.specs.low.graph.declared.actors.Actor.{Actor}
-use Rattle.tdf_dynamic.specs.low.bind.declared.actors.ActorRow.{ActorRow}
-use Rattle.tdf_dynamic.specs.low.wiring.declared.edges.EdgeRow.{EdgeRow}
-use Rattle.tdf_dynamic.specs.low.wiring.declared.modules.ModuleRow.{ModuleRow}
-use Rattle.tdf_dynamic.specs.low.wiring.declared.modules.PortRow.{PortRow}
+use Rattle.std.specs.Prelude.{◌&&◌, ℕ, Bool, false, List, [], ◌∷◌, length, take, Option, Some, None, filter, nat_eq, if◌then◌else◌, slice_get, slice_index}
+use Rattle.tdf_bind_tables.specs.FlatTables.{FlatTablesOf}
+use Rattle.tdf_dynamic_plans.specs.Attributes.{clusters_of}
+use Rattle.tdf_fixed.specs.declared.raw.Raw.{Raw}
+use Rattle.tdf_graph.specs.declared.actors.Actor.{Actor}
+use Rattle.tdf_bind_tables.specs.declared.actors.ActorRow.{ActorRow}
+use Rattle.tdf_bind_connections.specs.declared.edges.EdgeRow.{EdgeRow}
+use Rattle.tdf_bind_connections.specs.declared.modules.ModuleRow.{ModuleRow}
+use Rattle.tdf_bind_connections.specs.declared.modules.PortRow.{PortRow}
 
 -- the number of a module's block
 abbrev pub block_of_row : Option ModuleRow → ℕ
@@ -32,7 +31,7 @@ abbrev pub kind_of_row : Option ActorRow → Option Actor
 kind_of_row None = None
 kind_of_row (Some row) = Some row.kind
 
-abbrev pub actor_kind : FlatOf → ℕ → Option Actor
+abbrev pub actor_kind : FlatTablesOf → ℕ → Option Actor
 actor_kind tables m = kind_of_row (slice_get tables.actors m)
 
 -- the module of a port, and the place of the port in its block: how many ports of that module come
@@ -76,7 +75,7 @@ abbrev pub source_at : List EdgeRow → ℕ → ℕ
 source_at edges e = source_of_row (slice_get edges e)
 
 -- an edge of the cluster: its writer is in it
-abbrev pub is_own : FlatOf → (cluster : ℕ) → ℕ → Bool
+abbrev pub is_own : FlatTablesOf → (cluster : ℕ) → ℕ → Bool
 is_own tables cluster e =
     nat_eq (slice_index (clusters_of tables) (writer_at tables.edges e)) cluster
 

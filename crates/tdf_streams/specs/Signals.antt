@@ -1,17 +1,16 @@
 -- The samples of a signal: their positions, their times, and their values.
 -- Source: IEEE 1666.1-2016, timing of TDF samples and delays of ports.
-use Rattle.std.specs.Prelude.{ℕ, ◌+◌, ◌-◌, ◌*◌, ◌/◌, ◌%◌, List, [], Option, Some, option_map}
-use Rattle.std.specs.Prelude.{nat_lt, if◌then◌else◌, ℤ, slice_index}
+use Rattle.std.specs.Prelude.{ℕ, ◌+◌, ◌-◌, ◌*◌, ◌/◌, ◌%◌, List, [], Option, Some, option_map, nat_lt, if◌then◌else◌, ℤ, slice_index}
 use Rattle.std.specs.List.{sum_by}
 use Rattle.std.specs.Option.{option_and_then}
-use Rattle.tdf_dynamic.specs.low.bind.Flat.{FlatOf}
-use Rattle.tdf_dynamic.specs.Rates.{port_rate}
-use Rattle.tdf_dynamic.specs.low.fixed.declared.raw.Raw.{Raw}
-use Rattle.tdf_flow.specs.Net.{Past, Turn}
-use Rattle.tdf_flow.specs.Streams.{Spot, find}
+use Rattle.tdf_bind_tables.specs.FlatTables.{FlatTablesOf}
+use Rattle.tdf_dynamic_plans.specs.Rates.{port_rate}
+use Rattle.tdf_fixed.specs.declared.raw.Raw.{Raw}
+use Rattle.tdf_streams.specs.Net.{Past, Turn}
+use Rattle.tdf_streams.specs.Streams.{Spot, find}
 use Rattle.tdf_streams.specs.Cluster.{initial_sample}
 use Rattle.tdf_streams.specs.Periods.{PeriodInfo, PeriodRecord}
-use Rattle.tdf_dynamic.specs.low.wiring.declared.modules.PortRow.{PortRow}
+use Rattle.tdf_bind_connections.specs.declared.modules.PortRow.{PortRow}
 
 -- samples of a port in one activation, in a period
 abbrev pub rate_in : PortRow → PeriodRecord → ℕ
@@ -57,7 +56,7 @@ port_output periods port number past j =
 
 -- the sample at position j of the signal that a port drives, from the text's start on: first its
 -- initial samples
-abbrev pub signal_sample : FlatOf → List PeriodRecord → PortRow → (number : ℕ)
+abbrev pub signal_sample : FlatTablesOf → List PeriodRecord → PortRow → (number : ℕ)
     → Past (List ℤ) Raw → ℕ → Option Raw
 signal_sample tables periods port number past j = if nat_lt j port.delay
     then Some (initial_sample tables port j)

@@ -1,13 +1,12 @@
 -- Periods from a start on: what the lists of a start hold, and which periods follow.
 -- Source: own.
-use Rattle.std.specs.Prelude.{◌≡◌, ◌<◌, ◌+◌, ◌*◌, ℕ, List, [], ◌∷◌, Option, Some, None, length}
-use Rattle.std.specs.Prelude.{if◌then◌else◌, slice_get, slice_index, slice_index_or, All}
-use Rattle.tdf_dynamic.specs.low.bind.Flat.{FlatOf}
-use Rattle.tdf_dynamic.specs.low.flat.declared.model.Flat.{Flat}
+use Rattle.std.specs.Prelude.{◌≡◌, ◌<◌, ◌+◌, ◌*◌, ℕ, List, [], ◌∷◌, Option, Some, None, length, if◌then◌else◌, slice_get, slice_index, slice_index_or, All}
+use Rattle.tdf_bind_tables.specs.FlatTables.{FlatTablesOf}
+use Rattle.tdf_bind.specs.declared.model.Flat.{Flat}
 use Rattle.tdf_streams.specs.Cluster.{Start}
 use Rattle.tdf_streams.specs.Periods.{PeriodRecord, IsPeriodRecord, IsWholeRecord, done_before}
 use Rattle.tdf_streams.specs.Places.{is_own, reader_at, writer_at}
-use Rattle.tdf_dynamic.specs.low.wiring.declared.edges.EdgeRow.{EdgeRow}
+use Rattle.tdf_bind_connections.specs.declared.edges.EdgeRow.{EdgeRow}
 
 -- the samples that an edge of the cluster holds at the head of each whole period; of edges of other
 -- clusters nothing is held
@@ -15,7 +14,7 @@ abbrev pub initial_of_row : Option EdgeRow → ℕ
 initial_of_row None = 0
 initial_of_row (Some edge) = edge.initial
 
-abbrev pub held_at_head : FlatOf → (cluster : ℕ) → ℕ → ℕ
+abbrev pub held_at_head : FlatTablesOf → (cluster : ℕ) → ℕ → ℕ
 held_at_head tables cluster e =
     if is_own tables cluster e then initial_of_row (slice_get tables.edges e) else 0
 

@@ -1,12 +1,9 @@
 //! What holds of the streams of a cluster: each function here only carries its clauses.
 
-ghost use Rattle.tdf_streams.specs.Carried.{EdgesBeginAsRead, EdgesCarrySignals};
-ghost use Rattle.tdf_streams.specs.Carried.{OutputsAreSamples};
-ghost use Rattle.tdf_streams.specs.Laws.{AllAreKnown, AnyOrder, EndsWhole, FedAreKnown};
-ghost use Rattle.tdf_streams.specs.Laws.{FiringIsKnown, FirstPlanIsRecord, MoreKeeps, OrderPlays};
-ghost use Rattle.tdf_streams.specs.Laws.{OrderStands, PlayedAreGrounded, StepsAreWhole};
-ghost use Rattle.tdf_streams.specs.Laws.{TablePlanIsRecord, TextHasLists, TextHoldsDelays};
-ghost use Rattle.tdf_streams.specs.Laws.{TimesLieInside, TimesRise, UngroundedStops};
+ghost use Rattle.tdf_streams.specs.Carried.{EdgesBeginAsRead, EdgesCarrySignals, OutputsAreSamples};
+ghost use Rattle.tdf_streams.specs.Laws.{AllAreKnown, AnyOrder, EndsWhole, FedAreKnown, FiringIsKnown, FirstPlanIsRecord, MoreKeeps, OrderPlays, OrderStands, PlayedAreGrounded, StepsAreWhole, TablePlanIsRecord, TextHasLists, TextHoldsDelays, TimesLieInside, TimesRise, UngroundedStops};
+ghost use Rattle.tdf_streams.specs.StandingLaws.{ChangeCrosses, FiringKeeps, HeadsWhole, InstallStands, ReadsKeep, StartStands};
+ghost use Rattle.tdf_streams.specs.Worked.{IsWorked};
 
 /// From a start on, through periods with counts and a time of their own and with rates within their
 /// limits, in which each firing is grounded, each activation has a value where the samplers that it
@@ -28,6 +25,18 @@ pub fn law_any_order()
     ensures grounded { PlayedAreGrounded }
     ensures plays { OrderPlays }
     ensures stops { UngroundedStops }
+{}
+
+/// A cluster at its start stands; further values of samplers, each firing whose samples are present, the change bodies
+/// at the end of a period and the installing of the next lead from what stands to what stands. At the head of each
+/// whole period every edge holds as many samples as the delays of its ports say.
+pub fn law_standing()
+    ensures starts { StartStands }
+    ensures reads { ReadsKeep }
+    ensures fires { FiringKeeps }
+    ensures crosses { ChangeCrosses }
+    ensures installs { InstallStands }
+    ensures heads { HeadsWhole }
 {}
 
 /// At the start as the text says it each edge holds as many samples as the delays of its ports say.
@@ -55,4 +64,9 @@ pub fn law_time()
 pub fn law_plan_record()
     ensures table { TablePlanIsRecord }
     ensures first { FirstPlanIsRecord }
+{}
+
+/// The samples and states of a small cluster, as they come out by hand.
+pub fn law_worked()
+    ensures { IsWorked }
 {}

@@ -7,10 +7,9 @@
 //! - `instances`: bodies that are parsed, checked, compiled and run.
 
 use std::alloc::Global;
-use tdf_base::{Code, Memory};
-use tdf_blocks::parse;
-use tdf_faults::TypeErr;
-use tdf_tree::Tree;
+use tdf_base::{Code, Memory, TypeErr};
+use tdf_lang_parser::parse;
+use tdf_lang_tree::Tree;
 
 mod acts;
 mod instances;

@@ -6,8 +6,8 @@
 
 use std::alloc::Global;
 use tdf_base::Memory;
-use tdf_blocks::parse;
-use tdf_tree::Tree;
+use tdf_lang_parser::parse;
+use tdf_lang_tree::Tree;
 
 mod blocks;
 mod counts;

@@ -1,7 +1,6 @@
 -- Modules and their ports in order: by actor, the module itself before its ports.
 -- Source: own.
-use Rattle.std.specs.Prelude.{ℕ, ◌≡◌, ◌<◌, ◌+◌, Bool, true, false, ◌&&◌, ◌||◌, nat_lt, nat_eq}
-use Rattle.std.specs.Prelude.{List, Option, Some, None, slice_get}
+use Rattle.std.specs.Prelude.{ℕ, ◌≡◌, ◌<◌, ◌+◌, Bool, true, false, ◌&&◌, ◌||◌, nat_lt, nat_eq, List, Option, Some, None, slice_get}
 use Rattle.tdf_timestep.specs.declared.assign.Assign.{Assign}
 use Rattle.tdf_timestep.specs.declared.assign.Spot.{Spot}
 

@@ -1,7 +1,6 @@
 -- The period of a cluster, by the timesteps that are assigned to its modules and ports.
 -- Source: IEEE 1666.1-2016, assignment and propagation of TDF timesteps; the faults are own.
-use Rattle.std.specs.Prelude.{ℕ, ◌≡◌, ◌≢◌, ◌<◌, ◌≤◌, ◌*◌, false, List, Option, Some, None}
-use Rattle.std.specs.Prelude.{length, slice_get, slice_index, Contains}
+use Rattle.std.specs.Prelude.{ℕ, ◌≡◌, ◌≢◌, ◌<◌, ◌≤◌, ◌*◌, false, List, Option, Some, None, length, slice_get, slice_index, Contains}
 use Rattle.std.specs.Int.{◌∣◌}
 use Rattle.tdf_base.specs.Limits.{time_end}
 use Rattle.tdf_graph.specs.declared.actors.Port.{Port}

@@ -1,8 +1,8 @@
 -- Cells that are alike, one by one.
 use Rattle.std.proofs.Common.{◌≡◌, ℕ, suc, ◌<◌, length, slice_get, Some, ◌∙◌, arith}
-use Rattle.tdf_rows.specs.Laws.{Agree}
-use Rattle.tdf_rows.proofs.Api.{last_same}
-use Rattle.tdf_rows.specs.Rows.{Cells}
+use Rattle.tdf_trace_rows.specs.Laws.{Agree}
+use Rattle.tdf_trace_rows.proofs.Api.{last_same}
+use Rattle.tdf_trace_rows.specs.Rows.{Cells}
 use Rattle.tdf_trace.proofs.Places.{get_less}
 use Rattle.tdf_trace.specs.Columns.{ColumnSeen}
 use Rattle.tdf_trace.specs.Stands.{RowsSeen, Stands}

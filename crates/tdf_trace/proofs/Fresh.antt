@@ -1,8 +1,8 @@
 -- Columns without cells.
 use Rattle.std.proofs.Common.{◌≡◌, ℕ, zero, suc, List, [], ◌∷◌, map, slice_get, Some, refl, ap, sym, ◌∙◌, subst, arith}
 use Rattle.std.proofs.lemmas.List.{length-map, map_more}
-use Rattle.tdf_rows.specs.Noted.{noted}
-use Rattle.tdf_rows.specs.Rows.{last}
+use Rattle.tdf_trace_rows.specs.Noted.{noted}
+use Rattle.tdf_trace_rows.specs.Rows.{last}
 use Rattle.tdf_trace.specs.Columns.{ColumnSeen, HasFewPlaces, held_at}
 use Rattle.tdf_trace.specs.Stands.{Stands, no_cells}
 use Rattle.tdf_trace.specs.Writings.{first_of}

@@ -6,8 +6,8 @@ use Rattle.std.specs.Io.KnownBytes.{Appends}
 use Rattle.tdf_fixed.specs.declared.raw.Raw.{Raw}
 use Rattle.tdf_io.proofs.Api.{front_more, front_then}
 use Rattle.tdf_io.specs.Bytes.{AppendsFront}
-use Rattle.tdf_rows.proofs.Api.{has_some, last_kept, last_more, or_true, or_true_right, quiet_text, quiet_time, row_here, shown_is, text_one, text_split}
-use Rattle.tdf_rows.specs.Rows.{Cells, is_row, last, shown, text_from}
+use Rattle.tdf_trace_rows.proofs.Api.{has_some, last_kept, last_more, or_true, or_true_right, quiet_text, quiet_time, row_here, shown_is, text_one, text_split}
+use Rattle.tdf_trace_rows.specs.Rows.{Cells, is_row, last, shown, text_from}
 use Rattle.tdf_trace.proofs.Places.{get_less, get_some}
 use Rattle.tdf_trace.proofs.Turns.{HasRow, Next, held_low, turned_held, turned_shown, turned_was, waits_for, waits_not}
 use Rattle.tdf_trace.specs.Columns.{ColumnSeen, before_row, held_at}

@@ -3,10 +3,10 @@ use Rattle.std.proofs.Common.{◌≡◌, ◌≢◌, ℕ, zero, suc, ◌+◌, ◌
 use Rattle.std.specs.List.{insert}
 use Rattle.std.proofs.lemmas.Bool.{lt-ltb, le-ltb, cases_eq, cases_lt, eq-eqb, ne_eqb, eqb-true, eqb-false, true≢false}
 use Rattle.std.proofs.lemmas.Option.{slice_get_within}
-use Rattle.tdf_rows.proofs.Api.{last_with_cell}
-use Rattle.tdf_rows.specs.Noted.{with_cell}
-use Rattle.tdf_rows.specs.Rows.{Cells}
-use Rattle.tdf_rows.specs.declared.cell.Cell.{Cell}
+use Rattle.tdf_trace_rows.proofs.Api.{last_with_cell}
+use Rattle.tdf_trace_rows.specs.Noted.{with_cell}
+use Rattle.tdf_trace_rows.specs.Rows.{Cells}
+use Rattle.tdf_trace_rows.specs.declared.cell.Cell.{Cell}
 use Rattle.tdf_trace.proofs.Places.{get_some}
 use Rattle.tdf_trace.specs.Columns.{ColumnSeen, HasFewPlaces, held_at}
 use Rattle.tdf_trace.specs.Stands.{Stands}

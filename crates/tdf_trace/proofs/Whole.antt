@@ -5,8 +5,8 @@ use Rattle.tdf_io.proofs.Api.{front_more, front_then, writes_then}
 use Rattle.tdf_io.specs.Bytes.{AppendsFront, WritesText}
 use Rattle.tdf_io.specs.declared.writing.SinkErr.{SinkErr}
 use Rattle.std.proofs.lemmas.Bool.{cases_lt}
-use Rattle.tdf_rows.proofs.Api.{text_none, text_split, without_row}
-use Rattle.tdf_rows.specs.Rows.{Cells, Line, is_row, text_from, trace_text}
+use Rattle.tdf_trace_rows.proofs.Api.{text_none, text_split, without_row}
+use Rattle.tdf_trace_rows.specs.Rows.{Cells, Line, is_row, text_from, trace_text}
 use Rattle.tdf_trace.specs.Writings.{AboutSeen, head_of, rest_text, rows_text, writing_of, written_text}
 
 -- the rows below an end are those up to a time and the others

@@ -1,7 +1,6 @@
 -- A column of a trace as contracts see it.
 -- Source: own.
-use Rattle.std.specs.Prelude.{ℕ, ◌≤◌, nat_eq, if◌then◌else◌, Option, Some, None, IfSome, List, [], ◌∷◌}
-use Rattle.std.specs.Prelude.{map}
+use Rattle.std.specs.Prelude.{ℕ, ◌≤◌, nat_eq, if◌then◌else◌, Option, Some, None, IfSome, List, [], ◌∷◌, map}
 use Rattle.tdf_fixed.specs.declared.raw.Raw.{Raw}
 use Rattle.tdf_trace.specs.declared.column.Held.{Held}
 

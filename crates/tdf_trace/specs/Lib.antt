@@ -1,8 +1,11 @@
+pub mod Calls
 pub mod Columns
+pub mod Stands
 pub mod Tables
+pub mod Traces
+pub mod Tracked
+pub mod Tracks
 pub mod Vcd
 pub mod Writings
-pub mod Stands
-pub mod low
 pub mod machine
 pub mod views

@@ -1,13 +1,12 @@
 -- What a trace stands for while it is written: for which cells its rows are written up to a time.
 -- Source: own.
 use Rattle.std.specs.Io.KnownBytes.{Appends}
-use Rattle.std.specs.Prelude.{◌≡◌, ◌≢◌, ◌⊎◌, ℕ, ◌<◌, ◌≤◌, false, Option, Some, None}
-use Rattle.std.specs.Prelude.{List, [], length, slice_get, Result, MatchResult}
-use Rattle.tdf_rows.specs.Rows.{Cells, is_row, last}
+use Rattle.std.specs.Prelude.{◌≡◌, ◌≢◌, ◌⊎◌, ℕ, ◌<◌, ◌≤◌, false, Option, Some, None, List, [], length, slice_get, Result, MatchResult}
+use Rattle.tdf_trace_rows.specs.Rows.{Cells, is_row, last}
 use Rattle.tdf_io.specs.Bytes.{AppendsFront, WritesText}
 use Rattle.tdf_io.specs.declared.writing.SinkErr.{SinkErr}
-use Rattle.tdf_rows.specs.Noted.{cells_of, with_cell}
-use Rattle.tdf_rows.specs.declared.cell.Cell.{Cell}
+use Rattle.tdf_trace_rows.specs.Noted.{cells_of, with_cell}
+use Rattle.tdf_trace_rows.specs.declared.cell.Cell.{Cell}
 use Rattle.tdf_trace.specs.Columns.{ColumnSeen, held_at}
 use Rattle.tdf_trace.specs.Writings.{AboutSeen, first_of, rest_text, rows_text}
 use Rattle.tdf_trace.specs.declared.about.Variable.{Variable}

@@ -5,7 +5,7 @@ use Rattle.tdf_base.specs.declared.resolution.Resolution.{Resolution}
 use Rattle.tdf_fixed.specs.Decimal.{seconds_text_at, value_text}
 use Rattle.tdf_fixed.specs.declared.raw.Raw.{Raw}
 use Rattle.tdf_io.specs.Bytes.{pieces_text}
-use Rattle.tdf_rows.specs.Rows.{Line, Writing}
+use Rattle.tdf_trace_rows.specs.Rows.{Line, Writing}
 
 -- a value as an exact decimal, or `*` where it is unknown
 abbrev pub cell_text : Option Raw → List ℕ

@@ -1,17 +1,16 @@
 -- How a trace is written, by its kind, the model's resolution and its columns.
 -- Source: own.
-use Rattle.std.specs.Prelude.{◌≡◌, ℕ, ◌-◌, ◌<◌, ◌≤◌, false, Option, Some, List, ◌++◌}
-use Rattle.std.specs.Prelude.{length, map, slice_get}
+use Rattle.std.specs.Prelude.{◌≡◌, ℕ, ◌-◌, ◌<◌, ◌≤◌, false, Option, Some, List, ◌++◌, length, map, slice_get}
 use Rattle.tdf_base.specs.Limits.{most_traces}
 use Rattle.tdf_base.specs.declared.resolution.Resolution.{Resolution}
 use Rattle.tdf_fixed.specs.declared.raw.Raw.{Raw}
-use Rattle.tdf_rows.specs.Rows.{Cells, Writing, is_row, text_from, trace_text}
+use Rattle.tdf_trace_rows.specs.Rows.{Cells, Writing, is_row, text_from, trace_text}
 use Rattle.tdf_trace.specs.Columns.{HasFewPlaces}
 use Rattle.tdf_trace.specs.Tables.{cell_at, table_writing}
 use Rattle.tdf_trace.specs.Vcd.{vcd_head, vcd_line, vcd_tail}
 use Rattle.tdf_trace.specs.declared.about.Variable.{Variable}
-use Rattle.tdf_words.specs.declared.asked.TraceKind.{TraceKind}
-use Rattle.tdf_words.specs.declared.asked.TraceKind.TheVariants.{Table, Vcd}
+use Rattle.tdf_cli_words.specs.declared.asked.TraceKind.{TraceKind}
+use Rattle.tdf_cli_words.specs.declared.asked.TraceKind.TheVariants.{Table, Vcd}
 
 -- what a trace is of: its kind, the resolution of its times, and its variables by column
 pub record AboutSeen : Type 0 where

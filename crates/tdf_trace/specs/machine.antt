@@ -1,4 +1,8 @@
 -- How the code goes from row to row.
-pub mod Turning
-pub mod Putting
+pub mod Finding
+pub mod Firsts
+pub mod Going
 pub mod Moving
+pub mod Putting
+pub mod Showing
+pub mod Turning

@@ -9,8 +9,10 @@
 //! - `rows`: writing rows up to a time.
 //! - `heads`: writing what is before the rows, and after them.
 //! - `stage`, `trace`: the type [`Trace`] and its calls.
+//! - `notes`: noting a cell in some columns.
+//! - `tracked`: a traced signal.
+//! - `tracking`: all traced signals.
 //! - `laws`: what holds of the texts.
-//! - `low`: what the crates above use of the crates further below.
 #![tactic(auto)]
 
 mod about;
@@ -18,13 +20,16 @@ mod column;
 mod columns;
 mod heads;
 mod laws;
-pub mod low;
+mod notes;
 mod rows;
 mod stage;
 mod tables;
 mod trace;
+mod tracked;
+mod tracking;
 mod vcd;
 
 pub use about::Variable;
-pub use laws::law_whole;
+pub use laws::{law_left, law_whole};
 pub use trace::Trace;
+pub use tracking::Tracking;

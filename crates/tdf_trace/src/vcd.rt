@@ -4,8 +4,7 @@ ghost use Rattle.tdf_base.specs.Limits.{most_traces};
 ghost use Rattle.tdf_io.specs.Bytes.{pieces_text};
 ghost use Rattle.tdf_trace.specs.Columns.{before_row, shown_row};
 ghost use Rattle.tdf_trace.specs.Tables.{cell_at};
-ghost use Rattle.tdf_trace.specs.Vcd.{change_piece, changes, declaration_piece, differs, identifier_code, is_same, time_line, timescale};
-ghost use Rattle.tdf_trace.specs.Vcd.{value_bits, value_change, value_piece, values, vcd_line, vcd_tail};
+ghost use Rattle.tdf_trace.specs.Vcd.{change_piece, changes, declaration_piece, differs, identifier_code, is_same, time_line, timescale, value_bits, value_change, value_piece, values, vcd_line, vcd_tail};
 ghost use Rattle.tdf_trace.specs.Writings.{labels_of, sizes_of};
 
 use crate::about::Variable;

@@ -1,8 +1,7 @@
 -- What adding edges answers.
 use Rattle.std.specs.Prelude.{ℕ, ◌≡◌, ◌<◌, ◌≤◌, List, sum, Result, Ok, Err, Vec}
 use Rattle.std.specs.Global.{Global}
-use Rattle.tdf_balance.specs.Balance.{edges_of, IsUnsolvable, IsTooLarge, IsNoneBad}
-use Rattle.tdf_balance.specs.Balance.{HasCounts, IsRatesFault, IsSizeFault}
+use Rattle.tdf_balance.specs.Balance.{edges_of, IsUnsolvable, IsTooLarge, IsNoneBad, HasCounts, IsRatesFault, IsSizeFault}
 use Rattle.tdf_balance.specs.declared.err.BalanceErr.{BalanceErr}
 use Rattle.tdf_balance.specs.declared.err.BalanceErr.TheVariants.{Rates, TooLarge, Memory}
 use Rattle.tdf_balance.specs.declared.solution.Solution.{Solution}

@@ -3,12 +3,12 @@ use Rattle.std.specs.Prelude.{◌≡◌, ℕ, List, string_bytes}
 use Rattle.tdf_cli.specs.Outcome.{accepted_text, load_end, loaded}
 use Rattle.tdf_cli.specs.declared.jobs.Texts.{Texts}
 use Rattle.tdf_cli.specs.declared.measure.Measurement.{Measurement}
-use Rattle.tdf_print.specs.Canon.{canon}
+use Rattle.tdf_lang_printer.specs.Canon.{canon}
 use Rattle.tdf_sim.specs.Ends.{Change, HaveAnswers}
 use Rattle.tdf_sim.specs.declared.sim.Sim.{Sim}
 use Rattle.tdf_sim.specs.PlanText.{plans_text}
-use Rattle.tdf_sim.specs.low.tree.Pure.{PureTree}
-use Rattle.tdf_sim.specs.low.words.Jobs.{usual_turns}
+use Rattle.tdf_lang_tree.specs.Pure.{PureTree}
+use Rattle.tdf_cli_words.specs.Jobs.{usual_turns}
 
 pub record IsCheckText (tree : PureTree) (sim : Sim) (texts : Texts) : Type 0 where
   pub output : texts.output.items ≡ canon tree

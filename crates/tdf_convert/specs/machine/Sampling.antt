@@ -1,6 +1,5 @@
 -- How samplers get their values, entry by entry (own).
-use Rattle.std.specs.Prelude.{◌≡◌, ℕ, ◌<◌, ◌≤◌, true, if◌then◌else◌, List, length}
-use Rattle.std.specs.Prelude.{Option, Some, None, pos, slice_get, slice_set, slice_index_or}
+use Rattle.std.specs.Prelude.{◌≡◌, ℕ, ◌<◌, ◌≤◌, true, if◌then◌else◌, List, length, Option, Some, None, pos, slice_get, slice_set, slice_index_or}
 use Rattle.tdf_convert.specs.Links.{link_of}
 use Rattle.tdf_convert.specs.declared.links.Link.{Link}
 use Rattle.tdf_fixed.specs.declared.raw.Raw.{Raw}

@@ -1,9 +1,9 @@
 -- Timed notifications that come, one after the other.
 -- Source: own.
 use Rattle.std.specs.Prelude.{◌≡◌, ◌⊎◌, ℕ, Bool, true, false, List, Option, Some, None, length, slice_get}
-use Rattle.tdf_calendar.specs.Lists.{list_at}
-use Rattle.tdf_calendar.specs.Sets.{is_on}
-use Rattle.tdf_calendar.specs.Times.{time_of}
+use Rattle.tdf_events_queue.specs.Lists.{list_at}
+use Rattle.tdf_events_queue.specs.Sets.{is_on}
+use Rattle.tdf_events_queue.specs.Times.{time_of}
 use Rattle.tdf_events.specs.Delta.{is_due}
 use Rattle.tdf_events.specs.machine.Updating.{IsSensitive}
 

@@ -1,13 +1,12 @@
 -- The parts of a kernel, made one after the other.
 -- Source: own.
 use Rattle.std.specs.Prelude.{◌≡◌, ◌<◌, ◌≤◌, ◌⊎◌, ℕ, Bool, false, List, length, Some, slice_get}
-use Rattle.tdf_calendar.specs.Lists.{list_at}
-use Rattle.tdf_calendar.specs.Sets.{is_on}
-use Rattle.tdf_flat.specs.low.expr.Frames.{FrameSeen, PortsSeen}
-use Rattle.tdf_flat.specs.low.expr.Made.{cell_formats, event_count, port_spans_of, rate_spans_of, start_cells}
-use Rattle.tdf_flat.specs.low.expr.Made.{start_rates}
-use Rattle.tdf_flat.specs.low.expr.declared.checked.Checked.{Checked}
-use Rattle.tdf_flat.specs.low.wiring.ProcessBlocks.{BlockRowOf, ProcessRowOf}
+use Rattle.tdf_events_queue.specs.Lists.{list_at}
+use Rattle.tdf_events_queue.specs.Sets.{is_on}
+use Rattle.tdf_expr.specs.Frames.{FrameSeen, PortsSeen}
+use Rattle.tdf_expr.specs.Made.{cell_formats, event_count, port_spans_of, rate_spans_of, start_cells, start_rates}
+use Rattle.tdf_expr.specs.declared.checked.Checked.{Checked}
+use Rattle.tdf_bind_connections.specs.ProcessBlocks.{BlockRowOf, ProcessRowOf}
 
 -- an instance of the block of a number, as declared
 pub record IsFirstFrame (checked : Checked) (block : ℕ) (frame : FrameSeen) : Type 0 where

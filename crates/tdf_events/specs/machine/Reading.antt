@@ -3,14 +3,14 @@
 use Rattle.std.specs.Prelude.{ℕ, ◌<◌, ◌≡◌, ◌^◌, List, Some, ℤ, length, slice_get}
 use Rattle.tdf_events.specs.Processes.{ports_before, sample_before}
 use Rattle.tdf_events.specs.Side.{value_at}
-use Rattle.tdf_flat.specs.low.expr.Frames.{IsOfFormat, PortsSeen}
-use Rattle.tdf_flat.specs.low.expr.Made.{event_count, port_spans_of}
-use Rattle.tdf_flat.specs.low.expr.Runs.{Ran}
-use Rattle.tdf_flat.specs.low.expr.declared.bodies.Body.TheVariants.{Process}
-use Rattle.tdf_flat.specs.low.expr.declared.checked.Checked.{Checked}
-use Rattle.tdf_flat.specs.low.expr.declared.spans.PortSpan.{PortSpan}
-use Rattle.tdf_flat.specs.low.fixed.declared.raw.Raw.{Raw}
-use Rattle.tdf_flat.specs.low.state.State.{FrameState, PortsState, cell_at, state_of}
+use Rattle.tdf_expr.specs.Frames.{IsOfFormat, PortsSeen}
+use Rattle.tdf_expr.specs.Made.{event_count, port_spans_of}
+use Rattle.tdf_expr.specs.Runs.{Ran}
+use Rattle.tdf_expr.specs.declared.bodies.Body.TheVariants.{Process}
+use Rattle.tdf_expr.specs.declared.checked.Checked.{Checked}
+use Rattle.tdf_expr.specs.declared.spans.PortSpan.{PortSpan}
+use Rattle.tdf_fixed.specs.declared.raw.Raw.{Raw}
+use Rattle.tdf_expr_state.specs.State.{FrameState, PortsState, cell_at, state_of}
 
 -- each port has one signal and one sample, which are of one format
 pub record CanRead (values : List Raw) (spans : List PortSpan) (signals : List ℕ) : Type 0 where

@@ -1,15 +1,15 @@
 -- A process runs in a kernel.
 -- Source: own.
 use Rattle.std.specs.Prelude.{◌≡◌, ◌<◌, ◌^◌, ℕ, Some, length, slice_get, slice_set}
-use Rattle.tdf_calendar.specs.Lists.{list_at}
+use Rattle.tdf_events_queue.specs.Lists.{list_at}
 use Rattle.tdf_events.specs.Kernel.{KernelOf}
 use Rattle.tdf_events.specs.Notices.{noticed_first}
 use Rattle.tdf_events.specs.Processes.{written_first}
 use Rattle.tdf_events.specs.machine.Reading.{CanRead, HasRun}
-use Rattle.tdf_flat.specs.low.expr.Frames.{ArePortsFit, FrameSeen, PortsSeen}
-use Rattle.tdf_flat.specs.low.expr.Made.{AreMadeFor, event_count, port_spans_of}
-use Rattle.tdf_flat.specs.low.expr.declared.checked.Checked.{Checked}
-use Rattle.tdf_flat.specs.low.wiring.ProcessBlocks.{BlockRowOf}
+use Rattle.tdf_expr.specs.Frames.{ArePortsFit, FrameSeen, PortsSeen}
+use Rattle.tdf_expr.specs.Made.{AreMadeFor, event_count, port_spans_of}
+use Rattle.tdf_expr.specs.declared.checked.Checked.{Checked}
+use Rattle.tdf_bind_connections.specs.ProcessBlocks.{BlockRowOf}
 
 -- what a process of an instance needs
 pub record CanRun (checked : Checked) (owner : ℕ) (row : BlockRowOf) (k : KernelOf) : Type 0 where

@@ -1,12 +1,11 @@
 -- Update and delta notification, one number after the other.
 -- Source: own.
-use Rattle.std.specs.Prelude.{◌≡◌, ◌<◌, ◌⊎◌, ℕ, Bool, true, List, Option, Some, None, length, slice_get}
-use Rattle.std.specs.Prelude.{slice_index_or, unwrap_or}
-use Rattle.tdf_calendar.specs.Lists.{list_at}
-use Rattle.tdf_calendar.specs.Sets.{is_on}
+use Rattle.std.specs.Prelude.{◌≡◌, ◌<◌, ◌⊎◌, ℕ, Bool, true, List, Option, Some, None, length, slice_get, slice_index_or, unwrap_or}
+use Rattle.tdf_events_queue.specs.Lists.{list_at}
+use Rattle.tdf_events_queue.specs.Sets.{is_on}
 use Rattle.tdf_events.specs.Delta.{differs}
 use Rattle.tdf_events.specs.Side.{value_at}
-use Rattle.tdf_flat.specs.low.fixed.declared.raw.Raw.{Raw}
+use Rattle.tdf_fixed.specs.declared.raw.Raw.{Raw}
 
 -- whether a signal changes
 abbrev pub does_change : List Raw → List (Option Raw) → ℕ → Bool

@@ -10,15 +10,14 @@ use Rattle.tdf_exec.specs.Traced.{port_samples}
 use Rattle.tdf_exec.specs.declared.runners.Runner.{Runner}
 use Rattle.tdf_exec.specs.declared.runners.Runner.TheVariants as runner
 use Rattle.tdf_exec.specs.declared.runners.TracedPort.{TracedPort}
-use Rattle.tdf_layout.specs.low.expr.Made.{AreMadeFor}
-use Rattle.tdf_layout.specs.low.expr.declared.checked.Checked.{Checked}
-use Rattle.tdf_layout.specs.low.firing.Actors.{CanPutOne, HasTaken, HavePut}
-use Rattle.tdf_layout.specs.low.firing.Firing.{AreMoved, AreOfFormats, AreRates, AreZerosBehind, CanFire}
-use Rattle.tdf_layout.specs.low.firing.Firing.{HasActed, HoldFormats, samples_read}
-use Rattle.tdf_layout.specs.low.firing.Wires.{AreWired}
-use Rattle.tdf_layout.specs.low.fixed.declared.raw.Raw.{Raw}
-use Rattle.tdf_layout.specs.low.rings.Carried.{ring_at}
-use Rattle.tdf_layout.specs.low.rings.Rings.{RingOf}
+use Rattle.tdf_expr.specs.Made.{AreMadeFor}
+use Rattle.tdf_expr.specs.declared.checked.Checked.{Checked}
+use Rattle.tdf_exec_firing.specs.Actors.{CanPutOne, HasTaken, HavePut}
+use Rattle.tdf_exec_firing.specs.Firing.{AreMoved, AreOfFormats, AreRates, AreZerosBehind, CanFire, HasActed, HoldFormats, samples_read}
+use Rattle.tdf_exec_firing.specs.Wires.{AreWired}
+use Rattle.tdf_fixed.specs.declared.raw.Raw.{Raw}
+use Rattle.tdf_rings.specs.Carried.{ring_at}
+use Rattle.tdf_rings.specs.Rings.{RingOf}
 
 pub record CanFireModule (checked : Checked) (reads writes : List ℕ) (rings : List RingOf)
     (x : ModuleOf) : Type 0 where

@@ -1,30 +1,30 @@
 -- What the tables of a sound flat model have, and the parts of a cluster at its start.
 -- Source: own.
 use Rattle.std.specs.Prelude.{◌≡◌, ◌<◌, ℕ, List, Some, length, replicate, slice_get}
-use Rattle.tdf_layout.specs.low.dynamic.Attributes.{AttrsOf}
-use Rattle.tdf_layout.specs.low.dynamic.Rates.{net_of}
-use Rattle.tdf_layout.specs.low.dynamic.declared.first.First.{First}
+use Rattle.tdf_dynamic_plans.specs.Attributes.{AttrsOf}
+use Rattle.tdf_dynamic_plans.specs.Rates.{net_of}
+use Rattle.tdf_dynamic_first.specs.declared.first.First.{First}
 use Rattle.tdf_exec.specs.Made.{KeepRates}
 use Rattle.tdf_exec.specs.Starts.{BeginWithRates, IsSoundFlat}
 use Rattle.tdf_exec.specs.declared.runners.Runner.{Runner}
 use Rattle.tdf_exec.specs.declared.runners.TracedPort.{TracedPort}
 use Rattle.tdf_exec.specs.machine.Starting.{AreFirstRings, AreFirstRunners}
 use Rattle.tdf_exec.specs.machine.Tracing.{AreGivenTraced, AreTracedUpTo}
-use Rattle.tdf_layout.specs.low.expr.Made.{port_spans_of}
-use Rattle.tdf_layout.specs.low.firing.Wires.{AreWired, WiresOf}
-use Rattle.tdf_layout.specs.low.flat.declared.model.Flat.{Flat}
-use Rattle.tdf_layout.specs.low.formats.Formats.{IsOwnPort}
-use Rattle.tdf_layout.specs.Edges.{IsEdgeRow}
-use Rattle.tdf_layout.specs.Samples.{HasFormat}
-use Rattle.tdf_layout.specs.Wires.{AreClusterWires, SinksHaveOne}
-use Rattle.tdf_layout.specs.Wiring.{AreWiresOf}
-use Rattle.tdf_layout.specs.declared.wiring.ActorWires.{ActorWires}
-use Rattle.tdf_layout.specs.low.limits.Limits.{AreWithinLimits}
-use Rattle.tdf_layout.specs.low.rings.Rings.{RingOf}
-use Rattle.tdf_layout.specs.low.streams.Periods.{read_rates, write_rates}
-use Rattle.tdf_layout.specs.low.streams.Places.{block_at}
-use Rattle.tdf_layout.specs.low.wiring.declared.edges.EdgeRow.{EdgeRow}
-use Rattle.tdf_layout.specs.low.wiring.declared.modules.PortRow.{PortRow}
+use Rattle.tdf_expr.specs.Made.{port_spans_of}
+use Rattle.tdf_exec_firing.specs.Wires.{AreWired, WiresOf}
+use Rattle.tdf_bind.specs.declared.model.Flat.{Flat}
+use Rattle.tdf_bind_invariants.specs.Formats.{IsOwnPort}
+use Rattle.tdf_exec_layout.specs.Edges.{IsEdgeRow}
+use Rattle.tdf_exec_layout.specs.Samples.{HasFormat}
+use Rattle.tdf_exec_layout.specs.Wires.{AreClusterWires, SinksHaveOne}
+use Rattle.tdf_exec_layout.specs.Wiring.{AreWiresOf}
+use Rattle.tdf_exec_layout.specs.declared.wiring.ActorWires.{ActorWires}
+use Rattle.tdf_bind_invariants.specs.Limits.{AreWithinLimits}
+use Rattle.tdf_rings.specs.Rings.{RingOf}
+use Rattle.tdf_streams.specs.Periods.{read_rates, write_rates}
+use Rattle.tdf_streams.specs.Places.{block_at}
+use Rattle.tdf_bind_connections.specs.declared.edges.EdgeRow.{EdgeRow}
+use Rattle.tdf_bind_connections.specs.declared.modules.PortRow.{PortRow}
 
 pub record IsLaid (flat : Flat) : Type 0 where
   pub limits : AreWithinLimits flat

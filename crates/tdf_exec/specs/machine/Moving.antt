@@ -1,23 +1,22 @@
 -- How the modules of a cluster are asked for changes: their instances go into a list, in the order
 -- of the table, and come back from there.
 -- Source: own.
-use Rattle.std.specs.Prelude.{◌≡◌, ◌<◌, ◌≤◌, ℕ, ℤ, List, length, map, Some}
-use Rattle.std.specs.Prelude.{slice_get}
-use Rattle.tdf_changes.specs.Change.{Asks, asks_of}
-use Rattle.tdf_changes.specs.Next.{HaveChanged}
-use Rattle.tdf_changes.specs.declared.frames.ModuleFrame.{ModuleFrame}
-use Rattle.tdf_layout.specs.low.dynamic.Attributes.{AttrsOf}
+use Rattle.std.specs.Prelude.{◌≡◌, ◌<◌, ◌≤◌, ℕ, ℤ, List, length, map, Some, slice_get}
+use Rattle.tdf_dynamic.specs.Change.{Asks, asks_of}
+use Rattle.tdf_dynamic.specs.Next.{HaveChanged}
+use Rattle.tdf_dynamic.specs.declared.frames.ModuleFrame.{ModuleFrame}
+use Rattle.tdf_dynamic_plans.specs.Attributes.{AttrsOf}
 use Rattle.tdf_exec.specs.Crossing.{values_at}
 use Rattle.tdf_exec.specs.Runners.{ModuleOf}
 use Rattle.tdf_exec.specs.declared.runners.Runner.{Runner}
 use Rattle.tdf_exec.specs.declared.runners.Runner.TheVariants as runner
 use Rattle.tdf_exec.specs.declared.runners.TracedPort.{TracedPort}
-use Rattle.tdf_layout.specs.low.expr.Checked.{IsCheckedOf}
-use Rattle.tdf_layout.specs.low.expr.Made.{AreMadeFor}
-use Rattle.tdf_layout.specs.low.firing.Wires.{WiresOf}
-use Rattle.tdf_layout.specs.low.flat.declared.model.Flat.{Flat}
-use Rattle.tdf_layout.specs.low.streams.Places.{block_at}
-use Rattle.tdf_layout.specs.low.tree.Pure.{PureTree}
+use Rattle.tdf_expr.specs.Checked.{IsCheckedOf}
+use Rattle.tdf_expr.specs.Made.{AreMadeFor}
+use Rattle.tdf_exec_firing.specs.Wires.{WiresOf}
+use Rattle.tdf_bind.specs.declared.model.Flat.{Flat}
+use Rattle.tdf_streams.specs.Places.{block_at}
+use Rattle.tdf_lang_tree.specs.Pure.{PureTree}
 
 -- what is kept of a module beside its values and ports
 pub record RestOf : Type 0 where

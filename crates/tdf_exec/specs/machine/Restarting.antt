@@ -1,8 +1,8 @@
 -- How the next period begins with a new plan: what is made first, and how the modules begin again.
 -- Source: own.
 use Rattle.std.specs.Prelude.{◌≡◌, ◌<◌, ◌≤◌, ℕ, List, length, map, Some, slice_get}
-use Rattle.tdf_layout.specs.low.dynamic.Attributes.{AttrsOf}
-use Rattle.tdf_layout.specs.low.dynamic.Rates.{net_of}
+use Rattle.tdf_dynamic_plans.specs.Attributes.{AttrsOf}
+use Rattle.tdf_dynamic_plans.specs.Rates.{net_of}
 use Rattle.tdf_exec.specs.Cluster.{ClusterOf}
 use Rattle.tdf_exec.specs.Crossing.{with_plan}
 use Rattle.tdf_exec.specs.Made.{room_for}
@@ -11,19 +11,19 @@ use Rattle.tdf_exec.specs.declared.runners.Runner.{Runner}
 use Rattle.tdf_exec.specs.declared.runners.Runner.TheVariants as runner
 use Rattle.tdf_exec.specs.declared.runners.TracedPort.{TracedPort}
 use Rattle.tdf_exec.specs.machine.Tracing.{AreGivenTraced, AreTracedUpTo}
-use Rattle.tdf_layout.specs.low.expr.Made.{AreMadeFor}
-use Rattle.tdf_layout.specs.low.expr.Runs.{Ran}
-use Rattle.tdf_layout.specs.low.expr.declared.bodies.Body.TheVariants.{Reinitialize}
-use Rattle.tdf_layout.specs.low.expr.declared.checked.Checked.{Checked}
-use Rattle.tdf_layout.specs.low.firing.Activation.{ports_before}
-use Rattle.tdf_layout.specs.low.firing.Firing.{AreZerosBehind}
-use Rattle.tdf_layout.specs.low.firing.Wires.{WiresOf}
-use Rattle.tdf_layout.specs.low.flat.declared.model.Flat.{Flat}
-use Rattle.tdf_layout.specs.low.rings.Carried.{AreCarried}
-use Rattle.tdf_layout.specs.low.schedule.declared.entry.Plan.{Plan}
-use Rattle.tdf_layout.specs.low.state.State.{state_of}
-use Rattle.tdf_layout.specs.low.streams.Bodies.{nothing_read}
-use Rattle.tdf_layout.specs.low.streams.Periods.{read_rates, write_rates}
+use Rattle.tdf_expr.specs.Made.{AreMadeFor}
+use Rattle.tdf_expr.specs.Runs.{Ran}
+use Rattle.tdf_expr.specs.declared.bodies.Body.TheVariants.{Reinitialize}
+use Rattle.tdf_expr.specs.declared.checked.Checked.{Checked}
+use Rattle.tdf_exec_firing.specs.Activation.{ports_before}
+use Rattle.tdf_exec_firing.specs.Firing.{AreZerosBehind}
+use Rattle.tdf_exec_firing.specs.Wires.{WiresOf}
+use Rattle.tdf_bind.specs.declared.model.Flat.{Flat}
+use Rattle.tdf_rings.specs.Carried.{AreCarried}
+use Rattle.tdf_schedule.specs.declared.entry.Plan.{Plan}
+use Rattle.tdf_expr_state.specs.State.{state_of}
+use Rattle.tdf_streams.specs.Bodies.{nothing_read}
+use Rattle.tdf_streams.specs.Periods.{read_rates, write_rates}
 
 -- a module whose ports were set back, and whose reinitialize body has then run
 pub record HasRestarted (checked : Checked) (x y : ModuleOf) : Type 0 where

@@ -1,45 +1,44 @@
 -- The parts of a cluster at its start: rings by edge, and runners by actor.
 -- Source: own.
 use Rattle.std.specs.List.{count_by}
-use Rattle.std.specs.Prelude.{◌≡◌, ℕ, ◌<◌, ◌≤◌, if◌then◌else◌, nat_eq, List, [], length, Some}
-use Rattle.std.specs.Prelude.{slice_get, slice_index, All}
-use Rattle.tdf_layout.specs.low.bind.Flat.{FlatOf}
-use Rattle.tdf_layout.specs.low.dynamic.Attributes.{clusters_of}
+use Rattle.std.specs.Prelude.{◌≡◌, ℕ, ◌<◌, ◌≤◌, if◌then◌else◌, nat_eq, List, [], length, Some, slice_get, slice_index, All}
+use Rattle.tdf_bind_tables.specs.FlatTables.{FlatTablesOf}
+use Rattle.tdf_dynamic_plans.specs.Attributes.{clusters_of}
 use Rattle.tdf_exec.specs.Made.{is_sampler, room_for, samplers_before}
 use Rattle.tdf_exec.specs.Runners.{ModuleOf}
 use Rattle.tdf_exec.specs.Starts.{BeginWithRates}
 use Rattle.tdf_exec.specs.declared.runners.Runner.{Runner}
 use Rattle.tdf_exec.specs.declared.runners.Runner.TheVariants as runner
-use Rattle.tdf_layout.specs.low.expr.Checked.{IsChecked, IsCheckedOf}
-use Rattle.tdf_layout.specs.low.expr.Made.{AreMadeFor, block_count, start_rates}
-use Rattle.tdf_layout.specs.low.firing.Firing.{AreZerosBehind}
-use Rattle.tdf_layout.specs.low.firing.Wires.{WiresOf}
-use Rattle.tdf_layout.specs.low.fixed.declared.raw.Raw.{Raw}
-use Rattle.tdf_layout.specs.low.flat.declared.model.Flat.{Flat}
-use Rattle.tdf_layout.specs.declared.wiring.ActorWires.{ActorWires}
-use Rattle.tdf_layout.specs.declared.wiring.ActorWires.TheVariants as wires
-use Rattle.tdf_layout.specs.low.rings.Carried.{ring_at}
-use Rattle.tdf_layout.specs.low.rings.Rings.{RingOf, ring_of}
-use Rattle.tdf_layout.specs.low.streams.Bodies.{initialized}
-use Rattle.tdf_layout.specs.low.streams.Cluster.{initial_list}
-use Rattle.tdf_layout.specs.low.streams.Places.{block_at}
-use Rattle.tdf_layout.specs.low.tree.Pure.{PureTree}
-use Rattle.tdf_layout.specs.low.wiring.declared.edges.EdgeRow.{EdgeRow}
+use Rattle.tdf_expr.specs.Checked.{IsChecked, IsCheckedOf}
+use Rattle.tdf_expr.specs.Made.{AreMadeFor, block_count, start_rates}
+use Rattle.tdf_exec_firing.specs.Firing.{AreZerosBehind}
+use Rattle.tdf_exec_firing.specs.Wires.{WiresOf}
+use Rattle.tdf_fixed.specs.declared.raw.Raw.{Raw}
+use Rattle.tdf_bind.specs.declared.model.Flat.{Flat}
+use Rattle.tdf_exec_layout.specs.declared.wiring.ActorWires.{ActorWires}
+use Rattle.tdf_exec_layout.specs.declared.wiring.ActorWires.TheVariants as wires
+use Rattle.tdf_rings.specs.Carried.{ring_at}
+use Rattle.tdf_rings.specs.Rings.{RingOf, ring_of}
+use Rattle.tdf_streams.specs.Bodies.{initialized}
+use Rattle.tdf_streams.specs.Cluster.{initial_list}
+use Rattle.tdf_streams.specs.Places.{block_at}
+use Rattle.tdf_lang_tree.specs.Pure.{PureTree}
+use Rattle.tdf_bind_connections.specs.declared.edges.EdgeRow.{EdgeRow}
 
 -- the samples of an edge at first; none of an edge of another cluster
-abbrev pub list_of : FlatOf → (cluster : ℕ) → EdgeRow → List Raw
+abbrev pub list_of : FlatTablesOf → (cluster : ℕ) → EdgeRow → List Raw
 list_of tables cluster edge =
     if nat_eq (slice_index (clusters_of tables) edge.writer) cluster then initial_list tables edge
     else []
 
 -- there is a bound for each edge, whose ring has room for its first samples
-pub record FitAtFirst (tables : FlatOf) (cluster : ℕ) (bounds : List ℕ) : Type 0 where
+pub record FitAtFirst (tables : FlatTablesOf) (cluster : ℕ) (bounds : List ℕ) : Type 0 where
   pub long : length bounds ≡ length tables.edges
   pub fits : (e : ℕ) (edge : EdgeRow) → slice_get tables.edges e ≡ Some edge
       → length (list_of tables cluster edge) ≤ room_for (slice_index bounds e)
 
 -- a ring for each of the first n edges
-pub record AreFirstRings (tables : FlatOf) (cluster : ℕ) (bounds : List ℕ) (n : ℕ)
+pub record AreFirstRings (tables : FlatTablesOf) (cluster : ℕ) (bounds : List ℕ) (n : ℕ)
     (rings : List RingOf) : Type 0 where
   pub long : length rings ≡ n
   pub each : (e : ℕ) (edge : EdgeRow) → e < n → slice_get tables.edges e ≡ Some edge

@@ -1,34 +1,32 @@
 -- One entry of the plan.
 -- Source: own.
 use Rattle.std.specs.List.{All, count_by}
-use Rattle.std.specs.Prelude.{◌≡◌, ℕ, ◌+◌, ◌<◌, ◌++◌, if◌then◌else◌, nat_eq, List, [], length, drop}
-use Rattle.std.specs.Prelude.{◌≤◌, Some, slice_get, slice_index}
-use Rattle.tdf_layout.specs.low.bind.Flat.{FlatOf}
+use Rattle.std.specs.Prelude.{◌≡◌, ℕ, ◌+◌, ◌<◌, ◌++◌, if◌then◌else◌, nat_eq, List, [], length, drop, ◌≤◌, Some, slice_get, slice_index}
+use Rattle.tdf_bind_tables.specs.FlatTables.{FlatTablesOf}
 use Rattle.tdf_convert.specs.Outputs.{OutputsOf}
 use Rattle.tdf_convert.specs.declared.outputs.Sent.{Sent}
 use Rattle.tdf_convert.specs.declared.outputs.Traced.{Traced}
 use Rattle.tdf_exec.specs.Cluster.{ClusterOf}
 use Rattle.tdf_exec.specs.Gained.{Gives, HasFewPlaces, HasGained, HaveRoom, IsSentOf, sent_size, traced_size, with_gains}
 use Rattle.tdf_exec.specs.Made.{IsClusterOf, is_sampler}
-use Rattle.tdf_layout.specs.Samples.{edge_format}
-use Rattle.tdf_exec.specs.Played.{AreGiven, HasPlayed, IsLike, IsMoved, IsPeriodOf, counted}
-use Rattle.tdf_exec.specs.Played.{play_of}
+use Rattle.tdf_exec_layout.specs.Samples.{edge_format}
+use Rattle.tdf_exec.specs.Played.{AreGiven, HasPlayed, IsLike, IsMoved, IsPeriodOf, counted, play_of}
 use Rattle.tdf_exec.specs.Runners.{SamplerOf}
 use Rattle.tdf_exec.specs.declared.runners.Runner.{Runner}
 use Rattle.tdf_exec.specs.declared.runners.Runner.TheVariants as runner
-use Rattle.tdf_layout.specs.low.expr.Checked.{IsCheckedOf}
-use Rattle.tdf_layout.specs.low.expr.Frames.{IsOfFormat}
-use Rattle.tdf_layout.specs.low.fixed.declared.format.Format.{Format}
-use Rattle.tdf_layout.specs.low.fixed.declared.raw.Raw.{Raw}
-use Rattle.tdf_layout.specs.low.flat.declared.model.Flat.{Flat}
-use Rattle.tdf_layout.specs.Wiring.{Writes}
-use Rattle.tdf_layout.specs.low.rings.Carried.{ring_at}
-use Rattle.tdf_layout.specs.low.rings.Rings.{RingOf, ring_of}
-use Rattle.tdf_layout.specs.low.schedule.declared.entry.Entry.{Entry}
-use Rattle.tdf_layout.specs.low.streams.Cluster.{Start, cluster_net}
-use Rattle.tdf_layout.specs.low.streams.Periods.{PeriodRecord}
-use Rattle.tdf_layout.specs.low.streams.Places.{reader_at, writer_at}
-use Rattle.tdf_layout.specs.low.tree.Pure.{PureTree}
+use Rattle.tdf_expr.specs.Checked.{IsCheckedOf}
+use Rattle.tdf_expr.specs.Frames.{IsOfFormat}
+use Rattle.tdf_fixed.specs.declared.format.Format.{Format}
+use Rattle.tdf_fixed.specs.declared.raw.Raw.{Raw}
+use Rattle.tdf_bind.specs.declared.model.Flat.{Flat}
+use Rattle.tdf_exec_layout.specs.Wiring.{Writes}
+use Rattle.tdf_rings.specs.Carried.{ring_at}
+use Rattle.tdf_rings.specs.Rings.{RingOf, ring_of}
+use Rattle.tdf_schedule.specs.declared.entry.Entry.{Entry}
+use Rattle.tdf_streams.specs.Cluster.{Start, cluster_net}
+use Rattle.tdf_streams.specs.Periods.{PeriodRecord}
+use Rattle.tdf_streams.specs.Places.{reader_at, writer_at}
+use Rattle.tdf_lang_tree.specs.Pure.{PureTree}
 
 -- there is an input for each sampler, and one of its format for the next entry
 pub record AreInputsNext (flat : Flat) (c : ClusterOf) (inputs : List Raw) : Type 0 where
@@ -49,12 +47,12 @@ with_parts c place rings runners positions = record c {
 }
 
 -- the samples of an edge once an actor has read it
-abbrev pub kept : FlatOf → (reads : List ℕ) → (m e : ℕ) → List Raw → List Raw
+abbrev pub kept : FlatTablesOf → (reads : List ℕ) → (m e : ℕ) → List Raw → List Raw
 kept tables reads m e samples =
     if nat_eq (reader_at tables.edges e) m then drop (slice_index reads e) samples else samples
 
 -- actor m takes what it reads from each edge, and puts these samples on those that it writes
-pub record AreMovedBy (tables : FlatOf) (c : ClusterOf) (m : ℕ) (given : ℕ → List Raw)
+pub record AreMovedBy (tables : FlatTablesOf) (c : ClusterOf) (m : ℕ) (given : ℕ → List Raw)
     (new : List RingOf) : Type 0 where
   pub same : length new ≡ length c.rings
   pub moved : (e : ℕ) → e < length tables.edges → ring_at new e ≡ ring_of

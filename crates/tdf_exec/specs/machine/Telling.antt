@@ -1,13 +1,12 @@
 -- How the room for what a plan gives is found: entry after entry.
 -- Source: own.
-use Rattle.std.specs.Prelude.{◌≡◌, ◌+◌, ◌^◌, ◌<◌, ◌≤◌, ℕ, List, Option, Some, if◌then◌else◌, max}
-use Rattle.std.specs.Prelude.{nat_eq, slice_get, take}
+use Rattle.std.specs.Prelude.{◌≡◌, ◌+◌, ◌^◌, ◌<◌, ◌≤◌, ℕ, List, Option, Some, if◌then◌else◌, max, nat_eq, slice_get, take}
 use Rattle.tdf_exec.specs.Gained.{sent_size, size_due, traced_size}
 use Rattle.tdf_exec.specs.Telling.{IsMostOf}
 use Rattle.tdf_exec.specs.declared.runners.Runner.{Runner}
 use Rattle.tdf_exec.specs.declared.telling.Room.{Room}
 use Rattle.tdf_exec.specs.declared.telling.Rooms.{Rooms}
-use Rattle.tdf_layout.specs.low.schedule.declared.entry.Entry.{Entry}
+use Rattle.tdf_schedule.specs.declared.entry.Entry.{Entry}
 
 -- a number is above the greatest of 32 bits
 pub data IsOver (sent traced : ℕ) : Type 0 where

@@ -1,19 +1,18 @@
 -- How the ports whose signals are traced are gathered.
 -- Source: own.
 use Rattle.std.specs.List.{enumerate_from, list_any}
-use Rattle.std.specs.Prelude.{◌≡◌, ◌<◌, ◌≤◌, ◌&&◌, ◌++◌, ℕ, Bool, true, false, List, [], ◌∷◌, length, map}
-use Rattle.std.specs.Prelude.{Some, filter_map, if◌then◌else◌, slice_get, slice_index_or, slice_set, take}
-use Rattle.tdf_layout.specs.low.bind.Flat.{FlatOf}
-use Rattle.tdf_layout.specs.low.dynamic.Attributes.{AttrsOf}
-use Rattle.tdf_layout.specs.low.dynamic.Rates.{port_rate}
+use Rattle.std.specs.Prelude.{◌≡◌, ◌<◌, ◌≤◌, ◌&&◌, ◌++◌, ℕ, Bool, true, false, List, [], ◌∷◌, length, map, Some, filter_map, if◌then◌else◌, slice_get, slice_index_or, slice_set, take}
+use Rattle.tdf_bind_tables.specs.FlatTables.{FlatTablesOf}
+use Rattle.tdf_dynamic_plans.specs.Attributes.{AttrsOf}
+use Rattle.tdf_dynamic_plans.specs.Rates.{port_rate}
 use Rattle.tdf_exec.specs.Traced.{traced_port}
-use Rattle.tdf_layout.specs.Traced.{is_out, is_trace_of, number_if_traced}
+use Rattle.tdf_exec_layout.specs.Traced.{is_out, is_trace_of, number_if_traced}
 use Rattle.tdf_exec.specs.declared.runners.Runner.{Runner}
 use Rattle.tdf_exec.specs.declared.runners.Runner.TheVariants as runner
 use Rattle.tdf_exec.specs.declared.runners.TracedPort.{TracedPort}
-use Rattle.tdf_layout.specs.low.streams.Places.{place_of_port}
-use Rattle.tdf_layout.specs.low.wiring.declared.modules.PortRow.{PortRow}
-use Rattle.tdf_layout.specs.low.wiring.declared.traces.TraceRow.{TraceRow}
+use Rattle.tdf_streams.specs.Places.{place_of_port}
+use Rattle.tdf_bind_connections.specs.declared.modules.PortRow.{PortRow}
+use Rattle.tdf_bind_connections.specs.declared.traces.TraceRow.{TraceRow}
 
 -- the signal of a trace is marked, where it is one of samples
 abbrev pub marked : TraceRow → List Bool → List Bool
@@ -28,7 +27,7 @@ pub record AreMarked (traces : List TraceRow) (n : ℕ) (marks : List Bool) : Ty
 abbrev pub is_written_traced : List TraceRow → PortRow → Bool
 is_written_traced traces port = is_out port.kind && list_any (is_trace_of port.signal) traces
 
-abbrev pub traced_row : FlatOf → List AttrsOf → ℕ → PortRow → TracedPort
+abbrev pub traced_row : FlatTablesOf → List AttrsOf → ℕ → PortRow → TracedPort
 traced_row tables table number port = record {
   port = place_of_port tables.ports number;
   signal = port.signal;
@@ -36,19 +35,19 @@ traced_row tables table number port = record {
 }
 
 -- such a port comes to its module
-abbrev pub put_traced : FlatOf → List AttrsOf → ℕ → PortRow → List (List TracedPort)
+abbrev pub put_traced : FlatTablesOf → List AttrsOf → ℕ → PortRow → List (List TracedPort)
     → List (List TracedPort)
 put_traced tables table number port rows = if is_written_traced tables.traces port
     then slice_set rows port.«module»
     (slice_index_or rows port.«module» [] ++ traced_row tables table number port ∷ []) else rows
 
 -- the numbers of the traced ports of a module among the first n
-abbrev pub traced_before : FlatOf → (n m : ℕ) → List ℕ
+abbrev pub traced_before : FlatTablesOf → (n m : ℕ) → List ℕ
 traced_before tables n m = filter_map (λ port. number_if_traced tables m port.0 port.1)
     (enumerate_from 0 (take n tables.ports))
 
 -- the first n ports are gathered by module
-pub record AreTracedUpTo (tables : FlatOf) (table : List AttrsOf) (n : ℕ)
+pub record AreTracedUpTo (tables : FlatTablesOf) (table : List AttrsOf) (n : ℕ)
     (rows : List (List TracedPort)) : Type 0 where
   pub long : length rows ≡ length tables.modules
   pub each : (m : ℕ) → m < length tables.modules → slice_index_or rows m []

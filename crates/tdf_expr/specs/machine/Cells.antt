@@ -2,9 +2,9 @@
 -- numbers, and limits in their order.
 use Rattle.std.specs.Prelude.{◌≤◌}
 use Rattle.tdf_base.specs.Limits.{greatest_rate}
-use Rattle.tdf_scope.specs.Names.{Thing, Var, Array, Port, RateVar}
-use Rattle.tdf_scope.specs.Sound.{HasFormat}
-use Rattle.tdf_tree.specs.Kept.{Each, KeepsLit}
+use Rattle.tdf_expr_symbols.specs.Names.{Thing, Var, Array, Port, RateVar}
+use Rattle.tdf_expr_symbols.specs.Sound.{HasFormat}
+use Rattle.tdf_lang_tree.specs.Kept.{Each, KeepsLit}
 
 abbrev pub AreStartsKept : Thing → Type 0
 AreStartsKept (Var shape start) = HasFormat shape × KeepsLit start

@@ -1,7 +1,7 @@
 -- Numbers that fit, number by number (own).
 use Rattle.std.specs.Prelude.{ℤ, List, [], ◌∷◌, Option, Some, None}
 use Rattle.tdf_fixed.specs.Overflow.{IsIn}
-use Rattle.tdf_tree.specs.declared.shapes.Shape.{Shape}
+use Rattle.tdf_lang_tree.specs.declared.shapes.Shape.{Shape}
 
 abbrev pub FitsShape : Option Shape → ℤ → Type 0
 FitsShape None num = Unit {0}

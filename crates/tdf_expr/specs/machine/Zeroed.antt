@@ -2,8 +2,8 @@
 use Rattle.std.specs.Prelude.{if◌then◌else◌, List, [], ◌∷◌}
 use Rattle.tdf_expr.specs.Frames.{is_written}
 use Rattle.tdf_expr.specs.declared.spans.PortSpan.{PortSpan}
-use Rattle.tdf_state.specs.Resets.{with_zeros}
-use Rattle.tdf_state.specs.State.{PortsState}
+use Rattle.tdf_expr_state.specs.Resets.{with_zeros}
+use Rattle.tdf_expr_state.specs.State.{PortsState}
 
 unfoldable pub zeroed_one : PortSpan → PortsState → PortsState
 zeroed_one p s = record s {

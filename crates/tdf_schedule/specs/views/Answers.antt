@@ -1,12 +1,10 @@
 -- What the parts of a plan answer.
-use Rattle.std.specs.Prelude.{ℕ, ◌<◌, ◌≡◌, nat_eq, if◌then◌else◌, Some, List, length}
-use Rattle.std.specs.Prelude.{slice_get, slice_index, Result, Ok, Err}
+use Rattle.std.specs.Prelude.{ℕ, ◌<◌, ◌≡◌, nat_eq, if◌then◌else◌, Some, List, length, slice_get, slice_index, Result, Ok, Err}
 use Rattle.tdf_graph.specs.declared.actors.Actor.{Actor}
 use Rattle.tdf_graph.specs.declared.actors.Edge.{Edge}
 use Rattle.tdf_schedule.specs.Plan.{HasPlan, IsCausal, IsDeadlock, IsNoncausal}
 use Rattle.tdf_schedule.specs.declared.err.PlanErr.{PlanErr}
-use Rattle.tdf_schedule.specs.declared.err.PlanErr.TheVariants.{TooLarge, Deadlock, Noncausal}
-use Rattle.tdf_schedule.specs.declared.err.PlanErr.TheVariants.{Memory}
+use Rattle.tdf_schedule.specs.declared.err.PlanErr.TheVariants.{TooLarge, Deadlock, Noncausal, Memory}
 use Rattle.tdf_schedule.specs.declared.entry.Plan.{Plan}
 
 -- the first n bounds, 0 for edges of other clusters

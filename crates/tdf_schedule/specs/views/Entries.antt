@@ -1,6 +1,5 @@
 -- The entries of a table of keys, counted.
-use Rattle.std.specs.Prelude.{ℕ, ◌<◌, ◌≡◌, Bool, false, ◌&&◌, ◌||◌, nat_eq, nat_lt}
-use Rattle.std.specs.Prelude.{if◌then◌else◌, Some, List, All, length, slice_get}
+use Rattle.std.specs.Prelude.{ℕ, ◌<◌, ◌≡◌, Bool, false, ◌&&◌, ◌||◌, nat_eq, nat_lt, if◌then◌else◌, Some, List, All, length, slice_get}
 use Rattle.std.specs.List.{count_by}
 use Rattle.tdf_schedule.specs.Plan.{is_firing, is_earlier, key_in}
 use Rattle.tdf_schedule.specs.declared.entry.Entry.{Entry}

@@ -1,6 +1,5 @@
 -- The faults of a cluster, looked for in its table of keys.
-use Rattle.std.specs.Prelude.{ℕ, ◌*◌, ◌<◌, ◌≡◌, nat_eq, if◌then◌else◌}
-use Rattle.std.specs.Prelude.{Option, Some, None, List, length, slice_get, slice_index}
+use Rattle.std.specs.Prelude.{ℕ, ◌*◌, ◌<◌, ◌≡◌, nat_eq, if◌then◌else◌, Option, Some, None, List, length, slice_get, slice_index}
 use Rattle.std.specs.List.{sum_by}
 use Rattle.tdf_graph.specs.declared.actors.Actor.{Actor}
 use Rattle.tdf_graph.specs.declared.actors.Actor.TheVariants.{Sink}

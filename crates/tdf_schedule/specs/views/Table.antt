@@ -1,7 +1,5 @@
 -- The table of keys: for each actor those of its first firings.
-use Rattle.std.specs.Prelude.{ℕ, suc, ◌+◌, ◌-◌, ◌*◌, ◌/◌, ◌<◌, ◌≤◌, ◌≡◌, ◌⊎◌, max, nat_lt}
-use Rattle.std.specs.Prelude.{Option, Some, None, List, [], length, slice_get}
-use Rattle.std.specs.Prelude.{slice_index_or, if◌then◌else◌, Contains}
+use Rattle.std.specs.Prelude.{ℕ, suc, ◌+◌, ◌-◌, ◌*◌, ◌/◌, ◌<◌, ◌≤◌, ◌≡◌, ◌⊎◌, max, nat_lt, Option, Some, None, List, [], length, slice_get, slice_index_or, if◌then◌else◌, Contains}
 use Rattle.std.specs.List.{sum_by}
 use Rattle.tdf_graph.specs.declared.actors.Edge.{Edge}
 use Rattle.tdf_schedule.specs.Needs.{Within, HasKey}

@@ -1,7 +1,5 @@
 -- The worklist: actors that may have a firing whose needs all have their keys.
-use Rattle.std.specs.Prelude.{ℕ, ◌+◌, ◌-◌, ◌*◌, ◌^◌, ◌<◌, ◌≤◌, ◌≡◌, ◌⊎◌, Bool, true, false}
-use Rattle.std.specs.Prelude.{Some, List, [], ◌∷◌, ◌++◌, length, sum, slice_get, slice_index}
-use Rattle.std.specs.Prelude.{slice_index_or, slice_set, All}
+use Rattle.std.specs.Prelude.{ℕ, ◌+◌, ◌-◌, ◌*◌, ◌^◌, ◌<◌, ◌≤◌, ◌≡◌, ◌⊎◌, Bool, true, false, Some, List, [], ◌∷◌, ◌++◌, length, sum, slice_get, slice_index, slice_index_or, slice_set, All}
 use Rattle.tdf_base.specs.Limits.{most_firings}
 use Rattle.tdf_graph.specs.Ranges.{IsEdge}
 use Rattle.tdf_graph.specs.declared.actors.Edge.{Edge}

@@ -1,23 +1,23 @@
 -- What the answers of the steps are handed on as.
 use Rattle.std.specs.Prelude.{◌≡◌, ◌+◌, ℕ, List, Some, slice_get}
-use Rattle.tdf_loop.specs.low.base.declared.codes.Code.TheVariants as code
-use Rattle.tdf_blocks.specs.declared.err.LangErr.{LangErr}
-use Rattle.tdf_blocks.specs.declared.err.LangErr.TheVariants as why
-use Rattle.tdf_loop.specs.low.dynamic.First.{IsClusterFault, IsFirstPlan, IsPlannable}
-use Rattle.tdf_loop.specs.low.dynamic.declared.first.First.{First}
-use Rattle.tdf_loop.specs.low.faults.declared.refusal.TypeErr.{TypeErr}
-use Rattle.tdf_loop.specs.low.faults.declared.refusal.TypeErr.TheVariants as by
-use Rattle.tdf_loop.specs.low.flat.Flat.{IsFlatOf}
-use Rattle.tdf_loop.specs.low.flat.declared.model.Flat.{Flat}
-use Rattle.tdf_loop.specs.low.in_out.declared.writing.SinkErr.{SinkErr}
-use Rattle.tdf_loop.specs.low.in_out.declared.writing.SinkErr.TheVariants as sink
+use Rattle.tdf_base.specs.declared.codes.Code.TheVariants as code
+use Rattle.tdf_lang_parser.specs.declared.err.LangErr.{LangErr}
+use Rattle.tdf_lang_parser.specs.declared.err.LangErr.TheVariants as why
+use Rattle.tdf_dynamic_first.specs.First.{IsClusterFault, IsFirstPlan, IsPlannable}
+use Rattle.tdf_dynamic_first.specs.declared.first.First.{First}
+use Rattle.tdf_base.specs.declared.refusal.TypeErr.{TypeErr}
+use Rattle.tdf_base.specs.declared.refusal.TypeErr.TheVariants as by
+use Rattle.tdf_bind.specs.Flat.{IsFlatOf}
+use Rattle.tdf_bind.specs.declared.model.Flat.{Flat}
+use Rattle.tdf_io.specs.declared.writing.SinkErr.{SinkErr}
+use Rattle.tdf_io.specs.declared.writing.SinkErr.TheVariants as sink
 use Rattle.tdf_sim.specs.declared.run.RunErr.{RunErr}
 use Rattle.tdf_sim.specs.declared.run.RunErr.TheVariants as run
 use Rattle.tdf_sim.specs.FirstFault.{HasSoundLines, on_line}
 use Rattle.tdf_sim.specs.declared.err.SimErr.{SimErr}
 use Rattle.tdf_sim.specs.declared.err.SimErr.TheVariants.{Refused, Memory}
-use Rattle.tdf_loop.specs.low.tree.Kept.{IsKept}
-use Rattle.tdf_loop.specs.low.tree.Pure.{PureTree}
+use Rattle.tdf_lang_tree.specs.Kept.{IsKept}
+use Rattle.tdf_lang_tree.specs.Pure.{PureTree}
 
 -- what a check by line answered
 abbrev pub by_line : TypeErr → SimErr

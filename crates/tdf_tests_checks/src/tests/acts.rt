@@ -5,8 +5,8 @@ ghost use Rattle.std.specs.Prelude.{◌≡◌, ◌∷◌, [], pos};
 use std::alloc::Global;
 use std::test::Fail;
 use tdf_base::Memory;
-use tdf_machine::{Act, Node, eval, run, sequence};
-use tdf_state::{Cells, Signals};
+use tdf_expr_machine::{Act, Node, eval, run, sequence};
+use tdf_expr_state::{Cells, Signals};
 
 /// Runs two statements as one: rates are rejected, and then accepted.
 ///

@@ -7,9 +7,9 @@ ghost use Rattle.tdf_expr.specs.Made.{AreMadeFor, block_count};
 use std::alloc::Global;
 use std::test::Fail;
 use tdf_base::Memory;
-use tdf_blocks::parse;
 use tdf_expr::{Body, Checked, Frame, Ports, check_bodies, run_body};
 use tdf_fixed::{Raw, cast};
+use tdf_lang_parser::parse;
 
 /// A module with a variable, an array, a rate variable and all four bodies.
 const MODULE: &[u8] = b"language 1

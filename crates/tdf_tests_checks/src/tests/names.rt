@@ -4,7 +4,7 @@ use super::{At, OK, fault_at, tree_of};
 use std::alloc::Global;
 use std::test::Fail;
 use tdf_base::{Code, Memory};
-use tdf_names::{check_names, law_fault_lines, law_names_once};
+use tdf_expr_names::{check_names, law_fault_lines, law_names_once};
 
 /// Whole texts, each with its first fault.
 const TEXTS: &[(&str, At)] = &[

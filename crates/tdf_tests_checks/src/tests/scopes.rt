@@ -4,12 +4,12 @@ use super::tree_of;
 use std::alloc::Global;
 use std::test::Fail;
 use tdf_base::Memory;
-use tdf_bodies::Layout;
-use tdf_scope::{
+use tdf_expr_compiler::Layout;
+use tdf_expr_symbols::{
     Kind, OpenLoop, Part, Place, Scope, Table, Thing, composite_scope, de_scope, globals_of,
     is_allowed, loop_place, tdf_scope,
 };
-use tdf_tree::{Global1, Limit, PortKind};
+use tdf_lang_tree::{Global1, Limit, PortKind};
 
 /// A block of each kind.
 const BLOCKS: &[u8] = b"language 2\ntype w fixed 16 4\n\

@@ -3,7 +3,7 @@
 ghost use Rattle.std.specs.Prelude.{◌≡◌, length};
 
 use std::test::Fail;
-use tdf_state::{Cells, Signals};
+use tdf_expr_state::{Cells, Signals};
 
 #[test]
 fn cells(rt: HostRuntime) -> Result<(), Fail> {

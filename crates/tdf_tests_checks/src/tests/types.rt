@@ -3,12 +3,11 @@
 use super::{At, OK, fault_at, tree_of};
 use std::alloc::Global;
 use std::test::Fail;
-use tdf_base::{Code, Memory};
-use tdf_checks::check_types;
-use tdf_faults::LineFault;
-use tdf_scope::{Part, globals_of, tdf_scope};
-use tdf_tree::Global1;
-use tdf_widths::check_body;
+use tdf_base::{Code, LineFault, Memory};
+use tdf_expr_blocks::check_types;
+use tdf_expr_symbols::{Part, globals_of, tdf_scope};
+use tdf_expr_types::check_body;
+use tdf_lang_tree::Global1;
 
 /// Whole texts, each with its first fault.
 const TEXTS: &[(&str, At)] = &[

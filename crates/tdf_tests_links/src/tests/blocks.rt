@@ -4,8 +4,8 @@ use super::tree_of;
 use std::alloc::Global;
 use std::test::Fail;
 use tdf_base::Memory;
-use tdf_resolve::{law_bound, law_earlier, resolve};
-use tdf_walk::{Block, Instance, Target};
+use tdf_bind_hierarchy::{Block, Instance, Target};
+use tdf_bind_names::{law_bound, law_earlier, resolve};
 
 /// A module, a composite around it with a signal of its own, and `top` with both.
 const TEXT: &str =

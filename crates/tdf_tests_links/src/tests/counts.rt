@@ -4,7 +4,7 @@ use super::tree_of;
 use std::alloc::Global;
 use std::test::Fail;
 use tdf_base::Memory;
-use tdf_resolve::{is_too_many, resolve};
+use tdf_bind_names::{is_too_many, resolve};
 
 /// A text with `deep` composites, each with two instances of the one before, and `top` with one of the last and `more` of the first.
 fn text_of(alloc: Global, deep: u32, more: u32) -> Result<Vec<u8>, Memory> {

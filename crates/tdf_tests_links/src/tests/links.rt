@@ -4,7 +4,7 @@ use super::tree_of;
 use std::alloc::Global;
 use std::test::Fail;
 use tdf_base::{Memory, push_fault};
-use tdf_links::{law_link_faults, link_fault};
+use tdf_bind_ports::{law_link_faults, link_fault};
 
 /// Whole texts, each with its first fault as it is printed, or nothing.
 const TEXTS: &[(&str, &str)] = &[

@@ -4,9 +4,9 @@ ghost use Rattle.std.specs.Prelude.{◌<◌, ◌^◌};
 
 use std::alloc::Global;
 use std::test::Fail;
+use tdf_base::Resolution;
+use tdf_cli_words::TraceKind;
 use tdf_io::SureSink;
-use tdf_sim::low::base::Resolution;
-use tdf_sim::low::words::TraceKind;
 use tdf_sim::{Ran, elaborate};
 
 /// A module whose rate goes from one to four at the first boundary, and back to one at the second.

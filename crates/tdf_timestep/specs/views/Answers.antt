@@ -1,15 +1,12 @@
 -- What the parts of the whole answer.
-use Rattle.std.specs.Prelude.{ℕ, ◌≡◌, ◌<◌, ◌/◌, List, [], Result, Ok, Err, length, nat_eq}
-use Rattle.std.specs.Prelude.{if◌then◌else◌, slice_index}
+use Rattle.std.specs.Prelude.{ℕ, ◌≡◌, ◌<◌, ◌/◌, List, [], Result, Ok, Err, length, nat_eq, if◌then◌else◌, slice_index}
 use Rattle.tdf_base.specs.Limits.{time_end}
 use Rattle.tdf_graph.specs.declared.actors.Port.{Port}
-use Rattle.tdf_timestep.specs.Period.{AreAgreed, IsDisagreed, IsTooLong, IsInexact}
-use Rattle.tdf_timestep.specs.Period.{IsPeriod, HasSteps}
+use Rattle.tdf_timestep.specs.Period.{AreAgreed, IsDisagreed, IsTooLong, IsInexact, IsPeriod, HasSteps}
 use Rattle.tdf_timestep.specs.declared.assign.Assign.{Assign}
 use Rattle.tdf_timestep.specs.declared.assign.Steps.{Steps}
 use Rattle.tdf_timestep.specs.declared.err.StepErr.{StepErr}
-use Rattle.tdf_timestep.specs.declared.err.StepErr.TheVariants.{NoTimestep, Disagree, TooLong}
-use Rattle.tdf_timestep.specs.declared.err.StepErr.TheVariants.{Inexact, Memory}
+use Rattle.tdf_timestep.specs.declared.err.StepErr.TheVariants.{NoTimestep, Disagree, TooLong, Inexact, Memory}
 
 -- the period before its steps are looked at
 abbrev pub IsAgreed : List Port → List ℕ → List Assign → Result ℕ StepErr → Type 0

@@ -3,7 +3,7 @@
 use Rattle.std.specs.Io.KnownBytes.{Appends}
 use Rattle.std.specs.Prelude.{◌≡◌, ◌⊎◌, ℕ, ◌≤◌, Bool, true, Option, List}
 use Rattle.tdf_io.specs.Bytes.{AppendsFront}
-use Rattle.tdf_rows.specs.Rows.{Cells}
+use Rattle.tdf_trace_rows.specs.Rows.{Cells}
 use Rattle.tdf_trace.specs.Stands.{AreGiven, NextRowWaits, RowsSeen, Stands}
 use Rattle.tdf_trace.specs.Writings.{AboutSeen, rows_text}
 

@@ -1,7 +1,6 @@
 -- How columns go to the next row.
 -- Source: own.
-use Rattle.std.specs.Prelude.{◌≡◌, ℕ, ◌+◌, ◌<◌, ◌≤◌, Bool, true, false, nat_eq, ◌&&◌, not}
-use Rattle.std.specs.Prelude.{if◌then◌else◌, Option, Some, is_some, List, [], ◌∷◌, length, slice_get}
+use Rattle.std.specs.Prelude.{◌≡◌, ℕ, ◌+◌, ◌<◌, ◌≤◌, Bool, true, false, nat_eq, ◌&&◌, not, if◌then◌else◌, Option, Some, is_some, List, [], ◌∷◌, length, slice_get}
 use Rattle.tdf_fixed.specs.declared.raw.Raw.{Raw}
 use Rattle.tdf_trace.specs.Columns.{ColumnSeen, HasFewPlaces}
 use Rattle.tdf_trace.specs.Stands.{RowsSeen}

@@ -1,6 +1,6 @@
 use Rattle.std.proofs.Common.{inl, sym, ◌∙◌}
 use Rattle.tdf_cli.specs.Input.{reading}
-use Rattle.tdf_sim.specs.low.words.Words.{texts_of}
+use Rattle.tdf_cli_words.specs.Words.{texts_of}
 use Rattle.tdf_cli.proofs.Complete.{met, met_load, read_fault_rose, read_noted}
 use Rattle.tdf_cli.proofs.command.tool.Goals as goal
 

@@ -1,6 +1,6 @@
 use Rattle.tdf_cli.proofs.Outcomes.{each_ok, each_err, check_all, check_part}
 use Rattle.tdf_cli.proofs.jobs.check.Goals as goal
-use Rattle.tdf_sim.specs.low.tree.Views.{pure_tree}
+use Rattle.tdf_lang_tree.specs.Views.{pure_tree}
 
 pub returns-in-Ok-clause-all : goal.returns-in-Ok-clause-all
 returns-in-Ok-clause-all g c = each_ok c.put_texts.result (pure_tree c.args.tree.now) _

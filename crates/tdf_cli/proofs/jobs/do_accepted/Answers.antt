@@ -2,8 +2,8 @@ use Rattle.std.proofs.Common.{IfOk, OnErr, subst, sym}
 use Rattle.tdf_cli.proofs.Outcomes.{each_err, each_ok}
 use Rattle.tdf_cli.specs.Input.{Text}
 use Rattle.tdf_cli.specs.Outcome.{WritesNothingOrFront, WritesOutcome}
-use Rattle.tdf_sim.specs.low.tree.Views.{pure_tree}
-use Rattle.tdf_sim.specs.low.words.declared.asked.Settings.{Settings}
+use Rattle.tdf_lang_tree.specs.Views.{pure_tree}
+use Rattle.tdf_cli_words.specs.declared.asked.Settings.{Settings}
 use Rattle.tdf_cli.proofs.jobs.do_accepted.Goals as goal
 
 pub returns-in-Load-clause-all : goal.returns-in-Load-clause-all

@@ -1,5 +1,5 @@
 use Rattle.std.proofs.Common.{subst}
-use Rattle.tdf_sim.specs.low.blocks.Refused.{IsWhy}
+use Rattle.tdf_lang_parser.specs.Refused.{IsWhy}
 use Rattle.tdf_cli.proofs.Outcomes.{noted_all, noted_part}
 use Rattle.tdf_cli.specs.Input.{Text}
 use Rattle.tdf_cli.specs.Outcome.{faulty}

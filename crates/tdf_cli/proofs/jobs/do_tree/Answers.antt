@@ -1,16 +1,16 @@
 use Rattle.std.proofs.Common.{subst}
-use Rattle.tdf_sim.specs.low.base.declared.faults.Fault.{Fault}
+use Rattle.tdf_base.specs.declared.faults.Fault.{Fault}
 use Rattle.tdf_cli.proofs.Outcomes.{noted_all, noted_part, each_ok, each_err}
 use Rattle.tdf_cli.proofs.jobs.do_tree.Goals as goal
 use Rattle.tdf_cli.specs.Input.{Text}
 use Rattle.tdf_cli.specs.Outcome.{faulty}
 use Rattle.tdf_cli.specs.Refusals.{refusal_text}
-use Rattle.tdf_sim.specs.low.in_out.Bytes.{WritesText}
+use Rattle.tdf_io.specs.Bytes.{WritesText}
 use Rattle.tdf_cli.specs.declared.status.Status.TheVariants.{Refused}
 use Rattle.tdf_sim.specs.Accepted.{IsTreeRefusal}
 use Rattle.tdf_sim.specs.FirstFault.{of_tree}
 use Rattle.tdf_sim.specs.declared.err.SimErr.{SimErr}
-use Rattle.tdf_sim.specs.low.tree.Views.{pure_tree}
+use Rattle.tdf_lang_tree.specs.Views.{pure_tree}
 
 pub returns-in-Err-Refused-clause-all : goal.returns-in-Err-Refused-clause-all
 returns-in-Err-Refused-clause-all g c = each_ok c.refuse.result (pure_tree c.args.tree.now) _

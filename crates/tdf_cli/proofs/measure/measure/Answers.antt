@@ -2,7 +2,7 @@ use Rattle.std.proofs.Common.{List, ℕ, inl, subst}
 use Rattle.std.proofs.KnownBytes.{Keeps-refl}
 use Rattle.std.specs.Io.KnownBytes.{Appends}
 use Rattle.tdf_cli.proofs.Outcomes.{loaded_all, loaded_part}
-use Rattle.tdf_sim.specs.low.in_out.Bytes.{AppendsFront}
+use Rattle.tdf_io.specs.Bytes.{AppendsFront}
 use Rattle.tdf_cli.proofs.measure.measure.Goals as goal
 
 pub returns-in-Ok-put_all-clause-all : goal.returns-in-Ok-put_all-clause-all

@@ -1,6 +1,6 @@
 use Rattle.std.proofs.Common.{subst}
-use Rattle.tdf_sim.specs.low.blocks.Refused.{IsWhy}
-use Rattle.tdf_sim.specs.low.blocks.declared.err.LangErr.{LangErr}
+use Rattle.tdf_lang_parser.specs.Refused.{IsWhy}
+use Rattle.tdf_lang_parser.specs.declared.err.LangErr.{LangErr}
 use Rattle.tdf_sim.specs.FirstFault.{of_bytes, of_length, of_syntax}
 use Rattle.tdf_cli.proofs.refusals.first_fault.Goals as goal
 

@@ -3,7 +3,7 @@ use Rattle.tdf_cli.proofs.Outcomes.{noted_all, noted_part}
 use Rattle.tdf_cli.specs.Input.{Text}
 use Rattle.tdf_cli.specs.Outcome.{too_late}
 use Rattle.tdf_cli.specs.declared.status.Status.TheVariants.{StopTooLong}
-use Rattle.tdf_sim.specs.low.words.declared.asked.Settings.TheVariants.{Run}
+use Rattle.tdf_cli_words.specs.declared.asked.Settings.TheVariants.{Run}
 use Rattle.tdf_cli.proofs.run.run.Goals as goal
 
 pub returns-in-Some-clause-all : goal.returns-in-Some-clause-all

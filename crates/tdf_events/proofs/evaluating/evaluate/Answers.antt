@@ -1,6 +1,6 @@
 use Rattle.std.proofs.Common.{List, Bool, length, ap, sym, ◌∙◌}
-use Rattle.tdf_calendar.proofs.Api.{by_list}
-use Rattle.tdf_calendar.specs.Evaluation.{evaluated}
+use Rattle.tdf_events_queue.proofs.Api.{by_list}
+use Rattle.tdf_events_queue.specs.Evaluation.{evaluated}
 use Rattle.tdf_events.specs.Kernel.{side_of}
 use Rattle.tdf_events.specs.Processes.{ran}
 use Rattle.tdf_events.specs.views.Parts.{kernel_of}

@@ -1,8 +1,8 @@
 use Rattle.std.proofs.Common.{rules, ◌≡◌, ◌<◌, ℕ, List, Some, length, slice_index, refl, ap, sym, ◌∙◌, subst}
 use Rattle.std.proofs.lemmas.Option.{slice_get-get_or}
-use Rattle.tdf_calendar.proofs.Api.{ran_more, ran_none}
-use Rattle.tdf_calendar.specs.Evaluation.{ran_first}
-use Rattle.tdf_calendar.specs.Sets.{SetOf}
+use Rattle.tdf_events_queue.proofs.Api.{ran_more, ran_none}
+use Rattle.tdf_events_queue.specs.Evaluation.{ran_first}
+use Rattle.tdf_events_queue.specs.Sets.{SetOf}
 use Rattle.tdf_events.proofs.Evaluated.{triggered_inside}
 use Rattle.tdf_events.specs.Kernel.{side_of}
 use Rattle.tdf_events.specs.Processes.{ran}

@@ -1,10 +1,10 @@
 use Rattle.std.proofs.Common.{◌≡◌}
-use Rattle.tdf_calendar.specs.Evaluation.{ran_first}
+use Rattle.tdf_events_queue.specs.Evaluation.{ran_first}
 use Rattle.tdf_events.specs.Kernel.{IsKernelOf, side_of}
 use Rattle.tdf_events.specs.Processes.{ran}
 use Rattle.tdf_events.specs.views.Parts.{kernel_of}
-use Rattle.tdf_flat.specs.low.expr.Checked.{IsCheckedOf}
-use Rattle.tdf_flat.specs.low.tree.Pure.{PureTree}
+use Rattle.tdf_expr.specs.Checked.{IsCheckedOf}
+use Rattle.tdf_lang_tree.specs.Pure.{PureTree}
 use Rattle.tdf_events.proofs.evaluating.run_all.Given as goal
 
 abbrev pub invariant-loop-i : goal.invariant-loop-i

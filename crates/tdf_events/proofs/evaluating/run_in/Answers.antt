@@ -1,12 +1,12 @@
 use Rattle.std.proofs.Common.{rules, ◌≡◌, ℕ, List, length, refl, ap, ◌∙◌}
-use Rattle.tdf_calendar.specs.Lists.{list_at}
+use Rattle.tdf_events_queue.specs.Lists.{list_at}
 use Rattle.tdf_events.proofs.Evaluated.{index_set}
 use Rattle.tdf_events.specs.Kernel.{KernelOf}
 use Rattle.tdf_events.specs.Notices.{noticed_first}
 use Rattle.tdf_events.specs.Processes.{written_first}
 use Rattle.tdf_events.specs.views.Parts.{kernel_of}
-use Rattle.tdf_flat.specs.low.expr.Frames.{PortsSeen}
-use Rattle.tdf_flat.specs.low.wiring.ProcessBlocks.{BlockRowOf}
+use Rattle.tdf_expr.specs.Frames.{PortsSeen}
+use Rattle.tdf_bind_connections.specs.ProcessBlocks.{BlockRowOf}
 use Rattle.tdf_events.proofs.evaluating.run_in.Goals as goal
 
 pub returns : goal.returns

@@ -6,7 +6,7 @@ use Rattle.tdf_events.proofs.Steps.{flags_long}
 use Rattle.tdf_events.specs.Delta.{flags_from}
 use Rattle.tdf_events.specs.Runnable.{signal_formats}
 use Rattle.tdf_events.specs.views.Parts.{kernel_of}
-use Rattle.tdf_flat.specs.low.wiring.declared.drivers.SignalRow.{SignalRow}
+use Rattle.tdf_bind_connections.specs.declared.drivers.SignalRow.{SignalRow}
 use Rattle.tdf_events.proofs.instants.begin.Goals as goal
 
 pub write_sinks-requires : goal.write_sinks-requires

@@ -1,5 +1,5 @@
 use Rattle.std.proofs.Common.{rules, ◌≡◌, ◌<◌, ◌++◌, ◌∷◌, [], length, slice_index, slice_set}
-use Rattle.tdf_calendar.specs.Lists.{list_at}
+use Rattle.tdf_events_queue.specs.Lists.{list_at}
 use Rattle.tdf_events.proofs.Tables.{add_more}
 use Rattle.tdf_events.proofs.making.add_all.Goals as goal
 

@@ -1,5 +1,5 @@
 use Rattle.std.proofs.Common.{◌≡◌, ◌<◌, ℕ, length, take}
-use Rattle.tdf_calendar.specs.Lists.{list_at}
+use Rattle.tdf_events_queue.specs.Lists.{list_at}
 use Rattle.tdf_events.specs.Processes.{owned_from}
 use Rattle.tdf_events.proofs.making.own_events.Given as goal
 

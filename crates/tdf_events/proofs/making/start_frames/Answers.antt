@@ -1,6 +1,6 @@
 use Rattle.std.proofs.Common.{rules, ◌≡◌, Some, length, slice_get, refl, subst}
 use Rattle.std.proofs.lemmas.Option.{slice_get_read}
-use Rattle.tdf_flat.specs.low.wiring.ProcessBlocks.{BlockRowOf}
+use Rattle.tdf_bind_connections.specs.ProcessBlocks.{BlockRowOf}
 use Rattle.tdf_events.specs.machine.Making.{IsFirstFrame}
 use Rattle.tdf_events.proofs.Tables.{frames_more}
 use Rattle.tdf_events.proofs.making.start_frames.Goals as goal

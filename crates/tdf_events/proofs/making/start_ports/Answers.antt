@@ -1,7 +1,7 @@
 use Rattle.std.proofs.Common.{rules, ◌≡◌, ℕ, Some, length, slice_get, refl, subst, ap, ◌∙◌, Option}
 use Rattle.std.proofs.lemmas.Option.{slice_get_read}
 use Rattle.std.proofs.lemmas.List.{length-replicate}
-use Rattle.tdf_flat.specs.low.wiring.ProcessBlocks.{BlockRowOf}
+use Rattle.tdf_bind_connections.specs.ProcessBlocks.{BlockRowOf}
 use Rattle.tdf_events.specs.machine.Making.{AreFirstPorts}
 use Rattle.tdf_events.proofs.Tables.{ports_more}
 use Rattle.tdf_events.proofs.making.start_ports.Goals as goal

@@ -4,7 +4,7 @@ use Rattle.tdf_events.specs.Delta.{after_update, flags_from, is_next, stepped}
 use Rattle.tdf_events.specs.Kernel.{IsKernelOf, side_of}
 use Rattle.tdf_events.specs.machine.Updating.{AreAllReached, does_change}
 use Rattle.tdf_events.specs.views.Parts.{kernel_of}
-use Rattle.tdf_flat.specs.low.fixed.declared.raw.Raw.{Raw}
+use Rattle.tdf_fixed.specs.declared.raw.Raw.{Raw}
 use Rattle.tdf_events.proofs.stepping.step.Goals as goal
 
 pub returns-clause-kernel : goal.returns-clause-kernel

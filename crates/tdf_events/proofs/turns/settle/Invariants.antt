@@ -2,8 +2,8 @@ use Rattle.std.proofs.Common.{◌≡◌, ◌+◌}
 use Rattle.tdf_events.specs.Delta.{settled}
 use Rattle.tdf_events.specs.Kernel.{IsKernelOf, side_of}
 use Rattle.tdf_events.specs.views.Parts.{kernel_of}
-use Rattle.tdf_flat.specs.low.expr.Checked.{IsCheckedOf}
-use Rattle.tdf_flat.specs.low.tree.Pure.{PureTree}
+use Rattle.tdf_expr.specs.Checked.{IsCheckedOf}
+use Rattle.tdf_lang_tree.specs.Pure.{PureTree}
 use Rattle.tdf_events.proofs.turns.settle.Given as goal
 
 abbrev pub invariant-loop-turns : goal.invariant-loop-turns

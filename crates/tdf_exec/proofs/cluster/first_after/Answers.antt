@@ -1,7 +1,7 @@
 use Rattle.std.proofs.Common.{leb, rules}
 use Rattle.std.proofs.lemmas.List.Sorted.{IsPartitionPoint-from_clause, IsPartitionedBy-leb}
 use Rattle.tdf_exec.proofs.Counts.{beyond, upto}
-use Rattle.tdf_layout.specs.low.schedule.declared.entry.Entry.{Entry}
+use Rattle.tdf_schedule.specs.declared.entry.Entry.{Entry}
 use Rattle.tdf_exec.proofs.cluster.first_after.Goals as goal
 
 pub returns-clause-upto : goal.returns-clause-upto

@@ -1,7 +1,7 @@
 use Rattle.std.proofs.Common.{◌≡◌, ◌<◌, ℕ, Some, false}
 use Rattle.std.specs.Prelude.{slice_get}
-use Rattle.tdf_layout.specs.low.dynamic.Attributes.{AttrsOf}
-use Rattle.tdf_layout.specs.low.streams.Places.{has_changes}
+use Rattle.tdf_dynamic_plans.specs.Attributes.{AttrsOf}
+use Rattle.tdf_streams.specs.Places.{has_changes}
 use Rattle.tdf_exec.proofs.crossing.has_changes.Given as goal
 
 abbrev pub invariant-loop-i : goal.invariant-loop-i

@@ -1,5 +1,5 @@
 use Rattle.std.proofs.Common.{◌≡◌, take}
-use Rattle.tdf_layout.specs.low.rings.Rings.{ring_of}
+use Rattle.tdf_rings.specs.Rings.{ring_of}
 use Rattle.tdf_exec.proofs.filling.put_samples.Given as goal
 
 abbrev pub invariant-loop-i : goal.invariant-loop-i

@@ -1,6 +1,6 @@
 use Rattle.std.proofs.Common.{◌≡◌, ◌-◌, ◌<◌, Some, suc, ap, arith, length}
 use Rattle.std.specs.Prelude.{slice_get}
-use Rattle.tdf_layout.specs.low.dynamic.Attributes.{AttrsOf}
+use Rattle.tdf_dynamic_plans.specs.Attributes.{AttrsOf}
 use Rattle.tdf_exec.proofs.Moves.{back_step, fewer, number_at}
 use Rattle.tdf_exec.specs.machine.Moving.{numbers_of}
 use Rattle.tdf_exec.proofs.moving.put_back.Goals as goal

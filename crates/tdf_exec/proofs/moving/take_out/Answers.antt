@@ -1,7 +1,7 @@
 use Rattle.std.proofs.Common.{◌≡◌, Some, ap, arith}
 use Rattle.std.proofs.lemmas.Option.{slice_get_within}
 use Rattle.std.specs.Prelude.{slice_get}
-use Rattle.tdf_layout.specs.low.dynamic.Attributes.{AttrsOf}
+use Rattle.tdf_dynamic_plans.specs.Attributes.{AttrsOf}
 use Rattle.tdf_exec.proofs.Moves.{number_at, out_step, still_there}
 use Rattle.tdf_exec.specs.declared.runners.Runner.TheVariants.{Module, Outside}
 use Rattle.tdf_exec.specs.machine.Moving.{numbers_of}

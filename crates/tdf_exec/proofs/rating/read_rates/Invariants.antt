@@ -1,6 +1,6 @@
 use Rattle.std.proofs.Common.{◌≡◌, map, take}
-use Rattle.tdf_layout.specs.low.dynamic.Rates.{edge_kind, net_ports, read_rate_by}
-use Rattle.tdf_layout.specs.low.wiring.declared.edges.EdgeRow.{EdgeRow}
+use Rattle.tdf_dynamic_plans.specs.Rates.{edge_kind, net_ports, read_rate_by}
+use Rattle.tdf_bind_connections.specs.declared.edges.EdgeRow.{EdgeRow}
 use Rattle.tdf_exec.proofs.rating.read_rates.Given as goal
 
 abbrev pub invariant-loop-e : goal.invariant-loop-e

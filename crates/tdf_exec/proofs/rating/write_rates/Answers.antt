@@ -1,5 +1,5 @@
 use Rattle.std.proofs.Common.{◌∙◌, ◌≤◌, ap, arith, length}
-use Rattle.tdf_layout.specs.low.flat.declared.model.Flat.{Flat}
+use Rattle.tdf_bind.specs.declared.model.Flat.{Flat}
 use Rattle.tdf_exec.proofs.EdgeRates.{all_written}
 use Rattle.tdf_exec.proofs.rating.write_rates.Goals as goal
 

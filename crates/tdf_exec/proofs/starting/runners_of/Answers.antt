@@ -1,7 +1,7 @@
 use Rattle.std.proofs.Common.{arith}
-use Rattle.tdf_layout.proofs.Api.{modules_few}
+use Rattle.tdf_dynamic_plans.proofs.Api.{modules_few}
 use Rattle.tdf_exec.proofs.Kept.{of_modules}
-use Rattle.tdf_layout.proofs.Api.{is_wired}
+use Rattle.tdf_streams.proofs.Api.{is_wired}
 use Rattle.tdf_exec.proofs.starting.runners_of.Goals as goal
 
 pub first_runners-requires-clause-modules : goal.first_runners-requires-clause-modules

@@ -4,7 +4,7 @@ use Rattle.std.specs.Prelude.{Err, Ok, OnErr, Result, slice_index_or}
 use Rattle.tdf_exec.proofs.Greatest.{all_most, rooms_next, rooms_none, too_many}
 use Rattle.tdf_exec.specs.Gained.{sent_size, traced_size}
 use Rattle.tdf_exec.specs.machine.Telling.{AreRooms}
-use Rattle.tdf_layout.specs.low.schedule.declared.entry.Entry.{Entry}
+use Rattle.tdf_schedule.specs.declared.entry.Entry.{Entry}
 use Rattle.tdf_exec.proofs.telling.most_of.Goals as goal
 
 on_any : {T E Q : Type 0} (r : Result T E) → Q → OnErr r Q

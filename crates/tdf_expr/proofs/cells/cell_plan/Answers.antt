@@ -3,8 +3,8 @@ use Rattle.std.specs.Prelude.{replicate, map}
 use Rattle.tdf_expr.proofs.Planned.{plan_step}
 use Rattle.tdf_expr.proofs.cells.cell_plan.Goals as goal
 use Rattle.tdf_expr.specs.Plans.{written, starts_of}
-use Rattle.tdf_meaning.specs.Places.{cells_of}
-use Rattle.tdf_scope.specs.Names.{shape_of}
+use Rattle.tdf_expr_semantics.specs.Places.{cells_of}
+use Rattle.tdf_expr_symbols.specs.Names.{shape_of}
 
 pub loop-place-preserved : goal.loop-place-preserved
 loop-place-preserved c = record {

@@ -3,8 +3,8 @@ use Rattle.std.specs.List.{flat_map}
 use Rattle.std.specs.Prelude.{replicate, map}
 use Rattle.tdf_expr.proofs.cells.cell_plan.Given as goal
 use Rattle.tdf_expr.specs.Plans.{written, starts_of, cell_starts}
-use Rattle.tdf_meaning.specs.Places.{cells_of, cell_shapes}
-use Rattle.tdf_scope.specs.Names.{shape_of}
+use Rattle.tdf_expr_semantics.specs.Places.{cells_of, cell_shapes}
+use Rattle.tdf_expr_symbols.specs.Names.{shape_of}
 
 abbrev pub invariant-loop-place : goal.invariant-loop-place
 invariant-loop-place l = record {

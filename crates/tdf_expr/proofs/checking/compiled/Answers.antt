@@ -2,8 +2,8 @@ use Rattle.std.proofs.Common.{subst, sym}
 use Rattle.tdf_expr.proofs.Finely.{all_fine}
 use Rattle.tdf_expr.proofs.checking.compiled.Goals as goal
 use Rattle.tdf_expr.specs.machine.Fine.{IsBlockFine}
-use Rattle.tdf_scope.specs.Names.{Names}
-use Rattle.tdf_tree.specs.Views.{pure_tree}
+use Rattle.tdf_expr_symbols.specs.Names.{Names}
+use Rattle.tdf_lang_tree.specs.Views.{pure_tree}
 
 pub block_list-requires : goal.block_list-requires
 block_list-requires c = record {

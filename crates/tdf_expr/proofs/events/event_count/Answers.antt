@@ -1,7 +1,7 @@
 use Rattle.std.proofs.Common.{arith, ◌<◌, ◌≤◌, ◌∙◌, length}
 use Rattle.tdf_expr.proofs.Ported.{samples_step, before_total}
 use Rattle.tdf_expr.proofs.events.event_count.Goals as goal
-use Rattle.tdf_meaning.specs.Places.{events_of}
+use Rattle.tdf_expr_semantics.specs.Places.{events_of}
 
 pub loop-place-preserved : goal.loop-place-preserved
 loop-place-preserved c =

@@ -6,7 +6,7 @@ use Rattle.tdf_expr.proofs.Listed.{global_at, blocks_take, blocks_whole}
 use Rattle.tdf_expr.proofs.modules.block_list.Goals as goal
 use Rattle.tdf_expr.specs.Blocks.{PureBlock, blocks_of}
 use Rattle.tdf_expr.specs.Compiled.{AreBlocksOf}
-use Rattle.tdf_tree.specs.Views.{pure_global}
+use Rattle.tdf_lang_tree.specs.Views.{pure_global}
 
 pub push_block-requires : goal.push_block-requires
 push_block-requires c =

@@ -1,13 +1,13 @@
 use Rattle.std.proofs.Common.{Option, subst}
 use Rattle.tdf_base.specs.Limits.{deepest_nesting}
-use Rattle.tdf_bodies.specs.Promises.{AreFaultless}
+use Rattle.tdf_expr_compiler.specs.Promises.{AreFaultless}
 use Rattle.tdf_expr.proofs.Blocked.{event_acts}
 use Rattle.tdf_expr.proofs.modules.event_block.Goals as goal
 use Rattle.tdf_expr.specs.Blocks.{process_body}
 use Rattle.tdf_expr.specs.declared.bodies.Body.TheVariants as body
-use Rattle.tdf_tree.specs.Kept.{KeepsStmts}
-use Rattle.tdf_tree.specs.Pure.{PureProcess}
-use Rattle.tdf_tree.specs.Views.{pure_de}
+use Rattle.tdf_lang_tree.specs.Kept.{KeepsStmts}
+use Rattle.tdf_lang_tree.specs.Pure.{PureProcess}
+use Rattle.tdf_lang_tree.specs.Views.{pure_de}
 
 pub process_acts-requires-clause-faultless : goal.process_acts-requires-clause-faultless
 process_acts-requires-clause-faultless c = λ n p is.

@@ -1,9 +1,9 @@
 use Rattle.std.proofs.Common.{arith, ◌<◌, ◌+◌, List, length, subst, sym}
 use Rattle.std.specs.Prelude.{map}
 use Rattle.tdf_expr.proofs.Blocked.{AreMade, seen_at, made_more}
-use Rattle.tdf_machine.specs.declared.acts.Act.{Act}
+use Rattle.tdf_expr_machine.specs.declared.acts.Act.{Act}
 use Rattle.tdf_expr.proofs.modules.process_acts.Goals as goal
-use Rattle.tdf_tree.specs.Views.{pure_process}
+use Rattle.tdf_lang_tree.specs.Views.{pure_process}
 
 pub compile_body-requires-clause-none : goal.compile_body-requires-clause-none
 compile_body-requires-clause-none c =

@@ -4,8 +4,8 @@ use Rattle.tdf_expr.proofs.modules.push_block.Goals as goal
 use Rattle.tdf_expr.specs.Blocks.{PureBlock, Module, Events, block_of, scope_of}
 use Rattle.tdf_expr.specs.Compiled.{AreBlocksOf, IsBlockOf}
 use Rattle.tdf_expr.specs.declared.blocks.Block.{Block}
-use Rattle.tdf_scope.specs.Scope.{Scope}
-use Rattle.tdf_tree.specs.Views.{pure_global, pure_tdf, pure_de}
+use Rattle.tdf_expr_symbols.specs.Scope.{Scope}
+use Rattle.tdf_lang_tree.specs.Views.{pure_global, pure_tdf, pure_de}
 
 pub returns-in_ok-push-in-Tdf : goal.returns-in_ok-push-in-Tdf
 returns-in_ok-push-in-Tdf c = λ done are.

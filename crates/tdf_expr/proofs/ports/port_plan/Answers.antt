@@ -2,7 +2,7 @@ use Rattle.std.proofs.Common.{map, arith, ◌<◌, ◌≤◌, ◌∙◌, length}
 use Rattle.tdf_expr.proofs.Ported.{spans_step, samples_step, samples_all}
 use Rattle.tdf_expr.proofs.ports.port_plan.Goals as goal
 use Rattle.tdf_expr.specs.Plans.{place_of_port}
-use Rattle.tdf_meaning.specs.Places.{samples_of}
+use Rattle.tdf_expr_semantics.specs.Places.{samples_of}
 
 pub loop-place-preserved : goal.loop-place-preserved
 loop-place-preserved c =

@@ -1,7 +1,7 @@
 use Rattle.std.proofs.Common.{map, ◌≡◌, ◌≤◌, ◌^◌, ◌++◌, drop}
 use Rattle.tdf_expr.proofs.ports.port_plan.Given as goal
 use Rattle.tdf_expr.specs.Plans.{place_of_port, places_from, port_places}
-use Rattle.tdf_meaning.specs.Places.{before, samples_of}
+use Rattle.tdf_expr_semantics.specs.Places.{before, samples_of}
 
 abbrev pub invariant-loop-place : goal.invariant-loop-place
 invariant-loop-place l = record {

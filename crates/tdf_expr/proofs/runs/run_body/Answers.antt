@@ -8,7 +8,7 @@ use Rattle.tdf_expr.specs.Frames.{FrameSeen, PortsSeen, IsFrameFit, ArePortsFit,
 use Rattle.tdf_expr.specs.Made.{AreMadeFor}
 use Rattle.tdf_expr.specs.Runs.{Ran}
 use Rattle.tdf_expr.specs.machine.Parts.{part_done}
-use Rattle.tdf_state.specs.State.{FrameState, PortsState, State, state_of}
+use Rattle.tdf_expr_state.specs.State.{FrameState, PortsState, State, state_of}
 
 pub run_part-requires : goal.run_part-requires
 run_part-requires c =

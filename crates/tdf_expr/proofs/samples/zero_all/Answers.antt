@@ -3,7 +3,7 @@ use Rattle.std.proofs.lemmas.Option.{slice_get_read}
 use Rattle.tdf_expr.proofs.Framed.{zeroed_next, zeroed_one_long}
 use Rattle.tdf_expr.proofs.samples.zero_all.Goals as goal
 use Rattle.tdf_expr.specs.machine.Zeroed.{zeroed, zeroed_one}
-use Rattle.tdf_state.specs.State.{PortsState}
+use Rattle.tdf_expr_state.specs.State.{PortsState}
 
 pub loop-span-preserved : goal.loop-span-preserved
 loop-span-preserved c =

@@ -1,8 +1,8 @@
 use Rattle.std.proofs.Common.{◌≡◌, ◌∙◌, Bool, true, false, List, ℤ, sym, ap, if◌then◌else◌}
 use Rattle.tdf_expr.proofs.samples.zero_one.Goals as goal
 use Rattle.tdf_expr.specs.machine.Zeroed.{zeroed_one}
-use Rattle.tdf_state.specs.Resets.{with_zeros}
-use Rattle.tdf_state.specs.State.{PortsState}
+use Rattle.tdf_expr_state.specs.Resets.{with_zeros}
+use Rattle.tdf_expr_state.specs.State.{PortsState}
 
 pub returns-then-is_written : goal.returns-then-is_written
 unfolding zeroed_one

@@ -1,7 +1,7 @@
 use Rattle.std.proofs.Common.{false, ◌≡◌, [], ap, sym, subst, ◌∙◌}
 use Rattle.std.proofs.lemmas.List.{append-nil}
-use Rattle.tdf_exprs.specs.SpellsExpr.{SpellsExpr}
-use Rattle.tdf_print.specs.Exprs.{expr_text}
+use Rattle.tdf_lang_exprs.specs.SpellsExpr.{SpellsExpr}
+use Rattle.tdf_lang_printer.specs.Exprs.{expr_text}
 use Rattle.tdf_lang.specs.Texts.{tokens_of}
 use Rattle.tdf_lang.proofs.ExprLaws.{expr_ok, expr_again, expr_apart}
 use Rattle.tdf_lang.proofs.ExprWords.{expr_words, expr_tokens, expr_written, expr_tokens_are}

@@ -1,4 +1,4 @@
-use Rattle.tdf_blocks.proofs.Api.{never_both, one_line_at_fault, one_of_both, one_tree}
+use Rattle.tdf_lang_parser.proofs.Api.{never_both, one_line_at_fault, one_of_both, one_tree}
 use Rattle.tdf_lang.proofs.AlikeLaws.{alike_text}
 use Rattle.tdf_lang.proofs.CanonLaws.{comes_back, no_bytes, parses, text_alike}
 use Rattle.tdf_lang.proofs.laws.law_spelled.Goals as goal

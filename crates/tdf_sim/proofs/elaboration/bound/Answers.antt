@@ -1,11 +1,11 @@
 use Rattle.std.proofs.Common.{subst}
-use Rattle.tdf_loop.specs.low.bind.declared.flat.BindErr.{BindErr}
-use Rattle.tdf_loop.specs.low.flat.Flat.{IsBindRefusal}
+use Rattle.tdf_bind_tables.specs.declared.flat.BindErr.{BindErr}
+use Rattle.tdf_bind.specs.Flat.{IsBindRefusal}
 use Rattle.tdf_sim.proofs.Closed.{closed_top}
 use Rattle.tdf_sim.proofs.Plannable.{can_be_planned}
 use Rattle.tdf_sim.proofs.elaboration.bound.Goals as goal
 use Rattle.tdf_sim.specs.FirstFault.{of_binding}
-use Rattle.tdf_loop.specs.low.tree.Views.{pure_tree}
+use Rattle.tdf_lang_tree.specs.Views.{pure_tree}
 
 pub returns-in-Ok-clause-plannable : goal.returns-in-Ok-clause-plannable
 returns-in-Ok-clause-plannable c =

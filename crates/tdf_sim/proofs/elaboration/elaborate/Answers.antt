@@ -2,7 +2,7 @@ use Rattle.std.proofs.lemmas.Result.{IfOk-weaker}
 use Rattle.tdf_sim.proofs.Refusing.{always, err_always, parser_refused, text_accepted, text_refused}
 use Rattle.tdf_sim.specs.Runs.{IsAcceptedTree, IsSomeAccepted}
 use Rattle.tdf_sim.proofs.elaboration.elaborate.Goals as goal
-use Rattle.tdf_loop.specs.low.tree.Views.{pure_tree}
+use Rattle.tdf_lang_tree.specs.Views.{pure_tree}
 
 pub returns-in-Ok-clause-runs : goal.returns-in-Ok-clause-runs
 returns-in-Ok-clause-runs c = IfOk-weaker c.elaborate_tree.result (IsAcceptedTree (pure_tree c.in-Ok.tree)) IsSomeAccepted (λ sim is. record { tree = pure_tree c.in-Ok.tree; of = is }) c.elaborate_tree.ensures.of

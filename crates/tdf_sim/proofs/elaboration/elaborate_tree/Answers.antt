@@ -1,6 +1,6 @@
 use Rattle.tdf_sim.proofs.Refusing.{clusters_accepted, clusters_refused, tree_always, tree_err_always}
 use Rattle.tdf_sim.proofs.elaboration.elaborate_tree.Goals as goal
-use Rattle.tdf_loop.specs.low.tree.Views.{pure_tree}
+use Rattle.tdf_lang_tree.specs.Views.{pure_tree}
 
 pub returns-in-Ok-clause-refused : goal.returns-in-Ok-clause-refused
 returns-in-Ok-clause-refused c = clusters_refused (pure_tree c.args.tree.now) c.in-Ok.flat c.new.result c.in-Ok.ensures.sound c.in-Ok.ensures.flat c.new.ensures.refused

@@ -1,5 +1,5 @@
 use Rattle.std.proofs.Common.{◌∙◌, ap, ◌++◌}
-use Rattle.tdf_loop.proofs.Api.{texts_next}
+use Rattle.tdf_dynamic_texts.proofs.Api.{texts_next}
 use Rattle.tdf_sim.proofs.Printing.{text_at, text_is}
 use Rattle.tdf_sim.proofs.sim.push_clusters.Goals as goal
 

@@ -1,5 +1,5 @@
 use Rattle.std.proofs.Common.{rules, ◌≡◌, subst, inr}
-use Rattle.tdf_calendar.specs.Sets.{count_on}
+use Rattle.tdf_events_queue.specs.Sets.{count_on}
 use Rattle.tdf_events.specs.Kernel.{IsNextOf, KernelOf, side_of}
 use Rattle.tdf_events.proofs.kernel.Kernel.next_time.Goals as goal
 

@@ -1,6 +1,6 @@
 use Rattle.std.proofs.Common.{arith, ◌≡◌, ◌<◌, ℕ, List, Bool, false, length, map, slice_get, ap, sym, ◌∙◌, subst}
-use Rattle.tdf_calendar.specs.Sets.{is_on}
-use Rattle.tdf_calendar.specs.Triggered.{AreAllTriggered}
+use Rattle.tdf_events_queue.specs.Sets.{is_on}
+use Rattle.tdf_events_queue.specs.Triggered.{AreAllTriggered}
 use Rattle.tdf_events.specs.Notices.{NoticesOf}
 use Rattle.tdf_events.specs.machine.Updating.{AreAllReached}
 use Rattle.tdf_events.proofs.Updates.{all_false, delta_all, on_inside}

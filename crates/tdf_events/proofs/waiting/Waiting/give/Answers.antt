@@ -3,7 +3,7 @@ use Rattle.std.proofs.lemmas.List.{length-map}
 use Rattle.tdf_events.specs.Delta.{updated}
 use Rattle.tdf_events.specs.machine.Updating.{AreForgotten, AreTaken}
 use Rattle.tdf_events.proofs.Updates.{flags_gone, forgotten_all, member_inside, taken_all}
-use Rattle.tdf_flat.specs.low.fixed.declared.raw.Raw.{Raw}
+use Rattle.tdf_fixed.specs.declared.raw.Raw.{Raw}
 use Rattle.tdf_events.proofs.waiting.Waiting.give.Goals as goal
 
 pub take_values-requires-clause-values : goal.take_values-requires-clause-values

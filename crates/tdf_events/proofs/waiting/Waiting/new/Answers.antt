@@ -1,5 +1,5 @@
 use Rattle.std.proofs.Common.{rules, ◌≡◌, Option, None, replicate}
-use Rattle.tdf_flat.specs.low.fixed.declared.raw.Raw.{Raw}
+use Rattle.tdf_fixed.specs.declared.raw.Raw.{Raw}
 use Rattle.tdf_events.proofs.Writing.{flags_new}
 use Rattle.tdf_events.proofs.waiting.Waiting.new.Goals as goal
 

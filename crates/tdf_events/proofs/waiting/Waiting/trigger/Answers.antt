@@ -1,7 +1,7 @@
 use Rattle.std.proofs.Common.{arith, ◌≡◌, ◌<◌, ℕ, List, Option, length, slice_get, ap, sym, ◌∙◌, subst}
 use Rattle.tdf_events.specs.machine.Updating.{AreAllReached, AreReached, does_change}
 use Rattle.tdf_events.proofs.Updates.{member_inside, reached_all}
-use Rattle.tdf_flat.specs.low.fixed.declared.raw.Raw.{Raw}
+use Rattle.tdf_fixed.specs.declared.raw.Raw.{Raw}
 use Rattle.tdf_events.proofs.waiting.Waiting.trigger.Goals as goal
 
 pub trigger_changed-requires-clause-values : goal.trigger_changed-requires-clause-values

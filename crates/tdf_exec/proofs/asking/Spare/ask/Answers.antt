@@ -1,5 +1,5 @@
 use Rattle.std.proofs.Common.{◌∙◌, arith, refl}
-use Rattle.tdf_changes.specs.Change.{asks_of}
+use Rattle.tdf_dynamic.specs.Change.{asks_of}
 use Rattle.tdf_exec.proofs.Moves.{all_inside, all_once, frames_of, have_cells, have_instances, later_long, out_is}
 use Rattle.tdf_exec.specs.Crossing.{values_at}
 use Rattle.tdf_exec.proofs.asking.Spare.ask.Goals as goal

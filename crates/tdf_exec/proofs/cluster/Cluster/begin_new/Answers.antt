@@ -1,11 +1,11 @@
 use Rattle.std.proofs.Common.{◌≡◌, ◌∙◌, None, ap, arith, map, subst, sym, true}
-use Rattle.tdf_layout.proofs.Api.{modules_few}
+use Rattle.tdf_dynamic_plans.proofs.Api.{modules_few}
 use Rattle.tdf_exec.proofs.Installing.{can_restart, fit_in, has, some_rooms}
 use Rattle.tdf_exec.specs.Cluster.{ClusterOf, next_offset}
 use Rattle.tdf_exec.specs.Crossing.{IsReadyFor}
 use Rattle.tdf_exec.specs.Made.{room_for}
 use Rattle.tdf_exec.specs.contracts.cluster.Cluster.{the_view}
-use Rattle.tdf_layout.proofs.Api.{are_rates, is_wired}
+use Rattle.tdf_streams.proofs.Api.{are_rates, is_wired}
 use Rattle.tdf_exec.proofs.cluster.Cluster.begin_new.Goals as goal
 
 pub next_parts-requires-clause-rates : goal.next_parts-requires-clause-rates

@@ -1,15 +1,14 @@
-use Rattle.std.proofs.Common.{◌≡◌, ◌⊎◌, ◌∙◌, ℕ, None, Ok, Err, Result, Some, false, true, ap, arith, refl, subst, sym}
-use Rattle.std.proofs.Common.{rules}
+use Rattle.std.proofs.Common.{◌≡◌, ◌⊎◌, ◌∙◌, ℕ, None, Ok, Err, Result, Some, false, true, ap, arith, refl, subst, sym, rules}
 use Rattle.std.specs.Prelude.{IfErr, IfOk, IsOk, slice_get}
-use Rattle.tdf_layout.specs.low.base.declared.faults.Fault.{Fault}
-use Rattle.tdf_changes.specs.Change.{IsChangeFault, IsNewPlan, IsSame, table_after}
-use Rattle.tdf_changes.specs.Next.{IsNext}
-use Rattle.tdf_changes.specs.declared.next.Next.{Next}
-use Rattle.tdf_changes.specs.declared.next.Next.TheVariants.{Same}
-use Rattle.tdf_layout.specs.low.dynamic.Attributes.{AttrsOf}
-use Rattle.tdf_layout.specs.low.dynamic.Faults.{IsRefusal}
-use Rattle.tdf_layout.specs.low.dynamic.declared.err.ChangeErr.{ChangeErr}
-use Rattle.tdf_layout.specs.low.dynamic.declared.err.ChangeErr.TheVariants.{Memory, Refused}
+use Rattle.tdf_base.specs.declared.faults.Fault.{Fault}
+use Rattle.tdf_dynamic.specs.Change.{IsChangeFault, IsNewPlan, IsSame, table_after}
+use Rattle.tdf_dynamic.specs.Next.{IsNext}
+use Rattle.tdf_dynamic.specs.declared.next.Next.{Next}
+use Rattle.tdf_dynamic.specs.declared.next.Next.TheVariants.{Same}
+use Rattle.tdf_dynamic_plans.specs.Attributes.{AttrsOf}
+use Rattle.tdf_dynamic_plans.specs.Faults.{IsRefusal}
+use Rattle.tdf_dynamic_plans.specs.declared.err.ChangeErr.{ChangeErr}
+use Rattle.tdf_dynamic_plans.specs.declared.err.ChangeErr.TheVariants.{Memory, Refused}
 use Rattle.tdf_exec.proofs.Asks.{has_cluster, instances_are, modules_are, planned_is}
 use Rattle.tdf_exec.proofs.Boundaries.{no_fault, not_still, still_after, still_crossed, still_crosses, still_next, still_of}
 use Rattle.tdf_exec.proofs.Changing.{as_long, can_install, crossed_of, crosses_from, has_crossed}
@@ -18,9 +17,9 @@ use Rattle.tdf_exec.specs.Cluster.{ClusterOf, next_offset}
 use Rattle.tdf_exec.specs.Crossing.{CrossesFrom, HasCrossed, HasNoChanges, WhenItAsks, at_place, values_at}
 use Rattle.tdf_exec.specs.Made.{IsClusterOf}
 use Rattle.tdf_exec.specs.contracts.cluster.Cluster.{the_view}
-use Rattle.tdf_layout.specs.low.schedule.declared.entry.Plan.{Plan}
-use Rattle.tdf_layout.specs.low.streams.Periods.{AreAttributes}
-use Rattle.tdf_layout.specs.low.streams.Places.{has_changes}
+use Rattle.tdf_schedule.specs.declared.entry.Plan.{Plan}
+use Rattle.tdf_streams.specs.Periods.{AreAttributes}
+use Rattle.tdf_streams.specs.Places.{has_changes}
 use Rattle.tdf_exec.proofs.cluster.Cluster.boundary.Goals as goal
 
 -- the plan stays

@@ -1,5 +1,5 @@
 use Rattle.std.proofs.Common.{◌≡◌, Err, Ok, OnOk, Result, false, subst, sym, true}
-use Rattle.tdf_changes.specs.declared.next.Next.{Next}
+use Rattle.tdf_dynamic.specs.declared.next.Next.{Next}
 use Rattle.tdf_exec.proofs.Crosses.{head_held, of_next, stands_next}
 use Rattle.tdf_exec.proofs.Installing.{new_cluster, new_heads, new_plan, stands_new}
 use Rattle.tdf_exec.specs.Cluster.{ClusterOf}

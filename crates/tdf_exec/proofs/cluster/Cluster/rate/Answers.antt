@@ -1,7 +1,7 @@
 use Rattle.std.proofs.Common.{subst, sym}
 use Rattle.tdf_exec.specs.Made.{IsClusterOf}
 use Rattle.tdf_exec.specs.contracts.cluster.Cluster.{the_view}
-use Rattle.tdf_layout.proofs.Api.{are_rates}
+use Rattle.tdf_streams.proofs.Api.{are_rates}
 use Rattle.tdf_exec.proofs.cluster.Cluster.rate.Goals as goal
 
 pub port_rate-requires-clause-rates : goal.port_rate-requires-clause-rates

@@ -6,7 +6,7 @@ use Rattle.tdf_expr.specs.Frames.{FrameSeen, IsFrameFit}
 use Rattle.tdf_fixed.specs.Overflow.{IsIn}
 use Rattle.tdf_fixed.specs.declared.format.Format.{Format}
 use Rattle.std.specs.Prelude.{◌≡◌, Some, slice_get, slice_set}
-use Rattle.tdf_state.specs.State.{FrameState}
+use Rattle.tdf_expr_state.specs.State.{FrameState}
 
 pub invariant_of-self : goal.invariant_of-self
 invariant_of-self c =

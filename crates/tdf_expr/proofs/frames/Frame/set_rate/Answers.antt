@@ -4,7 +4,7 @@ use Rattle.tdf_expr.proofs.Framed.{rate_set}
 use Rattle.tdf_expr.proofs.frames.Frame.set_rate.Goals as goal
 use Rattle.tdf_expr.specs.Frames.{FrameSeen, IsFrameFit, IsAllowedRate}
 use Rattle.tdf_expr.specs.declared.spans.RateSpan.{RateSpan}
-use Rattle.tdf_state.specs.State.{FrameState}
+use Rattle.tdf_expr_state.specs.State.{FrameState}
 
 pub invariant_of-self : goal.invariant_of-self
 invariant_of-self c =

@@ -4,8 +4,8 @@ use Rattle.tdf_expr.proofs.Framed.{span_inside, zeroed_all, reset_fit}
 use Rattle.tdf_expr.proofs.samples.Ports.reset.Goals as goal
 use Rattle.tdf_expr.specs.Frames.{PortsSeen, ArePortsFit, reset_samples, reset_state}
 use Rattle.tdf_expr.specs.machine.Zeroed.{zeroed}
-use Rattle.tdf_state.specs.Resets.{none_set, no_times}
-use Rattle.tdf_state.specs.State.{PortsState}
+use Rattle.tdf_expr_state.specs.Resets.{none_set, no_times}
+use Rattle.tdf_expr_state.specs.State.{PortsState}
 
 pub zero_all-requires : goal.zero_all-requires
 zero_all-requires c = λ n p at.

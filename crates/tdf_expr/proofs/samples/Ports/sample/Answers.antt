@@ -1,13 +1,12 @@
 use mir.Syntax.{w128}
-use Rattle.std.proofs.Common.{◌≡◌, ◌∙◌, ◌<◌, ◌+◌, ◌-◌, Some, length, refl, sym, ap, subst, arith, ℤ}
+use Rattle.std.proofs.Common.{◌≡◌, ◌∙◌, ◌<◌, ◌+◌, ◌-◌, Some, length, refl, sym, ap, subst, arith, ℤ, rules}
 use Rattle.std.proofs.lemmas.Option.{slice_get_read}
 use Rattle.std.specs.Prelude.{slice_get, slice_set}
-use Rattle.std.proofs.Common.{rules}
 use Rattle.std.proofs.lemmas.Int.{to_z-of_z}
 use Rattle.tdf_expr.proofs.Framed.{sample_there, sample_set, one_span}
 use Rattle.tdf_expr.specs.Frames.{PortsSeen, ArePortsFit, IsOfFormat}
 use Rattle.tdf_expr.specs.declared.spans.PortSpan.{PortSpan}
-use Rattle.tdf_state.specs.State.{PortsState, cell_at}
+use Rattle.tdf_expr_state.specs.State.{PortsState, cell_at}
 use Rattle.tdf_expr.proofs.samples.Ports.sample.Goals as goal
 use Rattle.tdf_fixed.specs.Cast.{fraction_of}
 

@@ -1,5 +1,0 @@
-use Rattle.tdf_alike.proofs.Runs.{runs_write_the_same}
-use Rattle.tdf_alike.proofs.laws.law_alike.Goals as goal
-
-pub returns : goal.returns
-returns c = runs_write_the_same

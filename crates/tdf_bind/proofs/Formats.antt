@@ -1,0 +1,91 @@
+-- The formats of the signals of a model without a fault of types are there, and are formats that there are.
+use Rattle.std.proofs.Common.{◌≡◌, ℕ, List, [], ◌∷◌, Option, Some, true, sym, subst}
+use Rattle.std.specs.List.{AllByRecursion, flat_map}
+use Rattle.tdf_expr_blocks.specs.Blocks.{composite_faults}
+use Rattle.tdf_expr_blocks.specs.Lines.{format_faults, member_faults}
+use Rattle.tdf_expr_blocks.specs.Types.{global_faults, traces_faults, type_faults}
+use Rattle.tdf_base.proofs.Api.{none_first, none_second}
+use Rattle.tdf_bind.proofs.Lists.{all_append}
+use Rattle.tdf_bind.proofs.Things.{AllThings, IsGlobal, globals_all, shape_legal}
+use Rattle.tdf_expr_semantics.proofs.Api.{found, of_kind}
+use Rattle.tdf_bind_names.specs.Resolved.{whole}
+use Rattle.tdf_bind_names.specs.Signals.{Declared, declared_by}
+use Rattle.tdf_expr_symbols.specs.Kinds.{is_allowed}
+use Rattle.tdf_expr_symbols.specs.Names.{Names, Thing, Port, TypeName, format_of, globals_of, kind_of, place_of, thing_of, type_shape}
+use Rattle.tdf_expr_symbols.specs.Scope.{Scope, composite_scope}
+use Rattle.tdf_expr_symbols.specs.Sound.{HasFormat}
+use Rattle.tdf_expr_symbols.specs.declared.kinds.Place.TheVariants as place
+use Rattle.tdf_lang_tree.specs.Pure.{PureComposite, PureGlobal, GShape, GTdf, GDe, GNet, PureTree}
+use Rattle.tdf_lang_tree.specs.declared.blocks.Member.TheVariants as member
+use Rattle.tdf_lang_tree.specs.declared.blocks.Member.{Member}
+use Rattle.tdf_lang_tree.specs.declared.blocks.PortKind.TheVariants.{In, Out, DeIn, DeOut}
+use Rattle.tdf_lang_tree.specs.declared.shapes.FormatRef.TheVariants as format
+use Rattle.tdf_lang_tree.specs.declared.shapes.FormatRef.{FormatRef}
+
+-- the format of a line that declares a signal
+abbrev pub IsFormatted : Names → Declared → Type 0
+IsFormatted globals d = HasFormat (format_of globals d.format)
+
+abbrev pub AreFormatted : Names → PureGlobal → Type 0
+AreFormatted globals (GNet block) = AllByRecursion (IsFormatted globals) (flat_map declared_by block.members)
+AreFormatted globals (GShape t) = Unit {0}
+AreFormatted globals (GTdf block) = Unit {0}
+AreFormatted globals (GDe block) = Unit {0}
+
+type_there : (t : Thing) → is_allowed place.Format (Some (kind_of t)) ≡ true → IsGlobal t → HasFormat (type_shape (Some t))
+unfolding is_allowed
+type_there (TypeName s) e holds = holds
+type_there (Port In a b c) e holds = absurd holds
+type_there (Port Out a b c) e holds = absurd holds
+type_there (Port DeIn a b c) e holds = absurd holds
+type_there (Port DeOut a b c) e holds = absurd holds
+type_there _ e holds = absurd cc
+
+format_there : (globals : Names) (line : ℕ) (x : FormatRef) → AllThings IsGlobal globals → format_faults globals line x ≡ [] → HasFormat (format_of globals x)
+format_there globals line (format.Own s) all none = shape_legal line s none
+format_there globals line (format.Named name) all none =
+    let kind = of_kind place.Format (thing_of globals name) line none in
+    subst (λ (o : Option Thing). HasFormat (type_shape o)) (sym kind.is) (type_there kind.thing kind.allowed (global_is name kind.thing kind.is))
+  where
+    global_is : (n : List ℕ) (t : Thing) → thing_of globals n ≡ Some t → IsGlobal t
+    global_is n t is = let at = found globals.things (place_of globals n) t is in all at.0 t at.2
+
+module _ (scope : Scope) (all : AllThings IsGlobal scope.globals) where
+  member_there : (m : Member) → member_faults scope m ≡ [] → AllByRecursion (IsFormatted scope.globals) (declared_by m)
+  unfolding member_faults
+  member_there (member.Port port) none = tt
+  member_there (member.Signal line name x) none = (format_there scope.globals line x all none, tt)
+  member_there (member.DeSignal line name x start) none = (format_there scope.globals line x all none, tt)
+  member_there (member.Instance line name block) none = tt
+  member_there (member.Bind line instance port target) none = tt
+
+  pub members_there : (ms : List Member) → flat_map (member_faults scope) ms ≡ [] → AllByRecursion (IsFormatted scope.globals) (flat_map declared_by ms)
+  members_there [] none = tt
+  members_there (m ∷ ms) none =
+      all_append (IsFormatted scope.globals) (declared_by m) (flat_map declared_by ms) (member_there m (none_first (member_faults scope m) (flat_map (member_faults scope) ms) none))
+      (members_there ms (none_second (member_faults scope m) (flat_map (member_faults scope) ms) none))
+
+composite_there : (globals : Names) (block : PureComposite) → AllThings IsGlobal globals → composite_faults globals block ≡ [] → AreFormatted globals (GNet block)
+unfolding composite_faults
+composite_there globals block all none = members_there (composite_scope globals block) all block.members none
+
+globals_there : (globals : Names) (gs : List PureGlobal) → AllThings IsGlobal globals → flat_map (global_faults globals) gs ≡ [] → AllByRecursion (AreFormatted globals) gs
+unfolding global_faults
+globals_there globals [] all none = tt
+globals_there globals (g ∷ gs) all none =
+    (one g (none_first (global_faults globals g) (flat_map (global_faults globals) gs) none), globals_there globals gs all (none_second (global_faults globals g) (flat_map (global_faults globals) gs) none))
+  where
+    one : (x : PureGlobal) → global_faults globals x ≡ [] → AreFormatted globals x
+    one (GShape t) e = tt
+    one (GTdf block) e = tt
+    one (GDe block) e = tt
+    one (GNet block) e = composite_there globals block all e
+
+pub formats_there : (model : PureTree) → type_faults model ≡ [] → AllByRecursion (AreFormatted (globals_of model.globals)) (whole model)
+unfolding type_faults
+formats_there model none =
+    let globals = globals_of model.globals in
+    let first = none_first (flat_map (global_faults globals) model.globals) _ none in
+    let top = none_first (composite_faults globals model.top) (traces_faults model.traces) (none_second (flat_map (global_faults globals) model.globals) _ none) in
+    let all = globals_all globals model.globals first in
+    all_append (AreFormatted globals) model.globals (GNet model.top ∷ []) (globals_there globals model.globals all first) (composite_there globals model.top all top, tt)

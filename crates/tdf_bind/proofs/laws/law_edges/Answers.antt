@@ -1,5 +1,0 @@
-use Rattle.tdf_bind.proofs.EdgeWhole.{edges_are_whole}
-use Rattle.tdf_bind.proofs.laws.law_edges.Goals as goal
-
-pub returns : goal.returns
-returns c = edges_are_whole c.law_numbers.ensures.ports c.law_kinds.ensures

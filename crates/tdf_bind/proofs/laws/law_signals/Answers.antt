@@ -1,5 +1,0 @@
-use Rattle.tdf_bind.proofs.Reaching.{ports_reach_signals}
-use Rattle.tdf_bind.proofs.laws.law_signals.Goals as goal
-
-pub returns : goal.returns
-returns c = ports_reach_signals c.law_numbers.ensures.ports c.law_kinds.ensures

@@ -1,0 +1,1 @@
+-- The lemmas that the crates above use.

@@ -1,0 +1,54 @@
+-- A fact of each thing of a name space.
+use Rattle.std.proofs.Common.{◌≡◌, ◌∙◌, ℕ, zero, suc, Bool, true, false, List, [], ◌∷◌, ◌++◌, Option, Some, None, refl, sym, ap, subst}
+use Rattle.std.specs.Cmp.Lexicographic.{pointwise}
+use Rattle.std.specs.List.{list_any}
+use Rattle.std.specs.Prelude.{if◌then◌else◌, nat_eq, slice_get, slice_set}
+use Rattle.tdf_expr_symbols.specs.Names.{Names, Thing, at_place, changed, changed_at, place_of, thing_of, with_name}
+
+-- a fact of each thing of a name space
+abbrev pub AllThings : (Thing → Type 0) → Names → Type 0
+AllThings P s = (n : ℕ) (t : Thing) → slice_get s.things n ≡ Some t → P t
+
+all_push : (P : Thing → Type 0) (things : List Thing) (x : Thing) → ((n : ℕ) (t : Thing) → slice_get things n ≡ Some t → P t) → P x
+    → (n : ℕ) (t : Thing) → slice_get (things ++ x ∷ []) n ≡ Some t → P t
+all_push P [] x all holds zero t is = subst P (ap held is) holds
+  where
+    held : Option Thing → Thing
+    held None = x
+    held (Some y) = y
+all_push P [] x all holds (suc n) t is = absurd cc
+all_push P (y ∷ things) x all holds zero t is = all zero t is
+all_push P (y ∷ things) x all holds (suc n) t is = all_push P things x (λ m u at. all (suc m) u at) holds n t is
+
+pub all_named : (P : Thing → Type 0) (s : Names) (name : List ℕ) (x : Thing) → AllThings P s → P x → AllThings P (with_name name x s)
+unfolding with_name
+all_named P s name x all holds = go (list_any (pointwise nat_eq name) s.names)
+  where
+    go : (b : Bool) → AllThings P (if b then s else record { names = s.names ++ name ∷ []; things = s.things ++ x ∷ [] })
+    go true = all
+    go false = all_push P s.things x all holds
+
+all_set : (P : Thing → Type 0) (things : List Thing) (k : ℕ) (x : Thing) → ((n : ℕ) (t : Thing) → slice_get things n ≡ Some t → P t) → P x
+    → (n : ℕ) (t : Thing) → slice_get (slice_set things k x) n ≡ Some t → P t
+all_set P [] k x all holds n t is = absurd cc
+all_set P (y ∷ things) zero x all holds zero t is = subst P (ap held is) holds
+  where
+    held : Option Thing → Thing
+    held None = x
+    held (Some z) = z
+all_set P (y ∷ things) zero x all holds (suc n) t is = all (suc n) t is
+all_set P (y ∷ things) (suc k) x all holds zero t is = all zero t is
+all_set P (y ∷ things) (suc k) x all holds (suc n) t is = all_set P things k x (λ m u at. all (suc m) u at) holds n t is
+
+pub all_changed : (P : Thing → Type 0) (s : Names) (f : Thing → Thing) (name : List ℕ) → AllThings P s → ((t : Thing) → P t → P (f t)) → AllThings P (changed f name s)
+unfolding changed
+all_changed P s f name all keeps = go (place_of s name) refl (thing_of s name) refl
+  where
+    go : (o : Option ℕ) → place_of s name ≡ o → (x : Option Thing) → thing_of s name ≡ x
+        → (n : ℕ) (t : Thing) → slice_get (changed_at f s.things o x) n ≡ Some t → P t
+    go None at x is n t here = all n t here
+    go (Some k) at None is n t here = all n t here
+    go (Some k) at (Some thing) is n t here = all_set P s.things k (f thing) all (keeps thing (all k thing (place_is k thing at is))) n t here
+      where
+        place_is : (k : ℕ) (thing : Thing) → place_of s name ≡ Some k → thing_of s name ≡ Some thing → slice_get s.things k ≡ Some thing
+        place_is k thing at is = ap (at_place s.things) (sym at) ∙ is

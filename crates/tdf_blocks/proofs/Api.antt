@@ -1,3 +1,0 @@
--- The lemmas that the crates above use.
-pub use Rattle.tdf_blocks.proofs.KeptLaws.{text_keeps, text_order}
-pub use Rattle.tdf_blocks.proofs.LangLaws.{never_both, one_line_at_fault, one_of_both, one_tree}

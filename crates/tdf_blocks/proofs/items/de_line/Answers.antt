@@ -1,5 +1,0 @@
-use Rattle.tdf_blocks.proofs.OtherForms.{de_line_other}
-use Rattle.tdf_blocks.proofs.items.de_line.Goals as goal
-
-pub returns : goal.returns
-returns c = de_line_other c.args.line c.args.form c.in_default.not-Port c.in_default.not-Const c.in_default.not-Var c.in_default.not-Array c.in_default.not-Event

@@ -1,5 +1,0 @@
-use Rattle.tdf_blocks.proofs.OtherForms.{plain_other}
-use Rattle.tdf_blocks.proofs.items.plain_stmt.Goals as goal
-
-pub returns : goal.returns
-returns c = plain_other c.args.line c.args.form c.in_default.not-Assign

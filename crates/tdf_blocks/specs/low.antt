@@ -1,2 +1,0 @@
--- What the crates further below define, for the crates above.
-pub mod tokens

@@ -1,5 +1,0 @@
-use Rattle.tdf_bodies.proofs.Operators.{computes_not}
-use Rattle.tdf_bodies.proofs.exprs.denied.Goals as goal
-
-pub returns : goal.returns
-returns c scope loops x inner = rw c.in_ok-inner.ensures.ok (computes_not scope loops x _ _ _ inner)

@@ -1,6 +1,0 @@
-use Rattle.tdf_bodies.proofs.Acting.{acts_for}
-use Rattle.tdf_bodies.proofs.stmts.repeated.Goals as goal
-
-pub returns : goal.returns
-returns c loops line name ss all =
-    rw (c.small.ensures, c.in_ok-body.ensures.ok) (acts_for c.args.scope.now loops line name c.args.from c.args.limit.now ss _ c.end_of-end.result c.args.body (c.end_of-end.ensures loops) all)

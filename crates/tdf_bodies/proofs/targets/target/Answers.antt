@@ -1,7 +1,0 @@
-use Rattle.std.proofs.Common.{map}
-use Rattle.tdf_bodies.proofs.Assigned.{target_spot}
-use Rattle.tdf_bodies.proofs.targets.target.Goals as goal
-use Rattle.tdf_scope.specs.Seen.{seen_loop}
-
-pub returns-in-Some : goal.returns-in-Some
-returns-in-Some c = rw c.in-Some.is (target_spot (map seen_loop c.args.loops.now) c.args.at _ c.spot_of.result c.spot_of.ensures)

@@ -1,5 +1,0 @@
-pub mod Formats
-pub mod Layouts
-pub mod Promises
-pub mod low
-pub mod machine

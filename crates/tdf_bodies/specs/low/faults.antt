@@ -1,3 +1,0 @@
--- Definitions of tdf_faults.
-pub use Rattle.tdf_faults.specs.First
-pub use Rattle.tdf_faults.specs.declared

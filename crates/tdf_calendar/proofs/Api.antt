@@ -1,2 +1,0 @@
--- The lemmas that other crates may use: an evaluation over any states, by the list of a sorted set.
-pub use Rattle.tdf_calendar.proofs.Skips.{by_list, ran_more, ran_none}

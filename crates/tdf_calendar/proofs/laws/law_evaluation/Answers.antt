@@ -1,5 +1,0 @@
-use Rattle.tdf_calendar.proofs.Skips.{by_list}
-use Rattle.tdf_calendar.proofs.laws.law_evaluation.Goals as goal
-
-pub returns : goal.returns
-returns c = λ run flags list s rising. by_list run flags list rising s

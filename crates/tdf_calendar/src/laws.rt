@@ -1,8 +1,0 @@
-//! Going through a sorted set is looking at every number in order.
-
-ghost use Rattle.tdf_calendar.specs.Evaluation.{EvaluatesByList};
-
-/// A list that names the triggered processes in rising order does for looking at every process.
-pub fn law_evaluation()
-    ensures { EvaluatesByList }
-{}

@@ -1,5 +1,0 @@
-use Rattle.tdf_changes.specs.machine.Asking.{HaveAsked}
-use Rattle.tdf_changes.proofs.asking.run_changes.Given as goal
-
-abbrev pub invariant-loop-i : goal.invariant-loop-i
-invariant-loop-i l = HaveAsked l.flat l.table l.i l.initial.frames.items l.frames.items

@@ -1,5 +1,0 @@
-use Rattle.tdf_changes.proofs.Staying.{attributes_stay}
-use Rattle.tdf_changes.proofs.laws.law_attributes.Goals as goal
-
-pub returns : goal.returns
-returns c = attributes_stay

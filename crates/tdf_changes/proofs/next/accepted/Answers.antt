@@ -1,9 +1,0 @@
-use Rattle.tdf_streams.specs.low.base.declared.codes.Code.TheVariants as code
-use Rattle.tdf_changes.proofs.Judging.{told_first}
-use Rattle.tdf_changes.specs.machine.Rows.{IsRefusing}
-use Rattle.tdf_changes.proofs.next.accepted.Goals as goal
-
-pub returns-in-Some-clause-refused : goal.returns-in-Some-clause-refused
-returns-in-Some-clause-refused c =
-    told_first (IsRefusing c.args.before.now.ports.items c.args.after.now.ports.items c.args.old.now.steps c.args.new.now.steps) c.args.flat.now.tables code.Rejected c.args.table.now c.args.frames.now
-    c.in-Some.place c.index-table-place.result c.in-Some.ensures c.index-table-place.is c.module_fault.result c.module_fault.ensures

@@ -1,7 +1,0 @@
-use Rattle.tdf_changes.specs.Asked.{IsQuiet}
-use Rattle.tdf_changes.specs.machine.Asking.{told}
-use Rattle.tdf_changes.specs.machine.Rows.{HoldsBelow}
-use Rattle.tdf_changes.proofs.tables.is_same.Given as goal
-
-abbrev pub invariant-loop-i : goal.invariant-loop-i
-invariant-loop-i l = HoldsBelow (λ attrs f. IsQuiet attrs (told f)) l.table l.frames l.i

@@ -1,5 +1,0 @@
-use Rattle.tdf_changes.specs.machine.Rows.{AreAfter}
-use Rattle.tdf_changes.proofs.tables.table_after.Given as goal
-
-abbrev pub invariant-loop-i : goal.invariant-loop-i
-invariant-loop-i l = AreAfter l.table l.frames l.i l.after.items

@@ -1,8 +1,0 @@
-pub mod Asked
-pub mod Change
-pub mod Given
-pub mod Laws
-pub mod Next
-pub mod Ports
-pub mod low
-pub mod machine

@@ -1,2 +1,0 @@
--- Definitions of tdf_firing.
-pub use Rattle.tdf_streams.specs.low.firing.Activation

@@ -1,4 +1,0 @@
--- Definitions of tdf_fixed.
-pub use Rattle.tdf_streams.specs.low.fixed.Cast
-pub use Rattle.tdf_streams.specs.low.fixed.Decimal
-pub use Rattle.tdf_streams.specs.low.fixed.declared

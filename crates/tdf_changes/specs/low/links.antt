@@ -1,2 +1,0 @@
--- Definitions of tdf_links.
-pub use Rattle.tdf_streams.specs.low.links.Ports

@@ -1,2 +1,0 @@
--- Definitions of tdf_names.
-pub use Rattle.tdf_streams.specs.low.names.Names

@@ -1,7 +1,0 @@
-use Rattle.std.proofs.Common.{◌∙◌, ap}
-use Rattle.tdf_checks.specs.machine.Written.{has}
-use Rattle.tdf_checks.proofs.Writing.{has_bytes}
-use Rattle.tdf_checks.proofs.writers.Written.has.Goals as goal
-
-pub returns : goal.returns
-returns c = c.contains.ensures ∙ has_bytes c.self.inside.set.keys c.args.name.now ∙ ap (λ ns. has ns c.args.name.now) c.self.view_is

@@ -1,0 +1,60 @@
+//! What the words ask for, and why they are not taken.
+
+use std::alloc::AllocError;
+use thiserror::Error;
+
+/// How a run writes its traces.
+#[derive(Clone, Copy, Debug, PartialEq, Eq)]
+pub enum TraceKind {
+    /// A table with a line for each time.
+    Table,
+    /// A value change dump.
+    Vcd,
+}
+
+/// What the words ask for.
+#[derive(Clone, Copy, Debug, PartialEq, Eq)]
+pub enum Settings {
+    /// Run the model and write its traces.
+    Run {
+        /// Where the run ends, in ps, below 10^18.
+        stop: u64,
+        /// How the traces are written.
+        kind: TraceKind,
+        /// How many turns the run may take, 1 to 10^12.
+        turns: u64,
+    },
+    /// Write the canonical text of the model.
+    Check,
+    /// Write the plans of the model.
+    Plan,
+    /// Make a model, run it, and write what it took.
+    Load {
+        /// Where the sequence begins from which the model is made, 0 to 65,536.
+        seed: u64,
+        /// The changes of rates that the model has, 1 to 500.
+        size: u64,
+    },
+}
+
+/// Why there are no settings.
+#[derive(Clone, Copy, Debug, Drop, Error, PartialEq, Eq)]
+pub enum WordsErr {
+    /// The words are not taken.
+    #[error("usage")]
+    Usage,
+    /// Out of memory.
+    #[error("out of memory")]
+    Memory,
+}
+
+impl From<AllocError> for WordsErr {
+    ghost use Rattle.std.specs.Prelude.{◌≡◌};
+    ghost use Rattle.tdf_cli_words.specs.declared.asked.WordsErr.TheVariants as why;
+
+    ghost from_gives = { λ _ e. e ≡ why.Memory };
+
+    fn from(_refused: AllocError) -> WordsErr {
+        WordsErr::Memory
+    }
+}

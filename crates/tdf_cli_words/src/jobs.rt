@@ -1,0 +1,131 @@
+//! What a job and its options ask for.
+
+ghost use Rattle.std.specs.Prelude.{◌≡◌, ◌<◌, ◌≤◌, ℕ, List, IfSome, map, option_map, option_and_then};
+ghost use Rattle.tdf_cli_words.specs.Jobs.{is_text, number_within, stop_of, kind_of, turns_of, has_any, run_given, alone, load_given, job_given, settings_given, most_turns, IsWithin};
+ghost use Rattle.tdf_base.specs.Limits.{time_end};
+
+use crate::asked::{Settings, TraceKind};
+use crate::command::Given;
+use tdf_base::{read_int, read_time};
+
+/// The turns of a run that says none.
+const USUAL_TURNS: u64 = 100_000_000;
+/// The most turns that a run may take.
+const MOST_TURNS: u64 = 1_000_000_000_000;
+/// The greatest seed of a made model.
+const GREATEST_SEED: u64 = 65_536;
+/// The greatest size of a made model.
+const GREATEST_SIZE: u64 = 500;
+
+/// The number that 1 to 18 digits spell, from `least` to `most`.
+fn number_within(least: u64, most: u64, text: &str) -> Option<u64>
+    ensures value { result ≡ number_within least most text.now }
+    ensures within { IfSome result (λ n. (least ≤ n) × (n ≤ most)) }
+{
+    let number = read_int(text.as_bytes())?;
+    if least <= number && number <= most {
+        return Some(number);
+    }
+    None
+}
+
+/// The time of `--stop` in ps.
+fn stop(given: &Given) -> Option<u64>
+    ensures value { result ≡ stop_of given.now.stop }
+    ensures early { IfSome result (λ t. t < time_end) }
+{
+    match read_time(given.stop?.as_bytes()) {
+        Ok(time) => Some(time),
+        Err(_) => None,
+    }
+}
+
+/// The kind of `--format`.
+fn kind(given: &Given) -> Option<TraceKind>
+    ensures { result ≡ kind_of given.now.format }
+{
+    let Some(text) = given.format else {
+        return Some(TraceKind::Table);
+    };
+    if text == "table" {
+        return Some(TraceKind::Table);
+    }
+    if text == "vcd" {
+        return Some(TraceKind::Vcd);
+    }
+    None
+}
+
+/// The number of `--turns`.
+fn turns(given: &Given) -> Option<u64>
+    ensures value { result ≡ turns_of given.now.turns }
+    ensures within { IfSome result (λ n. (1 ≤ n) × (n ≤ most_turns)) }
+{
+    match given.turns {
+        None => Some(USUAL_TURNS),
+        Some(text) => number_within(1, MOST_TURNS, text),
+    }
+}
+
+/// What `run` asks for.
+fn run(given: &Given) -> Option<Settings>
+    ensures value { result ≡ run_given given.now }
+    ensures within { IfSome result IsWithin }
+{
+    if given.seed.is_some() || given.size.is_some() {
+        return None;
+    }
+    let stop = stop(given)?;
+    let kind = kind(given)?;
+    let turns = turns(given)?;
+    Some(Settings::Run { stop, kind, turns })
+}
+
+/// What a job without options asks for.
+fn alone(job: Settings, given: &Given) -> Option<Settings>
+    ensures value { result ≡ alone job given.now }
+    ensures same { IfSome result (λ s. s ≡ job) }
+{
+    if given.stop.is_some() || given.format.is_some() || given.turns.is_some() {
+        return None;
+    }
+    if given.seed.is_some() || given.size.is_some() {
+        return None;
+    }
+    Some(job)
+}
+
+/// What `load` asks for.
+fn load(given: &Given) -> Option<Settings>
+    ensures value { result ≡ load_given given.now }
+    ensures within { IfSome result IsWithin }
+{
+    if given.stop.is_some() || given.format.is_some() || given.turns.is_some() {
+        return None;
+    }
+    let seed = number_within(0, GREATEST_SEED, given.seed?)?;
+    let size = number_within(1, GREATEST_SIZE, given.size?)?;
+    Some(Settings::Load { seed, size })
+}
+
+/// What the texts of the arguments ask for.
+#[tactic(auto, unfolding(crate::specs::Jobs::settings_given))]
+pub(crate) fn settings_given(given: &Given) -> Option<Settings>
+    ensures value { result ≡ settings_given given.now }
+    ensures within { IfSome result IsWithin }
+{
+    let job = given.job?;
+    if job == "run" {
+        return run(given);
+    }
+    if job == "check" {
+        return alone(Settings::Check, given);
+    }
+    if job == "plan" {
+        return alone(Settings::Plan, given);
+    }
+    if job == "load" {
+        return load(given);
+    }
+    None
+}

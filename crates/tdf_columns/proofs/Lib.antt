@@ -1,9 +1,0 @@
-pub mod Addings
-pub mod Api
-pub mod Findings
-pub mod Firsts
-pub mod Manies
-pub mod Places
-pub mod Showings
-pub mod Singles
-pub mod Uses

@@ -1,5 +1,0 @@
-use Rattle.tdf_columns.proofs.Api.{left_is}
-use Rattle.tdf_columns.proofs.laws.law_left.Goals as goal
-
-pub returns : goal.returns
-returns c = left_is

@@ -1,9 +1,0 @@
-use Rattle.std.proofs.Common.{subst, sym}
-use Rattle.tdf_columns.proofs.Findings.{place_is}
-use Rattle.tdf_columns.proofs.tracking.Tracking.place_of.Goals as goal
-use Rattle.tdf_columns.specs.Tracked.{TrackingOf}
-use Rattle.tdf_columns.specs.machine.Finding.{IsPlaceOf}
-
-pub returns : goal.returns
-returns c = subst (λ (v : TrackingOf). IsPlaceOf v.list c.args.signal c.found_in.result) c.self.view_is
-    (place_is c.self.inside.places.items c.self.inside.list.items c.args.signal c.found_in.result c.self.invariant.finds (sym c.found_in.ensures))

@@ -1,5 +1,0 @@
-use Rattle.tdf_dynamic.specs.Faults.{balance_fault}
-use Rattle.tdf_dynamic.proofs.faults.balance_error.Goals as goal
-
-pub returns : goal.returns
-returns c = c.refusal.ensures (balance_fault c.args.tables.now c.args.table.now c.args.why) c.balance_fault.ensures

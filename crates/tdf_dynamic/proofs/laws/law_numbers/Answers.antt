@@ -1,5 +1,0 @@
-use Rattle.tdf_dynamic.proofs.Numbers.{clusters_whole}
-use Rattle.tdf_dynamic.proofs.laws.law_numbers.Goals as goal
-
-pub returns : goal.returns
-returns c tables cluster wired some low = clusters_whole tables cluster wired some low

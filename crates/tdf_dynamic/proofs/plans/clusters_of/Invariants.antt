@@ -1,6 +1,0 @@
-use Rattle.std.proofs.Common.{◌≡◌, map, take}
-use Rattle.tdf_flat.specs.low.bind.Actors.{cluster_of}
-use Rattle.tdf_dynamic.proofs.plans.clusters_of.Given as goal
-
-abbrev pub invariant-loop-i : goal.invariant-loop-i
-invariant-loop-i l = l.numbers.items ≡ map cluster_of (take l.i l.tables.actors)

@@ -1,6 +1,0 @@
-use Rattle.std.proofs.Common.{◌≡◌, ◌∷◌, map, take}
-use Rattle.tdf_dynamic.specs.Text.{port_step}
-use Rattle.tdf_dynamic.proofs.table.steps_of.Given as goal
-
-abbrev pub invariant-loop-i : goal.invariant-loop-i
-invariant-loop-i l = l.steps.items ≡ l.own ∷ map (port_step l.ports) (take l.i l.numbers)

@@ -1,2 +1,0 @@
--- Definitions of tdf_balance.
-pub use Rattle.tdf_balance.specs.Laws

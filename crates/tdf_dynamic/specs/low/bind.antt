@@ -1,5 +1,0 @@
--- Definitions of tdf_bind.
-pub use Rattle.tdf_flat.specs.low.bind.Actors
-pub use Rattle.tdf_flat.specs.low.bind.Flat
-pub use Rattle.tdf_flat.specs.low.bind.Ranges
-pub use Rattle.tdf_flat.specs.low.bind.declared

@@ -1,4 +1,0 @@
--- Definitions of tdf_flat.
-pub use Rattle.tdf_flat.specs.Flat
-pub use Rattle.tdf_flat.specs.Laws
-pub use Rattle.tdf_flat.specs.declared

@@ -1,2 +1,0 @@
--- Definitions of tdf_state.
-pub use Rattle.tdf_flat.specs.low.state.State

@@ -1,2 +1,0 @@
--- Definitions of tdf_widths.
-pub use Rattle.tdf_flat.specs.low.widths.Bodies

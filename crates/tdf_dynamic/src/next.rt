@@ -1,0 +1,264 @@
+//! What a boundary of a cluster leads to.
+
+ghost use Rattle.std.specs.Prelude.{◌≡◌, ◌⊎◌, ◌≤◌, ℕ, List, ℤ, All, Contains, Some, Ok, Err, IfOk, IfErr, IsOk, OnOk, OnErr, true, length, slice_get};
+ghost use Rattle.std.specs.Vec.{vec_capacity};
+ghost use Rattle.tdf_base.specs.declared.codes.Code.TheVariants as code;
+ghost use Rattle.tdf_base.specs.declared.faults.Fault.{Fault as FaultOf};
+ghost use Rattle.tdf_dynamic.specs.Change.{IsChangeFault, IsNewPlan, IsSame, fault_of, table_after};
+ghost use Rattle.tdf_dynamic.specs.Given.{AreFramesOf, IsOfText, IsPlanned, WhenAsked};
+ghost use Rattle.tdf_dynamic.specs.Next.{HaveChanged, IsNext};
+ghost use Rattle.tdf_dynamic.specs.machine.Asking.{AllTell};
+ghost use Rattle.tdf_dynamic.specs.machine.Boundary.{IsFound, IsRefusedAt, IsTableRefused, NoneMarks};
+ghost use Rattle.tdf_dynamic.specs.machine.Judging.{IsJudged, IsJudgedFault};
+ghost use Rattle.tdf_dynamic.specs.machine.Rows.{AreAfter, HoldsBelow, IsFirstPlace, IsRefusing};
+ghost use Rattle.tdf_dynamic_plans.specs.Attributes.{AttrsOf, IsOfCluster, clusters_of};
+ghost use Rattle.tdf_dynamic_plans.specs.Faults.{HasTiming, IsRefusal};
+ghost use Rattle.tdf_dynamic_plans.specs.Rates.{AreRates, IsWired, net_of, seen};
+ghost use Rattle.tdf_dynamic_plans.specs.declared.err.ChangeErr.TheVariants.{Memory as NoMemory, Refused};
+ghost use Rattle.tdf_dynamic.specs.declared.next.Next.TheVariants.{Same};
+ghost use Rattle.tdf_expr.specs.Checked.{IsCheckedOf};
+ghost use Rattle.tdf_bind_invariants.specs.Limits.{AreWithinLimits};
+ghost use Rattle.tdf_schedule.specs.declared.entry.Plan.{Plan as PlanOf};
+ghost use Rattle.tdf_streams.specs.Periods.{AreAttributes};
+ghost use Rattle.tdf_lang_tree.specs.Pure.{PureTree};
+
+use crate::asking::run_changes;
+use crate::frames::{Frames, ModuleFrame};
+use crate::laws::law_one_answer;
+use crate::rejecting::first_rejecting;
+use crate::tables::{first_marked, is_same, set_flags, table_after};
+use std::alloc::Global;
+use tdf_balance::law_counts;
+use tdf_base::{Code, Fault, Place};
+use tdf_bind::Flat;
+use tdf_dynamic_plans::{
+    Attrs, ChangeErr, KnownPlans, ModuleAttrs, Timing, clusters_of, module_path, net_of, steps_of,
+};
+use tdf_graph::Net;
+use tdf_schedule::Plan;
+
+/// What a boundary of a cluster leads to.
+#[derive(Drop)]
+pub enum Next {
+    /// No module differs, and the plan stays.
+    Same,
+    /// The new table, and the plan under it.
+    Changed(Attrs, Plan),
+}
+
+/// A fault at the path of a module.
+fn module_fault(alloc: Global, flat: &Flat, why: Code, attrs: &ModuleAttrs) -> ChangeErr
+    ensures { IsRefusal (λ fault. fault_of flat.now.tables why attrs.now ≡ Some fault) result }
+{
+    match module_path(alloc, &flat.tables, attrs.number) {
+        Ok(path) => ChangeErr::Refused(Fault {
+            code: why,
+            place: Place::At(path),
+        }),
+        Err(_) => ChangeErr::Memory,
+    }
+}
+
+/// Whether no module rejects, or the fault that one does.
+fn accepted(
+    alloc: Global,
+    flat: &Flat,
+    table: &[ModuleAttrs],
+    frames: &[ModuleFrame],
+    before: &Net,
+    old: &Timing,
+    after: &Net,
+    new: &Timing,
+) -> Result<(), ChangeErr>
+    requires tells { AllTell flat.now table.now frames.now }
+    ensures none { OnOk result (HoldsBelow (λ attrs f. IsRefusing before.now.ports.items after.now.ports.items old.now.steps new.now.steps attrs f → ⊥)
+        table.now frames.now (length table.now)) }
+    ensures refused { IfErr result (IsRefusal (λ fault. (k : ℕ)
+        × (first : IsFirstPlace (IsRefusing before.now.ports.items after.now.ports.items old.now.steps new.now.steps) table.now frames.now k)
+        × (fault_of flat.now.tables code.Rejected first.one ≡ Some fault))) }
+{
+    match first_rejecting(flat, table, frames, before, &old.steps, after, &new.steps) {
+        None => Ok(()),
+        Some(place) => Err(module_fault(alloc, flat, Code::Rejected, &table[place])),
+    }
+}
+
+/// The plan of a new table, whose net and timing are given, if no module rejects it.
+fn judged_by(
+    alloc: Global,
+    flat: &Flat,
+    clusters: &[u32],
+    cluster: u32,
+    table: &[ModuleAttrs],
+    frames: &[ModuleFrame],
+    new: &[ModuleAttrs],
+    after: Net,
+    timing: Timing,
+    known: &mut KnownPlans,
+) -> Result<Plan, ChangeErr>
+    requires wired { IsWired flat.now.tables }
+    requires own { clusters.now ≡ clusters_of flat.now.tables }
+    requires has { Contains (clusters_of flat.now.tables) cluster }
+    requires table { All (IsOfCluster flat.now.tables cluster) table.now }
+    requires rates { AreRates flat.now.tables table.now }
+    requires planned { IsPlanned flat.now.tables cluster table.now }
+    requires net { seen after ≡ net_of flat.now.tables new.now }
+    requires timing { HasTiming flat.now.tables (net_of flat.now.tables new.now) cluster new.now timing.counts.items timing.steps }
+    requires tells { AllTell flat.now table.now frames.now }
+    ensures plan { IfOk result (IsJudged flat.now.tables cluster table.now new.now frames.now) }
+    ensures refused { IfErr result (IsRefusal (IsJudgedFault flat.now.tables cluster table.now new.now frames.now)) }
+{
+    law_counts();
+    let before = net_of(alloc, &flat.tables, table)?;
+    let old = match steps_of(alloc, &flat.tables, &before, clusters, cluster, table) {
+        Ok(old) => old,
+        Err(refused) => return Err(refused),
+    };
+    match accepted(alloc, flat, table, frames, &before, &old, &after, &timing) {
+        Ok(()) => known.plan_of(alloc, &flat.tables, after, new, timing),
+        Err(refused) => Err(refused),
+    }
+}
+
+/// The plan of a new table, if it has one and no module rejects it.
+fn judged(
+    alloc: Global,
+    flat: &Flat,
+    clusters: &[u32],
+    cluster: u32,
+    table: &[ModuleAttrs],
+    frames: &[ModuleFrame],
+    new: &[ModuleAttrs],
+    known: &mut KnownPlans,
+) -> Result<Plan, ChangeErr>
+    requires wired { IsWired flat.now.tables }
+    requires own { clusters.now ≡ clusters_of flat.now.tables }
+    requires has { Contains (clusters_of flat.now.tables) cluster }
+    requires table { All (IsOfCluster flat.now.tables cluster) table.now }
+    requires rates { AreRates flat.now.tables table.now }
+    requires planned { IsPlanned flat.now.tables cluster table.now }
+    requires new { All (IsOfCluster flat.now.tables cluster) new.now }
+    requires new_rates { AreRates flat.now.tables new.now }
+    requires tells { AllTell flat.now table.now frames.now }
+    ensures plan { IfOk result (IsJudged flat.now.tables cluster table.now new.now frames.now) }
+    ensures refused { IfErr result (IsRefusal (IsJudgedFault flat.now.tables cluster table.now new.now frames.now)) }
+{
+    let after = net_of(alloc, &flat.tables, new)?;
+    match steps_of(alloc, &flat.tables, &after, clusters, cluster, new) {
+        Ok(timing) => judged_by(
+            alloc, flat, clusters, cluster, table, frames, new, after, timing, known,
+        ),
+        Err(refused) => Err(refused),
+    }
+}
+
+/// The new table with its plan, if it has one and no module rejects it.
+fn with_table(
+    alloc: Global,
+    flat: &Flat,
+    cluster: u32,
+    table: &[ModuleAttrs],
+    frames: &[ModuleFrame],
+    known: &mut KnownPlans,
+) -> Result<Next, ChangeErr>
+    requires limits { AreWithinLimits flat.now }
+    requires has { Contains (clusters_of flat.now.tables) cluster }
+    requires attributes { AreAttributes flat.now cluster table.now }
+    requires planned { IsPlanned flat.now.tables cluster table.now }
+    requires tells { AllTell flat.now table.now frames.now }
+    requires after { (after : List AttrsOf) → AreAfter table.now frames.now (length table.now) after → AreAttributes flat.now cluster after }
+    ensures found { IfOk result (IsFound flat.now.tables cluster table.now frames.now) }
+    ensures refused { IfErr result (IsRefusal (IsTableRefused flat.now.tables cluster table.now frames.now)) }
+{
+    let after = table_after(alloc, flat, table, frames)?;
+    let clusters = clusters_of(alloc, &flat.tables)?;
+    match judged(
+        alloc, flat, &clusters, cluster, table, frames, &after, known,
+    ) {
+        Ok(plan) => Ok(Next::Changed(Attrs::new(after, known.take(alloc)), plan)),
+        Err(refused) => Err(refused),
+    }
+}
+
+/// The new table with its plan, where some module differs.
+fn changed(
+    alloc: Global,
+    flat: &Flat,
+    cluster: u32,
+    table: &[ModuleAttrs],
+    frames: &[ModuleFrame],
+    known: &mut KnownPlans,
+) -> Result<Next, ChangeErr>
+    requires limits { AreWithinLimits flat.now }
+    requires has { Contains (clusters_of flat.now.tables) cluster }
+    requires attributes { AreAttributes flat.now cluster table.now }
+    requires planned { IsPlanned flat.now.tables cluster table.now }
+    requires tells { AllTell flat.now table.now frames.now }
+    requires after { (after : List AttrsOf) → AreAfter table.now frames.now (length table.now) after → AreAttributes flat.now cluster after }
+    ensures unmarked { IsOk result → NoneMarks table.now frames.now }
+    ensures found { IfOk result (IsFound flat.now.tables cluster table.now frames.now) }
+    ensures refused { IfErr result (IsRefusal (IsRefusedAt flat.now.tables cluster table.now frames.now)) }
+{
+    match first_marked(table, frames) {
+        None => with_table(alloc, flat, cluster, table, frames, known),
+        Some(place) => Err(module_fault(alloc, flat, Code::Range, &table[place])),
+    }
+}
+
+/// What the boundary of a cluster between two periods leads to: the change bodies of its modules run, in the order of the table.
+/// Where no module differs, the table has the flags that were said, and no memory is taken. Else there is a new table and its
+/// plan, or the first fault, and the table stays.
+///
+/// # Errors
+/// The first fault: of rates that are not allowed, then of counts and steps, then of a module that rejects, then of the plan.
+/// Or out of memory.
+pub fn next_plan(
+    alloc: Global,
+    flat: &Flat,
+    cluster: u32,
+    attrs: &mut Attrs,
+    frames: &mut Frames,
+) -> Result<Next, ChangeErr>
+    requires limits { AreWithinLimits flat.now }
+    requires text { IsOfText flat.now }
+    requires has { Contains (clusters_of flat.now.tables) cluster }
+    requires attributes { AreAttributes flat.now cluster attrs.old }
+    requires planned { IsPlanned flat.now.tables cluster attrs.old }
+    requires frames { AreFramesOf flat.now attrs.old frames.old.modules.items }
+    ensures next { WhenAsked flat.now attrs.old frames.old.modules.items (λ asks.
+        IfOk result (IsNext flat.now.tables cluster asks attrs.old attrs.new)) }
+    ensures refused { WhenAsked flat.now attrs.old frames.old.modules.items (λ asks.
+        IfErr result (IsRefusal (IsChangeFault flat.now.tables cluster asks attrs.old))) }
+    ensures kept { OnErr result (attrs.new ≡ attrs.old) }
+    ensures frames { WhenAsked flat.now attrs.old frames.old.modules.items (λ asks.
+        HaveChanged flat.now asks attrs.old frames.new.modules.items) }
+    ensures after { WhenAsked flat.now attrs.old frames.old.modules.items (λ asks.
+        AreAttributes flat.now cluster (table_after asks attrs.old)) }
+    ensures long { length frames.new.modules.items ≡ length frames.old.modules.items }
+    ensures room { vec_capacity frames.old.modules ≤ vec_capacity frames.new.modules }
+
+    // Each answer comes wherever its cause is there, but for want of memory.
+    ensures same_always { WhenAsked flat.now attrs.old frames.old.modules.items (λ asks.
+        IsSame asks attrs.old → result ≡ Ok Same) }
+    ensures refused_always { WhenAsked flat.now attrs.old frames.old.modules.items (λ asks.
+        (fault : FaultOf) → IsChangeFault flat.now.tables cluster asks attrs.old fault
+        → (result ≡ Err (Refused fault)) ⊎ (result ≡ Err NoMemory)) }
+    ensures new_always { WhenAsked flat.now attrs.old frames.old.modules.items (λ asks.
+        (plan : PlanOf) → IsNewPlan flat.now.tables cluster asks attrs.old plan
+        → IsOk result ⊎ (result ≡ Err NoMemory)) }
+{
+    law_one_answer();
+    run_changes(flat, &attrs.rows, &mut frames.modules);
+    if is_same(flat, &attrs.rows, &frames.modules) {
+        set_flags(&mut attrs.rows, &frames.modules);
+        return Ok(Next::Same);
+    }
+    changed(
+        alloc,
+        flat,
+        cluster,
+        &attrs.rows,
+        &frames.modules,
+        &mut attrs.known,
+    )
+}

@@ -1,0 +1,7 @@
+pub mod Api
+pub mod Delays
+pub mod Fine
+pub mod Firsts
+pub mod Numbers
+pub mod Plannable
+pub mod Tables

@@ -1,0 +1,197 @@
+//! The table of attributes as the text says it.
+
+ghost use Rattle.std.specs.List.{cons_option};
+ghost use Rattle.std.specs.Prelude.{◌≡◌, ◌<◌, ◌≤◌, ◌++◌, ◌∷◌, [], All, IfOk, OnOk, length, map};
+ghost use Rattle.tdf_dynamic_plans.specs.Attributes.{number_if, ports_of};
+ghost use Rattle.tdf_dynamic_first.specs.Text.{port_step, first_attrs, attrs_if, attrs_in, first_table};
+ghost use Rattle.tdf_expr.specs.Checked.{IsChecked};
+ghost use Rattle.tdf_expr.specs.Made.{block_count, start_rates};
+
+use std::alloc::Global;
+use tdf_base::{Memory, row_number};
+use tdf_bind::Flat;
+use tdf_bind_connections::{ModuleRow, PortRow};
+use tdf_bind_tables::FlatTables;
+use tdf_dynamic_plans::{Attrs, KnownPlans, ModuleAttrs};
+use tdf_expr::{Checked, Frame};
+
+/// The values of the rate variables of a frame.
+fn rates_of(alloc: Global, frame: &Frame, count: u32) -> Result<Vec<u32>, Memory>
+    requires spans { count ≡ length frame.now.rates }
+    requires values { count ≡ length frame.now.state.rates }
+    ensures { IfOk result (λ rates. rates.items ≡ frame.now.state.rates) }
+{
+    let mut rates = Vec::new(alloc);
+    for i in 0..count {
+        rates.push(frame.rate(i))?;
+    }
+    Ok(rates)
+}
+
+/// The values that the rate variables of a block start with.
+fn start_rates(alloc: Global, checked: &Checked, block: u32) -> Result<Vec<u32>, Memory>
+    requires made { IsChecked checked.now }
+    requires block { block < block_count checked.now }
+    ensures { IfOk result (λ rates. rates.items ≡ start_rates checked.now block) }
+{
+    let frame = Frame::new(alloc, checked, block)?;
+    let rates = rates_of(alloc, &frame, checked.rates(block));
+    drop(frame);
+    rates
+}
+
+fn number_if(module: u32, number: usize, port: &PortRow) -> Result<Option<u32>, Memory>
+    ensures { IfOk result (λ found. found ≡ number_if «module» number port.now) }
+{
+    if port.module == module {
+        return Ok(Some(row_number(number)?));
+    }
+    Ok(None)
+}
+
+fn put_number(numbers: &mut Vec<u32>, number: Option<u32>) -> Result<(), Memory>
+    ensures { OnOk result (numbers.new.items ≡ numbers.old.items ++ cons_option number []) }
+{
+    match number {
+        None => Ok(()),
+        Some(number) => {
+            numbers.push(number)?;
+            Ok(())
+        }
+    }
+}
+
+/// The numbers of the ports of a module.
+fn ports_of(alloc: Global, ports: &[PortRow], module: u32) -> Result<Vec<u32>, Memory>
+    ensures { IfOk result (λ numbers. numbers.items ≡ ports_of ports.now «module») }
+{
+    let mut numbers = Vec::new(alloc);
+    for number in 0..ports.len() {
+        let found = number_if(module, number, &ports[number])?;
+        put_number(&mut numbers, found)?;
+    }
+    Ok(numbers)
+}
+
+fn port_step(ports: &[PortRow], number: u32) -> u64
+    ensures { result ≡ port_step ports.now number }
+{
+    let place = number as usize;
+    if place < ports.len() {
+        return ports[place].step;
+    }
+    0
+}
+
+/// The timesteps of a module and of its ports.
+fn steps_of(alloc: Global, own: u64, ports: &[PortRow], numbers: &[u32]) -> Result<Vec<u64>, Memory>
+    ensures { IfOk result (λ steps. steps.items ≡ own ∷ map (port_step ports.now) numbers.now) }
+{
+    let mut steps = Vec::new(alloc);
+    steps.push(own)?;
+    for i in 0..numbers.len() {
+        steps.push(port_step(ports, numbers[i]))?;
+    }
+    Ok(steps)
+}
+
+/// The attributes of a module.
+fn first_attrs(
+    alloc: Global,
+    flat: &Flat,
+    number: u32,
+    row: &ModuleRow,
+) -> Result<ModuleAttrs, Memory>
+    requires checked { IsChecked flat.now.checked }
+    requires block { row.now.block < block_count flat.now.checked }
+    ensures { IfOk result (λ attrs. attrs ≡ first_attrs flat.now number row.now) }
+{
+    let ports = ports_of(alloc, &flat.tables.ports, number)?;
+    let steps = steps_of(alloc, row.step, &flat.tables.ports, &ports)?;
+    let rates = start_rates(alloc, &flat.checked, row.block)?;
+    Ok(ModuleAttrs {
+        number,
+        ports,
+        accepts: row.accepts,
+        rates,
+        steps,
+    })
+}
+
+/// The attributes of a module, if it is in the cluster.
+fn attrs_if(
+    alloc: Global,
+    flat: &Flat,
+    cluster: u32,
+    number: usize,
+    row: &ModuleRow,
+) -> Result<Option<ModuleAttrs>, Memory>
+    requires checked { IsChecked flat.now.checked }
+    requires block { row.now.block < block_count flat.now.checked }
+    requires actor { number < length flat.now.tables.actors }
+    ensures { IfOk result (λ attrs. attrs ≡ attrs_if flat.now cluster number row.now) }
+{
+    if flat.tables.actors[number].cluster != cluster {
+        return Ok(None);
+    }
+    let number = row_number(number)?;
+    Ok(Some(first_attrs(alloc, flat, number, row)?))
+}
+
+fn put_attrs(rows: &mut Vec<ModuleAttrs>, attrs: Option<ModuleAttrs>) -> Result<(), Memory>
+    ensures { OnOk result (rows.new.items ≡ rows.old.items ++ cons_option attrs []) }
+{
+    match attrs {
+        None => Ok(()),
+        Some(attrs) => {
+            rows.push(attrs)?;
+            Ok(())
+        }
+    }
+}
+
+/// The attributes of those of these modules, the first ones of the model, that are in the cluster.
+fn table_rows(
+    alloc: Global,
+    flat: &Flat,
+    cluster: u32,
+    modules: &[ModuleRow],
+) -> Result<Vec<ModuleAttrs>, Memory>
+    requires checked { IsChecked flat.now.checked }
+    requires blocks { All (λ row. row.block < block_count flat.now.checked) modules.now }
+    requires actors { length modules.now ≤ length flat.now.tables.actors }
+    ensures { IfOk result (λ rows. rows.items ≡ attrs_in flat.now cluster modules.now) }
+{
+    let mut rows = Vec::new(alloc);
+    for number in 0..modules.len() {
+        let attrs = attrs_if(alloc, flat, cluster, number, &modules[number])?;
+        put_attrs(&mut rows, attrs)?;
+    }
+    Ok(rows)
+}
+
+fn changes_at(tables: &FlatTables, number: u32) -> bool {
+    let place = number as usize;
+    place < tables.modules.len() && tables.modules[place].changes
+}
+
+/// Whether a module of a table has a body that changes attributes.
+fn has_changes(tables: &FlatTables, rows: &[ModuleAttrs]) -> bool {
+    rows.iter().any(|attrs| changes_at(tables, attrs.number))
+}
+
+/// The table of a cluster. Plans are kept where the table can change.
+///
+/// # Errors
+/// Out of memory.
+#[tactic(auto, unfolding(crate::specs::Text::first_table))]
+pub(crate) fn first_table(alloc: Global, flat: &Flat, cluster: u32) -> Result<Attrs, Memory>
+    requires checked { IsChecked flat.now.checked }
+    requires blocks { All (λ row. row.block < block_count flat.now.checked) flat.now.tables.modules }
+    requires actors { length flat.now.tables.modules ≤ length flat.now.tables.actors }
+    ensures { IfOk result (λ attrs. attrs ≡ first_table flat.now cluster) }
+{
+    let rows = table_rows(alloc, flat, cluster, &flat.tables.modules)?;
+    let changes = has_changes(&flat.tables, &rows);
+    Ok(Attrs::new(rows, KnownPlans::new(alloc, changes)))
+}

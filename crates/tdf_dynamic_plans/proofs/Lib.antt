@@ -1,0 +1,7 @@
+pub mod Api
+pub mod Assigned
+pub mod Excludes
+pub mod Keeping
+pub mod Nets
+pub mod Periods
+pub mod Phases

@@ -1,0 +1,197 @@
+//! The net with the rates that a table of attributes gives.
+
+ghost use Rattle.std.specs.Prelude.{◌≡◌, ◌<◌, ◌≤◌, ◌*◌, All, IfOk, Some, length, map, slice_get, slice_index};
+ghost use Rattle.tdf_base.specs.Limits.{greatest_delay};
+ghost use Rattle.tdf_bind_tables.specs.Ranges.{AreInRange};
+ghost use Rattle.tdf_dynamic_plans.specs.Rates.{times_value, port_rate, edge_kind, write_rate_by, read_rate_by, rated_edge, rated_port, net_ports, net_of, seen, AreRates};
+ghost use Rattle.tdf_graph.specs.Ranges.{IsRate};
+ghost use Rattle.tdf_timestep.specs.Period.{rate_of};
+ghost use Rattle.tdf_bind_connections.specs.declared.modules.PortRow.{PortRow as PortRowOf};
+
+use crate::attrs::{Attrs, ModuleAttrs};
+use std::alloc::Global;
+use tdf_base::{Memory, row_number};
+use tdf_bind_connections::{EdgeRow, PortRow, Rate};
+use tdf_bind_tables::FlatTables;
+use tdf_graph::{Actor, Edge, Net, Port};
+use tdf_lang_tree::PortKind;
+
+/// The value of a rate variable, 0 for one that isn't there.
+fn value_at(values: &[u32], var: u32) -> u32
+    ensures { result ≡ slice_index values.now var }
+{
+    let place = var as usize;
+    if place < values.len() {
+        return values[place];
+    }
+    0
+}
+
+fn times_value(rate: Rate, values: &[u32]) -> u32
+    requires { IsRate (times_value rate.times values.now rate.var) }
+    ensures { result ≡ times_value rate.times values.now rate.var }
+{
+    match rate.var {
+        None => rate.times,
+        Some(var) => rate.times * value_at(values, var),
+    }
+}
+
+/// The rate of a port, 1 for a port of a module that is not in the table.
+fn rate_in(table: &[ModuleAttrs], port: &PortRow) -> u32
+    requires { IsRate (port_rate table.now port.now) }
+    ensures { result ≡ port_rate table.now port.now }
+{
+    for i in 0..table.len() {
+        let attrs = &table[i];
+        if attrs.number == port.module {
+            return times_value(port.rate, &attrs.rates);
+        }
+    }
+    1
+}
+
+fn rated_port(table: &[ModuleAttrs], port: &PortRow) -> Port
+    requires { IsRate (port_rate table.now port.now) }
+    ensures { result ≡ rated_port table.now port.now }
+{
+    Port {
+        actor: port.module,
+        rate: rate_in(table, port),
+    }
+}
+
+/// The ports with their rates.
+#[tactic(auto, unfolding(crate::specs::Rates::net_ports))]
+fn net_ports(alloc: Global, tables: &FlatTables, table: &[ModuleAttrs]) -> Result<Vec<Port>, Memory>
+    requires { AreRates tables.now table.now }
+    ensures { IfOk result (λ ports. ports.items ≡ net_ports tables.now table.now) }
+{
+    let mut ports = Vec::new(alloc);
+    for i in 0..tables.ports.len() {
+        ports.push(rated_port(table, &tables.ports[i]))?;
+    }
+    Ok(ports)
+}
+
+/// The rate of a port that is told by its number, 1 where none is told.
+fn rate_of(ports: &[Port], number: Option<u32>) -> u32
+    ensures { result ≡ rate_of ports.now number }
+{
+    match number {
+        None => 1,
+        Some(number) => rate_at(ports, number as usize),
+    }
+}
+
+fn rate_at(ports: &[Port], place: usize) -> u32
+    ensures { result ≡ rate_of ports.now (Some place) }
+{
+    if place < ports.len() {
+        return ports[place].rate;
+    }
+    1
+}
+
+/// The word of the port that gives an edge.
+fn edge_kind(rows: &[PortRow], edge: &EdgeRow) -> Option<PortKind>
+    ensures { result ≡ edge_kind rows.now edge.now }
+{
+    let place = edge.port as usize;
+    if place < rows.len() {
+        return Some(rows[place].kind);
+    }
+    None
+}
+
+fn write_rate(ports: &[Port], edge: &EdgeRow, kind: Option<PortKind>) -> u32
+    ensures { result ≡ write_rate_by ports.now edge.now kind }
+{
+    match kind {
+        None => 1,
+        Some(PortKind::In) => rate_of(ports, edge.driver),
+        Some(PortKind::Out) => 1,
+        Some(PortKind::DeIn) => 1,
+        Some(PortKind::DeOut) => rate_of(ports, Some(edge.port)),
+    }
+}
+
+fn read_rate(ports: &[Port], edge: &EdgeRow, kind: Option<PortKind>) -> u32
+    ensures { result ≡ read_rate_by ports.now edge.now kind }
+{
+    match kind {
+        None => 1,
+        Some(PortKind::In) => rate_of(ports, Some(edge.port)),
+        Some(PortKind::Out) => 1,
+        Some(PortKind::DeIn) => rate_of(ports, Some(edge.port)),
+        Some(PortKind::DeOut) => 1,
+    }
+}
+
+fn rated_edge(rows: &[PortRow], ports: &[Port], edge: &EdgeRow) -> Edge
+    ensures { result ≡ rated_edge rows.now ports.now edge.now }
+{
+    let kind = edge_kind(rows, edge);
+    Edge {
+        writer: edge.writer,
+        reader: edge.reader,
+        write_rate: write_rate(ports, edge, kind),
+        read_rate: read_rate(ports, edge, kind),
+        initial: edge.initial,
+    }
+}
+
+/// The edges with the rates of their ports.
+fn net_edges(alloc: Global, tables: &FlatTables, ports: &[Port]) -> Result<Vec<Edge>, Memory>
+    ensures { IfOk result (λ edges. edges.items
+        ≡ map (rated_edge tables.now.ports ports.now) tables.now.edges) }
+{
+    let mut edges = Vec::new(alloc);
+    for i in 0..tables.edges.len() {
+        edges.push(rated_edge(&tables.ports, ports, &tables.edges[i]))?;
+    }
+    Ok(edges)
+}
+
+fn net_actors(alloc: Global, tables: &FlatTables) -> Result<Vec<Actor>, Memory>
+    ensures { IfOk result (λ actors. actors.items ≡ map (λ row. row.kind) tables.now.actors) }
+{
+    let mut actors = Vec::new(alloc);
+    for i in 0..tables.actors.len() {
+        actors.push(tables.actors[i].kind)?;
+    }
+    Ok(actors)
+}
+
+/// The net of a model with the rates of a table.
+///
+/// # Errors
+/// Out of memory.
+#[tactic(auto, unfolding(crate::specs::Rates::net_of))]
+pub fn net_of(alloc: Global, tables: &FlatTables, table: &[ModuleAttrs]) -> Result<Net, Memory>
+    requires in_range { AreInRange tables.now }
+    requires modules { length tables.now.modules ≤ length tables.now.actors }
+    requires delays { All (λ edge. edge.initial ≤ 2 * greatest_delay) tables.now.edges }
+    requires rates { AreRates tables.now table.now }
+    ensures net { IfOk result (λ net. seen net ≡ net_of tables.now table.now) }
+{
+    let ports = net_ports(alloc, tables, table)?;
+    let edges = net_edges(alloc, tables, &ports)?;
+    let actors = net_actors(alloc, tables)?;
+    row_number(actors.len())?;
+    row_number(edges.len())?;
+    row_number(ports.len())?;
+    Ok(Net::new(actors, edges, ports).unwrap())
+}
+
+impl Attrs {
+    /// The rate of a port of the cluster, by its number in the flat model; 1 for a port of another cluster.
+    pub fn port_rate(&self, tables: &FlatTables, port: u32) -> u32
+        requires port { port < length tables.now.ports }
+        requires rates { AreRates tables.now self.now }
+        ensures { (row : PortRowOf) → slice_get tables.now.ports port ≡ Some row
+            → result ≡ port_rate self.now row }
+    {
+        rate_in(&self.rows, &tables.ports[port as usize])
+    }
+}

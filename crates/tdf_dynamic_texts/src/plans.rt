@@ -1,0 +1,247 @@
+//! The texts of plans.
+
+ghost use Rattle.std.specs.List.{flat_map, range_with_len};
+ghost use Rattle.std.specs.Prelude.{◌≡◌, ◌<◌, ◌++◌, ◌/◌, All, OnOk, length};
+ghost use Rattle.tdf_bind_tables.specs.Ranges.{AreInRange};
+ghost use Rattle.tdf_dynamic_texts.specs.Plans.{accepted_line, actor_line, actor_text, cluster_line, edge_line, edge_text, fire_line, fires_text, plan_text, rows_of};
+ghost use Rattle.tdf_dynamic_texts.specs.views.Counted.{AreCounted};
+
+use crate::counting::counted;
+use tdf_base::{Memory, Resolution, push_number, push_word, row_number};
+use tdf_bind_hierarchy::SharedPath;
+use tdf_bind_tables::FlatTables;
+use tdf_fixed::push_seconds_at;
+use tdf_schedule::{Entry, Plan};
+
+/// Appends `cluster C at TIME period TIME firings N`.
+#[tactic(auto, unfolding(crate::specs::Plans::cluster_line), using(crate::proofs::Texts::text_laws))]
+fn push_cluster_line(
+    out: &mut Vec<u8>,
+    cluster: u32,
+    time: u64,
+    plan: &Plan,
+    unit: Resolution,
+) -> Result<(), Memory>
+    ensures { OnOk result (out.new.items ≡ out.old.items
+        ++ cluster_line unit cluster time plan.now.period (length plan.now.entries.items)) }
+{
+    push_word(out, b"cluster ")?;
+    push_number(out, u64::from(cluster))?;
+    push_word(out, b" at ")?;
+    push_seconds_at(out, time, unit)?;
+    push_word(out, b" period ")?;
+    push_seconds_at(out, plan.period, unit)?;
+    push_word(out, b" firings ")?;
+    push_number(out, plan.entries.len() as u64)?;
+    push_word(out, b"\n")
+}
+
+/// Appends `actor PATH count Q step TIME`.
+#[tactic(auto, unfolding(crate::specs::Plans::actor_line), using(crate::proofs::Texts::text_laws))]
+fn push_actor_line(
+    out: &mut Vec<u8>,
+    path: &SharedPath,
+    count: u64,
+    step: u64,
+    unit: Resolution,
+) -> Result<(), Memory>
+    ensures { OnOk result (out.new.items ≡ out.old.items ++ actor_line unit path.now count step) }
+{
+    push_word(out, b"actor ")?;
+    path.push_text(out)?;
+    push_word(out, b" count ")?;
+    push_number(out, count)?;
+    push_word(out, b" step ")?;
+    push_seconds_at(out, step, unit)?;
+    push_word(out, b"\n")
+}
+
+/// Appends `edge PATH delay D bound B`.
+#[tactic(auto, unfolding(crate::specs::Plans::edge_line), using(crate::proofs::Texts::text_laws))]
+fn push_edge_line(
+    out: &mut Vec<u8>,
+    path: &SharedPath,
+    delay: u32,
+    bound: u32,
+) -> Result<(), Memory>
+    ensures { OnOk result (out.new.items ≡ out.old.items ++ edge_line path.now delay bound) }
+{
+    push_word(out, b"edge ")?;
+    path.push_text(out)?;
+    push_word(out, b" delay ")?;
+    push_number(out, u64::from(delay))?;
+    push_word(out, b" bound ")?;
+    push_number(out, u64::from(bound))?;
+    push_word(out, b"\n")
+}
+
+/// Appends `fire OFFSET LEVEL PATH INDEX`.
+#[tactic(auto, unfolding(crate::specs::Plans::fire_line), using(crate::proofs::Texts::text_laws))]
+fn push_fire_line(
+    out: &mut Vec<u8>,
+    path: &SharedPath,
+    entry: &Entry,
+    unit: Resolution,
+) -> Result<(), Memory>
+    ensures { OnOk result (out.new.items ≡ out.old.items ++ fire_line unit path.now entry.now) }
+{
+    push_word(out, b"fire ")?;
+    push_seconds_at(out, entry.offset, unit)?;
+    push_word(out, b" ")?;
+    push_number(out, u64::from(entry.level))?;
+    push_word(out, b" ")?;
+    path.push_text(out)?;
+    push_word(out, b" ")?;
+    push_number(out, entry.index)?;
+    push_word(out, b"\n")
+}
+
+/// The step of an actor: the period over its count.
+fn step_of(period: u64, count: u64) -> u64
+    ensures { result ≡ period / count }
+{
+    period.checked_div(count).unwrap_or(0)
+}
+
+/// Appends the line of an actor, if it is one of the cluster.
+fn push_actor(
+    out: &mut Vec<u8>,
+    flat: &FlatTables,
+    plan: &Plan,
+    counts: &[u64],
+    cluster: u32,
+    place: usize,
+    unit: Resolution,
+) -> Result<(), Memory>
+    requires range { AreInRange flat.now }
+    requires place { place < length flat.now.actors }
+    requires counts { AreCounted (length flat.now.actors) plan.now.entries.items counts.now }
+    ensures { OnOk result (out.new.items
+        ≡ out.old.items ++ actor_text unit flat.now (rows_of plan.now) cluster place) }
+{
+    if flat.actors[place].cluster != cluster {
+        return Ok(());
+    }
+    let path = flat.actor_path(row_number(place)?);
+    let count = counts[place];
+    push_actor_line(out, path, count, step_of(plan.period, count), unit)
+}
+
+/// Appends the line of an edge, if its writer is one of the cluster.
+fn push_edge(
+    out: &mut Vec<u8>,
+    flat: &FlatTables,
+    plan: &Plan,
+    cluster: u32,
+    place: usize,
+) -> Result<(), Memory>
+    requires range { AreInRange flat.now }
+    requires place { place < length flat.now.edges }
+    requires bounds { length plan.now.bounds.items ≡ length flat.now.edges }
+    ensures { OnOk result (out.new.items ≡ out.old.items ++ edge_text flat.now (rows_of plan.now) cluster place) }
+{
+    let row = flat.edges[place];
+    if flat.actors[row.writer as usize].cluster != cluster {
+        return Ok(());
+    }
+    let path = flat.edge_path(row_number(place)?);
+    push_edge_line(out, path, row.initial, plan.bounds[place])
+}
+
+/// Appends the lines of the actors of a cluster.
+fn push_actors(
+    out: &mut Vec<u8>,
+    flat: &FlatTables,
+    plan: &Plan,
+    counts: &[u64],
+    cluster: u32,
+    unit: Resolution,
+) -> Result<(), Memory>
+    requires range { AreInRange flat.now }
+    requires counts { AreCounted (length flat.now.actors) plan.now.entries.items counts.now }
+    ensures { OnOk result (out.new.items ≡ out.old.items
+        ++ flat_map (actor_text unit flat.now (rows_of plan.now) cluster)
+        (range_with_len 0 (length flat.now.actors))) }
+{
+    for place in 0..flat.actors.len() {
+        push_actor(out, flat, plan, counts, cluster, place, unit)?;
+    }
+    Ok(())
+}
+
+/// Appends the lines of the edges of a cluster.
+fn push_edges(out: &mut Vec<u8>, flat: &FlatTables, plan: &Plan, cluster: u32) -> Result<(), Memory>
+    requires range { AreInRange flat.now }
+    requires bounds { length plan.now.bounds.items ≡ length flat.now.edges }
+    ensures { OnOk result (out.new.items ≡ out.old.items
+        ++ flat_map (edge_text flat.now (rows_of plan.now) cluster)
+        (range_with_len 0 (length flat.now.edges))) }
+{
+    for place in 0..flat.edges.len() {
+        push_edge(out, flat, plan, cluster, place)?;
+    }
+    Ok(())
+}
+
+/// Appends the plan of a cluster from a time on: one line for the cluster, one for each of its actors, and one for each of its
+/// edges. Times are in counts of `unit`.
+///
+/// # Errors
+/// Out of memory.
+#[tactic(auto, unfolding(crate::specs::Plans::plan_text), using(crate::proofs::Texts::text_laws))]
+pub fn push_plan(
+    out: &mut Vec<u8>,
+    flat: &FlatTables,
+    cluster: u32,
+    time: u64,
+    plan: &Plan,
+    unit: Resolution,
+) -> Result<(), Memory>
+    requires range { AreInRange flat.now }
+    requires bounds { length plan.now.bounds.items ≡ length flat.now.edges }
+    ensures { OnOk result (out.new.items
+        ≡ out.old.items ++ plan_text unit flat.now cluster time (rows_of plan.now)) }
+{
+    let alloc = *out.allocator();
+    let counts = counted(alloc, flat.actors.len(), &plan.entries)?;
+    push_cluster_line(out, cluster, time, plan, unit)?;
+    push_actors(out, flat, plan, &counts, cluster, unit)?;
+    push_edges(out, flat, plan, cluster)
+}
+
+/// Appends the firings of a plan, one line for each, in order. Times are in counts of `unit`.
+///
+/// # Errors
+/// Out of memory.
+#[tactic(auto, unfolding(crate::specs::Plans::fires_text), using(crate::proofs::Texts::text_laws))]
+pub fn push_fires(
+    out: &mut Vec<u8>,
+    flat: &FlatTables,
+    plan: &Plan,
+    unit: Resolution,
+) -> Result<(), Memory>
+    requires range { AreInRange flat.now }
+    requires actors { All (λ entry. entry.actor < length flat.now.actors) plan.now.entries.items }
+    ensures { OnOk result (out.new.items
+        ≡ out.old.items ++ fires_text unit flat.now (rows_of plan.now)) }
+{
+    for place in 0..plan.entries.len() {
+        let entry = plan.entries[place];
+        push_fire_line(out, flat.actor_path(entry.actor), &entry, unit)?;
+    }
+    Ok(())
+}
+
+/// Appends `accepted clusters N`.
+///
+/// # Errors
+/// Out of memory.
+#[tactic(auto, unfolding(crate::specs::Plans::accepted_line), using(crate::proofs::Texts::text_laws))]
+pub fn push_accepted(out: &mut Vec<u8>, clusters: u32) -> Result<(), Memory>
+    ensures { OnOk result (out.new.items ≡ out.old.items ++ accepted_line clusters) }
+{
+    push_word(out, b"accepted")?;
+    push_word(out, b" clusters ")?;
+    push_number(out, u64::from(clusters))?;
+    push_word(out, b"\n")
+}

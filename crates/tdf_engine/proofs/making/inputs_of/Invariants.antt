@@ -1,5 +1,0 @@
-use Rattle.tdf_engine.proofs.making.inputs_of.Given as goal
-use Rattle.tdf_engine.specs.machine.Making.{AreGivenUpTo}
-
-abbrev pub invariant-loop-n : goal.invariant-loop-n
-invariant-loop-n l = AreGivenUpTo l.links l.n l.inputs.items

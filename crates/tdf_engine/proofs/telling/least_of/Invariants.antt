@@ -1,5 +1,0 @@
-use Rattle.tdf_engine.proofs.telling.least_of.Given as goal
-use Rattle.tdf_engine.specs.machine.Making.{IsLeastUpTo}
-
-abbrev pub invariant-loop-n : goal.invariant-loop-n
-invariant-loop-n l = IsLeastUpTo l.since l.n l.limit l.least

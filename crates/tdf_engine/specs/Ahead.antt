@@ -1,9 +1,0 @@
--- When the entries of a plan are all before the end of its period.
--- Source: own.
-use Rattle.std.specs.Prelude.{◌<◌, All}
-use Rattle.tdf_linked.specs.low.exec.Cluster.{ClusterOf}
-use Rattle.tdf_linked.specs.low.schedule.declared.entry.Entry.{Entry}
-
--- each is due before the period ends
-abbrev pub LieInside : ClusterOf → Type 0
-LieInside c = All (λ (x : Entry). x.offset < c.period) c.entries

@@ -1,2 +1,0 @@
--- Definitions of tdf_meaning.
-pub use Rattle.tdf_flat.specs.low.meaning.Places

@@ -1,0 +1,13 @@
+use Rattle.std.proofs.Common.{rules}
+use Rattle.tdf_events_queue.proofs.Sorted.{sorted_listed, sorted_rising}
+use Rattle.tdf_events_queue.proofs.sets.NumberSet.sort.Goals as goal
+
+pub invariant_of-self : goal.invariant_of-self
+invariant_of-self c = record {
+  listed = sorted_listed _ _ _ c.self.invariant.listed c.sort_unstable.ensures.permutation c.sort_unstable.ensures.sorted;
+  room = search rules;
+  few = search rules;
+}
+
+pub returns-clause-rising : goal.returns-clause-rising
+returns-clause-rising c = sorted_rising _ _ _ c.self.invariant.listed c.sort_unstable.ensures.permutation c.sort_unstable.ensures.sorted

@@ -1,2 +1,0 @@
--- Definitions of tdf_changes.
-pub use Rattle.tdf_changes.specs.Next

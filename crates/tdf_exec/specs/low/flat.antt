@@ -1,2 +1,0 @@
--- Definitions of tdf_flat.
-pub use Rattle.tdf_layout.specs.low.flat.declared

@@ -1,0 +1,60 @@
+use Rattle.std.proofs.Common.{◌∙◌, List, ap, length, subst, sym}
+use Rattle.std.specs.Prelude.{slice_get}
+use Rattle.tdf_expr.specs.Runs.{Ran}
+use Rattle.tdf_expr.specs.declared.bodies.Body.TheVariants.{Processing}
+use Rattle.tdf_exec_firing.proofs.Begins.{can_fill, can_give, full_spans, full_state, zeros_after}
+use Rattle.tdf_exec_firing.proofs.Cells.{hold_formats}
+use Rattle.tdf_exec_firing.proofs.Moves.{all_moved}
+use Rattle.tdf_exec_firing.specs.declared.wires.InWire.{InWire}
+use Rattle.tdf_exec_firing.specs.declared.wires.OutWire.{OutWire}
+use Rattle.tdf_exec_firing.specs.machine.Filling.{AreFilledUpTo, count_read, list_read}
+use Rattle.tdf_exec_firing.specs.machine.Moving.{AreChangedUpTo, in_edge, out_edge, put_by, taken_by}
+use Rattle.tdf_expr_state.specs.State.{PortsState, state_of}
+use Rattle.tdf_exec_firing.proofs.firing.fire_module.Goals as goal
+
+pub take_inputs-requires-clause-can : goal.take_inputs-requires-clause-can
+take_inputs-requires-clause-can c = λ j w at.
+    can_fill c.args.wires.now c.args.reads.now.items c.args.writes.now.items c.args.ports.now c.args.rings.now.items c.requires.wired c.requires.can c.requires.formats
+    c.clear.new.ports c.clear.ensures.cleared c.clear.ensures.fit j w (ap (λ (l : List InWire). slice_get l j) (sym c.ins.ensures) ∙ at)
+
+pub put_outputs-requires-clause-can : goal.put_outputs-requires-clause-can
+put_outputs-requires-clause-can c = λ j w at.
+    let took : AreChangedUpTo in_edge (taken_by c.args.reads.now.items) c.args.wires.now.ins (length c.args.wires.now.ins) c.args.rings.now.items c.take_inputs.new.rings.items =
+    subst (λ (l : List InWire). AreChangedUpTo in_edge (taken_by c.args.reads.now.items) l (length l) c.args.rings.now.items c.take_inputs.new.rings.items) c.ins.ensures
+    c.take_inputs.ensures.taken in
+    can_give c.args.wires.now c.args.reads.now.items c.args.writes.now.items c.args.ports.now c.args.rings.now.items c.requires.wired c.requires.can
+    c.take_inputs.new.rings.items took c.run_body.new.ports (c.run_body.ensures.frame.ports_are ∙ sym c.requires.made.ports_are) j w
+    (ap (λ (l : List OutWire). slice_get l j) (sym c.outs.ensures) ∙ at)
+
+pub returns-clause-acted : goal.returns-clause-acted
+returns-clause-acted c =
+    let filled : AreFilledUpTo c.args.wires.now.ins (count_read c.args.reads.now.items) (list_read c.args.rings.now.items) (length c.args.wires.now.ins) c.clear.new.ports c.take_inputs.new.ports =
+    subst (λ (l : List InWire). AreFilledUpTo l (count_read c.args.reads.now.items) (list_read c.args.rings.now.items) (length l) c.clear.new.ports c.take_inputs.new.ports) c.ins.ensures
+    c.take_inputs.ensures.filled in
+    subst (λ (s : PortsState). Ran c.args.checked.now c.args.number Processing (state_of c.args.frame.now.state s) (state_of c.run_body.new.frame.state c.run_body.new.ports.state))
+    (full_state c.args.wires.now c.args.reads.now.items c.args.writes.now.items c.args.ports.now c.args.rings.now.items c.requires.wired c.requires.can
+    c.clear.new.ports c.take_inputs.new.ports c.clear.ensures.cleared c.clear.ensures.fit c.requires.zeros filled _ c.requires.made.events)
+    c.run_body.ensures.after
+
+pub returns-clause-moved : goal.returns-clause-moved
+returns-clause-moved c =
+    let took : AreChangedUpTo in_edge (taken_by c.args.reads.now.items) c.args.wires.now.ins (length c.args.wires.now.ins) c.args.rings.now.items c.take_inputs.new.rings.items =
+    subst (λ (l : List InWire). AreChangedUpTo in_edge (taken_by c.args.reads.now.items) l (length l) c.args.rings.now.items c.take_inputs.new.rings.items) c.ins.ensures
+    c.take_inputs.ensures.taken in
+    all_moved c.args.wires.now c.args.reads.now.items c.args.writes.now.items c.run_body.new.ports c.args.rings.now.items c.take_inputs.new.rings.items c.put_outputs.new.rings.items took
+    (subst (λ (l : List OutWire). AreChangedUpTo out_edge (put_by c.args.writes.now.items c.run_body.new.ports) l (length l) c.take_inputs.new.rings.items c.put_outputs.new.rings.items)
+    c.outs.ensures c.put_outputs.ensures)
+
+pub returns-clause-zeros : goal.returns-clause-zeros
+returns-clause-zeros c =
+    let filled : AreFilledUpTo c.args.wires.now.ins (count_read c.args.reads.now.items) (list_read c.args.rings.now.items) (length c.args.wires.now.ins) c.clear.new.ports c.take_inputs.new.ports =
+    subst (λ (l : List InWire). AreFilledUpTo l (count_read c.args.reads.now.items) (list_read c.args.rings.now.items) (length l) c.clear.new.ports c.take_inputs.new.ports) c.ins.ensures
+    c.take_inputs.ensures.filled in
+    zeros_after c.args.wires.now c.args.reads.now.items c.args.writes.now.items c.args.ports.now c.args.rings.now.items c.requires.wired c.requires.can
+    c.clear.new.ports c.take_inputs.new.ports c.clear.ensures.cleared c.clear.ensures.fit c.requires.zeros filled c.run_body.new.ports
+    (c.run_body.ensures.frame.ports_are ∙ sym (full_spans c.args.wires.now c.args.reads.now.items c.args.writes.now.items c.args.ports.now c.args.rings.now.items
+    c.requires.wired c.requires.can c.clear.new.ports c.take_inputs.new.ports c.clear.ensures.cleared c.clear.ensures.fit c.requires.zeros filled ∙ c.requires.made.ports_are))
+    c.run_body.ensures.inputs
+
+pub returns-clause-formats : goal.returns-clause-formats
+returns-clause-formats c = hold_formats c.run_body.new.ports c.ports.ensures.fit

@@ -1,0 +1,6 @@
+pub mod Activation
+pub mod Actors
+pub mod Firing
+pub mod Formats
+pub mod Wires
+pub mod machine

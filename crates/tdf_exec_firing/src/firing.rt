@@ -1,0 +1,72 @@
+//! One firing of a module, of a sampler and of a sink.
+
+ghost use Rattle.std.specs.Prelude.{◌≡◌, ◌<◌, length, Some, slice_get};
+ghost use Rattle.tdf_expr.specs.Made.{AreMadeFor};
+ghost use Rattle.tdf_exec_firing.specs.Actors.{CanPutOne, HasTaken, HavePut};
+ghost use Rattle.tdf_exec_firing.specs.Firing.{AreMoved, AreOfFormats, AreRates, AreZerosBehind, CanFire, HasActed, HoldFormats, samples_read};
+ghost use Rattle.tdf_exec_firing.specs.Wires.{AreWired};
+ghost use Rattle.tdf_rings.specs.Carried.{ring_at};
+
+use crate::putting::{put_on_all, put_outputs};
+use crate::taking::{clear, take_inputs};
+use crate::wires::Wires;
+use tdf_expr::{Body, Checked, Frame, Ports, run_body};
+use tdf_fixed::Raw;
+use tdf_rings::Ring;
+
+/// One firing of a module, an instance of the block of this number: it takes the samples that it reads, its processing
+/// body runs, and it puts the samples that it writes. `reads` and `writes` are the rates in force by edge, in samples
+/// an activation. It takes no memory and is never refused.
+pub fn fire_module(
+    checked: &Checked,
+    number: u32,
+    wires: &Wires,
+    reads: &Vec<u32>,
+    writes: &Vec<u32>,
+    rings: &mut Vec<Ring>,
+    frame: &mut Frame,
+    ports: &mut Ports,
+)
+    requires made { AreMadeFor checked.now number frame.old ports.old }
+    requires wired { AreWired wires.now ports.old.spans (length rings.old.items) }
+    requires rates { AreRates reads.now.items writes.now.items (length rings.old.items) }
+    requires can { CanFire wires.now reads.now.items writes.now.items ports.old.spans
+        rings.old.items }
+    requires formats { AreOfFormats wires.now ports.old.spans rings.old.items }
+    requires zeros { AreZerosBehind wires.now reads.now.items ports.old }
+    ensures acted { HasActed checked.now number
+        (samples_read wires.now reads.now.items rings.old.items)
+        frame.old ports.old frame.new ports.new }
+    ensures moved { AreMoved wires.now reads.now.items writes.now.items ports.new
+        rings.old.items rings.new.items }
+    ensures made { AreMadeFor checked.now number frame.new ports.new }
+    ensures zeros { AreZerosBehind wires.now reads.now.items ports.new }
+    ensures formats { HoldFormats ports.new }
+{
+    clear(ports);
+    take_inputs(wires.ins(), reads, rings, ports);
+    run_body(checked, number, Body::Processing, frame, ports);
+    let _ = ports.ports();
+    put_outputs(wires.outs(), writes, rings, ports);
+}
+
+/// One firing of a sampler: its value goes on each of its edges. It takes no memory and is never refused.
+pub fn fire_sampler(value: Raw, edges: &Vec<u32>, rings: &mut Vec<Ring>)
+    requires can { CanPutOne edges.now.items rings.old.items }
+    ensures { HavePut value edges.now.items rings.old.items rings.new.items }
+{
+    put_on_all(value, edges, rings);
+}
+
+/// One firing of a sink: the first sample of its edge, which is taken. It takes no memory and is never refused.
+pub fn fire_sink(edge: u32, rings: &mut Vec<Ring>) -> Raw
+    requires edge { edge < length rings.old.items }
+    requires present { 0 < length (ring_at rings.old.items edge).samples }
+    ensures value { slice_get (ring_at rings.old.items edge).samples 0 ≡ Some result }
+    ensures taken { HasTaken edge rings.old.items rings.new.items }
+{
+    let ring = &mut rings[edge as usize];
+    let value = ring.read(0);
+    ring.take(1);
+    value
+}

@@ -1,0 +1,82 @@
+//! The samples that a module reads go from its rings into its ports.
+
+ghost use Rattle.std.specs.Prelude.{◌≡◌, ℕ, ◌<◌, length, Some, slice_get, slice_index, slice_set};
+ghost use Rattle.tdf_expr.specs.Frames.{ArePortsFit};
+ghost use Rattle.tdf_exec_firing.specs.declared.wires.InWire.{InWire as InWireOf};
+ghost use Rattle.tdf_exec_firing.specs.machine.Filling.{AreFilledUpTo, CanFill, IsCleared, IsFilled, count_read, list_read};
+ghost use Rattle.tdf_exec_firing.specs.machine.Moving.{AreApart, AreChangedUpTo, in_edge, taken_by, without};
+ghost use Rattle.tdf_rings.specs.Carried.{ring_at};
+
+use crate::wires::InWire;
+use tdf_expr::Ports;
+use tdf_rings::Ring;
+
+/// How an activation begins: nothing is written or asked for, and the samples that bodies write are 0.
+pub(crate) fn clear(ports: &mut Ports)
+    ensures cleared { IsCleared ports.old ports.new }
+    ensures fit { ArePortsFit ports.new }
+{
+    let _ = ports.ports();
+    ports.reset();
+    let _ = ports.ports();
+}
+
+/// The first `n` samples of a ring go into a port.
+fn fill(ring: &Ring, n: u32, ports: &mut Ports, port: u32)
+    requires can { CanFill port n ring.now.samples ports.old }
+    ensures { IsFilled port n ring.now.samples ports.old ports.new }
+{
+    for i in 0..n {
+        ports.set(port, i, ring.read(i));
+    }
+}
+
+/// A port takes the first `n` samples of a ring.
+fn take_from(ring: &mut Ring, n: u32, ports: &mut Ports, port: u32)
+    requires can { CanFill port n ring.old.samples ports.old }
+    ensures filled { IsFilled port n ring.old.samples ports.old ports.new }
+    ensures taken { ring.new ≡ without n ring.old }
+{
+    fill(ring, n, ports, port);
+    ring.take(n);
+}
+
+/// The port of a wire takes its samples.
+fn take_input(wire: InWire, reads: &Vec<u32>, rings: &mut Vec<Ring>, ports: &mut Ports)
+    requires edge { wire.edge < length rings.old.items }
+    requires rate { length reads.now.items ≡ length rings.old.items }
+    requires can { CanFill wire.port (slice_index reads.now.items wire.edge)
+        (ring_at rings.old.items wire.edge).samples ports.old }
+    ensures filled { IsFilled wire.port (slice_index reads.now.items wire.edge)
+        (ring_at rings.old.items wire.edge).samples ports.old ports.new }
+    ensures taken { rings.new.items ≡ slice_set rings.old.items wire.edge
+        (taken_by reads.now.items wire (ring_at rings.old.items wire.edge)) }
+{
+    let edge = wire.edge as usize;
+    take_from(&mut rings[edge], reads[edge], ports, wire.port);
+}
+
+/// The ports of all wires take their samples.
+pub(crate) fn take_inputs(
+    ins: &[InWire],
+    reads: &Vec<u32>,
+    rings: &mut Vec<Ring>,
+    ports: &mut Ports,
+)
+    requires edges { AreApart in_edge ins.now (length rings.old.items) }
+    requires rates { length reads.now.items ≡ length rings.old.items }
+    requires fit { ArePortsFit ports.old }
+    requires once { (i j : ℕ) (v w : InWireOf) → slice_get ins.now i ≡ Some v
+        → slice_get ins.now j ≡ Some w → v.port ≡ w.port → i ≡ j }
+    requires can { (j : ℕ) (w : InWireOf) → slice_get ins.now j ≡ Some w
+        → CanFill w.port (slice_index reads.now.items w.edge) (ring_at rings.old.items w.edge).samples
+        ports.old }
+    ensures filled { AreFilledUpTo ins.now (count_read reads.now.items) (list_read rings.old.items)
+        (length ins.now) ports.old ports.new }
+    ensures taken { AreChangedUpTo in_edge (taken_by reads.now.items) ins.now (length ins.now)
+        rings.old.items rings.new.items }
+{
+    for i in 0..ins.len() {
+        take_input(ins[i], reads, rings, ports);
+    }
+}

@@ -1,0 +1,104 @@
+//! Each edge goes to its writer and to its reader.
+
+ghost use Rattle.std.specs.Prelude.{◌≡◌, ◌<◌, IfOk, OnOk, length, map, nat_eq, slice_index};
+ghost use Rattle.tdf_bind_tables.specs.Actors.{cluster_of};
+ghost use Rattle.tdf_bind_tables.specs.Ranges.{AreInRange};
+ghost use Rattle.tdf_exec_layout.specs.Ports.{ArePlaces};
+ghost use Rattle.tdf_exec_layout.specs.machine.Ends.{EndsUpTo, read_by, written_by};
+ghost use Rattle.tdf_streams.specs.Places.{driver_or};
+
+use crate::ends::{Ends, no_ends};
+use std::alloc::Global;
+use tdf_base::{Memory, row_number};
+use tdf_bind_connections::EdgeRow;
+use tdf_bind_tables::{ActorRow, FlatTables};
+use tdf_exec_firing::{InWire, OutWire};
+
+/// Whether an actor is of the cluster.
+pub(crate) fn is_of(actors: &[ActorRow], cluster: u32, actor: u32) -> bool
+    requires { actor < length actors.now }
+    ensures { result ≡ nat_eq (slice_index (map cluster_of actors.now) actor) cluster }
+{
+    actors[actor as usize].cluster == cluster
+}
+
+/// The port whose samples an edge carries.
+fn source(edge: EdgeRow) -> u32
+    ensures { result ≡ driver_or edge.port edge.driver }
+{
+    match edge.driver {
+        None => edge.port,
+        Some(driver) => driver,
+    }
+}
+
+/// The reader of an edge gets it, if it is of the cluster.
+fn put_reader(
+    tables: &FlatTables,
+    cluster: u32,
+    places: &[u32],
+    number: u32,
+    edge: EdgeRow,
+    rows: &mut Vec<Ends>,
+) -> Result<(), Memory>
+    requires reader { edge.reader < length tables.now.actors }
+    requires rows { length rows.old.items ≡ length tables.now.actors }
+    requires places { ArePlaces tables.now.ports places.now }
+    requires port { edge.port < length tables.now.ports }
+    ensures { OnOk result (rows.new.items ≡ read_by tables.now cluster number edge rows.old.items) }
+{
+    if !is_of(&tables.actors, cluster, edge.reader) {
+        return Ok(());
+    }
+    let wire = InWire {
+        edge: number,
+        port: places[edge.port as usize],
+    };
+    rows[edge.reader as usize].put_in(wire)
+}
+
+/// The writer of an edge gets it, if it is of the cluster.
+fn put_writer(
+    tables: &FlatTables,
+    cluster: u32,
+    places: &[u32],
+    number: u32,
+    edge: EdgeRow,
+    rows: &mut Vec<Ends>,
+) -> Result<(), Memory>
+    requires writer { edge.writer < length tables.now.actors }
+    requires rows { length rows.old.items ≡ length tables.now.actors }
+    requires places { ArePlaces tables.now.ports places.now }
+    requires port { driver_or edge.port edge.driver < length tables.now.ports }
+    ensures { OnOk result (rows.new.items ≡ written_by tables.now cluster number edge rows.old.items) }
+{
+    if !is_of(&tables.actors, cluster, edge.writer) {
+        return Ok(());
+    }
+    let wire = OutWire {
+        edge: number,
+        port: places[source(edge) as usize],
+    };
+    rows[edge.writer as usize].put_out(wire)
+}
+
+/// The edges of each actor of the cluster.
+pub(crate) fn gathered(
+    alloc: Global,
+    tables: &FlatTables,
+    cluster: u32,
+    places: &[u32],
+) -> Result<Vec<Ends>, Memory>
+    requires in_range { AreInRange tables.now }
+    requires places { ArePlaces tables.now.ports places.now }
+    ensures { IfOk result (λ rows. EndsUpTo tables.now cluster (length tables.now.edges) rows.items) }
+{
+    let mut rows = no_ends(alloc, tables.actors.len())?;
+    for e in 0..tables.edges.len() {
+        let edge = tables.edges[e];
+        let number = row_number(e)?;
+        put_reader(tables, cluster, places, number, edge, &mut rows)?;
+        put_writer(tables, cluster, places, number, edge, &mut rows)?;
+    }
+    Ok(rows)
+}

@@ -1,2 +1,0 @@
--- Definitions of tdf_state.
-pub use Rattle.tdf_state.specs.State

@@ -1,0 +1,4 @@
+pub mod Formats
+pub mod Layouts
+pub mod Promises
+pub mod machine

@@ -1,0 +1,10 @@
+//! What holds of the meaning of bodies, beside the laws of `tdf_expr_semantics`. No crate stands on this one.
+//!
+//! There is no code here but laws, and the definitions are in `specs`.
+//!
+//! - `laws`: rate variables, timesteps, notices and marks are maps.
+#![tactic(auto)]
+
+mod laws;
+
+pub use laws::law_other_maps;

@@ -1,0 +1,107 @@
+-- Assignments of values that are read straight from the cells, at the innermost of some loops.
+use Rattle.std.specs.Prelude.{◌≡◌, ℕ, ◌+◌, ◌-◌, ◌^◌, ◌<◌, ◌≤◌, ℤ, pos, ◌+ℤ◌, ◌*ℤ◌, true, if◌then◌else◌, List, [], ◌∷◌, ◌++◌, length}
+use Rattle.tdf_fixed.specs.Overflow.{IsIn}
+use Rattle.tdf_fixed.specs.Quantise.{below}
+use Rattle.tdf_expr_machine.specs.Acts.{acted, IsSafeAct}
+use Rattle.tdf_expr_machine.specs.Nodes.{node_value, spot_place, IsSafe, IsSpot}
+use Rattle.tdf_expr_machine.specs.declared.acts.Act.{Act}
+use Rattle.tdf_expr_machine.specs.declared.nodes.Node.{Node}
+use Rattle.tdf_expr_machine.specs.declared.plain.Plain.{Plain}
+use Rattle.tdf_expr_machine.specs.declared.plain.Plain.TheVariants as plain
+use Rattle.tdf_expr_machine.specs.declared.plain.PlainSet.{PlainSet}
+use Rattle.tdf_expr_machine.specs.declared.plain.Target.{Target}
+use Rattle.tdf_expr_machine.specs.declared.plain.Target.TheVariants as target
+use Rattle.tdf_expr_machine.specs.declared.plain.Terms.{Terms}
+use Rattle.tdf_expr_machine.specs.declared.plain.Track.{Track}
+use Rattle.tdf_expr_machine.specs.declared.spots.Spot.{Spot}
+use Rattle.tdf_expr_state.specs.State.{State, cell_at, with_cell}
+
+-- the place at a turn of the innermost loop
+abbrev pub track_place : Track → ℕ → ℕ
+track_place t turn = if t.down then t.at - turn else t.at + turn
+
+-- the place isn't below 0
+abbrev pub IsOn : Track → ℕ → Type 0
+IsOn t turn = t.down ≡ true → turn ≤ t.at
+
+pub record IsTrackOf (spot : Spot) (depth : ℕ) (t : Track) : Type 0 where
+  pub place : (loops : List ℕ) (turn : ℕ) → length loops ≡ depth → IsSpot spot (loops ++ turn ∷ [])
+      → spot_place spot (loops ++ turn ∷ []) ≡ track_place t turn
+  pub on : (loops : List ℕ) (turn : ℕ) → length loops ≡ depth → IsSpot spot (loops ++ turn ∷ [])
+      → IsOn t turn
+
+abbrev pub target_place : Target → ℕ → ℕ
+target_place (target.Cell at) turn = at
+target_place (target.Element track) turn = track_place track turn
+
+abbrev pub IsOnTarget : Target → ℕ → Type 0
+IsOnTarget (target.Cell at) turn = Unit {0}
+IsOnTarget (target.Element track) turn = IsOn track turn
+
+pub record IsTarget (spot : Spot) (depth : ℕ) (t : Target) : Type 0 where
+  pub place : (loops : List ℕ) (turn : ℕ) → length loops ≡ depth → IsSpot spot (loops ++ turn ∷ [])
+      → spot_place spot (loops ++ turn ∷ []) ≡ target_place t turn
+  pub on : (loops : List ℕ) (turn : ℕ) → length loops ≡ depth → IsSpot spot (loops ++ turn ∷ [])
+      → IsOnTarget t turn
+
+-- the element is there
+abbrev pub IsElement : Track → ℕ → List ℤ → Type 0
+IsElement t turn cells = IsOn t turn × (track_place t turn < length cells)
+
+abbrev pub terms_value : Terms → ℕ → List ℤ → ℤ
+terms_value t turn cells = cell_at cells t.base *ℤ pos (2 ^ t.lift)
+    +ℤ (cell_at cells (track_place t.first turn) *ℤ cell_at cells (track_place t.second turn))
+    *ℤ pos (2 ^ t.rise)
+
+abbrev pub plain_value : Plain → ℕ → List ℤ → ℤ
+plain_value (plain.Element track) turn cells = cell_at cells (track_place track turn)
+plain_value (plain.Sum terms) turn cells = terms_value terms turn cells
+
+abbrev pub AreTerms : Terms → ℕ → List ℤ → Type 0
+AreTerms t turn cells =
+    (t.base < length cells) × IsElement t.first turn cells × IsElement t.second turn cells
+
+abbrev pub AreCells : Plain → ℕ → List ℤ → Type 0
+AreCells (plain.Element track) turn cells = IsElement track turn cells
+AreCells (plain.Sum terms) turn cells = AreTerms terms turn cells
+
+-- the product of two elements
+pub record IsProduct (node : Node) (depth : ℕ) (first second : Track) : Type 0 where
+  pub num : (loops : List ℕ) (turn : ℕ) (s : State) → length loops ≡ depth
+      → IsSafe node s (loops ++ turn ∷ []) → node_value node s (loops ++ turn ∷ [])
+      ≡ cell_at s.frame.cells (track_place first turn)
+      *ℤ cell_at s.frame.cells (track_place second turn)
+  pub safe : (loops : List ℕ) (turn : ℕ) (s : State) → length loops ≡ depth
+      → IsSafe node s (loops ++ turn ∷ [])
+      → IsElement first turn s.frame.cells × IsElement second turn s.frame.cells
+
+-- the sum of a cell and a product
+pub record IsSum (node : Node) (depth : ℕ) (t : Terms) : Type 0 where
+  pub num : (loops : List ℕ) (turn : ℕ) (s : State) → length loops ≡ depth
+      → IsSafe node s (loops ++ turn ∷ [])
+      → node_value node s (loops ++ turn ∷ []) ≡ terms_value t turn s.frame.cells
+  pub safe : (loops : List ℕ) (turn : ℕ) (s : State) → length loops ≡ depth
+      → IsSafe node s (loops ++ turn ∷ []) → AreTerms t turn s.frame.cells
+
+pub record IsPlain (node : Node) (depth : ℕ) (value : Plain) : Type 0 where
+  pub num : (loops : List ℕ) (turn : ℕ) (s : State) → length loops ≡ depth
+      → IsSafe node s (loops ++ turn ∷ [])
+      → node_value node s (loops ++ turn ∷ []) ≡ plain_value value turn s.frame.cells
+  pub safe : (loops : List ℕ) (turn : ℕ) (s : State) → length loops ≡ depth
+      → IsSafe node s (loops ++ turn ∷ []) → AreCells value turn s.frame.cells
+
+-- the statement cuts such a value into a cell, where that lies in the range
+pub record IsPlainSet (act : Act) (depth : ℕ) (set : PlainSet) : Type 0 where
+  pub same : (loops : List ℕ) (turn : ℕ) (s : State) → length loops ≡ depth
+      → IsSafeAct act (loops ++ turn ∷ []) s
+      → IsIn set.cut.signed set.cut.wl
+      (below (plain_value set.value turn s.frame.cells) (2 ^ set.cut.shift))
+      → acted act (loops ++ turn ∷ []) s ≡ with_cell (target_place set.target turn)
+      (below (plain_value set.value turn s.frame.cells) (2 ^ set.cut.shift)) s
+  pub on : (loops : List ℕ) (turn : ℕ) (s : State) → length loops ≡ depth
+      → IsSafeAct act (loops ++ turn ∷ []) s → IsOnTarget set.target turn
+      × (target_place set.target turn < length s.frame.cells)
+      × AreCells set.value turn s.frame.cells
+  pub few : set.cut.shift ≤ 62
+  pub some : 1 ≤ set.cut.wl
+  pub small : set.cut.wl ≤ 62

@@ -1,0 +1,245 @@
+//! Casts of 64-bit numbers that no more than a cut of the last bits brings into the format: the common ones, by a shift.
+
+ghost use Rattle.std.specs.Prelude.{◌≡◌, ◌≤◌, ◌-◌, ◌*◌, ◌^◌, ◌*ℤ◌, pos, unsigned_abs, IsTrue, IfSome, Bool, true, ℕ};
+ghost use Rattle.tdf_fixed.specs.Cast.{cast_of, fraction_of};
+ghost use Rattle.tdf_fixed.specs.CastLaws.{least_kept};
+ghost use Rattle.tdf_fixed.specs.Overflow.{IsIn, least};
+ghost use Rattle.tdf_fixed.specs.Quantise.{below};
+ghost use Rattle.tdf_expr_machine.specs.machine.Cuts.{IsCutOf};
+ghost use Rattle.tdf_fixed.specs.declared.quant.Quant.TheVariants.{Trn};
+
+use tdf_fixed::{Format, Over, Quant};
+
+/// `num / 2^s`, rounded down.
+#[inline(always)]
+fn floor(num: i64, s: u32) -> i64
+    requires { s ≤ 63 }
+    ensures { result ≡ below num (2 ^ s) }
+{
+    num >> s
+}
+
+/// A power of two.
+#[inline(always)]
+#[tactic(auto, using(crate::proofs::Powers::small_power))]
+fn power(bits: u32) -> i64
+    requires { bits ≤ 62 }
+    ensures value { result ≡ pos (2 ^ bits) }
+    ensures small { unsigned_abs result ≤ 2 ^ 62 }
+{
+    1 << bits
+}
+
+/// The number times a power of two.
+#[inline(always)]
+fn multiple(num: i64, bits: u32) -> i64
+    requires few { bits ≤ 61 }
+    requires small { unsigned_abs num * 2 ^ bits ≤ 2 ^ 61 }
+    ensures { result ≡ num *ℤ pos (2 ^ bits) }
+{
+    num * power(bits)
+}
+
+/// Whether a number is seen to be at most `2^places`, without its sign.
+#[inline(always)]
+#[tactic(auto, using(crate::proofs::Keeping::size_laws))]
+fn is_small(num: i64, places: u32) -> bool
+    requires { places ≤ 61 }
+    ensures { IsTrue result → unsigned_abs num ≤ 2 ^ places }
+{
+    let high = floor(num, places);
+    high == 0 || high == -1
+}
+
+/// The number moved up by so many bits, where that is small.
+#[inline(always)]
+#[tactic(auto, using(crate::proofs::Keeping::raised_small))]
+pub(crate) fn raised(num: i64, bits: u32) -> Option<i64>
+    ensures { IfSome result (λ n. n ≡ num *ℤ pos (2 ^ bits)) }
+{
+    if bits == 0 {
+        return Some(num);
+    }
+    if bits > 61 || !is_small(num, 61 - bits) {
+        return None;
+    }
+    Some(multiple(num, bits))
+}
+
+/// Whether a number is seen to lie in the signed range of so many bits.
+#[inline(always)]
+#[tactic(auto, using(crate::proofs::Keeping::range_laws))]
+fn is_within_signed(num: i64, wl: u32) -> bool
+    requires { (1 ≤ wl) × (wl ≤ 64) }
+    ensures { IsTrue result → IsIn true wl num }
+{
+    let high = floor(num, wl - 1);
+    high == 0 || high == -1
+}
+
+/// Whether a number is seen to lie in the range of so many bits.
+#[inline(always)]
+#[tactic(auto, using(crate::proofs::Keeping::range_laws))]
+fn is_within(num: i64, signed: bool, wl: u32) -> bool
+    requires { (1 ≤ wl) × (wl ≤ 62) }
+    ensures { IsTrue result → IsIn signed wl num }
+{
+    if signed {
+        is_within_signed(num, wl)
+    } else {
+        floor(num, wl) == 0
+    }
+}
+
+/// Whether an overflow mode leaves each number of the range alone.
+#[inline(always)]
+fn is_plain(over: Over) -> bool
+    ensures { IsTrue result → (signed : Bool) (wl : ℕ) → least_kept over signed wl ≡ least signed wl }
+{
+    match over {
+        Over::SatSym => false,
+        Over::Wrap => true,
+        Over::Sat => true,
+        Over::SatZero => true,
+    }
+}
+
+/// Whether a mode cuts the last bits off.
+#[inline(always)]
+fn is_trn(quant: Quant) -> bool
+    ensures { IsTrue result → quant ≡ Trn }
+{
+    match quant {
+        Quant::Trn => true,
+        _ => false,
+    }
+}
+
+/// A number of the range, else none.
+#[inline(always)]
+fn within(num: i64, format: &Format) -> Option<i64>
+    requires { format.now.wl ≤ 62 }
+    ensures same { IfSome result (λ n. n ≡ num) }
+    ensures range { IfSome result (λ n. IsIn format.now.signed format.now.wl n) }
+{
+    if is_within(num, format.signed, format.wl) {
+        Some(num)
+    } else {
+        None
+    }
+}
+
+/// The cast of a number to a format with more bits after the point or as many.
+#[inline(always)]
+#[tactic(auto, using(crate::proofs::Keeping::raised_is))]
+fn widened(num: i64, frac: u32, format: &Format) -> Option<i64>
+    requires few { format.now.wl ≤ 62 }
+    requires plain { (signed : Bool) (wl : ℕ) → least_kept format.now.over signed wl ≡ least signed wl }
+    requires places { frac ≤ fraction_of format.now }
+    ensures { IfSome result (λ n. n ≡ cast_of format.now num frac) }
+{
+    within(raised(num, format.wl - format.iwl - frac)?, format)
+}
+
+/// The cast of a number to a format with fewer bits after the point, by `trn`.
+#[inline(always)]
+#[tactic(auto, using(crate::proofs::Keeping::cut_is))]
+fn narrowed(num: i64, frac: u32, format: &Format) -> Option<i64>
+    requires few { (format.now.wl ≤ 62) × (frac - fraction_of format.now ≤ 62) }
+    requires plain { (signed : Bool) (wl : ℕ) → least_kept format.now.over signed wl ≡ least signed wl }
+    requires places { fraction_of format.now ≤ frac }
+    requires trn { format.now.quant ≡ Trn }
+    ensures { IfSome result (λ n. n ≡ cast_of format.now num frac) }
+{
+    within(floor(num, frac - (format.wl - format.iwl)), format)
+}
+
+/// A cast that cuts bits off, to a range of so many bits.
+#[derive(Clone, Copy)]
+pub(crate) struct Cut {
+    shift: u32,
+    signed: bool,
+    wl: u32,
+}
+
+/// The cut that a cast is for numbers that lie in the range then.
+#[tactic(auto, using(crate::proofs::Keeping::cut_laws))]
+pub(crate) fn cut_of(frac: u32, format: &Format) -> Option<Cut>
+    ensures { IfSome result (λ c. IsCutOf c format.now frac) }
+{
+    let to = format.wl - format.iwl;
+    if format.wl > 62 || !is_plain(format.over) || frac < to || frac - to > 62 {
+        return None;
+    }
+    if frac != to && !is_trn(format.quant) {
+        return None;
+    }
+    Some(Cut {
+        shift: frac - to,
+        signed: format.signed,
+        wl: format.wl,
+    })
+}
+
+/// A number without its last bits, where that lies in the range.
+#[inline(always)]
+pub(crate) fn cut_by(num: i64, by: &Cut) -> Option<i64>
+    requires { (by.now.shift ≤ 62) × (1 ≤ by.now.wl) × (by.now.wl ≤ 62) }
+    ensures same { IfSome result (λ n. n ≡ below num (2 ^ by.now.shift)) }
+    ensures range { IfSome result (λ n. IsIn by.now.signed by.now.wl n) }
+{
+    let whole = floor(num, by.shift);
+    if is_within(whole, by.signed, by.wl) {
+        Some(whole)
+    } else {
+        None
+    }
+}
+
+/// The number itself, where it lies in the range of a signed format with as many bits after the point.
+#[inline(always)]
+#[tactic(auto, using(crate::proofs::Keeping::kept_is))]
+fn kept_signed(num: i64, frac: u32, format: &Format) -> Option<i64>
+    requires { (signed : Bool) (wl : ℕ) → least_kept format.now.over signed wl ≡ least signed wl }
+    ensures { IfSome result (λ n. n ≡ cast_of format.now num frac) }
+{
+    if format.signed && frac == format.wl - format.iwl && is_within_signed(num, format.wl) {
+        Some(num)
+    } else {
+        None
+    }
+}
+
+/// The cast of a number where it is no more than a cut or a rise, and the number lies in the range then.
+#[inline(always)]
+fn moved_cast(num: i64, frac: u32, format: &Format) -> Option<i64>
+    requires { (signed : Bool) (wl : ℕ) → least_kept format.now.over signed wl ≡ least signed wl }
+    ensures { IfSome result (λ n. n ≡ cast_of format.now num frac) }
+{
+    let to = format.wl - format.iwl;
+    if format.wl > 62 {
+        return None;
+    }
+    if frac <= to {
+        return widened(num, frac, format);
+    }
+    if frac - to > 62 || !is_trn(format.quant) {
+        return None;
+    }
+    narrowed(num, frac, format)
+}
+
+/// The cast of a number where that is no more than a cut or a rise, and the number lies in the range then: first the most
+/// common case, in which the number stays.
+#[inline(always)]
+pub(crate) fn short_cast(num: i64, frac: u32, format: &Format) -> Option<i64>
+    ensures { IfSome result (λ n. n ≡ cast_of format.now num frac) }
+{
+    if !is_plain(format.over) {
+        return None;
+    }
+    match kept_signed(num, frac, format) {
+        Some(same) => Some(same),
+        None => moved_cast(num, frac, format),
+    }
+}

@@ -1,0 +1,346 @@
+//! Loops whose body is one assignment of a value that is read straight from the cells: a copy of an element, and a sum with
+//! a product of two elements. Their turns go without a walk over the tree.
+
+ghost use Rattle.std.specs.Prelude.{◌≡◌, ◌<◌, ◌≤◌, ◌^◌, ◌*ℤ◌, max, IfSome, IsTrue, false, length};
+ghost use Rattle.tdf_expr_machine.specs.Acts.{IsTurnSafe, turn_of};
+ghost use Rattle.tdf_expr_machine.specs.Turns.{AreTurnsSafe, turned};
+ghost use Rattle.tdf_expr_machine.specs.declared.nodes.Node.TheVariants.{Cell, CellAt};
+ghost use Rattle.tdf_expr_machine.specs.machine.Plain.{AreCells, AreTerms, IsElement, IsOn, IsOnTarget, IsPlain, IsPlainSet, IsProduct, IsSum, IsTarget, IsTrackOf, plain_value, terms_value, target_place, track_place};
+ghost use Rattle.tdf_fixed.specs.Quantise.{below};
+ghost use Rattle.tdf_fixed.specs.Overflow.{IsIn};
+ghost use Rattle.tdf_expr_state.specs.State.{cell_at, state_of};
+
+use crate::acts::Act;
+use crate::cuts::{Cut, cut_by, cut_of, raised};
+use crate::nodes::Node;
+use crate::short::{product, short_of, sum};
+use crate::spots::Spot;
+use tdf_expr_state::{Cells, Signals};
+
+/// A place that goes up or down with the innermost loop variable.
+#[derive(Clone, Copy)]
+pub(crate) struct Track {
+    at: u32,
+    down: bool,
+}
+
+/// A cell moved up by some bits, and a product of two elements moved up by some bits.
+#[derive(Clone, Copy)]
+pub(crate) struct Terms {
+    base: u32,
+    lift: u32,
+    first: Track,
+    second: Track,
+    rise: u32,
+}
+
+/// A value that is read straight from the cells.
+#[derive(Clone, Copy)]
+pub(crate) enum Plain {
+    Element(Track),
+    Sum(Terms),
+}
+
+/// Where a value goes.
+#[derive(Clone, Copy)]
+pub(crate) enum Target {
+    Cell(u32),
+    Element(Track),
+}
+
+/// A value that is cut into a cell.
+#[derive(Clone, Copy)]
+pub(crate) struct PlainSet {
+    target: Target,
+    value: Plain,
+    cut: Cut,
+}
+
+/// How a place goes with the innermost of so many loop variables and one.
+#[tactic(auto, using(crate::proofs::Plains::track_laws))]
+fn track_of(spot: Spot, depth: usize) -> Option<Track>
+    ensures { IfSome result (λ track. IsTrackOf spot depth track) }
+{
+    match spot {
+        Spot::Rise {
+            at,
+            times,
+            variable,
+            less,
+        } => {
+            if times == 1 && variable as usize == depth && less <= at {
+                return Some(Track {
+                    at: at - less,
+                    down: false,
+                });
+            }
+            None
+        }
+        Spot::Fall { at, variable } => {
+            if variable as usize == depth {
+                return Some(Track { at, down: true });
+            }
+            None
+        }
+        Spot::Fixed(_) => None,
+    }
+}
+
+/// Where a value goes, by such a place.
+#[tactic(auto, using(crate::proofs::Plains::track_laws))]
+fn target_of(spot: Spot, depth: usize) -> Option<Target>
+    ensures { IfSome result (λ target. IsTarget spot depth target) }
+{
+    match spot {
+        Spot::Fixed(at) => Some(Target::Cell(at)),
+        other => match track_of(other, depth) {
+            Some(track) => Some(Target::Element(track)),
+            None => None,
+        },
+    }
+}
+
+/// The place of a cell, where the expression is one.
+fn cell_of(node: &Node) -> Option<u32>
+    ensures { IfSome result (λ at. node.now ≡ Cell at) }
+{
+    match node {
+        Node::Cell(at) => Some(*at),
+        _ => None,
+    }
+}
+
+/// The place of an element, where the expression is one.
+fn element_of(node: &Node) -> Option<Spot>
+    ensures { IfSome result (λ at. node.now ≡ CellAt at) }
+{
+    match node {
+        Node::CellAt(at) => Some(*at),
+        _ => None,
+    }
+}
+
+/// The two elements of a product.
+fn product_of(node: &Node, depth: usize) -> Option<(Track, Track)>
+    ensures { IfSome result (λ both. IsProduct node.now depth both.0 both.1) }
+{
+    match node {
+        Node::Product(a, b) => {
+            let first = track_of(element_of(a)?, depth)?;
+            let second = track_of(element_of(b)?, depth)?;
+            Some((first, second))
+        }
+        _ => None,
+    }
+}
+
+/// The parts of a sum of a cell and a product.
+fn terms_of(node: &Node, depth: usize) -> Option<Terms>
+    ensures { IfSome result (λ terms. IsSum node.now depth terms) }
+{
+    match node {
+        Node::Sum(a, lift, b, rise) => {
+            let base = cell_of(a)?;
+            let (first, second) = product_of(b, depth)?;
+            Some(Terms {
+                base,
+                lift: *lift,
+                first,
+                second,
+                rise: *rise,
+            })
+        }
+        _ => None,
+    }
+}
+
+/// A value that is read straight from the cells.
+fn plain_of(node: &Node, depth: usize) -> Option<Plain>
+    ensures { IfSome result (λ value. IsPlain node.now depth value) }
+{
+    match node {
+        Node::CellAt(at) => match track_of(*at, depth) {
+            Some(track) => Some(Plain::Element(track)),
+            None => None,
+        },
+        _ => match terms_of(node, depth) {
+            Some(terms) => Some(Plain::Sum(terms)),
+            None => None,
+        },
+    }
+}
+
+/// An assignment of a value that is read straight from the cells.
+
+fn plain_set(act: &Act, depth: usize) -> Option<PlainSet>
+    ensures { IfSome result (λ set. IsPlainSet act.now depth set) }
+{
+    match act {
+        Act::SetCell(spot, node, frac, format) => {
+            let target = target_of(*spot, depth)?;
+            let value = plain_of(node, depth)?;
+            let cut = cut_of(*frac, format)?;
+            Some(PlainSet { target, value, cut })
+        }
+        _ => None,
+    }
+}
+
+/// The place at a turn.
+#[inline(always)]
+fn track_place(track: Track, turn: u32) -> usize
+    requires { IsOn track turn }
+    ensures { result ≡ track_place track turn }
+{
+    if track.down {
+        track.at as usize - turn as usize
+    } else {
+        track.at as usize + turn as usize
+    }
+}
+
+/// The place of a target at a turn.
+#[inline(always)]
+fn target_place(target: Target, turn: u32) -> usize
+    requires { IsOnTarget target turn }
+    ensures { result ≡ target_place target turn }
+{
+    match target {
+        Target::Cell(at) => at as usize,
+        Target::Element(track) => track_place(track, turn),
+    }
+}
+
+/// The number at an element, where it fits 64 bits.
+#[inline(always)]
+fn element(track: Track, turn: u32, cells: &Cells) -> Option<i64>
+    requires { IsElement track turn cells.now.cells }
+    ensures { IfSome result (λ n. n ≡ cell_at cells.now.cells (track_place track turn)) }
+{
+    short_of(cells.cell(track_place(track, turn)))
+}
+
+/// The product of two elements, where it fits 64 bits.
+#[inline(always)]
+fn elements_product(first: Track, second: Track, turn: u32, cells: &Cells) -> Option<i64>
+    requires { IsElement first turn cells.now.cells × IsElement second turn cells.now.cells }
+    ensures { IfSome result (λ n. n ≡ cell_at cells.now.cells (track_place first turn) *ℤ cell_at cells.now.cells (track_place second turn)) }
+{
+    let first = element(first, turn, cells)?;
+    product(first, element(second, turn, cells)?)
+}
+
+/// A cell and a product, where each step fits 64 bits.
+#[inline(always)]
+fn terms_value(terms: &Terms, turn: u32, cells: &Cells) -> Option<i64>
+    requires { AreTerms terms.now turn cells.now.cells }
+    ensures { IfSome result (λ n. n ≡ terms_value terms.now turn cells.now.cells) }
+{
+    let base = raised(short_of(cells.cell(terms.base as usize))?, terms.lift)?;
+    let both = elements_product(terms.first, terms.second, turn, cells)?;
+    sum(base, raised(both, terms.rise)?)
+}
+
+/// The value of such an expression, where each step of it fits 64 bits.
+#[inline(always)]
+fn plain_value(value: &Plain, turn: u32, cells: &Cells) -> Option<i64>
+    requires { AreCells value.now turn cells.now.cells }
+    ensures { IfSome result (λ n. n ≡ plain_value value.now turn cells.now.cells) }
+{
+    match value {
+        Plain::Element(track) => element(*track, turn, cells),
+        Plain::Sum(terms) => terms_value(terms, turn, cells),
+    }
+}
+
+/// The number that a cell gets, where each step fits 64 bits.
+#[inline(always)]
+fn plain_cut(set: &PlainSet, turn: u32, cells: &Cells) -> Option<i64>
+    requires cells { AreCells set.now.value turn cells.now.cells }
+    requires cut { (set.now.cut.shift ≤ 62) × (1 ≤ set.now.cut.wl) × (set.now.cut.wl ≤ 62) }
+    ensures same { IfSome result (λ n. n ≡ below (plain_value set.now.value turn cells.now.cells) (2 ^ set.now.cut.shift)) }
+    ensures range { IfSome result (λ n. IsIn set.now.cut.signed set.now.cut.wl n) }
+{
+    cut_by(plain_value(&set.value, turn, cells)?, &set.cut)
+}
+
+/// One turn, where each step of it fits 64 bits; else nothing is changed.
+#[inline(always)]
+fn plain_turn(
+    act: &Act,
+    set: &PlainSet,
+    loops: &[u32],
+    turn: u32,
+    cells: &mut Cells,
+    signals: &Signals,
+) -> bool
+    requires set { IsPlainSet act.now (length loops.now) set.now }
+    requires safe { IsTurnSafe act.now loops.now turn (state_of cells.old signals.now) }
+    ensures done { IsTrue result → state_of cells.new signals.now ≡ turn_of act.now loops.now turn (state_of cells.old signals.now) }
+    ensures kept { result ≡ false → cells.new ≡ cells.old }
+{
+    match plain_cut(set, turn, cells) {
+        Some(num) => {
+            cells.set_cell(target_place(set.target, turn), i128::from(num));
+            true
+        }
+        None => false,
+    }
+}
+
+/// The turns of a loop up to the first that doesn't fit 64 bits, and the number of that turn. A copy of it for each form
+/// asks for the form before the loop, not at each turn.
+#[inline(always)]
+#[tactic(auto, using(crate::proofs::Runs::turn_laws))]
+fn plain_turns(
+    act: &Act,
+    set: &PlainSet,
+    from: u32,
+    end: u32,
+    loops: &[u32],
+    cells: &mut Cells,
+    signals: &Signals,
+) -> u32
+    requires set { IsPlainSet act.now (length loops.now) set.now }
+    requires safe { AreTurnsSafe (turn_of act.now loops.now) (IsTurnSafe act.now loops.now) from end (state_of cells.old signals.now) }
+    ensures after { from ≤ result }
+    ensures within { result ≤ max from end }
+    ensures state { state_of cells.new signals.now ≡ turned (turn_of act.now loops.now) from result (state_of cells.old signals.now) }
+{
+    for i in from..end {
+        if !plain_turn(act, set, loops, i, cells, signals) {
+            return i;
+        }
+    }
+    from.max(end)
+}
+
+/// The turns of a loop that go without a walk over the tree of its body, none where its form is another; and the turn that
+/// comes next.
+#[tactic(auto, using(crate::proofs::Runs::turn_laws))]
+pub(crate) fn quick_turns(
+    body: &Act,
+    from: u32,
+    end: u32,
+    loops: &[u32],
+    cells: &mut Cells,
+    signals: &Signals,
+) -> u32
+    requires { AreTurnsSafe (turn_of body.now loops.now) (IsTurnSafe body.now loops.now) from end (state_of cells.old signals.now) }
+    ensures after { from ≤ result }
+    ensures within { result ≤ max from end }
+    ensures state { state_of cells.new signals.now ≡ turned (turn_of body.now loops.now) from result (state_of cells.old signals.now) }
+{
+    match plain_set(body, loops.len()) {
+        Some(set) => match (set.target, set.value) {
+            (Target::Element(_), Plain::Element(_)) => {
+                plain_turns(body, &set, from, end, loops, cells, signals)
+            }
+            (Target::Cell(_), Plain::Sum(_)) => {
+                plain_turns(body, &set, from, end, loops, cells, signals)
+            }
+            _ => from,
+        },
+        None => from,
+    }
+}

@@ -1,0 +1,204 @@
+//! The values of expressions by 64-bit arithmetic, where each step of it fits.
+
+ghost use Rattle.std.specs.Prelude.{◌≡◌, ◌≤◌, ◌^◌, pos, ◌+ℤ◌, ◌-ℤ◌, ◌*ℤ◌, neg_ℤ, IfSome};
+ghost use Rattle.tdf_expr_machine.specs.Nodes.{IsSafe, node_value, holds, relates, truth_number};
+ghost use Rattle.tdf_expr_state.specs.State.{state_of};
+
+use crate::cuts::raised;
+use crate::nodes::{Node, Relation, Sight, fitted_short};
+use crate::spots::place;
+
+/// A number in 64 bits, where it fits.
+#[inline(always)]
+pub(crate) fn short_of(num: i128) -> Option<i64>
+    ensures { IfSome result (λ n. n ≡ num) }
+{
+    match i64::try_from(num) {
+        Ok(short) => Some(short),
+        Err(_) => None,
+    }
+}
+
+#[inline(always)]
+pub(crate) fn product(a: i64, b: i64) -> Option<i64>
+    ensures { IfSome result (λ n. n ≡ a *ℤ b) }
+{
+    short_of(i128::from(a) * i128::from(b))
+}
+
+#[inline(always)]
+pub(crate) fn sum(a: i64, b: i64) -> Option<i64>
+    ensures { IfSome result (λ n. n ≡ a +ℤ b) }
+{
+    a.checked_add(b)
+}
+
+#[inline(always)]
+fn difference(a: i64, b: i64) -> Option<i64>
+    ensures { IfSome result (λ n. n ≡ a -ℤ b) }
+{
+    a.checked_sub(b)
+}
+
+#[inline(always)]
+fn relates(relation: Relation, a: i64, b: i64) -> bool
+    ensures { result ≡ relates relation a b }
+{
+    match relation {
+        Relation::Less => a < b,
+        Relation::AtMost => a <= b,
+        Relation::Equal => a == b,
+        Relation::Different => a != b,
+    }
+}
+
+#[inline(always)]
+fn negative(a: i64) -> Option<i64>
+    ensures { IfSome result (λ n. n ≡ neg_ℤ a) }
+{
+    short_of(-i128::from(a))
+}
+
+/// Whether a number is taken as true.
+#[inline(always)]
+fn holds(num: i64) -> bool
+    ensures { result ≡ holds num }
+{
+    num != 0
+}
+
+/// 1 for true, 0 for false.
+#[inline(always)]
+fn truth(so: bool) -> Option<i64>
+    ensures { IfSome result (λ n. n ≡ truth_number so) }
+{
+    if so { Some(1) } else { Some(0) }
+}
+
+/// The value of an expression without parts.
+#[inline(always)]
+fn leaf(node: &Node, at: &Sight) -> Option<i64>
+    requires { IsSafe node.now (state_of at.now.cells.now at.now.signals.now) at.now.loops.now }
+    ensures { IfSome result (λ n. n ≡ node_value node.now (state_of at.now.cells.now at.now.signals.now) at.now.loops.now) }
+{
+    match node {
+        Node::Const(num) => short_of(*num),
+        Node::Cell(place) => short_of(at.cells.cell(*place as usize)),
+        Node::CellAt(spot) => short_of(at.cells.cell(place(*spot, at.loops))),
+        Node::Sample(place) => short_of(at.signals.sample(*place as usize)),
+        Node::SampleAt(spot) => short_of(at.signals.sample(place(*spot, at.loops))),
+        _ => None,
+    }
+}
+
+/// The value of a product of two expressions without parts, or of one such.
+#[inline(always)]
+fn near(node: &Node, at: &Sight) -> Option<i64>
+    requires { IsSafe node.now (state_of at.now.cells.now at.now.signals.now) at.now.loops.now }
+    ensures { IfSome result (λ n. n ≡ node_value node.now (state_of at.now.cells.now at.now.signals.now) at.now.loops.now) }
+{
+    match node {
+        Node::Product(a, b) => {
+            let a = leaf(a, at)?;
+            product(a, leaf(b, at)?)
+        }
+        _ => leaf(node, at),
+    }
+}
+
+/// The value of a part of an expression: without a call where it is near.
+#[cycle(short)]
+#[inline(always)]
+pub(crate) fn operand(node: &Node, at: &Sight) -> Option<i64>
+    requires { IsSafe node.now (state_of at.now.cells.now at.now.signals.now) at.now.loops.now }
+    ensures { IfSome result (λ n. n ≡ node_value node.now (state_of at.now.cells.now at.now.signals.now) at.now.loops.now) }
+{
+    match near(node, at) {
+        Some(num) => Some(num),
+        None => short_value(node, at),
+    }
+}
+
+/// Whether an expression holds, where its value and that of each part fit 64 bits.
+#[cycle(short)]
+#[inline(never)]
+#[tactic(auto, using(crate::proofs::Powers::holds_truth))]
+pub(crate) fn verdict(node: &Node, at: &Sight) -> Option<bool>
+    requires { IsSafe node.now (state_of at.now.cells.now at.now.signals.now) at.now.loops.now }
+    ensures { IfSome result (λ so. so ≡ holds (node_value node.now (state_of at.now.cells.now at.now.signals.now) at.now.loops.now)) }
+{
+    match node {
+        Node::Compare(relation, a, m, b, n) => {
+            let a = raised(operand(a, at)?, *m)?;
+            Some(relates(*relation, a, raised(operand(b, at)?, *n)?))
+        }
+        _ => Some(holds(operand(node, at)?)),
+    }
+}
+
+/// The value of an expression, in units of its last place, where it and the value of each part fit 64 bits.
+#[cycle(short)]
+pub(crate) fn short_value(node: &Node, at: &Sight) -> Option<i64>
+    requires { IsSafe node.now (state_of at.now.cells.now at.now.signals.now) at.now.loops.now }
+    ensures { IfSome result (λ n. n ≡ node_value node.now (state_of at.now.cells.now at.now.signals.now) at.now.loops.now) }
+{
+    match node {
+        Node::Sum(a, m, b, n) => {
+            let a = raised(operand(a, at)?, *m)?;
+            sum(a, raised(operand(b, at)?, *n)?)
+        }
+        Node::Difference(a, m, b, n) => {
+            let a = raised(operand(a, at)?, *m)?;
+            difference(a, raised(operand(b, at)?, *n)?)
+        }
+        Node::Product(a, b) => {
+            let a = operand(a, at)?;
+            product(a, operand(b, at)?)
+        }
+        Node::Negative(a) => negative(operand(a, at)?),
+        Node::Up(a, n) => raised(operand(a, at)?, *n),
+        Node::Compare(relation, a, m, b, n) => {
+            let a = raised(operand(a, at)?, *m)?;
+            truth(relates(*relation, a, raised(operand(b, at)?, *n)?))
+        }
+        Node::And(a, b) => {
+            let a = operand(a, at)?;
+            truth(holds(a) && holds(operand(b, at)?))
+        }
+        Node::Or(a, b) => {
+            let a = operand(a, at)?;
+            truth(holds(a) || holds(operand(b, at)?))
+        }
+        Node::Not(a) => truth(!holds(operand(a, at)?)),
+        Node::Choice(test, a, m, b, n) => {
+            if verdict(test, at)? {
+                raised(operand(a, at)?, *m)
+            } else {
+                raised(operand(b, at)?, *n)
+            }
+        }
+        Node::Cast(a, frac, format) => short_of(fitted_short(operand(a, at)?, *frac, format)),
+        Node::Rate(number) => Some(i64::from(at.cells.rate(*number as usize))),
+        Node::Loop(depth) => Some(i64::from(at.loops[*depth as usize])),
+        _ => leaf(node, at),
+    }
+}
+
+/// As `short_value`: without a call where it is a sum or a difference of near parts, as most assigned values are.
+#[inline(always)]
+pub(crate) fn top_value(node: &Node, at: &Sight) -> Option<i64>
+    requires { IsSafe node.now (state_of at.now.cells.now at.now.signals.now) at.now.loops.now }
+    ensures { IfSome result (λ n. n ≡ node_value node.now (state_of at.now.cells.now at.now.signals.now) at.now.loops.now) }
+{
+    match node {
+        Node::Sum(a, m, b, n) => {
+            let a = raised(operand(a, at)?, *m)?;
+            sum(a, raised(operand(b, at)?, *n)?)
+        }
+        Node::Difference(a, m, b, n) => {
+            let a = raised(operand(a, at)?, *m)?;
+            difference(a, raised(operand(b, at)?, *n)?)
+        }
+        _ => operand(node, at),
+    }
+}

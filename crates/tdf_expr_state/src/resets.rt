@@ -1,0 +1,26 @@
+//! Lists set back in place, without memory.
+
+ghost use Rattle.std.specs.Prelude.{◌≡◌, ◌+◌, ◌≤◌, length};
+ghost use Rattle.tdf_expr_state.specs.Resets.{no_times, none_set, with_zeros};
+
+/// No flag is set.
+pub(crate) fn unset(flags: &mut Vec<bool>)
+    ensures { flags.new.items ≡ none_set flags.old.items }
+{
+    flags.fill(false);
+}
+
+/// No time stands.
+pub(crate) fn forget(times: &mut Vec<Option<u64>>)
+    ensures { times.new.items ≡ no_times times.old.items }
+{
+    times.fill(None);
+}
+
+/// The numbers from `from` on, `count` of them, are 0.
+pub(crate) fn blank(numbers: &mut Vec<i128>, from: usize, count: usize)
+    requires { from + count ≤ length numbers.old.items }
+    ensures { numbers.new.items ≡ with_zeros from count numbers.old.items }
+{
+    numbers[from..from + count].fill(0);
+}

@@ -1,3 +1,0 @@
-pub mod Api
-pub mod IsFirst
-pub mod Leasts

@@ -1,3 +1,0 @@
-pub use Rattle.tdf_base.specs.Fault
-pub mod First
-pub mod Law

@@ -1,5 +1,0 @@
-use Rattle.tdf_firing.proofs.Begins.{cleared}
-use Rattle.tdf_firing.proofs.taking.clear.Goals as goal
-
-pub returns-clause-cleared : goal.returns-clause-cleared
-returns-clause-cleared c = cleared c.args.ports.now c.reset.new.self c.ports.ensures.fit c.reset.ensures

@@ -1,7 +1,0 @@
-pub mod Activation
-pub mod Actors
-pub mod Firing
-pub mod Formats
-pub mod Wires
-pub mod low
-pub mod machine

@@ -1,5 +1,0 @@
-//! What the crates above use of the crates further below.
-
-pub mod rings {
-    pub use tdf_rings::{Ring, carry};
-}

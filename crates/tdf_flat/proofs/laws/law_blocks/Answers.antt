@@ -1,5 +1,0 @@
-use Rattle.tdf_flat.proofs.OneAnswer.{blocks_are_one}
-use Rattle.tdf_flat.proofs.laws.law_blocks.Goals as goal
-
-pub returns : goal.returns
-returns c = blocks_are_one

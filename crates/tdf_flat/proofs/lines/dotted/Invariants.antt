@@ -1,6 +1,0 @@
-use Rattle.std.proofs.Common.{◌≡◌, take}
-use Rattle.tdf_flat.proofs.lines.dotted.Given as goal
-use Rattle.tdf_flat.specs.Flat.{dotted}
-
-abbrev pub invariant-loop-place : goal.invariant-loop-place
-invariant-loop-place l = l.text.items ≡ dotted (take l.place l.names)

@@ -1,4 +1,0 @@
-pub mod Flat
-pub mod Laws
-pub mod low
-pub mod machine

@@ -1,3 +1,0 @@
--- Definitions of tdf_names.
-pub use Rattle.tdf_names.specs.Law
-pub use Rattle.tdf_names.specs.Names

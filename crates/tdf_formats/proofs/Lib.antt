@@ -1,9 +1,0 @@
-pub mod Api
-pub mod Bindings
-pub mod Blocks
-pub mod Formats
-pub mod Members
-pub mod Rows
-pub mod Spaces
-pub mod Spans
-pub mod Walked

@@ -1,5 +1,0 @@
-use Rattle.tdf_formats.proofs.Formats.{ports_have_formats}
-use Rattle.tdf_formats.proofs.laws.law_formats.Goals as goal
-
-pub returns : goal.returns
-returns c = ports_have_formats c.law_names_once.ensures

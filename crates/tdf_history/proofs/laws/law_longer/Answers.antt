@@ -1,5 +1,0 @@
-use Rattle.tdf_history.proofs.Told.{more_is_told}
-use Rattle.tdf_history.proofs.laws.law_longer.Goals as goal
-
-pub returns : goal.returns
-returns c = more_is_told

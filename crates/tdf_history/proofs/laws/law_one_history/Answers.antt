@@ -1,5 +1,0 @@
-use Rattle.tdf_history.proofs.Once.{answers_tell_one}
-use Rattle.tdf_history.proofs.laws.law_one_history.Goals as goal
-
-pub returns : goal.returns
-returns c = answers_tell_one c.law_one_answer.ensures

@@ -1,3 +1,0 @@
--- Definitions of tdf_instants.
-pub use Rattle.tdf_instants.specs.History
-pub use Rattle.tdf_instants.specs.Laws

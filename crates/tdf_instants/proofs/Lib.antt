@@ -1,3 +1,0 @@
-pub mod Api
-pub mod Instants
-pub mod Turns

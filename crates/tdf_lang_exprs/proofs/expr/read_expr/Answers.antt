@@ -1,0 +1,8 @@
+use Rattle.std.proofs.Common.{map}
+use Rattle.std.proofs.lemmas.Result.{IfOk-weaker}
+use Rattle.tdf_lang_lexer.specs.Token.{tok}
+use Rattle.tdf_lang_exprs.proofs.Decided.{expr_decided}
+use Rattle.tdf_lang_exprs.proofs.expr.read_expr.Goals as goal
+
+pub returns-clause-said : goal.returns-clause-said
+returns-clause-said c = IfOk-weaker c.whole.result _ _ (λ o is. expr_decided c.args.version (map tok c.args.tokens.now) o is) c.whole.ensures

@@ -1,0 +1,96 @@
+//! The bytes and the lines of a text.
+
+ghost use Rattle.std.specs.List.{after_first, before_first, list_all, position_or_len};
+ghost use Rattle.std.specs.Prelude.{length, ◌≡◌, ◌≤◌};
+ghost use Rattle.tdf_base.specs.Limits.{longest_text};
+ghost use Rattle.tdf_lang_lexer.specs.Text.{is_allowed, fault_of, is_line_end, line_fault_of, lines_of};
+
+use tdf_base::LONGEST_LINE;
+
+/// The first fault of a text's bytes and line lengths. On one line `Byte` comes before `LongLine`.
+#[derive(Clone, Copy, Debug, PartialEq, Eq)]
+pub enum TextFault {
+    /// The line holds a byte that isn't LF, TAB or from the space to `~`.
+    Byte { line: u32 },
+    /// The line has more than 1,024 bytes, without its LF.
+    LongLine { line: u32 },
+}
+
+/// The length of the first line, without its LF.
+fn line_len(text: &[u8]) -> usize
+    ensures { result ≡ position_or_len is_line_end text.now }
+{
+    text.iter().take_while(|byte| **byte != b'\n').count()
+}
+
+/// The first line, without its LF, and what stands after it.
+#[tactic(auto, using(crate::proofs::LineLaws::cut_laws))]
+pub(crate) fn cut_line<'t>(text: &'t [u8]) -> (&'t [u8], &'t [u8])
+    ensures line { result.0.now ≡ before_first is_line_end text.now }
+    ensures rest { result.1.now ≡ after_first is_line_end text.now }
+{
+    let end = line_len(text);
+    if end < text.len() {
+        return (&text[..end], &text[end + 1..]);
+    }
+    (text, &[])
+}
+
+fn is_allowed(byte: u8) -> bool
+    ensures { result ≡ is_allowed byte }
+{
+    byte == b'\n' || byte == b'\t' || (b' ' <= byte && byte <= b'~')
+}
+
+fn is_clean(bytes: &[u8]) -> bool
+    ensures { result ≡ list_all is_allowed bytes.now }
+{
+    bytes.iter().all(|byte| is_allowed(*byte))
+}
+
+fn line_fault(line: u32, bytes: &[u8]) -> Option<TextFault>
+    ensures { result ≡ line_fault_of line bytes.now }
+{
+    if !is_clean(bytes) {
+        return Some(TextFault::Byte { line });
+    }
+    if bytes.len() > LONGEST_LINE {
+        return Some(TextFault::LongLine { line });
+    }
+    None
+}
+
+/// The fault of the least line that has one. It takes no memory.
+#[tactic(auto, using(crate::proofs::LineLaws::fault_laws), unfolding(crate::specs::Text::fault_of))]
+pub fn text_fault(text: &[u8]) -> Option<TextFault>
+    requires { length text.now ≤ longest_text }
+    ensures { result ≡ fault_of text.now }
+{
+    let mut rest = text;
+    let mut number = 1;
+    while !rest.is_empty() {
+        let (line, after) = cut_line(rest);
+        if let Some(fault) = line_fault(number, line) {
+            return Some(fault);
+        }
+        rest = after;
+        number += 1;
+    }
+    None
+}
+
+/// The number of lines.
+#[tactic(auto, using(crate::proofs::LineLaws::count_laws))]
+pub fn line_count(text: &[u8]) -> u32
+    requires { length text.now ≤ longest_text }
+    ensures { result ≡ length (lines_of text.now) }
+{
+    let mut rest = text;
+    let mut count = 0;
+    while !rest.is_empty() {
+        let (_, after) = cut_line(rest);
+        rest = after;
+        count += 1;
+    }
+    count
+}

@@ -1,0 +1,14 @@
+pub use Rattle.tdf_base.specs.Limits.{longest_text}
+pub use Rattle.tdf_lang_tree.specs.Kept.{IsKept}
+pub use Rattle.tdf_lang_tree.specs.LinesIn.{HasLinesInOrder}
+pub use Rattle.tdf_lang_tree.specs.Views.{pure_tree}
+pub mod Examples
+pub mod Faults
+pub mod Formed
+pub mod Head
+pub mod Items
+pub mod Laws
+pub mod Refused
+pub mod SpellsTree
+pub mod machine
+pub mod views

@@ -1,0 +1,213 @@
+//! From a text to its tree.
+
+ghost use Rattle.std.specs.Prelude.{IfErr, IfOk, Some, length, map, ◌+◌, ◌∷◌, ◌≡◌, ◌≤◌};
+ghost use Rattle.tdf_base.specs.Limits.{longest_text};
+ghost use Rattle.tdf_lang_parser.specs.Formed.{IsFormed};
+ghost use Rattle.tdf_lang_parser.specs.Head.{SpellsVersion};
+ghost use Rattle.tdf_lang_parser.specs.Refused.{IsWhy, SpellsText};
+ghost use Rattle.tdf_lang_parser.specs.machine.Heads.{resolution_line};
+ghost use Rattle.tdf_lang_parser.specs.machine.Places.{is_lost, reads_row};
+ghost use Rattle.tdf_lang_parser.specs.machine.Walks.{IsEnd, IsModelRead, IsRead, IsWalked};
+ghost use Rattle.tdf_lang_parser.specs.views.PlaceViews.{shown_place};
+ghost use Rattle.tdf_lang_lexer.specs.Dialect.{token_line, token_lines};
+ghost use Rattle.tdf_lang_lexer.specs.Rows.{Row, row};
+ghost use Rattle.tdf_lang_lexer.specs.Token.{tok};
+ghost use Rattle.tdf_lang_tree.specs.Kept.{IsKept};
+ghost use Rattle.tdf_lang_tree.specs.LinesIn.{HasLinesInOrder};
+ghost use Rattle.tdf_lang_tree.specs.Views.{pure_tree};
+
+use crate::err::LangErr;
+use crate::heads::{read_version, resolution_line};
+use crate::places::{Outer, Place};
+use crate::turns::goes;
+use std::alloc::Global;
+use tdf_base::{Memory, Resolution};
+use tdf_lang_lexer::{Dialect, PieceLine, Token, line_count, piece_lines, push_tokens, text_fault};
+use tdf_lang_lines::read_form;
+use tdf_lang_tree::Tree;
+
+/// Where a line leads, by its tokens.
+#[tactic(auto, unfolding(crate::specs::machine::Places::reads_row))]
+fn read_tokens(
+    alloc: Global,
+    dialect: Dialect,
+    at: Place,
+    number: u32,
+    tokens: &[Token],
+) -> Result<Place, Memory>
+    ensures { IfOk result (λ p. shown_place p ≡ reads_row dialect (shown_place at) (record { number = number; tokens = map tok tokens.now })) }
+{
+    match read_form(alloc, dialect.version, tokens) {
+        Ok(Some(form)) => goes(alloc, at, number, form),
+        Ok(None) => {
+            drop(at);
+            Ok(Place::Lost)
+        }
+        Err(refused) => {
+            drop(at);
+            Err(refused)
+        }
+    }
+}
+
+/// Where a row leads. Its tokens are gathered in `tokens`.
+fn read_row<'t>(
+    alloc: Global,
+    dialect: Dialect,
+    at: Place,
+    line: &PieceLine<'t>,
+    tokens: &mut Vec<Token<'t>>,
+) -> Result<Place, Memory>
+    ensures { IfOk result (λ p. shown_place p ≡ reads_row dialect (shown_place at) (token_line dialect (row line.now))) }
+{
+    tokens.clear();
+    match push_tokens(dialect, &line.pieces, tokens) {
+        Ok(()) => read_tokens(alloc, dialect, at, line.number, tokens),
+        Err(refused) => {
+            drop(at);
+            Err(refused)
+        }
+    }
+}
+
+fn is_lost(at: &Place) -> bool
+    ensures { result ≡ is_lost (shown_place at.now) }
+{
+    match at {
+        Place::Lost => true,
+        Place::Globals(_) => false,
+        Place::Tdf(_, _, _) => false,
+        Place::Attributes(_, _) => false,
+        Place::Initialize(_, _) => false,
+        Place::Body(_, _, _) => false,
+        Place::De(_, _, _) => false,
+        Place::Process(_, _, _) => false,
+        Place::Net(_, _) => false,
+        Place::Top(_, _) => false,
+        Place::Traces(_) => false,
+    }
+}
+
+/// The tree, where the last line leads to the traces.
+#[tactic(auto, unfolding(crate::specs::machine::Places::fault_from))]
+fn ended(at: Place, after: u32) -> Result<Tree, LangErr>
+    ensures { IsEnd result (shown_place at) after }
+{
+    match at {
+        Place::Traces(tree) => Ok(tree),
+        other => {
+            drop(other);
+            Err(LangErr::Syntax { line: after })
+        }
+    }
+}
+
+/// Row by row.
+#[tactic(auto, using(crate::proofs::WalkLaws::walk_laws))]
+fn walk(alloc: Global, dialect: Dialect, rows: &[PieceLine], after: u32) -> Result<Tree, LangErr>
+    ensures { IsWalked result dialect (token_lines dialect (map row rows.now)) after }
+{
+    let mut tokens = Vec::new(alloc);
+    let mut at = Place::Globals(Outer {
+        dialect,
+        globals: Vec::new(alloc),
+    });
+    for line in rows {
+        at = read_row(alloc, dialect, at, line, &mut tokens)?;
+        if is_lost(&at) {
+            drop(at);
+            return Err(LangErr::Syntax { line: line.number });
+        }
+    }
+    ended(at, after)
+}
+
+/// The tree that the rows after those that open the text spell, or their first fault.
+fn read_model(
+    alloc: Global,
+    dialect: Dialect,
+    rows: &[PieceLine],
+    after: u32,
+) -> Result<Tree, LangErr>
+    ensures { IsModelRead result dialect (token_lines dialect (map row rows.now)) after }
+{
+    walk(alloc, dialect, rows, after)
+}
+
+/// The rows after the `language` line, where the first of them is a resolution line.
+#[tactic(auto, using(crate::proofs::WalkLaws::some_row))]
+fn after_resolution(
+    alloc: Global,
+    dialect: Dialect,
+    rows: &[PieceLine],
+    after: u32,
+) -> Result<Tree, LangErr>
+    requires { resolution_line dialect.version (map row rows.now) ≡ Some dialect.resolution }
+    ensures { (h : Row) → SpellsVersion h.pieces dialect.version → IsRead result (h ∷ map row rows.now) after }
+{
+    read_model(alloc, dialect, &rows[1..], after)
+}
+
+/// The rows after the `language` line: a resolution line, where version 3 has one, and the model.
+fn after_version(
+    alloc: Global,
+    version: u32,
+    rows: &[PieceLine],
+    after: u32,
+) -> Result<Tree, LangErr>
+    ensures { (h : Row) → SpellsVersion h.pieces version → IsRead result (h ∷ map row rows.now) after }
+{
+    match resolution_line(version, rows) {
+        Some(resolution) => after_resolution(
+            alloc,
+            Dialect {
+                version,
+                resolution,
+            },
+            rows,
+            after,
+        ),
+        None => read_model(
+            alloc,
+            Dialect {
+                version,
+                resolution: Resolution::Ps,
+            },
+            rows,
+            after,
+        ),
+    }
+}
+
+/// The tree that the rows of a text spell, or their first fault.
+fn read_rows(alloc: Global, rows: &[PieceLine], after: u32) -> Result<Tree, LangErr>
+    ensures { IsRead result (map row rows.now) after }
+{
+    match rows {
+        [] => Err(LangErr::Syntax { line: after }),
+        [first, rest @ ..] => match read_version(&first.pieces) {
+            Some(version) => after_version(alloc, version, rest, after),
+            None => Err(LangErr::Syntax { line: first.number }),
+        },
+    }
+}
+
+/// Reads a model text: the tree that its rows spell, in the version of the language that its first row says.
+///
+/// # Errors
+/// `Byte` and `LongLine` with the first line that has such a fault; else `Syntax` with the first line that its place doesn't
+/// allow, or the number of lines plus 1 where the text ends too early; `Memory` where it is out of memory.
+pub fn parse(alloc: Global, text: &[u8]) -> Result<Tree, LangErr>
+    requires { length text.now ≤ longest_text }
+    ensures tree { IfOk result (λ t. SpellsText text.now (pure_tree t)) }
+    ensures kept { IfOk result (λ t. IsKept (pure_tree t)) }
+    ensures order { IfOk result (λ t. HasLinesInOrder (pure_tree t)) }
+    ensures formed { IfOk result (λ t. IsFormed (pure_tree t)) }
+    ensures refused { IfErr result (λ e. IsWhy e text.now) }
+{
+    if let Some(fault) = text_fault(text) {
+        return Err(LangErr::from(fault));
+    }
+    let rows = piece_lines(alloc, text)?;
+    read_rows(alloc, &rows, line_count(text) + 1)
+}

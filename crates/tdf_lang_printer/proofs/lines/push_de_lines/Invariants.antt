@@ -1,0 +1,7 @@
+use Rattle.std.proofs.Common.{◌≡◌, ◌++◌, take}
+use Rattle.std.specs.List.{flat_map}
+use Rattle.tdf_lang_printer.specs.machine.Texts.{de_line_text}
+use Rattle.tdf_lang_printer.proofs.lines.push_de_lines.Given as goal
+
+abbrev pub invariant-loop-line : goal.invariant-loop-line
+invariant-loop-line l = l.out.items ≡ l.initial.out.items ++ flat_map de_line_text (take l.line-index l.list)

@@ -1,9 +1,0 @@
-pub mod Edges
-pub mod Ports
-pub mod Rates
-pub mod Samples
-pub mod Traced
-pub mod Wires
-pub mod Wiring
-pub mod low
-pub mod machine

@@ -1,2 +1,0 @@
--- Definitions of tdf_wiring.
-pub use Rattle.tdf_streams.specs.low.wiring.declared

@@ -1,5 +1,0 @@
-use Rattle.tdf_limits.proofs.Limits.{flat_is_within_limits}
-use Rattle.tdf_limits.proofs.laws.law_limits.Goals as goal
-
-pub returns : goal.returns
-returns c = flat_is_within_limits c.law_ranges.ensures

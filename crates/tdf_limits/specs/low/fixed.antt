@@ -1,3 +1,0 @@
--- Definitions of tdf_fixed.
-pub use Rattle.tdf_flat.specs.low.fixed.Overflow
-pub use Rattle.tdf_flat.specs.low.fixed.declared

@@ -1,4 +1,0 @@
--- Definitions of tdf_scope.
-pub use Rattle.tdf_flat.specs.low.scope.Names
-pub use Rattle.tdf_flat.specs.low.scope.Scope
-pub use Rattle.tdf_flat.specs.low.scope.Sound

@@ -1,4 +1,0 @@
--- Definitions of tdf_tree.
-pub use Rattle.tdf_flat.specs.low.tree.Kept
-pub use Rattle.tdf_flat.specs.low.tree.Pure
-pub use Rattle.tdf_flat.specs.low.tree.declared

@@ -1,5 +1,0 @@
-use Rattle.tdf_lines.proofs.KindLaws.{kinds}
-use Rattle.tdf_lines.proofs.laws.law_kinds.Goals as goal
-
-pub returns : goal.returns
-returns c = kinds

@@ -1,8 +1,0 @@
-use Rattle.std.proofs.Common.{map}
-use Rattle.std.proofs.lemmas.Result.{IfOk-weaker}
-use Rattle.tdf_tokens.specs.Token.{tok}
-use Rattle.tdf_lines.proofs.Decided.{form_decided}
-use Rattle.tdf_lines.proofs.lines.read_form.Goals as goal
-
-pub returns-clause-spelled : goal.returns-clause-spelled
-returns-clause-spelled c = IfOk-weaker c.form.result _ _ (λ o is. form_decided c.args.version (map tok c.args.tokens.now) o is) c.form.ensures

@@ -1,6 +1,0 @@
-pub use Rattle.tdf_tokens.specs.Token.{tok}
-pub mod FitsLine
-pub mod FormViews
-pub mod Laws
-pub mod SpellsLine
-pub mod machine

@@ -1,5 +1,0 @@
-use Rattle.tdf_linked.proofs.Ports.{ports_have_events}
-use Rattle.tdf_linked.proofs.laws.law_ports.Goals as goal
-
-pub returns : goal.returns
-returns c = ports_have_events c.law_formats.ensures

@@ -1,4 +1,0 @@
-pub mod Laws
-pub mod Linked
-pub mod low
-pub mod machine

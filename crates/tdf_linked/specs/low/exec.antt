@@ -1,9 +1,0 @@
--- Definitions of tdf_exec.
-pub use Rattle.tdf_run.specs.low.exec.Cluster
-pub use Rattle.tdf_run.specs.low.exec.Crossing
-pub use Rattle.tdf_run.specs.low.exec.Gained
-pub use Rattle.tdf_run.specs.low.exec.Made
-pub use Rattle.tdf_run.specs.low.exec.Played
-pub use Rattle.tdf_run.specs.low.exec.Starts
-pub use Rattle.tdf_run.specs.low.exec.Telling
-pub use Rattle.tdf_run.specs.low.exec.declared

@@ -1,2 +1,0 @@
--- Definitions of tdf_schedule.
-pub use Rattle.tdf_run.specs.low.schedule.declared

@@ -1,8 +1,0 @@
-pub mod Agree
-pub mod Faults
-pub mod Law
-pub mod Links
-pub mod Ports
-pub mod Seen
-pub mod low
-pub mod machine

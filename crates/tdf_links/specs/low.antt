@@ -1,5 +1,0 @@
--- What the crates further below define, for the crates above.
-pub mod base
-pub mod fixed
-pub mod scope
-pub mod tree

@@ -1,3 +1,0 @@
--- Definitions of tdf_scope.
-pub use Rattle.tdf_scope.specs.Names
-pub use Rattle.tdf_scope.specs.Scope

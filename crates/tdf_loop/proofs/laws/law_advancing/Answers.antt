@@ -1,5 +1,0 @@
-use Rattle.tdf_loop.proofs.Advancing.{instant_advances}
-use Rattle.tdf_loop.proofs.laws.law_advancing.Goals as goal
-
-pub returns : goal.returns
-returns c = instant_advances c.law_one_port.ensures

@@ -1,8 +1,0 @@
--- Definitions of tdf_dynamic.
-pub use Rattle.tdf_shown.specs.low.dynamic.Attributes
-pub use Rattle.tdf_shown.specs.low.dynamic.Faults
-pub use Rattle.tdf_shown.specs.low.dynamic.First
-pub use Rattle.tdf_shown.specs.low.dynamic.Laws
-pub use Rattle.tdf_shown.specs.low.dynamic.Rates
-pub use Rattle.tdf_shown.specs.low.dynamic.Text
-pub use Rattle.tdf_shown.specs.low.dynamic.declared

@@ -1,2 +1,0 @@
--- Definitions of tdf_graph.
-pub use Rattle.tdf_shown.specs.low.graph.Clusters

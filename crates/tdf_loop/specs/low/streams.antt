@@ -1,2 +1,0 @@
--- Definitions of tdf_streams.
-pub use Rattle.tdf_shown.specs.low.streams.Places

@@ -1,2 +1,0 @@
--- Definitions of tdf_world.
-pub use Rattle.tdf_shown.specs.low.world.Rules

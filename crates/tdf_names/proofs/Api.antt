@@ -1,3 +1,0 @@
--- The lemmas that the crates above use.
-pub use Rattle.tdf_names.proofs.FaultLines.{faults_stand}
-pub use Rattle.tdf_names.proofs.NamesOnce.{names_once}

@@ -1,5 +1,0 @@
-use Rattle.tdf_names.proofs.FaultLines.{faults_stand}
-use Rattle.tdf_names.proofs.laws.law_fault_lines.Goals as goal
-
-pub returns : goal.returns
-returns c = faults_stand

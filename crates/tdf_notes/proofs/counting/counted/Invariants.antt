@@ -1,6 +1,0 @@
-use Rattle.std.proofs.Common.{take}
-use Rattle.tdf_notes.specs.views.Counted.{AreCounted}
-use Rattle.tdf_notes.proofs.counting.counted.Given as goal
-
-abbrev pub invariant-loop-seen : goal.invariant-loop-seen
-invariant-loop-seen l = AreCounted l.actors (take l.seen l.entries) l.counts.items

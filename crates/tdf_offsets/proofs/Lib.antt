@@ -1,3 +1,0 @@
-pub mod Api
-pub mod Inside
-pub mod Lasting

@@ -1,9 +1,0 @@
-use Rattle.tdf_offsets.proofs.Inside.{entries_inside}
-use Rattle.tdf_offsets.proofs.Lasting.{takes_time}
-use Rattle.tdf_offsets.proofs.laws.law_offsets.Goals as goal
-
-pub returns-clause-inside : goal.returns-clause-inside
-returns-clause-inside c = entries_inside
-
-pub returns-clause-time : goal.returns-clause-time
-returns-clause-time c = takes_time

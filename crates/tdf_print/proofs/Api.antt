@@ -1,2 +1,0 @@
--- What the laws of the language need of the canonical text.
-pub use Rattle.tdf_print.proofs.StmtTexts.{lines_append, end_text}

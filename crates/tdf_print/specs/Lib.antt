@@ -1,5 +1,0 @@
-pub mod Exprs
-pub mod Lines
-pub mod Canon
-pub mod machine
-pub use Rattle.tdf_tree.specs.Views.{pure_tree}

@@ -1,4 +1,0 @@
-pub mod Ending
-pub mod Laws
-pub mod Plans
-pub mod low

@@ -1,7 +1,0 @@
--- Definitions of tdf_expr.
-pub use Rattle.tdf_world.specs.low.expr.Blocks
-pub use Rattle.tdf_world.specs.low.expr.Checked
-pub use Rattle.tdf_world.specs.low.expr.Compiled
-pub use Rattle.tdf_world.specs.low.expr.Made
-pub use Rattle.tdf_world.specs.low.expr.Plans
-pub use Rattle.tdf_world.specs.low.expr.declared

@@ -1,3 +1,0 @@
--- Definitions of tdf_tree.
-pub use Rattle.tdf_world.specs.low.tree.Kept
-pub use Rattle.tdf_world.specs.low.tree.Pure

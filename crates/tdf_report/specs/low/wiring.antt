@@ -1,3 +1,0 @@
--- Definitions of tdf_wiring.
-pub use Rattle.tdf_world.specs.low.wiring.ProcessBlocks
-pub use Rattle.tdf_world.specs.low.wiring.declared

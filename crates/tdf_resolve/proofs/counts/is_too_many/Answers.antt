@@ -1,6 +1,0 @@
-use Rattle.tdf_resolve.proofs.Bounds.{refers_back}
-use Rattle.tdf_resolve.proofs.counts.is_too_many.Goals as goal
-use Rattle.tdf_links.specs.low.tree.Views.{pure_tree}
-
-pub is_any_past-requires : goal.is_any_past-requires
-is_any_past-requires c = refers_back (pure_tree c.args.tree.now) c.args.blocks.now.items c.requires

@@ -1,5 +1,0 @@
-use Rattle.std.proofs.Common.{◌≡◌, map, [], replicate}
-use Rattle.tdf_roles.proofs.initials.empty.Given as goal
-
-abbrev pub invariant-loop-name : goal.invariant-loop-name
-invariant-loop-name l = map (λ m. m.entries) l.maps.items ≡ replicate l.name []

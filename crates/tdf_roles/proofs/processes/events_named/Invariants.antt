@@ -1,6 +1,0 @@
-use Rattle.std.proofs.Common.{◌≡◌, ◌++◌, drop}
-use Rattle.tdf_roles.proofs.processes.events_named.Given as goal
-use Rattle.tdf_roles.specs.Roles.{places_among}
-
-abbrev pub invariant-loop-line : goal.invariant-loop-line
-invariant-loop-line l = l.places.items ++ places_among l.events (drop l.line-index l.line-items) ≡ places_among l.events l.line-items

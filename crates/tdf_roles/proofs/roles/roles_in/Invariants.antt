@@ -1,7 +1,0 @@
-use Rattle.std.proofs.Common.{◌≡◌, ◌++◌, map, drop}
-use Rattle.tdf_roles.proofs.roles.roles_in.Given as goal
-use Rattle.tdf_roles.specs.Roles.{roles_from}
-use Rattle.tdf_bodies.specs.low.tree.Views.{pure_global}
-
-abbrev pub invariant-loop-place : goal.invariant-loop-place
-invariant-loop-place l = l.roles.items ++ roles_from l.globals l.number (map pure_global (drop l.place l.list.items)) ≡ roles_from l.globals 0 (map pure_global l.list.items)

@@ -1,4 +1,0 @@
-pub mod Roles
-pub mod Standing
-pub mod low
-pub mod machine

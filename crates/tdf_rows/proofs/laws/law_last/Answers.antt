@@ -1,5 +1,0 @@
-use Rattle.tdf_rows.proofs.Rows.{last_cell}
-use Rattle.tdf_rows.proofs.laws.law_last.Goals as goal
-
-pub returns : goal.returns
-returns c = last_cell

@@ -1,5 +1,0 @@
-use Rattle.tdf_rows.proofs.Noting.{noted_more}
-use Rattle.tdf_rows.proofs.laws.law_noted.Goals as goal
-
-pub returns : goal.returns
-returns c = noted_more

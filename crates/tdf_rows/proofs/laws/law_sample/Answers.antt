@@ -1,5 +1,0 @@
-use Rattle.tdf_rows.proofs.Positions.{one_sample}
-use Rattle.tdf_rows.proofs.laws.law_sample.Goals as goal
-
-pub returns : goal.returns
-returns c = one_sample

@@ -1,5 +1,0 @@
-use Rattle.tdf_rows.proofs.Positions.{one_span}
-use Rattle.tdf_rows.proofs.laws.law_span.Goals as goal
-
-pub returns : goal.returns
-returns c = one_span

@@ -1,5 +1,0 @@
-use Rattle.tdf_rows.proofs.Rows.{text_split}
-use Rattle.tdf_rows.proofs.laws.law_split.Goals as goal
-
-pub returns : goal.returns
-returns c = text_split

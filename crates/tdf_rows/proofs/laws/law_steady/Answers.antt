@@ -1,5 +1,0 @@
-use Rattle.tdf_rows.proofs.Sames.{stays_below}
-use Rattle.tdf_rows.proofs.laws.law_steady.Goals as goal
-
-pub returns : goal.returns
-returns c = stays_below

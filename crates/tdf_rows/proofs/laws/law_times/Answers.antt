@@ -1,5 +1,0 @@
-use Rattle.tdf_rows.proofs.Positions.{has_times}
-use Rattle.tdf_rows.proofs.laws.law_times.Goals as goal
-
-pub returns : goal.returns
-returns c = has_times

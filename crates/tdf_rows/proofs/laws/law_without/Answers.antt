@@ -1,5 +1,0 @@
-use Rattle.tdf_rows.proofs.Rows.{without_row}
-use Rattle.tdf_rows.proofs.laws.law_without.Goals as goal
-
-pub returns : goal.returns
-returns c = without_row

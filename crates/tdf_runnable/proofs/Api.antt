@@ -1,6 +1,0 @@
--- The lemmas that the crates above use.
-pub use Rattle.tdf_runnable.proofs.Counts.{event_rows_are_few}
-pub use Rattle.tdf_runnable.proofs.Instances.{instances_have_blocks}
-pub use Rattle.tdf_runnable.proofs.Owned.{event_rows_have_owners}
-pub use Rattle.tdf_runnable.proofs.Running.{sound_is_runnable}
-pub use Rattle.tdf_runnable.proofs.Starts.{signals_start_in_format}

@@ -1,5 +1,0 @@
-use Rattle.tdf_runnable.proofs.Counts.{event_rows_are_few}
-use Rattle.tdf_runnable.proofs.laws.law_few_rows.Goals as goal
-
-pub returns : goal.returns
-returns c = event_rows_are_few

@@ -1,5 +1,0 @@
-use Rattle.tdf_runnable.proofs.Instances.{instances_have_blocks}
-use Rattle.tdf_runnable.proofs.laws.law_instances.Goals as goal
-
-pub returns : goal.returns
-returns c = instances_have_blocks c.law_names_once.ensures

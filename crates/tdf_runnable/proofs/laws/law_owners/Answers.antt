@@ -1,5 +1,0 @@
-use Rattle.tdf_runnable.proofs.Owned.{event_rows_have_owners}
-use Rattle.tdf_runnable.proofs.laws.law_owners.Goals as goal
-
-pub returns : goal.returns
-returns c = event_rows_have_owners

@@ -1,5 +1,0 @@
-use Rattle.tdf_runnable.proofs.Starts.{signals_start_in_format}
-use Rattle.tdf_runnable.proofs.laws.law_starts.Goals as goal
-
-pub returns : goal.returns
-returns c = signals_start_in_format

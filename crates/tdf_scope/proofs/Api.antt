@@ -1,2 +1,0 @@
--- The lemmas that the crates above use.
-pub use Rattle.tdf_scope.proofs.Tables.{any_bytes, place_bytes, position_map, map_push}

@@ -1,8 +1,0 @@
-use Rattle.std.proofs.Common.{◌≡◌, drop}
-use Rattle.std.specs.Prelude.{map}
-use Rattle.tdf_scope.specs.Names.{with_globals}
-use Rattle.tdf_tree.specs.Views.{pure_global}
-use Rattle.tdf_scope.proofs.scope.globals_of.Given as goal
-
-abbrev pub invariant-loop-global : goal.invariant-loop-global
-invariant-loop-global l = with_globals (map pure_global (drop l.global-index l.global-items)) l.table ≡ with_globals (map pure_global l.global-items) l.initial.table

@@ -1,6 +1,0 @@
-use Rattle.std.proofs.Common.{◌≡◌, take}
-use Rattle.tdf_shown.proofs.initials.traced_with.Given as goal
-use Rattle.tdf_shown.specs.machine.Giving.{traced_with}
-
-abbrev pub invariant-loop-j : goal.invariant-loop-j
-invariant-loop-j l = l.list.items ≡ traced_with l.signal (take l.j l.values)

@@ -1,6 +1,0 @@
-use Rattle.tdf_shown.proofs.periods.begin_all.Given as goal
-use Rattle.tdf_shown.specs.Periods.{clock_at}
-use Rattle.tdf_shown.specs.machine.Beginning.{IsBeginning}
-
-abbrev pub invariant-loop-k : goal.invariant-loop-k
-invariant-loop-k l = IsBeginning l.flat.tables (clock_at l.time l.since l.clusters) l.signals l.k l.initial.tracking l.tracking l.initial.trace l.trace

@@ -1,2 +1,0 @@
--- Definitions of tdf_calendar.
-pub use Rattle.tdf_world.specs.low.calendar.Times

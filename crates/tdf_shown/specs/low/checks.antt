@@ -1,2 +1,0 @@
--- Definitions of tdf_checks.
-pub use Rattle.tdf_traced.specs.low.checks.Types

@@ -1,4 +1,0 @@
--- Definitions of tdf_io.
-pub use Rattle.tdf_columns.specs.low.in_out.Bytes
-pub use Rattle.tdf_columns.specs.low.in_out.Faults
-pub use Rattle.tdf_columns.specs.low.in_out.declared

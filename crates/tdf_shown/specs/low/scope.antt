@@ -1,2 +1,0 @@
--- Definitions of tdf_scope.
-pub use Rattle.tdf_traced.specs.low.scope.Names

@@ -1,2 +1,0 @@
--- Definitions of tdf_bind.
-pub use Rattle.tdf_loop.specs.low.bind.Flat

@@ -1,0 +1,128 @@
+-- The cells of a trace that a history gives.
+-- Source: own.
+use Rattle.std.specs.Ordering.{int_eq}
+use Rattle.std.specs.Prelude.{ℕ, ◌+◌, ◌-◌, ◌*◌, Bool, ◌&&◌, nat_eq, nat_lt, if◌then◌else◌, Option, Some, None, option_map, List, [], ◌∷◌, length, slice_get, slice_index, slice_index_or}
+use Rattle.std.specs.List.{sum_by}
+use Rattle.tdf_dynamic_plans.specs.Attributes.{clusters_of}
+use Rattle.tdf_fixed.specs.declared.raw.Raw.{Raw}
+use Rattle.tdf_bind.specs.declared.model.Flat.{Flat}
+use Rattle.tdf_streams.specs.Grounds.{firings}
+use Rattle.tdf_streams.specs.Streams.{known}
+use Rattle.tdf_sim_history.specs.Instant.{RunFault, engine, periods_of, run_in}
+use Rattle.tdf_sim_history.specs.World.{ClusterAt, Rules, World}
+use Rattle.tdf_sim_history.specs.History.{State, On, Stopped, Spent, history}
+use Rattle.tdf_trace_rows.specs.Positions.{Span, position_at, span_of}
+use Rattle.tdf_trace_rows.specs.Rows.{Cells}
+use Rattle.tdf_schedule.specs.Plan.{done}
+use Rattle.tdf_streams.specs.Cluster.{cluster_net, zero_sample}
+use Rattle.tdf_streams.specs.Periods.{PeriodRecord}
+use Rattle.tdf_streams.specs.Signals.{outputs_in, positions, rate_in, signal_sample, step_in}
+use Rattle.tdf_lang_tree.specs.Pure.{PureTree}
+use Rattle.tdf_bind_connections.specs.declared.drivers.SignalRow.{SignalRow}
+use Rattle.tdf_bind_connections.specs.declared.modules.PortRow.{PortRow}
+use Rattle.tdf_bind_connections.specs.declared.traces.TraceRow.{TraceRow}
+
+-- the positions of a port's signal in some periods, the first of which begins at a time
+abbrev pub spans_from : PortRow → (time : ℕ) → List PeriodRecord → List Span
+spans_from port time [] = []
+spans_from port time (p ∷ ps) = span_of time (step_in port p) (positions port p)
+    ∷ spans_from port (time + p.info.period) ps
+
+-- samples of a port's signal that are there: its initial ones, and the outputs of the activations
+-- that are done
+abbrev pub samples_done : PortRow → ClusterAt → ℕ
+samples_done port c = port.delay + (sum_by (outputs_in port) c.old
+    + done c.entries c.place port.«module» * rate_in port c.now)
+
+-- the sample at a position, unknown where it isn't there yet
+abbrev pub sample_at : PureTree → Flat → (cluster : ℕ) → ClusterAt → PortRow → (number j : ℕ)
+    → Option Raw
+sample_at model flat cluster c port number j = if nat_lt j (samples_done port c)
+    then signal_sample flat.tables (periods_of c) port number
+    (known (cluster_net model flat cluster c.begun) (run_in c) (firings (periods_of c))) j
+    else None
+
+-- the cell of a time: none where no position has it
+abbrev pub port_cell : PureTree → Flat → (cluster : ℕ) → PortRow → (number time : ℕ)
+    → Option ClusterAt → Option (Option Raw)
+port_cell model flat cluster port number time None = None
+port_cell model flat cluster port number time (Some c) =
+    option_map (sample_at model flat cluster c port number)
+    (position_at 0 (spans_from port 0 (periods_of c)) time)
+
+abbrev pub driven_cell : PureTree → Flat → (time : ℕ) → List ClusterAt → (number : ℕ)
+    → Option PortRow → Option (Option Raw)
+driven_cell model flat time clusters number None = None
+driven_cell model flat time clusters number (Some port) =
+    port_cell model flat (slice_index (clusters_of flat.tables) port.«module») port number time
+    (slice_get clusters (slice_index (clusters_of flat.tables) port.«module» - 1))
+
+abbrev pub driver_of_row : Option SignalRow → Option ℕ
+driver_of_row None = None
+driver_of_row (Some signal) = signal.driver
+
+abbrev pub cell_by_driver : PureTree → Flat → (time : ℕ) → List ClusterAt → Option ℕ
+    → Option (Option Raw)
+cell_by_driver model flat time clusters None = None
+cell_by_driver model flat time clusters (Some number) =
+    driven_cell model flat time clusters number (slice_get flat.tables.ports number)
+
+-- the cell of a signal of samples
+abbrev pub signal_cell : PureTree → Flat → (time : ℕ) → List ClusterAt → (signal : ℕ)
+    → Option (Option Raw)
+signal_cell model flat time clusters signal = cell_by_driver model flat time clusters
+    (driver_of_row (slice_get flat.tables.signals signal))
+
+-- an event signal has a cell where an instant changed its settled value
+abbrev pub is_same_value : Raw → Raw → Bool
+is_same_value a b = int_eq a.num b.num && nat_eq a.frac b.frac
+
+abbrev pub changed_cell : Raw → Raw → Option (Option Raw)
+changed_cell before after = if is_same_value before after then None else Some (Some after)
+
+module _ {K : Type 0} where
+  -- what there is in a state of the history
+  abbrev pub world_of : State (World K) RunFault → World K
+  world_of (On w) = w
+  world_of (Stopped time fault w) = w
+  world_of (Spent time w) = w
+
+  abbrev pub world_before : PureTree → Flat → Rules K → World K → (time : ℕ) → World K
+  world_before model flat rules start time =
+      world_of (history (engine model flat rules) 0 start time)
+
+  -- the value that an event signal has settled by all instants before a time
+  abbrev pub value_before : PureTree → Flat → Rules K → World K → (signal time : ℕ) → Raw
+  value_before model flat rules start signal time = slice_index_or
+      (rules.event_side.values (world_before model flat rules start time).events)
+      signal zero_sample
+
+  abbrev pub event_cell : PureTree → Flat → Rules K → World K → (signal time : ℕ)
+      → Option (Option Raw)
+  event_cell model flat rules start signal time = changed_cell
+      (value_before model flat rules start signal time)
+      (value_before model flat rules start signal (time + 1))
+
+  abbrev pub trace_cell : PureTree → Flat → Rules K → World K → (end time : ℕ) → Option TraceRow
+      → Option (Option Raw)
+  trace_cell model flat rules start end time None = None
+  trace_cell model flat rules start end time (Some row) = if row.event
+      then event_cell model flat rules start row.signal time
+      else signal_cell model flat time (world_before model flat rules start end).clusters row.signal
+
+  -- before its first cell a column of an event signal shows its starting value, one of samples
+  -- nothing
+  abbrev pub first_shown : PureTree → Flat → Rules K → World K → Option TraceRow → Option Raw
+  first_shown model flat rules start None = None
+  first_shown model flat rules start (Some row) =
+      if row.event then Some (value_before model flat rules start row.signal 0) else None
+
+  -- the cells of the traces of a model, by the history before an end
+  abbrev pub run_cells : PureTree → Flat → Rules K → World K → (end : ℕ) → Cells
+  run_cells model flat rules start end = record {
+    columns = length flat.tables.traces;
+    first = λ column.
+        first_shown model flat rules start (slice_get flat.tables.traces column);
+    at = λ column time.
+        trace_cell model flat rules start end time (slice_get flat.tables.traces column);
+  }

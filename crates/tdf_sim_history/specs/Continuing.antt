@@ -1,0 +1,44 @@
+-- What later instants make of clusters: periods and values of samplers are added, and samples.
+-- Source: own.
+use Rattle.std.specs.Prelude.{◌≡◌, ◌≤◌, ℕ, List, All, Some, length, slice_get, slice_index}
+use Rattle.tdf_streams.specs.Stands.{Longer}
+use Rattle.tdf_sim_history.specs.Cells.{samples_done}
+use Rattle.tdf_sim_history.specs.Instant.{run_in}
+use Rattle.tdf_sim_history.specs.World.{Change, ClusterAt, New, Refused, Same, World}
+use Rattle.tdf_schedule.specs.Plan.{done}
+use Rattle.tdf_schedule.specs.declared.entry.Entry.{Entry}
+use Rattle.tdf_bind_connections.specs.declared.modules.PortRow.{PortRow}
+
+-- the streams of a cluster go on from one state of it to another: their start stays, periods and
+-- values of samplers are added, and no fewer samples of a signal are there
+pub record Continues (c d : ClusterAt) : Type 0 where
+  pub begun : d.begun ≡ c.begun
+  pub longer : Longer (run_in c) (run_in d)
+  pub samples : (port : PortRow) → samples_done port c ≤ samples_done port d
+
+-- a plan has so many firings of each actor
+abbrev pub HasCounts : List Entry → List ℕ → Type 0
+HasCounts entries counts = (m : ℕ) → slice_index counts m ≡ done entries (length entries) m
+
+-- and so has a new one that is told
+abbrev pub HasToldCounts : Change → Type 0
+HasToldCounts (Same table) = Unit {0}
+HasToldCounts (New table counts period entries bounds) = HasCounts entries counts
+HasToldCounts (Refused fault) = Unit {0}
+
+-- the plan in force has the firings of the period, which is a whole one; those ahead have theirs
+pub record HasWholePlan (c : ClusterAt) : Type 0 where
+  pub counts : HasCounts c.entries c.now.counts
+  pub whole : c.now.counts ≡ c.now.info.counts
+  pub ahead : All HasToldCounts c.ahead
+
+-- where a cluster has a whole plan, it goes on, and has one still
+pub record GoesOn (c d : ClusterAt) : Type 0 where
+  pub continues : HasWholePlan c → Continues c d
+  pub planned : HasWholePlan c → HasWholePlan d
+
+-- so do all clusters of a world
+pub record AllGoOn {K : Type 0} (w v : World K) : Type 0 where
+  pub same : length v.clusters ≡ length w.clusters
+  pub each : (n : ℕ) (c d : ClusterAt) → slice_get w.clusters n ≡ Some c
+      → slice_get v.clusters n ≡ Some d → GoesOn c d

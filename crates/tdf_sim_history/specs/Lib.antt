@@ -1,0 +1,14 @@
+pub mod Answers
+pub mod Cells
+pub mod Continuing
+pub mod History
+pub mod Instant
+pub mod Laws
+pub mod Rules
+pub mod Start
+pub mod TableLaws
+pub mod Telling
+pub mod Texts
+pub mod TurnLaws
+pub mod World
+pub mod WorldLaws

@@ -1,0 +1,137 @@
+-- How the parts of a run grow by one cluster, and what they are together.
+use Rattle.std.proofs.Common.{◌≡◌, ◌∙◌, ◌⊎◌, ℕ, zero, suc, ◌+◌, ◌<◌, ◌≤◌, List, [], ◌∷◌, ◌++◌, Option, Some, length, replicate, slice_get, inl, inr, refl, sym, ap, subst, arith}
+use Rattle.std.proofs.lemmas.List.{length_push}
+use Rattle.std.proofs.lemmas.List.Sums.{sum_by_push}
+use Rattle.std.proofs.lemmas.Option.{slice_get_within}
+use Rattle.tdf_bind_tables.specs.FlatTables.{FlatTablesOf}
+use Rattle.tdf_convert.specs.Outputs.{OutputsOf, WritesOf}
+use Rattle.tdf_convert.specs.declared.links.Links.{Links}
+use Rattle.tdf_dynamic_first.specs.First.{IsFirstPlan}
+use Rattle.tdf_dynamic_first.specs.declared.first.First.{First}
+use Rattle.tdf_sim_instants.specs.Engine.{HaveRooms, IsEngineOf, IsInProgress, IsReadyAt}
+use Rattle.tdf_sim_instants.specs.Making.{HavePlans}
+use Rattle.tdf_sim_instants.specs.Settling.{IsBefore}
+use Rattle.tdf_sim_instants.specs.declared.engine.Engine.{Engine}
+use Rattle.tdf_sim_instants.specs.machine.Making.{AreGivenUpTo, AreLinkedUpTo}
+use Rattle.tdf_events.proofs.Api.{none_at_start, none_pending_before}
+use Rattle.tdf_events.specs.Kernel.{IsKernelOf, side_of}
+use Rattle.tdf_events.specs.Side.{start_side}
+use Rattle.tdf_exec.specs.Cluster.{ClusterOf}
+use Rattle.tdf_exec.specs.Gained.{sent_size, size_due, traced_size}
+use Rattle.tdf_exec.specs.Telling.{IsMostOf}
+use Rattle.tdf_exec.specs.declared.runners.Runner.{Runner}
+use Rattle.tdf_bind.specs.declared.model.Flat.{Flat}
+use Rattle.tdf_streams.proofs.Api.{none_some, some_same}
+use Rattle.tdf_bind_invariants.specs.Limits.{AreWithinLimits}
+use Rattle.tdf_sim_refinement.specs.Linked.{AreSamplerLinks, AreSinkLinks}
+use Rattle.tdf_sim_refinement.proofs.Api.{entries_inside, takes_time}
+use Rattle.tdf_sim_refinement.specs.Begun.{HasBegun, HaveBegun}
+
+-- lists
+pushed : {A : Type 0} (xs : List A) (y : A) (n : ℕ) (x : A) → slice_get (xs ++ y ∷ []) n ≡ Some x → (slice_get xs n ≡ Some x) ⊎ ((n ≡ length xs) × (y ≡ x))
+pushed [] y zero x at = inr (refl, some_same y x at)
+pushed [] y (suc n) x at = none_some x at
+pushed (z ∷ zs) y zero x at = inl at
+pushed (z ∷ zs) y (suc n) x at = elim (pushed zs y n x at) [ inl old ↦ inl old | inr new ↦ inr (ap suc new.0, new.1) ]
+
+there_at : {A : Type 0} (xs : List A) (n : ℕ) → n < length xs → (x : A) × (slice_get xs n ≡ Some x)
+there_at [] n less = absurd (omega (arith, less))
+there_at (x ∷ xs) zero less = (x, refl)
+there_at (x ∷ xs) (suc n) less = there_at xs n (omega (arith, less))
+
+all_same : {A : Type 0} (x : A) (count n : ℕ) (y : A) → slice_get (replicate count x) n ≡ Some y → y ≡ x
+all_same x zero n y at = none_some y at
+all_same x (suc count) zero y at = sym (some_same x y at)
+all_same x (suc count) (suc n) y at = all_same x count n y at
+
+-- one cluster more
+pub plan_here : (flat : Flat) (firsts : List First) (n m : ℕ) (first : First) → HavePlans flat firsts → slice_get firsts m ≡ Some first → n ≡ m → IsFirstPlan flat (n + 1) first
+plan_here flat firsts n m first plans at same = subst (λ k. IsFirstPlan flat (k + 1) first) (sym same) (plans.each m first at)
+
+pub begun_more : (flat : Flat) (firsts : List First) (cs : List ClusterOf) (n : ℕ) (first : First) (c : ClusterOf) → HaveBegun flat firsts cs → n ≡ length cs → HasBegun flat (n + 1) first c → HaveBegun flat (firsts ++ first ∷ []) (cs ++ c ∷ [])
+begun_more flat firsts cs n first c begun many here = record {
+  same = length_push firsts first ∙ ap (λ k. k + 1) begun.same ∙ sym (length_push cs c);
+  each = λ m f d f_at d_at. by_case m f d (pushed firsts first m f f_at) (pushed cs c m d d_at);
+}
+  where
+    by_case : (m : ℕ) (f : First) (d : ClusterOf) → (slice_get firsts m ≡ Some f) ⊎ ((m ≡ length firsts) × (first ≡ f)) → (slice_get cs m ≡ Some d) ⊎ ((m ≡ length cs) × (c ≡ d)) → HasBegun flat (m + 1) f d
+    by_case m f d (inl f_at) (inl d_at) = begun.each m f d f_at d_at
+    by_case m f d (inl f_at) (inr last) = absurd (let w = slice_get_within firsts m f f_at in let s = begun.same in let l = last.0 in omega (arith, w, s, l))
+    by_case m f d (inr last) (inl d_at) = absurd (let w = slice_get_within cs m d d_at in let s = begun.same in let l = last.0 in omega (arith, w, s, l))
+    by_case m f d (inr one) (inr other) =
+        let e : n ≡ m = many ∙ sym other.0 in
+        subst (λ k. HasBegun flat (k + 1) f d) e (subst (λ x. HasBegun flat (n + 1) x d) one.1 (subst (λ x. HasBegun flat (n + 1) first x) other.1 here))
+
+pub linked_more : (tables : FlatTablesOf) (n : ℕ) (links : List Links) (own : Links) → AreLinkedUpTo tables n links → AreSamplerLinks tables (n + 1) own.list.items → AreLinkedUpTo tables (n + 1) (links ++ own ∷ [])
+linked_more tables n links own linked here = record {
+  long = length_push links own ∙ ap (λ k. k + 1) linked.long;
+  each = λ m l at. elim (pushed links own m l at) [
+    | inl old ↦ linked.each m l old
+    | inr new ↦ (let e : n ≡ m = sym linked.long ∙ sym new.0 in
+        subst (λ k. AreSamplerLinks tables (k + 1) l.list.items) e (subst (λ (x : Links). AreSamplerLinks tables (n + 1) x.list.items) new.1 here))
+  ];
+}
+
+pub rooms_more : (size : Option Runner → ℕ) (cs : List ClusterOf) (room m : ℕ) (c : ClusterOf) → HaveRooms size cs room → IsMostOf size c.runners c.entries m → HaveRooms size (cs ++ c ∷ []) (room + m)
+rooms_more size cs room m c rooms is = record {
+  most = rooms.most ++ m ∷ [];
+  same = length_push rooms.most m ∙ ap (λ k. k + 1) rooms.same ∙ sym (length_push cs c);
+  each = λ n k offset d d_at k_at. by_case n k offset d (pushed cs c n d d_at) (pushed rooms.most m n k k_at);
+  within = let total = sum_by_push (λ (k : ℕ). k) rooms.most m in let w = rooms.within in omega (arith, total, w);
+}
+  where
+    by_case : (n k offset : ℕ) (d : ClusterOf) → (slice_get cs n ≡ Some d) ⊎ ((n ≡ length cs) × (c ≡ d)) → (slice_get rooms.most n ≡ Some k) ⊎ ((n ≡ length rooms.most) × (m ≡ k)) → size_due size d.runners offset d.entries ≤ k
+    by_case n k offset d (inl d_at) (inl k_at) = rooms.each n k offset d d_at k_at
+    by_case n k offset d (inl d_at) (inr last) = absurd (let w = slice_get_within cs n d d_at in let s = rooms.same in let l = last.0 in omega (arith, w, s, l))
+    by_case n k offset d (inr last) (inl k_at) = absurd (let w = slice_get_within rooms.most n k k_at in let s = rooms.same in let l = last.0 in omega (arith, w, s, l))
+    by_case n k offset d (inr one) (inr other) =
+        subst (λ (x : ClusterOf). size_due size x.runners offset x.entries ≤ k) one.1 (subst (λ x. size_due size c.runners offset c.entries ≤ x) other.1 (is.above offset))
+
+-- all together
+module _ (flat : Flat) (firsts : List First) (limits : AreWithinLimits flat) (e : Engine) (begun : HaveBegun flat firsts e.clusters.items)
+    (since : e.since.items ≡ replicate (length e.clusters.items) 0) where
+  in_progress : (n : ℕ) (c : ClusterOf) → slice_get e.clusters.items n ≡ Some c → IsInProgress flat n c
+  in_progress n c at =
+      let within = slice_get_within e.clusters.items n c at in
+      let same = begun.same in
+      let inside : n < length firsts = omega (arith, within, same) in
+      let f = there_at firsts n inside in
+      let b = begun.each n f.0 c f.1 at in
+      record {
+        of = b.of;
+        number = b.start.number_is;
+        going = b.start.not_crossed;
+        takes = takes_time flat c limits b.of;
+        inside = entries_inside flat c limits b.of;
+      }
+
+  pub engine_made : length e.since.items ≡ length e.clusters.items → AreLinkedUpTo flat.tables (length e.clusters.items) e.links.items
+      → AreGivenUpTo e.links.items (length e.links.items) e.inputs.items → AreSinkLinks flat.tables e.sinks.list.items
+      → (sent traced : ℕ) → HaveRooms sent_size e.clusters.items sent → HaveRooms traced_size e.clusters.items traced
+      → e.outputs ≡ record { sent = []; traced = []; sent_room = sent; traced_room = traced }
+      → e.writes ≡ record { list = []; room = sent } → IsKernelOf flat e.kernel → IsEngineOf flat e
+  engine_made as_many linked given sinks sent traced sent_rooms traced_rooms outputs writes kernel = record {
+    since = as_many;
+    links = linked.long;
+    inputs = given.long ∙ linked.long;
+    clusters = in_progress;
+    linked = linked.each;
+    given = given.each;
+    sinks = sinks;
+    sent_room = subst (HaveRooms sent_size e.clusters.items) (sym (ap (λ (o : OutputsOf). o.sent_room) outputs)) sent_rooms;
+    traced_room = subst (HaveRooms traced_size e.clusters.items) (sym (ap (λ (o : OutputsOf). o.traced_room) outputs)) traced_rooms;
+    write_room = let a : e.outputs.sent_room ≡ sent = ap (λ (o : OutputsOf). o.sent_room) outputs in let b : e.writes.room ≡ sent = ap (λ (w : WritesOf). w.room) writes in omega (arith, a, b);
+    none_sent = ap (λ (o : OutputsOf). o.sent) outputs;
+    none_written = ap (λ (w : WritesOf). w.list) writes;
+    kernel = kernel;
+  }
+
+  pub ready_made : side_of e.kernel ≡ start_side flat → IsReadyAt 0 e
+  ready_made side = record {
+    begun = λ n s at. (let z : s ≡ 0 = all_same 0 (length e.clusters.items) n s (ap (λ (l : List ℕ). slice_get l n) (sym since) ∙ at) in omega (arith, z));
+    clusters = λ n s c c_at s_at. omega arith;
+    side = subst (IsBefore 0) (sym side) (record {
+      none = none_pending_before (start_side flat).notices.times 0 (none_at_start flat).0;
+      idle = λ less. absurd (omega (arith, less));
+    });
+  }

@@ -1,0 +1,112 @@
+-- What the boundaries of clusters leave as it was.
+use Rattle.std.proofs.Common.{◌≡◌, ◌≢◌, ◌⊎◌, ◌∙◌, ℕ, zero, suc, ◌<◌, Bool, true, false, List, [], ◌∷◌, ◌++◌, Some, length, length-set, slice_get, inl, inr, refl, sym, ap, subst, arith}
+use Rattle.std.proofs.lemmas.Option.{slice_get_within}
+use Rattle.tdf_sim_instants.proofs.Boundaries.{still_to_come, turn_in}
+use Rattle.tdf_sim_instants.specs.Crossing.{CrossingOf, EndingAt, HasEnding, HaveCrossed, IsEndingOf, is_ending, is_new, planned_if}
+use Rattle.tdf_dynamic.specs.declared.next.Next.{Next}
+use Rattle.tdf_dynamic.specs.declared.next.Next.TheVariants as answer
+use Rattle.tdf_exec.specs.Cluster.{ClusterOf}
+use Rattle.tdf_exec.specs.Crossing.{HasBegun, HasCrossed as HasLeft}
+use Rattle.tdf_exec.specs.Gained.{sent_size, size_due, traced_size}
+use Rattle.tdf_exec.specs.Made.{IsClusterOf}
+use Rattle.tdf_bind.specs.declared.model.Flat.{Flat}
+use Rattle.tdf_exec.proofs.Api.{due_alike, like_sent, like_traced, sizes_alike}
+use Rattle.tdf_sim_refinement.proofs.Api.{get_set_other, same_or_not, set_is}
+
+-- the next period of a cluster has begun
+pub record IsAtHead (c d : ClusterOf) : Type 0 where
+  pub number : d.number ≡ c.number
+  pub going : d.crossed ≡ false
+
+-- its entries give as many samples as before
+pub record GivesAsMuch (c d : ClusterOf) : Type 0 where
+  pub sent : (offset : ℕ) → size_due sent_size d.runners offset d.entries ≡ size_due sent_size c.runners offset c.entries
+  pub traced : (offset : ℕ) → size_due traced_size d.runners offset d.entries ≡ size_due traced_size c.runners offset c.entries
+
+-- a cluster after its boundary: it is as it was, or at the head of its next period, which begins now, and gives as much where P
+pub data Crosses (P : Type 0) (flat : Flat) (time : ℕ) (c d : ClusterOf) (s t : ℕ) : Type 0 where
+  Stays : is_ending time s c ≡ false → d ≡ c → t ≡ s → Crosses P flat time c d s t
+  Begins : IsAtHead c d → (P → GivesAsMuch c d) → IsClusterOf flat d → t ≡ time → Crosses P flat time c d s t
+
+at_head : (next : Next) (c between d : ClusterOf) → HasLeft c between → HasBegun between next d → IsAtHead c d
+at_head answer.Same c between d left begun = record {
+  number = ap (λ (z : ClusterOf). z.number) begun ∙ ap (λ (z : ClusterOf). z.number) left.rest;
+  going = ap (λ (z : ClusterOf). z.crossed) begun;
+}
+at_head (answer.Changed attrs plan) c between d left begun = record {
+  number = ap (λ (z : ClusterOf). z.number) begun.rest ∙ ap (λ (z : ClusterOf). z.number) left.rest;
+  going = ap (λ (z : ClusterOf). z.crossed) begun.rest;
+}
+
+as_much : (next : Next) (c between d : ClusterOf) → is_new next ≡ false → HasLeft c between → HasBegun between next d → GivesAsMuch c d
+as_much answer.Same c between d is left begun =
+    let runners : d.runners ≡ between.runners = ap (λ (z : ClusterOf). z.runners) begun in
+    let entries : d.entries ≡ c.entries = ap (λ (z : ClusterOf). z.entries) begun ∙ ap (λ (z : ClusterOf). z.entries) left.rest in
+    record {
+      sent = λ offset. (λ i. size_due sent_size (runners i) offset (entries i))
+          ∙ due_alike sent_size c.runners between.runners offset c.entries (sizes_alike sent_size like_sent c.runners between.runners left.same left.runners);
+      traced = λ offset. (λ i. size_due traced_size (runners i) offset (entries i))
+          ∙ due_alike traced_size c.runners between.runners offset c.entries (sizes_alike traced_size like_traced c.runners between.runners left.same left.runners);
+    }
+as_much (answer.Changed attrs plan) c between d is left begun = absurd cc
+
+front_none : (xs ys : List ℕ) → xs ++ ys ≡ [] → xs ≡ []
+front_none [] ys none = refl
+front_none (x ∷ xs) ys none = absurd cc
+
+back_none : (xs ys : List ℕ) → xs ++ ys ≡ [] → ys ≡ []
+back_none [] ys none = none
+back_none (x ∷ xs) ys none = absurd cc
+
+not_new : (new : Bool) (n : ℕ) → planned_if new n ≡ [] → new ≡ false
+not_new true n none = absurd cc
+not_new false n none = refl
+
+module _ (P : Type 0) (flat : Flat) (time : ℕ) (x : CrossingOf) where
+  -- as many as before
+  pub crossed_long : (n : ℕ) (y : CrossingOf) → HaveCrossed flat time n x y → (length y.clusters ≡ length x.clusters) × (length y.since ≡ length x.since)
+  unfolding HaveCrossed
+  crossed_long zero y passed = (ap (λ (z : CrossingOf). length z.clusters) passed, ap (λ (z : CrossingOf). length z.since) passed)
+  crossed_long (suc n) y passed =
+      let t = turn_in flat time n passed.0 y passed.2 in
+      let before = crossed_long n passed.0 passed.1 in
+      (ap length t.1.after ∙ length-set passed.0.clusters n t.0.after ∙ before.0, ap length t.1.begun ∙ length-set passed.0.since n t.0.begun ∙ before.1)
+
+  -- what the turn of cluster n made of it
+  turned : (n : ℕ) (mid y : CrossingOf) → HasEnding flat time n mid y → (P → y.planned ≡ []) → (turn : EndingAt) × IsEndingOf n mid y turn × Crosses P flat time turn.before turn.after turn.since turn.begun × (P → mid.planned ≡ [])
+  turned n mid y (HasEnding.Open turn is gone planned) none = (turn, is, Crosses.Stays gone.going gone.same gone.kept, λ p. sym planned ∙ none p)
+  turned n mid y (HasEnding.Over turn new is crossed planned) none = (
+    turn,
+    is,
+    Crosses.Begins (at_head crossed.next turn.before crossed.between turn.after crossed.passed.crossed_is crossed.passed.begun)
+        (λ p. as_much crossed.next turn.before crossed.between turn.after (crossed.new_is ∙ not_new new n (back_none mid.planned (planned_if new n) (sym planned ∙ none p))) crossed.passed.crossed_is crossed.passed.begun)
+        crossed.passed.of crossed.now,
+    λ p. front_none mid.planned (planned_if new n) (sym planned ∙ none p),
+  )
+
+  abbrev From : (m t : ℕ) → ClusterOf → Type 0
+  From m t d = (c : ClusterOf) × (s : ℕ) × (slice_get x.clusters m ≡ Some c) × (slice_get x.since m ≡ Some s) × Crosses P flat time c d s t
+
+  crosses_at : (n : ℕ) (mid y : CrossingOf) → HaveCrossed flat time n x mid → (turn : EndingAt) → IsEndingOf n mid y turn → Crosses P flat time turn.before turn.after turn.since turn.begun
+      → ((m t : ℕ) (d : ClusterOf) → slice_get mid.clusters m ≡ Some d → slice_get mid.since m ≡ Some t → m < n → From m t d)
+      → (m t : ℕ) (d : ClusterOf) → slice_get y.clusters m ≡ Some d → slice_get y.since m ≡ Some t → m < suc n → (m ≡ n) ⊎ (m ≢ n) → From m t d
+  crosses_at n mid y passed turn is crosses before m t d d_at t_at below (inl same) =
+      let d_is = set_is mid.clusters n m turn.after d (slice_get_within mid.clusters n turn.before is.before) same (sym (ap (λ l. slice_get l m) is.after) ∙ d_at) in
+      let t_is = set_is mid.since n m turn.begun t (slice_get_within mid.since n turn.since is.since) same (sym (ap (λ l. slice_get l m) is.begun) ∙ t_at) in
+      let first = still_to_come flat time x n mid passed n (omega arith) in (
+        turn.before,
+        turn.since,
+        ap (slice_get x.clusters) same ∙ sym first.0 ∙ is.before,
+        ap (slice_get x.since) same ∙ sym first.1 ∙ is.since,
+        subst (λ k. Crosses P flat time turn.before d turn.since k) t_is (subst (λ k. Crosses P flat time turn.before k turn.since turn.begun) d_is crosses),
+      )
+  crosses_at n mid y passed turn is crosses before m t d d_at t_at below (inr apart) =
+      before m t d (sym (get_set_other mid.clusters n m turn.after apart) ∙ sym (ap (λ l. slice_get l m) is.after) ∙ d_at)
+      (sym (get_set_other mid.since n m turn.begun apart) ∙ sym (ap (λ l. slice_get l m) is.begun) ∙ t_at) (omega (arith, below, apart))
+
+  pub all_crosses : (n : ℕ) (y : CrossingOf) → HaveCrossed flat time n x y → (P → y.planned ≡ []) → (m t : ℕ) (d : ClusterOf) → slice_get y.clusters m ≡ Some d → slice_get y.since m ≡ Some t → m < n → From m t d
+  unfolding HaveCrossed
+  all_crosses zero y passed none m t d d_at t_at below = absurd (omega (arith, below))
+  all_crosses (suc n) y passed none m t d d_at t_at below =
+      let turn = turned n passed.0 y passed.2 none in
+      crosses_at n passed.0 y passed.1 turn.0 turn.1 turn.2 (all_crosses n passed.0 passed.1 turn.3) m t d d_at t_at below (same_or_not m n)

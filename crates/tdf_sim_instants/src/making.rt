@@ -1,0 +1,165 @@
+//! All that runs of a model, before its first instant.
+
+ghost use Rattle.std.specs.Prelude.{◌≡◌, ◌+◌, [], IfOk, length, replicate};
+ghost use Rattle.tdf_convert.specs.Links.{samplers_in};
+ghost use Rattle.tdf_dynamic_first.specs.First.{IsFirstPlan};
+ghost use Rattle.tdf_sim_instants.specs.Engine.{HaveRooms, IsEngineOf, IsReadyAt};
+ghost use Rattle.tdf_sim_instants.specs.Making.{HavePlans};
+ghost use Rattle.tdf_sim_instants.specs.machine.Making.{AreGivenUpTo, AreLinkedUpTo, room_of};
+ghost use Rattle.tdf_events.specs.Kernel.{side_of};
+ghost use Rattle.tdf_events.specs.Runnable.{IsRunnable};
+ghost use Rattle.tdf_events.specs.Side.{start_side};
+ghost use Rattle.tdf_exec.specs.Gained.{sent_size, traced_size};
+ghost use Rattle.tdf_exec.specs.Starts.{IsSoundFlat};
+ghost use Rattle.tdf_sim_refinement.specs.Linked.{HaveEventPorts};
+ghost use Rattle.tdf_sim_refinement.specs.Begun.{HasBegun, HaveBegun};
+
+use crate::engine::Engine;
+use std::alloc::Global;
+use tdf_base::{Memory, cluster_number, row_number};
+use tdf_bind::Flat;
+use tdf_bind_invariants::law_limits;
+use tdf_convert::{Inputs, Links, Outputs, Writes};
+use tdf_dynamic_first::First;
+use tdf_events::Kernel;
+use tdf_exec::{Cluster, Room};
+use tdf_sim_refinement::{law_ports, sampler_links, sink_links};
+
+/// A sum, if it has 32 bits.
+fn sum(a: u32, b: u32) -> Result<u32, Memory>
+    ensures { IfOk result (λ n. n ≡ a + b) }
+{
+    match a.checked_add(b) {
+        Some(sum) => Ok(sum),
+        None => Err(Memory),
+    }
+}
+
+/// Both sums, if each has 32 bits.
+fn both(a: Room, b: Room) -> Result<Room, Memory>
+    ensures { IfOk result (λ room. room ≡ room_of (a.sent + b.sent) (a.traced + b.traced)) }
+{
+    let sent = sum(a.sent, b.sent)?;
+    let traced = sum(a.traced, b.traced)?;
+    Ok(Room { sent, traced })
+}
+
+/// The cluster at a place, at the start of its first period.
+fn cluster_at(alloc: Global, flat: &Flat, place: usize, first: First) -> Result<Cluster, Memory>
+    requires sound { IsSoundFlat flat.now }
+    requires plan { IsFirstPlan flat.now (place + 1) first }
+    ensures { IfOk result (λ c. HasBegun flat.now (place + 1) first c) }
+{
+    match cluster_number(place) {
+        Ok(number) => Cluster::new(alloc, flat, number, first),
+        Err(failed) => {
+            drop(first);
+            Err(failed)
+        }
+    }
+}
+
+/// All clusters at the start of their first periods, in order of number.
+fn first_clusters(alloc: Global, flat: &Flat, firsts: Vec<First>) -> Result<Vec<Cluster>, Memory>
+    requires sound { IsSoundFlat flat.now }
+    requires plans { HavePlans flat.now firsts.items }
+    ensures { IfOk result (λ clusters. HaveBegun flat.now firsts.items clusters.items) }
+{
+    let mut clusters = Vec::new(alloc);
+    for first in firsts {
+        let cluster = cluster_at(alloc, flat, clusters.len(), first)?;
+        clusters.push(cluster)?;
+    }
+    Ok(clusters)
+}
+
+/// The links of the samplers of the first `count` clusters.
+fn links_of(alloc: Global, flat: &Flat, count: usize) -> Result<Vec<Links>, Memory>
+    requires ports { HaveEventPorts flat.now.tables }
+    ensures { IfOk result (λ links. AreLinkedUpTo flat.now.tables count links.items) }
+{
+    let mut links = Vec::new(alloc);
+    for n in 0..count {
+        let own = sampler_links(alloc, &flat.tables, cluster_number(n)?)?;
+        links.push(own)?;
+    }
+    Ok(links)
+}
+
+/// A 0 for each sampler of a cluster.
+fn first_inputs(alloc: Global, links: &Links) -> Result<Inputs, Memory>
+    ensures { IfOk result (λ inputs. length inputs ≡ samplers_in links.now.list.items) }
+{
+    let samplers = links.list.iter().filter(|link| link.sampler).count();
+    Inputs::new(alloc, row_number(samplers)?)
+}
+
+/// A 0 for each sampler of each cluster.
+fn inputs_of(alloc: Global, links: &[Links]) -> Result<Vec<Inputs>, Memory>
+    ensures { IfOk result (λ inputs. AreGivenUpTo links.now (length links.now) inputs.items) }
+{
+    let mut inputs = Vec::new(alloc);
+    for n in 0..links.len() {
+        let own = first_inputs(alloc, &links[n])?;
+        inputs.push(own)?;
+    }
+    Ok(inputs)
+}
+
+/// How many samples of sinks and of traced signals come from one offset of each cluster, at most.
+pub(crate) fn rooms_of(clusters: &[Cluster]) -> Result<Room, Memory>
+    ensures sent { IfOk result (λ room. HaveRooms sent_size clusters.now room.sent) }
+    ensures traced { IfOk result (λ room. HaveRooms traced_size clusters.now room.traced) }
+{
+    let mut room = Room { sent: 0, traced: 0 };
+    for n in 0..clusters.len() {
+        room = both(room, clusters[n].room()?)?;
+    }
+    Ok(room)
+}
+
+impl Engine {
+    /// All that runs of a model, before its first instant: each cluster at the start of its first period, which begins at
+    /// the time 0, and the event side as the model declares it. `firsts` has the first attributes and plans of the
+    /// clusters.
+    ///
+    /// # Errors
+    /// Out of memory; samples of one offset whose number has more than 32 bits do not fit in memory.
+    pub fn new(alloc: Global, flat: &Flat, firsts: Vec<First>) -> Result<Engine, Memory>
+        requires sound { IsSoundFlat flat.now }
+        requires runnable { IsRunnable flat.now }
+        requires plans { HavePlans flat.now firsts.items }
+        ensures engine { IfOk result (λ engine. IsEngineOf flat.now engine) }
+        ensures begun { IfOk result (λ engine.
+            HaveBegun flat.now firsts.items engine.clusters.items) }
+        ensures since { IfOk result (λ engine.
+            engine.since.items ≡ replicate (length engine.clusters.items) 0) }
+        ensures ready { IfOk result (λ engine. IsReadyAt 0 engine) }
+        ensures none { IfOk result (λ engine. engine.outputs.traced ≡ []) }
+        ensures planned { IfOk result (λ engine. engine.planned.items ≡ []) }
+        ensures side { IfOk result (λ engine. side_of engine.kernel ≡ start_side flat.now) }
+    {
+        law_limits();
+        law_ports();
+        let clusters = first_clusters(alloc, flat, firsts)?;
+        let room = rooms_of(&clusters)?;
+        let since = vec![in alloc; 0; clusters.len()]?;
+        let links = links_of(alloc, flat, clusters.len())?;
+        let inputs = inputs_of(alloc, &links)?;
+        let sinks = sink_links(alloc, &flat.tables)?;
+        let outputs = Outputs::new(alloc, room.sent, room.traced)?;
+        let writes = Writes::new(alloc, room.sent)?;
+        let kernel = Kernel::new(alloc, flat)?;
+        Ok(Engine {
+            clusters,
+            since,
+            links,
+            inputs,
+            sinks,
+            outputs,
+            writes,
+            kernel,
+            planned: Vec::new(alloc),
+        })
+    }
+}

@@ -1,0 +1,18 @@
+use Rattle.std.proofs.Common.{sym, subst}
+use Rattle.std.proofs.lemmas.List.Elements.{All-nil}
+use Rattle.std.specs.Prelude.{All, List}
+use Rattle.tdf_sim_history.specs.Continuing.{HasToldCounts}
+use Rattle.tdf_sim_history.specs.World.{Change}
+use Rattle.tdf_sim_refinement.proofs.Api.{done_known}
+use Rattle.tdf_sim_laws.proofs.laws.law_samples_at.Goals as goal
+
+pub returns : goal.returns
+returns c = λ model flat number h k port out time j at low is.
+    let known = done_known model flat number h k at in
+    c.law_samples_there.ensures model flat number h port out time j (record {
+      whole = at.whole;
+      counts = known.counts;
+      ahead = subst (λ (a : List Change). All HasToldCounts a) (sym at.none_ahead) (All-nil HasToldCounts);
+      place = known.within;
+      known = known.values;
+    }) low is

@@ -1,0 +1,13 @@
+pub mod At
+pub mod Begun
+pub mod Boundary
+pub mod Fired
+pub mod Firings
+pub mod Inside
+pub mod Laws
+pub mod LinkLaws
+pub mod Linked
+pub mod Pass
+pub mod SampleLaws
+pub mod Samples
+pub mod machine

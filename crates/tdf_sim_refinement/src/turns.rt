@@ -1,0 +1,82 @@
+//! The pass over all clusters at a time, in order of number.
+
+ghost use Rattle.std.specs.Prelude.{◌≡◌, false, true};
+ghost use Rattle.tdf_exec.specs.Cluster.{is_due};
+ghost use Rattle.tdf_exec.specs.Gained.{HaveRoom};
+ghost use Rattle.tdf_exec.specs.Made.{IsClusterOf};
+ghost use Rattle.tdf_exec.specs.Played.{AreInputsFor};
+ghost use Rattle.tdf_sim_refinement.specs.Fired.{HasFired, HasStayed, HasTooFew};
+ghost use Rattle.tdf_sim_refinement.specs.Pass.{CanPass, HasPassedAll, HasPassedPart, pass_at, run_of};
+
+use crate::firing::fire_due;
+use tdf_bind::Flat;
+use tdf_convert::{Inputs, Outputs};
+use tdf_exec::Cluster;
+
+/// The turn of a cluster: its entries of an offset, if its next one has this offset. The answer is false where the
+/// turns that are left are too few.
+fn fire_turn(
+    flat: &Flat,
+    offset: u64,
+    inputs: &Inputs,
+    cluster: &mut Cluster,
+    outputs: &mut Outputs,
+    left: &mut u64,
+) -> bool
+    requires of { IsClusterOf flat.now cluster.old }
+    requires inputs { is_due cluster.old offset ≡ true → AreInputsFor flat.now offset cluster.old inputs.now }
+    requires room { is_due cluster.old offset ≡ true → HaveRoom offset cluster.old outputs.old }
+    ensures idle { is_due cluster.old offset ≡ false → result ≡ true }
+    ensures stays { is_due cluster.old offset ≡ false → HasStayed cluster.old cluster.new
+        outputs.old outputs.new left.old left.new }
+    ensures fired { is_due cluster.old offset ≡ true → result ≡ true → HasFired flat.now offset
+        inputs.now cluster.old cluster.new outputs.old outputs.new left.old left.new }
+    ensures few { is_due cluster.old offset ≡ true → result ≡ false → HasTooFew offset
+        cluster.old cluster.new outputs.old outputs.new left.old left.new }
+{
+    match cluster.next_offset() {
+        None => true,
+        Some(next) => {
+            if next == offset {
+                return fire_due(flat, offset, inputs, cluster, outputs, left);
+            }
+            true
+        }
+    }
+}
+
+/// Gives each cluster its turn at a time, in order of number: it does its entries of the time, each for one of the
+/// turns that are left. `since` has the start of the period of each cluster, `inputs` what its samplers read. Where the
+/// turns are too few for a cluster, those before it have had theirs, and the answer is false.
+pub fn fire_all(
+    flat: &Flat,
+    time: u64,
+    since: &[u64],
+    inputs: &[Inputs],
+    clusters: &mut Vec<Cluster>,
+    outputs: &mut Outputs,
+    left: &mut u64,
+) -> bool
+    requires { CanPass flat.now (pass_at time since.now inputs.now)
+        (run_of clusters.old.items outputs.old left.old) }
+    ensures all { result ≡ true → HasPassedAll flat.now (pass_at time since.now inputs.now)
+        (run_of clusters.old.items outputs.old left.old)
+        (run_of clusters.new.items outputs.new left.new) }
+    ensures part { result ≡ false → HasPassedPart flat.now (pass_at time since.now inputs.now)
+        (run_of clusters.old.items outputs.old left.old)
+        (run_of clusters.new.items outputs.new left.new) }
+{
+    for n in 0..clusters.len() {
+        if !fire_turn(
+            flat,
+            time - since[n],
+            &inputs[n],
+            &mut clusters[n],
+            outputs,
+            left,
+        ) {
+            return false;
+        }
+    }
+    true
+}

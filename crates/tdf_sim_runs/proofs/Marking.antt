@@ -1,0 +1,100 @@
+-- Rows of a run are written up to a mark that no period began before.
+use Rattle.std.proofs.Common.{◌≡◌, ◌∙◌, ℕ, ◌≤◌, List, Option, max, sym, subst, inl, inr, arith}
+use Rattle.std.proofs.lemmas.Bool.{cases_lt}
+use Rattle.std.specs.Io.KnownBytes.{Appends}
+use Rattle.tdf_trace.specs.Calls.{StandBelow}
+use Rattle.tdf_sim_instants.specs.InstantLaws.{IsModelOf}
+use Rattle.tdf_sim_instants.specs.Telling.{IsLeastStart}
+use Rattle.tdf_events.specs.Side.{SideOf}
+use Rattle.tdf_bind.specs.declared.model.Flat.{Flat}
+use Rattle.tdf_sim_history.specs.Cells.{run_cells}
+use Rattle.tdf_dynamic.specs.Laws.{BoundariesHaveOne}
+use Rattle.tdf_sim_history.specs.Telling.{world_told}
+use Rattle.tdf_sim_history.specs.World.{Change, World}
+use Rattle.tdf_io.specs.Bytes.{AppendsFront}
+use Rattle.tdf_sim_runs.proofs.Onward.{since_mark}
+use Rattle.tdf_sim_runs.proofs.RunStands.{run_stands}
+use Rattle.tdf_sim_runs.proofs.Finishing.{rows_same}
+use Rattle.tdf_sim_runs.proofs.Told.{cells_told}
+use Rattle.tdf_sim_runs.proofs.Written.{rows_alike, rows_past}
+use Rattle.tdf_sim_runs.specs.Ending.{ShownStandsBelow}
+use Rattle.tdf_sim_runs.specs.Ongoing.{AreToldTo}
+use Rattle.tdf_sim_runs.specs.Running.{CanGoOn, GoesOn, IsRunningAt, WritesFrontTo}
+use Rattle.tdf_sim_runs.specs.declared.running.Running.{Running}
+use Rattle.tdf_trace_rows.specs.Laws.{Agree}
+use Rattle.tdf_trace_rows.specs.Rows.{Cells}
+use Rattle.tdf_trace_rows.proofs.Api.{agree_trans}
+use Rattle.tdf_sim_traces.proofs.Api.{written_is_shown}
+use Rattle.tdf_trace.specs.Stands.{TraceSeen, WritesFront, WritesRows}
+use Rattle.tdf_trace.specs.Writings.{AboutSeen, rows_text}
+use Rattle.tdf_lang_tree.specs.Pure.{PureTree}
+use Rattle.tdf_sim_history.specs.Rules.{rules_of}
+
+-- rows by cells that agree below a mark, up to a time that is not past both
+rows_by : (about : AboutSeen) (g h : Cells) (u v mark : ℕ) (a b : Option (List ℕ)) → Agree g h mark → u ≤ v → v ≤ max u mark → Appends a b (rows_text about g u v) → Appends a b (rows_text about h u v)
+rows_by about g h u v mark a b agree low within took = elim (cases_lt mark v) [
+  | inr high ↦ subst (λ (t : List ℕ). Appends a b t) (rows_alike about g h u v mark agree (omega (arith, low, high)) high) took
+  | inl past ↦ subst (λ (t : List ℕ). Appends a b t) (rows_past about g u v (omega (arith, low, within, past)) ∙ sym (rows_past about h u v (omega (arith, low, within, past)))) took
+]
+
+module _ (law : BoundariesHaveOne) (stands : ShownStandsBelow) (flat : Flat) (r : Running) (can : CanGoOn flat r) (mark : ℕ) (least : IsLeastStart r.engine.since.items r.from mark) where
+  stand : (model : PureTree) (start : World SideOf) → IsModelOf model flat → (run : IsRunningAt model flat start r)
+      → StandBelow (run_cells model flat (rules_of model flat) (world_told run.going.ahead start) r.from) mark r.shown.trace.rows
+  stand model start m run = run_stands stands model flat start r.from mark r.left r.engine r.shown r.news.items m run (since_mark flat r can mark least.each) least.within
+
+  -- they agree with the cells of the history that is told other answers
+  agrees : (model : PureTree) (start : World SideOf) (ahead : List (List Change)) → (m : IsModelOf model flat) → (run : IsRunningAt model flat start r) → AreToldTo model flat start r.from ahead
+      → (noted : Cells) → Agree noted (run_cells model flat (rules_of model flat) (world_told run.going.ahead start) r.from) mark → Agree noted (run_cells model flat (rules_of model flat) (world_told ahead start) r.from) mark
+  agrees model start ahead m run to noted agree = agree_trans noted (run_cells model flat (rules_of model flat) (world_told run.going.ahead start) r.from)
+      (run_cells model flat (rules_of model flat) (world_told ahead start) r.from) mark r.from least.within agree
+      (cells_told law model flat start r.from r.left r.engine m run.going ahead to)
+
+  pub marks_part : (before after : Option (List ℕ)) → WritesFront r.shown.trace mark before after → WritesFrontTo flat r before after
+  marks_part before after part = record {
+    mark = mark;
+    early = least.within;
+    late = least.each;
+    front = λ model start ahead m run to. (
+        let s = stand model start m run in
+        subst (λ (t : List ℕ). AppendsFront before after t)
+        (rows_same r.shown.trace.about s.noted (run_cells model flat (rules_of model flat) (world_told ahead start) r.from) r.shown.trace.rows.upto mark (agrees model start ahead m run to s.noted s.agree))
+        (part s.noted s.stand));
+  }
+
+  module _ (trace : TraceSeen) (before after : Option (List ℕ)) (wrote : WritesRows r.shown.trace trace before after) (about : trace.about ≡ r.shown.trace.about) (within : trace.rows.upto ≤ max r.shown.trace.rows.upto mark) where
+    abbrev pub marked : Running
+    marked = record r { shown = record r.shown { trace = trace } }
+
+    upto_later : r.shown.trace.rows.upto ≤ trace.rows.upto
+    upto_later = let some = can.some in let s = stand some.model some.start some.of some.is in (wrote s.noted s.stand).later
+
+    marks_run : (model : PureTree) (start : World SideOf) → IsModelOf model flat → IsRunningAt model flat start r → IsRunningAt model flat start marked
+    marks_run model start m run = record {
+      going = run.going;
+      shown = written_is_shown model flat (world_told run.going.ahead start) run.going.world r.from r.shown trace run.shown (λ cells old. (wrote cells old).stands) about;
+      news_are = run.news_are;
+    }
+
+    pub marks_can : CanGoOn flat marked
+    marks_can = record {
+      engine = can.engine;
+      ready = can.ready;
+      none = can.none;
+      early = (let e = can.early in let l = least.within in omega (arith, e, l, within));
+      late = λ n s s_at. (let e = can.late n s s_at in let l = least.each n s s_at in omega (arith, e, l, within));
+      printable = can.printable;
+      some = record { model = can.some.model; of = can.some.of; start = can.some.start; is = marks_run can.some.model can.some.start can.some.of can.some.is };
+    }
+
+    pub marks_goes : GoesOn flat r marked before after
+    marks_goes = record {
+      later = omega arith;
+      about = about;
+      wrote = upto_later;
+      runs = marks_run;
+      rows = λ model start ahead m run to. (
+          let s = stand model start m run in
+          rows_by r.shown.trace.about s.noted (run_cells model flat (rules_of model flat) (world_told ahead start) r.from) r.shown.trace.rows.upto trace.rows.upto mark before after
+          (agrees model start ahead m run to s.noted s.agree) upto_later within
+          (wrote s.noted s.stand).took);
+    }

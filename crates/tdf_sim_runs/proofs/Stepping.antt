@@ -1,0 +1,172 @@
+-- An instant of a run, and what its trace shows of it.
+use Rattle.std.proofs.Common.{◌≡◌, ◌∙◌, ℕ, zero, suc, ◌+◌, ◌-◌, ◌<◌, ◌≤◌, List, [], ◌++◌, Option, Some, slice_get, refl, sym, ap, subst, arith}
+use Rattle.std.proofs.lemmas.List.Elements.{All-append, All-nil, All-weaker}
+use Rattle.std.proofs.lemmas.Option.{slice_get_within}
+use Rattle.std.specs.Prelude.{All}
+use Rattle.tdf_base.specs.Limits.{time_end}
+use Rattle.tdf_convert.specs.Outputs.{OutputsOf}
+use Rattle.tdf_convert.specs.declared.outputs.Traced.{Traced}
+use Rattle.tdf_convert.specs.declared.outputs.Sent.{Sent}
+use Rattle.tdf_sim_instants.specs.Engine.{HasHadInstant, IsEngineOf, IsReadyAt}
+use Rattle.tdf_sim_instants.specs.CrossingLaws.{Becomes}
+use Rattle.tdf_sim_instants.specs.InstantLaws.{InstantGoes, InstantGoesAlong, IsModelOf}
+use Rattle.tdf_sim_instants.specs.declared.engine.Engine.{Engine}
+use Rattle.tdf_events.specs.Side.{SideOf}
+use Rattle.tdf_exec.specs.Gained.{HasFewPlaces}
+use Rattle.tdf_bind.specs.declared.model.Flat.{Flat}
+use Rattle.tdf_streams.proofs.Api.{get_inside}
+use Rattle.tdf_sim_history.specs.Cells.{world_of}
+use Rattle.tdf_sim_history.specs.Instant.{RunFault}
+use Rattle.tdf_sim_history.specs.Telling.{world_told}
+use Rattle.tdf_sim_history.specs.World.{ClusterAt, World}
+use Rattle.tdf_sim_history.specs.WorldLaws.{AreSteady}
+use Rattle.tdf_sim_history.specs.History.{State, history}
+use Rattle.tdf_sim_runs.proofs.Keeping.{IsInPeriod}
+use Rattle.tdf_sim_runs.proofs.Leading.{from_before, goes_now, leads_on, news_now}
+use Rattle.tdf_sim_runs.proofs.Onward.{goes_quietly, since_mark}
+use Rattle.tdf_sim_runs.proofs.Staying.{steady, steady_more}
+use Rattle.tdf_sim_runs.specs.Advancing.{InstantAdvances}
+use Rattle.tdf_sim_runs.specs.News.{news_text}
+use Rattle.tdf_sim_runs.specs.Ongoing.{IsOngoing}
+use Rattle.tdf_sim_runs.specs.Running.{CanGoOn, GoesOn, IsDueNow, IsRunningAt}
+use Rattle.tdf_sim_runs.specs.declared.running.Running.{Running}
+use Rattle.tdf_sim_refinement.specs.Pass.{Done, HasTurn, HavePassed, Idle, PassAt, RunOf}
+use Rattle.tdf_sim_traces.proofs.Api.{advanced_can_be_taken, told_is_shown}
+use Rattle.tdf_sim_traces.specs.Advanced.{HasAdvanced}
+use Rattle.tdf_sim_traces.specs.Calls.{CanTake, ShowsInstant}
+use Rattle.tdf_sim_traces.specs.Events.{values_before}
+use Rattle.tdf_sim_traces.specs.Periods.{ClockAt, clock_at}
+use Rattle.tdf_sim_traces.specs.Shown.{IsShown}
+use Rattle.tdf_sim_traces.specs.declared.shown.Shown.{Shown}
+use Rattle.tdf_lang_tree.specs.Pure.{PureTree}
+use Rattle.tdf_sim_history.specs.Rules.{world_engine}
+use Rattle.tdf_sim_history.proofs.Api.{told_twice}
+
+-- what a pass traces has few places
+module _ (flat : Flat) (pass : PassAt) where
+  turn_few : (n : ℕ) (x y : RunOf) (sent : List Sent) → HasTurn flat pass n x y sent → All HasFewPlaces x.outputs.traced → All HasFewPlaces y.outputs.traced
+  turn_few n x y sent (Idle turn is did) few = subst (λ (o : OutputsOf). All HasFewPlaces o.traced) (sym did.outputs) few
+  turn_few n x y sent (Done turn is did) few = subst (λ (o : OutputsOf). All HasFewPlaces o.traced) (sym did.fired.gained.are)
+      (All-append HasFewPlaces x.outputs.traced did.fired.gained.traced few did.fired.gained.places)
+
+  passes_few : (n : ℕ) (x y : RunOf) (sent : List Sent) → HavePassed flat pass n x y sent → All HasFewPlaces x.outputs.traced → All HasFewPlaces y.outputs.traced
+  unfolding HavePassed
+  passes_few zero x y sent passed few = subst (λ (z : RunOf). All HasFewPlaces z.outputs.traced) (sym passed.0) few
+  passes_few (suc n) x y sent passed few = turn_few n passed.0 y passed.2 passed.4 (passes_few n x passed.0 passed.1 passed.3 few)
+
+module _ (along : InstantGoesAlong) (advances : InstantAdvances) (flat : Flat) (r : Running) (can : CanGoOn flat r) (due : IsDueNow r.engine r.from) (e : Engine) (rest : ℕ)
+    (of : IsEngineOf flat e) (had : HasHadInstant flat r.from r.engine e r.left rest) where
+  abbrev clock : ClockAt
+  clock = clock_at r.from e.since.items e.clusters.items
+
+  traced_few : All (λ (t : Traced). t.value.frac ≤ 120) e.outputs.traced
+  traced_few = All-weaker HasFewPlaces (λ (t : Traced). t.value.frac ≤ 120) (λ t few. omega (arith, few)) e.outputs.traced
+      (subst (λ (o : OutputsOf). All HasFewPlaces o.traced) (sym had.traced)
+      (passes_few flat _ _ _ _ had.fired.firings.sent had.fired.firings.passed (subst (All HasFewPlaces) (sym had.fired.none_traced) (All-nil HasFewPlaces))))
+
+  module _ (model : PureTree) (start : World SideOf) (m : IsModelOf model flat) (run : IsRunningAt model flat start r) where
+    abbrev on_now : IsOngoing model flat start (r.from + 1) e rest
+    on_now = leads_on along model flat start r.from due.stop r.from r.left r.engine m can.engine can.ready run.going (let b = due.below in omega (arith, b)) due.next due.below e rest had
+
+    abbrev goes : InstantGoes model flat r.from run.going.world r.engine e r.left rest had
+    goes = goes_now along model flat start r.from due.stop r.from r.left r.engine m can.engine can.ready run.going (let b = due.below in omega (arith, b)) due.next due.below e rest had
+
+    -- the history that is told the answers of the boundaries of this instant, too
+    abbrev own : World SideOf
+    own = world_told on_now.ahead start
+
+    twice : world_told goes.crossing.told (world_told run.going.ahead start) ≡ own
+    unfolding leads_on
+    twice = told_twice run.going.ahead goes.crossing.told start
+
+    shown_told : IsShown model flat own r.from (world_told goes.crossing.told run.going.world) r.shown
+    shown_told = subst (λ (w : World SideOf). IsShown model flat w r.from (world_told goes.crossing.told run.going.world) r.shown) twice
+        (told_is_shown model flat (world_told run.going.ahead start) run.going.world r.from goes.crossing.told r.shown run.going.some run.shown)
+
+    advanced : HasAdvanced model flat r.from (world_told goes.crossing.told run.going.world) goes.world e.outputs.traced
+    advanced = advances model flat r.from run.going.world r.engine e r.left rest m run.going.now can.none had goes
+
+    values_are : e.kernel.values ≡ values_before model flat own (r.from + 1)
+    unfolding leads_on
+    values_are =
+        let z : r.from + 1 ≡ r.from + 1 - 0 = omega arith in
+        ap (λ (s : SideOf). s.values) goes.now.side
+        ∙ sym (ap (λ (x : State (World SideOf) RunFault). (world_of x).events.values) (ap (history (world_engine model flat) 0 own) z ∙ on_now.on.on))
+
+    -- as what is told is told with its counts
+    steady_now : AreSteady model flat (world_told goes.crossing.told run.going.world)
+    steady_now = steady_more model flat run.going.world goes.crossing.told (goes.are_told 0).counts (steady model flat run.going.world r.engine r.left run.going.now)
+
+    -- no period began before the rows that are written end
+    late_at : (n s : ℕ) → slice_get e.since.items n ≡ Some s → r.shown.trace.rows.upto ≤ s
+    late_at n s s_at =
+        let i = slice_get_within e.since.items n s s_at in
+        let l = of.since in
+        let c = goes.now.at.same in
+        let g = get_inside goes.world.clusters n (omega (arith, i, l, c)) in
+        let b = from_before model flat r.from run.going.world r.engine e r.left rest had goes n g.0 g.1 in
+        let now_b = goes.now.at.begun n s g.0 g.1 s_at in
+        let p = run.going.now.at.same in
+        let q = can.engine.since in
+        let k = slice_get_within run.going.world.clusters n b.0 b.2 in
+        let t = get_inside r.engine.since.items n (omega (arith, k, p, q)) in
+        let d = run.going.now.at.begun n t.0 b.0 b.2 t.1 in
+        late_by b.0 b.1 g.0 s t.0 b.4 b.5 now_b d (can.late n t.0 t.1)
+      where
+        late_by : (h mid g : ClusterAt) (s t : ℕ) → Becomes flat.tables r.from h mid → IsInPeriod mid g → s ≡ g.since → t ≡ h.since → r.shown.trace.rows.upto ≤ t → r.shown.trace.rows.upto ≤ s
+        late_by h mid g s t (Becomes.Stayed going same) kept b d low = let k = kept.since in let m = ap (λ (z : ClusterAt). z.since) same in omega (arith, low, b, d, k, m)
+        late_by h mid g s t (Becomes.Began table over is) kept b d low = let k = kept.since in let m = ap (λ (z : ClusterAt). z.since) is in let y = can.early in omega (arith, y, b, k, m)
+        late_by h mid g s t (Becomes.Changed table counts period entries bounds over is) kept b d low = let k = kept.since in let m = ap (λ (z : ClusterAt). z.since) is in let y = can.early in omega (arith, y, b, k, m)
+
+  pub can_take : r.from < time_end → CanTake flat clock e.outputs.traced e.kernel.values r.shown
+  can_take soon =
+      let some = can.some in
+      let g = goes some.model some.start some.of some.is in
+      advanced_can_be_taken some.model flat (own some.model some.start some.of some.is) (world_told g.crossing.told some.is.going.world) g.world clock e.outputs.traced e.kernel.values r.shown some.of.is some.of.limits
+      (shown_told some.model some.start some.of some.is)
+      (advanced some.model some.start some.of some.is) (steady_now some.model some.start some.of some.is) g.now.at of.since soon can.early
+      (since_mark flat r can r.shown.trace.rows.upto can.late) traced_few of.kernel.values
+
+  -- and when it is shown
+  module _ (s : Shown) (news : List ℕ) (shows : ShowsInstant flat clock e.outputs.traced e.kernel.values r.shown s) (upto : s.trace.rows.upto ≡ r.shown.trace.rows.upto) (about : s.trace.about ≡ r.shown.trace.about)
+      (last : Running) (is : last ≡ record r { engine = record e { outputs = record e.outputs { traced = [] } }; shown = s; from = r.from + 1; left = rest; news = last.news })
+      (news_is : last.news.items ≡ r.news.items ++ news_text flat r.from e.clusters.items e.planned.items) where
+    abbrev stepped : Running
+    stepped = record r { engine = record e { outputs = record e.outputs { traced = [] } }; shown = s; from = r.from + 1; left = rest; news = last.news }
+
+    runs_so : (model : PureTree) (start : World SideOf) → IsModelOf model flat → IsRunningAt model flat start r → IsRunningAt model flat start stepped
+    unfolding leads_on
+    runs_so model start m run =
+        let g = goes model start m run in
+        let on = on_now model start m run in record {
+          going = record {
+            can = on.can;
+            ahead = on.ahead;
+            told = on.told;
+            some = on.some;
+            world = on.world;
+            on = on.on;
+            now = record { at = g.now.at; side = g.now.side; turns = g.now.turns };
+            timed = on.timed;
+          };
+          shown = shows model (own model start m run) (world_told g.crossing.told run.going.world) g.world m.limits (shown_told model start m run) (advanced model start m run) g.now.at (values_are model start m run);
+          news_are = news_is ∙ news_now along model flat start r.from due.stop r.from r.left r.engine m can.engine can.ready run.going (let b = due.below in omega (arith, b)) due.next due.below e rest had r.news.items run.news_are;
+        }
+
+    pub step_runs : (model : PureTree) (start : World SideOf) → IsModelOf model flat → IsRunningAt model flat start r → IsRunningAt model flat start last
+    step_runs model start m run = subst (IsRunningAt model flat start) (sym is) (runs_so model start m run)
+
+    pub step_can : IsEngineOf flat stepped.engine → IsReadyAt (r.from + 1) stepped.engine → CanGoOn flat last
+    step_can engine ready =
+        let some = can.some in subst (CanGoOn flat) (sym is) (record {
+          engine = engine;
+          ready = ready;
+          none = refl;
+          early = (let y = can.early in omega (arith, y, upto));
+          late = λ n t t_at. (let l = late_at some.model some.start some.of some.is n t t_at in omega (arith, l, upto));
+          printable = can.printable;
+          some = record { model = some.model; of = some.of; start = some.start; is = runs_so some.model some.start some.of some.is };
+        })
+
+    pub step_goes : (taken : Option (List ℕ)) → GoesOn flat r last taken taken
+    step_goes taken = goes_quietly flat r last taken (let f = ap (λ (z : Running). z.from) is in omega (arith, f)) (ap (λ (z : Running). z.shown.trace.about) is ∙ about) (ap (λ (z : Running). z.shown.trace.rows.upto) is ∙ upto) step_runs

@@ -1,0 +1,9 @@
+pub mod Advancing
+pub mod Ending
+pub mod Laws
+pub mod News
+pub mod Ongoing
+pub mod Running
+pub mod Runs
+pub mod Staying
+pub mod machine

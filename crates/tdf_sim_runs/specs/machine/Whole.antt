@@ -1,0 +1,28 @@
+-- What a run leaves before its notes are written.
+-- Source: own.
+use Rattle.std.specs.Prelude.{◌≡◌, ℕ, List}
+use Rattle.tdf_sim_runs.specs.Runs.{IsLeft}
+use Rattle.tdf_sim_runs.specs.declared.run.Whole.{Whole}
+use Rattle.tdf_sim_notes.specs.Ending.{HaveAnswers, run_end}
+use Rattle.tdf_sim_notes.specs.declared.ending.End.TheVariants.{Reached}
+use Rattle.tdf_dynamic_first.specs.declared.first.First.{First}
+use Rattle.tdf_bind.specs.declared.model.Flat.{Flat}
+use Rattle.tdf_sim_history.specs.Texts.{notes_to}
+use Rattle.tdf_sim_history.specs.World.{Change}
+use Rattle.tdf_lang_tree.specs.Pure.{PureTree}
+use Rattle.tdf_sim_history.specs.Rules.{rules_of, start_world}
+
+-- there are answers of its boundaries, and a run has ended as the history does that is told
+-- answers; its news are the plans that came
+pub record HasEnded (model : PureTree) (flat : Flat) (firsts : List First) (stop turns : ℕ)
+    (whole : Whole) : Type 0 where
+  pub ahead : List (List Change)
+  pub answers : HaveAnswers model flat firsts ahead stop turns
+  pub end : (others : List (List Change)) → HaveAnswers model flat firsts others stop turns
+      → whole.ran.end ≡ run_end model flat firsts others stop turns
+  pub news : (others : List (List Change)) → HaveAnswers model flat firsts others stop turns
+      → whole.news.items
+      ≡ notes_to model flat (rules_of model flat) (start_world model flat firsts others turns) stop
+  pub left : (others : List (List Change)) → HaveAnswers model flat firsts others stop turns
+      → (time taken : ℕ) → whole.ran.end ≡ Reached time taken
+      → IsLeft model flat firsts others stop turns whole.ran

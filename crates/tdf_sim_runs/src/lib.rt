@@ -1,0 +1,24 @@
+//! The loop of instants of a run.
+//!
+//! - `running`: a run while it goes on.
+//! - `starting`: how a run begins.
+//! - `going`: from instant to instant.
+//! - `ending`: how the trace of a run ends.
+//! - `run`: a whole run.
+//! - `news`: the plans that boundaries bring, as text.
+//! - `laws`, `standing`: what holds of the definitions.
+#![tactic(auto)]
+
+mod ending;
+mod going;
+mod laws;
+mod news;
+mod run;
+mod running;
+mod standing;
+mod starting;
+
+pub use laws::{law_advancing, law_going, law_next, law_staying, law_waiting};
+pub use run::{Ran, run_model};
+pub use running::Running;
+pub use standing::law_standing;

@@ -1,0 +1,262 @@
+//! A whole run.
+
+use tdf_events::Kernel;
+use tdf_exec::Cluster;
+use tdf_sim_notes::End;
+
+/// How a run ended, and what it leaves.
+#[derive(Drop)]
+pub struct Ran {
+    /// How it ended.
+    pub end: End,
+    /// Its clusters. Where it reached its stop, they are in order of number and have done every firing of the run.
+    pub clusters: Vec<Cluster>,
+    /// Its event side. Where it reached its stop, it is the one after the last instant.
+    pub kernel: Kernel,
+}
+
+ghost use Rattle.std.specs.Io.KnownBytes.{Appends};
+ghost use Rattle.std.specs.Prelude.{◌≡◌, ◌<◌, ◌≤◌, ◌++◌, ◌⊎◌, ℕ, List, [], length, IfOk, IsErrOf, OnErr, OnOk};
+ghost use Rattle.tdf_base.specs.Limits.{time_end};
+ghost use Rattle.tdf_trace.specs.Tracked.{AreSince};
+ghost use Rattle.tdf_sim_instants.specs.InstantLaws.{IsModelOf};
+ghost use Rattle.tdf_io.specs.Bytes.{AppendsFront, WritesText};
+ghost use Rattle.tdf_io.specs.Faults.{CountsSinkFaults, FaultsRose};
+ghost use Rattle.tdf_io.specs.declared.writing.SinkErr.TheVariants.{Failed};
+ghost use Rattle.tdf_sim_runs.specs.Ending.{WritesEnd, end_by};
+ghost use Rattle.tdf_sim_runs.specs.machine.Whole.{HasEnded};
+ghost use Rattle.tdf_sim_runs.specs.Running.{CanGoOn, IsRunningAt};
+ghost use Rattle.tdf_sim_runs.specs.Runs.{CanRun, IsLeft, model_about, trace_of};
+ghost use Rattle.tdf_sim_notes.specs.Ending.{HaveAnswers, end_text, run_end, run_note};
+ghost use Rattle.tdf_sim_notes.specs.declared.ending.End.TheVariants.{Reached};
+ghost use Rattle.tdf_trace.specs.Writings.{head_of};
+ghost use Rattle.tdf_trace.specs.declared.stage.Stage.TheVariants.{Open};
+ghost use Rattle.tdf_lang_tree.specs.Pure.{PureTree};
+ghost use Rattle.tdf_sim_history.specs.World.{Change};
+ghost use Rattle.tdf_sim_history.specs.Rules.{start_world};
+
+use crate::ending::finish;
+use crate::going::Ended;
+use crate::running::Running;
+use crate::starting::begin;
+use std::alloc::Global;
+use tdf_bind::Flat;
+use tdf_cli_words::TraceKind;
+use tdf_dynamic::law_one_answer;
+use tdf_dynamic_first::First;
+use tdf_io::{Sink, SinkErr, put_all};
+use tdf_sim_notes::{law_report, write_closing, write_plans};
+
+/// A run that ended, and the text of the plans that its boundaries brought.
+#[derive(Drop)]
+struct Whole {
+    ran: Ran,
+    news: Vec<u8>,
+}
+
+/// How a run of so many turns ended.
+fn end_of(run: &Running, ended: Ended, stop: u64, turns: u64) -> End
+    ensures { result ≡ end_by run.now stop turns ended }
+{
+    match ended {
+        Ended::Reached => End::Reached {
+            time: stop,
+            turns: turns.saturating_sub(run.left),
+        },
+        Ended::Spent => End::Spent { time: run.from },
+        Ended::Stopped { cluster, fault } => End::Stopped {
+            time: run.from,
+            cluster,
+            fault,
+        },
+    }
+}
+
+/// A run before its first instant, whose trace has its head.
+fn opened<O: Sink>(
+    alloc: Global,
+    flat: &Flat,
+    firsts: Vec<First>,
+    kind: TraceKind,
+    turns: u64,
+    out: &mut O,
+) -> Result<Running, SinkErr>
+    requires can { CanRun flat.now firsts.items }
+    ensures can { IfOk result (CanGoOn flat.now) }
+    ensures runs { (model : PureTree) → IsModelOf model flat.now → IfOk result (λ run.
+        IsRunningAt model flat.now (start_world model flat.now firsts.items [] turns) run) }
+    ensures from { IfOk result (λ run. run.from ≡ 0) }
+    ensures upto { IfOk result (λ run. run.shown.trace.rows.upto ≡ 0) }
+    ensures stage { IfOk result (λ run. run.shown.trace.stage ≡ Open) }
+    ensures about { IfOk result (λ run. run.shown.trace.about ≡ model_about kind flat.now) }
+    ensures wrote { WritesText O.taken O.faults out.old out.new (head_of (model_about kind flat.now)) result }
+{
+    let mut run = match begin(alloc, flat, firsts, kind, turns) {
+        Ok(run) => run,
+        Err(_) => return Err(SinkErr::Memory),
+    };
+    match run.shown.trace.begin(out) {
+        Ok(()) => Ok(run),
+        Err(error) => {
+            drop(run);
+            Err(error)
+        }
+    }
+}
+
+/// What a run leaves that goes no further; its trace is whole then.
+fn closed<O: Sink>(
+    run: Running,
+    ended: Ended,
+    stop: u64,
+    turns: u64,
+    out: &mut O,
+) -> Result<Whole, SinkErr>
+    requires open { run.shown.trace.stage ≡ Open }
+    requires width { run.shown.tracking.width ≤ length run.shown.trace.about.variables }
+    requires since { AreSince run.shown.trace.rows.upto run.shown.tracking.list }
+    ensures wrote { WritesEnd O.taken O.faults out.old out.new run.shown run.from result }
+    ensures counted { CountsSinkFaults (O.faults out.old) (O.faults out.new) result }
+    ensures end { IfOk result (λ whole. whole.ran.end ≡ end_by run stop turns ended) }
+    ensures clusters { IfOk result (λ whole. whole.ran.clusters ≡ run.engine.clusters) }
+    ensures kernel { IfOk result (λ whole. whole.ran.kernel ≡ run.engine.kernel) }
+    ensures news { IfOk result (λ whole. whole.news.items ≡ run.news.items) }
+{
+    let end = end_of(&run, ended, stop, turns);
+    let news = run.news;
+    match finish(run.shown, run.from, out) {
+        Ok(()) => Ok(Whole {
+            ran: Ran {
+                end,
+                clusters: run.engine.clusters,
+                kernel: run.engine.kernel,
+            },
+            news,
+        }),
+        Err(error) => Err(error),
+    }
+}
+
+/// Runs a model, and writes its trace.
+fn trace_run<O: Sink>(
+    alloc: Global,
+    flat: &Flat,
+    firsts: Vec<First>,
+    stop: u64,
+    turns: u64,
+    kind: TraceKind,
+    out: &mut O,
+) -> Result<Whole, SinkErr>
+    requires can { CanRun flat.now firsts.items }
+    requires stop { stop < time_end }
+    ensures ended { (model : PureTree) → IsModelOf model flat.now → IfOk result (λ whole.
+        HasEnded model flat.now firsts.items stop turns whole) }
+    ensures trace { (model : PureTree) → IsModelOf model flat.now
+        → (ahead : List (List Change)) → HaveAnswers model flat.now firsts.items ahead stop turns
+        → OnOk result (Appends (O.taken out.old) (O.taken out.new)
+        (trace_of kind model flat.now firsts.items ahead stop turns)) }
+    ensures part { (model : PureTree) → IsModelOf model flat.now
+        → (ahead : List (List Change)) → HaveAnswers model flat.now firsts.items ahead stop turns
+        → OnErr result (AppendsFront (O.taken out.old) (O.taken out.new)
+        (trace_of kind model flat.now firsts.items ahead stop turns)) }
+    ensures counted { CountsSinkFaults (O.faults out.old) (O.faults out.new) result }
+{
+    law_one_answer();
+    let mut run = match opened(alloc, flat, firsts, kind, turns, out) {
+        Ok(run) => run,
+        Err(error) => return Err(error),
+    };
+    match run.go(alloc, flat, stop, out) {
+        Ok(ended) => closed(run, ended, stop, turns, out),
+        Err(error) => {
+            drop(run);
+            Err(error)
+        }
+    }
+}
+
+/// Writes the plans that boundaries brought, and how the run ended.
+fn write_notes<N: Sink>(
+    alloc: Global,
+    flat: &Flat,
+    turns: u64,
+    whole: &Whole,
+    notes: &mut N,
+) -> Result<(), SinkErr>
+    ensures { WritesText N.taken N.faults notes.old notes.new (whole.now.news.items
+        ++ end_text flat.now.resolution turns whole.now.ran.end) result }
+{
+    match put_all(notes, &whole.news) {
+        Ok(()) => write_closing(alloc, flat.resolution, turns, &whole.ran.end, notes),
+        Err(error) => Err(error),
+    }
+}
+
+/// Runs a model from its first plans up to a stop, in counts of its resolution, within so many turns. It writes the trace on `out`,
+/// and on `notes` the plans and how it ended. What it writes is that of the history which is told the answers of the boundaries.
+///
+/// # Errors
+/// A write failed, or out of memory. Both sinks then hold front parts of their texts. Where no write failed, no count of faults
+/// changes.
+pub fn run_model<O: Sink, N: Sink>(
+    alloc: Global,
+    flat: &Flat,
+    firsts: Vec<First>,
+    stop: u64,
+    turns: u64,
+    kind: TraceKind,
+    out: &mut O,
+    notes: &mut N,
+) -> Result<Ran, SinkErr>
+    requires can { CanRun flat.now firsts.items }
+    requires stop { stop < time_end }
+    ensures answered { (model : PureTree) → IsModelOf model flat.now → OnOk result
+        ((ahead : List (List Change)) × HaveAnswers model flat.now firsts.items ahead stop turns) }
+    ensures end { (model : PureTree) → IsModelOf model flat.now
+        → (ahead : List (List Change)) → HaveAnswers model flat.now firsts.items ahead stop turns
+        → IfOk result (λ ran.
+        ran.end ≡ run_end model flat.now firsts.items ahead stop turns) }
+    ensures trace { (model : PureTree) → IsModelOf model flat.now
+        → (ahead : List (List Change)) → HaveAnswers model flat.now firsts.items ahead stop turns
+        → OnOk result (Appends (O.taken out.old) (O.taken out.new)
+        (trace_of kind model flat.now firsts.items ahead stop turns)) }
+    ensures notes { (model : PureTree) → IsModelOf model flat.now
+        → (ahead : List (List Change)) → HaveAnswers model flat.now firsts.items ahead stop turns
+        → OnOk result (Appends (N.taken notes.old) (N.taken notes.new)
+        (run_note model flat.now firsts.items ahead stop turns)) }
+    ensures trace_part { (model : PureTree) → IsModelOf model flat.now
+        → (ahead : List (List Change)) → HaveAnswers model flat.now firsts.items ahead stop turns
+        → OnErr result (AppendsFront (O.taken out.old) (O.taken out.new)
+        (trace_of kind model flat.now firsts.items ahead stop turns)) }
+    ensures notes_part { (model : PureTree) → IsModelOf model flat.now
+        → (ahead : List (List Change)) → HaveAnswers model flat.now firsts.items ahead stop turns
+        → OnErr result (AppendsFront (N.taken notes.old) (N.taken notes.new)
+        (run_note model flat.now firsts.items ahead stop turns)) }
+    ensures cause { IsErrOf result Failed → FaultsRose (O.faults out.old) (O.faults out.new)
+        ⊎ FaultsRose (N.faults notes.old) (N.faults notes.new) }
+    ensures out_kept { ¬ IsErrOf result Failed → O.faults out.new ≡ O.faults out.old }
+    ensures notes_kept { ¬ IsErrOf result Failed → N.faults notes.new ≡ N.faults notes.old }
+    ensures left { (model : PureTree) → IsModelOf model flat.now
+        → (ahead : List (List Change)) → HaveAnswers model flat.now firsts.items ahead stop turns
+        → IfOk result (λ ran.
+        (time taken : ℕ) → ran.end ≡ Reached time taken
+        → IsLeft model flat.now firsts.items ahead stop turns ran) }
+{
+    law_report();
+    law_one_answer();
+    if let Err(error) = write_plans(alloc, flat, &firsts, notes) {
+        drop(firsts);
+        return Err(error);
+    }
+    let whole = match trace_run(alloc, flat, firsts, stop, turns, kind, out) {
+        Ok(whole) => whole,
+        Err(error) => return Err(error),
+    };
+    match write_notes(alloc, flat, turns, &whole, notes) {
+        Ok(()) => Ok(whole.ran),
+        Err(error) => {
+            drop(whole);
+            Err(error)
+        }
+    }
+}

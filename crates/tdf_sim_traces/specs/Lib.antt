@@ -1,0 +1,9 @@
+pub mod Advanced
+pub mod Calls
+pub mod Events
+pub mod Laws
+pub mod Periods
+pub mod Shown
+pub mod Signals
+pub mod Variables
+pub mod machine

@@ -1,0 +1,117 @@
+//! The periods of traced signals that begin.
+
+ghost use Rattle.std.specs.Prelude.{◌≡◌, ◌<◌, ◌≤◌, ◌^◌, length, OnOk};
+ghost use Rattle.tdf_trace.specs.Calls.{HasNoneLeft, HasStarted, TakesPeriod};
+ghost use Rattle.tdf_exec.specs.Made.{IsClusterOf};
+ghost use Rattle.tdf_bind_invariants.specs.Limits.{AreWithinLimits};
+ghost use Rattle.tdf_sim_traces.specs.Periods.{CanBegin, CanBeginAll, clock_at, positions_in, span_in};
+ghost use Rattle.tdf_sim_traces.specs.machine.Beginning.{HasBegun, IsBeginning};
+
+use crate::signals::TracedSignal;
+use tdf_base::Memory;
+use tdf_bind::Flat;
+use tdf_exec::Cluster;
+use tdf_trace::{Trace, Tracking};
+
+/// How many positions a signal has in a period of its cluster.
+fn positions(flat: &Flat, cluster: &Cluster, traced: TracedSignal) -> u64
+    requires limits { AreWithinLimits flat.now }
+    requires of { IsClusterOf flat.now cluster.now }
+    requires port { traced.port < length flat.now.tables.ports }
+    requires few { positions_in flat.now.tables cluster.now traced < 2 ^ 64 }
+    ensures { result ≡ positions_in flat.now.tables cluster.now traced }
+{
+    let rate = u64::from(cluster.rate(flat, traced.port));
+    cluster.activations(traced.module) * rate
+}
+
+/// The period of a signal's cluster begins, and parts into equal steps.
+fn begin_one(
+    tracking: &mut Tracking,
+    trace: &mut Trace,
+    flat: &Flat,
+    time: u64,
+    cluster: &Cluster,
+    traced: TracedSignal,
+) -> Result<(), Memory>
+    requires limits { AreWithinLimits flat.now }
+    requires can { CanBegin flat.now time cluster.now traced }
+    requires width { tracking.old.width ≤ length trace.old.about.variables }
+    requires none { HasNoneLeft traced.signal tracking.old.list }
+    requires upto { trace.old.rows.upto ≤ time }
+    ensures took { OnOk result (TakesPeriod traced.signal
+        (span_in flat.now.tables time cluster.now traced)
+        tracking.old.list tracking.new.list trace.old.rows trace.new.rows) }
+    ensures started { HasStarted traced.signal time tracking.old.list tracking.new.list }
+    ensures width { tracking.new.width ≡ tracking.old.width }
+    ensures upto { trace.new.rows.upto ≡ trace.old.rows.upto }
+    ensures stage { trace.new.stage ≡ trace.old.stage }
+    ensures about { trace.new.about ≡ trace.old.about }
+{
+    let count = positions(flat, cluster, traced);
+    let step = cluster.period() / count;
+    tracking.begin(trace, traced.signal, time, step, count)
+}
+
+/// The periods of all signals whose clusters begin one at this time; `since` has the start of the period of each cluster.
+///
+/// # Errors
+/// Out of memory; some cells may be noted then.
+pub(crate) fn begin_all(
+    tracking: &mut Tracking,
+    trace: &mut Trace,
+    flat: &Flat,
+    time: u64,
+    since: &[u64],
+    clusters: &[Cluster],
+    signals: &[TracedSignal],
+) -> Result<(), Memory>
+    requires can { CanBeginAll flat.now (clock_at time since.now clusters.now) signals.now
+        tracking.old.list }
+    requires width { tracking.old.width ≤ length trace.old.about.variables }
+    requires upto { trace.old.rows.upto ≤ time }
+    ensures began { OnOk result (IsBeginning flat.now.tables
+        (clock_at time since.now clusters.now) signals.now (length signals.now)
+        tracking.old tracking.new trace.old trace.new) }
+    ensures upto { trace.new.rows.upto ≡ trace.old.rows.upto }
+    ensures stage { trace.new.stage ≡ trace.old.stage }
+    ensures about { trace.new.about ≡ trace.old.about }
+{
+    for k in 0..signals.len() {
+        let place = signals[k].cluster as usize;
+        if since[place] == time {
+            begin_one(tracking, trace, flat, time, &clusters[place], signals[k])?;
+        }
+    }
+    Ok(())
+}
+
+/// The same at a time after the start: the periods that begin at the start have begun before its instant.
+///
+/// # Errors
+/// Out of memory; some cells may be noted then.
+pub(crate) fn begin_later(
+    tracking: &mut Tracking,
+    trace: &mut Trace,
+    flat: &Flat,
+    time: u64,
+    since: &[u64],
+    clusters: &[Cluster],
+    signals: &[TracedSignal],
+) -> Result<(), Memory>
+    requires can { 0 < time → CanBeginAll flat.now (clock_at time since.now clusters.now)
+        signals.now tracking.old.list }
+    requires width { tracking.old.width ≤ length trace.old.about.variables }
+    requires upto { trace.old.rows.upto ≤ time }
+    ensures began { OnOk result (HasBegun flat.now.tables
+        (clock_at time since.now clusters.now) signals.now tracking.old tracking.new
+        trace.old trace.new) }
+    ensures upto { trace.new.rows.upto ≡ trace.old.rows.upto }
+    ensures stage { trace.new.stage ≡ trace.old.stage }
+    ensures about { trace.new.about ≡ trace.old.about }
+{
+    if time == 0 {
+        return Ok(());
+    }
+    begin_all(tracking, trace, flat, time, since, clusters, signals)
+}

@@ -1,0 +1,149 @@
+//! The trace of a run with all that leads to its columns.
+
+use crate::events::{EventColumn, event_columns, show_all};
+use crate::signals::{TracedSignal, traced_signals};
+use tdf_trace::{Trace, Tracking};
+
+/// The trace of a run while it goes on: the trace, the samples on their way to it, and which signals it shows.
+#[derive(Drop)]
+pub struct Shown {
+    /// The trace.
+    pub trace: Trace,
+    /// The samples of traced signals on their way to their cells.
+    pub tracking: Tracking,
+    /// The traced signals of samples that ports of modules drive.
+    pub signals: Vec<TracedSignal>,
+    /// The columns of event signals.
+    pub events: Vec<EventColumn>,
+}
+
+ghost use Rattle.std.specs.Prelude.{◌≡◌, ◌≤◌, length, IfOk, OnOk};
+ghost use Rattle.tdf_trace.specs.Tracked.{AreSince};
+ghost use Rattle.tdf_events.specs.Runnable.{IsRunnable};
+ghost use Rattle.tdf_exec.specs.Starts.{IsSoundFlat};
+ghost use Rattle.tdf_sim_traces.specs.Calls.{CanBeShown, CanStart, CanTake, IsUnshown, ShowsEnd, ShowsInstant, StartsShowing};
+ghost use Rattle.tdf_sim_traces.specs.Periods.{clock_at};
+
+use crate::initials::give_all;
+use crate::periods::{begin_all, begin_later};
+use crate::variables::variables;
+use std::alloc::Global;
+use tdf_base::{Memory, row_number};
+use tdf_bind::Flat;
+use tdf_cli_words::TraceKind;
+use tdf_convert::Traced;
+use tdf_exec::Cluster;
+use tdf_fixed::Raw;
+
+impl Shown {
+    /// A trace of a run that has not begun, before its head is written. The traces of event signals show the values that these
+    /// start with.
+    ///
+    /// # Errors
+    /// Out of memory.
+    pub fn new(alloc: Global, flat: &Flat, kind: TraceKind) -> Result<Shown, Memory>
+        requires can { CanBeShown flat.now.tables }
+        ensures { IfOk result (IsUnshown kind flat.now) }
+    {
+        let signals = traced_signals(alloc, flat)?;
+        let events = event_columns(alloc, &flat.tables)?;
+        let count = row_number(flat.tables.signals.len())?;
+        let tracking = Tracking::new(alloc, &flat.tables.traces, count)?;
+        let columns = variables(alloc, &flat.tables)?;
+        let trace = Trace::new(alloc, columns, flat.resolution, kind)?;
+        Ok(Shown {
+            trace,
+            tracking,
+            signals,
+            events,
+        })
+    }
+
+    /// The run starts: each traced signal has its initial samples, and its first period begins. `since` has the start of the period
+    /// of each cluster.
+    ///
+    /// # Errors
+    /// Out of memory.
+    pub fn start(
+        &mut self,
+        alloc: Global,
+        flat: &Flat,
+        since: &[u64],
+        clusters: &[Cluster],
+    ) -> Result<(), Memory>
+        requires { CanStart flat.now (clock_at 0 since.now clusters.now) self.old }
+        ensures shown { OnOk result
+            (StartsShowing flat.now (clock_at 0 since.now clusters.now) self.old self.new) }
+        ensures upto { self.new.trace.rows.upto ≡ self.old.trace.rows.upto }
+        ensures stage { self.new.trace.stage ≡ self.old.trace.stage }
+        ensures about { self.new.trace.about ≡ self.old.trace.about }
+    {
+        begin_all(
+            &mut self.tracking,
+            &mut self.trace,
+            flat,
+            0,
+            since,
+            clusters,
+            &self.signals,
+        )?;
+        give_all(
+            alloc,
+            &mut self.tracking,
+            &mut self.trace,
+            &flat.tables,
+            &self.signals,
+        )
+    }
+
+    /// Takes what an instant gave: the periods that began, the samples that firings traced, and the values that the event signals have
+    /// settled. `since` has the start of the period of each cluster.
+    ///
+    /// # Errors
+    /// Out of memory.
+    pub fn take(
+        &mut self,
+        flat: &Flat,
+        time: u64,
+        since: &[u64],
+        clusters: &[Cluster],
+        traced: &[Traced],
+        values: &[Raw],
+    ) -> Result<(), Memory>
+        requires { CanTake flat.now (clock_at time since.now clusters.now) traced.now values.now
+            self.old }
+        ensures shown { OnOk result (ShowsInstant flat.now
+            (clock_at time since.now clusters.now) traced.now values.now self.old self.new) }
+        ensures upto { self.new.trace.rows.upto ≡ self.old.trace.rows.upto }
+        ensures stage { self.new.trace.stage ≡ self.old.trace.stage }
+        ensures about { self.new.trace.about ≡ self.old.trace.about }
+    {
+        begin_later(
+            &mut self.tracking,
+            &mut self.trace,
+            flat,
+            time,
+            since,
+            clusters,
+            &self.signals,
+        )?;
+        self.tracking.give(&mut self.trace, traced)?;
+        show_all(&mut self.events, &mut self.trace, time, values)
+    }
+
+    /// The run ends: the positions of traced signals below the end that have no sample are unknown.
+    ///
+    /// # Errors
+    /// Out of memory.
+    pub fn close(&mut self, end: u64) -> Result<(), Memory>
+        requires width { self.old.tracking.width ≤ length self.old.trace.about.variables }
+        requires since { AreSince self.old.trace.rows.upto self.old.tracking.list }
+        ensures shown { OnOk result (ShowsEnd end self.old self.new) }
+        ensures upto { self.new.trace.rows.upto ≡ self.old.trace.rows.upto }
+        ensures stage { self.new.trace.stage ≡ self.old.trace.stage }
+        ensures about { self.new.trace.about ≡ self.old.trace.about }
+        ensures rest { self.new ≡ record self.old { trace = self.new.trace } }
+    {
+        self.tracking.close(&mut self.trace, end)
+    }
+}

@@ -1,5 +1,0 @@
--- Definitions of tdf_bind.
-pub use Rattle.tdf_dynamic.specs.low.bind.Actors
-pub use Rattle.tdf_dynamic.specs.low.bind.Flat
-pub use Rattle.tdf_dynamic.specs.low.bind.Ranges
-pub use Rattle.tdf_dynamic.specs.low.bind.declared

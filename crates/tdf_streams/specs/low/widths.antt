@@ -1,2 +1,0 @@
--- Definitions of tdf_widths.
-pub use Rattle.tdf_dynamic.specs.low.widths.Bodies

@@ -1,8 +1,0 @@
--- Definitions of tdf_wiring.
-pub use Rattle.tdf_dynamic.specs.low.wiring.Drivers
-pub use Rattle.tdf_dynamic.specs.low.wiring.Edges
-pub use Rattle.tdf_dynamic.specs.low.wiring.Modules
-pub use Rattle.tdf_dynamic.specs.low.wiring.ProcessBlocks
-pub use Rattle.tdf_dynamic.specs.low.wiring.Traces
-pub use Rattle.tdf_dynamic.specs.low.wiring.Writers
-pub use Rattle.tdf_dynamic.specs.low.wiring.declared

@@ -1,5 +1,0 @@
-use Rattle.tdf_tokens.proofs.WordLaws.{words_are_read, symbols_are_read}
-use Rattle.tdf_tokens.proofs.laws.law_words.Goals as goal
-
-pub returns : goal.returns
-returns c = record { words = words_are_read; symbols = symbols_are_read }

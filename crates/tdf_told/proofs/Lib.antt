@@ -1,3 +1,0 @@
-pub mod Api
-mod Tables
-mod Texts

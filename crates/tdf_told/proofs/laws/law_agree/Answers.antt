@@ -1,5 +1,0 @@
-use Rattle.tdf_told.proofs.Tables.{agree_law}
-use Rattle.tdf_told.proofs.laws.law_agree.Goals as goal
-
-pub returns : goal.returns
-returns c = agree_law c.law_one_answer.ensures

@@ -1,5 +1,0 @@
-use Rattle.tdf_told.proofs.Texts.{more_writes_the_same}
-use Rattle.tdf_told.proofs.laws.law_told.Goals as goal
-
-pub returns : goal.returns
-returns c = more_writes_the_same

@@ -1,6 +1,0 @@
--- What the crates further below define, for the crates above.
-pub mod base
-pub mod fixed
-pub mod in_out
-pub mod rows
-pub mod words

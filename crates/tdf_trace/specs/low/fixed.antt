@@ -1,2 +1,0 @@
--- Definitions of tdf_fixed.
-pub use Rattle.tdf_fixed.specs.declared

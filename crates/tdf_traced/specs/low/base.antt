@@ -1,4 +1,0 @@
--- Definitions of tdf_base.
-pub use Rattle.tdf_run.specs.low.base.Fault
-pub use Rattle.tdf_run.specs.low.base.Limits
-pub use Rattle.tdf_run.specs.low.base.declared

@@ -1,3 +1,0 @@
--- Definitions of tdf_fixed.
-pub use Rattle.tdf_run.specs.low.fixed.Cast
-pub use Rattle.tdf_run.specs.low.fixed.declared

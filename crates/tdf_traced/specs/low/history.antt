@@ -1,7 +1,0 @@
--- Definitions of tdf_history.
-pub use Rattle.tdf_run.specs.low.history.Answers
-pub use Rattle.tdf_run.specs.low.history.Cells
-pub use Rattle.tdf_run.specs.low.history.Instant
-pub use Rattle.tdf_run.specs.low.history.Start
-pub use Rattle.tdf_run.specs.low.history.Texts
-pub use Rattle.tdf_run.specs.low.history.World

@@ -1,2 +1,0 @@
--- Definitions of tdf_layout.
-pub use Rattle.tdf_run.specs.low.layout.Traced

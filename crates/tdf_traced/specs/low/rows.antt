@@ -1,6 +1,0 @@
--- Definitions of tdf_rows.
-pub use Rattle.tdf_run.specs.low.rows.Laws
-pub use Rattle.tdf_run.specs.low.rows.Noted
-pub use Rattle.tdf_run.specs.low.rows.Positions
-pub use Rattle.tdf_run.specs.low.rows.Rows
-pub use Rattle.tdf_run.specs.low.rows.declared

@@ -1,7 +1,0 @@
-use Rattle.std.proofs.Common.{◌≡◌, take}
-use Rattle.std.specs.Prelude.{map}
-use Rattle.tdf_walk.specs.machine.Walk.{number_of}
-use Rattle.tdf_walk.proofs.walk.numbers_of.Given as goal
-
-abbrev pub invariant-loop-target : goal.invariant-loop-target
-invariant-loop-target l = l.numbers.items ≡ map (number_of l.own l.outer) (take l.target-index l.target-items)

@@ -1,6 +1,0 @@
-use Rattle.std.proofs.Common.{take}
-use Rattle.tdf_walk.specs.machine.Walk.{IsPut}
-use Rattle.tdf_walk.proofs.walk.put_signals.Given as goal
-
-abbrev pub invariant-loop-line : goal.invariant-loop-line
-invariant-loop-line l = IsPut l.path (take l.line-index l.line-items) l.initial.tables l.own.items l.tables

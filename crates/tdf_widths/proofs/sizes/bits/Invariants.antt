@@ -1,7 +1,0 @@
--- No count so far was enough.
-use Rattle.std.proofs.Common.{◌≡◌, ◌-◌}
-use Rattle.tdf_scope.specs.Width.{bits_from}
-use Rattle.tdf_widths.proofs.sizes.bits.Given as goal
-
-abbrev pub invariant-loop-bits : goal.invariant-loop-bits
-invariant-loop-bits l = bits_from l.n l.bits (60 - l.bits) ≡ bits_from l.n 0 60

@@ -1,6 +1,0 @@
-use Rattle.tdf_wiring.proofs.BlockLoops.{block_more}
-use Rattle.tdf_wiring.proofs.blocks.process_blocks_of.Goals as goal
-
-pub loop-instance-preserved : goal.loop-instance-preserved
-loop-instance-preserved c = block_more c.args.roles.now c.args.instances.now c.loop-instance.instance-index c.instance-item.result c.loop-instance.all c.put_instance.new.all
-    c.loop-instance-test.true c.loop-instance.invariant c.instance-item.is c.in_ok-put_instance.ensures

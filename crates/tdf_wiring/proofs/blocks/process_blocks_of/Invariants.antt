@@ -1,6 +1,0 @@
-use Rattle.std.proofs.Common.{take}
-use Rattle.tdf_wiring.specs.ProcessBlocks.{AreProcessBlocks}
-use Rattle.tdf_wiring.proofs.blocks.process_blocks_of.Given as goal
-
-abbrev pub invariant-loop-instance : goal.invariant-loop-instance
-invariant-loop-instance l = AreProcessBlocks l.roles (take l.instance-index l.instances) l.all

@@ -1,6 +1,0 @@
-use Rattle.std.proofs.Common.{take}
-use Rattle.tdf_wiring.specs.Drivers.{AreDrivers}
-use Rattle.tdf_wiring.proofs.drivers.drivers_of.Given as goal
-
-abbrev pub invariant-loop-i : goal.invariant-loop-i
-invariant-loop-i l = AreDrivers l.count (take l.i l.writers) l.drivers.items

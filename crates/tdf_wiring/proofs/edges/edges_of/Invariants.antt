@@ -1,5 +1,0 @@
-use Rattle.tdf_wiring.specs.machine.EdgeSteps.{EdgesUpTo}
-use Rattle.tdf_wiring.proofs.edges.edges_of.Given as goal
-
-abbrev pub invariant-loop-number : goal.invariant-loop-number
-invariant-loop-number l = EdgesUpTo l.modules l.signals l.ports l.number l.actor l.edges.items

@@ -1,9 +1,0 @@
-pub mod Drivers
-pub mod Edges
-pub mod Modules
-pub mod ProcessBlocks
-pub mod Roles
-pub mod Traces
-pub mod Writers
-pub mod low
-pub mod machine

@@ -1,9 +1,0 @@
-//! What holds of the command.
-
-ghost use Rattle.tdf_words.specs.Worked.{AreRefused, AreShortRuns};
-
-/// Five ways to say `run --stop 3us`, and six faults of words.
-pub fn law_worked()
-    ensures runs { AreShortRuns }
-    ensures refused { AreRefused }
-{}

@@ -1,5 +1,0 @@
-use Rattle.tdf_world.proofs.Staying.{cells_stay}
-use Rattle.tdf_world.proofs.laws.law_cells_stay.Goals as goal
-
-pub returns : goal.returns
-returns c = cells_stay

@@ -1,5 +1,0 @@
-use Rattle.tdf_world.proofs.Known.{is_there}
-use Rattle.tdf_world.proofs.laws.law_samples_there.Goals as goal
-
-pub returns : goal.returns
-returns c = λ model flat number d port out time j has low at. is_there model flat number d has port out time low j at

@@ -1,4 +1,0 @@
-pub mod Continuing
-pub mod Laws
-pub mod Rules
-pub mod low

@@ -1,2 +1,0 @@
--- Definitions of tdf_instants.
-pub use Rattle.tdf_history.specs.low.instants.History

@@ -1,2 +1,0 @@
--- Definitions of tdf_notes.
-pub use Rattle.tdf_history.specs.low.notes.Plans
