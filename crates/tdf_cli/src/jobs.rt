@@ -1,17 +1,17 @@
 //! What each outcome writes, but for runs.
 
 ghost use Rattle.std.specs.Io.KnownBytes.{Appends};
-ghost use Rattle.std.specs.Prelude.{◌≡◌, ◌⊎◌, ◌≤◌, ◌<◌, List, ℕ, Err, length, IfOk, OnErr, OnOk, IsErrOf};
+ghost use Rattle.std.specs.Prelude.{◌≡◌, ◌≤◌, ◌<◌, List, ℕ, Err, length, IfOk, OnErr, OnOk};
 ghost use Rattle.tdf_base.specs.Limits.{longest_text};
 ghost use Rattle.tdf_lang_parser.specs.Formed.{IsFormed};
 ghost use Rattle.tdf_lang_parser.specs.Refused.{SpellsText};
-ghost use Rattle.tdf_cli.specs.Input.{NoMemory, Reading, Text, reading, IsReady};
+ghost use Rattle.tdf_cli.specs.Input.{NoMemory, Text, reading, IsReady};
 ghost use Rattle.tdf_cli.specs.Outcome.{WritesNothingOrFront, WritesOutcome, accepted_text};
 ghost use Rattle.tdf_cli.specs.declared.status.Status.TheVariants.{Done};
 ghost use Rattle.tdf_lang_printer.specs.Canon.{canon};
 ghost use Rattle.tdf_cli.specs.machine.Texts.{IsCheckText, IsPlanText};
 ghost use Rattle.tdf_io.specs.Bytes.{AppendsFront};
-ghost use Rattle.tdf_io.specs.Faults.{FaultsRose};
+ghost use Rattle.tdf_io.specs.Faults.{CountsTwoSinks};
 ghost use Rattle.tdf_io.specs.declared.writing.SinkErr.TheVariants as why;
 ghost use Rattle.tdf_sim.specs.Accepted.{IsAccepted};
 ghost use Rattle.tdf_sim.specs.PlanText.{IsPrintable, plans_text};
@@ -109,9 +109,8 @@ fn put_texts<O: Sink, N: Sink>(texts: &Texts, out: &mut O, notes: &mut N) -> Res
     ensures notes { OnOk result (Appends (N.taken notes.old) (N.taken notes.new) texts.now.note.items) }
     ensures out_part { OnErr result (AppendsFront (O.taken out.old) (O.taken out.new) texts.now.output.items) }
     ensures notes_part { OnErr result (AppendsFront (N.taken notes.old) (N.taken notes.new) texts.now.note.items) }
-    ensures cause { IsErrOf result why.Failed → FaultsRose (O.faults out.old) (O.faults out.new) ⊎ FaultsRose (N.faults notes.old) (N.faults notes.new) }
-    ensures out_kept { ¬ IsErrOf result why.Failed → O.faults out.new ≡ O.faults out.old }
-    ensures notes_kept { ¬ IsErrOf result why.Failed → N.faults notes.new ≡ N.faults notes.old }
+    ensures counts { CountsTwoSinks why.Failed (O.faults out.old) (O.faults out.new)
+        (N.faults notes.old) (N.faults notes.new) result }
 {
     match put_all(out, &texts.output) {
         Ok(()) => noted(notes, &texts.note, Status::Done),
@@ -132,9 +131,8 @@ fn check<O: Sink, N: Sink>(
         (O.taken out.old) (O.taken out.new) (N.taken notes.old) (N.taken notes.new)) }
     ensures part { OnErr result ((text : List ℕ) → SpellsText text (pure_tree tree.now) → WritesNothingOrFront (Text Check text)
         (O.taken out.old) (O.taken out.new) (N.taken notes.old) (N.taken notes.new)) }
-    ensures cause { IsErrOf result why.Failed → FaultsRose (O.faults out.old) (O.faults out.new) ⊎ FaultsRose (N.faults notes.old) (N.faults notes.new) }
-    ensures out_kept { ¬ IsErrOf result why.Failed → O.faults out.new ≡ O.faults out.old }
-    ensures notes_kept { ¬ IsErrOf result why.Failed → N.faults notes.new ≡ N.faults notes.old }
+    ensures counts { CountsTwoSinks why.Failed (O.faults out.old) (O.faults out.new)
+        (N.faults notes.old) (N.faults notes.new) result }
 {
     law_one_outcome();
     match check_texts(alloc, tree, sim) {
@@ -157,9 +155,8 @@ fn plan<O: Sink, N: Sink>(
         (O.taken out.old) (O.taken out.new) (N.taken notes.old) (N.taken notes.new)) }
     ensures part { OnErr result ((text : List ℕ) → SpellsText text (pure_tree tree.now) → WritesNothingOrFront (Text Plan text)
         (O.taken out.old) (O.taken out.new) (N.taken notes.old) (N.taken notes.new)) }
-    ensures cause { IsErrOf result why.Failed → FaultsRose (O.faults out.old) (O.faults out.new) ⊎ FaultsRose (N.faults notes.old) (N.faults notes.new) }
-    ensures out_kept { ¬ IsErrOf result why.Failed → O.faults out.new ≡ O.faults out.old }
-    ensures notes_kept { ¬ IsErrOf result why.Failed → N.faults notes.new ≡ N.faults notes.old }
+    ensures counts { CountsTwoSinks why.Failed (O.faults out.old) (O.faults out.new)
+        (N.faults notes.old) (N.faults notes.new) result }
 {
     law_one_outcome();
     match plan_texts(alloc, sim) {
@@ -184,9 +181,8 @@ fn do_accepted<O: Sink, N: Sink>(
         (O.taken out.old) (O.taken out.new) (N.taken notes.old) (N.taken notes.new)) }
     ensures part { OnErr result ((text : List ℕ) → SpellsText text (pure_tree tree.now) → WritesNothingOrFront (Text job text)
         (O.taken out.old) (O.taken out.new) (N.taken notes.old) (N.taken notes.new)) }
-    ensures cause { IsErrOf result why.Failed → FaultsRose (O.faults out.old) (O.faults out.new) ⊎ FaultsRose (N.faults notes.old) (N.faults notes.new) }
-    ensures out_kept { ¬ IsErrOf result why.Failed → O.faults out.new ≡ O.faults out.old }
-    ensures notes_kept { ¬ IsErrOf result why.Failed → N.faults notes.new ≡ N.faults notes.old }
+    ensures counts { CountsTwoSinks why.Failed (O.faults out.old) (O.faults out.new)
+        (N.faults notes.old) (N.faults notes.new) result }
 {
     match job {
         Settings::Run { stop, kind, turns } => run(alloc, sim, stop, kind, turns, out, notes),
@@ -211,9 +207,8 @@ fn do_tree<O: Sink, N: Sink>(
         (O.taken out.old) (O.taken out.new) (N.taken notes.old) (N.taken notes.new)) }
     ensures part { OnErr result ((text : List ℕ) → SpellsText text (pure_tree tree.now) → WritesNothingOrFront (Text job text)
         (O.taken out.old) (O.taken out.new) (N.taken notes.old) (N.taken notes.new)) }
-    ensures cause { IsErrOf result why.Failed → FaultsRose (O.faults out.old) (O.faults out.new) ⊎ FaultsRose (N.faults notes.old) (N.faults notes.new) }
-    ensures out_kept { ¬ IsErrOf result why.Failed → O.faults out.new ≡ O.faults out.old }
-    ensures notes_kept { ¬ IsErrOf result why.Failed → N.faults notes.new ≡ N.faults notes.old }
+    ensures counts { CountsTwoSinks why.Failed (O.faults out.old) (O.faults out.new)
+        (N.faults notes.old) (N.faults notes.new) result }
 {
     law_one_outcome();
     match elaborate_tree(alloc, tree) {
@@ -237,9 +232,8 @@ fn do_text<O: Sink, N: Sink>(
         (O.taken out.old) (O.taken out.new) (N.taken notes.old) (N.taken notes.new)) }
     ensures part { OnErr result (WritesNothingOrFront (Text job text.now.items)
         (O.taken out.old) (O.taken out.new) (N.taken notes.old) (N.taken notes.new)) }
-    ensures cause { IsErrOf result why.Failed → FaultsRose (O.faults out.old) (O.faults out.new) ⊎ FaultsRose (N.faults notes.old) (N.faults notes.new) }
-    ensures out_kept { ¬ IsErrOf result why.Failed → O.faults out.new ≡ O.faults out.old }
-    ensures notes_kept { ¬ IsErrOf result why.Failed → N.faults notes.new ≡ N.faults notes.old }
+    ensures counts { CountsTwoSinks why.Failed (O.faults out.old) (O.faults out.new)
+        (N.faults notes.old) (N.faults notes.new) result }
 {
     law_one_outcome();
     match parse(alloc, text) {
@@ -263,9 +257,8 @@ pub(crate) fn finish<O: Sink, N: Sink>(
         (O.taken out.old) (O.taken out.new) (N.taken notes.old) (N.taken notes.new)) }
     ensures part { OnErr result (WritesNothingOrFront (reading input.now)
         (O.taken out.old) (O.taken out.new) (N.taken notes.old) (N.taken notes.new)) }
-    ensures cause { IsErrOf result why.Failed → FaultsRose (O.faults out.old) (O.faults out.new) ⊎ FaultsRose (N.faults notes.old) (N.faults notes.new) }
-    ensures out_kept { ¬ IsErrOf result why.Failed → O.faults out.new ≡ O.faults out.old }
-    ensures notes_kept { ¬ IsErrOf result why.Failed → N.faults notes.new ≡ N.faults notes.old }
+    ensures counts { CountsTwoSinks why.Failed (O.faults out.old) (O.faults out.new)
+        (N.faults notes.old) (N.faults notes.new) result }
     ensures cut { reading input.now ≡ NoMemory → result ≡ Err why.Memory }
 {
     law_one_outcome();

@@ -1,11 +1,11 @@
 //! The job `run`.
 
-ghost use Rattle.std.specs.Prelude.{◌≡◌, ◌⊎◌, ◌*◌, ◌<◌, ℕ, List, true, None, Some, IfOk, IfSome, IsErrOf, OnErr, if◌then◌else◌, nat_lt};
+ghost use Rattle.std.specs.Prelude.{◌≡◌, ◌*◌, ◌<◌, ℕ, List, None, Some, IfOk, IfSome, OnErr, if◌then◌else◌, nat_lt};
 ghost use Rattle.tdf_base.specs.Limits.{time_end};
 ghost use Rattle.tdf_lang_parser.specs.Refused.{SpellsText};
 ghost use Rattle.tdf_cli.specs.Input.{Text};
 ghost use Rattle.tdf_cli.specs.Outcome.{WritesNothingOrFront, WritesOutcome, status_of, stop_in};
-ghost use Rattle.tdf_io.specs.Faults.{FaultsRose};
+ghost use Rattle.tdf_io.specs.Faults.{CountsTwoSinks};
 ghost use Rattle.tdf_io.specs.declared.writing.SinkErr.TheVariants as why;
 ghost use Rattle.tdf_sim.specs.Runs.{IsAcceptedTree, IsSomeAccepted};
 ghost use Rattle.tdf_cli_words.specs.declared.asked.Settings.TheVariants.{Run};
@@ -72,9 +72,8 @@ fn run_to<O: Sink, N: Sink>(
     ensures part { (tree : PureTree) (text : List ℕ) (stop : ℕ) → SpellsText text tree → IsAcceptedTree tree sim → stop_in sim.flat.resolution stop ≡ Some end
         → OnErr result (WritesNothingOrFront (Text (Run stop kind turns) text)
         (O.taken out.old) (O.taken out.new) (N.taken notes.old) (N.taken notes.new)) }
-    ensures cause { IsErrOf result why.Failed → FaultsRose (O.faults out.old) (O.faults out.new) ⊎ FaultsRose (N.faults notes.old) (N.faults notes.new) }
-    ensures out_kept { ¬ IsErrOf result why.Failed → O.faults out.new ≡ O.faults out.old }
-    ensures notes_kept { ¬ IsErrOf result why.Failed → N.faults notes.new ≡ N.faults notes.old }
+    ensures counts { CountsTwoSinks why.Failed (O.faults out.old) (O.faults out.new)
+        (N.faults notes.old) (N.faults notes.new) result }
 {
     law_first_fault();
     law_one_model();
@@ -106,9 +105,8 @@ pub(crate) fn run<O: Sink, N: Sink>(
         (O.taken out.old) (O.taken out.new) (N.taken notes.old) (N.taken notes.new)) }
     ensures part { (tree : PureTree) (text : List ℕ) → SpellsText text tree → IsAcceptedTree tree sim → OnErr result (WritesNothingOrFront (Text (Run stop kind turns) text)
         (O.taken out.old) (O.taken out.new) (N.taken notes.old) (N.taken notes.new)) }
-    ensures cause { IsErrOf result why.Failed → FaultsRose (O.faults out.old) (O.faults out.new) ⊎ FaultsRose (N.faults notes.old) (N.faults notes.new) }
-    ensures out_kept { ¬ IsErrOf result why.Failed → O.faults out.new ≡ O.faults out.old }
-    ensures notes_kept { ¬ IsErrOf result why.Failed → N.faults notes.new ≡ N.faults notes.old }
+    ensures counts { CountsTwoSinks why.Failed (O.faults out.old) (O.faults out.new)
+        (N.faults notes.old) (N.faults notes.new) result }
 {
     law_one_outcome();
     match stop_in(sim.flat.resolution, stop) {

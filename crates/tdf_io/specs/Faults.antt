@@ -1,5 +1,5 @@
 -- What a call of a device does to its count of faults. (own)
-use Rattle.std.specs.Prelude.{◌≡◌, ℕ, ◌+◌, ◌-◌, ◌^◌, ◌≤◌, min, Result, OnOk, OnErr, IfErr, MatchResult, ◌≢◌}
+use Rattle.std.specs.Prelude.{◌≡◌, ◌⊎◌, ℕ, ◌+◌, ◌-◌, ◌^◌, ◌≤◌, min, Result, IsErrOf, OnOk, OnErr, IfErr, MatchResult, ◌≢◌}
 use Rattle.tdf_io.specs.declared.writing.SinkErr.{SinkErr}
 use Rattle.tdf_io.specs.declared.writing.SinkErr.TheVariants.{Failed}
 
@@ -26,3 +26,12 @@ pub record CountsSinkFaults {T : Type 0} (before now : ℕ) (result : Result T S
   pub later : before ≤ now
   pub kept : MatchResult result (λ _. now ≡ before) (λ error. error ≢ Failed → now ≡ before)
   pub rose : IfErr result (λ error. error ≡ Failed → FaultsRose before now)
+
+-- a call that writes on two sinks, and answers with this error where a write failed: then a count of
+-- faults of one of them rose, and with every other answer both are as they were
+pub record CountsTwoSinks {T E : Type 0} (failed : E)
+    (out_before out_now notes_before notes_now : ℕ) (result : Result T E) : Type 0 where
+  pub rose : IsErrOf result failed
+      → FaultsRose out_before out_now ⊎ FaultsRose notes_before notes_now
+  pub out_kept : (IsErrOf result failed → ⊥) → out_now ≡ out_before
+  pub notes_kept : (IsErrOf result failed → ⊥) → notes_now ≡ notes_before

@@ -1,25 +1,11 @@
 //! A run of a model that was accepted.
 
-use tdf_io::{Sink, SinkErr};
-
-/// Why a run did not end.
-#[derive(Drop)]
-pub enum RunErr {
-    /// A write failed.
-    WriteFault,
-    /// Out of memory.
-    Memory,
-}
-
-ghost use Rattle.std.specs.Io.KnownBytes.{Appends};
-ghost use Rattle.std.specs.Prelude.{◌≡◌, ◌<◌, ◌⊎◌, ℕ, List, IfOk, IsErrOf, OnErr, OnOk};
+ghost use Rattle.std.specs.Prelude.{◌≡◌, ◌<◌, List, OnOk};
 ghost use Rattle.tdf_base.specs.Limits.{time_end};
-ghost use Rattle.tdf_io.specs.Bytes.{AppendsFront};
-ghost use Rattle.tdf_io.specs.Faults.{FaultsRose};
-ghost use Rattle.tdf_sim_runs.specs.Runs.{IsLeft, trace_of};
+ghost use Rattle.tdf_io.specs.Faults.{CountsTwoSinks};
+ghost use Rattle.tdf_sim_runs.specs.Runs.{RunsAs};
 ghost use Rattle.tdf_sim_history.specs.World.{Change};
-ghost use Rattle.tdf_sim_notes.specs.Ending.{HaveAnswers, run_end, run_note};
-ghost use Rattle.tdf_sim_notes.specs.declared.ending.End.TheVariants.{Reached};
+ghost use Rattle.tdf_sim_notes.specs.Ending.{HaveAnswers};
 ghost use Rattle.tdf_sim.specs.Runs.{IsAcceptedTree, IsSomeAccepted};
 ghost use Rattle.tdf_sim.specs.declared.run.RunErr.TheVariants as why;
 ghost use Rattle.tdf_sim.specs.machine.Steps.{by_sink};
@@ -30,7 +16,17 @@ use std::alloc::Global;
 use tdf_bind_invariants::law_limits;
 use tdf_cli_words::TraceKind;
 use tdf_events_invariants::law_runnable;
+use tdf_io::{Sink, SinkErr};
 use tdf_sim_runs::{Ran, run_model};
+
+/// Why a run did not end.
+#[derive(Drop)]
+pub enum RunErr {
+    /// A write failed.
+    WriteFault,
+    /// Out of memory.
+    Memory,
+}
 
 /// What a sink answered.
 fn by_sink(error: SinkErr) -> RunErr
@@ -64,38 +60,13 @@ impl Sim {
         ensures answered { (tree : PureTree) → IsAcceptedTree tree self
             → OnOk result ((ahead : List (List Change))
             × HaveAnswers tree self.flat self.firsts.items ahead stop turns) }
-        ensures end { (tree : PureTree) → IsAcceptedTree tree self → (ahead : List (List Change))
-            → HaveAnswers tree self.flat self.firsts.items ahead stop turns → IfOk result (λ ran.
-            ran.end ≡ run_end tree self.flat self.firsts.items ahead stop turns) }
-        ensures trace { (tree : PureTree) → IsAcceptedTree tree self → (ahead : List (List Change))
-            → HaveAnswers tree self.flat self.firsts.items ahead stop turns → OnOk result
-            (Appends (O.taken out.old) (O.taken out.new)
-            (trace_of kind tree self.flat self.firsts.items ahead stop turns)) }
-        ensures notes { (tree : PureTree) → IsAcceptedTree tree self → (ahead : List (List Change))
-            → HaveAnswers tree self.flat self.firsts.items ahead stop turns → OnOk result
-            (Appends (N.taken notes.old) (N.taken notes.new)
-            (run_note tree self.flat self.firsts.items ahead stop turns)) }
-        ensures trace_part { (tree : PureTree) → IsAcceptedTree tree self
+        ensures runs { (tree : PureTree) → IsAcceptedTree tree self
             → (ahead : List (List Change))
-            → HaveAnswers tree self.flat self.firsts.items ahead stop turns → OnErr result
-            (AppendsFront (O.taken out.old) (O.taken out.new)
-            (trace_of kind tree self.flat self.firsts.items ahead stop turns)) }
-        ensures notes_part { (tree : PureTree) → IsAcceptedTree tree self
-            → (ahead : List (List Change))
-            → HaveAnswers tree self.flat self.firsts.items ahead stop turns → OnErr result
-            (AppendsFront (N.taken notes.old) (N.taken notes.new)
-            (run_note tree self.flat self.firsts.items ahead stop turns)) }
-        ensures cause { IsErrOf result why.WriteFault
-            → FaultsRose (O.faults out.old) (O.faults out.new)
-            ⊎ FaultsRose (N.faults notes.old) (N.faults notes.new) }
-        ensures out_kept { ¬ IsErrOf result why.WriteFault
-            → O.faults out.new ≡ O.faults out.old }
-        ensures notes_kept { ¬ IsErrOf result why.WriteFault
-            → N.faults notes.new ≡ N.faults notes.old }
-        ensures left { (tree : PureTree) → IsAcceptedTree tree self → (ahead : List (List Change))
-            → HaveAnswers tree self.flat self.firsts.items ahead stop turns → IfOk result (λ ran.
-            (time taken : ℕ) → ran.end ≡ Reached time taken
-            → IsLeft tree self.flat self.firsts.items ahead stop turns ran) }
+            → HaveAnswers tree self.flat self.firsts.items ahead stop turns
+            → RunsAs kind tree self.flat self.firsts.items ahead stop turns (O.taken out.old)
+            (O.taken out.new) (N.taken notes.old) (N.taken notes.new) result }
+        ensures counts { CountsTwoSinks why.WriteFault (O.faults out.old) (O.faults out.new)
+            (N.faults notes.old) (N.faults notes.new) result }
     {
         law_limits();
         law_runnable();

@@ -1,6 +1,7 @@
 -- A whole run: what a model has so that it can run, what the run writes, and what it leaves.
 -- Source: own.
-use Rattle.std.specs.Prelude.{◌≡◌, ℕ, List, map}
+use Rattle.std.specs.Io.KnownBytes.{Appends}
+use Rattle.std.specs.Prelude.{◌≡◌, ℕ, List, Option, Result, map, IfOk, OnErr, OnOk}
 use Rattle.tdf_dynamic_first.specs.declared.first.First.{First}
 use Rattle.tdf_sim_instants.specs.InstantLaws.{IsModelOf}
 use Rattle.tdf_sim_instants.specs.Making.{HavePlans}
@@ -13,7 +14,9 @@ use Rattle.tdf_sim_history.specs.Telling.{untold}
 use Rattle.tdf_sim_history.specs.World.{Change, World}
 use Rattle.tdf_sim_history.specs.History.{On}
 use Rattle.tdf_sim_runs.specs.declared.run.Ran.{Ran}
-use Rattle.tdf_sim_notes.specs.Ending.{state_of}
+use Rattle.tdf_io.specs.Bytes.{AppendsFront}
+use Rattle.tdf_sim_notes.specs.Ending.{run_end, run_note, state_of}
+use Rattle.tdf_sim_notes.specs.declared.ending.End.TheVariants.{Reached}
 use Rattle.tdf_sim_notes.specs.Plans.{ArePrintable}
 use Rattle.tdf_sim_refinement.specs.Pass.{AreAt}
 use Rattle.tdf_sim_traces.specs.Variables.{variables_of}
@@ -51,3 +54,21 @@ pub record IsLeft (model : PureTree) (flat : Flat) (firsts : List First)
   pub clusters : AreAt model flat since (map untold world.clusters) ran.clusters.items
   pub kernel : side_of ran.kernel ≡ world.events
   pub going : IsKernelOf flat ran.kernel
+
+-- a run writes the trace and the notes of the history that is told this, and ends as it does; one
+-- that did not end wrote front parts of both
+pub record RunsAs {E : Type 0} (kind : TraceKind) (model : PureTree) (flat : Flat)
+    (firsts : List First) (ahead : List (List Change)) (stop turns : ℕ)
+    (out_old out_new notes_old notes_new : Option (List ℕ)) (result : Result Ran E)
+    : Type 0 where
+  pub end : IfOk result (λ ran. ran.end ≡ run_end model flat firsts ahead stop turns)
+  pub trace : OnOk result
+      (Appends out_old out_new (trace_of kind model flat firsts ahead stop turns))
+  pub notes : OnOk result
+      (Appends notes_old notes_new (run_note model flat firsts ahead stop turns))
+  pub trace_part : OnErr result
+      (AppendsFront out_old out_new (trace_of kind model flat firsts ahead stop turns))
+  pub notes_part : OnErr result
+      (AppendsFront notes_old notes_new (run_note model flat firsts ahead stop turns))
+  pub left : IfOk result (λ ran. (time taken : ℕ) → ran.end ≡ Reached time taken
+      → IsLeft model flat firsts ahead stop turns ran)

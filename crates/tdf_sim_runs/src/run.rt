@@ -16,18 +16,18 @@ pub struct Ran {
 }
 
 ghost use Rattle.std.specs.Io.KnownBytes.{Appends};
-ghost use Rattle.std.specs.Prelude.{◌≡◌, ◌<◌, ◌≤◌, ◌++◌, ◌⊎◌, ℕ, List, [], length, IfOk, IsErrOf, OnErr, OnOk};
+ghost use Rattle.std.specs.Prelude.{◌≡◌, ◌<◌, ◌≤◌, ◌++◌, List, [], length, IfOk, OnErr, OnOk};
 ghost use Rattle.tdf_base.specs.Limits.{time_end};
 ghost use Rattle.tdf_trace.specs.Tracked.{AreSince};
 ghost use Rattle.tdf_sim_instants.specs.InstantLaws.{IsModelOf};
 ghost use Rattle.tdf_io.specs.Bytes.{AppendsFront, WritesText};
-ghost use Rattle.tdf_io.specs.Faults.{CountsSinkFaults, FaultsRose};
+ghost use Rattle.tdf_io.specs.Faults.{CountsSinkFaults, CountsTwoSinks};
 ghost use Rattle.tdf_io.specs.declared.writing.SinkErr.TheVariants.{Failed};
 ghost use Rattle.tdf_sim_runs.specs.Ending.{WritesEnd, end_by};
 ghost use Rattle.tdf_sim_runs.specs.machine.Whole.{HasEnded};
 ghost use Rattle.tdf_sim_runs.specs.Running.{CanGoOn, IsRunningAt};
-ghost use Rattle.tdf_sim_runs.specs.Runs.{CanRun, IsLeft, model_about, trace_of};
-ghost use Rattle.tdf_sim_notes.specs.Ending.{HaveAnswers, end_text, run_end, run_note};
+ghost use Rattle.tdf_sim_runs.specs.Runs.{CanRun, RunsAs, model_about, trace_of};
+ghost use Rattle.tdf_sim_notes.specs.Ending.{HaveAnswers, end_text};
 ghost use Rattle.tdf_sim_notes.specs.declared.ending.End.TheVariants.{Reached};
 ghost use Rattle.tdf_trace.specs.Writings.{head_of};
 ghost use Rattle.tdf_trace.specs.declared.stage.Stage.TheVariants.{Open};
@@ -212,35 +212,12 @@ pub fn run_model<O: Sink, N: Sink>(
     requires stop { stop < time_end }
     ensures answered { (model : PureTree) → IsModelOf model flat.now → OnOk result
         ((ahead : List (List Change)) × HaveAnswers model flat.now firsts.items ahead stop turns) }
-    ensures end { (model : PureTree) → IsModelOf model flat.now
+    ensures runs { (model : PureTree) → IsModelOf model flat.now
         → (ahead : List (List Change)) → HaveAnswers model flat.now firsts.items ahead stop turns
-        → IfOk result (λ ran.
-        ran.end ≡ run_end model flat.now firsts.items ahead stop turns) }
-    ensures trace { (model : PureTree) → IsModelOf model flat.now
-        → (ahead : List (List Change)) → HaveAnswers model flat.now firsts.items ahead stop turns
-        → OnOk result (Appends (O.taken out.old) (O.taken out.new)
-        (trace_of kind model flat.now firsts.items ahead stop turns)) }
-    ensures notes { (model : PureTree) → IsModelOf model flat.now
-        → (ahead : List (List Change)) → HaveAnswers model flat.now firsts.items ahead stop turns
-        → OnOk result (Appends (N.taken notes.old) (N.taken notes.new)
-        (run_note model flat.now firsts.items ahead stop turns)) }
-    ensures trace_part { (model : PureTree) → IsModelOf model flat.now
-        → (ahead : List (List Change)) → HaveAnswers model flat.now firsts.items ahead stop turns
-        → OnErr result (AppendsFront (O.taken out.old) (O.taken out.new)
-        (trace_of kind model flat.now firsts.items ahead stop turns)) }
-    ensures notes_part { (model : PureTree) → IsModelOf model flat.now
-        → (ahead : List (List Change)) → HaveAnswers model flat.now firsts.items ahead stop turns
-        → OnErr result (AppendsFront (N.taken notes.old) (N.taken notes.new)
-        (run_note model flat.now firsts.items ahead stop turns)) }
-    ensures cause { IsErrOf result Failed → FaultsRose (O.faults out.old) (O.faults out.new)
-        ⊎ FaultsRose (N.faults notes.old) (N.faults notes.new) }
-    ensures out_kept { ¬ IsErrOf result Failed → O.faults out.new ≡ O.faults out.old }
-    ensures notes_kept { ¬ IsErrOf result Failed → N.faults notes.new ≡ N.faults notes.old }
-    ensures left { (model : PureTree) → IsModelOf model flat.now
-        → (ahead : List (List Change)) → HaveAnswers model flat.now firsts.items ahead stop turns
-        → IfOk result (λ ran.
-        (time taken : ℕ) → ran.end ≡ Reached time taken
-        → IsLeft model flat.now firsts.items ahead stop turns ran) }
+        → RunsAs kind model flat.now firsts.items ahead stop turns (O.taken out.old)
+        (O.taken out.new) (N.taken notes.old) (N.taken notes.new) result }
+    ensures counts { CountsTwoSinks Failed (O.faults out.old) (O.faults out.new)
+        (N.faults notes.old) (N.faults notes.new) result }
 {
     law_report();
     law_one_answer();

@@ -3,40 +3,56 @@ use Rattle.tdf_sim_runs.proofs.Noting.{notes_part, notes_whole, plans_part, plan
 use Rattle.tdf_sim_runs.proofs.run.run_model.Goals as goal
 use Rattle.tdf_sim_runs.specs.Runs.{trace_of}
 
-pub returns-in-Err-clause-trace_part : goal.returns-in-Err-clause-trace_part
-returns-in-Err-clause-trace_part g c = λ model m ahead have. front_none (g.O.Sink.taken c.args.out.now) (trace_of c.args.kind model c.args.flat.now c.args.firsts.items ahead c.args.stop c.args.turns)
+pub returns-in-Err-clause-runs : goal.returns-in-Err-clause-runs
+returns-in-Err-clause-runs g c = λ model m ahead have. record {
+  end = tt;
+  trace = tt;
+  notes = tt;
+  trace_part = front_none (g.O.Sink.taken c.args.out.now) (trace_of c.args.kind model c.args.flat.now c.args.firsts.items ahead c.args.stop c.args.turns);
+  notes_part = plans_part c.law_report.ensures.notes model c.args.flat.now c.args.firsts.items c.deref.result.now c.deref.ensures.value ahead c.args.stop c.args.turns
+      (g.N.Sink.taken c.args.notes.now) (g.N.Sink.taken c.write_plans.new.notes) c.in-Err.ensures.part;
+  left = tt;
+}
 
-pub returns-in-Err-clause-notes_part : goal.returns-in-Err-clause-notes_part
-returns-in-Err-clause-notes_part g c = λ model m ahead have. plans_part c.law_report.ensures.notes model c.args.flat.now c.args.firsts.items c.deref.result.now c.deref.ensures.value ahead c.args.stop c.args.turns
-    (g.N.Sink.taken c.args.notes.now) (g.N.Sink.taken c.write_plans.new.notes) c.in-Err.ensures.part
-
-pub returns-in-Err-trace_run-clause-notes_part : goal.returns-in-Err-trace_run-clause-notes_part
-returns-in-Err-trace_run-clause-notes_part g c = λ model m ahead have. plans_whole c.law_report.ensures.notes model c.args.flat.now c.args.firsts.items c.deref.result.now c.deref.ensures.value ahead c.args.stop c.args.turns
-    (g.N.Sink.taken c.args.notes.now) (g.N.Sink.taken c.write_plans.new.notes) c.in_default.ensures.all
+pub returns-in-Err-trace_run-clause-runs : goal.returns-in-Err-trace_run-clause-runs
+returns-in-Err-trace_run-clause-runs g c = λ model m ahead have. record {
+  end = tt;
+  trace = tt;
+  notes = tt;
+  trace_part = c.in-Err-trace_run.ensures.part model m ahead have;
+  notes_part = plans_whole c.law_report.ensures.notes model c.args.flat.now c.args.firsts.items c.deref.result.now c.deref.ensures.value ahead c.args.stop c.args.turns
+      (g.N.Sink.taken c.args.notes.now) (g.N.Sink.taken c.write_plans.new.notes) c.in_default.ensures.all;
+  left = tt;
+}
 
 pub returns-in-Ok-write_notes-clause-answered : goal.returns-in-Ok-write_notes-clause-answered
 returns-in-Ok-write_notes-clause-answered g c = λ model m. (let ended = c.in-Ok.ensures.ended model m in (ended.ahead, ended.answers))
 
-pub returns-in-Ok-write_notes-clause-end : goal.returns-in-Ok-write_notes-clause-end
-returns-in-Ok-write_notes-clause-end g c = λ model m ahead have. (let ended = c.in-Ok.ensures.ended model m in ended.end ahead have)
+pub returns-in-Ok-write_notes-clause-runs : goal.returns-in-Ok-write_notes-clause-runs
+returns-in-Ok-write_notes-clause-runs g c = λ model m ahead have.
+    let ended = c.in-Ok.ensures.ended model m in
+    record {
+      end = ended.end ahead have;
+      trace = c.in-Ok.ensures.trace model m ahead have;
+      notes = notes_whole c.law_report.ensures.notes model c.args.flat.now c.args.firsts.items c.deref.result.now c.deref.ensures.value ahead c.args.stop c.args.turns
+          (g.N.Sink.taken c.args.notes.now) (g.N.Sink.taken c.write_plans.new.notes) c.in_default.ensures.all
+          c.in-Ok.whole.news.items (ended.news ahead have) c.in-Ok.whole.ran.end (ended.end ahead have) (g.N.Sink.taken c.write_notes.new.notes) c.in-Ok-write_notes.ensures.all;
+      trace_part = tt;
+      notes_part = tt;
+      left = ended.left ahead have;
+    }
 
-pub returns-in-Ok-write_notes-clause-left : goal.returns-in-Ok-write_notes-clause-left
-returns-in-Ok-write_notes-clause-left g c = λ model m ahead have. (let ended = c.in-Ok.ensures.ended model m in ended.left ahead have)
-
-pub returns-in-Ok-write_notes-clause-notes : goal.returns-in-Ok-write_notes-clause-notes
-returns-in-Ok-write_notes-clause-notes g c = λ model m ahead have.
-    (let ended = c.in-Ok.ensures.ended model m in
-    notes_whole c.law_report.ensures.notes model c.args.flat.now c.args.firsts.items c.deref.result.now c.deref.ensures.value ahead c.args.stop c.args.turns
-    (g.N.Sink.taken c.args.notes.now) (g.N.Sink.taken c.write_plans.new.notes) c.in_default.ensures.all
-    c.in-Ok.whole.news.items (ended.news ahead have) c.in-Ok.whole.ran.end (ended.end ahead have) (g.N.Sink.taken c.write_notes.new.notes) c.in-Ok-write_notes.ensures.all)
-
-pub returns-in-Err-write_notes-clause-trace_part : goal.returns-in-Err-write_notes-clause-trace_part
-returns-in-Err-write_notes-clause-trace_part g c = λ model m ahead have. front_whole (g.O.Sink.taken c.args.out.now) (g.O.Sink.taken c.trace_run.new.out)
-    (trace_of c.args.kind model c.args.flat.now c.args.firsts.items ahead c.args.stop c.args.turns) (c.in-Ok.ensures.trace model m ahead have)
-
-pub returns-in-Err-write_notes-clause-notes_part : goal.returns-in-Err-write_notes-clause-notes_part
-returns-in-Err-write_notes-clause-notes_part g c = λ model m ahead have.
-    (let ended = c.in-Ok.ensures.ended model m in
-    notes_part c.law_report.ensures.notes model c.args.flat.now c.args.firsts.items c.deref.result.now c.deref.ensures.value ahead c.args.stop c.args.turns
-    (g.N.Sink.taken c.args.notes.now) (g.N.Sink.taken c.write_plans.new.notes) c.in_default.ensures.all
-    c.in-Ok.whole.news.items (ended.news ahead have) c.in-Ok.whole.ran.end (ended.end ahead have) (g.N.Sink.taken c.write_notes.new.notes) c.in-Err-write_notes.ensures.part)
+pub returns-in-Err-write_notes-clause-runs : goal.returns-in-Err-write_notes-clause-runs
+returns-in-Err-write_notes-clause-runs g c = λ model m ahead have.
+    let ended = c.in-Ok.ensures.ended model m in
+    record {
+      end = tt;
+      trace = tt;
+      notes = tt;
+      trace_part = front_whole (g.O.Sink.taken c.args.out.now) (g.O.Sink.taken c.trace_run.new.out)
+          (trace_of c.args.kind model c.args.flat.now c.args.firsts.items ahead c.args.stop c.args.turns) (c.in-Ok.ensures.trace model m ahead have);
+      notes_part = notes_part c.law_report.ensures.notes model c.args.flat.now c.args.firsts.items c.deref.result.now c.deref.ensures.value ahead c.args.stop c.args.turns
+          (g.N.Sink.taken c.args.notes.now) (g.N.Sink.taken c.write_plans.new.notes) c.in_default.ensures.all
+          c.in-Ok.whole.news.items (ended.news ahead have) c.in-Ok.whole.ran.end (ended.end ahead have) (g.N.Sink.taken c.write_notes.new.notes) c.in-Err-write_notes.ensures.part;
+      left = tt;
+    }

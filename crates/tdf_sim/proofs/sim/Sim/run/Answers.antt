@@ -7,20 +7,12 @@ run_model-requires-clause-can g c = can_run c.law_limits.ensures c.law_runnable.
 pub returns-in-Ok-clause-answered : goal.returns-in-Ok-clause-answered
 returns-in-Ok-clause-answered g c = λ tree is. c.in-Ok.ensures.answered tree (can_run c.law_limits.ensures c.law_runnable.ensures tree c.args.self is).of
 
-pub returns-in-Ok-clause-end : goal.returns-in-Ok-clause-end
-returns-in-Ok-clause-end g c = λ tree is. c.in-Ok.ensures.end tree (can_run c.law_limits.ensures c.law_runnable.ensures tree c.args.self is).of
+pub returns-in-Ok-clause-runs : goal.returns-in-Ok-clause-runs
+returns-in-Ok-clause-runs g c = λ tree is ahead have.
+    let runs = c.in-Ok.ensures.runs tree (can_run c.law_limits.ensures c.law_runnable.ensures tree c.args.self is).of ahead have in
+    record { end = runs.end; trace = runs.trace; notes = runs.notes; trace_part = tt; notes_part = tt; left = runs.left }
 
-pub returns-in-Ok-clause-trace : goal.returns-in-Ok-clause-trace
-returns-in-Ok-clause-trace g c = λ tree is. c.in-Ok.ensures.trace tree (can_run c.law_limits.ensures c.law_runnable.ensures tree c.args.self is).of
-
-pub returns-in-Ok-clause-notes : goal.returns-in-Ok-clause-notes
-returns-in-Ok-clause-notes g c = λ tree is. c.in-Ok.ensures.notes tree (can_run c.law_limits.ensures c.law_runnable.ensures tree c.args.self is).of
-
-pub returns-in-Ok-clause-left : goal.returns-in-Ok-clause-left
-returns-in-Ok-clause-left g c = λ tree is. c.in-Ok.ensures.left tree (can_run c.law_limits.ensures c.law_runnable.ensures tree c.args.self is).of
-
-pub returns-in-Err-clause-trace_part : goal.returns-in-Err-clause-trace_part
-returns-in-Err-clause-trace_part g c = λ tree is. c.in-Err.ensures.trace_part tree (can_run c.law_limits.ensures c.law_runnable.ensures tree c.args.self is).of
-
-pub returns-in-Err-clause-notes_part : goal.returns-in-Err-clause-notes_part
-returns-in-Err-clause-notes_part g c = λ tree is. c.in-Err.ensures.notes_part tree (can_run c.law_limits.ensures c.law_runnable.ensures tree c.args.self is).of
+pub returns-in-Err-clause-runs : goal.returns-in-Err-clause-runs
+returns-in-Err-clause-runs g c = λ tree is ahead have.
+    let runs = c.in-Err.ensures.runs tree (can_run c.law_limits.ensures c.law_runnable.ensures tree c.args.self is).of ahead have in
+    record { end = tt; trace = tt; notes = tt; trace_part = runs.trace_part; notes_part = runs.notes_part; left = tt }
