@@ -4,13 +4,14 @@
 mod words;
 
 ghost use Rattle.std.specs.Prelude.{◌≡◌, ◌≢◌, ◌⊎◌, []};
-ghost use Rattle.tdf_cli.specs.Status.{write_fault};
+ghost use Rattle.tdf_cli.specs.Status.{no_memory, usage, write_fault};
+ghost use Rattle.tdf_io.specs.Faults.{FaultsRose};
 
 use crate::words::{Words, words_of};
 use std::io::Write;
 use std::process::ExitCode;
 use tdf_cli::{NO_MEMORY, USAGE, WRITE_FAULT, tool};
-use tdf_io::{StdSink, StdSource, put_all};
+use tdf_io::{SinkErr, StdSink, StdSource, put_all};
 
 /// Hands on what both streams have gathered, the output first: where that fails, what is left of the notes is dropped, so
 /// that they tell of no end that the output doesn't have. The status stands, unless one of them fails.
@@ -22,6 +23,8 @@ fn hand_on<O: Write + Drop, N: Write + Drop>(
     ensures answer { (result ≡ status) ⊎ (result ≡ write_fault) }
     ensures all { result ≢ write_fault → (out.new.waiting ≡ []) × (notes.new.waiting ≡ []) }
     ensures order { (out.new.waiting ≡ []) ⊎ (notes.new ≡ notes.old) }
+    ensures cause { result ≢ status → FaultsRose out.old.faults out.new.faults
+        ⊎ FaultsRose notes.old.faults notes.new.faults }
 {
     match out.flush() {
         Ok(()) => match notes.flush() {
@@ -33,10 +36,14 @@ fn hand_on<O: Write + Drop, N: Write + Drop>(
 }
 
 /// What is answered for words that the runtime can't tell as text: they aren't accepted.
-fn not_text<N: Write + Drop>(notes: &mut StdSink<N>) -> u8 {
+fn not_text<N: Write + Drop>(notes: &mut StdSink<N>) -> u8
+    ensures answer { (result ≡ usage) ⊎ (result ≡ write_fault) ⊎ (result ≡ no_memory) }
+    ensures cause { result ≡ write_fault → FaultsRose notes.old.faults notes.new.faults }
+{
     match put_all(notes, b"usage\n") {
         Ok(()) => USAGE,
-        Err(_) => WRITE_FAULT,
+        Err(SinkErr::Failed) => WRITE_FAULT,
+        Err(SinkErr::Memory) => NO_MEMORY,
     }
 }
 

@@ -1,7 +1,7 @@
 //! What each outcome writes, but for runs.
 
 ghost use Rattle.std.specs.Io.KnownBytes.{Appends};
-ghost use Rattle.std.specs.Prelude.{◌≡◌, ◌≤◌, ◌<◌, List, ℕ, Err, length, IfOk, OnErr, OnOk};
+ghost use Rattle.std.specs.Prelude.{◌≡◌, ◌⊎◌, ◌≤◌, ◌<◌, List, ℕ, Err, length, IfOk, OnErr, OnOk};
 ghost use Rattle.tdf_base.specs.Limits.{longest_text};
 ghost use Rattle.tdf_lang_parser.specs.Formed.{IsFormed};
 ghost use Rattle.tdf_lang_parser.specs.Refused.{SpellsText};
@@ -109,6 +109,7 @@ fn put_texts<O: Sink, N: Sink>(texts: &Texts, out: &mut O, notes: &mut N) -> Res
     ensures notes { OnOk result (Appends (N.taken notes.old) (N.taken notes.new) texts.now.note.items) }
     ensures out_part { OnErr result (AppendsFront (O.taken out.old) (O.taken out.new) texts.now.output.items) }
     ensures notes_part { OnErr result (AppendsFront (N.taken notes.old) (N.taken notes.new) texts.now.note.items) }
+    ensures order { OnErr result ((notes.new ≡ notes.old) ⊎ Appends (O.taken out.old) (O.taken out.new) texts.now.output.items) }
     ensures counts { CountsTwoSinks why.Failed (O.faults out.old) (O.faults out.new)
         (N.faults notes.old) (N.faults notes.new) result }
 {

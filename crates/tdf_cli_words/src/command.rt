@@ -8,7 +8,7 @@ ghost use Rattle.clap.specs.Walk.{rows_of};
 ghost use Rattle.clap.specs.declared.error.kind.ErrorKind.TheVariants.{OutOfMemory};
 ghost use Rattle.tdf_cli_words.specs.Command.{are_matched, command, given_of, option};
 ghost use Rattle.tdf_cli_words.specs.Words.{texts_of};
-ghost use Rattle.tdf_cli_words.specs.declared.asked.WordsErr.TheVariants.{Usage};
+ghost use Rattle.tdf_cli_words.specs.declared.asked.WordsErr.TheVariants.{Memory, Usage};
 
 use crate::asked::WordsErr;
 use clap::error::ErrorKind;
@@ -71,6 +71,7 @@ fn make_command<'a>(alloc: Global) -> Result<Command<'a>, AllocError>
 /// Why the words have no matches.
 fn refusal(error: &Error) -> WordsErr
     ensures usage { result ≡ Usage → kind_of error.now ≢ OutOfMemory }
+    ensures memory { result ≡ Memory → kind_of error.now ≡ OutOfMemory }
 {
     match error.kind() {
         ErrorKind::OutOfMemory => WordsErr::Memory,
