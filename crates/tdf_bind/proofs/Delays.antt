@@ -12,7 +12,7 @@ use Rattle.tdf_expr_blocks.specs.Lines.{attr_faults, initial_faults, tdf_line_fa
 use Rattle.tdf_expr_blocks.specs.Types.{global_faults, traces_faults, type_faults}
 use Rattle.tdf_base.proofs.Api.{if_none, none_first, none_second}
 use Rattle.tdf_base.specs.First.{fault_if}
-use Rattle.tdf_bind.proofs.Things.{AllThings, all_changed, all_named}
+use Rattle.tdf_expr.proofs.Api.{AllThings, all_changed, all_named}
 use Rattle.tdf_bind.specs.Laws.{DelaysAreShort}
 use Rattle.tdf_bind_ports.specs.Ports.{ports_of_tdf}
 use Rattle.tdf_expr_semantics.proofs.Api.{found}
@@ -29,7 +29,7 @@ use Rattle.tdf_lang_tree.specs.declared.stmt.Limit.{Limit}
 use Rattle.tdf_bind_connections.specs.declared.roles.PortData.{PortData}
 
 -- what a name stands for has no great delay
-abbrev IsShortThing : Thing → Type 0
+abbrev pub IsShortThing : Thing → Type 0
 IsShortThing (Port word shape rate delay) = delay ≤ greatest_delay
 IsShortThing _ = Unit {0}
 
@@ -81,7 +81,7 @@ attrs_short scope (a ∷ attrs) s none all =
     attrs_short scope attrs (with_attr a s) (none_second (attr_faults scope a) (flat_map (attr_faults scope) attrs) none)
     (attr_short scope a s (none_first (attr_faults scope a) (flat_map (attr_faults scope) attrs) none) all)
 
-names_short : (globals : Names) (block : PureTdf) → tdf_faults globals block ≡ [] → AllThings IsShortThing (tdf_names globals block)
+pub names_short : (globals : Names) (block : PureTdf) → tdf_faults globals block ≡ [] → AllThings IsShortThing (tdf_names globals block)
 unfolding tdf_faults
 names_short globals block none =
     let scope = tdf_scope globals block in
@@ -93,7 +93,7 @@ names_short globals block none =
 abbrev IsShortPort : PortData → Type 0
 IsShortPort port = port.delay ≤ greatest_delay
 
-delay_of : (s : Names) → AllThings IsShortThing s → (name : List ℕ) → delay_of_port (thing_of s name) ≤ greatest_delay
+pub delay_of : (s : Names) → AllThings IsShortThing s → (name : List ℕ) → delay_of_port (thing_of s name) ≤ greatest_delay
 delay_of s all name = go (thing_of s name) refl
   where
     short : (t : Thing) → IsShortThing t → delay_of_port (Some t) ≤ greatest_delay

@@ -1,25 +1,20 @@
 -- The formats of the signals of a model without a fault of types are there, and are formats that there are.
-use Rattle.std.proofs.Common.{◌≡◌, ℕ, List, [], ◌∷◌, Option, Some, true, sym, subst}
+use Rattle.std.proofs.Common.{◌≡◌, List, [], ◌∷◌}
 use Rattle.std.specs.List.{AllByRecursion, flat_map}
 use Rattle.tdf_expr_blocks.specs.Blocks.{composite_faults}
-use Rattle.tdf_expr_blocks.specs.Lines.{format_faults, member_faults}
+use Rattle.tdf_expr_blocks.specs.Lines.{member_faults}
 use Rattle.tdf_expr_blocks.specs.Types.{global_faults, traces_faults, type_faults}
 use Rattle.tdf_base.proofs.Api.{none_first, none_second}
 use Rattle.tdf_bind.proofs.Lists.{all_append}
-use Rattle.tdf_bind.proofs.Things.{AllThings, IsGlobal, globals_all, shape_legal}
-use Rattle.tdf_expr_semantics.proofs.Api.{found, of_kind}
+use Rattle.tdf_expr.proofs.Api.{AllThings, IsGlobal, format_there, globals_all}
 use Rattle.tdf_bind_names.specs.Resolved.{whole}
 use Rattle.tdf_bind_names.specs.Signals.{Declared, declared_by}
-use Rattle.tdf_expr_symbols.specs.Kinds.{is_allowed}
-use Rattle.tdf_expr_symbols.specs.Names.{Names, Thing, Port, TypeName, format_of, globals_of, kind_of, place_of, thing_of, type_shape}
+use Rattle.tdf_expr_symbols.specs.Names.{Names, Port, format_of, globals_of}
 use Rattle.tdf_expr_symbols.specs.Scope.{Scope, composite_scope}
 use Rattle.tdf_expr_symbols.specs.Sound.{HasFormat}
-use Rattle.tdf_expr_symbols.specs.declared.kinds.Place.TheVariants as place
 use Rattle.tdf_lang_tree.specs.Pure.{PureComposite, PureGlobal, GShape, GTdf, GDe, GNet, PureTree}
 use Rattle.tdf_lang_tree.specs.declared.blocks.Member.TheVariants as member
 use Rattle.tdf_lang_tree.specs.declared.blocks.Member.{Member}
-use Rattle.tdf_lang_tree.specs.declared.blocks.PortKind.TheVariants.{In, Out, DeIn, DeOut}
-use Rattle.tdf_lang_tree.specs.declared.shapes.FormatRef.TheVariants as format
 use Rattle.tdf_lang_tree.specs.declared.shapes.FormatRef.{FormatRef}
 
 -- the format of a line that declares a signal
@@ -31,24 +26,6 @@ AreFormatted globals (GNet block) = AllByRecursion (IsFormatted globals) (flat_m
 AreFormatted globals (GShape t) = Unit {0}
 AreFormatted globals (GTdf block) = Unit {0}
 AreFormatted globals (GDe block) = Unit {0}
-
-type_there : (t : Thing) → is_allowed place.Format (Some (kind_of t)) ≡ true → IsGlobal t → HasFormat (type_shape (Some t))
-unfolding is_allowed
-type_there (TypeName s) e holds = holds
-type_there (Port In a b c) e holds = absurd holds
-type_there (Port Out a b c) e holds = absurd holds
-type_there (Port DeIn a b c) e holds = absurd holds
-type_there (Port DeOut a b c) e holds = absurd holds
-type_there _ e holds = absurd cc
-
-format_there : (globals : Names) (line : ℕ) (x : FormatRef) → AllThings IsGlobal globals → format_faults globals line x ≡ [] → HasFormat (format_of globals x)
-format_there globals line (format.Own s) all none = shape_legal line s none
-format_there globals line (format.Named name) all none =
-    let kind = of_kind place.Format (thing_of globals name) line none in
-    subst (λ (o : Option Thing). HasFormat (type_shape o)) (sym kind.is) (type_there kind.thing kind.allowed (global_is name kind.thing kind.is))
-  where
-    global_is : (n : List ℕ) (t : Thing) → thing_of globals n ≡ Some t → IsGlobal t
-    global_is n t is = let at = found globals.things (place_of globals n) t is in all at.0 t at.2
 
 module _ (scope : Scope) (all : AllThings IsGlobal scope.globals) where
   member_there : (m : Member) → member_faults scope m ≡ [] → AllByRecursion (IsFormatted scope.globals) (declared_by m)

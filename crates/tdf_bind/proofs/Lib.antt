@@ -13,4 +13,3 @@ pub mod OneTables
 pub mod OwnNames
 pub mod OwnPaths
 pub mod Paths
-pub mod Things

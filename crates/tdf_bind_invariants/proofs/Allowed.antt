@@ -1,5 +1,5 @@
 -- The values that rate variables start with lie within their limits.
-use Rattle.std.proofs.Common.{◌≡◌, ◌∙◌, ℕ, zero, suc, List, [], ◌∷◌, Option, Some, None, map, ap, refl, sym, subst}
+use Rattle.std.proofs.Common.{ℕ, zero, suc, List, [], ◌∷◌, map, sym, subst}
 use Rattle.std.specs.Prelude.{slice_get}
 use Rattle.tdf_expr.specs.Blocks.{PureBlock, blocks_of, scope_of}
 use Rattle.tdf_expr.specs.Compiled.{AreBlocksOf, IsBlockOf}
@@ -8,7 +8,7 @@ use Rattle.tdf_expr.specs.Made.{rates_in}
 use Rattle.tdf_expr.specs.Plans.{rate_spans}
 use Rattle.tdf_expr.specs.declared.blocks.Block.{Block}
 use Rattle.tdf_expr.specs.declared.spans.RateSpan.{RateSpan}
-use Rattle.tdf_bind_invariants.proofs.Starts.{rates_in_order, rates_start}
+use Rattle.tdf_expr.proofs.Api.{rates_in_order, rates_start}
 use Rattle.tdf_bind_invariants.specs.Limits.{StartsAreAllowed}
 use Rattle.tdf_expr_semantics.specs.Fits.{RatesFit}
 use Rattle.tdf_expr_symbols.specs.Names.{Names, globals_of}

@@ -2,7 +2,6 @@ pub mod Allowed
 pub mod Api
 pub mod Bindings
 pub mod Blocks
-pub mod Delays
 pub mod FormatRows
 pub mod Formats
 pub mod Limits
@@ -13,7 +12,5 @@ pub mod Roles
 pub mod Rows
 pub mod Spaces
 pub mod Spans
-pub mod Starts
 pub mod Steps
-pub mod Things
 pub mod Walked

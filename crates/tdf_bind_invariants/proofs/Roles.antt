@@ -17,11 +17,10 @@ use Rattle.tdf_expr.specs.declared.blocks.Block.{Block}
 use Rattle.tdf_expr.specs.declared.checked.Checked.{Checked}
 use Rattle.tdf_expr.specs.declared.spans.RateSpan.{RateSpan}
 use Rattle.tdf_base.proofs.Api.{none_first, none_second}
-use Rattle.tdf_bind_invariants.proofs.Delays.{IsShortThing, delay_of, names_short}
+use Rattle.tdf_bind.proofs.Api.{IsShortThing, delay_of, names_short}
 use Rattle.tdf_bind_invariants.proofs.Rates.{port_always}
-use Rattle.tdf_bind_invariants.proofs.Starts.{limits_same, rates_in_order, rates_start}
+use Rattle.tdf_expr.proofs.Api.{limits_same, rates_in_order, rates_start, AllThings}
 use Rattle.tdf_bind_invariants.proofs.Steps.{module_short, port_short}
-use Rattle.tdf_bind_invariants.proofs.Things.{AllThings}
 use Rattle.tdf_bind_invariants.specs.Limits.{IsAlwaysRate}
 use Rattle.tdf_bind_ports.specs.Ports.{ports_of_tdf}
 use Rattle.tdf_expr_semantics.specs.Fits.{RatesFit}

@@ -14,8 +14,7 @@ use Rattle.tdf_expr.specs.declared.blocks.Block.{Block}
 use Rattle.tdf_expr.specs.declared.spans.PortSpan.{PortSpan}
 use Rattle.tdf_bind.specs.Flat.{IsFlatOf}
 use Rattle.tdf_bind.specs.declared.model.Flat.{Flat}
-use Rattle.tdf_events_invariants.proofs.Apart.{Differ}
-use Rattle.tdf_bind_invariants.proofs.Api.{stays}
+use Rattle.tdf_bind_invariants.proofs.Api.{Differ, apart_differ, stays}
 use Rattle.tdf_bind_invariants.specs.Formats.{IsSoundModel}
 use Rattle.tdf_bind_ports.specs.Ports.{Known, known_after_all, no_blocks, ports_of_composite, ports_of_de, ports_of_tdf, with_block}
 use Rattle.tdf_expr_names.specs.Law.{DeclaresOnce, HasNamesOnce, KeepsNamesOnce}
@@ -23,7 +22,7 @@ use Rattle.tdf_expr_names.specs.Names.{names_of_de_line, names_of_de_lines}
 use Rattle.tdf_bind_names.specs.Resolved.{whole}
 use Rattle.tdf_bind_attributes.specs.Roles.{processes_role, roles_from, roles_of}
 use Rattle.tdf_events_invariants.proofs.Counts.{few_ports, mapped_long}
-use Rattle.tdf_events_invariants.proofs.Lines.{apart_differ, events_total, place_at, place_line, places_long, places_of, ports_total}
+use Rattle.tdf_events_invariants.proofs.Lines.{events_total, place_at, place_line, places_long, places_of, ports_total}
 use Rattle.tdf_events_invariants.specs.Runnable.{HasBlock, InstancesHaveBlocks}
 use Rattle.tdf_expr_symbols.specs.Names.{Names, format_of, globals_of}
 use Rattle.tdf_lang_tree.specs.Kept.{Each}

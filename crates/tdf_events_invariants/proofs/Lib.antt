@@ -1,5 +1,4 @@
 pub mod Api
-pub mod Apart
 pub mod Counts
 pub mod Instances
 pub mod Lines

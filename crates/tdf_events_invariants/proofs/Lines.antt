@@ -1,42 +1,19 @@
 -- The names of a block of processes: its ports and its events.
-use Rattle.std.proofs.Common.{◌≡◌, ◌≢◌, ◌∙◌, ℕ, zero, suc, ◌+◌, Bool, true, false, List, [], ◌∷◌, Some, length, map, refl, sym, ap, subst, true≢false, arith}
-use Rattle.std.proofs.lemmas.Cmp.{nat_list_eq_equiv}
+use Rattle.std.proofs.Common.{◌≡◌, ◌∙◌, ℕ, zero, suc, ◌+◌, List, [], ◌∷◌, Some, length, map, refl, sym, ap, subst, arith}
 use Rattle.std.proofs.lemmas.Option.{same_Some, none-some}
-use Rattle.std.specs.Cmp.Lexicographic.{pointwise}
-use Rattle.std.specs.List.{AllByRecursion, flat_map}
-use Rattle.std.specs.Prelude.{◌||◌, nat_eq, slice_get}
+use Rattle.std.specs.List.{flat_map}
+use Rattle.std.specs.Prelude.{slice_get}
 use Rattle.tdf_expr.specs.Plans.{PortPlace, places_from}
-use Rattle.tdf_events_invariants.proofs.Apart.{Differ, Pair, name_in, pair, pairs_plain, thing_in, with_pairs}
+use Rattle.tdf_bind_invariants.proofs.Api.{Differ, Pair, name_in, pair, pairs_plain, thing_in, with_pairs}
 use Rattle.tdf_bind_ports.specs.Ports.{port_of_de_line}
 use Rattle.tdf_expr_semantics.specs.Places.{events_of, total}
-use Rattle.tdf_expr_names.specs.Law.{AreApart}
-use Rattle.tdf_expr_names.specs.Names.{Name, has, name_of_store, names_of_de_line}
+use Rattle.tdf_expr_names.specs.Names.{name_of_store, names_of_de_line}
 use Rattle.tdf_bind_attributes.specs.Roles.{event_of}
 use Rattle.tdf_expr_symbols.specs.Names.{Names, Thing, Const, Var, Array, Port, Event, de_names, format_of, no_names, with_de_lines, with_name, with_store}
 use Rattle.tdf_expr_symbols.specs.Scope.{greatest_of}
 use Rattle.tdf_lang_tree.specs.Pure.{PureStore, SConst, SVar, SArray, PureDe, PureDeLine, DPort, DStore, DEvent}
 use Rattle.tdf_lang_tree.specs.declared.blocks.PortLine.{PortLine}
 use Rattle.tdf_lang_tree.specs.declared.stmt.Limit.TheVariants as limit
-
--- names that are apart differ
-left_false : (a b : Bool) → a || b ≡ false → a ≡ false
-left_false false b e = refl
-left_false true b e = absurd (true≢false e)
-
-right_false : (a b : Bool) → a || b ≡ false → b ≡ false
-right_false false b e = e
-right_false true b e = absurd (true≢false e)
-
-not_has : (x : Name) (names : List Name) → has names x ≡ false → AllByRecursion (λ y. x ≢ y) names
-not_has x [] e = tt
-not_has x (y ∷ names) e = (
-  λ same. true≢false (sym (nat_list_eq_equiv.refl x) ∙ ap (pointwise nat_eq x) same ∙ left_false (pointwise nat_eq x y) (has names x) e),
-  not_has x names (right_false (pointwise nat_eq x y) (has names x) e),
-)
-
-pub apart_differ : (names : List Name) → AreApart names → Differ names
-apart_differ [] apart = tt
-apart_differ (x ∷ names) apart = (not_has x names apart.0, apart_differ names apart.1)
 
 -- the lines of a block, each with its name and what that stands for
 module _ (globals : Names) where

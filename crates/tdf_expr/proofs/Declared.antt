@@ -1,17 +1,16 @@
 -- What holds of the names of blocks whose declarations have no fault.
-use Rattle.std.proofs.Common.{◌≡◌, ◌∙◌, ℕ, zero, suc, ◌*◌, ◌≤◌, Bool, true, false, List, [], ◌∷◌, ◌++◌, Option, Some, None, length, refl, sym, ap, subst, arith}
+use Rattle.std.proofs.Common.{◌≡◌, ◌∙◌, ℕ, ◌*◌, ◌≤◌, true, false, List, [], ◌∷◌, Option, Some, length, refl, sym, ap, subst, arith}
 use Rattle.std.proofs.Math.Nat.{mul-le-mul}
 use Rattle.std.proofs.lemmas.Bool.Decides.{nat_tests}
-use Rattle.std.specs.Cmp.Lexicographic.{pointwise}
-use Rattle.std.specs.List.{list_any, flat_map}
-use Rattle.std.specs.Prelude.{not, ◌||◌, nat_eq, nat_lt, if◌then◌else◌, slice_get, slice_set}
+use Rattle.std.specs.List.{flat_map}
+use Rattle.std.specs.Prelude.{not, ◌||◌, nat_lt}
 use Rattle.tdf_base.specs.Limits.{greatest_rate as most_rate}
 use Rattle.tdf_base.specs.declared.codes.Code.TheVariants as code
-use Rattle.tdf_expr_blocks.specs.Lines.{is_format, shape_faults, format_faults, is_no_rate, array_faults, store_faults, is_range, tdf_line_faults, de_line_faults, rate_faults, attr_faults}
+use Rattle.tdf_expr_blocks.specs.Lines.{format_faults, is_no_rate, array_faults, store_faults, is_range, tdf_line_faults, de_line_faults, rate_faults, attr_faults}
 use Rattle.tdf_expr_blocks.specs.Types.{global_faults}
 use Rattle.tdf_base.proofs.Api.{if_none, none_first, none_second}
 use Rattle.tdf_fixed.specs.Cast.{IsLegal}
-use Rattle.tdf_expr_symbols.specs.Names.{Names, Thing, Const, Var, Array, Port, RateVar, Event, Signal, DeSignal, Instance, Loop, TypeName, Tdf, De, Composite, no_names, at_place, with_name, place_of, thing_of, changed, changed_at, with_global, with_globals, globals_of, format_of, type_shape, kind_of, with_port, with_store, with_tdf_line, with_tdf_lines, at_rate, at_delay, with_attr, with_attrs, tdf_names, with_de_line, with_de_lines, de_names}
+use Rattle.tdf_expr_symbols.specs.Names.{Names, Thing, Const, Var, Array, Port, RateVar, Event, Signal, DeSignal, Instance, Loop, TypeName, Tdf, De, Composite, no_names, with_name, place_of, thing_of, with_global, with_globals, globals_of, format_of, type_shape, kind_of, with_port, with_store, with_tdf_line, with_tdf_lines, at_rate, at_delay, with_attr, with_attrs, tdf_names, with_de_line, with_de_lines, de_names}
 use Rattle.tdf_expr_semantics.proofs.Api.{found, of_kind}
 use Rattle.tdf_expr_symbols.specs.Faults.{multiple_faults}
 use Rattle.tdf_expr_symbols.specs.Index.{kind_faults}
@@ -19,6 +18,7 @@ use Rattle.tdf_expr_symbols.specs.Kinds.{is_allowed}
 use Rattle.tdf_expr_symbols.specs.declared.kinds.Place.TheVariants as place
 use Rattle.tdf_lang_tree.specs.declared.blocks.PortKind.TheVariants.{In, Out, DeIn, DeOut}
 use Rattle.tdf_expr_symbols.specs.Sound.{HasFormat, IsThingSound, IsSound}
+use Rattle.tdf_expr.proofs.Things.{AllThings, all_named, all_changed, not_false, shape_legal}
 use Rattle.tdf_lang_tree.specs.Kept.{Each, KeepsLit, KeepsStore, KeepsTdfLine, KeepsDeLine}
 use Rattle.tdf_lang_tree.specs.Pure.{PureGlobal, GShape, GTdf, GDe, GNet, PureStore, SConst, SVar, SArray, PureTdfLine, TPort, TStore, TRate, PureTdf, PureDeLine, DPort, DStore, DEvent, PureDe}
 use Rattle.tdf_lang_tree.specs.declared.blocks.Attr.{Attr}
@@ -29,71 +29,6 @@ use Rattle.tdf_expr_symbols.specs.Scope.{Scope, least_of, greatest_of, least_rat
 use Rattle.tdf_lang_tree.specs.declared.blocks.PortLine.{PortLine}
 use Rattle.tdf_lang_tree.specs.declared.shapes.FormatRef.{FormatRef}
 use Rattle.tdf_lang_tree.specs.declared.shapes.FormatRef.TheVariants as format
-use Rattle.tdf_lang_tree.specs.declared.shapes.Shape.{Shape}
-
--- a fact of each thing of a name space
-abbrev pub AllThings : (Thing → Type 0) → Names → Type 0
-AllThings P s = (n : ℕ) (t : Thing) → slice_get s.things n ≡ Some t → P t
-
-all_push : (P : Thing → Type 0) (things : List Thing) (x : Thing) → ((n : ℕ) (t : Thing) → slice_get things n ≡ Some t → P t) → P x
-    → (n : ℕ) (t : Thing) → slice_get (things ++ x ∷ []) n ≡ Some t → P t
-all_push P [] x all holds zero t is = subst P (ap held is) holds
-  where
-    held : Option Thing → Thing
-    held None = x
-    held (Some y) = y
-all_push P [] x all holds (suc n) t is = absurd cc
-all_push P (y ∷ things) x all holds zero t is = all zero t is
-all_push P (y ∷ things) x all holds (suc n) t is = all_push P things x (λ m u at. all (suc m) u at) holds n t is
-
-pub all_named : (P : Thing → Type 0) (s : Names) (name : List ℕ) (x : Thing) → AllThings P s → P x → AllThings P (with_name name x s)
-unfolding with_name
-all_named P s name x all holds = go (list_any (pointwise nat_eq name) s.names)
-  where
-    go : (b : Bool) → AllThings P (if b then s else record { names = s.names ++ name ∷ []; things = s.things ++ x ∷ [] })
-    go true = all
-    go false = all_push P s.things x all holds
-
-all_set : (P : Thing → Type 0) (things : List Thing) (k : ℕ) (x : Thing) → ((n : ℕ) (t : Thing) → slice_get things n ≡ Some t → P t) → P x
-    → (n : ℕ) (t : Thing) → slice_get (slice_set things k x) n ≡ Some t → P t
-all_set P [] k x all holds n t is = absurd cc
-all_set P (y ∷ things) zero x all holds zero t is = subst P (ap held is) holds
-  where
-    held : Option Thing → Thing
-    held None = x
-    held (Some z) = z
-all_set P (y ∷ things) zero x all holds (suc n) t is = all (suc n) t is
-all_set P (y ∷ things) (suc k) x all holds zero t is = all zero t is
-all_set P (y ∷ things) (suc k) x all holds (suc n) t is = all_set P things k x (λ m u at. all (suc m) u at) holds n t is
-
-pub all_changed : (P : Thing → Type 0) (s : Names) (f : Thing → Thing) (name : List ℕ) → AllThings P s → ((t : Thing) → P t → P (f t)) → AllThings P (changed f name s)
-unfolding changed
-all_changed P s f name all keeps = go (place_of s name) refl (thing_of s name) refl
-  where
-    go : (o : Option ℕ) → place_of s name ≡ o → (x : Option Thing) → thing_of s name ≡ x
-        → (n : ℕ) (t : Thing) → slice_get (changed_at f s.things o x) n ≡ Some t → P t
-    go None at x is n t here = all n t here
-    go (Some k) at None is n t here = all n t here
-    go (Some k) at (Some thing) is n t here = all_set P s.things k (f thing) all (keeps thing (all k thing (place_is k thing at is))) n t here
-      where
-        place_is : (k : ℕ) (thing : Thing) → place_of s name ≡ Some k → thing_of s name ≡ Some thing → slice_get s.things k ≡ Some thing
-        place_is k thing at is = ap (at_place s.things) (sym at) ∙ is
-
--- formats
-legal : (s : Shape) → is_format s ≡ true → IsLegal s.wl s.iwl
-legal s e = record {
-  some_bits = grind (arith, nat_tests);
-  few_bits = grind (arith, nat_tests);
-  whole_bits = grind (arith, nat_tests);
-  fraction_bits = grind (arith, nat_tests);
-}
-
-not_false : (b : Bool) → not b ≡ false → b ≡ true
-not_false true e = refl
-not_false false e = absurd cc
-
-pub shape_legal : (line : ℕ) (s : Shape) → shape_faults line s ≡ [] → IsLegal s.wl s.iwl
-shape_legal line s none = legal s (not_false (is_format s) (if_none (not (is_format s)) code.Format line none))
 
 -- what holds of a declaration by itself: its format is legal, and the numbers of a rate variable lie within their limits
 abbrev pub IsDeclared : Thing → Type 0
@@ -140,7 +75,7 @@ type_there (Port DeOut a b c) e holds = absurd holds
 type_there _ e holds = absurd cc
 
 -- the format of a line without a fault
-format_there : (globals : Names) (line : ℕ) (x : FormatRef) → AllThings IsGlobal globals → format_faults globals line x ≡ [] → HasFormat (format_of globals x)
+pub format_there : (globals : Names) (line : ℕ) (x : FormatRef) → AllThings IsGlobal globals → format_faults globals line x ≡ [] → HasFormat (format_of globals x)
 format_there globals line (format.Own s) all none = shape_legal line s none
 format_there globals line (format.Named name) all none =
     let kind = of_kind place.Format (thing_of globals name) line none in

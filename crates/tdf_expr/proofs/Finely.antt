@@ -9,7 +9,8 @@ use Rattle.tdf_expr_blocks.specs.Blocks.{bodies_faults, process_faults, tdf_faul
 use Rattle.tdf_expr_blocks.specs.Lines.{tdf_line_faults, attr_faults, initial_faults, de_line_faults, sense_faults}
 use Rattle.tdf_expr_blocks.specs.Types.{global_faults, traces_faults, type_faults}
 use Rattle.tdf_expr_blocks.specs.Writers.{writer_faults}
-use Rattle.tdf_expr.proofs.Declared.{AllThings, IsGlobal, globals_all, tdf_sound, de_sound}
+use Rattle.tdf_expr.proofs.Declared.{IsGlobal, globals_all, tdf_sound, de_sound}
+use Rattle.tdf_expr.proofs.Things.{AllThings}
 use Rattle.tdf_expr.specs.Blocks.{Module, Events, body_of, process_body}
 use Rattle.tdf_expr.specs.declared.bodies.Body.{Body}
 use Rattle.tdf_expr.specs.declared.bodies.Body.TheVariants as body

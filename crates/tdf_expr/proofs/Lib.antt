@@ -9,4 +9,5 @@ pub mod Planned
 pub mod Ported
 pub mod Pushes
 pub mod Ran
+pub mod Things
 pub mod Unwritten
