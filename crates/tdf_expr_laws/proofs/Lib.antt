@@ -1,1 +1,3 @@
+mod Indices
+pub mod Checked
 pub mod Maps

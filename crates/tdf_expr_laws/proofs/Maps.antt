@@ -1,10 +1,10 @@
 -- Rate variables, timesteps, notices and marks are maps.
-use Rattle.std.proofs.Common.{◌≡◌, ◌∙◌, ℕ, zero, suc, ◌+◌, ◌<◌, List, [], ◌∷◌, Option, Some, None, length, refl, sym, ap, subst, arith, ℤ, true, false}
+use Rattle.std.proofs.Common.{◌≡◌, ◌∙◌, ℕ, zero, suc, ◌+◌, ◌<◌, List, [], ◌∷◌, Option, Some, None, length, refl, sym, ap, subst, arith, true, false}
 use Rattle.std.proofs.Math.ListN.{get_or}
 use Rattle.std.proofs.lemmas.List.{get_or-set_same, get_or-set_other}
 use Rattle.std.proofs.lemmas.Option.{slice_get_within}
-use Rattle.std.specs.Prelude.{slice_get, slice_set, slice_index_or}
-use Rattle.tdf_expr_laws.specs.Maps.{AreMarkMaps, AreNoticeMaps, AreRateMaps, AreStepMaps, IsEvent, IsOneOf, IsPort, IsRateVar}
+use Rattle.std.specs.Prelude.{slice_get, slice_index_or}
+use Rattle.tdf_expr_laws.specs.Maps.{AreMarkMaps, AreNoticeMaps, AreRateMaps, AreStepMaps, IsOneOf, IsRateVar}
 use Rattle.tdf_expr_semantics.proofs.Api.{limits_placed}
 use Rattle.tdf_expr_semantics.specs.Fits.{StateFits}
 use Rattle.tdf_expr_semantics.specs.Places.{before, event_number, events_of, port_number, ports_of, rate_limits, rate_number, rates_of, total}

@@ -1,5 +1,7 @@
 //! What holds of the meaning of bodies: each function here only carries its clauses.
 
+ghost use Rattle.tdf_expr_laws.specs.Checked.{CheckedIsOfTree};
+ghost use Rattle.tdf_expr_laws.specs.Indices.{LiesBelowRate};
 ghost use Rattle.tdf_expr_laws.specs.Maps.{AreMarkMaps, AreNoticeMaps, AreRateMaps, AreStepMaps};
 
 /// Each rate variable has its own value, the module and each port its own timestep, each event its own notice, and each port its
@@ -9,4 +11,15 @@ pub fn law_other_maps()
     ensures steps { AreStepMaps }
     ensures notices { AreNoticeMaps }
     ensures marks { AreMarkMaps }
+{}
+
+/// An index without a fault lies below the size of its array, or below the rate of its port that is in force.
+pub fn law_indices_in_force()
+    ensures inside { LiesBelowRate }
+{}
+
+/// What definitions read off the checked bodies of a model is what its tree says: formats and starting values of cells, rate
+/// variables, ports, samples and events of each block.
+pub fn law_checked()
+    ensures { CheckedIsOfTree }
 {}

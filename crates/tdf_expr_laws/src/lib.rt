@@ -2,9 +2,9 @@
 //!
 //! There is no code here but laws, and the definitions are in `specs`.
 //!
-//! - `laws`: rate variables, timesteps, notices and marks are maps.
+//! - `laws`: rate variables, timesteps, notices and marks are maps; an index lies below the size in force; what is read off checked bodies.
 #![tactic(auto)]
 
 mod laws;
 
-pub use laws::law_other_maps;
+pub use laws::{law_checked, law_indices_in_force, law_other_maps};
