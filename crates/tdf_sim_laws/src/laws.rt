@@ -1,6 +1,7 @@
 //! What holds of the history of a model: each function here only carries its clause.
 
 ghost use Rattle.tdf_sim_laws.specs.Laws.{SamplesAreAt, TimesAreOne};
+ghost use Rattle.tdf_sim_laws.specs.Splitting.{HistorySplits, QuietIsFromZero};
 
 use tdf_sim_history::law_samples_there;
 
@@ -17,3 +18,10 @@ pub fn law_samples_at()
 {
     law_samples_there();
 }
+
+/// A history is that up to a time and then that from there; and where nothing is due before the time at which it begins, it is
+/// one from time 0 on.
+pub fn law_splits()
+    ensures splits { HistorySplits }
+    ensures quiet { QuietIsFromZero }
+{}

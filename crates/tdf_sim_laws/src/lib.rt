@@ -3,9 +3,9 @@
 //!
 //! There is no code here but laws, and the definitions are in `specs`.
 //!
-//! - `laws`: the times of positions, and the samples at the start of a period.
+//! - `laws`: the times of positions, the samples at the start of a period, and a history in two parts.
 #![tactic(auto)]
 
 mod laws;
 
-pub use laws::{law_samples_at, law_times};
+pub use laws::{law_samples_at, law_splits, law_times};
