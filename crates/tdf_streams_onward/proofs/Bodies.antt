@@ -7,10 +7,10 @@ use Rattle.tdf_fixed.specs.declared.raw.Raw.{Raw}
 use Rattle.tdf_graph.specs.declared.actors.Actor.{Actor}
 use Rattle.tdf_graph.specs.declared.actors.Actor.TheVariants as actor
 use Rattle.tdf_lang_tree.specs.Pure.{PureTree}
-use Rattle.tdf_streams.specs.Bodies.{acted, changed, done_by, nothing_read, read_through, written_by}
+use Rattle.tdf_streams.specs.Bodies.{acted, changed, done_by, nothing_read, written_by}
 use Rattle.tdf_streams.specs.Cluster.{Start, cluster_net}
 use Rattle.tdf_streams.specs.Periods.{PeriodInfo, PeriodRecord}
-use Rattle.tdf_streams.specs.Places.{actor_kind, has_changes}
+use Rattle.tdf_streams.specs.Places.{actor_kind, has_changes, read_through}
 use Rattle.tdf_streams_onward.specs.Laws.{BodiesGoByTable, table_of}
 
 module _ (model : PureTree) (flat : Flat) (m : ℕ) where
