@@ -1,6 +1,7 @@
 -- The time of a position, by the spans of the periods and by the periods themselves.
 use Rattle.std.proofs.Common.{◌≡◌, ◌∙◌, ℕ, ◌+◌, ◌-◌, ◌*◌, ◌<◌, List, [], ◌∷◌, ◌++◌, Option, Some, None, option_map, refl, ap, sym, subst, inl, inr, arith}
 use Rattle.std.proofs.lemmas.Bool.{cases_lt, le-ltb, lt-ltb}
+use Rattle.std.proofs.lemmas.List.Elements.{All-head, All-tail}
 use Rattle.std.proofs.lemmas.List.Sums.{sum_by_push}
 use Rattle.std.specs.Prelude.{All}
 use Rattle.tdf_bind.specs.declared.model.Flat.{Flat}
@@ -36,8 +37,8 @@ module _ (flat : Flat) (cluster number : ℕ) (port : PortRow) (limits : AreWith
   unfolding AreChained
   chained time [] all = tt
   chained time (p ∷ ps) all =
-      let s = steps_whole flat cluster number port p limits of all.0 in
-      (refl, s.0, subst (λ e. AreChained e (spans_from port (time + p.info.period) ps)) (ap (λ k. time + k) (sym s.1)) (chained (time + p.info.period) ps all.1))
+      let s = steps_whole flat cluster number port p limits of (All-head (IsTimedRecord flat cluster) p ps all) in
+      (refl, s.0, subst (λ e. AreChained e (spans_from port (time + p.info.period) ps)) (ap (λ k. time + k) (sym s.1)) (chained (time + p.info.period) ps (All-tail (IsTimedRecord flat cluster) p ps all)))
 
 pub times_are_one : TimesAreOne
 times_are_one flat cluster number port periods time position limits of all = (to, back)
