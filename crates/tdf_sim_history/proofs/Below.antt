@@ -1,7 +1,6 @@
--- A cluster that goes on has the samples that it had, and the cells below the start of its period.
-use Rattle.std.proofs.Common.{◌≡◌, ◌∙◌, ℕ, ℤ, ◌+◌, ◌-◌, ◌*◌, ◌/◌, ◌<◌, ◌≤◌, Option, Some, None, option_map, List, [], ◌∷◌, ◌++◌, if◌then◌else◌, length, slice_get, refl, sym, ap, subst, inl, inr, arith, lt_of_lt_of_le}
+-- A cluster that goes on has the samples that it had, and the cells of times that have them.
+use Rattle.std.proofs.Common.{◌≡◌, ◌∙◌, ℕ, ℤ, ◌+◌, ◌-◌, ◌/◌, ◌<◌, ◌≤◌, Option, Some, None, option_map, List, [], ◌∷◌, ◌++◌, if◌then◌else◌, length, slice_get, refl, sym, ap, subst, inl, inr, arith, lt_of_lt_of_le}
 use Rattle.std.proofs.lemmas.Bool.{cases_lt, le-ltb, lt-ltb}
-use Rattle.std.proofs.lemmas.List.{append_assoc}
 use Rattle.std.proofs.lemmas.List.Sums.{sum_by-append}
 use Rattle.std.proofs.lemmas.Option.{get_or_from_slice_get, slice_get_within}
 use Rattle.std.specs.List.{All, sum, sum_by}
@@ -13,18 +12,18 @@ use Rattle.tdf_streams.specs.Grounds.{firings}
 use Rattle.tdf_streams.specs.Net.{Past, count}
 use Rattle.tdf_streams.specs.Stands.{Less}
 use Rattle.tdf_streams.specs.Streams.{find, known}
-use Rattle.tdf_sim_history.specs.Cells.{port_cell, sample_at, samples_done, spans_from}
-use Rattle.tdf_sim_history.specs.Instant.{periods_of, run_in}
+use Rattle.tdf_sim_history.specs.Cells.{column_spans, outputs_done, port_cell, sample_at, sample_of, samples_done}
+use Rattle.tdf_sim_history.specs.Columns.{ColumnStart, held_by}
+use Rattle.tdf_sim_history.specs.Instant.{acts_now, periods_of, run_in}
 use Rattle.tdf_sim_history.specs.World.{ClusterAt}
 use Rattle.tdf_trace_rows.specs.Positions.{position_at}
-use Rattle.tdf_schedule.specs.Plan.{done}
 use Rattle.tdf_streams.specs.Cluster.{cluster_net}
-use Rattle.tdf_streams.specs.Periods.{IsWholeRecord, PeriodRecord}
-use Rattle.tdf_streams.specs.Signals.{output_at_spot, outputs_in, port_output, rate_in, signal_sample, time_of}
+use Rattle.tdf_streams.specs.Periods.{PeriodRecord}
+use Rattle.tdf_streams.specs.Signals.{output_at_spot, outputs_in, port_output, rate_in, time_of}
 use Rattle.tdf_lang_tree.specs.Pure.{PureTree}
 use Rattle.tdf_bind_connections.specs.declared.modules.PortRow.{PortRow}
-use Rattle.tdf_sim_history.proofs.Known.{before_now, done_before, made_of, output_made, output_of, turn_of}
-use Rattle.tdf_sim_history.proofs.Positions.{Made, same_front}
+use Rattle.tdf_sim_history.proofs.Known.{made_of, output_made, output_of, turn_of}
+use Rattle.tdf_sim_history.proofs.Positions.{Made, same_column, some_periods}
 use Rattle.tdf_sim_history.specs.Continuing.{Continues, HasWholePlan}
 use Rattle.tdf_sim_history.specs.WorldLaws.{HasDone}
 
@@ -41,11 +40,7 @@ mapped f g (Some a) same = ap Some (same a refl)
 
 -- a cluster that has done its firings has a whole plan
 pub whole_plan : (model : PureTree) (flat : Flat) (number : ℕ) (c : ClusterAt) → HasDone model flat number c → HasWholePlan c
-whole_plan model flat number c has = record {
-  counts = has.counts;
-  ahead = has.ahead;
-  whole = (all_at (IsWholeRecord flat number) (c.old ++ c.now ∷ []) (length c.old) c.now has.whole (last_at c.old c.now)).whole;
-}
+whole_plan model flat number c has = has.plan
 
 module _ (model : PureTree) (flat : Flat) (number : ℕ) (c d : ClusterAt) (has : HasDone model flat number c) (goes : Continues c d) where
   -- what is known in a cluster
@@ -63,7 +58,7 @@ module _ (model : PureTree) (flat : Flat) (number : ℕ) (c d : ClusterAt) (has 
       (known_more (cluster_net model flat number c.begun) (run_in c) (run_in d) goes.longer (firings (periods_of c)) (firings goes.longer.rest)))
 
   module _ (port : PortRow) (out : ℕ) where
-    module _ (n : ℕ) (m : Made port [] c.old c.now (done c.entries c.place port.«module») n) where
+    module _ (n : ℕ) (m : Made port [] c.old c.now (acts_now c port.«module») n) where
       found_later : find (outputs_in port) [] (periods_of d) n ≡ Some m.at
       found_later = ap (λ ps. find (outputs_in port) [] ps n) goes.longer.periods ∙ find_more (outputs_in port) [] (periods_of c) goes.longer.rest n m.at m.found
 
@@ -75,33 +70,38 @@ module _ (model : PureTree) (flat : Flat) (number : ℕ) (c d : ClusterAt) (has 
           ∙ sym (ap (option_and_then (output_at_spot port out (known_in d))) found_later ∙ ap (option_map (output_of model flat number c has port out n m)) (known_less.keeps port.«module»
           (sum_by (count port.«module») m.at.before + m.at.rest / rate_in port m.at.period) turn.0 turn.1))
 
-    output_stays : (n : ℕ) → n < sum_by (outputs_in port) c.old + done c.entries c.place port.«module» * rate_in port c.now → port_output (periods_of c) port out (known_in c) n ≡ port_output (periods_of d) port out (known_in d) n
+    output_stays : (n : ℕ) → n < outputs_done port c → port_output (periods_of c) port out (known_in c) n ≡ port_output (periods_of d) port out (known_in d) n
     output_stays n low = made_stays n (made_of model flat number c has port out n low)
 
-    signal_stays : (j : ℕ) → j < samples_done port c → signal_sample flat.tables (periods_of c) port out (known_in c) j ≡ signal_sample flat.tables (periods_of d) port out (known_in d) j
-    signal_stays j low = elim (cases_lt j port.delay) [
-      | inl early ↦ rw (lt-ltb j port.delay early) refl
-      | inr late ↦ rw (le-ltb j port.delay late) (output_stays (j - port.delay) (omega (arith, low, late)))
-    ]
+    module _ (s : ColumnStart) where
+      column_stays : (j : ℕ) → j < samples_done s port c → sample_of s (periods_of c) port out (known_in c) j ≡ sample_of s (periods_of d) port out (known_in d) j
+      column_stays j low = elim (cases_lt j (length (held_by s))) [
+        | inl early ↦ rw (lt-ltb j (length (held_by s)) early) refl
+        | inr late ↦ rw (le-ltb j (length (held_by s)) late) (output_stays (j - length (held_by s)) (omega (arith, low, late)))
+      ]
 
-    -- a sample that is there stays
-    pub sample_stays : (j : ℕ) → j < samples_done port c → sample_at model flat number c port out j ≡ sample_at model flat number d port out j
-    sample_stays j low =
-        ap (λ b. if b then signal_sample flat.tables (periods_of c) port out (known_in c) j else None) (lt-ltb j (samples_done port c) low)
-        ∙ signal_stays j low
-        ∙ sym (ap (λ b. if b then signal_sample flat.tables (periods_of d) port out (known_in d) j else None) (lt-ltb j (samples_done port d) (lt_of_lt_of_le low (goes.samples port))))
+      more_samples : samples_done s port c ≤ samples_done s port d
+      more_samples = let o = goes.outputs port in omega (arith, o)
 
-    module _ (time : ℕ) (low : time < time_of c.old) where
-      abbrev position : Option ℕ
-      position = position_at 0 (spans_from port 0 c.old) time
+      -- a sample that is there stays
+      pub sample_stays : (j : ℕ) → j < samples_done s port c → sample_at model flat number c s port out j ≡ sample_at model flat number d s port out j
+      sample_stays j low =
+          ap (λ b. if b then sample_of s (periods_of c) port out (known_in c) j else None) (lt-ltb j (samples_done s port c) low)
+          ∙ column_stays j low
+          ∙ sym (ap (λ b. if b then sample_of s (periods_of d) port out (known_in d) j else None) (lt-ltb j (samples_done s port d) (lt_of_lt_of_le low more_samples)))
 
-      position_later : position_at 0 (spans_from port 0 (periods_of d)) time ≡ position
-      position_later = ap (λ ps. position_at 0 (spans_from port 0 ps) time) (goes.longer.periods ∙ append_assoc c.old (c.now ∷ []) goes.longer.rest)
-          ∙ same_front port 0 0 c.old (c.now ∷ goes.longer.rest) time (before_now model flat number c has port out time low)
+      module _ (time : ℕ) (low : time < c.origin + time_of (periods_of c)) where
+        abbrev position : Option ℕ
+        position = position_at 0 (column_spans port s c.origin (periods_of c)) time
 
-      -- and so does a cell below the start of the period
-      pub cell_stays : port_cell model flat number port out time (Some c) ≡ port_cell model flat number port out time (Some d)
-      cell_stays =
-          ap (option_map (sample_at model flat number c port out)) (same_front port 0 0 c.old (c.now ∷ []) time (before_now model flat number c has port out time low))
-          ∙ mapped (sample_at model flat number c port out) (sample_at model flat number d port out) position (λ j at. sample_stays j (done_before model flat number c has port out time low j at))
-          ∙ sym (ap (option_map (sample_at model flat number d port out)) position_later)
+        position_later : position_at 0 (column_spans port s d.origin (periods_of d)) time ≡ position
+        position_later = ap (λ o. position_at 0 (column_spans port s o (periods_of d)) time) goes.origin
+            ∙ ap (λ ps. position_at 0 (column_spans port s c.origin ps) time) goes.longer.periods
+            ∙ same_column port s c.origin (periods_of c) goes.longer.rest time (some_periods c.old c.now) low
+
+        -- and so does a cell, where each position that the time has is there
+        pub cell_stays : ((j : ℕ) → position ≡ Some j → j < samples_done s port c)
+            → port_cell model flat number s port out time (Some c) ≡ port_cell model flat number s port out time (Some d)
+        cell_stays there =
+            mapped (sample_at model flat number c s port out) (sample_at model flat number d s port out) position (λ j at. sample_stays j (there j at))
+            ∙ sym (ap (option_map (sample_at model flat number d s port out)) position_later)

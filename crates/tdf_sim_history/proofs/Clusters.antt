@@ -10,8 +10,8 @@ use Rattle.tdf_bind_tables.specs.FlatTables.{FlatTablesOf}
 use Rattle.tdf_dynamic_plans.specs.Attributes.{AttrsOf}
 use Rattle.tdf_fixed.specs.declared.raw.Raw.{Raw}
 use Rattle.tdf_streams.proofs.Api.{get_low, none_some}
-use Rattle.tdf_sim_history.specs.Cells.{samples_done}
-use Rattle.tdf_sim_history.specs.Instant.{periods_of, same_period, stepped, with_new, with_read, with_same}
+use Rattle.tdf_sim_history.specs.Cells.{outputs_done}
+use Rattle.tdf_sim_history.specs.Instant.{acts_now, periods_of, same_period, stepped, with_new, with_read, with_same}
 use Rattle.tdf_sim_history.specs.World.{Change, ClusterAt, New, Same, next_change}
 use Rattle.tdf_schedule.specs.Plan.{done}
 use Rattle.tdf_schedule.specs.declared.entry.Entry.{Entry}
@@ -36,19 +36,21 @@ module _ (entries : List Entry) (m : ℕ) where
 pub continues_refl : (c : ClusterAt) → Continues c c
 continues_refl c = record {
   begun = refl;
+  origin = refl;
   longer = record { rest = []; periods = sym (append-nil (periods_of c)); reads = λ m n x at. at };
-  samples = λ port. omega arith;
+  outputs = λ port. omega arith;
 }
 
 pub continues_trans : (b c d : ClusterAt) → Continues b c → Continues c d → Continues b d
 continues_trans b c d x y = record {
   begun = y.begun ∙ x.begun;
+  origin = y.origin ∙ x.origin;
   longer = record {
     rest = x.longer.rest ++ y.longer.rest;
     periods = y.longer.periods ∙ ap (λ l. l ++ y.longer.rest) x.longer.periods ∙ append_assoc (periods_of b) x.longer.rest y.longer.rest;
     reads = λ m n v at. y.longer.reads m n v (x.longer.reads m n v at);
   };
-  samples = λ port. (let s = x.samples port in let t = y.samples port in le_trans s t);
+  outputs = λ port. (let s = x.outputs port in let t = y.outputs port in le_trans s t);
 }
 
 pub goes_refl : (c : ClusterAt) → GoesOn c c
@@ -69,11 +71,16 @@ told_next : (a : List Change) (table : List AttrsOf) (x : Change) → All HasTol
 told_next [] table x all is = subst HasToldCounts is tt
 told_next (y ∷ a) table x all is = subst HasToldCounts is (all 0 y (omega arith))
 
--- the samples of a period are there in the next
-samples_next : (c : ClusterAt) → HasWholePlan c → (port : PortRow) (more : ℕ) → samples_done port c ≤ port.delay + (sum_by (outputs_in port) (periods_of c) + more)
-samples_next c p port more =
+-- from the head of a period nothing is done before
+from_head : (entries : List Entry) (m n : ℕ) → n ≡ done entries (length entries) m → n + done entries 0 m ≡ done entries (length entries) m
+unfolding done
+from_head entries m n is = let z : n + 0 ≡ n = omega arith in z ∙ is
+
+-- the outputs of a period are there in the next
+outputs_next : (c : ClusterAt) → HasWholePlan c → (port : PortRow) (more : ℕ) → outputs_done port c ≤ sum_by (outputs_in port) (periods_of c) + more
+outputs_next c p port more =
     let s = sum_by_push (outputs_in port) c.old c.now in
-    let m : done c.entries c.place port.«module» * rate_in port c.now ≤ slice_index c.now.counts port.«module» * rate_in port c.now = mul-le-mul_right (rate_in port c.now)
+    let m : acts_now c port.«module» * rate_in port c.now ≤ slice_index c.now.counts port.«module» * rate_in port c.now = mul-le-mul_right (rate_in port c.now)
     (let d = done_within c.entries port.«module» c.place in let k = p.counts port.«module» in omega (arith, d, k)) in
     omega (arith, s, m)
 
@@ -82,12 +89,13 @@ pub same_goes : (time : ℕ) (table : List AttrsOf) (c : ClusterAt) → GoesOn c
 same_goes time table c = record {
   continues = λ p. record {
     begun = refl;
+    origin = refl;
     longer = record { rest = same_period table c.now ∷ []; periods = refl; reads = λ m n x at. at };
-    samples = λ port. samples_next c p port (done c.entries 0 port.«module» * rate_in port (same_period table c.now));
+    outputs = λ port. outputs_next c p port (acts_now (with_same time table c) port.«module» * rate_in port (same_period table c.now));
   };
   planned = λ p. record {
-    counts = λ m. ap (λ l. slice_index l m) (sym p.whole) ∙ p.counts m;
-    whole = refl;
+    counts = λ m. from_head c.entries m (slice_index c.now.info.counts m) (p.whole m);
+    whole = p.whole;
     ahead = told_rest HasToldCounts c.ahead p.ahead;
   };
 }
@@ -98,12 +106,13 @@ pub new_goes : (tables : FlatTablesOf) (time : ℕ) (table : List AttrsOf) (coun
 new_goes tables time table counts period entries bounds c told = record {
   continues = λ p. record {
     begun = refl;
+    origin = refl;
     longer = record { rest = period_record tables table counts period true ∷ []; periods = refl; reads = λ m n x at. at };
-    samples = λ port. samples_next c p port (done entries 0 port.«module» * rate_in port (period_record tables table counts period true));
+    outputs = λ port. outputs_next c p port (acts_now (with_new tables time table counts period entries bounds c) port.«module» * rate_in port (period_record tables table counts period true));
   };
   planned = λ p. record {
-    counts = told_next c.ahead c.now.info.table (New table counts period entries bounds) p.ahead told;
-    whole = refl;
+    counts = λ m. from_head entries m (slice_index counts m) (told_next c.ahead c.now.info.table (New table counts period entries bounds) p.ahead told m);
+    whole = told_next c.ahead c.now.info.table (New table counts period entries bounds) p.ahead told;
     ahead = told_rest HasToldCounts c.ahead p.ahead;
   };
 }
@@ -113,9 +122,10 @@ pub step_goes : (c : ClusterAt) → GoesOn c (stepped c)
 step_goes c = record {
   continues = λ p. record {
     begun = refl;
+    origin = refl;
     longer = record { rest = []; periods = sym (append-nil (periods_of c)); reads = λ m n x at. at };
-    samples = λ port. (
-        let m : done c.entries c.place port.«module» * rate_in port c.now ≤ done c.entries (c.place + 1) port.«module» * rate_in port c.now = mul-le-mul_right (rate_in port c.now) (done_more c.entries port.«module» c.place) in
+    outputs = λ port. (
+        let m : acts_now c port.«module» * rate_in port c.now ≤ acts_now (stepped c) port.«module» * rate_in port c.now = mul-le-mul_right (rate_in port c.now) (let d = done_more c.entries port.«module» c.place in omega (arith, d)) in
         omega (arith, m));
   };
   planned = λ p. record { counts = p.counts; whole = p.whole; ahead = p.ahead };
@@ -138,8 +148,9 @@ pub read_goes : (m : ℕ) (value : Raw) (c : ClusterAt) → GoesOn c (with_read 
 read_goes m value c = record {
   continues = λ p. record {
     begun = refl;
+    origin = refl;
     longer = record { rest = []; periods = sym (append-nil (periods_of c)); reads = λ k n x at. read_kept value c.reads m k n x at };
-    samples = λ port. omega arith;
+    outputs = λ port. omega arith;
   };
   planned = λ p. record { counts = p.counts; whole = p.whole; ahead = p.ahead };
 }

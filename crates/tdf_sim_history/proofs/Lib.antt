@@ -8,6 +8,7 @@ pub mod Known
 pub mod Leading
 mod Once
 pub mod Positions
+mod Records
 pub mod Staying
 mod Tables
 mod Texts

@@ -11,11 +11,12 @@ use Rattle.tdf_bind.specs.declared.model.Flat.{Flat}
 use Rattle.tdf_sim_history.proofs.Told.{history_told}
 use Rattle.tdf_sim_history.proofs.Twice.{next_is}
 use Rattle.tdf_sim_history.proofs.Once.{one_history}
-use Rattle.tdf_sim_history.specs.Cells.{cell_by_driver, changed_cell, driven_cell, driver_of_row, first_shown, port_cell, run_cells, signal_cell, trace_cell, value_before, world_before, world_of}
+use Rattle.tdf_sim_history.specs.Cells.{cell_by_driver, changed_cell, driven_cell, driver_of_row, port_cell, run_cells, signal_cell, trace_cell, value_before, world_before, world_of}
 use Rattle.tdf_sim_history.specs.Instant.{RunFault, engine, instant, is_cluster_due, is_due}
 use Rattle.tdf_sim_history.specs.Answers.{AreAnswers}
 use Rattle.tdf_sim_history.specs.Telling.{AreTold, state_as, told_more, untold, world_told, world_untold}
 use Rattle.tdf_sim_history.specs.Texts.{closing_text, end_of, first_plans, left_by, new_plans, notes_in, notes_to, plan_note, run_notes, run_trace}
+use Rattle.tdf_sim_history.specs.Columns.{ColumnStart, start_of}
 use Rattle.tdf_sim_history.specs.World.{Change, ClusterAt, Rules, World}
 use Rattle.tdf_sim_history.specs.History.{Engine, Fault, Going, On, Past, Spent, State, Step, Stopped, after, end_time, history, state_of}
 use Rattle.tdf_trace_rows.proofs.Api.{text_same}
@@ -35,10 +36,10 @@ bare_told : (more : List (List Change)) (k : ℕ) (cs : List ClusterAt) → map 
 bare_told more k [] = refl
 bare_told more k (c ∷ cs) = ap (λ l. untold c ∷ l) (bare_told more (k + 1) cs)
 
-port_bare : (model : PureTree) (flat : Flat) (cluster : ℕ) (port : PortRow) (number time : ℕ) (o : Option ClusterAt)
-    → port_cell model flat cluster port number time (option_map untold o) ≡ port_cell model flat cluster port number time o
-port_bare model flat cluster port number time None = refl
-port_bare model flat cluster port number time (Some c) = refl
+port_bare : (model : PureTree) (flat : Flat) (cluster : ℕ) (s : ColumnStart) (port : PortRow) (number time : ℕ) (o : Option ClusterAt)
+    → port_cell model flat cluster s port number time (option_map untold o) ≡ port_cell model flat cluster s port number time o
+port_bare model flat cluster s port number time None = refl
+port_bare model flat cluster s port number time (Some c) = refl
 
 note_bare : (flat : Flat) (time cluster : ℕ) (o : Option ClusterAt) → plan_note flat time cluster (option_map untold o) ≡ plan_note flat time cluster o
 note_bare flat time cluster None = refl
@@ -107,18 +108,18 @@ module _ {K : Type 0} where
 
   module _ (model : PureTree) (flat : Flat) where
     module _ (w v : World K) (same : world_untold w ≡ world_untold v) where
-      driven_same : (time number : ℕ) (o : Option PortRow) → driven_cell model flat time w.clusters number o ≡ driven_cell model flat time v.clusters number o
-      driven_same time number None = refl
-      driven_same time number (Some port) =
-          same_by (port_cell model flat (slice_index (clusters_of flat.tables) port.«module») port number time) (port_bare model flat (slice_index (clusters_of flat.tables) port.«module») port number time) w v same
+      driven_same : (s : ColumnStart) (time number : ℕ) (o : Option PortRow) → driven_cell model flat s time w.clusters number o ≡ driven_cell model flat s time v.clusters number o
+      driven_same s time number None = refl
+      driven_same s time number (Some port) =
+          same_by (port_cell model flat (slice_index (clusters_of flat.tables) port.«module») s port number time) (port_bare model flat (slice_index (clusters_of flat.tables) port.«module») s port number time) w v same
           (slice_index (clusters_of flat.tables) port.«module» - 1)
 
-      by_driver : (time : ℕ) (o : Option ℕ) → cell_by_driver model flat time w.clusters o ≡ cell_by_driver model flat time v.clusters o
-      by_driver time None = refl
-      by_driver time (Some number) = driven_same time number (slice_get flat.tables.ports number)
+      by_driver : (s : ColumnStart) (time : ℕ) (o : Option ℕ) → cell_by_driver model flat s time w.clusters o ≡ cell_by_driver model flat s time v.clusters o
+      by_driver s time None = refl
+      by_driver s time (Some number) = driven_same s time number (slice_get flat.tables.ports number)
 
-      signal_same : (time signal : ℕ) → signal_cell model flat time w.clusters signal ≡ signal_cell model flat time v.clusters signal
-      signal_same time signal = by_driver time (driver_of_row (slice_get flat.tables.signals signal))
+      signal_same : (s : ColumnStart) (time signal : ℕ) → signal_cell model flat s time w.clusters signal ≡ signal_cell model flat s time v.clusters signal
+      signal_same s time signal = by_driver s time (driver_of_row (slice_get flat.tables.signals signal))
 
       new_same : (time : ℕ) → new_plans flat time w ≡ new_plans flat time v
       new_same time = λ i. flat_map (λ n. same_by (plan_note flat time (n + 1)) (note_bare flat time (n + 1)) w v same n i) ((same i).planned)
@@ -175,23 +176,24 @@ module _ {K : Type 0} where
         value_same : (signal time : ℕ) → time ≤ stop → value_before model flat rules one signal time ≡ value_before model flat rules other signal time
         value_same signal time low = ap (λ (u : World K). slice_index_or (rules.event_side.values u.events) signal zero_sample) (worlds_same time low)
 
-        cell_same : (end time : ℕ) → end ≤ stop → time < end → (o : Option TraceRow) → trace_cell model flat rules one end time o ≡ trace_cell model flat rules other end time o
-        cell_same end time within low None = refl
-        cell_same end time within low (Some row) =
+        shown_same : one.shown ≡ other.shown
+        shown_same = ap (λ (u : World K). u.shown) start
+
+        cell_same : (end time : ℕ) → end ≤ stop → time < end → (s : ColumnStart) (o : Option TraceRow) → trace_cell model flat rules one end time s o ≡ trace_cell model flat rules other end time s o
+        cell_same end time within low s None = refl
+        cell_same end time within low s (Some row) =
             let now : time ≤ stop = omega (arith, within, low) in
             let next : time + 1 ≤ stop = omega (arith, within, low) in
             λ i. if row.event then changed_cell (value_same row.signal time now i) (value_same row.signal (time + 1) next i)
-            else signal_same (world_before model flat rules one end) (world_before model flat rules other end) (worlds_same end within) time row.signal i
-
-        first_same : (o : Option TraceRow) → first_shown model flat rules one o ≡ first_shown model flat rules other o
-        first_same None = refl
-        first_same (Some row) = let low : 0 ≤ stop = omega arith in λ i. if row.event then Some (value_same row.signal 0 low i) else None
+            else signal_same (world_before model flat rules one end) (world_before model flat rules other end) (worlds_same end within) s time row.signal i
 
         pub cells_same : (end : ℕ) → end ≤ stop → Agree (run_cells model flat rules one end) (run_cells model flat rules other end) end
         cells_same end within = record {
           columns = refl;
-          first = λ column inside. first_same (slice_get flat.tables.traces column);
-          cells = λ column time inside low. cell_same end time within low (slice_get flat.tables.traces column);
+          first = λ column inside. ap (λ l. (start_of l column).carry) shown_same;
+          cells = λ column time inside low. (
+              cell_same end time within low (start_of one.shown column) (slice_get flat.tables.traces column)
+              ∙ ap (λ l. trace_cell model flat rules other end time (start_of l column) (slice_get flat.tables.traces column)) shown_same);
         }
 
         pub end_same : end_of model flat rules one stop ≡ end_of model flat rules other stop

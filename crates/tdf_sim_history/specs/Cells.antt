@@ -1,22 +1,23 @@
 -- The cells of a trace that a history gives.
 -- Source: own.
 use Rattle.std.specs.Ordering.{int_eq}
-use Rattle.std.specs.Prelude.{ℕ, ◌+◌, ◌-◌, ◌*◌, Bool, ◌&&◌, nat_eq, nat_lt, if◌then◌else◌, Option, Some, None, option_map, List, [], ◌∷◌, length, slice_get, slice_index, slice_index_or}
+use Rattle.std.specs.Prelude.{ℕ, ◌+◌, ◌-◌, ◌*◌, Bool, ◌&&◌, nat_eq, nat_lt, if◌then◌else◌, Option, Some, None, option_map, List, [], ◌∷◌, ◌++◌, ℤ, length, slice_get, slice_index, slice_index_or}
 use Rattle.std.specs.List.{sum_by}
 use Rattle.tdf_dynamic_plans.specs.Attributes.{clusters_of}
 use Rattle.tdf_fixed.specs.declared.raw.Raw.{Raw}
 use Rattle.tdf_bind.specs.declared.model.Flat.{Flat}
 use Rattle.tdf_streams.specs.Grounds.{firings}
+use Rattle.tdf_streams.specs.Net.{Past}
 use Rattle.tdf_streams.specs.Streams.{known}
-use Rattle.tdf_sim_history.specs.Instant.{RunFault, engine, periods_of, run_in}
+use Rattle.tdf_sim_history.specs.Instant.{RunFault, acts_now, engine, periods_of, run_in}
+use Rattle.tdf_sim_history.specs.Columns.{ColumnStart, held_by, span_after, spans_to, start_of}
 use Rattle.tdf_sim_history.specs.World.{ClusterAt, Rules, World}
 use Rattle.tdf_sim_history.specs.History.{State, On, Stopped, Spent, history}
 use Rattle.tdf_trace_rows.specs.Positions.{Span, position_at, span_of}
 use Rattle.tdf_trace_rows.specs.Rows.{Cells}
-use Rattle.tdf_schedule.specs.Plan.{done}
 use Rattle.tdf_streams.specs.Cluster.{cluster_net, zero_sample}
 use Rattle.tdf_streams.specs.Periods.{PeriodRecord}
-use Rattle.tdf_streams.specs.Signals.{outputs_in, positions, rate_in, signal_sample, step_in}
+use Rattle.tdf_streams.specs.Signals.{outputs_in, port_output, positions, rate_in, step_in}
 use Rattle.tdf_lang_tree.specs.Pure.{PureTree}
 use Rattle.tdf_bind_connections.specs.declared.drivers.SignalRow.{SignalRow}
 use Rattle.tdf_bind_connections.specs.declared.modules.PortRow.{PortRow}
@@ -28,49 +29,65 @@ spans_from port time [] = []
 spans_from port time (p ∷ ps) = span_of time (step_in port p) (positions port p)
     ∷ spans_from port (time + p.info.period) ps
 
--- samples of a port's signal that are there: its initial ones, and the outputs of the activations
--- that are done
-abbrev pub samples_done : PortRow → ClusterAt → ℕ
-samples_done port c = port.delay + (sum_by (outputs_in port) c.old
-    + done c.entries c.place port.«module» * rate_in port c.now)
+-- those that a column has from its start on: samples at their times, and then periods
+abbrev pub column_spans : PortRow → ColumnStart → (origin : ℕ) → List PeriodRecord → List Span
+column_spans port s origin [] = []
+column_spans port s origin (p ∷ ps) = spans_to s.stamps (origin + s.skipped * step_in port p)
+    ++ span_after origin (step_in port p) (positions port p) s.skipped
+    ∷ spans_from port (origin + p.info.period) ps
+
+-- outputs of a port that are there: those of the activations since the start that are done
+abbrev pub outputs_done : PortRow → ClusterAt → ℕ
+outputs_done port c =
+    sum_by (outputs_in port) c.old + acts_now c port.«module» * rate_in port c.now
+
+-- samples of a column that are there: those that its start holds, and the outputs
+abbrev pub samples_done : ColumnStart → PortRow → ClusterAt → ℕ
+samples_done s port c = length (held_by s) + outputs_done port c
+
+-- sample j of a column: one that its start holds, or an output since
+abbrev pub sample_of : ColumnStart → List PeriodRecord → PortRow → (number : ℕ)
+    → Past (List ℤ) Raw → ℕ → Option Raw
+sample_of s periods port number past j = if nat_lt j (length (held_by s))
+    then slice_get (held_by s) j else port_output periods port number past (j - length (held_by s))
 
 -- the sample at a position, unknown where it isn't there yet
-abbrev pub sample_at : PureTree → Flat → (cluster : ℕ) → ClusterAt → PortRow → (number j : ℕ)
-    → Option Raw
-sample_at model flat cluster c port number j = if nat_lt j (samples_done port c)
-    then signal_sample flat.tables (periods_of c) port number
+abbrev pub sample_at : PureTree → Flat → (cluster : ℕ) → ClusterAt → ColumnStart → PortRow
+    → (number j : ℕ) → Option Raw
+sample_at model flat cluster c s port number j = if nat_lt j (samples_done s port c)
+    then sample_of s (periods_of c) port number
     (known (cluster_net model flat cluster c.begun) (run_in c) (firings (periods_of c))) j
     else None
 
 -- the cell of a time: none where no position has it
-abbrev pub port_cell : PureTree → Flat → (cluster : ℕ) → PortRow → (number time : ℕ)
-    → Option ClusterAt → Option (Option Raw)
-port_cell model flat cluster port number time None = None
-port_cell model flat cluster port number time (Some c) =
-    option_map (sample_at model flat cluster c port number)
-    (position_at 0 (spans_from port 0 (periods_of c)) time)
+abbrev pub port_cell : PureTree → Flat → (cluster : ℕ) → ColumnStart → PortRow
+    → (number time : ℕ) → Option ClusterAt → Option (Option Raw)
+port_cell model flat cluster s port number time None = None
+port_cell model flat cluster s port number time (Some c) =
+    option_map (sample_at model flat cluster c s port number)
+    (position_at 0 (column_spans port s c.origin (periods_of c)) time)
 
-abbrev pub driven_cell : PureTree → Flat → (time : ℕ) → List ClusterAt → (number : ℕ)
-    → Option PortRow → Option (Option Raw)
-driven_cell model flat time clusters number None = None
-driven_cell model flat time clusters number (Some port) =
-    port_cell model flat (slice_index (clusters_of flat.tables) port.«module») port number time
+abbrev pub driven_cell : PureTree → Flat → ColumnStart → (time : ℕ) → List ClusterAt
+    → (number : ℕ) → Option PortRow → Option (Option Raw)
+driven_cell model flat s time clusters number None = None
+driven_cell model flat s time clusters number (Some port) =
+    port_cell model flat (slice_index (clusters_of flat.tables) port.«module») s port number time
     (slice_get clusters (slice_index (clusters_of flat.tables) port.«module» - 1))
 
 abbrev pub driver_of_row : Option SignalRow → Option ℕ
 driver_of_row None = None
 driver_of_row (Some signal) = signal.driver
 
-abbrev pub cell_by_driver : PureTree → Flat → (time : ℕ) → List ClusterAt → Option ℕ
-    → Option (Option Raw)
-cell_by_driver model flat time clusters None = None
-cell_by_driver model flat time clusters (Some number) =
-    driven_cell model flat time clusters number (slice_get flat.tables.ports number)
+abbrev pub cell_by_driver : PureTree → Flat → ColumnStart → (time : ℕ) → List ClusterAt
+    → Option ℕ → Option (Option Raw)
+cell_by_driver model flat s time clusters None = None
+cell_by_driver model flat s time clusters (Some number) =
+    driven_cell model flat s time clusters number (slice_get flat.tables.ports number)
 
--- the cell of a signal of samples
-abbrev pub signal_cell : PureTree → Flat → (time : ℕ) → List ClusterAt → (signal : ℕ)
-    → Option (Option Raw)
-signal_cell model flat time clusters signal = cell_by_driver model flat time clusters
+-- the cell of a signal of samples, in a column with such a start
+abbrev pub signal_cell : PureTree → Flat → ColumnStart → (time : ℕ) → List ClusterAt
+    → (signal : ℕ) → Option (Option Raw)
+signal_cell model flat s time clusters signal = cell_by_driver model flat s time clusters
     (driver_of_row (slice_get flat.tables.signals signal))
 
 -- an event signal has a cell where an instant changed its settled value
@@ -103,26 +120,19 @@ module _ {K : Type 0} where
       (value_before model flat rules start signal time)
       (value_before model flat rules start signal (time + 1))
 
-  abbrev pub trace_cell : PureTree → Flat → Rules K → World K → (end time : ℕ) → Option TraceRow
-      → Option (Option Raw)
-  trace_cell model flat rules start end time None = None
-  trace_cell model flat rules start end time (Some row) = if row.event
+  abbrev pub trace_cell : PureTree → Flat → Rules K → World K → (end time : ℕ) → ColumnStart
+      → Option TraceRow → Option (Option Raw)
+  trace_cell model flat rules start end time s None = None
+  trace_cell model flat rules start end time s (Some row) = if row.event
       then event_cell model flat rules start row.signal time
-      else signal_cell model flat time (world_before model flat rules start end).clusters row.signal
-
-  -- before its first cell a column of an event signal shows its starting value, one of samples
-  -- nothing
-  abbrev pub first_shown : PureTree → Flat → Rules K → World K → Option TraceRow → Option Raw
-  first_shown model flat rules start None = None
-  first_shown model flat rules start (Some row) =
-      if row.event then Some (value_before model flat rules start row.signal 0) else None
+      else signal_cell model flat s time (world_before model flat rules start end).clusters
+      row.signal
 
   -- the cells of the traces of a model, by the history before an end
   abbrev pub run_cells : PureTree → Flat → Rules K → World K → (end : ℕ) → Cells
   run_cells model flat rules start end = record {
     columns = length flat.tables.traces;
-    first = λ column.
-        first_shown model flat rules start (slice_get flat.tables.traces column);
-    at = λ column time.
-        trace_cell model flat rules start end time (slice_get flat.tables.traces column);
+    first = λ column. (start_of start.shown column).carry;
+    at = λ column time. trace_cell model flat rules start end time
+        (start_of start.shown column) (slice_get flat.tables.traces column);
   }

@@ -1,8 +1,8 @@
 -- What later instants make of clusters: periods and values of samplers are added, and samples.
 -- Source: own.
-use Rattle.std.specs.Prelude.{◌≡◌, ◌≤◌, ℕ, List, All, Some, length, slice_get, slice_index}
+use Rattle.std.specs.Prelude.{◌≡◌, ◌+◌, ◌≤◌, ℕ, List, All, Some, length, slice_get, slice_index}
 use Rattle.tdf_streams.specs.Stands.{Longer}
-use Rattle.tdf_sim_history.specs.Cells.{samples_done}
+use Rattle.tdf_sim_history.specs.Cells.{outputs_done}
 use Rattle.tdf_sim_history.specs.Instant.{run_in}
 use Rattle.tdf_sim_history.specs.World.{Change, ClusterAt, New, Refused, Same, World}
 use Rattle.tdf_schedule.specs.Plan.{done}
@@ -10,11 +10,12 @@ use Rattle.tdf_schedule.specs.declared.entry.Entry.{Entry}
 use Rattle.tdf_bind_connections.specs.declared.modules.PortRow.{PortRow}
 
 -- the streams of a cluster go on from one state of it to another: their start stays, periods and
--- values of samplers are added, and no fewer samples of a signal are there
+-- values of samplers are added, and no fewer outputs of a port are there
 pub record Continues (c d : ClusterAt) : Type 0 where
   pub begun : d.begun ≡ c.begun
+  pub origin : d.origin ≡ c.origin
   pub longer : Longer (run_in c) (run_in d)
-  pub samples : (port : PortRow) → samples_done port c ≤ samples_done port d
+  pub outputs : (port : PortRow) → outputs_done port c ≤ outputs_done port d
 
 -- a plan has so many firings of each actor
 abbrev pub HasCounts : List Entry → List ℕ → Type 0
@@ -26,10 +27,12 @@ HasToldCounts (Same table) = Unit {0}
 HasToldCounts (New table counts period entries bounds) = HasCounts entries counts
 HasToldCounts (Refused fault) = Unit {0}
 
--- the plan in force has the firings of the period, which is a whole one; those ahead have theirs
+-- the plan in force has the firings of the period, and what is done in it is those from a place on;
+-- those ahead have theirs
 pub record HasWholePlan (c : ClusterAt) : Type 0 where
-  pub counts : HasCounts c.entries c.now.counts
-  pub whole : c.now.counts ≡ c.now.info.counts
+  pub counts : (m : ℕ) → slice_index c.now.counts m + done c.entries c.from m
+      ≡ done c.entries (length c.entries) m
+  pub whole : HasCounts c.entries c.now.info.counts
   pub ahead : All HasToldCounts c.ahead
 
 -- where a cluster has a whole plan, it goes on, and has one still

@@ -55,6 +55,7 @@ same_period table p = record {
 abbrev pub with_same : (time : ℕ) → List AttrsOf → ClusterAt → ClusterAt
 with_same time table c = record c {
   since = time;
+  from = 0;
   place = 0;
   old = periods_of c;
   now = same_period table c.now;
@@ -67,6 +68,7 @@ with_new tables time table counts period entries bounds c = record c {
   entries = entries;
   bounds = bounds;
   since = time;
+  from = 0;
   place = 0;
   old = periods_of c;
   now = period_record tables table counts period true;
@@ -96,9 +98,12 @@ edge_from tables m e zero = e
 edge_from tables m e (suc n) =
     if nat_eq (reader_at tables.edges e) m then e else edge_from tables m (e + 1) n
 
--- activations of an actor since the start
+-- activations of an actor in the period since the start, and in all
+abbrev pub acts_now : ClusterAt → ℕ → ℕ
+acts_now c m = done c.entries c.place m - done c.entries c.from m
+
 abbrev pub activations : ClusterAt → ℕ → ℕ
-activations c m = sum_by (count m) c.old + done c.entries c.place m
+activations c m = sum_by (count m) c.old + acts_now c m
 
 -- the sample that a sink takes: the next one of its edge
 abbrev pub sample_taken : PureTree → Flat → (cluster : ℕ) → ClusterAt → ℕ → Raw

@@ -1,5 +1,6 @@
 pub mod Answers
 pub mod Cells
+pub mod Columns
 pub mod Continuing
 pub mod History
 pub mod Instant

@@ -2,13 +2,18 @@
 -- told of its boundaries.
 -- Source: own.
 use Rattle.std.specs.List.{count_by, enumerate_from, range_with_len}
-use Rattle.std.specs.Prelude.{ℕ, ◌+◌, true, List, [], length, map, nat_eq, replicate, slice_index_or}
+use Rattle.std.specs.Prelude.{ℕ, ◌+◌, true, List, [], Option, None, Some, if◌then◌else◌, length, map, nat_eq, replicate, slice_get, slice_index_or}
 use Rattle.tdf_bind_tables.specs.FlatTables.{FlatTablesOf}
 use Rattle.tdf_dynamic_first.specs.declared.first.First.{First}
 use Rattle.tdf_bind.specs.declared.model.Flat.{Flat}
+use Rattle.tdf_bind_connections.specs.declared.drivers.SignalRow.{SignalRow}
+use Rattle.tdf_bind_connections.specs.declared.traces.TraceRow.{TraceRow}
+use Rattle.tdf_fixed.specs.declared.raw.Raw.{Raw}
+use Rattle.tdf_sim_history.specs.Cells.{driver_of_row}
+use Rattle.tdf_sim_history.specs.Columns.{ColumnStart}
 use Rattle.tdf_sim_history.specs.World.{Change, ClusterAt, World}
 use Rattle.tdf_schedule.specs.declared.entry.Entry.{Entry}
-use Rattle.tdf_streams.specs.Cluster.{text_start}
+use Rattle.tdf_streams.specs.Cluster.{driver_samples, text_start, zero_sample}
 use Rattle.tdf_streams.specs.Periods.{period_record}
 use Rattle.tdf_lang_tree.specs.Pure.{PureTree}
 
@@ -25,7 +30,9 @@ first_cluster model flat cluster first ahead = record {
   begun = text_start model flat cluster first.attrs;
   entries = first.plan.entries.items;
   bounds = first.plan.bounds.items;
+  origin = 0;
   since = 0;
+  from = 0;
   place = 0;
   old = [];
   now = period_record flat.tables first.attrs (counts_in flat.tables first.plan.entries.items)
@@ -41,6 +48,24 @@ first_clusters model flat firsts ahead =
     map (λ (first : ℕ × First). first_cluster model flat (first.0 + 1) first.1
     (slice_index_or ahead first.0 [])) (enumerate_from 0 firsts)
 
+-- what a column shows from the text's start on: one of an event signal its starting value, one of
+-- samples nothing before its initial samples
+abbrev pub starting_value : Option SignalRow → Raw
+starting_value None = zero_sample
+starting_value (Some signal) = signal.start
+
+abbrev pub text_column : FlatTablesOf → TraceRow → ColumnStart
+text_column tables row = record {
+  carry = if row.event then Some (starting_value (slice_get tables.de_signals row.signal))
+      else None;
+  stamps = [];
+  skipped = 0;
+  ahead = driver_samples tables (driver_of_row (slice_get tables.signals row.signal));
+}
+
+abbrev pub text_columns : FlatTablesOf → List ColumnStart
+text_columns tables = map (text_column tables) tables.traces
+
 module _ {K : Type 0} where
   abbrev pub first_world : PureTree → Flat → List First → (ahead : List (List Change))
       → (events : K) → (turns : ℕ) → World K
@@ -50,4 +75,5 @@ module _ {K : Type 0} where
     left = turns;
     written = [];
     planned = [];
+    shown = text_columns flat.tables;
   }

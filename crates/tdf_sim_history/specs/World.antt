@@ -6,6 +6,7 @@ use Rattle.tdf_base.specs.declared.faults.Fault.{Fault}
 use Rattle.tdf_dynamic_plans.specs.Attributes.{AttrsOf}
 use Rattle.tdf_fixed.specs.declared.raw.Raw.{Raw}
 use Rattle.tdf_schedule.specs.declared.entry.Entry.{Entry}
+use Rattle.tdf_sim_history.specs.Columns.{ColumnStart}
 use Rattle.tdf_streams.specs.Cluster.{Start}
 use Rattle.tdf_streams.specs.Periods.{PeriodRecord}
 
@@ -23,8 +24,12 @@ pub record ClusterAt : Type 0 where
   -- the plan in force; its attributes are those of the period
   pub entries : List Entry
   pub bounds : List ℕ
-  -- when its period began, and how many entries are done in it
+  -- when its first period began, also where the start lies inside that
+  pub origin : ℕ
+  -- when its period began, from which place of the plan on it is done since the start, and how many
+  -- entries are done in it
   pub since : ℕ
+  pub from : ℕ
   pub place : ℕ
   -- the periods before, and this one; and the values that samplers read, by actor
   pub old : List PeriodRecord
@@ -50,6 +55,8 @@ pub record World (K : Type 0) : Type 0 where
   -- of the instant that is going on: what sinks wrote, and which clusters got a new plan
   pub written : List SinkWrite
   pub planned : List ℕ
+  -- what the column of each trace shows from the start on
+  pub shown : List ColumnStart
 
 -- the event side: the settled values of its signals, whether something is pending at a time, and
 -- what its part of an instant does with what sinks wrote, within so many turns; none where these

@@ -5,7 +5,7 @@ ghost use Rattle.tdf_sim_history.specs.Laws.{AnswersTellOne, IdleStaysOn, MoreIs
 ghost use Rattle.tdf_sim_history.specs.Texts.{run_notes, run_trace};
 ghost use Rattle.tdf_sim_history.specs.TurnLaws.{EndLies, FaultEnds, InstantHappens, SpentEnds, StopIsReached, TurnsGo};
 ghost use Rattle.tdf_sim_history.specs.TableLaws.{AnswersAgree, AnswersWriteOne, BoundariesHaveTables, MoreWritesTheSame};
-ghost use Rattle.tdf_sim_history.specs.WorldLaws.{CellsStay, SamplesAreThere};
+ghost use Rattle.tdf_sim_history.specs.WorldLaws.{CellsStay, MarksAreSettled, SamplesAreThere};
 
 use tdf_dynamic::law_one_answer;
 
@@ -69,9 +69,14 @@ pub fn law_agree()
     law_one_answer();
 }
 
-/// Later instants change no cell below a mark, where no cluster began its period before it.
+/// Later instants change no cell below a mark, where each position below it has its sample.
 pub fn law_cells_stay()
     ensures { CellsStay }
+{}
+
+/// Where no cluster began its period before a mark, each position below it has its sample.
+pub fn law_settled()
+    ensures { MarksAreSettled }
 {}
 
 /// Below the start of the period of a cluster that has done its firings each position of a signal

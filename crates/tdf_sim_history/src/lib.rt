@@ -9,5 +9,5 @@ mod laws;
 
 pub use laws::{
     law_agree, law_cells_stay, law_history, law_idle, law_longer, law_one_history, law_one_text,
-    law_samples_there, law_tables, law_told, law_turns, law_unchanged,
+    law_samples_there, law_settled, law_tables, law_told, law_turns, law_unchanged,
 };

@@ -1,5 +1,5 @@
 -- The time of a position, by the spans of the periods and by the periods themselves.
-use Rattle.std.proofs.Common.{◌≡◌, ◌∙◌, ℕ, ◌+◌, ◌-◌, ◌*◌, ◌<◌, List, [], ◌∷◌, ◌++◌, Option, Some, None, option_map, refl, ap, sym, subst, inl, inr, arith}
+use Rattle.std.proofs.Common.{◌≡◌, ◌∙◌, ℕ, ◌+◌, ◌-◌, ◌*◌, List, [], ◌∷◌, ◌++◌, Some, option_map, refl, ap, sym, subst, inl, inr, arith}
 use Rattle.std.proofs.lemmas.Bool.{cases_lt, le-ltb, lt-ltb}
 use Rattle.std.proofs.lemmas.List.Elements.{All-head, All-tail}
 use Rattle.std.proofs.lemmas.List.Sums.{sum_by_push}
@@ -11,7 +11,7 @@ use Rattle.tdf_sim_history.specs.Cells.{spans_from}
 use Rattle.tdf_sim_laws.specs.Laws.{TimesAreOne}
 use Rattle.tdf_streams.proofs.Api.{steps_whole}
 use Rattle.tdf_streams.specs.Laws.{IsClusterPort}
-use Rattle.tdf_streams.specs.Periods.{IsTimedRecord, PeriodInfo, PeriodRecord}
+use Rattle.tdf_streams.specs.Periods.{IsTimedRecord, PeriodRecord}
 use Rattle.tdf_streams.specs.Signals.{position_time, positions, step_in, time_at_spot, time_of}
 use Rattle.tdf_streams.specs.Streams.{find}
 use Rattle.tdf_trace_rows.proofs.Api.{position_is, time_is}

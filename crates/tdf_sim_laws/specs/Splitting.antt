@@ -4,7 +4,7 @@ use Rattle.std.specs.Prelude.{◌≡◌, ◌+◌, ◌<◌, ℕ, false}
 use Rattle.tdf_bind.specs.declared.model.Flat.{Flat}
 use Rattle.tdf_events.specs.Side.{SideOf}
 use Rattle.tdf_lang_tree.specs.Pure.{PureTree}
-use Rattle.tdf_sim_history.specs.History.{Engine, On, history}
+use Rattle.tdf_sim_history.specs.History.{On, history}
 use Rattle.tdf_sim_history.specs.Rules.{world_engine}
 use Rattle.tdf_sim_history.specs.World.{World}
 

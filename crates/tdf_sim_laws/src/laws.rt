@@ -1,5 +1,6 @@
 //! What holds of the history of a model: each function here only carries its clause.
 
+ghost use Rattle.tdf_sim_laws.specs.Columns.{TextColumns};
 ghost use Rattle.tdf_sim_laws.specs.Laws.{SamplesAreAt, TimesAreOne};
 ghost use Rattle.tdf_sim_laws.specs.Splitting.{HistorySplits, QuietIsFromZero};
 
@@ -24,4 +25,10 @@ pub fn law_samples_at()
 pub fn law_splits()
     ensures splits { HistorySplits }
     ensures quiet { QuietIsFromZero }
+{}
+
+/// A column from the text's start on has the positions of its periods from the time 0 and the samples of its signal, and before
+/// its first cell it shows the value that its event signal starts with, or nothing.
+pub fn law_text_columns()
+    ensures { TextColumns }
 {}

@@ -3,9 +3,10 @@
 //!
 //! There is no code here but laws, and the definitions are in `specs`.
 //!
-//! - `laws`: the times of positions, the samples at the start of a period, and a history in two parts.
+//! - `laws`: the times of positions, the samples at the start of a period, a history in two parts, and columns from the
+//!   text's start on.
 #![tactic(auto)]
 
 mod laws;
 
-pub use laws::{law_samples_at, law_splits, law_times};
+pub use laws::{law_samples_at, law_splits, law_text_columns, law_times};

@@ -14,7 +14,7 @@ use Rattle.tdf_bind.specs.declared.model.Flat.{Flat}
 use Rattle.tdf_sim_history.specs.Answers.{IsAnswer, Leads, asks_in, last_cells}
 use Rattle.tdf_sim_history.specs.World.{Change, ClusterAt}
 use Rattle.tdf_bind_invariants.specs.Limits.{AreWithinLimits}
-use Rattle.tdf_sim_refinement.proofs.Crossing.{all_at, all_done, last_whole}
+use Rattle.tdf_sim_refinement.proofs.Crossing.{all_at, all_done, record_now}
 use Rattle.tdf_sim_refinement.proofs.Answering.{cluster_there}
 use Rattle.tdf_streams.proofs.Api.{get_inside, is_wired}
 use Rattle.tdf_exec_layout.proofs.Api.{module_kind}
@@ -23,7 +23,6 @@ use Rattle.tdf_sim_refinement.specs.At.{IsAt}
 use Rattle.tdf_sim_refinement.specs.Boundary.{HasAnswered}
 use Rattle.tdf_streams.specs.Cluster.{is_outside, is_sampler_kind}
 use Rattle.tdf_streams.specs.Periods.{AreAttributes}
-use Rattle.tdf_streams.specs.Places.{actor_kind}
 use Rattle.tdf_sim_refinement.proofs.Knowing.{held}
 use Rattle.tdf_sim_refinement.specs.SampleLaws.{AnswersAreTold, HasAnswer}
 use Rattle.tdf_lang_tree.specs.Pure.{PureTree}
@@ -69,7 +68,7 @@ module _ (model : PureTree) (flat : Flat) (number : ℕ) (h : ClusterAt) (c : Cl
   boundary : IsBoundary flat number (asks_in model flat number h) h.now.info.table
   boundary = record {
     limits = limits;
-    has = cluster_there flat number h.now limits (last_whole model flat number h c at);
+    has = cluster_there flat number h.now limits (record_now model flat number h c at);
     before = subst (AreAttributes flat number) at.table_is (subst (λ n. AreAttributes flat n c.table) at.number_is at.of.attributes);
     after = subst (λ t. AreAttributes flat number (table_after (asks_in model flat number h) t)) at.table_is
         (subst (λ n. AreAttributes flat n (table_after (asks_of model flat cells) c.table)) at.number_is (answered.after model cells checked are));

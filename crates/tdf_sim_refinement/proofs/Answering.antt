@@ -13,7 +13,7 @@ use Rattle.tdf_streams.proofs.Api.{get_inside, is_wired}
 use Rattle.tdf_dynamic_plans.proofs.Api.{modules_few}
 use Rattle.tdf_sim_refinement.proofs.Crossing.{all_at}
 use Rattle.tdf_sim_refinement.specs.Boundary.{AnswersLead}
-use Rattle.tdf_streams.specs.Periods.{IsWholeRecord, PeriodRecord}
+use Rattle.tdf_streams.specs.Periods.{PeriodRecord, IsPeriodRecord}
 
 pub answers_lead : AnswersLead
 answers_lead tables number asks old new next.Same is = is
@@ -33,10 +33,10 @@ unfolding assignments
 has_row [] some = absurd (omega (arith, some))
 has_row (a ∷ table) some = (a, refl)
 
-pub cluster_there : (flat : Flat) (number : ℕ) (p : PeriodRecord) → AreWithinLimits flat → IsWholeRecord flat number p → Contains (clusters_of flat.tables) number
-cluster_there flat number p limits whole =
-    let a = has_row p.info.table whole.is.timed.period_is.agreed.some in
-    let own = all_at (IsOfCluster flat.tables number) p.info.table 0 a.0 whole.is.timed.attributes.own a.1 in
+pub cluster_there : (flat : Flat) (number : ℕ) (p : PeriodRecord) → AreWithinLimits flat → IsPeriodRecord flat number p → Contains (clusters_of flat.tables) number
+cluster_there flat number p limits is =
+    let a = has_row p.info.table is.timed.period_is.agreed.some in
+    let own = all_at (IsOfCluster flat.tables number) p.info.table 0 a.0 is.timed.attributes.own a.1 in
     let few = modules_few flat.tables (is_wired flat limits) in
     let long = length-map flat.tables.actors cluster_of in
     let below : a.0.number < length (clusters_of flat.tables) = (let b = own.is_module in omega (arith, few, b, long)) in

@@ -3,7 +3,7 @@ pub use Rattle.tdf_sim_refinement.proofs.Along.{due_here, goes_along, is_spent}
 pub use Rattle.tdf_sim_refinement.proofs.Answering.{answers_lead, cluster_there}
 pub use Rattle.tdf_sim_refinement.proofs.Arriving.{arrives, done_none, firings_keep_at, in_plan, not_late, place_d}
 pub use Rattle.tdf_sim_refinement.proofs.Beginning.{counted_in, start_at, starts_are_at}
-pub use Rattle.tdf_sim_refinement.proofs.Crossing.{all_at, all_done, boundary_at, last_whole, past_next}
+pub use Rattle.tdf_sim_refinement.proofs.Crossing.{all_at, all_done, boundary_at, record_now}
 pub use Rattle.tdf_sim_refinement.proofs.Due.{by_offset, due_counted, due_is, some_next, true_false}
 pub use Rattle.tdf_sim_refinement.proofs.Firings.{due_fire, few_end, get_set_same, none_fire, set_own}
 pub use Rattle.tdf_sim_refinement.proofs.Passing.{all_along, due_offset, get_set_other, later, none_due, part_is_spent, pass_is_spent, passes_along, same_or_not, set_is}
@@ -17,10 +17,10 @@ pub use Rattle.tdf_sim_refinement.proofs.Writing.{begins, enough, entry_in, give
 pub use Rattle.tdf_sim_refinement.proofs.Inside.{entries_inside, needs_inside, offset_by, offset_inside}
 pub use Rattle.tdf_sim_refinement.proofs.Lasting.{takes_time}
 pub use Rattle.tdf_sim_refinement.proofs.Answered.{answers_are_told}
-pub use Rattle.tdf_sim_refinement.proofs.Knowing.{done_known, held, known_to, signal_more}
+pub use Rattle.tdf_sim_refinement.proofs.Knowing.{column_more, done_known, held, known_to, outputs_known}
 pub use Rattle.tdf_sim_refinement.proofs.Passes.{passes_trace}
 pub use Rattle.tdf_sim_refinement.proofs.Picked.{samples_append, samples_none}
-pub use Rattle.tdf_sim_refinement.proofs.Sampled.{boundaries_add_none, boundary_adds_none, cell_of_samples, start_samples}
+pub use Rattle.tdf_sim_refinement.proofs.Sampled.{boundaries_add_none, boundary_adds_none, cell_of_samples, starts_have_samples}
 pub use Rattle.tdf_sim_refinement.proofs.Emitted.{emitted_to}
 pub use Rattle.tdf_sim_refinement.proofs.Ports.{in_range, own_module, ports_have_events}
 pub use Rattle.tdf_sim_refinement.proofs.Settled.{settled_inputs}

@@ -21,7 +21,7 @@ use Rattle.tdf_graph.specs.declared.actors.Actor.TheVariants as actor
 use Rattle.tdf_sim_history.specs.Instant.{is_entry_due}
 use Rattle.tdf_sim_history.specs.World.{ClusterAt}
 use Rattle.tdf_sim_refinement.proofs.Due.{due_counted, is_due_by, none_after, offset_is, true_false}
-use Rattle.tdf_sim_refinement.proofs.Sampling.{done_up, reads_kept, reads_long, sampler_reads}
+use Rattle.tdf_sim_refinement.proofs.Sampling.{done_up, reads_kept, reads_long, sampler_reads, done_to}
 use Rattle.tdf_sim_refinement.specs.At.{AreSettled, IsAt}
 use Rattle.tdf_sim_refinement.specs.Firings.{AreDueNext, IsNotLate, after_firings, reads_after, value_for}
 use Rattle.tdf_sim_refinement.specs.Laws.{FiringsKeepAt}
@@ -60,6 +60,13 @@ module _ (model : PureTree) (flat : Flat) (number time : ℕ) (values : List Raw
   pub in_plan : h.place ≤ length h.entries
   in_plan = let l = ap length at.entries_are in let p = at.place_is in let w = at.of.within in omega (arith, l, p, w)
 
+  started : h.from ≤ h.place
+  started = let s = at.period.started in let p = at.place_is in omega (arith, s, p)
+
+  -- what was done before the start, or the period, is no more than what is done
+  from_done : (m : ℕ) → done h.entries h.from m ≤ done h.entries h.place m
+  from_done m = done_to h.entries m h.from h.place started in_plan
+
   pub not_late : next_offset c ≡ Some offset → IsNotLate time h
   not_late next = record {
     begun = begun;
@@ -97,10 +104,10 @@ module _ (model : PureTree) (flat : Flat) (number time : ℕ) (values : List Raw
         | inr high ↦ elim (cases_lt (h.place + k) d.place) [ inl more ↦ absurd (not_after more) | inr less ↦ omega (arith, high, less) ]
       ]
 
-      period_d : IsPeriodOf d 0 h.now
+      period_d : IsPeriodOf d h.from h.now
       period_d = record {
-        started = omega arith;
-        counts = λ m. at.period.counts m ∙ ap (λ l. turns_from l 0 (length l) m) (sym entries_d);
+        started = (let s = at.period.started in let u = all.moved.up in omega (arith, s, u));
+        counts = λ m. at.period.counts m ∙ ap (λ l. turns_from l h.from (length l) m) (sym entries_d);
         reads = at.period.reads ∙ sym (ap (λ (z : ClusterOf). z.reads) all.moved.rest);
         writes = at.period.writes ∙ sym (ap (λ (z : ClusterOf). z.writes) all.moved.rest);
         table = at.period.table ∙ sym (ap (λ (z : ClusterOf). z.table) all.moved.rest);
@@ -111,12 +118,12 @@ module _ (model : PureTree) (flat : Flat) (number time : ℕ) (values : List Raw
         turns_are : turns_from c.entries c.place d.place m ≡ turns_from h.entries h.place (h.place + k) m
         turns_are = ap (λ l. turns_from l c.place d.place m) at.entries_are ∙ ap (λ p. turns_from h.entries p d.place m) at.place_is ∙ ap (λ p. turns_from h.entries h.place p m) place_d
 
-        pub position_d : slice_index d.positions m ≡ counted (sum_by (count m) h.old + done h.entries (h.place + k) m)
+        pub position_d : slice_index d.positions m ≡ counted (sum_by (count m) h.old + (done h.entries (h.place + k) m - done h.entries h.from m))
         position_d =
             let long = of.positions in let as_long = at.of.positions in
             let inside : m < length c.positions = omega (arith, below, long, as_long) in
             let was = at.positions m inside in let more = all.moved.positions m inside in let t = turns_are in
-            let u = done_up h.entries m h.place k due.within in omega (arith, was, more, t, u)
+            let u = done_up h.entries m h.place k due.within in let f = from_done m in omega (arith, was, more, t, u, f)
 
     -- what samplers have read
     abbrev reads : ℕ → List Raw
@@ -129,14 +136,14 @@ module _ (model : PureTree) (flat : Flat) (number time : ℕ) (values : List Raw
       reads_are : reads m ≡ slice_index_or h.reads m [] ++ replicate (turns_from h.entries h.place (h.place + k) m) (value_for flat.tables values m)
       reads_are = sampler_reads flat.tables values h m is.kind_is has_list k due.within
 
-      pub reads_count : length (reads m) ≡ sum_by (count m) h.old + done h.entries (h.place + k) m
+      pub reads_count : length (reads m) ≡ sum_by (count m) h.old + (done h.entries (h.place + k) m - done h.entries h.from m)
       reads_count =
           let l = ap length reads_are ∙ length-append (slice_index_or h.reads m []) (replicate (turns_from h.entries h.place (h.place + k) m) (value_for flat.tables values m)) in
           let r = length-replicate (turns_from h.entries h.place (h.place + k) m) (value_for flat.tables values m) in
-          let o = at.have_read.samplers m is in let u = done_up h.entries m h.place k due.within in omega (arith, l, r, o, u)
+          let o = at.have_read.samplers m is in let u = done_up h.entries m h.place k due.within in let f = from_done m in omega (arith, l, r, o, u, f)
 
       given : (i : ℕ) (x : Entry) (v : Raw) → x.actor ≡ m → c.place ≤ i → slice_get c.entries i ≡ Some x → x.offset ≡ offset → v ≡ value_for flat.tables values m
-          → slice_get (reads m) (sum_by (count m) h.old + turns_from c.entries 0 i m) ≡ Some v
+          → slice_get (reads m) (sum_by (count m) h.old + turns_from c.entries h.from i m) ≡ Some v
       given i x v own low there same value =
           let there_h = entry_at i x there in let p = at.place_is in
           let e : h.place + (i - h.place) ≡ i = omega (arith, low, p) in
@@ -153,14 +160,15 @@ module _ (model : PureTree) (flat : Flat) (number time : ℕ) (values : List Raw
           let first = done_up h.entries m h.place (i - h.place) (omega (arith, w, below, low, p)) in
           let at_i = ap (λ j. done h.entries j m) e in
           let same_done = ap (λ l. done l i m) at.entries_are in
-          let zero_done = done_none c.entries m in
+          let from_same = ap (λ l. done l h.from m) at.entries_are in
+          let before = from_done m in
           let long = at.have_read.samplers m is in
-          ap (λ l. slice_get l (sum_by (count m) h.old + turns_from c.entries 0 i m)) reads_are
-          ∙ copied (slice_index_or h.reads m []) (turns_from h.entries h.place (h.place + k) m) (sum_by (count m) h.old + turns_from c.entries 0 i m) (value_for flat.tables values m)
-          (omega (arith, long, zero_done, same_done, at_i, first)) (omega (arith, long, zero_done, same_done, at_i, first, top, up, next, one))
+          ap (λ l. slice_get l (sum_by (count m) h.old + turns_from c.entries h.from i m)) reads_are
+          ∙ copied (slice_index_or h.reads m []) (turns_from h.entries h.place (h.place + k) m) (sum_by (count m) h.old + turns_from c.entries h.from i m) (value_for flat.tables values m)
+          (omega (arith, long, from_same, before, same_done, at_i, first)) (omega (arith, long, from_same, before, same_done, at_i, first, top, up, next, one))
           ∙ ap Some (sym value)
 
-    pub all_given : AreSettled flat.tables values offset c inputs → AreAllGiven offset c inputs reads h.old 0
+    pub all_given : AreSettled flat.tables values offset c inputs → AreAllGiven offset c inputs reads h.old h.from
     all_given settled i x low there same = record {
       is = λ s v runner_is input. (
           let sampler = at.of.runners x.actor (runner.Sampler s) runner_is in
@@ -181,16 +189,16 @@ module _ (model : PureTree) (flat : Flat) (number time : ℕ) (values : List Raw
       none_ahead = at.none_ahead;
       of = of;
       period = period_d all;
-      whole = at.whole;
-      past = at.past;
+      counts = at.counts;
+      records = at.records;
       have_read = record { same = reads_long flat.tables values h k ∙ at.have_read.same; samplers = λ m is. reads_count m is };
       positions = λ m below. position_d all of m below;
       steps = d.place - c.place + at.steps;
       few = (let e = place_d all in let p = at.place_is in let up = all.moved.up in let f = at.few in omega (arith, e, p, up, f));
-      stands = subst (λ j. Stands (cluster_net model flat j h.begun) h.old h.now reads (d.place - c.place + at.steps) (play_of 0 d)) at.number_is
-          (keeps model h.begun h.old h.now reads 0 at.steps checked at.period (all_given settled)
-          (subst (λ j. Stands (cluster_net model flat j h.begun) h.old h.now reads at.steps (play_of 0 c)) (sym at.number_is)
-          (reads_keep (cluster_net model flat number h.begun) h.old h.now (λ m. slice_index_or h.reads m []) reads at.steps (play_of 0 c) (reads_kept flat.tables values h k) at.stands)));
+      stands = subst (λ j. Stands (cluster_net model flat j h.begun) h.old h.now reads (d.place - c.place + at.steps) (play_of h.from d)) at.number_is
+          (keeps model h.begun h.old h.now reads h.from at.steps checked at.period (all_given settled)
+          (subst (λ j. Stands (cluster_net model flat j h.begun) h.old h.now reads at.steps (play_of h.from c)) (sym at.number_is)
+          (reads_keep (cluster_net model flat number h.begun) h.old h.now (λ m. slice_index_or h.reads m []) reads at.steps (play_of h.from c) (reads_kept flat.tables values h k) at.stands)));
     }
 
 pub firings_keep_at : FiringsKeepAt

@@ -1,13 +1,11 @@
 -- A cluster in progress at its start is what the history begins with.
-use Rattle.std.proofs.Common.{◌≡◌, ◌∙◌, ℕ, zero, suc, ◌+◌, ◌<◌, ◌≤◌, Bool, true, false, List, [], ◌∷◌, Some, length, replicate, nat_eq, inl, inr, refl, sym, ap, subst, arith}
-use Rattle.std.proofs.lemmas.Bool.{cases_eq, cases_lt, eq-eqb, ne_eqb, lt-ltb}
+use Rattle.std.proofs.Common.{◌≡◌, ◌∙◌, ℕ, zero, suc, ◌+◌, true, List, [], length, replicate, nat_eq, refl, sym, ap, subst, arith}
 use Rattle.std.proofs.lemmas.List.{ext_get_or, length-map, length-replicate}
 use Rattle.std.proofs.lemmas.List.FromFn.{length-map-range_with_len}
-use Rattle.std.proofs.lemmas.List.Elements.{All-cons, All-nil}
-use Rattle.std.proofs.lemmas.List.Sums.{sum_by-cons}
+use Rattle.std.proofs.lemmas.List.Elements.{All-nil}
 use Rattle.std.proofs.lemmas.Option.{get_or_from_slice_get}
 use Rattle.std.specs.List.{count_by}
-use Rattle.std.specs.Prelude.{◌&&◌, cond, if◌then◌else◌, slice_get, slice_index, slice_index_or}
+use Rattle.std.specs.Prelude.{slice_index, slice_index_or}
 use Rattle.tdf_bind_tables.specs.Actors.{cluster_of}
 use Rattle.tdf_dynamic_plans.specs.Attributes.{AttrsOf, clusters_of}
 use Rattle.tdf_dynamic_plans.specs.Rates.{net_of}
@@ -21,14 +19,13 @@ use Rattle.tdf_bind.specs.Flat.{IsFlatOf}
 use Rattle.tdf_bind.specs.declared.model.Flat.{Flat}
 use Rattle.tdf_streams.proofs.Api.{get_made_at, first_record, text_has_lists}
 use Rattle.tdf_streams.specs.Stands.{Stands}
-use Rattle.tdf_graph.specs.declared.actors.Edge.{Edge}
 use Rattle.tdf_sim_history.specs.Start.{counts_in, first_cluster}
 use Rattle.tdf_bind_invariants.specs.Limits.{AreWithinLimits}
 use Rattle.tdf_sim_refinement.proofs.Arriving.{done_none}
 use Rattle.tdf_sim_refinement.proofs.Writing.{done_all}
 use Rattle.tdf_sim_refinement.specs.At.{HaveRead, IsAt}
 use Rattle.tdf_sim_refinement.specs.Begun.{HasBegun, StartsAreAt}
-use Rattle.tdf_schedule.specs.Plan.{IsPlan, done, is_firing}
+use Rattle.tdf_schedule.specs.Plan.{done}
 use Rattle.tdf_schedule.specs.declared.entry.Entry.{Entry}
 use Rattle.tdf_streams.specs.Cluster.{cluster_net, text_start}
 use Rattle.tdf_streams.specs.Periods.{IsWholeRecord, PeriodRecord, period_record, read_rates, write_rates}
@@ -101,8 +98,8 @@ module _ (model : PureTree) (flat : Flat) (number : ℕ) (first : First) (c : Cl
     none_ahead = refl;
     of = begun.of;
     period = first_period;
-    whole = All-cons (IsWholeRecord flat number) now [] first_whole (All-nil (IsWholeRecord flat number));
-    past = text_has_lists model flat number first.attrs now is refl;
+    counts = λ m. first_counts m ∙ done_all entries m;
+    records = record { lists = text_has_lists model flat number first.attrs now is refl; head = first_whole.is; rest = All-nil (IsWholeRecord flat number) };
     have_read = first_read;
     positions = λ m below. (let z = begun.start.none_done m in let n = done_none entries m in omega (arith, z, n));
     steps = 0;

@@ -1,7 +1,6 @@
 -- A cluster in progress comes to what the history says of it after a boundary.
-use Rattle.std.proofs.Common.{◌≡◌, ◌∙◌, ℕ, ◌-◌, ◌<◌, ◌≤◌, ◌^◌, min, Bool, List, [], ◌∷◌, ◌++◌, None, Some, false, true, suc, length, nat_eq, inl, inr, refl, sym, ap, subst, arith}
+use Rattle.std.proofs.Common.{◌≡◌, ◌∙◌, ℕ, ◌-◌, ◌<◌, ◌≤◌, ◌^◌, min, Bool, List, [], ◌∷◌, ◌++◌, None, Some, false, true, length, nat_eq, inl, inr, refl, sym, ap, subst, arith}
 use Rattle.std.proofs.lemmas.Bool.{cases_lt}
-use Rattle.std.proofs.lemmas.List.Elements.{All-append, All-cons, All-nil}
 use Rattle.std.proofs.lemmas.List.Sums.{sum_by-append, sum_by-cons}
 use Rattle.std.proofs.lemmas.Option.{get_or_from_slice_get, slice_get_within}
 use Rattle.std.specs.List.{All, count_by, sum_by}
@@ -30,11 +29,12 @@ use Rattle.tdf_sim_refinement.specs.Boundary.{BoundariesKeepAt}
 use Rattle.tdf_schedule.specs.Plan.{done}
 use Rattle.tdf_schedule.specs.declared.entry.Entry.{Entry}
 use Rattle.tdf_schedule.specs.declared.entry.Plan.{Plan}
-use Rattle.tdf_streams.specs.Cluster.{Start, cluster_net}
+use Rattle.tdf_streams.specs.Cluster.{cluster_net}
 use Rattle.tdf_streams.specs.Laws.{HasRecord}
-use Rattle.tdf_streams.specs.Periods.{IsTimedRecord, IsWholeRecord, PeriodRecord, period_record, read_rates, write_rates}
+use Rattle.tdf_streams.specs.Periods.{IsTimedRecord, IsWholeRecord, PeriodRecord, period_record, read_rates, write_rates, IsPeriodRecord}
 use Rattle.tdf_streams.specs.Starts.{ArePast}
 use Rattle.tdf_lang_tree.specs.Pure.{PureTree}
+use Rattle.tdf_sim_history.proofs.Api.{last_record, past_of, records_push}
 
 pub all_at : {X : Type 0} (P : X → Type 0) (xs : List X) (j : ℕ) (x : X) → All P xs → slice_get xs j ≡ Some x → P x
 all_at P xs j x all is = subst P (get_or_from_slice_get xs j x x is) (all j x (slice_get_within xs j x is))
@@ -43,13 +43,6 @@ last_at : {X : Type 0} (xs : List X) (x : X) → slice_get (xs ++ x ∷ []) (len
 last_at xs x = let low : length xs ≤ length xs = omega arith in let z : length xs - length xs ≡ 0 = omega arith in
     get_high xs (x ∷ []) (length xs) low ∙ ap (slice_get (x ∷ [])) z
 
--- where a period is whole, and those before it are past, it is past for the next
-pub past_next : (flat : Flat) (number : ℕ) (begun : Start) (old : List PeriodRecord) (now next : PeriodRecord) → All (IsWholeRecord flat number) (old ++ now ∷ []) → IsWholeRecord flat number now
-    → next.counts ≡ next.info.counts → ArePast flat number begun old now → ArePast flat number begun (old ++ now ∷ []) next
-past_next flat number begun [] now next whole last full past = (record { lists = past; head = last.is; rest = All-nil (IsWholeRecord flat number) }, full)
-past_next flat number begun (first ∷ later) now next whole last full past =
-    (record { lists = past.0.lists; head = past.0.head; rest = λ k d below. whole (suc k) d (omega (arith, below)) }, full)
-
 -- the period of a cluster is done
 pub all_done : (model : PureTree) (flat : Flat) (number : ℕ) (h : ClusterAt) (c : ClusterOf) → IsAt model flat number h c → next_offset c ≡ None → h.place ≡ length h.entries
 all_done model flat number h c at end = let w = at.of.within in let l = ap length at.entries_are in let p = at.place_is in elim (cases_lt c.place (length c.entries)) [
@@ -57,9 +50,9 @@ all_done model flat number h c at end = let w = at.of.within in let l = ap lengt
   | inr past ↦ omega (arith, w, l, p, past)
 ]
 
--- its record is that of a whole period
-pub last_whole : (model : PureTree) (flat : Flat) (number : ℕ) (h : ClusterAt) (c : ClusterOf) → IsAt model flat number h c → IsWholeRecord flat number h.now
-last_whole model flat number h c at = all_at (IsWholeRecord flat number) (h.old ++ h.now ∷ []) (length h.old) h.now at.whole (last_at h.old h.now)
+-- its record is that of a period
+pub record_now : (model : PureTree) (flat : Flat) (number : ℕ) (h : ClusterAt) (c : ClusterOf) → IsAt model flat number h c → IsPeriodRecord flat number h.now
+record_now model flat number h c at = last_record flat number h.begun h.old h.now at.records
 
 -- the whole period of a cluster, by its table and its plan
 module _ (flat : Flat) (d : ClusterOf) (of : IsClusterOf flat d) (is_new : Bool) where
@@ -94,36 +87,36 @@ module _ (flat : Flat) (d : ClusterOf) (of : IsClusterOf flat d) (is_new : Bool)
 
 -- a cluster that crossed from its period, and begins the next, which its table and plan give
 module _ (model : PureTree) (flat : Flat) (number time : ℕ) (h : ClusterAt) (c : ClusterOf) (at : IsAt model flat number h c) (end : next_offset c ≡ None) where
-  last : IsWholeRecord flat number h.now
-  last = last_whole model flat number h c at
+  last : IsPeriodRecord flat number h.now
+  last = record_now model flat number h c at
 
   -- it crosses by the streams of the history
   module _ (crossed : ClusterOf) (is : HasCrossed c crossed) (cross : CrossesFrom flat c crossed) where
     number_x : number ≡ crossed.number
     number_x = sym at.number_is ∙ sym (ap (λ (z : ClusterOf). z.number) is.rest)
 
-    crosses : IsCheckedOf model flat.checked → Crosses (cluster_net model flat number h.begun) h.old h.now (λ m. slice_index_or h.reads m []) at.steps (play_of 0 crossed)
+    crosses : IsCheckedOf model flat.checked → Crosses (cluster_net model flat number h.begun) h.old h.now (λ m. slice_index_or h.reads m []) at.steps (play_of h.from crossed)
     crosses checked =
-        let stood = subst (λ j. Stands (cluster_net model flat j h.begun) h.old h.now (λ m. slice_index_or h.reads m []) at.steps (play_of 0 c)) (sym at.number_is) at.stands in
-        subst (λ j. Crosses (cluster_net model flat j h.begun) h.old h.now (λ m. slice_index_or h.reads m []) at.steps (play_of 0 crossed)) at.number_is
-        (cross model h.begun h.old h.now (λ m. slice_index_or h.reads m []) 0 at.steps checked at.period stood)
+        let stood = subst (λ j. Stands (cluster_net model flat j h.begun) h.old h.now (λ m. slice_index_or h.reads m []) at.steps (play_of h.from c)) (sym at.number_is) at.stands in
+        subst (λ j. Crosses (cluster_net model flat j h.begun) h.old h.now (λ m. slice_index_or h.reads m []) at.steps (play_of h.from crossed)) at.number_is
+        (cross model h.begun h.old h.now (λ m. slice_index_or h.reads m []) h.from at.steps checked at.period stood)
 
     stands_by : (next : PeriodRecord) (d : ClusterOf) → IsCheckedOf model flat.checked
         → (ArePast flat crossed.number h.begun h.old h.now → IsTimedRecord flat crossed.number h.now
-        → Crosses (cluster_net model flat crossed.number h.begun) h.old h.now (λ m. slice_index_or h.reads m []) at.steps (play_of 0 crossed)
+        → Crosses (cluster_net model flat crossed.number h.begun) h.old h.now (λ m. slice_index_or h.reads m []) at.steps (play_of h.from crossed)
         → Stands (cluster_net model flat crossed.number h.begun) (h.old ++ h.now ∷ []) next (λ m. slice_index_or h.reads m []) at.steps (play_of 0 d))
         → Stands (cluster_net model flat number h.begun) (h.old ++ h.now ∷ []) next (λ m. slice_index_or h.reads m []) at.steps (play_of 0 d)
     stands_by next d checked by = subst
-        (λ j. ArePast flat j h.begun h.old h.now → IsTimedRecord flat j h.now → Crosses (cluster_net model flat j h.begun) h.old h.now (λ m. slice_index_or h.reads m []) at.steps (play_of 0 crossed)
+        (λ j. ArePast flat j h.begun h.old h.now → IsTimedRecord flat j h.now → Crosses (cluster_net model flat j h.begun) h.old h.now (λ m. slice_index_or h.reads m []) at.steps (play_of h.from crossed)
         → Stands (cluster_net model flat j h.begun) (h.old ++ h.now ∷ []) next (λ m. slice_index_or h.reads m []) at.steps (play_of 0 d))
-        (sym number_x) by at.past last.is.timed (crosses checked)
+        (sym number_x) by (past_of flat number h.begun h.old h.now at.records) last.timed (crosses checked)
 
   module _ (d : ClusterOf) (entries : List Entry) (bounds : List ℕ) (next : PeriodRecord) (is_new : Bool) (of : IsClusterOf flat d) (number_is : d.number ≡ number) (place_is : d.place ≡ 0)
       (not_crossed : d.crossed ≡ false) (entries_are : d.entries ≡ entries) (bounds_are : d.bounds ≡ bounds) (next_is : own_record flat d of is_new ≡ next)
       (positions_are : d.positions ≡ c.positions)
       (stands : Stands (cluster_net model flat number h.begun) (h.old ++ h.now ∷ []) next (λ m. slice_index_or h.reads m []) at.steps (play_of 0 d)) where
     abbrev after : ClusterAt
-    after = record h { entries = entries; bounds = bounds; since = time; place = 0; old = periods_of h; now = next; ahead = drop 1 h.ahead }
+    after = record h { entries = entries; bounds = bounds; since = time; from = 0; place = 0; old = periods_of h; now = next; ahead = drop 1 h.ahead }
 
     next_whole : IsWholeRecord flat number next
     next_whole = subst (λ n. IsWholeRecord flat n next) number_is (subst (IsWholeRecord flat d.number) next_is (own_whole flat d of is_new))
@@ -135,10 +128,9 @@ module _ (model : PureTree) (flat : Flat) (number time : ℕ) (h : ClusterAt) (c
         let o = sum_by-cons (λ (q : PeriodRecord). count m q) h.now [] in
         let n : sum_by (λ (q : PeriodRecord). count m q) [] ≡ 0 = refl in
         let k = at.period.counts m in
-        let z = done_none c.entries m in
         let y = done_none entries m in
-        let e = ap (λ es. done es (length es) m) at.entries_are in
-        let p = ap (λ i. done h.entries i m) (all_done model flat number h c at end) in omega (arith, s, o, n, k, z, y, e, p)
+        let e = ap (λ es. done es (length es) m - done es h.from m) at.entries_are in
+        let p = ap (λ i. done h.entries i m) (all_done model flat number h c at end) in omega (arith, s, o, n, k, y, e, p)
 
     next_read : HaveRead flat.tables number after
     next_read = record { same = at.have_read.same; samplers = λ m sampler. at.have_read.samplers m sampler ∙ next_activations m }
@@ -160,8 +152,8 @@ module _ (model : PureTree) (flat : Flat) (number time : ℕ) (h : ClusterAt) (c
       none_ahead = ap (λ (a : List Change). drop 1 a) at.none_ahead;
       of = of;
       period = subst (IsPeriodOf d 0) next_is (own_period flat d of is_new place_is);
-      whole = All-append (IsWholeRecord flat number) (h.old ++ h.now ∷ []) (next ∷ []) at.whole (All-cons (IsWholeRecord flat number) next [] next_whole (All-nil (IsWholeRecord flat number)));
-      past = past_next flat number h.begun h.old h.now next at.whole last next_whole.whole at.past;
+      counts = λ m. ap (λ (p : PeriodRecord). slice_index p.info.counts m) (sym next_is) ∙ own_counted flat d of is_new m ∙ ap (λ es. done es (length es) m) entries_are;
+      records = records_push flat number h.begun h.old h.now next at.records next_whole;
       have_read = next_read;
       positions = next_positions;
       steps = at.steps;
@@ -184,12 +176,11 @@ module _ (model : PureTree) (flat : Flat) (number time : ℕ) (h : ClusterAt) (c
     parts counts writes reads table period = record { counts = counts; writes = writes; reads = reads; info = record { table = table; counts = counts; period = period; is_new = false } }
 
     same_counts : counts_in flat.tables d.entries ≡ h.now.info.counts
-    same_counts = counted_in flat d.entries h.now.info.counts last.is.timed.counts_are.long (λ m.
+    same_counts = counted_in flat d.entries h.now.info.counts last.timed.counts_are.long (λ m.
         let a = done_all d.entries m in
         let e = ap (λ (z : ClusterOf). done z.entries (length z.entries) m) d_is in
-        let k = at.period.counts m in
-        let z = done_none c.entries m in
-        let l = ap (λ l. slice_index l m) last.whole in omega (arith, a, e, k, z, l))
+        let c_is = ap (λ es. done es (length es) m) at.entries_are in
+        let k = at.counts m in omega (arith, a, e, c_is, k))
 
     same_is : own_record flat d of false ≡ same_period crossed.table h.now
     same_is =
@@ -221,10 +212,10 @@ pub boundary_at : BoundariesKeepAt
 boundary_at model flat number time h next.Same c crossed d checked at passed =
     same_at model flat number time h c at passed.answered.done crossed d passed.crossed_is passed.begun passed.of
     (stands_by model flat number time h c at passed.answered.done crossed passed.crossed_is passed.crosses (same_period crossed.table h.now) d checked
-    (λ past timed cross. passed.stands model h.begun h.old h.now (same_period crossed.table h.now) (λ m. slice_index_or h.reads m []) 0 at.steps past timed refl cross))
+    (λ past timed cross. passed.stands model h.begun h.old h.now (same_period crossed.table h.now) (λ m. slice_index_or h.reads m []) h.from at.steps past timed refl cross))
 boundary_at model flat number time h (next.Changed attrs plan) c crossed d checked at passed =
     new_at model flat number time h c at passed.answered.done crossed d attrs plan passed.crossed_is passed.begun passed.of
     (stands_by model flat number time h c at passed.answered.done crossed passed.crossed_is passed.crosses
     (period_record flat.tables attrs (counts_in flat.tables plan.entries.items) plan.period true) d checked
     (λ past timed cross. passed.stands model h.begun h.old h.now (period_record flat.tables attrs (counts_in flat.tables plan.entries.items) plan.period true)
-    (λ m. slice_index_or h.reads m []) 0 at.steps checked past timed refl refl cross))
+    (λ m. slice_index_or h.reads m []) h.from at.steps checked past timed refl refl cross))

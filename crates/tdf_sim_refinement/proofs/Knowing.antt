@@ -1,6 +1,6 @@
 -- What is known of activations that are done, and of samples, stays known.
-use Rattle.std.proofs.Common.{◌≡◌, ◌≢◌, ◌∙◌, ℕ, zero, suc, ◌+◌, ◌-◌, ◌/◌, ◌%◌, ◌<◌, ◌≤◌, Bool, true, false, List, [], ◌∷◌, ◌++◌, Option, Some, None, length, take, nat_eq, if◌then◌else◌, option_map, refl, sym, ap, subst, inl, inr, arith, append-nil}
-use Rattle.std.proofs.lemmas.Bool.{cases_lt, ne_eqb}
+use Rattle.std.proofs.Common.{◌≡◌, ◌≢◌, ◌∙◌, ℕ, zero, suc, ◌+◌, ◌-◌, ◌/◌, ◌%◌, ◌<◌, ◌≤◌, Bool, true, false, List, [], ◌∷◌, ◌++◌, Option, Some, None, length, take, nat_eq, if◌then◌else◌, option_map, refl, sym, ap, subst, inl, inr, arith, append-nil, ◌*◌}
+use Rattle.std.proofs.lemmas.Bool.{cases_lt, ne_eqb, le-ltb}
 use Rattle.std.proofs.lemmas.List.{length-map}
 use Rattle.std.proofs.lemmas.List.Sums.{sum_by-cons}
 use Rattle.std.proofs.lemmas.Option.{slice_get_within}
@@ -12,7 +12,7 @@ use Rattle.tdf_exec.specs.Cluster.{ClusterOf}
 use Rattle.tdf_exec.specs.Played.{cells_of, play_of}
 use Rattle.tdf_fixed.specs.declared.raw.Raw.{Raw}
 use Rattle.tdf_bind.specs.declared.model.Flat.{Flat}
-use Rattle.tdf_streams.proofs.Api.{find_more, known_more, none_some, state_more}
+use Rattle.tdf_streams.proofs.Api.{find_more, known_more, none_some, state_more, outputs_are}
 use Rattle.tdf_streams.specs.Grounds.{firings}
 use Rattle.tdf_streams.specs.Net.{Net, Past, Period, Turn, count}
 use Rattle.tdf_streams.specs.Stands.{KeepsReads, Less, run_of}
@@ -20,8 +20,8 @@ use Rattle.tdf_streams.specs.Streams.{Spot, find, known, spot, state_before}
 use Rattle.tdf_sim_history.specs.Answers.{last_cells}
 use Rattle.tdf_sim_history.specs.Instant.{activations, periods_of, run_in}
 use Rattle.tdf_sim_history.specs.World.{ClusterAt}
-use Rattle.tdf_sim_refinement.proofs.Arriving.{done_none, in_plan}
-use Rattle.tdf_sim_refinement.proofs.Writing.{enough, entry_in, turns_here}
+use Rattle.tdf_sim_refinement.proofs.Arriving.{in_plan}
+use Rattle.tdf_sim_refinement.proofs.Writing.{enough, entry_in, turns_here, started}
 use Rattle.tdf_sim_refinement.specs.At.{IsAt}
 use Rattle.tdf_schedule.specs.Plan.{done}
 use Rattle.tdf_schedule.specs.declared.entry.Entry.{Entry}
@@ -33,6 +33,9 @@ use Rattle.tdf_sim_refinement.specs.SampleLaws.{DoneIsKnown, HeldIsKnown}
 use Rattle.tdf_sim_refinement.specs.Samples.{IsDoneKnown}
 use Rattle.tdf_lang_tree.specs.Pure.{PureTree}
 use Rattle.tdf_bind_connections.specs.declared.modules.PortRow.{PortRow}
+use Rattle.tdf_sim_history.specs.Cells.{sample_of}
+use Rattle.tdf_sim_history.specs.Columns.{ColumnStart, held_by}
+use Rattle.tdf_sim_refinement.proofs.Sampling.{done_to}
 
 -- more values of samplers and more steps keep what is known
 pub known_to : {S V I : Type 0} (net : Net S V I) (old : List (Period I)) (p : Period I) (short long : ℕ → List V) → KeepsReads short long → (f g : ℕ) → f ≤ g
@@ -42,7 +45,7 @@ known_to net old p short long keeps f g low = let e : g - f + f ≡ g = omega (a
     (known_more net (run_of old p short) (run_of old p long) (record { rest = []; periods = sym (append-nil (old ++ p ∷ [])); reads = keeps }) f (g - f))
 
 -- so do more periods, for the samples of a signal
-module _ (tables : FlatTablesOf) (ps qs : List PeriodRecord) (port : PortRow) (number : ℕ) (past more : Past (List ℤ) Raw) (less : Less past more) where
+module _ (s : ColumnStart) (ps qs : List PeriodRecord) (port : PortRow) (number : ℕ) (past more : Past (List ℤ) Raw) (less : Less past more) where
   spot_more : (s : Spot PeriodInfo) (v : Raw) → output_at_spot port number past s ≡ Some v → output_at_spot port number more s ≡ Some v
   spot_more s v is = go (past port.«module» (sum_by (λ (p : PeriodRecord). slice_index p.counts port.«module») s.before + s.rest / rate_in port s.period)) refl is
     where
@@ -61,13 +64,36 @@ module _ (tables : FlatTablesOf) (ps qs : List PeriodRecord) (port : PortRow) (n
       go None at h = none_some v h
       go (Some s) at h = ap (option_and_then (output_at_spot port number more)) (find_more (outputs_in port) [] ps qs j s at) ∙ spot_more s v h
 
-  pub signal_more : (j : ℕ) (v : Raw) → signal_sample tables ps port number past j ≡ Some v → signal_sample tables (ps ++ qs) port number more j ≡ Some v
-  signal_more j v is = go (nat_lt j port.delay) is
+  pub column_more : (j : ℕ) (v : Raw) → sample_of s ps port number past j ≡ Some v → sample_of s (ps ++ qs) port number more j ≡ Some v
+  column_more j v is = go (nat_lt j (length (held_by s))) is
     where
-      go : (b : Bool) → (if b then Some (initial_sample tables port j) else port_output ps port number past (j - port.delay)) ≡ Some v
-          → (if b then Some (initial_sample tables port j) else port_output (ps ++ qs) port number more (j - port.delay)) ≡ Some v
+      go : (b : Bool) → (if b then slice_get (held_by s) j else port_output ps port number past (j - length (held_by s))) ≡ Some v
+          → (if b then slice_get (held_by s) j else port_output (ps ++ qs) port number more (j - length (held_by s))) ≡ Some v
       go true h = h
-      go false h = output_more (j - port.delay) v h
+      go false h = output_more (j - length (held_by s)) v h
+
+-- an output of an activation that is known, among the samples of a column
+pub outputs_known : (tables : FlatTablesOf) (s : ColumnStart) (old : List PeriodRecord) (p : PeriodRecord) (later : List PeriodRecord) (port : PortRow) (number a k : ℕ) (past : Past (List ℤ) Raw) (t : Turn (List ℤ) Raw)
+    → a < count port.«module» p → k < rate_in port p → past port.«module» (sum_by (count port.«module») old + a) ≡ Some t
+    → sample_of s (old ++ p ∷ later) port number past (length (held_by s) + (sum_by (outputs_in port) old + (a * rate_in port p + k))) ≡ Some (t.outputs number k)
+outputs_known tables s old p later port number a k past t inside below at = column ∙ sym signal ∙ outputs_are tables old p later port number a k past t inside below at
+  where
+    n : ℕ
+    n = sum_by (outputs_in port) old + (a * rate_in port p + k)
+
+    column : sample_of s (old ++ p ∷ later) port number past (length (held_by s) + n) ≡ port_output (old ++ p ∷ later) port number past n
+    column =
+        let late : nat_lt (length (held_by s) + n) (length (held_by s)) ≡ false = le-ltb (length (held_by s) + n) (length (held_by s)) (omega arith) in
+        let rest : length (held_by s) + n - length (held_by s) ≡ n = omega arith in
+        ap (λ b. if b then slice_get (held_by s) (length (held_by s) + n) else port_output (old ++ p ∷ later) port number past (length (held_by s) + n - length (held_by s))) late
+        ∙ ap (port_output (old ++ p ∷ later) port number past) rest
+
+    signal : signal_sample tables (old ++ p ∷ later) port number past (port.delay + n) ≡ port_output (old ++ p ∷ later) port number past n
+    signal =
+        let late : nat_lt (port.delay + n) port.delay ≡ false = le-ltb (port.delay + n) port.delay (omega arith) in
+        let rest : port.delay + n - port.delay ≡ n = omega arith in
+        ap (λ b. if b then Some (initial_sample tables port (port.delay + n)) else port_output (old ++ p ∷ later) port number past (port.delay + n - port.delay)) late
+        ∙ ap (port_output (old ++ p ∷ later) port number past) rest
 
 -- an actor of no entry is never activated
 none_done : (es : List Entry) (i m : ℕ) → ((k : ℕ) (x : Entry) → slice_get es k ≡ Some x → x.actor ≢ m) → done es i m ≡ 0
@@ -87,7 +113,7 @@ module _ (model : PureTree) (flat : Flat) (number : ℕ) (h : ClusterAt) (c : Cl
   within : h.place ≤ length h.entries
   within = in_plan model flat number h.since [] h c c [] at begun
 
-  turns_are : (m : ℕ) → done h.entries h.place m ≤ slice_index (play_of 0 c).turns m
+  turns_are : (m : ℕ) → done h.entries h.place m - done h.entries h.from m ≤ slice_index (play_of h.from c).turns m
   turns_are m = elim (cases_lt m (length flat.tables.actors)) [
     | inl inside ↦ (let t = turns_here model flat number h.since [] h c c [] at begun m inside in let z : h.place + 0 ≡ h.place = omega arith in let e = ap (λ i. done h.entries i m) z in omega (arith, t, e))
     | inr past ↦ (let n = none_done h.entries h.place m (λ k x there same.
@@ -102,18 +128,21 @@ module _ (model : PureTree) (flat : Flat) (number : ℕ) (h : ClusterAt) (c : Cl
       let less = known_to (cluster_net model flat number h.begun) h.old h.now (run_in h).reads (run_in h).reads (λ i k x there. there) at.steps (firings (periods_of h)) (omega (arith, e)) in
       (v.0, less.keeps m n v.0 v.1)
 
-  counts_are : (m : ℕ) → slice_index h.now.counts m ≡ done h.entries (length h.entries) m
+  counts_are : (m : ℕ) → slice_index h.now.counts m + done h.entries h.from m ≡ done h.entries (length h.entries) m
   counts_are m =
-      let z = at.period.counts m in let n = done_none c.entries m in
-      let l = ap (λ es. done es (length es) m) at.entries_are in omega (arith, z, n, l)
+      let z = at.period.counts m in
+      let l = ap (λ es. done es (length es) m - done es h.from m) at.entries_are in
+      let w = within in let t = started model flat number h.since [] h c c [] at begun in
+      let u = done_to h.entries m h.from (length h.entries) (omega (arith, w, t)) (omega arith) in omega (arith, z, l, u)
 
   -- what a module holds when the period is done
-  pub held : h.place ≡ length h.entries → (m : ℕ) (cells : List ℤ) → slice_get (play_of 0 c).states m ≡ Some cells → is_outside flat.tables number m ≡ false → last_cells model flat number h m ≡ Some cells
+  pub held : h.place ≡ length h.entries → (m : ℕ) (cells : List ℤ) → slice_get (play_of h.from c).states m ≡ Some cells → is_outside flat.tables number m ≡ false → last_cells model flat number h m ≡ Some cells
   held end m cells there own =
-      let inside : m < length flat.tables.actors = (let i = slice_get_within (play_of 0 c).states m cells there in let l = length-map c.runners cells_of in let a = at.of.actors in omega (arith, i, l, a)) in
-      let turns : slice_index (play_of 0 c).turns m ≡ count m h.now = (
+      let inside : m < length flat.tables.actors = (let i = slice_get_within (play_of h.from c).states m cells there in let l = length-map c.runners cells_of in let a = at.of.actors in omega (arith, i, l, a)) in
+      let turns : slice_index (play_of h.from c).turns m ≡ count m h.now = (
       let z : h.place + 0 ≡ length h.entries = omega (arith, end) in
-      turns_here model flat number h.since [] h c c [] at begun m inside ∙ ap (λ i. done h.entries i m) z ∙ sym (counts_are m)) in
+      let t = turns_here model flat number h.since [] h c c [] at begun m inside in
+      let p = ap (λ i. done h.entries i m) z in let k = counts_are m in omega (arith, t, p, k)) in
       let e = enough model flat number h.since [] h c c [] at begun 0 (let w = within in omega (arith, w)) in
       let less = known_to (cluster_net model flat number h.begun) h.old h.now (run_in h).reads (run_in h).reads (λ i k x there. there) at.steps (firings (periods_of h)) (omega (arith, e)) in
       state_more (cluster_net model flat number h.begun) (periods_of h) [] (known (cluster_net model flat number h.begun) (run_of h.old h.now (run_in h).reads) at.steps)

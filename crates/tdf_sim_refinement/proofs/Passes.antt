@@ -15,6 +15,7 @@ use Rattle.tdf_bind_invariants.specs.Formats.{IsSoundModel}
 use Rattle.tdf_graph.specs.declared.actors.Actor.TheVariants as actor
 use Rattle.tdf_sim_history.specs.Instant.{RunFault, all_firings}
 use Rattle.tdf_sim_history.specs.Texts.{left_by}
+use Rattle.tdf_sim_history.specs.Columns.{ColumnStart}
 use Rattle.tdf_sim_history.specs.World.{ClusterAt, Rules, World}
 use Rattle.tdf_sim_history.proofs.Api.{turns_more, turns_none}
 use Rattle.tdf_sim_history.specs.History.{Going, Step, turns_to}
@@ -54,9 +55,9 @@ module _ (model : PureTree) (flat : Flat) where
   none_traced hs gs x y same none = record {
     new = [];
     gained = none ∙ sym (append-nil x.outputs.traced);
-    samples = λ n number port h g had h_at g_at traced has.
-        subst (AreSamplesOf model flat (n + 1) number port g) (sym (append-nil had) ∙ ap (λ l. had ++ l) (sym (samples_none port.signal)))
-        (subst (λ c. AreSamplesOf model flat (n + 1) number port c had) (some_same h g (sym h_at ∙ ap (λ l. slice_get l n) (sym same) ∙ g_at)) has);
+    samples = λ n number port s h g had h_at g_at traced has.
+        subst (AreSamplesOf model flat (n + 1) number port s g) (sym (append-nil had) ∙ ap (λ l. had ++ l) (sym (samples_none port.signal)))
+        (subst (λ c. AreSamplesOf model flat (n + 1) number port s c had) (some_same h g (sym h_at ∙ ap (λ l. slice_get l n) (sym same) ∙ g_at)) has);
   }
 
   -- one after the other
@@ -64,12 +65,12 @@ module _ (model : PureTree) (flat : Flat) where
   then_traced hs ms gs x mid y long first second = record {
     new = first.new ++ second.new;
     gained = second.gained ∙ ap (λ l. l ++ second.new) first.gained ∙ append_assoc x.outputs.traced first.new second.new;
-    samples = λ n number port h g had h_at g_at traced has. (
+    samples = λ n number port s h g had h_at g_at traced has. (
         let i = slice_get_within gs n g g_at in
         let m = get_inside ms n (omega (arith, i, long)) in
-        subst (AreSamplesOf model flat (n + 1) number port g)
+        subst (AreSamplesOf model flat (n + 1) number port s g)
         (append_assoc had (samples_of port.signal first.new) (samples_of port.signal second.new) ∙ ap (λ l. had ++ l) (sym (samples_append port.signal first.new second.new)))
-        (second.samples n number port m.0 g (had ++ samples_of port.signal first.new) m.1 g_at traced (first.samples n number port h m.0 had h_at m.1 traced has)));
+        (second.samples n number port s m.0 g (had ++ samples_of port.signal first.new) m.1 g_at traced (first.samples n number port s h m.0 had h_at m.1 traced has)));
   }
 
 module _ {K : Type 0} (model : PureTree) (flat : Flat) (rules : Rules K) (pass : PassAt) (w : World K) (x : RunOf) (one_port : SignalsHaveOnePort) (sound : IsSoundModel model) (checked : IsCheckedOf model flat.checked)
@@ -144,37 +145,37 @@ module _ {K : Type 0} (model : PureTree) (flat : Flat) (rules : Rules K) (pass :
       clusters_are = goes_to (world_after model flat rules n h v k)
           (due_fire model flat rules pass.time n h v there.1 k (due_here model flat (n + 1) pass.time h turn.before at (ready.sorted n turn.before sorted_is) begun next) did.fired.enough)
 
-      own_has : (number : ℕ) (port : PortRow) (had : List Raw) → IsTracedPort flat (n + 1) number port → AreSamplesOf model flat (n + 1) number port h had
-          → AreSamplesOf model flat (n + 1) number port after (had ++ samples_of port.signal did.fired.gained.traced)
-      own_has number port had traced has =
+      own_has : (number : ℕ) (port : PortRow) (cs : ColumnStart) (had : List Raw) → IsTracedPort flat (n + 1) number port → AreSamplesOf model flat (n + 1) number port cs h had
+          → AreSamplesOf model flat (n + 1) number port cs after (had ++ samples_of port.signal did.fired.gained.traced)
+      own_has number port cs had traced has =
           fired_own model flat one_port sound is_flat (n + 1) pass.time (settled_values rules w) h turn.before turn.after turn.inputs mid.outputs y.outputs mid.left y.left checked at (ready.sorted n turn.before sorted_is)
-          begun next settled did.fired number port traced (owner_kind number port traced.there) had has
+          begun next settled did.fired number port cs traced (owner_kind number port traced.there) had has
 
       other_none : (m number : ℕ) (port : PortRow) → m ≢ n → IsTracedPort flat (m + 1) number port → samples_of port.signal did.fired.gained.traced ≡ []
       other_none m number port apart traced =
           fired_other model flat one_port sound is_flat (n + 1) pass.time (settled_values rules w) h turn.before turn.after turn.inputs mid.outputs y.outputs mid.left y.left checked at (ready.sorted n turn.before sorted_is)
           begun next settled did.fired (m + 1) number port traced (λ e. apart (let z : m ≡ n = omega (arith, e) in z))
 
-      has_next : (m number : ℕ) (port : PortRow) (b g : ClusterAt) (had : List Raw) → (m ≡ n) ⊎ (m ≢ n) → slice_get p.clusters m ≡ Some b → slice_get q.clusters m ≡ Some g → IsTracedPort flat (m + 1) number port
-          → AreSamplesOf model flat (m + 1) number port b had → AreSamplesOf model flat (m + 1) number port g (had ++ samples_of port.signal did.fired.gained.traced)
-      has_next m number port b g had (inl same) b_at g_at traced has =
+      has_next : (m number : ℕ) (port : PortRow) (cs : ColumnStart) (b g : ClusterAt) (had : List Raw) → (m ≡ n) ⊎ (m ≢ n) → slice_get p.clusters m ≡ Some b → slice_get q.clusters m ≡ Some g → IsTracedPort flat (m + 1) number port
+          → AreSamplesOf model flat (m + 1) number port cs b had → AreSamplesOf model flat (m + 1) number port cs g (had ++ samples_of port.signal did.fired.gained.traced)
+      has_next m number port cs b g had (inl same) b_at g_at traced has =
           let one : b ≡ h = some_same b h (sym b_at ∙ ap (slice_get p.clusters) same ∙ there.1) in
           let i = slice_get_within p.clusters n h there.1 in
           let two : after ≡ g = set_there p.clusters n after g i (ap (slice_get (set p.clusters n after)) (sym same) ∙ ap (λ l. slice_get l m) (sym clusters_are) ∙ g_at) in
-          subst (λ j. AreSamplesOf model flat (j + 1) number port g (had ++ samples_of port.signal did.fired.gained.traced)) (sym same)
-          (subst (λ c. AreSamplesOf model flat (n + 1) number port c (had ++ samples_of port.signal did.fired.gained.traced)) two
-          (own_has number port had (subst (λ j. IsTracedPort flat (j + 1) number port) same traced)
-          (subst (λ c. AreSamplesOf model flat (n + 1) number port c had) one (subst (λ j. AreSamplesOf model flat (j + 1) number port b had) same has))))
-      has_next m number port b g had (inr apart) b_at g_at traced has =
+          subst (λ j. AreSamplesOf model flat (j + 1) number port cs g (had ++ samples_of port.signal did.fired.gained.traced)) (sym same)
+          (subst (λ c. AreSamplesOf model flat (n + 1) number port cs c (had ++ samples_of port.signal did.fired.gained.traced)) two
+          (own_has number port cs had (subst (λ j. IsTracedPort flat (j + 1) number port) same traced)
+          (subst (λ c. AreSamplesOf model flat (n + 1) number port cs c had) one (subst (λ j. AreSamplesOf model flat (j + 1) number port cs b had) same has))))
+      has_next m number port cs b g had (inr apart) b_at g_at traced has =
           let one : b ≡ g = some_same b g (sym b_at ∙ sym (set_other p.clusters n m after apart) ∙ ap (λ l. slice_get l m) (sym clusters_are) ∙ g_at) in
-          subst (AreSamplesOf model flat (m + 1) number port g) (sym (append-nil had) ∙ ap (λ l. had ++ l) (sym (other_none m number port apart traced)))
-          (subst (λ c. AreSamplesOf model flat (m + 1) number port c had) one has)
+          subst (AreSamplesOf model flat (m + 1) number port cs g) (sym (append-nil had) ∙ ap (λ l. had ++ l) (sym (other_none m number port apart traced)))
+          (subst (λ c. AreSamplesOf model flat (m + 1) number port cs c had) one has)
 
       does : HaveTraced model flat p.clusters q.clusters mid y
       does = record {
         new = did.fired.gained.traced;
         gained = ap (λ (o : OutputsOf). o.traced) did.fired.gained.are;
-        samples = λ m number port b g had. has_next m number port b g had (cases_eq m n);
+        samples = λ m number port cs b g had. has_next m number port cs b g had (cases_eq m n);
       }
 
     done_turn : (t : List Sent) → HasDone flat pass.time turn mid y t → HaveTraced model flat p.clusters q.clusters mid y

@@ -1,5 +1,5 @@
 -- What samplers have read after the firings of a time.
-use Rattle.std.proofs.Common.{◌≡◌, ◌≢◌, ◌∙◌, ℕ, zero, suc, ◌+◌, ◌<◌, ◌≤◌, Bool, List, [], ◌∷◌, ◌++◌, Option, Some, None, length, replicate, if◌then◌else◌, refl, sym, ap, subst, inl, inr, arith, append-nil}
+use Rattle.std.proofs.Common.{◌≡◌, ◌≢◌, ◌∙◌, ℕ, zero, suc, ◌+◌, ◌-◌, ◌<◌, ◌≤◌, Bool, List, [], ◌∷◌, ◌++◌, Option, Some, None, length, replicate, if◌then◌else◌, refl, sym, ap, subst, inl, inr, arith, append-nil}
 use Rattle.std.proofs.lemmas.Bool.{cases_eq, cases_lt, eq-eqb, ne_eqb}
 use Rattle.std.proofs.lemmas.List.{append_assoc, get_or-set_other, get_or-set_same, get_or_past, length-set, replicate_more}
 use Rattle.std.proofs.lemmas.Option.{slice_get_within}
@@ -27,6 +27,10 @@ module _ (entries : List Entry) (m : ℕ) where
       let next = done_next entries (i + d) m x.0 x.1 in let up = done_up i d (omega (arith, inside)) in
       let e : i + d + 1 ≡ i + suc d = omega arith in
       subst (λ j. done entries i m ≤ done entries j m) e (omega (arith, next, up))
+
+  pub done_to : (i j : ℕ) → i ≤ j → j ≤ length entries → done entries i m ≤ done entries j m
+  done_to i j low inside = let e : i + (j - i) ≡ j = omega (arith, low) in
+      subst (λ n. done entries i m ≤ done entries n m) e (done_up i (j - i) (omega (arith, low, inside)))
 
 module _ (tables : FlatTablesOf) (values : List Raw) where
   read_long : (a : ℕ) (o : Option Actor) (reads : List (List Raw)) → length (read_by tables values a o reads) ≡ length reads

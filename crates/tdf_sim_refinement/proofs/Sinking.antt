@@ -27,7 +27,7 @@ use Rattle.tdf_sim_history.specs.Instant.{activations, actor_of_entry, edge_from
 use Rattle.tdf_sim_history.specs.World.{ClusterAt, SinkWrite}
 use Rattle.tdf_exec_layout.specs.Wiring.{IsEdgeOf}
 use Rattle.tdf_sim_refinement.proofs.Due.{true_false}
-use Rattle.tdf_sim_refinement.proofs.Sampling.{done_up, read_kept, sampler_reads}
+use Rattle.tdf_sim_refinement.proofs.Sampling.{done_to, done_up, read_kept, sampler_reads}
 use Rattle.tdf_sim_refinement.proofs.Arriving.{kind_inside}
 use Rattle.tdf_sim_refinement.specs.At.{HaveRead, HaveTakenOne}
 use Rattle.tdf_sim_refinement.specs.Firings.{actor_at, after_firings, reads_after, value_for, write_by, write_of, writes_after}
@@ -126,7 +126,7 @@ outside_sampler : (tables : FlatTablesOf) (number m : ℕ) → slice_index (clus
 outside_sampler tables number m own is = sampler_kind (actor_kind tables m)
     (ap (λ b. is_sampler_kind (actor_kind tables m) || not b) (sym (eq-eqb (slice_index (clusters_of tables) m) number own)) ∙ is)
 
-module _ (model : PureTree) (flat : Flat) (number : ℕ) (values : List Raw) (h : ClusterAt) (k : ℕ) (within : h.place + k ≤ length h.entries) (have_read : HaveRead flat.tables number h) where
+module _ (model : PureTree) (flat : Flat) (number : ℕ) (values : List Raw) (h : ClusterAt) (k : ℕ) (within : h.place + k ≤ length h.entries) (started : h.from ≤ h.place) (have_read : HaveRead flat.tables number h) where
   abbrev pub net : Net (List ℤ) Raw PeriodInfo
   net = cluster_net model flat number h.begun
 
@@ -143,17 +143,21 @@ module _ (model : PureTree) (flat : Flat) (number : ℕ) (values : List Raw) (h 
   pub keeps_to : (j i : ℕ) → j ≤ i → KeepsReads (read_at j) (read_at i)
   keeps_to j i low = let e : i - j + j ≡ i = omega (arith, low) in subst (λ n. KeepsReads (read_at j) (read_at n)) e (keeps_more j (i - j))
 
-  read_count : (j m : ℕ) → j ≤ k → IsActorOf flat.tables number m actor.Sampler → length (read_at j m) ≡ sum_by (count m) h.old + done h.entries (h.place + j) m
+  -- what was done before the start is not counted
+  pub from_done : (j m : ℕ) → j ≤ k → (done h.entries h.from m ≤ done h.entries h.place m) × (done h.entries h.place m ≤ done h.entries (h.place + j) m)
+  from_done j m low = (done_to h.entries m h.from h.place started (omega (arith, within)), done_up h.entries m h.place j (omega (arith, within, low)))
+
+  read_count : (j m : ℕ) → j ≤ k → IsActorOf flat.tables number m actor.Sampler → length (read_at j m) ≡ sum_by (count m) h.old + (done h.entries (h.place + j) m - done h.entries h.from m)
   read_count j m low is =
       let here = have_read.same in let inside = kind_inside flat.tables.actors m actor.Sampler is.kind_is in
       let l = ap length (sampler_reads flat.tables values h m is.kind_is (omega (arith, here, inside)) j (omega (arith, within, low)))
       ∙ length-append (slice_index_or h.reads m []) (replicate (turns_from h.entries h.place (h.place + j) m) (value_for flat.tables values m)) in
       let r = length-replicate (turns_from h.entries h.place (h.place + j) m) (value_for flat.tables values m) in
-      let o = have_read.samplers m is in let u = done_up h.entries m h.place j (omega (arith, within, low)) in omega (arith, l, r, o, u)
+      let o = have_read.samplers m is in let u = from_done j m low in omega (arith, l, r, o, u.0, u.1)
 
   -- a step by the values that are there at the end is one by those that are there just after it
   module _ (j : ℕ) (less : j < k) (x : Entry) (at : slice_get h.entries (h.place + j) ≡ Some x) (own : slice_index (clusters_of flat.tables) x.actor ≡ number) (y : Play (List ℤ) Raw)
-      (turn_is : slice_index y.turns x.actor ≡ done h.entries (h.place + j) x.actor) where
+      (turn_is : slice_index y.turns x.actor ≡ done h.entries (h.place + j) x.actor - done h.entries h.from x.actor) where
     shorten : (t : Turn (List ℤ) Raw) → IsNextTurn net h.old h.now (read_at k) x.actor y t → IsNextTurn net h.old h.now (read_at (suc j)) x.actor y t
     shorten t (given v is there t_is) =
         let sampler : IsActorOf flat.tables number x.actor actor.Sampler = record { kind_is = outside_sampler flat.tables number x.actor own is; inside = own } in
@@ -161,7 +165,8 @@ module _ (model : PureTree) (flat : Flat) (number : ℕ) (values : List Raw) (h 
         let next = done_next h.entries (h.place + j) x.actor x at in
         let one = ap {B = ℕ} (λ (b : Bool). if b then 1 else 0) (eq-eqb x.actor x.actor refl) in
         let e : h.place + j + 1 ≡ h.place + suc j = omega arith in let z = ap (λ i. done h.entries i x.actor) e in
-        let u = get_inside (read_at (suc j) x.actor) (sum_by (count x.actor) h.old + slice_index y.turns x.actor) (omega (arith, long, next, one, z, turn_is)) in
+        let up = from_done j x.actor (omega (arith, less)) in
+        let u = get_inside (read_at (suc j) x.actor) (sum_by (count x.actor) h.old + slice_index y.turns x.actor) (omega (arith, long, next, one, z, turn_is, up.0, up.1)) in
         let same = some_same u.0 v (sym (keeps_to (suc j) k (omega (arith, less)) x.actor (sum_by (count x.actor) h.old + slice_index y.turns x.actor) u.0 u.1) ∙ there) in
         given v is (u.1 ∙ ap Some same) t_is
     shorten t (processed s plain there t_is) = processed s plain there t_is
@@ -169,7 +174,7 @@ module _ (model : PureTree) (flat : Flat) (number : ℕ) (values : List Raw) (h 
   -- a sink of the cluster, with its edge, and the sample that it takes
   module _ (j f : ℕ) (y : Play (List ℤ) Raw) (m edge : ℕ) (one : IsEdgeOf flat.tables m edge) (rate : slice_index h.now.reads edge ≡ 1)
       (ones : All (λ (p : PeriodRecord). slice_index p.reads edge ≡ 1) h.old) (stands : Stands net h.old h.now (read_at j) f y)
-      (enough : f ≤ firings (h.old ++ h.now ∷ [])) (turn_is : slice_index y.turns m ≡ done h.entries (h.place + j) m)
+      (enough : f ≤ firings (h.old ++ h.now ∷ [])) (turn_is : slice_index y.turns m ≡ done h.entries (h.place + j) m - done h.entries h.from m)
       (present : slice_index h.now.reads edge ≤ length (slice_index_or y.lists edge [])) where
     abbrev list : List Raw
     list = slice_index_or y.lists edge []
@@ -217,7 +222,7 @@ module _ (model : PureTree) (flat : Flat) (number : ℕ) (values : List Raw) (h 
   actors n i = map (λ (x : Entry). x.actor) (take n (drop i h.entries))
 
   abbrev pub HasTurns : ℕ → Play (List ℤ) Raw → Type 0
-  HasTurns j y = (m : ℕ) → m < length flat.tables.actors → slice_index y.turns m ≡ done h.entries (h.place + j) m
+  HasTurns j y = (m : ℕ) → m < length flat.tables.actors → slice_index y.turns m ≡ done h.entries (h.place + j) m - done h.entries h.from m
 
   -- a firing leads from what stands after j entries to what stands after one more
   module _ (j f : ℕ) (less : j < k) (x : Entry) (at : slice_get h.entries (h.place + j) ≡ Some x) (own : slice_index (clusters_of flat.tables) x.actor ≡ number) (inside : x.actor < length flat.tables.actors)
@@ -241,11 +246,12 @@ module _ (model : PureTree) (flat : Flat) (number : ℕ) (values : List Raw) (h 
         let next = done_next h.entries (h.place + j) m x at in
         let e : h.place + j + 1 ≡ h.place + suc j = omega arith in let z = ap (λ i. done h.entries i m) e in
         let before = turns m low in
+        let up = from_done j m (omega (arith, less)) in
         elim (cases_eq x.actor m) [
           | inl same ↦ (let one = ap {B = ℕ} (λ (b : Bool). if b then 1 else 0) (eq-eqb x.actor m same) in
-              let turn = subst (λ i. slice_index mid.turns i ≡ slice_index y.turns i + 1) same step.flows.turn in omega (arith, next, z, before, one, turn))
+              let turn = subst (λ i. slice_index mid.turns i ≡ slice_index y.turns i + 1) same step.flows.turn in omega (arith, next, z, before, one, turn, up.0, up.1))
           | inr apart ↦ (let none = ap {B = ℕ} (λ (b : Bool). if b then 1 else 0) (ne_eqb x.actor m apart) in
-              let turn = step.flows.other_turns m (λ q. apart (sym q)) in omega (arith, next, z, before, none, turn))
+              let turn = step.flows.other_turns m (λ q. apart (sym q)) in omega (arith, next, z, before, none, turn, up.0, up.1))
         ]
 
   -- all firings, one after the other

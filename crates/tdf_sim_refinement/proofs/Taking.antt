@@ -18,11 +18,13 @@ use Rattle.tdf_sim_refinement.proofs.Due.{true_false}
 use Rattle.tdf_sim_refinement.proofs.Writing.{is_sink}
 use Rattle.tdf_sim_refinement.specs.At.{HaveTakenOne}
 use Rattle.tdf_sim_refinement.specs.Laws.{SinksHaveTakenOne}
-use Rattle.tdf_streams.specs.Periods.{IsWholeRecord, PeriodRecord, read_rates}
+use Rattle.tdf_streams.specs.Periods.{PeriodRecord, read_rates}
 use Rattle.tdf_streams.specs.Places.{actor_kind, reader_of_row}
 use Rattle.tdf_lang_tree.specs.Pure.{PureTree}
 use Rattle.tdf_bind_connections.specs.declared.edges.EdgeRow.{EdgeRow}
 use Rattle.tdf_bind_connections.specs.declared.modules.PortRow.{PortRow}
+use Rattle.tdf_sim_history.proofs.Api.{record_at}
+use Rattle.tdf_sim_history.specs.WorldLaws.{AreRecordsOf}
 
 all_at : {X : Type 0} (P : X → Type 0) (xs : List X) (j : ℕ) (x : X) → All P xs → slice_get xs j ≡ Some x → P x
 all_at P xs j x all is = subst P (get_or_from_slice_get xs j x x is) (all j x (slice_get_within xs j x is))
@@ -45,11 +47,11 @@ module _ (model : PureTree) (flat : Flat) (is : IsFlatOf model flat) (limits : A
   takes_one table m e kind r = let row = get_inside flat.tables.edges e r.inside in
       by_row table m e row.0 row.1 (sym (ap reader_of_row row.1) ∙ r.reader) kind (edge_row model flat is e row.0 row.1)
 
-  module _ (number : ℕ) (h : ClusterAt) (whole : All (IsWholeRecord flat number) (h.old ++ h.now ∷ [])) where
+  module _ (number : ℕ) (h : ClusterAt) (records : AreRecordsOf flat number h.begun (h.old ++ h.now ∷ [])) where
     old_one : (m e i : ℕ) (p : PeriodRecord) → actor_kind flat.tables m ≡ Some actor.Sink → Reads flat.tables m e → slice_get h.old i ≡ Some p → slice_index p.reads e ≡ 1
     old_one m e i p kind r at =
-        let w = all_at (IsWholeRecord flat number) (h.old ++ h.now ∷ []) i p whole (get_low h.old (h.now ∷ []) i (slice_get_within h.old i p at) ∙ at) in
-        ap (λ l. slice_index l e) w.is.timed.reads_are ∙ takes_one p.info.table m e kind r
+        let w = record_at flat number h.begun (h.old ++ h.now ∷ []) i p records (get_low h.old (h.now ∷ []) i (slice_get_within h.old i p at) ∙ at) in
+        ap (λ l. slice_index l e) w.timed.reads_are ∙ takes_one p.info.table m e kind r
 
     pub have_one : HaveTakenOne flat.tables number h
     have_one = record {
@@ -59,4 +61,4 @@ module _ (model : PureTree) (flat : Flat) (is : IsFlatOf model flat) (limits : A
     }
 
 pub sinks_take_one : SinksHaveTakenOne
-sinks_take_one model flat number h c is limits at = have_one model flat is limits number h at.whole
+sinks_take_one model flat number h c is limits at = have_one model flat is limits number h at.records

@@ -15,7 +15,7 @@ use Rattle.tdf_bind_invariants.specs.Formats.{IsSoundModel}
 use Rattle.tdf_graph.specs.declared.actors.Actor.TheVariants as actor
 use Rattle.tdf_sim_history.specs.World.{ClusterAt}
 use Rattle.tdf_exec_layout.specs.Traced.{SignalsHaveOnePort}
-use Rattle.tdf_sim_refinement.proofs.Writing.{begins, enough, entry_in, given_here, turns_here}
+use Rattle.tdf_sim_refinement.proofs.Writing.{begins, enough, entry_in, given_here, turns_here, started}
 use Rattle.tdf_sim_refinement.proofs.Along.{due_here}
 use Rattle.tdf_sim_refinement.proofs.Arriving.{not_late}
 use Rattle.tdf_sim_refinement.specs.At.{AreSettled, IsAt}
@@ -28,6 +28,7 @@ use Rattle.tdf_sim_refinement.proofs.Walked.{actors_in, nothing, walk}
 use Rattle.tdf_sim_refinement.specs.Samples.{AreSamplesOf, IsTracedPort, samples_of}
 use Rattle.tdf_lang_tree.specs.Pure.{PureTree}
 use Rattle.tdf_bind_connections.specs.declared.modules.PortRow.{PortRow}
+use Rattle.tdf_sim_history.specs.Columns.{ColumnStart}
 
 after_none : (flat : Flat) (values : List Raw) (h : ClusterAt) → h ≡ after_firings flat.tables values h 0
 unfolding reads_after
@@ -42,7 +43,7 @@ module _ (model : PureTree) (flat : Flat) (one_port : SignalsHaveOnePort) (sound
   due : AreDueNext time k h
   due = due_here model flat number time h c at sorted begun next
 
-  given : GiveAll flat (cluster_net model flat number h.begun) h.old h.now (λ m. slice_index_or (reads_after flat.tables values h k) m []) (actors_in h.entries k (h.place + 0)) (play_of 0 c) (play_of 0 d)
+  given : GiveAll flat (cluster_net model flat number h.begun) h.old h.now (λ m. slice_index_or (reads_after flat.tables values h k) m []) (actors_in h.entries k (h.place + 0)) (play_of h.from c) (play_of h.from d)
       fired.gained.sent fired.gained.traced
   given = given_here model flat number time values h c d inputs at begun k due (subst AreByOffset at.entries_are sorted) (not_late model flat number time values h c d inputs at begun next)
       before after checked settled fired.done fired.gained
@@ -54,12 +55,12 @@ module _ (model : PureTree) (flat : Flat) (one_port : SignalsHaveOnePort) (sound
   inside i x there = at.of.safe.inside i x (entry_in model flat number time values h c d inputs at begun i x there)
 
   -- of its own ports it has what it had and what it traced
-  pub fired_own : (nr : ℕ) (port : PortRow) → IsTracedPort flat number nr port → actor_kind flat.tables port.«module» ≡ Some actor.Module → (had : List Raw) → AreSamplesOf model flat number nr port h had
-      → AreSamplesOf model flat number nr port (after_firings flat.tables values h k) (had ++ samples_of port.signal fired.gained.traced)
-  fired_own nr port traced kind had has =
-      walk model flat one_port sound is number nr port traced values h k due.within at.have_read own inside kind at.steps (enough model flat number time values h c d inputs at begun k due.within)
-      k 0 (omega arith) (play_of 0 c) (play_of 0 d) fired.gained.sent fired.gained.traced had (begins model flat number time values h c d inputs at begun) (turns_here model flat number time values h c d inputs at begun) given
-      (subst (λ g. AreSamplesOf model flat number nr port g had) (after_none flat values h) has)
+  pub fired_own : (nr : ℕ) (port : PortRow) (s : ColumnStart) → IsTracedPort flat number nr port → actor_kind flat.tables port.«module» ≡ Some actor.Module → (had : List Raw) → AreSamplesOf model flat number nr port s h had
+      → AreSamplesOf model flat number nr port s (after_firings flat.tables values h k) (had ++ samples_of port.signal fired.gained.traced)
+  fired_own nr port s traced kind had has =
+      walk model flat one_port sound is number nr port traced values h k due.within (started model flat number time values h c d inputs at begun) at.have_read own inside kind s at.steps (enough model flat number time values h c d inputs at begun k due.within)
+      k 0 (omega arith) (play_of h.from c) (play_of h.from d) fired.gained.sent fired.gained.traced had (begins model flat number time values h c d inputs at begun) (turns_here model flat number time values h c d inputs at begun) given
+      (subst (λ g. AreSamplesOf model flat number nr port s g had) (after_none flat values h) has)
 
   -- of those of another cluster it traced nothing
   pub fired_other : (cluster nr : ℕ) (port : PortRow) → IsTracedPort flat cluster nr port → cluster ≢ number → samples_of port.signal fired.gained.traced ≡ []
@@ -67,4 +68,4 @@ module _ (model : PureTree) (flat : Flat) (one_port : SignalsHaveOnePort) (sound
       let w = due.within in
       nothing model flat one_port sound is cluster nr port traced (cluster_net model flat number h.begun) h.old h.now (λ m. slice_index_or (reads_after flat.tables values h k) m []) h.entries
       (λ i x there same. apart (sym traced.inside ∙ ap (slice_index (clusters_of flat.tables)) (sym same) ∙ own i x there))
-      k (h.place + 0) (omega (arith, w)) (play_of 0 c) (play_of 0 d) fired.gained.sent fired.gained.traced given
+      k (h.place + 0) (omega (arith, w)) (play_of h.from c) (play_of h.from d) fired.gained.sent fired.gained.traced given

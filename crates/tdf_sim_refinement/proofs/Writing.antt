@@ -1,10 +1,10 @@
 -- The law on what sinks write, for a cluster in progress.
-use Rattle.std.proofs.Common.{◌≡◌, ◌∙◌, ℕ, ◌+◌, ◌-◌, ◌<◌, ◌≤◌, Bool, true, false, List, [], ◌∷◌, ◌++◌, Option, Some, None, length, map, take, drop, nat_eq, refl, sym, ap, subst, arith}
+use Rattle.std.proofs.Common.{◌≡◌, ◌∙◌, ℕ, ◌+◌, ◌-◌, ◌<◌, ◌≤◌, Bool, true, false, List, [], ◌∷◌, ◌++◌, Option, Some, None, length, map, take, drop, nat_eq, refl, sym, ap, subst, arith, zero, suc}
 use Rattle.std.proofs.Math.Seq.{take-length}
 use Rattle.std.proofs.lemmas.List.Sums.{sum_by-append, sum_by-cons}
 use Rattle.std.proofs.lemmas.Option.{get_or_from_slice_get}
 use Rattle.std.specs.List.{count_by, range_with_len, sum_by}
-use Rattle.std.specs.Prelude.{slice_get, slice_index, slice_index_or, sum}
+use Rattle.std.specs.Prelude.{slice_get, slice_index, slice_index_or, sum, cond}
 use Rattle.tdf_convert.specs.Outputs.{OutputsOf}
 use Rattle.tdf_convert.specs.Sampled.{AreByOffset}
 use Rattle.tdf_exec.specs.Cluster.{ClusterOf, due_from}
@@ -23,7 +23,7 @@ use Rattle.tdf_graph.specs.declared.actors.Actor.{Actor}
 use Rattle.tdf_graph.specs.declared.actors.Actor.TheVariants as actor
 use Rattle.tdf_sim_history.specs.World.{ClusterAt}
 use Rattle.tdf_exec_layout.specs.Wiring.{IsEdgeOf}
-use Rattle.tdf_sim_refinement.proofs.Arriving.{all_given, done_none, in_plan, kind_inside, not_late, place_d}
+use Rattle.tdf_sim_refinement.proofs.Arriving.{all_given, in_plan, kind_inside, not_late, place_d}
 use Rattle.tdf_sim_refinement.proofs.Due.{due_counted, true_false}
 use Rattle.tdf_sim_refinement.proofs.Sinking.{many, walk}
 use Rattle.tdf_sim_refinement.specs.At.{AreSettled, HaveTakenOne, IsAt}
@@ -34,6 +34,7 @@ use Rattle.tdf_schedule.specs.declared.entry.Entry.{Entry}
 use Rattle.tdf_streams.specs.Cluster.{cluster_net}
 use Rattle.tdf_streams.specs.Periods.{PeriodRecord}
 use Rattle.tdf_lang_tree.specs.Pure.{PureTree}
+use Rattle.std.proofs.lemmas.List.{length-drop}
 
 unfoldable pub is_sink : Option Actor → Bool
 is_sink None = false
@@ -49,15 +50,34 @@ sink_edge flat c m sink (runner.Sampler s) is = absurd (true_false (sym (ap is_s
 sink_edge flat c m sink (runner.Sink k) is = (k.edge, is.edge_is, is.rate)
 sink_edge flat c m sink runner.Outside is = absurd (is sink.inside)
 
+-- the entries after a place
+count_rest : (entries : List Entry) (i m : ℕ) → done entries i m + count_by (λ (x : Entry). nat_eq x.actor m) (drop i entries) ≡ count_by (λ (x : Entry). nat_eq x.actor m) entries
+unfolding done
+count_rest [] zero m = refl
+count_rest [] (suc i) m = refl
+count_rest (x ∷ es) zero m = omega arith
+count_rest (x ∷ es) (suc i) m =
+    let a = sum_by-cons (λ (z : Entry). cond {A = ℕ} (nat_eq z.actor m) 1 0) x (take i es) in
+    let b = sum_by-cons (λ (z : Entry). cond {A = ℕ} (nat_eq z.actor m) 1 0) x es in
+    let r = count_rest es i m in omega (arith, a, b, r)
+
 pub done_all : (entries : List Entry) (m : ℕ) → count_by (λ (x : Entry). nat_eq x.actor m) entries ≡ done entries (length entries) m
 unfolding done
 done_all entries m = ap (count_by (λ (x : Entry). nat_eq x.actor m)) (sym (take-length entries))
 
 module _ (model : PureTree) (flat : Flat) (number time : ℕ) (values : List Raw) (h : ClusterAt) (c d : ClusterOf) (inputs : List Raw) (at : IsAt model flat number h c) (begun : h.since ≤ time) where
+  -- the start, or the period, lies at a place that is no later
+  pub started : h.from ≤ h.place
+  started = let s = at.period.started in let p = at.place_is in omega (arith, s, p)
+
   -- the firings of its periods are more than those that are done
-  plan_within : length h.entries ≤ sum h.now.counts
-  plan_within = many h.entries h.now.counts (λ m.
-      (let z = at.period.counts m in let n = done_none c.entries m in let l = ap (λ es. done es (length es) m) at.entries_are in let a = done_all h.entries m in omega (arith, z, n, l, a)))
+  plan_within : length h.entries ≤ h.from + sum h.now.counts
+  plan_within =
+      let l = length-drop h.from h.entries in
+      let w = many (drop h.from h.entries) h.now.counts (λ m.
+      (let z = at.period.counts m in let e = ap (λ es. done es (length es) m - done es h.from m) at.entries_are in
+      let a = done_all h.entries m in let r = count_rest h.entries h.from m in omega (arith, z, e, a, r))) in
+      omega (arith, l, w)
 
   pub enough : (k : ℕ) → h.place + k ≤ length h.entries → k + at.steps ≤ firings (h.old ++ h.now ∷ [])
   enough k within =
@@ -79,20 +99,19 @@ module _ (model : PureTree) (flat : Flat) (number time : ℕ) (values : List Raw
   pub entry_in : (i : ℕ) (x : Entry) → slice_get h.entries i ≡ Some x → slice_get c.entries i ≡ Some x
   entry_in i x there = ap (λ (l : List Entry). slice_get l i) at.entries_are ∙ there
 
-  pub turns_here : (m : ℕ) → m < length flat.tables.actors → slice_index (play_of 0 c).turns m ≡ done h.entries (h.place + 0) m
+  pub turns_here : (m : ℕ) → m < length flat.tables.actors → slice_index (play_of h.from c).turns m ≡ done h.entries (h.place + 0) m - done h.entries h.from m
   turns_here m inside =
       let l = at.of.actors in
-      let made = get_or_from_slice_get (map (turns_from c.entries 0 c.place) (range_with_len 0 (length c.runners))) m (turns_from c.entries 0 c.place (0 + m)) 0
-      (get_made_at (turns_from c.entries 0 c.place) 0 (length c.runners) m (omega (arith, l, inside))) in
-      let z : 0 + m ≡ m = omega arith in let y = ap (turns_from c.entries 0 c.place) z in
-      let n = done_none c.entries m in
+      let made = get_or_from_slice_get (map (turns_from c.entries h.from c.place) (range_with_len 0 (length c.runners))) m (turns_from c.entries h.from c.place (0 + m)) 0
+      (get_made_at (turns_from c.entries h.from c.place) 0 (length c.runners) m (omega (arith, l, inside))) in
+      let z : 0 + m ≡ m = omega arith in let y = ap (turns_from c.entries h.from c.place) z in
       let p : c.place ≡ h.place + 0 = (let q = at.place_is in omega (arith, q)) in
-      let e = ap (λ es. done es c.place m) at.entries_are ∙ ap (λ i. done h.entries i m) p in omega (arith, made, y, n, e)
+      made ∙ y ∙ ap (λ es. turns_from es h.from c.place m) at.entries_are ∙ ap (λ i. turns_from h.entries h.from i m) p
 
-  pub begins : Stands (cluster_net model flat number h.begun) h.old h.now (λ m. slice_index_or (reads_after flat.tables values h 0) m []) (0 + at.steps) (play_of 0 c)
+  pub begins : Stands (cluster_net model flat number h.begun) h.old h.now (λ m. slice_index_or (reads_after flat.tables values h 0) m []) (0 + at.steps) (play_of h.from c)
   unfolding reads_after
   begins = let e : at.steps ≡ 0 + at.steps = omega arith in
-      subst (λ n. Stands (cluster_net model flat number h.begun) h.old h.now (λ m. slice_index_or h.reads m []) n (play_of 0 c)) e at.stands
+      subst (λ n. Stands (cluster_net model flat number h.begun) h.old h.now (λ m. slice_index_or h.reads m []) n (play_of h.from c)) e at.stands
 
   module _ (k : ℕ) (due : AreDueNext time k h) (sorted : AreByOffset h.entries) (late : IsNotLate time h) where
     order_is : AreDone (time - h.since) c d → actors_between c.entries c.place d.place ≡ map (λ (x : Entry). x.actor) (take k (drop (h.place + 0) h.entries))
@@ -107,19 +126,19 @@ module _ (model : PureTree) (flat : Flat) (number time : ℕ) (values : List Raw
     pub given_here : (before after : OutputsOf) → IsCheckedOf model flat.checked → AreSettled flat.tables values (time - h.since) c inputs → AreDone (time - h.since) c d
         → (gained : HasGained flat (time - h.since) inputs c d before after)
         → GiveAll flat (cluster_net model flat number h.begun) h.old h.now (λ m. slice_index_or (reads_after flat.tables values h k) m [])
-        (map (λ (x : Entry). x.actor) (take k (drop (h.place + 0) h.entries))) (play_of 0 c) (play_of 0 d) gained.sent gained.traced
+        (map (λ (x : Entry). x.actor) (take k (drop (h.place + 0) h.entries))) (play_of h.from c) (play_of h.from d) gained.sent gained.traced
     given_here before after checked settled all gained =
-        let given = gained.given model h.begun h.old h.now (λ m. slice_index_or (reads_after flat.tables values h k) m []) 0 checked at.period (all_given model flat number time values h c d inputs at begun k due sorted late settled) in
-        let here = subst (λ l. GiveAll flat (cluster_net model flat c.number h.begun) h.old h.now (λ m. slice_index_or (reads_after flat.tables values h k) m []) l (play_of 0 c) (play_of 0 d) gained.sent gained.traced) (order_is all) given in
-        subst (λ j. GiveAll flat (cluster_net model flat j h.begun) h.old h.now (λ m. slice_index_or (reads_after flat.tables values h k) m []) (map (λ (x : Entry). x.actor) (take k (drop (h.place + 0) h.entries))) (play_of 0 c) (play_of 0 d) gained.sent gained.traced) at.number_is here
+        let given = gained.given model h.begun h.old h.now (λ m. slice_index_or (reads_after flat.tables values h k) m []) h.from checked at.period (all_given model flat number time values h c d inputs at begun k due sorted late settled) in
+        let here = subst (λ l. GiveAll flat (cluster_net model flat c.number h.begun) h.old h.now (λ m. slice_index_or (reads_after flat.tables values h k) m []) l (play_of h.from c) (play_of h.from d) gained.sent gained.traced) (order_is all) given in
+        subst (λ j. GiveAll flat (cluster_net model flat j h.begun) h.old h.now (λ m. slice_index_or (reads_after flat.tables values h k) m []) (map (λ (x : Entry). x.actor) (take k (drop (h.place + 0) h.entries))) (play_of h.from c) (play_of h.from d) gained.sent gained.traced) at.number_is here
 
     pub sinks_write_all : HaveTakenOne flat.tables number h → (before after : OutputsOf) → IsCheckedOf model flat.checked → AreSettled flat.tables values (time - h.since) c inputs → AreDone (time - h.since) c d
         → (gained : HasGained flat (time - h.since) inputs c d before after) → writes_after model flat values number h k ≡ map (write_of flat.tables) gained.sent
     unfolding writes_after
     sinks_write_all ones before after checked settled all gained =
-        walk model flat number values h k due.within at.have_read
+        walk model flat number values h k due.within started at.have_read
         (λ i x there. at.of.safe.own i x (entry_in i x there) ∙ at.number_is) (λ i x there. at.of.safe.inside i x (entry_in i x there)) edge_at ones at.steps (enough k due.within)
-        k 0 (omega arith) (play_of 0 c) (play_of 0 d) gained.sent gained.traced begins turns_here (given_here before after checked settled all gained)
+        k 0 (omega arith) (play_of h.from c) (play_of h.from d) gained.sent gained.traced begins turns_here (given_here before after checked settled all gained)
 
 pub sinks_write : SinksWrite
 sinks_write model flat number time values h c d inputs before after checked at sorted ones begun next settled all gained =

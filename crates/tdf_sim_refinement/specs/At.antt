@@ -13,13 +13,14 @@ use Rattle.tdf_streams.specs.Grounds.{firings}
 use Rattle.tdf_streams.specs.Stands.{Stands}
 use Rattle.tdf_graph.specs.declared.actors.Actor.TheVariants as actor
 use Rattle.tdf_sim_history.specs.Instant.{activations, periods_of, run_in}
+use Rattle.tdf_sim_history.specs.Continuing.{HasCounts}
 use Rattle.tdf_sim_history.specs.World.{ClusterAt}
+use Rattle.tdf_sim_history.specs.WorldLaws.{AreRecordsOf}
 use Rattle.tdf_exec_layout.specs.Wiring.{Reads}
 use Rattle.tdf_sim_refinement.specs.Firings.{value_for}
 use Rattle.tdf_schedule.specs.declared.entry.Entry.{Entry}
 use Rattle.tdf_streams.specs.Cluster.{cluster_net}
-use Rattle.tdf_streams.specs.Periods.{IsWholeRecord, PeriodRecord}
-use Rattle.tdf_streams.specs.Starts.{ArePast}
+use Rattle.tdf_streams.specs.Periods.{PeriodRecord}
 use Rattle.tdf_lang_tree.specs.Pure.{PureTree}
 
 -- each actor has its list of reads, and a sampler of the cluster has read once an activation
@@ -42,17 +43,18 @@ pub record IsAt (model : PureTree) (flat : Flat) (number : ℕ) (h : ClusterAt) 
   -- all that is told of its boundaries was used: it has come to none of those to come
   pub none_ahead : h.ahead ≡ []
   pub of : IsClusterOf flat c
-  pub period : IsPeriodOf c 0 h.now
-  pub whole : All (IsWholeRecord flat number) (periods_of h)
-  pub past : ArePast flat number h.begun h.old h.now
+  -- the start, or the period, lies at a place of the plan, which has the counts of a whole period
+  pub period : IsPeriodOf c h.from h.now
+  pub counts : HasCounts h.entries h.now.info.counts
+  pub records : AreRecordsOf flat number h.begun (periods_of h)
   pub have_read : HaveRead flat.tables number h
   -- each actor was activated as often as in the history, or as often as can be counted
   pub positions : (m : ℕ) → m < length c.positions
       → slice_index c.positions m ≡ counted (activations h m)
   pub steps : ℕ
-  pub few : steps ≤ firings h.old + h.place
+  pub few : steps + h.from ≤ firings h.old + h.place
   pub stands : Stands (cluster_net model flat number h.begun) h.old h.now (run_in h).reads steps
-      (play_of 0 c)
+      (play_of h.from c)
 
 -- the inputs of a cluster are, for its samplers that are due, what these read
 pub record AreSettled (tables : FlatTablesOf) (values : List Raw) (offset : ℕ) (c : ClusterOf)

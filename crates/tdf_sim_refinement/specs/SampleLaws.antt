@@ -1,7 +1,6 @@
 -- What holds of the samples that firings trace.
 -- Source: own.
-use Rattle.std.specs.List.{range_with_len}
-use Rattle.std.specs.Prelude.{◌≡◌, ℕ, ℤ, false, List, [], Some, length, map, slice_get}
+use Rattle.std.specs.Prelude.{◌≡◌, ℕ, ℤ, false, List, [], Some, length, slice_get}
 use Rattle.tdf_dynamic.specs.Laws.{IsBoundary}
 use Rattle.tdf_convert.specs.declared.outputs.Sent.{Sent}
 use Rattle.tdf_dynamic_plans.specs.Attributes.{AttrsOf}
@@ -14,7 +13,8 @@ use Rattle.tdf_bind.specs.Flat.{IsFlatOf}
 use Rattle.tdf_bind.specs.declared.model.Flat.{Flat}
 use Rattle.tdf_bind_invariants.specs.Formats.{IsSoundModel}
 use Rattle.tdf_sim_history.specs.Answers.{IsAnswer, asks_in, last_cells}
-use Rattle.tdf_sim_history.specs.Cells.{port_cell, spans_from}
+use Rattle.tdf_sim_history.specs.Cells.{column_spans, port_cell}
+use Rattle.tdf_sim_history.specs.Columns.{ColumnStart, held_by}
 use Rattle.tdf_sim_history.specs.Instant.{periods_of, with_new, with_same}
 use Rattle.tdf_sim_history.specs.Start.{first_cluster}
 use Rattle.tdf_sim_history.specs.World.{Change, ClusterAt, Rules, World}
@@ -25,39 +25,40 @@ use Rattle.tdf_sim_refinement.specs.Boundary.{HasAnswered}
 use Rattle.tdf_sim_refinement.specs.Firings.{settled_values}
 use Rattle.tdf_sim_refinement.specs.Pass.{AreAt, AreReady, HavePassed, PassAt, PassesAlong, RunOf}
 use Rattle.tdf_schedule.specs.declared.entry.Entry.{Entry}
-use Rattle.tdf_streams.specs.Cluster.{initial_sample, is_outside}
+use Rattle.tdf_streams.specs.Cluster.{is_outside}
 use Rattle.tdf_sim_refinement.specs.Samples.{AreSamplesOf, HaveTraced, IsDoneKnown}
 use Rattle.tdf_lang_tree.specs.Pure.{PureTree}
 use Rattle.tdf_bind_connections.specs.declared.modules.PortRow.{PortRow}
 
--- at the start a port has its initial samples
+-- at the start a column has the samples that its start holds
 abbrev pub StartsHaveSamples : Type 0
 StartsHaveSamples = (model : PureTree) (flat : Flat) (cluster number : ℕ) (port : PortRow)
-    → (first : First)
-    → AreSamplesOf model flat cluster number port (first_cluster model flat cluster first [])
-    (map (initial_sample flat.tables port) (range_with_len 0 port.delay))
+    → (s : ColumnStart) (first : First)
+    → AreSamplesOf model flat cluster number port s (first_cluster model flat cluster first [])
+    (held_by s)
 
 -- a boundary adds none, where the plan stays and where there is a new one
 pub record BoundariesAddNone : Type 0 where
   pub same : (model : PureTree) (flat : Flat) (cluster number time : ℕ) (port : PortRow)
-      → (h : ClusterAt) (c : ClusterOf) (samples : List Raw) (table : List AttrsOf)
-      → IsAt model flat cluster h c → h.place ≡ length h.entries
-      → AreSamplesOf model flat cluster number port h samples
-      → AreSamplesOf model flat cluster number port (with_same time table h) samples
+      → (s : ColumnStart) (h : ClusterAt) (c : ClusterOf) (samples : List Raw)
+      → (table : List AttrsOf) → IsAt model flat cluster h c → h.place ≡ length h.entries
+      → AreSamplesOf model flat cluster number port s h samples
+      → AreSamplesOf model flat cluster number port s (with_same time table h) samples
   pub new : (model : PureTree) (flat : Flat) (cluster number time : ℕ) (port : PortRow)
-      → (h : ClusterAt) (c : ClusterOf) (samples : List Raw) (table : List AttrsOf)
-      → (counts : List ℕ) (period : ℕ) (entries : List Entry) (bounds : List ℕ)
-      → IsAt model flat cluster h c → h.place ≡ length h.entries
-      → AreSamplesOf model flat cluster number port h samples
-      → AreSamplesOf model flat cluster number port
+      → (s : ColumnStart) (h : ClusterAt) (c : ClusterOf) (samples : List Raw)
+      → (table : List AttrsOf) (counts : List ℕ) (period : ℕ) (entries : List Entry)
+      → (bounds : List ℕ) → IsAt model flat cluster h c → h.place ≡ length h.entries
+      → AreSamplesOf model flat cluster number port s h samples
+      → AreSamplesOf model flat cluster number port s
       (with_new flat.tables time table counts period entries bounds h) samples
 
 -- the cells of the history are those that these samples give
 abbrev pub CellsAreOfSamples : Type 0
 CellsAreOfSamples = (model : PureTree) (flat : Flat) (cluster number time : ℕ) (port : PortRow)
-    → (c : ClusterAt) (samples : List Raw) → AreSamplesOf model flat cluster number port c samples
-    → port_cell model flat cluster port number time (Some c)
-    ≡ cell_of (spans_from port 0 (periods_of c)) samples time
+    → (s : ColumnStart) (c : ClusterAt) (samples : List Raw)
+    → AreSamplesOf model flat cluster number port s c samples
+    → port_cell model flat cluster s port number time (Some c)
+    ≡ cell_of (column_spans port s c.origin (periods_of c)) samples time
 
 -- what is done is known, where a cluster in progress is what the history says of it
 abbrev pub DoneIsKnown : Type 0
@@ -68,7 +69,7 @@ DoneIsKnown = (model : PureTree) (flat : Flat) (cluster : ℕ) (h : ClusterAt) (
 abbrev pub HeldIsKnown : Type 0
 HeldIsKnown = (model : PureTree) (flat : Flat) (cluster : ℕ) (h : ClusterAt) (c : ClusterOf)
     → (m : ℕ) (cells : List ℤ) → IsAt model flat cluster h c → h.place ≡ length h.entries
-    → slice_get (play_of 0 c).states m ≡ Some cells → is_outside flat.tables cluster m ≡ false
+    → slice_get (play_of h.from c).states m ≡ Some cells → is_outside flat.tables cluster m ≡ false
     → last_cells model flat cluster h m ≡ Some cells
 
 -- a change is the answer of the boundary of a cluster, and the boundary leads to a table of the

@@ -30,20 +30,21 @@ use Rattle.tdf_sim_refinement.specs.Samples.{AreSamplesOf, HaveTraced, samples_o
 use Rattle.tdf_lang_tree.specs.Pure.{PureTree}
 use Rattle.tdf_bind_connections.specs.declared.modules.PortRow.{PortRow}
 use Rattle.tdf_sim_history.specs.Rules.{rules_of}
+use Rattle.tdf_sim_history.specs.Columns.{ColumnStart}
 
 and_left : (a b : Bool) → (a && b) ≡ true → a ≡ true
 and_left true b is = refl
 and_left false b is = absurd cc
 
 advances_by : (tables : FlatTablesOf) (time : ℕ) (h mid g : ClusterAt) → Becomes tables time h mid → IsInPeriod mid g → Advances time h g
-advances_by tables time h mid g (Becomes.Stayed going same) kept = Advances.Stayed going (kept.since ∙ ap (λ (z : ClusterAt). z.since) same) (kept.old ∙ ap (λ (z : ClusterAt). z.old) same) (kept.now ∙ ap (λ (z : ClusterAt). z.now) same)
-advances_by tables time h mid g (Becomes.Began table over is) kept = Advances.Began over (kept.since ∙ ap (λ (z : ClusterAt). z.since) is) (kept.old ∙ ap (λ (z : ClusterAt). z.old) is)
-advances_by tables time h mid g (Becomes.Changed table counts period entries bounds over is) kept = Advances.Began over (kept.since ∙ ap (λ (z : ClusterAt). z.since) is) (kept.old ∙ ap (λ (z : ClusterAt). z.old) is)
+advances_by tables time h mid g (Becomes.Stayed going same) kept = Advances.Stayed going (kept.origin ∙ ap (λ (z : ClusterAt). z.origin) same) (kept.since ∙ ap (λ (z : ClusterAt). z.since) same) (kept.old ∙ ap (λ (z : ClusterAt). z.old) same) (kept.now ∙ ap (λ (z : ClusterAt). z.now) same)
+advances_by tables time h mid g (Becomes.Began table over is) kept = Advances.Began over (kept.origin ∙ ap (λ (z : ClusterAt). z.origin) is) (kept.since ∙ ap (λ (z : ClusterAt). z.since) is) (kept.old ∙ ap (λ (z : ClusterAt). z.old) is)
+advances_by tables time h mid g (Becomes.Changed table counts period entries bounds over is) kept = Advances.Began over (kept.origin ∙ ap (λ (z : ClusterAt). z.origin) is) (kept.since ∙ ap (λ (z : ClusterAt). z.since) is) (kept.old ∙ ap (λ (z : ClusterAt). z.old) is)
 
 -- so is one of which something is told
 advances_told : (time : ℕ) (l : List Change) (h g : ClusterAt) → Advances time h g → Advances time (told_more l h) g
-advances_told time l h g (Advances.Began over since old) = Advances.Began over since old
-advances_told time l h g (Advances.Stayed over since old now) = Advances.Stayed over since old now
+advances_told time l h g (Advances.Began over origin since old) = Advances.Began over origin since old
+advances_told time l h g (Advances.Stayed over origin since old now) = Advances.Stayed over origin since old now
 
 module _ (one_port : SignalsHaveOnePort) (model : PureTree) (flat : Flat) (time : ℕ) (w : World SideOf) (e f : Engine) (left rest : ℕ) (m : IsModelOf model flat) (now : IsNow model flat w e left)
     (none : e.outputs.traced ≡ []) (had : HasHadInstant flat time e f left rest) (goes : InstantGoes model flat time w e f left rest had) where
@@ -69,13 +70,13 @@ module _ (one_port : SignalsHaveOnePort) (model : PureTree) (flat : Flat) (time 
   at_end h over = eqb-true h.place (length h.entries) (and_left (nat_eq h.place (length h.entries)) (nat_eq time (h.since + h.now.info.period)) over)
 
   -- a boundary adds no sample
-  crossed_samples : (n number : ℕ) (port : PortRow) (h mid : ClusterAt) (c : ClusterOf) (samples : List Raw) → IsAt model flat (n + 1) h c → Becomes flat.tables time h mid → AreSamplesOf model flat (n + 1) number port h samples
-      → AreSamplesOf model flat (n + 1) number port mid samples
-  crossed_samples n number port h mid c samples at (Becomes.Stayed going same) are = subst (λ z. AreSamplesOf model flat (n + 1) number port z samples) (sym same) are
-  crossed_samples n number port h mid c samples at (Becomes.Began table over is) are = subst (λ z. AreSamplesOf model flat (n + 1) number port z samples) (sym is)
-      (boundaries_add_none.same model flat (n + 1) number time port h c samples table at (at_end h over) are)
-  crossed_samples n number port h mid c samples at (Becomes.Changed table counts period entries bounds over is) are = subst (λ z. AreSamplesOf model flat (n + 1) number port z samples) (sym is)
-      (boundaries_add_none.new model flat (n + 1) number time port h c samples table counts period entries bounds at (at_end h over) are)
+  crossed_samples : (n number : ℕ) (port : PortRow) (cs : ColumnStart) (h mid : ClusterAt) (c : ClusterOf) (samples : List Raw) → IsAt model flat (n + 1) h c → Becomes flat.tables time h mid → AreSamplesOf model flat (n + 1) number port cs h samples
+      → AreSamplesOf model flat (n + 1) number port cs mid samples
+  crossed_samples n number port cs h mid c samples at (Becomes.Stayed going same) are = subst (λ z. AreSamplesOf model flat (n + 1) number port cs z samples) (sym same) are
+  crossed_samples n number port cs h mid c samples at (Becomes.Began table over is) are = subst (λ z. AreSamplesOf model flat (n + 1) number port cs z samples) (sym is)
+      (boundaries_add_none.same model flat (n + 1) number time port cs h c samples table at (at_end h over) are)
+  crossed_samples n number port cs h mid c samples at (Becomes.Changed table counts period entries bounds over is) are = subst (λ z. AreSamplesOf model flat (n + 1) number port cs z samples) (sym is)
+      (boundaries_add_none.new model flat (n + 1) number time port cs h c samples table counts period entries bounds at (at_end h over) are)
 
   cluster_of : (n : ℕ) (h : ClusterAt) → slice_get w.clusters n ≡ Some h → (c : ClusterOf) × IsAt model flat (n + 1) h c
   cluster_of n h h_at =
@@ -104,18 +105,18 @@ module _ (one_port : SignalsHaveOnePort) (model : PureTree) (flat : Flat) (time 
         let b = from_before model flat time w e f left rest had goes n g g_at in
         subst (λ z. Advances time z g) o.2 (advances_told time (slice_index_or told n []) o.0 g
         (subst (λ z. Advances time z g) (some_same b.0 o.0 (sym b.2 ∙ o.1)) (advances_by flat.tables time b.0 b.1 g b.4 b.5))));
-    samples = λ n number port h g samples h_at g_at traced are. (
+    samples = λ n number port cs h g samples h_at g_at traced are. (
         let o = of_told n h h_at in
         let b = from_before model flat time w e f left rest had goes n g g_at in
         let c = cluster_of n o.0 o.1 in
         let becomes = subst (λ z. Becomes flat.tables time z b.1) (some_same b.0 o.0 (sym b.2 ∙ o.1)) b.4 in
-        let bare : AreSamplesOf model flat (n + 1) number port o.0 samples = untell n number port (slice_index_or told n []) o.0 samples (subst (λ z. AreSamplesOf model flat (n + 1) number port z samples) (sym o.2) are) in
-        subst (λ l. AreSamplesOf model flat (n + 1) number port g (samples ++ samples_of port.signal l)) new_is
-        (traces.samples n number port b.1 g samples b.3 (sym (ap (λ l. slice_get l n) goes.same) ∙ g_at) traced (crossed_samples n number port o.0 b.1 c.0 samples c.1 becomes bare)));
+        let bare : AreSamplesOf model flat (n + 1) number port cs o.0 samples = untell n number port cs (slice_index_or told n []) o.0 samples (subst (λ z. AreSamplesOf model flat (n + 1) number port cs z samples) (sym o.2) are) in
+        subst (λ l. AreSamplesOf model flat (n + 1) number port cs g (samples ++ samples_of port.signal l)) new_is
+        (traces.samples n number port cs b.1 g samples b.3 (sym (ap (λ l. slice_get l n) goes.same) ∙ g_at) traced (crossed_samples n number port cs o.0 b.1 c.0 samples c.1 becomes bare)));
   }
     where
-      untell : (n number : ℕ) (port : PortRow) (l : List Change) (b : ClusterAt) (samples : List Raw) → AreSamplesOf model flat (n + 1) number port (told_more l b) samples → AreSamplesOf model flat (n + 1) number port b samples
-      untell n number port l b samples are = record { many = are.many; are = are.are }
+      untell : (n number : ℕ) (port : PortRow) (cs : ColumnStart) (l : List Change) (b : ClusterAt) (samples : List Raw) → AreSamplesOf model flat (n + 1) number port cs (told_more l b) samples → AreSamplesOf model flat (n + 1) number port cs b samples
+      untell n number port cs l b samples are = record { many = are.many; are = are.are }
 
 pub instant_advances : SignalsHaveOnePort → InstantAdvances
 instant_advances one_port model flat time w e f left rest m now none had goes = advanced one_port model flat time w e f left rest m now none had goes

@@ -20,13 +20,12 @@ use Rattle.tdf_bind_tables.specs.Ranges.{AreInRange}
 use Rattle.tdf_sim_history.specs.Telling.{told_more, world_told}
 use Rattle.tdf_sim_history.specs.Texts.{notes_to}
 use Rattle.tdf_sim_history.specs.World.{Change, ClusterAt, World}
-use Rattle.tdf_streams.specs.Periods.{IsWholeRecord}
 use Rattle.tdf_sim_history.specs.Continuing.{HasToldCounts}
 use Rattle.tdf_sim_history.specs.TurnLaws.{IsOn}
 use Rattle.tdf_sim_runs.specs.Ongoing.{CanBeTold}
 use Rattle.tdf_sim_refinement.proofs.Api.{cluster_there, all_starts_are_at, done_known}
 use Rattle.tdf_streams.proofs.Api.{get_inside}
-use Rattle.tdf_sim_history.proofs.Api.{first_attributes, starts}
+use Rattle.tdf_sim_history.proofs.Api.{first_attributes, starts, last_record}
 use Rattle.tdf_sim_history.specs.TableLaws.{HaveAttributes}
 use Rattle.tdf_sim_history.specs.History.{history}
 use Rattle.tdf_sim_runs.specs.Running.{CanGoOn, IsRunning}
@@ -110,7 +109,7 @@ module _ (flat : Flat) (firsts : List First) (e : Engine) (kind : TraceKind) (s 
         let k = at.same in
         let c = get_inside e.clusters.items n (omega (arith, i, l)) in
         let h = get_inside start.clusters n (omega (arith, i, l, k)) in
-        (cluster_there flat (n + 1) h.0.now of.limits (last_of (IsWholeRecord flat (n + 1)) h.0.old h.0.now (at.each n h.0 c.0 h.1 c.1).whole), plans.each n first there)))
+        (cluster_there flat (n + 1) h.0.now of.limits (last_record flat (n + 1) h.0.begun h.0.old h.0.now (at.each n h.0 c.0 h.1 c.1).records), plans.each n first there)))
 
     can_be_told : CanBeTold flat start
     can_be_told = record {
@@ -122,7 +121,7 @@ module _ (flat : Flat) (firsts : List First) (e : Engine) (kind : TraceKind) (s 
           let is = at.each n h c.0 there c.1 in
           record {
             counts = (done_known model flat (n + 1) h c.0 is).counts;
-            whole = (last_of (IsWholeRecord flat (n + 1)) h.old h.now is.whole).whole;
+            whole = is.counts;
             ahead = subst (λ (a : List Change). All HasToldCounts a) (sym is.none_ahead) (All-nil HasToldCounts);
           });
     }
@@ -159,7 +158,8 @@ module _ (flat : Flat) (firsts : List First) (e : Engine) (kind : TraceKind) (s 
     ready = ready;
     none = none;
     early = omega (arith, upto, zero_upto);
-    late = λ n s s_at. omega (arith, upto, zero_upto);
+    since = λ place u u_at more. omega (arith, upto, zero_upto);
+    within = λ n s c s_at c_at. omega (arith, upto, zero_upto);
     printable = range;
     some = record {
       model = model;

@@ -10,21 +10,22 @@ use Rattle.tdf_sim_history.proofs.Api.{AllBy, LeadsBy, firings_by, turns_by}
 
 -- a cluster that is in the same period
 pub record IsInPeriod (c d : ClusterAt) : Type 0 where
+  pub origin : d.origin ≡ c.origin
   pub since : d.since ≡ c.since
   pub old : d.old ≡ c.old
   pub now : d.now ≡ c.now
 
 in_itself : (c : ClusterAt) → IsInPeriod c c
-in_itself c = record { since = refl; old = refl; now = refl }
+in_itself c = record { origin = refl; since = refl; old = refl; now = refl }
 
 in_through : (b c d : ClusterAt) → IsInPeriod b c → IsInPeriod c d → IsInPeriod b d
-in_through b c d x y = record { since = y.since ∙ x.since; old = y.old ∙ x.old; now = y.now ∙ x.now }
+in_through b c d x y = record { origin = y.origin ∙ x.origin; since = y.since ∙ x.since; old = y.old ∙ x.old; now = y.now ∙ x.now }
 
 step_in : (c : ClusterAt) → IsInPeriod c (stepped c)
-step_in c = record { since = refl; old = refl; now = refl }
+step_in c = record { origin = refl; since = refl; old = refl; now = refl }
 
 read_in : (m : ℕ) (value : Raw) (c : ClusterAt) → IsInPeriod c (with_read m value c)
-read_in m value c = record { since = refl; old = refl; now = refl }
+read_in m value c = record { origin = refl; since = refl; old = refl; now = refl }
 
 module _ {K : Type 0} (model : PureTree) (flat : Flat) (rules : Rules K) where
   all_lead : (time n : ℕ) (w : World K) → LeadsBy IsInPeriod in_itself in_through w (turns_to (all_firings model flat rules time) n w)

@@ -49,20 +49,28 @@ and_right true b is = is
 and_right false b is = absurd cc
 
 -- the next period begins when those before it are over
-began_timed : (time : ℕ) (h : ClusterAt) → is_over time h ≡ true → h.since ≡ time_of h.old → time ≡ time_of (periods_of h)
+began_timed : (time : ℕ) (h : ClusterAt) → is_over time h ≡ true → h.since ≡ h.origin + time_of h.old → time ≡ h.origin + time_of (periods_of h)
 began_timed time h over timed =
     let t = eqb-true time (h.since + h.now.info.period) (and_right (nat_eq h.place (length h.entries)) (nat_eq time (h.since + h.now.info.period)) over) in
     let a = sum_by-append (λ (p : PeriodRecord). p.info.period) h.old (h.now ∷ []) in
     let b = sum_by-cons (λ (p : PeriodRecord). p.info.period) h.now [] in
     omega (arith, t, a, b, timed)
 
-timed_by : (tables : FlatTablesOf) (time : ℕ) (h mid g : ClusterAt) → h.since ≡ time_of h.old → Becomes tables time h mid → IsInPeriod mid g → g.since ≡ time_of g.old
+timed_by : (tables : FlatTablesOf) (time : ℕ) (h mid g : ClusterAt) → h.since ≡ h.origin + time_of h.old → Becomes tables time h mid → IsInPeriod mid g → g.since ≡ g.origin + time_of g.old
 timed_by tables time h mid g timed (Becomes.Stayed going same) kept =
-    kept.since ∙ ap (λ (z : ClusterAt). z.since) same ∙ timed ∙ sym (ap time_of (kept.old ∙ ap (λ (z : ClusterAt). z.old) same))
+    let a = kept.since ∙ ap (λ (z : ClusterAt). z.since) same in
+    let b = kept.origin ∙ ap (λ (z : ClusterAt). z.origin) same in
+    let c = ap time_of (kept.old ∙ ap (λ (z : ClusterAt). z.old) same) in omega (arith, a, b, c, timed)
 timed_by tables time h mid g timed (Becomes.Began table over is) kept =
-    kept.since ∙ ap (λ (z : ClusterAt). z.since) is ∙ began_timed time h over timed ∙ sym (ap time_of (kept.old ∙ ap (λ (z : ClusterAt). z.old) is))
+    let a = kept.since ∙ ap (λ (z : ClusterAt). z.since) is in
+    let b = kept.origin ∙ ap (λ (z : ClusterAt). z.origin) is in
+    let c = ap time_of (kept.old ∙ ap (λ (z : ClusterAt). z.old) is) in
+    let t = began_timed time h over timed in omega (arith, a, b, c, t)
 timed_by tables time h mid g timed (Becomes.Changed table counts period entries bounds over is) kept =
-    kept.since ∙ ap (λ (z : ClusterAt). z.since) is ∙ began_timed time h over timed ∙ sym (ap time_of (kept.old ∙ ap (λ (z : ClusterAt). z.old) is))
+    let a = kept.since ∙ ap (λ (z : ClusterAt). z.since) is in
+    let b = kept.origin ∙ ap (λ (z : ClusterAt). z.origin) is in
+    let c = ap time_of (kept.old ∙ ap (λ (z : ClusterAt). z.old) is) in
+    let t = began_timed time h over timed in omega (arith, a, b, c, t)
 
 module _ (model : PureTree) (flat : Flat) (time : ℕ) (w : World SideOf) (e f : Engine) (left rest : ℕ) (had : HasHadInstant flat time e f left rest) (goes : InstantGoes model flat time w e f left rest had) where
   -- a cluster after the instant, from what it was

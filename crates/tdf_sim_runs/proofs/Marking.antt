@@ -81,7 +81,8 @@ module _ (law : BoundariesHaveOne) (stands : ShownStandsBelow) (flat : Flat) (r 
       ready = can.ready;
       none = can.none;
       early = (let e = can.early in let l = least.within in omega (arith, e, l, within));
-      late = λ n s s_at. (let e = can.late n s s_at in let l = least.each n s s_at in omega (arith, e, l, within));
+      since = λ place t t_at more. (let a = can.since place t t_at more in let b = since_mark flat r can mark least.each place t t_at more in omega (arith, a, b, within));
+      within = λ n s c s_at c_at. (let e = can.within n s c s_at c_at in let l = least.each n s s_at in omega (arith, e, l, within));
       printable = can.printable;
       some = record { model = can.some.model; of = can.some.of; start = can.some.start; is = marks_run can.some.model can.some.start can.some.of can.some.is };
     }

@@ -23,13 +23,15 @@ use Rattle.tdf_sim_runs.proofs.Told.{cells_stay_below, on_other}
 use Rattle.tdf_sim_runs.proofs.Waiting.{runs_to_next}
 use Rattle.tdf_sim_runs.proofs.Written.{none_taken, rows_then}
 use Rattle.tdf_sim_runs.specs.Ongoing.{AreToldTo}
-use Rattle.tdf_sim_runs.specs.Running.{CanGoOn, GoesOn, IsRunningAt}
+use Rattle.tdf_sim_runs.specs.Running.{CanGoOn, GoesOn, IsRunningAt, AreWithin}
 use Rattle.tdf_sim_runs.specs.declared.running.Running.{Running}
 use Rattle.tdf_trace_rows.specs.Laws.{Agree}
 use Rattle.tdf_sim_traces.proofs.Api.{rows_may_be_written}
 use Rattle.tdf_trace.specs.Writings.{AboutSeen, rows_text}
 use Rattle.tdf_lang_tree.specs.Pure.{PureTree}
 use Rattle.tdf_sim_history.specs.Rules.{rules_of, world_engine}
+use Rattle.tdf_sim_runs.proofs.Below.{settled_below}
+use Rattle.tdf_sim_runs.proofs.Staying.{ends_late, steady}
 
 -- no period of the history began before a mark below all starts
 pub periods_late : (model : PureTree) (flat : Flat) (w : World SideOf) (e : Engine) (left mark : ℕ) → IsEngineOf flat e → IsNow model flat w e left
@@ -49,6 +51,10 @@ since_mark flat r can mark late =
     rows_may_be_written some.model flat (world_told some.is.going.ahead some.start) some.is.going.world r.from mark r.shown some.is.shown
     (periods_late some.model flat some.is.going.world r.engine r.left mark can.engine some.is.going.now late)
 
+-- and no period ends before it
+pub within_mark : (flat : Flat) (r : Running) (mark : ℕ) → ((n s : ℕ) → slice_get r.engine.since.items n ≡ Some s → mark ≤ s) → AreWithin mark r.engine
+within_mark flat r mark late n s c s_at c_at = let l = late n s s_at in omega (arith, l)
+
 -- the history is on before the time of a run
 pub on_before : (model : PureTree) (flat : Flat) (start : World SideOf) (r : Running) → (run : IsRunningAt model flat start r)
     → history (world_engine model flat) 0 (world_told run.going.ahead start) r.from ≡ On run.going.world
@@ -64,9 +70,12 @@ told_before model flat start now later ahead low to = record {
 -- cells below a mark stay
 pub cells_stay : BoundariesHaveOne → (model : PureTree) (flat : Flat) (start last : World SideOf) (ahead : List (List Change)) (r : Running) (end mark : ℕ) → IsModelOf model flat → CanGoOn flat r → IsRunningAt model flat start r
     → AreToldTo model flat start r.from ahead → r.from ≤ end
-    → history (world_engine model flat) 0 (world_told ahead start) end ≡ On last → mark ≤ r.from → ((n s : ℕ) → slice_get r.engine.since.items n ≡ Some s → mark ≤ s)
+    → history (world_engine model flat) 0 (world_told ahead start) end ≡ On last → mark ≤ r.from → AreSince mark r.shown.tracking.list → AreWithin mark r.engine
     → Agree (run_cells model flat (rules_of model flat) (world_told ahead start) r.from) (run_cells model flat (rules_of model flat) (world_told ahead start) end) mark
-cells_stay law model flat start last ahead r end mark m can run to later on low late = cells_stay_below law model flat start last ahead r.from end mark r.left r.engine m can.engine run.going to later on low late
+cells_stay law model flat start last ahead r end mark m can run to later on low since within =
+    cells_stay_below law model flat start last ahead r.from end mark r.left r.engine m can.engine run.going to later on low
+    (settled_below model flat (world_told run.going.ahead start) run.going.world r.from mark r.shown m.limits run.shown (steady model flat run.going.world r.engine r.left run.going.now) since
+    (ends_late model flat run.going.world r.engine r.left run.going.now run.going.timed can.engine.since mark within))
 
 -- a run goes on without a row more
 pub goes_quietly : (flat : Flat) (old new : Running) (taken : Option (List ℕ)) → old.from ≤ new.from → new.shown.trace.about ≡ old.shown.trace.about
@@ -95,7 +104,7 @@ goes_then law flat x y z a b c can one other = record {
       let on = on_other law model flat start z.from z.left z.engine m last.going ahead to in
       rows_then x.shown.trace.about (run_cells model flat (rules_of model flat) own y.from) (run_cells model flat (rules_of model flat) own z.from)
       x.shown.trace.rows.upto y.shown.trace.rows.upto z.shown.trace.rows.upto a b c one.wrote other.wrote
-      (cells_stay law model flat start on.0 ahead y z.from y.shown.trace.rows.upto m can mid early other.later on.1 can.early can.late)
+      (cells_stay law model flat start on.0 ahead y z.from y.shown.trace.rows.upto m can mid early other.later on.1 can.early can.since can.within)
       (one.rows model start ahead m run early)
       (subst (λ (o : AboutSeen). Appends b c (rows_text o (run_cells model flat (rules_of model flat) own z.from) y.shown.trace.rows.upto z.shown.trace.rows.upto)) one.about
       (other.rows model start ahead m mid to)));
@@ -121,7 +130,8 @@ module _ (flat : Flat) (r : Running) (stop time : ℕ) (can : CanGoOn flat r) (w
     ready = ready_then r.from stop time r.engine can.ready waits_later next;
     none = can.none;
     early = (let e = can.early in let l = waits_later in omega (arith, e, l));
-    late = can.late;
+    since = can.since;
+    within = can.within;
     printable = can.printable;
     some = record {
       model = can.some.model;

@@ -27,7 +27,8 @@ module _ (flat : Flat) (r : Running) (trace : TraceSeen) (rows : trace.rows ≡ 
     ready = can.ready;
     none = can.none;
     early = (let e = can.early in let u : trace.rows.upto ≡ r.shown.trace.rows.upto = ap (λ (x : RowsSeen). x.upto) rows in omega (arith, e, u));
-    late = λ n s s_at. (let l = can.late n s s_at in let u : trace.rows.upto ≡ r.shown.trace.rows.upto = ap (λ (x : RowsSeen). x.upto) rows in omega (arith, l, u));
+    since = λ place t t_at more. (let l = can.since place t t_at more in let u : trace.rows.upto ≡ r.shown.trace.rows.upto = ap (λ (x : RowsSeen). x.upto) rows in omega (arith, l, u));
+    within = λ n s c s_at c_at. (let l = can.within n s c s_at c_at in let u : trace.rows.upto ≡ r.shown.trace.rows.upto = ap (λ (x : RowsSeen). x.upto) rows in omega (arith, l, u));
     printable = can.printable;
     some = record { model = can.some.model; of = can.some.of; start = can.some.start; is = opens_run can.some.model can.some.start can.some.is };
   }

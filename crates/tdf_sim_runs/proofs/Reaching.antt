@@ -22,7 +22,7 @@ use Rattle.tdf_io.specs.Bytes.{AppendsFront}
 use Rattle.tdf_sim_runs.proofs.Ended.{before_end}
 use Rattle.tdf_sim_runs.proofs.Waiting.{runs_to, runs_to_next}
 use Rattle.tdf_sim_runs.proofs.Leading.{ends_so, halts, more_halted, more_spent, news_halted, news_spent, spends, stop_reached}
-use Rattle.tdf_sim_runs.proofs.Onward.{cells_stay, on_before, since_mark, told_before, waiting, waits_later, waits_runs}
+use Rattle.tdf_sim_runs.proofs.Onward.{cells_stay, on_before, since_mark, told_before, waiting, waits_later, waits_runs, within_mark}
 use Rattle.tdf_sim_runs.proofs.Written.{none_taken, rows_less, rows_part, rows_then}
 use Rattle.tdf_sim_runs.specs.Ending.{EndsAs, EndsBy, GoesToEnd, WritesPart, end_from, state_from}
 use Rattle.tdf_sim_runs.specs.News.{news_text}
@@ -62,7 +62,7 @@ module _ (law : BoundariesHaveOne) where
       let end = end_from model flat start ahead stop in
       rows_less r.shown.trace.about (run_cells model flat (rules_of model flat) own r.from) (run_cells model flat (rules_of model flat) own end)
       r.shown.trace.rows.upto part.mark end before after (let e = part.early in omega (arith, e, later))
-      (cells_stay law model flat start last.0 ahead r end part.mark m can run early later last.1 part.early part.late)
+      (cells_stay law model flat start last.0 ahead r end part.mark m can run early later last.1 part.early (since_mark flat r can part.mark part.late) (within_mark flat r part.mark part.late))
       (part.front model start ahead m run early)
 
   -- also after the rows that were written before
@@ -76,7 +76,7 @@ module _ (law : BoundariesHaveOne) where
       let end = end_from model flat start ahead stop in
       rows_part x.shown.trace.about (run_cells model flat (rules_of model flat) own y.from) (run_cells model flat (rules_of model flat) own end)
       x.shown.trace.rows.upto y.shown.trace.rows.upto end a b c one.wrote (let e = can.early in omega (arith, e, later))
-      (cells_stay law model flat start last.0 ahead y end y.shown.trace.rows.upto m can mid early later last.1 can.early can.late)
+      (cells_stay law model flat start last.0 ahead y end y.shown.trace.rows.upto m can mid early later last.1 can.early can.since can.within)
       (one.rows model start ahead m run early)
       (subst (λ (o : AboutSeen). AppendsFront b c (rows_text o (run_cells model flat (rules_of model flat) own end) y.shown.trace.rows.upto end)) one.about
       (part model start ahead m mid to))
@@ -105,7 +105,7 @@ module _ (law : BoundariesHaveOne) where
         let early = told_before model flat start y.from stop ahead within told in
         rows_then x.shown.trace.about (run_cells model flat (rules_of model flat) own y.from) (run_cells model flat (rules_of model flat) own z.from)
         x.shown.trace.rows.upto y.shown.trace.rows.upto z.shown.trace.rows.upto a b c one.wrote to.wrote
-        (cells_stay law model flat start last.0 ahead y z.from y.shown.trace.rows.upto m can mid early (omega (arith, later, time)) (ap (history (world_engine model flat) 0 own) (sym time) ∙ last.1) can.early can.late)
+        (cells_stay law model flat start last.0 ahead y z.from y.shown.trace.rows.upto m can mid early (omega (arith, later, time)) (ap (history (world_engine model flat) 0 own) (sym time) ∙ last.1) can.early can.since can.within)
         (one.rows model start ahead m run early)
         (subst (λ (o : AboutSeen). Appends b c (rows_text o (run_cells model flat (rules_of model flat) own z.from) y.shown.trace.rows.upto z.shown.trace.rows.upto)) one.about
         (to.rows model start ahead m mid told)));
@@ -140,7 +140,7 @@ module _ (flat : Flat) (r : Running) (stop time : ℕ) (can : CanGoOn flat r) (w
     about = refl;
     wrote = omega arith;
     early = (let e = can.early in let l = waits_later flat r stop time can within next in omega (arith, e, l));
-    since = since_mark flat r can r.shown.trace.rows.upto can.late;
+    since = can.since;
     ends = λ model start m run. (
         let state = stop_reached model flat start r.from stop r.left r.engine can.engine can.ready run.going within
         (subst (λ t. IsNextDue r.engine.clusters.items r.engine.since.items (side_of r.engine.kernel) stop t) same next) in
@@ -174,7 +174,7 @@ module _ (flat : Flat) (r : Running) (stop time : ℕ) (can : CanGoOn flat r) (w
       about = refl;
       wrote = omega arith;
       early = (let k = can.early in let l = waits_later flat r stop time can within next in omega (arith, k, l));
-      since = since_mark flat r can r.shown.trace.rows.upto can.late;
+      since = can.since;
       ends = λ model start m run. (
           let x = so model start m run in
           record {

@@ -17,6 +17,10 @@ use Rattle.tdf_sim_refinement.proofs.Api.{done_known}
 use Rattle.tdf_lang_tree.specs.Pure.{PureTree}
 use Rattle.tdf_sim_history.specs.Continuing.{HasToldCounts}
 use Rattle.tdf_sim_history.specs.WorldLaws.{AreSteady, HasDone}
+use Rattle.std.proofs.lemmas.List.Sums.{sum_by_push}
+use Rattle.tdf_streams.specs.Periods.{PeriodRecord}
+use Rattle.tdf_sim_runs.specs.Running.{AreWithin}
+use Rattle.tdf_sim_history.specs.Instant.{periods_of}
 
 module _ (model : PureTree) (flat : Flat) (w : World SideOf) (e : Engine) (left : ℕ) (now : IsNow model flat w e left) where
   -- what there is in the history is steady
@@ -29,24 +33,30 @@ module _ (model : PureTree) (flat : Flat) (w : World SideOf) (e : Engine) (left 
         let at = now.at.each n h c.0 h_at c.1 in
         let known = done_known model flat (n + 1) h c.0 at in
         record {
-          whole = at.whole;
-          counts = known.counts;
-          ahead = subst (λ (a : List Change). All HasToldCounts a) (sym at.none_ahead) (All-nil HasToldCounts);
+          records = at.records;
+          plan = record {
+            counts = known.counts;
+            whole = at.counts;
+            ahead = subst (λ (a : List Change). All HasToldCounts a) (sym at.none_ahead) (All-nil HasToldCounts);
+          };
           place = known.within;
           known = known.values;
         });
   }
 
-  -- no cluster's period began before a mark below all starts
-  pub starts_late : AreTimed w → length e.since.items ≡ length e.clusters.items → (mark : ℕ) → ((n s : ℕ) → slice_get e.since.items n ≡ Some s → mark ≤ s)
-      → (n : ℕ) (h : ClusterAt) → slice_get w.clusters n ≡ Some h → mark ≤ time_of h.old
-  starts_late timed same mark low n h h_at =
+  -- no cluster's periods end before a mark that no period in progress ends before
+  pub ends_late : AreTimed w → length e.since.items ≡ length e.clusters.items → (mark : ℕ) → AreWithin mark e
+      → (n : ℕ) (h : ClusterAt) → slice_get w.clusters n ≡ Some h → mark ≤ h.origin + time_of (periods_of h)
+  ends_late timed same mark within n h h_at =
       let i = slice_get_within w.clusters n h h_at in
       let s = now.at.same in
       let t = get_inside e.since.items n (omega (arith, i, s, same)) in
-      let l = low n t.0 t.1 in
+      let c = get_inside e.clusters.items n (omega (arith, i, s)) in
+      let l = within n t.0 c.0 t.1 c.1 in
       let b = now.at.begun n t.0 h h_at t.1 in
-      let o = timed.each n h h_at in omega (arith, l, b, o)
+      let p = (now.at.each n h c.0 h_at c.1).time_is in
+      let m = sum_by_push (λ (q : PeriodRecord). q.info.period) h.old h.now in
+      let o = timed.each n h h_at in omega (arith, l, b, o, p, m)
 
 -- what is told of a cluster has its counts where all that is told has
 pub counts_of : (ahead : List (List Change)) (n : ℕ) → All (All HasToldCounts) ahead → All HasToldCounts (slice_index_or ahead n [])
@@ -62,4 +72,4 @@ steady_more model flat w told counts steady = record { each = λ n c at. go n c 
     go n c None there is = absurd cc
     go n c (Some b) there is = subst (HasDone model flat (n + 1)) (some_same (told_more (slice_index_or told n []) b) c is) (
         let d = steady.each n b there in
-        record { whole = d.whole; counts = d.counts; ahead = All-append HasToldCounts b.ahead (slice_index_or told n []) d.ahead (counts_of told n counts); place = d.place; known = d.known })
+        record { records = d.records; plan = record { counts = d.plan.counts; whole = d.plan.whole; ahead = All-append HasToldCounts b.ahead (slice_index_or told n []) d.plan.ahead (counts_of told n counts) }; place = d.place; known = d.known })

@@ -1,5 +1,5 @@
 -- An instant of a run, and what its trace shows of it.
-use Rattle.std.proofs.Common.{◌≡◌, ◌∙◌, ℕ, zero, suc, ◌+◌, ◌-◌, ◌<◌, ◌≤◌, List, [], ◌++◌, Option, Some, slice_get, refl, sym, ap, subst, arith}
+use Rattle.std.proofs.Common.{◌≡◌, ◌∙◌, ℕ, zero, suc, ◌+◌, ◌-◌, ◌<◌, ◌≤◌, List, [], ◌++◌, Option, refl, sym, ap, subst, arith}
 use Rattle.std.proofs.lemmas.List.Elements.{All-append, All-nil, All-weaker}
 use Rattle.std.proofs.lemmas.Option.{slice_get_within}
 use Rattle.std.specs.Prelude.{All}
@@ -23,12 +23,12 @@ use Rattle.tdf_sim_history.specs.WorldLaws.{AreSteady}
 use Rattle.tdf_sim_history.specs.History.{State, history}
 use Rattle.tdf_sim_runs.proofs.Keeping.{IsInPeriod}
 use Rattle.tdf_sim_runs.proofs.Leading.{from_before, goes_now, leads_on, news_now}
-use Rattle.tdf_sim_runs.proofs.Onward.{goes_quietly, since_mark}
+use Rattle.tdf_sim_runs.proofs.Onward.{goes_quietly}
 use Rattle.tdf_sim_runs.proofs.Staying.{steady, steady_more}
 use Rattle.tdf_sim_runs.specs.Advancing.{InstantAdvances}
 use Rattle.tdf_sim_runs.specs.News.{news_text}
 use Rattle.tdf_sim_runs.specs.Ongoing.{IsOngoing}
-use Rattle.tdf_sim_runs.specs.Running.{CanGoOn, GoesOn, IsDueNow, IsRunningAt}
+use Rattle.tdf_sim_runs.specs.Running.{CanGoOn, GoesOn, IsDueNow, IsRunningAt, AreWithin}
 use Rattle.tdf_sim_runs.specs.declared.running.Running.{Running}
 use Rattle.tdf_sim_refinement.specs.Pass.{Done, HasTurn, HavePassed, Idle, PassAt, RunOf}
 use Rattle.tdf_sim_traces.proofs.Api.{advanced_can_be_taken, told_is_shown}
@@ -41,6 +41,8 @@ use Rattle.tdf_sim_traces.specs.declared.shown.Shown.{Shown}
 use Rattle.tdf_lang_tree.specs.Pure.{PureTree}
 use Rattle.tdf_sim_history.specs.Rules.{world_engine}
 use Rattle.tdf_sim_history.proofs.Api.{told_twice}
+use Rattle.tdf_trace.specs.Tracked.{AreSince}
+use Rattle.tdf_streams.specs.Periods.{PeriodRecord}
 
 -- what a pass traces has few places
 module _ (flat : Flat) (pass : PassAt) where
@@ -97,9 +99,9 @@ module _ (along : InstantGoesAlong) (advances : InstantAdvances) (flat : Flat) (
     steady_now : AreSteady model flat (world_told goes.crossing.told run.going.world)
     steady_now = steady_more model flat run.going.world goes.crossing.told (goes.are_told 0).counts (steady model flat run.going.world r.engine r.left run.going.now)
 
-    -- no period began before the rows that are written end
-    late_at : (n s : ℕ) → slice_get e.since.items n ≡ Some s → r.shown.trace.rows.upto ≤ s
-    late_at n s s_at =
+    -- no period ends before the rows that are written
+    within_at : AreWithin r.shown.trace.rows.upto e
+    within_at n s d s_at d_at =
         let i = slice_get_within e.since.items n s s_at in
         let l = of.since in
         let c = goes.now.at.same in
@@ -110,13 +112,19 @@ module _ (along : InstantGoesAlong) (advances : InstantAdvances) (flat : Flat) (
         let q = can.engine.since in
         let k = slice_get_within run.going.world.clusters n b.0 b.2 in
         let t = get_inside r.engine.since.items n (omega (arith, k, p, q)) in
-        let d = run.going.now.at.begun n t.0 b.0 b.2 t.1 in
-        late_by b.0 b.1 g.0 s t.0 b.4 b.5 now_b d (can.late n t.0 t.1)
+        let x = get_inside r.engine.clusters.items n (omega (arith, k, p)) in
+        let o = run.going.now.at.begun n t.0 b.0 b.2 t.1 in
+        let new_time = (goes.now.at.each n g.0 d g.1 d_at).time_is in
+        let old_time = (run.going.now.at.each n b.0 x.0 b.2 x.1).time_is in
+        let w = can.within n t.0 x.0 t.1 x.1 in
+        let m = within_by b.0 b.1 g.0 b.4 b.5 (omega (arith, w, o, old_time)) in omega (arith, m, now_b, new_time)
       where
-        late_by : (h mid g : ClusterAt) (s t : ℕ) → Becomes flat.tables r.from h mid → IsInPeriod mid g → s ≡ g.since → t ≡ h.since → r.shown.trace.rows.upto ≤ t → r.shown.trace.rows.upto ≤ s
-        late_by h mid g s t (Becomes.Stayed going same) kept b d low = let k = kept.since in let m = ap (λ (z : ClusterAt). z.since) same in omega (arith, low, b, d, k, m)
-        late_by h mid g s t (Becomes.Began table over is) kept b d low = let k = kept.since in let m = ap (λ (z : ClusterAt). z.since) is in let y = can.early in omega (arith, y, b, k, m)
-        late_by h mid g s t (Becomes.Changed table counts period entries bounds over is) kept b d low = let k = kept.since in let m = ap (λ (z : ClusterAt). z.since) is in let y = can.early in omega (arith, y, b, k, m)
+        within_by : (h mid g : ClusterAt) → Becomes flat.tables r.from h mid → IsInPeriod mid g → r.shown.trace.rows.upto ≤ h.since + h.now.info.period → r.shown.trace.rows.upto ≤ g.since + g.now.info.period
+        within_by h mid g (Becomes.Stayed going same) kept low =
+            let k = kept.since ∙ ap (λ (z : ClusterAt). z.since) same in
+            let p = ap (λ (z : PeriodRecord). z.info.period) (kept.now ∙ ap (λ (z : ClusterAt). z.now) same) in omega (arith, low, k, p)
+        within_by h mid g (Becomes.Began table over is) kept low = let k = kept.since in let m = ap (λ (z : ClusterAt). z.since) is in let y = can.early in omega (arith, y, k, m)
+        within_by h mid g (Becomes.Changed table counts period entries bounds over is) kept low = let k = kept.since in let m = ap (λ (z : ClusterAt). z.since) is in let y = can.early in omega (arith, y, k, m)
 
   pub can_take : r.from < time_end → CanTake flat clock e.outputs.traced e.kernel.values r.shown
   can_take soon =
@@ -125,10 +133,10 @@ module _ (along : InstantGoesAlong) (advances : InstantAdvances) (flat : Flat) (
       advanced_can_be_taken some.model flat (own some.model some.start some.of some.is) (world_told g.crossing.told some.is.going.world) g.world clock e.outputs.traced e.kernel.values r.shown some.of.is some.of.limits
       (shown_told some.model some.start some.of some.is)
       (advanced some.model some.start some.of some.is) (steady_now some.model some.start some.of some.is) g.now.at of.since soon can.early
-      (since_mark flat r can r.shown.trace.rows.upto can.late) traced_few of.kernel.values
+      can.since traced_few of.kernel.values
 
   -- and when it is shown
-  module _ (s : Shown) (news : List ℕ) (shows : ShowsInstant flat clock e.outputs.traced e.kernel.values r.shown s) (upto : s.trace.rows.upto ≡ r.shown.trace.rows.upto) (about : s.trace.about ≡ r.shown.trace.about)
+  module _ (s : Shown) (news : List ℕ) (shows : ShowsInstant flat clock e.outputs.traced e.kernel.values r.shown s) (upto : s.trace.rows.upto ≡ r.shown.trace.rows.upto) (since : AreSince s.trace.rows.upto s.tracking.list) (about : s.trace.about ≡ r.shown.trace.about)
       (last : Running) (is : last ≡ record r { engine = record e { outputs = record e.outputs { traced = [] } }; shown = s; from = r.from + 1; left = rest; news = last.news })
       (news_is : last.news.items ≡ r.news.items ++ news_text flat r.from e.clusters.items e.planned.items) where
     abbrev stepped : Running
@@ -163,7 +171,8 @@ module _ (along : InstantGoesAlong) (advances : InstantAdvances) (flat : Flat) (
           ready = ready;
           none = refl;
           early = (let y = can.early in omega (arith, y, upto));
-          late = λ n t t_at. (let l = late_at some.model some.start some.of some.is n t t_at in omega (arith, l, upto));
+          since = since;
+          within = λ n t d t_at d_at. (let l = within_at some.model some.start some.of some.is n t d t_at d_at in omega (arith, l, upto));
           printable = can.printable;
           some = record { model = some.model; of = some.of; start = some.start; is = runs_so some.model some.start some.of some.is };
         })

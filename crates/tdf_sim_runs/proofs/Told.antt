@@ -1,12 +1,12 @@
 -- The history of a run, and that which is told other answers of its boundaries, are the same but for what is told.
-use Rattle.std.proofs.Common.{◌≡◌, ◌∙◌, ℕ, suc, ◌+◌, ◌-◌, ◌≤◌, Option, Some, None, option_map, List, [], ◌∷◌, length, map, slice_get, slice_index_or, refl, sym, ap, subst, arith}
+use Rattle.std.proofs.Common.{◌≡◌, ◌∙◌, ℕ, suc, ◌+◌, ◌-◌, ◌≤◌, Option, Some, None, option_map, List, [], ◌∷◌, length, map, slice_get, slice_index_or, refl, sym, ap, subst, arith, ◌<◌, slice_index}
 use Rattle.std.proofs.lemmas.List.Elements.{All-append}
 use Rattle.std.proofs.lemmas.Option.{slice_get-map, slice_get_within}
 use Rattle.std.specs.List.{All}
 use Rattle.tdf_sim_instants.proofs.Api.{told_get}
 use Rattle.tdf_sim_instants.specs.InstantLaws.{IsModelOf}
 use Rattle.tdf_sim_instants.specs.declared.engine.Engine.{Engine}
-use Rattle.tdf_sim_runs.proofs.Staying.{counts_of, starts_late, steady}
+use Rattle.tdf_sim_runs.proofs.Staying.{counts_of, steady}
 use Rattle.tdf_sim_runs.specs.Ongoing.{AreToldTo, CanBeTold, IsOngoing}
 use Rattle.tdf_sim_runs.specs.Staying.{CellsStayBelow}
 use Rattle.tdf_sim_history.proofs.Api.{cells_agree, go_on, starts, answers_agree, attributes_alike, cells_same, states_end, untold_told}
@@ -14,8 +14,8 @@ use Rattle.tdf_streams.proofs.Api.{get_inside, some_same}
 use Rattle.tdf_dynamic.specs.Laws.{BoundariesHaveOne}
 use Rattle.tdf_events.specs.Side.{SideOf}
 use Rattle.tdf_bind.specs.declared.model.Flat.{Flat}
-use Rattle.tdf_sim_history.specs.Cells.{run_cells}
-use Rattle.tdf_sim_history.specs.Instant.{RunFault}
+use Rattle.tdf_sim_history.specs.Cells.{run_cells, column_spans, samples_done}
+use Rattle.tdf_sim_history.specs.Instant.{RunFault, periods_of}
 use Rattle.tdf_sim_history.specs.Telling.{state_as, told_more, untold, world_told, world_untold}
 use Rattle.tdf_sim_history.specs.Texts.{end_of}
 use Rattle.tdf_sim_history.specs.World.{Change, ClusterAt, Rules, World}
@@ -24,9 +24,12 @@ use Rattle.tdf_trace_rows.specs.Laws.{Agree}
 use Rattle.tdf_streams.specs.Signals.{time_of}
 use Rattle.tdf_lang_tree.specs.Pure.{PureTree}
 use Rattle.tdf_sim_history.specs.Continuing.{HasToldCounts, HasWholePlan}
-use Rattle.tdf_sim_history.specs.WorldLaws.{AreSteady, HasDone}
+use Rattle.tdf_sim_history.specs.WorldLaws.{AreSteady, HasDone, IsSettled}
 use Rattle.tdf_sim_history.specs.Rules.{rules_of, world_engine}
 use Rattle.tdf_sim_history.specs.TableLaws.{HaveAttributes}
+use Rattle.tdf_sim_history.specs.Columns.{ColumnStart}
+use Rattle.tdf_dynamic_plans.specs.Attributes.{clusters_of}
+use Rattle.tdf_trace_rows.specs.Positions.{position_at}
 
 -- a state that is another but for what is told, where that one is on
 world_at : {K : Type 0} → State (World K) RunFault → World K → World K
@@ -115,21 +118,25 @@ module _ (law : BoundariesHaveOne) (model : PureTree) (flat : Flat) (start : Wor
     each = λ n c at. (
         let h = twin n c at in
         let d = (steady model flat going.world e left going.now).each n h.0 h.1 in
-        subst (HasDone model flat (n + 1)) (sym h.2) (record { whole = d.whole; counts = d.counts; ahead = counted n c at; place = d.place; known = d.known }));
+        subst (HasDone model flat (n + 1)) (sym h.2) (record { records = d.records; plan = record { counts = d.plan.counts; whole = d.plan.whole; ahead = counted n c at }; place = d.place; known = d.known }));
   }
 
-  pub twin_old : (n : ℕ) (c : ClusterAt) → slice_get v.clusters n ≡ Some c → (h : ClusterAt) × (slice_get going.world.clusters n ≡ Some h) × (c.old ≡ h.old)
-  twin_old n c at = let h = twin n c at in (h.0, h.1, ap (λ (z : ClusterAt). z.old) h.2)
+  -- what has its samples there has them here
+  pub settled_told : (shown : List ColumnStart) (mark : ℕ) → IsSettled flat shown going.world mark → IsSettled flat shown v mark
+  settled_told shown mark settled = record {
+    within = λ n c at. (let h = twin n c at in subst (λ (z : ClusterAt). mark ≤ z.origin + time_of (periods_of z)) (sym h.2) (settled.within n h.0 h.1));
+    there = λ s number port c time j shows at low position. (
+        let h = twin (slice_index (clusters_of flat.tables) port.«module» - 1) c at in
+        subst (λ (z : ClusterAt). position_at 0 (column_spans port s z.origin (periods_of z)) time ≡ Some j → j < samples_done s port z) (sym h.2)
+        (settled.there s number port h.0 time j shows h.1 low) position);
+  }
 
 pub cells_stay_below : BoundariesHaveOne → CellsStayBelow
-cells_stay_below law model flat start last ahead from end mark left e m of going to low at_end below late =
+cells_stay_below law model flat start last ahead from end mark left e m of going to low at_end below settled =
     let other = on_other law model flat start from left e m going ahead to in
     cells_agree model flat (rules_of model flat) (world_told ahead start) other.0 last from end mark m.limits
     other.1 low at_end (steady_told law model flat start from left e m going ahead to)
-    (λ n c at. (
-    let h = twin_old law model flat start from left e m going ahead to n c at in
-    let l = starts_late model flat going.world e left going.now going.timed of.since mark late n h.0 h.1 in
-    subst (λ o. mark ≤ time_of o) (sym h.2) l))
+    (settled_told law model flat start from left e m going ahead to start.shown mark settled)
 
 -- two ways to be told answers up to a stop end at one time
 pub ends_alike : BoundariesHaveOne → (model : PureTree) (flat : Flat) (start : World SideOf) (one other : List (List Change)) (stop : ℕ) → IsModelOf model flat → CanBeTold flat start

@@ -25,7 +25,7 @@ use Rattle.tdf_sim_history.specs.TableLaws.{HaveAttributes}
 -- the period of each cluster began when those before it were over
 pub record AreTimed (w : World SideOf) : Type 0 where
   pub each : (n : ℕ) (h : ClusterAt) → slice_get w.clusters n ≡ Some h
-      → h.since ≡ time_of h.old
+      → h.since ≡ h.origin + time_of h.old
 
 -- what is told of the boundaries from a start on is their answers up to a time, and new plans come
 -- with their counts

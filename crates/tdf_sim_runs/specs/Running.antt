@@ -1,7 +1,7 @@
 -- A run with what it shows.
 -- Source: own.
 use Rattle.std.specs.Io.KnownBytes.{Appends}
-use Rattle.std.specs.Prelude.{◌≡◌, ◌<◌, ◌≤◌, ℕ, List, [], Option, Some, slice_get}
+use Rattle.std.specs.Prelude.{◌≡◌, ◌<◌, ◌≤◌, ℕ, List, [], Option, Some, slice_get, ◌+◌}
 use Rattle.tdf_sim_instants.specs.Engine.{IsEngineOf, IsReadyAt}
 use Rattle.tdf_sim_instants.specs.InstantLaws.{IsModelOf}
 use Rattle.tdf_sim_instants.specs.Times.{IsNextDue}
@@ -22,6 +22,8 @@ use Rattle.tdf_sim_traces.specs.declared.shown.Shown.{Shown}
 use Rattle.tdf_trace.specs.Writings.{AboutSeen, rows_text}
 use Rattle.tdf_lang_tree.specs.Pure.{PureTree}
 use Rattle.tdf_sim_history.specs.Rules.{rules_of}
+use Rattle.tdf_trace.specs.Tracked.{AreSince}
+use Rattle.tdf_exec.specs.Cluster.{ClusterOf}
 
 -- a run goes on before a time, its trace shows what it has done, and the news are the plans that
 -- came
@@ -44,15 +46,21 @@ pub record IsSomeRun (flat : Flat) (r : Running) : Type 0 where
   pub start : World SideOf
   pub is : IsRunningAt model flat start r
 
--- a run can go on: nothing is due before its time, no period began before the rows that are
--- written end, and what the last instant traced has been taken
+-- no period in progress ends before a mark
+abbrev pub AreWithin : (mark : ℕ) → Engine → Type 0
+AreWithin mark e = (n s : ℕ) (c : ClusterOf) → slice_get e.since.items n ≡ Some s
+    → slice_get e.clusters.items n ≡ Some c → mark ≤ s + c.period
+
+-- a run can go on: nothing is due before its time, no position without a sample and no end of a
+-- period lies before the end of the rows that are written, and what the last instant traced has
+-- been taken
 pub record CanGoOn (flat : Flat) (r : Running) : Type 0 where
   pub engine : IsEngineOf flat r.engine
   pub ready : IsReadyAt r.from r.engine
   pub none : r.engine.outputs.traced ≡ []
   pub early : r.shown.trace.rows.upto ≤ r.from
-  pub late : (n s : ℕ) → slice_get r.engine.since.items n ≡ Some s
-      → r.shown.trace.rows.upto ≤ s
+  pub since : AreSince r.shown.trace.rows.upto r.shown.tracking.list
+  pub within : AreWithin r.shown.trace.rows.upto r.engine
   pub printable : AreInRange flat.tables
   pub some : IsSomeRun flat r
 

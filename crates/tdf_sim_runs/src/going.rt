@@ -38,6 +38,7 @@ ghost use Rattle.tdf_sim_runs.specs.Running.{CanGoOn, GoesOn, IsDueNow, WritesFr
 ghost use Rattle.tdf_sim_traces.specs.Calls.{CanTake, ShowsInstant};
 ghost use Rattle.tdf_sim_traces.specs.Periods.{clock_at};
 ghost use Rattle.tdf_trace.specs.Stands.{IsStageAfter};
+ghost use Rattle.tdf_trace.specs.Tracked.{AreSince};
 ghost use Rattle.tdf_trace.specs.declared.stage.Stage.TheVariants.{Open};
 
 use crate::laws::law_advancing;
@@ -60,6 +61,7 @@ fn show(shown: &mut Shown, engine: &Engine, flat: &Flat, time: u64) -> Result<()
     ensures shown { OnOk result (ShowsInstant flat.now
         (clock_at time engine.now.since.items engine.now.clusters.items)
         engine.now.outputs.traced engine.now.kernel.values shown.old shown.new) }
+    ensures since { OnOk result (AreSince shown.old.trace.rows.upto shown.new.tracking.list) }
     ensures upto { shown.new.trace.rows.upto ≡ shown.old.trace.rows.upto }
     ensures stage { shown.new.trace.stage ≡ shown.old.trace.stage }
     ensures about { shown.new.trace.about ≡ shown.old.trace.about }

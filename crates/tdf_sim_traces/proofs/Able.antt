@@ -3,7 +3,7 @@ use Rattle.std.proofs.Common.{◌≡◌, ◌∙◌, ℕ, ◌-◌, ◌<◌, ◌�
 use Rattle.std.proofs.lemmas.List.{length-map}
 use Rattle.std.proofs.lemmas.List.Elements.{All-head, All-map, All-nil, All-tail, All-weaker}
 use Rattle.std.proofs.lemmas.Option.{get_or_from_slice_get, slice_get-map, slice_get_within}
-use Rattle.std.specs.List.{range_with_len, sum_by}
+use Rattle.std.specs.List.{range_with_len}
 use Rattle.std.specs.Prelude.{All}
 use Rattle.tdf_bind_tables.specs.FlatTables.{FlatTablesOf}
 use Rattle.tdf_trace.proofs.Api.{left_is}
@@ -17,10 +17,10 @@ use Rattle.tdf_bind.specs.Flat.{IsFlatOf}
 use Rattle.tdf_bind.specs.declared.model.Flat.{Flat}
 use Rattle.tdf_streams.proofs.Api.{get_inside}
 use Rattle.tdf_bind_invariants.specs.Formats.{IsOwnPort, IsSoundModel, PortsHaveFormats}
-use Rattle.tdf_sim_history.specs.Cells.{samples_done}
+use Rattle.tdf_sim_history.specs.Cells.{column_spans, samples_done}
 use Rattle.tdf_sim_history.specs.Instant.{periods_of}
 use Rattle.tdf_trace_rows.specs.Positions.{total}
-use Rattle.tdf_sim_traces.proofs.Spans.{can_begin, none_left, spans_total}
+use Rattle.tdf_sim_traces.proofs.Spans.{can_begin, none_left}
 use Rattle.tdf_sim_traces.proofs.Taking.{early, since_begins}
 use Rattle.tdf_sim_traces.proofs.Telling.{few_traces, told}
 use Rattle.tdf_sim_traces.specs.Advanced.{Began, Stayed}
@@ -31,7 +31,6 @@ use Rattle.tdf_sim_traces.specs.Shown.{IsShownOf}
 use Rattle.tdf_sim_traces.specs.Signals.{IsListed}
 use Rattle.tdf_sim_traces.specs.declared.signals.TracedSignal.{TracedSignal}
 use Rattle.tdf_streams.specs.Cluster.{fraction_of_kind, fraction_of_row, given_at, initial_sample, initial_samples, zero_of}
-use Rattle.tdf_streams.specs.Signals.{positions}
 use Rattle.tdf_lang_tree.specs.Pure.{PureTree}
 use Rattle.tdf_lang_tree.specs.declared.blocks.PortKind.{PortKind}
 use Rattle.tdf_lang_tree.specs.declared.blocks.PortKind.TheVariants.{In, Out, DeIn, DeOut}
@@ -144,7 +143,7 @@ advanced_can_be_taken model flat start w v clock traced values s is limits shown
   few_values = few_values (signal_formats flat) values of;
 }
   where
-    shown_at : (k : ℕ) (t : TracedSignal) → slice_get s.signals.items k ≡ Some t → (l : IsListed flat t) × IsShownOf model flat w.clusters t.cluster t.port l.port shown.spans shown.samples s.tracking.list
+    shown_at : (k : ℕ) (t : TracedSignal) → slice_get s.signals.items k ≡ Some t → (l : IsListed flat t) × IsShownOf model flat start.shown w.clusters t.cluster t.port l.port shown.spans shown.samples s.tracking.list
     shown_at k t kt = let l = shown.signals.are k t kt in (l, shown.each t.cluster t.port l.port l.drives)
 
     inside : (k : ℕ) (t : TracedSignal) → slice_get s.signals.items k ≡ Some t → t.cluster < length clock.clusters
@@ -156,12 +155,12 @@ advanced_can_be_taken model flat start w v clock traced values s is limits shown
         let g = get_inside v.clusters t.cluster (let i = inside k t kt in let e = at.same in omega (arith, i, e)) in
         let now : g.0.since ≡ clock.time = since_begins model flat clock start w v limits s shown traced adv at later (λ k t kt. (let c = inside k t kt in omega (arith, c, long))) inside k t g.0 kt g.1 begun in
         elim (adv.clusters t.cluster x.1.cluster g.0 x.1.there g.1) [
-          | Stayed over since_is old new ↦ absurd (let e = early model flat clock start w v limits s shown traced adv at t.cluster x.1.cluster g.0 x.1.there since_is in omega (arith, e, now, later))
-          | Began over since_is old ↦ (
+          | Stayed over origin since_is old new ↦ absurd (let e = early model flat clock start w v limits s shown traced adv at t.cluster x.1.cluster g.0 x.1.there since_is in omega (arith, e, now, later))
+          | Began over origin since_is old ↦ (
               let l : u.stamps.left ≡ total (shown.spans u.signal) - length (shown.samples u.signal) = left_is (shown.spans u.signal) (shown.samples u.signal) u (shown.holds.tracked place u there) in
               let e : u.signal ≡ x.0.port.signal = same ∙ x.0.signal_is in
-              let p : total (shown.spans u.signal) ≡ sum_by (positions x.0.port) (periods_of x.1.cluster) = ap (λ k. total (shown.spans k)) e ∙ ap total x.1.spans_are ∙ spans_total x.0.port 0 (periods_of x.1.cluster) in
-              let m : length (shown.samples u.signal) ≡ samples_done x.0.port x.1.cluster = ap (λ k. length (shown.samples k)) e ∙ x.1.samples_are.many in
-              let q = none_left x.0.port model flat t.cluster t.port x.0.drives x.1.cluster clock.time (steady.each t.cluster x.1.cluster x.1.there) over in
+              let p : total (shown.spans u.signal) ≡ total (column_spans x.0.port x.1.start x.1.cluster.origin (periods_of x.1.cluster)) = ap (λ k. total (shown.spans k)) e ∙ ap total x.1.spans_are in
+              let m : length (shown.samples u.signal) ≡ samples_done x.1.start x.0.port x.1.cluster = ap (λ k. length (shown.samples k)) e ∙ x.1.samples_are.many in
+              let q = none_left x.0.port model flat t.cluster t.port x.0.drives x.1.cluster x.1.start clock.time (steady.each t.cluster x.1.cluster x.1.there) x.1.first over in
               omega (arith, l, p, m, q))
         ]

@@ -5,7 +5,7 @@ use Rattle.std.specs.List.{enumerate_from}
 use Rattle.std.specs.Prelude.{slice_index_or}
 use Rattle.tdf_fixed.specs.declared.raw.Raw.{Raw}
 use Rattle.tdf_bind.specs.declared.model.Flat.{Flat}
-use Rattle.tdf_sim_history.specs.Cells.{changed_cell, event_cell, first_shown, world_of}
+use Rattle.tdf_sim_history.specs.Cells.{changed_cell, event_cell, world_of}
 use Rattle.tdf_sim_history.specs.Instant.{RunFault, engine}
 use Rattle.tdf_sim_history.specs.World.{Change, ClusterAt, World}
 use Rattle.tdf_sim_history.specs.History.{On, Spent, State, Stopped, history}
@@ -73,17 +73,11 @@ module _ (model : PureTree) (flat : Flat) (start : World SideOf) (from : ℕ) (m
   cell_same time None = refl
   cell_same time (Some row) = both_ways row.event (nat_lt time from) _ _ (λ is. (let low = ltb-true time from is in event_same row.signal time (omega (arith, low))))
 
-  first_same : (o : Option TraceRow) → first_shown model flat (rules_of model flat) start o ≡ first_shown model flat (rules_of model flat) (world_told more start) o
-  first_same None = refl
-  first_same (Some row) =
-      let begin : values_before model flat start 0 ≡ values_before model flat (world_told more start) 0 = sym (values_same 0 (omega arith)) in
-      λ i. if row.event then Some (value_of (begin i) row.signal) else None
-
   -- so are the cells of event signals
   cells_same : (below : ℕ) → Agree (events_before model flat start from) (events_before model flat (world_told more start) from) below
   cells_same below = record {
     columns = refl;
-    first = λ c inside. first_same (slice_get flat.tables.traces c);
+    first = λ c inside. refl;
     cells = λ c t inside low. cell_same t (slice_get flat.tables.traces c);
   }
 
@@ -97,9 +91,14 @@ told_is_shown model flat start w from more s told shown = record {
   each = λ n number port drives. (let x = shown.each n number port drives in record {
     cluster = told_at more n x.cluster;
     there = told_get more w n ∙ ap (option_map (told_at more n)) x.there;
+    start = x.start;
+    starts = x.starts;
+    first = x.first;
+    chain = x.chain;
     spans_are = x.spans_are;
     samples_are = record { many = x.samples_are.many; are = x.samples_are.are };
     since = x.since;
+    next = x.next;
   });
   none = shown.none;
   events = subst (λ (l : List Raw). AreEventColumns flat.tables.traces l s.events.items) (sym (values_same model flat start from more told from (omega arith))) shown.events;

@@ -7,7 +7,8 @@ use Rattle.tdf_trace.specs.Calls.{HasNoneLeft, HasStarted, TakesPeriod, with_spa
 use Rattle.tdf_trace.specs.Tracked.{AreSince, TrackedOf, TrackingOf}
 use Rattle.tdf_exec.specs.Cluster.{ClusterOf}
 use Rattle.tdf_streams.proofs.Api.{none_some, some_same}
-use Rattle.tdf_trace_rows.specs.Positions.{AreChained, Span}
+use Rattle.tdf_trace.specs.Tracks.{IsChain}
+use Rattle.tdf_trace_rows.specs.Positions.{Span}
 use Rattle.tdf_sim_traces.proofs.Items.{true_false}
 use Rattle.tdf_sim_traces.specs.Periods.{ClockAt, begins, span_in}
 use Rattle.tdf_sim_traces.specs.declared.signals.TracedSignal.{TracedSignal}
@@ -113,6 +114,7 @@ module _ (tables : FlatTablesOf) (clock : ClockAt) (signals : List TracedSignal)
   none_started list = record {
     labels = refl;
     here = λ place u at among. absurd (none_among clock signals u.signal among);
+    from = λ place u at among. absurd (none_among clock signals u.signal among);
     others = λ place u not at. at;
   }
 
@@ -142,7 +144,7 @@ module _ (tables : FlatTablesOf) (clock : ClockAt) (signals : List TracedSignal)
                 span_there b.now t.signal (span_in tables clock.time c t) s (λ same. not (subst (BeginsAmong clock signals (k + 1)) (sym same) (among_last clock signals k t at is)))
                 ∙ b.have.other s (λ among. not (among_more clock signals k s among));
           };
-          holds = period traces cells b.now samples (subst (λ l. AreChained 0 (l ++ span_in tables clock.time c t ∷ [])) (sym e) (next k t c at is here)) b.holds;
+          holds = period traces cells b.now samples (subst (λ l. IsChain (l ++ span_in tables clock.time c t ∷ [])) (sym e) (next k t c at is here)) b.holds;
         }
       where
         lower : (j : ℕ) (u : TracedSignal) → j < k + 1 → slice_get signals j ≡ Some u → (u.signal ≡ t.signal → ⊥) → j < k
@@ -158,6 +160,13 @@ module _ (tables : FlatTablesOf) (clock : ClockAt) (signals : List TracedSignal)
         | inl same ↦ started.here place u there same
         | inr apart ↦ (let back = started_back t.signal clock.time mid last place u started apart there in elim (among_less clock signals k u.signal t at among) [
           | inl old ↦ have.here place u back old
+          | inr new ↦ absurd (apart (sym new.1))
+        ])
+      ];
+      from = λ place u there among. elim (cases_eq u.signal t.signal) [
+        | inl same ↦ started.from place u there same
+        | inr apart ↦ (let back = started_back t.signal clock.time mid last place u started apart there in elim (among_less clock signals k u.signal t at among) [
+          | inl old ↦ have.from place u back old
           | inr new ↦ absurd (apart (sym new.1))
         ])
       ];
@@ -196,6 +205,7 @@ module _ (tables : FlatTablesOf) (clock : ClockAt) (signals : List TracedSignal)
     started_passed first mid is have = record {
       labels = have.labels;
       here = λ place u there among. have.here place u there (among_passed u.signal is among);
+      from = λ place u there among. have.from place u there (among_passed u.signal is among);
       others = λ place u not there. have.others place u (λ among. not (among_more clock signals k u.signal among)) there;
     }
 
@@ -228,6 +238,6 @@ module _ (tables : FlatTablesOf) (clock : ClockAt) (signals : List TracedSignal)
 -- no period that begins is before rows that are written
 pub begun_since : (clock : ClockAt) (signals : List TracedSignal) (k upto : ℕ) (old new : List TrackedOf) → upto ≤ clock.time → HaveStarted clock signals k old new → AreSince upto old → AreSince upto new
 begun_since clock signals k upto old new low have since place u at more = elim (is_among clock signals k u.signal) [
-  | inl among ↦ (let e : u.since ≡ clock.time = have.here place u at among in omega (arith, e, low))
+  | inl among ↦ (let e : clock.time ≤ u.stamps.time = have.from place u at among in omega (arith, e, low))
   | inr not ↦ since place u (have.others place u not at) more
 ]

@@ -26,6 +26,7 @@ use Rattle.tdf_sim_refinement.proofs.Api.{cell_of_samples}
 use Rattle.tdf_lang_tree.specs.Pure.{PureTree}
 use Rattle.tdf_bind_connections.specs.declared.traces.TraceRow.{TraceRow}
 use Rattle.tdf_sim_history.specs.Rules.{rules_of}
+use Rattle.tdf_sim_history.specs.Columns.{start_of}
 
 module _ (model : PureTree) (flat : Flat) (start : World SideOf) (end : ℕ) (s : Shown) (tells : AreTold flat.tables) (shown : IsShown model flat start end (world_before model flat (rules_of model flat) start end) s) where
   abbrev w : World SideOf
@@ -50,7 +51,7 @@ module _ (model : PureTree) (flat : Flat) (start : World SideOf) (end : ℕ) (s 
 
   -- the cell of a signal of samples
   sample_cell : (column time : ℕ) (row : TraceRow) → slice_get flat.tables.traces column ≡ Some row → row.event ≡ false → (o : Option ℕ) → driver_of_row (slice_get flat.tables.signals row.signal) ≡ o
-      → cell_of (shown.spans row.signal) (shown.samples row.signal) time ≡ cell_by_driver model flat time w.clusters o
+      → cell_of (shown.spans row.signal) (shown.samples row.signal) time ≡ cell_by_driver model flat (start_of start.shown column) time w.clusters o
   unfolding position_at
   sample_cell column time row at plain None none =
       ap (λ (l : List Span). cell_of l (shown.samples row.signal) time) (shown.none row.signal (λ place t there same. (
@@ -60,22 +61,23 @@ module _ (model : PureTree) (flat : Flat) (start : World SideOf) (end : ℕ) (s 
       let is : IsDriverOf flat.tables row.signal number = tells.drivers row.signal number driven in
       let n = slice_index (clusters_of flat.tables) is.port.«module» - 1 in
       let drives : DrivesTraced flat n number is.port = driving column number row at plain driven is in
-      let x : IsShownOf model flat w.clusters n number is.port shown.spans shown.samples s.tracking.list = shown.each n number is.port drives in
+      let x : IsShownOf model flat start.shown w.clusters n number is.port shown.spans shown.samples s.tracking.list = shown.each n number is.port drives in
       let next : n + 1 ≡ slice_index (clusters_of flat.tables) is.port.«module» = (let c = is.cluster in omega (arith, c)) in
       ap (λ k. cell_of (shown.spans k) (shown.samples k) time) (sym is.writes)
       ∙ ap (λ (l : List Span). cell_of l (shown.samples is.port.signal) time) x.spans_are
-      ∙ sym (cell_of_samples model flat (n + 1) number time is.port x.cluster (shown.samples is.port.signal) x.samples_are)
-      ∙ ap (λ k. port_cell model flat k is.port number time (Some x.cluster)) next
-      ∙ ap (port_cell model flat (slice_index (clusters_of flat.tables) is.port.«module») is.port number time) (sym x.there)
-      ∙ sym (ap (driven_cell model flat time w.clusters number) is.there)
+      ∙ sym (cell_of_samples model flat (n + 1) number time is.port x.start x.cluster (shown.samples is.port.signal) x.samples_are)
+      ∙ ap (λ k. port_cell model flat k x.start is.port number time (Some x.cluster)) next
+      ∙ ap (port_cell model flat (slice_index (clusters_of flat.tables) is.port.«module») x.start is.port number time) (sym x.there)
+      ∙ ap (λ b. port_cell model flat (slice_index (clusters_of flat.tables) is.port.«module») b is.port number time (slice_get w.clusters n)) (sym (x.starts column row at plain (sym is.writes)))
+      ∙ sym (ap (driven_cell model flat (start_of start.shown column) time w.clusters number) is.there)
 
   cell_is : (column time : ℕ) → time < end → (o : Option TraceRow) → slice_get flat.tables.traces column ≡ o
-      → sample_or o (λ k. cells_by shown.spans shown.samples k time) (event_before model flat start end time o) ≡ trace_cell model flat (rules_of model flat) start end time o
+      → sample_or o (λ k. cells_by shown.spans shown.samples k time) (event_before model flat start end time o) ≡ trace_cell model flat (rules_of model flat) start end time (start_of start.shown column) o
   cell_is column time low None at = refl
   cell_is column time low (Some row) at = go row.event refl
     where
       go : (b : Bool) → row.event ≡ b → (if row.event then (if row.event && nat_lt time end then event_cell model flat (rules_of model flat) start row.signal time else None) else cells_by shown.spans shown.samples row.signal time)
-          ≡ (if row.event then event_cell model flat (rules_of model flat) start row.signal time else signal_cell model flat time w.clusters row.signal)
+          ≡ (if row.event then event_cell model flat (rules_of model flat) start row.signal time else signal_cell model flat (start_of start.shown column) time w.clusters row.signal)
       go true is = rw (is, lt-ltb time end low) refl
       go false is = rw is (sample_cell column time row at is (driver_of_row (slice_get flat.tables.signals row.signal)) refl)
 

@@ -49,7 +49,7 @@ rows_may_be_written model flat start w from mark s shown late place u there more
   | inl f ↦ (
       let l = shown.signals.are f.0 f.1 f.2 in
       let x = shown.each f.1.cluster f.1.port l.port l.drives in
-      let e : u.since ≡ x.cluster.since = x.since place u there (sym f.3 ∙ l.signal_is) in
+      let e = x.next place u there (sym f.3 ∙ l.signal_is) more in
       let m = late f.1.cluster x.cluster x.there in omega (arith, e, m))
   | inr unlisted ↦ absurd (
       let l = left_is (shown.spans u.signal) (shown.samples u.signal) u (shown.holds.tracked place u there) in

@@ -1,8 +1,9 @@
 -- The periods of a signal by those of its cluster.
-use Rattle.std.proofs.Common.{◌≡◌, ◌∙◌, ℕ, zero, suc, ◌+◌, ◌*◌, ◌/◌, ◌<◌, ◌≤◌, Bool, true, false, ◌&&◌, nat_eq, Some, List, [], ◌∷◌, ◌++◌, length, slice_get, slice_index, refl, ap, sym, subst, arith}
+use Rattle.std.proofs.Common.{◌≡◌, ◌∙◌, ℕ, zero, suc, ◌+◌, ◌-◌, ◌*◌, ◌/◌, ◌<◌, ◌≤◌, Bool, true, false, ◌&&◌, nat_eq, Some, List, [], ◌∷◌, ◌++◌, length, slice_get, slice_index, refl, ap, sym, subst, arith, append-nil}
 use Rattle.std.proofs.lemmas.Bool.{eqb-true}
+use Rattle.std.proofs.lemmas.List.{append_assoc}
 use Rattle.std.proofs.lemmas.List.Sums.{sum_by-cons, sum_by_push}
-use Rattle.std.proofs.Math.Nat.{mul-le-mul_left}
+use Rattle.std.proofs.Math.Nat.{add-mul, mul-le-mul_left}
 use Rattle.std.proofs.lemmas.Option.{get_or_from_slice_get, slice_get_within}
 use Rattle.std.specs.List.{sum_by}
 use Rattle.std.specs.Prelude.{All}
@@ -11,11 +12,15 @@ use Rattle.tdf_exec.specs.Cluster.{ClusterOf}
 use Rattle.tdf_exec.specs.Played.{turns_from}
 use Rattle.tdf_bind.specs.declared.model.Flat.{Flat}
 use Rattle.tdf_streams.proofs.Api.{get_low, steps_whole}
-use Rattle.tdf_sim_history.specs.Cells.{samples_done, spans_from}
+use Rattle.tdf_sim_history.specs.Cells.{column_spans, samples_done, spans_from}
+use Rattle.tdf_sim_history.specs.Columns.{ColumnStart, held_by, span_after, spans_to}
+use Rattle.tdf_sim_history.proofs.Api.{column_total, held_long, last_record, record_at, whole_sum}
+use Rattle.tdf_sim_refinement.proofs.Api.{done_none}
+use Rattle.tdf_trace.specs.Tracks.{IsChain}
 use Rattle.tdf_sim_history.specs.Instant.{is_over, periods_of}
 use Rattle.tdf_sim_history.specs.World.{ClusterAt}
 use Rattle.tdf_bind_invariants.specs.Limits.{AreWithinLimits}
-use Rattle.tdf_trace_rows.specs.Positions.{AreChained, span_of, total}
+use Rattle.tdf_trace_rows.specs.Positions.{AreChained, Span, end_of, span_of, total}
 use Rattle.tdf_sim_refinement.specs.At.{IsAt}
 use Rattle.tdf_schedule.specs.Plan.{done}
 use Rattle.tdf_sim_traces.proofs.Items.{get_last}
@@ -23,11 +28,13 @@ use Rattle.tdf_sim_traces.specs.Periods.{CanBegin, positions_in, row_rate, span_
 use Rattle.tdf_sim_traces.specs.Signals.{DrivesTraced}
 use Rattle.tdf_sim_traces.specs.declared.signals.TracedSignal.{TracedSignal}
 use Rattle.tdf_streams.specs.Laws.{IsClusterPort}
-use Rattle.tdf_streams.specs.Periods.{IsTimedRecord, IsWholeRecord, PeriodRecord}
+use Rattle.tdf_streams.specs.Periods.{IsPeriodRecord, IsWholeRecord, PeriodRecord}
+use Rattle.tdf_streams.specs.Cluster.{Start}
 use Rattle.tdf_streams.specs.Signals.{outputs_in, positions, rate_in, step_in, time_of}
 use Rattle.tdf_lang_tree.specs.Pure.{PureTree}
 use Rattle.tdf_bind_connections.specs.declared.modules.PortRow.{PortRow}
-use Rattle.tdf_sim_history.specs.WorldLaws.{HasDone}
+use Rattle.tdf_sim_history.specs.WorldLaws.{AreRecordsOf, HasDone, HoldsFirst}
+use Rattle.std.proofs.lemmas.List.Elements.{All-cons, All-nil}
 
 all_at : {A : Type 0} (P : A → Type 0) (xs : List A) (i : ℕ) (x : A) → All P xs → slice_get xs i ≡ Some x → P x
 all_at P xs i x all at = subst P (get_or_from_slice_get xs i x x at) (all i x (slice_get_within xs i x at))
@@ -39,58 +46,88 @@ times_push ps p = sum_by_push (λ (r : PeriodRecord). r.info.period) ps p
 least : (a b : ℕ) → 0 < b → a ≤ a * b
 least a b some = let m : a * 1 ≤ a * b = mul-le-mul_left a (omega (arith, some)) in let one : a * 1 ≡ a = omega arith in omega (arith, m, one)
 
+-- the records before the last are records
+pub records_front : (flat : Flat) (number : ℕ) (begun : Start) (ps : List PeriodRecord) (now : PeriodRecord) → 0 < length ps → AreRecordsOf flat number begun (ps ++ now ∷ []) → AreRecordsOf flat number begun ps
+records_front flat number begun [] now some records = absurd (omega (arith, some))
+records_front flat number begun (first ∷ later) now some records = record { lists = records.lists; head = records.head; rest = front later records.rest }
+  where
+    front : (ps : List PeriodRecord) → All (IsWholeRecord flat number) (ps ++ now ∷ []) → All (IsWholeRecord flat number) ps
+    front [] all = All-nil (IsWholeRecord flat number)
+    front (p ∷ ps) all = All-cons (IsWholeRecord flat number) p ps (all_at (IsWholeRecord flat number) (p ∷ (ps ++ now ∷ [])) 0 p all refl) (front ps (λ j d below. all (suc j) d (omega (arith, below))))
+
+-- a start fits the first period, whatever follows
+pub holds_more : (s : ColumnStart) (port : PortRow) (ps qs : List PeriodRecord) → 0 < length ps → HoldsFirst s port ps → HoldsFirst s port (ps ++ qs)
+holds_more s port [] qs some holds = absurd (omega (arith, some))
+holds_more s port (p ∷ ps) qs some holds = holds
+
 module _ (port : PortRow) where
-  -- one period more
-  pub spans_push : (t : ℕ) (ps : List PeriodRecord) (p : PeriodRecord) → spans_from port t (ps ++ p ∷ []) ≡ spans_from port t ps ++ span_of (t + time_of ps) (step_in port p) (positions port p) ∷ []
-  spans_push t [] p = let z : t ≡ t + 0 = omega arith in ap (λ n. span_of n (step_in port p) (positions port p) ∷ []) z
-  spans_push t (q ∷ qs) p =
-      let c = sum_by-cons (λ (r : PeriodRecord). r.info.period) q qs in
-      let e : t + q.info.period + time_of qs ≡ t + time_of (q ∷ qs) = omega (arith, c) in
-      ap (λ l. span_of t (step_in port q) (positions port q) ∷ l) (spans_push (t + q.info.period) qs p ∙ ap (λ n. spans_from port (t + q.info.period) qs ++ span_of n (step_in port p) (positions port p) ∷ []) e)
+  -- how many positions a column has, where the firings of its periods are done
+  pub column_done : (flat : Flat) (cluster : ℕ) (begun : Start) (s : ColumnStart) (origin : ℕ) (ps : List PeriodRecord) → AreRecordsOf flat cluster begun ps → HoldsFirst s port ps
+      → total (column_spans port s origin ps) ≤ length (held_by s) + sum_by (outputs_in port) ps
+  column_done flat cluster begun s origin [] records holds = absurd records
+  column_done flat cluster begun s origin (p ∷ ps) records holds =
+      let t = column_total port s origin p ps in
+      let l = held_long s in
+      let c = sum_by-cons (outputs_in port) p ps in
+      let w = whole_sum flat cluster port ps [] (subst (All (IsWholeRecord flat cluster)) (sym (append-nil ps)) records.rest) in
+      let h = holds.1 in
+      omega (arith, t, l, c, w, h)
 
-  -- how many positions there are
-  pub spans_total : (t : ℕ) (ps : List PeriodRecord) → total (spans_from port t ps) ≡ sum_by (positions port) ps
-  unfolding total
-  spans_total t [] = refl
-  spans_total t (q ∷ qs) = ap (λ n. positions port q + n) (spans_total (t + q.info.period) qs) ∙ sym (sum_by-cons (positions port) q qs)
+  -- the last of its positions is followed by the end of the last period
+  pub column_last : (flat : Flat) (cluster : ℕ) (begun : Start) (s : ColumnStart) (origin : ℕ) (ps : List PeriodRecord) → AreRecordsOf flat cluster begun ps → HoldsFirst s port ps
+      → ((k : ℕ) (p : PeriodRecord) → slice_get ps k ≡ Some p → positions port p * step_in port p ≡ p.info.period)
+      → (front : List Span) × (last : Span) × (column_spans port s origin ps ≡ front ++ last ∷ []) × (end_of last ≡ origin + time_of ps)
+  column_last flat cluster begun s origin [] records holds whole = absurd records
+  column_last flat cluster begun s origin (p ∷ ps) records holds whole = go ps (origin + p.info.period) (spans_to s.stamps (origin + s.skipped * step_in port p)) (span_after origin (step_in port p) (positions port p) s.skipped) first_end (λ k q at. whole (suc k) q at) sums
+    where
+      first_end : end_of (span_after origin (step_in port p) (positions port p) s.skipped) ≡ origin + p.info.period
+      first_end =
+          let e : s.skipped + (positions port p - s.skipped) ≡ positions port p = (let h = holds.0 in omega (arith, h)) in
+          let d : s.skipped * step_in port p + (positions port p - s.skipped) * step_in port p ≡ (s.skipped + (positions port p - s.skipped)) * step_in port p = sym (add-mul s.skipped (positions port p - s.skipped) (step_in port p)) in
+          let m = ap (λ n. n * step_in port p) e in
+          let w = whole 0 p refl in omega (arith, d, m, w)
 
-  -- the outputs of whole periods are their positions
-  whole_outputs : (flat : Flat) (cluster : ℕ) (ps : List PeriodRecord) → ((k : ℕ) (p : PeriodRecord) → slice_get ps k ≡ Some p → IsWholeRecord flat cluster p) → sum_by (outputs_in port) ps ≡ sum_by (positions port) ps
-  whole_outputs flat cluster [] whole = refl
-  whole_outputs flat cluster (q ∷ qs) whole =
-      let a = sum_by-cons (outputs_in port) q qs in let b = sum_by-cons (positions port) q qs in
-      let r = whole_outputs flat cluster qs (λ k p at. whole (suc k) p at) in
-      let o : outputs_in port q ≡ positions port q = ap (λ (c : List ℕ). slice_index c port.«module» * rate_in port q) (whole 0 q refl).whole in
-      omega (arith, a, b, r, o)
+      sums : origin + p.info.period + time_of ps ≡ origin + time_of (p ∷ ps)
+      sums = let c = sum_by-cons (λ (r : PeriodRecord). r.info.period) p ps in omega (arith, c)
 
-  module _ (flat : Flat) (limits : AreWithinLimits flat) (cluster number : ℕ) (of : IsClusterPort flat cluster number port) where
-    -- the periods follow each other
-    chained_from : (t : ℕ) (ps : List PeriodRecord) → ((k : ℕ) (p : PeriodRecord) → slice_get ps k ≡ Some p → IsTimedRecord flat cluster p) → AreChained t (spans_from port t ps)
-    unfolding AreChained
-    chained_from t [] timed = tt
-    chained_from t (q ∷ qs) timed =
-        let s = steps_whole flat cluster number port q limits of (timed 0 q refl) in
-        (refl, s.0, subst (λ n. AreChained n (spans_from port (t + q.info.period) qs)) (sym (ap (λ n. t + n) s.1)) (chained_from (t + q.info.period) qs (λ k p at. timed (suc k) p at)))
+      go : (qs : List PeriodRecord) (t : ℕ) (front : List Span) (x : Span) → end_of x ≡ t → ((k : ℕ) (q : PeriodRecord) → slice_get qs k ≡ Some q → positions port q * step_in port q ≡ q.info.period)
+          → t + time_of qs ≡ origin + time_of (p ∷ ps)
+          → (before : List Span) × (last : Span) × (front ++ x ∷ spans_from port t qs ≡ before ++ last ∷ []) × (end_of last ≡ origin + time_of (p ∷ ps))
+      go [] t front x at each sum = (front, x, refl, let z : t + time_of [] ≡ t = omega arith in at ∙ sym z ∙ sum)
+      go (q ∷ qs) t front x at each sum =
+          let w = each 0 q refl in
+          let c = sum_by-cons (λ (r : PeriodRecord). r.info.period) q qs in
+          let r = go qs (t + q.info.period) (front ++ x ∷ []) (span_of t (step_in port q) (positions port q)) (ap (λ n. t + n) w) (λ k u there. each (suc k) u there) (omega (arith, c, sum)) in
+          (r.0, r.1, sym (append_assoc front (x ∷ []) (span_of t (step_in port q) (positions port q) ∷ spans_from port (t + q.info.period) qs)) ∙ r.2, r.3)
 
-    pub chained : (ps : List PeriodRecord) → All (IsWholeRecord flat cluster) ps → AreChained 0 (spans_from port 0 ps)
-    chained ps all = chained_from 0 ps (λ k p at. (all_at (IsWholeRecord flat cluster) ps k p all at).is.timed)
+  -- a further period follows a chain of those before
+  chain_more : (b : ℕ) (front : List Span) (last next : Span) → AreChained b (front ++ last ∷ []) → next.start ≡ end_of last → 0 < next.step → AreChained b ((front ++ last ∷ []) ++ next ∷ [])
+  unfolding AreChained
+  chain_more b [] last next chain at some = (chain.0, chain.1, (at, some, tt))
+  chain_more b (x ∷ xs) last next chain at some = (chain.0, chain.1, chain_more (end_of x) xs last next chain.2 at some)
+
+  pub chain_push : (spans front : List Span) (last next : Span) → spans ≡ front ++ last ∷ [] → IsChain spans → next.start ≡ end_of last → 0 < next.step → IsChain (spans ++ next ∷ [])
+  chain_push spans front last next is chain at some =
+      (chain.0, subst (λ l. AreChained chain.0 (l ++ next ∷ [])) (sym is) (chain_more chain.0 front last next (subst (AreChained chain.0) is chain.1) at some))
+
+  -- one period alone is a chain
+  pub one_chain : (x : Span) → 0 < x.step → IsChain (x ∷ [])
+  unfolding AreChained
+  one_chain x some = (x.start, (refl, some, tt))
 
   module _ (model : PureTree) (flat : Flat) (n number : ℕ) (drives : DrivesTraced flat n number port) where
     of_cluster : IsClusterPort flat (n + 1) number port
     of_cluster = record { there = drives.traced.there; inside = drives.traced.inside }
 
-    pub chained_whole : AreWithinLimits flat → (ps : List PeriodRecord) → All (IsWholeRecord flat (n + 1)) ps → AreChained 0 (spans_from port 0 ps)
-    chained_whole limits ps all = chained flat limits (n + 1) number of_cluster ps all
+    -- a period takes some time
+    pub steps_of : AreWithinLimits flat → (p : PeriodRecord) → IsPeriodRecord flat (n + 1) p → (0 < step_in port p) × (positions port p * step_in port p ≡ p.info.period)
+    steps_of limits p whole = steps_whole flat (n + 1) number port p limits of_cluster whole.timed
 
-    -- a whole period takes some time
-    steps_of : AreWithinLimits flat → (p : PeriodRecord) → IsWholeRecord flat (n + 1) p → (0 < step_in port p) × (positions port p * step_in port p ≡ p.info.period)
-    steps_of limits p whole = steps_whole flat (n + 1) number port p limits of_cluster whole.is.timed
-
-    positions_some : AreWithinLimits flat → (p : PeriodRecord) → IsWholeRecord flat (n + 1) p → (k : ℕ) → k ≡ positions port p → 0 < k
+    positions_some : AreWithinLimits flat → (p : PeriodRecord) → IsPeriodRecord flat (n + 1) p → (k : ℕ) → k ≡ positions port p → 0 < k
     positions_some limits p whole zero none = absurd (let s = steps_of limits p whole in let w : 0 < p.info.period / 0 = subst (λ k. 0 < p.info.period / k) (sym none) s.0 in omega (arith, w))
     positions_some limits p whole (suc k) is = omega arith
 
-    takes_some : AreWithinLimits flat → (p : PeriodRecord) → IsWholeRecord flat (n + 1) p → 0 < p.info.period
+    takes_some : AreWithinLimits flat → (p : PeriodRecord) → IsPeriodRecord flat (n + 1) p → 0 < p.info.period
     takes_some limits p whole =
         let s = steps_of limits p whole in
         let l : positions port p ≤ positions port p * step_in port p = least (positions port p) (step_in port p) s.0 in
@@ -98,21 +135,33 @@ module _ (port : PortRow) where
         let e = s.1 in omega (arith, l, m, e)
 
     -- so does the one before that of a cluster in progress
-    pub last_takes_some : AreWithinLimits flat → (h g : ClusterAt) → All (IsWholeRecord flat (n + 1)) (periods_of g) → g.old ≡ periods_of h → 0 < h.now.info.period
+    pub last_takes_some : AreWithinLimits flat → (h g : ClusterAt) → AreRecordsOf flat (n + 1) g.begun (periods_of g) → g.old ≡ periods_of h → 0 < h.now.info.period
     last_takes_some limits h g whole old =
-        takes_some limits h.now (all_at (IsWholeRecord flat (n + 1)) (periods_of g) (length h.old) h.now whole
+        takes_some limits h.now (record_at flat (n + 1) g.begun (periods_of g) (length h.old) h.now whole
         (ap (λ l. slice_get (l ++ g.now ∷ []) (length h.old)) old
         ∙ get_low (periods_of h) (g.now ∷ []) (length h.old) (slice_get_within (periods_of h) (length h.old) h.now (get_last h.old h.now)) ∙ get_last h.old h.now))
 
     -- what a cluster in progress says of the period
     module _ (h : ClusterAt) (c : ClusterOf) (t : TracedSignal) (is : IsAt model flat (n + 1) h c) (port_is : t.port ≡ number) (module_is : t.«module» ≡ port.«module») where
-      now_whole : IsWholeRecord flat (n + 1) h.now
-      now_whole = all_at (IsWholeRecord flat (n + 1)) (periods_of h) (length h.old) h.now is.whole (get_last h.old h.now)
+      now_record : IsPeriodRecord flat (n + 1) h.now
+      now_record = last_record flat (n + 1) h.begun h.old h.now is.records
+
+      -- the end of its periods
+      pub last_span : AreWithinLimits flat → (s : ColumnStart) → HoldsFirst s port (periods_of h)
+          → (front : List Span) × (last : Span) × (column_spans port s h.origin (periods_of h) ≡ front ++ last ∷ []) × (end_of last ≡ h.origin + time_of (periods_of h))
+      last_span limits s holds = column_last flat (n + 1) h.begun s h.origin (periods_of h) is.records holds
+          (λ k p at. (steps_of limits p (record_at flat (n + 1) h.begun (periods_of h) k p is.records at)).1)
+
+      whole_counts : turns_from c.entries 0 (length c.entries) port.«module» ≡ slice_index h.now.info.counts port.«module»
+      whole_counts =
+          let e = ap (λ es. turns_from es 0 (length es) port.«module») is.entries_are in
+          let z = done_none h.entries port.«module» in
+          let k = is.counts port.«module» in omega (arith, e, z, k)
 
       pub positions_are : positions_in flat.tables c t ≡ positions port h.now
       positions_are =
           ap (λ m. turns_from c.entries 0 (length c.entries) m * row_rate c.table (slice_get flat.tables.ports t.port)) module_is
-          ∙ ap (λ k. k * row_rate c.table (slice_get flat.tables.ports t.port)) (sym (is.period.counts port.«module») ∙ ap (λ (l : List ℕ). slice_index l port.«module») now_whole.whole)
+          ∙ ap (λ k. k * row_rate c.table (slice_get flat.tables.ports t.port)) whole_counts
           ∙ ap (λ r. slice_index h.now.info.counts port.«module» * r) (ap (λ m. row_rate c.table (slice_get flat.tables.ports m)) port_is ∙ ap (row_rate c.table) drives.traced.there ∙ ap (λ l. row_rate l (Some port)) is.table_is)
 
       pub span_is : (time : ℕ) → span_in flat.tables time c t ≡ span_of time (step_in port h.now) (positions port h.now)
@@ -121,8 +170,8 @@ module _ (port : PortRow) where
       -- the period can begin where its end is a time of 64 bits
       pub can_begin : AreWithinLimits flat → (time : ℕ) → time < time_end → CanBegin flat time c t
       can_begin limits time early =
-          let s = steps_of limits h.now now_whole in
-          let short : h.now.info.period < time_end = now_whole.is.timed.period_is.short in
+          let s = steps_of limits h.now now_record in
+          let short : h.now.info.period < time_end = now_record.timed.period_is.short in
           let p : c.period ≡ h.now.info.period = is.time_is in
           let q : positions_in flat.tables c t ≡ positions port h.now = positions_are in
           let l : positions port h.now ≤ positions port h.now * step_in port h.now = least (positions port h.now) (step_in port h.now) s.0 in
@@ -130,22 +179,23 @@ module _ (port : PortRow) where
           record {
             of = is.of;
             port = subst (λ m. m < length flat.tables.ports) (sym port_is) (slice_get_within flat.tables.ports number port drives.traced.there);
-            some = subst (λ k. 0 < k) (sym q) (positions_some limits h.now now_whole (positions port h.now) refl);
+            some = subst (λ k. 0 < k) (sym q) (positions_some limits h.now now_record (positions port h.now) refl);
             few = omega (arith, q, l, e, short);
             short = omega (arith, p, short, early);
           }
 
     -- all positions of a period that is over have their samples
-    pub none_left : (h : ClusterAt) (time : ℕ) → HasDone model flat (n + 1) h → is_over time h ≡ true → sum_by (positions port) (periods_of h) ≤ samples_done port h
-    none_left h time has over =
-        let whole = λ (k : ℕ) (p : PeriodRecord) (at : slice_get h.old k ≡ Some p). all_at (IsWholeRecord flat (n + 1)) (periods_of h) k p has.whole (get_low h.old (h.now ∷ []) k (slice_get_within h.old k p at) ∙ at) in
-        let last : IsWholeRecord flat (n + 1) h.now = all_at (IsWholeRecord flat (n + 1)) (periods_of h) (length h.old) h.now has.whole (get_last h.old h.now) in
-        let o = whole_outputs flat (n + 1) h.old whole in
-        let s = sum_by_push (positions port) h.old h.now in
+    pub none_left : (h : ClusterAt) (s : ColumnStart) (time : ℕ) → HasDone model flat (n + 1) h → HoldsFirst s port (periods_of h) → is_over time h ≡ true
+        → total (column_spans port s h.origin (periods_of h)) ≤ samples_done s port h
+    none_left h s time has holds over =
+        let t = column_done flat (n + 1) h.begun s h.origin (periods_of h) has.records holds in
+        let o = sum_by_push (outputs_in port) h.old h.now in
         let place : h.place ≡ length h.entries = eqb-true h.place (length h.entries) (and_left (nat_eq h.place (length h.entries)) (nat_eq time (h.since + h.now.info.period)) over) in
-        let d : done h.entries h.place port.«module» * rate_in port h.now ≡ positions port h.now =
-        ap (λ k. k * rate_in port h.now) (ap (λ i. done h.entries i port.«module») place ∙ sym (has.counts port.«module») ∙ ap (λ (l : List ℕ). slice_index l port.«module») last.whole) in
-        omega (arith, o, s, d)
+        let p = ap (λ i. done h.entries i port.«module») place in
+        let k = has.plan.counts port.«module» in
+        let e : done h.entries h.place port.«module» - done h.entries h.from port.«module» ≡ slice_index h.now.counts port.«module» = omega (arith, p, k) in
+        let d = ap (λ i. i * rate_in port h.now) e in
+        omega (arith, t, o, d)
       where
         and_left : (p q : Bool) → (p && q) ≡ true → p ≡ true
         and_left true q h = refl

@@ -1,5 +1,5 @@
 -- At the start each traced signal has its initial samples and its first period.
-use Rattle.std.proofs.Common.{◌≡◌, ◌∙◌, ℕ, zero, suc, ◌+◌, ◌≤◌, Bool, true, false, ◌&&◌, nat_lt, if◌then◌else◌, Option, Some, None, option_map, List, [], ◌∷◌, ◌++◌, length, map, slice_get, slice_index, refl, ap, sym, subst, arith}
+use Rattle.std.proofs.Common.{◌≡◌, ◌∙◌, ℕ, zero, suc, ◌+◌, ◌≤◌, Bool, true, false, ◌&&◌, nat_lt, if◌then◌else◌, Option, Some, None, option_map, List, [], ◌∷◌, ◌++◌, length, map, slice_get, slice_index, refl, ap, sym, subst, arith, ◌-◌, ◌*◌}
 use Rattle.std.proofs.lemmas.Bool.{eq-eqb, le-ltb}
 use Rattle.std.proofs.lemmas.Option.{get_or_from_slice_get, slice_get-map, slice_get_within}
 use Rattle.std.specs.List.{cons_option, enumerate_from}
@@ -11,18 +11,18 @@ use Rattle.tdf_dynamic_first.specs.declared.first.First.{First}
 use Rattle.tdf_events.specs.Side.{SideOf}
 use Rattle.tdf_bind.specs.declared.model.Flat.{Flat}
 use Rattle.tdf_streams.proofs.Api.{get_inside, none_some, some_same}
-use Rattle.tdf_sim_history.specs.Cells.{event_cell, first_shown, spans_from, value_before}
+use Rattle.tdf_sim_history.specs.Cells.{event_cell, column_spans, driver_of_row}
 use Rattle.tdf_sim_history.specs.Instant.{periods_of}
-use Rattle.tdf_sim_history.specs.Start.{first_cluster, first_clusters}
+use Rattle.tdf_sim_history.specs.Start.{first_cluster, first_clusters, starting_value, text_column}
 use Rattle.tdf_sim_history.specs.World.{ClusterAt, World}
 use Rattle.tdf_sim_history.specs.History.{history}
 use Rattle.tdf_bind_invariants.specs.Limits.{AreWithinLimits}
 use Rattle.tdf_trace_rows.specs.Laws.{Agree}
 use Rattle.tdf_trace_rows.specs.Noted.{noted}
-use Rattle.tdf_trace_rows.specs.Positions.{AreChained, span_of}
+use Rattle.tdf_trace_rows.specs.Positions.{span_of}
 use Rattle.tdf_sim_refinement.specs.At.{IsAt}
 use Rattle.tdf_sim_traces.proofs.Listing.{IsFound, found, moved}
-use Rattle.tdf_sim_traces.proofs.Spans.{chained_whole, span_is}
+use Rattle.tdf_sim_traces.proofs.Spans.{one_chain, span_is, steps_of}
 use Rattle.tdf_sim_traces.specs.Calls.{CanStart, StartsShowing, start_values}
 use Rattle.tdf_sim_traces.specs.Events.{AreEventColumns, event_before, events_before, values_before}
 use Rattle.tdf_sim_traces.specs.Periods.{ClockAt, begins, span_in}
@@ -33,18 +33,23 @@ use Rattle.tdf_sim_traces.specs.declared.shown.Shown.{Shown}
 use Rattle.tdf_sim_traces.specs.declared.signals.TracedSignal.{TracedSignal}
 use Rattle.tdf_sim_traces.specs.machine.Beginning.{AreNext, BegunWith, IsBeginning}
 use Rattle.tdf_sim_traces.specs.machine.Giving.{GivenWith, IsGivingTo}
-use Rattle.tdf_streams.specs.Cluster.{initial_samples, zero_sample}
-use Rattle.tdf_streams.specs.Signals.{positions, step_in, time_of}
+use Rattle.tdf_streams.specs.Cluster.{initial_samples, driver_samples}
+use Rattle.tdf_streams.specs.Signals.{positions, step_in, time_of, outputs_in, rate_in}
 use Rattle.tdf_trace.specs.Stands.{TraceSeen, no_cells}
 use Rattle.tdf_trace.specs.Writings.{AboutSeen, first_of}
 use Rattle.tdf_trace.specs.declared.about.Variable.{Variable}
-use Rattle.tdf_sim_refinement.proofs.Api.{start_samples}
+use Rattle.tdf_sim_refinement.proofs.Api.{starts_have_samples}
 use Rattle.tdf_sim_refinement.specs.Samples.{AreSamplesOf}
 use Rattle.tdf_lang_tree.specs.Pure.{PureTree}
 use Rattle.tdf_bind_connections.specs.declared.drivers.SignalRow.{SignalRow}
 use Rattle.tdf_bind_connections.specs.declared.modules.PortRow.{PortRow}
 use Rattle.tdf_bind_connections.specs.declared.traces.TraceRow.{TraceRow}
 use Rattle.tdf_sim_history.specs.Rules.{rules_of, start_world}
+use Rattle.tdf_sim_history.specs.Columns.{ColumnStart, held_by, no_start, spans_to, start_of}
+use Rattle.tdf_sim_history.specs.WorldLaws.{HoldsFirst}
+use Rattle.tdf_sim_history.proofs.Api.{last_record}
+use Rattle.tdf_trace.specs.Tracks.{IsChain}
+use Rattle.tdf_exec.specs.Cluster.{ClusterOf}
 
 -- a cluster at the start
 first_from : (model : PureTree) (flat : Flat) (k : ℕ) (firsts : List First) (n : ℕ) (h : ClusterAt) → slice_get (map (λ (first : ℕ × First). first_cluster model flat (first.0 + 1) first.1 []) (enumerate_from k firsts)) n ≡ Some h
@@ -84,32 +89,31 @@ module _ (model : PureTree) (flat : Flat) (firsts : List First) (turns : ℕ) (l
   unfolding history
   values_start = refl
 
-  first_row : (column : ℕ) (row : TraceRow) → slice_get flat.tables.traces column ≡ Some row → first_of (variables_of flat.tables) column ≡ first_shown model flat (rules_of model flat) start (Some row)
-  unfolding history
+  -- what the column of a trace begins with
+  column_at : (column : ℕ) (row : TraceRow) → slice_get flat.tables.traces column ≡ Some row → start_of start.shown column ≡ text_column flat.tables row
+  column_at column row at = get_or_from_slice_get (map (text_column flat.tables) flat.tables.traces) column (text_column flat.tables row) no_start
+      (slice_get-map (text_column flat.tables) flat.tables.traces column ∙ ap (option_map (text_column flat.tables)) at)
+
+  first_row : (column : ℕ) (row : TraceRow) → slice_get flat.tables.traces column ≡ Some row → first_of (variables_of flat.tables) column ≡ (start_of start.shown column).carry
   first_row column row at =
       let v = given_at (variable_of flat.tables) flat.tables.traces column row long at in
       get_or_from_slice_get (map (λ (x : Variable). x.first) (variables_of flat.tables)) column v.0.first None (slice_get-map (λ (x : Variable). x.first) (variables_of flat.tables) column ∙ ap (option_map (λ (x : Variable). x.first)) v.2)
-      ∙ by_event row.event refl v.0 v.1
+      ∙ by_signal (traced_signal flat.tables row) refl v.0 v.1 ∙ sym (ap (λ (c : ColumnStart). c.carry) (column_at column row at))
     where
-      by_event : (b : Bool) → row.event ≡ b → (x : Variable) → variable_of flat.tables row ≡ Some x → x.first ≡ (if row.event then Some (value_before model flat (rules_of model flat) start row.signal 0) else None)
-      by_event b is x gives = by_signal (traced_signal flat.tables row) refl gives
+      by_signal : (o : Option SignalRow) → traced_signal flat.tables row ≡ o → (x : Variable) → option_map (variable_for row) o ≡ Some x → x.first ≡ (if row.event then Some (starting_value (slice_get flat.tables.de_signals row.signal)) else None)
+      by_signal None there x e = none_some x e
+      by_signal (Some signal) there x e = ap (λ (y : Variable). y.first) (sym (some_same (variable_for row signal) x e)) ∙ by_kind row.event refl
         where
-          by_signal : (o : Option SignalRow) → traced_signal flat.tables row ≡ o → option_map (variable_for row) o ≡ Some x → x.first ≡ (if row.event then Some (value_before model flat (rules_of model flat) start row.signal 0) else None)
-          by_signal None there e = none_some x e
-          by_signal (Some signal) there e = ap (λ (y : Variable). y.first) (sym (some_same (variable_for row signal) x e)) ∙ by_kind b is
-            where
-              by_kind : (c : Bool) → row.event ≡ c → (if row.event then Some signal.start else None) ≡ (if row.event then Some (value_before model flat (rules_of model flat) start row.signal 0) else None)
-              by_kind true e = ap (λ v. if row.event then Some v else None) (sym (get_or_from_slice_get (start_values flat.tables) row.signal signal.start zero_sample
-                  (slice_get-map (λ (r : SignalRow). r.start) flat.tables.de_signals row.signal
-                  ∙ ap (option_map (λ (r : SignalRow). r.start)) (sym (ap (λ (k : Bool). if k then slice_get flat.tables.de_signals row.signal else slice_get flat.tables.signals row.signal) e) ∙ there))))
-              by_kind false e = rw e refl
+          by_kind : (c : Bool) → row.event ≡ c → (if row.event then Some signal.start else None) ≡ (if row.event then Some (starting_value (slice_get flat.tables.de_signals row.signal)) else None)
+          by_kind true e = ap (λ o. if row.event then Some (starting_value o) else None) (sym (sym (ap (λ (k : Bool). if k then slice_get flat.tables.de_signals row.signal else slice_get flat.tables.signals row.signal) e) ∙ there))
+          by_kind false e = rw e refl
 
   -- a new trace stands for no cells
   pub none_agree : (below : ℕ) → Agree (no_cells (variables_of flat.tables)) (events_before model flat start 0) below
   unfolding noted
   none_agree below = record {
     columns = long;
-    first = λ column inside. (let r = get_inside flat.tables.traces column (omega (arith, inside, long)) in first_row column r.0 r.1 ∙ ap (first_shown model flat (rules_of model flat) start) (sym r.1));
+    first = λ column inside. (let r = get_inside flat.tables.traces column (omega (arith, inside, long)) in first_row column r.0 r.1);
     cells = λ column time inside low. no_cell (slice_get flat.tables.traces column) time;
   }
     where
@@ -124,6 +128,7 @@ module _ (model : PureTree) (flat : Flat) (firsts : List First) (turns : ℕ) (l
 module _ (flat : Flat) (clock : ClockAt) (old : Shown) (t1 t2 : TrackingOf) (r1 r2 : TraceSeen) (zero_time : clock.time ≡ 0) (can : CanStart flat clock old)
     (began : IsBeginning flat.tables clock old.signals.items (length old.signals.items) old.tracking t1 old.trace r1) (gave : IsGivingTo flat.tables old.signals.items (length old.signals.items) t1 t2 r1 r2) where
   pub starts_showing : StartsShowing flat clock old (record old { tracking = t2; trace = r2 })
+  unfolding spans_to held_by
   starts_showing model kind firsts turns un at = record {
     spans = b.now;
     samples = g.now;
@@ -134,7 +139,10 @@ module _ (flat : Flat) (clock : ClockAt) (old : Shown) (t1 t2 : TrackingOf) (r1 
     events = subst (λ vs. AreEventColumns flat.tables.traces vs old.events.items) (sym (values_start model flat firsts turns un.columns)) un.events;
     begun = λ n h there. (let f = first_at model flat firsts n h there in record {
       early = (let e : h.since ≡ 0 = ap (λ (x : ClusterAt). x.since) f.1 in omega (arith, e));
-      after_old = ap (λ (x : ClusterAt). x.since) f.1 ∙ sym (ap (λ (x : ClusterAt). time_of x.old) f.1);
+      after_old = (
+          let e : h.since ≡ 0 = ap (λ (x : ClusterAt). x.since) f.1 in
+          let o : h.origin ≡ 0 = ap (λ (x : ClusterAt). x.origin) f.1 in
+          let t : time_of h.old ≡ 0 = ap (λ (x : ClusterAt). time_of x.old) f.1 in omega (arith, e, o, t));
     });
     width = gave.width ∙ began.width ∙ un.tracking.width;
     columns = ap (λ (a : AboutSeen). length a.variables) (gave.about ∙ began.about ∙ un.trace.about) ∙ un.columns;
@@ -169,17 +177,25 @@ module _ (flat : Flat) (clock : ClockAt) (old : Shown) (t1 t2 : TrackingOf) (r1 
           let z : c.0.since ≡ 0 = ap (λ (x : ClusterAt). x.since) c.3 in
           eq-eqb (slice_index clock.since t.cluster) clock.time (omega (arith, i, e, z, zero_time))
 
-      spans_of : (h : ClusterAt) (first : First) (m : ℕ) (port : PortRow) → h ≡ first_cluster model flat m first [] → spans_from port 0 (periods_of h) ≡ span_of 0 (step_in port h.now) (positions port h.now) ∷ []
-      spans_of h first m port is = ap (λ l. spans_from port 0 (l ++ h.now ∷ [])) (ap (λ (x : ClusterAt). x.old) is)
+      -- what a column of the signal of a port begins with
+      begins_so : PortRow → ColumnStart
+      begins_so port = record { carry = None; stamps = []; skipped = 0; ahead = driver_samples flat.tables (driver_of_row (slice_get flat.tables.signals port.signal)) }
+
+      spans_of : (h : ClusterAt) (first : First) (m : ℕ) (port : PortRow) → h ≡ first_cluster model flat m first [] → column_spans port (begins_so port) h.origin (periods_of h) ≡ span_of 0 (step_in port h.now) (positions port h.now) ∷ []
+      spans_of h first m port is =
+          let z : 0 + 0 * step_in port h.now ≡ 0 = omega arith in
+          let c : positions port h.now - 0 ≡ positions port h.now = omega arith in
+          ap (λ l. column_spans port (begins_so port) h.origin (l ++ h.now ∷ [])) (ap (λ (x : ClusterAt). x.old) is)
+          ∙ ap (λ o. column_spans port (begins_so port) o (h.now ∷ [])) (ap (λ (x : ClusterAt). x.origin) is)
+          ∙ ap (λ t. span_of t (step_in port h.now) (positions port h.now - 0) ∷ []) z ∙ ap (λ n. span_of 0 (step_in port h.now) n ∷ []) c
 
       next : AreNext flat.tables clock old.signals.items (λ signal. [])
       next j t c there is here =
           let l = un.signals.are j t there in
           let k = cluster_of_signal j t there in
           let i : IsAt model flat (t.cluster + 1) k.0 c = at.each t.cluster k.0 c k.2 here in
-          subst (AreChained 0) (spans_of k.0 k.1 (t.cluster + 1) l.port k.3
-          ∙ ap (λ p. p ∷ []) (sym (ap (λ n. span_in flat.tables n c t) zero_time ∙ span_is l.port model flat t.cluster t.port l.drives k.0 c t i refl l.module_is 0)))
-          (chained_whole l.port model flat t.cluster t.port l.drives limits (periods_of k.0) i.whole)
+          subst IsChain (ap (λ p. p ∷ []) (sym (span_is l.port model flat t.cluster t.port l.drives k.0 c t i refl l.module_is clock.time)))
+          (one_chain l.port (span_of clock.time (step_in l.port k.0.now) (positions l.port k.0.now)) (steps_of l.port model flat t.cluster t.port l.drives limits k.0.now (last_record flat (t.cluster + 1) k.0.begun k.0.old k.0.now i.records)).0)
 
       b : BegunWith flat.tables clock old.signals.items (length old.signals.items) t1.list r1.rows flat.tables.traces (events_before model flat start 0) (λ signal. []) (λ signal. [])
       b = began.took flat.tables.traces (events_before model flat start 0) (λ signal. []) (λ signal. []) next fresh
@@ -187,25 +203,41 @@ module _ (flat : Flat) (clock : ClockAt) (old : Shown) (t1 t2 : TrackingOf) (r1 
       g : GivenWith flat.tables old.signals.items (length old.signals.items) t2.list r2.rows flat.tables.traces (events_before model flat start 0) b.now (λ signal. [])
       g = gave.took flat.tables.traces (events_before model flat start 0) b.now (λ signal. []) can.begin.once b.holds
 
-      each : (n number : ℕ) (port : PortRow) → DrivesTraced flat n number port → IsFound old.signals.items n number port → IsShownOf model flat start.clusters n number port b.now g.now t2.list
+      each : (n number : ℕ) (port : PortRow) → DrivesTraced flat n number port → IsFound old.signals.items n number port → IsShownOf model flat start.shown start.clusters n number port b.now g.now t2.list
       each n number port drives f =
           let k = cluster_of_signal f.place f.it f.there in
           let c = get_inside clock.clusters f.it.cluster (can.begin.clusters f.place f.it f.there) in
           let i : IsAt model flat (n + 1) k.0 c.0 = subst (λ m. IsAt model flat (m + 1) k.0 c.0) f.cluster (at.each f.it.cluster k.0 c.0 k.2 c.1) in
           let below = slice_get_within old.signals.items f.place f.it f.there in
           let first : k.0 ≡ first_cluster model flat (n + 1) k.1 [] = k.3 ∙ ap (λ m. first_cluster model flat (m + 1) k.1 []) f.cluster in
+          let spans_now : b.now port.signal ≡ span_of 0 (step_in port k.0.now) (positions port k.0.now) ∷ [] = ap b.now (sym f.signal) ∙ b.have.begun f.place f.it c.0 below f.there (begins_now f.place f.it f.there) c.1
+          ∙ ap (λ p. p ∷ []) (ap (λ m. span_in flat.tables m c.0 f.it) zero_time ∙ span_is port model flat n number drives k.0 c.0 f.it i f.port_is f.module_is 0) in
           record {
             cluster = k.0;
             there = ap (slice_get start.clusters) (sym f.cluster) ∙ k.2;
-            spans_are = ap b.now (sym f.signal) ∙ b.have.begun f.place f.it c.0 below f.there (begins_now f.place f.it f.there) c.1
-                ∙ ap (λ p. p ∷ []) (ap (λ m. span_in flat.tables m c.0 f.it) zero_time ∙ span_is port model flat n number drives k.0 c.0 f.it i f.port_is f.module_is 0)
-                ∙ sym (spans_of k.0 k.1 (n + 1) port first);
-            samples_are = subst (AreSamplesOf model flat (n + 1) number port k.0) (sym (ap g.now (sym f.signal) ∙ g.have.given f.place f.it below f.there
-                ∙ ap (initial_samples flat.tables) (ap (slice_get flat.tables.ports) f.port_is ∙ drives.traced.there)))
-                (subst (λ h. AreSamplesOf model flat (n + 1) number port h (initial_samples flat.tables (Some port))) (sym first) (start_samples model flat (n + 1) number port k.1));
+            start = begins_so port;
+            starts = λ column row there plain same. column_at model flat firsts turns un.columns column row there
+                ∙ ap (λ (e : Bool). record { carry = if e then Some (starting_value (slice_get flat.tables.de_signals row.signal)) else None; stamps = []; skipped = 0; ahead = driver_samples flat.tables (driver_of_row (slice_get flat.tables.signals row.signal)) }) plain
+                ∙ ap (λ m. record { carry = None; stamps = []; skipped = 0; ahead = driver_samples flat.tables (driver_of_row (slice_get flat.tables.signals m)) }) same;
+            first = starts_whole n number port k.0 k.1 c.0 first i;
+            chain = subst IsChain (sym spans_now) (one_chain port (span_of 0 (step_in port k.0.now) (positions port k.0.now)) (steps_of port model flat n number drives limits k.0.now (last_record flat (n + 1) k.0.begun k.0.old k.0.now i.records)).0);
+            spans_are = spans_now ∙ sym (spans_of k.0 k.1 (n + 1) port first);
+            samples_are = subst (AreSamplesOf model flat (n + 1) number port (begins_so port) k.0) (sym (ap g.now (sym f.signal) ∙ g.have.given f.place f.it below f.there
+                ∙ ap (initial_samples flat.tables) (ap (slice_get flat.tables.ports) f.port_is)
+                ∙ sym (ap (driver_samples flat.tables) drives.driver)))
+                (subst (λ h. AreSamplesOf model flat (n + 1) number port (begins_so port) h (held_by (begins_so port))) (sym first) (starts_have_samples model flat (n + 1) number port (begins_so port) k.1));
             since = λ place u there same. (
                 let m = moved t1.list t2.list place u gave.labels gave.sinces there in
                 let s : m.0.since ≡ clock.time = began.started.here place m.0 m.1 (record { place = f.place; it = f.it; below = below; there = f.there; begun = begins_now f.place f.it f.there; same = f.signal ∙ sym (m.2 ∙ same) }) in
                 let z : k.0.since ≡ 0 = ap (λ (x : ClusterAt). x.since) first in
                 let e = m.3 in omega (arith, s, z, e, zero_time));
+            next = λ place u there same more. (let z : k.0.since ≡ 0 = ap (λ (x : ClusterAt). x.since) first in omega (arith, z));
           }
+        where
+          starts_whole : (n number : ℕ) (port : PortRow) (h : ClusterAt) (first : First) (c : ClusterOf) → h ≡ first_cluster model flat (n + 1) first [] → IsAt model flat (n + 1) h c → HoldsFirst (begins_so port) port (periods_of h)
+          starts_whole n number port h first c is i =
+              let old : h.old ≡ [] = ap (λ (x : ClusterAt). x.old) is in
+              let counts : slice_index h.now.info.counts port.«module» ≡ slice_index h.now.counts port.«module» =
+              ap (λ (x : ClusterAt). slice_index x.now.info.counts port.«module») is ∙ sym (ap (λ (x : ClusterAt). slice_index x.now.counts port.«module») is) in
+              let e : positions port h.now ≡ outputs_in port h.now = ap (λ n. n * rate_in port h.now) counts in
+              subst (λ l. HoldsFirst (begins_so port) port (l ++ h.now ∷ [])) (sym old) (omega arith, omega (arith, e))

@@ -6,6 +6,7 @@ use Rattle.tdf_events.specs.Side.{SideOf}
 use Rattle.tdf_fixed.specs.declared.raw.Raw.{Raw}
 use Rattle.tdf_bind.specs.declared.model.Flat.{Flat}
 use Rattle.tdf_sim_history.specs.Instant.{is_over, periods_of}
+use Rattle.tdf_sim_history.specs.Columns.{ColumnStart}
 use Rattle.tdf_sim_history.specs.World.{ClusterAt, World}
 use Rattle.tdf_sim_refinement.specs.Samples.{AreSamplesOf, IsTracedPort, samples_of}
 use Rattle.tdf_lang_tree.specs.Pure.{PureTree}
@@ -14,9 +15,10 @@ use Rattle.tdf_bind_connections.specs.declared.modules.PortRow.{PortRow}
 -- a cluster before and after an instant: the period that was over made way for the next one, of
 -- whatever rates and steps, or it goes on
 pub data Advances (time : ℕ) (h g : ClusterAt) : Type 0 where
-  Began : is_over time h ≡ true → g.since ≡ time → g.old ≡ periods_of h → Advances time h g
-  Stayed : is_over time h ≡ false → g.since ≡ h.since → g.old ≡ h.old → g.now ≡ h.now
+  Began : is_over time h ≡ true → g.origin ≡ h.origin → g.since ≡ time → g.old ≡ periods_of h
       → Advances time h g
+  Stayed : is_over time h ≡ false → g.origin ≡ h.origin → g.since ≡ h.since → g.old ≡ h.old
+      → g.now ≡ h.now → Advances time h g
 
 -- an instant led from one world to another, and traced these samples
 pub record HasAdvanced (model : PureTree) (flat : Flat) (time : ℕ) (w v : World SideOf)
@@ -24,7 +26,8 @@ pub record HasAdvanced (model : PureTree) (flat : Flat) (time : ℕ) (w v : Worl
   pub same : length v.clusters ≡ length w.clusters
   pub clusters : (n : ℕ) (h g : ClusterAt) → slice_get w.clusters n ≡ Some h
       → slice_get v.clusters n ≡ Some g → Advances time h g
-  pub samples : (n number : ℕ) (port : PortRow) (h g : ClusterAt) (had : List Raw)
-      → slice_get w.clusters n ≡ Some h → slice_get v.clusters n ≡ Some g
-      → IsTracedPort flat (n + 1) number port → AreSamplesOf model flat (n + 1) number port h had
-      → AreSamplesOf model flat (n + 1) number port g (had ++ samples_of port.signal traced)
+  pub samples : (n number : ℕ) (port : PortRow) (s : ColumnStart) (h g : ClusterAt)
+      → (had : List Raw) → slice_get w.clusters n ≡ Some h → slice_get v.clusters n ≡ Some g
+      → IsTracedPort flat (n + 1) number port
+      → AreSamplesOf model flat (n + 1) number port s h had
+      → AreSamplesOf model flat (n + 1) number port s g (had ++ samples_of port.signal traced)

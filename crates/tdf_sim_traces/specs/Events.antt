@@ -4,7 +4,8 @@ use Rattle.std.specs.Prelude.{◌≡◌, ◌&&◌, ℕ, true, nat_lt, if◌then�
 use Rattle.tdf_events.specs.Side.{SideOf}
 use Rattle.tdf_fixed.specs.declared.raw.Raw.{Raw}
 use Rattle.tdf_bind.specs.declared.model.Flat.{Flat}
-use Rattle.tdf_sim_history.specs.Cells.{event_cell, first_shown, world_before}
+use Rattle.tdf_sim_history.specs.Cells.{event_cell, world_before}
+use Rattle.tdf_sim_history.specs.Columns.{start_of}
 use Rattle.tdf_sim_history.specs.World.{World}
 use Rattle.tdf_trace_rows.specs.Rows.{Cells}
 use Rattle.tdf_sim_traces.specs.declared.events.EventColumn.{EventColumn}
@@ -33,8 +34,7 @@ event_before model flat start from time (Some row) = if row.event && nat_lt time
 abbrev pub events_before : PureTree → Flat → (start : World SideOf) → (from : ℕ) → Cells
 events_before model flat start from = record {
   columns = length flat.tables.traces;
-  first = λ column. first_shown model flat (rules_of model flat) start
-      (slice_get flat.tables.traces column);
+  first = λ column. (start_of start.shown column).carry;
   at = λ column time.
       event_before model flat start from time (slice_get flat.tables.traces column);
 }

@@ -114,6 +114,8 @@ impl Shown {
             self.old }
         ensures shown { OnOk result (ShowsInstant flat.now
             (clock_at time since.now clusters.now) traced.now values.now self.old self.new) }
+        ensures since { OnOk result
+            (AreSince self.old.trace.rows.upto self.new.tracking.list) }
         ensures upto { self.new.trace.rows.upto ≡ self.old.trace.rows.upto }
         ensures stage { self.new.trace.stage ≡ self.old.trace.stage }
         ensures about { self.new.trace.about ≡ self.old.trace.about }

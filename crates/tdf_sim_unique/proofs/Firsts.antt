@@ -24,7 +24,9 @@ module _ (model : PureTree) (a : Flat) (ahead : List (List Change)) where
     begun = text_start model a cluster attrs;
     entries = rows.entries;
     bounds = rows.bounds;
+    origin = 0;
     since = 0;
+    from = 0;
     place = 0;
     old = [];
     now = period_record a.tables attrs (counts_in a.tables rows.entries) rows.period true;

@@ -4,18 +4,18 @@ use Rattle.std.proofs.lemmas.Bool.{cases_eq, cases_lt, eq-eqb, ne_eqb, lt-ltb, l
 use Rattle.std.proofs.lemmas.Option.{slice_get_past}
 use Rattle.tdf_trace.proofs.ColumnPlaces.{get_first, get_some, some_same}
 use Rattle.tdf_trace.specs.Tracked.{TrackedOf}
-use Rattle.tdf_trace.specs.Tracks.{Tracks, known_cell}
+use Rattle.tdf_trace.specs.Tracks.{IsChain, Tracks, known_cell}
 use Rattle.tdf_trace.specs.machine.Firsts.{first_cell, first_cells, known_cells}
 use Rattle.tdf_fixed.specs.declared.raw.Raw.{Raw}
 use Rattle.tdf_trace_rows.proofs.Api.{has_times, position_is, time_is}
-use Rattle.tdf_trace_rows.specs.Positions.{AreChained, Span, cell_of, end_of, is_position, place_in, position_at, time_of, total}
+use Rattle.tdf_trace_rows.specs.Positions.{Span, cell_of, end_of, is_position, place_in, position_at, time_of, total}
 use Rattle.tdf_trace_rows.specs.Stamping.{IsStamping}
 use Rattle.tdf_trace_rows.specs.declared.stamps.Stamps.{Stamps}
 
 -- a position at a time has a number below the total, and this time
-pub below_total : (spans : List Span) (time j : ℕ) → AreChained 0 spans → position_at 0 spans time ≡ Some j → (j < total spans) × (time_of spans j ≡ Some time)
+pub below_total : (spans : List Span) (time j : ℕ) → IsChain spans → position_at 0 spans time ≡ Some j → (j < total spans) × (time_of spans j ≡ Some time)
 below_total spans time j chained at =
-    let w = position_is 0 0 spans j time chained at in
+    let w = position_is chained.0 0 spans j time chained.1 at in
     let e : w.0 ≡ j = (let f : j ≡ 0 + w.0 = w.1 in omega (arith, f)) in
     let t : time_of spans j ≡ Some time = subst (λ k. time_of spans k ≡ Some time) e w.2 in (
       elim (cases_lt j (total spans)) [
@@ -33,7 +33,7 @@ next_time spans n stamps is more = let e : n ≡ n + 0 = omega arith in let f : 
     ap (time_of spans) e ∙ is.ahead 0 more ∙ ap Some f
 
 -- the next position is the one at its time
-is_next : (spans : List Span) (n : ℕ) (stamps : Stamps) → AreChained 0 spans → IsStamping spans n stamps → 0 < stamps.left → (time : ℕ)
+is_next : (spans : List Span) (n : ℕ) (stamps : Stamps) → IsChain spans → IsStamping spans n stamps → 0 < stamps.left → (time : ℕ)
     → is_position (position_at 0 spans time) n ≡ nat_eq stamps.time time
 is_next spans n stamps chained is more time = elim (cases_eq stamps.time time) [
   | inl same ↦ rw (eq-eqb stamps.time time same) (ap (λ s. is_position (position_at 0 spans s) n) (sym same) ∙ ap (λ o. is_position o n) at_next ∙ eq-eqb (0 + n) n (omega arith))
@@ -44,7 +44,7 @@ is_next spans n stamps chained is more time = elim (cases_eq stamps.time time) [
     here = next_time spans n stamps is more
 
     at_next : position_at 0 spans stamps.time ≡ Some (0 + n)
-    at_next = (time_is 0 0 spans n stamps.time chained (next_time spans n stamps is more)).1
+    at_next = (time_is chained.0 0 spans n stamps.time chained.1 (next_time spans n stamps is more)).1
 
     other : (o : Option ℕ) → position_at 0 spans time ≡ o → (stamps.time ≡ time → ⊥) → is_position o n ≡ false
     other None e apart = refl
@@ -65,7 +65,7 @@ first_more samples n (Some j) = elim (cases_eq j n) [
 ]
 
 -- the cells of one position more
-pub next_cells : (spans : List Span) (samples : List Raw) (n : ℕ) (stamps : Stamps) → AreChained 0 spans → IsStamping spans n stamps → 0 < stamps.left → (time : ℕ)
+pub next_cells : (spans : List Span) (samples : List Raw) (n : ℕ) (stamps : Stamps) → IsChain spans → IsStamping spans n stamps → 0 < stamps.left → (time : ℕ)
     → first_cells spans samples (n + 1) time ≡ (if nat_eq stamps.time time then Some (slice_get samples n) else first_cells spans samples n time)
 next_cells spans samples n stamps chained is more time =
     first_more samples n (position_at 0 spans time)
@@ -143,7 +143,7 @@ first_span spans span samples n time all = go (position_at 0 spans time) (positi
     go old new (Later k low e f) = ap (first_cell samples n) e ∙ sym (ap (first_cell samples n) f ∙ rw (le-ltb k n (omega (arith, low, all))) refl)
 
 -- where all positions below an end are among the first, their cells are those of all
-pub first_end : (spans : List Span) (samples : List Raw) (n : ℕ) (stamps : Stamps) (end time : ℕ) → AreChained 0 spans → IsStamping spans n stamps
+pub first_end : (spans : List Span) (samples : List Raw) (n : ℕ) (stamps : Stamps) (end time : ℕ) → IsChain spans → IsStamping spans n stamps
     → (0 < stamps.left → end ≤ stamps.time) → time < end → first_cells spans samples n time ≡ cell_of spans samples time
 first_end spans samples n stamps end time chained is last less = go (position_at 0 spans time) refl
   where

@@ -1,19 +1,20 @@
 -- What happens to all traced signals.
-use Rattle.std.proofs.Common.{◌≡◌, ℕ, ◌+◌, ◌<◌, ◌≤◌, Bool, true, false, nat_eq, not, ◌&&◌, if◌then◌else◌, Option, Some, None, List, [], ◌∷◌, ◌++◌, length, slice_get, slice_set, refl, ap, sym, ◌∙◌, subst, inl, inr, arith, append_assoc, append-nil}
+use Rattle.std.proofs.Common.{◌≡◌, ℕ, zero, suc, ◌+◌, ◌<◌, ◌≤◌, Bool, true, false, nat_eq, not, ◌&&◌, if◌then◌else◌, Option, Some, None, List, [], ◌∷◌, ◌++◌, length, slice_get, slice_set, refl, ap, sym, ◌∙◌, subst, inl, inr, arith, append_assoc, append-nil}
 use Rattle.std.proofs.lemmas.Bool.{cases_eq, eq-eqb, ne_eqb}
+use Rattle.std.proofs.lemmas.List.{length-map}
 use Rattle.std.proofs.lemmas.Option.{slice_get_within}
 use Rattle.tdf_trace.proofs.ColumnPlaces.{Here, There, alike, replaced, set_map, set_other, some_same}
 use Rattle.tdf_trace.proofs.Showings.{same_signal}
 use Rattle.tdf_trace.specs.Calls.{HasStarted, Holds, StandBelow, TakesPeriod, TakesSamples, with_span, with_traced}
-use Rattle.tdf_trace.specs.Tracked.{Label, TrackedOf, label, labels, samples_of, sinces, AreSince}
-use Rattle.tdf_trace.specs.Tracks.{Tracks, cells_by, known_by, known_cell}
+use Rattle.tdf_trace.specs.Tracked.{AreLater, Label, TrackedOf, label, labels, samples_of, AreSince}
+use Rattle.tdf_trace.specs.Tracks.{IsChain, Tracks, cells_by, known_by, known_cell}
 use Rattle.tdf_trace.specs.Traces.{IsTrackingOf, is_among, is_of, sample_or, with_samples}
 use Rattle.tdf_trace.specs.machine.Finding.{Finds, found}
 use Rattle.tdf_trace.specs.machine.Going.{NotesTo}
 use Rattle.tdf_trace.specs.machine.Showing.{NotesOne, OneHolds, TakesOne, TakesOnePeriod, with_signal}
 use Rattle.tdf_convert.specs.declared.outputs.Traced.{Traced}
 use Rattle.tdf_fixed.specs.declared.raw.Raw.{Raw}
-use Rattle.tdf_trace_rows.specs.Positions.{AreChained, Span, cell_of}
+use Rattle.tdf_trace_rows.specs.Positions.{Span, cell_of}
 use Rattle.tdf_trace_rows.specs.Rows.{Cells}
 use Rattle.tdf_trace.proofs.Alike.{stands_alike}
 use Rattle.tdf_trace.specs.Stands.{RowsSeen, Stands}
@@ -176,7 +177,7 @@ pub period_taken : (signal : ℕ) (span : Span) (list : List TrackedOf) (place :
 period_taken signal span list place t u before after at is same one traces cells spans samples chained h =
     holds_set traces cells spans (with_span spans signal span) samples samples list place t u before after at same
     (λ k. subst (λ xs. OneHolds xs (samples t.signal) (with_samples traces cells (known_by spans samples)) u after) (sym here)
-    (one (spans t.signal) (samples t.signal) (with_samples traces cells (known_by spans samples)) (subst (λ n. AreChained 0 (spans n ++ span ∷ [])) (sym is) chained) k))
+    (one (spans t.signal) (samples t.signal) (with_samples traces cells (known_by spans samples)) (subst (λ n. IsChain (spans n ++ span ∷ [])) (sym is) chained) k))
     (λ s apart. other s apart) (λ s apart. refl) h
   where
     here : with_span spans signal span t.signal ≡ spans t.signal ++ span ∷ []
@@ -249,22 +250,55 @@ all_noted k end list before after past notes traces cells spans samples h =
     }
 
 -- a signal with the same start, and no more positions left
-pub since_set : (upto : ℕ) (list : List TrackedOf) (place : ℕ) (t u : TrackedOf) → slice_get list place ≡ Some t → u.since ≡ t.since → u.stamps.left ≤ t.stamps.left → AreSince upto list → AreSince upto (slice_set list place u)
+pub since_set : (upto : ℕ) (list : List TrackedOf) (place : ℕ) (t u : TrackedOf) → slice_get list place ≡ Some t → t.stamps.time ≤ u.stamps.time → u.stamps.left ≤ t.stamps.left → AreSince upto list → AreSince upto (slice_set list place u)
 since_set upto list place t u at same less since i v iv more = elim (replaced list place u t i v at iv) [
   | Here here k ↦ (
       let l : v.stamps.left ≡ u.stamps.left = ap (λ (x : TrackedOf). x.stamps.left) k in
-      let s : v.since ≡ u.since = ap (λ (x : TrackedOf). x.since) k in
+      let s : v.stamps.time ≡ u.stamps.time = ap (λ (x : TrackedOf). x.stamps.time) k in
       let low = since place t at (omega (arith, more, l, less)) in omega (arith, low, s, same))
   | There apart old ↦ since i v old more
 ]
 
+-- the times of next positions don't fall
+pub later_self : (list : List TrackedOf) → AreLater list list
+later_self list place t u at to = let e : t ≡ u = some_same t u (sym at ∙ to) in
+    (let s = ap (λ (x : TrackedOf). x.stamps.time) e in omega (arith, s), let l = ap (λ (x : TrackedOf). x.stamps.left) e in omega (arith, l))
+
+pub later_set : (list : List TrackedOf) (place : ℕ) (t u : TrackedOf) → slice_get list place ≡ Some t → t.stamps.time ≤ u.stamps.time → u.stamps.left ≤ t.stamps.left → AreLater list (slice_set list place u)
+later_set list place t u at time left i x v ix iv = elim (replaced list place u t i v at iv) [
+  | Here here k ↦ (
+      let o : x ≡ t = some_same x t (sym ix ∙ ap (slice_get list) here ∙ at) in
+      let a = ap (λ (y : TrackedOf). y.stamps.time) o in let b = ap (λ (y : TrackedOf). y.stamps.left) o in
+      let s = ap (λ (y : TrackedOf). y.stamps.time) k in let l = ap (λ (y : TrackedOf). y.stamps.left) k in
+      (omega (arith, a, s, time), omega (arith, b, l, left)))
+  | There apart old ↦ later_self list i x v ix old
+]
+
+pub labels_long : (old new : List TrackedOf) → labels new ≡ labels old → length new ≡ length old
+labels_long old new same = sym (length-map new label) ∙ ap length same ∙ length-map old label
+
+item_inside : {A : Type 0} (xs : List A) (i : ℕ) → i < length xs → (x : A) × (slice_get xs i ≡ Some x)
+item_inside [] i low = absurd (omega (arith, low))
+item_inside (x ∷ xs) zero low = (x, refl)
+item_inside (x ∷ xs) (suc i) low = item_inside xs i (omega (arith, low))
+
+pub later_then : (a b c : List TrackedOf) → length c ≡ length b → AreLater a b → AreLater b c → AreLater a c
+later_then a b c long one other i x v ix iv =
+    let y = item_inside b i (let w = slice_get_within c i v iv in omega (arith, w, long)) in
+    let p = one i x y.0 ix y.1 in let q = other i y.0 v y.1 iv in
+    (let u = p.0 in let w = q.0 in omega (arith, u, w), let u = p.1 in let w = q.1 in omega (arith, u, w))
+
 -- the start of a period
-pub has_started : (signal start : ℕ) (places : List (Option ℕ)) (list : List TrackedOf) (place : ℕ) (t u : TrackedOf) → Finds places list → slice_get list place ≡ Some t → t.signal ≡ signal → label u ≡ label t → u.since ≡ start
+pub has_started : (signal start : ℕ) (places : List (Option ℕ)) (list : List TrackedOf) (place : ℕ) (t u : TrackedOf) → Finds places list → slice_get list place ≡ Some t → t.signal ≡ signal → label u ≡ label t → u.since ≡ start → start ≤ u.stamps.time
     → HasStarted signal start list (slice_set list place u)
-has_started signal start places list place t u finds at is same since = record {
+has_started signal start places list place t u finds at is same since late = record {
   labels = set_map label list place u t at same;
   here = λ j w aw e. elim (replaced list place u t j w at aw) [
     | Here where_ k ↦ ap (λ (v : TrackedOf). v.since) k ∙ since
+    | There apart old ↦ absurd (apart (one_place j w old e))
+  ];
+  from = λ j w aw e. elim (replaced list place u t j w at aw) [
+    | Here where_ k ↦ subst (λ (v : TrackedOf). start ≤ v.stamps.time) (sym k) late
     | There apart old ↦ absurd (apart (one_place j w old e))
   ];
   others = λ j w differs aw. set_other list place j u (λ e. differs (ap (λ (v : TrackedOf). v.signal) (some_same w t (sym aw ∙ ap (slice_get list) e ∙ at)) ∙ is)) ∙ aw;

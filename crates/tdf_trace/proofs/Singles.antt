@@ -7,7 +7,7 @@ use Rattle.tdf_trace.proofs.Firsts.{first_end, first_push, first_span, full, kno
 use Rattle.tdf_trace.proofs.ColumnPlaces.{drop_next, get_last}
 use Rattle.tdf_trace.proofs.Showings.{same_signal, signal_taken}
 use Rattle.tdf_trace.specs.Tracked.{TrackedOf}
-use Rattle.tdf_trace.specs.Tracks.{Tracks}
+use Rattle.tdf_trace.specs.Tracks.{IsChain, Tracks}
 use Rattle.tdf_trace.specs.machine.Firsts.{first_cells}
 use Rattle.tdf_trace.specs.machine.Showing.{ClosedTo, IsAt, IsNotedBelow, OneHolds, TakesCells, with_signal}
 use Rattle.tdf_fixed.specs.declared.raw.Raw.{Raw}
@@ -29,7 +29,7 @@ tracked_with t stamps waiting = record {
 }
 
 -- the next position gets its sample, if there is one
-pub stamped : (spans : List Span) (samples : List Raw) (n : ℕ) (stamps : Stamps) (columns : List ℕ) (cells : Cells) (before after : RowsSeen) → AreChained 0 spans → IsStamping spans n stamps → 0 < stamps.left
+pub stamped : (spans : List Span) (samples : List Raw) (n : ℕ) (stamps : Stamps) (columns : List ℕ) (cells : Cells) (before after : RowsSeen) → IsChain spans → IsStamping spans n stamps → 0 < stamps.left
     → TakesCells columns stamps.time (slice_get samples n) before after → Stands (with_signal columns cells (first_cells spans samples n)) before
     → Stands (with_signal columns cells (first_cells spans samples (n + 1))) after
 stamped spans samples n stamps columns cells before after chained is more took stands =
@@ -96,7 +96,7 @@ takes_later spans samples cells v t u rows none columns stamps waiting h =
 
 -- a period has begun: nothing changes but the stamps
 pub period_begun : (spans : List Span) (samples : List Raw) (cells : Cells) (start step count : ℕ) (t u : TrackedOf) (rows : RowsSeen) → t.stamps.left ≡ 0 → u.columns ≡ t.columns → u.waiting ≡ t.waiting
-    → u.stamps ≡ record { time = start; step = step; left = count } → AreChained 0 (spans ++ record { start = start; step = step; count = count } ∷ [])
+    → u.stamps ≡ record { time = start; step = step; left = count } → IsChain (spans ++ record { start = start; step = step; count = count } ∷ [])
     → (h : OneHolds spans samples cells t rows) → IsAt (spans ++ record { start = start; step = step; count = count } ∷ []) samples h.tracked.done cells u rows
 period_begun spans samples cells start step count t u rows none columns waiting stamps chained h =
     let k = h.tracked in
@@ -170,7 +170,7 @@ fresh_tracks t stamping none waiting = record {
   many = (let l : length t.waiting ≡ 0 = ap length waiting in omega (arith, l));
   waiting = waiting;
   idle = λ some. none;
-  chained = tt;
+  chained = (0, tt);
 }
 
 -- what doesn't see which stamps and samples these are

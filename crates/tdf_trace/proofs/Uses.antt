@@ -79,6 +79,6 @@ started_back signal start old new place t started apart at =
 
 pub started_since : (signal start upto : ℕ) (old new : List TrackedOf) → HasStarted signal start old new → upto ≤ start → AreSince upto old → AreSince upto new
 started_since signal start upto old new started low since place t at more = elim (cases_eq t.signal signal) [
-  | inl same ↦ (let e : t.since ≡ start = started.here place t at same in omega (arith, e, low))
+  | inl same ↦ (let e : start ≤ t.stamps.time = started.from place t at same in omega (arith, e, low))
   | inr apart ↦ since place t (started_back signal start old new place t started apart at) more
 ]

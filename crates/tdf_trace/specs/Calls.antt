@@ -1,13 +1,13 @@
 -- What the calls do to a tracking and to the rows of a trace.
 -- Source: own.
-use Rattle.std.specs.Prelude.{◌≡◌, ℕ, ◌<◌, false, nat_eq, if◌then◌else◌, Some, List, [], ◌∷◌, ◌++◌, length, slice_get}
+use Rattle.std.specs.Prelude.{◌≡◌, ℕ, ◌<◌, ◌≤◌, false, nat_eq, if◌then◌else◌, Some, List, [], ◌∷◌, ◌++◌, length, slice_get}
 use Rattle.tdf_trace.specs.Tracked.{TrackedOf, TrackingOf, labels, samples_of}
-use Rattle.tdf_trace.specs.Tracks.{AreTracked, cells_by, known_by}
+use Rattle.tdf_trace.specs.Tracks.{AreTracked, IsChain, cells_by, known_by}
 use Rattle.tdf_trace.specs.Traces.{IsTrackingOf, with_samples}
 use Rattle.tdf_convert.specs.declared.outputs.Traced.{Traced}
 use Rattle.tdf_fixed.specs.declared.raw.Raw.{Raw}
 use Rattle.tdf_trace_rows.specs.Laws.{Agree}
-use Rattle.tdf_trace_rows.specs.Positions.{AreChained, Span}
+use Rattle.tdf_trace_rows.specs.Positions.{Span}
 use Rattle.tdf_trace_rows.specs.Rows.{Cells}
 use Rattle.tdf_trace.specs.Stands.{RowsSeen, Stands}
 use Rattle.tdf_bind_connections.specs.declared.traces.TraceRow.{TraceRow}
@@ -42,7 +42,7 @@ abbrev pub TakesPeriod : (signal : ℕ) → Span → (old new : List TrackedOf)
     → (before after : RowsSeen) → Type 0
 TakesPeriod signal span old new before after =
     (traces : List TraceRow) (cells : Cells) (spans : ℕ → List Span) (samples : ℕ → List Raw)
-    → AreChained 0 (spans signal ++ span ∷ []) → Holds traces cells spans samples old before
+    → IsChain (spans signal ++ span ∷ []) → Holds traces cells spans samples old before
     → Holds traces cells (with_span spans signal span) samples new after
 
 -- rows that stand for cells that agree with these below an end
@@ -68,6 +68,8 @@ pub record HasStarted (signal start : ℕ) (old new : List TrackedOf) : Type 0 w
   pub labels : labels new ≡ labels old
   pub here : (place : ℕ) (t : TrackedOf) → slice_get new place ≡ Some t
       → t.signal ≡ signal → t.since ≡ start
+  pub from : (place : ℕ) (t : TrackedOf) → slice_get new place ≡ Some t
+      → t.signal ≡ signal → start ≤ t.stamps.time
   pub others : (place : ℕ) (t : TrackedOf) → (t.signal ≡ signal → ⊥)
       → slice_get old place ≡ Some t → slice_get new place ≡ Some t
 

@@ -26,11 +26,16 @@ samples_of signal [] = []
 samples_of signal (x ∷ xs) =
     if nat_eq x.signal signal then x.value ∷ samples_of signal xs else samples_of signal xs
 
--- rows that are written up to a time have none from the start of a signal's period on, where
--- positions of that are left
+-- rows that are written up to a time have none of a position without a sample
 abbrev pub AreSince : (upto : ℕ) → List TrackedOf → Type 0
 AreSince upto list = (place : ℕ) (t : TrackedOf) → slice_get list place ≡ Some t
-    → 0 < t.stamps.left → upto ≤ t.since
+    → 0 < t.stamps.left → upto ≤ t.stamps.time
+
+-- the next position of each signal has no earlier time, and no more positions are left
+abbrev pub AreLater : (old new : List TrackedOf) → Type 0
+AreLater old new = (place : ℕ) (t u : TrackedOf) → slice_get old place ≡ Some t
+    → slice_get new place ≡ Some u
+    → (t.stamps.time ≤ u.stamps.time) × (u.stamps.left ≤ t.stamps.left)
 
 -- which signal it is, and its columns
 pub record Label : Type 0 where

@@ -6,6 +6,10 @@ use Rattle.tdf_fixed.specs.declared.raw.Raw.{Raw}
 use Rattle.tdf_trace_rows.specs.Positions.{AreChained, Span, cell_of, total}
 use Rattle.tdf_trace_rows.specs.Stamping.{IsStamping}
 
+-- spans one after the other, from some time on
+abbrev pub IsChain : List Span → Type 0
+IsChain spans = (begin : ℕ) × AreChained begin spans
+
 -- so many positions have their time and their sample, and the samples after them wait for a period
 -- that gives them a time
 pub record Tracks (spans : List Span) (samples : List Raw) (t : TrackedOf) : Type 0 where
@@ -14,7 +18,7 @@ pub record Tracks (spans : List Span) (samples : List Raw) (t : TrackedOf) : Typ
   pub many : done + length t.waiting ≡ length samples
   pub waiting : t.waiting ≡ drop done samples
   pub idle : 0 < length t.waiting → t.stamps.left ≡ 0
-  pub chained : AreChained 0 spans
+  pub chained : IsChain spans
 
 -- of each signal its periods and samples
 abbrev pub AreTracked : (spans : ℕ → List Span) → (samples : ℕ → List Raw) → List TrackedOf → Type 0

@@ -80,7 +80,7 @@ impl Tracked {
     fn stamp(&mut self, trace: &mut Trace, value: Raw) -> Result<(), Memory>
         requires left { 0 < self.old.stamps.left }
         requires columns { AreColumns (length trace.old.about.variables) self.old.columns }
-        requires upto { trace.old.rows.upto ≤ self.old.since }
+        requires upto { trace.old.rows.upto ≤ self.old.stamps.time }
         requires few { value.frac ≤ 120 }
         ensures took { OnOk result (TakesCells self.old.columns self.old.stamps.time (Some value)
             trace.old.rows trace.new.rows) }
@@ -96,12 +96,13 @@ impl Tracked {
     /// A sample came: it is noted if its position has a time, else it waits.
     pub(crate) fn give(&mut self, trace: &mut Trace, value: Raw) -> Result<(), Memory>
         requires columns { AreColumns (length trace.old.about.variables) self.old.columns }
-        requires upto { 0 < self.old.stamps.left → trace.old.rows.upto ≤ self.old.since }
+        requires upto { 0 < self.old.stamps.left → trace.old.rows.upto ≤ self.old.stamps.time }
         requires few { value.frac ≤ 120 }
         ensures took { OnOk result
             (TakesOne value self.old self.new trace.old.rows trace.new.rows) }
         ensures label { label self.new ≡ label self.old }
         ensures since { self.new.since ≡ self.old.since }
+        ensures time { self.old.stamps.time ≤ self.new.stamps.time }
         ensures left { self.new.stamps.left ≤ self.old.stamps.left }
         ensures upto { trace.new.rows.upto ≡ trace.old.rows.upto }
         ensures stage { trace.new.stage ≡ trace.old.stage }
@@ -117,10 +118,11 @@ impl Tracked {
     /// Samples that wait get their times, as far as there are positions.
     fn catch_up(&mut self, trace: &mut Trace) -> Result<(), Memory>
         requires columns { AreColumns (length trace.old.about.variables) self.old.columns }
-        requires upto { trace.old.rows.upto ≤ self.old.since }
+        requires upto { trace.old.rows.upto ≤ self.old.stamps.time }
         ensures took { OnOk result (CatchesUp self.old self.new trace.old.rows trace.new.rows) }
         ensures label { label self.new ≡ label self.old }
         ensures since { self.new.since ≡ self.old.since }
+        ensures time { self.old.stamps.time ≤ self.new.stamps.time }
         ensures upto { trace.new.rows.upto ≡ trace.old.rows.upto }
         ensures stage { trace.new.stage ≡ trace.old.stage }
         ensures about { trace.new.about ≡ trace.old.about }
@@ -150,6 +152,7 @@ impl Tracked {
             trace.old.rows trace.new.rows) }
         ensures label { label self.new ≡ label self.old }
         ensures since { self.new.since ≡ start }
+        ensures time { start ≤ self.new.stamps.time }
         ensures upto { trace.new.rows.upto ≡ trace.old.rows.upto }
         ensures stage { trace.new.stage ≡ trace.old.stage }
         ensures about { trace.new.about ≡ trace.old.about }
@@ -162,7 +165,7 @@ impl Tracked {
     /// The positions below an end that have a time and no sample are noted as unknown.
     pub(crate) fn close(&self, trace: &mut Trace, end: u64) -> Result<(), Memory>
         requires columns { AreColumns (length trace.old.about.variables) self.now.columns }
-        requires upto { 0 < self.now.stamps.left → trace.old.rows.upto ≤ self.now.since }
+        requires upto { 0 < self.now.stamps.left → trace.old.rows.upto ≤ self.now.stamps.time }
         ensures noted { OnOk result (NotesOne end self.now trace.old.rows trace.new.rows) }
         ensures upto { trace.new.rows.upto ≡ trace.old.rows.upto }
         ensures stage { trace.new.stage ≡ trace.old.stage }

@@ -2,7 +2,7 @@
 ghost use Rattle.std.specs.Prelude.{◌≡◌, ◌≤◌, ◌<◌, ◌+◌, ◌*◌, ◌^◌, [], ◌∷◌, false, length, All, IfOk, OnOk};
 ghost use Rattle.tdf_base.specs.Limits.{most_traces};
 ghost use Rattle.tdf_trace.specs.Calls.{AreBelow, HasNoneLeft, HasStarted, IsFresh, NotesRest, TakesPeriod, TakesSamples};
-ghost use Rattle.tdf_trace.specs.Tracked.{AreSince, labels, sinces};
+ghost use Rattle.tdf_trace.specs.Tracked.{AreLater, AreSince, labels, sinces};
 ghost use Rattle.tdf_trace.specs.machine.Finding.{HasNone, IsPlaceOf, found};
 ghost use Rattle.tdf_trace.specs.machine.Going.{AddsTrace, IsAdding};
 ghost use Rattle.tdf_trace_rows.specs.Positions.{span_of};
@@ -157,6 +157,7 @@ impl Tracking {
         ensures width { self.new.width ≡ self.old.width }
         ensures labels { labels self.new.list ≡ labels self.old.list }
         ensures sinces { sinces self.new.list ≡ sinces self.old.list }
+        ensures later { AreLater self.old.list self.new.list }
         ensures since { AreSince trace.old.rows.upto self.new.list }
         ensures upto { trace.new.rows.upto ≡ trace.old.rows.upto }
         ensures stage { trace.new.stage ≡ trace.old.stage }
@@ -182,6 +183,7 @@ impl Tracking {
         ensures width { self.new.width ≡ self.old.width }
         ensures labels { labels self.new.list ≡ labels self.old.list }
         ensures sinces { sinces self.new.list ≡ sinces self.old.list }
+        ensures later { AreLater self.old.list self.new.list }
         ensures since { AreSince trace.old.rows.upto self.new.list }
         ensures upto { trace.new.rows.upto ≡ trace.old.rows.upto }
         ensures stage { trace.new.stage ≡ trace.old.stage }

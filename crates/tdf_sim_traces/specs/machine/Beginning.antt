@@ -6,7 +6,8 @@ use Rattle.tdf_trace.specs.Calls.{HasNoneLeft, Holds}
 use Rattle.tdf_trace.specs.Tracked.{TrackedOf, TrackingOf, labels}
 use Rattle.tdf_exec.specs.Cluster.{ClusterOf}
 use Rattle.tdf_fixed.specs.declared.raw.Raw.{Raw}
-use Rattle.tdf_trace_rows.specs.Positions.{AreChained, Span}
+use Rattle.tdf_trace.specs.Tracks.{IsChain}
+use Rattle.tdf_trace_rows.specs.Positions.{Span}
 use Rattle.tdf_trace_rows.specs.Rows.{Cells}
 use Rattle.tdf_sim_traces.specs.Periods.{ClockAt, begins, span_in}
 use Rattle.tdf_sim_traces.specs.declared.signals.TracedSignal.{TracedSignal}
@@ -46,7 +47,7 @@ abbrev pub AreNext : FlatTablesOf → ClockAt → List TracedSignal → (spans :
 AreNext tables clock signals spans =
     (j : ℕ) (t : TracedSignal) (c : ClusterOf) → slice_get signals j ≡ Some t
     → begins clock t ≡ true → slice_get clock.clusters t.cluster ≡ Some c
-    → AreChained 0 (spans t.signal ++ span_in tables clock.time c t ∷ [])
+    → IsChain (spans t.signal ++ span_in tables clock.time c t ∷ [])
 
 abbrev pub TakesBegun : FlatTablesOf → ClockAt → List TracedSignal → (k : ℕ)
     → (old new : List TrackedOf) → (before after : RowsSeen) → Type 0
@@ -62,6 +63,9 @@ pub record HaveStarted (clock : ClockAt) (signals : List TracedSignal) (k : ℕ)
   pub labels : labels new ≡ labels old
   pub here : (place : ℕ) (u : TrackedOf) → slice_get new place ≡ Some u
       → BeginsAmong clock signals k u.signal → u.since ≡ clock.time
+  -- and its next position isn't before that
+  pub from : (place : ℕ) (u : TrackedOf) → slice_get new place ≡ Some u
+      → BeginsAmong clock signals k u.signal → clock.time ≤ u.stamps.time
   pub others : (place : ℕ) (u : TrackedOf) → (BeginsAmong clock signals k u.signal → ⊥)
       → slice_get new place ≡ Some u → slice_get old place ≡ Some u
 

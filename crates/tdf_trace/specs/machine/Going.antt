@@ -2,7 +2,7 @@
 -- Source: own.
 use Rattle.std.specs.Prelude.{◌≡◌, ℕ, ◌<◌, ◌≤◌, Option, Some, List, [], ◌∷◌, ◌++◌, length, slice_get}
 use Rattle.tdf_trace.specs.Calls.{Holds, TakesSamples}
-use Rattle.tdf_trace.specs.Tracked.{AreSince, TrackedOf, TrackingOf, labels, sinces}
+use Rattle.tdf_trace.specs.Tracked.{AreLater, AreSince, TrackedOf, TrackingOf, labels, sinces}
 use Rattle.tdf_trace.specs.Tracks.{AreTracked, Tracks, cells_by, known_by}
 use Rattle.tdf_trace.specs.Traces.{IsTrackingOf, with_samples}
 use Rattle.tdf_convert.specs.declared.outputs.Traced.{Traced}
@@ -19,6 +19,7 @@ pub record IsGiving (list : List Traced) (old new : TrackingOf) (before after : 
   pub width : new.width ≡ old.width
   pub labels : labels new.list ≡ labels old.list
   pub sinces : sinces new.list ≡ sinces old.list
+  pub later : AreLater old.list new.list
   pub since : AreSince before.rows.upto new.list
   pub upto : after.rows.upto ≡ before.rows.upto
   pub stage : after.stage ≡ before.stage

@@ -2,11 +2,11 @@
 -- Source: own.
 use Rattle.std.specs.Prelude.{◌≡◌, ℕ, ◌+◌, ◌*◌, ◌^◌, ◌<◌, ◌≤◌, ◌&&◌, nat_eq, if◌then◌else◌, Option, Some, List, [], ◌∷◌, ◌++◌, drop, length, All}
 use Rattle.tdf_trace.specs.Tracked.{TrackedOf, label}
-use Rattle.tdf_trace.specs.Tracks.{Tracks}
+use Rattle.tdf_trace.specs.Tracks.{IsChain, Tracks}
 use Rattle.tdf_trace.specs.Traces.{is_among}
 use Rattle.tdf_trace.specs.machine.Firsts.{first_cells, known_cells}
 use Rattle.tdf_fixed.specs.declared.raw.Raw.{Raw}
-use Rattle.tdf_trace_rows.specs.Positions.{AreChained, Span, cell_of}
+use Rattle.tdf_trace_rows.specs.Positions.{Span, cell_of}
 use Rattle.tdf_trace_rows.specs.Rows.{Cells}
 use Rattle.tdf_trace_rows.specs.Stamping.{IsStamping}
 use Rattle.tdf_trace_rows.specs.declared.stamps.Stamps.{Stamps}
@@ -46,7 +46,7 @@ pub record IsAt (spans : List Span) (samples : List Raw) (n : ℕ) (cells : Cell
   pub stamping : IsStamping spans n t.stamps
   pub many : n + length t.waiting ≡ length samples
   pub waiting : t.waiting ≡ drop n samples
-  pub chained : AreChained 0 spans
+  pub chained : IsChain spans
   pub stands : Stands (with_signal t.columns cells (first_cells spans samples n)) rows
 
 -- what is kept of a signal stands with the rows for these periods and samples
@@ -64,7 +64,7 @@ TakesOne value old new before after = (spans : List Span) (samples : List Raw) (
 -- a period has begun
 abbrev pub TakesOnePeriod : Span → (old new : TrackedOf) → (before after : RowsSeen) → Type 0
 TakesOnePeriod span old new before after =
-    (spans : List Span) (samples : List Raw) (cells : Cells) → AreChained 0 (spans ++ span ∷ [])
+    (spans : List Span) (samples : List Raw) (cells : Cells) → IsChain (spans ++ span ∷ [])
     → OneHolds spans samples cells old before
     → OneHolds (spans ++ span ∷ []) samples cells new after
 
@@ -104,7 +104,7 @@ pub record ClosedTo (spans : List Span) (samples : List Raw) (cells : Cells) (co
   pub n : ℕ
   pub stamping : IsStamping spans n stamps
   pub past : 0 < stamps.left → length samples ≤ n
-  pub chained : AreChained 0 spans
+  pub chained : IsChain spans
   pub stands : Stands (with_signal columns cells (first_cells spans samples n)) rows
 
 abbrev pub ClosesTo : TrackedOf → Stamps → (before after : RowsSeen) → Type 0
@@ -125,6 +125,7 @@ pub record IsCatchingUp (t u : TrackedOf) (old new : TraceSeen) : Type 0 where
   pub further : GoesFurther t u old.rows new.rows
   pub label : label u ≡ label t
   pub since : u.since ≡ t.since
+  pub time : t.stamps.time ≤ u.stamps.time
   pub upto : new.rows.upto ≡ old.rows.upto
   pub stage : new.stage ≡ old.stage
   pub about : new.about ≡ old.about
@@ -132,7 +133,7 @@ pub record IsCatchingUp (t u : TrackedOf) (old new : TraceSeen) : Type 0 where
 -- positions without a sample are noted
 pub record IsClosing (t : TrackedOf) (stamps : Stamps) (old new : TraceSeen) : Type 0 where
   pub closes : ClosesTo t stamps old.rows new.rows
-  pub later : t.since ≤ stamps.time
+  pub later : t.stamps.time ≤ stamps.time
   pub fewer : stamps.left ≤ t.stamps.left
   pub small : stamps.time + stamps.left * stamps.step < 2 ^ 64
   pub upto : new.rows.upto ≡ old.rows.upto

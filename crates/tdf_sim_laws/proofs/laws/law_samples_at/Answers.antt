@@ -7,12 +7,15 @@ use Rattle.tdf_sim_refinement.proofs.Api.{done_known}
 use Rattle.tdf_sim_laws.proofs.laws.law_samples_at.Goals as goal
 
 pub returns : goal.returns
-returns c = λ model flat number h k port out time j at low is.
+returns c = λ model flat number h k s port out time j at holds low is.
     let known = done_known model flat number h k at in
-    c.law_samples_there.ensures model flat number h port out time j (record {
-      whole = at.whole;
-      counts = known.counts;
-      ahead = subst (λ (a : List Change). All HasToldCounts a) (sym at.none_ahead) (All-nil HasToldCounts);
+    c.law_samples_there.ensures model flat number h s port out time j (record {
+      records = at.records;
+      plan = record {
+        counts = known.counts;
+        whole = at.counts;
+        ahead = subst (λ (a : List Change). All HasToldCounts a) (sym at.none_ahead) (All-nil HasToldCounts);
+      };
       place = known.within;
       known = known.values;
-    }) low is
+    }) holds low is

@@ -8,6 +8,7 @@ use Rattle.tdf_sim_runs.proofs.running.Running.step.Goals as goal
 use Rattle.tdf_sim_runs.specs.declared.running.Running.{Running}
 use Rattle.tdf_sim_traces.specs.Calls.{CanTake, ShowsInstant}
 use Rattle.tdf_sim_traces.specs.Periods.{clock_at}
+use Rattle.tdf_trace.specs.Tracked.{AreSince}
 
 pub show-requires-clause-going : goal.show-requires-clause-going
 show-requires-clause-going c = (c.in_ok-ended.ensures.engine (ap Ok c.in-Done.is)).kernel.going
@@ -23,7 +24,7 @@ returns-clause-can c = λ same.
     step_can c.law_instant.ensures.along c.law_advancing.ensures c.args.flat.now c.args.self.now c.requires.can c.requires.due c.instant.new.self.engine c.instant.new.self.left
     (c.in_ok-ended.ensures.engine (ap Ok c.in-Done.is)) (c.in_ok-ended.ensures.had (ap Ok c.in-Done.is))
     c.show.new.shown c.instant.new.self.news.items (subst (λ (z : Running). ShowsInstant c.args.flat.now (clock_at z.from c.instant.new.self.engine.since.items c.instant.new.self.engine.clusters.items) c.instant.new.self.engine.outputs.traced c.instant.new.self.engine.kernel.values z.shown c.show.new.shown) c.instant.ensures.rest c.in_ok-show.ensures.shown)
-    (c.show.ensures.upto ∙ ap (λ (z : Running). z.shown.trace.rows.upto) c.instant.ensures.rest) (c.show.ensures.about ∙ ap (λ (z : Running). z.shown.trace.about) c.instant.ensures.rest)
+    (c.show.ensures.upto ∙ ap (λ (z : Running). z.shown.trace.rows.upto) c.instant.ensures.rest) (subst (λ n. AreSince n c.show.new.shown.tracking.list) (sym c.show.ensures.upto) c.in_ok-show.ensures.since) (c.show.ensures.about ∙ ap (λ (z : Running). z.shown.trace.about) c.instant.ensures.rest)
     (record c.instant.new.self { engine = c.clear_traced.new.self; shown = c.show.new.shown; from = c.instant.new.self.from + 1 })
     (λ i. record { engine = c.clear_traced.ensures.rest i; shown = c.show.new.shown; from = (ap (λ (z : Running). z.from + 1) c.instant.ensures.rest) i; left = c.instant.new.self.left; news = c.instant.new.self.news })
     c.in_ok-ended.ensures.news
@@ -34,7 +35,7 @@ pub returns-clause-goes : goal.returns-clause-goes
 returns-clause-goes c = λ same taken. step_goes c.law_instant.ensures.along c.law_advancing.ensures c.args.flat.now c.args.self.now c.requires.can c.requires.due c.instant.new.self.engine c.instant.new.self.left
     (c.in_ok-ended.ensures.engine (ap Ok c.in-Done.is)) (c.in_ok-ended.ensures.had (ap Ok c.in-Done.is))
     c.show.new.shown c.instant.new.self.news.items (subst (λ (z : Running). ShowsInstant c.args.flat.now (clock_at z.from c.instant.new.self.engine.since.items c.instant.new.self.engine.clusters.items) c.instant.new.self.engine.outputs.traced c.instant.new.self.engine.kernel.values z.shown c.show.new.shown) c.instant.ensures.rest c.in_ok-show.ensures.shown)
-    (c.show.ensures.upto ∙ ap (λ (z : Running). z.shown.trace.rows.upto) c.instant.ensures.rest) (c.show.ensures.about ∙ ap (λ (z : Running). z.shown.trace.about) c.instant.ensures.rest)
+    (c.show.ensures.upto ∙ ap (λ (z : Running). z.shown.trace.rows.upto) c.instant.ensures.rest) (subst (λ n. AreSince n c.show.new.shown.tracking.list) (sym c.show.ensures.upto) c.in_ok-show.ensures.since) (c.show.ensures.about ∙ ap (λ (z : Running). z.shown.trace.about) c.instant.ensures.rest)
     (record c.instant.new.self { engine = c.clear_traced.new.self; shown = c.show.new.shown; from = c.instant.new.self.from + 1 })
     (λ i. record { engine = c.clear_traced.ensures.rest i; shown = c.show.new.shown; from = (ap (λ (z : Running). z.from + 1) c.instant.ensures.rest) i; left = c.instant.new.self.left; news = c.instant.new.self.news })
     c.in_ok-ended.ensures.news taken

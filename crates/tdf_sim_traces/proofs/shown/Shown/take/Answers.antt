@@ -20,5 +20,5 @@ returns-clause-shown c =
     IfOk-weaker c.show_all.result _ _
     (λ u showed. shows_instant c.args.flat.now clock c.args.traced.now c.args.values.now c.args.self.now new c.begin_later.new.tracking c.give.new.self c.begin_later.new.trace c.give.new.trace c.show_all.new.trace c.requires
     (subst (λ (l : List TracedSignal). HasBegun c.args.flat.now.tables clock l c.args.self.now.tracking c.begin_later.new.tracking c.args.self.now.trace c.begin_later.new.trace) one c.in_ok-begin_later.ensures.began)
-    c.in_ok-give.ensures.took c.give.ensures.labels c.give.ensures.sinces c.give.ensures.width c.give.ensures.about showed refl refl refl)
+    c.in_ok-give.ensures.took c.give.ensures.labels c.give.ensures.sinces c.give.ensures.later c.give.ensures.width c.give.ensures.about showed refl refl refl)
     c.show_all.ensures.showed

@@ -34,6 +34,7 @@ loop-self-preserved c = record {
             (subst (λ (v : TrackedOf). IsAt spans samples f.n cells v c.loop-self.trace.rows) (sym c.self.view_is) f.at);
       };
   label = ap label c.stamp.ensures.on ∙ ap label c.self.view_is ∙ c.loop-self.invariant.label;
+  time = (let a = ap (λ (v : TrackedOf). v.stamps.time) c.stamp.ensures.on in let b = ap (λ (v : TrackedOf). v.stamps.time) c.self.view_is in let d = c.loop-self.invariant.time in omega (arith, a, b, d));
   since = ap (λ (v : TrackedOf). v.since) c.stamp.ensures.on ∙ ap (λ (v : TrackedOf). v.since) c.self.view_is ∙ c.loop-self.invariant.since;
   upto = c.stamp.ensures.upto ∙ c.loop-self.invariant.upto;
   stage = c.stamp.ensures.stage ∙ c.loop-self.invariant.stage;

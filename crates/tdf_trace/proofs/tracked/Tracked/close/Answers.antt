@@ -9,7 +9,7 @@ pub loop-stamps-init : goal.loop-stamps-init
 loop-stamps-init c = record {
   closes = λ spans samples cells h. subst (λ (s : Stamps). ClosedTo spans samples cells c.args.self.now.columns s c.args.trace.now.rows)
       (sym (ap (λ (v : TrackedOf). v.stamps) c.self.view_is)) (closing spans samples cells c.args.self.now c.args.trace.now.rows h);
-  later = subst (λ (v : TrackedOf). v.since ≤ c.self.inside.stamps.time) c.self.view_is c.self.invariant.later;
+  later = (let e = ap (λ (v : TrackedOf). v.stamps.time) c.self.view_is in omega (arith, e));
   fewer = (let e = ap (λ (v : TrackedOf). v.stamps.left) c.self.view_is in omega (arith, e));
   small = c.self.invariant.small;
   upto = refl;
@@ -24,8 +24,8 @@ loop-stamps-preserved c = record {
       (subst (λ (v : TrackedOf). TakesCells v.columns c.loop-stamps.stamps.time None c.loop-stamps.trace.rows c.note_all.new.trace.rows) c.self.view_is
       (subst (λ n. TakesCells c.self.inside.columns.items n None c.loop-stamps.trace.rows c.note_all.new.trace.rows) c.next-time.ensures.result c.in_ok-note_all.ensures.took))
       (c.loop-stamps.invariant.closes spans samples cells h));
-  later = subst (λ (s : Stamps). c.args.self.now.since ≤ s.time) (sym c.next-time.ensures.next)
-      (let l : c.args.self.now.since ≤ c.loop-stamps.stamps.time = c.loop-stamps.invariant.later in omega (arith, l));
+  later = subst (λ (s : Stamps). c.args.self.now.stamps.time ≤ s.time) (sym c.next-time.ensures.next)
+      (let l : c.args.self.now.stamps.time ≤ c.loop-stamps.stamps.time = c.loop-stamps.invariant.later in omega (arith, l));
   fewer = subst (λ (s : Stamps). s.left ≤ c.args.self.now.stamps.left) (sym c.next-time.ensures.next)
       (let f : c.loop-stamps.stamps.left ≤ c.args.self.now.stamps.left = c.loop-stamps.invariant.fewer in omega (arith, f));
   small = subst (λ (s : Stamps). s.time + s.left * s.step < 2 ^ 64) (sym c.next-time.ensures.next)
@@ -48,8 +48,8 @@ pub note_all-requires-clause-time : goal.note_all-requires-clause-time
 note_all-requires-clause-time c =
     let f : c.loop-stamps.stamps.left ≤ c.args.self.now.stamps.left = c.loop-stamps.invariant.fewer in
     let t : 0 < c.loop-stamps.stamps.left = c.loop-stamps-test.true in
-    let u : c.args.trace.now.rows.upto ≤ c.args.self.now.since = c.requires.upto (omega (arith, f, t)) in
-    let l : c.args.self.now.since ≤ c.loop-stamps.stamps.time = c.loop-stamps.invariant.later in
+    let u : c.args.trace.now.rows.upto ≤ c.args.self.now.stamps.time = c.requires.upto (omega (arith, f, t)) in
+    let l : c.args.self.now.stamps.time ≤ c.loop-stamps.stamps.time = c.loop-stamps.invariant.later in
     let e : c.next-time.result ≡ c.loop-stamps.stamps.time = c.next-time.ensures.result in
     let k : c.loop-stamps.trace.rows.upto ≡ c.args.trace.now.rows.upto = c.loop-stamps.invariant.upto in
     omega (arith, u, l, e, k)

@@ -49,4 +49,4 @@ returns-in-Some-clause-started c =
     let e : c.index_mut.result.now ≡ w.it = some_same c.index_mut.result.now w.it (sym here ∙ w.there) in
     subst (λ (v : TrackingOf). HasStarted c.args.signal c.args.start v.list (slice_set c.self.inside.list.items c.in-Some.place c.begin.new.self)) c.self.view_is
     (has_started c.args.signal c.args.start c.self.inside.places.items c.self.inside.list.items c.in-Some.place c.index_mut.result.now c.begin.new.self c.self.invariant.finds here
-    (ap (λ (v : TrackedOf). v.signal) e ∙ w.same) c.begin.ensures.label c.begin.ensures.since)
+    (ap (λ (v : TrackedOf). v.signal) e ∙ w.same) c.begin.ensures.label c.begin.ensures.since c.begin.ensures.time)

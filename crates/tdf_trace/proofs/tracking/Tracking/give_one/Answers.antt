@@ -2,11 +2,11 @@ use Rattle.std.proofs.Common.{◌≡◌, ◌<◌, length, Some, [], ◌∷◌, s
 use Rattle.std.proofs.lemmas.Option.{slice_get_read, slice_get_within}
 use Rattle.std.proofs.lemmas.Result.{IfOk-weaker}
 use Rattle.tdf_trace.proofs.Findings.{columns_set, finds_set}
-use Rattle.tdf_trace.proofs.Manies.{label_of, sample_passed, sample_taken, since_set}
+use Rattle.tdf_trace.proofs.Manies.{label_of, sample_passed, later_self, later_set, sample_taken, since_set}
 use Rattle.tdf_trace.proofs.ColumnPlaces.{set_map, some_same}
 use Rattle.tdf_trace.proofs.tracking.Tracking.give_one.Goals as goal
 use Rattle.tdf_trace.specs.Calls.{TakesSamples}
-use Rattle.tdf_trace.specs.Tracked.{AreSince, TrackedOf, TrackingOf, label, labels, sinces}
+use Rattle.tdf_trace.specs.Tracked.{AreLater, AreSince, TrackedOf, TrackingOf, label, labels, sinces}
 use Rattle.tdf_trace.specs.machine.Finding.{StandsAt}
 use Rattle.tdf_trace.specs.machine.Showing.{AreColumns}
 
@@ -61,5 +61,17 @@ returns-in-Some-clause-since c =
     subst (λ (v : TrackingOf). StandsAt v.list c.args.sample.signal c.in-Some.place) (sym c.self.view_is) c.in-Some.ensures in
     let less : c.in-Some.place < length c.self.inside.list.items = slice_get_within c.self.inside.list.items c.in-Some.place w.it w.there in
     let here : slice_get c.self.inside.list.items c.in-Some.place ≡ Some c.index_mut.result.now = slice_get_read c.self.inside.list.items (length c.self.inside.list.items) c.in-Some.place c.index_mut.result.now refl less (search rules) in
-    since_set c.args.trace.now.rows.upto c.self.inside.list.items c.in-Some.place c.index_mut.result.now c.give.new.self here c.give.ensures.since c.give.ensures.left
+    since_set c.args.trace.now.rows.upto c.self.inside.list.items c.in-Some.place c.index_mut.result.now c.give.new.self here c.give.ensures.time c.give.ensures.left
     (subst (λ (v : TrackingOf). AreSince c.args.trace.now.rows.upto v.list) (sym c.self.view_is) c.requires.since)
+
+pub returns-in-None-clause-later : goal.returns-in-None-clause-later
+returns-in-None-clause-later c = later_self c.args.self.now.list
+
+pub returns-in-Some-clause-later : goal.returns-in-Some-clause-later
+returns-in-Some-clause-later c =
+    let w : StandsAt c.self.inside.list.items c.args.sample.signal c.in-Some.place =
+    subst (λ (v : TrackingOf). StandsAt v.list c.args.sample.signal c.in-Some.place) (sym c.self.view_is) c.in-Some.ensures in
+    let less : c.in-Some.place < length c.self.inside.list.items = slice_get_within c.self.inside.list.items c.in-Some.place w.it w.there in
+    let here : slice_get c.self.inside.list.items c.in-Some.place ≡ Some c.index_mut.result.now = slice_get_read c.self.inside.list.items (length c.self.inside.list.items) c.in-Some.place c.index_mut.result.now refl less (search rules) in
+    subst (λ (v : TrackingOf). AreLater v.list (slice_set c.self.inside.list.items c.in-Some.place c.give.new.self)) c.self.view_is
+    (later_set c.self.inside.list.items c.in-Some.place c.index_mut.result.now c.give.new.self here c.give.ensures.time c.give.ensures.left)
