@@ -4,7 +4,7 @@ use Rattle.std.proofs.lemmas.Bool.{cases_lt, le-ltb, lt-ltb}
 use Rattle.std.proofs.lemmas.List.FromFn.{length-map-range_with_len}
 use Rattle.std.proofs.lemmas.Option.{get_or_from_slice_get, slice_get-map}
 use Rattle.std.specs.List.{range_with_len}
-use Rattle.std.specs.Prelude.{slice_index_or}
+use Rattle.std.specs.Prelude.{slice_index, slice_index_or}
 use Rattle.tdf_bind_connections.specs.declared.drivers.SignalRow.{SignalRow}
 use Rattle.tdf_fixed.specs.declared.raw.Raw.{Raw}
 use Rattle.tdf_sim_history.specs.Cells.{driver_of_row, outputs_done, spans_from}
@@ -14,7 +14,7 @@ use Rattle.tdf_sim_history.specs.Start.{starting_value, text_column}
 use Rattle.tdf_sim_laws.specs.Columns.{TextColumns}
 use Rattle.tdf_streams.proofs.Api.{get_made_at}
 use Rattle.tdf_streams.specs.Cluster.{driver_samples, initial_sample, initial_samples, zero_sample}
-use Rattle.tdf_streams.specs.Signals.{port_output, positions, step_in}
+use Rattle.tdf_streams.specs.Signals.{outputs_in, port_output, positions, rate_in, step_in}
 use Rattle.tdf_trace_rows.specs.Positions.{span_of}
 
 starts_at : (rows : List SignalRow) (k : ℕ) → starting_value (slice_get rows k) ≡ slice_index_or (map (λ (r : SignalRow). r.start) rows) k zero_sample
@@ -30,6 +30,9 @@ text_columns_are = record {
       let c : positions port p - 0 ≡ positions port p = omega arith in
       ap (λ t. span_of t (step_in port p) (positions port p - 0) ∷ spans_from port (0 + p.info.period) ps) z
       ∙ ap (λ n. span_of 0 (step_in port p) n ∷ spans_from port (0 + p.info.period) ps) c);
+  holds = λ tables row port p ps same. (
+      let e : outputs_in port p ≡ positions port p = ap (λ c. slice_index c port.«module» * rate_in port p) same in
+      (omega arith, omega (arith, e)));
   samples = λ tables row port periods number j past driver at. (
       let e : driver_samples tables (driver_of_row (slice_get tables.signals row.signal)) ≡ map (initial_sample tables port) (range_with_len 0 port.delay)
       = ap (driver_samples tables) driver ∙ ap (initial_samples tables) at in

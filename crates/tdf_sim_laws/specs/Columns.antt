@@ -14,6 +14,7 @@ use Rattle.tdf_sim_history.specs.Columns.{start_of}
 use Rattle.tdf_sim_history.specs.Rules.{rules_of, start_world}
 use Rattle.tdf_sim_history.specs.Start.{text_column}
 use Rattle.tdf_sim_history.specs.World.{Change, ClusterAt}
+use Rattle.tdf_sim_history.specs.WorldLaws.{HoldsFirst}
 use Rattle.tdf_streams.specs.Net.{Past}
 use Rattle.tdf_streams.specs.Periods.{PeriodRecord}
 use Rattle.tdf_streams.specs.Signals.{signal_sample}
@@ -22,6 +23,9 @@ pub record TextColumns : Type 0 where
   pub spans : (tables : FlatTablesOf) (row : TraceRow) (port : PortRow) (p : PeriodRecord)
       → (ps : List PeriodRecord) → column_spans port (text_column tables row) 0 (p ∷ ps)
       ≡ spans_from port 0 (p ∷ ps)
+  pub holds : (tables : FlatTablesOf) (row : TraceRow) (port : PortRow) (p : PeriodRecord)
+      → (ps : List PeriodRecord) → p.counts ≡ p.info.counts
+      → HoldsFirst (text_column tables row) port (p ∷ ps)
   pub samples : (tables : FlatTablesOf) (row : TraceRow) (port : PortRow)
       → (periods : List PeriodRecord) (number j : ℕ) (past : Past (List ℤ) Raw)
       → driver_of_row (slice_get tables.signals row.signal) ≡ Some number
