@@ -7,7 +7,7 @@ use Rattle.std.specs.Global.{Global}
 use Rattle.std.specs.Prelude.{All, Contains, Result, Ok, Err, Vec, IsOk, IfOk}
 use Rattle.tdf_balance.proofs.Steps.{none_bad}
 use Rattle.tdf_balance.proofs.Whole.{edges_same, edges_more, counts_are, one_edge, rates_or_size, rates_or_counts, size_or_counts}
-use Rattle.tdf_balance.specs.Balance.{edges_of, edges_to, IsBad, IsNoneBad, IsRatesFault, IsSizeFault, at_edge, in_all, HasCounts}
+use Rattle.tdf_balance.specs.Balance.{cluster_edges, edges_to, IsBad, IsNoneBad, IsRatesFault, IsSizeFault, at_edge, in_all, HasCounts}
 use Rattle.tdf_balance.specs.declared.err.BalanceErr.{BalanceErr}
 use Rattle.tdf_balance.specs.declared.err.BalanceErr.TheVariants.{Rates, TooLarge, Memory}
 use Rattle.tdf_balance.specs.declared.solution.Solution.{Solution}
@@ -20,11 +20,11 @@ use Rattle.tdf_graph.specs.declared.actors.Edge.{Edge}
 -- an edge of the cluster is added, another one is passed over
 module _ (count : ℕ) (edges : List Edge) (clusters : List ℕ) (cluster k : ℕ) (d : Edge) (here : k < length edges) where
   pub passed : (s : Solution) → (get_or clusters (get_or edges k d).writer 0 ≡ cluster → ⊥)
-      → AreLeast count (edges_of clusters cluster (take k edges)) s.parts s.counts.items → AreLeast count (edges_to clusters cluster edges k) s.parts s.counts.items
+      → AreLeast count (cluster_edges clusters cluster (take k edges)) s.parts s.counts.items → AreLeast count (edges_to clusters cluster edges k) s.parts s.counts.items
   passed s not are = subst (λ es. AreLeast count es s.parts s.counts.items) (sym (edges_same edges clusters cluster k d here (ne_eqb _ _ not))) are
 
   pub added : (r : Result Solution BalanceErr) → get_or clusters (get_or edges k d).writer 0 ≡ cluster
-      → IsNext count k (edges_of clusters cluster (take k edges) ++ get_or edges k d ∷ []) r → IsNext count k (edges_to clusters cluster edges k) r
+      → IsNext count k (cluster_edges clusters cluster (take k edges) ++ get_or edges k d ∷ []) r → IsNext count k (edges_to clusters cluster edges k) r
   added r is next = subst (λ es. IsNext count k es r) (sym (edges_more edges clusters cluster k d here (eq-eqb _ _ is))) next
 
 module _ (count : ℕ) (edges : List Edge) (clusters : List ℕ) (cluster : ℕ) where
@@ -43,9 +43,9 @@ module _ (count : ℕ) (edges : List Edge) (clusters : List ℕ) (cluster : ℕ)
   fault_at k TooLarge here fine next = at_edge k (record { within = here; bad = inr next; before = fine }) next
   fault_at k Memory here fine next = tt
 
-  pub solved_all : (labels counts : List ℕ) → AreFine edges clusters cluster (length edges) → AreLeast count (edges_of clusters cluster (take (length edges) edges)) labels counts
-      → IsNoneBad edges clusters cluster × AreLeast count (edges_of clusters cluster edges) labels counts
-  solved_all labels counts fine are = (fine, subst (λ es. AreLeast count (edges_of clusters cluster es) labels counts) (take_all (length edges) edges (omega arith)) are)
+  pub solved_all : (labels counts : List ℕ) → AreFine edges clusters cluster (length edges) → AreLeast count (cluster_edges clusters cluster (take (length edges) edges)) labels counts
+      → IsNoneBad edges clusters cluster × AreLeast count (cluster_edges clusters cluster edges) labels counts
+  solved_all labels counts fine are = (fine, subst (λ es. AreLeast count (cluster_edges clusters cluster es) labels counts) (take_all (length edges) edges (omega arith)) are)
 
   pub answered : (s : Solution) (r : Result (Vec ℕ Global) BalanceErr) → All (IsEdge count) edges → AreClusters count edges clusters → Contains clusters cluster
       → IsSolved count edges clusters cluster (Ok s) → IsFinished clusters cluster s.counts.items r → IsAnswer edges clusters cluster r

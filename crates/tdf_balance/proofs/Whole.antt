@@ -8,7 +8,7 @@ use Rattle.std.specs.Int.{◌∣◌}
 use Rattle.std.specs.List.{filter}
 use Rattle.std.specs.Prelude.{All, Contains, sum}
 use Rattle.tdf_balance.proofs.Solutions.{same_least}
-use Rattle.tdf_balance.specs.Balance.{edges_of, edges_to, IsFirstBad, IsRatesFault, IsSizeFault, at_edge, in_all, HasCounts}
+use Rattle.tdf_balance.specs.Balance.{cluster_edges, edges_to, IsFirstBad, IsRatesFault, IsSizeFault, at_edge, in_all, HasCounts}
 use Rattle.tdf_balance.proofs.Steps.{joined_within}
 use Rattle.tdf_balance.specs.Laws.{AnswersExclude}
 use Rattle.tdf_balance.specs.views.Solution.{AreLeast, IsKept, count_at}
@@ -49,7 +49,7 @@ filter_from p xs y found = (
 
 module _ (count : ℕ) (edges : List Edge) (clusters : List ℕ) (cluster : ℕ) (fit : All (IsEdge count) edges) (are : AreClusters count edges clusters) where
   abbrev own : List Edge
-  own = edges_of clusters cluster edges
+  own = cluster_edges clusters cluster edges
 
   ends : (e : Edge) → Contains edges e → get_or clusters e.writer 0 ≡ get_or clusters e.reader 0
   ends e is = let here = All-contains (IsEdge count) edges e fit is in are.joined e.writer e.reader here.writer here.reader (goes e is (stays e.reader))
@@ -207,11 +207,11 @@ exclude = record {
 
 -- the edges of a cluster up to one more
 module _ (edges : List Edge) (clusters : List ℕ) (cluster k : ℕ) (d : Edge) (here : k < length edges) where
-  pub edges_same : nat_eq (get_or clusters (get_or edges k d).writer 0) cluster ≡ false → edges_to clusters cluster edges k ≡ edges_of clusters cluster (take k edges)
+  pub edges_same : nat_eq (get_or clusters (get_or edges k d).writer 0) cluster ≡ false → edges_to clusters cluster edges k ≡ cluster_edges clusters cluster (take k edges)
   edges_same not = filter_more (λ (x : Edge). nat_eq (get_or clusters x.writer 0) cluster) edges k d here
-      ∙ ap (λ b. edges_of clusters cluster (take k edges) ++ cond b (get_or edges k d ∷ []) []) not ∙ append-nil (edges_of clusters cluster (take k edges))
+      ∙ ap (λ b. cluster_edges clusters cluster (take k edges) ++ cond b (get_or edges k d ∷ []) []) not ∙ append-nil (cluster_edges clusters cluster (take k edges))
 
   pub edges_more : nat_eq (get_or clusters (get_or edges k d).writer 0) cluster ≡ true
-      → edges_to clusters cluster edges k ≡ edges_of clusters cluster (take k edges) ++ get_or edges k d ∷ []
+      → edges_to clusters cluster edges k ≡ cluster_edges clusters cluster (take k edges) ++ get_or edges k d ∷ []
   edges_more is = filter_more (λ (x : Edge). nat_eq (get_or clusters x.writer 0) cluster) edges k d here
-      ∙ ap (λ b. edges_of clusters cluster (take k edges) ++ cond b (get_or edges k d ∷ []) []) is
+      ∙ ap (λ b. cluster_edges clusters cluster (take k edges) ++ cond b (get_or edges k d ∷ []) []) is

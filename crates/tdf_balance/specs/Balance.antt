@@ -7,12 +7,13 @@ use Rattle.tdf_graph.specs.Counts.{Solves, IsLeast, AreCounts}
 use Rattle.tdf_graph.specs.declared.actors.Edge.{Edge}
 
 -- the edges of a cluster, in order
-abbrev pub edges_of : (clusters : List ℕ) (cluster : ℕ) → List Edge → List Edge
-edges_of clusters cluster edges = filter (λ e. nat_eq (slice_index clusters e.writer) cluster) edges
+abbrev pub cluster_edges : (clusters : List ℕ) (cluster : ℕ) → List Edge → List Edge
+cluster_edges clusters cluster edges =
+    filter (λ e. nat_eq (slice_index clusters e.writer) cluster) edges
 
 -- those up to edge k
 abbrev pub edges_to : (clusters : List ℕ) (cluster : ℕ) → List Edge → ℕ → List Edge
-edges_to clusters cluster edges k = edges_of clusters cluster (take (k + 1) edges)
+edges_to clusters cluster edges k = cluster_edges clusters cluster (take (k + 1) edges)
 
 -- no positive numbers meet the balance equations of these edges
 abbrev pub IsUnsolvable : List Edge → Type 0

@@ -1,7 +1,7 @@
 //! The counts of one cluster.
 
 ghost use Rattle.std.specs.Prelude.{◌≡◌, ◌<◌, ◌≤◌, ◌^◌, ◌⊎◌, ℕ, List, All, Contains, Err, length, vec_len, sum, take, IfOk, IsOk};
-ghost use Rattle.tdf_balance.specs.Balance.{edges_of, edges_to, HasCounts, IsRatesFault, IsSizeFault};
+ghost use Rattle.tdf_balance.specs.Balance.{cluster_edges, edges_to, HasCounts, IsRatesFault, IsSizeFault};
 ghost use Rattle.tdf_balance.specs.declared.err.BalanceErr.TheVariants.{Rates, TooLarge, Memory};
 ghost use Rattle.tdf_balance.specs.views.Results.{IsNext, IsSolved, IsFinished, IsAnswer};
 ghost use Rattle.tdf_balance.specs.views.Solution.{AreLeast, AreFine, IsKept};
@@ -27,7 +27,7 @@ fn step(
     requires fit { All (IsEdge (length solution.parts)) edges.now }
     requires long { length clusters.now ≡ length solution.parts }
     requires within { k < length edges.now }
-    requires least { AreLeast (length solution.parts) (edges_of clusters.now cluster (take k edges.now)) solution.parts solution.counts.items }
+    requires least { AreLeast (length solution.parts) (cluster_edges clusters.now cluster (take k edges.now)) solution.parts solution.counts.items }
     ensures { IsNext (length solution.parts) k (edges_to clusters.now cluster edges.now k) result }
 {
     let edge = &edges[k as usize];

@@ -44,26 +44,26 @@ word_of Range = codes "RANGE"
 word_of Rejected = codes "REJECTED"
 
 -- a word and what it names, as ` line 3`
-abbrev pub line_text : ℕ → List ℕ
-line_text line = codes " line " ++ decimal line
+abbrev pub at_line_text : ℕ → List ℕ
+at_line_text line = codes " line " ++ decimal line
 
-abbrev pub port_text : List ℕ → List ℕ
-port_text port = codes " port " ++ port
+abbrev pub at_port_text : List ℕ → List ℕ
+at_port_text port = codes " port " ++ port
 
-abbrev pub path_text : List ℕ → List ℕ
-path_text path = codes " path " ++ path
+abbrev pub at_path_text : List ℕ → List ℕ
+at_path_text path = codes " path " ++ path
 
-abbrev pub index_text : ℕ → List ℕ
-index_text index = codes " index " ++ decimal index
+abbrev pub at_index_text : ℕ → List ℕ
+at_index_text index = codes " index " ++ decimal index
 
 -- the place of a fault with a space in front; nothing where it has none
 unfoldable pub place_text : Place → List ℕ
 place_text Nowhere = []
-place_text (Line line) = line_text line
-place_text (LinePort line port) = line_text line ++ port_text port
-place_text (At path) = path_text path
-place_text (Both first second) = path_text first ++ path_text second
-place_text (AtIndex path index) = path_text path ++ index_text index
+place_text (Line line) = at_line_text line
+place_text (LinePort line port) = at_line_text line ++ at_port_text port
+place_text (At path) = at_path_text path
+place_text (Both first second) = at_path_text first ++ at_path_text second
+place_text (AtIndex path index) = at_path_text path ++ at_index_text index
 
 -- `CODE PLACE`
 unfoldable pub fault_text : Fault → List ℕ

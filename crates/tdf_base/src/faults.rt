@@ -1,7 +1,7 @@
 //! A fault of a model: what is wrong, where it is, and how it is printed.
 
 ghost use Rattle.std.specs.Prelude.{◌≡◌, ◌++◌, take, length, IfOk, OnOk, OnErr};
-ghost use Rattle.tdf_base.specs.Fault.{fault_text, place_text, line_text, port_text, path_text, index_text};
+ghost use Rattle.tdf_base.specs.Fault.{fault_text, place_text, at_line_text, at_port_text, at_path_text, at_index_text};
 
 use crate::codes::Code;
 use crate::memory::Memory;
@@ -76,7 +76,7 @@ pub struct Fault {
 }
 
 fn push_line(out: &mut Vec<u8>, line: u32) -> Result<(), Memory>
-    ensures ok { OnOk result (out.new.items ≡ out.old.items ++ line_text line) }
+    ensures ok { OnOk result (out.new.items ≡ out.old.items ++ at_line_text line) }
     ensures kept { take (length out.old.items) out.new.items ≡ out.old.items }
 {
     push_word(out, b" line ")?;
@@ -84,7 +84,7 @@ fn push_line(out: &mut Vec<u8>, line: u32) -> Result<(), Memory>
 }
 
 fn push_port(out: &mut Vec<u8>, port: &Path) -> Result<(), Memory>
-    ensures ok { OnOk result (out.new.items ≡ out.old.items ++ port_text port.now) }
+    ensures ok { OnOk result (out.new.items ≡ out.old.items ++ at_port_text port.now) }
     ensures kept { take (length out.old.items) out.new.items ≡ out.old.items }
 {
     push_word(out, b" port ")?;
@@ -92,7 +92,7 @@ fn push_port(out: &mut Vec<u8>, port: &Path) -> Result<(), Memory>
 }
 
 fn push_path(out: &mut Vec<u8>, path: &Path) -> Result<(), Memory>
-    ensures ok { OnOk result (out.new.items ≡ out.old.items ++ path_text path.now) }
+    ensures ok { OnOk result (out.new.items ≡ out.old.items ++ at_path_text path.now) }
     ensures kept { take (length out.old.items) out.new.items ≡ out.old.items }
 {
     push_word(out, b" path ")?;
@@ -100,7 +100,7 @@ fn push_path(out: &mut Vec<u8>, path: &Path) -> Result<(), Memory>
 }
 
 fn push_index(out: &mut Vec<u8>, index: u64) -> Result<(), Memory>
-    ensures ok { OnOk result (out.new.items ≡ out.old.items ++ index_text index) }
+    ensures ok { OnOk result (out.new.items ≡ out.old.items ++ at_index_text index) }
     ensures kept { take (length out.old.items) out.new.items ≡ out.old.items }
 {
     push_word(out, b" index ")?;
@@ -108,7 +108,7 @@ fn push_index(out: &mut Vec<u8>, index: u64) -> Result<(), Memory>
 }
 
 fn push_line_port(out: &mut Vec<u8>, line: u32, port: &Path) -> Result<(), Memory>
-    ensures ok { OnOk result (out.new.items ≡ out.old.items ++ (line_text line ++ port_text port.now)) }
+    ensures ok { OnOk result (out.new.items ≡ out.old.items ++ (at_line_text line ++ at_port_text port.now)) }
     ensures kept { take (length out.old.items) out.new.items ≡ out.old.items }
 {
     push_line(out, line)?;
@@ -116,7 +116,7 @@ fn push_line_port(out: &mut Vec<u8>, line: u32, port: &Path) -> Result<(), Memor
 }
 
 fn push_both(out: &mut Vec<u8>, first: &Path, second: &Path) -> Result<(), Memory>
-    ensures ok { OnOk result (out.new.items ≡ out.old.items ++ (path_text first.now ++ path_text second.now)) }
+    ensures ok { OnOk result (out.new.items ≡ out.old.items ++ (at_path_text first.now ++ at_path_text second.now)) }
     ensures kept { take (length out.old.items) out.new.items ≡ out.old.items }
 {
     push_path(out, first)?;
@@ -124,7 +124,7 @@ fn push_both(out: &mut Vec<u8>, first: &Path, second: &Path) -> Result<(), Memor
 }
 
 fn push_at_index(out: &mut Vec<u8>, path: &Path, index: u64) -> Result<(), Memory>
-    ensures ok { OnOk result (out.new.items ≡ out.old.items ++ (path_text path.now ++ index_text index)) }
+    ensures ok { OnOk result (out.new.items ≡ out.old.items ++ (at_path_text path.now ++ at_index_text index)) }
     ensures kept { take (length out.old.items) out.new.items ≡ out.old.items }
 {
     push_path(out, path)?;

@@ -6,7 +6,7 @@ use Rattle.tdf_bind_tables.specs.FlatTables.{FlatTablesOf, IsFlat}
 use Rattle.tdf_bind.proofs.Lists.{Differ, both_differ}
 use Rattle.tdf_bind_hierarchy.specs.Blocks.{BlockOf}
 use Rattle.tdf_bind_hierarchy.specs.Met.{met_in}
-use Rattle.tdf_bind_hierarchy.specs.Tables.{is_of, same_kind, signal_of}
+use Rattle.tdf_bind_hierarchy.specs.Tables.{is_of, same_kind, met_signal}
 use Rattle.tdf_bind_hierarchy.specs.declared.tables.Signal.{Signal}
 use Rattle.tdf_bind_connections.specs.Drivers.{signal_row, signal_rows}
 use Rattle.tdf_bind_connections.specs.declared.drivers.SignalRow.{SignalRow}
@@ -34,10 +34,10 @@ paths_are : (writers : List Writer) (rows : List SignalRow) (table signals : Lis
 paths_are writers rows table signals is same = ap (map (λ (row : SignalRow). row.path)) is ∙ rows_from writers 0 table ∙ ap (map path_of) same
 
 pub flat_differ : (blocks : List BlockOf) (top : ℕ) (roles : List Role) (lines : List TraceLine) (flat : FlatTablesOf) → IsFlat blocks top roles lines flat
-    → Differ (map (λ (signal : Signal). signal.path) (filter_map signal_of (met_in blocks top)))
+    → Differ (map (λ (signal : Signal). signal.path) (filter_map met_signal (met_in blocks top)))
     → Differ (map (λ (row : SignalRow). row.path) flat.signals ++ map (λ (row : SignalRow). row.path) flat.de_signals)
 flat_differ blocks top roles lines flat is differ =
-    let signals = filter_map signal_of (met_in blocks top) in
+    let signals = filter_map met_signal (met_in blocks top) in
     subst (λ l. Differ (l ++ map (λ (row : SignalRow). row.path) flat.de_signals)) (sym (paths_are _ flat.signals is.tables.signals (filter (is_of false) signals) is.follows.signals.signals is.met.signals))
     (subst (λ l. Differ (map path_of (filter (is_of false) signals) ++ l)) (sym (paths_are _ flat.de_signals is.tables.event_signals (filter (is_of true) signals) is.follows.signals.de_signals is.met.event_signals))
     (both_differ path_of (is_of false) (is_of true) never_both signals differ))

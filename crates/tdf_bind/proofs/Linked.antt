@@ -10,42 +10,42 @@ use Rattle.tdf_expr.specs.Blocks.{blocks_of}
 use Rattle.tdf_expr.specs.Compiled.{AreBlocksOf}
 use Rattle.tdf_expr.specs.declared.blocks.Block.{Block}
 use Rattle.tdf_bind.specs.Flat.{IsBindFault, OfLine, OfTables, IsBindRefusal, IsLinked, top_place, trace_lines}
-use Rattle.tdf_bind_ports.specs.Faults.{LinkFault, comes_before, lesser, least_with, first_of, fault_of}
+use Rattle.tdf_bind_ports.specs.Faults.{LinkFault, link_comes_before, lesser_link, least_link_with, first_link_fault, fault_of_link}
 use Rattle.tdf_bind_ports.specs.Links.{link_faults}
 use Rattle.tdf_bind_attributes.specs.Roles.{AreModulesSound, roles_of}
 use Rattle.tdf_expr_symbols.specs.Names.{Names}
 use Rattle.tdf_lang_tree.specs.Pure.{PureGlobal, GShape, GTdf, GDe, GNet, PureTree}
 use Rattle.tdf_bind_hierarchy.specs.Blocks.{BlockOf}
 
-stays_some : (faults : List LinkFault) (f : LinkFault) → least_with (Some f) faults ≡ None → ⊥
-unfolding least_with lesser
+stays_some : (faults : List LinkFault) (f : LinkFault) → least_link_with (Some f) faults ≡ None → ⊥
+unfolding least_link_with lesser_link
 stays_some [] f e = cc
-stays_some (g ∷ faults) f e = go (comes_before g f) (λ h. stays_some faults h) e
+stays_some (g ∷ faults) f e = go (link_comes_before g f) (λ h. stays_some faults h) e
   where
-    go : (so : Bool) → ((h : LinkFault) → least_with (Some h) faults ≡ None → ⊥) → least_with (if so then Some g else Some f) faults ≡ None → ⊥
+    go : (so : Bool) → ((h : LinkFault) → least_link_with (Some h) faults ≡ None → ⊥) → least_link_with (if so then Some g else Some f) faults ≡ None → ⊥
     go true rest e = rest g e
     go false rest e = rest f e
 
-pub no_link_fault : (faults : List LinkFault) → first_of faults ≡ None → faults ≡ []
-unfolding least_with lesser
+pub no_link_fault : (faults : List LinkFault) → first_link_fault faults ≡ None → faults ≡ []
+unfolding least_link_with lesser_link
 no_link_fault [] e = refl
 no_link_fault (f ∷ faults) e = absurd (stays_some faults f e)
 
-none_of : (o : Option LinkFault) → option_map fault_of o ≡ None → o ≡ None
+none_of : (o : Option LinkFault) → option_map fault_of_link o ≡ None → o ≡ None
 none_of None e = refl
 none_of (Some f) e = absurd cc
 
-pub no_fault : (faults : List LinkFault) → None ≡ option_map fault_of (first_of faults) → faults ≡ []
-no_fault faults e = no_link_fault faults (none_of (first_of faults) (sym e))
+pub no_fault : (faults : List LinkFault) → None ≡ option_map fault_of_link (first_link_fault faults) → faults ≡ []
+no_fault faults e = no_link_fault faults (none_of (first_link_fault faults) (sym e))
 
-pub line_fault : (model : PureTree) (fault : Fault) → Some fault ≡ option_map fault_of (first_of (link_faults model)) → IsBindFault model fault
-line_fault model fault e = go (first_of (link_faults model)) refl e
+pub line_fault : (model : PureTree) (fault : Fault) → Some fault ≡ option_map fault_of_link (first_link_fault (link_faults model)) → IsBindFault model fault
+line_fault model fault e = go (first_link_fault (link_faults model)) refl e
   where
     held : Option Fault → Fault
     held None = fault
     held (Some x) = x
 
-    go : (o : Option LinkFault) → first_of (link_faults model) ≡ o → Some fault ≡ option_map fault_of o → IsBindFault model fault
+    go : (o : Option LinkFault) → first_link_fault (link_faults model) ≡ o → Some fault ≡ option_map fault_of_link o → IsBindFault model fault
     go None is e = absurd cc
     go (Some f) is e = OfLine f is (ap held e)
 

@@ -3,7 +3,7 @@ use Rattle.std.proofs.Common.{◌≡◌, ◌∙◌, ℕ, true, false, List, [], 
 use Rattle.std.proofs.lemmas.List.{map-id}
 use Rattle.std.proofs.lemmas.Option.{none-some, same_Some}
 use Rattle.tdf_base.specs.declared.faults.Fault.{Fault}
-use Rattle.tdf_bind_tables.specs.FlatTables.{FlatTablesOf, FollowsFrom, HasFault, IsFirstFault, IsFlat}
+use Rattle.tdf_bind_tables.specs.FlatTables.{FlatTablesOf, FollowsFrom, HasBindingFault, IsFirstTableFault, IsFlat}
 use Rattle.tdf_bind.proofs.FlatPaths.{flat_differ}
 use Rattle.tdf_bind.proofs.Lists.{Differ, one_place}
 use Rattle.tdf_bind.proofs.OneBlocks.{one_blocks}
@@ -14,7 +14,7 @@ use Rattle.tdf_bind.proofs.OwnNames.{own_names}
 use Rattle.tdf_bind.proofs.OwnPaths.{all_own, paths_are}
 use Rattle.tdf_bind.specs.Flat.{OfLine, OfSize, OfTables, top_place, trace_lines}
 use Rattle.tdf_bind.specs.Laws.{PassesChecks, StandOnce, paths_in, signal_paths, BlocksAreOne, PathsAreUnique, FlatPathsAreUnique, FaultIsOne, FaultOrFlat, TablesAreOne}
-use Rattle.tdf_bind_ports.specs.Faults.{LinkFault, fault_of, first_of, least_with}
+use Rattle.tdf_bind_ports.specs.Faults.{LinkFault, fault_of_link, first_link_fault, least_link_with}
 use Rattle.tdf_bind_ports.specs.Links.{link_faults}
 use Rattle.tdf_expr_names.proofs.Api.{names_once}
 use Rattle.tdf_expr_names.specs.Names.{name_faults}
@@ -34,9 +34,9 @@ pub blocks_are_one : BlocksAreOne
 blocks_are_one model one other none is are = one_blocks model one other none is are
 
 -- a line at fault
-no_line : (faults : List LinkFault) (f : LinkFault) → faults ≡ [] → first_of faults ≡ Some f → ⊥
-unfolding least_with
-no_line faults f none first = none-some f (sym (ap first_of none) ∙ first)
+no_line : (faults : List LinkFault) (f : LinkFault) → faults ≡ [] → first_link_fault faults ≡ Some f → ⊥
+unfolding least_link_with
+no_line faults f none first = none-some f (sym (ap first_link_fault none) ∙ first)
 
 paths_differ : (model : PureTree) (blocks : List BlockOf) → IsKept model → name_faults model ≡ [] → AreResolved model blocks → Differ (paths_in blocks)
 paths_differ model blocks kept none are =
@@ -53,16 +53,16 @@ module _ (model : PureTree) (passes : PassesChecks model) where
       one_tables (met_in cs (top_place cs)) a b (paths_differ model cs passes.kept passes.names are) (subst (λ (l : List BlockOf). IsTable (met_in l (top_place l)) a) (one_blocks model bs cs passes.types is are) one) other
 
   same_fault : (bs cs : List BlockOf) → AreResolved model bs → AreResolved model cs → (f g : Fault)
-      → HasFault bs (top_place bs) (roles_of model) (trace_lines model) f → HasFault cs (top_place cs) (roles_of model) (trace_lines model) g → f ≡ g
+      → HasBindingFault bs (top_place bs) (roles_of model) (trace_lines model) f → HasBindingFault cs (top_place cs) (roles_of model) (trace_lines model) g → f ≡ g
   same_fault bs cs is are f g one other =
       one_first (roles_of model) other.tables (trace_lines model) f g
-      (subst (λ (t : TablesOf). IsFirstFault (roles_of model) t (trace_lines model) f) (same_tables bs cs is are one.tables other.tables one.met other.met) one.first) other.first
+      (subst (λ (t : TablesOf). IsFirstTableFault (roles_of model) t (trace_lines model) f) (same_tables bs cs is are one.tables other.tables one.met other.met) one.first) other.first
 
   fault_or_flat_in : (bs cs : List BlockOf) → AreResolved model bs → AreResolved model cs → (f : Fault) (flat : FlatTablesOf)
-      → HasFault bs (top_place bs) (roles_of model) (trace_lines model) f → IsFlat cs (top_place cs) (roles_of model) (trace_lines model) flat → ⊥
+      → HasBindingFault bs (top_place bs) (roles_of model) (trace_lines model) f → IsFlat cs (top_place cs) (roles_of model) (trace_lines model) flat → ⊥
   fault_or_flat_in bs cs is are f flat one other =
       first_or_flat (roles_of model) other.tables (trace_lines model) flat other.follows f
-      (subst (λ (t : TablesOf). IsFirstFault (roles_of model) t (trace_lines model) f) (same_tables bs cs is are one.tables other.tables one.met other.met) one.first)
+      (subst (λ (t : TablesOf). IsFirstTableFault (roles_of model) t (trace_lines model) f) (same_tables bs cs is are one.tables other.tables one.met other.met) one.first)
 
   same_flat : (bs cs : List BlockOf) → AreResolved model bs → AreResolved model cs → (a b : FlatTablesOf)
       → IsFlat bs (top_place bs) (roles_of model) (trace_lines model) a → IsFlat cs (top_place cs) (roles_of model) (trace_lines model) b → a ≡ b
@@ -79,7 +79,7 @@ flat_paths_are_unique model flat kept none is =
     (flat_differ is.blocks (top_place is.blocks) (roles_of model) (trace_lines model) flat.tables is.tables (paths_differ model is.blocks kept none is.linked.resolved))
 
 pub fault_is_one : FaultIsOne
-fault_is_one model one other passes (OfLine f first is) (OfLine g again are) = is ∙ ap fault_of (same_Some f g (sym first ∙ again)) ∙ sym are
+fault_is_one model one other passes (OfLine f first is) (OfLine g again are) = is ∙ ap fault_of_link (same_Some f g (sym first ∙ again)) ∙ sym are
 fault_is_one model one other passes (OfLine f first is) (OfSize cs none resolved many are) = absurd (no_line (link_faults model) f none first)
 fault_is_one model one other passes (OfLine f first is) (OfTables cs linked has) = absurd (no_line (link_faults model) f linked.links first)
 fault_is_one model one other passes (OfSize bs none resolved many is) (OfLine g again are) = absurd (no_line (link_faults model) g none again)

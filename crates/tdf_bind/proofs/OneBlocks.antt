@@ -7,7 +7,7 @@ use Rattle.tdf_fixed.specs.declared.format.Format.{Format}
 use Rattle.tdf_bind.proofs.Formats.{IsFormatted, AreFormatted, formats_there}
 use Rattle.tdf_bind_ports.specs.Ports.{Known, no_blocks, ports_of_composite, ports_of_de, ports_of_tdf, with_block}
 use Rattle.tdf_bind_names.specs.Resolved.{AreBlocks, AreResolved, IsComposite, whole}
-use Rattle.tdf_bind_names.specs.Signals.{Declared, IsFormatOf, IsSignal, declared_by, start_of}
+use Rattle.tdf_bind_names.specs.Signals.{Declared, IsFormatOf, IsSignal, declared_by, start_sample}
 use Rattle.tdf_expr_symbols.specs.Names.{Names, format_of, globals_of}
 use Rattle.tdf_expr_symbols.specs.Sound.{HasFormat}
 use Rattle.tdf_expr_blocks.specs.Types.{type_faults}
@@ -39,7 +39,7 @@ same_line s t event name format start = λ i. record { event = event i; name = n
 
 one_signal : (globals : Names) (d : Declared) (s t : SignalLine) → IsFormatted globals d → IsSignal globals d s → IsSignal globals d t → s ≡ t
 one_signal globals d s t has is are =
-    same_line s t (is.event ∙ sym are.event) (is.name ∙ sym are.name) same (is.start ∙ ap (λ f. start_of f d.start) same ∙ sym are.start)
+    same_line s t (is.event ∙ sym are.event) (is.name ∙ sym are.name) same (is.start ∙ ap (λ f. start_sample f d.start) same ∙ sym are.start)
   where
     go : (o : Option Shape) → format_of globals d.format ≡ o → HasFormat o → s.format ≡ t.format
     go None e holds = absurd holds

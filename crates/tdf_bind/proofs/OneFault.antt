@@ -7,11 +7,11 @@ use Rattle.std.specs.Option.{option_map}
 use Rattle.std.specs.Prelude.{slice_get}
 use Rattle.tdf_base.specs.declared.faults.Fault.{Fault}
 use Rattle.tdf_bind_tables.specs.Actors.{AreActors, cluster_of}
-use Rattle.tdf_bind_tables.specs.FlatTables.{FlatTablesOf, FollowsFrom, HasManyClusters, IsFirstFault, OfDriver, OfTrace, OfClusters, count_in, driver_faults_in, driver_report, edges_in, ports_in, signals_in, trace_report}
+use Rattle.tdf_bind_tables.specs.FlatTables.{FlatTablesOf, FollowsFrom, HasManyClusters, IsFirstTableFault, OfDriver, OfTrace, OfClusters, count_in, driver_faults_in, driver_report, edges_in, ports_in, signals_in, trace_report}
 use Rattle.tdf_bind.proofs.OneFlat.{one_actors, same_edges, same_graph}
 use Rattle.tdf_graph.specs.Clusters.{greatest}
 use Rattle.tdf_bind_hierarchy.specs.Tables.{TablesOf}
-use Rattle.tdf_bind_connections.specs.Drivers.{faults_in, signal_rows, writers_in}
+use Rattle.tdf_bind_connections.specs.Drivers.{misdriven, signal_rows, writers_in}
 use Rattle.tdf_bind_connections.specs.Modules.{module_row, placed_modules}
 use Rattle.tdf_bind_connections.specs.Traces.{IsTraceOf, unknown_line, unknown_lines}
 use Rattle.tdf_bind_connections.specs.declared.roles.Role.{Role}
@@ -29,7 +29,7 @@ module _ (roles : List Role) (tables : TablesOf) (lines : List TraceLine) where
   traces_first : (f : Fault) → unknown_lines tables lines ≡ [] → option_map trace_report (slice_get (unknown_lines tables lines) 0) ≡ Some f → ⊥
   traces_first f none first = no_first trace_report (unknown_lines tables lines) f none first
 
-  pub one_first : (f g : Fault) → IsFirstFault roles tables lines f → IsFirstFault roles tables lines g → f ≡ g
+  pub one_first : (f g : Fault) → IsFirstTableFault roles tables lines f → IsFirstTableFault roles tables lines g → f ≡ g
   one_first f g (OfDriver d) (OfDriver e) = same_Some f g (sym d ∙ e)
   one_first f g (OfDriver d) (OfTrace none e) = absurd (drivers_first f none d)
   one_first f g (OfDriver d) (OfClusters none known many is) = absurd (drivers_first f none d)
@@ -72,9 +72,9 @@ module _ (roles : List Role) (tables : TablesOf) (lines : List TraceLine) (flat 
       omega (arith, same, more, few)
 
   drivers : driver_faults_in roles tables ≡ []
-  drivers = ap (faults_in roles tables) (sym ports) ∙ follows.drivers
+  drivers = ap (misdriven roles tables) (sym ports) ∙ follows.drivers
 
-  pub first_or_flat : (fault : Fault) → IsFirstFault roles tables lines fault → ⊥
+  pub first_or_flat : (fault : Fault) → IsFirstTableFault roles tables lines fault → ⊥
   first_or_flat fault (OfDriver first) = drivers_first roles tables lines fault drivers first
   first_or_flat fault (OfTrace none first) = traces_first roles tables lines fault (no_unknown tables flat.traces lines follows.traces) first
   first_or_flat fault (OfClusters none known many is) = not_many many

@@ -3,7 +3,7 @@ use Rattle.std.proofs.Common.{◌≡◌, ◌∙◌, ℕ, true, false, List, [], 
 use Rattle.std.proofs.lemmas.List.{length-map}
 use Rattle.std.proofs.lemmas.Option.{same_Some}
 use Rattle.std.specs.List.{AllZip}
-use Rattle.tdf_bind_tables.specs.Actors.{AreActors, cluster_of, net_edge, place_of}
+use Rattle.tdf_bind_tables.specs.Actors.{AreActors, cluster_of, net_edge, actor_place}
 use Rattle.tdf_bind_tables.specs.FlatTables.{FlatTablesOf, FollowsFrom}
 use Rattle.tdf_bind_tables.specs.declared.actors.ActorRow.{ActorRow}
 use Rattle.tdf_bind.proofs.Lists.{head_same, none_there, tail_same}
@@ -22,26 +22,26 @@ use Rattle.tdf_bind_connections.specs.declared.traces.TraceLine.{TraceLine}
 use Rattle.tdf_bind_connections.specs.declared.traces.TraceRow.{TraceRow}
 
 -- actors are their places and their clusters
-same_actor : (x y : ActorRow) → place_of x ≡ place_of y → x.cluster ≡ y.cluster → x ≡ y
+same_actor : (x y : ActorRow) → actor_place x ≡ actor_place y → x.cluster ≡ y.cluster → x ≡ y
 same_actor x y place cluster = λ i. record { kind = (place i).kind; «module» = (place i).«module»; port = (place i).port; cluster = cluster i }
 
-same_actors : (xs ys : List ActorRow) → map place_of xs ≡ map place_of ys → map cluster_of xs ≡ map cluster_of ys → xs ≡ ys
+same_actors : (xs ys : List ActorRow) → map actor_place xs ≡ map actor_place ys → map cluster_of xs ≡ map cluster_of ys → xs ≡ ys
 same_actors [] [] places clusters = refl
-same_actors [] (y ∷ ys) places clusters = absurd (none_there (place_of y) (map place_of ys) places)
-same_actors (x ∷ xs) [] places clusters = absurd (none_there (place_of x) (map place_of xs) (sym places))
+same_actors [] (y ∷ ys) places clusters = absurd (none_there (actor_place y) (map actor_place ys) places)
+same_actors (x ∷ xs) [] places clusters = absurd (none_there (actor_place x) (map actor_place xs) (sym places))
 same_actors (x ∷ xs) (y ∷ ys) places clusters =
-    ap (λ h. h ∷ xs) (same_actor x y (head_same (place_of x) (place_of y) (map place_of xs) (map place_of ys) places) (head_same x.cluster y.cluster (map cluster_of xs) (map cluster_of ys) clusters))
-    ∙ ap (λ l. y ∷ l) (same_actors xs ys (tail_same (place_of x) (place_of y) (map place_of xs) (map place_of ys) places) (tail_same x.cluster y.cluster (map cluster_of xs) (map cluster_of ys) clusters))
+    ap (λ h. h ∷ xs) (same_actor x y (head_same (actor_place x) (actor_place y) (map actor_place xs) (map actor_place ys) places) (head_same x.cluster y.cluster (map cluster_of xs) (map cluster_of ys) clusters))
+    ∙ ap (λ l. y ∷ l) (same_actors xs ys (tail_same (actor_place x) (actor_place y) (map actor_place xs) (map actor_place ys) places) (tail_same x.cluster y.cluster (map cluster_of xs) (map cluster_of ys) clusters))
 
 pub one_actors : (modules : ℕ) (ports : List PortRow) (edges : List EdgeRow) (xs ys : List ActorRow) → AreActors modules ports edges xs → AreActors modules ports edges ys → xs ≡ ys
 one_actors modules ports edges xs ys is are =
     same_actors xs ys places (same_clusters (length ys) (map net_edge edges) (map cluster_of xs) (map cluster_of ys) (subst (λ n. AreClusters n (map net_edge edges) (map cluster_of xs)) long is.clusters) are.clusters)
   where
-    places : map place_of xs ≡ map place_of ys
+    places : map actor_place xs ≡ map actor_place ys
     places = is.places ∙ sym are.places
 
     long : length xs ≡ length ys
-    long = sym (length-map xs place_of) ∙ ap length places ∙ length-map ys place_of
+    long = sym (length-map xs actor_place) ∙ ap length places ∙ length-map ys actor_place
 
 -- a path leads to one signal
 same_trace : (x y : TraceRow) → x.label ≡ y.label → x.event ≡ y.event → x.signal ≡ y.signal → x ≡ y

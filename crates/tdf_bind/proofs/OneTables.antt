@@ -4,7 +4,7 @@ use Rattle.std.specs.List.{AllZip}
 use Rattle.std.specs.Prelude.{filter, filter_map, slice_get}
 use Rattle.tdf_bind.proofs.Lists.{Differ, kept_differ, one_place}
 use Rattle.tdf_bind_hierarchy.specs.Met.{PlacedInstance, Met}
-use Rattle.tdf_bind_hierarchy.specs.Tables.{RowOf, TablesOf, table, signal_of, instance_of, is_of, signals_of, IsNumberOf, StandsFor, IsRowOf, IsTable}
+use Rattle.tdf_bind_hierarchy.specs.Tables.{RowOf, TablesOf, table, met_signal, met_instance, is_of, signals_of, IsNumberOf, StandsFor, IsRowOf, IsTable}
 use Rattle.tdf_bind_hierarchy.specs.declared.tables.Signal.{Signal}
 use Rattle.tdf_bind_hierarchy.specs.declared.tables.SignalNumber.{SignalNumber}
 
@@ -61,10 +61,10 @@ table_is : (met : List Met) (t : TablesOf) → IsTable met t → (e : Bool) → 
 table_is met t is true = is.event_signals
 table_is met t is false = is.signals
 
-pub one_tables : (met : List Met) (a b : TablesOf) → Differ (map (λ (signal : Signal). signal.path) (filter_map signal_of met)) → IsTable met a → IsTable met b → a ≡ b
+pub one_tables : (met : List Met) (a b : TablesOf) → Differ (map (λ (signal : Signal). signal.path) (filter_map met_signal met)) → IsTable met a → IsTable met b → a ≡ b
 one_tables met a b differ is are =
     same_tables a b (is.signals ∙ sym are.signals) (is.event_signals ∙ sym are.event_signals) (is.order ∙ sym are.order)
-    (one_rows a b (λ e. table_is met a is e ∙ sym (table_is met b are e)) own a.instances b.instances (filter_map instance_of met) is.instances are.instances)
+    (one_rows a b (λ e. table_is met a is e ∙ sym (table_is met b are e)) own a.instances b.instances (filter_map met_instance met) is.instances are.instances)
   where
     own : (e : Bool) → HaveOwnPaths (table e b)
-    own e = subst HaveOwnPaths (sym (table_is met b are e)) (own_at (filter (is_of e) (filter_map signal_of met)) (kept_differ (λ (signal : Signal). signal.path) (is_of e) (filter_map signal_of met) differ))
+    own e = subst HaveOwnPaths (sym (table_is met b are e)) (own_at (filter (is_of e) (filter_map met_signal met)) (kept_differ (λ (signal : Signal). signal.path) (is_of e) (filter_map met_signal met) differ))

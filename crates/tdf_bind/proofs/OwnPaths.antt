@@ -5,9 +5,9 @@ use Rattle.std.specs.Prelude.{filter_map, slice_get}
 use Rattle.tdf_bind.proofs.Lists.{Differ, weaker, all_append, all_at, all_map, differ_append, differ_by}
 use Rattle.tdf_bind.proofs.Paths.{HasNoPoint, same_name, IsInside, inside_name, IsInsideOne, IsBelow, one_below, not_inside, one_inside}
 use Rattle.tdf_bind_hierarchy.specs.Blocks.{InstanceOf, BlockOf}
-use Rattle.tdf_bind_hierarchy.specs.Met.{Met, MetSignal, MetInstance, signal_at, placed, InsideOf, with_inside, in_block, inside}
+use Rattle.tdf_bind_hierarchy.specs.Met.{Met, MetSignal, MetInstance, placed_signal, placed, InsideOf, with_inside, in_block, inside}
 use Rattle.tdf_bind_hierarchy.specs.Paths.{path_in}
-use Rattle.tdf_bind_hierarchy.specs.Tables.{signal_of}
+use Rattle.tdf_bind_hierarchy.specs.Tables.{met_signal}
 use Rattle.tdf_bind_hierarchy.specs.declared.blocks.SignalLine.{SignalLine}
 use Rattle.tdf_bind_hierarchy.specs.declared.tables.Signal.{Signal}
 
@@ -35,12 +35,12 @@ paths_append [] other = refl
 paths_append (MetSignal signal ∷ one) other = ap (λ l. signal.path ∷ l) (paths_append one other)
 paths_append (MetInstance instance ∷ one) other = paths_append one other
 
-pub paths_are : (met : List Met) → paths_of met ≡ map (λ (signal : Signal). signal.path) (filter_map signal_of met)
+pub paths_are : (met : List Met) → paths_of met ≡ map (λ (signal : Signal). signal.path) (filter_map met_signal met)
 paths_are [] = refl
 paths_are (MetSignal signal ∷ met) = ap (λ l. signal.path ∷ l) (paths_are met)
 paths_are (MetInstance instance ∷ met) = paths_are met
 
-paths_own : (front : Option (List ℕ)) (lines : List SignalLine) → paths_of (map (λ line. MetSignal (signal_at front line)) lines) ≡ map (λ (line : SignalLine). path_in front line.name) lines
+paths_own : (front : Option (List ℕ)) (lines : List SignalLine) → paths_of (map (λ line. MetSignal (placed_signal front line)) lines) ≡ map (λ (line : SignalLine). path_in front line.name) lines
 paths_own front [] = refl
 paths_own front (line ∷ lines) = ap (λ l. path_in front line.name ∷ l) (paths_own front lines)
 
@@ -84,13 +84,13 @@ module _ (met : InsideOf) (own : AreOwn met) (front : Option (List ℕ)) (block 
       (paths_of (one_inner instance)) (below_one instance)))
 
   abbrev whole : List Met
-  whole = map (λ line. MetSignal (signal_at front line)) block.signals ++ inner block.instances
+  whole = map (λ line. MetSignal (placed_signal front line)) block.signals ++ inner block.instances
 
   abbrev declared : List (List ℕ)
   declared = map (λ (line : SignalLine). path_in front line.name) block.signals
 
   whole_paths : paths_of whole ≡ declared ++ paths_of (inner block.instances)
-  whole_paths = paths_append (map (λ line. MetSignal (signal_at front line)) block.signals) (inner block.instances) ∙ ap (λ l. l ++ paths_of (inner block.instances)) (paths_own front block.signals)
+  whole_paths = paths_append (map (λ line. MetSignal (placed_signal front line)) block.signals) (inner block.instances) ∙ ap (λ l. l ++ paths_of (inner block.instances)) (paths_own front block.signals)
 
   pub block_below : AllByRecursion (IsBelow front) (paths_of whole)
   block_below =

@@ -5,12 +5,12 @@ use Rattle.std.specs.Prelude.{◌≡◌, ◌-◌, ℕ, true, false, List, [], �
 use Rattle.tdf_base.specs.declared.codes.Code.TheVariants as code
 use Rattle.tdf_base.specs.declared.faults.Fault.{Fault}
 use Rattle.tdf_base.specs.declared.faults.Place.TheVariants as place
-use Rattle.tdf_bind_tables.specs.FlatTables.{IsFlat, HasFault}
+use Rattle.tdf_bind_tables.specs.FlatTables.{IsFlat, HasBindingFault}
 use Rattle.tdf_bind_tables.specs.declared.flat.BindErr.{BindErr}
 use Rattle.tdf_bind_tables.specs.declared.flat.BindErr.TheVariants.{Refused, Memory}
 use Rattle.tdf_expr.specs.Checked.{IsCheckedOf}
 use Rattle.tdf_bind.specs.declared.model.Flat.{Flat}
-use Rattle.tdf_bind_ports.specs.Faults.{LinkFault, first_of, fault_of}
+use Rattle.tdf_bind_ports.specs.Faults.{LinkFault, first_link_fault, fault_of_link}
 use Rattle.tdf_bind_ports.specs.Links.{link_faults}
 use Rattle.tdf_bind_names.specs.Counts.{is_too_many}
 use Rattle.tdf_bind_names.specs.Resolved.{AreResolved}
@@ -56,12 +56,12 @@ too_many_fault = record { code = code.TooMany; place = place.Nowhere }
 
 -- the first fault
 pub data IsBindFault (model : PureTree) (fault : Fault) : Type 0 where
-  OfLine : (f : LinkFault) → first_of (link_faults model) ≡ Some f → fault ≡ fault_of f
+  OfLine : (f : LinkFault) → first_link_fault (link_faults model) ≡ Some f → fault ≡ fault_of_link f
       → IsBindFault model fault
   OfSize : (blocks : List BlockOf) → link_faults model ≡ [] → AreResolved model blocks
       → is_too_many model blocks ≡ true → fault ≡ too_many_fault → IsBindFault model fault
   OfTables : (blocks : List BlockOf) → IsLinked model blocks
-      → HasFault blocks (top_place blocks) (roles_of model) (trace_lines model) fault
+      → HasBindingFault blocks (top_place blocks) (roles_of model) (trace_lines model) fault
       → IsBindFault model fault
 
 -- a refusal is the first fault; want of memory is free

@@ -13,7 +13,7 @@ use Rattle.tdf_lang_tree.specs.Kept.{IsKept}
 use Rattle.tdf_lang_tree.specs.Pure.{PureTree}
 use Rattle.tdf_bind_hierarchy.specs.Blocks.{BlockOf}
 use Rattle.tdf_bind_hierarchy.specs.Met.{met_in}
-use Rattle.tdf_bind_hierarchy.specs.Tables.{signal_of}
+use Rattle.tdf_bind_hierarchy.specs.Tables.{met_signal}
 use Rattle.tdf_bind_hierarchy.specs.declared.tables.Signal.{Signal}
 use Rattle.tdf_bind_connections.specs.declared.drivers.SignalRow.{SignalRow}
 
@@ -36,7 +36,8 @@ BlocksAreOne = (model : PureTree) (one other : List BlockOf) → type_faults mod
 -- the paths of the signals of a model, in preorder
 abbrev pub paths_in : List BlockOf → List (List ℕ)
 paths_in blocks =
-    map (λ (signal : Signal). signal.path) (filter_map signal_of (met_in blocks (top_place blocks)))
+    map (λ (signal : Signal). signal.path)
+    (filter_map met_signal (met_in blocks (top_place blocks)))
 
 -- a path of a model leads to one signal at most
 abbrev pub PathsAreUnique : Type 0

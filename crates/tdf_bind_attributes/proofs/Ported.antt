@@ -11,13 +11,13 @@ use Rattle.std.specs.Ordering.{nat_cmp}
 use Rattle.std.specs.Prelude.{nat_eq, slice_get, slice_index, slice_index_or, slice_set, replicate, map}
 use Rattle.tdf_fixed.specs.declared.raw.Raw.{Raw}
 use Rattle.tdf_expr_semantics.specs.Value.{literal_in}
-use Rattle.tdf_bind_attributes.specs.Roles.{with_initial, with_initials, initials_of_port, port_of, port_data}
-use Rattle.tdf_bind_attributes.specs.Standing.{or_else, last_of, port_step}
+use Rattle.tdf_bind_attributes.specs.Roles.{with_initial, with_initials, initials_of_port, data_of_port, port_data}
+use Rattle.tdf_bind_attributes.specs.Standing.{or_else, last_of, assigned_port_step}
 use Rattle.tdf_bind_attributes.specs.declared.ports.Gathered.{Gathered}
 use Rattle.tdf_bind_attributes.specs.machine.Found.{IsFound, initials_at, port_with}
 use Rattle.tdf_bind_attributes.specs.machine.Gathered.{IsGathered}
 use Rattle.tdf_bind_attributes.specs.machine.Standing.{put_at, stepped, stepped_all, put_value, initial_put, initials_put}
-use Rattle.tdf_expr_symbols.specs.Names.{Names, Thing, Port, at_place, place_in, place_of, thing_of}
+use Rattle.tdf_expr_symbols.specs.Names.{Names, Thing, Port, found_at, place_in, place_of, thing_of}
 use Rattle.tdf_lang_tree.specs.declared.blocks.Attr.{Attr}
 use Rattle.tdf_lang_tree.specs.declared.blocks.Attr.TheVariants as attr
 use Rattle.tdf_lang_tree.specs.declared.blocks.Initial.{Initial}
@@ -51,7 +51,7 @@ other_place names a b p at other = go (pointwise nat_eq a b) refl
 
 -- the timestep at the place of a port, after a line
 step_one : (own : Names) (name : List ℕ) (p : ℕ) → place_of own name ≡ Some p → (a : Attr) (steps : List ℕ) → p < length steps
-    → slice_index (stepped own a steps) p ≡ or_else (port_step name a) (slice_index steps p)
+    → slice_index (stepped own a steps) p ≡ or_else (assigned_port_step name a) (slice_index steps p)
 step_one own name p at (attr.Step line None step) steps within = refl
 step_one own name p at (attr.Step line (Some port) step) steps within = go (place_of own port) refl
   where
@@ -92,12 +92,12 @@ stepped_long own (attr.Accept line) steps = refl
 stepped_long own (attr.Reject line) steps = refl
 
 pub step_all : (own : Names) (name : List ℕ) (p : ℕ) → place_of own name ≡ Some p → (attrs : List Attr) (steps : List ℕ) → p < length steps
-    → slice_index (stepped_all own attrs steps) p ≡ last_of (port_step name) (slice_index steps p) attrs
+    → slice_index (stepped_all own attrs steps) p ≡ last_of (assigned_port_step name) (slice_index steps p) attrs
 unfolding stepped_all last_of
 step_all own name p at [] steps within = refl
 step_all own name p at (a ∷ as') steps within =
     step_all own name p at as' (stepped own a steps) (subst (λ n. p < n) (sym (stepped_long own a steps)) within)
-    ∙ ap (λ n. last_of (port_step name) n as') (step_one own name p at a steps within)
+    ∙ ap (λ n. last_of (assigned_port_step name) n as') (step_one own name p at a steps within)
 
 -- the initial samples at the place of a port, after a line
 module _ (own : Names) (name : List ℕ) (p : ℕ) (word : PortKind) (shape : Shape) (rate : Limit) (delay : ℕ) (at : place_of own name ≡ Some p)
@@ -113,15 +113,15 @@ module _ (own : Names) (name : List ℕ) (p : ℕ) (word : PortKind) (shape : Sh
       unchanged q (Some (Port w (Some s) r d)) other = get_or-set_other maps q p (insert_entry nat_cmp (slice_index_or maps q []) i.place (literal_in (Some s) i.value)) [] other
       unchanged q _ other = refl
 
-      go : (o : Option ℕ) → place_of own i.port ≡ o → slice_index_or (put_value (place_of own i.port) (at_place own.things (place_of own i.port)) i maps) p []
+      go : (o : Option ℕ) → place_of own i.port ≡ o → slice_index_or (put_value (place_of own i.port) (found_at own.things (place_of own i.port)) i maps) p []
           ≡ put (pointwise nat_eq name i.port)
       go None found =
-          ap (λ o. slice_index_or (put_value o (at_place own.things o) i maps) p []) found
+          ap (λ o. slice_index_or (put_value o (found_at own.things o) i maps) p []) found
           ∙ sym (ap put (other_place own.names name i.port p at (λ e. none_some (sym found ∙ e))))
         where
           none_some : None ≡ Some p → ⊥
           none_some e = cc
-      go (Some q) found = ap (λ o. slice_index_or (put_value o (at_place own.things o) i maps) p []) found ∙ place (cases_eq p q)
+      go (Some q) found = ap (λ o. slice_index_or (put_value o (found_at own.things o) i maps) p []) found ∙ place (cases_eq p q)
         where
           place : (p ≡ q) ⊎ (p ≢ q) → slice_index_or (put_value (Some q) (slice_get own.things q) i maps) p [] ≡ put (pointwise nat_eq name i.port)
           place (inl same) =
@@ -188,12 +188,12 @@ module _ (own : Names) (attrs : List Attr) (lines : List Initial) (g : Gathered)
       omega (arith, long, within)
 
   step_said : (name : List ℕ) (place : ℕ) (t : Thing) → place_of own name ≡ Some place → slice_get own.things place ≡ Some t
-      → slice_index g.steps.items place ≡ last_of (port_step name) 0 attrs
+      → slice_index g.steps.items place ≡ last_of (assigned_port_step name) 0 attrs
   step_said name place t at is =
       let within = slice_get_within own.things place t is in
       ap (λ (l : List ℕ). slice_index l place) are.port_steps
       ∙ step_all own name place at attrs (replicate (length own.things) 0) (subst (λ n. place < n) (sym (length-replicate (length own.things) 0)) within)
-      ∙ ap (λ n. last_of (port_step name) n attrs) (no_step (length own.things) place)
+      ∙ ap (λ n. last_of (assigned_port_step name) n attrs) (no_step (length own.things) place)
 
   initials_said : (name : List ℕ) (place : ℕ) (t : Thing) → place_of own name ≡ Some place → slice_get own.things place ≡ Some t
       → initials_at t (map (λ m. m.entries) g.initials.items) place ≡ initials_of_port name (Some t) lines
@@ -209,10 +209,10 @@ module _ (own : Names) (attrs : List Attr) (lines : List Initial) (g : Gathered)
       → port_with own port (Some t) step (initials_at t (map (λ m. m.entries) g.initials.items) place)
       ≡ port_data (record { globals = globals; own = own; does = does }) block port
   port_is globals does block same_attrs same_lines port t step place found =
-      let thing : thing_of own port.name ≡ Some t = ap (at_place own.things) found.at ∙ found.is in
+      let thing : thing_of own port.name ≡ Some t = ap (found_at own.things) found.at ∙ found.is in
       let scope : Scope = record { globals = globals; own = own; does = does } in
       ap (λ n. port_with own port (Some t) n (initials_at t (map (λ m. m.entries) g.initials.items) place))
-      (found.given ∙ step_said port.name place t found.at found.is ∙ ap (last_of (port_step port.name) 0) (sym same_attrs))
-      ∙ ap (port_with own port (Some t) (last_of (port_step port.name) 0 block.attrs))
+      (found.given ∙ step_said port.name place t found.at found.is ∙ ap (last_of (assigned_port_step port.name) 0) (sym same_attrs))
+      ∙ ap (port_with own port (Some t) (last_of (assigned_port_step port.name) 0 block.attrs))
       (initials_said port.name place t found.at found.is ∙ ap (initials_of_port port.name (Some t)) (sym same_lines))
-      ∙ ap (port_of scope block port) (sym thing)
+      ∙ ap (data_of_port scope block port) (sym thing)

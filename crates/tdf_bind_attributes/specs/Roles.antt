@@ -10,7 +10,7 @@ use Rattle.tdf_fixed.specs.declared.raw.Raw.{Raw}
 use Rattle.tdf_bind_ports.specs.Ports.{ports_of_tdf, ports_of_de}
 use Rattle.tdf_expr_semantics.specs.Places.{rate_number}
 use Rattle.tdf_expr_semantics.specs.Value.{literal_in}
-use Rattle.tdf_bind_attributes.specs.Standing.{last_of, module_step, port_step, accepting}
+use Rattle.tdf_bind_attributes.specs.Standing.{last_of, module_step, assigned_port_step, accepting}
 use Rattle.tdf_expr_symbols.specs.Names.{Names, Thing, Port, RateVar, place_in, place_of, thing_of, globals_of}
 use Rattle.tdf_expr_symbols.specs.Scope.{Scope, tdf_scope, does_change}
 use Rattle.tdf_expr_symbols.specs.Sound.{IsSound}
@@ -22,7 +22,7 @@ use Rattle.tdf_lang_tree.specs.declared.blocks.Sense.{Sense}
 use Rattle.tdf_lang_tree.specs.declared.shapes.Shape.{Shape}
 use Rattle.tdf_lang_tree.specs.declared.stmt.Limit.{Limit}
 use Rattle.tdf_lang_tree.specs.declared.stmt.Limit.TheVariants as limit
-use Rattle.tdf_bind_connections.specs.Roles.{ProcessOf, ProcessesOf, ModuleOf}
+use Rattle.tdf_bind_connections.specs.Roles.{ProcessOf, ProcessesOf, ModuleRole}
 use Rattle.tdf_bind_connections.specs.declared.roles.PortData.{PortData}
 use Rattle.tdf_bind_connections.specs.declared.roles.Rate.{Rate}
 use Rattle.tdf_bind_connections.specs.declared.roles.Role.{Role}
@@ -37,10 +37,10 @@ abbrev pub variable_of : Names → List ℕ → Option ℕ
 variable_of own name = variable_at own (place_of own name) (thing_of own name)
 
 -- a rate: a number, or a number times the value of a rate variable
-abbrev pub rate_in : Names → Limit → Rate
-rate_in own (limit.Int n) = record { times = n; var = None }
-rate_in own (limit.Var r) = record { times = 1; var = variable_of own r }
-rate_in own (limit.Times c r) = record { times = c; var = variable_of own r }
+abbrev pub rate_of_limit : Names → Limit → Rate
+rate_of_limit own (limit.Int n) = record { times = n; var = None }
+rate_of_limit own (limit.Var r) = record { times = 1; var = variable_of own r }
+rate_of_limit own (limit.Times c r) = record { times = c; var = variable_of own r }
 
 -- the rate, the delay and the timestep of a port, as its last lines say
 abbrev pub rate_of_port : Option Thing → Limit
@@ -53,7 +53,7 @@ delay_of_port _ = 0
 
 abbrev pub step_of_port : (port : List ℕ) → Option Thing → List Attr → ℕ
 step_of_port port None attrs = 0
-step_of_port port (Some thing) attrs = last_of (port_step port) 0 attrs
+step_of_port port (Some thing) attrs = last_of (assigned_port_step port) 0 attrs
 
 -- the initial samples of a port by rising place: a later line takes the place of an earlier one
 abbrev pub with_initial : (port : List ℕ) → Shape → Initial → List (ℕ × Raw) → List (ℕ × Raw)
@@ -73,20 +73,20 @@ initials_of_port port (Some (Port word (Some shape) rate delay)) lines =
 initials_of_port port _ lines = []
 
 -- a port of a `tdf` block, by what its name stands for
-abbrev pub port_of : Scope → PureTdf → PortLine → Option Thing → PortData
-port_of scope block port thing = record {
+abbrev pub data_of_port : Scope → PureTdf → PortLine → Option Thing → PortData
+data_of_port scope block port thing = record {
   name = port.name;
   kind = port.kind;
-  rate = rate_in scope.own (rate_of_port thing);
+  rate = rate_of_limit scope.own (rate_of_port thing);
   delay = delay_of_port thing;
   step = step_of_port port.name thing block.attrs;
   initials = initials_of_port port.name thing block.initials;
 }
 
 abbrev pub port_data : Scope → PureTdf → PortLine → PortData
-port_data scope block port = port_of scope block port (thing_of scope.own port.name)
+port_data scope block port = data_of_port scope block port (thing_of scope.own port.name)
 
-abbrev pub module_role : Names → ℕ → PureTdf → ModuleOf
+abbrev pub module_role : Names → ℕ → PureTdf → ModuleRole
 module_role globals number block = record {
   block = number;
   changes = does_change block.attrs;
@@ -101,8 +101,8 @@ event_of (DEvent line name) = name ∷ []
 event_of (DPort port) = []
 event_of (DStore store) = []
 
-abbrev pub events_of : PureDe → List (List ℕ)
-events_of block = flat_map event_of block.decls
+abbrev pub names_of_events : PureDe → List (List ℕ)
+names_of_events block = flat_map event_of block.decls
 
 -- the places of the names of some lines among other names
 abbrev pub places_among : List (List ℕ) → List Sense → List ℕ
@@ -112,7 +112,7 @@ abbrev pub process_role : PureDe → PureProcess → ProcessOf
 process_role block process = record {
   starts = process.starts;
   ports = places_among (map (λ p. p.name) (ports_of_de block)) process.sensitive;
-  events = places_among (events_of block) process.sensitive;
+  events = places_among (names_of_events block) process.sensitive;
 }
 
 abbrev pub processes_role : ℕ → PureDe → ProcessesOf
@@ -120,7 +120,7 @@ processes_role number block = record {
   block = number;
   ports = map (λ p. p.kind) (ports_of_de block);
   processes = map (process_role block) block.processes;
-  events = events_of block;
+  events = names_of_events block;
 }
 
 -- the roles of some declarations, where `number` `tdf` and `de` blocks stand before them

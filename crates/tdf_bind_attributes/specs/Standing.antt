@@ -23,9 +23,9 @@ abbrev pub module_step : Attr → Option ℕ
 module_step (attr.Step line None step) = Some step
 module_step _ = None
 
-abbrev pub port_step : (port : List ℕ) → Attr → Option ℕ
-port_step port (attr.Step line (Some name) step) = when (pointwise nat_eq port name) step
-port_step port _ = None
+abbrev pub assigned_port_step : (port : List ℕ) → Attr → Option ℕ
+assigned_port_step port (attr.Step line (Some name) step) = when (pointwise nat_eq port name) step
+assigned_port_step port _ = None
 
 -- whether changes of attributes are accepted, as a line says
 abbrev pub accepting : Attr → Option Bool

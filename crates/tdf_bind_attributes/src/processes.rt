@@ -3,7 +3,7 @@
 ghost use Rattle.std.specs.List.{flat_map};
 ghost use Rattle.std.specs.Prelude.{◌≡◌, ◌++◌, map, filter_map, IfOk, OnOk};
 ghost use Rattle.tdf_bind_ports.specs.Ports.{ports_of_de as ports_seen};
-ghost use Rattle.tdf_bind_attributes.specs.Roles.{event_of, events_of, places_among, process_role, processes_role};
+ghost use Rattle.tdf_bind_attributes.specs.Roles.{event_of, names_of_events, places_among, process_role, processes_role};
 ghost use Rattle.tdf_bind_attributes.specs.machine.Processes.{found_place, process_with};
 ghost use Rattle.tdf_expr_symbols.specs.Names.{place_in};
 ghost use Rattle.tdf_lang_tree.specs.Views.{pure_de, pure_de_line, pure_process};

@@ -3,7 +3,7 @@
 ghost use Rattle.std.specs.Option.{option_map};
 ghost use Rattle.std.specs.Prelude.{◌≡◌, ◌<◌, ◌≤◌, ◌^◌, ◌+◌, ℕ, IfOk, Some, length, slice_get, slice_index};
 ghost use Rattle.tdf_expr_semantics.specs.Places.{before, rates_of, rate_number};
-ghost use Rattle.tdf_bind_attributes.specs.Roles.{rate_in, variable_at, variable_of};
+ghost use Rattle.tdf_bind_attributes.specs.Roles.{rate_of_limit, variable_at, variable_of};
 ghost use Rattle.tdf_bind_attributes.specs.machine.Numbers.{AreRateNumbers};
 ghost use Rattle.tdf_expr_symbols.specs.Names.{place_of, Thing as ThingSeen};
 ghost use Rattle.tdf_expr_symbols.specs.Seen.{rate_or_one, seen};
@@ -93,7 +93,7 @@ fn variable(scope: &Scope, numbers: &[u64], name: &Name) -> Result<Option<u32>, 
 /// Out of memory.
 pub(crate) fn rate_in(scope: &Scope, numbers: &[u64], rate: Option<&Limit>) -> Result<Rate, Memory>
     requires { AreRateNumbers scope.now.own numbers.now }
-    ensures { IfOk result (λ r. r ≡ rate_in scope.now.own (rate_or_one rate.entry)) }
+    ensures { IfOk result (λ r. r ≡ rate_of_limit scope.now.own (rate_or_one rate.entry)) }
 {
     match rate {
         None => Ok(Rate {

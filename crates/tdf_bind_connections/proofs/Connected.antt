@@ -7,7 +7,7 @@ use Rattle.tdf_bind_hierarchy.specs.Laws.{IsInRange}
 use Rattle.tdf_bind_hierarchy.specs.Tables.{TablesOf, table}
 use Rattle.tdf_bind_hierarchy.specs.declared.tables.Signal.{Signal}
 use Rattle.tdf_bind_hierarchy.specs.declared.tables.SignalNumber.{SignalNumber}
-use Rattle.tdf_bind_connections.specs.Drivers.{driver, driver_fault, fault_of, driver_faults, module_port, signal_row, signal_rows, AreDrivers, AreSignals}
+use Rattle.tdf_bind_connections.specs.Drivers.{driver, driver_fault, fault_of_driver, driver_faults, module_port, signal_row, signal_rows, AreDrivers, AreSignals}
 use Rattle.tdf_bind_connections.specs.machine.DriverSteps.{driver_in, fault_by, row_by, signals_by, AreAllDrivers}
 use Rattle.tdf_bind_connections.specs.declared.drivers.Driver.{Driver}
 use Rattle.tdf_bind_connections.specs.declared.writers.Writer.{Writer}
@@ -20,8 +20,8 @@ module _ (writers : Bool → List Writer) (tables : TablesOf) (samples events : 
   faults_at : (order : List SignalNumber) → AllByRecursion (IsInRange tables) order → filter_map (fault_by samples events) order ≡ driver_faults writers order
   faults_at [] within = refl
   faults_at (n ∷ order) within =
-      ap (λ d. cons_option (fault_of n (driver_fault n.event d)) (filter_map (fault_by samples events) order)) (kind_same n.event n.number within.0)
-      ∙ ap (cons_option (fault_of n (driver_fault n.event (driver n.number (writers n.event))))) (faults_at order within.1)
+      ap (λ d. cons_option (fault_of_driver n (driver_fault n.event d)) (filter_map (fault_by samples events) order)) (kind_same n.event n.number within.0)
+      ∙ ap (cons_option (fault_of_driver n (driver_fault n.event (driver n.number (writers n.event))))) (faults_at order within.1)
 
   pub faults_same : (order : List SignalNumber) → All (IsInRange tables) order → filter_map (fault_by samples events) order ≡ driver_faults writers order
   faults_same order within = faults_at order (recursion_from_All (IsInRange tables) order within)

@@ -57,22 +57,23 @@ driver_fault true Missing = None
 driver_fault event (One port) = None
 driver_fault event Several = Some TwoDrivers
 
-abbrev pub fault_of : SignalNumber → Option Code → Option DriverFault
-fault_of number None = None
-fault_of number (Some code) = Some (record { code = code; signal = number })
+abbrev pub fault_of_driver : SignalNumber → Option Code → Option DriverFault
+fault_of_driver number None = None
+fault_of_driver number (Some code) = Some (record { code = code; signal = number })
 
 -- the faults of drivers, in the order of the signals; `writers` are those of each kind
 abbrev pub driver_faults : (Bool → List Writer) → List SignalNumber → List DriverFault
 driver_faults writers order =
-    filter_map (λ n. fault_of n (driver_fault n.event (driver n.number (writers n.event)))) order
+    filter_map (λ n. fault_of_driver n (driver_fault n.event (driver n.number (writers n.event))))
+    order
 
 -- the ports that write the signals of each kind in a model
 abbrev pub writers_in : List Role → TablesOf → List PortRow → Bool → List Writer
 writers_in roles tables ports event = writers_to event roles tables.instances ports
 
 -- the faults of drivers in a model, in preorder of the signals
-abbrev pub faults_in : List Role → TablesOf → List PortRow → List DriverFault
-faults_in roles tables ports = driver_faults (writers_in roles tables ports) tables.order
+abbrev pub misdriven : List Role → TablesOf → List PortRow → List DriverFault
+misdriven roles tables ports = driver_faults (writers_in roles tables ports) tables.order
 
 -- the drivers of the signals 0 to `count`
 pub record AreDrivers (count : ℕ) (writers : List Writer) (drivers : List Driver) : Type 0 where

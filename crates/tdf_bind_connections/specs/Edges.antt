@@ -10,8 +10,8 @@ use Rattle.tdf_bind_connections.specs.declared.edges.EdgeRow.{EdgeRow}
 use Rattle.tdf_bind_connections.specs.declared.modules.PortRow.{PortRow}
 
 -- the delay of a port is within its limit
-abbrev pub IsShort : PortRow → Type 0
-IsShort port = port.delay ≤ greatest_delay
+abbrev pub HasShortDelay : PortRow → Type 0
+HasShortDelay port = port.delay ≤ greatest_delay
 
 -- a `de_in` port is a sampler, and a `de_out` port a sink
 abbrev pub is_event_port : PortKind → Bool

@@ -5,7 +5,7 @@ use Rattle.std.specs.Prelude.{◌≡◌, ◌+◌, ℕ, false, List, [], ◌∷�
 use Rattle.tdf_bind_hierarchy.specs.Paths.{path_in}
 use Rattle.tdf_bind_hierarchy.specs.Tables.{RowOf}
 use Rattle.tdf_bind_hierarchy.specs.declared.tables.SignalNumber.{SignalNumber}
-use Rattle.tdf_bind_connections.specs.Roles.{ModuleOf}
+use Rattle.tdf_bind_connections.specs.Roles.{ModuleRole}
 use Rattle.tdf_bind_connections.specs.declared.modules.ModuleRow.{ModuleRow}
 use Rattle.tdf_bind_connections.specs.declared.modules.PortRow.{PortRow}
 use Rattle.tdf_bind_connections.specs.declared.roles.PortData.{PortData}
@@ -15,7 +15,7 @@ use Rattle.tdf_bind_connections.specs.declared.roles.Role.TheVariants.{Module}
 -- an instance of a module with the data of its block
 pub record PlacedModule : Type 0 where
   pub instance : RowOf
-  pub role : ModuleOf
+  pub role : ModuleRole
 
 abbrev pub as_module : RowOf → Option Role → Option PlacedModule
 as_module instance (Some (Module role)) = Some (record { instance = instance; role = role })

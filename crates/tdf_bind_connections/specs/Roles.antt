@@ -5,7 +5,7 @@ use Rattle.tdf_lang_tree.specs.declared.blocks.PortKind.{PortKind}
 use Rattle.tdf_bind_connections.specs.declared.roles.PortData.{PortData}
 
 -- the block of a module
-pub record ModuleOf : Type 0 where
+pub record ModuleRole : Type 0 where
   pub block : ℕ
   pub changes : Bool
   pub accepts : Bool

@@ -3,7 +3,7 @@
 ghost use Rattle.std.specs.List.{enumerate_from};
 ghost use Rattle.std.specs.Prelude.{◌≡◌, ◌++◌, [], ◌∷◌, Some, None, IfOk, OnOk, IfErr, filter_map, map, slice_get, length, All};
 ghost use Rattle.tdf_bind_hierarchy.specs.Laws.{IsInRange};
-ghost use Rattle.tdf_bind_connections.specs.Drivers.{with_writer, driver_fault, signal_row, module_port, AreSignals, AreDrivers, writers_in, faults_in, IsDriverRefusal};
+ghost use Rattle.tdf_bind_connections.specs.Drivers.{with_writer, driver_fault, signal_row, module_port, AreSignals, AreDrivers, writers_in, misdriven, IsDriverRefusal};
 ghost use Rattle.tdf_bind_connections.specs.machine.DriverSteps.{driver_in, driver_by, noted, fault_by, row_by, signals_by, AreAllDrivers};
 
 use crate::modules::PortRow;
@@ -266,8 +266,8 @@ pub fn connect(
     requires in_range { All (IsInRange tables.now) tables.now.order }
     ensures signals { IfOk result (AreSignals (writers_in roles.now tables.now ports.now)
         tables.now.signals tables.now.event_signals) }
-    ensures fine { OnOk result (faults_in roles.now tables.now ports.now ≡ []) }
-    ensures refused { IfErr result (IsDriverRefusal (faults_in roles.now tables.now ports.now)) }
+    ensures fine { OnOk result (misdriven roles.now tables.now ports.now ≡ []) }
+    ensures refused { IfErr result (IsDriverRefusal (misdriven roles.now tables.now ports.now)) }
 {
     let all = drivers_in(alloc, roles, tables, ports)?;
     if let Some(fault) = fault_in(&all, tables) {

@@ -2,7 +2,7 @@
 
 ghost use Rattle.std.specs.List.{cons_option};
 ghost use Rattle.std.specs.Prelude.{◌≡◌, ◌+◌, ◌≤◌, ◌++◌, [], IfOk, OnOk, All, length};
-ghost use Rattle.tdf_bind_connections.specs.Edges.{is_event_port, driver_port, in_edge, driven_edge, sampler_edge, sink_edge, edge_by, edges_of, IsShort};
+ghost use Rattle.tdf_bind_connections.specs.Edges.{is_event_port, driver_port, in_edge, driven_edge, sampler_edge, sink_edge, edge_by, edges_of, HasShortDelay};
 ghost use Rattle.tdf_bind_connections.specs.machine.EdgeSteps.{actor_after};
 
 use crate::drivers::SignalRow;
@@ -55,8 +55,8 @@ fn in_edge(
     port: &PortRow,
     out: u32,
 ) -> Result<Option<EdgeRow>, Memory>
-    requires short { IsShort port.now }
-    requires all_short { All IsShort ports.now }
+    requires short { HasShortDelay port.now }
+    requires all_short { All HasShortDelay ports.now }
     ensures { IfOk result (λ edge. edge ≡ in_edge ports.now number port.now out) }
 {
     let place = out as usize;
@@ -78,8 +78,8 @@ fn driven_edge(
     number: usize,
     port: &PortRow,
 ) -> Result<Option<EdgeRow>, Memory>
-    requires short { IsShort port.now }
-    requires all_short { All IsShort ports.now }
+    requires short { HasShortDelay port.now }
+    requires all_short { All HasShortDelay ports.now }
     ensures { IfOk result (λ edge. edge ≡ driven_edge ports.now number port.now (driver_port signals.now port.now.signal)) }
 {
     match driver_port(signals, port.signal) {
@@ -119,8 +119,8 @@ fn edge_by(
     actor: usize,
     port: &PortRow,
 ) -> Result<Option<EdgeRow>, Memory>
-    requires short { IsShort port.now }
-    requires all_short { All IsShort ports.now }
+    requires short { HasShortDelay port.now }
+    requires all_short { All HasShortDelay ports.now }
     ensures { IfOk result (λ edge. edge ≡ edge_by signals.now ports.now number actor port.now) }
 {
     match port.kind {
@@ -163,7 +163,7 @@ pub fn edges_of(
     signals: &[SignalRow],
     ports: &[PortRow],
 ) -> Result<Vec<EdgeRow>, Memory>
-    requires { All IsShort ports.now }
+    requires { All HasShortDelay ports.now }
     ensures { IfOk result (λ edges. edges.items ≡ edges_of modules signals.now ports.now) }
 {
     let mut edges = Vec::new(alloc);

@@ -100,9 +100,9 @@ pub struct ModuleData {
 }
 
 impl Model for ModuleData {
-    ghost use Rattle.tdf_bind_connections.specs.Roles.{ModuleOf};
+    ghost use Rattle.tdf_bind_connections.specs.Roles.{ModuleRole};
 
-    ghost Value = { ModuleOf };
+    ghost Value = { ModuleRole };
 
     ghost view = { λ a. record {
       block = a.block;

@@ -5,9 +5,9 @@ use Rattle.std.proofs.lemmas.List.Elements.{filter-append, filter_map-append, re
 use Rattle.std.specs.List.{flat_map, AllZip, AllByRecursion, slice_index_or}
 use Rattle.std.specs.Prelude.{map, slice_get, filter, filter_map, cond, All}
 use Rattle.tdf_bind_hierarchy.specs.Blocks.{InstanceOf, BlockOf}
-use Rattle.tdf_bind_hierarchy.specs.Bound.{IsTarget, IsBound, AreBound}
-use Rattle.tdf_bind_hierarchy.specs.Met.{PlacedInstance, Met, MetSignal, MetInstance, signal_at, reached_by, placed, with_inside, in_block, inside}
-use Rattle.tdf_bind_hierarchy.specs.Tables.{RowOf, TablesOf, table, signal_of, instance_of, same_kind, is_of, signals_of, numbers_after, IsNumberOf, StandsFor, IsRowOf}
+use Rattle.tdf_bind_hierarchy.specs.Bound.{IsTarget, IsInstanceBound, AreBound}
+use Rattle.tdf_bind_hierarchy.specs.Met.{PlacedInstance, Met, MetSignal, MetInstance, placed_signal, reached_by, placed, with_inside, in_block, inside}
+use Rattle.tdf_bind_hierarchy.specs.Tables.{RowOf, TablesOf, table, met_signal, met_instance, same_kind, is_of, signals_of, numbers_after, IsNumberOf, StandsFor, IsRowOf}
 use Rattle.tdf_bind_hierarchy.specs.machine.Walk.{next_number, put_number, put_in, put_signal, put_row, number_at, number_of, put_signals, numbered_in, row_of, walked_row, walked_all, walked_in, walked}
 use Rattle.tdf_bind_hierarchy.specs.declared.blocks.SignalLine.{SignalLine}
 use Rattle.tdf_bind_hierarchy.specs.declared.blocks.Target.{Target}
@@ -46,10 +46,10 @@ get_end (x ∷ s) p = get_end s p
 
 -- what was met
 all_signals : List Met → List Signal
-all_signals met = filter_map signal_of met
+all_signals met = filter_map met_signal met
 
 signals_then : (e : Bool) (ms ns : List Met) → signals_of e (ms ++ ns) ≡ signals_of e ms ++ signals_of e ns
-signals_then e ms ns = ap (filter (is_of e)) (filter_map-append signal_of ms ns) ∙ filter-append (is_of e) (filter_map signal_of ms) (filter_map signal_of ns)
+signals_then e ms ns = ap (filter (is_of e)) (filter_map-append met_signal ms ns) ∙ filter-append (is_of e) (filter_map met_signal ms) (filter_map met_signal ns)
 
 numbers_then : (before ss rs : List Signal) → numbers_after before (ss ++ rs) ≡ numbers_after before ss ++ numbers_after (before ++ ss) rs
 numbers_then before [] rs = ap (λ b. numbers_after b rs) (sym (append-nil before))
@@ -84,8 +84,8 @@ pub record Adds (t u : TablesOf) (ms : List Met) : Type 0 where
   pub more : List RowOf
   pub signals : (e : Bool) → table e u ≡ table e t ++ signals_of e ms
   pub rows : u.instances ≡ t.instances ++ more
-  pub fit : AllZip (IsRowOf u) more (filter_map instance_of ms)
-  pub order : (before : List Signal) → ((e : Bool) → length (table e t) ≡ length (filter (is_of e) before)) → u.order ≡ t.order ++ numbers_after before (filter_map signal_of ms)
+  pub fit : AllZip (IsRowOf u) more (filter_map met_instance ms)
+  pub order : (before : List Signal) → ((e : Bool) → length (table e t) ≡ length (filter (is_of e) before)) → u.order ≡ t.order ++ numbers_after before (filter_map met_signal ms)
 
 grows : (t u : TablesOf) (ms : List Met) → Adds t u ms → Grows t u
 grows t u ms a = record { more = λ e. signals_of e ms; is = a.signals }
@@ -98,21 +98,21 @@ adds_then t u v ms ns a b = record {
   more = a.more ++ b.more;
   signals = λ e. b.signals e ∙ ap (λ l. l ++ signals_of e ns) (a.signals e) ∙ append_assoc (table e t) (signals_of e ms) (signals_of e ns) ∙ ap (λ l. table e t ++ l) (sym (signals_then e ms ns));
   rows = b.rows ∙ ap (λ l. l ++ b.more) a.rows ∙ append_assoc t.instances a.more b.more;
-  fit = subst (AllZip (IsRowOf v) (a.more ++ b.more)) (sym (filter_map-append instance_of ms ns))
-      (zip_then (IsRowOf v) a.more b.more (filter_map instance_of ms) (filter_map instance_of ns) (zip_map (IsRowOf u) (IsRowOf v) (row_more u v (grows u v ns b)) a.more (filter_map instance_of ms) a.fit) b.fit);
+  fit = subst (AllZip (IsRowOf v) (a.more ++ b.more)) (sym (filter_map-append met_instance ms ns))
+      (zip_then (IsRowOf v) a.more b.more (filter_map met_instance ms) (filter_map met_instance ns) (zip_map (IsRowOf u) (IsRowOf v) (row_more u v (grows u v ns b)) a.more (filter_map met_instance ms) a.fit) b.fit);
   order = order;
 }
   where
-    counts_then : (before : List Signal) → ((e : Bool) → length (table e t) ≡ length (filter (is_of e) before)) → (e : Bool) → length (table e u) ≡ length (filter (is_of e) (before ++ filter_map signal_of ms))
+    counts_then : (before : List Signal) → ((e : Bool) → length (table e t) ≡ length (filter (is_of e) before)) → (e : Bool) → length (table e u) ≡ length (filter (is_of e) (before ++ filter_map met_signal ms))
     counts_then before counts e = ap length (a.signals e) ∙ length-append (table e t) (signals_of e ms) ∙ ap (λ n. n + length (signals_of e ms)) (counts e)
-        ∙ sym (length-append (filter (is_of e) before) (signals_of e ms)) ∙ ap length (sym (filter-append (is_of e) before (filter_map signal_of ms)))
+        ∙ sym (length-append (filter (is_of e) before) (signals_of e ms)) ∙ ap length (sym (filter-append (is_of e) before (filter_map met_signal ms)))
 
-    order : (before : List Signal) → ((e : Bool) → length (table e t) ≡ length (filter (is_of e) before)) → v.order ≡ t.order ++ numbers_after before (filter_map signal_of (ms ++ ns))
-    order before counts = b.order (before ++ filter_map signal_of ms) (counts_then before counts)
-        ∙ ap (λ l. l ++ numbers_after (before ++ filter_map signal_of ms) (filter_map signal_of ns)) (a.order before counts)
-        ∙ append_assoc t.order (numbers_after before (filter_map signal_of ms)) (numbers_after (before ++ filter_map signal_of ms) (filter_map signal_of ns))
-        ∙ ap (λ l. t.order ++ l) (sym (numbers_then before (filter_map signal_of ms) (filter_map signal_of ns)))
-        ∙ ap (λ l. t.order ++ numbers_after before l) (sym (filter_map-append signal_of ms ns))
+    order : (before : List Signal) → ((e : Bool) → length (table e t) ≡ length (filter (is_of e) before)) → v.order ≡ t.order ++ numbers_after before (filter_map met_signal (ms ++ ns))
+    order before counts = b.order (before ++ filter_map met_signal ms) (counts_then before counts)
+        ∙ ap (λ l. l ++ numbers_after (before ++ filter_map met_signal ms) (filter_map met_signal ns)) (a.order before counts)
+        ∙ append_assoc t.order (numbers_after before (filter_map met_signal ms)) (numbers_after (before ++ filter_map met_signal ms) (filter_map met_signal ns))
+        ∙ ap (λ l. t.order ++ l) (sym (numbers_then before (filter_map met_signal ms) (filter_map met_signal ns)))
+        ∙ ap (λ l. t.order ++ numbers_after before l) (sym (filter_map-append met_signal ms ns))
 
 -- one signal more
 in_table : (event e : Bool) (n : SignalNumber) (signal : Signal) (t : TablesOf) → table e (put_in event signal (put_number n t)) ≡ table e t ++ cond (same_kind e event) (signal ∷ []) []
@@ -142,16 +142,16 @@ adds_signal signal t = record {
   order = λ before counts. in_order signal.event (next_number signal.event t) signal t ∙ ap (λ n. t.order ++ record { event = signal.event; number = n } ∷ []) (counts signal.event);
 }
 
-adds_signals : (path : Option (List ℕ)) (lines : List SignalLine) (t : TablesOf) → Adds t (put_signals path lines t) (map (λ line. MetSignal (signal_at path line)) lines)
+adds_signals : (path : Option (List ℕ)) (lines : List SignalLine) (t : TablesOf) → Adds t (put_signals path lines t) (map (λ line. MetSignal (placed_signal path line)) lines)
 adds_signals path [] t = adds_none t
-adds_signals path (line ∷ lines) t = adds_then t (put_signal (signal_at path line) t) (put_signals path lines (put_signal (signal_at path line) t)) (MetSignal (signal_at path line) ∷ []) (map (λ line. MetSignal (signal_at path line)) lines)
-    (adds_signal (signal_at path line) t) (adds_signals path lines (put_signal (signal_at path line) t))
+adds_signals path (line ∷ lines) t = adds_then t (put_signal (placed_signal path line) t) (put_signals path lines (put_signal (placed_signal path line) t)) (MetSignal (placed_signal path line) ∷ []) (map (λ line. MetSignal (placed_signal path line)) lines)
+    (adds_signal (placed_signal path line) t) (adds_signals path lines (put_signal (placed_signal path line) t))
 
 -- the numbers of a block's own signals
-own_at : (path : Option (List ℕ)) (lines : List SignalLine) (t : TablesOf) → AllZip (IsNumberOf (put_signals path lines t)) (numbered_in path lines t) (map (signal_at path) lines)
+own_at : (path : Option (List ℕ)) (lines : List SignalLine) (t : TablesOf) → AllZip (IsNumberOf (put_signals path lines t)) (numbered_in path lines t) (map (placed_signal path) lines)
 own_at path [] t = tt
 own_at path (line ∷ lines) t =
-    let signal = signal_at path line in
+    let signal = placed_signal path line in
     let u = put_signal signal t in (
       number_more u (put_signals path lines u) (grows u (put_signals path lines u) _ (adds_signals path lines u)) (next_number line.event t) signal
           (record { kind = refl; place = in_end line.event (next_number line.event t) signal t }),
@@ -173,10 +173,10 @@ outer_one t (n ∷ ns) (r ∷ rs) (suc k) h within = outer_one t ns rs k h.1 (om
 outer_one t [] (r ∷ rs) k h within = absurd h
 outer_one t (n ∷ ns) [] k h within = absurd h
 
-targets_at : (t : TablesOf) (path : Option (List ℕ)) (b : BlockOf) (own numbers : List SignalNumber) (outer : List (Option Signal)) (targets : List Target) → AllZip (IsNumberOf t) own (map (signal_at path) b.signals) → AllZip (StandsFor t) numbers outer → length outer ≡ b.ports
+targets_at : (t : TablesOf) (path : Option (List ℕ)) (b : BlockOf) (own numbers : List SignalNumber) (outer : List (Option Signal)) (targets : List Target) → AllZip (IsNumberOf t) own (map (placed_signal path) b.signals) → AllZip (StandsFor t) numbers outer → length outer ≡ b.ports
     → AllByRecursion (IsTarget b) targets → AllZip (StandsFor t) (map (number_of own numbers) targets) (map (reached_by path b outer) targets)
 targets_at t path b own numbers outer [] h k long each = tt
-targets_at t path b own numbers outer (Own n ∷ targets) h k long each = (own_one t own (map (signal_at path) b.signals) n h (subst (λ m. n < m) (sym (length-map b.signals (signal_at path))) each.0), targets_at t path b own numbers outer targets h k long each.1)
+targets_at t path b own numbers outer (Own n ∷ targets) h k long each = (own_one t own (map (placed_signal path) b.signals) n h (subst (λ m. n < m) (sym (length-map b.signals (placed_signal path))) each.0), targets_at t path b own numbers outer targets h k long each.1)
 targets_at t path b own numbers outer (Outer n ∷ targets) h k long each = (outer_one t numbers outer n k (subst (λ m. n < m) (sym long) each.0), targets_at t path b own numbers outer targets h k long each.1)
 
 -- the walk
@@ -199,12 +199,12 @@ adds_row row instance t h = record {
   order = λ before counts. sym (append-nil t.order);
 }
 
-walks_all : (blocks : List BlockOf) (go : ℕ → Option (List ℕ) → List SignalNumber → TablesOf → TablesOf) (met : ℕ → Option (List ℕ) → List (Option Signal) → List Met) → Walks blocks go met → (b : BlockOf) (is : List InstanceOf) → AllByRecursion (IsBound blocks b) is
-    → (path : Option (List ℕ)) (own numbers : List SignalNumber) (outer : List (Option Signal)) (t : TablesOf) → AllZip (IsNumberOf t) own (map (signal_at path) b.signals) → AllZip (StandsFor t) numbers outer → length outer ≡ b.ports
+walks_all : (blocks : List BlockOf) (go : ℕ → Option (List ℕ) → List SignalNumber → TablesOf → TablesOf) (met : ℕ → Option (List ℕ) → List (Option Signal) → List Met) → Walks blocks go met → (b : BlockOf) (is : List InstanceOf) → AllByRecursion (IsInstanceBound blocks b) is
+    → (path : Option (List ℕ)) (own numbers : List SignalNumber) (outer : List (Option Signal)) (t : TablesOf) → AllZip (IsNumberOf t) own (map (placed_signal path) b.signals) → AllZip (StandsFor t) numbers outer → length outer ≡ b.ports
     → Adds t (walked_all go is path own numbers t) (flat_map (λ i. with_inside met (placed path b outer i)) is)
 walks_all blocks go met walks b [] each path own numbers outer t h k long = adds_none t
 walks_all blocks go met walks b (i ∷ is) each path own numbers outer t h k long = adds_then t v w (with_inside met instance) (flat_map (λ i. with_inside met (placed path b outer i)) is) both
-    (walks_all blocks go met walks b is each.1 path own numbers outer v (own_more t v (grows t v (with_inside met instance) both) own (map (signal_at path) b.signals) h)
+    (walks_all blocks go met walks b is each.1 path own numbers outer v (own_more t v (grows t v (with_inside met instance) both) own (map (placed_signal path) b.signals) h)
     (reached_more t v (grows t v (with_inside met instance) both) numbers outer k) long)
   where
     row : RowOf
@@ -235,15 +235,15 @@ walks_all blocks go met walks b (i ∷ is) each path own numbers outer t h k lon
     both = adds_then t u v (MetInstance instance ∷ []) (met i.block (Some instance.path) instance.reached) first below
 
 walks_in : (blocks : List BlockOf) (go : ℕ → Option (List ℕ) → List SignalNumber → TablesOf → TablesOf) (met : ℕ → Option (List ℕ) → List (Option Signal) → List Met) → Walks blocks go met → (o : Option BlockOf)
-    → ((b : BlockOf) → o ≡ Some b → All (IsBound blocks b) b.instances) → (path : Option (List ℕ)) (numbers : List SignalNumber) (outer : List (Option Signal)) (t : TablesOf) → AllZip (StandsFor t) numbers outer → ((b : BlockOf) → o ≡ Some b → length outer ≡ b.ports)
+    → ((b : BlockOf) → o ≡ Some b → All (IsInstanceBound blocks b) b.instances) → (path : Option (List ℕ)) (numbers : List SignalNumber) (outer : List (Option Signal)) (t : TablesOf) → AllZip (StandsFor t) numbers outer → ((b : BlockOf) → o ≡ Some b → length outer ≡ b.ports)
     → Adds t (walked_in go o path numbers t) (in_block met o path outer)
 walks_in blocks go met walks None bound path numbers outer t k long = adds_none t
 walks_in blocks go met walks (Some b) bound path numbers outer t k long =
     let u = put_signals path b.signals t in
     let first = adds_signals path b.signals t in
-    adds_then t u (walked_all go b.instances path (numbered_in path b.signals t) numbers u) (map (λ line. MetSignal (signal_at path line)) b.signals) (flat_map (λ i. with_inside met (placed path b outer i)) b.instances) first
-    (walks_all blocks go met walks b b.instances (recursion_from_All (IsBound blocks b) b.instances (bound b refl)) path (numbered_in path b.signals t) numbers outer u (own_at path b.signals t)
-    (reached_more t u (grows t u (map (λ line. MetSignal (signal_at path line)) b.signals) first) numbers outer k) (long b refl))
+    adds_then t u (walked_all go b.instances path (numbered_in path b.signals t) numbers u) (map (λ line. MetSignal (placed_signal path line)) b.signals) (flat_map (λ i. with_inside met (placed path b outer i)) b.instances) first
+    (walks_all blocks go met walks b b.instances (recursion_from_All (IsInstanceBound blocks b) b.instances (bound b refl)) path (numbered_in path b.signals t) numbers outer u (own_at path b.signals t)
+    (reached_more t u (grows t u (map (λ line. MetSignal (placed_signal path line)) b.signals) first) numbers outer k) (long b refl))
 
 pub walks : (blocks : List BlockOf) (top depth : ℕ) → AreBound blocks top → Walks blocks (walked blocks depth) (inside blocks depth)
 unfolding walked

@@ -5,9 +5,9 @@ use Rattle.std.specs.List.{AllZip, AllByRecursion, flat_map}
 use Rattle.std.specs.Option.{option_map}
 use Rattle.std.specs.Prelude.{slice_get, slice_index_or, filter_map, All}
 use Rattle.tdf_bind_hierarchy.specs.Blocks.{InstanceOf, BlockOf}
-use Rattle.tdf_bind_hierarchy.specs.Met.{PlacedInstance, Met, MetSignal, MetInstance, signal_at, reached_by, placed, InsideOf, with_inside, in_block, inside, met_in}
-use Rattle.tdf_bind_hierarchy.specs.PortKinds.{kinds_of, kind_of, KeepKinds, PortsKeepKinds}
-use Rattle.tdf_bind_hierarchy.specs.Tables.{RowOf, TablesOf, instance_of, StandsFor, IsRowOf}
+use Rattle.tdf_bind_hierarchy.specs.Met.{PlacedInstance, Met, MetSignal, MetInstance, placed_signal, reached_by, placed, InsideOf, with_inside, in_block, inside, met_in}
+use Rattle.tdf_bind_hierarchy.specs.PortKinds.{kinds_of, target_kind, KeepKinds, PortsKeepKinds}
+use Rattle.tdf_bind_hierarchy.specs.Tables.{RowOf, TablesOf, met_instance, StandsFor, IsRowOf}
 use Rattle.tdf_bind_hierarchy.specs.declared.blocks.SignalLine.{SignalLine}
 use Rattle.tdf_bind_hierarchy.specs.declared.blocks.Target.{Target}
 use Rattle.tdf_bind_hierarchy.specs.declared.blocks.Target.TheVariants.{Own, Outer}
@@ -17,7 +17,7 @@ use Rattle.tdf_bind_hierarchy.specs.declared.tables.SignalNumber.{SignalNumber}
 abbrev event_of : Option Signal → Option Bool
 event_of reached = option_map (λ signal. signal.event) reached
 
-own_kind : (path : Option (List ℕ)) (lines : List SignalLine) (k : ℕ) → event_of (slice_get (map (signal_at path) lines) k) ≡ option_map (λ line. line.event) (slice_get lines k)
+own_kind : (path : Option (List ℕ)) (lines : List SignalLine) (k : ℕ) → event_of (slice_get (map (placed_signal path) lines) k) ≡ option_map (λ line. line.event) (slice_get lines k)
 own_kind path [] k = refl
 own_kind path (line ∷ lines) zero = refl
 own_kind path (line ∷ lines) (suc k) = own_kind path lines k
@@ -35,24 +35,24 @@ outer_kind outer ports k h = reads outer k ∙ ap (λ l. slice_index_or l k None
     holds (b ∷ bs) zero = refl
     holds (b ∷ bs) (suc n) = holds bs n
 
-targets_kind : (path : Option (List ℕ)) (b : BlockOf) (ports : List Bool) (outer : List (Option Signal)) → map event_of outer ≡ map Some ports → (targets : List Target) → map event_of (map (reached_by path b outer) targets) ≡ map (kind_of b ports) targets
+targets_kind : (path : Option (List ℕ)) (b : BlockOf) (ports : List Bool) (outer : List (Option Signal)) → map event_of outer ≡ map Some ports → (targets : List Target) → map event_of (map (reached_by path b outer) targets) ≡ map (target_kind b ports) targets
 targets_kind path b ports outer h [] = refl
-targets_kind path b ports outer h (Own k ∷ targets) = ap (λ o. o ∷ map event_of (map (reached_by path b outer) targets)) (own_kind path b.signals k) ∙ ap (λ l. kind_of b ports (Own k) ∷ l) (targets_kind path b ports outer h targets)
-targets_kind path b ports outer h (Outer k ∷ targets) = ap (λ o. o ∷ map event_of (map (reached_by path b outer) targets)) (outer_kind outer ports k h) ∙ ap (λ l. kind_of b ports (Outer k) ∷ l) (targets_kind path b ports outer h targets)
+targets_kind path b ports outer h (Own k ∷ targets) = ap (λ o. o ∷ map event_of (map (reached_by path b outer) targets)) (own_kind path b.signals k) ∙ ap (λ l. target_kind b ports (Own k) ∷ l) (targets_kind path b ports outer h targets)
+targets_kind path b ports outer h (Outer k ∷ targets) = ap (λ o. o ∷ map event_of (map (reached_by path b outer) targets)) (outer_kind outer ports k h) ∙ ap (λ l. target_kind b ports (Outer k) ∷ l) (targets_kind path b ports outer h targets)
 
 module _ (kinds : List (List Bool)) where
   abbrev Kept : PlacedInstance → Type 0
   Kept i = map event_of i.reached ≡ map Some (kinds_of kinds i.block)
 
   abbrev KeptIn : List Met → Type 0
-  KeptIn ms = AllByRecursion Kept (filter_map instance_of ms)
+  KeptIn ms = AllByRecursion Kept (filter_map met_instance ms)
 
 kept_then : (kinds : List (List Bool)) (ms ns : List Met) → KeptIn kinds ms → KeptIn kinds ns → KeptIn kinds (ms ++ ns)
 kept_then kinds [] ns h k = k
 kept_then kinds (MetSignal s ∷ ms) ns h k = kept_then kinds ms ns h k
 kept_then kinds (MetInstance i ∷ ms) ns h k = (h.0, kept_then kinds ms ns h.1 k)
 
-kept_signals : (kinds : List (List Bool)) (path : Option (List ℕ)) (lines : List SignalLine) → KeptIn kinds (map (λ line. MetSignal (signal_at path line)) lines)
+kept_signals : (kinds : List (List Bool)) (path : Option (List ℕ)) (lines : List SignalLine) → KeptIn kinds (map (λ line. MetSignal (placed_signal path line)) lines)
 kept_signals kinds path [] = tt
 kept_signals kinds path (line ∷ lines) = kept_signals kinds path lines
 
@@ -60,7 +60,7 @@ pub record Keeps (kinds : List (List Bool)) (within : InsideOf) : Type 0 where
   pub at : (block : ℕ) (path : Option (List ℕ)) (outer : List (Option Signal)) → map event_of outer ≡ map Some (kinds_of kinds block) → KeptIn kinds (within block path outer)
 
 kept_all : (kinds : List (List Bool)) (within : InsideOf) → Keeps kinds within → (path : Option (List ℕ)) (b : BlockOf) (ports : List Bool) (outer : List (Option Signal)) → map event_of outer ≡ map Some ports
-    → (is : List InstanceOf) → AllByRecursion (λ i. map (kind_of b ports) i.targets ≡ map Some (kinds_of kinds i.block)) is → KeptIn kinds (flat_map (λ i. with_inside within (placed path b outer i)) is)
+    → (is : List InstanceOf) → AllByRecursion (λ i. map (target_kind b ports) i.targets ≡ map Some (kinds_of kinds i.block)) is → KeptIn kinds (flat_map (λ i. with_inside within (placed path b outer i)) is)
 kept_all kinds within keeps path b ports outer h [] each = tt
 kept_all kinds within keeps path b ports outer h (i ∷ is) each =
     let kept = targets_kind path b ports outer h i.targets ∙ each.0 in
@@ -68,12 +68,12 @@ kept_all kinds within keeps path b ports outer h (i ∷ is) each =
     (kept, keeps.at i.block (Some (placed path b outer i).path) (placed path b outer i).reached kept)
     (kept_all kinds within keeps path b ports outer h is each.1)
 
-kept_in : (kinds : List (List Bool)) (within : InsideOf) → Keeps kinds within → (ports : List Bool) (o : Option BlockOf) → ((b : BlockOf) → o ≡ Some b → All (λ i. map (kind_of b ports) i.targets ≡ map Some (kinds_of kinds i.block)) b.instances)
+kept_in : (kinds : List (List Bool)) (within : InsideOf) → Keeps kinds within → (ports : List Bool) (o : Option BlockOf) → ((b : BlockOf) → o ≡ Some b → All (λ i. map (target_kind b ports) i.targets ≡ map Some (kinds_of kinds i.block)) b.instances)
     → (path : Option (List ℕ)) (outer : List (Option Signal)) → map event_of outer ≡ map Some ports → KeptIn kinds (in_block within o path outer)
 kept_in kinds within keeps ports None each path outer h = tt
 kept_in kinds within keeps ports (Some b) each path outer h =
-    kept_then kinds (map (λ line. MetSignal (signal_at path line)) b.signals) (flat_map (λ i. with_inside within (placed path b outer i)) b.instances) (kept_signals kinds path b.signals)
-    (kept_all kinds within keeps path b ports outer h b.instances (recursion_from_All (λ i. map (kind_of b ports) i.targets ≡ map Some (kinds_of kinds i.block)) b.instances (each b refl)))
+    kept_then kinds (map (λ line. MetSignal (placed_signal path line)) b.signals) (flat_map (λ i. with_inside within (placed path b outer i)) b.instances) (kept_signals kinds path b.signals)
+    (kept_all kinds within keeps path b ports outer h b.instances (recursion_from_All (λ i. map (target_kind b ports) i.targets ≡ map Some (kinds_of kinds i.block)) b.instances (each b refl)))
 
 keeps : (kinds : List (List Bool)) (blocks : List BlockOf) (top depth : ℕ) → KeepKinds kinds blocks top → Keeps kinds (inside blocks depth)
 keeps kinds blocks top zero h = record { at = λ block path outer e. tt }
@@ -116,5 +116,5 @@ rows_kind kinds t (r ∷ rows) [] h k = absurd h
 
 pub ports_keep_kinds : PortsKeepKinds
 ports_keep_kinds kinds blocks top t h table = All-from_recursion (λ row. map (λ n. n.event) row.signals ≡ kinds_of kinds row.block) t.instances
-    (rows_kind kinds t t.instances (filter_map instance_of (met_in blocks top)) table.instances
+    (rows_kind kinds t t.instances (filter_map met_instance (met_in blocks top)) table.instances
     ((keeps kinds blocks top (length blocks) h).at top None [] (ap (map Some) (sym h.closed))))

@@ -7,8 +7,8 @@ use Rattle.std.specs.List.{AllZip, AllByRecursion, flat_map}
 use Rattle.std.specs.Prelude.{map, slice_get, filter, filter_map, cond, All}
 use Rattle.tdf_bind_hierarchy.specs.Blocks.{InstanceOf, BlockOf}
 use Rattle.tdf_bind_hierarchy.specs.Laws.{IsInRange, PortsAreInRange, OrderIsInRange, OrderIsPreorder, AreEarlier, DepthIsEnough}
-use Rattle.tdf_bind_hierarchy.specs.Met.{PlacedInstance, MetSignal, MetInstance, signal_at, placed, InsideOf, with_inside, in_block, inside}
-use Rattle.tdf_bind_hierarchy.specs.Tables.{RowOf, TablesOf, table, signal_of, instance_of, same_kind, is_of, numbers_after, IsNumberOf, StandsFor, IsRowOf}
+use Rattle.tdf_bind_hierarchy.specs.Met.{PlacedInstance, MetSignal, MetInstance, placed_signal, placed, InsideOf, with_inside, in_block, inside}
+use Rattle.tdf_bind_hierarchy.specs.Tables.{RowOf, TablesOf, table, met_signal, met_instance, same_kind, is_of, numbers_after, IsNumberOf, StandsFor, IsRowOf}
 use Rattle.tdf_bind_hierarchy.specs.declared.tables.Signal.{Signal}
 use Rattle.tdf_bind_hierarchy.specs.declared.tables.SignalNumber.{SignalNumber}
 
@@ -29,7 +29,7 @@ rows_in t [] (i ∷ is) h = absurd h
 rows_in t (r ∷ rows) [] h = absurd h
 
 pub ports_are_in_range : PortsAreInRange
-ports_are_in_range met t h = All-from_recursion (λ row. All (IsInRange t) row.signals) t.instances (rows_in t t.instances (filter_map instance_of met) h.instances)
+ports_are_in_range met t h = All-from_recursion (λ row. All (IsInRange t) row.signals) t.instances (rows_in t t.instances (filter_map met_instance met) h.instances)
 
 get_at : {X : Type 0} (xs ys : List X) (x : X) → slice_get (xs ++ x ∷ ys) (length xs) ≡ Some x
 get_at [] ys x = refl
@@ -47,9 +47,9 @@ order_at t before (s ∷ ss) h = (
 )
 
 pub order_is_preorder : OrderIsPreorder
-order_is_preorder met t h = subst (λ numbers. AllZip (IsNumberOf t) numbers (filter_map signal_of met)) (sym h.order) (order_at t [] (filter_map signal_of met) tables)
+order_is_preorder met t h = subst (λ numbers. AllZip (IsNumberOf t) numbers (filter_map met_signal met)) (sym h.order) (order_at t [] (filter_map met_signal met) tables)
   where
-    tables : (e : Bool) → table e t ≡ filter (is_of e) (filter_map signal_of met)
+    tables : (e : Bool) → table e t ≡ filter (is_of e) (filter_map met_signal met)
     tables true = h.event_signals
     tables false = h.signals
 
@@ -60,7 +60,7 @@ order_in t [] (s ∷ ss) h = absurd h
 order_in t (n ∷ ns) [] h = absurd h
 
 pub order_is_in_range : OrderIsInRange
-order_is_in_range met t h = All-from_recursion (IsInRange t) t.order (order_in t t.order (filter_map signal_of met) (order_is_preorder met t h))
+order_is_in_range met t h = All-from_recursion (IsInRange t) t.order (order_in t t.order (filter_map met_signal met) (order_is_preorder met t h))
 
 same_all : (n : ℕ) (f g : InsideOf) → ((k : ℕ) → k < n → (path : Option (List ℕ)) (outer : List (Option Signal)) → f k path outer ≡ g k path outer)
     → (path : Option (List ℕ)) (b : BlockOf) (outer : List (Option Signal)) (is : List InstanceOf) → AllByRecursion (λ instance. instance.block < n) is
@@ -73,7 +73,7 @@ same_all n f g same path b outer (i ∷ is) each =
 same_in : (n : ℕ) (f g : InsideOf) → ((k : ℕ) → k < n → (path : Option (List ℕ)) (outer : List (Option Signal)) → f k path outer ≡ g k path outer)
     → (o : Option BlockOf) → ((b : BlockOf) → o ≡ Some b → All (λ instance. instance.block < n) b.instances) → (path : Option (List ℕ)) (outer : List (Option Signal)) → in_block f o path outer ≡ in_block g o path outer
 same_in n f g same None each path outer = refl
-same_in n f g same (Some b) each path outer = ap (λ l. map (λ line. MetSignal (signal_at path line)) b.signals ++ l) (same_all n f g same path b outer b.instances (recursion_from_All (λ instance. instance.block < n) b.instances (each b refl)))
+same_in n f g same (Some b) each path outer = ap (λ l. map (λ line. MetSignal (placed_signal path line)) b.signals ++ l) (same_all n f g same path b outer b.instances (recursion_from_All (λ instance. instance.block < n) b.instances (each b refl)))
 
 deeper : (blocks : List BlockOf) → AreEarlier blocks → (d e k : ℕ) → k < d → k < e → (path : Option (List ℕ)) (outer : List (Option Signal)) → inside blocks d k path outer ≡ inside blocks e k path outer
 deeper blocks early zero e k a b path outer = absurd (omega (arith, a))

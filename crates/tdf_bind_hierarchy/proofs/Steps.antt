@@ -5,7 +5,7 @@ use Rattle.std.proofs.lemmas.List.{map_more, take_more, drop_more, drop_all}
 use Rattle.std.proofs.lemmas.Option.{slice_get-get_or, slice_get_past}
 use Rattle.std.specs.Prelude.{map, slice_get, ◌-◌}
 use Rattle.tdf_bind_hierarchy.specs.Blocks.{InstanceOf, BlockOf}
-use Rattle.tdf_bind_hierarchy.specs.Met.{signal_at}
+use Rattle.tdf_bind_hierarchy.specs.Met.{placed_signal}
 use Rattle.tdf_bind_hierarchy.specs.Tables.{TablesOf}
 use Rattle.tdf_bind_hierarchy.specs.machine.Walk.{next_number, put_signal, put_signals, numbered_in, number_at, number_of, row_of, walked, walked_in, walked_row, walked_all, IsPut}
 use Rattle.tdf_bind_hierarchy.specs.declared.blocks.SignalLine.{SignalLine}
@@ -32,19 +32,19 @@ pub ruleset number_laws = (numbers_more)
 
 numbered_push : (path : Option (List ℕ)) (xs : List SignalLine) (x : SignalLine) (t : TablesOf) → numbered_in path (xs ++ x ∷ []) t ≡ numbered_in path xs t ++ next_number x.event (put_signals path xs t) ∷ []
 numbered_push path [] x t = refl
-numbered_push path (y ∷ xs) x t = ap (λ l. next_number y.event t ∷ l) (numbered_push path xs x (put_signal (signal_at path y) t))
+numbered_push path (y ∷ xs) x t = ap (λ l. next_number y.event t ∷ l) (numbered_push path xs x (put_signal (placed_signal path y) t))
 
-put_push : (path : Option (List ℕ)) (xs : List SignalLine) (x : SignalLine) (t : TablesOf) → put_signals path (xs ++ x ∷ []) t ≡ put_signal (signal_at path x) (put_signals path xs t)
+put_push : (path : Option (List ℕ)) (xs : List SignalLine) (x : SignalLine) (t : TablesOf) → put_signals path (xs ++ x ∷ []) t ≡ put_signal (placed_signal path x) (put_signals path xs t)
 put_push path [] x t = refl
-put_push path (y ∷ xs) x t = put_push path xs x (put_signal (signal_at path y) t)
+put_push path (y ∷ xs) x t = put_push path xs x (put_signal (placed_signal path y) t)
 
 pub is_put_next : (path : Option (List ℕ)) (lines : List SignalLine) (i : ℕ) (line : SignalLine) (signal : Signal) (old : TablesOf) (own : List SignalNumber) (new : TablesOf) (n : SignalNumber) (own_next : List SignalNumber) (next : TablesOf) → i < length lines → IsPut path (take i lines) old own new
-    → line ≡ get_or lines i line → signal ≡ signal_at path line → n ≡ next_number signal.event new → own_next ≡ own ++ n ∷ [] → next ≡ put_signal signal new → IsPut path (take (i + 1) lines) old own_next next
+    → line ≡ get_or lines i line → signal ≡ placed_signal path line → n ≡ next_number signal.event new → own_next ≡ own ++ n ∷ [] → next ≡ put_signal signal new → IsPut path (take (i + 1) lines) old own_next next
 is_put_next path lines i line signal old own new n own_next next within h line_is signal_is n_is own_is next_is =
     subst (λ ls. IsPut path ls old own_next next) (sym (take_more lines i line within ∙ ap (λ (x : SignalLine). take i lines ++ x ∷ []) (sym line_is)))
     (record {
       own_is = own_is ∙ ap (λ m. own ++ m ∷ []) (n_is ∙ ap (λ (s : Signal). next_number s.event new) signal_is ∙ ap (λ (t : TablesOf). next_number line.event t) h.new_is) ∙ ap (λ l. l ++ next_number line.event (put_signals path (take i lines) old) ∷ []) h.own_is ∙ sym (numbered_push path (take i lines) line old);
-      new_is = next_is ∙ ap (λ s. put_signal s new) signal_is ∙ ap (put_signal (signal_at path line)) h.new_is ∙ sym (put_push path (take i lines) line old);
+      new_is = next_is ∙ ap (λ s. put_signal s new) signal_is ∙ ap (put_signal (placed_signal path line)) h.new_is ∙ sym (put_push path (take i lines) line old);
     })
 
 pub ruleset signal_laws = (is_put_next)

@@ -6,7 +6,7 @@ use Rattle.tdf_bind_hierarchy.proofs.Adds.{Adds, walks}
 use Rattle.tdf_bind_hierarchy.specs.Blocks.{BlockOf}
 use Rattle.tdf_bind_hierarchy.specs.Bound.{AreBound}
 use Rattle.tdf_bind_hierarchy.specs.Met.{Met, met_in}
-use Rattle.tdf_bind_hierarchy.specs.Tables.{TablesOf, IsTable, IsRowOf, instance_of}
+use Rattle.tdf_bind_hierarchy.specs.Tables.{TablesOf, IsTable, IsRowOf, met_instance}
 use Rattle.tdf_bind_hierarchy.specs.machine.Walk.{no_tables, walked}
 
 is_table : (t : TablesOf) (ms : List Met) → Adds no_tables t ms → IsTable ms t
@@ -14,7 +14,7 @@ is_table t ms a = record {
   signals = a.signals false;
   event_signals = a.signals true;
   order = a.order [] counts;
-  instances = subst (λ rows. AllZip (IsRowOf t) rows (filter_map instance_of ms)) (sym a.rows) a.fit;
+  instances = subst (λ rows. AllZip (IsRowOf t) rows (filter_map met_instance ms)) (sym a.rows) a.fit;
 }
   where
     counts : (e : Bool) → length (Rattle.tdf_bind_hierarchy.specs.Tables.table e no_tables) ≡ 0

@@ -11,7 +11,8 @@ IsTarget around (Own signal) = signal < length around.signals
 IsTarget around (Outer port) = port < around.ports
 
 -- an instance in the block `around` has a target for each port of its own block
-pub record IsBound (blocks : List BlockOf) (around : BlockOf) (instance : InstanceOf) : Type 0 where
+pub record IsInstanceBound (blocks : List BlockOf) (around : BlockOf) (instance : InstanceOf)
+    : Type 0 where
   pub targets : All (IsTarget around) instance.targets
   pub ports : (block : BlockOf) → slice_get blocks instance.block ≡ Some block
       → length instance.targets ≡ block.ports
@@ -19,5 +20,5 @@ pub record IsBound (blocks : List BlockOf) (around : BlockOf) (instance : Instan
 -- all instances of all blocks are bound, and the block `top` has no ports
 pub record AreBound (blocks : List BlockOf) (top : ℕ) : Type 0 where
   pub each : (n : ℕ) (block : BlockOf) → slice_get blocks n ≡ Some block
-      → All (IsBound blocks block) block.instances
+      → All (IsInstanceBound blocks block) block.instances
   pub closed : (block : BlockOf) → slice_get blocks top ≡ Some block → block.ports ≡ 0

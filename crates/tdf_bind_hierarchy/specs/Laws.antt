@@ -4,7 +4,7 @@ use Rattle.std.specs.List.{AllZip}
 use Rattle.std.specs.Prelude.{◌≡◌, ◌<◌, ◌≤◌, ℕ, List, length, Option, Some, slice_get, filter_map, All}
 use Rattle.tdf_bind_hierarchy.specs.Blocks.{BlockOf}
 use Rattle.tdf_bind_hierarchy.specs.Met.{Met, inside}
-use Rattle.tdf_bind_hierarchy.specs.Tables.{TablesOf, table, signal_of, IsNumberOf, IsTable}
+use Rattle.tdf_bind_hierarchy.specs.Tables.{TablesOf, table, met_signal, IsNumberOf, IsTable}
 use Rattle.tdf_bind_hierarchy.specs.declared.tables.Signal.{Signal}
 use Rattle.tdf_bind_hierarchy.specs.declared.tables.SignalNumber.{SignalNumber}
 
@@ -25,7 +25,7 @@ OrderIsInRange = (met : List Met) (tables : TablesOf) → IsTable met tables
 -- the numbers of the order stand for the signals in preorder, one for each
 abbrev pub OrderIsPreorder : Type 0
 OrderIsPreorder = (met : List Met) (tables : TablesOf) → IsTable met tables
-    → AllZip (IsNumberOf tables) tables.order (filter_map signal_of met)
+    → AllZip (IsNumberOf tables) tables.order (filter_map met_signal met)
 
 -- each instance is of a block before the one that it is in
 abbrev pub AreEarlier : List BlockOf → Type 0

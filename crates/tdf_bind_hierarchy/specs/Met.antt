@@ -22,8 +22,8 @@ pub data Met : Type 0 where
 
 -- the signal that a line of a composite declares; `path` is the path of the composite,
 -- `None` that of the whole model
-abbrev pub signal_at : Option (List ℕ) → SignalLine → Signal
-signal_at path line = record {
+abbrev pub placed_signal : Option (List ℕ) → SignalLine → Signal
+placed_signal path line = record {
   event = line.event;
   path = path_in path line.name;
   format = line.format;
@@ -33,7 +33,7 @@ signal_at path line = record {
 -- the signal that a target reaches, where the ports of the composite reach `outer`
 abbrev pub reached_by : Option (List ℕ) → BlockOf → List (Option Signal) → Target → Option Signal
 reached_by path composite outer (Own signal) =
-    slice_get (map (signal_at path) composite.signals) signal
+    slice_get (map (placed_signal path) composite.signals) signal
 reached_by path composite outer (Outer port) = slice_index_or outer port None
 
 -- an instance of a composite at its place
@@ -57,7 +57,7 @@ with_inside within instance =
 abbrev pub in_block : InsideOf → Option BlockOf → Option (List ℕ) → List (Option Signal) → List Met
 in_block within None path outer = []
 in_block within (Some block) path outer =
-    map (λ line. MetSignal (signal_at path line)) block.signals
+    map (λ line. MetSignal (placed_signal path line)) block.signals
     ++ flat_map (λ instance. with_inside within (placed path block outer instance)) block.instances
 
 -- what is inside a block, `depth` levels deep

@@ -13,15 +13,15 @@ abbrev pub kinds_of : List (List Bool) → ℕ → List Bool
 kinds_of kinds block = slice_index_or kinds block []
 
 -- whether a target is for event signals, in a composite whose ports are of these kinds
-abbrev pub kind_of : BlockOf → List Bool → Target → Option Bool
-kind_of composite ports (Own signal) =
+abbrev pub target_kind : BlockOf → List Bool → Target → Option Bool
+target_kind composite ports (Own signal) =
     option_map (λ line. line.event) (slice_get composite.signals signal)
-kind_of composite ports (Outer port) = slice_get ports port
+target_kind composite ports (Outer port) = slice_get ports port
 
 -- each port is bound to a signal or port of its own kind
 pub record KeepKinds (kinds : List (List Bool)) (blocks : List BlockOf) (top : ℕ) : Type 0 where
   pub each : (n : ℕ) (composite : BlockOf) → slice_get blocks n ≡ Some composite
-      → All (λ instance. map (kind_of composite (kinds_of kinds n)) instance.targets
+      → All (λ instance. map (target_kind composite (kinds_of kinds n)) instance.targets
       ≡ map Some (kinds_of kinds instance.block)) composite.instances
   pub closed : kinds_of kinds top ≡ []
 

@@ -24,13 +24,13 @@ abbrev pub table : Bool → TablesOf → List Signal
 table true tables = tables.event_signals
 table false tables = tables.signals
 
-abbrev pub signal_of : Met → Option Signal
-signal_of (MetSignal signal) = Some signal
-signal_of (MetInstance instance) = None
+abbrev pub met_signal : Met → Option Signal
+met_signal (MetSignal signal) = Some signal
+met_signal (MetInstance instance) = None
 
-abbrev pub instance_of : Met → Option PlacedInstance
-instance_of (MetSignal signal) = None
-instance_of (MetInstance instance) = Some instance
+abbrev pub met_instance : Met → Option PlacedInstance
+met_instance (MetSignal signal) = None
+met_instance (MetInstance instance) = Some instance
 
 abbrev pub same_kind : Bool → Bool → Bool
 same_kind true event = event
@@ -43,7 +43,7 @@ is_of event signal = same_kind event signal.event
 
 -- the signals of a kind that were met
 abbrev pub signals_of : Bool → List Met → List Signal
-signals_of event met = filter (is_of event) (filter_map signal_of met)
+signals_of event met = filter (is_of event) (filter_map met_signal met)
 
 -- the number of each signal, after the signals `before`: how many of its kind come before it
 abbrev pub numbers_after : List Signal → List Signal → List SignalNumber
@@ -71,5 +71,5 @@ pub record IsRowOf (tables : TablesOf) (row : RowOf) (instance : PlacedInstance)
 pub record IsTable (met : List Met) (tables : TablesOf) : Type 0 where
   pub signals : tables.signals ≡ signals_of false met
   pub event_signals : tables.event_signals ≡ signals_of true met
-  pub order : tables.order ≡ numbers_after [] (filter_map signal_of met)
-  pub instances : AllZip (IsRowOf tables) tables.instances (filter_map instance_of met)
+  pub order : tables.order ≡ numbers_after [] (filter_map met_signal met)
+  pub instances : AllZip (IsRowOf tables) tables.instances (filter_map met_instance met)

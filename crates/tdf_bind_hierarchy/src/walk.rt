@@ -2,7 +2,7 @@
 
 ghost use Rattle.std.specs.Prelude.{◌≡◌, OnOk, IfOk, map};
 ghost use Rattle.tdf_bind_hierarchy.specs.Bound.{AreBound};
-ghost use Rattle.tdf_bind_hierarchy.specs.Met.{met_in, signal_at};
+ghost use Rattle.tdf_bind_hierarchy.specs.Met.{met_in, placed_signal};
 ghost use Rattle.tdf_bind_hierarchy.specs.Tables.{IsTable};
 ghost use Rattle.tdf_bind_hierarchy.specs.machine.Walk.{number_at, number_of, row_of, IsPut, walked, walked_all, walked_row};
 
@@ -51,7 +51,7 @@ fn numbers_of(
 }
 
 fn signal_of(alloc: Global, path: &Option<SharedPath>, line: &SignalLine) -> Result<Signal, Memory>
-    ensures { IfOk result (λ signal. signal ≡ signal_at path.now line.now) }
+    ensures { IfOk result (λ signal. signal ≡ placed_signal path.now line.now) }
 {
     Ok(Signal {
         event: line.event,

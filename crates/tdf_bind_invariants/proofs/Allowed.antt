@@ -4,7 +4,7 @@ use Rattle.std.specs.Prelude.{slice_get}
 use Rattle.tdf_expr.specs.Blocks.{PureBlock, blocks_of, scope_of}
 use Rattle.tdf_expr.specs.Compiled.{AreBlocksOf, IsBlockOf}
 use Rattle.tdf_expr.specs.Frames.{limits_of_rate}
-use Rattle.tdf_expr.specs.Made.{rates_in}
+use Rattle.tdf_expr.specs.Made.{block_rates}
 use Rattle.tdf_expr.specs.Plans.{rate_spans}
 use Rattle.tdf_expr.specs.declared.blocks.Block.{Block}
 use Rattle.tdf_expr.specs.declared.spans.RateSpan.{RateSpan}
@@ -26,7 +26,7 @@ unfolding IsAllowed
 block_allowed globals p b is = subst (λ (l : List RateSpan). RatesFit (map limits_of_rate l) (map (λ (r : RateSpan). r.start) l)) (sym is.rates)
     (rates_start (rate_spans (scope_of globals p).own) (rates_in_order (scope_of globals p).own (scope_of globals p).own.things is.sound.own))
 
-all_allowed : (globals : Names) (ps : List PureBlock) (bs : List Block) → AreBlocksOf globals ps bs → (n : ℕ) → IsAllowed (rates_in (slice_get bs n))
+all_allowed : (globals : Names) (ps : List PureBlock) (bs : List Block) → AreBlocksOf globals ps bs → (n : ℕ) → IsAllowed (block_rates (slice_get bs n))
 all_allowed globals [] [] are n = none_allowed
 all_allowed globals [] (b ∷ bs) are n = absurd are
 all_allowed globals (p ∷ ps) [] are n = absurd are

@@ -8,13 +8,13 @@ use Rattle.tdf_bind_invariants.proofs.Members.{IsTarget, pairs_of, tag_by_agreem
 use Rattle.tdf_bind_invariants.proofs.Spaces.{Differ, name_in, place_is}
 use Rattle.tdf_bind_invariants.specs.Tags.{Tag, port_tag, port_tags, tags_at, target_tag}
 use Rattle.tdf_bind_ports.specs.Agree.{agrees}
-use Rattle.tdf_bind_ports.specs.Faults.{Wrong, UnknownPort, TwiceBound, Mismatch, Unbound, fault_if}
-use Rattle.tdf_bind_ports.specs.Links.{Around, around_of, bind_faults, binds, binds_faults, composite_faults, faults_around, first_free, free_faults, instance_faults, is_bound, port_faults, port_in, port_of, ports_of_block, unbound_faults}
+use Rattle.tdf_bind_ports.specs.Faults.{Wrong, UnknownPort, TwiceBound, Mismatch, Unbound, link_fault_if}
+use Rattle.tdf_bind_ports.specs.Links.{Around, around_of, bind_faults, binds, binds_faults, composite_link_faults, faults_around, first_free, free_faults, instance_faults, is_bound, port_link_faults, port_in, port_around, ports_of_block, unbound_faults}
 use Rattle.tdf_bind_ports.specs.Ports.{Instances, Known, block_named, no_instances, port_named, port_of_member, ports_named, with_instance, with_instances}
 use Rattle.tdf_bind_names.specs.Resolved.{IsComposite, instance_of, instance_with, targets_of}
 use Rattle.tdf_bind_names.specs.Signals.{Declared, declared_by}
 use Rattle.tdf_bind_names.specs.Targets.{inside_of, or_first, target_after, target_from, target_named, target_of}
-use Rattle.tdf_expr_symbols.specs.Names.{Names, Thing, at_place, format_of, place_in, thing_of}
+use Rattle.tdf_expr_symbols.specs.Names.{Names, Thing, found_at, format_of, place_in, thing_of}
 use Rattle.tdf_expr_symbols.specs.Scope.{first_some}
 use Rattle.tdf_expr_symbols.specs.Sound.{HasFormat}
 use Rattle.tdf_lang_tree.specs.Pure.{PureComposite}
@@ -33,8 +33,8 @@ right_none : {A : Type 0} (xs ys : List A) → xs ++ ys ≡ [] → ys ≡ []
 right_none [] ys e = e
 right_none (x ∷ xs) ys e = absurd cc
 
-not_fault : (b : Bool) (wrong : Wrong) (line : ℕ) → fault_if b wrong line ≡ [] → b ≡ false
-unfolding fault_if
+not_fault : (b : Bool) (wrong : Wrong) (line : ℕ) → link_fault_if b wrong line ≡ [] → b ≡ false
+unfolding link_fault_if
 not_fault false wrong line e = refl
 not_fault true wrong line e = absurd cc
 
@@ -44,17 +44,17 @@ not_false false e = absurd (true≢false e)
 
 -- each `bind` line names a port, which agrees with its target
 abbrev pub IsBindGood : Around → Member → Type 0
-IsBindGood around (member.Bind line i p target) = (q : PortLine) × (port_of around i p ≡ Some q) × (agrees around.globals q (thing_of around.own target) ≡ true)
+IsBindGood around (member.Bind line i p target) = (q : PortLine) × (port_around around i p ≡ Some q) × (agrees around.globals q (thing_of around.own target) ≡ true)
 IsBindGood around _ = Unit {0}
 
-port_good : (globals : Names) (line : ℕ) (again : Bool) (thing : Option Thing) (o : Option PortLine) → port_faults globals line again thing o ≡ [] → (q : PortLine) × (o ≡ Some q) × (agrees globals q thing ≡ true)
+port_good : (globals : Names) (line : ℕ) (again : Bool) (thing : Option Thing) (o : Option PortLine) → port_link_faults globals line again thing o ≡ [] → (q : PortLine) × (o ≡ Some q) × (agrees globals q thing ≡ true)
 port_good globals line again thing None e = absurd (true≢false (not_fault true UnknownPort line e))
 port_good globals line again thing (Some q) e =
-    (q, refl, not_false (agrees globals q thing) (not_fault (not (agrees globals q thing)) Mismatch line (right_none (fault_if again TwiceBound line) (fault_if (not (agrees globals q thing)) Mismatch line) e)))
+    (q, refl, not_false (agrees globals q thing) (not_fault (not (agrees globals q thing)) Mismatch line (right_none (link_fault_if again TwiceBound line) (link_fault_if (not (agrees globals q thing)) Mismatch line) e)))
 
 bind_good : (around : Around) (bound : List ℕ → List ℕ → Bool) (m : Member) → bind_faults around bound m ≡ [] → IsBindGood around m
 unfolding bind_faults
-bind_good around bound (member.Bind line i p target) e = port_good around.globals line (bound i p) (thing_of around.own target) (port_of around i p) e
+bind_good around bound (member.Bind line i p target) e = port_good around.globals line (bound i p) (thing_of around.own target) (port_around around i p) e
 bind_good around bound (member.Port port) e = tt
 bind_good around bound (member.Signal line name x) e = tt
 bind_good around bound (member.DeSignal line name x start) e = tt
@@ -166,7 +166,7 @@ all_listed (m ∷ ms) = (listed_here m ms, all_more m ms ms (all_listed ms))
 block_is : (ms : List Member) → Differ (instance_names ms) → (n : ℕ) (name block : List ℕ) → slice_get (instance_names ms) n ≡ Some name → slice_get (instance_blocks ms) n ≡ Some block
     → block_named (with_instances ms no_instances) name ≡ Some block
 block_is ms differ n name block at there =
-    ap (λ (i : Instances). block_named i name) (listed ms no_instances) ∙ ap (at_place (instance_blocks ms)) (place_is (instance_names ms) differ name n at) ∙ there
+    ap (λ (i : Instances). block_named i name) (listed ms no_instances) ∙ ap (found_at (instance_blocks ms)) (place_is (instance_names ms) differ name n at) ∙ there
 
 -- the port of a name
 abbrev pub port_names : List PortLine → List (List ℕ)
@@ -178,7 +178,7 @@ named_at (q ∷ ports) zero p at = ap (λ (r : PortLine). Some r.name) (same_Som
 named_at (q ∷ ports) (suc n) p at = named_at ports n p at
 
 port_is : (ports : List PortLine) → Differ (port_names ports) → (n : ℕ) (p : PortLine) → slice_get ports n ≡ Some p → port_named ports p.name ≡ Some p
-port_is ports differ n p at = ap (at_place ports) (place_is (port_names ports) differ p.name n (named_at ports n p at)) ∙ at
+port_is ports differ n p at = ap (found_at ports) (place_is (port_names ports) differ p.name n (named_at ports n p at)) ∙ at
 
 -- the last line that binds a port binds it to what has its tag
 both_true : (a b : Bool) → a && b ≡ true → (a ≡ true) × (b ≡ true)
@@ -188,7 +188,7 @@ both_true false b e = absurd (true≢false (sym e))
 module _ (globals : Names) (known : Known) (block : PureComposite) (b : BlockOf) (is : IsComposite globals known block b)
     (differ : Differ (map name_in (flat_map (pairs_of globals) block.members))) (instances : Differ (instance_names block.members))
     (has : AllByRecursion (λ (d : Declared). HasFormat (format_of globals d.format)) (flat_map declared_by block.members))
-    (none : composite_faults globals known block ≡ []) (ports_differ : (name : List ℕ) (ports : List PortLine) → ports_named known name ≡ Some ports → Differ (port_names ports)) where
+    (none : composite_link_faults globals known block ≡ []) (ports_differ : (name : List ℕ) (ports : List PortLine) → ports_named known name ≡ Some ports → Differ (port_names ports)) where
   abbrev ms : List Member
   ms = block.members
 
@@ -199,7 +199,7 @@ module _ (globals : Names) (known : Known) (block : PureComposite) (b : BlockOf)
   tags = port_tags globals (flat_map port_of_member ms)
 
   no_faults : faults_around around ms ≡ []
-  unfolding composite_faults
+  unfolding composite_link_faults
   no_faults = none
 
   goods : AllByRecursion (IsBindGood around) ms
@@ -211,7 +211,7 @@ module _ (globals : Names) (known : Known) (block : PureComposite) (b : BlockOf)
   -- one port of one instance
   module _ (name : List ℕ) (inner : List ℕ) (named : block_named around.instances name ≡ Some inner) (ports : List PortLine) (there : ports_named known inner ≡ Some ports)
       (n : ℕ) (p : PortLine) (at : slice_get ports n ≡ Some p) where
-    port_there : port_of around name p.name ≡ Some p
+    port_there : port_around around name p.name ≡ Some p
     port_there =
         ap (λ (o : Option (List ℕ)). port_in (ports_of_block known o) p.name) named ∙ ap (λ o. port_in o p.name) there ∙ port_is ports (ports_differ inner ports there) n p at
 
@@ -222,7 +222,7 @@ module _ (globals : Names) (known : Known) (block : PureComposite) (b : BlockOf)
     well : (m : Member) → IsBindGood around m → BindsWell m
     well (member.Bind line i q target) good = λ bound.
         let names = both_true (pointwise nat_eq name i) (pointwise nat_eq p.name q) bound in
-        let found : port_of around i q ≡ Some p = ap (λ (x : List ℕ). port_of around x q) (sym (same_text name i (sym names.0))) ∙ ap (port_of around name) (sym (same_text p.name q (sym names.1))) ∙ port_there in
+        let found : port_around around i q ≡ Some p = ap (λ (x : List ℕ). port_around around x q) (sym (same_text name i (sym names.0))) ∙ ap (port_around around name) (sym (same_text p.name q (sym names.1))) ∙ port_there in
         let same : good.0 ≡ p = same_Some good.0 p (sym good.1 ∙ found) in
         let tag = tag_by_agreement globals p (thing_of around.own target) (subst (λ (x : PortLine). agrees globals x (thing_of around.own target) ≡ true) same good.2) in
         subst (IsTarget globals ms b target) tag.3 (targets_thing globals ms b differ has is.signals target p.kind tag.0 tag.1 tag.2)
@@ -293,7 +293,7 @@ module _ (globals : Names) (known : Known) (block : PureComposite) (b : BlockOf)
         go None at (Some ports) e = tt
         go (Some k) at None e = tt
         go (Some k) at (Some ports) e =
-            (ports_tagged name inner named ports e ports (λ j q there. (j, there)) (bound ports e) ∙ sym (known_tags k ports (ap (at_place known.ports) (sym at) ∙ e)), tt)
+            (ports_tagged name inner named ports e ports (λ j q there. (j, there)) (bound ports e) ∙ sym (known_tags k ports (ap (found_at known.ports) (sym at) ∙ e)), tt)
 
     all_append : (xs ys : List InstanceOf) → AllByRecursion IsInstanceTagged xs → AllByRecursion IsInstanceTagged ys → AllByRecursion IsInstanceTagged (xs ++ ys)
     all_append [] ys one other = other

@@ -13,12 +13,12 @@ use Rattle.tdf_bind_invariants.proofs.Bindings.{instance_names, instances_tagged
 use Rattle.tdf_bind_invariants.proofs.Members.{pairs_of}
 use Rattle.tdf_bind_invariants.proofs.Spaces.{Differ, name_in}
 use Rattle.tdf_bind_invariants.specs.Tags.{KeepTags, Tag, block_tags, model_tags, port_tags, tags_at, target_tag}
-use Rattle.tdf_bind_ports.specs.Links.{composite_faults, global_faults, globals_faults, link_faults}
+use Rattle.tdf_bind_ports.specs.Links.{composite_link_faults, global_link_faults, globals_link_faults, link_faults}
 use Rattle.tdf_bind_ports.specs.Ports.{Known, known_after, known_after_all, no_blocks, port_of_member, port_of_tdf_line, port_of_de_line, ports_named, ports_of_composite, ports_of_de, ports_of_tdf, with_block}
 use Rattle.tdf_expr_names.specs.Law.{AreApart, DeclaresOnce, HasNamesOnce}
 use Rattle.tdf_expr_names.specs.Names.{Name, has, names_of_de_line, names_of_de_lines, names_of_member, names_of_tdf_line, names_of_tdf_lines}
 use Rattle.tdf_bind_names.specs.Resolved.{AreBlocks, AreResolved, IsComposite, leaf, whole}
-use Rattle.tdf_expr_symbols.specs.Names.{Names, at_place, globals_of, place_in}
+use Rattle.tdf_expr_symbols.specs.Names.{Names, found_at, globals_of, place_in}
 use Rattle.tdf_lang_tree.specs.Kept.{Each}
 use Rattle.tdf_lang_tree.specs.Pure.{PureComposite, PureDeLine, DPort, DStore, DEvent, PureGlobal, GShape, GTdf, GDe, GNet, PureTdfLine, TPort, TStore, TRate, PureTree}
 use Rattle.tdf_lang_tree.specs.declared.blocks.Member.{Member}
@@ -146,8 +146,8 @@ named_once : (known : Known) → HavePortsOnce known → (name : List ℕ) (port
 named_once known once name ports e = go (place_in known.names name) refl
   where
     go : (o : Option ℕ) → place_in known.names name ≡ o → Differ (port_names ports)
-    go None at = absurd (none-some ports (sym (ap (at_place known.ports) at) ∙ e))
-    go (Some k) at = item_at (λ (ps : List PortLine). Differ (port_names ps)) known.ports once k ports (sym (ap (at_place known.ports) at) ∙ e)
+    go None at = absurd (none-some ports (sym (ap (found_at known.ports) at) ∙ e))
+    go (Some k) at = item_at (λ (ps : List PortLine). Differ (port_names ps)) known.ports once k ports (sym (ap (found_at known.ports) at) ∙ e)
 
 push_once : (known : Known) (name : List ℕ) (ports : List PortLine) → HavePortsOnce known → Differ (port_names ports) → HavePortsOnce (with_block name ports known)
 push_once known name ports once differ = go known.ports once
@@ -176,7 +176,7 @@ module _ (globals : Names) (tags : List (List (Option Tag))) where
   next_place known name ports = length_push known.ports ports
 
   composite_good : (known : Known) (block : PureComposite) (b : BlockOf) → IsComposite globals known block b → AreApart (flat_map names_of_member block.members) → AreFormatted globals (GNet block)
-      → composite_faults globals known block ≡ [] → HavePortsOnce known → ((k : ℕ) (ports : List PortLine) → slice_get known.ports k ≡ Some ports → tags_at tags k ≡ port_tags globals ports)
+      → composite_link_faults globals known block ≡ [] → HavePortsOnce known → ((k : ℕ) (ports : List PortLine) → slice_get known.ports k ≡ Some ports → tags_at tags k ≡ port_tags globals ports)
       → (n : ℕ) → tags_at tags n ≡ port_tags globals (ports_of_composite block) → Good n b
   composite_good known block b is apart has none once there n here =
       let differ = apart_differ (flat_map names_of_member block.members) apart in
@@ -184,9 +184,9 @@ module _ (globals : Names) (tags : List (List (Option Tag))) where
       (All-from_recursion (λ (i : InstanceOf). map (target_tag b (port_tags globals (ports_of_composite block))) i.targets ≡ tags_at tags i.block) b.instances
       (instances_tagged globals known block b is (subst Differ (pair_names globals block.members) differ) (instances_differ block.members differ) has none (named_once known once) tags there))
 
-  blocks_good : (known : Known) (gs : List PureGlobal) (bs : List BlockOf) → tags ≡ block_tags globals (known_after_all gs known).ports → AreBlocks globals known gs bs → globals_faults globals known gs ≡ []
+  blocks_good : (known : Known) (gs : List PureGlobal) (bs : List BlockOf) → tags ≡ block_tags globals (known_after_all gs known).ports → AreBlocks globals known gs bs → globals_link_faults globals known gs ≡ []
       → Each DeclaresOnce gs → AllByRecursion (AreFormatted globals) gs → HavePortsOnce known → AllGood (length known.ports) bs
-  unfolding globals_faults known_after_all
+  unfolding globals_link_faults known_after_all
   blocks_good known [] bs all are none once has ports = subst (AllGood (length known.ports)) (sym are) tt
   blocks_good known (GShape t ∷ gs) bs all are none once has ports = blocks_good known gs bs all are none once.1 has.1 ports
   blocks_good known (GTdf block ∷ gs) [] all are none once has ports = absurd are
@@ -207,7 +207,7 @@ module _ (globals : Names) (tags : List (List (Option Tag))) where
   blocks_good known (GNet block ∷ gs) (b ∷ bs) all are none once has ports =
       let differ = ports_differ block.members (apart_differ (flat_map names_of_member block.members) once.0) in
       let next = with_block block.name (ports_of_composite block) known in
-      let faults = nothing_left (composite_faults globals known block) (globals_faults globals next gs) none in
+      let faults = nothing_left (composite_link_faults globals known block) (globals_link_faults globals next gs) none in
       let there : (k : ℕ) (ps : List PortLine) → slice_get next.ports k ≡ Some ps → tags_at tags k ≡ port_tags globals ps =
       λ k ps at. ap (λ (l : List (List (Option Tag))). tags_at l k) all ∙ tags_there globals (known_after_all gs next).ports k ps (stays gs next k ps at) in (
         composite_good known block b are.0 once.0 has.0 faults.0 ports (λ k ps at. there k ps (left_at known.ports (ports_of_composite block ∷ []) k ps at))
@@ -222,23 +222,23 @@ module _ (globals : Names) (tags : List (List (Option Tag))) where
   good_at from (c ∷ bs) all (suc n) b at = let next : from + 1 + n ≡ from + suc n = omega arith in subst (λ k. Good k b) next (good_at (from + 1) bs all.1 n b at)
 
 -- the faults of all declarations, `top` last
-none_whole : (globals : Names) (known : Known) (gs : List PureGlobal) (top : PureComposite) → globals_faults globals known gs ≡ [] → composite_faults globals (known_after_all gs known) top ≡ []
-    → globals_faults globals known (gs ++ GNet top ∷ []) ≡ []
-unfolding globals_faults known_after_all
+none_whole : (globals : Names) (known : Known) (gs : List PureGlobal) (top : PureComposite) → globals_link_faults globals known gs ≡ [] → composite_link_faults globals (known_after_all gs known) top ≡ []
+    → globals_link_faults globals known (gs ++ GNet top ∷ []) ≡ []
+unfolding globals_link_faults known_after_all
 none_whole globals known [] top none last = ap (λ l. l ++ []) last
 none_whole globals known (g ∷ gs) top none last =
-    let faults = nothing_left (global_faults globals known g) (globals_faults globals (known_after g known) gs) none in
-    ap (λ l. l ++ globals_faults globals (known_after g known) (gs ++ GNet top ∷ [])) faults.0 ∙ none_whole globals (known_after g known) gs top faults.1 last
+    let faults = nothing_left (global_link_faults globals known g) (globals_link_faults globals (known_after g known) gs) none in
+    ap (λ l. l ++ globals_link_faults globals (known_after g known) (gs ++ GNet top ∷ [])) faults.0 ∙ none_whole globals (known_after g known) gs top faults.1 last
 
 each_push : (P : PureGlobal → Type 0) (gs : List PureGlobal) (g : PureGlobal) → Each P gs → P g → Each P (gs ++ g ∷ [])
 each_push P [] g each last = (last, tt)
 each_push P (h ∷ gs) g each last = (each.0, each_push P gs g each.1 last)
 
-model_none : (model : PureTree) → link_faults model ≡ [] → globals_faults (globals_of model.globals) no_blocks (whole model) ≡ []
+model_none : (model : PureTree) → link_faults model ≡ [] → globals_link_faults (globals_of model.globals) no_blocks (whole model) ≡ []
 unfolding link_faults
 model_none model none =
     let globals = globals_of model.globals in
-    let faults = nothing_left (globals_faults globals no_blocks model.globals) (composite_faults globals (known_after_all model.globals no_blocks) model.top) none in
+    let faults = nothing_left (globals_link_faults globals no_blocks model.globals) (composite_link_faults globals (known_after_all model.globals no_blocks) model.top) none in
     none_whole globals no_blocks model.globals model.top faults.0 faults.1
 
 -- each port is bound to what has its tag

@@ -16,12 +16,12 @@ use Rattle.tdf_base.specs.Number.{Numeral, numeral_of}
 use Rattle.tdf_expr.specs.Blocks.{Module as TdfBlock, Events, PureBlock, blocks_of, scope_of}
 use Rattle.tdf_expr.specs.Compiled.{AreBlocksOf, IsBlockOf}
 use Rattle.tdf_expr.specs.Frames.{IsOfFormat, limits_of_rate}
-use Rattle.tdf_expr.specs.Made.{rates_in, spans_in}
-use Rattle.tdf_expr.specs.Plans.{PortPlace, place_of_port, port_places, rate_span, rate_spans, shape_of_format, written}
+use Rattle.tdf_expr.specs.Made.{block_rates, spans_in}
+use Rattle.tdf_expr.specs.Plans.{PortPlace, place_of_span, port_places, rate_span, rate_spans, shape_of_format, shape_written}
 use Rattle.tdf_expr.specs.declared.blocks.Block.{Block}
 use Rattle.tdf_expr.specs.declared.spans.PortSpan.{PortSpan}
 use Rattle.tdf_fixed.proofs.Api.{in_range}
-use Rattle.tdf_fixed.specs.Overflow.{IsIn}
+use Rattle.tdf_fixed.specs.Overflow.{IsOfWidth}
 use Rattle.tdf_fixed.specs.declared.format.Format.{Format}
 use Rattle.tdf_fixed.specs.declared.raw.Raw.{Raw}
 use Rattle.tdf_bind.specs.Flat.{IsFlatOf, top_place}
@@ -42,7 +42,7 @@ use Rattle.tdf_expr_semantics.specs.Value.{literal_in, literal_number}
 use Rattle.tdf_expr_names.specs.Law.{DeclaresOnce, HasNamesOnce, KeepsNamesOnce}
 use Rattle.tdf_expr_names.specs.Names.{names_of_tdf_line, names_of_tdf_lines}
 use Rattle.tdf_bind_names.specs.Resolved.{AreBlocks, AreResolved, whole}
-use Rattle.tdf_bind_attributes.specs.Roles.{initials_of_port, module_role, port_data, port_of, rate_in, roles_from, roles_of, with_initial, with_initials}
+use Rattle.tdf_bind_attributes.specs.Roles.{initials_of_port, module_role, port_data, data_of_port, rate_of_limit, roles_from, roles_of, with_initial, with_initials}
 use Rattle.tdf_expr_symbols.specs.Names.{Names, Thing, Port, RateVar, format_of, globals_of, tdf_names, thing_of}
 use Rattle.tdf_expr_symbols.specs.Scope.{Scope, greatest_of, tdf_scope}
 use Rattle.tdf_lang_tree.specs.Kept.{Each}
@@ -61,7 +61,7 @@ use Rattle.tdf_bind_hierarchy.specs.declared.tables.SignalNumber.{SignalNumber}
 use Rattle.tdf_bind_connections.specs.Drivers.{signal_row, signal_rows}
 use Rattle.tdf_bind_connections.specs.Edges.{is_event_port}
 use Rattle.tdf_bind_connections.specs.Modules.{PlacedModule, module_row, placed_modules, ports_from}
-use Rattle.tdf_bind_connections.specs.Roles.{ModuleOf}
+use Rattle.tdf_bind_connections.specs.Roles.{ModuleRole}
 use Rattle.tdf_bind_connections.specs.declared.drivers.SignalRow.{SignalRow}
 use Rattle.tdf_bind_connections.specs.declared.modules.ModuleRow.{ModuleRow}
 use Rattle.tdf_bind_connections.specs.declared.modules.PortRow.{PortRow}
@@ -72,7 +72,7 @@ use Rattle.tdf_bind_connections.specs.declared.roles.Role.TheVariants.{Module}
 use Rattle.tdf_bind_connections.specs.declared.writers.Writer.{Writer}
 
 -- the block of a module
-record IsModuleRole (globals : Names) (number : ℕ) (gs : List PureGlobal) (known : Known) (j : ℕ) (role : ModuleOf) : Type 0 where
+record IsModuleRole (globals : Names) (number : ℕ) (gs : List PureGlobal) (known : Known) (j : ℕ) (role : ModuleRole) : Type 0 where
   block : PureTdf
   k : ℕ
   role_is : role ≡ module_role globals (number + k) block
@@ -84,7 +84,7 @@ pushed_at : {A : Type 0} (xs : List A) (x : A) → slice_get (xs ++ x ∷ []) (l
 pushed_at [] x = refl
 pushed_at (y ∷ xs) x = pushed_at xs x
 
-abbrev role_in : ModuleOf → Option Role → ModuleOf
+abbrev role_in : ModuleRole → Option Role → ModuleRole
 role_in other (Some (Module role)) = role
 role_in other _ = other
 
@@ -92,7 +92,7 @@ abbrev is_module : Option Role → Type 0
 is_module (Some (Module role)) = Unit {0}
 is_module _ = ⊥
 
-module_found : (globals : Names) (number : ℕ) (gs : List PureGlobal) (known : Known) → Each DeclaresOnce gs → (j : ℕ) (role : ModuleOf) → slice_get (roles_from globals number gs) j ≡ Some (Module role)
+module_found : (globals : Names) (number : ℕ) (gs : List PureGlobal) (known : Known) → Each DeclaresOnce gs → (j : ℕ) (role : ModuleRole) → slice_get (roles_from globals number gs) j ≡ Some (Module role)
     → IsModuleRole globals number gs known j role
 unfolding roles_from known_after_all
 module_found globals number [] known once j role e = absurd (none-some (Module role) e)
@@ -227,11 +227,11 @@ number_is t n event shape e = go (slice_get (table n.event t) n.number) refl e
     go (Some s) at f = record { signal = s; there = at; event_is = ap (tag_event (numbered_tag n.event s)) f; shape_is = ap (tag_shape (numbered_tag n.event s)) f }
 
 -- the literals of a format
-zero_in : (signed : Bool) (wl : ℕ) → IsIn signed wl (pos 0)
+zero_in : (signed : Bool) (wl : ℕ) → IsOfWidth signed wl (pos 0)
 zero_in true wl = record { low = omega (arith, ints); high = omega (arith, ints) }
 zero_in false wl = record { low = omega (arith, ints); high = omega (arith, ints) }
 
-literal_fits : (s : Shape) (minus : Bool) (n : Option Numeral) → 1 ≤ s.wl → IsIn s.signed s.wl (literal_number s minus n)
+literal_fits : (s : Shape) (minus : Bool) (n : Option Numeral) → 1 ≤ s.wl → IsOfWidth s.signed s.wl (literal_number s minus n)
 literal_fits s minus None some = zero_in s.signed s.wl
 literal_fits s minus (Some n) some = in_range s.over s.signed s.wl _ some
 
@@ -390,7 +390,7 @@ module _ (names_once : KeepsNamesOnce) (model : PureTree) (flat : Flat) (sound :
   own = scope.own
 
   number_of_block : it.placed.role.block ≡ of_block.k
-  number_of_block = let same : 0 + of_block.k ≡ of_block.k = omega arith in ap (λ (r : ModuleOf). r.block) of_block.role_is ∙ same
+  number_of_block = let same : 0 + of_block.k ≡ of_block.k = omega arith in ap (λ (r : ModuleRole). r.block) of_block.role_is ∙ same
 
   made : (b : Block) × (slice_get flat.checked.blocks.items of_block.k ≡ Some b) × IsBlockOf (scope_of globals (TdfBlock block)) (TdfBlock block) b
   made = compiled globals (blocks_of model.globals) flat.checked.blocks.items is.bodies of_block.k (TdfBlock block) (ap (λ (l : List PureBlock). slice_get l of_block.k) (sym (blocks_whole model.globals model.top)) ∙ of_block.at)
@@ -399,15 +399,15 @@ module _ (names_once : KeepsNamesOnce) (model : PureTree) (flat : Flat) (sound :
   block_at = ap (slice_get flat.checked.blocks.items) number_of_block ∙ made.1
 
   line : (l : PortLine) × (slice_get (ports_of_tdf block) it.place ≡ Some l) × (port_data scope block l ≡ it.port_data)
-  line = unmapped (port_data scope block) (ports_of_tdf block) it.place it.port_data (sym (ap (λ (r : ModuleOf). slice_get r.ports it.place) of_block.role_is) ∙ it.at)
+  line = unmapped (port_data scope block) (ports_of_tdf block) it.place it.port_data (sym (ap (λ (r : ModuleRole). slice_get r.ports it.place) of_block.role_is) ∙ it.at)
 
   place : IsPortPlace globals own (port_places own) it.place line.0
   place = port_placed globals block of_block.once it.place line.0 line.1
 
-  span : (p : PortSpan) × (slice_get made.0.ports.spans.items it.place ≡ Some p) × (place_of_port p ≡ place.place)
-  span = unmapped place_of_port made.0.ports.spans.items it.place place.place (ap (λ (l : List PortPlace). slice_get l it.place) made.2.spans ∙ place.there)
+  span : (p : PortSpan) × (slice_get made.0.ports.spans.items it.place ≡ Some p) × (place_of_span p ≡ place.place)
+  span = unmapped place_of_span made.0.ports.spans.items it.place place.place (ap (λ (l : List PortPlace). slice_get l it.place) made.2.spans ∙ place.there)
 
-  span_shape : written span.0.format ≡ format_of globals line.0.format
+  span_shape : shape_written span.0.format ≡ format_of globals line.0.format
   span_shape = ap (λ (p : PortPlace). p.shape) span.2 ∙ place.shape
 
   kind_is : port.kind ≡ line.0.kind
@@ -454,10 +454,10 @@ module _ (names_once : KeepsNamesOnce) (model : PureTree) (flat : Flat) (sound :
   thing_is : thing_of own line.0.name ≡ Some (Port line.0.kind (format_of globals line.0.format) place.rate place.delay)
   thing_is = place.thing
 
-  data_is : it.port_data ≡ port_of scope block line.0 (Some (Port line.0.kind (format_of globals line.0.format) place.rate place.delay))
-  data_is = sym line.2 ∙ ap (port_of scope block line.0) thing_is
+  data_is : it.port_data ≡ data_of_port scope block line.0 (Some (Port line.0.kind (format_of globals line.0.format) place.rate place.delay))
+  data_is = sym line.2 ∙ ap (data_of_port scope block line.0) thing_is
 
-  rate_is : port.rate ≡ rate_in own place.rate
+  rate_is : port.rate ≡ rate_of_limit own place.rate
   rate_is = ap (λ (p : PortRow). p.rate) it.is ∙ ap (λ (d : PortData). d.rate) data_is
 
   greatest_some : 1 ≤ greatest_of own place.rate
@@ -467,7 +467,7 @@ module _ (names_once : KeepsNamesOnce) (model : PureTree) (flat : Flat) (sound :
       let some = holds.1 in omega (arith, some, least)
 
   limits_are : limits_in flat.checked (Some (module_row it.placed)) ≡ rate_limits own
-  limits_are = ap (λ (o : Option Block). map limits_of_rate (rates_in o)) block_at ∙ limits_same globals block made.0 made.2.rates
+  limits_are = ap (λ (o : Option Block). map limits_of_rate (block_rates o)) block_at ∙ limits_same globals block made.0 made.2.rates
 
   wide : (values : List ℕ) → RatesFit (limits_in flat.checked (Some (module_row it.placed))) values → times_value port.rate.times values port.rate.var ≤ span.0.count
   wide values fit =

@@ -3,14 +3,14 @@ use Rattle.std.proofs.Common.{◌≡◌, ℕ, zero, suc, List, [], ◌∷◌, ma
 use Rattle.std.specs.Prelude.{slice_get}
 use Rattle.tdf_expr.specs.Blocks.{PureBlock, blocks_of}
 use Rattle.tdf_expr.specs.Compiled.{AreBlocksOf}
-use Rattle.tdf_expr.specs.Made.{rates_in}
+use Rattle.tdf_expr.specs.Made.{block_rates}
 use Rattle.tdf_expr.specs.declared.blocks.Block.{Block}
 use Rattle.tdf_expr.specs.declared.spans.RateSpan.{RateSpan}
 use Rattle.tdf_bind_invariants.specs.Limits.{SpansAreOne, StartsAreOne}
 use Rattle.tdf_expr_symbols.specs.Names.{Names, globals_of}
 
 spans_one : (globals : Names) (ps : List PureBlock) (bs cs : List Block) → AreBlocksOf globals ps bs → AreBlocksOf globals ps cs
-    → (n : ℕ) → rates_in (slice_get bs n) ≡ rates_in (slice_get cs n)
+    → (n : ℕ) → block_rates (slice_get bs n) ≡ block_rates (slice_get cs n)
 spans_one globals [] [] [] one other n = refl
 spans_one globals [] [] (c ∷ cs) one other n = absurd other
 spans_one globals [] (b ∷ bs) cs one other n = absurd one

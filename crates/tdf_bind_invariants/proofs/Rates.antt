@@ -7,19 +7,19 @@ use Rattle.tdf_graph.specs.Ranges.{IsRate}
 use Rattle.tdf_bind_invariants.specs.Limits.{IsAlwaysRate, times_value}
 use Rattle.tdf_expr_semantics.proofs.Api.{found, thing_sound, limits_placed}
 use Rattle.tdf_expr_semantics.specs.Places.{rate_limits, rate_number}
-use Rattle.tdf_bind_attributes.specs.Roles.{variable_at, variable_of, rate_in, rate_of_port}
+use Rattle.tdf_bind_attributes.specs.Roles.{variable_at, variable_of, rate_of_limit, rate_of_port}
 use Rattle.tdf_expr_symbols.specs.Names.{Names, Thing, Port, RateVar, place_of, thing_of}
-use Rattle.tdf_expr_symbols.specs.Scope.{Scope, least_of, greatest_of, least_rate, greatest_rate}
+use Rattle.tdf_expr_symbols.specs.Scope.{Scope, least_of, greatest_of, least_rate, greatest_rate_of}
 use Rattle.tdf_expr_symbols.specs.Sound.{IsSound}
 use Rattle.tdf_lang_tree.specs.declared.stmt.Limit.{Limit}
 use Rattle.tdf_lang_tree.specs.declared.stmt.Limit.TheVariants as limit
 
 -- a number times the value of a rate variable
-var_always : (own : Names) (c : ℕ) (r : List ℕ) → 1 ≤ c * least_rate (thing_of own r) → c * greatest_rate (thing_of own r) ≤ most_rate
+var_always : (own : Names) (c : ℕ) (r : List ℕ) → 1 ≤ c * least_rate (thing_of own r) → c * greatest_rate_of (thing_of own r) ≤ most_rate
     → IsAlwaysRate (rate_limits own) (record { times = c; var = variable_of own r })
 var_always own c r low high = go (thing_of own r) refl low high
   where
-    go : (o : Option Thing) → thing_of own r ≡ o → 1 ≤ c * least_rate o → c * greatest_rate o ≤ most_rate
+    go : (o : Option Thing) → thing_of own r ≡ o → 1 ≤ c * least_rate o → c * greatest_rate_of o ≤ most_rate
         → IsAlwaysRate (rate_limits own) (record { times = c; var = variable_of own r })
     go (Some (RateVar least greatest start)) is low high = λ values fit.
         let at = found own.things (place_of own r) (RateVar least greatest start) is in
@@ -33,7 +33,7 @@ var_always own c r low high = go (thing_of own r) refl low high
         (record { some = omega (arith, low, above); few = omega (arith, high, below) })
     go _ is low high = absurd (omega (arith, low))
 
-pub rate_always : (own : Names) (rate : Limit) → 1 ≤ least_of own rate → greatest_of own rate ≤ most_rate → IsAlwaysRate (rate_limits own) (rate_in own rate)
+pub rate_always : (own : Names) (rate : Limit) → 1 ≤ least_of own rate → greatest_of own rate ≤ most_rate → IsAlwaysRate (rate_limits own) (rate_of_limit own rate)
 unfolding least_of greatest_of
 rate_always own (limit.Int n) low high = λ values fit. record { some = low; few = high }
 rate_always own (limit.Var r) low high = var_always own 1 r (omega (arith, low)) (omega (arith, high))
@@ -41,13 +41,13 @@ rate_always own (limit.Times c r) low high = var_always own c r low high
 
 -- the rate of a port of a sound block; 1 for a name that is no port
 pub port_always : (scope : Scope) → IsSound scope → (name : List ℕ)
-    → IsAlwaysRate (rate_limits scope.own) (rate_in scope.own (rate_of_port (thing_of scope.own name)))
+    → IsAlwaysRate (rate_limits scope.own) (rate_of_limit scope.own (rate_of_port (thing_of scope.own name)))
 port_always scope sound name = go (thing_of scope.own name) refl
   where
-    one : IsAlwaysRate (rate_limits scope.own) (rate_in scope.own (limit.Int 1))
+    one : IsAlwaysRate (rate_limits scope.own) (rate_of_limit scope.own (limit.Int 1))
     one = λ values fit. record { some = omega arith; few = omega arith }
 
-    go : (o : Option Thing) → thing_of scope.own name ≡ o → IsAlwaysRate (rate_limits scope.own) (rate_in scope.own (rate_of_port o))
+    go : (o : Option Thing) → thing_of scope.own name ≡ o → IsAlwaysRate (rate_limits scope.own) (rate_of_limit scope.own (rate_of_port o))
     go None is = one
     go (Some (Port word shape rate delay)) is =
         let holds = thing_sound scope sound name (Port word shape rate delay) is in

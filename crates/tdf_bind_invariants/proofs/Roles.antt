@@ -11,7 +11,7 @@ use Rattle.tdf_expr_blocks.specs.Types.{global_faults}
 use Rattle.tdf_expr.specs.Blocks.{Module as TdfBlock, blocks_of}
 use Rattle.tdf_expr.specs.Compiled.{IsBlockOf, AreBlocksOf}
 use Rattle.tdf_expr.specs.Frames.{limits_of_rate}
-use Rattle.tdf_expr.specs.Made.{block_count, rate_spans_of, rates_in, start_rates}
+use Rattle.tdf_expr.specs.Made.{block_count, rate_spans_of, block_rates, start_rates}
 use Rattle.tdf_expr.specs.Plans.{rate_spans}
 use Rattle.tdf_expr.specs.declared.blocks.Block.{Block}
 use Rattle.tdf_expr.specs.declared.checked.Checked.{Checked}
@@ -32,7 +32,7 @@ use Rattle.tdf_expr_symbols.specs.Sound.{IsSound}
 use Rattle.tdf_lang_tree.specs.Kept.{Each, KeepsAttr, KeepsGlobal, KeepsTdf}
 use Rattle.tdf_lang_tree.specs.Pure.{PureTdf, PureComposite, PureGlobal, GShape, GTdf, GDe, GNet}
 use Rattle.tdf_lang_tree.specs.declared.blocks.PortLine.{PortLine}
-use Rattle.tdf_bind_connections.specs.Roles.{ModuleOf}
+use Rattle.tdf_bind_connections.specs.Roles.{ModuleRole}
 use Rattle.tdf_bind_connections.specs.declared.roles.PortData.{PortData}
 use Rattle.tdf_bind_connections.specs.declared.roles.Role.{Role}
 use Rattle.tdf_bind_connections.specs.declared.roles.Role.TheVariants.{Module, Processes, Composite}
@@ -42,7 +42,7 @@ pub record IsPortWithin (limits : List RateLimits) (port : PortData) : Type 0 wh
   pub step : port.step < time_end
   pub rate : IsAlwaysRate limits port.rate
 
-pub record IsModuleWithin (checked : Checked) (role : ModuleOf) : Type 0 where
+pub record IsModuleWithin (checked : Checked) (role : ModuleRole) : Type 0 where
   pub step : role.step < time_end
   pub block : role.block < block_count checked
   pub starts : RatesFit (map limits_of_rate (rate_spans_of checked role.block)) (start_rates checked role.block)
@@ -70,7 +70,7 @@ module_within : (globals : Names) (checked : Checked) (number : ℕ) (block : Pu
     → IsModuleWithin checked (module_role globals number block)
 module_within globals checked number block b none kept is at =
     let scope = tdf_scope globals block in
-    let spans : rate_spans_of checked number ≡ rate_spans scope.own = ap rates_in at ∙ is.rates in
+    let spans : rate_spans_of checked number ≡ rate_spans scope.own = ap block_rates at ∙ is.rates in
     let limits : map limits_of_rate (rate_spans_of checked number) ≡ rate_limits scope.own = ap (map limits_of_rate) spans ∙ sym (limits_same scope.own.things) in
     record {
       step = module_short block.attrs kept.attrs;

@@ -12,9 +12,9 @@ use Rattle.tdf_expr_semantics.proofs.Api.{found, limits_placed}
 use Rattle.tdf_expr_semantics.specs.Fits.{RatesFit}
 use Rattle.tdf_expr_semantics.specs.Places.{rate_limits, rate_number}
 use Rattle.tdf_expr_names.specs.Names.{names_of_tdf_line, name_of_store}
-use Rattle.tdf_bind_attributes.specs.Roles.{rate_in, variable_at, variable_of}
-use Rattle.tdf_expr_symbols.specs.Names.{Names, Thing, Const, Var, Array, Port, RateVar, Event, Signal, DeSignal, Instance, Loop, TypeName, Tdf, De, Composite, at_delay, at_place, at_rate, changed, changed_at, format_of, no_names, place_of, tdf_names, thing_of, with_attr, with_attrs, with_name, with_store, with_tdf_lines}
-use Rattle.tdf_expr_symbols.specs.Scope.{greatest_of, greatest_rate}
+use Rattle.tdf_bind_attributes.specs.Roles.{rate_of_limit, variable_at, variable_of}
+use Rattle.tdf_expr_symbols.specs.Names.{Names, Thing, Const, Var, Array, Port, RateVar, Event, Signal, DeSignal, Instance, Loop, TypeName, Tdf, De, Composite, at_delay, found_at, at_rate, names_changed, changed_at, format_of, no_names, place_of, tdf_names, thing_of, with_attr, with_attrs, with_name, with_store, with_tdf_lines}
+use Rattle.tdf_expr_symbols.specs.Scope.{greatest_of, greatest_rate_of}
 use Rattle.tdf_lang_tree.specs.Pure.{PureStore, SConst, SVar, SArray, PureTdf, PureTdfLine, TPort, TStore, TRate}
 use Rattle.tdf_lang_tree.specs.declared.blocks.Attr.{Attr}
 use Rattle.tdf_lang_tree.specs.declared.blocks.Attr.TheVariants as attr
@@ -38,17 +38,17 @@ map_set f [] n x y at same = absurd (none-some x at)
 map_set f (z ∷ xs) zero x y at same = ap (λ b. b ∷ map f xs) (same ∙ sym (ap f (same_Some z x at)))
 map_set f (z ∷ xs) (suc n) x y at same = ap (λ l. f z ∷ l) (map_set f xs n x y at same)
 
-changed_keeps : (f : Thing → Thing) → ((t : Thing) → kept_of (f t) ≡ kept_of t) → (name : List ℕ) (s : Names) → map kept_of (changed f name s).things ≡ map kept_of s.things
-unfolding changed
+changed_keeps : (f : Thing → Thing) → ((t : Thing) → kept_of (f t) ≡ kept_of t) → (name : List ℕ) (s : Names) → map kept_of (names_changed f name s).things ≡ map kept_of s.things
+unfolding names_changed
 changed_keeps f keeps name s = go (place_of s name) refl (thing_of s name) refl
   where
     go : (o : Option ℕ) → place_of s name ≡ o → (t : Option Thing) → thing_of s name ≡ t → map kept_of (changed_at f s.things o t) ≡ map kept_of s.things
     go None at t is = refl
     go (Some n) at None is = refl
-    go (Some n) at (Some thing) is = map_set kept_of s.things n thing (f thing) (ap (at_place s.things) (sym at) ∙ is) (keeps thing)
+    go (Some n) at (Some thing) is = map_set kept_of s.things n thing (f thing) (ap (found_at s.things) (sym at) ∙ is) (keeps thing)
 
-changed_names : (f : Thing → Thing) (name : List ℕ) (s : Names) → (changed f name s).names ≡ s.names
-unfolding changed
+changed_names : (f : Thing → Thing) (name : List ℕ) (s : Names) → (names_changed f name s).names ≡ s.names
+unfolding names_changed
 changed_names f name s = refl
 
 rate_keeps : (rate : Limit) (t : Thing) → kept_of (at_rate rate t) ≡ kept_of t
@@ -311,28 +311,28 @@ port_placed globals block differ n line at =
       there = it.there;
       rate = it.rate;
       delay = it.delay;
-      thing = ap (at_place own.things) placed ∙ it.thing;
+      thing = ap (found_at own.things) placed ∙ it.thing;
       word = it.word;
       shape = it.shape;
       count = it.count;
     }
 
 -- a rate is at most its greatest
-var_most : (own : Names) (c : ℕ) (r : List ℕ) (values : List ℕ) → RatesFit (rate_limits own) values → c * greatest_rate (thing_of own r) ≡ c * greatest_rate (thing_of own r)
-    → 1 ≤ c * greatest_rate (thing_of own r) → times_value c values (variable_of own r) ≤ c * greatest_rate (thing_of own r)
+var_most : (own : Names) (c : ℕ) (r : List ℕ) (values : List ℕ) → RatesFit (rate_limits own) values → c * greatest_rate_of (thing_of own r) ≡ c * greatest_rate_of (thing_of own r)
+    → 1 ≤ c * greatest_rate_of (thing_of own r) → times_value c values (variable_of own r) ≤ c * greatest_rate_of (thing_of own r)
 var_most own c r values fit same some = go (thing_of own r) refl some
   where
-    go : (o : Option Thing) → thing_of own r ≡ o → 1 ≤ c * greatest_rate o → times_value c values (variable_of own r) ≤ c * greatest_rate (thing_of own r)
+    go : (o : Option Thing) → thing_of own r ≡ o → 1 ≤ c * greatest_rate_of o → times_value c values (variable_of own r) ≤ c * greatest_rate_of (thing_of own r)
     go (Some (RateVar least greatest start)) is low =
         let at = found own.things (place_of own r) (RateVar least greatest start) is in
         let var : variable_of own r ≡ Some (rate_number own at.0) = ap (λ (o : Option ℕ). variable_at own o (thing_of own r)) at.1 ∙ ap (variable_at own (Some at.0)) is in
         let bounds = fit.each (rate_number own at.0) (record { least = least; greatest = greatest }) (limits_placed own.things at.0 least greatest start at.2) in
-        subst (λ (o : Option ℕ). times_value c values o ≤ c * greatest_rate (thing_of own r)) (sym var)
-        (subst (λ (o : Option Thing). c * slice_index values (rate_number own at.0) ≤ c * greatest_rate o) (sym is) (mul-le-mul_left c bounds.1))
+        subst (λ (o : Option ℕ). times_value c values o ≤ c * greatest_rate_of (thing_of own r)) (sym var)
+        (subst (λ (o : Option Thing). c * slice_index values (rate_number own at.0) ≤ c * greatest_rate_of o) (sym is) (mul-le-mul_left c bounds.1))
     go None is low = absurd (omega (arith, low))
     go (Some _) is low = absurd (omega (arith, low))
 
-pub rate_most : (own : Names) (rate : Limit) (values : List ℕ) → RatesFit (rate_limits own) values → 1 ≤ greatest_of own rate → times_value (rate_in own rate).times values (rate_in own rate).var ≤ greatest_of own rate
+pub rate_most : (own : Names) (rate : Limit) (values : List ℕ) → RatesFit (rate_limits own) values → 1 ≤ greatest_of own rate → times_value (rate_of_limit own rate).times values (rate_of_limit own rate).var ≤ greatest_of own rate
 unfolding greatest_of
 rate_most own (limit.Int n) values fit some = omega arith
 rate_most own (limit.Var r) values fit some =

@@ -4,7 +4,7 @@ use Rattle.std.specs.Cmp.Lexicographic.{pointwise}
 use Rattle.std.specs.Prelude.{nat_eq}
 use Rattle.tdf_base.specs.Limits.{time_end}
 use Rattle.tdf_bind_attributes.specs.Roles.{step_of_port}
-use Rattle.tdf_bind_attributes.specs.Standing.{or_else, last_of, when, module_step, port_step}
+use Rattle.tdf_bind_attributes.specs.Standing.{or_else, last_of, when, module_step, assigned_port_step}
 use Rattle.tdf_expr_symbols.specs.Names.{Thing}
 use Rattle.tdf_lang_tree.specs.Kept.{Each, KeepsAttr}
 use Rattle.tdf_lang_tree.specs.declared.blocks.Attr.{Attr}
@@ -33,7 +33,7 @@ module_said (attr.Step line None step) kept = kept.1
 module_said (attr.Step line (Some name) step) kept = tt
 module_said _ kept = tt
 
-port_said : (port : List ℕ) (a : Attr) → KeepsAttr a → IsShortStep (port_step port a)
+port_said : (port : List ℕ) (a : Attr) → KeepsAttr a → IsShortStep (assigned_port_step port a)
 port_said port (attr.Step line None step) kept = tt
 port_said port (attr.Step line (Some name) step) kept = go (pointwise nat_eq port name)
   where
@@ -47,4 +47,4 @@ module_short attrs kept = last_short module_step module_said 0 no_step attrs kep
 
 pub port_short : (port : List ℕ) (thing : Option Thing) (attrs : List Attr) → Each KeepsAttr attrs → step_of_port port thing attrs < time_end
 port_short port None attrs kept = no_step
-port_short port (Some thing) attrs kept = last_short (port_step port) (port_said port) 0 no_step attrs kept
+port_short port (Some thing) attrs kept = last_short (assigned_port_step port) (port_said port) 0 no_step attrs kept

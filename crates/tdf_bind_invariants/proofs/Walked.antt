@@ -6,8 +6,8 @@ use Rattle.std.specs.Option.{option_map}
 use Rattle.std.specs.Prelude.{slice_get, slice_index_or, filter_map, All}
 use Rattle.tdf_bind_invariants.specs.Tags.{Tag, KeepTags, line_tag, number_tag, numbered_tag, signal_tag, tags_at, target_tag}
 use Rattle.tdf_bind_hierarchy.specs.Blocks.{InstanceOf, BlockOf}
-use Rattle.tdf_bind_hierarchy.specs.Met.{PlacedInstance, Met, MetSignal, MetInstance, signal_at, reached_by, placed, InsideOf, with_inside, in_block, inside, met_in}
-use Rattle.tdf_bind_hierarchy.specs.Tables.{RowOf, TablesOf, instance_of, StandsFor, IsRowOf, IsTable}
+use Rattle.tdf_bind_hierarchy.specs.Met.{PlacedInstance, Met, MetSignal, MetInstance, placed_signal, reached_by, placed, InsideOf, with_inside, in_block, inside, met_in}
+use Rattle.tdf_bind_hierarchy.specs.Tables.{RowOf, TablesOf, met_instance, StandsFor, IsRowOf, IsTable}
 use Rattle.tdf_bind_hierarchy.specs.declared.blocks.SignalLine.{SignalLine}
 use Rattle.tdf_bind_hierarchy.specs.declared.blocks.Target.{Target}
 use Rattle.tdf_bind_hierarchy.specs.declared.blocks.Target.TheVariants.{Own, Outer}
@@ -17,7 +17,7 @@ use Rattle.tdf_bind_hierarchy.specs.declared.tables.SignalNumber.{SignalNumber}
 abbrev reached_tag : Option Signal → Option Tag
 reached_tag reached = option_map signal_tag reached
 
-own_tag : (path : Option (List ℕ)) (lines : List SignalLine) (k : ℕ) → reached_tag (slice_get (map (signal_at path) lines) k) ≡ option_map line_tag (slice_get lines k)
+own_tag : (path : Option (List ℕ)) (lines : List SignalLine) (k : ℕ) → reached_tag (slice_get (map (placed_signal path) lines) k) ≡ option_map line_tag (slice_get lines k)
 own_tag path [] k = refl
 own_tag path (line ∷ lines) zero = refl
 own_tag path (line ∷ lines) (suc k) = own_tag path lines k
@@ -41,14 +41,14 @@ module _ (tags : List (List (Option Tag))) where
   Kept i = map reached_tag i.reached ≡ tags_at tags i.block
 
   abbrev KeptIn : List Met → Type 0
-  KeptIn ms = AllByRecursion Kept (filter_map instance_of ms)
+  KeptIn ms = AllByRecursion Kept (filter_map met_instance ms)
 
 kept_then : (tags : List (List (Option Tag))) (ms ns : List Met) → KeptIn tags ms → KeptIn tags ns → KeptIn tags (ms ++ ns)
 kept_then tags [] ns h k = k
 kept_then tags (MetSignal s ∷ ms) ns h k = kept_then tags ms ns h k
 kept_then tags (MetInstance i ∷ ms) ns h k = (h.0, kept_then tags ms ns h.1 k)
 
-kept_signals : (tags : List (List (Option Tag))) (path : Option (List ℕ)) (lines : List SignalLine) → KeptIn tags (map (λ line. MetSignal (signal_at path line)) lines)
+kept_signals : (tags : List (List (Option Tag))) (path : Option (List ℕ)) (lines : List SignalLine) → KeptIn tags (map (λ line. MetSignal (placed_signal path line)) lines)
 kept_signals tags path [] = tt
 kept_signals tags path (line ∷ lines) = kept_signals tags path lines
 
@@ -68,7 +68,7 @@ kept_in : (tags : List (List (Option Tag))) (within : InsideOf) → Keeps tags w
     → (path : Option (List ℕ)) (outer : List (Option Signal)) → map reached_tag outer ≡ ports → KeptIn tags (in_block within o path outer)
 kept_in tags within keeps ports None each path outer h = tt
 kept_in tags within keeps ports (Some b) each path outer h =
-    kept_then tags (map (λ line. MetSignal (signal_at path line)) b.signals) (flat_map (λ i. with_inside within (placed path b outer i)) b.instances) (kept_signals tags path b.signals)
+    kept_then tags (map (λ line. MetSignal (placed_signal path line)) b.signals) (flat_map (λ i. with_inside within (placed path b outer i)) b.instances) (kept_signals tags path b.signals)
     (kept_all tags within keeps path b ports outer h b.instances (recursion_from_All (λ i. map (target_tag b ports) i.targets ≡ tags_at tags i.block) b.instances (each b refl)))
 
 keeps : (tags : List (List (Option Tag))) (blocks : List BlockOf) (top depth : ℕ) → KeepTags tags blocks top → Keeps tags (inside blocks depth)
@@ -98,5 +98,5 @@ rows_tag tags t [] (i ∷ is) h k = absurd h
 rows_tag tags t (r ∷ rows) [] h k = absurd h
 
 pub rows_tagged : (tags : List (List (Option Tag))) (blocks : List BlockOf) (top : ℕ) (t : TablesOf) → KeepTags tags blocks top → IsTable (met_in blocks top) t → AllByRecursion (IsTagged tags t) t.instances
-rows_tagged tags blocks top t h table = rows_tag tags t t.instances (filter_map instance_of (met_in blocks top)) table.instances
+rows_tagged tags blocks top t h table = rows_tag tags t t.instances (filter_map met_instance (met_in blocks top)) table.instances
     ((keeps tags blocks top (length blocks) h).at top None [] (sym h.closed))

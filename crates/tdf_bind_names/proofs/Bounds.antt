@@ -8,7 +8,7 @@ use Rattle.std.proofs.lemmas.Slice.Zip.{AllZip-long}
 use Rattle.std.specs.Cmp.Lexicographic.{pointwise}
 use Rattle.std.specs.List.{flat_map, AllByRecursion, AllZip}
 use Rattle.std.specs.Prelude.{map, nat_eq, slice_get}
-use Rattle.tdf_bind_ports.specs.Links.{Around, around_of, binds_faults, composite_faults, free_faults, global_faults, globals_faults, instance_faults, is_bound, link_faults}
+use Rattle.tdf_bind_ports.specs.Links.{Around, around_of, binds_faults, composite_link_faults, free_faults, global_link_faults, globals_link_faults, instance_faults, is_bound, link_faults}
 use Rattle.tdf_bind_ports.specs.Ports.{Known, known_after, known_after_all, no_blocks, ports_named, ports_of_composite, ports_of_de, ports_of_tdf, with_block}
 use Rattle.tdf_bind_names.proofs.Goods.{none_first, none_second, IsWithin, IsTargeted, BindsWell, all_bind_well, all_bound, get_left, targeted}
 use Rattle.tdf_bind_names.proofs.Lists.{zip_append}
@@ -16,13 +16,13 @@ use Rattle.tdf_bind_names.specs.Laws.{BindsAll, RefersBack}
 use Rattle.tdf_bind_names.specs.Resolved.{AreBlocks, IsComposite, instance_of, instance_with, targets_of, whole}
 use Rattle.tdf_bind_names.specs.Signals.{declared_by, IsSignal}
 use Rattle.tdf_bind_names.specs.Targets.{inside_of, name_of_signal, or_first, target_of}
-use Rattle.tdf_expr_symbols.specs.Names.{Names, at_place, globals_of, place_in}
+use Rattle.tdf_expr_symbols.specs.Names.{Names, found_at, globals_of, place_in}
 use Rattle.tdf_lang_tree.specs.Pure.{PureComposite, PureGlobal, GShape, GTdf, GDe, GNet}
 use Rattle.tdf_lang_tree.specs.declared.blocks.Member.{Member}
 use Rattle.tdf_lang_tree.specs.declared.blocks.Member.TheVariants as member
 use Rattle.tdf_lang_tree.specs.declared.blocks.PortLine.{PortLine}
 use Rattle.tdf_bind_hierarchy.specs.Blocks.{InstanceOf, BlockOf}
-use Rattle.tdf_bind_hierarchy.specs.Bound.{IsBound, IsTarget}
+use Rattle.tdf_bind_hierarchy.specs.Bound.{IsInstanceBound, IsTarget}
 use Rattle.tdf_bind_hierarchy.specs.declared.blocks.Target.{Target}
 use Rattle.tdf_bind_hierarchy.specs.declared.blocks.Target.TheVariants.{Own, Outer}
 
@@ -168,13 +168,13 @@ targets_in ms b signals ports well name list bound =
 bound_with : (all done : List BlockOf) (known : Known) (ms : List Member) (b : BlockOf) (line : ℕ) (name : List ℕ) (o : Option ℕ)
     → ((k : ℕ) (c : BlockOf) → o ≡ Some k → slice_get all k ≡ Some c → slice_get done k ≡ Some c) → AllZip HasPorts known.ports done
     → length b.signals ≡ length (flat_map name_of_signal ms) → b.ports ≡ length (inside_of ms).ports → AllByRecursion (BindsWell ms) ms
-    → free_faults (is_bound ms) line name (at_place known.ports o) ≡ []
-    → AllByRecursion (IsBound all b) (instance_with (target_of (inside_of ms) ms) name o (at_place known.ports o))
+    → free_faults (is_bound ms) line name (found_at known.ports o) ≡ []
+    → AllByRecursion (IsInstanceBound all b) (instance_with (target_of (inside_of ms) ms) name o (found_at known.ports o))
 bound_with all done known ms b line name None before fits signals ports well free = tt
 bound_with all done known ms b line name (Some k) before fits signals ports well free = go (slice_get known.ports k) refl free
   where
     go : (q : Option (List PortLine)) → slice_get known.ports k ≡ q → free_faults (is_bound ms) line name q ≡ []
-        → AllByRecursion (IsBound all b) (instance_with (target_of (inside_of ms) ms) name (Some k) q)
+        → AllByRecursion (IsInstanceBound all b) (instance_with (target_of (inside_of ms) ms) name (Some k) q)
     go None at free = tt
     go (Some list) at free = (
       record {
@@ -187,7 +187,7 @@ bound_with all done known ms b line name (Some k) before fits signals ports well
 bound_instance : (all done : List BlockOf) (around : Around) (ms : List Member) (b : BlockOf) (m : Member)
     → ((k : ℕ) (c : BlockOf) → k < length done → slice_get all k ≡ Some c → slice_get done k ≡ Some c) → Fits around.known done
     → length b.signals ≡ length (flat_map name_of_signal ms) → b.ports ≡ length (inside_of ms).ports → AllByRecursion (BindsWell ms) ms
-    → instance_faults around (is_bound ms) m ≡ [] → AllByRecursion (IsBound all b) (instance_of around.known (target_of (inside_of ms) ms) m)
+    → instance_faults around (is_bound ms) m ≡ [] → AllByRecursion (IsInstanceBound all b) (instance_of around.known (target_of (inside_of ms) ms) m)
 unfolding instance_faults instance_of
 bound_instance all done around ms b (member.Instance line name block) before fits signals ports well free =
     bound_with all done around.known ms b line name (place_in around.known.names block)
@@ -200,21 +200,21 @@ bound_instance all done around ms b (member.Bind line i p t) before fits signals
 bound_instances : (all done : List BlockOf) (around : Around) (ms : List Member) (b : BlockOf) (rest : List Member)
     → ((k : ℕ) (c : BlockOf) → k < length done → slice_get all k ≡ Some c → slice_get done k ≡ Some c) → Fits around.known done
     → length b.signals ≡ length (flat_map name_of_signal ms) → b.ports ≡ length (inside_of ms).ports → AllByRecursion (BindsWell ms) ms
-    → flat_map (instance_faults around (is_bound ms)) rest ≡ [] → AllByRecursion (IsBound all b) (flat_map (instance_of around.known (target_of (inside_of ms) ms)) rest)
+    → flat_map (instance_faults around (is_bound ms)) rest ≡ [] → AllByRecursion (IsInstanceBound all b) (flat_map (instance_of around.known (target_of (inside_of ms) ms)) rest)
 bound_instances all done around ms b [] before fits signals ports well free = tt
 bound_instances all done around ms b (m ∷ rest) before fits signals ports well free =
-    all_append (IsBound all b) (instance_of around.known (target_of (inside_of ms) ms) m) _
+    all_append (IsInstanceBound all b) (instance_of around.known (target_of (inside_of ms) ms) m) _
     (bound_instance all done around ms b m before fits signals ports well (none_first _ _ free))
     (bound_instances all done around ms b rest before fits signals ports well (none_second (instance_faults around (is_bound ms) m) _ free))
 
 bound_composite : (globals : Names) (known : Known) (block : PureComposite) (all done : List BlockOf) (b : BlockOf)
     → ((k : ℕ) (c : BlockOf) → k < length done → slice_get all k ≡ Some c → slice_get done k ≡ Some c) → Fits known done
-    → IsComposite globals known block b → composite_faults globals known block ≡ [] → AllByRecursion (IsBound all b) b.instances
-unfolding composite_faults
+    → IsComposite globals known block b → composite_link_faults globals known block ≡ [] → AllByRecursion (IsInstanceBound all b) b.instances
+unfolding composite_link_faults
 bound_composite globals known block all done b before fits is free =
     let ms = block.members in
     let around = around_of globals known block in
-    subst (λ (l : List InstanceOf). AllByRecursion (IsBound all b) l) (sym is.instances)
+    subst (λ (l : List InstanceOf). AllByRecursion (IsInstanceBound all b) l) (sym is.instances)
     (bound_instances all done around ms b ms before fits (AllZip-long (IsSignal globals) (flat_map declared_by ms) b.signals is.signals ∙ signals_long ms) is.ports
     (all_bind_well around ms [] ms refl (none_first _ _ free))
     (none_second (binds_faults around [] ms) _ free))
@@ -226,45 +226,45 @@ next_done : (all done bs : List BlockOf) (b : BlockOf) → all ≡ done ++ b ∷
 next_done all done bs b is = is ∙ sym (append_assoc done (b ∷ []) bs)
 
 bound_all : (globals : Names) (gs : List PureGlobal) (known : Known) (all done bs : List BlockOf) → all ≡ done ++ bs → Fits known done → AreBlocks globals known gs bs
-    → globals_faults globals known gs ≡ [] → (n : ℕ) (x : BlockOf) → slice_get bs n ≡ Some x → AllByRecursion (IsBound all x) x.instances
-unfolding globals_faults
+    → globals_link_faults globals known gs ≡ [] → (n : ℕ) (x : BlockOf) → slice_get bs n ≡ Some x → AllByRecursion (IsInstanceBound all x) x.instances
+unfolding globals_link_faults
 bound_all globals [] known all done bs is fits are free n x e = let f : None ≡ Some x = sym (ap (λ (l : List BlockOf). slice_get l n) are) ∙ e in cc
 bound_all globals (GShape t ∷ gs) known all done bs is fits are free n x e = bound_all globals gs known all done bs is fits are free n x e
 bound_all globals (GTdf block ∷ gs) known all done [] is fits are free n x e = absurd are
 bound_all globals (GTdf block ∷ gs) known all done (b ∷ bs) is fits are free zero x e =
     let same : b ≡ x = cc in
-    subst (λ (l : List InstanceOf). AllByRecursion (IsBound all x) l) (ap (λ (y : BlockOf). y.instances) (sym are.0 ∙ same)) tt
+    subst (λ (l : List InstanceOf). AllByRecursion (IsInstanceBound all x) l) (ap (λ (y : BlockOf). y.instances) (sym are.0 ∙ same)) tt
 bound_all globals (GTdf block ∷ gs) known all done (b ∷ bs) is fits are free (suc n) x e =
     bound_all globals gs (with_block block.name (ports_of_tdf block) known) all (done ++ b ∷ []) bs (next_done all done bs b is)
     (fits_push block.name (ports_of_tdf block) known done b (ap (λ (y : BlockOf). y.ports) are.0) fits) are.1 free n x e
 bound_all globals (GDe block ∷ gs) known all done [] is fits are free n x e = absurd are
 bound_all globals (GDe block ∷ gs) known all done (b ∷ bs) is fits are free zero x e =
     let same : b ≡ x = cc in
-    subst (λ (l : List InstanceOf). AllByRecursion (IsBound all x) l) (ap (λ (y : BlockOf). y.instances) (sym are.0 ∙ same)) tt
+    subst (λ (l : List InstanceOf). AllByRecursion (IsInstanceBound all x) l) (ap (λ (y : BlockOf). y.instances) (sym are.0 ∙ same)) tt
 bound_all globals (GDe block ∷ gs) known all done (b ∷ bs) is fits are free (suc n) x e =
     bound_all globals gs (with_block block.name (ports_of_de block) known) all (done ++ b ∷ []) bs (next_done all done bs b is)
     (fits_push block.name (ports_of_de block) known done b (ap (λ (y : BlockOf). y.ports) are.0) fits) are.1 free n x e
 bound_all globals (GNet block ∷ gs) known all done [] is fits are free n x e = absurd are
 bound_all globals (GNet block ∷ gs) known all done (b ∷ bs) is fits are free zero x e =
     let same : b ≡ x = cc in
-    subst (λ (y : BlockOf). AllByRecursion (IsBound all y) y.instances) same
+    subst (λ (y : BlockOf). AllByRecursion (IsInstanceBound all y) y.instances) same
     (bound_composite globals known block all done b (done_first all done (b ∷ bs) is) fits are.0 (none_first _ _ free))
 bound_all globals (GNet block ∷ gs) known all done (b ∷ bs) is fits are free (suc n) x e =
     bound_all globals gs (with_block block.name (ports_of_composite block) known) all (done ++ b ∷ []) bs (next_done all done bs b is)
-    (fits_push block.name (ports_of_composite block) known done b are.0.ports fits) are.1 (none_second (composite_faults globals known block) _ free) n x e
+    (fits_push block.name (ports_of_composite block) known done b are.0.ports fits) are.1 (none_second (composite_link_faults globals known block) _ free) n x e
 
 -- `top` is the last block
 no_more : (bs : List BlockOf) → length bs ≡ 0 → bs ≡ []
 no_more [] e = refl
 no_more (b ∷ bs) e = absurd (omega (arith, e))
 
-no_fault_last : (globals : Names) (gs : List PureGlobal) (known : Known) (top : PureComposite) → globals_faults globals known gs ≡ [] → composite_faults globals (known_after_all gs known) top ≡ []
-    → globals_faults globals known (gs ++ GNet top ∷ []) ≡ []
-unfolding globals_faults known_after_all
-no_fault_last globals [] known top first last = append-nil (composite_faults globals known top) ∙ last
+no_fault_last : (globals : Names) (gs : List PureGlobal) (known : Known) (top : PureComposite) → globals_link_faults globals known gs ≡ [] → composite_link_faults globals (known_after_all gs known) top ≡ []
+    → globals_link_faults globals known (gs ++ GNet top ∷ []) ≡ []
+unfolding globals_link_faults known_after_all
+no_fault_last globals [] known top first last = append-nil (composite_link_faults globals known top) ∙ last
 no_fault_last globals (g ∷ gs) known top first last =
-    ap (λ fs. fs ++ globals_faults globals (known_after g known) (gs ++ GNet top ∷ [])) (none_first (global_faults globals known g) _ first)
-    ∙ no_fault_last globals gs (known_after g known) top (none_second (global_faults globals known g) _ first) last
+    ap (λ fs. fs ++ globals_link_faults globals (known_after g known) (gs ++ GNet top ∷ [])) (none_first (global_link_faults globals known g) _ first)
+    ∙ no_fault_last globals gs (known_after g known) top (none_second (global_link_faults globals known g) _ first) last
 
 some_block : (globals : Names) (gs : List PureGlobal) (known : Known) (top : PureComposite) → AreBlocks globals known (gs ++ GNet top ∷ []) [] → ⊥
 some_block globals [] known top are = are
@@ -293,9 +293,9 @@ pub binds_all : BindsAll
 unfolding link_faults
 binds_all model blocks are free none = record {
   each = λ n x e.
-      All-from_recursion (IsBound blocks x) x.instances
+      All-from_recursion (IsInstanceBound blocks x) x.instances
       (bound_all globals (whole model) no_blocks blocks [] blocks refl fits_none are
-      (no_fault_last globals model.globals no_blocks model.top (none_first _ _ free) (none_second (globals_faults globals no_blocks model.globals) _ free)) n x e);
+      (no_fault_last globals model.globals no_blocks model.top (none_first _ _ free) (none_second (globals_link_faults globals no_blocks model.globals) _ free)) n x e);
   closed = λ x e. closed x e;
 }
   where

@@ -17,7 +17,7 @@ use Rattle.tdf_bind_names.specs.machine.Counts.{capped, counted, own_signals, si
 use Rattle.tdf_lang_tree.specs.Pure.{PureTree}
 use Rattle.tdf_bind_hierarchy.specs.Blocks.{InstanceOf, BlockOf}
 use Rattle.tdf_bind_hierarchy.specs.Laws.{AreEarlier}
-use Rattle.tdf_bind_hierarchy.specs.Met.{Met, MetSignal, MetInstance, in_block, inside, met_in, placed, signal_at, with_inside}
+use Rattle.tdf_bind_hierarchy.specs.Met.{Met, MetSignal, MetInstance, in_block, inside, met_in, placed, placed_signal, with_inside}
 use Rattle.tdf_bind_hierarchy.specs.declared.blocks.SignalLine.{SignalLine}
 use Rattle.tdf_bind_hierarchy.specs.declared.tables.Signal.{Signal}
 
@@ -25,15 +25,15 @@ use Rattle.tdf_bind_hierarchy.specs.declared.tables.Signal.{Signal}
 pub record Sizes (signals : Bool) (weights : List ℕ) (go : ℕ → ℕ) (met : ℕ → Option (List ℕ) → List (Option Signal) → List Met) : Type 0 where
   pub at : (k : ℕ) (path : Option (List ℕ)) (outer : List (Option Signal)) → sum_by (met_weight signals weights) (met k path outer) ≡ go k
 
-signals_size : (signals : Bool) (weights : List ℕ) (path : Option (List ℕ)) (lines : List SignalLine) → sum_by (met_weight signals weights) (map (λ line. MetSignal (signal_at path line)) lines) ≡ own_signals signals (length lines)
+signals_size : (signals : Bool) (weights : List ℕ) (path : Option (List ℕ)) (lines : List SignalLine) → sum_by (met_weight signals weights) (map (λ line. MetSignal (placed_signal path line)) lines) ≡ own_signals signals (length lines)
 signals_size true weights path [] = refl
 signals_size true weights path (l ∷ ls) =
-    let e = sum_by-cons (met_weight true weights) (MetSignal (signal_at path l)) (map (λ line. MetSignal (signal_at path line)) ls) in
+    let e = sum_by-cons (met_weight true weights) (MetSignal (placed_signal path l)) (map (λ line. MetSignal (placed_signal path line)) ls) in
     let f = signals_size true weights path ls in
     omega (arith, e, f)
 signals_size false weights path [] = refl
 signals_size false weights path (l ∷ ls) =
-    let e = sum_by-cons (met_weight false weights) (MetSignal (signal_at path l)) (map (λ line. MetSignal (signal_at path line)) ls) in
+    let e = sum_by-cons (met_weight false weights) (MetSignal (placed_signal path l)) (map (λ line. MetSignal (placed_signal path line)) ls) in
     let f = signals_size false weights path ls in
     omega (arith, e, f)
 
@@ -53,7 +53,7 @@ block_size : (signals : Bool) (weights : List ℕ) (go : ℕ → ℕ) (met : ℕ
     → (o : Option BlockOf) (path : Option (List ℕ)) (outer : List (Option Signal)) → sum_by (met_weight signals weights) (in_block met o path outer) ≡ size_in signals weights go o
 block_size signals weights go met sizes None path outer = refl
 block_size signals weights go met sizes (Some b) path outer =
-    sum_by-append (met_weight signals weights) (map (λ line. MetSignal (signal_at path line)) b.signals) (flat_map (λ i. with_inside met (placed path b outer i)) b.instances)
+    sum_by-append (met_weight signals weights) (map (λ line. MetSignal (placed_signal path line)) b.signals) (flat_map (λ i. with_inside met (placed path b outer i)) b.instances)
     ∙ ap (λ n. n + sum_by (met_weight signals weights) (flat_map (λ i. with_inside met (placed path b outer i)) b.instances)) (signals_size signals weights path b.signals)
     ∙ ap (λ n. own_signals signals (length b.signals) + n) (instances_size signals weights go met sizes path b outer b.instances)
 

@@ -17,12 +17,12 @@ use Rattle.tdf_expr_symbols.specs.Names.{Names, globals_of}
 use Rattle.tdf_lang_tree.specs.Pure.{PureGlobal, GShape, GTdf, GDe, GNet}
 use Rattle.tdf_bind_hierarchy.specs.Blocks.{InstanceOf, BlockOf}
 use Rattle.tdf_bind_hierarchy.specs.Laws.{AreEarlier}
-use Rattle.tdf_bind_hierarchy.specs.Met.{Met, MetSignal, MetInstance, in_block, inside, met_in, placed, signal_at, with_inside}
-use Rattle.tdf_bind_hierarchy.specs.Tables.{instance_of, signal_of}
+use Rattle.tdf_bind_hierarchy.specs.Met.{Met, MetSignal, MetInstance, in_block, inside, met_in, placed, placed_signal, with_inside}
+use Rattle.tdf_bind_hierarchy.specs.Tables.{met_instance, met_signal}
 use Rattle.tdf_bind_hierarchy.specs.declared.blocks.SignalLine.{SignalLine}
 use Rattle.tdf_bind_hierarchy.specs.declared.tables.Signal.{Signal}
 
-few_signals : (weights : List ℕ) (met : List Met) → length (filter_map signal_of met) ≤ sum_by (met_weight true weights) met
+few_signals : (weights : List ℕ) (met : List Met) → length (filter_map met_signal met) ≤ sum_by (met_weight true weights) met
 few_signals weights [] = omega arith
 few_signals weights (MetSignal s ∷ met) =
     let e = sum_by-cons (met_weight true weights) (MetSignal s) met in
@@ -37,7 +37,7 @@ abbrev Weighs : List ℕ → Met → Type 0
 Weighs weights (MetSignal s) = Unit {0}
 Weighs weights (MetInstance i) = 1 ≤ slice_index weights i.block
 
-few_instances : (weights : List ℕ) (met : List Met) → AllByRecursion (Weighs weights) met → length (filter_map instance_of met) ≤ sum_by (met_weight false weights) met
+few_instances : (weights : List ℕ) (met : List Met) → AllByRecursion (Weighs weights) met → length (filter_map met_instance met) ≤ sum_by (met_weight false weights) met
 few_instances weights [] all = omega arith
 few_instances weights (MetSignal s ∷ met) all =
     let e = sum_by-cons (met_weight false weights) (MetSignal s) met in
@@ -53,7 +53,7 @@ all_append : (P : Met → Type 0) (xs ys : List Met) → AllByRecursion P xs →
 all_append P [] ys h k = k
 all_append P (x ∷ xs) ys h k = (h.0, all_append P xs ys h.1 k)
 
-signals_weigh : (weights : List ℕ) (path : Option (List ℕ)) (lines : List SignalLine) → AllByRecursion (Weighs weights) (map (λ line. MetSignal (signal_at path line)) lines)
+signals_weigh : (weights : List ℕ) (path : Option (List ℕ)) (lines : List SignalLine) → AllByRecursion (Weighs weights) (map (λ line. MetSignal (placed_signal path line)) lines)
 signals_weigh weights path [] = tt
 signals_weigh weights path (l ∷ ls) = (tt, signals_weigh weights path ls)
 
@@ -74,7 +74,7 @@ block_weighs : (weights : List ℕ) (met : ℕ → Option (List ℕ) → List (O
     → (path : Option (List ℕ)) (outer : List (Option Signal)) → AllByRecursion (Weighs weights) (in_block met o path outer)
 block_weighs weights met weigh None each path outer = tt
 block_weighs weights met weigh (Some b) each path outer =
-    all_append (Weighs weights) (map (λ line. MetSignal (signal_at path line)) b.signals) _ (signals_weigh weights path b.signals) (instances_weigh weights met weigh path b outer b.instances (each b refl))
+    all_append (Weighs weights) (map (λ line. MetSignal (placed_signal path line)) b.signals) _ (signals_weigh weights path b.signals) (instances_weigh weights met weigh path b outer b.instances (each b refl))
 
 heavier : (weights : List ℕ) (n m : ℕ) → n < m → ((k : ℕ) → k < m → 1 ≤ slice_index weights k) → (is : List InstanceOf) → AllByRecursion (λ i. i.block < n) is
     → AllByRecursion (λ i. 1 ≤ slice_index weights i.block) is
@@ -127,13 +127,13 @@ counts_all model blocks are few = record {
     two : is_past measure.Instances model blocks || is_past measure.Ports model blocks || is_past measure.Signals model blocks ≡ false
     two = or_first _ (is_past measure.Cells model blocks) (or_first _ (is_past measure.Processes model blocks) (or_first _ (is_past measure.Events model blocks) few))
 
-    signals : length (filter_map signal_of met) ≤ 8192
+    signals : length (filter_map met_signal met) ≤ 8192
     signals =
         let a = at_most 8192 _ (or_second (is_past measure.Instances model blocks || is_past measure.Ports model blocks) (is_past measure.Signals model blocks) two) in
         let b = few_signals (weights_of measure.Signals model) met in
         omega (arith, a, b)
 
-    instances : length (filter_map instance_of met) ≤ 1024
+    instances : length (filter_map met_instance met) ≤ 1024
     instances =
         let a = at_most 1024 _ (or_first (is_past measure.Instances model blocks) (is_past measure.Ports model blocks) (or_first _ (is_past measure.Signals model blocks) two)) in
         let weigh = all_weigh (weights_of measure.Instances model) blocks (refers_back model blocks are) (blocks_weigh (globals_of model.globals) (whole model) no_blocks blocks are) (length blocks) in

@@ -9,12 +9,12 @@ use Rattle.std.specs.List.{flat_map, list_any, prefix_len, AllByRecursion}
 use Rattle.std.specs.Prelude.{map, nat_eq, nat_lt, not, cond, slice_get, ◌||◌, ◌&&◌, if◌then◌else◌}
 use Rattle.tdf_bind_ports.proofs.Api.{place_push}
 use Rattle.tdf_bind_ports.specs.Agree.{agrees, fits, has_same_format}
-use Rattle.tdf_bind_ports.specs.Faults.{Wrong, UnknownPort, TwiceBound, Mismatch, Unbound, fault_if}
-use Rattle.tdf_bind_ports.specs.Links.{Around, bind_faults, binds_faults, first_free, is_bound, port_faults, port_of, unbound_faults}
+use Rattle.tdf_bind_ports.specs.Faults.{Wrong, UnknownPort, TwiceBound, Mismatch, Unbound, link_fault_if}
+use Rattle.tdf_bind_ports.specs.Links.{Around, bind_faults, binds_faults, first_free, is_bound, port_link_faults, port_around, unbound_faults}
 use Rattle.tdf_bind_ports.specs.Ports.{port_of_member}
 use Rattle.tdf_bind_names.specs.Targets.{Inside, inside_of, name_of_signal, own_or_outer, target_after, target_from, target_named}
 use Rattle.tdf_expr_symbols.specs.Names as names
-use Rattle.tdf_expr_symbols.specs.Names.{Names, Thing, at_place, format_of, kind_of, no_names, place_in, shape_of, thing_of, with_member, with_members, with_name}
+use Rattle.tdf_expr_symbols.specs.Names.{Names, Thing, found_at, format_of, kind_of, no_names, place_in, shape_of, thing_of, with_member, with_members, with_name}
 use Rattle.tdf_expr_symbols.specs.Scope.{first_some}
 use Rattle.tdf_lang_tree.specs.declared.blocks.Member.{Member}
 use Rattle.tdf_lang_tree.specs.declared.blocks.Member.TheVariants as member
@@ -33,8 +33,8 @@ pub none_second : {A : Type 0} (xs ys : List A) → xs ++ ys ≡ [] → ys ≡ [
 none_second [] ys e = e
 none_second (x ∷ xs) ys e = cc
 
-if_none : (is : Bool) (wrong : Wrong) (line : ℕ) → fault_if is wrong line ≡ [] → is ≡ false
-unfolding fault_if
+if_none : (is : Bool) (wrong : Wrong) (line : ℕ) → link_fault_if is wrong line ≡ [] → is ≡ false
+unfolding link_fault_if
 if_none false wrong line e = refl
 if_none true wrong line e = cc
 
@@ -125,7 +125,7 @@ unfolding with_name
 even_after name thing s even = even_if (list_any (pointwise nat_eq name) s.names) name thing s even
 
 at_more : (things : List Thing) (thing x : Thing) (len : ℕ) (o : Option ℕ) (b : Bool) → len ≡ length things → ((k : ℕ) → o ≡ Some k → k < len)
-    → at_place (things ++ thing ∷ []) (first_some o (if b then Some len else None)) ≡ Some x → (at_place things o ≡ Some x) ⊎ ((b ≡ true) × (thing ≡ x))
+    → found_at (things ++ thing ∷ []) (first_some o (if b then Some len else None)) ≡ Some x → (found_at things o ≡ Some x) ⊎ ((b ≡ true) × (thing ≡ x))
 at_more things thing x len (Some k) b same within e = inl (sym (get_left things (thing ∷ []) k (subst (λ n. k < n) same (within k refl))) ∙ e)
 at_more things thing x len None true same within e =
     let f : Some thing ≡ Some x = sym (ap (slice_get (things ++ thing ∷ [])) same ∙ get_at things [] thing) ∙ e in
@@ -141,7 +141,7 @@ thing_if : (b : Bool) (name t : List ℕ) (thing x : Thing) (s : Names) → IsEv
 thing_if true name t thing x s even e = inl e
 thing_if false name t thing x s even e =
     at_more s.things thing x (length s.names) (place_in s.names t) (pointwise nat_eq t name) even.long (place_within s.names t)
-    (ap (at_place (s.things ++ thing ∷ [])) (sym (place_push s.names name t)) ∙ e)
+    (ap (found_at (s.things ++ thing ∷ [])) (sym (place_push s.names name t)) ∙ e)
 
 thing_after : (name t : List ℕ) (thing x : Thing) (s : Names) → IsEven s → thing_of (with_name name thing s) t ≡ Some x
     → (thing_of s t ≡ Some x) ⊎ ((pointwise nat_eq t name ≡ true) × (thing ≡ x))
@@ -237,16 +237,16 @@ agreed globals ms t port None e fit = cc
 agreed globals ms t port (Some x) e fit = has_target ms t port.kind x (and_first (fits port.kind (kind_of x)) (has_same_format (format_of globals port.format) (shape_of x)) fit) (is_declared globals ms t x e)
 
 well_bound : (globals : Names) (ms : List Member) (line : ℕ) (again : Bool) (t : List ℕ) (port : Option PortLine)
-    → port_faults globals line again (thing_of (with_members globals ms no_names) t) port ≡ [] → HasTarget (inside_of ms) t
+    → port_link_faults globals line again (thing_of (with_members globals ms no_names) t) port ≡ [] → HasTarget (inside_of ms) t
 well_bound globals ms line again t None e = let f : true ≡ false = if_none true UnknownPort line e in cc
 well_bound globals ms line again t (Some port) e =
     agreed globals ms t port (thing_of (with_members globals ms no_names) t) refl
-    (not_false _ (if_none _ Mismatch line (none_second (fault_if again TwiceBound line) _ e)))
+    (not_false _ (if_none _ Mismatch line (none_second (link_fault_if again TwiceBound line) _ e)))
 
 binds_well : (around : Around) (ms : List Member) (f : List ℕ → List ℕ → Bool) (m : Member) → around.own ≡ with_members around.globals ms no_names → bind_faults around f m ≡ [] → BindsWell ms m
 unfolding bind_faults
 binds_well around ms f (member.Bind line i p t) own e =
-    well_bound around.globals ms line (f i p) t (port_of around i p) (subst (λ s. port_faults around.globals line (f i p) (thing_of s t) (port_of around i p) ≡ []) own e)
+    well_bound around.globals ms line (f i p) t (port_around around i p) (subst (λ s. port_link_faults around.globals line (f i p) (thing_of s t) (port_around around i p) ≡ []) own e)
 binds_well around ms f (member.Port port) own e = tt
 binds_well around ms f (member.Signal line name x) own e = tt
 binds_well around ms f (member.DeSignal line name x start) own e = tt

@@ -11,20 +11,20 @@ use Rattle.tdf_bind_hierarchy.specs.Blocks.{BlockOf}
 use Rattle.tdf_bind_hierarchy.specs.Met.{Met, MetSignal, MetInstance, met_in}
 
 -- the cells of a store: an array has one for each element
-abbrev pub cells_of : PureStore → ℕ
-cells_of (SConst line name x value) = 1
-cells_of (SVar line name x start) = 1
-cells_of (SArray line name x size starts) = size
+abbrev pub store_cells : PureStore → ℕ
+store_cells (SConst line name x value) = 1
+store_cells (SVar line name x start) = 1
+store_cells (SArray line name x size starts) = size
 
 abbrev pub tdf_line_weight : Measure → PureTdfLine → ℕ
 tdf_line_weight measure.Ports (TPort port) = 1
-tdf_line_weight measure.Cells (TStore store) = cells_of store
+tdf_line_weight measure.Cells (TStore store) = store_cells store
 tdf_line_weight measure.Cells (TRate line name least greatest start) = 1
 tdf_line_weight _ _ = 0
 
 abbrev pub de_line_weight : Measure → PureDeLine → ℕ
 de_line_weight measure.Ports (DPort port) = 1
-de_line_weight measure.Cells (DStore store) = cells_of store
+de_line_weight measure.Cells (DStore store) = store_cells store
 de_line_weight measure.Events (DEvent line name) = 1
 de_line_weight _ _ = 0
 

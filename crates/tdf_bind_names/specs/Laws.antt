@@ -11,7 +11,7 @@ use Rattle.tdf_bind_hierarchy.specs.Blocks.{BlockOf}
 use Rattle.tdf_bind_hierarchy.specs.Bound.{AreBound}
 use Rattle.tdf_bind_hierarchy.specs.Laws.{AreEarlier}
 use Rattle.tdf_bind_hierarchy.specs.Met.{Met, met_in}
-use Rattle.tdf_bind_hierarchy.specs.Tables.{instance_of, signal_of}
+use Rattle.tdf_bind_hierarchy.specs.Tables.{met_instance, met_signal}
 
 -- each instance is of a block before the one that it is in
 abbrev pub RefersBack : Type 0
@@ -26,8 +26,8 @@ BindsAll = (model : PureTree) (blocks : List BlockOf) → AreResolved model bloc
 
 -- a model has no more signals and instances than there may be
 pub record HasFew (met : List Met) : Type 0 where
-  pub signals : length (filter_map signal_of met) ≤ most_signals
-  pub instances : length (filter_map instance_of met) ≤ most_instances
+  pub signals : length (filter_map met_signal met) ≤ most_signals
+  pub instances : length (filter_map met_instance met) ≤ most_instances
 
 -- what holds no more than there may be has few signals and instances
 abbrev pub CountsAll : Type 0

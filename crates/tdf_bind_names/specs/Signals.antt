@@ -38,17 +38,17 @@ pub record IsFormatOf (shape : Shape) (f : Format) : Type 0 where
 abbrev pub zero_of : Format → Raw
 zero_of f = record { num = pos 0; frac = fraction_of f }
 
-abbrev pub text_of : Lit → List ℕ
-text_of v = if v.minus then 45 ∷ v.digits else v.digits
+abbrev pub literal_text : Lit → List ℕ
+literal_text v = if v.minus then 45 ∷ v.digits else v.digits
 
 abbrev pub or_zero : Format → Result Raw DecimalErr → Raw
 or_zero f (Ok raw) = raw
 or_zero f (Err fault) = zero_of f
 
 -- the first value of a signal: its literal, cast to its format
-abbrev pub start_of : Format → Option Lit → Raw
-start_of f None = zero_of f
-start_of f (Some v) = or_zero f (decimal_of f (text_of v))
+abbrev pub start_sample : Format → Option Lit → Raw
+start_sample f None = zero_of f
+start_sample f (Some v) = or_zero f (decimal_of f (literal_text v))
 
 abbrev pub is_event : Option Lit → Bool
 is_event None = false
@@ -60,4 +60,4 @@ pub record IsSignal (globals : Names) (d : Declared) (s : SignalLine) : Type 0 w
   pub name : s.name ≡ d.name
   pub format : (shape : Shape) → format_of globals d.format ≡ Some shape
       → IsLegal shape.wl shape.iwl → IsFormatOf shape s.format
-  pub start : s.start ≡ start_of s.format d.start
+  pub start : s.start ≡ start_sample s.format d.start

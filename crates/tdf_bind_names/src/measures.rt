@@ -2,7 +2,7 @@
 
 ghost use Rattle.std.specs.List.{flat_map, sum_by};
 ghost use Rattle.std.specs.Prelude.{◌≡◌, ◌+◌, ◌++◌, length, map, IfOk, OnOk};
-ghost use Rattle.tdf_bind_names.specs.Counts.{cells_of, counts_signals, de_line_weight, de_weight, instance_weight, limit_of, processes_weight, tdf_line_weight, tdf_weight, weight_of, weights_of};
+ghost use Rattle.tdf_bind_names.specs.Counts.{store_cells, counts_signals, de_line_weight, de_weight, instance_weight, limit_of, processes_weight, tdf_line_weight, tdf_weight, weight_of, weights_of};
 ghost use Rattle.tdf_bind_names.specs.machine.Counts.{capped};
 ghost use Rattle.tdf_bind_names.specs.machine.Lists.{list_of};
 ghost use Rattle.tdf_lang_tree.specs.Views.{pure_de, pure_de_line, pure_global, pure_store, pure_tdf, pure_tdf_line, pure_tree};
@@ -65,7 +65,7 @@ fn instance_weight(measure: Measure) -> u64
 }
 
 fn cells_of(store: &Store) -> u64
-    ensures { result ≡ cells_of (pure_store store.now) }
+    ensures { result ≡ store_cells (pure_store store.now) }
 {
     match store {
         Store::Const { .. } => 1,

@@ -5,7 +5,7 @@ ghost use Rattle.std.specs.Option.{option_map};
 ghost use Rattle.std.specs.Prelude.{◌≡◌, ◌++◌, Some, IfOk, OnOk};
 ghost use Rattle.tdf_fixed.specs.Cast.{IsLegal};
 ghost use Rattle.tdf_fixed.specs.Literal.{decimal_of};
-ghost use Rattle.tdf_bind_names.specs.Signals.{declared_by, or_zero, start_of, text_of, zero_of, IsFormatOf, IsSignal};
+ghost use Rattle.tdf_bind_names.specs.Signals.{declared_by, or_zero, start_sample, literal_text, zero_of, IsFormatOf, IsSignal};
 ghost use Rattle.tdf_bind_names.specs.machine.Lists.{list_of};
 ghost use Rattle.tdf_lang_tree.specs.declared.shapes.Shape.{Shape as ShapeOf};
 
@@ -63,7 +63,7 @@ fn zero_of(format: Format) -> Raw
 
 /// The text of a literal.
 fn text_of(alloc: Global, value: &Lit) -> Result<Vec<u8>, Memory>
-    ensures { IfOk result (λ text. text.items ≡ text_of value.now) }
+    ensures { IfOk result (λ text. text.items ≡ literal_text value.now) }
 {
     let mut text = Vec::new(alloc);
     if value.minus {
@@ -85,7 +85,7 @@ fn value_or_zero(text: &[u8], format: Format) -> Raw
 
 /// The first value of a signal.
 fn start_of(alloc: Global, format: Format, start: Option<&Lit>) -> Result<Raw, Memory>
-    ensures { IfOk result (λ raw. raw ≡ start_of format (option_map (λ v. v.now) start.entry)) }
+    ensures { IfOk result (λ raw. raw ≡ start_sample format (option_map (λ v. v.now) start.entry)) }
 {
     match start {
         None => Ok(zero_of(format)),

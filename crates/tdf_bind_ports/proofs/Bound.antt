@@ -5,8 +5,8 @@ use Rattle.std.specs.Cmp.Lexicographic.{pointwise, same_text}
 use Rattle.std.specs.List.{flat_map}
 use Rattle.std.specs.Prelude.{nat_eq, ◌||◌, ◌&&◌, if◌then◌else◌}
 use Rattle.tdf_bind_ports.proofs.Notes.{least_append}
-use Rattle.tdf_bind_ports.specs.Faults.{LinkFault, least_with}
-use Rattle.tdf_bind_ports.specs.Links.{Around, bind_faults, binds, binds_faults, faults_around, first_free, free_faults, instance_faults, is_bound, port_faults, port_of, unbound_faults}
+use Rattle.tdf_bind_ports.specs.Faults.{LinkFault, least_link_with}
+use Rattle.tdf_bind_ports.specs.Links.{Around, bind_faults, binds, binds_faults, faults_around, first_free, free_faults, instance_faults, is_bound, port_link_faults, port_around, unbound_faults}
 use Rattle.tdf_bind_ports.specs.Ports.{ports_named}
 use Rattle.tdf_bind_ports.specs.machine.Pairs.{AreBoundBy, has_pair, later, pairs_after, pairs_after_all}
 use Rattle.tdf_expr_symbols.specs.Names.{thing_of}
@@ -70,7 +70,7 @@ has_all pairs i p (m ∷ ms) =
 same_bind : (around : Around) (f g : (instance port : List ℕ) → Bool) → ((i p : List ℕ) → f i p ≡ g i p) → (m : Member) → bind_faults around f m ≡ bind_faults around g m
 unfolding bind_faults
 same_bind around f g same (member.Bind line i p target) =
-    ap (λ b. port_faults around.globals line b (thing_of around.own target) (port_of around i p)) (same i p)
+    ap (λ b. port_link_faults around.globals line b (thing_of around.own target) (port_around around i p)) (same i p)
 same_bind around f g same (member.Port port) = refl
 same_bind around f g same (member.Signal line name x) = refl
 same_bind around f g same (member.DeSignal line name x start) = refl
@@ -105,11 +105,11 @@ same_later around pairs earlier (m ∷ ms) are =
 
 -- the faults of all lines, by the pairs that the code holds
 pub members_faults : (around : Around) (members : List Member) (first : Option LinkFault)
-    → least_with (least_with first (later around [] members)) (flat_map (instance_faults around (has_pair (pairs_after_all members []))) members)
-    ≡ least_with first (faults_around around members)
+    → least_link_with (least_link_with first (later around [] members)) (flat_map (instance_faults around (has_pair (pairs_after_all members []))) members)
+    ≡ least_link_with first (faults_around around members)
 members_faults around members first =
-    ap (λ fs. least_with (least_with first fs) (flat_map (instance_faults around (has_pair (pairs_after_all members []))) members)) (same_later around [] [] members (record { each = λ i p. refl }))
-    ∙ ap (least_with (least_with first (binds_faults around [] members))) (same_instances around (has_pair (pairs_after_all members [])) (is_bound members) (λ i p. has_all [] i p members) members)
+    ap (λ fs. least_link_with (least_link_with first fs) (flat_map (instance_faults around (has_pair (pairs_after_all members []))) members)) (same_later around [] [] members (record { each = λ i p. refl }))
+    ∙ ap (least_link_with (least_link_with first (binds_faults around [] members))) (same_instances around (has_pair (pairs_after_all members [])) (is_bound members) (λ i p. has_all [] i p members) members)
     ∙ sym (least_append first (binds_faults around [] members) (flat_map (instance_faults around (is_bound members)) members))
 
 pub ruleset bound_laws = (members_faults)
@@ -117,11 +117,11 @@ pub ruleset bound_laws = (members_faults)
 -- a `bind` line, by the bytes of its names
 pub bind_is : (around : Around) (bound : (instance port : List ℕ) → Bool) (m : Member) (line : ℕ) (i p t j q u : List ℕ) (again : Bool)
     → m ≡ member.Bind line i p t → j ≡ i → q ≡ p → u ≡ t → again ≡ bound j q
-    → port_faults around.globals line again (thing_of around.own u) (port_of around j q) ≡ bind_faults around bound m
+    → port_link_faults around.globals line again (thing_of around.own u) (port_around around j q) ≡ bind_faults around bound m
 unfolding bind_faults
 bind_is around bound m line i p t j q u again is ij pq tu new =
-    ap (λ b. port_faults around.globals line b (thing_of around.own u) (port_of around j q)) new
-    ∙ ap (λ (n : List ℕ). port_faults around.globals line (bound n q) (thing_of around.own u) (port_of around n q)) ij
-    ∙ ap (λ (n : List ℕ). port_faults around.globals line (bound i n) (thing_of around.own u) (port_of around i n)) pq
-    ∙ ap (λ (n : List ℕ). port_faults around.globals line (bound i p) (thing_of around.own n) (port_of around i p)) tu
+    ap (λ b. port_link_faults around.globals line b (thing_of around.own u) (port_around around j q)) new
+    ∙ ap (λ (n : List ℕ). port_link_faults around.globals line (bound n q) (thing_of around.own u) (port_around around n q)) ij
+    ∙ ap (λ (n : List ℕ). port_link_faults around.globals line (bound i n) (thing_of around.own u) (port_around around i n)) pq
+    ∙ ap (λ (n : List ℕ). port_link_faults around.globals line (bound i p) (thing_of around.own n) (port_around around i p)) tu
     ∙ sym (ap (bind_faults around bound) is)

@@ -7,7 +7,7 @@ use Rattle.std.specs.Prelude.{map, Some, None, slice_get}
 use Rattle.std.proofs.lemmas.Option.{slice_get-map}
 use Rattle.std.specs.Option.{option_map}
 use Rattle.tdf_bind_ports.specs.Ports.{Instances, port_named, port_of_de_line, port_of_member, port_of_tdf_line, with_instance, with_instances}
-use Rattle.tdf_expr_symbols.specs.Names.{at_place, place_in}
+use Rattle.tdf_expr_symbols.specs.Names.{found_at, place_in}
 use Rattle.tdf_lang_tree.specs.Views.{pure_de_line, pure_tdf_line}
 use Rattle.tdf_lang_tree.specs.declared.blocks.DeLine.{DeLine}
 use Rattle.tdf_lang_tree.specs.declared.blocks.Member.{Member}
@@ -28,16 +28,16 @@ pub map_map : (held : List (Bor PortLine)) → map (λ p. p.now.name) held ≡ m
 map_map [] = refl
 map_map (p ∷ ps) = ap (λ (l : List (List ℕ)). p.now.name ∷ l) (map_map ps)
 
-line_at : (held : List (Bor PortLine)) (o : Option ℕ) → option_map (λ p. p.now) (at_place held o) ≡ at_place (map (λ p. p.now) held) o
+line_at : (held : List (Bor PortLine)) (o : Option ℕ) → option_map (λ p. p.now) (found_at held o) ≡ found_at (map (λ p. p.now) held) o
 line_at held None = refl
 line_at held (Some n) = sym (slice_get-map (λ p. p.now) held n)
 
 pub named_is : (held : List (Bor PortLine)) (names : List (List ℕ)) (ports : List PortLine) (name : List ℕ) (o : Option ℕ)
     → names ≡ map (λ p. p.now.name) held → map (λ p. p.now) held ≡ ports → o ≡ place_in names name
-    → option_map (λ p. p.now) (at_place held o) ≡ port_named ports name
+    → option_map (λ p. p.now) (found_at held o) ≡ port_named ports name
 named_is held names ports name o names_are ports_are place =
     line_at held o
-    ∙ ap (at_place (map (λ p. p.now) held)) (place ∙ ap (λ ns. place_in ns name) (names_are ∙ map_map held))
+    ∙ ap (found_at (map (λ p. p.now) held)) (place ∙ ap (λ ns. place_in ns name) (names_are ∙ map_map held))
     ∙ ap (λ ps. port_named ps name) ports_are
 
 -- the ports of lines, from a place on

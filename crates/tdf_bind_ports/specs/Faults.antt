@@ -31,35 +31,35 @@ code_of (Unbound port) = code.Unbound
 abbrev pub as_line_fault : LinkFault → LineFault
 as_line_fault f = record { line = f.line; code = code_of f.wrong }
 
-abbrev pub comes_before : LinkFault → LinkFault → Bool
-comes_before a b = lines.comes_before (as_line_fault a) (as_line_fault b)
+abbrev pub link_comes_before : LinkFault → LinkFault → Bool
+link_comes_before a b = lines.comes_before (as_line_fault a) (as_line_fault b)
 
 -- the first of two; where neither comes before the other, the one that was found before
-unfoldable pub lesser : Option LinkFault → LinkFault → Option LinkFault
-lesser None fault = Some fault
-lesser (Some first) fault = if comes_before fault first then Some fault else Some first
+unfoldable pub lesser_link : Option LinkFault → LinkFault → Option LinkFault
+lesser_link None fault = Some fault
+lesser_link (Some first) fault = if link_comes_before fault first then Some fault else Some first
 
 -- the first of some faults and one that was found before
-unfoldable pub least_with : Option LinkFault → List LinkFault → Option LinkFault
-least_with first [] = first
-least_with first (f ∷ fs) = least_with (lesser first f) fs
+unfoldable pub least_link_with : Option LinkFault → List LinkFault → Option LinkFault
+least_link_with first [] = first
+least_link_with first (f ∷ fs) = least_link_with (lesser_link first f) fs
 
 -- the first of some faults
-abbrev pub first_of : List LinkFault → Option LinkFault
-first_of faults = least_with None faults
+abbrev pub first_link_fault : List LinkFault → Option LinkFault
+first_link_fault faults = least_link_with None faults
 
 -- one fault, where something is so
-unfoldable pub fault_if : Bool → Wrong → ℕ → List LinkFault
-fault_if is wrong line = if is then record { line = line; wrong = wrong } ∷ [] else []
+unfoldable pub link_fault_if : Bool → Wrong → ℕ → List LinkFault
+link_fault_if is wrong line = if is then record { line = line; wrong = wrong } ∷ [] else []
 
-unfoldable pub noted : Bool → Wrong → ℕ → Option LinkFault → Option LinkFault
-noted is wrong line first =
-    if is then lesser first (record { line = line; wrong = wrong }) else first
+unfoldable pub link_noted : Bool → Wrong → ℕ → Option LinkFault → Option LinkFault
+link_noted is wrong line first =
+    if is then lesser_link first (record { line = line; wrong = wrong }) else first
 
-abbrev pub place_of : ℕ → Wrong → Place
-place_of line (Unbound port) = place.LinePort line port
-place_of line _ = place.Line line
+abbrev pub link_place : ℕ → Wrong → Place
+link_place line (Unbound port) = place.LinePort line port
+link_place line _ = place.Line line
 
 -- the fault that is printed
-abbrev pub fault_of : LinkFault → Fault
-fault_of f = record { code = code_of f.wrong; place = place_of f.line f.wrong }
+abbrev pub fault_of_link : LinkFault → Fault
+fault_of_link f = record { code = code_of f.wrong; place = link_place f.line f.wrong }

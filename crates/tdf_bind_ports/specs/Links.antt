@@ -4,7 +4,7 @@ use Rattle.std.specs.Prelude.{ℕ, Bool, true, false, not, ◌&&◌, nat_eq, Lis
 use Rattle.std.specs.Cmp.Lexicographic.{pointwise}
 use Rattle.std.specs.List.{find, flat_map, list_any}
 use Rattle.tdf_bind_ports.specs.Agree.{agrees}
-use Rattle.tdf_bind_ports.specs.Faults.{LinkFault, UnknownPort, TwiceBound, Mismatch, Unbound, fault_if}
+use Rattle.tdf_bind_ports.specs.Faults.{LinkFault, UnknownPort, TwiceBound, Mismatch, Unbound, link_fault_if}
 use Rattle.tdf_bind_ports.specs.Ports.{Known, no_blocks, known_after, known_after_all, ports_named, Instances, no_instances, with_instances, block_named, port_named}
 use Rattle.tdf_expr_symbols.specs.Names.{Names, Thing, globals_of, thing_of, composite_names}
 use Rattle.tdf_lang_tree.specs.Pure.{PureComposite, PureGlobal, GNet, PureTree}
@@ -30,8 +30,8 @@ port_in None name = None
 port_in (Some ports) name = port_named ports name
 
 -- a port of an instance
-abbrev pub port_of : Around → (instance port : List ℕ) → Option PortLine
-port_of around instance port =
+abbrev pub port_around : Around → (instance port : List ℕ) → Option PortLine
+port_around around instance port =
     port_in (ports_of_block around.known (block_named around.instances instance)) port
 
 -- whether a line binds this port of this instance
@@ -45,18 +45,19 @@ is_bound lines instance port = list_any (binds instance port) lines
 
 -- a line that binds a port of an instance to what a name stands for, where `again` says whether an
 -- earlier line binds it
-abbrev pub port_faults : Names → ℕ → (again : Bool) → Option Thing → Option PortLine
+abbrev pub port_link_faults : Names → ℕ → (again : Bool) → Option Thing → Option PortLine
     → List LinkFault
-port_faults globals line again target None = fault_if true UnknownPort line
-port_faults globals line again target (Some port) =
-    fault_if again TwiceBound line ++ fault_if (not (agrees globals port target)) Mismatch line
+port_link_faults globals line again target None = link_fault_if true UnknownPort line
+port_link_faults globals line again target (Some port) =
+    link_fault_if again TwiceBound line
+    ++ link_fault_if (not (agrees globals port target)) Mismatch line
 
 -- a `bind` line, where `bound` says what the lines before it bind
 unfoldable pub bind_faults : Around → (bound : (instance port : List ℕ) → Bool) → Member
     → List LinkFault
 bind_faults around bound (member.Bind line instance port target) =
-    port_faults around.globals line (bound instance port) (thing_of around.own target)
-    (port_of around instance port)
+    port_link_faults around.globals line (bound instance port) (thing_of around.own target)
+    (port_around around instance port)
 bind_faults around bound _ = []
 
 -- lines in order, where some stand before these
@@ -72,7 +73,7 @@ first_free bound instance ports = find (λ p. not (bound instance p.name)) ports
 
 abbrev pub unbound_faults : ℕ → Option PortLine → List LinkFault
 unbound_faults line None = []
-unbound_faults line (Some port) = fault_if true (Unbound port.name) line
+unbound_faults line (Some port) = link_fault_if true (Unbound port.name) line
 
 abbrev pub free_faults : (bound : (instance port : List ℕ) → Bool) → ℕ → List ℕ
     → Option (List PortLine) → List LinkFault
@@ -101,24 +102,24 @@ around_of globals known block = record {
 }
 
 -- a `composite` block or `top`, where `known` are the blocks that stand before it
-unfoldable pub composite_faults : Names → Known → PureComposite → List LinkFault
-composite_faults globals known block =
+unfoldable pub composite_link_faults : Names → Known → PureComposite → List LinkFault
+composite_link_faults globals known block =
     faults_around (around_of globals known block) block.members
 
-abbrev pub global_faults : Names → Known → PureGlobal → List LinkFault
-global_faults globals known (GNet block) = composite_faults globals known block
-global_faults globals known _ = []
+abbrev pub global_link_faults : Names → Known → PureGlobal → List LinkFault
+global_link_faults globals known (GNet block) = composite_link_faults globals known block
+global_link_faults globals known _ = []
 
-unfoldable pub globals_faults : Names → Known → List PureGlobal → List LinkFault
-globals_faults globals known [] = []
-globals_faults globals known (g ∷ gs) =
-    global_faults globals known g ++ globals_faults globals (known_after g known) gs
+unfoldable pub globals_link_faults : Names → Known → List PureGlobal → List LinkFault
+globals_link_faults globals known [] = []
+globals_link_faults globals known (g ∷ gs) =
+    global_link_faults globals known g ++ globals_link_faults globals (known_after g known) gs
 
-abbrev pub faults_in : Names → PureTree → List LinkFault
-faults_in globals model =
-    globals_faults globals no_blocks model.globals
-    ++ composite_faults globals (known_after_all model.globals no_blocks) model.top
+abbrev pub link_faults_in : Names → PureTree → List LinkFault
+link_faults_in globals model =
+    globals_link_faults globals no_blocks model.globals
+    ++ composite_link_faults globals (known_after_all model.globals no_blocks) model.top
 
 -- all faults of a model's `bind` and `instance` lines, in no order that matters
 unfoldable pub link_faults : PureTree → List LinkFault
-link_faults model = faults_in (globals_of model.globals) model
+link_faults model = link_faults_in (globals_of model.globals) model

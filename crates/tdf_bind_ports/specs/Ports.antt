@@ -2,7 +2,7 @@
 -- Source: own.
 use Rattle.std.specs.Prelude.{ℕ, List, [], ◌∷◌, ◌++◌, Option, map}
 use Rattle.std.specs.List.{flat_map}
-use Rattle.tdf_expr_symbols.specs.Names.{at_place, place_in}
+use Rattle.tdf_expr_symbols.specs.Names.{found_at, place_in}
 use Rattle.tdf_lang_tree.specs.Pure.{PureTdfLine, TPort, TStore, TRate, PureDeLine, DPort, DStore, DEvent, PureTdf, PureDe, PureComposite, PureGlobal, GShape, GTdf, GDe, GNet}
 use Rattle.tdf_lang_tree.specs.declared.blocks.Member.{Member}
 use Rattle.tdf_lang_tree.specs.declared.blocks.Member.TheVariants as member
@@ -34,7 +34,7 @@ ports_of_composite block = flat_map port_of_member block.members
 
 -- the first of some ports that has this name
 abbrev pub port_named : List PortLine → List ℕ → Option PortLine
-port_named ports name = at_place ports (place_in (map (λ p. p.name) ports) name)
+port_named ports name = found_at ports (place_in (map (λ p. p.name) ports) name)
 
 -- blocks in order: the name and the ports of each
 pub record Known : Type 0 where
@@ -61,7 +61,7 @@ known_after_all (g ∷ gs) known = known_after_all gs (known_after g known)
 
 -- the ports of the block of a name
 abbrev pub ports_named : Known → List ℕ → Option (List PortLine)
-ports_named known name = at_place known.ports (place_in known.names name)
+ports_named known name = found_at known.ports (place_in known.names name)
 
 -- the instances of a composite: the name of each, and the name of its block
 pub record Instances : Type 0 where
@@ -82,4 +82,4 @@ with_instances (m ∷ ms) i = with_instances ms (with_instance m i)
 
 -- the name of the block of an instance
 abbrev pub block_named : Instances → List ℕ → Option (List ℕ)
-block_named i name = at_place i.blocks (place_in i.names name)
+block_named i name = found_at i.blocks (place_in i.names name)

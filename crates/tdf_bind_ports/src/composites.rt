@@ -3,8 +3,8 @@
 ghost use Rattle.std.specs.List.{find, flat_map};
 ghost use Rattle.std.specs.Option.{option_map};
 ghost use Rattle.std.specs.Prelude.{◌≡◌, map, IfOk, OnOk};
-ghost use Rattle.tdf_bind_ports.specs.Faults.{least_with};
-ghost use Rattle.tdf_bind_ports.specs.Links.{around_of, bind_faults, composite_faults, faults_around, first_free, free_faults, instance_faults, port_faults, port_in, port_of, unbound_faults};
+ghost use Rattle.tdf_bind_ports.specs.Faults.{least_link_with};
+ghost use Rattle.tdf_bind_ports.specs.Links.{around_of, bind_faults, composite_link_faults, faults_around, first_free, free_faults, instance_faults, port_link_faults, port_in, port_around, unbound_faults};
 ghost use Rattle.tdf_bind_ports.specs.machine.Pairs.{has_pair, later, pairs_after, pairs_after_all};
 ghost use Rattle.tdf_expr_symbols.specs.Names.{thing_of};
 ghost use Rattle.tdf_expr_symbols.specs.Seen.{seen};
@@ -58,7 +58,7 @@ fn note_port<'t>(
     target: Option<Thing>,
     port: Option<&PortLine>,
 )
-    ensures { first.new ≡ least_with first.old (port_faults globals.now line again
+    ensures { first.new ≡ least_link_with first.old (port_link_faults globals.now line again
         (option_map seen target.entry) (option_map (λ p. p.now) port.entry)) }
 {
     match port {
@@ -86,7 +86,7 @@ fn first_free<'t>(pairs: &Pairs, instance: &[u8], ports: &[&'t PortLine]) -> Opt
 
 #[tactic(auto, using(crate::proofs::Notes::least_laws))]
 fn note_unbound<'t>(first: &mut First<'t>, line: u32, port: Option<&'t PortLine>)
-    ensures { first.new ≡ least_with first.old (unbound_faults line (option_map (λ p. p.now) port.entry)) }
+    ensures { first.new ≡ least_link_with first.old (unbound_faults line (option_map (λ p. p.now) port.entry)) }
 {
     match port {
         None => {}
@@ -103,7 +103,7 @@ fn note_free<'t>(
     instance: &[u8],
     ports: Option<&Ports<'t>>,
 )
-    ensures { first.new ≡ least_with first.old
+    ensures { first.new ≡ least_link_with first.old
         (free_faults (has_pair pairs.now) line instance.now (option_map (λ p. p.now) ports.entry)) }
 {
     match ports {
@@ -142,7 +142,7 @@ impl<'g, 't> Around<'g, 't> {
 
     /// A port of an instance.
     fn port(&self, instance: &[u8], port: &[u8]) -> Option<&'t PortLine>
-        ensures { option_map (λ p. p.now) result ≡ port_of self.now instance.now port.now }
+        ensures { option_map (λ p. p.now) result ≡ port_around self.now instance.now port.now }
     {
         match self.instances.block(instance) {
             None => None,
@@ -160,8 +160,8 @@ impl<'g, 't> Around<'g, 't> {
         port: &[u8],
         target: &[u8],
     )
-        ensures { first.new ≡ least_with first.old (port_faults self.now.globals line again
-            (thing_of self.now.own target.now) (port_of self.now instance.now port.now)) }
+        ensures { first.new ≡ least_link_with first.old (port_link_faults self.now.globals line again
+            (thing_of self.now.own target.now) (port_around self.now instance.now port.now)) }
     {
         let thing = self.scope.own(target);
         let found = self.port(instance, port);
@@ -176,7 +176,7 @@ impl<'g, 't> Around<'g, 't> {
         pairs: &mut Pairs<'t>,
         member: &'t Member,
     ) -> Result<(), Memory>
-        ensures first { OnOk result (first.new ≡ least_with first.old (bind_faults self.now (has_pair pairs.old) member.entry.now)) }
+        ensures first { OnOk result (first.new ≡ least_link_with first.old (bind_faults self.now (has_pair pairs.old) member.entry.now)) }
         ensures pairs { OnOk result (pairs.new ≡ pairs_after member.entry.now pairs.old) }
     {
         match member {
@@ -202,7 +202,7 @@ impl<'g, 't> Around<'g, 't> {
     /// Notes the faults of an `instance` line.
     #[tactic(auto, using(crate::proofs::Notes::least_laws), unfolding(crate::specs::Links::instance_faults))]
     fn note_instance(&self, first: &mut First<'t>, pairs: &Pairs, member: &Member)
-        ensures { first.new ≡ least_with first.old (instance_faults self.now (has_pair pairs.now) member.now) }
+        ensures { first.new ≡ least_link_with first.old (instance_faults self.now (has_pair pairs.now) member.now) }
     {
         match member {
             Member::Instance { line, name, block } => {
@@ -223,7 +223,7 @@ impl<'g, 't> Around<'g, 't> {
         pairs: &mut Pairs<'t>,
         members: &'t Vec<Member>,
     ) -> Result<(), Memory>
-        ensures first { OnOk result (first.new ≡ least_with first.old (later self.now pairs.old members.entry.now.items)) }
+        ensures first { OnOk result (first.new ≡ least_link_with first.old (later self.now pairs.old members.entry.now.items)) }
         ensures pairs { OnOk result (pairs.new ≡ pairs_after_all members.entry.now.items pairs.old) }
     {
         for member in members {
@@ -234,7 +234,7 @@ impl<'g, 't> Around<'g, 't> {
 
     #[tactic(auto, using(crate::proofs::Notes::instance_laws))]
     fn note_instances(&self, first: &mut First<'t>, pairs: &Pairs, members: &Vec<Member>)
-        ensures { first.new ≡ least_with first.old (flat_map (instance_faults self.now (has_pair pairs.now)) members.now.items) }
+        ensures { first.new ≡ least_link_with first.old (flat_map (instance_faults self.now (has_pair pairs.now)) members.now.items) }
     {
         for member in members {
             self.note_instance(first, pairs, member);
@@ -248,7 +248,7 @@ impl<'g, 't> Around<'g, 't> {
         first: &mut First<'t>,
         members: &'t Vec<Member>,
     ) -> Result<(), Memory>
-        ensures { OnOk result (first.new ≡ least_with first.old (faults_around self.now members.entry.now.items)) }
+        ensures { OnOk result (first.new ≡ least_link_with first.old (faults_around self.now members.entry.now.items)) }
     {
         let mut pairs = Pairs::new(alloc);
         self.note_binds(first, &mut pairs, members)?;
@@ -261,7 +261,7 @@ impl<'g, 't> Around<'g, 't> {
 ///
 /// # Errors
 /// Out of memory.
-#[tactic(auto, unfolding(crate::specs::Links::composite_faults))]
+#[tactic(auto, unfolding(crate::specs::Links::composite_link_faults))]
 pub(crate) fn note_composite<'t>(
     alloc: Global,
     first: &mut First<'t>,
@@ -269,8 +269,8 @@ pub(crate) fn note_composite<'t>(
     known: &Known<'t>,
     block: &'t Composite,
 ) -> Result<(), Memory>
-    ensures { OnOk result (first.new ≡ least_with first.old
-        (composite_faults globals.now known.now (pure_composite block.entry.now))) }
+    ensures { OnOk result (first.new ≡ least_link_with first.old
+        (composite_link_faults globals.now known.now (pure_composite block.entry.now))) }
 {
     let around = Around::of(alloc, globals, known, block)?;
     around.note_members(alloc, first, &block.members)

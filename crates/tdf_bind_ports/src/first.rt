@@ -3,7 +3,7 @@
 ghost use Rattle.std.specs.Option.{option_map};
 ghost use Rattle.std.specs.Prelude.{◌≡◌, None, IfOk};
 ghost use Rattle.tdf_base.specs.First.{rank};
-ghost use Rattle.tdf_bind_ports.specs.Faults.{code_of, comes_before, fault_of, lesser, noted};
+ghost use Rattle.tdf_bind_ports.specs.Faults.{code_of, link_comes_before, fault_of_link, lesser_link, link_noted};
 ghost use Rattle.tdf_bind_ports.specs.Seen.{seen_fault, seen_wrong};
 
 use std::alloc::Global;
@@ -56,14 +56,14 @@ fn rank(wrong: Wrong) -> u8
 }
 
 fn comes_before(a: LinkFault, b: LinkFault) -> bool
-    ensures { result ≡ comes_before (seen_fault a.entry) (seen_fault b.entry) }
+    ensures { result ≡ link_comes_before (seen_fault a.entry) (seen_fault b.entry) }
 {
     a.line < b.line || (a.line == b.line && rank(a.wrong) < rank(b.wrong))
 }
 
-#[tactic(auto, unfolding(crate::specs::Faults::lesser))]
+#[tactic(auto, unfolding(crate::specs::Faults::lesser_link))]
 fn lesser<'t>(first: Option<LinkFault<'t>>, fault: LinkFault<'t>) -> Option<LinkFault<'t>>
-    ensures { option_map seen_fault result ≡ lesser (option_map seen_fault first.entry) (seen_fault fault.entry) }
+    ensures { option_map seen_fault result ≡ lesser_link (option_map seen_fault first.entry) (seen_fault fault.entry) }
 {
     match first {
         None => Some(fault),
@@ -92,7 +92,7 @@ fn code_of(wrong: Wrong) -> Code
 /// # Errors
 /// Out of memory.
 fn fault_of(alloc: Global, fault: LinkFault) -> Result<Fault, Memory>
-    ensures { IfOk result (λ f. f ≡ fault_of (seen_fault fault.entry)) }
+    ensures { IfOk result (λ f. f ≡ fault_of_link (seen_fault fault.entry)) }
 {
     let place = match fault.wrong {
         Wrong::Unbound(port) => Place::LinePort(fault.line, Path::copied(alloc, port)?),
@@ -113,9 +113,9 @@ impl<'t> First<'t> {
     }
 
     /// The first fault so far, where this line may have one more.
-    #[tactic(auto, unfolding(crate::specs::Faults::noted))]
+    #[tactic(auto, unfolding(crate::specs::Faults::link_noted))]
     pub(crate) fn note(&mut self, is: bool, wrong: Wrong<'t>, line: u32)
-        ensures { self.new ≡ noted is (seen_wrong wrong.entry) line self.old }
+        ensures { self.new ≡ link_noted is (seen_wrong wrong.entry) line self.old }
     {
         if is {
             self.found = lesser(self.found, LinkFault { line, wrong });
@@ -127,7 +127,7 @@ impl<'t> First<'t> {
     /// # Errors
     /// Out of memory.
     pub(crate) fn fault(&self, alloc: Global) -> Result<Option<Fault>, Memory>
-        ensures { IfOk result (λ fault. fault ≡ option_map fault_of self.now) }
+        ensures { IfOk result (λ fault. fault ≡ option_map fault_of_link self.now) }
     {
         match self.found {
             None => Ok(None),

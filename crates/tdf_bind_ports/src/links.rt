@@ -2,8 +2,8 @@
 
 ghost use Rattle.std.specs.Option.{option_map};
 ghost use Rattle.std.specs.Prelude.{◌≡◌, map, IfOk, OnOk};
-ghost use Rattle.tdf_bind_ports.specs.Faults.{fault_of, first_of, least_with};
-ghost use Rattle.tdf_bind_ports.specs.Links.{composite_faults, global_faults, globals_faults, link_faults};
+ghost use Rattle.tdf_bind_ports.specs.Faults.{fault_of_link, first_link_fault, least_link_with};
+ghost use Rattle.tdf_bind_ports.specs.Links.{composite_link_faults, global_link_faults, globals_link_faults, link_faults};
 ghost use Rattle.tdf_bind_ports.specs.Ports.{known_after_all, no_blocks};
 ghost use Rattle.tdf_lang_tree.specs.Views.{pure_global, pure_tree};
 
@@ -24,7 +24,7 @@ fn note_global<'t>(
     known: &Known<'t>,
     global: &'t Global1,
 ) -> Result<(), Memory>
-    ensures { OnOk result (first.new ≡ least_with first.old (global_faults globals.now known.now (pure_global global.entry.now))) }
+    ensures { OnOk result (first.new ≡ least_link_with first.old (global_link_faults globals.now known.now (pure_global global.entry.now))) }
 {
     match global {
         Global1::Net(block) => note_composite(alloc, first, globals, known, block),
@@ -43,8 +43,8 @@ fn note_globals<'t>(
     known: &mut Known<'t>,
     list: &'t Vec<Global1>,
 ) -> Result<(), Memory>
-    ensures first { OnOk result (first.new ≡ least_with first.old
-        (globals_faults globals.now known.old (map pure_global list.entry.now.items))) }
+    ensures first { OnOk result (first.new ≡ least_link_with first.old
+        (globals_link_faults globals.now known.old (map pure_global list.entry.now.items))) }
     ensures known { OnOk result (known.new ≡ known_after_all (map pure_global list.entry.now.items) known.old) }
 {
     for global in list {
@@ -57,7 +57,7 @@ fn note_globals<'t>(
 /// Notes the faults of all blocks.
 #[tactic(auto, using(crate::proofs::Notes::least_laws), unfolding(crate::specs::Links::link_faults))]
 fn note_tree<'t>(alloc: Global, first: &mut First<'t>, tree: &'t Tree) -> Result<(), Memory>
-    ensures { OnOk result (first.new ≡ least_with first.old (link_faults (pure_tree tree.entry.now))) }
+    ensures { OnOk result (first.new ≡ least_link_with first.old (link_faults (pure_tree tree.entry.now))) }
 {
     let globals = globals_of(alloc, &tree.globals)?;
     let mut known = Known::new(alloc);
@@ -71,7 +71,7 @@ fn note_tree<'t>(alloc: Global, first: &mut First<'t>, tree: &'t Tree) -> Result
 /// Out of memory.
 pub fn link_fault(alloc: Global, tree: &Tree) -> Result<Option<Fault>, Memory>
     ensures { IfOk result (λ found.
-        found ≡ option_map fault_of (first_of (link_faults (pure_tree tree.now)))) }
+        found ≡ option_map fault_of_link (first_link_fault (link_faults (pure_tree tree.now)))) }
 {
     let mut first = First::new();
     note_tree(alloc, &mut first, tree)?;

@@ -4,7 +4,7 @@ ghost use Rattle.std.specs.List.{flat_map};
 ghost use Rattle.std.specs.Option.{option_map};
 ghost use Rattle.std.specs.Prelude.{◌≡◌, ◌++◌, length, map, IfOk, OnOk};
 ghost use Rattle.tdf_bind_ports.specs.Ports.{block_named, known_after, no_blocks, no_instances, port_named, port_of_de_line, port_of_member, port_of_tdf_line, ports_named, ports_of_composite, ports_of_de, ports_of_tdf, with_block, with_instance, with_instances};
-ghost use Rattle.tdf_expr_symbols.specs.Names.{at_place, place_in};
+ghost use Rattle.tdf_expr_symbols.specs.Names.{found_at, place_in};
 ghost use Rattle.tdf_lang_tree.specs.Views.{pure_composite, pure_de, pure_de_line, pure_global, pure_tdf, pure_tdf_line};
 
 use crate::index::Index;
@@ -43,7 +43,7 @@ fn names_of<'t>(alloc: Global, lines: &[&'t PortLine]) -> Result<Index<'t>, Memo
 }
 
 fn line_at<'t>(lines: &[&'t PortLine], place: Option<usize>) -> Option<&'t PortLine>
-    ensures { result ≡ at_place lines.entry.now place }
+    ensures { result ≡ found_at lines.entry.now place }
 {
     match place {
         None => None,

@@ -10,7 +10,7 @@ use Rattle.tdf_bind_tables.specs.declared.actors.ActorPlace.{ActorPlace}
 use Rattle.tdf_graph.specs.Ranges.{IsRate, IsEdge}
 use Rattle.tdf_lang_tree.specs.declared.blocks.PortKind.{PortKind}
 use Rattle.tdf_lang_tree.specs.declared.blocks.PortKind.TheVariants.{In, Out, DeIn, DeOut}
-use Rattle.tdf_bind_connections.specs.Edges.{IsShort, is_event_port, actor_at, driver_port, edge_from, driven_edge, edge_of_kind, edge_by, edges_of}
+use Rattle.tdf_bind_connections.specs.Edges.{HasShortDelay, is_event_port, actor_at, driver_port, edge_from, driven_edge, edge_of_kind, edge_by, edges_of}
 use Rattle.tdf_bind_connections.specs.declared.drivers.SignalRow.{SignalRow}
 use Rattle.tdf_bind_connections.specs.declared.edges.EdgeRow.{EdgeRow}
 use Rattle.tdf_bind_connections.specs.declared.modules.PortRow.{PortRow}
@@ -60,23 +60,23 @@ all_get {X} P (y ∷ xs) zero x h is = subst (IsThis) is h.0
     IsThis (Some z) = P z
 all_get P (y ∷ xs) (suc k) x h is = all_get P xs k x h.1 is
 
-module _ (modules count : ℕ) (signals : List SignalRow) (whole : List PortRow) (short : AllByRecursion IsShort whole) (own : AllByRecursion (λ p. p.«module» < modules) whole) (more : modules ≤ count) where
+module _ (modules count : ℕ) (signals : List SignalRow) (whole : List PortRow) (short : AllByRecursion HasShortDelay whole) (own : AllByRecursion (λ p. p.«module» < modules) whole) (more : modules ≤ count) where
   abbrev Fits : Option EdgeRow → Type 0
   Fits None = Unit {0}
   Fits (Some e) = IsEdge count (net_edge e)
 
-  from_fits : (n : ℕ) (p : PortRow) → p.«module» < modules → IsShort p → (out : ℕ) (o : Option PortRow) → o ≡ slice_get whole out → Fits (edge_from n p out o)
+  from_fits : (n : ℕ) (p : PortRow) → p.«module» < modules → HasShortDelay p → (out : ℕ) (o : Option PortRow) → o ≡ slice_get whole out → Fits (edge_from n p out o)
   from_fits n p mine brief out None is = tt
   from_fits n p mine brief out (Some d) is =
       let theirs = all_get (λ q. q.«module» < modules) whole out d own (sym is) in
-      let narrow = all_get IsShort whole out d short (sym is) in
+      let narrow = all_get HasShortDelay whole out d short (sym is) in
       record { writer = omega (arith, theirs, more); reader = omega (arith, mine, more); writes = rate_one; reads = rate_one; starts = omega (arith, brief, narrow) }
 
-  driven_fits : (n : ℕ) (p : PortRow) → p.«module» < modules → IsShort p → (o : Option ℕ) → Fits (driven_edge whole n p o)
+  driven_fits : (n : ℕ) (p : PortRow) → p.«module» < modules → HasShortDelay p → (o : Option ℕ) → Fits (driven_edge whole n p o)
   driven_fits n p mine brief None = tt
   driven_fits n p mine brief (Some out) = from_fits n p mine brief out (slice_get whole out) refl
 
-  kind_fits : (kind : PortKind) (n actor : ℕ) (p : PortRow) → p.«module» < modules → IsShort p → (is_event_port kind ≡ true → actor < count) → Fits (edge_of_kind kind signals whole n actor p)
+  kind_fits : (kind : PortKind) (n actor : ℕ) (p : PortRow) → p.«module» < modules → HasShortDelay p → (is_event_port kind ≡ true → actor < count) → Fits (edge_of_kind kind signals whole n actor p)
   kind_fits In n actor p mine brief within = driven_fits n p mine brief (driver_port signals p.signal)
   kind_fits Out n actor p mine brief within = tt
   kind_fits DeIn n actor p mine brief within = record { writer = within refl; reader = omega (arith, mine, more); writes = rate_one; reads = rate_one; starts = omega (arith, brief) }
@@ -94,8 +94,8 @@ event_one false p e = absurd (subst T (sym e) tt)
     T true = Unit {0}
     T false = ⊥
 
-edges_within : (modules : ℕ) (signals : List SignalRow) (whole : List PortRow) → AllByRecursion IsShort whole → AllByRecursion (λ p. p.«module» < modules) whole
-    → (before ports : List PortRow) → whole ≡ before ++ ports → AllByRecursion IsShort ports → AllByRecursion (λ p. p.«module» < modules) ports
+edges_within : (modules : ℕ) (signals : List SignalRow) (whole : List PortRow) → AllByRecursion HasShortDelay whole → AllByRecursion (λ p. p.«module» < modules) whole
+    → (before ports : List PortRow) → whole ≡ before ++ ports → AllByRecursion HasShortDelay ports → AllByRecursion (λ p. p.«module» < modules) ports
     → AllByRecursion (λ e. IsEdge (modules + events whole) (net_edge e)) (filter_map (λ p. edge_by signals whole p.0 (actor_at modules whole p.0) p.1) (enumerate_from (length before) ports))
 edges_within modules signals whole short own before [] is shorts owns = tt
 edges_within modules signals whole short own before (p ∷ ports) is shorts owns =
@@ -122,9 +122,9 @@ mapped : (count : ℕ) (es : List EdgeRow) → AllByRecursion (λ e. IsEdge coun
 mapped count [] h = tt
 mapped count (e ∷ es) h = (h.0, mapped count es h.1)
 
-pub edges_are_actors : (modules : ℕ) (signals : List SignalRow) (ports : List PortRow) → All IsShort ports → All (λ p. p.«module» < modules) ports → AreActorEdges modules ports (edges_of modules signals ports)
+pub edges_are_actors : (modules : ℕ) (signals : List SignalRow) (ports : List PortRow) → All HasShortDelay ports → All (λ p. p.«module» < modules) ports → AreActorEdges modules ports (edges_of modules signals ports)
 edges_are_actors modules signals ports short own =
-    let shorts = recursion_from_All IsShort ports short in
+    let shorts = recursion_from_All HasShortDelay ports short in
     let owns = recursion_from_All (λ p. p.«module» < modules) ports own in
     All-from_recursion (IsEdge (length (actor_places modules ports))) (map net_edge (edges_of modules signals ports))
     (subst (λ n. AllByRecursion (IsEdge n) (map net_edge (edges_of modules signals ports))) (sym (places_long modules ports))

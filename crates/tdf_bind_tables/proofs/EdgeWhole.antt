@@ -8,7 +8,7 @@ use Rattle.std.specs.Prelude.{slice_get, filter, filter_map, nat_eq}
 use Rattle.tdf_bind_tables.proofs.Joining.{both}
 use Rattle.tdf_bind_tables.proofs.Reaching.{ports_reach_signals, rows_long}
 use Rattle.tdf_bind_tables.specs.FlatTables.{FlatTablesOf}
-use Rattle.tdf_bind_tables.specs.Whole.{AreEventPorts, number_if, EdgesAreWhole}
+use Rattle.tdf_bind_tables.specs.Whole.{AreEventPorts, number_if_read, EdgesAreWhole}
 use Rattle.tdf_lang_tree.specs.declared.blocks.PortKind.{PortKind}
 use Rattle.tdf_lang_tree.specs.declared.blocks.PortKind.TheVariants.{In, Out, DeIn, DeOut}
 use Rattle.tdf_bind_hierarchy.specs.Laws.{PortsAreInRange}
@@ -16,7 +16,7 @@ use Rattle.tdf_bind_hierarchy.specs.PortKinds.{PortsKeepKinds}
 use Rattle.tdf_bind_hierarchy.specs.Tables.{RowOf, TablesOf, is_of, same_kind, numbers_after}
 use Rattle.tdf_bind_hierarchy.specs.declared.tables.Signal.{Signal}
 use Rattle.tdf_bind_hierarchy.specs.declared.tables.SignalNumber.{SignalNumber}
-use Rattle.tdf_bind_connections.specs.Drivers.{driver_of, driver, module_port, driver_fault, fault_of, signal_row, writers_in}
+use Rattle.tdf_bind_connections.specs.Drivers.{driver_of, driver, module_port, driver_fault, fault_of_driver, signal_row, writers_in}
 use Rattle.tdf_bind_connections.specs.Edges.{is_event_port, actor_at, driver_row, driver_port, edge_from, driven_edge, edge_of_kind, edge_by}
 use Rattle.tdf_bind_connections.specs.ProcessBlocks.{PlacedBlock, as_block, placed_blocks}
 use Rattle.tdf_bind_connections.specs.Writers.{gives, port_writer, place_writer, module_writers, writers_at, block_writers}
@@ -156,7 +156,7 @@ in_gives : (whole : List PortRow) (n : ℕ) (p : PortRow) (o : Option ℕ) → D
 in_gives whole n p None h = absurd h
 in_gives whole n p (Some out) h = let there = get_there whole out h in ap (λ d. port_of (edge_from n p out d)) there.1
 
-kind_gives : (signals : List SignalRow) (whole : List PortRow) (kind : PortKind) (n actor : ℕ) (p : PortRow) → (is_event_port kind ≡ false → Driven (length whole) (driver_port signals p.signal)) → port_of (edge_of_kind kind signals whole n actor p) ≡ number_if kind n
+kind_gives : (signals : List SignalRow) (whole : List PortRow) (kind : PortKind) (n actor : ℕ) (p : PortRow) → (is_event_port kind ≡ false → Driven (length whole) (driver_port signals p.signal)) → port_of (edge_of_kind kind signals whole n actor p) ≡ number_if_read kind n
 kind_gives signals whole In n actor p h = in_gives whole n p (driver_port signals p.signal) (h refl)
 kind_gives signals whole Out n actor p h = refl
 kind_gives signals whole DeIn n actor p h = refl
@@ -167,19 +167,19 @@ cons_port None es = refl
 cons_port (Some e) es = refl
 
 ports_give : (modules : ℕ) (signals : List SignalRow) (whole : List PortRow) (n : ℕ) (ports : List PortRow) → AllByRecursion (λ p. is_event_port p.kind ≡ false → Driven (length whole) (driver_port signals p.signal)) ports
-    → map (λ (e : EdgeRow). e.port) (filter_map (λ p. edge_by signals whole p.0 (actor_at modules whole p.0) p.1) (enumerate_from n ports)) ≡ filter_map (λ p. number_if p.1.kind p.0) (enumerate_from n ports)
+    → map (λ (e : EdgeRow). e.port) (filter_map (λ p. edge_by signals whole p.0 (actor_at modules whole p.0) p.1) (enumerate_from n ports)) ≡ filter_map (λ p. number_if_read p.1.kind p.0) (enumerate_from n ports)
 ports_give modules signals whole n [] h = refl
 ports_give modules signals whole n (p ∷ ports) h =
     cons_port (edge_by signals whole n (actor_at modules whole n) p) (filter_map (λ q. edge_by signals whole q.0 (actor_at modules whole q.0) q.1) (enumerate_from (n + 1) ports))
     ∙ ap (λ o. cons_option o (map (λ (e : EdgeRow). e.port) (filter_map (λ q. edge_by signals whole q.0 (actor_at modules whole q.0) q.1) (enumerate_from (n + 1) ports)))) (kind_gives signals whole p.kind n (actor_at modules whole n) p h.0)
-    ∙ ap (cons_option (number_if p.kind n)) (ports_give modules signals whole (n + 1) ports h.1)
+    ∙ ap (cons_option (number_if_read p.kind n)) (ports_give modules signals whole (n + 1) ports h.1)
 
 each_driven : (flat : FlatTablesOf) → ((s : ℕ) → s < length flat.signals → Driven (length flat.ports) (driver_port flat.signals s)) → (ports : List PortRow) → AllByRecursion (λ p. p.signal < length (cond (is_event_port p.kind) flat.de_signals flat.signals)) ports
     → AllByRecursion (λ p. is_event_port p.kind ≡ false → Driven (length flat.ports) (driver_port flat.signals p.signal)) ports
 each_driven flat one [] k = tt
 each_driven flat one (p ∷ ports) k = ((λ e. one p.signal (subst (λ b. p.signal < length (cond b flat.de_signals flat.signals)) e k.0)), each_driven flat one ports k.1)
 
-fault_none : (n : SignalNumber) (o : Option _) → fault_of n o ≡ None → o ≡ None
+fault_none : (n : SignalNumber) (o : Option _) → fault_of_driver n o ≡ None → o ≡ None
 fault_none n None e = refl
 fault_none n (Some code) e = absurd (some_none e)
 
@@ -194,8 +194,8 @@ edges_are_whole in_range keep kinds blocks top roles lines flat kept agree event
     writers : List Writer
     writers = writers_in roles t flat.ports false
 
-    fine : AllByRecursion (λ (n : SignalNumber). fault_of n (driver_fault n.event (driver n.number (writers_in roles t flat.ports n.event))) ≡ None) t.order
-    fine = none_all (λ (n : SignalNumber). fault_of n (driver_fault n.event (driver n.number (writers_in roles t flat.ports n.event)))) t.order h.follows.drivers
+    fine : AllByRecursion (λ (n : SignalNumber). fault_of_driver n (driver_fault n.event (driver n.number (writers_in roles t flat.ports n.event))) ≡ None) t.order
+    fine = none_all (λ (n : SignalNumber). fault_of_driver n (driver_fault n.event (driver n.number (writers_in roles t flat.ports n.event)))) t.order h.follows.drivers
 
     long : length flat.signals ≡ length t.signals
     long = ap length h.follows.signals.signals ∙ rows_long writers t.signals
@@ -203,4 +203,4 @@ edges_are_whole in_range keep kinds blocks top roles lines flat kept agree event
     one : (s : ℕ) → s < length flat.signals → Driven (length flat.ports) (driver_port flat.signals s)
     one s within = subst (Driven (length flat.ports)) (sym (ap (λ l. driver_row (slice_get l s)) h.follows.signals.signals ∙ row_driver writers 0 t.signals s (let l = long in omega (arith, within, l)) ∙ ap (λ n. module_port (driver n writers)) (omega arith)))
         (driven (length flat.ports) (filter (λ w. nat_eq w.signal s) writers) (filtered (λ w. Driven (length flat.ports) w.port) (λ w. nat_eq w.signal s) writers (writers_driven roles events t flat.ports))
-        (fault_none (record { event = false; number = s }) (driver_fault false (driver s writers)) (in_order (λ (n : SignalNumber). fault_of n (driver_fault n.event (driver n.number (writers_in roles t flat.ports n.event))) ≡ None) [] _ s (subst (AllByRecursion _) h.met.order fine) (omega arith) (let l = long in let m = ap length h.met.signals in subst (λ k. s < k) m (omega (arith, within, l))))))
+        (fault_none (record { event = false; number = s }) (driver_fault false (driver s writers)) (in_order (λ (n : SignalNumber). fault_of_driver n (driver_fault n.event (driver n.number (writers_in roles t flat.ports n.event))) ≡ None) [] _ s (subst (AllByRecursion _) h.met.order fine) (omega arith) (let l = long in let m = ap length h.met.signals in subst (λ k. s < k) m (omega (arith, within, l))))))

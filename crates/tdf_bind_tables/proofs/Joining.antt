@@ -16,13 +16,13 @@ use Rattle.tdf_bind_tables.specs.machine.FlatSteps.{IsAssembled, IsGraphErr, IsF
 use Rattle.tdf_bind_hierarchy.specs.Blocks.{BlockOf}
 use Rattle.tdf_bind_hierarchy.specs.Met.{met_in}
 use Rattle.tdf_bind_hierarchy.specs.Tables.{RowOf, TablesOf, IsTable}
-use Rattle.tdf_bind_connections.specs.Drivers.{writers_in, faults_in, signal_rows, AreSignals, SignalsOf}
+use Rattle.tdf_bind_connections.specs.Drivers.{writers_in, misdriven, signal_rows, AreSignals, SignalsOf}
 use Rattle.tdf_bind_connections.specs.ProcessBlocks.{ProcessBlocksOf, AreProcessBlocks}
 use Rattle.tdf_bind_connections.specs.Traces.{IsTraceOf, unknown_lines}
 use Rattle.tdf_bind_connections.specs.declared.drivers.SignalRow.{SignalRow}
 use Rattle.tdf_bind_connections.specs.declared.traces.TraceLine.{TraceLine}
 use Rattle.tdf_bind_connections.specs.declared.traces.TraceRow.{TraceRow}
-use Rattle.tdf_bind_connections.specs.Edges.{IsShort, edges_of}
+use Rattle.tdf_bind_connections.specs.Edges.{HasShortDelay, edges_of}
 use Rattle.tdf_bind_connections.specs.Modules.{PlacedModule, as_module, placed_modules, module_row, port_row, module_ports, ports_from, ModulesOf, AreModules}
 use Rattle.tdf_bind_connections.specs.declared.modules.PortRow.{PortRow}
 use Rattle.tdf_bind_connections.specs.declared.roles.PortData.{PortData}
@@ -84,17 +84,17 @@ placed_short : (roles : List Role) → AllByRecursion IsShortRole roles → (ins
 placed_short roles h [] = tt
 placed_short roles h (i ∷ instances) = placed_cons (as_module i (slice_get roles i.block)) (placed_modules roles instances) (placed_one i (slice_get roles i.block) (role_at roles i.block h)) (placed_short roles h instances)
 
-short_one : (n : ℕ) (instance : RowOf) (k : ℕ) (ports : List PortData) → AllByRecursion (λ (p : PortData). p.delay ≤ greatest_delay) ports → AllByRecursion IsShort (map (λ port. port_row n instance port.0 port.1) (enumerate_from k ports))
+short_one : (n : ℕ) (instance : RowOf) (k : ℕ) (ports : List PortData) → AllByRecursion (λ (p : PortData). p.delay ≤ greatest_delay) ports → AllByRecursion HasShortDelay (map (λ port. port_row n instance port.0 port.1) (enumerate_from k ports))
 short_one n instance k [] h = tt
 short_one n instance k (p ∷ ports) h = (h.0, short_one n instance (k + 1) ports h.1)
 
-short_all : (n : ℕ) (ms : List PlacedModule) → AllByRecursion (λ m. ShortPlaced (Some m)) ms → AllByRecursion IsShort (ports_from n ms)
+short_all : (n : ℕ) (ms : List PlacedModule) → AllByRecursion (λ m. ShortPlaced (Some m)) ms → AllByRecursion HasShortDelay (ports_from n ms)
 short_all n [] h = tt
-short_all n (m ∷ ms) h = both IsShort (module_ports n m) (ports_from (n + 1) ms) (short_one n m.instance 0 m.role.ports h.0) (short_all (n + 1) ms h.1)
+short_all n (m ∷ ms) h = both HasShortDelay (module_ports n m) (ports_from (n + 1) ms) (short_one n m.instance 0 m.role.ports h.0) (short_all (n + 1) ms h.1)
 
-pub ports_are_short : (roles : List Role) (instances : List RowOf) (t : ModulesOf) → AreModules roles instances t → AreShort roles → All IsShort t.ports
-ports_are_short roles instances t h short = All-from_recursion IsShort t.ports
-    (subst (AllByRecursion IsShort) (sym h.ports) (short_all 0 (placed_modules roles instances) (placed_short roles (recursion_from_All IsShortRole roles short) instances)))
+pub ports_are_short : (roles : List Role) (instances : List RowOf) (t : ModulesOf) → AreModules roles instances t → AreShort roles → All HasShortDelay t.ports
+ports_are_short roles instances t h short = All-from_recursion HasShortDelay t.ports
+    (subst (AllByRecursion HasShortDelay) (sym h.ports) (short_all 0 (placed_modules roles instances) (placed_short roles (recursion_from_All IsShortRole roles short) instances)))
 
 -- more of what holds of a result
 pub if_ok_more : {A E : Type 0} {P Q : A → Type 0} → ((a : A) → P a → Q a) → (r : Result A E) → IfOk r P → IfOk r Q
@@ -106,7 +106,7 @@ if_err_more f (Ok a) h = tt
 if_err_more f (Err e) h = f e h
 
 pub follows : (tables : TablesOf) (roles : List Role) (lines : List TraceLine) (m : ModulesOf) (b : ProcessBlocksOf) (s : SignalsOf) (traces : List TraceRow) → AreModules roles tables.instances m → AreProcessBlocks roles tables.instances b
-    → AreSignals (writers_in roles tables m.ports) tables.signals tables.event_signals s → AllZip (IsTraceOf tables) traces lines → faults_in roles tables m.ports ≡ []
+    → AreSignals (writers_in roles tables m.ports) tables.signals tables.event_signals s → AllZip (IsTraceOf tables) traces lines → misdriven roles tables m.ports ≡ []
     → (flat : FlatTablesOf) → IsAssembled m b s traces flat → FollowsFrom tables roles lines flat
 follows tables roles lines m b s traces modules blocks signals are fine flat h = subst (FollowsFrom tables roles lines) (sym h.same) (record {
   modules = modules;
@@ -127,9 +127,9 @@ many roles tables count ports signals signals_are ports_are count_is h =
     (subst (λ l. HasManyClusters count ports (edges_of count l ports)) signals_are h))
 
 pub is_first : (roles : List Role) (tables : TablesOf) (lines : List TraceLine) (m : ModulesOf) (s : SignalsOf) → AreModules roles tables.instances m → AreSignals (writers_in roles tables m.ports) tables.signals tables.event_signals s
-    → faults_in roles tables m.ports ≡ [] → unknown_lines tables lines ≡ [] → (e : BindErr) → IsGraphErr m s e → IsFirstErr roles tables lines e
+    → misdriven roles tables m.ports ≡ [] → unknown_lines tables lines ≡ [] → (e : BindErr) → IsGraphErr m s e → IsFirstErr roles tables lines e
 is_first roles tables lines m s modules signals fine known (bind.Refused fault) h =
-    OfClusters (ap (faults_in roles tables) (sym modules.ports) ∙ fine) known
+    OfClusters (ap (misdriven roles tables) (sym modules.ports) ∙ fine) known
     (many roles tables (length m.modules) m.ports s.signals signals.signals modules.ports (ap length modules.modules ∙ length-map (placed_modules roles tables.instances) module_row) h.1) h.0
 is_first roles tables lines m s modules signals fine known bind.Memory h = tt
 

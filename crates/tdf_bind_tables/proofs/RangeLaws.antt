@@ -7,7 +7,7 @@ use Rattle.std.specs.List.{enumerate_from, cons_option, AllByRecursion, range_wi
 use Rattle.std.specs.Prelude.{slice_get, filter_map, All}
 use Rattle.tdf_bind_tables.proofs.EdgeRanges.{edges_are_actors}
 use Rattle.tdf_bind_tables.proofs.Joining.{ports_are_own, ports_are_short, both}
-use Rattle.tdf_bind_tables.specs.Actors.{module_actor, port_actor, actor_of_kind, actor_places, place_of, net_edge, AreActorEdges}
+use Rattle.tdf_bind_tables.specs.Actors.{module_actor, port_actor, actor_of_kind, actor_places, actor_place, net_edge, AreActorEdges}
 use Rattle.tdf_bind_tables.specs.FlatTables.{FlatTablesOf, AreShort, FollowsFrom}
 use Rattle.tdf_bind_tables.specs.Ranges.{IsActorPort, AreInRange, FlatIsInRange}
 use Rattle.tdf_bind_tables.specs.declared.actors.ActorPlace.{ActorPlace}
@@ -54,7 +54,7 @@ places_fit : (modules : ℕ) (ports : List PortRow) → AllByRecursion (λ p. p.
 places_fit modules ports own = both (FitsPlace modules (length ports)) (map module_actor (range_with_len 0 modules)) (filter_map (λ p. port_actor p.0 p.1) (enumerate_from 0 ports))
     (modules_fit modules (length ports) 0 modules (omega arith)) (ports_fit modules (length ports) 0 ports own (omega arith))
 
-rows_fit : (modules ports : ℕ) (rows : List ActorRow) → AllByRecursion (FitsPlace modules ports) (map place_of rows) → AllByRecursion (λ row. row.«module» < modules) rows × AllByRecursion (λ row. IsActorPort ports row.kind row.port) rows
+rows_fit : (modules ports : ℕ) (rows : List ActorRow) → AllByRecursion (FitsPlace modules ports) (map actor_place rows) → AllByRecursion (λ row. row.«module» < modules) rows × AllByRecursion (λ row. IsActorPort ports row.kind row.port) rows
 rows_fit modules ports [] h = (tt, tt)
 rows_fit modules ports (r ∷ rows) h = let more = rows_fit modules ports rows h.1 in ((h.0.0, more.0), (h.0.1, more.1))
 
@@ -105,7 +105,7 @@ ranges tables roles lines flat short h =
     let owns = recursion_from_All (λ (p : PortRow). p.«module» < length flat.modules) flat.ports own in
     let rows = rows_fit (length flat.modules) (length flat.ports) flat.actors (subst (AllByRecursion (FitsPlace (length flat.modules) (length flat.ports))) (sym h.actors.places) (places_fit (length flat.modules) flat.ports owns)) in
     let fits = edge_parts (length flat.ports) flat.edges (subst (AllByRecursion (FitsEdge (length flat.ports))) (sym h.edges) (edges_fit (length flat.modules) flat.signals flat.ports 0 flat.ports (omega arith))) in
-    let count = ap length (sym h.actors.places) ∙ length-map flat.actors place_of in
+    let count = ap length (sym h.actors.places) ∙ length-map flat.actors actor_place in
     let actors = subst (λ n. All (IsEdge n) (map net_edge flat.edges)) count (subst (AreActorEdges (length flat.modules) flat.ports) (sym h.edges) (edges_are_actors (length flat.modules) flat.signals flat.ports narrow own)) in
     let ends = edge_ends (length flat.actors) flat.edges (recursion_from_All (IsEdge (length flat.actors)) (map net_edge flat.edges) actors) in
     record {

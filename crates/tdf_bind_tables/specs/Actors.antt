@@ -34,8 +34,8 @@ actor_places modules ports =
     map module_actor (range_with_len 0 modules)
     ++ filter_map (λ port. port_actor port.0 port.1) (enumerate_from 0 ports)
 
-abbrev pub place_of : ActorRow → ActorPlace
-place_of row = record { kind = row.kind; «module» = row.«module»; port = row.port }
+abbrev pub actor_place : ActorRow → ActorPlace
+actor_place row = record { kind = row.kind; «module» = row.«module»; port = row.port }
 
 abbrev pub cluster_of : ActorRow → ℕ
 cluster_of row = row.cluster
@@ -53,7 +53,7 @@ net_edge edge = record {
 -- the rows are the actors, with their clusters
 pub record AreActors (modules : ℕ) (ports : List PortRow) (edges : List EdgeRow)
     (rows : List ActorRow) : Type 0 where
-  pub places : map place_of rows ≡ actor_places modules ports
+  pub places : map actor_place rows ≡ actor_places modules ports
   pub clusters : AreClusters (length rows) (map net_edge edges) (map cluster_of rows)
 
 -- the numbers of the edges are those of actors, and their delays within the limits

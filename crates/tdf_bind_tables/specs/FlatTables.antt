@@ -17,7 +17,7 @@ use Rattle.tdf_bind_hierarchy.specs.Met.{met_in}
 use Rattle.tdf_bind_hierarchy.specs.Tables.{TablesOf, table, IsTable}
 use Rattle.tdf_bind_hierarchy.specs.declared.tables.Signal.{Signal}
 use Rattle.tdf_bind_hierarchy.specs.declared.tables.SignalNumber.{SignalNumber}
-use Rattle.tdf_bind_connections.specs.Drivers.{writers_in, faults_in, signal_rows, AreSignals}
+use Rattle.tdf_bind_connections.specs.Drivers.{writers_in, misdriven, signal_rows, AreSignals}
 use Rattle.tdf_bind_connections.specs.Edges.{edges_of}
 use Rattle.tdf_bind_connections.specs.Modules.{placed_modules, ports_from, AreModules}
 use Rattle.tdf_bind_connections.specs.ProcessBlocks.{BlockRowOf, ProcessRowOf, AreProcessBlocks}
@@ -68,7 +68,7 @@ pub record FollowsFrom (tables : TablesOf) (roles : List Role) (lines : List Tra
   pub edges : flat.edges ≡ edges_of (length flat.modules) flat.signals flat.ports
   pub actors : AreActors (length flat.modules) flat.ports flat.edges flat.actors
   pub traces : AllZip (IsTraceOf tables) flat.traces lines
-  pub drivers : faults_in roles tables flat.ports ≡ []
+  pub drivers : misdriven roles tables flat.ports ≡ []
   pub clusters : greatest (map cluster_of flat.actors) ≤ most_clusters
 
 -- the flat model of blocks, of which `top` is the outermost
@@ -120,7 +120,7 @@ abbrev pub clusters_report : Fault
 clusters_report = record { code = code.Clusters; place = place.Nowhere }
 
 abbrev pub driver_faults_in : List Role → TablesOf → List DriverFault
-driver_faults_in roles tables = faults_in roles tables (ports_in roles tables)
+driver_faults_in roles tables = misdriven roles tables (ports_in roles tables)
 
 -- the actors are in more clusters than there may be
 pub record HasManyClusters (modules : ℕ) (ports : List PortRow)
@@ -130,27 +130,28 @@ pub record HasManyClusters (modules : ℕ) (ports : List PortRow)
   pub many : most_clusters < greatest (map cluster_of actors)
 
 -- the first fault: drivers in preorder of signals, then traces by line, then clusters
-pub data IsFirstFault (roles : List Role) (tables : TablesOf) (lines : List TraceLine)
+pub data IsFirstTableFault (roles : List Role) (tables : TablesOf) (lines : List TraceLine)
     (fault : Fault) : Type 0 where
   OfDriver : option_map (driver_report tables) (slice_get (driver_faults_in roles tables) 0)
       ≡ Some fault
-      → IsFirstFault roles tables lines fault
+      → IsFirstTableFault roles tables lines fault
   OfTrace : driver_faults_in roles tables ≡ []
       → option_map trace_report (slice_get (unknown_lines tables lines) 0) ≡ Some fault
-      → IsFirstFault roles tables lines fault
+      → IsFirstTableFault roles tables lines fault
   OfClusters : driver_faults_in roles tables ≡ [] → unknown_lines tables lines ≡ []
       → HasManyClusters (count_in roles tables) (ports_in roles tables) (edges_in roles tables)
       → fault ≡ clusters_report
-      → IsFirstFault roles tables lines fault
+      → IsFirstTableFault roles tables lines fault
 
 -- the fault of a model
-pub record HasFault (blocks : List BlockOf) (top : ℕ) (roles : List Role) (lines : List TraceLine)
+pub record HasBindingFault (blocks : List BlockOf) (top : ℕ) (roles : List Role)
+    (lines : List TraceLine)
     (fault : Fault) : Type 0 where
   pub tables : TablesOf
   pub met : IsTable (met_in blocks top) tables
-  pub first : IsFirstFault roles tables lines fault
+  pub first : IsFirstTableFault roles tables lines fault
 
 -- a refusal is the first fault; want of memory is free
 abbrev pub IsFlatRefusal : List BlockOf → ℕ → List Role → List TraceLine → BindErr → Type 0
-IsFlatRefusal blocks top roles lines (Refused fault) = HasFault blocks top roles lines fault
+IsFlatRefusal blocks top roles lines (Refused fault) = HasBindingFault blocks top roles lines fault
 IsFlatRefusal blocks top roles lines Memory = Unit {0}

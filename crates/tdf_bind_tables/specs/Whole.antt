@@ -20,11 +20,11 @@ AreEventPorts roles = (n : ℕ) (role : ProcessesOf) → slice_get roles n ≡ S
     → All (λ kind. is_event_port kind ≡ true) role.ports
 
 -- the number of a port that gives an edge
-abbrev pub number_if : PortKind → ℕ → Option ℕ
-number_if In number = Some number
-number_if Out number = None
-number_if DeIn number = Some number
-number_if DeOut number = Some number
+abbrev pub number_if_read : PortKind → ℕ → Option ℕ
+number_if_read In number = Some number
+number_if_read Out number = None
+number_if_read DeIn number = Some number
+number_if_read DeOut number = Some number
 
 -- the edges are those of all `in`, `de_in` and `de_out` ports, one for each, in order
 abbrev pub EdgesAreWhole : Type 0
@@ -33,4 +33,4 @@ EdgesAreWhole = (kinds : List (List Bool)) (blocks : List BlockOf) (top : ℕ) (
     → AgreeInKind kinds roles
     → AreEventPorts roles → IsFlat blocks top roles lines flat
     → map (λ edge. edge.port) flat.edges
-    ≡ filter_map (λ port. number_if port.1.kind port.0) (enumerate_from 0 flat.ports)
+    ≡ filter_map (λ port. number_if_read port.1.kind port.0) (enumerate_from 0 flat.ports)

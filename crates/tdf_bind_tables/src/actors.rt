@@ -3,7 +3,7 @@
 ghost use Rattle.std.specs.List.{cons_option, range_with_len};
 ghost use Rattle.std.specs.Prelude.{◌≡◌, ◌+◌, ◌++◌, [], IfOk, OnOk, map, length, All};
 ghost use Rattle.tdf_graph.specs.Ranges.{IsEdge};
-ghost use Rattle.tdf_bind_tables.specs.Actors.{module_actor, port_actor, actor_places, place_of, cluster_of, net_edge, AreActors, AreActorEdges};
+ghost use Rattle.tdf_bind_tables.specs.Actors.{module_actor, port_actor, actor_places, actor_place, cluster_of, net_edge, AreActors, AreActorEdges};
 ghost use Rattle.tdf_bind_tables.specs.machine.ActorSteps.{event_actors};
 ghost use Rattle.tdf_graph.specs.Clusters.{AreClusters};
 
@@ -102,7 +102,7 @@ fn places_of(alloc: Global, modules: usize, ports: &[PortRow]) -> Result<Vec<Act
 }
 
 fn actor_row(place: ActorPlace, cluster: u32) -> ActorRow
-    ensures place { place_of result ≡ place }
+    ensures place { actor_place result ≡ place }
     ensures cluster { cluster_of result ≡ cluster }
 {
     ActorRow {
@@ -115,7 +115,7 @@ fn actor_row(place: ActorPlace, cluster: u32) -> ActorRow
 
 fn rows_of(alloc: Global, places: &[ActorPlace], numbers: &[u32]) -> Result<Vec<ActorRow>, Memory>
     requires { length numbers.now ≡ length places.now }
-    ensures places { IfOk result (λ rows. map place_of rows.items ≡ places.now) }
+    ensures places { IfOk result (λ rows. map actor_place rows.items ≡ places.now) }
     ensures clusters { IfOk result (λ rows. map cluster_of rows.items ≡ numbers.now) }
 {
     let mut rows = Vec::new(alloc);

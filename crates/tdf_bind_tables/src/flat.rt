@@ -11,8 +11,8 @@ ghost use Rattle.tdf_graph.specs.Clusters.{greatest};
 ghost use Rattle.tdf_bind_hierarchy.specs.Bound.{AreBound};
 ghost use Rattle.tdf_bind_hierarchy.specs.Laws.{IsInRange};
 ghost use Rattle.tdf_bind_hierarchy.specs.Tables.{table};
-ghost use Rattle.tdf_bind_connections.specs.Drivers.{writers_in, faults_in, AreSignals};
-ghost use Rattle.tdf_bind_connections.specs.Edges.{IsShort, edges_of};
+ghost use Rattle.tdf_bind_connections.specs.Drivers.{writers_in, misdriven, AreSignals};
+ghost use Rattle.tdf_bind_connections.specs.Edges.{HasShortDelay, edges_of};
 ghost use Rattle.tdf_bind_connections.specs.Modules.{AreModules};
 ghost use Rattle.tdf_bind_connections.specs.ProcessBlocks.{AreProcessBlocks};
 ghost use Rattle.tdf_bind_connections.specs.Traces.{IsTraceOf, unknown_lines};
@@ -151,8 +151,8 @@ fn signals_or(
 ) -> Result<Signals, BindErr>
     requires in_range { All (IsInRange tables.now) tables.now.order }
     ensures signals { IfOk result (AreSignals (writers_in roles.now tables.now ports.now) tables.now.signals tables.now.event_signals) }
-    ensures fine { OnOk result (faults_in roles.now tables.now ports.now ≡ []) }
-    ensures refused { IfErr result (IsDriverFault tables.now (faults_in roles.now tables.now ports.now)) }
+    ensures fine { OnOk result (misdriven roles.now tables.now ports.now ≡ []) }
+    ensures refused { IfErr result (IsDriverFault tables.now (misdriven roles.now tables.now ports.now)) }
 {
     match connect(alloc, roles, tables, ports) {
         Ok(signals) => Ok(signals),
@@ -201,7 +201,7 @@ fn graph_of(
     signals: &[SignalRow],
     ports: &[PortRow],
 ) -> Result<Graph, Memory>
-    requires short { All IsShort ports.now }
+    requires short { All HasShortDelay ports.now }
     requires own { All (λ port. port.«module» < modules) ports.now }
     ensures edges { IfOk result (λ graph. graph.edges.items ≡ edges_of modules signals.now ports.now) }
     ensures actors { IfOk result (λ graph. AreActors modules ports.now graph.edges.items graph.actors.items) }
@@ -229,7 +229,7 @@ fn wires_of(
     requires ports { ports.now ≡ ports_in roles.now tables.now }
     ensures signals { IfOk result (λ wires. AreSignals (writers_in roles.now tables.now ports.now) tables.now.signals tables.now.event_signals wires.signals) }
     ensures traces { IfOk result (λ wires. AllZip (IsTraceOf tables.now) wires.traces.items lines.now) }
-    ensures drivers { OnOk result (faults_in roles.now tables.now ports.now ≡ []) }
+    ensures drivers { OnOk result (misdriven roles.now tables.now ports.now ≡ []) }
     ensures known { OnOk result (unknown_lines tables.now lines.now ≡ []) }
     ensures refused { IfErr result (IsFirstErr roles.now tables.now lines.now) }
 {
@@ -256,7 +256,7 @@ fn wires_in(
     requires ports { modules.now.ports ≡ ports_in roles.now tables.now }
     ensures signals { IfOk result (λ wires. AreSignals (writers_in roles.now tables.now modules.now.ports) tables.now.signals tables.now.event_signals wires.signals) }
     ensures traces { IfOk result (λ wires. AllZip (IsTraceOf tables.now) wires.traces.items lines.now) }
-    ensures drivers { OnOk result (faults_in roles.now tables.now modules.now.ports ≡ []) }
+    ensures drivers { OnOk result (misdriven roles.now tables.now modules.now.ports ≡ []) }
     ensures known { OnOk result (unknown_lines tables.now lines.now ≡ []) }
     ensures refused { IfErr result (IsFirstErr roles.now tables.now lines.now) }
 {
@@ -296,7 +296,7 @@ fn with_graph(
     blocks: ProcessBlocks,
     wires: Wires,
 ) -> Result<FlatTables, BindErr>
-    requires short { All IsShort modules.ports }
+    requires short { All HasShortDelay modules.ports }
     requires own { All (λ port. port.«module» < length modules.modules) modules.ports }
     ensures flat { IfOk result (IsAssembled modules blocks wires.signals wires.traces.items) }
     ensures refused { IfErr result (IsGraphErr modules wires.signals) }

@@ -6,8 +6,8 @@ use Rattle.tdf_lang_parser.proofs.Api.{text_keeps}
 use Rattle.tdf_lang_parser.specs.Refused.{SpellsText}
 use Rattle.tdf_cli.proofs.Seen.{OfAccepted, OfEnd, OfLoad, OfText, Seen, line_of, same_tree, seen}
 use Rattle.tdf_cli.specs.Input.{Reading, BadWords, Text, TooLong, ReadFault, NoMemory, AskToRead, ComesFrom, InputIs, reads_text}
-use Rattle.tdf_cli.specs.Outcome.{Outcome, refused, ran, accepted_text, status_of, stop_in, HasOutcome, usage, read_fault, too_long, faulty, too_late, has_run, is_checked, is_planned, is_loaded, load_end, WritesOutcome, HasOneOutcome}
-use Rattle.tdf_cli.specs.Status.{number_of}
+use Rattle.tdf_cli.specs.Outcome.{Outcome, refused, run_outcome, accepted_text, status_of, stop_in, HasOutcome, usage, read_fault, too_long, faulty, too_late, has_run, is_checked, is_planned, is_loaded, load_end, WritesOutcome, HasOneOutcome}
+use Rattle.tdf_cli.specs.Status.{status_number}
 use Rattle.tdf_cli_words.specs.Words.{taken_of}
 use Rattle.tdf_cli.specs.declared.status.Status.{Status}
 use Rattle.tdf_cli.specs.declared.status.Status.TheVariants as status
@@ -35,7 +35,7 @@ use Rattle.tdf_cli_words.specs.declared.asked.TraceKind.TheVariants.{Table}
 
 -- two runs that are alike have one outcome
 same_ran : (kind : TraceKind) (tree : PureTree) (a b : Sim) (ahead others : List (List Change)) (end turns : ℕ) → RunAlike tree a b ahead others kind end turns
-    → ran kind tree a ahead end turns ≡ ran kind tree b others end turns
+    → run_outcome kind tree a ahead end turns ≡ run_outcome kind tree b others end turns
 same_ran kind tree a b ahead others end turns alike = λ i. record { status = status_of (alike.end i); out = alike.trace i; notes = alike.notes i }
 
 -- so have the runs of two models of one tree, whichever answers of their boundaries they are told
@@ -89,12 +89,12 @@ same_accepted runs told Plan tree a b one other kept one_is other_is alike s t =
 same_accepted runs told (Load seed size) tree a b one other kept one_is other_is alike s t = same_load runs told size tree a b kept one_is other_is one other alike.unit s t
 
 -- only a failed read is answered as one
-ended_otherwise : (how : End) → ¬ (number_of (status_of how) ≡ number_of status.ReadFault)
+ended_otherwise : (how : End) → ¬ (status_number (status_of how) ≡ status_number status.ReadFault)
 ended_otherwise (ending.Reached time turns) is = absurd cc
 ended_otherwise (ending.Stopped time cluster fault) is = absurd cc
 ended_otherwise (ending.Spent time) is = absurd cc
 
-read_failed : {r : Reading} {o : Outcome} → HasOutcome r o → number_of o.status ≡ number_of status.ReadFault → r ≡ ReadFault
+read_failed : {r : Reading} {o : Outcome} → HasOutcome r o → status_number o.status ≡ status_number status.ReadFault → r ≡ ReadFault
 read_failed usage is = absurd cc
 read_failed read_fault is = refl
 read_failed too_long is = absurd cc
@@ -108,9 +108,9 @@ read_failed (is_loaded {tree = tree} {sim = sim} spells sound ahead answers) is 
     absurd (ended_otherwise (run_end tree sim.flat sim.firsts.items ahead (load_end sim.flat.resolution) usual_turns) is)
 
 pub read_fault_rose : (words : List (List ℕ)) (r : Reading) (s : Status) (old new a b c d : Option (List ℕ)) (before now : ℕ) → InputIs words r old new before now
-    → WritesOutcome r s a b c d → number_of s ≡ number_of status.ReadFault → FaultsRose before now
+    → WritesOutcome r s a b c d → status_number s ≡ status_number status.ReadFault → FaultsRose before now
 read_fault_rose words r s old new a b c d before now is wrote answered =
-    let failed : r ≡ ReadFault = read_failed wrote.has (ap number_of wrote.answers ∙ answered) in
+    let failed : r ≡ ReadFault = read_failed wrote.has (ap status_number wrote.answers ∙ answered) in
     let input : InputIs words ReadFault old new before now = subst (λ (x : Reading). InputIs words x old new before now) failed is in
     input.2
 
@@ -201,28 +201,28 @@ input_load words ReadFault seed size old new before now is asks = absurd (none_r
 input_load words NoMemory seed size old new before now is asks = inr refl
 
 -- a read that failed is noted
-pub read_noted : HasOneOutcome → (r : Reading) (s : Status) (a b c d : Option (List ℕ)) → WritesOutcome r s a b c d → r ≡ ReadFault → number_of s ≡ number_of status.ReadFault
+pub read_noted : HasOneOutcome → (r : Reading) (s : Status) (a b c d : Option (List ℕ)) → WritesOutcome r s a b c d → r ≡ ReadFault → status_number s ≡ status_number status.ReadFault
 read_noted law r s a b c d wrote is =
     let own : HasOutcome ReadFault wrote.outcome = subst (λ (x : Reading). HasOutcome x wrote.outcome) is wrote.has in
-    ap number_of (sym wrote.answers ∙ ap (λ (x : Outcome). x.status) (law ReadFault wrote.outcome _ own read_fault))
+    ap status_number (sym wrote.answers ∙ ap (λ (x : Outcome). x.status) (law ReadFault wrote.outcome _ own read_fault))
 
 module _ (law : HasOneOutcome) where
   met_other : (words : List (List ℕ)) (r : Reading) (s : Status) (job : Settings) (text : List ℕ) (o : Outcome) (a b c d : Option (List ℕ))
-      → WritesOutcome r s a b c d → HasOutcome (Text job text) o → (r ≡ Text job text) ⊎ (r ≡ NoMemory) → number_of s ≡ number_of o.status
+      → WritesOutcome r s a b c d → HasOutcome (Text job text) o → (r ≡ Text job text) ⊎ (r ≡ NoMemory) → status_number s ≡ status_number o.status
   met_other words r s job text o a b c d wrote has (inl is) =
       let own : HasOutcome (Text job text) wrote.outcome = subst (λ (x : Reading). HasOutcome x wrote.outcome) is wrote.has in
-      ap number_of (sym wrote.answers ∙ ap (λ (x : Outcome). x.status) (law (Text job text) wrote.outcome o own has))
+      ap status_number (sym wrote.answers ∙ ap (λ (x : Outcome). x.status) (law (Text job text) wrote.outcome o own has))
   met_other words r s job text o a b c d wrote has (inr is) =
       absurd (seen (subst (λ (x : Reading). HasOutcome x wrote.outcome) is wrote.has))
 
   pub met : (words : List (List ℕ)) (r : Reading) (s : Status) (job : Settings) (text : List ℕ) (o : Outcome) (old new a b c d : Option (List ℕ)) (before now : ℕ)
       → InputIs words r old new before now → WritesOutcome r s a b c d → taken_of words ≡ Some job → reads_text job ≡ true → old ≡ Some text → length text ≤ longest_text
-      → HasOutcome (Text job text) o → ¬ FaultsRose before now → number_of s ≡ number_of o.status
+      → HasOutcome (Text job text) o → ¬ FaultsRose before now → status_number s ≡ status_number o.status
   met words r s job text o old new a b c d before now is wrote asks reads told short has well =
       met_other words r s job text o a b c d wrote has (input_text words r job text old new before now is asks reads told short well)
 
   pub met_load : (words : List (List ℕ)) (r : Reading) (s : Status) (seed size : ℕ) (o : Outcome) (old new a b c d : Option (List ℕ)) (before now : ℕ)
       → InputIs words r old new before now → WritesOutcome r s a b c d → taken_of words ≡ Some (Load seed size)
-      → HasOutcome (Text (Load seed size) (load_text seed size)) o → number_of s ≡ number_of o.status
+      → HasOutcome (Text (Load seed size) (load_text seed size)) o → status_number s ≡ status_number o.status
   met_load words r s seed size o old new a b c d before now is wrote asks has =
       met_other words r s (Load seed size) (load_text seed size) o a b c d wrote has (input_load words r seed size old new before now is asks)

@@ -6,7 +6,7 @@ use Rattle.std.proofs.KnownBytes.{Appends-nil}
 use Rattle.tdf_lang_parser.specs.Refused.{SpellsText}
 use Rattle.tdf_cli.specs.Input.{Reading, BadWords, Text, TooLong, ReadFault, NoMemory}
 use Rattle.tdf_cli.proofs.Seen.{OfAccepted, OfEnd, OfText, same_tree, seen}
-use Rattle.tdf_cli.specs.Outcome.{Outcome, note, ran, status_of, stop_in, HasOneOutcome, HasOutcome, usage, read_fault, too_long, faulty, too_late, has_run, is_checked, is_planned, is_loaded, load_end, load_line, loaded, turns_taken, WritesOutcome, WritesFrontOf, WritesNothingOrFront}
+use Rattle.tdf_cli.specs.Outcome.{Outcome, note, run_outcome, status_of, stop_in, HasOneOutcome, HasOutcome, usage, read_fault, too_long, faulty, too_late, has_run, is_checked, is_planned, is_loaded, load_end, load_line, loaded, turns_taken, WritesOutcome, WritesFrontOf, WritesNothingOrFront}
 use Rattle.tdf_sim.specs.Accepted.{IsAccepted}
 use Rattle.tdf_sim.specs.declared.sim.Sim.{Sim}
 use Rattle.tdf_cli.specs.declared.status.Status.{Status}
@@ -88,7 +88,7 @@ module _ (kind : TraceKind) (text : List ℕ) (tree : PureTree) (sim : Sim) (sto
       → Appends a b (trace_of kind tree sim.flat sim.firsts.items ahead end turns) → Appends c d (run_note tree sim.flat sim.firsts.items ahead end turns)
       → WritesOutcome (Text (Run stop kind turns) text) answer a b c d
   ran_all ahead answers how answer ended answered traced noted = record {
-    outcome = ran kind tree sim ahead end turns;
+    outcome = run_outcome kind tree sim ahead end turns;
     has = has_run spells sound is ahead answers;
     answers = sym (answered ∙ ap status_of ended);
     out = traced;

@@ -4,7 +4,7 @@ use Rattle.tdf_lang_parser.proofs.Api.{one_tree}
 use Rattle.tdf_base.specs.declared.faults.Fault.{Fault}
 use Rattle.tdf_lang_parser.specs.Refused.{SpellsText}
 use Rattle.tdf_cli.specs.Input.{Reading, BadWords, Text, TooLong, ReadFault, NoMemory}
-use Rattle.tdf_cli.specs.Outcome.{Outcome, note, refused, ran, checked, planned, stop_in, HasOutcome, usage, read_fault, too_long, faulty, too_late, has_run, is_checked, is_planned, is_loaded, load_end, load_line, status_of, turns_taken}
+use Rattle.tdf_cli.specs.Outcome.{Outcome, note, refused, run_outcome, checked, planned, stop_in, HasOutcome, usage, read_fault, too_long, faulty, too_late, has_run, is_checked, is_planned, is_loaded, load_end, load_line, status_of, turns_taken}
 use Rattle.tdf_cli.specs.declared.status.Status.TheVariants as status
 use Rattle.tdf_cli_words.specs.declared.asked.Settings.{Settings}
 use Rattle.tdf_cli_words.specs.declared.asked.Settings.TheVariants.{Run, Check, Plan, Load}
@@ -24,7 +24,7 @@ same_tree text one other s t = one_tree (rows_of text) other one t.spelled s.spe
 -- of a run with a stop in counts of the resolution, if there is one
 abbrev pub OfEnd : TraceKind → (turns : ℕ) → PureTree → Sim → Option ℕ → Outcome → Type 0
 OfEnd kind turns tree sim None o = o ≡ note status.StopTooLong (codes "stop too long\n")
-OfEnd kind turns tree sim (Some end) o = (ahead : List (List Change)) × HaveAnswers tree sim.flat sim.firsts.items ahead end turns × (o ≡ ran kind tree sim ahead end turns)
+OfEnd kind turns tree sim (Some end) o = (ahead : List (List Change)) × HaveAnswers tree sim.flat sim.firsts.items ahead end turns × (o ≡ run_outcome kind tree sim ahead end turns)
 
 -- a line on a run that ended so and made this table
 abbrev pub line_of : (size : ℕ) → End → (table : List ℕ) → Outcome
@@ -60,7 +60,7 @@ seen (faulty {fault = fault} is) = inl (fault, is, refl)
 seen (too_late {turns = turns} {kind = kind} {tree = tree} {sim = sim} spells sound is) =
     inr (tree, sim, spells, sound, subst (λ (end : Option ℕ). OfEnd kind turns tree sim end (note status.StopTooLong (codes "stop too long\n"))) (sym is) refl)
 seen (has_run {turns = turns} {end = end} {kind = kind} {tree = tree} {sim = sim} spells sound is ahead answers) =
-    inr (tree, sim, spells, sound, subst (λ (e : Option ℕ). OfEnd kind turns tree sim e (ran kind tree sim ahead end turns)) (sym is) (ahead, answers, refl))
+    inr (tree, sim, spells, sound, subst (λ (e : Option ℕ). OfEnd kind turns tree sim e (run_outcome kind tree sim ahead end turns)) (sym is) (ahead, answers, refl))
 seen (is_checked {tree = tree} {sim = sim} spells sound) = inr (tree, sim, spells, sound, refl)
 seen (is_planned {tree = tree} {sim = sim} spells sound) = inr (tree, sim, spells, sound, refl)
 seen (is_loaded {tree = tree} {sim = sim} spells sound ahead answers) = inr (tree, sim, spells, sound, (ahead, answers, refl))

@@ -55,9 +55,9 @@ status_of (ending.Spent time) = status.Spent
 
 -- a run that ended, whichever way, with what is told of its boundaries; its stop is in counts of
 -- the resolution
-abbrev pub ran : TraceKind → PureTree → Sim → (ahead : List (List Change)) → (stop turns : ℕ)
+abbrev pub run_outcome : TraceKind → PureTree → Sim → (ahead : List (List Change)) → (stop turns : ℕ)
     → Outcome
-ran kind tree sim ahead stop turns = record {
+run_outcome kind tree sim ahead stop turns = record {
   status = status_of (run_end tree sim.flat sim.firsts.items ahead stop turns);
   out = trace_of kind tree sim.flat sim.firsts.items ahead stop turns;
   notes = run_note tree sim.flat sim.firsts.items ahead stop turns;
@@ -124,7 +124,7 @@ pub data HasOutcome : Reading → Outcome → Type 0 where
       → SpellsText text tree → IsAccepted tree sim → stop_in sim.flat.resolution stop ≡ Some end
       → (ahead : List (List Change))
       → HaveAnswers tree sim.flat sim.firsts.items ahead end turns
-      → HasOutcome (Text (Run stop kind turns) text) (ran kind tree sim ahead end turns)
+      → HasOutcome (Text (Run stop kind turns) text) (run_outcome kind tree sim ahead end turns)
   is_checked : {text : List ℕ} {tree : PureTree} {sim : Sim} → SpellsText text tree
       → IsAccepted tree sim → HasOutcome (Text Check text) (checked tree sim)
   is_planned : {text : List ℕ} {tree : PureTree} {sim : Sim} → SpellsText text tree

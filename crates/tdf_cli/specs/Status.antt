@@ -7,15 +7,15 @@ use Rattle.tdf_cli.specs.declared.status.Status.TheVariants.{Done, Refused, Usag
 abbrev pub usage : ℕ
 usage = 2
 
-abbrev pub number_of : Status → ℕ
-number_of Done = 0
-number_of Refused = 1
-number_of Usage = usage
-number_of ReadFault = 3
-number_of Stopped = 5
-number_of Spent = 6
-number_of TooLong = 8
-number_of StopTooLong = 9
+abbrev pub status_number : Status → ℕ
+status_number Done = 0
+status_number Refused = 1
+status_number Usage = usage
+status_number ReadFault = 3
+status_number Stopped = 5
+status_number Spent = 6
+status_number TooLong = 8
+status_number StopTooLong = 9
 
 -- a write failed
 abbrev pub write_fault : ℕ

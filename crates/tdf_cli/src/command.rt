@@ -4,7 +4,7 @@ ghost use Rattle.std.specs.Prelude.{◌≡◌, ◌≢◌, ◌⊎◌, ◌≤◌, 
 ghost use Rattle.tdf_base.specs.Limits.{longest_text};
 ghost use Rattle.tdf_cli.specs.Input.{AskToRead, InputIs, NoMemory, Reading, Text, reads_text};
 ghost use Rattle.tdf_cli.specs.Outcome.{HasOutcome, Outcome, WritesNothingOrFront, WritesOutcome};
-ghost use Rattle.tdf_cli.specs.Status.{no_memory, number_of, write_fault};
+ghost use Rattle.tdf_cli.specs.Status.{no_memory, status_number, write_fault};
 ghost use Rattle.tdf_cli.specs.declared.status.Status.{Status};
 ghost use Rattle.tdf_cli.specs.declared.status.Status.TheVariants.{ReadFault};
 ghost use Rattle.tdf_cli_load.specs.Text.{load_text};
@@ -36,7 +36,7 @@ pub fn tool<S: Source, O: Sink, N: Sink>(
 ) -> u8
     // But for 4 and 7, the status, the output and the notes are those of the outcome for what came of the words and of
     // reading.
-    ensures outcome { result ≢ write_fault → result ≢ no_memory → (r : Reading) × (status : Status) × (result ≡ number_of status)
+    ensures outcome { result ≢ write_fault → result ≢ no_memory → (r : Reading) × (status : Status) × (result ≡ status_number status)
         × InputIs (texts_of words.now.items) r (S.left model.old) (S.left model.new) (S.faults model.old) (S.faults model.new)
         × WritesOutcome r status (O.taken out.old) (O.taken out.new) (N.taken notes.old) (N.taken notes.new) }
 
@@ -48,11 +48,11 @@ pub fn tool<S: Source, O: Sink, N: Sink>(
 
     // Where the words are not accepted, or ask for `load`, nothing is read.
     ensures unread { ¬ AskToRead (texts_of words.now.items) → model.new ≡ model.old }
-    ensures read_fault { result ≡ number_of ReadFault → FaultsRose (S.faults model.old) (S.faults model.new) }
+    ensures read_fault { result ≡ status_number ReadFault → FaultsRose (S.faults model.old) (S.faults model.new) }
     ensures write_fault { result ≡ write_fault → FaultsRose (O.faults out.old) (O.faults out.new) ⊎ FaultsRose (N.faults notes.old) (N.faults notes.new) }
 
     // Where the status is none of 3, 4 and 7, the count of faults of the source is as it was.
-    ensures source_kept { result ≢ number_of ReadFault → result ≢ write_fault → result ≢ no_memory → S.faults model.new ≡ S.faults model.old }
+    ensures source_kept { result ≢ status_number ReadFault → result ≢ write_fault → result ≢ no_memory → S.faults model.new ≡ S.faults model.old }
 
     // Where the status isn't 4, the counts of faults of both sinks are as they were.
     ensures out_kept { result ≢ write_fault → O.faults out.new ≡ O.faults out.old }
@@ -63,12 +63,12 @@ pub fn tool<S: Source, O: Sink, N: Sink>(
     ensures complete { (job : Settings) (text : List ℕ) (o : Outcome) → taken_of (texts_of words.now.items) ≡ Some job
         → reads_text job ≡ true → S.left model.old ≡ Some text → length text ≤ longest_text → HasOutcome (Text job text) o
         → ¬ FaultsRose (S.faults model.old) (S.faults model.new) → ¬ FaultsRose (O.faults out.old) (O.faults out.new)
-        → ¬ FaultsRose (N.faults notes.old) (N.faults notes.new) → (result ≡ number_of o.status) ⊎ (result ≡ no_memory) }
+        → ¬ FaultsRose (N.faults notes.old) (N.faults notes.new) → (result ≡ status_number o.status) ⊎ (result ≡ no_memory) }
 
     // The same for `load`, whose text is made.
     ensures complete_load { (seed size : ℕ) (o : Outcome) → taken_of (texts_of words.now.items) ≡ Some (Load seed size)
         → HasOutcome (Text (Load seed size) (load_text seed size)) o → ¬ FaultsRose (O.faults out.old) (O.faults out.new)
-        → ¬ FaultsRose (N.faults notes.old) (N.faults notes.new) → (result ≡ number_of o.status) ⊎ (result ≡ no_memory) }
+        → ¬ FaultsRose (N.faults notes.old) (N.faults notes.new) → (result ≡ status_number o.status) ⊎ (result ≡ no_memory) }
 {
     law_one_outcome();
     let input = input_of(alloc, words, model);

@@ -33,11 +33,11 @@ pub const NO_MEMORY: u8 = 7;
 pub const USAGE: u8 = 2;
 
 impl Status {
-    ghost use Rattle.tdf_cli.specs.Status.{number_of};
+    ghost use Rattle.tdf_cli.specs.Status.{status_number};
 
     /// The number of this answer.
     pub(crate) fn number(self) -> u8
-        ensures { result ≡ number_of self }
+        ensures { result ≡ status_number self }
     {
         match self {
             Status::Done => 0,

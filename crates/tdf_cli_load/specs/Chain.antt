@@ -10,9 +10,9 @@ abbrev pub next : ℕ → ℕ
 next number = (75 * number + 74) % 65537
 
 -- the number of module k; the seed stands at 0, where no module is
-unfoldable pub number : (seed k : ℕ) → ℕ
-number seed zero = seed
-number seed (suc k) = next (number seed k)
+unfoldable pub module_number : (seed k : ℕ) → ℕ
+module_number seed zero = seed
+module_number seed (suc k) = next (module_number seed k)
 
 -- a signal is high behind a module `up`, and low behind a module `down` and at the beginning
 abbrev pub level_after : Level → Kind → Level
@@ -29,16 +29,18 @@ abbrev pub kind_at : (number : ℕ) → Level → Kind
 kind_at number level = if nat_eq (number % 3) 0 then Keep else turned_from level
 
 -- the level behind module k
-unfoldable pub level : (seed k : ℕ) → Level
-level seed zero = Low
-level seed (suc k) = level_after (level seed k) (kind_at (number seed (suc k)) (level seed k))
+unfoldable pub module_level : (seed k : ℕ) → Level
+module_level seed zero = Low
+module_level seed (suc k) =
+    level_after (module_level seed k)
+    (kind_at (module_number seed (suc k)) (module_level seed k))
 
 -- the kind of module k
 abbrev pub kind : (seed k : ℕ) → Kind
-kind seed k = kind_at (number seed k) (level seed (k - 1))
+kind seed k = kind_at (module_number seed k) (module_level seed (k - 1))
 
 -- the name of the block of a kind
-abbrev pub word_of : Kind → List ℕ
-word_of Keep = codes "keep"
-word_of Up = codes "up"
-word_of Down = codes "down"
+abbrev pub word_of_kind : Kind → List ℕ
+word_of_kind Keep = codes "keep"
+word_of_kind Up = codes "up"
+word_of_kind Down = codes "down"

@@ -4,7 +4,7 @@
 use Rattle.std.specs.Fmt.{decimal}
 use Rattle.std.specs.List.{flat_map, range_with_len}
 use Rattle.std.specs.Prelude.{ℕ, ◌-◌, ◌++◌, List, codes}
-use Rattle.tdf_cli_load.specs.Chain.{kind, word_of}
+use Rattle.tdf_cli_load.specs.Chain.{kind, word_of_kind}
 use Rattle.tdf_cli_load.specs.declared.chain.Kind.{Kind}
 
 -- the version, and the type of all signals
@@ -32,8 +32,8 @@ unfoldable pub top_text : List ℕ
 top_text = codes "top\nsignal s0 w\ninstance m0 src\nbind m0.y s0\n"
 
 -- all that stands before the modules
-unfoldable pub head_text : List ℕ
-head_text = types_text ++ source_block ++ keep_block ++ up_block ++ down_block ++ top_text
+unfoldable pub blocks_text : List ℕ
+blocks_text = types_text ++ source_block ++ keep_block ++ up_block ++ down_block ++ top_text
 
 -- `signal sK w`
 unfoldable pub signal_line : (k : ℕ) → List ℕ
@@ -41,7 +41,8 @@ signal_line k = codes "signal s" ++ decimal k ++ codes " w\n"
 
 -- `instance mK KIND`
 unfoldable pub instance_line : (k : ℕ) → Kind → List ℕ
-instance_line k kind = codes "instance m" ++ decimal k ++ codes " " ++ word_of kind ++ codes "\n"
+instance_line k kind =
+    codes "instance m" ++ decimal k ++ codes " " ++ word_of_kind kind ++ codes "\n"
 
 -- `bind mK.PORT sJ`
 unfoldable pub bound_line : (k : ℕ) → (port : List ℕ) → (j : ℕ) → List ℕ
@@ -57,10 +58,10 @@ abbrev pub module_at : (seed k : ℕ) → List ℕ
 module_at seed k = module_text k (kind seed k)
 
 -- `trace sN last`
-unfoldable pub trace_line : (size : ℕ) → List ℕ
-trace_line size = codes "trace s" ++ decimal size ++ codes " last\n"
+unfoldable pub last_trace : (size : ℕ) → List ℕ
+last_trace size = codes "trace s" ++ decimal size ++ codes " last\n"
 
 -- the model with `size` modules behind its source
 unfoldable pub load_text : (seed size : ℕ) → List ℕ
-load_text seed size = head_text ++ flat_map (module_at seed) (range_with_len 1 size)
-    ++ codes "end\n" ++ trace_line size
+load_text seed size = blocks_text ++ flat_map (module_at seed) (range_with_len 1 size)
+    ++ codes "end\n" ++ last_trace size

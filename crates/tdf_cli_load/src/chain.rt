@@ -1,7 +1,7 @@
 //! The numbers of a seed, the kinds of its modules, and the levels between them.
 
 ghost use Rattle.std.specs.Prelude.{◌≡◌, ◌<◌};
-ghost use Rattle.tdf_cli_load.specs.Chain.{kind_at, level_after, next, word_of};
+ghost use Rattle.tdf_cli_load.specs.Chain.{kind_at, level_after, next, word_of_kind};
 
 /// The kind of a module, by the samples that it writes for those that it reads.
 #[derive(Clone, Copy, Debug, PartialEq, Eq)]
@@ -39,7 +39,7 @@ impl Kind {
 
     /// The name of its block.
     pub(crate) fn word(self) -> &'static [u8]
-        ensures { result.now ≡ word_of self }
+        ensures { result.now ≡ word_of_kind self }
     {
         match self {
             Kind::Keep => b"keep",

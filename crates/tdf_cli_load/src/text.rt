@@ -2,7 +2,7 @@
 
 ghost use Rattle.std.specs.List.{flat_map, range_with_len};
 ghost use Rattle.std.specs.Prelude.{◌≡◌, ◌<◌, ◌≤◌, ◌++◌, IfOk, OnOk};
-ghost use Rattle.tdf_cli_load.specs.Text.{bound_line, down_block, head_text, instance_line, keep_block, load_text, module_at, module_text, signal_line, source_block, top_text, trace_line, types_text, up_block};
+ghost use Rattle.tdf_cli_load.specs.Text.{bound_line, down_block, blocks_text, instance_line, keep_block, load_text, module_at, module_text, signal_line, source_block, top_text, last_trace, types_text, up_block};
 
 use crate::chain::{Kind, Level, next_number};
 use std::alloc::Global;
@@ -65,9 +65,9 @@ fn push_top(out: &mut Vec<u8>) -> Result<(), Memory>
 }
 
 /// Appends all that stands before the modules.
-#[tactic(auto, unfolding(crate::specs::Text::head_text), using(crate::proofs::Texts::text_laws))]
+#[tactic(auto, unfolding(crate::specs::Text::blocks_text), using(crate::proofs::Texts::text_laws))]
 fn push_head(out: &mut Vec<u8>) -> Result<(), Memory>
-    ensures { OnOk result (out.new.items ≡ out.old.items ++ head_text) }
+    ensures { OnOk result (out.new.items ≡ out.old.items ++ blocks_text) }
 {
     push_types(out)?;
     push_source(out)?;
@@ -143,9 +143,9 @@ fn push_modules(out: &mut Vec<u8>, seed: u64, size: u64) -> Result<(), Memory>
 }
 
 /// Appends `trace sN last`.
-#[tactic(auto, unfolding(crate::specs::Text::trace_line), using(crate::proofs::Texts::text_laws))]
+#[tactic(auto, unfolding(crate::specs::Text::last_trace), using(crate::proofs::Texts::text_laws))]
 fn push_trace(out: &mut Vec<u8>, size: u64) -> Result<(), Memory>
-    ensures { OnOk result (out.new.items ≡ out.old.items ++ trace_line size) }
+    ensures { OnOk result (out.new.items ≡ out.old.items ++ last_trace size) }
 {
     push_word(out, b"trace s")?;
     push_number(out, size)?;

@@ -47,15 +47,15 @@ time_read (Err why) = None
 abbrev pub stop_of : Option (List ℕ) → Option ℕ
 stop_of stop = option_and_then (λ text. time_read (time_of text)) stop
 
-abbrev pub kind_of : Option (List ℕ) → Option TraceKind
-kind_of None = Some Table
-kind_of (Some text) = if is_text (codes "table") text then Some Table
+abbrev pub trace_kind : Option (List ℕ) → Option TraceKind
+trace_kind None = Some Table
+trace_kind (Some text) = if is_text (codes "table") text then Some Table
     else if is_text (codes "vcd") text then Some Vcd
     else None
 
-abbrev pub turns_of : Option (List ℕ) → Option ℕ
-turns_of None = Some usual_turns
-turns_of (Some text) = number_within 1 most_turns text
+abbrev pub turns_given : Option (List ℕ) → Option ℕ
+turns_given None = Some usual_turns
+turns_given (Some text) = number_within 1 most_turns text
 
 -- ---- the jobs
 
@@ -70,7 +70,7 @@ run_for _ _ _ = None
 -- `run --stop TIME`, with `--format table` or `--format vcd`, and `--turns N`
 abbrev pub run_given : Given → Option Settings
 run_given given = if has_any (given.seed ∷ (given.size ∷ [])) then None
-    else run_for (stop_of given.stop) (kind_of given.format) (turns_of given.turns)
+    else run_for (stop_of given.stop) (trace_kind given.format) (turns_given given.turns)
 
 -- a job without options
 abbrev pub alone : Settings → Given → Option Settings

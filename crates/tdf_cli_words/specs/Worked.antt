@@ -14,7 +14,7 @@ short_run = record {
   size = None;
 }
 
-pub record Gives (words : List (List ℕ)) (given : Given) : Type 0 where
+pub record GivesWords (words : List (List ℕ)) (given : Given) : Type 0 where
   pub matched : are_matched words ≡ true
   pub texts : given_of words ≡ given
 
@@ -23,11 +23,12 @@ IsRefused words = are_matched words ≡ false
 
 -- an option stands before or after the job, its value beside it or behind `=`; `--` ends options
 pub record AreShortRuns : Type 0 where
-  pub after : Gives (codes "run" ∷ (codes "--stop" ∷ (codes "3us" ∷ []))) short_run
-  pub behind : Gives (codes "run" ∷ (codes "--stop=3us" ∷ [])) short_run
-  pub before : Gives (codes "--stop" ∷ (codes "3us" ∷ (codes "run" ∷ []))) short_run
-  pub ended : Gives (codes "run" ∷ (codes "--stop" ∷ (codes "3us" ∷ (codes "--" ∷ [])))) short_run
-  pub job_last : Gives (codes "--stop" ∷ (codes "3us" ∷ (codes "--" ∷ (codes "run" ∷ []))))
+  pub after : GivesWords (codes "run" ∷ (codes "--stop" ∷ (codes "3us" ∷ []))) short_run
+  pub behind : GivesWords (codes "run" ∷ (codes "--stop=3us" ∷ [])) short_run
+  pub before : GivesWords (codes "--stop" ∷ (codes "3us" ∷ (codes "run" ∷ []))) short_run
+  pub ended : GivesWords (codes "run" ∷ (codes "--stop" ∷ (codes "3us" ∷ (codes "--" ∷ []))))
+      short_run
+  pub job_last : GivesWords (codes "--stop" ∷ (codes "3us" ∷ (codes "--" ∷ (codes "run" ∷ []))))
       short_run
 
 -- an option twice, a second job, an option without its value, a shortened option, help

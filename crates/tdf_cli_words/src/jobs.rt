@@ -1,7 +1,7 @@
 //! What a job and its options ask for.
 
 ghost use Rattle.std.specs.Prelude.{◌≡◌, ◌<◌, ◌≤◌, ℕ, List, IfSome, map, option_map, option_and_then};
-ghost use Rattle.tdf_cli_words.specs.Jobs.{is_text, number_within, stop_of, kind_of, turns_of, has_any, run_given, alone, load_given, job_given, settings_given, most_turns, IsWithin};
+ghost use Rattle.tdf_cli_words.specs.Jobs.{is_text, number_within, stop_of, trace_kind, turns_given, has_any, run_given, alone, load_given, job_given, settings_given, most_turns, IsWithin};
 ghost use Rattle.tdf_base.specs.Limits.{time_end};
 
 use crate::asked::{Settings, TraceKind};
@@ -42,7 +42,7 @@ fn stop(given: &Given) -> Option<u64>
 
 /// The kind of `--format`.
 fn kind(given: &Given) -> Option<TraceKind>
-    ensures { result ≡ kind_of given.now.format }
+    ensures { result ≡ trace_kind given.now.format }
 {
     let Some(text) = given.format else {
         return Some(TraceKind::Table);
@@ -58,7 +58,7 @@ fn kind(given: &Given) -> Option<TraceKind>
 
 /// The number of `--turns`.
 fn turns(given: &Given) -> Option<u64>
-    ensures value { result ≡ turns_of given.now.turns }
+    ensures value { result ≡ turns_given given.now.turns }
     ensures within { IfSome result (λ n. (1 ≤ n) × (n ≤ most_turns)) }
 {
     match given.turns {

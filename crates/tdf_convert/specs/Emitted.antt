@@ -10,5 +10,5 @@ signal_in None = 0
 signal_in (Some l) = l.signal
 
 -- the value of a sink, under the number of its signal
-abbrev pub write_of : List Link → Sent → SignalWrite
-write_of links s = record { signal = signal_in (link_of links s.actor); value = s.value }
+abbrev pub write_of_sent : List Link → Sent → SignalWrite
+write_of_sent links s = record { signal = signal_in (link_of links s.actor); value = s.value }

@@ -2,7 +2,7 @@
 
 ghost use Rattle.std.specs.Prelude.{◌≡◌, ◌+◌, ◌≤◌, ◌++◌, [], length, map};
 ghost use Rattle.tdf_convert.specs.Links.{AreRising};
-ghost use Rattle.tdf_convert.specs.Emitted.{write_of};
+ghost use Rattle.tdf_convert.specs.Emitted.{write_of_sent};
 
 use crate::links::{Link, Links, link_of};
 use crate::outputs::{Outputs, Sent};
@@ -11,7 +11,7 @@ use crate::writes::{SignalWrite, Writes};
 /// The value of a sink, for its signal.
 fn write_of(item: Sent, links: &[Link]) -> SignalWrite
     requires rising { AreRising links.now }
-    ensures { result ≡ write_of links.now item }
+    ensures { result ≡ write_of_sent links.now item }
 {
     let signal = match link_of(links, item.actor) {
         Some(link) => link.signal,
@@ -28,7 +28,7 @@ fn emit_all(sent: &[Sent], links: &[Link], writes: &mut Writes)
     requires rising { AreRising links.now }
     requires room { length writes.old.list + length sent.now ≤ writes.old.room }
     ensures { writes.new ≡ record writes.old {
-      list = writes.old.list ++ map (write_of links.now) sent.now;
+      list = writes.old.list ++ map (write_of_sent links.now) sent.now;
     } }
 {
     for i in 0..sent.len() {
@@ -42,7 +42,7 @@ pub fn emit_due(outputs: &mut Outputs, links: &Links, writes: &mut Writes)
     requires rising { AreRising links.now.list.items }
     requires room { length writes.old.list + length outputs.old.sent ≤ writes.old.room }
     ensures moved { writes.new ≡ record writes.old {
-      list = writes.old.list ++ map (write_of links.now.list.items) outputs.old.sent;
+      list = writes.old.list ++ map (write_of_sent links.now.list.items) outputs.old.sent;
     } }
     ensures left { outputs.new ≡ record outputs.old { sent = [] } }
 {

@@ -16,7 +16,7 @@ use Rattle.tdf_expr.specs.Blocks.{PureBlock, blocks_of, body_of, scope_of}
 use Rattle.tdf_expr.specs.Checked.{IsCheckedOf}
 use Rattle.tdf_expr.specs.Compiled.{AreBlocksOf, IsBlockOf}
 use Rattle.tdf_expr.specs.Frames.{ArePortsFit, FrameSeen, KeepsRead, PortsSeen, limits_of_rate}
-use Rattle.tdf_expr.specs.Made.{AreMadeFor, event_count, port_spans_of, rate_spans_of, rates_in, spans_in}
+use Rattle.tdf_expr.specs.Made.{AreMadeFor, event_count, port_spans_of, rate_spans_of, block_rates, spans_in}
 use Rattle.tdf_expr.specs.Runs.{Ran, scope_in}
 use Rattle.tdf_expr.specs.declared.blocks.Block.{Block}
 use Rattle.tdf_expr.specs.declared.bodies.Body.TheVariants as body
@@ -124,7 +124,7 @@ module _ (flat : Flat) (attrs : AttrsOf) (text : IsOfText flat) (inside : attrs.
     kept_limits : limits_in flat.checked (slice_get flat.tables.modules attrs.number) ≡ rate_limits (scope_in text.model (at_model text.model text.checked).block).own
     kept_limits =
         let b = at_model text.model text.checked in
-        limits_are ∙ ap (map limits_of_rate) (ap rates_in b.code_at ∙ b.is.rates) ∙ sym (limits_same (scope_in text.model b.block).own.things)
+        limits_are ∙ ap (map limits_of_rate) (ap block_rates b.code_at ∙ b.is.rates) ∙ sym (limits_same (scope_in text.model b.block).own.things)
 
     stays : Stays (scope_in text.model (at_model text.model text.checked).block).own (state_of new.frame.state new.ports.state)
     unfolding state_before

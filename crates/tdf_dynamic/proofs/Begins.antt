@@ -7,7 +7,7 @@ use Rattle.std.specs.Prelude.{replicate, slice_get}
 use Rattle.tdf_dynamic.specs.Ports.{AreBegun}
 use Rattle.tdf_dynamic.specs.machine.Asking.{AreZeroBelow}
 use Rattle.tdf_expr.specs.Frames.{ArePortsFit, KeepsRead, PortsSeen, reset_state, sample_formats}
-use Rattle.tdf_expr.specs.Plans.{written}
+use Rattle.tdf_expr.specs.Plans.{shape_written}
 use Rattle.tdf_expr.specs.declared.spans.PortSpan.{PortSpan}
 use Rattle.tdf_exec_firing.specs.Activation.{port_samples, samples_from}
 use Rattle.tdf_exec_firing.specs.Firing.{AreZerosBehind}
@@ -24,7 +24,7 @@ nothing_there k (p ∷ ps) =
     ap (λ l. l ++ samples_from nothing_read (k + 1) ps) none
     ∙ ap (λ l. replicate p.count (pos 0) ++ l) (nothing_there (k + 1) ps)
     ∙ replicate-append-replicate p.count (length (sample_formats ps)) (pos 0)
-    ∙ ap (λ n. replicate n (pos 0)) (sym (length-append (replicate p.count (written p.format)) (sample_formats ps) ∙ ap (λ n. n + length (sample_formats ps)) (length-replicate p.count (written p.format))))
+    ∙ ap (λ n. replicate n (pos 0)) (sym (length-append (replicate p.count (shape_written p.format)) (sample_formats ps) ∙ ap (λ n. n + length (sample_formats ps)) (length-replicate p.count (shape_written p.format))))
 
 -- ports that were set back, and whose samples are then 0
 pub begun : (old mid new : PortsSeen) → ArePortsFit old → mid ≡ record old { state = reset_state old.spans old.state } → ArePortsFit mid

@@ -12,7 +12,7 @@ use Rattle.tdf_bind_tables.specs.FlatTables.{FlatTablesOf}
 use Rattle.tdf_dynamic.proofs.Keeping.{AreShort}
 use Rattle.tdf_dynamic.proofs.Steps.{steps_long}
 use Rattle.tdf_dynamic.specs.Asked.{AskedOf, HasSameRates, IsQuiet, attrs_after, steps_after}
-use Rattle.tdf_dynamic.specs.Change.{AreUnmarked, Asks, IsChangeFault, IsFirstFault, IsFirstRow, IsMarked, IsNewPlan, IsSame, OfPlan, OfRange, OfRejected, OfSteps, Rejects, TimingsOf, table_after}
+use Rattle.tdf_dynamic.specs.Change.{AreUnmarked, Asks, IsChangeFault, IsFirstChangeFault, IsFirstRow, IsMarked, IsNewPlan, IsSame, OfPlan, OfRange, OfRejected, OfSteps, Rejects, TimingsOf, table_after}
 use Rattle.tdf_dynamic.specs.declared.frames.ModuleFrame.{ModuleFrame}
 use Rattle.tdf_dynamic.specs.machine.Asking.{CanTell, told}
 use Rattle.tdf_dynamic.specs.machine.Boundary.{InRange, InTable, IsRefusedAt, Marks, NoneMarks}
@@ -170,7 +170,7 @@ module _ (asks : Asks) (table : List AttrsOf) (frames : List ModuleFrame) (tell 
         from : IsJudged tables cluster table (table_after asks table) frames plan → IsNewPlan tables cluster asks table plan
         from j = record { differs = differs; unmarked = unmarked_is none; times = times_of j.times; accepted = accepted_is j.times j.none; plan_is = j.plan_is }
 
-    judged_fault : (fault : Fault) → NoneMarks table frames → IsJudgedFault tables cluster table (table_after asks table) frames fault → IsFirstFault tables cluster asks table fault
+    judged_fault : (fault : Fault) → NoneMarks table frames → IsJudgedFault tables cluster table (table_after asks table) frames fault → IsFirstChangeFault tables cluster asks table fault
     unfolding times_of
     judged_fault fault none (InSteps p) = OfSteps (unmarked_is none) p
     judged_fault fault none (InRejected times p) = OfRejected (unmarked_is none) (times_of times) p.first.one

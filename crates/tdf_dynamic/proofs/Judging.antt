@@ -11,7 +11,7 @@ use Rattle.tdf_bind_tables.specs.Actors.{cluster_of}
 use Rattle.tdf_bind_tables.specs.FlatTables.{FlatTablesOf}
 use Rattle.tdf_bind_tables.specs.declared.actors.ActorRow.{ActorRow}
 use Rattle.tdf_dynamic.proofs.Rows.{get_read}
-use Rattle.tdf_dynamic.specs.Change.{fault_of}
+use Rattle.tdf_dynamic.specs.Change.{fault_of_row}
 use Rattle.tdf_dynamic.specs.Given.{IsPlanned}
 use Rattle.tdf_dynamic.specs.declared.frames.ModuleFrame.{ModuleFrame}
 use Rattle.tdf_dynamic.specs.machine.Judging.{AreTimed, InPlan, InRejected, InSteps, IsJudged, IsJudgedFault, NoneRefuse}
@@ -20,7 +20,7 @@ use Rattle.tdf_dynamic_plans.proofs.Api.{fault_apart, ports_are}
 use Rattle.tdf_dynamic_first.proofs.Api.{net_clusters, net_fit}
 use Rattle.tdf_dynamic_plans.specs.Attributes.{AttrsOf, clusters_of}
 use Rattle.tdf_dynamic_plans.specs.Faults.{HasTiming, IsPlanFault, IsPlanOf, IsRefusal, IsStepsFault, OfTiming}
-use Rattle.tdf_dynamic_plans.specs.Rates.{AreRates, IsWired, NetOf, net_of, net_ports, seen}
+use Rattle.tdf_dynamic_plans.specs.Rates.{AreRates, IsWired, NetOf, net_of, net_ports, net_seen}
 use Rattle.tdf_dynamic_plans.specs.declared.err.ChangeErr.{ChangeErr}
 use Rattle.tdf_dynamic_plans.specs.declared.err.ChangeErr.TheVariants.{Refused, Memory}
 use Rattle.tdf_graph.specs.declared.actors.Port.{Port}
@@ -38,14 +38,14 @@ all_weaker P Q to (Err e) is = refusal_weaker P Q to e is
 
 -- the fault that the first row is told of
 abbrev pub IsToldFirst : (P : AttrsOf → ModuleFrame → Type 0) → FlatTablesOf → Code → List AttrsOf → List ModuleFrame → Fault → Type 0
-IsToldFirst P tables why table frames fault = (k : ℕ) × (first : IsFirstPlace P table frames k) × (fault_of tables why first.one ≡ Some fault)
+IsToldFirst P tables why table frames fault = (k : ℕ) × (first : IsFirstPlace P table frames k) × (fault_of_row tables why first.one ≡ Some fault)
 
 pub told_first : (P : AttrsOf → ModuleFrame → Type 0) (tables : FlatTablesOf) (why : Code) (table : List AttrsOf) (frames : List ModuleFrame) (k : ℕ) (row : AttrsOf) → IsFirstPlace P table frames k
-    → row ≡ slice_index_or table k row → (e : ChangeErr) → IsRefusal (λ fault. fault_of tables why row ≡ Some fault) e → IsRefusal (IsToldFirst P tables why table frames) e
+    → row ≡ slice_index_or table k row → (e : ChangeErr) → IsRefusal (λ fault. fault_of_row tables why row ≡ Some fault) e → IsRefusal (IsToldFirst P tables why table frames) e
 told_first P tables why table frames k row first read e is =
     let at = get_read table k row (slice_get_within table k first.one first.one_at) read in
     let same : first.one ≡ row = same_Some first.one row (sym first.one_at ∙ at) in
-    refusal_weaker (λ fault. fault_of tables why row ≡ Some fault) (IsToldFirst P tables why table frames) (λ fault told. (k, first, ap (fault_of tables why) same ∙ told)) e is
+    refusal_weaker (λ fault. fault_of_row tables why row ≡ Some fault) (IsToldFirst P tables why table frames) (λ fault told. (k, first, ap (fault_of_row tables why) same ∙ told)) e is
 
 -- a table that has a plan has no fault of counts and steps
 pub old_fails : (answers : AnswersExclude) (unique : CountsAreUnique) (tables : FlatTablesOf) (cluster : ℕ) (table : List AttrsOf) → IsWired tables → Contains (clusters_of tables) cluster → AreRates tables table
@@ -56,14 +56,14 @@ old_fails answers unique tables cluster table wired has rates planned net is Q e
     (OfTiming (subst (λ (n : NetOf). IsStepsFault tables n cluster table f) is p)) planned.is)) e
 
 -- the counts of a cluster are by actor
-pub counts_long : (tables : FlatTablesOf) (table : List AttrsOf) (net : Net) (n : ℕ) (counts : List ℕ) → seen net ≡ net_of tables table → n ≡ length net.actors.items
+pub counts_long : (tables : FlatTablesOf) (table : List AttrsOf) (net : Net) (n : ℕ) (counts : List ℕ) → net_seen net ≡ net_of tables table → n ≡ length net.actors.items
     → length counts ≡ length (clusters_of tables) → length counts ≡ n
 unfolding net_of
 counts_long tables table net n counts is count long =
     long ∙ length-map tables.actors cluster_of ∙ sym (count ∙ ap (λ (x : NetOf). length x.actors) is ∙ length-map tables.actors (λ (row : ActorRow). row.kind))
 
-module _ (tables : FlatTablesOf) (cluster : ℕ) (table new : List AttrsOf) (frames : List ModuleFrame) (before after : Net) (before_is : seen before ≡ net_of tables table)
-    (after_is : seen after ≡ net_of tables new) (old_counts counts : List ℕ) (old_steps steps : Steps) (old_timing : HasTiming tables (seen before) cluster table old_counts old_steps)
+module _ (tables : FlatTablesOf) (cluster : ℕ) (table new : List AttrsOf) (frames : List ModuleFrame) (before after : Net) (before_is : net_seen before ≡ net_of tables table)
+    (after_is : net_seen after ≡ net_of tables new) (old_counts counts : List ℕ) (old_steps steps : Steps) (old_timing : HasTiming tables (net_seen before) cluster table old_counts old_steps)
     (timing : HasTiming tables (net_of tables new) cluster new counts steps) where
   pub times : AreTimed tables cluster table new
   times = record {
@@ -78,12 +78,12 @@ module _ (tables : FlatTablesOf) (cluster : ℕ) (table new : List AttrsOf) (fra
       (subst (λ (qs : List Port). HoldsBelow (λ attrs f. IsRefusing before.ports.items qs old_steps steps attrs f → ⊥) table frames (length table)) (ports_are tables new after after_is) none)
 
   pub is_judged : HoldsBelow (λ attrs f. IsRefusing before.ports.items after.ports.items old_steps steps attrs f → ⊥) table frames (length table)
-      → (plan : Plan) → IsPlanOf (seen after) counts steps plan → IsJudged tables cluster table new frames plan
+      → (plan : Plan) → IsPlanOf (net_seen after) counts steps plan → IsJudged tables cluster table new frames plan
   unfolding times
   is_judged none plan is = record { times = times; none = none_refuse none; plan_is = subst (λ (n : NetOf). IsPlanOf n counts steps plan) after_is is }
 
   pub plan_refused : HoldsBelow (λ attrs f. IsRefusing before.ports.items after.ports.items old_steps steps attrs f → ⊥) table frames (length table)
-      → (fault : Fault) → IsPlanFault tables (seen after) new counts steps fault → IsJudgedFault tables cluster table new frames fault
+      → (fault : Fault) → IsPlanFault tables (net_seen after) new counts steps fault → IsJudgedFault tables cluster table new frames fault
   unfolding times
   plan_refused none fault is = InPlan times (none_refuse none) (subst (λ (n : NetOf). IsPlanFault tables n new counts steps fault) after_is is)
 

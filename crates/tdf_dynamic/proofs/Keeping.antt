@@ -6,7 +6,7 @@ use Rattle.std.specs.Prelude.{nat_le, slice_get, slice_set}
 use Rattle.tdf_base.specs.Limits.{time_end}
 use Rattle.tdf_fixed.specs.declared.raw.Raw.{Raw}
 use Rattle.tdf_expr_semantics.proofs.Api.{found, limits_placed, rates_set}
-use Rattle.tdf_expr_semantics.specs.Bodies.{after, after_all, assigned_at, limit_value, noticed_at, rate_set, repeated, stepped, stepped_at, target_index, whole_within, with_element, with_whole}
+use Rattle.tdf_expr_semantics.specs.Bodies.{after, after_all, assigned_at, limit_value, noticed_at, rate_set, repeated, step_assigned, stepped_at, target_index, whole_within, with_element, with_whole}
 use Rattle.tdf_expr_semantics.specs.Fits.{RatesFit}
 use Rattle.tdf_expr_semantics.specs.Places.{port_number, rate_limits, rate_number}
 use Rattle.tdf_expr_semantics.specs.Value.{holds, value}
@@ -47,7 +47,7 @@ module _ (own : Names) (s : State) (stays : Stays own s) where
   step_stays : (place step : ℕ) → step < time_end → Stays own (with_step place step s)
   step_stays place step few = record { rates = stays.rates; short = set_short s.ports.steps place step stays.short few }
 
-  stepped_stays : (port : Option (List ℕ)) (step : ℕ) → step < time_end → Stays own (stepped own port step s)
+  stepped_stays : (port : Option (List ℕ)) (step : ℕ) → step < time_end → Stays own (step_assigned own port step s)
   stepped_stays None step few = step_stays 0 step few
   stepped_stays (Some name) step few = go (place_of own name)
     where

@@ -8,7 +8,7 @@ use Rattle.tdf_base.specs.declared.codes.Code.{Code}
 use Rattle.tdf_base.specs.declared.faults.Fault.{Fault}
 use Rattle.tdf_bind_tables.specs.FlatTables.{FlatTablesOf}
 use Rattle.tdf_dynamic.proofs.Rows.{not_both}
-use Rattle.tdf_dynamic.specs.Change.{AreUnmarked, Asks, HasSameSteps, IsFirstFault, IsFirstRow, IsMarked, IsNewPlan, OfPlan, OfRange, OfRejected, OfSteps, Rejects, TimingOf, TimingsOf, fault_of, module_step, table_after}
+use Rattle.tdf_dynamic.specs.Change.{AreUnmarked, Asks, HasSameSteps, IsFirstChangeFault, IsFirstRow, IsMarked, IsNewPlan, OfPlan, OfRange, OfRejected, OfSteps, Rejects, TimingOf, TimingsOf, fault_of_row, step_of_module, table_after}
 use Rattle.tdf_dynamic.specs.Laws.{BoundariesHaveOne, IsBoundary}
 use Rattle.tdf_dynamic_plans.proofs.Api.{fault_apart, fault_once, no_counts, no_steps, plan_once, same_steps}
 use Rattle.tdf_dynamic_first.proofs.Api.{net_clusters, net_fit}
@@ -24,7 +24,7 @@ use Rattle.tdf_schedule.specs.Laws.{BoundsAreUnique, PlansAreUnique}
 use Rattle.tdf_schedule.specs.declared.entry.Plan.{Plan}
 use Rattle.tdf_streams.proofs.Api.{are_rates, is_wired}
 use Rattle.tdf_streams.specs.Periods.{AreAttributes}
-use Rattle.tdf_timestep.specs.Period.{rate_of}
+use Rattle.tdf_timestep.specs.Period.{rate_at_port}
 use Rattle.tdf_timestep.specs.declared.assign.Steps.{Steps}
 
 pub all_get : {A : Type 0} (P : A → Type 0) (xs : List A) (j : ℕ) (x : A) → All P xs → slice_get xs j ≡ Some x → P x
@@ -41,8 +41,8 @@ first_once table P Q to from a b p q = go (cases_lt p.place q.place) (cases_lt q
         let same : p.place ≡ q.place = omega (arith, most, least) in
         same_Some a b (sym p.at ∙ ap (slice_get table) same ∙ q.at)
 
-told_once : (tables : FlatTablesOf) (why : Code) (a b : AttrsOf) (f g : Fault) → a ≡ b → fault_of tables why a ≡ Some f → fault_of tables why b ≡ Some g → f ≡ g
-told_once tables why a b f g same one other = same_Some f g (sym one ∙ ap (fault_of tables why) same ∙ other)
+told_once : (tables : FlatTablesOf) (why : Code) (a b : AttrsOf) (f g : Fault) → a ≡ b → fault_of_row tables why a ≡ Some f → fault_of_row tables why b ≡ Some g → f ≡ g
+told_once tables why a b f g same one other = same_Some f g (sym one ∙ ap (fault_of_row tables why) same ∙ other)
 
 -- a marked module is none of those that are not
 marked_apart : (asks : Asks) (table : List AttrsOf) (attrs : AttrsOf) → IsFirstRow table (IsMarked asks) attrs → AreUnmarked asks table → ⊥
@@ -55,14 +55,14 @@ steps_moved : (old new : List Port) (s t one other : Steps) (attrs : AttrsOf) �
 steps_moved old new s t one other attrs first then_same is = record {
   own = first_at ∙ is.own ∙ sym then_at;
   ports = λ j d below.
-      ap (λ n. n / rate_of old (Some (slice_index_or attrs.ports j d))) first_at ∙ is.ports j d below
-      ∙ sym (ap (λ n. n / rate_of new (Some (slice_index_or attrs.ports j d))) then_at);
+      ap (λ n. n / rate_at_port old (Some (slice_index_or attrs.ports j d))) first_at ∙ is.ports j d below
+      ∙ sym (ap (λ n. n / rate_at_port new (Some (slice_index_or attrs.ports j d))) then_at);
 }
   where
-    first_at : module_step s attrs.number ≡ module_step one attrs.number
+    first_at : step_of_module s attrs.number ≡ step_of_module one attrs.number
     first_at = ap (λ l. slice_index l attrs.number) first
 
-    then_at : module_step t attrs.number ≡ module_step other attrs.number
+    then_at : step_of_module t attrs.number ≡ step_of_module other attrs.number
     then_at = ap (λ l. slice_index l attrs.number) then_same
 
 module _ (answers : AnswersExclude) (unique : CountsAreUnique) (flat : Flat) (cluster : ℕ) (asks : Asks) (table : List AttrsOf) (b : IsBoundary flat cluster asks table) where
@@ -102,7 +102,7 @@ module _ (answers : AnswersExclude) (unique : CountsAreUnique) (flat : Flat) (cl
   first_apart times other attrs first none =
       all_get (λ a. Rejects flat.tables cluster asks table other a → ⊥) table first.place attrs none first.at (rejects_moved times other attrs first.holds)
 
-  pub one_fault : (f g : Fault) → IsFirstFault flat.tables cluster asks table f → IsFirstFault flat.tables cluster asks table g → f ≡ g
+  pub one_fault : (f g : Fault) → IsFirstChangeFault flat.tables cluster asks table f → IsFirstChangeFault flat.tables cluster asks table g → f ≡ g
   one_fault f g (OfRange a p told) (OfRange c q other) = told_once flat.tables _ a c f g (first_once table (IsMarked asks) (IsMarked asks) (λ x h. h) (λ x h. h) a c p q) told other
   one_fault f g (OfRange a p told) (OfSteps u q) = absurd (marked_apart asks table a p u)
   one_fault f g (OfRange a p told) (OfRejected u t c q other) = absurd (marked_apart asks table a p u)
@@ -127,7 +127,7 @@ module _ (answers : AnswersExclude) (unique : CountsAreUnique) (flat : Flat) (cl
   net_apart : (f : Fault) (plan : Plan) → IsNetFault flat.tables (net_of flat.tables new) cluster new f → IsNewPlan flat.tables cluster asks table plan → ⊥
   net_apart f plan p is = fault_apart flat.tables (net_of flat.tables new) cluster new answers unique (fit new b.after) (are new b.after) b.has f plan p (net_plan plan is)
 
-  pub fault_or_plan : (f : Fault) (plan : Plan) → IsFirstFault flat.tables cluster asks table f → IsNewPlan flat.tables cluster asks table plan → ⊥
+  pub fault_or_plan : (f : Fault) (plan : Plan) → IsFirstChangeFault flat.tables cluster asks table f → IsNewPlan flat.tables cluster asks table plan → ⊥
   fault_or_plan f plan (OfRange a p told) is = marked_apart asks table a p is.unmarked
   fault_or_plan f plan (OfSteps u p) is = net_apart f plan (OfTiming p) is
   fault_or_plan f plan (OfRejected u s a p told) is = first_apart s is.times a p is.accepted

@@ -7,14 +7,14 @@ use Rattle.std.proofs.lemmas.Option.{same_Some}
 use Rattle.std.specs.Prelude.{replicate, slice_get, slice_set}
 use Rattle.tdf_dynamic.specs.machine.Asking.{AreZeroBelow}
 use Rattle.tdf_expr.specs.Frames.{AreConsecutive, ArePortsFit, IsOfFormat, PortsSeen, sample_formats}
-use Rattle.tdf_expr.specs.Plans.{written}
+use Rattle.tdf_expr.specs.Plans.{shape_written}
 use Rattle.tdf_expr.specs.declared.spans.PortSpan.{PortSpan}
 use Rattle.tdf_fixed.specs.Cast.{fraction_of}
 use Rattle.tdf_streams.proofs.Api.{get_inside}
-use Rattle.tdf_fixed.specs.Overflow.{IsIn}
+use Rattle.tdf_fixed.specs.Overflow.{IsOfWidth}
 use Rattle.tdf_expr_state.specs.State.{cell_at}
 
-zero_in : (signed : Bool) (wl : ℕ) → IsIn signed wl (pos 0)
+zero_in : (signed : Bool) (wl : ℕ) → IsOfWidth signed wl (pos 0)
 zero_in true wl = record { low = omega (arith, ints); high = omega (arith, ints) }
 zero_in false wl = record { low = omega (arith, ints); high = omega (arith, ints) }
 
@@ -29,7 +29,7 @@ first_at (p ∷ spans) (suc n) = p.count + first_at spans n
 
 formats_long : (p : PortSpan) (spans : List PortSpan) → length (sample_formats (p ∷ spans)) ≡ p.count + length (sample_formats spans)
 formats_long p spans =
-    length-append (replicate p.count (written p.format)) (sample_formats spans) ∙ ap (λ k. k + length (sample_formats spans)) (length-replicate p.count (written p.format))
+    length-append (replicate p.count (shape_written p.format)) (sample_formats spans) ∙ ap (λ k. k + length (sample_formats spans)) (length-replicate p.count (shape_written p.format))
 
 pub first_is : (first : ℕ) (spans : List PortSpan) (n : ℕ) (p : PortSpan) → AreConsecutive first spans → slice_get spans n ≡ Some p → p.first ≡ first + first_at spans n
 first_is first [] n p row at = absurd cc

@@ -14,7 +14,7 @@ use Rattle.tdf_expr.specs.Blocks.{PureBlock, blocks_of, body_of, scope_of}
 use Rattle.tdf_expr.specs.Checked.{IsCheckedOf}
 use Rattle.tdf_expr.specs.Compiled.{AreBlocksOf, IsBlockOf}
 use Rattle.tdf_expr.specs.Frames.{limits_of_rate}
-use Rattle.tdf_expr.specs.Made.{event_count, port_spans_of, rate_spans_of, rates_in}
+use Rattle.tdf_expr.specs.Made.{event_count, port_spans_of, rate_spans_of, block_rates}
 use Rattle.tdf_expr.specs.Plans.{rate_span}
 use Rattle.tdf_expr.specs.Runs.{scope_in}
 use Rattle.tdf_expr.specs.declared.blocks.Block.{Block}
@@ -94,7 +94,7 @@ module _ (model : PureTree) (flat : Flat) (kept : IsKept model) (checked : IsChe
         let row = get_inside flat.tables.modules attrs.number inside in
         let b = coded (globals_of model.globals) (blocks_of model.globals) flat.checked.blocks.items number p checked at in
         limits_at flat.checked (slice_get flat.tables.modules attrs.number) row.0 row.1
-        ∙ ap (map limits_of_rate) (ap rates_in b.1 ∙ b.2.rates) ∙ sym (limits_same (scope_in model p).own.things)
+        ∙ ap (map limits_of_rate) (ap block_rates b.1 ∙ b.2.rates) ∙ sym (limits_same (scope_in model p).own.things)
 
     -- what the change body of a block asks for
     change_can : (o : Option PureBlock) → slice_get (blocks_of model.globals) number ≡ o → CanAsk flat attrs (asked_in (after_part model o body.Change before))

@@ -13,7 +13,7 @@ use Rattle.tdf_dynamic_plans.specs.Rates.{net_of, net_ports}
 use Rattle.tdf_bind.specs.declared.model.Flat.{Flat}
 use Rattle.tdf_graph.specs.declared.actors.Port.{Port}
 use Rattle.tdf_schedule.specs.declared.entry.Plan.{Plan}
-use Rattle.tdf_timestep.specs.Period.{rate_of}
+use Rattle.tdf_timestep.specs.Period.{rate_at_port}
 use Rattle.tdf_timestep.specs.declared.assign.Steps.{Steps}
 use Rattle.tdf_lang_tree.specs.Pure.{PureTree}
 
@@ -54,18 +54,18 @@ pub record TimingOf (tables : FlatTablesOf) (cluster : ℕ) (table : List AttrsO
   pub timing : HasTiming tables (net_of tables table) cluster table counts steps
 
 -- the time between two firings of a module, and between two samples of a port: that over its rate
-abbrev pub module_step : Steps → ℕ → ℕ
-module_step steps m = slice_index steps.actor_steps.items m
+abbrev pub step_of_module : Steps → ℕ → ℕ
+step_of_module steps m = slice_index steps.actor_steps.items m
 
-abbrev pub port_step : List Port → Steps → (m port : ℕ) → ℕ
-port_step ports steps m port = module_step steps m / rate_of ports (Some port)
+abbrev pub step_at_port : List Port → Steps → (m port : ℕ) → ℕ
+step_at_port ports steps m port = step_of_module steps m / rate_at_port ports (Some port)
 
 -- a module and its ports have the same steps, by the rates and steps from before and those after
 pub record HasSameSteps (old new : List Port) (before after : Steps) (attrs : AttrsOf)
     : Type 0 where
-  pub own : module_step before attrs.number ≡ module_step after attrs.number
-  pub ports : All (λ port. port_step old before attrs.number port
-      ≡ port_step new after attrs.number port) attrs.ports
+  pub own : step_of_module before attrs.number ≡ step_of_module after attrs.number
+  pub ports : All (λ port. step_at_port old before attrs.number port
+      ≡ step_at_port new after attrs.number port) attrs.ports
 
 -- a module rejects: its flag says so, its own attributes are as before, and one of its steps or
 -- of those of its ports is another
@@ -87,35 +87,36 @@ abbrev pub Rejects : (tables : FlatTablesOf) (cluster : ℕ) (asks : Asks) (tabl
 Rejects tables cluster asks table times attrs =
     IsRejecting tables asks table times.before.steps times.after.steps attrs
 
-abbrev pub fault_of : FlatTablesOf → Code → AttrsOf → Option Fault
-fault_of tables why attrs = fault_at why (module_path (slice_get tables.modules attrs.number))
+abbrev pub fault_of_row : FlatTablesOf → Code → AttrsOf → Option Fault
+fault_of_row tables why attrs = fault_at why (module_path (slice_get tables.modules attrs.number))
 
 -- the first fault: a rate that is not allowed, then those of counts and steps, then a module that
 -- rejects, then those of the plan
-pub data IsFirstFault (tables : FlatTablesOf) (cluster : ℕ) (asks : Asks) (table : List AttrsOf)
+pub data IsFirstChangeFault (tables : FlatTablesOf) (cluster : ℕ) (asks : Asks)
+    (table : List AttrsOf)
     (fault : Fault) : Type 0 where
   OfRange : (attrs : AttrsOf) → IsFirstRow table (IsMarked asks) attrs
-      → fault_of tables code.Range attrs ≡ Some fault
-      → IsFirstFault tables cluster asks table fault
+      → fault_of_row tables code.Range attrs ≡ Some fault
+      → IsFirstChangeFault tables cluster asks table fault
   OfSteps : AreUnmarked asks table
       → IsStepsFault tables (net_of tables (table_after asks table)) cluster
       (table_after asks table) fault
-      → IsFirstFault tables cluster asks table fault
+      → IsFirstChangeFault tables cluster asks table fault
   OfRejected : AreUnmarked asks table → (times : TimingsOf tables cluster asks table)
       → (attrs : AttrsOf) → IsFirstRow table (Rejects tables cluster asks table times) attrs
-      → fault_of tables code.Rejected attrs ≡ Some fault
-      → IsFirstFault tables cluster asks table fault
+      → fault_of_row tables code.Rejected attrs ≡ Some fault
+      → IsFirstChangeFault tables cluster asks table fault
   OfPlan : AreUnmarked asks table → (times : TimingsOf tables cluster asks table)
       → All (λ attrs. Rejects tables cluster asks table times attrs → ⊥) table
       → IsPlanFault tables (net_of tables (table_after asks table)) (table_after asks table)
       times.after.counts times.after.steps fault
-      → IsFirstFault tables cluster asks table fault
+      → IsFirstChangeFault tables cluster asks table fault
 
 -- some module differs, and there is a fault
 pub record IsChangeFault (tables : FlatTablesOf) (cluster : ℕ) (asks : Asks) (table : List AttrsOf)
     (fault : Fault) : Type 0 where
   pub differs : IsSame asks table → ⊥
-  pub first : IsFirstFault tables cluster asks table fault
+  pub first : IsFirstChangeFault tables cluster asks table fault
 
 -- some module differs, and there is none; the plan may be equal to the old one
 pub record IsNewPlan (tables : FlatTablesOf) (cluster : ℕ) (asks : Asks) (table : List AttrsOf)

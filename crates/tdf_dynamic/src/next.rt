@@ -4,7 +4,7 @@ ghost use Rattle.std.specs.Prelude.{◌≡◌, ◌⊎◌, ◌≤◌, ℕ, List, 
 ghost use Rattle.std.specs.Vec.{vec_capacity};
 ghost use Rattle.tdf_base.specs.declared.codes.Code.TheVariants as code;
 ghost use Rattle.tdf_base.specs.declared.faults.Fault.{Fault as FaultOf};
-ghost use Rattle.tdf_dynamic.specs.Change.{IsChangeFault, IsNewPlan, IsSame, fault_of, table_after};
+ghost use Rattle.tdf_dynamic.specs.Change.{IsChangeFault, IsNewPlan, IsSame, fault_of_row, table_after};
 ghost use Rattle.tdf_dynamic.specs.Given.{AreFramesOf, IsOfText, IsPlanned, WhenAsked};
 ghost use Rattle.tdf_dynamic.specs.Next.{HaveChanged, IsNext};
 ghost use Rattle.tdf_dynamic.specs.machine.Asking.{AllTell};
@@ -13,7 +13,7 @@ ghost use Rattle.tdf_dynamic.specs.machine.Judging.{IsJudged, IsJudgedFault};
 ghost use Rattle.tdf_dynamic.specs.machine.Rows.{AreAfter, HoldsBelow, IsFirstPlace, IsRefusing};
 ghost use Rattle.tdf_dynamic_plans.specs.Attributes.{AttrsOf, IsOfCluster, clusters_of};
 ghost use Rattle.tdf_dynamic_plans.specs.Faults.{HasTiming, IsRefusal};
-ghost use Rattle.tdf_dynamic_plans.specs.Rates.{AreRates, IsWired, net_of, seen};
+ghost use Rattle.tdf_dynamic_plans.specs.Rates.{AreRates, IsWired, net_of, net_seen};
 ghost use Rattle.tdf_dynamic_plans.specs.declared.err.ChangeErr.TheVariants.{Memory as NoMemory, Refused};
 ghost use Rattle.tdf_dynamic.specs.declared.next.Next.TheVariants.{Same};
 ghost use Rattle.tdf_expr.specs.Checked.{IsCheckedOf};
@@ -48,7 +48,7 @@ pub enum Next {
 
 /// A fault at the path of a module.
 fn module_fault(alloc: Global, flat: &Flat, why: Code, attrs: &ModuleAttrs) -> ChangeErr
-    ensures { IsRefusal (λ fault. fault_of flat.now.tables why attrs.now ≡ Some fault) result }
+    ensures { IsRefusal (λ fault. fault_of_row flat.now.tables why attrs.now ≡ Some fault) result }
 {
     match module_path(alloc, &flat.tables, attrs.number) {
         Ok(path) => ChangeErr::Refused(Fault {
@@ -75,7 +75,7 @@ fn accepted(
         table.now frames.now (length table.now)) }
     ensures refused { IfErr result (IsRefusal (λ fault. (k : ℕ)
         × (first : IsFirstPlace (IsRefusing before.now.ports.items after.now.ports.items old.now.steps new.now.steps) table.now frames.now k)
-        × (fault_of flat.now.tables code.Rejected first.one ≡ Some fault))) }
+        × (fault_of_row flat.now.tables code.Rejected first.one ≡ Some fault))) }
 {
     match first_rejecting(flat, table, frames, before, &old.steps, after, &new.steps) {
         None => Ok(()),
@@ -102,7 +102,7 @@ fn judged_by(
     requires table { All (IsOfCluster flat.now.tables cluster) table.now }
     requires rates { AreRates flat.now.tables table.now }
     requires planned { IsPlanned flat.now.tables cluster table.now }
-    requires net { seen after ≡ net_of flat.now.tables new.now }
+    requires net { net_seen after ≡ net_of flat.now.tables new.now }
     requires timing { HasTiming flat.now.tables (net_of flat.now.tables new.now) cluster new.now timing.counts.items timing.steps }
     requires tells { AllTell flat.now table.now frames.now }
     ensures plan { IfOk result (IsJudged flat.now.tables cluster table.now new.now frames.now) }

@@ -1,10 +1,10 @@
 //! Whether a module rejects steps that others cause.
 
 ghost use Rattle.std.specs.Prelude.{◌≡◌, ◌≤◌, ◌↔◌, All, IsTrue, Some, length};
-ghost use Rattle.tdf_dynamic.specs.Change.{HasSameSteps, module_step, port_step};
+ghost use Rattle.tdf_dynamic.specs.Change.{HasSameSteps, step_of_module, step_at_port};
 ghost use Rattle.tdf_dynamic.specs.machine.Asking.{AllTell, CanTell};
 ghost use Rattle.tdf_dynamic.specs.machine.Rows.{IsFirst, IsRefusing};
-ghost use Rattle.tdf_timestep.specs.Period.{rate_of};
+ghost use Rattle.tdf_timestep.specs.Period.{rate_at_port};
 
 use crate::frames::ModuleFrame;
 use crate::tables::{flag_after, is_unchanged};
@@ -15,7 +15,7 @@ use tdf_timestep::Steps;
 
 /// The rate of a port, 1 for one that isn't there.
 fn rate_at(net: &Net, port: u32) -> u32
-    ensures value { result ≡ rate_of net.now.ports.items (Some port) }
+    ensures value { result ≡ rate_at_port net.now.ports.items (Some port) }
     ensures some { 1 ≤ result }
 {
     let place = port as usize;
@@ -27,7 +27,7 @@ fn rate_at(net: &Net, port: u32) -> u32
 
 /// The time from one firing of a module to the next, 0 for one that isn't there.
 fn module_step(steps: &Steps, module: u32) -> u64
-    ensures { result ≡ module_step steps.now «module» }
+    ensures { result ≡ step_of_module steps.now «module» }
 {
     let place = module as usize;
     if place < steps.actor_steps.len() {
@@ -38,7 +38,7 @@ fn module_step(steps: &Steps, module: u32) -> u64
 
 /// The time from one sample of a port to the next.
 fn port_step(net: &Net, steps: &Steps, module: u32, port: u32) -> u64
-    ensures { result ≡ port_step net.now.ports.items steps.now «module» port }
+    ensures { result ≡ step_at_port net.now.ports.items steps.now «module» port }
 {
     module_step(steps, module) / u64::from(rate_at(net, port))
 }
@@ -52,8 +52,8 @@ fn are_same_ports(
     after: &Net,
     new_steps: &Steps,
 ) -> bool
-    ensures { IsTrue result ↔ All (λ port. port_step before.now.ports.items old_steps.now «module» port
-        ≡ port_step after.now.ports.items new_steps.now «module» port) ports.now }
+    ensures { IsTrue result ↔ All (λ port. step_at_port before.now.ports.items old_steps.now «module» port
+        ≡ step_at_port after.now.ports.items new_steps.now «module» port) ports.now }
 {
     ports.iter().all(|port| {
         port_step(before, old_steps, module, *port) == port_step(after, new_steps, module, *port)

@@ -7,7 +7,7 @@ use Rattle.tdf_bind_tables.specs.FlatTables.{IsShortRole}
 use Rattle.tdf_lang_tree.specs.declared.blocks.PortKind.{PortKind}
 use Rattle.tdf_lang_tree.specs.declared.blocks.PortKind.TheVariants.{In, Out, DeIn, DeOut}
 use Rattle.tdf_bind_hierarchy.specs.Tables.{RowOf}
-use Rattle.tdf_bind_connections.specs.Edges.{IsShort, actor_at, driver_port, edge_from, driven_edge, edge_of_kind, edge_by, edges_of}
+use Rattle.tdf_bind_connections.specs.Edges.{HasShortDelay, actor_at, driver_port, edge_from, driven_edge, edge_of_kind, edge_by, edges_of}
 use Rattle.tdf_bind_connections.specs.Modules.{PlacedModule, as_module, placed_modules, port_row, module_ports, ports_from}
 use Rattle.tdf_bind_connections.specs.declared.drivers.SignalRow.{SignalRow}
 use Rattle.tdf_bind_connections.specs.declared.edges.EdgeRow.{EdgeRow}
@@ -52,15 +52,15 @@ placed_short : (roles : List Role) → AllByRecursion IsShortRole roles → (ins
 placed_short roles h [] = tt
 placed_short roles h (i ∷ instances) = placed_cons (as_module i (slice_get roles i.block)) (placed_modules roles instances) (placed_one i (slice_get roles i.block) (role_at roles i.block h)) (placed_short roles h instances)
 
-short_one : (n : ℕ) (instance : RowOf) (k : ℕ) (ports : List PortData) → AllByRecursion (λ (p : PortData). p.delay ≤ greatest_delay) ports → AllByRecursion IsShort (map (λ port. port_row n instance port.0 port.1) (enumerate_from k ports))
+short_one : (n : ℕ) (instance : RowOf) (k : ℕ) (ports : List PortData) → AllByRecursion (λ (p : PortData). p.delay ≤ greatest_delay) ports → AllByRecursion HasShortDelay (map (λ port. port_row n instance port.0 port.1) (enumerate_from k ports))
 short_one n instance k [] h = tt
 short_one n instance k (p ∷ ports) h = (h.0, short_one n instance (k + 1) ports h.1)
 
-short_all : (n : ℕ) (ms : List PlacedModule) → AllByRecursion ShortPorts ms → AllByRecursion IsShort (ports_from n ms)
+short_all : (n : ℕ) (ms : List PlacedModule) → AllByRecursion ShortPorts ms → AllByRecursion HasShortDelay (ports_from n ms)
 short_all n [] h = tt
-short_all n (m ∷ ms) h = both IsShort (module_ports n m) (ports_from (n + 1) ms) (short_one n m.instance 0 m.role.ports h.0) (short_all (n + 1) ms h.1)
+short_all n (m ∷ ms) h = both HasShortDelay (module_ports n m) (ports_from (n + 1) ms) (short_one n m.instance 0 m.role.ports h.0) (short_all (n + 1) ms h.1)
 
-pub ports_short : (roles : List Role) (instances : List RowOf) → AllByRecursion IsShortRole roles → AllByRecursion IsShort (ports_from 0 (placed_modules roles instances))
+pub ports_short : (roles : List Role) (instances : List RowOf) → AllByRecursion IsShortRole roles → AllByRecursion HasShortDelay (ports_from 0 (placed_modules roles instances))
 ports_short roles instances h = short_all 0 (placed_modules roles instances) (placed_short roles h instances)
 
 -- the edges that they give
@@ -73,23 +73,23 @@ MayStart (Some edge) = StartsFew edge
 
 abbrev MayBeShort : Option PortRow → Type 0
 MayBeShort None = Unit {0}
-MayBeShort (Some port) = IsShort port
+MayBeShort (Some port) = HasShortDelay port
 
-port_at : (ports : List PortRow) (n : ℕ) → AllByRecursion IsShort ports → MayBeShort (slice_get ports n)
+port_at : (ports : List PortRow) (n : ℕ) → AllByRecursion HasShortDelay ports → MayBeShort (slice_get ports n)
 port_at [] n h = tt
 port_at (p ∷ ports) zero h = h.0
 port_at (p ∷ ports) (suc n) h = port_at ports n h.1
 
-from_few : (number : ℕ) (port : PortRow) (out : ℕ) (driver : Option PortRow) → IsShort port → MayBeShort driver → MayStart (edge_from number port out driver)
+from_few : (number : ℕ) (port : PortRow) (out : ℕ) (driver : Option PortRow) → HasShortDelay port → MayBeShort driver → MayStart (edge_from number port out driver)
 from_few number port out None h k = tt
 from_few number port out (Some driver) h k = omega (arith, h, k)
 
-module _ (all : List PortRow) (short : AllByRecursion IsShort all) (signals : List SignalRow) where
-  driven_few : (number : ℕ) (port : PortRow) (out : Option ℕ) → IsShort port → MayStart (driven_edge all number port out)
+module _ (all : List PortRow) (short : AllByRecursion HasShortDelay all) (signals : List SignalRow) where
+  driven_few : (number : ℕ) (port : PortRow) (out : Option ℕ) → HasShortDelay port → MayStart (driven_edge all number port out)
   driven_few number port None h = tt
   driven_few number port (Some out) h = from_few number port out (slice_get all out) h (port_at all out short)
 
-  kind_few : (kind : PortKind) (number actor : ℕ) (port : PortRow) → IsShort port → MayStart (edge_of_kind kind signals all number actor port)
+  kind_few : (kind : PortKind) (number actor : ℕ) (port : PortRow) → HasShortDelay port → MayStart (edge_of_kind kind signals all number actor port)
   kind_few In number actor port h = driven_few number port (driver_port signals port.signal) h
   kind_few Out number actor port h = tt
   kind_few DeIn number actor port h = omega (arith, h)
@@ -99,12 +99,12 @@ module _ (all : List PortRow) (short : AllByRecursion IsShort all) (signals : Li
   edge_cons None edges h k = k
   edge_cons (Some e) edges h k = (h, k)
 
-  edges_few : (modules n : ℕ) (ports : List PortRow) → AllByRecursion IsShort ports
+  edges_few : (modules n : ℕ) (ports : List PortRow) → AllByRecursion HasShortDelay ports
       → AllByRecursion StartsFew (filter_map (λ port. edge_by signals all port.0 (actor_at modules all port.0) port.1) (enumerate_from n ports))
   edges_few modules n [] h = tt
   edges_few modules n (p ∷ ports) h = edge_cons (edge_by signals all n (actor_at modules all n) p)
       (filter_map (λ port. edge_by signals all port.0 (actor_at modules all port.0) port.1) (enumerate_from (n + 1) ports))
       (kind_few p.kind n (actor_at modules all n) p h.0) (edges_few modules (n + 1) ports h.1)
 
-pub starts_few : (modules : ℕ) (signals : List SignalRow) (ports : List PortRow) → AllByRecursion IsShort ports → AllByRecursion StartsFew (edges_of modules signals ports)
+pub starts_few : (modules : ℕ) (signals : List SignalRow) (ports : List PortRow) → AllByRecursion HasShortDelay ports → AllByRecursion StartsFew (edges_of modules signals ports)
 starts_few modules signals ports short = edges_few ports short signals modules 0 ports short

@@ -10,7 +10,7 @@ use Rattle.tdf_base.specs.Limits.{time_end, greatest_rate}
 use Rattle.tdf_dynamic_plans.specs.Rates.{times_value}
 use Rattle.tdf_expr.specs.Blocks.{Module, blocks_of}
 use Rattle.tdf_expr.specs.Compiled.{IsBlockOf, AreBlocksOf}
-use Rattle.tdf_expr.specs.Made.{block_count, rates_in, start_rates}
+use Rattle.tdf_expr.specs.Made.{block_count, block_rates, start_rates}
 use Rattle.tdf_expr.specs.Plans.{rate_span, rate_spans}
 use Rattle.tdf_expr.specs.declared.blocks.Block.{Block}
 use Rattle.tdf_expr.specs.declared.checked.Checked.{Checked}
@@ -18,10 +18,10 @@ use Rattle.tdf_expr.specs.declared.spans.RateSpan.{RateSpan}
 use Rattle.tdf_graph.specs.Ranges.{IsRate}
 use Rattle.tdf_bind_ports.specs.Ports.{ports_of_tdf}
 use Rattle.tdf_expr_semantics.specs.Places.{before, rates_of, rate_number}
-use Rattle.tdf_bind_attributes.specs.Roles.{variable_at, variable_of, rate_in, rate_of_port, step_of_port, port_data, module_role, roles_from}
-use Rattle.tdf_bind_attributes.specs.Standing.{or_else, last_of, when, module_step, port_step}
-use Rattle.tdf_expr_symbols.specs.Names.{Names, Thing, Const, Var, Array, Port, RateVar, Event, Signal, DeSignal, Instance, Loop, TypeName, Tdf, De, Composite, at_place, place_of, thing_of}
-use Rattle.tdf_expr_symbols.specs.Scope.{tdf_scope, least_rate, greatest_rate as most_of, least_of, greatest_of}
+use Rattle.tdf_bind_attributes.specs.Roles.{variable_at, variable_of, rate_of_limit, rate_of_port, step_of_port, port_data, module_role, roles_from}
+use Rattle.tdf_bind_attributes.specs.Standing.{or_else, last_of, when, module_step, assigned_port_step}
+use Rattle.tdf_expr_symbols.specs.Names.{Names, Thing, Const, Var, Array, Port, RateVar, Event, Signal, DeSignal, Instance, Loop, TypeName, Tdf, De, Composite, found_at, place_of, thing_of}
+use Rattle.tdf_expr_symbols.specs.Scope.{tdf_scope, least_rate, greatest_rate_of as most_of, least_of, greatest_of}
 use Rattle.tdf_expr_symbols.specs.Sound.{IsThingSound, IsSound}
 use Rattle.tdf_lang_tree.specs.Kept.{Each, KeepsAttr, KeepsGlobal}
 use Rattle.tdf_lang_tree.specs.Pure.{PureTdf, PureComposite, PureGlobal, GShape, GTdf, GDe, GNet}
@@ -30,7 +30,7 @@ use Rattle.tdf_lang_tree.specs.declared.blocks.Attr.TheVariants as attr
 use Rattle.tdf_lang_tree.specs.declared.blocks.PortLine.{PortLine}
 use Rattle.tdf_lang_tree.specs.declared.stmt.Limit.{Limit}
 use Rattle.tdf_lang_tree.specs.declared.stmt.Limit.TheVariants as limit
-use Rattle.tdf_bind_connections.specs.Roles.{ModuleOf}
+use Rattle.tdf_bind_connections.specs.Roles.{ModuleRole}
 use Rattle.tdf_bind_connections.specs.declared.roles.PortData.{PortData}
 use Rattle.tdf_bind_connections.specs.declared.roles.Role.{Role}
 use Rattle.tdf_bind_connections.specs.declared.roles.Role.TheVariants as role
@@ -40,7 +40,7 @@ pub record IsPortFine (values : List ℕ) (port : PortData) : Type 0 where
   pub step : port.step < time_end
   pub rate : IsRate (times_value port.rate.times values port.rate.var)
 
-pub record IsRoleFine (checked : Checked) (role : ModuleOf) : Type 0 where
+pub record IsRoleFine (checked : Checked) (role : ModuleRole) : Type 0 where
   pub block : role.block < block_count checked
   pub step : role.step < time_end
   pub ports : AllByRecursion (IsPortFine (start_rates checked role.block)) role.ports
@@ -77,7 +77,7 @@ own_few (attr.Does line) n kept e = absurd (none_some e)
 own_few (attr.Accept line) n kept e = absurd (none_some e)
 own_few (attr.Reject line) n kept e = absurd (none_some e)
 
-port_few : (port : List ℕ) (a : Attr) (n : ℕ) → KeepsAttr a → port_step port a ≡ Some n → n < time_end
+port_few : (port : List ℕ) (a : Attr) (n : ℕ) → KeepsAttr a → assigned_port_step port a ≡ Some n → n < time_end
 port_few port (attr.Step line None step) n kept e = absurd (none_some e)
 port_few port (attr.Step line (Some name) step) n kept e = go (pointwise nat_eq port name) e
   where
@@ -92,7 +92,7 @@ port_few port (attr.Reject line) n kept e = absurd (none_some e)
 
 step_few : (port : List ℕ) (thing : Option Thing) (attrs : List Attr) → Each KeepsAttr attrs → step_of_port port thing attrs < time_end
 step_few port None attrs kept = omega arith
-step_few port (Some thing) attrs kept = last_few (port_step port) (port_few port) 0 attrs (omega arith) kept
+step_few port (Some thing) attrs kept = last_few (assigned_port_step port) (port_few port) 0 attrs (omega arith) kept
 
 -- the starting value of a rate variable
 span_long : (t : Thing) (ts : List Thing) (k : ℕ) → slice_get (map (λ (r : RateSpan). r.start) (flat_map rate_span (t ∷ ts))) (rates_of t + k) ≡ slice_get (map (λ (r : RateSpan). r.start) (flat_map rate_span ts)) k
@@ -164,21 +164,21 @@ module _ (own : Names) (sound : (n : ℕ) (t : Thing) → slice_get own.things n
   valued : (r : List ℕ) → 1 ≤ least_rate (thing_of own r) → IsValued r
   valued r some = go (place_of own r) refl some
     where
-      go : (p : Option ℕ) → place_of own r ≡ p → 1 ≤ least_rate (at_place own.things p) → IsValued r
+      go : (p : Option ℕ) → place_of own r ≡ p → 1 ≤ least_rate (found_at own.things p) → IsValued r
       go None e low = absurd (omega (arith, low))
       go (Some n) e low =
           let v = is_variable (slice_get own.things n) low in
-          let t : thing_of own r ≡ Some (RateVar v.least v.greatest v.start) = ap (at_place own.things) e ∙ v.is in
+          let t : thing_of own r ≡ Some (RateVar v.least v.greatest v.start) = ap (found_at own.things) e ∙ v.is in
           let s = sound n (RateVar v.least v.greatest v.start) v.is in
           let at : get_or values (rate_number own n) 0 ≡ v.start = get_or_from_slice_get values (rate_number own n) v.start 0 (start_there own.things n v.least v.greatest v.start v.is) in
           record {
             number = rate_number own n;
-            known = ap (λ (p : Option ℕ). variable_at own p (at_place own.things p)) e ∙ ap (variable_at own (Some n)) v.is;
+            known = ap (λ (p : Option ℕ). variable_at own p (found_at own.things p)) e ∙ ap (variable_at own (Some n)) v.is;
             low = subst (λ (o : Option Thing). least_rate o ≤ get_or values (rate_number own n) 0) (sym t) (let h = s.1 in omega (arith, at, h));
             high = subst (λ (o : Option Thing). get_or values (rate_number own n) 0 ≤ most_of o) (sym t) (let h = s.2 in omega (arith, at, h));
           }
 
-  limit_fine : (rate : Limit) → 1 ≤ least_of own rate → greatest_of own rate ≤ greatest_rate → IsRate (times_value (rate_in own rate).times values (rate_in own rate).var)
+  limit_fine : (rate : Limit) → 1 ≤ least_of own rate → greatest_of own rate ≤ greatest_rate → IsRate (times_value (rate_of_limit own rate).times values (rate_of_limit own rate).var)
   unfolding least_of greatest_of
   limit_fine (limit.Int n) low high = record { some = low; few = high }
   limit_fine (limit.Var r) low high =
@@ -202,7 +202,7 @@ module _ (own : Names) (sound : (n : ℕ) (t : Thing) → slice_get own.things n
   one : IsRate 1
   one = record { some = omega arith; few = omega arith }
 
-  thing_fine : (o : Option Thing) → ((t : Thing) → o ≡ Some t → IsThingSound own t) → IsRate (times_value (rate_in own (rate_of_port o)).times values (rate_in own (rate_of_port o)).var)
+  thing_fine : (o : Option Thing) → ((t : Thing) → o ≡ Some t → IsThingSound own t) → IsRate (times_value (rate_of_limit own (rate_of_port o)).times values (rate_of_limit own (rate_of_port o)).var)
   thing_fine (Some (Port word shape rate delay)) s = let h = s (Port word shape rate delay) refl in limit_fine rate h.1 h.2
   thing_fine None s = one
   thing_fine (Some (RateVar least greatest start)) s = one
@@ -222,7 +222,7 @@ module _ (own : Names) (sound : (n : ℕ) (t : Thing) → slice_get own.things n
   thing_sound : (name : List ℕ) (t : Thing) → thing_of own name ≡ Some t → IsThingSound own t
   thing_sound name t is = go (place_of own name) is
     where
-      go : (p : Option ℕ) → at_place own.things p ≡ Some t → IsThingSound own t
+      go : (p : Option ℕ) → found_at own.things p ≡ Some t → IsThingSound own t
       go None e = absurd (none_some e)
       go (Some n) e = sound n t e
 
@@ -245,7 +245,7 @@ module _ (globals : Names) (checked : Checked) where
     block = slice_get_within checked.blocks.items number b is;
     step = last_few module_step own_few 0 block.attrs (omega arith) kept;
     ports = subst (λ vs. AllByRecursion (IsPortFine vs) (map (port_data (tdf_scope globals block) block) (ports_of_tdf block)))
-        (sym (ap (λ (o : Option Block). map (λ (r : RateSpan). r.start) (rates_in o)) is ∙ ap (map (λ (r : RateSpan). r.start)) of.rates))
+        (sym (ap (λ (o : Option Block). map (λ (r : RateSpan). r.start) (block_rates o)) is ∙ ap (map (λ (r : RateSpan). r.start)) of.rates))
         (port_fine block of.sound kept (ports_of_tdf block));
   }
 

@@ -13,7 +13,7 @@ use Rattle.tdf_dynamic_plans.specs.Attributes.{AttrsOf, clusters_of}
 use Rattle.tdf_dynamic_plans.specs.Faults.{IsRefusal}
 use Rattle.tdf_dynamic_first.specs.Text.{first_table}
 use Rattle.tdf_dynamic_first.specs.First.{IsFirstPlan, IsClusterFault}
-use Rattle.tdf_dynamic_first.specs.Laws.{ClustersHaveOne, IsClusterOf}
+use Rattle.tdf_dynamic_first.specs.Laws.{ClustersHaveOne, IsPlannableCluster}
 use Rattle.tdf_dynamic_plans.specs.Rates.{net_of, rated_edge, net_ports, AreRates, IsWired}
 use Rattle.tdf_dynamic_plans.specs.declared.err.ChangeErr.{ChangeErr}
 use Rattle.tdf_dynamic_plans.specs.declared.err.ChangeErr.TheVariants.{Refused, Memory}
@@ -54,7 +54,7 @@ module _ (answers : AnswersExclude) (unique : CountsAreUnique) (plans : PlansAre
     };
   }
 
-module _ (law : ClustersHaveOne) (flat : Flat) (cluster : ℕ) (of : IsClusterOf flat cluster) where
+module _ (law : ClustersHaveOne) (flat : Flat) (cluster : ℕ) (of : IsPlannableCluster flat cluster) where
   pub refused_always : (r : Result First ChangeErr) → IfOk r (IsFirstPlan flat cluster) → IfErr r (IsRefusal (IsClusterFault flat cluster))
       → (fault : Fault) → IsClusterFault flat cluster fault → (r ≡ Err (Refused fault)) ⊎ (r ≡ Err Memory)
   refused_always (Ok first) good bad fault is = absurd (law.fault_or_plan flat cluster fault first of is good)

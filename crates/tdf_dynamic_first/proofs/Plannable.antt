@@ -20,7 +20,7 @@ use Rattle.tdf_expr_symbols.specs.Names.{globals_of}
 use Rattle.tdf_lang_tree.specs.Kept.{IsKept}
 use Rattle.tdf_lang_tree.specs.Pure.{PureTree}
 use Rattle.tdf_bind_hierarchy.specs.Tables.{RowOf}
-use Rattle.tdf_bind_connections.specs.Edges.{IsShort}
+use Rattle.tdf_bind_connections.specs.Edges.{HasShortDelay}
 use Rattle.tdf_bind_connections.specs.Modules.{PlacedModule, as_module, placed_modules, module_row, port_row, module_ports, ports_from, AreModules}
 use Rattle.tdf_bind_connections.specs.declared.edges.EdgeRow.{EdgeRow}
 use Rattle.tdf_bind_connections.specs.declared.modules.ModuleRow.{ModuleRow}
@@ -102,7 +102,7 @@ plannable ranges model flat kept short is = record {
     delays = All-from_recursion (λ (e : EdgeRow). e.initial ≤ 2 * greatest_delay) flat.tables.edges
         (subst (AllByRecursion (λ (e : EdgeRow). e.initial ≤ 2 * greatest_delay)) (sym is.tables.follows.edges)
         (starts_few (length flat.tables.modules) flat.tables.signals flat.tables.ports
-        (subst (AllByRecursion IsShort) (sym modules.ports) (ports_short (roles_of model) is.tables.tables.instances (recursion_from_All IsShortRole (roles_of model) short)))));
+        (subst (AllByRecursion HasShortDelay) (sym modules.ports) (ports_short (roles_of model) is.tables.tables.instances (recursion_from_All IsShortRole (roles_of model) short)))));
   };
   module_steps = All-from_recursion (λ (row : ModuleRow). row.step < time_end) flat.tables.modules
       (subst (AllByRecursion (λ (row : ModuleRow). row.step < time_end)) (sym modules.modules) (steps_few flat.checked (placed_modules (roles_of model) is.tables.tables.instances) fine));

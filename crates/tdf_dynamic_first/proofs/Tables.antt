@@ -6,7 +6,7 @@ use Rattle.std.proofs.lemmas.List.Elements.{All-from_recursion, recursion_from_A
 use Rattle.std.specs.List.{AllByRecursion, enumerate_from, cons_option}
 use Rattle.std.specs.Prelude.{All, slice_get, slice_index, filter_map, IfSome}
 use Rattle.tdf_base.specs.Limits.{time_end}
-use Rattle.tdf_dynamic_plans.specs.Attributes.{AttrsOf, clusters_of, ports_of, IsOfCluster, attrs_at}
+use Rattle.tdf_dynamic_plans.specs.Attributes.{AttrsOf, clusters_of, ports_of_module, IsOfCluster, attrs_at}
 use Rattle.tdf_dynamic_first.specs.Text.{step_or_none, port_step, first_attrs, attrs_if, first_table}
 use Rattle.tdf_dynamic_first.specs.First.{values_of, text_rate, HasRatesInRange, IsPlannable}
 use Rattle.tdf_dynamic_plans.specs.Rates.{times_value, rate_by, port_rate, AreRates}
@@ -31,9 +31,9 @@ module _ (flat : Flat) (cluster : ℕ) (plannable : IsPlannable flat) where
     is_module = within;
     inside = inside;
     own = refl;
-    each = let e = length-map (ports_of flat.tables.ports n) (port_step flat.tables.ports) in omega (arith, e);
-    short = All-from_recursion (λ s. s < time_end) (row.step ∷ map (port_step flat.tables.ports) (ports_of flat.tables.ports n))
-        (short, steps_short flat.tables.ports (ports_of flat.tables.ports n) (recursion_from_All (λ (r : PortRow). r.step < time_end) flat.tables.ports plannable.port_steps));
+    each = let e = length-map (ports_of_module flat.tables.ports n) (port_step flat.tables.ports) in omega (arith, e);
+    short = All-from_recursion (λ s. s < time_end) (row.step ∷ map (port_step flat.tables.ports) (ports_of_module flat.tables.ports n))
+        (short, steps_short flat.tables.ports (ports_of_module flat.tables.ports n) (recursion_from_All (λ (r : PortRow). r.step < time_end) flat.tables.ports plannable.port_steps));
   }
 
   put_one : (n : ℕ) (row : ModuleRow) (rest : List AttrsOf) → n < length flat.tables.modules → row.step < time_end → AllByRecursion (IsOfCluster flat.tables cluster) rest

@@ -21,18 +21,18 @@ pub record AreSameFirsts (one other : First) : Type 0 where
   pub plans_are : AreSamePlans one.plan other.plan
 
 -- a cluster of a flat model
-pub record IsClusterOf (flat : Flat) (cluster : ℕ) : Type 0 where
+pub record IsPlannableCluster (flat : Flat) (cluster : ℕ) : Type 0 where
   pub plannable : IsPlannable flat
   pub has : Contains (clusters_of flat.tables) cluster
 
 -- of the faults and plans of a cluster there is at most one
 pub record ClustersHaveOne : Type 0 where
-  pub one_fault : (flat : Flat) (cluster : ℕ) (one other : Fault) → IsClusterOf flat cluster
+  pub one_fault : (flat : Flat) (cluster : ℕ) (one other : Fault) → IsPlannableCluster flat cluster
       → IsClusterFault flat cluster one → IsClusterFault flat cluster other → one ≡ other
   pub fault_or_plan : (flat : Flat) (cluster : ℕ) (fault : Fault) (first : First)
-      → IsClusterOf flat cluster → IsClusterFault flat cluster fault
+      → IsPlannableCluster flat cluster → IsClusterFault flat cluster fault
       → IsFirstPlan flat cluster first → ⊥
-  pub one_plan : (flat : Flat) (cluster : ℕ) (one other : First) → IsClusterOf flat cluster
+  pub one_plan : (flat : Flat) (cluster : ℕ) (one other : First) → IsPlannableCluster flat cluster
       → IsFirstPlan flat cluster one → IsFirstPlan flat cluster other → AreSameFirsts one other
 
 -- a flat model of a tree that keeps what a spelled tree keeps, and whose delays are within their

@@ -2,7 +2,7 @@
 -- Source: own.
 use Rattle.std.specs.List.{enumerate_from}
 use Rattle.std.specs.Prelude.{ℕ, List, ◌∷◌, map, Option, Some, None, nat_eq, if◌then◌else◌, filter_map, slice_get, slice_index}
-use Rattle.tdf_dynamic_plans.specs.Attributes.{AttrsOf, clusters_of, ports_of}
+use Rattle.tdf_dynamic_plans.specs.Attributes.{AttrsOf, clusters_of, ports_of_module}
 use Rattle.tdf_expr.specs.Made.{start_rates}
 use Rattle.tdf_bind.specs.declared.model.Flat.{Flat}
 use Rattle.tdf_bind_connections.specs.declared.modules.ModuleRow.{ModuleRow}
@@ -19,10 +19,10 @@ port_step ports number = step_or_none (slice_get ports number)
 abbrev pub first_attrs : Flat → ℕ → ModuleRow → AttrsOf
 first_attrs flat number row = record {
   number = number;
-  ports = ports_of flat.tables.ports number;
+  ports = ports_of_module flat.tables.ports number;
   accepts = row.accepts;
   rates = start_rates flat.checked row.block;
-  steps = row.step ∷ map (port_step flat.tables.ports) (ports_of flat.tables.ports number);
+  steps = row.step ∷ map (port_step flat.tables.ports) (ports_of_module flat.tables.ports number);
 }
 
 -- those of the module of a number, if it is in the cluster

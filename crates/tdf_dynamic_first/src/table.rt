@@ -2,7 +2,7 @@
 
 ghost use Rattle.std.specs.List.{cons_option};
 ghost use Rattle.std.specs.Prelude.{◌≡◌, ◌<◌, ◌≤◌, ◌++◌, ◌∷◌, [], All, IfOk, OnOk, length, map};
-ghost use Rattle.tdf_dynamic_plans.specs.Attributes.{number_if, ports_of};
+ghost use Rattle.tdf_dynamic_plans.specs.Attributes.{number_if, ports_of_module};
 ghost use Rattle.tdf_dynamic_first.specs.Text.{port_step, first_attrs, attrs_if, attrs_in, first_table};
 ghost use Rattle.tdf_expr.specs.Checked.{IsChecked};
 ghost use Rattle.tdf_expr.specs.Made.{block_count, start_rates};
@@ -63,7 +63,7 @@ fn put_number(numbers: &mut Vec<u32>, number: Option<u32>) -> Result<(), Memory>
 
 /// The numbers of the ports of a module.
 fn ports_of(alloc: Global, ports: &[PortRow], module: u32) -> Result<Vec<u32>, Memory>
-    ensures { IfOk result (λ numbers. numbers.items ≡ ports_of ports.now «module») }
+    ensures { IfOk result (λ numbers. numbers.items ≡ ports_of_module ports.now «module») }
 {
     let mut numbers = Vec::new(alloc);
     for number in 0..ports.len() {

@@ -14,7 +14,7 @@ use Rattle.tdf_base.specs.Limits.{time_end, most_firings}
 use Rattle.tdf_bind_tables.specs.Actors.{cluster_of}
 use Rattle.tdf_bind_tables.specs.FlatTables.{FlatTablesOf}
 use Rattle.tdf_dynamic_plans.specs.Assignments.{port_at, assign_at, assigned_by, assignments}
-use Rattle.tdf_dynamic_plans.specs.Attributes.{AttrsOf, clusters_of, number_if, ports_of, IsOfCluster}
+use Rattle.tdf_dynamic_plans.specs.Attributes.{AttrsOf, clusters_of, number_if, ports_of_module, IsOfCluster}
 use Rattle.tdf_dynamic_plans.specs.Rates.{rated_port, net_ports}
 use Rattle.tdf_graph.specs.Counts.{AreCounts}
 use Rattle.tdf_graph.specs.declared.actors.Edge.{Edge}
@@ -43,7 +43,7 @@ module _ (all : List PortRow) («module» : ℕ) where
   own_from k (row ∷ rows) same = put_one k row (filter_map (λ port. number_if «module» port.0 port.1) (enumerate_from (k + 1) rows))
       (ap (slice_get all) (omega arith) ∙ same 0) (own_from (k + 1) rows (λ j. ap (slice_get all) (omega arith) ∙ same (suc j)))
 
-  own_ports : AllByRecursion IsOwn (ports_of all «module»)
+  own_ports : AllByRecursion IsOwn (ports_of_module all «module»)
   own_ports = own_from 0 all (λ j. ap (slice_get all) (omega arith))
 
 own_at : (all : List PortRow) («module» : ℕ) (ps : List ℕ) (i : ℕ) (table : List AttrsOf) → AllByRecursion (IsOwn all «module») ps

@@ -8,18 +8,18 @@ use Rattle.std.specs.List.{AllByRecursion, enumerate_from, range_with_len}
 use Rattle.std.specs.Option.{option_map}
 use Rattle.std.specs.Prelude.{All, Contains, slice_get, filter_map}
 use Rattle.tdf_base.specs.Limits.{greatest_delay}
-use Rattle.tdf_bind_tables.specs.Actors.{net_edge, module_actor, port_actor, place_of}
+use Rattle.tdf_bind_tables.specs.Actors.{net_edge, module_actor, port_actor, actor_place}
 use Rattle.tdf_bind_tables.specs.FlatTables.{FlatTablesOf}
 use Rattle.tdf_bind_tables.specs.Ranges.{AreInRange}
 use Rattle.tdf_bind_tables.specs.declared.actors.ActorRow.{ActorRow}
 use Rattle.tdf_dynamic_plans.specs.Attributes.{AttrsOf, clusters_of}
-use Rattle.tdf_dynamic_plans.specs.Rates.{port_rate, rated_port, net_ports, write_rate_by, read_rate_by, rated_edge, AreRates, IsWired, NetOf, seen, net_of}
+use Rattle.tdf_dynamic_plans.specs.Rates.{port_rate, rated_port, net_ports, write_rate_by, read_rate_by, rated_edge, AreRates, IsWired, NetOf, net_seen, net_of}
 use Rattle.tdf_graph.specs.Clusters.{Joined, stays, goes, comes, AreClusters}
-use Rattle.tdf_graph.specs.Ranges.{IsRate, IsEdge, IsPort, AreInRange as NetInRange}
+use Rattle.tdf_graph.specs.Ranges.{IsRate, IsEdge, IsGraphPort, IsGraphInRange as NetInRange}
 use Rattle.tdf_graph.specs.declared.actors.Edge.{Edge}
 use Rattle.tdf_graph.specs.declared.actors.Port.{Port}
 use Rattle.tdf_graph.specs.declared.net.Net.{Net}
-use Rattle.tdf_timestep.specs.Period.{rate_at, rate_of}
+use Rattle.tdf_timestep.specs.Period.{port_rate_or_one, rate_at_port}
 use Rattle.tdf_lang_tree.specs.declared.blocks.PortKind.{PortKind}
 use Rattle.tdf_lang_tree.specs.declared.blocks.PortKind.TheVariants.{In, Out, DeIn, DeOut}
 use Rattle.tdf_bind_connections.specs.declared.edges.EdgeRow.{EdgeRow}
@@ -30,12 +30,12 @@ use Rattle.tdf_bind_connections.specs.declared.modules.PortRow.{PortRow}
 one_is_rate : IsRate 1
 one_is_rate = record { some = omega arith; few = omega arith }
 
-rate_there : (ports : List Port) (p : ℕ) → AllByRecursion (λ (x : Port). IsRate x.rate) ports → IsRate (rate_at (slice_get ports p))
+rate_there : (ports : List Port) (p : ℕ) → AllByRecursion (λ (x : Port). IsRate x.rate) ports → IsRate (port_rate_or_one (slice_get ports p))
 rate_there [] p all = one_is_rate
 rate_there (x ∷ ports) zero all = all.0
 rate_there (x ∷ ports) (suc p) all = rate_there ports p all.1
 
-rate_fits : (ports : List Port) (p : Option ℕ) → AllByRecursion (λ (x : Port). IsRate x.rate) ports → IsRate (rate_of ports p)
+rate_fits : (ports : List Port) (p : Option ℕ) → AllByRecursion (λ (x : Port). IsRate x.rate) ports → IsRate (rate_at_port ports p)
 rate_fits ports None all = one_is_rate
 rate_fits ports (Some p) all = rate_there ports p all
 
@@ -70,7 +70,7 @@ module _ (rows : List PortRow) (ports : List Port) (rates : AllByRecursion (λ (
 
 module _ (table : List AttrsOf) (modules count : ℕ) (few : modules ≤ count) where
   ports_fit : (rows : List PortRow) → AllByRecursion (λ (p : PortRow). p.«module» < modules) rows → AllByRecursion (λ (p : PortRow). IsRate (port_rate table p)) rows
-      → AllByRecursion (IsPort count) (map (rated_port table) rows)
+      → AllByRecursion (IsGraphPort count) (map (rated_port table) rows)
   ports_fit [] own rates = tt
   ports_fit (p ∷ rows) own rates = (record { actor = (let h = own.0 in omega (arith, h, few)); rate = rates.0 }, ports_fit rows own.1 rates.1)
 
@@ -79,9 +79,9 @@ rates_of_ports table [] rates = tt
 rates_of_ports table (p ∷ rows) rates = (rates.0, rates_of_ports table rows rates.1)
 
 pub ports_are_fit : (tables : FlatTablesOf) (table : List AttrsOf) (count : ℕ) → AreInRange tables → length tables.modules ≤ count → AreRates tables table
-    → All (IsPort count) (net_ports tables table)
+    → All (IsGraphPort count) (net_ports tables table)
 unfolding net_ports
-ports_are_fit tables table count in_range few rates = All-from_recursion (IsPort count) (map (rated_port table) tables.ports)
+ports_are_fit tables table count in_range few rates = All-from_recursion (IsGraphPort count) (map (rated_port table) tables.ports)
     (ports_fit table (length tables.modules) count few tables.ports (recursion_from_All (λ (p : PortRow). p.«module» < length tables.modules) tables.ports in_range.port_modules)
     (recursion_from_All (λ (p : PortRow). IsRate (port_rate table p)) tables.ports rates))
 
@@ -102,7 +102,7 @@ pub net_is_fit : (tables : FlatTablesOf) (table : List AttrsOf) (count : ℕ) (e
 net_is_fit tables table count edges ports list in_range few delays rates count_is ports_are list_is edges_are = record {
   edges_fit = subst (λ n. All (IsEdge n) edges) (sym count_is) (subst (All (IsEdge (length tables.actors))) (sym (edges_are ∙ ap (λ ps. map (rated_edge tables.ports ps) tables.edges) (list_is ∙ ports_are)))
       (edges_are_fit tables table in_range delays rates));
-  ports_fit = subst (λ n. All (IsPort n) ports) (sym count_is) (subst (All (IsPort (length tables.actors))) (sym ports_are) (ports_are_fit tables table (length tables.actors) in_range few rates));
+  ports_fit = subst (λ n. All (IsGraphPort n) ports) (sym count_is) (subst (All (IsGraphPort (length tables.actors))) (sym ports_are) (ports_are_fit tables table (length tables.actors) in_range few rates));
 }
 
 -- clusters don't depend on rates
@@ -163,17 +163,17 @@ rated_clusters tables table wired = clusters_by tables.edges net_edge (rated_edg
 -- the modules are the first actors
 pub modules_few : (tables : FlatTablesOf) → IsWired tables → length tables.modules ≤ length tables.actors
 modules_few tables wired =
-    let all = sym (length-map tables.actors place_of) ∙ ap length wired.actors.places
+    let all = sym (length-map tables.actors actor_place) ∙ ap length wired.actors.places
     ∙ length-append (map module_actor (range_with_len 0 (length tables.modules))) (filter_map (λ port. port_actor port.0 port.1) (enumerate_from 0 tables.ports)) in
     let modules = length-map-range_with_len module_actor 0 (length tables.modules) in
     omega (arith, all, modules)
 
 -- what the net of the code has
-pub ports_are : (tables : FlatTablesOf) (table : List AttrsOf) (net : Net) → seen net ≡ net_of tables table → net.ports.items ≡ net_ports tables table
+pub ports_are : (tables : FlatTablesOf) (table : List AttrsOf) (net : Net) → net_seen net ≡ net_of tables table → net.ports.items ≡ net_ports tables table
 unfolding net_of
 ports_are tables table net is = ap (λ (n : NetOf). n.ports) is
 
-pub clusters_are : (tables : FlatTablesOf) (table : List AttrsOf) → IsWired tables → (net : Net) (count : ℕ) (numbers : List ℕ) → seen net ≡ net_of tables table
+pub clusters_are : (tables : FlatTablesOf) (table : List AttrsOf) → IsWired tables → (net : Net) (count : ℕ) (numbers : List ℕ) → net_seen net ≡ net_of tables table
     → count ≡ length net.actors.items → numbers ≡ clusters_of tables → AreClusters count net.edges.items numbers
 unfolding net_of
 clusters_are tables table wired net count numbers is count_is numbers_are =

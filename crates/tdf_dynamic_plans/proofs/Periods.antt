@@ -11,7 +11,7 @@ use Rattle.tdf_dynamic_plans.specs.Attributes.{AttrsOf}
 use Rattle.tdf_dynamic_plans.specs.Faults.{IsStepErr, HasStepsOf}
 use Rattle.tdf_dynamic_plans.specs.Rates.{NetOf}
 use Rattle.tdf_graph.specs.declared.actors.Port.{Port}
-use Rattle.tdf_timestep.specs.Order.{comes_before, port_rank, IsFirst}
+use Rattle.tdf_timestep.specs.Order.{spot_comes_before, port_rank, IsFirstAssigned}
 use Rattle.tdf_timestep.specs.Period.{share_of, period_of, IsBroken, AreAgreed, IsDisagreed, IsInexact, IsPeriod}
 use Rattle.tdf_timestep.specs.declared.assign.Assign.{Assign}
 use Rattle.tdf_timestep.specs.declared.assign.Spot.{Spot}
@@ -27,7 +27,7 @@ clash e f = subst only_true (sym e ∙ f) tt
     only_true false = ⊥
 
 -- the first assignment with a property is one
-first_once : (assigned : List Assign) (P : Assign → Type 0) (a b : ℕ) → IsFirst assigned P a → IsFirst assigned P b → a ≡ b
+first_once : (assigned : List Assign) (P : Assign → Type 0) (a b : ℕ) → IsFirstAssigned assigned P a → IsFirstAssigned assigned P b → a ≡ b
 first_once assigned P a b one other = go (cases_lt a b) (cases_lt b a)
   where
     go : (a < b) ⊎ (b ≤ a) → (b < a) ⊎ (a ≤ b) → a ≡ b
@@ -43,7 +43,7 @@ some_same {A} {x} {y} e = ap or_x e
     or_x (Some z) = z
 
 -- neither of two spots comes before the other
-same_spot : (s t : Spot) → comes_before s t ≡ false → comes_before t s ≡ false → s ≡ t
+same_spot : (s t : Spot) → spot_comes_before s t ≡ false → spot_comes_before t s ≡ false → s ≡ t
 same_spot s t one other = ap (λ n. record { actor = n; port = s.port }) actors ∙ ap (λ p. record { actor = t.actor; port = p }) (same_port s.port t.port ranks)
   where
     actors : s.actor ≡ t.actor
@@ -83,7 +83,7 @@ module _ (ports : List Port) (counts : List ℕ) (assigned : List Assign) where
   disagreed_once a b c d one other = (
     first_same,
     first_once assigned (λ x. period_of ports counts x ≢ period_of ports counts other.first.chosen) b d
-        (subst (λ (y : Assign). IsFirst assigned (λ x. period_of ports counts x ≢ period_of ports counts y) b) chosen_same one.other) other.other,
+        (subst (λ (y : Assign). IsFirstAssigned assigned (λ x. period_of ports counts x ≢ period_of ports counts y) b) chosen_same one.other) other.other,
   )
     where
       first_same : a ≡ c

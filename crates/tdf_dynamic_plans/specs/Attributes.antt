@@ -25,15 +25,15 @@ clusters_of tables = map cluster_of tables.actors
 abbrev pub number_if : ℕ → ℕ → PortRow → Option ℕ
 number_if «module» number port = if nat_eq port.«module» «module» then Some number else None
 
-abbrev pub ports_of : List PortRow → ℕ → List ℕ
-ports_of ports «module» =
+abbrev pub ports_of_module : List PortRow → ℕ → List ℕ
+ports_of_module ports «module» =
     filter_map (λ port. number_if «module» port.0 port.1) (enumerate_from 0 ports)
 
 -- attributes of a module of a cluster
 pub record IsOfCluster (tables : FlatTablesOf) (cluster : ℕ) (attrs : AttrsOf) : Type 0 where
   pub is_module : attrs.number < length tables.modules
   pub inside : slice_index (clusters_of tables) attrs.number ≡ cluster
-  pub own : attrs.ports ≡ ports_of tables.ports attrs.number
+  pub own : attrs.ports ≡ ports_of_module tables.ports attrs.number
   pub each : length attrs.steps ≡ 1 + length attrs.ports
   pub short : All (λ step. step < time_end) attrs.steps
 

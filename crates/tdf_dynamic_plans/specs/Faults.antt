@@ -17,7 +17,7 @@ use Rattle.tdf_dynamic_plans.specs.Attributes.{AttrsOf, clusters_of}
 use Rattle.tdf_dynamic_plans.specs.Rates.{NetOf, net_of}
 use Rattle.tdf_dynamic_plans.specs.declared.err.ChangeErr.{ChangeErr}
 use Rattle.tdf_dynamic_plans.specs.declared.err.ChangeErr.TheVariants.{Refused, Memory}
-use Rattle.tdf_schedule.specs.Plan.{pace_of, samples_of, IsDeadlock, IsNoncausal, HasPlan}
+use Rattle.tdf_schedule.specs.Plan.{pace_of, period_samples, IsDeadlock, IsNoncausal, HasPlan}
 use Rattle.tdf_schedule.specs.declared.entry.Plan.{Plan}
 use Rattle.tdf_schedule.specs.declared.err.PlanErr.{PlanErr}
 use Rattle.tdf_schedule.specs.declared.err.PlanErr.TheVariants as planning
@@ -122,7 +122,7 @@ pace_in net steps = pace_of net.actors steps.actor_steps.items
 
 -- the samples in the buffers of the cluster
 abbrev pub samples_in : NetOf → (counts : List ℕ) → ℕ
-samples_in net counts = samples_of net.edges net.ports counts
+samples_in net counts = period_samples net.edges net.ports counts
 
 -- the second phase: why a cluster has no plan, and how that is told
 abbrev pub IsPlanErr : NetOf → (counts : List ℕ) → Steps → PlanErr → Type 0

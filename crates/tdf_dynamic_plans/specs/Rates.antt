@@ -11,7 +11,7 @@ use Rattle.tdf_graph.specs.declared.actors.Actor.{Actor}
 use Rattle.tdf_graph.specs.declared.actors.Edge.{Edge}
 use Rattle.tdf_graph.specs.declared.actors.Port.{Port}
 use Rattle.tdf_graph.specs.declared.net.Net.{Net}
-use Rattle.tdf_timestep.specs.Period.{rate_of}
+use Rattle.tdf_timestep.specs.Period.{rate_at_port}
 use Rattle.tdf_lang_tree.specs.declared.blocks.PortKind.{PortKind}
 use Rattle.tdf_lang_tree.specs.declared.blocks.PortKind.TheVariants.{In, Out, DeIn, DeOut}
 use Rattle.tdf_bind_connections.specs.declared.edges.EdgeRow.{EdgeRow}
@@ -42,26 +42,26 @@ net_ports tables table = map (rated_port table) tables.ports
 -- `de_out` port
 abbrev pub write_rate_by : List Port → EdgeRow → Option PortKind → ℕ
 write_rate_by ports edge None = 1
-write_rate_by ports edge (Some In) = rate_of ports edge.driver
+write_rate_by ports edge (Some In) = rate_at_port ports edge.driver
 write_rate_by ports edge (Some Out) = 1
 write_rate_by ports edge (Some DeIn) = 1
-write_rate_by ports edge (Some DeOut) = rate_of ports (Some edge.port)
+write_rate_by ports edge (Some DeOut) = rate_at_port ports (Some edge.port)
 
 -- samples read from an edge: by the `in` or `de_in` port, or one by a sink
 abbrev pub read_rate_by : List Port → EdgeRow → Option PortKind → ℕ
 read_rate_by ports edge None = 1
-read_rate_by ports edge (Some In) = rate_of ports (Some edge.port)
+read_rate_by ports edge (Some In) = rate_at_port ports (Some edge.port)
 read_rate_by ports edge (Some Out) = 1
-read_rate_by ports edge (Some DeIn) = rate_of ports (Some edge.port)
+read_rate_by ports edge (Some DeIn) = rate_at_port ports (Some edge.port)
 read_rate_by ports edge (Some DeOut) = 1
 
-abbrev pub kind_of : Option PortRow → Option PortKind
-kind_of None = None
-kind_of (Some port) = Some port.kind
+abbrev pub kind_of_port : Option PortRow → Option PortKind
+kind_of_port None = None
+kind_of_port (Some port) = Some port.kind
 
 -- the word of the port that gives an edge
 abbrev pub edge_kind : List PortRow → EdgeRow → Option PortKind
-edge_kind rows edge = kind_of (slice_get rows edge.port)
+edge_kind rows edge = kind_of_port (slice_get rows edge.port)
 
 abbrev pub rated_edge : List PortRow → List Port → EdgeRow → Edge
 rated_edge rows ports edge = record {
@@ -78,8 +78,12 @@ pub record NetOf : Type 0 where
   pub edges : List Edge
   pub ports : List Port
 
-abbrev pub seen : Net → NetOf
-seen net = record { actors = net.actors.items; edges = net.edges.items; ports = net.ports.items }
+abbrev pub net_seen : Net → NetOf
+net_seen net = record {
+  actors = net.actors.items;
+  edges = net.edges.items;
+  ports = net.ports.items;
+}
 
 -- the net of a model under a table: its actors, its edges and ports with their rates
 unfoldable pub net_of : FlatTablesOf → List AttrsOf → NetOf

@@ -5,7 +5,7 @@ ghost use Rattle.tdf_bind_tables.specs.Ranges.{AreInRange};
 ghost use Rattle.tdf_base.specs.declared.faults.Fault.{Fault as FaultOf};
 ghost use Rattle.tdf_dynamic_plans.specs.Faults.{IsPlanFault, IsPlanOf, IsRefusal};
 ghost use Rattle.tdf_dynamic_plans.specs.declared.err.ChangeErr.TheVariants.{Refused};
-ghost use Rattle.tdf_dynamic_plans.specs.Rates.{seen};
+ghost use Rattle.tdf_dynamic_plans.specs.Rates.{net_seen};
 ghost use Rattle.tdf_dynamic_plans.specs.Known.{HasKept, HasSameItems, IsKnown, IsMadeFrom, IsShort};
 ghost use Rattle.tdf_dynamic_plans.specs.machine.Kept.{IsPlanIn};
 ghost use Rattle.tdf_schedule.specs.Plan.{IsPaced};
@@ -37,20 +37,20 @@ pub(crate) struct KnownPlan {
 
 impl Model for KnownPlan {
     ghost use Rattle.tdf_dynamic_plans.specs.Faults.{IsPlanOf};
-    ghost use Rattle.tdf_dynamic_plans.specs.Rates.{seen};
+    ghost use Rattle.tdf_dynamic_plans.specs.Rates.{net_seen};
     ghost use Rattle.tdf_dynamic_plans.specs.Known.{KnownOf};
 
     ghost Value = { KnownOf };
 
     ghost view = { λ a. record {
-      net = seen a.net;
+      net = net_seen a.net;
       counts = a.timing.counts.items;
       steps = a.timing.steps;
       plan = a.plan;
     } };
 
     ghost invariant = { λ a. record {
-      is_plan : IsPlanOf (seen a.net) a.timing.counts.items a.timing.steps a.plan;
+      is_plan : IsPlanOf (net_seen a.net) a.timing.counts.items a.timing.steps a.plan;
     } };
 }
 
@@ -83,8 +83,8 @@ fn are_same_numbers(one: &[u64], other: &[u64]) -> bool
 }
 
 fn is_same_net(one: &Net, other: &Net) -> bool
-    ensures same { result ≡ true → seen one.now ≡ seen other.now }
-    ensures other { result ≡ false → seen one.now ≡ seen other.now → ⊥ }
+    ensures same { result ≡ true → net_seen one.now ≡ net_seen other.now }
+    ensures other { result ≡ false → net_seen one.now ≡ net_seen other.now → ⊥ }
 {
     are_same_actors(one.actors(), other.actors())
         && are_same_edges(one.edges(), other.edges())
@@ -107,8 +107,8 @@ fn copy_of(alloc: Global, plan: &Plan) -> Result<Plan, Memory>
 impl KnownPlan {
     /// Whether it was made from this net with these counts and steps.
     fn is_of(&self, net: &Net, timing: &Timing) -> bool
-        ensures made { result ≡ true → IsMadeFrom self.now (seen net.now) timing.now.counts.items timing.now.steps }
-        ensures other { result ≡ false → IsMadeFrom self.now (seen net.now) timing.now.counts.items timing.now.steps → ⊥ }
+        ensures made { result ≡ true → IsMadeFrom self.now (net_seen net.now) timing.now.counts.items timing.now.steps }
+        ensures other { result ≡ false → IsMadeFrom self.now (net_seen net.now) timing.now.counts.items timing.now.steps → ⊥ }
     {
         self.timing.steps.period == timing.steps.period
             && are_same_numbers(&self.timing.counts, &timing.counts)
@@ -131,9 +131,9 @@ fn found_in(
     net: &Net,
     timing: &Timing,
 ) -> Result<Option<Plan>, Memory>
-    ensures plan { IfOk result (λ found. IfSome found (IsPlanOf (seen net.now) timing.now.counts.items timing.now.steps)) }
-    ensures known { IfOk result (λ found. IfSome found (λ _. IsKnown plans.now (seen net.now) timing.now.counts.items timing.now.steps)) }
-    ensures none { result ≡ Ok None → IsKnown plans.now (seen net.now) timing.now.counts.items timing.now.steps → ⊥ }
+    ensures plan { IfOk result (λ found. IfSome found (IsPlanOf (net_seen net.now) timing.now.counts.items timing.now.steps)) }
+    ensures known { IfOk result (λ found. IfSome found (λ _. IsKnown plans.now (net_seen net.now) timing.now.counts.items timing.now.steps)) }
+    ensures none { result ≡ Ok None → IsKnown plans.now (net_seen net.now) timing.now.counts.items timing.now.steps → ⊥ }
 {
     for i in 0..plans.len() {
         let known = &plans[i];
@@ -211,8 +211,8 @@ impl KnownPlans {
 
     /// Keeps a plan that was made, if it is short enough.
     fn keep(&mut self, alloc: Global, net: Net, timing: Timing, plan: &Plan) -> Result<(), Memory>
-        requires { IsPlanOf (seen net) timing.counts.items timing.steps plan.now }
-        ensures kept { OnOk result (HasKept (seen net) timing.counts.items timing.steps plan.now self.old self.new) }
+        requires { IsPlanOf (net_seen net) timing.counts.items timing.steps plan.now }
+        ensures kept { OnOk result (HasKept (net_seen net) timing.counts.items timing.steps plan.now self.old self.new) }
         ensures made { OnOk result (self.new.made ≡ min (self.old.made + 1) (2 ^ 64 - 1)) }
         ensures most { self.new.most ≡ self.old.most }
     {
@@ -248,9 +248,9 @@ impl KnownPlans {
         requires in_range { AreInRange tables.now }
         requires actors { length timing.counts.items ≡ vec_len net.actors }
         requires paced { IsPaced net.edges.items timing.counts.items timing.steps.actor_steps.items }
-        ensures plan { IfOk result (IsPlanOf (seen net) timing.counts.items timing.steps) }
-        ensures refused { IfErr result (IsRefusal (IsPlanFault tables.now (seen net) table.now timing.counts.items timing.steps)) }
-        ensures kept { IfOk result (λ plan. HasKept (seen net) timing.counts.items timing.steps plan self.old self.new) }
+        ensures plan { IfOk result (IsPlanOf (net_seen net) timing.counts.items timing.steps) }
+        ensures refused { IfErr result (IsRefusal (IsPlanFault tables.now (net_seen net) table.now timing.counts.items timing.steps)) }
+        ensures kept { IfOk result (λ plan. HasKept (net_seen net) timing.counts.items timing.steps plan self.old self.new) }
         ensures made { OnOk result (self.new.made ≡ min (self.old.made + 1) (2 ^ 64 - 1)) }
         ensures most { self.new.most ≡ self.old.most }
         ensures unplanned { (fault : FaultOf) → result ≡ Err (Refused fault) → self.new ≡ self.old }
@@ -287,15 +287,15 @@ impl KnownPlans {
         requires actors { length timing.counts.items ≡ vec_len net.actors }
         requires paced { IsPaced net.edges.items timing.counts.items
             timing.steps.actor_steps.items }
-        ensures plan { IfOk result (IsPlanOf (seen net) timing.counts.items timing.steps) }
-        ensures refused { IfErr result (IsRefusal (IsPlanFault tables.now (seen net) table.now
+        ensures plan { IfOk result (IsPlanOf (net_seen net) timing.counts.items timing.steps) }
+        ensures refused { IfErr result (IsRefusal (IsPlanFault tables.now (net_seen net) table.now
             timing.counts.items timing.steps)) }
-        ensures known { IsKnown self.old.plans (seen net) timing.counts.items timing.steps
+        ensures known { IsKnown self.old.plans (net_seen net) timing.counts.items timing.steps
             → self.new ≡ self.old }
-        ensures kept { (IsKnown self.old.plans (seen net) timing.counts.items timing.steps → ⊥)
-            → IfOk result (λ plan. HasKept (seen net) timing.counts.items timing.steps plan
+        ensures kept { (IsKnown self.old.plans (net_seen net) timing.counts.items timing.steps → ⊥)
+            → IfOk result (λ plan. HasKept (net_seen net) timing.counts.items timing.steps plan
             self.old self.new) }
-        ensures made { (IsKnown self.old.plans (seen net) timing.counts.items timing.steps → ⊥)
+        ensures made { (IsKnown self.old.plans (net_seen net) timing.counts.items timing.steps → ⊥)
             → OnOk result (self.new.made ≡ min (self.old.made + 1) (2 ^ 64 - 1)) }
         ensures most { self.new.most ≡ self.old.most }
         ensures unplanned { (fault : FaultOf) → result ≡ Err (Refused fault)

@@ -3,7 +3,7 @@
 ghost use Rattle.std.specs.Prelude.{◌≡◌, All, Contains, IfOk, IfErr, length, vec_len};
 ghost use Rattle.tdf_bind_tables.specs.Ranges.{AreInRange};
 ghost use Rattle.tdf_dynamic_plans.specs.Faults.{HasTiming, IsPlanFault, IsPlanOf, IsRefusal};
-ghost use Rattle.tdf_dynamic_plans.specs.Rates.{seen};
+ghost use Rattle.tdf_dynamic_plans.specs.Rates.{net_seen};
 ghost use Rattle.tdf_schedule.specs.Plan.{IsPaced};
 
 use crate::attrs::ModuleAttrs;
@@ -30,9 +30,9 @@ pub(crate) fn plan_of(
     requires actors { length timing.now.counts.items ≡ vec_len net.now.actors }
     requires paced { IsPaced net.now.edges.items timing.now.counts.items
         timing.now.steps.actor_steps.items }
-    ensures plan { IfOk result (IsPlanOf (seen net.now) timing.now.counts.items
+    ensures plan { IfOk result (IsPlanOf (net_seen net.now) timing.now.counts.items
         timing.now.steps) }
-    ensures refused { IfErr result (IsRefusal (IsPlanFault tables.now (seen net.now) table.now
+    ensures refused { IfErr result (IsRefusal (IsPlanFault tables.now (net_seen net.now) table.now
         timing.now.counts.items timing.now.steps)) }
 {
     match plan(alloc, net, &timing.counts, &timing.steps) {

@@ -3,7 +3,7 @@
 ghost use Rattle.std.specs.Prelude.{◌≡◌, All, Contains, IfOk, IfErr, vec_len};
 ghost use Rattle.tdf_dynamic_plans.specs.Attributes.{clusters_of, IsOfCluster};
 ghost use Rattle.tdf_dynamic_plans.specs.Faults.{IsNetFault, IsNetPlan, IsTableFault, IsTablePlan, IsRefusal};
-ghost use Rattle.tdf_dynamic_plans.specs.Rates.{seen, net_ports, AreRates, IsWired};
+ghost use Rattle.tdf_dynamic_plans.specs.Rates.{net_seen, net_ports, AreRates, IsWired};
 ghost use Rattle.tdf_graph.specs.Clusters.{AreClusters};
 
 use crate::attrs::ModuleAttrs;
@@ -47,8 +47,8 @@ fn net_plan(
     requires has { Contains clusters.now cluster }
     requires ports { net.ports.items ≡ net_ports tables.now table.now }
     requires table { All (IsOfCluster tables.now cluster) table.now }
-    ensures plan { IfOk result (IsNetPlan tables.now (seen net) cluster table.now) }
-    ensures refused { IfErr result (IsRefusal (IsNetFault tables.now (seen net) cluster table.now)) }
+    ensures plan { IfOk result (IsNetPlan tables.now (net_seen net) cluster table.now) }
+    ensures refused { IfErr result (IsRefusal (IsNetFault tables.now (net_seen net) cluster table.now)) }
 {
     match steps_of(alloc, tables, &net, clusters, cluster, table) {
         Ok(timing) => known.plan_of(alloc, tables, net, table, timing),

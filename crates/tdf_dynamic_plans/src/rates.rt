@@ -3,9 +3,9 @@
 ghost use Rattle.std.specs.Prelude.{◌≡◌, ◌<◌, ◌≤◌, ◌*◌, All, IfOk, Some, length, map, slice_get, slice_index};
 ghost use Rattle.tdf_base.specs.Limits.{greatest_delay};
 ghost use Rattle.tdf_bind_tables.specs.Ranges.{AreInRange};
-ghost use Rattle.tdf_dynamic_plans.specs.Rates.{times_value, port_rate, edge_kind, write_rate_by, read_rate_by, rated_edge, rated_port, net_ports, net_of, seen, AreRates};
+ghost use Rattle.tdf_dynamic_plans.specs.Rates.{times_value, port_rate, edge_kind, write_rate_by, read_rate_by, rated_edge, rated_port, net_ports, net_of, net_seen, AreRates};
 ghost use Rattle.tdf_graph.specs.Ranges.{IsRate};
-ghost use Rattle.tdf_timestep.specs.Period.{rate_of};
+ghost use Rattle.tdf_timestep.specs.Period.{rate_at_port};
 ghost use Rattle.tdf_bind_connections.specs.declared.modules.PortRow.{PortRow as PortRowOf};
 
 use crate::attrs::{Attrs, ModuleAttrs};
@@ -76,7 +76,7 @@ fn net_ports(alloc: Global, tables: &FlatTables, table: &[ModuleAttrs]) -> Resul
 
 /// The rate of a port that is told by its number, 1 where none is told.
 fn rate_of(ports: &[Port], number: Option<u32>) -> u32
-    ensures { result ≡ rate_of ports.now number }
+    ensures { result ≡ rate_at_port ports.now number }
 {
     match number {
         None => 1,
@@ -85,7 +85,7 @@ fn rate_of(ports: &[Port], number: Option<u32>) -> u32
 }
 
 fn rate_at(ports: &[Port], place: usize) -> u32
-    ensures { result ≡ rate_of ports.now (Some place) }
+    ensures { result ≡ rate_at_port ports.now (Some place) }
 {
     if place < ports.len() {
         return ports[place].rate;
@@ -173,7 +173,7 @@ pub fn net_of(alloc: Global, tables: &FlatTables, table: &[ModuleAttrs]) -> Resu
     requires modules { length tables.now.modules ≤ length tables.now.actors }
     requires delays { All (λ edge. edge.initial ≤ 2 * greatest_delay) tables.now.edges }
     requires rates { AreRates tables.now table.now }
-    ensures net { IfOk result (λ net. seen net ≡ net_of tables.now table.now) }
+    ensures net { IfOk result (λ net. net_seen net ≡ net_of tables.now table.now) }
 {
     let ports = net_ports(alloc, tables, table)?;
     let edges = net_edges(alloc, tables, &ports)?;

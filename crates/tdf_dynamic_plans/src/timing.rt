@@ -5,7 +5,7 @@ ghost use Rattle.tdf_base.specs.Limits.{most_firings};
 ghost use Rattle.tdf_dynamic_plans.specs.Assignments.{assignments};
 ghost use Rattle.tdf_dynamic_plans.specs.Attributes.{clusters_of, IsOfCluster};
 ghost use Rattle.tdf_dynamic_plans.specs.Faults.{HasCountsOf, IsCountsFault, HasStepsOf, IsPeriodFault, HasTiming, IsStepsFault, IsRefusal};
-ghost use Rattle.tdf_dynamic_plans.specs.Rates.{seen, net_ports};
+ghost use Rattle.tdf_dynamic_plans.specs.Rates.{net_seen, net_ports};
 ghost use Rattle.tdf_bind_tables.specs.Ranges.{AreInRange};
 ghost use Rattle.tdf_graph.specs.Clusters.{AreClusters};
 ghost use Rattle.tdf_timestep.specs.Period.{IsAssigned};
@@ -43,8 +43,8 @@ fn counts_or(
     requires own { clusters.now ≡ clusters_of tables.now }
     requires clusters { AreClusters (vec_len net.now.actors) net.now.edges.items clusters.now }
     requires has { Contains clusters.now cluster }
-    ensures counts { IfOk result (λ counts. HasCountsOf tables.now (seen net.now) cluster counts.items) }
-    ensures refused { IfErr result (IsRefusal (IsCountsFault tables.now (seen net.now) cluster table.now)) }
+    ensures counts { IfOk result (λ counts. HasCountsOf tables.now (net_seen net.now) cluster counts.items) }
+    ensures refused { IfErr result (IsRefusal (IsCountsFault tables.now (net_seen net.now) cluster table.now)) }
 {
     match counts(alloc, net, clusters, cluster) {
         Ok(counts) => Ok(counts),
@@ -65,8 +65,8 @@ fn steps_by(
     requires long { length counts.now ≡ vec_len net.now.actors }
     requires few { All (λ q. q ≤ most_firings) counts.now }
     requires assigned { All (IsAssigned net.now.ports.items counts.now) assigned.now }
-    ensures steps { IfOk result (HasStepsOf (seen net.now) table.now counts.now) }
-    ensures refused { IfErr result (IsRefusal (IsPeriodFault tables.now (seen net.now) table.now counts.now)) }
+    ensures steps { IfOk result (HasStepsOf (net_seen net.now) table.now counts.now) }
+    ensures refused { IfErr result (IsRefusal (IsPeriodFault tables.now (net_seen net.now) table.now counts.now)) }
 {
     row_number(assigned.len())?;
     match steps(alloc, net, counts, assigned) {
@@ -86,8 +86,8 @@ fn steps_or(
     requires long { length counts.now ≡ vec_len net.now.actors }
     requires few { All (λ q. q ≤ most_firings) counts.now }
     requires assigned { All (IsAssigned net.now.ports.items counts.now) (assignments table.now) }
-    ensures steps { IfOk result (HasStepsOf (seen net.now) table.now counts.now) }
-    ensures refused { IfErr result (IsRefusal (IsPeriodFault tables.now (seen net.now) table.now counts.now)) }
+    ensures steps { IfOk result (HasStepsOf (net_seen net.now) table.now counts.now) }
+    ensures refused { IfErr result (IsRefusal (IsPeriodFault tables.now (net_seen net.now) table.now counts.now)) }
 {
     let assigned = assignments(alloc, table)?;
     let found = steps_by(alloc, tables, net, counts, table, &assigned);
@@ -115,9 +115,9 @@ pub fn steps_of(
     requires ports { net.now.ports.items ≡ net_ports tables.now table.now }
     requires table { All (IsOfCluster tables.now cluster) table.now }
     requires modules { length tables.now.modules ≤ length tables.now.actors }
-    ensures timing { IfOk result (λ t. HasTiming tables.now (seen net.now) cluster table.now
+    ensures timing { IfOk result (λ t. HasTiming tables.now (net_seen net.now) cluster table.now
         t.counts.items t.steps) }
-    ensures refused { IfErr result (IsRefusal (IsStepsFault tables.now (seen net.now) cluster
+    ensures refused { IfErr result (IsRefusal (IsStepsFault tables.now (net_seen net.now) cluster
         table.now)) }
 {
     let counts = match counts_or(alloc, tables, net, clusters, cluster, table) {

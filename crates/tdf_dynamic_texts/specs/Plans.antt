@@ -46,8 +46,8 @@ pub record PlanRows : Type 0 where
   pub bounds : List ℕ
   pub period : ℕ
 
-abbrev pub rows_of : Plan → PlanRows
-rows_of plan = record {
+abbrev pub rows_of_plan : Plan → PlanRows
+rows_of_plan plan = record {
   entries = plan.entries.items;
   bounds = plan.bounds.items;
   period = plan.period;
@@ -69,15 +69,15 @@ actor_text unit flat plan cluster actor =
     else []
 
 -- the line of an edge, if its writer is one of the cluster
-abbrev pub row_text : FlatTablesOf → PlanRows → (cluster edge : ℕ) → Option EdgeRow → List ℕ
-row_text flat plan cluster edge None = []
-row_text flat plan cluster edge (Some row) =
+abbrev pub edge_row_text : FlatTablesOf → PlanRows → (cluster edge : ℕ) → Option EdgeRow → List ℕ
+edge_row_text flat plan cluster edge None = []
+edge_row_text flat plan cluster edge (Some row) =
     if is_in flat cluster row.writer
     then edge_line (edge_path flat edge) row.initial (slice_index plan.bounds edge)
     else []
 
 abbrev pub edge_text : FlatTablesOf → PlanRows → (cluster edge : ℕ) → List ℕ
-edge_text flat plan cluster edge = row_text flat plan cluster edge (slice_get flat.edges edge)
+edge_text flat plan cluster edge = edge_row_text flat plan cluster edge (slice_get flat.edges edge)
 
 -- the plan of a cluster from a time on
 unfoldable pub plan_text : Resolution → FlatTablesOf → (cluster time : ℕ) → PlanRows → List ℕ

@@ -3,7 +3,7 @@
 ghost use Rattle.std.specs.List.{flat_map, range_with_len};
 ghost use Rattle.std.specs.Prelude.{◌≡◌, ◌<◌, ◌++◌, ◌/◌, All, OnOk, length};
 ghost use Rattle.tdf_bind_tables.specs.Ranges.{AreInRange};
-ghost use Rattle.tdf_dynamic_texts.specs.Plans.{accepted_line, actor_line, actor_text, cluster_line, edge_line, edge_text, fire_line, fires_text, plan_text, rows_of};
+ghost use Rattle.tdf_dynamic_texts.specs.Plans.{accepted_line, actor_line, actor_text, cluster_line, edge_line, edge_text, fire_line, fires_text, plan_text, rows_of_plan};
 ghost use Rattle.tdf_dynamic_texts.specs.views.Counted.{AreCounted};
 
 use crate::counting::counted;
@@ -117,7 +117,7 @@ fn push_actor(
     requires place { place < length flat.now.actors }
     requires counts { AreCounted (length flat.now.actors) plan.now.entries.items counts.now }
     ensures { OnOk result (out.new.items
-        ≡ out.old.items ++ actor_text unit flat.now (rows_of plan.now) cluster place) }
+        ≡ out.old.items ++ actor_text unit flat.now (rows_of_plan plan.now) cluster place) }
 {
     if flat.actors[place].cluster != cluster {
         return Ok(());
@@ -138,7 +138,7 @@ fn push_edge(
     requires range { AreInRange flat.now }
     requires place { place < length flat.now.edges }
     requires bounds { length plan.now.bounds.items ≡ length flat.now.edges }
-    ensures { OnOk result (out.new.items ≡ out.old.items ++ edge_text flat.now (rows_of plan.now) cluster place) }
+    ensures { OnOk result (out.new.items ≡ out.old.items ++ edge_text flat.now (rows_of_plan plan.now) cluster place) }
 {
     let row = flat.edges[place];
     if flat.actors[row.writer as usize].cluster != cluster {
@@ -160,7 +160,7 @@ fn push_actors(
     requires range { AreInRange flat.now }
     requires counts { AreCounted (length flat.now.actors) plan.now.entries.items counts.now }
     ensures { OnOk result (out.new.items ≡ out.old.items
-        ++ flat_map (actor_text unit flat.now (rows_of plan.now) cluster)
+        ++ flat_map (actor_text unit flat.now (rows_of_plan plan.now) cluster)
         (range_with_len 0 (length flat.now.actors))) }
 {
     for place in 0..flat.actors.len() {
@@ -174,7 +174,7 @@ fn push_edges(out: &mut Vec<u8>, flat: &FlatTables, plan: &Plan, cluster: u32) -
     requires range { AreInRange flat.now }
     requires bounds { length plan.now.bounds.items ≡ length flat.now.edges }
     ensures { OnOk result (out.new.items ≡ out.old.items
-        ++ flat_map (edge_text flat.now (rows_of plan.now) cluster)
+        ++ flat_map (edge_text flat.now (rows_of_plan plan.now) cluster)
         (range_with_len 0 (length flat.now.edges))) }
 {
     for place in 0..flat.edges.len() {
@@ -200,7 +200,7 @@ pub fn push_plan(
     requires range { AreInRange flat.now }
     requires bounds { length plan.now.bounds.items ≡ length flat.now.edges }
     ensures { OnOk result (out.new.items
-        ≡ out.old.items ++ plan_text unit flat.now cluster time (rows_of plan.now)) }
+        ≡ out.old.items ++ plan_text unit flat.now cluster time (rows_of_plan plan.now)) }
 {
     let alloc = *out.allocator();
     let counts = counted(alloc, flat.actors.len(), &plan.entries)?;
@@ -223,7 +223,7 @@ pub fn push_fires(
     requires range { AreInRange flat.now }
     requires actors { All (λ entry. entry.actor < length flat.now.actors) plan.now.entries.items }
     ensures { OnOk result (out.new.items
-        ≡ out.old.items ++ fires_text unit flat.now (rows_of plan.now)) }
+        ≡ out.old.items ++ fires_text unit flat.now (rows_of_plan plan.now)) }
 {
     for place in 0..plan.entries.len() {
         let entry = plan.entries[place];

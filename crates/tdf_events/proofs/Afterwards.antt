@@ -5,13 +5,13 @@ use Rattle.std.proofs.lemmas.Bool.Decides.{eqb_tells}
 use Rattle.std.proofs.lemmas.Option.{same_Some}
 use Rattle.tdf_events_queue.specs.Evaluation.{evaluated}
 use Rattle.tdf_events_queue.specs.Sets.{count_on, is_on}
-use Rattle.tdf_events_queue.specs.Times.{earliest, time_of}
+use Rattle.tdf_events_queue.specs.Times.{earliest, pending_time}
 use Rattle.tdf_convert.specs.declared.writes.SignalWrite.{SignalWrite}
 use Rattle.tdf_events.proofs.Dues.{some_none}
-use Rattle.tdf_events.specs.Delta.{IsNoneBefore, after_evaluation, begun, event_part, is_due, is_idle, settled_by, stepped, turns_of, waiting_with}
+use Rattle.tdf_events.specs.Delta.{IsNoneBefore, after_evaluation, begun, event_part, is_due, is_idle, settled_by, delta_stepped, turns_of, waiting_with}
 use Rattle.tdf_events.specs.Laws.{EndsIdle, HasNothingWaiting, NextIsLater, NoneAtStart, NoneBeforeNext, NonePendingNoneBefore, NoneStaysBefore, NoneWithoutNext, NothingStaysWaiting, OnlyLaterStay, TurnsNeverGrow}
-use Rattle.tdf_events.specs.Notices.{NoticesOf, noticed, noticed_first, time_after}
-use Rattle.tdf_events.specs.Processes.{events_of, owner_of, process_done, frame_at, ran, run_of}
+use Rattle.tdf_events.specs.Notices.{NoticesOf, event_noticed, noticed_first, time_after}
+use Rattle.tdf_events.specs.Processes.{owned_events, owner_of, process_done, frame_at, ran, run_of}
 use Rattle.tdf_events.specs.Side.{SideOf}
 use Rattle.tdf_fixed.specs.declared.raw.Raw.{Raw}
 use Rattle.tdf_bind.specs.declared.model.Flat.{Flat}
@@ -20,18 +20,18 @@ use Rattle.tdf_lang_tree.specs.Pure.{PureTree}
 use Rattle.tdf_bind_connections.specs.ProcessBlocks.{BlockRowOf, ProcessRowOf}
 
 -- delta steps: what a step keeps holds of where they end
-module _ (model : PureTree) (flat : Flat) (time : ℕ) (P : SideOf → Type 0) (keep : (s : SideOf) → P s → P (stepped model flat time s)) where
+module _ (model : PureTree) (flat : Flat) (time : ℕ) (P : SideOf → Type 0) (keep : (s : SideOf) → P s → P (delta_stepped model flat time s)) where
   keep_one : (t i : Bool) (next after : SideOf) (over rest : ℕ) (more : Option (SideOf × ℕ)) → P next → (more ≡ Some (after, rest) → P after)
       → (if t then None else if i then Some (next, over) else more) ≡ Some (after, rest) → P after
   keep_one true i next after over rest more p later is = absurd cc
   keep_one false true next after over rest more p later is = subst P (ap (λ (x : SideOf × ℕ). x.0) (same_Some (next, over) (after, rest) is)) p
   keep_one false false next after over rest more p later is = later is
 
-  settles_with : (fuel : ℕ) (s after : SideOf) (left rest : ℕ) → P (stepped model flat time s) → settled_by fuel model flat time s left ≡ Some (after, rest) → P after
+  settles_with : (fuel : ℕ) (s after : SideOf) (left rest : ℕ) → P (delta_stepped model flat time s) → settled_by fuel model flat time s left ≡ Some (after, rest) → P after
   unfolding settled_by
   settles_with zero s after left rest p is = absurd cc
-  settles_with (suc fuel) s after left rest p is = keep_one (nat_lt left (turns_of s)) (is_idle (stepped model flat time s)) (stepped model flat time s) after (left - turns_of s) rest
-      (settled_by fuel model flat time (stepped model flat time s) (left - turns_of s)) p (λ h. settles_with fuel (stepped model flat time s) after (left - turns_of s) rest (keep (stepped model flat time s) p) h) is
+  settles_with (suc fuel) s after left rest p is = keep_one (nat_lt left (turns_of s)) (is_idle (delta_stepped model flat time s)) (delta_stepped model flat time s) after (left - turns_of s) rest
+      (settled_by fuel model flat time (delta_stepped model flat time s) (left - turns_of s)) p (λ h. settles_with fuel (delta_stepped model flat time s) after (left - turns_of s) rest (keep (delta_stepped model flat time s) p) h) is
 
 -- they end with no process triggered, and with no more turns
 abbrev Ends : SideOf → (left rest : ℕ) → Type 0
@@ -47,8 +47,8 @@ ends_one false false next after left over rest more idle low later is = let e = 
 settles_ends : (model : PureTree) (flat : Flat) (time fuel : ℕ) (s after : SideOf) (left rest : ℕ) → settled_by fuel model flat time s left ≡ Some (after, rest) → Ends after left rest
 unfolding settled_by
 settles_ends model flat time zero s after left rest is = absurd cc
-settles_ends model flat time (suc fuel) s after left rest is = ends_one (nat_lt left (turns_of s)) (is_idle (stepped model flat time s)) (stepped model flat time s) after left (left - turns_of s) rest
-    (settled_by fuel model flat time (stepped model flat time s) (left - turns_of s)) refl (omega arith) (λ h. settles_ends model flat time fuel (stepped model flat time s) after (left - turns_of s) rest h) is
+settles_ends model flat time (suc fuel) s after left rest is = ends_one (nat_lt left (turns_of s)) (is_idle (delta_stepped model flat time s)) (delta_stepped model flat time s) after left (left - turns_of s) rest
+    (settled_by fuel model flat time (delta_stepped model flat time s) (left - turns_of s)) refl (omega arith) (λ h. settles_ends model flat time fuel (delta_stepped model flat time s) after (left - turns_of s) rest h) is
 
 -- an event part ends at once, where nothing was written and no process is triggered, or after delta steps
 part_ends : (a b : Bool) (first after : SideOf) (left rest : ℕ) (more : Option (SideOf × ℕ)) → is_idle first ≡ b → (more ≡ Some (after, rest) → Ends after left rest)
@@ -75,8 +75,8 @@ part_keeps P true true first after left rest more p later is = subst P (ap (λ (
 part_keeps P true false first after left rest more p later is = later is
 part_keeps P false b first after left rest more p later is = later is
 
-instant_keeps : (P : SideOf → Type 0) (model : PureTree) (flat : Flat) (time left rest : ℕ) (writes : List SignalWrite) (s after : SideOf) → ((s : SideOf) → P s → P (stepped model flat time s))
-    → (nat_eq (length writes) 0 ≡ true → P (begun flat time writes s)) → P (stepped model flat time (begun flat time writes s))
+instant_keeps : (P : SideOf → Type 0) (model : PureTree) (flat : Flat) (time left rest : ℕ) (writes : List SignalWrite) (s after : SideOf) → ((s : SideOf) → P s → P (delta_stepped model flat time s))
+    → (nat_eq (length writes) 0 ≡ true → P (begun flat time writes s)) → P (delta_stepped model flat time (begun flat time writes s))
     → event_part model flat time writes s left ≡ Some (after, rest) → P after
 instant_keeps P model flat time left rest writes s after keep first next is = part_keeps P (nat_eq (length writes) 0) (is_idle (begun flat time writes s)) (begun flat time writes s) after left rest
     (settled_by (left + 1) model flat time (begun flat time writes s) left) first (λ h. settles_with model flat time P keep (left + 1) (begun flat time writes s) after left rest next h) is
@@ -95,8 +95,8 @@ none_on [] e = refl
 none_on (x ∷ xs) zero = refl
 none_on (x ∷ xs) (suc e) = none_on xs e
 
-step_empties : (model : PureTree) (flat : Flat) (time : ℕ) (s : SideOf) → HasNothingWaiting (stepped model flat time s)
-unfolding stepped
+step_empties : (model : PureTree) (flat : Flat) (time : ℕ) (s : SideOf) → HasNothingWaiting (delta_stepped model flat time s)
+unfolding delta_stepped
 step_empties model flat time s = record {
   values = none_waits (after_evaluation model flat time s).waiting;
   delta = none_on (after_evaluation model flat time s).notices.delta;
@@ -112,7 +112,7 @@ nothing_stays_waiting model flat time left rest writes s after none is = instant
     (λ no. begun_empty flat time writes s none no) (step_empties model flat time (begun flat time writes s)) is
 
 -- a time that is set is the new one, or was there
-time_set : (times : List (Option ℕ)) (event : ℕ) (o : Option ℕ) (e t : ℕ) → time_of (slice_set times event o) e ≡ Some t → (o ≡ Some t) ⊎ (time_of times e ≡ Some t)
+time_set : (times : List (Option ℕ)) (event : ℕ) (o : Option ℕ) (e t : ℕ) → pending_time (slice_set times event o) e ≡ Some t → (o ≡ Some t) ⊎ (pending_time times e ≡ Some t)
 time_set [] event o e t is = inr is
 time_set (x ∷ xs) zero o zero t is = inl is
 time_set (x ∷ xs) zero o (suc e) t is = inr is
@@ -129,16 +129,16 @@ module _ (bound time : ℕ) (low : bound ≤ time + 1) (inside : bound < 2 ^ 64)
   earliest_late None new t was late is = subst (λ (x : ℕ). bound ≤ x) (same_Some new t is) late
   earliest_late (Some old) new t was late is = let a : bound ≤ old = was old refl in let b : bound ≤ min old new = omega (arith, a, late) in subst (λ (x : ℕ). bound ≤ x) (same_Some (min old new) t is) b
 
-  noticed_before : (event : ℕ) (o : Option ℕ) (n : NoticesOf) → IsNoneBefore bound n.times → IsNoneBefore bound (noticed time event o n).times
+  noticed_before : (event : ℕ) (o : Option ℕ) (n : NoticesOf) → IsNoneBefore bound n.times → IsNoneBefore bound (event_noticed time event o n).times
   noticed_before event None n before = before
   noticed_before event (Some after) n before = choose (is_on n.delta event) (nat_eq after 0) (elim (eqb_tells after 0) [ inl y ↦ (λ no. absurd cc) | inr x ↦ (λ no. let p = x.1 in omega (arith, low, inside, p)) ])
     where
       choose : (b c : Bool) → (c ≡ false → bound ≤ time_after time after) → IsNoneBefore bound (if b then n else if c then record { times = slice_set n.times event None; delta = slice_set n.delta event true }
-          else record { times = slice_set n.times event (Some (earliest (time_of n.times event) (time_after time after))); delta = n.delta }).times
+          else record { times = slice_set n.times event (Some (earliest (pending_time n.times event) (time_after time after))); delta = n.delta }).times
       choose true c late = before
       choose false true late = set_before bound n.times event None before (λ t h. absurd cc)
-      choose false false late = set_before bound n.times event (Some (earliest (time_of n.times event) (time_after time after))) before
-          (λ t h. earliest_late (time_of n.times event) (time_after time after) t (before.none event) (late refl) h)
+      choose false false late = set_before bound n.times event (Some (earliest (pending_time n.times event) (time_after time after))) before
+          (λ t h. earliest_late (pending_time n.times event) (time_after time after) t (before.none event) (late refl) h)
 
   all_noticed_before : (events : List ℕ) (asked : List (Option ℕ)) (i : ℕ) (n : NoticesOf) → IsNoneBefore bound n.times → IsNoneBefore bound (noticed_first time events asked i n).times
   unfolding noticed_first
@@ -146,8 +146,8 @@ module _ (bound time : ℕ) (low : bound ≤ time + 1) (inside : bound < 2 ^ 64)
   all_noticed_before events asked (suc i) n before = noticed_before (slice_index events i) (standing (slice_get asked i)) (noticed_first time events asked i n) (all_noticed_before events asked i n before)
 
   run_before : (model : PureTree) (flat : Flat) (p : Option ProcessRowOf) (r : Option BlockRowOf) (s : SideOf) → IsNoneBefore bound s.notices.times → IsNoneBefore bound (run_of model flat time p r s).notices.times
-  run_before model flat (Some process) (Some row) s before = all_noticed_before (events_of flat process.owner)
-      (process_done model flat process row s.values (frame_at s.frames process.owner)).ports.notified (length (events_of flat process.owner)) s.notices before
+  run_before model flat (Some process) (Some row) s before = all_noticed_before (owned_events flat process.owner)
+      (process_done model flat process row s.values (frame_at s.frames process.owner)).ports.notified (length (owned_events flat process.owner)) s.notices before
   run_before model flat (Some process) None s before = before
   run_before model flat None r s before = before
 
@@ -164,8 +164,8 @@ module _ (bound time : ℕ) (low : bound ≤ time + 1) (inside : bound < 2 ^ 64)
       choose was true = ran_before model flat n (evaluated (ran model flat time) flags n s) was
       choose was false = was
 
-  stepped_before : (model : PureTree) (flat : Flat) (s : SideOf) → IsNoneBefore bound s.notices.times → IsNoneBefore bound (stepped model flat time s).notices.times
-  unfolding stepped
+  stepped_before : (model : PureTree) (flat : Flat) (s : SideOf) → IsNoneBefore bound s.notices.times → IsNoneBefore bound (delta_stepped model flat time s).notices.times
+  unfolding delta_stepped
   stepped_before model flat s before = record { none = (evaluated_before model flat s.triggered (length s.triggered) s before).none }
 
   instant_before : (model : PureTree) (flat : Flat) (left rest : ℕ) (writes : List SignalWrite) (s after : SideOf) → IsNoneBefore bound (begun flat time writes s).notices.times
@@ -174,7 +174,7 @@ module _ (bound time : ℕ) (low : bound ≤ time + 1) (inside : bound < 2 ^ 64)
       (λ no. before) (stepped_before model flat (begun flat time writes s) before) is
 
 -- those that come at a time are gone
-left_later : (time : ℕ) (times : List (Option ℕ)) (e t : ℕ) → time_of (map (λ pending. if is_due time pending then None else pending) times) e ≡ Some t → (time_of times e ≡ Some t) × (is_due time (Some t) ≡ false)
+left_later : (time : ℕ) (times : List (Option ℕ)) (e t : ℕ) → pending_time (map (λ pending. if is_due time pending then None else pending) times) e ≡ Some t → (pending_time times e ≡ Some t) × (is_due time (Some t) ≡ false)
 left_later time [] e t is = absurd cc
 left_later time (None ∷ xs) zero t is = absurd cc
 left_later time (Some x ∷ xs) zero t is = one (nat_eq x time) refl is
@@ -205,7 +205,7 @@ none_on_of : (s : SideOf) → is_idle s ≡ true → count_on s.triggered ≡ 0
 none_on_of s idle = elim (eqb_tells (count_on s.triggered) 0) [ inl y ↦ y.1 | inr n ↦ absurd (true≢false (sym idle ∙ n.0)) ]
 
 pub none_pending_before : NonePendingNoneBefore
-none_pending_before times time none = record { none = λ e t is. absurd (some_none (time_of times e) t (none.none e) is) }
+none_pending_before times time none = record { none = λ e t is. absurd (some_none (pending_time times e) t (none.none e) is) }
 
 pub none_before_next : NoneBeforeNext
 none_before_next s time next idle is low = elim is [

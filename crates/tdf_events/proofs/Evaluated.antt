@@ -11,7 +11,7 @@ use Rattle.tdf_events.proofs.Reading.{has_at}
 use Rattle.tdf_events.proofs.Writing.{written_same}
 use Rattle.tdf_events.specs.Kernel.{IsKernelOf, KernelOf, side_of}
 use Rattle.tdf_events.specs.Notices.{NoticesOf, noticed_first}
-use Rattle.tdf_events.specs.Processes.{after_process, events_of, frame_at, owned_from, ports_before, process_done, ran, run_of, owner_of, side_after, value_of_port, written, written_first}
+use Rattle.tdf_events.specs.Processes.{after_process, owned_events, frame_at, owned_from, process_ports_before, process_done, ran, run_of, owner_of, side_after, value_of_port, written, written_first}
 use Rattle.tdf_events.specs.Runnable.{ArePortsOf, AreOfSignals, IsRunnable, signal_formats}
 use Rattle.tdf_events.specs.Side.{SideOf, value_at}
 use Rattle.tdf_events.specs.machine.Reading.{CanRead}
@@ -21,7 +21,7 @@ use Rattle.tdf_expr.specs.Checked.{IsCheckedOf}
 use Rattle.tdf_expr.specs.Compiled.{AreBlocksOf}
 use Rattle.tdf_expr.specs.Frames.{ArePortsFit, FrameSeen, IsOfFormat, PortsSeen, sample_formats}
 use Rattle.tdf_expr.specs.Made.{AreMadeFor, event_count, port_spans_of}
-use Rattle.tdf_expr.specs.Plans.{shape_of_format, written as shape_written}
+use Rattle.tdf_expr.specs.Plans.{shape_of_format, shape_written as shape_written}
 use Rattle.tdf_expr.specs.declared.blocks.Block.{Block}
 use Rattle.tdf_expr.specs.declared.spans.PortSpan.{PortSpan}
 use Rattle.tdf_fixed.specs.declared.format.Format.{Format}
@@ -88,7 +88,7 @@ can_run flat k owner row can kernel at = record {
     inside : owner < length flat.tables.blocks
     inside = slice_get_within flat.tables.blocks owner row at
 
-    own : list_at k.own_events owner ≡ events_of flat owner
+    own : list_at k.own_events owner ≡ owned_events flat owner
     own = kernel.own owner inside
 
 -- the number of events and of signals stays
@@ -151,7 +151,7 @@ module _ (flat : Flat) (time owner number : ℕ) (row : BlockRowOf) (old new : K
   left : PortsSeen
   left = run.acted.left
 
-  own_is : list_at old.own_events owner ≡ events_of flat owner
+  own_is : list_at old.own_events owner ≡ owned_events flat owner
   own_is = kernel.own owner (slice_get_within flat.tables.blocks owner row at)
 
   middle_is : run.middle ≡ record old { frames = slice_set old.frames owner run.acted.after; ports = slice_set old.ports owner run.acted.left }
@@ -217,7 +217,7 @@ module _ (flat : Flat) (time owner number : ℕ) (row : BlockRowOf) (old new : K
     here = block_at row.block (blocks_of model.globals) flat.checked.blocks.items checked (can.instances owner row at).block
 
     unfoldable before : State
-    before = state_of run.acted.before.state (ports_before old.values row.signals (port_spans_of flat.checked row.block) (event_count flat.checked row.block))
+    before = state_of run.acted.before.state (process_ports_before old.values row.signals (port_spans_of flat.checked row.block) (event_count flat.checked row.block))
 
     done_is : process_done model flat process row old.values run.acted.before.state ≡ state_of run.acted.after.state run.acted.left.state
     unfolding process_done before here
@@ -234,8 +234,8 @@ module _ (flat : Flat) (time owner number : ℕ) (row : BlockRowOf) (old new : K
     ran_is = ap side_of new_is
         ∙ ap (λ x. with_parts x (noticed_first time (list_at old.own_events owner) run.acted.left.state.notified (length (list_at old.own_events owner)) old.notices) (written_first row.signals run.acted.left.spans run.acted.left.state (length row.signals) old.waiting)) (map-set (λ (f : FrameSeen). f.state) old.frames owner run.acted.after)
         ∙ ap (λ (es : List ℕ). with_parts (slice_set (side_of old).frames owner run.acted.after.state) (noticed_first time es run.acted.left.state.notified (length es) old.notices) (written_first row.signals run.acted.left.spans run.acted.left.state (length row.signals) old.waiting)) own_is
-        ∙ ap (λ (sp : List PortSpan). with_parts (slice_set (side_of old).frames owner run.acted.after.state) (noticed_first time (events_of flat owner) run.acted.left.state.notified (length (events_of flat owner)) old.notices) (written_first row.signals sp run.acted.left.state (length row.signals) old.waiting)) run.acted.made.ports_are
-        ∙ ap (λ (n : ℕ). with_parts (slice_set (side_of old).frames n run.acted.after.state) (noticed_first time (events_of flat n) run.acted.left.state.notified (length (events_of flat n)) old.notices) (written_first row.signals (port_spans_of flat.checked row.block) run.acted.left.state (length row.signals) old.waiting)) (sym own)
+        ∙ ap (λ (sp : List PortSpan). with_parts (slice_set (side_of old).frames owner run.acted.after.state) (noticed_first time (owned_events flat owner) run.acted.left.state.notified (length (owned_events flat owner)) old.notices) (written_first row.signals sp run.acted.left.state (length row.signals) old.waiting)) run.acted.made.ports_are
+        ∙ ap (λ (n : ℕ). with_parts (slice_set (side_of old).frames n run.acted.after.state) (noticed_first time (owned_events flat n) run.acted.left.state.notified (length (owned_events flat n)) old.notices) (written_first row.signals (port_spans_of flat.checked row.block) run.acted.left.state (length row.signals) old.waiting)) (sym own)
         ∙ ap (λ (d : State). side_after flat time process row d (side_of old)) (sym done_is)
         ∙ ap (λ (f : FrameState). side_after flat time process row (process_done model flat process row old.values f) (side_of old)) (sym frame_is)
         ∙ sym (ap (λ (o : Option BlockRowOf). run_of model flat time (Some process) o (side_of old)) (ap (slice_get flat.tables.blocks) own ∙ at))

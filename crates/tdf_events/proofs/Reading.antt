@@ -4,19 +4,19 @@ use Rattle.std.proofs.lemmas.Int.{ints}
 use Rattle.std.proofs.lemmas.Bool.{cases_eq}
 use Rattle.std.proofs.lemmas.List.{ext_get_or, length-append, length-replicate}
 use Rattle.std.proofs.lemmas.Option.{same_Some, slice_get-get_or}
-use Rattle.tdf_events.specs.Processes.{ports_before, sample_before, samples_before}
+use Rattle.tdf_events.specs.Processes.{process_ports_before, sample_before, samples_before}
 use Rattle.tdf_events.specs.machine.Reading.{AreRead, CanRead, with_samples}
 use Rattle.tdf_expr.specs.Frames.{ArePortsFit, PortsSeen, reset_state, sample_formats}
-use Rattle.tdf_expr.specs.Plans.{written}
+use Rattle.tdf_expr.specs.Plans.{shape_written}
 use Rattle.tdf_expr.specs.declared.spans.PortSpan.{PortSpan}
-use Rattle.tdf_fixed.specs.Overflow.{IsIn}
+use Rattle.tdf_fixed.specs.Overflow.{IsOfWidth}
 use Rattle.tdf_fixed.specs.declared.raw.Raw.{Raw}
 use Rattle.tdf_expr_state.specs.State.{PortsState, cell_at}
 
 -- ports with one sample each have as many samples as there are ports
 pub ones_long : (spans : List PortSpan) → ((n : ℕ) (p : PortSpan) → slice_get spans n ≡ Some p → p.count ≡ 1) → length (sample_formats spans) ≡ length spans
 ones_long [] one = refl
-ones_long (p ∷ ps) one = length-append (replicate p.count (written p.format)) (sample_formats ps) ∙ (let a = length-replicate p.count (written p.format) in
+ones_long (p ∷ ps) one = length-append (replicate p.count (shape_written p.format)) (sample_formats ps) ∙ (let a = length-replicate p.count (shape_written p.format) in
     let b = ones_long ps (λ n q at. one (suc n) q at) in let c : p.count ≡ 1 = one 0 p refl in omega (arith, a, b, c))
 
 pub samples_long : (ports : PortsSeen) → ArePortsFit ports → ((n : ℕ) (p : PortSpan) → slice_get ports.spans n ≡ Some p → p.count ≡ 1) → length ports.state.samples ≡ length ports.spans
@@ -76,7 +76,7 @@ abbrev fin : ℕ → List ℤ → ℕ → ℕ → PortsState
 fin events samples ports steps = record { samples = samples; assigned = replicate ports false; notified = replicate events None; steps = replicate steps None; accepts = None; out_of_range = false }
 
 pub prepared : (values : List Raw) (signals : List ℕ) (old mid new : PortsSeen) → CanRead values old.spans signals → ArePortsFit old → mid ≡ record old { state = reset_state old.spans old.state } → ArePortsFit mid
-    → AreRead values signals (length signals) mid new → new.state ≡ ports_before values signals old.spans (length old.state.notified)
+    → AreRead values signals (length signals) mid new → new.state ≡ process_ports_before values signals old.spans (length old.state.notified)
 prepared values signals old mid new can was reset fit done =
     let spans : mid.spans ≡ old.spans = ap (λ (x : PortsSeen). x.spans) reset in
     let samples : new.state.samples ≡ samples_before values signals old.spans = all_read values signals mid new (can.long ∙ ap length (sym spans)) (reset_long old mid reset fit can.one) done ∙ ap (samples_before values signals) spans in
@@ -85,7 +85,7 @@ prepared values signals old mid new can was reset fit done =
     ∙ ap (λ n. fin (length old.state.notified) (samples_before values signals old.spans) n (length old.state.steps)) was.assigned
     ∙ ap (λ n. fin (length old.state.notified) (samples_before values signals old.spans) (length old.spans) n) was.steps
 
-pub zero_in : (signed : Bool) (wl : ℕ) → IsIn signed wl (pos 0)
+pub zero_in : (signed : Bool) (wl : ℕ) → IsOfWidth signed wl (pos 0)
 zero_in true wl = record { low = omega (arith, ints); high = omega (arith, ints) }
 zero_in false wl = record { low = omega (arith, ints); high = omega (arith, ints) }
 

@@ -8,7 +8,7 @@ use Rattle.tdf_events_queue.specs.Lists.{list_at}
 use Rattle.tdf_events.proofs.Reading.{has_at}
 use Rattle.tdf_events.specs.Kernel.{AreSensitive, IsKernelOf, KernelOf, side_of}
 use Rattle.tdf_events.specs.Notices.{NoticesOf}
-use Rattle.tdf_events.specs.Processes.{events_of}
+use Rattle.tdf_events.specs.Processes.{owned_events}
 use Rattle.tdf_events.specs.Runnable.{AreOfSignals, IsRunnable, signal_formats}
 use Rattle.tdf_events.specs.Side.{SideOf, start_side}
 use Rattle.tdf_events.specs.machine.Making.{AreAllPorts, AreFrames}
@@ -51,7 +51,7 @@ pub record IsFresh (flat : Flat) (k : KernelOf) : Type 0 where
   pub by_signal : AreSensitive (λ row. row.signals) flat.tables.processes (length flat.tables.processes) k.by_signal
   pub by_event : AreSensitive (λ row. row.events) flat.tables.processes (length flat.tables.processes) k.by_event
   pub own_lists : length k.own_events ≡ length flat.tables.blocks
-  pub own : (n : ℕ) → n < length flat.tables.blocks → list_at k.own_events n ≡ events_of flat n
+  pub own : (n : ℕ) → n < length flat.tables.blocks → list_at k.own_events n ≡ owned_events flat n
   pub going : k.spent ≡ false
 
 abbrev with : List Raw → List FrameState → NoticesOf → List Bool → List (Option Raw) → SideOf

@@ -8,7 +8,7 @@ use Rattle.tdf_events_queue.specs.Lists.{list_at}
 use Rattle.tdf_events_queue.specs.Sets.{SetOf, is_on}
 use Rattle.tdf_events.proofs.Reading.{has_at}
 use Rattle.tdf_events.proofs.Updates.{updated_at, updated_long}
-use Rattle.tdf_events.specs.Delta.{after_update, changes, flags_from, is_next, updated}
+use Rattle.tdf_events.specs.Delta.{after_update, signal_changes, flags_from, is_next, updated}
 use Rattle.tdf_events.specs.Kernel.{AreSensitive, IsKernelOf, KernelOf, side_of}
 use Rattle.tdf_events.specs.Notices.{NoticesOf}
 use Rattle.tdf_events.specs.Runnable.{AreOfSignals, signal_formats}
@@ -94,17 +94,17 @@ next_flags flat k cleared mid new kernel clear signals events = ext_get_or false
       | inl was ↦ elim (signals.only p was) [
         | inl before ↦ absurd (true≢false (sym before ∙ off p))
         | inr by ↦ (let w = kernel.by_signal.only by.number by.index p by.member in
-            or_left (list_any (changes (side_of k)) row.signals) (list_any (is_on k.notices.delta) row.events)
-            (any_there (changes (side_of k)) row.signals w.2 by.number (ap (λ (r : ProcessRowOf). slice_get r.signals w.2) (same_Some row w.0 (sym at ∙ w.1)) ∙ w.3) by.passes))
+            or_left (list_any (signal_changes (side_of k)) row.signals) (list_any (is_on k.notices.delta) row.events)
+            (any_there (signal_changes (side_of k)) row.signals w.2 by.number (ap (λ (r : ProcessRowOf). slice_get r.signals w.2) (same_Some row w.0 (sym at ∙ w.1)) ∙ w.3) by.passes))
       ]
       | inr by ↦ (let w = kernel.by_event.only by.number by.index p by.member in
-          or_right (list_any (changes (side_of k)) row.signals) (list_any (is_on k.notices.delta) row.events)
+          or_right (list_any (signal_changes (side_of k)) row.signals) (list_any (is_on k.notices.delta) row.events)
           (any_there (is_on k.notices.delta) row.events w.2 by.number (ap (λ (r : ProcessRowOf). slice_get r.events w.2) (same_Some row w.0 (sym at ∙ w.1)) ∙ w.3) by.passes))
     ]
 
     back : (p : ℕ) (row : ProcessRowOf) → slice_get rows p ≡ Some row → is_next (side_of k) row ≡ true → is_on new p ≡ true
-    back p row at on = elim (or_either (list_any (changes (side_of k)) row.signals) (list_any (is_on k.notices.delta) row.events) on) [
-      | inl one ↦ (let w = any_place (changes (side_of k)) row.signals one in let l = kernel.by_signal.all p w.0 w.1 row (slice_get_within rows p row at) at w.2 in
+    back p row at on = elim (or_either (list_any (signal_changes (side_of k)) row.signals) (list_any (is_on k.notices.delta) row.events) on) [
+      | inl one ↦ (let w = any_place (signal_changes (side_of k)) row.signals one in let l = kernel.by_signal.all p w.0 w.1 row (slice_get_within rows p row at) at w.2 in
           events.kept p (signals.set w.1 l.0 p w.3 l.1))
       | inr other ↦ (let w = any_place (is_on k.notices.delta) row.events other in let l = kernel.by_event.all p w.0 w.1 row (slice_get_within rows p row at) at w.2 in
           events.set w.1 l.0 p w.3 l.1)

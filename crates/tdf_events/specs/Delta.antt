@@ -5,7 +5,7 @@ use Rattle.std.specs.Ordering.{int_eq}
 use Rattle.std.specs.Prelude.{◌≡◌, ◌≤◌, ℕ, zero, suc, ◌+◌, ◌-◌, Bool, false, ◌||◌, ◌&&◌, not, if◌then◌else◌, nat_eq, nat_lt, List, [], ◌∷◌, length, map, Option, Some, None, unwrap_or, slice_get, slice_index_or, slice_set}
 use Rattle.tdf_events_queue.specs.Evaluation.{evaluated}
 use Rattle.tdf_events_queue.specs.Sets.{count_on, is_on}
-use Rattle.tdf_events_queue.specs.Times.{time_of}
+use Rattle.tdf_events_queue.specs.Times.{pending_time}
 use Rattle.tdf_convert.specs.declared.writes.SignalWrite.{SignalWrite}
 use Rattle.tdf_events.specs.Processes.{ran}
 use Rattle.tdf_events.specs.Side.{SideOf, value_at}
@@ -31,8 +31,8 @@ abbrev pub differs : Raw → Option Raw → Bool
 differs value None = false
 differs value (Some new) = not (int_eq value.num new.num && nat_eq value.frac new.frac)
 
-abbrev pub changes : SideOf → (signal : ℕ) → Bool
-changes s signal = differs (value_at s.values signal) (slice_index_or s.waiting signal None)
+abbrev pub signal_changes : SideOf → (signal : ℕ) → Bool
+signal_changes s signal = differs (value_at s.values signal) (slice_index_or s.waiting signal None)
 
 -- update: the values, each replaced by the one that waits for it
 unfoldable pub updated : List Raw → List (Option Raw) → List Raw
@@ -43,7 +43,8 @@ updated (value ∷ values) (new ∷ waiting) = unwrap_or new value ∷ updated v
 -- delta notification: whether a process is sensitive to a signal that changes in the update, or to
 -- an event with a delta notification
 abbrev pub is_next : SideOf → ProcessRowOf → Bool
-is_next s row = list_any (changes s) row.signals || list_any (is_on s.notices.delta) row.events
+is_next s row =
+    list_any (signal_changes s) row.signals || list_any (is_on s.notices.delta) row.events
 
 -- update and delta notification
 abbrev pub after_update : Flat → SideOf → SideOf
@@ -55,8 +56,8 @@ after_update flat s = record {
   waiting = map (λ value. None) s.waiting;
 }
 
-unfoldable pub stepped : PureTree → Flat → (time : ℕ) → SideOf → SideOf
-stepped model flat time s = after_update flat (after_evaluation model flat time s)
+unfoldable pub delta_stepped : PureTree → Flat → (time : ℕ) → SideOf → SideOf
+delta_stepped model flat time s = after_update flat (after_evaluation model flat time s)
 
 -- a delta step takes one turn, and one for each process that runs
 abbrev pub turns_of : SideOf → ℕ
@@ -72,9 +73,9 @@ unfoldable pub settled_by : (fuel : ℕ) → PureTree → Flat → (time : ℕ) 
     → Option (SideOf × ℕ)
 settled_by zero model flat time s left = None
 settled_by (suc fuel) model flat time s left = if nat_lt left (turns_of s) then None
-    else if is_idle (stepped model flat time s)
-    then Some (stepped model flat time s, left - turns_of s)
-    else settled_by fuel model flat time (stepped model flat time s) (left - turns_of s)
+    else if is_idle (delta_stepped model flat time s)
+    then Some (delta_stepped model flat time s, left - turns_of s)
+    else settled_by fuel model flat time (delta_stepped model flat time s) (left - turns_of s)
 
 abbrev pub settled : PureTree → Flat → (time : ℕ) → SideOf → (left : ℕ) → Option (SideOf × ℕ)
 settled model flat time s left = settled_by (left + 1) model flat time s left
@@ -95,14 +96,14 @@ after_due flat time s = record {
     delta = s.notices.delta;
   };
   triggered = flags_from (λ n row. is_on s.triggered n
-      || list_any (λ event. is_due time (time_of s.notices.times event)) row.events) 0
+      || list_any (λ event. is_due time (pending_time s.notices.times event)) row.events) 0
       flat.tables.processes;
   waiting = s.waiting;
 }
 
 -- nothing is pending for a time before this one
 pub record IsNoneBefore (time : ℕ) (times : List (Option ℕ)) : Type 0 where
-  pub none : (event pending : ℕ) → time_of times event ≡ Some pending → time ≤ pending
+  pub none : (event pending : ℕ) → pending_time times event ≡ Some pending → time ≤ pending
 
 -- the values that sinks write: each is for an event signal, and of its format
 pub record AreWritesOf (formats : List Format) (writes : List SignalWrite) : Type 0 where

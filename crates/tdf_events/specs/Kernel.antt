@@ -5,7 +5,7 @@ use Rattle.tdf_events_queue.specs.Lists.{list_at}
 use Rattle.tdf_events_queue.specs.Sets.{SetOf, count_on}
 use Rattle.tdf_events_queue.specs.Times.{IsNextTime}
 use Rattle.tdf_events.specs.Notices.{NoticesOf}
-use Rattle.tdf_events.specs.Processes.{events_of}
+use Rattle.tdf_events.specs.Processes.{owned_events}
 use Rattle.tdf_events.specs.Runnable.{AreOfSignals, signal_formats}
 use Rattle.tdf_events.specs.Side.{SideOf}
 use Rattle.tdf_expr.specs.Frames.{FrameSeen, IsOfFormat, PortsSeen}
@@ -69,7 +69,7 @@ pub record IsKernelOf (flat : Flat) (k : KernelOf) : Type 0 where
   pub by_event : AreSensitive (λ row. row.events) flat.tables.processes
       (length flat.tables.processes) k.by_event
   pub own_lists : length k.own_events ≡ length flat.tables.blocks
-  pub own : (n : ℕ) → n < length flat.tables.blocks → list_at k.own_events n ≡ events_of flat n
+  pub own : (n : ℕ) → n < length flat.tables.blocks → list_at k.own_events n ≡ owned_events flat n
 
 -- the next time at which the event side has something to do: 0 where a process is triggered, which
 -- is so before the first instant alone, else the least pending time, and none where there is none

@@ -3,7 +3,7 @@
 -- Source: IEEE 1666-2011, 5.10.8 (notify and cancel).
 use Rattle.std.specs.Prelude.{ℕ, zero, suc, ◌+◌, ◌-◌, ◌^◌, Bool, true, if◌then◌else◌, nat_eq, min, List, Option, Some, None, slice_get, slice_index, slice_set}
 use Rattle.tdf_events_queue.specs.Sets.{is_on}
-use Rattle.tdf_events_queue.specs.Times.{earliest, time_of}
+use Rattle.tdf_events_queue.specs.Times.{earliest, pending_time}
 use Rattle.tdf_expr_state.specs.State.{standing}
 
 -- by event: the time of its timed notification, and whether it has a delta notification
@@ -22,7 +22,7 @@ with_delta event n =
 
 abbrev pub with_time : ℕ → ℕ → NoticesOf → NoticesOf
 with_time event time n = record {
-  times = slice_set n.times event (Some (earliest (time_of n.times event) time));
+  times = slice_set n.times event (Some (earliest (pending_time n.times event) time));
   delta = n.delta;
 }
 
@@ -33,13 +33,13 @@ noticed_after time event after n = if is_on n.delta event then n
     else with_time event (time_after time after) n
 
 -- a process that ran asked for it, or didn't
-abbrev pub noticed : (time event : ℕ) → Option ℕ → NoticesOf → NoticesOf
-noticed time event None n = n
-noticed time event (Some after) n = noticed_after time event after n
+abbrev pub event_noticed : (time event : ℕ) → Option ℕ → NoticesOf → NoticesOf
+event_noticed time event None n = n
+event_noticed time event (Some after) n = noticed_after time event after n
 
 -- the first so many events of an instance, by what its process asked for
 unfoldable pub noticed_first : (time : ℕ) → (events : List ℕ) → (asked : List (Option ℕ)) → ℕ
     → NoticesOf → NoticesOf
 noticed_first time events asked zero n = n
-noticed_first time events asked (suc i) n = noticed time (slice_index events i)
+noticed_first time events asked (suc i) n = event_noticed time (slice_index events i)
     (standing (slice_get asked i)) (noticed_first time events asked i n)

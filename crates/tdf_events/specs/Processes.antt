@@ -30,8 +30,9 @@ samples_before values [] (p ∷ ps) = []
 samples_before values (s ∷ ss) (p ∷ ps) = sample_before values s p ∷ samples_before values ss ps
 
 -- the ports before a process runs: nothing is written, and nothing is asked for
-abbrev pub ports_before : List Raw → (signals : List ℕ) → List PortSpan → (events : ℕ) → PortsState
-ports_before values signals spans events = record {
+abbrev pub process_ports_before : List Raw → (signals : List ℕ) → List PortSpan → (events : ℕ)
+    → PortsState
+process_ports_before values signals spans events = record {
   samples = samples_before values signals spans;
   assigned = replicate (length spans) false;
   notified = replicate events None;
@@ -51,7 +52,7 @@ unfoldable pub process_done : PureTree → Flat → ProcessRowOf → BlockRowOf 
     → State
 process_done model flat process row values frame = after_process model
     (slice_get (blocks_of model.globals) row.block) process.number
-    (state_of frame (ports_before values row.signals (port_spans_of flat.checked row.block)
+    (state_of frame (process_ports_before values row.signals (port_spans_of flat.checked row.block)
     (event_count flat.checked row.block)))
 
 -- the value that a port got
@@ -80,8 +81,8 @@ owned_from owner first (row ∷ rows) =
     if nat_eq row.owner owner then first ∷ owned_from owner (first + 1) rows
     else owned_from owner (first + 1) rows
 
-abbrev pub events_of : Flat → (owner : ℕ) → List ℕ
-events_of flat owner = owned_from owner 0 flat.tables.events
+abbrev pub owned_events : Flat → (owner : ℕ) → List ℕ
+owned_events flat owner = owned_from owner 0 flat.tables.events
 
 -- what an instance holds
 abbrev pub frame_at : List FrameState → ℕ → FrameState
@@ -92,8 +93,8 @@ abbrev pub side_after : Flat → (time : ℕ) → ProcessRowOf → BlockRowOf �
 side_after flat time process row done s = record {
   values = s.values;
   frames = slice_set s.frames process.owner done.frame;
-  notices = noticed_first time (events_of flat process.owner) done.ports.notified
-      (length (events_of flat process.owner)) s.notices;
+  notices = noticed_first time (owned_events flat process.owner) done.ports.notified
+      (length (owned_events flat process.owner)) s.notices;
   triggered = s.triggered;
   waiting = written_first row.signals (port_spans_of flat.checked row.block) done.ports
       (length row.signals) s.waiting;

@@ -2,7 +2,7 @@
 -- a block of processes has one sample of the format of its signal.
 -- Source: own.
 use Rattle.std.specs.Prelude.{◌≡◌, ◌<◌, ◌^◌, ℕ, List, length, map, Some, All, slice_get}
-use Rattle.tdf_events.specs.Processes.{events_of}
+use Rattle.tdf_events.specs.Processes.{owned_events}
 use Rattle.tdf_expr.specs.Checked.{IsChecked}
 use Rattle.tdf_expr.specs.Frames.{IsOfFormat}
 use Rattle.tdf_expr.specs.Made.{block_count, event_count, port_spans_of}
@@ -35,7 +35,7 @@ pub record ArePortsOf (formats : List Format) (spans : List PortSpan) (signals :
 pub record IsInstance (flat : Flat) (owner : ℕ) (row : BlockRowOf) : Type 0 where
   pub block : row.block < block_count flat.checked
   pub ports : ArePortsOf (signal_formats flat) (port_spans_of flat.checked row.block) row.signals
-  pub events : length (events_of flat owner) ≡ event_count flat.checked row.block
+  pub events : length (owned_events flat owner) ≡ event_count flat.checked row.block
 
 pub record IsProcess (flat : Flat) (row : ProcessRowOf) : Type 0 where
   pub owner : row.owner < length flat.tables.blocks

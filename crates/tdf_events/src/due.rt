@@ -2,7 +2,7 @@
 
 ghost use Rattle.std.specs.Prelude.{◌≡◌, ◌<◌, ◌≤◌, ℕ, None, Some, if◌then◌else◌, length, map, slice_get};
 ghost use Rattle.tdf_events_queue.specs.Lists.{list_at};
-ghost use Rattle.tdf_events_queue.specs.Times.{time_of};
+ghost use Rattle.tdf_events_queue.specs.Times.{pending_time};
 ghost use Rattle.tdf_events.specs.Delta.{is_due};
 ghost use Rattle.tdf_events.specs.machine.Due.{IsDueEvent, comes};
 ghost use Rattle.tdf_events.specs.machine.Updating.{AreAllReached};
@@ -11,7 +11,7 @@ use tdf_events_queue::{Calendar, Lists, NumberSet, trigger};
 
 /// An event whose notification comes at a time, where none is pending before it.
 fn due_event(calendar: &Calendar, time: u64) -> Option<u32>
-    requires { (e t : ℕ) → time_of calendar.now e ≡ Some t → time ≤ t }
+    requires { (e t : ℕ) → pending_time calendar.now e ≡ Some t → time ≤ t }
     ensures { IsDueEvent calendar.now time result }
 {
     match calendar.first() {
@@ -28,7 +28,7 @@ fn due_event(calendar: &Calendar, time: u64) -> Option<u32>
 
 /// The notifications of a time come: they are gone, and the processes that are sensitive to their events are triggered.
 pub(crate) fn take_due(calendar: &mut Calendar, time: u64, lists: &Lists, set: &mut NumberSet)
-    requires early { (e t : ℕ) → time_of calendar.old e ≡ Some t → time ≤ t }
+    requires early { (e t : ℕ) → pending_time calendar.old e ≡ Some t → time ≤ t }
     requires lists { length lists.now ≡ length calendar.old }
     requires members { (s j p : ℕ) → slice_get (list_at lists.now s) j ≡ Some p
         → p < length set.old.flags }

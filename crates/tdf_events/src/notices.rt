@@ -28,7 +28,7 @@ ghost use Rattle.tdf_events_queue.specs.Times.{IsNextTime};
 ghost use Rattle.tdf_events.specs.Delta.{IsNoneBefore, is_due};
 ghost use Rattle.tdf_events.specs.machine.Due.{comes};
 ghost use Rattle.tdf_events.specs.machine.Updating.{AreAllReached};
-ghost use Rattle.tdf_events.specs.Notices.{noticed, noticed_after, noticed_first, time_after};
+ghost use Rattle.tdf_events.specs.Notices.{event_noticed, noticed_after, noticed_first, time_after};
 ghost use Rattle.tdf_expr.specs.Frames.{ArePortsFit};
 
 use crate::due::take_due;
@@ -111,7 +111,7 @@ impl Notices {
     /// Notifies an event, if that was asked for.
     fn notify(&mut self, time: u64, event: u32, asked: Option<u64>)
         requires { event < length self.old.times }
-        ensures { self.new ≡ noticed time event asked self.old }
+        ensures { self.new ≡ event_noticed time event asked self.old }
     {
         match asked {
             None => {}

@@ -1,7 +1,7 @@
 //! The body of a process runs.
 
 ghost use Rattle.std.specs.Prelude.{◌≡◌, ◌<◌, ℕ, Some, if◌then◌else◌, length, pos, slice_get, slice_set};
-ghost use Rattle.tdf_events.specs.Processes.{ports_before, sample_before};
+ghost use Rattle.tdf_events.specs.Processes.{process_ports_before, sample_before};
 ghost use Rattle.tdf_events.specs.Side.{value_at};
 ghost use Rattle.tdf_events.specs.machine.Reading.{AreRead, CanRead, HasRun, with_samples};
 ghost use Rattle.tdf_expr.specs.Frames.{ArePortsFit, IsOfFormat, is_written};
@@ -60,7 +60,7 @@ fn read_signals(values: &[Raw], signals: &[u32], ports: &mut Ports)
 fn prepare(values: &[Raw], signals: &[u32], ports: &mut Ports)
     requires can { CanRead values.now ports.old.spans signals.now }
     ensures spans { ports.new.spans ≡ ports.old.spans }
-    ensures state { ports.new.state ≡ ports_before values.now signals.now ports.old.spans
+    ensures state { ports.new.state ≡ process_ports_before values.now signals.now ports.old.spans
         (length ports.old.state.notified) }
 {
     let _ = ports.ports();

@@ -1,7 +1,7 @@
 //! One delta step.
 
 ghost use Rattle.std.specs.Prelude.{◌≡◌};
-ghost use Rattle.tdf_events.specs.Delta.{stepped};
+ghost use Rattle.tdf_events.specs.Delta.{delta_stepped};
 ghost use Rattle.tdf_events.specs.Kernel.{IsKernelOf, side_of};
 ghost use Rattle.tdf_events.specs.Runnable.{IsRunnable};
 ghost use Rattle.tdf_events.specs.views.Parts.{kernel_of};
@@ -19,7 +19,7 @@ pub(crate) fn step(parts: &mut Parts, flat: &Flat, time: u64)
     ensures kernel { IsKernelOf flat.now (kernel_of parts.new) }
     ensures side { (model : PureTree) → IsCheckedOf model flat.now.checked
         → side_of (kernel_of parts.new)
-        ≡ stepped model flat.now time (side_of (kernel_of parts.old)) }
+        ≡ delta_stepped model flat.now time (side_of (kernel_of parts.old)) }
 {
     evaluate(parts, flat, time);
     parts.triggered.clear();

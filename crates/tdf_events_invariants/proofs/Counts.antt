@@ -10,7 +10,7 @@ use Rattle.std.specs.Prelude.{◌||◌, filter, filter_map, nat_lt, slice_get, s
 use Rattle.tdf_bind.specs.Flat.{IsFlatOf}
 use Rattle.tdf_bind.specs.declared.model.Flat.{Flat}
 use Rattle.tdf_bind_names.proofs.Api.{counts_all}
-use Rattle.tdf_bind_names.specs.Counts.{cells_of, is_too_many, met_weight}
+use Rattle.tdf_bind_names.specs.Counts.{store_cells, is_too_many, met_weight}
 use Rattle.tdf_bind_names.specs.Resolved.{whole}
 use Rattle.tdf_bind_attributes.specs.Roles.{event_of, process_role, processes_role, roles_from, roles_of}
 use Rattle.tdf_events_invariants.specs.Runnable.{EventRowsAreFew}
@@ -21,7 +21,7 @@ use Rattle.tdf_bind_ports.specs.Ports.{port_of_de_line, ports_of_de}
 use Rattle.tdf_lang_tree.specs.declared.shapes.TypeDecl.{TypeDecl}
 use Rattle.tdf_bind_hierarchy.specs.Blocks.{BlockOf}
 use Rattle.tdf_bind_hierarchy.specs.Met.{Met, MetSignal, MetInstance, met_in}
-use Rattle.tdf_bind_hierarchy.specs.Tables.{IsRowOf, RowOf, TablesOf, instance_of, is_of, signal_of}
+use Rattle.tdf_bind_hierarchy.specs.Tables.{IsRowOf, RowOf, TablesOf, met_instance, is_of, met_signal}
 use Rattle.tdf_bind_connections.specs.Drivers.{signal_row, writers_in}
 use Rattle.tdf_bind_connections.specs.ProcessBlocks.{PlacedBlock, as_block, block_processes, block_row, event_row, events_from, placed_blocks, process_row, processes_from}
 use Rattle.tdf_bind_connections.specs.Roles.{ProcessesOf}
@@ -93,7 +93,7 @@ count_in count (Some (Processes role)) = count role
 count_in count _ = 0
 
 module _ (count : ProcessesOf → ℕ) (weights : List ℕ) (roles : List Role) (weigh : (k : ℕ) → count_in count (slice_get roles k) ≤ slice_index weights k) (t : TablesOf) where
-  held_weighs : (met : List Met) (rows : List RowOf) → AllZip (IsRowOf t) rows (filter_map instance_of met) → held count (placed_blocks roles rows) ≤ sum_by (met_weight false weights) met
+  held_weighs : (met : List Met) (rows : List RowOf) → AllZip (IsRowOf t) rows (filter_map met_instance met) → held count (placed_blocks roles rows) ≤ sum_by (met_weight false weights) met
   held_weighs [] [] all = omega arith
   held_weighs [] (r ∷ rows) all = absurd all
   held_weighs (MetSignal s ∷ met) rows all =
@@ -195,20 +195,20 @@ abbrev sum_in : (PureGlobal → List ℕ) → PureTree → List BlockOf → ℕ
 sum_in W model blocks = sum_by (met_weight false (flat_map W (whole model))) (met_in blocks (length blocks - 1))
 
 few_held : (W : PureGlobal → List ℕ) (count : ProcessesOf → ℕ) (model : PureTree) (blocks : List BlockOf) (t : TablesOf) → Weighs W count
-    → AllZip (IsRowOf t) t.instances (filter_map instance_of (met_in blocks (length blocks - 1))) → nat_lt 8192 (sum_in W model blocks) ≡ false
+    → AllZip (IsRowOf t) t.instances (filter_map met_instance (met_in blocks (length blocks - 1))) → nat_lt 8192 (sum_in W model blocks) ≡ false
     → held count (placed_blocks (roles_of model) t.instances) ≤ 8192
 few_held W count model blocks t w rows few =
     let less = held_weighs count (flat_map W (whole model)) (roles_of model) (roles_weigh W count w (globals_of model.globals) 0 (whole model)) t (met_in blocks (length blocks - 1)) t.instances rows in
     let most = at_most 8192 (sum_in W model blocks) few in
     omega (arith, less, most)
 
-process_held : (model : PureTree) (blocks : List BlockOf) (t : TablesOf) → is_too_many model blocks ≡ false → AllZip (IsRowOf t) t.instances (filter_map instance_of (met_in blocks (length blocks - 1)))
+process_held : (model : PureTree) (blocks : List BlockOf) (t : TablesOf) → is_too_many model blocks ≡ false → AllZip (IsRowOf t) t.instances (filter_map met_instance (met_in blocks (length blocks - 1)))
     → held process_total (placed_blocks (roles_of model) t.instances) ≤ 8192
 process_held model blocks t few rows =
     few_held processes_in process_total model blocks t processes_count rows
     (or_second _ (nat_lt 8192 (sum_in processes_in model blocks)) (or_first _ (nat_lt 8192 (sum_in events_in model blocks)) few))
 
-event_held : (model : PureTree) (blocks : List BlockOf) (t : TablesOf) → is_too_many model blocks ≡ false → AllZip (IsRowOf t) t.instances (filter_map instance_of (met_in blocks (length blocks - 1)))
+event_held : (model : PureTree) (blocks : List BlockOf) (t : TablesOf) → is_too_many model blocks ≡ false → AllZip (IsRowOf t) t.instances (filter_map met_instance (met_in blocks (length blocks - 1)))
     → held event_total (placed_blocks (roles_of model) t.instances) ≤ 8192
 event_held model blocks t few rows = few_held events_in event_total model blocks t events_count rows (or_second _ (nat_lt 8192 (sum_in events_in model blocks)) few)
 
@@ -253,11 +253,11 @@ signals_in (GNet block) = 0 ∷ []
 
 abbrev cells_in_tdf : PureTdfLine → ℕ
 cells_in_tdf (TPort port) = 0
-cells_in_tdf (TStore store) = cells_of store
+cells_in_tdf (TStore store) = store_cells store
 cells_in_tdf (TRate line name least greatest start) = 1
 
 abbrev cells_in_line : PureDeLine → ℕ
-cells_in_line (DStore store) = cells_of store
+cells_in_line (DStore store) = store_cells store
 cells_in_line _ = 0
 
 abbrev cells_in : PureGlobal → List ℕ
@@ -266,7 +266,7 @@ cells_in (GTdf block) = (0 + sum_by cells_in_tdf block.decls) ∷ []
 cells_in (GDe block) = (0 + (sum_by cells_in_line block.decls + 0)) ∷ []
 cells_in (GNet block) = 0 ∷ []
 
-port_held : (model : PureTree) (blocks : List BlockOf) (t : TablesOf) → is_too_many model blocks ≡ false → AllZip (IsRowOf t) t.instances (filter_map instance_of (met_in blocks (length blocks - 1)))
+port_held : (model : PureTree) (blocks : List BlockOf) (t : TablesOf) → is_too_many model blocks ≡ false → AllZip (IsRowOf t) t.instances (filter_map met_instance (met_in blocks (length blocks - 1)))
     → held port_total (placed_blocks (roles_of model) t.instances) ≤ 8192
 port_held model blocks t few rows =
     few_held ports_in port_total model blocks t ports_count rows
@@ -311,7 +311,7 @@ event_rows_are_few model flat is = record {
         let rows = ap length is.tables.follows.signals.de_signals in
         let long = numbered_long (λ signal. signal_row (writers_in (roles_of model) t flat.tables.ports true) signal.0 signal.1) 0 t.event_signals in
         let same = ap length is.tables.met.event_signals in
-        let less = fewer (is_of true) (filter_map signal_of met) in
+        let less = fewer (is_of true) (filter_map met_signal met) in
         omega (arith, few, rows, long, same, less)
 
     blocks : length flat.tables.blocks ≤ 1024
@@ -320,7 +320,7 @@ event_rows_are_few model flat is = record {
         let rows = ap length is.tables.follows.blocks.blocks in
         let long = mapped_long block_row ps in
         let less = few_placed (roles_of model) t.instances in
-        let same = zipped_long (IsRowOf t) t.instances (filter_map instance_of met) is.tables.met.instances in
+        let same = zipped_long (IsRowOf t) t.instances (filter_map met_instance met) is.tables.met.instances in
         omega (arith, few, rows, long, same, less)
 
     processes : length flat.tables.processes ≤ 8192

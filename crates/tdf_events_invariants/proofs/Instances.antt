@@ -9,7 +9,7 @@ use Rattle.std.specs.Prelude.{filter, nat_eq, slice_get}
 use Rattle.tdf_expr.specs.Blocks.{Module as TdfBlock, Events, PureBlock, blocks_of, scope_of}
 use Rattle.tdf_expr.specs.Compiled.{AreBlocksOf, IsBlockOf}
 use Rattle.tdf_expr.specs.Made.{events_in, spans_in}
-use Rattle.tdf_expr.specs.Plans.{PortPlace, place_of_port, written}
+use Rattle.tdf_expr.specs.Plans.{PortPlace, place_of_span, shape_written}
 use Rattle.tdf_expr.specs.declared.blocks.Block.{Block}
 use Rattle.tdf_expr.specs.declared.spans.PortSpan.{PortSpan}
 use Rattle.tdf_bind.specs.Flat.{IsFlatOf}
@@ -231,7 +231,7 @@ pub record HasLines (P : PureGlobal → Type 0) (model : PureTree) (flat : Flat)
   pub of_block : IsProcessesRole P (globals_of model.globals) 0 (whole model) no_blocks p.instance.block p.role
   pub long : length (spans_in (slice_get flat.checked.blocks.items p.role.block)) ≡ length (ports_of_de of_block.block)
   pub line : (k : ℕ) (span : PortSpan) → slice_get (spans_in (slice_get flat.checked.blocks.items p.role.block)) k ≡ Some span
-      → (l : PortLine) × (slice_get (ports_of_de of_block.block) k ≡ Some l) × (written span.format ≡ format_of (globals_of model.globals) l.format)
+      → (l : PortLine) × (slice_get (ports_of_de of_block.block) k ≡ Some l) × (shape_written span.format ≡ format_of (globals_of model.globals) l.format)
 
 module _ (P : PureGlobal → Type 0) (names_once : KeepsNamesOnce) (model : PureTree) (flat : Flat) (sound : IsSoundModel model) (is : IsFlatOf model flat) (all : AllByRecursion P (whole model))
     (n : ℕ) (p : PlacedBlock) (at : slice_get (placed_blocks (roles_of model) is.tables.tables.instances) n ≡ Some p) where
@@ -255,18 +255,18 @@ module _ (P : PureGlobal → Type 0) (names_once : KeepsNamesOnce) (model : Pure
   there : slice_get flat.checked.blocks.items p.role.block ≡ Some made.0
   there = let same : 0 + of_block.k ≡ of_block.k = omega arith in ap (λ (r : ProcessesOf). slice_get flat.checked.blocks.items r.block) of_block.role_is ∙ ap (slice_get flat.checked.blocks.items) same ∙ made.1
 
-  place_there : (k : ℕ) (span : PortSpan) → slice_get (spans_in (slice_get flat.checked.blocks.items p.role.block)) k ≡ Some span → slice_get (places_of globals 0 (ports_of_de of_block.block)) k ≡ Some (place_of_port span)
+  place_there : (k : ℕ) (span : PortSpan) → slice_get (spans_in (slice_get flat.checked.blocks.items p.role.block)) k ≡ Some span → slice_get (places_of globals 0 (ports_of_de of_block.block)) k ≡ Some (place_of_span span)
   place_there k span e =
       ap (λ (l : List PortPlace). slice_get l k) (sym (made.2.spans ∙ ports_total globals of_block.block of_block.once))
-      ∙ mapped place_of_port made.0.ports.spans.items k span (ap (λ (o : Option Block). slice_get (spans_in o) k) (sym there) ∙ e)
+      ∙ mapped place_of_span made.0.ports.spans.items k span (ap (λ (o : Option Block). slice_get (spans_in o) k) (sym there) ∙ e)
 
   placed : (k : ℕ) (span : PortSpan) → slice_get (spans_in (slice_get flat.checked.blocks.items p.role.block)) k ≡ Some span → (span.first ≡ 0 + k) × (span.count ≡ 1)
-  placed k span e = place_at globals 0 (ports_of_de of_block.block) k (place_of_port span) (place_there k span e)
+  placed k span e = place_at globals 0 (ports_of_de of_block.block) k (place_of_span span) (place_there k span e)
 
   spans_long : length (spans_in (slice_get flat.checked.blocks.items p.role.block)) ≡ length (ports_of_de of_block.block)
   spans_long =
       let here = ap (λ (o : Option Block). length (spans_in o)) there in
-      let spans = mapped_long place_of_port made.0.ports.spans.items in
+      let spans = mapped_long place_of_span made.0.ports.spans.items in
       let same = ap length (made.2.spans ∙ ports_total globals of_block.block of_block.once) in
       let long = places_long globals 0 (ports_of_de of_block.block) in
       omega (arith, here, spans, same, long)
@@ -296,7 +296,7 @@ module _ (P : PureGlobal → Type 0) (names_once : KeepsNamesOnce) (model : Pure
   has_lines = record {
     of_block = of_block;
     long = spans_long;
-    line = λ k span e. place_line globals 0 (ports_of_de of_block.block) k (place_of_port span) (place_there k span e);
+    line = λ k span e. place_line globals 0 (ports_of_de of_block.block) k (place_of_span span) (place_there k span e);
   }
 
 -- the instance of a row

@@ -5,7 +5,7 @@ use Rattle.std.proofs.lemmas.Option.{slice_get_within}
 use Rattle.std.specs.List.{AllByRecursion, cons_option, enumerate_from}
 use Rattle.std.specs.Prelude.{All, slice_get}
 use Rattle.tdf_bind_invariants.proofs.Api.{found_at}
-use Rattle.tdf_bind_attributes.specs.Roles.{events_of, places_among, process_role, processes_role, roles_from, roles_of}
+use Rattle.tdf_bind_attributes.specs.Roles.{names_of_events, places_among, process_role, processes_role, roles_from, roles_of}
 use Rattle.tdf_events_invariants.proofs.Counts.{event_total, events_long, held, mapped_long}
 use Rattle.tdf_events_invariants.specs.Runnable.{EventRowsHaveOwners}
 use Rattle.tdf_expr_symbols.specs.Names.{Names, globals_of, place_in}
@@ -55,9 +55,9 @@ among names (s ∷ lines) = go (place_in names s.name) refl (among names lines)
 senses_own : (number : ℕ) (block : PureDe) → SensesOwn (processes_role number block)
 senses_own number block = go block.processes
   where
-    go : (ps : List PureProcess) → AllByRecursion (λ (p : ProcessOf). AllByRecursion (λ place. place < length (events_of block)) p.events) (map (process_role block) ps)
+    go : (ps : List PureProcess) → AllByRecursion (λ (p : ProcessOf). AllByRecursion (λ place. place < length (names_of_events block)) p.events) (map (process_role block) ps)
     go [] = tt
-    go (p ∷ ps) = (among (events_of block) p.sensitive, go ps)
+    go (p ∷ ps) = (among (names_of_events block) p.sensitive, go ps)
 
 abbrev RoleSenses : Option Role → Type 0
 RoleSenses (Some (Processes role)) = SensesOwn role

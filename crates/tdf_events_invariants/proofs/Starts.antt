@@ -10,20 +10,20 @@ use Rattle.tdf_expr.specs.Frames.{IsOfFormat}
 use Rattle.tdf_fixed.proofs.Api.{in_range}
 use Rattle.tdf_fixed.specs.Cast.{fraction_of}
 use Rattle.tdf_fixed.specs.Literal.{Literal, decimal_of, decimal_with, literal_cast, literal_of}
-use Rattle.tdf_fixed.specs.Overflow.{IsIn}
+use Rattle.tdf_fixed.specs.Overflow.{IsOfWidth}
 use Rattle.tdf_fixed.specs.declared.format.Format.{Format}
 use Rattle.tdf_fixed.specs.declared.literals.DecimalErr.TheVariants.{TooManyDigits}
 use Rattle.tdf_bind_ports.specs.Ports.{Known, no_blocks, ports_of_composite, ports_of_de, ports_of_tdf, with_block}
 use Rattle.tdf_bind_names.specs.Resolved.{AreBlocks, whole}
-use Rattle.tdf_bind_names.specs.Signals.{Declared, IsSignal, or_zero, start_of, text_of, zero_of}
+use Rattle.tdf_bind_names.specs.Signals.{Declared, IsSignal, or_zero, start_sample, literal_text, zero_of}
 use Rattle.tdf_bind_attributes.specs.Roles.{roles_of}
 use Rattle.tdf_events_invariants.specs.Runnable.{SignalsStartInFormat, StartsInFormat}
 use Rattle.tdf_expr_symbols.specs.Names.{Names, globals_of}
 use Rattle.tdf_lang_tree.specs.Pure.{PureGlobal, GShape, GTdf, GDe, GNet}
 use Rattle.tdf_lang_tree.specs.declared.names.Lit.{Lit}
 use Rattle.tdf_bind_hierarchy.specs.Blocks.{BlockOf, InstanceOf}
-use Rattle.tdf_bind_hierarchy.specs.Met.{Met, MetSignal, MetInstance, InsideOf, in_block, inside, met_in, placed, signal_at, with_inside}
-use Rattle.tdf_bind_hierarchy.specs.Tables.{TablesOf, is_of, signal_of}
+use Rattle.tdf_bind_hierarchy.specs.Met.{Met, MetSignal, MetInstance, InsideOf, in_block, inside, met_in, placed, placed_signal, with_inside}
+use Rattle.tdf_bind_hierarchy.specs.Tables.{TablesOf, is_of, met_signal}
 use Rattle.tdf_bind_hierarchy.specs.declared.blocks.SignalLine.{SignalLine}
 use Rattle.tdf_bind_hierarchy.specs.declared.tables.Signal.{Signal}
 use Rattle.tdf_bind_connections.specs.Drivers.{signal_row, signal_rows, writers_in}
@@ -31,14 +31,14 @@ use Rattle.tdf_bind_connections.specs.declared.drivers.SignalRow.{SignalRow}
 use Rattle.tdf_bind_connections.specs.declared.writers.Writer.{Writer}
 
 -- the first value of a line
-zero_in : (signed : Bool) (wl : ℕ) → IsIn signed wl (pos 0)
+zero_in : (signed : Bool) (wl : ℕ) → IsOfWidth signed wl (pos 0)
 zero_in true wl = record { low = omega (arith, ints); high = omega (arith, ints) }
 zero_in false wl = record { low = omega (arith, ints); high = omega (arith, ints) }
 
 zero_fits : (f : Format) → IsOfFormat f (zero_of f)
 zero_fits f = record { frac = refl; num = zero_in f.signed f.wl }
 
-literal_fits : (f : Format) (l : Literal) → IsIn f.signed f.wl (literal_cast f l)
+literal_fits : (f : Format) (l : Literal) → IsOfWidth f.signed f.wl (literal_cast f l)
 unfolding literal_cast
 literal_fits f l = in_range f.over f.signed f.wl _ f.some_bits
 
@@ -54,9 +54,9 @@ decimal_fits f text = go (literal_of text)
     go None = zero_fits f
     go (Some l) = short l (is_short l.numeral)
 
-start_fits : (f : Format) (start : Option Lit) → IsOfFormat f (start_of f start)
+start_fits : (f : Format) (start : Option Lit) → IsOfFormat f (start_sample f start)
 start_fits f None = zero_fits f
-start_fits f (Some v) = decimal_fits f (text_of v)
+start_fits f (Some v) = decimal_fits f (literal_text v)
 
 abbrev IsFitLine : SignalLine → Type 0
 IsFitLine line = IsOfFormat line.format line.start
@@ -86,14 +86,14 @@ abbrev IsFitSignal : Signal → Type 0
 IsFitSignal s = IsOfFormat s.format s.start
 
 abbrev AreFit : List Met → Type 0
-AreFit ms = AllByRecursion IsFitSignal (filter_map signal_of ms)
+AreFit ms = AllByRecursion IsFitSignal (filter_map met_signal ms)
 
 fit_then : (ms ns : List Met) → AreFit ms → AreFit ns → AreFit (ms ++ ns)
 fit_then [] ns h k = k
 fit_then (MetSignal s ∷ ms) ns h k = (h.0, fit_then ms ns h.1 k)
 fit_then (MetInstance i ∷ ms) ns h k = fit_then ms ns h k
 
-fit_signals : (path : Option (List ℕ)) (lines : List SignalLine) → AllByRecursion IsFitLine lines → AreFit (map (λ line. MetSignal (signal_at path line)) lines)
+fit_signals : (path : Option (List ℕ)) (lines : List SignalLine) → AllByRecursion IsFitLine lines → AreFit (map (λ line. MetSignal (placed_signal path line)) lines)
 fit_signals path [] all = tt
 fit_signals path (line ∷ lines) all = (all.0, fit_signals path lines all.1)
 
@@ -109,7 +109,7 @@ fit_instances within fit path b outer (i ∷ is) =
 fit_block : (within : InsideOf) → Fit within → (o : Option BlockOf) → ((b : BlockOf) → o ≡ Some b → IsFitBlock b) → (path : Option (List ℕ)) (outer : List (Option Signal)) → AreFit (in_block within o path outer)
 fit_block within fit None each path outer = tt
 fit_block within fit (Some b) each path outer =
-    fit_then (map (λ line. MetSignal (signal_at path line)) b.signals) (flat_map (λ i. with_inside within (placed path b outer i)) b.instances)
+    fit_then (map (λ line. MetSignal (placed_signal path line)) b.signals) (flat_map (λ i. with_inside within (placed path b outer i)) b.instances)
     (fit_signals path b.signals (each b refl)) (fit_instances within fit path b outer b.instances)
 
 item_at : {A : Type 0} (P : A → Type 0) (xs : List A) → AllByRecursion P xs → (n : ℕ) (x : A) → slice_get xs n ≡ Some x → P x
@@ -151,6 +151,6 @@ signals_start_in_format model flat is = record {
     fit : AreFit (met_in is.blocks (length is.blocks - 1))
     fit = (fit_inside is.blocks (blocks_fit (globals_of model.globals) no_blocks (whole model) is.blocks is.linked.resolved) (length is.blocks)).at (length is.blocks - 1) None []
 
-    rows : (event : Bool) (rows : List SignalRow) (signals : List Signal) (writers : List Writer) → rows ≡ signal_rows writers signals → signals ≡ filter (is_of event) (filter_map signal_of met) → All StartsInFormat rows
+    rows : (event : Bool) (rows : List SignalRow) (signals : List Signal) (writers : List Writer) → rows ≡ signal_rows writers signals → signals ≡ filter (is_of event) (filter_map met_signal met) → All StartsInFormat rows
     rows event l signals writers are same = All-from_recursion StartsInFormat l (subst (AllByRecursion StartsInFormat) (sym are)
-        (rows_fit writers 0 signals (subst (AllByRecursion IsFitSignal) (sym same) (all_filtered IsFitSignal (is_of event) (filter_map signal_of met) fit))))
+        (rows_fit writers 0 signals (subst (AllByRecursion IsFitSignal) (sym same) (all_filtered IsFitSignal (is_of event) (filter_map met_signal met) fit))))

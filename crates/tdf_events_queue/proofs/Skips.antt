@@ -3,7 +3,7 @@ use Rattle.std.proofs.Common.{◌≡◌, ℕ, zero, suc, ◌+◌, ◌-◌, ◌<�
 use Rattle.std.proofs.lemmas.Bool.{cases_lt, true≢false, false_from_ne_true}
 use Rattle.std.proofs.lemmas.List.{get_or_past}
 use Rattle.std.proofs.lemmas.Option.{slice_get_within, get_or_from_slice_get, slice_get-get_or}
-use Rattle.tdf_events_queue.specs.Sets.{is_on, AreRising}
+use Rattle.tdf_events_queue.specs.Sets.{is_on, AreRisingFlags}
 use Rattle.tdf_events_queue.specs.Evaluation.{evaluated, ran_first}
 
 -- the number behind the last of the first j
@@ -28,7 +28,7 @@ module _ {S : Type 0} (run : ℕ → S → S) where
   passed_to : (flags : List Bool) (a b : ℕ) (s : S) → a ≤ b → ((k : ℕ) → a ≤ k → k < b → is_on flags k ≡ false) → evaluated run flags b s ≡ evaluated run flags a s
   passed_to flags a b s up off = let e : b ≡ a + (b - a) = omega (arith, up) in ap (λ n. evaluated run flags n s) e ∙ passed flags a (b - a) s (λ k low high. off k low (omega (arith, up, high)))
 
-  module _ (flags : List Bool) (list : List ℕ) (rising : AreRising flags list) where
+  module _ (flags : List Bool) (list : List ℕ) (rising : AreRisingFlags flags list) where
     -- what lies behind the first j of the list
     behind_low : (j p : ℕ) → slice_get list j ≡ Some p → behind list j ≤ p
     unfolding behind

@@ -10,7 +10,7 @@ use Rattle.std.proofs.lemmas.List.Sorted.{Contains-permutation, IsPermutation-sy
 use Rattle.std.proofs.lemmas.Map.Keys.{IsDistinct-IsPermutation, IsStrictlyIncreasing-from_distinct}
 use Rattle.std.proofs.lemmas.Map.Made.{IsDistinct-from_AllPairs}
 use Rattle.std.proofs.lemmas.Option.{slice_get_within, get_or_from_slice_get, slice_get-get_or}
-use Rattle.tdf_events_queue.specs.Sets.{is_on, AreListed, AreRising}
+use Rattle.tdf_events_queue.specs.Sets.{is_on, AreListed, AreRisingFlags}
 use Rattle.tdf_events_queue.specs.machine.Clearing.{AreOff}
 
 eqb_flips : (x y : ℕ) → eqb x y ≡ eqb y x
@@ -47,7 +47,7 @@ module _ (flags : List Bool) (xs ys : List ℕ) (listed : AreListed flags xs) (m
     rising_after i j n m less a b = let up : slice_index ys i < slice_index ys j = increasing i j 0 less (slice_get_within ys j m b) in
         let e : slice_index ys i ≡ n = get_or_from_slice_get ys i n 0 a in let f : slice_index ys j ≡ m = get_or_from_slice_get ys j m 0 b in omega (arith, up, e, f)
 
-    pub sorted_rising : AreRising flags ys
+    pub sorted_rising : AreRisingFlags flags ys
     sorted_rising = record { on = on_after; all = all_after; rising = rising_after }
 
     pub sorted_listed : AreListed flags ys

@@ -7,16 +7,16 @@ use Rattle.std.proofs.lemmas.List.Sums.{sum_by-set, count_by-le-length}
 use Rattle.std.proofs.lemmas.List.Edits.{length-insert, length-remove}
 use Rattle.std.proofs.lemmas.Option.{slice_get_within, slice_get-get_or}
 use Rattle.tdf_events_queue.specs.declared.calendar.Pending.{Pending}
-use Rattle.tdf_events_queue.specs.Times.{IsNext, time_of}
+use Rattle.tdf_events_queue.specs.Times.{IsNextPending, pending_time}
 use Rattle.tdf_events_queue.specs.machine.Calendar.{IsCalendar, IsLast, IsPlace, IsPlaceOf, item_at}
 
 none_some : {A : Type 0} {P : Type 0} (o : Option A) (a : A) → o ≡ None → o ≡ Some a → P
 none_some o a e f = absurd (grind (arith, e, f))
 
-pub next_of_last : (at : List (Option ℕ)) (list : List Pending) (r : Option Pending) → IsCalendar at list → IsLast list r → IsNext at r
-next_of_last at list None cal last = record { none = λ e. no_time e (time_of at e) refl }
+pub next_of_last : (at : List (Option ℕ)) (list : List Pending) (r : Option Pending) → IsCalendar at list → IsLast list r → IsNextPending at r
+next_of_last at list None cal last = record { none = λ e. no_time e (pending_time at e) refl }
   where
-    no_time : (e : ℕ) (o : Option ℕ) → time_of at e ≡ o → time_of at e ≡ None
+    no_time : (e : ℕ) (o : Option ℕ) → pending_time at e ≡ o → pending_time at e ≡ None
     no_time e None is = is
     no_time e (Some t) is = let w = cal.all e t is in let within : w.0 < length list = slice_get_within list w.0 w.1 w.2 in absurd (omega (arith, within, last))
 next_of_last at list (Some p) cal last =
@@ -25,7 +25,7 @@ next_of_last at list (Some p) cal last =
     record {
       is = cal.on (length list - 1) p here;
       least = λ e s is. (let w = cal.all e s is in let within : w.0 < length list = slice_get_within list w.0 w.1 w.2 in
-          let same : w.1.time ≡ s = some_one _ _ (sym (cal.on w.0 w.1 w.2) ∙ ap (time_of at) w.3 ∙ is) in
+          let same : w.1.time ≡ s = some_one _ _ (sym (cal.on w.0 w.1 w.2) ∙ ap (pending_time at) w.3 ∙ is) in
           elim (cases_lt w.0 (length list - 1)) [
             | inl before ↦ (let f : p.time ≤ w.1.time = cal.falling w.0 (length list - 1) w.1 p before w.2 here in omega (arith, f, same))
             | inr at_end ↦ (let i : w.0 ≡ length list - 1 = omega (arith, at_end, within) in let x : Some w.1 ≡ Some p = sym w.2 ∙ ap (slice_get list) i ∙ here in
@@ -73,21 +73,21 @@ stands_behind [] (suc k) y j x within up at = absurd (omega (arith, within))
 stands_behind (z ∷ xs) (suc k) y zero x within up at = absurd (omega (arith, up))
 stands_behind (z ∷ xs) (suc k) y (suc j) x within up at = stands_behind xs k y j x (omega (arith, within)) (omega (arith, up)) at
 
-count_put : (at : List (Option ℕ)) (e t : ℕ) → e < length at → time_of at e ≡ None → count_by is_some (slice_set at e (Some t)) ≡ count_by is_some at + 1
+count_put : (at : List (Option ℕ)) (e t : ℕ) → e < length at → pending_time at e ≡ None → count_by is_some (slice_set at e (Some t)) ≡ count_by is_some at + 1
 count_put at e t inside free = let s = sum_by-set (λ (o : Option ℕ). cond (is_some o) 1 0) at e (Some t) None inside in
-    let z : cond {A = ℕ} (is_some (time_of at e)) 1 0 ≡ 0 = ap (λ (o : Option ℕ). cond {A = ℕ} (is_some o) 1 0) free in omega (arith, s, z)
+    let z : cond {A = ℕ} (is_some (pending_time at e)) 1 0 ≡ 0 = ap (λ (o : Option ℕ). cond {A = ℕ} (is_some o) 1 0) free in omega (arith, s, z)
 
-pub room_left : (at : List (Option ℕ)) (list : List Pending) (e cap len : ℕ) → e < length at → time_of at e ≡ None → IsCalendar at list → length at ≤ cap → len ≡ length list → len < cap
+pub room_left : (at : List (Option ℕ)) (list : List Pending) (e cap len : ℕ) → e < length at → pending_time at e ≡ None → IsCalendar at list → length at ≤ cap → len ≡ length list → len < cap
 room_left at list e cap len inside free cal room is = let c : length list ≡ count_by is_some at = cal.count in let s = count_put at e 0 inside free in
     let m : count_by is_some (slice_set at e (Some 0)) ≤ length (slice_set at e (Some 0)) = count_by-le-length is_some (slice_set at e (Some 0)) in
     let l : length (slice_set at e (Some 0)) ≡ length at = length-set at e (Some 0) in omega (arith, c, s, m, l, room, is)
 
-pub put_listed : (at : List (Option ℕ)) (list : List Pending) (k e t : ℕ) → e < length at → time_of at e ≡ None → IsPlace list t k → IsCalendar at list
+pub put_listed : (at : List (Option ℕ)) (list : List Pending) (k e t : ℕ) → e < length at → pending_time at e ≡ None → IsPlace list t k → IsCalendar at list
     → IsCalendar (slice_set at e (Some t)) (insert list k (record { time = t; event = e }))
 put_listed at list k e t inside free spot cal = record {
   on = λ j x h. elim (stood list k item j x spot.within h) [
     | Before b f ↦ kept x.event x.time (cal.on j x f)
-    | Here d f ↦ subst (λ (q : Pending). time_of (slice_set at e (Some t)) q.event ≡ Some q.time) (sym f) here
+    | Here d f ↦ subst (λ (q : Pending). pending_time (slice_set at e (Some t)) q.event ≡ Some q.time) (sym f) here
     | Behind i d b f ↦ kept x.event x.time (cal.on i x f)
   ];
   all = λ q s is. elim (cases_eq q e) [
@@ -137,14 +137,14 @@ put_listed at list k e t inside free spot cal = record {
     item : Pending
     item = record { time = t; event = e }
 
-    here : time_of (slice_set at e (Some t)) e ≡ Some t
+    here : pending_time (slice_set at e (Some t)) e ≡ Some t
     here = get_or-set_same at e (Some t) None inside
 
-    kept : (q s : ℕ) → time_of at q ≡ Some s → time_of (slice_set at e (Some t)) q ≡ Some s
-    kept q s is = elim (cases_eq q e) [ inl same ↦ none_some (time_of at q) s (ap (time_of at) same ∙ free) is | inr apart ↦ get_or-set_other at e q (Some t) None apart ∙ is ]
+    kept : (q s : ℕ) → pending_time at q ≡ Some s → pending_time (slice_set at e (Some t)) q ≡ Some s
+    kept q s is = elim (cases_eq q e) [ inl same ↦ none_some (pending_time at q) s (ap (pending_time at) same ∙ free) is | inr apart ↦ get_or-set_other at e q (Some t) None apart ∙ is ]
 
     fresh : (i : ℕ) (x : Pending) → slice_get list i ≡ Some x → x.event ≡ e → ⊥
-    fresh i x f same = none_some (time_of at x.event) x.time (ap (time_of at) same ∙ free) (cal.on i x f)
+    fresh i x f same = none_some (pending_time at x.event) x.time (ap (pending_time at) same ∙ free) (cal.on i x f)
 
 -- an item of a list with the one at place k taken out
 data Stays (xs : List Pending) (k j : ℕ) (x : Pending) : Type 0 where
@@ -179,7 +179,7 @@ take_listed at list k e spot cal = record {
     | High b f ↦ kept x (λ same. (let o : j + 1 ≡ k = cal.once (j + 1) k x (item_at list k) f here (same ∙ sym spot.is) in absurd (omega (arith, o, b)))) (cal.on (j + 1) x f)
   ];
   all = λ q s is. elim (cases_eq q e) [
-    | inl same ↦ none_some (time_of (slice_set at e None) q) s (ap (time_of (slice_set at e None)) same ∙ get_or-set_same at e None None inside) is
+    | inl same ↦ none_some (pending_time (slice_set at e None) q) s (ap (pending_time (slice_set at e None)) same ∙ get_or-set_same at e None None inside) is
     | inr apart ↦ (let w = cal.all q s (sym (get_or-set_other at e q None None apart) ∙ is) in elim (cases_order w.0 k) [
       | inl here_too ↦ absurd (apart (sym w.3 ∙ ap (λ (x : Pending). x.event) (item_one w.1 (item_at list k) (sym w.2 ∙ ap (slice_get list) here_too ∙ here)) ∙ spot.is))
       | inr sides ↦ elim sides [
@@ -201,19 +201,19 @@ take_listed at list k e spot cal = record {
   ];
   count = (let c : length list ≡ count_by is_some at = cal.count in let l = length-remove list k spot.within in
       let s = sum_by-set (λ (o : Option ℕ). cond (is_some o) 1 0) at e None None inside in
-      let z : cond {A = ℕ} (is_some (time_of at e)) 1 0 ≡ 1 = ap (λ (o : Option ℕ). cond {A = ℕ} (is_some o) 1 0) pending in omega (arith, c, l, s, z, spot.within));
+      let z : cond {A = ℕ} (is_some (pending_time at e)) 1 0 ≡ 1 = ap (λ (o : Option ℕ). cond {A = ℕ} (is_some o) 1 0) pending in omega (arith, c, l, s, z, spot.within));
 }
   where
     here : slice_get list k ≡ Some (item_at list k)
     here = slice_get-get_or list k _ spot.within
 
-    pending : time_of at e ≡ Some (item_at list k).time
-    pending = ap (time_of at) (sym spot.is) ∙ cal.on k (item_at list k) here
+    pending : pending_time at e ≡ Some (item_at list k).time
+    pending = ap (pending_time at) (sym spot.is) ∙ cal.on k (item_at list k) here
 
     inside : e < length at
-    inside = elim (cases_lt e (length at)) [ inl less ↦ less | inr past ↦ none_some (time_of at e) (item_at list k).time (get_or_past at e None past) pending ]
+    inside = elim (cases_lt e (length at)) [ inl less ↦ less | inr past ↦ none_some (pending_time at e) (item_at list k).time (get_or_past at e None past) pending ]
 
-    kept : (x : Pending) → x.event ≢ e → time_of at x.event ≡ Some x.time → time_of (slice_set at e None) x.event ≡ Some x.time
+    kept : (x : Pending) → x.event ≢ e → pending_time at x.event ≡ Some x.time → pending_time (slice_set at e None) x.event ≡ Some x.time
     kept x apart is = get_or-set_other at e x.event None None apart ∙ is
 
     item_one : (a b : Pending) → Some a ≡ Some b → a ≡ b

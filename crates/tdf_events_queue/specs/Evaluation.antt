@@ -2,7 +2,7 @@
 -- that are triggered.
 -- Source: IEEE 1666-2011, 4.2.1.2 (evaluation phase), whose order is left open; by number is own.
 use Rattle.std.specs.Prelude.{ℕ, zero, suc, ◌≡◌, Bool, if◌then◌else◌, List, length, slice_index}
-use Rattle.tdf_events_queue.specs.Sets.{is_on, AreRising}
+use Rattle.tdf_events_queue.specs.Sets.{is_on, AreRisingFlags}
 
 module _ {S : Type 0} (run : ℕ → S → S) where
   -- each process below a bound was looked at
@@ -19,5 +19,5 @@ module _ {S : Type 0} (run : ℕ → S → S) where
 -- a list that names the triggered processes in rising order does for looking at every process
 abbrev pub EvaluatesByList : Type 0
 EvaluatesByList = (run : ℕ → ℕ → ℕ) (flags : List Bool) (list : List ℕ) (s : ℕ)
-    → AreRising flags list
+    → AreRisingFlags flags list
     → evaluated run flags (length flags) s ≡ ran_first run list (length list) s

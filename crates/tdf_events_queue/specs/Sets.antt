@@ -24,7 +24,7 @@ pub record AreListed (flags : List Bool) (list : List ℕ) : Type 0 where
   pub count : length list ≡ count_on flags
 
 -- the same, in rising order
-pub record AreRising (flags : List Bool) (list : List ℕ) : Type 0 where
+pub record AreRisingFlags (flags : List Bool) (list : List ℕ) : Type 0 where
   pub on : (j n : ℕ) → slice_get list j ≡ Some n → is_on flags n ≡ true
   pub all : (n : ℕ) → is_on flags n ≡ true → (j : ℕ) × (slice_get list j ≡ Some n)
   pub rising : (i j n m : ℕ) → i < j → slice_get list i ≡ Some n → slice_get list j ≡ Some m

@@ -37,7 +37,7 @@ impl Model for Calendar {
 ghost use Rattle.std.specs.List.{insert};
 ghost use Rattle.std.specs.Prelude.{◌≡◌, ◌≤◌, ◌<◌, ℕ, IfOk, IsSome, None, Some, length, replicate, slice_get, slice_set};
 ghost use Rattle.std.specs.Vec.{vec_capacity, vec_len};
-ghost use Rattle.tdf_events_queue.specs.Times.{IsNext, IsNextTime, earliest, time_of};
+ghost use Rattle.tdf_events_queue.specs.Times.{IsNextPending, IsNextTime, earliest, pending_time};
 ghost use Rattle.tdf_events_queue.specs.machine.Calendar.{IsLast, IsPlace, IsPlaceOf};
 
 use std::alloc::{AllocError, Global};
@@ -106,7 +106,7 @@ impl Calendar {
 
     /// A pending notification with the least time, none where nothing is pending.
     pub fn first(&self) -> Option<Pending>
-        ensures { IsNext self.now result }
+        ensures { IsNextPending self.now result }
     {
         last(&self.list)
     }
@@ -124,7 +124,7 @@ impl Calendar {
     /// The pending time of an event.
     pub fn time(&self, event: u32) -> Option<u64>
         requires { event < length self.now }
-        ensures { result ≡ time_of self.now event }
+        ensures { result ≡ pending_time self.now event }
     {
         self.times[event as usize]
     }
@@ -132,7 +132,7 @@ impl Calendar {
     /// Makes an event that has no pending time pending.
     fn add(&mut self, event: u32, time: u64)
         requires event { event < length self.old }
-        requires free { time_of self.old event ≡ None }
+        requires free { pending_time self.old event ≡ None }
         ensures { self.new ≡ slice_set self.old event (Some time) }
     {
         let k = place_of(&self.list, time);
@@ -142,7 +142,7 @@ impl Calendar {
 
     /// Takes an event's pending time away.
     fn remove(&mut self, event: u32)
-        requires { IsSome (time_of self.old event) }
+        requires { IsSome (pending_time self.old event) }
         ensures { self.new ≡ slice_set self.old event None }
     {
         let k = place_of_event(&self.list, event);
@@ -154,7 +154,7 @@ impl Calendar {
     pub fn notify(&mut self, event: u32, time: u64)
         requires { event < length self.old }
         ensures { self.new
-            ≡ slice_set self.old event (Some (earliest (time_of self.old event) time)) }
+            ≡ slice_set self.old event (Some (earliest (pending_time self.old event) time)) }
     {
         match self.time(event) {
             None => self.add(event, time),

@@ -27,7 +27,7 @@ impl Model for NumberSet {
 
 ghost use Rattle.std.specs.Prelude.{◌≡◌, ◌≤◌, ◌<◌, ◌++◌, ◌∷◌, [], IfOk, false, true, length, nat_eq, replicate, slice_set};
 ghost use Rattle.std.specs.Vec.{vec_capacity, vec_len};
-ghost use Rattle.tdf_events_queue.specs.Sets.{AreListed, AreRising, is_on, count_on};
+ghost use Rattle.tdf_events_queue.specs.Sets.{AreListed, AreRisingFlags, is_on, count_on};
 ghost use Rattle.tdf_events_queue.specs.machine.Clearing.{AreOff};
 
 use std::alloc::{AllocError, Global};
@@ -104,7 +104,7 @@ impl NumberSet {
     /// Brings the members into rising order.
     pub fn sort(&mut self)
         ensures flags { self.new.flags ≡ self.old.flags }
-        ensures rising { AreRising self.new.flags self.new.members }
+        ensures rising { AreRisingFlags self.new.flags self.new.members }
     {
         self.list.sort_unstable();
     }

@@ -17,7 +17,7 @@ use Rattle.tdf_expr.specs.Runs.{scope_in}
 use Rattle.tdf_expr.specs.declared.blocks.Block.{Block}
 use Rattle.tdf_expr.specs.declared.bodies.Body.TheVariants as body
 use Rattle.tdf_expr.specs.declared.spans.PortSpan.{PortSpan}
-use Rattle.tdf_exec_firing.specs.Activation.{port_samples, ports_before, sample_at, samples_from}
+use Rattle.tdf_exec_firing.specs.Activation.{port_samples, ports_before, assigned_sample, samples_from}
 use Rattle.tdf_exec_firing.specs.Firing.{read_on, samples_read, wire_of}
 use Rattle.tdf_exec_firing.specs.Wires.{AreWired, WiresOf}
 use Rattle.tdf_exec_firing.specs.declared.wires.InWire.{InWire}
@@ -25,14 +25,14 @@ use Rattle.tdf_fixed.specs.declared.raw.Raw.{Raw}
 use Rattle.tdf_bind.specs.declared.model.Flat.{Flat}
 use Rattle.tdf_streams.specs.Firing.{fronts}
 use Rattle.tdf_streams.specs.Net.{Net, Period, Turn}
-use Rattle.tdf_exec_layout.specs.Wiring.{AreWiresOf, Reads, port_at, port_of_row}
+use Rattle.tdf_exec_layout.specs.Wiring.{AreWiresOf, Reads, port_of_edge, port_of_row}
 use Rattle.tdf_bind_tables.specs.FlatTables.{FlatTablesOf}
 use Rattle.tdf_expr_semantics.specs.Bodies.{after_body}
 use Rattle.tdf_rings.specs.Carried.{ring_at}
 use Rattle.tdf_rings.specs.Rings.{RingOf}
 use Rattle.tdf_expr_symbols.specs.Names.{Names}
 use Rattle.tdf_expr_state.specs.State.{State, state_of}
-use Rattle.tdf_streams.specs.Bodies.{acted, after_part, done_by, rates_of, written_by}
+use Rattle.tdf_streams.specs.Bodies.{module_acted, after_part, done_by, module_rates, written_by}
 use Rattle.tdf_streams.specs.Periods.{PeriodInfo}
 use Rattle.tdf_streams.specs.Places.{actor_kind, block_at, place_of_port, read_through, reader_at, reader_of_row}
 use Rattle.tdf_lang_tree.specs.Pure.{PureTree}
@@ -124,7 +124,7 @@ module _ (tables : FlatTablesOf) (m : ℕ) (wires : WiresOf) (spans : List PortS
   -- an edge that passes the test is read, through the port at the place
   record Passed (place e : ℕ) : Type 0 where
     is : Reads tables m e
-    port_is : place_of_port tables.ports (port_at tables.edges e) ≡ place
+    port_is : place_of_port tables.ports (port_of_edge tables.edges e) ≡ place
 
   passed : (place e : ℕ) → test_of tables.ports m place (slice_get tables.edges e) ≡ true → Passed place e
   passed place e = go (slice_get tables.edges e) refl
@@ -141,7 +141,7 @@ module _ (tables : FlatTablesOf) (m : ℕ) (wires : WiresOf) (spans : List PortS
             port_is = ap (λ (o : Option EdgeRow). place_of_port tables.ports (port_of_row o)) at ∙ eqb-true _ _ both.1;
           }
 
-  passes : (place e : ℕ) → Reads tables m e → place_of_port tables.ports (port_at tables.edges e) ≡ place → test_of tables.ports m place (slice_get tables.edges e) ≡ true
+  passes : (place e : ℕ) → Reads tables m e → place_of_port tables.ports (port_of_edge tables.edges e) ≡ place → test_of tables.ports m place (slice_get tables.edges e) ≡ true
   passes place e is port = go (some_at tables.edges e is.inside)
     where
       go : (edge : EdgeRow) × (slice_get tables.edges e ≡ Some edge) → test_of tables.ports m place (slice_get tables.edges e) ≡ true
@@ -171,7 +171,7 @@ module _ (tables : FlatTablesOf) (m : ℕ) (wires : WiresOf) (spans : List PortS
               go true test =
                   let p = passed place d test in
                   let found = are.in_all d p.is in
-                  let port_d : found.1.port ≡ place = are.in_port found.0 found.1 found.2 ∙ ap (λ e. place_of_port tables.ports (port_at tables.edges e)) found.3 ∙ p.port_is in
+                  let port_d : found.1.port ≡ place = are.in_port found.0 found.1 found.2 ∙ ap (λ e. place_of_port tables.ports (port_of_edge tables.edges e)) found.3 ∙ p.port_is in
                   let one : found.0 ≡ j = wired.placed.in_port_once found.0 j found.1 w found.2 at (port_d ∙ sym port) in
                   let same : found.1 ≡ w = some_inj found.1 w (sym found.2 ∙ ap (slice_get wires.ins) one ∙ at) in
                   let edge_is : w.edge ≡ d = sym (ap (λ (u : InWire). u.edge) same) ∙ found.3 in
@@ -187,13 +187,13 @@ module _ (tables : FlatTablesOf) (m : ℕ) (wires : WiresOf) (spans : List PortS
               go true test =
                   let p = passed place d test in
                   let found = are.in_all d p.is in
-                  absurd (none found.0 found.1 found.2 (are.in_port found.0 found.1 found.2 ∙ ap (λ e. place_of_port tables.ports (port_at tables.edges e)) found.3 ∙ p.port_is))
+                  absurd (none found.0 found.1 found.2 (are.in_port found.0 found.1 found.2 ∙ ap (λ e. place_of_port tables.ports (port_of_edge tables.edges e)) found.3 ∙ p.port_is))
 
 -- the turn of a module that has fired
 abbrev pub turn_of : Flat → ModuleOf → Turn (List ℤ) Raw
 turn_of flat y = record {
   state = y.frame.state.cells;
-  outputs = λ port k. sample_at y.ports.spans y.ports.state.samples (place_of_port flat.tables.ports port) k;
+  outputs = λ port k. assigned_sample y.ports.spans y.ports.state.samples (place_of_port flat.tables.ports port) k;
 }
 
 module _ (flat : Flat) (c : ClusterOf) (m : ℕ) (x y : ModuleOf) (is : IsModuleOf flat c m x) (new : List RingOf)
@@ -207,36 +207,36 @@ module _ (flat : Flat) (c : ClusterOf) (m : ℕ) (x y : ModuleOf) (is : IsModule
   before block rates spans read = state_of (record { cells = x.frame.state.cells; rates = rates }) (ports_before spans (event_count flat.checked block) read)
 
   before_same : before x.block x.frame.state.rates x.ports.spans (samples_read x.wires c.reads c.rings)
-      ≡ before (block_at flat.tables.modules m) (rates_of info m) (port_spans_of flat.checked (block_at flat.tables.modules m)) read_def
+      ≡ before (block_at flat.tables.modules m) (module_rates info m) (port_spans_of flat.checked (block_at flat.tables.modules m)) read_def
   before_same =
       ap (λ l. with_samples x.block x.frame.state.rates x.ports.spans l)
       (same_samples _ _ 0 x.ports.spans (read_is flat.tables m x.wires x.ports.spans is.wires_are is.wired lists long c.reads c.rings fronts_are))
       ∙ ap (λ r. before x.block r x.ports.spans read_def) (is.rates ∙ ap (λ t. rates_in (attrs_at t m)) (sym table_is))
-      ∙ ap (λ s. before x.block (rates_of info m) s read_def) is.made.ports_are
-      ∙ ap (λ b. before b (rates_of info m) (port_spans_of flat.checked b) read_def) is.block_is
+      ∙ ap (λ s. before x.block (module_rates info m) s read_def) is.made.ports_are
+      ∙ ap (λ b. before b (module_rates info m) (port_spans_of flat.checked b) read_def) is.block_is
     where
       with_samples : (block : ℕ) → List ℕ → List PortSpan → List ℤ → State
       with_samples block rates spans samples = state_of (record { cells = x.frame.state.cells; rates = rates })
           (record (ports_before spans (event_count flat.checked block) read_def) { samples = samples })
 
-  done_is : done_by model flat m body.Processing x.frame.state.cells (rates_of info m) read_def ≡ state_of y.frame.state y.ports.state
+  done_is : done_by model flat m body.Processing x.frame.state.cells (module_rates info m) read_def ≡ state_of y.frame.state y.ports.state
   unfolding done_by
   done_is =
       let block = block_there _ (blocks_of model.globals) flat.checked.blocks.items x.block checked is.made.block in
-      ap (λ b. after_part model b body.Processing (before (block_at flat.tables.modules m) (rates_of info m) (port_spans_of flat.checked (block_at flat.tables.modules m)) read_def))
+      ap (λ b. after_part model b body.Processing (before (block_at flat.tables.modules m) (module_rates info m) (port_spans_of flat.checked (block_at flat.tables.modules m)) read_def))
       (ap (slice_get (blocks_of model.globals)) (sym is.block_is) ∙ block.1)
       ∙ ap (after_body (scope_in model block.0) (body_of block.0 body.Processing)) (sym before_same)
       ∙ sym (fired.acted.after model block.0 checked block.1)
 
   -- the activation of the streams is what was done
-  pub turn_is : acted model flat m (actor_kind flat.tables m) info x.frame.state.cells lists ≡ turn_of flat y
+  pub turn_is : module_acted model flat m (actor_kind flat.tables m) info x.frame.state.cells lists ≡ turn_of flat y
   turn_is =
-      ap (λ k. acted model flat m k info x.frame.state.cells lists) is.actor_is.kind_is
+      ap (λ k. module_acted model flat m k info x.frame.state.cells lists) is.actor_is.kind_is
       ∙ ap (written_by flat m) done_is
       ∙ ap (λ (s : List PortSpan). made s) (ap (port_spans_of flat.checked) (sym is.block_is) ∙ sym fired.made.ports_are)
     where
       made : List PortSpan → Turn (List ℤ) Raw
       made s = record {
         state = y.frame.state.cells;
-        outputs = λ port k. sample_at s y.ports.state.samples (place_of_port flat.tables.ports port) k;
+        outputs = λ port k. assigned_sample s y.ports.state.samples (place_of_port flat.tables.ports port) k;
       }

@@ -11,7 +11,7 @@ use Rattle.tdf_exec.proofs.Acting.{block_there}
 use Rattle.tdf_exec.proofs.Keeping.{get_set_other}
 use Rattle.tdf_exec.proofs.Moved.{some_inj}
 use Rattle.tdf_exec.proofs.Nexts.{get_read}
-use Rattle.tdf_exec.specs.Made.{is_sampler, samplers_before}
+use Rattle.tdf_exec.specs.Made.{is_sampler_runner, sampler_runners_before}
 use Rattle.tdf_exec.specs.declared.runners.Runner.{Runner}
 use Rattle.tdf_exec.specs.declared.runners.TracedPort.{TracedPort}
 use Rattle.tdf_exec.specs.machine.Starting.{AreFirstRunners, CanBegin, IsBegun, IsFirstRunner}
@@ -19,7 +19,7 @@ use Rattle.tdf_expr.specs.Blocks.{PureBlock, blocks_of}
 use Rattle.tdf_expr.specs.Checked.{IsCheckedOf}
 use Rattle.tdf_expr.specs.Frames.{ArePortsFit, FrameSeen, KeepsRead, PortsSeen, sample_formats}
 use Rattle.tdf_expr.specs.Made.{AreMadeFor, event_count, port_spans_of, start_cells, start_rates}
-use Rattle.tdf_expr.specs.Plans.{written}
+use Rattle.tdf_expr.specs.Plans.{shape_written}
 use Rattle.tdf_expr.specs.Runs.{Ran}
 use Rattle.tdf_expr.specs.declared.bodies.Body.TheVariants.{Initialize}
 use Rattle.tdf_expr.specs.declared.spans.PortSpan.{PortSpan}
@@ -44,7 +44,7 @@ nothing_there k (p ∷ ps) =
     ap (λ l. l ++ samples_from nothing_read (k + 1) ps) none
     ∙ ap (λ l. replicate p.count (pos 0) ++ l) (nothing_there (k + 1) ps)
     ∙ replicate-append-replicate p.count (length (sample_formats ps)) (pos 0)
-    ∙ ap (λ n. replicate n (pos 0)) (sym (length-append (replicate p.count (written p.format)) (sample_formats ps) ∙ ap (λ n. n + length (sample_formats ps)) (length-replicate p.count (written p.format))))
+    ∙ ap (λ n. replicate n (pos 0)) (sym (length-append (replicate p.count (shape_written p.format)) (sample_formats ps) ∙ ap (λ n. n + length (sample_formats ps)) (length-replicate p.count (shape_written p.format))))
 
 -- ports as they are made
 pub record AreNew (spans : List PortSpan) (events : ℕ) (ports : PortsSeen) : Type 0 where
@@ -143,15 +143,15 @@ begun_from f flat same m row below read can wires before after ports next cells 
 -- one runner more
 module _ (flat : Flat) (n : ℕ) (old now : List ActorWires) (samplers next : ℕ) (runners : List Runner) (w dest : ActorWires) (r : Runner)
     (are : AreFirstRunners flat n old now samplers runners) (there : slice_get now n ≡ Some w) (is : IsFirstRunner flat n samplers w r)
-    (more : next ≡ samplers + (if is_sampler r then 1 else 0)) where
-  whole : samplers_before (runners ++ r ∷ []) n ≡ samplers
-  whole = ap (λ k. count_by is_sampler (take k (runners ++ r ∷ []))) (sym are.long) ∙ ap (count_by is_sampler) (take-append_seam runners (r ∷ [])) ∙ sym are.counted
+    (more : next ≡ samplers + (if is_sampler_runner r then 1 else 0)) where
+  whole : sampler_runners_before (runners ++ r ∷ []) n ≡ samplers
+  whole = ap (λ k. count_by is_sampler_runner (take k (runners ++ r ∷ []))) (sym are.long) ∙ ap (count_by is_sampler_runner) (take-append_seam runners (r ∷ [])) ∙ sym are.counted
 
-  early : (m : ℕ) → m < n → samplers_before (runners ++ r ∷ []) m ≡ samplers_before runners m
-  early m low = ap (count_by is_sampler) (take-append-le m runners (r ∷ []) (let l = are.long in omega (arith, l, low)))
+  early : (m : ℕ) → m < n → sampler_runners_before (runners ++ r ∷ []) m ≡ sampler_runners_before runners m
+  early m low = ap (count_by is_sampler_runner) (take-append-le m runners (r ∷ []) (let l = are.long in omega (arith, l, low)))
 
   here : (m : ℕ) (x : ActorWires) (s : Runner) → slice_get old m ≡ Some x → slice_get (runners ++ r ∷ []) m ≡ Some s → (m < n) ⊎ (n ≤ m)
-      → IsFirstRunner flat m (samplers_before (runners ++ r ∷ []) m) x s
+      → IsFirstRunner flat m (sampler_runners_before (runners ++ r ∷ []) m) x s
   here m x s xat sat (inl low) =
       let l = are.long in
       subst (λ k. IsFirstRunner flat m k x s) (sym (early m low)) (are.each m x s xat (sym (get_low runners (r ∷ []) m (omega (arith, l, low))) ∙ sat))
@@ -161,13 +161,13 @@ module _ (flat : Flat) (n : ℕ) (old now : List ActorWires) (samplers next : �
       let index : m - length runners ≡ 0 = omega (arith, l, same) in
       let one : r ≡ s = some_inj r s (ap (slice_get (r ∷ [])) (sym index) ∙ sym (get_high runners (r ∷ []) m (omega (arith, l, high))) ∙ sat) in
       let wire : w ≡ x = some_inj w x (sym there ∙ are.left n (omega arith) ∙ ap (slice_get old) same ∙ xat) in
-      subst (λ k. IsFirstRunner flat k (samplers_before (runners ++ r ∷ []) k) x s) same
+      subst (λ k. IsFirstRunner flat k (sampler_runners_before (runners ++ r ∷ []) k) x s) same
       (subst (λ k. IsFirstRunner flat n k x s) (sym whole) (subst (λ y. IsFirstRunner flat n samplers y s) wire (subst (λ q. IsFirstRunner flat n samplers w q) one is)))
 
   pub runners_next : AreFirstRunners flat (n + 1) old (slice_set now n dest) next (runners ++ r ∷ [])
   runners_next = record {
     long = length-append runners (r ∷ []) ∙ ap (λ k. k + 1) are.long;
-    counted = more ∙ (let s = sum_by-append (λ (x : Runner). cond {A = ℕ} (is_sampler x) 1 0) runners (r ∷ []) in let c = are.counted in let o = last (is_sampler r) in omega (arith, s, c, o));
+    counted = more ∙ (let s = sum_by-append (λ (x : Runner). cond {A = ℕ} (is_sampler_runner x) 1 0) runners (r ∷ []) in let c = are.counted in let o = last (is_sampler_runner r) in omega (arith, s, c, o));
     same = length-set now n dest ∙ are.same;
     left = λ m high. get_set_other now n m dest (λ e. absurd (omega (arith, e, high))) ∙ are.left m (omega (arith, high));
     each = λ m x s xat sat. here m x s xat sat (cases_lt m n);

@@ -24,8 +24,8 @@ use Rattle.tdf_exec.proofs.Moves.{number_of, numbers_long}
 use Rattle.tdf_exec.proofs.Rows.{all_at}
 use Rattle.tdf_exec.specs.Cluster.{ClusterOf, next_offset}
 use Rattle.tdf_exec.specs.Crossing.{CanInstall, CrossesFrom, HasCrossed, IsReadyFor, cells_in, values_at}
-use Rattle.tdf_exec.specs.Made.{HasRows, IsClusterOf, IsClusterWith, IsInSpans, IsModuleOf, IsModuleWith, IsRunnerOf, IsRunnerWith, is_sampler, samplers_before}
-use Rattle.tdf_exec.specs.Played.{IsLike, cells_of, play_of, turns_from}
+use Rattle.tdf_exec.specs.Made.{HasRows, IsClusterOf, IsClusterWith, IsInSpans, IsModuleOf, IsModuleWith, IsRunnerOf, IsRunnerWith, is_sampler_runner, sampler_runners_before}
+use Rattle.tdf_exec.specs.Played.{IsLike, runner_cells, play_of, turns_from}
 use Rattle.tdf_exec.specs.Runners.{ModuleOf}
 use Rattle.tdf_exec.specs.declared.runners.Runner.{Runner}
 use Rattle.tdf_exec.specs.declared.runners.Runner.TheVariants as runner
@@ -38,8 +38,8 @@ use Rattle.tdf_expr.specs.declared.spans.PortSpan.{PortSpan}
 use Rattle.tdf_exec_firing.specs.Wires.{AreWired}
 use Rattle.tdf_bind.specs.declared.model.Flat.{Flat}
 use Rattle.tdf_streams.proofs.Api.{change_crosses, get_inside, none_some, some_same}
-use Rattle.tdf_streams.specs.Bodies.{changed, done_by, nothing_read, rates_of}
-use Rattle.tdf_streams.specs.Cluster.{cluster_net, is_outside, is_sampler_kind}
+use Rattle.tdf_streams.specs.Bodies.{changed, done_by, nothing_read, module_rates}
+use Rattle.tdf_streams.specs.Cluster.{cluster_net, is_outside_cluster, is_sampler_kind}
 use Rattle.tdf_streams.specs.Periods.{AreAttributes, PeriodRecord}
 use Rattle.tdf_streams.specs.Places.{actor_kind, block_at, changes_row, has_changes}
 use Rattle.tdf_lang_tree.specs.Pure.{PureTree}
@@ -87,7 +87,7 @@ tag (Some _) = 2
 
 -- the change body after the last period
 changed_last : (model : PureTree) (flat : Flat) (m : ℕ) (old : List PeriodRecord) (p : PeriodRecord) (cells : List ℤ) → changed model flat m (old ++ p ∷ []) cells
-    ≡ (if has_changes flat.tables.modules m then (done_by model flat m body.Change cells (rates_of p.info m) nothing_read).frame.cells else cells)
+    ≡ (if has_changes flat.tables.modules m then (done_by model flat m body.Change cells (module_rates p.info m) nothing_read).frame.cells else cells)
 changed_last model flat m [] p cells = refl
 changed_last model flat m (q ∷ []) p cells = refl
 changed_last model flat m (q ∷ (r ∷ old)) p cells = changed_last model flat m (r ∷ old) p cells
@@ -156,16 +156,16 @@ module _ (flat : Flat) (c : ClusterOf) (laid : IsLaid flat) (of : IsClusterOf fl
       let t = moved_at m r.0 r.1 in
       record { r = r.0; r_at = r.1; to = subst (AskedTo m r.0) (some_inj t.0 s (sym t.1 ∙ at)) t.2 }
 
-  sampler_same : (m : ℕ) (r s : Runner) → AskedTo m r s → is_sampler s ≡ is_sampler r
-  sampler_same m (runner.Module x) s to = ap is_sampler to.is
-  sampler_same m (runner.Sampler k) s to = ap is_sampler to
-  sampler_same m (runner.Sink k) s to = ap is_sampler to
-  sampler_same m runner.Outside s to = ap is_sampler to
+  sampler_same : (m : ℕ) (r s : Runner) → AskedTo m r s → is_sampler_runner s ≡ is_sampler_runner r
+  sampler_same m (runner.Module x) s to = ap is_sampler_runner to.is
+  sampler_same m (runner.Sampler k) s to = ap is_sampler_runner to
+  sampler_same m (runner.Sink k) s to = ap is_sampler_runner to
+  sampler_same m runner.Outside s to = ap is_sampler_runner to
 
-  before : (m : ℕ) → samplers_before c.runners m ≡ samplers_before runners m
+  before : (m : ℕ) → sampler_runners_before c.runners m ≡ sampler_runners_before runners m
   before m = sym (count_alike runners c.runners m moved.are.same (λ n x y xat yat.
       let h : CameFrom n x = came n x xat in
-      sampler_same n h.r x h.to ∙ ap is_sampler (some_inj h.r y (sym h.r_at ∙ yat))))
+      sampler_same n h.r x h.to ∙ ap is_sampler_runner (some_inj h.r y (sym h.r_at ∙ yat))))
 
   -- a module has the rates of the table after the change bodies
   module_after : (m : ℕ) (x : ModuleOf) (s : Runner) → IsModuleOf flat c m x → (asked : IsAsked m x s)
@@ -292,20 +292,20 @@ module _ (flat : Flat) (c : ClusterOf) (laid : IsLaid flat) (of : IsClusterOf fl
   }
 
   -- the values are those after the change bodies
-  values_after : (old : List PeriodRecord) (p : PeriodRecord) → p.info.table ≡ c.table → (m : ℕ) (r s : Runner) → IsRunnerOf flat c m r → slice_get c.runners m ≡ Some r → is_outside flat.tables c.number m ≡ false
-      → AskedTo m r s → cells_of s ≡ changed model flat m (old ++ p ∷ []) (cells_of r)
+  values_after : (old : List PeriodRecord) (p : PeriodRecord) → p.info.table ≡ c.table → (m : ℕ) (r s : Runner) → IsRunnerOf flat c m r → slice_get c.runners m ≡ Some r → is_outside_cluster flat.tables c.number m ≡ false
+      → AskedTo m r s → runner_cells s ≡ changed model flat m (old ++ p ∷ []) (runner_cells r)
   values_after old p table m (runner.Module x) s is at inside to =
-      ap cells_of to.is ∙ to.changed.cells ∙ cells_asked model flat to.a (values_at c.runners to.a.number)
+      ap runner_cells to.is ∙ to.changed.cells ∙ cells_asked model flat to.a (values_at c.runners to.a.number)
       ∙ ap (λ n. if has_changes flat.tables.modules n then (done_by model flat n body.Change (values_at c.runners n) to.a.rates nothing_read).frame.cells else values_at c.runners n) to.own
       ∙ ap (λ l. if has_changes flat.tables.modules m then (done_by model flat m body.Change l to.a.rates nothing_read).frame.cells else l) (ap cells_in at)
       ∙ ap (λ l. if has_changes flat.tables.modules m then (done_by model flat m body.Change x.frame.state.cells l nothing_read).frame.cells else x.frame.state.cells) rates
       ∙ sym (changed_last model flat m old p x.frame.state.cells)
     where
-      rates : to.a.rates ≡ rates_of p.info m
+      rates : to.a.rates ≡ module_rates p.info m
       rates = sym (ap rates_in (ap (λ (t : List AttrsOf). attrs_at t m) table ∙ ap (attrs_at c.table) (sym to.own) ∙ row_found flat.tables c.number c.table of.rows to.place to.a to.at))
   values_after old p table m (runner.Sampler k) s is at inside to = true_false (sym (ap is_sampler_kind is.actor_is.kind_is) ∙ (neither (is_sampler_kind (actor_kind flat.tables m)) _ inside).0)
   values_after old p table m (runner.Sink k) s is at inside to =
-      ap cells_of to ∙ sym (changed_last model flat m old p [] ∙ ap (λ b. if b then (done_by model flat m body.Change [] (rates_of p.info m) nothing_read).frame.cells else []) (none_there (slice_get flat.tables.modules m) refl))
+      ap runner_cells to ∙ sym (changed_last model flat m old p [] ∙ ap (λ b. if b then (done_by model flat m body.Change [] (module_rates p.info m) nothing_read).frame.cells else []) (none_there (slice_get flat.tables.modules m) refl))
     where
       none_there : (o : Option _) → slice_get flat.tables.modules m ≡ o → changes_row o ≡ false
       none_there None here = refl
@@ -314,18 +314,18 @@ module _ (flat : Flat) (c : ClusterOf) (laid : IsLaid flat) (of : IsClusterOf fl
       absurd (is (eqb-true (slice_index (clusters_of flat.tables) m) c.number (not_not _ (neither (is_sampler_kind (actor_kind flat.tables m)) _ inside).1)))
 
   pub crosses_asked : (table : List AttrsOf) → (old : List PeriodRecord) (p : PeriodRecord) → p.info.table ≡ c.table → (from : ℕ) → (m : ℕ) (x : List ℤ)
-      → slice_get (play_of from (crossed_of c table runners)).states m ≡ Some x → is_outside flat.tables c.number m ≡ false
+      → slice_get (play_of from (crossed_of c table runners)).states m ≡ Some x → is_outside_cluster flat.tables c.number m ≡ false
       → (b : List ℤ) × (slice_get (play_of from c).states m ≡ Some b) × (x ≡ changed model flat m (old ++ p ∷ []) b)
-  crosses_asked table old p is from m x at inside = go (slice_get runners m) refl (sym (slice_get-map cells_of runners m) ∙ at)
+  crosses_asked table old p is from m x at inside = go (slice_get runners m) refl (sym (slice_get-map runner_cells runners m) ∙ at)
     where
-      go : (o : Option Runner) → slice_get runners m ≡ o → option_map cells_of o ≡ Some x
+      go : (o : Option Runner) → slice_get runners m ≡ o → option_map runner_cells o ≡ Some x
           → (b : List ℤ) × (slice_get (play_of from c).states m ≡ Some b) × (x ≡ changed model flat m (old ++ p ∷ []) b)
       go None there given = none_some x given
       go (Some s) there given =
           let h : CameFrom m s = came m s there in (
-            cells_of h.r,
-            slice_get-map cells_of c.runners m ∙ ap (option_map cells_of) h.r_at,
-            sym (some_same (cells_of s) x given) ∙ values_after old p is m h.r s (of.runners m h.r h.r_at) h.r_at inside h.to,
+            runner_cells h.r,
+            slice_get-map runner_cells c.runners m ∙ ap (option_map runner_cells) h.r_at,
+            sym (some_same (runner_cells s) x given) ∙ values_after old p is m h.r s (of.runners m h.r h.r_at) h.r_at inside h.to,
           )
 
 -- where it stood at the end of a period, it crosses: for each model that the bodies are of

@@ -8,7 +8,7 @@ use Rattle.std.specs.List.{All}
 use Rattle.std.specs.Prelude.{slice_get, slice_index}
 use Rattle.tdf_bind_tables.specs.FlatTables.{FlatTablesOf}
 use Rattle.tdf_exec.specs.Cluster.{ClusterOf}
-use Rattle.tdf_exec.specs.Made.{AreHeld, IsSafe}
+use Rattle.tdf_exec.specs.Made.{AreHeld, IsClusterSafe}
 use Rattle.tdf_exec_layout.specs.Samples.{edge_format}
 use Rattle.tdf_exec.specs.declared.runners.Runner.{Runner}
 use Rattle.tdf_exec.specs.machine.Steps.{AreMovedBy, kept, with_parts}
@@ -37,7 +37,7 @@ module _ (entries : List Entry) (i : ℕ) (x : Entry) (at : slice_get entries i 
   done_other m other = count_by_more_no (λ (y : Entry). nat_eq y.actor m) entries i x (slice_get_within entries i x at)
       (ne_eqb _ m (λ e. other (sym (ap (λ (y : Entry). y.actor) (get_or_from_slice_get entries i x x at)) ∙ e)))
 
-module _ (tables : FlatTablesOf) (c : ClusterOf) (safe : IsSafe tables c) (x : Entry) (at : slice_get c.entries c.place ≡ Some x) (held : AreHeld tables c)
+module _ (tables : FlatTablesOf) (c : ClusterOf) (safe : IsClusterSafe tables c) (x : Entry) (at : slice_get c.entries c.place ≡ Some x) (held : AreHeld tables c)
     (e : ℕ) (inside : e < length tables.edges) where
   pub present_now : reader_at tables.edges e ≡ x.actor → slice_index c.reads e ≤ length (ring_at c.rings e).samples
   present_now reads =
@@ -128,7 +128,7 @@ module _ (tables : FlatTablesOf) (c : ClusterOf) (safe : IsSafe tables c) (x : E
       ]
 
 pub held_after : (tables : FlatTablesOf) (c : ClusterOf) (x : Entry) (given : ℕ → List Raw) (new : List RingOf) (runners : List Runner) (positions : List ℕ)
-    → IsSafe tables c → slice_get c.entries c.place ≡ Some x → AreHeld tables c → AreMovedBy tables c x.actor given new
+    → IsClusterSafe tables c → slice_get c.entries c.place ≡ Some x → AreHeld tables c → AreMovedBy tables c x.actor given new
     → AreHeld tables (with_parts c (c.place + 1) new runners positions)
 unfolding after
 held_after tables c x given new runners positions safe at held are = record {

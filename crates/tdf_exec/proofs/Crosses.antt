@@ -12,15 +12,15 @@ use Rattle.tdf_exec.proofs.Planned.{no_times, none_before}
 use Rattle.tdf_exec.specs.Cluster.{ClusterOf, next_offset, offset_in}
 use Rattle.tdf_exec.specs.Crossing.{CrossesFrom, HasNoChanges, StandsAtNext, at_place}
 use Rattle.tdf_exec.specs.Made.{AreHeld, IsClusterWith, IsRunnerWith}
-use Rattle.tdf_exec.specs.Played.{IsPeriodOf, cells_of, play_of, turns_from}
+use Rattle.tdf_exec.specs.Played.{IsPeriodOf, runner_cells, play_of, turns_from}
 use Rattle.tdf_exec.specs.declared.runners.Runner.{Runner}
 use Rattle.tdf_exec.specs.declared.runners.Runner.TheVariants as runner
 use Rattle.tdf_bind.specs.declared.model.Flat.{Flat}
 use Rattle.tdf_streams.proofs.Api.{change_crosses, install_stands, get_inside, get_made_at, none_some, are_active, record_present, table_record, whole_sound}
 use Rattle.tdf_schedule.specs.Plan.{done}
 use Rattle.tdf_schedule.specs.declared.entry.Entry.{Entry}
-use Rattle.tdf_streams.specs.Bodies.{changed, done_by, nothing_read, rates_of}
-use Rattle.tdf_streams.specs.Cluster.{cluster_net, is_outside, is_sampler_kind}
+use Rattle.tdf_streams.specs.Bodies.{changed, done_by, nothing_read, module_rates}
+use Rattle.tdf_streams.specs.Cluster.{cluster_net, is_outside_cluster, is_sampler_kind}
 use Rattle.tdf_streams.specs.Periods.{PeriodRecord, period_record}
 use Rattle.tdf_streams.specs.Places.{actor_kind, changes_row, has_changes, reader_at, writer_at}
 use Rattle.tdf_expr.specs.declared.bodies.Body.TheVariants as body
@@ -98,7 +98,7 @@ of_crossed flat held c crossed of end = of_at flat held c c.place crossed of of.
 unchanged : (model : PureTree) (flat : Flat) (m : ℕ) (periods : List PeriodRecord) (cells : List ℤ) → has_changes flat.tables.modules m ≡ false → changed model flat m periods cells ≡ cells
 unchanged model flat m [] cells still = refl
 unchanged model flat m (p ∷ []) cells still =
-    ap (λ b. if b then (done_by model flat m body.Change cells (rates_of p.info m) nothing_read).frame.cells else cells) still
+    ap (λ b. if b then (done_by model flat m body.Change cells (module_rates p.info m) nothing_read).frame.cells else cells) still
 unchanged model flat m (p ∷ (q ∷ ps)) cells still = unchanged model flat m (q ∷ ps) cells still
 
 module _ (flat : Flat) (held : List AttrsOf) (c : ClusterOf) (of : IsClusterWith flat held c) (end : next_offset c ≡ None) where
@@ -134,7 +134,7 @@ module _ (flat : Flat) (held : List AttrsOf) (c : ClusterOf) (of : IsClusterWith
         states = λ m x at inside. (x, at, sym (unchanged model flat m (old ++ p ∷ []) x (none_here m inside)));
       })
     where
-      none_here : (m : ℕ) → is_outside flat.tables c.number m ≡ false → has_changes flat.tables.modules m ≡ false
+      none_here : (m : ℕ) → is_outside_cluster flat.tables c.number m ≡ false → has_changes flat.tables.modules m ≡ false
       none_here m inside = go (cases_lt m (length flat.tables.modules))
         where
           go : (m < length flat.tables.modules) ⊎ (length flat.tables.modules ≤ m) → has_changes flat.tables.modules m ≡ false
@@ -188,8 +188,8 @@ module _ (flat : Flat) (held : List AttrsOf) (c : ClusterOf) (of : IsClusterWith
 pub stands_next : (flat : Flat) (held : List AttrsOf) (c : ClusterOf) → IsClusterWith flat held c → StandsAtNext flat c (at_place c 0 false)
 stands_next flat held c of model start old p next reads from f past timed still crosses =
     install_stands (cluster_net model flat c.number start) old p next reads f (play_of from c) (play_of 0 (at_place c 0 false))
-    (are_active model flat c.number start old p (play_of from c) past timed (let l = length-map c.runners cells_of in let a = of.actors in omega (arith, l, a))) crosses (record {
+    (are_active model flat c.number start old p (play_of from c) past timed (let l = length-map c.runners runner_cells in let a = of.actors in omega (arith, l, a))) crosses (record {
       turns = λ m. zero_in (turns_from c.entries 0 0) (range_with_len 0 (length c.runners)) m (λ j. omega arith);
       lists = refl;
-      states = λ m x at inside. (x, at, sym (ap (λ b. if b then (done_by model flat m body.Reinitialize x (rates_of next.info m) nothing_read).frame.cells else x) still));
+      states = λ m x at inside. (x, at, sym (ap (λ b. if b then (done_by model flat m body.Reinitialize x (module_rates next.info m) nothing_read).frame.cells else x) still));
     })

@@ -10,19 +10,19 @@ use Rattle.tdf_dynamic_plans.specs.Rates.{edge_kind, net_of, net_ports, port_rat
 use Rattle.tdf_graph.specs.declared.actors.Edge.{Edge}
 use Rattle.tdf_exec.proofs.Rows.{index_at}
 use Rattle.tdf_streams.specs.Periods.{read_rates, write_rates}
-use Rattle.tdf_timestep.specs.Period.{rate_at, rate_of}
+use Rattle.tdf_timestep.specs.Period.{port_rate_or_one, rate_at_port}
 use Rattle.tdf_bind_connections.specs.declared.edges.EdgeRow.{EdgeRow}
 use Rattle.tdf_bind_connections.specs.declared.modules.PortRow.{PortRow}
 
 module _ (tables : FlatTablesOf) (table : List AttrsOf) where
   -- the rate of a port, and of one that isn't there
-  pub rate_there : (n : ℕ) (row : PortRow) → slice_get tables.ports n ≡ Some row → rate_of (net_ports tables table) (Some n) ≡ port_rate table row
+  pub rate_there : (n : ℕ) (row : PortRow) → slice_get tables.ports n ≡ Some row → rate_at_port (net_ports tables table) (Some n) ≡ port_rate table row
   unfolding net_ports
-  rate_there n row at = ap rate_at (slice_get-map (rated_port table) tables.ports n ∙ ap (option_map (rated_port table)) at)
+  rate_there n row at = ap port_rate_or_one (slice_get-map (rated_port table) tables.ports n ∙ ap (option_map (rated_port table)) at)
 
-  pub rate_past : (n : ℕ) → length tables.ports ≤ n → rate_of (net_ports tables table) (Some n) ≡ 1
+  pub rate_past : (n : ℕ) → length tables.ports ≤ n → rate_at_port (net_ports tables table) (Some n) ≡ 1
   unfolding net_ports
-  rate_past n past = ap rate_at (slice_get-map (rated_port table) tables.ports n ∙ ap (option_map (rated_port table)) (slice_get_past tables.ports n past))
+  rate_past n past = ap port_rate_or_one (slice_get-map (rated_port table) tables.ports n ∙ ap (option_map (rated_port table)) (slice_get_past tables.ports n past))
 
   abbrev pub edge_reads : EdgeRow → ℕ
   edge_reads edge = read_rate_by (net_ports tables table) edge (edge_kind tables.ports edge)

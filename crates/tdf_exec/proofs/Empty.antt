@@ -6,7 +6,7 @@ use Rattle.tdf_expr.specs.Runs.{scope_in}
 use Rattle.tdf_expr.specs.declared.bodies.Body.{Body}
 use Rattle.tdf_fixed.specs.declared.raw.Raw.{Raw}
 use Rattle.tdf_bind.specs.declared.model.Flat.{Flat}
-use Rattle.tdf_expr_semantics.specs.Bodies.{after, after_all, assigned_at, limit_value, noticed_at, rate_set, repeated, stepped, stepped_at, target_index, whole_within, with_element, with_whole}
+use Rattle.tdf_expr_semantics.specs.Bodies.{after, after_all, assigned_at, limit_value, noticed_at, rate_set, repeated, step_assigned, stepped_at, target_index, whole_within, with_element, with_whole}
 use Rattle.tdf_expr_semantics.specs.Places.{first_cell, rate_number}
 use Rattle.tdf_expr_semantics.specs.Value.{cast_number, holds, value}
 use Rattle.tdf_expr_symbols.specs.Faults.{opened}
@@ -57,7 +57,7 @@ step_bare : (own : Names) (n : Option ℕ) (step : ℕ) (s : State) → Bare s �
 step_bare own None step s none = none
 step_bare own (Some n) step s none = none
 
-stepped_bare : (own : Names) (port : Option (List ℕ)) (step : ℕ) (s : State) → Bare s → Bare (stepped own port step s)
+stepped_bare : (own : Names) (port : Option (List ℕ)) (step : ℕ) (s : State) → Bare s → Bare (step_assigned own port step s)
 stepped_bare own None step s none = none
 stepped_bare own (Some port) step s none = step_bare own (place_of own port) step s none
 

@@ -5,11 +5,11 @@ use Rattle.std.proofs.lemmas.List.FromFn.{length-map-range_with_len}
 use Rattle.std.proofs.lemmas.Option.{slice_get-map}
 use Rattle.std.specs.List.{cons_option, enumerate_from, range_with_len}
 use Rattle.std.specs.Prelude.{filter_map, slice_get}
-use Rattle.tdf_bind_tables.specs.Actors.{actor_of_kind, actor_places, module_actor, place_of, port_actor}
+use Rattle.tdf_bind_tables.specs.Actors.{actor_of_kind, actor_places, module_actor, actor_place, port_actor}
 use Rattle.tdf_bind_tables.specs.declared.actors.ActorPlace.{ActorPlace}
 use Rattle.tdf_bind_tables.specs.declared.actors.ActorRow.{ActorRow}
 use Rattle.tdf_dynamic_plans.specs.Attributes.{AttrsOf}
-use Rattle.tdf_dynamic_plans.specs.Rates.{kind_of, net_ports, port_rate, read_rate_by, write_rate_by}
+use Rattle.tdf_dynamic_plans.specs.Rates.{kind_of_port, net_ports, port_rate, read_rate_by, write_rate_by}
 use Rattle.tdf_exec.proofs.EdgeRates.{edge_reads, edge_writes, rate_there}
 use Rattle.tdf_exec.proofs.Rows.{all_at}
 use Rattle.tdf_exec.specs.machine.Laid.{IsLaid}
@@ -19,7 +19,7 @@ use Rattle.tdf_graph.specs.declared.actors.Actor.{Actor}
 use Rattle.tdf_graph.specs.declared.actors.Actor.TheVariants as actor
 use Rattle.tdf_exec_layout.specs.Edges.{IsEdgeRow}
 use Rattle.tdf_streams.specs.Places.{actor_kind, driver_or, kind_of_row}
-use Rattle.tdf_timestep.specs.Period.{rate_of}
+use Rattle.tdf_timestep.specs.Period.{rate_at_port}
 use Rattle.tdf_lang_tree.specs.declared.blocks.PortKind.{PortKind}
 use Rattle.tdf_lang_tree.specs.declared.blocks.PortKind.TheVariants.{In, Out, DeIn, DeOut}
 use Rattle.tdf_bind_connections.specs.declared.edges.EdgeRow.{EdgeRow}
@@ -54,12 +54,12 @@ module _ (flat : Flat) (laid : IsLaid flat) where
   long : length module_places ≡ modules
   long = length-map-range_with_len module_actor 0 modules
 
-  kind_from : (o : Option ActorRow) (p : ActorPlace) → option_map place_of o ≡ Some p → kind_of_row o ≡ Some p.kind
+  kind_from : (o : Option ActorRow) (p : ActorPlace) → option_map actor_place o ≡ Some p → kind_of_row o ≡ Some p.kind
   kind_from None p h = none_some p h
-  kind_from (Some row) p h = ap (λ (q : ActorPlace). Some q.kind) (some_same (place_of row) p h)
+  kind_from (Some row) p h = ap (λ (q : ActorPlace). Some q.kind) (some_same (actor_place row) p h)
 
-  placed : (m : ℕ) → option_map place_of (slice_get flat.tables.actors m) ≡ slice_get (actor_places modules flat.tables.ports) m
-  placed m = sym (slice_get-map place_of flat.tables.actors m) ∙ ap (λ l. slice_get l m) laid.limits.actors.places
+  placed : (m : ℕ) → option_map actor_place (slice_get flat.tables.actors m) ≡ slice_get (actor_places modules flat.tables.ports) m
+  placed m = sym (slice_get-map actor_place flat.tables.actors m) ∙ ap (λ l. slice_get l m) laid.limits.actors.places
 
   pub module_kind : (m : ℕ) → m < length flat.tables.modules → actor_kind flat.tables m ≡ Some actor.Module
   module_kind m below =
@@ -88,8 +88,8 @@ module _ (flat : Flat) (laid : IsLaid flat) where
       high past None at kind = none_some actor.Module kind
       high past (Some row) at kind =
           let l = long in
-          not_module 0 flat.tables.ports (m - length module_places) (place_of row)
-          (sym (get_high module_places (others 0 flat.tables.ports) m (omega (arith, l, past))) ∙ sym (placed m) ∙ ap (option_map place_of) at) kind
+          not_module 0 flat.tables.ports (m - length module_places) (actor_place row)
+          (sym (get_high module_places (others 0 flat.tables.ports) m (omega (arith, l, past))) ∙ sym (placed m) ∙ ap (option_map actor_place) at) kind
 
       go : (m < modules) ⊎ (modules ≤ m) → m < length flat.tables.modules
       go (inl below) = below
@@ -108,11 +108,11 @@ module _ (flat : Flat) (laid : IsLaid flat) where
 
     reads_by : (edge : EdgeRow) (port : PortRow) (kind : PortKind) → slice_get flat.tables.ports edge.port ≡ Some port → port.kind ≡ kind
         → edge_reads flat.tables table edge ≡ read_rate_by (net_ports flat.tables table) edge (Some kind)
-    reads_by edge port kind at is = ap (λ o. read_rate_by (net_ports flat.tables table) edge (kind_of o)) at ∙ ap (λ k. read_rate_by (net_ports flat.tables table) edge (Some k)) is
+    reads_by edge port kind at is = ap (λ o. read_rate_by (net_ports flat.tables table) edge (kind_of_port o)) at ∙ ap (λ k. read_rate_by (net_ports flat.tables table) edge (Some k)) is
 
     writes_by : (edge : EdgeRow) (port : PortRow) (kind : PortKind) → slice_get flat.tables.ports edge.port ≡ Some port → port.kind ≡ kind
         → edge_writes flat.tables table edge ≡ write_rate_by (net_ports flat.tables table) edge (Some kind)
-    writes_by edge port kind at is = ap (λ o. write_rate_by (net_ports flat.tables table) edge (kind_of o)) at ∙ ap (λ k. write_rate_by (net_ports flat.tables table) edge (Some k)) is
+    writes_by edge port kind at is = ap (λ o. write_rate_by (net_ports flat.tables table) edge (kind_of_port o)) at ∙ ap (λ k. write_rate_by (net_ports flat.tables table) edge (Some k)) is
 
     -- a module reads an edge through the port that gives it
     pub module_reads : (edge : EdgeRow) → IsEdgeRow flat.tables edge → actor_kind flat.tables edge.reader ≡ Some actor.Module → HasPort edge.port edge.reader (edge_reads flat.tables table edge)
@@ -137,7 +137,7 @@ module _ (flat : Flat) (laid : IsLaid flat) where
       port = driver;
       at = ap (λ o. slice_get flat.tables.ports (driver_or edge.port o)) h.driven ∙ h.driver_at;
       own = sym h.writer;
-      rate_is = writes_by edge port In h.port_at h.port_kind ∙ ap (rate_of (net_ports flat.tables table)) h.driven ∙ rate_there flat.tables table out driver h.driver_at;
+      rate_is = writes_by edge port In h.port_at h.port_kind ∙ ap (rate_at_port (net_ports flat.tables table)) h.driven ∙ rate_there flat.tables table out driver h.driver_at;
     }
     module_writes edge (IsEdgeRow.FromSampler port h) is = no_sampler (actor_kind flat.tables edge.writer) is (ap kind_of_row h.writer.row_at ∙ ap Some h.writer.kind_is)
     module_writes edge (IsEdgeRow.ToSink port h) is = record {

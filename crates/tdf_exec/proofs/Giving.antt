@@ -16,11 +16,11 @@ use Rattle.tdf_exec.proofs.Rows.{all_at}
 use Rattle.tdf_exec.proofs.Stepping.{front_at, module_step, module_turn, sampler_step, sink_step}
 use Rattle.tdf_exec.specs.Cluster.{ClusterOf}
 use Rattle.tdf_exec.specs.machine.Fired.{HasGiven, HasRun, HasRunModule, HasSampled, HasSent}
-use Rattle.tdf_exec.specs.Gained.{HasFewPlaces, IsSentOf, sent_by, sent_sample, sent_size, traced_by, traced_size, with_gains}
+use Rattle.tdf_exec.specs.Gained.{SampleHasFewPlaces, IsSentOf, sent_by, sent_sample, sent_size, traced_by, traced_size, with_gains}
 use Rattle.tdf_exec.specs.Made.{IsClusterOf, IsModuleOf, IsSamplerOf, IsSinkOf}
 use Rattle.tdf_exec.specs.Played.{IsPeriodOf, play_of}
 use Rattle.tdf_exec.specs.Runners.{ModuleOf, SamplerOf}
-use Rattle.tdf_exec.specs.Traced.{port_samples, traced_count, traced_port, turn_samples}
+use Rattle.tdf_exec.specs.Traced.{traced_port_samples, traced_count, traced_port, turn_samples}
 use Rattle.tdf_exec_layout.specs.Samples.{edge_format}
 use Rattle.tdf_exec_layout.specs.Traced.{traced_ports}
 use Rattle.tdf_exec.specs.declared.runners.Runner.{Runner}
@@ -65,7 +65,7 @@ pub record StepGains (flat : Flat) (inputs : List Raw) (c d : ClusterOf) (x : En
   pub traced : List Traced
   pub gains : after ≡ with_gains before sent traced
   pub sinks : All (IsSentOf flat.tables) sent
-  pub places : All HasFewPlaces traced
+  pub places : All SampleHasFewPlaces traced
   pub few_sent : length sent ≡ sent_size (slice_get c.runners x.actor)
   pub few_traced : length traced ≡ traced_size (slice_get c.runners x.actor)
   pub step : IsAnyStep flat inputs c d x sent traced
@@ -79,7 +79,7 @@ module _ (flat : Flat) (c : ClusterOf) (inputs : List Raw) (x : Entry) (of : IsC
       → HasGiven x.actor c.rings after outs outs2 → StepGains flat inputs c (later after) x outs outs2
   module_gains y after there ran given = record {
     sent = [];
-    traced = flat_map (port_samples ran.next.ports) ran.next.traced;
+    traced = flat_map (traced_port_samples ran.next.ports) ran.next.traced;
     gains = subst (λ r. HasGiven x.actor c.rings r outs outs2) ran.after_is given;
     sinks = All-nil (IsSentOf flat.tables);
     places = ports_few ran.next.ports ran.next.traced;
@@ -89,8 +89,8 @@ module _ (flat : Flat) (c : ClusterOf) (inputs : List Raw) (x : Entry) (of : IsC
       step = module_step flat c inputs x of ins at new model start old p reads from checked period y after there position ran;
       sent_is = sym (ap (λ k. sent_by k x.actor (fronts (cluster_net model flat c.number start) p x.actor (play_of from c).lists 0 (length flat.tables.edges))) is.actor_is.kind_is);
       traced_is =
-          ap (flat_map (port_samples ran.next.ports)) (ran.fired.traced ∙ is.traced)
-          ∙ flat_map-map (port_samples ran.next.ports) (traced_port flat.tables c.table) (traced_ports flat.tables x.actor)
+          ap (flat_map (traced_port_samples ran.next.ports)) (ran.fired.traced ∙ is.traced)
+          ∙ flat_map-map (traced_port_samples ran.next.ports) (traced_port flat.tables c.table) (traced_ports flat.tables x.actor)
           ∙ ap (λ t. flat_map (turn_samples flat.tables t (turn_of flat ran.next)) (traced_ports flat.tables x.actor)) (sym period.table)
           ∙ sym (ap (λ k. traced_by flat.tables k x.actor p.info.table (turn_of flat ran.next)) is.actor_is.kind_is)
           ∙ ap (traced_by flat.tables (actor_kind flat.tables x.actor) x.actor p.info.table)
@@ -108,7 +108,7 @@ module _ (flat : Flat) (c : ClusterOf) (inputs : List Raw) (x : Entry) (of : IsC
     traced = [];
     gains = subst (λ r. HasGiven x.actor c.rings r outs outs2) ran.after_is given ∙ gains_none outs;
     sinks = All-nil (IsSentOf flat.tables);
-    places = All-nil HasFewPlaces;
+    places = All-nil SampleHasFewPlaces;
     few_sent = sym (ap sent_size there);
     few_traced = sym (ap traced_size there);
     step = λ model start old p reads from checked period told.
@@ -130,7 +130,7 @@ module _ (flat : Flat) (c : ClusterOf) (inputs : List Raw) (x : Entry) (of : IsC
     traced = [];
     gains = out.given;
     sinks = All-cons (IsSentOf flat.tables) (sent_sample x.actor out.value) [] is_sent (All-nil (IsSentOf flat.tables));
-    places = All-nil HasFewPlaces;
+    places = All-nil SampleHasFewPlaces;
     few_sent = sym (ap sent_size there);
     few_traced = sym (ap traced_size there);
     step = λ model start old p reads from checked period told.

@@ -19,9 +19,9 @@ use Rattle.tdf_exec.proofs.Planned.{no_times}
 use Rattle.tdf_exec.proofs.Rows.{index_at}
 use Rattle.tdf_exec.proofs.Safe.{heads_hold, plans_safe}
 use Rattle.tdf_exec.specs.Cluster.{ClusterOf, next_offset}
-use Rattle.tdf_exec.specs.Crossing.{HasNewPlan, HoldHeads, IsKin, IsReadyFor, StandsAtNew, with_plan}
-use Rattle.tdf_exec.specs.Made.{AreHeld, IsClusterOf, IsInSpans, IsModuleOf, IsModuleWith, IsPlanned, IsRunnerOf, IsRunnerWith, IsSafe, IsSamplerOf, IsSinkOf, is_sampler, room_for, samplers_before}
-use Rattle.tdf_exec.specs.Played.{cells_of, play_of, turns_from}
+use Rattle.tdf_exec.specs.Crossing.{HasNewPlan, HoldHeads, IsKin, IsReadyFor, StandsAtNew, with_new_plan}
+use Rattle.tdf_exec.specs.Made.{AreHeld, IsClusterOf, IsInSpans, IsModuleOf, IsModuleWith, IsClusterPlanned, IsRunnerOf, IsRunnerWith, IsClusterSafe, IsSamplerOf, IsSinkOf, is_sampler_runner, room_for, sampler_runners_before}
+use Rattle.tdf_exec.specs.Played.{runner_cells, play_of, turns_from}
 use Rattle.tdf_exec.specs.Runners.{ModuleOf, SamplerOf}
 use Rattle.tdf_exec.specs.Starts.{IsSoundFlat}
 use Rattle.tdf_exec.specs.Traced.{traced_port}
@@ -51,7 +51,7 @@ use Rattle.tdf_schedule.specs.Laws.{PlansArePresent}
 use Rattle.tdf_schedule.specs.Plan.{done}
 use Rattle.tdf_schedule.specs.declared.entry.Plan.{Plan}
 use Rattle.tdf_expr_state.specs.State.{State, state_of}
-use Rattle.tdf_streams.specs.Bodies.{after_part, done_by, nothing_read, rates_of, reinitialized}
+use Rattle.tdf_streams.specs.Bodies.{after_part, done_by, nothing_read, module_rates, reinitialized}
 use Rattle.tdf_streams.specs.Cluster.{cluster_net}
 use Rattle.tdf_streams.specs.Laws.{HasRecord}
 use Rattle.tdf_streams.specs.Periods.{PeriodInfo, read_rates, write_rates}
@@ -87,11 +87,11 @@ same_lists (x ∷ xs) (y ∷ ys) long same =
     let head : x.samples ≡ y.samples = same 0 (omega arith) in
     ap (λ l. l ∷ map (λ (r : RingOf). r.samples) xs) head ∙ ap (λ l. y.samples ∷ l) rest
 
-restarted_alike : (checked : Checked) (g s : Runner) → IsRestarted checked g s → is_sampler s ≡ is_sampler g
-restarted_alike checked (runner.Module x) s is = ap is_sampler is.1
-restarted_alike checked (runner.Sampler k) s is = ap is_sampler is
-restarted_alike checked (runner.Sink k) s is = ap is_sampler is
-restarted_alike checked runner.Outside s is = ap is_sampler is
+restarted_alike : (checked : Checked) (g s : Runner) → IsRestarted checked g s → is_sampler_runner s ≡ is_sampler_runner g
+restarted_alike checked (runner.Module x) s is = ap is_sampler_runner is.1
+restarted_alike checked (runner.Sampler k) s is = ap is_sampler_runner is
+restarted_alike checked (runner.Sink k) s is = ap is_sampler_runner is
+restarted_alike checked runner.Outside s is = ap is_sampler_runner is
 
 -- a module that is given its traced ports can begin again
 traced_can : (flat : Flat) (attrs : List AttrsOf) (c : ClusterOf) (m : ℕ) (l : List TracedPort) (r : Runner) → IsRunnerWith flat attrs c m r → CanRestart flat.checked (with_traced l r)
@@ -120,12 +120,12 @@ module _ (flat : Flat) (c : ClusterOf) (attrs : List AttrsOf) (plan : Plan) (rea
 
   module _ (laid : IsLaid flat) (law : PlansArePresent) (sound : IsSoundFlat flat) (end : next_offset c ≡ None) where
     abbrev pub next_of : List RingOf → List Runner → ClusterOf
-    next_of rings runners = with_plan c attrs plan (read_rates (net_of flat.tables attrs)) (write_rates (net_of flat.tables attrs)) rings runners
+    next_of rings runners = with_new_plan c attrs plan (read_rates (net_of flat.tables attrs)) (write_rates (net_of flat.tables attrs)) rings runners
 
-    planned : (rings : List RingOf) (runners : List Runner) → IsPlanned flat.tables (next_of rings runners)
+    planned : (rings : List RingOf) (runners : List Runner) → IsClusterPlanned flat.tables (next_of rings runners)
     planned rings runners = record { plan = plan; plan_is = ready.plan_is; entries_are = refl; bounds_are = refl; period_is = refl }
 
-    safe : (rings : List RingOf) (runners : List Runner) → IsSafe flat.tables (next_of rings runners)
+    safe : (rings : List RingOf) (runners : List Runner) → IsClusterSafe flat.tables (next_of rings runners)
     safe rings runners = plans_safe law flat (next_of rings runners) laid.limits ready.attributes (planned rings runners) refl refl
 
     held : (e : ℕ) → e < length flat.tables.edges → length (ring_at c.rings e).samples ≡ held_at_head flat.tables c.number e
@@ -159,8 +159,8 @@ module _ (flat : Flat) (c : ClusterOf) (attrs : List AttrsOf) (plan : Plan) (rea
     module _ (d : ClusterOf) (re : HasReplaced flat c attrs plan d) where
       d_is : d ≡ next_of d.rings d.runners
       d_is = re.d_is
-          ∙ ap (λ l. with_plan c attrs plan l d.writes d.rings d.runners) re.parts.reads_are
-          ∙ ap (λ l. with_plan c attrs plan (read_rates (net_of flat.tables attrs)) l d.rings d.runners) re.parts.writes_are
+          ∙ ap (λ l. with_new_plan c attrs plan l d.writes d.rings d.runners) re.parts.reads_are
+          ∙ ap (λ l. with_new_plan c attrs plan (read_rates (net_of flat.tables attrs)) l d.rings d.runners) re.parts.writes_are
 
       ring_is : (e : ℕ) → e < length flat.tables.edges → ring_at d.rings e ≡ ring_of (ring_at c.rings e).samples (room_for (slice_index plan.bounds.items e))
       ring_is e within =
@@ -203,16 +203,16 @@ module _ (flat : Flat) (c : ClusterOf) (attrs : List AttrsOf) (plan : Plan) (rea
           go (inl below) = low below ∙ same (slice_index_or re.rows m [])
           go (inr past) = high past
 
-      alike : (m : ℕ) (x y : Runner) → slice_get d.runners m ≡ Some x → slice_get c.runners m ≡ Some y → is_sampler x ≡ is_sampler y
+      alike : (m : ℕ) (x y : Runner) → slice_get d.runners m ≡ Some x → slice_get c.runners m ≡ Some y → is_sampler_runner x ≡ is_sampler_runner y
       alike m x y xat yat =
           let h : CameFrom m x = came m x xat in
-          restarted_alike flat.checked h.g x h.again ∙ go h (cases_lt m (length re.rows)) ∙ ap is_sampler (some_inj h.r y (sym h.r_at ∙ yat))
+          restarted_alike flat.checked h.g x h.again ∙ go h (cases_lt m (length re.rows)) ∙ ap is_sampler_runner (some_inj h.r y (sym h.r_at ∙ yat))
         where
-          go : (h : CameFrom m x) → (m < length re.rows) ⊎ (length re.rows ≤ m) → is_sampler h.g ≡ is_sampler h.r
-          go h (inl below) = ap is_sampler (h.low below) ∙ traced_alike (slice_index_or re.rows m []) h.r
-          go h (inr past) = ap is_sampler (h.high past)
+          go : (h : CameFrom m x) → (m < length re.rows) ⊎ (length re.rows ≤ m) → is_sampler_runner h.g ≡ is_sampler_runner h.r
+          go h (inl below) = ap is_sampler_runner (h.low below) ∙ traced_alike (slice_index_or re.rows m []) h.r
+          go h (inr past) = ap is_sampler_runner (h.high past)
 
-      before : (m : ℕ) → samplers_before c.runners m ≡ samplers_before d.runners m
+      before : (m : ℕ) → sampler_runners_before c.runners m ≡ sampler_runners_before d.runners m
       before m = sym (count_alike d.runners c.runners m (re.restarted.same ∙ re.given_are.same) alike)
 
       all_traced : (m : ℕ) → traced_before flat.tables (length flat.tables.ports) m ≡ traced_ports flat.tables m
@@ -390,39 +390,39 @@ module _ (flat : Flat) (c : ClusterOf) (attrs : List AttrsOf) (plan : Plan) (rea
       -- the values of an actor after its reinitialize body
       next_cells : (model : PureTree) → IsCheckedOf model flat.checked → (m : ℕ) (r g s : Runner) → IsRunnerWith flat attrs c m r → (m < length re.rows → g ≡ with_traced (slice_index_or re.rows m []) r)
           → (length re.rows ≤ m → g ≡ r) → IsRestarted flat.checked g s
-          → cells_of s ≡ (done_by model flat m body.Reinitialize (cells_of r) (rates_in (attrs_at attrs m)) nothing_read).frame.cells
+          → runner_cells s ≡ (done_by model flat m body.Reinitialize (runner_cells r) (rates_in (attrs_at attrs m)) nothing_read).frame.cells
       next_cells model checked m (runner.Module x) g s is low high again =
           let y = module_came m x g s is low again in
-          ap cells_of y.1 ∙ done_cells m x y.0 (slice_index_or re.rows m []) is y.2 model checked
+          ap runner_cells y.1 ∙ done_cells m x y.0 (slice_index_or re.rows m []) is y.2 model checked
       next_cells model checked m (runner.Sampler k) g s is low high again =
-          ap cells_of (subst (λ (q : Runner). IsRestarted flat.checked q s) (plain m (runner.Sampler k) g (λ l. refl) low high) again) ∙ sym (done_bare model flat m body.Reinitialize (rates_in (attrs_at attrs m)) nothing_read)
+          ap runner_cells (subst (λ (q : Runner). IsRestarted flat.checked q s) (plain m (runner.Sampler k) g (λ l. refl) low high) again) ∙ sym (done_bare model flat m body.Reinitialize (rates_in (attrs_at attrs m)) nothing_read)
       next_cells model checked m (runner.Sink k) g s is low high again =
-          ap cells_of (subst (λ (q : Runner). IsRestarted flat.checked q s) (plain m (runner.Sink k) g (λ l. refl) low high) again) ∙ sym (done_bare model flat m body.Reinitialize (rates_in (attrs_at attrs m)) nothing_read)
+          ap runner_cells (subst (λ (q : Runner). IsRestarted flat.checked q s) (plain m (runner.Sink k) g (λ l. refl) low high) again) ∙ sym (done_bare model flat m body.Reinitialize (rates_in (attrs_at attrs m)) nothing_read)
       next_cells model checked m runner.Outside g s is low high again =
-          ap cells_of (subst (λ (q : Runner). IsRestarted flat.checked q s) (plain m runner.Outside g (λ l. refl) low high) again) ∙ sym (done_bare model flat m body.Reinitialize (rates_in (attrs_at attrs m)) nothing_read)
+          ap runner_cells (subst (λ (q : Runner). IsRestarted flat.checked q s) (plain m runner.Outside g (λ l. refl) low high) again) ∙ sym (done_bare model flat m body.Reinitialize (rates_in (attrs_at attrs m)) nothing_read)
 
       abbrev Reinitialized : PureTree → PeriodInfo → ℕ → List ℤ → Type 0
-      Reinitialized model info m x = (b : List ℤ) × (slice_get (map cells_of c.runners) m ≡ Some b) × (x ≡ reinitialized model flat m info b)
+      Reinitialized model info m x = (b : List ℤ) × (slice_get (map runner_cells c.runners) m ≡ Some b) × (x ≡ reinitialized model flat m info b)
 
       state_at : (model : PureTree) → IsCheckedOf model flat.checked → (info : PeriodInfo) → info.is_new ≡ true → info.table ≡ attrs → (m : ℕ) (x : List ℤ)
-          → slice_get (map cells_of d.runners) m ≡ Some x → Reinitialized model info m x
-      state_at model checked info fresh table m x at = go (slice_get d.runners m) refl (sym (slice_get-map cells_of d.runners m) ∙ at)
+          → slice_get (map runner_cells d.runners) m ≡ Some x → Reinitialized model info m x
+      state_at model checked info fresh table m x at = go (slice_get d.runners m) refl (sym (slice_get-map runner_cells d.runners m) ∙ at)
         where
-          go : (o : Option Runner) → slice_get d.runners m ≡ o → option_map cells_of o ≡ Some x → Reinitialized model info m x
+          go : (o : Option Runner) → slice_get d.runners m ≡ o → option_map runner_cells o ≡ Some x → Reinitialized model info m x
           go None there given = none_some x given
           go (Some s) there given =
               let h : CameFrom m s = came m s there in (
-                cells_of h.r,
-                slice_get-map cells_of c.runners m ∙ ap (option_map cells_of) h.r_at,
-                sym (some_same (cells_of s) x given) ∙ next_cells model checked m h.r h.g s (ready.of.runners m h.r h.r_at) h.low h.high h.again
-                    ∙ ap (λ (t : List AttrsOf). (done_by model flat m body.Reinitialize (cells_of h.r) (rates_in (attrs_at t m)) nothing_read).frame.cells) (sym table)
-                    ∙ sym (ap (λ (b : Bool). if b then (done_by model flat m body.Reinitialize (cells_of h.r) (rates_of info m) nothing_read).frame.cells else cells_of h.r) fresh),
+                runner_cells h.r,
+                slice_get-map runner_cells c.runners m ∙ ap (option_map runner_cells) h.r_at,
+                sym (some_same (runner_cells s) x given) ∙ next_cells model checked m h.r h.g s (ready.of.runners m h.r h.r_at) h.low h.high h.again
+                    ∙ ap (λ (t : List AttrsOf). (done_by model flat m body.Reinitialize (runner_cells h.r) (rates_in (attrs_at t m)) nothing_read).frame.cells) (sym table)
+                    ∙ sym (ap (λ (b : Bool). if b then (done_by model flat m body.Reinitialize (runner_cells h.r) (module_rates info m) nothing_read).frame.cells else runner_cells h.r) fresh),
               )
 
       stands_next_of : StandsAtNew flat attrs c (next_of d.rings d.runners)
       stands_next_of model start old p next reads from f checked past timed fresh table crosses =
           install_stands (cluster_net model flat c.number start) old p next reads f (play_of from c) (play_of 0 (next_of d.rings d.runners))
-          (are_active model flat c.number start old p (play_of from c) past timed (let l = length-map c.runners cells_of in let a = ready.of.actors in omega (arith, l, a))) crosses (record {
+          (are_active model flat c.number start old p (play_of from c) past timed (let l = length-map c.runners runner_cells in let a = ready.of.actors in omega (arith, l, a))) crosses (record {
             turns = λ m. zero_in (turns_from plan.entries.items 0 0) (range_with_len 0 (length d.runners)) m (λ j. omega arith);
             lists = same_lists d.rings c.rings re.carried.same (λ e below. ap (λ (r : RingOf). r.samples) (ring_is e (subst (λ n. e < n) ready.of.held.same below)));
             states = λ m x at inside. state_at model checked next.info fresh table m x at;

@@ -12,7 +12,7 @@ use Rattle.tdf_exec.proofs.Moved.{given_by, given_none, given_one, module_moves,
 use Rattle.tdf_exec.proofs.Runs.{can_run}
 use Rattle.tdf_exec.specs.Cluster.{ClusterOf, offset_in}
 use Rattle.tdf_exec.specs.machine.Fired.{CanSample, HasFired, HasRun}
-use Rattle.tdf_exec.specs.Made.{IsClusterOf, IsInSpans, IsModuleOf, IsRunnerOf, KeepRates, is_sampler}
+use Rattle.tdf_exec.specs.Made.{IsClusterOf, IsInSpans, IsModuleOf, IsRunnerOf, KeepRates, is_sampler_runner}
 use Rattle.tdf_exec.specs.Played.{IsLike}
 use Rattle.tdf_exec.specs.Runners.{ModuleOf, SamplerOf}
 use Rattle.tdf_exec.specs.declared.runners.Runner.{Runner}
@@ -107,11 +107,11 @@ get_set_other (y ∷ xs) zero (suc k) x apart = refl
 get_set_other (y ∷ xs) (suc i) zero x apart = refl
 get_set_other (y ∷ xs) (suc i) (suc k) x apart = get_set_other xs i k x (λ e. apart (ap suc e))
 
-pub like_sampler : (r s : Runner) → IsLike r s → is_sampler s ≡ is_sampler r
-like_sampler (runner.Module x) s like = ap is_sampler like.1
-like_sampler (runner.Sampler x) s like = ap is_sampler like
-like_sampler (runner.Sink x) s like = ap is_sampler like
-like_sampler runner.Outside s like = ap is_sampler like
+pub like_sampler : (r s : Runner) → IsLike r s → is_sampler_runner s ≡ is_sampler_runner r
+like_sampler (runner.Module x) s like = ap is_sampler_runner like.1
+like_sampler (runner.Sampler x) s like = ap is_sampler_runner like
+like_sampler (runner.Sink x) s like = ap is_sampler_runner like
+like_sampler runner.Outside s like = ap is_sampler_runner like
 
 -- how samples move in a firing, whatever fires
 pub record Moves (flat : Flat) (c : ClusterOf) (m : ℕ) (new : List RingOf) : Type 0 where
@@ -175,7 +175,7 @@ module _ (flat : Flat) (c : ClusterOf) (inputs : List Raw) (x : Entry) (of : IsC
     still m (runner.Sampler s) is = record {
       actor_is = is.actor_is;
       edges_are = is.edges_are;
-      place_is = is.place_is ∙ sym (count_set is_sampler c.runners m x.actor before after there (like_sampler before after (alike before after ran)));
+      place_is = is.place_is ∙ sym (count_set is_sampler_runner c.runners m x.actor before after there (like_sampler before after (alike before after ran)));
       rate = is.rate;
       none = is.none;
     }

@@ -22,8 +22,8 @@ use Rattle.tdf_exec.proofs.Moved.{some_inj}
 use Rattle.tdf_exec.proofs.Planned.{are_held, is_safe, lists_are, start_of, timed}
 use Rattle.tdf_exec.proofs.Rows.{index_at}
 use Rattle.tdf_exec.specs.Cluster.{ClusterOf}
-use Rattle.tdf_exec.specs.Made.{IsClusterOf, IsRunnerOf, IsSamplerOf, IsSinkOf, is_sampler, samplers_before}
-use Rattle.tdf_exec.specs.Played.{cells_of, play_of, turns_from}
+use Rattle.tdf_exec.specs.Made.{IsClusterOf, IsRunnerOf, IsSamplerOf, IsSinkOf, is_sampler_runner, sampler_runners_before}
+use Rattle.tdf_exec.specs.Played.{runner_cells, play_of, turns_from}
 use Rattle.tdf_exec.specs.Runners.{ModuleOf, SamplerOf}
 use Rattle.tdf_exec.specs.Starts.{IsSoundFlat, StandsAtStart}
 use Rattle.tdf_exec.specs.Traced.{traced_port}
@@ -48,7 +48,7 @@ use Rattle.tdf_exec_layout.specs.declared.wiring.ActorWires.TheVariants as wires
 use Rattle.tdf_rings.specs.Rings.{RingOf, ring_of}
 use Rattle.tdf_schedule.specs.Laws.{PlansArePresent}
 use Rattle.tdf_streams.specs.Bodies.{initialized}
-use Rattle.tdf_streams.specs.Cluster.{cluster_net, is_outside, is_sampler_kind, text_start, zero_sample}
+use Rattle.tdf_streams.specs.Cluster.{cluster_net, is_outside_cluster, is_sampler_kind, text_start, zero_sample}
 use Rattle.tdf_streams.specs.Periods.{read_rates, write_rates}
 use Rattle.tdf_streams.specs.Places.{actor_kind, block_of_row, kind_of_row, reader_of_row, writer_of_row}
 use Rattle.tdf_lang_tree.specs.Pure.{PureTree}
@@ -93,20 +93,20 @@ zero_in f (x ∷ xs) zero none = none x
 zero_in f (x ∷ xs) (suc m) none = zero_in f xs m none
 
 -- lists whose runners are samplers alike
-pub count_alike : (xs ys : List Runner) (n : ℕ) → length xs ≡ length ys → ((m : ℕ) (x y : Runner) → slice_get xs m ≡ Some x → slice_get ys m ≡ Some y → is_sampler x ≡ is_sampler y)
-    → samplers_before xs n ≡ samplers_before ys n
+pub count_alike : (xs ys : List Runner) (n : ℕ) → length xs ≡ length ys → ((m : ℕ) (x y : Runner) → slice_get xs m ≡ Some x → slice_get ys m ≡ Some y → is_sampler_runner x ≡ is_sampler_runner y)
+    → sampler_runners_before xs n ≡ sampler_runners_before ys n
 count_alike xs ys zero long same = refl
 count_alike [] [] (suc n) long same = refl
 count_alike [] (y ∷ ys) (suc n) long same = absurd (omega (arith, long))
 count_alike (x ∷ xs) [] (suc n) long same = absurd (omega (arith, long))
 count_alike (x ∷ xs) (y ∷ ys) (suc n) long same =
-    let s = sum_by-cons (λ z. cond {A = ℕ} (is_sampler z) 1 0) x (take n xs) in
-    let t = sum_by-cons (λ z. cond {A = ℕ} (is_sampler z) 1 0) y (take n ys) in
-    let h : cond {A = ℕ} (is_sampler x) 1 0 ≡ cond {A = ℕ} (is_sampler y) 1 0 = ap (λ (b : Bool). cond {A = ℕ} b 1 0) (same 0 x y refl refl) in
+    let s = sum_by-cons (λ z. cond {A = ℕ} (is_sampler_runner z) 1 0) x (take n xs) in
+    let t = sum_by-cons (λ z. cond {A = ℕ} (is_sampler_runner z) 1 0) y (take n ys) in
+    let h : cond {A = ℕ} (is_sampler_runner x) 1 0 ≡ cond {A = ℕ} (is_sampler_runner y) 1 0 = ap (λ (b : Bool). cond {A = ℕ} b 1 0) (same 0 x y refl refl) in
     let r = count_alike xs ys n (omega (arith, long)) (λ m a b xat yat. same (suc m) a b xat yat) in
     omega (arith, s, t, h, r)
 
-pub traced_alike : (l : List TracedPort) (r : Runner) → is_sampler (with_traced l r) ≡ is_sampler r
+pub traced_alike : (l : List TracedPort) (r : Runner) → is_sampler_runner (with_traced l r) ≡ is_sampler_runner r
 traced_alike l (runner.Module x) = refl
 traced_alike l (runner.Sampler s) = refl
 traced_alike l (runner.Sink k) = refl
@@ -129,7 +129,7 @@ module _ (flat : Flat) (cluster : ℕ) (first : First) (sound : IsSoundFlat flat
     pub w_at : slice_get are.wires m ≡ Some w
     pub b : Runner
     pub b_at : slice_get are.begun m ≡ Some b
-    pub first_is : IsFirstRunner flat m (samplers_before are.begun m) w b
+    pub first_is : IsFirstRunner flat m (sampler_runners_before are.begun m) w b
     pub low : m < length are.rows → r ≡ with_traced (slice_index_or are.rows m []) b
     pub high : length are.rows ≤ m → r ≡ b
 
@@ -151,17 +151,17 @@ module _ (flat : Flat) (cluster : ℕ) (first : First) (sound : IsSoundFlat flat
         high = λ past. some_inj r b.0 (sym at ∙ are.given.waiting m past ∙ b.1);
       }
 
-  alike : (m : ℕ) (x y : Runner) → slice_get runners m ≡ Some x → slice_get are.begun m ≡ Some y → is_sampler x ≡ is_sampler y
+  alike : (m : ℕ) (x y : Runner) → slice_get runners m ≡ Some x → slice_get are.begun m ≡ Some y → is_sampler_runner x ≡ is_sampler_runner y
   alike m x y xat yat =
       let h : CameFrom m x = came m x xat in
       let same : h.b ≡ y = some_inj h.b y (sym h.b_at ∙ yat) in
-      go h (cases_lt m (length are.rows)) ∙ ap is_sampler same
+      go h (cases_lt m (length are.rows)) ∙ ap is_sampler_runner same
     where
-      go : (h : CameFrom m x) → (m < length are.rows) ⊎ (length are.rows ≤ m) → is_sampler x ≡ is_sampler h.b
-      go h (inl below) = ap is_sampler (h.low below) ∙ traced_alike (slice_index_or are.rows m []) h.b
-      go h (inr past) = ap is_sampler (h.high past)
+      go : (h : CameFrom m x) → (m < length are.rows) ⊎ (length are.rows ≤ m) → is_sampler_runner x ≡ is_sampler_runner h.b
+      go h (inl below) = ap is_sampler_runner (h.low below) ∙ traced_alike (slice_index_or are.rows m []) h.b
+      go h (inr past) = ap is_sampler_runner (h.high past)
 
-  before : (m : ℕ) → samplers_before are.begun m ≡ samplers_before runners m
+  before : (m : ℕ) → sampler_runners_before are.begun m ≡ sampler_runners_before runners m
   before m = sym (count_alike runners are.begun m are.given.same alike)
 
   -- what isn't a module is as it was made
@@ -174,7 +174,7 @@ module _ (flat : Flat) (cluster : ℕ) (first : First) (sound : IsSoundFlat flat
 
   module _ (m : ℕ) (own : slice_index (clusters_of flat.tables) m ≡ cluster) (r : Runner) where
     by_module : (w : WiresOf) (b : Runner) → actor_kind flat.tables m ≡ Some actor.Module → IsWiringOf flat.tables m actor.Module (wires.Module w)
-        → IsFirstRunner flat m (samplers_before are.begun m) (wires.Module w) b → (m < length are.rows → r ≡ with_traced (slice_index_or are.rows m []) b) → IsRunnerOf flat started m r
+        → IsFirstRunner flat m (sampler_runners_before are.begun m) (wires.Module w) b → (m < length are.rows → r ≡ with_traced (slice_index_or are.rows m []) b) → IsRunnerOf flat started m r
     by_module w (runner.Module x) kind h begun low =
         let below : m < length flat.tables.modules = below_modules flat laid m kind in
         let l = are.traced_are.long in
@@ -189,7 +189,7 @@ module _ (flat : Flat) (cluster : ℕ) (first : First) (sound : IsSoundFlat flat
     by_module w (runner.Sink k) kind h begun low = absurd begun
     by_module w runner.Outside kind h begun low = absurd begun
 
-    sampler_is : (s : SamplerOf) (edges : List ℕ) → actor_kind flat.tables m ≡ Some actor.Sampler → AreEdgesOf flat.tables m edges → s.edges ≡ edges → s.place ≡ samplers_before are.begun m
+    sampler_is : (s : SamplerOf) (edges : List ℕ) → actor_kind flat.tables m ≡ Some actor.Sampler → AreEdgesOf flat.tables m edges → s.edges ≡ edges → s.place ≡ sampler_runners_before are.begun m
         → IsSamplerOf flat started m s
     sampler_is s edges kind h edges_are place_is = record {
       actor_is = record { kind_is = kind; inside = own };
@@ -214,21 +214,21 @@ module _ (flat : Flat) (cluster : ℕ) (first : First) (sound : IsSoundFlat flat
     }
 
     by_sampler : (edges : _) (b : Runner) → actor_kind flat.tables m ≡ Some actor.Sampler → IsWiringOf flat.tables m actor.Sampler (wires.Sampler edges)
-        → IsFirstRunner flat m (samplers_before are.begun m) (wires.Sampler edges) b → ((same : (l : List TracedPort) → with_traced l b ≡ b) → r ≡ b) → IsRunnerOf flat started m r
+        → IsFirstRunner flat m (sampler_runners_before are.begun m) (wires.Sampler edges) b → ((same : (l : List TracedPort) → with_traced l b ≡ b) → r ≡ b) → IsRunnerOf flat started m r
     by_sampler edges (runner.Sampler s) kind h begun same = subst (IsRunnerOf flat started m) (sym (same (λ l. refl))) (sampler_is s edges.items kind h begun.0 begun.1)
     by_sampler edges (runner.Module x) kind h begun same = absurd begun
     by_sampler edges (runner.Sink k) kind h begun same = absurd begun
     by_sampler edges runner.Outside kind h begun same = absurd begun
 
     by_sink : (edge : ℕ) (b : Runner) → actor_kind flat.tables m ≡ Some actor.Sink → IsWiringOf flat.tables m actor.Sink (wires.Sink edge)
-        → IsFirstRunner flat m (samplers_before are.begun m) (wires.Sink edge) b → ((same : (l : List TracedPort) → with_traced l b ≡ b) → r ≡ b) → IsRunnerOf flat started m r
+        → IsFirstRunner flat m (sampler_runners_before are.begun m) (wires.Sink edge) b → ((same : (l : List TracedPort) → with_traced l b ≡ b) → r ≡ b) → IsRunnerOf flat started m r
     by_sink edge (runner.Sink k) kind h begun same =
         subst (IsRunnerOf flat started m) (sym (same (λ l. refl))) (sink_is k.edge kind (subst (IsEdgeOf flat.tables m) (sym begun) h))
     by_sink edge (runner.Module x) kind h begun same = absurd begun
     by_sink edge (runner.Sampler s) kind h begun same = absurd begun
     by_sink edge runner.Outside kind h begun same = absurd begun
 
-    own_runner : (kind : Actor) (w : ActorWires) (b : Runner) → actor_kind flat.tables m ≡ Some kind → IsWiringOf flat.tables m kind w → IsFirstRunner flat m (samplers_before are.begun m) w b
+    own_runner : (kind : Actor) (w : ActorWires) (b : Runner) → actor_kind flat.tables m ≡ Some kind → IsWiringOf flat.tables m kind w → IsFirstRunner flat m (sampler_runners_before are.begun m) w b
         → (m < length are.rows → r ≡ with_traced (slice_index_or are.rows m []) b) → (length are.rows ≤ m → r ≡ b) → IsRunnerOf flat started m r
     own_runner actor.Module (wires.Module w) b kind h begun low high = by_module w b kind h begun low
     own_runner actor.Module (wires.Sampler edges) b kind h begun low high = absurd h
@@ -243,7 +243,7 @@ module _ (flat : Flat) (cluster : ℕ) (first : First) (sound : IsSoundFlat flat
     own_runner actor.Sink (wires.Sampler edges) b kind h begun low high = absurd h
     own_runner actor.Sink wires.Elsewhere b kind h begun low high = absurd h
 
-  other_runner : (m : ℕ) (r b : Runner) → (slice_index (clusters_of flat.tables) m ≡ cluster → ⊥) → IsFirstRunner flat m (samplers_before are.begun m) wires.Elsewhere b
+  other_runner : (m : ℕ) (r b : Runner) → (slice_index (clusters_of flat.tables) m ≡ cluster → ⊥) → IsFirstRunner flat m (sampler_runners_before are.begun m) wires.Elsewhere b
       → ((same : (l : List TracedPort) → with_traced l b ≡ b) → r ≡ b) → IsRunnerOf flat started m r
   other_runner m r runner.Outside apart begun same = subst (IsRunnerOf flat started m) (sym (same (λ l. refl))) apart
   other_runner m r (runner.Module x) apart begun same = absurd begun
@@ -257,7 +257,7 @@ module _ (flat : Flat) (cluster : ℕ) (first : First) (sound : IsSoundFlat flat
       go h (inl own) = own_runner m own r h.row.kind h.w h.b (ap kind_of_row h.row_at)
           (are.wires_are.own m h.row h.w h.row_at h.w_at (sym (index_at cluster_of flat.tables.actors m h.row h.row_at) ∙ own)) h.first_is h.low h.high
       go h (inr apart) = other_runner m r h.b apart
-          (subst (λ x. IsFirstRunner flat m (samplers_before are.begun m) x h.b)
+          (subst (λ x. IsFirstRunner flat m (sampler_runners_before are.begun m) x h.b)
           (are.wires_are.other m h.row h.w h.row_at h.w_at (λ e. apart (index_at cluster_of flat.tables.actors m h.row h.row_at ∙ e))) h.first_is)
           (λ same. plain m r h.b same h.low h.high)
 
@@ -324,24 +324,24 @@ module _ (flat : Flat) (cluster : ℕ) (first : First) (sound : IsSoundFlat flat
 
   module _ (model : PureTree) (checked : IsCheckedOf model flat.checked) (m : ℕ) (own : slice_index (clusters_of flat.tables) m ≡ cluster)
       (no_samples : is_sampler_kind (actor_kind flat.tables m) ≡ false) (r : Runner) where
-    module_state : (w : WiresOf) (b : Runner) → actor_kind flat.tables m ≡ Some actor.Module → IsFirstRunner flat m (samplers_before are.begun m) (wires.Module w) b
-        → (m < length are.rows → r ≡ with_traced (slice_index_or are.rows m []) b) → cells_of r ≡ cells_at model m
+    module_state : (w : WiresOf) (b : Runner) → actor_kind flat.tables m ≡ Some actor.Module → IsFirstRunner flat m (sampler_runners_before are.begun m) (wires.Module w) b
+        → (m < length are.rows → r ≡ with_traced (slice_index_or are.rows m []) b) → runner_cells r ≡ cells_at model m
     module_state w (runner.Module x) kind begun low =
         let below = below_modules flat laid m kind in let l = are.traced_are.long in
-        ap cells_of (low (omega (arith, below, l))) ∙ module_cells model checked m own below w x begun
+        ap runner_cells (low (omega (arith, below, l))) ∙ module_cells model checked m own below w x begun
     module_state w (runner.Sampler s) kind begun low = absurd begun
     module_state w (runner.Sink k) kind begun low = absurd begun
     module_state w runner.Outside kind begun low = absurd begun
 
-    sink_state : (edge : ℕ) (b : Runner) → actor_kind flat.tables m ≡ Some actor.Sink → IsFirstRunner flat m (samplers_before are.begun m) (wires.Sink edge) b
-        → (((l : List TracedPort) → with_traced l b ≡ b) → r ≡ b) → cells_of r ≡ cells_at model m
-    sink_state edge (runner.Sink k) kind begun same = ap cells_of (same (λ l. refl)) ∙ sym (past_cells model m (no_module m kind))
+    sink_state : (edge : ℕ) (b : Runner) → actor_kind flat.tables m ≡ Some actor.Sink → IsFirstRunner flat m (sampler_runners_before are.begun m) (wires.Sink edge) b
+        → (((l : List TracedPort) → with_traced l b ≡ b) → r ≡ b) → runner_cells r ≡ cells_at model m
+    sink_state edge (runner.Sink k) kind begun same = ap runner_cells (same (λ l. refl)) ∙ sym (past_cells model m (no_module m kind))
     sink_state edge (runner.Module x) kind begun same = absurd begun
     sink_state edge (runner.Sampler s) kind begun same = absurd begun
     sink_state edge runner.Outside kind begun same = absurd begun
 
-    own_state : (kind : Actor) (w : ActorWires) (b : Runner) → actor_kind flat.tables m ≡ Some kind → IsWiringOf flat.tables m kind w → IsFirstRunner flat m (samplers_before are.begun m) w b
-        → (m < length are.rows → r ≡ with_traced (slice_index_or are.rows m []) b) → (length are.rows ≤ m → r ≡ b) → cells_of r ≡ cells_at model m
+    own_state : (kind : Actor) (w : ActorWires) (b : Runner) → actor_kind flat.tables m ≡ Some kind → IsWiringOf flat.tables m kind w → IsFirstRunner flat m (sampler_runners_before are.begun m) w b
+        → (m < length are.rows → r ≡ with_traced (slice_index_or are.rows m []) b) → (length are.rows ≤ m → r ≡ b) → runner_cells r ≡ cells_at model m
     own_state actor.Module (wires.Module w) b kind h begun low high = module_state w b kind begun low
     own_state actor.Module (wires.Sampler edges) b kind h begun low high = absurd h
     own_state actor.Module (wires.Sink edge) b kind h begun low high = absurd h
@@ -352,7 +352,7 @@ module _ (flat : Flat) (cluster : ℕ) (first : First) (sound : IsSoundFlat flat
     own_state actor.Sink (wires.Sampler edges) b kind h begun low high = absurd h
     own_state actor.Sink wires.Elsewhere b kind h begun low high = absurd h
 
-  state_is : (model : PureTree) → IsCheckedOf model flat.checked → (m : ℕ) (r : Runner) → slice_get runners m ≡ Some r → is_outside flat.tables cluster m ≡ false → cells_of r ≡ cells_at model m
+  state_is : (model : PureTree) → IsCheckedOf model flat.checked → (m : ℕ) (r : Runner) → slice_get runners m ≡ Some r → is_outside_cluster flat.tables cluster m ≡ false → runner_cells r ≡ cells_at model m
   state_is model checked m r at inside =
       let h = came m r at in
       let both = neither (is_sampler_kind (actor_kind flat.tables m)) _ inside in
@@ -360,12 +360,12 @@ module _ (flat : Flat) (cluster : ℕ) (first : First) (sound : IsSoundFlat flat
       own_state model checked m own both.0 r h.row.kind h.w h.b (ap kind_of_row h.row_at)
       (are.wires_are.own m h.row h.w h.row_at h.w_at (sym (index_at cluster_of flat.tables.actors m h.row h.row_at) ∙ own)) h.first_is h.low h.high
 
-  state_at : (model : PureTree) → IsCheckedOf model flat.checked → (m : ℕ) (x : List ℤ) → slice_get (map cells_of runners) m ≡ Some x → is_outside flat.tables cluster m ≡ false → x ≡ cells_at model m
-  state_at model checked m x at inside = go (slice_get runners m) refl (sym (slice_get-map cells_of runners m) ∙ at)
+  state_at : (model : PureTree) → IsCheckedOf model flat.checked → (m : ℕ) (x : List ℤ) → slice_get (map runner_cells runners) m ≡ Some x → is_outside_cluster flat.tables cluster m ≡ false → x ≡ cells_at model m
+  state_at model checked m x at inside = go (slice_get runners m) refl (sym (slice_get-map runner_cells runners m) ∙ at)
     where
-      go : (o : Option Runner) → slice_get runners m ≡ o → option_map cells_of o ≡ Some x → x ≡ cells_at model m
+      go : (o : Option Runner) → slice_get runners m ≡ o → option_map runner_cells o ≡ Some x → x ≡ cells_at model m
       go None there given = none_some x given
-      go (Some r) there given = sym (some_same (cells_of r) x given) ∙ state_is model checked m r there inside
+      go (Some r) there given = sym (some_same (runner_cells r) x given) ∙ state_is model checked m r there inside
 
   list_at : (e : ℕ) → e < length flat.tables.edges → slice_index_or (map (λ (r : RingOf). r.samples) rings) e [] ≡ slice_index_or (text_start sound.model flat cluster first.attrs).lists e []
   list_at e within = get_or-map (λ (r : RingOf). r.samples) rings e (ring_of [] 0) ∙ lists_are flat cluster first sound laid is law rings runners positions rings_are e within

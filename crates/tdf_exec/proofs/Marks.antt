@@ -7,7 +7,7 @@ use Rattle.std.specs.List.{cons_option}
 use Rattle.std.specs.Prelude.{slice_get, slice_index_or, slice_set}
 use Rattle.tdf_bind_tables.specs.FlatTables.{FlatTablesOf}
 use Rattle.tdf_dynamic_plans.specs.Attributes.{AttrsOf}
-use Rattle.tdf_exec.specs.Traced.{rate_of_row, signal_of_row, traced_port}
+use Rattle.tdf_exec.specs.Traced.{rate_of_row, signal_of_port_row, traced_port}
 use Rattle.tdf_exec_layout.specs.Traced.{number_if_traced}
 use Rattle.tdf_exec.specs.declared.runners.TracedPort.{TracedPort}
 use Rattle.tdf_exec.specs.machine.Tracing.{AreTracedUpTo, is_written_traced, put_traced, traced_before, traced_row}
@@ -18,7 +18,7 @@ use Rattle.tdf_bind_connections.specs.declared.modules.PortRow.{PortRow}
 -- one port more
 module _ (tables : FlatTablesOf) (table : List AttrsOf) (n : ℕ) (port : PortRow) (at : slice_get tables.ports n ≡ Some port) where
   row_is : traced_row tables table n port ≡ traced_port tables table n
-  row_is = ap (λ o. record { port = place_of_port tables.ports n; signal = signal_of_row o; rate = rate_of_row table o }) (sym at)
+  row_is = ap (λ o. record { port = place_of_port tables.ports n; signal = signal_of_port_row o; rate = rate_of_row table o }) (sym at)
 
   more_ports : (m : ℕ) → traced_before tables n m ++ cons_option (number_if_traced tables m n port) [] ≡ traced_before tables (n + 1) m
   more_ports m = filtered_next (number_if_traced tables m) tables.ports n port [] (traced_before tables n m) (traced_before tables n m ++ cons_option (number_if_traced tables m n port) [])

@@ -16,7 +16,7 @@ use Rattle.tdf_exec.specs.machine.Steps.{AreMovedBy, kept}
 use Rattle.tdf_expr.specs.Frames.{IsOfFormat, PortsSeen}
 use Rattle.tdf_expr.specs.declared.spans.PortSpan.{PortSpan}
 use Rattle.tdf_exec_firing.proofs.Api.{Passes, any_cases, writer_cases}
-use Rattle.tdf_exec_firing.specs.Activation.{sample_at}
+use Rattle.tdf_exec_firing.specs.Activation.{assigned_sample}
 use Rattle.tdf_exec_firing.specs.Actors.{HasTaken, HavePut}
 use Rattle.tdf_exec_firing.specs.Firing.{front_of, is_read, writer_of}
 use Rattle.tdf_exec_firing.specs.Wires.{WiresOf}
@@ -114,9 +114,9 @@ module _ (flat : Flat) (c : ClusterOf) (m : ℕ) (x y : ModuleOf) (is : IsModule
     where
       go : (j : ℕ) (w : OutWire) → slice_get x.wires.outs j ≡ Some w → w.edge ≡ e → All (IsOfFormat f) (given_by flat.tables c.writes y.ports e)
       go j w at edge_is =
-          all_range (IsOfFormat f) (sample_at y.ports.spans y.ports.state.samples (place_of_port flat.tables.ports (source_at flat.tables.edges e))) 0 (slice_index c.writes e)
-          (λ k low high. subst (λ g. IsOfFormat g (sample_at y.ports.spans y.ports.state.samples (place_of_port flat.tables.ports (source_at flat.tables.edges e)) k)) form_is
-          (subst (λ p. IsOfFormat span.format (sample_at y.ports.spans y.ports.state.samples p k)) port_is
+          all_range (IsOfFormat f) (assigned_sample y.ports.spans y.ports.state.samples (place_of_port flat.tables.ports (source_at flat.tables.edges e))) 0 (slice_index c.writes e)
+          (λ k low high. subst (λ g. IsOfFormat g (assigned_sample y.ports.spans y.ports.state.samples (place_of_port flat.tables.ports (source_at flat.tables.edges e)) k)) form_is
+          (subst (λ p. IsOfFormat span.format (assigned_sample y.ports.spans y.ports.state.samples p k)) port_is
           (fired.formats.each w.port k span (ap (λ l. slice_get l w.port) spans_are ∙ there) (short k high))))
         where
           port_is : w.port ≡ place_of_port flat.tables.ports (source_at flat.tables.edges e)

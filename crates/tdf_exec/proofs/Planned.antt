@@ -13,7 +13,7 @@ use Rattle.tdf_dynamic_first.specs.First.{IsFirstPlan}
 use Rattle.tdf_dynamic_plans.specs.Rates.{net_of, net_ports, rated_edge}
 use Rattle.tdf_dynamic_first.specs.declared.first.First.{First}
 use Rattle.tdf_exec.specs.Cluster.{ClusterOf}
-use Rattle.tdf_exec.specs.Made.{AreHeld, IsSafe, room_for}
+use Rattle.tdf_exec.specs.Made.{AreHeld, IsClusterSafe, room_for}
 use Rattle.tdf_exec_layout.specs.Samples.{edge_format}
 use Rattle.tdf_exec.specs.Starts.{IsSoundFlat}
 use Rattle.tdf_exec.specs.declared.runners.Runner.{Runner}
@@ -167,7 +167,7 @@ module _ (flat : Flat) (cluster : ℕ) (first : First) (sound : IsSoundFlat flat
     abbrev begun : ClusterOf
     begun = start_of cluster first (read_rates (net_of flat.tables first.attrs)) (write_rates (net_of flat.tables first.attrs)) rings runners positions
 
-    pub is_safe : IsSafe flat.tables begun
+    pub is_safe : IsClusterSafe flat.tables begun
     is_safe = record {
       inside = inside;
       own = own;

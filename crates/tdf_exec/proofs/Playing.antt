@@ -16,10 +16,10 @@ use Rattle.tdf_exec.proofs.Keeping.{like_sampler}
 use Rattle.tdf_exec.proofs.Moved.{some_at, some_inj}
 use Rattle.tdf_exec.proofs.Nexts.{like_self}
 use Rattle.tdf_exec.proofs.Stepping.{done_mono}
-use Rattle.tdf_exec.specs.Cluster.{ClusterOf, is_due, is_offset, offset_in}
-use Rattle.tdf_exec.specs.Gained.{GiveAll, Gives, HasFewPlaces, HaveRoom, IsSentOf, sent_size, size_due, size_if, traced_size}
-use Rattle.tdf_exec.specs.Made.{IsClusterOf, is_sampler}
-use Rattle.tdf_exec.specs.Played.{AreAllGiven, AreGiven, AreInputsFor, IsLike, IsMoved, IsPeriodOf, KeepsStanding, actors_between, counted, play_of, turns_from}
+use Rattle.tdf_exec.specs.Cluster.{ClusterOf, is_next_due, is_offset, offset_in}
+use Rattle.tdf_exec.specs.Gained.{GiveAll, Gives, SampleHasFewPlaces, HaveRoom, IsSentOf, sent_size, size_due, size_if, traced_size}
+use Rattle.tdf_exec.specs.Made.{IsClusterOf, is_sampler_runner}
+use Rattle.tdf_exec.specs.Played.{AreAllGiven, AreInputsGiven, AreInputsFor, IsLike, IsMoved, IsPeriodOf, KeepsStanding, actors_between, counted, play_of, turns_from}
 use Rattle.tdf_exec.specs.Runners.{ModuleOf, SamplerOf}
 use Rattle.tdf_exec.specs.Traced.{traced_count}
 use Rattle.tdf_exec.specs.declared.runners.Runner.{Runner}
@@ -97,7 +97,7 @@ due_entry offset (Some x) due = (x, refl, eqb-true _ _ due)
 
 -- as many are samplers
 samplers_alike : (rs ss : List Runner) → length ss ≡ length rs → ((m : ℕ) (r : Runner) → slice_get rs m ≡ Some r → (s : Runner) × (slice_get ss m ≡ Some s) × IsLike r s)
-    → count_by is_sampler ss ≡ count_by is_sampler rs
+    → count_by is_sampler_runner ss ≡ count_by is_sampler_runner rs
 samplers_alike [] [] long alike = refl
 samplers_alike [] (s ∷ ss) long alike = absurd (omega (arith, long))
 samplers_alike (r ∷ rs) [] long alike = absurd (omega (arith, long))
@@ -105,9 +105,9 @@ samplers_alike (r ∷ rs) (s ∷ ss) long alike =
     let rest = samplers_alike rs ss (omega (arith, long)) (λ m q here. alike (suc m) q here) in
     let first = alike 0 r refl in
     let same : s ≡ first.0 = some_inj s first.0 first.1 in
-    let a = sum_by-cons (λ z. cond {A = ℕ} (is_sampler z) 1 0) s ss in
-    let b = sum_by-cons (λ z. cond {A = ℕ} (is_sampler z) 1 0) r rs in
-    let u : cond {A = ℕ} (is_sampler s) 1 0 ≡ cond {A = ℕ} (is_sampler r) 1 0 = ap (λ (o : Bool). cond {A = ℕ} o 1 0) (ap is_sampler same ∙ like_sampler r first.0 first.2) in
+    let a = sum_by-cons (λ z. cond {A = ℕ} (is_sampler_runner z) 1 0) s ss in
+    let b = sum_by-cons (λ z. cond {A = ℕ} (is_sampler_runner z) 1 0) r rs in
+    let u : cond {A = ℕ} (is_sampler_runner s) 1 0 ≡ cond {A = ℕ} (is_sampler_runner r) 1 0 = ap (λ (o : Bool). cond {A = ℕ} o 1 0) (ap is_sampler_runner same ∙ like_sampler r first.0 first.2) in
     omega (arith, rest, a, b, u)
 
 -- runners that are alike give as much
@@ -196,7 +196,7 @@ module _ (flat : Flat) (offset : ℕ) (inputs : List Raw) (c : ClusterOf) (place
         let same : like.0 ≡ runner.Sampler s = some_inj like.0 (runner.Sampler s) (sym like.1 ∙ at) in
         r.1 ∙ ap (λ q. Some q) (was_sampler r.0 s (subst (IsLike r.0) same like.2))
 
-    pub inputs_next : AreInputsFor flat offset c inputs → is_due mid offset ≡ true → AreInputsNext flat mid inputs
+    pub inputs_next : AreInputsFor flat offset c inputs → is_next_due mid offset ≡ true → AreInputsNext flat mid inputs
     inputs_next ins due = record {
       many = to.many;
       formats = λ e x s v f at there given writes form.
@@ -205,7 +205,7 @@ module _ (flat : Flat) (offset : ℕ) (inputs : List Raw) (c : ClusterOf) (place
           ins.formats place e x s v f to.moved.up at (ap (λ (y : Entry). y.offset) (sym same) ∙ next.2) (first_sampler x.actor s there) given writes form;
     }
 
-    pub room_next : is_due mid offset ≡ true → HasRoomNext mid cur
+    pub room_next : is_next_due mid offset ≡ true → HasRoomNext mid cur
     room_next due = record {
       sent = λ x at.
           let h = due_head sent_size runners offset c.entries place x at (offset_is x at) in
@@ -223,7 +223,7 @@ module _ (flat : Flat) (offset : ℕ) (inputs : List Raw) (c : ClusterOf) (place
             ap (λ (y : Entry). y.offset) (some_inj x next.0 (sym at ∙ next.1)) ∙ next.2
 
     -- one entry more
-    module _ (due : is_due mid offset ≡ true) (rings2 : List RingOf) (runners2 : List Runner) (positions2 : List ℕ) (cur2 : OutputsOf) where
+    module _ (due : is_next_due mid offset ≡ true) (rings2 : List RingOf) (runners2 : List Runner) (positions2 : List ℕ) (cur2 : OutputsOf) where
       abbrev later : ClusterOf
       later = with_parts c (place + 1) rings2 runners2 positions2
 
@@ -273,7 +273,7 @@ module _ (flat : Flat) (offset : ℕ) (inputs : List Raw) (c : ClusterOf) (place
           traced = to.gained.traced ++ step.traced;
           are = gains_then outs cur cur2 to.gained.sent step.sent to.gained.traced step.traced to.gained.are step.gains;
           sinks = All-append (IsSentOf flat.tables) to.gained.sent step.sent to.gained.sinks step.sinks;
-          places = All-append HasFewPlaces to.gained.traced step.traced to.gained.places step.places;
+          places = All-append SampleHasFewPlaces to.gained.traced step.traced to.gained.places step.places;
           given = λ model start old p reads from checked period told.
               subst (λ (order : List ℕ). GiveAll flat (cluster_net model flat c.number start) old p reads order (play_of from c) (play_of from later)
               (to.gained.sent ++ step.sent) (to.gained.traced ++ step.traced))
@@ -332,7 +332,7 @@ module _ (flat : Flat) (offset : ℕ) (inputs : List Raw) (c : ClusterOf) (place
             table = period.table;
           }
 
-          next_told : (old : List PeriodRecord) (from : ℕ) (reads : ℕ → List Raw) → AreAllGiven offset c inputs reads old from → AreGiven mid inputs reads old from place step.entry
+          next_told : (old : List PeriodRecord) (from : ℕ) (reads : ℕ → List Raw) → AreAllGiven offset c inputs reads old from → AreInputsGiven mid inputs reads old from place step.entry
           next_told old from reads told = record {
             is = λ s v there v_is. (told place step.entry to.moved.up step.at entry_due).is s v (first_sampler step.entry.actor s there) v_is;
           }
@@ -350,11 +350,11 @@ module _ (flat : Flat) (offset : ℕ) (inputs : List Raw) (c : ClusterOf) (place
               let same : step.entry ≡ x = some_inj step.entry x (sym step.at ∙ ap (slice_get c.entries) (sym i_is) ∙ at) in
               ap (λ (y : Entry). y.offset) (sym same) ∙ entry_due
 
-          counted_same : HasStepped flat inputs mid later cur cur2 → count_by is_sampler runners2 ≡ count_by is_sampler runners
+          counted_same : HasStepped flat inputs mid later cur cur2 → count_by is_sampler_runner runners2 ≡ count_by is_sampler_runner runners
           counted_same step = samplers_alike runners runners2 (of.actors ∙ sym to.of.actors) (λ m r here. step.runners m r here)
 
 -- the start of the loop, one turn of it, and what it gives in the end
-pub played_none : (flat : Flat) (offset : ℕ) (inputs : List Raw) (c : ClusterOf) (outs : OutputsOf) → IsClusterOf flat c → length inputs ≡ count_by is_sampler c.runners
+pub played_none : (flat : Flat) (offset : ℕ) (inputs : List Raw) (c : ClusterOf) (outs : OutputsOf) → IsClusterOf flat c → length inputs ≡ count_by is_sampler_runner c.runners
     → HaveRoom offset c outs → ArePlayed flat offset inputs c c outs outs
 played_none flat offset inputs c outs of many room = record {
   of = of;
@@ -376,7 +376,7 @@ played_none flat offset inputs c outs of many room = record {
     traced = [];
     are = gains_none outs;
     sinks = All-nil (IsSentOf flat.tables);
-    places = All-nil HasFewPlaces;
+    places = All-nil SampleHasFewPlaces;
     given = λ model start old p reads from checked period told.
         subst (λ (order : List ℕ). GiveAll flat (cluster_net model flat c.number start) old p reads order (play_of from c) (play_of from c) [] []) (sym (actors_none c.entries c.place))
         (give_none flat (cluster_net model flat c.number start) old p reads (play_of from c));
@@ -396,20 +396,20 @@ module _ (flat : Flat) (offset : ℕ) (inputs : List Raw) (c d : ClusterOf) (out
   to_here : ArePlayed flat offset inputs c here outs cur
   to_here = subst (λ (s : ClusterOf). ArePlayed flat offset inputs c s outs cur) to.moved.rest to
 
-  pub next_inputs : AreInputsFor flat offset c inputs → is_due d offset ≡ true → AreInputsNext flat d inputs
+  pub next_inputs : AreInputsFor flat offset c inputs → is_next_due d offset ≡ true → AreInputsNext flat d inputs
   next_inputs ins due =
-      subst (λ (s : ClusterOf). is_due s offset ≡ true → AreInputsNext flat s inputs) (sym to.moved.rest)
+      subst (λ (s : ClusterOf). is_next_due s offset ≡ true → AreInputsNext flat s inputs) (sym to.moved.rest)
       (λ e. inputs_next flat offset inputs c d.place d.rings d.runners d.positions outs cur to_here ins e) due
 
-  pub next_room : is_due d offset ≡ true → HasRoomNext d cur
+  pub next_room : is_next_due d offset ≡ true → HasRoomNext d cur
   next_room due =
-      subst (λ (s : ClusterOf). is_due s offset ≡ true → HasRoomNext s cur) (sym to.moved.rest)
+      subst (λ (s : ClusterOf). is_next_due s offset ≡ true → HasRoomNext s cur) (sym to.moved.rest)
       (λ e. room_next flat offset inputs c d.place d.rings d.runners d.positions outs cur to_here e) due
 
-  pub played_next : (e : ClusterOf) (cur2 : OutputsOf) → is_due d offset ≡ true → IsClusterOf flat e → HasStepped flat inputs d e cur cur2 → ArePlayed flat offset inputs c e outs cur2
+  pub played_next : (e : ClusterOf) (cur2 : OutputsOf) → is_next_due d offset ≡ true → IsClusterOf flat e → HasStepped flat inputs d e cur cur2 → ArePlayed flat offset inputs c e outs cur2
   played_next e cur2 due of step =
       subst (λ (s : ClusterOf). ArePlayed flat offset inputs c s outs cur2) (sym e_is)
-      (more flat offset inputs c d.place d.rings d.runners d.positions outs cur to_here (subst (λ (s : ClusterOf). is_due s offset ≡ true) to.moved.rest due)
+      (more flat offset inputs c d.place d.rings d.runners d.positions outs cur to_here (subst (λ (s : ClusterOf). is_next_due s offset ≡ true) to.moved.rest due)
       e.rings e.runners e.positions cur2 (subst (IsClusterOf flat) e_is of)
       (subst (λ (s : ClusterOf). HasStepped flat inputs here s cur cur2) e_is
       (subst (λ (s : ClusterOf). HasStepped flat inputs s e cur cur2) to.moved.rest step)))
@@ -424,5 +424,5 @@ module _ (flat : Flat) (offset : ℕ) (inputs : List Raw) (c d : ClusterOf) (out
       (order_keeps (cluster_net model flat c.number start) old p reads (actors_between c.entries c.place d.place) f (play_of from c) (play_of from d) stands
       (to.played model start old p reads from checked period told))
 
-pub due_within : (offset : ℕ) (c : ClusterOf) → is_due c offset ≡ true → c.place < length c.entries
+pub due_within : (offset : ℕ) (c : ClusterOf) → is_next_due c offset ≡ true → c.place < length c.entries
 due_within offset c due = let next = due_entry offset (slice_get c.entries c.place) due in slice_get_within c.entries c.place next.0 next.1

@@ -15,7 +15,7 @@ use Rattle.tdf_expr.specs.declared.bodies.Body.TheVariants.{Initialize, Processi
 use Rattle.tdf_base.proofs.Api.{none_first, none_second}
 use Rattle.tdf_base.specs.First.{fault_if}
 use Rattle.tdf_fixed.specs.declared.raw.Raw.{Raw}
-use Rattle.tdf_expr_semantics.specs.Bodies.{after, after_all, after_body, assigned_at, limit_value, noticed_at, repeated, stepped, stepped_at, target_index, with_element}
+use Rattle.tdf_expr_semantics.specs.Bodies.{after, after_all, after_body, assigned_at, limit_value, noticed_at, repeated, step_assigned, stepped_at, target_index, with_element}
 use Rattle.tdf_expr_semantics.specs.Value.{holds, value}
 use Rattle.tdf_expr_symbols.specs.Faults.{changes, expr_faults, limit_faults, opened, stmt_faults, stmts_faults}
 use Rattle.tdf_expr_symbols.specs.Names.{Array, Composite, Const, De, DeSignal, Event, Instance, Loop, Names, Port, RateVar, Signal, Tdf, Thing, TypeName, Var, globals_of, place_of, thing_of}
@@ -62,7 +62,7 @@ step_rates : (own : Names) (n : Option ℕ) (step : ℕ) (s : State) → (steppe
 step_rates own None step s = refl
 step_rates own (Some n) step s = refl
 
-stepped_rates : (own : Names) (port : Option (List ℕ)) (step : ℕ) (s : State) → (stepped own port step s).frame.rates ≡ s.frame.rates
+stepped_rates : (own : Names) (port : Option (List ℕ)) (step : ℕ) (s : State) → (step_assigned own port step s).frame.rates ≡ s.frame.rates
 stepped_rates own None step s = refl
 stepped_rates own (Some port) step s = step_rates own (place_of own port) step s
 

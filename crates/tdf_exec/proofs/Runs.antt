@@ -11,7 +11,7 @@ use Rattle.tdf_exec.proofs.Moved.{reads_it}
 use Rattle.tdf_exec.specs.Cluster.{ClusterOf}
 use Rattle.tdf_exec.specs.machine.Fired.{CanFireModule, CanGive, CanRun, CanSample, CanSink}
 use Rattle.tdf_exec.specs.Gained.{sent_size, traced_size}
-use Rattle.tdf_exec.specs.Made.{IsClusterOf, IsModuleOf, IsSamplerOf, IsSinkOf, is_sampler}
+use Rattle.tdf_exec.specs.Made.{IsClusterOf, IsModuleOf, IsSamplerOf, IsSinkOf, is_sampler_runner}
 use Rattle.tdf_exec.specs.Runners.{ModuleOf, SamplerOf}
 use Rattle.tdf_exec.specs.declared.runners.Runner.{Runner}
 use Rattle.tdf_exec.specs.declared.runners.Runner.TheVariants as runner
@@ -79,11 +79,11 @@ module _ (flat : Flat) (c : ClusterOf) (inputs : List Raw) (x : Entry) (of : IsC
     zeros = is.zeros;
   }
 
-  sampler_can : (s : SamplerOf) → IsSamplerOf flat c x.actor s → slice_get c.runners x.actor ≡ Some (runner.Sampler s) → length inputs ≡ count_by is_sampler c.runners
+  sampler_can : (s : SamplerOf) → IsSamplerOf flat c x.actor s → slice_get c.runners x.actor ≡ Some (runner.Sampler s) → length inputs ≡ count_by is_sampler_runner c.runners
       → CanSample inputs c.rings s
   sampler_can s is there many = record {
     given =
-        let less : count_by is_sampler (take x.actor c.runners) < count_by is_sampler c.runners = count_before is_sampler c.runners x.actor (runner.Sampler s) there refl in
+        let less : count_by is_sampler_runner (take x.actor c.runners) < count_by is_sampler_runner c.runners = count_before is_sampler_runner c.runners x.actor (runner.Sampler s) there refl in
         let place = is.place_is in
         omega (arith, less, place, many);
     can = record {
@@ -111,7 +111,7 @@ module _ (flat : Flat) (c : ClusterOf) (inputs : List Raw) (x : Entry) (of : IsC
         omega (arith, p, one);
   }
 
-  pub can_run : (r : Runner) → slice_get c.runners x.actor ≡ Some r → length inputs ≡ count_by is_sampler c.runners
+  pub can_run : (r : Runner) → slice_get c.runners x.actor ≡ Some r → length inputs ≡ count_by is_sampler_runner c.runners
       → CanRun flat.checked inputs c.reads c.writes c.rings r
   can_run (runner.Module y) there many = module_can y (of.runners x.actor (runner.Module y) there)
   can_run (runner.Sampler s) there many = sampler_can s (of.runners x.actor (runner.Sampler s) there) there many

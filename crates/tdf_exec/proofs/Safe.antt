@@ -10,7 +10,7 @@ use Rattle.tdf_dynamic_plans.specs.Faults.{pace_in}
 use Rattle.tdf_dynamic_plans.specs.Rates.{net_of}
 use Rattle.tdf_exec.specs.Cluster.{ClusterOf}
 use Rattle.tdf_exec.specs.Laws.{HeadsHold, PlansAreSafe}
-use Rattle.tdf_exec.specs.Made.{IsSafe, room_for}
+use Rattle.tdf_exec.specs.Made.{IsClusterSafe, room_for}
 use Rattle.tdf_bind.specs.declared.model.Flat.{Flat}
 use Rattle.tdf_bind_invariants.specs.Limits.{AreWithinLimits}
 use Rattle.tdf_schedule.specs.Laws.{PlansArePresent}
@@ -93,7 +93,7 @@ module _ (law : PlansArePresent) (flat : Flat) (limits : AreWithinLimits flat) (
         omega (arith, h, d))
   ]
 
-  pub safe_now : (c : ClusterOf) → c.number ≡ number → c.entries ≡ entries → c.bounds ≡ plan.bounds.items → c.reads ≡ p.reads → c.writes ≡ p.writes → IsSafe flat.tables c
+  pub safe_now : (c : ClusterOf) → c.number ≡ number → c.entries ≡ entries → c.bounds ≡ plan.bounds.items → c.reads ≡ p.reads → c.writes ≡ p.writes → IsClusterSafe flat.tables c
   safe_now c n_is e_is b_is r_is w_is = record {
     inside = λ i x at. inside_actors i x (ap (λ l. slice_get l i) (sym e_is) ∙ at);
     own = λ i x at. own_actor i x (ap (λ l. slice_get l i) (sym e_is) ∙ at) ∙ sym n_is;

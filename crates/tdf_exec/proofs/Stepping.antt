@@ -13,7 +13,7 @@ use Rattle.tdf_exec.proofs.Runs.{count_mono}
 use Rattle.tdf_exec.specs.Cluster.{ClusterOf}
 use Rattle.tdf_exec.specs.machine.Fired.{HasRunModule, HasSampled}
 use Rattle.tdf_exec.specs.Made.{IsActorOf, IsClusterOf, IsModuleOf, IsSamplerOf, IsSinkOf}
-use Rattle.tdf_exec.specs.Played.{AreGiven, IsPeriodOf, cells_of, play_of, turns_from}
+use Rattle.tdf_exec.specs.Played.{AreInputsGiven, IsPeriodOf, runner_cells, play_of, turns_from}
 use Rattle.tdf_exec.specs.Runners.{ModuleOf, SamplerOf}
 use Rattle.tdf_exec.specs.declared.runners.Runner.{Runner}
 use Rattle.tdf_exec.specs.declared.runners.Runner.TheVariants as runner
@@ -33,8 +33,8 @@ use Rattle.tdf_rings.specs.Carried.{ring_at}
 use Rattle.tdf_rings.specs.Rings.{RingOf, ring_of}
 use Rattle.tdf_schedule.specs.Plan.{done}
 use Rattle.tdf_schedule.specs.declared.entry.Entry.{Entry}
-use Rattle.tdf_streams.specs.Bodies.{acted, no_output}
-use Rattle.tdf_streams.specs.Cluster.{Start, cluster_net, is_outside, is_sampler_kind}
+use Rattle.tdf_streams.specs.Bodies.{module_acted, no_output}
+use Rattle.tdf_streams.specs.Cluster.{Start, cluster_net, is_outside_cluster, is_sampler_kind}
 use Rattle.tdf_streams.specs.Periods.{PeriodInfo, PeriodRecord}
 use Rattle.tdf_streams.specs.Places.{reader_at, source_at, writer_at}
 use Rattle.tdf_lang_tree.specs.Pure.{PureTree}
@@ -117,7 +117,7 @@ module _ (flat : Flat) (c : ClusterOf) (inputs : List Raw) (x : Entry) (of : IsC
 
     flows : (t : Turn (List ℤ) Raw) (put : ℕ → List Raw) → AreMovedBy flat.tables c x.actor put new
         → ((e : ℕ) → e < length flat.tables.edges → writer_at flat.tables.edges e ≡ x.actor → put e ≡ map (t.outputs (source_at flat.tables.edges e)) (range_with_len 0 (slice_index c.writes e)))
-        → (is_outside flat.tables c.number x.actor ≡ false → cells_of after ≡ t.state)
+        → (is_outside_cluster flat.tables c.number x.actor ≡ false → runner_cells after ≡ t.state)
         → Flows net p x.actor t (play_of from c) (play_of from later)
     flows t put are same state = record {
       turn =
@@ -131,13 +131,13 @@ module _ (flat : Flat) (c : ClusterOf) (inputs : List Raw) (x : Entry) (of : IsC
           ∙ range_same (turns_from c.entries from (c.place + 1)) (turns_from c.entries from c.place) 0 (length c.runners) k 0
           (ap (λ n. n - done c.entries from (0 + k)) (done_other c.entries c.place x at (0 + k) (λ e. apart (sym (e ∙ omega arith)))));
       state = λ inner.
-          slice_get-map cells_of later.runners x.actor
-          ∙ ap (option_map cells_of) (get_set c.runners x.actor after inside)
+          slice_get-map runner_cells later.runners x.actor
+          ∙ ap (option_map runner_cells) (get_set c.runners x.actor after inside)
           ∙ ap (λ s. Some s) (state inner);
       other_states = λ k apart.
-          slice_get-map cells_of later.runners k
-          ∙ ap (option_map cells_of) (get_set_other c.runners x.actor k after apart)
-          ∙ sym (slice_get-map cells_of c.runners k);
+          slice_get-map runner_cells later.runners k
+          ∙ ap (option_map runner_cells) (get_set_other c.runners x.actor k after apart)
+          ∙ sym (slice_get-map runner_cells c.runners k);
       lists = λ e below.
           list_at from later e
           ∙ ap samples_in (are.moved e below)
@@ -160,14 +160,14 @@ module _ (flat : Flat) (c : ClusterOf) (inputs : List Raw) (x : Entry) (of : IsC
             ∙ ap (λ (q : List ℕ). map (t.outputs (source_at flat.tables.edges e)) (range_with_len 0 (slice_index q e))) (sym period.writes)
         back e below false writes = refl
 
-  inner : (kind : Actor) → is_sampler_kind (Some kind) ≡ false → IsActorOf flat.tables c.number x.actor kind → is_outside flat.tables c.number x.actor ≡ false
+  inner : (kind : Actor) → is_sampler_kind (Some kind) ≡ false → IsActorOf flat.tables c.number x.actor kind → is_outside_cluster flat.tables c.number x.actor ≡ false
   inner kind plain is =
       ap (λ k. is_sampler_kind k || not (nat_eq (slice_index (clusters_of flat.tables) x.actor) c.number)) is.kind_is
       ∙ ap (λ b. b || not (nat_eq (slice_index (clusters_of flat.tables) x.actor) c.number)) plain
       ∙ ap (λ b. not b) (eq-eqb _ _ is.inside)
 
-  state_at : (r : Runner) → slice_get c.runners x.actor ≡ Some r → slice_get (play_of from c).states x.actor ≡ Some (cells_of r)
-  state_at r there = slice_get-map cells_of c.runners x.actor ∙ ap (option_map cells_of) there
+  state_at : (r : Runner) → slice_get c.runners x.actor ≡ Some r → slice_get (play_of from c).states x.actor ≡ Some (runner_cells r)
+  state_at r there = slice_get-map runner_cells c.runners x.actor ∙ ap (option_map runner_cells) there
 
   pub module_step : (y : ModuleOf) (after : Runner) (there : slice_get c.runners x.actor ≡ Some (runner.Module y)) (position : ℕ)
       → (ran : HasRunModule flat.checked c.reads c.writes c.rings new y after)
@@ -180,7 +180,7 @@ module _ (flat : Flat) (c : ClusterOf) (inputs : List Raw) (x : Entry) (of : IsC
         (sym (turn_is flat c x.actor y ran.next is new ran.fired model checked p.info period.table
         (fronts net p x.actor (play_of from c).lists 0 (length flat.tables.edges)) (fronts_long net p x.actor (play_of from c).lists 0 (length flat.tables.edges)) front_at));
     flows = flows (runner.Module y) after there position (turn_of flat ran.next) (given_by flat.tables c.writes ran.next.ports)
-        (module_moves flat c x.actor y ran.next is new ran.fired of.held.same) (λ e below writes. refl) (λ inner. ap cells_of ran.after_is);
+        (module_moves flat c x.actor y ran.next is new ran.fired of.held.same) (λ e below writes. refl) (λ inner. ap runner_cells ran.after_is);
   }
     where
       is : IsModuleOf flat c x.actor y
@@ -192,7 +192,7 @@ module _ (flat : Flat) (c : ClusterOf) (inputs : List Raw) (x : Entry) (of : IsC
   module_turn y after there position ran = refl
 
   pub sampler_step : (s : SamplerOf) (after : Runner) (there : slice_get c.runners x.actor ≡ Some (runner.Sampler s)) (position : ℕ)
-      → HasSampled inputs c.rings new s after → AreGiven c inputs reads old from c.place x
+      → HasSampled inputs c.rings new s after → AreInputsGiven c inputs reads old from c.place x
       → IsStep net old p reads x.actor (play_of from c) (play_of from (later (runner.Sampler s) after there position))
   sampler_step s after there position ran told = record {
     turn = sampled net x.actor v;
@@ -215,7 +215,7 @@ module _ (flat : Flat) (c : ClusterOf) (inputs : List Raw) (x : Entry) (of : IsC
       v_is : slice_get inputs s.place ≡ Some v
       v_is = (sampler_value flat c inputs x of ins at new s there).1
 
-      outer : is_outside flat.tables c.number x.actor ≡ true
+      outer : is_outside_cluster flat.tables c.number x.actor ≡ true
       outer = ap (λ k. is_sampler_kind k || not (nat_eq (slice_index (clusters_of flat.tables) x.actor) c.number)) is.actor_is.kind_is
 
       differ : true ≡ false → ⊥
@@ -229,9 +229,9 @@ module _ (flat : Flat) (c : ClusterOf) (inputs : List Raw) (x : Entry) (of : IsC
     left = left;
     present = present;
     next = processed [] (inner actor.Sink refl is.actor_is) (state_at (runner.Sink k) there)
-        (sym (ap (λ o. acted model flat x.actor o p.info [] (fronts net p x.actor (play_of from c).lists 0 (length flat.tables.edges))) is.actor_is.kind_is));
+        (sym (ap (λ o. module_acted model flat x.actor o p.info [] (fronts net p x.actor (play_of from c).lists 0 (length flat.tables.edges))) is.actor_is.kind_is));
     flows = flows (runner.Sink k) after there position (no_output []) given_none (sink_moves flat c x.actor k.edge new is took of.held.same)
-        (λ e below writes. absurd (is.none e (record { inside = below; writer = writes }))) (λ inner. ap cells_of same);
+        (λ e below writes. absurd (is.none e (record { inside = below; writer = writes }))) (λ inner. ap runner_cells same);
   }
     where
       is : IsSinkOf flat c x.actor k.edge

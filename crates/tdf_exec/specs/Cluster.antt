@@ -46,5 +46,5 @@ is_offset None offset = false
 is_offset (Some next) offset = nat_eq next offset
 
 -- whether the next entry has this offset
-abbrev pub is_due : ClusterOf → (offset : ℕ) → Bool
-is_due c offset = is_offset (next_offset c) offset
+abbrev pub is_next_due : ClusterOf → (offset : ℕ) → Bool
+is_next_due c offset = is_offset (next_offset c) offset

@@ -9,7 +9,7 @@ use Rattle.tdf_dynamic_plans.specs.Attributes.{AttrsOf, clusters_of}
 use Rattle.tdf_dynamic_plans.specs.Faults.{IsTablePlan}
 use Rattle.tdf_exec.specs.Cluster.{ClusterOf}
 use Rattle.tdf_exec.specs.Made.{HasRows, IsClusterOf, IsClusterWith, room_for}
-use Rattle.tdf_exec.specs.Played.{IsLike, IsPeriodOf, cells_of, play_of}
+use Rattle.tdf_exec.specs.Played.{IsLike, IsPeriodOf, runner_cells, play_of}
 use Rattle.tdf_exec.specs.Runners.{ModuleOf}
 use Rattle.tdf_exec.specs.declared.runners.Runner.{Runner}
 use Rattle.tdf_exec.specs.declared.runners.Runner.TheVariants as runner
@@ -38,7 +38,7 @@ at_place c place crossed = record c { place = place; crossed = crossed }
 -- the values of the variables of the modules, by number
 abbrev pub cells_in : Option Runner → List ℤ
 cells_in None = []
-cells_in (Some r) = cells_of r
+cells_in (Some r) = runner_cells r
 
 abbrev pub values_at : List Runner → ℕ → List ℤ
 values_at runners m = cells_in (slice_get runners m)
@@ -88,9 +88,9 @@ CanInstall flat c Same = IsClusterOf flat c
 CanInstall flat c (Changed attrs plan) = IsReadyFor flat c attrs plan
 
 -- a cluster at the head of a period with a new table and plan
-abbrev pub with_plan : ClusterOf → List AttrsOf → Plan → (reads writes : List ℕ) → List RingOf
+abbrev pub with_new_plan : ClusterOf → List AttrsOf → Plan → (reads writes : List ℕ) → List RingOf
     → List Runner → ClusterOf
-with_plan c attrs plan reads writes rings runners = record c {
+with_new_plan c attrs plan reads writes rings runners = record c {
   table = attrs;
   entries = plan.entries.items;
   bounds = plan.bounds.items;
@@ -118,7 +118,7 @@ IsKin other r = r ≡ other
 -- what its modules keep have changed
 pub record HasNewPlan (c : ClusterOf) (attrs : List AttrsOf) (plan : Plan) (d : ClusterOf)
     : Type 0 where
-  pub rest : d ≡ with_plan c attrs plan d.reads d.writes d.rings d.runners
+  pub rest : d ≡ with_new_plan c attrs plan d.reads d.writes d.rings d.runners
   pub same : length d.rings ≡ length c.rings
   pub lists : (e : ℕ) → e < length c.rings → ring_at d.rings e
       ≡ ring_of (ring_at c.rings e).samples (room_for (slice_index plan.bounds.items e))
@@ -127,9 +127,9 @@ pub record HasNewPlan (c : ClusterOf) (attrs : List AttrsOf) (plan : Plan) (d : 
       → (s : Runner) × (slice_get d.runners m ≡ Some s) × IsKin r s
 
 -- the next period has begun, with the same plan or with a new one
-abbrev pub HasBegun : ClusterOf → Next → ClusterOf → Type 0
-HasBegun c Same d = d ≡ at_place c 0 false
-HasBegun c (Changed attrs plan) d = HasNewPlan c attrs plan d
+abbrev pub HasBegunPeriod : ClusterOf → Next → ClusterOf → Type 0
+HasBegunPeriod c Same d = d ≡ at_place c 0 false
+HasBegunPeriod c (Changed attrs plan) d = HasNewPlan c attrs plan d
 
 -- where it crosses from a period, it then stands at the head of the next, which has no new plan
 abbrev pub StandsAtNext : Flat → (c d : ClusterOf) → Type 0

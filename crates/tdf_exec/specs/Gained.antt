@@ -95,8 +95,8 @@ pub record IsSentOf (tables : FlatTablesOf) (s : Sent) : Type 0 where
       → IsOfFormat f s.value
 
 -- a sample of a traced signal has no more places after the point than a format can have
-abbrev pub HasFewPlaces : Traced → Type 0
-HasFewPlaces t = t.value.frac ≤ 63
+abbrev pub SampleHasFewPlaces : Traced → Type 0
+SampleHasFewPlaces t = t.value.frac ≤ 63
 
 -- the outputs gained exactly what the steps of the streams give, in the order of the plan
 pub record HasGained (flat : Flat) (offset : ℕ) (inputs : List Raw) (c d : ClusterOf)
@@ -105,7 +105,7 @@ pub record HasGained (flat : Flat) (offset : ℕ) (inputs : List Raw) (c d : Clu
   pub traced : List Traced
   pub are : after ≡ with_gains before sent traced
   pub sinks : All (IsSentOf flat.tables) sent
-  pub places : All HasFewPlaces traced
+  pub places : All SampleHasFewPlaces traced
   pub given : (model : PureTree) (start : Start) (old : List PeriodRecord) (p : PeriodRecord)
       → (reads : ℕ → List Raw) (from : ℕ) → IsCheckedOf model flat.checked → IsPeriodOf c from p
       → AreAllGiven offset c inputs reads old from

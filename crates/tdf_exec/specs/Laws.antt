@@ -4,7 +4,7 @@ use Rattle.std.specs.Prelude.{◌≡◌, ℕ, ◌+◌, ◌*◌, ◌≤◌, [], l
 use Rattle.tdf_expr_blocks.specs.Types.{type_faults}
 use Rattle.tdf_dynamic_plans.specs.Rates.{net_of}
 use Rattle.tdf_exec.specs.Cluster.{ClusterOf}
-use Rattle.tdf_exec.specs.Made.{IsClusterOf, IsPlanned, IsSafe, KeepRates}
+use Rattle.tdf_exec.specs.Made.{IsClusterOf, IsClusterPlanned, IsClusterSafe, KeepRates}
 use Rattle.tdf_exec.specs.Starts.{BeginWithRates}
 use Rattle.tdf_exec.specs.Telling.{GivesTooMany}
 use Rattle.tdf_expr.specs.Checked.{IsCheckedOf}
@@ -22,9 +22,9 @@ use Rattle.tdf_lang_tree.specs.Pure.{PureTree}
 -- along the plan of its table a cluster is safe, whatever it holds
 abbrev pub PlansAreSafe : Type 0
 PlansAreSafe = (flat : Flat) (c : ClusterOf) → AreWithinLimits flat
-    → AreAttributes flat c.number c.table → IsPlanned flat.tables c
+    → AreAttributes flat c.number c.table → IsClusterPlanned flat.tables c
     → c.reads ≡ read_rates (net_of flat.tables c.table)
-    → c.writes ≡ write_rates (net_of flat.tables c.table) → IsSafe flat.tables c
+    → c.writes ≡ write_rates (net_of flat.tables c.table) → IsClusterSafe flat.tables c
 
 -- before the first entry an edge holds what it is to hold at the head of a period
 abbrev pub HeadsHold : Type 0

@@ -82,19 +82,19 @@ pub record IsModuleWith (flat : Flat) (rated : List AttrsOf) (c : ClusterOf) (m 
 abbrev pub IsModuleOf : Flat → ClusterOf → ℕ → ModuleOf → Type 0
 IsModuleOf flat c m x = IsModuleWith flat c.table c m x
 
-abbrev pub is_sampler : Runner → Bool
-is_sampler (runner.Sampler s) = true
-is_sampler _ = false
+abbrev pub is_sampler_runner : Runner → Bool
+is_sampler_runner (runner.Sampler s) = true
+is_sampler_runner _ = false
 
 -- how many samplers of the cluster come before an actor
-abbrev pub samplers_before : List Runner → ℕ → ℕ
-samplers_before runners m = count_by is_sampler (take m runners)
+abbrev pub sampler_runners_before : List Runner → ℕ → ℕ
+sampler_runners_before runners m = count_by is_sampler_runner (take m runners)
 
 -- a sampler: one sample on each of its edges, and it reads none
 pub record IsSamplerOf (flat : Flat) (c : ClusterOf) (m : ℕ) (s : SamplerOf) : Type 0 where
   pub actor_is : IsActorOf flat.tables c.number m actor.Sampler
   pub edges_are : AreEdgesOf flat.tables m s.edges
-  pub place_is : s.place ≡ samplers_before c.runners m
+  pub place_is : s.place ≡ sampler_runners_before c.runners m
   pub rate : (e : ℕ) → Writes flat.tables m e → slice_index c.writes e ≡ 1
   pub none : (e : ℕ) → Reads flat.tables m e → ⊥
 
@@ -124,7 +124,7 @@ pub record HasRows (tables : FlatTablesOf) (cluster : ℕ) (table : List AttrsOf
       → slice_get table j ≡ Some other → one.number ≡ other.number → i ≡ j
 
 -- the plan is that of the table
-pub record IsPlanned (tables : FlatTablesOf) (c : ClusterOf) : Type 0 where
+pub record IsClusterPlanned (tables : FlatTablesOf) (c : ClusterOf) : Type 0 where
   pub plan : Plan
   pub plan_is : IsTablePlan tables c.number c.table plan
   pub entries_are : plan.entries.items ≡ c.entries
@@ -138,7 +138,7 @@ room_for (suc n) = suc n
 
 -- along the plan only actors of the cluster fire, the samples that a firing reads are there, and no
 -- edge holds more than it has room for
-pub record IsSafe (tables : FlatTablesOf) (c : ClusterOf) : Type 0 where
+pub record IsClusterSafe (tables : FlatTablesOf) (c : ClusterOf) : Type 0 where
   pub inside : (i : ℕ) (x : Entry) → slice_get c.entries i ≡ Some x
       → x.actor < length tables.actors
   pub own : (i : ℕ) (x : Entry) → slice_get c.entries i ≡ Some x
@@ -186,10 +186,10 @@ pub record KeepRates (checked : Checked) : Type 0 where
 pub record IsClusterWith (flat : Flat) (rated : List AttrsOf) (c : ClusterOf) : Type 0 where
   pub attributes : AreAttributes flat c.number c.table
   pub rows : HasRows flat.tables c.number c.table
-  pub planned : IsPlanned flat.tables c
+  pub planned : IsClusterPlanned flat.tables c
   pub reads_are : c.reads ≡ read_rates (net_of flat.tables c.table)
   pub writes_are : c.writes ≡ write_rates (net_of flat.tables c.table)
-  pub safe : IsSafe flat.tables c
+  pub safe : IsClusterSafe flat.tables c
   pub within : c.place ≤ length c.entries
   pub over : c.crossed ≡ true → next_offset c ≡ None
   pub held : AreHeld flat.tables c

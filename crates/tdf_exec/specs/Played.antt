@@ -2,8 +2,8 @@
 -- Source: own.
 use Rattle.std.specs.List.{count_by, range_with_len, sum_by}
 use Rattle.std.specs.Prelude.{◌≡◌, ℕ, ◌+◌, ◌-◌, ◌^◌, ◌<◌, ◌≤◌, false, List, [], length, map, min, Some, drop, take, slice_get, slice_index, ℤ}
-use Rattle.tdf_exec.specs.Cluster.{ClusterOf, is_due}
-use Rattle.tdf_exec.specs.Made.{is_sampler}
+use Rattle.tdf_exec.specs.Cluster.{ClusterOf, is_next_due}
+use Rattle.tdf_exec.specs.Made.{is_sampler_runner}
 use Rattle.tdf_exec_layout.specs.Samples.{edge_format}
 use Rattle.tdf_exec.specs.Runners.{ModuleOf, SamplerOf}
 use Rattle.tdf_exec.specs.declared.runners.Runner.{Runner}
@@ -25,9 +25,9 @@ use Rattle.tdf_streams.specs.Periods.{PeriodRecord}
 use Rattle.tdf_lang_tree.specs.Pure.{PureTree}
 
 -- what an actor keeps: the values of the variables of a module
-abbrev pub cells_of : Runner → List ℤ
-cells_of (runner.Module x) = x.frame.state.cells
-cells_of _ = []
+abbrev pub runner_cells : Runner → List ℤ
+runner_cells (runner.Module x) = x.frame.state.cells
+runner_cells _ = []
 
 -- the activations of an actor between two places of a plan
 abbrev pub turns_from : List Entry → (from place : ℕ) → ℕ → ℕ
@@ -37,7 +37,7 @@ turns_from entries from place m = done entries place m - done entries from m
 abbrev pub play_of : (from : ℕ) → ClusterOf → Play (List ℤ) Raw
 play_of from c = record {
   turns = map (turns_from c.entries from c.place) (range_with_len 0 (length c.runners));
-  states = map cells_of c.runners;
+  states = map runner_cells c.runners;
   lists = map (λ (r : RingOf). r.samples) c.rings;
 }
 
@@ -55,7 +55,7 @@ pub record IsPeriodOf (c : ClusterOf) (from : ℕ) (p : PeriodRecord) : Type 0 w
 -- of their edges
 pub record AreInputsFor (flat : Flat) (offset : ℕ) (c : ClusterOf) (inputs : List Raw)
     : Type 0 where
-  pub many : length inputs ≡ count_by is_sampler c.runners
+  pub many : length inputs ≡ count_by is_sampler_runner c.runners
   pub formats : (i e : ℕ) (x : Entry) (s : SamplerOf) (v : Raw) (f : Format) → c.place ≤ i
       → slice_get c.entries i ≡ Some x → x.offset ≡ offset
       → slice_get c.runners x.actor ≡ Some (runner.Sampler s)
@@ -63,7 +63,7 @@ pub record AreInputsFor (flat : Flat) (offset : ℕ) (c : ClusterOf) (inputs : L
       → Writes flat.tables x.actor e → edge_format flat.tables e ≡ Some f → IsOfFormat f v
 
 -- a sampler that fires by entry i is given its input as the next of its values
-pub record AreGiven (c : ClusterOf) (inputs : List Raw) (reads : ℕ → List Raw)
+pub record AreInputsGiven (c : ClusterOf) (inputs : List Raw) (reads : ℕ → List Raw)
     (old : List PeriodRecord) (from i : ℕ) (x : Entry) : Type 0 where
   pub is : (s : SamplerOf) (v : Raw) → slice_get c.runners x.actor ≡ Some (runner.Sampler s)
       → slice_get inputs s.place ≡ Some v
@@ -74,7 +74,8 @@ pub record AreGiven (c : ClusterOf) (inputs : List Raw) (reads : ℕ → List Ra
 abbrev pub AreAllGiven : (offset : ℕ) → ClusterOf → (inputs : List Raw) → (ℕ → List Raw)
     → List PeriodRecord → (from : ℕ) → Type 0
 AreAllGiven offset c inputs reads old from = (i : ℕ) (x : Entry) → c.place ≤ i
-    → slice_get c.entries i ≡ Some x → x.offset ≡ offset → AreGiven c inputs reads old from i x
+    → slice_get c.entries i ≡ Some x → x.offset ≡ offset
+    → AreInputsGiven c inputs reads old from i x
 
 -- the actors that fire from one place of the plan to another
 abbrev pub actors_between : List Entry → (from to : ℕ) → List ℕ
@@ -134,4 +135,4 @@ pub record AreDone (offset : ℕ) (c d : ClusterOf) : Type 0 where
   pub moved : IsMoved c d
   pub each : (i : ℕ) (x : Entry) → c.place ≤ i → i < d.place → slice_get c.entries i ≡ Some x
       → x.offset ≡ offset
-  pub all : is_due d offset ≡ false
+  pub all : is_next_due d offset ≡ false

@@ -1,7 +1,7 @@
 //! What the actors of a cluster keep at its start.
 
 ghost use Rattle.std.specs.Prelude.{◌≡◌, ◌+◌, ◌<◌, ℕ, IfOk, if◌then◌else◌, length, Some, slice_get};
-ghost use Rattle.tdf_exec.specs.Made.{is_sampler};
+ghost use Rattle.tdf_exec.specs.Made.{is_sampler_runner};
 ghost use Rattle.tdf_exec.specs.machine.Starting.{AreFirstRunners, CanBegin, IsBegun, IsFirstRunner, IsOfModule};
 ghost use Rattle.tdf_exec_layout.specs.declared.wiring.ActorWires.{ActorWires as ActorWiresOf};
 
@@ -73,7 +73,7 @@ fn one_more(samplers: u32) -> Result<u32, Memory>
 
 /// The number of samplers with one actor more.
 fn samplers_with(samplers: u32, runner: &Runner) -> Result<u32, Memory>
-    ensures { IfOk result (λ next. next ≡ samplers + (if is_sampler runner.now then 1 else 0)) }
+    ensures { IfOk result (λ next. next ≡ samplers + (if is_sampler_runner runner.now then 1 else 0)) }
 {
     match runner {
         Runner::Module(_) => Ok(samplers),

@@ -54,7 +54,7 @@ impl Model for Cluster {
 
 ghost use Rattle.std.specs.Prelude.{◌≡◌, ◌<◌, ◌≤◌, ◌+◌, ◌^◌, ◌-◌, ℕ, length, min, Some, slice_get};
 ghost use Rattle.tdf_convert.specs.Sampled.{AreByOffset};
-ghost use Rattle.tdf_exec.specs.Cluster.{due_count, due_from, is_due, next_offset};
+ghost use Rattle.tdf_exec.specs.Cluster.{due_count, due_from, is_next_due, next_offset};
 ghost use Rattle.tdf_exec.specs.Gained.{HasGained, HaveRoom};
 ghost use Rattle.tdf_exec.specs.Made.{IsClusterOf};
 ghost use Rattle.tdf_exec.specs.Played.{AreDone, AreInputsFor, HasPlayed, KeepsStanding};
@@ -129,7 +129,7 @@ impl Cluster {
 
     /// Whether the next entry of the plan has this offset.
     fn is_due(&self, offset: u64) -> bool
-        ensures { result ≡ is_due self.now offset }
+        ensures { result ≡ is_next_due self.now offset }
     {
         match self.next_offset() {
             Some(next) => next == offset,

@@ -9,7 +9,7 @@ ghost use Rattle.tdf_dynamic_plans.specs.Attributes.{AttrsOf};
 ghost use Rattle.tdf_dynamic_plans.specs.Faults.{IsRefusal};
 ghost use Rattle.tdf_dynamic_plans.specs.declared.err.ChangeErr.TheVariants.{Memory as NoMemory, Refused};
 ghost use Rattle.tdf_exec.specs.Cluster.{next_offset};
-ghost use Rattle.tdf_exec.specs.Crossing.{CanInstall, CrossesFrom, HasBegun, HasCrossed, HasNoChanges, HoldHeads, StandsAfter, WhenItAsks, at_place};
+ghost use Rattle.tdf_exec.specs.Crossing.{CanInstall, CrossesFrom, HasBegunPeriod, HasCrossed, HasNoChanges, HoldHeads, StandsAfter, WhenItAsks, at_place};
 ghost use Rattle.tdf_exec.specs.Made.{IsClusterOf};
 ghost use Rattle.tdf_exec.specs.Starts.{IsSoundFlat};
 ghost use Rattle.tdf_schedule.specs.declared.entry.Plan.{Plan as PlanOf};
@@ -104,7 +104,7 @@ impl Cluster {
         requires crossed { self.old.crossed ≡ true }
         requires can { CanInstall flat.now self.old next }
         ensures ok { next ≡ Same → IsOk result }
-        ensures begun { OnOk result (HasBegun self.old next self.new) }
+        ensures begun { OnOk result (HasBegunPeriod self.old next self.new) }
         ensures heads { OnOk result (HoldHeads flat.now.tables self.new) }
         ensures of { OnOk result (IsClusterOf flat.now self.new) }
         ensures stands { OnOk result (StandsAfter flat.now next self.old self.new) }

@@ -3,7 +3,7 @@
 ghost use Rattle.std.specs.Prelude.{◌≡◌, IfOk, Some};
 ghost use Rattle.tdf_dynamic_plans.specs.Rates.{AreRates, edge_kind, net_of, net_ports, read_rate_by, write_rate_by};
 ghost use Rattle.tdf_streams.specs.Periods.{read_rates, write_rates};
-ghost use Rattle.tdf_timestep.specs.Period.{rate_of};
+ghost use Rattle.tdf_timestep.specs.Period.{rate_at_port};
 
 use std::alloc::Global;
 use tdf_base::Memory;
@@ -25,7 +25,7 @@ fn edge_kind(ports: &[PortRow], edge: EdgeRow) -> Option<PortKind>
 
 fn rate_at(flat: &Flat, attrs: &Attrs, port: u32) -> u32
     requires { AreRates flat.now.tables attrs.now }
-    ensures { result ≡ rate_of (net_ports flat.now.tables attrs.now) (Some port) }
+    ensures { result ≡ rate_at_port (net_ports flat.now.tables attrs.now) (Some port) }
 {
     if (port as usize) < flat.tables.ports.len() {
         return attrs.port_rate(&flat.tables, port);
@@ -36,7 +36,7 @@ fn rate_at(flat: &Flat, attrs: &Attrs, port: u32) -> u32
 /// The rate of a port that is told by its number, 1 where none is told.
 fn rate_of(flat: &Flat, attrs: &Attrs, port: Option<u32>) -> u32
     requires { AreRates flat.now.tables attrs.now }
-    ensures { result ≡ rate_of (net_ports flat.now.tables attrs.now) port }
+    ensures { result ≡ rate_at_port (net_ports flat.now.tables attrs.now) port }
 {
     match port {
         None => 1,

@@ -74,7 +74,7 @@ ghost use Rattle.std.specs.Prelude.{◌≡◌, ℕ, ◌+◌, ◌≤◌, [], leng
 ghost use Rattle.tdf_exec.specs.machine.Fired.{CanFireModule, CanGive, CanRun, CanSink, HasFired, HasGiven, HasRun, HasSent};
 ghost use Rattle.tdf_exec.specs.Gained.{with_gains};
 ghost use Rattle.tdf_exec.specs.Made.{IsInSpans};
-ghost use Rattle.tdf_exec.specs.Traced.{port_samples, traced_count};
+ghost use Rattle.tdf_exec.specs.Traced.{traced_port_samples, traced_count};
 ghost use Rattle.tdf_exec.specs.declared.runners.Runner.TheVariants.{Module};
 ghost use Rattle.tdf_exec.specs.declared.runners.TracedPort.{TracedPort as TracedPortOf};
 ghost use Rattle.tdf_exec_firing.specs.Actors.{HasTaken};
@@ -115,7 +115,7 @@ impl ModuleRunner {
 fn trace_port(ports: &Ports, traced: TracedPort, outputs: &mut Outputs)
     requires port { IsInSpans ports.now.spans traced }
     requires room { length outputs.old.traced + traced.rate ≤ outputs.old.traced_room }
-    ensures { outputs.new ≡ with_gains outputs.old [] (port_samples ports.now traced) }
+    ensures { outputs.new ≡ with_gains outputs.old [] (traced_port_samples ports.now traced) }
 {
     for i in 0..traced.rate {
         outputs.put_traced(Traced {
@@ -132,7 +132,7 @@ fn trace_ports(ports: &Ports, list: &Vec<TracedPort>, outputs: &mut Outputs)
     requires room { length outputs.old.traced + traced_count list.now.items
         ≤ outputs.old.traced_room }
     ensures { outputs.new ≡ with_gains outputs.old []
-        (flat_map (port_samples ports.now) list.now.items) }
+        (flat_map (traced_port_samples ports.now) list.now.items) }
 {
     for j in 0..list.len() {
         trace_port(ports, list[j], outputs);
@@ -154,7 +154,7 @@ fn run_module(
     ensures fired { HasFired checked.now reads.now.items writes.now.items rings.old.items
         rings.new.items module.old module.new }
     ensures given { outputs.new ≡ with_gains outputs.old []
-        (flat_map (port_samples module.new.ports) module.new.traced) }
+        (flat_map (traced_port_samples module.new.ports) module.new.traced) }
 {
     module.fire(checked, reads, writes, rings);
     trace_ports(&module.ports, &module.traced, outputs);

@@ -6,9 +6,9 @@ use Rattle.std.proofs.lemmas.List.{drop-drop, drop_all, ext_get_or, get_or-appen
 use Rattle.std.proofs.lemmas.Option.{same_Some}
 use Rattle.std.specs.Prelude.{replicate, slice_get}
 use Rattle.tdf_expr.specs.Frames.{AreConsecutive, ArePortsFit, IsOfFormat, PortsSeen, is_written, reset_port, reset_samples, sample_formats}
-use Rattle.tdf_expr.specs.Plans.{shape_of_format, written}
+use Rattle.tdf_expr.specs.Plans.{shape_of_format, shape_written}
 use Rattle.tdf_expr.specs.declared.spans.PortSpan.{PortSpan}
-use Rattle.tdf_exec_firing.specs.Activation.{num_of, port_samples, sample_of, samples_from}
+use Rattle.tdf_exec_firing.specs.Activation.{num_of, port_samples, sample_of_span, samples_from}
 use Rattle.tdf_exec_firing.specs.Firing.{HoldFormats}
 use Rattle.tdf_exec_firing.specs.machine.Filling.{num_at}
 use Rattle.tdf_fixed.specs.declared.raw.Raw.{Raw}
@@ -23,7 +23,7 @@ has_at (x ∷ xs) (suc n) h = has_at xs n (omega (arith, h))
 
 pub formats_long : (p : PortSpan) (spans : List PortSpan) → length (sample_formats (p ∷ spans)) ≡ p.count + length (sample_formats spans)
 formats_long p spans =
-    length-append (replicate p.count (written p.format)) (sample_formats spans) ∙ ap (λ k. k + length (sample_formats spans)) (length-replicate p.count (written p.format))
+    length-append (replicate p.count (shape_written p.format)) (sample_formats spans) ∙ ap (λ k. k + length (sample_formats spans)) (length-replicate p.count (shape_written p.format))
 
 -- the samples of each port come after those of the ports before it
 pub first_after : (first : ℕ) (spans : List PortSpan) (n : ℕ) (p : PortSpan) → AreConsecutive first spans → slice_get spans n ≡ Some p → first ≤ p.first
@@ -51,24 +51,24 @@ span_inside first (q ∷ spans) (suc n) p row at =
 
 -- the format of a sample
 format_at : (first : ℕ) (spans : List PortSpan) (n k i : ℕ) (p : PortSpan) → AreConsecutive first spans → slice_get spans n ≡ Some p → k < p.count → p.first + k ≡ first + i
-    → slice_get (sample_formats spans) i ≡ Some (written p.format)
+    → slice_get (sample_formats spans) i ≡ Some (shape_written p.format)
 format_at first [] n k i p row at below place = absurd cc
 format_at first (q ∷ spans) zero k i p row at below place =
     let same = same_Some q p at in
     let start : q.first + k ≡ first + i = subst (λ (x : PortSpan). x.first + k ≡ first + i) (sym same) place in
     let inside : i < q.count = subst (λ (x : PortSpan). i < x.count) (sym same) (omega (arith, below, start, row.0)) in
-    slice_left (replicate q.count (written q.format)) (sample_formats spans) i (written p.format)
-    (slice_replicate q.count i (written q.format) inside ∙ ap (λ (x : PortSpan). Some (written x.format)) same)
+    slice_left (replicate q.count (shape_written q.format)) (sample_formats spans) i (shape_written p.format)
+    (slice_replicate q.count i (shape_written q.format) inside ∙ ap (λ (x : PortSpan). Some (shape_written x.format)) same)
 format_at first (q ∷ spans) (suc n) k i p row at below place =
     let after = first_after (first + q.count) spans n p row.1 at in
     let here : q.count + (i - q.count) ≡ i = omega (arith, after, place) in
-    ap (slice_get (sample_formats (q ∷ spans))) (sym here) ∙ slice_right q.count (written q.format) (sample_formats spans) (i - q.count)
+    ap (slice_get (sample_formats (q ∷ spans))) (sym here) ∙ slice_right q.count (shape_written q.format) (sample_formats spans) (i - q.count)
     ∙ format_at (first + q.count) spans n k (i - q.count) p row.1 at below (omega (arith, after, place))
 
 pub hold_formats : (ports : PortsSeen) → ArePortsFit ports → HoldFormats ports
 hold_formats ports fit = record {
   each = λ n k p at below.
-      subst (λ o. IsOfFormat p.format (sample_of ports.state.samples k o)) (sym at)
+      subst (λ o. IsOfFormat p.format (sample_of_span ports.state.samples k o)) (sym at)
       (record {
         frac = refl;
         num = fit.samples.each (p.first + k) (shape_of_format p.format) (format_at 0 ports.spans n k (p.first + k) p fit.placed at below (omega arith));

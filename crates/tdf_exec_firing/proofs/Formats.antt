@@ -9,7 +9,7 @@ use Rattle.tdf_expr.specs.Frames.{IsOfFormat, PortsSeen}
 use Rattle.tdf_expr.specs.declared.spans.PortSpan.{PortSpan}
 use Rattle.tdf_exec_firing.proofs.Cells.{has_at}
 use Rattle.tdf_exec_firing.proofs.Moves.{Passes, any_cases, writer_cases}
-use Rattle.tdf_exec_firing.specs.Activation.{sample_at}
+use Rattle.tdf_exec_firing.specs.Activation.{assigned_sample}
 use Rattle.tdf_exec_firing.specs.Actors.{value_on}
 use Rattle.tdf_exec_firing.specs.Firing.{CanFire, HoldFormats, front_of, left_on, writer_of}
 use Rattle.tdf_exec_firing.specs.Formats.{ModulesKeepFormats, SamplersKeepFormats, SinksKeepFormats}
@@ -24,8 +24,8 @@ use Rattle.tdf_rings.specs.Rings.{RingOf}
 front_formats : (ports : PortsSeen) (port n : ℕ) (p : PortSpan) → HoldFormats ports → slice_get ports.spans port ≡ Some p → n ≤ p.count
     → All (IsOfFormat p.format) (front_of ports (Some port) n)
 front_formats ports port n p hold at few =
-    All-map (IsOfFormat p.format) (sample_at ports.spans ports.state.samples port) (range_with_len 0 n)
-    (λ k d below. subst (λ i. IsOfFormat p.format (sample_at ports.spans ports.state.samples port i)) (sym (place k d below)) (hold.each port k p at (small k below)))
+    All-map (IsOfFormat p.format) (assigned_sample ports.spans ports.state.samples port) (range_with_len 0 n)
+    (λ k d below. subst (λ i. IsOfFormat p.format (assigned_sample ports.spans ports.state.samples port i)) (sym (place k d below)) (hold.each port k p at (small k below)))
   where
     small : (k : ℕ) → k < length (range_with_len 0 n) → k < p.count
     small k below = omega (arith, below, few, length-range_with_len 0 n)

@@ -6,7 +6,7 @@ use Rattle.std.specs.Prelude.{slice_get}
 use Rattle.tdf_expr.specs.Frames.{PortsSeen}
 use Rattle.tdf_expr.specs.declared.spans.PortSpan.{PortSpan}
 use Rattle.tdf_exec_firing.proofs.Cells.{has_at}
-use Rattle.tdf_exec_firing.specs.Activation.{sample_at, sample_of}
+use Rattle.tdf_exec_firing.specs.Activation.{assigned_sample, sample_of_span}
 use Rattle.tdf_exec_firing.specs.Firing.{front_of}
 use Rattle.tdf_exec_firing.specs.machine.Moving.{CanGive, with_more}
 use Rattle.tdf_fixed.specs.Cast.{fraction_of}
@@ -15,7 +15,7 @@ use Rattle.tdf_rings.specs.Rings.{RingOf, ring_of}
 use Rattle.tdf_expr_state.specs.State.{cell_at}
 
 front_long : (ports : PortsSeen) (port n : ℕ) → length (front_of ports (Some port) n) ≡ n
-front_long ports port n = length-map-range_with_len (sample_at ports.spans ports.state.samples port) 0 n
+front_long ports port n = length-map-range_with_len (assigned_sample ports.spans ports.state.samples port) 0 n
 
 pub give_none : (ports : PortsSeen) (port : ℕ) (ring : RingOf) → ring ≡ with_more (front_of ports (Some port) 0) ring
 give_none ports port ring = ap (λ l. ring_of l ring.capacity) (sym (append-nil ring.samples))
@@ -34,7 +34,7 @@ give_more port i n ports old cur new value can below is num frac put =
     put ∙ ap (λ (r : RingOf). ring_of (r.samples ++ value ∷ []) r.capacity) is
     ∙ ap (λ l. ring_of l old.capacity) (append_assoc old.samples (front_of ports (Some port) i) (value ∷ [])
     ∙ ap (λ l. old.samples ++ l) (ap (λ v. front_of ports (Some port) i ++ v ∷ []) value_is
-    ∙ sym (map-range_with_len_more (sample_at ports.spans ports.state.samples port) 0 i i (omega arith))))
+    ∙ sym (map-range_with_len_more (assigned_sample ports.spans ports.state.samples port) 0 i i (omega arith))))
   where
     found : (p : PortSpan) × (slice_get ports.spans port ≡ Some p)
     found = has_at ports.spans port can.there
@@ -42,7 +42,7 @@ give_more port i n ports old cur new value can below is num frac put =
     read : Raw
     read = record { num = cell_at ports.state.samples (found.0.first + i); frac = fraction_of found.0.format }
 
-    value_is : value ≡ sample_at ports.spans ports.state.samples port i
+    value_is : value ≡ assigned_sample ports.spans ports.state.samples port i
     value_is =
         ap (λ z. record value { num = z }) (num found.0 found.1) ∙ ap (λ z. record read { frac = z }) (frac found.0 found.1)
-        ∙ ap (sample_of ports.state.samples i) (sym found.1)
+        ∙ ap (sample_of_span ports.state.samples i) (sym found.1)

@@ -33,10 +33,10 @@ ports_before spans events read = record {
 }
 
 -- sample k of a port
-abbrev pub sample_of : List ℤ → ℕ → Option PortSpan → Raw
-sample_of samples k None = record { num = pos 0; frac = 0 }
-sample_of samples k (Some p) =
+abbrev pub sample_of_span : List ℤ → ℕ → Option PortSpan → Raw
+sample_of_span samples k None = record { num = pos 0; frac = 0 }
+sample_of_span samples k (Some p) =
     record { num = cell_at samples (p.first + k); frac = fraction_of p.format }
 
-abbrev pub sample_at : List PortSpan → List ℤ → (port k : ℕ) → Raw
-sample_at spans samples port k = sample_of samples k (slice_get spans port)
+abbrev pub assigned_sample : List PortSpan → List ℤ → (port k : ℕ) → Raw
+assigned_sample spans samples port k = sample_of_span samples k (slice_get spans port)

@@ -8,7 +8,7 @@ use Rattle.tdf_expr.specs.Runs.{Ran}
 use Rattle.tdf_expr.specs.declared.bodies.Body.TheVariants.{Processing}
 use Rattle.tdf_expr.specs.declared.checked.Checked.{Checked}
 use Rattle.tdf_expr.specs.declared.spans.PortSpan.{PortSpan}
-use Rattle.tdf_exec_firing.specs.Activation.{ports_before, sample_at}
+use Rattle.tdf_exec_firing.specs.Activation.{ports_before, assigned_sample}
 use Rattle.tdf_exec_firing.specs.Wires.{WiresOf}
 use Rattle.tdf_exec_firing.specs.declared.wires.InWire.{InWire}
 use Rattle.tdf_exec_firing.specs.declared.wires.OutWire.{OutWire}
@@ -52,7 +52,7 @@ writer_of (w ∷ ws) edge = if nat_eq w.edge edge then Some w.port else writer_o
 abbrev pub front_of : PortsSeen → Option ℕ → (count : ℕ) → List Raw
 front_of ports None count = []
 front_of ports (Some port) count =
-    map (λ k. sample_at ports.spans ports.state.samples port k) (range_with_len 0 count)
+    map (λ k. assigned_sample ports.spans ports.state.samples port k) (range_with_len 0 count)
 
 -- the samples of an edge once the module has read it
 abbrev pub left_on : WiresOf → (reads : List ℕ) → (edge : ℕ) → List Raw → List Raw
@@ -74,7 +74,7 @@ pub record AreMoved (wires : WiresOf) (reads writes : List ℕ) (ports : PortsSe
       (ring_at old e).capacity
 
 -- a ring for each edge, and a rate in force for each
-pub record AreRates (reads writes : List ℕ) (edges : ℕ) : Type 0 where
+pub record AreEdgeRates (reads writes : List ℕ) (edges : ℕ) : Type 0 where
   pub to_read : length reads ≡ edges
   pub to_write : length writes ≡ edges
 
@@ -113,7 +113,7 @@ BeginReady = (wires : WiresOf) (reads : List ℕ) (ports : PortsSeen) (count : �
 -- each sample of each port is of the port's format
 pub record HoldFormats (ports : PortsSeen) : Type 0 where
   pub each : (n k : ℕ) (p : PortSpan) → slice_get ports.spans n ≡ Some p → k < p.count
-      → IsOfFormat p.format (sample_at ports.spans ports.state.samples n k)
+      → IsOfFormat p.format (assigned_sample ports.spans ports.state.samples n k)
 
 -- what the processing body did, from the values before the firing and the samples that are read
 abbrev pub HasActed : Checked → (number : ℕ) → (read : ℕ → List Raw) → FrameSeen → PortsSeen

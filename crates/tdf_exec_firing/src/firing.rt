@@ -3,7 +3,7 @@
 ghost use Rattle.std.specs.Prelude.{◌≡◌, ◌<◌, length, Some, slice_get};
 ghost use Rattle.tdf_expr.specs.Made.{AreMadeFor};
 ghost use Rattle.tdf_exec_firing.specs.Actors.{CanPutOne, HasTaken, HavePut};
-ghost use Rattle.tdf_exec_firing.specs.Firing.{AreMoved, AreOfFormats, AreRates, AreZerosBehind, CanFire, HasActed, HoldFormats, samples_read};
+ghost use Rattle.tdf_exec_firing.specs.Firing.{AreMoved, AreOfFormats, AreEdgeRates, AreZerosBehind, CanFire, HasActed, HoldFormats, samples_read};
 ghost use Rattle.tdf_exec_firing.specs.Wires.{AreWired};
 ghost use Rattle.tdf_rings.specs.Carried.{ring_at};
 
@@ -29,7 +29,7 @@ pub fn fire_module(
 )
     requires made { AreMadeFor checked.now number frame.old ports.old }
     requires wired { AreWired wires.now ports.old.spans (length rings.old.items) }
-    requires rates { AreRates reads.now.items writes.now.items (length rings.old.items) }
+    requires rates { AreEdgeRates reads.now.items writes.now.items (length rings.old.items) }
     requires can { CanFire wires.now reads.now.items writes.now.items ports.old.spans
         rings.old.items }
     requires formats { AreOfFormats wires.now ports.old.spans rings.old.items }

@@ -5,7 +5,7 @@ use Rattle.std.proofs.lemmas.List.FromFn.{length-map-range_with_len}
 use Rattle.std.proofs.lemmas.Option.{slice_get-map}
 use Rattle.std.specs.List.{cons_option, range_with_len}
 use Rattle.std.specs.Prelude.{cond, filter}
-use Rattle.tdf_bind_tables.specs.Actors.{AreActors, actor_of_kind, actor_places, module_actor, place_of, port_actor}
+use Rattle.tdf_bind_tables.specs.Actors.{AreActors, actor_of_kind, actor_places, module_actor, actor_place, port_actor}
 use Rattle.tdf_bind_tables.specs.FlatTables.{FlatTablesOf}
 use Rattle.tdf_bind_tables.specs.declared.actors.ActorPlace.{ActorPlace}
 use Rattle.tdf_bind_tables.specs.declared.actors.ActorRow.{ActorRow}
@@ -71,11 +71,11 @@ module _ (modules : ℕ) (tables : FlatTablesOf) (are : AreActors modules tables
   long : length module_places ≡ modules
   long = length-map-range_with_len module_actor 0 modules
 
-  placed : (m : ℕ) (row : ActorRow) → slice_get tables.actors m ≡ Some row → slice_get (actor_places modules tables.ports) m ≡ Some (place_of row)
-  placed m row at = ap (λ l. slice_get l m) (sym are.places) ∙ slice_get-map place_of tables.actors m ∙ ap (λ o. elim o as (λ _. Option ActorPlace) [ None ↦ None | Some r ↦ Some (place_of r) ]) at
+  placed : (m : ℕ) (row : ActorRow) → slice_get tables.actors m ≡ Some row → slice_get (actor_places modules tables.ports) m ≡ Some (actor_place row)
+  placed m row at = ap (λ l. slice_get l m) (sym are.places) ∙ slice_get-map actor_place tables.actors m ∙ ap (λ o. elim o as (λ _. Option ActorPlace) [ None ↦ None | Some r ↦ Some (actor_place r) ]) at
 
-  row_of : (m : ℕ) (place : ActorPlace) → slice_get (actor_places modules tables.ports) m ≡ Some place → (row : ActorRow) × (slice_get tables.actors m ≡ Some row) × (place_of row ≡ place)
-  row_of m place at = map_some place_of tables.actors m place (ap (λ l. slice_get l m) are.places ∙ at)
+  row_of : (m : ℕ) (place : ActorPlace) → slice_get (actor_places modules tables.ports) m ≡ Some place → (row : ActorRow) × (slice_get tables.actors m ≡ Some row) × (actor_place row ≡ place)
+  row_of m place at = map_some actor_place tables.actors m place (ap (λ l. slice_get l m) are.places ∙ at)
 
   pub module_kind : (m : ℕ) → m < modules → actor_kind tables m ≡ Some actor.Module
   module_kind m below =
@@ -135,16 +135,16 @@ module _ (modules : ℕ) (tables : FlatTablesOf) (are : AreActors modules tables
       by_place (inl below) = absurd (subst IsOtherKind (sym (module_kind m below) ∙ ap kind_of_row at ∙ ap Some sink) tt)
       by_place (inr high) =
           let l = long in
-          let there : slice_get (picked port_actor 0 tables.ports) (m - length module_places) ≡ Some (place_of row) =
+          let there : slice_get (picked port_actor 0 tables.ports) (m - length module_places) ≡ Some (actor_place row) =
           sym (get_high module_places (picked port_actor 0 tables.ports) m (omega (arith, l, high))) ∙ placed m row at in
-          let h : IsPicked port_actor 0 tables.ports (place_of row) = sound port_actor 0 tables.ports (m - length module_places) (place_of row) there in
-          let again = actor_there 0 tables.ports h.number h.thing (place_of row) h.at h.gives in
+          let h : IsPicked port_actor 0 tables.ports (actor_place row) = sound port_actor 0 tables.ports (m - length module_places) (actor_place row) there in
+          let again = actor_there 0 tables.ports h.number h.thing (actor_place row) h.at h.gives in
           let same : m - length module_places ≡ length (event_ports (take h.number tables.ports)) =
-          once port_actor (λ (p : ActorPlace). p.port) actor_keyed 0 tables.ports (m - length module_places) (length (event_ports (take h.number tables.ports))) (place_of row) (place_of row) there again refl in
+          once port_actor (λ (p : ActorPlace). p.port) actor_keyed 0 tables.ports (m - length module_places) (length (event_ports (take h.number tables.ports))) (actor_place row) (actor_place row) there again refl in
           record {
             number = h.number;
             port = h.thing;
             at = h.at;
-            kind = sink_kind (0 + h.number) h.thing (place_of row) h.gives sink;
+            kind = sink_kind (0 + h.number) h.thing (actor_place row) h.gives sink;
             actor_is = omega (arith, same, l, high);
           }

@@ -10,7 +10,7 @@ use Rattle.tdf_fixed.specs.declared.raw.Raw.{Raw}
 use Rattle.tdf_exec_layout.proofs.Setting.{set_long, set_other}
 use Rattle.tdf_exec_layout.specs.machine.Initials.{given_to}
 use Rattle.tdf_bind_tables.specs.FlatTables.{FlatTablesOf}
-use Rattle.tdf_streams.specs.Cluster.{given_at, initial_sample, zero_of}
+use Rattle.tdf_streams.specs.Cluster.{given_at, initial_sample, zero_of_port}
 use Rattle.tdf_bind_connections.specs.declared.modules.PortRow.{PortRow}
 
 pub given_long : (given : List (ℕ × Raw)) (samples : List Raw) → length (given_to given samples) ≡ length samples
@@ -29,13 +29,13 @@ given_is (g ∷ given) samples k d inside =
     one (inr other) = set_other (nat_lt g.0 (length samples)) samples g.0 k g.1 d (λ s. other (sym s)) ∙ ap (λ b. if b then g.1 else get_or samples k d) (sym (ne_eqb g.0 k other))
 
 -- so those of a port are its initial samples
-pub port_given : (tables : FlatTablesOf) (port : PortRow) → given_to port.initials (replicate port.delay (zero_of tables port)) ≡ map (initial_sample tables port) (range_with_len 0 port.delay)
-port_given tables port = same_lists (given_to port.initials (replicate port.delay (zero_of tables port))) (map (initial_sample tables port) (range_with_len 0 port.delay))
+pub port_given : (tables : FlatTablesOf) (port : PortRow) → given_to port.initials (replicate port.delay (zero_of_port tables port)) ≡ map (initial_sample tables port) (range_with_len 0 port.delay)
+port_given tables port = same_lists (given_to port.initials (replicate port.delay (zero_of_port tables port))) (map (initial_sample tables port) (range_with_len 0 port.delay))
     (long ∙ sym (length-map-range_with_len (initial_sample tables port) 0 port.delay))
     (λ k d inside. let low : k < port.delay = (let l = long in omega (arith, inside, l)) in
-    given_is port.initials (replicate port.delay (zero_of tables port)) k d (let l = length-replicate port.delay (zero_of tables port) in omega (arith, low, l))
-    ∙ ap (λ z. given_at z k port.initials) (get_or-replicate port.delay k (zero_of tables port) d low)
+    given_is port.initials (replicate port.delay (zero_of_port tables port)) k d (let l = length-replicate port.delay (zero_of_port tables port) in omega (arith, low, l))
+    ∙ ap (λ z. given_at z k port.initials) (get_or-replicate port.delay k (zero_of_port tables port) d low)
     ∙ sym (get_or-map-range_with_len (initial_sample tables port) 0 port.delay k k d low (omega arith)))
   where
-    long : length (given_to port.initials (replicate port.delay (zero_of tables port))) ≡ port.delay
-    long = given_long port.initials (replicate port.delay (zero_of tables port)) ∙ length-replicate port.delay (zero_of tables port)
+    long : length (given_to port.initials (replicate port.delay (zero_of_port tables port))) ≡ port.delay
+    long = given_long port.initials (replicate port.delay (zero_of_port tables port)) ∙ length-replicate port.delay (zero_of_port tables port)

@@ -18,10 +18,10 @@ use Rattle.tdf_bind_attributes.specs.Roles.{roles_of}
 use Rattle.tdf_lang_tree.specs.Pure.{PureTree}
 use Rattle.tdf_lang_tree.specs.declared.blocks.PortKind.TheVariants.{Out}
 use Rattle.tdf_bind_hierarchy.specs.Met.{Met, met_in}
-use Rattle.tdf_bind_hierarchy.specs.Tables.{is_of, numbers_after, same_kind, signal_of}
+use Rattle.tdf_bind_hierarchy.specs.Tables.{is_of, numbers_after, same_kind, met_signal}
 use Rattle.tdf_bind_hierarchy.specs.declared.tables.Signal.{Signal}
 use Rattle.tdf_bind_hierarchy.specs.declared.tables.SignalNumber.{SignalNumber}
-use Rattle.tdf_bind_connections.specs.Drivers.{driver, driver_fault, driver_of, fault_of, signal_row, writers_in}
+use Rattle.tdf_bind_connections.specs.Drivers.{driver, driver_fault, driver_of, fault_of_driver, signal_row, writers_in}
 use Rattle.tdf_bind_connections.specs.Writers.{gives, module_writers, port_writer}
 use Rattle.tdf_bind_connections.specs.declared.drivers.SignalRow.{SignalRow}
 use Rattle.tdf_bind_connections.specs.declared.modules.PortRow.{PortRow}
@@ -86,7 +86,7 @@ one_writer (u ∷ []) (suc i) j v w fine vi wj = none_some v vi
 one_writer (u ∷ []) zero (suc j) v w fine vi wj = none_some w wj
 one_writer (u ∷ x ∷ ws) i j v w fine vi wj = none_some _ (sym fine)
 
-no_fault : (n : SignalNumber) (o : Option Code) → fault_of n o ≡ None → o ≡ None
+no_fault : (n : SignalNumber) (o : Option Code) → fault_of_driver n o ≡ None → o ≡ None
 no_fault n None h = refl
 no_fault n (Some code) h = none_some _ (sym h)
 
@@ -120,12 +120,12 @@ module _ (formats : PortsHaveFormats) (model : PureTree) (flat : Flat) (sound : 
 
   fine : (s : ℕ) → s < length flat.tables.signals → driver_fault false (driver s writers) ≡ None
   fine s below =
-      let long : length flat.tables.signals ≡ samples (filter_map signal_of met) =
+      let long : length flat.tables.signals ≡ samples (filter_map met_signal met) =
       ap length is.tables.follows.signals.signals ∙ length-map (enumerate_from 0 is.tables.tables.signals) (λ signal. signal_row writers signal.0 signal.1) ∙ enumerated 0 is.tables.tables.signals ∙ ap length is.tables.met.signals in
-      let found = in_order [] (filter_map signal_of met) s (omega arith) (omega (arith, below, long)) in
+      let found = in_order [] (filter_map met_signal met) s (omega arith) (omega (arith, below, long)) in
       let there : slice_get is.tables.tables.order found.0 ≡ Some (number_of s) = ap (λ l. slice_get l found.0) is.tables.met.order ∙ found.1 in
       no_fault (number_of s) (driver_fault false (driver s writers))
-      (gives_none (λ (n : SignalNumber). fault_of n (driver_fault n.event (driver n.number (writers_in (roles_of model) is.tables.tables flat.tables.ports n.event)))) is.tables.tables.order found.0 (number_of s) is.tables.follows.drivers there)
+      (gives_none (λ (n : SignalNumber). fault_of_driver n (driver_fault n.event (driver n.number (writers_in (roles_of model) is.tables.tables flat.tables.ports n.event)))) is.tables.tables.order found.0 (number_of s) is.tables.follows.drivers there)
     where
       met : List Met
       met = met_in is.blocks (top_place is.blocks)

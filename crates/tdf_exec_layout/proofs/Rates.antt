@@ -5,7 +5,7 @@ use Rattle.std.proofs.lemmas.Option.{slice_get-map}
 use Rattle.std.specs.Prelude.{All}
 use Rattle.tdf_bind_tables.specs.FlatTables.{FlatTablesOf}
 use Rattle.tdf_dynamic_plans.specs.Attributes.{AttrsOf, attrs_at}
-use Rattle.tdf_dynamic_plans.specs.Rates.{edge_kind, kind_of, net_of, net_ports, port_rate, rate_by, rated_edge, rated_port, read_rate_by, write_rate_by}
+use Rattle.tdf_dynamic_plans.specs.Rates.{edge_kind, kind_of_port, net_of, net_ports, port_rate, rate_by, rated_edge, rated_port, read_rate_by, write_rate_by}
 use Rattle.tdf_expr.specs.Frames.{is_written}
 use Rattle.tdf_expr.specs.Made.{start_rates}
 use Rattle.tdf_expr.specs.declared.spans.PortSpan.{PortSpan}
@@ -28,7 +28,7 @@ use Rattle.tdf_bind_invariants.specs.Limits.{AreWithinLimits, FlatIsWithinLimits
 use Rattle.tdf_expr_semantics.specs.Fits.{RatesFit}
 use Rattle.tdf_streams.specs.Periods.{HasAllowedRates, read_rates, write_rates}
 use Rattle.tdf_streams.specs.Places.{driver_or, place_of_port}
-use Rattle.tdf_timestep.specs.Period.{rate_at, rate_of}
+use Rattle.tdf_timestep.specs.Period.{port_rate_or_one, rate_at_port}
 use Rattle.tdf_lang_tree.specs.Pure.{PureTree}
 use Rattle.tdf_lang_tree.specs.declared.blocks.PortKind.{PortKind}
 use Rattle.tdf_lang_tree.specs.declared.blocks.PortKind.TheVariants.{In, DeIn, DeOut}
@@ -45,14 +45,14 @@ module _ (tables : FlatTablesOf) (table : List AttrsOf) where
   unfolding net_of
   edge_there e edge at = slice_get-map (rated_edge tables.ports (net_ports tables table)) tables.edges e ∙ ap (option_map (rated_edge tables.ports (net_ports tables table))) at
 
-  rate_is : (number : ℕ) (port : PortRow) → slice_get tables.ports number ≡ Some port → rate_of (net_ports tables table) (Some number) ≡ port_rate table port
+  rate_is : (number : ℕ) (port : PortRow) → slice_get tables.ports number ≡ Some port → rate_at_port (net_ports tables table) (Some number) ≡ port_rate table port
   unfolding net_ports
-  rate_is number port at = ap rate_at (slice_get-map (rated_port table) tables.ports number ∙ ap (option_map (rated_port table)) at)
+  rate_is number port at = ap port_rate_or_one (slice_get-map (rated_port table) tables.ports number ∙ ap (option_map (rated_port table)) at)
 
   rates : (e : ℕ) (edge : EdgeRow) (port : PortRow) (kind : PortKind) → slice_get tables.edges e ≡ Some edge → slice_get tables.ports edge.port ≡ Some port → port.kind ≡ kind
       → AreRatesOf tables table e (read_rate_by (net_ports tables table) edge (Some kind)) (write_rate_by (net_ports tables table) edge (Some kind))
   rates e edge port kind at port_at kind_is =
-      let word : edge_kind tables.ports edge ≡ Some kind = ap kind_of port_at ∙ ap Some kind_is in
+      let word : edge_kind tables.ports edge ≡ Some kind = ap kind_of_port port_at ∙ ap Some kind_is in
       record {
         read = index_map (λ (x : Edge). x.read_rate) (net_of tables table).edges e (rated_edge tables.ports (net_ports tables table) edge) (edge_there e edge at)
             ∙ ap (read_rate_by (net_ports tables table) edge) word;
@@ -64,7 +64,7 @@ module _ (tables : FlatTablesOf) (table : List AttrsOf) where
       → AreRatesOf tables table e (port_rate table port) (port_rate table driver)
   between_rates e edge port out driver at h = let r = rates e edge port In at h.port_at h.port_kind in record {
     read = r.read ∙ rate_is edge.port port h.port_at;
-    written = r.written ∙ ap (rate_of (net_ports tables table)) h.driven ∙ rate_is out driver h.driver_at;
+    written = r.written ∙ ap (rate_at_port (net_ports tables table)) h.driven ∙ rate_is out driver h.driver_at;
   }
 
   pub sampler_rates : (e : ℕ) (edge : EdgeRow) (port : PortRow) → slice_get tables.edges e ≡ Some edge → IsFromSampler tables edge port → AreRatesOf tables table e (port_rate table port) 1

@@ -11,7 +11,7 @@ use Rattle.tdf_exec_firing.specs.Wires.{WiresOf}
 use Rattle.tdf_exec_firing.specs.declared.wires.InWire.{InWire}
 use Rattle.tdf_exec_firing.specs.declared.wires.OutWire.{OutWire}
 use Rattle.tdf_fixed.specs.Cast.{fraction_of}
-use Rattle.tdf_fixed.specs.Overflow.{IsIn}
+use Rattle.tdf_fixed.specs.Overflow.{IsOfWidth}
 use Rattle.tdf_fixed.specs.declared.format.Format.{Format}
 use Rattle.tdf_fixed.specs.declared.raw.Raw.{Raw}
 use Rattle.tdf_bind.specs.Flat.{IsFlatOf}
@@ -21,9 +21,9 @@ use Rattle.tdf_bind_invariants.specs.Formats.{IsOwnPort, IsSoundModel, PortsHave
 use Rattle.tdf_exec_layout.proofs.Edges.{edge_row}
 use Rattle.tdf_exec_layout.proofs.Wired.{InSpan, IsAtPlace, OutSpan, at_place, in_span, out_span, spans_at}
 use Rattle.tdf_exec_layout.specs.Edges.{IsBetween, IsEdgeRow}
-use Rattle.tdf_exec_layout.specs.Samples.{EdgesHaveFormats, HasFormat, IsPortOfFormat, edge_format, format_of_port}
+use Rattle.tdf_exec_layout.specs.Samples.{EdgesHaveFormats, EdgeHasFormat, IsPortOfFormat, edge_format, format_of_port}
 use Rattle.tdf_exec_layout.specs.Wiring.{AreWiresOf, port_of_row}
-use Rattle.tdf_streams.specs.Cluster.{driver_samples, fraction_of_kind, fraction_of_row, given_at, initial_sample, initial_samples, zero_of}
+use Rattle.tdf_streams.specs.Cluster.{driver_samples, fraction_of_kind, fraction_of_row, given_at, initial_sample, initial_samples, zero_of_port}
 use Rattle.tdf_streams.specs.Places.{driver_or, module_of_row, place_of_port}
 use Rattle.tdf_lang_tree.specs.Pure.{PureTree}
 use Rattle.tdf_lang_tree.specs.declared.blocks.PortKind.{PortKind}
@@ -32,7 +32,7 @@ use Rattle.tdf_bind_connections.specs.declared.drivers.SignalRow.{SignalRow}
 use Rattle.tdf_bind_connections.specs.declared.edges.EdgeRow.{EdgeRow}
 use Rattle.tdf_bind_connections.specs.declared.modules.PortRow.{PortRow}
 
-zero_in : (signed : Bool) (wl : ℕ) → IsIn signed wl (pos 0)
+zero_in : (signed : Bool) (wl : ℕ) → IsOfWidth signed wl (pos 0)
 zero_in true wl = record { low = omega (arith, ints); high = omega (arith, ints) }
 zero_in false wl = record { low = omega (arith, ints); high = omega (arith, ints) }
 
@@ -61,7 +61,7 @@ module _ (formats : PortsHaveFormats) (model : PureTree) (flat : Flat) (sound : 
   samples_fit number port f at format = rw at (λ k d inside.
       let low : k < port.delay = (let l = length-map-range_with_len (initial_sample flat.tables port) 0 port.delay in omega (arith, inside, l)) in
       subst (IsOfFormat f) (sym (get_or-map-range_with_len (initial_sample flat.tables port) 0 port.delay k k d low (omega arith)))
-      (given_fits f k (zero_of flat.tables port) port.initials zero (recursion_from_All (λ (g : ℕ × Raw). IsOfFormat f g.1) port.initials given)))
+      (given_fits f k (zero_of_port flat.tables port) port.initials zero (recursion_from_All (λ (g : ℕ × Raw). IsOfFormat f g.1) port.initials given)))
     where
       own : IsOwnPort flat number port
       own = formats model flat sound is number port at
@@ -72,7 +72,7 @@ module _ (formats : PortsHaveFormats) (model : PureTree) (flat : Flat) (sound : 
       given : All (λ (g : ℕ × Raw). IsOfFormat f g.1) port.initials
       given = subst (λ (x : Format). All (λ (g : ℕ × Raw). IsOfFormat x g.1) port.initials) same own.initials
 
-      zero : IsOfFormat f (zero_of flat.tables port)
+      zero : IsOfFormat f (zero_of_port flat.tables port)
       zero = record { frac = kind_fraction port.kind port.signal f format; num = zero_in f.signed f.wl }
 
   -- a port is of the format of its signal
@@ -84,7 +84,7 @@ module _ (formats : PortsHaveFormats) (model : PureTree) (flat : Flat) (sound : 
       ap (λ (s : PortSpan). s.format) (some_same span h.span (sym again ∙ h.at)) ∙ some_same h.span.format f (sym h.format ∙ format)
 
   -- edges without a driver
-  alone : (e : ℕ) (edge : EdgeRow) (port : PortRow) → slice_get flat.tables.edges e ≡ Some edge → edge.driver ≡ None → slice_get flat.tables.ports edge.port ≡ Some port → HasFormat flat e edge
+  alone : (e : ℕ) (edge : EdgeRow) (port : PortRow) → slice_get flat.tables.edges e ≡ Some edge → edge.driver ≡ None → slice_get flat.tables.ports edge.port ≡ Some port → EdgeHasFormat flat e edge
   alone e edge port eat none at =
       let h : IsAtPlace formats model flat sound is edge.port port = at_place formats model flat sound is edge.port port at in
       record {
@@ -96,7 +96,7 @@ module _ (formats : PortsHaveFormats) (model : PureTree) (flat : Flat) (sound : 
             (samples_fit edge.port port h.span.format at h.format) (rw none (λ k d inside. absurd (omega (arith, inside))));
       }
 
-  between : (e : ℕ) (edge : EdgeRow) (port : PortRow) (out : ℕ) (driver : PortRow) → slice_get flat.tables.edges e ≡ Some edge → IsBetween flat.tables edge port out driver → HasFormat flat e edge
+  between : (e : ℕ) (edge : EdgeRow) (port : PortRow) (out : ℕ) (driver : PortRow) → slice_get flat.tables.edges e ≡ Some edge → IsBetween flat.tables edge port out driver → EdgeHasFormat flat e edge
   between e edge port out driver eat b =
       let h : IsAtPlace formats model flat sound is edge.port port = at_place formats model flat sound is edge.port port b.port_at in
       let same : signal_format flat.tables driver.kind driver.signal ≡ Some h.span.format =
@@ -110,10 +110,10 @@ module _ (formats : PortsHaveFormats) (model : PureTree) (flat : Flat) (sound : 
             (samples_fit edge.port port h.span.format b.port_at h.format) (rw b.driven (samples_fit out driver h.span.format b.driver_at same));
       }
 
-  pub edge_fits : (e : ℕ) (edge : EdgeRow) → slice_get flat.tables.edges e ≡ Some edge → HasFormat flat e edge
+  pub edge_fits : (e : ℕ) (edge : EdgeRow) → slice_get flat.tables.edges e ≡ Some edge → EdgeHasFormat flat e edge
   edge_fits e edge at = by_row (edge_row model flat is e edge at)
     where
-      by_row : IsEdgeRow flat.tables edge → HasFormat flat e edge
+      by_row : IsEdgeRow flat.tables edge → EdgeHasFormat flat e edge
       by_row (IsEdgeRow.Between port out driver h) = between e edge port out driver at h
       by_row (IsEdgeRow.FromSampler port h) = alone e edge port at h.not_driven h.port_at
       by_row (IsEdgeRow.ToSink port h) = alone e edge port at h.not_driven h.port_at
@@ -124,7 +124,7 @@ module _ (formats : PortsHaveFormats) (model : PureTree) (flat : Flat) (sound : 
         → edge_format flat.tables w.edge ≡ Some p.format
     read_format j w p at pat =
         let h : InSpan formats model flat sound is m below wires are w = in_span formats model flat sound is m below wires are j w at in
-        let f : HasFormat flat w.edge h.edge = edge_fits w.edge h.edge h.at in
+        let f : EdgeHasFormat flat w.edge h.edge = edge_fits w.edge h.edge h.at in
         let there : slice_get (spans_at formats model flat sound is (module_of_row (slice_get flat.tables.ports h.edge.port))) (place_of_port flat.tables.ports h.edge.port) ≡ Some p =
         ap (λ o. slice_get (spans_at formats model flat sound is (module_of_row o)) (place_of_port flat.tables.ports h.edge.port)) h.read.at
         ∙ ap (λ n. slice_get (spans_at formats model flat sound is n) (place_of_port flat.tables.ports h.edge.port)) h.read.own
@@ -135,7 +135,7 @@ module _ (formats : PortsHaveFormats) (model : PureTree) (flat : Flat) (sound : 
         → edge_format flat.tables w.edge ≡ Some p.format
     write_format j w p at pat =
         let h : OutSpan formats model flat sound is m below wires are w = out_span formats model flat sound is m below wires are j w at in
-        let f : HasFormat flat w.edge h.edge = edge_fits w.edge h.edge h.at in
+        let f : EdgeHasFormat flat w.edge h.edge = edge_fits w.edge h.edge h.at in
         let number : ℕ = driver_or h.edge.port h.edge.driver in
         let there : slice_get (spans_at formats model flat sound is (module_of_row (slice_get flat.tables.ports number))) (place_of_port flat.tables.ports number) ≡ Some p =
         ap (λ o. slice_get (spans_at formats model flat sound is (module_of_row o)) (place_of_port flat.tables.ports number)) h.written.at

@@ -13,7 +13,7 @@ use Rattle.tdf_streams.proofs.Api.{some_same}
 use Rattle.tdf_bind_invariants.specs.Formats.{IsSoundModel, PortsHaveFormats}
 use Rattle.tdf_exec_layout.proofs.Samples.{edge_fits, read_format, write_format}
 use Rattle.tdf_exec_layout.proofs.Wired.{spans_at}
-use Rattle.tdf_exec_layout.specs.Samples.{HasFormat, edge_format}
+use Rattle.tdf_exec_layout.specs.Samples.{EdgeHasFormat, edge_format}
 use Rattle.tdf_exec_layout.specs.Wiring.{AreEdgesOf, AreWiresOf, Writes}
 use Rattle.tdf_rings.specs.Carried.{ring_at}
 use Rattle.tdf_rings.specs.Rings.{RingOf}
@@ -34,7 +34,7 @@ module _ (formats : PortsHaveFormats) (model : PureTree) (flat : Flat) (sound : 
   -- what an edge holds at first is of its format
   pub initials_fit : (e : ℕ) (edge : EdgeRow) (f : Format) → slice_get flat.tables.edges e ≡ Some edge → edge_format flat.tables e ≡ Some f → All (IsOfFormat f) (initial_list flat.tables edge)
   initials_fit e edge f at is_format =
-      let h : HasFormat flat e edge = edge_fits formats model flat sound is e edge at in
+      let h : EdgeHasFormat flat e edge = edge_fits formats model flat sound is e edge at in
       subst (λ (x : Format). All (IsOfFormat x) (initial_list flat.tables edge)) (some_same h.format f (sym h.format_is ∙ is_format)) h.initials
 
   -- any function that gives each edge its format gives the ports of wires theirs

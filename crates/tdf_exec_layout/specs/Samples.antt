@@ -9,7 +9,7 @@ use Rattle.tdf_fixed.specs.declared.format.Format.{Format}
 use Rattle.tdf_bind.specs.Flat.{IsFlatOf}
 use Rattle.tdf_bind.specs.declared.model.Flat.{Flat}
 use Rattle.tdf_bind_invariants.specs.Formats.{IsSoundModel, signal_format}
-use Rattle.tdf_exec_layout.specs.Wiring.{port_at}
+use Rattle.tdf_exec_layout.specs.Wiring.{port_of_edge}
 use Rattle.tdf_streams.specs.Cluster.{initial_list}
 use Rattle.tdf_streams.specs.Places.{block_at, driver_or, module_of_port, place_of_port}
 use Rattle.tdf_lang_tree.specs.Pure.{PureTree}
@@ -22,7 +22,7 @@ format_of_port tables None = None
 format_of_port tables (Some port) = signal_format tables port.kind port.signal
 
 abbrev pub edge_format : FlatTablesOf → ℕ → Option Format
-edge_format tables e = format_of_port tables (slice_get tables.ports (port_at tables.edges e))
+edge_format tables e = format_of_port tables (slice_get tables.ports (port_of_edge tables.edges e))
 
 -- a port that is of a format in the block of its module
 abbrev pub IsPortOfFormat : Flat → (number : ℕ) → Format → Type 0
@@ -33,7 +33,7 @@ IsPortOfFormat flat number format = (span : PortSpan)
     → span.format ≡ format
 
 -- both ports of an edge are of its format, and so is each sample that it holds at first
-pub record HasFormat (flat : Flat) (e : ℕ) (edge : EdgeRow) : Type 0 where
+pub record EdgeHasFormat (flat : Flat) (e : ℕ) (edge : EdgeRow) : Type 0 where
   pub format : Format
   pub format_is : edge_format flat.tables e ≡ Some format
   pub read : IsPortOfFormat flat edge.port format
@@ -42,4 +42,4 @@ pub record HasFormat (flat : Flat) (e : ℕ) (edge : EdgeRow) : Type 0 where
 
 abbrev pub EdgesHaveFormats : Type 0
 EdgesHaveFormats = (model : PureTree) (flat : Flat) (e : ℕ) (edge : EdgeRow) → IsSoundModel model
-    → IsFlatOf model flat → slice_get flat.tables.edges e ≡ Some edge → HasFormat flat e edge
+    → IsFlatOf model flat → slice_get flat.tables.edges e ≡ Some edge → EdgeHasFormat flat e edge

@@ -13,8 +13,8 @@ abbrev pub port_of_row : Option EdgeRow → ℕ
 port_of_row None = 0
 port_of_row (Some edge) = edge.port
 
-abbrev pub port_at : List EdgeRow → ℕ → ℕ
-port_at edges e = port_of_row (slice_get edges e)
+abbrev pub port_of_edge : List EdgeRow → ℕ → ℕ
+port_of_edge edges e = port_of_row (slice_get edges e)
 
 -- the edges that an actor reads, and those that it writes
 pub record Reads (tables : FlatTablesOf) (m e : ℕ) : Type 0 where
@@ -31,7 +31,7 @@ pub record Writes (tables : FlatTablesOf) (m e : ℕ) : Type 0 where
 pub record AreWiresOf (tables : FlatTablesOf) (m : ℕ) (wires : WiresOf) : Type 0 where
   pub in_edge : (j : ℕ) (w : InWire) → slice_get wires.ins j ≡ Some w → Reads tables m w.edge
   pub in_port : (j : ℕ) (w : InWire) → slice_get wires.ins j ≡ Some w
-      → w.port ≡ place_of_port tables.ports (port_at tables.edges w.edge)
+      → w.port ≡ place_of_port tables.ports (port_of_edge tables.edges w.edge)
   pub in_all : (e : ℕ) → Reads tables m e
       → (j : ℕ) × (w : InWire) × (slice_get wires.ins j ≡ Some w) × (w.edge ≡ e)
   pub in_once : (i j : ℕ) (v w : InWire) → slice_get wires.ins i ≡ Some v

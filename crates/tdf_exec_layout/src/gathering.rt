@@ -3,7 +3,7 @@
 ghost use Rattle.std.specs.Prelude.{◌≡◌, ◌<◌, IfOk, OnOk, length, map, nat_eq, slice_index};
 ghost use Rattle.tdf_bind_tables.specs.Actors.{cluster_of};
 ghost use Rattle.tdf_bind_tables.specs.Ranges.{AreInRange};
-ghost use Rattle.tdf_exec_layout.specs.Ports.{ArePlaces};
+ghost use Rattle.tdf_exec_layout.specs.Ports.{ArePortPlaces};
 ghost use Rattle.tdf_exec_layout.specs.machine.Ends.{EndsUpTo, read_by, written_by};
 ghost use Rattle.tdf_streams.specs.Places.{driver_or};
 
@@ -43,7 +43,7 @@ fn put_reader(
 ) -> Result<(), Memory>
     requires reader { edge.reader < length tables.now.actors }
     requires rows { length rows.old.items ≡ length tables.now.actors }
-    requires places { ArePlaces tables.now.ports places.now }
+    requires places { ArePortPlaces tables.now.ports places.now }
     requires port { edge.port < length tables.now.ports }
     ensures { OnOk result (rows.new.items ≡ read_by tables.now cluster number edge rows.old.items) }
 {
@@ -68,7 +68,7 @@ fn put_writer(
 ) -> Result<(), Memory>
     requires writer { edge.writer < length tables.now.actors }
     requires rows { length rows.old.items ≡ length tables.now.actors }
-    requires places { ArePlaces tables.now.ports places.now }
+    requires places { ArePortPlaces tables.now.ports places.now }
     requires port { driver_or edge.port edge.driver < length tables.now.ports }
     ensures { OnOk result (rows.new.items ≡ written_by tables.now cluster number edge rows.old.items) }
 {
@@ -90,7 +90,7 @@ pub(crate) fn gathered(
     places: &[u32],
 ) -> Result<Vec<Ends>, Memory>
     requires in_range { AreInRange tables.now }
-    requires places { ArePlaces tables.now.ports places.now }
+    requires places { ArePortPlaces tables.now.ports places.now }
     ensures { IfOk result (λ rows. EndsUpTo tables.now cluster (length tables.now.edges) rows.items) }
 {
     let mut rows = no_ends(alloc, tables.actors.len())?;

@@ -2,7 +2,7 @@
 
 ghost use Rattle.std.specs.Prelude.{◌≡◌, ◌+◌, ◌≤◌, ◌<◌, ◌++◌, ℕ, IfOk, OnOk, Some, drop, length, replicate, slice_get, slice_index};
 ghost use Rattle.tdf_exec_layout.specs.machine.Initials.{given_to};
-ghost use Rattle.tdf_streams.specs.Cluster.{driver_samples, fraction_of_kind, fraction_of_row, initial_list, initial_samples, zero_of};
+ghost use Rattle.tdf_streams.specs.Cluster.{driver_samples, fraction_of_kind, fraction_of_row, initial_list, initial_samples, zero_of_port};
 
 use std::alloc::Global;
 use tdf_base::Memory;
@@ -25,7 +25,7 @@ fn fraction(signals: &[SignalRow], signal: u32) -> u32
 
 /// A 0 of the format of a port's signal.
 fn zero_of(tables: &FlatTables, port: &PortRow) -> Raw
-    ensures { result ≡ zero_of tables.now port.now }
+    ensures { result ≡ zero_of_port tables.now port.now }
 {
     let frac = match port.kind {
         PortKind::In => fraction(&tables.signals, port.signal),

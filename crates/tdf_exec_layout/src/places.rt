@@ -1,7 +1,7 @@
 //! The place of each port in its block.
 
 ghost use Rattle.std.specs.Prelude.{◌≡◌, ◌+◌, ◌<◌, IfOk, All};
-ghost use Rattle.tdf_exec_layout.specs.Ports.{ArePlaces};
+ghost use Rattle.tdf_exec_layout.specs.Ports.{ArePortPlaces};
 
 use std::alloc::Global;
 use tdf_base::Memory;
@@ -23,7 +23,7 @@ fn one_more(count: u32) -> Result<u32, Memory>
 /// Out of memory.
 pub fn port_places(alloc: Global, modules: usize, ports: &[PortRow]) -> Result<Vec<u32>, Memory>
     requires { All (λ port. port.«module» < modules) ports.now }
-    ensures { IfOk result (λ places. ArePlaces ports.now places.items) }
+    ensures { IfOk result (λ places. ArePortPlaces ports.now places.items) }
 {
     let mut counts: Vec<u32> = vec![in alloc; 0; modules]?;
     let mut places = Vec::new(alloc);

@@ -25,7 +25,7 @@ use Rattle.tdf_lang_tree.specs.declared.blocks.Attr.{Attr}
 use Rattle.tdf_lang_tree.specs.declared.blocks.Attr.TheVariants as attr
 use Rattle.tdf_lang_tree.specs.declared.stmt.Limit.{Limit}
 use Rattle.tdf_lang_tree.specs.declared.stmt.Limit.TheVariants as limit
-use Rattle.tdf_expr_symbols.specs.Scope.{Scope, least_of, greatest_of, least_rate, greatest_rate, tdf_scope, de_scope}
+use Rattle.tdf_expr_symbols.specs.Scope.{Scope, least_of, greatest_of, least_rate, greatest_rate_of, tdf_scope, de_scope}
 use Rattle.tdf_lang_tree.specs.declared.blocks.PortLine.{PortLine}
 use Rattle.tdf_lang_tree.specs.declared.shapes.FormatRef.{FormatRef}
 use Rattle.tdf_lang_tree.specs.declared.shapes.FormatRef.TheVariants as format
@@ -192,14 +192,14 @@ rate_kind (Port DeOut a b c) e = absurd cc
 rate_kind _ e = absurd cc
 
 var_rated : (scope : Scope) → AllThings IsDeclared scope.own → (line : ℕ) (r : List ℕ) → kind_faults place.Rate (thing_of scope.own r) line ≡ []
-    → (1 ≤ least_rate (thing_of scope.own r)) × (greatest_rate (thing_of scope.own r) ≤ most_rate)
+    → (1 ≤ least_rate (thing_of scope.own r)) × (greatest_rate_of (thing_of scope.own r) ≤ most_rate)
 var_rated scope all line r none =
     let kind = of_kind place.Rate (thing_of scope.own r) line none in
     let rate = rate_kind kind.thing kind.allowed in
     let is = kind.is ∙ ap (λ (t : Thing). Some t) rate.3 in
     let at = found scope.own.things (place_of scope.own r) (RateVar rate.0 rate.1 rate.2) is in
     let holds = all at.0 (RateVar rate.0 rate.1 rate.2) at.2 in
-    subst (λ (o : Option Thing). (1 ≤ least_rate o) × (greatest_rate o ≤ most_rate)) (sym is) (holds.0, holds.3)
+    subst (λ (o : Option Thing). (1 ≤ least_rate o) × (greatest_rate_of o ≤ most_rate)) (sym is) (holds.0, holds.3)
 
 few_times : (c g : ℕ) → nat_lt c 1 || (nat_lt most_rate c || nat_lt most_rate g) ≡ false → (1 ≤ c) × (g ≤ most_rate)
 few_times c g e = (grind (arith, nat_tests), grind (arith, nat_tests))

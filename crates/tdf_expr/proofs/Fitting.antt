@@ -7,11 +7,11 @@ use Rattle.std.specs.List.{flat_map}
 use Rattle.std.specs.Prelude.{map, replicate, slice_get, slice_index}
 use Rattle.tdf_base.specs.Number.{Numeral, numeral_of}
 use Rattle.tdf_expr.specs.Frames.{limits_of_rate}
-use Rattle.tdf_expr.specs.Plans.{start_of, starts_of, cell_starts, rate_span, rate_spans}
+use Rattle.tdf_expr.specs.Plans.{start_number, starts_of, cell_starts, rate_span, rate_spans}
 use Rattle.tdf_expr.specs.declared.spans.RateSpan.{RateSpan}
 use Rattle.tdf_expr.specs.machine.Fitting.{FitsShape, AllFit}
 use Rattle.tdf_fixed.proofs.Api.{in_range}
-use Rattle.tdf_fixed.specs.Overflow.{IsIn}
+use Rattle.tdf_fixed.specs.Overflow.{IsOfWidth}
 use Rattle.tdf_expr_semantics.specs.Fits.{NumbersFit, RatesFit}
 use Rattle.tdf_expr_semantics.specs.Places.{RateLimits, cells_of, cell_shapes, limits_of, rate_limits}
 use Rattle.tdf_expr_semantics.specs.Value.{literal_number}
@@ -23,7 +23,7 @@ use Rattle.tdf_lang_tree.specs.declared.names.Lit.{Lit}
 use Rattle.tdf_lang_tree.specs.declared.shapes.Shape.{Shape}
 
 -- 0 is a number of every range
-pub zero_in : (signed : Bool) (wl : ℕ) → IsIn signed wl (pos 0)
+pub zero_in : (signed : Bool) (wl : ℕ) → IsOfWidth signed wl (pos 0)
 zero_in true wl = record { low = omega (arith, ints); high = omega (arith, ints) }
 zero_in false wl = record { low = omega (arith, ints); high = omega (arith, ints) }
 
@@ -46,7 +46,7 @@ numbers_fit shapes nums all = record { long = long shapes nums all; each = each 
     long (s ∷ ss) (n ∷ ns) all = ap suc (long ss ns all.1)
 
     each : (shapes : List (Option Shape)) (nums : List ℤ) → AllFit shapes nums → (j : ℕ) (s : Shape) → slice_get shapes j ≡ Some (Some s)
-        → IsIn s.signed s.wl (cell_at nums j)
+        → IsOfWidth s.signed s.wl (cell_at nums j)
     each [] nums all j s at = absurd cc
     each (t ∷ ss) [] all j s at = absurd all
     each (t ∷ ss) (n ∷ ns) all zero s at = subst (λ x. FitsShape x n) (held at) all.0
@@ -65,7 +65,7 @@ all_fit [] (n ∷ ns) fits = absurd (omega (arith, fits.long))
 all_fit (s ∷ ss) [] fits = absurd (omega (arith, fits.long))
 all_fit (s ∷ ss) (n ∷ ns) fits = (first s (λ t e. fits.each 0 t (ap Some e)), all_fit ss ns (record { long = omega (arith, fits.long); each = λ j t e. fits.each (suc j) t e }))
   where
-    first : (o : Option Shape) → ((t : Shape) → o ≡ Some t → IsIn t.signed t.wl n) → FitsShape o n
+    first : (o : Option Shape) → ((t : Shape) → o ≡ Some t → IsOfWidth t.signed t.wl n) → FitsShape o n
     first None is = tt
     first (Some t) is = is t refl
 
@@ -89,15 +89,15 @@ fit_second (s ∷ ss) ts [] all = absurd all
 fit_second (s ∷ ss) ts (n ∷ ns) all = fit_second ss ts ns all.1
 
 -- a literal is a number of its format
-literal_fits : (s : Shape) (minus : Bool) (n : Option Numeral) → 1 ≤ s.wl → IsIn s.signed s.wl (literal_number s minus n)
+literal_fits : (s : Shape) (minus : Bool) (n : Option Numeral) → 1 ≤ s.wl → IsOfWidth s.signed s.wl (literal_number s minus n)
 literal_fits s minus None some = zero_in s.signed s.wl
 literal_fits s minus (Some n) some = in_range s.over s.signed s.wl _ some
 
-start_fits : (o : Option Shape) (v : Lit) → HasFormat o → FitsShape o (start_of o v)
+start_fits : (o : Option Shape) (v : Lit) → HasFormat o → FitsShape o (start_number o v)
 start_fits None v has = absurd has
 start_fits (Some s) v has = literal_fits s v.minus (numeral_of v.digits) has.some_bits
 
-starts_fit : (o : Option Shape) (vs : List Lit) → HasFormat o → AllFit (replicate (length vs) o) (map (start_of o) vs)
+starts_fit : (o : Option Shape) (vs : List Lit) → HasFormat o → AllFit (replicate (length vs) o) (map (start_number o) vs)
 starts_fit o [] has = tt
 starts_fit o (v ∷ vs) has = (start_fits o v has, starts_fit o vs has)
 
@@ -110,9 +110,9 @@ thing_fits : (own : Names) (t : Thing) → IsThingSound own t → AllFit (replic
 thing_fits own (Var shape start) sound = (start_fits shape start sound.0, tt)
 thing_fits own (Array shape size starts) sound =
     let whole : length starts + (size - length starts) ≡ size = omega (arith, sound.2) in
-    subst (λ l. AllFit l (map (start_of shape) starts ++ replicate (size - length starts) (pos 0)))
+    subst (λ l. AllFit l (map (start_number shape) starts ++ replicate (size - length starts) (pos 0)))
     (replicate-append-replicate (length starts) (size - length starts) shape ∙ ap (λ n. replicate n shape) whole)
-    (fit_both (replicate (length starts) shape) (replicate (size - length starts) shape) (map (start_of shape) starts) (replicate (size - length starts) (pos 0))
+    (fit_both (replicate (length starts) shape) (replicate (size - length starts) shape) (map (start_number shape) starts) (replicate (size - length starts) (pos 0))
     (starts_fit shape starts sound.0) (blanks_fit shape (size - length starts)))
 thing_fits own _ sound = tt
 

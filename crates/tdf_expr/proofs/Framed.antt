@@ -10,12 +10,12 @@ use Rattle.std.specs.Prelude.{map, replicate, slice_get, slice_set}
 use Rattle.tdf_expr.proofs.Planned.{has_at}
 use Rattle.tdf_expr.proofs.Fitting.{zero_fits, blanks_fit, fit_both, fit_first, fit_second, all_fit, numbers_fit}
 use Rattle.tdf_expr.specs.Frames.{FrameSeen, PortsSeen, IsFrameFit, ArePortsFit, IsAllowedRate, limits_of_rate, sample_formats, AreConsecutive, is_written, reset_port, reset_samples, reset_state}
-use Rattle.tdf_expr.specs.Plans.{PortPlace, shape_of_format, written, place_of_port, places_from, port_places}
+use Rattle.tdf_expr.specs.Plans.{PortPlace, shape_of_format, shape_written, place_of_span, places_from, port_places}
 use Rattle.tdf_expr.specs.declared.spans.PortSpan.{PortSpan}
 use Rattle.tdf_expr.specs.declared.spans.RateSpan.{RateSpan}
 use Rattle.tdf_expr.specs.machine.Fitting.{FitsShape, AllFit}
 use Rattle.tdf_expr.specs.machine.Zeroed.{zeroed_one, zeroed}
-use Rattle.tdf_fixed.specs.Overflow.{IsIn}
+use Rattle.tdf_fixed.specs.Overflow.{IsOfWidth}
 use Rattle.tdf_fixed.specs.declared.format.Format.{Format}
 use Rattle.tdf_expr_semantics.proofs.Api.{slice_replicate, slice_left, slice_right, numbers_set, rates_set}
 use Rattle.tdf_expr_semantics.specs.Fits.{NumbersFit}
@@ -59,15 +59,15 @@ places_count own first [] = refl
 places_count own first (Port word shape rate delay ∷ things) = let rest = places_count own (first + greatest_of own rate) things in omega (arith, rest)
 places_count own first (_ ∷ things) = places_count own first things ∙ omega arith
 
-seen_row : (first : ℕ) (spans : List PortSpan) → AreInRow first (map place_of_port spans) → AreConsecutive first spans
+seen_row : (first : ℕ) (spans : List PortSpan) → AreInRow first (map place_of_span spans) → AreConsecutive first spans
 seen_row first [] row = tt
 seen_row first (p ∷ spans) row = (row.0, seen_row (first + p.count) spans row.1)
 
-seen_shapes : (spans : List PortSpan) → place_shapes (map place_of_port spans) ≡ sample_formats spans
+seen_shapes : (spans : List PortSpan) → place_shapes (map place_of_span spans) ≡ sample_formats spans
 seen_shapes [] = refl
-seen_shapes (p ∷ spans) = ap (λ l. replicate p.count (written p.format) ++ l) (seen_shapes spans)
+seen_shapes (p ∷ spans) = ap (λ l. replicate p.count (shape_written p.format) ++ l) (seen_shapes spans)
 
-module _ (own : Names) (spans : List PortSpan) (are : map place_of_port spans ≡ port_places own) where
+module _ (own : Names) (spans : List PortSpan) (are : map place_of_span spans ≡ port_places own) where
   pub spans_row : AreConsecutive 0 spans
   spans_row = seen_row 0 spans (subst (AreInRow 0) (sym are) (places_row own 0 own.things))
 
@@ -75,13 +75,13 @@ module _ (own : Names) (spans : List PortSpan) (are : map place_of_port spans �
   spans_shapes = sym (seen_shapes spans) ∙ ap place_shapes are ∙ places_shapes own 0 own.things
 
   pub spans_count : length spans ≡ total ports_of own.things
-  spans_count = sym (length-map spans place_of_port) ∙ ap (λ (l : List PortPlace). length l) are ∙ places_count own 0 own.things
+  spans_count = sym (length-map spans place_of_span) ∙ ap (λ (l : List PortPlace). length l) are ∙ places_count own 0 own.things
 
 -- where a sample stands
 pub record IsSampleAt (first : ℕ) (spans : List PortSpan) (p : PortSpan) (i : ℕ) : Type 0 where
   pub place : ℕ
   pub is : p.first + i ≡ first + place
-  pub format : slice_get (sample_formats spans) place ≡ Some (written p.format)
+  pub format : slice_get (sample_formats spans) place ≡ Some (shape_written p.format)
 
 pub sample_at : (first : ℕ) (spans : List PortSpan) (n : ℕ) (p : PortSpan) (i : ℕ) → AreConsecutive first spans → slice_get spans n ≡ Some p → i < p.count
     → IsSampleAt first spans p i
@@ -91,8 +91,8 @@ sample_at first (q ∷ spans) zero p i row at below =
     subst (λ (x : PortSpan). IsSampleAt first (q ∷ spans) x i) same (record {
       place = i;
       is = ap (λ k. k + i) row.0;
-      format = slice_left (replicate q.count (written q.format)) (sample_formats spans) i (written q.format)
-          (slice_replicate q.count i (written q.format) (subst (λ (x : PortSpan). i < x.count) (sym same) below));
+      format = slice_left (replicate q.count (shape_written q.format)) (sample_formats spans) i (shape_written q.format)
+          (slice_replicate q.count i (shape_written q.format) (subst (λ (x : PortSpan). i < x.count) (sym same) below));
     })
   where
     held : Option PortSpan → PortSpan
@@ -103,7 +103,7 @@ sample_at first (q ∷ spans) (suc n) p i row at below =
     record {
       place = q.count + rest.place;
       is = rest.is ∙ omega arith;
-      format = slice_right q.count (written q.format) (sample_formats spans) rest.place ∙ rest.format;
+      format = slice_right q.count (shape_written q.format) (sample_formats spans) rest.place ∙ rest.format;
     }
 
 pub span_inside : (first : ℕ) (spans : List PortSpan) (n : ℕ) (p : PortSpan) → AreConsecutive first spans → slice_get spans n ≡ Some p
@@ -111,7 +111,7 @@ pub span_inside : (first : ℕ) (spans : List PortSpan) (n : ℕ) (p : PortSpan)
 span_inside first [] n p row at = absurd cc
 span_inside first (q ∷ spans) zero p row at =
     let long : length (sample_formats (q ∷ spans)) ≡ q.count + length (sample_formats spans) =
-    length-append (replicate q.count (written q.format)) (sample_formats spans) ∙ ap (λ k. k + length (sample_formats spans)) (length-replicate q.count (written q.format)) in
+    length-append (replicate q.count (shape_written q.format)) (sample_formats spans) ∙ ap (λ k. k + length (sample_formats spans)) (length-replicate q.count (shape_written q.format)) in
     subst (λ (x : PortSpan). x.first + x.count ≤ first + length (sample_formats (q ∷ spans))) (ap held at) (omega (arith, long, row.0))
   where
     held : Option PortSpan → PortSpan
@@ -119,28 +119,28 @@ span_inside first (q ∷ spans) zero p row at =
     held (Some x) = x
 span_inside first (q ∷ spans) (suc n) p row at =
     let long : length (sample_formats (q ∷ spans)) ≡ q.count + length (sample_formats spans) =
-    length-append (replicate q.count (written q.format)) (sample_formats spans) ∙ ap (λ k. k + length (sample_formats spans)) (length-replicate q.count (written q.format)) in
+    length-append (replicate q.count (shape_written q.format)) (sample_formats spans) ∙ ap (λ k. k + length (sample_formats spans)) (length-replicate q.count (shape_written q.format)) in
     let rest = span_inside (first + q.count) spans n p row.1 at in
     omega (arith, long, rest)
 
 -- samples set back to 0
-reset_fits_one : (p : PortSpan) (nums : List ℤ) → AllFit (replicate p.count (written p.format)) (take p.count nums)
-    → AllFit (replicate p.count (written p.format)) (reset_port p nums)
+reset_fits_one : (p : PortSpan) (nums : List ℤ) → AllFit (replicate p.count (shape_written p.format)) (take p.count nums)
+    → AllFit (replicate p.count (shape_written p.format)) (reset_port p nums)
 reset_fits_one p nums fits = choose (is_written p.word)
   where
-    choose : (b : Bool) → AllFit (replicate p.count (written p.format)) (if b then replicate p.count (pos 0) else take p.count nums)
-    choose true = blanks_fit (written p.format) p.count
+    choose : (b : Bool) → AllFit (replicate p.count (shape_written p.format)) (if b then replicate p.count (pos 0) else take p.count nums)
+    choose true = blanks_fit (shape_written p.format) p.count
     choose false = fits
 
 reset_fits : (spans : List PortSpan) (nums : List ℤ) → AllFit (sample_formats spans) nums → AllFit (sample_formats spans) (reset_samples spans nums)
 reset_fits [] nums all = all
 reset_fits (p ∷ spans) nums all =
-    let long : length (replicate p.count (written p.format)) ≡ p.count = length-replicate p.count (written p.format) in
-    fit_both (replicate p.count (written p.format)) (sample_formats spans) (reset_port p nums) (reset_samples spans (drop p.count nums))
-    (reset_fits_one p nums (subst (λ n. AllFit (replicate p.count (written p.format)) (take n nums)) long
-    (fit_first (replicate p.count (written p.format)) (sample_formats spans) nums all)))
+    let long : length (replicate p.count (shape_written p.format)) ≡ p.count = length-replicate p.count (shape_written p.format) in
+    fit_both (replicate p.count (shape_written p.format)) (sample_formats spans) (reset_port p nums) (reset_samples spans (drop p.count nums))
+    (reset_fits_one p nums (subst (λ n. AllFit (replicate p.count (shape_written p.format)) (take n nums)) long
+    (fit_first (replicate p.count (shape_written p.format)) (sample_formats spans) nums all)))
     (reset_fits spans (drop p.count nums) (subst (λ n. AllFit (sample_formats spans) (drop n nums)) long
-    (fit_second (replicate p.count (written p.format)) (sample_formats spans) nums all)))
+    (fit_second (replicate p.count (shape_written p.format)) (sample_formats spans) nums all)))
 
 pub reset_numbers : (spans : List PortSpan) (nums : List ℤ) → NumbersFit (sample_formats spans) nums → NumbersFit (sample_formats spans) (reset_samples spans nums)
 reset_numbers spans nums fits = numbers_fit (sample_formats spans) (reset_samples spans nums) (reset_fits spans nums (all_fit (sample_formats spans) nums fits))
@@ -196,7 +196,7 @@ unfolding zeroed zeroed_one
 zeroed_is pre nums [] s row samples long = ap (λ l. record s { samples = l }) samples
 zeroed_is pre nums (p ∷ spans) s row samples long =
     let whole : length (sample_formats (p ∷ spans)) ≡ p.count + length (sample_formats spans) =
-    length-append (replicate p.count (written p.format)) (sample_formats spans) ∙ ap (λ k. k + length (sample_formats spans)) (length-replicate p.count (written p.format)) in
+    length-append (replicate p.count (shape_written p.format)) (sample_formats spans) ∙ ap (λ k. k + length (sample_formats spans)) (length-replicate p.count (shape_written p.format)) in
     let own = reset_port_long p nums (omega (arith, long, whole)) in
     let behind : length (pre ++ reset_port p nums) ≡ length pre + p.count = length-append pre (reset_port p nums) ∙ ap (λ k. length pre + k) own in
     let rest : length (drop p.count nums) ≡ length (sample_formats spans) = length-drop p.count nums ∙ omega (arith, long, whole) in
@@ -220,11 +220,11 @@ one_span spans n p q first second = ap held (sym first ∙ second)
 pub sample_there : (q : PortsSeen) (n i : ℕ) (p : PortSpan) → ArePortsFit q → slice_get q.spans n ≡ Some p → i < p.count → p.first + i < length q.state.samples
 sample_there q n i p fit at below =
     let found = sample_at 0 q.spans n p i fit.placed at below in
-    let within = slice_get_within (sample_formats q.spans) found.place (written p.format) found.format in
+    let within = slice_get_within (sample_formats q.spans) found.place (shape_written p.format) found.format in
     omega (arith, within, found.is, fit.samples.long)
 
 pub sample_set : (q : PortsSeen) (n i : ℕ) (p : PortSpan) (num : ℤ) → ArePortsFit q → slice_get q.spans n ≡ Some p → i < p.count
-    → IsIn p.format.signed p.format.wl num → ArePortsFit (record q { state = record q.state { samples = slice_set q.state.samples (p.first + i) num } })
+    → IsOfWidth p.format.signed p.format.wl num → ArePortsFit (record q { state = record q.state { samples = slice_set q.state.samples (p.first + i) num } })
 sample_set q n i p num fit at below is_in =
     let found = sample_at 0 q.spans n p i fit.placed at below in
     let here : found.place ≡ p.first + i = sym (found.is ∙ omega arith) in
@@ -245,13 +245,13 @@ reset_fit q fit = record {
 }
 
 -- a cell, and a rate, that is set
-pub cell_set : (f : FrameSeen) (i : ℕ) (num : ℤ) → IsFrameFit f → i < length f.formats → ((g : Format) → slice_get f.formats i ≡ Some g → IsIn g.signed g.wl num)
+pub cell_set : (f : FrameSeen) (i : ℕ) (num : ℤ) → IsFrameFit f → i < length f.formats → ((g : Format) → slice_get f.formats i ≡ Some g → IsOfWidth g.signed g.wl num)
     → IsFrameFit (record f { state = record f.state { cells = slice_set f.state.cells i num } })
 cell_set f i num fit within range =
     let held = has_at f.formats i within in
     record {
       few = fit.few;
-      cells = numbers_set (map written f.formats) f.state.cells i num (shape_of_format held.0) fit.cells (map_at written f.formats i held.0 held.1) (range held.0 held.1);
+      cells = numbers_set (map shape_written f.formats) f.state.cells i num (shape_of_format held.0) fit.cells (map_at shape_written f.formats i held.0 held.1) (range held.0 held.1);
       rates = fit.rates;
     }
 

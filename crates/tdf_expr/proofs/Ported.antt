@@ -5,7 +5,7 @@ use Rattle.std.specs.List.{flat_map}
 use Rattle.std.specs.Prelude.{map, slice_get, replicate}
 use Rattle.tdf_expr.proofs.Planned.{drop_at, has_at}
 use Rattle.tdf_expr_semantics.specs.Places.{before, total, samples_of, sample_shapes}
-use Rattle.tdf_expr.specs.Plans.{PortPlace, written, place_of_port, places_from, port_places}
+use Rattle.tdf_expr.specs.Plans.{PortPlace, shape_written, place_of_span, places_from, port_places}
 use Rattle.tdf_expr_compiler.specs.Formats.{IsFormatOf}
 use Rattle.tdf_expr.proofs.Pushes.{written_is}
 use Rattle.tdf_expr.specs.declared.spans.PortSpan.{PortSpan}
@@ -20,12 +20,12 @@ use Rattle.tdf_lang_tree.specs.declared.stmt.Limit.{Limit}
 -- a port
 pub span_port : (own : Names) (xs : List PortSpan) (word : PortKind) (shape : Shape) (format : Format) (rate : Limit) (delay first count next : ℕ) (rest : List Thing)
     → IsFormatOf shape format → count ≡ greatest_of own rate → next ≡ first + count
-    → map place_of_port (xs ++ record { word = word; format = format; first = first; count = count } ∷ []) ++ places_from own next rest
-    ≡ map place_of_port xs ++ places_from own first (Port word (Some shape) rate delay ∷ rest)
+    → map place_of_span (xs ++ record { word = word; format = format; first = first; count = count } ∷ []) ++ places_from own next rest
+    ≡ map place_of_span xs ++ places_from own first (Port word (Some shape) rate delay ∷ rest)
 unfolding places_from
 span_port own xs word shape format rate delay first count next rest is count_is next_is =
-    ap (λ l. l ++ places_from own next rest) (map-append place_of_port xs _)
-    ∙ append_assoc (map place_of_port xs) (record { word = word; shape = written format; first = first; count = count } ∷ []) (places_from own next rest)
+    ap (λ l. l ++ places_from own next rest) (map-append place_of_span xs _)
+    ∙ append_assoc (map place_of_span xs) (record { word = word; shape = shape_written format; first = first; count = count } ∷ []) (places_from own next rest)
     ∙ rw (next_is, count_is, written_is shape format is) refl
 
 pub span_const : (own : Names) (a : Option Shape) (b : Lit) (first : ℕ) (rest : List Thing) → places_from own first (Const a b ∷ rest) ≡ places_from own first rest

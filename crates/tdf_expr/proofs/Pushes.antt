@@ -6,7 +6,7 @@ use Rattle.std.proofs.lemmas.Grind.{replicate_next}
 use Rattle.std.specs.Prelude.{replicate, map, Result, Ok, Err, OnOk}
 use Rattle.tdf_base.specs.declared.memory.Memory.{Memory}
 use Rattle.tdf_expr_compiler.specs.Formats.{IsFormatOf}
-use Rattle.tdf_expr.specs.Plans.{written, start_of}
+use Rattle.tdf_expr.specs.Plans.{shape_written, start_number}
 use Rattle.tdf_expr.specs.declared.spans.RateSpan.{RateSpan}
 use Rattle.tdf_fixed.specs.declared.format.Format.{Format}
 use Rattle.tdf_lang_tree.specs.Kept.{Each, KeepsLit}
@@ -23,20 +23,20 @@ push_none xs x = append-nil xs
 pub ruleset push_laws = (push_next, push_none)
 
 -- a format is written as the line wrote it
-pub written_is : (shape : Shape) (f : Format) → IsFormatOf shape f → written f ≡ Some shape
+pub written_is : (shape : Shape) (f : Format) → IsFormatOf shape f → shape_written f ≡ Some shape
 written_is shape f is = rw (is.signed, is.wl, is.iwl, is.quant, is.over) refl
 
 pub written_many : (fs gs : List Format) (shape : Shape) (f : Format) (n : ℕ) → IsFormatOf shape f → gs ≡ fs ++ replicate n f
-    → map written gs ≡ map written fs ++ replicate n (Some shape)
+    → map shape_written gs ≡ map shape_written fs ++ replicate n (Some shape)
 written_many fs gs shape f n is same =
-    ap (map written) same ∙ map-append written fs (replicate n f) ∙ ap (λ l. map written fs ++ l) (many n)
+    ap (map shape_written) same ∙ map-append shape_written fs (replicate n f) ∙ ap (λ l. map shape_written fs ++ l) (many n)
   where
-    many : (n : ℕ) → map written (replicate n f) ≡ replicate n (Some shape)
+    many : (n : ℕ) → map shape_written (replicate n f) ≡ replicate n (Some shape)
     many zero = refl
-    many (suc n) = ap (λ x. x ∷ map written (replicate n f)) (written_is shape f is) ∙ ap (λ l. Some shape ∷ l) (many n)
+    many (suc n) = ap (λ x. x ∷ map shape_written (replicate n f)) (written_is shape f is) ∙ ap (λ l. Some shape ∷ l) (many n)
 
 pub pushed : (fs gs : List Format) (shape : Shape) (f : Format) (n : ℕ) (r : Result (Unit {0}) Memory) → IsFormatOf shape f
-    → OnOk r (gs ≡ fs ++ replicate n f) → OnOk r (map written gs ≡ map written fs ++ replicate n (Some shape))
+    → OnOk r (gs ≡ fs ++ replicate n f) → OnOk r (map shape_written gs ≡ map shape_written fs ++ replicate n (Some shape))
 pushed fs gs shape f n (Ok u) is same = written_many fs gs shape f n is same
 pushed fs gs shape f n (Err e) is same = tt
 
@@ -47,13 +47,13 @@ each_at (x ∷ xs) zero d each within = each.0
 each_at (x ∷ xs) (suc i) d each within = each_at xs i d each.1 (omega (arith, within))
 
 pub starts_more : (shape : Shape) (ys : List ℤ) (xs : List Lit) (i : ℕ) (d : Lit) → i < length xs
-    → (ys ++ start_of (Some shape) (get_or xs i d) ∷ []) ++ map (start_of (Some shape)) (drop (i + 1) xs) ≡ ys ++ map (start_of (Some shape)) (drop i xs)
+    → (ys ++ start_number (Some shape) (get_or xs i d) ∷ []) ++ map (start_number (Some shape)) (drop (i + 1) xs) ≡ ys ++ map (start_number (Some shape)) (drop i xs)
 starts_more shape ys xs i d within =
-    append_assoc ys (start_of (Some shape) (get_or xs i d) ∷ []) (map (start_of (Some shape)) (drop (i + 1) xs))
-    ∙ ap (λ (l : List Lit). ys ++ map (start_of (Some shape)) l) (sym (drop_more xs i d within))
+    append_assoc ys (start_number (Some shape) (get_or xs i d) ∷ []) (map (start_number (Some shape)) (drop (i + 1) xs))
+    ∙ ap (λ (l : List Lit). ys ++ map (start_number (Some shape)) l) (sym (drop_more xs i d within))
 
-pub starts_all : (shape : Shape) (ys : List ℤ) (xs : List Lit) (i : ℕ) → length xs ≤ i → ys ++ map (start_of (Some shape)) (drop i xs) ≡ ys
-starts_all shape ys xs i past = ap (λ (l : List Lit). ys ++ map (start_of (Some shape)) l) (drop_all i xs past) ∙ append-nil ys
+pub starts_all : (shape : Shape) (ys : List ℤ) (xs : List Lit) (i : ℕ) → length xs ≤ i → ys ++ map (start_number (Some shape)) (drop i xs) ≡ ys
+starts_all shape ys xs i past = ap (λ (l : List Lit). ys ++ map (start_number (Some shape)) l) (drop_all i xs past) ∙ append-nil ys
 
 pub one_cell : {A : Type 0} (xs : List A) (x : A) → xs ++ x ∷ [] ≡ xs ++ replicate 1 x
 one_cell xs x = refl

@@ -5,8 +5,8 @@ use Rattle.tdf_expr.specs.Blocks.{PureBlock, blocks_of, scope_of, body_of}
 use Rattle.tdf_expr.specs.Compiled.{IsBlockOf, AreBlocksOf, IsActOf, act_of}
 use Rattle.tdf_expr.specs.Checked.{IsChecked}
 use Rattle.tdf_expr.specs.Frames.{FrameSeen, PortsSeen, IsFrameFit, ArePortsFit, KeepsRead, limits_of_rate, sample_formats}
-use Rattle.tdf_expr.specs.Made.{AreMadeFor, formats_in, rates_in, spans_in, events_in}
-use Rattle.tdf_expr.specs.Plans.{written, place_of_port, port_places, cell_starts}
+use Rattle.tdf_expr.specs.Made.{AreMadeFor, formats_in, block_rates, spans_in, events_in}
+use Rattle.tdf_expr.specs.Plans.{shape_written, place_of_span, port_places, cell_starts}
 use Rattle.tdf_expr.specs.Runs.{Ran, scope_in}
 use Rattle.std.proofs.lemmas.List.{length-replicate}
 use Rattle.tdf_expr.proofs.Fitting.{limits_same, cells_start, rates_start, rates_in_order, numbers_fit, zeros_fit}
@@ -89,14 +89,14 @@ block_from globals (q ∷ ps) (c ∷ bs) (suc n) b are held =
 module _ (scope : Scope) (p : PureBlock) (b : Block) (is : IsBlockOf scope p b) (f : FrameSeen) (q : PortsSeen)
     (formats : f.formats ≡ b.cells.formats.items) (rates : f.rates ≡ b.rates.items) (spans : q.spans ≡ b.ports.spans.items)
     (events : length q.state.notified ≡ b.events) where
-  cells_are : cell_shapes scope.own ≡ map written f.formats
-  cells_are = sym (ap (map written) formats ∙ is.shapes)
+  cells_are : cell_shapes scope.own ≡ map shape_written f.formats
+  cells_are = sym (ap (map shape_written) formats ∙ is.shapes)
 
   limits_are : rate_limits scope.own ≡ map limits_of_rate f.rates
   limits_are = limits_same scope.own.things ∙ ap (map limits_of_rate) (sym (rates ∙ is.rates))
 
-  places_are : map place_of_port q.spans ≡ port_places scope.own
-  places_are = ap (map place_of_port) spans ∙ is.spans
+  places_are : map place_of_span q.spans ≡ port_places scope.own
+  places_are = ap (map place_of_span) spans ∙ is.spans
 
   pub instance_fits : IsFrameFit f → ArePortsFit q → StateFits scope.own (state_of f.state q.state)
   instance_fits frame ports = record {
@@ -142,7 +142,7 @@ module _ (checked : Checked) (n : ℕ) (b : Block) (f : FrameSeen) (q : PortsSee
   formats = made.formats ∙ ap formats_in held
 
   rates : f.rates ≡ b.rates.items
-  rates = made.rates ∙ ap rates_in held
+  rates = made.rates ∙ ap block_rates held
 
   spans : q.spans ≡ b.ports.spans.items
   spans = made.ports_are ∙ ap spans_in held
@@ -182,7 +182,7 @@ module _ (checked : Checked) (n : ℕ) (b : Block) (f : FrameSeen) (q : PortsSee
       let scope = scope_in model found.block in
       let none = found.is.faultless part in
       let same = part_same scope (body_of found.block part) (act_of b.acts part) state (found.is.bodies part) fits in
-      let places : map place_of_port q.spans ≡ port_places scope.own = ap (map place_of_port) spans ∙ found.is.spans in
+      let places : map place_of_span q.spans ≡ port_places scope.own = ap (map place_of_span) spans ∙ found.is.spans in
       ports_left scope.own state (part_done (act_of b.acts part) state) q.spans places
       (subst (λ (x : State). KeepsInputs scope.own state x) (sym same)
       (stmts_left scope [] none.body (body_of found.block part) [] state found.is.sound none.none fits (no_loops scope.own)))
@@ -208,8 +208,8 @@ block_starts checked n b made held f formats rates cells starts =
     let scope = scope_of names from.block in
     record {
       few = subst (λ (l : List Format). length l ≤ 2 ^ 31) (sym formats) b.cells.few;
-      cells = subst (λ l. NumbersFit (map written f.formats) l) (sym (cells ∙ from.is.starts))
-          (subst (λ l. NumbersFit l (cell_starts scope.own)) (sym (ap (map written) formats ∙ from.is.shapes)) (cells_start scope from.is.sound));
+      cells = subst (λ l. NumbersFit (map shape_written f.formats) l) (sym (cells ∙ from.is.starts))
+          (subst (λ l. NumbersFit l (cell_starts scope.own)) (sym (ap (map shape_written) formats ∙ from.is.shapes)) (cells_start scope from.is.sound));
       rates = subst (λ l. RatesFit (map limits_of_rate f.rates) l) (sym (starts ∙ ap (map (λ r. r.start)) (sym rates)))
           (rates_start f.rates (λ k r e. rates_in_order scope.own scope.own.things from.is.sound.own k r (ap (λ (l : List RateSpan). slice_get l k) (sym (rates ∙ from.is.rates)) ∙ e)));
     }
@@ -221,7 +221,7 @@ block_ports checked n b made held q spans samples assigned steps =
     let names = globals_of made.model.globals in
     let from = block_from names (blocks_of made.model.globals) checked.blocks.items n b made.are held in
     let scope = scope_of names from.block in
-    let places : map place_of_port q.spans ≡ port_places scope.own = ap (map place_of_port) spans ∙ from.is.spans in
+    let places : map place_of_span q.spans ≡ port_places scope.own = ap (map place_of_span) spans ∙ from.is.spans in
     let count : b.ports.samples ≡ length (sample_formats q.spans) = from.is.samples ∙ ap (λ (l : List (Option Shape)). length l) (sym (spans_shapes scope.own q.spans places)) in
     record {
       placed = spans_row scope.own q.spans places;

@@ -7,7 +7,7 @@ use Rattle.std.specs.Prelude.{not, nat_eq, if◌then◌else◌, slice_get, slice
 use Rattle.tdf_base.proofs.Api.{if_none}
 use Rattle.tdf_base.specs.declared.codes.Code.TheVariants as code
 use Rattle.tdf_expr_blocks.specs.Lines.{is_format, shape_faults}
-use Rattle.tdf_expr_symbols.specs.Names.{Names, Thing, at_place, changed, changed_at, place_of, thing_of, with_name}
+use Rattle.tdf_expr_symbols.specs.Names.{Names, Thing, found_at, names_changed, changed_at, place_of, thing_of, with_name}
 use Rattle.tdf_fixed.specs.Cast.{IsLegal}
 use Rattle.tdf_lang_tree.specs.declared.shapes.Shape.{Shape}
 
@@ -46,8 +46,8 @@ all_set P (y ∷ things) zero x all holds (suc n) t is = all (suc n) t is
 all_set P (y ∷ things) (suc k) x all holds zero t is = all zero t is
 all_set P (y ∷ things) (suc k) x all holds (suc n) t is = all_set P things k x (λ m u at. all (suc m) u at) holds n t is
 
-pub all_changed : (P : Thing → Type 0) (s : Names) (f : Thing → Thing) (name : List ℕ) → AllThings P s → ((t : Thing) → P t → P (f t)) → AllThings P (changed f name s)
-unfolding changed
+pub all_changed : (P : Thing → Type 0) (s : Names) (f : Thing → Thing) (name : List ℕ) → AllThings P s → ((t : Thing) → P t → P (f t)) → AllThings P (names_changed f name s)
+unfolding names_changed
 all_changed P s f name all keeps = go (place_of s name) refl (thing_of s name) refl
   where
     go : (o : Option ℕ) → place_of s name ≡ o → (x : Option Thing) → thing_of s name ≡ x
@@ -57,7 +57,7 @@ all_changed P s f name all keeps = go (place_of s name) refl (thing_of s name) r
     go (Some k) at (Some thing) is n t here = all_set P s.things k (f thing) all (keeps thing (all k thing (place_is k thing at is))) n t here
       where
         place_is : (k : ℕ) (thing : Thing) → place_of s name ≡ Some k → thing_of s name ≡ Some thing → slice_get s.things k ≡ Some thing
-        place_is k thing at is = ap (at_place s.things) (sym at) ∙ is
+        place_is k thing at is = ap (found_at s.things) (sym at) ∙ is
 
 -- formats
 pub legal : (s : Shape) → is_format s ≡ true → IsLegal s.wl s.iwl

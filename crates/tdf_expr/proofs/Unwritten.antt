@@ -5,20 +5,20 @@ use Rattle.std.specs.Option.{option_map}
 use Rattle.std.specs.Prelude.{map, slice_get}
 use Rattle.tdf_expr.proofs.Framed.{map_at}
 use Rattle.tdf_expr.specs.Frames.{is_written, KeepsRead}
-use Rattle.tdf_expr.specs.Plans.{PortPlace, place_of_port, places_from, port_places}
+use Rattle.tdf_expr.specs.Plans.{PortPlace, place_of_span, places_from, port_places}
 use Rattle.tdf_expr.specs.declared.spans.PortSpan.{PortSpan}
 use Rattle.tdf_expr.specs.machine.Inputs.{KeepsInputs, NeverWritesInputs}
 use Rattle.tdf_base.proofs.Api.{none_first, none_second}
 use Rattle.tdf_fixed.specs.declared.raw.Raw.{Raw}
 use Rattle.tdf_expr_semantics.proofs.Api.{found, thing_sound, of_kind, is_limit, loops_more, target_element, has_element, first_element, keeps}
-use Rattle.tdf_expr_semantics.specs.Bodies.{with_element, assigned_at, assigned, target_index, limit_value, whole_within, with_whole, rate_set, noticed_at, stepped_at, stepped, repeated, after, after_all}
+use Rattle.tdf_expr_semantics.specs.Bodies.{with_element, assigned_at, assigned, target_index, limit_value, whole_within, with_whole, rate_set, noticed_at, stepped_at, step_assigned, repeated, after, after_all}
 use Rattle.tdf_expr_semantics.specs.Fits.{StateFits, LoopsFit}
 use Rattle.tdf_expr_semantics.specs.Places.{HasElement, before, samples_of, first_sample, rate_number, port_number}
 use Rattle.tdf_expr_semantics.specs.Value.{value, holds, cast_number}
 use Rattle.tdf_expr_symbols.specs.Faults.{expr_faults, stmts_faults, stmt_faults, target_faults, limit_faults, opened}
 use Rattle.tdf_expr_symbols.specs.Index.{kind_faults, index_faults}
 use Rattle.tdf_expr_symbols.specs.Kinds.{is_allowed}
-use Rattle.tdf_expr_symbols.specs.Names.{Names, Thing, Var, Array, Port, RateVar, Loop, at_place, place_of, thing_of, kind_of}
+use Rattle.tdf_expr_symbols.specs.Names.{Names, Thing, Var, Array, Port, RateVar, Loop, found_at, place_of, thing_of, kind_of}
 use Rattle.tdf_expr_symbols.specs.Scope.{Scope, OpenLoop, named, loop_place, as_thing, first_some, greatest_of}
 use Rattle.tdf_expr_symbols.specs.Sound.{IsSound, IsThingSound}
 use Rattle.tdf_expr_symbols.specs.declared.kinds.Part.{Part}
@@ -88,7 +88,7 @@ element_kind body _ e = tt
 -- a target isn't a loop variable, so it is the block's own
 own_target : (scope : Scope) (loops : List OpenLoop) (name : List ℕ) (t : Thing) → named scope loops name ≡ Some t → IsTarget t → thing_of scope.own name ≡ Some t
 unfolding named
-own_target scope loops name t is target = go (at_place loops (loop_place loops name)) is
+own_target scope loops name t is target = go (found_at loops (loop_place loops name)) is
   where
     target_is : Option Thing → Type 0
     target_is (Some x) = IsTarget x
@@ -200,7 +200,7 @@ set_left own s v (Some n) None = same_inputs own s
 set_left own s v (Some n) (Some (RateVar least greatest start)) = whole_left own s (rate_number own n) (whole_within least greatest v.frac v.num)
 set_left own s v (Some n) (Some _) = same_inputs own s
 
-step_left : (own : Names) (s : State) (port : Option (List ℕ)) (step : ℕ) → KeepsInputs own s (stepped own port step s)
+step_left : (own : Names) (s : State) (port : Option (List ℕ)) (step : ℕ) → KeepsInputs own s (step_assigned own port step s)
 step_left own s None step = record { same = λ m j word form rate delay is unwritten inside. refl }
 step_left own s (Some port) step = go (place_of own port)
   where
@@ -304,11 +304,11 @@ port_thing own first (_ ∷ things) j place at =
     record { n = suc rest.n; shape = rest.shape; rate = rest.rate; delay = rest.delay; at = rest.at; count = rest.count; start = rest.start ∙ omega arith }
 
 -- what holds of the names of a block holds of its ports
-pub ports_left : (own : Names) (old new : State) (spans : List PortSpan) → map place_of_port spans ≡ port_places own → KeepsInputs own old new
+pub ports_left : (own : Names) (old new : State) (spans : List PortSpan) → map place_of_span spans ≡ port_places own → KeepsInputs own old new
     → KeepsRead (record { spans = spans; state = old.ports }) (record { spans = spans; state = new.ports })
 ports_left own old new spans are kept = record {
   same = λ n k p at unwritten below.
-      let x = port_thing own 0 own.things n (place_of_port p) (sym (ap (λ (l : List PortPlace). slice_get l n) are) ∙ map_at place_of_port spans n p at) in
+      let x = port_thing own 0 own.things n (place_of_span p) (sym (ap (λ (l : List PortPlace). slice_get l n) are) ∙ map_at place_of_span spans n p at) in
       let start : p.first ≡ first_sample own x.n = x.start ∙ omega arith in
       subst (λ i. cell_at new.ports.samples (i + k) ≡ cell_at old.ports.samples (i + k)) (sym start)
       (kept.same x.n k p.word x.shape x.rate x.delay x.at unwritten (subst (λ i. k < i) x.count below));

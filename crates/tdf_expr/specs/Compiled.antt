@@ -3,7 +3,7 @@
 use Rattle.std.specs.Prelude.{◌≡◌, ℕ, List, [], ◌∷◌, length, map, Option, Some, None, slice_get}
 use Rattle.tdf_expr_compiler.specs.Promises.{PerformsAll, AreFaultless}
 use Rattle.tdf_expr.specs.Blocks.{PureBlock, scope_of, body_of}
-use Rattle.tdf_expr.specs.Plans.{written, cell_starts, rate_spans, place_of_port, port_places}
+use Rattle.tdf_expr.specs.Plans.{shape_written, cell_starts, rate_spans, place_of_span, port_places}
 use Rattle.tdf_expr.specs.declared.bodies.Body.{Body}
 use Rattle.tdf_expr.specs.declared.bodies.Body.TheVariants as body
 use Rattle.tdf_expr.specs.declared.blocks.Acts.{Acts}
@@ -39,10 +39,10 @@ pub record AreProcesses (scope : Scope) (processes : List PureProcess) (list : L
 
 pub record IsBlockOf (scope : Scope) (block : PureBlock) (b : Block) : Type 0 where
   pub sound : IsSound scope
-  pub shapes : map written b.cells.formats.items ≡ cell_shapes scope.own
+  pub shapes : map shape_written b.cells.formats.items ≡ cell_shapes scope.own
   pub starts : b.cells.starts.items ≡ cell_starts scope.own
   pub rates : b.rates.items ≡ rate_spans scope.own
-  pub spans : map place_of_port b.ports.spans.items ≡ port_places scope.own
+  pub spans : map place_of_span b.ports.spans.items ≡ port_places scope.own
   pub samples : b.ports.samples ≡ length (sample_shapes scope.own)
   pub events : b.events ≡ total events_of scope.own.things
   pub faultless : (part : Body) → AreFaultless scope (body_of block part)

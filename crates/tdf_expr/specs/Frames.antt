@@ -2,11 +2,11 @@
 -- and the samples of its ports with what its bodies asked for.
 use Rattle.std.specs.List.{flat_map}
 use Rattle.std.specs.Prelude.{◌≡◌, ℕ, ◌+◌, ◌<◌, ◌≤◌, ◌^◌, Bool, true, false, if◌then◌else◌, List, [], ◌∷◌, ◌++◌, Option, ℤ, pos, length, map, replicate, take, drop, Some, None, slice_get}
-use Rattle.tdf_expr.specs.Plans.{written}
+use Rattle.tdf_expr.specs.Plans.{shape_written}
 use Rattle.tdf_expr.specs.declared.spans.PortSpan.{PortSpan}
 use Rattle.tdf_expr.specs.declared.spans.RateSpan.{RateSpan}
 use Rattle.tdf_fixed.specs.Cast.{fraction_of}
-use Rattle.tdf_fixed.specs.Overflow.{IsIn}
+use Rattle.tdf_fixed.specs.Overflow.{IsOfWidth}
 use Rattle.tdf_fixed.specs.declared.format.Format.{Format}
 use Rattle.tdf_fixed.specs.declared.raw.Raw.{Raw}
 use Rattle.tdf_expr_semantics.specs.Fits.{NumbersFit, RatesFit}
@@ -20,7 +20,7 @@ use Rattle.tdf_lang_tree.specs.declared.shapes.Shape.{Shape}
 -- a value of a format
 pub record IsOfFormat (f : Format) (value : Raw) : Type 0 where
   pub frac : value.frac ≡ fraction_of f
-  pub num : IsIn f.signed f.wl value.num
+  pub num : IsOfWidth f.signed f.wl value.num
 
 abbrev pub limits_of_rate : RateSpan → RateLimits
 limits_of_rate r = record { least = r.least; greatest = r.greatest }
@@ -39,7 +39,7 @@ pub record FrameSeen : Type 0 where
 -- each value is of its format, and each rate within its limits
 pub record IsFrameFit (f : FrameSeen) : Type 0 where
   pub few : length f.formats ≤ 2 ^ 31
-  pub cells : NumbersFit (map written f.formats) f.state.cells
+  pub cells : NumbersFit (map shape_written f.formats) f.state.cells
   pub rates : RatesFit (map limits_of_rate f.rates) f.state.rates
 
 -- the ports of an instance, with their samples and what its bodies asked for
@@ -49,7 +49,7 @@ pub record PortsSeen : Type 0 where
 
 -- the format of each sample, port after port
 abbrev pub sample_formats : List PortSpan → List (Option Shape)
-sample_formats spans = flat_map (λ p. replicate p.count (written p.format)) spans
+sample_formats spans = flat_map (λ p. replicate p.count (shape_written p.format)) spans
 
 -- the samples of each port come after those of the port before
 abbrev pub AreConsecutive : (first : ℕ) → List PortSpan → Type 0

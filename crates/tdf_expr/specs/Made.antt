@@ -19,17 +19,17 @@ abbrev pub starts_in : Option Block → List ℤ
 starts_in None = []
 starts_in (Some b) = b.cells.starts.items
 
-abbrev pub rates_in : Option Block → List RateSpan
-rates_in None = []
-rates_in (Some b) = b.rates.items
+abbrev pub block_rates : Option Block → List RateSpan
+block_rates None = []
+block_rates (Some b) = b.rates.items
 
 abbrev pub spans_in : Option Block → List PortSpan
 spans_in None = []
 spans_in (Some b) = b.ports.spans.items
 
-abbrev pub samples_in : Option Block → ℕ
-samples_in None = 0
-samples_in (Some b) = b.ports.samples
+abbrev pub block_samples : Option Block → ℕ
+block_samples None = 0
+block_samples (Some b) = b.ports.samples
 
 abbrev pub events_in : Option Block → ℕ
 events_in None = 0
@@ -44,7 +44,7 @@ start_cells checked number = starts_in (slice_get checked.blocks.items number)
 
 -- each rate variable, in order of declaration
 abbrev pub rate_spans_of : Checked → ℕ → List RateSpan
-rate_spans_of checked number = rates_in (slice_get checked.blocks.items number)
+rate_spans_of checked number = block_rates (slice_get checked.blocks.items number)
 
 abbrev pub start_rates : Checked → ℕ → List ℕ
 start_rates checked number = map (λ r. r.start) (rate_spans_of checked number)
@@ -55,7 +55,7 @@ port_spans_of checked number = spans_in (slice_get checked.blocks.items number)
 
 -- how many samples its ports have in all, and how many events it has
 abbrev pub sample_count : Checked → ℕ → ℕ
-sample_count checked number = samples_in (slice_get checked.blocks.items number)
+sample_count checked number = block_samples (slice_get checked.blocks.items number)
 
 abbrev pub event_count : Checked → ℕ → ℕ
 event_count checked number = events_in (slice_get checked.blocks.items number)

@@ -22,17 +22,17 @@ shape_of_format f = record {
   over = f.over;
 }
 
-abbrev pub written : Format → Option Shape
-written f = Some (shape_of_format f)
+abbrev pub shape_written : Format → Option Shape
+shape_written f = Some (shape_of_format f)
 
-abbrev pub start_of : Option Shape → Lit → ℤ
-start_of shape v = (literal_in shape v).num
+abbrev pub start_number : Option Shape → Lit → ℤ
+start_number shape v = (literal_in shape v).num
 
 -- the starting values of a name's cells; missing values of an array are 0
 abbrev pub starts_of : Thing → List ℤ
-starts_of (Var shape start) = start_of shape start ∷ []
+starts_of (Var shape start) = start_number shape start ∷ []
 starts_of (Array shape size starts) =
-    map (start_of shape) starts ++ replicate (size - length starts) (pos 0)
+    map (start_number shape) starts ++ replicate (size - length starts) (pos 0)
 starts_of _ = []
 
 abbrev pub cell_starts : Names → List ℤ
@@ -53,10 +53,10 @@ pub record PortPlace : Type 0 where
   pub first : ℕ
   pub count : ℕ
 
-abbrev pub place_of_port : PortSpan → PortPlace
-place_of_port p = record {
+abbrev pub place_of_span : PortSpan → PortPlace
+place_of_span p = record {
   word = p.word;
-  shape = written p.format;
+  shape = shape_written p.format;
   first = p.first;
   count = p.count;
 }

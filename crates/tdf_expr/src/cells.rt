@@ -3,7 +3,7 @@
 ghost use Rattle.std.specs.List.{flat_map};
 ghost use Rattle.std.specs.Prelude.{◌≡◌, ◌≤◌, ◌-◌, ◌^◌, ◌++◌, [], ◌∷◌, map, replicate, length, slice_get, Some, OnOk, IfOk, pos};
 ghost use Rattle.tdf_expr.specs.machine.Cells.{AreStartsKept};
-ghost use Rattle.tdf_expr.specs.Plans.{written, start_of, starts_of, cell_starts};
+ghost use Rattle.tdf_expr.specs.Plans.{shape_written, start_number, starts_of, cell_starts};
 ghost use Rattle.tdf_fixed.specs.Cast.{IsLegal};
 ghost use Rattle.tdf_expr_semantics.specs.Places.{cells_of, cell_shapes};
 ghost use Rattle.tdf_expr_symbols.specs.Names.{Thing as ThingSeen, shape_of};
@@ -32,8 +32,8 @@ fn push_formats(formats: &mut Vec<Format>, format: Format, count: u64) -> Result
 /// The format of a line, so many times.
 fn push_shape(formats: &mut Vec<Format>, shape: Shape, count: u64) -> Result<(), Memory>
     requires { IsLegal shape.wl shape.iwl }
-    ensures { OnOk result (map written formats.new.items
-        ≡ map written formats.old.items ++ replicate count (Some shape)) }
+    ensures { OnOk result (map shape_written formats.new.items
+        ≡ map shape_written formats.old.items ++ replicate count (Some shape)) }
 {
     push_formats(formats, format_of(shape), count)
 }
@@ -58,7 +58,7 @@ fn push_start(
 ) -> Result<(), Memory>
     requires legal { IsLegal shape.wl shape.iwl }
     requires kept { KeepsLit value.now }
-    ensures { OnOk result (starts.new.items ≡ starts.old.items ++ start_of (Some shape) value.now ∷ []) }
+    ensures { OnOk result (starts.new.items ≡ starts.old.items ++ start_number (Some shape) value.now ∷ []) }
 {
     let num = literal_in(alloc, shape, value)?;
     starts.push(num)?;
@@ -75,7 +75,7 @@ fn push_starts(
 ) -> Result<(), Memory>
     requires legal { IsLegal shape.wl shape.iwl }
     requires kept { Each KeepsLit values.now }
-    ensures { OnOk result (starts.new.items ≡ starts.old.items ++ map (start_of (Some shape)) values.now) }
+    ensures { OnOk result (starts.new.items ≡ starts.old.items ++ map (start_number (Some shape)) values.now) }
 {
     for value in values {
         push_start(alloc, starts, shape, value)?;
@@ -95,10 +95,10 @@ fn push_array(
 ) -> Result<(), Memory>
     requires legal { IsLegal shape.wl shape.iwl }
     requires kept { Each KeepsLit values.now }
-    ensures shapes { OnOk result (map written formats.new.items
-        ≡ map written formats.old.items ++ replicate size (Some shape)) }
+    ensures shapes { OnOk result (map shape_written formats.new.items
+        ≡ map shape_written formats.old.items ++ replicate size (Some shape)) }
     ensures starts { OnOk result (starts.new.items ≡ starts.old.items
-        ++ (map (start_of (Some shape)) values.now ++ replicate (size - length values.now) (pos 0))) }
+        ++ (map (start_number (Some shape)) values.now ++ replicate (size - length values.now) (pos 0))) }
 {
     push_shape(formats, shape, size)?;
     push_starts(alloc, starts, shape, values)?;
@@ -116,8 +116,8 @@ fn push_var(
 ) -> Result<(), Memory>
     requires legal { IsLegal shape.wl shape.iwl }
     requires kept { KeepsLit start.now }
-    ensures shapes { OnOk result (map written formats.new.items ≡ map written formats.old.items ++ Some shape ∷ []) }
-    ensures starts { OnOk result (starts.new.items ≡ starts.old.items ++ start_of (Some shape) start.now ∷ []) }
+    ensures shapes { OnOk result (map shape_written formats.new.items ≡ map shape_written formats.old.items ++ Some shape ∷ []) }
+    ensures starts { OnOk result (starts.new.items ≡ starts.old.items ++ start_number (Some shape) start.now ∷ []) }
 {
     push_shape(formats, shape, 1)?;
     push_start(alloc, starts, shape, start)
@@ -132,8 +132,8 @@ fn push_cells(
     thing: Thing,
 ) -> Result<(), Memory>
     requires { AreStartsKept (seen thing) }
-    ensures shapes { OnOk result (map written formats.new.items
-        ≡ map written formats.old.items ++ replicate (cells_of (seen thing.entry)) (shape_of (seen thing.entry))) }
+    ensures shapes { OnOk result (map shape_written formats.new.items
+        ≡ map shape_written formats.old.items ++ replicate (cells_of (seen thing.entry)) (shape_of (seen thing.entry))) }
     ensures starts { OnOk result (starts.new.items ≡ starts.old.items ++ starts_of (seen thing.entry)) }
 {
     match thing {
@@ -164,7 +164,7 @@ fn push_place(
 ) -> Result<(), Memory>
     requires sound { IsSound scope.now }
     ensures shapes { (t : ThingSeen) → slice_get scope.now.own.things place ≡ Some t
-        → OnOk result (map written formats.new.items ≡ map written formats.old.items ++ replicate (cells_of t) (shape_of t)) }
+        → OnOk result (map shape_written formats.new.items ≡ map shape_written formats.old.items ++ replicate (cells_of t) (shape_of t)) }
     ensures starts { (t : ThingSeen) → slice_get scope.now.own.things place ≡ Some t
         → OnOk result (starts.new.items ≡ starts.old.items ++ starts_of t) }
 {
@@ -181,7 +181,7 @@ fn push_place(
 #[tactic(auto, using(crate::proofs::Planned::cell_plan_laws))]
 pub(crate) fn cell_plan(alloc: Global, scope: &Scope) -> Result<CellPlan, Memory>
     requires sound { IsSound scope.now }
-    ensures shapes { IfOk result (λ p. map written p.formats.items ≡ cell_shapes scope.now.own) }
+    ensures shapes { IfOk result (λ p. map shape_written p.formats.items ≡ cell_shapes scope.now.own) }
     ensures starts { IfOk result (λ p. p.starts.items ≡ cell_starts scope.now.own) }
 {
     let mut formats = Vec::new(alloc);

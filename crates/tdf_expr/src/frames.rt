@@ -38,7 +38,7 @@ ghost use Rattle.tdf_expr.specs.Frames.{IsAllowedRate};
 ghost use Rattle.tdf_expr.specs.Made.{block_count, cell_formats, rate_spans_of, start_cells, start_rates};
 ghost use Rattle.tdf_expr.specs.declared.spans.RateSpan.{RateSpan as RateSpanOf};
 ghost use Rattle.tdf_fixed.specs.Cast.{fraction_of};
-ghost use Rattle.tdf_fixed.specs.Overflow.{IsIn};
+ghost use Rattle.tdf_fixed.specs.Overflow.{IsOfWidth};
 ghost use Rattle.tdf_fixed.specs.declared.format.Format.{Format as FormatOf};
 ghost use Rattle.tdf_expr_state.specs.State.{cell_at};
 
@@ -109,7 +109,7 @@ impl Frame {
     pub fn set_cell(&mut self, i: u32, num: i128)
         requires cell { i < length self.old.formats }
         requires range { (f : FormatOf) → slice_get self.old.formats i ≡ Some f
-            → IsIn f.signed f.wl num }
+            → IsOfWidth f.signed f.wl num }
         ensures { self.new ≡ record self.old {
           state = record self.old.state { cells = slice_set self.old.state.cells i num };
         } }

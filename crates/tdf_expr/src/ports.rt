@@ -2,7 +2,7 @@
 
 ghost use Rattle.std.specs.Prelude.{◌≡◌, ◌++◌, ◌+◌, ◌∷◌, ◌≤◌, ◌^◌, List, length, map, slice_get, Some, OnOk, IfOk};
 ghost use Rattle.tdf_expr.specs.machine.Cells.{IsPortKept};
-ghost use Rattle.tdf_expr.specs.Plans.{place_of_port, places_from, port_places};
+ghost use Rattle.tdf_expr.specs.Plans.{place_of_span, places_from, port_places};
 ghost use Rattle.tdf_expr_semantics.specs.Places.{samples_of, sample_shapes};
 ghost use Rattle.tdf_expr_symbols.specs.Names.{Thing as ThingSeen};
 ghost use Rattle.tdf_expr_symbols.specs.Scope.{greatest_of};
@@ -51,8 +51,8 @@ fn push_port(
 ) -> Result<u32, Memory>
     requires few { first ≤ 2 ^ 31 }
     requires kept { IsPortKept (seen thing) }
-    ensures spans { (rest : List ThingSeen) → IfOk result (λ next. map place_of_port spans.new.items ++ places_from scope.now.own next rest
-        ≡ map place_of_port spans.old.items ++ places_from scope.now.own first (seen thing.entry ∷ rest)) }
+    ensures spans { (rest : List ThingSeen) → IfOk result (λ next. map place_of_span spans.new.items ++ places_from scope.now.own next rest
+        ≡ map place_of_span spans.old.items ++ places_from scope.now.own first (seen thing.entry ∷ rest)) }
     ensures next { IfOk result (λ next. next ≡ first + samples_of scope.now.own (seen thing.entry)) }
     ensures few { IfOk result (λ next. next ≤ 2 ^ 31) }
 {
@@ -83,8 +83,8 @@ fn push_place(
     requires few { first ≤ 2 ^ 31 }
     requires sound { IsSound scope.now }
     ensures spans { (t : ThingSeen) (rest : List ThingSeen) → slice_get scope.now.own.things place ≡ Some t
-        → IfOk result (λ next. map place_of_port spans.new.items ++ places_from scope.now.own next rest
-        ≡ map place_of_port spans.old.items ++ places_from scope.now.own first (t ∷ rest)) }
+        → IfOk result (λ next. map place_of_span spans.new.items ++ places_from scope.now.own next rest
+        ≡ map place_of_span spans.old.items ++ places_from scope.now.own first (t ∷ rest)) }
     ensures next { (t : ThingSeen) → slice_get scope.now.own.things place ≡ Some t
         → IfOk result (λ next. next ≡ first + samples_of scope.now.own t) }
     ensures few { IfOk result (λ next. next ≤ 2 ^ 31) }
@@ -110,7 +110,7 @@ pub(crate) struct PortPlan {
 #[tactic(auto, using(crate::proofs::Ported::plan_laws))]
 pub(crate) fn port_plan(alloc: Global, scope: &Scope) -> Result<PortPlan, Memory>
     requires sound { IsSound scope.now }
-    ensures spans { IfOk result (λ p. map place_of_port p.spans.items ≡ port_places scope.now.own) }
+    ensures spans { IfOk result (λ p. map place_of_span p.spans.items ≡ port_places scope.now.own) }
     ensures samples { IfOk result (λ p. p.samples ≡ length (sample_shapes scope.now.own)) }
 {
     let mut spans = Vec::new(alloc);

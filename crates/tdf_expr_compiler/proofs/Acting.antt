@@ -20,7 +20,7 @@ use Rattle.tdf_base.proofs.Api.{if_none, none_first, none_second}
 use Rattle.tdf_base.specs.First.{fault_if}
 use Rattle.tdf_fixed.specs.Cast.{IsLegal}
 use Rattle.tdf_fixed.specs.declared.raw.Raw.{Raw}
-use Rattle.tdf_expr_machine.specs.Acts.{acted, with_rate_of, IsSafeAct, rate_of as rate_in}
+use Rattle.tdf_expr_machine.specs.Acts.{acted, with_rate_of, IsSafeAct, rate_within as rate_in}
 use Rattle.tdf_expr_machine.specs.Nodes.{node_value, IsCastable}
 use Rattle.tdf_expr_machine.specs.Turns.{turned, AreTurnsSafe, repeated as repeated_acts}
 use Rattle.tdf_expr_machine.specs.declared.acts.Act.{Act}
@@ -35,7 +35,7 @@ use Rattle.tdf_expr_semantics.specs.Value.{value}
 use Rattle.tdf_expr_symbols.specs.Faults.{expr_faults, stmt_faults, stmts_faults, limit_faults, is_wide_cast, shape_in, target_faults, notifies, changes, opened}
 use Rattle.tdf_expr_symbols.specs.Index.{kind_faults}
 use Rattle.tdf_expr_symbols.specs.Kinds.{is_allowed}
-use Rattle.tdf_expr_symbols.specs.Names.{Names, Thing, Const, Var, Array, Port, RateVar, Event, Signal, DeSignal, Loop, TypeName, at_place, kind_of, place_of, shape_of, thing_of}
+use Rattle.tdf_expr_symbols.specs.Names.{Names, Thing, Const, Var, Array, Port, RateVar, Event, Signal, DeSignal, Loop, TypeName, found_at, kind_of, place_of, shape_of, thing_of}
 use Rattle.tdf_expr_symbols.specs.Scope.{Scope, OpenLoop, named, as_thing, first_some, least_of, loop_place}
 use Rattle.tdf_expr_symbols.specs.Sound.{HasFormat, IsSound, IsThingSound}
 use Rattle.tdf_expr_symbols.specs.Width.{width, fraction_bits}
@@ -76,7 +76,7 @@ IsOwn _ = Unit {0}
 
 own_thing : (scope : Scope) (loops : List OpenLoop) (name : List ℕ) (t : Thing) → IsOwn t → named scope loops name ≡ Some t → thing_of scope.own name ≡ Some t
 unfolding named
-own_thing scope loops name t own is = go (at_place loops (loop_place loops name)) is
+own_thing scope loops name t own is = go (found_at loops (loop_place loops name)) is
   where
     owned : Option Thing → Type 0
     owned None = Unit {0}
@@ -168,7 +168,7 @@ module _ (scope : Scope) (loops : List OpenLoop) where
           let able : (shape : Shape) → shape_in (Some t) ≡ Some shape → IsCastable (node_value node s turns) part (fraction_bits shape) =
           λ shape is. cast_able e node part turns s shape given
           (ap (λ o. is_wide_cast o (width scope loops e)) (sym is ∙ ap shape_in (sym x.named_is)) ∙ wide) in
-          let here : slice_get scope.own.things f.place ≡ Some t = ap (at_place scope.own.things) (sym f.at) ∙ f.is in
+          let here : slice_get scope.own.things f.place ≡ Some t = ap (found_at scope.own.things) (sym f.at) ∙ f.is in
           let done = sets.at turns s at here x.k x.k_is x.has given.safe able in
           let v = value scope loops turns s e in
           record {
@@ -237,7 +237,7 @@ module _ (scope : Scope) (loops : List OpenLoop) where
       at = λ turns s fits running.
           let none = none_second (fault_if (not (notifies fine.body)) code.Kind line) _ fine.none in
           let is = notified_is line event none in
-          let here : slice_get scope.own.things f.place ≡ Some Event = ap (at_place scope.own.things) (sym f.at) ∙ is in
+          let here : slice_get scope.own.things f.place ≡ Some Event = ap (found_at scope.own.things) (sym f.at) ∙ is in
           let count = before_total events_of scope.own.things f.place Event here in
           record {
             safe = rw f.numbered.event (omega (arith, count, fits.ports.notified));
@@ -260,7 +260,7 @@ module _ (scope : Scope) (loops : List OpenLoop) where
           let at = at_state scope loops turns s fine.depth fine.sound fine.room fits running in
           let none = none_second (kind_faults place.Rate (named scope loops name) line) _ (none_second (fault_if (not (changes scope fine.body)) code.Kind line) _ fine.none) in
           let given = operand scope loops fine.body line e node part turns s computes none at in
-          let here : slice_get scope.own.things f.place ≡ Some t = ap (at_place scope.own.things) (sym f.at) ∙ f.is in
+          let here : slice_get scope.own.things f.place ≡ Some t = ap (found_at scope.own.things) (sym f.at) ∙ f.is in
           let done = sets.at turns s at here given.safe (omega (arith, given.few)) in
           let v = value scope loops turns s e in
           record {
@@ -305,7 +305,7 @@ module _ (scope : Scope) (loops : List OpenLoop) where
       at = λ turns s fits running.
           let none = none_first (kind_faults place.Port (named scope loops port) line) _ (none_second (fault_if (not (changes scope fine.body)) code.Kind line) _ fine.none) in
           let x = stepped_is line port none in
-          let here : slice_get scope.own.things f.place ≡ Some x.0 = ap (at_place scope.own.things) (sym f.at) ∙ x.1 in
+          let here : slice_get scope.own.things f.place ≡ Some x.0 = ap (found_at scope.own.things) (sym f.at) ∙ x.1 in
           let count = before_total ports_of scope.own.things f.place x.0 here in
           let one : ports_of x.0 ≡ 1 = port_counts x.0 x.2 in
           let number : p.port + 1 ≡ 1 + port_number scope.own f.place = omega (arith, f.numbered.port) in

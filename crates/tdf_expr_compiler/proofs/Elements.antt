@@ -18,12 +18,12 @@ use Rattle.tdf_expr_semantics.specs.Value.{index_value, own_value}
 use Rattle.tdf_expr_symbols.specs.Faults.{expr_faults, own_faults}
 use Rattle.tdf_expr_symbols.specs.Index.{kind_faults, index_faults}
 use Rattle.tdf_expr_symbols.specs.Kinds.{is_allowed}
-use Rattle.tdf_expr_symbols.specs.Names.{Thing, Array, Port, Loop, kind_of, shape_of, thing_of, at_place}
+use Rattle.tdf_expr_symbols.specs.Names.{Thing, Array, Port, Loop, kind_of, shape_of, thing_of, found_at}
 use Rattle.tdf_expr_symbols.specs.Scope.{Scope, OpenLoop, named, loop_of, loop_place, first_some, as_thing, greatest_of}
 use Rattle.tdf_expr_symbols.specs.Seen.{seen}
 use Rattle.tdf_expr_symbols.specs.declared.things.Thing.{Thing as Held}
 use Rattle.tdf_expr_symbols.specs.declared.things.Thing.TheVariants as held
-use Rattle.tdf_expr_symbols.specs.Width.{width, of_thing, of_shape}
+use Rattle.tdf_expr_symbols.specs.Width.{width, of_thing, width_of_shape}
 use Rattle.tdf_expr_symbols.specs.declared.kinds.Kind.{Kind}
 use Rattle.tdf_expr_symbols.specs.declared.kinds.Part.{Part}
 use Rattle.tdf_expr_symbols.specs.declared.kinds.Part.TheVariants as part
@@ -150,7 +150,7 @@ module _ (scope : Scope) (loops : List OpenLoop) where
 
       go : (o : Option Thing) → loop_of loops name ≡ o → kind_faults (place.Element body) (first_some (loop_of loops name) (thing_of scope.own name)) line ≡ []
           → first_some (loop_of loops name) (thing_of scope.own name) ≡ thing_of scope.own name
-      go o at e = shown (at_place loops (loop_place loops name)) e
+      go o at e = shown (found_at loops (loop_place loops name)) e
 
   kind_none : (body : Part) (line : ℕ) (name : List ℕ) (i : Index) → expr_faults scope loops body line (EAt name i) ≡ [] → kind_faults (place.Element body) (named scope loops name) line ≡ []
   unfolding expr_faults
@@ -161,11 +161,11 @@ module _ (scope : Scope) (loops : List OpenLoop) where
   index_none body line name i e = none_second (kind_faults (place.Element body) (named scope loops name) line) _ (none_first (own_faults scope loops body line (EAt name i)) _ e)
 
   pub computes_element : (name : List ℕ) (i : Index) (t : Thing) (p : Numbers) (code : Node) (f : IsFound scope.own name t p) → IsIndexed scope loops f.place t i code
-      → Computes scope loops (EAt name i) code (min (of_shape (shape_of t)).part 255)
+      → Computes scope loops (EAt name i) code (min (width_of_shape (shape_of t)).part 255)
   computes_element name i t p code f indexed = record {
     part_is = λ body line none.
         let is = named_element body line name (kind_none body line name i none) ∙ f.is in
-        let part : (width scope loops (EAt name i)).part ≡ (of_shape (shape_of t)).part = ap (λ o. (of_thing o).part) is ∙ part_thing t in
+        let part : (width scope loops (EAt name i)).part ≡ (width_of_shape (shape_of t)).part = ap (λ o. (of_thing o).part) is ∙ part_thing t in
         omega (arith, part, at_few scope loops body line name i none);
     gives = λ body line turns s none at.
         let kind = kind_none body line name i none in

@@ -17,7 +17,7 @@ use Rattle.tdf_expr_semantics.specs.Bodies.{rate_at, rate_of}
 use Rattle.tdf_expr_semantics.specs.Places.{rate_limits, rate_number}
 use Rattle.tdf_expr_symbols.specs.Faults.{multiple_faults}
 use Rattle.tdf_expr_symbols.specs.Index.{kind_faults}
-use Rattle.tdf_expr_symbols.specs.Names.{Thing, RateVar, thing_of, at_place}
+use Rattle.tdf_expr_symbols.specs.Names.{Thing, RateVar, thing_of, found_at}
 use Rattle.tdf_expr_symbols.specs.Scope.{Scope, OpenLoop, named, greatest_of}
 use Rattle.tdf_expr_symbols.specs.declared.kinds.Place.TheVariants as place
 use Rattle.tdf_lang_tree.specs.declared.stmt.Limit.TheVariants as limit
@@ -64,7 +64,7 @@ pub rate_end : (scope : Scope) (factor : ℕ) (name : List ℕ) (t : Thing) (p :
 rate_end scope factor name t p f = record {
   at = λ least greatest start is most few s fits.
       let same : t ≡ RateVar least greatest start = some_thing t (RateVar least greatest start) (sym f.is ∙ is) in
-      let here : slice_get scope.own.things f.place ≡ Some (RateVar least greatest start) = ap (at_place scope.own.things) (sym f.at) ∙ is in
+      let here : slice_get scope.own.things f.place ≡ Some (RateVar least greatest start) = ap (found_at scope.own.things) (sym f.at) ∙ is in
       let limits = limits_placed scope.own.things f.place least greatest start here in
       let bounds = fits.frame.rates.each (rate_number scope.own f.place) (record { least = least; greatest = greatest }) limits in
       let inside = slice_get_within (rate_limits scope.own) (rate_number scope.own f.place) _ limits in

@@ -16,7 +16,7 @@ use Rattle.tdf_base.proofs.Api.{if_none, none_first, none_second}
 use Rattle.tdf_fixed.specs.Cast.{cast_of, IsLegal}
 use Rattle.tdf_fixed.specs.declared.format.Format.{Format}
 use Rattle.tdf_fixed.specs.declared.raw.Raw.{Raw}
-use Rattle.tdf_expr_machine.specs.Nodes.{holds, IsRaised, IsCastable}
+use Rattle.tdf_expr_machine.specs.Nodes.{is_true, IsRaised, IsCastable}
 use Rattle.tdf_expr_machine.specs.declared.nodes.Node.{Node}
 use Rattle.tdf_expr_machine.specs.declared.nodes.Node.TheVariants.{Const, Not', Negative', Up', Cast'}
 use Rattle.tdf_expr_semantics.proofs.Api.{global_sound}
@@ -26,7 +26,7 @@ use Rattle.tdf_expr_symbols.specs.Index.{kind_faults}
 use Rattle.tdf_expr_symbols.specs.Names.{Thing, TypeName, thing_of, type_shape}
 use Rattle.tdf_expr_symbols.specs.Scope.{Scope, OpenLoop}
 use Rattle.tdf_expr_symbols.specs.Sound.{IsSound}
-use Rattle.tdf_expr_symbols.specs.Width.{Width, width, joint, of_binary, of_shape, fraction_bits}
+use Rattle.tdf_expr_symbols.specs.Width.{Width, width, joint, of_binary, width_of_shape, fraction_bits}
 use Rattle.tdf_expr_symbols.specs.declared.kinds.Part.{Part}
 use Rattle.tdf_expr_symbols.specs.declared.kinds.Place.TheVariants as place
 use Rattle.tdf_expr_state.specs.State.{State}
@@ -52,7 +52,7 @@ is_false : (b : Bool) → (b ≡ true → ⊥) → b ≡ false
 is_false true never = absurd (never refl)
 is_false false never = refl
 
-pub same_holds : (z : ℤ) → holds z ≡ not (int_eq z (pos 0))
+pub same_holds : (z : ℤ) → is_true z ≡ not (int_eq z (pos 0))
 same_holds (pos zero) = refl
 same_holds (pos (suc n)) = ap not (sym (is_false (int_eq (pos (suc n)) (pos 0)) (λ e. some n ((Decides-int_eq (pos (suc n)) (pos 0)).0 e))))
   where
@@ -275,9 +275,9 @@ module _ (scope : Scope) (loops : List OpenLoop) (x : PureExpr) (a : Node) (f : 
       (omega (arith, few), below_most (i + p + (g - p)) (unsigned_abs u * 2 ^ (g - p)) count (omega (arith, times, power)))
 
   pub computes_cast : (p : Box (Unit {0}) Global) (name : List ℕ) (shape : Shape) (format : Format) → IsFormatOf shape format → IsLegal shape.wl shape.iwl
-      → cast_shape scope name ≡ Some shape → Computes scope loops x a f → Computes scope loops (ECast name x) (Cast' p a f format) (min (of_shape (Some shape)).part 255)
+      → cast_shape scope name ≡ Some shape → Computes scope loops x a f → Computes scope loops (ECast name x) (Cast' p a f format) (min (width_of_shape (Some shape)).part 255)
   computes_cast p name shape format is legal named inner = record {
-    part_is = λ body line none. omega (arith, legal.fraction_bits, ap (λ o. (of_shape o).part) named);
+    part_is = λ body line none. omega (arith, legal.fraction_bits, ap (λ o. (width_of_shape o).part) named);
     gives = λ body line turns s none at.
         let given = operand scope loops body line x a f turns s inner (inner_cast body line name none) at in
         let wide = cast_few shape (ap (λ o. is_wide_cast o (width scope loops x)) (sym named) ∙ own_cast body line name none) in
@@ -291,7 +291,7 @@ module _ (scope : Scope) (loops : List OpenLoop) (x : PureExpr) (a : Node) (f : 
 
   pub computes_no_cast : (name : List ℕ) → cast_shape scope name ≡ None → Computes scope loops (ECast name x) (Const (pos 0)) 0
   computes_no_cast name named = record {
-    part_is = λ body line none. sym (ap (λ o. (of_shape o).part) named);
+    part_is = λ body line none. sym (ap (λ o. (width_of_shape o).part) named);
     gives = λ body line turns s none at. record { safe = tt; num = sym (ap (λ o. (cast_in o (value scope loops turns s x)).num) named) };
   }
 

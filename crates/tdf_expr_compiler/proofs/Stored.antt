@@ -17,13 +17,13 @@ use Rattle.tdf_expr_machine.specs.declared.nodes.Node.TheVariants as node
 use Rattle.tdf_expr_semantics.specs.Places.{cells_of, samples_of, first_cell, first_sample, rate_number, cell_shapes, sample_shapes, rate_limits}
 use Rattle.tdf_expr_semantics.specs.Value.{of_shape as number_in, value, element, element_at, own_value, turn_or, literal_in}
 use Rattle.tdf_expr_symbols.specs.Faults.{expr_faults, own_faults, wide_faults, is_wide}
-use Rattle.tdf_expr_symbols.specs.Names.{Names, Thing, Const, Var, Array, Port, RateVar, Event, Signal, DeSignal, Instance, Loop, TypeName, Tdf, De, Composite, shape_of, thing_of, place_of, at_place}
+use Rattle.tdf_expr_symbols.specs.Names.{Names, Thing, Const, Var, Array, Port, RateVar, Event, Signal, DeSignal, Instance, Loop, TypeName, Tdf, De, Composite, shape_of, thing_of, place_of, found_at}
 use Rattle.tdf_expr_symbols.specs.Scope.{Scope, OpenLoop, named, loop_of, loop_place, first_some, as_thing}
 use Rattle.tdf_expr_symbols.specs.Sound.{IsThingSound, HasFormat}
 use Rattle.tdf_expr_symbols.specs.Seen.{seen}
 use Rattle.tdf_expr_symbols.specs.declared.things.Thing.{Thing as Held}
 use Rattle.tdf_expr_symbols.specs.declared.things.Thing.TheVariants as held
-use Rattle.tdf_expr_symbols.specs.Width.{width, of_thing, of_shape}
+use Rattle.tdf_expr_symbols.specs.Width.{width, of_thing, width_of_shape}
 use Rattle.tdf_expr_symbols.specs.declared.kinds.Part.{Part}
 use Rattle.tdf_expr_state.specs.State.{State, cell_at}
 use Rattle.tdf_lang_tree.specs.Pure.{EName, EAt}
@@ -38,7 +38,7 @@ kept_of own (Const shape value) sound = sound
 kept_of own _ sound = tt
 
 -- the bits after the point are those of the format
-pub part_thing : (t : Thing) → (of_thing (Some t)).part ≡ (of_shape (shape_of t)).part
+pub part_thing : (t : Thing) → (of_thing (Some t)).part ≡ (width_of_shape (shape_of t)).part
 part_thing (Const shape value) = refl
 part_thing (Var shape start) = refl
 part_thing (Array shape size starts) = refl
@@ -75,7 +75,7 @@ module _ (scope : Scope) (loops : List OpenLoop) where
       omega (arith, few_bits w.whole w.part line (none_second (own_faults scope loops body line (EAt name i)) (wide_faults w line) e))
 
   loop_none : (name : List ℕ) → loop_place loops name ≡ None → loop_of loops name ≡ None
-  loop_none name e = ap (λ o. option_map as_thing (at_place loops o)) e
+  loop_none name e = ap (λ o. option_map as_thing (found_at loops o)) e
 
   pub named_own : (name : List ℕ) → loop_place loops name ≡ None → named scope loops name ≡ thing_of scope.own name
   unfolding named
@@ -90,7 +90,7 @@ module _ (scope : Scope) (loops : List OpenLoop) where
   unfolding named
   named_loop name depth e =
       let l = has_at loops depth (place_within loops name depth e) in
-      (l.0, ap (λ o. first_some (option_map as_thing o) (thing_of scope.own name)) (ap (at_place loops) e ∙ l.1))
+      (l.0, ap (λ o. first_some (option_map as_thing o) (thing_of scope.own name)) (ap (found_at loops) e ∙ l.1))
 
   -- a loop variable
   pub computes_loop : (name : List ℕ) (depth : ℕ) → loop_place loops name ≡ Some depth
@@ -119,14 +119,14 @@ module _ (scope : Scope) (loops : List OpenLoop) where
   own_found name n t s k at is = ap (λ o. element_at scope.own s o (thing_of scope.own name) (pos k)) at ∙ ap (λ o. element_at scope.own s (Some n) o (pos k)) is
 
   pub thing_at : (name : List ℕ) (n : ℕ) (t : Thing) → place_of scope.own name ≡ Some n → thing_of scope.own name ≡ Some t → slice_get scope.own.things n ≡ Some t
-  thing_at name n t at is = ap (at_place scope.own.things) (sym at) ∙ is
+  thing_at name n t at is = ap (found_at scope.own.things) (sym at) ∙ is
 
   -- a bare name of the block
   pub computes_stored : (name : List ℕ) (t : Thing) (p : Numbers) (node : Node) (f : IsFound scope.own name t p) → loop_place loops name ≡ None
-      → IsWhole scope loops f.place t node → Computes scope loops (EName name) node (min (of_shape (shape_of t)).part 255)
+      → IsWhole scope loops f.place t node → Computes scope loops (EName name) node (min (width_of_shape (shape_of t)).part 255)
   computes_stored name t p node f e whole =
       let is : named scope loops name ≡ Some t = named_own name e ∙ f.is in
-      let part : (width scope loops (EName name)).part ≡ (of_shape (shape_of t)).part = ap (λ o. (of_thing o).part) is ∙ part_thing t in
+      let part : (width scope loops (EName name)).part ≡ (width_of_shape (shape_of t)).part = ap (λ o. (of_thing o).part) is ∙ part_thing t in
       record {
         part_is = λ body line none. omega (arith, part, name_few body line name none);
         gives = λ body line turns s none at.

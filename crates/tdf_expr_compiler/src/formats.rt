@@ -7,7 +7,7 @@ ghost use Rattle.tdf_fixed.specs.Cast.{IsLegal};
 ghost use Rattle.tdf_fixed.specs.Literal.{decimal_of};
 ghost use Rattle.tdf_fixed.specs.declared.raw.Raw.{Raw as RawOf};
 ghost use Rattle.tdf_expr_semantics.specs.Value.{literal_number};
-ghost use Rattle.tdf_expr_symbols.specs.Width.{of_shape};
+ghost use Rattle.tdf_expr_symbols.specs.Width.{width_of_shape};
 ghost use Rattle.tdf_lang_tree.specs.Kept.{KeepsLit};
 
 use std::alloc::Global;
@@ -31,7 +31,7 @@ pub fn format_of(shape: Shape) -> Format
 
 /// The bits after the point of a format, at most 255.
 pub(crate) fn part_of(shape: Option<Shape>) -> u8
-    ensures { result ≡ min (of_shape shape).part 255 }
+    ensures { result ≡ min (width_of_shape shape).part 255 }
 {
     match shape {
         None => 0,

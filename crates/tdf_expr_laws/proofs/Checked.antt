@@ -3,8 +3,8 @@ use Rattle.std.proofs.Common.{◌≡◌, ℕ, zero, suc, List, [], ◌∷◌, Op
 use Rattle.std.specs.Prelude.{slice_get}
 use Rattle.tdf_expr.specs.Blocks.{PureBlock, blocks_of, scope_of}
 use Rattle.tdf_expr.specs.Compiled.{AreBlocksOf, IsBlockOf}
-use Rattle.tdf_expr.specs.Made.{events_in, formats_in, rates_in, samples_in, spans_in, starts_in}
-use Rattle.tdf_expr.specs.Plans.{cell_starts, place_of_port, port_places, rate_spans, written}
+use Rattle.tdf_expr.specs.Made.{events_in, formats_in, block_rates, block_samples, spans_in, starts_in}
+use Rattle.tdf_expr.specs.Plans.{cell_starts, place_of_span, port_places, rate_spans, shape_written}
 use Rattle.tdf_expr.specs.declared.blocks.Block.{Block}
 use Rattle.tdf_expr_laws.specs.Checked.{CheckedIsOfTree}
 use Rattle.tdf_expr_semantics.specs.Places.{cell_shapes, events_of, sample_shapes, total}
@@ -19,11 +19,11 @@ some_is x y e = ap held e
 
 -- what is read of the block at a place
 pub record IsRead (own : Names) (o : Option Block) : Type 0 where
-  pub formats : map written (formats_in o) ≡ cell_shapes own
+  pub formats : map shape_written (formats_in o) ≡ cell_shapes own
   pub starts : starts_in o ≡ cell_starts own
-  pub rates : rates_in o ≡ rate_spans own
-  pub ports : map place_of_port (spans_in o) ≡ port_places own
-  pub samples : samples_in o ≡ length (sample_shapes own)
+  pub rates : block_rates o ≡ rate_spans own
+  pub ports : map place_of_span (spans_in o) ≡ port_places own
+  pub samples : block_samples o ≡ length (sample_shapes own)
   pub events : events_in o ≡ total events_of own.things
 
 module _ (globals : Names) where

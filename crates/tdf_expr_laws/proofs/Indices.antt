@@ -14,7 +14,7 @@ use Rattle.tdf_expr_semantics.specs.Bodies.{limit_value, rate_at, rate_of}
 use Rattle.tdf_expr_semantics.specs.Fits.{StateFits}
 use Rattle.tdf_expr_semantics.specs.Places.{rate_number}
 use Rattle.tdf_expr_semantics.specs.Value.{turn_of, turn_number}
-use Rattle.tdf_expr_symbols.specs.Index.{size_of, name_in, name_faults, is_negative, greatest_index, Multiple, multiple_of, is_within, is_multiple_within, is_excepted, breaks, breaks_in, breaks_size, kind_faults, index_faults}
+use Rattle.tdf_expr_symbols.specs.Index.{size_of, name_in, index_kind_faults, is_index_negative, greatest_index, Multiple, multiple_of, is_within, is_multiple_within, is_excepted, breaks, breaks_in, breaks_size, kind_faults, index_faults}
 use Rattle.tdf_expr_state.specs.State.{State}
 use Rattle.tdf_expr_symbols.specs.Names.{Names, Thing, Loop, RateVar, place_of, thing_of}
 use Rattle.tdf_expr_symbols.specs.Scope.{Scope, OpenLoop, named, least_rate, least_of, greatest_of}
@@ -65,7 +65,7 @@ record IsAt (scope : Scope) (s : State) (loops : List OpenLoop) (turns : List �
   from : ℕ
   end : Limit
   turn : IsTurn scope.own s loops turns name from end
-  negative : is_negative i from (greatest_of scope.own end - 1) ≡ false
+  negative : is_index_negative i from (greatest_of scope.own end - 1) ≡ false
   upper : (is_excepted i end size ≡ true) ⊎ (nat_lt (greatest_index i from (greatest_of scope.own end - 1)) (least_of scope.own size) ≡ true)
 
 two_parts : (a b c : Bool) → a || (not b && not c) ≡ false → (a ≡ false) × ((b ≡ true) ⊎ (c ≡ true))
@@ -81,7 +81,7 @@ is_at scope s loops turns i name size line sound run none inside =
     let kind = of_kind place.Index (named scope loops name) line none in
     let loop = is_loop kind.thing kind.allowed in
     let is : named scope loops name ≡ Some (Loop loop.0 loop.1) = kind.is ∙ ap (λ (t : Thing). Some t) loop.2 in
-    let parts = two_parts (is_negative i loop.0 (greatest_of scope.own loop.1 - 1)) (is_excepted i loop.1 size)
+    let parts = two_parts (is_index_negative i loop.0 (greatest_of scope.own loop.1 - 1)) (is_excepted i loop.1 size)
     (nat_lt (greatest_index i loop.0 (greatest_of scope.own loop.1 - 1)) (least_of scope.own size))
     (ap (breaks scope.own size i) (sym is) ∙ inside) in
     record {
@@ -254,11 +254,11 @@ module _ (scope : Scope) (s : State) (loops : List OpenLoop) (turns : List ℕ) 
 pub inside : LiesBelowRate
 unfolding index_faults
 inside scope loops line t size i turns s sound size_is none fits run =
-    by_form i (none_first (name_faults scope loops line (name_in i)) _ none)
+    by_form i (none_first (index_kind_faults scope loops line (name_in i)) _ none)
     (ap (λ (o : Option Limit). breaks_size scope loops o i) (sym size_is)
-    ∙ if_none (breaks_size scope loops (size_of (Some t)) i) code.Index line (none_second (name_faults scope loops line (name_in i)) _ none))
+    ∙ if_none (breaks_size scope loops (size_of (Some t)) i) code.Index line (none_second (index_kind_faults scope loops line (name_in i)) _ none))
   where
-    by_form : (j : Index) → name_faults scope loops line (name_in j) ≡ [] → breaks_in scope loops size j (name_in j) ≡ false → IsIndexInForce scope.own s loops turns j size
+    by_form : (j : Index) → index_kind_faults scope loops line (name_in j) ≡ [] → breaks_in scope loops size j (name_in j) ≡ false → IsIndexInForce scope.own s loops turns j size
     by_form (index.Int n) a b = at_int scope s loops turns size fits n b
     by_form (index.Var x) a b = at_var scope s loops turns size fits x (is_at scope s loops turns (index.Var x) x size line sound run a b)
     by_form (index.Plus x n) a b = at_plus scope s loops turns size fits x n (is_at scope s loops turns (index.Plus x n) x size line sound run a b)

@@ -4,7 +4,7 @@ use Rattle.std.proofs.Math.ListN.{get_or}
 use Rattle.std.proofs.lemmas.List.{get_or-set_same, get_or-set_other}
 use Rattle.std.proofs.lemmas.Option.{slice_get_within}
 use Rattle.std.specs.Prelude.{slice_get, slice_index_or}
-use Rattle.tdf_expr_laws.specs.Maps.{AreMarkMaps, AreNoticeMaps, AreRateMaps, AreStepMaps, IsOneOf, IsRateVar}
+use Rattle.tdf_expr_laws.specs.Maps.{AreMarkMaps, AreNoticeMaps, AreRateMaps, AreStepMaps, IsThingOf, IsRateVar}
 use Rattle.tdf_expr_semantics.proofs.Api.{limits_placed}
 use Rattle.tdf_expr_semantics.specs.Fits.{StateFits}
 use Rattle.tdf_expr_semantics.specs.Places.{before, event_number, events_of, port_number, ports_of, rate_limits, rate_number, rates_of, total}
@@ -39,10 +39,10 @@ inside count (x ∷ things) zero t at one = let some : count x ≡ 1 = ap count 
 inside count (x ∷ things) (suc n) t at one = let rest = inside count things n t at one in omega (arith, rest)
 
 module _ (count : Thing → ℕ) (own : Names) where
-  pub here : (n : ℕ) → IsOneOf count own n → before count own.things n < total count own.things
+  pub here : (n : ℕ) → IsThingOf count own n → before count own.things n < total count own.things
   here n is = inside count own.things n is.0 is.1 is.2
 
-  pub elsewhere : (n m : ℕ) → IsOneOf count own n → IsOneOf count own m → (n ≡ m → ⊥) → before count own.things m ≡ before count own.things n → ⊥
+  pub elsewhere : (n m : ℕ) → IsThingOf count own n → IsThingOf count own m → (n ≡ m → ⊥) → before count own.things m ≡ before count own.things n → ⊥
   elsewhere n m is too other same = other (apart count own.things n m is.0 too.0 is.1 too.1 is.2 too.2 (sym same))
 
 rate_inside : (own : Names) (s : State) (n : ℕ) → StateFits own s → IsRateVar own n → rate_number own n < length s.frame.rates

@@ -5,7 +5,7 @@ use Rattle.tdf_expr.specs.Blocks.{PureBlock, blocks_of, scope_of}
 use Rattle.tdf_expr.specs.Checked.{IsCheckedOf}
 use Rattle.tdf_expr.specs.Made.{block_count, cell_formats, event_count, port_spans_of, rate_spans_of}
 use Rattle.tdf_expr.specs.Made.{sample_count, start_cells}
-use Rattle.tdf_expr.specs.Plans.{cell_starts, place_of_port, port_places, rate_spans, written}
+use Rattle.tdf_expr.specs.Plans.{cell_starts, place_of_span, port_places, rate_spans, shape_written}
 use Rattle.tdf_expr.specs.declared.checked.Checked.{Checked}
 use Rattle.tdf_expr_semantics.specs.Places.{cell_shapes, events_of, sample_shapes, total}
 use Rattle.tdf_expr_symbols.specs.Names.{Names, globals_of}
@@ -14,10 +14,10 @@ use Rattle.tdf_lang_tree.specs.Pure.{PureTree}
 
 -- of a block: formats and starting values of its cells, rate variables, ports, samples and events
 pub record IsReadOff (own : Names) (checked : Checked) (number : ℕ) : Type 0 where
-  pub formats : map written (cell_formats checked number) ≡ cell_shapes own
+  pub formats : map shape_written (cell_formats checked number) ≡ cell_shapes own
   pub starts : start_cells checked number ≡ cell_starts own
   pub rates : rate_spans_of checked number ≡ rate_spans own
-  pub ports : map place_of_port (port_spans_of checked number) ≡ port_places own
+  pub ports : map place_of_span (port_spans_of checked number) ≡ port_places own
   pub samples : sample_count checked number ≡ length (sample_shapes own)
   pub events : event_count checked number ≡ total events_of own.things
 

@@ -9,17 +9,17 @@ use Rattle.tdf_expr_state.specs.State.{State, least_time, with_notice, with_rate
 use Rattle.tdf_expr_symbols.specs.Names.{Names, Thing}
 
 -- the n-th name is one of a kind, of which each has one place
-abbrev pub IsOneOf : (Thing → ℕ) → Names → ℕ → Type 0
-IsOneOf count own n = (t : Thing) × (slice_get own.things n ≡ Some t) × (count t ≡ 1)
+abbrev pub IsThingOf : (Thing → ℕ) → Names → ℕ → Type 0
+IsThingOf count own n = (t : Thing) × (slice_get own.things n ≡ Some t) × (count t ≡ 1)
 
 abbrev pub IsRateVar : Names → ℕ → Type 0
-IsRateVar own n = IsOneOf rates_of own n
+IsRateVar own n = IsThingOf rates_of own n
 
 abbrev pub IsPort : Names → ℕ → Type 0
-IsPort own n = IsOneOf ports_of own n
+IsPort own n = IsThingOf ports_of own n
 
 abbrev pub IsEvent : Names → ℕ → Type 0
-IsEvent own n = IsOneOf events_of own n
+IsEvent own n = IsThingOf events_of own n
 
 -- the timestep that was given last: of the module, or of the port that is the n-th name
 abbrev pub step_at : Names → State → Option ℕ → Option ℕ

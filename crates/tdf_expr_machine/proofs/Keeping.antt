@@ -7,8 +7,8 @@ use Rattle.std.specs.Prelude.{unsigned_abs}
 use Rattle.tdf_fixed.proofs.Api.{cast_keeps, kept, placed_up, placed_down}
 use Rattle.tdf_fixed.specs.Cast.{cast_of, fraction_of}
 use Rattle.tdf_fixed.specs.CastLaws.{least_kept}
-use Rattle.tdf_fixed.specs.Overflow.{IsIn, least, overflowed}
-use Rattle.tdf_fixed.specs.Quantise.{above_by, below, quantised, settled}
+use Rattle.tdf_fixed.specs.Overflow.{IsOfWidth, least, overflowed}
+use Rattle.tdf_fixed.specs.Quantise.{above_by, below, quantised, rounded_whole}
 use Rattle.tdf_fixed.specs.declared.format.Format.{Format}
 use Rattle.tdf_expr_machine.specs.machine.Cuts.{IsCutOf}
 use Rattle.tdf_fixed.specs.declared.quant.Quant.TheVariants.{Trn}
@@ -26,21 +26,21 @@ abbrev part : ℤ → ℕ
 part (pos n) = n
 part (negsuc n) = n
 
-pub in_low : (num : ℤ) (wl : ℕ) → below num (2 ^ (wl - 1)) ≡ pos 0 → IsIn true wl num
+pub in_low : (num : ℤ) (wl : ℕ) → below num (2 ^ (wl - 1)) ≡ pos 0 → IsOfWidth true wl num
 in_low (pos n) wl none =
     let quotient : n / 2 ^ (wl - 1) ≡ 0 = ap part none in
     let less : n < 2 ^ (wl - 1) = none_above n (2 ^ (wl - 1)) (pow_pos (wl - 1)) quotient in
     record { low = omega (arith, ints, less); high = omega (arith, ints, less) }
 in_low (negsuc n) wl none = absurd (omega (arith, ints, none))
 
-pub in_high : (num : ℤ) (wl : ℕ) → below num (2 ^ (wl - 1)) ≡ negsuc 0 → IsIn true wl num
+pub in_high : (num : ℤ) (wl : ℕ) → below num (2 ^ (wl - 1)) ≡ negsuc 0 → IsOfWidth true wl num
 in_high (pos n) wl none = absurd (omega (arith, ints, none))
 in_high (negsuc n) wl none =
     let quotient : n / 2 ^ (wl - 1) ≡ 0 = ap part none in
     let less : n < 2 ^ (wl - 1) = none_above n (2 ^ (wl - 1)) (pow_pos (wl - 1)) quotient in
     record { low = omega (arith, ints, less); high = omega (arith, ints, less) }
 
-pub in_unsigned : (num : ℤ) (wl : ℕ) → below num (2 ^ wl) ≡ pos 0 → IsIn false wl num
+pub in_unsigned : (num : ℤ) (wl : ℕ) → below num (2 ^ wl) ≡ pos 0 → IsOfWidth false wl num
 in_unsigned (pos n) wl none =
     let quotient : n / 2 ^ wl ≡ 0 = ap part none in
     let less : n < 2 ^ wl = none_above n (2 ^ wl) (pow_pos wl) quotient in
@@ -71,11 +71,11 @@ pub ruleset range_laws = (in_low, in_high, in_unsigned)
 -- ---- casts
 
 trn_is : (num : ℤ) (d : ℕ) → quantised Trn num d ≡ below num d
-unfolding settled
+unfolding rounded_whole
 trn_is num d = elim (nat_eq (above_by num d) 0) as (λ b. (if b then below num d else below num d) ≡ below num d) [ true ↦ refl | false ↦ refl ]
 
 pub cut_is : (f : Format) (num : ℤ) (frac : ℕ) → f.quant ≡ Trn → ((signed : Bool) (wl : ℕ) → least_kept f.over signed wl ≡ least signed wl)
-    → fraction_of f ≤ frac → IsIn f.signed f.wl (below num (2 ^ (frac - fraction_of f))) → cast_of f num frac ≡ below num (2 ^ (frac - fraction_of f))
+    → fraction_of f ≤ frac → IsOfWidth f.signed f.wl (below num (2 ^ (frac - fraction_of f))) → cast_of f num frac ≡ below num (2 ^ (frac - fraction_of f))
 unfolding cast_of
 cut_is f num frac trn plain places range =
     let d = 2 ^ (frac - fraction_of f) in
@@ -84,7 +84,7 @@ cut_is f num frac trn plain places range =
     ∙ kept f.over f.signed f.wl z f.some_bits (subst (λ l. l ≤ℤ z) (sym (plain f.signed f.wl)) range.low) range.high
 
 pub raised_is : (f : Format) (num : ℤ) (frac : ℕ) → ((signed : Bool) (wl : ℕ) → least_kept f.over signed wl ≡ least signed wl)
-    → frac ≤ fraction_of f → IsIn f.signed f.wl (num *ℤ pos (2 ^ (fraction_of f - frac))) → cast_of f num frac ≡ num *ℤ pos (2 ^ (fraction_of f - frac))
+    → frac ≤ fraction_of f → IsOfWidth f.signed f.wl (num *ℤ pos (2 ^ (fraction_of f - frac))) → cast_of f num frac ≡ num *ℤ pos (2 ^ (fraction_of f - frac))
 unfolding cast_of
 raised_is f num frac plain places range =
     let z = num *ℤ pos (2 ^ (fraction_of f - frac)) in
@@ -96,17 +96,17 @@ below_one (pos n) = let one : n / 1 ≡ n = omega arith in ap pos one
 below_one (negsuc n) = let one : n / 1 ≡ n = omega arith in ap negsuc one
 
 same_is : (f : Format) (num : ℤ) (frac : ℕ) → ((signed : Bool) (wl : ℕ) → least_kept f.over signed wl ≡ least signed wl)
-    → fraction_of f ≡ frac → IsIn f.signed f.wl (below num (2 ^ (frac - fraction_of f))) → cast_of f num frac ≡ below num (2 ^ (frac - fraction_of f))
+    → fraction_of f ≡ frac → IsOfWidth f.signed f.wl (below num (2 ^ (frac - fraction_of f))) → cast_of f num frac ≡ below num (2 ^ (frac - fraction_of f))
 same_is f num frac plain same range =
     let none : frac - fraction_of f ≡ 0 = omega (arith, same) in
     let whole : below num (2 ^ (frac - fraction_of f)) ≡ num = ap (λ k. below num (2 ^ k)) none ∙ below_one num in
-    let inside : IsIn f.signed f.wl num = subst (λ z. IsIn f.signed f.wl z) whole range in
+    let inside : IsOfWidth f.signed f.wl num = subst (λ z. IsOfWidth f.signed f.wl z) whole range in
     subst (λ k. cast_of f num k ≡ num) same (cast_keeps f num (subst (λ l. l ≤ℤ num) (sym (plain f.signed f.wl)) inside.low) inside.high) ∙ sym whole
 
 pub kept_is : (f : Format) (num : ℤ) (frac : ℕ) → ((signed : Bool) (wl : ℕ) → least_kept f.over signed wl ≡ least signed wl)
-    → frac ≡ fraction_of f → f.signed ≡ true → IsIn true f.wl num → cast_of f num frac ≡ num
+    → frac ≡ fraction_of f → f.signed ≡ true → IsOfWidth true f.wl num → cast_of f num frac ≡ num
 kept_is f num frac plain same signed range =
-    let inside : IsIn f.signed f.wl num = subst (λ b. IsIn b f.wl num) (sym signed) range in
+    let inside : IsOfWidth f.signed f.wl num = subst (λ b. IsOfWidth b f.wl num) (sym signed) range in
     subst (λ k. cast_of f num k ≡ num) (sym same) (cast_keeps f num (subst (λ l. l ≤ℤ num) (sym (plain f.signed f.wl)) inside.low) inside.high)
 
 pub cut_same : (f : Format) (frac : ℕ) → f.wl ≤ 62 → ((signed : Bool) (wl : ℕ) → least_kept f.over signed wl ≡ least signed wl) → fraction_of f ≡ frac

@@ -2,7 +2,7 @@
 use Rattle.std.proofs.Common.{◌≡◌, ◌∙◌, ℕ, zero, suc, ◌+◌, ◌*◌, ◌-◌, ◌<◌, ◌≤◌, List, [], ◌∷◌, ◌++◌, Box, Global, length, take, refl, subst, sym, ap, arith}
 use Rattle.std.proofs.Math.ListN.{set}
 use Rattle.std.proofs.lemmas.List.{take_more_set}
-use Rattle.tdf_expr_machine.specs.Acts.{acted, turns_end, AreTurns, IsSafeAct, turn_of, IsTurnSafe}
+use Rattle.tdf_expr_machine.specs.Acts.{acted, turns_end, AreTurns, IsSafeAct, act_turn, IsTurnSafe}
 use Rattle.tdf_expr_machine.specs.Turns.{repeated, turned, AreTurnsSafe}
 use Rattle.tdf_expr_machine.specs.declared.acts.Act.{Act}
 use Rattle.tdf_expr_machine.specs.declared.acts.Act.TheVariants as variant
@@ -69,27 +69,27 @@ state_from s frame ports is_frame is_ports = rw (is_frame, is_ports) refl
 
 module _ (body : Act) (from end i : ℕ) (loops inner : List ℕ) (start : State) (frame : FrameState) (ports : PortsState) where
   -- a turn of a loop is safe at what the turns before it leave
-  pub for_turn : AreTurnsSafe (turn_of body loops) (IsTurnSafe body loops) from end start → from ≤ i → i < end
+  pub for_turn : AreTurnsSafe (act_turn body loops) (IsTurnSafe body loops) from end start → from ≤ i → i < end
       → take (length loops) inner ≡ loops → length loops < length inner
-      → frame ≡ (turned (turn_of body loops) from i start).frame → ports ≡ (turned (turn_of body loops) from i start).ports
+      → frame ≡ (turned (act_turn body loops) from i start).frame → ports ≡ (turned (act_turn body loops) from i start).ports
       → IsSafeAct body (take (length loops + 1) (set inner (length loops) i)) (state_of frame ports)
   for_turn safe after before outer room is_frame is_ports =
-      rw (one_more inner loops i room outer, state_from (turned (turn_of body loops) from i start) frame ports is_frame is_ports)
-      (turn_safe (turn_of body loops) (IsTurnSafe body loops) from end i start safe after before)
+      rw (one_more inner loops i room outer, state_from (turned (act_turn body loops) from i start) frame ports is_frame is_ports)
+      (turn_safe (act_turn body loops) (IsTurnSafe body loops) from end i start safe after before)
 
   -- and leaves what one turn more does
   pub for_more : from ≤ i → take (length loops) inner ≡ loops → length loops < length inner
-      → frame ≡ (turned (turn_of body loops) from i start).frame → ports ≡ (turned (turn_of body loops) from i start).ports
-      → acted body (take (length loops + 1) (set inner (length loops) i)) (state_of frame ports) ≡ turned (turn_of body loops) from (i + 1) start
+      → frame ≡ (turned (act_turn body loops) from i start).frame → ports ≡ (turned (act_turn body loops) from i start).ports
+      → acted body (take (length loops + 1) (set inner (length loops) i)) (state_of frame ports) ≡ turned (act_turn body loops) from (i + 1) start
   for_more after outer room is_frame is_ports =
-      rw (one_more inner loops i room outer, state_from (turned (turn_of body loops) from i start) frame ports is_frame is_ports)
-      (sym (turned_more (turn_of body loops) from i start after))
+      rw (one_more inner loops i room outer, state_from (turned (act_turn body loops) from i start) frame ports is_frame is_ports)
+      (sym (turned_more (act_turn body loops) from i start after))
 
 -- the turns of a loop that is safe
 pub for_safe : (act node : Act) (from : ℕ) (turns : Turns) (body : Box Act Global) (loops : List ℕ) (s : State) → act ≡ view.For from turns body → IsSafeAct act loops s → node ≡ body.value
-    → AreTurnsSafe (turn_of node loops) (IsTurnSafe node loops) from (turns_end turns s.frame.rates) s
+    → AreTurnsSafe (act_turn node loops) (IsTurnSafe node loops) from (turns_end turns s.frame.rates) s
 for_safe act node from turns body loops s is safe same =
-    let all : (length loops < 8) × AreTurns turns s.frame.rates × AreTurnsSafe (turn_of body.value loops) (IsTurnSafe body.value loops) from (turns_end turns s.frame.rates) s = subst (λ a. IsSafeAct a loops s) is safe in
+    let all : (length loops < 8) × AreTurns turns s.frame.rates × AreTurnsSafe (act_turn body.value loops) (IsTurnSafe body.value loops) from (turns_end turns s.frame.rates) s = subst (λ a. IsSafeAct a loops s) is safe in
     rw same all.2
 
 pub for_room : (act : Act) (from : ℕ) (turns : Turns) (body : Box Act Global) (loops : List ℕ) (s : State) → act ≡ view.For from turns body → IsSafeAct act loops s → (length loops < 8) × AreTurns turns s.frame.rates

@@ -2,7 +2,7 @@
 -- of the compiled code; no public clause of a crate above shows them.
 use Rattle.std.specs.Prelude.{◌≡◌, ℕ, ◌*◌, ◌/◌, ◌%◌, ◌^◌, ◌<◌, ◌≤◌, ℤ, pos, negsuc, true, false, ◌&&◌, nat_eq, nat_le, if◌then◌else◌, Option, Some, None, List, [], ◌∷◌, ◌++◌, length, slice_index}
 use Rattle.tdf_fixed.specs.Cast.{cast_of, fraction_of}
-use Rattle.tdf_expr_machine.specs.Nodes.{node_value, spot_place, holds, IsSafe, IsSpot, IsCastable}
+use Rattle.tdf_expr_machine.specs.Nodes.{node_value, spot_place, is_true, IsSafe, IsSpot, IsCastable}
 use Rattle.tdf_expr_machine.specs.Turns.{turned, AreTurnsSafe}
 use Rattle.tdf_expr_machine.specs.declared.acts.Act.{Act}
 use Rattle.tdf_expr_machine.specs.declared.acts.Act.TheVariants as act
@@ -22,12 +22,12 @@ AreTurns (turns.Times factor rate) rates =
     (rate < length rates) × (factor * slice_index rates rate < 2 ^ 32)
 
 -- the rate num / 2 ^ frac, where that is a whole number within bounds
-abbrev pub rate_of : Bounds → (frac : ℕ) → ℤ → Option ℕ
-rate_of bounds frac (pos num) =
+abbrev pub rate_within : Bounds → (frac : ℕ) → ℤ → Option ℕ
+rate_within bounds frac (pos num) =
     if nat_eq (num % 2 ^ frac) 0
     && (nat_le bounds.least (num / 2 ^ frac) && nat_le (num / 2 ^ frac) bounds.greatest)
     then Some (num / 2 ^ frac) else None
-rate_of bounds frac (negsuc num) = None
+rate_within bounds frac (negsuc num) = None
 
 -- a rate variable gets its rate; one that isn't allowed is noted and changes nothing else
 abbrev pub with_rate_of : ℕ → Option ℕ → State → State
@@ -42,12 +42,12 @@ acted (act.SetCell at value frac format) loops s =
 acted (act.SetSample port at value frac format) loops s =
     with_sample port (spot_place at loops) (cast_of format (node_value value s loops) frac) s
 acted (act.SetRate number value frac bounds) loops s =
-    with_rate_of number (rate_of bounds frac (node_value value s loops)) s
+    with_rate_of number (rate_within bounds frac (node_value value s loops)) s
 acted (act.SetStep place step) loops s = with_step place step s
 acted (act.Notify event after) loops s = with_notice event after s
 acted (act.Answer accepted) loops s = with_answer accepted s
 acted (act.If' test p a q b) loops s =
-    if holds (node_value test s loops) then acted a loops s else acted b loops s
+    if is_true (node_value test s loops) then acted a loops s else acted b loops s
 acted (act.For' from end p body) loops s =
     turned (λ i rest. acted body (loops ++ i ∷ []) rest) from (turns_end end s.frame.rates) s
 acted (act.Seq' p a q b) loops s = acted b loops (acted a loops s)
@@ -68,16 +68,16 @@ IsSafeAct (act.SetStep place step) loops s = place < length s.ports.steps
 IsSafeAct (act.Notify event after) loops s = event < length s.ports.notified
 IsSafeAct (act.Answer accepted) loops s = Unit {0}
 IsSafeAct (act.If' test p a q b) loops s = IsSafe test s loops
-    × (holds (node_value test s loops) ≡ true → IsSafeAct a loops s)
-    × (holds (node_value test s loops) ≡ false → IsSafeAct b loops s)
+    × (is_true (node_value test s loops) ≡ true → IsSafeAct a loops s)
+    × (is_true (node_value test s loops) ≡ false → IsSafeAct b loops s)
 IsSafeAct (act.For' from end p body) loops s = (length loops < 8) × AreTurns end s.frame.rates
     × AreTurnsSafe (λ i rest. acted body (loops ++ i ∷ []) rest)
     (λ i rest. IsSafeAct body (loops ++ i ∷ []) rest) from (turns_end end s.frame.rates) s
 IsSafeAct (act.Seq' p a q b) loops s = IsSafeAct a loops s × IsSafeAct b loops (acted a loops s)
 
 -- one turn of a loop, inside these loop variables, and whether it is safe
-abbrev pub turn_of : Act → List ℕ → ℕ → State → State
-turn_of body loops i s = acted body (loops ++ i ∷ []) s
+abbrev pub act_turn : Act → List ℕ → ℕ → State → State
+act_turn body loops i s = acted body (loops ++ i ∷ []) s
 
 abbrev pub IsTurnSafe : Act → List ℕ → ℕ → State → Type 0
 IsTurnSafe body loops i s = IsSafeAct body (loops ++ i ∷ []) s

@@ -25,9 +25,9 @@ IsSpot (spot.Rise at times variable less) loops =
 IsSpot (spot.Fall at variable) loops = (variable < length loops) × (slice_index loops variable ≤ at)
 
 -- a number holds where it isn't 0
-abbrev pub holds : ℤ → Bool
-holds (pos zero) = false
-holds num = true
+abbrev pub is_true : ℤ → Bool
+is_true (pos zero) = false
+is_true num = true
 
 abbrev pub truth_number : Bool → ℤ
 truth_number so = if so then pos 1 else pos 0
@@ -58,12 +58,12 @@ node_value (node.Compare' r p a m q b n) s loops =
     truth_number (relates r (node_value a s loops *ℤ pos (2 ^ m))
     (node_value b s loops *ℤ pos (2 ^ n)))
 node_value (node.And' p a q b) s loops =
-    truth_number (holds (node_value a s loops) && holds (node_value b s loops))
+    truth_number (is_true (node_value a s loops) && is_true (node_value b s loops))
 node_value (node.Or' p a q b) s loops =
-    truth_number (holds (node_value a s loops) || holds (node_value b s loops))
-node_value (node.Not' p a) s loops = truth_number (not (holds (node_value a s loops)))
+    truth_number (is_true (node_value a s loops) || is_true (node_value b s loops))
+node_value (node.Not' p a) s loops = truth_number (not (is_true (node_value a s loops)))
 node_value (node.Choice' o t p a m q b n) s loops =
-    if holds (node_value t s loops) then node_value a s loops *ℤ pos (2 ^ m)
+    if is_true (node_value t s loops) then node_value a s loops *ℤ pos (2 ^ m)
     else node_value b s loops *ℤ pos (2 ^ n)
 node_value (node.Cast' p a frac format) s loops = cast_of format (node_value a s loops) frac
 

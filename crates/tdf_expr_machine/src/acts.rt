@@ -1,7 +1,7 @@
 //! Compiled statements, and how they run.
 
 ghost use Rattle.std.specs.Prelude.{◌≡◌, ◌<◌, ◌≤◌, ◌^◌, ◌&&◌, IsTrue, length, nat_eq, nat_le, pos, take};
-ghost use Rattle.tdf_expr_machine.specs.Acts.{AreTurns, IsSafeAct, acted, rate_of, turns_end, with_rate_of, turn_of, IsTurnSafe};
+ghost use Rattle.tdf_expr_machine.specs.Acts.{AreTurns, IsSafeAct, acted, rate_within, turns_end, with_rate_of, act_turn, IsTurnSafe};
 ghost use Rattle.tdf_expr_machine.specs.Turns.{AreTurnsSafe, turned};
 ghost use Rattle.tdf_fixed.specs.Cast.{cast_of, fraction_of};
 ghost use Rattle.tdf_expr_machine.specs.Nodes.{IsCastable, IsSafe, IsSpot, node_value, spot_place};
@@ -63,7 +63,7 @@ fn is_rate(bounds: Bounds, whole: u128, rest: u128) -> bool
 /// As `rate_of`, of a number that isn't negative.
 fn whole_rate(bounds: Bounds, frac: u32, num: u128) -> Option<u32>
     requires { frac ≤ 120 }
-    ensures { result ≡ rate_of bounds frac (pos num) }
+    ensures { result ≡ rate_within bounds frac (pos num) }
 {
     let whole = num >> frac;
     if is_rate(bounds, whole, low(num, frac)) {
@@ -76,7 +76,7 @@ fn whole_rate(bounds: Bounds, frac: u32, num: u128) -> Option<u32>
 /// The rate `num / 2^frac`, where that is a whole number within bounds.
 fn rate_of(bounds: Bounds, frac: u32, num: i128) -> Option<u32>
     requires { frac ≤ 120 }
-    ensures { result ≡ rate_of bounds frac num }
+    ensures { result ≡ rate_within bounds frac num }
 {
     if num < 0 {
         return None;
@@ -195,9 +195,9 @@ fn run_turns(
     signals: &mut Signals,
 )
     requires room { length loops.now < 8 }
-    requires safe { AreTurnsSafe (turn_of body.now loops.now) (IsTurnSafe body.now loops.now) from end (state_of cells.old signals.old) }
-    ensures frame { cells.new ≡ (turned (turn_of body.now loops.now) from end (state_of cells.old signals.old)).frame }
-    ensures ports { signals.new ≡ (turned (turn_of body.now loops.now) from end (state_of cells.old signals.old)).ports }
+    requires safe { AreTurnsSafe (act_turn body.now loops.now) (IsTurnSafe body.now loops.now) from end (state_of cells.old signals.old) }
+    ensures frame { cells.new ≡ (turned (act_turn body.now loops.now) from end (state_of cells.old signals.old)).frame }
+    ensures ports { signals.new ≡ (turned (act_turn body.now loops.now) from end (state_of cells.old signals.old)).ports }
 {
     let mut inner = copied(loops);
     for i in from..end {
@@ -218,9 +218,9 @@ fn run_loop(
     signals: &mut Signals,
 )
     requires room { length loops.now < 8 }
-    requires safe { AreTurnsSafe (turn_of body.now loops.now) (IsTurnSafe body.now loops.now) from end (state_of cells.old signals.old) }
-    ensures frame { cells.new ≡ (turned (turn_of body.now loops.now) from end (state_of cells.old signals.old)).frame }
-    ensures ports { signals.new ≡ (turned (turn_of body.now loops.now) from end (state_of cells.old signals.old)).ports }
+    requires safe { AreTurnsSafe (act_turn body.now loops.now) (IsTurnSafe body.now loops.now) from end (state_of cells.old signals.old) }
+    ensures frame { cells.new ≡ (turned (act_turn body.now loops.now) from end (state_of cells.old signals.old)).frame }
+    ensures ports { signals.new ≡ (turned (act_turn body.now loops.now) from end (state_of cells.old signals.old)).ports }
 {
     let next = quick_turns(body, from, end, loops, cells, signals);
     if next < end {

@@ -3,7 +3,7 @@
 ghost use Rattle.std.specs.Prelude.{◌≡◌, ◌≤◌, ◌-◌, ◌*◌, ◌^◌, ◌*ℤ◌, pos, unsigned_abs, IsTrue, IfSome, Bool, true, ℕ};
 ghost use Rattle.tdf_fixed.specs.Cast.{cast_of, fraction_of};
 ghost use Rattle.tdf_fixed.specs.CastLaws.{least_kept};
-ghost use Rattle.tdf_fixed.specs.Overflow.{IsIn, least};
+ghost use Rattle.tdf_fixed.specs.Overflow.{IsOfWidth, least};
 ghost use Rattle.tdf_fixed.specs.Quantise.{below};
 ghost use Rattle.tdf_expr_machine.specs.machine.Cuts.{IsCutOf};
 ghost use Rattle.tdf_fixed.specs.declared.quant.Quant.TheVariants.{Trn};
@@ -71,7 +71,7 @@ pub(crate) fn raised(num: i64, bits: u32) -> Option<i64>
 #[tactic(auto, using(crate::proofs::Keeping::range_laws))]
 fn is_within_signed(num: i64, wl: u32) -> bool
     requires { (1 ≤ wl) × (wl ≤ 64) }
-    ensures { IsTrue result → IsIn true wl num }
+    ensures { IsTrue result → IsOfWidth true wl num }
 {
     let high = floor(num, wl - 1);
     high == 0 || high == -1
@@ -82,7 +82,7 @@ fn is_within_signed(num: i64, wl: u32) -> bool
 #[tactic(auto, using(crate::proofs::Keeping::range_laws))]
 fn is_within(num: i64, signed: bool, wl: u32) -> bool
     requires { (1 ≤ wl) × (wl ≤ 62) }
-    ensures { IsTrue result → IsIn signed wl num }
+    ensures { IsTrue result → IsOfWidth signed wl num }
 {
     if signed {
         is_within_signed(num, wl)
@@ -120,7 +120,7 @@ fn is_trn(quant: Quant) -> bool
 fn within(num: i64, format: &Format) -> Option<i64>
     requires { format.now.wl ≤ 62 }
     ensures same { IfSome result (λ n. n ≡ num) }
-    ensures range { IfSome result (λ n. IsIn format.now.signed format.now.wl n) }
+    ensures range { IfSome result (λ n. IsOfWidth format.now.signed format.now.wl n) }
 {
     if is_within(num, format.signed, format.wl) {
         Some(num)
@@ -186,7 +186,7 @@ pub(crate) fn cut_of(frac: u32, format: &Format) -> Option<Cut>
 pub(crate) fn cut_by(num: i64, by: &Cut) -> Option<i64>
     requires { (by.now.shift ≤ 62) × (1 ≤ by.now.wl) × (by.now.wl ≤ 62) }
     ensures same { IfSome result (λ n. n ≡ below num (2 ^ by.now.shift)) }
-    ensures range { IfSome result (λ n. IsIn by.now.signed by.now.wl n) }
+    ensures range { IfSome result (λ n. IsOfWidth by.now.signed by.now.wl n) }
 {
     let whole = floor(num, by.shift);
     if is_within(whole, by.signed, by.wl) {

@@ -2,7 +2,7 @@
 
 ghost use Rattle.std.specs.Prelude.{◌≡◌, IfSome};
 ghost use Rattle.tdf_fixed.specs.Cast.{cast_of, fraction_of};
-ghost use Rattle.tdf_expr_machine.specs.Nodes.{IsCastable, IsSafe, holds, node_value};
+ghost use Rattle.tdf_expr_machine.specs.Nodes.{IsCastable, IsSafe, is_true, node_value};
 ghost use Rattle.tdf_expr_state.specs.State.{state_of};
 
 use crate::cuts::short_cast;
@@ -171,7 +171,7 @@ pub(crate) fn eval_in(
 #[inline(always)]
 pub(crate) fn eval_holds(node: &Node, cells: &Cells, signals: &Signals, loops: &[u32]) -> bool
     requires { IsSafe node.now (state_of cells.now signals.now) loops.now }
-    ensures { result ≡ holds (node_value node.now (state_of cells.now signals.now) loops.now) }
+    ensures { result ≡ is_true (node_value node.now (state_of cells.now signals.now) loops.now) }
 {
     let at = Sight {
         cells,

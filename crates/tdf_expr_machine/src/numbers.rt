@@ -1,7 +1,7 @@
 //! Arithmetic in 128 bits, of numbers that stay within 2^120.
 
 ghost use Rattle.std.specs.Prelude.{◌≡◌, ◌≤◌, ◌*◌, ◌%◌, ◌^◌, pos, ◌+ℤ◌, ◌-ℤ◌, ◌*ℤ◌, neg_ℤ, unsigned_abs};
-ghost use Rattle.tdf_expr_machine.specs.Nodes.{IsRaised, holds, relates, truth_number};
+ghost use Rattle.tdf_expr_machine.specs.Nodes.{IsRaised, is_true, relates, truth_number};
 
 use crate::nodes::Relation;
 
@@ -49,7 +49,7 @@ pub(crate) fn negative(a: i128) -> i128
 /// Whether a number is taken as true.
 #[inline]
 pub(crate) fn holds(num: i128) -> bool
-    ensures { result ≡ holds num }
+    ensures { result ≡ is_true num }
 {
     num != 0
 }

@@ -2,12 +2,12 @@
 //! a product of two elements. Their turns go without a walk over the tree.
 
 ghost use Rattle.std.specs.Prelude.{◌≡◌, ◌<◌, ◌≤◌, ◌^◌, ◌*ℤ◌, max, IfSome, IsTrue, false, length};
-ghost use Rattle.tdf_expr_machine.specs.Acts.{IsTurnSafe, turn_of};
+ghost use Rattle.tdf_expr_machine.specs.Acts.{IsTurnSafe, act_turn};
 ghost use Rattle.tdf_expr_machine.specs.Turns.{AreTurnsSafe, turned};
 ghost use Rattle.tdf_expr_machine.specs.declared.nodes.Node.TheVariants.{Cell, CellAt};
 ghost use Rattle.tdf_expr_machine.specs.machine.Plain.{AreCells, AreTerms, IsElement, IsOn, IsOnTarget, IsPlain, IsPlainSet, IsProduct, IsSum, IsTarget, IsTrackOf, plain_value, terms_value, target_place, track_place};
 ghost use Rattle.tdf_fixed.specs.Quantise.{below};
-ghost use Rattle.tdf_fixed.specs.Overflow.{IsIn};
+ghost use Rattle.tdf_fixed.specs.Overflow.{IsOfWidth};
 ghost use Rattle.tdf_expr_state.specs.State.{cell_at, state_of};
 
 use crate::acts::Act;
@@ -259,7 +259,7 @@ fn plain_cut(set: &PlainSet, turn: u32, cells: &Cells) -> Option<i64>
     requires cells { AreCells set.now.value turn cells.now.cells }
     requires cut { (set.now.cut.shift ≤ 62) × (1 ≤ set.now.cut.wl) × (set.now.cut.wl ≤ 62) }
     ensures same { IfSome result (λ n. n ≡ below (plain_value set.now.value turn cells.now.cells) (2 ^ set.now.cut.shift)) }
-    ensures range { IfSome result (λ n. IsIn set.now.cut.signed set.now.cut.wl n) }
+    ensures range { IfSome result (λ n. IsOfWidth set.now.cut.signed set.now.cut.wl n) }
 {
     cut_by(plain_value(&set.value, turn, cells)?, &set.cut)
 }
@@ -276,7 +276,7 @@ fn plain_turn(
 ) -> bool
     requires set { IsPlainSet act.now (length loops.now) set.now }
     requires safe { IsTurnSafe act.now loops.now turn (state_of cells.old signals.now) }
-    ensures done { IsTrue result → state_of cells.new signals.now ≡ turn_of act.now loops.now turn (state_of cells.old signals.now) }
+    ensures done { IsTrue result → state_of cells.new signals.now ≡ act_turn act.now loops.now turn (state_of cells.old signals.now) }
     ensures kept { result ≡ false → cells.new ≡ cells.old }
 {
     match plain_cut(set, turn, cells) {
@@ -302,10 +302,10 @@ fn plain_turns(
     signals: &Signals,
 ) -> u32
     requires set { IsPlainSet act.now (length loops.now) set.now }
-    requires safe { AreTurnsSafe (turn_of act.now loops.now) (IsTurnSafe act.now loops.now) from end (state_of cells.old signals.now) }
+    requires safe { AreTurnsSafe (act_turn act.now loops.now) (IsTurnSafe act.now loops.now) from end (state_of cells.old signals.now) }
     ensures after { from ≤ result }
     ensures within { result ≤ max from end }
-    ensures state { state_of cells.new signals.now ≡ turned (turn_of act.now loops.now) from result (state_of cells.old signals.now) }
+    ensures state { state_of cells.new signals.now ≡ turned (act_turn act.now loops.now) from result (state_of cells.old signals.now) }
 {
     for i in from..end {
         if !plain_turn(act, set, loops, i, cells, signals) {
@@ -326,10 +326,10 @@ pub(crate) fn quick_turns(
     cells: &mut Cells,
     signals: &Signals,
 ) -> u32
-    requires { AreTurnsSafe (turn_of body.now loops.now) (IsTurnSafe body.now loops.now) from end (state_of cells.old signals.now) }
+    requires { AreTurnsSafe (act_turn body.now loops.now) (IsTurnSafe body.now loops.now) from end (state_of cells.old signals.now) }
     ensures after { from ≤ result }
     ensures within { result ≤ max from end }
-    ensures state { state_of cells.new signals.now ≡ turned (turn_of body.now loops.now) from result (state_of cells.old signals.now) }
+    ensures state { state_of cells.new signals.now ≡ turned (act_turn body.now loops.now) from result (state_of cells.old signals.now) }
 {
     match plain_set(body, loops.len()) {
         Some(set) => match (set.target, set.value) {

@@ -1,7 +1,7 @@
 //! The values of expressions by 64-bit arithmetic, where each step of it fits.
 
 ghost use Rattle.std.specs.Prelude.{◌≡◌, ◌≤◌, ◌^◌, pos, ◌+ℤ◌, ◌-ℤ◌, ◌*ℤ◌, neg_ℤ, IfSome};
-ghost use Rattle.tdf_expr_machine.specs.Nodes.{IsSafe, node_value, holds, relates, truth_number};
+ghost use Rattle.tdf_expr_machine.specs.Nodes.{IsSafe, node_value, is_true, relates, truth_number};
 ghost use Rattle.tdf_expr_state.specs.State.{state_of};
 
 use crate::cuts::raised;
@@ -62,7 +62,7 @@ fn negative(a: i64) -> Option<i64>
 /// Whether a number is taken as true.
 #[inline(always)]
 fn holds(num: i64) -> bool
-    ensures { result ≡ holds num }
+    ensures { result ≡ is_true num }
 {
     num != 0
 }
@@ -125,7 +125,7 @@ pub(crate) fn operand(node: &Node, at: &Sight) -> Option<i64>
 #[tactic(auto, using(crate::proofs::Powers::holds_truth))]
 pub(crate) fn verdict(node: &Node, at: &Sight) -> Option<bool>
     requires { IsSafe node.now (state_of at.now.cells.now at.now.signals.now) at.now.loops.now }
-    ensures { IfSome result (λ so. so ≡ holds (node_value node.now (state_of at.now.cells.now at.now.signals.now) at.now.loops.now)) }
+    ensures { IfSome result (λ so. so ≡ is_true (node_value node.now (state_of at.now.cells.now at.now.signals.now) at.now.loops.now)) }
 {
     match node {
         Node::Compare(relation, a, m, b, n) => {

@@ -7,7 +7,7 @@ use Rattle.tdf_base.specs.declared.codes.Code.TheVariants.{Duplicate, Unknown}
 use Rattle.tdf_base.specs.First.{fault_if}
 use Rattle.tdf_base.specs.declared.first.LineFault.{LineFault}
 use Rattle.tdf_expr_names.specs.Law.{IsOneOf, StandsOn, FaultsStand}
-use Rattle.tdf_expr_names.specs.Names.{Name, has, with_name, with_names, names_of_tdf_lines, names_of_de_lines, names_of_globals, declares, uses, uses_maybe, in_order, index_faults, item_faults, limit_faults, expr_faults, stmt_faults, stmts_faults, format_faults, formatted_faults, store_faults, tdf_line_faults, names_of_tdf_line, attr_faults, initial_faults, tdf_faults, de_line_faults, names_of_de_line, sense_faults, process_faults, de_faults, member_faults, names_of_member, composite_faults, global_faults, names_of_global, trace_faults, names_of_trace, name_faults}
+use Rattle.tdf_expr_names.specs.Names.{Name, has, with_declared, with_names, names_of_tdf_lines, names_of_de_lines, names_of_globals, declares, uses, uses_maybe, in_order, index_name_faults, item_faults, limit_name_faults, expr_name_faults, stmt_faults, stmts_faults, format_name_faults, formatted_faults, store_name_faults, tdf_line_name_faults, names_of_tdf_line, attr_name_faults, initial_name_faults, tdf_name_faults, de_line_name_faults, names_of_de_line, sense_name_faults, process_name_faults, de_name_faults, member_name_faults, names_of_member, composite_name_faults, global_name_faults, names_of_global, trace_faults, names_of_trace, name_faults}
 use Rattle.tdf_lang_tree.specs.Kept.{Each}
 use Rattle.tdf_lang_tree.specs.LinesIn.{lines_of_stmt, lines_of_stmts, lines_to_end, line_of_store, line_of_tdf_line, line_of_attr, line_of_initial, line_of_sense, line_of_de_line, line_of_member, line_of_trace, lines_of_tdf, lines_of_process, lines_of_de, lines_of_global}
 use Rattle.tdf_lang_tree.specs.Pure.{PureExpr, ENumber, EName, EAt, ECast, ESelect, ENot, ENeg, EShift, EBinary, PureStmt, SAssign, SIf, SFor, SNotify, SSetRate, SSetStep, SAccept, SReject, PureStmts, Done, More, PureStore, SConst, SVar, SArray, PureTdfLine, TPort, TStore, TRate, PureTdf, PureDeLine, DPort, DStore, DEvent, PureProcess, PureDe, PureComposite, PureGlobal, GShape, GTdf, GDe, GNet}
@@ -84,7 +84,7 @@ on_maybe : (names : List Name) (line : ℕ) (name : Option Name) → On (line �
 on_maybe names line None = tt
 on_maybe names line (Some name) = on_uses names line name
 
-on_index : (locals : List Name) (line : ℕ) (i : Index) → On (line ∷ []) (index_faults locals line i)
+on_index : (locals : List Name) (line : ℕ) (i : Index) → On (line ∷ []) (index_name_faults locals line i)
 on_index locals line (index.Int n) = tt
 on_index locals line (index.Var i) = on_uses locals line i
 on_index locals line (index.Plus i n) = on_uses locals line i
@@ -97,12 +97,12 @@ on_item : (locals : List Name) (line : ℕ) (i : Option Index) → On (line ∷ 
 on_item locals line None = tt
 on_item locals line (Some i) = on_index locals line i
 
-on_limit : (locals : List Name) (line : ℕ) (l : Limit) → On (line ∷ []) (limit_faults locals line l)
+on_limit : (locals : List Name) (line : ℕ) (l : Limit) → On (line ∷ []) (limit_name_faults locals line l)
 on_limit locals line (limit.Int n) = tt
 on_limit locals line (limit.Var name) = on_uses locals line name
 on_limit locals line (limit.Times n name) = on_uses locals line name
 
-on_expr : (globals locals : List Name) (line : ℕ) (e : PureExpr) → On (line ∷ []) (expr_faults globals locals line e)
+on_expr : (globals locals : List Name) (line : ℕ) (e : PureExpr) → On (line ∷ []) (expr_name_faults globals locals line e)
 on_expr globals locals line (ENumber digits) = tt
 on_expr globals locals line (EName name) = on_uses locals line name
 on_expr globals locals line (EAt name i) = on_two line _ _ (on_uses locals line name) (on_index locals line i)
@@ -117,11 +117,11 @@ on_expr globals locals line (EBinary op a b) = on_two line _ _ (on_expr globals 
 mutual
   on_stmt : (globals locals : List Name) (s : PureStmt) → On (lines_of_stmt s) (stmt_faults globals locals s)
   on_stmt globals locals (SAssign line name i value) = on_two line _ _ (on_uses locals line name) (on_two line _ _ (on_item locals line i) (on_expr globals locals line value))
-  on_stmt globals locals (SIf line test a b) = on_head line (lines_of_stmts a ++ lines_of_stmts b) (expr_faults globals locals line test) (stmts_faults globals locals a ++ stmts_faults globals locals b)
+  on_stmt globals locals (SIf line test a b) = on_head line (lines_of_stmts a ++ lines_of_stmts b) (expr_name_faults globals locals line test) (stmts_faults globals locals a ++ stmts_faults globals locals b)
       (on_expr globals locals line test) (on_both (lines_of_stmts a) (lines_of_stmts b) (stmts_faults globals locals a) (stmts_faults globals locals b) (on_stmts globals locals a) (on_stmts globals locals b))
-  on_stmt globals locals (SFor line name from end body) = on_append (line ∷ lines_of_stmts body) (limit_faults locals line end) (declares locals line name ++ stmts_faults globals (with_name locals name) body)
-      (on_first line (lines_of_stmts body) (limit_faults locals line end) (on_limit locals line end))
-      (on_head line (lines_of_stmts body) (declares locals line name) (stmts_faults globals (with_name locals name) body) (on_declares locals line name) (on_stmts globals (with_name locals name) body))
+  on_stmt globals locals (SFor line name from end body) = on_append (line ∷ lines_of_stmts body) (limit_name_faults locals line end) (declares locals line name ++ stmts_faults globals (with_declared locals name) body)
+      (on_first line (lines_of_stmts body) (limit_name_faults locals line end) (on_limit locals line end))
+      (on_head line (lines_of_stmts body) (declares locals line name) (stmts_faults globals (with_declared locals name) body) (on_declares locals line name) (on_stmts globals (with_declared locals name) body))
   on_stmt globals locals (SNotify line event after) = on_uses locals line event
   on_stmt globals locals (SSetRate line name value) = on_two line _ _ (on_uses locals line name) (on_expr globals locals line value)
   on_stmt globals locals (SSetStep line port step) = on_maybe locals line port
@@ -158,24 +158,24 @@ on_parts lines_of faults each [] = tt
 on_parts lines_of faults each (l ∷ ls) = on_both (lines_of l) (flat_map lines_of ls) (faults l) (flat_map faults ls) (each l) (on_parts lines_of faults each ls)
 
 -- lines that declare
-on_format : (globals : List Name) (line : ℕ) (format : FormatRef) → On (line ∷ []) (format_faults globals line format)
+on_format : (globals : List Name) (line : ℕ) (format : FormatRef) → On (line ∷ []) (format_name_faults globals line format)
 on_format globals line (Own shape) = tt
 on_format globals line (Named name) = on_uses globals line name
 
 on_formatted : (globals locals : List Name) (line : ℕ) (name : Name) (format : FormatRef) → On (line ∷ []) (formatted_faults globals locals line name format)
 on_formatted globals locals line name format = on_two line _ _ (on_declares locals line name) (on_format globals line format)
 
-on_store : (globals locals : List Name) (store : PureStore) → On (line_of_store store ∷ []) (store_faults globals locals store)
+on_store : (globals locals : List Name) (store : PureStore) → On (line_of_store store ∷ []) (store_name_faults globals locals store)
 on_store globals locals (SConst line name format value) = on_formatted globals locals line name format
 on_store globals locals (SVar line name format value) = on_formatted globals locals line name format
 on_store globals locals (SArray line name format size values) = on_formatted globals locals line name format
 
-on_tdf_line : (globals locals : List Name) (line : PureTdfLine) → On (line_of_tdf_line line ∷ []) (tdf_line_faults globals locals line)
+on_tdf_line : (globals locals : List Name) (line : PureTdfLine) → On (line_of_tdf_line line ∷ []) (tdf_line_name_faults globals locals line)
 on_tdf_line globals locals (TPort port) = on_formatted globals locals port.line port.name port.format
 on_tdf_line globals locals (TStore store) = on_store globals locals store
 on_tdf_line globals locals (TRate line name least greatest start) = on_declares locals line name
 
-on_attr : (locals : List Name) (a : Attr) → On (line_of_attr a ∷ []) (attr_faults locals a)
+on_attr : (locals : List Name) (a : Attr) → On (line_of_attr a ∷ []) (attr_name_faults locals a)
 on_attr locals (attr.Step line port step) = on_maybe locals line port
 on_attr locals (attr.Rate line port rate) = on_two line _ _ (on_uses locals line port) (on_limit locals line rate)
 on_attr locals (attr.Delay line port count) = on_uses locals line port
@@ -183,12 +183,12 @@ on_attr locals (attr.Does line) = tt
 on_attr locals (attr.Accept line) = tt
 on_attr locals (attr.Reject line) = tt
 
-on_de_line : (globals locals : List Name) (line : PureDeLine) → On (line_of_de_line line ∷ []) (de_line_faults globals locals line)
+on_de_line : (globals locals : List Name) (line : PureDeLine) → On (line_of_de_line line ∷ []) (de_line_name_faults globals locals line)
 on_de_line globals locals (DPort port) = on_formatted globals locals port.line port.name port.format
 on_de_line globals locals (DStore store) = on_store globals locals store
 on_de_line globals locals (DEvent line name) = on_declares locals line name
 
-on_member : (globals locals : List Name) (m : Member) → On (line_of_member m ∷ []) (member_faults globals locals m)
+on_member : (globals locals : List Name) (m : Member) → On (line_of_member m ∷ []) (member_name_faults globals locals m)
 on_member globals locals (member.Port port) = on_formatted globals locals port.line port.name port.format
 on_member globals locals (member.Signal line name format) = on_formatted globals locals line name format
 on_member globals locals (member.DeSignal line name format start) = on_formatted globals locals line name format
@@ -196,43 +196,43 @@ on_member globals locals (member.Instance line name block) = on_two line _ _ (on
 on_member globals locals (member.Bind line instance port target) = on_two line _ _ (on_uses locals line instance) (on_uses locals line target)
 
 -- blocks
-on_tdf : (globals : List Name) (b : PureTdf) → On (lines_of_tdf b) (declares globals b.line b.name ++ tdf_faults globals b)
+on_tdf : (globals : List Name) (b : PureTdf) → On (lines_of_tdf b) (declares globals b.line b.name ++ tdf_name_faults globals b)
 on_tdf globals b =
     let own : List Name = with_names [] (names_of_tdf_lines b.decls) in
-    on_head b.line _ (declares globals b.line b.name) (tdf_faults globals b) (on_declares globals b.line b.name)
-    (on_both _ _ _ _ (on_lines line_of_tdf_line (tdf_line_faults globals) names_of_tdf_line (on_tdf_line globals) [] b.decls)
-    (on_both _ _ _ _ (on_each line_of_attr (attr_faults own) (on_attr own) b.attrs)
-    (on_both _ _ _ _ (on_each line_of_initial (initial_faults own) (λ i. on_uses own i.line i.port) b.initials)
+    on_head b.line _ (declares globals b.line b.name) (tdf_name_faults globals b) (on_declares globals b.line b.name)
+    (on_both _ _ _ _ (on_lines line_of_tdf_line (tdf_line_name_faults globals) names_of_tdf_line (on_tdf_line globals) [] b.decls)
+    (on_both _ _ _ _ (on_each line_of_attr (attr_name_faults own) (on_attr own) b.attrs)
+    (on_both _ _ _ _ (on_each line_of_initial (initial_name_faults own) (λ i. on_uses own i.line i.port) b.initials)
     (on_both _ _ _ _ (on_body globals own b.initialize.list b.initialize.end)
     (on_both _ _ _ _ (on_body globals own b.processing.list b.processing.end)
     (on_both _ _ _ _ (on_body globals own b.change.list b.change.end)
     (on_body globals own b.reinitialize.list b.reinitialize.end)))))))
 
-on_process : (globals locals : List Name) (p : PureProcess) → On (lines_of_process p) (process_faults globals locals p)
-on_process globals locals p = on_later p.line _ (process_faults globals locals p)
-    (on_both _ _ _ _ (on_each line_of_sense (sense_faults locals) (λ s. on_uses locals s.line s.name) p.sensitive) (on_body globals locals p.body.list p.body.end))
+on_process : (globals locals : List Name) (p : PureProcess) → On (lines_of_process p) (process_name_faults globals locals p)
+on_process globals locals p = on_later p.line _ (process_name_faults globals locals p)
+    (on_both _ _ _ _ (on_each line_of_sense (sense_name_faults locals) (λ s. on_uses locals s.line s.name) p.sensitive) (on_body globals locals p.body.list p.body.end))
 
-on_de : (globals : List Name) (b : PureDe) → On (lines_of_de b) (declares globals b.line b.name ++ de_faults globals b)
+on_de : (globals : List Name) (b : PureDe) → On (lines_of_de b) (declares globals b.line b.name ++ de_name_faults globals b)
 on_de globals b =
     let own : List Name = with_names [] (names_of_de_lines b.decls) in
-    on_head b.line _ (declares globals b.line b.name) (de_faults globals b) (on_declares globals b.line b.name)
-    (on_both _ _ _ _ (on_lines line_of_de_line (de_line_faults globals) names_of_de_line (on_de_line globals) [] b.decls)
-    (on_parts lines_of_process (process_faults globals own) (on_process globals own) b.processes))
+    on_head b.line _ (declares globals b.line b.name) (de_name_faults globals b) (on_declares globals b.line b.name)
+    (on_both _ _ _ _ (on_lines line_of_de_line (de_line_name_faults globals) names_of_de_line (on_de_line globals) [] b.decls)
+    (on_parts lines_of_process (process_name_faults globals own) (on_process globals own) b.processes))
 
-on_members : (globals : List Name) (b : PureComposite) → On (map line_of_member b.members) (composite_faults globals b)
-on_members globals b = on_lines line_of_member (member_faults globals) names_of_member (on_member globals) [] b.members
+on_members : (globals : List Name) (b : PureComposite) → On (map line_of_member b.members) (composite_name_faults globals b)
+on_members globals b = on_lines line_of_member (member_name_faults globals) names_of_member (on_member globals) [] b.members
 
-on_global : (globals : List Name) (g : PureGlobal) → On (lines_of_global g) (global_faults globals g)
+on_global : (globals : List Name) (g : PureGlobal) → On (lines_of_global g) (global_name_faults globals g)
 on_global globals (GShape shape) = on_declares globals shape.line shape.name
 on_global globals (GTdf block) = on_tdf globals block
 on_global globals (GDe block) = on_de globals block
-on_global globals (GNet block) = on_head block.line (map line_of_member block.members) (declares globals block.line block.name) (composite_faults globals block)
+on_global globals (GNet block) = on_head block.line (map line_of_member block.members) (declares globals block.line block.name) (composite_name_faults globals block)
     (on_declares globals block.line block.name) (on_members globals block)
 
 pub faults_stand : FaultsStand
 unfolding name_faults
 faults_stand tree =
     let globals : List Name = with_names [] (names_of_globals tree.globals) in
-    on_both _ _ _ _ (on_blocks lines_of_global global_faults names_of_global on_global [] tree.globals)
-    (on_both _ _ _ _ (on_later tree.top.line (map line_of_member tree.top.members) (composite_faults globals tree.top) (on_members globals tree.top))
+    on_both _ _ _ _ (on_blocks lines_of_global global_name_faults names_of_global on_global [] tree.globals)
+    (on_both _ _ _ _ (on_later tree.top.line (map line_of_member tree.top.members) (composite_name_faults globals tree.top) (on_members globals tree.top))
     (on_lines line_of_trace trace_faults names_of_trace (λ labels t. on_declares labels t.line t.label) [] tree.traces))

@@ -7,11 +7,11 @@ use Rattle.std.specs.Prelude.{map}
 use Rattle.tdf_base.proofs.Api.{least_none, least_append}
 use Rattle.tdf_base.specs.First.{least_with}
 use Rattle.tdf_base.specs.declared.first.LineFault.{LineFault}
-use Rattle.tdf_expr_names.specs.Names.{Name, with_name, with_names, in_order}
+use Rattle.tdf_expr_names.specs.Names.{Name, with_declared, with_names, in_order}
 
 pub names_append : (names some more : List Name) → with_names names (some ++ more) ≡ with_names (with_names names some) more
 names_append names [] more = refl
-names_append names (name ∷ some) more = names_append (with_name names name) some more
+names_append names (name ∷ some) more = names_append (with_declared names name) some more
 
 -- lines as they are
 pub order_more : {L : Type 0} (faults : List Name → L → List LineFault) (declared : L → List Name) (names : List Name) (list : List L) (i : ℕ) (d : L) (first : Option LineFault) → i < length list

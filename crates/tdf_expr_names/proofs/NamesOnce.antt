@@ -8,7 +8,7 @@ use Rattle.tdf_base.specs.declared.codes.Code.TheVariants.{Duplicate}
 use Rattle.tdf_base.proofs.Api.{if_none, none_first, none_second}
 use Rattle.tdf_base.specs.declared.first.LineFault.{LineFault}
 use Rattle.tdf_expr_names.specs.Law.{AreApart, DeclaresOnce, KeepsNamesOnce}
-use Rattle.tdf_expr_names.specs.Names.{Name, has, with_name, with_names, declares, in_order, name_faults, store_faults, name_of_store, tdf_line_faults, names_of_tdf_line, de_line_faults, names_of_de_line, member_faults, names_of_member, global_faults, globals_faults, names_of_global, names_of_globals, trace_faults, traces_faults, names_of_trace, composite_faults, names_of_tdf_lines, names_of_de_lines, tdf_faults, de_faults}
+use Rattle.tdf_expr_names.specs.Names.{Name, has, with_declared, with_names, declares, in_order, name_faults, store_name_faults, name_of_store, tdf_line_name_faults, names_of_tdf_line, de_line_name_faults, names_of_de_line, member_name_faults, names_of_member, global_name_faults, globals_faults, names_of_global, names_of_globals, trace_faults, traces_name_faults, names_of_trace, composite_name_faults, names_of_tdf_lines, names_of_de_lines, tdf_name_faults, de_name_faults}
 use Rattle.tdf_expr_names.proofs.Tables.{has_both}
 use Rattle.tdf_lang_tree.specs.Kept.{Each}
 use Rattle.tdf_lang_tree.specs.Pure.{PureStore, SConst, SVar, SArray, PureTdfLine, TPort, TStore, TRate, PureDeLine, DPort, DStore, DEvent, PureGlobal, GShape, GTdf, GDe, GNet, PureTrace}
@@ -18,11 +18,11 @@ use Rattle.tdf_lang_tree.specs.declared.blocks.Member.TheVariants as member
 -- each name is new where it is declared
 abbrev Fresh : List Name → List Name → Type 0
 Fresh names [] = Unit {0}
-Fresh names (x ∷ xs) = (has names x ≡ false) × Fresh (with_name names x) xs
+Fresh names (x ∷ xs) = (has names x ≡ false) × Fresh (with_declared names x) xs
 
 fresh_append : (names xs ys : List Name) → Fresh names xs → Fresh (with_names names xs) ys → Fresh names (xs ++ ys)
 fresh_append names [] ys f g = g
-fresh_append names (x ∷ xs) ys f g = (f.0, fresh_append (with_name names x) xs ys f.1 g)
+fresh_append names (x ∷ xs) ys f g = (f.0, fresh_append (with_declared names x) xs ys f.1 g)
 
 fresh_lines : {L : Type 0} (faults : List Name → L → List LineFault) (declared : L → List Name) → ((names : List Name) (l : L) → faults names l ≡ [] → Fresh names (declared l))
     → (names : List Name) (lines : List L) → in_order faults declared names lines ≡ [] → Fresh names (flat_map declared lines)
@@ -61,11 +61,11 @@ misses_one false names x y ys e is new later = ap (λ b. b || has ys x) e ∙ la
 
 misses : (names : List Name) (x : Name) (xs : List Name) → has names x ≡ true → Fresh names xs → has xs x ≡ false
 misses names x [] is f = refl
-misses names x (y ∷ ys) is f = misses_one (pointwise nat_eq x y) names x y ys refl is f.0 (misses (with_name names y) x ys (kept_if (has names y) names x y is) f.1)
+misses names x (y ∷ ys) is f = misses_one (pointwise nat_eq x y) names x y ys refl is f.0 (misses (with_declared names y) x ys (kept_if (has names y) names x y is) f.1)
 
 apart : (names xs : List Name) → Fresh names xs → AreApart xs
 apart names [] f = tt
-apart names (x ∷ xs) f = (misses (with_name names x) x xs (added_if (has names x) names x refl) f.1, apart (with_name names x) xs f.1)
+apart names (x ∷ xs) f = (misses (with_declared names x) x xs (added_if (has names x) names x refl) f.1, apart (with_declared names x) xs f.1)
 
 -- the lines of blocks
 fresh_one : (names : List Name) (line : ℕ) (name : Name) (more : List LineFault) → declares names line name ++ more ≡ [] → Fresh names (name ∷ [])
@@ -74,49 +74,49 @@ fresh_one names line name more e = (if_none (has names name) Duplicate line (non
 fresh_alone : (names : List Name) (line : ℕ) (name : Name) → declares names line name ≡ [] → Fresh names (name ∷ [])
 fresh_alone names line name e = (if_none (has names name) Duplicate line e, tt)
 
-fresh_store : (globals names : List Name) (store : PureStore) → store_faults globals names store ≡ [] → Fresh names (name_of_store store ∷ [])
+fresh_store : (globals names : List Name) (store : PureStore) → store_name_faults globals names store ≡ [] → Fresh names (name_of_store store ∷ [])
 fresh_store globals names (SConst line name format value) e = fresh_one names line name _ e
 fresh_store globals names (SVar line name format value) e = fresh_one names line name _ e
 fresh_store globals names (SArray line name format size values) e = fresh_one names line name _ e
 
-fresh_tdf_line : (globals names : List Name) (line : PureTdfLine) → tdf_line_faults globals names line ≡ [] → Fresh names (names_of_tdf_line line)
+fresh_tdf_line : (globals names : List Name) (line : PureTdfLine) → tdf_line_name_faults globals names line ≡ [] → Fresh names (names_of_tdf_line line)
 fresh_tdf_line globals names (TPort port) e = fresh_one names port.line port.name _ e
 fresh_tdf_line globals names (TStore store) e = fresh_store globals names store e
 fresh_tdf_line globals names (TRate line name least greatest start) e = fresh_alone names line name e
 
-fresh_de_line : (globals names : List Name) (line : PureDeLine) → de_line_faults globals names line ≡ [] → Fresh names (names_of_de_line line)
+fresh_de_line : (globals names : List Name) (line : PureDeLine) → de_line_name_faults globals names line ≡ [] → Fresh names (names_of_de_line line)
 fresh_de_line globals names (DPort port) e = fresh_one names port.line port.name _ e
 fresh_de_line globals names (DStore store) e = fresh_store globals names store e
 fresh_de_line globals names (DEvent line name) e = fresh_alone names line name e
 
-fresh_member : (globals names : List Name) (m : Member) → member_faults globals names m ≡ [] → Fresh names (names_of_member m)
+fresh_member : (globals names : List Name) (m : Member) → member_name_faults globals names m ≡ [] → Fresh names (names_of_member m)
 fresh_member globals names (member.Port port) e = fresh_one names port.line port.name _ e
 fresh_member globals names (member.Signal line name format) e = fresh_one names line name _ e
 fresh_member globals names (member.DeSignal line name format start) e = fresh_one names line name _ e
 fresh_member globals names (member.Instance line name block) e = fresh_one names line name _ e
 fresh_member globals names (member.Bind line instance port target) e = tt
 
-fresh_global : (names : List Name) (global : PureGlobal) → global_faults names global ≡ [] → Fresh names (names_of_global global)
+fresh_global : (names : List Name) (global : PureGlobal) → global_name_faults names global ≡ [] → Fresh names (names_of_global global)
 fresh_global names (GShape shape) e = fresh_alone names shape.line shape.name e
 fresh_global names (GTdf block) e = fresh_one names block.line block.name _ e
 fresh_global names (GDe block) e = fresh_one names block.line block.name _ e
 fresh_global names (GNet block) e = fresh_one names block.line block.name _ e
 
 -- a block, and the whole model
-once_in : (names : List Name) (global : PureGlobal) → global_faults names global ≡ [] → DeclaresOnce global
+once_in : (names : List Name) (global : PureGlobal) → global_name_faults names global ≡ [] → DeclaresOnce global
 once_in names (GShape shape) e = tt
 once_in names (GTdf block) e = apart [] (names_of_tdf_lines block.decls)
-    (fresh_lines (tdf_line_faults names) names_of_tdf_line (fresh_tdf_line names) [] block.decls (none_first _ _ (none_second (declares names block.line block.name) (tdf_faults names block) e)))
+    (fresh_lines (tdf_line_name_faults names) names_of_tdf_line (fresh_tdf_line names) [] block.decls (none_first _ _ (none_second (declares names block.line block.name) (tdf_name_faults names block) e)))
 once_in names (GDe block) e = apart [] (names_of_de_lines block.decls)
-    (fresh_lines (de_line_faults names) names_of_de_line (fresh_de_line names) [] block.decls (none_first _ _ (none_second (declares names block.line block.name) (de_faults names block) e)))
+    (fresh_lines (de_line_name_faults names) names_of_de_line (fresh_de_line names) [] block.decls (none_first _ _ (none_second (declares names block.line block.name) (de_name_faults names block) e)))
 once_in names (GNet block) e = apart [] (flat_map names_of_member block.members)
-    (fresh_lines (member_faults names) names_of_member (fresh_member names) [] block.members (none_second (declares names block.line block.name) (composite_faults names block) e))
+    (fresh_lines (member_name_faults names) names_of_member (fresh_member names) [] block.members (none_second (declares names block.line block.name) (composite_name_faults names block) e))
 
 each_once : (names : List Name) (list : List PureGlobal) → globals_faults names list ≡ [] → Each DeclaresOnce list
 each_once names [] e = tt
 each_once names (g ∷ gs) e = (
-  once_in names g (none_first (global_faults names g) (globals_faults (with_names names (names_of_global g)) gs) e),
-  each_once (with_names names (names_of_global g)) gs (none_second (global_faults names g) (globals_faults (with_names names (names_of_global g)) gs) e),
+  once_in names g (none_first (global_name_faults names g) (globals_faults (with_names names (names_of_global g)) gs) e),
+  each_once (with_names names (names_of_global g)) gs (none_second (global_name_faults names g) (globals_faults (with_names names (names_of_global g)) gs) e),
 )
 
 labels_of : (traces : List PureTrace) → flat_map names_of_trace traces ≡ map (λ trace. trace.label) traces
@@ -127,14 +127,14 @@ pub names_once : KeepsNamesOnce
 unfolding name_faults
 names_once tree e =
     let globals : globals_faults [] tree.globals ≡ [] = none_first _ _ e in
-    let rest : composite_faults (with_names [] (names_of_globals tree.globals)) tree.top ++ traces_faults [] tree.traces ≡ [] = none_second (globals_faults [] tree.globals) _ e in
-    let top : composite_faults (with_names [] (names_of_globals tree.globals)) tree.top ≡ [] = none_first _ _ rest in
-    let traces : traces_faults [] tree.traces ≡ [] = none_second (composite_faults (with_names [] (names_of_globals tree.globals)) tree.top) _ rest in
+    let rest : composite_name_faults (with_names [] (names_of_globals tree.globals)) tree.top ++ traces_name_faults [] tree.traces ≡ [] = none_second (globals_faults [] tree.globals) _ e in
+    let top : composite_name_faults (with_names [] (names_of_globals tree.globals)) tree.top ≡ [] = none_first _ _ rest in
+    let traces : traces_name_faults [] tree.traces ≡ [] = none_second (composite_name_faults (with_names [] (names_of_globals tree.globals)) tree.top) _ rest in
     record {
-      globals = apart [] (names_of_globals tree.globals) (fresh_lines global_faults names_of_global fresh_global [] tree.globals globals);
+      globals = apart [] (names_of_globals tree.globals) (fresh_lines global_name_faults names_of_global fresh_global [] tree.globals globals);
       blocks = each_once [] tree.globals globals;
       top = apart [] (flat_map names_of_member tree.top.members)
-          (fresh_lines (member_faults (with_names [] (names_of_globals tree.globals))) names_of_member (fresh_member (with_names [] (names_of_globals tree.globals))) [] tree.top.members top);
+          (fresh_lines (member_name_faults (with_names [] (names_of_globals tree.globals))) names_of_member (fresh_member (with_names [] (names_of_globals tree.globals))) [] tree.top.members top);
       labels = subst AreApart (labels_of tree.traces)
           (apart [] (flat_map names_of_trace tree.traces) (fresh_lines trace_faults names_of_trace (λ names t is. fresh_alone names t.line t.label is) [] tree.traces traces));
     }

@@ -5,7 +5,7 @@ use Rattle.std.specs.Cmp.Lexicographic.{pointwise}
 use Rattle.std.specs.List.{list_any}
 use Rattle.std.proofs.lemmas.List.{map-append}
 use Rattle.std.proofs.lemmas.List.Folds.{list_any-append}
-use Rattle.tdf_expr_names.specs.Names.{has, with_name}
+use Rattle.tdf_expr_names.specs.Names.{has, with_declared}
 
 pub any_map : {A B : Type 0} (f : A → B) (p : B → Bool) (xs : List A) → list_any (λ x. p (f x)) xs ≡ list_any p (map f xs)
 any_map f p [] = refl
@@ -20,7 +20,7 @@ map_if true names k = refl
 map_if false names k = map-append (λ k. k.now) names (k ∷ [])
 
 pub added_bytes : (names : List (Bor (List ℕ))) (k : Bor (List ℕ))
-    → map (λ k. k.now) (if list_any (λ n. pointwise nat_eq k.now n.now) names then names else names ++ k ∷ []) ≡ with_name (map (λ k. k.now) names) k.now
+    → map (λ k. k.now) (if list_any (λ n. pointwise nat_eq k.now n.now) names then names else names ++ k ∷ []) ≡ with_declared (map (λ k. k.now) names) k.now
 added_bytes names k = map_if (list_any (λ n. pointwise nat_eq k.now n.now) names) names k
     ∙ ap (λ b. if b then map (λ k. k.now) names else map (λ k. k.now) names ++ k.now ∷ []) (has_bytes names k.now)
 

@@ -2,7 +2,7 @@
 
 ghost use Rattle.std.specs.Prelude.{◌≡◌, ◌++◌, map, IfOk, OnOk};
 ghost use Rattle.tdf_base.specs.First.{least_with};
-ghost use Rattle.tdf_expr_names.specs.Names.{parts_faults, tdf_faults, process_faults, de_faults, composite_faults, tdf_lines_faults, names_of_tdf_lines, de_lines_faults, names_of_de_lines, processes_faults};
+ghost use Rattle.tdf_expr_names.specs.Names.{parts_faults, tdf_name_faults, process_name_faults, de_name_faults, composite_name_faults, tdf_lines_faults, names_of_tdf_lines, de_lines_faults, names_of_de_lines, processes_faults};
 ghost use Rattle.tdf_expr_names.specs.machine.Scope.{locals, declared};
 ghost use Rattle.tdf_lang_tree.specs.Views.{pure_tdf, pure_process, pure_de, pure_composite};
 
@@ -68,7 +68,7 @@ pub(crate) fn check_tdf<'t>(
     block: &'t TdfDecl,
 ) -> Result<Option<LineFault>, AllocError>
     ensures { IfOk result (λ f. f ≡ least_with first
-        (tdf_faults globals.now (pure_tdf block.entry.now))) }
+        (tdf_name_faults globals.now (pure_tdf block.entry.now))) }
 {
     let mut scope = Scope::new(alloc, globals);
     let found = tdf_within(first, &mut scope, block);
@@ -87,7 +87,7 @@ fn check_process<'t>(
     process: &'t Process,
 ) -> Result<Option<LineFault>, AllocError>
     ensures first { IfOk result (λ f. f ≡ least_with first
-        (process_faults scope.old.globals (locals scope.old) (pure_process process.entry.now))) }
+        (process_name_faults scope.old.globals (locals scope.old) (pure_process process.entry.now))) }
     ensures same { OnOk result (scope.new ≡ scope.old) }
 {
     let first = check_senses(first, scope, &process.sensitive);
@@ -146,7 +146,7 @@ pub(crate) fn check_de<'t>(
     block: &'t DeDecl,
 ) -> Result<Option<LineFault>, AllocError>
     ensures { IfOk result (λ f. f ≡ least_with first
-        (de_faults globals.now (pure_de block.entry.now))) }
+        (de_name_faults globals.now (pure_de block.entry.now))) }
 {
     let mut scope = Scope::new(alloc, globals);
     let found = de_within(first, &mut scope, block);
@@ -165,7 +165,7 @@ pub(crate) fn check_composite<'t>(
     block: &'t Composite,
 ) -> Result<Option<LineFault>, AllocError>
     ensures { IfOk result (λ f. f ≡ least_with first
-        (composite_faults globals.now (pure_composite block.entry.now))) }
+        (composite_name_faults globals.now (pure_composite block.entry.now))) }
 {
     let mut scope = Scope::new(alloc, globals);
     let found = check_members(first, &mut scope, &block.members);

@@ -2,7 +2,7 @@
 
 ghost use Rattle.std.specs.Prelude.{◌≡◌};
 ghost use Rattle.tdf_base.specs.First.{least_with};
-ghost use Rattle.tdf_expr_names.specs.Names.{uses, uses_maybe, index_faults, item_faults, limit_faults, expr_faults};
+ghost use Rattle.tdf_expr_names.specs.Names.{uses, uses_maybe, index_name_faults, item_faults, limit_name_faults, expr_name_faults};
 ghost use Rattle.tdf_expr_names.specs.machine.Scope.{locals};
 ghost use Rattle.tdf_lang_tree.specs.Views.{pure_expr};
 
@@ -70,7 +70,7 @@ fn check_index(
     line: u32,
     index: &Index,
 ) -> Option<LineFault>
-    ensures { result ≡ least_with first (index_faults (locals scope.now) line index.now) }
+    ensures { result ≡ least_with first (index_name_faults (locals scope.now) line index.now) }
 {
     match index {
         Index::Int(_) => first,
@@ -107,7 +107,7 @@ pub(crate) fn check_limit(
     line: u32,
     limit: &Limit,
 ) -> Option<LineFault>
-    ensures { result ≡ least_with first (limit_faults (locals scope.now) line limit.now) }
+    ensures { result ≡ least_with first (limit_name_faults (locals scope.now) line limit.now) }
 {
     match limit {
         Limit::Int(_) => first,
@@ -125,7 +125,7 @@ pub(crate) fn check_expr(
     expr: &Expr,
 ) -> Option<LineFault>
     ensures { result ≡ least_with first
-        (expr_faults scope.now.globals (locals scope.now) line (pure_expr expr.now)) }
+        (expr_name_faults scope.now.globals (locals scope.now) line (pure_expr expr.now)) }
 {
     match expr {
         Expr::Number(_) => first,

@@ -2,7 +2,7 @@
 
 ghost use Rattle.std.specs.Prelude.{◌≡◌, ◌++◌, [], ◌∷◌, IfOk, OnOk};
 ghost use Rattle.tdf_base.specs.First.{least_with};
-ghost use Rattle.tdf_expr_names.specs.Names.{uses, declares, format_faults, formatted_faults, store_faults, name_of_store, tdf_line_faults, names_of_tdf_line, de_line_faults, names_of_de_line, member_faults, names_of_member, attr_faults};
+ghost use Rattle.tdf_expr_names.specs.Names.{uses, declares, format_name_faults, formatted_faults, store_name_faults, name_of_store, tdf_line_name_faults, names_of_tdf_line, de_line_name_faults, names_of_de_line, member_name_faults, names_of_member, attr_name_faults};
 ghost use Rattle.tdf_expr_names.specs.machine.Scope.{locals, declared};
 ghost use Rattle.tdf_lang_tree.specs.Views.{pure_store, pure_tdf_line, pure_de_line};
 
@@ -39,7 +39,7 @@ fn check_format(
     line: u32,
     format: &FormatRef,
 ) -> Option<LineFault>
-    ensures { result ≡ least_with first (format_faults scope.now.globals line format.now) }
+    ensures { result ≡ least_with first (format_name_faults scope.now.globals line format.now) }
 {
     match format {
         FormatRef::Own(_) => first,
@@ -77,7 +77,7 @@ fn check_store<'t>(
     store: &'t Store,
 ) -> Result<Option<LineFault>, AllocError>
     ensures first { IfOk result (λ f. f ≡ least_with first
-        (store_faults scope.old.globals scope.old.own (pure_store store.entry.now))) }
+        (store_name_faults scope.old.globals scope.old.own (pure_store store.entry.now))) }
     ensures names { OnOk result (scope.new ≡ declared scope.old
         (name_of_store (pure_store store.entry.now) ∷ [])) }
 {
@@ -113,7 +113,7 @@ pub(crate) fn check_tdf_line<'t>(
     line: &'t TdfLine,
 ) -> Result<Option<LineFault>, AllocError>
     ensures first { IfOk result (λ f. f ≡ least_with first
-        (tdf_line_faults scope.old.globals scope.old.own (pure_tdf_line line.entry.now))) }
+        (tdf_line_name_faults scope.old.globals scope.old.own (pure_tdf_line line.entry.now))) }
     ensures names { OnOk result (scope.new ≡ declared scope.old
         (names_of_tdf_line (pure_tdf_line line.entry.now))) }
 {
@@ -136,7 +136,7 @@ pub(crate) fn check_de_line<'t>(
     line: &'t DeLine,
 ) -> Result<Option<LineFault>, AllocError>
     ensures first { IfOk result (λ f. f ≡ least_with first
-        (de_line_faults scope.old.globals scope.old.own (pure_de_line line.entry.now))) }
+        (de_line_name_faults scope.old.globals scope.old.own (pure_de_line line.entry.now))) }
     ensures names { OnOk result (scope.new ≡ declared scope.old
         (names_of_de_line (pure_de_line line.entry.now))) }
 {
@@ -206,7 +206,7 @@ pub(crate) fn check_member<'t>(
     member: &'t Member,
 ) -> Result<Option<LineFault>, AllocError>
     ensures first { IfOk result (λ f. f ≡ least_with first
-        (member_faults scope.old.globals scope.old.own member.entry.now)) }
+        (member_name_faults scope.old.globals scope.old.own member.entry.now)) }
     ensures names { OnOk result (scope.new ≡ declared scope.old
         (names_of_member member.entry.now)) }
 {
@@ -236,7 +236,7 @@ pub(crate) fn check_member<'t>(
 /// The first fault so far, with those of a line of `set_attributes`.
 #[tactic(auto, using(crate::proofs::LineFirsts::line_laws))]
 pub(crate) fn check_attr(first: Option<LineFault>, scope: &Scope, attr: &Attr) -> Option<LineFault>
-    ensures { result ≡ least_with first (attr_faults (locals scope.now) attr.now) }
+    ensures { result ≡ least_with first (attr_name_faults (locals scope.now) attr.now) }
 {
     match attr {
         Attr::Step { line, port, .. } => check_maybe(first, scope, *line, port),

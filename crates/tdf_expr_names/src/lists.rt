@@ -3,7 +3,7 @@
 ghost use Rattle.std.specs.List.{flat_map};
 ghost use Rattle.std.specs.Prelude.{◌≡◌, map, IfOk, OnOk};
 ghost use Rattle.tdf_base.specs.First.{least_with};
-ghost use Rattle.tdf_expr_names.specs.Names.{tdf_lines_faults, names_of_tdf_lines, de_lines_faults, names_of_de_lines, members_faults, attr_faults, initial_faults, sense_faults};
+ghost use Rattle.tdf_expr_names.specs.Names.{tdf_lines_faults, names_of_tdf_lines, de_lines_faults, names_of_de_lines, members_faults, attr_name_faults, initial_name_faults, sense_name_faults};
 ghost use Rattle.tdf_expr_names.specs.machine.Scope.{locals, declared};
 ghost use Rattle.tdf_lang_tree.specs.Views.{pure_tdf_line, pure_de_line};
 
@@ -86,7 +86,7 @@ pub(crate) fn check_attrs(
     attrs: &Vec<Attr>,
 ) -> Option<LineFault>
     ensures { result ≡ least_with first
-        (flat_map (attr_faults (locals scope.now)) attrs.now.items) }
+        (flat_map (attr_name_faults (locals scope.now)) attrs.now.items) }
 {
     let mut first = first;
     for attr in attrs {
@@ -103,7 +103,7 @@ pub(crate) fn check_initials(
     initials: &Vec<Initial>,
 ) -> Option<LineFault>
     ensures { result ≡ least_with first
-        (flat_map (initial_faults (locals scope.now)) initials.now.items) }
+        (flat_map (initial_name_faults (locals scope.now)) initials.now.items) }
 {
     let mut first = first;
     for initial in initials {
@@ -120,7 +120,7 @@ pub(crate) fn check_senses(
     senses: &Vec<Sense>,
 ) -> Option<LineFault>
     ensures { result ≡ least_with first
-        (flat_map (sense_faults (locals scope.now)) senses.now.items) }
+        (flat_map (sense_name_faults (locals scope.now)) senses.now.items) }
 {
     let mut first = first;
     for sense in senses {

@@ -3,7 +3,7 @@
 ghost use Rattle.std.specs.Prelude.{◌≡◌, ◌≢◌, [], ◌∷◌, map, Err, IfOk, OnOk};
 ghost use Rattle.tdf_base.specs.First.{least_with, first_of, verdict_of};
 ghost use Rattle.tdf_base.specs.declared.refusal.TypeErr.TheVariants as why;
-ghost use Rattle.tdf_expr_names.specs.Names.{declares, with_names, global_faults, globals_faults, names_of_global, names_of_globals, composite_faults, traces_faults, name_faults};
+ghost use Rattle.tdf_expr_names.specs.Names.{declares, with_names, global_name_faults, globals_faults, names_of_global, names_of_globals, composite_name_faults, traces_name_faults, name_faults};
 ghost use Rattle.tdf_lang_tree.specs.Views.{pure_global, pure_trace, pure_tree};
 
 use crate::blocks::{check_composite, check_de, check_tdf};
@@ -49,7 +49,7 @@ fn check_global<'t>(
     global: &'t Global1,
 ) -> Result<Option<LineFault>, AllocError>
     ensures { IfOk result (λ f. f ≡ least_with first
-        (global_faults globals.now (pure_global global.now))) }
+        (global_name_faults globals.now (pure_global global.now))) }
 {
     match global {
         Global1::Shape(shape) => Ok(check_head(first, globals, shape.line, &shape.name)),
@@ -115,7 +115,7 @@ fn check_traces<'t>(
     traces: &'t Vec<Trace1>,
 ) -> Result<Option<LineFault>, AllocError>
     ensures { IfOk result (λ f. f ≡ least_with first
-        (traces_faults labels.old (map pure_trace traces.entry.now.items))) }
+        (traces_name_faults labels.old (map pure_trace traces.entry.now.items))) }
 {
     let mut first = first;
     for trace in traces {
@@ -137,7 +137,7 @@ fn check_blocks<'t>(
 ) -> Result<Option<LineFault>, AllocError>
     ensures { IfOk result (λ f. f ≡ least_with
         (least_with None (globals_faults globals.old (pure_tree tree.entry.now).globals))
-        (composite_faults (with_names globals.old (names_of_globals (pure_tree tree.entry.now).globals))
+        (composite_name_faults (with_names globals.old (names_of_globals (pure_tree tree.entry.now).globals))
         (pure_tree tree.entry.now).top)) }
 {
     let first = check_globals(alloc, None, globals, &tree.globals)?;
@@ -153,7 +153,7 @@ fn check_labels(
     first: Option<LineFault>,
     traces: &Vec<Trace1>,
 ) -> Result<Option<LineFault>, AllocError>
-    ensures { IfOk result (λ f. f ≡ least_with first (traces_faults [] (map pure_trace traces.now.items))) }
+    ensures { IfOk result (λ f. f ≡ least_with first (traces_name_faults [] (map pure_trace traces.now.items))) }
 {
     let mut labels = Table::new(alloc);
     let found = check_traces(first, &mut labels, traces);

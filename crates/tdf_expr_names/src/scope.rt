@@ -25,7 +25,7 @@ impl<'g, 't> Model for Scope<'g, 't> {
 ghost use Rattle.std.specs.Cmp.Lexicographic.{pointwise};
 ghost use Rattle.std.specs.List.{list_any};
 ghost use Rattle.std.specs.Prelude.{◌≡◌, [], ◌∷◌, not, nat_eq, length, take, IfOk, OnOk};
-ghost use Rattle.tdf_expr_names.specs.Names.{has, with_name};
+ghost use Rattle.tdf_expr_names.specs.Names.{has, with_declared};
 ghost use Rattle.tdf_expr_names.specs.machine.Scope.{locals, declared};
 
 /// Whether a name is one of a few.
@@ -89,7 +89,7 @@ impl<'g, 't> Scope<'g, 't> {
         ensures new { IfOk result (λ new. new ≡ not (has (locals self.old) name.entry.now)) }
         ensures globals { OnOk result (self.new.globals ≡ self.old.globals) }
         ensures own { OnOk result (self.new.own ≡ self.old.own) }
-        ensures names { OnOk result (locals self.new ≡ with_name (locals self.old) name.entry.now) }
+        ensures names { OnOk result (locals self.new ≡ with_declared (locals self.old) name.entry.now) }
         ensures outer { OnOk result (take (length self.old.loops) self.new.loops ≡ self.old.loops) }
     {
         if self.has_local(name) {

@@ -2,7 +2,7 @@
 
 ghost use Rattle.std.specs.Prelude.{◌≡◌, ◌++◌, IfOk, OnOk};
 ghost use Rattle.tdf_base.specs.First.{least_with};
-ghost use Rattle.tdf_expr_names.specs.Names.{with_name, declares, uses, item_faults, limit_faults, expr_faults, stmt_faults, stmts_faults};
+ghost use Rattle.tdf_expr_names.specs.Names.{with_declared, declares, uses, item_faults, limit_name_faults, expr_name_faults, stmt_faults, stmts_faults};
 ghost use Rattle.tdf_expr_names.specs.machine.Scope.{locals};
 ghost use Rattle.tdf_lang_tree.specs.Views.{pure_expr, pure_stmt, pure_stmts};
 
@@ -24,7 +24,7 @@ fn check_assign(
 ) -> Option<LineFault>
     ensures { result ≡ least_with first (uses (locals scope.now) line name.now
         ++ (item_faults (locals scope.now) line index.now
-        ++ expr_faults scope.now.globals (locals scope.now) line (pure_expr value.now))) }
+        ++ expr_name_faults scope.now.globals (locals scope.now) line (pure_expr value.now))) }
 {
     let first = check_use(first, scope, line, name);
     let first = check_item(first, scope, line, index);
@@ -46,9 +46,9 @@ fn check_for<'t>(
     body: &'t Vec<Stmt>,
 ) -> Result<Option<LineFault>, AllocError>
     ensures first { IfOk result (λ f. f ≡ least_with first
-        (limit_faults (locals scope.old) line limit.now
+        (limit_name_faults (locals scope.old) line limit.now
         ++ (declares (locals scope.old) line var.entry.now
-        ++ stmts_faults scope.old.globals (with_name (locals scope.old) var.entry.now)
+        ++ stmts_faults scope.old.globals (with_declared (locals scope.old) var.entry.now)
         (pure_stmts body.entry.now.items)))) }
     ensures same { OnOk result (scope.new ≡ scope.old) }
 {

@@ -1,7 +1,7 @@
 //! The names of one name space.
 
 ghost use Rattle.std.specs.Prelude.{◌≡◌, [], not, IfOk, OnOk};
-ghost use Rattle.tdf_expr_names.specs.Names.{has, with_name};
+ghost use Rattle.tdf_expr_names.specs.Names.{has, with_declared};
 
 use indexmap::IndexSet;
 use std::alloc::{AllocError, Global};
@@ -37,7 +37,7 @@ impl<'t> Table<'t> {
     /// Out of memory.
     pub(crate) fn add(&mut self, name: &'t [u8]) -> Result<bool, AllocError>
         ensures new { IfOk result (λ new. new ≡ not (has self.old name.entry.now)) }
-        ensures names { OnOk result (self.new ≡ with_name self.old name.entry.now) }
+        ensures names { OnOk result (self.new ≡ with_declared self.old name.entry.now) }
     {
         let (_, new) = self.set.insert_full(name)?;
         Ok(new)

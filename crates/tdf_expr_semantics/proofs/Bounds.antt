@@ -6,11 +6,11 @@ use Rattle.std.proofs.lemmas.Nat.{pow-add}
 use Rattle.std.specs.Prelude.{if◌then◌else◌}
 use Rattle.tdf_fixed.proofs.Api.{in_range, in_width}
 use Rattle.tdf_fixed.specs.Cast.{IsLegal}
-use Rattle.tdf_fixed.specs.Overflow.{IsIn}
+use Rattle.tdf_fixed.specs.Overflow.{IsOfWidth}
 use Rattle.tdf_fixed.specs.declared.raw.Raw.{Raw}
-use Rattle.tdf_expr_semantics.specs.Laws.{IsWithin}
+use Rattle.tdf_expr_semantics.specs.Laws.{IsWithinWidth}
 use Rattle.tdf_expr_semantics.specs.Value.{both, chosen, truth, shifted, of_shape, cast_in, cast_number}
-use Rattle.tdf_expr_symbols.specs.Width.{Width, of_sum, of_product, of_truth, of_shift, joint, of_shape as width_of_shape}
+use Rattle.tdf_expr_symbols.specs.Width.{Width, of_sum, of_product, of_truth, of_shift, joint, width_of_shape as width_of_shape}
 use Rattle.tdf_lang_tree.specs.declared.shapes.Shape.{Shape}
 
 -- moved up to more bits after the point a number stays within its width
@@ -53,7 +53,7 @@ aligned u v i f j g small small' =
     let up' : unsigned_abs v * 2 ^ (max f g - g) ≤ 2 ^ (max i j + max f g) = raised v j g (max i j) (max f g) (omega arith) (omega arith) small' in
     (rw (abs_times u (2 ^ (max f g - f))) up, rw (abs_times v (2 ^ (max f g - g))) up')
 
-pub within_sum : (v w : Width) (a b : Raw) → IsWithin v a → IsWithin w b → IsWithin (of_sum v w) (both (λ x y. x +ℤ y) a b)
+pub within_sum : (v w : Width) (a b : Raw) → IsWithinWidth v a → IsWithinWidth w b → IsWithinWidth (of_sum v w) (both (λ x y. x +ℤ y) a b)
 within_sum v w a b p q =
     let two = aligned a.num b.num v.whole v.part w.whole w.part p.within q.within in
     record {
@@ -61,7 +61,7 @@ within_sum v w a b p q =
       within = rw (p.frac, q.frac) (adds (a.num *ℤ pos (2 ^ (max v.part w.part - v.part))) (b.num *ℤ pos (2 ^ (max v.part w.part - w.part))) (max v.whole w.whole) (max v.part w.part) two.0 two.1);
     }
 
-pub within_difference : (v w : Width) (a b : Raw) → IsWithin v a → IsWithin w b → IsWithin (of_sum v w) (both (λ x y. x -ℤ y) a b)
+pub within_difference : (v w : Width) (a b : Raw) → IsWithinWidth v a → IsWithinWidth w b → IsWithinWidth (of_sum v w) (both (λ x y. x -ℤ y) a b)
 within_difference v w a b p q =
     let two = aligned a.num b.num v.whole v.part w.whole w.part p.within q.within in
     record {
@@ -69,7 +69,7 @@ within_difference v w a b p q =
       within = rw (p.frac, q.frac) (differs (a.num *ℤ pos (2 ^ (max v.part w.part - v.part))) (b.num *ℤ pos (2 ^ (max v.part w.part - w.part))) (max v.whole w.whole) (max v.part w.part) two.0 two.1);
     }
 
-pub within_chosen : (t : Bool) (v w : Width) (a b : Raw) → IsWithin v a → IsWithin w b → IsWithin (joint v w) (chosen t a b)
+pub within_chosen : (t : Bool) (v w : Width) (a b : Raw) → IsWithinWidth v a → IsWithinWidth w b → IsWithinWidth (joint v w) (chosen t a b)
 within_chosen t v w a b p q =
     let two = aligned a.num b.num v.whole v.part w.whole w.part p.within q.within in
     record {
@@ -77,24 +77,24 @@ within_chosen t v w a b p q =
       within = rw (p.frac, q.frac) (either t (a.num *ℤ pos (2 ^ (max v.part w.part - v.part))) (b.num *ℤ pos (2 ^ (max v.part w.part - w.part))) (2 ^ (max v.whole w.whole + max v.part w.part)) two.0 two.1);
     }
 
-pub within_product : (v w : Width) (a b : Raw) → IsWithin v a → IsWithin w b → IsWithin (of_product v w) (record { num = a.num *ℤ b.num; frac = a.frac + b.frac })
+pub within_product : (v w : Width) (a b : Raw) → IsWithinWidth v a → IsWithinWidth w b → IsWithinWidth (of_product v w) (record { num = a.num *ℤ b.num; frac = a.frac + b.frac })
 within_product v w a b p q =
     let times : unsigned_abs a.num * unsigned_abs b.num ≤ 2 ^ (v.whole + v.part) * 2 ^ (w.whole + w.part) = mul-le-mul p.within q.within in
     let power : 2 ^ (v.whole + v.part) * 2 ^ (w.whole + w.part) ≡ 2 ^ (v.whole + w.whole + (v.part + w.part)) =
     sym (pow-add 2 (v.whole + v.part) (w.whole + w.part)) ∙ ap (λ n. 2 ^ n) (omega arith) in
     record { frac = rw (p.frac, q.frac) refl; within = rw (unsigned_abs-mul a.num b.num) (omega (arith, times, power)) }
 
-pub within_truth : (t : Bool) → IsWithin of_truth (truth t)
+pub within_truth : (t : Bool) → IsWithinWidth of_truth (truth t)
 within_truth true = record { frac = refl; within = omega arith }
 within_truth false = record { frac = refl; within = omega arith }
 
-pub within_negative : (w : Width) (a : Raw) → IsWithin w a → IsWithin w (record { num = neg_ℤ a.num; frac = a.frac })
+pub within_negative : (w : Width) (a : Raw) → IsWithinWidth w a → IsWithinWidth w (record { num = neg_ℤ a.num; frac = a.frac })
 within_negative w a p = record { frac = p.frac; within = size a.num (2 ^ (w.whole + w.part)) p.within }
   where
     size : (x : ℤ) (m : ℕ) → unsigned_abs x ≤ m → unsigned_abs (neg_ℤ x) ≤ m
     size x m p = omega (arith, ints)
 
-pub within_shift : (left : Bool) (n : ℕ) (w : Width) (a : Raw) → IsWithin w a → IsWithin (of_shift left n w) (shifted left n a)
+pub within_shift : (left : Bool) (n : ℕ) (w : Width) (a : Raw) → IsWithinWidth w a → IsWithinWidth (of_shift left n w) (shifted left n a)
 within_shift true n w a p =
     let times : unsigned_abs a.num * 2 ^ n ≤ 2 ^ (w.whole + w.part) * 2 ^ n = mul-le-mul_right (2 ^ n) p.within in
     let power : 2 ^ (w.whole + w.part) * 2 ^ n ≡ 2 ^ (w.whole + n + w.part) = sym (pow-add 2 (w.whole + w.part) n) ∙ ap (λ k. 2 ^ k) (omega arith) in
@@ -104,11 +104,11 @@ within_shift false n w a p =
     record { frac = ap (λ k. k + n) p.frac; within = omega (arith, more, p.within) }
 
 -- a number of a format
-pub within_format : (s : Shape) (num : ℤ) → IsLegal s.wl s.iwl → IsIn s.signed s.wl num → IsWithin (width_of_shape (Some s)) (of_shape (Some s) num)
+pub within_format : (s : Shape) (num : ℤ) → IsLegal s.wl s.iwl → IsOfWidth s.signed s.wl num → IsWithinWidth (width_of_shape (Some s)) (of_shape (Some s) num)
 within_format s num legal is_in =
     let bits : s.iwl + (s.wl - s.iwl) ≡ s.wl = omega (arith, legal.whole_bits) in
     let small : unsigned_abs num < 2 ^ s.wl = in_width s.signed s.wl num legal.some_bits is_in in
     record { frac = refl; within = rw bits (omega (arith, small)) }
 
-pub within_cast : (s : Shape) (a : Raw) → IsLegal s.wl s.iwl → IsWithin (width_of_shape (Some s)) (cast_in (Some s) a)
+pub within_cast : (s : Shape) (a : Raw) → IsLegal s.wl s.iwl → IsWithinWidth (width_of_shape (Some s)) (cast_in (Some s) a)
 within_cast s a legal = within_format s (cast_number s a) legal (in_range s.over s.signed s.wl _ legal.some_bits)

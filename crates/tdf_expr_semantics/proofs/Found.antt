@@ -7,8 +7,8 @@ use Rattle.tdf_base.specs.declared.codes.Code.TheVariants as code
 use Rattle.tdf_base.proofs.Api.{if_none}
 use Rattle.tdf_expr_symbols.specs.Index.{kind_faults}
 use Rattle.tdf_expr_symbols.specs.Kinds.{is_allowed}
-use Rattle.tdf_expr_symbols.specs.Names.{Thing, Const, Var, Array, Port, RateVar, Event, Signal, DeSignal, Instance, Loop, TypeName, Tdf, De, Composite, at_place, place_of, thing_of, kind_of}
-use Rattle.tdf_expr_symbols.specs.Scope.{Scope, OpenLoop, named, loop_place, as_thing, first_some, least_rate, greatest_rate, least_of, greatest_of}
+use Rattle.tdf_expr_symbols.specs.Names.{Thing, Const, Var, Array, Port, RateVar, Event, Signal, DeSignal, Instance, Loop, TypeName, Tdf, De, Composite, found_at, place_of, thing_of, kind_of}
+use Rattle.tdf_expr_symbols.specs.Scope.{Scope, OpenLoop, named, loop_place, as_thing, first_some, least_rate, greatest_rate_of, least_of, greatest_of}
 use Rattle.tdf_expr_symbols.specs.Sound.{IsSound, IsThingSound}
 use Rattle.tdf_expr_symbols.specs.declared.kinds.Place.{Place}
 use Rattle.tdf_expr_symbols.specs.declared.kinds.Place.TheVariants as place
@@ -17,7 +17,7 @@ use Rattle.tdf_lang_tree.specs.declared.stmt.Limit.{Limit}
 use Rattle.tdf_lang_tree.specs.declared.stmt.Limit.TheVariants as limit
 
 -- what a place that was found has
-pub found : {A : Type 0} (xs : List A) (o : Option ℕ) (x : A) → at_place xs o ≡ Some x → (n : ℕ) × (o ≡ Some n) × (slice_get xs n ≡ Some x)
+pub found : {A : Type 0} (xs : List A) (o : Option ℕ) (x : A) → found_at xs o ≡ Some x → (n : ℕ) × (o ≡ Some n) × (slice_get xs n ≡ Some x)
 found xs None x e = absurd cc
 found xs (Some n) x e = (n, refl, e)
 
@@ -33,7 +33,7 @@ global_sound scope sound name t e =
     sound.globals at.0 t at.2
 
 -- the least value of a rate is at most its greatest
-rates_ordered : (scope : Scope) → IsSound scope → (name : List ℕ) (o : Option Thing) → thing_of scope.own name ≡ o → least_rate o ≤ greatest_rate o
+rates_ordered : (scope : Scope) → IsSound scope → (name : List ℕ) (o : Option Thing) → thing_of scope.own name ≡ o → least_rate o ≤ greatest_rate_of o
 rates_ordered scope sound name None e = omega arith
 rates_ordered scope sound name (Some (RateVar least greatest start)) e =
     let holds = thing_sound scope sound name (RateVar least greatest start) e in
@@ -70,7 +70,7 @@ pub record IsOpen (scope : Scope) (loops : List OpenLoop) (name : List ℕ) (fro
 pub open_loop : (scope : Scope) → IsSound scope → (loops : List OpenLoop) (name : List ℕ) (from : ℕ) (end : Limit)
     → named scope loops name ≡ Some (Loop from end) → IsOpen scope loops name from end
 unfolding named
-open_loop scope sound loops name from end e = go (loop_place loops name) refl (at_place loops (loop_place loops name)) refl e
+open_loop scope sound loops name from end e = go (loop_place loops name) refl (found_at loops (loop_place loops name)) refl e
   where
     from_of : Option Thing → ℕ
     from_of (Some (Loop a b)) = a
@@ -80,10 +80,10 @@ open_loop scope sound loops name from end e = go (loop_place loops name) refl (a
     end_of (Some (Loop a b)) = b
     end_of _ = end
 
-    go : (o : Option ℕ) → loop_place loops name ≡ o → (x : Option OpenLoop) → at_place loops (loop_place loops name) ≡ x
+    go : (o : Option ℕ) → loop_place loops name ≡ o → (x : Option OpenLoop) → found_at loops (loop_place loops name) ≡ x
         → first_some (option_map as_thing x) (thing_of scope.own name) ≡ Some (Loop from end) → IsOpen scope loops name from end
     go o at None is e = absurd (thing_sound scope sound name (Loop from end) e)
-    go None at (Some l) is e = absurd (subst none_is (ap (at_place loops) (sym at) ∙ is) tt)
+    go None at (Some l) is e = absurd (subst none_is (ap (found_at loops) (sym at) ∙ is) tt)
       where
         none_is : Option OpenLoop → Type 0
         none_is None = Unit {0}
@@ -92,7 +92,7 @@ open_loop scope sound loops name from end e = go (loop_place loops name) refl (a
       depth = d;
       l = l;
       at = at;
-      is = ap (at_place loops) (sym at) ∙ is;
+      is = ap (found_at loops) (sym at) ∙ is;
       from_is = ap from_of e;
       end_is = ap end_of e;
     }

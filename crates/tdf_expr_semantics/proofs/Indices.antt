@@ -12,9 +12,9 @@ use Rattle.tdf_expr_semantics.proofs.Found.{of_kind, is_loop, open_loop, least_g
 use Rattle.tdf_expr_semantics.specs.Fits.{LoopsFit}
 use Rattle.tdf_expr_semantics.specs.Laws.{IsIndex, LiesInside}
 use Rattle.tdf_expr_semantics.specs.Value.{turn_of, turn_number}
-use Rattle.tdf_expr_symbols.specs.Index.{size_of, name_in, name_faults, is_negative, greatest_index, Multiple, multiple_of, is_within, is_multiple_within, is_excepted, breaks, breaks_in, breaks_size, kind_faults, index_faults}
+use Rattle.tdf_expr_symbols.specs.Index.{size_of, name_in, index_kind_faults, is_index_negative, greatest_index, Multiple, multiple_of, is_within, is_multiple_within, is_excepted, breaks, breaks_in, breaks_size, kind_faults, index_faults}
 use Rattle.tdf_expr_symbols.specs.Names.{Names, Thing, Loop, thing_of}
-use Rattle.tdf_expr_symbols.specs.Scope.{Scope, OpenLoop, named, greatest_rate, least_of, greatest_of}
+use Rattle.tdf_expr_symbols.specs.Scope.{Scope, OpenLoop, named, greatest_rate_of, least_of, greatest_of}
 use Rattle.tdf_expr_symbols.specs.Sound.{IsSound}
 use Rattle.tdf_expr_symbols.specs.declared.kinds.Place.TheVariants as place
 use Rattle.tdf_lang_tree.specs.declared.expr.Index.{Index}
@@ -45,7 +45,7 @@ pub record IsAt (scope : Scope) (loops : List OpenLoop) (turns : List ℕ) (i : 
   pub from : ℕ
   pub end : Limit
   pub turn : IsTurn scope.own loops turns name from end
-  pub negative : is_negative i from (greatest_of scope.own end - 1) ≡ false
+  pub negative : is_index_negative i from (greatest_of scope.own end - 1) ≡ false
   pub upper : (is_excepted i end size ≡ true) ⊎ (nat_lt (greatest_index i from (greatest_of scope.own end - 1)) (least_of scope.own size) ≡ true)
 
 two_parts : (a b c : Bool) → a || (not b && not c) ≡ false → (a ≡ false) × ((b ≡ true) ⊎ (c ≡ true))
@@ -61,7 +61,7 @@ is_at scope loops turns i name size line sound fits none inside =
     let kind = of_kind place.Index (named scope loops name) line none in
     let loop = is_loop kind.thing kind.allowed in
     let is : named scope loops name ≡ Some (Loop loop.0 loop.1) = kind.is ∙ ap (λ (t : Thing). Some t) loop.2 in
-    let parts = two_parts (is_negative i loop.0 (greatest_of scope.own loop.1 - 1)) (is_excepted i loop.1 size)
+    let parts = two_parts (is_index_negative i loop.0 (greatest_of scope.own loop.1 - 1)) (is_excepted i loop.1 size)
     (nat_lt (greatest_index i loop.0 (greatest_of scope.own loop.1 - 1)) (least_of scope.own size))
     (ap (breaks scope.own size i) (sym is) ∙ inside) in
     record {
@@ -81,21 +81,21 @@ record IsExcepted (own : Names) (i : Index) (end size : Limit) : Type 0 where
   size_is : greatest_of own size ≡ m * g
   within : is_within i k m ≡ true
 
-multiple_is : (own : Names) (l : Limit) (x : Multiple) → multiple_of l ≡ Some x → greatest_of own l ≡ x.times * greatest_rate (thing_of own x.variable)
+multiple_is : (own : Names) (l : Limit) (x : Multiple) → multiple_of l ≡ Some x → greatest_of own l ≡ x.times * greatest_rate_of (thing_of own x.variable)
 unfolding greatest_of
 multiple_is own (limit.Int n) x e = absurd cc
 multiple_is own (limit.Var r) x e =
-    let one : greatest_rate (thing_of own r) ≡ 1 * greatest_rate (thing_of own r) = omega arith in
+    let one : greatest_rate_of (thing_of own r) ≡ 1 * greatest_rate_of (thing_of own r) = omega arith in
     one ∙ ap (λ (o : Option Multiple). value o) e
   where
     value : Option Multiple → ℕ
     value None = 0
-    value (Some y) = y.times * greatest_rate (thing_of own y.variable)
+    value (Some y) = y.times * greatest_rate_of (thing_of own y.variable)
 multiple_is own (limit.Times c r) x e = ap (λ (o : Option Multiple). value o) e
   where
     value : Option Multiple → ℕ
     value None = 0
-    value (Some y) = y.times * greatest_rate (thing_of own y.variable)
+    value (Some y) = y.times * greatest_rate_of (thing_of own y.variable)
 
 and_first : (a b : Bool) → a && b ≡ true → a ≡ true
 and_first true b e = refl
@@ -117,8 +117,8 @@ excepted own i end size e = go (multiple_of end) refl (multiple_of size) refl e
         record {
           k = a.times;
           m = b.times;
-          g = greatest_rate (thing_of own b.variable);
-          end_is = subst (λ (r : List ℕ). greatest_of own end ≡ a.times * greatest_rate (thing_of own r)) same (multiple_is own end a at);
+          g = greatest_rate_of (thing_of own b.variable);
+          end_is = subst (λ (r : List ℕ). greatest_of own end ≡ a.times * greatest_rate_of (thing_of own r)) same (multiple_is own end a at);
           size_is = multiple_is own size b bt;
           within = and_second (pointwise nat_eq a.variable b.variable) (is_within i a.times b.times) e;
         }
@@ -235,11 +235,11 @@ module _ (scope : Scope) (loops : List OpenLoop) (turns : List ℕ) (size : Limi
 pub inside : LiesInside
 unfolding index_faults
 inside scope loops line t size i turns sound size_is none fits =
-    by_form i (none_first (name_faults scope loops line (name_in i)) _ none)
+    by_form i (none_first (index_kind_faults scope loops line (name_in i)) _ none)
     (ap (λ (o : Option Limit). breaks_size scope loops o i) (sym size_is)
-    ∙ if_none (breaks_size scope loops (size_of (Some t)) i) code.Index line (none_second (name_faults scope loops line (name_in i)) _ none))
+    ∙ if_none (breaks_size scope loops (size_of (Some t)) i) code.Index line (none_second (index_kind_faults scope loops line (name_in i)) _ none))
   where
-    by_form : (j : Index) → name_faults scope loops line (name_in j) ≡ [] → breaks_in scope loops size j (name_in j) ≡ false → IsIndex scope.own loops turns j size
+    by_form : (j : Index) → index_kind_faults scope loops line (name_in j) ≡ [] → breaks_in scope loops size j (name_in j) ≡ false → IsIndex scope.own loops turns j size
     by_form (index.Int n) a b = at_int scope loops turns size sound n b
     by_form (index.Var x) a b = at_var scope loops turns size sound x (is_at scope loops turns (index.Var x) x size line sound fits a b)
     by_form (index.Plus x n) a b = at_plus scope loops turns size sound x n (is_at scope loops turns (index.Plus x n) x size line sound fits a b)

@@ -8,14 +8,14 @@ use Rattle.tdf_base.specs.Limits.{greatest_rate as most_rate}
 use Rattle.tdf_base.specs.declared.codes.Code.TheVariants as code
 use Rattle.tdf_base.proofs.Api.{if_none, none_first, none_second}
 use Rattle.tdf_fixed.proofs.Api.{in_range}
-use Rattle.tdf_fixed.specs.Overflow.{IsIn}
+use Rattle.tdf_fixed.specs.Overflow.{IsOfWidth}
 use Rattle.tdf_fixed.specs.declared.raw.Raw.{Raw}
 use Rattle.tdf_expr_semantics.proofs.Found.{found, thing_sound, of_kind}
 use Rattle.tdf_expr_semantics.proofs.Indices.{inside}
 use Rattle.tdf_expr_semantics.proofs.Placed.{placed, limits_placed}
 use Rattle.tdf_expr_semantics.proofs.Sets.{numbers_set, rates_set}
 use Rattle.tdf_expr_semantics.proofs.Widths.{own_of, has_element, first_element}
-use Rattle.tdf_expr_semantics.specs.Bodies.{with_element, assigned_at, assigned, target_index, rate_at, rate_of, limit_value, whole_within, with_whole, rate_set, noticed_at, stepped_at, stepped, repeated, after, after_all}
+use Rattle.tdf_expr_semantics.specs.Bodies.{with_element, assigned_at, assigned, target_index, rate_at, rate_of, limit_value, whole_within, with_whole, rate_set, noticed_at, stepped_at, step_assigned, repeated, after, after_all}
 use Rattle.tdf_expr_semantics.specs.Fits.{StateFits, LoopsFit}
 use Rattle.tdf_expr_semantics.specs.Laws.{KeepsFits}
 use Rattle.tdf_expr_semantics.specs.Places.{HasElement, cells_of, samples_of, first_cell, first_sample, port_number, rate_number, event_number, cell_shapes, sample_shapes, rate_limits}
@@ -23,9 +23,9 @@ use Rattle.tdf_expr_semantics.specs.Value.{value, cast_number, index_value, hold
 use Rattle.tdf_expr_symbols.specs.Faults.{expr_faults, stmts_faults, stmt_faults, target_faults, limit_faults, multiple_faults, opened}
 use Rattle.tdf_expr_symbols.specs.Index.{size_of, kind_faults, index_faults}
 use Rattle.tdf_expr_symbols.specs.Kinds.{is_allowed}
-use Rattle.tdf_expr_symbols.specs.Names.{Names, Thing, Var, Array, Port, RateVar, Loop, at_place, place_of, thing_of, kind_of, shape_of}
+use Rattle.tdf_expr_symbols.specs.Names.{Names, Thing, Var, Array, Port, RateVar, Loop, found_at, place_of, thing_of, kind_of, shape_of}
 use Rattle.std.specs.Option.{option_map}
-use Rattle.tdf_expr_symbols.specs.Scope.{Scope, OpenLoop, named, loop_place, as_thing, first_some, greatest_of, greatest_rate}
+use Rattle.tdf_expr_symbols.specs.Scope.{Scope, OpenLoop, named, loop_place, as_thing, first_some, greatest_of, greatest_rate_of}
 use Rattle.tdf_expr_symbols.specs.Sound.{IsSound, IsThingSound}
 use Rattle.tdf_expr_symbols.specs.declared.kinds.Part.{Part}
 use Rattle.tdf_expr_symbols.specs.declared.kinds.Part.TheVariants as part
@@ -40,11 +40,11 @@ use Rattle.tdf_lang_tree.specs.declared.stmt.Limit.TheVariants as limit
 
 -- one change of a state
 module _ (own : Names) (s : State) (fits : StateFits own s) where
-  pub cell_keeps : (j : ℕ) (num : ℤ) (shape : Shape) → slice_get (cell_shapes own) j ≡ Some (Some shape) → IsIn shape.signed shape.wl num → StateFits own (with_cell j num s)
+  pub cell_keeps : (j : ℕ) (num : ℤ) (shape : Shape) → slice_get (cell_shapes own) j ≡ Some (Some shape) → IsOfWidth shape.signed shape.wl num → StateFits own (with_cell j num s)
   cell_keeps j num shape at is_in =
       record { frame = record { cells = numbers_set (cell_shapes own) s.frame.cells j num shape fits.frame.cells at is_in; rates = fits.frame.rates }; ports = fits.ports }
 
-  pub sample_keeps : (port j : ℕ) (num : ℤ) (shape : Shape) → slice_get (sample_shapes own) j ≡ Some (Some shape) → IsIn shape.signed shape.wl num
+  pub sample_keeps : (port j : ℕ) (num : ℤ) (shape : Shape) → slice_get (sample_shapes own) j ≡ Some (Some shape) → IsOfWidth shape.signed shape.wl num
       → StateFits own (with_sample port j num s)
   sample_keeps port j num shape at is_in = record {
     frame = fits.frame;
@@ -189,7 +189,7 @@ rate_kind _ e = absurd cc
 pub rate_own : (scope : Scope) (loops : List OpenLoop) (name : List ℕ) (least greatest start : ℕ) → named scope loops name ≡ Some (RateVar least greatest start)
     → thing_of scope.own name ≡ Some (RateVar least greatest start)
 unfolding named
-rate_own scope loops name least greatest start is = go (at_place loops (loop_place loops name)) is
+rate_own scope loops name least greatest start is = go (found_at loops (loop_place loops name)) is
   where
     rate_is : Option Thing → Type 0
     rate_is (Some (Loop a b)) = ⊥
@@ -248,11 +248,11 @@ unfolding greatest_of
 is_limit scope s sound fits loops line (limit.Int n) none = record { high = omega arith; most = grind (arith, nat_tests, if_none (nat_lt most_rate n) code.Limit line none) }
 is_limit scope s sound fits loops line (limit.Var r) none =
     let x = rate_var scope sound loops r line none in
-    let greatest : greatest_rate (thing_of scope.own r) ≡ x.greatest = ap greatest_rate x.thing in
+    let greatest : greatest_rate_of (thing_of scope.own r) ≡ x.greatest = ap greatest_rate_of x.thing in
     record { high = omega (arith, (rate_within scope s fits r x).1, greatest); most = omega (arith, x.most, greatest) }
 is_limit scope s sound fits loops line (limit.Times c r) none =
     let x = rate_var scope sound loops r line (none_first _ _ none) in
-    let greatest : greatest_rate (thing_of scope.own r) ≡ x.greatest = ap greatest_rate x.thing in
+    let greatest : greatest_rate_of (thing_of scope.own r) ≡ x.greatest = ap greatest_rate_of x.thing in
     let few = if_none (nat_lt c 1 || (nat_lt most_rate c || nat_lt most_rate (greatest_of scope.own (limit.Times c r)))) code.Limit line
     (none_second (kind_faults place.Limit (named scope loops r) line) (multiple_faults scope line c (limit.Times c r)) none) in
     record {
@@ -297,7 +297,7 @@ turns_keep own turn from (suc count) one s fits =
     one (from + count) (repeated turn from count s) (omega arith) (omega arith)
     (turns_keep own turn from count (λ i t low high. one i t low (omega (arith, high))) s fits)
 
-stepped_keeps : (own : Names) (s : State) (port : Option (List ℕ)) (step : ℕ) → StateFits own s → StateFits own (stepped own port step s)
+stepped_keeps : (own : Names) (s : State) (port : Option (List ℕ)) (step : ℕ) → StateFits own s → StateFits own (step_assigned own port step s)
 stepped_keeps own s None step fits = step_keeps own s fits 0 step
 stepped_keeps own s (Some port) step fits = go (place_of own port)
   where

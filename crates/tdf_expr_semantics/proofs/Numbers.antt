@@ -15,7 +15,7 @@ use Rattle.tdf_fixed.specs.Spelling.{IsExact}
 use Rattle.tdf_fixed.specs.declared.literals.NumErr.{NumErr}
 use Rattle.tdf_fixed.specs.declared.literals.NumErr.TheVariants.{TooManyDigits as HasTooManyDigits}
 use Rattle.tdf_fixed.specs.declared.raw.Raw.{Raw}
-use Rattle.tdf_expr_semantics.specs.Laws.{IsWithin}
+use Rattle.tdf_expr_semantics.specs.Laws.{IsWithinWidth}
 use Rattle.tdf_expr_semantics.specs.Value.{of_digits}
 use Rattle.tdf_expr_symbols.specs.Width.{of_number, bits_from}
 
@@ -87,7 +87,7 @@ number_small text raw e = go (literal_of text) refl e
     go (Some l) is e = with_short l is (is_short l.numeral) refl e
 
 -- a number lies within its width
-within_raw : (raw : Raw) → unsigned_abs raw.num < 10 ^ 18 * 2 ^ raw.frac → IsWithin (of_number (Ok raw)) raw
+within_raw : (raw : Raw) → unsigned_abs raw.num < 10 ^ 18 * 2 ^ raw.frac → IsWithinWidth (of_number (Ok raw)) raw
 within_raw raw small =
     let p = 2 ^ raw.frac in
     let a = unsigned_abs raw.num in
@@ -102,9 +102,9 @@ within_raw raw small =
     let power : 2 ^ (bits + raw.frac) ≡ 2 ^ bits * p = pow-add 2 bits raw.frac in
     record { frac = refl; within = omega (arith, up, more, sum, power) }
 
-pub within_number : (digits : List ℕ) → IsWithin (of_number (exact_of digits)) (of_digits (exact_of digits))
+pub within_number : (digits : List ℕ) → IsWithinWidth (of_number (exact_of digits)) (of_digits (exact_of digits))
 within_number digits = go (exact_of digits) refl
   where
-    go : (r : Result Raw NumErr) → exact_of digits ≡ r → IsWithin (of_number r) (of_digits r)
+    go : (r : Result Raw NumErr) → exact_of digits ≡ r → IsWithinWidth (of_number r) (of_digits r)
     go (Ok raw) e = within_raw raw (number_small digits raw e)
     go (Err fault) e = record { frac = refl; within = omega arith }

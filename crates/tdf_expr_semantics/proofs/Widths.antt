@@ -15,16 +15,16 @@ use Rattle.tdf_expr_semantics.proofs.Indices.{inside}
 use Rattle.tdf_expr_semantics.proofs.Numbers.{within_number}
 use Rattle.tdf_expr_semantics.proofs.Placed.{placed, limits_placed}
 use Rattle.tdf_expr_semantics.specs.Fits.{StateFits, LoopsFit}
-use Rattle.tdf_expr_semantics.specs.Laws.{IsWithin, LiesWithinWidth}
+use Rattle.tdf_expr_semantics.specs.Laws.{IsWithinWidth, LiesWithinWidth}
 use Rattle.tdf_expr_semantics.specs.Places.{HasElement, cells_of, samples_of, first_cell, first_sample, rate_number}
 use Rattle.tdf_expr_semantics.specs.Value.{value, element, element_at, own_value, turn_of, turn_or, combined, cast_in, literal_in, literal_number, whole_number, index_value}
 use Rattle.tdf_expr_symbols.specs.Faults.{expr_faults, own_faults, cast_shape}
 use Rattle.tdf_expr_symbols.specs.Index.{size_of, kind_faults, index_faults}
 use Rattle.tdf_expr_symbols.specs.Kinds.{is_allowed}
-use Rattle.tdf_expr_symbols.specs.Names.{Thing, Const, Var, Array, Port, RateVar, Event, Signal, DeSignal, Instance, Loop, TypeName, Tdf, De, Composite, at_place, place_of, thing_of, type_shape, kind_of, shape_of}
+use Rattle.tdf_expr_symbols.specs.Names.{Thing, Const, Var, Array, Port, RateVar, Event, Signal, DeSignal, Instance, Loop, TypeName, Tdf, De, Composite, found_at, place_of, thing_of, type_shape, kind_of, shape_of}
 use Rattle.tdf_expr_symbols.specs.Scope.{Scope, OpenLoop, named, loop_place, as_thing, first_some, greatest_of}
 use Rattle.tdf_expr_symbols.specs.Sound.{IsSound, IsThingSound}
-use Rattle.tdf_expr_symbols.specs.Width.{Width, width, of_thing, of_binary, of_shape}
+use Rattle.tdf_expr_symbols.specs.Width.{Width, width, of_thing, of_binary, width_of_shape}
 use Rattle.tdf_expr_symbols.specs.declared.kinds.Part.{Part}
 use Rattle.tdf_expr_symbols.specs.declared.kinds.Part.TheVariants as part
 use Rattle.tdf_expr_symbols.specs.declared.kinds.Place.TheVariants as place
@@ -45,36 +45,36 @@ IsValueThing (DeSignal shape start) = ⊥
 IsValueThing (TypeName shape) = ⊥
 IsValueThing _ = Unit {0}
 
-within_literal : (s : Shape) (v : Lit) → IsLegal s.wl s.iwl → IsWithin (of_shape (Some s)) (literal_in (Some s) v)
+within_literal : (s : Shape) (v : Lit) → IsLegal s.wl s.iwl → IsWithinWidth (width_of_shape (Some s)) (literal_in (Some s) v)
 within_literal s v legal = go (numeral_of v.digits)
   where
-    go : (o : Option Numeral) → IsWithin (of_shape (Some s)) (record { num = literal_number s v.minus o; frac = s.wl - s.iwl })
+    go : (o : Option Numeral) → IsWithinWidth (width_of_shape (Some s)) (record { num = literal_number s v.minus o; frac = s.wl - s.iwl })
     go None = record { frac = refl; within = omega arith }
     go (Some n) = within_format s (literal_number s v.minus (Some n)) legal (in_range s.over s.signed s.wl _ legal.some_bits)
 
 module _ (scope : Scope) (s : State) (sound : IsSound scope) (fits : StateFits scope.own s) where
   within_cell : (n k : ℕ) (t : Thing) (shape : Shape) → slice_get scope.own.things n ≡ Some t → k < cells_of t → Some shape ≡ shape_of t → IsLegal shape.wl shape.iwl
-      → IsWithin (of_shape (Some shape)) (record { num = cell_at s.frame.cells (first_cell scope.own n + k); frac = shape.wl - shape.iwl })
+      → IsWithinWidth (width_of_shape (Some shape)) (record { num = cell_at s.frame.cells (first_cell scope.own n + k); frac = shape.wl - shape.iwl })
   within_cell n k t shape is below has legal =
       let at = placed cells_of shape_of scope.own.things n k t is below in
       within_format shape (cell_at s.frame.cells (first_cell scope.own n + k)) legal
       (fits.frame.cells.each (first_cell scope.own n + k) shape (at ∙ ap (λ o. Some o) (sym has)))
 
   within_sample : (n k : ℕ) (t : Thing) (shape : Shape) → slice_get scope.own.things n ≡ Some t → k < samples_of scope.own t → Some shape ≡ shape_of t → IsLegal shape.wl shape.iwl
-      → IsWithin (of_shape (Some shape)) (record { num = cell_at s.ports.samples (first_sample scope.own n + k); frac = shape.wl - shape.iwl })
+      → IsWithinWidth (width_of_shape (Some shape)) (record { num = cell_at s.ports.samples (first_sample scope.own n + k); frac = shape.wl - shape.iwl })
   within_sample n k t shape is below has legal =
       let at = placed (samples_of scope.own) shape_of scope.own.things n k t is below in
       within_format shape (cell_at s.ports.samples (first_sample scope.own n + k)) legal
       (fits.ports.samples.each (first_sample scope.own n + k) shape (at ∙ ap (λ o. Some o) (sym has)))
 
   within_rate : (n least greatest start : ℕ) → slice_get scope.own.things n ≡ Some (RateVar least greatest start) → greatest ≤ 4096
-      → IsWithin (of_thing (Some (RateVar least greatest start))) (whole_number (pos (slice_index s.frame.rates (rate_number scope.own n))))
+      → IsWithinWidth (of_thing (Some (RateVar least greatest start))) (whole_number (pos (slice_index s.frame.rates (rate_number scope.own n))))
   within_rate n least greatest start is most =
       let bounds = fits.frame.rates.each (rate_number scope.own n) (record { least = least; greatest = greatest }) (limits_placed scope.own.things n least greatest start is) in
       record { frac = refl; within = omega (arith, bounds.1, most) }
 
   within_element : (n k : ℕ) (t : Thing) → slice_get scope.own.things n ≡ Some t → IsThingSound scope.own t → IsValueThing t → HasElement scope.own t k
-      → IsWithin (of_thing (Some t)) (element scope.own s n t k)
+      → IsWithinWidth (of_thing (Some t)) (element scope.own s n t k)
   within_element n k (Const None v) is holds kind below = absurd (holds.0)
   within_element n k (Const (Some shape) v) is holds kind below = within_literal shape v holds.0
   within_element n k (Var None v) is holds kind below = absurd (holds.0)
@@ -141,7 +141,7 @@ has_at (x ∷ xs) (suc n) h = has_at xs n (omega (arith, h))
 pub own_of : (scope : Scope) (loops : List OpenLoop) (name : List ℕ) (t : Thing) (size : Limit) → named scope loops name ≡ Some t → size_of (Some t) ≡ Some size
     → thing_of scope.own name ≡ Some t
 unfolding named
-own_of scope loops name t size is sized = go (at_place loops (loop_place loops name)) is
+own_of scope loops name t size is sized = go (found_at loops (loop_place loops name)) is
   where
     sized_is : Option Thing → Type 0
     sized_is (Some (Loop from end)) = ⊥
@@ -186,15 +186,15 @@ first_element scope sound _ holds = tt
 
 module _ (scope : Scope) (loops : List OpenLoop) (turns : List ℕ) (s : State) (sound : IsSound scope) (fits : StateFits scope.own s) (loops_fit : LoopsFit scope.own loops turns) where
   within_own : (k : ℕ) (name : List ℕ) (t : Thing) → thing_of scope.own name ≡ Some t → IsValueThing t → HasElement scope.own t k
-      → IsWithin (of_thing (Some t)) (own_value scope.own s name (pos k))
+      → IsWithinWidth (of_thing (Some t)) (own_value scope.own s name (pos k))
   within_own k name t is kind below =
       let at = found scope.own.things (place_of scope.own name) t is in
       let here = ap (λ o. element_at scope.own s o (thing_of scope.own name) (pos k)) at.1 ∙ ap (λ o. element_at scope.own s (Some at.0) o (pos k)) is in
-      subst (λ (r : Raw). IsWithin (of_thing (Some t)) r) (sym here)
+      subst (λ (r : Raw). IsWithinWidth (of_thing (Some t)) r) (sym here)
       (within_element scope s sound fits at.0 k t at.2 (thing_sound scope sound name t is) kind below)
 
   within_name : (body : Part) (line : ℕ) (name : List ℕ) → kind_faults (place.Value body) (named scope loops name) line ≡ []
-      → IsWithin (of_thing (named scope loops name)) (turn_or (turn_of loops turns name) (own_value scope.own s name (pos 0)))
+      → IsWithinWidth (of_thing (named scope loops name)) (turn_or (turn_of loops turns name) (own_value scope.own s name (pos 0)))
   unfolding named
   within_name body line name none = go (loop_place loops name) refl
     where
@@ -202,37 +202,37 @@ module _ (scope : Scope) (loops : List OpenLoop) (turns : List ℕ) (s : State) 
       kind = of_kind (place.Value body) (named scope loops name) line none
 
       go : (o : Option ℕ) → loop_place loops name ≡ o
-          → IsWithin (of_thing (first_some (option_map as_thing (at_place loops o)) (thing_of scope.own name)))
+          → IsWithinWidth (of_thing (first_some (option_map as_thing (found_at loops o)) (thing_of scope.own name)))
           (turn_or (option_map (slice_index turns) o) (own_value scope.own s name (pos 0)))
       go None at =
-          let is = ap (λ (o : Option ℕ). first_some (option_map as_thing (at_place loops o)) (thing_of scope.own name)) (sym at) ∙ kind.is in
-          subst (λ (o : Option Thing). IsWithin (of_thing o) (own_value scope.own s name (pos 0))) (sym is)
+          let is = ap (λ (o : Option ℕ). first_some (option_map as_thing (found_at loops o)) (thing_of scope.own name)) (sym at) ∙ kind.is in
+          subst (λ (o : Option Thing). IsWithinWidth (of_thing o) (own_value scope.own s name (pos 0))) (sym is)
           (within_own 0 name kind.thing is (value_kind body kind.thing kind.allowed)
           (first_element scope sound kind.thing (thing_sound scope sound name kind.thing is)))
       go (Some d) at =
           let l = has_at loops d ((position-Some (λ (l : OpenLoop). pointwise nat_eq name l.name) loops d (record { name = name; from = 0; end = limit.Int 0 }) at).0) in
           let bounds = loops_fit.each d l.0 l.1 in
-          subst (λ (o : Option OpenLoop). IsWithin (of_thing (first_some (option_map as_thing o) (thing_of scope.own name))) (whole_number (pos (slice_index turns d)))) (sym l.1)
+          subst (λ (o : Option OpenLoop). IsWithinWidth (of_thing (first_some (option_map as_thing o) (thing_of scope.own name))) (whole_number (pos (slice_index turns d)))) (sym l.1)
           (record { frac = refl; within = omega (arith, bounds.1, bounds.2) })
 
   within_at : (body : Part) (line : ℕ) (name : List ℕ) (i : Index) → kind_faults (place.Element body) (named scope loops name) line ≡ []
       → index_faults scope loops line (named scope loops name) i ≡ []
-      → IsWithin (of_thing (named scope loops name)) (own_value scope.own s name (index_value loops turns i))
+      → IsWithinWidth (of_thing (named scope loops name)) (own_value scope.own s name (index_value loops turns i))
   within_at body line name i none outside =
       let kind = of_kind (place.Element body) (named scope loops name) line none in
       let size = element_kind body kind.thing kind.allowed in
       let is = own_of scope loops name kind.thing size.0 kind.is size.1 in
       let at = inside scope loops line kind.thing size.0 i turns sound size.1
       (ap (λ (o : Option Thing). index_faults scope loops line o i) (sym kind.is) ∙ outside) loops_fit in
-      subst (λ (o : Option Thing). IsWithin (of_thing o) (own_value scope.own s name (index_value loops turns i))) (sym kind.is)
-      (subst (λ (z : ℤ). IsWithin (of_thing (Some kind.thing)) (own_value scope.own s name z)) (sym at.is)
+      subst (λ (o : Option Thing). IsWithinWidth (of_thing o) (own_value scope.own s name (index_value loops turns i))) (sym kind.is)
+      (subst (λ (z : ℤ). IsWithinWidth (of_thing (Some kind.thing)) (own_value scope.own s name z)) (sym at.is)
       (within_own at.place name kind.thing is (sized_value kind.thing size.0 size.1) (has_element scope kind.thing size.0 at.place size.1 at.below)))
 
   -- a cast to a type
-  within_type : (name : List ℕ) (a : Raw) → IsWithin (of_shape (cast_shape scope name)) (cast_in (cast_shape scope name) a)
+  within_type : (name : List ℕ) (a : Raw) → IsWithinWidth (width_of_shape (cast_shape scope name)) (cast_in (cast_shape scope name) a)
   within_type name a = go (thing_of scope.globals name) refl
     where
-      go : (o : Option Thing) → thing_of scope.globals name ≡ o → IsWithin (of_shape (type_shape o)) (cast_in (type_shape o) a)
+      go : (o : Option Thing) → thing_of scope.globals name ≡ o → IsWithinWidth (width_of_shape (type_shape o)) (cast_in (type_shape o) a)
       go (Some (TypeName shape)) is = within_cast shape a (global_sound scope sound name (TypeName shape) is)
       go None is = record { frac = refl; within = omega arith }
       go (Some (Const b c)) is = record { frac = refl; within = omega arith }
@@ -249,7 +249,7 @@ module _ (scope : Scope) (loops : List OpenLoop) (turns : List ℕ) (s : State) 
       go (Some De) is = record { frac = refl; within = omega arith }
       go (Some Composite) is = record { frac = refl; within = omega arith }
 
-within_binary : (o : Op) (v w : Width) (a b : Raw) → IsWithin v a → IsWithin w b → IsWithin (of_binary o v w) (combined o a b)
+within_binary : (o : Op) (v w : Width) (a b : Raw) → IsWithinWidth v a → IsWithinWidth w b → IsWithinWidth (of_binary o v w) (combined o a b)
 within_binary op.Add v w a b p q = within_sum v w a b p q
 within_binary op.Sub v w a b p q = within_difference v w a b p q
 within_binary op.Mul v w a b p q = within_product v w a b p q

@@ -75,9 +75,9 @@ abbrev pub stepped_at : Names → Option ℕ → ℕ → State → State
 stepped_at own (Some n) step s = with_step (1 + port_number own n) step s
 stepped_at own None step s = s
 
-abbrev pub stepped : Names → Option (List ℕ) → ℕ → State → State
-stepped own None step s = with_step 0 step s
-stepped own (Some port) step s = stepped_at own (place_of own port) step s
+abbrev pub step_assigned : Names → Option (List ℕ) → ℕ → State → State
+step_assigned own None step s = with_step 0 step s
+step_assigned own (Some port) step s = stepped_at own (place_of own port) step s
 
 -- `count` turns of a loop, the first at `from`
 abbrev pub repeated : (ℕ → State → State) → (from count : ℕ) → State → State
@@ -101,7 +101,7 @@ abbrev mutual
   after scope loops turns (SSetRate line name e) s =
       rate_set scope.own (place_of scope.own name) (thing_of scope.own name)
       (value scope loops turns s e) s
-  after scope loops turns (SSetStep line port step) s = stepped scope.own port step s
+  after scope loops turns (SSetStep line port step) s = step_assigned scope.own port step s
   after scope loops turns (SAccept line) s = with_answer true s
   after scope loops turns (SReject line) s = with_answer false s
 

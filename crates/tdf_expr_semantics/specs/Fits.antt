@@ -2,7 +2,7 @@
 -- its format, and each rate within its limits.
 use Rattle.std.specs.Prelude.{◌≡◌, ℕ, ◌+◌, ◌≤◌, ◌<◌, List, length, Option, Some, slice_get, slice_index, ℤ}
 use Rattle.tdf_base.specs.Limits.{greatest_rate}
-use Rattle.tdf_fixed.specs.Overflow.{IsIn}
+use Rattle.tdf_fixed.specs.Overflow.{IsOfWidth}
 use Rattle.tdf_expr_semantics.specs.Places.{cell_shapes, sample_shapes, rate_limits, RateLimits, total, ports_of, events_of}
 use Rattle.tdf_expr_symbols.specs.Names.{Names}
 use Rattle.tdf_expr_symbols.specs.Scope.{OpenLoop, greatest_of}
@@ -13,7 +13,7 @@ use Rattle.tdf_lang_tree.specs.declared.shapes.Shape.{Shape}
 pub record NumbersFit (shapes : List (Option Shape)) (nums : List ℤ) : Type 0 where
   pub long : length nums ≡ length shapes
   pub each : (j : ℕ) (s : Shape) → slice_get shapes j ≡ Some (Some s)
-      → IsIn s.signed s.wl (cell_at nums j)
+      → IsOfWidth s.signed s.wl (cell_at nums j)
 
 -- as many rates as limits, each within its limits
 pub record RatesFit (limits : List RateLimits) (rates : List ℕ) : Type 0 where

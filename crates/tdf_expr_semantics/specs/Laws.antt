@@ -18,7 +18,7 @@ use Rattle.tdf_lang_tree.specs.declared.expr.Index.{Index}
 use Rattle.tdf_lang_tree.specs.declared.stmt.Limit.{Limit}
 
 -- the value is k / 2 ^ F with -2 ^ (I + F) <= k <= 2 ^ (I + F)
-pub record IsWithin (w : Width) (a : Raw) : Type 0 where
+pub record IsWithinWidth (w : Width) (a : Raw) : Type 0 where
   pub frac : a.frac ≡ w.part
   pub within : unsigned_abs a.num ≤ 2 ^ (w.whole + w.part)
 
@@ -27,7 +27,7 @@ abbrev pub LiesWithinWidth : Type 0
 LiesWithinWidth = (scope : Scope) (loops : List OpenLoop) (body : Part) (line : ℕ) (e : PureExpr)
     (turns : List ℕ) (s : State) → IsSound scope → expr_faults scope loops body line e ≡ []
     → StateFits scope.own s → LoopsFit scope.own loops turns
-    → IsWithin (width scope loops e) (value scope loops turns s e)
+    → IsWithinWidth (width scope loops e) (value scope loops turns s e)
 
 -- statements without a fault leave a state that fits
 abbrev pub KeepsFits : Type 0

@@ -5,7 +5,7 @@ use Rattle.std.specs.Ordering.{int_eq}
 use Rattle.tdf_base.specs.Number.{Numeral, numeral_of, scaled_count}
 use Rattle.tdf_fixed.specs.Literal.{exact_of, placed_fraction}
 use Rattle.tdf_fixed.specs.Overflow.{overflowed}
-use Rattle.tdf_fixed.specs.Quantise.{placed}
+use Rattle.tdf_fixed.specs.Quantise.{requantised}
 use Rattle.tdf_fixed.specs.declared.literals.NumErr.{NumErr}
 use Rattle.tdf_fixed.specs.declared.raw.Raw.{Raw}
 use Rattle.tdf_expr_semantics.specs.Places.{first_cell, first_sample, rate_number}
@@ -81,7 +81,7 @@ of_shape None num = nothing
 -- a value cast to a format, in units of its last place: rounding first, overflow second
 abbrev pub cast_number : Shape → Raw → ℤ
 cast_number s a =
-    overflowed s.over s.signed s.wl (placed s.quant a.num a.frac (fraction_bits s))
+    overflowed s.over s.signed s.wl (requantised s.quant a.num a.frac (fraction_bits s))
 
 abbrev pub cast_in : Option Shape → Raw → Raw
 cast_in (Some s) a = of_shape (Some s) (cast_number s a)

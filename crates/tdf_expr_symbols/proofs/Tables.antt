@@ -6,7 +6,7 @@ use Rattle.std.specs.List.{list_any, prefix_len}
 use Rattle.std.specs.Option.{option_map}
 use Rattle.std.proofs.lemmas.List.{map-append, length-map, map-set}
 use Rattle.std.proofs.lemmas.Option.{slice_get-map}
-use Rattle.tdf_expr_symbols.specs.Names.{Thing, with_name, place_in, changed}
+use Rattle.tdf_expr_symbols.specs.Names.{Thing, with_name, place_in, names_changed}
 use Rattle.tdf_expr_symbols.specs.Seen.{seen}
 use Rattle.tdf_expr_symbols.specs.declared.things.Thing.{Thing as Held}
 
@@ -69,8 +69,8 @@ length_seen things = length-map things seen
 -- what stands at a place, changed
 pub changed_is : (f : Thing → Thing) (names : List (List ℕ)) (name : List ℕ) (things : List Held) (n : ℕ) (held new : Held)
     → place_in names name ≡ Some n → slice_get things n ≡ Some held → seen new ≡ f (seen held)
-    → record { names = names; things = map seen (slice_set things n new) } ≡ changed f name (record { names = names; things = map seen things })
-unfolding changed
+    → record { names = names; things = map seen (slice_set things n new) } ≡ names_changed f name (record { names = names; things = map seen things })
+unfolding names_changed
 changed_is f names name things n held new at is same =
     rw (at, slice_get-map seen things n ∙ ap (option_map seen) is, map-set seen things n new ∙ ap (slice_set (map seen things) n) same) refl
 

@@ -32,10 +32,10 @@ name_in (index.Times c i) = Some i
 name_in (index.TimesPlus c i d) = Some i
 
 -- an index whose loop variable runs from `from` to `most`: whether its least value is below 0
-abbrev pub is_negative : Index → (from most : ℕ) → Bool
-is_negative (index.Minus i n) from most = nat_lt from n
-is_negative (index.From n i) from most = nat_lt n most
-is_negative _ from most = false
+abbrev pub is_index_negative : Index → (from most : ℕ) → Bool
+is_index_negative (index.Minus i n) from most = nat_lt from n
+is_index_negative (index.From n i) from most = nat_lt n most
+is_index_negative _ from most = false
 
 -- its greatest value
 abbrev pub greatest_index : Index → (from most : ℕ) → ℕ
@@ -78,7 +78,7 @@ is_excepted i end size = is_multiple_within i (multiple_of end) (multiple_of siz
 -- an index whose loop variable runs from `from` to 1 below `end`
 abbrev pub is_outside : Names → Limit → Index → ℕ → Limit → Bool
 is_outside own size i from end =
-    is_negative i from (greatest_of own end - 1)
+    is_index_negative i from (greatest_of own end - 1)
     || (not (is_excepted i end size)
     && not (nat_lt (greatest_index i from (greatest_of own end - 1)) (least_of own size)))
 
@@ -101,12 +101,12 @@ unfoldable pub kind_faults : Place → Option Thing → ℕ → List LineFault
 kind_faults place thing line =
     fault_if (not (is_allowed place (option_map kind_of thing))) code.Kind line
 
-abbrev pub name_faults : Scope → List OpenLoop → ℕ → Option (List ℕ) → List LineFault
-name_faults scope loops line None = []
-name_faults scope loops line (Some i) = kind_faults place.Index (named scope loops i) line
+abbrev pub index_kind_faults : Scope → List OpenLoop → ℕ → Option (List ℕ) → List LineFault
+index_kind_faults scope loops line None = []
+index_kind_faults scope loops line (Some i) = kind_faults place.Index (named scope loops i) line
 
 -- the faults of an index on an array or port
 unfoldable pub index_faults : Scope → List OpenLoop → ℕ → Option Thing → Index → List LineFault
 index_faults scope loops line thing i =
-    name_faults scope loops line (name_in i)
+    index_kind_faults scope loops line (name_in i)
     ++ fault_if (breaks_size scope loops (size_of thing) i) code.Index line

@@ -70,9 +70,9 @@ pub record Names : Type 0 where
 abbrev pub no_names : Names
 no_names = record { names = []; things = [] }
 
-abbrev pub at_place : {A : Type 0} → List A → Option ℕ → Option A
-at_place xs None = None
-at_place xs (Some n) = slice_get xs n
+abbrev pub found_at : {A : Type 0} → List A → Option ℕ → Option A
+found_at xs None = None
+found_at xs (Some n) = slice_get xs n
 
 abbrev pub place_in : List (List ℕ) → List ℕ → Option ℕ
 place_in names name = position (pointwise nat_eq name) names
@@ -81,7 +81,7 @@ abbrev pub place_of : Names → List ℕ → Option ℕ
 place_of s name = place_in s.names name
 
 abbrev pub thing_of : Names → List ℕ → Option Thing
-thing_of s name = at_place s.things (place_of s name)
+thing_of s name = found_at s.things (place_of s name)
 
 -- one declaration more; of two declarations of one name the first stands
 unfoldable pub with_name : List ℕ → Thing → Names → Names
@@ -145,15 +145,15 @@ abbrev pub changed_at : (Thing → Thing) → List Thing → Option ℕ → Opti
 changed_at f things (Some n) (Some thing) = slice_set things n (f thing)
 changed_at f things n thing = things
 
-unfoldable pub changed : (Thing → Thing) → List ℕ → Names → Names
-changed f name s = record {
+unfoldable pub names_changed : (Thing → Thing) → List ℕ → Names → Names
+names_changed f name s = record {
   names = s.names;
   things = changed_at f s.things (place_of s name) (thing_of s name);
 }
 
 abbrev pub with_attr : Attr → Names → Names
-with_attr (attr.Rate line port rate) s = changed (at_rate rate) port s
-with_attr (attr.Delay line port count) s = changed (at_delay count) port s
+with_attr (attr.Rate line port rate) s = names_changed (at_rate rate) port s
+with_attr (attr.Delay line port count) s = names_changed (at_delay count) port s
 with_attr _ s = s
 
 unfoldable pub with_attrs : List Attr → Names → Names

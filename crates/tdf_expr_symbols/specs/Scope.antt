@@ -4,7 +4,7 @@ use Rattle.std.specs.Prelude.{ℕ, Bool, true, false, List, Option, Some, None, 
 use Rattle.std.specs.Cmp.Lexicographic.{pointwise}
 use Rattle.std.specs.List.{list_any}
 use Rattle.std.specs.Option.{option_map}
-use Rattle.tdf_expr_symbols.specs.Names.{Names, Thing, Loop, RateVar, at_place, thing_of, tdf_names, de_names, composite_names}
+use Rattle.tdf_expr_symbols.specs.Names.{Names, Thing, Loop, RateVar, found_at, thing_of, tdf_names, de_names, composite_names}
 use Rattle.tdf_lang_tree.specs.Pure.{PureTdf, PureDe, PureComposite}
 use Rattle.tdf_lang_tree.specs.declared.blocks.Attr.{Attr}
 use Rattle.tdf_lang_tree.specs.declared.blocks.Attr.TheVariants as attr
@@ -58,7 +58,7 @@ first_some None other = other
 
 -- the loop variable of a name
 abbrev pub loop_of : List OpenLoop → List ℕ → Option Thing
-loop_of loops name = option_map as_thing (at_place loops (loop_place loops name))
+loop_of loops name = option_map as_thing (found_at loops (loop_place loops name))
 
 -- what a name stands for in a body
 unfoldable pub named : Scope → List OpenLoop → List ℕ → Option Thing
@@ -69,9 +69,9 @@ abbrev pub least_rate : Option Thing → ℕ
 least_rate (Some (RateVar least greatest start)) = least
 least_rate _ = 0
 
-abbrev pub greatest_rate : Option Thing → ℕ
-greatest_rate (Some (RateVar least greatest start)) = greatest
-greatest_rate _ = 0
+abbrev pub greatest_rate_of : Option Thing → ℕ
+greatest_rate_of (Some (RateVar least greatest start)) = greatest
+greatest_rate_of _ = 0
 
 -- the least and the greatest value of a limit or of a rate; `r` is `1 * r`
 unfoldable pub least_of : Names → Limit → ℕ
@@ -81,5 +81,5 @@ least_of own (limit.Times c r) = c * least_rate (thing_of own r)
 
 unfoldable pub greatest_of : Names → Limit → ℕ
 greatest_of own (limit.Int n) = n
-greatest_of own (limit.Var r) = greatest_rate (thing_of own r)
-greatest_of own (limit.Times c r) = c * greatest_rate (thing_of own r)
+greatest_of own (limit.Var r) = greatest_rate_of (thing_of own r)
+greatest_of own (limit.Times c r) = c * greatest_rate_of (thing_of own r)

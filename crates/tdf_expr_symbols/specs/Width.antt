@@ -19,9 +19,9 @@ pub record Width : Type 0 where
 abbrev pub fraction_bits : Shape → ℕ
 fraction_bits s = s.wl - s.iwl
 
-abbrev pub of_shape : Option Shape → Width
-of_shape (Some s) = record { whole = s.iwl; part = fraction_bits s }
-of_shape None = record { whole = 0; part = 0 }
+abbrev pub width_of_shape : Option Shape → Width
+width_of_shape (Some s) = record { whole = s.iwl; part = fraction_bits s }
+width_of_shape None = record { whole = 0; part = 0 }
 
 -- a rate variable or a loop variable
 abbrev pub of_count : Width
@@ -38,7 +38,7 @@ of_nothing = record { whole = 0; part = 0 }
 abbrev pub of_thing : Option Thing → Width
 of_thing (Some (RateVar least greatest start)) = of_count
 of_thing (Some (Loop from end)) = of_count
-of_thing (Some thing) = of_shape (shape_of thing)
+of_thing (Some thing) = width_of_shape (shape_of thing)
 of_thing None = of_nothing
 
 -- the least count of bits, from `bits` on and among `more`, that n fits
@@ -77,7 +77,7 @@ abbrev pub width : Scope → List OpenLoop → PureExpr → Width
 width scope loops (ENumber digits) = of_number (exact_of digits)
 width scope loops (EName name) = of_thing (named scope loops name)
 width scope loops (EAt name i) = of_thing (named scope loops name)
-width scope loops (ECast name e) = of_shape (type_shape (thing_of scope.globals name))
+width scope loops (ECast name e) = width_of_shape (type_shape (thing_of scope.globals name))
 width scope loops (ESelect test a b) = joint (width scope loops a) (width scope loops b)
 width scope loops (ENot e) = of_truth
 width scope loops (ENeg e) = width scope loops e

@@ -4,7 +4,7 @@ ghost use Rattle.std.specs.Cmp.Lexicographic.{pointwise};
 ghost use Rattle.std.specs.Option.{option_map};
 ghost use Rattle.std.specs.Prelude.{◌≡◌, ◌*◌, map, length, position, nat_eq, slice_get, IfOk, OnOk};
 ghost use Rattle.tdf_expr_symbols.specs.Names.{place_of, thing_of, no_names, with_global, with_globals, globals_of, format_of, with_port, with_store, with_tdf_line, with_tdf_lines, with_attr, with_attrs, tdf_names, with_de_line, with_de_lines, de_names, with_member, with_members, composite_names};
-ghost use Rattle.tdf_expr_symbols.specs.Scope.{is_does, does_change, tdf_scope, de_scope, composite_scope, named, least_of, greatest_of, least_rate, greatest_rate, loop_of, loop_place};
+ghost use Rattle.tdf_expr_symbols.specs.Scope.{is_does, does_change, tdf_scope, de_scope, composite_scope, named, least_of, greatest_of, least_rate, greatest_rate_of, loop_of, loop_place};
 ghost use Rattle.tdf_expr_symbols.specs.Seen.{seen, seen_loop};
 ghost use Rattle.tdf_lang_tree.specs.Views.{pure_global, pure_store, pure_tdf_line, pure_tdf, pure_de_line, pure_de, pure_composite};
 
@@ -372,7 +372,7 @@ fn least_rate(thing: Option<Thing>) -> u64
 
 /// The greatest value of a rate variable; 0 where it is none.
 fn greatest_rate(thing: Option<Thing>) -> u64
-    ensures { result ≡ greatest_rate (option_map seen thing.entry) }
+    ensures { result ≡ greatest_rate_of (option_map seen thing.entry) }
 {
     match thing {
         Some(Thing::RateVar(_, greatest, _)) => greatest,

@@ -2,7 +2,7 @@
 
 ghost use Rattle.std.specs.Option.{option_map};
 ghost use Rattle.std.specs.Prelude.{◌≡◌, Some, IfOk, OnOk, length, slice_get};
-ghost use Rattle.tdf_expr_symbols.specs.Names.{kind_of, shape_of, no_names, with_name, place_of, thing_of, changed, at_rate, at_delay};
+ghost use Rattle.tdf_expr_symbols.specs.Names.{kind_of, shape_of, no_names, with_name, place_of, thing_of, names_changed, at_rate, at_delay};
 ghost use Rattle.tdf_expr_symbols.specs.Seen.{seen};
 
 use crate::kinds::Kind;
@@ -161,9 +161,9 @@ impl<'t> Table<'t> {
     }
 
     /// A line that says the rate of a port.
-    #[tactic(auto, using(crate::proofs::Tables::change_laws), unfolding(crate::specs::Names::changed))]
+    #[tactic(auto, using(crate::proofs::Tables::change_laws), unfolding(crate::specs::Names::names_changed))]
     pub(crate) fn set_rate(&mut self, port: &[u8], rate: &'t Limit)
-        ensures { self.new ≡ changed (at_rate rate.entry.now) port.now self.old }
+        ensures { self.new ≡ names_changed (at_rate rate.entry.now) port.now self.old }
     {
         if let Some(place) = self.place(port) {
             if place < self.things.len() {
@@ -173,9 +173,9 @@ impl<'t> Table<'t> {
     }
 
     /// A line that says the delay of a port.
-    #[tactic(auto, using(crate::proofs::Tables::change_laws), unfolding(crate::specs::Names::changed))]
+    #[tactic(auto, using(crate::proofs::Tables::change_laws), unfolding(crate::specs::Names::names_changed))]
     pub(crate) fn set_delay(&mut self, port: &[u8], delay: u64)
-        ensures { self.new ≡ changed (at_delay delay) port.now self.old }
+        ensures { self.new ≡ names_changed (at_delay delay) port.now self.old }
     {
         if let Some(place) = self.place(port) {
             if place < self.things.len() {

@@ -9,7 +9,7 @@ ghost use Rattle.tdf_base.specs.First.{least_with};
 ghost use Rattle.tdf_expr_symbols.specs.Faults.{cast_shape, expr_faults, is_comparison, is_wide, own_faults, wide_faults};
 ghost use Rattle.tdf_expr_symbols.specs.Names.{type_shape};
 ghost use Rattle.tdf_expr_symbols.specs.Seen.{seen, seen_loop};
-ghost use Rattle.tdf_expr_symbols.specs.Width.{Width, joint, of_binary, of_shape, of_shift, width};
+ghost use Rattle.tdf_expr_symbols.specs.Width.{Width, joint, of_binary, width_of_shape, of_shift, width};
 ghost use Rattle.tdf_lang_tree.specs.Pure.{EAt, EName, ENumber};
 ghost use Rattle.tdf_lang_tree.specs.Views.{pure_expr};
 
@@ -112,7 +112,7 @@ fn note_cast(
 ) -> Sizes
     ensures first { (w : Width) → IsCapped size w → first.new ≡ least_with first.old
         (cast_faults scope.now line name.now w) }
-    ensures width { IsCapped result (of_shape (cast_shape scope.now name.now)) }
+    ensures width { IsCapped result (width_of_shape (cast_shape scope.now name.now)) }
 {
     let thing = scope.global(name.as_bytes());
     let shape = type_shape(thing);

@@ -5,7 +5,7 @@ ghost use Rattle.std.specs.Prelude.{◌≡◌, ◌+◌, ◌*◌, ◌-◌, ◌^�
 ghost use Rattle.tdf_expr_types.specs.machine.Sites.{breaks_at, breaks_size_at, index_faults_at, name_faults_at};
 ghost use Rattle.tdf_expr_types.specs.machine.Sizes.{seen_multiple, seen_size};
 ghost use Rattle.tdf_base.specs.First.{least_with};
-ghost use Rattle.tdf_expr_symbols.specs.Index.{breaks, breaks_in, breaks_size, greatest_index, index_faults, is_excepted, is_multiple_within, is_negative, is_outside, is_within, multiple_of, name_faults, name_in, size_of};
+ghost use Rattle.tdf_expr_symbols.specs.Index.{breaks, breaks_in, breaks_size, greatest_index, index_faults, is_excepted, is_multiple_within, is_index_negative, is_outside, is_within, multiple_of, index_kind_faults, name_in, size_of};
 ghost use Rattle.tdf_expr_symbols.specs.Scope.{least_of};
 ghost use Rattle.tdf_expr_symbols.specs.Seen.{seen, seen_loop};
 
@@ -60,7 +60,7 @@ fn name_in(index: &Index) -> Option<&Name>
 
 /// Whether the least value of an index is below 0.
 fn is_negative(index: &Index, from: u64, most: u128) -> bool
-    ensures { result ≡ is_negative index.now from most }
+    ensures { result ≡ is_index_negative index.now from most }
 {
     match index {
         Index::Minus(_, n) => from < *n,

@@ -6,7 +6,7 @@ ghost use Rattle.tdf_expr_types.specs.machine.Caps.{IsCapped};
 ghost use Rattle.tdf_fixed.specs.Literal.{exact_of};
 ghost use Rattle.tdf_expr_symbols.specs.Faults.{is_err, is_wide, is_wide_cast};
 ghost use Rattle.tdf_expr_symbols.specs.Seen.{seen};
-ghost use Rattle.tdf_expr_symbols.specs.Width.{Width, bits_from, joint, of_binary, of_number, of_product, of_shape, of_shift, of_sum, of_thing, of_truth};
+ghost use Rattle.tdf_expr_symbols.specs.Width.{Width, bits_from, joint, of_binary, of_number, of_product, width_of_shape, of_shift, of_sum, of_thing, of_truth};
 
 use tdf_base::Digits;
 use tdf_expr_symbols::Thing;
@@ -31,7 +31,7 @@ pub fn truth() -> Sizes
 
 /// The width of values of a format.
 pub fn shape_width(shape: Option<Shape>) -> Sizes
-    ensures { IsCapped result (of_shape shape) }
+    ensures { IsCapped result (width_of_shape shape) }
 {
     match shape {
         None => Sizes { whole: 0, part: 0 },

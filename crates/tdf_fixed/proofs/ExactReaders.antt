@@ -7,7 +7,7 @@ use Rattle.std.proofs.lemmas.Int.{unsigned_abs-mul}
 use Rattle.std.proofs.lemmas.Nat.{div-add-mod', mul-pow}
 use Rattle.std.specs.Prelude.{unsigned_abs}
 use Rattle.tdf_base.specs.Digits.{number}
-use Rattle.tdf_fixed.specs.Literal.{Literal, literal_count, literal_parts, literal_exact, least_of, exact_at, signed_number}
+use Rattle.tdf_fixed.specs.Literal.{Literal, literal_count, literal_parts, literal_exact, least_fraction, exact_at, signed_number}
 use Rattle.tdf_base.specs.Number.{scaled_count}
 use Rattle.tdf_fixed.specs.Spelling.{IsWholeAt, IsExact, ReadsExactly}
 use Rattle.tdf_fixed.proofs.Placed.{all_parts}
@@ -30,8 +30,8 @@ least_next_one part d from frac g not_here low whole later = ⊎_elim
     (λ (other : from ≡ g → ⊥). later g (omega arith) whole)
     (cases_eq from g)
 
-least_is : (part d n from frac : ℕ) → least_of part d n from ≡ Some frac → IsLeast part d from frac
-unfolding least_of
+least_is : (part d n from frac : ℕ) → least_fraction part d n from ≡ Some frac → IsLeast part d from frac
+unfolding least_fraction
 least_is part d zero from frac e = absurd (cc)
 least_is part d (suc n) from frac e = ⊎_elim
     (λ (here : nat_eq (part * 2 ^ from % d) 0 ≡ true).
@@ -42,8 +42,8 @@ least_is part d (suc n) from frac e = ⊎_elim
     record { whole = rest.whole; least = λ g low whole. least_next_one part d from frac g not_here low whole rest.least })
     (cases_Bool (nat_eq (part * 2 ^ from % d) 0))
 
-least_not : (part d n from : ℕ) → least_of part d n from ≡ None → (g : ℕ) → from ≤ g → g < from + n → part * 2 ^ g % d ≡ 0 → ⊥
-unfolding least_of
+least_not : (part d n from : ℕ) → least_fraction part d n from ≡ None → (g : ℕ) → from ≤ g → g < from + n → part * 2 ^ g % d ≡ 0 → ⊥
+unfolding least_fraction
 least_not part d zero from e g low high whole = omega arith
 least_not part d (suc n) from e g low high whole = ⊎_elim
     (λ (here : nat_eq (part * 2 ^ from % d) 0 ≡ true). let gone : Some from ≡ None = rw here at e in absurd (cc))
@@ -133,7 +133,7 @@ whole_at l frac none =
     let product : m * d ≡ n * 2 ^ frac = omega (arith, parts, none) in
     signed_times l.minus m d ∙ ap (signed_number l.minus) product ∙ sym (signed_times l.minus n (2 ^ frac))
 
-exact_case : (l : Literal) (o : Option ℕ) → least_of (number l.numeral.fraction) (literal_parts l) (length l.numeral.fraction + 1) 0 ≡ o → IsExact l (exact_at l o)
+exact_case : (l : Literal) (o : Option ℕ) → least_fraction (number l.numeral.fraction) (literal_parts l) (length l.numeral.fraction + 1) 0 ≡ o → IsExact l (exact_at l o)
 exact_case l None e =
     let k = length l.numeral.fraction in (
       refl,
@@ -146,4 +146,4 @@ exact_case l (Some frac) e =
 
 pub reads_exactly : ReadsExactly
 unfolding literal_exact
-reads_exactly l = exact_case l (least_of (number l.numeral.fraction) (literal_parts l) (length l.numeral.fraction + 1) 0) refl
+reads_exactly l = exact_case l (least_fraction (number l.numeral.fraction) (literal_parts l) (length l.numeral.fraction + 1) 0) refl

@@ -1,21 +1,21 @@
--- The equations of `least_of`, for a loop that tries one count a turn.
+-- The equations of `least_fraction`, for a loop that tries one count a turn.
 use Rattle.std.proofs.Common.{◌≡◌, ℕ, suc, ◌+◌, ◌-◌, ◌*◌, ◌/◌, ◌%◌, ◌^◌, ◌<◌, ◌≤◌, true, false, nat_eq, Some, None, refl, arith}
 use Rattle.std.proofs.Math.Nat.{suc-mul, mul-le-mul_right, mul-lt-mul_of_pos_right}
 use Rattle.std.proofs.lemmas.Nat.{div_below, pow_pos}
-use Rattle.tdf_fixed.specs.Literal.{least_of}
+use Rattle.tdf_fixed.specs.Literal.{least_fraction}
 
-pub least_none : (part d n frac : ℕ) → n ≡ 0 → least_of part d n frac ≡ None
-unfolding least_of
+pub least_none : (part d n frac : ℕ) → n ≡ 0 → least_fraction part d n frac ≡ None
+unfolding least_fraction
 least_none part d n frac e = rw e refl
 
-pub least_here : (part d n k : ℕ) → k < n → nat_eq (part * 2 ^ k % d) 0 ≡ true → least_of part d (n - k) k ≡ Some k
-unfolding least_of
+pub least_here : (part d n k : ℕ) → k < n → nat_eq (part * 2 ^ k % d) 0 ≡ true → least_fraction part d (n - k) k ≡ Some k
+unfolding least_fraction
 least_here part d n k within whole =
     let one : n - k ≡ suc (n - (k + 1)) = omega arith in
     rw (one, whole) refl
 
-pub least_next : (part d n k : ℕ) → k < n → nat_eq (part * 2 ^ k % d) 0 ≡ false → least_of part d (n - k) k ≡ least_of part d (n - (k + 1)) (k + 1)
-unfolding least_of
+pub least_next : (part d n k : ℕ) → k < n → nat_eq (part * 2 ^ k % d) 0 ≡ false → least_fraction part d (n - k) k ≡ least_fraction part d (n - (k + 1)) (k + 1)
+unfolding least_fraction
 least_next part d n k within broken =
     let one : n - k ≡ suc (n - (k + 1)) = omega arith in
     rw (one, broken) refl

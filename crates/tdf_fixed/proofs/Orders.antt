@@ -6,7 +6,7 @@ use Rattle.std.proofs.lemmas.Int.{ints}
 use Rattle.std.proofs.lemmas.Nat.{div-add-mod', le-div}
 use Rattle.std.proofs.Math.Nat.{div-mul-le_self}
 use Rattle.tdf_fixed.specs.CastLaws.{IsMonotone}
-use Rattle.tdf_fixed.specs.Quantise.{is_odd, goes_up, settled}
+use Rattle.tdf_fixed.specs.Quantise.{is_odd, goes_up, rounded_whole}
 use Rattle.tdf_fixed.specs.declared.quant.Quant.{Quant}
 use Rattle.tdf_fixed.specs.declared.quant.Quant.TheVariants.{Trn, TrnZero, Rnd, RndZero, RndMinInf, RndInf, RndConv}
 
@@ -19,8 +19,8 @@ up_grows RndMinInf negative odd s t d le up = grind (arith, nat_tests)
 up_grows RndInf negative odd s t d le up = grind (arith, nat_tests)
 up_grows RndConv negative odd s t d le up = grind (arith, nat_tests)
 
-pub settled_low : (quant : Quant) (negative : Bool) (whole : ℤ) (rest d : ℕ) → whole ≤ℤ settled quant negative whole rest d
-unfolding settled
+pub settled_low : (quant : Quant) (negative : Bool) (whole : ℤ) (rest d : ℕ) → whole ≤ℤ rounded_whole quant negative whole rest d
+unfolding rounded_whole
 settled_low quant negative whole rest d =
     elim (nat_eq rest 0) as (λ b. whole ≤ℤ (if b then whole else if goes_up quant negative (is_odd whole) (2 * rest) d then whole +ℤ pos 1 else whole)) [
       | true ↦ omega (arith, ints)
@@ -28,8 +28,8 @@ settled_low quant negative whole rest d =
           [ true ↦ omega (arith, ints) | false ↦ omega (arith, ints) ]
     ]
 
-pub settled_high : (quant : Quant) (negative : Bool) (whole : ℤ) (rest d : ℕ) → settled quant negative whole rest d ≤ℤ (whole +ℤ pos 1)
-unfolding settled
+pub settled_high : (quant : Quant) (negative : Bool) (whole : ℤ) (rest d : ℕ) → rounded_whole quant negative whole rest d ≤ℤ (whole +ℤ pos 1)
+unfolding rounded_whole
 settled_high quant negative whole rest d =
     elim (nat_eq rest 0) as (λ b. (if b then whole else if goes_up quant negative (is_odd whole) (2 * rest) d then whole +ℤ pos 1 else whole) ≤ℤ (whole +ℤ pos 1)) [
       | true ↦ omega (arith, ints)
@@ -37,21 +37,21 @@ settled_high quant negative whole rest d =
           [ true ↦ omega (arith, ints) | false ↦ omega (arith, ints) ]
     ]
 
-settled_down : (quant : Quant) (negative : Bool) (whole : ℤ) (rest d : ℕ) → goes_up quant negative (is_odd whole) (2 * rest) d ≡ false → settled quant negative whole rest d ≡ whole
-unfolding settled
+settled_down : (quant : Quant) (negative : Bool) (whole : ℤ) (rest d : ℕ) → goes_up quant negative (is_odd whole) (2 * rest) d ≡ false → rounded_whole quant negative whole rest d ≡ whole
+unfolding rounded_whole
 settled_down quant negative whole rest d down = rw down (elim (nat_eq rest 0) as (λ b. (if b then whole else whole) ≡ whole) [ true ↦ refl | false ↦ refl ])
 
 settled_up : (quant : Quant) (negative : Bool) (whole : ℤ) (rest d : ℕ) → nat_eq rest 0 ≡ false → goes_up quant negative (is_odd whole) (2 * rest) d ≡ true
-    → settled quant negative whole rest d ≡ whole +ℤ pos 1
-unfolding settled
+    → rounded_whole quant negative whole rest d ≡ whole +ℤ pos 1
+unfolding rounded_whole
 settled_up quant negative whole rest d some up = rw (some, up) refl
 
-settled_none : (quant : Quant) (negative : Bool) (whole : ℤ) (rest d : ℕ) → nat_eq rest 0 ≡ true → settled quant negative whole rest d ≡ whole
-unfolding settled
+settled_none : (quant : Quant) (negative : Bool) (whole : ℤ) (rest d : ℕ) → nat_eq rest 0 ≡ true → rounded_whole quant negative whole rest d ≡ whole
+unfolding rounded_whole
 settled_none quant negative whole rest d none = rw none refl
 
 -- between the same neighbours
-settled_grows : (quant : Quant) (negative : Bool) (whole : ℤ) (r s d : ℕ) → r ≤ s → settled quant negative whole r d ≤ℤ settled quant negative whole s d
+settled_grows : (quant : Quant) (negative : Bool) (whole : ℤ) (r s d : ℕ) → r ≤ s → rounded_whole quant negative whole r d ≤ℤ rounded_whole quant negative whole s d
 settled_grows quant negative whole r s d le =
     let low = settled_low quant negative whole s d in
     ⊎_elim
@@ -66,12 +66,12 @@ settled_grows quant negative whole r s d le =
     (cases_Bool (nat_eq r 0))
 
 -- between lower and higher neighbours
-settled_apart : (quant : Quant) (n m : Bool) (v w : ℤ) (r s d : ℕ) → (v +ℤ pos 1) ≤ℤ w → settled quant n v r d ≤ℤ settled quant m w s d
+settled_apart : (quant : Quant) (n m : Bool) (v w : ℤ) (r s d : ℕ) → (v +ℤ pos 1) ≤ℤ w → rounded_whole quant n v r d ≤ℤ rounded_whole quant m w s d
 settled_apart quant n m v w r s d less =
     let high = settled_high quant n v r d in let low = settled_low quant m w s d in omega (arith, ints)
 
 settled_order : (quant : Quant) (negative : Bool) (v w : ℤ) (r s d : ℕ) → ((v ≡ w) × (r ≤ s)) ⊎ ((v +ℤ pos 1) ≤ℤ w)
-    → settled quant negative v r d ≤ℤ settled quant negative w s d
+    → rounded_whole quant negative v r d ≤ℤ rounded_whole quant negative w s d
 settled_order quant negative v w r s d order = ⊎_elim
     (λ (same : (v ≡ w) × (r ≤ s)). rw same.0 (settled_grows quant negative w r s d same.1))
     (λ (less : (v +ℤ pos 1) ≤ℤ w). settled_apart quant negative negative v w r s d less)

@@ -4,7 +4,7 @@ use Rattle.std.proofs.Math.Nat.{mul-lt-mul_of_pos_right, mul-le-mul_right, le_of
 use Rattle.std.proofs.lemmas.Bool.{cases_lt, cases_eq, lt-ltb, le-ltb, le-leb, lt-leb, eq-eqb, ne_eqb}
 use Rattle.std.proofs.lemmas.Int.{ints}
 use Rattle.std.proofs.lemmas.Nat.{div-add-mod', mod_below, mul-add-lt, pow_pos, pow-add}
-use Rattle.tdf_fixed.specs.Quantise.{below, above_by, is_negative, is_odd, goes_up, settled, quantised, placed}
+use Rattle.tdf_fixed.specs.Quantise.{below, above_by, is_negative, is_odd, goes_up, rounded_whole, quantised, requantised}
 use Rattle.tdf_fixed.specs.declared.quant.Quant.{Quant}
 use Rattle.tdf_fixed.specs.declared.quant.Quant.TheVariants.{Trn, TrnZero, Rnd, RndZero, RndMinInf, RndInf, RndConv}
 use Rattle.tdf_base.proofs.Api.{of_parts}
@@ -97,8 +97,8 @@ up_scaled RndMinInf negative odd a b k some = lt_scaled b a k some
 up_scaled RndInf negative odd a b k some = rw (lt_scaled b a k some, eq_scaled a b k some) refl
 up_scaled RndConv negative odd a b k some = rw (lt_scaled b a k some, eq_scaled a b k some) refl
 
-settled_scaled : (quant : Quant) (negative : Bool) (whole : ℤ) (rest d k : ℕ) → 0 < k → settled quant negative whole (rest * k) (d * k) ≡ settled quant negative whole rest d
-unfolding settled
+settled_scaled : (quant : Quant) (negative : Bool) (whole : ℤ) (rest d k : ℕ) → 0 < k → rounded_whole quant negative whole (rest * k) (d * k) ≡ rounded_whole quant negative whole rest d
+unfolding rounded_whole
 settled_scaled quant negative whole rest d k some =
     let twice : 2 * (rest * k) ≡ (2 * rest) * k = omega arith in
     let none : nat_eq (rest * k) 0 ≡ nat_eq rest 0 = ap (λ z. nat_eq (rest * k) z) (sym (zero-mul k)) ∙ eq_scaled rest 0 k some in
@@ -106,14 +106,14 @@ settled_scaled quant negative whole rest d k some =
 
 pub quantised_scaled : (quant : Quant) (n : ℤ) (d k : ℕ) → 0 < d → 0 < k → quantised quant (n *ℤ pos k) (d * k) ≡ quantised quant n d
 quantised_scaled quant n d k divides some =
-    ap (λ b. settled quant b (below (n *ℤ pos k) (d * k)) (above_by (n *ℤ pos k) (d * k)) (d * k)) (sign_scaled n k some)
-    ∙ ap (λ z. settled quant (is_negative n) z (above_by (n *ℤ pos k) (d * k)) (d * k)) (below_scaled n d k divides some)
-    ∙ ap (λ r. settled quant (is_negative n) (below n d) r (d * k)) (above_scaled n d k divides some)
+    ap (λ b. rounded_whole quant b (below (n *ℤ pos k) (d * k)) (above_by (n *ℤ pos k) (d * k)) (d * k)) (sign_scaled n k some)
+    ∙ ap (λ z. rounded_whole quant (is_negative n) z (above_by (n *ℤ pos k) (d * k)) (d * k)) (below_scaled n d k divides some)
+    ∙ ap (λ r. rounded_whole quant (is_negative n) (below n d) r (d * k)) (above_scaled n d k divides some)
     ∙ settled_scaled quant (is_negative n) (below n d) (above_by n d) d k some
 
 -- a whole number stays
 pub quantised_whole : (quant : Quant) (n : ℤ) → quantised quant n 1 ≡ n
-unfolding settled
+unfolding rounded_whole
 quantised_whole quant (pos n) = rw (mod-one n, div-one n) refl
 quantised_whole quant (negsuc n) = rw (mod-one n, div-one n) refl
 
@@ -130,8 +130,8 @@ times_both (negsuc n) a b = ap (λ x. neg_ℤ (pos x)) (sym (mul_assoc (suc n) a
 powers : (from to : ℕ) → from ≤ to → 2 ^ to ≡ 2 ^ (to - from) * 2 ^ from
 powers from to le = let sum : to ≡ (to - from) + from = omega arith in ap (λ k. 2 ^ k) sum ∙ pow-add 2 (to - from) from
 
-pub placed_up : (quant : Quant) (num : ℤ) (from to : ℕ) → from ≤ to → placed quant num from to ≡ num *ℤ pos (2 ^ (to - from))
-unfolding placed
+pub placed_up : (quant : Quant) (num : ℤ) (from to : ℕ) → from ≤ to → requantised quant num from to ≡ num *ℤ pos (2 ^ (to - from))
+unfolding requantised
 placed_up quant num from to le =
     let d = 2 ^ from in let k = 2 ^ (to - from) in
     let unit : 1 * d ≡ d = omega arith in
@@ -141,8 +141,8 @@ placed_up quant num from to le =
     ∙ quantised_scaled quant (num *ℤ pos k) 1 d (omega arith) (pow_pos from)
     ∙ quantised_whole quant (num *ℤ pos k)
 
-pub placed_down : (quant : Quant) (num : ℤ) (from to : ℕ) → to ≤ from → placed quant num from to ≡ quantised quant num (2 ^ (from - to))
-unfolding placed
+pub placed_down : (quant : Quant) (num : ℤ) (from to : ℕ) → to ≤ from → requantised quant num from to ≡ quantised quant num (2 ^ (from - to))
+unfolding requantised
 placed_down quant num from to le =
     ap (λ e. quantised quant (num *ℤ pos (2 ^ to)) e) (powers to from le)
     ∙ quantised_scaled quant num (2 ^ (from - to)) (2 ^ to) (pow_pos (from - to)) (pow_pos to)

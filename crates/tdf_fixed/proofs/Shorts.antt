@@ -6,7 +6,7 @@ use Rattle.std.proofs.lemmas.Int.{ints}
 use Rattle.std.proofs.lemmas.Nat.{pow_pos, pow-add, div-add-mod', mod_below, div_below}
 use Rattle.std.specs.Int.{w64}
 use Rattle.std.specs.Prelude.{unsigned_abs, FitsSigned}
-use Rattle.tdf_fixed.specs.Quantise.{below, above_by, settled, quantised}
+use Rattle.tdf_fixed.specs.Quantise.{below, above_by, rounded_whole, quantised}
 use Rattle.tdf_fixed.specs.Overflow.{half_of, wrapped, overflowed}
 use Rattle.tdf_fixed.specs.declared.over.Over.TheVariants.{Wrap}
 use Rattle.tdf_fixed.specs.declared.quant.Quant.TheVariants.{Trn}
@@ -64,7 +64,7 @@ below_half (pos n) (suc s) fits some = let small : n < 2 ^ 63 = fits.sfits in om
 below_half (negsuc n) (suc s) fits some = let small : n < 2 ^ 63 = fits.sfits in omega (arith, half_quotient n s small)
 
 pub trn_is : (num : ℤ) (d : ℕ) → quantised Trn num d ≡ below num d
-unfolding settled
+unfolding rounded_whole
 trn_is num d = elim (nat_eq (above_by num d) 0) as (λ b. (if b then below num d else below num d) ≡ below num d) [ true ↦ refl | false ↦ refl ]
 
 pub ruleset quantise_lemmas = (small_power, rest_below, below_half, trn_is)

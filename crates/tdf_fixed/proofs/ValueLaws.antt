@@ -10,7 +10,7 @@ use Rattle.tdf_fixed.specs.Cast.{cast_of, fraction_of}
 use Rattle.tdf_fixed.specs.CastLaws.{is_nearest, RoundsToNearest, RoundsDown, IsByValue, CastsExactly}
 use Rattle.tdf_fixed.specs.Literal.{literal_cast, literal_count, literal_parts, placed_fraction}
 use Rattle.tdf_fixed.specs.Overflow.{overflowed}
-use Rattle.tdf_fixed.specs.Quantise.{below, above_by, is_negative, is_odd, goes_up, settled, quantised, placed}
+use Rattle.tdf_fixed.specs.Quantise.{below, above_by, is_negative, is_odd, goes_up, rounded_whole, quantised, requantised}
 use Rattle.tdf_fixed.specs.declared.quant.Quant.{Quant}
 use Rattle.tdf_fixed.specs.declared.quant.Quant.TheVariants.{Trn, TrnZero, Rnd, RndZero, RndMinInf, RndInf, RndConv}
 use Rattle.tdf_fixed.proofs.Scaling.{quantised_scaled, times_both}
@@ -24,8 +24,8 @@ turned z a b =
     let swap : a * b ≡ b * a = grind arith in
     sym (times_both z a b) ∙ ap (λ m. z *ℤ pos m) swap ∙ times_both z b a
 
-placed_value : (quant : Quant) (num : ℤ) (frac k to : ℕ) → placed quant (num *ℤ pos (2 ^ k)) (frac + k) to ≡ placed quant num frac to
-unfolding placed
+placed_value : (quant : Quant) (num : ℤ) (frac k to : ℕ) → requantised quant (num *ℤ pos (2 ^ k)) (frac + k) to ≡ requantised quant num frac to
+unfolding requantised
 placed_value quant num frac k to =
     ap (λ z. quantised quant z (2 ^ (frac + k))) (turned num (2 ^ k) (2 ^ to))
     ∙ ap (λ d. quantised quant ((num *ℤ pos (2 ^ to)) *ℤ pos (2 ^ k)) d) (pow-add 2 frac k)
@@ -47,7 +47,7 @@ same_fraction quant c z p e t some more same =
     ∙ quantised_scaled quant (z *ℤ pos t) e p more some
 
 pub casts_exactly : CastsExactly
-unfolding literal_cast placed_fraction cast_of placed
+unfolding literal_cast placed_fraction cast_of requantised
 casts_exactly f l num frac whole =
     ap (overflowed f.over f.signed f.wl)
     (same_fraction f.quant (literal_count l) num (literal_parts l) (2 ^ frac) (2 ^ fraction_of f) (power_some _) (pow_pos frac) whole)
@@ -83,8 +83,8 @@ away_high : (p q n : ℤ) (rest d : ℕ) → p +ℤ pos rest ≡ n → q ≡ p +
 away_high p q n rest d parts up less near = let same : q -ℤ n ≡ pos (d - rest) = omega (arith, ints) in rw same (omega arith)
 
 settled_near : (quant : Quant) (negative : Bool) (whole n : ℤ) (rest d : ℕ) → is_nearest quant ≡ true → whole *ℤ pos d +ℤ pos rest ≡ n → rest < d
-    → 2 * unsigned_abs (settled quant negative whole rest d *ℤ pos d -ℤ n) ≤ d
-unfolding settled
+    → 2 * unsigned_abs (rounded_whole quant negative whole rest d *ℤ pos d -ℤ n) ≤ d
+unfolding rounded_whole
 settled_near quant negative whole n rest d near parts less = ⊎_elim
     (λ (none : nat_eq rest 0 ≡ true). rw none (away_low (whole *ℤ pos d) n rest d parts (grind (arith, nat_tests))))
     (λ (some : nat_eq rest 0 ≡ false). ⊎_elim

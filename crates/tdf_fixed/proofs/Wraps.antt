@@ -7,9 +7,9 @@ use Rattle.std.specs.Int.{int_max, int_min}
 use Rattle.std.proofs.lemmas.Nat.{div-add-mod', mod_below, pow_pos}
 use Rattle.std.specs.Prelude.{unsigned_abs}
 use Rattle.tdf_fixed.specs.Cast.{cast_of, fraction_of}
-use Rattle.tdf_fixed.specs.CastLaws.{AreNeighbours, IsKept, IsIdempotent, IsNearest, DifferBy, IsWrap, IsOnlyWrap, least_kept}
-use Rattle.tdf_fixed.specs.Overflow.{least, most, least_symmetric, wrapped, wrapped_signed, overflowed, IsIn}
-use Rattle.tdf_fixed.specs.Quantise.{below, above_by, placed}
+use Rattle.tdf_fixed.specs.CastLaws.{AreNeighbours, CastKeepsValue, IsIdempotent, IsNearest, DifferBy, IsWrap, IsOnlyWrap, least_kept}
+use Rattle.tdf_fixed.specs.Overflow.{least, most, least_symmetric, wrapped, wrapped_signed, overflowed, IsOfWidth}
+use Rattle.tdf_fixed.specs.Quantise.{below, above_by, requantised}
 use Rattle.tdf_fixed.specs.declared.over.Over.{Over}
 use Rattle.tdf_fixed.specs.declared.over.Over.TheVariants.{Wrap, Sat, SatZero, SatSym}
 use Rattle.tdf_fixed.specs.declared.quant.Quant.{Quant}
@@ -60,7 +60,7 @@ wrap_differs false wl z =
     let d = 2 ^ wl in
     (below z d, differ_low z (below z d) (below z d *ℤ pos d) (above_by z d) (parts_again z d (pow_pos wl)))
 
-wrap_in : (signed : Bool) (wl : ℕ) (z : ℤ) → 1 ≤ wl → IsIn signed wl (wrapped signed wl z)
+wrap_in : (signed : Bool) (wl : ℕ) (z : ℤ) → 1 ≤ wl → IsOfWidth signed wl (wrapped signed wl z)
 unfolding overflowed
 wrap_in signed wl z some = in_range Wrap signed wl z some
 
@@ -72,7 +72,7 @@ near x y (pos zero) m e low high = omega (arith, ints, zero-mul m)
 near x y (pos (suc k)) m e low high = absurd (omega (arith, ints, suc-mul k m))
 near x y (negsuc k) m e low high = absurd (omega (arith, ints, suc-mul k m))
 
-apart : (signed : Bool) (wl : ℕ) (x y : ℤ) → 1 ≤ wl → IsIn signed wl x → IsIn signed wl y → x <ℤ (y +ℤ pos (2 ^ wl))
+apart : (signed : Bool) (wl : ℕ) (x y : ℤ) → 1 ≤ wl → IsOfWidth signed wl x → IsOfWidth signed wl y → x <ℤ (y +ℤ pos (2 ^ wl))
 apart true wl x y some in_x in_y = let h = half wl some in let p = pow_pos (wl - 1) in omega (arith, ints)
 apart false wl x y some in_x in_y = let p = pow_pos wl in omega (arith, ints)
 
@@ -82,7 +82,7 @@ only_wrap signed wl x y some in_x in_y differ =
 
 -- ---- numbers of the range
 
-wrap_keeps : (signed : Bool) (wl : ℕ) (z : ℤ) → 1 ≤ wl → IsIn signed wl z → wrapped signed wl z ≡ z
+wrap_keeps : (signed : Bool) (wl : ℕ) (z : ℤ) → 1 ≤ wl → IsOfWidth signed wl z → wrapped signed wl z ≡ z
 wrap_keeps signed wl z some in_z = sym (only_wrap signed wl z (wrapped signed wl z) some in_z (wrap_in signed wl z some) (wrap_differs signed wl z))
 
 pub kept : (over : Over) (signed : Bool) (wl : ℕ) (z : ℤ) → 1 ≤ wl → least_kept over signed wl ≤ℤ z → z ≤ℤ most signed wl → overflowed over signed wl z ≡ z
@@ -99,12 +99,12 @@ times_one : (n : ℤ) → n *ℤ pos 1 ≡ n
 times_one (pos n) = omega (arith, ints)
 times_one (negsuc n) = omega (arith, ints)
 
-placed_same : (quant : Quant) (num : ℤ) (frac : ℕ) → placed quant num frac frac ≡ num
+placed_same : (quant : Quant) (num : ℤ) (frac : ℕ) → requantised quant num frac frac ≡ num
 placed_same quant num frac =
     let none : 2 ^ (frac - frac) ≡ 1 = one_power (frac - frac) (omega arith) in
     placed_up quant num frac frac (omega arith) ∙ ap (λ e. num *ℤ pos e) none ∙ times_one num
 
-pub cast_keeps : IsKept
+pub cast_keeps : CastKeepsValue
 unfolding cast_of
 cast_keeps f num low high =
     ap (overflowed f.over f.signed f.wl) (placed_same f.quant num (fraction_of f)) ∙ kept f.over f.signed f.wl num f.some_bits low high
@@ -123,7 +123,7 @@ low_kept SatSym signed wl z some = symmetric_in signed wl z some
 pub cast_again : IsIdempotent
 unfolding cast_of
 cast_again f num frac =
-    let first = placed f.quant num frac (fraction_of f) in
+    let first = requantised f.quant num frac (fraction_of f) in
     ap (overflowed f.over f.signed f.wl) (placed_same f.quant (overflowed f.over f.signed f.wl first) (fraction_of f))
     ∙ kept f.over f.signed f.wl (overflowed f.over f.signed f.wl first) f.some_bits (low_kept f.over f.signed f.wl first f.some_bits)
     (in_range f.over f.signed f.wl first f.some_bits).high

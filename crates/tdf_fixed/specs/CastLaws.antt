@@ -1,7 +1,7 @@
 -- What holds of rounding, overflow and casts, whatever the numbers (own).
 use Rattle.std.specs.Prelude.{◌≡◌, ℕ, ◌+◌, ◌*◌, ◌<◌, ◌≤◌, Bool, ℤ, pos, ◌+ℤ◌, ◌-ℤ◌, ◌*ℤ◌, ◌≤ℤ◌, ◌<ℤ◌, unsigned_abs, ◌^◌, true, false}
 use Rattle.tdf_fixed.specs.Cast.{cast_of, fraction_of}
-use Rattle.tdf_fixed.specs.Overflow.{least, least_symmetric, most, overflowed, wrapped, IsIn}
+use Rattle.tdf_fixed.specs.Overflow.{least, least_symmetric, most, overflowed, wrapped, IsOfWidth}
 use Rattle.tdf_fixed.specs.Quantise.{below, above_by, quantised}
 use Rattle.tdf_fixed.specs.declared.format.Format.{Format}
 use Rattle.tdf_fixed.specs.declared.over.Over.{Over}
@@ -53,8 +53,9 @@ least_kept SatSym signed wl = least_symmetric signed wl
 least_kept _ signed wl = least signed wl
 
 -- a cast leaves a value of the format alone
-abbrev pub IsKept : Type 0
-IsKept = (f : Format) (num : ℤ) → least_kept f.over f.signed f.wl ≤ℤ num → num ≤ℤ most f.signed f.wl
+abbrev pub CastKeepsValue : Type 0
+CastKeepsValue = (f : Format) (num : ℤ)
+    → least_kept f.over f.signed f.wl ≤ℤ num → num ≤ℤ most f.signed f.wl
     → cast_of f num (fraction_of f) ≡ num
 
 -- a second cast changes nothing
@@ -64,7 +65,7 @@ IsIdempotent = (f : Format) (num : ℤ) (frac : ℕ)
 
 -- no number of the range is nearer than the one that `sat` gives
 abbrev pub IsNearest : Type 0
-IsNearest = (signed : Bool) (wl : ℕ) (z y : ℤ) → 1 ≤ wl → IsIn signed wl y
+IsNearest = (signed : Bool) (wl : ℕ) (z y : ℤ) → 1 ≤ wl → IsOfWidth signed wl y
     → unsigned_abs (z -ℤ overflowed Sat signed wl z) ≤ unsigned_abs (z -ℤ y)
 
 -- two numbers that differ by a multiple of m
@@ -74,9 +75,10 @@ DifferBy m x y = (k : ℤ) × (x ≡ y +ℤ k *ℤ pos m)
 -- `wrap` gives a number of the range that differs by a multiple of 2 ^ wl
 abbrev pub IsWrap : Type 0
 IsWrap = (signed : Bool) (wl : ℕ) (z : ℤ) → 1 ≤ wl
-    → IsIn signed wl (wrapped signed wl z) × DifferBy (2 ^ wl) z (wrapped signed wl z)
+    → IsOfWidth signed wl (wrapped signed wl z) × DifferBy (2 ^ wl) z (wrapped signed wl z)
 
 -- and there is no other
 abbrev pub IsOnlyWrap : Type 0
-IsOnlyWrap = (signed : Bool) (wl : ℕ) (x y : ℤ) → 1 ≤ wl → IsIn signed wl x → IsIn signed wl y
+IsOnlyWrap = (signed : Bool) (wl : ℕ) (x y : ℤ) → 1 ≤ wl
+    → IsOfWidth signed wl x → IsOfWidth signed wl y
     → DifferBy (2 ^ wl) x y → x ≡ y

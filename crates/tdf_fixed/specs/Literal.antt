@@ -61,10 +61,10 @@ unfoldable pub decimal_of : Format → List ℕ → Result Raw DecimalErr
 decimal_of f text = decimal_with f (literal_of text)
 
 -- the least count of fraction bits, from `frac` on and among `more`, at which part/d is whole
-unfoldable pub least_of : ℕ → ℕ → ℕ → ℕ → Option ℕ
-least_of part d zero frac = None
-least_of part d (suc more) frac =
-    if nat_eq (part * 2 ^ frac % d) 0 then Some frac else least_of part d more (frac + 1)
+unfoldable pub least_fraction : ℕ → ℕ → ℕ → ℕ → Option ℕ
+least_fraction part d zero frac = None
+least_fraction part d (suc more) frac =
+    if nat_eq (part * 2 ^ frac % d) 0 then Some frac else least_fraction part d more (frac + 1)
 
 abbrev pub exact_at : Literal → Option ℕ → Result Raw NumErr
 exact_at l None = Err Inexact
@@ -77,7 +77,7 @@ exact_at l (Some frac) = Ok (record {
 unfoldable pub literal_exact : Literal → Result Raw NumErr
 literal_exact l =
     exact_at l
-    (least_of (number l.numeral.fraction) (literal_parts l) (length l.numeral.fraction + 1) 0)
+    (least_fraction (number l.numeral.fraction) (literal_parts l) (length l.numeral.fraction + 1) 0)
 
 abbrev pub exact_with : Option Literal → Result Raw NumErr
 exact_with None = Err IsNotNumber

@@ -38,6 +38,6 @@ overflowed SatZero signed wl n =
 overflowed SatSym signed wl n = int_max (least_symmetric signed wl) (int_min n (most signed wl))
 
 -- a number of the range
-pub record IsIn (signed : Bool) (wl : ℕ) (z : ℤ) : Type 0 where
+pub record IsOfWidth (signed : Bool) (wl : ℕ) (z : ℤ) : Type 0 where
   pub low : least signed wl ≤ℤ z
   pub high : z ≤ℤ most signed wl

@@ -32,15 +32,15 @@ goes_up RndInf negative odd twice d = nat_lt d twice || (nat_eq twice d && not n
 goes_up RndConv negative odd twice d = nat_lt d twice || (nat_eq twice d && odd)
 
 -- of a fraction by its sign, the neighbour below and the distance from it
-unfoldable pub settled : Quant → Bool → ℤ → ℕ → ℕ → ℤ
-settled quant negative whole rest d = if nat_eq rest 0 then whole
+unfoldable pub rounded_whole : Quant → Bool → ℤ → ℕ → ℕ → ℤ
+rounded_whole quant negative whole rest d = if nat_eq rest 0 then whole
     else if goes_up quant negative (is_odd whole) (2 * rest) d then whole +ℤ pos 1
     else whole
 
 -- the whole number to which a mode rounds n/d
 abbrev pub quantised : Quant → ℤ → ℕ → ℤ
-quantised quant n d = settled quant (is_negative n) (below n d) (above_by n d) d
+quantised quant n d = rounded_whole quant (is_negative n) (below n d) (above_by n d) d
 
 -- the value num / 2 ^ from in units of the last place 1 / 2 ^ to
-unfoldable pub placed : Quant → ℤ → ℕ → ℕ → ℤ
-placed quant num from to = quantised quant (num *ℤ pos (2 ^ to)) (2 ^ from)
+unfoldable pub requantised : Quant → ℤ → ℕ → ℕ → ℤ
+requantised quant num from to = quantised quant (num *ℤ pos (2 ^ to)) (2 ^ from)

@@ -2,8 +2,8 @@
 
 ghost use Rattle.std.specs.Prelude.{◌≡◌, ◌-◌, ◌*◌, ◌<◌, ◌≤◌, ◌^◌, unsigned_abs};
 ghost use Rattle.tdf_fixed.specs.Cast.{cast_of, fraction_of};
-ghost use Rattle.tdf_fixed.specs.Overflow.{IsIn, overflowed};
-ghost use Rattle.tdf_fixed.specs.Quantise.{placed};
+ghost use Rattle.tdf_fixed.specs.Overflow.{IsOfWidth, overflowed};
+ghost use Rattle.tdf_fixed.specs.Quantise.{requantised};
 ghost use Rattle.tdf_fixed.specs.declared.over.Over.TheVariants.{Wrap};
 ghost use Rattle.tdf_fixed.specs.declared.quant.Quant.TheVariants.{Trn};
 
@@ -22,7 +22,7 @@ fn cast_long(num: i128, from: u32, to: u32, quant: Quant, over: Over, signed: bo
     requires few { (from ≤ 120) × (to ≤ 63) }
     requires small { unsigned_abs num * 2 ^ (to - from) ≤ 2 ^ 120 }
     requires wl { (1 ≤ wl) × (wl ≤ 64) }
-    ensures { result ≡ overflowed over signed wl (placed quant num from to) }
+    ensures { result ≡ overflowed over signed wl (requantised quant num from to) }
 {
     overflow(over, signed, wl, place(quant, num, from, to))
 }
@@ -56,7 +56,7 @@ pub fn cast(value: Raw, format: Format) -> Raw
     requires small { unsigned_abs value.num * 2 ^ (fraction_of format - value.frac) ≤ 2 ^ 120 }
     ensures num { result.num ≡ cast_of format value.num value.frac }
     ensures frac { result.frac ≡ fraction_of format }
-    ensures range { IsIn format.signed format.wl result.num }
+    ensures range { IsOfWidth format.signed format.wl result.num }
     ensures few { result.frac ≤ 63 }
     ensures small { unsigned_abs result.num < 2 ^ 64 }
 {
@@ -102,7 +102,7 @@ pub fn cast_trn_wrap(value: Raw, format: Format) -> Raw
     requires small { unsigned_abs value.num * 2 ^ (fraction_of format - value.frac) ≤ 2 ^ 120 }
     ensures num { result.num ≡ cast_of format value.num value.frac }
     ensures frac { result.frac ≡ fraction_of format }
-    ensures range { IsIn format.signed format.wl result.num }
+    ensures range { IsOfWidth format.signed format.wl result.num }
     ensures few { result.frac ≤ 63 }
     ensures small { unsigned_abs result.num < 2 ^ 64 }
 {

@@ -1,6 +1,6 @@
 //! What holds of the definitions, whatever the numbers and texts: each function here only carries its clauses.
 
-ghost use Rattle.tdf_fixed.specs.CastLaws.{AreNeighbours, IsMonotone, RoundsToNearest, RoundsDown, IsByValue, CastsExactly, IsKept, IsIdempotent, IsNearest, IsWrap, IsOnlyWrap};
+ghost use Rattle.tdf_fixed.specs.CastLaws.{AreNeighbours, IsMonotone, RoundsToNearest, RoundsDown, IsByValue, CastsExactly, CastKeepsValue, IsIdempotent, IsNearest, IsWrap, IsOnlyWrap};
 ghost use Rattle.tdf_fixed.specs.DecimalLaws.{IsValueText, IsTimeText};
 ghost use Rattle.tdf_fixed.specs.Spelling.{ReadsLiterals, ReadsExactly, ReadsBack};
 
@@ -24,7 +24,7 @@ pub fn law_overflow()
 /// minimum under `sat_sym`, and a second cast changes nothing.
 pub fn law_casts()
     ensures by_value { IsByValue }
-    ensures kept { IsKept }
+    ensures kept { CastKeepsValue }
     ensures idempotent { IsIdempotent }
 {}
 

@@ -3,9 +3,9 @@
 ghost use Rattle.std.specs.Prelude.{◌≡◌, ◌+◌, ◌*◌, ◌-◌, ◌/◌, ◌%◌, ◌<◌, ◌≤◌, ◌^◌, true, length, slice_index, nat_eq, unsigned_abs, IsTrue, IfSome, IfOk};
 ghost use Rattle.std.specs.Option.{option_map};
 ghost use Rattle.tdf_fixed.specs.Cast.{fraction_of};
-ghost use Rattle.tdf_fixed.specs.Literal.{literal_of, literal_cast, literal_exact, decimal_of, exact_of, least_of, signed_number};
+ghost use Rattle.tdf_fixed.specs.Literal.{literal_of, literal_cast, literal_exact, decimal_of, exact_of, least_fraction, signed_number};
 ghost use Rattle.tdf_base.specs.Number.{numeral_of, is_short};
-ghost use Rattle.tdf_fixed.specs.Overflow.{IsIn};
+ghost use Rattle.tdf_fixed.specs.Overflow.{IsOfWidth};
 ghost use Rattle.tdf_base.specs.Sides.{spelt, AreDigits};
 ghost use Rattle.tdf_fixed.specs.Sides.{signed};
 
@@ -84,7 +84,7 @@ fn cast_literal(literal: &Signed, format: Format) -> i128
     requires digits { AreDigits literal.now.parts.whole.now literal.now.parts.fraction.now }
     requires short { is_short (spelt literal.now.parts) ≡ true }
     ensures value { result ≡ literal_cast format (signed literal.now) }
-    ensures range { IsIn format.signed format.wl result }
+    ensures range { IsOfWidth format.signed format.wl result }
 {
     let parts = literal.parts;
     let d = power_of_ten(parts.fraction.len());
@@ -107,7 +107,7 @@ fn cast_literal(literal: &Signed, format: Format) -> i128
 #[tactic(auto, unfolding(crate::specs::Literal::decimal_of))]
 pub fn read_decimal(text: &[u8], format: Format) -> Result<Raw, DecimalErr>
     ensures value { result ≡ decimal_of format text.now }
-    ensures range { IfOk result (λ r. IsIn format.signed format.wl r.num) }
+    ensures range { IfOk result (λ r. IsOfWidth format.signed format.wl r.num) }
     ensures frac { IfOk result (λ r. r.frac ≡ fraction_of format) }
 {
     let Some(literal) = literal(text) else {
@@ -135,7 +135,7 @@ fn is_whole(part: u64, d: u128, frac: u32) -> bool
 fn least_frac(part: u64, d: u128, digits: u32) -> Option<u32>
     requires sizes { (part < 10 ^ 18) × (0 < d) }
     requires few { digits ≤ 18 }
-    ensures value { result ≡ least_of part d (digits + 1) 0 }
+    ensures value { result ≡ least_fraction part d (digits + 1) 0 }
     ensures few { IfSome result (λ frac. frac ≤ 18) }
 {
     for frac in 0..digits + 1 {

@@ -1,7 +1,7 @@
 //! Rounding, in 128 bits.
 
 ghost use Rattle.std.specs.Prelude.{◌≡◌, ◌+◌, ◌-◌, ◌*◌, ◌<◌, ◌≤◌, ◌^◌, ℤ, pos, ◌+ℤ◌, ◌*ℤ◌, unsigned_abs, ℕ, nat_eq, nat_lt};
-ghost use Rattle.tdf_fixed.specs.Quantise.{above_by, below, goes_up, is_odd, settled, quantised, placed};
+ghost use Rattle.tdf_fixed.specs.Quantise.{above_by, below, goes_up, is_odd, rounded_whole, quantised, requantised};
 
 use crate::bits::low;
 use crate::quant::Quant;
@@ -43,11 +43,11 @@ pub(crate) fn up(quant: Quant, negative: bool, odd: bool, more: bool, tie: bool)
 }
 
 /// Rounds a fraction, given its sign, its neighbour below and its distance from that in parts of `1/d`.
-#[tactic(auto, unfolding(crate::specs::Quantise::settled))]
+#[tactic(auto, unfolding(crate::specs::Quantise::rounded_whole))]
 pub(crate) fn settle(quant: Quant, negative: bool, whole: i128, rest: u128, d: u128) -> i128
     requires few { rest < 2 ^ 120 }
     requires small { unsigned_abs whole ≤ 2 ^ 125 }
-    ensures { result ≡ settled quant negative whole rest d }
+    ensures { result ≡ rounded_whole quant negative whole rest d }
 {
     let twice = 2 * rest;
     let above = up(quant, negative, odd(whole), d < twice, twice == d);
@@ -75,7 +75,7 @@ fn scaled(num: i128, s: u32) -> i128
 pub(crate) fn place(quant: Quant, num: i128, from: u32, to: u32) -> i128
     requires few { (from ≤ 120) × (to ≤ 63) }
     requires small { unsigned_abs num * 2 ^ (to - from) ≤ 2 ^ 120 }
-    ensures { result ≡ placed quant num from to }
+    ensures { result ≡ requantised quant num from to }
 {
     if from <= to {
         scaled(num, to - from)

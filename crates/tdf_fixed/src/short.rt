@@ -3,7 +3,7 @@
 ghost use Rattle.std.specs.Prelude.{◌≡◌, ◌+◌, ◌-◌, ◌*◌, ◌/◌, ◌<◌, ◌≤◌, ◌^◌, pos, ◌*ℤ◌, unsigned_abs, IfSome};
 ghost use Rattle.tdf_fixed.specs.Cast.{cast_of};
 ghost use Rattle.tdf_fixed.specs.Overflow.{least, most, least_symmetric, half_of, wrapped, overflowed};
-ghost use Rattle.tdf_fixed.specs.Quantise.{above_by, below, is_odd, settled, quantised, placed};
+ghost use Rattle.tdf_fixed.specs.Quantise.{above_by, below, is_odd, rounded_whole, quantised, requantised};
 ghost use Rattle.tdf_fixed.specs.declared.over.Over.TheVariants.{Wrap};
 ghost use Rattle.tdf_fixed.specs.declared.quant.Quant.TheVariants.{Trn};
 
@@ -64,11 +64,11 @@ fn odd(num: i64) -> bool
 }
 
 /// Rounds a fraction, given its sign, its neighbour below and its distance from that in parts of `1/d`.
-#[tactic(auto, unfolding(crate::specs::Quantise::settled))]
+#[tactic(auto, unfolding(crate::specs::Quantise::rounded_whole))]
 fn settle(quant: Quant, negative: bool, whole: i64, rest: u64, d: u64) -> i64
     requires few { rest < 2 ^ 62 }
     requires small { 0 < rest → unsigned_abs whole ≤ 2 ^ 62 }
-    ensures value { result ≡ settled quant negative whole rest d }
+    ensures value { result ≡ rounded_whole quant negative whole rest d }
 {
     let twice = 2 * rest;
     let above = up(quant, negative, odd(whole), d < twice, twice == d);
@@ -225,7 +225,7 @@ fn cut(num: i64, s: u32, signed: bool, wl: u32) -> i64
 #[tactic(auto, using(crate::proofs::Scaling::placed_down))]
 pub(crate) fn cut_short(num: i128, from: u32, to: u32, signed: bool, wl: u32) -> Option<i64>
     requires { 1 ≤ wl }
-    ensures { IfSome result (λ n. n ≡ overflowed Wrap signed wl (placed Trn num from to)) }
+    ensures { IfSome result (λ n. n ≡ overflowed Wrap signed wl (requantised Trn num from to)) }
 {
     if wl > 62 || from < to || from - to > 62 {
         return None;

@@ -17,10 +17,10 @@ pub record IsEdge (count : ℕ) (edge : Edge) : Type 0 where
   pub reads : IsRate edge.read_rate
   pub starts : edge.initial ≤ 2 * greatest_delay
 
-pub record IsPort (count : ℕ) (port : Port) : Type 0 where
+pub record IsGraphPort (count : ℕ) (port : Port) : Type 0 where
   pub actor : port.actor < count
   pub rate : IsRate port.rate
 
-pub record AreInRange (count : ℕ) (edges : List Edge) (ports : List Port) : Type 0 where
+pub record IsGraphInRange (count : ℕ) (edges : List Edge) (ports : List Port) : Type 0 where
   pub edges_fit : All (IsEdge count) edges
-  pub ports_fit : All (IsPort count) ports
+  pub ports_fit : All (IsGraphPort count) ports

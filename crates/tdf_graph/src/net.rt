@@ -1,7 +1,7 @@
 //! A net, whose actors and rates are in range.
 
 ghost use Rattle.std.specs.Prelude.{◌≡◌, ◌<◌, ◌^◌, ◌↔◌, length, vec_len, All, IsTrue, IsSome, IfSome};
-ghost use Rattle.tdf_graph.specs.Ranges.{IsRate, IsEdge, IsPort, AreInRange};
+ghost use Rattle.tdf_graph.specs.Ranges.{IsRate, IsEdge, IsGraphPort, IsGraphInRange};
 
 use crate::actors::{Actor, Edge, Port};
 use tdf_base::{GREATEST_DELAY, GREATEST_RATE};
@@ -15,7 +15,7 @@ pub struct Net {
     pub edges: Vec<Edge>,
     /// The ports of the modules, by module and declaration.
     pub ports: Vec<Port>,
-    pub ghost in_range: { AreInRange (vec_len actors) edges.items ports.items },
+    pub ghost in_range: { IsGraphInRange (vec_len actors) edges.items ports.items },
     pub ghost few_actors: { vec_len actors < 2 ^ 32 },
     pub ghost few_edges: { vec_len edges < 2 ^ 32 },
     pub ghost few_ports: { vec_len ports < 2 ^ 32 },
@@ -38,7 +38,7 @@ fn is_edge(count: usize, edge: &Edge) -> bool
 }
 
 fn is_port(count: usize, port: &Port) -> bool
-    ensures { IsTrue result ↔ IsPort count port.now }
+    ensures { IsTrue result ↔ IsGraphPort count port.now }
 {
     (port.actor as usize) < count && is_rate(port.rate)
 }
@@ -50,7 +50,7 @@ fn are_edges(count: usize, edges: &[Edge]) -> bool
 }
 
 fn are_ports(count: usize, ports: &[Port]) -> bool
-    ensures { IsTrue result ↔ All (IsPort count) ports.now }
+    ensures { IsTrue result ↔ All (IsGraphPort count) ports.now }
 {
     ports.iter().all(|port| is_port(count, port))
 }
@@ -62,7 +62,7 @@ impl Net {
         requires actors { vec_len actors < 2 ^ 32 }
         requires edges { vec_len edges < 2 ^ 32 }
         requires ports { vec_len ports < 2 ^ 32 }
-        ensures in_range { IsSome result ↔ AreInRange (vec_len actors) edges.items ports.items }
+        ensures in_range { IsSome result ↔ IsGraphInRange (vec_len actors) edges.items ports.items }
         ensures actors { IfSome result (λ net. net.actors.items ≡ actors.items) }
         ensures edges { IfSome result (λ net. net.edges.items ≡ edges.items) }
         ensures ports { IfSome result (λ net. net.ports.items ≡ ports.items) }

@@ -9,7 +9,7 @@ use Rattle.tdf_lang_tree.specs.declared.blocks.Attr.TheVariants as attr
 use Rattle.tdf_lang_tree.specs.declared.blocks.Initial.{Initial}
 use Rattle.tdf_lang_tree.specs.declared.blocks.Member.{Member}
 use Rattle.tdf_lang_tree.specs.declared.blocks.Member.TheVariants as member
-use Rattle.tdf_lang_printer.specs.Canon.{canon, head_text, tdf_line, attr_line, initial_line, de_line, sense_line, member_line, trace_line, store_line, stmt_lines, stmts_lines, else_lines, part_lines, attributes_lines, initialize_lines, tdf_lines, dont_lines, process_lines, global_lines, tree_lines}
+use Rattle.tdf_lang_printer.specs.Canon.{canon, head_text, tdf_line, attr_line, initial_line, de_line, sense_line, member_line, form_of_trace, store_line, stmt_lines, stmts_lines, else_lines, part_lines, attributes_lines, initialize_lines, tdf_lines, dont_lines, process_lines, global_lines, tree_lines}
 use Rattle.tdf_lang_printer.specs.Lines.{lines_text}
 
 same_map : {X L : Type 0} (line : X → L) (bare_of : X → X) → ((x : X) → line (bare_of x) ≡ line x) → (xs : List X) → map line (map bare_of xs) ≡ map line xs
@@ -122,7 +122,7 @@ same_tree t =
     two _ _ _ _ (same_flat global_lines bare_global same_global t.globals)
     (ap (λ u. FTop ∷ u)
     (two _ _ _ _ (same_map member_line bare_member same_member t.top.members)
-    (ap (λ u. FEnd ∷ u) (same_map trace_line bare_trace (λ x. refl) t.traces))))
+    (ap (λ u. FEnd ∷ u) (same_map form_of_trace bare_trace (λ x. refl) t.traces))))
 
 same_text : (t : PureTree) → canon (bare t) ≡ canon t
 unfolding canon

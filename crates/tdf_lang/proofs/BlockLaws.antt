@@ -4,7 +4,7 @@ use Rattle.std.proofs.lemmas.List.{append-nil}
 use Rattle.std.specs.Prelude.{codes}
 use Rattle.std.specs.List.{flat_map}
 use Rattle.tdf_lang_tree.specs.Forms.{Form, FType, FTdf, FDe, FComposite, FTop, FEnd, FSetAttributes, FInitialize, FProcessing, FChangeAttributes, FReinitialize, FProcess, FDontInitialize}
-use Rattle.tdf_lang_parser.specs.Items.{tdf_line_of, attr_of, initial_of, de_line_of, sense_of, member_of, net_line_of, trace_of, BodyKind, Plain}
+use Rattle.tdf_lang_parser.specs.Items.{tdf_line_of, attr_of, initial_of, de_line_of, sense_of, member_of, net_line_of, trace_item, BodyKind, Plain}
 use Rattle.tdf_lang_lines.specs.SpellsLine.{SpellsLine}
 use Rattle.tdf_base.specs.declared.resolution.Resolution.{Resolution}
 use Rattle.tdf_lang_lexer.specs.Token.{TokenLine}
@@ -15,8 +15,8 @@ use Rattle.tdf_lang_tree.specs.declared.blocks.Attr.{Attr}
 use Rattle.tdf_lang_tree.specs.declared.blocks.Initial.{Initial}
 use Rattle.tdf_lang_tree.specs.declared.blocks.Member.{Member}
 use Rattle.tdf_lang_tree.specs.declared.blocks.Sense.{Sense}
-use Rattle.tdf_lang_parser.specs.SpellsTree.{Lines, SpellsAll, deepest, body_of, no_body, SpellsPart, part_none, part_some, SpellsAttributes, attributes_none, attributes_some, SpellsInitialize, initialize_none, initialize_some, SpellsTdf, tdf, SpellsDont, dont_none, dont_some, SpellsProcess, process, SpellsProcesses, processes_none, processes_more, SpellsGlobal, global_type, global_tdf, global_de, global_net, SpellsGlobals, globals_none, globals_more, SpellsModel, model}
-use Rattle.tdf_lang_printer.specs.Canon.{tdf_line, attr_line, initial_line, de_line, sense_line, member_line, trace_line, stmts_lines, block_lines, part_lines, attributes_lines, initialize_lines, tdf_lines, dont_lines, process_lines, global_lines, tree_lines}
+use Rattle.tdf_lang_parser.specs.SpellsTree.{Lines, SpellsAll, deepest, body_with, no_body, SpellsPart, part_none, part_some, SpellsAttributes, attributes_none, attributes_some, SpellsInitialize, initialize_none, initialize_some, SpellsTdf, tdf, SpellsDont, dont_none, dont_some, SpellsProcess, process, SpellsProcesses, processes_none, processes_more, SpellsGlobal, global_type, global_tdf, global_de, global_net, SpellsGlobals, globals_none, globals_more, SpellsModel, model}
+use Rattle.tdf_lang_printer.specs.Canon.{tdf_line, attr_line, initial_line, de_line, sense_line, member_line, form_of_trace, stmts_lines, block_lines, part_lines, attributes_lines, initialize_lines, tdf_lines, dont_lines, process_lines, global_lines, tree_lines}
 use Rattle.tdf_lang.proofs.FormWords.{form_tokens}
 use Rattle.tdf_lang.proofs.RowLaws.{Shows}
 use Rattle.tdf_lang.proofs.StmtLaws.{cut_rows, one_row, head_row, no_rows, means_at, more_same, lines_again, same_sts, all_again}
@@ -24,15 +24,15 @@ use Rattle.tdf_lang.proofs.Tables.{tdf_table, attr_table, initial_table, de_tabl
 use Rattle.tdf_lang_lexer.specs.declared.dialect.Dialect.{Dialect}
 
 -- a body without its line number
-bare_body_of : (ss : List PureStmt) (n : ℕ) → bare_body (body_of ss n) ≡ record { list = bare_stmts (sts ss); end = 0 }
+bare_body_of : (ss : List PureStmt) (n : ℕ) → bare_body (body_with ss n) ≡ record { list = bare_stmts (sts ss); end = 0 }
 bare_body_of [] n = refl
 bare_body_of (s ∷ ss) n = refl
 
-pub body_list : (ss : List PureStmt) (n : ℕ) → (body_of ss n).list ≡ sts ss
+pub body_list : (ss : List PureStmt) (n : ℕ) → (body_with ss n).list ≡ sts ss
 body_list [] n = refl
 body_list (s ∷ ss) n = refl
 
-same_body : (ts ss : List PureStmt) (m n : ℕ) → map bare_stmt ts ≡ map bare_stmt ss → bare_body (body_of ts m) ≡ bare_body (body_of ss n)
+same_body : (ts ss : List PureStmt) (m n : ℕ) → map bare_stmt ts ≡ map bare_stmt ss → bare_body (body_with ts m) ≡ bare_body (body_with ss n)
 same_body ts ss m n e =
     bare_body_of ts m ∙ ap (λ (u : PureStmts). record { list = u; end = 0 }) (same_sts ts ss e) ∙ sym (bare_body_of ss n)
 
@@ -45,7 +45,7 @@ absent_part : (lang : Dialect) (head : Form) (k : BodyKind) (rows : List TokenLi
 absent_part lang head k rows i = record { body = no_body; spells = subst (λ u. SpellsPart lang head k u no_body) (no_rows rows i) part_none; same = refl }
 
 present_part : (lang : Dialect) (head : Form) (k : BodyKind) (ss : List PureStmt) (n : ℕ) {a : List TokenLine} (h l : TokenLine) → SpellsLine lang.version h.tokens head → SpellsAll lang k deepest a ss → SpellsLine lang.version l.tokens FEnd
-    → (rows : List TokenLine) → Shows rows (part_lines head (sts ss)) → PartAgain lang head k rows (body_of ss n)
+    → (rows : List TokenLine) → Shows rows (part_lines head (sts ss)) → PartAgain lang head k rows (body_with ss n)
 present_part lang head k [] n h l m d me rows i = absent_part lang head k rows i
 present_part lang head k (s ∷ ss) n h l m d me rows i =
     let hd = head_row head (stmts_lines (sts (s ∷ ss)) ++ FEnd ∷ []) rows i in
@@ -53,8 +53,8 @@ present_part lang head k (s ∷ ss) n h l m d me rows i =
     let b = all_again lang d c.first c.shows_first in
     let o = one_row FEnd c.second c.shows_second in
     record {
-      body = body_of b.list o.row.number;
-      spells = subst (λ u. SpellsPart lang head k u (body_of b.list o.row.number)) (sym (hd.is ∙ ap (λ u. hd.row ∷ u) (c.is ∙ ap (λ u. c.first ++ u) o.is)))
+      body = body_with b.list o.row.number;
+      spells = subst (λ u. SpellsPart lang head k u (body_with b.list o.row.number)) (sym (hd.is ∙ ap (λ u. hd.row ∷ u) (c.is ∙ ap (λ u. c.first ++ u) o.is)))
           (part_some hd.row o.row (means_at lang m hd.row hd.tokens) b.spells (means_at lang me o.row o.tokens));
       same = same_body b.list (s ∷ ss) o.row.number n b.same;
     }
@@ -104,7 +104,7 @@ absent_initialize lang rows i =
 
 whole_initialize : (lang : Dialect) (xs : List Initial) (ss : List PureStmt) (n : ℕ) {a b : List TokenLine} (h l : TokenLine) → SpellsLine lang.version h.tokens FInitialize → Lines lang initial_of a xs
     → SpellsAll lang Plain deepest b ss → SpellsLine lang.version l.tokens FEnd → (rows : List TokenLine) → Shows rows (block_lines FInitialize (map initial_line xs ++ stmts_lines (sts ss)))
-    → InitializeAgain lang rows xs (body_of ss n)
+    → InitializeAgain lang rows xs (body_with ss n)
 whole_initialize lang xs ss n h l m d e me rows i =
     let hd = head_row FInitialize ((map initial_line xs ++ stmts_lines (sts ss)) ++ FEnd ∷ []) rows i in
     let c = cut_rows (map initial_line xs ++ stmts_lines (sts ss)) (FEnd ∷ []) hd.rest hd.shows in
@@ -114,8 +114,8 @@ whole_initialize lang xs ss n h l m d e me rows i =
     let o = one_row FEnd c.second c.shows_second in
     record {
       items = x.items;
-      body = body_of b.list o.row.number;
-      spells = subst (λ u. SpellsInitialize lang u x.items (body_of b.list o.row.number))
+      body = body_with b.list o.row.number;
+      spells = subst (λ u. SpellsInitialize lang u x.items (body_with b.list o.row.number))
           (sym (hd.is ∙ ap (λ u. hd.row ∷ u) (c.is ∙ ap (λ u. c.first ++ u) o.is ∙ ap (λ u. u ++ o.row ∷ []) g.is ∙ append_assoc g.first g.second (o.row ∷ []))))
           (initialize_some hd.row o.row (means_at lang m hd.row hd.tokens) x.lines b.spells (means_at lang me o.row o.tokens));
       same_items = x.same;
@@ -123,7 +123,7 @@ whole_initialize lang xs ss n h l m d e me rows i =
     }
 
 present_initialize : (lang : Dialect) (xs : List Initial) (ss : List PureStmt) (n : ℕ) {a b : List TokenLine} (h l : TokenLine) → SpellsLine lang.version h.tokens FInitialize → Lines lang initial_of a xs
-    → SpellsAll lang Plain deepest b ss → SpellsLine lang.version l.tokens FEnd → (rows : List TokenLine) → Shows rows (initialize_lines xs (sts ss)) → InitializeAgain lang rows xs (body_of ss n)
+    → SpellsAll lang Plain deepest b ss → SpellsLine lang.version l.tokens FEnd → (rows : List TokenLine) → Shows rows (initialize_lines xs (sts ss)) → InitializeAgain lang rows xs (body_with ss n)
 present_initialize lang [] [] n h l m d e me rows i = absent_initialize lang rows i
 present_initialize lang [] (s ∷ ss) n h l m d e me rows i = whole_initialize lang [] (s ∷ ss) n h l m d e me rows i
 present_initialize lang (x ∷ xs) ss n h l m d e me rows i = whole_initialize lang (x ∷ xs) ss n h l m d e me rows i
@@ -217,8 +217,8 @@ process_again lang (process {senses = senses} {starts = starts} {ss = ss} h l m 
     let x2 = dont_again lang ds c2.first c2.shows_first in
     let x3 = all_again lang bs c3.first c3.shows_first in
     record {
-      new = record { line = hd.row.number; sensitive = x1.items; starts = starts; body = body_of x3.list o.row.number };
-      spells = subst (λ u. SpellsProcess lang u (record { line = hd.row.number; sensitive = x1.items; starts = starts; body = body_of x3.list o.row.number }))
+      new = record { line = hd.row.number; sensitive = x1.items; starts = starts; body = body_with x3.list o.row.number };
+      spells = subst (λ u. SpellsProcess lang u (record { line = hd.row.number; sensitive = x1.items; starts = starts; body = body_with x3.list o.row.number }))
           (sym (hd.is ∙ ap (λ u. hd.row ∷ u) (c1.is ∙ ap (λ u. c1.first ++ u) (c2.is ∙ ap (λ u. c2.first ++ u) (c3.is ∙ ap (λ u. c3.first ++ u) o.is)))))
           (process hd.row o.row (means_at lang m hd.row hd.tokens) x1.lines x2.spells x3.spells (means_at lang me o.row o.tokens));
       same = process_same _ _ starts _ _ x1.same (same_body x3.list ss o.row.number l.number x3.same);
@@ -325,15 +325,15 @@ tree_same version resolution g1 g2 m1 m2 t1 t2 e f g = cc
 
 pub model_again : (lang : Dialect) {a : List TokenLine} {t : PureTree} → SpellsModel lang a t → (rows : List TokenLine) → Shows rows (tree_lines t) → ModelAgain lang rows t
 model_again lang (model {globals = globals} {members = members} {traces = traces} q l gs mq ls me xs) rows i =
-    let t3 = FEnd ∷ map trace_line traces in
+    let t3 = FEnd ∷ map form_of_trace traces in
     let t2 = FTop ∷ (map member_line members ++ t3) in
     let c1 = cut_rows (flat_map global_lines globals) t2 rows i in
     let top = head_row FTop (map member_line members ++ t3) c1.second c1.shows_second in
     let c2 = cut_rows (map member_line members) t3 top.rest top.shows in
-    let o = head_row FEnd (map trace_line traces) c2.second c2.shows_second in
+    let o = head_row FEnd (map form_of_trace traces) c2.second c2.shows_second in
     let x1 = globals_again lang gs c1.first c1.shows_first in
     let x2 = lines_again lang member_of member_line bare_member member_table ls c2.first c2.shows_first in
-    let x3 = lines_again lang trace_of trace_line bare_trace trace_table xs o.rest o.shows in
+    let x3 = lines_again lang trace_item form_of_trace bare_trace trace_table xs o.rest o.shows in
     record {
       tree = record { version = lang.version; resolution = lang.resolution; globals = x1.list; top = record { line = top.row.number; name = codes "top"; members = x2.items }; traces = x3.items };
       spells = subst (λ u. SpellsModel lang u (record { version = lang.version; resolution = lang.resolution; globals = x1.list; top = record { line = top.row.number; name = codes "top"; members = x2.items }; traces = x3.items }))

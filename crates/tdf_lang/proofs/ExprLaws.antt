@@ -17,7 +17,7 @@ use Rattle.tdf_lang_exprs.specs.Numbers.{trimmed}
 use Rattle.tdf_base.proofs.Api.{int_small, int_decimal}
 use Rattle.tdf_base.specs.Digits.{int_of}
 use Rattle.tdf_lang_exprs.specs.Index.{SpellsIndex, index_int, index_var, index_plus, index_minus, index_from, index_times, index_times_plus}
-use Rattle.tdf_lang_exprs.specs.SpellsExpr.{level, left_level, sign, shift_sign, SpellsExpr, number, variable, item, cast, select, parens, negation, shift, contrary, binary, tighter}
+use Rattle.tdf_lang_exprs.specs.SpellsExpr.{level, left_level, operator_token, shift_sign, SpellsExpr, number, variable, item, cast, select, parens, negation, shift, contrary, binary, tighter}
 use Rattle.tdf_lang_exprs.proofs.Api.{lower, left_le_five, level_lt_six}
 use Rattle.tdf_lang_printer.specs.Exprs.{is_single}
 use Rattle.tdf_lang.proofs.TokenLines.{IsToken, AreTokens}
@@ -75,7 +75,7 @@ shift_ok : (lang : Dialect) (left : Bool) → Writable lang (shift_sign left)
 shift_ok lang true = symbol_writable lang symbol.ShiftLeft
 shift_ok lang false = symbol_writable lang symbol.ShiftRight
 
-sign_ok : (lang : Dialect) (op : Op) → Writable lang (sign op)
+sign_ok : (lang : Dialect) (op : Op) → Writable lang (operator_token op)
 sign_ok lang Or = key_writable lang key.Or
 sign_ok lang And = key_writable lang key.And
 sign_ok lang Lt = symbol_writable lang symbol.Less
@@ -142,7 +142,7 @@ expr_apart lang (EShift x left n) h g rest k =
     (wrap_apart lang x (expr_words x true) (expr_words x false) true _ (expr_apart lang x h.0 true _ refl) (λ r. expr_apart lang x h.0 false (41 ∷ r) refl))
     (shift_ok lang left, by_space, last_apart lang (TNumber (decimal n)) h.1.0 h.1.1 g rest k)
 expr_apart lang (EBinary op x y) h g rest k =
-    apart_append lang (wrap_words x (expr_words x true) (expr_words x false) true) (loose (sign op) ∷ wrap_words y (expr_words y g) (expr_words y false) g) rest
+    apart_append lang (wrap_words x (expr_words x true) (expr_words x false) true) (loose (operator_token op) ∷ wrap_words y (expr_words y g) (expr_words y false) g) rest
     (wrap_apart lang x (expr_words x true) (expr_words x false) true _ (expr_apart lang x h.0 true _ refl) (λ r. expr_apart lang x h.0 false (41 ∷ r) refl)) (
       sign_ok lang op,
       by_space,

@@ -14,7 +14,7 @@ use Rattle.tdf_lang_tree.specs.declared.expr.Index.{Index}
 use Rattle.tdf_lang_tree.specs.declared.expr.Index.TheVariants as index
 use Rattle.tdf_lang_tree.specs.declared.expr.Op.{Op}
 use Rattle.tdf_lang_tree.specs.declared.expr.Op.TheVariants.{Or, And, Lt, Le, Eq, Ne, Gt, Ge, Add, Sub, Mul}
-use Rattle.tdf_lang_exprs.specs.SpellsExpr.{sign, shift_sign}
+use Rattle.tdf_lang_exprs.specs.SpellsExpr.{operator_token, shift_sign}
 use Rattle.tdf_lang_printer.specs.Exprs.{op_text, shift_text, index_text, is_single, operand_text, expr_text}
 use Rattle.tdf_lang.proofs.Tokens.{spelled, Writable, first_part, first_letter}
 use Rattle.tdf_lang.proofs.Gaps.{Word, tight, loose, word, gap, written, tokens_in, written_append}
@@ -52,10 +52,10 @@ expr_words (ESelect x y z) g = tight (TKey key.Select) ∷ tight opens ∷ (expr
 expr_words (ENot x) g = loose (TKey key.Not) ∷ wrap_words x (expr_words x g) (expr_words x false) g
 expr_words (ENeg x) g = tight (TSymbol symbol.Minus) ∷ wrap_words x (expr_words x g) (expr_words x false) g
 expr_words (EShift x left n) g = wrap_words x (expr_words x true) (expr_words x false) true ++ loose (shift_sign left) ∷ word (TNumber (decimal n)) g ∷ []
-expr_words (EBinary op x y) g = wrap_words x (expr_words x true) (expr_words x false) true ++ loose (sign op) ∷ wrap_words y (expr_words y g) (expr_words y false) g
+expr_words (EBinary op x y) g = wrap_words x (expr_words x true) (expr_words x false) true ++ loose (operator_token op) ∷ wrap_words y (expr_words y g) (expr_words y false) g
 
 -- the text of the words
-op_is : (lang : Dialect) (op : Op) → op_text op ≡ 32 ∷ (spelled lang (sign op) ++ 32 ∷ [])
+op_is : (lang : Dialect) (op : Op) → op_text op ≡ 32 ∷ (spelled lang (operator_token op) ++ 32 ∷ [])
 unfolding spelling words.sign
 op_is lang Or = refl
 op_is lang And = refl
@@ -133,10 +133,10 @@ expr_written lang (EShift x left n) g =
     (ap (λ u. spelled lang (shift_sign left) ++ 32 ∷ u) (last_written lang (TNumber (decimal n)) g))
     ∙ regroup_sign (operand_text x (expr_text x)) (spelled lang (shift_sign left)) (decimal n) (gap g) (shift_text left) (shift_is lang left)
 expr_written lang (EBinary op x y) g =
-    written_then lang (wrap_words x (expr_words x true) (expr_words x false) true) (loose (sign op) ∷ wrap_words y (expr_words y g) (expr_words y false) g) _ _
+    written_then lang (wrap_words x (expr_words x true) (expr_words x false) true) (loose (operator_token op) ∷ wrap_words y (expr_words y g) (expr_words y false) g) _ _
     (wrap_written lang x (expr_words x true) (expr_words x false) (expr_text x) true (expr_written lang x true) (expr_written lang x false))
-    (ap (λ u. spelled lang (sign op) ++ 32 ∷ u) (wrap_written lang y (expr_words y g) (expr_words y false) (expr_text y) g (expr_written lang y g) (expr_written lang y false)))
-    ∙ regroup_sign (operand_text x (expr_text x)) (spelled lang (sign op)) (operand_text y (expr_text y)) (gap g) (op_text op) (op_is lang op)
+    (ap (λ u. spelled lang (operator_token op) ++ 32 ∷ u) (wrap_written lang y (expr_words y g) (expr_words y false) (expr_text y) g (expr_written lang y g) (expr_written lang y false)))
+    ∙ regroup_sign (operand_text x (expr_text x)) (spelled lang (operator_token op)) (operand_text y (expr_text y)) (gap g) (op_text op) (op_is lang op)
 
 -- tokens of an expression, with no spaces
 abbrev pub index_tokens : Index → List Tok
@@ -160,7 +160,7 @@ expr_tokens (ESelect x y z) = TKey key.Select ∷ opens ∷ (expr_tokens x ++ co
 expr_tokens (ENot x) = TKey key.Not ∷ wrap_tokens x (expr_tokens x)
 expr_tokens (ENeg x) = TSymbol symbol.Minus ∷ wrap_tokens x (expr_tokens x)
 expr_tokens (EShift x left n) = wrap_tokens x (expr_tokens x) ++ shift_sign left ∷ TNumber (decimal n) ∷ []
-expr_tokens (EBinary op x y) = wrap_tokens x (expr_tokens x) ++ sign op ∷ wrap_tokens y (expr_tokens y)
+expr_tokens (EBinary op x y) = wrap_tokens x (expr_tokens x) ++ operator_token op ∷ wrap_tokens y (expr_tokens y)
 
 tokens_append : (xs ys : List Word) → tokens_in (xs ++ ys) ≡ tokens_in xs ++ tokens_in ys
 tokens_append [] ys = refl
@@ -203,7 +203,7 @@ expr_tokens_are (EShift x left n) g =
 expr_tokens_are (EBinary op x y) g =
     tokens_then (wrap_words x (expr_words x true) (expr_words x false) true) _ _ _
     (wrap_tokens_are x (expr_words x true) (expr_words x false) true (expr_tokens_are x true) (expr_tokens_are x false))
-    (ap (λ u. sign op ∷ u) (wrap_tokens_are y (expr_words y g) (expr_words y false) g (expr_tokens_are y g) (expr_tokens_are y false)))
+    (ap (λ u. operator_token op ∷ u) (wrap_tokens_are y (expr_words y g) (expr_words y false) g (expr_tokens_are y g) (expr_tokens_are y false)))
 
 -- names that can be written
 pub record NameOk (lang : Dialect) (n : List ℕ) : Type 0 where

@@ -8,7 +8,7 @@ use Rattle.tdf_base.specs.declared.resolution.Resolution.TheVariants.{Ps, Fs}
 use Rattle.tdf_lang_parser.specs.Head.{SpellsVersion, language_1, language_2, language_3, SpellsResolution, resolution_ps, resolution_fs, SpellsHead, head_version, head_resolution}
 use Rattle.tdf_lang_lexer.specs.Pieces.{pieces_of, pieces_from}
 use Rattle.tdf_lang_lexer.specs.Rows.{Row, rows_from, rows_of}
-use Rattle.tdf_lang_lexer.specs.Text.{is_allowed, lines_from, lines_of}
+use Rattle.tdf_lang_lexer.specs.Text.{is_allowed_byte, lines_from, lines_of}
 use Rattle.tdf_lang_lexer.specs.declared.dialect.Dialect.{Dialect}
 use Rattle.tdf_lang_printer.specs.Canon.{head_text, language_text, resolution_text, unit_line}
 use Rattle.tdf_lang_printer.specs.Lines.{line_text, lines_text}
@@ -25,8 +25,8 @@ pub record Headed (lang : Dialect) : Type 0 where
   pub cut : (rest : List ℕ) → lines_from [] (head_text lang.version lang.resolution ++ rest) ≡ lines ++ lines_from [] rest
   pub read : (more : List (List ℕ)) → rows_from 1 (lines ++ more) ≡ rows ++ rows_from next more
   pub spells : SpellsHead rows lang
-  pub allowed : list_all is_allowed (head_text lang.version lang.resolution) ≡ true
-  pub plain : list_all (λ line. list_all is_allowed line) lines ≡ true
+  pub allowed : list_all is_allowed_byte (head_text lang.version lang.resolution) ≡ true
+  pub plain : list_all (λ line. list_all is_allowed_byte line) lines ≡ true
 
 -- a row that opens a text
 abbrev pub version_row : List ℕ → Row
@@ -92,7 +92,7 @@ headed_1 = record {
   cut = λ rest. ap (λ u. lines_from [] (u ++ rest)) text_1 ∙ cut_1 rest;
   read = read_1;
   spells = head_version (version_row (codes "1")) language_1;
-  allowed = ap (list_all is_allowed) text_1;
+  allowed = ap (list_all is_allowed_byte) text_1;
   plain = refl;
 }
 
@@ -105,7 +105,7 @@ headed_2 = record {
   cut = λ rest. ap (λ u. lines_from [] (u ++ rest)) text_2 ∙ cut_2 rest;
   read = read_2;
   spells = head_version (version_row (codes "2")) language_2;
-  allowed = ap (list_all is_allowed) text_2;
+  allowed = ap (list_all is_allowed_byte) text_2;
   plain = refl;
 }
 
@@ -118,7 +118,7 @@ headed_ps = record {
   cut = λ rest. ap (λ u. lines_from [] (u ++ rest)) text_ps ∙ cut_ps rest;
   read = read_ps;
   spells = head_resolution (version_row (codes "3")) (unit_row (codes "1ps")) language_3 resolution_ps;
-  allowed = ap (list_all is_allowed) text_ps;
+  allowed = ap (list_all is_allowed_byte) text_ps;
   plain = refl;
 }
 
@@ -131,7 +131,7 @@ headed_fs = record {
   cut = λ rest. ap (λ u. lines_from [] (u ++ rest)) text_fs ∙ cut_fs rest;
   read = read_fs;
   spells = head_resolution (version_row (codes "3")) (unit_row (codes "1fs")) language_3 resolution_fs;
-  allowed = ap (list_all is_allowed) text_fs;
+  allowed = ap (list_all is_allowed_byte) text_fs;
   plain = refl;
 }
 

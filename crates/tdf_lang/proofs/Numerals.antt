@@ -12,7 +12,7 @@ use Rattle.tdf_base.specs.Digits.{is_digit, are_digits}
 use Rattle.tdf_base.specs.Number.{Numeral, numeral_of, is_short, is_short_numeral, is_number}
 use Rattle.tdf_base.specs.Spelling as base
 use Rattle.tdf_base.specs.Spelling.{SpellsNumeral}
-use Rattle.tdf_lang_exprs.specs.Numbers.{is_zero, is_point, without_first_zeros, without_last_zeros, or_zero, after_point, trimmed}
+use Rattle.tdf_lang_exprs.specs.Numbers.{is_zero, is_point, without_first_zeros, without_last_zeros, or_zero_digit, after_point, trimmed}
 
 -- zeros in front
 strip : List ℕ → List ℕ
@@ -139,28 +139,28 @@ after_two w f h = ap (λ n. drop (n + 1) (w ++ 46 ∷ f)) (count_two w f h) ∙ 
 
 -- the number without needless zeros
 whole_part : List ℕ → List ℕ
-whole_part w = or_zero (strip w)
+whole_part w = or_zero_digit (strip w)
 
 trimmed_one : (w : List ℕ) → list_all no_point w ≡ true → trimmed w ≡ whole_part w
 unfolding trimmed whole_part
 trimmed_one w h =
-    ap (λ u. or_zero (without_first_zeros u) ++ after_point (without_last_zeros (after_first is_point w))) (first_one w h)
-    ∙ ap (λ u. or_zero u ++ after_point (without_last_zeros (after_first is_point w))) (strip_is w)
-    ∙ ap (λ u. or_zero (strip w) ++ after_point (without_last_zeros u)) (after_one w h)
-    ∙ append-nil (or_zero (strip w))
+    ap (λ u. or_zero_digit (without_first_zeros u) ++ after_point (without_last_zeros (after_first is_point w))) (first_one w h)
+    ∙ ap (λ u. or_zero_digit u ++ after_point (without_last_zeros (after_first is_point w))) (strip_is w)
+    ∙ ap (λ u. or_zero_digit (strip w) ++ after_point (without_last_zeros u)) (after_one w h)
+    ∙ append-nil (or_zero_digit (strip w))
 
 trimmed_two : (w f : List ℕ) → list_all no_point w ≡ true → trimmed (w ++ 46 ∷ f) ≡ whole_part w ++ after_point (rstrip f)
 unfolding trimmed whole_part
 trimmed_two w f h =
-    ap (λ u. or_zero (without_first_zeros u) ++ after_point (without_last_zeros (after_first is_point (w ++ 46 ∷ f)))) (first_two w f h)
-    ∙ ap (λ u. or_zero u ++ after_point (without_last_zeros (after_first is_point (w ++ 46 ∷ f)))) (strip_is w)
-    ∙ ap (λ u. or_zero (strip w) ++ after_point (without_last_zeros u)) (after_two w f h)
-    ∙ ap (λ u. or_zero (strip w) ++ after_point u) (rstrip_is f)
+    ap (λ u. or_zero_digit (without_first_zeros u) ++ after_point (without_last_zeros (after_first is_point (w ++ 46 ∷ f)))) (first_two w f h)
+    ∙ ap (λ u. or_zero_digit u ++ after_point (without_last_zeros (after_first is_point (w ++ 46 ∷ f)))) (strip_is w)
+    ∙ ap (λ u. or_zero_digit (strip w) ++ after_point (without_last_zeros u)) (after_two w f h)
+    ∙ ap (λ u. or_zero_digit (strip w) ++ after_point u) (rstrip_is f)
 
-whole_at : (w v : List ℕ) → Stripped w v → or_zero (strip (or_zero v)) ≡ or_zero v
+whole_at : (w v : List ℕ) → Stripped w v → or_zero_digit (strip (or_zero_digit v)) ≡ or_zero_digit v
 unfolding strip
 whole_at w [] h = refl
-whole_at w (c ∷ cs) h = ap or_zero (stripped_twice h)
+whole_at w (c ∷ cs) h = ap or_zero_digit (stripped_twice h)
 
 whole_twice : (w : List ℕ) → whole_part (whole_part w) ≡ whole_part w
 unfolding whole_part
@@ -172,7 +172,7 @@ strip_all p w h =
     let both : (list_all p e.0 && list_all p (strip w)) ≡ true = sym (ap (list_all p) e.1 ∙ list_all-append p e.0 (strip w)) ∙ h in
     (and_parts (list_all p e.0) (list_all p (strip w)) both).1
 
-or_all : (p : ℕ → Bool) (v : List ℕ) → p 48 ≡ true → list_all p v ≡ true → list_all p (or_zero v) ≡ true
+or_all : (p : ℕ → Bool) (v : List ℕ) → p 48 ≡ true → list_all p v ≡ true → list_all p (or_zero_digit v) ≡ true
 or_all p [] e h = and_from (p 48) true e refl
 or_all p (c ∷ cs) e h = h
 
@@ -186,7 +186,7 @@ front_all p f h =
     let both : (list_all p (rstrip f) && list_all p e.0) ≡ true = sym (ap (list_all p) e.1 ∙ list_all-append p (rstrip f) e.0) ∙ h in
     (and_parts (list_all p (rstrip f)) (list_all p e.0) both).0
 
-or_size : (v : List ℕ) (n : ℕ) → 1 ≤ n → length v ≤ n → (1 ≤ length (or_zero v)) × (length (or_zero v) ≤ n)
+or_size : (v : List ℕ) (n : ℕ) → 1 ≤ n → length v ≤ n → (1 ≤ length (or_zero_digit v)) × (length (or_zero_digit v) ≤ n)
 or_size [] n h k = (omega arith, h)
 or_size (c ∷ cs) n h k = (omega arith, k)
 

@@ -5,7 +5,7 @@ use Rattle.std.proofs.lemmas.Bool.{and_parts}
 use Rattle.std.proofs.lemmas.List.{append-nil}
 use Rattle.std.specs.List.{list_all, prefix_len}
 use Rattle.tdf_lang_tree.specs.Forms.{Form, FType, FTdf, FDe, FComposite, FTop, FEnd, FPort, FConst, FVar, FArray, FRateVar, FSetAttributes, FInitialize, FProcessing, FChangeAttributes, FReinitialize, FStep, FRate, FDelay, FDoes, FAccept, FReject, FInitial, FEvent, FProcess, FSensitive, FDontInitialize, FNotify, FSignal, FDeSignal, FInstance, FBind, FTrace, FAssign, FIf, FElse, FFor, FSetRate}
-use Rattle.tdf_lang_lexer.specs.Pieces.{is_comment, code_of, pieces_of}
+use Rattle.tdf_lang_lexer.specs.Pieces.{is_comment, without_comment, pieces_of}
 use Rattle.tdf_lang_lexer.specs.Dialect.{token_of, token_lines}
 use Rattle.tdf_lang_lexer.specs.Rows.{Row, row_unless_bare, rows_from}
 use Rattle.tdf_lang_lexer.specs.declared.dialect.Dialect.{Dialect}
@@ -27,7 +27,7 @@ comment_free (c ∷ line) h =
     let e = and_parts (is_plain c) (list_all is_plain line) h in
     rw (plain_code c e.0) (ap (λ n. 1 + n) (comment_free line e.1) ∙ one_more (length line))
 
-code_is : (line : List ℕ) → list_all is_plain line ≡ true → code_of line ≡ line
+code_is : (line : List ℕ) → list_all is_plain line ≡ true → without_comment line ≡ line
 code_is line h = ap (λ n. take n line) (comment_free line h) ∙ take-length line
 
 pub words_tokens : (lang : Dialect) (ws : List Word) → ApartTo lang ws [] → tokens_of lang (written lang ws) ≡ tokens_in ws
@@ -124,5 +124,5 @@ pub rows_show : (lang : Dialect) (n : ℕ) (fs : List Form) → FormsOk lang fs 
 unfolding rows_from
 rows_show lang n [] h = tt
 rows_show lang n (f ∷ fs) h =
-    row_shows lang n (pieces_of (code_of (line_text lang.resolution f))) f (rows_from (n + 1) (map (line_text lang.resolution) fs)) fs (line_tokens lang f h.0) (form_some f)
+    row_shows lang n (pieces_of (without_comment (line_text lang.resolution f))) f (rows_from (n + 1) (map (line_text lang.resolution) fs)) fs (line_tokens lang f h.0) (form_some f)
     (rows_show lang (n + 1) fs h.1)

@@ -1,7 +1,7 @@
 -- Token lines that have the canonical tokens of a tree spell a tree alike it.
 use Rattle.std.proofs.Common.{◌≡◌, ℕ, List, [], ◌∷◌, Option, Some, refl, sym, ap, ◌∙◌}
 use Rattle.tdf_lang_tree.specs.Forms.{Form, FPort, FConst, FVar, FArray, FRateVar, FStep, FRate, FDelay, FDoes, FAccept, FReject, FInitial, FEvent, FSensitive, FNotify, FSignal, FDeSignal, FInstance, FBind, FTrace, FAssign, FSetRate}
-use Rattle.tdf_lang_parser.specs.Items.{tdf_line_of, attr_of, initial_of, de_port_of, de_line_of, sense_of, member_of, net_line_of, trace_of, BodyKind, Plain, OfChange, OfProcess, plain_of, change_of, process_of, stmt_of}
+use Rattle.tdf_lang_parser.specs.Items.{tdf_line_of, attr_of, initial_of, de_port_of, de_line_of, sense_of, member_of, net_line_of, trace_item, BodyKind, Plain, OfChange, OfProcess, plain_of, change_statement, process_of, stmt_of}
 use Rattle.tdf_lang_tree.specs.Alike.{bare_stmt, bare_tdf_line, bare_attr, bare_initial, bare_de_line, bare_sense, bare_member, bare_trace}
 use Rattle.tdf_lang_tree.specs.Pure.{PureStmt, SAssign, SNotify, SSetRate, SSetStep, SAccept, SReject, SConst, SVar, SArray, PureTdfLine, TPort, TStore, TRate, PureDeLine, DPort, DStore, DEvent, PureTrace}
 use Rattle.tdf_lang_tree.specs.declared.blocks.Attr.{Attr}
@@ -13,7 +13,7 @@ use Rattle.tdf_lang_tree.specs.declared.blocks.PortKind.{PortKind}
 use Rattle.tdf_lang_tree.specs.declared.blocks.PortKind.TheVariants as port_kind
 use Rattle.tdf_lang_tree.specs.declared.blocks.Sense.{Sense}
 use Rattle.tdf_lang_tree.specs.declared.shapes.FormatRef.{FormatRef}
-use Rattle.tdf_lang_printer.specs.Canon.{tdf_line, attr_line, initial_line, de_line, sense_line, member_line, trace_line, stmt_lines}
+use Rattle.tdf_lang_printer.specs.Canon.{tdf_line, attr_line, initial_line, de_line, sense_line, member_line, form_of_trace, stmt_lines}
 
 -- an item that a line gives, at the line of another number
 pub record Moved {X L : Type 0} (of : ℕ → Form → Option X) (line : X → L) (bare_of : X → X) (m : ℕ) (f : Form) (want : L) (x : X) : Type 0 where
@@ -80,20 +80,20 @@ net_table n m (FInstance name block) y h = let e : (member.Instance n name block
 net_table n m (FBind instance port target) y h = let e : (member.Bind n instance port target) ≡ y = cc in made net_line_of member_line bare_member m (FBind instance port target) ((FBind instance port target)) y (member.Bind n instance port target) (member.Bind m instance port target) e refl refl refl
 net_table n m _ y h = absurd (cc)
 
-pub trace_table : (n m : ℕ) (f : Form) (y : PureTrace) → trace_of n f ≡ Some y → Moved trace_of trace_line bare_trace m f (f) y
-trace_table n m (FTrace path label) y h = let e : (record { line = n; path = path; label = label }) ≡ y = cc in made trace_of trace_line bare_trace m (FTrace path label) ((FTrace path label)) y (record { line = n; path = path; label = label }) (record { line = m; path = path; label = label }) e refl refl refl
+pub trace_table : (n m : ℕ) (f : Form) (y : PureTrace) → trace_item n f ≡ Some y → Moved trace_item form_of_trace bare_trace m f (f) y
+trace_table n m (FTrace path label) y h = let e : (record { line = n; path = path; label = label }) ≡ y = cc in made trace_item form_of_trace bare_trace m (FTrace path label) ((FTrace path label)) y (record { line = n; path = path; label = label }) (record { line = m; path = path; label = label }) e refl refl refl
 trace_table n m _ y h = absurd (cc)
 
 plain_table : (n m : ℕ) (f : Form) (y : PureStmt) → plain_of n f ≡ Some y → Moved plain_of stmt_lines bare_stmt m f (f ∷ []) y
 plain_table n m (FAssign name i e) y h = let q : (SAssign n name i e) ≡ y = cc in made plain_of stmt_lines bare_stmt m (FAssign name i e) ((FAssign name i e) ∷ []) y (SAssign n name i e) (SAssign m name i e) q refl refl refl
 plain_table n m _ y h = absurd (cc)
 
-change_table : (n m : ℕ) (f : Form) (y : PureStmt) → change_of n f ≡ Some y → Moved change_of stmt_lines bare_stmt m f (f ∷ []) y
-change_table n m (FAssign name i e) y h = let q : (SAssign n name i e) ≡ y = cc in made change_of stmt_lines bare_stmt m (FAssign name i e) ((FAssign name i e) ∷ []) y (SAssign n name i e) (SAssign m name i e) q refl refl refl
-change_table n m (FSetRate name e) y h = let q : (SSetRate n name e) ≡ y = cc in made change_of stmt_lines bare_stmt m (FSetRate name e) ((FSetRate name e) ∷ []) y (SSetRate n name e) (SSetRate m name e) q refl refl refl
-change_table n m (FStep port step) y h = let q : (SSetStep n port step) ≡ y = cc in made change_of stmt_lines bare_stmt m (FStep port step) ((FStep port step) ∷ []) y (SSetStep n port step) (SSetStep m port step) q refl refl refl
-change_table n m FAccept y h = let q : (SAccept n) ≡ y = cc in made change_of stmt_lines bare_stmt m FAccept (FAccept ∷ []) y (SAccept n) (SAccept m) q refl refl refl
-change_table n m FReject y h = let q : (SReject n) ≡ y = cc in made change_of stmt_lines bare_stmt m FReject (FReject ∷ []) y (SReject n) (SReject m) q refl refl refl
+change_table : (n m : ℕ) (f : Form) (y : PureStmt) → change_statement n f ≡ Some y → Moved change_statement stmt_lines bare_stmt m f (f ∷ []) y
+change_table n m (FAssign name i e) y h = let q : (SAssign n name i e) ≡ y = cc in made change_statement stmt_lines bare_stmt m (FAssign name i e) ((FAssign name i e) ∷ []) y (SAssign n name i e) (SAssign m name i e) q refl refl refl
+change_table n m (FSetRate name e) y h = let q : (SSetRate n name e) ≡ y = cc in made change_statement stmt_lines bare_stmt m (FSetRate name e) ((FSetRate name e) ∷ []) y (SSetRate n name e) (SSetRate m name e) q refl refl refl
+change_table n m (FStep port step) y h = let q : (SSetStep n port step) ≡ y = cc in made change_statement stmt_lines bare_stmt m (FStep port step) ((FStep port step) ∷ []) y (SSetStep n port step) (SSetStep m port step) q refl refl refl
+change_table n m FAccept y h = let q : (SAccept n) ≡ y = cc in made change_statement stmt_lines bare_stmt m FAccept (FAccept ∷ []) y (SAccept n) (SAccept m) q refl refl refl
+change_table n m FReject y h = let q : (SReject n) ≡ y = cc in made change_statement stmt_lines bare_stmt m FReject (FReject ∷ []) y (SReject n) (SReject m) q refl refl refl
 change_table n m _ y h = absurd (cc)
 
 process_table : (n m : ℕ) (f : Form) (y : PureStmt) → process_of n f ≡ Some y → Moved process_of stmt_lines bare_stmt m f (f ∷ []) y

@@ -19,7 +19,7 @@ use Rattle.tdf_base.specs.declared.resolution.Resolution.TheVariants.{Ps, Fs}
 use Rattle.tdf_base.specs.declared.times.TimeErr.{TimeErr}
 use Rattle.tdf_lang_lexer.proofs.Api.{key_of-spelling, symbol_of-sign, words_are_read, symbols_are_read}
 use Rattle.tdf_lang_lexer.specs.Dialect.{is_resolution, time_in, token_of, time_or_wrong}
-use Rattle.tdf_lang_lexer.specs.Text.{is_allowed}
+use Rattle.tdf_lang_lexer.specs.Text.{is_allowed_byte}
 use Rattle.tdf_lang_lexer.specs.Token.{Tok, TName, TKey, TNumber, TTime, TSymbol, TWrong}
 use Rattle.tdf_lang_lexer.specs.Words.{spelling, sign, key_of, symbol_of}
 use Rattle.tdf_lang_lexer.specs.declared.dialect.Dialect.{Dialect}
@@ -51,7 +51,7 @@ plain_code b h = (and_parts (nat_le 32 b && nat_le b 126) (not (eqb b 35)) h).1
 pub plain_line : (b : ℕ) → is_plain b ≡ true → eqb b 10 ≡ false
 plain_line b h = grind (arith, nat_tests)
 
-pub plain_allowed : (b : ℕ) → is_plain b ≡ true → is_allowed b ≡ true
+pub plain_allowed : (b : ℕ) → is_plain b ≡ true → is_allowed_byte b ≡ true
 plain_allowed b h = grind (arith, nat_tests)
 
 pub record Writable (lang : Dialect) (t : Tok) : Type 0 where

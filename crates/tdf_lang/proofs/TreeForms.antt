@@ -2,15 +2,15 @@
 use Rattle.std.proofs.Common.{◌≡◌, ℕ, Bool, List, [], ◌∷◌, ◌++◌, Option, Some, map, sym, subst}
 use Rattle.std.specs.List.{flat_map}
 use Rattle.tdf_lang_tree.specs.Forms.{Form, FEnd, FProcessing, FChangeAttributes, FReinitialize}
-use Rattle.tdf_lang_parser.specs.Items.{tdf_line_of, attr_of, initial_of, de_line_of, sense_of, member_of, net_line_of, trace_of, BodyKind}
+use Rattle.tdf_lang_parser.specs.Items.{tdf_line_of, attr_of, initial_of, de_line_of, sense_of, member_of, net_line_of, trace_item, BodyKind}
 use Rattle.tdf_lang_lexer.specs.Token.{TokenLine}
 use Rattle.tdf_lang_tree.specs.Alike.{bare_tdf_line, bare_attr, bare_initial, bare_de_line, bare_sense, bare_member, bare_trace}
 use Rattle.tdf_lang_tree.specs.Pure.{PureStmt, PureStmts, Done, More, PureBody, PureTdf, PureProcess, PureGlobal, PureTree}
 use Rattle.tdf_lang_tree.specs.Views.{sts}
 use Rattle.tdf_lang_tree.specs.declared.blocks.Attr.{Attr}
 use Rattle.tdf_lang_tree.specs.declared.blocks.Initial.{Initial}
-use Rattle.tdf_lang_parser.specs.SpellsTree.{Lines, lines_none, lines_more, SpellsOne, simple, choice, both, turns, SpellsAll, stmts_none, stmts_more, body_of, SpellsPart, part_none, part_some, SpellsAttributes, attributes_none, attributes_some, SpellsInitialize, initialize_none, initialize_some, SpellsTdf, tdf, SpellsDont, dont_none, dont_some, SpellsProcess, process, SpellsProcesses, processes_none, processes_more, SpellsGlobal, global_type, global_tdf, global_de, global_net, SpellsGlobals, globals_none, globals_more, SpellsModel, model}
-use Rattle.tdf_lang_printer.specs.Canon.{tdf_line, attr_line, initial_line, de_line, sense_line, member_line, trace_line, stmt_lines, stmts_lines, else_lines, part_lines, attributes_lines, initialize_lines, tdf_lines, dont_lines, process_lines, global_lines, tree_lines}
+use Rattle.tdf_lang_parser.specs.SpellsTree.{Lines, lines_none, lines_more, SpellsOne, simple, choice, both, turns, SpellsAll, stmts_none, stmts_more, body_with, SpellsPart, part_none, part_some, SpellsAttributes, attributes_none, attributes_some, SpellsInitialize, initialize_none, initialize_some, SpellsTdf, tdf, SpellsDont, dont_none, dont_some, SpellsProcess, process, SpellsProcesses, processes_none, processes_more, SpellsGlobal, global_type, global_tdf, global_de, global_net, SpellsGlobals, globals_none, globals_more, SpellsModel, model}
+use Rattle.tdf_lang_printer.specs.Canon.{tdf_line, attr_line, initial_line, de_line, sense_line, member_line, form_of_trace, stmt_lines, stmts_lines, else_lines, part_lines, attributes_lines, initialize_lines, tdf_lines, dont_lines, process_lines, global_lines, tree_lines}
 use Rattle.tdf_lang.proofs.TokenLines.{AreTokenLines}
 use Rattle.tdf_lang.proofs.BlockLaws.{body_list, flat_push}
 use Rattle.tdf_lang.proofs.FormLaws.{form_ok}
@@ -67,7 +67,7 @@ mutual
   all_ok lang sound (stmts_more {a = a} {b = b} {ss = ss} {s = s} ds e) h =
       subst (FormsOk lang) (sym (sts_push ss s)) (forms_append lang (stmts_lines (sts ss)) (stmt_lines s) (all_ok lang sound ds (rows_left lang a b h)) (one_ok lang sound e (rows_right lang a b h)))
 
-body_ok : (lang : Dialect) (ss : List PureStmt) (n : ℕ) → FormsOk lang (stmts_lines (sts ss)) → FormsOk lang (stmts_lines (body_of ss n).list)
+body_ok : (lang : Dialect) (ss : List PureStmt) (n : ℕ) → FormsOk lang (stmts_lines (sts ss)) → FormsOk lang (stmts_lines (body_with ss n).list)
 body_ok lang ss n h = subst (λ u. FormsOk lang (stmts_lines u)) (sym (body_list ss n)) h
 
 part_at : (lang : Dialect) (head : Form) → FormOk lang head → (ss : PureStmts) → FormsOk lang (stmts_lines ss) → FormsOk lang (part_lines head ss)
@@ -77,7 +77,7 @@ part_at lang head h (More s ss) k = (h, forms_append lang (stmts_lines (More s s
 part_ok : (lang : Dialect) → Sound lang → {head : Form} {k : BodyKind} {a : List TokenLine} {b : PureBody} → SpellsPart lang head k a b → AreTokenLines lang a → FormsOk lang (part_lines head b.list)
 part_ok lang sound part_none h = tt
 part_ok lang sound {head} (part_some {a = a} {ss = ss} r l m d me) h =
-    part_at lang head (form_ok lang sound m h.0) (body_of ss l.number).list (body_ok lang ss l.number (all_ok lang sound d (rows_left lang a _ h.1)))
+    part_at lang head (form_ok lang sound m h.0) (body_with ss l.number).list (body_ok lang ss l.number (all_ok lang sound d (rows_left lang a _ h.1)))
 
 attributes_at : (lang : Dialect) (xs : List Attr) → FormsOk lang (map attr_line xs) → FormsOk lang (attributes_lines xs)
 attributes_at lang [] h = tt
@@ -96,7 +96,7 @@ initialize_at lang (x ∷ xs) ss h k =
 initialize_ok : (lang : Dialect) → Sound lang → {a : List TokenLine} {xs : List Initial} {b : PureBody} → SpellsInitialize lang a xs b → AreTokenLines lang a → FormsOk lang (initialize_lines xs b.list)
 initialize_ok lang sound initialize_none h = tt
 initialize_ok lang sound (initialize_some {a = a} {b = b} {xs = xs} {ss = ss} r l m d e me) h =
-    initialize_at lang xs (body_of ss l.number).list (lines_ok lang sound initial_of initial_line bare_initial initial_table d (rows_left lang a _ h.1))
+    initialize_at lang xs (body_with ss l.number).list (lines_ok lang sound initial_of initial_line bare_initial initial_table d (rows_left lang a _ h.1))
     (body_ok lang ss l.number (all_ok lang sound e (rows_left lang b _ (rows_right lang a _ h.1))))
 
 tdf_ok : (lang : Dialect) → Sound lang → {r : List TokenLine} {t : PureTdf} → SpellsTdf lang r t → AreTokenLines lang r → FormsOk lang (tdf_lines t)
@@ -126,7 +126,7 @@ process_ok lang sound (process {a = a} {b = b} {c = c} {senses = senses} {starts
       tt,
       forms_append lang (map sense_line senses) _ (lines_ok lang sound sense_of sense_line bare_sense sense_table ls (rows_left lang a _ h.1))
           (forms_append lang (dont_lines starts) _ (dont_ok lang ds)
-          (forms_append lang (stmts_lines (body_of ss l.number).list) (FEnd ∷ []) (body_ok lang ss l.number (all_ok lang sound bs (rows_left lang c _ h3))) (tt, tt))),
+          (forms_append lang (stmts_lines (body_with ss l.number).list) (FEnd ∷ []) (body_ok lang ss l.number (all_ok lang sound bs (rows_left lang c _ h3))) (tt, tt))),
     )
 
 processes_ok : (lang : Dialect) → Sound lang → {r : List TokenLine} {ps : List PureProcess} → SpellsProcesses lang r ps → AreTokenLines lang r → FormsOk lang (flat_map process_lines ps)
@@ -161,5 +161,5 @@ model_ok lang sound (model {a = a} {b = b} {c = c} {globals = globals} {members 
     forms_append lang (flat_map global_lines globals) _ (globals_ok lang sound gs (rows_left lang a _ h)) (
       tt,
       forms_append lang (map member_line members) _ (lines_ok lang sound member_of member_line bare_member member_table ls (rows_left lang b _ h2.1))
-          (tt, lines_ok lang sound trace_of trace_line bare_trace trace_table xs h3.1),
+          (tt, lines_ok lang sound trace_item form_of_trace bare_trace trace_table xs h3.1),
     )

@@ -9,7 +9,7 @@ use Rattle.tdf_lang_printer.specs.Canon.{canon}
 use Rattle.tdf_lang_printer.specs.Exprs.{expr_text}
 use Rattle.tdf_lang_lexer.specs.Dialect.{token_of}
 use Rattle.tdf_lang_lexer.specs.Rows.{Row, rows_of}
-use Rattle.tdf_lang_lexer.specs.Text.{fault_of, is_allowed, lines_of}
+use Rattle.tdf_lang_lexer.specs.Text.{fault_of, is_allowed_byte, lines_of}
 use Rattle.tdf_base.specs.Limits.{longest_line}
 use Rattle.tdf_lang_lexer.specs.declared.dialect.Dialect.{Dialect}
 use Rattle.tdf_lang_lexer.specs.declared.text.TextFault.TheVariants as fault
@@ -43,7 +43,7 @@ TextsTellAlike =
 -- each byte of a spelled tree's canonical text is one that a text may hold: its fault is no `Byte`
 abbrev pub NoBytesAtFault : Type 0
 NoBytesAtFault = (t : PureTree) → IsSpelled t
-    → (list_all is_allowed (canon t) ≡ true)
+    → (list_all is_allowed_byte (canon t) ≡ true)
     × ((line : ℕ) → fault_of (canon t) ≢ Some (fault.Byte line))
 
 -- no line of a text has more bytes than a line may have

@@ -21,7 +21,7 @@ use Rattle.tdf_lang_tree.specs.declared.shapes.Shape.{Shape}
 use Rattle.tdf_lang_exprs.specs.Formats.{SpellsShape, shape, SpellsFormat, format_own, format_named}
 use Rattle.tdf_lang_exprs.specs.Index.{SpellsIndex, index_int, index_var, index_plus, index_minus, index_from, index_times, index_times_plus}
 use Rattle.tdf_lang_exprs.specs.Literals.{SpellsLit, lit_plain, lit_minus, SpellsLits, lits_none, lits_more}
-use Rattle.tdf_lang_exprs.specs.Numbers.{trimmed, is_point, is_zero, or_zero, without_first_zeros, without_last_zeros}
+use Rattle.tdf_lang_exprs.specs.Numbers.{trimmed, is_point, is_zero, or_zero_digit, without_first_zeros, without_last_zeros}
 use Rattle.tdf_lang_exprs.specs.Paths.{SpellsPath, path_one, path_more}
 use Rattle.tdf_lang_exprs.specs.SpellsExpr.{SpellsExpr, number as number_expr, variable, item, cast, select, parens, negation, shift, contrary, binary, tighter}
 
@@ -99,15 +99,15 @@ fraction_after (w ∷ ws) fraction h =
     after_first-more is_point w (ws ++ after_point fraction) (digit_no_point w (and_left (is_digit w) (list_all is_digit ws) h))
     ∙ fraction_after ws fraction (and_right (is_digit w) (list_all is_digit ws) h)
 
-or_zero_digits : (xs : List ℕ) → list_all is_digit xs ≡ true → list_all is_digit (or_zero xs) ≡ true
+or_zero_digits : (xs : List ℕ) → list_all is_digit xs ≡ true → list_all is_digit (or_zero_digit xs) ≡ true
 or_zero_digits [] h = refl
 or_zero_digits (c ∷ cs) h = h
 
-or_zero_some : (xs : List ℕ) → 0 < length (or_zero xs)
+or_zero_some : (xs : List ℕ) → 0 < length (or_zero_digit xs)
 or_zero_some [] = omega arith
 or_zero_some (c ∷ cs) = omega arith
 
-or_zero_few : (xs : List ℕ) (n : ℕ) → length xs ≤ n → 0 < n → length (or_zero xs) ≤ n
+or_zero_few : (xs : List ℕ) (n : ℕ) → length xs ≤ n → 0 < n → length (or_zero_digit xs) ≤ n
 or_zero_few [] n h k = omega (arith, k)
 or_zero_few (c ∷ cs) n h k = h
 
@@ -125,25 +125,25 @@ trimmed_numeral n text d short =
     let digits : list_all is_digit n.whole ≡ true = all_of n.whole d.whole in
     let front : before_first is_point text ≡ n.whole = ap (before_first is_point) d.is ∙ whole_before n.whole n.fraction digits in
     let back : after_first is_point text ≡ n.fraction = ap (after_first is_point) d.is ∙ fraction_after n.whole n.fraction digits in
-    let is : or_zero (without_first_zeros (before_first is_point text)) ++ after_point (without_last_zeros (after_first is_point text))
-    ≡ or_zero whole ++ after_point fraction =
-    ap (λ (l : List ℕ). or_zero (without_first_zeros l) ++ after_point (without_last_zeros (after_first is_point text))) front
-    ∙ ap (λ (l : List ℕ). or_zero whole ++ after_point (without_last_zeros l)) back in
-    let whole_is : are_digits (or_zero whole) ≡ true =
-    digits_from (or_zero whole) (or_zero_some whole) (or_zero_digits whole (all-drop is_digit (prefix_len is_zero n.whole) n.whole digits)) in
+    let is : or_zero_digit (without_first_zeros (before_first is_point text)) ++ after_point (without_last_zeros (after_first is_point text))
+    ≡ or_zero_digit whole ++ after_point fraction =
+    ap (λ (l : List ℕ). or_zero_digit (without_first_zeros l) ++ after_point (without_last_zeros (after_first is_point text))) front
+    ∙ ap (λ (l : List ℕ). or_zero_digit whole ++ after_point (without_last_zeros l)) back in
+    let whole_is : are_digits (or_zero_digit whole) ≡ true =
+    digits_from (or_zero_digit whole) (or_zero_some whole) (or_zero_digits whole (all-drop is_digit (prefix_len is_zero n.whole) n.whole digits)) in
     let fraction_is : list_all is_digit fraction ≡ true = all-take is_digit (length n.fraction - suffix_len is_zero n.fraction) n.fraction d.fraction in
-    let spelled : numeral_of (or_zero whole ++ after_point fraction) ≡ Some (record { whole = or_zero whole; fraction = fraction }) =
-    numeral_spelled (or_zero whole ++ after_point fraction) (record { whole = or_zero whole; fraction = fraction })
+    let spelled : numeral_of (or_zero_digit whole ++ after_point fraction) ≡ Some (record { whole = or_zero_digit whole; fraction = fraction }) =
+    numeral_spelled (or_zero_digit whole ++ after_point fraction) (record { whole = or_zero_digit whole; fraction = fraction })
     (record { whole = whole_is; fraction = fraction_is; is = refl }) in
     let long : length n.whole ≤ 18 = is_few (length n.whole) (and_left (nat_le (length n.whole) 18) (nat_le (length n.fraction) 18) short) in
     let deep : length n.fraction ≤ 18 = is_few (length n.fraction) (and_right (nat_le (length n.whole) 18) (nat_le (length n.fraction) 18) short) in
     let dropped : length whole ≤ 18 = omega (arith, long, length-drop (prefix_len is_zero n.whole) n.whole) in
-    let whole_few : nat_le (length (or_zero whole)) 18 ≡ true = few_is (length (or_zero whole)) (or_zero_few whole 18 dropped (omega arith)) in
+    let whole_few : nat_le (length (or_zero_digit whole)) 18 ≡ true = few_is (length (or_zero_digit whole)) (or_zero_few whole 18 dropped (omega arith)) in
     let taken : length fraction ≤ length n.fraction = take-few (length n.fraction - suffix_len is_zero n.fraction) n.fraction in
     let fraction_few : nat_le (length fraction) 18 ≡ true = few_is (length fraction) (omega (arith, taken, deep)) in
     ap (λ (l : List ℕ). is_short_numeral (numeral_of l)) is
     ∙ ap is_short_numeral spelled
-    ∙ and_both (nat_le (length (or_zero whole)) 18) (nat_le (length fraction) 18) whole_few fraction_few
+    ∙ and_both (nat_le (length (or_zero_digit whole)) 18) (nat_le (length fraction) 18) whole_few fraction_few
 
 trimmed_at : (text : List ℕ) (o : Option Numeral) → numeral_of text ≡ o → is_short_numeral o ≡ true → is_number (trimmed text) ≡ true
 trimmed_at text None e h = absurd cc

@@ -7,7 +7,7 @@ use Rattle.tdf_lang_tree.specs.Pure.{PureExpr}
 use Rattle.tdf_lang_tree.specs.declared.expr.Op.{Op}
 use Rattle.tdf_lang_tree.specs.declared.expr.Op.TheVariants.{Or, And, Lt, Le, Eq, Ne, Gt, Ge, Add, Sub, Mul}
 use Rattle.tdf_lang_exprs.specs.declared.after.After.TheVariants.{Joins, Shifts}
-use Rattle.tdf_lang_exprs.specs.SpellsExpr.{level, left_level, sign, shift_sign}
+use Rattle.tdf_lang_exprs.specs.SpellsExpr.{level, left_level, operator_token, shift_sign}
 use Rattle.tdf_lang_exprs.specs.machine.Exprs.{Wait, Within, Negated, Denied, Left, stops, reduce, after}
 
 pub cond_le : {A : Type 0} (m n : ℕ) (x y : A) → m ≤ n → cond (leb m n) x y ≡ x
@@ -28,7 +28,7 @@ leb_le m n h = grind (arith, nat_tests)
 pub ltb_lt : (m n : ℕ) → ltb m n ≡ true → m < n
 ltb_lt m n h = grind (arith, nat_tests)
 
-pub after_sign : (op : Op) → after (sign op) ≡ Joins op
+pub after_sign : (op : Op) → after (operator_token op) ≡ Joins op
 after_sign Or = refl
 after_sign And = refl
 after_sign Lt = refl

@@ -16,7 +16,7 @@ use Rattle.tdf_lang_exprs.specs.Numbers.{trimmed}
 use Rattle.tdf_lang_exprs.specs.Index.{SpellsIndex, index_int, index_var, index_plus, index_minus, index_from, index_times, index_times_plus}
 use Rattle.tdf_lang_exprs.specs.declared.after.After.{After}
 use Rattle.tdf_lang_exprs.specs.declared.after.After.TheVariants.{Joins, Shifts, Shuts, Parts, Breaks}
-use Rattle.tdf_lang_exprs.specs.SpellsExpr.{level, left_level, sign, shift_sign, SpellsExpr, number, variable, item, cast, select, parens, negation, shift, contrary, binary, tighter}
+use Rattle.tdf_lang_exprs.specs.SpellsExpr.{level, left_level, operator_token, shift_sign, SpellsExpr, number, variable, item, cast, select, parens, negation, shift, contrary, binary, tighter}
 use Rattle.tdf_lang_exprs.specs.machine.Exprs.{Opening, Group, Call, First, Second, Third, Wait, Within, Negated, Denied, Left, Top, Reading, Want, Have, Named, Indexing, Shifting, Selecting, Bad, stops, reduce, after, after_key, after_symbol, shut, part, joined, join, start, start_key, start_symbol, after_name, after_name_symbol, indexed, within_index, shifted, after_shift, after_select, step, closed, finish, run, expr_of}
 use Rattle.tdf_lang_exprs.specs.machine.Indices.{index_of, int_index, plus_index, minus_index, from_index, times_index, times_plus_index, named_index, number_index, counted_index, is_sum}
 use Rattle.tdf_lang_exprs.proofs.Levels.{leb_true, ltb_true, leb_le, ltb_lt, left_le_five, stops_more, stops_six, pick, pick_bool}
@@ -35,7 +35,7 @@ Holds v [] pre = pre ≡ []
 Holds v (Within b ∷ s) pre = (p o : List Tok) × Holds v s p × Brings v b o × (pre ≡ p ++ o)
 Holds v (Negated ∷ s) pre = (p : List Tok) × Holds v s p × (pre ≡ p ++ TSymbol symbol.Minus ∷ [])
 Holds v (Denied ∷ s) pre = (p : List Tok) × Holds v s p × (stops 2 s ≡ true) × (pre ≡ p ++ TKey key.Not ∷ [])
-Holds v (Left op x ∷ s) pre = (p a : List Tok) × Holds v s p × (stops (level op) s ≡ true) × SpellsExpr v (left_level op) a x × (pre ≡ p ++ (a ++ sign op ∷ []))
+Holds v (Left op x ∷ s) pre = (p a : List Tok) × Holds v s p × (stops (level op) s ≡ true) × SpellsExpr v (left_level op) a x × (pre ≡ p ++ (a ++ operator_token op ∷ []))
 
 -- and with an operand of level k above it
 pub record HoldsOne (v k : ℕ) (s : List Wait) (e : PureExpr) (pre : List Tok) : Type 0 where
@@ -96,11 +96,11 @@ reduced v m k (Left op x ∷ s) e pre le low h =
     pick (HoldsTop v k pre) k (level op) _ _
     (λ under. reduced v (level op) k s (EBinary op x e) pre under low (record {
       front = h.holds.0;
-      own = h.holds.1 ++ sign op ∷ h.own;
+      own = h.holds.1 ++ operator_token op ∷ h.own;
       holds = h.holds.2;
       quiet = h.holds.3;
       says = binary op refl h.holds.4 (lower v (suc (level op)) m h.own e (ltb_lt (level op) m h.quiet) h.says);
-      is = h.is ∙ ap (λ t. t ++ h.own) h.holds.5 ∙ append_assoc h.holds.0 (h.holds.1 ++ sign op ∷ []) h.own ∙ ap (λ t. h.holds.0 ++ t) (append_assoc h.holds.1 (sign op ∷ []) h.own);
+      is = h.is ∙ ap (λ t. t ++ h.own) h.holds.5 ∙ append_assoc h.holds.0 (h.holds.1 ++ operator_token op ∷ []) h.own ∙ ap (λ t. h.holds.0 ++ t) (append_assoc h.holds.1 (operator_token op ∷ []) h.own);
     }))
     (λ over. record {
       front = h.front;
@@ -177,7 +177,7 @@ kept_part v (Within (Third x y) ∷ s) e pre h = tt
 
 -- after (op) is the sign of op
 abbrev Signs : After → Tok → Type 0
-Signs (Joins op) t = t ≡ sign op
+Signs (Joins op) t = t ≡ operator_token op
 Signs (Shifts left) t = t ≡ shift_sign left
 Signs Shuts t = t ≡ TSymbol symbol.Close
 Signs Parts t = t ≡ TSymbol symbol.Comma
@@ -212,10 +212,10 @@ signs (TNumber n) = tt
 signs (TTime n) = tt
 signs TWrong = tt
 
-kept_joined : (v : ℕ) (op : Op) (pre : List Tok) (r : Top) → HoldsTop v (left_level op) pre r → Kept v (joined op r) (pre ++ sign op ∷ [])
+kept_joined : (v : ℕ) (op : Op) (pre : List Tok) (r : Top) → HoldsTop v (left_level op) pre r → Kept v (joined op r) (pre ++ operator_token op ∷ [])
 kept_joined v op pre r h =
-    pick_bool (λ q. Kept v q (pre ++ sign op ∷ [])) (stops (level op) r.stack) _ _
-    (λ quiet. (h.front, h.own, h.holds, quiet, h.says, ap (λ t. t ++ sign op ∷ []) h.is ∙ append_assoc h.front h.own (sign op ∷ [])))
+    pick_bool (λ q. Kept v q (pre ++ operator_token op ∷ [])) (stops (level op) r.stack) _ _
+    (λ quiet. (h.front, h.own, h.holds, quiet, h.says, ap (λ t. t ++ operator_token op ∷ []) h.is ∙ append_assoc h.front h.own (operator_token op ∷ [])))
     (λ _. tt)
 
 kept_join : (v : ℕ) (b : After) (t : Tok) (m : ℕ) (s : List Wait) (e : PureExpr) (pre : List Tok) → Signs b t → 5 ≤ m → HoldsOne v m s e pre

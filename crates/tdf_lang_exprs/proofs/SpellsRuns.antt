@@ -11,7 +11,7 @@ use Rattle.tdf_base.specs.Digits.{int_of}
 use Rattle.tdf_lang_exprs.specs.Index.{SpellsIndex, index_int, index_var, index_plus, index_minus, index_from, index_times, index_times_plus}
 use Rattle.tdf_lang_exprs.specs.declared.after.After.{After}
 use Rattle.tdf_lang_exprs.specs.declared.after.After.TheVariants.{Joins, Shifts, Shuts, Parts, Breaks}
-use Rattle.tdf_lang_exprs.specs.SpellsExpr.{level, left_level, sign, shift_sign, SpellsExpr, number, variable, item, cast, select, parens, negation, shift, contrary, binary, tighter}
+use Rattle.tdf_lang_exprs.specs.SpellsExpr.{level, left_level, operator_token, shift_sign, SpellsExpr, number, variable, item, cast, select, parens, negation, shift, contrary, binary, tighter}
 use Rattle.tdf_lang_exprs.specs.machine.Exprs.{Group, Call, First, Second, Third, Wait, Within, Negated, Denied, Left, Top, Want, Have, Named, Indexing, Shifting, Bad, stops, reduce, after, after_symbol, shut, part, joined, join, after_name, indexed, shifted, closed, run, expr_of}
 use Rattle.tdf_lang_exprs.specs.machine.Indices.{index_of, int_index, plus_index, minus_index, from_index, times_index, times_plus_index}
 use Rattle.tdf_lang_exprs.proofs.Levels.{cond_le, leb_true, ltb_true, after_sign, after_shift_sign, level_le, left_le_five, stops_more, stays, left_not_two}
@@ -105,7 +105,7 @@ runs_denied v e s rest h = runs_same v 2 rest (Denied ∷ s) s e (ENot e) (λ j 
 
 -- an operator after its left operand
 runs_sign : (v : ℕ) (op : Op) (s : List Wait) (x : PureExpr) (rest : List Tok) → stops (level op) s ≡ true
-    → run v (Have s x) (sign op ∷ rest) ≡ run v (Want (Left op x ∷ s)) rest
+    → run v (Have s x) (operator_token op ∷ rest) ≡ run v (Want (Left op x ∷ s)) rest
 runs_sign v op s x rest h =
     ap (λ b. run v (join b s x) rest) (after_sign op)
     ∙ ap (λ (r : Top). run v (joined op r) rest) (stays (left_level op) s x (left_le_five op) (left_not_two op) (stops_more (level op) (left_level op) s (level_le op) h))
@@ -149,8 +149,8 @@ reads {v = v} (contrary {a = a} {x = x} d) s rest h f =
 reads {v = v} (binary {k = k} {a = a} {b = b} {x = x} {y = y} op e c d) s rest h f =
     let open_now : stops (suc k) (Left op x ∷ s) ≡ true = ltb_true (level op) (suc k) (omega arith) in
     let quiet : stops (level op) s ≡ true = subst (λ j. stops j s ≡ true) (sym e) h in
-    ap (run v (Want s)) (append_assoc a (sign op ∷ b) rest)
-    ∙ reads c s (sign op ∷ (b ++ rest)) (stops_more (level op) (left_level op) s (level_le op) quiet) (subst (Lets (left_level op)) (sym (after_sign op)) (omega arith))
+    ap (run v (Want s)) (append_assoc a (operator_token op ∷ b) rest)
+    ∙ reads c s (operator_token op ∷ (b ++ rest)) (stops_more (level op) (left_level op) s (level_le op) quiet) (subst (Lets (left_level op)) (sym (after_sign op)) (omega arith))
     ∙ runs_sign v op s x (b ++ rest) quiet
     ∙ reads d (Left op x ∷ s) rest open_now (follows_more k (suc k) rest (omega arith) f)
     ∙ runs_left v op x y s rest (subst (λ j. Follows j rest) (sym e) f)

@@ -9,7 +9,7 @@ use Rattle.tdf_lang_lexer.specs.declared.key.Key.TheVariants as key
 use Rattle.tdf_lang_lexer.specs.declared.key.Symbol.TheVariants as symbol
 use Rattle.tdf_lang_tree.specs.declared.expr.Op.{Op}
 use Rattle.tdf_lang_exprs.specs.Formats.{sign_of, quant_of, over_of}
-use Rattle.tdf_lang_exprs.specs.SpellsExpr.{level, left_level, sign, shift_sign}
+use Rattle.tdf_lang_exprs.specs.SpellsExpr.{level, left_level, operator_token, shift_sign}
 
 -- a text is a whole number
 abbrev pub IsInt : List ℕ → Type 0
@@ -73,5 +73,5 @@ pub data FitsExpr (v : ℕ) : ℕ → List Tok → Type 0 where
   fits_negation : {a : List Tok} → FitsExpr v 6 a → FitsExpr v 6 (TSymbol symbol.Minus ∷ a)
   fits_shift : (left : Bool) (text : List ℕ) {a : List Tok} → FitsExpr v 5 a → IsInt text → FitsExpr v 5 (a ++ shift_sign left ∷ TNumber text ∷ [])
   fits_contrary : {a : List Tok} → FitsExpr v 2 a → FitsExpr v 2 (TKey key.Not ∷ a)
-  fits_binary : {k : ℕ} {a b : List Tok} (op : Op) → level op ≡ k → FitsExpr v (left_level op) a → FitsExpr v (suc k) b → FitsExpr v k (a ++ sign op ∷ b)
+  fits_binary : {k : ℕ} {a b : List Tok} (op : Op) → level op ≡ k → FitsExpr v (left_level op) a → FitsExpr v (suc k) b → FitsExpr v k (a ++ operator_token op ∷ b)
   fits_tighter : {k : ℕ} {a : List Tok} → FitsExpr v (suc k) a → FitsExpr v k a

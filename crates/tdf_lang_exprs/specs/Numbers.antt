@@ -16,10 +16,10 @@ abbrev pub without_last_zeros : List ℕ → List ℕ
 without_last_zeros fraction = take (length fraction - suffix_len is_zero fraction) fraction
 
 -- a whole part has a digit
-abbrev pub or_zero : List ℕ → List ℕ
-or_zero [] = 48 ∷ []
-or_zero (c ∷ cs) = c ∷ cs
+abbrev pub or_zero_digit : List ℕ → List ℕ
+or_zero_digit [] = 48 ∷ []
+or_zero_digit (c ∷ cs) = c ∷ cs
 
 -- the number without needless zeros: those in front of its whole part, but for a last one, and those at the end of its fraction
 unfoldable pub trimmed : List ℕ → List ℕ
-trimmed text = or_zero (without_first_zeros (before_first is_point text)) ++ after_point (without_last_zeros (after_first is_point text))
+trimmed text = or_zero_digit (without_first_zeros (before_first is_point text)) ++ after_point (without_last_zeros (after_first is_point text))

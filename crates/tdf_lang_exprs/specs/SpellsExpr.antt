@@ -42,18 +42,18 @@ left_level Add = 4
 left_level Sub = 4
 left_level Mul = 5
 
-abbrev pub sign : Op → Tok
-sign Or = TKey key.Or
-sign And = TKey key.And
-sign Lt = TSymbol symbol.Less
-sign Le = TSymbol symbol.AtMost
-sign Eq = TSymbol symbol.Equal
-sign Ne = TSymbol symbol.NotEqual
-sign Gt = TSymbol symbol.Greater
-sign Ge = TSymbol symbol.AtLeast
-sign Add = TSymbol symbol.Plus
-sign Sub = TSymbol symbol.Minus
-sign Mul = TSymbol symbol.Times
+abbrev pub operator_token : Op → Tok
+operator_token Or = TKey key.Or
+operator_token And = TKey key.And
+operator_token Lt = TSymbol symbol.Less
+operator_token Le = TSymbol symbol.AtMost
+operator_token Eq = TSymbol symbol.Equal
+operator_token Ne = TSymbol symbol.NotEqual
+operator_token Gt = TSymbol symbol.Greater
+operator_token Ge = TSymbol symbol.AtLeast
+operator_token Add = TSymbol symbol.Plus
+operator_token Sub = TSymbol symbol.Minus
+operator_token Mul = TSymbol symbol.Times
 
 abbrev pub shift_sign : Bool → Tok
 shift_sign true = TSymbol symbol.ShiftLeft
@@ -79,7 +79,7 @@ pub data SpellsExpr (v : ℕ) : ℕ → List Tok → PureExpr → Type 0 where
       → int_of text ≡ Some n → SpellsExpr v 5 (a ++ shift_sign left ∷ TNumber text ∷ []) (EShift x left n)
   contrary : {a : List Tok} {x : PureExpr} → SpellsExpr v 2 a x → SpellsExpr v 2 (TKey key.Not ∷ a) (ENot x)
   binary : {k : ℕ} {a b : List Tok} {x y : PureExpr} (op : Op) → level op ≡ k → SpellsExpr v (left_level op) a x
-      → SpellsExpr v (suc k) b y → SpellsExpr v k (a ++ sign op ∷ b) (EBinary op x y)
+      → SpellsExpr v (suc k) b y → SpellsExpr v k (a ++ operator_token op ∷ b) (EBinary op x y)
   tighter : {k : ℕ} {a : List Tok} {x : PureExpr} → SpellsExpr v (suc k) a x → SpellsExpr v k a x
 
 -- in version v the tokens are no expression

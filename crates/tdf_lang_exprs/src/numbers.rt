@@ -2,7 +2,7 @@
 
 ghost use Rattle.std.specs.Prelude.{◌≡◌, ◌≤◌, ◌++◌, length, take, drop, IfOk, OnOk};
 ghost use Rattle.std.specs.List.{prefix_len, suffix_len, position_or_len};
-ghost use Rattle.tdf_lang_exprs.specs.Numbers.{trimmed, is_zero, is_point, or_zero, after_point, without_first_zeros, without_last_zeros};
+ghost use Rattle.tdf_lang_exprs.specs.Numbers.{trimmed, is_zero, is_point, or_zero_digit, after_point, without_first_zeros, without_last_zeros};
 
 use std::alloc::Global;
 use tdf_base::Memory;
@@ -48,7 +48,7 @@ pub fn read_number(alloc: Global, text: &[u8]) -> Result<Digits, Memory>
 }
 
 fn push_whole(bytes: &mut Vec<u8>, whole: &[u8]) -> Result<(), Memory>
-    ensures { OnOk result (bytes.new.items ≡ bytes.old.items ++ or_zero (without_first_zeros whole.now)) }
+    ensures { OnOk result (bytes.new.items ≡ bytes.old.items ++ or_zero_digit (without_first_zeros whole.now)) }
 {
     let digits = &whole[first_zeros(whole)..];
     if digits.is_empty() {

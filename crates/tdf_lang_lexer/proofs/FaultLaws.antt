@@ -4,8 +4,8 @@ use Rattle.std.proofs.lemmas.Bool.Decides.{nat_tests}
 use Rattle.std.specs.List.{list_all}
 use Rattle.std.specs.Prelude.{nat_lt, nat_le}
 use Rattle.tdf_base.specs.Limits.{longest_line}
-use Rattle.tdf_lang_lexer.specs.FirstFault.{is_faultless, IsFirstFault, FaultsAreFirst, NoFaultIsClean}
-use Rattle.tdf_lang_lexer.specs.Text.{is_allowed, line_fault_of, or_else, first_fault, fault_of, lines_of}
+use Rattle.tdf_lang_lexer.specs.FirstFault.{is_faultless, IsFirstTextFault, FaultsAreFirst, NoFaultIsClean}
+use Rattle.tdf_lang_lexer.specs.Text.{is_allowed_byte, line_fault_of, first_found, first_fault, fault_of, lines_of}
 use Rattle.tdf_lang_lexer.specs.declared.text.TextFault.{TextFault}
 use Rattle.tdf_lang_lexer.specs.declared.text.TextFault.TheVariants.{Byte, LongLine}
 use Rattle.tdf_lang_lexer.proofs.LongestLaws.{and_left, and_right, and_both}
@@ -19,21 +19,21 @@ not_short m n h = grind (arith, nat_tests)
 
 clean_none : (number : ℕ) (line : List ℕ) → is_faultless line ≡ true → line_fault_of number line ≡ None
 clean_none number line h =
-    let a : list_all is_allowed line ≡ true = and_left (list_all is_allowed line) (nat_le (length line) longest_line) h in
+    let a : list_all is_allowed_byte line ≡ true = and_left (list_all is_allowed_byte line) (nat_le (length line) longest_line) h in
     let b : nat_lt longest_line (length line) ≡ false =
-    not_long (length line) longest_line (and_right (list_all is_allowed line) (nat_le (length line) longest_line) h) in
+    not_long (length line) longest_line (and_right (list_all is_allowed_byte line) (nat_le (length line) longest_line) h) in
     rw (a, b) refl
 
-none_at : (number : ℕ) (line : List ℕ) (a b : Bool) → list_all is_allowed line ≡ a → nat_lt longest_line (length line) ≡ b
+none_at : (number : ℕ) (line : List ℕ) (a b : Bool) → list_all is_allowed_byte line ≡ a → nat_lt longest_line (length line) ≡ b
     → line_fault_of number line ≡ None → is_faultless line ≡ true
-none_at number line true false e f h = and_both (list_all is_allowed line) (nat_le (length line) longest_line) e (not_short (length line) longest_line f)
+none_at number line true false e f h = and_both (list_all is_allowed_byte line) (nat_le (length line) longest_line) e (not_short (length line) longest_line f)
 none_at number line true true e f h = let g : Some (LongLine number) ≡ None = rw (e, f) at h in absurd cc
 none_at number line false b e f h = let g : Some (Byte number) ≡ None = rw e at h in absurd cc
 
 none_clean : (number : ℕ) (line : List ℕ) → line_fault_of number line ≡ None → is_faultless line ≡ true
-none_clean number line h = none_at number line (list_all is_allowed line) (nat_lt longest_line (length line)) refl refl h
+none_clean number line h = none_at number line (list_all is_allowed_byte line) (nat_lt longest_line (length line)) refl refl h
 
--- as IsFirstFault, of lines that are numbered from any number
+-- as IsFirstTextFault, of lines that are numbered from any number
 record Found (number : ℕ) (lines : List (List ℕ)) (fault : TextFault) : Type 0 where
   pub before : List (List ℕ)
   pub line : List ℕ
@@ -44,7 +44,7 @@ record Found (number : ℕ) (lines : List (List ℕ)) (fault : TextFault) : Type
 
 found_at : (number : ℕ) (l : List ℕ) (ls : List (List ℕ)) (fault : TextFault) (o : Option TextFault)
     → (first_fault (number + 1) ls ≡ Some fault → Found (number + 1) ls fault) → line_fault_of number l ≡ o
-    → or_else o (first_fault (number + 1) ls) ≡ Some fault → Found number (l ∷ ls) fault
+    → first_found o (first_fault (number + 1) ls) ≡ Some fault → Found number (l ∷ ls) fault
 found_at number l ls fault None ih e h =
     let g = ih h in
     let same : number + 1 + length g.before ≡ number + length (l ∷ g.before) = omega arith in
@@ -77,15 +77,15 @@ first : (number : ℕ) (before : List (List ℕ)) (line : List ℕ) (after : Lis
 unfolding first_fault
 first number [] line after fault h e =
     let same : number + length {A = List ℕ} [] ≡ number = omega arith in
-    ap (λ (o : Option TextFault). or_else o (first_fault (number + 1) after)) (subst (λ (n : ℕ). line_fault_of n line ≡ Some fault) same e)
+    ap (λ (o : Option TextFault). first_found o (first_fault (number + 1) after)) (subst (λ (n : ℕ). line_fault_of n line ≡ Some fault) same e)
 first number (b ∷ bs) line after fault h e =
     let same : number + length (b ∷ bs) ≡ number + 1 + length bs = omega arith in
-    ap (λ (o : Option TextFault). or_else o (first_fault (number + 1) (bs ++ line ∷ after))) (clean_none number b (and_left (is_faultless b) (list_all is_faultless bs) h))
+    ap (λ (o : Option TextFault). first_found o (first_fault (number + 1) (bs ++ line ∷ after))) (clean_none number b (and_left (is_faultless b) (list_all is_faultless bs) h))
     ∙ first (number + 1) bs line after fault (and_right (is_faultless b) (list_all is_faultless bs) h) (subst (λ (n : ℕ). line_fault_of n line ≡ Some fault) same e)
 
 none_all_at : (number : ℕ) (l : List ℕ) (ls : List (List ℕ)) (o : Option TextFault)
     → (first_fault (number + 1) ls ≡ None → list_all is_faultless ls ≡ true) → line_fault_of number l ≡ o
-    → or_else o (first_fault (number + 1) ls) ≡ None → list_all is_faultless (l ∷ ls) ≡ true
+    → first_found o (first_fault (number + 1) ls) ≡ None → list_all is_faultless (l ∷ ls) ≡ true
 none_all_at number l ls None ih e h = and_both (is_faultless l) (list_all is_faultless ls) (none_clean number l e) (ih h)
 none_all_at number l ls (Some f) ih e h = absurd cc
 
@@ -98,7 +98,7 @@ all_none : (number : ℕ) (lines : List (List ℕ)) → list_all is_faultless li
 unfolding first_fault
 all_none number [] h = refl
 all_none number (l ∷ ls) h =
-    ap (λ (o : Option TextFault). or_else o (first_fault (number + 1) ls)) (clean_none number l (and_left (is_faultless l) (list_all is_faultless ls) h))
+    ap (λ (o : Option TextFault). first_found o (first_fault (number + 1) ls)) (clean_none number l (and_left (is_faultless l) (list_all is_faultless ls) h))
     ∙ all_none (number + 1) ls (and_right (is_faultless l) (list_all is_faultless ls) h)
 
 pub faults_are_first : FaultsAreFirst
@@ -108,7 +108,7 @@ faults_are_first text lines fault d =
       λ (e : first_fault 1 (lines_of text) ≡ Some fault).
           let f = found 1 lines fault (ap (first_fault 1) same ∙ e) in
           record { before = f.before; line = f.line; after = f.after; split = f.split; clean = f.clean; has = f.has },
-      λ (f : IsFirstFault lines fault).
+      λ (f : IsFirstTextFault lines fault).
           ap (first_fault 1) (sym same ∙ f.split) ∙ first 1 f.before f.line f.after fault f.clean f.has,
     )
 

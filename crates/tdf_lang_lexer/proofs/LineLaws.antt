@@ -6,9 +6,9 @@ use Rattle.std.proofs.lemmas.Bool.{eqb-true}
 use Rattle.std.proofs.lemmas.List.Folds.{list_any-append}
 use Rattle.std.specs.List.{list_any, before_first, after_first, position_or_len}
 use Rattle.std.specs.Prelude.{None}
-use Rattle.tdf_lang_lexer.specs.Pieces.{code_of, pieces_of}
+use Rattle.tdf_lang_lexer.specs.Pieces.{without_comment, pieces_of}
 use Rattle.tdf_lang_lexer.specs.Rows.{Row, rows_from, row_unless_bare}
-use Rattle.tdf_lang_lexer.specs.Text.{is_line_end, unless_empty, lines_from, lines_of, first_fault, line_fault_of, or_else, IsLines, no_line, last_line, line_end}
+use Rattle.tdf_lang_lexer.specs.Text.{is_line_end, unless_empty, lines_from, lines_of, first_fault, line_fault_of, first_found, IsLines, no_line, last_line, line_end}
 
 -- what stands before and after the first byte that passes, one byte further
 pub before_first-more : (p : ℕ → Bool) (byte : ℕ) (rest : List ℕ) → p byte ≡ false → before_first p (byte ∷ rest) ≡ byte ∷ before_first p rest
@@ -70,7 +70,7 @@ pub count-none : (text : List ℕ) → length text ≡ 0 → length (lines_of te
 count-none text h = rw (lines_of-none text h) refl
 
 pub fault-step : (number : ℕ) (text : List ℕ) → 0 < length text
-    → first_fault number (lines_of text) ≡ or_else (line_fault_of number (before_first is_line_end text)) (first_fault (number + 1) (lines_of (after_first is_line_end text)))
+    → first_fault number (lines_of text) ≡ first_found (line_fault_of number (before_first is_line_end text)) (first_fault (number + 1) (lines_of (after_first is_line_end text)))
 unfolding first_fault
 fault-step number text h = rw (lines_of-step text h) refl
 
@@ -80,7 +80,7 @@ fault-none number text h = rw (lines_of-none text h) refl
 
 pub rows-step : (number : ℕ) (text : List ℕ) → 0 < length text
     → rows_from number (lines_of text)
-    ≡ row_unless_bare number (pieces_of (code_of (before_first is_line_end text))) ++ rows_from (number + 1) (lines_of (after_first is_line_end text))
+    ≡ row_unless_bare number (pieces_of (without_comment (before_first is_line_end text))) ++ rows_from (number + 1) (lines_of (after_first is_line_end text))
 unfolding rows_from
 rows-step number text h = rw (lines_of-step text h) refl
 
@@ -98,11 +98,11 @@ push-one number (first ∷ more) h = refl
 
 -- the rows of the first line have been appended
 pub rows-pushed : (number : ℕ) (text line after : List ℕ) (pieces : List (List ℕ)) (all old new : List Row) → 0 < length text
-    → line ≡ before_first is_line_end text → after ≡ after_first is_line_end text → pieces ≡ pieces_of (code_of line)
+    → line ≡ before_first is_line_end text → after ≡ after_first is_line_end text → pieces ≡ pieces_of (without_comment line)
     → new ≡ old ++ row_unless_bare number pieces → old ++ rows_from number (lines_of text) ≡ all
     → new ++ rows_from (number + 1) (lines_of after) ≡ all
 rows-pushed number text line after pieces all old new h e f g n o =
-    let put : row_unless_bare number pieces ≡ row_unless_bare number (pieces_of (code_of (before_first is_line_end text))) = ap (row_unless_bare number) (g ∙ ap (λ (l : List ℕ). pieces_of (code_of l)) e) in
+    let put : row_unless_bare number pieces ≡ row_unless_bare number (pieces_of (without_comment (before_first is_line_end text))) = ap (row_unless_bare number) (g ∙ ap (λ (l : List ℕ). pieces_of (without_comment l)) e) in
     let rest : rows_from (number + 1) (lines_of after) ≡ rows_from (number + 1) (lines_of (after_first is_line_end text)) = ap (λ (b : List ℕ). rows_from (number + 1) (lines_of b)) f in
     ap (λ (l : List Row). l ++ rows_from (number + 1) (lines_of after)) n
     ∙ append_assoc old (row_unless_bare number pieces) (rows_from (number + 1) (lines_of after))

@@ -6,7 +6,7 @@ use Rattle.std.specs.List.{list_all}
 use Rattle.tdf_lang_lexer.specs.Longest.{IsForm, word, number, pair, single, IsCut, blank, piece}
 use Rattle.tdf_base.specs.Digits.{is_digit}
 use Rattle.tdf_base.specs.Names.{is_letter, is_part}
-use Rattle.tdf_lang_lexer.specs.Pieces.{is_space, is_pair, joins, begun, begins_with_digit, pieces_from, pieces_of}
+use Rattle.tdf_lang_lexer.specs.Pieces.{is_space, is_pair, joins, first_piece, begins_with_digit, pieces_from, pieces_of}
 use Rattle.tdf_lang_lexer.specs.Text.{unless_empty}
 
 pub and_left : (a b : Bool) → a && b ≡ true → a ≡ true
@@ -227,10 +227,10 @@ begun_ready byte rest h = go (is_part byte) refl
     go false e = form rest (single byte h e)
 
 -- what stands after a piece is cut
-started : (byte : ℕ) (rest : List ℕ) → ((now : List ℕ) → Ready now rest → IsCut (now ++ rest) (pieces_from now rest)) → IsCut (byte ∷ rest) (pieces_from (begun byte) rest)
+started : (byte : ℕ) (rest : List ℕ) → ((now : List ℕ) → Ready now rest → IsCut (now ++ rest) (pieces_from now rest)) → IsCut (byte ∷ rest) (pieces_from (first_piece byte) rest)
 started byte rest ih = go (is_space byte) refl
   where
-    go : (b : Bool) → is_space byte ≡ b → IsCut (byte ∷ rest) (pieces_from (begun byte) rest)
+    go : (b : Bool) → is_space byte ≡ b → IsCut (byte ∷ rest) (pieces_from (first_piece byte) rest)
     go true e = rw e (space_front byte e (ih [] (none rest)))
     go false e = rw e (ih (byte ∷ []) (begun_ready byte rest e))
 
@@ -241,7 +241,7 @@ cut_on byte rest {now = now} ih r e =
     rw e (subst (λ (l : List ℕ). IsCut l (pieces_from (now ++ byte ∷ []) rest)) (append_assoc now (byte ∷ []) rest) (ih (now ++ byte ∷ []) (ready_more byte rest r refl e)))
 
 cut_off : (byte : ℕ) (rest : List ℕ) {now left : List ℕ} → ((now : List ℕ) → Ready now rest → IsCut (now ++ rest) (pieces_from now rest))
-    → Ready now left → left ≡ byte ∷ rest → joins now byte rest ≡ false → IsCut (now ++ byte ∷ rest) (unless_empty now ++ pieces_from (begun byte) rest)
+    → Ready now left → left ≡ byte ∷ rest → joins now byte rest ≡ false → IsCut (now ++ byte ∷ rest) (unless_empty now ++ pieces_from (first_piece byte) rest)
 cut_off byte rest ih (none left) g e = started byte rest ih
 cut_off byte rest ih (form left f) g e = piece_first f (not_longer byte rest f e) (started byte rest ih)
 cut_off byte rest ih (point whole left h k d) g e =

@@ -2,7 +2,7 @@
 use Rattle.std.proofs.Common.{◌≡◌, ◌≢◌, ℕ, zero, suc, ◌+◌, ◌-◌, ◌<◌, ◌≤◌, Bool, true, false, List, [], ◌∷◌, ◌++◌, length, take, drop, refl, ap, sym, ◌∙◌, cond, append_assoc, arith, not, nat_eq, add-one, length-drop, get_or, map, subst, drop-cons}
 use Rattle.std.specs.Prelude.{slice_range}
 use Rattle.std.proofs.lemmas.List.{take_more, get_or-drop, map-append, append-nil, drop_all, take_rest}
-use Rattle.tdf_lang_lexer.specs.Pieces.{joins, is_space, pieces_from, pieces_of, code_of}
+use Rattle.tdf_lang_lexer.specs.Pieces.{joins, is_space, pieces_from, pieces_of, without_comment}
 use Rattle.tdf_lang_lexer.specs.machine.Pieces.{pieces_left}
 use Rattle.tdf_lang_lexer.specs.Text.{unless_empty}
 
@@ -59,7 +59,7 @@ pub left-all : (code : List ℕ) (from : ℕ) → pieces_left code from (length 
 unfolding pieces_left pieces_from
 left-all code from = rw (drop_all (length code) code (omega arith), take_rest code from) refl
 
-pub left-none : (line : List ℕ) → pieces_left (code_of line) 0 0 ≡ pieces_of (code_of line)
+pub left-none : (line : List ℕ) → pieces_left (without_comment line) 0 0 ≡ pieces_of (without_comment line)
 unfolding pieces_left pieces_of
 left-none line = refl
 
@@ -76,9 +76,9 @@ pub moved : (new old put left rest : List (List ℕ)) → new ≡ old ++ put →
 moved new old put left rest e f =
     ap (λ (l : List (List ℕ)). l ++ rest) e ∙ append_assoc old put rest ∙ ap (λ (l : List (List ℕ)). old ++ l) (sym f)
 
-pub pieces-done : (line code : List ℕ) (from i : ℕ) (list out : List (List ℕ)) → code ≡ code_of line → i ≡ length code
+pub pieces-done : (line code : List ℕ) (from i : ℕ) (list out : List (List ℕ)) → code ≡ without_comment line → i ≡ length code
     → out ≡ list ++ unless_empty (take (length code - from) (drop from code))
-    → list ++ pieces_left code from i ≡ pieces_left code 0 0 → out ≡ pieces_of (code_of line)
+    → list ++ pieces_left code from i ≡ pieces_left code 0 0 → out ≡ pieces_of (without_comment line)
 pieces-done line code from i list out e f g h =
     g ∙ ap (λ (l : List ℕ). list ++ unless_empty l) (take_rest code from)
     ∙ ap (λ (l : List (List ℕ)). list ++ l) (sym (left-all code from))

@@ -12,8 +12,8 @@ abbrev pub is_comment : ℕ → Bool
 is_comment byte = nat_eq byte 35
 
 -- a line without its comment
-abbrev pub code_of : List ℕ → List ℕ
-code_of line = before_first is_comment line
+abbrev pub without_comment : List ℕ → List ℕ
+without_comment line = before_first is_comment line
 
 -- whether two bytes are one symbol: <= >= == != << >>
 abbrev pub is_pair : ℕ → ℕ → Bool
@@ -34,14 +34,14 @@ joins (first ∷ more) byte rest =
     (nat_eq (length more) 0 && is_pair first byte)
 
 -- what a byte begins: a space nothing, each other byte a piece
-abbrev pub begun : ℕ → List ℕ
-begun byte = cond (is_space byte) [] (byte ∷ [])
+abbrev pub first_piece : ℕ → List ℕ
+first_piece byte = cond (is_space byte) [] (byte ∷ [])
 
 -- the pieces of what is left of a line, where `now` is the piece so far
 unfoldable pub pieces_from : List ℕ → List ℕ → List (List ℕ)
 pieces_from now [] = unless_empty now
 pieces_from now (byte ∷ rest) = cond (joins now byte rest) (pieces_from (now ++ byte ∷ []) rest)
-    (unless_empty now ++ pieces_from (begun byte) rest)
+    (unless_empty now ++ pieces_from (first_piece byte) rest)
 
 -- the pieces of a line without a comment
 unfoldable pub pieces_of : List ℕ → List (List ℕ)

@@ -1,7 +1,7 @@
 -- The rows of a text: the lines that have a piece, each with its number and its pieces (own). They are alike in every
 -- version of the language.
 use Rattle.std.specs.Prelude.{ℕ, ◌+◌, List, [], ◌∷◌, ◌++◌, map}
-use Rattle.tdf_lang_lexer.specs.Pieces.{code_of, pieces_of}
+use Rattle.tdf_lang_lexer.specs.Pieces.{without_comment, pieces_of}
 use Rattle.tdf_lang_lexer.specs.Text.{lines_of}
 use Rattle.tdf_lang_lexer.specs.declared.rows.PieceLine.{PieceLine}
 
@@ -23,7 +23,7 @@ row_unless_bare number (first ∷ more) = (record { number = number; pieces = fi
 unfoldable pub rows_from : ℕ → List (List ℕ) → List Row
 rows_from number [] = []
 rows_from number (line ∷ rest) =
-    row_unless_bare number (pieces_of (code_of line)) ++ rows_from (number + 1) rest
+    row_unless_bare number (pieces_of (without_comment line)) ++ rows_from (number + 1) rest
 
 -- the rows of a text
 unfoldable pub rows_of : List ℕ → List Row

@@ -6,8 +6,8 @@ use Rattle.tdf_lang_lexer.specs.declared.text.TextFault.{TextFault}
 use Rattle.tdf_lang_lexer.specs.declared.text.TextFault.TheVariants.{Byte, LongLine}
 
 -- a byte that a text may hold: LF, TAB, the space and the printable bytes of ASCII
-abbrev pub is_allowed : ℕ → Bool
-is_allowed byte = nat_eq byte 10 || nat_eq byte 9 || (nat_le 32 byte && nat_le byte 126)
+abbrev pub is_allowed_byte : ℕ → Bool
+is_allowed_byte byte = nat_eq byte 10 || nat_eq byte 9 || (nat_le 32 byte && nat_le byte 126)
 
 abbrev pub is_line_end : ℕ → Bool
 is_line_end byte = nat_eq byte 10
@@ -38,17 +38,17 @@ LinesAreText = (text : List ℕ) (lines : List (List ℕ)) → IsLines text line
 
 -- the fault of line `number`: a byte that isn't allowed, and else more bytes than a line may have
 abbrev pub line_fault_of : ℕ → List ℕ → Option TextFault
-line_fault_of number line = cond (list_all is_allowed line) (cond (nat_lt longest_line (length line)) (Some (LongLine number)) None) (Some (Byte number))
+line_fault_of number line = cond (list_all is_allowed_byte line) (cond (nat_lt longest_line (length line)) (Some (LongLine number)) None) (Some (Byte number))
 
 -- the first of two answers, else the second
-abbrev pub or_else : {A : Type 0} → Option A → Option A → Option A
-or_else None second = second
-or_else (Some first) second = Some first
+abbrev pub first_found : {A : Type 0} → Option A → Option A → Option A
+first_found None second = second
+first_found (Some first) second = Some first
 
 -- the fault of the least line that has one, where the first line is `number`
 unfoldable pub first_fault : ℕ → List (List ℕ) → Option TextFault
 first_fault number [] = None
-first_fault number (line ∷ rest) = or_else (line_fault_of number line) (first_fault (number + 1) rest)
+first_fault number (line ∷ rest) = first_found (line_fault_of number line) (first_fault (number + 1) rest)
 
 unfoldable pub fault_of : List ℕ → Option TextFault
 fault_of text = first_fault 1 (lines_of text)

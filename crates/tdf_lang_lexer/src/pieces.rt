@@ -4,7 +4,7 @@ ghost use Rattle.std.specs.List.{list_all, position_or_len};
 ghost use Rattle.std.specs.Prelude.{drop, slice_index, IfOk, OnOk, length, map, slice_range, ◌++◌, ◌+◌, ◌<◌, ◌≡◌, ◌≤◌};
 ghost use Rattle.tdf_base.specs.Digits.{is_digit};
 ghost use Rattle.tdf_base.specs.Names.{is_letter, is_part};
-ghost use Rattle.tdf_lang_lexer.specs.Pieces.{begins_with_digit, code_of, is_comment, is_pair, is_space, joins, pieces_of};
+ghost use Rattle.tdf_lang_lexer.specs.Pieces.{begins_with_digit, without_comment, is_comment, is_pair, is_space, joins, pieces_of};
 ghost use Rattle.tdf_lang_lexer.specs.machine.Pieces.{pieces_left};
 ghost use Rattle.tdf_lang_lexer.specs.Text.{unless_empty};
 
@@ -126,7 +126,7 @@ fn code_len(line: &[u8]) -> usize
 
 /// The pieces of a line.
 pub(crate) fn pieces<'t>(alloc: Global, line: &'t [u8]) -> Result<Vec<&'t [u8]>, Memory>
-    ensures { IfOk result (λ v. map (λ p. p.now) v.items ≡ pieces_of (code_of line.now)) }
+    ensures { IfOk result (λ v. map (λ p. p.now) v.items ≡ pieces_of (without_comment line.now)) }
 {
     let code = &line[..code_len(line)];
     let mut list = Vec::new(alloc);

@@ -3,7 +3,7 @@
 ghost use Rattle.std.specs.List.{after_first, before_first, list_all, position_or_len};
 ghost use Rattle.std.specs.Prelude.{length, ◌≡◌, ◌≤◌};
 ghost use Rattle.tdf_base.specs.Limits.{longest_text};
-ghost use Rattle.tdf_lang_lexer.specs.Text.{is_allowed, fault_of, is_line_end, line_fault_of, lines_of};
+ghost use Rattle.tdf_lang_lexer.specs.Text.{is_allowed_byte, fault_of, is_line_end, line_fault_of, lines_of};
 
 use tdf_base::LONGEST_LINE;
 
@@ -37,13 +37,13 @@ pub(crate) fn cut_line<'t>(text: &'t [u8]) -> (&'t [u8], &'t [u8])
 }
 
 fn is_allowed(byte: u8) -> bool
-    ensures { result ≡ is_allowed byte }
+    ensures { result ≡ is_allowed_byte byte }
 {
     byte == b'\n' || byte == b'\t' || (b' ' <= byte && byte <= b'~')
 }
 
 fn is_clean(bytes: &[u8]) -> bool
-    ensures { result ≡ list_all is_allowed bytes.now }
+    ensures { result ≡ list_all is_allowed_byte bytes.now }
 {
     bytes.iter().all(|byte| is_allowed(*byte))
 }

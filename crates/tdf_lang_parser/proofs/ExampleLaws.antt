@@ -7,7 +7,7 @@ use Rattle.tdf_base.specs.declared.resolution.Resolution.TheVariants.{Ps, Fs}
 use Rattle.tdf_lang_parser.proofs.FaultLaws.{found_fault}
 use Rattle.tdf_lang_parser.proofs.HeadLaws.{no_resolution_says, no_version_says}
 use Rattle.tdf_lang_parser.proofs.ReadSpells.{reads_spell}
-use Rattle.tdf_lang_parser.specs.Examples.{smallest_text, smallest_tree, loose_text, loose_tree, net_text, net_tree, decls_text, decls_tree, attributes_text, attributes_tree, initialize_text, initialize_tree, nested_text, nested_tree, operators_text, operators_tree, change_text, change_tree, empty_text, empty_tree, de_text, de_tree, multiples_text, multiples_tree, femtoseconds_text, femtoseconds_tree, no_resolution_text, no_resolution_tree, version_text, else_text, deep_text, order_text, open_text, chain_text, early_text, second_text, late_text, unit_text}
+use Rattle.tdf_lang_parser.specs.Examples.{smallest_text, smallest_tree, loose_text, loose_tree, net_text, net_tree, decls_text, decls_tree, attributes_text, attributes_tree, initialize_text, initialize_tree, nested_text, nested_tree, operators_text, operators_tree, change_text, change_tree, empty_text, empty_tree, de_text, de_tree, multiples_text, multiples_tree, femtoseconds_text, femtoseconds_tree, no_resolution_text, no_resolution_tree, version_text, else_text, deep_text, order_text, open_text, chain_text, early_text, second_text, late_text, unit_example}
 use Rattle.tdf_lang_parser.specs.Faults.{AtGlobals, HasFault, no_version, after_version, after_resolution}
 use Rattle.tdf_lang_parser.specs.Head.{head_version, head_resolution, language_1, language_2, language_3, resolution_fs}
 use Rattle.tdf_lang_parser.specs.SpellsTree.{SpellsTree, whole_text}
@@ -120,6 +120,6 @@ pub late_faults : HasFault (rows_of late_text) (length (lines_of late_text) + 1)
 unfolding rows_of rows_from token_of lines_of lines_from pieces_of pieces_from key_of spelling symbol_of sign time_of time_at count_of numeral_of is_number int_of trimmed lits_of path_of expr_of form_of times_rate reads_row reads_rows fault_from
 late_faults = after_version _ language_3 (no_resolution_says 3 (after_first (rows_of late_text)) refl) (found_fault (record { version = 3; resolution = Ps }) (token_lines (record { version = 3; resolution = Ps }) (after_first (rows_of late_text))) (PGlobals (outset (record { version = 3; resolution = Ps }))) AtGlobals (length (lines_of late_text) + 1) 3 refl refl)
 
-pub unit_faults : HasFault (rows_of unit_text) (length (lines_of unit_text) + 1) 4
+pub unit_faults : HasFault (rows_of unit_example) (length (lines_of unit_example) + 1) 4
 unfolding rows_of rows_from token_of lines_of lines_from pieces_of pieces_from key_of spelling symbol_of sign time_of time_at count_of numeral_of is_number int_of trimmed lits_of path_of expr_of form_of times_rate reads_row reads_rows fault_from
-unit_faults = after_version _ language_3 (no_resolution_says 3 (after_first (rows_of unit_text)) refl) (found_fault (record { version = 3; resolution = Ps }) (token_lines (record { version = 3; resolution = Ps }) (after_first (rows_of unit_text))) (PGlobals (outset (record { version = 3; resolution = Ps }))) AtGlobals (length (lines_of unit_text) + 1) 4 refl refl)
+unit_faults = after_version _ language_3 (no_resolution_says 3 (after_first (rows_of unit_example)) refl) (found_fault (record { version = 3; resolution = Ps }) (token_lines (record { version = 3; resolution = Ps }) (after_first (rows_of unit_example))) (PGlobals (outset (record { version = 3; resolution = Ps }))) AtGlobals (length (lines_of unit_example) + 1) 4 refl refl)

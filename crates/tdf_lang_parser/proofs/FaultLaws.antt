@@ -6,7 +6,7 @@ use Rattle.tdf_lang_lexer.specs.declared.dialect.Dialect.{Dialect}
 use Rattle.tdf_lang_tree.specs.Pure.{PureStmt, PureTdf, PureDe, PureBody, PureTree}
 use Rattle.tdf_lang_tree.specs.declared.blocks.PortKind.{PortKind}
 use Rattle.tdf_lang_tree.specs.declared.blocks.PortKind.TheVariants as port_kind
-use Rattle.tdf_lang_parser.specs.Faults.{kind_of, is_statement, is_de_line, if_so, after_end, after_else, after_head, after_body, in_body, in_tdf, in_de, next, Where, AtGlobals, InAttributes, InInitialize, InBody, InTdf, InDe, InProcess, InComposite, InTop, AtTraces, Allows, Faults}
+use Rattle.tdf_lang_parser.specs.Faults.{kind_of_body, is_statement, is_de_line, if_so, after_end, after_else, after_head, where_after_body, in_body, in_tdf, in_de, where_next, Where, AtGlobals, InAttributes, InInitialize, InBody, InTdf, InDe, InProcess, InComposite, InTop, AtTraces, Allows, Faults}
 use Rattle.tdf_lang_tree.specs.Forms.{Form, FTop, FEnd, FPort, FSetAttributes, FInitialize, FProcessing, FChangeAttributes, FReinitialize, FInitial, FProcess, FSensitive, FDontInitialize, FIf, FElse, FFor, FTrace, FAssign}
 use Rattle.tdf_lang_parser.specs.Items.{BodyKind, Plain, OfChange, OfProcess, stmt_of, de_port_of}
 use Rattle.tdf_lang_parser.specs.machine.Places.{Outer, Frame, FrIf, FrElse, FrFor, Owner, OwnInitialize, OwnProcessing, OwnChange, OwnReinitialize, OwnProcess, part_of, Place, is_lost, is_traces, fault_from, outset, PGlobals, PTdf, PAttributes, PInitialize, PBody, PDe, PProcess, PNet, PTop, PTraces, PLost, where_of, nest_of, nests_of, goes, goes_globals, goes_tdf, goes_attributes, goes_initialize, goes_body, goes_de, goes_process, goes_net, goes_top, more_de, more_body, reads_row, reads_rows, read_form, finished, end_body, else_body, head_body}
@@ -47,9 +47,9 @@ more_where owner fs acc None = refl
 more_where owner fs acc (Some s) = refl
 
 stmt_moves : (owner : Owner) (fs : List Frame) (acc : List PureStmt) (n : ℕ) (f : Form)
-    → where_of (more_body owner fs acc (stmt_of (kind_of (part_of owner)) n f)) ≡ if_so (is_statement (kind_of (part_of owner)) (kind_of_form f)) (InBody (part_of owner) (nests_of fs))
+    → where_of (more_body owner fs acc (stmt_of (kind_of_body (part_of owner)) n f)) ≡ if_so (is_statement (kind_of_body (part_of owner)) (kind_of_form f)) (InBody (part_of owner) (nests_of fs))
 stmt_moves owner fs acc n f =
-    more_where owner fs acc (stmt_of (kind_of (part_of owner)) n f) ∙ ap (λ (b : Bool). if_so b (InBody (part_of owner) (nests_of fs))) (stmt_test (kind_of (part_of owner)) n f)
+    more_where owner fs acc (stmt_of (kind_of_body (part_of owner)) n f) ∙ ap (λ (b : Bool). if_so b (InBody (part_of owner) (nests_of fs))) (stmt_test (kind_of_body (part_of owner)) n f)
 
 head_moves : (owner : Owner) (fr : Frame) (fs : List Frame) → where_of (head_body owner fr fs) ≡ after_head (part_of owner) (nest_of fr) (nests_of fs)
 head_moves owner fr fs =
@@ -62,7 +62,7 @@ else_moves owner (FrIf l e outer ∷ fs) acc = refl
 else_moves owner (FrElse l e first outer ∷ fs) acc = refl
 else_moves owner (FrFor l name from limit outer ∷ fs) acc = refl
 
-finished_moves : (owner : Owner) (b : PureBody) → where_of (finished owner b) ≡ Some (after_body (part_of owner))
+finished_moves : (owner : Owner) (b : PureBody) → where_of (finished owner b) ≡ Some (where_after_body (part_of owner))
 finished_moves (OwnInitialize o t) b = refl
 finished_moves (OwnProcessing o t) b = refl
 finished_moves (OwnChange o t) b = refl
@@ -105,38 +105,38 @@ de_moves o true d n (FPort kind name x) = port_moves o d n kind name x
 de_moves o true d n f = refl
 de_moves o false d n f = refl
 
-initialize_moves : (o : Outer) (t : PureTdf) (n : ℕ) (f : Form) → where_of (goes_initialize o t n f) ≡ next InInitialize (kind_of_form f)
+initialize_moves : (o : Outer) (t : PureTdf) (n : ℕ) (f : Form) → where_of (goes_initialize o t n f) ≡ where_next InInitialize (kind_of_form f)
 initialize_moves o t n (FInitial port place v) = refl
 initialize_moves o t n f = body_moves (OwnInitialize o t) [] [] n f
 
-process_moves : (o : Outer) (d : PureDe) (p : _) (n : ℕ) (f : Form) → where_of (goes_process o d p n f) ≡ next InProcess (kind_of_form f)
+process_moves : (o : Outer) (d : PureDe) (p : _) (n : ℕ) (f : Form) → where_of (goes_process o d p n f) ≡ where_next InProcess (kind_of_form f)
 process_moves o d p n (FSensitive name) = refl
 process_moves o d p n FDontInitialize = refl
 process_moves o d p n f = body_moves (OwnProcess o d p) [] [] n f
 
-globals_move : (o : Outer) (n : ℕ) (f : Form) → where_of (goes_globals o n f) ≡ next AtGlobals (kind_of_form f)
+globals_move : (o : Outer) (n : ℕ) (f : Form) → where_of (goes_globals o n f) ≡ where_next AtGlobals (kind_of_form f)
 globals_move o n FTop = refl
 globals_move o n _ = refl
 
-attributes_move : (o : Outer) (t : PureTdf) (n : ℕ) (f : Form) → where_of (goes_attributes o t n f) ≡ next InAttributes (kind_of_form f)
+attributes_move : (o : Outer) (t : PureTdf) (n : ℕ) (f : Form) → where_of (goes_attributes o t n f) ≡ where_next InAttributes (kind_of_form f)
 attributes_move o t n FEnd = refl
 attributes_move o t n _ = refl
 
-net_moves : (o : Outer) (c : _) (n : ℕ) (f : Form) → where_of (goes_net o c n f) ≡ next InComposite (kind_of_form f)
+net_moves : (o : Outer) (c : _) (n : ℕ) (f : Form) → where_of (goes_net o c n f) ≡ where_next InComposite (kind_of_form f)
 net_moves o c n FEnd = refl
 net_moves o c n _ = refl
 
-top_moves : (o : Outer) (c : _) (n : ℕ) (f : Form) → where_of (goes_top o c n f) ≡ next InTop (kind_of_form f)
+top_moves : (o : Outer) (c : _) (n : ℕ) (f : Form) → where_of (goes_top o c n f) ≡ where_next InTop (kind_of_form f)
 top_moves o c n FEnd = refl
 top_moves o c n _ = refl
 
-traces_move : (t : PureTree) (n : ℕ) (f : Form) → where_of (goes (PTraces t) n f) ≡ next AtTraces (kind_of_form f)
+traces_move : (t : PureTree) (n : ℕ) (f : Form) → where_of (goes (PTraces t) n f) ≡ where_next AtTraces (kind_of_form f)
 traces_move t n (FTrace path label) = refl
 traces_move t n _ = refl
 
 abbrev next_of : Option Where → Form → Option Where
 next_of None f = None
-next_of (Some w) f = next w (kind_of_form f)
+next_of (Some w) f = where_next w (kind_of_form f)
 
 moves : (p : Place) (n : ℕ) (f : Form) → where_of (goes p n f) ≡ next_of (where_of p) f
 moves (PGlobals o) n f = globals_move o n f
@@ -151,7 +151,7 @@ moves (PTop o c) n f = top_moves o c n f
 moves (PTraces t) n f = traces_move t n f
 moves PLost n f = refl
 
-moves_at : (p : Place) (w : Where) (n : ℕ) (f : Form) → where_of p ≡ Some w → where_of (goes p n f) ≡ next w (kind_of_form f)
+moves_at : (p : Place) (w : Where) (n : ℕ) (f : Form) → where_of p ≡ Some w → where_of (goes p n f) ≡ where_next w (kind_of_form f)
 moves_at p w n f e = moves p n f ∙ ap (λ (o : Option Where). next_of o f) e
 
 -- a line that leads on is allowed lang, and one that is allowed lang leads on
@@ -167,7 +167,7 @@ allows : (lang : Dialect) (p : Place) (w v : Where) (r : TokenLine) → where_of
 unfolding reads_row
 allows lang p w v r e a =
     let x = line_of_kind a.line in
-    ap (λ (o : Option Form). where_of (read_form p r.number o)) (form_is x.1) ∙ moves_at p w r.number x.0 e ∙ ap (next w) x.2 ∙ a.leads
+    ap (λ (o : Option Form). where_of (read_form p r.number o)) (form_is x.1) ∙ moves_at p w r.number x.0 e ∙ ap (where_next w) x.2 ∙ a.leads
 
 -- what is lost lang stays lost lang
 lost_form : (p : Place) (n : ℕ) (o : Option Form) → where_of p ≡ None → where_of (read_form p n o) ≡ None
@@ -230,7 +230,7 @@ one_place lang w u v ts a b =
     let q : Some x.0 ≡ Some y.0 = sym (form_is x.1) ∙ form_is y.1 in
     let e : x.0 ≡ y.0 = cc in
     let k : a.kind ≡ b.kind = sym x.2 ∙ ap kind_of_form e ∙ y.2 in
-    let s : Some u ≡ Some v = sym a.leads ∙ ap (next w) k ∙ b.leads in
+    let s : Some u ≡ Some v = sym a.leads ∙ ap (where_next w) k ∙ b.leads in
     cc
 
 pub one_fault : (lang : Dialect) (rows : List TokenLine) (w : Where) (b m n : ℕ) → Faults lang w rows b m → Faults lang w rows b n → m ≡ n

@@ -5,7 +5,7 @@ use Rattle.std.specs.List.{AllByRecursion}
 use Rattle.std.specs.Prelude.{Result, Ok, Err, IfOk}
 use Rattle.tdf_lang_parser.specs.Formed.{AllAssignNone, AssignsNone, HasEventPorts, HasPlainBodies, IsEventLine, IsFormed, IsNoPort, IsPlainGlobal}
 use Rattle.tdf_lang_parser.specs.Items.{Plain, de_line_of, member_of, plain_of}
-use Rattle.tdf_lang_parser.specs.SpellsTree.{Lines, lines_none, lines_more, SpellsOne, simple, choice, both, turns, SpellsAll, stmts_none, stmts_more, body_of, SpellsPart, part_none, part_some, SpellsInitialize, initialize_none, initialize_some, SpellsTdf, tdf, SpellsGlobal, global_type, global_tdf, global_de, global_net, SpellsGlobals, globals_none, globals_more, SpellsModel, model, SpellsTree, whole_text}
+use Rattle.tdf_lang_parser.specs.SpellsTree.{Lines, lines_none, lines_more, SpellsOne, simple, choice, both, turns, SpellsAll, stmts_none, stmts_more, body_with, SpellsPart, part_none, part_some, SpellsInitialize, initialize_none, initialize_some, SpellsTdf, tdf, SpellsGlobal, global_type, global_tdf, global_de, global_net, SpellsGlobals, globals_none, globals_more, SpellsModel, model, SpellsTree, whole_text}
 use Rattle.tdf_lang_parser.specs.declared.err.LangErr.{LangErr}
 use Rattle.tdf_lang_parser.specs.machine.Walks.{IsRead}
 use Rattle.tdf_lang_lexer.specs.Rows.{Row}
@@ -56,7 +56,7 @@ mutual
   all_none stmts_none = tt
   all_none (stmts_more {ss = ss} {s = s} all one) = one_more AssignsNone ss s (all_none all) (one_none one)
 
-body_none : (ss : List PureStmt) (line : ℕ) → AllByRecursion AssignsNone ss → AllAssignNone (body_of ss line).list
+body_none : (ss : List PureStmt) (line : ℕ) → AllByRecursion AssignsNone ss → AllAssignNone (body_with ss line).list
 body_none [] line all = tt
 body_none (s ∷ ss) line all = list_none (s ∷ ss) all
 

@@ -7,11 +7,11 @@ use Rattle.tdf_base.specs.declared.resolution.Resolution.TheVariants.{Ps}
 use Rattle.tdf_lang_parser.proofs.LineOrder.{Within, within_none, within_both, within_more, within_nothing, Rises, rises_within, rises_increase, numbers, within_rows, within_front, within_after, KeepRows, rows_split, rows_keep, row_numbers, numbers_of, rows_rise}
 use Rattle.tdf_lang_parser.proofs.TableKeeps.{KeepsMade, tdf_line_keeps, attr_keeps, initial_keeps, de_line_keeps, sense_keeps, member_keeps, net_line_keeps, trace_keeps, stmt_keeps}
 use Rattle.tdf_lang_parser.specs.Head.{SpellsVersion, language_1, language_2, language_3, SpellsHead, head_version, head_resolution}
-use Rattle.tdf_lang_parser.specs.Items.{tdf_line_of, attr_of, initial_of, de_line_of, sense_of, member_of, net_line_of, trace_of, BodyKind}
+use Rattle.tdf_lang_parser.specs.Items.{tdf_line_of, attr_of, initial_of, de_line_of, sense_of, member_of, net_line_of, trace_item, BodyKind}
 use Rattle.tdf_lang_parser.specs.Refused.{SpellsText}
 use Rattle.tdf_lang_parser.specs.declared.err.LangErr.{LangErr}
 use Rattle.tdf_lang_parser.specs.machine.Walks.{IsRead}
-use Rattle.tdf_lang_parser.specs.SpellsTree.{Lines, lines_none, lines_more, SpellsOne, simple, choice, both, turns, SpellsAll, stmts_none, stmts_more, deepest, body_of, SpellsPart, part_none, part_some, SpellsAttributes, attributes_none, attributes_some, SpellsInitialize, initialize_none, initialize_some, SpellsTdf, tdf, SpellsProcess, process, SpellsProcesses, processes_none, processes_more, SpellsGlobal, global_type, global_tdf, global_de, global_net, SpellsGlobals, globals_none, globals_more, SpellsModel, model, SpellsTree, whole_text}
+use Rattle.tdf_lang_parser.specs.SpellsTree.{Lines, lines_none, lines_more, SpellsOne, simple, choice, both, turns, SpellsAll, stmts_none, stmts_more, deepest, body_with, SpellsPart, part_none, part_some, SpellsAttributes, attributes_none, attributes_some, SpellsInitialize, initialize_none, initialize_some, SpellsTdf, tdf, SpellsProcess, process, SpellsProcesses, processes_none, processes_more, SpellsGlobal, global_type, global_tdf, global_de, global_net, SpellsGlobals, globals_none, globals_more, SpellsModel, model, SpellsTree, whole_text}
 use Rattle.tdf_lang_lines.proofs.Api.{KeepsForm, line_keeps}
 use Rattle.tdf_lang_lexer.specs.Rows.{Row, rows_of}
 use Rattle.tdf_lang_lexer.specs.Token.{TokenLine}
@@ -106,7 +106,7 @@ mutual
 
 -- a body and its `end`
 body_holds : (ss : List PureStmt) (a : List TokenLine) (l : TokenLine) → HoldsAll deepest ss a
-    → Holds (KeepsBody (body_of ss l.number)) (lines_of_body (body_of ss l.number)) (numbers (a ++ l ∷ []))
+    → Holds (KeepsBody (body_with ss l.number)) (lines_of_body (body_with ss l.number)) (numbers (a ++ l ∷ []))
 body_holds [] a l r = record { keeps = tt; order = within_nothing (numbers (a ++ l ∷ [])) }
 body_holds (s ∷ ss) a l r = record {
   keeps = stmts_keep deepest (s ∷ ss) r.keeps;
@@ -228,7 +228,7 @@ model_holds {lang = lang} is (model {a = a} {b = b} {c = c} t l globals top memb
     let s2 = rows_split b (l ∷ c) s1.1.1 in
     let r1 = globals_hold globals s1.0 in
     let r2 = lines_hold lang member_of KeepsMember line_of_member member_keeps members s2.0 in
-    let r3 = lines_hold lang trace_of KeepsTrace line_of_trace trace_keeps traces s2.1.1 in record {
+    let r3 = lines_hold lang trace_item KeepsTrace line_of_trace trace_keeps traces s2.1.1 in record {
       keeps = record {
         version = is.version;
         resolution = is.resolution;

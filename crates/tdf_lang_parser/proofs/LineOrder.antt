@@ -4,7 +4,7 @@ use Rattle.std.specs.List.Sorted.{IsStrictlyIncreasing}
 use Rattle.std.specs.Prelude.{slice_index}
 use Rattle.tdf_lang_lexer.proofs.Api.{KeepTokens, tokens_keep}
 use Rattle.tdf_lang_lexer.specs.Dialect.{token_lines}
-use Rattle.tdf_lang_lexer.specs.Pieces.{code_of, pieces_of}
+use Rattle.tdf_lang_lexer.specs.Pieces.{without_comment, pieces_of}
 use Rattle.tdf_lang_lexer.specs.Rows.{Row, row_unless_bare, rows_from, rows_of}
 use Rattle.tdf_lang_lexer.specs.Text.{lines_of}
 use Rattle.tdf_lang_lexer.specs.Token.{TokenLine}
@@ -98,7 +98,7 @@ bare_rises n (first ∷ more) rest r = (omega arith, r)
 rows_rise_from : (n : ℕ) (lines : List (List ℕ)) → Rises n (row_numbers (rows_from n lines))
 unfolding rows_from
 rows_rise_from n [] = tt
-rows_rise_from n (line ∷ lines) = bare_rises n (pieces_of (code_of line)) (rows_from (n + 1) lines) (rows_rise_from (n + 1) lines)
+rows_rise_from n (line ∷ lines) = bare_rises n (pieces_of (without_comment line)) (rows_from (n + 1) lines) (rows_rise_from (n + 1) lines)
 
 pub rows_rise : (text : List ℕ) → Rises 1 (row_numbers (rows_of text))
 unfolding rows_of

@@ -12,13 +12,13 @@ use Rattle.tdf_lang_tree.specs.declared.blocks.Initial.{Initial}
 use Rattle.tdf_lang_tree.specs.declared.blocks.Member.{Member}
 use Rattle.tdf_lang_tree.specs.declared.stmt.Limit.{Limit}
 use Rattle.tdf_lang_exprs.proofs.Api.{pick_bool, leb_le, ltb_lt}
-use Rattle.tdf_lang_parser.specs.Faults.{kind_of}
+use Rattle.tdf_lang_parser.specs.Faults.{kind_of_body}
 use Rattle.tdf_lang_tree.specs.Forms.{Form, FType, FTdf, FDe, FComposite, FTop, FEnd, FSetAttributes, FInitialize, FProcessing, FChangeAttributes, FReinitialize, FInitial, FProcess, FSensitive, FDontInitialize, FIf, FElse, FFor}
-use Rattle.tdf_lang_parser.specs.Items.{tdf_line_of, attr_of, initial_of, de_line_of, member_of, net_line_of, trace_of, BodyKind, Plain, OfProcess, stmt_of}
+use Rattle.tdf_lang_parser.specs.Items.{tdf_line_of, attr_of, initial_of, de_line_of, member_of, net_line_of, trace_item, BodyKind, Plain, OfProcess, stmt_of}
 use Rattle.tdf_lang_lines.specs.SpellsLine.{SpellsLine}
 use Rattle.tdf_lang_parser.specs.machine.Places.{Outer, Frame, FrIf, FrElse, FrFor, Owner, OwnInitialize, OwnProcessing, OwnChange, OwnReinitialize, OwnProcess, part_of, Place, outset, PGlobals, PTdf, PAttributes, PInitialize, PBody, PDe, PProcess, PNet, PTop, PTraces, PLost, with_global, more_tdf, more_attributes, more_de, more_net, more_top, more_traces, more_body, new_process, goes, goes_globals, goes_tdf, goes_attributes, goes_initialize, goes_body, goes_de, goes_process, goes_net, goes_top, reads_row, reads_rows, read_form, finished, end_body, else_body}
 use Rattle.tdf_lang_lines.specs.machine.Reads.{form_of}
-use Rattle.tdf_lang_parser.specs.SpellsTree.{Lines, lines_none, lines_more, SpellsOne, simple, choice, both, turns, SpellsAll, stmts_none, deepest, body_of, part_some, attributes_some, initialize_some, SpellsDont, dont_none, dont_some, SpellsProcess, process, processes_none, processes_more, SpellsGlobal, global_type, global_tdf, global_de, global_net, globals_none, SpellsModel, model}
+use Rattle.tdf_lang_parser.specs.SpellsTree.{Lines, lines_none, lines_more, SpellsOne, simple, choice, both, turns, SpellsAll, stmts_none, deepest, body_with, part_some, attributes_some, initialize_some, SpellsDont, dont_none, dont_some, SpellsProcess, process, processes_none, processes_more, SpellsGlobal, global_type, global_tdf, global_de, global_net, globals_none, SpellsModel, model}
 use Rattle.tdf_lang_lines.proofs.Api.{form_means}
 use Rattle.tdf_lang_parser.proofs.SoFar.{KeptOuter, outer_more, TdfSoFar, tdf_whole, after5, append_none, tdf_new, tdf_more, add_attributes, add_initialize, add_processing, add_change, add_reinitialize, DeSoFar, NetSoFar, Owns, grows, depth, HeadOf, InitializeOf, ProcessOf, Front, InBlock, AttributesOf, TracesOf, BodyOf, TopOf, Kept}
 
@@ -177,12 +177,12 @@ front_assoc x y z = append_assoc x y z
 
 -- a body that is whole, in its block
 end_initialize : (lang : Dialect) (o : Outer) (t : PureTdf) (acc : List PureStmt) (front body : List TokenLine) (r : TokenLine) → InitializeOf lang o t front → SpellsAll lang Plain deepest body acc → SpellsLine lang.version r.tokens FEnd
-    → InBlock lang o (λ own. TdfSoFar lang 2 own (record t { initialize = body_of acc r.number })) (front ++ (body ++ r ∷ []))
+    → InBlock lang o (λ own. TdfSoFar lang 2 own (record t { initialize = body_with acc r.number })) (front ++ (body ++ r ∷ []))
 end_initialize lang o t acc front body r k c m = record {
   out = k.out;
   own = k.own ++ (k.h ∷ (k.a ++ (body ++ r ∷ [])));
   outer = k.outer;
-  block = add_initialize lang k.own (k.h ∷ (k.a ++ (body ++ r ∷ []))) (record t { initials = [] }) k.parts t.initials (body_of acc r.number) k.few k.block (initialize_some k.h r k.head k.lines c m);
+  block = add_initialize lang k.own (k.h ∷ (k.a ++ (body ++ r ∷ []))) (record t { initials = [] }) k.parts t.initials (body_with acc r.number) k.few k.block (initialize_some k.h r k.head k.lines c m);
   is = ap (λ (l : List TokenLine). l ++ (body ++ r ∷ [])) k.is ∙ three_assoc k.out k.own k.h k.a (body ++ r ∷ []);
 }
 
@@ -192,12 +192,12 @@ head_rows lang o parts most t f front body r k = ap (λ (l : List TokenLine). l 
 
 end_process : (lang : Dialect) (o : Outer) (d : PureDe) (p : PureProcess) (acc : List PureStmt) (front body : List TokenLine) (r : TokenLine) → ProcessOf lang o d p p.starts front → SpellsAll lang OfProcess deepest body acc
     → SpellsLine lang.version r.tokens FEnd
-    → InBlock lang o (λ own. DeSoFar lang false own (record d { processes = d.processes ++ (record p { body = body_of acc r.number }) ∷ [] })) (front ++ (body ++ r ∷ []))
+    → InBlock lang o (λ own. DeSoFar lang false own (record d { processes = d.processes ++ (record p { body = body_with acc r.number }) ∷ [] })) (front ++ (body ++ r ∷ []))
 end_process lang o d p acc front body r k c m =
-    let s : SpellsProcess lang (k.h ∷ (k.a ++ (k.b ++ (body ++ r ∷ [])))) (record { line = k.h.number; sensitive = p.sensitive; starts = p.starts; body = body_of acc r.number })
+    let s : SpellsProcess lang (k.h ∷ (k.a ++ (k.b ++ (body ++ r ∷ [])))) (record { line = k.h.number; sensitive = p.sensitive; starts = p.starts; body = body_with acc r.number })
     = process k.h r k.head k.lines k.dont c m in
-    let s' : SpellsProcess lang (k.h ∷ (k.a ++ (k.b ++ (body ++ r ∷ [])))) (record p { body = body_of acc r.number })
-    = subst (λ (n : ℕ). SpellsProcess lang (k.h ∷ (k.a ++ (k.b ++ (body ++ r ∷ [])))) (record { line = n; sensitive = p.sensitive; starts = p.starts; body = body_of acc r.number })) k.line s in
+    let s' : SpellsProcess lang (k.h ∷ (k.a ++ (k.b ++ (body ++ r ∷ [])))) (record p { body = body_with acc r.number })
+    = subst (λ (n : ℕ). SpellsProcess lang (k.h ∷ (k.a ++ (k.b ++ (body ++ r ∷ [])))) (record { line = n; sensitive = p.sensitive; starts = p.starts; body = body_with acc r.number })) k.line s in
     record {
       out = k.out;
       own = k.own ++ (k.h ∷ (k.a ++ (k.b ++ (body ++ r ∷ []))));
@@ -220,28 +220,28 @@ end_process lang o d p acc front body r k c m =
 eight : (lang : Dialect) (k : BodyKind) (d : ℕ) (a : List TokenLine) (ss : List PureStmt) → d ≡ 8 → SpellsAll lang k d a ss → SpellsAll lang k deepest a ss
 eight lang k d a ss e s = subst (λ (n : ℕ). SpellsAll lang k n a ss) e s
 
-finished_keeps : (lang : Dialect) (owner : Owner) (acc : List PureStmt) (front body : List TokenLine) (r : TokenLine) → Front lang owner front → SpellsAll lang (kind_of (part_of owner)) deepest body acc → SpellsLine lang.version r.tokens FEnd
-    → Kept lang (finished owner (body_of acc r.number)) (front ++ (body ++ r ∷ []))
+finished_keeps : (lang : Dialect) (owner : Owner) (acc : List PureStmt) (front body : List TokenLine) (r : TokenLine) → Front lang owner front → SpellsAll lang (kind_of_body (part_of owner)) deepest body acc → SpellsLine lang.version r.tokens FEnd
+    → Kept lang (finished owner (body_with acc r.number)) (front ++ (body ++ r ∷ []))
 finished_keeps lang (OwnInitialize o t) acc front body r k c m = end_initialize lang o t acc front body r k c m
 finished_keeps lang (OwnProcessing o t) acc front body r k c m = record {
   out = k.1.out;
   own = k.1.own ++ (k.1.h ∷ (body ++ r ∷ []));
   outer = k.1.outer;
-  block = add_processing lang k.1.own (k.1.h ∷ (body ++ r ∷ [])) t k.0 (body_of acc r.number) k.1.few k.1.block (part_some k.1.h r k.1.head c m);
+  block = add_processing lang k.1.own (k.1.h ∷ (body ++ r ∷ [])) t k.0 (body_with acc r.number) k.1.few k.1.block (part_some k.1.h r k.1.head c m);
   is = head_rows lang o k.0 2 t FProcessing front body r k.1;
 }
 finished_keeps lang (OwnChange o t) acc front body r k c m = record {
   out = k.1.out;
   own = k.1.own ++ (k.1.h ∷ (body ++ r ∷ []));
   outer = k.1.outer;
-  block = add_change lang k.1.own (k.1.h ∷ (body ++ r ∷ [])) t k.0 (body_of acc r.number) k.1.few k.1.block (part_some k.1.h r k.1.head c m);
+  block = add_change lang k.1.own (k.1.h ∷ (body ++ r ∷ [])) t k.0 (body_with acc r.number) k.1.few k.1.block (part_some k.1.h r k.1.head c m);
   is = head_rows lang o k.0 3 t FChangeAttributes front body r k.1;
 }
 finished_keeps lang (OwnReinitialize o t) acc front body r k c m = record {
   out = k.1.out;
   own = k.1.own ++ (k.1.h ∷ (body ++ r ∷ []));
   outer = k.1.outer;
-  block = add_reinitialize lang k.1.own (k.1.h ∷ (body ++ r ∷ [])) t k.0 (body_of acc r.number) k.1.few k.1.block (part_some k.1.h r k.1.head c m);
+  block = add_reinitialize lang k.1.own (k.1.h ∷ (body ++ r ∷ [])) t k.0 (body_with acc r.number) k.1.few k.1.block (part_some k.1.h r k.1.head c m);
   is = head_rows lang o k.0 4 t FReinitialize front body r k.1;
 }
 finished_keeps lang (OwnProcess o d p) acc front body r k c m = end_process lang o d p acc front body r k c m
@@ -256,26 +256,26 @@ one_inside d n e h = omega (arith, e, h)
 if_opens : (lang : Dialect) (owner : Owner) (fs : List Frame) (acc : List PureStmt) (pre : List TokenLine) (r : TokenLine) (e : PureExpr) → BodyOf lang owner fs acc pre → SpellsLine lang.version r.tokens (FIf e) → length fs < 8
     → BodyOf lang owner (FrIf r.number e acc ∷ fs) [] (pre ++ r ∷ [])
 if_opens lang owner fs acc pre r e k m h =
-    let q : k.d ≡ suc (k.d - 1) = one_inside k.d (length fs) (depth lang (kind_of (part_of owner)) k.d fs acc k.body k.owns) h in
+    let q : k.d ≡ suc (k.d - 1) = one_inside k.d (length fs) (depth lang (kind_of_body (part_of owner)) k.d fs acc k.body k.owns) h in
     record {
       front = k.front;
       body = k.body ++ r ∷ [];
       d = k.d - 1;
       before = k.before;
-      owns = (k.body, [], r, subst (λ (n : ℕ). Owns lang (kind_of (part_of owner)) n fs acc k.body) q k.owns, stmts_none, m, refl, refl);
+      owns = (k.body, [], r, subst (λ (n : ℕ). Owns lang (kind_of_body (part_of owner)) n fs acc k.body) q k.owns, stmts_none, m, refl, refl);
       is = body_rows k.front k.body pre r k.is;
     }
 
 for_opens : (lang : Dialect) (owner : Owner) (fs : List Frame) (acc : List PureStmt) (pre : List TokenLine) (r : TokenLine) (name : List ℕ) (from : ℕ) (l : Limit) → BodyOf lang owner fs acc pre
     → SpellsLine lang.version r.tokens (FFor name from l) → length fs < 8 → BodyOf lang owner (FrFor r.number name from l acc ∷ fs) [] (pre ++ r ∷ [])
 for_opens lang owner fs acc pre r name from l k m h =
-    let q : k.d ≡ suc (k.d - 1) = one_inside k.d (length fs) (depth lang (kind_of (part_of owner)) k.d fs acc k.body k.owns) h in
+    let q : k.d ≡ suc (k.d - 1) = one_inside k.d (length fs) (depth lang (kind_of_body (part_of owner)) k.d fs acc k.body k.owns) h in
     record {
       front = k.front;
       body = k.body ++ r ∷ [];
       d = k.d - 1;
       before = k.before;
-      owns = (k.body, [], r, subst (λ (n : ℕ). Owns lang (kind_of (part_of owner)) n fs acc k.body) q k.owns, stmts_none, m, refl, refl);
+      owns = (k.body, [], r, subst (λ (n : ℕ). Owns lang (kind_of_body (part_of owner)) n fs acc k.body) q k.owns, stmts_none, m, refl, refl);
       is = body_rows k.front k.body pre r k.is;
     }
 
@@ -296,56 +296,56 @@ else_keeps lang owner (FrFor l name from limit outer ∷ fs) acc pre r k m = tt
 
 end_keeps : (lang : Dialect) (owner : Owner) (fs : List Frame) (acc : List PureStmt) (pre : List TokenLine) (r : TokenLine) → BodyOf lang owner fs acc pre → SpellsLine lang.version r.tokens FEnd → Kept lang (end_body owner r.number fs acc) (pre ++ r ∷ [])
 end_keeps lang owner [] acc pre r k m =
-    subst (Kept lang (finished owner (body_of acc r.number))) (sym (body_rows k.front k.body pre r k.is))
-    (finished_keeps lang owner acc k.front k.body r k.before (eight lang (kind_of (part_of owner)) k.d k.body acc k.owns.0 k.owns.1) m)
+    subst (Kept lang (finished owner (body_with acc r.number))) (sym (body_rows k.front k.body pre r k.is))
+    (finished_keeps lang owner acc k.front k.body r k.before (eight lang (kind_of_body (part_of owner)) k.d k.body acc k.owns.0 k.owns.1) m)
 end_keeps lang owner (FrIf l e outer ∷ fs) acc pre r k m =
     let o = k.owns in
-    let x : SpellsOne lang (kind_of (part_of owner)) (suc k.d) (o.2 ∷ (o.1 ++ r ∷ [])) (SIf l e (sts acc) Done)
-    = subst (λ (n : ℕ). SpellsOne lang (kind_of (part_of owner)) (suc k.d) (o.2 ∷ (o.1 ++ r ∷ [])) (SIf n e (sts acc) Done)) o.6 (choice o.2 r o.5 o.4 m) in
+    let x : SpellsOne lang (kind_of_body (part_of owner)) (suc k.d) (o.2 ∷ (o.1 ++ r ∷ [])) (SIf l e (sts acc) Done)
+    = subst (λ (n : ℕ). SpellsOne lang (kind_of_body (part_of owner)) (suc k.d) (o.2 ∷ (o.1 ++ r ∷ [])) (SIf n e (sts acc) Done)) o.6 (choice o.2 r o.5 o.4 m) in
     record {
       front = k.front;
       body = o.0 ++ (o.2 ∷ (o.1 ++ r ∷ []));
       d = suc k.d;
       before = k.before;
-      owns = grows lang (kind_of (part_of owner)) (suc k.d) fs outer o.0 (o.2 ∷ (o.1 ++ r ∷ [])) (SIf l e (sts acc) Done) o.3 x;
+      owns = grows lang (kind_of_body (part_of owner)) (suc k.d) fs outer o.0 (o.2 ∷ (o.1 ++ r ∷ [])) (SIf l e (sts acc) Done) o.3 x;
       is = body_rows k.front k.body pre r k.is ∙ ap (λ (u : List TokenLine). k.front ++ u) (ap (λ (u : List TokenLine). u ++ r ∷ []) o.7 ∙ append_assoc o.0 (o.2 ∷ o.1) (r ∷ []));
     }
 end_keeps lang owner (FrElse l e first outer ∷ fs) acc pre r k m =
     let o = k.owns in
     let rows : List TokenLine = o.3 ∷ (o.1 ++ o.4 ∷ (o.2 ++ r ∷ [])) in
-    let x : SpellsOne lang (kind_of (part_of owner)) (suc k.d) rows (SIf l e (sts first) (sts acc))
-    = subst (λ (n : ℕ). SpellsOne lang (kind_of (part_of owner)) (suc k.d) rows (SIf n e (sts first) (sts acc))) o.10 (both o.3 o.4 r o.8 o.6 o.9 o.7 m) in
+    let x : SpellsOne lang (kind_of_body (part_of owner)) (suc k.d) rows (SIf l e (sts first) (sts acc))
+    = subst (λ (n : ℕ). SpellsOne lang (kind_of_body (part_of owner)) (suc k.d) rows (SIf n e (sts first) (sts acc))) o.10 (both o.3 o.4 r o.8 o.6 o.9 o.7 m) in
     record {
       front = k.front;
       body = o.0 ++ rows;
       d = suc k.d;
       before = k.before;
-      owns = grows lang (kind_of (part_of owner)) (suc k.d) fs outer o.0 rows (SIf l e (sts first) (sts acc)) o.5 x;
+      owns = grows lang (kind_of_body (part_of owner)) (suc k.d) fs outer o.0 rows (SIf l e (sts first) (sts acc)) o.5 x;
       is = body_rows k.front k.body pre r k.is ∙ ap (λ (u : List TokenLine). k.front ++ u) (ap (λ (u : List TokenLine). u ++ r ∷ []) o.11 ∙ append_assoc o.0 (o.3 ∷ (o.1 ++ o.4 ∷ o.2)) (r ∷ [])
           ∙ ap (λ (u : List TokenLine). o.0 ++ o.3 ∷ u) (append_assoc o.1 (o.4 ∷ o.2) (r ∷ [])));
     }
 end_keeps lang owner (FrFor l name from limit outer ∷ fs) acc pre r k m =
     let o = k.owns in
-    let x : SpellsOne lang (kind_of (part_of owner)) (suc k.d) (o.2 ∷ (o.1 ++ r ∷ [])) (SFor l name from limit (sts acc))
-    = subst (λ (n : ℕ). SpellsOne lang (kind_of (part_of owner)) (suc k.d) (o.2 ∷ (o.1 ++ r ∷ [])) (SFor n name from limit (sts acc))) o.6 (turns o.2 r o.5 o.4 m) in
+    let x : SpellsOne lang (kind_of_body (part_of owner)) (suc k.d) (o.2 ∷ (o.1 ++ r ∷ [])) (SFor l name from limit (sts acc))
+    = subst (λ (n : ℕ). SpellsOne lang (kind_of_body (part_of owner)) (suc k.d) (o.2 ∷ (o.1 ++ r ∷ [])) (SFor n name from limit (sts acc))) o.6 (turns o.2 r o.5 o.4 m) in
     record {
       front = k.front;
       body = o.0 ++ (o.2 ∷ (o.1 ++ r ∷ []));
       d = suc k.d;
       before = k.before;
-      owns = grows lang (kind_of (part_of owner)) (suc k.d) fs outer o.0 (o.2 ∷ (o.1 ++ r ∷ [])) (SFor l name from limit (sts acc)) o.3 x;
+      owns = grows lang (kind_of_body (part_of owner)) (suc k.d) fs outer o.0 (o.2 ∷ (o.1 ++ r ∷ [])) (SFor l name from limit (sts acc)) o.3 x;
       is = body_rows k.front k.body pre r k.is ∙ ap (λ (u : List TokenLine). k.front ++ u) (ap (λ (u : List TokenLine). u ++ r ∷ []) o.7 ∙ append_assoc o.0 (o.2 ∷ o.1) (r ∷ []));
     }
 
 more_body_keeps : (lang : Dialect) (owner : Owner) (fs : List Frame) (acc : List PureStmt) (pre : List TokenLine) (r : TokenLine) (f : Form) → BodyOf lang owner fs acc pre → SpellsLine lang.version r.tokens f → (s : Option PureStmt)
-    → stmt_of (kind_of (part_of owner)) r.number f ≡ s → Kept lang (more_body owner fs acc s) (pre ++ r ∷ [])
+    → stmt_of (kind_of_body (part_of owner)) r.number f ≡ s → Kept lang (more_body owner fs acc s) (pre ++ r ∷ [])
 more_body_keeps lang owner fs acc pre r f k m None e = tt
 more_body_keeps lang owner fs acc pre r f k m (Some s) e = record {
   front = k.front;
   body = k.body ++ r ∷ [];
   d = k.d;
   before = k.before;
-  owns = grows lang (kind_of (part_of owner)) k.d fs acc k.body (r ∷ []) s k.owns (simple r m e);
+  owns = grows lang (kind_of_body (part_of owner)) k.d fs acc k.body (r ∷ []) s k.owns (simple r m e);
   is = body_rows k.front k.body pre r k.is;
 }
 
@@ -359,7 +359,7 @@ body_keeps lang owner fs acc (FFor name from l) pre r k m =
     (λ q. for_opens lang owner fs acc pre r name from l k m (ltb_lt (length fs) 8 q)) (λ q. tt)
 body_keeps lang owner fs acc FElse pre r k m = else_keeps lang owner fs acc pre r k m
 body_keeps lang owner fs acc FEnd pre r k m = end_keeps lang owner fs acc pre r k m
-body_keeps lang owner fs acc f pre r k m = more_body_keeps lang owner fs acc pre r f k m (stmt_of (kind_of (part_of owner)) r.number f) refl
+body_keeps lang owner fs acc f pre r k m = more_body_keeps lang owner fs acc pre r f k m (stmt_of (kind_of_body (part_of owner)) r.number f) refl
 
 initialize_keeps : (lang : Dialect) (o : Outer) (t : PureTdf) (f : Form) (pre : List TokenLine) (r : TokenLine) → InitializeOf lang o t pre → SpellsLine lang.version r.tokens f → Kept lang (goes_initialize o t r.number f) (pre ++ r ∷ [])
 initialize_keeps lang o t (FInitial port place v) pre r k m = record {
@@ -548,7 +548,7 @@ top_keeps lang o c FEnd pre r k m =
     }
 top_keeps lang o c f pre r k m = more_top_keeps lang o c pre r f k m (member_of r.number f) refl
 
-traces_keep : (lang : Dialect) (t : PureTree) (f : Form) (pre : List TokenLine) (r : TokenLine) → TracesOf lang t pre → SpellsLine lang.version r.tokens f → (x : Option PureTrace) → trace_of r.number f ≡ x → Kept lang (more_traces t x) (pre ++ r ∷ [])
+traces_keep : (lang : Dialect) (t : PureTree) (f : Form) (pre : List TokenLine) (r : TokenLine) → TracesOf lang t pre → SpellsLine lang.version r.tokens f → (x : Option PureTrace) → trace_item r.number f ≡ x → Kept lang (more_traces t x) (pre ++ r ∷ [])
 traces_keep lang t f pre r k m None e = tt
 traces_keep lang t f pre r k m (Some x) e = record {
   out = k.out;
@@ -576,7 +576,7 @@ goes_keeps lang (PDe o declares d) f pre r k m = de_keeps lang o declares d f pr
 goes_keeps lang (PProcess o d p) f pre r k m = process_keeps lang o d p f pre r k m
 goes_keeps lang (PNet o c) f pre r k m = net_keeps lang o c f pre r k m
 goes_keeps lang (PTop o c) f pre r k m = top_keeps lang o c f pre r k m
-goes_keeps lang (PTraces t) f pre r k m = traces_keep lang t f pre r k m (trace_of r.number f) refl
+goes_keeps lang (PTraces t) f pre r k m = traces_keep lang t f pre r k m (trace_item r.number f) refl
 goes_keeps lang PLost f pre r k m = tt
 
 form_keeps : (lang : Dialect) (p : Place) (pre : List TokenLine) (r : TokenLine) → Kept lang p pre → (o : Option Form) → form_of lang.version r.tokens ≡ o → Kept lang (read_form p r.number o) (pre ++ r ∷ [])

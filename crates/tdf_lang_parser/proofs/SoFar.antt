@@ -8,9 +8,9 @@ use Rattle.tdf_lang_tree.specs.Pure.{PureStmt, PureBody, PureTdfLine, PureTdf, P
 use Rattle.tdf_lang_tree.specs.declared.blocks.Attr.{Attr}
 use Rattle.tdf_lang_tree.specs.declared.blocks.Initial.{Initial}
 use Rattle.tdf_lang_tree.specs.declared.blocks.Member.{Member}
-use Rattle.tdf_lang_parser.specs.Faults.{kind_of}
+use Rattle.tdf_lang_parser.specs.Faults.{kind_of_body}
 use Rattle.tdf_lang_tree.specs.Forms.{Form, FTdf, FDe, FComposite, FTop, FEnd, FSetAttributes, FInitialize, FProcessing, FChangeAttributes, FReinitialize, FProcess, FIf, FElse, FFor}
-use Rattle.tdf_lang_parser.specs.Items.{tdf_line_of, attr_of, initial_of, de_line_of, sense_of, member_of, net_line_of, trace_of, BodyKind, Plain, OfChange}
+use Rattle.tdf_lang_parser.specs.Items.{tdf_line_of, attr_of, initial_of, de_line_of, sense_of, member_of, net_line_of, trace_item, BodyKind, Plain, OfChange}
 use Rattle.tdf_lang_lines.specs.SpellsLine.{SpellsLine}
 use Rattle.tdf_lang_parser.specs.machine.Places.{Outer, Frame, FrIf, FrElse, FrFor, Owner, OwnInitialize, OwnProcessing, OwnChange, OwnReinitialize, OwnProcess, part_of, Place, PGlobals, PTdf, PAttributes, PInitialize, PBody, PDe, PProcess, PNet, PTop, PTraces, PLost, with_global, with_decl, new_tdf}
 use Rattle.tdf_lang_parser.specs.SpellsTree.{Lines, lines_none, lines_more, SpellsOne, SpellsAll, stmts_more, no_body, SpellsPart, part_none, SpellsAttributes, attributes_none, SpellsInitialize, initialize_none, SpellsTdf, tdf, SpellsDont, SpellsProcesses, SpellsGlobal, SpellsGlobals, globals_more}
@@ -427,7 +427,7 @@ pub record TracesOf (lang : Dialect) (t : PureTree) (pre : List TokenLine) : Typ
   pub name : t.top.name ≡ codes "top"
   pub members : Lines lang member_of a t.top.members
   pub end : SpellsLine lang.version l.tokens FEnd
-  pub traces : Lines lang trace_of b t.traces
+  pub traces : Lines lang trace_item b t.traces
   pub is : pre ≡ out ++ h ∷ (a ++ l ∷ b)
 
 pub record BodyOf (lang : Dialect) (owner : Owner) (fs : List Frame) (acc : List PureStmt) (pre : List TokenLine) : Type 0 where
@@ -435,7 +435,7 @@ pub record BodyOf (lang : Dialect) (owner : Owner) (fs : List Frame) (acc : List
   pub body : List TokenLine
   pub d : ℕ
   pub before : Front lang owner front
-  pub owns : Owns lang (kind_of (part_of owner)) d fs acc body
+  pub owns : Owns lang (kind_of_body (part_of owner)) d fs acc body
   pub is : pre ≡ front ++ body
 
 pub record TopOf (lang : Dialect) (c : PureComposite) (own : List TokenLine) : Type 0 where

@@ -11,12 +11,12 @@ use Rattle.tdf_lang_tree.specs.declared.blocks.Member.{Member}
 use Rattle.tdf_lang_tree.specs.declared.blocks.Sense.{Sense}
 use Rattle.tdf_lang_tree.specs.declared.stmt.Limit.{Limit}
 use Rattle.tdf_lang_exprs.proofs.Api.{leb_true, ltb_true}
-use Rattle.tdf_lang_parser.specs.Faults.{kind_of}
+use Rattle.tdf_lang_parser.specs.Faults.{kind_of_body}
 use Rattle.tdf_lang_tree.specs.Forms.{Form, FEnd, FSetAttributes, FInitialize, FProcessing, FChangeAttributes, FReinitialize, FInitial, FProcess, FSensitive, FDontInitialize, FIf, FElse, FFor}
-use Rattle.tdf_lang_parser.specs.Items.{tdf_line_of, attr_of, initial_of, de_line_of, sense_of, member_of, net_line_of, trace_of, BodyKind, Plain, OfChange, OfProcess, stmt_of}
+use Rattle.tdf_lang_parser.specs.Items.{tdf_line_of, attr_of, initial_of, de_line_of, sense_of, member_of, net_line_of, trace_item, BodyKind, Plain, OfChange, OfProcess, stmt_of}
 use Rattle.tdf_lang_lines.specs.SpellsLine.{SpellsLine}
 use Rattle.tdf_lang_parser.specs.machine.Places.{Outer, Frame, FrIf, FrElse, FrFor, Owner, OwnInitialize, OwnProcessing, OwnChange, OwnReinitialize, OwnProcess, part_of, Place, outset, PGlobals, PTdf, PAttributes, PInitialize, PBody, PDe, PProcess, PNet, PTop, PTraces, PLost, with_global, with_decl, with_attr, with_initial, with_de_line, with_sense, with_member, with_trace, more_tdf, more_attributes, more_de, more_net, more_top, more_traces, more_body, new_net, new_de, new_process, goes, reads_row, reads_rows, read_form, finished}
-use Rattle.tdf_lang_parser.specs.SpellsTree.{Lines, lines_none, lines_more, SpellsOne, simple, choice, both, turns, SpellsAll, stmts_none, stmts_more, deepest, body_of, no_body, SpellsPart, part_none, part_some, SpellsAttributes, attributes_none, attributes_some, SpellsInitialize, initialize_none, initialize_some, SpellsTdf, tdf, SpellsDont, dont_none, dont_some, SpellsProcess, process, SpellsProcesses, processes_none, processes_more, SpellsGlobal, global_type, global_tdf, global_de, global_net, SpellsGlobals, globals_none, globals_more, SpellsModel, model}
+use Rattle.tdf_lang_parser.specs.SpellsTree.{Lines, lines_none, lines_more, SpellsOne, simple, choice, both, turns, SpellsAll, stmts_none, stmts_more, deepest, body_with, no_body, SpellsPart, part_none, part_some, SpellsAttributes, attributes_none, attributes_some, SpellsInitialize, initialize_none, initialize_some, SpellsTdf, tdf, SpellsDont, dont_none, dont_some, SpellsProcess, process, SpellsProcesses, processes_none, processes_more, SpellsGlobal, global_type, global_tdf, global_de, global_net, SpellsGlobals, globals_none, globals_more, SpellsModel, model}
 use Rattle.tdf_lang_lines.proofs.Api.{form_is}
 
 pub reads_append : (lang : Dialect) (xs ys : List TokenLine) (p : Place) → reads_rows lang p (xs ++ ys) ≡ reads_rows lang (reads_rows lang p xs) ys
@@ -99,7 +99,7 @@ pub top_step : (o : Outer) (c : PureComposite) (n : ℕ) (f : Form) (x : Member)
 top_step o c n FEnd x e = absurd cc
 top_step o c n _ x e = ap (more_top o c) e
 
-pub trace_step : (t : PureTree) (n : ℕ) (f : Form) (x : PureTrace) → trace_of n f ≡ Some x → goes (PTraces t) n f ≡ PTraces (with_trace t x)
+pub trace_step : (t : PureTree) (n : ℕ) (f : Form) (x : PureTrace) → trace_item n f ≡ Some x → goes (PTraces t) n f ≡ PTraces (with_trace t x)
 trace_step t n f x e = ap (more_traces t) e
 
 -- heads and ends are no statements by themselves
@@ -123,12 +123,12 @@ end_is_none Plain n = refl
 end_is_none OfChange n = refl
 end_is_none OfProcess n = refl
 
-pub stmt_step : (owner : Owner) (fs : List Frame) (acc : List PureStmt) (n : ℕ) (f : Form) (s : PureStmt) → stmt_of (kind_of (part_of owner)) n f ≡ Some s
+pub stmt_step : (owner : Owner) (fs : List Frame) (acc : List PureStmt) (n : ℕ) (f : Form) (s : PureStmt) → stmt_of (kind_of_body (part_of owner)) n f ≡ Some s
     → goes (PBody owner fs acc) n f ≡ PBody owner fs (acc ++ s ∷ [])
-stmt_step owner fs acc n (FIf e) s h = absurd (let q : None ≡ Some s = sym (if_is_none (kind_of (part_of owner)) n e) ∙ h in cc)
-stmt_step owner fs acc n (FFor name from l) s h = absurd (let q : None ≡ Some s = sym (for_is_none (kind_of (part_of owner)) n name from l) ∙ h in cc)
-stmt_step owner fs acc n FElse s h = absurd (let q : None ≡ Some s = sym (else_is_none (kind_of (part_of owner)) n) ∙ h in cc)
-stmt_step owner fs acc n FEnd s h = absurd (let q : None ≡ Some s = sym (end_is_none (kind_of (part_of owner)) n) ∙ h in cc)
+stmt_step owner fs acc n (FIf e) s h = absurd (let q : None ≡ Some s = sym (if_is_none (kind_of_body (part_of owner)) n e) ∙ h in cc)
+stmt_step owner fs acc n (FFor name from l) s h = absurd (let q : None ≡ Some s = sym (for_is_none (kind_of_body (part_of owner)) n name from l) ∙ h in cc)
+stmt_step owner fs acc n FElse s h = absurd (let q : None ≡ Some s = sym (else_is_none (kind_of_body (part_of owner)) n) ∙ h in cc)
+stmt_step owner fs acc n FEnd s h = absurd (let q : None ≡ Some s = sym (end_is_none (kind_of_body (part_of owner)) n) ∙ h in cc)
 stmt_step owner fs acc n _ s h = ap (more_body owner fs acc) h
 
 -- a head that may stand there
@@ -141,7 +141,7 @@ none_read lang owner fs acc = ap (PBody owner fs) (sym (append-nil acc))
 
 mutual
   pub reads_one : (lang : Dialect) {k : BodyKind} {d : ℕ} {a : List TokenLine} {s : PureStmt} → SpellsOne lang k d a s → (owner : Owner) (fs : List Frame) (acc : List PureStmt)
-      → kind_of (part_of owner) ≡ k → d + length fs ≡ 8 → reads_rows lang (PBody owner fs acc) a ≡ PBody owner fs (acc ++ s ∷ [])
+      → kind_of_body (part_of owner) ≡ k → d + length fs ≡ 8 → reads_rows lang (PBody owner fs acc) a ≡ PBody owner fs (acc ++ s ∷ [])
   reads_one lang (simple {k = k} {f = f} {s = s} h m e) owner fs acc q r =
       one_line lang (PBody owner fs acc) (PBody owner fs (acc ++ s ∷ [])) h m
       (stmt_step owner fs acc h.number f s (subst (λ (j : BodyKind). stmt_of j h.number f ≡ Some s) (sym q) e))
@@ -172,18 +172,18 @@ mutual
       (one_line lang (PBody owner (fr ∷ fs) body) _ e n refl))
 
   pub reads_all : (lang : Dialect) {k : BodyKind} {d : ℕ} {a : List TokenLine} {ss : List PureStmt} → SpellsAll lang k d a ss → (owner : Owner) (fs : List Frame) (acc : List PureStmt)
-      → kind_of (part_of owner) ≡ k → d + length fs ≡ 8 → reads_rows lang (PBody owner fs acc) a ≡ PBody owner fs (acc ++ ss)
+      → kind_of_body (part_of owner) ≡ k → d + length fs ≡ 8 → reads_rows lang (PBody owner fs acc) a ≡ PBody owner fs (acc ++ ss)
   reads_all lang stmts_none owner fs acc q r = none_read lang owner fs acc
   reads_all lang (stmts_more {a = a} {b = b} {ss = ss} {s = s} c d) owner fs acc q r =
       then_reads lang (PBody owner fs acc) (PBody owner fs (acc ++ ss)) (PBody owner fs (acc ++ (ss ++ s ∷ []))) a b (reads_all lang c owner fs acc q r)
       (reads_one lang d owner fs (acc ++ ss) q r ∙ ap (PBody owner fs) (append_assoc acc ss (s ∷ [])))
 
 -- a body and its `end`
-body_reads : (lang : Dialect) {k : BodyKind} {a : List TokenLine} {ss : List PureStmt} → SpellsAll lang k deepest a ss → (owner : Owner) → kind_of (part_of owner) ≡ k → (l : TokenLine) → SpellsLine lang.version l.tokens FEnd
-    → reads_rows lang (PBody owner [] []) (a ++ l ∷ []) ≡ finished owner (body_of ss l.number)
+body_reads : (lang : Dialect) {k : BodyKind} {a : List TokenLine} {ss : List PureStmt} → SpellsAll lang k deepest a ss → (owner : Owner) → kind_of_body (part_of owner) ≡ k → (l : TokenLine) → SpellsLine lang.version l.tokens FEnd
+    → reads_rows lang (PBody owner [] []) (a ++ l ∷ []) ≡ finished owner (body_with ss l.number)
 body_reads lang {a = a} {ss = ss} c owner q l m =
-    then_reads lang (PBody owner [] []) (PBody owner [] ss) (finished owner (body_of ss l.number)) a (l ∷ []) (reads_all lang c owner [] [] q refl)
-    (one_line lang (PBody owner [] ss) (finished owner (body_of ss l.number)) l m refl)
+    then_reads lang (PBody owner [] []) (PBody owner [] ss) (finished owner (body_with ss l.number)) a (l ∷ []) (reads_all lang c owner [] [] q refl)
+    (one_line lang (PBody owner [] ss) (finished owner (body_with ss l.number)) l m refl)
 
 -- where the rows of a part lead: the block with that part, before a part that stands after it
 pub record LeadsTo (lang : Dialect) (p : Place) (rows : List TokenLine) (o : Outer) (most : ℕ) (t : PureTdf) : Type 0 where
@@ -294,7 +294,7 @@ some_rows : (a : List TokenLine) (l : TokenLine) → 0 < length (a ++ l ∷ [])
 some_rows a l = omega (arith, length-append a (l ∷ []))
 
 initialize_end : (lang : Dialect) {b : List TokenLine} {ss : List PureStmt} → SpellsAll lang Plain deepest b ss → (o : Outer) (t : PureTdf) (l : TokenLine) → SpellsLine lang.version l.tokens FEnd
-    → reads_rows lang (PInitialize o t) (b ++ l ∷ []) ≡ PTdf o 2 (record t { initialize = body_of ss l.number })
+    → reads_rows lang (PInitialize o t) (b ++ l ∷ []) ≡ PTdf o 2 (record t { initialize = body_with ss l.number })
 initialize_end lang {b = b} c o t l m = skip_initial lang o t (b ++ l ∷ []) (begins_end lang c l m) (some_rows b l) ∙ body_reads lang c (OwnInitialize o t) refl l m
 
 initialize_read : (lang : Dialect) {c : List TokenLine} {xs : List Initial} {body : PureBody} → SpellsInitialize lang c xs body → (o : Outer) (parts : ℕ) → parts ≤ 1 → (line : ℕ) (name : List ℕ)
@@ -305,7 +305,7 @@ initialize_read lang initialize_none o parts h line name decls attrs =
 initialize_read lang (initialize_some {a = a} {b = b} {xs = xs} {ss = ss} h l m d c n) o parts k line name decls attrs =
     let t : PureTdf = tdf_with line name decls attrs [] no_body no_body no_body no_body in
     let u : PureTdf = tdf_with line name decls attrs xs no_body no_body no_body no_body in
-    let v : PureTdf = tdf_with line name decls attrs xs (body_of ss l.number) no_body no_body no_body in
+    let v : PureTdf = tdf_with line name decls attrs xs (body_with ss l.number) no_body no_body no_body in
     record {
       parts = 2;
       few = omega arith;
@@ -390,7 +390,7 @@ tdf_reads lang (tdf {a = a} {b = b} {c = c} {d = d} {e = e} {f = f} {name = name
 dont_reads : (lang : Dialect) {b : List TokenLine} {starts : Bool} → SpellsDont lang b starts → (o : Outer) (d : PureDe) (n : ℕ) (senses : List Sense) {c : List TokenLine} {ss : List PureStmt} → SpellsAll lang OfProcess deepest c ss
     → (l : TokenLine) → SpellsLine lang.version l.tokens FEnd
     → reads_rows lang (PProcess o d (record { line = n; sensitive = senses; starts = true; body = no_body })) (b ++ (c ++ l ∷ []))
-    ≡ PDe o false (record d { processes = d.processes ++ (record { line = n; sensitive = senses; starts = starts; body = body_of ss l.number }) ∷ [] })
+    ≡ PDe o false (record d { processes = d.processes ++ (record { line = n; sensitive = senses; starts = starts; body = body_with ss l.number }) ∷ [] })
 dont_reads lang dont_none o d n senses {c = c} e l m =
     let p : PureProcess = record { line = n; sensitive = senses; starts = true; body = no_body } in
     skip_sense lang o d p (c ++ l ∷ []) (begins_end lang e l m) (some_rows c l) ∙ body_reads lang e (OwnProcess o d p) refl l m
@@ -469,5 +469,5 @@ model_reads lang (model {a = a} {b = b} {c = c} {globals = globals} {members = m
     (lines_read lang member_of (λ ys. PTop o (record { line = t.number; name = codes "top"; members = ys }))
     (λ ys i f y q. top_step o (record { line = t.number; name = codes "top"; members = ys }) i f y q) ms)
     (line_reads lang (PTop o top) (PTraces (record { version = lang.version; resolution = lang.resolution; globals = globals; top = top; traces = [] })) _ l c k refl
-    (lines_read lang trace_of (λ ys. PTraces (record { version = lang.version; resolution = lang.resolution; globals = globals; top = top; traces = ys }))
+    (lines_read lang trace_item (λ ys. PTraces (record { version = lang.version; resolution = lang.resolution; globals = globals; top = top; traces = ys }))
     (λ ys i f y q. trace_step (record { version = lang.version; resolution = lang.resolution; globals = globals; top = top; traces = ys }) i f y q) ts))))

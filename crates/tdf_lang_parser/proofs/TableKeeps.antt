@@ -1,6 +1,6 @@
 -- What each table makes of the form of a line: it keeps what the form keeps, and has the number of the line.
 use Rattle.std.proofs.Common.{◌≡◌, ℕ, List, [], ◌∷◌, Option, Some, None, refl}
-use Rattle.tdf_lang_parser.specs.Items.{tdf_line_of, attr_of, initial_of, de_port_of, de_line_of, sense_of, member_of, net_line_of, trace_of, BodyKind, Plain, OfChange, OfProcess, plain_of, change_of, process_of, stmt_of}
+use Rattle.tdf_lang_parser.specs.Items.{tdf_line_of, attr_of, initial_of, de_port_of, de_line_of, sense_of, member_of, net_line_of, trace_item, BodyKind, Plain, OfChange, OfProcess, plain_of, change_statement, process_of, stmt_of}
 use Rattle.tdf_lang_lines.proofs.Api.{KeepsForm}
 use Rattle.tdf_lang_tree.specs.Forms.{Form, FPort, FConst, FVar, FArray, FRateVar, FStep, FRate, FDelay, FDoes, FAccept, FReject, FInitial, FEvent, FSensitive, FNotify, FSignal, FDeSignal, FInstance, FBind, FTrace, FAssign, FSetRate}
 use Rattle.tdf_lang_tree.specs.Kept.{IsName, KeepsFormat, KeepsTdfLine, KeepsAttr, KeepsInitial, KeepsDeLine, KeepsSense, KeepsMember, KeepsTrace, KeepsStmt}
@@ -68,7 +68,7 @@ net_line_keeps line (FInstance name block) h = (h, refl)
 net_line_keeps line (FBind instance port target) h = (h, refl)
 net_line_keeps line _ h = tt
 
-pub trace_keeps : (line : ℕ) (f : Form) → KeepsForm f → KeepsMade KeepsTrace line_of_trace line (trace_of line f)
+pub trace_keeps : (line : ℕ) (f : Form) → KeepsForm f → KeepsMade KeepsTrace line_of_trace line (trace_item line f)
 trace_keeps line (FTrace path label) h = (h, refl)
 trace_keeps line _ h = tt
 
@@ -76,7 +76,7 @@ plain_keeps : (d line : ℕ) (f : Form) → KeepsForm f → KeepsMade (KeepsStmt
 plain_keeps d line (FAssign name i e) h = (h, refl)
 plain_keeps d line _ h = tt
 
-change_keeps : (d line : ℕ) (f : Form) → KeepsForm f → KeepsMade (KeepsStmt d) lines_of_stmt (line ∷ []) (change_of line f)
+change_keeps : (d line : ℕ) (f : Form) → KeepsForm f → KeepsMade (KeepsStmt d) lines_of_stmt (line ∷ []) (change_statement line f)
 change_keeps d line (FSetRate name e) h = (h, refl)
 change_keeps d line (FStep port step) h = (h, refl)
 change_keeps d line FAccept h = (tt, refl)

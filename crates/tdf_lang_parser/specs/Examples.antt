@@ -18,9 +18,9 @@ use Rattle.tdf_lang_tree.specs.declared.stmt.Limit.TheVariants as limit
 use Rattle.tdf_lang_parser.specs.SpellsTree.{no_body}
 
 -- a text of lines, each with its LF
-abbrev pub text_of : List (List ℕ) → List ℕ
-text_of [] = []
-text_of (line ∷ rest) = line ++ 10 ∷ text_of rest
+abbrev pub example_text : List (List ℕ) → List ℕ
+example_text [] = []
+example_text (line ∷ rest) = line ++ 10 ∷ example_text rest
 
 -- parts of trees
 abbrev pub w_format : FormatRef
@@ -55,21 +55,21 @@ tdf_bodies initialize processing change reinitialize = GTdf (record {
 
 -- the smallest text
 abbrev pub smallest_text : List ℕ
-smallest_text = text_of (codes "language 1" ∷ codes "top" ∷ codes "end" ∷ [])
+smallest_text = example_text (codes "language 1" ∷ codes "top" ∷ codes "end" ∷ [])
 
 abbrev pub smallest_tree : PureTree
 smallest_tree = tree_with [] 2
 
 -- a tab, comments, a blank line, and a last line without LF
 abbrev pub loose_text : List ℕ
-loose_text = text_of ((codes "language" ++ 9 ∷ codes "1 # the first") ∷ [] ∷ codes "  # nothing" ∷ (codes "  top" ++ 9 ∷ []) ∷ []) ++ codes "end#"
+loose_text = example_text ((codes "language" ++ 9 ∷ codes "1 # the first") ∷ [] ∷ codes "  # nothing" ∷ (codes "  top" ++ 9 ∷ []) ∷ []) ++ codes "end#"
 
 abbrev pub loose_tree : PureTree
 loose_tree = tree_with [] 4
 
 -- a type, a composite block, signals, instances, bindings and a trace
 abbrev pub net_text : List ℕ
-net_text = text_of (codes "language 1" ∷ codes "type w fixed 08 4 rnd sat" ∷ codes "composite c" ∷ codes "in x w" ∷ codes "out y ufixed 16 2 rnd_conv" ∷ codes "signal s w"
+net_text = example_text (codes "language 1" ∷ codes "type w fixed 08 4 rnd sat" ∷ codes "composite c" ∷ codes "in x w" ∷ codes "out y ufixed 16 2 rnd_conv" ∷ codes "signal s w"
     ∷ codes "end" ∷ codes "top" ∷ codes "de_signal d w -0.50" ∷ codes "signal t w" ∷ codes "instance u c" ∷ codes "bind u . x t" ∷ codes "end" ∷ codes "trace u.s label" ∷ [])
 
 abbrev pub net_tree : PureTree
@@ -95,7 +95,7 @@ net_tree = record {
 
 -- the lines of a `tdf` block before its parts
 abbrev pub decls_text : List ℕ
-decls_text = text_of (codes "language 1" ∷ codes "tdf m" ∷ codes "de_in x w" ∷ codes "de_out y w" ∷ codes "const k w 01.50" ∷ codes "var v w - 5" ∷ codes "var u w"
+decls_text = example_text (codes "language 1" ∷ codes "tdf m" ∷ codes "de_in x w" ∷ codes "de_out y w" ∷ codes "const k w 01.50" ∷ codes "var v w - 5" ∷ codes "var u w"
     ∷ codes "array h w 3 0.25 - 0 7" ∷ codes "rate r 1 4 2" ∷ codes "end" ∷ codes "top" ∷ codes "end" ∷ [])
 
 abbrev pub decls_tree : PureTree
@@ -116,7 +116,7 @@ decls_tree = tree_with (GTdf (record {
 
 -- the lines of `set_attributes`
 abbrev pub attributes_text : List ℕ
-attributes_text = text_of (codes "language 1" ∷ codes "tdf m" ∷ codes "set_attributes" ∷ codes "timestep 2.5us" ∷ codes "timestep x 1ps" ∷ codes "rate x 3" ∷ codes "rate y r"
+attributes_text = example_text (codes "language 1" ∷ codes "tdf m" ∷ codes "set_attributes" ∷ codes "timestep 2.5us" ∷ codes "timestep x 1ps" ∷ codes "rate x 3" ∷ codes "rate y r"
     ∷ codes "delay y 2" ∷ codes "does_attribute_changes" ∷ codes "accept_attribute_changes" ∷ codes "reject_attribute_changes" ∷ codes "end" ∷ codes "end" ∷ codes "top" ∷ codes "end" ∷ [])
 
 abbrev pub attributes_tree : PureTree
@@ -135,7 +135,7 @@ attributes_tree = tree_with (GTdf (record {
 
 -- `initial` lines and statements of `initialize`
 abbrev pub initialize_text : List ℕ
-initialize_text = text_of (codes "language 1" ∷ codes "tdf m" ∷ codes "initialize" ∷ codes "initial y 0 -1" ∷ codes "initial y 1 2" ∷ codes "v = 3" ∷ codes "end" ∷ codes "end"
+initialize_text = example_text (codes "language 1" ∷ codes "tdf m" ∷ codes "initialize" ∷ codes "initial y 0 -1" ∷ codes "initial y 1 2" ∷ codes "v = 3" ∷ codes "end" ∷ codes "end"
     ∷ codes "top" ∷ codes "end" ∷ [])
 
 abbrev pub initialize_tree : PureTree
@@ -153,7 +153,7 @@ initialize_tree = tree_with (GTdf (record {
 
 -- an `if` with `else` in a `for`
 abbrev pub nested_text : List ℕ
-nested_text = text_of (codes "language 1" ∷ codes "tdf m" ∷ codes "processing" ∷ codes "for i 0 r" ∷ codes "if x[i] > 0" ∷ codes "y[i + 1] = x[2 - i]" ∷ codes "else" ∷ codes "y = -x"
+nested_text = example_text (codes "language 1" ∷ codes "tdf m" ∷ codes "processing" ∷ codes "for i 0 r" ∷ codes "if x[i] > 0" ∷ codes "y[i + 1] = x[2 - i]" ∷ codes "else" ∷ codes "y = -x"
     ∷ codes "end" ∷ codes "end" ∷ codes "end" ∷ codes "end" ∷ codes "top" ∷ codes "end" ∷ [])
 
 abbrev pub nested_tree : PureTree
@@ -167,7 +167,7 @@ nested_tree = tree_with (tdf_bodies no_body (record {
 
 -- a `select` of casts, parentheses, levels of operators
 abbrev pub operators_text : List ℕ
-operators_text = text_of (codes "language 1" ∷ codes "tdf m" ∷ codes "processing" ∷ codes "y = select(not a < b and c, T(x), U((x + 1)))" ∷ codes "y = a - b - c * d << 2"
+operators_text = example_text (codes "language 1" ∷ codes "tdf m" ∷ codes "processing" ∷ codes "y = select(not a < b and c, T(x), U((x + 1)))" ∷ codes "y = a - b - c * d << 2"
     ∷ codes "y = (a or b) >= -3.10" ∷ codes "end" ∷ codes "end" ∷ codes "top" ∷ codes "end" ∷ [])
 
 abbrev pub operators_tree : PureTree
@@ -181,7 +181,7 @@ operators_tree = tree_with (tdf_bodies no_body (record {
 
 -- the statements of a change body, and a body of `reinitialize`
 abbrev pub change_text : List ℕ
-change_text = text_of (codes "language 1" ∷ codes "tdf m" ∷ codes "change_attributes" ∷ codes "rate r = 2" ∷ codes "timestep 1ms" ∷ codes "timestep x 1ns" ∷ codes "if a"
+change_text = example_text (codes "language 1" ∷ codes "tdf m" ∷ codes "change_attributes" ∷ codes "rate r = 2" ∷ codes "timestep 1ms" ∷ codes "timestep x 1ns" ∷ codes "if a"
     ∷ codes "accept_attribute_changes" ∷ codes "end" ∷ codes "reject_attribute_changes" ∷ codes "end" ∷ codes "reinitialize" ∷ codes "v = 0" ∷ codes "end" ∷ codes "end" ∷ codes "top" ∷ codes "end" ∷ [])
 
 abbrev pub change_tree : PureTree
@@ -193,7 +193,7 @@ change_tree = tree_with (tdf_bodies no_body no_body (record {
 
 -- empty parts, and an empty `else`, equal absent ones; an empty `if` and `for` stay
 abbrev pub empty_text : List ℕ
-empty_text = text_of (codes "language 1" ∷ codes "tdf m" ∷ codes "set_attributes" ∷ codes "end" ∷ codes "initialize" ∷ codes "end" ∷ codes "processing" ∷ codes "if a" ∷ codes "else" ∷ codes "end"
+empty_text = example_text (codes "language 1" ∷ codes "tdf m" ∷ codes "set_attributes" ∷ codes "end" ∷ codes "initialize" ∷ codes "end" ∷ codes "processing" ∷ codes "if a" ∷ codes "else" ∷ codes "end"
     ∷ codes "for i 0 4" ∷ codes "end" ∷ codes "end" ∷ codes "change_attributes" ∷ codes "end" ∷ codes "reinitialize" ∷ codes "end" ∷ codes "end" ∷ codes "de d" ∷ codes "process" ∷ codes "end" ∷ codes "end"
     ∷ codes "composite c" ∷ codes "end" ∷ codes "top" ∷ codes "end" ∷ [])
 
@@ -207,7 +207,7 @@ empty_tree = tree_with (tdf_bodies no_body (record {
 
 -- a `de` block
 abbrev pub de_text : List ℕ
-de_text = text_of (codes "language 1" ∷ codes "de d" ∷ codes "de_in x w" ∷ codes "var v w" ∷ codes "event e" ∷ codes "process" ∷ codes "sensitive e" ∷ codes "sensitive x" ∷ codes "dont_initialize"
+de_text = example_text (codes "language 1" ∷ codes "de d" ∷ codes "de_in x w" ∷ codes "var v w" ∷ codes "event e" ∷ codes "process" ∷ codes "sensitive e" ∷ codes "sensitive x" ∷ codes "dont_initialize"
     ∷ codes "notify e after 3ns" ∷ codes "end" ∷ codes "process" ∷ codes "notify e" ∷ codes "v = x" ∷ codes "end" ∷ codes "end" ∷ codes "top" ∷ codes "end" ∷ [])
 
 abbrev pub de_tree : PureTree
@@ -227,7 +227,7 @@ de_tree = tree_with (GDe (record {
 
 -- version 2: a rate, a limit and indices that are multiples
 abbrev pub multiples_text : List ℕ
-multiples_text = text_of (codes "language 2" ∷ codes "tdf m" ∷ codes "set_attributes" ∷ codes "rate y 2 * r" ∷ codes "end" ∷ codes "processing"
+multiples_text = example_text (codes "language 2" ∷ codes "tdf m" ∷ codes "set_attributes" ∷ codes "rate y 2 * r" ∷ codes "end" ∷ codes "processing"
     ∷ codes "for i 0 3*r" ∷ codes "y[2 * i] = x[02 * i + 1]" ∷ codes "end" ∷ codes "end" ∷ codes "end" ∷ codes "top" ∷ codes "end" ∷ [])
 
 abbrev pub multiples_tree : PureTree
@@ -249,7 +249,7 @@ multiples_tree = record (tree_with (GTdf (record {
 
 -- version 3 at 1 fs
 abbrev pub femtoseconds_text : List ℕ
-femtoseconds_text = text_of (codes "language 3" ∷ codes "resolution 1fs" ∷ codes "tdf m" ∷ codes "set_attributes" ∷ codes "timestep 0.25ps" ∷ codes "end"
+femtoseconds_text = example_text (codes "language 3" ∷ codes "resolution 1fs" ∷ codes "tdf m" ∷ codes "set_attributes" ∷ codes "timestep 0.25ps" ∷ codes "end"
     ∷ codes "end" ∷ codes "top" ∷ codes "end" ∷ [])
 
 abbrev pub femtoseconds_tree : PureTree
@@ -267,7 +267,7 @@ femtoseconds_tree = record (tree_with (GTdf (record {
 
 -- version 3 without a resolution line has the unit fs all the same: 1000 of them are 1 ps
 abbrev pub no_resolution_text : List ℕ
-no_resolution_text = text_of (codes "language 3" ∷ codes "tdf m" ∷ codes "set_attributes" ∷ codes "timestep 1000fs" ∷ codes "end" ∷ codes "end"
+no_resolution_text = example_text (codes "language 3" ∷ codes "tdf m" ∷ codes "set_attributes" ∷ codes "timestep 1000fs" ∷ codes "end" ∷ codes "end"
     ∷ codes "top" ∷ codes "end" ∷ [])
 
 abbrev pub no_resolution_tree : PureTree
@@ -285,40 +285,40 @@ no_resolution_tree = record (tree_with (GTdf (record {
 
 -- a text at fault on line 1: numbers in the grammar are spellings
 abbrev pub version_text : List ℕ
-version_text = text_of (codes "language 01" ∷ codes "top" ∷ codes "end" ∷ [])
+version_text = example_text (codes "language 01" ∷ codes "top" ∷ codes "end" ∷ [])
 
 -- a text at fault on line 6, a second `else`
 abbrev pub else_text : List ℕ
-else_text = text_of (codes "language 1" ∷ codes "tdf m" ∷ codes "processing" ∷ codes "if a" ∷ codes "else" ∷ codes "else" ∷ [])
+else_text = example_text (codes "language 1" ∷ codes "tdf m" ∷ codes "processing" ∷ codes "if a" ∷ codes "else" ∷ codes "else" ∷ [])
 
 -- a text at fault on line 12, an `if` nested 9 deep
 abbrev pub deep_text : List ℕ
-deep_text = text_of (codes "language 1" ∷ codes "tdf m" ∷ codes "processing" ∷ codes "if a" ∷ codes "for i 0 1" ∷ codes "if a" ∷ codes "for j 0 1" ∷ codes "if a" ∷ codes "for k 0 1" ∷ codes "if a"
+deep_text = example_text (codes "language 1" ∷ codes "tdf m" ∷ codes "processing" ∷ codes "if a" ∷ codes "for i 0 1" ∷ codes "if a" ∷ codes "for j 0 1" ∷ codes "if a" ∷ codes "for k 0 1" ∷ codes "if a"
     ∷ codes "for l 0 1" ∷ codes "if a" ∷ [])
 
 -- a text at fault on line 5, a part after a later one
 abbrev pub order_text : List ℕ
-order_text = text_of (codes "language 1" ∷ codes "tdf m" ∷ codes "processing" ∷ codes "end" ∷ codes "initialize" ∷ [])
+order_text = example_text (codes "language 1" ∷ codes "tdf m" ∷ codes "processing" ∷ codes "end" ∷ codes "initialize" ∷ [])
 
 -- a text of four lines that doesn't end after `top`: the fault is on line 5
 abbrev pub open_text : List ℕ
-open_text = text_of (codes "language 1" ∷ codes "" ∷ codes "tdf m" ∷ []) ++ codes " "
+open_text = example_text (codes "language 1" ∷ codes "" ∷ codes "tdf m" ∷ []) ++ codes " "
 
 -- a text at fault on line 4: a comparison has no third operand
 abbrev pub chain_text : List ℕ
-chain_text = text_of (codes "language 1" ∷ codes "tdf m" ∷ codes "processing" ∷ codes "y = a < b < c" ∷ [])
+chain_text = example_text (codes "language 1" ∷ codes "tdf m" ∷ codes "processing" ∷ codes "y = a < b < c" ∷ [])
 
 -- a text at fault on line 4: version 1 has no multiples
 abbrev pub early_text : List ℕ
-early_text = text_of (codes "language 1" ∷ codes "tdf m" ∷ codes "set_attributes" ∷ codes "rate y 2 * r" ∷ [])
+early_text = example_text (codes "language 1" ∷ codes "tdf m" ∷ codes "set_attributes" ∷ codes "rate y 2 * r" ∷ [])
 
 -- texts at fault on line 3: a second resolution line, and one after a `type` line
 abbrev pub second_text : List ℕ
-second_text = text_of (codes "language 3" ∷ codes "resolution 1fs" ∷ codes "resolution 1fs" ∷ codes "top" ∷ codes "end" ∷ [])
+second_text = example_text (codes "language 3" ∷ codes "resolution 1fs" ∷ codes "resolution 1fs" ∷ codes "top" ∷ codes "end" ∷ [])
 
 abbrev pub late_text : List ℕ
-late_text = text_of (codes "language 3" ∷ codes "type w fixed 8 8" ∷ codes "resolution 1ps" ∷ codes "top" ∷ codes "end" ∷ [])
+late_text = example_text (codes "language 3" ∷ codes "type w fixed 8 8" ∷ codes "resolution 1ps" ∷ codes "top" ∷ codes "end" ∷ [])
 
 -- a text at fault on line 4: 1 fs is no whole count of 1 ps
-abbrev pub unit_text : List ℕ
-unit_text = text_of (codes "language 3" ∷ codes "tdf m" ∷ codes "set_attributes" ∷ codes "timestep 1fs" ∷ codes "end" ∷ [])
+abbrev pub unit_example : List ℕ
+unit_example = example_text (codes "language 3" ∷ codes "tdf m" ∷ codes "set_attributes" ∷ codes "timestep 1fs" ∷ codes "end" ∷ [])

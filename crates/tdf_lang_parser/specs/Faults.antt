@@ -91,12 +91,12 @@ pub data Part : Type 0 where
   Reinitialize : Part
   Process : Part
 
-abbrev pub kind_of : Part → BodyKind
-kind_of Initialize = Plain
-kind_of Processing = Plain
-kind_of Change = OfChange
-kind_of Reinitialize = Plain
-kind_of Process = OfProcess
+abbrev pub kind_of_body : Part → BodyKind
+kind_of_body Initialize = Plain
+kind_of_body Processing = Plain
+kind_of_body Change = OfChange
+kind_of_body Reinitialize = Plain
+kind_of_body Process = OfProcess
 
 -- an open `if` before and after its `else`, and an open `for`
 pub data Nest : Type 0 where
@@ -122,16 +122,16 @@ abbrev pub if_so : Bool → Where → Option Where
 if_so b w = cond b (Some w) None
 
 -- the place that holds a body, after its `end`
-abbrev pub after_body : Part → Where
-after_body Initialize = InTdf 2
-after_body Processing = InTdf 3
-after_body Change = InTdf 4
-after_body Reinitialize = InTdf 5
-after_body Process = InDe false
+abbrev pub where_after_body : Part → Where
+where_after_body Initialize = InTdf 2
+where_after_body Processing = InTdf 3
+where_after_body Change = InTdf 4
+where_after_body Reinitialize = InTdf 5
+where_after_body Process = InDe false
 
 -- `end` closes the block that was opened last
 abbrev pub after_end : Part → List Nest → Where
-after_end part [] = after_body part
+after_end part [] = where_after_body part
 after_end part (nest ∷ nests) = InBody part nests
 
 -- `else` comes once in an `if`
@@ -148,7 +148,7 @@ in_body part nests KIf = after_head part NIf nests
 in_body part nests KFor = after_head part NFor nests
 in_body part nests KElse = after_else part nests
 in_body part nests KEnd = Some (after_end part nests)
-in_body part nests f = if_so (is_statement (kind_of part) f) (InBody part nests)
+in_body part nests f = if_so (is_statement (kind_of_body part) f) (InBody part nests)
 
 -- the heads of the five parts come in their order, each at most once
 abbrev pub in_tdf : ℕ → Kind → Option Where
@@ -168,34 +168,34 @@ in_de true f = if_so (is_de_line f) (InDe true)
 in_de false f = None
 
 -- `next w k`: where a line of kind k leads from place w, if w allows it
-abbrev pub next : Where → Kind → Option Where
-next AtGlobals KType = Some AtGlobals
-next AtGlobals KTdf = Some (InTdf 0)
-next AtGlobals KDe = Some (InDe true)
-next AtGlobals KComposite = Some InComposite
-next AtGlobals KTop = Some InTop
-next AtGlobals _ = None
-next (InTdf parts) f = in_tdf parts f
-next InAttributes KEnd = Some (InTdf 1)
-next InAttributes f = if_so (is_attribute f) InAttributes
-next InInitialize KInitial = Some InInitialize
-next InInitialize f = in_body Initialize [] f
-next (InBody part nests) f = in_body part nests f
-next (InDe declares) f = in_de declares f
-next InProcess KSensitive = Some InProcess
-next InProcess KDontInitialize = Some (InBody Process [])
-next InProcess f = in_body Process [] f
-next InComposite KEnd = Some AtGlobals
-next InComposite f = if_so (is_net_line f) InComposite
-next InTop KEnd = Some AtTraces
-next InTop f = if_so (is_member f) InTop
-next AtTraces f = if_so (is_trace f) AtTraces
+abbrev pub where_next : Where → Kind → Option Where
+where_next AtGlobals KType = Some AtGlobals
+where_next AtGlobals KTdf = Some (InTdf 0)
+where_next AtGlobals KDe = Some (InDe true)
+where_next AtGlobals KComposite = Some InComposite
+where_next AtGlobals KTop = Some InTop
+where_next AtGlobals _ = None
+where_next (InTdf parts) f = in_tdf parts f
+where_next InAttributes KEnd = Some (InTdf 1)
+where_next InAttributes f = if_so (is_attribute f) InAttributes
+where_next InInitialize KInitial = Some InInitialize
+where_next InInitialize f = in_body Initialize [] f
+where_next (InBody part nests) f = in_body part nests f
+where_next (InDe declares) f = in_de declares f
+where_next InProcess KSensitive = Some InProcess
+where_next InProcess KDontInitialize = Some (InBody Process [])
+where_next InProcess f = in_body Process [] f
+where_next InComposite KEnd = Some AtGlobals
+where_next InComposite f = if_so (is_net_line f) InComposite
+where_next InTop KEnd = Some AtTraces
+where_next InTop f = if_so (is_member f) InTop
+where_next AtTraces f = if_so (is_trace f) AtTraces
 
 -- the tokens are a line of a kind that the place w allows, and it leads to v
 pub record Allows (lang : Dialect) (w : Where) (ts : List Tok) (v : Where) : Type 0 where
   pub kind : Kind
   pub line : FitsLine lang.version ts kind
-  pub leads : next w kind ≡ Some v
+  pub leads : where_next w kind ≡ Some v
 
 -- `Faults lang w lines after n`: from place w on the first line at fault is n; where no line is at fault and the lines don't end in the
 -- place of the traces, it is the number of all lines plus 1

@@ -70,9 +70,9 @@ net_line_of line (FPort kind name x) = Some (member.Port (record { line = line; 
 net_line_of line f = member_of line f
 
 -- a line after `top`
-abbrev pub trace_of : ℕ → Form → Option PureTrace
-trace_of line (FTrace path label) = Some (record { line = line; path = path; label = label })
-trace_of line _ = None
+abbrev pub trace_item : ℕ → Form → Option PureTrace
+trace_item line (FTrace path label) = Some (record { line = line; path = path; label = label })
+trace_item line _ = None
 
 -- which statements a body may hold: those of every body; in a change body the assignments of attributes; in a process notifications
 pub data BodyKind : Type 0 where
@@ -86,12 +86,12 @@ plain_of line (FAssign name i e) = Some (SAssign line name i e)
 plain_of line _ = None
 
 -- a statement of a change body
-abbrev pub change_of : ℕ → Form → Option PureStmt
-change_of line (FSetRate name e) = Some (SSetRate line name e)
-change_of line (FStep port step) = Some (SSetStep line port step)
-change_of line FAccept = Some (SAccept line)
-change_of line FReject = Some (SReject line)
-change_of line f = plain_of line f
+abbrev pub change_statement : ℕ → Form → Option PureStmt
+change_statement line (FSetRate name e) = Some (SSetRate line name e)
+change_statement line (FStep port step) = Some (SSetStep line port step)
+change_statement line FAccept = Some (SAccept line)
+change_statement line FReject = Some (SReject line)
+change_statement line f = plain_of line f
 
 -- a statement of a process
 abbrev pub process_of : ℕ → Form → Option PureStmt
@@ -101,5 +101,5 @@ process_of line f = plain_of line f
 -- a statement that holds no other
 abbrev pub stmt_of : BodyKind → ℕ → Form → Option PureStmt
 stmt_of Plain line f = plain_of line f
-stmt_of OfChange line f = change_of line f
+stmt_of OfChange line f = change_statement line f
 stmt_of OfProcess line f = process_of line f

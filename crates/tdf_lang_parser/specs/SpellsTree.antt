@@ -16,7 +16,7 @@ use Rattle.tdf_lang_tree.specs.declared.blocks.Sense.{Sense}
 use Rattle.tdf_lang_tree.specs.declared.shapes.Shape.{Shape}
 use Rattle.tdf_lang_tree.specs.declared.stmt.Limit.{Limit}
 use Rattle.tdf_lang_tree.specs.Forms.{Form, FType, FTdf, FDe, FComposite, FTop, FEnd, FSetAttributes, FInitialize, FProcessing, FChangeAttributes, FReinitialize, FProcess, FDontInitialize, FIf, FElse, FFor}
-use Rattle.tdf_lang_parser.specs.Items.{tdf_line_of, attr_of, initial_of, de_line_of, sense_of, member_of, net_line_of, trace_of, BodyKind, Plain, OfChange, OfProcess, stmt_of}
+use Rattle.tdf_lang_parser.specs.Items.{tdf_line_of, attr_of, initial_of, de_line_of, sense_of, member_of, net_line_of, trace_item, BodyKind, Plain, OfChange, OfProcess, stmt_of}
 use Rattle.tdf_lang_lines.specs.SpellsLine.{SpellsLine}
 
 -- any number of lines of one table
@@ -47,9 +47,9 @@ abbrev pub deepest : ℕ
 deepest = deepest_nesting
 
 -- a body, and the line of its `end`, which is 0 where it has no statement
-abbrev pub body_of : List PureStmt → ℕ → PureBody
-body_of [] line = record { list = Done; end = 0 }
-body_of (s ∷ ss) line = record { list = sts (s ∷ ss); end = line }
+abbrev pub body_with : List PureStmt → ℕ → PureBody
+body_with [] line = record { list = Done; end = 0 }
+body_with (s ∷ ss) line = record { list = sts (s ∷ ss); end = line }
 
 abbrev pub no_body : PureBody
 no_body = record { list = Done; end = 0 }
@@ -58,7 +58,7 @@ no_body = record { list = Done; end = 0 }
 pub data SpellsPart (lang : Dialect) (head : Form) (k : BodyKind) : List TokenLine → PureBody → Type 0 where
   part_none : SpellsPart lang head k [] no_body
   part_some : {a : List TokenLine} {ss : List PureStmt} (h l : TokenLine) → SpellsLine lang.version h.tokens head → SpellsAll lang k deepest a ss → SpellsLine lang.version l.tokens FEnd
-      → SpellsPart lang head k (h ∷ (a ++ l ∷ [])) (body_of ss l.number)
+      → SpellsPart lang head k (h ∷ (a ++ l ∷ [])) (body_with ss l.number)
 
 pub data SpellsAttributes (lang : Dialect) : List TokenLine → List Attr → Type 0 where
   attributes_none : SpellsAttributes lang [] []
@@ -68,7 +68,7 @@ pub data SpellsAttributes (lang : Dialect) : List TokenLine → List Attr → Ty
 pub data SpellsInitialize (lang : Dialect) : List TokenLine → List Initial → PureBody → Type 0 where
   initialize_none : SpellsInitialize lang [] [] no_body
   initialize_some : {a b : List TokenLine} {xs : List Initial} {ss : List PureStmt} (h l : TokenLine) → SpellsLine lang.version h.tokens FInitialize → Lines lang initial_of a xs
-      → SpellsAll lang Plain deepest b ss → SpellsLine lang.version l.tokens FEnd → SpellsInitialize lang (h ∷ (a ++ (b ++ l ∷ []))) xs (body_of ss l.number)
+      → SpellsAll lang Plain deepest b ss → SpellsLine lang.version l.tokens FEnd → SpellsInitialize lang (h ∷ (a ++ (b ++ l ∷ []))) xs (body_with ss l.number)
 
 -- the rows of a `tdf` block from its head on, without its `end`: its lines, then its parts in order
 pub data SpellsTdf (lang : Dialect) : List TokenLine → PureTdf → Type 0 where
@@ -95,7 +95,7 @@ pub data SpellsDont (lang : Dialect) : List TokenLine → Bool → Type 0 where
 pub data SpellsProcess (lang : Dialect) : List TokenLine → PureProcess → Type 0 where
   process : {a b c : List TokenLine} {senses : List Sense} {starts : Bool} {ss : List PureStmt} (h l : TokenLine) → SpellsLine lang.version h.tokens FProcess → Lines lang sense_of a senses → SpellsDont lang b starts
       → SpellsAll lang OfProcess deepest c ss → SpellsLine lang.version l.tokens FEnd
-      → SpellsProcess lang (h ∷ (a ++ (b ++ (c ++ l ∷ [])))) (record { line = h.number; sensitive = senses; starts = starts; body = body_of ss l.number })
+      → SpellsProcess lang (h ∷ (a ++ (b ++ (c ++ l ∷ [])))) (record { line = h.number; sensitive = senses; starts = starts; body = body_with ss l.number })
 
 pub data SpellsProcesses (lang : Dialect) : List TokenLine → List PureProcess → Type 0 where
   processes_none : SpellsProcesses lang [] []
@@ -119,7 +119,7 @@ pub data SpellsGlobals (lang : Dialect) : List TokenLine → List PureGlobal →
 pub data SpellsModel (lang : Dialect) : List TokenLine → PureTree → Type 0 where
   model : {a b c : List TokenLine} {globals : List PureGlobal} {members : List Member} {traces : List PureTrace} (t l : TokenLine)
       → SpellsGlobals lang a globals → SpellsLine lang.version t.tokens FTop → Lines lang member_of b members
-      → SpellsLine lang.version l.tokens FEnd → Lines lang trace_of c traces
+      → SpellsLine lang.version l.tokens FEnd → Lines lang trace_item c traces
       → SpellsModel lang (a ++ t ∷ (b ++ l ∷ c)) (record {
         version = lang.version;
         resolution = lang.resolution;

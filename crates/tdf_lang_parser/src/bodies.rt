@@ -2,12 +2,12 @@
 
 ghost use Rattle.std.specs.Option.{option_map};
 ghost use Rattle.std.specs.Prelude.{IfOk, Some, [], length, map, nat_lt, ◌∷◌, ◌≡◌};
-ghost use Rattle.tdf_lang_parser.specs.Faults.{kind_of};
+ghost use Rattle.tdf_lang_parser.specs.Faults.{kind_of_body};
 ghost use Rattle.tdf_lang_lines.specs.FormViews.{pure_form};
 ghost use Rattle.tdf_lang_parser.specs.Items.{stmt_of};
 ghost use Rattle.tdf_lang_parser.specs.views.PlaceViews.{shown_frame, shown_frames, shown_outer, shown_owner, shown_place};
 ghost use Rattle.tdf_lang_parser.specs.machine.Places.{OwnProcess, PBody, else_body, end_body, finished, goes_body, head_body, more_body, part_of};
-ghost use Rattle.tdf_lang_parser.specs.SpellsTree.{body_of, deepest};
+ghost use Rattle.tdf_lang_parser.specs.SpellsTree.{body_with, deepest};
 ghost use Rattle.tdf_lang_tree.specs.Pure.{SIf};
 ghost use Rattle.tdf_lang_tree.specs.Views.{pure_body, pure_de, pure_expr, pure_process, pure_stmt, sts};
 
@@ -20,7 +20,7 @@ use tdf_lang_tree::{DeDecl, Expr, Process, Stmt, Stmts};
 
 /// A whole body, with the line of its `end`.
 pub(crate) fn body_of(list: Vec<Stmt>, line: u32) -> Stmts
-    ensures { pure_body result ≡ body_of (map pure_stmt list.items) line }
+    ensures { pure_body result ≡ body_with (map pure_stmt list.items) line }
 {
     if list.is_empty() {
         return Stmts { list, end: 0 };
@@ -231,7 +231,7 @@ fn head_body(alloc: Global, owner: Owner, frames: Vec<Frame>, frame: Frame) -> R
 }
 
 fn single(owner: &Owner, line: u32, form: LineForm) -> Option<Stmt>
-    ensures { option_map pure_stmt result ≡ stmt_of (kind_of (part_of (shown_owner owner.now))) line (pure_form form) }
+    ensures { option_map pure_stmt result ≡ stmt_of (kind_of_body (part_of (shown_owner owner.now))) line (pure_form form) }
 {
     match owner {
         Owner::Change(_, _) => change_stmt(line, form),
@@ -250,7 +250,7 @@ fn more_body(
     form: LineForm,
 ) -> Result<Place, Memory>
     ensures { IfOk result (λ p. shown_place p ≡ more_body (shown_owner owner) (shown_frames frames.items) (map pure_stmt list.items)
-        (stmt_of (kind_of (part_of (shown_owner owner))) line (pure_form form))) }
+        (stmt_of (kind_of_body (part_of (shown_owner owner))) line (pure_form form))) }
 {
     match single(&owner, line, form) {
         Some(stmt) => with_stmt(owner, frames, list, stmt),

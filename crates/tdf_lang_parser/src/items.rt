@@ -3,7 +3,7 @@
 ghost use Rattle.std.specs.Option.{option_map};
 ghost use Rattle.std.specs.Prelude.{IfOk, None, ◌≡◌};
 ghost use Rattle.tdf_lang_lines.specs.FormViews.{pure_form};
-ghost use Rattle.tdf_lang_parser.specs.Items.{attr_of, change_of, de_line_of, de_port_of, member_of, net_line_of, plain_of, process_of, tdf_line_of, trace_of};
+ghost use Rattle.tdf_lang_parser.specs.Items.{attr_of, change_statement, de_line_of, de_port_of, member_of, net_line_of, plain_of, process_of, tdf_line_of, trace_item};
 ghost use Rattle.tdf_lang_tree.specs.Views.{pure_de_line, pure_stmt, pure_tdf_line, pure_trace};
 
 use tdf_lang_lines::LineForm;
@@ -159,7 +159,7 @@ pub(crate) fn net_line(line: u32, form: LineForm) -> Option<Member>
 }
 
 pub(crate) fn trace(line: u32, form: LineForm) -> Option<Trace1>
-    ensures { option_map pure_trace result ≡ trace_of line (pure_form form) }
+    ensures { option_map pure_trace result ≡ trace_item line (pure_form form) }
 {
     match form {
         LineForm::Trace(path, label) => Some(Trace1 { line, path, label }),
@@ -190,7 +190,7 @@ pub(crate) fn plain_stmt(line: u32, form: LineForm) -> Option<Stmt>
 
 #[tactic(auto, using(crate::proofs::StmtLaws::stmt_laws))]
 pub(crate) fn change_stmt(line: u32, form: LineForm) -> Option<Stmt>
-    ensures { option_map pure_stmt result ≡ change_of line (pure_form form) }
+    ensures { option_map pure_stmt result ≡ change_statement line (pure_form form) }
 {
     match form {
         LineForm::SetRate(name, value) => Some(Stmt::SetRate { line, name, value }),

@@ -1,7 +1,7 @@
 //! Laws of the definitions: each is the contract of a function that does nothing.
 
 ghost use Rattle.std.specs.Prelude.{length, ◌+◌};
-ghost use Rattle.tdf_lang_parser.specs.Examples.{smallest_text, smallest_tree, loose_text, loose_tree, net_text, net_tree, decls_text, decls_tree, attributes_text, attributes_tree, initialize_text, initialize_tree, nested_text, nested_tree, operators_text, operators_tree, change_text, change_tree, empty_text, empty_tree, de_text, de_tree, multiples_text, multiples_tree, femtoseconds_text, femtoseconds_tree, no_resolution_text, no_resolution_tree, version_text, else_text, deep_text, order_text, open_text, chain_text, early_text, second_text, late_text, unit_text};
+ghost use Rattle.tdf_lang_parser.specs.Examples.{smallest_text, smallest_tree, loose_text, loose_tree, net_text, net_tree, decls_text, decls_tree, attributes_text, attributes_tree, initialize_text, initialize_tree, nested_text, nested_tree, operators_text, operators_tree, change_text, change_tree, empty_text, empty_tree, de_text, de_tree, multiples_text, multiples_tree, femtoseconds_text, femtoseconds_tree, no_resolution_text, no_resolution_tree, version_text, else_text, deep_text, order_text, open_text, chain_text, early_text, second_text, late_text, unit_example};
 ghost use Rattle.tdf_lang_parser.specs.Faults.{HasFault};
 ghost use Rattle.tdf_lang_parser.specs.Laws.{NoFault, OneFault, OneTree, TreeOrFault};
 ghost use Rattle.tdf_lang_parser.specs.SpellsTree.{SpellsTree};
@@ -45,5 +45,5 @@ pub fn law_fault_examples()
     ensures early_line { HasFault (rows_of early_text) (length (lines_of early_text) + 1) 4 }
     ensures second_line { HasFault (rows_of second_text) (length (lines_of second_text) + 1) 3 }
     ensures late_line { HasFault (rows_of late_text) (length (lines_of late_text) + 1) 3 }
-    ensures unit_line { HasFault (rows_of unit_text) (length (lines_of unit_text) + 1) 4 }
+    ensures unit_line { HasFault (rows_of unit_example) (length (lines_of unit_example) + 1) 4 }
 {}

@@ -4,7 +4,7 @@ ghost use Rattle.std.specs.Prelude.{IfOk, [], codes, cond, map, true, ◌≡◌}
 ghost use Rattle.tdf_lang_lines.specs.FormViews.{pure_form};
 ghost use Rattle.tdf_lang_parser.specs.views.PlaceViews.{shown_outer, shown_owner, shown_place};
 ghost use Rattle.tdf_lang_parser.specs.machine.Places.{PAttributes, PBody, PDe, PGlobals, PInitialize, PLost, PProcess, PTdf, PTop, PTraces, goes, goes_attributes, goes_de, goes_globals, goes_initialize, goes_net, goes_process, goes_tdf, goes_top, more_attributes, more_de, more_net, more_tdf, more_top, more_traces, new_de, new_net, new_tdf, with_attr, with_de_line, with_decl, with_global, with_initial, with_sense, with_trace};
-ghost use Rattle.tdf_lang_parser.specs.Items.{attr_of, de_line_of, tdf_line_of, trace_of};
+ghost use Rattle.tdf_lang_parser.specs.Items.{attr_of, de_line_of, tdf_line_of, trace_item};
 ghost use Rattle.tdf_lang_parser.specs.SpellsTree.{no_body};
 ghost use Rattle.tdf_lang_tree.specs.Views.{pure_body, pure_composite, pure_de, pure_de_line, pure_global, pure_process, pure_tdf, pure_tdf_line, pure_trace, pure_tree};
 
@@ -462,7 +462,7 @@ fn goes_top(
 }
 
 fn more_traces(tree: Tree, line: u32, form: LineForm) -> Result<Place, Memory>
-    ensures { IfOk result (λ p. shown_place p ≡ more_traces (pure_tree tree) (trace_of line (pure_form form))) }
+    ensures { IfOk result (λ p. shown_place p ≡ more_traces (pure_tree tree) (trace_item line (pure_form form))) }
 {
     match trace(line, form) {
         Some(item) => with_trace(tree, item),

@@ -19,7 +19,7 @@ use Rattle.tdf_lang_tree.specs.declared.stmt.Stmt.{Stmt}
 use Rattle.tdf_lang_tree.specs.declared.shapes.TypeDecl.{TypeDecl}
 use Rattle.tdf_lang_tree.specs.declared.tree.Global1.TheVariants as global
 use Rattle.tdf_lang_tree.specs.declared.tree.Tree.{Tree}
-use Rattle.tdf_lang_printer.specs.Canon.{store_line, composite_lines, head_text, tree_lines, block_lines, attributes_lines, initialize_lines, canon, part_lines, dont_lines, tdf_line, attr_line, initial_line, de_line, sense_line, member_line, trace_line, stmts_lines, process_lines, global_lines}
+use Rattle.tdf_lang_printer.specs.Canon.{store_line, composite_lines, head_text, tree_lines, block_lines, attributes_lines, initialize_lines, canon, part_lines, dont_lines, tdf_line, attr_line, initial_line, de_line, sense_line, member_line, form_of_trace, stmts_lines, process_lines, global_lines}
 use Rattle.tdf_lang_printer.specs.Lines.{full_line, lines_text}
 use Rattle.tdf_lang_printer.specs.machine.Texts.{stmts_text, part_text, attributes_head, change_head, bodies_text, attributes_text, initialize_text, tdf_text, process_text, de_text, composite_text, global_text, tdf_line_text, attr_text, initial_text, de_line_text, sense_text, member_text, trace_text}
 use Rattle.tdf_lang_printer.proofs.StmtTexts.{lines_append, end_text}
@@ -71,7 +71,7 @@ sense_same : (unit : Resolution) → IsAlike sense_line unit
 unfolding IsAlike
 sense_same unit x = refl
 
-trace_same : (unit : Resolution) → IsAlike trace_line unit
+trace_same : (unit : Resolution) → IsAlike form_of_trace unit
 unfolding IsAlike
 trace_same unit x = refl
 
@@ -238,7 +238,7 @@ tree_after t =
     lines_two t.resolution (flat_map global_lines (map pure_global t.globals.items)) _ _ _ (lines_flat t.resolution pure_global global_lines t.globals.items)
     (ap (λ u. full_line Ps FTop ++ u)
     (lines_two t.resolution (map member_line t.top.members.items) _ _ _ (lines_same t.resolution member_line (member_same t.resolution) t.top.members.items)
-    (ap (λ u. full_line Ps FEnd ++ u) (lines_same_view t.resolution pure_trace trace_line (trace_same t.resolution) t.traces.items))))
+    (ap (λ u. full_line Ps FEnd ++ u) (lines_same_view t.resolution pure_trace form_of_trace (trace_same t.resolution) t.traces.items))))
 
 pub tree_is : (t : Tree) → canon (pure_tree t)
     ≡ head_text t.version t.resolution ++ (flat_map (global_text t.resolution) t.globals.items

@@ -123,13 +123,13 @@ global_lines (GTdf block) = tdf_lines block
 global_lines (GDe block) = de_lines block
 global_lines (GNet block) = composite_lines block
 
-abbrev pub trace_line : PureTrace → Form
-trace_line trace = FTrace trace.path trace.label
+abbrev pub form_of_trace : PureTrace → Form
+form_of_trace trace = FTrace trace.path trace.label
 
 -- the lines after the head
 abbrev pub tree_lines : PureTree → List Form
 tree_lines tree = flat_map global_lines tree.globals
-    ++ (FTop ∷ (map member_line tree.top.members ++ (FEnd ∷ map trace_line tree.traces)))
+    ++ (FTop ∷ (map member_line tree.top.members ++ (FEnd ∷ map form_of_trace tree.traces)))
 
 unfoldable pub language_text : ℕ → List ℕ
 language_text version = codes "language " ++ (decimal version ++ 10 ∷ [])

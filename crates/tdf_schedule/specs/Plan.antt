@@ -58,8 +58,8 @@ pub record IsBound (entries : List Entry) (e : Edge) (bound : ℕ) : Type 0 wher
       ≡ bound + done entries i e.reader * e.read_rate)
 
 -- samples in the buffers of a cluster: those that are there at first, and those of one period
-abbrev pub samples_of : List Edge → List Port → (counts : List ℕ) → ℕ
-samples_of edges ports counts =
+abbrev pub period_samples : List Edge → List Port → (counts : List ℕ) → ℕ
+period_samples edges ports counts =
     sum_by (λ e. if nat_eq (slice_index counts e.writer) 0 then 0 else e.initial) edges
     + sum_by (λ p. slice_index counts p.actor * p.rate) ports
 

@@ -5,7 +5,7 @@ ghost use Rattle.tdf_base.specs.Limits.{most_firings, most_samples, time_end};
 ghost use Rattle.tdf_graph.specs.Counts.{IsBalanced};
 ghost use Rattle.tdf_graph.specs.Ranges.{IsEdge};
 ghost use Rattle.tdf_graph.specs.declared.actors.Edge.{Edge};
-ghost use Rattle.tdf_schedule.specs.Plan.{pace_of, samples_of, IsCausal, IsDeadlock, IsNoncausal, HasPlan, IsPaced};
+ghost use Rattle.tdf_schedule.specs.Plan.{pace_of, period_samples, IsCausal, IsDeadlock, IsNoncausal, HasPlan, IsPaced};
 ghost use Rattle.tdf_schedule.specs.declared.err.PlanErr.TheVariants.{TooLarge, Deadlock, Noncausal, Memory};
 ghost use Rattle.tdf_schedule.specs.views.Answers.{AreNarrowUpTo, IsAnswer};
 ghost use Rattle.tdf_schedule.specs.views.Bounds.{AreBoundsUpTo};
@@ -168,7 +168,7 @@ pub fn plan(alloc: Global, net: &Net, counts: &[u64], steps: &Steps) -> Result<P
     ensures plan { IfOk result (HasPlan net.now.edges.items
         (pace_of net.now.actors.items steps.now.actor_steps.items) counts.now steps.now.period) }
     ensures too_large { (result ≡ Err TooLarge)
-        ↔ (most_samples < samples_of net.now.edges.items net.now.ports.items counts.now) }
+        ↔ (most_samples < period_samples net.now.edges.items net.now.ports.items counts.now) }
     ensures deadlock { (m : ℕ) → result ≡ Err (Deadlock m) → IsDeadlock net.now.edges.items
         (pace_of net.now.actors.items steps.now.actor_steps.items) counts.now m }
     ensures noncausal { (m a : ℕ) → result ≡ Err (Noncausal m a)
@@ -176,15 +176,15 @@ pub fn plan(alloc: Global, net: &Net, counts: &[u64], steps: &Steps) -> Result<P
         (pace_of net.now.actors.items steps.now.actor_steps.items) counts.now m a }
 
     // Where the buffers are small enough, each answer comes where its cause is there, or `Memory`.
-    ensures deadlock_always { samples_of net.now.edges.items net.now.ports.items counts.now
+    ensures deadlock_always { period_samples net.now.edges.items net.now.ports.items counts.now
         ≤ most_samples → (m : ℕ) → IsDeadlock net.now.edges.items
         (pace_of net.now.actors.items steps.now.actor_steps.items) counts.now m
         → (result ≡ Err (Deadlock m)) ⊎ (result ≡ Err Memory) }
-    ensures noncausal_always { samples_of net.now.edges.items net.now.ports.items counts.now
+    ensures noncausal_always { period_samples net.now.edges.items net.now.ports.items counts.now
         ≤ most_samples → (m a : ℕ) → IsNoncausal net.now.edges.items net.now.actors.items
         (pace_of net.now.actors.items steps.now.actor_steps.items) counts.now m a
         → (result ≡ Err (Noncausal m a)) ⊎ (result ≡ Err Memory) }
-    ensures plan_always { samples_of net.now.edges.items net.now.ports.items counts.now
+    ensures plan_always { period_samples net.now.edges.items net.now.ports.items counts.now
         ≤ most_samples → IsCausal net.now.edges.items net.now.actors.items
         (pace_of net.now.actors.items steps.now.actor_steps.items) counts.now
         → IsOk result ⊎ (result ≡ Err Memory) }

@@ -2,8 +2,8 @@
 
 ghost use Rattle.std.specs.Prelude.{◌≡◌, ◌≢◌, ◌<◌, ◌≤◌, ◌+◌, ◌*◌, ◌^◌, ℕ, All, Some, IfOk, length, vec_len, sum, slice_get, slice_index, MatchOption};
 ghost use Rattle.tdf_base.specs.Limits.{most_firings};
-ghost use Rattle.tdf_graph.specs.Ranges.{IsEdge, IsPort};
-ghost use Rattle.tdf_schedule.specs.Plan.{pace_by, samples_of};
+ghost use Rattle.tdf_graph.specs.Ranges.{IsEdge, IsGraphPort};
+ghost use Rattle.tdf_schedule.specs.Plan.{pace_by, period_samples};
 ghost use Rattle.tdf_schedule.specs.declared.key.Key.{Key};
 ghost use Rattle.tdf_schedule.specs.views.Faults.{initial_sum, rate_sum, IsFull, IsFirstShort, IsLateAt, IsFirstLateRow, IsFirstLateSink, IsFirstLate, ArePacesUpTo};
 ghost use Rattle.tdf_schedule.specs.views.Table.{row_at};
@@ -32,7 +32,7 @@ fn initial_samples(edges: &[Edge], counts: &[u64]) -> u64
 
 /// The samples of the ports of the cluster in one period.
 fn port_samples(ports: &[Port], counts: &[u64]) -> u64
-    requires fit { All (IsPort (length counts.now)) ports.now }
+    requires fit { All (IsGraphPort (length counts.now)) ports.now }
     requires few { length ports.now < 2 ^ 32 }
     requires counts { All (λ q. q ≤ most_firings) counts.now }
     ensures sum { result ≡ rate_sum counts.now ports.now }
@@ -132,11 +132,11 @@ pub(crate) fn paces_of(alloc: Global, actors: &[Actor], steps: &[u64]) -> Result
 /// The samples in the buffers of the cluster.
 pub(crate) fn samples(edges: &[Edge], ports: &[Port], counts: &[u64]) -> u64
     requires edges { All (IsEdge (length counts.now)) edges.now }
-    requires ports { All (IsPort (length counts.now)) ports.now }
+    requires ports { All (IsGraphPort (length counts.now)) ports.now }
     requires few_edges { length edges.now < 2 ^ 32 }
     requires few_ports { length ports.now < 2 ^ 32 }
     requires counts { All (λ q. q ≤ most_firings) counts.now }
-    ensures { result ≡ samples_of edges.now ports.now counts.now }
+    ensures { result ≡ period_samples edges.now ports.now counts.now }
 {
     initial_samples(edges, counts) + port_samples(ports, counts)
 }

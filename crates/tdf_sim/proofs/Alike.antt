@@ -4,7 +4,7 @@ use Rattle.std.specs.List.{cons_option, enumerate_from}
 use Rattle.std.specs.Prelude.{slice_get, slice_index, filter_map}
 use Rattle.tdf_base.specs.declared.faults.Fault.{Fault}
 use Rattle.tdf_bind_tables.specs.FlatTables.{FlatTablesOf}
-use Rattle.tdf_dynamic_plans.specs.Attributes.{AttrsOf, clusters_of, ports_of}
+use Rattle.tdf_dynamic_plans.specs.Attributes.{AttrsOf, clusters_of, ports_of_module}
 use Rattle.tdf_dynamic_plans.specs.Faults.{IsTableFault, IsTablePlan}
 use Rattle.tdf_dynamic_first.specs.First.{IsFirstPlan, IsClusterFault}
 use Rattle.tdf_dynamic_first.specs.Text.{attrs_if, first_table, port_step}
@@ -12,7 +12,7 @@ use Rattle.tdf_dynamic_first.specs.declared.first.First.{First}
 use Rattle.tdf_expr.specs.Blocks.{PureBlock, blocks_of}
 use Rattle.tdf_expr.specs.Checked.{IsCheckedOf}
 use Rattle.tdf_expr.specs.Compiled.{AreBlocksOf}
-use Rattle.tdf_expr.specs.Made.{rates_in, start_rates}
+use Rattle.tdf_expr.specs.Made.{block_rates, start_rates}
 use Rattle.tdf_expr.specs.declared.blocks.Block.{Block}
 use Rattle.tdf_expr.specs.declared.checked.Checked.{Checked}
 use Rattle.tdf_bind.proofs.Api.{tables_are_one}
@@ -29,7 +29,7 @@ pub record IsAlike (a b : Flat) : Type 0 where
   pub unit : a.resolution ≡ b.resolution
   pub rates : (n : ℕ) → start_rates a.checked n ≡ start_rates b.checked n
 
-same_rates : (globals : Names) (ps : List PureBlock) (bs cs : List Block) → AreBlocksOf globals ps bs → AreBlocksOf globals ps cs → (n : ℕ) → rates_in (slice_get bs n) ≡ rates_in (slice_get cs n)
+same_rates : (globals : Names) (ps : List PureBlock) (bs cs : List Block) → AreBlocksOf globals ps bs → AreBlocksOf globals ps cs → (n : ℕ) → block_rates (slice_get bs n) ≡ block_rates (slice_get cs n)
 same_rates globals [] [] [] h k n = refl
 same_rates globals [] [] (c ∷ cs) h k n = absurd k
 same_rates globals [] (b ∷ bs) cs h k n = absurd h
@@ -60,10 +60,10 @@ attrs_by tables rates cluster number row =
     if nat_eq (slice_index (clusters_of tables) number) cluster
     then Some (record {
       number = number;
-      ports = ports_of tables.ports number;
+      ports = ports_of_module tables.ports number;
       accepts = row.accepts;
       rates = rates;
-      steps = row.step ∷ map (port_step tables.ports) (ports_of tables.ports number);
+      steps = row.step ∷ map (port_step tables.ports) (ports_of_module tables.ports number);
     }) else None
 
 same_attrs : (a b : Flat) (cluster number : ℕ) (row : ModuleRow) → IsAlike a b → attrs_if a cluster number row ≡ attrs_if b cluster number row

@@ -5,11 +5,11 @@ use Rattle.std.proofs.lemmas.Option.{slice_get_within}
 use Rattle.std.specs.Prelude.{slice_get}
 use Rattle.tdf_base.specs.declared.faults.Fault.{Fault}
 use Rattle.tdf_dynamic_first.specs.First.{IsFirstPlan, IsClusterFault, IsPlannable}
-use Rattle.tdf_dynamic_first.specs.Laws.{ClustersAreWhole, ClustersHaveOne, IsClusterOf}
+use Rattle.tdf_dynamic_first.specs.Laws.{ClustersAreWhole, ClustersHaveOne, IsPlannableCluster}
 use Rattle.tdf_dynamic_plans.specs.Same.{AreSamePlans}
 use Rattle.tdf_dynamic_first.specs.declared.first.First.{First}
 use Rattle.tdf_bind.specs.declared.model.Flat.{Flat}
-use Rattle.tdf_dynamic_texts.specs.Plans.{PlanRows, rows_of}
+use Rattle.tdf_dynamic_texts.specs.Plans.{PlanRows, rows_of_plan}
 use Rattle.tdf_schedule.specs.declared.entry.Entry.{Entry}
 use Rattle.tdf_schedule.specs.declared.entry.Plan.{Plan}
 use Rattle.tdf_sim.proofs.Alike.{IsAlike, move_fault, move_plan, same_table}
@@ -20,7 +20,7 @@ use Rattle.tdf_sim.specs.PlanText.{plan_rows}
 same_count : (a b : Flat) → IsAlike a b → cluster_count a.tables ≡ cluster_count b.tables
 same_count a b same = ap cluster_count same.tables
 
-pub has_cluster : ClustersAreWhole → (flat : Flat) (cluster : ℕ) → IsPlannable flat → 1 ≤ cluster → cluster ≤ cluster_count flat.tables → IsClusterOf flat cluster
+pub has_cluster : ClustersAreWhole → (flat : Flat) (cluster : ℕ) → IsPlannable flat → 1 ≤ cluster → cluster ≤ cluster_count flat.tables → IsPlannableCluster flat cluster
 has_cluster whole flat cluster plannable some few = record {
   plannable = plannable;
   has = whole flat.tables cluster plannable.wired some few;
@@ -57,7 +57,7 @@ module _ (one : ClustersHaveOne) (whole : ClustersAreWhole) where
       there (x ∷ xs) zero less = (x, refl)
       there (x ∷ xs) (suc k) less = there xs k (omega (arith, less))
 
-  same_rows : (x y : Plan) → AreSamePlans x y → rows_of x ≡ rows_of y
+  same_rows : (x y : Plan) → AreSamePlans x y → rows_of_plan x ≡ rows_of_plan y
   same_rows x y same =
       ap (λ (entries : List Entry). row entries x.bounds.items x.period) same.entries
       ∙ ap (λ (bounds : List ℕ). row y.entries.items bounds x.period) same.bounds

@@ -1,7 +1,7 @@
 -- What a run writes, told for the answer of a run, and for two models of one tree.
 use Rattle.std.proofs.Common.{◌≡◌, ◌∙◌, ◌+◌, ap, arith}
 use Rattle.std.proofs.lemmas.Option.{slice_get_within}
-use Rattle.tdf_sim_unique.specs.Laws.{AnswersWriteAlike, AreFirstPlans, RunsWriteTheSame, AreAlike as SayTheSame}
+use Rattle.tdf_sim_unique.specs.Laws.{AnswersWriteAlike, AreFirstPlans, RunsWriteTheSame, AreModelsAlike as SayTheSame}
 use Rattle.tdf_base.specs.declared.resolution.Resolution.{Resolution}
 use Rattle.tdf_bind_tables.specs.FlatTables.{FlatTablesOf}
 use Rattle.tdf_dynamic_first.specs.Laws.{ClustersAreWhole, FlatIsPlannable}

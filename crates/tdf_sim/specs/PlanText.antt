@@ -6,7 +6,7 @@ use Rattle.tdf_base.specs.declared.resolution.Resolution.{Resolution}
 use Rattle.tdf_bind_tables.specs.FlatTables.{FlatTablesOf}
 use Rattle.tdf_bind_tables.specs.Ranges.{AreInRange}
 use Rattle.tdf_dynamic_first.specs.declared.first.First.{First}
-use Rattle.tdf_dynamic_texts.specs.Plans.{PlanRows, rows_of, plan_text, fires_text}
+use Rattle.tdf_dynamic_texts.specs.Plans.{PlanRows, rows_of_plan, plan_text, fires_text}
 use Rattle.tdf_sim.specs.Accepted.{ArePlans}
 use Rattle.tdf_sim.specs.declared.sim.Sim.{Sim}
 
@@ -24,7 +24,7 @@ clusters_text unit tables plans =
 
 -- the plan of a cluster
 abbrev pub plan_rows : First → PlanRows
-plan_rows first = rows_of first.plan
+plan_rows first = rows_of_plan first.plan
 
 abbrev pub plans_text : Sim → List ℕ
 plans_text sim = clusters_text sim.flat.resolution sim.flat.tables (map plan_rows sim.firsts.items)

@@ -6,7 +6,7 @@ use Rattle.tdf_bind_tables.specs.declared.actors.ActorRow.{ActorRow}
 use Rattle.tdf_bind.specs.declared.model.Flat.{Flat}
 use Rattle.tdf_graph.specs.declared.actors.Actor.{Actor}
 use Rattle.tdf_graph.specs.declared.actors.Actor.TheVariants as actor
-use Rattle.tdf_sim_history.specs.Instant.{RunFault, actor_of_entry, all_firings, events_of, fired, fired_as, firing, firing_of, is_cluster_due, is_due, is_entry_due, is_written, next_entry, plan_length, sample_taken, settled_as, signal_of, stepped, with_cluster, with_read}
+use Rattle.tdf_sim_history.specs.Instant.{RunFault, actor_of_entry, all_firings, events_of, fired, fired_as, firing, firing_of, is_cluster_due, is_due, is_entry_due, has_write, next_entry, plan_length, sample_taken, settled_as, signal_of, stepped, with_cluster, with_read}
 use Rattle.tdf_sim_history.specs.Telling.{step_as}
 use Rattle.tdf_sim_history.specs.World.{Change, ClusterAt, Rules, Settled, World}
 use Rattle.tdf_sim_history.specs.History.{Fault, Going, Past, Step, and_then, turns_to}
@@ -109,7 +109,7 @@ module _ (g : ℕ → List Change → List Change) where
           ∙ re_turns (λ j v. firing model flat rules time n v) (λ j v. firing_same time n v) (plan_length (slice_get w.clusters n)) w
 
       events_same : (time : ℕ) (w : World K) → events_of rules time (re_world w) ≡ As (events_of rules time w)
-      events_same time w = both (is_written w.written || rules.event_side.is_due w.events time)
+      events_same time w = both (has_write w.written || rules.event_side.is_due w.events time)
         where
           settled : (o : Option (Settled K)) → settled_as o (re_world w) ≡ As (settled_as o w)
           settled None = refl

@@ -19,7 +19,7 @@ use Rattle.tdf_sim_history.specs.World.{ClusterAt}
 use Rattle.tdf_trace_rows.specs.Positions.{position_at}
 use Rattle.tdf_streams.specs.Cluster.{cluster_net}
 use Rattle.tdf_streams.specs.Periods.{PeriodRecord}
-use Rattle.tdf_streams.specs.Signals.{output_at_spot, outputs_in, port_output, rate_in, time_of}
+use Rattle.tdf_streams.specs.Signals.{output_at_spot, outputs_in, port_output, rate_in, time_of_periods}
 use Rattle.tdf_lang_tree.specs.Pure.{PureTree}
 use Rattle.tdf_bind_connections.specs.declared.modules.PortRow.{PortRow}
 use Rattle.tdf_sim_history.proofs.Known.{made_of, output_made, output_of, turn_of}
@@ -90,7 +90,7 @@ module _ (model : PureTree) (flat : Flat) (number : ℕ) (c d : ClusterAt) (has 
           ∙ column_stays j low
           ∙ sym (ap (λ b. if b then sample_of s (periods_of d) port out (known_in d) j else None) (lt-ltb j (samples_done s port d) (lt_of_lt_of_le low more_samples)))
 
-      module _ (time : ℕ) (low : time < c.origin + time_of (periods_of c)) where
+      module _ (time : ℕ) (low : time < c.origin + time_of_periods (periods_of c)) where
         abbrev position : Option ℕ
         position = position_at 0 (column_spans port s c.origin (periods_of c)) time
 

@@ -18,7 +18,7 @@ use Rattle.tdf_schedule.specs.declared.entry.Entry.{Entry}
 use Rattle.tdf_streams.specs.Periods.{period_record}
 use Rattle.tdf_streams.specs.Signals.{outputs_in, rate_in}
 use Rattle.tdf_bind_connections.specs.declared.modules.PortRow.{PortRow}
-use Rattle.tdf_sim_history.specs.Continuing.{Continues, GoesOn, HasToldCounts, HasWholePlan}
+use Rattle.tdf_sim_history.specs.Continuing.{Continues, ClusterGoesOn, HasToldCounts, HasWholePlan}
 
 -- the firings of a plan that are done grow with the place, up to all of them
 module _ (entries : List Entry) (m : ℕ) where
@@ -53,10 +53,10 @@ continues_trans b c d x y = record {
   outputs = λ port. (let s = x.outputs port in let t = y.outputs port in le_trans s t);
 }
 
-pub goes_refl : (c : ClusterAt) → GoesOn c c
+pub goes_refl : (c : ClusterAt) → ClusterGoesOn c c
 goes_refl c = record { continues = λ p. continues_refl c; planned = λ p. p }
 
-pub goes_trans : (b c d : ClusterAt) → GoesOn b c → GoesOn c d → GoesOn b d
+pub goes_trans : (b c d : ClusterAt) → ClusterGoesOn b c → ClusterGoesOn c d → ClusterGoesOn b d
 goes_trans b c d x y = record {
   continues = λ p. continues_trans b c d (x.continues p) (y.continues (x.planned p));
   planned = λ p. y.planned (x.planned p);
@@ -85,7 +85,7 @@ outputs_next c p port more =
     omega (arith, s, m)
 
 -- the next period with the same plan
-pub same_goes : (time : ℕ) (table : List AttrsOf) (c : ClusterAt) → GoesOn c (with_same time table c)
+pub same_goes : (time : ℕ) (table : List AttrsOf) (c : ClusterAt) → ClusterGoesOn c (with_same time table c)
 same_goes time table c = record {
   continues = λ p. record {
     begun = refl;
@@ -102,7 +102,7 @@ same_goes time table c = record {
 
 -- and with a new one that is told
 pub new_goes : (tables : FlatTablesOf) (time : ℕ) (table : List AttrsOf) (counts : List ℕ) (period : ℕ) (entries : List Entry) (bounds : List ℕ) (c : ClusterAt)
-    → next_change c ≡ New table counts period entries bounds → GoesOn c (with_new tables time table counts period entries bounds c)
+    → next_change c ≡ New table counts period entries bounds → ClusterGoesOn c (with_new tables time table counts period entries bounds c)
 new_goes tables time table counts period entries bounds c told = record {
   continues = λ p. record {
     begun = refl;
@@ -118,7 +118,7 @@ new_goes tables time table counts period entries bounds c told = record {
 }
 
 -- one entry more
-pub step_goes : (c : ClusterAt) → GoesOn c (stepped c)
+pub step_goes : (c : ClusterAt) → ClusterGoesOn c (stepped c)
 step_goes c = record {
   continues = λ p. record {
     begun = refl;
@@ -144,7 +144,7 @@ read_kept value reads m k n x at = elim (cases_eq k m) [
         ∙ get_low (slice_index_or reads k []) (value ∷ []) n (slice_get_within (slice_index_or reads k []) n x at) ∙ at
     own (inr past) = none_some x (ap (λ (l : List Raw). slice_get l n) (sym (get_or_past reads k [] past)) ∙ at)
 
-pub read_goes : (m : ℕ) (value : Raw) (c : ClusterAt) → GoesOn c (with_read m value c)
+pub read_goes : (m : ℕ) (value : Raw) (c : ClusterAt) → ClusterGoesOn c (with_read m value c)
 read_goes m value c = record {
   continues = λ p. record {
     begun = refl;

@@ -1,7 +1,7 @@
 -- From one instant to the next, and the three ends of a history.
 use Rattle.std.proofs.Common.{◌≡◌, ℕ, zero, suc, ◌+◌, ◌-◌, ◌<◌, ◌≤◌, Bool, true, false, refl, ap, sym, ◌∙◌, subst, arith}
 use Rattle.std.specs.Prelude.{if◌then◌else◌}
-use Rattle.tdf_sim_history.specs.History.{Engine, Step, Going, Fault, Past, State, On, Stopped, Spent, after, end_time, history, state_of}
+use Rattle.tdf_sim_history.specs.History.{Engine, Step, Going, Fault, Past, HistoryState, On, Stopped, Spent, after, end_time, history, state_of}
 use Rattle.tdf_sim_history.specs.TurnLaws.{IsNextTime, IsOn}
 
 module _ {W F : Type 0} (engine : Engine W F) (from : ℕ) (start : W) where
@@ -21,7 +21,7 @@ module _ {W F : Type 0} (engine : Engine W F) (from : ℕ) (start : W) where
       ∙ ap (λ (b : Bool). if b then state_of (from + (k + a)) (engine.instant (from + (k + a)) w) else On w) quiet
 
   -- what has ended stays so
-  stays : (x : State W F) → ((t : ℕ) → after engine t x ≡ x) → (a k : ℕ) → history engine from start a ≡ x → history engine from start (k + a) ≡ x
+  stays : (x : HistoryState W F) → ((t : ℕ) → after engine t x ≡ x) → (a k : ℕ) → history engine from start a ≡ x → history engine from start (k + a) ≡ x
   unfolding history
   stays x ends a zero h = let e : 0 + a ≡ a = omega arith in ap (history engine from start) e ∙ h
   stays x ends a (suc k) h =
@@ -54,7 +54,7 @@ module _ {W F : Type 0} (engine : Engine W F) (from : ℕ) (start : W) where
     pub reached : (stop : ℕ) → IsNextTime engine w now stop stop → history engine from start (stop - from) ≡ On w
     reached stop next = waits stop stop next
 
-    ended : (stop time : ℕ) (x : State W F) → ((t : ℕ) → after engine t x ≡ x) → IsNextTime engine w now stop time → time < stop → state_of time (engine.instant time w) ≡ x
+    ended : (stop time : ℕ) (x : HistoryState W F) → ((t : ℕ) → after engine t x ≡ x) → IsNextTime engine w now stop time → time < stop → state_of time (engine.instant time w) ≡ x
         → history engine from start (stop - from) ≡ x
     ended stop time x ends next less is =
         let low = on.reached in
@@ -70,13 +70,13 @@ module _ {W F : Type 0} (engine : Engine W F) (from : ℕ) (start : W) where
     spent_ends stop time u next less is = ended stop time (Spent time u) (λ t. refl) next less (ap (state_of time) is)
 
     -- the end is not before the time up to which the history goes on
-    abbrev EndsFrom : ℕ → State W F → Type 0
+    abbrev EndsFrom : ℕ → HistoryState W F → Type 0
     EndsFrom stop x = (now ≤ stop → now ≤ end_time x stop)
 
     later : (k : ℕ) → (stop : ℕ) → now ≤ stop → now ≤ end_time (history engine from start (k + (now - from))) stop
     unfolding history
     later zero stop low = let e : 0 + (now - from) ≡ now - from = omega arith in
-        subst (λ (x : State W F). now ≤ end_time x stop) (sym (ap (history engine from start) e ∙ on.on)) low
+        subst (λ (x : HistoryState W F). now ≤ end_time x stop) (sym (ap (history engine from start) e ∙ on.on)) low
     later (suc k) stop low =
         let e : suc k + (now - from) ≡ suc (k + (now - from)) = omega arith in
         let reach = on.reached in
@@ -88,7 +88,7 @@ module _ {W F : Type 0} (engine : Engine W F) (from : ℕ) (start : W) where
         stepped t past (Fault f v) l = past
         stepped t past (Past v) l = past
 
-        go : (x : State W F) (t : ℕ) → now ≤ t → now ≤ end_time x stop → now ≤ end_time (after engine t x) stop
+        go : (x : HistoryState W F) (t : ℕ) → now ≤ t → now ≤ end_time x stop → now ≤ end_time (after engine t x) stop
         go (Stopped at f v) t past l = l
         go (Spent at v) t past l = l
         go (On v) t past l = both (engine.is_due v t)

@@ -17,7 +17,7 @@ use Rattle.tdf_sim_history.specs.World.{ClusterAt}
 use Rattle.tdf_trace_rows.specs.Positions.{position_at}
 use Rattle.tdf_streams.specs.Cluster.{Start, cluster_net}
 use Rattle.tdf_streams.specs.Periods.{IsWholeRecord, PeriodInfo, PeriodRecord}
-use Rattle.tdf_streams.specs.Signals.{output_at_spot, outputs_in, port_output, positions, rate_in, time_of}
+use Rattle.tdf_streams.specs.Signals.{output_at_spot, outputs_in, port_output, positions, rate_in, time_of_periods}
 use Rattle.tdf_lang_tree.specs.Pure.{PureTree}
 use Rattle.tdf_bind_connections.specs.declared.modules.PortRow.{PortRow}
 use Rattle.tdf_sim_history.proofs.Clusters.{done_within}
@@ -36,10 +36,10 @@ whole_sum flat number port (p ∷ ps) qs whole =
 
 -- so the samples that a start holds and the outputs since are as many as the positions before a period
 done_column : (flat : Flat) (number : ℕ) (begun : Start) (s : ColumnStart) (port : PortRow) (origin : ℕ) (old : List PeriodRecord) (now : PeriodRecord) (more t j : ℕ)
-    → AreRecordsOf flat number begun (old ++ now ∷ []) → HoldsFirst s port (old ++ now ∷ []) → t < origin + time_of old
+    → AreRecordsOf flat number begun (old ++ now ∷ []) → HoldsFirst s port (old ++ now ∷ []) → t < origin + time_of_periods old
     → position_at 0 (column_spans port s origin (old ++ now ∷ [])) t ≡ Some j → j < length (held_by s) + (sum_by (outputs_in port) old + more)
 done_column flat number begun s port origin [] now more t j records holds low at =
-    let w = before_first port s origin now [] t j (let z : time_of [] ≡ 0 = refl in omega (arith, low, z)) at in
+    let w = before_first port s origin now [] t j (let z : time_of_periods [] ≡ 0 = refl in omega (arith, low, z)) at in
     let l = held_long s in omega (arith, w, l)
 done_column flat number begun s port origin (p ∷ ps) now more t j records holds low at =
     let w = within_column port s origin p ps t j (sym (same_column port s origin (p ∷ ps) (now ∷ []) t (omega arith) low) ∙ at) in
@@ -91,10 +91,10 @@ module _ (model : PureTree) (flat : Flat) (number : ℕ) (c : ClusterAt) (has : 
     ]
 
     -- a time before its period
-    pub done_before : HoldsFirst s port (periods_of c) → (time j : ℕ) → time < c.origin + time_of c.old → position_at 0 (column_spans port s c.origin (periods_of c)) time ≡ Some j → j < samples_done s port c
+    pub done_before : HoldsFirst s port (periods_of c) → (time j : ℕ) → time < c.origin + time_of_periods c.old → position_at 0 (column_spans port s c.origin (periods_of c)) time ≡ Some j → j < samples_done s port c
     done_before holds time j low at = done_column flat number c.begun s port c.origin c.old c.now (ready * rate_in port c.now) time j has.records holds low at
 
-    pub is_there : HoldsFirst s port (periods_of c) → (time j : ℕ) → time < c.origin + time_of c.old → position_at 0 (column_spans port s c.origin (periods_of c)) time ≡ Some j → IsThere model flat number c s port out j
+    pub is_there : HoldsFirst s port (periods_of c) → (time j : ℕ) → time < c.origin + time_of_periods c.old → position_at 0 (column_spans port s c.origin (periods_of c)) time ≡ Some j → IsThere model flat number c s port out j
     is_there holds time j early at =
         let low = done_before holds time j early at in
         let v = sample_value j low in

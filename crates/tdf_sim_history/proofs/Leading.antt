@@ -10,7 +10,7 @@ use Rattle.tdf_bind.specs.declared.model.Flat.{Flat}
 use Rattle.tdf_streams.proofs.Api.{get_inside, some_same}
 use Rattle.tdf_graph.specs.declared.actors.Actor.{Actor}
 use Rattle.tdf_graph.specs.declared.actors.Actor.TheVariants as actor
-use Rattle.tdf_sim_history.specs.Instant.{RunFault, actor_of_entry, all_firings, at_begin, boundary, boundary_of, changed_by, events_of, fired, fired_as, firing, firing_of, instant, is_entry_due, is_over, is_written, next_entry, plan_length, settled_as, stepped, with_cluster, with_new, with_read, with_same}
+use Rattle.tdf_sim_history.specs.Instant.{RunFault, actor_of_entry, all_firings, at_begin, boundary, boundary_of, changed_by, events_of, fired, fired_as, firing, firing_of, instant, is_entry_due, is_over, has_write, next_entry, plan_length, settled_as, stepped, with_cluster, with_new, with_read, with_same}
 use Rattle.tdf_sim_history.specs.Texts.{left_by}
 use Rattle.tdf_sim_history.specs.World.{Change, ClusterAt, New, Refused, Rules, Same, Settled, World, next_change}
 use Rattle.tdf_sim_history.specs.History.{Fault, Going, Past, Step, and_then, turns_to}
@@ -119,7 +119,7 @@ module _ {K : Type 0} (R : ClusterAt → ClusterAt → Type 0) (itself : (c : Cl
       settled_leads w (Some s) = record { same = refl; each = (all_itself w).each }
 
       events_lead : (time : ℕ) (w : World K) → LeadsBy w (events_of rules time w)
-      events_lead time w = if_leads w (is_written w.written || rules.event_side.is_due w.events time) (settled_as (rules.event_side.settle time w.written w.left w.events) w) (Going w)
+      events_lead time w = if_leads w (has_write w.written || rules.event_side.is_due w.events time) (settled_as (rules.event_side.settle time w.written w.left w.events) w) (Going w)
           (settled_leads w (rules.event_side.settle time w.written w.left w.events)) (all_itself w)
 
       begin_goes : (w : World K) → AllBy R w (at_begin w)

@@ -16,7 +16,7 @@ use Rattle.tdf_sim_history.specs.Laws.{AnswersTellOne}
 use Rattle.tdf_sim_history.specs.Start.{counts_in}
 use Rattle.tdf_sim_history.specs.Telling.{state_as, step_as, untold, world_untold}
 use Rattle.tdf_sim_history.specs.World.{Change, ClusterAt, New, Refused, Rules, Same, World, next_change}
-use Rattle.tdf_sim_history.specs.History.{Engine, Fault, Going, On, Past, Spent, State, Step, Stopped, after, and_then, history, state_of, turns_to}
+use Rattle.tdf_sim_history.specs.History.{Engine, Fault, Going, On, Past, Spent, HistoryState, Step, Stopped, after, and_then, history, state_of, turns_to}
 use Rattle.tdf_lang_tree.specs.Pure.{PureTree}
 
 -- a boundary leads to one answer
@@ -149,10 +149,10 @@ module _ {K : Type 0} where
     abbrev E : Engine (World K) RunFault
     E = engine model flat rules
 
-    abbrev StateAs : State (World K) RunFault → State (World K) RunFault
+    abbrev StateAs : HistoryState (World K) RunFault → HistoryState (World K) RunFault
     StateAs s = state_as U s
 
-    abbrev world_at : State (World K) RunFault → World K
+    abbrev world_at : HistoryState (World K) RunFault → World K
     world_at (On w) = w
     world_at (Stopped time fault w) = w
     world_at (Spent time w) = w
@@ -169,7 +169,7 @@ module _ {K : Type 0} where
     state_alike time (Fault fault w) = refl
     state_alike time (Past w) = refl
 
-    after_alike : (time : ℕ) (s t : State (World K) RunFault) → StateAs s ≡ StateAs t
+    after_alike : (time : ℕ) (s t : HistoryState (World K) RunFault) → StateAs s ≡ StateAs t
         → ((w v : World K) → s ≡ On w → t ≡ On v → is_due rules w time ≡ true → is_due rules v time ≡ true → AreOne flat.tables time w v (length w.clusters)) → StateAs (after E time s) ≡ StateAs (after E time t)
     after_alike time (On w) (On v) e one = go (is_due rules w time) refl
       where

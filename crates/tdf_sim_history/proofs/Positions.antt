@@ -10,9 +10,9 @@ use Rattle.tdf_streams.specs.Net.{count}
 use Rattle.tdf_streams.specs.Streams.{Spot, find, spot}
 use Rattle.tdf_sim_history.specs.Cells.{column_spans, spans_from}
 use Rattle.tdf_sim_history.specs.Columns.{ColumnStart, Stamp, held_by, span_after, spans_to}
-use Rattle.tdf_trace_rows.specs.Positions.{Span, end_of, place_in, position_at, span_of, total}
+use Rattle.tdf_trace_rows.specs.Positions.{Span, span_end, place_in_span, position_at, span_of, count_of_spans}
 use Rattle.tdf_streams.specs.Periods.{PeriodInfo, PeriodRecord}
-use Rattle.tdf_streams.specs.Signals.{outputs_in, positions, rate_in, step_in, time_of}
+use Rattle.tdf_streams.specs.Signals.{outputs_in, positions, rate_in, step_in, time_of_periods}
 use Rattle.tdf_bind_connections.specs.declared.modules.PortRow.{PortRow}
 
 pub some_periods : (old : List PeriodRecord) (now : PeriodRecord) → 0 < length (old ++ now ∷ [])
@@ -39,7 +39,7 @@ some_of first None j h = none_some j h
 some_of first (Some k) j h = (k, refl, some_same (first + k) j h)
 
 -- the place of a time in a span is one of its places
-place_within : (p : Span) (t k : ℕ) → p.start ≤ t → t < end_of p → place_in p t ≡ Some k → k < p.count
+place_within : (p : Span) (t k : ℕ) → p.start ≤ t → t < span_end p → place_in_span p t ≡ Some k → k < p.count
 place_within p t k low high h = go (nat_eq ((t - p.start) % p.step) 0) h
   where
     less : t - p.start < p.count * p.step
@@ -53,38 +53,38 @@ place_within p t k low high h = go (nat_eq ((t - p.start) % p.step) 0) h
 same_after : (xs ys zs : List Span) (first t : ℕ) → ((n : ℕ) → position_at n ys t ≡ position_at n zs t) → position_at first (xs ++ ys) t ≡ position_at first (xs ++ zs) t
 unfolding position_at
 same_after [] ys zs first t same = same first
-same_after (x ∷ xs) ys zs first t same = same_else (nat_le x.start t && nat_lt t (end_of x)) _ _ _ (same_after xs ys zs (first + x.count) t same)
+same_after (x ∷ xs) ys zs first t same = same_else (nat_le x.start t && nat_lt t (span_end x)) _ _ _ (same_after xs ys zs (first + x.count) t same)
 
 -- a position at a time is one of those of the spans
 within_first : (x : Span) (first t : ℕ) (later : Option ℕ) (j end : ℕ) → first + x.count ≤ end → (later ≡ Some j → j < end)
-    → (if nat_le x.start t && nat_lt t (end_of x) then option_map (λ place. first + place) (place_in x t) else later) ≡ Some j → j < end
+    → (if nat_le x.start t && nat_lt t (span_end x) then option_map (λ place. first + place) (place_in_span x t) else later) ≡ Some j → j < end
 within_first x first t later j end most rest h =
-    let past : (nat_le x.start t && nat_lt t (end_of x)) ≡ false → j < end = (λ out. rest (sym (ap (λ b. if b then option_map (λ place. first + place) (place_in x t) else later) out) ∙ h)) in
+    let past : (nat_le x.start t && nat_lt t (span_end x)) ≡ false → j < end = (λ out. rest (sym (ap (λ b. if b then option_map (λ place. first + place) (place_in_span x t) else later) out) ∙ h)) in
     elim (cases_lt t x.start) [
       | inl low ↦ past (rw (lt-leb x.start t low) refl)
-      | inr up ↦ elim (cases_lt t (end_of x)) [
+      | inr up ↦ elim (cases_lt t (span_end x)) [
         | inl high ↦ (
-            let both : (nat_le x.start t && nat_lt t (end_of x)) ≡ true = rw (le-leb x.start t up, lt-ltb t (end_of x) high) refl in
-            let k = some_of first (place_in x t) j (sym (ap (λ b. if b then option_map (λ place. first + place) (place_in x t) else later) both) ∙ h) in
+            let both : (nat_le x.start t && nat_lt t (span_end x)) ≡ true = rw (le-leb x.start t up, lt-ltb t (span_end x) high) refl in
+            let k = some_of first (place_in_span x t) j (sym (ap (λ b. if b then option_map (λ place. first + place) (place_in_span x t) else later) both) ∙ h) in
             let w = place_within x t k.0 up high k.1 in let e = k.2 in omega (arith, w, e, most))
-        | inr after ↦ past (rw (le-ltb t (end_of x) after) (and_false (nat_le x.start t)))
+        | inr after ↦ past (rw (le-ltb t (span_end x) after) (and_false (nat_le x.start t)))
       ]
     ]
 
-pub within_total : (spans : List Span) (first t j : ℕ) → position_at first spans t ≡ Some j → j < first + total spans
-unfolding position_at total
+pub within_total : (spans : List Span) (first t j : ℕ) → position_at first spans t ≡ Some j → j < first + count_of_spans spans
+unfolding position_at count_of_spans
 within_total [] first t j h = none_some j h
-within_total (x ∷ xs) first t j h = within_first x first t (position_at (first + x.count) xs t) j (first + (x.count + total xs)) (omega arith)
+within_total (x ∷ xs) first t j h = within_first x first t (position_at (first + x.count) xs t) j (first + (x.count + count_of_spans xs)) (omega arith)
     (λ later. let r = within_total xs (first + x.count) t j later in omega (arith, r)) h
 
-total_append : (xs ys : List Span) → total (xs ++ ys) ≡ total xs + total ys
-unfolding total
+total_append : (xs ys : List Span) → count_of_spans (xs ++ ys) ≡ count_of_spans xs + count_of_spans ys
+unfolding count_of_spans
 total_append [] ys = omega arith
 total_append (x ∷ xs) ys = let r = total_append xs ys in omega (arith, r)
 
 -- samples at their times have one position each
-stamps_total : (stamps : List Stamp) (end : ℕ) → total (spans_to stamps end) ≡ length stamps
-unfolding total spans_to
+stamps_total : (stamps : List Stamp) (end : ℕ) → count_of_spans (spans_to stamps end) ≡ length stamps
+unfolding count_of_spans spans_to
 stamps_total [] end = refl
 stamps_total (x ∷ []) end = refl
 stamps_total (x ∷ (y ∷ ys)) end = let r = stamps_total (y ∷ ys) end in omega (arith, r)
@@ -106,29 +106,29 @@ module _ (port : PortRow) where
   none_before first time (p ∷ ps) t low = rw (lt-leb time t low) (none_before (first + positions port p) (time + p.info.period) ps t (omega (arith, low)))
 
   -- further periods change nothing below their start
-  pub same_front : (first time : ℕ) (ps qs : List PeriodRecord) (t : ℕ) → t < time + time_of ps → position_at first (spans_from port time (ps ++ qs)) t ≡ position_at first (spans_from port time ps) t
+  pub same_front : (first time : ℕ) (ps qs : List PeriodRecord) (t : ℕ) → t < time + time_of_periods ps → position_at first (spans_from port time (ps ++ qs)) t ≡ position_at first (spans_from port time ps) t
   unfolding position_at
-  same_front first time [] qs t low = none_before first time qs t (let z : time_of [] ≡ 0 = refl in omega (arith, low, z))
-  same_front first time (p ∷ ps) qs t low = same_else (nat_le time t && nat_lt t (end_of (span_in time p))) _ _ _
+  same_front first time [] qs t low = none_before first time qs t (let z : time_of_periods [] ≡ 0 = refl in omega (arith, low, z))
+  same_front first time (p ∷ ps) qs t low = same_else (nat_le time t && nat_lt t (span_end (span_in time p))) _ _ _
       (same_front (first + positions port p) (time + p.info.period) ps qs t (let s = sum_by-cons (λ (q : PeriodRecord). q.info.period) p ps in omega (arith, low, s)))
 
   -- how many positions there are
-  spans_total : (time : ℕ) (ps : List PeriodRecord) → total (spans_from port time ps) ≡ sum_by (positions port) ps
-  unfolding total
+  spans_total : (time : ℕ) (ps : List PeriodRecord) → count_of_spans (spans_from port time ps) ≡ sum_by (positions port) ps
+  unfolding count_of_spans
   spans_total time [] = refl
   spans_total time (p ∷ ps) = let r = spans_total (time + p.info.period) ps in let c = sum_by-cons (positions port) p ps in omega (arith, r, c)
 
-  spans_push : (t : ℕ) (ps : List PeriodRecord) (p : PeriodRecord) → spans_from port t (ps ++ p ∷ []) ≡ spans_from port t ps ++ span_of (t + time_of ps) (step_in port p) (positions port p) ∷ []
+  spans_push : (t : ℕ) (ps : List PeriodRecord) (p : PeriodRecord) → spans_from port t (ps ++ p ∷ []) ≡ spans_from port t ps ++ span_of (t + time_of_periods ps) (step_in port p) (positions port p) ∷ []
   spans_push t [] p = let z : t ≡ t + 0 = omega arith in ap (λ n. span_of n (step_in port p) (positions port p) ∷ []) z
   spans_push t (q ∷ qs) p =
       let c = sum_by-cons (λ (r : PeriodRecord). r.info.period) q qs in
-      let e : t + q.info.period + time_of qs ≡ t + time_of (q ∷ qs) = omega (arith, c) in
+      let e : t + q.info.period + time_of_periods qs ≡ t + time_of_periods (q ∷ qs) = omega (arith, c) in
       ap (λ l. span_of t (step_in port q) (positions port q) ∷ l) (spans_push (t + q.info.period) qs p ∙ ap (λ n. spans_from port (t + q.info.period) qs ++ span_of n (step_in port p) (positions port p) ∷ []) e)
 
   -- the positions of a column
   module _ (s : ColumnStart) (origin : ℕ) where
-    pub column_total : (p : PeriodRecord) (ps : List PeriodRecord) → total (column_spans port s origin (p ∷ ps)) ≡ length s.stamps + ((positions port p - s.skipped) + sum_by (positions port) ps)
-    unfolding total
+    pub column_total : (p : PeriodRecord) (ps : List PeriodRecord) → count_of_spans (column_spans port s origin (p ∷ ps)) ≡ length s.stamps + ((positions port p - s.skipped) + sum_by (positions port) ps)
+    unfolding count_of_spans
     column_total p ps =
         let a = total_append (spans_to s.stamps (origin + s.skipped * step_in port p)) (span_after origin (step_in port p) (positions port p) s.skipped ∷ spans_from port (origin + p.info.period) ps) in
         let t = stamps_total s.stamps (origin + s.skipped * step_in port p) in
@@ -136,12 +136,12 @@ module _ (port : PortRow) where
         omega (arith, a, t, r)
 
     -- further periods change nothing below their start
-    pub same_column : (ps qs : List PeriodRecord) (t : ℕ) → 0 < length ps → t < origin + time_of ps → position_at 0 (column_spans port s origin (ps ++ qs)) t ≡ position_at 0 (column_spans port s origin ps) t
+    pub same_column : (ps qs : List PeriodRecord) (t : ℕ) → 0 < length ps → t < origin + time_of_periods ps → position_at 0 (column_spans port s origin (ps ++ qs)) t ≡ position_at 0 (column_spans port s origin ps) t
     unfolding position_at
     same_column [] qs t some low = absurd (omega (arith, some))
     same_column (p ∷ ps) qs t some low =
         same_after (spans_to s.stamps (origin + s.skipped * step_in port p)) (rest_span ∷ spans_from port (origin + p.info.period) (ps ++ qs)) (rest_span ∷ spans_from port (origin + p.info.period) ps) 0 t
-        (λ n. same_else (nat_le rest_span.start t && nat_lt t (end_of rest_span)) _ _ _
+        (λ n. same_else (nat_le rest_span.start t && nat_lt t (span_end rest_span)) _ _ _
         (same_front (n + rest_span.count) (origin + p.info.period) ps qs t (let c = sum_by-cons (λ (q : PeriodRecord). q.info.period) p ps in omega (arith, low, c))))
       where
         rest_span : Span
@@ -149,19 +149,19 @@ module _ (port : PortRow) where
 
     -- one period more
     pub column_push : (ps : List PeriodRecord) (p : PeriodRecord) → 0 < length ps
-        → column_spans port s origin (ps ++ p ∷ []) ≡ column_spans port s origin ps ++ span_of (origin + time_of ps) (step_in port p) (positions port p) ∷ []
+        → column_spans port s origin (ps ++ p ∷ []) ≡ column_spans port s origin ps ++ span_of (origin + time_of_periods ps) (step_in port p) (positions port p) ∷ []
     column_push [] p some = absurd (omega (arith, some))
     column_push (q ∷ qs) p some =
         let c = sum_by-cons (λ (r : PeriodRecord). r.info.period) q qs in
-        let e : origin + q.info.period + time_of qs ≡ origin + time_of (q ∷ qs) = omega (arith, c) in
+        let e : origin + q.info.period + time_of_periods qs ≡ origin + time_of_periods (q ∷ qs) = omega (arith, c) in
         ap (λ l. spans_to s.stamps (origin + s.skipped * step_in port q) ++ span_after origin (step_in port q) (positions port q) s.skipped ∷ l)
         (spans_push (origin + q.info.period) qs p ∙ ap (λ n. spans_from port (origin + q.info.period) qs ++ span_of n (step_in port p) (positions port p) ∷ []) e)
         ∙ sym (append_assoc (spans_to s.stamps (origin + s.skipped * step_in port q)) (span_after origin (step_in port q) (positions port q) s.skipped ∷ spans_from port (origin + q.info.period) qs)
-        (span_of (origin + time_of (q ∷ qs)) (step_in port p) (positions port p) ∷ []))
+        (span_of (origin + time_of_periods (q ∷ qs)) (step_in port p) (positions port p) ∷ []))
 
     -- before the first period there are those of samples at their times alone
     pub before_first : (p : PeriodRecord) (ps : List PeriodRecord) (t j : ℕ) → t < origin → position_at 0 (column_spans port s origin (p ∷ ps)) t ≡ Some j → j < length s.stamps
-    unfolding position_at total
+    unfolding position_at count_of_spans
     before_first p ps t j low at =
         let e = same_after (spans_to s.stamps (origin + s.skipped * step_in port p)) (rest_span ∷ spans_from port (origin + p.info.period) ps) [] 0 t
         (λ n. rw (lt-leb rest_span.start t (omega (arith, low))) (none_before (n + rest_span.count) (origin + p.info.period) ps t (omega (arith, low)))) in

@@ -9,7 +9,7 @@ use Rattle.tdf_streams.proofs.Api.{first_record, some_same}
 use Rattle.tdf_sim_history.proofs.Twice.{next_is}
 use Rattle.tdf_sim_history.proofs.Once.{one_history}
 use Rattle.tdf_sim_history.specs.Answers.{AreAnswers, AreFirstAnswers, IsAnswer, Leads, OfAll, asks_in, last_cells}
-use Rattle.tdf_sim_history.specs.Instant.{RunFault, actor_of_entry, all_firings, at_begin, boundary, boundary_of, changed_by, engine, events_of, fired, fired_as, firing, firing_of, instant, is_due, is_entry_due, is_over, is_written, next_entry, plan_length, settled_as, signal_of, stepped, with_cluster, with_new, with_read, with_same}
+use Rattle.tdf_sim_history.specs.Instant.{RunFault, actor_of_entry, all_firings, at_begin, boundary, boundary_of, changed_by, engine, events_of, fired, fired_as, firing, firing_of, instant, is_due, is_entry_due, is_over, has_write, next_entry, plan_length, settled_as, signal_of, stepped, with_cluster, with_new, with_read, with_same}
 use Rattle.tdf_sim_history.specs.Start.{first_cluster, first_world}
 use Rattle.tdf_sim_history.specs.Telling.{state_as, untold, world_untold}
 use Rattle.tdf_sim_history.specs.World.{Change, ClusterAt, New, Refused, Rules, Same, Settled, World, next_change}
@@ -23,7 +23,7 @@ use Rattle.tdf_expr.specs.Checked.{IsCheckedOf}
 use Rattle.tdf_bind.specs.declared.model.Flat.{Flat}
 use Rattle.tdf_graph.specs.declared.actors.Actor.{Actor}
 use Rattle.tdf_graph.specs.declared.actors.Actor.TheVariants as actor
-use Rattle.tdf_sim_history.specs.History.{Engine, Fault, Going, On, Past, Spent, State, Step, Stopped, after, and_then, history, state_of, turns_to}
+use Rattle.tdf_sim_history.specs.History.{Engine, Fault, Going, On, Past, Spent, HistoryState, Step, Stopped, after, and_then, history, state_of, turns_to}
 use Rattle.tdf_bind_invariants.specs.Limits.{AreWithinLimits}
 use Rattle.tdf_streams.specs.Cluster.{zero_sample}
 use Rattle.tdf_streams.specs.Periods.{AreAttributes}
@@ -108,7 +108,7 @@ module _ {K : Type 0} (flat : Flat) where
 
     -- the event side
     events_keep : (time : ℕ) (w : World K) → HaveAttributes flat w → Keeps (events_of rules time w)
-    events_keep time w have = go (is_written w.written || rules.event_side.is_due w.events time)
+    events_keep time w have = go (has_write w.written || rules.event_side.is_due w.events time)
       where
         settled : (o : Option (Settled K)) → Keeps (settled_as o w)
         settled None = tt
@@ -166,7 +166,7 @@ module _ {K : Type 0} (flat : Flat) where
       abbrev E : Engine (World K) RunFault
       E = engine model flat rules
 
-      abbrev KeepsOn : State (World K) RunFault → Type 0
+      abbrev KeepsOn : HistoryState (World K) RunFault → Type 0
       KeepsOn (On w) = HaveAttributes flat w
       KeepsOn (Stopped time fault w) = Unit {0}
       KeepsOn (Spent time w) = Unit {0}
@@ -176,7 +176,7 @@ module _ {K : Type 0} (flat : Flat) where
       state_keeps time (Fault fault w) have = tt
       state_keeps time (Past w) have = tt
 
-      after_keeps : (time : ℕ) (s : State (World K) RunFault) → KeepsOn s → ((w : World K) → s ≡ On w → is_due rules w time ≡ true → AreFirstAnswers model flat time (length w.clusters) w)
+      after_keeps : (time : ℕ) (s : HistoryState (World K) RunFault) → KeepsOn s → ((w : World K) → s ≡ On w → is_due rules w time ≡ true → AreFirstAnswers model flat time (length w.clusters) w)
           → KeepsOn (after E time s)
       after_keeps time (Stopped at fault w) have answers = tt
       after_keeps time (Spent at w) have answers = tt

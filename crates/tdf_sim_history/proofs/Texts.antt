@@ -18,7 +18,7 @@ use Rattle.tdf_sim_history.specs.Telling.{AreTold, state_as, told_more, untold, 
 use Rattle.tdf_sim_history.specs.Texts.{closing_text, end_of, first_plans, left_by, new_plans, notes_in, notes_to, plan_note, run_notes, run_trace}
 use Rattle.tdf_sim_history.specs.Columns.{ColumnStart, start_of}
 use Rattle.tdf_sim_history.specs.World.{Change, ClusterAt, Rules, World}
-use Rattle.tdf_sim_history.specs.History.{Engine, Fault, Going, On, Past, Spent, State, Step, Stopped, after, end_time, history, state_of}
+use Rattle.tdf_sim_history.specs.History.{Engine, Fault, Going, On, Past, Spent, HistoryState, Step, Stopped, after, end_time, history, state_of}
 use Rattle.tdf_trace_rows.proofs.Api.{text_same}
 use Rattle.tdf_trace_rows.specs.Laws.{Agree}
 use Rattle.tdf_trace_rows.specs.Rows.{Writing, trace_text}
@@ -60,28 +60,28 @@ module _ {K : Type 0} where
       ∙ ap (λ (u : World K). is_due rules u time) same
       ∙ ap (λ b. b || rules.event_side.is_due v.events time) (due_bare time v.clusters)
 
-  abbrev As : State (World K) RunFault → State (World K) RunFault
+  abbrev As : HistoryState (World K) RunFault → HistoryState (World K) RunFault
   As s = state_as world_untold s
 
-  world_as : (s : State (World K) RunFault) → world_untold (world_of s) ≡ world_of (As s)
+  world_as : (s : HistoryState (World K) RunFault) → world_untold (world_of s) ≡ world_of (As s)
   world_as (On w) = refl
   world_as (Stopped time fault w) = refl
   world_as (Spent time w) = refl
 
-  end_as : (stop : ℕ) (s : State (World K) RunFault) → end_time (As s) stop ≡ end_time s stop
+  end_as : (stop : ℕ) (s : HistoryState (World K) RunFault) → end_time (As s) stop ≡ end_time s stop
   end_as stop (On w) = refl
   end_as stop (Stopped time fault w) = refl
   end_as stop (Spent time w) = refl
 
-  closing_as : (unit : Resolution) (stop turns : ℕ) (s : State (World K) RunFault) → closing_text unit stop turns (As s) ≡ closing_text unit stop turns s
+  closing_as : (unit : Resolution) (stop turns : ℕ) (s : HistoryState (World K) RunFault) → closing_text unit stop turns (As s) ≡ closing_text unit stop turns s
   closing_as unit stop turns (On w) = refl
   closing_as unit stop turns (Stopped time fault w) = refl
   closing_as unit stop turns (Spent time w) = refl
 
   -- states that are the same but for what is told end alike, and leave the same
-  module _ (s t : State (World K) RunFault) (alike : As s ≡ As t) where
+  module _ (s t : HistoryState (World K) RunFault) (alike : As s ≡ As t) where
     pub states_end : (stop : ℕ) → end_time s stop ≡ end_time t stop
-    states_end stop = sym (end_as stop s) ∙ ap (λ (u : State (World K) RunFault). end_time u stop) alike ∙ end_as stop t
+    states_end stop = sym (end_as stop s) ∙ ap (λ (u : HistoryState (World K) RunFault). end_time u stop) alike ∙ end_as stop t
 
     pub states_close : (unit : Resolution) (stop turns : ℕ) → closing_text unit stop turns s ≡ closing_text unit stop turns t
     states_close unit stop turns = sym (closing_as unit stop turns s) ∙ ap (closing_text unit stop turns) alike ∙ closing_as unit stop turns t
@@ -92,7 +92,7 @@ module _ {K : Type 0} where
     pub states_on : (w : World K) → s ≡ On w → (v : World K) × (t ≡ On v) × (world_untold w ≡ world_untold v)
     states_on w is = go t refl
       where
-        go : (u : State (World K) RunFault) → t ≡ u → (v : World K) × (t ≡ On v) × (world_untold w ≡ world_untold v)
+        go : (u : HistoryState (World K) RunFault) → t ≡ u → (v : World K) × (t ≡ On v) × (world_untold w ≡ world_untold v)
         go (On v) to = (v, to, ap world_of (ap As (sym is) ∙ alike ∙ ap As to))
         go (Stopped time fault v) to = (let e : As (On w) ≡ As (Stopped time fault v) = ap As (sym is) ∙ alike ∙ ap As to in absurd cc)
         go (Spent time v) to = (let e : As (On w) ≡ As (Spent time v) = ap As (sym is) ∙ alike ∙ ap As to in absurd cc)
@@ -101,7 +101,7 @@ module _ {K : Type 0} where
   pub untold_told : (more : List (List Change)) (w : World K) → world_untold (world_told more w) ≡ world_untold w
   untold_told more w = ap (λ l. record w { clusters = l }) (bare_told more 0 w.clusters)
 
-  as_bare : (more : List (List Change)) (s : State (World K) RunFault) → As (state_as (world_told more) s) ≡ As s
+  as_bare : (more : List (List Change)) (s : HistoryState (World K) RunFault) → As (state_as (world_told more) s) ≡ As s
   as_bare more (On w) = ap (λ u. On u) (untold_told more w)
   as_bare more (Stopped time fault w) = ap (λ u. Stopped time fault u) (untold_told more w)
   as_bare more (Spent time w) = ap (λ u. Spent time u) (untold_told more w)
@@ -135,7 +135,7 @@ module _ {K : Type 0} where
       E = engine model flat rules
 
       -- a history that ended did so before the time up to which it is told
-      abbrev EndsBy : ℕ → State (World K) RunFault → Type 0
+      abbrev EndsBy : ℕ → HistoryState (World K) RunFault → Type 0
       EndsBy k (On w) = Unit {0}
       EndsBy k (Stopped time fault w) = time ≤ k
       EndsBy k (Spent time w) = time ≤ k
@@ -145,7 +145,7 @@ module _ {K : Type 0} where
       step_ends time (Fault fault w) = omega arith
       step_ends time (Past w) = omega arith
 
-      after_ends : (time : ℕ) (s : State (World K) RunFault) → EndsBy time s → EndsBy (suc time) (after E time s)
+      after_ends : (time : ℕ) (s : HistoryState (World K) RunFault) → EndsBy time s → EndsBy (suc time) (after E time s)
       after_ends time (Stopped at fault w) low = omega (arith, low)
       after_ends time (Spent at w) low = omega (arith, low)
       after_ends time (On w) low = go (is_due rules w time)
@@ -159,7 +159,7 @@ module _ {K : Type 0} where
       ends start zero = tt
       ends start (suc time) = subst (EndsBy (suc time)) (sym (next_is E start time)) (after_ends time (history E 0 start time) (ends start time))
 
-      end_within : (stop : ℕ) (s : State (World K) RunFault) → EndsBy stop s → end_time s stop ≤ stop
+      end_within : (stop : ℕ) (s : HistoryState (World K) RunFault) → EndsBy stop s → end_time s stop ≤ stop
       end_within stop (On w) low = omega arith
       end_within stop (Stopped time fault w) low = low
       end_within stop (Spent time w) low = low
@@ -213,7 +213,7 @@ module _ {K : Type 0} where
             ap world_of (next_is E start time ∙ ap (after E time) on ∙ ap (λ b. if b then state_of time (instant model flat rules time w) else On w) due)
             ∙ world_left time (instant model flat rules time w)
 
-        in_same : (time : ℕ) → time < stop → (s t : State (World K) RunFault) → history E 0 one time ≡ s → history E 0 other time ≡ t → As s ≡ As t → notes_in model flat rules time s ≡ notes_in model flat rules time t
+        in_same : (time : ℕ) → time < stop → (s t : HistoryState (World K) RunFault) → history E 0 one time ≡ s → history E 0 other time ≡ t → As s ≡ As t → notes_in model flat rules time s ≡ notes_in model flat rules time t
         in_same time low (On w) (On v) is to e = go (is_due rules w time) refl
           where
             same : world_untold w ≡ world_untold v

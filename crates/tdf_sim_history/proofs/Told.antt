@@ -14,7 +14,7 @@ use Rattle.tdf_sim_history.specs.Laws.{MoreIsTold}
 use Rattle.tdf_sim_history.specs.Start.{first_cluster, first_world}
 use Rattle.tdf_sim_history.specs.Telling.{AreTold, IsTold, all_told, state_as, step_as, told_more, world_told}
 use Rattle.tdf_sim_history.specs.World.{Change, ClusterAt, New, Refused, Rules, Same, World, next_change}
-use Rattle.tdf_sim_history.specs.History.{Engine, Fault, Going, On, Past, Spent, State, Step, Stopped, after, and_then, history, state_of, turns_to}
+use Rattle.tdf_sim_history.specs.History.{Engine, Fault, Going, On, Past, Spent, HistoryState, Step, Stopped, after, and_then, history, state_of, turns_to}
 use Rattle.tdf_lang_tree.specs.Pure.{PureTree}
 
 -- the history before the next time leads to it
@@ -130,7 +130,7 @@ module _ {K : Type 0} (more : List (List Change)) where
     abbrev E : Engine (World K) RunFault
     E = engine model flat rules
 
-    abbrev StateAs : State (World K) RunFault → State (World K) RunFault
+    abbrev StateAs : HistoryState (World K) RunFault → HistoryState (World K) RunFault
     StateAs s = state_as (re_world (later_by more)) s
 
     state_same : (time : ℕ) (s : Step (World K) RunFault) → state_of time (As s) ≡ StateAs (state_of time s)
@@ -138,7 +138,7 @@ module _ {K : Type 0} (more : List (List Change)) where
     state_same time (Fault fault w) = refl
     state_same time (Past w) = refl
 
-    after_same : (time : ℕ) (s : State (World K) RunFault) → ((w : World K) → s ≡ On w → is_due rules w time ≡ true → OfFirst flat.tables time (length w.clusters) w (λ number c. IsTold c))
+    after_same : (time : ℕ) (s : HistoryState (World K) RunFault) → ((w : World K) → s ≡ On w → is_due rules w time ≡ true → OfFirst flat.tables time (length w.clusters) w (λ number c. IsTold c))
         → after E time (StateAs s) ≡ StateAs (after E time s)
     after_same time (Stopped at fault w) told = refl
     after_same time (Spent at w) told = refl
@@ -158,15 +158,15 @@ module _ {K : Type 0} (more : List (List Change)) where
           ∙ after_same time (history E 0 start time) (λ w on due. told time (length w.clusters) w low on due) ∙ sym (ap StateAs (next_is E start time))
 
       -- what was on is on
-      on_same : (time : ℕ) (v : World K) (s : State (World K) RunFault) → s ≡ history E 0 start time → StateAs s ≡ On v → (w : World K) × (history E 0 start time ≡ On w) × (v ≡ re_world (later_by more) w)
+      on_same : (time : ℕ) (v : World K) (s : HistoryState (World K) RunFault) → s ≡ history E 0 start time → StateAs s ≡ On v → (w : World K) × (history E 0 start time ≡ On w) × (v ≡ re_world (later_by more) w)
       on_same time v (On w) is on = (w, sym is, same on)
         where
-          of_state : State (World K) RunFault → World K
+          of_state : HistoryState (World K) RunFault → World K
           of_state (On u) = u
           of_state (Stopped at fault u) = u
           of_state (Spent at u) = u
 
-          same : ◌≡◌ {A = State (World K) RunFault} (On (re_world (later_by more) w)) (On v) → v ≡ re_world (later_by more) w
+          same : ◌≡◌ {A = HistoryState (World K) RunFault} (On (re_world (later_by more) w)) (On v) → v ≡ re_world (later_by more) w
           same e = sym (ap of_state e)
       on_same time v (Stopped at fault w) is on = absurd cc
       on_same time v (Spent at w) is on = absurd cc

@@ -12,7 +12,7 @@ use Rattle.tdf_streams.specs.Streams.{known}
 use Rattle.tdf_sim_history.specs.Instant.{RunFault, acts_now, engine, periods_of, run_in}
 use Rattle.tdf_sim_history.specs.Columns.{ColumnStart, held_by, span_after, spans_to, start_of}
 use Rattle.tdf_sim_history.specs.World.{ClusterAt, Rules, World}
-use Rattle.tdf_sim_history.specs.History.{State, On, Stopped, Spent, history}
+use Rattle.tdf_sim_history.specs.History.{HistoryState, On, Stopped, Spent, history}
 use Rattle.tdf_trace_rows.specs.Positions.{Span, position_at, span_of}
 use Rattle.tdf_trace_rows.specs.Rows.{Cells}
 use Rattle.tdf_streams.specs.Cluster.{cluster_net, zero_sample}
@@ -99,7 +99,7 @@ changed_cell before after = if is_same_value before after then None else Some (S
 
 module _ {K : Type 0} where
   -- what there is in a state of the history
-  abbrev pub world_of : State (World K) RunFault → World K
+  abbrev pub world_of : HistoryState (World K) RunFault → World K
   world_of (On w) = w
   world_of (Stopped time fault w) = w
   world_of (Spent time w) = w

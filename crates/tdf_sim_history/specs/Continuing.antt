@@ -18,13 +18,13 @@ pub record Continues (c d : ClusterAt) : Type 0 where
   pub outputs : (port : PortRow) → outputs_done port c ≤ outputs_done port d
 
 -- a plan has so many firings of each actor
-abbrev pub HasCounts : List Entry → List ℕ → Type 0
-HasCounts entries counts = (m : ℕ) → slice_index counts m ≡ done entries (length entries) m
+abbrev pub EntriesHaveCounts : List Entry → List ℕ → Type 0
+EntriesHaveCounts entries counts = (m : ℕ) → slice_index counts m ≡ done entries (length entries) m
 
 -- and so has a new one that is told
 abbrev pub HasToldCounts : Change → Type 0
 HasToldCounts (Same table) = Unit {0}
-HasToldCounts (New table counts period entries bounds) = HasCounts entries counts
+HasToldCounts (New table counts period entries bounds) = EntriesHaveCounts entries counts
 HasToldCounts (Refused fault) = Unit {0}
 
 -- the plan in force has the firings of the period, and what is done in it is those from a place on;
@@ -32,11 +32,11 @@ HasToldCounts (Refused fault) = Unit {0}
 pub record HasWholePlan (c : ClusterAt) : Type 0 where
   pub counts : (m : ℕ) → slice_index c.now.counts m + done c.entries c.from m
       ≡ done c.entries (length c.entries) m
-  pub whole : HasCounts c.entries c.now.info.counts
+  pub whole : EntriesHaveCounts c.entries c.now.info.counts
   pub ahead : All HasToldCounts c.ahead
 
 -- where a cluster has a whole plan, it goes on, and has one still
-pub record GoesOn (c d : ClusterAt) : Type 0 where
+pub record ClusterGoesOn (c d : ClusterAt) : Type 0 where
   pub continues : HasWholePlan c → Continues c d
   pub planned : HasWholePlan c → HasWholePlan d
 
@@ -44,4 +44,4 @@ pub record GoesOn (c d : ClusterAt) : Type 0 where
 pub record AllGoOn {K : Type 0} (w v : World K) : Type 0 where
   pub same : length v.clusters ≡ length w.clusters
   pub each : (n : ℕ) (c d : ClusterAt) → slice_get w.clusters n ≡ Some c
-      → slice_get v.clusters n ≡ Some d → GoesOn c d
+      → slice_get v.clusters n ≡ Some d → ClusterGoesOn c d

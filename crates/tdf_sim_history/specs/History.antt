@@ -15,10 +15,10 @@ pub record Engine (W F : Type 0) : Type 0 where
   pub instant : (time : ℕ) → W → Step W F
 
 -- how a history stands: it goes on, or it ended at a time, with what stood when it did
-pub data State (W F : Type 0) : Type 0 where
-  On : (w : W) → State W F
-  Stopped : (time : ℕ) → (fault : F) → (w : W) → State W F
-  Spent : (time : ℕ) → (w : W) → State W F
+pub data HistoryState (W F : Type 0) : Type 0 where
+  On : (w : W) → HistoryState W F
+  Stopped : (time : ℕ) → (fault : F) → (w : W) → HistoryState W F
+  Spent : (time : ℕ) → (w : W) → HistoryState W F
 
 module _ {W F : Type 0} where
   -- one thing after the other, as long as nothing ends the run
@@ -32,26 +32,26 @@ module _ {W F : Type 0} where
   turns_to turn zero w = Going w
   turns_to turn (suc n) w = and_then (turns_to turn n w) (turn n)
 
-  abbrev pub state_of : (time : ℕ) → Step W F → State W F
+  abbrev pub state_of : (time : ℕ) → Step W F → HistoryState W F
   state_of time (Going w) = On w
   state_of time (Fault fault w) = Stopped time fault w
   state_of time (Past w) = Spent time w
 
   -- the state after a time: what has ended stays so
-  abbrev pub after : Engine W F → (time : ℕ) → State W F → State W F
+  abbrev pub after : Engine W F → (time : ℕ) → HistoryState W F → HistoryState W F
   after engine time (On w) =
       if engine.is_due w time then state_of time (engine.instant time w) else On w
   after engine time (Stopped at fault w) = Stopped at fault w
   after engine time (Spent at w) = Spent at w
 
   -- the history from a time on, when all instants of the next `count` times have happened
-  unfoldable pub history : Engine W F → (from : ℕ) → W → (count : ℕ) → State W F
+  unfoldable pub history : Engine W F → (from : ℕ) → W → (count : ℕ) → HistoryState W F
   history engine from start zero = On start
   history engine from start (suc count) =
       after engine (from + count) (history engine from start count)
 
   -- the time at which it ended, or the stop
-  abbrev pub end_time : State W F → (stop : ℕ) → ℕ
+  abbrev pub end_time : HistoryState W F → (stop : ℕ) → ℕ
   end_time (On w) stop = stop
   end_time (Stopped time fault w) stop = time
   end_time (Spent time w) stop = time

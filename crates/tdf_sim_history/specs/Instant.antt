@@ -93,10 +93,10 @@ abbrev pub signal_of : FlatTablesOf → ℕ → ℕ
 signal_of tables m = signal_of_row tables (slice_get tables.actors m)
 
 -- the edge of a sink: the first one that it reads
-unfoldable pub edge_from : FlatTablesOf → (m e n : ℕ) → ℕ
-edge_from tables m e zero = e
-edge_from tables m e (suc n) =
-    if nat_eq (reader_at tables.edges e) m then e else edge_from tables m (e + 1) n
+unfoldable pub edge_read_from : FlatTablesOf → (m e n : ℕ) → ℕ
+edge_read_from tables m e zero = e
+edge_read_from tables m e (suc n) =
+    if nat_eq (reader_at tables.edges e) m then e else edge_read_from tables m (e + 1) n
 
 -- activations of an actor in the period since the start, and in all
 abbrev pub acts_now : ClusterAt → ℕ → ℕ
@@ -110,7 +110,7 @@ abbrev pub sample_taken : PureTree → Flat → (cluster : ℕ) → ClusterAt �
 sample_taken model flat cluster c m = unwrap_or
     (place (cluster_net model flat cluster c.begun) (periods_of c)
     (known (cluster_net model flat cluster c.begun) (run_in c) (firings (periods_of c)))
-    (edge_from flat.tables m 0 (length flat.tables.edges)) (activations c m))
+    (edge_read_from flat.tables m 0 (length flat.tables.edges)) (activations c m))
     zero_sample
 
 abbrev pub with_read : ℕ → Raw → ClusterAt → ClusterAt
@@ -141,9 +141,9 @@ plan_length None = 0
 plan_length (Some c) = length c.entries
 
 -- the event side: it runs where a sink wrote or something is pending
-abbrev pub is_written : List SinkWrite → Bool
-is_written [] = false
-is_written (x ∷ xs) = true
+abbrev pub has_write : List SinkWrite → Bool
+has_write [] = false
+has_write (x ∷ xs) = true
 
 -- something is due: a boundary, a firing, or what is pending
 abbrev pub is_cluster_due : (time : ℕ) → ClusterAt → Bool
@@ -216,7 +216,7 @@ module _ {K : Type 0} where
 
   abbrev pub events_of : Rules K → (time : ℕ) → World K → Step (World K) RunFault
   events_of rules time w =
-      if is_written w.written || rules.event_side.is_due w.events time
+      if has_write w.written || rules.event_side.is_due w.events time
       then settled_as (rules.event_side.settle time w.written w.left w.events) w else Going w
 
   abbrev pub at_begin : World K → World K

@@ -5,7 +5,7 @@ use Rattle.std.specs.Prelude.{◌<◌, ℕ, List, [], ◌∷◌, ◌++◌, lengt
 use Rattle.tdf_bind.specs.declared.model.Flat.{Flat}
 use Rattle.tdf_sim_history.specs.Answers.{OfAll}
 use Rattle.tdf_sim_history.specs.World.{Change, ClusterAt, Rules, World}
-use Rattle.tdf_sim_history.specs.History.{State, On, Spent, Stopped, Step, Fault, Going, Past}
+use Rattle.tdf_sim_history.specs.History.{HistoryState, On, Spent, Stopped, Step, Fault, Going, Past}
 use Rattle.tdf_lang_tree.specs.Pure.{PureTree}
 
 -- something is told of the next boundary
@@ -49,7 +49,7 @@ module _ {W F : Type 0} (to : W → W) where
   step_as (Fault fault w) = Fault fault (to w)
   step_as (Past w) = Past (to w)
 
-  abbrev pub state_as : State W F → State W F
+  abbrev pub state_as : HistoryState W F → HistoryState W F
   state_as (On w) = On (to w)
   state_as (Stopped time fault w) = Stopped time fault (to w)
   state_as (Spent time w) = Spent time (to w)

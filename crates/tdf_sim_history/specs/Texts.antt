@@ -10,7 +10,7 @@ use Rattle.tdf_bind.specs.declared.model.Flat.{Flat}
 use Rattle.tdf_sim_history.specs.Cells.{run_cells}
 use Rattle.tdf_sim_history.specs.Instant.{RunFault, engine, instant, is_due}
 use Rattle.tdf_sim_history.specs.World.{ClusterAt, Rules, World}
-use Rattle.tdf_sim_history.specs.History.{State, On, Stopped, Spent, Step, Going, Fault, Past, end_time, history}
+use Rattle.tdf_sim_history.specs.History.{HistoryState, On, Stopped, Spent, Step, Going, Fault, Past, end_time, history}
 use Rattle.tdf_dynamic_texts.specs.Plans.{PlanRows, line, plan_text}
 use Rattle.tdf_trace_rows.specs.Rows.{Writing, trace_text}
 use Rattle.tdf_lang_tree.specs.Pure.{PureTree}
@@ -41,7 +41,8 @@ module _ {K : Type 0} where
   left_by (Fault fault w) = w
   left_by (Past w) = w
 
-  abbrev pub notes_in : PureTree → Flat → Rules K → (time : ℕ) → State (World K) RunFault → List ℕ
+  abbrev pub notes_in : PureTree → Flat → Rules K → (time : ℕ) → HistoryState (World K) RunFault
+      → List ℕ
   notes_in model flat rules time (On w) = if is_due rules w time
       then new_plans flat time (left_by (instant model flat rules time w)) else []
   notes_in model flat rules time (Stopped at fault w) = []
@@ -55,7 +56,7 @@ module _ {K : Type 0} where
 
   -- how the run ended: `end TIME turns USED`, `stopped TIME cluster C CODE PLACE`, or
   -- `spent TIME turns BUDGET`
-  abbrev pub closing_text : Resolution → (stop turns : ℕ) → State (World K) RunFault → List ℕ
+  abbrev pub closing_text : Resolution → (stop turns : ℕ) → HistoryState (World K) RunFault → List ℕ
   closing_text unit stop turns (On w) = line (codes "end " ++ seconds_text_at unit stop
       ++ codes " turns " ++ decimal (turns - w.left))
   closing_text unit stop turns (Stopped time fault w) = line (codes "stopped "
@@ -65,7 +66,8 @@ module _ {K : Type 0} where
       ++ codes " turns " ++ decimal turns)
 
   -- the state of the history at the stop, and the end time
-  abbrev pub state_at : PureTree → Flat → Rules K → World K → (stop : ℕ) → State (World K) RunFault
+  abbrev pub state_at : PureTree → Flat → Rules K → World K → (stop : ℕ)
+      → HistoryState (World K) RunFault
   state_at model flat rules start stop = history (engine model flat rules) 0 start stop
 
   abbrev pub end_of : PureTree → Flat → Rules K → World K → (stop : ℕ) → ℕ

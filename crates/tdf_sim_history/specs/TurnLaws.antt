@@ -25,8 +25,8 @@ InstantHappens = (engine : Engine ℕ ℕ) (from : ℕ) (start : ℕ) (now : ℕ
     ≡ state_of time (engine.instant time w)
 
 -- where nothing is due before the stop, the history goes on up to it
-abbrev pub StopIsReached : Type 0
-StopIsReached = (engine : Engine ℕ ℕ) (from : ℕ) (start : ℕ) (now : ℕ) (w : ℕ) (stop : ℕ)
+abbrev pub TurnsReachStop : Type 0
+TurnsReachStop = (engine : Engine ℕ ℕ) (from : ℕ) (start : ℕ) (now : ℕ) (w : ℕ) (stop : ℕ)
     → IsOn engine from start now w → IsNextTime engine w now stop stop
     → history engine from start (stop - from) ≡ On w
 

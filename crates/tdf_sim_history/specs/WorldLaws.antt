@@ -20,7 +20,7 @@ use Rattle.tdf_trace_rows.specs.Positions.{position_at}
 use Rattle.tdf_streams.specs.Cluster.{Start, cluster_net}
 use Rattle.tdf_streams.specs.Periods.{PeriodRecord}
 use Rattle.tdf_streams.specs.Starts.{AreRecords}
-use Rattle.tdf_streams.specs.Signals.{outputs_in, positions, time_of}
+use Rattle.tdf_streams.specs.Signals.{outputs_in, positions, time_of_periods}
 use Rattle.tdf_lang_tree.specs.Pure.{PureTree}
 use Rattle.tdf_bind_connections.specs.declared.modules.PortRow.{PortRow}
 use Rattle.tdf_bind_connections.specs.declared.traces.TraceRow.{TraceRow}
@@ -88,7 +88,7 @@ pub record IsThere (model : PureTree) (flat : Flat) (number : ℕ) (c : ClusterA
 abbrev pub SamplesAreThere : Type 0
 SamplesAreThere = (model : PureTree) (flat : Flat) (number : ℕ) (c : ClusterAt) (s : ColumnStart)
     → (port : PortRow) (out time j : ℕ) → HasDone model flat number c
-    → HoldsFirst s port (periods_of c) → time < c.origin + time_of c.old
+    → HoldsFirst s port (periods_of c) → time < c.origin + time_of_periods c.old
     → position_at 0 (column_spans port s c.origin (periods_of c)) time ≡ Some j
     → IsThere model flat number c s port out j
 
@@ -96,7 +96,7 @@ SamplesAreThere = (model : PureTree) (flat : Flat) (number : ℕ) (c : ClusterAt
 pub record IsSettled {K : Type 0} (flat : Flat) (shown : List ColumnStart) (w : World K)
     (mark : ℕ) : Type 0 where
   pub within : (n : ℕ) (c : ClusterAt) → slice_get w.clusters n ≡ Some c
-      → mark ≤ c.origin + time_of (periods_of c)
+      → mark ≤ c.origin + time_of_periods (periods_of c)
   pub there : (s : ColumnStart) (number : ℕ) (port : PortRow) (c : ClusterAt) (time j : ℕ)
       → Shows flat shown s number port → IsClusterOfPort flat w port c → time < mark
       → position_at 0 (column_spans port s c.origin (periods_of c)) time ≡ Some j
@@ -106,7 +106,8 @@ pub record IsSettled {K : Type 0} (flat : Flat) (shown : List ColumnStart) (w : 
 abbrev pub MarksAreSettled : Type 0
 MarksAreSettled = (model : PureTree) (flat : Flat) (shown : List ColumnStart) (w : World SideOf)
     → (mark : ℕ) → AreWithinLimits flat → AreSteady model flat w → AreStarted flat shown w
-    → ((n : ℕ) (c : ClusterAt) → slice_get w.clusters n ≡ Some c → mark ≤ c.origin + time_of c.old)
+    → ((n : ℕ) (c : ClusterAt) → slice_get w.clusters n ≡ Some c
+    → mark ≤ c.origin + time_of_periods c.old)
     → IsSettled flat shown w mark
 
 -- where the history goes on to a later end, the cells below such a mark stay as they are

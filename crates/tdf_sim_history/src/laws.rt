@@ -3,7 +3,7 @@
 ghost use Rattle.tdf_sim_history.specs.Answers.{AreAnswers};
 ghost use Rattle.tdf_sim_history.specs.Laws.{AnswersTellOne, IdleStaysOn, MoreIsTold, UnchangedStay};
 ghost use Rattle.tdf_sim_history.specs.Texts.{run_notes, run_trace};
-ghost use Rattle.tdf_sim_history.specs.TurnLaws.{EndLies, FaultEnds, InstantHappens, SpentEnds, StopIsReached, TurnsGo};
+ghost use Rattle.tdf_sim_history.specs.TurnLaws.{EndLies, FaultEnds, InstantHappens, SpentEnds, TurnsReachStop, TurnsGo};
 ghost use Rattle.tdf_sim_history.specs.TableLaws.{AnswersAgree, AnswersWriteOne, BoundariesHaveTables, MoreWritesTheSame};
 ghost use Rattle.tdf_sim_history.specs.WorldLaws.{CellsStay, MarksAreSettled, SamplesAreThere};
 
@@ -34,7 +34,7 @@ pub fn law_one_history()
 /// From one instant to the next, and how a history ends: at the stop, by a fault, or by a turn past the budget.
 pub fn law_history()
     ensures happens { InstantHappens }
-    ensures reached { StopIsReached }
+    ensures reached { TurnsReachStop }
     ensures fault { FaultEnds }
     ensures spent { SpentEnds }
     ensures end { EndLies }

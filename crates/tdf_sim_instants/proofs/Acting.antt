@@ -3,7 +3,7 @@ use Rattle.std.proofs.Common.{◌≡◌, ◌∙◌, ℕ, ◌+◌, ◌-◌, ◌�
 use Rattle.std.proofs.lemmas.List.{length-map}
 use Rattle.std.proofs.lemmas.Option.{slice_get_within}
 use Rattle.std.specs.List.{All}
-use Rattle.tdf_convert.specs.Emitted.{write_of as write_to}
+use Rattle.tdf_convert.specs.Emitted.{write_of_sent as write_to}
 use Rattle.tdf_convert.specs.Links.{AreLinks, AreRising, HaveSignals}
 use Rattle.tdf_convert.specs.Sampled.{PlansGoByOffset}
 use Rattle.tdf_convert.specs.declared.links.Links.{Links}
@@ -33,7 +33,7 @@ use Rattle.tdf_bind.specs.declared.model.Flat.{Flat}
 use Rattle.tdf_bind_invariants.specs.Limits.{AreWithinLimits}
 use Rattle.tdf_streams.proofs.Api.{get_inside}
 use Rattle.tdf_sim_refinement.proofs.Api.{emitted_to, pass_rooms, pass_sent}
-use Rattle.tdf_sim_refinement.specs.Pass.{CanPass, HasPassedAll, PassAt, RunOf, pass_at, run_of}
+use Rattle.tdf_sim_refinement.specs.Pass.{CanPass, HasPassedAll, PassAt, RunOf, pass_at, pass_run}
 
 -- a cluster that has done entries gives as much by its plan
 due_moved_sent : (offset : ℕ) (c b : ClusterOf) → IsMoved c b → size_due sent_size b.runners offset b.entries ≡ size_due sent_size c.runners offset c.entries
@@ -128,7 +128,7 @@ module _ (flat : Flat) (time left : ℕ) (e : Engine) (of : IsEngineOf flat e) (
 
   module _ (sound : IsSoundFlat flat) (roomy : AreRoomy e2.clusters.items e2.outputs e2.writes) where
     can_pass : (inputs : List (List Raw)) → HaveSampled (sampling_at time mid.since mid.clusters e.links.items e.kernel.values) (length mid.clusters) e.inputs.items inputs
-        → CanPass flat (pass_at time mid.since inputs) (run_of mid.clusters e2.outputs left2)
+        → CanPass flat (pass_at time mid.since inputs) (pass_run mid.clusters e2.outputs left2)
     can_pass inputs sampled = record {
       since = let l0 = long.0 in let l1 = long.1 in omega (arith, l0, l1);
       inputs = let l0 = long.0 in let i = of.inputs in let s = sampled.same in omega (arith, l0, i, s);
@@ -159,16 +159,16 @@ module _ (flat : Flat) (time left : ℕ) (e : Engine) (of : IsEngineOf flat e) (
 
   -- after the firings
   module _ (by : PlansGoByOffset) (sound : IsSoundFlat flat) (roomy : AreRoomy e2.clusters.items e2.outputs e2.writes) (rest2 : e2 ≡ crossed_engine) (e3 : Engine) (left3 : ℕ)
-      (all : HasPassedAll flat (pass_at time e2.since.items e3.inputs.items) (run_of e2.clusters.items e2.outputs left2) (run_of e3.clusters.items e3.outputs left3))
+      (all : HasPassedAll flat (pass_at time e2.since.items e3.inputs.items) (pass_run e2.clusters.items e2.outputs left2) (pass_run e3.clusters.items e3.outputs left3))
       (rest3 : e3 ≡ record e2 { clusters = e3.clusters; inputs = e3.inputs; outputs = e3.outputs }) where
     abbrev pass : PassAt
     pass = pass_at time e2.since.items e3.inputs.items
 
     abbrev x : RunOf
-    x = run_of e2.clusters.items e2.outputs left2
+    x = pass_run e2.clusters.items e2.outputs left2
 
     abbrev y : RunOf
-    y = run_of e3.clusters.items e3.outputs left3
+    y = pass_run e3.clusters.items e3.outputs left3
 
     fired_engine : e3 ≡ record e { clusters = e3.clusters; since = e2.since; planned = e2.planned; inputs = e3.inputs; outputs = e3.outputs; writes = e2.writes }
     fired_engine = rest3 ∙ ap (λ (z : Engine). record z { clusters = e3.clusters; inputs = e3.inputs; outputs = e3.outputs }) rest2

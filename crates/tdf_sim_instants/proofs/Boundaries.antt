@@ -7,7 +7,7 @@ use Rattle.std.proofs.lemmas.List.{append-nil}
 use Rattle.std.proofs.lemmas.List.Elements.{All-append, All-cons, All-head, All-nil, All-tail}
 use Rattle.std.proofs.lemmas.Option.{slice_get_past, slice_get_within}
 use Rattle.tdf_sim_instants.proofs.ToldAt.{nothing_told, set_told, told_at, told_get, told_here, told_long}
-use Rattle.tdf_sim_instants.specs.Crossing.{CrossingOf, EndingAt, HasCrossed, HasEnding, HasGoneOn, HasNoTurn, HasStopped, HaveCrossed, IsEndingOf, is_ending, is_new, planned_if}
+use Rattle.tdf_sim_instants.specs.Crossing.{CrossingOf, EndingAt, HasCrossedBoundary, HasEnding, HasGoneOn, HasNoTurn, HasStopped, HaveCrossed, IsEndingOf, is_ending, is_new, planned_if}
 use Rattle.tdf_sim_instants.specs.CrossingLaws.{AreToldAt, Becomes, CrossesAlong, CrossingEndsSpent, CrossingEndsStopped, CrossingGoesAlong, CrossingIsSpent, CrossingStops, HavePlansOf, rows_in, world_crossed}
 use Rattle.tdf_base.specs.declared.faults.Fault.{Fault}
 use Rattle.tdf_bind_tables.specs.FlatTables.{FlatTablesOf}
@@ -361,7 +361,7 @@ module _ {K : Type 0} (model : PureTree) (flat : Flat) (time : ℕ) (w : World K
       to_next : turns_to each n (first told_next) ≡ Going told_new
       to_next = ap (λ (u : World K). turns_to each n (at_begin u)) (sym twice) ∙ to_here
 
-    over_turn : (y : CrossingOf) (turn : EndingAt) (new : Bool) → IsEndingOf n mid y turn → HasCrossed flat time new turn mid.left y.left → y.planned ≡ mid.planned ++ planned_if new n
+    over_turn : (y : CrossingOf) (turn : EndingAt) (new : Bool) → IsEndingOf n mid y turn → HasCrossedBoundary flat time new turn mid.left y.left → y.planned ≡ mid.planned ++ planned_if new n
         → CrossesAlong model flat time (suc n) w y
     over_turn y turn new is crossed planned =
         let table = crossed.between.table in

@@ -4,7 +4,7 @@ use Rattle.std.proofs.lemmas.Bool.{cases_lt, eq-eqb, ne_eqb}
 use Rattle.std.specs.List.{list_any}
 use Rattle.tdf_base.specs.Limits.{time_end}
 use Rattle.tdf_events_queue.specs.Sets.{count_on}
-use Rattle.tdf_events_queue.specs.Times.{time_of}
+use Rattle.tdf_events_queue.specs.Times.{pending_time}
 use Rattle.tdf_convert.specs.declared.writes.SignalWrite.{SignalWrite}
 use Rattle.tdf_sim_instants.specs.Settling.{IsBefore, event_turn}
 use Rattle.tdf_events.proofs.Api.{ends_idle, only_later_stay}
@@ -18,7 +18,7 @@ use Rattle.tdf_lang_tree.specs.Pure.{PureTree}
 use Rattle.tdf_sim_history.specs.Rules.{is_side_due}
 
 -- where none of these times is due, none of them is this time
-none_due : (time : ℕ) (times : List (Option ℕ)) → list_any (is_due time) times ≡ false → (event pending : ℕ) → time_of times event ≡ Some pending → pending ≡ time → ⊥
+none_due : (time : ℕ) (times : List (Option ℕ)) → list_any (is_due time) times ≡ false → (event pending : ℕ) → pending_time times event ≡ Some pending → pending ≡ time → ⊥
 none_due time [] none event pending at same = absurd cc
 none_due time (t ∷ ts) none zero pending at same =
     true_false (sym (ap (λ o. is_due time o || list_any (is_due time) ts) at ∙ ap (λ b. b || list_any (is_due time) ts) (eq-eqb pending time same)) ∙ none)
@@ -61,7 +61,7 @@ module _ (model : PureTree) (flat : Flat) (time left rest : ℕ) (writes : List 
   calm_after is = by_cases (nat_eq (length writes) 0) (not (nat_eq (length writes) 0) || is_side_due side time) refl is
 
 -- what is due on the event side at a time that nothing is pending before
-any_due : (time : ℕ) (times : List (Option ℕ)) (event : ℕ) → time_of times event ≡ Some time → list_any (is_due time) times ≡ true
+any_due : (time : ℕ) (times : List (Option ℕ)) (event : ℕ) → pending_time times event ≡ Some time → list_any (is_due time) times ≡ true
 any_due time [] event at = absurd cc
 any_due time (t ∷ ts) zero at = ap (λ o. is_due time o || list_any (is_due time) ts) at ∙ ap (λ b. b || list_any (is_due time) ts) (eq-eqb time time refl)
 any_due time (t ∷ ts) (suc event) at = or_true (is_due time t) (list_any (is_due time) ts) (any_due time ts event at)
@@ -74,7 +74,7 @@ apart_none : (time : ℕ) (t : Option ℕ) → ((p : ℕ) → t ≡ Some p → p
 apart_none time None apart = refl
 apart_none time (Some p) apart = ne_eqb p time (apart p refl)
 
-no_due : (time : ℕ) (times : List (Option ℕ)) → ((event pending : ℕ) → time_of times event ≡ Some pending → pending ≡ time → ⊥) → list_any (is_due time) times ≡ false
+no_due : (time : ℕ) (times : List (Option ℕ)) → ((event pending : ℕ) → pending_time times event ≡ Some pending → pending ≡ time → ⊥) → list_any (is_due time) times ≡ false
 no_due time [] apart = refl
 no_due time (t ∷ ts) apart =
     ap (λ b. b || list_any (is_due time) ts) (apart_none time t (λ p at. apart 0 p at)) ∙ no_due time ts (λ event pending at. apart (suc event) pending at)
@@ -107,5 +107,5 @@ module _ (time : ℕ) (side : SideOf) (before : IsBefore time side) where
   due_never (inl some) = absurd cc
   due_never (inr none) = sym (ap due_if (idle_is none.0) ∙ no_due time side.notices.times (λ event pending at same. absurd (none_is event pending at)))
     where
-      none_is : (event pending : ℕ) → time_of side.notices.times event ≡ Some pending → ⊥
+      none_is : (event pending : ℕ) → pending_time side.notices.times event ≡ Some pending → ⊥
       none_is event pending at = none_some pending (sym (none.1.none event) ∙ at)

@@ -6,7 +6,7 @@ use Rattle.tdf_sim_instants.specs.Crossing.{CrossingOf, EndingAt, HasEnding, Hav
 use Rattle.tdf_dynamic.specs.declared.next.Next.{Next}
 use Rattle.tdf_dynamic.specs.declared.next.Next.TheVariants as answer
 use Rattle.tdf_exec.specs.Cluster.{ClusterOf}
-use Rattle.tdf_exec.specs.Crossing.{HasBegun, HasCrossed as HasLeft}
+use Rattle.tdf_exec.specs.Crossing.{HasBegunPeriod, HasCrossed as HasLeft}
 use Rattle.tdf_exec.specs.Gained.{sent_size, size_due, traced_size}
 use Rattle.tdf_exec.specs.Made.{IsClusterOf}
 use Rattle.tdf_bind.specs.declared.model.Flat.{Flat}
@@ -28,7 +28,7 @@ pub data Crosses (P : Type 0) (flat : Flat) (time : ℕ) (c d : ClusterOf) (s t 
   Stays : is_ending time s c ≡ false → d ≡ c → t ≡ s → Crosses P flat time c d s t
   Begins : IsAtHead c d → (P → GivesAsMuch c d) → IsClusterOf flat d → t ≡ time → Crosses P flat time c d s t
 
-at_head : (next : Next) (c between d : ClusterOf) → HasLeft c between → HasBegun between next d → IsAtHead c d
+at_head : (next : Next) (c between d : ClusterOf) → HasLeft c between → HasBegunPeriod between next d → IsAtHead c d
 at_head answer.Same c between d left begun = record {
   number = ap (λ (z : ClusterOf). z.number) begun ∙ ap (λ (z : ClusterOf). z.number) left.rest;
   going = ap (λ (z : ClusterOf). z.crossed) begun;
@@ -38,7 +38,7 @@ at_head (answer.Changed attrs plan) c between d left begun = record {
   going = ap (λ (z : ClusterOf). z.crossed) begun.rest;
 }
 
-as_much : (next : Next) (c between d : ClusterOf) → is_new next ≡ false → HasLeft c between → HasBegun between next d → GivesAsMuch c d
+as_much : (next : Next) (c between d : ClusterOf) → is_new next ≡ false → HasLeft c between → HasBegunPeriod between next d → GivesAsMuch c d
 as_much answer.Same c between d is left begun =
     let runners : d.runners ≡ between.runners = ap (λ (z : ClusterOf). z.runners) begun in
     let entries : d.entries ≡ c.entries = ap (λ (z : ClusterOf). z.entries) begun ∙ ap (λ (z : ClusterOf). z.entries) left.rest in

@@ -4,7 +4,7 @@ use Rattle.std.proofs.lemmas.List.{append-nil}
 use Rattle.std.proofs.lemmas.Option.{slice_get-get_or, slice_get_within}
 use Rattle.std.specs.Prelude.{slice_index_or, slice_set}
 use Rattle.tdf_sim_instants.proofs.Boundaries.{still_to_come}
-use Rattle.tdf_sim_instants.specs.Crossing.{CanCross, CrossingOf, EndingAt, HasCrossed, HasEnding, HasGoneOn, HasNoTurn, HasStopped, HaveCrossed, IsEndingOf, IsRefusedAt, NoneChanges, crossing_of, ending_at, is_ending}
+use Rattle.tdf_sim_instants.specs.Crossing.{CanCross, CrossingOf, EndingAt, HasCrossedBoundary, HasEnding, HasGoneOn, HasNoTurn, HasStopped, HaveCrossed, IsEndingOf, IsRefusedAt, NoneChanges, crossing_of, ending_at, is_ending}
 use Rattle.tdf_sim_instants.specs.declared.crossing.Turn.{Turn}
 use Rattle.tdf_sim_instants.specs.declared.crossing.Turn.TheVariants.{Kept, Planned}
 use Rattle.tdf_sim_instants.specs.machine.Crossing.{GoesOnBy}
@@ -67,7 +67,7 @@ module _ (flat : Flat) (time : ℕ) (x : CrossingOf) (can : CanCross flat time x
     one ending = subst (λ k. HaveCrossed flat time k x z) (sym (add-one n)) (one_more flat time n x y z crossed ending)
 
     pub crossed_more : (did : Turn) → GoesOnBy did n y.planned planned → (is_ending time s c ≡ false → HasGoneOn time turn y.left rest)
-        → (is_ending time s c ≡ true → did ≡ Kept → HasCrossed flat time false turn y.left rest) → (did ≡ Planned → HasCrossed flat time true turn y.left rest) → HaveCrossed flat time (n + 1) x z
+        → (is_ending time s c ≡ true → did ≡ Kept → HasCrossedBoundary flat time false turn y.left rest) → (did ≡ Planned → HasCrossedBoundary flat time true turn y.left rest) → HaveCrossed flat time (n + 1) x z
     crossed_more did (inl same) stays kept new = ended (is_ending time s c) refl
       where
         ended : (b : Bool) → is_ending time s c ≡ b → HaveCrossed flat time (n + 1) x z

@@ -3,7 +3,7 @@ use Rattle.std.proofs.Common.{◌≡◌, ◌∙◌, ℕ, ◌+◌, ◌<◌, ◌�
 use Rattle.tdf_events_queue.specs.Sets.{count_on}
 use Rattle.tdf_sim_instants.proofs.Calm.{due_next}
 use Rattle.tdf_sim_instants.specs.Settling.{IsBefore}
-use Rattle.tdf_sim_instants.specs.Times.{IsLeastDue, IsNextDue, IsRunning, due_time}
+use Rattle.tdf_sim_instants.specs.Times.{IsLeastDue, IsNextDue, IsClusterRunning, due_time}
 use Rattle.tdf_events.specs.Delta.{is_idle}
 use Rattle.tdf_events.specs.Kernel.{IsNextOf}
 use Rattle.tdf_events.specs.Side.{SideOf}
@@ -24,7 +24,7 @@ least_none cs since limit = record {
 }
 
 module _ (cs : List ClusterOf) (since : List ℕ) (n limit least : ℕ) (before : IsLeastDue cs since n limit least) (c : ClusterOf) (s : ℕ) (c_at : slice_get cs n ≡ Some c) (s_at : slice_get since n ≡ Some s) where
-  here : (m r : ℕ) (d : ClusterOf) → m ≡ n → IsRunning cs since m r d → due_time r d ≡ due_time s c
+  here : (m r : ℕ) (d : ClusterOf) → m ≡ n → IsClusterRunning cs since m r d → due_time r d ≡ due_time s c
   here m r d same running =
       ap (λ k. due_time k d) (some_same r s (sym running.begun ∙ ap (slice_get since) same ∙ s_at))
       ∙ ap (due_time s) (some_same d c (sym running.cluster ∙ ap (slice_get cs) same ∙ c_at))
@@ -50,7 +50,7 @@ module _ (cs : List ClusterOf) (since : List ℕ) (n limit least : ℕ) (before 
   }
 
 module _ (cs : List ClusterOf) (since : List ℕ) (side : SideOf) (stop least : ℕ) (is : IsLeastDue cs since (length cs) stop least) where
-  inside : (m s : ℕ) (c : ClusterOf) → IsRunning cs since m s c → m < length cs
+  inside : (m s : ℕ) (c : ClusterOf) → IsClusterRunning cs since m s c → m < length cs
   inside m s c running = slice_get_within cs m c running.cluster
 
   -- the event side is before a time that its next one doesn't come before

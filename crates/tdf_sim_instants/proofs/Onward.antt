@@ -10,7 +10,7 @@ use Rattle.tdf_sim_instants.proofs.Passed.{Turns}
 use Rattle.tdf_sim_instants.specs.Crossing.{is_ending}
 use Rattle.tdf_sim_instants.specs.Engine.{IsInProgress}
 use Rattle.tdf_sim_instants.specs.Times.{due_offset, due_time}
-use Rattle.tdf_exec.specs.Cluster.{ClusterOf, is_due, is_offset, next_offset, offset_in}
+use Rattle.tdf_exec.specs.Cluster.{ClusterOf, is_next_due, is_offset, next_offset, offset_in}
 use Rattle.tdf_exec.specs.Played.{AreDone}
 use Rattle.tdf_bind.specs.declared.model.Flat.{Flat}
 use Rattle.tdf_streams.proofs.Api.{get_inside}
@@ -74,14 +74,14 @@ next_or_none c = elim (cases_lt c.place (length c.entries)) [
   | inr past ↦ inr (ap offset_in (slice_get_past c.entries c.place past))
 ]
 
-not_due : (c : ClusterOf) (x : Entry) (offset : ℕ) → slice_get c.entries c.place ≡ Some x → is_due c offset ≡ false → x.offset ≡ offset → ⊥
+not_due : (c : ClusterOf) (x : Entry) (offset : ℕ) → slice_get c.entries c.place ≡ Some x → is_next_due c offset ≡ false → x.offset ≡ offset → ⊥
 not_due c x offset at none same = true_false (sym (ap (λ o. is_offset (offset_in o) offset) at ∙ eq-eqb x.offset offset same) ∙ none)
 
 is_offset_some : (o : Option ℕ) (offset : ℕ) → is_offset o offset ≡ true → o ≡ Some offset
 is_offset_some None offset due = absurd (true_false (sym due))
 is_offset_some (Some k) offset due = ap Some (eqb-true k offset due)
 
-idle_later : (time s : ℕ) (c : ClusterOf) → s ≤ time → IsDueFrom time s c → is_due c (time - s) ≡ false → ((x : Entry) × (slice_get c.entries c.place ≡ Some x)) ⊎ (next_offset c ≡ None) → time + 1 ≤ due_time s c
+idle_later : (time s : ℕ) (c : ClusterOf) → s ≤ time → IsDueFrom time s c → is_next_due c (time - s) ≡ false → ((x : Entry) × (slice_get c.entries c.place ≡ Some x)) ⊎ (next_offset c ≡ None) → time + 1 ≤ due_time s c
 idle_later time s c begun from none (inl here) =
     let d = due_some s here.0.offset c (ap offset_in here.1) in
     let f = from.from in
@@ -89,7 +89,7 @@ idle_later time s c begun from none (inl here) =
     elim (cases_lt time (due_time s c)) [ inl less ↦ omega (arith, less) | inr over ↦ absurd (n (omega (arith, over, d, f, begun))) ]
 idle_later time s c begun from none (inr end) = let e = from.end end in omega (arith, e)
 
-module _ (time s : ℕ) (c d : ClusterOf) (begun : s ≤ time) (sorted : AreByOffset c.entries) (inside : All (λ (x : Entry). x.offset < c.period) c.entries) (due : is_due c (time - s) ≡ true) (did : AreDone (time - s) c d) where
+module _ (time s : ℕ) (c d : ClusterOf) (begun : s ≤ time) (sorted : AreByOffset c.entries) (inside : All (λ (x : Entry). x.offset < c.period) c.entries) (due : is_next_due c (time - s) ≡ true) (did : AreDone (time - s) c d) where
   first : (x : Entry) × (slice_get c.entries c.place ≡ Some x) × (x.offset ≡ time - s)
   first = go (slice_get c.entries c.place) refl
     where

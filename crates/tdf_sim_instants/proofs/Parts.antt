@@ -15,10 +15,10 @@ use Rattle.tdf_exec.specs.Gained.{IsSentOf}
 use Rattle.tdf_exec.specs.Made.{IsClusterOf}
 use Rattle.tdf_bind.specs.declared.model.Flat.{Flat}
 use Rattle.tdf_streams.proofs.Api.{some_same}
-use Rattle.tdf_sim_history.specs.Instant.{RunFault, events_of, is_written, settled_as}
+use Rattle.tdf_sim_history.specs.Instant.{RunFault, events_of, has_write, settled_as}
 use Rattle.tdf_sim_history.specs.World.{SinkWrite, World}
 use Rattle.tdf_sim_history.specs.History.{Step, Going, Past}
-use Rattle.tdf_sim_refinement.specs.Pass.{HasTurn, HavePassed, PassAt, RunOf}
+use Rattle.tdf_sim_refinement.specs.Pass.{PassHasTurn, HavePassed, PassAt, RunOf}
 use Rattle.tdf_lang_tree.specs.Pure.{PureTree}
 use Rattle.tdf_sim_history.specs.Rules.{is_side_due, rules_of, settle, signal_write}
 
@@ -28,12 +28,12 @@ sorted_of by flat c of = subst AreByOffset of.planned.entries_are (by _ _ _ _ of
 
 -- what a pass sends comes after what was sent before
 module _ (flat : Flat) (pass : PassAt) (x : RunOf) where
-  turn_sends : (n : ℕ) (mid y : RunOf) (t : List Sent) → HasTurn flat pass n mid y t → (y.outputs.sent ≡ mid.outputs.sent ++ t) × All (IsSentOf flat.tables) t
-  turn_sends n mid y t (HasTurn.Idle turn is idled) = (
+  turn_sends : (n : ℕ) (mid y : RunOf) (t : List Sent) → PassHasTurn flat pass n mid y t → (y.outputs.sent ≡ mid.outputs.sent ++ t) × All (IsSentOf flat.tables) t
+  turn_sends n mid y t (PassHasTurn.Idle turn is idled) = (
     ap (λ (o : OutputsOf). o.sent) idled.outputs ∙ sym (append-nil mid.outputs.sent) ∙ ap (λ l. mid.outputs.sent ++ l) (sym idled.nothing),
     subst (All (IsSentOf flat.tables)) (sym idled.nothing) (λ k d below. absurd (omega (arith, below))),
   )
-  turn_sends n mid y t (HasTurn.Done turn is did) = (
+  turn_sends n mid y t (PassHasTurn.Done turn is did) = (
     ap (λ (o : OutputsOf). o.sent) did.fired.gained.are ∙ ap (λ l. mid.outputs.sent ++ l) (sym did.sent_is),
     subst (All (IsSentOf flat.tables)) (sym did.sent_is) did.fired.gained.sinks,
   )
@@ -52,7 +52,7 @@ module _ (flat : Flat) (pass : PassAt) (x : RunOf) where
       )
 
 -- the event part of the history, by what the kernel did
-written_some : (writes : List SinkWrite) → is_written writes ≡ not (nat_eq (length (map signal_write writes)) 0)
+written_some : (writes : List SinkWrite) → has_write writes ≡ not (nat_eq (length (map signal_write writes)) 0)
 written_some [] = refl
 written_some (x ∷ xs) = ap not (sym (ne_eqb (length (map signal_write (x ∷ xs))) 0 (λ e. omega (arith, e))))
 
@@ -87,7 +87,7 @@ module _ (model : PureTree) (flat : Flat) (time : ℕ) (v : World SideOf) where
   side_if b = b || is_side_due v.events time
 
   pub events_go : (s : SideOf × ℕ) → event_turn model flat time (map signal_write v.written) v.events v.left ≡ Some s → events_of (rules_of model flat) time v ≡ Going (after s)
-  events_go s is = goes_if (is_written v.written || is_side_due v.events time) s (ap (λ b. turn_if (side_if b)) (written_some v.written) ∙ is)
+  events_go s is = goes_if (has_write v.written || is_side_due v.events time) s (ap (λ b. turn_if (side_if b)) (written_some v.written) ∙ is)
 
   pub events_end : event_turn model flat time (map signal_write v.written) v.events v.left ≡ None → events_of (rules_of model flat) time v ≡ Past v
-  events_end none = ends_if (is_written v.written || is_side_due v.events time) (ap (λ b. turn_if (side_if b)) (written_some v.written) ∙ none)
+  events_end none = ends_if (has_write v.written || is_side_due v.events time) (ap (λ b. turn_if (side_if b)) (written_some v.written) ∙ none)

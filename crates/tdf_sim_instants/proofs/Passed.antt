@@ -2,23 +2,23 @@
 use Rattle.std.proofs.Common.{◌≡◌, ◌≢◌, ◌⊎◌, ◌∙◌, ℕ, zero, suc, ◌-◌, ◌<◌, true, false, List, Some, length, length-set, slice_get, inl, inr, sym, ap, subst, arith}
 use Rattle.std.proofs.lemmas.Option.{slice_get_within}
 use Rattle.tdf_convert.specs.declared.outputs.Sent.{Sent}
-use Rattle.tdf_exec.specs.Cluster.{ClusterOf, is_due}
+use Rattle.tdf_exec.specs.Cluster.{ClusterOf, is_next_due}
 use Rattle.tdf_exec.specs.Made.{IsClusterOf}
 use Rattle.tdf_exec.specs.Played.{AreDone}
 use Rattle.tdf_bind.specs.declared.model.Flat.{Flat}
 use Rattle.tdf_streams.proofs.Api.{some_same}
 use Rattle.tdf_sim_refinement.proofs.Api.{get_set_other, later, same_or_not, set_is}
-use Rattle.tdf_sim_refinement.specs.Pass.{HasTurn, HavePassed, IsTurnOf, PassAt, RunOf, TurnAt}
+use Rattle.tdf_sim_refinement.specs.Pass.{PassHasTurn, HavePassed, IsTurnOf, PassAt, RunOf, TurnAt}
 
 -- a cluster after its turn: nothing was due in it, or it has done its entries of the time
 pub data Turns (flat : Flat) (offset : ℕ) (c d : ClusterOf) : Type 0 where
-  Idles : is_due c offset ≡ false → d ≡ c → Turns flat offset c d
-  Fires : is_due c offset ≡ true → IsClusterOf flat d → AreDone offset c d → Turns flat offset c d
+  Idles : is_next_due c offset ≡ false → d ≡ c → Turns flat offset c d
+  Fires : is_next_due c offset ≡ true → IsClusterOf flat d → AreDone offset c d → Turns flat offset c d
 
 module _ (flat : Flat) (pass : PassAt) (x : RunOf) where
-  made : (n : ℕ) (mid y : RunOf) (t : List Sent) → HasTurn flat pass n mid y t → (turn : TurnAt) × IsTurnOf pass n mid y turn × Turns flat (pass.time - turn.since) turn.before turn.after
-  made n mid y t (HasTurn.Idle turn is idled) = (turn, is, Turns.Idles idled.none idled.same)
-  made n mid y t (HasTurn.Done turn is did) = (turn, is, Turns.Fires did.due did.fired.of did.fired.done)
+  made : (n : ℕ) (mid y : RunOf) (t : List Sent) → PassHasTurn flat pass n mid y t → (turn : TurnAt) × IsTurnOf pass n mid y turn × Turns flat (pass.time - turn.since) turn.before turn.after
+  made n mid y t (PassHasTurn.Idle turn is idled) = (turn, is, Turns.Idles idled.none idled.same)
+  made n mid y t (PassHasTurn.Done turn is did) = (turn, is, Turns.Fires did.due did.fired.of did.fired.done)
 
   pub passed_long : (n : ℕ) (y : RunOf) (sent : List Sent) → HavePassed flat pass n x y sent → length y.clusters ≡ length x.clusters
   unfolding HavePassed

@@ -4,7 +4,7 @@ use Rattle.std.proofs.lemmas.List.Sums.{sum_by-cons}
 use Rattle.std.specs.Prelude.{sum}
 use Rattle.tdf_sim_instants.specs.Engine.{HaveRooms}
 use Rattle.tdf_exec.proofs.Api.{due_left}
-use Rattle.tdf_exec.specs.Cluster.{ClusterOf, is_due}
+use Rattle.tdf_exec.specs.Cluster.{ClusterOf, is_next_due}
 use Rattle.tdf_exec.specs.Gained.{size_due}
 use Rattle.tdf_exec.specs.declared.runners.Runner.{Runner}
 use Rattle.tdf_sim_refinement.specs.Pass.{pass_size}
@@ -22,7 +22,7 @@ pass_few size time [] clusters most same each = omega arith
 pass_few size time (s ∷ since) [] most same each = omega arith
 pass_few size time (s ∷ since) (c ∷ clusters) [] same each = absurd (omega (arith, same))
 pass_few size time (s ∷ since) (c ∷ clusters) (m ∷ most) same each =
-    let here = turn_few size time s m c (is_due c (time - s)) (each 0 m (time - s) c refl refl) in
+    let here = turn_few size time s m c (is_next_due c (time - s)) (each 0 m (time - s) c refl refl) in
     let total = sum_by-cons (λ (k : ℕ). k) m most in
     let rest = pass_few size time since clusters most (omega (arith, same)) (λ n k offset d d_at k_at. each (suc n) k offset d d_at k_at) in
     omega (arith, here, rest, total)

@@ -5,7 +5,7 @@ use Rattle.tdf_convert.specs.Links.{AreLinks, HaveSignals}
 use Rattle.tdf_convert.specs.Sampled.{AreSampled}
 use Rattle.tdf_convert.specs.declared.links.Links.{Links}
 use Rattle.tdf_sim_instants.specs.Sampling.{CanSample, HaveSampled, SamplingAt}
-use Rattle.tdf_exec.specs.Cluster.{ClusterOf, is_due}
+use Rattle.tdf_exec.specs.Cluster.{ClusterOf, is_next_due}
 use Rattle.tdf_fixed.specs.declared.raw.Raw.{Raw}
 use Rattle.tdf_streams.proofs.Api.{some_same}
 use Rattle.tdf_sim_refinement.proofs.Api.{get_set_other, same_or_not, set_is}
@@ -33,10 +33,10 @@ module _ (at : SamplingAt) (first : List (List Raw)) (can : CanSample at first) 
   pub signals_now : HaveSignals l.list.items (length at.values)
   signals_now = can.signals n l l_at
 
-  module _ (j : List Raw) (sampled : is_due c (at.time - slice_index_or at.since n 0) ≡ true → AreSampled c.entries (at.time - slice_index_or at.since n 0) l.list.items at.values i j)
-      (kept : is_due c (at.time - slice_index_or at.since n 0) ≡ false → j ≡ i) (long : length j ≡ length i) where
+  module _ (j : List Raw) (sampled : is_next_due c (at.time - slice_index_or at.since n 0) ≡ true → AreSampled c.entries (at.time - slice_index_or at.since n 0) l.list.items at.values i j)
+      (kept : is_next_due c (at.time - slice_index_or at.since n 0) ≡ false → j ≡ i) (long : length j ≡ length i) where
     abbrev Due : (s : ℕ) → ClusterOf → Links → (x y : List Raw) → Type 0
-    Due s d k x y = is_due d (at.time - s) ≡ true → AreSampled d.entries (at.time - s) k.list.items at.values x y
+    Due s d k x y = is_next_due d (at.time - s) ≡ true → AreSampled d.entries (at.time - s) k.list.items at.values x y
 
     due_here : (s : ℕ) (d : ClusterOf) (k : Links) (x y : List Raw) → s ≡ slice_index_or at.since n 0 → d ≡ c → k ≡ l → x ≡ i → y ≡ j → Due s d k x y
     due_here s d k x y s_is d_is k_is x_is y_is =
@@ -61,7 +61,7 @@ module _ (at : SamplingAt) (first : List (List Raw)) (can : CanSample at first) 
         before.due m s d k x y (omega (arith, below, apart)) s_at d_at k_at x_at (sym (get_set_other now n m j apart) ∙ y_at)
 
     abbrev Idle : (s : ℕ) → ClusterOf → (x y : List Raw) → Type 0
-    Idle s d x y = is_due d (at.time - s) ≡ false → y ≡ x
+    Idle s d x y = is_next_due d (at.time - s) ≡ false → y ≡ x
 
     idle_here : (s : ℕ) (d : ClusterOf) (x y : List Raw) → s ≡ slice_index_or at.since n 0 → d ≡ c → x ≡ i → y ≡ j → Idle s d x y
     idle_here s d x y s_is d_is x_is y_is =

@@ -5,7 +5,7 @@ use Rattle.tdf_convert.specs.declared.links.Links.{Links}
 use Rattle.tdf_sim_instants.specs.Engine.{IsEngineOf}
 use Rattle.tdf_sim_instants.specs.Sampling.{HaveSampled, sampling_at}
 use Rattle.tdf_sim_instants.specs.declared.engine.Engine.{Engine}
-use Rattle.tdf_exec.specs.Cluster.{ClusterOf, is_due}
+use Rattle.tdf_exec.specs.Cluster.{ClusterOf, is_next_due}
 use Rattle.tdf_exec.specs.Made.{IsClusterOf}
 use Rattle.tdf_exec.specs.Played.{AreInputsFor}
 use Rattle.tdf_fixed.specs.declared.raw.Raw.{Raw}
@@ -21,7 +21,7 @@ use Rattle.tdf_lang_tree.specs.Pure.{PureTree}
 module _ (model : PureTree) (flat : Flat) (sound : IsSoundModel model) (is : IsFlatOf model flat) (e : Engine) (of : IsEngineOf flat e) (time : ℕ) (since : List ℕ) (clusters : List ClusterOf) (inputs : List (List Raw))
     (many : length clusters ≡ length e.clusters.items) (sampled : HaveSampled (sampling_at time since clusters e.links.items e.kernel.values) (length clusters) e.inputs.items inputs)
     (n s : ℕ) (c : ClusterOf) (i : List Raw) (c_at : slice_get clusters n ≡ Some c) (s_at : slice_get since n ≡ Some s) (i_at : slice_get inputs n ≡ Some i) (c_of : IsClusterOf flat c) (number : c.number ≡ n + 1)
-    (due : is_due c (time - s) ≡ true) where
+    (due : is_next_due c (time - s) ≡ true) where
   inside : n < length clusters
   inside = slice_get_within clusters n c c_at
 

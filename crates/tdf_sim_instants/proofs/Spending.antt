@@ -1,7 +1,7 @@
 -- What the firings and the event part of an instant did.
 use Rattle.std.proofs.Common.{◌≡◌, ◌∙◌, ℕ, Option, Ok, OnOk, Err, Result, length, map, ap, subst, sym}
 use Rattle.tdf_base.specs.declared.memory.Memory.{Memory}
-use Rattle.tdf_convert.specs.Emitted.{write_of as write_to}
+use Rattle.tdf_convert.specs.Emitted.{write_of_sent as write_to}
 use Rattle.tdf_sim_instants.specs.Crossing.{CrossingOf, crossing_of}
 use Rattle.tdf_sim_instants.specs.Engine.{AreRoomy, HaveFired, HaveFiredPart, Settles}
 use Rattle.tdf_sim_instants.specs.Sampling.{HaveSampled, sampling_at}
@@ -13,7 +13,7 @@ use Rattle.tdf_events.specs.Kernel.{side_of}
 use Rattle.tdf_events.specs.Side.{SideOf}
 use Rattle.tdf_expr.specs.Checked.{IsCheckedOf}
 use Rattle.tdf_bind.specs.declared.model.Flat.{Flat}
-use Rattle.tdf_sim_refinement.specs.Pass.{HasPassedAll, HasPassedPart, pass_at, run_of}
+use Rattle.tdf_sim_refinement.specs.Pass.{HasPassedAll, HasPassedPart, pass_at, pass_run}
 use Rattle.tdf_lang_tree.specs.Pure.{PureTree}
 
 -- what a pass answered
@@ -55,16 +55,16 @@ module _ (flat : Flat) (time left : ℕ) (e e2 e3 : Engine) (left2 left3 : ℕ)
   sampled_is : HaveSampled (sampling_at time e2.since.items e2.clusters.items e.links.items e.kernel.values) (length e2.clusters.items) e.inputs.items e3.inputs.items
   sampled_is = subst (λ (z : Engine). HaveSampled (sampling_at time e2.since.items e2.clusters.items z.links.items z.kernel.values) (length e2.clusters.items) z.inputs.items e3.inputs.items) rest2 sampled
 
-  pub fired_part : HasPassedPart flat (pass_at time e2.since.items e3.inputs.items) (run_of e2.clusters.items e2.outputs left2) (run_of e3.clusters.items e3.outputs left3)
-      → HaveFiredPart flat time e crossed e3.inputs.items (run_of e3.clusters.items e3.outputs left3)
+  pub fired_part : HasPassedPart flat (pass_at time e2.since.items e3.inputs.items) (pass_run e2.clusters.items e2.outputs left2) (pass_run e3.clusters.items e3.outputs left3)
+      → HaveFiredPart flat time e crossed e3.inputs.items (pass_run e3.clusters.items e3.outputs left3)
   fired_part part = record { sampled = sampled_is; outputs = e2.outputs; firings = part }
 
-  pub fired_all : AreRoomy e2.clusters.items e2.outputs e2.writes → HasPassedAll flat (pass_at time e2.since.items e3.inputs.items) (run_of e2.clusters.items e2.outputs left2) (run_of e3.clusters.items e3.outputs left3)
-      → HaveFired flat time e crossed e3.inputs.items (run_of e3.clusters.items e3.outputs left3)
+  pub fired_all : AreRoomy e2.clusters.items e2.outputs e2.writes → HasPassedAll flat (pass_at time e2.since.items e3.inputs.items) (pass_run e2.clusters.items e2.outputs left2) (pass_run e3.clusters.items e3.outputs left3)
+      → HaveFired flat time e crossed e3.inputs.items (pass_run e3.clusters.items e3.outputs left3)
   fired_all roomy all = record { sampled = sampled_is; outputs = e2.outputs; none_sent = roomy.none_sent; none_traced = roomy.none_traced; firings = all }
 
   pub settles_as : (after : Option (SideOf × ℕ)) → e3 ≡ record e2 { clusters = e3.clusters; inputs = e3.inputs; outputs = e3.outputs }
       → ((model : PureTree) → IsCheckedOf model flat.checked → event_turn model flat time (map (write_to e3.sinks.list.items) e3.outputs.sent) (side_of e3.kernel) left3 ≡ after)
-      → Settles flat time e (run_of e3.clusters.items e3.outputs left3) after
+      → Settles flat time e (pass_run e3.clusters.items e3.outputs left3) after
   settles_as after rest3 is = λ model checked. subst (λ (z : Engine). event_turn model flat time (map (write_to z.sinks.list.items) e3.outputs.sent) (side_of z.kernel) left3 ≡ after) rest2
       (subst (λ (z : Engine). event_turn model flat time (map (write_to z.sinks.list.items) e3.outputs.sent) (side_of z.kernel) left3 ≡ after) rest3 (is model checked))

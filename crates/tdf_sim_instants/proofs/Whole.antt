@@ -1,7 +1,7 @@
 -- An instant of all that runs is that of the history.
 use Rattle.std.proofs.Common.{◌≡◌, ◌∙◌, ℕ, ◌+◌, ◌-◌, ◌≤◌, List, [], ◌++◌, Option, Some, None, option_map, length, map, slice_get, refl, sym, ap, subst, arith}
 use Rattle.std.proofs.lemmas.Option.{slice_get_within}
-use Rattle.tdf_convert.specs.Emitted.{write_of as write_to}
+use Rattle.tdf_convert.specs.Emitted.{write_of_sent as write_to}
 use Rattle.tdf_base.specs.declared.faults.Fault.{Fault}
 use Rattle.tdf_convert.specs.Outputs.{OutputsOf}
 use Rattle.tdf_convert.specs.Sampled.{PlansGoByOffset}
@@ -31,7 +31,7 @@ use Rattle.tdf_sim_history.specs.History.{Step, Fault as Faulted, Past, and_then
 use Rattle.tdf_sim_refinement.proofs.Api.{emitted_to, pass_is_spent, passes_along}
 use Rattle.tdf_sim_refinement.specs.At.{AreSettled, IsAt}
 use Rattle.tdf_sim_refinement.specs.Firings.{settled_values, write_of}
-use Rattle.tdf_sim_refinement.specs.Pass.{AreReady, HasPassedAll, PassAt, PassesAlong, RunOf, AreAt, pass_at, run_of, world_with}
+use Rattle.tdf_sim_refinement.specs.Pass.{AreReady, HasPassedAll, PassAt, PassesAlong, RunOf, AreAt, pass_at, pass_run, world_with}
 use Rattle.tdf_lang_tree.specs.Pure.{PureTree}
 use Rattle.tdf_sim_history.specs.Rules.{rules_of, signal_write}
 
@@ -110,7 +110,7 @@ module _ (by : PlansGoByOffset) (model : PureTree) (flat : Flat) (time : ℕ) (w
       }
 
       abbrev run : RunOf
-      run = run_of mid.clusters outputs mid.left
+      run = pass_run mid.clusters outputs mid.left
 
       after_crossing : instant model flat rules time (world_told crossing.told w) ≡ then_settles (turns_to fires (length w.clusters) v)
       after_crossing = instant_is crossing.told ∙ ap then_fires crossing.goes
@@ -182,14 +182,14 @@ module _ (by : PlansGoByOffset) (model : PureTree) (flat : Flat) (time : ℕ) (w
   spent f (HasBeenSpent.InFirings mid inputs y crossed fired clusters planned) =
       let along = crossing mid crossed in
       let begin = world_crossed w along.clusters mid.left mid.planned in
-      let p = pass_is_spent model flat rules (pass_at time mid.since inputs) begin (run_of mid.clusters fired.outputs mid.left) m.checked m.is m.limits
+      let p = pass_is_spent model flat rules (pass_at time mid.since inputs) begin (pass_run mid.clusters fired.outputs mid.left) m.checked m.is m.limits
       along.at refl (ready mid crossed inputs fired.sampled fired.outputs) fired.firings.number y fired.firings.to in
       record {
         told = along.told;
         are_told = told_all mid crossed;
         last = _;
         has = record {
-          plans = λ n. (spent_plans model flat rules (pass_at time mid.since inputs) fired.firings.number (length begin.clusters) begin (run_of mid.clusters fired.outputs mid.left) y fired.firings.to p n
+          plans = λ n. (spent_plans model flat rules (pass_at time mid.since inputs) fired.firings.number (length begin.clusters) begin (pass_run mid.clusters fired.outputs mid.left) y fired.firings.to p n
               ∙ ap (λ l. option_map rows_in (slice_get l n)) (sym clusters));
           planned = sym planned;
         };

@@ -60,7 +60,8 @@ is_new answer.Same = false
 is_new (answer.Changed attrs plan) = true
 
 -- its period ends, for a turn, and the next one begins, with a new plan or with the same one
-pub record HasCrossed (flat : Flat) (time : ℕ) (new : Bool) (turn : EndingAt) (left rest : ℕ)
+pub record HasCrossedBoundary (flat : Flat) (time : ℕ) (new : Bool) (turn : EndingAt)
+    (left rest : ℕ)
     : Type 0 where
   pub over : is_ending time turn.since turn.before ≡ true
   pub some : 0 < left
@@ -80,7 +81,7 @@ pub data HasEnding (flat : Flat) (time n : ℕ) (x y : CrossingOf) : Type 0 wher
   Open : (turn : EndingAt) → IsEndingOf n x y turn → HasGoneOn time turn x.left y.left
       → y.planned ≡ x.planned → HasEnding flat time n x y
   Over : (turn : EndingAt) (new : Bool) → IsEndingOf n x y turn
-      → HasCrossed flat time new turn x.left y.left
+      → HasCrossedBoundary flat time new turn x.left y.left
       → y.planned ≡ x.planned ++ planned_if new n → HasEnding flat time n x y
 
 -- the first n clusters have had their boundaries

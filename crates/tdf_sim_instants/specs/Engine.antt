@@ -2,7 +2,7 @@
 -- Source: own.
 use Rattle.std.specs.Prelude.{◌≡◌, ◌<◌, ◌≤◌, ◌+◌, ℕ, false, List, [], Some, length, map, None, Option, slice_get, sum}
 use Rattle.tdf_base.specs.declared.faults.Fault.{Fault}
-use Rattle.tdf_convert.specs.Emitted.{write_of}
+use Rattle.tdf_convert.specs.Emitted.{write_of_sent}
 use Rattle.tdf_convert.specs.Links.{samplers_in}
 use Rattle.tdf_convert.specs.Outputs.{OutputsOf, WritesOf}
 use Rattle.tdf_convert.specs.declared.links.Links.{Links}
@@ -22,7 +22,7 @@ use Rattle.tdf_exec.specs.declared.runners.Runner.{Runner}
 use Rattle.tdf_expr.specs.Checked.{IsCheckedOf}
 use Rattle.tdf_fixed.specs.declared.raw.Raw.{Raw}
 use Rattle.tdf_bind.specs.declared.model.Flat.{Flat}
-use Rattle.tdf_sim_refinement.specs.Pass.{CanPass, HasPassedAll, HasPassedPart, RunOf, pass_at, run_of}
+use Rattle.tdf_sim_refinement.specs.Pass.{CanPass, HasPassedAll, HasPassedPart, RunOf, pass_at, pass_run}
 use Rattle.tdf_lang_tree.specs.Pure.{PureTree}
 
 -- a cluster in progress, number n from 0: one of the flat model, in a period that takes some time
@@ -89,7 +89,7 @@ pub record CanFireAll (flat : Flat) (time : ℕ) (e : Engine) (left : ℕ) : Typ
       e.clusters.items e.links.items e.kernel.values) (length e.clusters.items)
       e.inputs.items inputs
       → CanPass flat (pass_at time e.since.items inputs)
-      (run_of e.clusters.items e.outputs left)
+      (pass_run e.clusters.items e.outputs left)
 
 -- the boundaries of an instant
 abbrev pub HaveBoundaries : Flat → (time : ℕ) → Engine → (left : ℕ) → CrossingOf → Type 0
@@ -106,7 +106,7 @@ pub record HaveFired (flat : Flat) (time : ℕ) (e : Engine) (crossed : Crossing
   pub none_sent : outputs.sent ≡ []
   pub none_traced : outputs.traced ≡ []
   pub firings : HasPassedAll flat (pass_at time crossed.since inputs)
-      (run_of crossed.clusters outputs crossed.left) run
+      (pass_run crossed.clusters outputs crossed.left) run
 
 -- the same, but the turns that are left are too few for one of the clusters
 pub record HaveFiredPart (flat : Flat) (time : ℕ) (e : Engine) (crossed : CrossingOf)
@@ -115,12 +115,12 @@ pub record HaveFiredPart (flat : Flat) (time : ℕ) (e : Engine) (crossed : Cros
       e.kernel.values) (length crossed.clusters) e.inputs.items inputs
   pub outputs : OutputsOf
   pub firings : HasPassedPart flat (pass_at time crossed.since inputs)
-      (run_of crossed.clusters outputs crossed.left) run
+      (pass_run crossed.clusters outputs crossed.left) run
 
 -- what sinks sent is written, in the event part
 abbrev pub Settles : Flat → (time : ℕ) → Engine → RunOf → Option (SideOf × ℕ) → Type 0
 Settles flat time e run after = (model : PureTree) → IsCheckedOf model flat.checked
-    → event_turn model flat time (map (write_of e.sinks.list.items) run.outputs.sent)
+    → event_turn model flat time (map (write_of_sent e.sinks.list.items) run.outputs.sent)
     (side_of e.kernel) run.left ≡ after
 
 -- the three parts of an instant: boundaries, then firings with the values that samplers read, then

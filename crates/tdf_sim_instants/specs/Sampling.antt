@@ -4,7 +4,7 @@ use Rattle.std.specs.Prelude.{◌≡◌, ◌-◌, ◌<◌, ◌≤◌, ℕ, true,
 use Rattle.tdf_convert.specs.Links.{AreLinks, HaveSignals}
 use Rattle.tdf_convert.specs.Sampled.{AreSampled}
 use Rattle.tdf_convert.specs.declared.links.Links.{Links}
-use Rattle.tdf_exec.specs.Cluster.{ClusterOf, is_due}
+use Rattle.tdf_exec.specs.Cluster.{ClusterOf, is_next_due}
 use Rattle.tdf_fixed.specs.declared.raw.Raw.{Raw}
 
 -- a time, the start of the period of each cluster, and which signals their samplers have
@@ -34,12 +34,12 @@ pub record HaveSampled (at : SamplingAt) (n : ℕ) (old new : List (List Raw)) :
   pub due : (m s : ℕ) (c : ClusterOf) (l : Links) (i j : List Raw) → m < n
       → slice_get at.since m ≡ Some s → slice_get at.clusters m ≡ Some c
       → slice_get at.links m ≡ Some l → slice_get old m ≡ Some i → slice_get new m ≡ Some j
-      → is_due c (at.time - s) ≡ true
+      → is_next_due c (at.time - s) ≡ true
       → AreSampled c.entries (at.time - s) l.list.items at.values i j
   pub idle : (m s : ℕ) (c : ClusterOf) (i j : List Raw) → m < n
       → slice_get at.since m ≡ Some s → slice_get at.clusters m ≡ Some c
       → slice_get old m ≡ Some i → slice_get new m ≡ Some j
-      → is_due c (at.time - s) ≡ false → j ≡ i
+      → is_next_due c (at.time - s) ≡ false → j ≡ i
   pub rest : (m : ℕ) → n ≤ m → slice_get new m ≡ slice_get old m
 
 -- so it can be done: each cluster has a start, its links and its inputs

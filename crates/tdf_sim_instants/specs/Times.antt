@@ -16,7 +16,7 @@ abbrev pub due_time : (since : ℕ) → ClusterOf → ℕ
 due_time since c = since + due_offset c (next_offset c)
 
 -- a cluster and the start of its period
-pub record IsRunning (clusters : List ClusterOf) (since : List ℕ) (n s : ℕ) (c : ClusterOf)
+pub record IsClusterRunning (clusters : List ClusterOf) (since : List ℕ) (n s : ℕ) (c : ClusterOf)
     : Type 0 where
   pub cluster : slice_get clusters n ≡ Some c
   pub begun : slice_get since n ≡ Some s
@@ -26,14 +26,14 @@ pub record IsDueTime (clusters : List ClusterOf) (since : List ℕ) (time : ℕ)
   pub number : ℕ
   pub start : ℕ
   pub cluster : ClusterOf
-  pub running : IsRunning clusters since number start cluster
+  pub running : IsClusterRunning clusters since number start cluster
   pub due : due_time start cluster ≡ time
 
 -- the least of these times, or the limit
 pub record IsLeastDue (clusters : List ClusterOf) (since : List ℕ) (n limit time : ℕ)
     : Type 0 where
   pub within : time ≤ limit
-  pub least : (m s : ℕ) (c : ClusterOf) → m < n → IsRunning clusters since m s c
+  pub least : (m s : ℕ) (c : ClusterOf) → m < n → IsClusterRunning clusters since m s c
       → time ≤ due_time s c
   pub due : time < limit → IsDueTime clusters since time
 
@@ -41,6 +41,6 @@ pub record IsLeastDue (clusters : List ClusterOf) (since : List ℕ) (n limit ti
 pub record IsNextDue (clusters : List ClusterOf) (since : List ℕ) (side : SideOf)
     (stop time : ℕ) : Type 0 where
   pub within : time ≤ stop
-  pub each : (m s : ℕ) (c : ClusterOf) → IsRunning clusters since m s c → time ≤ due_time s c
+  pub each : (m s : ℕ) (c : ClusterOf) → IsClusterRunning clusters since m s c → time ≤ due_time s c
   pub before : IsBefore time side
   pub due : time < stop → IsDueTime clusters since time ⊎ (is_side_due side time ≡ true)

@@ -32,7 +32,7 @@ pub(crate) enum Turn {
 }
 
 ghost use Rattle.std.specs.Prelude.{◌≡◌, ◌⊎◌, ◌≤◌, ◌+◌, ◌-◌, ◌++◌, ◌∷◌, ℕ, [], false, true, length, IfErr, IfOk, IfSome, IsOk, None, Ok, OnErr, OnOk, Some};
-ghost use Rattle.tdf_sim_instants.specs.Crossing.{CanCross, HasCrossed, HasGoneOn, HasNoTurn, HasStopped, HaveCrossed, IsRefusedAt, NoneChanges, crossing_of, ending_at, is_ending, is_new};
+ghost use Rattle.tdf_sim_instants.specs.Crossing.{CanCross, HasCrossedBoundary, HasGoneOn, HasNoTurn, HasStopped, HaveCrossed, IsRefusedAt, NoneChanges, crossing_of, ending_at, is_ending, is_new};
 ghost use Rattle.tdf_sim_instants.specs.machine.Crossing.{GoesOnBy};
 ghost use Rattle.tdf_sim_instants.specs.declared.crossing.Pass.TheVariants.{Done, Spent, Stopped};
 ghost use Rattle.tdf_sim_instants.specs.declared.crossing.Turn.TheVariants as came;
@@ -41,7 +41,7 @@ ghost use Rattle.tdf_dynamic.specs.declared.next.Next.{Next as NextOf};
 ghost use Rattle.tdf_dynamic.specs.declared.next.Next.TheVariants.{Same};
 ghost use Rattle.tdf_dynamic_plans.specs.Faults.{IsRefusal};
 ghost use Rattle.tdf_exec.specs.Cluster.{ClusterOf, next_offset};
-ghost use Rattle.tdf_exec.specs.Crossing.{HasCrossed as HasLeft, CanInstall, HasBegun, HasNoChanges, StandsAfter};
+ghost use Rattle.tdf_exec.specs.Crossing.{HasCrossed as HasLeft, CanInstall, HasBegunPeriod, HasNoChanges, StandsAfter};
 ghost use Rattle.tdf_exec.specs.Made.{IsClusterOf};
 ghost use Rattle.tdf_exec.specs.Starts.{IsSoundFlat};
 ghost use Rattle.tdf_sim_history.specs.World.{Refused};
@@ -80,7 +80,7 @@ fn install(alloc: Global, flat: &Flat, cluster: &mut Cluster, next: Next) -> Res
     requires can { CanInstall flat.now cluster.old next }
     ensures same { next ≡ Same → result ≡ Ok false }
     ensures new { IfOk result (λ new. is_new next ≡ new) }
-    ensures begun { OnOk result (HasBegun cluster.old next cluster.new) }
+    ensures begun { OnOk result (HasBegunPeriod cluster.old next cluster.new) }
     ensures of { OnOk result (IsClusterOf flat.now cluster.new) }
     ensures stands { OnOk result (StandsAfter flat.now next cluster.old cluster.new) }
     ensures memory { IfErr result (IsRefusal (λ fault. ⊥)) }
@@ -162,10 +162,10 @@ fn cross_turn(
     ensures stays { is_ending time since.old cluster.old ≡ false
         → HasGoneOn time (ending_at since.old since.new cluster.old cluster.new) left.old left.new }
     ensures crossed { is_ending time since.old cluster.old ≡ true → result ≡ Ok came.Kept
-        → HasCrossed flat.now time false (ending_at since.old since.new cluster.old cluster.new)
+        → HasCrossedBoundary flat.now time false (ending_at since.old since.new cluster.old cluster.new)
         left.old left.new }
     ensures planned { result ≡ Ok came.Planned
-        → HasCrossed flat.now time true (ending_at since.old since.new cluster.old cluster.new)
+        → HasCrossedBoundary flat.now time true (ending_at since.old since.new cluster.old cluster.new)
         left.old left.new }
     ensures over { result ≡ Ok came.Spent → is_ending time since.old cluster.old ≡ true }
     ensures spent { result ≡ Ok came.Spent → left.old ≡ 0 }

@@ -30,7 +30,7 @@ pub struct Engine {
 ghost use Rattle.std.specs.Prelude.{◌≡◌, ◌<◌, ◌≤◌, ◌+◌, ℕ, [], false, true, length, map, IsOk, None, Ok, OnOk, Some};
 ghost use Rattle.tdf_base.specs.Limits.{time_end};
 ghost use Rattle.tdf_base.specs.declared.faults.Fault.{Fault as FaultOf};
-ghost use Rattle.tdf_convert.specs.Emitted.{write_of};
+ghost use Rattle.tdf_convert.specs.Emitted.{write_of_sent};
 ghost use Rattle.tdf_convert.specs.Links.{AreRising};
 ghost use Rattle.tdf_sim_instants.specs.Crossing.{HasNoTurn, HasStopped, NoneChanges, crossing_of};
 ghost use Rattle.tdf_sim_instants.specs.Engine.{AreRoomy, CanFireAll, HasBeenSpent, HasBeenStopped, HasHadInstant, HaveBoundaries, IsEngineOf, IsReadyAt};
@@ -42,7 +42,7 @@ ghost use Rattle.tdf_events.specs.Kernel.{IsKernelOf, side_of};
 ghost use Rattle.tdf_events.specs.Runnable.{IsRunnable};
 ghost use Rattle.tdf_exec.specs.Starts.{IsSoundFlat};
 ghost use Rattle.tdf_expr.specs.Checked.{IsCheckedOf};
-ghost use Rattle.tdf_sim_refinement.specs.Pass.{HasPassedAll, HasPassedPart, pass_at, run_of};
+ghost use Rattle.tdf_sim_refinement.specs.Pass.{HasPassedAll, HasPassedPart, pass_at, pass_run};
 ghost use Rattle.tdf_lang_tree.specs.Pure.{PureTree};
 
 use crate::crossing::{Pass, cross_all};
@@ -135,12 +135,12 @@ impl Engine {
             self.old.inputs.items self.new.inputs.items }
         ensures all { result ≡ true → HasPassedAll flat.now
             (pass_at time self.old.since.items self.new.inputs.items)
-            (run_of self.old.clusters.items self.old.outputs left.old)
-            (run_of self.new.clusters.items self.new.outputs left.new) }
+            (pass_run self.old.clusters.items self.old.outputs left.old)
+            (pass_run self.new.clusters.items self.new.outputs left.new) }
         ensures part { result ≡ false → HasPassedPart flat.now
             (pass_at time self.old.since.items self.new.inputs.items)
-            (run_of self.old.clusters.items self.old.outputs left.old)
-            (run_of self.new.clusters.items self.new.outputs left.new) }
+            (pass_run self.old.clusters.items self.old.outputs left.old)
+            (pass_run self.new.clusters.items self.new.outputs left.new) }
         ensures rest { self.new ≡ record self.old {
           clusters = self.new.clusters;
           inputs = self.new.inputs;
@@ -172,15 +172,15 @@ impl Engine {
         requires none { self.old.writes.list ≡ [] }
         requires room { length self.old.outputs.sent ≤ self.old.writes.room }
         requires settle { CanSettle flat.now time self.old.kernel
-            (map (write_of self.old.sinks.list.items) self.old.outputs.sent) }
+            (map (write_of_sent self.old.sinks.list.items) self.old.outputs.sent) }
         ensures kernel { result ≡ Done → IsKernelOf flat.now self.new.kernel }
         ensures events { (model : PureTree) → IsCheckedOf model flat.now.checked → result ≡ Done
             → event_turn model flat.now time
-            (map (write_of self.old.sinks.list.items) self.old.outputs.sent)
+            (map (write_of_sent self.old.sinks.list.items) self.old.outputs.sent)
             (side_of self.old.kernel) left.old ≡ Some (side_of self.new.kernel, left.new) }
         ensures spent { (model : PureTree) → IsCheckedOf model flat.now.checked → result ≡ Spent
             → event_turn model flat.now time
-            (map (write_of self.old.sinks.list.items) self.old.outputs.sent)
+            (map (write_of_sent self.old.sinks.list.items) self.old.outputs.sent)
             (side_of self.old.kernel) left.old ≡ None }
         ensures never { (number : ℕ) (fault : FaultOf) → result ≡ Stopped number fault → ⊥ }
         ensures rest { self.new ≡ record self.old {

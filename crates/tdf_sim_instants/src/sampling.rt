@@ -4,7 +4,7 @@ ghost use Rattle.std.specs.Prelude.{◌≡◌, ◌≤◌, length, false, true};
 ghost use Rattle.tdf_convert.specs.Links.{AreLinks, HaveSignals};
 ghost use Rattle.tdf_convert.specs.Sampled.{AreSampled};
 ghost use Rattle.tdf_sim_instants.specs.Sampling.{CanSample, HaveSampled, sampling_at};
-ghost use Rattle.tdf_exec.specs.Cluster.{is_due};
+ghost use Rattle.tdf_exec.specs.Cluster.{is_next_due};
 
 use tdf_convert::{Inputs, Links};
 use tdf_exec::Cluster;
@@ -14,9 +14,9 @@ use tdf_fixed::Raw;
 fn sample_turn(cluster: &Cluster, offset: u64, links: &Links, values: &[Raw], inputs: &mut Inputs)
     requires links { AreLinks links.now.list.items (length inputs.old) }
     requires signals { HaveSignals links.now.list.items (length values.now) }
-    ensures due { is_due cluster.now offset ≡ true → AreSampled cluster.now.entries offset
+    ensures due { is_next_due cluster.now offset ≡ true → AreSampled cluster.now.entries offset
         links.now.list.items values.now inputs.old inputs.new }
-    ensures idle { is_due cluster.now offset ≡ false → inputs.new ≡ inputs.old }
+    ensures idle { is_next_due cluster.now offset ≡ false → inputs.new ≡ inputs.old }
     ensures long { length inputs.new ≡ length inputs.old }
 {
     if let Some(next) = cluster.next_offset() {

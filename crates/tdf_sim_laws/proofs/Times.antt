@@ -12,13 +12,13 @@ use Rattle.tdf_sim_laws.specs.Laws.{TimesAreOne}
 use Rattle.tdf_streams.proofs.Api.{steps_whole}
 use Rattle.tdf_streams.specs.Laws.{IsClusterPort}
 use Rattle.tdf_streams.specs.Periods.{IsTimedRecord, PeriodRecord}
-use Rattle.tdf_streams.specs.Signals.{position_time, positions, step_in, time_at_spot, time_of}
+use Rattle.tdf_streams.specs.Signals.{position_time, positions, step_in, time_at_spot, time_of_periods}
 use Rattle.tdf_streams.specs.Streams.{find}
 use Rattle.tdf_trace_rows.proofs.Api.{position_is, time_is}
-use Rattle.tdf_trace_rows.specs.Positions.{AreChained, position_at, time_of as span_time}
+use Rattle.tdf_trace_rows.specs.Positions.{AreChained, position_at, time_in_spans as span_time}
 
 -- with the periods before, which took the time at which the spans begin
-spot_time : (port : PortRow) (before ps : List PeriodRecord) (time j : ℕ) → time ≡ time_of before
+spot_time : (port : PortRow) (before ps : List PeriodRecord) (time j : ℕ) → time ≡ time_of_periods before
     → span_time (spans_from port time ps) j ≡ option_map (time_at_spot port) (find (positions port) before ps j)
 unfolding span_time find
 spot_time port before [] time j same = refl

@@ -13,7 +13,7 @@ use Rattle.tdf_sim_history.specs.WorldLaws.{IsThere, HoldsFirst}
 use Rattle.tdf_sim_refinement.specs.At.{IsAt}
 use Rattle.tdf_streams.specs.Laws.{IsClusterPort}
 use Rattle.tdf_streams.specs.Periods.{IsTimedRecord, PeriodRecord}
-use Rattle.tdf_streams.specs.Signals.{position_time, time_of}
+use Rattle.tdf_streams.specs.Signals.{position_time, time_of_periods}
 use Rattle.tdf_trace_rows.specs.Positions.{position_at}
 use Rattle.tdf_sim_history.specs.Columns.{ColumnStart}
 
@@ -30,6 +30,6 @@ TimesAreOne = (flat : Flat) (cluster number : ℕ) (port : PortRow) (periods : L
 abbrev pub SamplesAreAt : Type 0
 SamplesAreAt = (model : PureTree) (flat : Flat) (number : ℕ) (h : ClusterAt) (c : ClusterOf)
     → (s : ColumnStart) (port : PortRow) (out time j : ℕ) → IsAt model flat number h c
-    → HoldsFirst s port (periods_of h) → time < h.origin + time_of h.old
+    → HoldsFirst s port (periods_of h) → time < h.origin + time_of_periods h.old
     → position_at 0 (column_spans port s h.origin (periods_of h)) time ≡ Some j
     → IsThere model flat number h s port out j

@@ -9,8 +9,8 @@ use Rattle.tdf_sim_history.specs.Rules.{world_engine}
 use Rattle.tdf_sim_history.specs.World.{World}
 
 -- nothing is due before a time
-abbrev pub IsQuiet : PureTree → Flat → World SideOf → (time : ℕ) → Type 0
-IsQuiet model flat w time = (t : ℕ) → t < time → (world_engine model flat).is_due w t ≡ false
+abbrev pub IsWorldQuiet : PureTree → Flat → World SideOf → (time : ℕ) → Type 0
+IsWorldQuiet model flat w time = (t : ℕ) → t < time → (world_engine model flat).is_due w t ≡ false
 
 -- a history is that up to a time and then that from there
 abbrev pub HistorySplits : Type 0
@@ -22,6 +22,6 @@ HistorySplits = (model : PureTree) (flat : Flat) (from : ℕ) (start w : World S
 -- and it is one from time 0 on, where nothing is due before the time at which it begins
 abbrev pub QuietIsFromZero : Type 0
 QuietIsFromZero = (model : PureTree) (flat : Flat) (from : ℕ) (w : World SideOf) (b : ℕ)
-    → IsQuiet model flat w from
+    → IsWorldQuiet model flat w from
     → history (world_engine model flat) 0 w (from + b)
     ≡ history (world_engine model flat) from w b

@@ -13,7 +13,7 @@ use Rattle.tdf_sim_history.specs.Answers.{AreAnswers}
 use Rattle.tdf_sim_history.specs.Instant.{RunFault}
 use Rattle.tdf_sim_history.specs.Texts.{run_notes, state_at}
 use Rattle.tdf_sim_history.specs.World.{Change, World}
-use Rattle.tdf_sim_history.specs.History.{State, On, Spent, Stopped}
+use Rattle.tdf_sim_history.specs.History.{HistoryState, On, Spent, Stopped}
 use Rattle.tdf_dynamic_texts.specs.Plans.{line}
 use Rattle.tdf_sim_notes.specs.declared.ending.End.{End}
 use Rattle.tdf_sim_notes.specs.declared.ending.End.TheVariants as ending
@@ -22,15 +22,15 @@ use Rattle.tdf_sim_history.specs.Continuing.{HasToldCounts}
 use Rattle.tdf_sim_history.specs.Rules.{rules_of, start_world}
 
 -- how a history ended at a stop, of so many turns
-abbrev pub end_of : (stop turns : ℕ) → State (World SideOf) RunFault → End
+abbrev pub end_of : (stop turns : ℕ) → HistoryState (World SideOf) RunFault → End
 end_of stop turns (On w) = ending.Reached stop (turns - w.left)
 end_of stop turns (Stopped time fault w) = ending.Stopped time fault.cluster fault.fault
 end_of stop turns (Spent time w) = ending.Spent time
 
 -- the history of a model from its first plans on, with what is told of its boundaries, at a stop
-abbrev pub state_of : PureTree → Flat → List First → (ahead : List (List Change))
-    → (stop turns : ℕ) → State (World SideOf) RunFault
-state_of model flat firsts ahead stop turns =
+abbrev pub run_state : PureTree → Flat → List First → (ahead : List (List Change))
+    → (stop turns : ℕ) → HistoryState (World SideOf) RunFault
+run_state model flat firsts ahead stop turns =
     state_at model flat (rules_of model flat) (start_world model flat firsts ahead turns) stop
 
 -- what is told of the boundaries of a model from its first plans on is their answers, up to a stop,
@@ -45,7 +45,7 @@ pub record HaveAnswers (model : PureTree) (flat : Flat) (firsts : List First)
 abbrev pub run_end : PureTree → Flat → List First → (ahead : List (List Change))
     → (stop turns : ℕ) → End
 run_end model flat firsts ahead stop turns =
-    end_of stop turns (state_of model flat firsts ahead stop turns)
+    end_of stop turns (run_state model flat firsts ahead stop turns)
 
 abbrev pub run_note : PureTree → Flat → List First → (ahead : List (List Change))
     → (stop turns : ℕ) → List ℕ

@@ -5,12 +5,12 @@ use Rattle.std.specs.Prelude.{◌≡◌, ◌+◌, ℕ, List, All, length}
 use Rattle.tdf_bind_tables.specs.Ranges.{AreInRange}
 use Rattle.tdf_dynamic_first.specs.declared.first.First.{First}
 use Rattle.tdf_bind.specs.declared.model.Flat.{Flat}
-use Rattle.tdf_dynamic_texts.specs.Plans.{plan_text, rows_of}
+use Rattle.tdf_dynamic_texts.specs.Plans.{plan_text, rows_of_plan}
 
 -- the first plan of the cluster at a place, from time 0 on; clusters have numbers from 1 on
 abbrev pub first_text : Flat → (place : ℕ) → First → List ℕ
 first_text flat place first =
-    plan_text flat.resolution flat.tables (place + 1) 0 (rows_of first.plan)
+    plan_text flat.resolution flat.tables (place + 1) 0 (rows_of_plan first.plan)
 
 -- those of all clusters, in order
 abbrev pub plans_of : Flat → List First → List ℕ

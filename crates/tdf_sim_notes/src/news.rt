@@ -2,7 +2,7 @@
 
 ghost use Rattle.std.specs.Prelude.{◌≡◌, ◌+◌, ◌++◌, OnOk, length};
 ghost use Rattle.tdf_bind_tables.specs.Ranges.{AreInRange};
-ghost use Rattle.tdf_dynamic_texts.specs.Plans.{plan_text, rows_of};
+ghost use Rattle.tdf_dynamic_texts.specs.Plans.{plan_text, rows_of_plan};
 ghost use Rattle.tdf_io.specs.Bytes.{WritesText};
 
 use tdf_base::{Memory, cluster_number};
@@ -25,7 +25,7 @@ pub fn push_plan_at(
     requires range { AreInRange flat.now.tables }
     requires bounds { length plan.now.bounds.items ≡ length flat.now.tables.edges }
     ensures plan { OnOk result (text.new.items ≡ text.old.items
-        ++ plan_text flat.now.resolution flat.now.tables (place + 1) time (rows_of plan.now)) }
+        ++ plan_text flat.now.resolution flat.now.tables (place + 1) time (rows_of_plan plan.now)) }
 {
     let number = cluster_number(place)?;
     push_plan(text, &flat.tables, number, time, plan, flat.resolution)
@@ -46,7 +46,8 @@ pub fn write_plan<N: Sink>(
     requires range { AreInRange flat.now.tables }
     requires bounds { length plan.now.bounds.items ≡ length flat.now.tables.edges }
     ensures { WritesText N.taken N.faults notes.old notes.new
-        (plan_text flat.now.resolution flat.now.tables (place + 1) time (rows_of plan.now)) result }
+        (plan_text flat.now.resolution flat.now.tables (place + 1) time (rows_of_plan plan.now))
+        result }
 {
     text.clear();
     match push_plan_at(text, flat, time, place, plan) {

@@ -8,7 +8,7 @@ use Rattle.tdf_dynamic.specs.Laws.{IsBoundary}
 use Rattle.tdf_dynamic_plans.specs.Attributes.{AttrsOf, IsOfCluster, clusters_of}
 use Rattle.tdf_exec.specs.Cluster.{ClusterOf}
 use Rattle.tdf_exec.specs.Crossing.{AreCellsOf, cells_in, values_at}
-use Rattle.tdf_exec.specs.Played.{cells_of}
+use Rattle.tdf_exec.specs.Played.{runner_cells}
 use Rattle.tdf_expr.specs.Checked.{IsCheckedOf}
 use Rattle.tdf_bind.specs.declared.model.Flat.{Flat}
 use Rattle.tdf_sim_history.specs.Answers.{IsAnswer, Leads, asks_in, last_cells}
@@ -21,7 +21,7 @@ use Rattle.tdf_exec_layout.proofs.Api.{module_kind}
 use Rattle.tdf_dynamic_plans.proofs.Api.{modules_few}
 use Rattle.tdf_sim_refinement.specs.At.{IsAt}
 use Rattle.tdf_sim_refinement.specs.Boundary.{HasAnswered}
-use Rattle.tdf_streams.specs.Cluster.{is_outside, is_sampler_kind}
+use Rattle.tdf_streams.specs.Cluster.{is_outside_cluster, is_sampler_kind}
 use Rattle.tdf_streams.specs.Periods.{AreAttributes}
 use Rattle.tdf_sim_refinement.proofs.Knowing.{held}
 use Rattle.tdf_sim_refinement.specs.SampleLaws.{AnswersAreTold, HasAnswer}
@@ -35,7 +35,7 @@ module _ (model : PureTree) (flat : Flat) (number : ℕ) (h : ClusterAt) (c : Cl
   row_own : (i : ℕ) (a : AttrsOf) → slice_get c.table i ≡ Some a → IsOfCluster flat.tables number a
   row_own i a there = subst (λ n. IsOfCluster flat.tables n a) at.number_is (all_at (IsOfCluster flat.tables c.number) c.table i a at.of.attributes.own there)
 
-  not_outside : (a : AttrsOf) → IsOfCluster flat.tables number a → is_outside flat.tables number a.number ≡ false
+  not_outside : (a : AttrsOf) → IsOfCluster flat.tables number a → is_outside_cluster flat.tables number a.number ≡ false
   not_outside a own =
       ap (λ k. is_sampler_kind k || not (nat_eq (slice_index (clusters_of flat.tables) a.number) number)) (module_kind (length flat.tables.modules) flat.tables limits.actors a.number own.is_module)
       ∙ ap not (eq-eqb (slice_index (clusters_of flat.tables) a.number) number own.inside)
@@ -47,7 +47,7 @@ module _ (model : PureTree) (flat : Flat) (number : ℕ) (h : ClusterAt) (c : Cl
       let few = modules_few flat.tables (is_wired flat limits) in
       let r = get_inside c.runners a.number (let b = own.is_module in let l = at.of.actors in omega (arith, few, b, l)) in
       held model flat number h c at (all_done model flat number h c at answered.done) a.number (values_at c.runners a.number)
-      (slice_get-map cells_of c.runners a.number ∙ ap (option_map cells_of) r.1 ∙ sym (ap (λ o. Some (cells_in o)) r.1)) (not_outside a own)
+      (slice_get-map runner_cells c.runners a.number ∙ ap (option_map runner_cells) r.1 ∙ sym (ap (λ o. Some (cells_in o)) r.1)) (not_outside a own)
 
   abbrev cells : ℕ → List ℤ
   cells m = unwrap_or (last_cells model flat number h m) []

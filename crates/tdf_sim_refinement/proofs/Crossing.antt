@@ -6,7 +6,7 @@ use Rattle.std.proofs.lemmas.Option.{get_or_from_slice_get, slice_get_within}
 use Rattle.std.specs.List.{All, count_by, sum_by}
 use Rattle.std.specs.Prelude.{drop, slice_get, slice_index, slice_index_or}
 use Rattle.tdf_exec.specs.Cluster.{ClusterOf, next_offset, offset_in}
-use Rattle.tdf_exec.specs.Crossing.{CrossesFrom, HasBegun, HasCrossed}
+use Rattle.tdf_exec.specs.Crossing.{CrossesFrom, HasBegunPeriod, HasCrossed}
 use Rattle.tdf_exec.specs.Made.{IsClusterOf}
 use Rattle.tdf_exec.specs.Played.{IsPeriodOf, play_of}
 use Rattle.tdf_dynamic.specs.declared.next.Next.TheVariants as next
@@ -164,7 +164,7 @@ module _ (model : PureTree) (flat : Flat) (number time : ℕ) (h : ClusterAt) (c
     }
 
   -- with the same plan, and the flags that were said
-  module _ (crossed d : ClusterOf) (is : HasCrossed c crossed) (begun : HasBegun crossed next.Same d) (of : IsClusterOf flat d) where
+  module _ (crossed d : ClusterOf) (is : HasCrossed c crossed) (begun : HasBegunPeriod crossed next.Same d) (of : IsClusterOf flat d) where
     abbrev back : ClusterOf → ClusterOf
     back z = record z { place = 0; crossed = false }
 
@@ -197,7 +197,7 @@ module _ (model : PureTree) (flat : Flat) (number time : ℕ) (h : ClusterAt) (c
         (ap (λ (z : ClusterOf). z.entries) d_is ∙ at.entries_are) (ap (λ (z : ClusterOf). z.bounds) d_is ∙ at.bounds_are) same_is (ap (λ (z : ClusterOf). z.positions) d_is) stands
 
   -- with a new one
-  module _ (crossed d : ClusterOf) (attrs : List AttrsOf) (plan : Plan) (is : HasCrossed c crossed) (begun : HasBegun crossed (next.Changed attrs plan) d) (of : IsClusterOf flat d) where
+  module _ (crossed d : ClusterOf) (attrs : List AttrsOf) (plan : Plan) (is : HasCrossed c crossed) (begun : HasBegunPeriod crossed (next.Changed attrs plan) d) (of : IsClusterOf flat d) where
     abbrev new : ClusterAt
     new = with_new flat.tables time attrs (counts_in flat.tables plan.entries.items) plan.period plan.entries.items plan.bounds.items h
 

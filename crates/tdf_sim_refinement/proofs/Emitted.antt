@@ -4,7 +4,7 @@ use Rattle.std.proofs.lemmas.Bool.{cases_eq}
 use Rattle.std.proofs.lemmas.Bool.Decides.{nat_tests}
 use Rattle.std.proofs.lemmas.List.{length-map}
 use Rattle.std.specs.Prelude.{All}
-use Rattle.tdf_convert.specs.Emitted.{signal_in, write_of}
+use Rattle.tdf_convert.specs.Emitted.{signal_in, write_of_sent}
 use Rattle.tdf_convert.specs.Links.{link_of}
 use Rattle.tdf_convert.specs.declared.links.Link.{Link}
 use Rattle.tdf_convert.specs.declared.outputs.Sent.{Sent}
@@ -24,7 +24,7 @@ use Rattle.tdf_sim_refinement.proofs.Ports.{in_range}
 use Rattle.tdf_sim_refinement.proofs.Rows.{all_at, map_some, map_twice}
 use Rattle.tdf_sim_refinement.proofs.Signals.{read_format}
 use Rattle.tdf_sim_refinement.specs.LinkLaws.{SinksWriteSignals}
-use Rattle.tdf_sim_refinement.specs.Linked.{AreSinkLinks, IsLinked}
+use Rattle.tdf_sim_refinement.specs.Linked.{AreSinkLinks, HasLink}
 use Rattle.tdf_sim_refinement.specs.Firings.{write_of as history_write_of}
 use Rattle.tdf_lang_tree.specs.Pure.{PureTree}
 use Rattle.tdf_sim_history.specs.Rules.{signal_write}
@@ -56,17 +56,17 @@ is_found (v ∷ links) actor (suc j) l at own = elim (cases_eq v.actor actor) [ 
 
 module _ (model : PureTree) (flat : Flat) (is : IsFlatOf model flat) (links : List Link) (are : AreSinkLinks flat.tables links) where
   link_there : (s : Sent) → IsSentOf flat.tables s → IsFound links s.actor
-  link_there s of = let h : IsLinked links s.actor = are.all s.actor of.sink in is_found links s.actor h.place h.link h.at h.of
+  link_there s of = let h : HasLink links s.actor = are.all s.actor of.sink in is_found links s.actor h.place h.link h.at h.of
 
   -- a sink writes to the signal of its port
   signal_is : (s : Sent) → IsSentOf flat.tables s → signal_in (link_of links s.actor) ≡ signal_of flat.tables s.actor
   signal_is s of = let h = link_there s of in ap signal_in h.found ∙ are.of h.number h.link h.at ∙ ap (signal_of flat.tables) h.of
 
-  write_is : (s : Sent) → IsSentOf flat.tables s → write_of links s ≡ signal_write (history_write_of flat.tables s)
+  write_is : (s : Sent) → IsSentOf flat.tables s → write_of_sent links s ≡ signal_write (history_write_of flat.tables s)
   write_is s of = ap (write_with s.value) (signal_is s of)
 
   -- a value of the format of its signal
-  has_format : (s : Sent) → IsSentOf flat.tables s → (f : Format) × (slice_get (signal_formats flat) (write_of links s).signal ≡ Some f) × IsOfFormat f s.value
+  has_format : (s : Sent) → IsSentOf flat.tables s → (f : Format) × (slice_get (signal_formats flat) (write_of_sent links s).signal ≡ Some f) × IsOfFormat f s.value
   has_format s of =
       let h = link_there s of in
       let formats = get_inside (signal_formats flat) h.link.signal (let i = are.signals.inside h.number h.link h.at in let l = length-map flat.tables.de_signals (λ (row : SignalRow). row.format) in omega (arith, i, l)) in
@@ -79,13 +79,13 @@ module _ (model : PureTree) (flat : Flat) (is : IsFlatOf model flat) (links : Li
     sent_at : (j : ℕ) (s : Sent) → slice_get sent j ≡ Some s → IsSentOf flat.tables s
     sent_at j s at = all_at (IsSentOf flat.tables) sent j s all at
 
-    same_writes : map (write_of links) sent ≡ map signal_write (map (history_write_of flat.tables) sent)
-    same_writes = map_twice (write_of links) signal_write (history_write_of flat.tables) sent (λ j s at. write_is s (sent_at j s at))
+    same_writes : map (write_of_sent links) sent ≡ map signal_write (map (history_write_of flat.tables) sent)
+    same_writes = map_twice (write_of_sent links) signal_write (history_write_of flat.tables) sent (λ j s at. write_is s (sent_at j s at))
 
-    are_writes : AreWritesOf (signal_formats flat) (map (write_of links) sent)
+    are_writes : AreWritesOf (signal_formats flat) (map (write_of_sent links) sent)
     are_writes = record {
       each = λ i w at. (
-          let s = map_some (write_of links) sent i w at in
+          let s = map_some (write_of_sent links) sent i w at in
           subst (λ (x : SignalWrite). (f : Format) × (slice_get (signal_formats flat) x.signal ≡ Some f) × IsOfFormat f x.value) s.2 (has_format s.0 (sent_at i s.0 s.1)));
     }
 

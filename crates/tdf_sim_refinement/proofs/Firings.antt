@@ -15,7 +15,7 @@ use Rattle.tdf_sim_history.specs.Instant.{RunFault, all_firings, fired, fired_as
 use Rattle.tdf_sim_history.specs.World.{ClusterAt, Rules, SinkWrite, World}
 use Rattle.tdf_sim_history.proofs.Api.{turns_more, turns_none, turns_past}
 use Rattle.tdf_sim_history.specs.History.{Step, Going, Past, turns_to}
-use Rattle.tdf_sim_refinement.specs.Firings.{AreDueNext, actor_at, after_firings, read_by, reads_after, settled_values, world_after, write_by, writes_after}
+use Rattle.tdf_sim_refinement.specs.Firings.{AreDueNext, actor_at_place, after_firings, read_by, reads_after, settled_values, world_after, write_by, writes_after}
 use Rattle.tdf_schedule.specs.declared.entry.Entry.{Entry}
 use Rattle.tdf_streams.specs.Places.{actor_kind, kind_of_row}
 use Rattle.tdf_lang_tree.specs.Pure.{PureTree}
@@ -78,16 +78,16 @@ module _ {K : Type 0} (model : PureTree) (flat : Flat) (rules : Rules K) (time n
   fired_row m (Some row) k = fired_kind m row.kind k
 
   -- that is the next world
-  cluster_more : (k : ℕ) → record h { place = h.place + k + 1; reads = read_by flat.tables (settled_values rules w) (actor_at h k) (actor_kind flat.tables (actor_at h k)) (at k).reads } ≡ at (suc k)
+  cluster_more : (k : ℕ) → record h { place = h.place + k + 1; reads = read_by flat.tables (settled_values rules w) (actor_at_place h k) (actor_kind flat.tables (actor_at_place h k)) (at k).reads } ≡ at (suc k)
   unfolding reads_after
   cluster_more k = let e : h.place + k + 1 ≡ h.place + suc k = omega arith in
       ap (λ (p : ℕ). record h { place = p; reads = reads_after flat.tables (settled_values rules w) h (suc k) }) e
 
-  written_more : (k : ℕ) → (now k).written ++ write_by model flat (n + 1) (at k) (actor_at h k) (actor_kind flat.tables (actor_at h k)) ≡ (now (suc k)).written
+  written_more : (k : ℕ) → (now k).written ++ write_by model flat (n + 1) (at k) (actor_at_place h k) (actor_kind flat.tables (actor_at_place h k)) ≡ (now (suc k)).written
   unfolding writes_after
-  written_more k = append_assoc w.written (writes_after model flat (settled_values rules w) (n + 1) h k) (write_by model flat (n + 1) (at k) (actor_at h k) (actor_kind flat.tables (actor_at h k)))
+  written_more k = append_assoc w.written (writes_after model flat (settled_values rules w) (n + 1) h k) (write_by model flat (n + 1) (at k) (actor_at_place h k) (actor_kind flat.tables (actor_at_place h k)))
 
-  world_more : (k : ℕ) → fired_world (actor_at h k) (actor_kind flat.tables (actor_at h k)) k ≡ now (suc k)
+  world_more : (k : ℕ) → fired_world (actor_at_place h k) (actor_kind flat.tables (actor_at_place h k)) k ≡ now (suc k)
   world_more k = let e : w.left - k - 1 ≡ w.left - suc k = omega arith in
       parts_same w _ _ _ _ _ _ (set_twice w.clusters n (at k) _ ∙ ap (set w.clusters n) (cluster_more k)) e (written_more k)
 
@@ -101,10 +101,10 @@ module _ {K : Type 0} (model : PureTree) (flat : Flat) (rules : Rules K) (time n
       → firing model flat rules time n (now k) ≡ (if b then (if c then Past (now k) else Going (now (suc k))) else Going (now k))
   turn k b c due none =
       ap (λ o. firing_of model flat rules time n o (now k)) (is_there k)
-      ∙ ap (λ d. if d then (if nat_eq (w.left - k) 0 then Past (now k) else Going (fired model flat rules n (actor_at h k) (slice_get flat.tables.actors (actor_at h k)) (at k) (now k))) else Going (now k))
+      ∙ ap (λ d. if d then (if nat_eq (w.left - k) 0 then Past (now k) else Going (fired model flat rules n (actor_at_place h k) (slice_get flat.tables.actors (actor_at_place h k)) (at k) (now k))) else Going (now k))
       (due_same flat.tables (settled_values rules w) time h (slice_get h.entries (h.place + k)) k ∙ due)
-      ∙ ap (λ d. if b then (if d then Past (now k) else Going (fired model flat rules n (actor_at h k) (slice_get flat.tables.actors (actor_at h k)) (at k) (now k))) else Going (now k)) none
-      ∙ ap (λ (v : World K). if b then (if c then Past (now k) else Going v) else Going (now k)) (fired_row (actor_at h k) (slice_get flat.tables.actors (actor_at h k)) k ∙ world_more k)
+      ∙ ap (λ d. if b then (if d then Past (now k) else Going (fired model flat rules n (actor_at_place h k) (slice_get flat.tables.actors (actor_at_place h k)) (at k) (now k))) else Going (now k)) none
+      ∙ ap (λ (v : World K). if b then (if c then Past (now k) else Going v) else Going (now k)) (fired_row (actor_at_place h k) (slice_get flat.tables.actors (actor_at_place h k)) k ∙ world_more k)
 
   abbrev each : ℕ → World K → Step (World K) RunFault
   each j v = firing model flat rules time n v

@@ -17,7 +17,7 @@ use Rattle.tdf_graph.specs.declared.actors.Actor.{Actor}
 use Rattle.tdf_graph.specs.declared.actors.Actor.TheVariants as actor
 use Rattle.tdf_sim_history.specs.Instant.{signal_of}
 use Rattle.tdf_sim_refinement.proofs.Rows.{false_true, index_map}
-use Rattle.tdf_sim_refinement.specs.Linked.{AreSamplerLinks, AreSinkLinks, HasEventPort, IsLinked, is_converter, is_sampler, own_samplers}
+use Rattle.tdf_sim_refinement.specs.Linked.{AreSamplerLinks, AreSinkLinks, HasEventPort, HasLink, is_converter, is_sampler, own_samplers}
 use Rattle.tdf_sim_refinement.specs.declared.linking.Wanted.{Wanted}
 use Rattle.tdf_sim_refinement.specs.declared.linking.Wanted.TheVariants.{SamplersOf, Sinks}
 use Rattle.tdf_sim_refinement.specs.machine.Linking.{AreLinkedUpTo, IsLinkOf, counted_before, is_counted, is_sink, is_wanted, of_samplers}
@@ -61,7 +61,7 @@ module _ (tables : FlatTablesOf) (wanted : Wanted) (n : ℕ) (row : ActorRow) (a
       counted = are.counted ∙ sym (count_no (not_counted wanted none));
     }
       where
-        before : (m : ℕ) (r : ActorRow) → slice_get tables.actors m ≡ Some r → is_wanted wanted r ≡ true → (m < n) ⊎ (n ≤ m) → m < n + 1 → IsLinked links m
+        before : (m : ℕ) (r : ActorRow) → slice_get tables.actors m ≡ Some r → is_wanted wanted r ≡ true → (m < n) ⊎ (n ≤ m) → m < n + 1 → HasLink links m
         before m r there is (inl low) less = are.all m r low there is
         before m r there is (inr high) less =
             let same : n ≡ m = omega (arith, high, less) in
@@ -109,9 +109,9 @@ module _ (tables : FlatTablesOf) (wanted : Wanted) (n : ℕ) (row : ActorRow) (a
           each j l (inl low) = are.each j l low
           each j l (inr last) = subst (IsLinkOf tables wanted) last.1 link_is
 
-          all : (m : ℕ) (r : ActorRow) → slice_get tables.actors m ≡ Some r → is_wanted wanted r ≡ true → (m < n) ⊎ (n ≤ m) → m < n + 1 → IsLinked (links ++ next ∷ []) m
+          all : (m : ℕ) (r : ActorRow) → slice_get tables.actors m ≡ Some r → is_wanted wanted r ≡ true → (m < n) ⊎ (n ≤ m) → m < n + 1 → HasLink (links ++ next ∷ []) m
           all m r there is (inl low) less =
-              let h : IsLinked links m = are.all m r low there is in
+              let h : HasLink links m = are.all m r low there is in
               record { place = h.place; link = h.link; at = get_low links (next ∷ []) h.place (slice_get_within links h.place h.link h.at) ∙ h.at; of = h.of }
           all m r there is (inr high) less =
               let none : length links - length links ≡ 0 = omega arith in
@@ -197,7 +197,7 @@ sampler_links_are tables cluster links are = record {
       inside = index_map cluster_of tables.actors l.actor h.row h.at ∙ (let e = b.1 in grind (arith, nat_tests, e));
     }
 
-    all : (m : ℕ) → IsActorOf tables cluster m actor.Sampler → IsLinked links m
+    all : (m : ℕ) → IsActorOf tables cluster m actor.Sampler → HasLink links m
     all m h =
         let row = actor_row tables m actor.Sampler h.kind_is in
         let own : row.0.cluster ≡ cluster = sym (index_map cluster_of tables.actors m row.0 row.1) ∙ h.inside in
@@ -231,7 +231,7 @@ sink_links_are tables links are = record {
     each : (j : ℕ) (l : Link) → slice_get links j ≡ Some l → (actor_kind tables l.actor ≡ Some actor.Sink) × (l.sampler ≡ false)
     each j l at = let h : IsLinkOf tables Sinks l = are.each j l at in (ap kind_of_row h.at ∙ ap Some (sink_kind h.row.kind h.is), h.sampler)
 
-    all : (m : ℕ) → actor_kind tables m ≡ Some actor.Sink → IsLinked links m
+    all : (m : ℕ) → actor_kind tables m ≡ Some actor.Sink → HasLink links m
     all m h = let row = actor_row tables m actor.Sink h in are.all m row.0 (slice_get_within tables.actors m row.0 row.1) row.1 (ap is_sink row.2)
 
 -- the port of an actor that was read is its own

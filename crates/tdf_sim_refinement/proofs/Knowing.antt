@@ -9,7 +9,7 @@ use Rattle.std.specs.Option.{option_and_then}
 use Rattle.std.specs.Prelude.{cond, nat_lt, slice_get, slice_index, ℤ}
 use Rattle.tdf_bind_tables.specs.FlatTables.{FlatTablesOf}
 use Rattle.tdf_exec.specs.Cluster.{ClusterOf}
-use Rattle.tdf_exec.specs.Played.{cells_of, play_of}
+use Rattle.tdf_exec.specs.Played.{runner_cells, play_of}
 use Rattle.tdf_fixed.specs.declared.raw.Raw.{Raw}
 use Rattle.tdf_bind.specs.declared.model.Flat.{Flat}
 use Rattle.tdf_streams.proofs.Api.{find_more, known_more, none_some, state_more, outputs_are}
@@ -25,7 +25,7 @@ use Rattle.tdf_sim_refinement.proofs.Writing.{enough, entry_in, turns_here, star
 use Rattle.tdf_sim_refinement.specs.At.{IsAt}
 use Rattle.tdf_schedule.specs.Plan.{done}
 use Rattle.tdf_schedule.specs.declared.entry.Entry.{Entry}
-use Rattle.tdf_streams.specs.Cluster.{cluster_net, initial_sample, is_outside}
+use Rattle.tdf_streams.specs.Cluster.{cluster_net, initial_sample, is_outside_cluster}
 use Rattle.tdf_streams.specs.Laws.{HasValue}
 use Rattle.tdf_streams.specs.Periods.{PeriodInfo, PeriodRecord}
 use Rattle.tdf_streams.specs.Signals.{output_at_spot, outputs_in, port_output, rate_in, signal_sample}
@@ -136,9 +136,9 @@ module _ (model : PureTree) (flat : Flat) (number : ℕ) (h : ClusterAt) (c : Cl
       let u = done_to h.entries m h.from (length h.entries) (omega (arith, w, t)) (omega arith) in omega (arith, z, l, u)
 
   -- what a module holds when the period is done
-  pub held : h.place ≡ length h.entries → (m : ℕ) (cells : List ℤ) → slice_get (play_of h.from c).states m ≡ Some cells → is_outside flat.tables number m ≡ false → last_cells model flat number h m ≡ Some cells
+  pub held : h.place ≡ length h.entries → (m : ℕ) (cells : List ℤ) → slice_get (play_of h.from c).states m ≡ Some cells → is_outside_cluster flat.tables number m ≡ false → last_cells model flat number h m ≡ Some cells
   held end m cells there own =
-      let inside : m < length flat.tables.actors = (let i = slice_get_within (play_of h.from c).states m cells there in let l = length-map c.runners cells_of in let a = at.of.actors in omega (arith, i, l, a)) in
+      let inside : m < length flat.tables.actors = (let i = slice_get_within (play_of h.from c).states m cells there in let l = length-map c.runners runner_cells in let a = at.of.actors in omega (arith, i, l, a)) in
       let turns : slice_index (play_of h.from c).turns m ≡ count m h.now = (
       let z : h.place + 0 ≡ length h.entries = omega (arith, end) in
       let t = turns_here model flat number h.since [] h c c [] at begun m inside in

@@ -13,7 +13,7 @@ use Rattle.tdf_streams.proofs.Api.{get_inside, are_rates, is_wired}
 use Rattle.tdf_graph.specs.Ranges.{IsRate}
 use Rattle.tdf_bind_invariants.specs.Limits.{AreWithinLimits}
 use Rattle.tdf_sim_refinement.specs.Inside.{PeriodsTakeTime}
-use Rattle.tdf_timestep.specs.Period.{HasSteps, IsAssigned, rate_at, rate_of}
+use Rattle.tdf_timestep.specs.Period.{HasSteps, IsAssigned, port_rate_or_one, rate_at_port}
 use Rattle.tdf_timestep.specs.declared.assign.Assign.{Assign}
 use Rattle.tdf_bind_connections.specs.declared.modules.PortRow.{PortRow}
 
@@ -25,12 +25,12 @@ both_some a b some other = let m : 1 * b ≤ a * b = mul-le-mul_right b (omega (
 
 module _ (flat : Flat) (c : ClusterOf) (limits : AreWithinLimits flat) (of : IsClusterOf flat c) where
   -- a port has some rate
-  rates_some : (o : Option ℕ) → 0 < rate_of (net_of flat.tables c.table).ports o
+  rates_some : (o : Option ℕ) → 0 < rate_at_port (net_of flat.tables c.table).ports o
   unfolding net_of net_ports
   rates_some None = omega arith
-  rates_some (Some number) = subst (λ r. 0 < rate_at r) (sym (slice_get-map (rated_port c.table) flat.tables.ports number)) (by_row (slice_get flat.tables.ports number) refl)
+  rates_some (Some number) = subst (λ r. 0 < port_rate_or_one r) (sym (slice_get-map (rated_port c.table) flat.tables.ports number)) (by_row (slice_get flat.tables.ports number) refl)
     where
-      by_row : (o : Option PortRow) → slice_get flat.tables.ports number ≡ o → 0 < rate_at (option_map (rated_port c.table) o)
+      by_row : (o : Option PortRow) → slice_get flat.tables.ports number ≡ o → 0 < port_rate_or_one (option_map (rated_port c.table) o)
       by_row None at = omega arith
       by_row (Some row) at = let r = (all_at (λ (x : PortRow). IsRate (port_rate c.table x)) flat.tables.ports number row (are_rates flat limits c.table of.attributes.allowed) at).some in omega (arith, r)
 

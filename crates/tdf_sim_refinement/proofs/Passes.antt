@@ -5,7 +5,7 @@ use Rattle.std.proofs.lemmas.List.{append_assoc}
 use Rattle.std.proofs.lemmas.Option.{get_or_from_slice_get, slice_get_within}
 use Rattle.tdf_convert.specs.Outputs.{OutputsOf}
 use Rattle.tdf_convert.specs.declared.outputs.Sent.{Sent}
-use Rattle.tdf_exec.specs.Cluster.{due_count, is_due, next_offset}
+use Rattle.tdf_exec.specs.Cluster.{due_count, is_next_due, next_offset}
 use Rattle.tdf_expr.specs.Checked.{IsCheckedOf}
 use Rattle.tdf_fixed.specs.declared.raw.Raw.{Raw}
 use Rattle.tdf_bind.specs.Flat.{IsFlatOf}
@@ -27,12 +27,12 @@ use Rattle.tdf_sim_refinement.proofs.Passing.{due_offset, later, none_due, passe
 use Rattle.tdf_sim_refinement.proofs.Firings.{due_fire, none_fire}
 use Rattle.tdf_sim_refinement.specs.At.{AreSettled, IsAt}
 use Rattle.tdf_sim_refinement.specs.Firings.{after_firings, settled_values, world_after}
-use Rattle.tdf_sim_refinement.specs.Pass.{AreAt, AreReady, HasDone, HasIdled, HasTurn, HavePassed, IsTurnOf, PassAt, PassesAlong, RunOf, TurnAt, world_with}
+use Rattle.tdf_sim_refinement.specs.Pass.{AreAt, AreReady, HasDoneTurn, HasIdled, PassHasTurn, HavePassed, IsTurnOf, PassAt, PassesAlong, RunOf, TurnAt, world_with}
 use Rattle.tdf_streams.specs.Places.{actor_kind}
 use Rattle.tdf_sim_refinement.proofs.Picked.{samples_append, samples_none}
 use Rattle.tdf_sim_refinement.proofs.Turned.{fired_other, fired_own}
 use Rattle.tdf_sim_refinement.specs.SampleLaws.{PassesTrace}
-use Rattle.tdf_sim_refinement.specs.Samples.{AreSamplesOf, HaveTraced, IsTracedPort, samples_of}
+use Rattle.tdf_sim_refinement.specs.Samples.{AreSamplesOf, HaveTraced, IsTracedPort, signal_samples}
 use Rattle.tdf_lang_tree.specs.Pure.{PureTree}
 use Rattle.tdf_bind_connections.specs.declared.modules.PortRow.{PortRow}
 
@@ -69,8 +69,8 @@ module _ (model : PureTree) (flat : Flat) where
         let i = slice_get_within gs n g g_at in
         let m = get_inside ms n (omega (arith, i, long)) in
         subst (AreSamplesOf model flat (n + 1) number port s g)
-        (append_assoc had (samples_of port.signal first.new) (samples_of port.signal second.new) ∙ ap (λ l. had ++ l) (sym (samples_append port.signal first.new second.new)))
-        (second.samples n number port s m.0 g (had ++ samples_of port.signal first.new) m.1 g_at traced (first.samples n number port s h m.0 had h_at m.1 traced has)));
+        (append_assoc had (signal_samples port.signal first.new) (signal_samples port.signal second.new) ∙ ap (λ l. had ++ l) (sym (samples_append port.signal first.new second.new)))
+        (second.samples n number port s m.0 g (had ++ signal_samples port.signal first.new) m.1 g_at traced (first.samples n number port s h m.0 had h_at m.1 traced has)));
   }
 
 module _ {K : Type 0} (model : PureTree) (flat : Flat) (rules : Rules K) (pass : PassAt) (w : World K) (x : RunOf) (one_port : SignalsHaveOnePort) (sound : IsSoundModel model) (checked : IsCheckedOf model flat.checked)
@@ -118,7 +118,7 @@ module _ {K : Type 0} (model : PureTree) (flat : Flat) (rules : Rules K) (pass :
     idle : (t : List Sent) → HasIdled pass.time turn mid y t → HaveTraced model flat p.clusters q.clusters mid y
     idle t idled = none_traced model flat p.clusters q.clusters mid y
         (goes_to v (none_fire model flat rules pass.time n h v there.1
-        (none_due model flat (n + 1) pass.time h turn.before at begun (ap (λ k. is_due turn.before (pass.time - k)) (sym same_since) ∙ idled.none))))
+        (none_due model flat (n + 1) pass.time h turn.before at begun (ap (λ k. is_next_due turn.before (pass.time - k)) (sym same_since) ∙ idled.none))))
         (ap (λ (o : OutputsOf). o.traced) idled.outputs)
 
     -- the turn, by the start that the history says
@@ -128,7 +128,7 @@ module _ {K : Type 0} (model : PureTree) (flat : Flat) (rules : Rules K) (pass :
     sorted_is : slice_get x.clusters n ≡ Some turn.before
     sorted_is = sym untouched ∙ is.before
 
-    module _ (t : List Sent) (due : is_due turn.before (pass.time - turn.since) ≡ true) (did : HasDone flat pass.time (turn_at h.since) mid y t) where
+    module _ (t : List Sent) (due : is_next_due turn.before (pass.time - turn.since) ≡ true) (did : HasDoneTurn flat pass.time (turn_at h.since) mid y t) where
       abbrev k : ℕ
       k = due_count turn.before (pass.time - h.since)
 
@@ -146,24 +146,24 @@ module _ {K : Type 0} (model : PureTree) (flat : Flat) (rules : Rules K) (pass :
           (due_fire model flat rules pass.time n h v there.1 k (due_here model flat (n + 1) pass.time h turn.before at (ready.sorted n turn.before sorted_is) begun next) did.fired.enough)
 
       own_has : (number : ℕ) (port : PortRow) (cs : ColumnStart) (had : List Raw) → IsTracedPort flat (n + 1) number port → AreSamplesOf model flat (n + 1) number port cs h had
-          → AreSamplesOf model flat (n + 1) number port cs after (had ++ samples_of port.signal did.fired.gained.traced)
+          → AreSamplesOf model flat (n + 1) number port cs after (had ++ signal_samples port.signal did.fired.gained.traced)
       own_has number port cs had traced has =
           fired_own model flat one_port sound is_flat (n + 1) pass.time (settled_values rules w) h turn.before turn.after turn.inputs mid.outputs y.outputs mid.left y.left checked at (ready.sorted n turn.before sorted_is)
           begun next settled did.fired number port cs traced (owner_kind number port traced.there) had has
 
-      other_none : (m number : ℕ) (port : PortRow) → m ≢ n → IsTracedPort flat (m + 1) number port → samples_of port.signal did.fired.gained.traced ≡ []
+      other_none : (m number : ℕ) (port : PortRow) → m ≢ n → IsTracedPort flat (m + 1) number port → signal_samples port.signal did.fired.gained.traced ≡ []
       other_none m number port apart traced =
           fired_other model flat one_port sound is_flat (n + 1) pass.time (settled_values rules w) h turn.before turn.after turn.inputs mid.outputs y.outputs mid.left y.left checked at (ready.sorted n turn.before sorted_is)
           begun next settled did.fired (m + 1) number port traced (λ e. apart (let z : m ≡ n = omega (arith, e) in z))
 
       has_next : (m number : ℕ) (port : PortRow) (cs : ColumnStart) (b g : ClusterAt) (had : List Raw) → (m ≡ n) ⊎ (m ≢ n) → slice_get p.clusters m ≡ Some b → slice_get q.clusters m ≡ Some g → IsTracedPort flat (m + 1) number port
-          → AreSamplesOf model flat (m + 1) number port cs b had → AreSamplesOf model flat (m + 1) number port cs g (had ++ samples_of port.signal did.fired.gained.traced)
+          → AreSamplesOf model flat (m + 1) number port cs b had → AreSamplesOf model flat (m + 1) number port cs g (had ++ signal_samples port.signal did.fired.gained.traced)
       has_next m number port cs b g had (inl same) b_at g_at traced has =
           let one : b ≡ h = some_same b h (sym b_at ∙ ap (slice_get p.clusters) same ∙ there.1) in
           let i = slice_get_within p.clusters n h there.1 in
           let two : after ≡ g = set_there p.clusters n after g i (ap (slice_get (set p.clusters n after)) (sym same) ∙ ap (λ l. slice_get l m) (sym clusters_are) ∙ g_at) in
-          subst (λ j. AreSamplesOf model flat (j + 1) number port cs g (had ++ samples_of port.signal did.fired.gained.traced)) (sym same)
-          (subst (λ c. AreSamplesOf model flat (n + 1) number port cs c (had ++ samples_of port.signal did.fired.gained.traced)) two
+          subst (λ j. AreSamplesOf model flat (j + 1) number port cs g (had ++ signal_samples port.signal did.fired.gained.traced)) (sym same)
+          (subst (λ c. AreSamplesOf model flat (n + 1) number port cs c (had ++ signal_samples port.signal did.fired.gained.traced)) two
           (own_has number port cs had (subst (λ j. IsTracedPort flat (j + 1) number port) same traced)
           (subst (λ c. AreSamplesOf model flat (n + 1) number port cs c had) one (subst (λ j. AreSamplesOf model flat (j + 1) number port cs b had) same has))))
       has_next m number port cs b g had (inr apart) b_at g_at traced has =
@@ -178,18 +178,18 @@ module _ {K : Type 0} (model : PureTree) (flat : Flat) (rules : Rules K) (pass :
         samples = λ m number port cs b g had. has_next m number port cs b g had (cases_eq m n);
       }
 
-    done_turn : (t : List Sent) → HasDone flat pass.time turn mid y t → HaveTraced model flat p.clusters q.clusters mid y
-    done_turn t did = does t did.due (subst (λ k. HasDone flat pass.time (turn_at k) mid y t) same_since did)
+    done_turn : (t : List Sent) → HasDoneTurn flat pass.time turn mid y t → HaveTraced model flat p.clusters q.clusters mid y
+    done_turn t did = does t did.due (subst (λ k. HasDoneTurn flat pass.time (turn_at k) mid y t) same_since did)
 
-  turn_traces : (n : ℕ) (mid y : RunOf) (s t sent : List Sent) (p : PassesAlong model flat rules pass n w mid s) (q : PassesAlong model flat rules pass (suc n) w y sent) → HasTurn flat pass n mid y t
+  turn_traces : (n : ℕ) (mid y : RunOf) (s t sent : List Sent) (p : PassesAlong model flat rules pass n w mid s) (q : PassesAlong model flat rules pass (suc n) w y sent) → PassHasTurn flat pass n mid y t
       → slice_get mid.clusters n ≡ slice_get x.clusters n → HaveTraced model flat p.clusters q.clusters mid y
-  turn_traces n mid y s t sent p q (HasTurn.Idle turn is idled) untouched = idle n mid y s sent p q turn is untouched t idled
-  turn_traces n mid y s t sent p q (HasTurn.Done turn is did) untouched = done_turn n mid y s sent p q turn is untouched t did
+  turn_traces n mid y s t sent p q (PassHasTurn.Idle turn is idled) untouched = idle n mid y s sent p q turn is untouched t idled
+  turn_traces n mid y s t sent p q (PassHasTurn.Done turn is did) untouched = done_turn n mid y s sent p q turn is untouched t did
 
   -- a turn changes no number of clusters
-  turn_long : (n : ℕ) (mid y : RunOf) (t : List Sent) → HasTurn flat pass n mid y t → length y.clusters ≡ length mid.clusters
-  turn_long n mid y t (HasTurn.Idle turn is idled) = ap length is.after ∙ length-set mid.clusters n turn.after
-  turn_long n mid y t (HasTurn.Done turn is did) = ap length is.after ∙ length-set mid.clusters n turn.after
+  turn_long : (n : ℕ) (mid y : RunOf) (t : List Sent) → PassHasTurn flat pass n mid y t → length y.clusters ≡ length mid.clusters
+  turn_long n mid y t (PassHasTurn.Idle turn is idled) = ap length is.after ∙ length-set mid.clusters n turn.after
+  turn_long n mid y t (PassHasTurn.Done turn is did) = ap length is.after ∙ length-set mid.clusters n turn.after
 
   pub passes_trace : (n : ℕ) (y : RunOf) (sent : List Sent) → HavePassed flat pass n x y sent → (q : PassesAlong model flat rules pass n w y sent) → HaveTraced model flat w.clusters q.clusters x y
   unfolding HavePassed clusters_in

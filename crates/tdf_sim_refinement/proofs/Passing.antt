@@ -4,7 +4,7 @@ use Rattle.std.proofs.lemmas.Bool.{cases_lt, eq-eqb, eqb-true, ne_eqb}
 use Rattle.std.proofs.lemmas.List.{append_assoc, map-append}
 use Rattle.std.proofs.lemmas.Option.{slice_get_within}
 use Rattle.tdf_convert.specs.declared.outputs.Sent.{Sent}
-use Rattle.tdf_exec.specs.Cluster.{ClusterOf, is_due, is_offset, next_offset, offset_in}
+use Rattle.tdf_exec.specs.Cluster.{ClusterOf, is_next_due, is_offset, next_offset, offset_in}
 use Rattle.tdf_expr.specs.Checked.{IsCheckedOf}
 use Rattle.tdf_bind.specs.Flat.{IsFlatOf}
 use Rattle.tdf_bind.specs.declared.model.Flat.{Flat}
@@ -19,7 +19,7 @@ use Rattle.tdf_sim_refinement.proofs.Due.{true_false}
 use Rattle.tdf_sim_refinement.proofs.Firings.{get_set_same, none_fire, parts_same, set_own}
 use Rattle.tdf_sim_refinement.specs.At.{AreSettled, IsAt}
 use Rattle.tdf_sim_refinement.specs.Firings.{settled_values, world_after, write_of}
-use Rattle.tdf_sim_refinement.specs.Pass.{AreAt, AreReady, HasDone, HasEnded, HasIdled, HasPassedAll, HasPassedPart, HasPassedTo, HasTurn, HavePassed, IsTurnOf, PassAt, PassEndsSpent, PassGoesAlong, PassIsSpent, PassesAlong, RunOf, TurnAt, world_with}
+use Rattle.tdf_sim_refinement.specs.Pass.{AreAt, AreReady, HasDoneTurn, HasEnded, HasIdled, HasPassedAll, HasPassedPart, HasPassedTo, PassHasTurn, HavePassed, IsTurnOf, PassAt, PassEndsSpent, PassGoesAlong, PassIsSpent, PassesAlong, RunOf, TurnAt, world_with}
 use Rattle.tdf_schedule.specs.declared.entry.Entry.{Entry}
 use Rattle.tdf_lang_tree.specs.Pure.{PureTree}
 
@@ -50,7 +50,7 @@ not_due time h None begun none = refl
 not_due time h (Some x) begun none = ne_eqb time (h.since + x.offset) (λ e. (
     let z : x.offset ≡ time - h.since = omega (arith, e, begun) in true_false (sym (eq-eqb x.offset (time - h.since) z) ∙ none)))
 
-pub none_due : (model : PureTree) (flat : Flat) (number time : ℕ) (h : ClusterAt) (c : ClusterOf) → IsAt model flat number h c → h.since ≤ time → is_due c (time - h.since) ≡ false
+pub none_due : (model : PureTree) (flat : Flat) (number time : ℕ) (h : ClusterAt) (c : ClusterOf) → IsAt model flat number h c → h.since ≤ time → is_next_due c (time - h.since) ≡ false
     → is_entry_due time h (next_entry h) ≡ false
 none_due model flat number time h c at begun none = not_due time h (next_entry h) begun
     (ap (λ l. is_offset (offset_in (slice_get l h.place)) (time - h.since)) (sym at.entries_are) ∙ ap (λ p. is_offset (offset_in (slice_get c.entries p)) (time - h.since)) (sym at.place_is) ∙ none)
@@ -77,9 +77,9 @@ module _ (model : PureTree) (flat : Flat) (since : List ℕ) (hs : List ClusterA
     begun = λ m s g. begun_at m s g (same_or_not m n);
   }
 
-turn_of : (flat : Flat) (pass : PassAt) (n : ℕ) (x y : RunOf) (sent : List Sent) → HasTurn flat pass n x y sent → (turn : TurnAt) × IsTurnOf pass n x y turn
-turn_of flat pass n x y sent (HasTurn.Idle turn is idled) = (turn, is)
-turn_of flat pass n x y sent (HasTurn.Done turn is did) = (turn, is)
+turn_of : (flat : Flat) (pass : PassAt) (n : ℕ) (x y : RunOf) (sent : List Sent) → PassHasTurn flat pass n x y sent → (turn : TurnAt) × IsTurnOf pass n x y turn
+turn_of flat pass n x y sent (PassHasTurn.Idle turn is idled) = (turn, is)
+turn_of flat pass n x y sent (PassHasTurn.Done turn is did) = (turn, is)
 
 module _ (flat : Flat) (pass : PassAt) (x : RunOf) where
   -- the clusters to come are as they were
@@ -125,7 +125,7 @@ module _ {K : Type 0} (model : PureTree) (flat : Flat) (rules : Rules K) (pass :
       at = subst (AreAt model flat pass.since p.clusters) (sym (is.after ∙ ap (set mid.clusters n) idled.same ∙ set_own mid.clusters n turn.before is.before)) p.at;
       goes = ap (λ i. turns_to each i w) (sym (add-one n))
           ∙ turns_more each n w v (Going v) p.goes
-          (none_fire model flat rules pass.time n h v there.1 (none_due model flat (n + 1) pass.time h turn.before at begun (ap (λ k. is_due turn.before (pass.time - k)) (sym same_since) ∙ idled.none)))
+          (none_fire model flat rules pass.time n h v there.1 (none_due model flat (n + 1) pass.time h turn.before at begun (ap (λ k. is_next_due turn.before (pass.time - k)) (sym same_since) ∙ idled.none)))
           ∙ ap Going (parts_same w p.clusters p.clusters mid.left y.left (writes s) (writes (s ++ t)) refl (sym idled.left) (ap writes (sym (append-nil s) ∙ ap (λ u. s ++ u) (sym idled.nothing))));
     }
 
@@ -136,7 +136,7 @@ module _ {K : Type 0} (model : PureTree) (flat : Flat) (rules : Rules K) (pass :
     sorted_is : slice_get x.clusters n ≡ Some turn.before
     sorted_is = sym untouched ∙ is.before
 
-    does : (t : List Sent) → is_due turn.before (pass.time - turn.since) ≡ true → HasDone flat pass.time (turn_at h.since) mid y t → PassesAlong model flat rules pass (suc n) w y (s ++ t)
+    does : (t : List Sent) → is_next_due turn.before (pass.time - turn.since) ≡ true → HasDoneTurn flat pass.time (turn_at h.since) mid y t → PassesAlong model flat rules pass (suc n) w y (s ++ t)
     does t due did =
         let settled = ready.settled n turn.since turn.before turn.inputs sorted_is is.since is.inputs due in
         let g = goes_along model flat rules pass.time n h v turn.before turn.after mid.outputs y.outputs y.left there.1 at (ready.sorted n turn.before sorted_is) begun
@@ -154,8 +154,8 @@ module _ {K : Type 0} (model : PureTree) (flat : Flat) (rules : Rules K) (pass :
               ∙ ap (λ u. writes (s ++ u)) (sym did.sent_is)));
         }
 
-    done_turn : (t : List Sent) → HasDone flat pass.time turn mid y t → PassesAlong model flat rules pass (suc n) w y (s ++ t)
-    done_turn t did = does t did.due (subst (λ k. HasDone flat pass.time (turn_at k) mid y t) same_since did)
+    done_turn : (t : List Sent) → HasDoneTurn flat pass.time turn mid y t → PassesAlong model flat rules pass (suc n) w y (s ++ t)
+    done_turn t did = does t did.due (subst (λ k. HasDoneTurn flat pass.time (turn_at k) mid y t) same_since did)
 
     spends : HasEnded pass.time (turn_at h.since) mid y → all_firings model flat rules pass.time n v ≡ Past (world_after model flat rules n h v mid.left)
     spends ended = is_spent model flat rules pass.time n h v turn.before turn.after mid.outputs y.outputs y.left there.1 at (ready.sorted n turn.before sorted_is) begun
@@ -169,10 +169,10 @@ module _ {K : Type 0} (model : PureTree) (flat : Flat) (rules : Rules K) (pass :
       ends = turns_past each n (length w.clusters) w v _ inside p.goes (spends (subst (λ k. HasEnded pass.time (turn_at k) mid y) same_since ended));
     }
 
-  step : (n : ℕ) (mid y : RunOf) (s t : List Sent) → PassesAlong model flat rules pass n w mid s → HasTurn flat pass n mid y t → slice_get mid.clusters n ≡ slice_get x.clusters n
+  step : (n : ℕ) (mid y : RunOf) (s t : List Sent) → PassesAlong model flat rules pass n w mid s → PassHasTurn flat pass n mid y t → slice_get mid.clusters n ≡ slice_get x.clusters n
       → PassesAlong model flat rules pass (suc n) w y (s ++ t)
-  step n mid y s t p (HasTurn.Idle turn is idled) untouched = idle n mid y s p turn is untouched t idled
-  step n mid y s t p (HasTurn.Done turn is did) untouched = done_turn n mid y s p turn is untouched t did
+  step n mid y s t p (PassHasTurn.Idle turn is idled) untouched = idle n mid y s p turn is untouched t idled
+  step n mid y s t p (PassHasTurn.Done turn is did) untouched = done_turn n mid y s p turn is untouched t did
 
   pub passes_along : (n : ℕ) (y : RunOf) (sent : List Sent) → HavePassed flat pass n x y sent → PassesAlong model flat rules pass n w y sent
   unfolding HavePassed

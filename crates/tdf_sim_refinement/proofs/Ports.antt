@@ -6,7 +6,7 @@ use Rattle.std.proofs.lemmas.List.FromFn.{length-map-range_with_len}
 use Rattle.std.proofs.lemmas.Option.{slice_get-map, slice_get_within}
 use Rattle.std.specs.List.{cons_option, enumerate_from, range_with_len}
 use Rattle.std.specs.Prelude.{filter_map}
-use Rattle.tdf_bind_tables.specs.Actors.{actor_of_kind, actor_places, module_actor, place_of, port_actor}
+use Rattle.tdf_bind_tables.specs.Actors.{actor_of_kind, actor_places, module_actor, actor_place, port_actor}
 use Rattle.tdf_bind_tables.specs.Ranges.{AreInRange, IsActorPort}
 use Rattle.tdf_bind_tables.specs.declared.actors.ActorPlace.{ActorPlace}
 use Rattle.tdf_bind_tables.specs.declared.actors.ActorRow.{ActorRow}
@@ -112,27 +112,27 @@ module _ (model : PureTree) (flat : Flat) (is : IsFlatOf model flat) where
   long : length (map module_actor (range_with_len 0 modules)) ≡ modules
   long = length-map-range_with_len module_actor 0 modules
 
-  placed_at : (m : ℕ) (row : ActorRow) → slice_get flat.tables.actors m ≡ Some row → slice_get (actor_places modules flat.tables.ports) m ≡ Some (place_of row)
-  placed_at m row at = ap (λ l. slice_get l m) (sym is.tables.follows.actors.places) ∙ slice_get-map place_of flat.tables.actors m ∙ ap (option_map place_of) at
+  placed_at : (m : ℕ) (row : ActorRow) → slice_get flat.tables.actors m ≡ Some row → slice_get (actor_places modules flat.tables.ports) m ≡ Some (actor_place row)
+  placed_at m row at = ap (λ l. slice_get l m) (sym is.tables.follows.actors.places) ∙ slice_get-map actor_place flat.tables.actors m ∙ ap (option_map actor_place) at
 
   -- an actor is a module, or that of a port
-  pub actor_cases : (m : ℕ) (row : ActorRow) → slice_get flat.tables.actors m ≡ Some row → ((m < modules) × (place_of row ≡ module_actor m)) ⊎ IsOfPort 0 flat.tables.ports (place_of row)
+  pub actor_cases : (m : ℕ) (row : ActorRow) → slice_get flat.tables.actors m ≡ Some row → ((m < modules) × (actor_place row ≡ module_actor m)) ⊎ IsOfPort 0 flat.tables.ports (actor_place row)
   actor_cases m row at = go (cases_lt m modules)
     where
-      go : (m < modules) ⊎ (modules ≤ m) → ((m < modules) × (place_of row ≡ module_actor m)) ⊎ IsOfPort 0 flat.tables.ports (place_of row)
+      go : (m < modules) ⊎ (modules ≤ m) → ((m < modules) × (actor_place row ≡ module_actor m)) ⊎ IsOfPort 0 flat.tables.ports (actor_place row)
       go (inl low) =
           let l = long in let z : 0 + m ≡ m = omega arith in
           let there = get_low (map module_actor (range_with_len 0 modules)) (port_actors 0 flat.tables.ports) m (omega (arith, low, l)) ∙ get_made_at module_actor 0 modules m low in
-          inl (low, some_same (place_of row) (module_actor m) (sym (placed_at m row at) ∙ there ∙ ap (λ k. Some (module_actor k)) z))
+          inl (low, some_same (actor_place row) (module_actor m) (sym (placed_at m row at) ∙ there ∙ ap (λ k. Some (module_actor k)) z))
       go (inr high) =
           let l = long in
-          inr (of_port 0 flat.tables.ports (m - length (map module_actor (range_with_len 0 modules))) (place_of row)
+          inr (of_port 0 flat.tables.ports (m - length (map module_actor (range_with_len 0 modules))) (actor_place row)
           (sym (get_high (map module_actor (range_with_len 0 modules)) (port_actors 0 flat.tables.ports) m (omega (arith, high, l))) ∙ placed_at m row at))
 
   actor_module : (m : ℕ) (row : ActorRow) → slice_get flat.tables.actors m ≡ Some row → row.«module» < modules
   actor_module m row at = go (actor_cases m row at)
     where
-      go : ((m < modules) × (place_of row ≡ module_actor m)) ⊎ IsOfPort 0 flat.tables.ports (place_of row) → row.«module» < modules
+      go : ((m < modules) × (actor_place row ≡ module_actor m)) ⊎ IsOfPort 0 flat.tables.ports (actor_place row) → row.«module» < modules
       go (inl low) = let e = ap (λ (p : ActorPlace). p.«module») low.1 in let b = low.0 in omega (arith, e, b)
       go (inr h) = let b = own_module h.number h.port h.at in let e = h.module_is in omega (arith, e, b)
 
@@ -144,7 +144,7 @@ module _ (model : PureTree) (flat : Flat) (is : IsFlatOf model flat) where
       by_kind actor.Sampler inside other = inside
       by_kind actor.Sink inside other = inside
 
-      go : ((m < modules) × (place_of row ≡ module_actor m)) ⊎ IsOfPort 0 flat.tables.ports (place_of row) → IsActorPort (length flat.tables.ports) row.kind row.port
+      go : ((m < modules) × (actor_place row ≡ module_actor m)) ⊎ IsOfPort 0 flat.tables.ports (actor_place row) → IsActorPort (length flat.tables.ports) row.kind row.port
       go (inl low) = subst (λ k. IsActorPort (length flat.tables.ports) k row.port) (sym (ap (λ (p : ActorPlace). p.kind) low.1)) (ap (λ (p : ActorPlace). p.port) low.1)
       go (inr h) = by_kind row.kind (let b = slice_get_within flat.tables.ports h.number h.port h.at in let e = h.port_is in omega (arith, b, e)) h.converts
 
@@ -153,7 +153,7 @@ module _ (model : PureTree) (flat : Flat) (is : IsFlatOf model flat) where
   module_inside m low =
       let l = long in
       let places = length-append (map module_actor (range_with_len 0 modules)) (port_actors 0 flat.tables.ports) in
-      let rows : length flat.tables.actors ≡ length (actor_places modules flat.tables.ports) = sym (length-map flat.tables.actors place_of) ∙ ap length is.tables.follows.actors.places in
+      let rows : length flat.tables.actors ≡ length (actor_places modules flat.tables.ports) = sym (length-map flat.tables.actors actor_place) ∙ ap length is.tables.follows.actors.places in
       omega (arith, low, l, places, rows)
 
   edge_port : (edge : EdgeRow) → IsEdgeRow flat.tables edge → edge.port < length flat.tables.ports
@@ -206,7 +206,7 @@ module _ (model : PureTree) (flat : Flat) (is : IsFlatOf model flat) where
     pub has_event : (m : ℕ) (row : ActorRow) → slice_get flat.tables.actors m ≡ Some row → is_converter row.kind ≡ true → HasEventPort flat.tables row
     has_event m row at converts = go (actor_cases m row at)
       where
-        go : ((m < modules) × (place_of row ≡ module_actor m)) ⊎ IsOfPort 0 flat.tables.ports (place_of row) → HasEventPort flat.tables row
+        go : ((m < modules) × (actor_place row ≡ module_actor m)) ⊎ IsOfPort 0 flat.tables.ports (actor_place row) → HasEventPort flat.tables row
         go (inl low) = false_true (sym (ap (λ (p : ActorPlace). is_converter p.kind) low.1) ∙ converts)
         go (inr h) = record {
           port = h.port;

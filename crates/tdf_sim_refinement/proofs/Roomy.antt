@@ -3,13 +3,13 @@ use Rattle.std.proofs.Common.{◌≡◌, ◌∙◌, ℕ, zero, suc, ◌+◌, ◌
 use Rattle.tdf_convert.specs.Outputs.{OutputsOf}
 use Rattle.tdf_convert.specs.declared.outputs.Sent.{Sent}
 use Rattle.tdf_exec.proofs.Api.{gained_room, sent_total, traced_total}
-use Rattle.tdf_exec.specs.Cluster.{ClusterOf, is_due}
+use Rattle.tdf_exec.specs.Cluster.{ClusterOf, is_next_due}
 use Rattle.tdf_exec.specs.Gained.{HaveRoom, sent_size, size_due, traced_size}
 use Rattle.tdf_exec.specs.declared.runners.Runner.{Runner}
 use Rattle.tdf_bind.specs.declared.model.Flat.{Flat}
 use Rattle.tdf_streams.proofs.Api.{some_same}
 use Rattle.tdf_sim_refinement.proofs.Passing.{later}
-use Rattle.tdf_sim_refinement.specs.Pass.{HasPassedAll, HasTurn, HaveRoomForAll, HavePassed, PassAt, RunOf, pass_size, turn_size}
+use Rattle.tdf_sim_refinement.specs.Pass.{HasPassedAll, PassHasTurn, HaveRoomForAll, HavePassed, PassAt, RunOf, pass_size, turn_size}
 
 -- the clusters from one on give what it gives, and what those after it give
 size_head : (size : Option Runner → ℕ) (time n s : ℕ) (c : ClusterOf) (since : List ℕ) (cs : List ClusterOf) → slice_get since n ≡ Some s → slice_get cs n ≡ Some c
@@ -23,7 +23,7 @@ size_head size time zero s c (k ∷ since) (d ∷ cs) since_at at =
 size_head size time (suc n) s c (k ∷ since) (d ∷ cs) since_at at = size_head size time n s c since cs since_at at
 
 -- what a cluster gives that is due, and one that is not
-size_if_due : (size : Option Runner → ℕ) (time s : ℕ) (c : ClusterOf) (b : Bool) → is_due c (time - s) ≡ b
+size_if_due : (size : Option Runner → ℕ) (time s : ℕ) (c : ClusterOf) (b : Bool) → is_next_due c (time - s) ≡ b
     → turn_size size time s c ≡ (if b then size_due size c.runners (time - s) (drop c.place c.entries) else 0)
 size_if_due size time s c b due = ap (λ (o : Bool). if o then size_due size c.runners (time - s) (drop c.place c.entries) else 0) due
 
@@ -34,13 +34,13 @@ pub record GaveUpTo (pass : PassAt) (n : ℕ) (x y : RunOf) : Type 0 where
   pub rooms : (y.outputs.sent_room ≡ x.outputs.sent_room) × (y.outputs.traced_room ≡ x.outputs.traced_room)
 
 module _ (flat : Flat) (pass : PassAt) (x : RunOf) where
-  after_turn : (n : ℕ) (mid y : RunOf) (t : List Sent) → GaveUpTo pass n x mid → slice_get mid.clusters n ≡ slice_get x.clusters n → HasTurn flat pass n mid y t → GaveUpTo pass (suc n) x y
-  after_turn n mid y t before untouched (HasTurn.Idle turn is idled) = subst (λ (o : OutputsOf). GaveUpTo pass (suc n) x (record y { outputs = o })) (sym idled.outputs) (record {
+  after_turn : (n : ℕ) (mid y : RunOf) (t : List Sent) → GaveUpTo pass n x mid → slice_get mid.clusters n ≡ slice_get x.clusters n → PassHasTurn flat pass n mid y t → GaveUpTo pass (suc n) x y
+  after_turn n mid y t before untouched (PassHasTurn.Idle turn is idled) = subst (λ (o : OutputsOf). GaveUpTo pass (suc n) x (record y { outputs = o })) (sym idled.outputs) (record {
     sent = let h = size_head sent_size pass.time n turn.since turn.before pass.since x.clusters is.since (sym untouched ∙ is.before) in let b = before.sent in omega (arith, h, b);
     traced = let h = size_head traced_size pass.time n turn.since turn.before pass.since x.clusters is.since (sym untouched ∙ is.before) in let b = before.traced in omega (arith, h, b);
     rooms = before.rooms;
   })
-  after_turn n mid y t before untouched (HasTurn.Done turn is did) = record {
+  after_turn n mid y t before untouched (PassHasTurn.Done turn is did) = record {
     sent =
         let h = size_head sent_size pass.time n turn.since turn.before pass.since x.clusters is.since (sym untouched ∙ is.before) in
         let d = size_if_due sent_size pass.time turn.since turn.before true did.due in
@@ -72,7 +72,7 @@ module _ (flat : Flat) (pass : PassAt) (x : RunOf) where
   pass_rooms y all = (gave_up_to (length x.clusters) y all.sent all.passed).rooms
 
   pub room_at : HaveRoomForAll pass x → (n s : ℕ) (c : ClusterOf) (y : RunOf) (sent : List Sent) → HavePassed flat pass n x y sent → slice_get y.clusters n ≡ Some c → slice_get pass.since n ≡ Some s
-      → is_due c (pass.time - s) ≡ true → HaveRoom (pass.time - s) c y.outputs
+      → is_next_due c (pass.time - s) ≡ true → HaveRoom (pass.time - s) c y.outputs
   room_at room n s c y sent passed at since_at due = record {
     sent =
         let h = size_head sent_size pass.time n s c pass.since x.clusters since_at first in

@@ -13,7 +13,7 @@ use Rattle.tdf_graph.specs.declared.actors.Actor.{Actor}
 use Rattle.tdf_graph.specs.declared.actors.Actor.TheVariants as actor
 use Rattle.tdf_sim_history.specs.Instant.{actor_of_entry}
 use Rattle.tdf_sim_history.specs.World.{ClusterAt}
-use Rattle.tdf_sim_refinement.specs.Firings.{actor_at, read_by, reads_after, value_for}
+use Rattle.tdf_sim_refinement.specs.Firings.{actor_at_place, read_by, reads_after, value_for}
 use Rattle.tdf_schedule.specs.Plan.{done}
 use Rattle.tdf_schedule.specs.declared.entry.Entry.{Entry}
 use Rattle.tdf_streams.specs.Places.{actor_kind}
@@ -67,12 +67,12 @@ module _ (tables : FlatTablesOf) (values : List Raw) where
     pub reads_long : (k : ℕ) → length (reads_after tables values h k) ≡ length h.reads
     unfolding reads_after
     reads_long zero = refl
-    reads_long (suc k) = read_long (actor_at h k) (actor_kind tables (actor_at h k)) (reads_after tables values h k) ∙ reads_long k
+    reads_long (suc k) = read_long (actor_at_place h k) (actor_kind tables (actor_at_place h k)) (reads_after tables values h k) ∙ reads_long k
 
     pub reads_kept : (k : ℕ) → KeepsReads (λ m. slice_index_or h.reads m []) (λ m. slice_index_or (reads_after tables values h k) m [])
     unfolding reads_after
     reads_kept zero m n x at = at
-    reads_kept (suc k) m n x at = read_kept (actor_at h k) m n x (actor_kind tables (actor_at h k)) (reads_after tables values h k) (reads_kept k m n x at)
+    reads_kept (suc k) m n x at = read_kept (actor_at_place h k) m n x (actor_kind tables (actor_at_place h k)) (reads_after tables values h k) (reads_kept k m n x at)
 
     -- one entry more
     module _ (m : ℕ) (is : actor_kind tables m ≡ Some actor.Sampler) (inside : m < length h.reads) where

@@ -13,7 +13,7 @@ use Rattle.tdf_convert.specs.declared.links.Link.{Link}
 use Rattle.tdf_dynamic_plans.specs.Attributes.{clusters_of}
 use Rattle.tdf_events.specs.Runnable.{AreOfSignals, signal_formats}
 use Rattle.tdf_exec.specs.Cluster.{ClusterOf}
-use Rattle.tdf_exec.specs.Made.{IsClusterOf, IsRunnerOf, IsSamplerOf, is_sampler as is_sampler_runner, samplers_before}
+use Rattle.tdf_exec.specs.Made.{IsClusterOf, IsRunnerOf, IsSamplerOf, is_sampler_runner as is_sampler_runner, sampler_runners_before}
 use Rattle.tdf_exec.specs.Played.{AreInputsFor}
 use Rattle.tdf_exec.specs.Runners.{SamplerOf}
 use Rattle.tdf_exec.specs.declared.runners.Runner.{Runner}
@@ -28,7 +28,7 @@ use Rattle.tdf_sim_history.specs.Instant.{signal_of}
 use Rattle.tdf_sim_refinement.proofs.Rows.{count_alike, index_map}
 use Rattle.tdf_sim_refinement.proofs.Signals.{written_format}
 use Rattle.tdf_sim_refinement.specs.LinkLaws.{SamplersReadSignals}
-use Rattle.tdf_sim_refinement.specs.Linked.{AreSamplerLinks, IsLinked, is_own_sampler, is_sampler, own_samplers}
+use Rattle.tdf_sim_refinement.specs.Linked.{AreSamplerLinks, HasLink, is_own_sampler, is_sampler, own_samplers}
 use Rattle.tdf_sim_refinement.specs.At.{AreSettled}
 use Rattle.tdf_schedule.specs.declared.entry.Entry.{Entry}
 use Rattle.tdf_streams.specs.Cluster.{zero_sample}
@@ -60,7 +60,7 @@ module _ (flat : Flat) (c : ClusterOf) (of : IsClusterOf flat c) where
           not_own (inl same) = absurd (h (own ∙ same))
           not_own (inr other) = grind (arith, nat_tests, other)
 
-  before_is : (m : ℕ) → samplers_before c.runners m ≡ own_samplers flat.tables c.number m
+  before_is : (m : ℕ) → sampler_runners_before c.runners m ≡ own_samplers flat.tables c.number m
   unfolding own_samplers
   before_is m = count_alike is_sampler_runner (is_own_sampler c.number) c.runners flat.tables.actors m of.actors alike
 
@@ -73,7 +73,7 @@ module _ (flat : Flat) (c : ClusterOf) (of : IsClusterOf flat c) where
         → slice_get values (signal_of flat.tables x.actor) ≡ Some v
     given i x s v at when there has =
         let own : IsSamplerOf flat c x.actor s = of.runners x.actor (runner.Sampler s) there in
-        let h : IsLinked links x.actor = are.all x.actor own.actor_is in
+        let h : HasLink links x.actor = are.all x.actor own.actor_is in
         let due = sampled.due h.place h.link h.at (are.each h.place h.link h.at).1 (record { place = i; entry = x; at = at; when = when; who = sym h.of }) in
         let place : h.link.place ≡ s.place = are.places h.place h.link h.at ∙ ap (own_samplers flat.tables c.number) h.of ∙ sym (before_is x.actor) ∙ sym own.place_is in
         ap (slice_get values) (sym (are.of h.place h.link h.at ∙ ap (signal_of flat.tables) h.of)) ∙ sym due ∙ ap (slice_get new) place ∙ has

@@ -23,17 +23,17 @@ use Rattle.tdf_streams.specs.Stands.{KeepsReads, Less, Play, Stands, run_of}
 use Rattle.tdf_streams.specs.Streams.{known, place}
 use Rattle.tdf_graph.specs.declared.actors.Actor.{Actor}
 use Rattle.tdf_graph.specs.declared.actors.Actor.TheVariants as actor
-use Rattle.tdf_sim_history.specs.Instant.{activations, actor_of_entry, edge_from, sample_taken, signal_of}
+use Rattle.tdf_sim_history.specs.Instant.{activations, actor_of_entry, edge_read_from, sample_taken, signal_of}
 use Rattle.tdf_sim_history.specs.World.{ClusterAt, SinkWrite}
 use Rattle.tdf_exec_layout.specs.Wiring.{IsEdgeOf}
 use Rattle.tdf_sim_refinement.proofs.Due.{true_false}
 use Rattle.tdf_sim_refinement.proofs.Sampling.{done_to, done_up, read_kept, sampler_reads}
 use Rattle.tdf_sim_refinement.proofs.Arriving.{kind_inside}
 use Rattle.tdf_sim_refinement.specs.At.{HaveRead, HaveTakenOne}
-use Rattle.tdf_sim_refinement.specs.Firings.{actor_at, after_firings, reads_after, value_for, write_by, write_of, writes_after}
+use Rattle.tdf_sim_refinement.specs.Firings.{actor_at_place, after_firings, reads_after, value_for, write_by, write_of, writes_after}
 use Rattle.tdf_schedule.specs.Plan.{done}
 use Rattle.tdf_schedule.specs.declared.entry.Entry.{Entry}
-use Rattle.tdf_streams.specs.Cluster.{cluster_net, is_outside, is_sampler_kind, zero_sample}
+use Rattle.tdf_streams.specs.Cluster.{cluster_net, is_outside_cluster, is_sampler_kind, zero_sample}
 use Rattle.tdf_streams.specs.Places.{actor_kind, reader_at}
 use Rattle.tdf_streams.specs.Periods.{PeriodInfo, PeriodRecord}
 use Rattle.tdf_lang_tree.specs.Pure.{PureTree}
@@ -87,12 +87,12 @@ module _ {S V I : Type 0} (net : Net S V I) (p : Period I) (m : ℕ) (lists : Li
 
 -- the edge of a sink
 edge_is : (tables : FlatTablesOf) (m edge e n : ℕ) → reader_at tables.edges edge ≡ m → e ≤ edge → edge < e + n → ((k : ℕ) → e ≤ k → k < e + n → reader_at tables.edges k ≡ m → k ≡ edge)
-    → edge_from tables m e n ≡ edge
-unfolding edge_from
+    → edge_read_from tables m e n ≡ edge
+unfolding edge_read_from
 edge_is tables m edge e zero is low high only = absurd (omega (arith, low, high))
 edge_is tables m edge e (suc n) is low high only = elim (cases_eq e edge) [
-  | inl same ↦ (ap (λ b. if b then e else edge_from tables m (e + 1) n) (eq-eqb (reader_at tables.edges e) m (ap (reader_at tables.edges) same ∙ is)) ∙ same)
-  | inr apart ↦ (ap (λ b. if b then e else edge_from tables m (e + 1) n) (ne_eqb (reader_at tables.edges e) m (λ reads. apart (only e (omega arith) (omega arith) reads)))
+  | inl same ↦ (ap (λ b. if b then e else edge_read_from tables m (e + 1) n) (eq-eqb (reader_at tables.edges e) m (ap (reader_at tables.edges) same ∙ is)) ∙ same)
+  | inr apart ↦ (ap (λ b. if b then e else edge_read_from tables m (e + 1) n) (ne_eqb (reader_at tables.edges e) m (λ reads. apart (only e (omega arith) (omega arith) reads)))
       ∙ edge_is tables m edge (e + 1) n is (omega (arith, low, apart)) (omega (arith, high)) (λ k above below reads. only k (omega (arith, above)) (omega (arith, below)) reads))
 ]
 
@@ -122,7 +122,7 @@ sampler_kind (Some actor.Module) is = absurd (true_false (sym is))
 sampler_kind (Some actor.Sampler) is = refl
 sampler_kind (Some actor.Sink) is = absurd (true_false (sym is))
 
-outside_sampler : (tables : FlatTablesOf) (number m : ℕ) → slice_index (clusters_of tables) m ≡ number → is_outside tables number m ≡ true → actor_kind tables m ≡ Some actor.Sampler
+outside_sampler : (tables : FlatTablesOf) (number m : ℕ) → slice_index (clusters_of tables) m ≡ number → is_outside_cluster tables number m ≡ true → actor_kind tables m ≡ Some actor.Sampler
 outside_sampler tables number m own is = sampler_kind (actor_kind tables m)
     (ap (λ b. is_sampler_kind (actor_kind tables m) || not b) (sym (eq-eqb (slice_index (clusters_of tables) m) number own)) ∙ is)
 
@@ -138,7 +138,7 @@ module _ (model : PureTree) (flat : Flat) (number : ℕ) (values : List Raw) (h 
   keeps_more j zero m n x at = let e : j ≡ 0 + j = omega arith in subst (λ i. slice_get (read_at i m) n ≡ Some x) e at
   keeps_more j (suc d) m n x at = let e : suc (d + j) ≡ suc d + j = omega arith in
       subst (λ i. slice_get (read_at i m) n ≡ Some x) e
-      (read_kept flat.tables values (actor_at h (d + j)) m n x (actor_kind flat.tables (actor_at h (d + j))) (reads_after flat.tables values h (d + j)) (keeps_more j d m n x at))
+      (read_kept flat.tables values (actor_at_place h (d + j)) m n x (actor_kind flat.tables (actor_at_place h (d + j))) (reads_after flat.tables values h (d + j)) (keeps_more j d m n x at))
 
   pub keeps_to : (j i : ℕ) → j ≤ i → KeepsReads (read_at j) (read_at i)
   keeps_to j i low = let e : i - j + j ≡ i = omega (arith, low) in subst (λ n. KeepsReads (read_at j) (read_at n)) e (keeps_more j (i - j))

@@ -25,7 +25,7 @@ use Rattle.tdf_schedule.specs.declared.entry.Entry.{Entry}
 use Rattle.tdf_streams.specs.Cluster.{cluster_net}
 use Rattle.tdf_streams.specs.Places.{actor_kind}
 use Rattle.tdf_sim_refinement.proofs.Walked.{actors_in, nothing, walk}
-use Rattle.tdf_sim_refinement.specs.Samples.{AreSamplesOf, IsTracedPort, samples_of}
+use Rattle.tdf_sim_refinement.specs.Samples.{AreSamplesOf, IsTracedPort, signal_samples}
 use Rattle.tdf_lang_tree.specs.Pure.{PureTree}
 use Rattle.tdf_bind_connections.specs.declared.modules.PortRow.{PortRow}
 use Rattle.tdf_sim_history.specs.Columns.{ColumnStart}
@@ -56,14 +56,14 @@ module _ (model : PureTree) (flat : Flat) (one_port : SignalsHaveOnePort) (sound
 
   -- of its own ports it has what it had and what it traced
   pub fired_own : (nr : ℕ) (port : PortRow) (s : ColumnStart) → IsTracedPort flat number nr port → actor_kind flat.tables port.«module» ≡ Some actor.Module → (had : List Raw) → AreSamplesOf model flat number nr port s h had
-      → AreSamplesOf model flat number nr port s (after_firings flat.tables values h k) (had ++ samples_of port.signal fired.gained.traced)
+      → AreSamplesOf model flat number nr port s (after_firings flat.tables values h k) (had ++ signal_samples port.signal fired.gained.traced)
   fired_own nr port s traced kind had has =
       walk model flat one_port sound is number nr port traced values h k due.within (started model flat number time values h c d inputs at begun) at.have_read own inside kind s at.steps (enough model flat number time values h c d inputs at begun k due.within)
       k 0 (omega arith) (play_of h.from c) (play_of h.from d) fired.gained.sent fired.gained.traced had (begins model flat number time values h c d inputs at begun) (turns_here model flat number time values h c d inputs at begun) given
       (subst (λ g. AreSamplesOf model flat number nr port s g had) (after_none flat values h) has)
 
   -- of those of another cluster it traced nothing
-  pub fired_other : (cluster nr : ℕ) (port : PortRow) → IsTracedPort flat cluster nr port → cluster ≢ number → samples_of port.signal fired.gained.traced ≡ []
+  pub fired_other : (cluster nr : ℕ) (port : PortRow) → IsTracedPort flat cluster nr port → cluster ≢ number → signal_samples port.signal fired.gained.traced ≡ []
   fired_other cluster nr port traced apart =
       let w = due.within in
       nothing model flat one_port sound is cluster nr port traced (cluster_net model flat number h.begun) h.old h.now (λ m. slice_index_or (reads_after flat.tables values h k) m []) h.entries

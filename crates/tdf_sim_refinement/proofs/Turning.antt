@@ -3,7 +3,7 @@ use Rattle.std.proofs.Common.{◌≡◌, ◌∙◌, ℕ, suc, ◌+◌, ◌-◌, 
 use Rattle.std.proofs.lemmas.Option.{slice_get-get_or, slice_get_within}
 use Rattle.tdf_convert.specs.Outputs.{OutputsOf}
 use Rattle.tdf_convert.specs.declared.outputs.Sent.{Sent}
-use Rattle.tdf_exec.specs.Cluster.{ClusterOf, is_due}
+use Rattle.tdf_exec.specs.Cluster.{ClusterOf, is_next_due}
 use Rattle.tdf_exec.specs.Gained.{HaveRoom}
 use Rattle.tdf_exec.specs.Made.{IsClusterOf}
 use Rattle.tdf_exec.specs.Played.{AreInputsFor}
@@ -14,13 +14,13 @@ use Rattle.tdf_sim_refinement.proofs.Due.{true_false}
 use Rattle.tdf_sim_refinement.proofs.Passing.{later}
 use Rattle.tdf_sim_refinement.proofs.Roomy.{room_at}
 use Rattle.tdf_sim_refinement.specs.Fired.{HasFired, HasStayed, HasTooFew}
-use Rattle.tdf_sim_refinement.specs.Pass.{CanPass, HasEnded, HasPassedPart, HasTurn, HavePassed, IsTurnOf, PassAt, RunOf, TurnAt, run_of}
+use Rattle.tdf_sim_refinement.specs.Pass.{CanPass, HasEnded, HasPassedPart, PassHasTurn, HavePassed, IsTurnOf, PassAt, RunOf, TurnAt, pass_run}
 
 pub nothing_passed : (flat : Flat) (pass : PassAt) (x : RunOf) → (sent : List Sent) × HavePassed flat pass 0 x x sent
 unfolding HavePassed
 nothing_passed flat pass x = ([], (refl, refl))
 
-one_more : (flat : Flat) (pass : PassAt) (n : ℕ) (x y z : RunOf) (sent t : List Sent) → HavePassed flat pass n x y sent → HasTurn flat pass n y z t → HavePassed flat pass (suc n) x z (sent ++ t)
+one_more : (flat : Flat) (pass : PassAt) (n : ℕ) (x y z : RunOf) (sent t : List Sent) → HavePassed flat pass n x y sent → PassHasTurn flat pass n y z t → HavePassed flat pass (suc n) x z (sent ++ t)
 unfolding HavePassed
 one_more flat pass n x y z sent t passed turn = (y, sent, t, passed, turn, refl)
 
@@ -46,14 +46,14 @@ module _ (flat : Flat) (pass : PassAt) (x : RunOf) (can : CanPass flat pass x) w
     pub of_now : IsClusterOf flat c
     of_now = can.of n c first
 
-    pub room_now : is_due c (pass.time - since) ≡ true → HaveRoom (pass.time - since) c y.outputs
+    pub room_now : is_next_due c (pass.time - since) ≡ true → HaveRoom (pass.time - since) c y.outputs
     room_now due = room_at flat pass x can.room n since c y passed.0 passed.1 there since_is due
 
     module _ (inputs : List Raw) (value_at : inputs ≡ slice_index_or pass.inputs n inputs) where
       inputs_at : slice_get pass.inputs n ≡ Some inputs
       inputs_at = let l = can.inputs in slice_get-get_or pass.inputs n inputs (omega (arith, l, inside)) ∙ ap Some (sym value_at)
 
-      pub given_now : is_due c (pass.time - since) ≡ true → AreInputsFor flat (pass.time - since) c inputs
+      pub given_now : is_next_due c (pass.time - since) ≡ true → AreInputsFor flat (pass.time - since) c inputs
       given_now due = can.given n since c inputs first since_is inputs_at due
 
       module _ (d : ClusterOf) (after : OutputsOf) (rest : ℕ) (result : Bool) where
@@ -61,29 +61,29 @@ module _ (flat : Flat) (pass : PassAt) (x : RunOf) (can : CanPass flat pass x) w
         turn = record { before = c; after = d; since = since; inputs = inputs }
 
         abbrev z : RunOf
-        z = run_of (slice_set y.clusters n d) after rest
+        z = pass_run (slice_set y.clusters n d) after rest
 
         is : IsTurnOf pass n y z turn
         is = record { before = there; after = refl; since = since_is; inputs = inputs_at }
 
-        module _ (stays : is_due c (pass.time - since) ≡ false → HasStayed c d y.outputs after y.left rest)
-            (fired : is_due c (pass.time - since) ≡ true → result ≡ true → HasFired flat (pass.time - since) inputs c d y.outputs after y.left rest) (yes : result ≡ true) where
-          turned : (b : Bool) → is_due c (pass.time - since) ≡ b → (t : List Sent) × HasTurn flat pass n y z t
-          turned true due = ((fired due yes).gained.sent, HasTurn.Done turn is (record { due = due; fired = fired due yes; sent_is = refl }))
-          turned false due = ([], HasTurn.Idle turn is (record { none = due; same = (stays due).same; outputs = (stays due).none; left = (stays due).kept; nothing = refl }))
+        module _ (stays : is_next_due c (pass.time - since) ≡ false → HasStayed c d y.outputs after y.left rest)
+            (fired : is_next_due c (pass.time - since) ≡ true → result ≡ true → HasFired flat (pass.time - since) inputs c d y.outputs after y.left rest) (yes : result ≡ true) where
+          turned : (b : Bool) → is_next_due c (pass.time - since) ≡ b → (t : List Sent) × PassHasTurn flat pass n y z t
+          turned true due = ((fired due yes).gained.sent, PassHasTurn.Done turn is (record { due = due; fired = fired due yes; sent_is = refl }))
+          turned false due = ([], PassHasTurn.Idle turn is (record { none = due; same = (stays due).same; outputs = (stays due).none; left = (stays due).kept; nothing = refl }))
 
           pub passed_more : (sent : List Sent) × HavePassed flat pass (n + 1) x z sent
-          passed_more = let t = turned (is_due c (pass.time - since)) refl in
+          passed_more = let t = turned (is_next_due c (pass.time - since)) refl in
               (passed.0 ++ t.0, subst (λ k. HavePassed flat pass k x z (passed.0 ++ t.0)) (sym (add-one n)) (one_more flat pass n x y z passed.0 t.0 passed.1 t.1))
 
-        module _ (idle : is_due c (pass.time - since) ≡ false → result ≡ true)
-            (few : is_due c (pass.time - since) ≡ true → result ≡ false → HasTooFew (pass.time - since) c d y.outputs after y.left rest) (no : result ≡ false) where
-          ended : (b : Bool) → is_due c (pass.time - since) ≡ b → HasEnded pass.time turn y z
+        module _ (idle : is_next_due c (pass.time - since) ≡ false → result ≡ true)
+            (few : is_next_due c (pass.time - since) ≡ true → result ≡ false → HasTooFew (pass.time - since) c d y.outputs after y.left rest) (no : result ≡ false) where
+          ended : (b : Bool) → is_next_due c (pass.time - since) ≡ b → HasEnded pass.time turn y z
           ended true due = record { due = due; few = few due no }
           ended false due = absurd (true_false (sym (idle due) ∙ no))
 
           pub passed_part : HasPassedPart flat pass x z
           passed_part = record {
             number = n;
-            to = record { mid = y; sent = passed.0; passed = passed.1; turn = turn; is = is; ended = ended (is_due c (pass.time - since)) refl };
+            to = record { mid = y; sent = passed.0; passed = passed.1; turn = turn; is = is; ended = ended (is_next_due c (pass.time - since)) refl };
           }

@@ -36,7 +36,7 @@ use Rattle.tdf_sim_history.specs.Columns.{ColumnStart, held_by}
 use Rattle.tdf_streams.specs.Signals.{outputs_in, rate_in}
 use Rattle.tdf_sim_refinement.proofs.Knowing.{column_more, known_to, outputs_known}
 use Rattle.tdf_sim_refinement.proofs.Picked.{none_traced, own_traced, samples_append, samples_none}
-use Rattle.tdf_sim_refinement.specs.Samples.{AreSamplesOf, IsTracedPort, samples_of}
+use Rattle.tdf_sim_refinement.specs.Samples.{AreSamplesOf, IsTracedPort, signal_samples}
 use Rattle.tdf_lang_tree.specs.Pure.{PureTree}
 use Rattle.tdf_bind_connections.specs.declared.modules.PortRow.{PortRow}
 
@@ -53,15 +53,15 @@ actors_next entries n i x at = ap (λ l. map (λ (y : Entry). y.actor) (take (su
 module _ (model : PureTree) (flat : Flat) (one_port : SignalsHaveOnePort) (sound : IsSoundModel model) (is : IsFlatOf model flat) (cluster nr : ℕ) (port : PortRow) (traced : IsTracedPort flat cluster nr port) where
   -- firings of other modules trace none of its signal
   pub nothing : (net : Net (List ℤ) Raw PeriodInfo) (old : List PeriodRecord) (p : PeriodRecord) (reads : ℕ → List Raw) (entries : List Entry) → ((i : ℕ) (x : Entry) → slice_get entries i ≡ Some x → x.actor ≢ port.«module»)
-      → (n i : ℕ) → i + n ≤ length entries → (y z : Play (List ℤ) Raw) (sent : List Sent) (given : List Traced) → GiveAll flat net old p reads (actors_in entries n i) y z sent given → samples_of port.signal given ≡ []
+      → (n i : ℕ) → i + n ≤ length entries → (y z : Play (List ℤ) Raw) (sent : List Sent) (given : List Traced) → GiveAll flat net old p reads (actors_in entries n i) y z sent given → signal_samples port.signal given ≡ []
   unfolding GiveAll
-  nothing net old p reads entries apart zero i within y z sent given all = ap (samples_of port.signal) all.2 ∙ samples_none port.signal
+  nothing net old p reads entries apart zero i within y z sent given all = ap (signal_samples port.signal) all.2 ∙ samples_none port.signal
   nothing net old p reads entries apart (suc n) i within y z sent given all =
       let x = get_inside entries i (omega (arith, within)) in
       let these : GiveAll flat net old p reads (x.0.actor ∷ actors_in entries n (i + 1)) y z sent given = subst (λ l. GiveAll flat net old p reads l y z sent given) (actors_next entries n i x.0 x.1) all in
-      ap (samples_of port.signal) these.8
+      ap (signal_samples port.signal) these.8
       ∙ samples_append port.signal these.2 these.4
-      ∙ ap (λ l. l ++ samples_of port.signal these.4) (ap (samples_of port.signal) these.5.traced_is
+      ∙ ap (λ l. l ++ signal_samples port.signal these.4) (ap (signal_samples port.signal) these.5.traced_is
       ∙ none_traced model flat one_port sound is cluster nr port traced p.info.table these.5.step.turn x.0.actor (actor_kind flat.tables x.0.actor) (apart i x.0 x.1))
       ∙ nothing net old p reads entries apart n (i + 1) (omega (arith, within)) these.0 z these.3 these.4 these.6
 
@@ -180,23 +180,23 @@ module _ (model : PureTree) (flat : Flat) (one_port : SignalsHaveOnePort) (sound
         }
 
       -- with what it traces
-      traces : (given : List Traced) → given ≡ traced_by flat.tables (actor_kind flat.tables x.actor) x.actor h.now.info.table step.turn → Has (suc j) (had ++ samples_of port.signal given)
+      traces : (given : List Traced) → given ≡ traced_by flat.tables (actor_kind flat.tables x.actor) x.actor h.now.info.table step.turn → Has (suc j) (had ++ signal_samples port.signal given)
       traces given given_is = elim (cases_eq x.actor port.«module») [
         | inl same ↦ subst (λ l. Has (suc j) (had ++ l))
-            (sym (ap (samples_of port.signal) (given_is ∙ ap (λ o. traced_by flat.tables o x.actor h.now.info.table step.turn) (ap (actor_kind flat.tables) same ∙ kind_of_module))
+            (sym (ap (signal_samples port.signal) (given_is ∙ ap (λ o. traced_by flat.tables o x.actor h.now.info.table step.turn) (ap (actor_kind flat.tables) same ∙ kind_of_module))
             ∙ own_traced model flat one_port sound is cluster nr port traced h.now.info.table step.turn x.actor same)) (own_has same)
         | inr apart ↦ subst (Has (suc j))
-            (sym (append-nil had) ∙ ap (λ l. had ++ l) (sym (ap (samples_of port.signal) given_is ∙ none_traced model flat one_port sound is cluster nr port traced h.now.info.table step.turn x.actor (actor_kind flat.tables x.actor) apart)))
+            (sym (append-nil had) ∙ ap (λ l. had ++ l) (sym (ap (signal_samples port.signal) given_is ∙ none_traced model flat one_port sound is cluster nr port traced h.now.info.table step.turn x.actor (actor_kind flat.tables x.actor) apart)))
             (apart_has apart)
       ]
 
     pub walk : (n j : ℕ) → j + n ≡ k → (y z : Play (List ℤ) Raw) (sent : List Sent) (given : List Traced) (had : List Raw) → Stands net h.old h.now (read_at j) (j + f) y → HasTurns j y
-        → GiveAll flat net h.old h.now (read_at k) (actors_in h.entries n (h.place + j)) y z sent given → Has j had → Has k (had ++ samples_of port.signal given)
+        → GiveAll flat net h.old h.now (read_at k) (actors_in h.entries n (h.place + j)) y z sent given → Has j had → Has k (had ++ signal_samples port.signal given)
     unfolding GiveAll
     walk zero j e y z sent given had stands turns all has =
         let same : j ≡ k = omega (arith, e) in
-        subst (λ i. Has i (had ++ samples_of port.signal given)) same
-        (subst (Has j) (sym (append-nil had) ∙ ap (λ l. had ++ l) (sym (ap (samples_of port.signal) all.2 ∙ samples_none port.signal))) has)
+        subst (λ i. Has i (had ++ signal_samples port.signal given)) same
+        (subst (Has j) (sym (append-nil had) ∙ ap (λ l. had ++ l) (sym (ap (signal_samples port.signal) all.2 ∙ samples_none port.signal))) has)
     walk (suc n) j e y z sent given had stands turns all has =
         let below : j < k = omega (arith, e) in
         let x = get_inside h.entries (h.place + j) (omega (arith, within, below)) in
@@ -204,8 +204,8 @@ module _ (model : PureTree) (flat : Flat) (one_port : SignalsHaveOnePort) (sound
         let these : GiveAll flat net h.old h.now (read_at k) (x.0.actor ∷ actors_in h.entries n (h.place + suc j)) y z sent given =
         subst (λ l. GiveAll flat net h.old h.now (read_at k) l y z sent given) (actors_next h.entries n (h.place + j) x.0 x.1 ∙ ap (λ i. x.0.actor ∷ actors_in h.entries n i) next) all in
         let here = traces j below x.0 x.1 y these.0 stands turns these.5.step had has these.2 these.5.traced_is in
-        let rest = walk n (suc j) (omega (arith, e)) these.0 z these.3 these.4 (had ++ samples_of port.signal these.2)
+        let rest = walk n (suc j) (omega (arith, e)) these.0 z these.3 these.4 (had ++ signal_samples port.signal these.2)
         (stands_next model flat cluster values h k within started have_read j f below x.0 x.1 (own (h.place + j) x.0 x.1) (known_actor (h.place + j) x.0 x.1) y these.0 stands turns these.5.step)
         (turns_next model flat cluster values h k within started have_read j f below x.0 x.1 (own (h.place + j) x.0 x.1) (known_actor (h.place + j) x.0 x.1) y these.0 stands turns these.5.step) these.6 here in
-        subst (Has k) (append_assoc had (samples_of port.signal these.2) (samples_of port.signal these.4)
-        ∙ ap (λ l. had ++ l) (sym (ap (samples_of port.signal) these.8 ∙ samples_append port.signal these.2 these.4))) rest
+        subst (Has k) (append_assoc had (signal_samples port.signal these.2) (signal_samples port.signal these.4)
+        ∙ ap (λ l. had ++ l) (sym (ap (signal_samples port.signal) these.8 ∙ samples_append port.signal these.2 these.4))) rest

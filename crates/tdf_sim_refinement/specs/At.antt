@@ -13,7 +13,7 @@ use Rattle.tdf_streams.specs.Grounds.{firings}
 use Rattle.tdf_streams.specs.Stands.{Stands}
 use Rattle.tdf_graph.specs.declared.actors.Actor.TheVariants as actor
 use Rattle.tdf_sim_history.specs.Instant.{activations, periods_of, run_in}
-use Rattle.tdf_sim_history.specs.Continuing.{HasCounts}
+use Rattle.tdf_sim_history.specs.Continuing.{EntriesHaveCounts}
 use Rattle.tdf_sim_history.specs.World.{ClusterAt}
 use Rattle.tdf_sim_history.specs.WorldLaws.{AreRecordsOf}
 use Rattle.tdf_exec_layout.specs.Wiring.{Reads}
@@ -45,7 +45,7 @@ pub record IsAt (model : PureTree) (flat : Flat) (number : ℕ) (h : ClusterAt) 
   pub of : IsClusterOf flat c
   -- the start, or the period, lies at a place of the plan, which has the counts of a whole period
   pub period : IsPeriodOf c h.from h.now
-  pub counts : HasCounts h.entries h.now.info.counts
+  pub counts : EntriesHaveCounts h.entries h.now.info.counts
   pub records : AreRecordsOf flat number h.begun (periods_of h)
   pub have_read : HaveRead flat.tables number h
   -- each actor was activated as often as in the history, or as often as can be counted

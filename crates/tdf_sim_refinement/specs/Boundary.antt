@@ -9,7 +9,7 @@ use Rattle.tdf_dynamic.specs.declared.next.Next.{Next}
 use Rattle.tdf_dynamic.specs.declared.next.Next.TheVariants as next
 use Rattle.tdf_dynamic_plans.specs.Attributes.{AttrsOf}
 use Rattle.tdf_exec.specs.Cluster.{ClusterOf, next_offset}
-use Rattle.tdf_exec.specs.Crossing.{CanInstall, CrossesFrom, HasBegun, HasCrossed, StandsAfter, WhenItAsks}
+use Rattle.tdf_exec.specs.Crossing.{CanInstall, CrossesFrom, HasBegunPeriod, HasCrossed, StandsAfter, WhenItAsks}
 use Rattle.tdf_exec.specs.Made.{IsClusterOf}
 use Rattle.tdf_expr.specs.Checked.{IsCheckedOf}
 use Rattle.tdf_bind.specs.declared.model.Flat.{Flat}
@@ -42,7 +42,7 @@ pub record HasPassedBoundary (flat : Flat) (next : Next) (c crossed d : ClusterO
   pub crossed_is : HasCrossed c crossed
   pub crosses : CrossesFrom flat c crossed
   pub can : CanInstall flat crossed next
-  pub begun : HasBegun crossed next d
+  pub begun : HasBegunPeriod crossed next d
   pub of : IsClusterOf flat d
   pub stands : StandsAfter flat next crossed d
   pub answered : HasAnswered flat c (change_of flat.tables crossed.table next)

@@ -28,8 +28,8 @@ pub record IsNotLate (time : ℕ) (h : ClusterAt) : Type 0 where
   pub next : (x : Entry) → slice_get h.entries h.place ≡ Some x → time ≤ h.since + x.offset
 
 -- the actor of entry i of those to come
-abbrev pub actor_at : ClusterAt → (i : ℕ) → ℕ
-actor_at h i = actor_of_entry (slice_get h.entries (h.place + i))
+abbrev pub actor_at_place : ClusterAt → (i : ℕ) → ℕ
+actor_at_place h i = actor_of_entry (slice_get h.entries (h.place + i))
 
 -- the value that a sampler reads, of the settled values of the event signals
 abbrev pub value_for : FlatTablesOf → List Raw → (m : ℕ) → Raw
@@ -47,8 +47,8 @@ read_by tables values m None reads = reads
 -- after the next k entries
 unfoldable pub reads_after : FlatTablesOf → List Raw → ClusterAt → (k : ℕ) → List (List Raw)
 reads_after tables values h zero = h.reads
-reads_after tables values h (suc k) = read_by tables values (actor_at h k)
-    (actor_kind tables (actor_at h k)) (reads_after tables values h k)
+reads_after tables values h (suc k) = read_by tables values (actor_at_place h k)
+    (actor_kind tables (actor_at_place h k)) (reads_after tables values h k)
 
 abbrev pub after_firings : FlatTablesOf → List Raw → ClusterAt → (k : ℕ) → ClusterAt
 after_firings tables values h k =
@@ -74,8 +74,8 @@ unfoldable pub writes_after : PureTree → Flat → List Raw → (cluster : ℕ)
     → List SinkWrite
 writes_after model flat values cluster h zero = []
 writes_after model flat values cluster h (suc k) = writes_after model flat values cluster h k
-    ++ write_by model flat cluster (after_firings flat.tables values h k) (actor_at h k)
-    (actor_kind flat.tables (actor_at h k))
+    ++ write_by model flat cluster (after_firings flat.tables values h k) (actor_at_place h k)
+    (actor_kind flat.tables (actor_at_place h k))
 
 module _ {K : Type 0} where
   abbrev pub settled_values : Rules K → World K → List Raw

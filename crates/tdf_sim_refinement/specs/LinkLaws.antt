@@ -1,7 +1,7 @@
 -- What samplers read by their links, and what sinks write by theirs.
 -- Source: own; samplers and sinks after IEEE 1666.1-2016, converter ports of TDF modules.
 use Rattle.std.specs.Prelude.{◌≡◌, ℕ, List, All, length, map}
-use Rattle.tdf_convert.specs.Emitted.{write_of}
+use Rattle.tdf_convert.specs.Emitted.{write_of_sent}
 use Rattle.tdf_convert.specs.Links.{samplers_in}
 use Rattle.tdf_convert.specs.Sampled.{AreSampled}
 use Rattle.tdf_convert.specs.declared.links.Link.{Link}
@@ -42,5 +42,5 @@ abbrev pub SinksWriteSignals : Type 0
 SinksWriteSignals = (model : PureTree) (flat : Flat) (links : List Link) (sent : List Sent)
     → IsSoundModel model → IsFlatOf model flat → AreSinkLinks flat.tables links
     → All (IsSentOf flat.tables) sent
-    → (map (write_of links) sent ≡ map signal_write (map (history_write_of flat.tables) sent))
-    × AreWritesOf (signal_formats flat) (map (write_of links) sent)
+    → (map (write_of_sent links) sent ≡ map signal_write (map (history_write_of flat.tables) sent))
+    × AreWritesOf (signal_formats flat) (map (write_of_sent links) sent)

@@ -35,7 +35,7 @@ HaveSignalsOf tables links = (j : ℕ) (l : Link) → slice_get links j ≡ Some
     → l.signal ≡ signal_of tables l.actor
 
 -- an actor has a link, as a sampler or not
-pub record IsLinked (links : List Link) (m : ℕ) : Type 0 where
+pub record HasLink (links : List Link) (m : ℕ) : Type 0 where
   pub place : ℕ
   pub link : Link
   pub at : slice_get links place ≡ Some link
@@ -60,7 +60,7 @@ pub record AreSamplerLinks (tables : FlatTablesOf) (cluster : ℕ) (links : List
   pub of : HaveSignalsOf tables links
   pub each : (j : ℕ) (l : Link) → slice_get links j ≡ Some l
       → IsActorOf tables cluster l.actor actor.Sampler × (l.sampler ≡ true)
-  pub all : (m : ℕ) → IsActorOf tables cluster m actor.Sampler → IsLinked links m
+  pub all : (m : ℕ) → IsActorOf tables cluster m actor.Sampler → HasLink links m
   pub places : (j : ℕ) (l : Link) → slice_get links j ≡ Some l
       → l.place ≡ own_samplers tables cluster l.actor
   pub many : samplers_in links ≡ own_samplers tables cluster (length tables.actors)
@@ -73,4 +73,4 @@ pub record AreSinkLinks (tables : FlatTablesOf) (links : List Link) : Type 0 whe
   pub of : HaveSignalsOf tables links
   pub each : (j : ℕ) (l : Link) → slice_get links j ≡ Some l
       → (actor_kind tables l.actor ≡ Some actor.Sink) × (l.sampler ≡ false)
-  pub all : (m : ℕ) → actor_kind tables m ≡ Some actor.Sink → IsLinked links m
+  pub all : (m : ℕ) → actor_kind tables m ≡ Some actor.Sink → HasLink links m

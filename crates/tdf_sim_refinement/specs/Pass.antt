@@ -5,7 +5,7 @@ use Rattle.tdf_bind_tables.specs.FlatTables.{FlatTablesOf}
 use Rattle.tdf_convert.specs.Outputs.{OutputsOf}
 use Rattle.tdf_convert.specs.Sampled.{AreByOffset}
 use Rattle.tdf_convert.specs.declared.outputs.Sent.{Sent}
-use Rattle.tdf_exec.specs.Cluster.{ClusterOf, is_due}
+use Rattle.tdf_exec.specs.Cluster.{ClusterOf, is_next_due}
 use Rattle.tdf_exec.specs.Gained.{sent_size, size_due, traced_size}
 use Rattle.tdf_exec.specs.Made.{IsClusterOf}
 use Rattle.tdf_exec.specs.Played.{AreInputsFor}
@@ -35,8 +35,8 @@ pub record PassAt : Type 0 where
   pub since : List ℕ
   pub inputs : List (List Raw)
 
-abbrev pub run_of : List ClusterOf → OutputsOf → (left : ℕ) → RunOf
-run_of clusters outputs left = record { clusters = clusters; outputs = outputs; left = left }
+abbrev pub pass_run : List ClusterOf → OutputsOf → (left : ℕ) → RunOf
+pass_run clusters outputs left = record { clusters = clusters; outputs = outputs; left = left }
 
 abbrev pub pass_at : (time : ℕ) → (since : List ℕ) → (inputs : List (List Raw)) → PassAt
 pass_at time since inputs = record { time = time; since = since; inputs = inputs }
@@ -57,38 +57,38 @@ pub record IsTurnOf (pass : PassAt) (n : ℕ) (x y : RunOf) (turn : TurnAt) : Ty
 
 -- no entry is due in it, and nothing happens
 pub record HasIdled (time : ℕ) (turn : TurnAt) (x y : RunOf) (sent : List Sent) : Type 0 where
-  pub none : is_due turn.before (time - turn.since) ≡ false
+  pub none : is_next_due turn.before (time - turn.since) ≡ false
   pub same : turn.after ≡ turn.before
   pub outputs : y.outputs ≡ x.outputs
   pub left : y.left ≡ x.left
   pub nothing : sent ≡ []
 
 -- entries are due in it, and the cluster does them
-pub record HasDone (flat : Flat) (time : ℕ) (turn : TurnAt) (x y : RunOf) (sent : List Sent)
+pub record HasDoneTurn (flat : Flat) (time : ℕ) (turn : TurnAt) (x y : RunOf) (sent : List Sent)
     : Type 0 where
-  pub due : is_due turn.before (time - turn.since) ≡ true
+  pub due : is_next_due turn.before (time - turn.since) ≡ true
   pub fired : HasFired flat (time - turn.since) turn.inputs turn.before turn.after
       x.outputs y.outputs x.left y.left
   pub sent_is : sent ≡ fired.gained.sent
 
 -- entries are due in it, and the turns that are left are too few
 pub record HasEnded (time : ℕ) (turn : TurnAt) (x y : RunOf) : Type 0 where
-  pub due : is_due turn.before (time - turn.since) ≡ true
+  pub due : is_next_due turn.before (time - turn.since) ≡ true
   pub few : HasTooFew (time - turn.since) turn.before turn.after
       x.outputs y.outputs x.left y.left
 
-pub data HasTurn (flat : Flat) (pass : PassAt) (n : ℕ) (x y : RunOf) (sent : List Sent)
+pub data PassHasTurn (flat : Flat) (pass : PassAt) (n : ℕ) (x y : RunOf) (sent : List Sent)
     : Type 0 where
   Idle : (turn : TurnAt) → IsTurnOf pass n x y turn → HasIdled pass.time turn x y sent
-      → HasTurn flat pass n x y sent
-  Done : (turn : TurnAt) → IsTurnOf pass n x y turn → HasDone flat pass.time turn x y sent
-      → HasTurn flat pass n x y sent
+      → PassHasTurn flat pass n x y sent
+  Done : (turn : TurnAt) → IsTurnOf pass n x y turn → HasDoneTurn flat pass.time turn x y sent
+      → PassHasTurn flat pass n x y sent
 
 -- the first n clusters have had their turns, and sent these
 unfoldable pub HavePassed : Flat → PassAt → (n : ℕ) → (x y : RunOf) → List Sent → Type 0
 HavePassed flat pass zero x y sent = (y ≡ x) × (sent ≡ [])
 HavePassed flat pass (suc n) x y sent = (mid : RunOf) × (s : List Sent) × (t : List Sent)
-    × HavePassed flat pass n x mid s × HasTurn flat pass n mid y t × (sent ≡ s ++ t)
+    × HavePassed flat pass n x mid s × PassHasTurn flat pass n mid y t × (sent ≡ s ++ t)
 
 -- the turns end in that of cluster n
 pub record HasPassedTo (flat : Flat) (pass : PassAt) (n : ℕ) (x y : RunOf) : Type 0 where
@@ -112,7 +112,7 @@ pub record HasPassedAll (flat : Flat) (pass : PassAt) (x y : RunOf) : Type 0 whe
 -- how many samples a cluster gives in its turn
 abbrev pub turn_size : (size : Option Runner → ℕ) → (time since : ℕ) → ClusterOf → ℕ
 turn_size size time since c =
-    if is_due c (time - since)
+    if is_next_due c (time - since)
     then size_due size c.runners (time - since) (drop c.place c.entries)
     else 0
 
@@ -139,7 +139,7 @@ pub record CanPass (flat : Flat) (pass : PassAt) (x : RunOf) : Type 0 where
   pub of : (n : ℕ) (c : ClusterOf) → slice_get x.clusters n ≡ Some c → IsClusterOf flat c
   pub given : (n s : ℕ) (c : ClusterOf) (inputs : List Raw) → slice_get x.clusters n ≡ Some c
       → slice_get pass.since n ≡ Some s → slice_get pass.inputs n ≡ Some inputs
-      → is_due c (pass.time - s) ≡ true → AreInputsFor flat (pass.time - s) c inputs
+      → is_next_due c (pass.time - s) ≡ true → AreInputsFor flat (pass.time - s) c inputs
   pub room : HaveRoomForAll pass x
 
 -- all clusters are what the history says of them, and their periods began when it says
@@ -159,7 +159,7 @@ pub record AreReady (tables : FlatTablesOf) (pass : PassAt) (values : List Raw)
   pub begun : (n s : ℕ) → slice_get pass.since n ≡ Some s → s ≤ pass.time
   pub settled : (n s : ℕ) (c : ClusterOf) (inputs : List Raw) → slice_get cs n ≡ Some c
       → slice_get pass.since n ≡ Some s → slice_get pass.inputs n ≡ Some inputs
-      → is_due c (pass.time - s) ≡ true → AreSettled tables values (pass.time - s) c inputs
+      → is_next_due c (pass.time - s) ≡ true → AreSettled tables values (pass.time - s) c inputs
 
 module _ {K : Type 0} where
   -- a world in which clusters have come to this, and sent these

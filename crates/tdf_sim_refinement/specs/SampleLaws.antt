@@ -25,7 +25,7 @@ use Rattle.tdf_sim_refinement.specs.Boundary.{HasAnswered}
 use Rattle.tdf_sim_refinement.specs.Firings.{settled_values}
 use Rattle.tdf_sim_refinement.specs.Pass.{AreAt, AreReady, HavePassed, PassAt, PassesAlong, RunOf}
 use Rattle.tdf_schedule.specs.declared.entry.Entry.{Entry}
-use Rattle.tdf_streams.specs.Cluster.{is_outside}
+use Rattle.tdf_streams.specs.Cluster.{is_outside_cluster}
 use Rattle.tdf_sim_refinement.specs.Samples.{AreSamplesOf, HaveTraced, IsDoneKnown}
 use Rattle.tdf_lang_tree.specs.Pure.{PureTree}
 use Rattle.tdf_bind_connections.specs.declared.modules.PortRow.{PortRow}
@@ -69,7 +69,8 @@ DoneIsKnown = (model : PureTree) (flat : Flat) (cluster : ℕ) (h : ClusterAt) (
 abbrev pub HeldIsKnown : Type 0
 HeldIsKnown = (model : PureTree) (flat : Flat) (cluster : ℕ) (h : ClusterAt) (c : ClusterOf)
     → (m : ℕ) (cells : List ℤ) → IsAt model flat cluster h c → h.place ≡ length h.entries
-    → slice_get (play_of h.from c).states m ≡ Some cells → is_outside flat.tables cluster m ≡ false
+    → slice_get (play_of h.from c).states m ≡ Some cells
+    → is_outside_cluster flat.tables cluster m ≡ false
     → last_cells model flat cluster h m ≡ Some cells
 
 -- a change is the answer of the boundary of a cluster, and the boundary leads to a table of the

@@ -27,8 +27,8 @@ abbrev pub value_if : (signal : ℕ) → Traced → Option Raw
 value_if signal t = if nat_eq t.signal signal then Some t.value else None
 
 -- the values of those of this signal, in their order
-unfoldable pub samples_of : (signal : ℕ) → List Traced → List Raw
-samples_of signal traced = filter_map (value_if signal) traced
+unfoldable pub signal_samples : (signal : ℕ) → List Traced → List Raw
+signal_samples signal traced = filter_map (value_if signal) traced
 
 -- a sample of the signal of a port, as the history knows it
 abbrev pub sample_known : PureTree → Flat → (cluster number : ℕ) → PortRow → ColumnStart
@@ -70,4 +70,4 @@ pub record HaveTraced (model : PureTree) (flat : Flat) (hs gs : List ClusterAt) 
       → (had : List Raw) → slice_get hs n ≡ Some h → slice_get gs n ≡ Some g
       → IsTracedPort flat (n + 1) number port
       → AreSamplesOf model flat (n + 1) number port s h had
-      → AreSamplesOf model flat (n + 1) number port s g (had ++ samples_of port.signal new)
+      → AreSamplesOf model flat (n + 1) number port s g (had ++ signal_samples port.signal new)

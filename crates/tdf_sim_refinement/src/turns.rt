@@ -1,12 +1,12 @@
 //! The pass over all clusters at a time, in order of number.
 
 ghost use Rattle.std.specs.Prelude.{◌≡◌, false, true};
-ghost use Rattle.tdf_exec.specs.Cluster.{is_due};
+ghost use Rattle.tdf_exec.specs.Cluster.{is_next_due};
 ghost use Rattle.tdf_exec.specs.Gained.{HaveRoom};
 ghost use Rattle.tdf_exec.specs.Made.{IsClusterOf};
 ghost use Rattle.tdf_exec.specs.Played.{AreInputsFor};
 ghost use Rattle.tdf_sim_refinement.specs.Fired.{HasFired, HasStayed, HasTooFew};
-ghost use Rattle.tdf_sim_refinement.specs.Pass.{CanPass, HasPassedAll, HasPassedPart, pass_at, run_of};
+ghost use Rattle.tdf_sim_refinement.specs.Pass.{CanPass, HasPassedAll, HasPassedPart, pass_at, pass_run};
 
 use crate::firing::fire_due;
 use tdf_bind::Flat;
@@ -24,14 +24,14 @@ fn fire_turn(
     left: &mut u64,
 ) -> bool
     requires of { IsClusterOf flat.now cluster.old }
-    requires inputs { is_due cluster.old offset ≡ true → AreInputsFor flat.now offset cluster.old inputs.now }
-    requires room { is_due cluster.old offset ≡ true → HaveRoom offset cluster.old outputs.old }
-    ensures idle { is_due cluster.old offset ≡ false → result ≡ true }
-    ensures stays { is_due cluster.old offset ≡ false → HasStayed cluster.old cluster.new
+    requires inputs { is_next_due cluster.old offset ≡ true → AreInputsFor flat.now offset cluster.old inputs.now }
+    requires room { is_next_due cluster.old offset ≡ true → HaveRoom offset cluster.old outputs.old }
+    ensures idle { is_next_due cluster.old offset ≡ false → result ≡ true }
+    ensures stays { is_next_due cluster.old offset ≡ false → HasStayed cluster.old cluster.new
         outputs.old outputs.new left.old left.new }
-    ensures fired { is_due cluster.old offset ≡ true → result ≡ true → HasFired flat.now offset
+    ensures fired { is_next_due cluster.old offset ≡ true → result ≡ true → HasFired flat.now offset
         inputs.now cluster.old cluster.new outputs.old outputs.new left.old left.new }
-    ensures few { is_due cluster.old offset ≡ true → result ≡ false → HasTooFew offset
+    ensures few { is_next_due cluster.old offset ≡ true → result ≡ false → HasTooFew offset
         cluster.old cluster.new outputs.old outputs.new left.old left.new }
 {
     match cluster.next_offset() {
@@ -58,13 +58,13 @@ pub fn fire_all(
     left: &mut u64,
 ) -> bool
     requires { CanPass flat.now (pass_at time since.now inputs.now)
-        (run_of clusters.old.items outputs.old left.old) }
+        (pass_run clusters.old.items outputs.old left.old) }
     ensures all { result ≡ true → HasPassedAll flat.now (pass_at time since.now inputs.now)
-        (run_of clusters.old.items outputs.old left.old)
-        (run_of clusters.new.items outputs.new left.new) }
+        (pass_run clusters.old.items outputs.old left.old)
+        (pass_run clusters.new.items outputs.new left.new) }
     ensures part { result ≡ false → HasPassedPart flat.now (pass_at time since.now inputs.now)
-        (run_of clusters.old.items outputs.old left.old)
-        (run_of clusters.new.items outputs.new left.new) }
+        (pass_run clusters.old.items outputs.old left.old)
+        (pass_run clusters.new.items outputs.new left.new) }
 {
     for n in 0..clusters.len() {
         if !fire_turn(

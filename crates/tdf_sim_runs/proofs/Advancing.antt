@@ -23,10 +23,10 @@ use Rattle.tdf_sim_runs.proofs.Keeping.{IsInPeriod, firings_keep}
 use Rattle.tdf_sim_runs.proofs.Leading.{from_before}
 use Rattle.tdf_sim_runs.specs.Advancing.{InstantAdvances}
 use Rattle.tdf_sim_refinement.specs.At.{IsAt}
-use Rattle.tdf_sim_refinement.specs.Pass.{HavePassed, RunOf, pass_at, run_of}
+use Rattle.tdf_sim_refinement.specs.Pass.{HavePassed, RunOf, pass_at, pass_run}
 use Rattle.tdf_sim_traces.specs.Advanced.{Advances, HasAdvanced}
 use Rattle.tdf_sim_refinement.proofs.Api.{boundaries_add_none, passes_trace}
-use Rattle.tdf_sim_refinement.specs.Samples.{AreSamplesOf, HaveTraced, samples_of}
+use Rattle.tdf_sim_refinement.specs.Samples.{AreSamplesOf, HaveTraced, signal_samples}
 use Rattle.tdf_lang_tree.specs.Pure.{PureTree}
 use Rattle.tdf_bind_connections.specs.declared.modules.PortRow.{PortRow}
 use Rattle.tdf_sim_history.specs.Rules.{rules_of}
@@ -55,7 +55,7 @@ module _ (one_port : SignalsHaveOnePort) (model : PureTree) (flat : Flat) (time 
   v = world_crossed w goes.crossing.clusters had.crossed.left had.crossed.planned
 
   abbrev x : RunOf
-  x = run_of had.crossed.clusters had.fired.outputs had.crossed.left
+  x = pass_run had.crossed.clusters had.fired.outputs had.crossed.left
 
   traces : HaveTraced model flat goes.crossing.clusters goes.passing.clusters x had.run
   traces = passes_trace model flat (rules_of model flat) (pass_at time had.crossed.since f.inputs.items) v x one_port m.sound m.checked m.is m.limits
@@ -111,7 +111,7 @@ module _ (one_port : SignalsHaveOnePort) (model : PureTree) (flat : Flat) (time 
         let c = cluster_of n o.0 o.1 in
         let becomes = subst (λ z. Becomes flat.tables time z b.1) (some_same b.0 o.0 (sym b.2 ∙ o.1)) b.4 in
         let bare : AreSamplesOf model flat (n + 1) number port cs o.0 samples = untell n number port cs (slice_index_or told n []) o.0 samples (subst (λ z. AreSamplesOf model flat (n + 1) number port cs z samples) (sym o.2) are) in
-        subst (λ l. AreSamplesOf model flat (n + 1) number port cs g (samples ++ samples_of port.signal l)) new_is
+        subst (λ l. AreSamplesOf model flat (n + 1) number port cs g (samples ++ signal_samples port.signal l)) new_is
         (traces.samples n number port cs b.1 g samples b.3 (sym (ap (λ l. slice_get l n) goes.same) ∙ g_at) traced (crossed_samples n number port cs o.0 b.1 c.0 samples c.1 becomes bare)));
   }
     where

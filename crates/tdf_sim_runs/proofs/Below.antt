@@ -4,7 +4,7 @@ use Rattle.std.proofs.lemmas.Bool.{cases_lt, le-ltb, lt-ltb}
 use Rattle.tdf_trace.proofs.Api.{left_is}
 use Rattle.tdf_trace.specs.Tracked.{AreSince, TrackedOf}
 use Rattle.tdf_trace.specs.Tracks.{Tracks, cells_by, known_by, known_cell}
-use Rattle.tdf_trace.specs.Traces.{IsTracked, sample_or, with_samples}
+use Rattle.tdf_trace.specs.Traces.{IsTracked, sample_or, with_signal_samples}
 use Rattle.tdf_events.specs.Side.{SideOf}
 use Rattle.tdf_fixed.specs.declared.raw.Raw.{Raw}
 use Rattle.tdf_bind.specs.declared.model.Flat.{Flat}
@@ -15,14 +15,14 @@ use Rattle.tdf_sim_history.specs.World.{World, ClusterAt}
 use Rattle.tdf_sim_runs.specs.Ending.{ShownStandsBelow}
 use Rattle.tdf_trace_rows.proofs.Api.{agree_trans, has_times, position_is, time_is}
 use Rattle.tdf_trace_rows.specs.Laws.{Agree}
-use Rattle.tdf_trace_rows.specs.Positions.{AreChained, Span, cell_of, end_of, position_at, total, time_of}
+use Rattle.tdf_trace_rows.specs.Positions.{AreChained, Span, cell_of, span_end, position_at, count_of_spans, time_in_spans}
 use Rattle.tdf_trace_rows.specs.Rows.{Cells}
 use Rattle.tdf_sim_traces.proofs.Api.{run_agree, told}
 use Rattle.tdf_sim_traces.specs.Events.{events_before}
 use Rattle.tdf_sim_traces.specs.Shown.{IsShown, IsShownOf}
 use Rattle.tdf_sim_traces.specs.Signals.{IsListed, IsSignalOf}
 use Rattle.tdf_sim_traces.specs.declared.shown.Shown.{Shown}
-use Rattle.tdf_streams.specs.Signals.{time_of as time_after}
+use Rattle.tdf_streams.specs.Signals.{time_of_periods as time_after}
 use Rattle.tdf_lang_tree.specs.Pure.{PureTree}
 use Rattle.tdf_bind_connections.specs.declared.modules.PortRow.{PortRow}
 use Rattle.tdf_bind_connections.specs.declared.traces.TraceRow.{TraceRow}
@@ -34,23 +34,23 @@ use Rattle.tdf_bind_invariants.specs.Limits.{AreWithinLimits}
 use Rattle.tdf_dynamic_plans.specs.Attributes.{clusters_of}
 
 -- times rise with positions
-times_rise : (b : ℕ) (spans : List Span) (i j s t : ℕ) → AreChained b spans → time_of spans i ≡ Some s → time_of spans j ≡ Some t → i ≤ j → s ≤ t
-unfolding AreChained time_of
+times_rise : (b : ℕ) (spans : List Span) (i j s t : ℕ) → AreChained b spans → time_in_spans spans i ≡ Some s → time_in_spans spans j ≡ Some t → i ≤ j → s ≤ t
+unfolding AreChained time_in_spans
 times_rise b [] i j s t chained is it low = none_some s is
 times_rise b (p ∷ ps) i j s t chained is it low = elim (cases_lt j p.count) [
   | inl late ↦ (
-      let e : p.start + i * p.step ≡ s = some_same (p.start + i * p.step) s (sym (ap (λ k. if k then Some (p.start + i * p.step) else time_of ps (i - p.count)) (lt-ltb i p.count (omega (arith, low, late)))) ∙ is) in
-      let f : p.start + j * p.step ≡ t = some_same (p.start + j * p.step) t (sym (ap (λ k. if k then Some (p.start + j * p.step) else time_of ps (j - p.count)) (lt-ltb j p.count late)) ∙ it) in
+      let e : p.start + i * p.step ≡ s = some_same (p.start + i * p.step) s (sym (ap (λ k. if k then Some (p.start + i * p.step) else time_in_spans ps (i - p.count)) (lt-ltb i p.count (omega (arith, low, late)))) ∙ is) in
+      let f : p.start + j * p.step ≡ t = some_same (p.start + j * p.step) t (sym (ap (λ k. if k then Some (p.start + j * p.step) else time_in_spans ps (j - p.count)) (lt-ltb j p.count late)) ∙ it) in
       let m : i * p.step ≤ j * p.step = mul-le-mul_right p.step low in omega (arith, e, f, m))
   | inr past ↦ (
-      let f : time_of ps (j - p.count) ≡ Some t = sym (ap (λ k. if k then Some (p.start + j * p.step) else time_of ps (j - p.count)) (le-ltb j p.count past)) ∙ it in
+      let f : time_in_spans ps (j - p.count) ≡ Some t = sym (ap (λ k. if k then Some (p.start + j * p.step) else time_in_spans ps (j - p.count)) (le-ltb j p.count past)) ∙ it in
       elim (cases_lt i p.count) [
         | inl early ↦ (
-            let e : p.start + i * p.step ≡ s = some_same (p.start + i * p.step) s (sym (ap (λ k. if k then Some (p.start + i * p.step) else time_of ps (i - p.count)) (lt-ltb i p.count early)) ∙ is) in
+            let e : p.start + i * p.step ≡ s = some_same (p.start + i * p.step) s (sym (ap (λ k. if k then Some (p.start + i * p.step) else time_in_spans ps (i - p.count)) (lt-ltb i p.count early)) ∙ is) in
             let m : i * p.step ≤ p.count * p.step = mul-le-mul_right p.step (omega (arith, early)) in
-            let a = (time_is (end_of p) 0 ps (j - p.count) t chained.2 f).0 in omega (arith, e, m, a))
-        | inr late ↦ times_rise (end_of p) ps (i - p.count) (j - p.count) s t chained.2
-            (sym (ap (λ k. if k then Some (p.start + i * p.step) else time_of ps (i - p.count)) (le-ltb i p.count late)) ∙ is) f (omega (arith, low, late))
+            let a = (time_is (span_end p) 0 ps (j - p.count) t chained.2 f).0 in omega (arith, e, m, a))
+        | inr late ↦ times_rise (span_end p) ps (i - p.count) (j - p.count) s t chained.2
+            (sym (ap (λ k. if k then Some (p.start + i * p.step) else time_in_spans ps (i - p.count)) (le-ltb i p.count late)) ∙ is) f (omega (arith, low, late))
       ])
 ]
 
@@ -62,13 +62,13 @@ tracked_sample spans samples t mark time j tracks late low at = elim (cases_lt j
   | inr past ↦ absurd (
       let w = position_is tracks.chained.0 0 spans j time tracks.chained.1 at in
       let e : j ≡ 0 + w.0 = w.1 in
-      let b : w.0 < total spans = elim (cases_lt w.0 (total spans)) [ inl less ↦ less | inr over ↦ absurd (none_some time (sym ((has_times spans w.0).1 over) ∙ w.2)) ] in
+      let b : w.0 < count_of_spans spans = elim (cases_lt w.0 (count_of_spans spans)) [ inl less ↦ less | inr over ↦ absurd (none_some time (sym ((has_times spans w.0).1 over) ∙ w.2)) ] in
       let l = left_is spans samples t tracks in
       let some : 0 < t.stamps.left = omega (arith, l, b, past, e) in
       let m = late some in
       let z : tracks.done + 0 ≡ tracks.done = omega arith in
       let y : t.stamps.time + 0 * t.stamps.step ≡ t.stamps.time = omega arith in
-      let n : time_of spans tracks.done ≡ Some t.stamps.time = sym (ap (time_of spans) z) ∙ tracks.stamping.ahead 0 some ∙ ap Some y in
+      let n : time_in_spans spans tracks.done ≡ Some t.stamps.time = sym (ap (time_in_spans spans) z) ∙ tracks.stamping.ahead 0 some ∙ ap Some y in
       let many = tracks.many in
       let r = times_rise tracks.chained.0 spans tracks.done w.0 t.stamps.time time tracks.chained.1 n w.2 (omega (arith, many, past, e)) in
       omega (arith, r, m, low))
@@ -115,7 +115,7 @@ module _ (model : PureTree) (flat : Flat) (start w : World SideOf) (from mark : 
       go true is = refl
       go false is = signal_known column time row at is low (driver_of_row (slice_get flat.tables.signals row.signal)) refl
 
-  known_agree : (cells : Cells) → Agree (with_samples flat.tables.traces cells (known_by shown.spans shown.samples)) (with_samples flat.tables.traces cells (cells_by shown.spans shown.samples)) mark
+  known_agree : (cells : Cells) → Agree (with_signal_samples flat.tables.traces cells (known_by shown.spans shown.samples)) (with_signal_samples flat.tables.traces cells (cells_by shown.spans shown.samples)) mark
   known_agree cells = record {
     columns = refl;
     first = λ column inside. refl;
@@ -152,9 +152,9 @@ shown_stands_below model flat start from mark s is limits shown steady since low
     let w = world_before model flat (rules_of model flat) start from in
     let cells = events_before model flat start from in
     record {
-      noted = with_samples flat.tables.traces cells (known_by shown.spans shown.samples);
+      noted = with_signal_samples flat.tables.traces cells (known_by shown.spans shown.samples);
       stand = shown.holds.stands;
-      agree = agree_trans (with_samples flat.tables.traces cells (known_by shown.spans shown.samples)) (with_samples flat.tables.traces cells (cells_by shown.spans shown.samples))
+      agree = agree_trans (with_signal_samples flat.tables.traces cells (known_by shown.spans shown.samples)) (with_signal_samples flat.tables.traces cells (cells_by shown.spans shown.samples))
           (run_cells model flat (rules_of model flat) start from) mark from low (known_agree model flat start w from mark s shown steady since cells)
           (run_agree model flat start from s (told model flat is limits) shown);
     }

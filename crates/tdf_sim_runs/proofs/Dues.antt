@@ -5,9 +5,9 @@ use Rattle.std.proofs.lemmas.Option.{slice_get_past, slice_get_within}
 use Rattle.std.specs.List.{list_any}
 use Rattle.tdf_sim_instants.specs.Engine.{IsEngineOf, IsReadyAt}
 use Rattle.tdf_sim_instants.specs.InstantLaws.{IsNow}
-use Rattle.tdf_sim_instants.specs.Times.{IsDueTime, IsNextDue, IsRunning, due_offset, due_time}
+use Rattle.tdf_sim_instants.specs.Times.{IsDueTime, IsNextDue, IsClusterRunning, due_offset, due_time}
 use Rattle.tdf_sim_instants.specs.declared.engine.Engine.{Engine}
-use Rattle.tdf_events_queue.specs.Times.{time_of}
+use Rattle.tdf_events_queue.specs.Times.{pending_time}
 use Rattle.tdf_events.specs.Delta.{is_due as due_at, is_idle}
 use Rattle.tdf_events.specs.Kernel.{side_of}
 use Rattle.tdf_events.specs.Side.{SideOf}
@@ -47,7 +47,7 @@ entry_or_end h c within entries place period time = elim (cases_lt h.place (leng
     or_false false = refl
 
 -- nothing pending for a time or later is due before it
-none_due_below : (t time : ℕ) (times : List (Option ℕ)) → t < time → ((event pending : ℕ) → time_of times event ≡ Some pending → time ≤ pending) → list_any (due_at t) times ≡ false
+none_due_below : (t time : ℕ) (times : List (Option ℕ)) → t < time → ((event pending : ℕ) → pending_time times event ≡ Some pending → time ≤ pending) → list_any (due_at t) times ≡ false
 none_due_below t time [] less low = refl
 none_due_below t time (p ∷ ps) less low = ap (λ b. b || list_any (due_at t) ps) (one p (λ k at. low 0 k at)) ∙ none_due_below t time ps less (λ event pending at. low (suc event) pending at)
   where
@@ -76,7 +76,7 @@ some_any p (y ∷ ys) (suc n) x at is = or_right (p y) (list_any p ys) (some_any
 
 module _ (model : PureTree) (flat : Flat) (w : World SideOf) (e : Engine) (left : ℕ) (of : IsEngineOf flat e) (now : IsNow model flat w e left) where
   -- a cluster of the history, with the one that runs and the start of its period
-  running : (n : ℕ) (h : ClusterAt) → slice_get w.clusters n ≡ Some h → (c : ClusterOf) × IsRunning e.clusters.items e.since.items n h.since c × IsAt model flat (n + 1) h c
+  running : (n : ℕ) (h : ClusterAt) → slice_get w.clusters n ≡ Some h → (c : ClusterOf) × IsClusterRunning e.clusters.items e.since.items n h.since c × IsAt model flat (n + 1) h c
   running n h h_at =
       let i = slice_get_within w.clusters n h h_at in
       let s = now.at.same in

@@ -1,13 +1,13 @@
 -- A history that ends at a time went on before it.
 use Rattle.std.proofs.Common.{◌≡◌, ◌∙◌, ℕ, zero, suc, ◌+◌, ◌≤◌, Bool, true, false, if◌then◌else◌, refl, ap, arith}
-use Rattle.tdf_sim_history.specs.History.{Engine, Step, Going, Fault, Past, State, On, Stopped, Spent, after, end_time, history, state_of}
+use Rattle.tdf_sim_history.specs.History.{Engine, Step, Going, Fault, Past, HistoryState, On, Stopped, Spent, after, end_time, history, state_of}
 
 module _ {W F : Type 0} (engine : Engine W F) (start : W) where
   -- the history goes on before the end of a state
-  abbrev IsBeforeEnd : (stop : ℕ) → State W F → Type 0
+  abbrev IsBeforeEnd : (stop : ℕ) → HistoryState W F → Type 0
   IsBeforeEnd stop x = (w : W) × (history engine 0 start (end_time x stop) ≡ On w)
 
-  one_more : (k : ℕ) (x : State W F) → history engine 0 start k ≡ x → IsBeforeEnd k x → history engine 0 start (suc k) ≡ after engine (0 + k) x → IsBeforeEnd (suc k) (after engine (0 + k) x)
+  one_more : (k : ℕ) (x : HistoryState W F) → history engine 0 start k ≡ x → IsBeforeEnd k x → history engine 0 start (suc k) ≡ after engine (0 + k) x → IsBeforeEnd (suc k) (after engine (0 + k) x)
   one_more k (Stopped at fault v) is before next = before
   one_more k (Spent at v) is before next = before
   one_more k (On v) is before next = due (engine.is_due v (0 + k)) next
@@ -31,7 +31,7 @@ module _ {W F : Type 0} (engine : Engine W F) (start : W) where
   before_end (suc k) = one_more k (history engine 0 start k) refl (before_end k) refl
 
   -- it ends by the stop
-  one_within : (k : ℕ) (x : State W F) → end_time x k ≤ k → end_time (after engine (0 + k) x) (suc k) ≤ suc k
+  one_within : (k : ℕ) (x : HistoryState W F) → end_time x k ≤ k → end_time (after engine (0 + k) x) (suc k) ≤ suc k
   one_within k (Stopped at fault v) low = omega (arith, low)
   one_within k (Spent at v) low = omega (arith, low)
   one_within k (On v) low = due (engine.is_due v (0 + k))

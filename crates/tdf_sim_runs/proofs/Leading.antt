@@ -22,7 +22,7 @@ use Rattle.tdf_sim_history.specs.Telling.{AreTold, IsTold, all_told, state_as, w
 use Rattle.tdf_sim_history.specs.Texts.{left_by, new_plans, notes_in, notes_to}
 use Rattle.tdf_sim_history.specs.World.{Change, ClusterAt, Rules, World, next_change}
 use Rattle.tdf_sim_history.proofs.Api.{happens, reached, skipped, spent_ends, fault_ends, history_told, more_answers, more_told, told_twice, to_same, told_alike, untold_told}
-use Rattle.tdf_sim_history.specs.History.{State, Step, Fault, Past, On, Spent, Stopped, history, state_of}
+use Rattle.tdf_sim_history.specs.History.{HistoryState, Step, Fault, Past, On, Spent, Stopped, history, state_of}
 use Rattle.tdf_sim_history.specs.TurnLaws.{IsNextTime, IsOn}
 use Rattle.tdf_sim_runs.proofs.Dues.{next_is}
 use Rattle.tdf_sim_runs.proofs.Keeping.{IsInPeriod, firings_keep}
@@ -31,7 +31,7 @@ use Rattle.tdf_sim_runs.proofs.Waiting.{all_on, due_told, on_same}
 use Rattle.tdf_sim_runs.specs.News.{news_text}
 use Rattle.tdf_sim_runs.specs.Ongoing.{AreTimed, AreToldTo, HistoryEnds, InstantLeadsOn, InstantSpends, InstantStops, IsOngoing, StopIsReached}
 use Rattle.tdf_streams.specs.Periods.{PeriodRecord}
-use Rattle.tdf_streams.specs.Signals.{time_of}
+use Rattle.tdf_streams.specs.Signals.{time_of_periods}
 use Rattle.tdf_lang_tree.specs.Pure.{PureTree}
 use Rattle.tdf_sim_history.specs.Rules.{rules_of, world_engine}
 
@@ -49,27 +49,27 @@ and_right true b is = is
 and_right false b is = absurd cc
 
 -- the next period begins when those before it are over
-began_timed : (time : ℕ) (h : ClusterAt) → is_over time h ≡ true → h.since ≡ h.origin + time_of h.old → time ≡ h.origin + time_of (periods_of h)
+began_timed : (time : ℕ) (h : ClusterAt) → is_over time h ≡ true → h.since ≡ h.origin + time_of_periods h.old → time ≡ h.origin + time_of_periods (periods_of h)
 began_timed time h over timed =
     let t = eqb-true time (h.since + h.now.info.period) (and_right (nat_eq h.place (length h.entries)) (nat_eq time (h.since + h.now.info.period)) over) in
     let a = sum_by-append (λ (p : PeriodRecord). p.info.period) h.old (h.now ∷ []) in
     let b = sum_by-cons (λ (p : PeriodRecord). p.info.period) h.now [] in
     omega (arith, t, a, b, timed)
 
-timed_by : (tables : FlatTablesOf) (time : ℕ) (h mid g : ClusterAt) → h.since ≡ h.origin + time_of h.old → Becomes tables time h mid → IsInPeriod mid g → g.since ≡ g.origin + time_of g.old
+timed_by : (tables : FlatTablesOf) (time : ℕ) (h mid g : ClusterAt) → h.since ≡ h.origin + time_of_periods h.old → Becomes tables time h mid → IsInPeriod mid g → g.since ≡ g.origin + time_of_periods g.old
 timed_by tables time h mid g timed (Becomes.Stayed going same) kept =
     let a = kept.since ∙ ap (λ (z : ClusterAt). z.since) same in
     let b = kept.origin ∙ ap (λ (z : ClusterAt). z.origin) same in
-    let c = ap time_of (kept.old ∙ ap (λ (z : ClusterAt). z.old) same) in omega (arith, a, b, c, timed)
+    let c = ap time_of_periods (kept.old ∙ ap (λ (z : ClusterAt). z.old) same) in omega (arith, a, b, c, timed)
 timed_by tables time h mid g timed (Becomes.Began table over is) kept =
     let a = kept.since ∙ ap (λ (z : ClusterAt). z.since) is in
     let b = kept.origin ∙ ap (λ (z : ClusterAt). z.origin) is in
-    let c = ap time_of (kept.old ∙ ap (λ (z : ClusterAt). z.old) is) in
+    let c = ap time_of_periods (kept.old ∙ ap (λ (z : ClusterAt). z.old) is) in
     let t = began_timed time h over timed in omega (arith, a, b, c, t)
 timed_by tables time h mid g timed (Becomes.Changed table counts period entries bounds over is) kept =
     let a = kept.since ∙ ap (λ (z : ClusterAt). z.since) is in
     let b = kept.origin ∙ ap (λ (z : ClusterAt). z.origin) is in
-    let c = ap time_of (kept.old ∙ ap (λ (z : ClusterAt). z.old) is) in
+    let c = ap time_of_periods (kept.old ∙ ap (λ (z : ClusterAt). z.old) is) in
     let t = began_timed time h over timed in omega (arith, a, b, c, t)
 
 module _ (model : PureTree) (flat : Flat) (time : ℕ) (w : World SideOf) (e f : Engine) (left rest : ℕ) (had : HasHadInstant flat time e f left rest) (goes : InstantGoes model flat time w e f left rest had) where
@@ -240,7 +240,7 @@ module _ (along : InstantGoesAlong) (model : PureTree) (flat : Flat) (start : Wo
         ∙ sym (notes_then more_now told_all_now less)
 
   -- an instant that ends the history
-  module _ (less : time < stop) (f : Engine) (ends : World SideOf → Step (World SideOf) RunFault) (state : World SideOf → State (World SideOf) RunFault)
+  module _ (less : time < stop) (f : Engine) (ends : World SideOf → Step (World SideOf) RunFault) (state : World SideOf → HistoryState (World SideOf) RunFault)
       (is : (v : World SideOf) → state_of time (ends v) ≡ state v) (over : (v : World SideOf) (t : ℕ) → time < t → t ≤ stop
       → (more : List (List Change)) → IsOn (world_engine model flat) 0 (world_told more own) from (world_told more going.world) → IsNextTime (world_engine model flat) (world_told more going.world) from stop time
       → instant model flat rules time (world_told more going.world) ≡ ends v → history (world_engine model flat) 0 (world_told more own) t ≡ state v)
@@ -287,7 +287,7 @@ fault_over model flat A u from stop time fault v t less low high on next is =
     ap (history (world_engine model flat) 0 A) z ∙ fault_ends (world_engine model flat) 0 A from u on t time fault v
     (record { not_before = next.not_before; not_after = omega (arith, low); none = next.none; due = λ soon. next.due less }) low is
 
-abbrev pub spent_at : (time : ℕ) → World SideOf → State (World SideOf) RunFault
+abbrev pub spent_at : (time : ℕ) → World SideOf → HistoryState (World SideOf) RunFault
 spent_at time v = Spent time v
 
 pub spent_never : (time : ℕ) (v u : World SideOf) → spent_at time v ≡ On u → ⊥

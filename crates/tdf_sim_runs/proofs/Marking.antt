@@ -19,7 +19,7 @@ use Rattle.tdf_sim_runs.proofs.Told.{cells_told}
 use Rattle.tdf_sim_runs.proofs.Written.{rows_alike, rows_past}
 use Rattle.tdf_sim_runs.specs.Ending.{ShownStandsBelow}
 use Rattle.tdf_sim_runs.specs.Ongoing.{AreToldTo}
-use Rattle.tdf_sim_runs.specs.Running.{CanGoOn, GoesOn, IsRunningAt, WritesFrontTo}
+use Rattle.tdf_sim_runs.specs.Running.{CanGoOn, RunGoesOn, IsRunningAt, WritesFrontTo}
 use Rattle.tdf_sim_runs.specs.declared.running.Running.{Running}
 use Rattle.tdf_trace_rows.specs.Laws.{Agree}
 use Rattle.tdf_trace_rows.specs.Rows.{Cells}
@@ -87,7 +87,7 @@ module _ (law : BoundariesHaveOne) (stands : ShownStandsBelow) (flat : Flat) (r 
       some = record { model = can.some.model; of = can.some.of; start = can.some.start; is = marks_run can.some.model can.some.start can.some.of can.some.is };
     }
 
-    pub marks_goes : GoesOn flat r marked before after
+    pub marks_goes : RunGoesOn flat r marked before after
     marks_goes = record {
       later = omega arith;
       about = about;

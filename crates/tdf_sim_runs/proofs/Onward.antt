@@ -23,7 +23,7 @@ use Rattle.tdf_sim_runs.proofs.Told.{cells_stay_below, on_other}
 use Rattle.tdf_sim_runs.proofs.Waiting.{runs_to_next}
 use Rattle.tdf_sim_runs.proofs.Written.{none_taken, rows_then}
 use Rattle.tdf_sim_runs.specs.Ongoing.{AreToldTo}
-use Rattle.tdf_sim_runs.specs.Running.{CanGoOn, GoesOn, IsRunningAt, AreWithin}
+use Rattle.tdf_sim_runs.specs.Running.{CanGoOn, RunGoesOn, IsRunningAt, AreWithin}
 use Rattle.tdf_sim_runs.specs.declared.running.Running.{Running}
 use Rattle.tdf_trace_rows.specs.Laws.{Agree}
 use Rattle.tdf_sim_traces.proofs.Api.{rows_may_be_written}
@@ -80,7 +80,7 @@ cells_stay law model flat start last ahead r end mark m can run to later on low 
 -- a run goes on without a row more
 pub goes_quietly : (flat : Flat) (old new : Running) (taken : Option (List ℕ)) → old.from ≤ new.from → new.shown.trace.about ≡ old.shown.trace.about
     → new.shown.trace.rows.upto ≡ old.shown.trace.rows.upto
-    → ((model : PureTree) (start : World SideOf) → IsModelOf model flat → IsRunningAt model flat start old → IsRunningAt model flat start new) → GoesOn flat old new taken taken
+    → ((model : PureTree) (start : World SideOf) → IsModelOf model flat → IsRunningAt model flat start old → IsRunningAt model flat start new) → RunGoesOn flat old new taken taken
 goes_quietly flat old new taken later about upto runs = record {
   later = later;
   about = about;
@@ -90,7 +90,7 @@ goes_quietly flat old new taken later about upto runs = record {
 }
 
 -- and on again
-pub goes_then : BoundariesHaveOne → (flat : Flat) (x y z : Running) (a b c : Option (List ℕ)) → CanGoOn flat y → GoesOn flat x y a b → GoesOn flat y z b c → GoesOn flat x z a c
+pub goes_then : BoundariesHaveOne → (flat : Flat) (x y z : Running) (a b c : Option (List ℕ)) → CanGoOn flat y → RunGoesOn flat x y a b → RunGoesOn flat y z b c → RunGoesOn flat x z a c
 goes_then law flat x y z a b c can one other = record {
   later = (let l = one.later in let k = other.later in omega (arith, l, k));
   about = other.about ∙ one.about;
@@ -141,5 +141,5 @@ module _ (flat : Flat) (r : Running) (stop time : ℕ) (can : CanGoOn flat r) (w
     };
   }
 
-  pub waits_goes : (taken : Option (List ℕ)) → GoesOn flat r waiting taken taken
+  pub waits_goes : (taken : Option (List ℕ)) → RunGoesOn flat r waiting taken taken
   waits_goes taken = goes_quietly flat r waiting taken waits_later refl refl waits_runs

@@ -17,7 +17,7 @@ use Rattle.tdf_sim_history.specs.Texts.{notes_to}
 use Rattle.tdf_sim_history.specs.World.{Change, World}
 use Rattle.tdf_sim_history.proofs.Api.{end_lies, history_told, told_twice}
 use Rattle.tdf_sim_traces.proofs.Api.{told_is_shown}
-use Rattle.tdf_sim_history.specs.History.{On, Spent, State, Stopped, end_time, history}
+use Rattle.tdf_sim_history.specs.History.{On, Spent, HistoryState, Stopped, end_time, history}
 use Rattle.tdf_io.specs.Bytes.{AppendsFront}
 use Rattle.tdf_sim_runs.proofs.Ended.{before_end}
 use Rattle.tdf_sim_runs.proofs.Waiting.{runs_to, runs_to_next}
@@ -28,7 +28,7 @@ use Rattle.tdf_sim_runs.specs.Ending.{EndsAs, EndsBy, GoesToEnd, WritesPart, end
 use Rattle.tdf_sim_runs.specs.News.{news_text}
 use Rattle.tdf_sim_runs.specs.Ongoing.{AreToldTo}
 use Rattle.tdf_sim_runs.proofs.Told.{ends_alike, on_other}
-use Rattle.tdf_sim_runs.specs.Running.{CanGoOn, GoesOn, IsRunningAt, WritesFrontTo}
+use Rattle.tdf_sim_runs.specs.Running.{CanGoOn, RunGoesOn, IsRunningAt, WritesFrontTo}
 use Rattle.tdf_sim_runs.specs.declared.going.Ended.{Ended}
 use Rattle.tdf_sim_runs.specs.declared.going.Ended.TheVariants as ended
 use Rattle.tdf_sim_runs.specs.declared.running.Running.{Running}
@@ -66,7 +66,7 @@ module _ (law : BoundariesHaveOne) where
       (part.front model start ahead m run early)
 
   -- also after the rows that were written before
-  pub part_then : (flat : Flat) (x y : Running) (stop : ℕ) (a b c : Option (List ℕ)) → CanGoOn flat y → y.from ≤ stop → GoesOn flat x y a b → WritesPart flat stop y b c → WritesPart flat stop x a c
+  pub part_then : (flat : Flat) (x y : Running) (stop : ℕ) (a b c : Option (List ℕ)) → CanGoOn flat y → y.from ≤ stop → RunGoesOn flat x y a b → WritesPart flat stop y b c → WritesPart flat stop x a c
   part_then flat x y stop a b c can within one part model start ahead m run to =
       let mid = one.runs model start m run in
       let last = last_on model flat start ahead stop in
@@ -88,7 +88,7 @@ module _ (law : BoundariesHaveOne) where
       sym (ends_alike law model flat start ending.ahead ahead stop m ending.can ending.told to) ∙ ending.time
 
   -- a run that goes on and then to its end goes to its end
-  pub end_then : (flat : Flat) (x y z : Running) (stop : ℕ) (how : Ended) (a b c : Option (List ℕ)) → CanGoOn flat y → y.from ≤ stop → GoesOn flat x y a b → GoesToEnd flat stop y z b c how → GoesToEnd flat stop x z a c how
+  pub end_then : (flat : Flat) (x y z : Running) (stop : ℕ) (how : Ended) (a b c : Option (List ℕ)) → CanGoOn flat y → y.from ≤ stop → RunGoesOn flat x y a b → GoesToEnd flat stop y z b c how → GoesToEnd flat stop x z a c how
   end_then flat x y z stop how a b c can within one to = record {
     about = to.about ∙ one.about;
     wrote = (let l = one.wrote in let k = to.wrote in omega (arith, l, k));
@@ -150,7 +150,7 @@ module _ (flat : Flat) (r : Running) (stop time : ℕ) (can : CanGoOn flat r) (w
           ahead = run.going.ahead;
           told = state.told;
           by = (run.going.world, state.is, run.going.now, can.engine.kernel);
-          time = ap (λ (x : State (World SideOf) RunFault). end_time x stop) state.is ∙ sym same;
+          time = ap (λ (x : HistoryState (World SideOf) RunFault). end_time x stop) state.is ∙ sym same;
           shown = shown_at model start m run;
           news = late_run.news_are ∙ ap (notes_to model flat (rules_of model flat) (world_told run.going.ahead start)) same;
         });
@@ -163,7 +163,7 @@ module _ (flat : Flat) (r : Running) (stop time : ℕ) (can : CanGoOn flat r) (w
     abbrev ended_run : Running
     ended_run = record at_time { engine = f; left = left; news = last.news }
 
-    ends_with : (how : Ended) (state : World SideOf → State (World SideOf) RunFault) → ((v : World SideOf) → end_time (state v) stop ≡ time)
+    ends_with : (how : Ended) (state : World SideOf → HistoryState (World SideOf) RunFault) → ((v : World SideOf) → end_time (state v) stop ≡ time)
         → ((model : PureTree) (start : World SideOf) (ahead : List (List Change)) (v : World SideOf) → state_from model flat start ahead stop ≡ state v → EndsBy model flat start ahead stop ended_run how)
         → ((model : PureTree) (start : World SideOf) → IsModelOf model flat → (run : IsRunningAt model flat start r) → (more : List (List Change)) × (told : AreToldTo model flat start stop (all_told run.going.ahead more)) × (v : World SideOf)
         × (state_from model flat start (all_told run.going.ahead more) stop ≡ state v)
@@ -182,7 +182,7 @@ module _ (flat : Flat) (r : Running) (stop time : ℕ) (can : CanGoOn flat r) (w
             ahead = all_told run.going.ahead x.0;
             told = x.1;
             by = by model start (all_told run.going.ahead x.0) x.2 x.3;
-            time = ap (λ (y : State (World SideOf) RunFault). end_time y stop) x.3 ∙ at x.2;
+            time = ap (λ (y : HistoryState (World SideOf) RunFault). end_time y stop) x.3 ∙ at x.2;
             shown = shown_more model start m run x.0;
             news = news_is ∙ x.4;
           });

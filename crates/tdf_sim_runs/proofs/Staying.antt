@@ -12,7 +12,7 @@ use Rattle.tdf_streams.proofs.Api.{get_inside, some_same}
 use Rattle.tdf_sim_history.specs.Telling.{told_more, world_told}
 use Rattle.tdf_sim_history.specs.World.{Change, ClusterAt, World}
 use Rattle.tdf_sim_runs.specs.Ongoing.{AreTimed}
-use Rattle.tdf_streams.specs.Signals.{time_of}
+use Rattle.tdf_streams.specs.Signals.{time_of_periods}
 use Rattle.tdf_sim_refinement.proofs.Api.{done_known}
 use Rattle.tdf_lang_tree.specs.Pure.{PureTree}
 use Rattle.tdf_sim_history.specs.Continuing.{HasToldCounts}
@@ -46,7 +46,7 @@ module _ (model : PureTree) (flat : Flat) (w : World SideOf) (e : Engine) (left 
 
   -- no cluster's periods end before a mark that no period in progress ends before
   pub ends_late : AreTimed w → length e.since.items ≡ length e.clusters.items → (mark : ℕ) → AreWithin mark e
-      → (n : ℕ) (h : ClusterAt) → slice_get w.clusters n ≡ Some h → mark ≤ h.origin + time_of (periods_of h)
+      → (n : ℕ) (h : ClusterAt) → slice_get w.clusters n ≡ Some h → mark ≤ h.origin + time_of_periods (periods_of h)
   ends_late timed same mark within n h h_at =
       let i = slice_get_within w.clusters n h h_at in
       let s = now.at.same in

@@ -12,7 +12,7 @@ use Rattle.tdf_sim_instants.specs.CrossingLaws.{Becomes}
 use Rattle.tdf_sim_instants.specs.InstantLaws.{InstantGoes, InstantGoesAlong, IsModelOf}
 use Rattle.tdf_sim_instants.specs.declared.engine.Engine.{Engine}
 use Rattle.tdf_events.specs.Side.{SideOf}
-use Rattle.tdf_exec.specs.Gained.{HasFewPlaces}
+use Rattle.tdf_exec.specs.Gained.{SampleHasFewPlaces}
 use Rattle.tdf_bind.specs.declared.model.Flat.{Flat}
 use Rattle.tdf_streams.proofs.Api.{get_inside}
 use Rattle.tdf_sim_history.specs.Cells.{world_of}
@@ -20,7 +20,7 @@ use Rattle.tdf_sim_history.specs.Instant.{RunFault}
 use Rattle.tdf_sim_history.specs.Telling.{world_told}
 use Rattle.tdf_sim_history.specs.World.{ClusterAt, World}
 use Rattle.tdf_sim_history.specs.WorldLaws.{AreSteady}
-use Rattle.tdf_sim_history.specs.History.{State, history}
+use Rattle.tdf_sim_history.specs.History.{HistoryState, history}
 use Rattle.tdf_sim_runs.proofs.Keeping.{IsInPeriod}
 use Rattle.tdf_sim_runs.proofs.Leading.{from_before, goes_now, leads_on, news_now}
 use Rattle.tdf_sim_runs.proofs.Onward.{goes_quietly}
@@ -28,9 +28,9 @@ use Rattle.tdf_sim_runs.proofs.Staying.{steady, steady_more}
 use Rattle.tdf_sim_runs.specs.Advancing.{InstantAdvances}
 use Rattle.tdf_sim_runs.specs.News.{news_text}
 use Rattle.tdf_sim_runs.specs.Ongoing.{IsOngoing}
-use Rattle.tdf_sim_runs.specs.Running.{CanGoOn, GoesOn, IsDueNow, IsRunningAt, AreWithin}
+use Rattle.tdf_sim_runs.specs.Running.{CanGoOn, RunGoesOn, IsDueNow, IsRunningAt, AreWithin}
 use Rattle.tdf_sim_runs.specs.declared.running.Running.{Running}
-use Rattle.tdf_sim_refinement.specs.Pass.{Done, HasTurn, HavePassed, Idle, PassAt, RunOf}
+use Rattle.tdf_sim_refinement.specs.Pass.{Done, PassHasTurn, HavePassed, Idle, PassAt, RunOf}
 use Rattle.tdf_sim_traces.proofs.Api.{advanced_can_be_taken, told_is_shown}
 use Rattle.tdf_sim_traces.specs.Advanced.{HasAdvanced}
 use Rattle.tdf_sim_traces.specs.Calls.{CanTake, ShowsInstant}
@@ -46,14 +46,14 @@ use Rattle.tdf_streams.specs.Periods.{PeriodRecord}
 
 -- what a pass traces has few places
 module _ (flat : Flat) (pass : PassAt) where
-  turn_few : (n : ℕ) (x y : RunOf) (sent : List Sent) → HasTurn flat pass n x y sent → All HasFewPlaces x.outputs.traced → All HasFewPlaces y.outputs.traced
-  turn_few n x y sent (Idle turn is did) few = subst (λ (o : OutputsOf). All HasFewPlaces o.traced) (sym did.outputs) few
-  turn_few n x y sent (Done turn is did) few = subst (λ (o : OutputsOf). All HasFewPlaces o.traced) (sym did.fired.gained.are)
-      (All-append HasFewPlaces x.outputs.traced did.fired.gained.traced few did.fired.gained.places)
+  turn_few : (n : ℕ) (x y : RunOf) (sent : List Sent) → PassHasTurn flat pass n x y sent → All SampleHasFewPlaces x.outputs.traced → All SampleHasFewPlaces y.outputs.traced
+  turn_few n x y sent (Idle turn is did) few = subst (λ (o : OutputsOf). All SampleHasFewPlaces o.traced) (sym did.outputs) few
+  turn_few n x y sent (Done turn is did) few = subst (λ (o : OutputsOf). All SampleHasFewPlaces o.traced) (sym did.fired.gained.are)
+      (All-append SampleHasFewPlaces x.outputs.traced did.fired.gained.traced few did.fired.gained.places)
 
-  passes_few : (n : ℕ) (x y : RunOf) (sent : List Sent) → HavePassed flat pass n x y sent → All HasFewPlaces x.outputs.traced → All HasFewPlaces y.outputs.traced
+  passes_few : (n : ℕ) (x y : RunOf) (sent : List Sent) → HavePassed flat pass n x y sent → All SampleHasFewPlaces x.outputs.traced → All SampleHasFewPlaces y.outputs.traced
   unfolding HavePassed
-  passes_few zero x y sent passed few = subst (λ (z : RunOf). All HasFewPlaces z.outputs.traced) (sym passed.0) few
+  passes_few zero x y sent passed few = subst (λ (z : RunOf). All SampleHasFewPlaces z.outputs.traced) (sym passed.0) few
   passes_few (suc n) x y sent passed few = turn_few n passed.0 y passed.2 passed.4 (passes_few n x passed.0 passed.1 passed.3 few)
 
 module _ (along : InstantGoesAlong) (advances : InstantAdvances) (flat : Flat) (r : Running) (can : CanGoOn flat r) (due : IsDueNow r.engine r.from) (e : Engine) (rest : ℕ)
@@ -62,9 +62,9 @@ module _ (along : InstantGoesAlong) (advances : InstantAdvances) (flat : Flat) (
   clock = clock_at r.from e.since.items e.clusters.items
 
   traced_few : All (λ (t : Traced). t.value.frac ≤ 120) e.outputs.traced
-  traced_few = All-weaker HasFewPlaces (λ (t : Traced). t.value.frac ≤ 120) (λ t few. omega (arith, few)) e.outputs.traced
-      (subst (λ (o : OutputsOf). All HasFewPlaces o.traced) (sym had.traced)
-      (passes_few flat _ _ _ _ had.fired.firings.sent had.fired.firings.passed (subst (All HasFewPlaces) (sym had.fired.none_traced) (All-nil HasFewPlaces))))
+  traced_few = All-weaker SampleHasFewPlaces (λ (t : Traced). t.value.frac ≤ 120) (λ t few. omega (arith, few)) e.outputs.traced
+      (subst (λ (o : OutputsOf). All SampleHasFewPlaces o.traced) (sym had.traced)
+      (passes_few flat _ _ _ _ had.fired.firings.sent had.fired.firings.passed (subst (All SampleHasFewPlaces) (sym had.fired.none_traced) (All-nil SampleHasFewPlaces))))
 
   module _ (model : PureTree) (start : World SideOf) (m : IsModelOf model flat) (run : IsRunningAt model flat start r) where
     abbrev on_now : IsOngoing model flat start (r.from + 1) e rest
@@ -93,7 +93,7 @@ module _ (along : InstantGoesAlong) (advances : InstantAdvances) (flat : Flat) (
     values_are =
         let z : r.from + 1 ≡ r.from + 1 - 0 = omega arith in
         ap (λ (s : SideOf). s.values) goes.now.side
-        ∙ sym (ap (λ (x : State (World SideOf) RunFault). (world_of x).events.values) (ap (history (world_engine model flat) 0 own) z ∙ on_now.on.on))
+        ∙ sym (ap (λ (x : HistoryState (World SideOf) RunFault). (world_of x).events.values) (ap (history (world_engine model flat) 0 own) z ∙ on_now.on.on))
 
     -- as what is told is told with its counts
     steady_now : AreSteady model flat (world_told goes.crossing.told run.going.world)
@@ -177,5 +177,5 @@ module _ (along : InstantGoesAlong) (advances : InstantAdvances) (flat : Flat) (
           some = record { model = some.model; of = some.of; start = some.start; is = runs_so some.model some.start some.of some.is };
         })
 
-    pub step_goes : (taken : Option (List ℕ)) → GoesOn flat r last taken taken
+    pub step_goes : (taken : Option (List ℕ)) → RunGoesOn flat r last taken taken
     step_goes taken = goes_quietly flat r last taken (let f = ap (λ (z : Running). z.from) is in omega (arith, f)) (ap (λ (z : Running). z.shown.trace.about) is ∙ about) (ap (λ (z : Running). z.shown.trace.rows.upto) is ∙ upto) step_runs

@@ -19,9 +19,9 @@ use Rattle.tdf_sim_history.specs.Instant.{RunFault, periods_of}
 use Rattle.tdf_sim_history.specs.Telling.{state_as, told_more, untold, world_told, world_untold}
 use Rattle.tdf_sim_history.specs.Texts.{end_of}
 use Rattle.tdf_sim_history.specs.World.{Change, ClusterAt, Rules, World}
-use Rattle.tdf_sim_history.specs.History.{State, On, Spent, Stopped, history}
+use Rattle.tdf_sim_history.specs.History.{HistoryState, On, Spent, Stopped, history}
 use Rattle.tdf_trace_rows.specs.Laws.{Agree}
-use Rattle.tdf_streams.specs.Signals.{time_of}
+use Rattle.tdf_streams.specs.Signals.{time_of_periods}
 use Rattle.tdf_lang_tree.specs.Pure.{PureTree}
 use Rattle.tdf_sim_history.specs.Continuing.{HasToldCounts, HasWholePlan}
 use Rattle.tdf_sim_history.specs.WorldLaws.{AreSteady, HasDone, IsSettled}
@@ -32,14 +32,14 @@ use Rattle.tdf_dynamic_plans.specs.Attributes.{clusters_of}
 use Rattle.tdf_trace_rows.specs.Positions.{position_at}
 
 -- a state that is another but for what is told, where that one is on
-world_at : {K : Type 0} → State (World K) RunFault → World K → World K
+world_at : {K : Type 0} → HistoryState (World K) RunFault → World K → World K
 world_at (On u) z = u
 world_at (Stopped time fault v) z = z
 world_at (Spent time v) z = z
 
-pub on_untold : {K : Type 0} (w : World K) (s : State (World K) RunFault) → On (world_untold w) ≡ state_as world_untold s → (v : World K) × (s ≡ On v) × (world_untold v ≡ world_untold w)
+pub on_untold : {K : Type 0} (w : World K) (s : HistoryState (World K) RunFault) → On (world_untold w) ≡ state_as world_untold s → (v : World K) × (s ≡ On v) × (world_untold v ≡ world_untold w)
 unfolding world_at
-on_untold {K = K} w (On v) same = (v, refl, sym (ap (λ (x : State (World K) RunFault). world_at x (world_untold w)) same))
+on_untold {K = K} w (On v) same = (v, refl, sym (ap (λ (x : HistoryState (World K) RunFault). world_at x (world_untold w)) same))
 on_untold w (Stopped time fault v) same = absurd cc
 on_untold w (Spent time v) same = absurd cc
 
@@ -124,7 +124,7 @@ module _ (law : BoundariesHaveOne) (model : PureTree) (flat : Flat) (start : Wor
   -- what has its samples there has them here
   pub settled_told : (shown : List ColumnStart) (mark : ℕ) → IsSettled flat shown going.world mark → IsSettled flat shown v mark
   settled_told shown mark settled = record {
-    within = λ n c at. (let h = twin n c at in subst (λ (z : ClusterAt). mark ≤ z.origin + time_of (periods_of z)) (sym h.2) (settled.within n h.0 h.1));
+    within = λ n c at. (let h = twin n c at in subst (λ (z : ClusterAt). mark ≤ z.origin + time_of_periods (periods_of z)) (sym h.2) (settled.within n h.0 h.1));
     there = λ s number port c time j shows at low position. (
         let h = twin (slice_index (clusters_of flat.tables) port.«module» - 1) c at in
         subst (λ (z : ClusterAt). position_at 0 (column_spans port s z.origin (periods_of z)) time ≡ Some j → j < samples_done s port z) (sym h.2)

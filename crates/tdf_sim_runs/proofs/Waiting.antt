@@ -18,7 +18,7 @@ use Rattle.tdf_sim_history.specs.Texts.{new_plans, notes_in, left_by}
 use Rattle.tdf_sim_history.specs.World.{Change, ClusterAt, Rules, World, next_change}
 use Rattle.tdf_sim_history.proofs.Api.{skipped}
 use Rattle.tdf_sim_refinement.proofs.Api.{true_false}
-use Rattle.tdf_sim_history.specs.History.{On, State, history}
+use Rattle.tdf_sim_history.specs.History.{On, HistoryState, history}
 use Rattle.tdf_sim_history.specs.TurnLaws.{IsNextTime, IsOn}
 use Rattle.tdf_sim_runs.proofs.Dues.{next_is}
 use Rattle.tdf_sim_runs.specs.Running.{IsRunning, RunsToNext}
@@ -29,11 +29,11 @@ use Rattle.tdf_lang_tree.specs.Pure.{PureTree}
 use Rattle.tdf_sim_history.specs.Rules.{rules_of, world_engine}
 
 -- what a history is on at, where two say it
-abbrev pub on_world : World SideOf → State (World SideOf) RunFault
+abbrev pub on_world : World SideOf → HistoryState (World SideOf) RunFault
 on_world w = On w
 
 pub on_same : (u v : World SideOf) → on_world u ≡ on_world v → u ≡ v
-on_same u v same = ap (λ (x : State (World SideOf) RunFault). world_of x) same
+on_same u v same = ap (λ (x : HistoryState (World SideOf) RunFault). world_of x) same
 
 -- what is due is due whatever is told
 due_from : (more : List (List Change)) (time k : ℕ) (cs : List ClusterAt) → list_any (is_cluster_due time) (map (λ (c : ℕ × ClusterAt). told_more (slice_index_or more c.0 []) c.1) (enumerate_from k cs)) ≡ list_any (is_cluster_due time) cs
@@ -73,7 +73,7 @@ module _ (model : PureTree) (flat : Flat) (start : World SideOf) (from stop time
   pub on_between : (t : ℕ) → from ≤ t → t ≤ time → history (world_engine model flat) 0 own t ≡ On run.going.world
   on_between t low high = stays_on model flat own from stop run.going.world run.going.on time next_time t low high
 
-  abbrev pub values_of : State (World SideOf) RunFault → List Raw
+  abbrev pub values_of : HistoryState (World SideOf) RunFault → List Raw
   values_of x = (world_of x).events.values
 
   pub quiet : (t : ℕ) → from ≤ t → t < time → notes_in model flat (rules_of model flat) t (history (world_engine model flat) 0 own t) ≡ []

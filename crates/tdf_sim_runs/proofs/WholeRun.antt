@@ -18,7 +18,7 @@ use Rattle.tdf_sim_runs.specs.declared.run.Ran.{Ran}
 use Rattle.tdf_sim_runs.specs.declared.run.Whole.{Whole}
 use Rattle.tdf_sim_runs.specs.declared.running.Running.{Running}
 use Rattle.tdf_sim_runs.specs.machine.Whole.{HasEnded}
-use Rattle.tdf_sim_notes.specs.Ending.{HaveAnswers, end_of, run_end, state_of}
+use Rattle.tdf_sim_notes.specs.Ending.{HaveAnswers, end_of, run_end, run_state}
 use Rattle.tdf_sim_notes.specs.declared.ending.End.TheVariants.{Reached, Spent, Stopped}
 use Rattle.tdf_io.proofs.Api.{front_then}
 use Rattle.tdf_streams.proofs.Api.{get_inside}
@@ -35,7 +35,7 @@ use Rattle.tdf_sim_history.specs.Telling.{untold, world_told, state_as, world_un
 use Rattle.tdf_sim_history.specs.Texts.{notes_to, run_trace}
 use Rattle.tdf_sim_history.specs.World.{Change, ClusterAt, World}
 use Rattle.tdf_io.specs.Bytes.{AppendsFront}
-use Rattle.tdf_sim_history.specs.History.{history, On, Spent, State, Stopped}
+use Rattle.tdf_sim_history.specs.History.{history, On, Spent, HistoryState, Stopped}
 use Rattle.tdf_trace_rows.specs.Rows.{Cells, trace_text}
 use Rattle.tdf_sim_refinement.specs.Pass.{AreAt}
 use Rattle.tdf_trace.specs.Writings.{AboutSeen, head_of, rest_text, rows_text, writing_of, written_text}
@@ -146,7 +146,7 @@ module _ (model : PureTree) (flat : Flat) (firsts : List First) (stop turns : �
     counts = ending.told.counts;
   }
 
-  state_is : state_from model flat first ending.ahead stop ≡ state_of model flat firsts ending.ahead stop turns
+  state_is : state_from model flat first ending.ahead stop ≡ run_state model flat firsts ending.ahead stop turns
   state_is = ap (λ (w : World SideOf). history (world_engine model flat) 0 w stop) told_ahead
 
   ends_by : (h : Ended) → EndsBy model flat first ending.ahead stop last h → end_by last stop turns h ≡ run_end model flat firsts ending.ahead stop turns
@@ -195,7 +195,7 @@ module _ (model : PureTree) (flat : Flat) (firsts : List First) (stop turns : �
         (attributes_alike flat first one (sym (untold_told ending.ahead first)) ending.can.attributes) same_start ending.told.answers
         (subst (λ (w : World SideOf). AreAnswers model flat (rules_of model flat) w stop) (sym other_is) have.are) low
 
-    bare_end : (s : State (World SideOf) RunFault) → end_of stop turns (state_as world_untold s) ≡ end_of stop turns s
+    bare_end : (s : HistoryState (World SideOf) RunFault) → end_of stop turns (state_as world_untold s) ≡ end_of stop turns s
     bare_end (On w) = refl
     bare_end (Stopped time fault w) = refl
     bare_end (Spent time w) = refl

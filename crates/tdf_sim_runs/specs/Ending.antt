@@ -14,7 +14,7 @@ use Rattle.tdf_sim_history.specs.Instant.{RunFault}
 use Rattle.tdf_sim_history.specs.Telling.{world_told}
 use Rattle.tdf_sim_history.specs.Texts.{end_of as end_before, notes_to, state_at}
 use Rattle.tdf_sim_history.specs.World.{Change, World}
-use Rattle.tdf_sim_history.specs.History.{On, Spent, State, Stopped}
+use Rattle.tdf_sim_history.specs.History.{On, Spent, HistoryState, Stopped}
 use Rattle.tdf_io.specs.Bytes.{AppendsFront, WritesText}
 use Rattle.tdf_io.specs.declared.writing.SinkErr.{SinkErr}
 use Rattle.tdf_bind_invariants.specs.Limits.{AreWithinLimits}
@@ -53,7 +53,7 @@ WritesEnd taken faults old new s end result = (model : PureTree) (flat : Flat)
 
 -- the state at a stop of the history from a start that is told this of its boundaries
 abbrev pub state_from : PureTree → Flat → (start : World SideOf) → (ahead : List (List Change))
-    → (stop : ℕ) → State (World SideOf) RunFault
+    → (stop : ℕ) → HistoryState (World SideOf) RunFault
 state_from model flat start ahead stop =
     state_at model flat (rules_of model flat) (world_told ahead start) stop
 

@@ -14,9 +14,9 @@ use Rattle.tdf_sim_history.specs.Answers.{AreAnswers}
 use Rattle.tdf_sim_history.specs.Instant.{RunFault}
 use Rattle.tdf_sim_history.specs.Telling.{AreTold, world_told}
 use Rattle.tdf_sim_history.specs.World.{Change, ClusterAt, World}
-use Rattle.tdf_sim_history.specs.History.{State, On, Spent, Stopped, history}
+use Rattle.tdf_sim_history.specs.History.{HistoryState, On, Spent, Stopped, history}
 use Rattle.tdf_sim_history.specs.TurnLaws.{IsOn}
-use Rattle.tdf_streams.specs.Signals.{time_of}
+use Rattle.tdf_streams.specs.Signals.{time_of_periods}
 use Rattle.tdf_lang_tree.specs.Pure.{PureTree}
 use Rattle.tdf_sim_history.specs.Continuing.{HasToldCounts, HasWholePlan}
 use Rattle.tdf_sim_history.specs.Rules.{rules_of, world_engine}
@@ -25,7 +25,7 @@ use Rattle.tdf_sim_history.specs.TableLaws.{HaveAttributes}
 -- the period of each cluster began when those before it were over
 pub record AreTimed (w : World SideOf) : Type 0 where
   pub each : (n : ℕ) (h : ClusterAt) → slice_get w.clusters n ≡ Some h
-      → h.since ≡ h.origin + time_of h.old
+      → h.since ≡ h.origin + time_of_periods h.old
 
 -- what is told of the boundaries from a start on is their answers up to a time, and new plans come
 -- with their counts
@@ -63,7 +63,7 @@ InstantLeadsOn = (model : PureTree) (flat : Flat) (start : World SideOf)
 -- the history from a start ends so at a stop, told the answers of its boundaries; its last world
 -- has the plans that there are
 pub record HistoryEnds (model : PureTree) (flat : Flat) (start : World SideOf) (stop : ℕ)
-    (f : Engine) (ends : World SideOf → State (World SideOf) RunFault) : Type 0 where
+    (f : Engine) (ends : World SideOf → HistoryState (World SideOf) RunFault) : Type 0 where
   pub ahead : List (List Change)
   pub told : AreToldTo model flat start stop ahead
   pub last : World SideOf

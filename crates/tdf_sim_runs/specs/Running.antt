@@ -79,7 +79,7 @@ told_rows model flat start ahead about before from end = rows_text about
 
 -- a run went on from one state to another, and the sink took the rows that were written: those of
 -- the history, whatever answers it is told
-pub record GoesOn (flat : Flat) (old new : Running) (before after : Option (List ℕ))
+pub record RunGoesOn (flat : Flat) (old new : Running) (before after : Option (List ℕ))
     : Type 0 where
   pub later : old.from ≤ new.from
   pub about : new.shown.trace.about ≡ old.shown.trace.about

@@ -15,7 +15,7 @@ use Rattle.tdf_sim_history.specs.World.{Change, World}
 use Rattle.tdf_sim_history.specs.History.{On}
 use Rattle.tdf_sim_runs.specs.declared.run.Ran.{Ran}
 use Rattle.tdf_io.specs.Bytes.{AppendsFront}
-use Rattle.tdf_sim_notes.specs.Ending.{run_end, run_note, state_of}
+use Rattle.tdf_sim_notes.specs.Ending.{run_end, run_note, run_state}
 use Rattle.tdf_sim_notes.specs.declared.ending.End.TheVariants.{Reached}
 use Rattle.tdf_sim_notes.specs.Plans.{ArePrintable}
 use Rattle.tdf_sim_refinement.specs.Pass.{AreAt}
@@ -49,7 +49,7 @@ trace_of kind model flat firsts ahead stop turns = run_trace
 pub record IsLeft (model : PureTree) (flat : Flat) (firsts : List First)
     (ahead : List (List Change)) (stop turns : ℕ) (ran : Ran) : Type 0 where
   pub world : World SideOf
-  pub on : state_of model flat firsts ahead stop turns ≡ On world
+  pub on : run_state model flat firsts ahead stop turns ≡ On world
   pub since : List ℕ
   pub clusters : AreAt model flat since (map untold world.clusters) ran.clusters.items
   pub kernel : side_of ran.kernel ≡ world.events

@@ -34,7 +34,7 @@ ghost use Rattle.tdf_events.specs.Runnable.{IsRunnable};
 ghost use Rattle.tdf_bind.specs.declared.model.Flat.{Flat as FlatModel};
 ghost use Rattle.tdf_io.specs.Faults.{CountsSinkFaults};
 ghost use Rattle.tdf_sim_runs.specs.Ending.{GoesToEnd, WritesPart};
-ghost use Rattle.tdf_sim_runs.specs.Running.{CanGoOn, GoesOn, IsDueNow, WritesFrontTo};
+ghost use Rattle.tdf_sim_runs.specs.Running.{CanGoOn, RunGoesOn, IsDueNow, WritesFrontTo};
 ghost use Rattle.tdf_sim_traces.specs.Calls.{CanTake, ShowsInstant};
 ghost use Rattle.tdf_sim_traces.specs.Periods.{clock_at};
 ghost use Rattle.tdf_trace.specs.Stands.{IsStageAfter};
@@ -142,7 +142,7 @@ impl Running {
         requires early { self.old.from < time_end }
         ensures can { result ≡ Ok pass.Done → CanGoOn flat.now self.new }
         ensures goes { result ≡ Ok pass.Done → (taken : Option (List ℕ))
-            → GoesOn flat.now self.old self.new taken taken }
+            → RunGoesOn flat.now self.old self.new taken taken }
         ensures after { result ≡ Ok pass.Done → self.new.from ≡ self.old.from + 1 }
         ensures stage { self.new.shown.trace.stage ≡ self.old.shown.trace.stage }
         ensures spent { result ≡ Ok pass.Spent → HasBeenSpent flat.now self.old.from
@@ -178,7 +178,7 @@ impl Running {
         requires open { self.old.shown.trace.stage ≡ Open }
         ensures can { OnOk result (CanGoOn flat.now self.new) }
         ensures goes { OnOk result
-            (GoesOn flat.now self.old self.new (K.taken out.old) (K.taken out.new)) }
+            (RunGoesOn flat.now self.old self.new (K.taken out.old) (K.taken out.new)) }
         ensures part { OnErr result (WritesFrontTo flat.now self.old (K.taken out.old) (K.taken out.new)) }
         ensures same { self.new.from ≡ self.old.from }
         ensures stage { IsStageAfter result self.new.shown.trace.stage }
@@ -205,7 +205,7 @@ impl Running {
         requires open { self.old.shown.trace.stage ≡ Open }
         ensures can { result ≡ Ok None → CanGoOn flat.now self.new }
         ensures goes { result ≡ Ok None
-            → GoesOn flat.now self.old self.new (K.taken out.old) (K.taken out.new) }
+            → RunGoesOn flat.now self.old self.new (K.taken out.old) (K.taken out.new) }
         ensures on { result ≡ Ok None → self.old.from < self.new.from }
         ensures within { result ≡ Ok None → self.new.from ≤ stop }
         ensures open { OnOk result (self.new.shown.trace.stage ≡ Open) }

@@ -19,7 +19,7 @@ use Rattle.tdf_streams.proofs.Api.{get_inside}
 use Rattle.tdf_bind_invariants.specs.Formats.{IsOwnPort, IsSoundModel, PortsHaveFormats}
 use Rattle.tdf_sim_history.specs.Cells.{column_spans, samples_done}
 use Rattle.tdf_sim_history.specs.Instant.{periods_of}
-use Rattle.tdf_trace_rows.specs.Positions.{total}
+use Rattle.tdf_trace_rows.specs.Positions.{count_of_spans}
 use Rattle.tdf_sim_traces.proofs.Spans.{can_begin, none_left}
 use Rattle.tdf_sim_traces.proofs.Taking.{early, since_begins}
 use Rattle.tdf_sim_traces.proofs.Telling.{few_traces, told}
@@ -30,7 +30,7 @@ use Rattle.tdf_sim_traces.specs.Periods.{begins}
 use Rattle.tdf_sim_traces.specs.Shown.{IsShownOf}
 use Rattle.tdf_sim_traces.specs.Signals.{IsListed}
 use Rattle.tdf_sim_traces.specs.declared.signals.TracedSignal.{TracedSignal}
-use Rattle.tdf_streams.specs.Cluster.{fraction_of_kind, fraction_of_row, given_at, initial_sample, initial_samples, zero_of}
+use Rattle.tdf_streams.specs.Cluster.{fraction_of_kind, fraction_of_row, given_at, initial_sample, initial_samples, zero_of_port}
 use Rattle.tdf_lang_tree.specs.Pure.{PureTree}
 use Rattle.tdf_lang_tree.specs.declared.blocks.PortKind.{PortKind}
 use Rattle.tdf_lang_tree.specs.declared.blocks.PortKind.TheVariants.{In, Out, DeIn, DeOut}
@@ -72,7 +72,7 @@ few_row : (o : Option SignalRow) → fraction_of_row o ≤ 120
 few_row None = omega arith
 few_row (Some row) = few_places row.format
 
-few_zero : (tables : FlatTablesOf) (port : PortRow) → (zero_of tables port).frac ≤ 120
+few_zero : (tables : FlatTablesOf) (port : PortRow) → (zero_of_port tables port).frac ≤ 120
 few_zero tables port = go port.kind
   where
     go : (k : PortKind) → fraction_of_kind tables k port.signal ≤ 120
@@ -94,11 +94,11 @@ few_initials formats model flat sound is None number at = All-nil (λ (v : Raw).
 few_initials formats model flat sound is (Some port) number at =
     let own : IsOwnPort flat number port = formats model flat sound is number port at in
     let all : All (λ (g : ℕ × Raw). g.1.frac ≤ 120) port.initials = All-weaker (λ (g : ℕ × Raw). IsOfFormat own.span.format g.1) (λ (g : ℕ × Raw). g.1.frac ≤ 120) (λ g of. few_of own.span.format g.1 of) port.initials own.initials in
-    All-map (λ (v : Raw). v.frac ≤ 120) (initial_sample flat.tables port) (range_with_len 0 port.delay) (λ k d inside. few_given (zero_of flat.tables port) _ port.initials (few_zero flat.tables port) all)
+    All-map (λ (v : Raw). v.frac ≤ 120) (initial_sample flat.tables port) (range_with_len 0 port.delay) (λ k d inside. few_given (zero_of_port flat.tables port) _ port.initials (few_zero flat.tables port) all)
 
 -- at the start
 pub sound_can_start : PortsHaveFormats → SoundCanStart
-unfolding total
+unfolding count_of_spans
 sound_can_start formats model flat kind firsts turns clock s sound is limits un at_zero at long there = record {
   begin = record {
     limits = limits;
@@ -157,9 +157,9 @@ advanced_can_be_taken model flat start w v clock traced values s is limits shown
         elim (adv.clusters t.cluster x.1.cluster g.0 x.1.there g.1) [
           | Stayed over origin since_is old new ↦ absurd (let e = early model flat clock start w v limits s shown traced adv at t.cluster x.1.cluster g.0 x.1.there since_is in omega (arith, e, now, later))
           | Began over origin since_is old ↦ (
-              let l : u.stamps.left ≡ total (shown.spans u.signal) - length (shown.samples u.signal) = left_is (shown.spans u.signal) (shown.samples u.signal) u (shown.holds.tracked place u there) in
+              let l : u.stamps.left ≡ count_of_spans (shown.spans u.signal) - length (shown.samples u.signal) = left_is (shown.spans u.signal) (shown.samples u.signal) u (shown.holds.tracked place u there) in
               let e : u.signal ≡ x.0.port.signal = same ∙ x.0.signal_is in
-              let p : total (shown.spans u.signal) ≡ total (column_spans x.0.port x.1.start x.1.cluster.origin (periods_of x.1.cluster)) = ap (λ k. total (shown.spans k)) e ∙ ap total x.1.spans_are in
+              let p : count_of_spans (shown.spans u.signal) ≡ count_of_spans (column_spans x.0.port x.1.start x.1.cluster.origin (periods_of x.1.cluster)) = ap (λ k. count_of_spans (shown.spans k)) e ∙ ap count_of_spans x.1.spans_are in
               let m : length (shown.samples u.signal) ≡ samples_done x.1.start x.0.port x.1.cluster = ap (λ k. length (shown.samples k)) e ∙ x.1.samples_are.many in
               let q = none_left x.0.port model flat t.cluster t.port x.0.drives x.1.cluster x.1.start clock.time (steady.each t.cluster x.1.cluster x.1.there) x.1.first over in
               omega (arith, l, p, m, q))

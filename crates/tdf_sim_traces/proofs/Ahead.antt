@@ -8,7 +8,7 @@ use Rattle.tdf_bind.specs.declared.model.Flat.{Flat}
 use Rattle.tdf_sim_history.specs.Cells.{changed_cell, event_cell, world_of}
 use Rattle.tdf_sim_history.specs.Instant.{RunFault, engine}
 use Rattle.tdf_sim_history.specs.World.{Change, ClusterAt, World}
-use Rattle.tdf_sim_history.specs.History.{On, Spent, State, Stopped, history}
+use Rattle.tdf_sim_history.specs.History.{On, Spent, HistoryState, Stopped, history}
 use Rattle.tdf_trace_rows.specs.Laws.{Agree}
 use Rattle.tdf_lang_tree.specs.Pure.{PureTree}
 use Rattle.tdf_bind_connections.specs.declared.traces.TraceRow.{TraceRow}
@@ -50,7 +50,7 @@ module _ (more : List (List Change)) where
       go (Some c) at is = (c, at, some_same (told_at n c) h is)
 
 module _ (model : PureTree) (flat : Flat) (start : World SideOf) (from : ℕ) (more : List (List Change)) (told : AreTold model flat (rules_of model flat) start from) where
-  same_side : (x : State (World SideOf) RunFault) → (world_of (state_as (world_told more) x)).events ≡ (world_of x).events
+  same_side : (x : HistoryState (World SideOf) RunFault) → (world_of (state_as (world_told more) x)).events ≡ (world_of x).events
   same_side (On w) = refl
   same_side (Stopped time fault w) = refl
   same_side (Spent time w) = refl
@@ -58,7 +58,7 @@ module _ (model : PureTree) (flat : Flat) (start : World SideOf) (from : ℕ) (m
   -- the settled values are the same up to the time
   values_same : (time : ℕ) → time ≤ from → values_before model flat (world_told more start) time ≡ values_before model flat start time
   values_same time low =
-      ap (λ (x : State (World SideOf) RunFault). (world_of x).events.values) (history_told more model flat (rules_of model flat) start from told time low)
+      ap (λ (x : HistoryState (World SideOf) RunFault). (world_of x).events.values) (history_told more model flat (rules_of model flat) start from told time low)
       ∙ ap (λ (side : SideOf). side.values) (same_side (history (engine model flat (rules_of model flat)) 0 start time))
 
   event_same : (signal time : ℕ) → time + 1 ≤ from

@@ -6,7 +6,7 @@ use Rattle.std.specs.Prelude.{IfSome, filter_map}
 use Rattle.tdf_bind_tables.specs.FlatTables.{FlatTablesOf}
 use Rattle.tdf_streams.proofs.Api.{get_inside, none_some, some_same}
 use Rattle.tdf_sim_traces.specs.Calls.{CanBeShown}
-use Rattle.tdf_sim_traces.specs.Variables.{traced_signal, variable_for, variable_of, variables_of}
+use Rattle.tdf_sim_traces.specs.Variables.{traced_signal, variable_for, trace_variable, variables_of}
 use Rattle.tdf_trace.specs.Columns.{HasFewPlaces}
 use Rattle.tdf_trace.specs.Writings.{CanBeTraced}
 use Rattle.tdf_trace.specs.declared.about.Variable.{Variable}
@@ -39,7 +39,7 @@ module _ (tables : FlatTablesOf) (can : CanBeShown tables) where
       go false is = let s = get_inside tables.signals row.signal (can.told.samples column row at is) in (s.0, ap (λ (b : Bool). if b then slice_get tables.de_signals row.signal else slice_get tables.signals row.signal) is ∙ s.1)
 
   pub variables_long : length (variables_of tables) ≡ length tables.traces
-  variables_long = given_long (variable_of tables) tables.traces (λ i row at. let s = signal_there i row at in (variable_for row s.0, ap (option_map (variable_for row)) s.1))
+  variables_long = given_long (trace_variable tables) tables.traces (λ i row at. let s = signal_there i row at in (variable_for row s.0, ap (option_map (variable_for row)) s.1))
 
   -- what a variable begins with has few places
   few_first : (row : TraceRow) (signal : SignalRow) → traced_signal tables row ≡ Some signal → HasFewPlaces (variable_for row signal).first
@@ -58,5 +58,5 @@ module _ (tables : FlatTablesOf) (can : CanBeShown tables) where
   pub can_be_traced : CanBeTraced (variables_of tables)
   can_be_traced = record {
     few = (let l = variables_long in let f = can.few in omega (arith, l, f));
-    first = λ place v at. (let g = given_by (variable_of tables) tables.traces place v at in variable_few g.1 v (traced_signal tables g.1) refl g.3);
+    first = λ place v at. (let g = given_by (trace_variable tables) tables.traces place v at in variable_few g.1 v (traced_signal tables g.1) refl g.3);
   }

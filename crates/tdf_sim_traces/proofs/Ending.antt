@@ -3,7 +3,7 @@ use Rattle.std.proofs.Common.{◌≡◌, ◌∙◌, ℕ, ◌+◌, ◌-◌, ◌<�
 use Rattle.std.proofs.lemmas.Bool.{eq-eqb, lt-ltb}
 use Rattle.tdf_trace.specs.Calls.{NotesRest}
 use Rattle.tdf_trace.specs.Tracks.{cells_by}
-use Rattle.tdf_trace.specs.Traces.{sample_or, with_samples}
+use Rattle.tdf_trace.specs.Traces.{sample_or, with_signal_samples}
 use Rattle.tdf_dynamic_plans.specs.Attributes.{clusters_of}
 use Rattle.tdf_events.specs.Side.{SideOf}
 use Rattle.tdf_bind.specs.declared.model.Flat.{Flat}
@@ -33,7 +33,7 @@ module _ (model : PureTree) (flat : Flat) (start : World SideOf) (end : ℕ) (s 
   w = world_before model flat (rules_of model flat) start end
 
   abbrev cells : Cells
-  cells = with_samples flat.tables.traces (events_before model flat start end) (cells_by shown.spans shown.samples)
+  cells = with_signal_samples flat.tables.traces (events_before model flat start end) (cells_by shown.spans shown.samples)
 
   -- a port that drives the signal of a trace of samples
   driving : (column number : ℕ) (row : TraceRow) → slice_get flat.tables.traces column ≡ Some row → row.event ≡ false → driver_of_row (slice_get flat.tables.signals row.signal) ≡ Some number → (is : IsDriverOf flat.tables row.signal number)
@@ -94,6 +94,6 @@ shows_end end old new notes model flat start is limits shown =
     record {
       noted = n.noted;
       stand = n.stand;
-      agree = agree_trans n.noted (with_samples flat.tables.traces (events_before model flat start end) (cells_by shown.spans shown.samples)) (run_cells model flat (rules_of model flat) start end) end end (omega arith) n.agree
+      agree = agree_trans n.noted (with_signal_samples flat.tables.traces (events_before model flat start end) (cells_by shown.spans shown.samples)) (run_cells model flat (rules_of model flat) start end) end end (omega arith) n.agree
           (run_agree model flat start end old (told model flat is limits) shown);
     }

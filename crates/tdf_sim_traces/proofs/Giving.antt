@@ -3,7 +3,7 @@ use Rattle.std.proofs.Common.{◌≡◌, ℕ, ◌+◌, ◌<◌, List, [], ◌∷
 use Rattle.std.proofs.lemmas.Bool.{cases_eq, eq-eqb, ne_eqb}
 use Rattle.tdf_bind_tables.specs.FlatTables.{FlatTablesOf}
 use Rattle.tdf_trace.specs.Calls.{TakesSamples, with_traced}
-use Rattle.tdf_trace.specs.Tracked.{AreSince, TrackedOf, TrackingOf, labels, samples_of, sinces}
+use Rattle.tdf_trace.specs.Tracked.{AreSince, TrackedOf, TrackingOf, labels, samples_traced, sinces}
 use Rattle.tdf_fixed.specs.declared.raw.Raw.{Raw}
 use Rattle.tdf_streams.proofs.Api.{some_same}
 use Rattle.tdf_sim_traces.specs.declared.signals.TracedSignal.{TracedSignal}
@@ -11,13 +11,13 @@ use Rattle.tdf_sim_traces.specs.machine.Giving.{IsAmong, IsGivingTo, TakesInitia
 use Rattle.tdf_trace.specs.Stands.{RowsSeen, TraceSeen}
 
 -- samples of one signal are all of it, and none of another
-pub samples_here : (signal s : ℕ) (values : List Raw) → signal ≡ s → samples_of s (traced_with signal values) ≡ values
-unfolding samples_of
+pub samples_here : (signal s : ℕ) (values : List Raw) → signal ≡ s → samples_traced s (traced_with signal values) ≡ values
+unfolding samples_traced
 samples_here signal s [] same = refl
 samples_here signal s (v ∷ vs) same = rw (eq-eqb signal s same) (ap (λ l. v ∷ l) (samples_here signal s vs same))
 
-pub samples_other : (signal s : ℕ) (values : List Raw) → (signal ≡ s → ⊥) → samples_of s (traced_with signal values) ≡ []
-unfolding samples_of
+pub samples_other : (signal s : ℕ) (values : List Raw) → (signal ≡ s → ⊥) → samples_traced s (traced_with signal values) ≡ []
+unfolding samples_traced
 samples_other signal s [] apart = refl
 samples_other signal s (v ∷ vs) apart = rw (ne_eqb signal s apart) (samples_other signal s vs apart)
 

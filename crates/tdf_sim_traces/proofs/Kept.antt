@@ -8,7 +8,7 @@ use Rattle.tdf_trace.proofs.Api.{left_is}
 use Rattle.tdf_fixed.specs.declared.raw.Raw.{Raw}
 use Rattle.tdf_sim_history.specs.Cells.{changed_cell, event_cell, is_same_value}
 use Rattle.tdf_trace_rows.specs.Laws.{Agree}
-use Rattle.tdf_trace_rows.specs.Positions.{total}
+use Rattle.tdf_trace_rows.specs.Positions.{count_of_spans}
 use Rattle.tdf_sim_traces.proofs.Items.{true_false}
 use Rattle.tdf_sim_traces.proofs.Noting.{holds_cells}
 use Rattle.tdf_sim_traces.proofs.Pushing.{any_found, any_here}
@@ -44,7 +44,7 @@ listed_or list signal = go (list_any (λ (t : TracedSignal). nat_eq t.signal sig
     go false is = inr (λ k t there same. absurd (let e = any_here (λ (x : TracedSignal). nat_eq x.signal signal) list k t there (eq-eqb t.signal signal same) in true_false (sym e ∙ is)))
 
 pub rows_may_be_written : RowsMayBeWritten
-unfolding total
+unfolding count_of_spans
 rows_may_be_written model flat start w from mark s shown late place u there more = elim (listed_or s.signals.items u.signal) [
   | inl f ↦ (
       let l = shown.signals.are f.0 f.1 f.2 in
@@ -53,7 +53,7 @@ rows_may_be_written model flat start w from mark s shown late place u there more
       let m = late f.1.cluster x.cluster x.there in omega (arith, e, m))
   | inr unlisted ↦ absurd (
       let l = left_is (shown.spans u.signal) (shown.samples u.signal) u (shown.holds.tracked place u there) in
-      let n : total (shown.spans u.signal) ≡ 0 = ap total (shown.none u.signal unlisted) in omega (arith, l, n, more))
+      let n : count_of_spans (shown.spans u.signal) ≡ 0 = ap count_of_spans (shown.none u.signal unlisted) in omega (arith, l, n, more))
 ]
 
 -- a value is the same as itself

@@ -2,7 +2,7 @@
 use Rattle.std.proofs.Common.{◌≡◌, ◌∙◌, ℕ, ◌+◌, Bool, true, false, not, ◌&&◌, nat_eq, if◌then◌else◌, Some, None, List, [], ◌∷◌, slice_get, slice_index, refl, ap, sym, arith}
 use Rattle.std.proofs.lemmas.Bool.{eqb-true}
 use Rattle.std.specs.List.{cons_option}
-use Rattle.tdf_trace.specs.Tracked.{Label, TrackedOf, label, labels, samples_of, sinces}
+use Rattle.tdf_trace.specs.Tracked.{Label, TrackedOf, label, labels, samples_traced, sinces}
 use Rattle.tdf_convert.specs.declared.outputs.Traced.{Traced}
 use Rattle.tdf_dynamic_plans.specs.Attributes.{clusters_of}
 use Rattle.tdf_bind.specs.declared.model.Flat.{Flat}
@@ -13,7 +13,7 @@ use Rattle.tdf_sim_traces.proofs.Items.{alike}
 use Rattle.tdf_sim_traces.proofs.Pushing.{any_found}
 use Rattle.tdf_sim_traces.specs.Signals.{AreTracedSignals, DrivesTraced, IsListed}
 use Rattle.tdf_sim_traces.specs.declared.signals.TracedSignal.{TracedSignal}
-use Rattle.tdf_sim_refinement.specs.Samples.{samples_of as samples_in}
+use Rattle.tdf_sim_refinement.specs.Samples.{signal_samples as samples_in}
 use Rattle.tdf_bind_connections.specs.declared.modules.PortRow.{PortRow}
 
 -- what is listed of a port
@@ -64,11 +64,11 @@ moved old new place u same since at =
     (x.0, x.1, ap (λ (l : Label). l.signal) x.2, ap (λ (t : TrackedOf). t.since) (sym e) ∙ y.2)
 
 -- both ways to pick the samples of a signal are one
-pub samples_same : (signal : ℕ) (list : List Traced) → samples_of signal list ≡ samples_in signal list
-unfolding samples_of samples_in
+pub samples_same : (signal : ℕ) (list : List Traced) → samples_traced signal list ≡ samples_in signal list
+unfolding samples_traced samples_in
 samples_same signal [] = refl
 samples_same signal (x ∷ xs) = go (nat_eq x.signal signal) (samples_same signal xs)
   where
-    go : (b : Bool) → samples_of signal xs ≡ samples_in signal xs → (if b then x.value ∷ samples_of signal xs else samples_of signal xs) ≡ cons_option (if b then Some x.value else None) (samples_in signal xs)
+    go : (b : Bool) → samples_traced signal xs ≡ samples_in signal xs → (if b then x.value ∷ samples_traced signal xs else samples_traced signal xs) ≡ cons_option (if b then Some x.value else None) (samples_in signal xs)
     go true same = ap (λ l. x.value ∷ l) same
     go false same = same

@@ -6,7 +6,7 @@ use Rattle.tdf_trace.proofs.Api.{holds_event, stands_alike}
 use Rattle.tdf_trace.specs.Calls.{Holds}
 use Rattle.tdf_trace.specs.Tracked.{TrackedOf}
 use Rattle.tdf_trace.specs.Tracks.{known_by}
-use Rattle.tdf_trace.specs.Traces.{sample_or, with_samples}
+use Rattle.tdf_trace.specs.Traces.{sample_or, with_signal_samples}
 use Rattle.tdf_events.specs.Side.{SideOf}
 use Rattle.tdf_fixed.specs.declared.raw.Raw.{Raw}
 use Rattle.tdf_bind.specs.declared.model.Flat.{Flat}
@@ -32,7 +32,7 @@ pub holds_cells : (traces : List TraceRow) (g h : Cells) (spans : ℕ → List S
 holds_cells traces g h spans samples list rows alike holds = record {
   of = holds.of;
   tracked = holds.tracked;
-  stands = stands_alike (with_samples traces g (known_by spans samples)) (with_samples traces h (known_by spans samples)) rows (λ below. record {
+  stands = stands_alike (with_signal_samples traces g (known_by spans samples)) (with_signal_samples traces h (known_by spans samples)) rows (λ below. record {
     columns = (alike below).columns;
     first = (alike below).first;
     cells = λ c t inside low. ap (sample_or (slice_get traces c) (λ s. known_by spans samples s t)) ((alike below).cells c t inside low);

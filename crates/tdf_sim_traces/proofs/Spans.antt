@@ -20,7 +20,7 @@ use Rattle.tdf_trace.specs.Tracks.{IsChain}
 use Rattle.tdf_sim_history.specs.Instant.{is_over, periods_of}
 use Rattle.tdf_sim_history.specs.World.{ClusterAt}
 use Rattle.tdf_bind_invariants.specs.Limits.{AreWithinLimits}
-use Rattle.tdf_trace_rows.specs.Positions.{AreChained, Span, end_of, span_of, total}
+use Rattle.tdf_trace_rows.specs.Positions.{AreChained, Span, span_end, span_of, count_of_spans}
 use Rattle.tdf_sim_refinement.specs.At.{IsAt}
 use Rattle.tdf_schedule.specs.Plan.{done}
 use Rattle.tdf_sim_traces.proofs.Items.{get_last}
@@ -30,7 +30,7 @@ use Rattle.tdf_sim_traces.specs.declared.signals.TracedSignal.{TracedSignal}
 use Rattle.tdf_streams.specs.Laws.{IsClusterPort}
 use Rattle.tdf_streams.specs.Periods.{IsPeriodRecord, IsWholeRecord, PeriodRecord}
 use Rattle.tdf_streams.specs.Cluster.{Start}
-use Rattle.tdf_streams.specs.Signals.{outputs_in, positions, rate_in, step_in, time_of}
+use Rattle.tdf_streams.specs.Signals.{outputs_in, positions, rate_in, step_in, time_of_periods}
 use Rattle.tdf_lang_tree.specs.Pure.{PureTree}
 use Rattle.tdf_bind_connections.specs.declared.modules.PortRow.{PortRow}
 use Rattle.tdf_sim_history.specs.WorldLaws.{AreRecordsOf, HasDone, HoldsFirst}
@@ -40,7 +40,7 @@ all_at : {A : Type 0} (P : A → Type 0) (xs : List A) (i : ℕ) (x : A) → All
 all_at P xs i x all at = subst P (get_or_from_slice_get xs i x x at) (all i x (slice_get_within xs i x at))
 
 -- the time of one period more
-pub times_push : (ps : List PeriodRecord) (p : PeriodRecord) → time_of (ps ++ p ∷ []) ≡ time_of ps + p.info.period
+pub times_push : (ps : List PeriodRecord) (p : PeriodRecord) → time_of_periods (ps ++ p ∷ []) ≡ time_of_periods ps + p.info.period
 times_push ps p = sum_by_push (λ (r : PeriodRecord). r.info.period) ps p
 
 least : (a b : ℕ) → 0 < b → a ≤ a * b
@@ -63,7 +63,7 @@ holds_more s port (p ∷ ps) qs some holds = holds
 module _ (port : PortRow) where
   -- how many positions a column has, where the firings of its periods are done
   pub column_done : (flat : Flat) (cluster : ℕ) (begun : Start) (s : ColumnStart) (origin : ℕ) (ps : List PeriodRecord) → AreRecordsOf flat cluster begun ps → HoldsFirst s port ps
-      → total (column_spans port s origin ps) ≤ length (held_by s) + sum_by (outputs_in port) ps
+      → count_of_spans (column_spans port s origin ps) ≤ length (held_by s) + sum_by (outputs_in port) ps
   column_done flat cluster begun s origin [] records holds = absurd records
   column_done flat cluster begun s origin (p ∷ ps) records holds =
       let t = column_total port s origin p ps in
@@ -76,24 +76,24 @@ module _ (port : PortRow) where
   -- the last of its positions is followed by the end of the last period
   pub column_last : (flat : Flat) (cluster : ℕ) (begun : Start) (s : ColumnStart) (origin : ℕ) (ps : List PeriodRecord) → AreRecordsOf flat cluster begun ps → HoldsFirst s port ps
       → ((k : ℕ) (p : PeriodRecord) → slice_get ps k ≡ Some p → positions port p * step_in port p ≡ p.info.period)
-      → (front : List Span) × (last : Span) × (column_spans port s origin ps ≡ front ++ last ∷ []) × (end_of last ≡ origin + time_of ps)
+      → (front : List Span) × (last : Span) × (column_spans port s origin ps ≡ front ++ last ∷ []) × (span_end last ≡ origin + time_of_periods ps)
   column_last flat cluster begun s origin [] records holds whole = absurd records
   column_last flat cluster begun s origin (p ∷ ps) records holds whole = go ps (origin + p.info.period) (spans_to s.stamps (origin + s.skipped * step_in port p)) (span_after origin (step_in port p) (positions port p) s.skipped) first_end (λ k q at. whole (suc k) q at) sums
     where
-      first_end : end_of (span_after origin (step_in port p) (positions port p) s.skipped) ≡ origin + p.info.period
+      first_end : span_end (span_after origin (step_in port p) (positions port p) s.skipped) ≡ origin + p.info.period
       first_end =
           let e : s.skipped + (positions port p - s.skipped) ≡ positions port p = (let h = holds.0 in omega (arith, h)) in
           let d : s.skipped * step_in port p + (positions port p - s.skipped) * step_in port p ≡ (s.skipped + (positions port p - s.skipped)) * step_in port p = sym (add-mul s.skipped (positions port p - s.skipped) (step_in port p)) in
           let m = ap (λ n. n * step_in port p) e in
           let w = whole 0 p refl in omega (arith, d, m, w)
 
-      sums : origin + p.info.period + time_of ps ≡ origin + time_of (p ∷ ps)
+      sums : origin + p.info.period + time_of_periods ps ≡ origin + time_of_periods (p ∷ ps)
       sums = let c = sum_by-cons (λ (r : PeriodRecord). r.info.period) p ps in omega (arith, c)
 
-      go : (qs : List PeriodRecord) (t : ℕ) (front : List Span) (x : Span) → end_of x ≡ t → ((k : ℕ) (q : PeriodRecord) → slice_get qs k ≡ Some q → positions port q * step_in port q ≡ q.info.period)
-          → t + time_of qs ≡ origin + time_of (p ∷ ps)
-          → (before : List Span) × (last : Span) × (front ++ x ∷ spans_from port t qs ≡ before ++ last ∷ []) × (end_of last ≡ origin + time_of (p ∷ ps))
-      go [] t front x at each sum = (front, x, refl, let z : t + time_of [] ≡ t = omega arith in at ∙ sym z ∙ sum)
+      go : (qs : List PeriodRecord) (t : ℕ) (front : List Span) (x : Span) → span_end x ≡ t → ((k : ℕ) (q : PeriodRecord) → slice_get qs k ≡ Some q → positions port q * step_in port q ≡ q.info.period)
+          → t + time_of_periods qs ≡ origin + time_of_periods (p ∷ ps)
+          → (before : List Span) × (last : Span) × (front ++ x ∷ spans_from port t qs ≡ before ++ last ∷ []) × (span_end last ≡ origin + time_of_periods (p ∷ ps))
+      go [] t front x at each sum = (front, x, refl, let z : t + time_of_periods [] ≡ t = omega arith in at ∙ sym z ∙ sum)
       go (q ∷ qs) t front x at each sum =
           let w = each 0 q refl in
           let c = sum_by-cons (λ (r : PeriodRecord). r.info.period) q qs in
@@ -101,12 +101,12 @@ module _ (port : PortRow) where
           (r.0, r.1, sym (append_assoc front (x ∷ []) (span_of t (step_in port q) (positions port q) ∷ spans_from port (t + q.info.period) qs)) ∙ r.2, r.3)
 
   -- a further period follows a chain of those before
-  chain_more : (b : ℕ) (front : List Span) (last next : Span) → AreChained b (front ++ last ∷ []) → next.start ≡ end_of last → 0 < next.step → AreChained b ((front ++ last ∷ []) ++ next ∷ [])
+  chain_more : (b : ℕ) (front : List Span) (last next : Span) → AreChained b (front ++ last ∷ []) → next.start ≡ span_end last → 0 < next.step → AreChained b ((front ++ last ∷ []) ++ next ∷ [])
   unfolding AreChained
   chain_more b [] last next chain at some = (chain.0, chain.1, (at, some, tt))
-  chain_more b (x ∷ xs) last next chain at some = (chain.0, chain.1, chain_more (end_of x) xs last next chain.2 at some)
+  chain_more b (x ∷ xs) last next chain at some = (chain.0, chain.1, chain_more (span_end x) xs last next chain.2 at some)
 
-  pub chain_push : (spans front : List Span) (last next : Span) → spans ≡ front ++ last ∷ [] → IsChain spans → next.start ≡ end_of last → 0 < next.step → IsChain (spans ++ next ∷ [])
+  pub chain_push : (spans front : List Span) (last next : Span) → spans ≡ front ++ last ∷ [] → IsChain spans → next.start ≡ span_end last → 0 < next.step → IsChain (spans ++ next ∷ [])
   chain_push spans front last next is chain at some =
       (chain.0, subst (λ l. AreChained chain.0 (l ++ next ∷ [])) (sym is) (chain_more chain.0 front last next (subst (AreChained chain.0) is chain.1) at some))
 
@@ -148,7 +148,7 @@ module _ (port : PortRow) where
 
       -- the end of its periods
       pub last_span : AreWithinLimits flat → (s : ColumnStart) → HoldsFirst s port (periods_of h)
-          → (front : List Span) × (last : Span) × (column_spans port s h.origin (periods_of h) ≡ front ++ last ∷ []) × (end_of last ≡ h.origin + time_of (periods_of h))
+          → (front : List Span) × (last : Span) × (column_spans port s h.origin (periods_of h) ≡ front ++ last ∷ []) × (span_end last ≡ h.origin + time_of_periods (periods_of h))
       last_span limits s holds = column_last flat (n + 1) h.begun s h.origin (periods_of h) is.records holds
           (λ k p at. (steps_of limits p (record_at flat (n + 1) h.begun (periods_of h) k p is.records at)).1)
 
@@ -186,7 +186,7 @@ module _ (port : PortRow) where
 
     -- all positions of a period that is over have their samples
     pub none_left : (h : ClusterAt) (s : ColumnStart) (time : ℕ) → HasDone model flat (n + 1) h → HoldsFirst s port (periods_of h) → is_over time h ≡ true
-        → total (column_spans port s h.origin (periods_of h)) ≤ samples_done s port h
+        → count_of_spans (column_spans port s h.origin (periods_of h)) ≤ samples_done s port h
     none_left h s time has holds over =
         let t = column_done flat (n + 1) h.begun s h.origin (periods_of h) has.records holds in
         let o = sum_by_push (outputs_in port) h.old h.now in

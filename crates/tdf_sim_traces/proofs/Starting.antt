@@ -18,7 +18,7 @@ use Rattle.tdf_sim_history.specs.World.{ClusterAt, World}
 use Rattle.tdf_sim_history.specs.History.{history}
 use Rattle.tdf_bind_invariants.specs.Limits.{AreWithinLimits}
 use Rattle.tdf_trace_rows.specs.Laws.{Agree}
-use Rattle.tdf_trace_rows.specs.Noted.{noted}
+use Rattle.tdf_trace_rows.specs.Noted.{cell_noted}
 use Rattle.tdf_trace_rows.specs.Positions.{span_of}
 use Rattle.tdf_sim_refinement.specs.At.{IsAt}
 use Rattle.tdf_sim_traces.proofs.Listing.{IsFound, found, moved}
@@ -28,15 +28,15 @@ use Rattle.tdf_sim_traces.specs.Events.{AreEventColumns, event_before, events_be
 use Rattle.tdf_sim_traces.specs.Periods.{ClockAt, begins, span_in}
 use Rattle.tdf_sim_traces.specs.Shown.{IsShownOf}
 use Rattle.tdf_sim_traces.specs.Signals.{DrivesTraced}
-use Rattle.tdf_sim_traces.specs.Variables.{traced_signal, variable_for, variable_of, variables_of}
+use Rattle.tdf_sim_traces.specs.Variables.{traced_signal, variable_for, trace_variable, variables_of}
 use Rattle.tdf_sim_traces.specs.declared.shown.Shown.{Shown}
 use Rattle.tdf_sim_traces.specs.declared.signals.TracedSignal.{TracedSignal}
 use Rattle.tdf_sim_traces.specs.machine.Beginning.{AreNext, BegunWith, IsBeginning}
 use Rattle.tdf_sim_traces.specs.machine.Giving.{GivenWith, IsGivingTo}
 use Rattle.tdf_streams.specs.Cluster.{initial_samples, driver_samples}
-use Rattle.tdf_streams.specs.Signals.{positions, step_in, time_of, outputs_in, rate_in}
+use Rattle.tdf_streams.specs.Signals.{positions, step_in, time_of_periods, outputs_in, rate_in}
 use Rattle.tdf_trace.specs.Stands.{TraceSeen, no_cells}
-use Rattle.tdf_trace.specs.Writings.{AboutSeen, first_of}
+use Rattle.tdf_trace.specs.Writings.{AboutSeen, first_value}
 use Rattle.tdf_trace.specs.declared.about.Variable.{Variable}
 use Rattle.tdf_sim_refinement.proofs.Api.{starts_have_samples}
 use Rattle.tdf_sim_refinement.specs.Samples.{AreSamplesOf}
@@ -94,9 +94,9 @@ module _ (model : PureTree) (flat : Flat) (firsts : List First) (turns : ℕ) (l
   column_at column row at = get_or_from_slice_get (map (text_column flat.tables) flat.tables.traces) column (text_column flat.tables row) no_start
       (slice_get-map (text_column flat.tables) flat.tables.traces column ∙ ap (option_map (text_column flat.tables)) at)
 
-  first_row : (column : ℕ) (row : TraceRow) → slice_get flat.tables.traces column ≡ Some row → first_of (variables_of flat.tables) column ≡ (start_of start.shown column).carry
+  first_row : (column : ℕ) (row : TraceRow) → slice_get flat.tables.traces column ≡ Some row → first_value (variables_of flat.tables) column ≡ (start_of start.shown column).carry
   first_row column row at =
-      let v = given_at (variable_of flat.tables) flat.tables.traces column row long at in
+      let v = given_at (trace_variable flat.tables) flat.tables.traces column row long at in
       get_or_from_slice_get (map (λ (x : Variable). x.first) (variables_of flat.tables)) column v.0.first None (slice_get-map (λ (x : Variable). x.first) (variables_of flat.tables) column ∙ ap (option_map (λ (x : Variable). x.first)) v.2)
       ∙ by_signal (traced_signal flat.tables row) refl v.0 v.1 ∙ sym (ap (λ (c : ColumnStart). c.carry) (column_at column row at))
     where
@@ -110,7 +110,7 @@ module _ (model : PureTree) (flat : Flat) (firsts : List First) (turns : ℕ) (l
 
   -- a new trace stands for no cells
   pub none_agree : (below : ℕ) → Agree (no_cells (variables_of flat.tables)) (events_before model flat start 0) below
-  unfolding noted
+  unfolding cell_noted
   none_agree below = record {
     columns = long;
     first = λ column inside. (let r = get_inside flat.tables.traces column (omega (arith, inside, long)) in first_row column r.0 r.1);
@@ -142,7 +142,7 @@ module _ (flat : Flat) (clock : ClockAt) (old : Shown) (t1 t2 : TrackingOf) (r1 
       after_old = (
           let e : h.since ≡ 0 = ap (λ (x : ClusterAt). x.since) f.1 in
           let o : h.origin ≡ 0 = ap (λ (x : ClusterAt). x.origin) f.1 in
-          let t : time_of h.old ≡ 0 = ap (λ (x : ClusterAt). time_of x.old) f.1 in omega (arith, e, o, t));
+          let t : time_of_periods h.old ≡ 0 = ap (λ (x : ClusterAt). time_of_periods x.old) f.1 in omega (arith, e, o, t));
     });
     width = gave.width ∙ began.width ∙ un.tracking.width;
     columns = ap (λ (a : AboutSeen). length a.variables) (gave.about ∙ began.about ∙ un.trace.about) ∙ un.columns;

@@ -32,7 +32,7 @@ use Rattle.tdf_sim_traces.specs.declared.shown.Shown.{Shown}
 use Rattle.tdf_sim_traces.specs.declared.signals.TracedSignal.{TracedSignal}
 use Rattle.tdf_sim_traces.specs.machine.Beginning.{AreNext, BeginsAmong, BegunWith, First, HasBegun, IsBeginning, Later}
 use Rattle.tdf_sim_traces.specs.machine.Noting.{HaveShown, IsShowing, with_changes}
-use Rattle.tdf_streams.specs.Signals.{positions, step_in, time_of}
+use Rattle.tdf_streams.specs.Signals.{positions, step_in, time_of_periods}
 use Rattle.tdf_trace.specs.Stands.{TraceSeen}
 use Rattle.tdf_trace.specs.Writings.{AboutSeen}
 use Rattle.tdf_sim_refinement.specs.Samples.{AreSamplesOf}
@@ -83,14 +83,14 @@ module _ (model : PureTree) (flat : Flat) (clock : ClockAt) (start w v : World S
               let o = over_time x.0 clock.time over in
               let a = (shown.begun n x.0 x.1).after_old in
               let p = times_push x.0.old x.0.now in
-              let e : time_of g.old ≡ time_of (periods_of x.0) = ap time_of old in
+              let e : time_of_periods g.old ≡ time_of_periods (periods_of x.0) = ap time_of_periods old in
               omega (arith, origin, since, o, a, p, e));
         }
         | Stayed over origin since old now ↦ record {
           early = (let e = early n x.0 g x.1 since in omega (arith, e));
           after_old = (
               let a = (shown.begun n x.0 x.1).after_old in
-              let e : time_of g.old ≡ time_of x.0.old = ap time_of old in omega (arith, origin, since, a, e));
+              let e : time_of_periods g.old ≡ time_of_periods x.0.old = ap time_of_periods old in omega (arith, origin, since, a, e));
         }
       ]
 
@@ -111,8 +111,8 @@ module _ (model : PureTree) (flat : Flat) (clock : ClockAt) (start w v : World S
 
     pub began_spans : g.origin ≡ h.origin → g.since ≡ clock.time → g.old ≡ periods_of h → shown.spans port.signal ++ span_in flat.tables clock.time c t ∷ [] ≡ column_spans port was.start g.origin (periods_of g)
     began_spans origin since old =
-        let a : g.since ≡ g.origin + time_of g.old = (begun_before n g after).after_old in
-        let e : clock.time ≡ g.origin + time_of g.old = omega (arith, a, since) in
+        let a : g.since ≡ g.origin + time_of_periods g.old = (begun_before n g after).after_old in
+        let e : clock.time ≡ g.origin + time_of_periods g.old = omega (arith, a, since) in
         ap (λ l. l ++ span_in flat.tables clock.time c t ∷ []) (was_spans ∙ ap (λ o. column_spans port was.start o (periods_of h)) (sym origin) ∙ ap (column_spans port was.start g.origin) (sym old))
         ∙ ap (λ p. column_spans port was.start g.origin g.old ++ p ∷ []) (span_is port model flat n number drives g c t is port_is module_is clock.time ∙ ap (λ k. span_of k (step_in port g.now) (positions port g.now)) e)
         ∙ sym (column_push port was.start g.origin g.old g.now (some_old old))
@@ -128,8 +128,8 @@ module _ (model : PureTree) (flat : Flat) (clock : ClockAt) (start w v : World S
         let records : AreRecordsOf flat (n + 1) g.begun (periods_of h) = records_front flat (n + 1) g.begun (periods_of h) g.now (some_periods h.old h.now) (subst (λ l. AreRecordsOf flat (n + 1) g.begun (l ++ g.now ∷ [])) old is.records) in
         let e = column_last port flat (n + 1) g.begun was.start h.origin (periods_of h) records first
         (λ k p at. (steps_of port model flat n number drives limits p (record_at flat (n + 1) g.begun (periods_of h) k p records at)).1) in
-        let a : g.since ≡ g.origin + time_of g.old = (begun_before n g after).after_old in
-        let o : time_of g.old ≡ time_of (periods_of h) = ap time_of old in
+        let a : g.since ≡ g.origin + time_of_periods g.old = (begun_before n g after).after_old in
+        let o : time_of_periods g.old ≡ time_of_periods (periods_of h) = ap time_of_periods old in
         let x = span_is port model flat n number drives g c t is port_is module_is clock.time in
         let st : (span_in flat.tables clock.time c t).start ≡ clock.time = ap (λ (p : Span). p.start) x in
         let sp : (span_in flat.tables clock.time c t).step ≡ step_in port g.now = ap (λ (p : Span). p.step) x in

@@ -8,7 +8,7 @@ use Rattle.tdf_bind.specs.declared.model.Flat.{Flat}
 use Rattle.tdf_sim_history.specs.Instant.{is_over, periods_of}
 use Rattle.tdf_sim_history.specs.Columns.{ColumnStart}
 use Rattle.tdf_sim_history.specs.World.{ClusterAt, World}
-use Rattle.tdf_sim_refinement.specs.Samples.{AreSamplesOf, IsTracedPort, samples_of}
+use Rattle.tdf_sim_refinement.specs.Samples.{AreSamplesOf, IsTracedPort, signal_samples}
 use Rattle.tdf_lang_tree.specs.Pure.{PureTree}
 use Rattle.tdf_bind_connections.specs.declared.modules.PortRow.{PortRow}
 
@@ -30,4 +30,4 @@ pub record HasAdvanced (model : PureTree) (flat : Flat) (time : ℕ) (w v : Worl
       → (had : List Raw) → slice_get w.clusters n ≡ Some h → slice_get v.clusters n ≡ Some g
       → IsTracedPort flat (n + 1) number port
       → AreSamplesOf model flat (n + 1) number port s h had
-      → AreSamplesOf model flat (n + 1) number port s g (had ++ samples_of port.signal traced)
+      → AreSamplesOf model flat (n + 1) number port s g (had ++ signal_samples port.signal traced)

@@ -18,7 +18,7 @@ use Rattle.tdf_sim_traces.specs.Events.{AreEventColumns, events_before, values_b
 use Rattle.tdf_sim_traces.specs.Signals.{AreTracedSignals, DrivesTraced}
 use Rattle.tdf_sim_traces.specs.declared.shown.Shown.{Shown}
 use Rattle.tdf_sim_traces.specs.declared.signals.TracedSignal.{TracedSignal}
-use Rattle.tdf_streams.specs.Signals.{time_of}
+use Rattle.tdf_streams.specs.Signals.{time_of_periods}
 use Rattle.tdf_sim_refinement.specs.Samples.{AreSamplesOf}
 use Rattle.tdf_lang_tree.specs.Pure.{PureTree}
 use Rattle.tdf_bind_connections.specs.declared.modules.PortRow.{PortRow}
@@ -47,7 +47,7 @@ pub record IsShownOf (model : PureTree) (flat : Flat) (shown : List ColumnStart)
 -- the period of a cluster began before a time or at the start, when those before it were over
 pub record HasBegunBefore (from : ℕ) (h : ClusterAt) : Type 0 where
   pub early : h.since ≤ from - 1
-  pub after_old : h.since ≡ h.origin + time_of h.old
+  pub after_old : h.since ≡ h.origin + time_of_periods h.old
 
 -- after all instants before a time the trace holds what the run has given to its columns
 pub record IsShown (model : PureTree) (flat : Flat) (start : World SideOf) (from : ℕ)

@@ -18,9 +18,9 @@ abbrev pub traced_signal : FlatTablesOf → TraceRow → Option SignalRow
 traced_signal tables row = if row.event then slice_get tables.de_signals row.signal
     else slice_get tables.signals row.signal
 
-abbrev pub variable_of : FlatTablesOf → TraceRow → Option Variable
-variable_of tables row = option_map (variable_for row) (traced_signal tables row)
+abbrev pub trace_variable : FlatTablesOf → TraceRow → Option Variable
+trace_variable tables row = option_map (variable_for row) (traced_signal tables row)
 
 -- one for each trace
 abbrev pub variables_of : FlatTablesOf → List Variable
-variables_of tables = filter_map (variable_of tables) tables.traces
+variables_of tables = filter_map (trace_variable tables) tables.traces

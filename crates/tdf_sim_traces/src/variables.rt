@@ -2,7 +2,7 @@
 
 ghost use Rattle.std.specs.Prelude.{◌≡◌, ◌<◌, Some, false, true, length, IfOk};
 ghost use Rattle.tdf_sim_traces.specs.Signals.{AreTold};
-ghost use Rattle.tdf_sim_traces.specs.Variables.{variable_for, variable_of, variables_of};
+ghost use Rattle.tdf_sim_traces.specs.Variables.{variable_for, trace_variable, variables_of};
 
 use std::alloc::Global;
 use tdf_base::{Memory, Name};
@@ -27,7 +27,7 @@ fn variable(alloc: Global, row: &TraceRow, signal: &SignalRow) -> Result<Variabl
 fn variable_at(alloc: Global, tables: &FlatTables, row: &TraceRow) -> Result<Variable, Memory>
     requires samples { row.now.event ≡ false → row.now.signal < length tables.now.signals }
     requires events { row.now.event ≡ true → row.now.signal < length tables.now.de_signals }
-    ensures { IfOk result (λ variable. variable_of tables.now row.now ≡ Some variable) }
+    ensures { IfOk result (λ variable. trace_variable tables.now row.now ≡ Some variable) }
 {
     let place = row.signal as usize;
     if row.event {

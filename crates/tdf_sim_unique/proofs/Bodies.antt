@@ -8,13 +8,13 @@ use Rattle.tdf_expr.specs.Blocks.{blocks_of}
 use Rattle.tdf_expr.specs.declared.bodies.Body.{Body}
 use Rattle.tdf_expr.specs.declared.bodies.Body.TheVariants as body
 use Rattle.tdf_expr.specs.declared.checked.Checked.{Checked}
-use Rattle.tdf_exec_firing.specs.Activation.{ports_before, sample_at}
+use Rattle.tdf_exec_firing.specs.Activation.{ports_before, assigned_sample}
 use Rattle.tdf_fixed.specs.declared.raw.Raw.{Raw}
 use Rattle.tdf_bind.specs.declared.model.Flat.{Flat}
 use Rattle.tdf_graph.specs.declared.actors.Actor.{Actor}
 use Rattle.tdf_graph.specs.declared.actors.Actor.TheVariants as actor
 use Rattle.tdf_expr_state.specs.State.{State, state_of}
-use Rattle.tdf_streams.specs.Bodies.{acted, activation, after_part, changed, done_by, initialized, nothing_read, rates_of, reinitialized, written_by}
+use Rattle.tdf_streams.specs.Bodies.{module_acted, activation, after_part, changed, done_by, initialized, nothing_read, module_rates, reinitialized, written_by}
 use Rattle.tdf_streams.specs.Cluster.{Start, cluster_net, text_start}
 use Rattle.tdf_streams.specs.Periods.{PeriodInfo, PeriodRecord}
 use Rattle.tdf_streams.specs.Places.{actor_kind, block_at, has_changes, place_of_port, read_through}
@@ -35,26 +35,26 @@ module _ (model : PureTree) (a : Flat) (y : Checked) (same : AreSame a.checked y
   written_same : (m : ℕ) (done : State) → written_by a m done ≡ written_by (with_bodies a y) m done
   written_same m done = λ i. record {
     state = done.frame.cells;
-    outputs = λ port k. sample_at (same.spans (block_at a.tables.modules m) i) done.ports.samples (place_of_port a.tables.ports port) k;
+    outputs = λ port k. assigned_sample (same.spans (block_at a.tables.modules m) i) done.ports.samples (place_of_port a.tables.ports port) k;
   }
 
   activation_same : (m : ℕ) (info : PeriodInfo) (cells : List ℤ) (inputs : List (List Raw)) → activation model a m info cells inputs ≡ activation model (with_bodies a y) m info cells inputs
   activation_same m info cells inputs =
       let read : ℕ → List Raw = read_through a.tables.ports m a.tables.edges inputs in
-      ap (written_by a m) (done_same m body.Processing cells (rates_of info m) read)
-      ∙ written_same m (done_by model (with_bodies a y) m body.Processing cells (rates_of info m) read)
+      ap (written_by a m) (done_same m body.Processing cells (module_rates info m) read)
+      ∙ written_same m (done_by model (with_bodies a y) m body.Processing cells (module_rates info m) read)
 
-  acted_same : (m : ℕ) (kind : Option Actor) (info : PeriodInfo) (cells : List ℤ) (inputs : List (List Raw)) → acted model a m kind info cells inputs ≡ acted model (with_bodies a y) m kind info cells inputs
+  acted_same : (m : ℕ) (kind : Option Actor) (info : PeriodInfo) (cells : List ℤ) (inputs : List (List Raw)) → module_acted model a m kind info cells inputs ≡ module_acted model (with_bodies a y) m kind info cells inputs
   acted_same m (Some actor.Module) info cells inputs = activation_same m info cells inputs
   acted_same m _ info cells inputs = refl
 
   changed_same : (m : ℕ) (periods : List PeriodRecord) (cells : List ℤ) → changed model a m periods cells ≡ changed model (with_bodies a y) m periods cells
   changed_same m [] cells = refl
-  changed_same m (p ∷ []) cells = ap (λ (s : State). if has_changes a.tables.modules m then s.frame.cells else cells) (done_same m body.Change cells (rates_of p.info m) nothing_read)
+  changed_same m (p ∷ []) cells = ap (λ (s : State). if has_changes a.tables.modules m then s.frame.cells else cells) (done_same m body.Change cells (module_rates p.info m) nothing_read)
   changed_same m (p ∷ (q ∷ ps)) cells = changed_same m (q ∷ ps) cells
 
   reinitialized_same : (m : ℕ) (info : PeriodInfo) (cells : List ℤ) → reinitialized model a m info cells ≡ reinitialized model (with_bodies a y) m info cells
-  reinitialized_same m info cells = ap (λ (s : State). if info.is_new then s.frame.cells else cells) (done_same m body.Reinitialize cells (rates_of info m) nothing_read)
+  reinitialized_same m info cells = ap (λ (s : State). if info.is_new then s.frame.cells else cells) (done_same m body.Reinitialize cells (module_rates info m) nothing_read)
 
   initialized_same : (m : ℕ) (rates : List ℕ) → initialized model a m rates ≡ initialized model (with_bodies a y) m rates
   initialized_same m rates = λ i. (done_same m body.Initialize (same.cells (block_at a.tables.modules m) i) rates nothing_read i).frame.cells

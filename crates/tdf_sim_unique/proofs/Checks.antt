@@ -6,8 +6,8 @@ use native.Mathlib.Bridge.{le_prop}
 use Rattle.tdf_expr.specs.Blocks.{PureBlock, blocks_of, scope_of}
 use Rattle.tdf_expr.specs.Checked.{IsCheckedOf}
 use Rattle.tdf_expr.specs.Compiled.{AreBlocksOf, IsBlockOf}
-use Rattle.tdf_expr.specs.Made.{event_count, events_in, port_spans_of, rates_in, spans_in, start_cells, start_rates, starts_in}
-use Rattle.tdf_expr.specs.Plans.{PortPlace, place_of_port, shape_of_format}
+use Rattle.tdf_expr.specs.Made.{event_count, events_in, port_spans_of, block_rates, spans_in, start_cells, start_rates, starts_in}
+use Rattle.tdf_expr.specs.Plans.{PortPlace, place_of_span, shape_of_format}
 use Rattle.tdf_expr.specs.declared.blocks.Block.{Block}
 use Rattle.tdf_expr.specs.declared.checked.Checked.{Checked}
 use Rattle.tdf_expr.specs.declared.spans.PortSpan.{PortSpan}
@@ -36,7 +36,7 @@ same_format f g e = λ i. record {
   fraction_bits = is_prop→PathP (λ j. (e j).wl - (e j).iwl ≤ 63) (λ j. le_prop) f.fraction_bits g.fraction_bits i;
 }
 
-same_span : (p q : PortSpan) → place_of_port p ≡ place_of_port q → p ≡ q
+same_span : (p q : PortSpan) → place_of_span p ≡ place_of_span q → p ≡ q
 same_span p q e =
     let format : p.format ≡ q.format = same_format p.format q.format (same_Some (shape_of_format p.format) (shape_of_format q.format) (ap (λ (at : PortPlace). at.shape) e)) in
     λ i. record { word = (e i).word; format = format i; first = (e i).first; count = (e i).count }
@@ -54,11 +54,11 @@ abbrev pub IsFull : {A : Type 0} → List A → Type 0
 IsFull [] = ⊥
 IsFull (x ∷ xs) = Unit {0}
 
-same_spans : (ps qs : List PortSpan) → map place_of_port ps ≡ map place_of_port qs → ps ≡ qs
+same_spans : (ps qs : List PortSpan) → map place_of_span ps ≡ map place_of_span qs → ps ≡ qs
 same_spans [] [] e = refl
 same_spans [] (q ∷ qs) e = absurd (subst IsFull (sym e) tt)
 same_spans (p ∷ ps) [] e = absurd (subst IsFull e tt)
-same_spans (p ∷ ps) (q ∷ qs) e = λ i. same_span p q (ap (head_or (place_of_port p)) e) i ∷ same_spans ps qs (ap tail_of e) i
+same_spans (p ∷ ps) (q ∷ qs) e = λ i. same_span p q (ap (head_or (place_of_span p)) e) i ∷ same_spans ps qs (ap tail_of e) i
 
 -- what two blocks of one text have in common, the blocks of each number of two lists have
 module _ {A : Type 0} (part : Option Block → A) (one : (globals : Names) (p : PureBlock) (b c : Block) → IsBlockOf (scope_of globals p) p b → IsBlockOf (scope_of globals p) p c → part (Some b) ≡ part (Some c)) where
@@ -79,5 +79,5 @@ are_same model x y h k = record {
   spans = in_checked spans_in (λ globals p b c u v. same_spans b.ports.spans.items c.ports.spans.items (u.spans ∙ sym v.spans)) model x y h k;
   events = in_checked events_in (λ globals p b c u v. u.events ∙ sym v.events) model x y h k;
   cells = in_checked starts_in (λ globals p b c u v. u.starts ∙ sym v.starts) model x y h k;
-  rates = λ n. ap (map (λ r. r.start)) (in_checked rates_in (λ globals p b c u v. u.rates ∙ sym v.rates) model x y h k n);
+  rates = λ n. ap (map (λ r. r.start)) (in_checked block_rates (λ globals p b c u v. u.rates ∙ sym v.rates) model x y h k n);
 }

@@ -5,8 +5,8 @@ use Rattle.tdf_sim_unique.proofs.Bodies.{with_bodies}
 use Rattle.tdf_sim_unique.proofs.Checks.{AreSame}
 use Rattle.tdf_events_queue.specs.Evaluation.{evaluated}
 use Rattle.tdf_convert.specs.declared.writes.SignalWrite.{SignalWrite}
-use Rattle.tdf_events.specs.Delta.{after_update, begun, event_part, is_idle, settled_by, stepped, turns_of}
-use Rattle.tdf_events.specs.Processes.{after_process, frame_at, owner_of, ports_before, process_done, ran, run_of, side_after, written_first}
+use Rattle.tdf_events.specs.Delta.{after_update, begun, event_part, is_idle, settled_by, delta_stepped, turns_of}
+use Rattle.tdf_events.specs.Processes.{after_process, frame_at, owner_of, process_ports_before, process_done, ran, run_of, side_after, written_first}
 use Rattle.tdf_events.specs.Side.{SideOf, start_side}
 use Rattle.tdf_expr.specs.Blocks.{blocks_of}
 use Rattle.tdf_expr.specs.declared.checked.Checked.{Checked}
@@ -22,7 +22,7 @@ module _ (model : PureTree) (a : Flat) (y : Checked) (same : AreSame a.checked y
   process_same : (process : ProcessRowOf) (row : BlockRowOf) (values : List Raw) (frame : FrameState) → process_done model a process row values frame ≡ process_done model (with_bodies a y) process row values frame
   unfolding process_done
   process_same process row values frame = λ i. after_process model (slice_get (blocks_of model.globals) row.block) process.number
-      (state_of frame (ports_before values row.signals (same.spans row.block i) (same.events row.block i)))
+      (state_of frame (process_ports_before values row.signals (same.spans row.block i) (same.events row.block i)))
 
   side_same : (time : ℕ) (process : ProcessRowOf) (row : BlockRowOf) (done : State) (s : SideOf) → side_after a time process row done s ≡ side_after (with_bodies a y) time process row done s
   side_same time process row done s = λ i. record (side_after a time process row done s) {
@@ -39,8 +39,8 @@ module _ (model : PureTree) (a : Flat) (y : Checked) (same : AreSame a.checked y
   unfolding ran
   ran_same time n s = run_same time (slice_get a.tables.processes n) (slice_get a.tables.blocks (owner_of (slice_get a.tables.processes n))) s
 
-  stepped_same : (time : ℕ) (s : SideOf) → stepped model a time s ≡ stepped model (with_bodies a y) time s
-  unfolding stepped
+  stepped_same : (time : ℕ) (s : SideOf) → delta_stepped model a time s ≡ delta_stepped model (with_bodies a y) time s
+  unfolding delta_stepped
   stepped_same time s = λ i. after_update a (evaluated (λ n x. ran_same time n x i) s.triggered (length s.triggered) s)
 
   settled_same : (fuel time : ℕ) (s : SideOf) (left : ℕ) → settled_by fuel model a time s left ≡ settled_by fuel model (with_bodies a y) time s left

@@ -11,7 +11,7 @@ use Rattle.tdf_expr.specs.declared.checked.Checked.{Checked}
 use Rattle.tdf_bind.specs.declared.model.Flat.{Flat}
 use Rattle.tdf_sim_history.specs.Start.{counts_in, first_cluster, first_clusters}
 use Rattle.tdf_sim_history.specs.World.{Change, ClusterAt}
-use Rattle.tdf_dynamic_texts.specs.Plans.{PlanRows, rows_of}
+use Rattle.tdf_dynamic_texts.specs.Plans.{PlanRows, rows_of_plan}
 use Rattle.tdf_streams.specs.Cluster.{text_start}
 use Rattle.tdf_streams.specs.Periods.{period_record}
 use Rattle.tdf_lang_tree.specs.Pure.{PureTree}
@@ -37,14 +37,14 @@ module _ (model : PureTree) (a : Flat) (ahead : List (List Change)) where
   abbrev clusters_from : ℕ → List First → List ClusterAt
   clusters_from k firsts = map (λ first. first_cluster model a (first.0 + 1) first.1 (slice_index_or ahead first.0 [])) (enumerate_from k firsts)
 
-  same_firsts : (k : ℕ) (firsts others : List First) → map (λ f. f.attrs) firsts ≡ map (λ f. f.attrs) others → map (λ f. rows_of f.plan) firsts ≡ map (λ f. rows_of f.plan) others
+  same_firsts : (k : ℕ) (firsts others : List First) → map (λ f. f.attrs) firsts ≡ map (λ f. f.attrs) others → map (λ f. rows_of_plan f.plan) firsts ≡ map (λ f. rows_of_plan f.plan) others
       → clusters_from k firsts ≡ clusters_from k others
   same_firsts k [] [] attrs plans = refl
   same_firsts k [] (g ∷ others) attrs plans = absurd (subst IsFull (sym attrs) tt)
   same_firsts k (f ∷ firsts) [] attrs plans = absurd (subst IsFull attrs tt)
   same_firsts k (f ∷ firsts) (g ∷ others) attrs plans =
       let ats : f.attrs ≡ g.attrs = ap (head_or f.attrs) attrs in
-      let rows : rows_of f.plan ≡ rows_of g.plan = ap (head_or (rows_of f.plan)) plans in
+      let rows : rows_of_plan f.plan ≡ rows_of_plan g.plan = ap (head_or (rows_of_plan f.plan)) plans in
       λ i. cluster_by (k + 1) (ats i) (rows i) (slice_index_or ahead k []) ∷ same_firsts (k + 1) firsts others (ap tail_of attrs) (ap tail_of plans) i
 
 module _ (model : PureTree) (a : Flat) (y : Checked) (same : AreSame a.checked y) (ahead : List (List Change)) where
@@ -53,7 +53,7 @@ module _ (model : PureTree) (a : Flat) (y : Checked) (same : AreSame a.checked y
     begun = start_same model a y same (first.0 + 1) first.1.attrs i;
   }) (enumerate_from 0 firsts)
 
-  pub world_same : (firsts others : List First) (turns : ℕ) → map (λ f. f.attrs) firsts ≡ map (λ f. f.attrs) others → map (λ f. rows_of f.plan) firsts ≡ map (λ f. rows_of f.plan) others
+  pub world_same : (firsts others : List First) (turns : ℕ) → map (λ f. f.attrs) firsts ≡ map (λ f. f.attrs) others → map (λ f. rows_of_plan f.plan) firsts ≡ map (λ f. rows_of_plan f.plan) others
       → start_world model a firsts ahead turns ≡ start_world model (with_bodies a y) others ahead turns
   world_same firsts others turns attrs plans = λ i. record (start_world model a firsts ahead turns) {
     clusters = (clusters_same firsts ∙ same_firsts model (with_bodies a y) ahead 0 firsts others attrs plans) i;

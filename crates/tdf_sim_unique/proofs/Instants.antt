@@ -11,7 +11,7 @@ use Rattle.tdf_streams.specs.Grounds.{firings}
 use Rattle.tdf_streams.specs.Streams.{known, place}
 use Rattle.tdf_graph.specs.declared.actors.Actor.{Actor}
 use Rattle.tdf_graph.specs.declared.actors.Actor.TheVariants as actor
-use Rattle.tdf_sim_history.specs.Instant.{activations, actor_of_entry, at_begin, boundary, edge_from, engine, events_of, fired, fired_as, firing_of, instant, is_due, is_entry_due, next_entry, periods_of, plan_length, run_in, sample_taken, signal_of, stepped, with_cluster}
+use Rattle.tdf_sim_history.specs.Instant.{activations, actor_of_entry, at_begin, boundary, edge_read_from, engine, events_of, fired, fired_as, firing_of, instant, is_due, is_entry_due, next_entry, periods_of, plan_length, run_in, sample_taken, signal_of, stepped, with_cluster}
 use Rattle.tdf_sim_history.specs.World.{ClusterAt, Rules, World}
 use Rattle.tdf_sim_history.specs.History.{Going, Past, and_then, history, turns_to}
 use Rattle.tdf_streams.specs.Cluster.{zero_sample}
@@ -21,7 +21,7 @@ module _ (model : PureTree) (a : Flat) (y : Checked) (same : AreSame a.checked y
   taken_same : (cluster : ℕ) (c : ClusterAt) (m : ℕ) → sample_taken model a cluster c m ≡ sample_taken model (with_bodies a y) cluster c m
   taken_same cluster c m = λ i. unwrap_or (place (net_same model a y same cluster c.begun i) (periods_of c)
       (known (net_same model a y same cluster c.begun i) (run_in c) (firings (periods_of c)))
-      (edge_from a.tables m 0 (length a.tables.edges)) (activations c m)) zero_sample
+      (edge_read_from a.tables m 0 (length a.tables.edges)) (activations c m)) zero_sample
 
   module _ {K : Type 0} (rules : Rules K) where
     fired_as_same : (n m : ℕ) (kind : Actor) (c : ClusterAt) (w : World K) → fired_as model a rules n m kind c w ≡ fired_as model (with_bodies a y) rules n m kind c w

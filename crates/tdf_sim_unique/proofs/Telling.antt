@@ -11,7 +11,7 @@ use Rattle.tdf_sim_history.specs.Instant.{RunFault, engine}
 use Rattle.tdf_sim_history.specs.Start.{first_cluster}
 use Rattle.tdf_sim_history.specs.Telling.{state_as, untold, world_untold}
 use Rattle.tdf_sim_history.specs.World.{Change, ClusterAt, World}
-use Rattle.tdf_sim_history.specs.History.{On, Spent, State, Stopped, history}
+use Rattle.tdf_sim_history.specs.History.{On, Spent, HistoryState, Stopped, history}
 use Rattle.tdf_bind_invariants.specs.Limits.{AreWithinLimits}
 use Rattle.tdf_lang_tree.specs.Kept.{IsKept}
 use Rattle.tdf_lang_tree.specs.Pure.{PureTree}
@@ -21,7 +21,7 @@ use Rattle.tdf_sim_history.proofs.Api.{answers_agree, first_attributes, notes_sa
 use Rattle.tdf_dynamic.specs.Laws.{BoundariesHaveOne}
 
 -- how a history ended, whatever is told of the boundaries to come
-ended_bare : (stop turns : ℕ) (x : State (World SideOf) RunFault) → end_of stop turns (state_as world_untold x) ≡ end_of stop turns x
+ended_bare : (stop turns : ℕ) (x : HistoryState (World SideOf) RunFault) → end_of stop turns (state_as world_untold x) ≡ end_of stop turns x
 ended_bare stop turns (On w) = refl
 ended_bare stop turns (Stopped time fault w) = refl
 ended_bare stop turns (Spent time w) = refl

@@ -11,7 +11,7 @@ use Rattle.tdf_bind.specs.declared.model.Flat.{Flat}
 use Rattle.tdf_sim_history.specs.Texts.{run_trace}
 use Rattle.tdf_sim_history.specs.World.{Change}
 use Rattle.tdf_bind_invariants.specs.Limits.{AreWithinLimits}
-use Rattle.tdf_dynamic_texts.specs.Plans.{rows_of}
+use Rattle.tdf_dynamic_texts.specs.Plans.{rows_of_plan}
 use Rattle.tdf_sim_notes.specs.Ending.{HaveAnswers, run_end, run_note}
 use Rattle.tdf_trace_rows.specs.Rows.{Writing}
 use Rattle.tdf_lang_tree.specs.Kept.{IsKept}
@@ -19,17 +19,18 @@ use Rattle.tdf_lang_tree.specs.Pure.{PureTree}
 use Rattle.tdf_sim_history.specs.Rules.{rules_of, start_world}
 
 -- two flat models of one model, each with the first plans of its clusters, which say the same
-pub record AreAlike (model : PureTree) (a b : Flat) (firsts others : List First) : Type 0 where
+pub record AreModelsAlike (model : PureTree) (a b : Flat) (firsts others : List First)
+    : Type 0 where
   pub one : IsFlatOf model a
   pub other : IsFlatOf model b
   pub tables : a.tables ≡ b.tables
   pub unit : a.resolution ≡ b.resolution
   pub attrs : map (λ f. f.attrs) firsts ≡ map (λ f. f.attrs) others
-  pub plans : map (λ f. rows_of f.plan) firsts ≡ map (λ f. rows_of f.plan) others
+  pub plans : map (λ f. rows_of_plan f.plan) firsts ≡ map (λ f. rows_of_plan f.plan) others
 
 -- a run by either writes the same trace, written in some way, and the same notes, and ends alike,
 -- where both are told the same of their boundaries; the answers of one are answers of the other
-pub record WriteTheSame (model : PureTree) (a b : Flat) (firsts others : List First)
+pub record ModelsWriteTheSame (model : PureTree) (a b : Flat) (firsts others : List First)
     (ahead : List (List Change)) (writing : Writing) (stop turns : ℕ) : Type 0 where
   pub trace : run_trace writing model a (rules_of model a)
       (start_world model a firsts ahead turns) stop
@@ -41,9 +42,9 @@ pub record WriteTheSame (model : PureTree) (a b : Flat) (firsts others : List Fi
 
 abbrev pub RunsWriteTheSame : Type 0
 RunsWriteTheSame = (model : PureTree) (a b : Flat) (firsts others : List First)
-    → AreAlike model a b firsts others
+    → AreModelsAlike model a b firsts others
     → (ahead : List (List Change)) (writing : Writing) (stop turns : ℕ)
-    → WriteTheSame model a b firsts others ahead writing stop turns
+    → ModelsWriteTheSame model a b firsts others ahead writing stop turns
 
 -- plans are the first ones of clusters that the model has, cluster by cluster from number 1 on
 pub record AreFirstPlans (flat : Flat) (firsts : List First) : Type 0 where

@@ -24,11 +24,11 @@ use Rattle.tdf_streams.specs.Cluster.{cluster_net, driver_samples, initial_list,
 use Rattle.tdf_streams.specs.Laws.{ClusterNet}
 use Rattle.tdf_streams.specs.Places.{driver_or, source_at, source_of_row, writer_at, writer_of_row}
 use Rattle.tdf_dynamic_plans.specs.Attributes.{AttrsOf, clusters_of}
-use Rattle.tdf_dynamic_plans.specs.Rates.{edge_kind, kind_of, net_ports, rated_port, write_rate_by}
+use Rattle.tdf_dynamic_plans.specs.Rates.{edge_kind, kind_of_port, net_ports, rated_port, write_rate_by}
 use Rattle.tdf_bind.specs.Flat.{IsFlatOf}
 use Rattle.tdf_bind.specs.declared.model.Flat.{Flat}
 use Rattle.tdf_bind_invariants.specs.Limits.{AreWithinLimits}
-use Rattle.tdf_timestep.specs.Period.{rate_at, rate_of}
+use Rattle.tdf_timestep.specs.Period.{port_rate_or_one, rate_at_port}
 use Rattle.tdf_lang_tree.specs.Pure.{PureTree}
 use Rattle.tdf_lang_tree.specs.declared.blocks.PortKind.{PortKind}
 use Rattle.tdf_lang_tree.specs.declared.blocks.PortKind.TheVariants.{In, Out, DeIn, DeOut}
@@ -183,9 +183,9 @@ module _ (model : PureTree) (flat : Flat) (cluster : ℕ) (table : List AttrsOf)
     unfolding net_ports
     writes_are p one =
         here.writes ∙ ap (λ (x : EdgeRow). write_rate_by (net_ports flat.tables p.info.table) x (edge_kind flat.tables.ports x)) (some_same here.edge edge (sym here.at ∙ at))
-        ∙ ap (write_rate_by (net_ports flat.tables p.info.table) edge) (ap kind_of reader ∙ ap Some facts.0)
-        ∙ ap (rate_of (net_ports flat.tables p.info.table)) driven.driven
-        ∙ ap rate_at (slice_get-map (rated_port p.info.table) flat.tables.ports out ∙ ap (option_map (rated_port p.info.table)) driven.writer)
+        ∙ ap (write_rate_by (net_ports flat.tables p.info.table) edge) (ap kind_of_port reader ∙ ap Some facts.0)
+        ∙ ap (rate_at_port (net_ports flat.tables p.info.table)) driven.driven
+        ∙ ap port_rate_or_one (slice_get-map (rated_port p.info.table) flat.tables.ports out ∙ ap (option_map (rated_port p.info.table)) driven.writer)
       where
         here : EdgeIn flat limits cluster p one e
         here = edge_in flat limits cluster p one e (slice_get_within flat.tables.edges e edge at)

@@ -22,8 +22,8 @@ use Rattle.tdf_streams.proofs.Edges.{are_rates, is_wired}
 use Rattle.tdf_streams.proofs.Rows.{all_at, at_contains}
 use Rattle.tdf_streams.specs.Laws.{IsClusterPort, StepsAreWhole, TimesLieInside, TimesRise}
 use Rattle.tdf_streams.specs.Periods.{IsTimedRecord, PeriodInfo, PeriodRecord, net_in}
-use Rattle.tdf_streams.specs.Signals.{position_time, positions, rate_in, step_in, time_at_spot, time_of}
-use Rattle.tdf_timestep.specs.Period.{IsAssigned, rate_at, rate_of, share_of}
+use Rattle.tdf_streams.specs.Signals.{position_time, positions, rate_in, step_in, time_at_spot, time_of_periods}
+use Rattle.tdf_timestep.specs.Period.{IsAssigned, port_rate_or_one, rate_at_port, share_of}
 use Rattle.tdf_timestep.specs.declared.assign.Assign.{Assign}
 use Rattle.tdf_timestep.specs.declared.assign.Spot.{Spot as TimeSpot}
 use Rattle.tdf_bind_connections.specs.declared.modules.PortRow.{PortRow}
@@ -32,17 +32,17 @@ both_some : (a b : ℕ) → 0 < a → 0 < b → 0 < a * b
 both_some a b some other = let m : 1 * b ≤ a * b = mul-le-mul_right b (omega (arith, some)) in omega (arith, m, other)
 
 module _ (flat : Flat) (cluster : ℕ) (limits : AreWithinLimits flat) (p : PeriodRecord) (timed : IsTimedRecord flat cluster p) where
-  some_row : (o : Option PortRow) → ((row : PortRow) → o ≡ Some row → 0 < rate_in row p) → 0 < rate_at (option_map (rated_port p.info.table) o)
+  some_row : (o : Option PortRow) → ((row : PortRow) → o ≡ Some row → 0 < rate_in row p) → 0 < port_rate_or_one (option_map (rated_port p.info.table) o)
   some_row None some = omega arith
   some_row (Some row) some = some row refl
 
   rate_some : (number : ℕ) (row : PortRow) → slice_get flat.tables.ports number ≡ Some row → 0 < rate_in row p
   rate_some number row at = let r = (all_at (λ (x : PortRow). IsRate (port_rate p.info.table x)) flat.tables.ports number row (are_rates flat limits p.info.table timed.attributes.allowed) at).some in omega (arith, r)
 
-  rates_some : (o : Option ℕ) → 0 < rate_of (net_in flat.tables p).ports o
+  rates_some : (o : Option ℕ) → 0 < rate_at_port (net_in flat.tables p).ports o
   unfolding net_of net_ports
   rates_some None = omega arith
-  rates_some (Some number) = subst (λ r. 0 < rate_at r) (sym (slice_get-map (rated_port p.info.table) flat.tables.ports number))
+  rates_some (Some number) = subst (λ r. 0 < port_rate_or_one r) (sym (slice_get-map (rated_port p.info.table) flat.tables.ports number))
       (some_row (slice_get flat.tables.ports number) (λ row at. rate_some number row at))
 
   -- a period takes some time
@@ -73,7 +73,7 @@ module _ (flat : Flat) (cluster : ℕ) (limits : AreWithinLimits flat) (p : Peri
 
     share_is : share_of (net_in flat.tables p).ports p.info.counts at_spot ≡ positions port p
     unfolding at_spot
-    share_is = ap (λ o. slice_index p.info.counts port.«module» * rate_at o) row_there
+    share_is = ap (λ o. slice_index p.info.counts port.«module» * port_rate_or_one o) row_there
 
     pub step_whole : (0 < step_in port p) × (positions port p * step_in port p ≡ p.info.period)
     unfolding at_spot
@@ -91,7 +91,7 @@ pub steps_whole : StepsAreWhole
 steps_whole flat cluster number port p limits of timed = step_whole flat cluster limits p timed number port of
 
 -- the time of some periods and one more
-time_push : (before : List PeriodRecord) (p : PeriodRecord) → time_of (before ++ p ∷ []) ≡ time_of before + p.info.period
+time_push : (before : List PeriodRecord) (p : PeriodRecord) → time_of_periods (before ++ p ∷ []) ≡ time_of_periods before + p.info.period
 time_push before p = sum_by_push (λ (r : PeriodRecord). r.info.period) before p
 
 module _ (port : PortRow) where
@@ -114,8 +114,8 @@ module _ (port : PortRow) where
   pub record Lies (before ps : List PeriodRecord) (j : ℕ) : Type 0 where
     pub spot_is : Spot PeriodInfo
     pub found : find (positions port) before ps j ≡ Some spot_is
-    pub low : time_of before ≤ time_of spot_is.before
-    pub high : time_at_spot port spot_is + step_in port spot_is.period ≤ time_of spot_is.before + spot_is.period.info.period
+    pub low : time_of_periods before ≤ time_of_periods spot_is.before
+    pub high : time_at_spot port spot_is + step_in port spot_is.period ≤ time_of_periods spot_is.before + spot_is.period.info.period
 
   lies : (before ps : List PeriodRecord) (j : ℕ) → ((k : ℕ) (p : PeriodRecord) → slice_get ps k ≡ Some p → IsCut p) → j < sum_by (positions port) ps → Lies before ps j
   unfolding find
@@ -147,11 +147,11 @@ module _ (port : PortRow) where
   found_later before ps p k s past at = subst (λ c. (if c then Some (spot before p k) else find (positions port) (before ++ p ∷ []) ps (k - positions port p)) ≡ Some s) (le-ltb k (positions port p) past) at
 
   -- the period of a position isn't before those that were passed
-  found_low : (before ps : List PeriodRecord) (k : ℕ) (s : Spot PeriodInfo) → find (positions port) before ps k ≡ Some s → time_of before ≤ time_of s.before
+  found_low : (before ps : List PeriodRecord) (k : ℕ) (s : Spot PeriodInfo) → find (positions port) before ps k ≡ Some s → time_of_periods before ≤ time_of_periods s.before
   unfolding find
   found_low before [] k s at = none_some s at
   found_low before (p ∷ ps) k s at = elim (cases_lt k (positions port p)) [
-    | inl here ↦ (let same : time_of before ≡ time_of s.before = ap (λ (b : Spot PeriodInfo). time_of b.before) (found_first before ps p k s here at) in omega (arith, same))
+    | inl here ↦ (let same : time_of_periods before ≡ time_of_periods s.before = ap (λ (b : Spot PeriodInfo). time_of_periods b.before) (found_first before ps p k s here at) in omega (arith, same))
     | inr past ↦ (let rest = found_low (before ++ p ∷ []) ps (k - positions port p) s (found_later before ps p k s past at) in let t = time_push before p in omega (arith, rest, t))
   ]
 
@@ -163,9 +163,9 @@ module _ (port : PortRow) where
   rise before (p ∷ ps) i j a b cut less at_i at_j = elim (cases_lt i (positions port p)) [
     | inr past ↦ rise (before ++ p ∷ []) ps (i - positions port p) (j - positions port p) a b (λ k q at. cut (suc k) q at) (omega (arith, past, less))
         (found_later before ps p i a past at_i) (found_later before ps p j b (omega (arith, past, less)) at_j)
-    | inl here ↦ (let x : time_of before + i * step_in port p ≡ time_at_spot port a = ap (time_at_spot port) (found_first before ps p i a here at_i) in
+    | inl here ↦ (let x : time_of_periods before + i * step_in port p ≡ time_at_spot port a = ap (time_at_spot port) (found_first before ps p i a here at_i) in
         elim (cases_lt j (positions port p)) [
-          | inl there ↦ (let y : time_of before + j * step_in port p ≡ time_at_spot port b = ap (time_at_spot port) (found_first before ps p j b there at_j) in
+          | inl there ↦ (let y : time_of_periods before + j * step_in port p ≡ time_at_spot port b = ap (time_at_spot port) (found_first before ps p j b there at_j) in
               let r = rises_in p i j (cut 0 p refl) less in omega (arith, x, y, r))
           | inr past ↦ (let w = within_period p i (cut 0 p refl) here in let some = (cut 0 p refl).0 in let t = time_push before p in
               let low = found_low (before ++ p ∷ []) ps (j - positions port p) b (found_later before ps p j b past at_j) in omega (arith, x, w, some, t, low))

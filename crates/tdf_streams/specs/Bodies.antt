@@ -8,7 +8,7 @@ use Rattle.tdf_expr.specs.Made.{port_spans_of, event_count, start_cells}
 use Rattle.tdf_expr.specs.Runs.{scope_in}
 use Rattle.tdf_expr.specs.declared.bodies.Body.{Body}
 use Rattle.tdf_expr.specs.declared.bodies.Body.TheVariants as body
-use Rattle.tdf_exec_firing.specs.Activation.{ports_before, sample_at}
+use Rattle.tdf_exec_firing.specs.Activation.{ports_before, assigned_sample}
 use Rattle.tdf_fixed.specs.declared.raw.Raw.{Raw}
 use Rattle.tdf_bind.specs.declared.model.Flat.{Flat}
 use Rattle.tdf_streams.specs.Net.{Turn}
@@ -40,14 +40,14 @@ abbrev pub nothing_read : ℕ → List Raw
 nothing_read place = []
 
 -- the values of the rate variables of module m in a period
-abbrev pub rates_of : PeriodInfo → ℕ → List ℕ
-rates_of info m = rates_in (attrs_at info.table m)
+abbrev pub module_rates : PeriodInfo → ℕ → List ℕ
+module_rates info m = rates_in (attrs_at info.table m)
 
 -- an activation: the processing body, with the samples of one list an edge; it writes by port
 abbrev pub written_by : Flat → ℕ → State → Turn (List ℤ) Raw
 written_by flat m done = record {
   state = done.frame.cells;
-  outputs = λ port k. sample_at
+  outputs = λ port k. assigned_sample
       (port_spans_of flat.checked (block_at flat.tables.modules m)) done.ports.samples
       (place_of_port flat.tables.ports port) k;
 }
@@ -55,31 +55,32 @@ written_by flat m done = record {
 abbrev pub activation : PureTree → Flat → ℕ → PeriodInfo → List ℤ → List (List Raw)
     → Turn (List ℤ) Raw
 activation model flat m info cells inputs = written_by flat m (done_by model flat m body.Processing
-    cells (rates_of info m) (read_through flat.tables.ports m flat.tables.edges inputs))
+    cells (module_rates info m) (read_through flat.tables.ports m flat.tables.edges inputs))
 
 -- a sink keeps and writes nothing
 abbrev pub no_output : List ℤ → Turn (List ℤ) Raw
 no_output cells = record { state = cells; outputs = λ port k. record { num = pos 0; frac = 0 } }
 
 -- an activation of an actor that isn't a sampler
-abbrev pub acted : PureTree → Flat → ℕ → Option Actor → PeriodInfo → List ℤ → List (List Raw)
+abbrev pub module_acted : PureTree → Flat → ℕ → Option Actor → PeriodInfo → List ℤ → List (List Raw)
     → Turn (List ℤ) Raw
-acted model flat m (Some actor.Module) info cells inputs =
+module_acted model flat m (Some actor.Module) info cells inputs =
     activation model flat m info cells inputs
-acted model flat m _ info cells inputs = no_output cells
+module_acted model flat m _ info cells inputs = no_output cells
 
 -- the change body of a module that has one, with the rates of the last of these periods
 abbrev pub changed : PureTree → Flat → ℕ → List PeriodRecord → List ℤ → List ℤ
 changed model flat m [] cells = cells
 changed model flat m (p ∷ []) cells = if has_changes flat.tables.modules m
-    then (done_by model flat m body.Change cells (rates_of p.info m) nothing_read).frame.cells
+    then (done_by model flat m body.Change cells (module_rates p.info m) nothing_read).frame.cells
     else cells
 changed model flat m (p ∷ (q ∷ ps)) cells = changed model flat m (q ∷ ps) cells
 
 -- the reinitialize body, where the plan of the period is new
 abbrev pub reinitialized : PureTree → Flat → ℕ → PeriodInfo → List ℤ → List ℤ
 reinitialized model flat m info cells = if info.is_new
-    then (done_by model flat m body.Reinitialize cells (rates_of info m) nothing_read).frame.cells
+    then (done_by model flat m body.Reinitialize cells (module_rates info m)
+    nothing_read).frame.cells
     else cells
 
 -- the declared state, changed by the initialize body

@@ -10,7 +10,7 @@ use Rattle.tdf_bind.specs.declared.model.Flat.{Flat}
 use Rattle.tdf_streams.specs.Net.{Net}
 use Rattle.tdf_graph.specs.declared.actors.Actor.{Actor}
 use Rattle.tdf_graph.specs.declared.actors.Actor.TheVariants as actor
-use Rattle.tdf_streams.specs.Bodies.{acted, changed, initialized, reinitialized}
+use Rattle.tdf_streams.specs.Bodies.{module_acted, changed, initialized, reinitialized}
 use Rattle.tdf_streams.specs.Periods.{PeriodInfo}
 use Rattle.tdf_streams.specs.Places.{actor_kind, is_own, reader_at, source_at, writer_at}
 use Rattle.tdf_lang_tree.specs.Pure.{PureTree}
@@ -32,8 +32,8 @@ is_sampler_kind _ = false
 
 -- a sampler's values come from outside; and an actor of another cluster counts as one, so that
 -- nothing is said of it
-abbrev pub is_outside : FlatTablesOf → (cluster : ℕ) → ℕ → Bool
-is_outside tables cluster m = is_sampler_kind (actor_kind tables m)
+abbrev pub is_outside_cluster : FlatTablesOf → (cluster : ℕ) → ℕ → Bool
+is_outside_cluster tables cluster m = is_sampler_kind (actor_kind tables m)
     || not (nat_eq (slice_index (clusters_of tables) m) cluster)
 
 abbrev pub zero_sample : Raw
@@ -48,11 +48,12 @@ cluster_net model flat cluster start = record {
   source = λ e. source_at flat.tables.edges e;
   delay = λ e. length (slice_index_or start.lists e []);
   initial = λ e k. slice_index_or (slice_index_or start.lists e []) k zero_sample;
-  is_sampler = λ m. is_outside flat.tables cluster m;
+  is_sampler = λ m. is_outside_cluster flat.tables cluster m;
   start = λ m. slice_index_or start.cells m [];
   change = λ m periods cells. changed model flat m periods cells;
   reinitialize = λ m p cells. reinitialized model flat m p.info cells;
-  process = λ m p cells inputs. acted model flat m (actor_kind flat.tables m) p.info cells inputs;
+  process = λ m p cells inputs.
+      module_acted model flat m (actor_kind flat.tables m) p.info cells inputs;
 }
 
 -- how many fraction bits the samples of a signal have
@@ -67,8 +68,8 @@ fraction_of_kind tables DeIn signal = fraction_of_row (slice_get tables.de_signa
 fraction_of_kind tables DeOut signal = fraction_of_row (slice_get tables.de_signals signal)
 
 -- a sample 0 of the format of a port's signal
-abbrev pub zero_of : FlatTablesOf → PortRow → Raw
-zero_of tables port =
+abbrev pub zero_of_port : FlatTablesOf → PortRow → Raw
+zero_of_port tables port =
     record { num = pos 0; frac = fraction_of_kind tables port.kind port.signal }
 
 -- initial sample k of a port: the last one that is given for this place, else 0
@@ -78,7 +79,7 @@ given_at zero k (given ∷ rest) =
     given_at (if nat_eq given.0 k then given.1 else zero) k rest
 
 abbrev pub initial_sample : FlatTablesOf → PortRow → ℕ → Raw
-initial_sample tables port k = given_at (zero_of tables port) k port.initials
+initial_sample tables port k = given_at (zero_of_port tables port) k port.initials
 
 -- those of a port, as many as its delay
 abbrev pub initial_samples : FlatTablesOf → Option PortRow → List Raw

@@ -21,7 +21,7 @@ use Rattle.tdf_schedule.specs.Plan.{HasPlan}
 use Rattle.tdf_schedule.specs.declared.entry.Plan.{Plan}
 use Rattle.tdf_streams.specs.Cluster.{Start, cluster_net, text_start}
 use Rattle.tdf_streams.specs.Periods.{AreAttributes, AreGrounded, IsTimedRecord, IsWholeRecord, PeriodInfo, PeriodRecord, period_record}
-use Rattle.tdf_streams.specs.Signals.{position_time, positions, step_in, time_at_spot, time_of}
+use Rattle.tdf_streams.specs.Signals.{position_time, positions, step_in, time_at_spot, time_of_periods}
 use Rattle.tdf_streams.specs.Starts.{ArePast, AreRecords, HasLists, held_at_head}
 use Rattle.tdf_timestep.specs.declared.assign.Steps.{Steps}
 use Rattle.tdf_lang_tree.specs.Pure.{PureTree}
@@ -186,19 +186,19 @@ StepsAreWhole = (flat : Flat) (cluster number : ℕ) (port : PortRow) (p : Perio
     → (0 < step_in port p) × (positions port p * step_in port p ≡ p.info.period)
 
 -- position j lies inside a period, with all of its step
-pub record LiesInside (periods : List PeriodRecord) (port : PortRow) (j : ℕ) : Type 0 where
+pub record PositionLiesInside (periods : List PeriodRecord) (port : PortRow) (j : ℕ) : Type 0 where
   pub spot : Spot PeriodInfo
   pub found : find (positions port) [] periods j ≡ Some spot
-  pub not_before : time_of spot.before ≤ time_at_spot port spot
+  pub not_before : time_of_periods spot.before ≤ time_at_spot port spot
   pub not_after : time_at_spot port spot + step_in port spot.period
-      ≤ time_of spot.before + spot.period.info.period
+      ≤ time_of_periods spot.before + spot.period.info.period
 
 -- so each position of periods does
 abbrev pub TimesLieInside : Type 0
 TimesLieInside = (flat : Flat) (cluster number : ℕ) (port : PortRow) (periods : List PeriodRecord)
     → (j : ℕ) → AreWithinLimits flat → IsClusterPort flat cluster number port
     → All (IsTimedRecord flat cluster) periods → j < sum_by (positions port) periods
-    → LiesInside periods port j
+    → PositionLiesInside periods port j
 
 -- and the times of its positions rise
 abbrev pub TimesRise : Type 0

@@ -24,14 +24,14 @@ abbrev pub step_in : PortRow → PeriodRecord → ℕ
 step_in port p = p.info.period / positions port p
 
 -- the time that periods take
-abbrev pub time_of : List PeriodRecord → ℕ
-time_of periods = sum_by (λ (p : PeriodRecord). p.info.period) periods
+abbrev pub time_of_periods : List PeriodRecord → ℕ
+time_of_periods periods = sum_by (λ (p : PeriodRecord). p.info.period) periods
 
 -- the time of position j of the signal that a port drives, from the start of the first period on,
 -- if the periods have so many positions; that period has all its positions, also where some of its
 -- firings were done before the start
 abbrev pub time_at_spot : PortRow → Spot PeriodInfo → ℕ
-time_at_spot port s = time_of s.before + s.rest * step_in port s.period
+time_at_spot port s = time_of_periods s.before + s.rest * step_in port s.period
 
 unfoldable pub position_time : List PeriodRecord → PortRow → ℕ → Option ℕ
 position_time periods port j = option_map (time_at_spot port) (find (positions port) [] periods j)

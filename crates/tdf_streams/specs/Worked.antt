@@ -33,8 +33,8 @@ two_periods = record {
   reads = λ m. [];
 }
 
-abbrev pub sample_at : ℕ → Option ℕ
-sample_at k = place source_and_sum two_periods.periods (known source_and_sum two_periods 5) 0 k
+abbrev pub worked_sample : ℕ → Option ℕ
+worked_sample k = place source_and_sum two_periods.periods (known source_and_sum two_periods 5) 0 k
 
 abbrev pub sum_after : ℕ → Option ℕ
 sum_after n = option_map (λ (t : Turn ℕ ℕ). t.state) (known source_and_sum two_periods 5 1 n)
@@ -42,10 +42,10 @@ sum_after n = option_map (λ (t : Turn ℕ ℕ). t.state) (known source_and_sum 
 -- the edge has 7, then 0 and 1, then 10 times (0 + 1 + 10 + 100); the sum goes to 7 and 7, and from
 -- 17, which its change body made of that, to 18
 pub record IsWorked : Type 0 where
-  pub initial : sample_at 0 ≡ Some 7
-  pub first : sample_at 1 ≡ Some 0
-  pub second : sample_at 2 ≡ Some 1
-  pub changed : sample_at 3 ≡ Some 1110
+  pub initial : worked_sample 0 ≡ Some 7
+  pub first : worked_sample 1 ≡ Some 0
+  pub second : worked_sample 2 ≡ Some 1
+  pub changed : worked_sample 3 ≡ Some 1110
   pub sum_first : sum_after 0 ≡ Some 7
   pub sum_second : sum_after 1 ≡ Some 7
   pub sum_changed : sum_after 2 ≡ Some 18

@@ -7,14 +7,14 @@ use Rattle.tdf_fixed.specs.declared.raw.Raw.{Raw}
 use Rattle.tdf_graph.specs.declared.actors.Actor.{Actor}
 use Rattle.tdf_graph.specs.declared.actors.Actor.TheVariants as actor
 use Rattle.tdf_lang_tree.specs.Pure.{PureTree}
-use Rattle.tdf_streams.specs.Bodies.{acted, changed, done_by, nothing_read, written_by}
+use Rattle.tdf_streams.specs.Bodies.{module_acted, changed, done_by, nothing_read, written_by}
 use Rattle.tdf_streams.specs.Cluster.{Start, cluster_net}
 use Rattle.tdf_streams.specs.Periods.{PeriodInfo, PeriodRecord}
 use Rattle.tdf_streams.specs.Places.{actor_kind, has_changes, read_through}
 use Rattle.tdf_streams_onward.specs.Laws.{BodiesGoByTable, table_of}
 
 module _ (model : PureTree) (flat : Flat) (m : ℕ) where
-  acted_same : (kind : Option Actor) (p q : PeriodInfo) → table_of p ≡ table_of q → acted model flat m kind p ≡ acted model flat m kind q
+  acted_same : (kind : Option Actor) (p q : PeriodInfo) → table_of p ≡ table_of q → module_acted model flat m kind p ≡ module_acted model flat m kind q
   acted_same (Some actor.Module) p q same = λ i cells inputs. written_by flat m (done_by model flat m body.Processing
       cells (rates_in (attrs_at (same i) m)) (read_through flat.tables.ports m flat.tables.edges inputs))
   acted_same _ p q same = refl

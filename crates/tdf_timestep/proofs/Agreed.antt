@@ -11,10 +11,10 @@ use Rattle.std.proofs.lemmas.Option.{slice_get_within, slice_get_read, get_or_fr
 use Rattle.std.specs.Int.{◌∣◌}
 use Rattle.std.specs.Prelude.{All, Contains, slice_get}
 use Rattle.tdf_base.specs.Limits.{time_end}
-use Rattle.tdf_graph.specs.Ranges.{IsPort}
+use Rattle.tdf_graph.specs.Ranges.{IsGraphPort}
 use Rattle.tdf_graph.specs.declared.actors.Port.{Port}
-use Rattle.tdf_timestep.specs.Order.{comes_before, port_rank, IsFirst}
-use Rattle.tdf_timestep.specs.Period.{share_of, rate_of, rate_at, period_of, IsPortOf, IsSpot, AreAgreed, IsDisagreed, IsInexact, HasSteps}
+use Rattle.tdf_timestep.specs.Order.{spot_comes_before, port_rank, IsFirstAssigned}
+use Rattle.tdf_timestep.specs.Period.{share_of, rate_at_port, port_rate_or_one, period_of, IsPortOf, IsFiringSpot, AreAgreed, IsDisagreed, IsInexact, HasSteps}
 use Rattle.tdf_timestep.specs.declared.assign.Assign.{Assign}
 use Rattle.tdf_timestep.specs.declared.assign.Spot.{Spot}
 use Rattle.tdf_timestep.specs.declared.assign.Steps.{Steps}
@@ -26,7 +26,7 @@ pub no_first : (assigned : List Assign) → IsFound assigned (λ _. Unit {0}) No
 no_first [] none = refl
 no_first (a ∷ as') none = absurd (none 0 a refl tt)
 
-pub first_within : (assigned : List Assign) (P : Assign → Type 0) (a : ℕ) → IsFirst assigned P a → a < length assigned
+pub first_within : (assigned : List Assign) (P : Assign → Type 0) (a : ℕ) → IsFirstAssigned assigned P a → a < length assigned
 first_within assigned P a first = slice_get_within assigned a first.chosen first.there
 
 contains_at : (assigned : List Assign) (x : Assign) → Contains assigned x → (j : ℕ) × (slice_get assigned j ≡ Some x)
@@ -36,12 +36,12 @@ at_contains : (assigned : List Assign) (j : ℕ) (x : Assign) → slice_get assi
 at_contains assigned j x is = (j, slice_get_within assigned j x is, get_or_from_slice_get assigned j x x is)
 
 module _ (ports : List Port) (counts : List ℕ) (assigned : List Assign) where
-  module _ (a : ℕ) (d : Assign) (period : ℕ) (first : IsFirst assigned (λ _. Unit {0}) a) (is : period ≡ period_of ports counts (get_or assigned a d)) where
+  module _ (a : ℕ) (d : Assign) (period : ℕ) (first : IsFirstAssigned assigned (λ _. Unit {0}) a) (is : period ≡ period_of ports counts (get_or assigned a d)) where
     chosen_is : period ≡ period_of ports counts first.chosen
     chosen_is = is ∙ ap (λ (x : Assign). period_of ports counts x) (get_or_from_slice_get assigned a first.chosen d first.there)
 
-    pub disagreed : (b : ℕ) → IsFirst assigned (IsOther ports counts period) b → IsDisagreed ports counts assigned a b
-    disagreed b other = record { first = first; other = subst (λ n. IsFirst assigned (λ x. period_of ports counts x ≢ n) b) chosen_is other }
+    pub disagreed : (b : ℕ) → IsFirstAssigned assigned (IsOther ports counts period) b → IsDisagreed ports counts assigned a b
+    disagreed b other = record { first = first; other = subst (λ n. IsFirstAssigned assigned (λ x. period_of ports counts x ≢ n) b) chosen_is other }
 
     pub agreed_all : IsFound assigned (IsOther ports counts period) None → AreAgreed ports counts assigned period
     agreed_all none = record {
@@ -67,14 +67,14 @@ module _ (ports : List Port) (counts : List ℕ) (assigned : List Assign) where
   pub none_agreed : (period : ℕ) → assigned ≡ [] → AreAgreed ports counts assigned period → ⊥
   none_agreed period none agreed = let s = agreed.some in let e = ap length none in omega (arith, s, e)
 
-  pub none_first : (P : Assign → Type 0) (a : ℕ) → assigned ≡ [] → IsFirst assigned P a → ⊥
+  pub none_first : (P : Assign → Type 0) (a : ℕ) → assigned ≡ [] → IsFirstAssigned assigned P a → ⊥
   none_first P a none first = let w = first_within assigned P a first in let e = ap length none in omega (arith, w, e)
 
   pub disagreed_apart : (a b period : ℕ) → IsDisagreed ports counts assigned a b → AreAgreed ports counts assigned period → ⊥
   disagreed_apart a b period dis agreed = dis.other.holds
       (agreed_at period b dis.other.chosen agreed dis.other.there ∙ sym (agreed_at period a dis.first.chosen agreed dis.first.there))
 
-pub first_once : (assigned : List Assign) (P : Assign → Type 0) (a b : ℕ) → IsFirst assigned P a → IsFirst assigned P b → a ≡ b
+pub first_once : (assigned : List Assign) (P : Assign → Type 0) (a b : ℕ) → IsFirstAssigned assigned P a → IsFirstAssigned assigned P b → a ≡ b
 first_once assigned P a b one other = go (cases_lt a b) (cases_lt b a)
   where
     clash : {x : Bool} → x ≡ true → x ≡ false → ⊥
@@ -93,7 +93,7 @@ first_once assigned P a b one other = go (cases_lt a b) (cases_lt b a)
     go (inr more) (inr most) = omega (arith, more, most)
 
 -- neither comes before the other: they are the same
-pub same_spot : (s t : Spot) → comes_before s t ≡ false → comes_before t s ≡ false → s ≡ t
+pub same_spot : (s t : Spot) → spot_comes_before s t ≡ false → spot_comes_before t s ≡ false → s ≡ t
 same_spot s t one other = ap (λ n. record { actor = n; port = s.port }) actors ∙ ap (λ p. record { actor = t.actor; port = p }) (same_port s.port t.port ranks)
   where
     actors : s.actor ≡ t.actor
@@ -115,20 +115,20 @@ divides_by share period some whole = go (cases_eq (period % share) 0)
     go (inl none) = dvd_of_mod-eq-zero share none
     go (inr rest) = absurd (whole (record { some = some; broken = λ divides. rest (mod-eq-zero_of_dvd share divides) }))
 
-module _ (count : ℕ) (ports : List Port) (counts : List ℕ) (fit : All (IsPort count) ports) where
-  positive : (s : Spot) → IsSpot ports counts s → 0 < share_of ports counts s
-  positive s spot = product (get_or counts s.actor 0) (rate_of ports s.port) spot.fires (rate_some s.port spot.own)
+module _ (count : ℕ) (ports : List Port) (counts : List ℕ) (fit : All (IsGraphPort count) ports) where
+  positive : (s : Spot) → IsFiringSpot ports counts s → 0 < share_of ports counts s
+  positive s spot = product (get_or counts s.actor 0) (rate_at_port ports s.port) spot.fires (rate_some s.port spot.own)
     where
       product : (m n : ℕ) → 0 < m → 0 < n → 0 < m * n
       product m n m_some n_some = grind (arith, m_some, n_some)
 
-      rate_some : (port : Option ℕ) → IsPortOf ports s.actor port → 0 < rate_of ports port
+      rate_some : (port : Option ℕ) → IsPortOf ports s.actor port → 0 < rate_at_port ports port
       rate_some None own = omega arith
-      rate_some (Some p) own = subst (λ x. 0 < rate_at x) (sym own.1)
+      rate_some (Some p) own = subst (λ x. 0 < port_rate_or_one x) (sym own.1)
           (subst (λ (x : Port). 1 ≤ x.rate) (get_or_from_slice_get ports p own.0 own.0 own.1)
-          (All-get_or (IsPort count) ports p own.0 (slice_get_within ports p own.0 own.1) fit).rate.some)
+          (All-get_or (IsGraphPort count) ports p own.0 (slice_get_within ports p own.0 own.1) fit).rate.some)
 
-  seen : (s : Spot) → IsSpot ports counts s → IsSeen ports (length counts) (length ports) s
+  seen : (s : Spot) → IsFiringSpot ports counts s → IsSeen ports (length counts) (length ports) s
   seen s spot = go s.port spot.own
     where
       inside : s.actor < length counts
@@ -142,7 +142,7 @@ module _ (count : ℕ) (ports : List Port) (counts : List ℕ) (fit : All (IsPor
       go None own = inside
       go (Some p) own = (slice_get_within ports p own.0 own.1, own)
 
-  pub all_whole : (period : ℕ) → IsFirstAmong ports counts period (IsSeen ports (length counts) (length ports)) None → (s : Spot) → IsSpot ports counts s → share_of ports counts s ∣ period
+  pub all_whole : (period : ℕ) → IsFirstAmong ports counts period (IsSeen ports (length counts) (length ports)) None → (s : Spot) → IsFiringSpot ports counts s → share_of ports counts s ∣ period
   all_whole period none s spot = divides_by (share_of ports counts s) period (positive s spot) (none s (seen s spot))
 
   factor_some : (m n : ℕ) → 0 < m * n → 0 < m
@@ -162,7 +162,7 @@ module _ (count : ℕ) (ports : List Port) (counts : List ℕ) (fit : All (IsPor
     period = period;
     agreed = agreed;
     short = short;
-    spot = record { fires = factor_some (get_or counts s.actor 0) (rate_of ports s.port) found.unwhole.some; own = own_of (length counts) (length ports) s.actor s.port found.seen };
+    spot = record { fires = factor_some (get_or counts s.actor 0) (rate_at_port ports s.port) found.unwhole.some; own = own_of (length counts) (length ports) s.actor s.port found.seen };
     broken = found.unwhole.broken;
     first = λ t spot broken. found.first t (seen t spot) (record { some = positive t spot; broken = broken });
   }

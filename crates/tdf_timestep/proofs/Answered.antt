@@ -6,7 +6,7 @@ use Rattle.tdf_base.specs.Limits.{time_end}
 use Rattle.tdf_graph.specs.declared.actors.Port.{Port}
 use Rattle.tdf_timestep.proofs.Agreed.{agreed_once, none_agreed, none_first, disagreed_apart, first_once, same_spot}
 use Rattle.tdf_timestep.proofs.Firsts.{some_same}
-use Rattle.tdf_timestep.specs.Order.{IsFirst}
+use Rattle.tdf_timestep.specs.Order.{IsFirstAssigned}
 use Rattle.tdf_timestep.specs.Period.{share_of, period_of, IsBroken, AreAgreed, IsDisagreed, IsTooLong, IsInexact, IsPeriod, HasSteps}
 use Rattle.tdf_timestep.specs.declared.assign.Assign.{Assign}
 use Rattle.tdf_timestep.specs.declared.assign.Spot.{Spot}
@@ -21,7 +21,7 @@ module _ (ports : List Port) (counts : List ℕ) (assigned : List Assign) where
   other_once a b c d one other = (
     a_is,
     first_once assigned (λ x. period_of ports counts x ≢ period_of ports counts other.first.chosen) b d
-        (subst (λ (y : Assign). IsFirst assigned (λ x. period_of ports counts x ≢ period_of ports counts y) b) chosen_is one.other) other.other,
+        (subst (λ (y : Assign). IsFirstAssigned assigned (λ x. period_of ports counts x ≢ period_of ports counts y) b) chosen_is one.other) other.other,
   )
     where
       a_is : a ≡ c

@@ -4,7 +4,7 @@ use Rattle.std.proofs.lemmas.Bool.{cases_eq}
 use Rattle.std.proofs.lemmas.Bool.Decides.{nat_tests}
 use Rattle.std.proofs.lemmas.Option.{slice_get_within}
 use Rattle.std.specs.Prelude.{slice_get}
-use Rattle.tdf_timestep.specs.Order.{is_before, comes_before, port_rank, spot_of}
+use Rattle.tdf_timestep.specs.Order.{is_before, spot_comes_before, port_rank, spot_of}
 use Rattle.tdf_timestep.specs.declared.assign.Assign.{Assign}
 use Rattle.tdf_timestep.specs.views.Found.{IsFirstUpTo, IsFoundUpTo, IsFound, IsBetter}
 
@@ -48,12 +48,12 @@ module _ (assigned : List Assign) (P : Assign → Type 0) where
     earliest = found.earliest;
   }
     where
-      go : (j : ℕ) (x : Assign) → j < n + 1 → slice_get assigned j ≡ Some x → P x → (j ≡ n) ⊎ (j ≡ n → ⊥) → comes_before (spot_of x) (spot_of found.chosen) ≡ false
+      go : (j : ℕ) (x : Assign) → j < n + 1 → slice_get assigned j ≡ Some x → P x → (j ≡ n) ⊎ (j ≡ n → ⊥) → spot_comes_before (spot_of x) (spot_of found.chosen) ≡ false
       go j x less is holds (inl same) = absurd (not (subst P (some_same (sym is ∙ ap (slice_get assigned) same ∙ a_is)) holds))
       go j x less is holds (inr other) = found.least j x (omega (arith, less, other)) is holds
 
   first_here : (n : ℕ) (a : Assign) → slice_get assigned n ≡ Some a → P a
-      → ((j : ℕ) (x : Assign) → j < n → slice_get assigned j ≡ Some x → P x → (comes_before (spot_of x) (spot_of a) ≡ false) × (comes_before (spot_of a) (spot_of x) ≡ true))
+      → ((j : ℕ) (x : Assign) → j < n → slice_get assigned j ≡ Some x → P x → (spot_comes_before (spot_of x) (spot_of a) ≡ false) × (spot_comes_before (spot_of a) (spot_of x) ≡ true))
       → IsFirstUpTo (n + 1) assigned P n
   first_here n a a_is holds before = record {
     within = omega arith;
@@ -64,12 +64,12 @@ module _ (assigned : List Assign) (P : Assign → Type 0) where
     earliest = λ j x less is x_holds. (before j x less is x_holds).1;
   }
     where
-      go : (j : ℕ) (x : Assign) → j < n + 1 → slice_get assigned j ≡ Some x → P x → (j ≡ n) ⊎ (j ≡ n → ⊥) → comes_before (spot_of x) (spot_of a) ≡ false
+      go : (j : ℕ) (x : Assign) → j < n + 1 → slice_get assigned j ≡ Some x → P x → (j ≡ n) ⊎ (j ≡ n → ⊥) → spot_comes_before (spot_of x) (spot_of a) ≡ false
       go j x less is x_holds (inl same) =
-          subst (λ (y : Assign). comes_before (spot_of y) (spot_of a) ≡ false) (some_same (sym a_is ∙ ap (slice_get assigned) (sym same) ∙ is)) (never a.actor (port_rank a.port))
+          subst (λ (y : Assign). spot_comes_before (spot_of y) (spot_of a) ≡ false) (some_same (sym a_is ∙ ap (slice_get assigned) (sym same) ∙ is)) (never a.actor (port_rank a.port))
       go j x less is x_holds (inr other) = (before j x (omega (arith, less, other)) is x_holds).0
 
-  first_stays : (n place : ℕ) (a : Assign) → slice_get assigned n ≡ Some a → (found : IsFirstUpTo n assigned P place) → comes_before (spot_of a) (spot_of found.chosen) ≡ false
+  first_stays : (n place : ℕ) (a : Assign) → slice_get assigned n ≡ Some a → (found : IsFirstUpTo n assigned P place) → spot_comes_before (spot_of a) (spot_of found.chosen) ≡ false
       → IsFirstUpTo (n + 1) assigned P place
   first_stays n place a a_is found late = record {
     within = let w = found.within in omega (arith, w);
@@ -80,9 +80,9 @@ module _ (assigned : List Assign) (P : Assign → Type 0) where
     earliest = found.earliest;
   }
     where
-      go : (j : ℕ) (x : Assign) → j < n + 1 → slice_get assigned j ≡ Some x → P x → (j ≡ n) ⊎ (j ≡ n → ⊥) → comes_before (spot_of x) (spot_of found.chosen) ≡ false
+      go : (j : ℕ) (x : Assign) → j < n + 1 → slice_get assigned j ≡ Some x → P x → (j ≡ n) ⊎ (j ≡ n → ⊥) → spot_comes_before (spot_of x) (spot_of found.chosen) ≡ false
       go j x less is holds (inl same) =
-          subst (λ (y : Assign). comes_before (spot_of y) (spot_of found.chosen) ≡ false) (some_same (sym a_is ∙ ap (slice_get assigned) (sym same) ∙ is)) late
+          subst (λ (y : Assign). spot_comes_before (spot_of y) (spot_of found.chosen) ≡ false) (some_same (sym a_is ∙ ap (slice_get assigned) (sym same) ∙ is)) late
       go j x less is holds (inr other) = found.least j x (omega (arith, less, other)) is holds
 
   -- one with the property
@@ -94,7 +94,7 @@ module _ (assigned : List Assign) (P : Assign → Type 0) where
       x : Assign
       x = found.chosen
 
-      go : ((result ≡ Some n) × (comes_before (spot_of a) (spot_of found.chosen) ≡ true)) ⊎ ((result ≡ Some place) × (comes_before (spot_of a) (spot_of found.chosen) ≡ false))
+      go : ((result ≡ Some n) × (spot_comes_before (spot_of a) (spot_of found.chosen) ≡ true)) ⊎ ((result ≡ Some place) × (spot_comes_before (spot_of a) (spot_of found.chosen) ≡ false))
           → IsFoundUpTo (n + 1) assigned P result
       go (inl p) = subst (IsFoundUpTo (n + 1) assigned P) (sym p.0) (first_here n a a_is holds (λ j y less y_is y_holds. (
         after_first y.actor (port_rank y.port) a.actor (port_rank a.port) found.chosen.actor (port_rank found.chosen.port) (found.least j y less y_is y_holds) p.1,

@@ -5,7 +5,7 @@ use Rattle.std.proofs.lemmas.Nat.Gcd.{dvd_of_mod-eq-zero, mod-eq-zero_of_dvd}
 use Rattle.std.specs.Prelude.{slice_get}
 use Rattle.tdf_graph.specs.declared.actors.Port.{Port}
 use Rattle.tdf_timestep.proofs.Firsts.{never, after_first, some_same}
-use Rattle.tdf_timestep.specs.Order.{comes_before, port_rank}
+use Rattle.tdf_timestep.specs.Order.{spot_comes_before, port_rank}
 use Rattle.tdf_timestep.specs.Period.{share_of, IsPortOf}
 use Rattle.tdf_timestep.specs.declared.assign.Spot.{Spot}
 use Rattle.tdf_timestep.specs.views.Broken.{IsUnwhole, IsLesser, IsConsidered, IsPortSeen, IsSeen, IsFirstAmong}
@@ -49,21 +49,21 @@ module _ (ports : List Port) (counts : List ℕ) (period : ℕ) where
     taken unwhole None result is none = subst (IsFirstAmong ports counts period Next) (sym is)
         (record { seen = here; unwhole = unwhole; first = λ t seen broken. go t seen broken (only t seen) })
       where
-        go : (t : Spot) → Next t → IsUnwhole (share_of ports counts t) period → Seen t ⊎ (t ≡ spot) → comes_before t spot ≡ false
+        go : (t : Spot) → Next t → IsUnwhole (share_of ports counts t) period → Seen t ⊎ (t ≡ spot) → spot_comes_before t spot ≡ false
         go t seen broken (inl before) = absurd (none t before broken)
-        go t seen broken (inr same) = subst (λ (u : Spot). comes_before u spot ≡ false) (sym same) (never spot.actor (port_rank spot.port))
+        go t seen broken (inr same) = subst (λ (u : Spot). spot_comes_before u spot ≡ false) (sym same) (never spot.actor (port_rank spot.port))
     taken unwhole (Some best) result (inl p) found = subst (IsFirstAmong ports counts period Next) (sym p.0)
         (record { seen = here; unwhole = unwhole; first = λ t seen broken. go t seen broken (only t seen) })
       where
-        go : (t : Spot) → Next t → IsUnwhole (share_of ports counts t) period → Seen t ⊎ (t ≡ spot) → comes_before t spot ≡ false
+        go : (t : Spot) → Next t → IsUnwhole (share_of ports counts t) period → Seen t ⊎ (t ≡ spot) → spot_comes_before t spot ≡ false
         go t seen broken (inl before) = after_first t.actor (port_rank t.port) spot.actor (port_rank spot.port) best.actor (port_rank best.port) (found.first t before broken) p.1
-        go t seen broken (inr same) = subst (λ (u : Spot). comes_before u spot ≡ false) (sym same) (never spot.actor (port_rank spot.port))
+        go t seen broken (inr same) = subst (λ (u : Spot). spot_comes_before u spot ≡ false) (sym same) (never spot.actor (port_rank spot.port))
     taken unwhole (Some best) result (inr p) found = subst (IsFirstAmong ports counts period Next) (sym p.0)
         (record { seen = more best found.seen; unwhole = found.unwhole; first = λ t seen broken. go t seen broken (only t seen) })
       where
-        go : (t : Spot) → Next t → IsUnwhole (share_of ports counts t) period → Seen t ⊎ (t ≡ spot) → comes_before t best ≡ false
+        go : (t : Spot) → Next t → IsUnwhole (share_of ports counts t) period → Seen t ⊎ (t ≡ spot) → spot_comes_before t best ≡ false
         go t seen broken (inl before) = found.first t before broken
-        go t seen broken (inr same) = subst (λ (u : Spot). comes_before u best ≡ false) (sym same) p.1
+        go t seen broken (inr same) = subst (λ (u : Spot). spot_comes_before u best ≡ false) (sym same) p.1
 
     left : (IsUnwhole (share_of ports counts spot) period → ⊥) → (best : Option Spot) → IsFirstAmong ports counts period Seen best → IsFirstAmong ports counts period Next best
     left whole None none = λ t seen broken. go t seen broken (only t seen)
@@ -73,7 +73,7 @@ module _ (ports : List Port) (counts : List ℕ) (period : ℕ) where
         go t seen broken (inr same) = whole (subst (λ (u : Spot). IsUnwhole (share_of ports counts u) period) same broken)
     left whole (Some best) found = record { seen = more best found.seen; unwhole = found.unwhole; first = λ t seen broken. go t seen broken (only t seen) }
       where
-        go : (t : Spot) → Next t → IsUnwhole (share_of ports counts t) period → Seen t ⊎ (t ≡ spot) → comes_before t best ≡ false
+        go : (t : Spot) → Next t → IsUnwhole (share_of ports counts t) period → Seen t ⊎ (t ≡ spot) → spot_comes_before t best ≡ false
         go t seen broken (inl before) = found.first t before broken
         go t seen broken (inr same) = absurd (whole (subst (λ (u : Spot). IsUnwhole (share_of ports counts u) period) same broken))
 

@@ -4,7 +4,7 @@ use Rattle.std.specs.Prelude.{ℕ, ◌≡◌, ◌≢◌, ◌<◌, ◌≤◌, ◌
 use Rattle.std.specs.Int.{◌∣◌}
 use Rattle.tdf_base.specs.Limits.{time_end}
 use Rattle.tdf_graph.specs.declared.actors.Port.{Port}
-use Rattle.tdf_timestep.specs.Order.{comes_before, spot_of, IsFirst}
+use Rattle.tdf_timestep.specs.Order.{spot_comes_before, spot_of, IsFirstAssigned}
 use Rattle.tdf_timestep.specs.declared.assign.Assign.{Assign}
 use Rattle.tdf_timestep.specs.declared.assign.Spot.{Spot}
 use Rattle.tdf_timestep.specs.declared.assign.Steps.{Steps}
@@ -14,22 +14,22 @@ abbrev pub IsPortOf : List Port → ℕ → Option ℕ → Type 0
 IsPortOf ports actor None = Unit {0}
 IsPortOf ports actor (Some p) = (x : Port) × (slice_get ports p ≡ Some x) × (x.actor ≡ actor)
 
-pub record IsSpot (ports : List Port) (counts : List ℕ) (s : Spot) : Type 0 where
+pub record IsFiringSpot (ports : List Port) (counts : List ℕ) (s : Spot) : Type 0 where
   pub fires : 0 < slice_index counts s.actor
   pub own : IsPortOf ports s.actor s.port
 
 -- samples in one firing; an actor itself counts as one
-abbrev pub rate_at : Option Port → ℕ
-rate_at None = 1
-rate_at (Some x) = x.rate
+abbrev pub port_rate_or_one : Option Port → ℕ
+port_rate_or_one None = 1
+port_rate_or_one (Some x) = x.rate
 
-abbrev pub rate_of : List Port → Option ℕ → ℕ
-rate_of ports None = 1
-rate_of ports (Some p) = rate_at (slice_get ports p)
+abbrev pub rate_at_port : List Port → Option ℕ → ℕ
+rate_at_port ports None = 1
+rate_at_port ports (Some p) = port_rate_or_one (slice_get ports p)
 
 -- what it does in one period: an actor fires, a port takes or gives samples
 abbrev pub share_of : List Port → List ℕ → Spot → ℕ
-share_of ports counts s = slice_index counts s.actor * rate_of ports s.port
+share_of ports counts s = slice_index counts s.actor * rate_at_port ports s.port
 
 -- the period that an assignment gives
 abbrev pub period_of : List Port → List ℕ → Assign → ℕ
@@ -37,7 +37,7 @@ period_of ports counts a = share_of ports counts (spot_of a) * a.step
 
 -- an assignment that may be given: its spot is one of the cluster, its step some time
 pub record IsAssigned (ports : List Port) (counts : List ℕ) (a : Assign) : Type 0 where
-  pub spot : IsSpot ports counts (spot_of a)
+  pub spot : IsFiringSpot ports counts (spot_of a)
   pub some : 1 ≤ a.step
   pub short : a.step < time_end
 
@@ -50,8 +50,8 @@ pub record AreAgreed (ports : List Port) (counts : List ℕ) (assigned : List As
 -- the first assignment, and the first one that gives another period than it
 pub record IsDisagreed (ports : List Port) (counts : List ℕ) (assigned : List Assign) (a b : ℕ)
     : Type 0 where
-  pub first : IsFirst assigned (λ _. Unit {0}) a
-  pub other : IsFirst assigned
+  pub first : IsFirstAssigned assigned (λ _. Unit {0}) a
+  pub other : IsFirstAssigned assigned
       (λ x. period_of ports counts x ≢ period_of ports counts first.chosen) b
 
 pub record IsTooLong (ports : List Port) (counts : List ℕ) (assigned : List Assign) : Type 0 where
@@ -69,17 +69,17 @@ pub record IsInexact (ports : List Port) (counts : List ℕ) (assigned : List As
   pub period : ℕ
   pub agreed : AreAgreed ports counts assigned period
   pub short : period < time_end
-  pub spot : IsSpot ports counts s
+  pub spot : IsFiringSpot ports counts s
   pub broken : IsBroken ports counts period s
-  pub first : (t : Spot) → IsSpot ports counts t → IsBroken ports counts period t
-      → comes_before t s ≡ false
+  pub first : (t : Spot) → IsFiringSpot ports counts t → IsBroken ports counts period t
+      → spot_comes_before t s ≡ false
 
 -- the period of the cluster: all assignments give it, and each step is whole
 pub record IsPeriod (ports : List Port) (counts : List ℕ) (assigned : List Assign) (period : ℕ)
     : Type 0 where
   pub agreed : AreAgreed ports counts assigned period
   pub short : period < time_end
-  pub whole : (s : Spot) → IsSpot ports counts s → share_of ports counts s ∣ period
+  pub whole : (s : Spot) → IsFiringSpot ports counts s → share_of ports counts s ∣ period
 
 -- the steps: each actor that fires has its count of steps in the period
 pub record HasSteps (ports : List Port) (counts : List ℕ) (assigned : List Assign) (steps : Steps)

@@ -3,7 +3,7 @@
 ghost use Rattle.std.specs.Prelude.{◌≡◌, ◌≢◌, ◌<◌, ◌≤◌, ◌+◌, ◌*◌, ◌^◌, ◌↔◌, List, All, length, vec_len, Some, IsTrue, slice_index};
 ghost use Rattle.std.specs.Int.{◌∣◌};
 ghost use Rattle.tdf_base.specs.Limits.{time_end, most_firings};
-ghost use Rattle.tdf_timestep.specs.Order.{comes_before};
+ghost use Rattle.tdf_timestep.specs.Order.{spot_comes_before};
 ghost use Rattle.tdf_timestep.specs.Period.{share_of, IsPortOf};
 ghost use Rattle.tdf_timestep.specs.views.Broken.{IsUnwhole, IsLesser, IsConsidered, IsFirstAmong, IsSeen};
 

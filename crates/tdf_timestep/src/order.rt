@@ -3,7 +3,7 @@
 ghost use Rattle.std.specs.Prelude.{◌≡◌, ◌≢◌, ◌<◌, ◌≤◌, ◌+◌, ◌*◌, ◌^◌, List, All, length, IfSome};
 ghost use Rattle.tdf_base.specs.Limits.{time_end, most_firings};
 ghost use Rattle.tdf_graph.specs.Ranges.{IsRate};
-ghost use Rattle.tdf_timestep.specs.Order.{comes_before, port_rank, spot_of};
+ghost use Rattle.tdf_timestep.specs.Order.{spot_comes_before, port_rank, spot_of};
 ghost use Rattle.tdf_timestep.specs.Period.{share_of, period_of, IsAssigned, IsPortOf};
 ghost use Rattle.tdf_timestep.specs.views.Found.{IsFound, IsFoundUpTo, IsBetter, IsOther};
 

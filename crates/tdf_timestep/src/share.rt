@@ -3,7 +3,7 @@
 ghost use Rattle.std.specs.Prelude.{◌≡◌, ◌≢◌, ◌<◌, ◌≤◌, ◌+◌, ◌*◌, ◌^◌, ◌↔◌, ◌⊎◌, List, All, length, IsTrue, slice_index};
 ghost use Rattle.std.specs.Int.{◌∣◌};
 ghost use Rattle.tdf_base.specs.Limits.{time_end, most_firings};
-ghost use Rattle.tdf_timestep.specs.Order.{comes_before, port_rank, spot_of};
+ghost use Rattle.tdf_timestep.specs.Order.{spot_comes_before, port_rank, spot_of};
 ghost use Rattle.tdf_timestep.specs.Period.{share_of, period_of, IsAssigned, IsPortOf};
 
 use crate::assign::{Assign, Spot};
@@ -21,7 +21,7 @@ fn rank(port: Option<u32>) -> u64
 
 /// Whether one spot comes before another: by actor, the module itself before its ports.
 pub(crate) fn comes_before(one: Spot, other: Spot) -> bool
-    ensures { result ≡ comes_before one other }
+    ensures { result ≡ spot_comes_before one other }
 {
     one.actor < other.actor || (one.actor == other.actor && rank(one.port) < rank(other.port))
 }

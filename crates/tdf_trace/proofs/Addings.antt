@@ -7,7 +7,7 @@ use Rattle.std.proofs.Math.ListN.{replicate}
 use Rattle.tdf_trace.proofs.ColumnPlaces.{First, Here, Last, There, alike, get_beyond, get_first, get_last, pushed, replaced, set_here, set_map, set_other, some_same}
 use Rattle.tdf_trace.specs.Tracked.{TrackedOf}
 use Rattle.tdf_trace.specs.Tracks.{AreTracked, Tracks}
-use Rattle.tdf_trace.specs.Traces.{IsTrackingOf, is_among, is_of}
+use Rattle.tdf_trace.specs.Traces.{IsTrackingOf, is_among, shows_signal}
 use Rattle.tdf_trace.specs.machine.Finding.{Finds, HasNone, HaveColumns, found, place_in}
 use Rattle.tdf_trace.specs.machine.Going.{AddsTrace}
 use Rattle.tdf_trace.specs.machine.Showing.{AreColumns}
@@ -20,40 +20,40 @@ or_false true = refl
 or_false false = refl
 
 -- which trace is one of a signal, with one more
-is_of_more : (traces : List TraceRow) (row : TraceRow) (c s : ℕ) → is_of (slice_get (traces ++ row ∷ []) c) s ≡ (is_of (slice_get traces c) s || (nat_eq (length traces) c && is_of (Some row) s))
+is_of_more : (traces : List TraceRow) (row : TraceRow) (c s : ℕ) → shows_signal (slice_get (traces ++ row ∷ []) c) s ≡ (shows_signal (slice_get traces c) s || (nat_eq (length traces) c && shows_signal (Some row) s))
 is_of_more traces row c s = elim (cases_lt c (length traces)) [
-  | inl less ↦ ap (λ o. is_of o s) (get_first traces (row ∷ []) c less)
-      ∙ sym (ap (λ (q : Bool). is_of (slice_get traces c) s || (q && is_of (Some row) s)) (ne_eqb (length traces) c (λ e. omega (arith, e, less))) ∙ or_false (is_of (slice_get traces c) s))
+  | inl less ↦ ap (λ o. shows_signal o s) (get_first traces (row ∷ []) c less)
+      ∙ sym (ap (λ (q : Bool). shows_signal (slice_get traces c) s || (q && shows_signal (Some row) s)) (ne_eqb (length traces) c (λ e. omega (arith, e, less))) ∙ or_false (shows_signal (slice_get traces c) s))
   | inr past ↦ elim (cases_eq (length traces) c) [
-    | inl same ↦ ap (λ o. is_of o s) (ap (slice_get (traces ++ row ∷ [])) (sym same) ∙ get_last traces row)
-        ∙ sym (ap (λ o. is_of o s || (nat_eq (length traces) c && is_of (Some row) s)) (slice_get_past traces c past) ∙ ap (λ (q : Bool). q && is_of (Some row) s) (eq-eqb (length traces) c same))
-    | inr apart ↦ ap (λ o. is_of o s) (get_beyond traces row c (omega (arith, past, apart)))
-        ∙ sym (ap (λ o. is_of o s || (nat_eq (length traces) c && is_of (Some row) s)) (slice_get_past traces c past) ∙ ap (λ (q : Bool). q && is_of (Some row) s) (ne_eqb (length traces) c apart))
+    | inl same ↦ ap (λ o. shows_signal o s) (ap (slice_get (traces ++ row ∷ [])) (sym same) ∙ get_last traces row)
+        ∙ sym (ap (λ o. shows_signal o s || (nat_eq (length traces) c && shows_signal (Some row) s)) (slice_get_past traces c past) ∙ ap (λ (q : Bool). q && shows_signal (Some row) s) (eq-eqb (length traces) c same))
+    | inr apart ↦ ap (λ o. shows_signal o s) (get_beyond traces row c (omega (arith, past, apart)))
+        ∙ sym (ap (λ o. shows_signal o s || (nat_eq (length traces) c && shows_signal (Some row) s)) (slice_get_past traces c past) ∙ ap (λ (q : Bool). q && shows_signal (Some row) s) (ne_eqb (length traces) c apart))
   ]
 ]
 
 -- a trace of another signal, or of none
-other_row : (traces : List TraceRow) (row : TraceRow) (c s : ℕ) → is_of (Some row) s ≡ false → is_of (slice_get (traces ++ row ∷ []) c) s ≡ is_of (slice_get traces c) s
-other_row traces row c s differs = is_of_more traces row c s ∙ ap (λ (x : Bool). is_of (slice_get traces c) s || (nat_eq (length traces) c && x)) differs
-    ∙ ap (λ (x : Bool). is_of (slice_get traces c) s || x) (and_false (nat_eq (length traces) c)) ∙ or_false (is_of (slice_get traces c) s)
+other_row : (traces : List TraceRow) (row : TraceRow) (c s : ℕ) → shows_signal (Some row) s ≡ false → shows_signal (slice_get (traces ++ row ∷ []) c) s ≡ shows_signal (slice_get traces c) s
+other_row traces row c s differs = is_of_more traces row c s ∙ ap (λ (x : Bool). shows_signal (slice_get traces c) s || (nat_eq (length traces) c && x)) differs
+    ∙ ap (λ (x : Bool). shows_signal (slice_get traces c) s || x) (and_false (nat_eq (length traces) c)) ∙ or_false (shows_signal (slice_get traces c) s)
   where
     and_false : (p : Bool) → (p && false) ≡ false
     and_false true = refl
     and_false false = refl
 
 -- a trace of this signal
-this_row : (traces : List TraceRow) (row : TraceRow) (c s : ℕ) → is_of (Some row) s ≡ true → is_of (slice_get (traces ++ row ∷ []) c) s ≡ (is_of (slice_get traces c) s || (nat_eq (length traces) c || false))
-this_row traces row c s same = is_of_more traces row c s ∙ ap (λ (x : Bool). is_of (slice_get traces c) s || (nat_eq (length traces) c && x)) same
-    ∙ ap (λ (x : Bool). is_of (slice_get traces c) s || x) (and_true (nat_eq (length traces) c))
+this_row : (traces : List TraceRow) (row : TraceRow) (c s : ℕ) → shows_signal (Some row) s ≡ true → shows_signal (slice_get (traces ++ row ∷ []) c) s ≡ (shows_signal (slice_get traces c) s || (nat_eq (length traces) c || false))
+this_row traces row c s same = is_of_more traces row c s ∙ ap (λ (x : Bool). shows_signal (slice_get traces c) s || (nat_eq (length traces) c && x)) same
+    ∙ ap (λ (x : Bool). shows_signal (slice_get traces c) s || x) (and_true (nat_eq (length traces) c))
   where
     and_true : (p : Bool) → (p && true) ≡ (p || false)
     and_true true = refl
     and_true false = refl
 
-is_this : (row : TraceRow) (s : ℕ) → row.event ≡ false → row.signal ≡ s → is_of (Some row) s ≡ true
+is_this : (row : TraceRow) (s : ℕ) → row.event ≡ false → row.signal ≡ s → shows_signal (Some row) s ≡ true
 is_this row s samples same = ap (λ (e : Bool). not e && nat_eq row.signal s) samples ∙ eq-eqb row.signal s same
 
-is_other : (row : TraceRow) (s : ℕ) → row.event ≡ false → (row.signal ≡ s → ⊥) → is_of (Some row) s ≡ false
+is_other : (row : TraceRow) (s : ℕ) → row.event ≡ false → (row.signal ≡ s → ⊥) → shows_signal (Some row) s ≡ false
 is_other row s samples apart = ap (λ (e : Bool). not e && nat_eq row.signal s) samples ∙ ne_eqb row.signal s apart
 
 pub adds_event : (row : TraceRow) (column : ℕ) (list : List TrackedOf) → row.event ≡ true → AddsTrace row column list list
@@ -89,10 +89,10 @@ adds_column row column list i t u samples at is signal columns stamps waiting = 
     once = λ j k a b aj ak e. (let x = alike (λ (v : TrackedOf). v.signal) (slice_set list i u) list j a signals aj in let y = alike (λ (v : TrackedOf). v.signal) (slice_set list i u) list k b signals ak in
         of.once j k x.0 y.0 x.1 y.1 (x.2 ∙ e ∙ sym y.2));
     columns = λ j w aw c. elim (replaced list i u t j w at aw) [
-      | Here here k ↦ subst (λ (v : TrackedOf). is_among v.columns c ≡ is_of (slice_get (traces ++ row ∷ []) c) v.signal) (sym k)
+      | Here here k ↦ subst (λ (v : TrackedOf). is_among v.columns c ≡ shows_signal (slice_get (traces ++ row ∷ []) c) v.signal) (sym k)
           (ap (λ cs. is_among cs c) columns ∙ list_any-append (λ n. nat_eq n c) t.columns (column ∷ [])
-          ∙ ap (λ (p : Bool). p || (nat_eq column c || false)) (of.columns i t at c ∙ ap (is_of (slice_get traces c)) (sym signal))
-          ∙ ap (λ n. is_of (slice_get traces c) u.signal || (nat_eq n c || false)) (sym len)
+          ∙ ap (λ (p : Bool). p || (nat_eq column c || false)) (of.columns i t at c ∙ ap (shows_signal (slice_get traces c)) (sym signal))
+          ∙ ap (λ n. shows_signal (slice_get traces c) u.signal || (nat_eq n c || false)) (sym len)
           ∙ sym (this_row traces row c u.signal (is_this row u.signal samples (sym (signal ∙ is)))))
       | There apart old ↦ of.columns j w old c ∙ sym (other_row traces row c w.signal (is_other row w.signal samples (λ e. apart (of.once j i w t old at (sym e ∙ sym is)))))
     ];
@@ -127,7 +127,7 @@ adds_signal row column list u samples none signal columns tracks = record {
     ];
     columns = λ j w aw c. elim (pushed list u j w aw) [
       | First less old ↦ of.columns j w old c ∙ sym (other_row traces row c w.signal (is_other row w.signal samples (λ e. none j w old (sym e))))
-      | Last here k ↦ subst (λ (v : TrackedOf). is_among v.columns c ≡ is_of (slice_get (traces ++ row ∷ []) c) v.signal) (sym k)
+      | Last here k ↦ subst (λ (v : TrackedOf). is_among v.columns c ≡ shows_signal (slice_get (traces ++ row ∷ []) c) v.signal) (sym k)
           (ap (λ cs. is_among cs c) columns ∙ ap (λ n. nat_eq n c || false) (sym len)
           ∙ sym (this_row traces row c u.signal (is_this row u.signal samples (sym signal)) ∙ ap (λ (p : Bool). p || (nat_eq (length traces) c || false)) (unseen traces of c (slice_get traces c) refl)))
     ];
@@ -143,7 +143,7 @@ adds_signal row column list u samples none signal columns tracks = record {
   ];
 }
   where
-    unseen : (traces : List TraceRow) (of : IsTrackingOf traces list) (c : ℕ) (o : Option TraceRow) → slice_get traces c ≡ o → is_of o u.signal ≡ false
+    unseen : (traces : List TraceRow) (of : IsTrackingOf traces list) (c : ℕ) (o : Option TraceRow) → slice_get traces c ≡ o → shows_signal o u.signal ≡ false
     unseen traces of c None e = refl
     unseen traces of c (Some r) e = go r.event refl
       where

@@ -8,17 +8,17 @@ use Rattle.tdf_trace.specs.Tracks.{IsChain, Tracks, known_cell}
 use Rattle.tdf_trace.specs.machine.Firsts.{first_cell, first_cells, known_cells}
 use Rattle.tdf_fixed.specs.declared.raw.Raw.{Raw}
 use Rattle.tdf_trace_rows.proofs.Api.{has_times, position_is, time_is}
-use Rattle.tdf_trace_rows.specs.Positions.{Span, cell_of, end_of, is_position, place_in, position_at, time_of, total}
+use Rattle.tdf_trace_rows.specs.Positions.{Span, cell_of, span_end, is_position, place_in_span, position_at, time_in_spans, count_of_spans}
 use Rattle.tdf_trace_rows.specs.Stamping.{IsStamping}
 use Rattle.tdf_trace_rows.specs.declared.stamps.Stamps.{Stamps}
 
 -- a position at a time has a number below the total, and this time
-pub below_total : (spans : List Span) (time j : ℕ) → IsChain spans → position_at 0 spans time ≡ Some j → (j < total spans) × (time_of spans j ≡ Some time)
+pub below_total : (spans : List Span) (time j : ℕ) → IsChain spans → position_at 0 spans time ≡ Some j → (j < count_of_spans spans) × (time_in_spans spans j ≡ Some time)
 below_total spans time j chained at =
     let w = position_is chained.0 0 spans j time chained.1 at in
     let e : w.0 ≡ j = (let f : j ≡ 0 + w.0 = w.1 in omega (arith, f)) in
-    let t : time_of spans j ≡ Some time = subst (λ k. time_of spans k ≡ Some time) e w.2 in (
-      elim (cases_lt j (total spans)) [
+    let t : time_in_spans spans j ≡ Some time = subst (λ k. time_in_spans spans k ≡ Some time) e w.2 in (
+      elim (cases_lt j (count_of_spans spans)) [
         | inl less ↦ less
         | inr past ↦ absurd (none_some time (sym ((has_times spans j).1 past) ∙ t))
       ],
@@ -28,9 +28,9 @@ below_total spans time j chained at =
     none_some : (n : ℕ) → None ≡ Some n → ⊥
     none_some n e = absurd (grind (arith, e))
 
-next_time : (spans : List Span) (n : ℕ) (stamps : Stamps) → IsStamping spans n stamps → 0 < stamps.left → time_of spans n ≡ Some stamps.time
+next_time : (spans : List Span) (n : ℕ) (stamps : Stamps) → IsStamping spans n stamps → 0 < stamps.left → time_in_spans spans n ≡ Some stamps.time
 next_time spans n stamps is more = let e : n ≡ n + 0 = omega arith in let f : stamps.time + 0 * stamps.step ≡ stamps.time = omega arith in
-    ap (time_of spans) e ∙ is.ahead 0 more ∙ ap Some f
+    ap (time_in_spans spans) e ∙ is.ahead 0 more ∙ ap Some f
 
 -- the next position is the one at its time
 is_next : (spans : List Span) (n : ℕ) (stamps : Stamps) → IsChain spans → IsStamping spans n stamps → 0 < stamps.left → (time : ℕ)
@@ -40,7 +40,7 @@ is_next spans n stamps chained is more time = elim (cases_eq stamps.time time) [
   | inr apart ↦ rw (ne_eqb stamps.time time apart) (other (position_at 0 spans time) refl apart)
 ]
   where
-    here : time_of spans n ≡ Some stamps.time
+    here : time_in_spans spans n ≡ Some stamps.time
     here = next_time spans n stamps is more
 
     at_next : position_at 0 spans stamps.time ≡ Some (0 + n)
@@ -49,7 +49,7 @@ is_next spans n stamps chained is more time = elim (cases_eq stamps.time time) [
     other : (o : Option ℕ) → position_at 0 spans time ≡ o → (stamps.time ≡ time → ⊥) → is_position o n ≡ false
     other None e apart = refl
     other (Some j) e apart = ne_eqb j n (λ s. apart (some_same stamps.time time
-        (sym (next_time spans n stamps is more) ∙ ap (time_of spans) (sym s) ∙ (below_total spans time j chained e).1)))
+        (sym (next_time spans n stamps is more) ∙ ap (time_in_spans spans) (sym s) ∙ (below_total spans time j chained e).1)))
 
 less_same : (j n : ℕ) → (j ≡ n → ⊥) → nat_lt j (n + 1) ≡ nat_lt j n
 less_same j n apart = elim (cases_lt j n) [
@@ -96,8 +96,8 @@ known_first spans samples t k time = go (position_at 0 spans time) refl
     go (Some j) e = elim (cases_lt j k.done) [
       | inl less ↦ rw (lt-ltb j k.done less) (has j (let w : k.done ≤ length samples = within spans samples t k in omega (arith, less, w)))
       | inr past ↦ rw (le-ltb j k.done past) (lacks j (
-          let b : j < total spans = (below_total spans time j k.chained e).0 in
-          let w : total spans ≡ k.done + t.stamps.left = k.stamping.whole in
+          let b : j < count_of_spans spans = (below_total spans time j k.chained e).0 in
+          let w : count_of_spans spans ≡ k.done + t.stamps.left = k.stamping.whole in
           let f : k.done ≡ length samples = full spans samples t k (omega (arith, b, w, past)) in
           omega (arith, f, past)))
     ]
@@ -118,27 +118,27 @@ data Pushes (low : ℕ) (old new : Option ℕ) : Type 0 where
   Same : new ≡ old → Pushes low old new
   Later : (k : ℕ) → low ≤ k → old ≡ None → new ≡ Some k → Pushes low old new
 
-push_position : (base : ℕ) (spans : List Span) (span : Span) (time : ℕ) → Pushes (base + total spans) (position_at base spans time) (position_at base (spans ++ span ∷ []) time)
-unfolding position_at total
-push_position base [] span time = last (nat_le span.start time && nat_lt time (end_of span)) (place_in span time)
+push_position : (base : ℕ) (spans : List Span) (span : Span) (time : ℕ) → Pushes (base + count_of_spans spans) (position_at base spans time) (position_at base (spans ++ span ∷ []) time)
+unfolding position_at count_of_spans
+push_position base [] span time = last (nat_le span.start time && nat_lt time (span_end span)) (place_in_span span time)
   where
     last : (p : Bool) (o : Option ℕ) → Pushes (base + 0) None (if p then option_map (λ place. base + place) o else None)
     last false o = Same refl
     last true None = Same refl
     last true (Some i) = Later (base + i) (omega arith) refl refl
 push_position base (q ∷ qs) span time =
-    both (nat_le q.start time && nat_lt time (end_of q)) (option_map (λ place. base + place) (place_in q time)) _ _ (push_position (base + q.count) qs span time)
+    both (nat_le q.start time && nat_lt time (span_end q)) (option_map (λ place. base + place) (place_in_span q time)) _ _ (push_position (base + q.count) qs span time)
   where
-    both : (p : Bool) (o old new : Option ℕ) → Pushes (base + q.count + total qs) old new → Pushes (base + (q.count + total qs)) (if p then o else old) (if p then o else new)
+    both : (p : Bool) (o old new : Option ℕ) → Pushes (base + q.count + count_of_spans qs) old new → Pushes (base + (q.count + count_of_spans qs)) (if p then o else old) (if p then o else new)
     both true o old new h = Same refl
     both false o old new (Same e) = Same e
     both false o old new (Later k low e f) = Later k (omega (arith, low)) e f
 
 -- a span more changes no cell of the positions before it
-pub first_span : (spans : List Span) (span : Span) (samples : List Raw) (n time : ℕ) → n ≡ total spans → first_cells spans samples n time ≡ first_cells (spans ++ span ∷ []) samples n time
+pub first_span : (spans : List Span) (span : Span) (samples : List Raw) (n time : ℕ) → n ≡ count_of_spans spans → first_cells spans samples n time ≡ first_cells (spans ++ span ∷ []) samples n time
 first_span spans span samples n time all = go (position_at 0 spans time) (position_at 0 (spans ++ span ∷ []) time) (push_position 0 spans span time)
   where
-    go : (old new : Option ℕ) → Pushes (0 + total spans) old new → first_cell samples n old ≡ first_cell samples n new
+    go : (old new : Option ℕ) → Pushes (0 + count_of_spans spans) old new → first_cell samples n old ≡ first_cell samples n new
     go old new (Same e) = ap (first_cell samples n) (sym e)
     go old new (Later k low e f) = ap (first_cell samples n) e ∙ sym (ap (first_cell samples n) f ∙ rw (le-ltb k n (omega (arith, low, all))) refl)
 
@@ -153,11 +153,11 @@ first_end spans samples n stamps end time chained is last less = go (position_at
       | inl small ↦ rw (lt-ltb j n small) refl
       | inr past ↦ absurd (
           let b = below_total spans time j chained e in
-          let w : total spans ≡ n + stamps.left = is.whole in
-          let l : j < total spans = b.0 in
+          let w : count_of_spans spans ≡ n + stamps.left = is.whole in
+          let l : j < count_of_spans spans = b.0 in
           let i : n + (j - n) ≡ j = omega (arith, past) in
           let t : stamps.time + (j - n) * stamps.step ≡ time =
-          some_same _ _ (sym (is.ahead (j - n) (omega (arith, l, w, past))) ∙ ap (time_of spans) i ∙ b.1) in
+          some_same _ _ (sym (is.ahead (j - n) (omega (arith, l, w, past))) ∙ ap (time_in_spans spans) i ∙ b.1) in
           let late : end ≤ stamps.time = last (omega (arith, l, w, past)) in
           omega (arith, late, t, less))
     ]

@@ -1,11 +1,11 @@
 -- Columns without cells.
 use Rattle.std.proofs.Common.{◌≡◌, ℕ, zero, suc, List, [], ◌∷◌, map, slice_get, Some, refl, ap, sym, ◌∙◌, subst, arith}
 use Rattle.std.proofs.lemmas.List.{length-map, map_more}
-use Rattle.tdf_trace_rows.specs.Noted.{noted}
+use Rattle.tdf_trace_rows.specs.Noted.{cell_noted}
 use Rattle.tdf_trace_rows.specs.Rows.{last}
 use Rattle.tdf_trace.specs.Columns.{ColumnSeen, HasFewPlaces, held_at}
 use Rattle.tdf_trace.specs.Stands.{Stands, no_cells}
-use Rattle.tdf_trace.specs.Writings.{first_of}
+use Rattle.tdf_trace.specs.Writings.{first_value}
 use Rattle.tdf_trace.specs.declared.about.Variable.{Variable}
 use Rattle.tdf_trace.specs.machine.Turning.{AreSound, HaveFewPlaces, IsSound, Rising}
 use Rattle.tdf_trace.specs.views.Seen.{fresh}
@@ -18,13 +18,13 @@ fresh_of [] c column h = absurd (grind (arith, h))
 fresh_of (v ∷ vs) zero column h = (v, refl, grind (arith, h))
 fresh_of (v ∷ vs) (suc c) column h = fresh_of vs c column h
 
-first_at : (variables : List Variable) (c : ℕ) (v : Variable) → slice_get variables c ≡ Some v → first_of variables c ≡ v.first
+first_at : (variables : List Variable) (c : ℕ) (v : Variable) → slice_get variables c ≡ Some v → first_value variables c ≡ v.first
 first_at [] c v h = absurd (grind (arith, h))
 first_at (w ∷ ws) zero v h = let e : w ≡ v = grind (arith, h) in ap (λ (x : Variable). x.first) e
 first_at (w ∷ ws) (suc c) v h = first_at ws c v h
 
 pub fresh_stands : (variables : List Variable) → Stands (no_cells variables) (record { columns = map fresh variables; upto = 0 })
-unfolding held_at last noted
+unfolding held_at last cell_noted
 fresh_stands variables = record {
   count = length-map variables fresh;
   held = λ c t column here low. (let w = fresh_of variables c column here in ap (λ (x : ColumnSeen). held_at x.held t) w.2);

@@ -6,9 +6,9 @@ use Rattle.std.proofs.lemmas.Option.{slice_get_within}
 use Rattle.tdf_trace.proofs.ColumnPlaces.{Here, There, alike, replaced, set_map, set_other, some_same}
 use Rattle.tdf_trace.proofs.Showings.{same_signal}
 use Rattle.tdf_trace.specs.Calls.{HasStarted, Holds, StandBelow, TakesPeriod, TakesSamples, with_span, with_traced}
-use Rattle.tdf_trace.specs.Tracked.{AreLater, Label, TrackedOf, label, labels, samples_of, AreSince}
+use Rattle.tdf_trace.specs.Tracked.{AreLater, Label, TrackedOf, label, labels, samples_traced, AreSince}
 use Rattle.tdf_trace.specs.Tracks.{IsChain, Tracks, cells_by, known_by, known_cell}
-use Rattle.tdf_trace.specs.Traces.{IsTrackingOf, is_among, is_of, sample_or, with_samples}
+use Rattle.tdf_trace.specs.Traces.{IsTrackingOf, is_among, shows_signal, sample_or, with_signal_samples}
 use Rattle.tdf_trace.specs.machine.Finding.{Finds, found}
 use Rattle.tdf_trace.specs.machine.Going.{NotesTo}
 use Rattle.tdf_trace.specs.machine.Showing.{NotesOne, OneHolds, TakesOne, TakesOnePeriod, with_signal}
@@ -30,7 +30,7 @@ sample_same (Some row) f h other same = go row.event refl
     go false is = same row refl is
 
 -- the cell of a column, where one signal's cells were put apart
-pick_row : (o : Option TraceRow) (s : ℕ) (a other : Option (Option Raw)) (f h : ℕ → Option (Option Raw)) → a ≡ h s → ((k : ℕ) → (k ≡ s → ⊥) → f k ≡ h k) → (if is_of o s then a else sample_or o f other) ≡ sample_or o h other
+pick_row : (o : Option TraceRow) (s : ℕ) (a other : Option (Option Raw)) (f h : ℕ → Option (Option Raw)) → a ≡ h s → ((k : ℕ) → (k ≡ s → ⊥) → f k ≡ h k) → (if shows_signal o s then a else sample_or o f other) ≡ sample_or o h other
 pick_row None s a other f h here there = refl
 pick_row (Some row) s a other f h here there = go row.event row.signal
   where
@@ -43,8 +43,8 @@ pick_row (Some row) s a other f h here there = go row.event row.signal
 
 -- the cells of one signal apart from all
 out_of : (traces : List TraceRow) (cells : Cells) (list : List TrackedOf) (of : IsTrackingOf traces list) (i : ℕ) (t : TrackedOf) (f : ℕ → ℕ → Option (Option Raw)) (rows : RowsSeen) → slice_get list i ≡ Some t
-    → Stands (with_samples traces cells f) rows → Stands (with_signal t.columns (with_samples traces cells f) (f t.signal)) rows
-out_of traces cells list of i t f rows at stands = stands_alike (with_samples traces cells f) (with_signal t.columns (with_samples traces cells f) (f t.signal)) rows
+    → Stands (with_signal_samples traces cells f) rows → Stands (with_signal t.columns (with_signal_samples traces cells f) (f t.signal)) rows
+out_of traces cells list of i t f rows at stands = stands_alike (with_signal_samples traces cells f) (with_signal t.columns (with_signal_samples traces cells f) (f t.signal)) rows
     (λ below. record {
       columns = refl;
       first = λ c less. refl;
@@ -57,8 +57,8 @@ out_of traces cells list of i t f rows at stands = stands_alike (with_samples tr
 -- and back
 into : (traces : List TraceRow) (cells : Cells) (list : List TrackedOf) (of : IsTrackingOf traces list) (i : ℕ) (t : TrackedOf) (a : ℕ → Option (Option Raw)) (f h : ℕ → ℕ → Option (Option Raw)) (rows : RowsSeen) → slice_get list i ≡ Some t
     → ((time : ℕ) → a time ≡ h t.signal time) → ((k time : ℕ) → (k ≡ t.signal → ⊥) → f k time ≡ h k time)
-    → Stands (with_signal t.columns (with_samples traces cells f) a) rows → Stands (with_samples traces cells h) rows
-into traces cells list of i t a f h rows at here there stands = stands_alike (with_signal t.columns (with_samples traces cells f) a) (with_samples traces cells h) rows
+    → Stands (with_signal t.columns (with_signal_samples traces cells f) a) rows → Stands (with_signal_samples traces cells h) rows
+into traces cells list of i t a f h rows at here there stands = stands_alike (with_signal t.columns (with_signal_samples traces cells f) a) (with_signal_samples traces cells h) rows
     (λ below. record {
       columns = refl;
       first = λ c less. refl;
@@ -78,7 +78,7 @@ of_kept traces old new same of = record {
   once = λ i j t u at au e. (let x = alike label new old i t same at in let y = alike label new old j u same au in
       of.once i j x.0 y.0 x.1 y.1 ((label_of t x.0 x.2).0 ∙ e ∙ sym (label_of u y.0 y.2).0));
   columns = λ i t at c. (let x = alike label new old i t same at in let l = label_of t x.0 x.2 in
-      ap (λ cs. is_among cs c) (sym l.1) ∙ of.columns i x.0 x.1 c ∙ ap (is_of (slice_get traces c)) l.0);
+      ap (λ cs. is_among cs c) (sym l.1) ∙ of.columns i x.0 x.1 c ∙ ap (shows_signal (slice_get traces c)) l.0);
   all = λ c row at is. (let w = of.all c row at is in let x = alike label old new w.place w.it (sym same) w.there in
       record { place = w.place; it = x.0; there = x.1; same = (label_of w.it x.0 x.2).0 ∙ w.same });
 }
@@ -93,7 +93,7 @@ pub holds_same : (traces : List TraceRow) (cells : Cells) (spans other : ℕ →
 holds_same traces cells spans other samples more list rows e f h = record {
   of = h.of;
   tracked = λ i t at. subst (λ xs. Tracks xs (more t.signal) t) (sym (e i t at)) (subst (λ ys. Tracks (spans t.signal) ys t) (sym (f i t at)) (h.tracked i t at));
-  stands = stands_alike (with_samples traces cells (known_by spans samples)) (with_samples traces cells (known_by other more)) rows
+  stands = stands_alike (with_signal_samples traces cells (known_by spans samples)) (with_signal_samples traces cells (known_by other more)) rows
       (λ below. record {
         columns = refl;
         first = λ c less. refl;
@@ -108,13 +108,13 @@ holds_same traces cells spans other samples more list rows e f h = record {
 -- one signal's part has changed
 pub holds_set : (traces : List TraceRow) (cells : Cells) (spans other : ℕ → List Span) (samples more : ℕ → List Raw) (list : List TrackedOf) (place : ℕ) (t u : TrackedOf) (before after : RowsSeen)
     → slice_get list place ≡ Some t → label u ≡ label t
-    → (OneHolds (spans t.signal) (samples t.signal) (with_samples traces cells (known_by spans samples)) t before
-    → OneHolds (other t.signal) (more t.signal) (with_samples traces cells (known_by spans samples)) u after)
+    → (OneHolds (spans t.signal) (samples t.signal) (with_signal_samples traces cells (known_by spans samples)) t before
+    → OneHolds (other t.signal) (more t.signal) (with_signal_samples traces cells (known_by spans samples)) u after)
     → ((s : ℕ) → (s ≡ t.signal → ⊥) → other s ≡ spans s) → ((s : ℕ) → (s ≡ t.signal → ⊥) → more s ≡ samples s)
     → Holds traces cells spans samples list before → Holds traces cells other more (slice_set list place u) after
 holds_set traces cells spans other samples more list place t u before after at same step e f h =
     let l = label_of t u same in
-    let one : OneHolds (other t.signal) (more t.signal) (with_samples traces cells (known_by spans samples)) u after =
+    let one : OneHolds (other t.signal) (more t.signal) (with_signal_samples traces cells (known_by spans samples)) u after =
     step (record { tracked = h.tracked place t at; stands = out_of traces cells list h.of place t (known_by spans samples) before at h.stands }) in
     record {
       of = of_kept traces list (slice_set list place u) (set_map label list place u t at same) h.of;
@@ -125,12 +125,12 @@ holds_set traces cells spans other samples more list place t u before after at s
       ];
       stands = into traces cells list h.of place t (known_by other more t.signal) (known_by spans samples) (known_by other more) after at (λ time. refl)
           (λ k time apart. known_same spans other samples more k time (e k apart) (f k apart))
-          (subst (λ cs. Stands (with_signal cs (with_samples traces cells (known_by spans samples)) (known_by other more t.signal)) after) l.1 one.stands);
+          (subst (λ cs. Stands (with_signal cs (with_signal_samples traces cells (known_by spans samples)) (known_by other more t.signal)) after) l.1 one.stands);
     }
 
 -- the samples of a list with one more
-pub samples_append : (s : ℕ) (xs ys : List Traced) → samples_of s (xs ++ ys) ≡ samples_of s xs ++ samples_of s ys
-unfolding samples_of
+pub samples_append : (s : ℕ) (xs ys : List Traced) → samples_traced s (xs ++ ys) ≡ samples_traced s xs ++ samples_traced s ys
+unfolding samples_traced
 samples_append s [] ys = refl
 samples_append s (x ∷ xs) ys = elim (cases_eq x.signal s) [
   | inl same ↦ rw (eq-eqb x.signal s same) (ap (λ zs. x.value ∷ zs) (samples_append s xs ys))
@@ -138,15 +138,15 @@ samples_append s (x ∷ xs) ys = elim (cases_eq x.signal s) [
 ]
 
 sample_here : (samples : ℕ → List Raw) (x : Traced) (s : ℕ) → x.signal ≡ s → with_traced samples (x ∷ []) s ≡ samples s ++ x.value ∷ []
-unfolding samples_of
+unfolding samples_traced
 sample_here samples x s same = rw (eq-eqb x.signal s same) refl
 
 sample_other : (samples : ℕ → List Raw) (x : Traced) (s : ℕ) → (x.signal ≡ s → ⊥) → with_traced samples (x ∷ []) s ≡ samples s
-unfolding samples_of
+unfolding samples_traced
 sample_other samples x s apart = rw (ne_eqb x.signal s apart) (append-nil (samples s))
 
 none_traced : (samples : ℕ → List Raw) (s : ℕ) → with_traced samples [] s ≡ samples s
-unfolding samples_of
+unfolding samples_traced
 none_traced samples s = append-nil (samples s)
 
 -- a sample of a signal that is tracked, and of one that isn't
@@ -154,8 +154,8 @@ pub sample_taken : (x : Traced) (list : List TrackedOf) (place : ℕ) (t u : Tra
     → TakesOne x.value t u before after → TakesSamples (x ∷ []) list (slice_set list place u) before after
 sample_taken x list place t u before after at is same one traces cells spans samples h =
     holds_set traces cells spans spans samples (with_traced samples (x ∷ [])) list place t u before after at same
-    (λ k. subst (λ ys. OneHolds (spans t.signal) ys (with_samples traces cells (known_by spans samples)) u after) (sym (sample_here samples x t.signal (sym is)))
-    (one (spans t.signal) (samples t.signal) (with_samples traces cells (known_by spans samples)) k))
+    (λ k. subst (λ ys. OneHolds (spans t.signal) ys (with_signal_samples traces cells (known_by spans samples)) u after) (sym (sample_here samples x t.signal (sym is)))
+    (one (spans t.signal) (samples t.signal) (with_signal_samples traces cells (known_by spans samples)) k))
     (λ s apart. refl) (λ s apart. sample_other samples x s (λ e. apart (sym e ∙ sym is))) h
 
 pub sample_passed : (x : Traced) (list : List TrackedOf) (rows : RowsSeen) → ((i : ℕ) (t : TrackedOf) → slice_get list i ≡ Some t → t.signal ≡ x.signal → ⊥) → TakesSamples (x ∷ []) list list rows rows
@@ -168,7 +168,7 @@ none_given list rows traces cells spans samples h = holds_same traces cells span
 pub more_given : (xs : List Traced) (x : Traced) (a b d : List TrackedOf) (p q r : RowsSeen) → TakesSamples xs a b p q → TakesSamples (x ∷ []) b d q r → TakesSamples (xs ++ x ∷ []) a d p r
 more_given xs x a b d p q r first next traces cells spans samples h =
     holds_same traces cells spans spans (with_traced (with_traced samples xs) (x ∷ [])) (with_traced samples (xs ++ x ∷ [])) d r (λ i t at. refl)
-    (λ i t at. ap (λ ys. samples t.signal ++ ys) (samples_append t.signal xs (x ∷ [])) ∙ sym (append_assoc (samples t.signal) (samples_of t.signal xs) (samples_of t.signal (x ∷ []))))
+    (λ i t at. ap (λ ys. samples t.signal ++ ys) (samples_append t.signal xs (x ∷ [])) ∙ sym (append_assoc (samples t.signal) (samples_traced t.signal xs) (samples_traced t.signal (x ∷ []))))
     (next traces cells spans (with_traced samples xs) (first traces cells spans samples h))
 
 -- a period of a signal that is tracked, and of one that isn't
@@ -176,8 +176,8 @@ pub period_taken : (signal : ℕ) (span : Span) (list : List TrackedOf) (place :
     → TakesOnePeriod span t u before after → TakesPeriod signal span list (slice_set list place u) before after
 period_taken signal span list place t u before after at is same one traces cells spans samples chained h =
     holds_set traces cells spans (with_span spans signal span) samples samples list place t u before after at same
-    (λ k. subst (λ xs. OneHolds xs (samples t.signal) (with_samples traces cells (known_by spans samples)) u after) (sym here)
-    (one (spans t.signal) (samples t.signal) (with_samples traces cells (known_by spans samples)) (subst (λ n. IsChain (spans n ++ span ∷ [])) (sym is) chained) k))
+    (λ k. subst (λ xs. OneHolds xs (samples t.signal) (with_signal_samples traces cells (known_by spans samples)) u after) (sym here)
+    (one (spans t.signal) (samples t.signal) (with_signal_samples traces cells (known_by spans samples)) (subst (λ n. IsChain (spans n ++ span ∷ [])) (sym is) chained) k))
     (λ s apart. other s apart) (λ s apart. refl) h
   where
     here : with_span spans signal span t.signal ≡ spans t.signal ++ span ∷ []
@@ -202,13 +202,13 @@ none_noted end list rows traces cells spans samples h = record {
 pub more_noted : (k end : ℕ) (list : List TrackedOf) (t : TrackedOf) (first before after : RowsSeen) → slice_get list k ≡ Some t → NotesOne end t before after → NotesTo k end list first before → NotesTo (k + 1) end list first after
 more_noted k end list t first before after at one notes traces cells spans samples h =
     let n = notes traces cells spans samples h in
-    let g = with_samples traces cells n.of in
-    let held : OneHolds (spans t.signal) (samples t.signal) (with_samples traces cells n.of) t before = record {
+    let g = with_signal_samples traces cells n.of in
+    let held : OneHolds (spans t.signal) (samples t.signal) (with_signal_samples traces cells n.of) t before = record {
       tracked = h.tracked k t at;
-      stands = shown t (n.of t.signal) (known_by spans samples t.signal) (with_samples traces cells n.of) before (n.others k t (omega arith) at)
+      stands = shown t (n.of t.signal) (known_by spans samples t.signal) (with_signal_samples traces cells n.of) before (n.others k t (omega arith) at)
           (out_of traces cells list h.of k t n.of before at n.stand);
     } in
-    let d = one (spans t.signal) (samples t.signal) (with_samples traces cells n.of) held in record {
+    let d = one (spans t.signal) (samples t.signal) (with_signal_samples traces cells n.of) held in record {
       of = λ s. if nat_eq s t.signal then d.of else n.of s;
       stand = into traces cells list h.of k t d.of n.of (λ s. if nat_eq s t.signal then d.of else n.of s) after at (λ time. ap (λ (f : ℕ → Option (Option Raw)). f time) (sym (chosen t.signal t.signal d.of (n.of t.signal) refl)))
           (λ s time apart. ap (λ (f : ℕ → Option (Option Raw)). f time) (sym (left s t.signal d.of (n.of s) apart))) d.stand;
@@ -233,10 +233,10 @@ more_noted k end list t first before after at one notes traces cells spans sampl
     shown v f g cs rows same stands = same_signal v.columns cs f g rows same stands
 
 pub all_noted : (k end : ℕ) (list : List TrackedOf) (before after : RowsSeen) → length list ≤ k → NotesTo k end list before after
-    → (traces : List TraceRow) (cells : Cells) (spans : ℕ → List Span) (samples : ℕ → List Raw) → Holds traces cells spans samples list before → StandBelow (with_samples traces cells (cells_by spans samples)) end after
+    → (traces : List TraceRow) (cells : Cells) (spans : ℕ → List Span) (samples : ℕ → List Raw) → Holds traces cells spans samples list before → StandBelow (with_signal_samples traces cells (cells_by spans samples)) end after
 all_noted k end list before after past notes traces cells spans samples h =
     let n = notes traces cells spans samples h in record {
-      noted = with_samples traces cells n.of;
+      noted = with_signal_samples traces cells n.of;
       stand = n.stand;
       agree = record {
         columns = refl;

@@ -3,14 +3,14 @@ use Rattle.std.proofs.Common.{◌≡◌, ℕ, suc, ◌+◌, ◌<◌, List, [], �
 use Rattle.std.proofs.lemmas.List.{get_or-map, length-map}
 use Rattle.tdf_io.proofs.Api.{pieces_more, pieces_none}
 use Rattle.tdf_trace.specs.Columns.{ColumnSeen, before_row, shown_row}
-use Rattle.tdf_trace.specs.Tables.{cell_at}
+use Rattle.tdf_trace.specs.Tables.{cell_in_row}
 use Rattle.tdf_trace.specs.Writings.{labels_of, sizes_of}
 use Rattle.tdf_trace.specs.declared.about.Variable.{Variable}
 
-pub shown_at : (columns : List ColumnSeen) (i : ℕ) (d : ColumnSeen) → i < length columns → cell_at (shown_row columns) i ≡ (slice_index_or columns i d).shown
+pub shown_at : (columns : List ColumnSeen) (i : ℕ) (d : ColumnSeen) → i < length columns → cell_in_row (shown_row columns) i ≡ (slice_index_or columns i d).shown
 shown_at columns i d less = get_or-map (λ (c : ColumnSeen). c.shown) columns i d None less
 
-pub before_at : (columns : List ColumnSeen) (i : ℕ) (d : ColumnSeen) → i < length columns → cell_at (before_row columns) i ≡ (slice_index_or columns i d).before
+pub before_at : (columns : List ColumnSeen) (i : ℕ) (d : ColumnSeen) → i < length columns → cell_in_row (before_row columns) i ≡ (slice_index_or columns i d).before
 before_at columns i d less = get_or-map (λ (c : ColumnSeen). c.before) columns i d None less
 
 pub label_at : (variables : List Variable) (i : ℕ) (d : Variable) → i < length variables → slice_index_or (labels_of variables) i [] ≡ (slice_index_or variables i d).label

@@ -4,7 +4,7 @@ use Rattle.std.specs.List.{insert}
 use Rattle.std.proofs.lemmas.Bool.{lt-ltb, le-ltb, cases_eq, cases_lt, eq-eqb, ne_eqb, eqb-true, eqb-false, true≢false}
 use Rattle.std.proofs.lemmas.Option.{slice_get_within}
 use Rattle.tdf_trace_rows.proofs.Api.{last_with_cell}
-use Rattle.tdf_trace_rows.specs.Noted.{with_cell}
+use Rattle.tdf_trace_rows.specs.Noted.{with_noted_cell}
 use Rattle.tdf_trace_rows.specs.Rows.{Cells}
 use Rattle.tdf_trace_rows.specs.declared.cell.Cell.{Cell}
 use Rattle.tdf_trace.proofs.Places.{get_some}
@@ -136,7 +136,7 @@ abbrev pub held_of : Cell → Held
 held_of cell = record { time = cell.time; value = cell.value }
 
 pub put_stands : (g : Cells) (upto : ℕ) (cell : Cell) (old new : List ColumnSeen) → IsPut old new cell.column (held_of cell) → upto ≤ cell.time
-    → Stands g (record { columns = old; upto = upto }) → Stands (with_cell g cell) (record { columns = new; upto = upto })
+    → Stands g (record { columns = old; upto = upto }) → Stands (with_noted_cell g cell) (record { columns = new; upto = upto })
 put_stands g upto cell old new is low h = record {
   count = is.same ∙ h.count;
   held = λ d s column at from. elim (was old new cell.column d (held_of cell) column is at) [
@@ -150,10 +150,10 @@ put_stands g upto cell old new is low h = record {
   ];
 }
   where
-    here_at : (d s : ℕ) → d ≡ cell.column → (with_cell g cell).at d s ≡ (if nat_eq cell.time s then Some cell.value else g.at d s)
+    here_at : (d s : ℕ) → d ≡ cell.column → (with_noted_cell g cell).at d s ≡ (if nat_eq cell.time s then Some cell.value else g.at d s)
     here_at d s same = rw (eq-eqb cell.column d (sym same)) refl
 
-    there_at : (d s : ℕ) → (d ≡ cell.column → ⊥) → (with_cell g cell).at d s ≡ g.at d s
+    there_at : (d s : ℕ) → (d ≡ cell.column → ⊥) → (with_noted_cell g cell).at d s ≡ g.at d s
     there_at d s apart = rw (ne_eqb cell.column d (λ e. apart (sym e))) refl
 
 pub set_here : (columns : List ColumnSeen) (c : ℕ) (x : ColumnSeen) → c < length columns → slice_get (slice_set columns c x) c ≡ Some x

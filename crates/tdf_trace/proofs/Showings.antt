@@ -4,7 +4,7 @@ use Rattle.std.proofs.lemmas.List.Folds.{list_any-append}
 use Rattle.tdf_trace.specs.Traces.{is_among}
 use Rattle.tdf_trace.specs.machine.Showing.{TakesCells, with_cells, with_signal}
 use Rattle.tdf_fixed.specs.declared.raw.Raw.{Raw}
-use Rattle.tdf_trace_rows.specs.Noted.{with_cell}
+use Rattle.tdf_trace_rows.specs.Noted.{with_noted_cell}
 use Rattle.tdf_trace_rows.specs.Rows.{Cells}
 use Rattle.tdf_trace_rows.specs.declared.cell.Cell.{Cell}
 use Rattle.tdf_trace.proofs.Alike.{stands_alike}
@@ -29,10 +29,10 @@ one_more false false r v a = refl
 pub more_taken : (columns : List ℕ) (c time : ℕ) (value : Option Raw) (first before after : RowsSeen) → TakesCells columns time value first before → TakesCell (cell_in c time value) before after
     → TakesCells (columns ++ c ∷ []) time value first after
 more_taken columns c time value first before after took one cells h =
-    stands_alike (with_cell (with_cells columns time value cells) (cell_in c time value)) (with_cells (columns ++ c ∷ []) time value cells) after
+    stands_alike (with_noted_cell (with_cells columns time value cells) (cell_in c time value)) (with_cells (columns ++ c ∷ []) time value cells) after
     (λ below. record { columns = refl; first = λ d less. refl; cells = λ d s inside low. same d s }) (one (with_cells columns time value cells) (took cells h))
   where
-    same : (d s : ℕ) → (with_cell (with_cells columns time value cells) (cell_in c time value)).at d s ≡ (with_cells (columns ++ c ∷ []) time value cells).at d s
+    same : (d s : ℕ) → (with_noted_cell (with_cells columns time value cells) (cell_in c time value)).at d s ≡ (with_cells (columns ++ c ∷ []) time value cells).at d s
     same d s = one_more (is_among columns d) (nat_eq c d) (nat_eq time s) (Some value) (cells.at d s)
         ∙ ap (λ (p : Bool). if p && nat_eq time s then Some value else cells.at d s) (sym (list_any-append (λ k. nat_eq k d) columns (c ∷ [])))
 

@@ -12,7 +12,7 @@ use Rattle.tdf_trace.specs.machine.Firsts.{first_cells}
 use Rattle.tdf_trace.specs.machine.Showing.{ClosedTo, IsAt, IsNotedBelow, OneHolds, TakesCells, with_signal}
 use Rattle.tdf_fixed.specs.declared.raw.Raw.{Raw}
 use Rattle.tdf_trace_rows.proofs.Api.{stamped_begin, stamped_on}
-use Rattle.tdf_trace_rows.specs.Positions.{AreChained, Span, total}
+use Rattle.tdf_trace_rows.specs.Positions.{AreChained, Span, count_of_spans}
 use Rattle.tdf_trace_rows.specs.Rows.{Cells}
 use Rattle.tdf_trace_rows.specs.Stamping.{IsStamping, stamps_after}
 use Rattle.tdf_trace_rows.specs.declared.stamps.Stamps.{Stamps}
@@ -100,7 +100,7 @@ pub period_begun : (spans : List Span) (samples : List Raw) (cells : Cells) (sta
     → (h : OneHolds spans samples cells t rows) → IsAt (spans ++ record { start = start; step = step; count = count } ∷ []) samples h.tracked.done cells u rows
 period_begun spans samples cells start step count t u rows none columns waiting stamps chained h =
     let k = h.tracked in
-    let all : k.done ≡ total spans = (let w : total spans ≡ k.done + t.stamps.left = k.stamping.whole in omega (arith, w, none)) in record {
+    let all : k.done ≡ count_of_spans spans = (let w : count_of_spans spans ≡ k.done + t.stamps.left = k.stamping.whole in omega (arith, w, none)) in record {
       stamping = subst (λ (s : Stamps). IsStamping (spans ++ record { start = start; step = step; count = count } ∷ []) k.done s) (sym stamps)
           (stamped_begin spans k.done t.stamps.time t.stamps.step t.stamps.left start step count none k.stamping);
       many = ap (λ xs. k.done + length xs) waiting ∙ k.many;

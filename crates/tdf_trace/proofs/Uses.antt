@@ -7,10 +7,10 @@ use Rattle.tdf_trace.proofs.ColumnPlaces.{alike, some_same}
 use Rattle.tdf_trace.specs.Calls.{HasStarted, Holds}
 use Rattle.tdf_trace.specs.Tracked.{AreSince, TrackedOf, label}
 use Rattle.tdf_trace.specs.Tracks.{AreTracked, Tracks, known_by}
-use Rattle.tdf_trace.specs.Traces.{IsTrackingOf, sample_or, with_samples}
+use Rattle.tdf_trace.specs.Traces.{IsTrackingOf, sample_or, with_signal_samples}
 use Rattle.tdf_fixed.specs.declared.raw.Raw.{Raw}
-use Rattle.tdf_trace_rows.specs.Noted.{is_cell_of, with_cell}
-use Rattle.tdf_trace_rows.specs.Positions.{Span, position_at, total}
+use Rattle.tdf_trace_rows.specs.Noted.{is_cell_of, with_noted_cell}
+use Rattle.tdf_trace_rows.specs.Positions.{Span, position_at, count_of_spans}
 use Rattle.tdf_trace_rows.specs.Rows.{Cells}
 use Rattle.tdf_trace_rows.specs.declared.cell.Cell.{Cell}
 use Rattle.tdf_trace.proofs.Alike.{stands_alike}
@@ -18,9 +18,9 @@ use Rattle.tdf_trace.specs.Stands.{RowsSeen, Stands, TakesCell}
 use Rattle.tdf_bind_connections.specs.declared.traces.TraceRow.{TraceRow}
 
 -- the positions that are left are those without a sample
-pub left_is : (spans : List Span) (samples : List Raw) (t : TrackedOf) → Tracks spans samples t → t.stamps.left ≡ total spans - length samples
+pub left_is : (spans : List Span) (samples : List Raw) (t : TrackedOf) → Tracks spans samples t → t.stamps.left ≡ count_of_spans spans - length samples
 left_is spans samples t k =
-    let w : total spans ≡ k.done + t.stamps.left = k.stamping.whole in
+    let w : count_of_spans spans ≡ k.done + t.stamps.left = k.stamping.whole in
     let l : k.done ≤ length samples = within spans samples t k in
     elim (cases_lt 0 t.stamps.left) [
       | inl more ↦ (let f : k.done ≡ length samples = full spans samples t k more in omega (arith, w, f))
@@ -35,7 +35,7 @@ unfolding position_at
 holds_fresh traces cells list rows of tracked none stands = record {
   of = of;
   tracked = tracked;
-  stands = stands_alike cells (with_samples traces cells (known_by (λ signal. []) (λ signal. []))) rows
+  stands = stands_alike cells (with_signal_samples traces cells (known_by (λ signal. []) (λ signal. []))) rows
       (λ below. record { columns = refl; first = λ c less. refl; cells = λ c s inside low. same c s (slice_get traces c) refl }) stands;
 }
   where
@@ -49,12 +49,12 @@ holds_fresh traces cells list rows of tracked none stands = record {
 
 -- a cell more in the column of an event signal
 pub holds_event : (traces : List TraceRow) (cells : Cells) (spans : ℕ → List Span) (samples : ℕ → List Raw) (list : List TrackedOf) (cell : Cell) (row : TraceRow) (before after : RowsSeen)
-    → slice_get traces cell.column ≡ Some row → row.event ≡ true → TakesCell cell before after → Holds traces cells spans samples list before → Holds traces (with_cell cells cell) spans samples list after
+    → slice_get traces cell.column ≡ Some row → row.event ≡ true → TakesCell cell before after → Holds traces cells spans samples list before → Holds traces (with_noted_cell cells cell) spans samples list after
 holds_event traces cells spans samples list cell row before after at event took h = record {
   of = h.of;
   tracked = h.tracked;
-  stands = stands_alike (with_cell (with_samples traces cells (known_by spans samples)) cell) (with_samples traces (with_cell cells cell) (known_by spans samples)) after
-      (λ below. record { columns = refl; first = λ c less. refl; cells = λ c s inside low. same c s }) (took (with_samples traces cells (known_by spans samples)) h.stands);
+  stands = stands_alike (with_noted_cell (with_signal_samples traces cells (known_by spans samples)) cell) (with_signal_samples traces (with_noted_cell cells cell) (known_by spans samples)) after
+      (λ below. record { columns = refl; first = λ c less. refl; cells = λ c s inside low. same c s }) (took (with_signal_samples traces cells (known_by spans samples)) h.stands);
 }
   where
     here : (o : Option TraceRow) (f : ℕ → Option (Option Raw)) (other : Option (Option Raw)) → o ≡ Some row → sample_or o f other ≡ other

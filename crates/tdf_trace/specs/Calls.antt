@@ -1,9 +1,9 @@
 -- What the calls do to a tracking and to the rows of a trace.
 -- Source: own.
 use Rattle.std.specs.Prelude.{◌≡◌, ℕ, ◌<◌, ◌≤◌, false, nat_eq, if◌then◌else◌, Some, List, [], ◌∷◌, ◌++◌, length, slice_get}
-use Rattle.tdf_trace.specs.Tracked.{TrackedOf, TrackingOf, labels, samples_of}
+use Rattle.tdf_trace.specs.Tracked.{TrackedOf, TrackingOf, labels, samples_traced}
 use Rattle.tdf_trace.specs.Tracks.{AreTracked, IsChain, cells_by, known_by}
-use Rattle.tdf_trace.specs.Traces.{IsTrackingOf, with_samples}
+use Rattle.tdf_trace.specs.Traces.{IsTrackingOf, with_signal_samples}
 use Rattle.tdf_convert.specs.declared.outputs.Traced.{Traced}
 use Rattle.tdf_fixed.specs.declared.raw.Raw.{Raw}
 use Rattle.tdf_trace_rows.specs.Laws.{Agree}
@@ -18,7 +18,7 @@ pub record Holds (traces : List TraceRow) (cells : Cells) (spans : ℕ → List 
     (samples : ℕ → List Raw) (list : List TrackedOf) (rows : RowsSeen) : Type 0 where
   pub of : IsTrackingOf traces list
   pub tracked : AreTracked spans samples list
-  pub stands : Stands (with_samples traces cells (known_by spans samples)) rows
+  pub stands : Stands (with_signal_samples traces cells (known_by spans samples)) rows
 
 -- a signal with one period more
 abbrev pub with_span : (ℕ → List Span) → (signal : ℕ) → Span → ℕ → List Span
@@ -27,7 +27,7 @@ with_span spans signal span s =
 
 -- each signal with the samples that came
 abbrev pub with_traced : (ℕ → List Raw) → List Traced → ℕ → List Raw
-with_traced samples list s = samples s ++ samples_of s list
+with_traced samples list s = samples s ++ samples_traced s list
 
 -- samples came
 abbrev pub TakesSamples : List Traced → (old new : List TrackedOf) → (before after : RowsSeen)
@@ -56,7 +56,7 @@ abbrev pub NotesRest : (end : ℕ) → List TrackedOf → (before after : RowsSe
 NotesRest end list before after =
     (traces : List TraceRow) (cells : Cells) (spans : ℕ → List Span) (samples : ℕ → List Raw)
     → Holds traces cells spans samples list before
-    → StandBelow (with_samples traces cells (cells_by spans samples)) end after
+    → StandBelow (with_signal_samples traces cells (cells_by spans samples)) end after
 
 -- all positions of the last period of a signal have their times
 abbrev pub HasNoneLeft : (signal : ℕ) → List TrackedOf → Type 0

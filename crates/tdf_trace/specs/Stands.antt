@@ -5,10 +5,10 @@ use Rattle.std.specs.Prelude.{◌≡◌, ◌≢◌, ◌⊎◌, ℕ, ◌<◌, ◌
 use Rattle.tdf_trace_rows.specs.Rows.{Cells, is_row, last}
 use Rattle.tdf_io.specs.Bytes.{AppendsFront, WritesText}
 use Rattle.tdf_io.specs.declared.writing.SinkErr.{SinkErr}
-use Rattle.tdf_trace_rows.specs.Noted.{cells_of, with_cell}
+use Rattle.tdf_trace_rows.specs.Noted.{cells_noted, with_noted_cell}
 use Rattle.tdf_trace_rows.specs.declared.cell.Cell.{Cell}
 use Rattle.tdf_trace.specs.Columns.{ColumnSeen, held_at}
-use Rattle.tdf_trace.specs.Writings.{AboutSeen, first_of, rest_text, rows_text}
+use Rattle.tdf_trace.specs.Writings.{AboutSeen, first_value, rest_text, rows_text}
 use Rattle.tdf_trace.specs.declared.about.Variable.{Variable}
 use Rattle.tdf_trace.specs.declared.stage.Stage.{Stage}
 use Rattle.tdf_trace.specs.declared.stage.Stage.TheVariants.{Broken, New, Open}
@@ -34,7 +34,7 @@ pub record Stands (cells : Cells) (rows : RowsSeen) : Type 0 where
 
 -- no cell yet, of columns that begin with these values
 abbrev pub no_cells : List Variable → Cells
-no_cells variables = cells_of (length variables) (first_of variables) []
+no_cells variables = cells_noted (length variables) (first_value variables) []
 
 -- after a call that writes a trace is open, or broken where the call was refused
 abbrev pub IsStageAfter : {T : Type 0} → Result T SinkErr → Stage → Type 0
@@ -50,7 +50,7 @@ pub record IsNew (trace : TraceSeen) (of : AboutSeen) : Type 0 where
 -- a cell was taken: rows that stand for some cells stand for these with it
 abbrev pub TakesCell : Cell → (old new : RowsSeen) → Type 0
 TakesCell cell old new =
-    (cells : Cells) → Stands cells old → Stands (with_cell cells cell) new
+    (cells : Cells) → Stands cells old → Stands (with_noted_cell cells cell) new
 
 -- no cell from a time on and below another is only announced
 abbrev pub AreGiven : Cells → (from end : ℕ) → Type 0
@@ -59,7 +59,7 @@ AreGiven cells from end = (column time : ℕ) → column < cells.columns → fro
 
 -- rows were written: the sink took them, each of their cells was given, and the trace stands for
 -- the same cells
-pub record Advances (about : AboutSeen) (cells : Cells) (old new : RowsSeen)
+pub record AdvancesRows (about : AboutSeen) (cells : Cells) (old new : RowsSeen)
     (before after : Option (List ℕ)) : Type 0 where
   pub later : old.upto ≤ new.upto
   pub stands : Stands cells new
@@ -68,7 +68,7 @@ pub record Advances (about : AboutSeen) (cells : Cells) (old new : RowsSeen)
 
 abbrev pub WritesRows : (old new : TraceSeen) → (before after : Option (List ℕ)) → Type 0
 WritesRows old new before after = (cells : Cells) → Stands cells old.rows
-    → Advances old.about cells old.rows new.rows before after
+    → AdvancesRows old.about cells old.rows new.rows before after
 
 -- the sink took a front part of the rows below a limit
 abbrev pub WritesFront : TraceSeen → (limit : ℕ) → (before after : Option (List ℕ)) → Type 0

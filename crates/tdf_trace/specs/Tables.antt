@@ -13,8 +13,8 @@ cell_text None = codes "*"
 cell_text (Some value) = value_text value.num value.frac
 
 -- what a column shows in a row
-abbrev pub cell_at : List (Option Raw) → (column : ℕ) → Option Raw
-cell_at row column = slice_index_or row column None
+abbrev pub cell_in_row : List (Option Raw) → (column : ℕ) → Option Raw
+cell_in_row row column = slice_index_or row column None
 
 -- `%time LABEL LABEL ..`
 abbrev pub label_piece : List (List ℕ) → (column : ℕ) → List ℕ
@@ -25,7 +25,7 @@ table_head labels = codes "%time" ++ pieces_text (label_piece labels) (length la
 
 -- `TIME CELL CELL ..`, the time in seconds
 abbrev pub cell_piece : List (Option Raw) → (column : ℕ) → List ℕ
-cell_piece row column = codes " " ++ cell_text (cell_at row column)
+cell_piece row column = codes " " ++ cell_text (cell_in_row row column)
 
 unfoldable pub table_line : Resolution → Line
 table_line resolution time before now =

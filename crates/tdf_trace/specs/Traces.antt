@@ -14,8 +14,8 @@ sample_or None of other = other
 sample_or (Some row) of other = if row.event then other else of row.signal
 
 -- cells, with those of a function of signal and time in the columns of samples
-abbrev pub with_samples : List TraceRow → Cells → (ℕ → ℕ → Option (Option Raw)) → Cells
-with_samples traces cells of = record {
+abbrev pub with_signal_samples : List TraceRow → Cells → (ℕ → ℕ → Option (Option Raw)) → Cells
+with_signal_samples traces cells of = record {
   columns = cells.columns;
   first = cells.first;
   at = λ column time. sample_or (slice_get traces column) (λ signal. of signal time)
@@ -23,9 +23,9 @@ with_samples traces cells of = record {
 }
 
 -- a trace is one of the samples of a signal
-abbrev pub is_of : Option TraceRow → (signal : ℕ) → Bool
-is_of None signal = false
-is_of (Some row) signal = not row.event && nat_eq row.signal signal
+abbrev pub shows_signal : Option TraceRow → (signal : ℕ) → Bool
+shows_signal None signal = false
+shows_signal (Some row) signal = not row.event && nat_eq row.signal signal
 
 abbrev pub is_among : List ℕ → (column : ℕ) → Bool
 is_among columns column = list_any (λ k. nat_eq k column) columns
@@ -42,6 +42,6 @@ pub record IsTrackingOf (traces : List TraceRow) (list : List TrackedOf) : Type 
   pub once : (i j : ℕ) (t u : TrackedOf) → slice_get list i ≡ Some t → slice_get list j ≡ Some u
       → t.signal ≡ u.signal → i ≡ j
   pub columns : (i : ℕ) (t : TrackedOf) → slice_get list i ≡ Some t → (column : ℕ)
-      → is_among t.columns column ≡ is_of (slice_get traces column) t.signal
+      → is_among t.columns column ≡ shows_signal (slice_get traces column) t.signal
   pub all : (column : ℕ) (row : TraceRow) → slice_get traces column ≡ Some row
       → row.event ≡ false → IsTracked list row.signal

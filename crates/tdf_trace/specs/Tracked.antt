@@ -21,10 +21,10 @@ pub record TrackingOf : Type 0 where
   pub list : List TrackedOf
 
 -- the samples of a signal, in order
-unfoldable pub samples_of : (signal : ℕ) → List Traced → List Raw
-samples_of signal [] = []
-samples_of signal (x ∷ xs) =
-    if nat_eq x.signal signal then x.value ∷ samples_of signal xs else samples_of signal xs
+unfoldable pub samples_traced : (signal : ℕ) → List Traced → List Raw
+samples_traced signal [] = []
+samples_traced signal (x ∷ xs) =
+    if nat_eq x.signal signal then x.value ∷ samples_traced signal xs else samples_traced signal xs
 
 -- rows that are written up to a time have none of a position without a sample
 abbrev pub AreSince : (upto : ℕ) → List TrackedOf → Type 0

@@ -3,7 +3,7 @@
 use Rattle.std.specs.Prelude.{◌≡◌, ℕ, ◌+◌, ◌-◌, ◌<◌, Option, Some, None, List, drop, length, slice_get}
 use Rattle.tdf_trace.specs.Tracked.{TrackedOf}
 use Rattle.tdf_fixed.specs.declared.raw.Raw.{Raw}
-use Rattle.tdf_trace_rows.specs.Positions.{AreChained, Span, cell_of, total}
+use Rattle.tdf_trace_rows.specs.Positions.{AreChained, Span, cell_of, count_of_spans}
 use Rattle.tdf_trace_rows.specs.Stamping.{IsStamping}
 
 -- spans one after the other, from some time on
@@ -44,4 +44,4 @@ known_by spans samples signal time = known_cell (cells_by spans samples signal t
 -- a signal has so many positions left without a sample
 abbrev pub LeavesRest : Type 0
 LeavesRest = (spans : List Span) (samples : List Raw) (t : TrackedOf) → Tracks spans samples t
-    → t.stamps.left ≡ total spans - length samples
+    → t.stamps.left ≡ count_of_spans spans - length samples

@@ -10,7 +10,7 @@ use Rattle.tdf_fixed.specs.Bits.{bits_text}
 use Rattle.tdf_fixed.specs.declared.raw.Raw.{Raw}
 use Rattle.tdf_io.specs.Bytes.{pieces_text}
 use Rattle.tdf_trace_rows.specs.Rows.{Line}
-use Rattle.tdf_trace.specs.Tables.{cell_at}
+use Rattle.tdf_trace.specs.Tables.{cell_in_row}
 
 -- the character that stands for a variable
 abbrev pub identifier_code : (column : ℕ) → List ℕ
@@ -57,7 +57,8 @@ value_change value size column =
 
 -- a line for each column
 abbrev pub value_piece : (sizes : List ℕ) → (now : List (Option Raw)) → (column : ℕ) → List ℕ
-value_piece sizes now column = value_change (cell_at now column) (slice_index sizes column) column
+value_piece sizes now column =
+    value_change (cell_in_row now column) (slice_index sizes column) column
 
 abbrev pub values : (sizes : List ℕ) → (now : List (Option Raw)) → List ℕ
 values sizes now = pieces_text (value_piece sizes now) (length now)
@@ -70,20 +71,20 @@ is_same (Some a) None = false
 is_same (Some a) (Some b) = int_eq a.num b.num && nat_eq a.frac b.frac
 
 -- some of the first n columns shows something else than before
-unfoldable pub differs : (before now : List (Option Raw)) → (n : ℕ) → Bool
-differs before now zero = false
-differs before now (suc n) =
-    differs before now n || not (is_same (cell_at before n) (cell_at now n))
+unfoldable pub column_differs : (before now : List (Option Raw)) → (n : ℕ) → Bool
+column_differs before now zero = false
+column_differs before now (suc n) =
+    column_differs before now n || not (is_same (cell_in_row before n) (cell_in_row now n))
 
 -- a line for each column that shows something else
 abbrev pub change_piece : (sizes : List ℕ) → (before now : List (Option Raw)) → (column : ℕ)
     → List ℕ
 change_piece sizes before now column =
-    if is_same (cell_at before column) (cell_at now column) then []
+    if is_same (cell_in_row before column) (cell_in_row now column) then []
     else value_piece sizes now column
 
-abbrev pub changes : (sizes : List ℕ) → (before now : List (Option Raw)) → List ℕ
-changes sizes before now = pieces_text (change_piece sizes before now) (length now)
+abbrev pub changes_text : (sizes : List ℕ) → (before now : List (Option Raw)) → List ℕ
+changes_text sizes before now = pieces_text (change_piece sizes before now) (length now)
 
 -- `#TIME` in counts of the resolution
 abbrev pub time_line : (time : ℕ) → List ℕ
@@ -94,7 +95,8 @@ unfoldable pub vcd_line : (sizes : List ℕ) → Line
 vcd_line sizes time before now =
     if nat_eq time 0
     then time_line 0 ++ codes "$dumpvars\n" ++ values sizes now ++ codes "$end\n"
-    else if differs before now (length now) then time_line time ++ changes sizes before now
+    else if column_differs before now (length now)
+    then time_line time ++ changes_text sizes before now
     else []
 
 -- the end time, where something was before it

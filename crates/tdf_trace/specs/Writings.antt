@@ -6,7 +6,7 @@ use Rattle.tdf_base.specs.declared.resolution.Resolution.{Resolution}
 use Rattle.tdf_fixed.specs.declared.raw.Raw.{Raw}
 use Rattle.tdf_trace_rows.specs.Rows.{Cells, Writing, is_row, text_from, trace_text}
 use Rattle.tdf_trace.specs.Columns.{HasFewPlaces}
-use Rattle.tdf_trace.specs.Tables.{cell_at, table_writing}
+use Rattle.tdf_trace.specs.Tables.{cell_in_row, table_writing}
 use Rattle.tdf_trace.specs.Vcd.{vcd_head, vcd_line, vcd_tail}
 use Rattle.tdf_trace.specs.declared.about.Variable.{Variable}
 use Rattle.tdf_cli_words.specs.declared.asked.TraceKind.{TraceKind}
@@ -51,8 +51,8 @@ abbrev pub head_of : AboutSeen → List ℕ
 head_of about = (writing_of about).head
 
 -- what a column shows before its first cell
-abbrev pub first_of : List Variable → (column : ℕ) → Option Raw
-first_of variables column = cell_at (map (λ v. v.first) variables) column
+abbrev pub first_value : List Variable → (column : ℕ) → Option Raw
+first_value variables column = cell_in_row (map (λ v. v.first) variables) column
 
 -- the text of the rows from a time on and below another
 abbrev pub rows_text : AboutSeen → Cells → (from end : ℕ) → List ℕ

@@ -3,8 +3,8 @@ ghost use Rattle.std.specs.Prelude.{◌≡◌, ◌<◌, ◌≤◌, ◌++◌, cod
 ghost use Rattle.tdf_base.specs.Limits.{most_traces};
 ghost use Rattle.tdf_io.specs.Bytes.{pieces_text};
 ghost use Rattle.tdf_trace.specs.Columns.{before_row, shown_row};
-ghost use Rattle.tdf_trace.specs.Tables.{cell_at};
-ghost use Rattle.tdf_trace.specs.Vcd.{change_piece, changes, declaration_piece, differs, identifier_code, is_same, time_line, timescale, value_bits, value_change, value_piece, values, vcd_line, vcd_tail};
+ghost use Rattle.tdf_trace.specs.Tables.{cell_in_row};
+ghost use Rattle.tdf_trace.specs.Vcd.{change_piece, changes_text, declaration_piece, column_differs, identifier_code, is_same, time_line, timescale, value_bits, value_change, value_piece, values, vcd_line, vcd_tail};
 ghost use Rattle.tdf_trace.specs.Writings.{labels_of, sizes_of};
 
 use crate::about::Variable;
@@ -67,7 +67,7 @@ fn same(a: Option<Raw>, b: Option<Raw>) -> bool
 /// Whether a column shows what it showed before.
 fn same_at(columns: &Vec<Column>, column: usize) -> bool
     requires { column < length columns.now.items }
-    ensures { result ≡ is_same (cell_at (before_row columns.now.items) column) (cell_at (shown_row columns.now.items) column) }
+    ensures { result ≡ is_same (cell_in_row (before_row columns.now.items) column) (cell_in_row (shown_row columns.now.items) column) }
 {
     same(columns[column].before(), columns[column].shown())
 }
@@ -75,7 +75,7 @@ fn same_at(columns: &Vec<Column>, column: usize) -> bool
 /// Whether some column shows something else than before.
 #[tactic(auto, using(crate::proofs::Changes::differ_laws))]
 fn any_differs(columns: &Vec<Column>) -> bool
-    ensures { result ≡ differs (before_row columns.now.items) (shown_row columns.now.items) (length columns.now.items) }
+    ensures { result ≡ column_differs (before_row columns.now.items) (shown_row columns.now.items) (length columns.now.items) }
 {
     let mut found = false;
     for i in 0..columns.len() {

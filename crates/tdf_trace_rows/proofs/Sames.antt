@@ -3,7 +3,7 @@ use Rattle.std.proofs.Common.{◌≡◌, ℕ, zero, suc, ◌+◌, ◌<◌, ◌�
 use Rattle.std.specs.List.{range_with_len}
 use Rattle.tdf_fixed.specs.declared.raw.Raw.{Raw}
 use Rattle.tdf_trace_rows.proofs.Lists.{range_same}
-use Rattle.tdf_trace_rows.specs.Laws.{Agree, AreSteady}
+use Rattle.tdf_trace_rows.specs.Laws.{Agree, AreCellsSteady}
 use Rattle.tdf_trace_rows.specs.Rows.{Cells, Line, has_cell, last, row_text, shown, text_from}
 
 pub last_same : (g h : Cells) (b c t : ℕ) → Agree g h b → c < g.columns → t ≤ b → last g c t ≡ last h c t
@@ -36,7 +36,7 @@ text_same line g h b s (suc k) a low = ap (λ u. u ++ row_text line g (s + k)) (
     ∙ ap (λ u. text_from line h s k ++ u) (row_same line g h b (s + k) a (omega (arith, low)))
 
 -- states that change above a mark alone
-mark_up : (cells : ℕ → Cells) (mark : ℕ → ℕ) → AreSteady cells mark → (n k : ℕ) → mark n ≤ mark (k + n)
+mark_up : (cells : ℕ → Cells) (mark : ℕ → ℕ) → AreCellsSteady cells mark → (n k : ℕ) → mark n ≤ mark (k + n)
 mark_up cells mark is n zero = let e : 0 + n ≡ n = omega arith in subst (λ m. mark n ≤ mark m) (sym e) (omega arith)
 mark_up cells mark is n (suc k) = let e : k + n + 1 ≡ suc k + n = omega arith in let a : mark n ≤ mark (k + n) = mark_up cells mark is n k in
     let b : mark (k + n) ≤ mark (k + n + 1) = is.rising (k + n) in subst (λ m. mark n ≤ mark m) e (omega (arith, a, b))
@@ -48,7 +48,7 @@ agree_trans f g h a b low x y = record {
   cells = λ c t inside less. x.cells c t inside less ∙ y.cells c t (subst (λ n. c < n) x.columns inside) (omega (arith, less, low));
 }
 
-pub stays_below : (cells : ℕ → Cells) (mark : ℕ → ℕ) → AreSteady cells mark → (n k : ℕ) → Agree (cells n) (cells (k + n)) (mark n)
+pub stays_below : (cells : ℕ → Cells) (mark : ℕ → ℕ) → AreCellsSteady cells mark → (n k : ℕ) → Agree (cells n) (cells (k + n)) (mark n)
 stays_below cells mark is n zero = let e : n ≡ 0 + n = omega arith in subst (λ m. Agree (cells n) (cells m) (mark n)) e (record { columns = refl; first = λ c _. refl; cells = λ c t _ _. refl })
 stays_below cells mark is n (suc k) = let e : k + n + 1 ≡ suc k + n = omega arith in
     subst (λ m. Agree (cells n) (cells m) (mark n)) e

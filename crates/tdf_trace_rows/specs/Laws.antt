@@ -3,7 +3,7 @@
 use Rattle.std.specs.List.{flat_map, range_with_len}
 use Rattle.std.specs.Prelude.{◌≡◌, ℕ, ◌+◌, ◌-◌, ◌<◌, ◌≤◌, false, if◌then◌else◌, Option, Some, None, List, [], ◌∷◌, ◌++◌, filter}
 use Rattle.tdf_fixed.specs.declared.raw.Raw.{Raw}
-use Rattle.tdf_trace_rows.specs.Noted.{is_cell_of, noted}
+use Rattle.tdf_trace_rows.specs.Noted.{is_cell_of, cell_noted}
 use Rattle.tdf_trace_rows.specs.Rows.{Cells, Line, is_row, last, shown, text_from}
 use Rattle.tdf_trace_rows.specs.declared.cell.Cell.{Cell}
 
@@ -57,17 +57,17 @@ WithoutRow = (line : Line) (cells : Cells) (from count : ℕ)
 
 -- cells state by state, of which each changes nothing of the one before below a mark that doesn't
 -- fall
-pub record AreSteady (cells : ℕ → Cells) (mark : ℕ → ℕ) : Type 0 where
+pub record AreCellsSteady (cells : ℕ → Cells) (mark : ℕ → ℕ) : Type 0 where
   pub step : (n : ℕ) → Agree (cells n) (cells (n + 1)) (mark n)
   pub rising : (n : ℕ) → mark n ≤ mark (n + 1)
 
 -- then no later state changes anything below it
 abbrev pub StaysBelow : Type 0
-StaysBelow = (cells : ℕ → Cells) (mark : ℕ → ℕ) → AreSteady cells mark
+StaysBelow = (cells : ℕ → Cells) (mark : ℕ → ℕ) → AreCellsSteady cells mark
     → (n more : ℕ) → Agree (cells n) (cells (more + n)) (mark n)
 
 -- one cell more that is noted
 abbrev pub NotedLast : Type 0
 NotedLast = (cells : List Cell) (cell : Cell) (column time : ℕ)
-    → noted (cells ++ cell ∷ []) column time
-    ≡ (if is_cell_of cell column time then Some cell.value else noted cells column time)
+    → cell_noted (cells ++ cell ∷ []) column time
+    ≡ (if is_cell_of cell column time then Some cell.value else cell_noted cells column time)

@@ -12,37 +12,37 @@ pub record Span : Type 0 where
 abbrev pub span_of : (start step count : ℕ) → Span
 span_of start step count = record { start = start; step = step; count = count }
 
-abbrev pub end_of : Span → ℕ
-end_of span = span.start + span.count * span.step
+abbrev pub span_end : Span → ℕ
+span_end span = span.start + span.count * span.step
 
 -- the place of a time in a span, if a position has it
-abbrev pub place_in : Span → (time : ℕ) → Option ℕ
-place_in span time = if nat_eq ((time - span.start) % span.step) 0
+abbrev pub place_in_span : Span → (time : ℕ) → Option ℕ
+place_in_span span time = if nat_eq ((time - span.start) % span.step) 0
     then Some ((time - span.start) / span.step) else None
 
 -- the position at a time, if there is one; the first has the number `first`
 unfoldable pub position_at : (first : ℕ) → List Span → (time : ℕ) → Option ℕ
 position_at first [] time = None
-position_at first (p ∷ ps) time = if nat_le p.start time && nat_lt time (end_of p)
-    then option_map (λ place. first + place) (place_in p time)
+position_at first (p ∷ ps) time = if nat_le p.start time && nat_lt time (span_end p)
+    then option_map (λ place. first + place) (place_in_span p time)
     else position_at (first + p.count) ps time
 
 -- the time of a position, the first being number 0
-unfoldable pub time_of : List Span → (position : ℕ) → Option ℕ
-time_of [] position = None
-time_of (p ∷ ps) position = if nat_lt position p.count
+unfoldable pub time_in_spans : List Span → (position : ℕ) → Option ℕ
+time_in_spans [] position = None
+time_in_spans (p ∷ ps) position = if nat_lt position p.count
     then Some (p.start + position * p.step)
-    else time_of ps (position - p.count)
+    else time_in_spans ps (position - p.count)
 
 -- spans one after the other, from a time on, each with a positive step
 unfoldable pub AreChained : (from : ℕ) → List Span → Type 0
 AreChained from [] = Unit {0}
-AreChained from (p ∷ ps) = (p.start ≡ from) × (0 < p.step) × AreChained (end_of p) ps
+AreChained from (p ∷ ps) = (p.start ≡ from) × (0 < p.step) × AreChained (span_end p) ps
 
 -- how many positions there are
-unfoldable pub total : List Span → ℕ
-total [] = 0
-total (p ∷ ps) = p.count + total ps
+unfoldable pub count_of_spans : List Span → ℕ
+count_of_spans [] = 0
+count_of_spans (p ∷ ps) = p.count + count_of_spans ps
 
 -- the cell of a time: none where no position has it, unknown where its position has no sample yet,
 -- or the sample
@@ -69,17 +69,17 @@ OneSpan = (spans : List Span) (span : Span) (first time : ℕ) → time < span.s
 -- the position at a position's time is this one, and none has a time below the first
 abbrev pub TimeIsPosition : Type 0
 TimeIsPosition = (from first : ℕ) (spans : List Span) (position time : ℕ)
-    → AreChained from spans → time_of spans position ≡ Some time
+    → AreChained from spans → time_in_spans spans position ≡ Some time
     → (from ≤ time) × (position_at first spans time ≡ Some (first + position))
 
 -- a time with a position is the time of that position
 abbrev pub PositionHasTime : Type 0
 PositionHasTime = (from first : ℕ) (spans : List Span) (number time : ℕ)
     → AreChained from spans → position_at first spans time ≡ Some number
-    → (position : ℕ) × (number ≡ first + position) × (time_of spans position ≡ Some time)
+    → (position : ℕ) × (number ≡ first + position) × (time_in_spans spans position ≡ Some time)
 
 -- each of so many positions has a time, and no other has
 abbrev pub HasTimes : Type 0
 HasTimes = (spans : List Span) (position : ℕ)
-    → (position < total spans → (time : ℕ) × (time_of spans position ≡ Some time))
-    × (total spans ≤ position → time_of spans position ≡ None)
+    → (position < count_of_spans spans → (time : ℕ) × (time_in_spans spans position ≡ Some time))
+    × (count_of_spans spans ≤ position → time_in_spans spans position ≡ None)

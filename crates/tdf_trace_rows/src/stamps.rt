@@ -1,7 +1,7 @@
 //! The times of the samples of a signal.
 ghost use Rattle.std.specs.Prelude.{◌≡◌, ◌+◌, ◌<◌, ◌^◌, []};
 ghost use Rattle.tdf_trace_rows.specs.Positions.{span_of};
-ghost use Rattle.tdf_trace_rows.specs.Stamping.{GivesNext, GoesOn, IsStamping, TakesSpan, stamps_after};
+ghost use Rattle.tdf_trace_rows.specs.Stamping.{GivesNext, StampingGoesOn, IsStamping, TakesSpan, stamps_after};
 
 /// The positions of a signal that have no time yet, in the period that has begun last: a sample gets the step of the period that
 /// its position lies in, which for a delayed signal isn't the period that made it.
@@ -33,7 +33,7 @@ impl Stamps {
         requires left { 0 < self.old.left }
         requires small { self.old.time + self.old.step < 2 ^ 64 }
         ensures time { GivesNext self.old result }
-        ensures on { GoesOn self.old self.new }
+        ensures on { StampingGoesOn self.old self.new }
         ensures result { result ≡ self.old.time }
         ensures next { self.new ≡ stamps_after self.old }
     {

@@ -1,7 +1,7 @@
 -- What adding edges answers.
 use Rattle.std.specs.Prelude.{ℕ, ◌≡◌, ◌<◌, ◌≤◌, List, sum, Result, Ok, Err, Vec}
 use Rattle.std.specs.Global.{Global}
-use Rattle.tdf_balance.specs.Balance.{edges_of, IsUnsolvable, IsTooLarge, IsNoneBad, HasCounts, IsRatesFault, IsSizeFault}
+use Rattle.tdf_balance.specs.Balance.{cluster_edges, IsUnsolvable, IsTooLarge, IsNoneBad, HasCounts, IsRatesFault, IsSizeFault}
 use Rattle.tdf_balance.specs.declared.err.BalanceErr.{BalanceErr}
 use Rattle.tdf_balance.specs.declared.err.BalanceErr.TheVariants.{Rates, TooLarge, Memory}
 use Rattle.tdf_balance.specs.declared.solution.Solution.{Solution}
@@ -21,7 +21,7 @@ abbrev pub IsSolved : (count : ℕ) → List Edge → (clusters : List ℕ) (clu
     → Result Solution BalanceErr → Type 0
 IsSolved count edges clusters cluster (Ok s) =
     IsNoneBad edges clusters cluster
-    × AreLeast count (edges_of clusters cluster edges) s.parts s.counts.items
+    × AreLeast count (cluster_edges clusters cluster edges) s.parts s.counts.items
 IsSolved count edges clusters cluster (Err (Rates k)) = IsRatesFault edges clusters cluster k
 IsSolved count edges clusters cluster (Err TooLarge) = IsSizeFault edges clusters cluster
 IsSolved count edges clusters cluster (Err Memory) = Unit {0}

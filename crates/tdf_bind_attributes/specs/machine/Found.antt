@@ -1,7 +1,7 @@
 -- The name of a port that is found (own).
 use Rattle.std.specs.Prelude.{◌≡◌, ℕ, List, [], Option, Some, slice_get, slice_index, slice_index_or}
 use Rattle.tdf_fixed.specs.declared.raw.Raw.{Raw}
-use Rattle.tdf_bind_attributes.specs.Roles.{rate_in, rate_of_port, delay_of_port}
+use Rattle.tdf_bind_attributes.specs.Roles.{rate_of_limit, rate_of_port, delay_of_port}
 use Rattle.tdf_expr_symbols.specs.Names.{Names, Thing, Port, place_of}
 use Rattle.tdf_lang_tree.specs.declared.blocks.PortLine.{PortLine}
 use Rattle.tdf_bind_connections.specs.declared.roles.PortData.{PortData}
@@ -21,7 +21,7 @@ abbrev pub port_with : Names → PortLine → Option Thing → ℕ → List (ℕ
 port_with own port thing step initials = record {
   name = port.name;
   kind = port.kind;
-  rate = rate_in own (rate_of_port thing);
+  rate = rate_of_limit own (rate_of_port thing);
   delay = delay_of_port thing;
   step = step;
   initials = initials;

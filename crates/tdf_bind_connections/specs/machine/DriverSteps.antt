@@ -5,7 +5,7 @@ use Rattle.std.specs.Prelude.{ℕ, map, Bool, true, false, length, List, Option,
 use Rattle.tdf_bind_hierarchy.specs.Tables.{TablesOf}
 use Rattle.tdf_bind_hierarchy.specs.declared.tables.Signal.{Signal}
 use Rattle.tdf_bind_hierarchy.specs.declared.tables.SignalNumber.{SignalNumber}
-use Rattle.tdf_bind_connections.specs.Drivers.{with_writer, driver_fault, fault_of, module_port, AreDrivers, SignalsOf}
+use Rattle.tdf_bind_connections.specs.Drivers.{with_writer, driver_fault, fault_of_driver, module_port, AreDrivers, SignalsOf}
 use Rattle.tdf_bind_connections.specs.declared.drivers.Driver.{Driver}
 use Rattle.tdf_bind_connections.specs.declared.drivers.Driver.TheVariants.{Missing}
 use Rattle.tdf_bind_connections.specs.declared.drivers.DriverFault.{DriverFault}
@@ -23,7 +23,7 @@ abbrev pub driver_by : List Driver → List Driver → SignalNumber → Driver
 driver_by signals events n = driver_in (cond n.event events signals) n.number
 
 abbrev pub fault_by : List Driver → List Driver → SignalNumber → Option DriverFault
-fault_by signals events n = fault_of n (driver_fault n.event (driver_by signals events n))
+fault_by signals events n = fault_of_driver n (driver_fault n.event (driver_by signals events n))
 
 abbrev pub row_by : List Driver → ℕ → Signal → SignalRow
 row_by drivers number signal = record {

@@ -4,7 +4,7 @@ use Rattle.std.specs.List.{enumerate_from}
 use Rattle.std.specs.Prelude.{ℕ, List, [], ◌∷◌, ◌++◌, length, map, Option, Some, None, slice_get}
 use Rattle.tdf_bind_hierarchy.specs.Tables.{RowOf}
 use Rattle.tdf_bind_connections.specs.Modules.{PlacedModule, as_module, module_row, port_row, ModulesOf}
-use Rattle.tdf_bind_connections.specs.Roles.{ModuleOf}
+use Rattle.tdf_bind_connections.specs.Roles.{ModuleRole}
 use Rattle.tdf_bind_connections.specs.declared.modules.PortRow.{PortRow}
 use Rattle.tdf_bind_connections.specs.declared.roles.PortData.{PortData}
 use Rattle.tdf_bind_connections.specs.declared.roles.Role.{Role}
@@ -16,7 +16,7 @@ abbrev pub ports_before : ℕ → RowOf → List PortData → List PortRow
 ports_before number instance ports =
     map (λ port. port_row number instance port.0 port.1) (enumerate_from 0 ports)
 
-abbrev pub with_module : RowOf → ModuleOf → ModulesOf → ModulesOf
+abbrev pub with_module : RowOf → ModuleRole → ModulesOf → ModulesOf
 with_module instance role tables = record {
   modules = tables.modules ++ module_row (record { instance = instance; role = role }) ∷ [];
   ports = tables.ports ++ ports_before (length tables.modules) instance role.ports;

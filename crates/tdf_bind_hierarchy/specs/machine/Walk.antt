@@ -2,7 +2,7 @@
 -- Source: own.
 use Rattle.std.specs.Prelude.{◌≡◌, ℕ, Bool, true, false, zero, suc, List, [], ◌∷◌, ◌++◌, length, map, Option, Some, None, slice_get}
 use Rattle.tdf_bind_hierarchy.specs.Blocks.{InstanceOf, BlockOf}
-use Rattle.tdf_bind_hierarchy.specs.Met.{signal_at}
+use Rattle.tdf_bind_hierarchy.specs.Met.{placed_signal}
 use Rattle.tdf_bind_hierarchy.specs.Paths.{path_in}
 use Rattle.tdf_bind_hierarchy.specs.Tables.{RowOf, TablesOf, table}
 use Rattle.tdf_bind_hierarchy.specs.declared.blocks.SignalLine.{SignalLine}
@@ -63,12 +63,12 @@ number_of own outer (Outer port) = number_at outer port
 -- the signals of a block, with the numbers that they get
 abbrev pub put_signals : Option (List ℕ) → List SignalLine → TablesOf → TablesOf
 put_signals path [] t = t
-put_signals path (line ∷ lines) t = put_signals path lines (put_signal (signal_at path line) t)
+put_signals path (line ∷ lines) t = put_signals path lines (put_signal (placed_signal path line) t)
 
 abbrev pub numbered_in : Option (List ℕ) → List SignalLine → TablesOf → List SignalNumber
 numbered_in path [] t = []
 numbered_in path (line ∷ lines) t =
-    next_number line.event t ∷ numbered_in path lines (put_signal (signal_at path line) t)
+    next_number line.event t ∷ numbered_in path lines (put_signal (placed_signal path line) t)
 
 -- the row of an instance
 abbrev pub row_of : Option (List ℕ) → List SignalNumber → List SignalNumber → InstanceOf → RowOf

@@ -12,7 +12,7 @@ use Rattle.tdf_bind_connections.specs.Modules.{ModulesOf}
 use Rattle.tdf_bind_connections.specs.ProcessBlocks.{ProcessBlocksOf}
 use Rattle.tdf_bind_connections.specs.declared.edges.EdgeRow.{EdgeRow}
 use Rattle.tdf_bind_connections.specs.declared.traces.TraceRow.{TraceRow}
-use Rattle.tdf_bind_tables.specs.FlatTables.{driver_report, trace_report, clusters_report, FlatTablesOf, HasManyClusters, IsFirstFault}
+use Rattle.tdf_bind_tables.specs.FlatTables.{driver_report, trace_report, clusters_report, FlatTablesOf, HasManyClusters, IsFirstTableFault}
 use Rattle.tdf_bind_tables.specs.declared.flat.BindErr.{BindErr}
 use Rattle.tdf_bind_tables.specs.declared.flat.BindErr.TheVariants as bind
 use Rattle.tdf_bind_hierarchy.specs.Tables.{TablesOf}
@@ -46,7 +46,7 @@ IsTraceFault unknown (bind.Refused fault) =
 IsTraceFault unknown bind.Memory = Unit {0}
 
 abbrev pub IsFirstErr : List Role → TablesOf → List TraceLine → BindErr → Type 0
-IsFirstErr roles tables lines (bind.Refused fault) = IsFirstFault roles tables lines fault
+IsFirstErr roles tables lines (bind.Refused fault) = IsFirstTableFault roles tables lines fault
 IsFirstErr roles tables lines bind.Memory = Unit {0}
 
 abbrev pub assembled : ModulesOf → ProcessBlocksOf → SignalsOf → List TraceRow

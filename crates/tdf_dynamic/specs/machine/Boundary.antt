@@ -4,7 +4,7 @@ use Rattle.std.specs.Prelude.{◌≡◌, ℕ, true, List, Some, length}
 use Rattle.tdf_base.specs.declared.codes.Code.TheVariants as code
 use Rattle.tdf_base.specs.declared.faults.Fault.{Fault}
 use Rattle.tdf_bind_tables.specs.FlatTables.{FlatTablesOf}
-use Rattle.tdf_dynamic.specs.Change.{fault_of}
+use Rattle.tdf_dynamic.specs.Change.{fault_of_row}
 use Rattle.tdf_dynamic.specs.declared.frames.ModuleFrame.{ModuleFrame}
 use Rattle.tdf_dynamic.specs.declared.next.Next.{Next}
 use Rattle.tdf_dynamic.specs.declared.next.Next.TheVariants.{Changed, Same}
@@ -36,7 +36,7 @@ NoneMarks table frames = HoldsBelow (λ attrs f. Marks attrs f → ⊥) table fr
 pub data IsRefusedAt (tables : FlatTablesOf) (cluster : ℕ) (table : List AttrsOf)
     (frames : List ModuleFrame) (fault : Fault) : Type 0 where
   InRange : (k : ℕ) (first : IsFirstPlace Marks table frames k)
-      → fault_of tables code.Range first.one ≡ Some fault
+      → fault_of_row tables code.Range first.one ≡ Some fault
       → IsRefusedAt tables cluster table frames fault
   InTable : NoneMarks table frames → IsTableRefused tables cluster table frames fault
       → IsRefusedAt tables cluster table frames fault

@@ -4,7 +4,7 @@ use Rattle.std.specs.Prelude.{◌≡◌, ℕ, List, length, Some}
 use Rattle.tdf_base.specs.declared.codes.Code.TheVariants as code
 use Rattle.tdf_base.specs.declared.faults.Fault.{Fault}
 use Rattle.tdf_bind_tables.specs.FlatTables.{FlatTablesOf}
-use Rattle.tdf_dynamic.specs.Change.{TimingOf, fault_of}
+use Rattle.tdf_dynamic.specs.Change.{TimingOf, fault_of_row}
 use Rattle.tdf_dynamic.specs.declared.frames.ModuleFrame.{ModuleFrame}
 use Rattle.tdf_dynamic.specs.machine.Rows.{HoldsBelow, IsFirstPlace, IsRefusing}
 use Rattle.tdf_dynamic_plans.specs.Attributes.{AttrsOf}
@@ -34,7 +34,7 @@ pub record IsRefused (tables : FlatTablesOf) (cluster : ℕ) (old new : List Att
     : Type 0 where
   pub place : ℕ
   pub first : IsFirstPlace (Refuses tables cluster old new times) old frames place
-  pub told : fault_of tables code.Rejected first.one ≡ Some fault
+  pub told : fault_of_row tables code.Rejected first.one ≡ Some fault
 
 -- a new table has a plan, and no module rejects it
 pub record IsJudged (tables : FlatTablesOf) (cluster : ℕ) (old new : List AttrsOf)

@@ -1,7 +1,7 @@
 -- The ports of an instance take the values of their signals, one after the other.
 -- Source: own.
 use Rattle.std.specs.Prelude.{ℕ, ◌<◌, ◌≡◌, ◌^◌, List, Some, ℤ, length, slice_get}
-use Rattle.tdf_events.specs.Processes.{ports_before, sample_before}
+use Rattle.tdf_events.specs.Processes.{process_ports_before, sample_before}
 use Rattle.tdf_events.specs.Side.{value_at}
 use Rattle.tdf_expr.specs.Frames.{IsOfFormat, PortsSeen}
 use Rattle.tdf_expr.specs.Made.{event_count, port_spans_of}
@@ -37,5 +37,5 @@ pub record AreRead (values : List Raw) (signals : List ℕ) (n : ℕ) (old new :
 abbrev pub HasRun : Checked → (block number : ℕ) → List Raw → (signals : List ℕ)
     → (old new : FrameState) → PortsState → Type 0
 HasRun checked block number values signals old new ports = Ran checked block (Process number)
-    (state_of old (ports_before values signals (port_spans_of checked block)
+    (state_of old (process_ports_before values signals (port_spans_of checked block)
     (event_count checked block))) (state_of new ports)

@@ -2,12 +2,13 @@
 -- Source: own.
 use Rattle.std.specs.Prelude.{ℕ, ◌-◌, ◌<◌, ◌≤◌, ◌≡◌, Option, Some, None, is_some, List, length, slice_get, slice_index_or}
 use Rattle.std.specs.List.{count_by}
-use Rattle.tdf_events_queue.specs.Times.{time_of}
+use Rattle.tdf_events_queue.specs.Times.{pending_time}
 use Rattle.tdf_events_queue.specs.declared.calendar.Pending.{Pending}
 
 pub record IsCalendar (times : List (Option ℕ)) (list : List Pending) : Type 0 where
-  pub on : (j : ℕ) (x : Pending) → slice_get list j ≡ Some x → time_of times x.event ≡ Some x.time
-  pub all : (e t : ℕ) → time_of times e ≡ Some t
+  pub on : (j : ℕ) (x : Pending) → slice_get list j ≡ Some x
+      → pending_time times x.event ≡ Some x.time
+  pub all : (e t : ℕ) → pending_time times e ≡ Some t
       → (j : ℕ) × (x : Pending) × (slice_get list j ≡ Some x) × (x.event ≡ e)
   pub falling : (i j : ℕ) (x y : Pending) → i < j → slice_get list i ≡ Some x
       → slice_get list j ≡ Some y → y.time ≤ x.time

@@ -6,14 +6,14 @@ use Rattle.tdf_convert.specs.Outputs.{OutputsOf}
 use Rattle.tdf_exec.specs.Gained.{sent_sample, sent_size, traced_size, with_gains}
 use Rattle.tdf_exec.specs.Made.{IsInSpans}
 use Rattle.tdf_exec.specs.Runners.{ModuleOf, SamplerOf}
-use Rattle.tdf_exec.specs.Traced.{port_samples}
+use Rattle.tdf_exec.specs.Traced.{traced_port_samples}
 use Rattle.tdf_exec.specs.declared.runners.Runner.{Runner}
 use Rattle.tdf_exec.specs.declared.runners.Runner.TheVariants as runner
 use Rattle.tdf_exec.specs.declared.runners.TracedPort.{TracedPort}
 use Rattle.tdf_expr.specs.Made.{AreMadeFor}
 use Rattle.tdf_expr.specs.declared.checked.Checked.{Checked}
 use Rattle.tdf_exec_firing.specs.Actors.{CanPutOne, HasTaken, HavePut}
-use Rattle.tdf_exec_firing.specs.Firing.{AreMoved, AreOfFormats, AreRates, AreZerosBehind, CanFire, HasActed, HoldFormats, samples_read}
+use Rattle.tdf_exec_firing.specs.Firing.{AreMoved, AreOfFormats, AreEdgeRates, AreZerosBehind, CanFire, HasActed, HoldFormats, samples_read}
 use Rattle.tdf_exec_firing.specs.Wires.{AreWired}
 use Rattle.tdf_fixed.specs.declared.raw.Raw.{Raw}
 use Rattle.tdf_rings.specs.Carried.{ring_at}
@@ -23,7 +23,7 @@ pub record CanFireModule (checked : Checked) (reads writes : List ℕ) (rings : 
     (x : ModuleOf) : Type 0 where
   pub made : AreMadeFor checked x.block x.frame x.ports
   pub wired : AreWired x.wires x.ports.spans (length rings)
-  pub rates : AreRates reads writes (length rings)
+  pub rates : AreEdgeRates reads writes (length rings)
   pub can : CanFire x.wires reads writes x.ports.spans rings
   pub formats : AreOfFormats x.wires x.ports.spans rings
   pub zeros : AreZerosBehind x.wires reads x.ports
@@ -98,7 +98,7 @@ pub record HasSent (m edge : ℕ) (rings : List RingOf) (old new : OutputsOf) : 
 abbrev pub HasGiven : (m : ℕ) → (rings : List RingOf) → (after : Runner) → (old new : OutputsOf)
     → Type 0
 HasGiven m rings (runner.Module y) old new =
-    new ≡ with_gains old [] (flat_map (port_samples y.ports) y.traced)
+    new ≡ with_gains old [] (flat_map (traced_port_samples y.ports) y.traced)
 HasGiven m rings (runner.Sampler s) old new = new ≡ old
 HasGiven m rings (runner.Sink k) old new = HasSent m k.edge rings old new
 HasGiven m rings runner.Outside old new = new ≡ old

@@ -15,7 +15,7 @@ use Rattle.tdf_exec_firing.specs.Wires.{AreWired, WiresOf}
 use Rattle.tdf_bind.specs.declared.model.Flat.{Flat}
 use Rattle.tdf_bind_invariants.specs.Formats.{IsOwnPort}
 use Rattle.tdf_exec_layout.specs.Edges.{IsEdgeRow}
-use Rattle.tdf_exec_layout.specs.Samples.{HasFormat}
+use Rattle.tdf_exec_layout.specs.Samples.{EdgeHasFormat}
 use Rattle.tdf_exec_layout.specs.Wires.{AreClusterWires, SinksHaveOne}
 use Rattle.tdf_exec_layout.specs.Wiring.{AreWiresOf}
 use Rattle.tdf_exec_layout.specs.declared.wiring.ActorWires.{ActorWires}
@@ -36,7 +36,7 @@ pub record IsLaid (flat : Flat) : Type 0 where
       → AreWired wires (port_spans_of flat.checked (block_at flat.tables.modules m))
       (length flat.tables.edges)
   pub formats : (e : ℕ) (edge : EdgeRow) → slice_get flat.tables.edges e ≡ Some edge
-      → HasFormat flat e edge
+      → EdgeHasFormat flat e edge
   pub ports : (number : ℕ) (port : PortRow) → slice_get flat.tables.ports number ≡ Some port
       → IsOwnPort flat number port
   pub keep : KeepRates flat.checked

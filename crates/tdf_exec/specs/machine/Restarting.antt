@@ -4,7 +4,7 @@ use Rattle.std.specs.Prelude.{◌≡◌, ◌<◌, ◌≤◌, ℕ, List, length, 
 use Rattle.tdf_dynamic_plans.specs.Attributes.{AttrsOf}
 use Rattle.tdf_dynamic_plans.specs.Rates.{net_of}
 use Rattle.tdf_exec.specs.Cluster.{ClusterOf}
-use Rattle.tdf_exec.specs.Crossing.{with_plan}
+use Rattle.tdf_exec.specs.Crossing.{with_new_plan}
 use Rattle.tdf_exec.specs.Made.{room_for}
 use Rattle.tdf_exec.specs.Runners.{ModuleOf}
 use Rattle.tdf_exec.specs.declared.runners.Runner.{Runner}
@@ -69,7 +69,7 @@ pub record HasReplaced (flat : Flat) (c : ClusterOf) (attrs : List AttrsOf) (pla
   pub rows : List (List TracedPort)
   pub rest : List (List TracedPort)
   pub given : List Runner
-  pub d_is : d ≡ with_plan c attrs plan d.reads d.writes d.rings d.runners
+  pub d_is : d ≡ with_new_plan c attrs plan d.reads d.writes d.rings d.runners
   pub parts : AreNextParts flat attrs plan.bounds.items d.reads d.writes rooms rows
   pub carried : AreCarried rooms c.rings d.rings
   pub given_are : AreGivenTraced (length rows) rows rest c.runners given

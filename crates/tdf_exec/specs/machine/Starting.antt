@@ -4,7 +4,7 @@ use Rattle.std.specs.List.{count_by}
 use Rattle.std.specs.Prelude.{◌≡◌, ℕ, ◌<◌, ◌≤◌, if◌then◌else◌, nat_eq, List, [], length, Some, slice_get, slice_index, All}
 use Rattle.tdf_bind_tables.specs.FlatTables.{FlatTablesOf}
 use Rattle.tdf_dynamic_plans.specs.Attributes.{clusters_of}
-use Rattle.tdf_exec.specs.Made.{is_sampler, room_for, samplers_before}
+use Rattle.tdf_exec.specs.Made.{is_sampler_runner, room_for, sampler_runners_before}
 use Rattle.tdf_exec.specs.Runners.{ModuleOf}
 use Rattle.tdf_exec.specs.Starts.{BeginWithRates}
 use Rattle.tdf_exec.specs.declared.runners.Runner.{Runner}
@@ -79,8 +79,8 @@ IsFirstRunner flat m place _ _ = ⊥
 pub record AreFirstRunners (flat : Flat) (n : ℕ) (old new : List ActorWires) (samplers : ℕ)
     (runners : List Runner) : Type 0 where
   pub long : length runners ≡ n
-  pub counted : samplers ≡ count_by is_sampler runners
+  pub counted : samplers ≡ count_by is_sampler_runner runners
   pub same : length new ≡ length old
   pub left : (m : ℕ) → n ≤ m → slice_get new m ≡ slice_get old m
   pub each : (m : ℕ) (w : ActorWires) (r : Runner) → slice_get old m ≡ Some w
-      → slice_get runners m ≡ Some r → IsFirstRunner flat m (samplers_before runners m) w r
+      → slice_get runners m ≡ Some r → IsFirstRunner flat m (sampler_runners_before runners m) w r

@@ -7,10 +7,10 @@ use Rattle.tdf_convert.specs.Outputs.{OutputsOf}
 use Rattle.tdf_convert.specs.declared.outputs.Sent.{Sent}
 use Rattle.tdf_convert.specs.declared.outputs.Traced.{Traced}
 use Rattle.tdf_exec.specs.Cluster.{ClusterOf}
-use Rattle.tdf_exec.specs.Gained.{Gives, HasFewPlaces, HasGained, HaveRoom, IsSentOf, sent_size, traced_size, with_gains}
-use Rattle.tdf_exec.specs.Made.{IsClusterOf, is_sampler}
+use Rattle.tdf_exec.specs.Gained.{Gives, SampleHasFewPlaces, HasGained, HaveRoom, IsSentOf, sent_size, traced_size, with_gains}
+use Rattle.tdf_exec.specs.Made.{IsClusterOf, is_sampler_runner}
 use Rattle.tdf_exec_layout.specs.Samples.{edge_format}
-use Rattle.tdf_exec.specs.Played.{AreGiven, HasPlayed, IsLike, IsMoved, IsPeriodOf, counted, play_of}
+use Rattle.tdf_exec.specs.Played.{AreInputsGiven, HasPlayed, IsLike, IsMoved, IsPeriodOf, counted, play_of}
 use Rattle.tdf_exec.specs.Runners.{SamplerOf}
 use Rattle.tdf_exec.specs.declared.runners.Runner.{Runner}
 use Rattle.tdf_exec.specs.declared.runners.Runner.TheVariants as runner
@@ -30,7 +30,7 @@ use Rattle.tdf_lang_tree.specs.Pure.{PureTree}
 
 -- there is an input for each sampler, and one of its format for the next entry
 pub record AreInputsNext (flat : Flat) (c : ClusterOf) (inputs : List Raw) : Type 0 where
-  pub many : length inputs ≡ count_by is_sampler c.runners
+  pub many : length inputs ≡ count_by is_sampler_runner c.runners
   pub formats : (e : ℕ) (x : Entry) (s : SamplerOf) (v : Raw) (f : Format)
       → slice_get c.entries c.place ≡ Some x
       → slice_get c.runners x.actor ≡ Some (runner.Sampler s)
@@ -77,7 +77,7 @@ abbrev pub IsAnyStep : Flat → (inputs : List Raw) → (c d : ClusterOf) → En
 IsAnyStep flat inputs c d x sent traced = (model : PureTree) (start : Start)
     → (old : List PeriodRecord) (p : PeriodRecord) (reads : ℕ → List Raw) (from : ℕ)
     → IsCheckedOf model flat.checked → IsPeriodOf c from p
-    → AreGiven c inputs reads old from c.place x
+    → AreInputsGiven c inputs reads old from c.place x
     → Gives flat (cluster_net model flat c.number start) old p reads x.actor (play_of from c)
     (play_of from d) sent traced
 
@@ -97,7 +97,7 @@ pub record HasStepped (flat : Flat) (inputs : List Raw) (c d : ClusterOf)
   pub traced : List Traced
   pub gains : after ≡ with_gains before sent traced
   pub sinks : All (IsSentOf flat.tables) sent
-  pub places : All HasFewPlaces traced
+  pub places : All SampleHasFewPlaces traced
   pub few_sent : length sent ≡ sent_size (slice_get c.runners entry.actor)
   pub few_traced : length traced ≡ traced_size (slice_get c.runners entry.actor)
   pub step : IsAnyStep flat inputs c d entry sent traced
@@ -106,7 +106,7 @@ pub record HasStepped (flat : Flat) (inputs : List Raw) (c d : ClusterOf)
 pub record ArePlayed (flat : Flat) (offset : ℕ) (inputs : List Raw) (c d : ClusterOf)
     (before after : OutputsOf) : Type 0 where
   pub of : IsClusterOf flat d
-  pub many : length inputs ≡ count_by is_sampler d.runners
+  pub many : length inputs ≡ count_by is_sampler_runner d.runners
   pub moved : IsMoved c d
   pub each : (i : ℕ) (x : Entry) → c.place ≤ i → i < d.place → slice_get c.entries i ≡ Some x
       → x.offset ≡ offset

@@ -1,6 +1,6 @@
 -- Assignments of values that are read straight from the cells, at the innermost of some loops.
 use Rattle.std.specs.Prelude.{◌≡◌, ℕ, ◌+◌, ◌-◌, ◌^◌, ◌<◌, ◌≤◌, ℤ, pos, ◌+ℤ◌, ◌*ℤ◌, true, if◌then◌else◌, List, [], ◌∷◌, ◌++◌, length}
-use Rattle.tdf_fixed.specs.Overflow.{IsIn}
+use Rattle.tdf_fixed.specs.Overflow.{IsOfWidth}
 use Rattle.tdf_fixed.specs.Quantise.{below}
 use Rattle.tdf_expr_machine.specs.Acts.{acted, IsSafeAct}
 use Rattle.tdf_expr_machine.specs.Nodes.{node_value, spot_place, IsSafe, IsSpot}
@@ -94,7 +94,7 @@ pub record IsPlain (node : Node) (depth : ℕ) (value : Plain) : Type 0 where
 pub record IsPlainSet (act : Act) (depth : ℕ) (set : PlainSet) : Type 0 where
   pub same : (loops : List ℕ) (turn : ℕ) (s : State) → length loops ≡ depth
       → IsSafeAct act (loops ++ turn ∷ []) s
-      → IsIn set.cut.signed set.cut.wl
+      → IsOfWidth set.cut.signed set.cut.wl
       (below (plain_value set.value turn s.frame.cells) (2 ^ set.cut.shift))
       → acted act (loops ++ turn ∷ []) s ≡ with_cell (target_place set.target turn)
       (below (plain_value set.value turn s.frame.cells) (2 ^ set.cut.shift)) s

@@ -7,7 +7,7 @@ use Rattle.tdf_expr_symbols.specs.Faults.{cast_shape, is_comparison, is_wide, is
 use Rattle.tdf_expr_symbols.specs.Index.{kind_faults}
 use Rattle.tdf_expr_symbols.specs.Names.{thing_of}
 use Rattle.tdf_expr_symbols.specs.Scope.{Scope}
-use Rattle.tdf_expr_symbols.specs.Width.{Width, joint, of_binary, of_shape, of_shift}
+use Rattle.tdf_expr_symbols.specs.Width.{Width, joint, of_binary, width_of_shape, of_shift}
 use Rattle.tdf_expr_symbols.specs.declared.kinds.Place.TheVariants as place
 use Rattle.tdf_lang_tree.specs.declared.expr.Op.{Op}
 
@@ -15,7 +15,7 @@ abbrev pub cast_faults : Scope → ℕ → List ℕ → Width → List LineFault
 cast_faults scope line name w =
     (kind_faults place.Format (thing_of scope.globals name) line
     ++ fault_if (is_wide_cast (cast_shape scope name) w) code.WideCast line)
-    ++ wide_faults (of_shape (cast_shape scope name)) line
+    ++ wide_faults (width_of_shape (cast_shape scope name)) line
 
 abbrev pub shift_faults : ℕ → Bool → ℕ → Width → List LineFault
 shift_faults line left n w =

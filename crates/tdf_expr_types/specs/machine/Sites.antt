@@ -4,7 +4,7 @@ use Rattle.tdf_base.specs.declared.codes.Code.TheVariants as code
 use Rattle.tdf_base.specs.First.{fault_if}
 use Rattle.tdf_base.specs.declared.first.LineFault.{LineFault}
 use Rattle.tdf_expr_symbols.specs.Faults.{changes, expr_faults, limit_faults, notifies, stmt_faults, target_faults, value_faults}
-use Rattle.tdf_expr_symbols.specs.Index.{breaks_in, breaks_size, index_faults, kind_faults, name_faults, name_in}
+use Rattle.tdf_expr_symbols.specs.Index.{breaks_in, breaks_size, index_faults, kind_faults, index_kind_faults, name_in}
 use Rattle.tdf_expr_symbols.specs.Names.{Thing}
 use Rattle.tdf_expr_symbols.specs.Scope.{OpenLoop, Scope, least_of, named}
 use Rattle.tdf_expr_symbols.specs.Seen.{seen_loop}
@@ -29,7 +29,7 @@ abbrev pub breaks_size_at : Site → Option Limit → Index → Bool
 breaks_size_at site size i = breaks_size site.scope.now (loops_at site) size i
 
 abbrev pub name_faults_at : Site → Option (List ℕ) → List LineFault
-name_faults_at site name = name_faults site.scope.now (loops_at site) site.line name
+name_faults_at site name = index_kind_faults site.scope.now (loops_at site) site.line name
 
 abbrev pub index_faults_at : Site → Option Thing → Index → List LineFault
 index_faults_at site thing i = index_faults site.scope.now (loops_at site) site.line thing i

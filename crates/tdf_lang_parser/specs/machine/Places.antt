@@ -10,11 +10,11 @@ use Rattle.tdf_lang_tree.specs.declared.blocks.Initial.{Initial}
 use Rattle.tdf_lang_tree.specs.declared.blocks.Member.{Member}
 use Rattle.tdf_lang_tree.specs.declared.blocks.Sense.{Sense}
 use Rattle.tdf_lang_tree.specs.declared.stmt.Limit.{Limit}
-use Rattle.tdf_lang_parser.specs.Faults.{Part, Initialize, Processing, Change, Reinitialize, Process, kind_of, Nest, NIf, NElse, NFor, Where, AtGlobals, InTdf, InAttributes, InInitialize, InBody, InDe, InProcess, InComposite, InTop, AtTraces}
+use Rattle.tdf_lang_parser.specs.Faults.{Part, Initialize, Processing, Change, Reinitialize, Process, kind_of_body, Nest, NIf, NElse, NFor, Where, AtGlobals, InTdf, InAttributes, InInitialize, InBody, InDe, InProcess, InComposite, InTop, AtTraces}
 use Rattle.tdf_lang_tree.specs.Forms.{Form, FType, FTdf, FDe, FComposite, FTop, FEnd, FSetAttributes, FInitialize, FProcessing, FChangeAttributes, FReinitialize, FInitial, FProcess, FSensitive, FDontInitialize, FIf, FElse, FFor}
-use Rattle.tdf_lang_parser.specs.Items.{tdf_line_of, attr_of, de_line_of, member_of, net_line_of, trace_of, stmt_of}
+use Rattle.tdf_lang_parser.specs.Items.{tdf_line_of, attr_of, de_line_of, member_of, net_line_of, trace_item, stmt_of}
 use Rattle.tdf_lang_lines.specs.machine.Reads.{form_of}
-use Rattle.tdf_lang_parser.specs.SpellsTree.{body_of, no_body, deepest}
+use Rattle.tdf_lang_parser.specs.SpellsTree.{body_with, no_body, deepest}
 
 -- what comes before an open block: the dialect, and what was declared
 pub record Outer : Type 0 where
@@ -116,7 +116,7 @@ finished (OwnProcess o d p) b = PDe o false (record d { processes = d.processes 
 
 -- `end` in a body
 abbrev pub end_body : Owner → ℕ → List Frame → List PureStmt → Place
-end_body owner n [] acc = finished owner (body_of acc n)
+end_body owner n [] acc = finished owner (body_with acc n)
 end_body owner n (FrIf line e outer ∷ fs) acc = PBody owner fs (outer ++ SIf line e (sts acc) Done ∷ [])
 end_body owner n (FrElse line e first outer ∷ fs) acc = PBody owner fs (outer ++ SIf line e (sts first) (sts acc) ∷ [])
 end_body owner n (FrFor line name from l outer ∷ fs) acc = PBody owner fs (outer ++ SFor line name from l (sts acc) ∷ [])
@@ -137,7 +137,7 @@ goes_body owner fs acc n (FIf e) = head_body owner (FrIf n e acc) fs
 goes_body owner fs acc n (FFor name from l) = head_body owner (FrFor n name from l acc) fs
 goes_body owner fs acc n FElse = else_body owner fs acc
 goes_body owner fs acc n FEnd = end_body owner n fs acc
-goes_body owner fs acc n f = more_body owner fs acc (stmt_of (kind_of (part_of owner)) n f)
+goes_body owner fs acc n f = more_body owner fs acc (stmt_of (kind_of_body (part_of owner)) n f)
 
 abbrev pub goes_globals : Outer → ℕ → Form → Place
 goes_globals o n (FType name s) = PGlobals (with_global o (GShape (record { line = n; name = name; shape = s })))
@@ -219,7 +219,7 @@ goes (PDe o declares d) n f = goes_de o declares d n f
 goes (PProcess o d p) n f = goes_process o d p n f
 goes (PNet o c) n f = goes_net o c n f
 goes (PTop o c) n f = goes_top o c n f
-goes (PTraces t) n f = more_traces t (trace_of n f)
+goes (PTraces t) n f = more_traces t (trace_item n f)
 goes PLost n f = PLost
 
 abbrev pub read_form : Place → ℕ → Option Form → Place

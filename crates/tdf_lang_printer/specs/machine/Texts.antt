@@ -20,7 +20,7 @@ use Rattle.tdf_lang_tree.specs.declared.blocks.TdfLine.{TdfLine}
 use Rattle.tdf_lang_tree.specs.declared.shapes.FormatRef.{FormatRef}
 use Rattle.tdf_lang_tree.specs.declared.stmt.Stmt.{Stmt}
 use Rattle.tdf_lang_tree.specs.declared.tree.Trace1.{Trace1}
-use Rattle.tdf_lang_printer.specs.Canon.{part_lines, attributes_lines, initialize_lines, tdf_lines, process_lines, de_lines, composite_lines, global_lines, stmt_lines, stmts_lines, else_lines, store_line, tdf_line, attr_line, initial_line, de_line, sense_line, member_line, trace_line}
+use Rattle.tdf_lang_printer.specs.Canon.{part_lines, attributes_lines, initialize_lines, tdf_lines, process_lines, de_lines, composite_lines, global_lines, stmt_lines, stmts_lines, else_lines, store_line, tdf_line, attr_line, initial_line, de_line, sense_line, member_line, form_of_trace}
 use Rattle.tdf_lang_printer.specs.Lines.{lit_text, format_text, full_line, lines_text}
 
 abbrev pub value_text : Lit → List ℕ
@@ -52,7 +52,7 @@ abbrev pub member_text : Member → List ℕ
 member_text x = full_line Ps (member_line x)
 
 abbrev pub trace_text : Trace1 → List ℕ
-trace_text x = full_line Ps (trace_line (pure_trace x))
+trace_text x = full_line Ps (form_of_trace (pure_trace x))
 
 -- a word, a name, a format and a literal
 abbrev pub value_line : List ℕ → List ℕ → FormatRef → Lit → List ℕ

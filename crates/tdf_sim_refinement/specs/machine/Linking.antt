@@ -8,7 +8,7 @@ use Rattle.tdf_convert.specs.Links.{AreBefore, AreLinks, HaveSignals, samplers_i
 use Rattle.tdf_convert.specs.declared.links.Link.{Link}
 use Rattle.tdf_graph.specs.declared.actors.Actor.{Actor}
 use Rattle.tdf_graph.specs.declared.actors.Actor.TheVariants as actor
-use Rattle.tdf_sim_refinement.specs.Linked.{HaveSignalsOf, IsLinked, is_own_sampler}
+use Rattle.tdf_sim_refinement.specs.Linked.{HaveSignalsOf, HasLink, is_own_sampler}
 use Rattle.tdf_sim_refinement.specs.declared.linking.Wanted.{Wanted}
 use Rattle.tdf_sim_refinement.specs.declared.linking.Wanted.TheVariants.{SamplersOf, Sinks}
 
@@ -51,5 +51,5 @@ pub record AreLinkedUpTo (tables : FlatTablesOf) (wanted : Wanted) (n : ℕ) (li
   pub of : HaveSignalsOf tables links
   pub each : (j : ℕ) (l : Link) → slice_get links j ≡ Some l → IsLinkOf tables wanted l
   pub all : (m : ℕ) (row : ActorRow) → m < n → slice_get tables.actors m ≡ Some row
-      → is_wanted wanted row ≡ true → IsLinked links m
+      → is_wanted wanted row ≡ true → HasLink links m
   pub counted : samplers_in links ≡ counted_before tables wanted n

@@ -5,7 +5,7 @@ use Rattle.tdf_trace.specs.Calls.{Holds}
 use Rattle.tdf_trace.specs.Tracked.{TrackedOf}
 use Rattle.tdf_fixed.specs.declared.raw.Raw.{Raw}
 use Rattle.tdf_sim_history.specs.Cells.{is_same_value}
-use Rattle.tdf_trace_rows.specs.Noted.{with_cell}
+use Rattle.tdf_trace_rows.specs.Noted.{with_noted_cell}
 use Rattle.tdf_trace_rows.specs.Positions.{Span}
 use Rattle.tdf_trace_rows.specs.Rows.{Cells}
 use Rattle.tdf_trace_rows.specs.declared.cell.Cell.{Cell}
@@ -27,7 +27,7 @@ cell_for values time e =
 abbrev pub with_change : List Raw → (time : ℕ) → Option EventColumn → Cells → Cells
 with_change values time None cells = cells
 with_change values time (Some e) cells = if is_same_value e.shown (value_of values e.signal)
-    then cells else with_cell cells (cell_for values time e)
+    then cells else with_noted_cell cells (cell_for values time e)
 
 -- with those of the first k columns
 unfoldable pub with_changes : List Raw → (time : ℕ) → List EventColumn → (k : ℕ) → Cells → Cells

@@ -2,7 +2,7 @@
 use Rattle.std.specs.Prelude.{ℕ, ◌≡◌, ◌<◌, true, false, List, Option, Some, None, ◌⊎◌}
 use Rattle.std.specs.Int.{◌∣◌}
 use Rattle.tdf_graph.specs.declared.actors.Port.{Port}
-use Rattle.tdf_timestep.specs.Order.{comes_before}
+use Rattle.tdf_timestep.specs.Order.{spot_comes_before}
 use Rattle.tdf_timestep.specs.Period.{share_of, IsPortOf}
 use Rattle.tdf_timestep.specs.declared.assign.Spot.{Spot}
 
@@ -15,8 +15,8 @@ pub record IsUnwhole (share period : ℕ) : Type 0 where
 abbrev pub IsLesser : Option Spot → Spot → Option Spot → Type 0
 IsLesser None spot result = result ≡ Some spot
 IsLesser (Some best) spot result =
-    ((result ≡ Some spot) × (comes_before spot best ≡ true))
-    ⊎ ((result ≡ Some best) × (comes_before spot best ≡ false))
+    ((result ≡ Some spot) × (spot_comes_before spot best ≡ true))
+    ⊎ ((result ≡ Some best) × (spot_comes_before spot best ≡ false))
 
 pub record IsConsidered (ports : List Port) (counts : List ℕ) (period : ℕ) (best : Option Spot)
     (spot : Spot) (result : Option Spot) : Type 0 where
@@ -37,7 +37,7 @@ pub record IsLeastSpot (ports : List Port) (counts : List ℕ) (period : ℕ) (S
   pub seen : Seen s
   pub unwhole : IsUnwhole (share_of ports counts s) period
   pub first : (t : Spot) → Seen t → IsUnwhole (share_of ports counts t) period
-      → comes_before t s ≡ false
+      → spot_comes_before t s ≡ false
 
 abbrev pub IsFirstAmong : List Port → List ℕ → ℕ → (Spot → Type 0) → Option Spot → Type 0
 IsFirstAmong ports counts period Seen None =

@@ -1,7 +1,7 @@
 -- The first assignment with a property, while the list is looked through.
 use Rattle.std.specs.Prelude.{ℕ, ◌≡◌, ◌≢◌, ◌<◌, true, false, List, Option, Some, None, slice_get, ◌⊎◌}
 use Rattle.tdf_graph.specs.declared.actors.Port.{Port}
-use Rattle.tdf_timestep.specs.Order.{comes_before, spot_of, IsFirst}
+use Rattle.tdf_timestep.specs.Order.{spot_comes_before, spot_of, IsFirstAssigned}
 use Rattle.tdf_timestep.specs.Period.{period_of}
 use Rattle.tdf_timestep.specs.declared.assign.Assign.{Assign}
 
@@ -13,9 +13,9 @@ pub record IsFirstUpTo (n : ℕ) (assigned : List Assign) (P : Assign → Type 0
   pub there : slice_get assigned place ≡ Some chosen
   pub holds : P chosen
   pub least : (j : ℕ) (a : Assign) → j < n → slice_get assigned j ≡ Some a → P a
-      → comes_before (spot_of a) (spot_of chosen) ≡ false
+      → spot_comes_before (spot_of a) (spot_of chosen) ≡ false
   pub earliest : (j : ℕ) (a : Assign) → j < place → slice_get assigned j ≡ Some a → P a
-      → comes_before (spot_of chosen) (spot_of a) ≡ true
+      → spot_comes_before (spot_of chosen) (spot_of a) ≡ true
 
 -- its place, if any has the property
 abbrev pub IsFoundUpTo : ℕ → List Assign → (Assign → Type 0) → Option ℕ → Type 0
@@ -25,15 +25,15 @@ IsFoundUpTo n assigned P (Some place) = IsFirstUpTo n assigned P place
 
 abbrev pub IsFound : List Assign → (Assign → Type 0) → Option ℕ → Type 0
 IsFound assigned P None = (j : ℕ) (a : Assign) → slice_get assigned j ≡ Some a → P a → ⊥
-IsFound assigned P (Some place) = IsFirst assigned P place
+IsFound assigned P (Some place) = IsFirstAssigned assigned P place
 
 -- the assignment at a place, or the best one before, whichever comes first
 abbrev pub IsBetter : List Assign → Option ℕ → ℕ → Option ℕ → Type 0
 IsBetter assigned None place result = result ≡ Some place
 IsBetter assigned (Some best) place result = (a b : Assign)
     → slice_get assigned place ≡ Some a → slice_get assigned best ≡ Some b
-    → ((result ≡ Some place) × (comes_before (spot_of a) (spot_of b) ≡ true))
-    ⊎ ((result ≡ Some best) × (comes_before (spot_of a) (spot_of b) ≡ false))
+    → ((result ≡ Some place) × (spot_comes_before (spot_of a) (spot_of b) ≡ true))
+    ⊎ ((result ≡ Some best) × (spot_comes_before (spot_of a) (spot_of b) ≡ false))
 
 -- an assignment that gives another period
 abbrev pub IsOther : List Port → List ℕ → ℕ → Assign → Type 0

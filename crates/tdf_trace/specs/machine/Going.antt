@@ -4,7 +4,7 @@ use Rattle.std.specs.Prelude.{◌≡◌, ℕ, ◌<◌, ◌≤◌, Option, Some, 
 use Rattle.tdf_trace.specs.Calls.{Holds, TakesSamples}
 use Rattle.tdf_trace.specs.Tracked.{AreLater, AreSince, TrackedOf, TrackingOf, labels, sinces}
 use Rattle.tdf_trace.specs.Tracks.{AreTracked, Tracks, cells_by, known_by}
-use Rattle.tdf_trace.specs.Traces.{IsTrackingOf, with_samples}
+use Rattle.tdf_trace.specs.Traces.{IsTrackingOf, with_signal_samples}
 use Rattle.tdf_convert.specs.declared.outputs.Traced.{Traced}
 use Rattle.tdf_fixed.specs.declared.raw.Raw.{Raw}
 use Rattle.tdf_trace_rows.specs.Positions.{Span}
@@ -30,7 +30,7 @@ pub record AreNotedTo (count end : ℕ) (list : List TrackedOf) (traces : List T
     (cells : Cells) (spans : ℕ → List Span) (samples : ℕ → List Raw) (rows : RowsSeen)
     : Type 0 where
   pub of : ℕ → ℕ → Option (Option Raw)
-  pub stand : Stands (with_samples traces cells of) rows
+  pub stand : Stands (with_signal_samples traces cells of) rows
   pub noted : (place : ℕ) (t : TrackedOf) → place < count → slice_get list place ≡ Some t
       → (time : ℕ) → time < end → of t.signal time ≡ cells_by spans samples t.signal time
   pub others : (place : ℕ) (t : TrackedOf) → count ≤ place → slice_get list place ≡ Some t

@@ -1,7 +1,7 @@
 use Rattle.std.proofs.Common.{◌≡◌, subst, arith, length, take}
 use Rattle.std.specs.Prelude.{Err}
 use Rattle.tdf_balance.proofs.Answered.{fault_at, still_fine, solved_all}
-use Rattle.tdf_balance.specs.Balance.{edges_of, edges_to}
+use Rattle.tdf_balance.specs.Balance.{cluster_edges, edges_to}
 use Rattle.tdf_balance.specs.views.Results.{IsNext}
 use Rattle.tdf_balance.specs.views.Solution.{AreFine, AreLeast}
 use Rattle.tdf_balance.proofs.cluster.solve.Goals as goal
@@ -24,4 +24,4 @@ returns c =
     let k_is : c.loop-k.k ≡ length c.args.edges.now = omega (arith, c.loop-k-test.false, c.loop-k.auto.k-end) in
     solved_all c.args.count c.args.edges.now c.args.clusters.now c.args.cluster c.loop-k.solution.parts c.loop-k.solution.counts.items
     (subst (AreFine c.args.edges.now c.args.clusters.now c.args.cluster) k_is c.loop-k.invariant.fine)
-    (subst (λ n. AreLeast c.args.count (edges_of c.args.clusters.now c.args.cluster (take n c.args.edges.now)) c.loop-k.solution.parts c.loop-k.solution.counts.items) k_is c.loop-k.invariant.least)
+    (subst (λ n. AreLeast c.args.count (cluster_edges c.args.clusters.now c.args.cluster (take n c.args.edges.now)) c.loop-k.solution.parts c.loop-k.solution.counts.items) k_is c.loop-k.invariant.least)

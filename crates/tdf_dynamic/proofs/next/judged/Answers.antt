@@ -2,7 +2,7 @@ use Rattle.std.proofs.Common.{arith}
 use Rattle.std.specs.Prelude.{vec_len}
 use Rattle.tdf_dynamic.proofs.Judging.{steps_refused}
 use Rattle.tdf_dynamic_plans.proofs.Api.{clusters_are, modules_few, ports_are}
-use Rattle.tdf_dynamic_plans.specs.Rates.{seen}
+use Rattle.tdf_dynamic_plans.specs.Rates.{net_seen}
 use Rattle.tdf_dynamic.proofs.next.judged.Goals as goal
 
 pub net_of-requires-clause-modules : goal.net_of-requires-clause-modules
@@ -19,4 +19,4 @@ pub steps_of-requires-clause-modules : goal.steps_of-requires-clause-modules
 steps_of-requires-clause-modules c = modules_few c.args.flat.now.tables c.requires.wired
 
 pub returns-in-Err-clause-refused : goal.returns-in-Err-clause-refused
-returns-in-Err-clause-refused c = steps_refused c.args.flat.now.tables c.args.cluster c.args.table.now c.args.new.now c.args.frames.now (seen c.in_ok-after.after) c.in_ok-after.ensures.net c.in-Err.refused c.in-Err.ensures.refused
+returns-in-Err-clause-refused c = steps_refused c.args.flat.now.tables c.args.cluster c.args.table.now c.args.new.now c.args.frames.now (net_seen c.in_ok-after.after) c.in_ok-after.ensures.net c.in-Err.refused c.in-Err.ensures.refused

@@ -7,7 +7,7 @@ use Rattle.tdf_dynamic.specs.machine.Judging.{IsJudged, IsJudgedFault}
 use Rattle.tdf_dynamic.specs.machine.Rows.{IsRefusing}
 use Rattle.tdf_dynamic_plans.proofs.Api.{clusters_are, modules_few, ports_are}
 use Rattle.tdf_dynamic_plans.specs.Faults.{IsPlanFault, IsPlanOf}
-use Rattle.tdf_dynamic_plans.specs.Rates.{seen}
+use Rattle.tdf_dynamic_plans.specs.Rates.{net_seen}
 use Rattle.tdf_dynamic.proofs.next.judged_by.Goals as goal
 
 pub net_of-requires-clause-modules : goal.net_of-requires-clause-modules
@@ -26,7 +26,7 @@ steps_of-requires-clause-modules c = modules_few c.args.flat.now.tables c.requir
 pub returns-in-Err-clause-refused : goal.returns-in-Err-clause-refused
 returns-in-Err-clause-refused c =
     old_fails c.law_counts.ensures.apart c.law_counts.ensures.unique c.args.flat.now.tables c.args.cluster c.args.table.now c.requires.wired c.requires.has c.requires.rates c.requires.planned
-    (seen c.in_ok-before.before) c.in_ok-before.ensures.net (IsJudgedFault c.args.flat.now.tables c.args.cluster c.args.table.now c.args.new.now c.args.frames.now) c.in-Err.refused c.in-Err.ensures.refused
+    (net_seen c.in_ok-before.before) c.in_ok-before.ensures.net (IsJudgedFault c.args.flat.now.tables c.args.cluster c.args.table.now c.args.new.now c.args.frames.now) c.in-Err.refused c.in-Err.ensures.refused
 
 pub plan_of-requires-clause-actors : goal.plan_of-requires-clause-actors
 plan_of-requires-clause-actors c = counts_long c.args.flat.now.tables c.args.new.now c.args.after (vec_len c.args.after.actors) c.args.timing.counts.items c.requires.net
@@ -34,14 +34,14 @@ plan_of-requires-clause-actors c = counts_long c.args.flat.now.tables c.args.new
 
 pub returns-in-Ok-accepted-clause-plan : goal.returns-in-Ok-accepted-clause-plan
 returns-in-Ok-accepted-clause-plan c =
-    IfOk-weaker c.plan_of.result (IsPlanOf (seen c.args.after) c.args.timing.counts.items c.args.timing.steps)
+    IfOk-weaker c.plan_of.result (IsPlanOf (net_seen c.args.after) c.args.timing.counts.items c.args.timing.steps)
     (IsJudged c.args.flat.now.tables c.args.cluster c.args.table.now c.args.new.now c.args.frames.now)
     (is_judged c.args.flat.now.tables c.args.cluster c.args.table.now c.args.new.now c.args.frames.now c.in_ok-before.before c.args.after c.in_ok-before.ensures.net c.requires.net
     c.in-Ok.old.counts.items c.args.timing.counts.items c.in-Ok.old.steps c.args.timing.steps c.in-Ok.ensures.timing c.requires.timing c.in-Ok-accepted.ensures.none) c.plan_of.ensures.plan
 
 pub returns-in-Ok-accepted-clause-refused : goal.returns-in-Ok-accepted-clause-refused
 returns-in-Ok-accepted-clause-refused c =
-    all_weaker (IsPlanFault c.args.flat.now.tables (seen c.args.after) c.args.new.now c.args.timing.counts.items c.args.timing.steps)
+    all_weaker (IsPlanFault c.args.flat.now.tables (net_seen c.args.after) c.args.new.now c.args.timing.counts.items c.args.timing.steps)
     (IsJudgedFault c.args.flat.now.tables c.args.cluster c.args.table.now c.args.new.now c.args.frames.now)
     (plan_refused c.args.flat.now.tables c.args.cluster c.args.table.now c.args.new.now c.args.frames.now c.in_ok-before.before c.args.after c.in_ok-before.ensures.net c.requires.net
     c.in-Ok.old.counts.items c.args.timing.counts.items c.in-Ok.old.steps c.args.timing.steps c.in-Ok.ensures.timing c.requires.timing c.in-Ok-accepted.ensures.none) c.plan_of.result c.plan_of.ensures.refused

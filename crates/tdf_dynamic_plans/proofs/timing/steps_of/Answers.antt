@@ -4,7 +4,7 @@ use Rattle.tdf_dynamic_plans.proofs.Assigned.{assigned_fit}
 use Rattle.tdf_dynamic_plans.proofs.Phases.{from_period}
 use Rattle.tdf_dynamic_plans.specs.Assignments.{assignments}
 use Rattle.tdf_dynamic_plans.specs.Faults.{IsPeriodFault, IsRefusal}
-use Rattle.tdf_dynamic_plans.specs.Rates.{seen, net_ports}
+use Rattle.tdf_dynamic_plans.specs.Rates.{net_seen, net_ports}
 use Rattle.tdf_timestep.specs.Period.{IsAssigned}
 use Rattle.tdf_dynamic_plans.proofs.timing.steps_of.Goals as goal
 
@@ -14,5 +14,5 @@ steps_or-requires-clause-assigned c = subst (λ ps. All (IsAssigned ps c.deref.r
     (assigned_fit c.args.tables.now c.args.cluster c.args.table.now c.args.net.now.edges.items c.in-Ok.counts.items c.in-Ok.ensures.counts.counts_are c.requires.modules c.requires.table))
 
 pub returns-in-Err-steps_or-clause-refused : goal.returns-in-Err-steps_or-clause-refused
-returns-in-Err-steps_or-clause-refused c = from_period c.args.tables.now (seen c.args.net.now) c.args.cluster c.args.table.now c.in-Ok.counts.items c.in-Err-steps_or.refused c.in-Ok.ensures.counts
-    (subst (λ cs. IsRefusal (IsPeriodFault c.args.tables.now (seen c.args.net.now) c.args.table.now cs) c.in-Err-steps_or.refused) c.deref.ensures.value c.in-Err-steps_or.ensures.refused)
+returns-in-Err-steps_or-clause-refused c = from_period c.args.tables.now (net_seen c.args.net.now) c.args.cluster c.args.table.now c.in-Ok.counts.items c.in-Err-steps_or.refused c.in-Ok.ensures.counts
+    (subst (λ cs. IsRefusal (IsPeriodFault c.args.tables.now (net_seen c.args.net.now) c.args.table.now cs) c.in-Err-steps_or.refused) c.deref.ensures.value c.in-Err-steps_or.ensures.refused)

@@ -1,6 +1,6 @@
 use Rattle.std.proofs.Common.{◌≡◌, List, length, ap, ◌∙◌, subst}
 use Rattle.tdf_events.proofs.Steps.{flags_long, next_flags, stepped_kernel, stepped_side}
-use Rattle.tdf_events.specs.Delta.{after_update, flags_from, is_next, stepped}
+use Rattle.tdf_events.specs.Delta.{after_update, flags_from, is_next, delta_stepped}
 use Rattle.tdf_events.specs.Kernel.{IsKernelOf, side_of}
 use Rattle.tdf_events.specs.machine.Updating.{AreAllReached, does_change}
 use Rattle.tdf_events.specs.views.Parts.{kernel_of}
@@ -18,7 +18,7 @@ returns-clause-kernel c =
     (ap length flags ∙ flags_long (λ n row. is_next (side_of (kernel_of c.evaluate.new.parts)) row) 0 c.args.flat.now.tables.processes) c.give.ensures.waiting
 
 pub returns-clause-side : goal.returns-clause-side
-unfolding stepped
+unfolding delta_stepped
 returns-clause-side c =
     let kernel : IsKernelOf c.args.flat.now (kernel_of c.evaluate.new.parts) = c.evaluate.ensures.kernel in
     let reached : AreAllReached c.evaluate.new.parts.by_signal (does_change c.evaluate.new.parts.values.items c.evaluate.new.parts.waiting) c.clear.new.self.flags c.trigger.new.set.flags =

@@ -1,5 +1,5 @@
 use Rattle.std.proofs.Common.{◌≡◌, ◌≤◌, ◌+◌, ◌*◌, take, length, max}
-use Rattle.tdf_expr_machine.specs.Acts.{turn_of}
+use Rattle.tdf_expr_machine.specs.Acts.{act_turn}
 use Rattle.tdf_expr_machine.proofs.Runs.{act_size}
 use Rattle.tdf_expr_machine.specs.Turns.{turned}
 use Rattle.tdf_expr_state.specs.State.{state_of}
@@ -11,8 +11,8 @@ invariant-run_turns-loop-i l = record {
   outer : take (length l.loops) l.inner ≡ l.loops;
   after : l.initial.i ≤ l.i;
   within : l.i ≤ max l.initial.i l.end;
-  frame : l.cells ≡ (turned (turn_of l.body l.loops) l.initial.i l.i (state_of l.initial.cells l.initial.signals)).frame;
-  ports : l.signals ≡ (turned (turn_of l.body l.loops) l.initial.i l.i (state_of l.initial.cells l.initial.signals)).ports;
+  frame : l.cells ≡ (turned (act_turn l.body l.loops) l.initial.i l.i (state_of l.initial.cells l.initial.signals)).frame;
+  ports : l.signals ≡ (turned (act_turn l.body l.loops) l.initial.i l.i (state_of l.initial.cells l.initial.signals)).ports;
 }
 
 abbrev pub decreases-run : goal.decreases-run

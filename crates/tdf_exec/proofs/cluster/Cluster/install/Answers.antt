@@ -3,7 +3,7 @@ use Rattle.tdf_dynamic.specs.declared.next.Next.{Next}
 use Rattle.tdf_exec.proofs.Crosses.{head_held, of_next, stands_next}
 use Rattle.tdf_exec.proofs.Installing.{new_cluster, new_heads, new_plan, stands_new}
 use Rattle.tdf_exec.specs.Cluster.{ClusterOf}
-use Rattle.tdf_exec.specs.Crossing.{CanInstall, HasBegun, IsReadyFor, StandsAfter, StandsAtNext, at_place}
+use Rattle.tdf_exec.specs.Crossing.{CanInstall, HasBegunPeriod, IsReadyFor, StandsAfter, StandsAtNext, at_place}
 use Rattle.tdf_exec.specs.Made.{IsClusterOf}
 use Rattle.tdf_exec.specs.contracts.cluster.Cluster.{the_view}
 use Rattle.tdf_exec.proofs.cluster.Cluster.install.Goals as goal
@@ -29,7 +29,7 @@ pub returns-in-Changed-clause-begun : goal.returns-in-Changed-clause-begun
 returns-in-Changed-clause-begun c =
     let ready : IsReadyFor c.args.flat.now c.args.self.now c.in-Changed.attrs c.in-Changed.plan = subst (λ (n : Next). CanInstall c.args.flat.now c.args.self.now n) c.in-Changed.is c.requires.can in
     on_ok c.begin_new.result c.begin_new.ensures.ok (λ re.
-    subst (λ (n : Next). HasBegun c.args.self.now n c.begin_new.new.self) (sym c.in-Changed.is)
+    subst (λ (n : Next). HasBegunPeriod c.args.self.now n c.begin_new.new.self) (sym c.in-Changed.is)
     (new_plan c.args.flat.now c.args.self.now c.in-Changed.attrs c.in-Changed.plan ready (c.law_laid.ensures.laid c.args.flat.now c.requires.sound) c.law_laid.ensures.present c.requires.sound
     (ready.of.over c.requires.crossed) c.begin_new.new.self re))
 

@@ -4,7 +4,7 @@ use Rattle.std.specs.Prelude.{slice_get}
 use Rattle.tdf_expr.proofs.Ran.{block_starts}
 use Rattle.tdf_expr.proofs.frames.Frame.new.Goals as goal
 use Rattle.tdf_expr.specs.Frames.{FrameSeen, IsFrameFit}
-use Rattle.tdf_expr.specs.Made.{formats_in, rates_in, starts_in}
+use Rattle.tdf_expr.specs.Made.{formats_in, block_rates, starts_in}
 
 pub invariant_of-result : goal.invariant_of-result
 invariant_of-result c =
@@ -31,7 +31,7 @@ returns-clause-rates c =
     let within : c.args.number < length c.args.checked.now.blocks.items = c.requires.block in
     let held : slice_get c.args.checked.now.blocks.items c.args.number ≡ Some c.index-block.result.now =
     slice_get_read c.args.checked.now.blocks.items (length c.args.checked.now.blocks.items) c.args.number c.index-block.result.now refl within c.index-block.ensures in
-    c.in_ok-rates.ensures.items ∙ c.deref-2.ensures.value ∙ sym (ap rates_in held)
+    c.in_ok-rates.ensures.items ∙ c.deref-2.ensures.value ∙ sym (ap block_rates held)
 
 pub returns-clause-start_cells : goal.returns-clause-start_cells
 returns-clause-start_cells c =
@@ -45,4 +45,4 @@ returns-clause-start_rates c =
     let within : c.args.number < length c.args.checked.now.blocks.items = c.requires.block in
     let held : slice_get c.args.checked.now.blocks.items c.args.number ≡ Some c.index-block.result.now =
     slice_get_read c.args.checked.now.blocks.items (length c.args.checked.now.blocks.items) c.args.number c.index-block.result.now refl within c.index-block.ensures in
-    c.new.ensures.rates ∙ c.in_ok-start_rates.ensures ∙ ap (map (λ r. r.start)) (c.deref-4.ensures.value ∙ sym (ap rates_in held))
+    c.new.ensures.rates ∙ c.in_ok-start_rates.ensures ∙ ap (map (λ r. r.start)) (c.deref-4.ensures.value ∙ sym (ap block_rates held))

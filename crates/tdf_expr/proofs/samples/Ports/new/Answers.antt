@@ -5,7 +5,7 @@ use Rattle.std.specs.Prelude.{slice_get}
 use Rattle.tdf_expr.proofs.Ran.{block_ports}
 use Rattle.tdf_expr.proofs.samples.Ports.new.Goals as goal
 use Rattle.tdf_expr.specs.Frames.{PortsSeen, ArePortsFit}
-use Rattle.tdf_expr.specs.Made.{spans_in, samples_in, events_in}
+use Rattle.tdf_expr.specs.Made.{spans_in, block_samples, events_in}
 
 pub invariant_of-result : goal.invariant_of-result
 invariant_of-result c =
@@ -31,7 +31,7 @@ returns-clause-samples c =
     let within : c.args.number < length c.args.checked.now.blocks.items = c.requires.block in
     let held : slice_get c.args.checked.now.blocks.items c.args.number ≡ Some c.index-block.result.now =
     slice_get_read c.args.checked.now.blocks.items (length c.args.checked.now.blocks.items) c.args.number c.index-block.result.now refl within c.index-block.ensures in
-    c.in_ok-signals.ensures.samples ∙ ap (λ n. replicate n (pos 0)) (sym (ap samples_in held))
+    c.in_ok-signals.ensures.samples ∙ ap (λ n. replicate n (pos 0)) (sym (ap block_samples held))
 
 pub returns-clause-notified : goal.returns-clause-notified
 returns-clause-notified c =

@@ -3,7 +3,7 @@ use Rattle.std.proofs.lemmas.Option.{slice_get_read}
 use Rattle.std.specs.Prelude.{map, length}
 use Rattle.tdf_expr_symbols.proofs.Tables.{changed_is}
 use Rattle.tdf_expr_symbols.proofs.things.Table.set_delay.Goals as goal
-use Rattle.tdf_expr_symbols.specs.Names.{at_delay, changed, place_of}
+use Rattle.tdf_expr_symbols.specs.Names.{at_delay, names_changed, place_of}
 
 pub returns-then-place-len : goal.returns-then-place-len
 returns-then-place-len c =
@@ -12,4 +12,4 @@ returns-then-place-len c =
     refl (omega (arith, c.if-place-len.true)) c.index.ensures in
     changed_is (at_delay c.args.delay) (map (λ k. k.now) c.self.inside.set.keys) c.args.port.now c.self.inside.things.items c.in-Some.place
     c.index.result.now c.at_delay.result place_is held_is c.at_delay.ensures
-    ∙ ap (changed (at_delay c.args.delay) c.args.port.now) c.self.view_is
+    ∙ ap (names_changed (at_delay c.args.delay) c.args.port.now) c.self.view_is

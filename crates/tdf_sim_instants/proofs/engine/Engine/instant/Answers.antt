@@ -1,5 +1,5 @@
 use Rattle.std.proofs.Common.{◌∙◌, None, Ok, Some, ap, map, refl, subst, sym}
-use Rattle.tdf_convert.specs.Emitted.{write_of as write_to}
+use Rattle.tdf_convert.specs.Emitted.{write_of_sent as write_to}
 use Rattle.tdf_sim_instants.proofs.Acting.{before_events, can_fire, can_settle, engine_after, ready_after, roomy_if_none, writes_room}
 use Rattle.tdf_sim_instants.proofs.Calm.{calm_after}
 use Rattle.tdf_sim_instants.proofs.Spending.{crossing_now, fired_all, fired_part, on_is, rest_now, same_answer, settles_as}
@@ -8,7 +8,7 @@ use Rattle.tdf_sim_instants.specs.Engine.{AreRoomy, HasBeenSpent, HaveBoundaries
 use Rattle.tdf_sim_instants.specs.declared.crossing.Pass.TheVariants.{Done, Spent, Stopped}
 use Rattle.tdf_sim_instants.specs.declared.engine.Engine.{Engine}
 use Rattle.tdf_events.specs.Kernel.{side_of}
-use Rattle.tdf_sim_refinement.specs.Pass.{run_of}
+use Rattle.tdf_sim_refinement.specs.Pass.{pass_run}
 use Rattle.tdf_sim_instants.proofs.engine.Engine.instant.Goals as goal
 
 pub returns-in_default : goal.returns-in_default
@@ -37,7 +37,7 @@ fire-requires c = can_fire c.args.flat.now c.args.time c.args.left.now c.args.se
 
 pub returns-then-not-fire-clause-spent : goal.returns-then-not-fire-clause-spent
 returns-then-not-fire-clause-spent c = λ same. HasBeenSpent.InFirings (crossing_of c.make_room.new.self.clusters.items c.make_room.new.self.since.items c.cross.new.left c.make_room.new.self.planned.items)
-    c.fire.new.self.inputs.items (run_of c.fire.new.self.clusters.items c.fire.new.self.outputs c.fire.new.left)
+    c.fire.new.self.inputs.items (pass_run c.fire.new.self.clusters.items c.fire.new.self.outputs c.fire.new.left)
     (subst (HaveBoundaries c.args.flat.now c.args.time c.args.self.now c.args.left.now) (crossing_now c.args.self.now c.cross.new.self c.make_room.new.self c.make_room.ensures.rest c.cross.new.left) (c.cross.ensures.all (c.in_ok-ended.was ∙ ap Ok c.in-Done.is)))
     (fired_part c.args.flat.now c.args.time c.args.left.now c.args.self.now c.make_room.new.self c.fire.new.self c.cross.new.left c.fire.new.left (rest_now c.args.self.now c.cross.new.self c.make_room.new.self c.make_room.ensures.rest c.cross.ensures.rest) c.fire.ensures.sampled (c.fire.ensures.part c.if-not-fire.true))
     refl (ap (λ (z : Engine). z.planned.items) c.fire.ensures.rest)
@@ -63,9 +63,9 @@ returns-clause-had c = λ same. record {
   boundaries = subst (HaveBoundaries c.args.flat.now c.args.time c.args.self.now c.args.left.now) (crossing_now c.args.self.now c.cross.new.self c.make_room.new.self c.make_room.ensures.rest c.cross.new.left) (c.cross.ensures.all (c.in_ok-ended.was ∙ ap Ok c.in-Done.is));
   since = ap (λ (z : Engine). z.since.items) c.settle.ensures.rest ∙ ap (λ (z : Engine). z.since.items) c.fire.ensures.rest;
   planned = ap (λ (z : Engine). z.planned.items) c.settle.ensures.rest ∙ ap (λ (z : Engine). z.planned.items) c.fire.ensures.rest;
-  run = run_of c.fire.new.self.clusters.items c.fire.new.self.outputs c.fire.new.left;
+  run = pass_run c.fire.new.self.clusters.items c.fire.new.self.outputs c.fire.new.left;
   fired = subst (λ inputs. HaveFired c.args.flat.now c.args.time c.args.self.now (crossing_of c.make_room.new.self.clusters.items c.make_room.new.self.since.items c.cross.new.left c.make_room.new.self.planned.items)
-      inputs (run_of c.fire.new.self.clusters.items c.fire.new.self.outputs c.fire.new.left)) (sym (ap (λ (z : Engine). z.inputs.items) c.settle.ensures.rest))
+      inputs (pass_run c.fire.new.self.clusters.items c.fire.new.self.outputs c.fire.new.left)) (sym (ap (λ (z : Engine). z.inputs.items) c.settle.ensures.rest))
       (fired_all c.args.flat.now c.args.time c.args.left.now c.args.self.now c.make_room.new.self c.fire.new.self c.cross.new.left c.fire.new.left (rest_now c.args.self.now c.cross.new.self c.make_room.new.self c.make_room.ensures.rest c.cross.ensures.rest) c.fire.ensures.sampled (on_is c.make_room.result c.in_ok-make_room.was c.make_room.ensures.roomy) (c.fire.ensures.all c.if-not-fire.false));
   clusters = ap (λ (z : Engine). z.clusters.items) c.settle.ensures.rest;
   traced = ap (λ (z : Engine). z.outputs) c.settle.ensures.rest;
@@ -84,7 +84,7 @@ returns-clause-later c = λ same. ready_after c.args.flat.now c.args.time c.args
 
 pub returns-clause-spent : goal.returns-clause-spent
 returns-clause-spent c = λ same. HasBeenSpent.InEvents (crossing_of c.make_room.new.self.clusters.items c.make_room.new.self.since.items c.cross.new.left c.make_room.new.self.planned.items)
-    c.fire.new.self.inputs.items (run_of c.fire.new.self.clusters.items c.fire.new.self.outputs c.fire.new.left)
+    c.fire.new.self.inputs.items (pass_run c.fire.new.self.clusters.items c.fire.new.self.outputs c.fire.new.left)
     (subst (HaveBoundaries c.args.flat.now c.args.time c.args.self.now c.args.left.now) (crossing_now c.args.self.now c.cross.new.self c.make_room.new.self c.make_room.ensures.rest c.cross.new.left) (c.cross.ensures.all (c.in_ok-ended.was ∙ ap Ok c.in-Done.is)))
     (fired_all c.args.flat.now c.args.time c.args.left.now c.args.self.now c.make_room.new.self c.fire.new.self c.cross.new.left c.fire.new.left (rest_now c.args.self.now c.cross.new.self c.make_room.new.self c.make_room.ensures.rest c.cross.ensures.rest) c.fire.ensures.sampled (on_is c.make_room.result c.in_ok-make_room.was c.make_room.ensures.roomy) (c.fire.ensures.all c.if-not-fire.false))
     (settles_as c.args.flat.now c.args.time c.args.left.now c.args.self.now c.make_room.new.self c.fire.new.self c.cross.new.left c.fire.new.left (rest_now c.args.self.now c.cross.new.self c.make_room.new.self c.make_room.ensures.rest c.cross.ensures.rest) c.fire.ensures.sampled None c.fire.ensures.rest (λ model checked. c.settle.ensures.spent model checked (same_answer c.settle.result Spent same)))

@@ -11,7 +11,7 @@ use Rattle.tdf_sim_runs.proofs.Reaching.{is_spent, is_stopped, part_then, part_t
 use Rattle.tdf_sim_runs.proofs.Written.{none_front}
 use Rattle.tdf_sim_runs.proofs.running.Running.turn.Goals as goal
 use Rattle.tdf_sim_runs.specs.Ending.{GoesToEnd, end_from}
-use Rattle.tdf_sim_runs.specs.Running.{CanGoOn, GoesOn}
+use Rattle.tdf_sim_runs.specs.Running.{CanGoOn, RunGoesOn}
 use Rattle.tdf_sim_runs.specs.declared.going.Ended.TheVariants as ended
 use Rattle.tdf_sim_runs.specs.declared.running.Running.{Running}
 use Rattle.tdf_sim_history.specs.Rules.{rules_of}
@@ -48,8 +48,8 @@ returns-in_err-write-clause-part g c =
     let can = c.requires.can in
     let next = c.wait.ensures.next in
     let waited = subst (CanGoOn flat) (sym c.wait.ensures.rest) (waits flat r c.args.stop c.wait.new.self.from can c.requires.within next) in
-    let first : GoesOn flat r c.wait.new.self taken taken =
-    subst (λ (x : Running). GoesOn flat r x taken taken) (sym c.wait.ensures.rest) (waits_goes flat r c.args.stop c.wait.new.self.from can c.requires.within next taken) in
+    let first : RunGoesOn flat r c.wait.new.self taken taken =
+    subst (λ (x : Running). RunGoesOn flat r x taken taken) (sym c.wait.ensures.rest) (waits_goes flat r c.args.stop c.wait.new.self.from can c.requires.within next taken) in
     let is = ap Ok c.in-Ok-Done.field-0-is in
     let mid = c.in-Ok-Done.ensures.can is in
     let one = goes_then c.law_one_answer.ensures flat r c.wait.new.self c.step.new.self taken taken taken waited first (c.in-Ok-Done.ensures.goes is taken) in
@@ -67,8 +67,8 @@ returns-clause-goes g c = λ _.
     let can = c.requires.can in
     let next = c.wait.ensures.next in
     let waited = subst (CanGoOn flat) (sym c.wait.ensures.rest) (waits flat r c.args.stop c.wait.new.self.from can c.requires.within next) in
-    let first : GoesOn flat r c.wait.new.self taken taken =
-    subst (λ (x : Running). GoesOn flat r x taken taken) (sym c.wait.ensures.rest) (waits_goes flat r c.args.stop c.wait.new.self.from can c.requires.within next taken) in
+    let first : RunGoesOn flat r c.wait.new.self taken taken =
+    subst (λ (x : Running). RunGoesOn flat r x taken taken) (sym c.wait.ensures.rest) (waits_goes flat r c.args.stop c.wait.new.self.from can c.requires.within next taken) in
     let is = ap Ok c.in-Ok-Done.field-0-is in
     let one = goes_then c.law_one_answer.ensures flat r c.wait.new.self c.step.new.self taken taken taken waited first (c.in-Ok-Done.ensures.goes is taken) in
     goes_then c.law_one_answer.ensures flat r c.step.new.self c.write.new.self taken taken (g.K.Sink.taken c.write.new.out) (c.in-Ok-Done.ensures.can is) one c.in_ok-write.ensures.goes
