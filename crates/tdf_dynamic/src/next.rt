@@ -1,12 +1,11 @@
 //! What a boundary of a cluster leads to.
 
-ghost use Rattle.std.specs.Prelude.{◌≡◌, ◌⊎◌, ◌≤◌, ℕ, List, ℤ, All, Contains, Some, Ok, Err, IfOk, IfErr, IsOk, OnOk, OnErr, true, length, slice_get};
+ghost use Rattle.std.specs.Prelude.{◌≡◌, ◌≤◌, ℕ, List, All, Contains, Some, Ok, Err, IfOk, IfErr, IsOk, OnOk, OnErr, length};
 ghost use Rattle.std.specs.Vec.{vec_capacity};
 ghost use Rattle.tdf_base.specs.declared.codes.Code.TheVariants as code;
-ghost use Rattle.tdf_base.specs.declared.faults.Fault.{Fault as FaultOf};
-ghost use Rattle.tdf_dynamic.specs.Change.{IsChangeFault, IsNewPlan, IsSame, fault_of_row, table_after};
+ghost use Rattle.tdf_dynamic.specs.Change.{fault_of_row, table_after};
 ghost use Rattle.tdf_dynamic.specs.Given.{AreFramesOf, IsOfText, IsPlanned, WhenAsked};
-ghost use Rattle.tdf_dynamic.specs.Next.{HaveChanged, IsNext};
+ghost use Rattle.tdf_dynamic.specs.Next.{AnswersAsks, HaveChanged};
 ghost use Rattle.tdf_dynamic.specs.machine.Asking.{AllTell};
 ghost use Rattle.tdf_dynamic.specs.machine.Boundary.{IsFound, IsRefusedAt, IsTableRefused, NoneMarks};
 ghost use Rattle.tdf_dynamic.specs.machine.Judging.{IsJudged, IsJudgedFault};
@@ -14,13 +13,10 @@ ghost use Rattle.tdf_dynamic.specs.machine.Rows.{AreAfter, HoldsBelow, IsFirstPl
 ghost use Rattle.tdf_dynamic_plans.specs.Attributes.{AttrsOf, IsOfCluster, clusters_of};
 ghost use Rattle.tdf_dynamic_plans.specs.Faults.{HasTiming, IsRefusal};
 ghost use Rattle.tdf_dynamic_plans.specs.Rates.{AreRates, IsWired, net_of, net_seen};
-ghost use Rattle.tdf_dynamic_plans.specs.declared.err.ChangeErr.TheVariants.{Memory as NoMemory, Refused};
+ghost use Rattle.tdf_dynamic_plans.specs.declared.err.ChangeErr.TheVariants.{Refused};
 ghost use Rattle.tdf_dynamic.specs.declared.next.Next.TheVariants.{Same};
-ghost use Rattle.tdf_expr.specs.Checked.{IsCheckedOf};
 ghost use Rattle.tdf_bind_invariants.specs.Limits.{AreWithinLimits};
-ghost use Rattle.tdf_schedule.specs.declared.entry.Plan.{Plan as PlanOf};
 ghost use Rattle.tdf_streams.specs.Periods.{AreAttributes};
-ghost use Rattle.tdf_lang_tree.specs.Pure.{PureTree};
 
 use crate::asking::run_changes;
 use crate::frames::{Frames, ModuleFrame};
@@ -225,27 +221,13 @@ pub fn next_plan(
     requires attributes { AreAttributes flat.now cluster attrs.old }
     requires planned { IsPlanned flat.now.tables cluster attrs.old }
     requires frames { AreFramesOf flat.now attrs.old frames.old.modules.items }
-    ensures next { WhenAsked flat.now attrs.old frames.old.modules.items (λ asks.
-        IfOk result (IsNext flat.now.tables cluster asks attrs.old attrs.new)) }
-    ensures refused { WhenAsked flat.now attrs.old frames.old.modules.items (λ asks.
-        IfErr result (IsRefusal (IsChangeFault flat.now.tables cluster asks attrs.old))) }
+    ensures answer { WhenAsked flat.now attrs.old frames.old.modules.items (λ asks.
+        AnswersAsks flat.now cluster asks attrs.old attrs.new result) }
     ensures kept { OnErr result (attrs.new ≡ attrs.old) }
     ensures frames { WhenAsked flat.now attrs.old frames.old.modules.items (λ asks.
         HaveChanged flat.now asks attrs.old frames.new.modules.items) }
-    ensures after { WhenAsked flat.now attrs.old frames.old.modules.items (λ asks.
-        AreAttributes flat.now cluster (table_after asks attrs.old)) }
     ensures long { length frames.new.modules.items ≡ length frames.old.modules.items }
     ensures room { vec_capacity frames.old.modules ≤ vec_capacity frames.new.modules }
-
-    // Each answer comes wherever its cause is there, but for want of memory.
-    ensures same_always { WhenAsked flat.now attrs.old frames.old.modules.items (λ asks.
-        IsSame asks attrs.old → result ≡ Ok Same) }
-    ensures refused_always { WhenAsked flat.now attrs.old frames.old.modules.items (λ asks.
-        (fault : FaultOf) → IsChangeFault flat.now.tables cluster asks attrs.old fault
-        → (result ≡ Err (Refused fault)) ⊎ (result ≡ Err NoMemory)) }
-    ensures new_always { WhenAsked flat.now attrs.old frames.old.modules.items (λ asks.
-        (plan : PlanOf) → IsNewPlan flat.now.tables cluster asks attrs.old plan
-        → IsOk result ⊎ (result ≡ Err NoMemory)) }
 {
     law_one_answer();
     run_changes(flat, &attrs.rows, &mut frames.modules);

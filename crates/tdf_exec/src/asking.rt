@@ -25,18 +25,12 @@ impl Model for Spare {
     } };
 }
 
-ghost use Rattle.std.specs.Prelude.{◌≡◌, ◌⊎◌, ◌≤◌, ℕ, Contains, Err, IfErr, IfOk, IsOk, length, Ok, OnErr, Some, slice_get};
-ghost use Rattle.tdf_base.specs.declared.faults.Fault.{Fault as FaultOf};
-ghost use Rattle.tdf_dynamic.specs.Change.{IsChangeFault, IsNewPlan, IsSame, table_after};
+ghost use Rattle.std.specs.Prelude.{◌≡◌, ◌≤◌, ℕ, Contains, IfOk, length, Ok, OnErr};
 ghost use Rattle.tdf_dynamic.specs.Given.{IsOfText, IsPlanned};
-ghost use Rattle.tdf_dynamic.specs.Next.{IsNext};
-ghost use Rattle.tdf_dynamic.specs.declared.next.Next.TheVariants.{Same};
+ghost use Rattle.tdf_dynamic.specs.Next.{AnswersAsks};
 ghost use Rattle.tdf_dynamic_plans.specs.Attributes.{clusters_of};
-ghost use Rattle.tdf_dynamic_plans.specs.Faults.{IsRefusal};
-ghost use Rattle.tdf_dynamic_plans.specs.declared.err.ChangeErr.TheVariants.{Memory as NoMemory, Refused};
 ghost use Rattle.tdf_exec.specs.machine.Moving.{AreInstances, AreModules, HaveMoved, WhenTheyAsk, numbers_of};
 ghost use Rattle.tdf_bind_invariants.specs.Limits.{AreWithinLimits};
-ghost use Rattle.tdf_schedule.specs.declared.entry.Plan.{Plan as PlanOf};
 ghost use Rattle.tdf_streams.specs.Periods.{AreAttributes};
 
 use crate::moving::{put_back, take_out};
@@ -83,23 +77,11 @@ impl Spare {
         requires modules { AreModules (numbers_of attrs.old) runners.old.items }
         requires instances { AreInstances flat.now attrs.old runners.old.items }
         requires room { length attrs.old ≤ self.old }
-        ensures next { WhenTheyAsk flat.now attrs.old runners.old.items (λ asks.
-            IfOk result (IsNext flat.now.tables cluster asks attrs.old attrs.new)) }
-        ensures refused { WhenTheyAsk flat.now attrs.old runners.old.items (λ asks.
-            IfErr result (IsRefusal (IsChangeFault flat.now.tables cluster asks attrs.old))) }
+        ensures answer { WhenTheyAsk flat.now attrs.old runners.old.items (λ asks.
+            AnswersAsks flat.now cluster asks attrs.old attrs.new result) }
         ensures kept { OnErr result (attrs.new ≡ attrs.old) }
-        ensures after { WhenTheyAsk flat.now attrs.old runners.old.items (λ asks.
-            AreAttributes flat.now cluster (table_after asks attrs.old)) }
         ensures moved { WhenTheyAsk flat.now attrs.old runners.old.items (λ asks.
             HaveMoved flat.now asks attrs.old runners.old.items runners.new.items) }
-        ensures same_always { WhenTheyAsk flat.now attrs.old runners.old.items (λ asks.
-            IsSame asks attrs.old → result ≡ Ok Same) }
-        ensures refused_always { WhenTheyAsk flat.now attrs.old runners.old.items (λ asks.
-            (fault : FaultOf) → IsChangeFault flat.now.tables cluster asks attrs.old fault
-            → (result ≡ Err (Refused fault)) ⊎ (result ≡ Err NoMemory)) }
-        ensures new_always { WhenTheyAsk flat.now attrs.old runners.old.items (λ asks.
-            (plan : PlanOf) → IsNewPlan flat.now.tables cluster asks attrs.old plan
-            → IsOk result ⊎ (result ≡ Err NoMemory)) }
         ensures room { self.old ≤ self.new }
     {
         take_out(

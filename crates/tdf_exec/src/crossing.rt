@@ -1,19 +1,13 @@
 //! From the end of a period to the next.
 
-ghost use Rattle.std.specs.Prelude.{◌≡◌, ◌⊎◌, ◌<◌, ℕ, All, Err, IfErr, IfOk, IsOk, None, Ok, OnErr, OnOk, Some, false, length, slice_get, true};
-ghost use Rattle.tdf_base.specs.declared.faults.Fault.{Fault as FaultOf};
-ghost use Rattle.tdf_dynamic.specs.Change.{IsChangeFault, IsNewPlan, IsSame, table_after};
-ghost use Rattle.tdf_dynamic.specs.Next.{IsNext};
+ghost use Rattle.std.specs.Prelude.{◌≡◌, ◌<◌, ℕ, All, IfOk, IsOk, None, Ok, OnErr, OnOk, Some, false, length, slice_get, true};
+ghost use Rattle.tdf_dynamic.specs.Next.{AnswersAsks};
 ghost use Rattle.tdf_dynamic.specs.declared.next.Next.TheVariants.{Same};
 ghost use Rattle.tdf_dynamic_plans.specs.Attributes.{AttrsOf};
-ghost use Rattle.tdf_dynamic_plans.specs.Faults.{IsRefusal};
-ghost use Rattle.tdf_dynamic_plans.specs.declared.err.ChangeErr.TheVariants.{Memory as NoMemory, Refused};
 ghost use Rattle.tdf_exec.specs.Cluster.{next_offset};
 ghost use Rattle.tdf_exec.specs.Crossing.{CanInstall, CrossesFrom, HasBegunPeriod, HasCrossed, HasNoChanges, HoldHeads, StandsAfter, WhenItAsks, at_place};
 ghost use Rattle.tdf_exec.specs.Made.{IsClusterOf};
 ghost use Rattle.tdf_exec.specs.Starts.{IsSoundFlat};
-ghost use Rattle.tdf_schedule.specs.declared.entry.Plan.{Plan as PlanOf};
-ghost use Rattle.tdf_streams.specs.Periods.{AreAttributes};
 ghost use Rattle.tdf_streams.specs.Places.{has_changes};
 
 use crate::cluster::Cluster;
@@ -60,29 +54,15 @@ impl Cluster {
         requires of { IsClusterOf flat.now self.old }
         requires done { next_offset self.old ≡ None }
         requires open { self.old.crossed ≡ false }
-        ensures next { WhenItAsks flat.now self.old (λ asks. IfOk result
-            (IsNext flat.now.tables self.old.number asks self.old.table self.new.table)) }
-        ensures refused { WhenItAsks flat.now self.old (λ asks. IfErr result
-            (IsRefusal (IsChangeFault flat.now.tables self.old.number asks self.old.table))) }
+        ensures answer { WhenItAsks flat.now self.old (λ asks. AnswersAsks flat.now
+            self.old.number asks self.old.table self.new.table result) }
         ensures kept { OnErr result (self.new.table ≡ self.old.table) }
-        ensures after { WhenItAsks flat.now self.old (λ asks.
-            AreAttributes flat.now self.old.number (table_after asks self.old.table)) }
         ensures heads { HoldHeads flat.now.tables self.old }
         ensures crossed { HasCrossed self.old self.new }
         ensures crosses { CrossesFrom flat.now self.old self.new }
         ensures of { IfOk result (CanInstall flat.now self.new) }
         ensures still { HasNoChanges flat.now.tables self.old.number → (result ≡ Ok Same)
             × (self.new ≡ at_place self.old self.old.place true) }
-
-        // Each answer comes wherever its cause is there, but for want of memory.
-        ensures same_always { WhenItAsks flat.now self.old (λ asks.
-            IsSame asks self.old.table → result ≡ Ok Same) }
-        ensures refused_always { WhenItAsks flat.now self.old (λ asks. (fault : FaultOf)
-            → IsChangeFault flat.now.tables self.old.number asks self.old.table fault
-            → (result ≡ Err (Refused fault)) ⊎ (result ≡ Err NoMemory)) }
-        ensures new_always { WhenItAsks flat.now self.old (λ asks. (plan : PlanOf)
-            → IsNewPlan flat.now.tables self.old.number asks self.old.table plan
-            → IsOk result ⊎ (result ≡ Err NoMemory)) }
     {
         law_laid();
         self.crossed = true;

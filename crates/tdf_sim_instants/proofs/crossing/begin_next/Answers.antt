@@ -60,8 +60,8 @@ returns-in-Ok-clause-passed c =
         answered = record {
           done = c.requires.over;
           leads = λ model cells checked own. answers_lead flat.tables old.number (asks_of model flat cells) old.table crossed.table next
-              (ok_is c.boundary.result next (IsNext flat.tables old.number (asks_of model flat cells) old.table crossed.table) c.in-Ok.is (c.boundary.ensures.next model cells checked own));
-          after = c.boundary.ensures.after;
+              (ok_is c.boundary.result next (IsNext flat.tables old.number (asks_of model flat cells) old.table crossed.table) c.in-Ok.is (c.boundary.ensures.answer model cells checked own).next);
+          after = λ model cells checked own. (c.boundary.ensures.answer model cells checked own).after;
         };
       },
     ))
@@ -80,8 +80,8 @@ returns-in-Err-clause-refused c =
       done = c.requires.over;
       leads = λ model cells checked own.
           (let P = IsChangeFault flat.tables old.number (asks_of model flat cells) old.table in
-          subst (IsRefusal P) is (err_is c.boundary.result c.in-Err.refused (IsRefusal P) c.in-Err.is (c.boundary.ensures.refused model cells checked own)));
-      after = c.boundary.ensures.after;
+          subst (IsRefusal P) is (err_is c.boundary.result c.in-Err.refused (IsRefusal P) c.in-Err.is (c.boundary.ensures.answer model cells checked own).refused));
+      after = λ model cells checked own. (c.boundary.ensures.answer model cells checked own).after;
     })
 
 pub returns-in-Err-clause-left : goal.returns-in-Err-clause-left

@@ -13,18 +13,18 @@ pub put_back-requires-clause-inside : goal.put_back-requires-clause-inside
 put_back-requires-clause-inside c = all_inside c.args.flat.now c.args.cluster c.args.attrs.now c.deref.result.now c.deref-2.result.now c.next_plan-next.new.attrs (c.deref.ensures.value ∙ c.attrs.view_is) (c.deref-2.ensures.value ∙ c.attrs-2.view_is)
     c.args.runners.now.items c.take_out.new.runners.items c.take_out.new.frames.items c.take_out.new.rests.items c.requires.modules c.take_out.ensures.out
     (asks_of c.requires.text.model c.args.flat.now (values_at c.args.runners.now.items)) c.next_plan-next.result
-    (c.next_plan-next.ensures.next c.requires.text.model (values_at c.args.runners.now.items) c.requires.text.checked
+    (c.next_plan-next.ensures.answer c.requires.text.model (values_at c.args.runners.now.items) c.requires.text.checked
     (have_cells c.args.flat.now c.args.attrs.now c.args.runners.now.items c.take_out.new.runners.items c.take_out.new.frames.items c.take_out.new.rests.items c.requires.modules
-    (out_is c.args.flat.now c.args.cluster c.args.attrs.now c.deref.result.now c.args.attrs.now c.args.attrs.now (c.deref.ensures.value ∙ c.attrs.view_is) refl c.args.runners.now.items c.take_out.new.runners.items c.take_out.new.frames.items c.take_out.new.rests.items c.requires.modules c.take_out.ensures.out) (values_at c.args.runners.now.items) (λ i a at. refl)))
+    (out_is c.args.flat.now c.args.cluster c.args.attrs.now c.deref.result.now c.args.attrs.now c.args.attrs.now (c.deref.ensures.value ∙ c.attrs.view_is) refl c.args.runners.now.items c.take_out.new.runners.items c.take_out.new.frames.items c.take_out.new.rests.items c.requires.modules c.take_out.ensures.out) (values_at c.args.runners.now.items) (λ i a at. refl))).next
     c.next_plan-next.ensures.kept
 
 pub put_back-requires-clause-once : goal.put_back-requires-clause-once
 put_back-requires-clause-once c = all_once c.args.flat.now c.args.cluster c.args.attrs.now c.deref.result.now c.deref-2.result.now c.next_plan-next.new.attrs (c.deref.ensures.value ∙ c.attrs.view_is) (c.deref-2.ensures.value ∙ c.attrs-2.view_is)
     c.args.runners.now.items c.take_out.new.runners.items c.take_out.new.frames.items c.take_out.new.rests.items c.requires.modules c.take_out.ensures.out
     (asks_of c.requires.text.model c.args.flat.now (values_at c.args.runners.now.items)) c.next_plan-next.result
-    (c.next_plan-next.ensures.next c.requires.text.model (values_at c.args.runners.now.items) c.requires.text.checked
+    (c.next_plan-next.ensures.answer c.requires.text.model (values_at c.args.runners.now.items) c.requires.text.checked
     (have_cells c.args.flat.now c.args.attrs.now c.args.runners.now.items c.take_out.new.runners.items c.take_out.new.frames.items c.take_out.new.rests.items c.requires.modules
-    (out_is c.args.flat.now c.args.cluster c.args.attrs.now c.deref.result.now c.args.attrs.now c.args.attrs.now (c.deref.ensures.value ∙ c.attrs.view_is) refl c.args.runners.now.items c.take_out.new.runners.items c.take_out.new.frames.items c.take_out.new.rests.items c.requires.modules c.take_out.ensures.out) (values_at c.args.runners.now.items) (λ i a at. refl)))
+    (out_is c.args.flat.now c.args.cluster c.args.attrs.now c.deref.result.now c.args.attrs.now c.args.attrs.now (c.deref.ensures.value ∙ c.attrs.view_is) refl c.args.runners.now.items c.take_out.new.runners.items c.take_out.new.frames.items c.take_out.new.rests.items c.requires.modules c.take_out.ensures.out) (values_at c.args.runners.now.items) (λ i a at. refl))).next
     c.next_plan-next.ensures.kept
 
 pub put_back-requires-clause-frames_long : goal.put_back-requires-clause-frames_long
@@ -32,9 +32,9 @@ put_back-requires-clause-frames_long c =
     let long = later_long c.args.flat.now c.args.cluster c.args.attrs.now c.deref.result.now c.deref-2.result.now c.next_plan-next.new.attrs (c.deref.ensures.value ∙ c.attrs.view_is) (c.deref-2.ensures.value ∙ c.attrs-2.view_is)
     c.args.runners.now.items c.take_out.new.runners.items c.take_out.new.frames.items c.take_out.new.rests.items c.requires.modules c.take_out.ensures.out
     (asks_of c.requires.text.model c.args.flat.now (values_at c.args.runners.now.items)) c.next_plan-next.result
-    (c.next_plan-next.ensures.next c.requires.text.model (values_at c.args.runners.now.items) c.requires.text.checked
+    (c.next_plan-next.ensures.answer c.requires.text.model (values_at c.args.runners.now.items) c.requires.text.checked
     (have_cells c.args.flat.now c.args.attrs.now c.args.runners.now.items c.take_out.new.runners.items c.take_out.new.frames.items c.take_out.new.rests.items c.requires.modules
-    (out_is c.args.flat.now c.args.cluster c.args.attrs.now c.deref.result.now c.args.attrs.now c.args.attrs.now (c.deref.ensures.value ∙ c.attrs.view_is) refl c.args.runners.now.items c.take_out.new.runners.items c.take_out.new.frames.items c.take_out.new.rests.items c.requires.modules c.take_out.ensures.out) (values_at c.args.runners.now.items) (λ i a at. refl)))
+    (out_is c.args.flat.now c.args.cluster c.args.attrs.now c.deref.result.now c.args.attrs.now c.args.attrs.now (c.deref.ensures.value ∙ c.attrs.view_is) refl c.args.runners.now.items c.take_out.new.runners.items c.take_out.new.frames.items c.take_out.new.rests.items c.requires.modules c.take_out.ensures.out) (values_at c.args.runners.now.items) (λ i a at. refl))).next
     c.next_plan-next.ensures.kept in
     let out = (out_is c.args.flat.now c.args.cluster c.args.attrs.now c.deref.result.now c.args.attrs.now c.args.attrs.now (c.deref.ensures.value ∙ c.attrs.view_is) refl c.args.runners.now.items c.take_out.new.runners.items c.take_out.new.frames.items c.take_out.new.rests.items c.requires.modules c.take_out.ensures.out) in
     let n = c.next_plan-next.ensures.long in let f = out.frames_long in
@@ -45,41 +45,16 @@ put_back-requires-clause-rests_long c =
     let long = later_long c.args.flat.now c.args.cluster c.args.attrs.now c.deref.result.now c.deref-2.result.now c.next_plan-next.new.attrs (c.deref.ensures.value ∙ c.attrs.view_is) (c.deref-2.ensures.value ∙ c.attrs-2.view_is)
     c.args.runners.now.items c.take_out.new.runners.items c.take_out.new.frames.items c.take_out.new.rests.items c.requires.modules c.take_out.ensures.out
     (asks_of c.requires.text.model c.args.flat.now (values_at c.args.runners.now.items)) c.next_plan-next.result
-    (c.next_plan-next.ensures.next c.requires.text.model (values_at c.args.runners.now.items) c.requires.text.checked
+    (c.next_plan-next.ensures.answer c.requires.text.model (values_at c.args.runners.now.items) c.requires.text.checked
     (have_cells c.args.flat.now c.args.attrs.now c.args.runners.now.items c.take_out.new.runners.items c.take_out.new.frames.items c.take_out.new.rests.items c.requires.modules
-    (out_is c.args.flat.now c.args.cluster c.args.attrs.now c.deref.result.now c.args.attrs.now c.args.attrs.now (c.deref.ensures.value ∙ c.attrs.view_is) refl c.args.runners.now.items c.take_out.new.runners.items c.take_out.new.frames.items c.take_out.new.rests.items c.requires.modules c.take_out.ensures.out) (values_at c.args.runners.now.items) (λ i a at. refl)))
+    (out_is c.args.flat.now c.args.cluster c.args.attrs.now c.deref.result.now c.args.attrs.now c.args.attrs.now (c.deref.ensures.value ∙ c.attrs.view_is) refl c.args.runners.now.items c.take_out.new.runners.items c.take_out.new.frames.items c.take_out.new.rests.items c.requires.modules c.take_out.ensures.out) (values_at c.args.runners.now.items) (λ i a at. refl))).next
     c.next_plan-next.ensures.kept in
     let out = (out_is c.args.flat.now c.args.cluster c.args.attrs.now c.deref.result.now c.args.attrs.now c.args.attrs.now (c.deref.ensures.value ∙ c.attrs.view_is) refl c.args.runners.now.items c.take_out.new.runners.items c.take_out.new.frames.items c.take_out.new.rests.items c.requires.modules c.take_out.ensures.out) in
     let f = out.rests_long in
     omega (arith, long, f)
 
-pub returns-clause-next : goal.returns-clause-next
-returns-clause-next c = λ model cells checked are. c.next_plan-next.ensures.next model cells checked
-    (have_cells c.args.flat.now c.args.attrs.now c.args.runners.now.items c.take_out.new.runners.items c.take_out.new.frames.items c.take_out.new.rests.items c.requires.modules
-    (out_is c.args.flat.now c.args.cluster c.args.attrs.now c.deref.result.now c.args.attrs.now c.args.attrs.now (c.deref.ensures.value ∙ c.attrs.view_is) refl c.args.runners.now.items c.take_out.new.runners.items c.take_out.new.frames.items c.take_out.new.rests.items c.requires.modules c.take_out.ensures.out) cells are)
-
-pub returns-clause-refused : goal.returns-clause-refused
-returns-clause-refused c = λ model cells checked are. c.next_plan-next.ensures.refused model cells checked
-    (have_cells c.args.flat.now c.args.attrs.now c.args.runners.now.items c.take_out.new.runners.items c.take_out.new.frames.items c.take_out.new.rests.items c.requires.modules
-    (out_is c.args.flat.now c.args.cluster c.args.attrs.now c.deref.result.now c.args.attrs.now c.args.attrs.now (c.deref.ensures.value ∙ c.attrs.view_is) refl c.args.runners.now.items c.take_out.new.runners.items c.take_out.new.frames.items c.take_out.new.rests.items c.requires.modules c.take_out.ensures.out) cells are)
-
-pub returns-clause-after : goal.returns-clause-after
-returns-clause-after c = λ model cells checked are. c.next_plan-next.ensures.after model cells checked
-    (have_cells c.args.flat.now c.args.attrs.now c.args.runners.now.items c.take_out.new.runners.items c.take_out.new.frames.items c.take_out.new.rests.items c.requires.modules
-    (out_is c.args.flat.now c.args.cluster c.args.attrs.now c.deref.result.now c.args.attrs.now c.args.attrs.now (c.deref.ensures.value ∙ c.attrs.view_is) refl c.args.runners.now.items c.take_out.new.runners.items c.take_out.new.frames.items c.take_out.new.rests.items c.requires.modules c.take_out.ensures.out) cells are)
-
-pub returns-clause-same_always : goal.returns-clause-same_always
-returns-clause-same_always c = λ model cells checked are. c.next_plan-next.ensures.same_always model cells checked
-    (have_cells c.args.flat.now c.args.attrs.now c.args.runners.now.items c.take_out.new.runners.items c.take_out.new.frames.items c.take_out.new.rests.items c.requires.modules
-    (out_is c.args.flat.now c.args.cluster c.args.attrs.now c.deref.result.now c.args.attrs.now c.args.attrs.now (c.deref.ensures.value ∙ c.attrs.view_is) refl c.args.runners.now.items c.take_out.new.runners.items c.take_out.new.frames.items c.take_out.new.rests.items c.requires.modules c.take_out.ensures.out) cells are)
-
-pub returns-clause-refused_always : goal.returns-clause-refused_always
-returns-clause-refused_always c = λ model cells checked are. c.next_plan-next.ensures.refused_always model cells checked
-    (have_cells c.args.flat.now c.args.attrs.now c.args.runners.now.items c.take_out.new.runners.items c.take_out.new.frames.items c.take_out.new.rests.items c.requires.modules
-    (out_is c.args.flat.now c.args.cluster c.args.attrs.now c.deref.result.now c.args.attrs.now c.args.attrs.now (c.deref.ensures.value ∙ c.attrs.view_is) refl c.args.runners.now.items c.take_out.new.runners.items c.take_out.new.frames.items c.take_out.new.rests.items c.requires.modules c.take_out.ensures.out) cells are)
-
-pub returns-clause-new_always : goal.returns-clause-new_always
-returns-clause-new_always c = λ model cells checked are. c.next_plan-next.ensures.new_always model cells checked
+pub returns-clause-answer : goal.returns-clause-answer
+returns-clause-answer c = λ model cells checked are. c.next_plan-next.ensures.answer model cells checked
     (have_cells c.args.flat.now c.args.attrs.now c.args.runners.now.items c.take_out.new.runners.items c.take_out.new.frames.items c.take_out.new.rests.items c.requires.modules
     (out_is c.args.flat.now c.args.cluster c.args.attrs.now c.deref.result.now c.args.attrs.now c.args.attrs.now (c.deref.ensures.value ∙ c.attrs.view_is) refl c.args.runners.now.items c.take_out.new.runners.items c.take_out.new.frames.items c.take_out.new.rests.items c.requires.modules c.take_out.ensures.out) cells are)
 
@@ -89,9 +64,9 @@ returns-clause-moved c = λ model cells checked are. record {
   are = have_instances c.args.flat.now c.args.cluster c.args.attrs.now c.deref.result.now c.deref-2.result.now c.next_plan-next.new.attrs (c.deref.ensures.value ∙ c.attrs.view_is) (c.deref-2.ensures.value ∙ c.attrs-2.view_is)
       c.args.runners.now.items c.take_out.new.runners.items c.take_out.new.frames.items c.take_out.new.rests.items c.requires.modules c.take_out.ensures.out
       (asks_of c.requires.text.model c.args.flat.now (values_at c.args.runners.now.items)) c.next_plan-next.result
-      (c.next_plan-next.ensures.next c.requires.text.model (values_at c.args.runners.now.items) c.requires.text.checked
+      (c.next_plan-next.ensures.answer c.requires.text.model (values_at c.args.runners.now.items) c.requires.text.checked
       (have_cells c.args.flat.now c.args.attrs.now c.args.runners.now.items c.take_out.new.runners.items c.take_out.new.frames.items c.take_out.new.rests.items c.requires.modules
-      (out_is c.args.flat.now c.args.cluster c.args.attrs.now c.deref.result.now c.args.attrs.now c.args.attrs.now (c.deref.ensures.value ∙ c.attrs.view_is) refl c.args.runners.now.items c.take_out.new.runners.items c.take_out.new.frames.items c.take_out.new.rests.items c.requires.modules c.take_out.ensures.out) (values_at c.args.runners.now.items) (λ i a at. refl)))
+      (out_is c.args.flat.now c.args.cluster c.args.attrs.now c.deref.result.now c.args.attrs.now c.args.attrs.now (c.deref.ensures.value ∙ c.attrs.view_is) refl c.args.runners.now.items c.take_out.new.runners.items c.take_out.new.frames.items c.take_out.new.rests.items c.requires.modules c.take_out.ensures.out) (values_at c.args.runners.now.items) (λ i a at. refl))).next
       c.next_plan-next.ensures.kept
       c.next_plan-next.new.frames.modules.items c.put_back.new.runners.items c.next_plan-next.ensures.long c.put_back.ensures.back;
   changed = c.next_plan-next.ensures.frames model cells checked

@@ -1,14 +1,10 @@
-use Rattle.std.proofs.Common.{◌≡◌, ◌⊎◌, ◌∙◌, ℕ, None, Ok, Err, Result, Some, false, true, ap, arith, refl, subst, sym, rules}
-use Rattle.std.specs.Prelude.{IfErr, IfOk, IsOk, slice_get}
-use Rattle.tdf_base.specs.declared.faults.Fault.{Fault}
-use Rattle.tdf_dynamic.specs.Change.{IsChangeFault, IsNewPlan, IsSame, table_after}
-use Rattle.tdf_dynamic.specs.Next.{IsNext}
+use Rattle.std.proofs.Common.{◌≡◌, ◌∙◌, ℕ, inl, None, Ok, Err, Result, Some, false, true, ap, arith, refl, subst, sym, rules}
+use Rattle.std.specs.Prelude.{IfOk, slice_get}
+use Rattle.tdf_dynamic.specs.Next.{AnswersAsks}
 use Rattle.tdf_dynamic.specs.declared.next.Next.{Next}
 use Rattle.tdf_dynamic.specs.declared.next.Next.TheVariants.{Same}
 use Rattle.tdf_dynamic_plans.specs.Attributes.{AttrsOf}
-use Rattle.tdf_dynamic_plans.specs.Faults.{IsRefusal}
 use Rattle.tdf_dynamic_plans.specs.declared.err.ChangeErr.{ChangeErr}
-use Rattle.tdf_dynamic_plans.specs.declared.err.ChangeErr.TheVariants.{Memory, Refused}
 use Rattle.tdf_exec.proofs.Asks.{has_cluster, instances_are, modules_are, planned_is}
 use Rattle.tdf_exec.proofs.Boundaries.{no_fault, not_still, still_after, still_crossed, still_crosses, still_next, still_of}
 use Rattle.tdf_exec.proofs.Changing.{as_long, can_install, crossed_of, crosses_from, has_crossed}
@@ -17,8 +13,6 @@ use Rattle.tdf_exec.specs.Cluster.{ClusterOf, next_offset}
 use Rattle.tdf_exec.specs.Crossing.{CrossesFrom, HasCrossed, HasNoChanges, WhenItAsks, at_place, values_at}
 use Rattle.tdf_exec.specs.Made.{IsClusterOf}
 use Rattle.tdf_exec.specs.contracts.cluster.Cluster.{the_view}
-use Rattle.tdf_schedule.specs.declared.entry.Plan.{Plan}
-use Rattle.tdf_streams.specs.Periods.{AreAttributes}
 use Rattle.tdf_streams.specs.Places.{has_changes}
 use Rattle.tdf_exec.proofs.cluster.Cluster.boundary.Goals as goal
 
@@ -30,27 +24,23 @@ if_ok : {T E : Type 0} {P Q : T → Type 0} (r : Result T E) → IfOk r P → ((
 if_ok (Ok x) p then = then x p
 if_ok (Err e) p then = tt
 
-pub returns-then-not-has_changes-clause-next : goal.returns-then-not-has_changes-clause-next
-returns-then-not-has_changes-clause-next c =
+pub returns-then-not-has_changes-clause-answer : goal.returns-then-not-has_changes-clause-answer
+returns-then-not-has_changes-clause-answer c =
     let laid = c.law_laid.ensures.laid c.args.flat.now c.requires.sound in
     let of : IsClusterOf c.args.flat.now (the_view c.self.inside) = subst (IsClusterOf c.args.flat.now) (sym c.self.view_is) c.requires.of in
     let end : next_offset (the_view c.self.inside) ≡ None = subst (λ (s : ClusterOf). next_offset s ≡ None) (sym c.self.view_is) c.requires.done in
     let result : c.has_changes.result ≡ false = search rules in
     let none : (i : ℕ) (a : AttrsOf) → slice_get (the_view c.self.inside).table i ≡ Some a → has_changes c.args.flat.now.tables.modules a.number ≡ false =
     λ i a at. c.has_changes.ensures.none result i a (ap (λ l. slice_get l i) c.rows.ensures.rows ∙ at) in
-    subst (λ (s : ClusterOf). WhenItAsks c.args.flat.now s (λ asks. IfOk stays (IsNext c.args.flat.now.tables s.number asks s.table c.self.inside.attrs))) c.self.view_is
-    (λ model cells checked are. still_next c.args.flat.now (the_view c.self.inside) laid of end none model cells)
-
-pub returns-then-not-has_changes-clause-after : goal.returns-then-not-has_changes-clause-after
-returns-then-not-has_changes-clause-after c =
-    let laid = c.law_laid.ensures.laid c.args.flat.now c.requires.sound in
-    let of : IsClusterOf c.args.flat.now (the_view c.self.inside) = subst (IsClusterOf c.args.flat.now) (sym c.self.view_is) c.requires.of in
-    let end : next_offset (the_view c.self.inside) ≡ None = subst (λ (s : ClusterOf). next_offset s ≡ None) (sym c.self.view_is) c.requires.done in
-    let result : c.has_changes.result ≡ false = search rules in
-    let none : (i : ℕ) (a : AttrsOf) → slice_get (the_view c.self.inside).table i ≡ Some a → has_changes c.args.flat.now.tables.modules a.number ≡ false =
-    λ i a at. c.has_changes.ensures.none result i a (ap (λ l. slice_get l i) c.rows.ensures.rows ∙ at) in
-    subst (λ (s : ClusterOf). WhenItAsks c.args.flat.now s (λ asks. AreAttributes c.args.flat.now s.number (table_after asks s.table))) c.self.view_is
-    (λ model cells checked are. still_after c.args.flat.now (the_view c.self.inside) laid of end none model cells)
+    subst (λ (s : ClusterOf). WhenItAsks c.args.flat.now s (λ asks. AnswersAsks c.args.flat.now s.number asks s.table c.self.inside.attrs stays)) c.self.view_is
+    (λ model cells checked are. record {
+      next = still_next c.args.flat.now (the_view c.self.inside) laid of end none model cells;
+      refused = tt;
+      after = still_after c.args.flat.now (the_view c.self.inside) laid of end none model cells;
+      same_always = λ same. refl;
+      refused_always = λ fault is. no_fault c.args.flat.now (the_view c.self.inside) laid of end none model cells fault is;
+      new_always = λ plan is. inl refl;
+    })
 
 pub returns-then-not-has_changes-clause-crossed : goal.returns-then-not-has_changes-clause-crossed
 returns-then-not-has_changes-clause-crossed c =
@@ -81,18 +71,6 @@ returns-then-not-has_changes-clause-of c =
     let none : (i : ℕ) (a : AttrsOf) → slice_get (the_view c.self.inside).table i ≡ Some a → has_changes c.args.flat.now.tables.modules a.number ≡ false =
     λ i a at. c.has_changes.ensures.none result i a (ap (λ l. slice_get l i) c.rows.ensures.rows ∙ at) in
     still_of c.args.flat.now (the_view c.self.inside) laid of end none
-
-pub returns-then-not-has_changes-clause-refused_always : goal.returns-then-not-has_changes-clause-refused_always
-returns-then-not-has_changes-clause-refused_always c =
-    let laid = c.law_laid.ensures.laid c.args.flat.now c.requires.sound in
-    let of : IsClusterOf c.args.flat.now (the_view c.self.inside) = subst (IsClusterOf c.args.flat.now) (sym c.self.view_is) c.requires.of in
-    let end : next_offset (the_view c.self.inside) ≡ None = subst (λ (s : ClusterOf). next_offset s ≡ None) (sym c.self.view_is) c.requires.done in
-    let result : c.has_changes.result ≡ false = search rules in
-    let none : (i : ℕ) (a : AttrsOf) → slice_get (the_view c.self.inside).table i ≡ Some a → has_changes c.args.flat.now.tables.modules a.number ≡ false =
-    λ i a at. c.has_changes.ensures.none result i a (ap (λ l. slice_get l i) c.rows.ensures.rows ∙ at) in
-    subst (λ (s : ClusterOf). WhenItAsks c.args.flat.now s (λ asks. (fault : Fault) → IsChangeFault c.args.flat.now.tables s.number asks s.table fault
-    → (stays ≡ Err (Refused fault)) ⊎ (stays ≡ Err Memory))) c.self.view_is
-    (λ model cells checked are fault is. no_fault c.args.flat.now (the_view c.self.inside) laid of end none model cells fault is)
 
 pub ask-requires-clause-has : goal.ask-requires-clause-has
 ask-requires-clause-has c =
@@ -126,31 +104,21 @@ invariant_of-self-2 c =
     let laid = c.law_laid.ensures.laid c.args.flat.now c.requires.sound in
     let of : IsClusterOf c.args.flat.now (the_view c.self.inside) = subst (IsClusterOf c.args.flat.now) (sym c.self.view_is) c.requires.of in
     let end : next_offset (the_view c.self.inside) ≡ None = subst (λ (s : ClusterOf). next_offset s ≡ None) (sym c.self.view_is) c.requires.done in
-    let long = as_long c.args.flat.now (the_view c.self.inside) laid of end c.requires.sound.model c.ask.new.runners.items (c.ask.ensures.moved c.requires.sound.model (values_at c.self.inside.runners.items) c.requires.sound.is.bodies (λ i a at. refl)) c.ask.new.attrs c.ask.result (c.ask.ensures.next c.requires.sound.model (values_at c.self.inside.runners.items) c.requires.sound.is.bodies (λ i a at. refl)) c.ask.ensures.kept in
+    let long = as_long c.args.flat.now (the_view c.self.inside) laid of end c.requires.sound.model c.ask.new.runners.items (c.ask.ensures.moved c.requires.sound.model (values_at c.self.inside.runners.items) c.requires.sound.is.bodies (λ i a at. refl)) c.ask.new.attrs c.ask.result (c.ask.ensures.answer c.requires.sound.model (values_at c.self.inside.runners.items) c.requires.sound.is.bodies (λ i a at. refl)).next c.ask.ensures.kept in
     let room = c.self.invariant.room in let more = c.ask.ensures.room in
     record { sorted = c.self.invariant.sorted; room = omega (arith, long, room, more) }
 
-pub returns-clause-next : goal.returns-clause-next
-returns-clause-next c =
-    subst (λ (s : ClusterOf). WhenItAsks c.args.flat.now s (λ asks. IfOk c.ask.result (IsNext c.args.flat.now.tables s.number asks s.table c.ask.new.attrs))) c.self.view_is
-    (λ model cells checked are. c.ask.ensures.next model cells checked are.each)
-
-pub returns-clause-refused : goal.returns-clause-refused
-returns-clause-refused c =
-    subst (λ (s : ClusterOf). WhenItAsks c.args.flat.now s (λ asks. IfErr c.ask.result (IsRefusal (IsChangeFault c.args.flat.now.tables s.number asks s.table)))) c.self.view_is
-    (λ model cells checked are. c.ask.ensures.refused model cells checked are.each)
-
-pub returns-clause-after : goal.returns-clause-after
-returns-clause-after c =
-    subst (λ (s : ClusterOf). WhenItAsks c.args.flat.now s (λ asks. AreAttributes c.args.flat.now s.number (table_after asks s.table))) c.self.view_is
-    (λ model cells checked are. c.ask.ensures.after model cells checked are.each)
+pub returns-clause-answer : goal.returns-clause-answer
+returns-clause-answer c =
+    subst (λ (s : ClusterOf). WhenItAsks c.args.flat.now s (λ asks. AnswersAsks c.args.flat.now s.number asks s.table c.ask.new.attrs c.ask.result)) c.self.view_is
+    (λ model cells checked are. c.ask.ensures.answer model cells checked are.each)
 
 pub returns-clause-crossed : goal.returns-clause-crossed
 returns-clause-crossed c =
     let laid = c.law_laid.ensures.laid c.args.flat.now c.requires.sound in
     let of : IsClusterOf c.args.flat.now (the_view c.self.inside) = subst (IsClusterOf c.args.flat.now) (sym c.self.view_is) c.requires.of in
     let end : next_offset (the_view c.self.inside) ≡ None = subst (λ (s : ClusterOf). next_offset s ≡ None) (sym c.self.view_is) c.requires.done in
-    subst (λ (s : ClusterOf). HasCrossed s (crossed_of (the_view c.self.inside) c.ask.new.attrs c.ask.new.runners.items)) c.self.view_is (has_crossed c.args.flat.now (the_view c.self.inside) laid of end c.requires.sound.model c.ask.new.runners.items (c.ask.ensures.moved c.requires.sound.model (values_at c.self.inside.runners.items) c.requires.sound.is.bodies (λ i a at. refl)) c.ask.new.attrs c.ask.result (c.ask.ensures.next c.requires.sound.model (values_at c.self.inside.runners.items) c.requires.sound.is.bodies (λ i a at. refl)) c.ask.ensures.kept)
+    subst (λ (s : ClusterOf). HasCrossed s (crossed_of (the_view c.self.inside) c.ask.new.attrs c.ask.new.runners.items)) c.self.view_is (has_crossed c.args.flat.now (the_view c.self.inside) laid of end c.requires.sound.model c.ask.new.runners.items (c.ask.ensures.moved c.requires.sound.model (values_at c.self.inside.runners.items) c.requires.sound.is.bodies (λ i a at. refl)) c.ask.new.attrs c.ask.result (c.ask.ensures.answer c.requires.sound.model (values_at c.self.inside.runners.items) c.requires.sound.is.bodies (λ i a at. refl)).next c.ask.ensures.kept)
 
 pub returns-clause-crosses : goal.returns-clause-crosses
 returns-clause-crosses c =
@@ -166,8 +134,8 @@ returns-clause-of c =
     let laid = c.law_laid.ensures.laid c.args.flat.now c.requires.sound in
     let of : IsClusterOf c.args.flat.now (the_view c.self.inside) = subst (IsClusterOf c.args.flat.now) (sym c.self.view_is) c.requires.of in
     let end : next_offset (the_view c.self.inside) ≡ None = subst (λ (s : ClusterOf). next_offset s ≡ None) (sym c.self.view_is) c.requires.done in
-    if_ok c.ask.result (c.ask.ensures.next c.requires.sound.model (values_at c.self.inside.runners.items) c.requires.sound.is.bodies (λ i a at. refl))
-    (λ next is. can_install c.args.flat.now (the_view c.self.inside) laid of end c.requires.sound.model c.ask.new.runners.items (c.ask.ensures.moved c.requires.sound.model (values_at c.self.inside.runners.items) c.requires.sound.is.bodies (λ i a at. refl)) (c.ask.ensures.after c.requires.sound.model (values_at c.self.inside.runners.items) c.requires.sound.is.bodies (λ i a at. refl)) c.ask.new.attrs next is)
+    if_ok c.ask.result (c.ask.ensures.answer c.requires.sound.model (values_at c.self.inside.runners.items) c.requires.sound.is.bodies (λ i a at. refl)).next
+    (λ next is. can_install c.args.flat.now (the_view c.self.inside) laid of end c.requires.sound.model c.ask.new.runners.items (c.ask.ensures.moved c.requires.sound.model (values_at c.self.inside.runners.items) c.requires.sound.is.bodies (λ i a at. refl)) (c.ask.ensures.answer c.requires.sound.model (values_at c.self.inside.runners.items) c.requires.sound.is.bodies (λ i a at. refl)).after c.ask.new.attrs next is)
 
 pub returns-clause-still : goal.returns-clause-still
 returns-clause-still c =
@@ -178,23 +146,6 @@ returns-clause-still c =
     let row = c.has_changes.ensures.some result in
     let at : slice_get (the_view c.self.inside).table row.0 ≡ Some row.1 = ap (λ l. slice_get l row.0) (sym c.rows.ensures.rows) ∙ row.2 in
     λ none. not_still c.args.flat.now (the_view c.self.inside) laid of end row.0 row.1 at row.3 (subst (λ (s : ClusterOf). HasNoChanges c.args.flat.now.tables s.number) (sym c.self.view_is) none)
-
-pub returns-clause-same_always : goal.returns-clause-same_always
-returns-clause-same_always c =
-    subst (λ (s : ClusterOf). WhenItAsks c.args.flat.now s (λ asks. IsSame asks s.table → c.ask.result ≡ Ok Same)) c.self.view_is
-    (λ model cells checked are. c.ask.ensures.same_always model cells checked are.each)
-
-pub returns-clause-refused_always : goal.returns-clause-refused_always
-returns-clause-refused_always c =
-    subst (λ (s : ClusterOf). WhenItAsks c.args.flat.now s (λ asks. (fault : Fault) → IsChangeFault c.args.flat.now.tables s.number asks s.table fault
-    → (c.ask.result ≡ Err (Refused fault)) ⊎ (c.ask.result ≡ Err Memory))) c.self.view_is
-    (λ model cells checked are. c.ask.ensures.refused_always model cells checked are.each)
-
-pub returns-clause-new_always : goal.returns-clause-new_always
-returns-clause-new_always c =
-    subst (λ (s : ClusterOf). WhenItAsks c.args.flat.now s (λ asks. (plan : Plan) → IsNewPlan c.args.flat.now.tables s.number asks s.table plan
-    → IsOk c.ask.result ⊎ (c.ask.result ≡ Err Memory))) c.self.view_is
-    (λ model cells checked are. c.ask.ensures.new_always model cells checked are.each)
 
 pub returns-then-not-has_changes-clause-heads : goal.returns-then-not-has_changes-clause-heads
 returns-then-not-has_changes-clause-heads c =
