@@ -27,8 +27,8 @@ use Rattle.tdf_base.specs.declared.resolution.Resolution.{Resolution}
 use Rattle.tdf_lang_tree.specs.Pure.{PureTree}
 use Rattle.tdf_base.specs.declared.memory.Memory.{Memory}
 use Rattle.tdf_cli_words.specs.Jobs.{usual_turns}
-use Rattle.tdf_cli_words.specs.declared.asked.TraceKind.{TraceKind}
-use Rattle.tdf_cli_words.specs.declared.asked.TraceKind.TheVariants.{Table}
+use Rattle.tdf_trace_rows.specs.declared.kinds.TraceKind.{TraceKind}
+use Rattle.tdf_trace_rows.specs.declared.kinds.TraceKind.TheVariants.{Table}
 
 -- being out of memory while the text is read has no outcome
 abbrev HasSome : Reading → Type 0

@@ -15,8 +15,8 @@ use Rattle.tdf_sim.specs.FirstFault.{IsFirstFault}
 use Rattle.tdf_lang_lexer.specs.Rows.{rows_of}
 use Rattle.tdf_lang_tree.specs.Pure.{PureTree}
 use Rattle.tdf_cli_words.specs.Jobs.{usual_turns}
-use Rattle.tdf_cli_words.specs.declared.asked.TraceKind.{TraceKind}
-use Rattle.tdf_cli_words.specs.declared.asked.TraceKind.TheVariants.{Table}
+use Rattle.tdf_trace_rows.specs.declared.kinds.TraceKind.{TraceKind}
+use Rattle.tdf_trace_rows.specs.declared.kinds.TraceKind.TheVariants.{Table}
 
 pub same_tree : (text : List ℕ) (one other : PureTree) → SpellsText text one → SpellsText text other → other ≡ one
 same_tree text one other s t = one_tree (rows_of text) other one t.spelled s.spelled

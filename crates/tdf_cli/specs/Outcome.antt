@@ -26,8 +26,8 @@ use Rattle.tdf_lang_tree.specs.Pure.{PureTree}
 use Rattle.tdf_cli_words.specs.Jobs.{usual_turns}
 use Rattle.tdf_cli_words.specs.declared.asked.Settings.{Settings}
 use Rattle.tdf_cli_words.specs.declared.asked.Settings.TheVariants.{Run, Check, Plan, Load}
-use Rattle.tdf_cli_words.specs.declared.asked.TraceKind.{TraceKind}
-use Rattle.tdf_cli_words.specs.declared.asked.TraceKind.TheVariants.{Table}
+use Rattle.tdf_trace_rows.specs.declared.kinds.TraceKind.{TraceKind}
+use Rattle.tdf_trace_rows.specs.declared.kinds.TraceKind.TheVariants.{Table}
 
 pub record Outcome : Type 0 where
   pub status : Status

@@ -17,9 +17,9 @@ use crate::run::status_of;
 use crate::status::Status;
 use std::alloc::Global;
 use tdf_base::{Memory, Resolution};
-use tdf_cli_words::TraceKind;
 use tdf_io::{Sink, SinkErr, SureSink, put_all};
 use tdf_sim::{End, Sim};
+use tdf_trace_rows::TraceKind;
 
 /// The turns that the run of `load` may take.
 const LOAD_TURNS: u64 = 100_000_000;

@@ -16,9 +16,9 @@ use crate::notes::noted;
 use crate::status::Status;
 use std::alloc::Global;
 use tdf_base::{Resolution, TIME_END};
-use tdf_cli_words::TraceKind;
 use tdf_io::{Sink, SinkErr};
 use tdf_sim::{End, RunErr, Sim, law_first_fault, law_one_model, law_one_run};
+use tdf_trace_rows::TraceKind;
 
 /// A stop in fs, where a run may have it.
 fn in_femtoseconds(stop: u64) -> Option<u64>

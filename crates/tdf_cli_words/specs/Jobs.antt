@@ -10,8 +10,8 @@ use Rattle.tdf_base.specs.declared.times.TimeErr.{TimeErr}
 use Rattle.tdf_cli_words.specs.Command.{Given}
 use Rattle.tdf_cli_words.specs.declared.asked.Settings.{Settings}
 use Rattle.tdf_cli_words.specs.declared.asked.Settings.TheVariants.{Run, Check, Plan, Load}
-use Rattle.tdf_cli_words.specs.declared.asked.TraceKind.{TraceKind}
-use Rattle.tdf_cli_words.specs.declared.asked.TraceKind.TheVariants.{Table, Vcd}
+use Rattle.tdf_trace_rows.specs.declared.kinds.TraceKind.{TraceKind}
+use Rattle.tdf_trace_rows.specs.declared.kinds.TraceKind.TheVariants.{Table, Vcd}
 
 abbrev pub is_text : List ℕ → List ℕ → Bool
 is_text word text = pointwise nat_eq text word

@@ -1,16 +1,8 @@
 //! What the words ask for, and why they are not taken.
 
 use std::alloc::AllocError;
+use tdf_trace_rows::TraceKind;
 use thiserror::Error;
-
-/// How a run writes its traces.
-#[derive(Clone, Copy, Debug, PartialEq, Eq)]
-pub enum TraceKind {
-    /// A table with a line for each time.
-    Table,
-    /// A value change dump.
-    Vcd,
-}
 
 /// What the words ask for.
 #[derive(Clone, Copy, Debug, PartialEq, Eq)]

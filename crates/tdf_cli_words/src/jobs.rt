@@ -4,9 +4,10 @@ ghost use Rattle.std.specs.Prelude.{◌≡◌, ◌<◌, ◌≤◌, ℕ, List, If
 ghost use Rattle.tdf_cli_words.specs.Jobs.{is_text, number_within, stop_of, trace_kind, turns_given, has_any, run_given, alone, load_given, job_given, settings_given, most_turns, IsWithin};
 ghost use Rattle.tdf_base.specs.Limits.{time_end};
 
-use crate::asked::{Settings, TraceKind};
+use crate::asked::Settings;
 use crate::command::Given;
 use tdf_base::{read_int, read_time};
+use tdf_trace_rows::TraceKind;
 
 /// The turns of a run that says none.
 const USUAL_TURNS: u64 = 100_000_000;

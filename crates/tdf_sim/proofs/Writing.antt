@@ -17,7 +17,7 @@ use Rattle.tdf_sim.specs.declared.sim.Sim.{Sim}
 use Rattle.tdf_trace.specs.Writings.{AboutSeen, writing_of}
 use Rattle.tdf_lang_tree.specs.Kept.{IsKept}
 use Rattle.tdf_lang_tree.specs.Pure.{PureTree}
-use Rattle.tdf_cli_words.specs.declared.asked.TraceKind.{TraceKind}
+use Rattle.tdf_trace_rows.specs.declared.kinds.TraceKind.{TraceKind}
 use Rattle.tdf_sim_history.specs.Rules.{rules_of, start_world}
 
 same_about : (kind : TraceKind) (a b : Flat) → a.tables ≡ b.tables → a.resolution ≡ b.resolution → model_about kind a ≡ model_about kind b

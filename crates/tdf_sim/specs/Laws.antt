@@ -14,7 +14,7 @@ use Rattle.tdf_sim.specs.FirstFault.{IsFirstFault, IsPlansFault, IsTreeFault}
 use Rattle.tdf_sim.specs.PlanText.{plan_rows}
 use Rattle.tdf_lang_tree.specs.Kept.{IsKept}
 use Rattle.tdf_lang_tree.specs.Pure.{PureTree}
-use Rattle.tdf_cli_words.specs.declared.asked.TraceKind.{TraceKind}
+use Rattle.tdf_trace_rows.specs.declared.kinds.TraceKind.{TraceKind}
 
 -- a text has at most one first fault
 abbrev pub FaultsAreOne : Type 0

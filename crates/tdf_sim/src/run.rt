@@ -14,10 +14,10 @@ ghost use Rattle.tdf_lang_tree.specs.Pure.{PureTree};
 use crate::sim::Sim;
 use std::alloc::Global;
 use tdf_bind_invariants::law_limits;
-use tdf_cli_words::TraceKind;
 use tdf_events_invariants::law_runnable;
 use tdf_io::{Sink, SinkErr};
 use tdf_sim_runs::{Ran, run_model};
+use tdf_trace_rows::TraceKind;
 
 /// Why a run did not end.
 #[derive(Drop)]

@@ -38,7 +38,7 @@ use Rattle.tdf_sim_traces.specs.Periods.{clock_at}
 use Rattle.tdf_sim_traces.specs.Shown.{IsShown}
 use Rattle.tdf_sim_traces.specs.declared.shown.Shown.{Shown}
 use Rattle.tdf_lang_tree.specs.Pure.{PureTree}
-use Rattle.tdf_cli_words.specs.declared.asked.TraceKind.{TraceKind}
+use Rattle.tdf_trace_rows.specs.declared.kinds.TraceKind.{TraceKind}
 use Rattle.tdf_sim_history.specs.Rules.{rules_of, start_world, world_engine}
 
 -- no number of a list is above the greatest

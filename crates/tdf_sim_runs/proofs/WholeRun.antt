@@ -40,7 +40,7 @@ use Rattle.tdf_trace_rows.specs.Rows.{Cells, trace_text}
 use Rattle.tdf_sim_refinement.specs.Pass.{AreAt}
 use Rattle.tdf_trace.specs.Writings.{AboutSeen, head_of, rest_text, rows_text, writing_of, written_text}
 use Rattle.tdf_lang_tree.specs.Pure.{PureTree}
-use Rattle.tdf_cli_words.specs.declared.asked.TraceKind.{TraceKind}
+use Rattle.tdf_trace_rows.specs.declared.kinds.TraceKind.{TraceKind}
 use Rattle.tdf_sim_history.specs.Rules.{rules_of, start_world, world_engine}
 use Rattle.tdf_sim_history.proofs.Api.{starts_told, answers_agree, attributes_alike, to_same, untold_told}
 

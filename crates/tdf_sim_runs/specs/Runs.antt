@@ -22,7 +22,7 @@ use Rattle.tdf_sim_refinement.specs.Pass.{AreAt}
 use Rattle.tdf_sim_traces.specs.Variables.{variables_of}
 use Rattle.tdf_trace.specs.Writings.{AboutSeen, about_of, writing_of}
 use Rattle.tdf_lang_tree.specs.Pure.{PureTree}
-use Rattle.tdf_cli_words.specs.declared.asked.TraceKind.{TraceKind}
+use Rattle.tdf_trace_rows.specs.declared.kinds.TraceKind.{TraceKind}
 use Rattle.tdf_sim_history.specs.Rules.{rules_of, start_world}
 
 -- a flat model of a sound model can run from the first plans of its clusters

@@ -41,11 +41,11 @@ use crate::running::Running;
 use crate::starting::begin;
 use std::alloc::Global;
 use tdf_bind::Flat;
-use tdf_cli_words::TraceKind;
 use tdf_dynamic::law_one_answer;
 use tdf_dynamic_first::First;
 use tdf_io::{Sink, SinkErr, put_all};
 use tdf_sim_notes::{law_report, write_closing, write_plans};
+use tdf_trace_rows::TraceKind;
 
 /// A run that ended, and the text of the plans that its boundaries brought.
 #[derive(Drop)]

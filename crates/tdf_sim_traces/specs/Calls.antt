@@ -28,7 +28,7 @@ use Rattle.tdf_streams.specs.Cluster.{initial_samples}
 use Rattle.tdf_trace.specs.Stands.{IsNew}
 use Rattle.tdf_trace.specs.Writings.{about_of}
 use Rattle.tdf_lang_tree.specs.Pure.{PureTree}
-use Rattle.tdf_cli_words.specs.declared.asked.TraceKind.{TraceKind}
+use Rattle.tdf_trace_rows.specs.declared.kinds.TraceKind.{TraceKind}
 use Rattle.tdf_sim_history.specs.Rules.{rules_of, start_world}
 
 -- what a flat model has, so that its traces can be shown: few traces of signals that are there, and

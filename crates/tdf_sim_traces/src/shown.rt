@@ -30,10 +30,10 @@ use crate::variables::variables;
 use std::alloc::Global;
 use tdf_base::{Memory, row_number};
 use tdf_bind::Flat;
-use tdf_cli_words::TraceKind;
 use tdf_convert::Traced;
 use tdf_exec::Cluster;
 use tdf_fixed::Raw;
+use tdf_trace_rows::TraceKind;
 
 impl Shown {
     /// A trace of a run that has not begun, before its head is written. The traces of event signals show the values that these

@@ -9,8 +9,8 @@ use Rattle.tdf_trace.specs.Columns.{HasFewPlaces}
 use Rattle.tdf_trace.specs.Tables.{cell_in_row, table_writing}
 use Rattle.tdf_trace.specs.Vcd.{vcd_head, vcd_line, vcd_tail}
 use Rattle.tdf_trace.specs.declared.about.Variable.{Variable}
-use Rattle.tdf_cli_words.specs.declared.asked.TraceKind.{TraceKind}
-use Rattle.tdf_cli_words.specs.declared.asked.TraceKind.TheVariants.{Table, Vcd}
+use Rattle.tdf_trace_rows.specs.declared.kinds.TraceKind.{TraceKind}
+use Rattle.tdf_trace_rows.specs.declared.kinds.TraceKind.TheVariants.{Table, Vcd}
 
 -- what a trace is of: its kind, the resolution of its times, and its variables by column
 pub record AboutSeen : Type 0 where

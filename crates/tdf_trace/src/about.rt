@@ -2,8 +2,8 @@
 
 use std::marker::Model;
 use tdf_base::{Name, Resolution};
-use tdf_cli_words::TraceKind;
 use tdf_fixed::{Format, Raw};
+use tdf_trace_rows::TraceKind;
 
 /// A variable that is traced: a column of the table, a variable of the dump.
 #[derive(Drop)]

@@ -9,8 +9,8 @@ ghost use Rattle.tdf_trace.specs.Writings.{labels_of, sizes_of, writing_of};
 use crate::about::{About, Variable};
 use crate::{tables, vcd};
 use tdf_base::{Memory, Resolution};
-use tdf_cli_words::TraceKind;
 use tdf_io::{Sink, SinkErr, put_all};
+use tdf_trace_rows::TraceKind;
 
 /// Writes the head of a table.
 fn write_labels<K: Sink>(

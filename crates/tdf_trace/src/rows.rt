@@ -11,8 +11,8 @@ use crate::column::Column;
 use crate::columns::{any_waits, next_time, turn_all};
 use crate::{tables, vcd};
 use tdf_base::Memory;
-use tdf_cli_words::TraceKind;
 use tdf_io::{Sink, SinkErr, put_all};
+use tdf_trace_rows::TraceKind;
 
 /// The columns of a trace, the time below which its rows are written, and the room for a line.
 #[derive(Drop)]

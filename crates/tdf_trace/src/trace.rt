@@ -17,9 +17,8 @@ use crate::stage::Stage;
 use std::alloc::Global;
 use std::marker::Model;
 use tdf_base::{Memory, Resolution};
-use tdf_cli_words::TraceKind;
 use tdf_io::{Sink, SinkErr};
-use tdf_trace_rows::Cell;
+use tdf_trace_rows::{Cell, TraceKind};
 
 /// A trace while it is written: what it is of, the cells that wait for their rows, and how far its rows are written. Contracts see
 /// how it is written (`about`), whether its head is (`stage`), its columns, and the time below which all rows are written (`upto`).

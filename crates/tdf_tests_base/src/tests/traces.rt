@@ -9,11 +9,10 @@ ghost use Rattle.tdf_trace.specs.declared.stage.Stage.TheVariants.{New, Open};
 use std::alloc::Global;
 use std::test::Fail;
 use tdf_base::{Memory, Name, Resolution};
-use tdf_cli_words::TraceKind;
 use tdf_fixed::{Format, Over, Quant, Raw};
 use tdf_io::{SinkErr, SureSink};
 use tdf_trace::{Trace, Variable};
-use tdf_trace_rows::{Cell, Stamps};
+use tdf_trace_rows::{Cell, Stamps, TraceKind};
 
 // A modulator g, its decimator d, a filter f and an event signal lvl, up to 100 us: worked by hand. The last samples of d and f
 // were made after the end, so they are unknown.

@@ -5,12 +5,12 @@ ghost use Rattle.tdf_base.specs.Limits.{time_end};
 
 use std::alloc::Global;
 use std::test::Fail;
-use tdf_cli_words::TraceKind;
 use tdf_events::Kernel;
 use tdf_fixed::Raw;
 use tdf_io::SureSink;
 use tdf_sim::elaborate;
 use tdf_sim_notes::End;
+use tdf_trace_rows::TraceKind;
 
 /// A process that runs every microsecond: its signal is 0 from time 0, 1 from 1 us, 2 from 2 us.
 const TICK: &str =
