@@ -94,7 +94,7 @@ fn plans_of(alloc: Global, flat: &Flat) -> Result<Vec<First>, SimErr>
     ensures refused { IfErr result (IsPlansRefusal flat.now) }
 {
     let mut firsts = Vec::new(alloc);
-    for made in 0..flat.tables.cluster_count() {
+    for made in 0..flat.cluster_count() {
         if let Err(error) = push_next(alloc, flat, made + 1, &mut firsts) {
             drop(firsts);
             return Err(error);
@@ -130,7 +130,7 @@ fn push_clusters(out: &mut Vec<u8>, flat: &Flat, firsts: &Vec<First>) -> Result<
     ensures { OnOk result (out.new.items ≡ out.old.items
         ++ clusters_text flat.now.resolution flat.now.tables (map plan_rows firsts.now.items)) }
 {
-    for made in 0..flat.tables.cluster_count() {
+    for made in 0..flat.cluster_count() {
         push_cluster(out, flat, made + 1, first_at(firsts, made as usize))?;
     }
     Ok(())
@@ -170,7 +170,7 @@ impl Sim {
     pub fn cluster_count(&self) -> u32
         ensures { result ≡ cluster_count self.now.flat.tables }
     {
-        self.flat.tables.cluster_count()
+        self.flat.cluster_count()
     }
 
     /// Appends the plans of all clusters, each with its firings.

@@ -58,6 +58,12 @@ fn flat_unit(alloc: Global) -> Option<Resolution> {
     Some(sim.flat.resolution())
 }
 
+/// How many clusters its flat model has.
+fn clusters(alloc: Global) -> Option<u32> {
+    let sim = elaborate(alloc, TEXT.as_bytes()).ok()?;
+    Some(sim.flat.cluster_count())
+}
+
 #[test]
 fn known_plans_are_not_made_again(rt: HostRuntime) -> Result<(), Fail> {
     assert!(rt; plannings(rt.alloc(), 4_000_000) == Some(1));
@@ -77,5 +83,11 @@ fn rates_in_force_are_told(rt: HostRuntime) -> Result<(), Fail> {
 fn times_have_a_unit(rt: HostRuntime) -> Result<(), Fail> {
     assert!(rt; unit(rt.alloc()) == Some(Resolution::Ps));
     assert!(rt; flat_unit(rt.alloc()) == Some(Resolution::Ps));
+    Ok(())
+}
+
+#[test]
+fn clusters_are_counted(rt: HostRuntime) -> Result<(), Fail> {
+    assert!(rt; clusters(rt.alloc()) == Some(1));
     Ok(())
 }
