@@ -77,10 +77,10 @@ magnitude_only text room n d q some small enough h =
 
 -- ---- times
 
-small_seconds : (time k : ℕ) → time < 2 ^ 64 → time / 10 ^ k < 10 ^ 64
+pub small_seconds : (time k : ℕ) → time < 2 ^ 128 → time / 10 ^ k < 10 ^ 64
 small_seconds time k small = omega (arith, div-le_self time (10 ^ k))
 
-time_by : (k : ℕ) (text : List ℕ) (time : ℕ) → 0 < 10 ^ k → time < 2 ^ 64
+time_by : (k : ℕ) (text : List ℕ) (time : ℕ) → 0 < 10 ^ k → time < 2 ^ 128
     → IsMagnitude text time (10 ^ k) ↔ (text ≡ magnitude_text k time (10 ^ k))
 time_by k text time some small = (
   (λ h. magnitude_only text k time (10 ^ k) (time % 10 ^ k) some (small_seconds time k small) refl h),

@@ -13,6 +13,7 @@ pub mod Readers
 pub mod Scaling
 pub mod Shorts
 pub mod ReadBack
+pub mod TimeTexts
 pub mod ValueLaws
 pub mod WholeParts
 pub mod Wraps

@@ -1,7 +1,8 @@
 -- Digits without leading zeros are the one text of their number.
-use Rattle.std.proofs.Common.{◌≡◌, ◌≢◌, ℕ, suc, ◌+◌, ◌-◌, ◌*◌, ◌/◌, ◌%◌, ◌^◌, ◌<◌, ◌≤◌, true, List, [], ◌∷◌, ◌++◌, length, get_or, ⊎_elim, refl, sym, ◌∙◌, arith, length-append, ◌⊎◌}
+use Rattle.std.proofs.Common.{◌≡◌, ◌≢◌, ℕ, suc, ◌+◌, ◌-◌, ◌*◌, ◌/◌, ◌%◌, ◌^◌, ◌<◌, ◌≤◌, true, List, [], ◌∷◌, ◌++◌, length, get_or, false, nat_eq, ⊎_elim, refl, sym, ◌∙◌, arith, length-append, ◌⊎◌}
 use Rattle.std.proofs.Math.Nat.{pow-le-pow_right, mul-le-mul_right}
-use Rattle.std.proofs.lemmas.Bool.{and_parts, cases_order}
+use Rattle.std.proofs.lemmas.Bool.{and_parts, cases_Bool, cases_lt, cases_order, eqb-true}
+use Rattle.std.proofs.lemmas.Bool.Decides.{nat_tests}
 use Rattle.std.proofs.lemmas.Fmt.{decimal_is_IsNumeral_wide, decimal_by_steps_wide}
 use Rattle.std.specs.Fmt.{decimal}
 use Rattle.std.specs.List.{list_all}
@@ -10,7 +11,7 @@ use Rattle.tdf_base.specs.Digits.{is_digit, number}
 use Rattle.tdf_base.proofs.Api.{own, digit_small, number_below, same_digits}
 
 -- a first digit above 0 gives its place
-number_above : (ds : List ℕ) → 0 < length ds → list_all is_digit ds ≡ true → get_or ds 0 0 ≢ 48 → 10 ^ (length ds - 1) ≤ number ds
+pub number_above : (ds : List ℕ) → 0 < length ds → list_all is_digit ds ≡ true → get_or ds 0 0 ≢ 48 → 10 ^ (length ds - 1) ≤ number ds
 number_above [] some all first = absurd (omega arith)
 number_above (c ∷ cs) some all first =
     let both = and_parts (is_digit c) (list_all is_digit cs) all in
@@ -19,6 +20,23 @@ number_above (c ∷ cs) some all first =
     let last : suc (length cs) - 1 ≡ length cs = omega arith in
     let times : 1 * 10 ^ length cs ≤ (c - 48) * 10 ^ length cs = mul-le-mul_right (10 ^ length cs) more in
     rw last (omega arith)
+
+-- digits of a number below a power of ten
+pub few_whole : (ds : List ℕ) (k : ℕ) → 0 < k → IsWholePart ds → number ds < 10 ^ k → length ds ≤ k
+few_whole ds k some h small = ⊎_elim
+    (λ (zero_first : nat_eq (get_or ds 0 0) 48 ≡ true).
+    let one : length ds ≡ 1 = h.plain (eqb-true (get_or ds 0 0) 48 zero_first) in omega arith)
+    (λ (other : nat_eq (get_or ds 0 0) 48 ≡ false).
+    let first : get_or ds 0 0 ≢ 48 = grind (arith, nat_tests) in
+    let low = number_above ds h.some h.all first in
+    ⊎_elim
+    (λ (many : k < length ds).
+    let within : k ≤ length ds - 1 = omega arith in
+    let power : 10 ^ k ≤ 10 ^ (length ds - 1) = pow-le-pow_right (omega arith) within in
+    absurd (omega arith))
+    (λ (few : length ds ≤ k). few)
+    (cases_lt k (length ds)))
+    (cases_Bool (nat_eq (get_or ds 0 0) 48))
 
 not_longer : (ds es : List ℕ) → IsWholePart ds → IsWholePart es → number ds ≡ number es → length ds < length es → ⊥
 not_longer ds es d e n less =

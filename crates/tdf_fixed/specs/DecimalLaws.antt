@@ -44,6 +44,6 @@ IsValueText = (text : List ℕ) (num : ℤ) (frac : ℕ) → unsigned_abs num < 
 -- the text of a time is the one decimal of that many counts in seconds; that of picoseconds is the
 -- case of that resolution
 abbrev pub IsTimeText : Type 0
-IsTimeText = (resolution : Resolution) (text : List ℕ) (time : ℕ) → time < 2 ^ 64
+IsTimeText = (resolution : Resolution) (text : List ℕ) (time : ℕ) → time < 2 ^ 128
     → (IsMagnitude text time (10 ^ places_of resolution) ↔ (text ≡ seconds_text_at resolution time))
     × (seconds_text time ≡ seconds_text_at Ps time)

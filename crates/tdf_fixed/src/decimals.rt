@@ -2,6 +2,7 @@
 
 ghost use Rattle.std.specs.Prelude.{◌≡◌, ◌+◌, ◌*◌, ◌/◌, ◌%◌, ◌<◌, ◌≤◌, ◌^◌, ◌∷◌, ◌++◌, take, drop, length, slice_index, true, ◌≢◌, ◌-◌, OnOk, OnErr, unsigned_abs, decimal};
 ghost use Rattle.std.specs.List.{list_all};
+ghost use Rattle.tdf_base.specs.declared.resolution.Resolution.TheVariants.{Fs};
 ghost use Rattle.tdf_fixed.specs.Zeros.{is_zero};
 ghost use Rattle.tdf_fixed.specs.Decimal.{fraction_digits, fraction_text, magnitude_text, value_text, places_of, seconds_text, seconds_text_at};
 
@@ -143,6 +144,39 @@ pub fn push_seconds(out: &mut Vec<u8>, time: u64) -> Result<(), Memory>
     ensures err { OnErr result (out.new.items ≡ out.old.items) }
 {
     push_seconds_at(out, time, Resolution::Ps)
+}
+
+#[tactic(auto, using(crate::proofs::Fractions::text_lemmas))]
+fn push_wide_time(out: &mut Vec<u8>, time: u128) -> Result<(), Memory>
+    ensures ok { OnOk result (out.new.items ≡ out.old.items ++ seconds_text_at Fs time) }
+    ensures kept { take (length out.old.items) out.new.items ≡ out.old.items }
+{
+    let second = counts_of_second(Resolution::Fs);
+    push_wide(out, time / u128::from(second))?;
+    push_time_fraction(
+        out,
+        (time % u128::from(second)) as u64,
+        second,
+        places(Resolution::Fs),
+    )
+}
+
+/// Appends a time of so many femtoseconds, in seconds, as an exact decimal. A time of a table may be longer than one of a model.
+///
+/// # Errors
+/// Out of memory; `out` is then unchanged.
+pub fn push_femtoseconds(out: &mut Vec<u8>, time: u128) -> Result<(), Memory>
+    ensures ok { OnOk result (out.new.items ≡ out.old.items ++ seconds_text_at Fs time) }
+    ensures err { OnErr result (out.new.items ≡ out.old.items) }
+{
+    let start = out.len();
+    match push_wide_time(out, time) {
+        Ok(()) => Ok(()),
+        Err(error) => {
+            out.truncate(start);
+            Err(error)
+        }
+    }
 }
 
 /// `10 * left / 2^frac`, the next digit of a binary fraction.

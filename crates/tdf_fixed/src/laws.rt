@@ -28,7 +28,7 @@ pub fn law_casts()
     ensures idempotent { IsIdempotent }
 {}
 
-/// The text of a value or of a time has the form and the value of a decimal, and is the only text that has; the text of a value
+/// The text of a value or of a time below 2^128 counts has the form and the value of a decimal, and is the only text that has; the text of a value
 /// reads back as that value.
 pub fn law_texts()
     ensures values { IsValueText }

@@ -25,7 +25,7 @@ mod rounding;
 mod short;
 
 pub use casts::{cast, cast_trn_wrap};
-pub use decimals::{push_decimal, push_seconds, push_seconds_at};
+pub use decimals::{push_decimal, push_femtoseconds, push_seconds, push_seconds_at};
 pub use digits::push_bits;
 pub use format::Format;
 pub use laws::{law_casts, law_overflow, law_readers, law_rounding, law_texts};
