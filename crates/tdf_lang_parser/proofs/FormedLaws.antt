@@ -3,6 +3,7 @@ use Rattle.std.proofs.Common.{◌≡◌, ℕ, List, [], ◌∷◌, ◌++◌, Opt
 use Rattle.std.proofs.lemmas.Option.{none-some, same_Some}
 use Rattle.std.specs.List.{AllByRecursion}
 use Rattle.std.specs.Prelude.{Result, Ok, Err, IfOk}
+use Rattle.tdf_lang_parser.proofs.LabelLaws.{OwnRows, own_after, rows_own, traces_own}
 use Rattle.tdf_lang_parser.specs.Formed.{AllAssignNone, AssignsNone, HasEventPorts, HasPlainBodies, IsEventLine, IsFormed, IsNoPort, IsPlainGlobal}
 use Rattle.tdf_lang_parser.specs.Items.{Plain, de_line_of, member_of, plain_of}
 use Rattle.tdf_lang_parser.specs.SpellsTree.{Lines, lines_none, lines_more, SpellsOne, simple, choice, both, turns, SpellsAll, stmts_none, stmts_more, body_with, SpellsPart, part_none, part_some, SpellsInitialize, initialize_none, initialize_some, SpellsTdf, tdf, SpellsGlobal, global_type, global_tdf, global_de, global_net, SpellsGlobals, globals_none, globals_more, SpellsModel, model, SpellsTree, whole_text}
@@ -106,12 +107,16 @@ globals_events : {lang : Dialect} {rows : List TokenLine} {gs : List PureGlobal}
 globals_events globals_none = tt
 globals_events (globals_more {gs = gs} {g = g} all one) = one_more HasEventPorts gs g (globals_events all) (global_events one)
 
-model_formed : {lang : Dialect} {rows : List TokenLine} {t : PureTree} → SpellsModel lang rows t → IsFormed t
-model_formed (model t l globals top members end traces) =
-    record { closed = members_closed members; plain = globals_plain globals; events = globals_events globals }
+model_formed : {lang : Dialect} {rows : List TokenLine} {t : PureTree} → SpellsModel lang rows t → OwnRows rows → IsFormed t
+model_formed (model {a = a} {b = b} {c = c} t l globals top members end traces) own = record {
+  closed = members_closed members;
+  plain = globals_plain globals;
+  events = globals_events globals;
+  labels = traces_own traces (own_after b (l ∷ c) (own_after a (t ∷ (b ++ l ∷ c)) own).1).1;
+}
 
 tree_formed : {rows : List Row} {t : PureTree} → SpellsTree rows t → IsFormed t
-tree_formed (whole_text b head spelled) = model_formed spelled
+tree_formed (whole_text {lang = lang} b head spelled) = model_formed spelled (rows_own lang b)
 
 pub read_formed : (result : Result Tree LangErr) (rows : List Row) (after : ℕ) → IsRead result rows after → IfOk result (λ t. IsFormed (pure_tree t))
 read_formed (Ok t) rows after read = tree_formed read

@@ -4,6 +4,7 @@ pub mod FaultLaws
 pub mod FormedLaws
 pub mod HeadLaws
 pub mod KeptLaws
+pub mod LabelLaws
 pub mod LangLaws
 pub mod LineOrder
 pub mod OtherForms

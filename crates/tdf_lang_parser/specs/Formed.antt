@@ -1,8 +1,10 @@
 -- What the grammar gives beside what a tree keeps (own): `top` is the outside of a model, so none
--- of its lines declares a port; only change bodies assign attributes; and a block of processes
--- declares event ports alone.
+-- of its lines declares a port; only change bodies assign attributes; a block of processes
+-- declares event ports alone; and the label of a trace is no reserved word.
+use Rattle.std.specs.Prelude.{◌≡◌, None}
 use Rattle.std.specs.List.{AllByRecursion}
-use Rattle.tdf_lang_tree.specs.Pure.{PureStmt, SAssign, SIf, SFor, SNotify, SSetRate, SSetStep, SAccept, SReject, PureStmts, Done, More, PureTdf, PureGlobal, GShape, GTdf, GDe, GNet, PureDeLine, DPort, PureTree}
+use Rattle.tdf_lang_lexer.specs.Words.{key_of}
+use Rattle.tdf_lang_tree.specs.Pure.{PureStmt, SAssign, SIf, SFor, SNotify, SSetRate, SSetStep, SAccept, SReject, PureStmts, Done, More, PureTdf, PureGlobal, GShape, GTdf, GDe, GNet, PureDeLine, DPort, PureTrace, PureTree}
 use Rattle.tdf_lang_tree.specs.declared.blocks.Member.{Member}
 use Rattle.tdf_lang_tree.specs.declared.blocks.Member.TheVariants as member
 use Rattle.tdf_lang_tree.specs.declared.blocks.PortKind.{PortKind}
@@ -53,7 +55,11 @@ abbrev pub HasEventPorts : PureGlobal → Type 0
 HasEventPorts (GDe block) = AllByRecursion IsEventLine block.decls
 HasEventPorts _ = Unit {0}
 
+abbrev pub HasOwnLabel : PureTrace → Type 0
+HasOwnLabel trace = key_of trace.label ≡ None
+
 pub record IsFormed (tree : PureTree) : Type 0 where
   pub closed : AllByRecursion IsNoPort tree.top.members
   pub plain : AllByRecursion IsPlainGlobal tree.globals
   pub events : AllByRecursion HasEventPorts tree.globals
+  pub labels : AllByRecursion HasOwnLabel tree.traces
