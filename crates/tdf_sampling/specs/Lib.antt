@@ -1,0 +1,5 @@
+pub mod Order
+pub mod Choice
+pub mod Statistics
+pub mod Laws
+pub mod machine

@@ -1,0 +1,4 @@
+pub mod Bytes
+pub mod Choosing
+pub mod Measures
+pub mod Windows

@@ -1,0 +1,15 @@
+pub mod Api
+pub mod CellWords
+pub mod CellLaws
+pub mod Decimals
+pub mod HeadLaws
+pub mod LabelLaws
+pub mod LineLaws
+pub mod Marks
+pub mod Only
+pub mod ReadLaws
+pub mod RowLaws
+pub mod Texts
+pub mod TimeLaws
+pub mod Wholes
+pub mod Words
