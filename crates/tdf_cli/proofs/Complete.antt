@@ -1,18 +1,20 @@
 -- Each reading has at most one outcome, and that is met where nothing hinders.
 use Rattle.std.proofs.Common.{map, ◌≡◌, ◌⊎◌, ℕ, ◌≤◌, true, false, List, ◌++◌, Option, Some, None, refl, sym, ap, ◌∙◌, subst, inl, inr, length, length-append, append-nil, arith}
 use Rattle.std.specs.Io.KnownBytes.{Consumes, IsAtEnd}
-use Rattle.tdf_base.specs.Limits.{longest_text}
 use Rattle.tdf_lang_parser.proofs.Api.{text_keeps}
 use Rattle.tdf_lang_parser.specs.Refused.{SpellsText}
-use Rattle.tdf_cli.proofs.Seen.{OfAccepted, OfEnd, OfLoad, OfText, Seen, line_of, same_tree, seen}
-use Rattle.tdf_cli.specs.Input.{Reading, BadWords, Text, TooLong, ReadFault, NoMemory, AskToRead, ComesFrom, InputIs, reads_text}
-use Rattle.tdf_cli.specs.Outcome.{Outcome, refused, run_outcome, accepted_text, status_of, stop_in, HasOutcome, usage, read_fault, too_long, faulty, too_late, has_run, is_checked, is_planned, is_loaded, load_end, WritesOutcome, HasOneOutcome}
+use Rattle.tdf_cli.proofs.Seen.{OfAccepted, OfEnd, OfJob, OfLoad, OfTable, OfText, Seen, line_of, of_choice, same_tree, seen}
+use Rattle.tdf_cli.specs.Input.{Reading, BadWords, Text, TooLong, ReadFault, NoMemory, AskToRead, ComesFrom, InputIs, most_bytes, reads_text}
+use Rattle.tdf_cli.specs.Tables.{table_refusal}
+use Rattle.tdf_tables.specs.Laws.{LineIsOne, TableIsOne, TableOrFault}
+use Rattle.tdf_tables.specs.Tables.{TableOf}
+use Rattle.tdf_cli.specs.Outcome.{Outcome, note, measured, no_table, too_fine, is_sampled, is_measured, refused, run_outcome, accepted_text, status_of, stop_in, HasOutcome, usage, read_fault, too_long, faulty, too_late, has_run, is_checked, is_planned, is_loaded, load_end, WritesOutcome, HasOneOutcome}
 use Rattle.tdf_cli.specs.Status.{status_number}
 use Rattle.tdf_cli_words.specs.Words.{taken_of}
 use Rattle.tdf_cli.specs.declared.status.Status.{Status}
 use Rattle.tdf_cli.specs.declared.status.Status.TheVariants as status
 use Rattle.tdf_cli_words.specs.declared.asked.Settings.{Settings}
-use Rattle.tdf_cli_words.specs.declared.asked.Settings.TheVariants.{Run, Check, Plan, Load}
+use Rattle.tdf_cli_words.specs.declared.asked.Settings.TheVariants.{Run, Check, Plan, Load, Sample, Stats}
 use Rattle.tdf_bind_tables.specs.FlatTables.{FlatTablesOf}
 use Rattle.tdf_io.specs.Faults.{FaultsRose}
 use Rattle.tdf_dynamic_texts.specs.Plans.{PlanRows, accepted_line}
@@ -87,6 +89,8 @@ same_accepted runs told Check tree a b one other kept one_is other_is alike s t 
 same_accepted runs told Plan tree a b one other kept one_is other_is alike s t =
     s ∙ ap (λ notes. written (plans_text a) notes) (same_note a b alike) ∙ ap (λ out. written out (accepted_text b)) (same_plans a b alike) ∙ sym t
 same_accepted runs told (Load seed size) tree a b one other kept one_is other_is alike s t = same_load runs told size tree a b kept one_is other_is one other alike.unit s t
+same_accepted runs told (Sample choice) tree a b one other kept one_is other_is alike s t = absurd s
+same_accepted runs told (Stats window) tree a b one other kept one_is other_is alike s t = absurd s
 
 -- only a failed read is answered as one
 ended_otherwise : (how : End) → ¬ (status_number (status_of how) ≡ status_number status.ReadFault)
@@ -98,7 +102,7 @@ read_failed : {r : Reading} {o : Outcome} → HasOutcome r o → status_number o
 read_failed usage is = absurd cc
 read_failed read_fault is = refl
 read_failed too_long is = absurd cc
-read_failed (faulty first) is = absurd cc
+read_failed (faulty model first) is = absurd cc
 read_failed (too_late spells sound late) is = absurd cc
 read_failed (has_run {turns = turns} {end = end} {tree = tree} {sim = sim} spells sound early ahead answers) is =
     absurd (ended_otherwise (run_end tree sim.flat sim.firsts.items ahead end turns) is)
@@ -106,6 +110,10 @@ read_failed (is_checked spells sound) is = absurd cc
 read_failed (is_planned spells sound) is = absurd cc
 read_failed (is_loaded {tree = tree} {sim = sim} spells sound ahead answers) is =
     absurd (ended_otherwise (run_end tree sim.flat sim.firsts.items ahead (load_end sim.flat.resolution) usual_turns) is)
+read_failed (no_table table first) is = absurd cc
+read_failed (too_fine spells fine) is = absurd cc
+read_failed (is_sampled spells fine) is = absurd cc
+read_failed (is_measured spells) is = absurd cc
 
 pub read_fault_rose : (words : List (List ℕ)) (r : Reading) (s : Status) (old new a b c d : Option (List ℕ)) (before now : ℕ) → InputIs words r old new before now
     → WritesOutcome r s a b c d → status_number s ≡ status_number status.ReadFault → FaultsRose before now
@@ -120,7 +128,8 @@ some_none one o s t = absurd cc
 some_job : (one other : Settings) (o : Option Settings) → o ≡ Some one → o ≡ Some other → one ≡ other
 some_job one other o s t = cc
 
-module _ (once : FaultsAreOne) (apart : FaultOrAccepted) (models : ModelsAreAlike) (runs : RunsAreAlike) (told : AnswersRunAlike) where
+module _ (once : FaultsAreOne) (apart : FaultOrAccepted) (models : ModelsAreAlike) (runs : RunsAreAlike) (told : AnswersRunAlike)
+    (table_once : TableIsOne) (line_once : LineIsOne) (tables_apart : TableOrFault) where
   -- a text with a fault is not accepted
   not_both : (text : List ℕ) (fault : Fault) (tree : PureTree) (sim : Sim) → IsFirstFault text fault → SpellsText text tree → IsAccepted tree sim → ⊥
   not_both text fault tree sim is spells accepted = apart text fault sim is (record { tree = tree; spelled = spells; accepted = accepted })
@@ -136,9 +145,23 @@ module _ (once : FaultsAreOne) (apart : FaultOrAccepted) (models : ModelsAreAlik
       (models s.0 s.1 t.1 (text_keeps s.2) s.3 other_sound)
       s.4 (subst (λ (x : PureTree). OfAccepted job x t.1 other) same t.4)
 
+  same_table : (text : List ℕ) (of : TableOf → Outcome) (one other : Outcome) → OfTable text of one → OfTable text of other → one ≡ other
+  same_table text of one other (inl s) (inl t) = s.2 ∙ ap (λ line. note status.Refused (table_refusal line)) (line_once text s.0 t.0 s.1 t.1) ∙ sym t.2
+  same_table text of one other (inl s) (inr t) = absurd (tables_apart text t.0 s.0 t.1 s.1)
+  same_table text of one other (inr s) (inl t) = absurd (tables_apart text s.0 t.0 s.1 t.1)
+  same_table text of one other (inr s) (inr t) = s.2 ∙ ap of (table_once text s.0 t.0 s.1 t.1) ∙ sym t.2
+
+  same_job : (job : Settings) (text : List ℕ) (one other : Outcome) → OfJob job text one → OfJob job text other → one ≡ other
+  same_job (Run stop kind turns) text one other s t = same_text (Run stop kind turns) text one other s t
+  same_job Check text one other s t = same_text Check text one other s t
+  same_job Plan text one other s t = same_text Plan text one other s t
+  same_job (Load seed size) text one other s t = same_text (Load seed size) text one other s t
+  same_job (Sample choice) text one other s t = same_table text (of_choice choice) one other s t
+  same_job (Stats window) text one other s t = same_table text (measured window) one other s t
+
   same : (r : Reading) (one other : Outcome) → Seen r one → Seen r other → one ≡ other
   same BadWords one other s t = s ∙ sym t
-  same (Text job text) one other s t = same_text job text one other s t
+  same (Text job text) one other s t = same_job job text one other s t
   same TooLong one other s t = s ∙ sym t
   same ReadFault one other s t = s ∙ sym t
   same NoMemory one other s t = absurd s
@@ -169,10 +192,12 @@ has_read (Run stop kind turns) text old new reads comes = comes
 has_read Check text old new reads comes = comes
 has_read Plan text old new reads comes = comes
 has_read (Load seed size) text old new reads comes = absurd cc
+has_read (Sample choice) text old new reads comes = comes
+has_read (Stats window) text old new reads comes = comes
 
 -- what came of the words and of reading, where they ask for a job that reads and no read failed: what the words ask, and the text
 pub input_text : (words : List (List ℕ)) (r : Reading) (job : Settings) (text : List ℕ) (old new : Option (List ℕ)) (before now : ℕ)
-    → InputIs words r old new before now → taken_of words ≡ Some job → reads_text job ≡ true → old ≡ Some text → length text ≤ longest_text → ¬ FaultsRose before now
+    → InputIs words r old new before now → taken_of words ≡ Some job → reads_text job ≡ true → old ≡ Some text → length text ≤ most_bytes job → ¬ FaultsRose before now
     → (r ≡ Text job text) ⊎ (r ≡ NoMemory)
 input_text words BadWords job text old new before now is asks reads told short well = absurd (some_none job (taken_of words) asks is.0)
 input_text words (Text own given) job text old new before now is asks reads told short well =
@@ -180,7 +205,9 @@ input_text words (Text own given) job text old new before now is asks reads told
     let read = has_read job given old new reads (subst (λ (x : Settings). ComesFrom x given old new) same is.2) in
     inl (ap (λ x. Text x given) same ∙ ap (Text job) (all_read text given old new told read.0 read.1))
 input_text words TooLong job text old new before now is asks reads told short well =
-    absurd (omega (arith, few_read text is.1.bytes old new told is.1.gave, is.1.many))
+    let same : is.0.job ≡ job = some_job is.0.job job (taken_of words) is.0.asked asks in
+    let few : length text ≤ most_bytes is.0.job = subst (λ (x : Settings). length text ≤ most_bytes x) (sym same) short in
+    absurd (omega (arith, few_read text is.1.bytes old new told is.1.gave, is.1.many, few))
 input_text words ReadFault job text old new before now is asks reads told short well = absurd (well is.2)
 input_text words NoMemory job text old new before now is asks reads told short well = inr refl
 
@@ -216,7 +243,7 @@ module _ (law : HasOneOutcome) where
       absurd (seen (subst (λ (x : Reading). HasOutcome x wrote.outcome) is wrote.has))
 
   pub met : (words : List (List ℕ)) (r : Reading) (s : Status) (job : Settings) (text : List ℕ) (o : Outcome) (old new a b c d : Option (List ℕ)) (before now : ℕ)
-      → InputIs words r old new before now → WritesOutcome r s a b c d → taken_of words ≡ Some job → reads_text job ≡ true → old ≡ Some text → length text ≤ longest_text
+      → InputIs words r old new before now → WritesOutcome r s a b c d → taken_of words ≡ Some job → reads_text job ≡ true → old ≡ Some text → length text ≤ most_bytes job
       → HasOutcome (Text job text) o → ¬ FaultsRose before now → status_number s ≡ status_number o.status
   met words r s job text o old new a b c d before now is wrote asks reads told short has well =
       met_other words r s job text o a b c d wrote has (input_text words r job text old new before now is asks reads told short well)

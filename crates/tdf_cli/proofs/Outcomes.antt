@@ -1,18 +1,18 @@
 -- How what the steps wrote makes an outcome.
-use Rattle.std.proofs.Common.{◌≡◌, ℕ, List, [], Option, Some, Result, Ok, Err, IfOk, OnOk, OnErr, inl, inr, sym, ap, ◌∙◌, subst, append_assoc, append-nil}
+use Rattle.std.proofs.Common.{◌≡◌, ℕ, Bool, true, false, refl, List, [], Option, Some, Result, Ok, Err, IfOk, OnOk, OnErr, inl, inr, sym, ap, ◌∙◌, subst, append_assoc, append-nil}
 use Rattle.std.specs.Io.KnownBytes.{Appends}
 use Rattle.std.specs.Prelude.{string_bytes}
 use Rattle.std.proofs.KnownBytes.{Appends-nil}
 use Rattle.tdf_lang_parser.specs.Refused.{SpellsText}
 use Rattle.tdf_cli.specs.Input.{Reading, BadWords, Text, TooLong, ReadFault, NoMemory}
 use Rattle.tdf_cli.proofs.Seen.{OfAccepted, OfEnd, OfText, same_tree, seen}
-use Rattle.tdf_cli.specs.Outcome.{Outcome, note, run_outcome, status_of, stop_in, HasOneOutcome, HasOutcome, usage, read_fault, too_long, faulty, too_late, has_run, is_checked, is_planned, is_loaded, load_end, load_line, loaded, turns_taken, WritesOutcome, WritesFrontOf, WritesNothingOrFront}
+use Rattle.tdf_cli.specs.Outcome.{Outcome, note, run_outcome, status_of, stop_in, HasOneOutcome, HasOutcome, usage, read_fault, too_long, faulty, too_late, has_run, is_checked, is_planned, is_loaded, no_table, too_fine, is_sampled, is_measured, load_end, load_line, loaded, turns_taken, WritesOutcome, WritesFrontOf, WritesNothingOrFront}
 use Rattle.tdf_sim.specs.Accepted.{IsAccepted}
 use Rattle.tdf_sim.specs.declared.sim.Sim.{Sim}
 use Rattle.tdf_cli.specs.declared.status.Status.{Status}
 use Rattle.tdf_cli.specs.declared.status.Status.TheVariants.{Done}
 use Rattle.tdf_cli.specs.declared.jobs.Texts.{Texts}
-use Rattle.tdf_cli_words.specs.declared.asked.Settings.TheVariants.{Run, Check, Plan, Load}
+use Rattle.tdf_cli_words.specs.declared.asked.Settings.TheVariants.{Run, Check, Plan, Load, Sample}
 use Rattle.tdf_cli.specs.declared.measure.Measurement.{Measurement}
 use Rattle.tdf_cli.specs.machine.Texts.{IsCheckText, IsMeasured, IsPlanText}
 use Rattle.tdf_lang_printer.specs.Canon.{canon}
@@ -25,6 +25,9 @@ use Rattle.tdf_io.specs.declared.writing.SinkErr.{SinkErr}
 use Rattle.tdf_sim.specs.Ends.{Change, End, HaveAnswers, run_end, run_note, trace_of}
 use Rattle.tdf_base.specs.declared.resolution.Resolution.{Resolution}
 use Rattle.tdf_lang_tree.specs.Pure.{PureTree}
+use Rattle.tdf_sampling.specs.Choice.{chosen_table, is_too_fine}
+use Rattle.tdf_sampling.specs.declared.asked.Choice.{Choice}
+use Rattle.tdf_tables.specs.Tables.{SpellsTable, TableOf, table_text}
 use Rattle.tdf_base.specs.declared.memory.Memory.{Memory}
 use Rattle.tdf_cli_words.specs.Jobs.{usual_turns}
 use Rattle.tdf_trace_rows.specs.declared.kinds.TraceKind.{TraceKind}
@@ -39,12 +42,16 @@ has_some : {r : Reading} {o : Outcome} → HasOutcome r o → HasSome r
 has_some usage = tt
 has_some read_fault = tt
 has_some too_long = tt
-has_some (faulty is) = tt
+has_some (faulty model is) = tt
 has_some (too_late spells sound is) = tt
 has_some (has_run spells sound is ahead answers) = tt
 has_some (is_checked spells sound) = tt
 has_some (is_planned spells sound) = tt
 has_some (is_loaded spells sound ahead answers) = tt
+has_some (no_table table is) = tt
+has_some (too_fine spells is) = tt
+has_some (is_sampled spells is) = tt
+has_some (is_measured spells) = tt
 
 front_of : (r : Reading) (a b c d : Option (List ℕ)) → HasSome r → WritesFrontOf r a b c d → WritesNothingOrFront r a b c d
 front_of BadWords a b c d some w = inr w
@@ -79,6 +86,25 @@ pub noted_part : {S : Type 0} {taken : S → Option (List ℕ)} {faults : S → 
 noted_part law (Ok s) r status a has wrote = tt
 noted_part {taken = taken} {old = old} {new = new} {text = text} law (Err error) r status a has wrote =
     front_each law r (note status text) a a (taken old) (taken new) has (front_none a []) wrote.part
+
+-- an output that was written makes its outcome, and where it wasn't all written, a front part of it
+pub written_all : {S : Type 0} {taken : S → Option (List ℕ)} {faults : S → ℕ} {old new : S} {text : List ℕ} (result : Result Status SinkErr) (r : Reading) (c : Option (List ℕ))
+    → HasOutcome r (record { status = Done; out = text; notes = [] }) → IfOk result (λ s. s ≡ Done) → WritesText taken faults old new text result
+    → IfOk result (λ s. WritesOutcome r s (taken old) (taken new) c c)
+written_all {text = text} (Ok s) r c has is wrote = record {
+  outcome = record { status = Done; out = text; notes = [] };
+  has = has;
+  answers = sym is;
+  out = wrote.all;
+  notes = Appends-nil c;
+}
+written_all (Err error) r c has is wrote = tt
+
+pub written_part : {S : Type 0} {taken : S → Option (List ℕ)} {faults : S → ℕ} {old new : S} {text : List ℕ} → HasOneOutcome → (result : Result Status SinkErr) (r : Reading) (c : Option (List ℕ))
+    → HasOutcome r (record { status = Done; out = text; notes = [] }) → WritesText taken faults old new text result → OnErr result (WritesNothingOrFront r (taken old) (taken new) c c)
+written_part law (Ok s) r c has wrote = tt
+written_part {taken = taken} {old = old} {new = new} {text = text} law (Err error) r c has wrote =
+    front_each law r (record { status = Done; out = text; notes = [] }) (taken old) (taken new) c c has wrote.part (front_none c [])
 
 -- a run
 module _ (kind : TraceKind) (text : List ℕ) (tree : PureTree) (sim : Sim) (stop turns end : ℕ) (a b c d : Option (List ℕ)) (spells : SpellsText text tree) (sound : IsAccepted tree sim)
@@ -121,6 +147,17 @@ module _ (kind : TraceKind) (text : List ℕ) (tree : PureTree) (sim : Sim) (sto
 
     pub ran_part : WritesNothingOrFront (Text (Run stop kind turns) text) a b c d
     ran_part = inr (record { out = λ o has. (front_by o (seen has)).0; notes = λ o has. (front_by o (seen has)).1 })
+
+-- what holds for each text of a table
+pub each_table_ok : {T E : Type 0} (result : Result T E) (table : TableOf) (P : List ℕ → T → Type 0) → ((text : List ℕ) → SpellsTable text table → IfOk result (P text))
+    → IfOk result (λ s. (text : List ℕ) → SpellsTable text table → P text s)
+each_table_ok (Ok x) table P all = all
+each_table_ok (Err error) table P all = tt
+
+pub each_table_err : {T E : Type 0} (result : Result T E) (table : TableOf) (P : List ℕ → Type 0) → ((text : List ℕ) → SpellsTable text table → OnErr result (P text))
+    → OnErr result ((text : List ℕ) → SpellsTable text table → P text)
+each_table_err (Ok x) table P all = tt
+each_table_err (Err error) table P all = all
 
 -- what holds for each text that spells a tree
 pub each_ok : {T E : Type 0} (result : Result T E) (tree : PureTree) (P : List ℕ → T → Type 0) → ((text : List ℕ) → SpellsText text tree → IfOk result (P text))
@@ -208,3 +245,18 @@ module _ (text : List ℕ) (tree : PureTree) (sim : Sim) (seed size : ℕ) (m : 
   pub loaded_part : HasOneOutcome → AppendsFront a b (string_bytes m.line) → WritesNothingOrFront (Text (Load seed size) text) a b c c
   loaded_part law wrote = front_each law (Text (Load seed size) text) (loaded size tree sim is.ahead) a b c c (is_loaded spells sound is.ahead is.answers)
       (subst (λ (t : List ℕ). AppendsFront a b t) is.line wrote) (front_none c [])
+
+never : {T E : Type 0} (x : T) (e : E) → ◌≡◌ {A = Result T E} (Ok x) (Err e) → ⊥
+never x e is = absurd cc
+
+-- a choice of rows that are not too many
+not_true : (b : Bool) → (b ≡ true → ⊥) → b ≡ false
+not_true true not = absurd (not refl)
+not_true false not = refl
+
+pub sampled_has : {T E : Type 0} {x : T} {e : E} (choice : Choice) (text : List ℕ) (table rows : TableOf) → SpellsTable text table → rows ≡ chosen_table choice table
+    → (is_too_fine choice table.rows ≡ true → ◌≡◌ {A = Result T E} (Ok x) (Err e))
+    → HasOutcome (Text (Sample choice) text) (record { status = Done; out = table_text rows; notes = [] })
+sampled_has {x = x} {e = e} choice text table rows spells is fine =
+    subst (λ (t : TableOf). HasOutcome (Text (Sample choice) text) (record { status = Done; out = table_text t; notes = [] })) (sym is)
+    (is_sampled spells (not_true (is_too_fine choice table.rows) (λ b. never x e (fine b))))

@@ -1,13 +1,18 @@
 -- What an outcome of a reading is, by the reading.
-use Rattle.std.proofs.Common.{◌≡◌, ◌⊎◌, ℕ, List, [], Option, Some, None, refl, sym, subst, inl, inr, codes}
+use Rattle.std.proofs.Common.{◌≡◌, ◌⊎◌, ℕ, Bool, true, false, List, [], Option, Some, None, ap, refl, sym, subst, inl, inr, codes}
 use Rattle.tdf_lang_parser.proofs.Api.{one_tree}
 use Rattle.tdf_base.specs.declared.faults.Fault.{Fault}
 use Rattle.tdf_lang_parser.specs.Refused.{SpellsText}
-use Rattle.tdf_cli.specs.Input.{Reading, BadWords, Text, TooLong, ReadFault, NoMemory}
-use Rattle.tdf_cli.specs.Outcome.{Outcome, note, refused, run_outcome, checked, planned, stop_in, HasOutcome, usage, read_fault, too_long, faulty, too_late, has_run, is_checked, is_planned, is_loaded, load_end, load_line, status_of, turns_taken}
+use Rattle.tdf_cli.specs.Input.{Reading, BadWords, Text, TooLong, ReadFault, NoMemory, is_model_job, is_table_job}
+use Rattle.tdf_cli.specs.Tables.{grid_refusal, table_refusal}
+use Rattle.tdf_sampling.specs.Choice.{is_too_fine}
+use Rattle.tdf_sampling.specs.declared.asked.Choice.{Choice}
+use Rattle.tdf_tables.specs.Faults.{HasTableFault}
+use Rattle.tdf_tables.specs.Tables.{SpellsTable, TableOf}
+use Rattle.tdf_cli.specs.Outcome.{Outcome, note, refused, run_outcome, checked, planned, stop_in, HasOutcome, usage, read_fault, too_long, faulty, too_late, has_run, is_checked, is_planned, is_loaded, no_table, too_fine, is_sampled, is_measured, sampled, measured, load_end, load_line, status_of, turns_taken}
 use Rattle.tdf_cli.specs.declared.status.Status.TheVariants as status
 use Rattle.tdf_cli_words.specs.declared.asked.Settings.{Settings}
-use Rattle.tdf_cli_words.specs.declared.asked.Settings.TheVariants.{Run, Check, Plan, Load}
+use Rattle.tdf_cli_words.specs.declared.asked.Settings.TheVariants.{Run, Check, Plan, Load, Sample, Stats}
 use Rattle.tdf_sim.specs.Accepted.{IsAccepted}
 use Rattle.tdf_sim.specs.declared.sim.Sim.{Sim}
 use Rattle.tdf_sim.specs.Ends.{Change, End, HaveAnswers, run_end, trace_of}
@@ -40,14 +45,54 @@ OfAccepted (Run stop kind turns) tree sim o = OfEnd kind turns tree sim (stop_in
 OfAccepted Check tree sim o = o ≡ checked tree sim
 OfAccepted Plan tree sim o = o ≡ planned sim
 OfAccepted (Load seed size) tree sim o = OfLoad size tree sim (load_end sim.flat.resolution) o
+OfAccepted (Sample choice) tree sim o = ⊥
+OfAccepted (Stats window) tree sim o = ⊥
 
 abbrev pub OfText : Settings → List ℕ → Outcome → Type 0
 OfText job text o = ((fault : Fault) × IsFirstFault text fault × (o ≡ refused fault))
     ⊎ ((tree : PureTree) × (sim : Sim) × SpellsText text tree × IsAccepted tree sim × OfAccepted job tree sim o)
 
+-- of a table
+abbrev pub OfTable : List ℕ → (TableOf → Outcome) → Outcome → Type 0
+OfTable text of o = ((line : ℕ) × HasTableFault text line × (o ≡ note status.Refused (table_refusal line)))
+    ⊎ ((table : TableOf) × SpellsTable text table × (o ≡ of table))
+
+abbrev pub by_grid : Bool → Choice → TableOf → Outcome
+by_grid true choice table = note status.Refused grid_refusal
+by_grid false choice table = sampled choice table
+
+abbrev pub of_choice : Choice → TableOf → Outcome
+of_choice choice table = by_grid (is_too_fine choice table.rows) choice table
+
+abbrev pub OfJob : Settings → List ℕ → Outcome → Type 0
+OfJob (Run stop kind turns) text o = OfText (Run stop kind turns) text o
+OfJob Check text o = OfText Check text o
+OfJob Plan text o = OfText Plan text o
+OfJob (Load seed size) text o = OfText (Load seed size) text o
+OfJob (Sample choice) text o = OfTable text (of_choice choice) o
+OfJob (Stats window) text o = OfTable text (measured window) o
+
+-- a model with a fault
+model_faulty : (job : Settings) (text : List ℕ) (fault : Fault) → is_model_job job ≡ true → IsFirstFault text fault → OfJob job text (refused fault)
+model_faulty (Run stop kind turns) text fault model is = inl (fault, is, refl)
+model_faulty Check text fault model is = inl (fault, is, refl)
+model_faulty Plan text fault model is = inl (fault, is, refl)
+model_faulty (Load seed size) text fault model is = inl (fault, is, refl)
+model_faulty (Sample choice) text fault model is = absurd cc
+model_faulty (Stats window) text fault model is = absurd cc
+
+-- a text that is no table
+table_faulty : (job : Settings) (text : List ℕ) (line : ℕ) → is_table_job job ≡ true → HasTableFault text line → OfJob job text (note status.Refused (table_refusal line))
+table_faulty (Run stop kind turns) text line table is = absurd cc
+table_faulty Check text line table is = absurd cc
+table_faulty Plan text line table is = absurd cc
+table_faulty (Load seed size) text line table is = absurd cc
+table_faulty (Sample choice) text line table is = inl (line, is, refl)
+table_faulty (Stats window) text line table is = inl (line, is, refl)
+
 abbrev pub Seen : Reading → Outcome → Type 0
 Seen BadWords o = o ≡ note status.Usage (codes "usage\n")
-Seen (Text job text) o = OfText job text o
+Seen (Text job text) o = OfJob job text o
 Seen TooLong o = o ≡ note status.TooLong (codes "too long\n")
 Seen ReadFault o = o ≡ note status.ReadFault (codes "read fault\n")
 Seen NoMemory o = ⊥
@@ -56,7 +101,7 @@ pub seen : {r : Reading} {o : Outcome} → HasOutcome r o → Seen r o
 seen usage = refl
 seen read_fault = refl
 seen too_long = refl
-seen (faulty {fault = fault} is) = inl (fault, is, refl)
+seen (faulty {job = job} {text = text} {fault = fault} model is) = model_faulty job text fault model is
 seen (too_late {turns = turns} {kind = kind} {tree = tree} {sim = sim} spells sound is) =
     inr (tree, sim, spells, sound, subst (λ (end : Option ℕ). OfEnd kind turns tree sim end (note status.StopTooLong (codes "stop too long\n"))) (sym is) refl)
 seen (has_run {turns = turns} {end = end} {kind = kind} {tree = tree} {sim = sim} spells sound is ahead answers) =
@@ -64,3 +109,7 @@ seen (has_run {turns = turns} {end = end} {kind = kind} {tree = tree} {sim = sim
 seen (is_checked {tree = tree} {sim = sim} spells sound) = inr (tree, sim, spells, sound, refl)
 seen (is_planned {tree = tree} {sim = sim} spells sound) = inr (tree, sim, spells, sound, refl)
 seen (is_loaded {tree = tree} {sim = sim} spells sound ahead answers) = inr (tree, sim, spells, sound, (ahead, answers, refl))
+seen (no_table {job = job} {text = text} {line = line} table is) = table_faulty job text line table is
+seen (too_fine {choice = choice} {table = table} spells is) = inr (table, spells, ap (λ b. by_grid b choice table) (sym is))
+seen (is_sampled {choice = choice} {table = table} spells is) = inr (table, spells, ap (λ b. by_grid b choice table) (sym is))
+seen (is_measured {table = table} spells) = inr (table, spells, refl)

@@ -11,14 +11,15 @@ use Rattle.tdf_io.specs.Faults.{FaultsRose}
 use Rattle.tdf_cli_words.specs.Jobs.{IsWithin}
 use Rattle.tdf_cli_words.specs.Words.{taken_of}
 use Rattle.tdf_cli_words.specs.declared.asked.Settings.{Settings}
-use Rattle.tdf_cli_words.specs.declared.asked.Settings.TheVariants.{Load}
+use Rattle.tdf_cli_words.specs.declared.asked.Settings.TheVariants.{Load, Sample, Stats}
+use Rattle.tdf_tables.specs.Tables.{longest_table}
 
 pub data Reading : Type 0 where
   -- the words are not accepted, and nothing is read
   BadWords : Reading
   -- the text for what the words ask: all that was left, or one that was made
   Text : Settings → List ℕ → Reading
-  -- a byte more than the longest text
+  -- a byte more than the job reads
   TooLong : Reading
   -- a read failed
   ReadFault : Reading
@@ -31,6 +32,29 @@ reading (input.Text job text) = Text job text.items
 reading input.TooLong = TooLong
 reading input.ReadFault = ReadFault
 reading input.NoMemory = NoMemory
+
+-- the most bytes that a job reads: those of a model, or of a table
+abbrev pub most_bytes : Settings → ℕ
+most_bytes (Sample choice) = longest_table
+most_bytes (Stats window) = longest_table
+most_bytes _ = longest_text
+
+-- and of what the words ask for; where they aren't accepted nothing is read
+abbrev pub bytes_for : Option Settings → ℕ
+bytes_for None = 0
+bytes_for (Some job) = most_bytes job
+
+-- whether the text of a job is a model
+abbrev pub is_model_job : Settings → Bool
+is_model_job (Sample choice) = false
+is_model_job (Stats window) = false
+is_model_job _ = true
+
+-- or a table
+abbrev pub is_table_job : Settings → Bool
+is_table_job (Sample choice) = true
+is_table_job (Stats window) = true
+is_table_job _ = false
 
 -- whether a job reads its text; `load` makes one
 abbrev pub reads_text : Settings → Bool
@@ -54,14 +78,14 @@ abbrev pub InputIs : List (List ℕ) → Reading → (old new : Option (List ℕ
     → Type 0
 InputIs words BadWords old new before now = (taken_of words ≡ None) × (new ≡ old)
 InputIs words (Text job text) old new before now =
-    (taken_of words ≡ Some job) × (length text ≤ longest_text) × ComesFrom job text old new
+    (taken_of words ≡ Some job) × (length text ≤ most_bytes job) × ComesFrom job text old new
 InputIs words TooLong old new before now =
-    AskToRead words × GivesExactly old new (longest_text + 1)
+    (asks : AskToRead words) × GivesExactly old new (most_bytes asks.job + 1)
 InputIs words ReadFault old new before now =
-    AskToRead words × GivesAtMost old new longest_text × FaultsRose before now
-InputIs words NoMemory old new before now = GivesAtMost old new longest_text
+    (asks : AskToRead words) × GivesAtMost old new (most_bytes asks.job) × FaultsRose before now
+InputIs words NoMemory old new before now = GivesAtMost old new (bytes_for (taken_of words))
 
 -- a job within its limits for a text that isn't too long
 abbrev pub IsReady : Reading → Type 0
-IsReady (Text job text) = (length text ≤ longest_text) × IsWithin job
+IsReady (Text job text) = (length text ≤ most_bytes job) × IsWithin job
 IsReady _ = Unit {0}

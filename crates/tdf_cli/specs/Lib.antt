@@ -6,4 +6,5 @@ pub mod Input
 pub mod Outcome
 pub mod Refusals
 pub mod Status
+pub mod Tables
 pub mod machine

@@ -2,15 +2,21 @@
 -- Source: own.
 use Rattle.std.specs.Fmt.{decimal}
 use Rattle.std.specs.List.{count_by}
-use Rattle.std.specs.Prelude.{ℕ, ◌≡◌, ◌⊎◌, ◌*◌, ◌-◌, ◌++◌, List, [], Option, Some, None, codes, if◌then◌else◌, length, nat_eq, nat_lt}
+use Rattle.std.specs.Prelude.{ℕ, ◌≡◌, ◌⊎◌, ◌*◌, ◌-◌, ◌++◌, true, false, List, [], Option, Some, None, codes, if◌then◌else◌, length, nat_eq, nat_lt}
 use Rattle.std.specs.Io.KnownBytes.{Appends, Keeps}
 use Rattle.tdf_base.specs.Limits.{time_end}
 use Rattle.tdf_base.specs.declared.faults.Fault.{Fault}
 use Rattle.tdf_base.specs.declared.resolution.Resolution.{Resolution}
 use Rattle.tdf_base.specs.declared.resolution.Resolution.TheVariants.{Ps, Fs}
 use Rattle.tdf_lang_parser.specs.Refused.{SpellsText}
-use Rattle.tdf_cli.specs.Input.{Reading, BadWords, Text, TooLong, ReadFault, NoMemory}
+use Rattle.tdf_cli.specs.Input.{Reading, BadWords, Text, TooLong, ReadFault, NoMemory, is_model_job, is_table_job}
 use Rattle.tdf_cli.specs.Refusals.{refusal_text}
+use Rattle.tdf_cli.specs.Tables.{grid_refusal, table_refusal}
+use Rattle.tdf_sampling.specs.Choice.{chosen_table, is_too_fine}
+use Rattle.tdf_sampling.specs.Statistics.{stats_text}
+use Rattle.tdf_sampling.specs.declared.asked.Choice.{Choice}
+use Rattle.tdf_tables.specs.Faults.{HasTableFault}
+use Rattle.tdf_tables.specs.Tables.{SpellsTable, TableOf, table_text}
 use Rattle.tdf_cli.specs.declared.status.Status.{Status}
 use Rattle.tdf_cli.specs.declared.status.Status.TheVariants as status
 use Rattle.tdf_io.specs.Bytes.{AppendsFront}
@@ -25,7 +31,7 @@ use Rattle.tdf_sim.specs.PlanText.{plans_text}
 use Rattle.tdf_lang_tree.specs.Pure.{PureTree}
 use Rattle.tdf_cli_words.specs.Jobs.{usual_turns}
 use Rattle.tdf_cli_words.specs.declared.asked.Settings.{Settings}
-use Rattle.tdf_cli_words.specs.declared.asked.Settings.TheVariants.{Run, Check, Plan, Load}
+use Rattle.tdf_cli_words.specs.declared.asked.Settings.TheVariants.{Run, Check, Plan, Load, Sample, Stats}
 use Rattle.tdf_trace_rows.specs.declared.kinds.TraceKind.{TraceKind}
 use Rattle.tdf_trace_rows.specs.declared.kinds.TraceKind.TheVariants.{Table}
 
@@ -109,13 +115,23 @@ loaded size tree sim ahead = record {
   notes = [];
 }
 
+-- the rows of a choice, as a table
+abbrev pub sampled : Choice → TableOf → Outcome
+sampled choice table =
+    record { status = status.Done; out = table_text (chosen_table choice table); notes = [] }
+
+-- the statistics of a table, or of its windows
+abbrev pub measured : (window : Option ℕ) → TableOf → Outcome
+measured window table =
+    record { status = status.Done; out = stats_text table window; notes = [] }
+
 -- what comes of a reading has this outcome, case by case; being out of memory has none
 pub data HasOutcome : Reading → Outcome → Type 0 where
   usage : HasOutcome BadWords (note status.Usage (codes "usage\n"))
   read_fault : HasOutcome ReadFault (note status.ReadFault (codes "read fault\n"))
   too_long : HasOutcome TooLong (note status.TooLong (codes "too long\n"))
-  faulty : {job : Settings} {text : List ℕ} {fault : Fault} → IsFirstFault text fault
-      → HasOutcome (Text job text) (refused fault)
+  faulty : {job : Settings} {text : List ℕ} {fault : Fault} → is_model_job job ≡ true
+      → IsFirstFault text fault → HasOutcome (Text job text) (refused fault)
   too_late : {stop turns : ℕ} {kind : TraceKind} {text : List ℕ} {tree : PureTree} {sim : Sim}
       → SpellsText text tree → IsAccepted tree sim → stop_in sim.flat.resolution stop ≡ None
       → HasOutcome (Text (Run stop kind turns) text)
@@ -133,6 +149,17 @@ pub data HasOutcome : Reading → Outcome → Type 0 where
       → SpellsText text tree → IsAccepted tree sim → (ahead : List (List Change))
       → HaveAnswers tree sim.flat sim.firsts.items ahead (load_end sim.flat.resolution) usual_turns
       → HasOutcome (Text (Load seed size) text) (loaded size tree sim ahead)
+  no_table : {job : Settings} {text : List ℕ} {line : ℕ} → is_table_job job ≡ true
+      → HasTableFault text line
+      → HasOutcome (Text job text) (note status.Refused (table_refusal line))
+  too_fine : {choice : Choice} {text : List ℕ} {table : TableOf} → SpellsTable text table
+      → is_too_fine choice table.rows ≡ true
+      → HasOutcome (Text (Sample choice) text) (note status.Refused grid_refusal)
+  is_sampled : {choice : Choice} {text : List ℕ} {table : TableOf} → SpellsTable text table
+      → is_too_fine choice table.rows ≡ false
+      → HasOutcome (Text (Sample choice) text) (sampled choice table)
+  is_measured : {window : Option ℕ} {text : List ℕ} {table : TableOf} → SpellsTable text table
+      → HasOutcome (Text (Stats window) text) (measured window table)
 
 -- the answer and the bytes that both sinks gained are those of the outcome
 pub record WritesOutcome (r : Reading) (answer : Status) (out_old out_new notes_old notes_new : Option (List ℕ)) : Type 0 where

@@ -1,8 +1,7 @@
 //! The top call.
 
 ghost use Rattle.std.specs.Prelude.{◌≡◌, ◌≢◌, ◌⊎◌, ◌≤◌, ℕ, List, Some, length, true};
-ghost use Rattle.tdf_base.specs.Limits.{longest_text};
-ghost use Rattle.tdf_cli.specs.Input.{AskToRead, InputIs, NoMemory, Reading, Text, reads_text};
+ghost use Rattle.tdf_cli.specs.Input.{AskToRead, InputIs, NoMemory, Reading, Text, most_bytes, reads_text};
 ghost use Rattle.tdf_cli.specs.Outcome.{HasOutcome, Outcome, WritesNothingOrFront, WritesOutcome};
 ghost use Rattle.tdf_cli.specs.Status.{no_memory, status_number, write_fault};
 ghost use Rattle.tdf_cli.specs.declared.status.Status.{Status};
@@ -61,7 +60,7 @@ pub fn tool<S: Source, O: Sink, N: Sink>(
     // Words that are accepted, a text of a length that is, an outcome for them, and no count of faults that rose: the status
     // is that of the outcome, or it is out of memory.
     ensures complete { (job : Settings) (text : List ℕ) (o : Outcome) → taken_of (texts_of words.now.items) ≡ Some job
-        → reads_text job ≡ true → S.left model.old ≡ Some text → length text ≤ longest_text → HasOutcome (Text job text) o
+        → reads_text job ≡ true → S.left model.old ≡ Some text → length text ≤ most_bytes job → HasOutcome (Text job text) o
         → ¬ FaultsRose (S.faults model.old) (S.faults model.new) → ¬ FaultsRose (O.faults out.old) (O.faults out.new)
         → ¬ FaultsRose (N.faults notes.old) (N.faults notes.new) → (result ≡ status_number o.status) ⊎ (result ≡ no_memory) }
 

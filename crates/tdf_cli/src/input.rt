@@ -1,7 +1,7 @@
 //! The words, and then the text of the model.
 
-ghost use Rattle.std.specs.Prelude.{◌≡◌, ◌≤◌, List, Option, Some, true, ℕ};
-ghost use Rattle.tdf_cli.specs.Input.{AskToRead, InputIs, IsReady, ReadFault, reading, reads_text};
+ghost use Rattle.std.specs.Prelude.{◌≡◌, List, Option, Some, true, ℕ};
+ghost use Rattle.tdf_cli.specs.Input.{AskToRead, InputIs, IsReady, ReadFault, most_bytes, reading, reads_text};
 ghost use Rattle.tdf_cli_words.specs.Jobs.{IsLoad, IsWithin};
 ghost use Rattle.tdf_cli_words.specs.Words.{taken_of, texts_of};
 ghost use Rattle.tdf_cli_words.specs.declared.asked.Settings.TheVariants.{Load};
@@ -11,6 +11,7 @@ use tdf_base::LONGEST_TEXT;
 use tdf_cli_load::load_text;
 use tdf_cli_words::{Settings, WordsErr, settings};
 use tdf_io::{LoadErr, Source, read_all};
+use tdf_tables::LONGEST_TABLE;
 
 /// What came of the words and of reading the model.
 #[derive(Drop)]
@@ -19,7 +20,7 @@ pub(crate) enum Input {
     BadWords,
     /// What the words ask for, and its text: all that the source had left, or one that was made.
     Text(Settings, Vec<u8>),
-    /// A byte more than the longest text was read.
+    /// A byte more than the job reads was read.
     TooLong,
     /// A read failed.
     ReadFault,
@@ -42,6 +43,16 @@ fn make(alloc: Global, seed: u64, size: u64) -> Input
     }
 }
 
+/// The most bytes that a job reads.
+fn most_bytes(job: &Settings) -> usize
+    ensures { result ≡ most_bytes job.now }
+{
+    match job {
+        Settings::Sample(_) | Settings::Stats { .. } => LONGEST_TABLE,
+        _ => LONGEST_TEXT,
+    }
+}
+
 /// Reads the text of a job.
 fn read<S: Source>(alloc: Global, job: Settings, model: &mut S) -> Input
     requires within { IsWithin job }
@@ -51,7 +62,7 @@ fn read<S: Source>(alloc: Global, job: Settings, model: &mut S) -> Input
     ensures ready { IsReady (reading result) }
     ensures kept { ¬ (reading result ≡ ReadFault) → S.faults model.new ≡ S.faults model.old }
 {
-    match read_all(alloc, model, LONGEST_TEXT) {
+    match read_all(alloc, model, most_bytes(&job)) {
         Ok(text) => Input::Text(job, text),
         Err(LoadErr::TooLong) => Input::TooLong,
         Err(LoadErr::ReadFault) => Input::ReadFault,

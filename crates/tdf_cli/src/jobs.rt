@@ -1,11 +1,11 @@
 //! What each outcome writes, but for runs.
 
 ghost use Rattle.std.specs.Io.KnownBytes.{Appends};
-ghost use Rattle.std.specs.Prelude.{◌≡◌, ◌⊎◌, ◌≤◌, ◌<◌, List, ℕ, Err, length, IfOk, OnErr, OnOk};
+ghost use Rattle.std.specs.Prelude.{◌≡◌, ◌⊎◌, ◌≤◌, ◌<◌, List, ℕ, Err, length, IfOk, OnErr, OnOk, true};
 ghost use Rattle.tdf_base.specs.Limits.{longest_text};
 ghost use Rattle.tdf_lang_parser.specs.Formed.{IsFormed};
 ghost use Rattle.tdf_lang_parser.specs.Refused.{SpellsText};
-ghost use Rattle.tdf_cli.specs.Input.{NoMemory, Text, reading, IsReady};
+ghost use Rattle.tdf_cli.specs.Input.{NoMemory, Text, is_model_job, most_bytes, reading, IsReady};
 ghost use Rattle.tdf_cli.specs.Outcome.{WritesNothingOrFront, WritesOutcome, accepted_text};
 ghost use Rattle.tdf_cli.specs.declared.status.Status.TheVariants.{Done};
 ghost use Rattle.tdf_lang_printer.specs.Canon.{canon};
@@ -28,6 +28,7 @@ use crate::notes::{noted, refuse};
 use crate::refusals::first_fault;
 use crate::run::run;
 use crate::status::Status;
+use crate::tables::{sample, stats};
 use std::alloc::Global;
 use tdf_base::Memory;
 use tdf_cli_words::Settings;
@@ -175,6 +176,7 @@ fn do_accepted<O: Sink, N: Sink>(
     out: &mut O,
     notes: &mut N,
 ) -> Result<Status, SinkErr>
+    requires model { is_model_job job ≡ true }
     requires within { IsWithin job }
     requires accepted { IsAcceptedTree (pure_tree tree.now) sim }
     requires printable { IsPrintable sim }
@@ -190,6 +192,11 @@ fn do_accepted<O: Sink, N: Sink>(
         Settings::Check => check(alloc, tree, &sim, out, notes),
         Settings::Plan => plan(alloc, tree, &sim, out, notes),
         Settings::Load { size, .. } => measure(alloc, sim, size, out),
+        // These have no model.
+        Settings::Sample(_) | Settings::Stats { .. } => {
+            drop(sim);
+            Err(SinkErr::Memory)
+        }
     }
 }
 
@@ -201,6 +208,7 @@ fn do_tree<O: Sink, N: Sink>(
     out: &mut O,
     notes: &mut N,
 ) -> Result<Status, SinkErr>
+    requires model { is_model_job job ≡ true }
     requires within { IsWithin job }
     requires kept { IsKept (pure_tree tree.now) }
     requires formed { IsFormed (pure_tree tree.now) }
@@ -228,6 +236,7 @@ fn do_text<O: Sink, N: Sink>(
     notes: &mut N,
 ) -> Result<Status, SinkErr>
     requires text { length text.now.items ≤ longest_text }
+    requires model { is_model_job job ≡ true }
     requires within { IsWithin job }
     ensures all { IfOk result (λ s. WritesOutcome (Text job text.now.items) s
         (O.taken out.old) (O.taken out.new) (N.taken notes.old) (N.taken notes.new)) }
@@ -243,6 +252,30 @@ fn do_text<O: Sink, N: Sink>(
             Some(fault) => refuse(alloc, notes, fault),
             None => Err(SinkErr::Memory),
         },
+    }
+}
+
+/// Does a job for its text.
+fn do_job<O: Sink, N: Sink>(
+    alloc: Global,
+    text: &Vec<u8>,
+    job: Settings,
+    out: &mut O,
+    notes: &mut N,
+) -> Result<Status, SinkErr>
+    requires text { length text.now.items ≤ most_bytes job }
+    requires within { IsWithin job }
+    ensures all { IfOk result (λ s. WritesOutcome (Text job text.now.items) s
+        (O.taken out.old) (O.taken out.new) (N.taken notes.old) (N.taken notes.new)) }
+    ensures part { OnErr result (WritesNothingOrFront (Text job text.now.items)
+        (O.taken out.old) (O.taken out.new) (N.taken notes.old) (N.taken notes.new)) }
+    ensures counts { CountsTwoSinks why.Failed (O.faults out.old) (O.faults out.new)
+        (N.faults notes.old) (N.faults notes.new) result }
+{
+    match job {
+        Settings::Sample(choice) => sample(alloc, text, choice, out, notes),
+        Settings::Stats { window } => stats(alloc, text, window, out, notes),
+        _ => do_text(alloc, text, job, out, notes),
     }
 }
 
@@ -265,7 +298,7 @@ pub(crate) fn finish<O: Sink, N: Sink>(
     law_one_outcome();
     match input {
         Input::BadWords => noted(notes, b"usage\n", Status::Usage),
-        Input::Text(job, text) => do_text(alloc, text, *job, out, notes),
+        Input::Text(job, text) => do_job(alloc, text, *job, out, notes),
         Input::TooLong => noted(notes, b"too long\n", Status::TooLong),
         Input::ReadFault => noted(notes, b"read fault\n", Status::ReadFault),
         Input::NoMemory => Err(SinkErr::Memory),

@@ -3,6 +3,7 @@
 ghost use Rattle.tdf_cli.specs.Outcome.{HasOneOutcome};
 
 use tdf_sim::{law_first_fault, law_one_model, law_one_run};
+use tdf_tables::law_tables;
 
 /// What comes of the words and of reading has at most one outcome.
 pub fn law_one_outcome()
@@ -11,4 +12,5 @@ pub fn law_one_outcome()
     law_first_fault();
     law_one_model();
     law_one_run();
+    law_tables();
 }

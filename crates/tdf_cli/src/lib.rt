@@ -5,6 +5,7 @@
 //! * `jobs`: what each outcome writes, but for runs.
 //! * `run`: the job `run`.
 //! * `measure`: the job `load`.
+//! * `tables`: the jobs `sample` and `stats`.
 //! * `notes`: outcomes that only leave a note.
 //! * `refusals`: the faults of texts, and how they are noted.
 //! * `status`: the answers and their numbers.
@@ -20,6 +21,7 @@ mod notes;
 mod refusals;
 mod run;
 mod status;
+mod tables;
 
 pub use command::tool;
 pub use laws::law_one_outcome;

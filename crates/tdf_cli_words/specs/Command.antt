@@ -14,12 +14,13 @@ option name = record (new_rule name) { long = Some name }
 abbrev pub without_name : App → App
 without_name command = record command { top = record command.top { no_binary_name = true } }
 
--- `tdf JOB --stop TIME --format FORMAT --turns N --seed N --size N`
+-- `tdf JOB --stop TIME --format FORMAT --turns N --seed N --size N --every TIME --nth N`
 unfoldable pub command : App
-command = with_rule (with_rule (with_rule (with_rule (with_rule (with_rule
+command = with_rule (with_rule (with_rule (with_rule (with_rule (with_rule (with_rule (with_rule
     (without_name (new_app (codes "tdf"))) (new_rule (codes "JOB")))
     (option (codes "stop"))) (option (codes "format"))) (option (codes "turns")))
-    (option (codes "seed"))) (option (codes "size"))
+    (option (codes "seed"))) (option (codes "size"))) (option (codes "every")))
+    (option (codes "nth"))
 
 -- the words meet none of the faults of the command; asking for help is one of them
 unfoldable pub are_matched : List (List ℕ) → Bool
@@ -37,6 +38,8 @@ pub record Given : Type 0 where
   pub turns : Option (List ℕ)
   pub seed : Option (List ℕ)
   pub size : Option (List ℕ)
+  pub every : Option (List ℕ)
+  pub nth : Option (List ℕ)
 
 abbrev pub given_of : List (List ℕ) → Given
 given_of words = record {
@@ -46,4 +49,6 @@ given_of words = record {
   turns = text_of (codes "turns") words;
   seed = text_of (codes "seed") words;
   size = text_of (codes "size") words;
+  every = text_of (codes "every") words;
+  nth = text_of (codes "nth") words;
 }

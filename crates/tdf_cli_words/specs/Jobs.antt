@@ -1,6 +1,6 @@
 -- What a job and its options ask for.
 -- Source: own.
-use Rattle.std.specs.Prelude.{ℕ, ◌^◌, ◌<◌, ◌≤◌, Bool, ◌&&◌, nat_eq, nat_le, codes, List, [], ◌∷◌, if◌then◌else◌, Option, Some, None, is_some, Result, Ok, Err, ⊤, option_and_then}
+use Rattle.std.specs.Prelude.{ℕ, ◌^◌, ◌<◌, ◌≤◌, Bool, ◌&&◌, ◌||◌, nat_eq, nat_le, codes, List, [], ◌∷◌, if◌then◌else◌, Option, Some, None, is_some, Result, Ok, Err, ⊤, option_and_then, option_map}
 use Rattle.std.specs.Cmp.Lexicographic.{pointwise}
 use Rattle.std.specs.List.{list_any}
 use Rattle.tdf_base.specs.Digits.{int_of}
@@ -9,7 +9,9 @@ use Rattle.tdf_base.specs.Time.{time_of}
 use Rattle.tdf_base.specs.declared.times.TimeErr.{TimeErr}
 use Rattle.tdf_cli_words.specs.Command.{Given}
 use Rattle.tdf_cli_words.specs.declared.asked.Settings.{Settings}
-use Rattle.tdf_cli_words.specs.declared.asked.Settings.TheVariants.{Run, Check, Plan, Load}
+use Rattle.tdf_cli_words.specs.declared.asked.Settings.TheVariants.{Run, Check, Plan, Load, Sample, Stats}
+use Rattle.tdf_sampling.specs.declared.asked.Choice.{Choice}
+use Rattle.tdf_sampling.specs.declared.asked.Choice.TheVariants.{Every, Nth}
 use Rattle.tdf_trace_rows.specs.declared.kinds.TraceKind.{TraceKind}
 use Rattle.tdf_trace_rows.specs.declared.kinds.TraceKind.TheVariants.{Table, Vcd}
 
@@ -28,6 +30,9 @@ greatest_seed = 65536
 
 abbrev pub greatest_size : ℕ
 greatest_size = 500
+
+abbrev pub most_nth : ℕ
+most_nth = 10 ^ 12
 
 -- ---- the value of one option
 
@@ -57,11 +62,27 @@ abbrev pub turns_given : Option (List ℕ) → Option ℕ
 turns_given None = Some usual_turns
 turns_given (Some text) = number_within 1 most_turns text
 
+-- a time in ps, from 1 on and below 10^18
+abbrev pub step_of : List ℕ → Option ℕ
+step_of text = option_and_then (kept_within 1 time_end) (time_read (time_of text))
+
 -- ---- the jobs
 
 -- one of these options is there
 abbrev pub has_any : List (Option (List ℕ)) → Bool
 has_any options = list_any (λ option. is_some option) options
+
+-- an option of a run is there
+abbrev pub has_run_option : Given → Bool
+has_run_option given = has_any (given.stop ∷ (given.format ∷ (given.turns ∷ [])))
+
+-- an option of `load` is there
+abbrev pub has_load_option : Given → Bool
+has_load_option given = has_any (given.seed ∷ (given.size ∷ []))
+
+-- an option of a choice of rows is there
+abbrev pub has_table_option : Given → Bool
+has_table_option given = has_any (given.every ∷ (given.nth ∷ []))
 
 abbrev pub run_for : Option ℕ → Option TraceKind → Option ℕ → Option Settings
 run_for (Some stop) (Some kind) (Some turns) = Some (Run stop kind turns)
@@ -69,13 +90,13 @@ run_for _ _ _ = None
 
 -- `run --stop TIME`, with `--format table` or `--format vcd`, and `--turns N`
 abbrev pub run_given : Given → Option Settings
-run_given given = if has_any (given.seed ∷ (given.size ∷ [])) then None
+run_given given = if has_load_option given || has_table_option given then None
     else run_for (stop_of given.stop) (trace_kind given.format) (turns_given given.turns)
 
 -- a job without options
 abbrev pub alone : Settings → Given → Option Settings
-alone job given = if has_any (given.stop ∷ (given.format ∷ (given.turns ∷ (given.seed
-    ∷ (given.size ∷ []))))) then None else Some job
+alone job given = if has_run_option given || (has_load_option given || has_table_option given)
+    then None else Some job
 
 abbrev pub load_for : Option ℕ → Option ℕ → Option Settings
 load_for (Some seed) (Some size) = Some (Load seed size)
@@ -83,15 +104,37 @@ load_for _ _ = None
 
 -- `load --seed N --size N`
 abbrev pub load_given : Given → Option Settings
-load_given given = if has_any (given.stop ∷ (given.format ∷ (given.turns ∷ []))) then None
+load_given given = if has_run_option given || has_table_option given then None
     else load_for (option_and_then (number_within 0 greatest_seed) given.seed)
     (option_and_then (number_within 1 greatest_size) given.size)
+
+-- one of `--every TIME` and `--nth N`
+abbrev pub choice_for : (every nth : Option (List ℕ)) → Option Choice
+choice_for (Some every) None = option_map Every (step_of every)
+choice_for None (Some nth) = option_map Nth (number_within 1 most_nth nth)
+choice_for _ _ = None
+
+-- `sample --every TIME`, `sample --nth N`
+abbrev pub sample_given : Given → Option Settings
+sample_given given = if has_run_option given || has_load_option given then None
+    else option_map Sample (choice_for given.every given.nth)
+
+abbrev pub stats_for : (every : Option (List ℕ)) → Option Settings
+stats_for None = Some (Stats None)
+stats_for (Some every) = option_map (λ step. Stats (Some step)) (step_of every)
+
+-- `stats`, with `--every TIME`
+abbrev pub stats_given : Given → Option Settings
+stats_given given = if has_run_option given || (has_load_option given || is_some given.nth)
+    then None else stats_for given.every
 
 abbrev pub job_given : List ℕ → Given → Option Settings
 job_given job given = if is_text (codes "run") job then run_given given
     else if is_text (codes "check") job then alone Check given
     else if is_text (codes "plan") job then alone Plan given
     else if is_text (codes "load") job then load_given given
+    else if is_text (codes "sample") job then sample_given given
+    else if is_text (codes "stats") job then stats_given given
     else None
 
 -- what is asked for, where the job is known and its options are as it wants them
@@ -110,9 +153,25 @@ pub record IsLoad (seed size : ℕ) : Type 0 where
   pub some : 1 ≤ size
   pub few : size ≤ greatest_size
 
+-- the step of a choice of rows, or the length of a window, in ps
+pub record IsStep (step : ℕ) : Type 0 where
+  pub some : 1 ≤ step
+  pub few : step ≤ time_end
+
+pub record IsNth (number : ℕ) : Type 0 where
+  pub some : 1 ≤ number
+  pub few : number ≤ most_nth
+
+abbrev pub IsChoice : Choice → Type 0
+IsChoice (Every step) = IsStep step
+IsChoice (Nth number) = IsNth number
+
 -- the numbers lie within their ranges
 abbrev pub IsWithin : Settings → Type 0
 IsWithin (Run stop kind turns) = IsRun stop turns
 IsWithin Check = ⊤
 IsWithin Plan = ⊤
 IsWithin (Load seed size) = IsLoad seed size
+IsWithin (Sample choice) = IsChoice choice
+IsWithin (Stats None) = ⊤
+IsWithin (Stats (Some step)) = IsStep step

@@ -12,6 +12,8 @@ short_run = record {
   turns = None;
   seed = None;
   size = None;
+  every = None;
+  nth = None;
 }
 
 pub record GivesWords (words : List (List ℕ)) (given : Given) : Type 0 where

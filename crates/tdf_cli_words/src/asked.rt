@@ -1,6 +1,7 @@
 //! What the words ask for, and why they are not taken.
 
 use std::alloc::AllocError;
+use tdf_sampling::Choice;
 use tdf_trace_rows::TraceKind;
 use thiserror::Error;
 
@@ -26,6 +27,13 @@ pub enum Settings {
         seed: u64,
         /// The changes of rates that the model has, 1 to 500.
         size: u64,
+    },
+    /// Write some rows of a table.
+    Sample(Choice),
+    /// Write statistics of the columns of a table.
+    Stats {
+        /// How long each window is, in ps, 1 at least and below 10^18; none where all rows are one group.
+        window: Option<u64>,
     },
 }
 

@@ -1,6 +1,6 @@
 //! The command, and the texts that words give its arguments.
 
-ghost use Rattle.std.specs.Prelude.{◌≡◌, ◌≢◌, ℕ, List, Err, IfOk, codes, option_map, true, false};
+ghost use Rattle.std.specs.Prelude.{◌≡◌, ◌≢◌, Err, IfOk, option_map, true, false};
 ghost use Rattle.clap.specs.Values.{kind_of};
 ghost use Rattle.clap.specs.Matches.{found_of};
 ghost use Rattle.clap.specs.Simple.{app_of, matches_of, with_rule};
@@ -25,6 +25,8 @@ pub(crate) struct Given<'a> {
     pub(crate) turns: Option<&'a str>,
     pub(crate) seed: Option<&'a str>,
     pub(crate) size: Option<&'a str>,
+    pub(crate) every: Option<&'a str>,
+    pub(crate) nth: Option<&'a str>,
 }
 
 impl<'a> Model for Given<'a> {
@@ -40,6 +42,8 @@ impl<'a> Model for Given<'a> {
       turns = option_map (λ s. s.now) a.turns;
       seed = option_map (λ s. s.now) a.seed;
       size = option_map (λ s. s.now) a.size;
+      every = option_map (λ s. s.now) a.every;
+      nth = option_map (λ s. s.now) a.nth;
     } };
 }
 
@@ -65,7 +69,9 @@ fn make_command<'a>(alloc: Global) -> Result<Command<'a>, AllocError>
     let command = with_option(alloc, command, "format")?;
     let command = with_option(alloc, command, "turns")?;
     let command = with_option(alloc, command, "seed")?;
-    with_option(alloc, command, "size")
+    let command = with_option(alloc, command, "size")?;
+    let command = with_option(alloc, command, "every")?;
+    with_option(alloc, command, "nth")
 }
 
 /// Why the words have no matches.
@@ -110,5 +116,7 @@ pub(crate) fn read_texts<'a>(alloc: Global, words: &'a [String]) -> Result<Given
         turns: matches.get_str("turns"),
         seed: matches.get_str("seed"),
         size: matches.get_str("size"),
+        every: matches.get_str("every"),
+        nth: matches.get_str("nth"),
     })
 }

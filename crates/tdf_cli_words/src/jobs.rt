@@ -1,12 +1,13 @@
 //! What a job and its options ask for.
 
-ghost use Rattle.std.specs.Prelude.{◌≡◌, ◌<◌, ◌≤◌, ℕ, List, IfSome, map, option_map, option_and_then};
-ghost use Rattle.tdf_cli_words.specs.Jobs.{is_text, number_within, stop_of, trace_kind, turns_given, has_any, run_given, alone, load_given, job_given, settings_given, most_turns, IsWithin};
+ghost use Rattle.std.specs.Prelude.{◌≡◌, ◌<◌, ◌≤◌, IfSome};
+ghost use Rattle.tdf_cli_words.specs.Jobs.{number_within, stop_of, step_of, trace_kind, turns_given, has_run_option, has_load_option, has_table_option, run_given, alone, load_given, choice_for, sample_given, stats_given, settings_given, most_turns, IsChoice, IsStep, IsWithin};
 ghost use Rattle.tdf_base.specs.Limits.{time_end};
 
 use crate::asked::Settings;
 use crate::command::Given;
 use tdf_base::{read_int, read_time};
+use tdf_sampling::Choice;
 use tdf_trace_rows::TraceKind;
 
 /// The turns of a run that says none.
@@ -17,6 +18,8 @@ const MOST_TURNS: u64 = 1_000_000_000_000;
 const GREATEST_SEED: u64 = 65_536;
 /// The greatest size of a made model.
 const GREATEST_SIZE: u64 = 500;
+/// The greatest number of `--nth`.
+const MOST_NTH: u64 = 1_000_000_000_000;
 
 /// The number that 1 to 18 digits spell, from `least` to `most`.
 fn number_within(least: u64, most: u64, text: &str) -> Option<u64>
@@ -68,12 +71,30 @@ fn turns(given: &Given) -> Option<u64>
     }
 }
 
+fn has_run_option(given: &Given) -> bool
+    ensures { result ≡ has_run_option given.now }
+{
+    given.stop.is_some() || given.format.is_some() || given.turns.is_some()
+}
+
+fn has_load_option(given: &Given) -> bool
+    ensures { result ≡ has_load_option given.now }
+{
+    given.seed.is_some() || given.size.is_some()
+}
+
+fn has_table_option(given: &Given) -> bool
+    ensures { result ≡ has_table_option given.now }
+{
+    given.every.is_some() || given.nth.is_some()
+}
+
 /// What `run` asks for.
 fn run(given: &Given) -> Option<Settings>
     ensures value { result ≡ run_given given.now }
     ensures within { IfSome result IsWithin }
 {
-    if given.seed.is_some() || given.size.is_some() {
+    if has_load_option(given) || has_table_option(given) {
         return None;
     }
     let stop = stop(given)?;
@@ -87,10 +108,7 @@ fn alone(job: Settings, given: &Given) -> Option<Settings>
     ensures value { result ≡ alone job given.now }
     ensures same { IfSome result (λ s. s ≡ job) }
 {
-    if given.stop.is_some() || given.format.is_some() || given.turns.is_some() {
-        return None;
-    }
-    if given.seed.is_some() || given.size.is_some() {
+    if has_run_option(given) || has_load_option(given) || has_table_option(given) {
         return None;
     }
     Some(job)
@@ -101,12 +119,61 @@ fn load(given: &Given) -> Option<Settings>
     ensures value { result ≡ load_given given.now }
     ensures within { IfSome result IsWithin }
 {
-    if given.stop.is_some() || given.format.is_some() || given.turns.is_some() {
+    if has_run_option(given) || has_table_option(given) {
         return None;
     }
     let seed = number_within(0, GREATEST_SEED, given.seed?)?;
     let size = number_within(1, GREATEST_SIZE, given.size?)?;
     Some(Settings::Load { seed, size })
+}
+
+/// The step of `--every` in ps.
+fn step(text: &str) -> Option<u64>
+    ensures value { result ≡ step_of text.now }
+    ensures within { IfSome result IsStep }
+{
+    match read_time(text.as_bytes()) {
+        Ok(time) if 1 <= time => Some(time),
+        _ => None,
+    }
+}
+
+/// The rows that `--every` or `--nth` chooses.
+fn choice(given: &Given) -> Option<Choice>
+    ensures value { result ≡ choice_for given.now.every given.now.nth }
+    ensures within { IfSome result IsChoice }
+{
+    match (given.every, given.nth) {
+        (Some(every), None) => Some(Choice::Every(step(every)?)),
+        (None, Some(nth)) => Some(Choice::Nth(number_within(1, MOST_NTH, nth)?)),
+        _ => None,
+    }
+}
+
+/// What `sample` asks for.
+fn sample(given: &Given) -> Option<Settings>
+    ensures value { result ≡ sample_given given.now }
+    ensures within { IfSome result IsWithin }
+{
+    if has_run_option(given) || has_load_option(given) {
+        return None;
+    }
+    Some(Settings::Sample(choice(given)?))
+}
+
+/// What `stats` asks for.
+fn stats(given: &Given) -> Option<Settings>
+    ensures value { result ≡ stats_given given.now }
+    ensures within { IfSome result IsWithin }
+{
+    if has_run_option(given) || has_load_option(given) || given.nth.is_some() {
+        return None;
+    }
+    let window = match given.every {
+        None => None,
+        Some(every) => Some(step(every)?),
+    };
+    Some(Settings::Stats { window })
 }
 
 /// What the texts of the arguments ask for.
@@ -127,6 +194,12 @@ pub(crate) fn settings_given(given: &Given) -> Option<Settings>
     }
     if job == "load" {
         return load(given);
+    }
+    if job == "sample" {
+        return sample(given);
+    }
+    if job == "stats" {
+        return stats(given);
     }
     None
 }

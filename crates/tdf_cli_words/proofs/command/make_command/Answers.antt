@@ -15,4 +15,6 @@ returns c =
     let format = c.in_ok-command-3.ensures ∙ ap (λ a. with_rule a (option (codes "format"))) stop in
     let turns = c.in_ok-command-4.ensures ∙ ap (λ a. with_rule a (option (codes "turns"))) format in
     let seed = c.in_ok-command-5.ensures ∙ ap (λ a. with_rule a (option (codes "seed"))) turns in
-    IfOk-weaker c.with_option-5.result _ _ (λ r size. size ∙ ap (λ a. with_rule a (option (codes "size"))) seed) c.with_option-5.ensures
+    let size = c.in_ok-command-6.ensures ∙ ap (λ a. with_rule a (option (codes "size"))) seed in
+    let every = c.in_ok-command-7.ensures ∙ ap (λ a. with_rule a (option (codes "every"))) size in
+    IfOk-weaker c.with_option-7.result _ _ (λ r nth. nth ∙ ap (λ a. with_rule a (option (codes "nth"))) every) c.with_option-7.ensures
