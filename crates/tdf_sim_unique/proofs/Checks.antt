@@ -1,8 +1,7 @@
 -- What the history reads of the compiled bodies of a model is the same for all of them.
-use Rattle.std.proofs.Common.{◌≡◌, ◌∙◌, ℕ, zero, suc, ◌-◌, ◌≤◌, List, [], ◌∷◌, Option, Some, map, slice_get, refl, sym, ap, subst}
+use Rattle.std.proofs.Common.{◌≡◌, ◌∙◌, ℕ, zero, suc, List, [], ◌∷◌, Option, Some, map, slice_get, refl, sym, ap, subst}
 use Rattle.std.proofs.lemmas.Option.{same_Some}
-use mathlib.Core.HLevel.{is_prop→PathP}
-use native.Mathlib.Bridge.{le_prop}
+use Rattle.tdf_bind_invariants.proofs.Api.{same_format}
 use Rattle.tdf_expr.specs.Blocks.{PureBlock, blocks_of, scope_of}
 use Rattle.tdf_expr.specs.Checked.{IsCheckedOf}
 use Rattle.tdf_expr.specs.Compiled.{AreBlocksOf, IsBlockOf}
@@ -11,7 +10,6 @@ use Rattle.tdf_expr.specs.Plans.{PortPlace, place_of_span, shape_of_format}
 use Rattle.tdf_expr.specs.declared.blocks.Block.{Block}
 use Rattle.tdf_expr.specs.declared.checked.Checked.{Checked}
 use Rattle.tdf_expr.specs.declared.spans.PortSpan.{PortSpan}
-use Rattle.tdf_fixed.specs.declared.format.Format.{Format}
 use Rattle.tdf_expr_symbols.specs.Names.{Names, globals_of}
 use Rattle.tdf_lang_tree.specs.Pure.{PureTree}
 
@@ -21,20 +19,6 @@ pub record AreSame (x y : Checked) : Type 0 where
   pub events : (n : ℕ) → event_count x n ≡ event_count y n
   pub cells : (n : ℕ) → start_cells x n ≡ start_cells y n
   pub rates : (n : ℕ) → start_rates x n ≡ start_rates y n
-
--- formats of equal shapes are equal: the facts that each keeps have one proof
-same_format : (f g : Format) → shape_of_format f ≡ shape_of_format g → f ≡ g
-same_format f g e = λ i. record {
-  signed = (e i).signed;
-  wl = (e i).wl;
-  iwl = (e i).iwl;
-  quant = (e i).quant;
-  over = (e i).over;
-  some_bits = is_prop→PathP (λ j. 1 ≤ (e j).wl) (λ j. le_prop) f.some_bits g.some_bits i;
-  few_bits = is_prop→PathP (λ j. (e j).wl ≤ 64) (λ j. le_prop) f.few_bits g.few_bits i;
-  whole_bits = is_prop→PathP (λ j. (e j).iwl ≤ (e j).wl) (λ j. le_prop) f.whole_bits g.whole_bits i;
-  fraction_bits = is_prop→PathP (λ j. (e j).wl - (e j).iwl ≤ 63) (λ j. le_prop) f.fraction_bits g.fraction_bits i;
-}
 
 same_span : (p q : PortSpan) → place_of_span p ≡ place_of_span q → p ≡ q
 same_span p q e =
