@@ -14,7 +14,8 @@ use Rattle.tdf_bind.specs.declared.model.Flat.{Flat}
 use Rattle.tdf_streams.proofs.Api.{get_low, none_some, some_same}
 use Rattle.tdf_sim_history.specs.Cells.{driver_of_row}
 use Rattle.tdf_exec_layout.specs.Traced.{is_trace_of}
-use Rattle.tdf_sim_traces.proofs.Items.{First, Last, get_last, pushed, true_false}
+use Rattle.tdf_sim_traces.proofs.Items.{true_false}
+use Rattle.tdf_trace.proofs.Api.{First, Last, get_last, pushed}
 use Rattle.tdf_sim_traces.specs.Events.{AreEventColumns, IsEventColumn}
 use Rattle.tdf_sim_traces.specs.Signals.{AreTracedSignals, IsDriverOf, IsListed, IsSignalOf}
 use Rattle.tdf_sim_traces.specs.declared.events.EventColumn.{EventColumn}

@@ -23,7 +23,7 @@ use Rattle.tdf_bind_invariants.specs.Limits.{AreWithinLimits}
 use Rattle.tdf_trace_rows.specs.Positions.{AreChained, Span, span_end, span_of, count_of_spans}
 use Rattle.tdf_sim_refinement.specs.At.{IsAt}
 use Rattle.tdf_schedule.specs.Plan.{done}
-use Rattle.tdf_sim_traces.proofs.Items.{get_last}
+use Rattle.tdf_trace.proofs.Api.{get_last}
 use Rattle.tdf_sim_traces.specs.Periods.{CanBegin, positions_in, row_rate, span_in}
 use Rattle.tdf_sim_traces.specs.Signals.{DrivesTraced}
 use Rattle.tdf_sim_traces.specs.declared.signals.TracedSignal.{TracedSignal}

@@ -1,4 +1,5 @@
 -- The lemmas that other crates may use.
+pub use Rattle.tdf_trace.proofs.ColumnPlaces.{First, Last, Pushed, get_last, pushed}
 pub use Rattle.tdf_trace.proofs.Alike.{stands_alike}
 pub use Rattle.tdf_trace.proofs.Whole.{head_front, makes_whole, rows_front, writes_whole, written_more, written_none}
 pub use Rattle.tdf_trace.proofs.Manies.{holds_same, samples_append}
