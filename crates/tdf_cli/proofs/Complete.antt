@@ -1,20 +1,31 @@
 -- Each reading has at most one outcome, and that is met where nothing hinders.
-use Rattle.std.proofs.Common.{map, ◌≡◌, ◌⊎◌, ℕ, ◌≤◌, true, false, List, ◌++◌, Option, Some, None, refl, sym, ap, ◌∙◌, subst, inl, inr, length, length-append, append-nil, arith}
+use Rattle.std.proofs.Common.{map, ◌≡◌, ◌⊎◌, ℕ, ◌≤◌, Bool, true, false, List, ◌++◌, Option, Some, None, refl, sym, ap, ◌∙◌, subst, inl, inr, length, length-append, append-nil, arith}
 use Rattle.std.specs.Io.KnownBytes.{Consumes, IsAtEnd}
 use Rattle.tdf_lang_parser.proofs.Api.{text_keeps}
 use Rattle.tdf_lang_parser.specs.Refused.{SpellsText}
-use Rattle.tdf_cli.proofs.Seen.{OfAccepted, OfEnd, OfJob, OfLoad, OfTable, OfText, Seen, line_of, of_choice, same_tree, seen}
+use Rattle.tdf_cli.proofs.Driven.{accepted_runs, driven_from, early_only, faulty_only, no_table_only, run_accepted, seen_driven, text_from, OfDriven}
+use Rattle.tdf_base.specs.Limits.{longest_text}
+use Rattle.tdf_cli.proofs.FewNames.{stimulus_kept}
+use Rattle.tdf_cli.proofs.Seen.{OfAccepted, OfEnd, OfJob, OfLoad, OfRunText, OfStimulus, OfTable, OfText, Seen, line_of, of_choice, ran, same_tree, seen}
+use Rattle.tdf_cli.specs.Driven.{HasDrivenOutcome, behind, driven_faulty, driven_run, early, ignored_text, long_cell, no_stimulus, off_time, too_many}
+use Rattle.tdf_cli.specs.Parts.{model_part, table_part}
+use Rattle.tdf_cli.specs.Runs.{HasRunOutcome, Outcome, note, refused, run_outcome, status_of, stop_in, too_late, has_run}
+use Rattle.tdf_cli.specs.machine.Stages.{HasDrivenTree, HasLookedAt, HasTextOutcome, HasTreeOutcome}
+use Rattle.tdf_cli_words.specs.declared.asked.RunOptions.{RunOptions}
+use Rattle.tdf_stim.specs.Drivable.{has_too_many, long_line, off_line}
+use Rattle.tdf_stim.specs.Driven.{driven_tree}
+use Rattle.tdf_stim.specs.Signals.{ignored_labels}
 use Rattle.tdf_cli.specs.Input.{Reading, BadWords, Text, TooLong, ReadFault, NoMemory, AskToRead, ComesFrom, InputIs, most_bytes, reads_text}
 use Rattle.tdf_cli.specs.Tables.{table_refusal}
 use Rattle.tdf_tables.specs.Laws.{LineIsOne, TableIsOne, TableOrFault}
 use Rattle.tdf_tables.specs.Tables.{TableOf}
-use Rattle.tdf_cli.specs.Outcome.{Outcome, note, measured, no_table, too_fine, is_sampled, is_measured, refused, run_outcome, accepted_text, status_of, stop_in, HasOutcome, usage, read_fault, too_long, faulty, too_late, has_run, is_checked, is_planned, is_loaded, load_end, WritesOutcome, HasOneOutcome}
+use Rattle.tdf_cli.specs.Outcome.{measured, no_table, too_fine, is_sampled, is_measured, accepted_text, HasOutcome, usage, read_fault, too_long, faulty, is_run, too_long_model, is_driven, is_checked, is_planned, is_loaded, load_end, WritesOutcome, HasOneOutcome}
 use Rattle.tdf_cli.specs.Status.{status_number}
 use Rattle.tdf_cli_words.specs.Words.{taken_of}
 use Rattle.tdf_cli.specs.declared.status.Status.{Status}
 use Rattle.tdf_cli.specs.declared.status.Status.TheVariants as status
 use Rattle.tdf_cli_words.specs.declared.asked.Settings.{Settings}
-use Rattle.tdf_cli_words.specs.declared.asked.Settings.TheVariants.{Run, Check, Plan, Load, Sample, Stats}
+use Rattle.tdf_cli_words.specs.declared.asked.Settings.TheVariants.{Run, Drive, Check, Plan, Load, Sample, Stats}
 use Rattle.tdf_bind_tables.specs.FlatTables.{FlatTablesOf}
 use Rattle.tdf_io.specs.Faults.{FaultsRose}
 use Rattle.tdf_dynamic_texts.specs.Plans.{PlanRows, accepted_line}
@@ -24,7 +35,7 @@ use Rattle.tdf_base.specs.declared.resolution.Resolution.{Resolution}
 use Rattle.tdf_sim.specs.Accepted.{IsAccepted}
 use Rattle.tdf_sim.specs.declared.sim.Sim.{Sim}
 use Rattle.tdf_sim.specs.FirstFault.{IsFirstFault, cluster_count}
-use Rattle.tdf_sim.specs.Laws.{AnswersRunAlike, FaultsAreOne, FaultOrAccepted, ModelsAreAlike, AreAlike, RunsAreAlike, RunAlike}
+use Rattle.tdf_sim.specs.Laws.{AnswersRunAlike, EarlyTextFaultOrFlat, EarlyTextFaultsAreOne, FaultsAreOne, FaultsOfTreesAreOne, FaultOrAccepted, ModelsAreAlike, AreAlike, RunsAreAlike, RunAlike, TreeFaultOrAccepted}
 use Rattle.tdf_sim.specs.PlanText.{clusters_text, plan_rows, plans_text}
 use Rattle.tdf_cli_load.specs.Text.{load_text}
 use Rattle.tdf_sim.specs.Ends.{Change, End, run_end, trace_of}
@@ -41,17 +52,25 @@ same_ran : (kind : TraceKind) (tree : PureTree) (a b : Sim) (ahead others : List
 same_ran kind tree a b ahead others end turns alike = λ i. record { status = status_of (alike.end i); out = alike.trace i; notes = alike.notes i }
 
 -- so have the runs of two models of one tree, whichever answers of their boundaries they are told
-module _ (runs : RunsAreAlike) (told : AnswersRunAlike) (kind : TraceKind) (turns : ℕ) (tree : PureTree) (a b : Sim) (kept : IsKept tree) (one_is : IsAccepted tree a) (other_is : IsAccepted tree b)
+module _ (runs : RunsAreAlike) (told : AnswersRunAlike) (asked : RunOptions) (tree : PureTree) (a b : Sim) (kept : IsKept tree) (one_is : IsAccepted tree a) (other_is : IsAccepted tree b)
     (one other : Outcome) where
-  same_end : (end : Option ℕ) → OfEnd kind turns tree a end one → OfEnd kind turns tree b end other → one ≡ other
+  same_end : (end : Option ℕ) → OfEnd asked tree a end one → OfEnd asked tree b end other → one ≡ other
   same_end None s t = s ∙ sym t
   same_end (Some end) s t =
-      let both = runs tree a b kept one_is other_is s.0 kind end turns in
-      s.2 ∙ same_ran kind tree a b s.0 s.0 end turns both.alike
-      ∙ same_ran kind tree b b s.0 t.0 end turns (told tree b kept other_is s.0 t.0 kind end turns (both.answers s.1) t.1) ∙ sym t.2
+      let both = runs tree a b kept one_is other_is s.0 asked.kind end asked.turns in
+      s.2 ∙ same_ran asked.kind tree a b s.0 s.0 end asked.turns both.alike
+      ∙ same_ran asked.kind tree b b s.0 t.0 end asked.turns (told tree b kept other_is s.0 t.0 asked.kind end asked.turns (both.answers s.1) t.1) ∙ sym t.2
 
-  same_run : (stop : ℕ) → a.flat.resolution ≡ b.flat.resolution → OfAccepted (Run stop kind turns) tree a one → OfAccepted (Run stop kind turns) tree b other → one ≡ other
-  same_run stop unit s t = same_end (stop_in b.flat.resolution stop) (subst (λ (u : Resolution). OfEnd kind turns tree a (stop_in u stop) one) unit s) t
+  same_run : a.flat.resolution ≡ b.flat.resolution → OfEnd asked tree a (stop_in a.flat.resolution asked.stop) one → OfEnd asked tree b (stop_in b.flat.resolution asked.stop) other → one ≡ other
+  same_run unit s t = same_end (stop_in b.flat.resolution asked.stop) (subst (λ (u : Resolution). OfEnd asked tree a (stop_in u asked.stop) one) unit s) t
+
+-- a tree has one outcome of its run
+same_runs : ModelsAreAlike → RunsAreAlike → AnswersRunAlike → (asked : RunOptions) (tree : PureTree) (one other : Outcome) → IsKept tree
+    → HasRunOutcome asked tree one → HasRunOutcome asked tree other → one ≡ other
+same_runs models runs told asked tree one other kept h k =
+    let s = ran h in
+    let t = ran k in
+    same_run runs told asked tree s.0 t.0 kept s.1 t.1 one other (models tree s.0 t.0 kept s.1 t.1).unit s.2 t.2
 
 -- and the line on a run that is only measured
 same_line : (size : ℕ) (tree : PureTree) (a b : Sim) (ahead others : List (List Change)) (end : ℕ) → RunAlike tree a b ahead others Table end usual_turns
@@ -84,7 +103,8 @@ written out notes = record { status = status.Done; out = out; notes = notes }
 same_accepted : RunsAreAlike → AnswersRunAlike → (job : Settings) (tree : PureTree) (a b : Sim) (one other : Outcome) → IsKept tree → IsAccepted tree a → IsAccepted tree b → AreAlike a b
     → OfAccepted job tree a one → OfAccepted job tree b other → one ≡ other
 unfolding written
-same_accepted runs told (Run stop kind turns) tree a b one other kept one_is other_is alike s t = same_run runs told kind turns tree a b kept one_is other_is one other stop alike.unit s t
+same_accepted runs told (Run asked) tree a b one other kept one_is other_is alike s t = absurd s
+same_accepted runs told (Drive asked) tree a b one other kept one_is other_is alike s t = absurd s
 same_accepted runs told Check tree a b one other kept one_is other_is alike s t = s ∙ ap (λ notes. written (canon tree) notes) (same_note a b alike) ∙ sym t
 same_accepted runs told Plan tree a b one other kept one_is other_is alike s t =
     s ∙ ap (λ notes. written (plans_text a) notes) (same_note a b alike) ∙ ap (λ out. written out (accepted_text b)) (same_plans a b alike) ∙ sym t
@@ -98,14 +118,28 @@ ended_otherwise (ending.Reached time turns) is = absurd cc
 ended_otherwise (ending.Stopped time cluster fault) is = absurd cc
 ended_otherwise (ending.Spent time) is = absurd cc
 
+run_failed : {asked : RunOptions} {tree : PureTree} {o : Outcome} → HasRunOutcome asked tree o → ¬ (status_number o.status ≡ status_number status.ReadFault)
+run_failed (too_late sound late) is = absurd cc
+run_failed {asked = asked} {tree = tree} (has_run {end = end} {sim = sim} sound soon ahead answers) is =
+    ended_otherwise (run_end tree sim.flat sim.firsts.items ahead end asked.turns) is
+
+driven_failed : {asked : RunOptions} {model bytes : List ℕ} {o : Outcome} → HasDrivenOutcome asked model bytes o → ¬ (status_number o.status ≡ status_number status.ReadFault)
+driven_failed (early first) is = absurd cc
+driven_failed (no_stimulus spells flat first) is = absurd cc
+driven_failed (too_many parts many) is = absurd cc
+driven_failed (long_cell parts few long) is = absurd cc
+driven_failed (off_time parts few short off) is = absurd cc
+driven_failed (driven_faulty parts fine first) is = absurd cc
+driven_failed (driven_run parts fine run) is = run_failed run is
+
 read_failed : {r : Reading} {o : Outcome} → HasOutcome r o → status_number o.status ≡ status_number status.ReadFault → r ≡ ReadFault
 read_failed usage is = absurd cc
 read_failed read_fault is = refl
 read_failed too_long is = absurd cc
 read_failed (faulty model first) is = absurd cc
-read_failed (too_late spells sound late) is = absurd cc
-read_failed (has_run {turns = turns} {end = end} {tree = tree} {sim = sim} spells sound early ahead answers) is =
-    absurd (ended_otherwise (run_end tree sim.flat sim.firsts.items ahead end turns) is)
+read_failed (is_run spells run) is = absurd (run_failed run is)
+read_failed (too_long_model long) is = absurd cc
+read_failed (is_driven short has) is = absurd (driven_failed has is)
 read_failed (is_checked spells sound) is = absurd cc
 read_failed (is_planned spells sound) is = absurd cc
 read_failed (is_loaded {tree = tree} {sim = sim} spells sound ahead answers) is =
@@ -129,7 +163,8 @@ some_job : (one other : Settings) (o : Option Settings) → o ≡ Some one → o
 some_job one other o s t = cc
 
 module _ (once : FaultsAreOne) (apart : FaultOrAccepted) (models : ModelsAreAlike) (runs : RunsAreAlike) (told : AnswersRunAlike)
-    (table_once : TableIsOne) (line_once : LineIsOne) (tables_apart : TableOrFault) where
+    (table_once : TableIsOne) (line_once : LineIsOne) (tables_apart : TableOrFault)
+    (early_once : EarlyTextFaultsAreOne) (early_apart : EarlyTextFaultOrFlat) (tree_once : FaultsOfTreesAreOne) (tree_apart : TreeFaultOrAccepted) where
   -- a text with a fault is not accepted
   not_both : (text : List ℕ) (fault : Fault) (tree : PureTree) (sim : Sim) → IsFirstFault text fault → SpellsText text tree → IsAccepted tree sim → ⊥
   not_both text fault tree sim is spells accepted = apart text fault sim is (record { tree = tree; spelled = spells; accepted = accepted })
@@ -145,6 +180,49 @@ module _ (once : FaultsAreOne) (apart : FaultOrAccepted) (models : ModelsAreAlik
       (models s.0 s.1 t.1 (text_keeps s.2) s.3 other_sound)
       s.4 (subst (λ (x : PureTree). OfAccepted job x t.1 other) same t.4)
 
+  same_run_text : (asked : RunOptions) (text : List ℕ) (one other : Outcome) → OfRunText asked text one → OfRunText asked text other → one ≡ other
+  same_run_text asked text one other (inl s) (inl t) = s.2 ∙ ap refused (once text s.0 t.0 s.1 t.1) ∙ sym t.2
+  same_run_text asked text one other (inl s) (inr t) = let own = run_accepted t.2 in absurd (not_both text s.0 t.0 own.0 s.1 t.1 own.1)
+  same_run_text asked text one other (inr s) (inl t) = let own = run_accepted s.2 in absurd (not_both text t.0 s.0 own.0 t.1 s.1 own.1)
+  same_run_text asked text one other (inr s) (inr t) =
+      same_runs models runs told asked s.0 one other (text_keeps s.1) s.2 (subst (λ (x : PureTree). HasRunOutcome asked x other) (same_tree text s.0 t.0 s.1 t.1) t.2)
+
+  -- the stages of `drive`, from the last one
+  same_driven_tree : (lines : List ℕ) (asked : RunOptions) (tree : PureTree) (one other : Outcome) → IsKept tree → HasTreeOutcome lines asked tree one → HasTreeOutcome lines asked tree other
+      → one ≡ other
+  same_driven_tree lines asked tree one other kept (inl f) t = f.2 ∙ sym (faulty_only lines asked tree tree_apart kept tree_once f.0 f.1 other t)
+  same_driven_tree lines asked tree one other kept (inr s) t =
+      let own = run_accepted s.1 in
+      let run = accepted_runs lines asked tree tree_apart kept own.0 own.1 other t in
+      s.2 ∙ ap (behind lines) (same_runs models runs told asked tree s.0 run.0 kept s.1 run.1) ∙ sym run.2
+
+  same_looked : (many : Bool) (long off : Option ℕ) (Has : Outcome → Type 0) (one other : Outcome) → (Has one → Has other → one ≡ other)
+      → HasLookedAt many long off Has one → HasLookedAt many long off Has other → one ≡ other
+  same_looked true long off Has one other same s t = s ∙ sym t
+  same_looked false (Some line) off Has one other same s t = s ∙ sym t
+  same_looked false None (Some line) Has one other same s t = s ∙ sym t
+  same_looked false None None Has one other same s t = same s t
+
+  same_stimulus_text : (asked : RunOptions) (model : List ℕ) (tree : PureTree) (bytes : List ℕ) (one other : Outcome) → length model ≤ longest_text → SpellsText model tree
+      → HasTextOutcome asked tree bytes one → HasTextOutcome asked tree bytes other → one ≡ other
+  same_stimulus_text asked model tree bytes one other short spells (inl f) t = f.2 ∙ sym (no_table_only asked tree bytes tables_apart line_once f.0 f.1 other t)
+  same_stimulus_text asked model tree bytes one other short spells (inr s) t =
+      same_looked (has_too_many tree s.0) (long_line tree s.0) (off_line tree s.0) (HasDrivenTree asked tree s.0) one other
+      (λ x y. same_driven_tree (ignored_text (ignored_labels tree s.0)) asked (driven_tree tree s.0) one other (stimulus_kept model tree s.0 short spells (text_keeps spells) s.1.table x.0) x.1 y.1)
+      s.2 (text_from asked tree bytes tables_apart table_once s.0 s.1 other t)
+
+  of_driven : (asked : RunOptions) (model bytes : List ℕ) (one other : Outcome) → length model ≤ longest_text → OfDriven asked model bytes one → HasDrivenOutcome asked model bytes other
+      → one ≡ other
+  of_driven asked model bytes one other short (inl f) t = f.2 ∙ sym (early_only asked model bytes early_apart early_once f.0 f.1 other t)
+  of_driven asked model bytes one other short (inr s) t =
+      same_stimulus_text asked model s.0 bytes one other short s.1 s.3 (driven_from asked model bytes early_apart s.0 s.1 s.2 other t)
+
+  same_stimulus : (asked : RunOptions) (text : List ℕ) (one other : Outcome) → OfStimulus asked text one → OfStimulus asked text other → one ≡ other
+  same_stimulus asked text one other (inl s) (inl t) = s.1 ∙ sym t.1
+  same_stimulus asked text one other (inl s) (inr t) = absurd (omega (arith, s.0, t.0))
+  same_stimulus asked text one other (inr s) (inl t) = absurd (omega (arith, s.0, t.0))
+  same_stimulus asked text one other (inr s) (inr t) = of_driven asked (model_part text) (table_part text) one other s.0 (seen_driven s.1) t.1
+
   same_table : (text : List ℕ) (of : TableOf → Outcome) (one other : Outcome) → OfTable text of one → OfTable text of other → one ≡ other
   same_table text of one other (inl s) (inl t) = s.2 ∙ ap (λ line. note status.Refused (table_refusal line)) (line_once text s.0 t.0 s.1 t.1) ∙ sym t.2
   same_table text of one other (inl s) (inr t) = absurd (tables_apart text t.0 s.0 t.1 s.1)
@@ -152,7 +230,8 @@ module _ (once : FaultsAreOne) (apart : FaultOrAccepted) (models : ModelsAreAlik
   same_table text of one other (inr s) (inr t) = s.2 ∙ ap of (table_once text s.0 t.0 s.1 t.1) ∙ sym t.2
 
   same_job : (job : Settings) (text : List ℕ) (one other : Outcome) → OfJob job text one → OfJob job text other → one ≡ other
-  same_job (Run stop kind turns) text one other s t = same_text (Run stop kind turns) text one other s t
+  same_job (Run asked) text one other s t = same_run_text asked text one other s t
+  same_job (Drive asked) text one other s t = same_stimulus asked text one other s t
   same_job Check text one other s t = same_text Check text one other s t
   same_job Plan text one other s t = same_text Plan text one other s t
   same_job (Load seed size) text one other s t = same_text (Load seed size) text one other s t
@@ -188,7 +267,8 @@ few_read text given (Some left) (Some rest) told gave =
 
 -- a job that reads its text has read it
 has_read : (job : Settings) (text : List ℕ) (old new : Option (List ℕ)) → reads_text job ≡ true → ComesFrom job text old new → Consumes old new text × IsAtEnd new
-has_read (Run stop kind turns) text old new reads comes = comes
+has_read (Run asked) text old new reads comes = comes
+has_read (Drive asked) text old new reads comes = comes
 has_read Check text old new reads comes = comes
 has_read Plan text old new reads comes = comes
 has_read (Load seed size) text old new reads comes = absurd cc

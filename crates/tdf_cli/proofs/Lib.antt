@@ -1,3 +1,6 @@
 pub mod Complete
+pub mod Driven
+pub mod FewNames
 pub mod Outcomes
+pub mod PartCounts
 pub mod Seen

@@ -1,25 +1,31 @@
 -- How what the steps wrote makes an outcome.
-use Rattle.std.proofs.Common.{◌≡◌, ℕ, Bool, true, false, refl, List, [], Option, Some, Result, Ok, Err, IfOk, OnOk, OnErr, inl, inr, sym, ap, ◌∙◌, subst, append_assoc, append-nil}
+use Rattle.std.proofs.Common.{◌≡◌, ℕ, ◌<◌, ◌≤◌, Bool, length, arith, codes, true, false, refl, List, [], Option, Some, None, Result, Ok, Err, IfOk, OnOk, OnErr, inl, inr, sym, ap, ◌∙◌, subst, append_assoc, append-nil}
 use Rattle.std.specs.Io.KnownBytes.{Appends}
 use Rattle.std.specs.Prelude.{string_bytes}
 use Rattle.std.proofs.KnownBytes.{Appends-nil}
 use Rattle.tdf_lang_parser.specs.Refused.{SpellsText}
 use Rattle.tdf_cli.specs.Input.{Reading, BadWords, Text, TooLong, ReadFault, NoMemory}
-use Rattle.tdf_cli.proofs.Seen.{OfAccepted, OfEnd, OfText, same_tree, seen}
-use Rattle.tdf_cli.specs.Outcome.{Outcome, note, run_outcome, status_of, stop_in, HasOneOutcome, HasOutcome, usage, read_fault, too_long, faulty, too_late, has_run, is_checked, is_planned, is_loaded, no_table, too_fine, is_sampled, is_measured, load_end, load_line, loaded, turns_taken, WritesOutcome, WritesFrontOf, WritesNothingOrFront}
+use Rattle.tdf_cli.proofs.Seen.{OfEnd, OfRun, OfRunText, OfStimulus, ran, same_tree, seen}
+use Rattle.tdf_base.specs.Limits.{longest_text}
+use Rattle.tdf_cli.specs.Driven.{HasDrivenOutcome}
+use Rattle.tdf_cli.specs.Outcome.{HasOneOutcome, HasOutcome, usage, read_fault, too_long, faulty, is_run, too_long_model, is_driven, is_checked, is_planned, is_loaded, no_table, too_fine, is_sampled, is_measured, load_end, load_line, loaded, turns_taken, WritesOneOf, WritesOutcome, WritesFrontOf, WritesNothingOrFront}
+use Rattle.tdf_cli.specs.Parts.{model_part, table_part}
+use Rattle.tdf_cli.specs.Runs.{HasRunOutcome, Outcome, note, run_outcome, status_of, stop_in, too_late, has_run}
+use Rattle.tdf_cli.specs.machine.Stages.{WritesOf}
+use Rattle.tdf_cli_words.specs.declared.asked.RunOptions.{RunOptions}
+use Rattle.tdf_lang_tree.specs.Kept.{IsKept}
 use Rattle.tdf_sim.specs.Accepted.{IsAccepted}
 use Rattle.tdf_sim.specs.declared.sim.Sim.{Sim}
 use Rattle.tdf_cli.specs.declared.status.Status.{Status}
-use Rattle.tdf_cli.specs.declared.status.Status.TheVariants.{Done}
+use Rattle.tdf_cli.specs.declared.status.Status.TheVariants.{Done, StopTooLong}
 use Rattle.tdf_cli.specs.declared.jobs.Texts.{Texts}
-use Rattle.tdf_cli_words.specs.declared.asked.Settings.TheVariants.{Run, Check, Plan, Load, Sample}
+use Rattle.tdf_cli_words.specs.declared.asked.Settings.TheVariants.{Run, Drive, Check, Plan, Load, Sample}
 use Rattle.tdf_cli.specs.declared.measure.Measurement.{Measurement}
 use Rattle.tdf_cli.specs.machine.Texts.{IsCheckText, IsMeasured, IsPlanText}
 use Rattle.tdf_lang_printer.specs.Canon.{canon}
 use Rattle.tdf_sim.specs.PlanText.{plans_text}
 use Rattle.tdf_sim.specs.Laws.{FaultOrAccepted, ModelsAreAlike, RunsAreAlike}
 use Rattle.tdf_io.proofs.Api.{front_none}
-use Rattle.tdf_lang_parser.proofs.Api.{text_keeps}
 use Rattle.tdf_io.specs.Bytes.{AppendsFront, WritesText}
 use Rattle.tdf_io.specs.declared.writing.SinkErr.{SinkErr}
 use Rattle.tdf_sim.specs.Ends.{Change, End, HaveAnswers, run_end, run_note, trace_of}
@@ -30,7 +36,6 @@ use Rattle.tdf_sampling.specs.declared.asked.Choice.{Choice}
 use Rattle.tdf_tables.specs.Tables.{SpellsTable, TableOf, table_text}
 use Rattle.tdf_base.specs.declared.memory.Memory.{Memory}
 use Rattle.tdf_cli_words.specs.Jobs.{usual_turns}
-use Rattle.tdf_trace_rows.specs.declared.kinds.TraceKind.{TraceKind}
 use Rattle.tdf_trace_rows.specs.declared.kinds.TraceKind.TheVariants.{Table}
 
 -- being out of memory while the text is read has no outcome
@@ -43,8 +48,9 @@ has_some usage = tt
 has_some read_fault = tt
 has_some too_long = tt
 has_some (faulty model is) = tt
-has_some (too_late spells sound is) = tt
-has_some (has_run spells sound is ahead answers) = tt
+has_some (is_run spells run) = tt
+has_some (too_long_model long) = tt
+has_some (is_driven short has) = tt
 has_some (is_checked spells sound) = tt
 has_some (is_planned spells sound) = tt
 has_some (is_loaded spells sound ahead answers) = tt
@@ -53,7 +59,7 @@ has_some (too_fine spells is) = tt
 has_some (is_sampled spells is) = tt
 has_some (is_measured spells) = tt
 
-front_of : (r : Reading) (a b c d : Option (List ℕ)) → HasSome r → WritesFrontOf r a b c d → WritesNothingOrFront r a b c d
+front_of : (r : Reading) (a b c d : Option (List ℕ)) → HasSome r → WritesFrontOf (HasOutcome r) a b c d → WritesNothingOrFront r a b c d
 front_of BadWords a b c d some w = inr w
 front_of (Text job text) a b c d some w = inr w
 front_of TooLong a b c d some w = inr w
@@ -107,46 +113,111 @@ written_part {taken = taken} {old = old} {new = new} {text = text} law (Err erro
     front_each law r (record { status = Done; out = text; notes = [] }) (taken old) (taken new) c c has wrote.part (front_none c [])
 
 -- a run
-module _ (kind : TraceKind) (text : List ℕ) (tree : PureTree) (sim : Sim) (stop turns end : ℕ) (a b c d : Option (List ℕ)) (spells : SpellsText text tree) (sound : IsAccepted tree sim)
-    (is : stop_in sim.flat.resolution stop ≡ Some end) where
-  pub ran_all : (ahead : List (List Change)) → HaveAnswers tree sim.flat sim.firsts.items ahead end turns
-      → (how : End) (answer : Status) → how ≡ run_end tree sim.flat sim.firsts.items ahead end turns → answer ≡ status_of how
-      → Appends a b (trace_of kind tree sim.flat sim.firsts.items ahead end turns) → Appends c d (run_note tree sim.flat sim.firsts.items ahead end turns)
-      → WritesOutcome (Text (Run stop kind turns) text) answer a b c d
+module _ (asked : RunOptions) (tree : PureTree) (sim : Sim) (end : ℕ) (a b c d : Option (List ℕ)) (sound : IsAccepted tree sim)
+    (is : stop_in sim.flat.resolution asked.stop ≡ Some end) where
+  pub ran_all : (ahead : List (List Change)) → HaveAnswers tree sim.flat sim.firsts.items ahead end asked.turns
+      → (how : End) (answer : Status) → how ≡ run_end tree sim.flat sim.firsts.items ahead end asked.turns → answer ≡ status_of how
+      → Appends a b (trace_of asked.kind tree sim.flat sim.firsts.items ahead end asked.turns) → Appends c d (run_note tree sim.flat sim.firsts.items ahead end asked.turns)
+      → WritesOneOf (HasRunOutcome asked tree) answer a b c d
   ran_all ahead answers how answer ended answered traced noted = record {
-    outcome = run_outcome kind tree sim ahead end turns;
-    has = has_run spells sound is ahead answers;
+    outcome = run_outcome asked.kind tree sim ahead end asked.turns;
+    has = has_run sound is ahead answers;
     answers = sym (answered ∙ ap status_of ended);
     out = traced;
     notes = noted;
   }
 
   -- front parts of what it writes, whichever answers of its boundaries it is told, are front parts of the texts of each outcome
-  module _ (apart : FaultOrAccepted) (models : ModelsAreAlike) (runs : RunsAreAlike)
-      (traced : (ahead : List (List Change)) → HaveAnswers tree sim.flat sim.firsts.items ahead end turns → AppendsFront a b (trace_of kind tree sim.flat sim.firsts.items ahead end turns))
-      (noted : (ahead : List (List Change)) → HaveAnswers tree sim.flat sim.firsts.items ahead end turns → AppendsFront c d (run_note tree sim.flat sim.firsts.items ahead end turns)) where
+  module _ (kept : IsKept tree) (models : ModelsAreAlike) (runs : RunsAreAlike)
+      (traced : (ahead : List (List Change)) → HaveAnswers tree sim.flat sim.firsts.items ahead end asked.turns
+      → AppendsFront a b (trace_of asked.kind tree sim.flat sim.firsts.items ahead end asked.turns))
+      (noted : (ahead : List (List Change)) → HaveAnswers tree sim.flat sim.firsts.items ahead end asked.turns
+      → AppendsFront c d (run_note tree sim.flat sim.firsts.items ahead end asked.turns)) where
     -- of another model of the tree
-    front_at : (other : Sim) (o : Outcome) → IsAccepted tree other → OfEnd kind turns tree other (Some end) o → AppendsFront a b o.out × AppendsFront c d o.notes
+    front_at : (other : Sim) (o : Outcome) → IsAccepted tree other → OfEnd asked tree other (Some end) o → AppendsFront a b o.out × AppendsFront c d o.notes
     front_at other o fine of =
-        let both = runs tree other sim (text_keeps spells) fine sound of.0 kind end turns in
+        let both = runs tree other sim kept fine sound of.0 asked.kind end asked.turns in
         let own = both.answers of.1 in (
           subst (λ (t : List ℕ). AppendsFront a b t) (sym both.alike.trace ∙ ap (λ (x : Outcome). x.out) (sym of.2)) (traced of.0 own),
           subst (λ (t : List ℕ). AppendsFront c d t) (sym both.alike.notes ∙ ap (λ (x : Outcome). x.notes) (sym of.2)) (noted of.0 own),
         )
 
-    front_here : (other : Sim) (o : Outcome) → IsAccepted tree other → OfAccepted (Run stop kind turns) tree other o → AppendsFront a b o.out × AppendsFront c d o.notes
-    front_here other o fine of =
-        let early : stop_in other.flat.resolution stop ≡ Some end = ap (λ (unit : Resolution). stop_in unit stop) (models tree other sim (text_keeps spells) fine sound).unit ∙ is in
-        front_at other o fine (subst (λ (e : Option ℕ). OfEnd kind turns tree other e o) early of)
+    front_by : (o : Outcome) → OfRun asked tree o → AppendsFront a b o.out × AppendsFront c d o.notes
+    front_by o of =
+        let early : stop_in of.0.flat.resolution asked.stop ≡ Some end =
+        ap (λ (unit : Resolution). stop_in unit asked.stop) (models tree of.0 sim kept of.1 sound).unit ∙ is in
+        front_at of.0 o of.1 (subst (λ (e : Option ℕ). OfEnd asked tree of.0 e o) early of.2)
 
-    front_by : (o : Outcome) → OfText (Run stop kind turns) text o → AppendsFront a b o.out × AppendsFront c d o.notes
-    front_by o (inl f) = absurd (apart text f.0 sim f.1 (record { tree = tree; spelled = spells; accepted = sound }))
-    front_by o (inr m) =
-        let same = same_tree text tree m.0 spells m.2 in
-        front_here m.1 o (subst (λ (x : PureTree). IsAccepted x m.1) same m.3) (subst (λ (x : PureTree). OfAccepted (Run stop kind turns) x m.1 o) same m.4)
+    pub ran_part : WritesFrontOf (HasRunOutcome asked tree) a b c d
+    ran_part = record { out = λ o has. (front_by o (ran has)).0; notes = λ o has. (front_by o (ran has)).1 }
 
-    pub ran_part : WritesNothingOrFront (Text (Run stop kind turns) text) a b c d
-    ran_part = inr (record { out = λ o has. (front_by o (seen has)).0; notes = λ o has. (front_by o (seen has)).1 })
+-- a stop that is too late is the one outcome of a run
+late_of : (asked : RunOptions) (tree : PureTree) (other : Sim) (end : Option ℕ) (o : Outcome) → end ≡ None → OfEnd asked tree other end o → o ≡ note StopTooLong (codes "stop too long\n")
+late_of asked tree other None o none of = of
+late_of asked tree other (Some end) o none of = absurd cc
+
+module _ (asked : RunOptions) (tree : PureTree) (sim : Sim) (kept : IsKept tree) (models : ModelsAreAlike) (sound : IsAccepted tree sim) (late : stop_in sim.flat.resolution asked.stop ≡ None) where
+  late_by : (o : Outcome) → OfRun asked tree o → o ≡ note StopTooLong (codes "stop too long\n")
+  late_by o of = late_of asked tree of.0 (stop_in of.0.flat.resolution asked.stop) o
+      (ap (λ (unit : Resolution). stop_in unit asked.stop) (models tree of.0 sim kept of.1 sound).unit ∙ late) of.2
+
+  pub late_all : {S : Type 0} {taken : S → Option (List ℕ)} {faults : S → ℕ} {old new : S} (result : Result Status SinkErr) (a : Option (List ℕ)) → IfOk result (λ s. s ≡ StopTooLong)
+      → WritesText taken faults old new (codes "stop too long\n") result → IfOk result (λ s. WritesOneOf (HasRunOutcome asked tree) s a a (taken old) (taken new))
+  late_all (Ok s) a is wrote = record {
+    outcome = note StopTooLong (codes "stop too long\n");
+    has = too_late sound late;
+    answers = sym is;
+    out = Appends-nil a;
+    notes = wrote.all;
+  }
+  late_all (Err error) a is wrote = tt
+
+  pub late_part : {S : Type 0} {taken : S → Option (List ℕ)} {faults : S → ℕ} {old new : S} (result : Result Status SinkErr) (a : Option (List ℕ))
+      → WritesText taken faults old new (codes "stop too long\n") result → OnErr result (WritesFrontOf (HasRunOutcome asked tree) a a (taken old) (taken new))
+  late_part (Ok s) a wrote = tt
+  late_part {taken = taken} {old = old} {new = new} (Err error) a wrote = record {
+    out = λ o has. subst (λ (x : Outcome). AppendsFront a a x.out) (sym (late_by o (ran has))) (front_none a []);
+    notes = λ o has. subst (λ (x : Outcome). AppendsFront (taken old) (taken new) x.notes) (sym (late_by o (ran has))) wrote.part;
+  }
+
+-- the same for each text that spells the tree
+run_text_from : (asked : RunOptions) (text : List ℕ) (tree : PureTree) (sim : Sim) → FaultOrAccepted → SpellsText text tree → IsAccepted tree sim → (o : Outcome) → OfRunText asked text o
+    → HasRunOutcome asked tree o
+run_text_from asked text tree sim apart spells sound o (inl f) = absurd (apart text f.0 sim f.1 (record { tree = tree; spelled = spells; accepted = sound }))
+run_text_from asked text tree sim apart spells sound o (inr run) = subst (λ (x : PureTree). HasRunOutcome asked x o) (same_tree text tree run.0 spells run.1) run.2
+
+pub run_all : (result : Result Status SinkErr) (asked : RunOptions) (text : List ℕ) (tree : PureTree) (a b c d : Option (List ℕ)) → SpellsText text tree
+    → IfOk result (λ s. WritesOneOf (HasRunOutcome asked tree) s a b c d) → IfOk result (λ s. WritesOutcome (Text (Run asked) text) s a b c d)
+run_all (Ok s) asked text tree a b c d spells w = record { outcome = w.outcome; has = is_run spells w.has; answers = w.answers; out = w.out; notes = w.notes }
+run_all (Err error) asked text tree a b c d spells w = tt
+
+pub run_part : (result : Result Status SinkErr) (asked : RunOptions) (text : List ℕ) (tree : PureTree) (sim : Sim) (a b c d : Option (List ℕ)) → FaultOrAccepted → SpellsText text tree
+    → IsAccepted tree sim → OnErr result (WritesFrontOf (HasRunOutcome asked tree) a b c d) → OnErr result (WritesNothingOrFront (Text (Run asked) text) a b c d)
+run_part (Ok s) asked text tree sim a b c d apart spells sound w = tt
+run_part (Err error) asked text tree sim a b c d apart spells sound w = inr (record {
+  out = λ o has. w.out o (run_text_from asked text tree sim apart spells sound o (seen has));
+  notes = λ o has. w.notes o (run_text_from asked text tree sim apart spells sound o (seen has));
+})
+
+-- the model and the table of a text
+stimulus_from : (asked : RunOptions) (text : List ℕ) → length (model_part text) ≤ longest_text → (o : Outcome) → OfStimulus asked text o
+    → HasDrivenOutcome asked (model_part text) (table_part text) o
+stimulus_from asked text short o (inl f) = absurd (omega (arith, f.0, short))
+stimulus_from asked text short o (inr has) = has.1
+
+pub driven_all : (result : Result Status SinkErr) (asked : RunOptions) (text : List ℕ) (a b c d : Option (List ℕ)) → length (model_part text) ≤ longest_text
+    → WritesOf (HasDrivenOutcome asked (model_part text) (table_part text)) result a b c d → IfOk result (λ s. WritesOutcome (Text (Drive asked) text) s a b c d)
+driven_all (Ok s) asked text a b c d short w = record { outcome = w.outcome; has = is_driven short w.has; answers = w.answers; out = w.out; notes = w.notes }
+driven_all (Err error) asked text a b c d short w = tt
+
+pub driven_part : (result : Result Status SinkErr) (asked : RunOptions) (text : List ℕ) (a b c d : Option (List ℕ)) → length (model_part text) ≤ longest_text
+    → WritesOf (HasDrivenOutcome asked (model_part text) (table_part text)) result a b c d → OnErr result (WritesNothingOrFront (Text (Drive asked) text) a b c d)
+driven_part (Ok s) asked text a b c d short w = tt
+driven_part (Err error) asked text a b c d short (inl kept) = inl kept
+driven_part (Err error) asked text a b c d short (inr w) = inr (record {
+  out = λ o has. w.out o (stimulus_from asked text short o (seen has));
+  notes = λ o has. w.notes o (stimulus_from asked text short o (seen has));
+})
 
 -- what holds for each text of a table
 pub each_table_ok : {T E : Type 0} (result : Result T E) (table : TableOf) (P : List ℕ → T → Type 0) → ((text : List ℕ) → SpellsTable text table → IfOk result (P text))

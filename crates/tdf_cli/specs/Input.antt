@@ -11,7 +11,7 @@ use Rattle.tdf_io.specs.Faults.{FaultsRose}
 use Rattle.tdf_cli_words.specs.Jobs.{IsWithin}
 use Rattle.tdf_cli_words.specs.Words.{taken_of}
 use Rattle.tdf_cli_words.specs.declared.asked.Settings.{Settings}
-use Rattle.tdf_cli_words.specs.declared.asked.Settings.TheVariants.{Load, Sample, Stats}
+use Rattle.tdf_cli_words.specs.declared.asked.Settings.TheVariants.{Drive, Load, Sample, Stats}
 use Rattle.tdf_tables.specs.Tables.{longest_table}
 
 pub data Reading : Type 0 where
@@ -33,8 +33,13 @@ reading input.TooLong = TooLong
 reading input.ReadFault = ReadFault
 reading input.NoMemory = NoMemory
 
--- the most bytes that a job reads: those of a model, or of a table
+-- bytes of the text of `drive` that is read
+abbrev pub longest_stimulus : ℕ
+longest_stimulus = 4194304
+
+-- the most bytes that a job reads: those of a model, of a table, or of both
 abbrev pub most_bytes : Settings → ℕ
+most_bytes (Drive asked) = longest_stimulus
 most_bytes (Sample choice) = longest_table
 most_bytes (Stats window) = longest_table
 most_bytes _ = longest_text
@@ -46,6 +51,7 @@ bytes_for (Some job) = most_bytes job
 
 -- whether the text of a job is a model
 abbrev pub is_model_job : Settings → Bool
+is_model_job (Drive asked) = false
 is_model_job (Sample choice) = false
 is_model_job (Stats window) = false
 is_model_job _ = true

@@ -2,9 +2,12 @@ pub use Rattle.tdf_base.specs.Fault
 pub use Rattle.tdf_lang_parser.specs.Refused
 pub use Rattle.tdf_io.specs.Bytes
 pub use Rattle.tdf_io.specs.Faults
+pub mod Driven
 pub mod Input
 pub mod Outcome
+pub mod Parts
 pub mod Refusals
+pub mod Runs
 pub mod Status
 pub mod Tables
 pub mod machine

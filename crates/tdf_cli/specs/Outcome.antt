@@ -1,16 +1,18 @@
--- The outcome of the command: what it answers, and what it writes on its output and on its notes.
+-- The outcome of the command, by what came of its words and of reading.
 -- Source: own.
 use Rattle.std.specs.Fmt.{decimal}
 use Rattle.std.specs.List.{count_by}
-use Rattle.std.specs.Prelude.{ℕ, ◌≡◌, ◌⊎◌, ◌*◌, ◌-◌, ◌++◌, true, false, List, [], Option, Some, None, codes, if◌then◌else◌, length, nat_eq, nat_lt}
+use Rattle.std.specs.Prelude.{ℕ, ◌≡◌, ◌⊎◌, ◌<◌, ◌≤◌, ◌-◌, ◌++◌, true, false, List, [], Option, codes, length, nat_eq}
 use Rattle.std.specs.Io.KnownBytes.{Appends, Keeps}
-use Rattle.tdf_base.specs.Limits.{time_end}
+use Rattle.tdf_base.specs.Limits.{longest_text}
 use Rattle.tdf_base.specs.declared.faults.Fault.{Fault}
 use Rattle.tdf_base.specs.declared.resolution.Resolution.{Resolution}
 use Rattle.tdf_base.specs.declared.resolution.Resolution.TheVariants.{Ps, Fs}
 use Rattle.tdf_lang_parser.specs.Refused.{SpellsText}
+use Rattle.tdf_cli.specs.Driven.{HasDrivenOutcome}
 use Rattle.tdf_cli.specs.Input.{Reading, BadWords, Text, TooLong, ReadFault, NoMemory, is_model_job, is_table_job}
-use Rattle.tdf_cli.specs.Refusals.{refusal_text}
+use Rattle.tdf_cli.specs.Parts.{model_part, table_part}
+use Rattle.tdf_cli.specs.Runs.{HasRunOutcome, Outcome, note, refused, status_of}
 use Rattle.tdf_cli.specs.Tables.{grid_refusal, table_refusal}
 use Rattle.tdf_sampling.specs.Choice.{chosen_table, is_too_fine}
 use Rattle.tdf_sampling.specs.Statistics.{stats_text}
@@ -20,7 +22,7 @@ use Rattle.tdf_tables.specs.Tables.{SpellsTable, TableOf, table_text}
 use Rattle.tdf_cli.specs.declared.status.Status.{Status}
 use Rattle.tdf_cli.specs.declared.status.Status.TheVariants as status
 use Rattle.tdf_io.specs.Bytes.{AppendsFront}
-use Rattle.tdf_sim.specs.Ends.{Change, End, HaveAnswers, run_end, run_note, trace_of}
+use Rattle.tdf_sim.specs.Ends.{Change, End, HaveAnswers, run_end, trace_of}
 use Rattle.tdf_dynamic_texts.specs.Plans.{accepted_line}
 use Rattle.tdf_lang_printer.specs.Canon.{canon}
 use Rattle.tdf_sim.specs.Ends as ending
@@ -30,44 +32,10 @@ use Rattle.tdf_sim.specs.FirstFault.{cluster_count, IsFirstFault}
 use Rattle.tdf_sim.specs.PlanText.{plans_text}
 use Rattle.tdf_lang_tree.specs.Pure.{PureTree}
 use Rattle.tdf_cli_words.specs.Jobs.{usual_turns}
+use Rattle.tdf_cli_words.specs.declared.asked.RunOptions.{RunOptions}
 use Rattle.tdf_cli_words.specs.declared.asked.Settings.{Settings}
-use Rattle.tdf_cli_words.specs.declared.asked.Settings.TheVariants.{Run, Check, Plan, Load, Sample, Stats}
-use Rattle.tdf_trace_rows.specs.declared.kinds.TraceKind.{TraceKind}
+use Rattle.tdf_cli_words.specs.declared.asked.Settings.TheVariants.{Run, Drive, Check, Plan, Load, Sample, Stats}
 use Rattle.tdf_trace_rows.specs.declared.kinds.TraceKind.TheVariants.{Table}
-
-pub record Outcome : Type 0 where
-  pub status : Status
-  pub out : List ℕ
-  pub notes : List ℕ
-
--- an outcome that only leaves a note
-abbrev pub note : Status → List ℕ → Outcome
-note status text = record { status = status; out = []; notes = text }
-
--- the text has a fault
-abbrev pub refused : Fault → Outcome
-refused fault = note status.Refused (refusal_text fault)
-
--- a stop, which the words say in ps, in counts of a resolution, where a run may have it
-abbrev pub stop_in : Resolution → ℕ → Option ℕ
-stop_in Ps stop = Some stop
-stop_in Fs stop = if nat_lt (stop * 1000) time_end then Some (stop * 1000) else None
-
--- the answer of a run that ended so
-abbrev pub status_of : End → Status
-status_of (ending.Reached time turns) = status.Done
-status_of (ending.Stopped time cluster fault) = status.Stopped
-status_of (ending.Spent time) = status.Spent
-
--- a run that ended, whichever way, with what is told of its boundaries; its stop is in counts of
--- the resolution
-abbrev pub run_outcome : TraceKind → PureTree → Sim → (ahead : List (List Change)) → (stop turns : ℕ)
-    → Outcome
-run_outcome kind tree sim ahead stop turns = record {
-  status = status_of (run_end tree sim.flat sim.firsts.items ahead stop turns);
-  out = trace_of kind tree sim.flat sim.firsts.items ahead stop turns;
-  notes = run_note tree sim.flat sim.firsts.items ahead stop turns;
-}
 
 -- the note of a model that was accepted: the number of its clusters
 abbrev pub accepted_text : Sim → List ℕ
@@ -132,15 +100,16 @@ pub data HasOutcome : Reading → Outcome → Type 0 where
   too_long : HasOutcome TooLong (note status.TooLong (codes "too long\n"))
   faulty : {job : Settings} {text : List ℕ} {fault : Fault} → is_model_job job ≡ true
       → IsFirstFault text fault → HasOutcome (Text job text) (refused fault)
-  too_late : {stop turns : ℕ} {kind : TraceKind} {text : List ℕ} {tree : PureTree} {sim : Sim}
-      → SpellsText text tree → IsAccepted tree sim → stop_in sim.flat.resolution stop ≡ None
-      → HasOutcome (Text (Run stop kind turns) text)
-      (note status.StopTooLong (codes "stop too long\n"))
-  has_run : {stop turns end : ℕ} {kind : TraceKind} {text : List ℕ} {tree : PureTree} {sim : Sim}
-      → SpellsText text tree → IsAccepted tree sim → stop_in sim.flat.resolution stop ≡ Some end
-      → (ahead : List (List Change))
-      → HaveAnswers tree sim.flat sim.firsts.items ahead end turns
-      → HasOutcome (Text (Run stop kind turns) text) (run_outcome kind tree sim ahead end turns)
+  is_run : {asked : RunOptions} {text : List ℕ} {tree : PureTree}
+      {outcome : Outcome} → SpellsText text tree → HasRunOutcome asked tree outcome
+      → HasOutcome (Text (Run asked) text) outcome
+  too_long_model : {asked : RunOptions} {text : List ℕ}
+      → longest_text < length (model_part text)
+      → HasOutcome (Text (Drive asked) text) (note status.TooLong (codes "too long\n"))
+  is_driven : {asked : RunOptions} {text : List ℕ} {outcome : Outcome}
+      → length (model_part text) ≤ longest_text
+      → HasDrivenOutcome asked (model_part text) (table_part text) outcome
+      → HasOutcome (Text (Drive asked) text) outcome
   is_checked : {text : List ℕ} {tree : PureTree} {sim : Sim} → SpellsText text tree
       → IsAccepted tree sim → HasOutcome (Text Check text) (checked tree sim)
   is_planned : {text : List ℕ} {tree : PureTree} {sim : Sim} → SpellsText text tree
@@ -161,25 +130,38 @@ pub data HasOutcome : Reading → Outcome → Type 0 where
   is_measured : {window : Option ℕ} {text : List ℕ} {table : TableOf} → SpellsTable text table
       → HasOutcome (Text (Stats window) text) (measured window table)
 
--- the answer and the bytes that both sinks gained are those of the outcome
-pub record WritesOutcome (r : Reading) (answer : Status) (out_old out_new notes_old notes_new : Option (List ℕ)) : Type 0 where
+-- the answer and the bytes that both sinks gained are those of one of these outcomes
+pub record WritesOneOf (Has : Outcome → Type 0) (answer : Status)
+    (out_old out_new notes_old notes_new : Option (List ℕ)) : Type 0 where
   pub outcome : Outcome
-  pub has : HasOutcome r outcome
+  pub has : Has outcome
   pub answers : outcome.status ≡ answer
   pub out : Appends out_old out_new outcome.out
   pub notes : Appends notes_old notes_new outcome.notes
 
--- both sinks gained front parts of the texts of each outcome
-pub record WritesFrontOf (r : Reading) (out_old out_new notes_old notes_new : Option (List ℕ)) : Type 0 where
-  pub out : (outcome : Outcome) → HasOutcome r outcome → AppendsFront out_old out_new outcome.out
-  pub notes : (outcome : Outcome) → HasOutcome r outcome
-      → AppendsFront notes_old notes_new outcome.notes
+-- both sinks gained front parts of the texts of each of these outcomes
+pub record WritesFrontOf (Has : Outcome → Type 0)
+    (out_old out_new notes_old notes_new : Option (List ℕ)) : Type 0 where
+  pub out : (outcome : Outcome) → Has outcome → AppendsFront out_old out_new outcome.out
+  pub notes : (outcome : Outcome) → Has outcome → AppendsFront notes_old notes_new outcome.notes
 
--- nothing was written, or, where the text could be read, both sinks gained front parts of the texts of its outcome, if it has one
-abbrev pub WritesNothingOrFront : Reading → (out_old out_new notes_old notes_new : Option (List ℕ)) → Type 0
+-- nothing was written, or both sinks gained front parts of the texts of each of these outcomes
+abbrev pub WritesNothingOrFrontOf : (Has : Outcome → Type 0)
+    → (out_old out_new notes_old notes_new : Option (List ℕ)) → Type 0
+WritesNothingOrFrontOf Has a b c d = (Keeps a b × Keeps c d) ⊎ WritesFrontOf Has a b c d
+
+-- of what comes of a reading
+abbrev pub WritesOutcome : Reading → (answer : Status)
+    → (out_old out_new notes_old notes_new : Option (List ℕ)) → Type 0
+WritesOutcome r answer a b c d = WritesOneOf (HasOutcome r) answer a b c d
+
+-- out of memory while the text was read: nothing was written
+abbrev pub WritesNothingOrFront : Reading
+    → (out_old out_new notes_old notes_new : Option (List ℕ)) → Type 0
 WritesNothingOrFront NoMemory a b c d = Keeps a b × Keeps c d
-WritesNothingOrFront r a b c d = (Keeps a b × Keeps c d) ⊎ WritesFrontOf r a b c d
+WritesNothingOrFront r a b c d = WritesNothingOrFrontOf (HasOutcome r) a b c d
 
 -- what comes of a reading has at most one outcome
 abbrev pub HasOneOutcome : Type 0
-HasOneOutcome = (r : Reading) (one other : Outcome) → HasOutcome r one → HasOutcome r other → one ≡ other
+HasOneOutcome = (r : Reading) (one other : Outcome)
+    → HasOutcome r one → HasOutcome r other → one ≡ other

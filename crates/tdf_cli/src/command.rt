@@ -2,7 +2,8 @@
 
 ghost use Rattle.std.specs.Prelude.{◌≡◌, ◌≢◌, ◌⊎◌, ◌≤◌, ℕ, List, Some, length, true};
 ghost use Rattle.tdf_cli.specs.Input.{AskToRead, InputIs, NoMemory, Reading, Text, most_bytes, reads_text};
-ghost use Rattle.tdf_cli.specs.Outcome.{HasOutcome, Outcome, WritesNothingOrFront, WritesOutcome};
+ghost use Rattle.tdf_cli.specs.Outcome.{HasOutcome, WritesNothingOrFront, WritesOutcome};
+ghost use Rattle.tdf_cli.specs.Runs.{Outcome};
 ghost use Rattle.tdf_cli.specs.Status.{no_memory, status_number, write_fault};
 ghost use Rattle.tdf_cli.specs.declared.status.Status.{Status};
 ghost use Rattle.tdf_cli.specs.declared.status.Status.TheVariants.{ReadFault};

@@ -13,6 +13,9 @@ use tdf_cli_words::{Settings, WordsErr, settings};
 use tdf_io::{LoadErr, Source, read_all};
 use tdf_tables::LONGEST_TABLE;
 
+/// The most bytes of the text of `drive` that is read.
+const LONGEST_STIMULUS: usize = 4_194_304;
+
 /// What came of the words and of reading the model.
 #[derive(Drop)]
 pub(crate) enum Input {
@@ -48,6 +51,7 @@ fn most_bytes(job: &Settings) -> usize
     ensures { result ≡ most_bytes job.now }
 {
     match job {
+        Settings::Drive(_) => LONGEST_STIMULUS,
         Settings::Sample(_) | Settings::Stats { .. } => LONGEST_TABLE,
         _ => LONGEST_TEXT,
     }

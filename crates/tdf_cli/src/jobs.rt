@@ -21,6 +21,7 @@ ghost use Rattle.tdf_cli_words.specs.declared.asked.Settings.TheVariants.{Check,
 ghost use Rattle.tdf_lang_tree.specs.Kept.{IsKept};
 ghost use Rattle.tdf_lang_tree.specs.Views.{pure_tree};
 
+use crate::drive::drive;
 use crate::input::Input;
 use crate::laws::law_one_outcome;
 use crate::measure::measure;
@@ -37,7 +38,7 @@ use tdf_io::{Sink, SinkErr, put_all};
 use tdf_lang_parser::parse;
 use tdf_lang_printer::push_tree;
 use tdf_lang_tree::Tree;
-use tdf_sim::{Sim, SimErr, elaborate_tree};
+use tdf_sim::{Sim, SimErr, elaborate_tree, law_first_fault};
 
 /// An output and a note.
 #[derive(Drop)]
@@ -187,13 +188,14 @@ fn do_accepted<O: Sink, N: Sink>(
     ensures counts { CountsTwoSinks why.Failed (O.faults out.old) (O.faults out.new)
         (N.faults notes.old) (N.faults notes.new) result }
 {
+    law_first_fault();
     match job {
-        Settings::Run { stop, kind, turns } => run(alloc, sim, stop, kind, turns, out, notes),
+        Settings::Run(asked) => run(alloc, sim, asked, out, notes),
         Settings::Check => check(alloc, tree, &sim, out, notes),
         Settings::Plan => plan(alloc, tree, &sim, out, notes),
         Settings::Load { size, .. } => measure(alloc, sim, size, out),
-        // These have no model.
-        Settings::Sample(_) | Settings::Stats { .. } => {
+        // These have other texts.
+        Settings::Drive(_) | Settings::Sample(_) | Settings::Stats { .. } => {
             drop(sim);
             Err(SinkErr::Memory)
         }
@@ -273,6 +275,7 @@ fn do_job<O: Sink, N: Sink>(
         (N.faults notes.old) (N.faults notes.new) result }
 {
     match job {
+        Settings::Drive(asked) => drive(alloc, text, asked, out, notes),
         Settings::Sample(choice) => sample(alloc, text, choice, out, notes),
         Settings::Stats { window } => stats(alloc, text, window, out, notes),
         _ => do_text(alloc, text, job, out, notes),

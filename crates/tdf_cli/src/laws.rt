@@ -2,7 +2,7 @@
 
 ghost use Rattle.tdf_cli.specs.Outcome.{HasOneOutcome};
 
-use tdf_sim::{law_first_fault, law_one_model, law_one_run};
+use tdf_sim::{law_early_fault, law_first_fault, law_one_model, law_one_run, law_tree_fault};
 use tdf_tables::law_tables;
 
 /// What comes of the words and of reading has at most one outcome.
@@ -10,6 +10,8 @@ pub fn law_one_outcome()
     ensures { HasOneOutcome }
 {
     law_first_fault();
+    law_early_fault();
+    law_tree_fault();
     law_one_model();
     law_one_run();
     law_tables();

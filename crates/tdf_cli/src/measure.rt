@@ -2,7 +2,8 @@
 
 ghost use Rattle.std.specs.Prelude.{◌≡◌, ◌<◌, ℕ, List, Option, IfOk, IsErrOf, OnErr, string_bytes};
 ghost use Rattle.tdf_cli.specs.Input.{Text};
-ghost use Rattle.tdf_cli.specs.Outcome.{WritesNothingOrFront, WritesOutcome, load_end, load_line, rows_below, status_of, turns_taken};
+ghost use Rattle.tdf_cli.specs.Outcome.{WritesNothingOrFront, WritesOutcome, load_end, load_line, rows_below, turns_taken};
+ghost use Rattle.tdf_cli.specs.Runs.{status_of};
 ghost use Rattle.tdf_cli.specs.machine.Texts.{IsMeasured};
 ghost use Rattle.tdf_sim.specs.Runs.{IsAcceptedTree, IsSomeAccepted};
 ghost use Rattle.tdf_base.specs.Limits.{time_end};

@@ -2,10 +2,11 @@
 
 ghost use Rattle.std.specs.Prelude.{◌≡◌, IfOk};
 ghost use Rattle.tdf_cli.specs.Refusals.{refusal_text};
+ghost use Rattle.tdf_cli.specs.Tables.{line_refusal};
 ghost use Rattle.tdf_cli.specs.declared.status.Status.TheVariants.{Refused};
 ghost use Rattle.tdf_io.specs.Bytes.{WritesText};
 
-use crate::refusals::push_refusal;
+use crate::refusals::{push_line_refusal, push_refusal};
 use crate::status::Status;
 use std::alloc::Global;
 use tdf_base::Fault;
@@ -31,6 +32,23 @@ pub(crate) fn refuse<N: Sink>(alloc: Global, notes: &mut N, fault: Fault) -> Res
     let pushed = push_refusal(&mut text, &fault);
     drop(fault);
     match pushed {
+        Ok(()) => noted(notes, &text, Status::Refused),
+        Err(_) => Err(SinkErr::Memory),
+    }
+}
+
+/// Notes a fault of a table, on a line.
+pub(crate) fn refuse_line<N: Sink>(
+    alloc: Global,
+    notes: &mut N,
+    word: &[u8],
+    line: u32,
+) -> Result<Status, SinkErr>
+    ensures status { IfOk result (λ s. s ≡ Refused) }
+    ensures writes { WritesText N.taken N.faults notes.old notes.new (line_refusal word.now line) result }
+{
+    let mut text = Vec::new(alloc);
+    match push_line_refusal(&mut text, word, line) {
         Ok(()) => noted(notes, &text, Status::Refused),
         Err(_) => Err(SinkErr::Memory),
     }

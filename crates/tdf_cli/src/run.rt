@@ -1,24 +1,21 @@
 //! The job `run`.
 
-ghost use Rattle.std.specs.Prelude.{◌≡◌, ◌*◌, ◌<◌, ℕ, List, None, Some, IfOk, IfSome, OnErr, if◌then◌else◌, nat_lt};
+ghost use Rattle.std.specs.Prelude.{◌≡◌, ◌*◌, ◌<◌, ℕ, None, Some, IfOk, IfSome, OnErr, if◌then◌else◌, nat_lt};
 ghost use Rattle.tdf_base.specs.Limits.{time_end};
-ghost use Rattle.tdf_lang_parser.specs.Refused.{SpellsText};
-ghost use Rattle.tdf_cli.specs.Input.{Text};
-ghost use Rattle.tdf_cli.specs.Outcome.{WritesNothingOrFront, WritesOutcome, status_of, stop_in};
+ghost use Rattle.tdf_cli.specs.Outcome.{WritesFrontOf, WritesOneOf};
+ghost use Rattle.tdf_cli.specs.Runs.{HasRunOutcome, status_of, stop_in};
 ghost use Rattle.tdf_io.specs.Faults.{CountsTwoSinks};
 ghost use Rattle.tdf_io.specs.declared.writing.SinkErr.TheVariants as why;
 ghost use Rattle.tdf_sim.specs.Runs.{IsAcceptedTree, IsSomeAccepted};
-ghost use Rattle.tdf_cli_words.specs.declared.asked.Settings.TheVariants.{Run};
 ghost use Rattle.tdf_lang_tree.specs.Pure.{PureTree};
 
-use crate::laws::law_one_outcome;
 use crate::notes::noted;
 use crate::status::Status;
 use std::alloc::Global;
 use tdf_base::{Resolution, TIME_END};
+use tdf_cli_words::RunOptions;
 use tdf_io::{Sink, SinkErr};
-use tdf_sim::{End, RunErr, Sim, law_first_fault, law_one_model, law_one_run};
-use tdf_trace_rows::TraceKind;
+use tdf_sim::{End, RunErr, Sim, law_one_model, law_one_run};
 
 /// A stop in fs, where a run may have it.
 fn in_femtoseconds(stop: u64) -> Option<u64>
@@ -58,27 +55,25 @@ pub(crate) fn status_of(end: &End) -> Status
 fn run_to<O: Sink, N: Sink>(
     alloc: Global,
     sim: Sim,
+    asked: RunOptions,
     end: u64,
-    kind: TraceKind,
-    turns: u64,
     out: &mut O,
     notes: &mut N,
 ) -> Result<Status, SinkErr>
     requires stop { end < time_end }
     requires accepted { IsSomeAccepted sim }
-    ensures all { (tree : PureTree) (text : List ℕ) (stop : ℕ) → SpellsText text tree → IsAcceptedTree tree sim → stop_in sim.flat.resolution stop ≡ Some end
-        → IfOk result (λ s. WritesOutcome (Text (Run stop kind turns) text) s
+    ensures all { (tree : PureTree) → IsAcceptedTree tree sim → stop_in sim.flat.resolution asked.stop ≡ Some end
+        → IfOk result (λ s. WritesOneOf (HasRunOutcome asked tree) s
         (O.taken out.old) (O.taken out.new) (N.taken notes.old) (N.taken notes.new)) }
-    ensures part { (tree : PureTree) (text : List ℕ) (stop : ℕ) → SpellsText text tree → IsAcceptedTree tree sim → stop_in sim.flat.resolution stop ≡ Some end
-        → OnErr result (WritesNothingOrFront (Text (Run stop kind turns) text)
+    ensures part { (tree : PureTree) → IsAcceptedTree tree sim → stop_in sim.flat.resolution asked.stop ≡ Some end
+        → OnErr result (WritesFrontOf (HasRunOutcome asked tree)
         (O.taken out.old) (O.taken out.new) (N.taken notes.old) (N.taken notes.new)) }
     ensures counts { CountsTwoSinks why.Failed (O.faults out.old) (O.faults out.new)
         (N.faults notes.old) (N.faults notes.new) result }
 {
-    law_first_fault();
     law_one_model();
     law_one_run();
-    match sim.run(alloc, end, turns, kind, out, notes) {
+    match sim.run(alloc, end, asked.turns, asked.kind, out, notes) {
         Ok(ran) => {
             let status = status_of(&ran.end);
             drop(ran);
@@ -89,28 +84,26 @@ fn run_to<O: Sink, N: Sink>(
     }
 }
 
-/// Runs a model that was accepted to a stop in ps, and answers how it ended; or notes that the stop is too late for its resolution.
+/// Runs a model that was accepted as it is asked for, and answers how it ended; or notes that the stop is too late for its resolution.
 pub(crate) fn run<O: Sink, N: Sink>(
     alloc: Global,
     sim: Sim,
-    stop: u64,
-    kind: TraceKind,
-    turns: u64,
+    asked: RunOptions,
     out: &mut O,
     notes: &mut N,
 ) -> Result<Status, SinkErr>
-    requires stop { stop < time_end }
+    requires stop { asked.stop < time_end }
     requires accepted { IsSomeAccepted sim }
-    ensures all { (tree : PureTree) (text : List ℕ) → SpellsText text tree → IsAcceptedTree tree sim → IfOk result (λ s. WritesOutcome (Text (Run stop kind turns) text) s
+    ensures all { (tree : PureTree) → IsAcceptedTree tree sim → IfOk result (λ s. WritesOneOf (HasRunOutcome asked tree) s
         (O.taken out.old) (O.taken out.new) (N.taken notes.old) (N.taken notes.new)) }
-    ensures part { (tree : PureTree) (text : List ℕ) → SpellsText text tree → IsAcceptedTree tree sim → OnErr result (WritesNothingOrFront (Text (Run stop kind turns) text)
+    ensures part { (tree : PureTree) → IsAcceptedTree tree sim → OnErr result (WritesFrontOf (HasRunOutcome asked tree)
         (O.taken out.old) (O.taken out.new) (N.taken notes.old) (N.taken notes.new)) }
     ensures counts { CountsTwoSinks why.Failed (O.faults out.old) (O.faults out.new)
         (N.faults notes.old) (N.faults notes.new) result }
 {
-    law_one_outcome();
-    match stop_in(sim.flat.resolution, stop) {
-        Some(end) => run_to(alloc, sim, end, kind, turns, out, notes),
+    law_one_model();
+    match stop_in(sim.flat.resolution, asked.stop) {
+        Some(end) => run_to(alloc, sim, asked, end, out, notes),
         None => {
             drop(sim);
             noted(notes, b"stop too long\n", Status::StopTooLong)

@@ -1,10 +1,9 @@
 //! The jobs on a table: `sample` and `stats`.
 
-ghost use Rattle.std.specs.Prelude.{◌≡◌, ◌≤◌, ◌++◌, List, ℕ, IfOk, IfSome, OnErr, OnOk, length};
+ghost use Rattle.std.specs.Prelude.{◌≡◌, ◌≤◌, List, ℕ, IfOk, IfSome, OnErr, length};
 ghost use Rattle.tdf_cli.specs.Input.{Text};
 ghost use Rattle.tdf_cli.specs.Outcome.{WritesNothingOrFront, WritesOutcome};
-ghost use Rattle.tdf_cli.specs.Tables.{table_refusal};
-ghost use Rattle.tdf_cli.specs.declared.status.Status.TheVariants.{Done, Refused};
+ghost use Rattle.tdf_cli.specs.declared.status.Status.TheVariants.{Done};
 ghost use Rattle.tdf_cli_words.specs.Jobs.{IsChoice, IsWithin};
 ghost use Rattle.tdf_cli_words.specs.declared.asked.Settings.TheVariants.{Sample, Stats};
 ghost use Rattle.tdf_io.specs.Bytes.{WritesText};
@@ -14,36 +13,12 @@ ghost use Rattle.tdf_sampling.specs.Statistics.{stats_text};
 ghost use Rattle.tdf_tables.specs.Tables.{IsTableForm, SpellsTable, longest_table, table_text};
 
 use crate::laws::law_one_outcome;
-use crate::notes::noted;
+use crate::notes::{noted, refuse_line};
 use crate::status::Status;
 use std::alloc::Global;
-use tdf_base::{Memory, push_number};
 use tdf_io::{Sink, SinkErr};
 use tdf_sampling::{Choice, ChooseErr, choose, write_stats};
 use tdf_tables::{Table, TableErr, read_table, write_table};
-
-/// Appends the note of a text that is no table.
-#[tactic(auto, unfolding(crate::specs::Tables::table_refusal), using(crate::proofs::Outcomes::text_lemmas))]
-fn push_table_refusal(note: &mut Vec<u8>, line: u32) -> Result<(), Memory>
-    ensures { OnOk result (note.new.items ≡ note.old.items ++ table_refusal line) }
-{
-    note.extend_from_slice(b"refused TABLE line ")?;
-    push_number(note, u64::from(line))?;
-    note.extend_from_slice(b"\n")?;
-    Ok(())
-}
-
-/// Notes the line at fault of a text that is no table.
-fn refuse_table<N: Sink>(alloc: Global, notes: &mut N, line: u32) -> Result<Status, SinkErr>
-    ensures status { IfOk result (λ s. s ≡ Refused) }
-    ensures writes { WritesText N.taken N.faults notes.old notes.new (table_refusal line) result }
-{
-    let mut text = Vec::new(alloc);
-    match push_table_refusal(&mut text, line) {
-        Ok(()) => noted(notes, &text, Status::Refused),
-        Err(_) => Err(SinkErr::Memory),
-    }
-}
 
 /// Writes a table, and answers `Done`.
 fn put_table<O: Sink>(alloc: Global, table: &Table, out: &mut O) -> Result<Status, SinkErr>
@@ -119,7 +94,7 @@ pub(crate) fn sample<O: Sink, N: Sink>(
     law_one_outcome();
     match read_table(alloc, text) {
         Ok(table) => sample_table(alloc, &table, choice, out, notes),
-        Err(TableErr::Line(line)) => refuse_table(alloc, notes, line),
+        Err(TableErr::Line(line)) => refuse_line(alloc, notes, b"TABLE", line),
         Err(TableErr::Memory) => Err(SinkErr::Memory),
     }
 }
@@ -144,7 +119,7 @@ pub(crate) fn stats<O: Sink, N: Sink>(
     law_one_outcome();
     match read_table(alloc, text) {
         Ok(table) => put_stats(alloc, &table, window, out),
-        Err(TableErr::Line(line)) => refuse_table(alloc, notes, line),
+        Err(TableErr::Line(line)) => refuse_line(alloc, notes, b"TABLE", line),
         Err(TableErr::Memory) => Err(SinkErr::Memory),
     }
 }

@@ -8,8 +8,9 @@ use Rattle.tdf_base.specs.Limits.{time_end}
 use Rattle.tdf_base.specs.Time.{time_of}
 use Rattle.tdf_base.specs.declared.times.TimeErr.{TimeErr}
 use Rattle.tdf_cli_words.specs.Command.{Given}
+use Rattle.tdf_cli_words.specs.declared.asked.RunOptions.{RunOptions}
 use Rattle.tdf_cli_words.specs.declared.asked.Settings.{Settings}
-use Rattle.tdf_cli_words.specs.declared.asked.Settings.TheVariants.{Run, Check, Plan, Load, Sample, Stats}
+use Rattle.tdf_cli_words.specs.declared.asked.Settings.TheVariants.{Run, Drive, Check, Plan, Load, Sample, Stats}
 use Rattle.tdf_sampling.specs.declared.asked.Choice.{Choice}
 use Rattle.tdf_sampling.specs.declared.asked.Choice.TheVariants.{Every, Nth}
 use Rattle.tdf_trace_rows.specs.declared.kinds.TraceKind.{TraceKind}
@@ -84,13 +85,14 @@ has_load_option given = has_any (given.seed ∷ (given.size ∷ []))
 abbrev pub has_table_option : Given → Bool
 has_table_option given = has_any (given.every ∷ (given.nth ∷ []))
 
-abbrev pub run_for : Option ℕ → Option TraceKind → Option ℕ → Option Settings
-run_for (Some stop) (Some kind) (Some turns) = Some (Run stop kind turns)
+abbrev pub run_for : Option ℕ → Option TraceKind → Option ℕ → Option RunOptions
+run_for (Some stop) (Some kind) (Some turns) =
+    Some (record { stop = stop; kind = kind; turns = turns })
 run_for _ _ _ = None
 
--- `run --stop TIME`, with `--format table` or `--format vcd`, and `--turns N`
-abbrev pub run_given : Given → Option Settings
-run_given given = if has_load_option given || has_table_option given then None
+-- of `run` and `drive`: `--stop TIME`, with `--format table` or `--format vcd`, and `--turns N`
+abbrev pub run_options : Given → Option RunOptions
+run_options given = if has_load_option given || has_table_option given then None
     else run_for (stop_of given.stop) (trace_kind given.format) (turns_given given.turns)
 
 -- a job without options
@@ -129,7 +131,8 @@ stats_given given = if has_run_option given || (has_load_option given || is_some
     then None else stats_for given.every
 
 abbrev pub job_given : List ℕ → Given → Option Settings
-job_given job given = if is_text (codes "run") job then run_given given
+job_given job given = if is_text (codes "run") job then option_map Run (run_options given)
+    else if is_text (codes "drive") job then option_map Drive (run_options given)
     else if is_text (codes "check") job then alone Check given
     else if is_text (codes "plan") job then alone Plan given
     else if is_text (codes "load") job then load_given given
@@ -168,7 +171,8 @@ IsChoice (Nth number) = IsNth number
 
 -- the numbers lie within their ranges
 abbrev pub IsWithin : Settings → Type 0
-IsWithin (Run stop kind turns) = IsRun stop turns
+IsWithin (Run asked) = IsRun asked.stop asked.turns
+IsWithin (Drive asked) = IsRun asked.stop asked.turns
 IsWithin Check = ⊤
 IsWithin Plan = ⊤
 IsWithin (Load seed size) = IsLoad seed size

@@ -5,18 +5,24 @@ use tdf_sampling::Choice;
 use tdf_trace_rows::TraceKind;
 use thiserror::Error;
 
+/// What is asked of a run.
+#[derive(Clone, Copy, Debug, PartialEq, Eq)]
+pub struct RunOptions {
+    /// Where the run ends, in ps, below 10^18.
+    pub stop: u64,
+    /// How the traces are written.
+    pub kind: TraceKind,
+    /// How many turns the run may take, 1 to 10^12.
+    pub turns: u64,
+}
+
 /// What the words ask for.
 #[derive(Clone, Copy, Debug, PartialEq, Eq)]
 pub enum Settings {
     /// Run the model and write its traces.
-    Run {
-        /// Where the run ends, in ps, below 10^18.
-        stop: u64,
-        /// How the traces are written.
-        kind: TraceKind,
-        /// How many turns the run may take, 1 to 10^12.
-        turns: u64,
-    },
+    Run(RunOptions),
+    /// Run the model with event signals that a table drives, and write its traces.
+    Drive(RunOptions),
     /// Write the canonical text of the model.
     Check,
     /// Write the plans of the model.

@@ -1,10 +1,11 @@
 //! What a job and its options ask for.
 
-ghost use Rattle.std.specs.Prelude.{◌≡◌, ◌<◌, ◌≤◌, IfSome};
-ghost use Rattle.tdf_cli_words.specs.Jobs.{number_within, stop_of, step_of, trace_kind, turns_given, has_run_option, has_load_option, has_table_option, run_given, alone, load_given, choice_for, sample_given, stats_given, settings_given, most_turns, IsChoice, IsStep, IsWithin};
+ghost use Rattle.std.specs.Prelude.{◌≡◌, ◌<◌, ◌≤◌, IfSome, option_map};
+ghost use Rattle.tdf_cli_words.specs.Jobs.{number_within, stop_of, step_of, trace_kind, turns_given, has_run_option, has_load_option, has_table_option, run_options, alone, load_given, choice_for, sample_given, stats_given, settings_given, most_turns, IsChoice, IsRun, IsStep, IsWithin};
+ghost use Rattle.tdf_cli_words.specs.declared.asked.Settings.TheVariants.{Drive, Run};
 ghost use Rattle.tdf_base.specs.Limits.{time_end};
 
-use crate::asked::Settings;
+use crate::asked::{RunOptions, Settings};
 use crate::command::Given;
 use tdf_base::{read_int, read_time};
 use tdf_sampling::Choice;
@@ -89,10 +90,10 @@ fn has_table_option(given: &Given) -> bool
     given.every.is_some() || given.nth.is_some()
 }
 
-/// What `run` asks for.
-fn run(given: &Given) -> Option<Settings>
-    ensures value { result ≡ run_given given.now }
-    ensures within { IfSome result IsWithin }
+/// The options of a run, for a job that has these alone.
+fn run_options(given: &Given) -> Option<RunOptions>
+    ensures value { result ≡ run_options given.now }
+    ensures within { IfSome result (λ asked. IsRun asked.stop asked.turns) }
 {
     if has_load_option(given) || has_table_option(given) {
         return None;
@@ -100,7 +101,23 @@ fn run(given: &Given) -> Option<Settings>
     let stop = stop(given)?;
     let kind = kind(given)?;
     let turns = turns(given)?;
-    Some(Settings::Run { stop, kind, turns })
+    Some(RunOptions { stop, kind, turns })
+}
+
+/// What `run` asks for.
+fn run(given: &Given) -> Option<Settings>
+    ensures value { result ≡ option_map Run (run_options given.now) }
+    ensures within { IfSome result IsWithin }
+{
+    Some(Settings::Run(run_options(given)?))
+}
+
+/// What `drive` asks for.
+fn drive(given: &Given) -> Option<Settings>
+    ensures value { result ≡ option_map Drive (run_options given.now) }
+    ensures within { IfSome result IsWithin }
+{
+    Some(Settings::Drive(run_options(given)?))
 }
 
 /// What a job without options asks for.
@@ -185,6 +202,9 @@ pub(crate) fn settings_given(given: &Given) -> Option<Settings>
     let job = given.job?;
     if job == "run" {
         return run(given);
+    }
+    if job == "drive" {
+        return drive(given);
     }
     if job == "check" {
         return alone(Settings::Check, given);

@@ -9,15 +9,17 @@ use Rattle.tdf_base.specs.First.{first_of, least_with}
 use Rattle.tdf_base.specs.declared.first.LineFault.{LineFault}
 use Rattle.tdf_dynamic_first.specs.Laws.{ClustersAreWhole, ClustersHaveOne, FlatIsPlannable}
 use Rattle.tdf_bind.proofs.Api.{fault_is_one, fault_or_flat}
+use Rattle.tdf_bind.specs.Flat.{IsFlatOf}
 use Rattle.tdf_bind.specs.Laws.{PassesChecks}
+use Rattle.tdf_bind.specs.declared.model.Flat.{Flat}
 use Rattle.tdf_expr_names.specs.Names.{name_faults}
 use Rattle.tdf_sim.proofs.Alike.{alike}
 use Rattle.tdf_sim.proofs.Plannable.{can_be_planned}
 use Rattle.tdf_sim.proofs.Clusters.{attrs_alike, fault_once, fault_or_plans, firsts_alike}
 use Rattle.tdf_sim.specs.Accepted.{IsAccepted, IsAcceptedText}
 use Rattle.tdf_sim.specs.declared.sim.Sim.{Sim}
-use Rattle.tdf_sim.specs.FirstFault.{IsFirstFault, IsTreeFault, HasSoundLines, of_bytes, of_length, of_syntax, of_tree, of_names, of_types, of_binding, of_clusters, on_line, at_line}
-use Rattle.tdf_sim.specs.Laws.{FaultsAreOne, FaultOrAccepted, ModelsAreAlike}
+use Rattle.tdf_sim.specs.FirstFault.{HasFlat, IsEarlyFault, IsEarlyTextFault, IsFirstFault, IsTextFault, IsTreeFault, HasSoundLines, of_bytes, of_early, of_early_tree, of_length, of_no_tree, of_syntax, of_text, of_tree, of_names, of_types, of_binding, of_clusters, on_line, at_line}
+use Rattle.tdf_sim.specs.Laws.{EarlyFaultOrFlat, EarlyFaultsAreOne, EarlyTextFaultOrFlat, EarlyTextFaultsAreOne, FaultsAreOne, FaultOrAccepted, ModelsAreAlike}
 use Rattle.tdf_lang_lexer.specs.Rows.{rows_of}
 use Rattle.tdf_lang_lexer.specs.Text.{fault_of}
 use Rattle.tdf_lang_lexer.specs.declared.text.TextFault.{TextFault}
@@ -41,33 +43,40 @@ same_line faults f g one other f_is g_is one_is other_is =
 passes : (tree : PureTree) → IsKept tree → HasSoundLines tree → PassesChecks tree
 passes tree kept sound = record { kept = kept; names = sound.names; types = sound.types }
 
+-- a tree has at most one early fault
+pub one_early : EarlyFaultsAreOne
+one_early tree one other kept (of_names f f_is one_is) (of_names g g_is other_is) = same_line (name_faults tree) f g one other f_is g_is one_is other_is
+one_early tree one other kept (of_names f f_is one_is) (of_types g none g_is other_is) = absurd (none_first (name_faults tree) f none f_is)
+one_early tree one other kept (of_names f f_is one_is) (of_binding sound bound) = absurd (none_first (name_faults tree) f sound.names f_is)
+one_early tree one other kept (of_types f none f_is one_is) (of_names g g_is other_is) = absurd (none_first (name_faults tree) g none g_is)
+one_early tree one other kept (of_types f none f_is one_is) (of_types g none2 g_is other_is) = same_line (type_faults tree) f g one other f_is g_is one_is other_is
+one_early tree one other kept (of_types f none f_is one_is) (of_binding sound bound) = absurd (none_first (type_faults tree) f sound.types f_is)
+one_early tree one other kept (of_binding sound bound) (of_names g g_is other_is) = absurd (none_first (name_faults tree) g sound.names g_is)
+one_early tree one other kept (of_binding sound bound) (of_types g none g_is other_is) = absurd (none_first (type_faults tree) g sound.types g_is)
+one_early tree one other kept (of_binding sound bound) (of_binding sound2 bound2) = fault_is_one tree one other (passes tree kept sound) bound bound2
+
+-- and with one no flat model
+no_flat : (tree : PureTree) (fault : Fault) (flat : Flat) → IsKept tree → IsEarlyFault tree fault → HasSoundLines tree → IsFlatOf tree flat → ⊥
+no_flat tree fault flat kept (of_names f f_is is) lines is_flat = none_first (name_faults tree) f lines.names f_is
+no_flat tree fault flat kept (of_types f none f_is is) lines is_flat = none_first (type_faults tree) f lines.types f_is
+no_flat tree fault flat kept (of_binding sound bound) lines is_flat = fault_or_flat tree fault flat (passes tree kept sound) bound is_flat
+
+pub early_or_flat : EarlyFaultOrFlat
+early_or_flat tree fault kept early has = no_flat tree fault has.flat kept early has.lines has.is
+
 module _ (one_cluster : ClustersHaveOne) (whole : ClustersAreWhole) (plannable : FlatIsPlannable) where
   -- a tree has at most one first fault
   pub one_in_tree : (tree : PureTree) (one other : Fault) → IsKept tree → IsTreeFault tree one → IsTreeFault tree other → one ≡ other
-  one_in_tree tree one other kept (of_names f f_is one_is) (of_names g g_is other_is) = same_line (name_faults tree) f g one other f_is g_is one_is other_is
-  one_in_tree tree one other kept (of_names f f_is one_is) (of_types g none g_is other_is) = absurd (none_first (name_faults tree) f none f_is)
-  one_in_tree tree one other kept (of_names f f_is one_is) (of_binding sound bound) = absurd (none_first (name_faults tree) f sound.names f_is)
-  one_in_tree tree one other kept (of_names f f_is one_is) (of_clusters flat sound is_flat planned) = absurd (none_first (name_faults tree) f sound.names f_is)
-  one_in_tree tree one other kept (of_types f none f_is one_is) (of_names g g_is other_is) = absurd (none_first (name_faults tree) g none g_is)
-  one_in_tree tree one other kept (of_types f none f_is one_is) (of_types g none2 g_is other_is) = same_line (type_faults tree) f g one other f_is g_is one_is other_is
-  one_in_tree tree one other kept (of_types f none f_is one_is) (of_binding sound bound) = absurd (none_first (type_faults tree) f sound.types f_is)
-  one_in_tree tree one other kept (of_types f none f_is one_is) (of_clusters flat sound is_flat planned) = absurd (none_first (type_faults tree) f sound.types f_is)
-  one_in_tree tree one other kept (of_binding sound bound) (of_names g g_is other_is) = absurd (none_first (name_faults tree) g sound.names g_is)
-  one_in_tree tree one other kept (of_binding sound bound) (of_types g none g_is other_is) = absurd (none_first (type_faults tree) g sound.types g_is)
-  one_in_tree tree one other kept (of_binding sound bound) (of_binding sound2 bound2) = fault_is_one tree one other (passes tree kept sound) bound bound2
-  one_in_tree tree one other kept (of_binding sound bound) (of_clusters flat sound2 is_flat planned) = absurd (fault_or_flat tree one flat (passes tree kept sound) bound is_flat)
-  one_in_tree tree one other kept (of_clusters flat sound is_flat planned) (of_names g g_is other_is) = absurd (none_first (name_faults tree) g sound.names g_is)
-  one_in_tree tree one other kept (of_clusters flat sound is_flat planned) (of_types g none g_is other_is) = absurd (none_first (type_faults tree) g sound.types g_is)
-  one_in_tree tree one other kept (of_clusters flat sound is_flat planned) (of_binding sound2 bound) = absurd (fault_or_flat tree other flat (passes tree kept sound) bound is_flat)
+  one_in_tree tree one other kept (of_early early) (of_early early2) = one_early tree one other kept early early2
+  one_in_tree tree one other kept (of_early early) (of_clusters flat sound is_flat planned) = absurd (no_flat tree one flat kept early sound is_flat)
+  one_in_tree tree one other kept (of_clusters flat sound is_flat planned) (of_early early) = absurd (no_flat tree other flat kept early sound is_flat)
   one_in_tree tree one other kept (of_clusters flat sound is_flat planned) (of_clusters flat2 sound2 is_flat2 planned2) =
       fault_once one_cluster whole flat flat2 one other (can_be_planned plannable tree flat kept sound is_flat) (can_be_planned plannable tree flat2 kept sound is_flat2)
       (alike tree flat flat2 (passes tree kept sound) is_flat is_flat2) planned planned2
 
   -- a tree with a fault is not accepted
   pub tree_or_accepted : (tree : PureTree) (fault : Fault) (sim : Sim) → IsKept tree → IsTreeFault tree fault → IsAccepted tree sim → ⊥
-  tree_or_accepted tree fault sim kept (of_names f f_is is) accepted = none_first (name_faults tree) f accepted.lines.names f_is
-  tree_or_accepted tree fault sim kept (of_types f none f_is is) accepted = none_first (type_faults tree) f accepted.lines.types f_is
-  tree_or_accepted tree fault sim kept (of_binding sound bound) accepted = fault_or_flat tree fault sim.flat (passes tree kept sound) bound accepted.is_flat
+  tree_or_accepted tree fault sim kept (of_early early) accepted = no_flat tree fault sim.flat kept early accepted.lines accepted.is_flat
   tree_or_accepted tree fault sim kept (of_clusters flat sound is_flat planned) accepted =
       fault_or_plans one_cluster whole flat sim.flat fault sim.firsts.items (can_be_planned plannable tree flat kept sound is_flat) (can_be_planned plannable tree sim.flat kept sound accepted.is_flat)
       (alike tree flat sim.flat (passes tree kept sound) is_flat accepted.is_flat) planned accepted.plans
@@ -111,11 +120,27 @@ same_tree text one other s t = one_tree (rows_of text) other one t.spelled s.spe
 abbrev Seen : List ℕ → Fault → Type 0
 Seen text fault = Found text fault ⊎ ((tree : PureTree) × SpellsText text tree × IsTreeFault tree fault)
 
+found : (text : List ℕ) (fault : Fault) → IsTextFault text fault → Found text fault
+found text fault (of_bytes line is says) = inl (bytes.Byte line, is, says)
+found text fault (of_length line is says) = inl (bytes.LongLine line, is, says)
+found text fault (of_syntax line is says) = inr (line, is, says)
+
 seen : (text : List ℕ) (fault : Fault) → IsFirstFault text fault → Seen text fault
-seen text fault (of_bytes line is says) = inl (inl (bytes.Byte line, is, says))
-seen text fault (of_length line is says) = inl (inl (bytes.LongLine line, is, says))
-seen text fault (of_syntax line is says) = inl (inr (line, is, says))
+seen text fault (of_text is) = inl (found text fault is)
 seen text fault (of_tree tree spells is) = inr (tree, spells, is)
+
+-- the same of the faults that come before clusters are planned
+pub one_early_text : EarlyTextFaultsAreOne
+one_early_text text one other (of_no_tree s) (of_no_tree t) = one_found text one other (found text one s) (found text other t)
+one_early_text text one other (of_no_tree s) (of_early_tree tree spells is) = absurd (not_both text one tree (found text one s) spells)
+one_early_text text one other (of_early_tree tree spells is) (of_no_tree t) = absurd (not_both text other tree (found text other t) spells)
+one_early_text text one other (of_early_tree tree spells is) (of_early_tree tree2 spells2 is2) =
+    one_early tree one other (text_keeps spells) is (subst (λ (t : PureTree). IsEarlyFault t other) (same_tree text tree tree2 spells spells2) is2)
+
+pub early_text_or_flat : EarlyTextFaultOrFlat
+early_text_or_flat text fault tree (of_no_tree s) spells has = not_both text fault tree (found text fault s) spells
+early_text_or_flat text fault tree (of_early_tree other others is) spells has =
+    early_or_flat tree fault (text_keeps spells) (subst (λ (t : PureTree). IsEarlyFault t fault) (same_tree text tree other spells others) is) has
 
 module _ (one_cluster : ClustersHaveOne) (whole : ClustersAreWhole) (plannable : FlatIsPlannable) where
   same : (text : List ℕ) (one other : Fault) → Seen text one → Seen text other → one ≡ other

@@ -17,9 +17,9 @@ use Rattle.tdf_base.specs.declared.refusal.TypeErr.TheVariants as by
 use Rattle.tdf_bind.specs.Flat.{IsFlatOf}
 use Rattle.tdf_bind.specs.declared.model.Flat.{Flat}
 use Rattle.tdf_expr_names.specs.Names.{name_faults}
-use Rattle.tdf_sim.specs.Accepted.{ArePlans, IsAccepted, IsAcceptedText, IsPlansRefusal, IsTextRefusal, IsTreeRefusal}
-use Rattle.tdf_sim.specs.FirstFault.{HasSoundLines, IsFirstFault, IsPlansFault, IsTreeFault, cluster_count, of_bytes, of_length, of_syntax, of_tree, of_names, of_types, of_clusters, on_line, at_line}
-use Rattle.tdf_sim.specs.Laws.{FaultsAreOne, FaultOrAccepted, FaultsOfPlansAreOne, FaultsOfTreesAreOne, TreeFaultOrAccepted}
+use Rattle.tdf_sim.specs.Accepted.{ArePlans, IsAccepted, IsAcceptedText, IsEarlyRefusal, IsPlansRefusal, IsTextRefusal, IsTreeRefusal}
+use Rattle.tdf_sim.specs.FirstFault.{HasSoundLines, IsEarlyFault, IsFirstFault, IsPlansFault, IsTreeFault, cluster_count, of_bytes, of_length, of_syntax, of_text, of_tree, of_early, of_names, of_types, of_clusters, on_line, at_line}
+use Rattle.tdf_sim.specs.Laws.{EarlyFaultsAreOne, FaultsAreOne, FaultOrAccepted, FaultsOfPlansAreOne, FaultsOfTreesAreOne, TreeFaultOrAccepted}
 use Rattle.tdf_sim.specs.Runs.{IsAcceptedTree}
 use Rattle.tdf_sim.specs.declared.err.SimErr.{SimErr}
 use Rattle.tdf_sim.specs.declared.err.SimErr.TheVariants.{Refused, Memory}
@@ -51,26 +51,31 @@ not_memory : (code : Code) (line : ℕ) → ◌≡◌ {A = Answer} (Err (by.Line
 not_memory code line same = subst is_line same tt
 
 pub names_refused : (tree : PureTree) (e : TypeErr) (r : SimErr) → r ≡ by_line e
-    → (◌≢◌ {A = Answer} (Err e) (Err by.Memory) → ◌≡◌ {A = Answer} (Err e) (verdict_of (first_of (name_faults tree)))) → IsTreeRefusal tree r
+    → (◌≢◌ {A = Answer} (Err e) (Err by.Memory) → ◌≡◌ {A = Answer} (Err e) (verdict_of (first_of (name_faults tree)))) → IsEarlyRefusal tree r
 names_refused tree (by.Line code line) r is says =
     let f = named code line (first_of (name_faults tree)) (says (not_memory code line)) in
-    subst (IsTreeRefusal tree) (sym is) (of_names f.0 f.1 f.2)
-names_refused tree by.Memory r is says = subst (IsTreeRefusal tree) (sym is) tt
+    subst (IsEarlyRefusal tree) (sym is) (of_names f.0 f.1 f.2)
+names_refused tree by.Memory r is says = subst (IsEarlyRefusal tree) (sym is) tt
 
 line_not_memory : (code : Code) (line : ℕ) → by.Line code line ≡ by.Memory → ⊥
 line_not_memory code line same = not_memory code line (ap Err same)
 
 pub types_refused : {X : Type 0} (tree : PureTree) (e : TypeErr) (r : SimErr) → name_faults tree ≡ [] → r ≡ by_line e
-    → ((d : TypeErr) → ◌≡◌ {A = Result X TypeErr} (Err e) (Err d) → d ≢ by.Memory → ◌≡◌ {A = Answer} (Err d) (verdict_of (first_of (type_faults tree)))) → IsTreeRefusal tree r
+    → ((d : TypeErr) → ◌≡◌ {A = Result X TypeErr} (Err e) (Err d) → d ≢ by.Memory → ◌≡◌ {A = Answer} (Err d) (verdict_of (first_of (type_faults tree)))) → IsEarlyRefusal tree r
 types_refused tree (by.Line code line) r names is says =
     let f = named code line (first_of (type_faults tree)) (says (by.Line code line) refl (line_not_memory code line)) in
-    subst (IsTreeRefusal tree) (sym is) (of_types f.0 names f.1 f.2)
-types_refused tree by.Memory r names is says = subst (IsTreeRefusal tree) (sym is) tt
+    subst (IsEarlyRefusal tree) (sym is) (of_types f.0 names f.1 f.2)
+types_refused tree by.Memory r names is says = subst (IsEarlyRefusal tree) (sym is) tt
+
+-- an early fault is the first of its tree
+pub early_refused : (tree : PureTree) (e : SimErr) → IsEarlyRefusal tree e → IsTreeRefusal tree e
+early_refused tree (Refused fault) is = of_early is
+early_refused tree Memory is = tt
 
 pub parser_refused : (text : List ℕ) (e : LangErr) (r : SimErr) → r ≡ by_parser e → IsWhy e text → IsTextRefusal text r
-parser_refused text (why.Byte line) r is says = subst (IsTextRefusal text) (sym is) (of_bytes line says refl)
-parser_refused text (why.LongLine line) r is says = subst (IsTextRefusal text) (sym is) (of_length line says refl)
-parser_refused text (why.Syntax line) r is says = subst (IsTextRefusal text) (sym is) (of_syntax line says refl)
+parser_refused text (why.Byte line) r is says = subst (IsTextRefusal text) (sym is) (of_text (of_bytes line says refl))
+parser_refused text (why.LongLine line) r is says = subst (IsTextRefusal text) (sym is) (of_text (of_length line says refl))
+parser_refused text (why.Syntax line) r is says = subst (IsTextRefusal text) (sym is) (of_text (of_syntax line says refl))
 parser_refused text why.Memory r is says = subst (IsTextRefusal text) (sym is) tt
 
 -- one plan more
@@ -154,6 +159,10 @@ pub tree_always : (tree : PureTree) (result : Result Sim SimErr) → FaultsOfTre
     → (fault : Fault) → IsTreeFault tree fault → (result ≡ Err (Refused fault)) ⊎ (result ≡ Err Memory)
 tree_always tree (Ok sim) one apart kept accepted is fault has = absurd (apart tree fault sim kept has accepted.accepted)
 tree_always tree (Err r) one apart kept accepted is fault has = tree_err_always tree r one kept is fault has
+
+pub early_err_always : {X : Type 0} (tree : PureTree) (r : SimErr) → EarlyFaultsAreOne → IsKept tree → IsEarlyRefusal tree r → (fault : Fault) → IsEarlyFault tree fault
+    → (◌≡◌ {A = Result X SimErr} (Err r) (Err (Refused fault))) ⊎ (◌≡◌ {A = Result X SimErr} (Err r) (Err Memory))
+early_err_always tree r one kept is = refused_always (IsEarlyFault tree) r (λ f g. one tree f g kept) (λ g e. subst (IsEarlyRefusal tree) e is)
 
 pub plans_err_always : (flat : Flat) (r : SimErr) → FaultsOfPlansAreOne → IsPlannable flat → IsPlansRefusal flat r → (fault : Fault) → IsPlansFault flat fault
     → (◌≡◌ {A = Result Sim SimErr} (Err r) (Err (Refused fault))) ⊎ (◌≡◌ {A = Result Sim SimErr} (Err r) (Err Memory))

@@ -6,7 +6,7 @@ use Rattle.tdf_dynamic_first.specs.First.{IsFirstPlan}
 use Rattle.tdf_dynamic_first.specs.declared.first.First.{First}
 use Rattle.tdf_bind.specs.Flat.{IsFlatOf}
 use Rattle.tdf_bind.specs.declared.model.Flat.{Flat}
-use Rattle.tdf_sim.specs.FirstFault.{cluster_count, HasSoundLines, IsPlansFault, IsTreeFault, IsFirstFault}
+use Rattle.tdf_sim.specs.FirstFault.{cluster_count, HasSoundLines, IsEarlyFault, IsPlansFault, IsTreeFault, IsFirstFault}
 use Rattle.tdf_sim.specs.declared.sim.Sim.{Sim}
 use Rattle.tdf_sim.specs.declared.err.SimErr.{SimErr}
 use Rattle.tdf_sim.specs.declared.err.SimErr.TheVariants.{Refused, Memory}
@@ -34,6 +34,10 @@ pub record IsAcceptedText (text : List ℕ) (sim : Sim) : Type 0 where
 abbrev pub IsTreeRefusal : PureTree → SimErr → Type 0
 IsTreeRefusal tree (Refused fault) = IsTreeFault tree fault
 IsTreeRefusal tree Memory = Unit {0}
+
+abbrev pub IsEarlyRefusal : PureTree → SimErr → Type 0
+IsEarlyRefusal tree (Refused fault) = IsEarlyFault tree fault
+IsEarlyRefusal tree Memory = Unit {0}
 
 abbrev pub IsPlansRefusal : Flat → SimErr → Type 0
 IsPlansRefusal flat (Refused fault) = IsPlansFault flat fault

@@ -51,24 +51,44 @@ pub record IsPlansFault (flat : Flat) (fault : Fault) : Type 0 where
   pub before : HavePlansBefore flat cluster
   pub is : IsClusterFault flat cluster fault
 
--- the first fault of a tree: of its names, else of its types and bodies, else of binding, else of
--- its clusters
-pub data IsTreeFault (tree : PureTree) (fault : Fault) : Type 0 where
+-- the first fault of a tree before it is planned: of its names, else of its types and bodies, else
+-- of binding
+pub data IsEarlyFault (tree : PureTree) (fault : Fault) : Type 0 where
   of_names : (f : LineFault) → first_of (name_faults tree) ≡ Some f → fault ≡ at_line f
-      → IsTreeFault tree fault
+      → IsEarlyFault tree fault
   of_types : (f : LineFault) → name_faults tree ≡ [] → first_of (type_faults tree) ≡ Some f
-      → fault ≡ at_line f → IsTreeFault tree fault
-  of_binding : HasSoundLines tree → IsBindFault tree fault → IsTreeFault tree fault
+      → fault ≡ at_line f → IsEarlyFault tree fault
+  of_binding : HasSoundLines tree → IsBindFault tree fault → IsEarlyFault tree fault
+
+-- a tree without such a fault has a flat model
+pub record HasFlat (tree : PureTree) : Type 0 where
+  pub flat : Flat
+  pub lines : HasSoundLines tree
+  pub is : IsFlatOf tree flat
+
+-- the first fault of a tree: an early one, else of its clusters
+pub data IsTreeFault (tree : PureTree) (fault : Fault) : Type 0 where
+  of_early : IsEarlyFault tree fault → IsTreeFault tree fault
   of_clusters : (flat : Flat) → HasSoundLines tree → IsFlatOf tree flat → IsPlansFault flat fault
       → IsTreeFault tree fault
 
+-- the first fault of a text that spells no tree
+pub data IsTextFault (text : List ℕ) (fault : Fault) : Type 0 where
+  of_bytes : (line : ℕ) → fault_of text ≡ Some (bytes.Byte line) → fault ≡ on_line code.Byte line
+      → IsTextFault text fault
+  of_length : (line : ℕ) → fault_of text ≡ Some (bytes.LongLine line)
+      → fault ≡ on_line code.LongLine line → IsTextFault text fault
+  of_syntax : (line : ℕ) → HasSyntaxFault text line → fault ≡ on_line code.Syntax line
+      → IsTextFault text fault
+
 -- the first fault of a text
 pub data IsFirstFault (text : List ℕ) (fault : Fault) : Type 0 where
-  of_bytes : (line : ℕ) → fault_of text ≡ Some (bytes.Byte line) → fault ≡ on_line code.Byte line
-      → IsFirstFault text fault
-  of_length : (line : ℕ) → fault_of text ≡ Some (bytes.LongLine line)
-      → fault ≡ on_line code.LongLine line → IsFirstFault text fault
-  of_syntax : (line : ℕ) → HasSyntaxFault text line → fault ≡ on_line code.Syntax line
-      → IsFirstFault text fault
+  of_text : IsTextFault text fault → IsFirstFault text fault
   of_tree : (tree : PureTree) → SpellsText text tree → IsTreeFault tree fault
       → IsFirstFault text fault
+
+-- the first fault of a text before its clusters are planned
+pub data IsEarlyTextFault (text : List ℕ) (fault : Fault) : Type 0 where
+  of_no_tree : IsTextFault text fault → IsEarlyTextFault text fault
+  of_early_tree : (tree : PureTree) → SpellsText text tree → IsEarlyFault tree fault
+      → IsEarlyTextFault text fault

@@ -3,6 +3,7 @@
 use Rattle.std.specs.Prelude.{◌≡◌, ℕ, List, map}
 use Rattle.tdf_base.specs.declared.faults.Fault.{Fault}
 use Rattle.tdf_sim_runs.specs.Runs.{trace_of}
+use Rattle.tdf_lang_parser.specs.Refused.{SpellsText}
 use Rattle.tdf_dynamic_first.specs.First.{IsPlannable}
 use Rattle.tdf_dynamic_first.specs.declared.first.First.{First}
 use Rattle.tdf_bind.specs.declared.model.Flat.{Flat}
@@ -10,7 +11,7 @@ use Rattle.tdf_sim_history.specs.World.{Change}
 use Rattle.tdf_sim_notes.specs.Ending.{HaveAnswers, run_end, run_note}
 use Rattle.tdf_sim.specs.Accepted.{ArePlans, IsAccepted, IsAcceptedText}
 use Rattle.tdf_sim.specs.declared.sim.Sim.{Sim}
-use Rattle.tdf_sim.specs.FirstFault.{IsFirstFault, IsPlansFault, IsTreeFault}
+use Rattle.tdf_sim.specs.FirstFault.{HasFlat, IsEarlyFault, IsEarlyTextFault, IsFirstFault, IsPlansFault, IsTreeFault}
 use Rattle.tdf_sim.specs.PlanText.{plan_rows}
 use Rattle.tdf_lang_tree.specs.Kept.{IsKept}
 use Rattle.tdf_lang_tree.specs.Pure.{PureTree}
@@ -26,7 +27,26 @@ abbrev pub FaultOrAccepted : Type 0
 FaultOrAccepted = (text : List ℕ) (fault : Fault) (sim : Sim)
     → IsFirstFault text fault → IsAcceptedText text sim → ⊥
 
--- a tree that keeps what a spelled tree keeps has at most one first fault
+-- a tree that keeps what a spelled tree keeps has at most one early fault
+abbrev pub EarlyFaultsAreOne : Type 0
+EarlyFaultsAreOne = (tree : PureTree) (one other : Fault) → IsKept tree
+    → IsEarlyFault tree one → IsEarlyFault tree other → one ≡ other
+
+-- with one it has no flat model
+abbrev pub EarlyFaultOrFlat : Type 0
+EarlyFaultOrFlat = (tree : PureTree) (fault : Fault) → IsKept tree
+    → IsEarlyFault tree fault → HasFlat tree → ⊥
+
+-- the same of a text
+abbrev pub EarlyTextFaultsAreOne : Type 0
+EarlyTextFaultsAreOne = (text : List ℕ) (one other : Fault)
+    → IsEarlyTextFault text one → IsEarlyTextFault text other → one ≡ other
+
+abbrev pub EarlyTextFaultOrFlat : Type 0
+EarlyTextFaultOrFlat = (text : List ℕ) (fault : Fault) (tree : PureTree)
+    → IsEarlyTextFault text fault → SpellsText text tree → HasFlat tree → ⊥
+
+-- such a tree has at most one first fault
 abbrev pub FaultsOfTreesAreOne : Type 0
 FaultsOfTreesAreOne = (tree : PureTree) (one other : Fault) → IsKept tree
     → IsTreeFault tree one → IsTreeFault tree other → one ≡ other

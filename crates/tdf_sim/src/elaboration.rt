@@ -8,8 +8,8 @@ ghost use Rattle.tdf_lang_parser.specs.Refused.{IsWhy, SpellsText};
 ghost use Rattle.tdf_expr.specs.Checked.{IsCheckedOf};
 ghost use Rattle.tdf_bind.specs.Flat.{IsFlatOf};
 ghost use Rattle.tdf_expr_names.specs.Names.{name_faults};
-ghost use Rattle.tdf_sim.specs.Accepted.{IsAccepted, IsAcceptedText, IsTextRefusal, IsTreeRefusal};
-ghost use Rattle.tdf_sim.specs.FirstFault.{HasSoundLines, IsFirstFault, IsTreeFault, on_line};
+ghost use Rattle.tdf_sim.specs.Accepted.{IsAccepted, IsAcceptedText, IsEarlyRefusal, IsTextRefusal, IsTreeRefusal};
+ghost use Rattle.tdf_sim.specs.FirstFault.{HasFlat, HasSoundLines, IsEarlyFault, IsFirstFault, IsTreeFault, on_line};
 ghost use Rattle.tdf_dynamic_first.specs.First.{IsPlannable};
 ghost use Rattle.tdf_sim.specs.PlanText.{IsPrintable};
 ghost use Rattle.tdf_sim.specs.Runs.{IsAcceptedTree, IsSomeAccepted};
@@ -19,7 +19,7 @@ ghost use Rattle.tdf_lang_tree.specs.Kept.{IsKept};
 ghost use Rattle.tdf_lang_tree.specs.Views.{pure_tree};
 
 use crate::err::SimErr;
-use crate::laws::{law_first_fault, law_tree_fault};
+use crate::laws::{law_early_fault, law_first_fault, law_tree_fault};
 use crate::sim::Sim;
 use std::alloc::Global;
 use tdf_base::{Code, Fault, Place, TypeErr};
@@ -72,7 +72,7 @@ fn bodies(alloc: Global, tree: &Tree) -> Result<Checked, SimErr>
     requires names { name_faults (pure_tree tree.now) ≡ [] }
     ensures sound { OnOk result (HasSoundLines (pure_tree tree.now)) }
     ensures checked { IfOk result (IsCheckedOf (pure_tree tree.now)) }
-    ensures refused { IfErr result (IsTreeRefusal (pure_tree tree.now)) }
+    ensures refused { IfErr result (IsEarlyRefusal (pure_tree tree.now)) }
 {
     match check_bodies(alloc, tree) {
         Ok(checked) => Ok(checked),
@@ -88,7 +88,7 @@ fn sound(alloc: Global, tree: &Tree) -> Result<Checked, SimErr>
     requires kept { IsKept (pure_tree tree.now) }
     ensures sound { OnOk result (HasSoundLines (pure_tree tree.now)) }
     ensures checked { IfOk result (IsCheckedOf (pure_tree tree.now)) }
-    ensures refused { IfErr result (IsTreeRefusal (pure_tree tree.now)) }
+    ensures refused { IfErr result (IsEarlyRefusal (pure_tree tree.now)) }
 {
     match check_names(alloc, tree) {
         Ok(()) => bodies(alloc, tree),
@@ -106,7 +106,7 @@ fn bound(alloc: Global, tree: &Tree) -> Result<Flat, SimErr>
     ensures sound { OnOk result (HasSoundLines (pure_tree tree.now)) }
     ensures flat { IfOk result (IsFlatOf (pure_tree tree.now)) }
     ensures plannable { IfOk result IsPlannable }
-    ensures refused { IfErr result (IsTreeRefusal (pure_tree tree.now)) }
+    ensures refused { IfErr result (IsEarlyRefusal (pure_tree tree.now)) }
 {
     law_plannable();
     let checked = sound(alloc, tree)?;
@@ -114,6 +114,28 @@ fn bound(alloc: Global, tree: &Tree) -> Result<Flat, SimErr>
         Ok(flat) => Ok(flat),
         Err(BindErr::Refused(fault)) => Err(SimErr::Refused(fault)),
         Err(BindErr::Memory) => Err(SimErr::Memory),
+    }
+}
+
+/// Whether a tree has no fault before its clusters are planned. Nothing is kept.
+///
+/// # Errors
+/// The first fault of the tree: of names, else of types and bodies, else of binding; or out of memory.
+pub fn check_tree(alloc: Global, tree: &Tree) -> Result<(), SimErr>
+    requires kept { IsKept (pure_tree tree.now) }
+    requires formed { IsFormed (pure_tree tree.now) }
+    ensures flat { OnOk result (HasFlat (pure_tree tree.now)) }
+    ensures refused { IfErr result (IsEarlyRefusal (pure_tree tree.now)) }
+    ensures always { (fault : Fault) → IsEarlyFault (pure_tree tree.now) fault
+        → (result ≡ Err (why.Refused fault)) ⊎ (result ≡ Err why.Memory) }
+{
+    law_early_fault();
+    match bound(alloc, tree) {
+        Ok(flat) => {
+            drop(flat);
+            Ok(())
+        }
+        Err(error) => Err(error),
     }
 }
 

@@ -1,6 +1,6 @@
 //! What holds of the definitions.
 
-ghost use Rattle.tdf_sim.specs.Laws.{AnswersRunAlike, FaultOrAccepted, FaultsAreOne, FaultsOfPlansAreOne, FaultsOfTreesAreOne, ModelsAreAlike, PlansFaultOrPlans, RunsAreAlike, TreeFaultOrAccepted};
+ghost use Rattle.tdf_sim.specs.Laws.{AnswersRunAlike, EarlyFaultOrFlat, EarlyFaultsAreOne, EarlyTextFaultOrFlat, EarlyTextFaultsAreOne, FaultOrAccepted, FaultsAreOne, FaultsOfPlansAreOne, FaultsOfTreesAreOne, ModelsAreAlike, PlansFaultOrPlans, RunsAreAlike, TreeFaultOrAccepted};
 
 use tdf_bind_invariants::law_limits;
 use tdf_dynamic_first::{law_numbers, law_one_plan, law_plannable};
@@ -15,6 +15,15 @@ pub fn law_first_fault()
     law_numbers();
     law_plannable();
 }
+
+/// A tree that keeps what a spelled tree keeps has at most one first fault before its clusters are planned, and with one no flat
+/// model; the same holds of a text and of its tree.
+pub fn law_early_fault()
+    ensures one { EarlyFaultsAreOne }
+    ensures apart { EarlyFaultOrFlat }
+    ensures one_of_text { EarlyTextFaultsAreOne }
+    ensures text_apart { EarlyTextFaultOrFlat }
+{}
 
 /// So has a tree that keeps what a spelled tree keeps.
 pub fn law_tree_fault()

@@ -13,9 +13,11 @@ mod laws;
 mod run;
 mod sim;
 
-pub use elaboration::{elaborate, elaborate_tree};
+pub use elaboration::{check_tree, elaborate, elaborate_tree};
 pub use err::SimErr;
-pub use laws::{law_first_fault, law_one_model, law_one_run, law_plans_fault, law_tree_fault};
+pub use laws::{
+    law_early_fault, law_first_fault, law_one_model, law_one_run, law_plans_fault, law_tree_fault,
+};
 pub use run::RunErr;
 pub use sim::Sim;
 pub use tdf_sim_notes::End;

@@ -5,9 +5,11 @@
 //! - `kernels`: what the kernel of a run tells after its stop.
 //! - `plans`: how often a plan is made in a run, and which rates are in force after it.
 //! - `runs`: runs and refusals of the command.
+//! - `stimulus`: a model that a table drives.
 
 mod devices;
 mod failing;
 mod kernels;
 mod plans;
 mod runs;
+mod stimulus;

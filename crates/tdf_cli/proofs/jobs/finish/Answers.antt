@@ -1,7 +1,8 @@
 use Rattle.std.proofs.Common.{ap, codes, sym, subst}
 use Rattle.tdf_cli.proofs.Outcomes.{noted_all, noted_part}
 use Rattle.tdf_cli.specs.Input.{Reading, reading}
-use Rattle.tdf_cli.specs.Outcome.{HasOutcome, note, usage, read_fault, too_long}
+use Rattle.tdf_cli.specs.Outcome.{HasOutcome, usage, read_fault, too_long}
+use Rattle.tdf_cli.specs.Runs.{note}
 use Rattle.tdf_cli.specs.declared.status.Status.TheVariants.{Usage, ReadFault, TooLong}
 use Rattle.tdf_cli.proofs.jobs.finish.Goals as goal
 

@@ -20,13 +20,13 @@ returns-in-Ok-clause-part g c = written_part c.law_one_outcome.ensures c.put_sta
     c.put_stats.ensures.writes
 
 pub returns-in-Err-Line-clause-all : goal.returns-in-Err-Line-clause-all
-returns-in-Err-Line-clause-all g c = noted_all c.refuse_table.result (Text (Stats c.args.window) c.args.text.now.items) Refused _
+returns-in-Err-Line-clause-all g c = noted_all c.refuse_line.result (Text (Stats c.args.window) c.args.text.now.items) Refused _
     (no_table refl (subst (λ (t : List ℕ). HasTableFault t c.in-Err-Line.line) c.deref.ensures.value
     (subst (λ (e : TableErr). IsTableRefusal c.deref.result.now e) c.in-Err-Line.field-0-is c.in-Err-Line.ensures.refused)))
-    c.refuse_table.ensures.status (subst (λ (n : ℕ). WritesText g.N.Sink.taken g.N.Sink.faults c.args.notes.now c.refuse_table.new.notes (table_refusal n) c.refuse_table.result) c.in-Err-Line.line-is c.refuse_table.ensures.writes)
+    c.refuse_line.ensures.status (subst (λ (n : ℕ). WritesText g.N.Sink.taken g.N.Sink.faults c.args.notes.now c.refuse_line.new.notes (table_refusal n) c.refuse_line.result) c.in-Err-Line.line-is c.refuse_line.ensures.writes)
 
 pub returns-in-Err-Line-clause-part : goal.returns-in-Err-Line-clause-part
-returns-in-Err-Line-clause-part g c = noted_part c.law_one_outcome.ensures c.refuse_table.result (Text (Stats c.args.window) c.args.text.now.items) Refused _
+returns-in-Err-Line-clause-part g c = noted_part c.law_one_outcome.ensures c.refuse_line.result (Text (Stats c.args.window) c.args.text.now.items) Refused _
     (no_table refl (subst (λ (t : List ℕ). HasTableFault t c.in-Err-Line.line) c.deref.ensures.value
     (subst (λ (e : TableErr). IsTableRefusal c.deref.result.now e) c.in-Err-Line.field-0-is c.in-Err-Line.ensures.refused)))
-    (subst (λ (n : ℕ). WritesText g.N.Sink.taken g.N.Sink.faults c.args.notes.now c.refuse_table.new.notes (table_refusal n) c.refuse_table.result) c.in-Err-Line.line-is c.refuse_table.ensures.writes)
+    (subst (λ (n : ℕ). WritesText g.N.Sink.taken g.N.Sink.faults c.args.notes.now c.refuse_line.new.notes (table_refusal n) c.refuse_line.result) c.in-Err-Line.line-is c.refuse_line.ensures.writes)

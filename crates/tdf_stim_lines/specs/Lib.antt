@@ -1,0 +1,4 @@
+pub mod Laws
+pub mod Numbered
+pub mod NumberedForms
+pub mod machine
