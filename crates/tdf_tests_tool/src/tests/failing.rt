@@ -9,10 +9,10 @@ use tdf_base::Memory;
 use tdf_cli::{NO_MEMORY, USAGE, WRITE_FAULT, tool};
 use tdf_io::{MemSink, MemSource};
 
-/// A model, the stop of its run, and the table and the notes that the run writes where nothing fails.
+/// The words of a job and its text, and the output and the notes that it writes where nothing fails.
 #[derive(Clone, Copy)]
 struct Run<'a> {
-    stop: &'a str,
+    words: &'a [&'a str],
     text: &'a [u8],
     table: &'a [u8],
     notes: &'a [u8],
@@ -57,7 +57,7 @@ const CHAIN_NOTES: &[u8] =
     end 0.0001 turns 315\n";
 
 const CHAIN: Run<'static> = Run {
-    stop: "100us",
+    words: &["run", "--stop", "100us"],
     text: CHAIN_TEXT,
     table: CHAIN_TABLE,
     notes: CHAIN_NOTES,
@@ -69,6 +69,35 @@ const RAMP_TABLE: &[u8] = b"%time s\n0 0\n0.000001 1\n0.000002 2\n";
 /// The notes of that run.
 const RAMP_NOTES: &[u8] =
     b"cluster 1 at 0 period 0.000001 firings 1\nactor u count 1 step 0.000001\nend 0.000003 turns 5\n";
+
+/// A table, as `sample` and `stats` read it.
+const ROWS: &[u8] = b"%time a b\n0 1 *\n0.000001 2 0.5\n0.000002 -3 0.5\n";
+
+/// Every second row of it.
+const SAMPLED: Run<'static> = Run {
+    words: &["sample", "--nth", "2"],
+    text: ROWS,
+    table: b"%time a b\n0 1 *\n0.000002 -3 0.5\n",
+    notes: b"",
+};
+
+/// What its columns have.
+const MEASURED: Run<'static> = Run {
+    words: &["stats"],
+    text: ROWS,
+    table: b"a cells 3 unknown 0 min -3 max 2 changes 2\n\
+    b cells 3 unknown 1 min 0.5 max 0.5 changes 1\n",
+    notes: b"",
+};
+
+/// A signal that it drives.
+const DRIVEN: Run<'static> = Run {
+    words: &["drive", "--stop", "3us"],
+    text: b"language 1\ntype w fixed 16 16\ntop\nde_signal a w 5\nend\ntrace a a\nstimulus\n\
+    %time a b\n0 1 *\n0.000001 2 0.5\n0.000002 -3 0.5\n",
+    table: b"%time a\n0 1\n0.000001 2\n0.000002 -3\n",
+    notes: b"ignored b\nend 0.000003 turns 6\n",
+};
 
 /// The calls that fail: of the source, of the sink of output, of the sink of notes.
 type Fails<'a> = (&'a [u64], &'a [u64], &'a [u64]);
@@ -108,8 +137,7 @@ fn right_status(
 ) -> Result<Option<u8>, Memory>
     requires { 0 < most }
 {
-    let words = &["run", "--stop", run.stop];
-    let (status, out, notes) = failing(alloc, words, run.text, most, fails)?;
+    let (status, out, notes) = failing(alloc, run.words, run.text, most, fails)?;
     let are_fronts = run.table.starts_with(out.bytes()) && run.notes.starts_with(notes.bytes());
     let are_whole = out.bytes().len() == run.table.len() && notes.bytes().len() == run.notes.len();
     Ok(if are_fronts && (are_whole || status != 0) {
@@ -133,10 +161,9 @@ fn only_notes(
 
 /// The first read whose failure has another answer, or none. There is a read for each byte and one for the end.
 fn first_wrong_read(alloc: Global, run: Run<'_>) -> Result<Option<u64>, Memory> {
-    let words = &["run", "--stop", run.stop];
     let end = run.text.len() as u64;
     for read in 0..=end {
-        if !only_notes(alloc, words, run.text, read, (3, b"read fault\n"))? {
+        if !only_notes(alloc, run.words, run.text, read, (3, b"read fault\n"))? {
             return Ok(Some(read));
         }
     }
@@ -204,7 +231,7 @@ fn stops_at_a_long_text(alloc: Global) -> Result<bool, Memory> {
 /// The run of RUN over the ramp.
 fn ramp_run<'a>(text: &'a [u8]) -> Run<'a> {
     Run {
-        stop: "3us",
+        words: RUN,
         text,
         table: RAMP_TABLE,
         notes: RAMP_NOTES,
@@ -231,6 +258,24 @@ fn survives_writes_that_fail(rt: HostRuntime) -> Result<(), Fail> {
     assert_eq!(rt; failing_writes(rt.alloc(), ramp, 4, true)?, Some(24));
     assert_eq!(rt; failing_writes(rt.alloc(), CHAIN, 16, false)?, Some(8));
     assert_eq!(rt; failing_writes(rt.alloc(), CHAIN, 16, true)?, Some(50));
+    Ok(())
+}
+
+#[test]
+fn tables_survive_reads_that_fail(rt: HostRuntime) -> Result<(), Fail> {
+    assert_eq!(rt; first_wrong_read(rt.alloc(), SAMPLED)?, None);
+    assert_eq!(rt; first_wrong_read(rt.alloc(), MEASURED)?, None);
+    assert_eq!(rt; first_wrong_read(rt.alloc(), DRIVEN)?, None);
+    Ok(())
+}
+
+// Rows and lines are pieces of their own here, too; the lines on ignored columns are one.
+#[test]
+fn tables_survive_writes_that_fail(rt: HostRuntime) -> Result<(), Fail> {
+    assert_eq!(rt; failing_writes(rt.alloc(), SAMPLED, 4, false)?, Some(9));
+    assert_eq!(rt; failing_writes(rt.alloc(), MEASURED, 4, false)?, Some(23));
+    assert_eq!(rt; failing_writes(rt.alloc(), DRIVEN, 4, false)?, Some(9));
+    assert_eq!(rt; failing_writes(rt.alloc(), DRIVEN, 4, true)?, Some(9));
     Ok(())
 }
 

@@ -1,0 +1,10 @@
+pub mod Api
+pub mod Assigning
+pub mod Bodies
+pub mod Counting
+pub mod Lines
+pub mod Looping
+pub mod Naming
+pub mod Noticing
+pub mod Numbers
+pub mod Things

@@ -1,0 +1,4 @@
+pub mod Api
+pub mod Ends
+pub mod Marks
+pub mod Writers

@@ -1,0 +1,9 @@
+pub mod Api
+pub mod Lists
+pub mod Evaluating
+pub mod Stepping
+pub mod Parts
+pub mod Literals
+pub mod Instants
+pub mod Rows
+pub mod Histories

@@ -1,0 +1,5 @@
+mod Accepted
+pub mod Alone
+pub mod Columns
+pub mod Settling
+pub mod Sinks

@@ -1,0 +1,11 @@
+pub mod Api
+pub mod Casting
+pub mod Marks
+pub mod Notices
+pub mod Others
+pub mod Owned
+pub mod Reading
+pub mod Running
+pub mod Shown
+pub mod Starting
+pub mod Times

@@ -1,0 +1,2 @@
+pub mod RunTables
+pub mod Laws
