@@ -26,7 +26,8 @@ use Rattle.tdf_stim_history.specs.Literals.{literal_at}
 use Rattle.tdf_tables.specs.Tables.{IsTableForm, TableOf}
 
 -- the event signal that a column names, the one that has this path, has the value of the column's
--- literal at a time, cast to the column's format; a path without a point is that of a signal of `top`
+-- literal at a time, cast to the column's format; a path without a point is that of a signal of
+-- `top`
 pub record HasColumnValue (flat : Flat) (times : List ℕ) (values : List Raw) (time : ℕ)
     (c : Column) : Type 0 where
   pub number : ℕ
