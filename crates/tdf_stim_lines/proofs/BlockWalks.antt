@@ -187,19 +187,6 @@ composite_walks at first end after old members small is one last after_is = reco
 }
 
 -- the parts of a `tdf` block
-abbrev pub tdf_of : (line : ℕ) → (name : List ℕ) → List PureTdfLine → List Attr → List Initial → (initialize processing change reinitialize : PureBody) → PureTdf
-tdf_of line name decls attrs initials initialize processing change reinitialize = record {
-  line = line;
-  name = name;
-  decls = decls;
-  attrs = attrs;
-  initials = initials;
-  initialize = initialize;
-  processing = processing;
-  change = change;
-  reinitialize = reinitialize;
-}
-
 pub tdf_long : (b : PureTdf) → tdf_size b ≡ 1 + length b.decls + attributes_size b.attrs + length (initialize_lines b.initials b.initialize.list)
     + part_size b.processing + part_size b.change + part_size b.reinitialize + 1
 tdf_long b =
@@ -230,7 +217,8 @@ pub tdf_walks : (at first attributes initialize processing change reinitialize e
     → Walks part_size part_at change reinitialize old.change d
     → Walks part_size part_at reinitialize end old.reinitialize e
     → end ≤ last_number → after ≡ min (end + 1) last_number
-    → Walks tdf_size tdf_at at after old (tdf_of at old.name decls attrs initials b c d e)
+    → Walks tdf_size tdf_at at after old
+    (record old { line = at; decls = decls; attrs = attrs; initials = initials; initialize = b; processing = c; change = d; reinitialize = e })
 tdf_walks at first attributes initialize processing change reinitialize end after old decls attrs initials b c d e small is one two three four five six last after_is = record {
   later = omega (arith, is, one.later, two.later, three.later, four.later, five.later, six.later, after_is);
   next_is = λ few.
@@ -257,15 +245,21 @@ tdf_walks at first attributes initialize processing change reinitialize end afte
       let p5 : reinitialize ≡ at + 1 + length old.decls + length (attributes_lines old.attrs) + length (initialize_lines old.initials old.initialize.list)
       + length (part_lines FProcessing old.processing.list) + length (part_lines FChangeAttributes old.change.list) = omega (arith, p4, five.next_is n5, part_same FChangeAttributes FProcessing old.change.list) in
       let begun = three.new_is n3 in
-      ap (λ x. tdf_of at old.name x attrs initials b c d e) (one.new_is n1 ∙ ap (λ k. lines_at tdf_line_at k old.decls) first_is)
-      ∙ ap (λ x. tdf_of at old.name (tdf_at at old).decls x initials b c d e) (two.new_is n2 ∙ ap (λ k. lines_at attr_at (k + 1) old.attrs) p1)
-      ∙ ap (λ x. tdf_of at old.name (tdf_at at old).decls (tdf_at at old).attrs x b c d e) (ap (λ (x : Beginning). x.initials) begun ∙ ap (λ k. lines_at initial_at (k + 1) old.initials) p2)
-      ∙ ap (λ x. tdf_of at old.name (tdf_at at old).decls (tdf_at at old).attrs (tdf_at at old).initials x c d e)
-      (ap (λ (x : Beginning). x.body) begun ∙ ap (λ k. body_at (k + 1 + length old.initials) old.initialize) p2)
-      ∙ ap (λ x. tdf_of at old.name (tdf_at at old).decls (tdf_at at old).attrs (tdf_at at old).initials (tdf_at at old).initialize x d e)
-      (four.new_is n4 ∙ ap (λ k. body_at (k + 1) old.processing) p3)
-      ∙ ap (λ x. tdf_of at old.name (tdf_at at old).decls (tdf_at at old).attrs (tdf_at at old).initials (tdf_at at old).initialize (tdf_at at old).processing x e)
-      (five.new_is n5 ∙ ap (λ k. body_at (k + 1) old.change) p4)
-      ∙ ap (λ x. tdf_of at old.name (tdf_at at old).decls (tdf_at at old).attrs (tdf_at at old).initials (tdf_at at old).initialize (tdf_at at old).processing (tdf_at at old).change x)
-      (six.new_is n6 ∙ ap (λ k. body_at (k + 1) old.reinitialize) p5);
+      let decls_are = one.new_is n1 ∙ ap (λ k. lines_at tdf_line_at k old.decls) first_is in
+      let attrs_are = two.new_is n2 ∙ ap (λ k. lines_at attr_at (k + 1) old.attrs) p1 in
+      let initials_are = ap (λ (x : Beginning). x.initials) begun ∙ ap (λ k. lines_at initial_at (k + 1) old.initials) p2 in
+      let begins = ap (λ (x : Beginning). x.body) begun ∙ ap (λ k. body_at (k + 1 + length old.initials) old.initialize) p2 in
+      let processes = four.new_is n4 ∙ ap (λ k. body_at (k + 1) old.processing) p3 in
+      let changes = five.new_is n5 ∙ ap (λ k. body_at (k + 1) old.change) p4 in
+      let begins_again = six.new_is n6 ∙ ap (λ k. body_at (k + 1) old.reinitialize) p5 in
+      λ i. record old {
+        line = at;
+        decls = decls_are i;
+        attrs = attrs_are i;
+        initials = initials_are i;
+        initialize = begins i;
+        processing = processes i;
+        change = changes i;
+        reinitialize = begins_again i;
+      };
 }

@@ -12,38 +12,8 @@ use Rattle.tdf_stim.specs.Drivable.{is_off, line_from}
 use Rattle.tdf_stim.specs.Driven.{times_of}
 use Rattle.tdf_stim.specs.Driver.{counts}
 use Rattle.tdf_stim_process.specs.Laws.{TableTimesRise}
-use Rattle.tdf_tables.specs.Tables.{AreRows, FollowsTime, MoreRows, NoRows, TableRow, last_time}
-
--- ---- rows, from the front
-
-abbrev last_or : Option ℕ → List TableRow → Option ℕ
-last_or before [] = before
-last_or before (r ∷ rs) = last_or (Some r.time) rs
-
-last_is : (before : Option ℕ) (r : TableRow) (rs : List TableRow) → last_time (r ∷ rs) ≡ last_or before (r ∷ rs)
-unfolding last_time
-last_is before r [] = refl
-last_is before r (s ∷ rs) = last_is (Some r.time) s rs
-
-no_last : last_time [] ≡ None
-unfolding last_time
-no_last = refl
-
-last_all : (rows : List TableRow) → last_time rows ≡ last_or None rows
-last_all [] = no_last
-last_all (r ∷ rs) = last_is None r rs
-
-abbrev Rises : Option ℕ → List TableRow → Type 0
-Rises before [] = Unit {0}
-Rises before (r ∷ rs) = FollowsTime before r.time × Rises (Some r.time) rs
-
-rises_more : (before : Option ℕ) (rows : List TableRow) (row : TableRow) → Rises before rows → FollowsTime (last_or before rows) row.time → Rises before (rows ++ row ∷ [])
-rises_more before [] row h next = (next, tt)
-rises_more before (r ∷ rs) row h next = (h.0, rises_more (Some r.time) rs row h.1 next)
-
-rises : (columns : ℕ) (rows : List TableRow) → AreRows columns rows → Rises None rows
-rises columns rows NoRows = tt
-rises columns rows (MoreRows {rows = xs} before row is next) = rises_more None xs row (rises columns xs before) (subst (λ b. FollowsTime b row.time) (last_all xs) next)
+use Rattle.tdf_tables.proofs.Api.{Rising, rising}
+use Rattle.tdf_tables.specs.Tables.{TableRow}
 
 -- ---- each time is a whole count
 
@@ -96,7 +66,7 @@ module _ (unit : Resolution) where
   abbrev count_of : TableRow → ℕ
   count_of row = counts unit row.time
 
-  after_first : (r : TableRow) (rows : List TableRow) → IsOnCount unit r → Rises (Some r.time) rows → AllByRecursion (IsOnCount unit) rows → (j : ℕ) → j < length rows → count_of r < slice_index (map count_of rows) j
+  after_first : (r : TableRow) (rows : List TableRow) → IsOnCount unit r → Rising (Some r.time) rows → AllByRecursion (IsOnCount unit) rows → (j : ℕ) → j < length rows → count_of r < slice_index (map count_of rows) j
   after_first r [] on up all j less = absurd (omega (arith, less))
   after_first r (s ∷ rs) on up all zero less = counts_rise unit r.time s.time (on_whole unit r on) (on_whole unit s all.0) up.0
   after_first r (s ∷ rs) on up all (suc j) less =
@@ -104,7 +74,7 @@ module _ (unit : Resolution) where
       let more : count_of s < slice_index (map count_of rs) j = after_first s rs all.0 up.1 all.1 j (omega (arith, less)) in
       let both : count_of r < slice_index (map count_of rs) j = omega (arith, here, more) in both
 
-  all_rise : (before : Option ℕ) (rows : List TableRow) → Rises before rows → AllByRecursion (IsOnCount unit) rows → (i j : ℕ) → i < j → j < length rows → slice_index (map count_of rows) i < slice_index (map count_of rows) j
+  all_rise : (before : Option ℕ) (rows : List TableRow) → Rising before rows → AllByRecursion (IsOnCount unit) rows → (i j : ℕ) → i < j → j < length rows → slice_index (map count_of rows) i < slice_index (map count_of rows) j
   all_rise before [] up all i j less inside = absurd (omega (arith, inside))
   all_rise before (r ∷ rs) up all i zero less inside = absurd (omega (arith, less))
   all_rise before (r ∷ rs) up all zero (suc j) less inside = after_first r rs all.0 up.1 all.1 j (omega (arith, inside))
@@ -115,13 +85,13 @@ module _ (unit : Resolution) where
   all_small (r ∷ rs) all zero less = (let early : count_of r < time_end = on_early unit r all.0 in let g : count_of r < 2 ^ 64 = omega (arith, early) in g)
   all_small (r ∷ rs) all (suc i) less = all_small rs all.1 i (omega (arith, less))
 
-  first_zero : (rows : List TableRow) → Rises None rows → 0 < length rows → slice_index (map count_of rows) 0 ≡ 0
+  first_zero : (rows : List TableRow) → Rising None rows → 0 < length rows → slice_index (map count_of rows) 0 ≡ 0
   first_zero [] up some = absurd (omega (arith, some))
   first_zero (r ∷ rs) up some = ap (counts unit) up.0 ∙ counts_zero unit
 
 pub times_rise : TableTimesRise
 times_rise tree table form on =
-    let up = rises (length table.labels) table.rows form.front.rows in
+    let up = rising (length table.labels) table.rows form.front.rows in
     let all = all_on tree.resolution 2 table.rows on in
     let long : length (times_of tree table) ≡ length table.rows = length-map table.rows (count_of tree.resolution) in
     record {

@@ -64,7 +64,7 @@ one columns text xs ys g h = rows_one columns xs ys (each_row columns xs g.rows_
 
 -- ---- rows and their order, from the front
 
-abbrev last_or : Option ℕ → List TableRow → Option ℕ
+abbrev pub last_or : Option ℕ → List TableRow → Option ℕ
 last_or before [] = before
 last_or before (r ∷ rs) = last_or (Some r.time) rs
 
@@ -73,11 +73,11 @@ unfolding last_time
 last_is before r [] = refl
 last_is before r (s ∷ rs) = last_is (Some r.time) s rs
 
-last_all : (rows : List TableRow) → last_time rows ≡ last_or None rows
+pub last_all : (rows : List TableRow) → last_time rows ≡ last_or None rows
 last_all [] = no_last
 last_all (r ∷ rs) = last_is None r rs
 
-abbrev Rising : Option ℕ → List TableRow → Type 0
+abbrev pub Rising : Option ℕ → List TableRow → Type 0
 Rising before [] = Unit {0}
 Rising before (r ∷ rs) = FollowsTime before r.time × Rising (Some r.time) rs
 
@@ -85,7 +85,7 @@ rising_more : (before : Option ℕ) (rows : List TableRow) (row : TableRow) → 
 rising_more before [] row h next = (next, tt)
 rising_more before (r ∷ rs) row h next = (h.0, rising_more (Some r.time) rs row h.1 next)
 
-rising : (columns : ℕ) (rows : List TableRow) → AreRows columns rows → Rising None rows
+pub rising : (columns : ℕ) (rows : List TableRow) → AreRows columns rows → Rising None rows
 rising columns rows NoRows = tt
 rising columns rows (MoreRows {rows = xs} before row is next) = rising_more None xs row (rising columns xs before) (subst (λ b. FollowsTime b row.time) (last_all xs) next)
 
