@@ -25,8 +25,8 @@ use tdf_io::{Sink, SinkErr, Source};
 ///
 /// The status is 0 where the job is done, 1 where the text has a fault, 2 where the words are not accepted, 3 where a read
 /// failed, 4 where a write failed, 5 where a refused change of attributes stopped a run, 6 where the turns of a run were too few, 7
-/// where it is out of memory, 8 where the text has more than 1,048,576 bytes, and 9 where the stop is too late for the resolution
-/// of the model.
+/// where it is out of memory, 8 where the text has more bytes than its job reads (1,048,576 of a model, 67,108,864 of a table,
+/// 4,194,304 of a model and a table), and 9 where the stop is too late for the resolution of the model.
 pub fn tool<S: Source, O: Sink, N: Sink>(
     alloc: Global,
     words: &Vec<String>,
@@ -34,41 +34,59 @@ pub fn tool<S: Source, O: Sink, N: Sink>(
     out: &mut O,
     notes: &mut N,
 ) -> u8
-    // But for 4 and 7, the status, the output and the notes are those of the outcome for what came of the words and of
-    // reading.
-    ensures outcome { result ≢ write_fault → result ≢ no_memory → (r : Reading) × (status : Status) × (result ≡ status_number status)
-        × InputIs (texts_of words.now.items) r (S.left model.old) (S.left model.new) (S.faults model.old) (S.faults model.new)
-        × WritesOutcome r status (O.taken out.old) (O.taken out.new) (N.taken notes.old) (N.taken notes.new) }
+    // But for 4 and 7, the status, the output and the notes are those of the outcome for what came
+    // of the words and of reading.
+    ensures outcome { result ≢ write_fault → result ≢ no_memory → (r : Reading)
+        × (status : Status) × (result ≡ status_number status)
+        × InputIs (texts_of words.now.items) r (S.left model.old) (S.left model.new)
+        (S.faults model.old) (S.faults model.new)
+        × WritesOutcome r status (O.taken out.old) (O.taken out.new) (N.taken notes.old)
+        (N.taken notes.new) }
 
-    // After 4 and 7 both sinks hold front parts of the texts of that outcome, or nothing was written. Where it ran out of
-    // memory while the words or the text were read, the status is 7 and nothing was written.
-    ensures part { (result ≡ write_fault) ⊎ (result ≡ no_memory) → (r : Reading) × (r ≡ NoMemory → result ≡ no_memory)
-        × InputIs (texts_of words.now.items) r (S.left model.old) (S.left model.new) (S.faults model.old) (S.faults model.new)
-        × WritesNothingOrFront r (O.taken out.old) (O.taken out.new) (N.taken notes.old) (N.taken notes.new) }
+    // After 4 and 7 both sinks hold front parts of the texts of that outcome, or nothing was
+    // written. Where it ran out of memory while the words or the text were read, the status is 7
+    // and nothing was written.
+    ensures part { (result ≡ write_fault) ⊎ (result ≡ no_memory) → (r : Reading)
+        × (r ≡ NoMemory → result ≡ no_memory)
+        × InputIs (texts_of words.now.items) r (S.left model.old) (S.left model.new)
+        (S.faults model.old) (S.faults model.new)
+        × WritesNothingOrFront r (O.taken out.old) (O.taken out.new) (N.taken notes.old)
+        (N.taken notes.new) }
 
     // Where the words are not accepted, or ask for `load`, nothing is read.
     ensures unread { ¬ AskToRead (texts_of words.now.items) → model.new ≡ model.old }
-    ensures read_fault { result ≡ status_number ReadFault → FaultsRose (S.faults model.old) (S.faults model.new) }
-    ensures write_fault { result ≡ write_fault → FaultsRose (O.faults out.old) (O.faults out.new) ⊎ FaultsRose (N.faults notes.old) (N.faults notes.new) }
+    ensures read_fault { result ≡ status_number ReadFault
+        → FaultsRose (S.faults model.old) (S.faults model.new) }
+    ensures write_fault { result ≡ write_fault
+        → FaultsRose (O.faults out.old) (O.faults out.new)
+        ⊎ FaultsRose (N.faults notes.old) (N.faults notes.new) }
 
     // Where the status is none of 3, 4 and 7, the count of faults of the source is as it was.
-    ensures source_kept { result ≢ status_number ReadFault → result ≢ write_fault → result ≢ no_memory → S.faults model.new ≡ S.faults model.old }
+    ensures source_kept { result ≢ status_number ReadFault → result ≢ write_fault
+        → result ≢ no_memory → S.faults model.new ≡ S.faults model.old }
 
     // Where the status isn't 4, the counts of faults of both sinks are as they were.
     ensures out_kept { result ≢ write_fault → O.faults out.new ≡ O.faults out.old }
     ensures notes_kept { result ≢ write_fault → N.faults notes.new ≡ N.faults notes.old }
 
-    // Words that are accepted, a text of a length that is, an outcome for them, and no count of faults that rose: the status
-    // is that of the outcome, or it is out of memory.
-    ensures complete { (job : Settings) (text : List ℕ) (o : Outcome) → taken_of (texts_of words.now.items) ≡ Some job
-        → reads_text job ≡ true → S.left model.old ≡ Some text → length text ≤ most_bytes job → HasOutcome (Text job text) o
-        → ¬ FaultsRose (S.faults model.old) (S.faults model.new) → ¬ FaultsRose (O.faults out.old) (O.faults out.new)
-        → ¬ FaultsRose (N.faults notes.old) (N.faults notes.new) → (result ≡ status_number o.status) ⊎ (result ≡ no_memory) }
+    // Words that are accepted, a text of a length that is, an outcome for them, and no count of
+    // faults that rose: the status is that of the outcome, or it is out of memory.
+    ensures complete { (job : Settings) (text : List ℕ) (o : Outcome)
+        → taken_of (texts_of words.now.items) ≡ Some job
+        → reads_text job ≡ true → S.left model.old ≡ Some text → length text ≤ most_bytes job
+        → HasOutcome (Text job text) o
+        → ¬ FaultsRose (S.faults model.old) (S.faults model.new)
+        → ¬ FaultsRose (O.faults out.old) (O.faults out.new)
+        → ¬ FaultsRose (N.faults notes.old) (N.faults notes.new)
+        → (result ≡ status_number o.status) ⊎ (result ≡ no_memory) }
 
     // The same for `load`, whose text is made.
-    ensures complete_load { (seed size : ℕ) (o : Outcome) → taken_of (texts_of words.now.items) ≡ Some (Load seed size)
-        → HasOutcome (Text (Load seed size) (load_text seed size)) o → ¬ FaultsRose (O.faults out.old) (O.faults out.new)
-        → ¬ FaultsRose (N.faults notes.old) (N.faults notes.new) → (result ≡ status_number o.status) ⊎ (result ≡ no_memory) }
+    ensures complete_load { (seed size : ℕ) (o : Outcome)
+        → taken_of (texts_of words.now.items) ≡ Some (Load seed size)
+        → HasOutcome (Text (Load seed size) (load_text seed size)) o
+        → ¬ FaultsRose (O.faults out.old) (O.faults out.new)
+        → ¬ FaultsRose (N.faults notes.old) (N.faults notes.new)
+        → (result ≡ status_number o.status) ⊎ (result ≡ no_memory) }
 {
     law_one_outcome();
     let input = input_of(alloc, words, model);

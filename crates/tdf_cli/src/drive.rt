@@ -65,7 +65,8 @@ fn run_behind<O: Sink, N: Sink>(
 ) -> Result<Status, SinkErr>
     requires stop { asked.stop < time_end }
     requires accepted { IsSomeAccepted sim }
-    ensures writes { (tree : PureTree) → IsAcceptedTree tree sim → WritesOf (HasRunBehind lines.now asked tree) result
+    ensures writes { (tree : PureTree) → IsAcceptedTree tree sim
+        → WritesOf (HasRunBehind lines.now asked tree) result
         (O.taken out.old) (O.taken out.new) (N.taken notes.old) (N.taken notes.new) }
     ensures counts { CountsTwoSinks why.Failed (O.faults out.old) (O.faults out.new)
         (N.faults notes.old) (N.faults notes.new) result }
@@ -90,7 +91,8 @@ fn run_driven<O: Sink, N: Sink>(
 ) -> Result<Status, SinkErr>
     requires stop { asked.stop < time_end }
     requires accepted { IsSomeAccepted sim }
-    ensures writes { (tree : PureTree) → IsAcceptedTree tree sim → WritesOf (HasRunBehind (ignored_text ignored.now) asked tree) result
+    ensures writes { (tree : PureTree) → IsAcceptedTree tree sim
+        → WritesOf (HasRunBehind (ignored_text ignored.now) asked tree) result
         (O.taken out.old) (O.taken out.new) (N.taken notes.old) (N.taken notes.new) }
     ensures counts { CountsTwoSinks why.Failed (O.faults out.old) (O.faults out.new)
         (N.faults notes.old) (N.faults notes.new) result }
@@ -115,7 +117,8 @@ fn run_tree<O: Sink, N: Sink>(
     requires stop { asked.stop < time_end }
     requires kept { IsKept (pure_tree driven.tree) }
     requires formed { IsFormed (pure_tree driven.tree) }
-    ensures writes { WritesOf (HasTreeOutcome (ignored_text driven.ignored.items) asked (pure_tree driven.tree)) result
+    ensures writes { WritesOf (HasTreeOutcome (ignored_text driven.ignored.items) asked (pure_tree
+        driven.tree)) result
         (O.taken out.old) (O.taken out.new) (N.taken notes.old) (N.taken notes.new) }
     ensures counts { CountsTwoSinks why.Failed (O.faults out.old) (O.faults out.new)
         (N.faults notes.old) (N.faults notes.new) result }

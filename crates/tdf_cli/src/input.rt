@@ -34,7 +34,8 @@ pub(crate) enum Input {
 /// Makes the text of `load`.
 fn make(alloc: Global, seed: u64, size: u64) -> Input
     requires within { IsLoad seed size }
-    ensures input { (words : List (List ℕ)) (old : Option (List ℕ)) (before : ℕ) → taken_of words ≡ Some (Load seed size)
+    ensures input { (words : List (List ℕ)) (old : Option (List ℕ)) (before : ℕ)
+        → taken_of words ≡ Some (Load seed size)
         → InputIs words (reading result) old old before before }
     ensures ready { IsReady (reading result) }
 {
@@ -62,7 +63,8 @@ fn read<S: Source>(alloc: Global, job: Settings, model: &mut S) -> Input
     requires within { IsWithin job }
     requires reads { reads_text job ≡ true }
     ensures input { (words : List (List ℕ)) → taken_of words ≡ Some job
-        → InputIs words (reading result) (S.left model.old) (S.left model.new) (S.faults model.old) (S.faults model.new) }
+        → InputIs words (reading result) (S.left model.old) (S.left model.new)
+        (S.faults model.old) (S.faults model.new) }
     ensures ready { IsReady (reading result) }
     ensures kept { ¬ (reading result ≡ ReadFault) → S.faults model.new ≡ S.faults model.old }
 {
@@ -76,7 +78,8 @@ fn read<S: Source>(alloc: Global, job: Settings, model: &mut S) -> Input
 
 /// Takes the words, and then reads the model, or makes one.
 pub(crate) fn input_of<S: Source>(alloc: Global, words: &Vec<String>, model: &mut S) -> Input
-    ensures input { InputIs (texts_of words.now.items) (reading result) (S.left model.old) (S.left model.new) (S.faults model.old) (S.faults model.new) }
+    ensures input { InputIs (texts_of words.now.items) (reading result) (S.left model.old)
+        (S.left model.new) (S.faults model.old) (S.faults model.new) }
     ensures ready { IsReady (reading result) }
     ensures kept { ¬ (reading result ≡ ReadFault) → S.faults model.new ≡ S.faults model.old }
     ensures unread { ¬ AskToRead (texts_of words.now.items) → model.new ≡ model.old }

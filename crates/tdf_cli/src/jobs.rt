@@ -108,10 +108,14 @@ fn plan_texts(alloc: Global, sim: &Sim) -> Result<Texts, Memory>
 fn put_texts<O: Sink, N: Sink>(texts: &Texts, out: &mut O, notes: &mut N) -> Result<Status, SinkErr>
     ensures status { IfOk result (λ s. s ≡ Done) }
     ensures out { OnOk result (Appends (O.taken out.old) (O.taken out.new) texts.now.output.items) }
-    ensures notes { OnOk result (Appends (N.taken notes.old) (N.taken notes.new) texts.now.note.items) }
-    ensures out_part { OnErr result (AppendsFront (O.taken out.old) (O.taken out.new) texts.now.output.items) }
-    ensures notes_part { OnErr result (AppendsFront (N.taken notes.old) (N.taken notes.new) texts.now.note.items) }
-    ensures order { OnErr result ((notes.new ≡ notes.old) ⊎ Appends (O.taken out.old) (O.taken out.new) texts.now.output.items) }
+    ensures notes { OnOk result (Appends (N.taken notes.old) (N.taken notes.new)
+        texts.now.note.items) }
+    ensures out_part { OnErr result (AppendsFront (O.taken out.old) (O.taken out.new)
+        texts.now.output.items) }
+    ensures notes_part { OnErr result (AppendsFront (N.taken notes.old) (N.taken notes.new)
+        texts.now.note.items) }
+    ensures order { OnErr result ((notes.new ≡ notes.old)
+        ⊎ Appends (O.taken out.old) (O.taken out.new) texts.now.output.items) }
     ensures counts { CountsTwoSinks why.Failed (O.faults out.old) (O.faults out.new)
         (N.faults notes.old) (N.faults notes.new) result }
 {
@@ -130,9 +134,11 @@ fn check<O: Sink, N: Sink>(
     notes: &mut N,
 ) -> Result<Status, SinkErr>
     requires accepted { IsAccepted (pure_tree tree.now) sim.now }
-    ensures all { IfOk result (λ s. (text : List ℕ) → SpellsText text (pure_tree tree.now) → WritesOutcome (Text Check text) s
+    ensures all { IfOk result (λ s. (text : List ℕ) → SpellsText text (pure_tree tree.now)
+        → WritesOutcome (Text Check text) s
         (O.taken out.old) (O.taken out.new) (N.taken notes.old) (N.taken notes.new)) }
-    ensures part { OnErr result ((text : List ℕ) → SpellsText text (pure_tree tree.now) → WritesNothingOrFront (Text Check text)
+    ensures part { OnErr result ((text : List ℕ) → SpellsText text (pure_tree tree.now)
+        → WritesNothingOrFront (Text Check text)
         (O.taken out.old) (O.taken out.new) (N.taken notes.old) (N.taken notes.new)) }
     ensures counts { CountsTwoSinks why.Failed (O.faults out.old) (O.faults out.new)
         (N.faults notes.old) (N.faults notes.new) result }
@@ -154,9 +160,11 @@ fn plan<O: Sink, N: Sink>(
 ) -> Result<Status, SinkErr>
     requires accepted { IsAccepted (pure_tree tree.now) sim.now }
     requires printable { IsPrintable sim.now }
-    ensures all { IfOk result (λ s. (text : List ℕ) → SpellsText text (pure_tree tree.now) → WritesOutcome (Text Plan text) s
+    ensures all { IfOk result (λ s. (text : List ℕ) → SpellsText text (pure_tree tree.now)
+        → WritesOutcome (Text Plan text) s
         (O.taken out.old) (O.taken out.new) (N.taken notes.old) (N.taken notes.new)) }
-    ensures part { OnErr result ((text : List ℕ) → SpellsText text (pure_tree tree.now) → WritesNothingOrFront (Text Plan text)
+    ensures part { OnErr result ((text : List ℕ) → SpellsText text (pure_tree tree.now)
+        → WritesNothingOrFront (Text Plan text)
         (O.taken out.old) (O.taken out.new) (N.taken notes.old) (N.taken notes.new)) }
     ensures counts { CountsTwoSinks why.Failed (O.faults out.old) (O.faults out.new)
         (N.faults notes.old) (N.faults notes.new) result }
@@ -181,9 +189,11 @@ fn do_accepted<O: Sink, N: Sink>(
     requires within { IsWithin job }
     requires accepted { IsAcceptedTree (pure_tree tree.now) sim }
     requires printable { IsPrintable sim }
-    ensures all { IfOk result (λ s. (text : List ℕ) → SpellsText text (pure_tree tree.now) → WritesOutcome (Text job text) s
+    ensures all { IfOk result (λ s. (text : List ℕ) → SpellsText text (pure_tree tree.now)
+        → WritesOutcome (Text job text) s
         (O.taken out.old) (O.taken out.new) (N.taken notes.old) (N.taken notes.new)) }
-    ensures part { OnErr result ((text : List ℕ) → SpellsText text (pure_tree tree.now) → WritesNothingOrFront (Text job text)
+    ensures part { OnErr result ((text : List ℕ) → SpellsText text (pure_tree tree.now)
+        → WritesNothingOrFront (Text job text)
         (O.taken out.old) (O.taken out.new) (N.taken notes.old) (N.taken notes.new)) }
     ensures counts { CountsTwoSinks why.Failed (O.faults out.old) (O.faults out.new)
         (N.faults notes.old) (N.faults notes.new) result }
@@ -214,9 +224,11 @@ fn do_tree<O: Sink, N: Sink>(
     requires within { IsWithin job }
     requires kept { IsKept (pure_tree tree.now) }
     requires formed { IsFormed (pure_tree tree.now) }
-    ensures all { IfOk result (λ s. (text : List ℕ) → SpellsText text (pure_tree tree.now) → WritesOutcome (Text job text) s
+    ensures all { IfOk result (λ s. (text : List ℕ) → SpellsText text (pure_tree tree.now)
+        → WritesOutcome (Text job text) s
         (O.taken out.old) (O.taken out.new) (N.taken notes.old) (N.taken notes.new)) }
-    ensures part { OnErr result ((text : List ℕ) → SpellsText text (pure_tree tree.now) → WritesNothingOrFront (Text job text)
+    ensures part { OnErr result ((text : List ℕ) → SpellsText text (pure_tree tree.now)
+        → WritesNothingOrFront (Text job text)
         (O.taken out.old) (O.taken out.new) (N.taken notes.old) (N.taken notes.new)) }
     ensures counts { CountsTwoSinks why.Failed (O.faults out.old) (O.faults out.new)
         (N.faults notes.old) (N.faults notes.new) result }

@@ -75,7 +75,8 @@ struct Measurement {
 /// What is told of a run that ended so and made this table.
 fn measured_by(alloc: Global, size: u64, end: &End, table: &[u8]) -> Result<Measurement, Memory>
     ensures status { IfOk result (λ m. m.status ≡ status_of end.now) }
-    ensures line { IfOk result (λ m. string_bytes m.line ≡ load_line size (turns_taken end.now) table.now) }
+    ensures line { IfOk result (λ m. string_bytes m.line ≡ load_line size (turns_taken end.now)
+        table.now) }
 {
     let line = load_line(alloc, size, turns_taken(end), table)?;
     Ok(Measurement {
@@ -117,10 +118,14 @@ pub(crate) fn measure<O: Sink>(
     out: &mut O,
 ) -> Result<Status, SinkErr>
     requires accepted { IsSomeAccepted sim }
-    ensures all { (tree : PureTree) (text : List ℕ) (seed : ℕ) (notes : Option (List ℕ)) → SpellsText text tree → IsAcceptedTree tree sim
-        → IfOk result (λ s. WritesOutcome (Text (Load seed size) text) s (O.taken out.old) (O.taken out.new) notes notes) }
-    ensures part { (tree : PureTree) (text : List ℕ) (seed : ℕ) (notes : Option (List ℕ)) → SpellsText text tree → IsAcceptedTree tree sim
-        → OnErr result (WritesNothingOrFront (Text (Load seed size) text) (O.taken out.old) (O.taken out.new) notes notes) }
+    ensures all { (tree : PureTree) (text : List ℕ) (seed : ℕ) (notes : Option (List ℕ))
+        → SpellsText text tree → IsAcceptedTree tree sim
+        → IfOk result (λ s. WritesOutcome (Text (Load seed size) text) s (O.taken out.old)
+        (O.taken out.new) notes notes) }
+    ensures part { (tree : PureTree) (text : List ℕ) (seed : ℕ) (notes : Option (List ℕ))
+        → SpellsText text tree → IsAcceptedTree tree sim
+        → OnErr result (WritesNothingOrFront (Text (Load seed size) text) (O.taken out.old)
+        (O.taken out.new) notes notes) }
     ensures cause { IsErrOf result why.Failed → FaultsRose (O.faults out.old) (O.faults out.new) }
     ensures kept { ¬ IsErrOf result why.Failed → O.faults out.new ≡ O.faults out.old }
 {

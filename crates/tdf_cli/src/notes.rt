@@ -45,7 +45,8 @@ pub(crate) fn refuse_line<N: Sink>(
     line: u32,
 ) -> Result<Status, SinkErr>
     ensures status { IfOk result (λ s. s ≡ Refused) }
-    ensures writes { WritesText N.taken N.faults notes.old notes.new (line_refusal word.now line) result }
+    ensures writes { WritesText N.taken N.faults notes.old notes.new (line_refusal word.now line)
+        result }
 {
     let mut text = Vec::new(alloc);
     match push_line_refusal(&mut text, word, line) {

@@ -22,7 +22,8 @@ fn on_line(code: Code, line: u32) -> Fault
 
 /// The first fault of a text that the parser refused, or none where it is out of memory.
 pub(crate) fn first_fault(refused: LangErr) -> Option<Fault>
-    ensures { MatchOption result (refused ≡ why.Memory) (λ fault. (text : List ℕ) → IsWhy refused text → IsTextFault text fault) }
+    ensures { MatchOption result (refused ≡ why.Memory) (λ fault. (text : List ℕ)
+        → IsWhy refused text → IsTextFault text fault) }
 {
     match refused {
         LangErr::Byte { line } => Some(on_line(Code::Byte, line)),

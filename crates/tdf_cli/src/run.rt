@@ -62,10 +62,12 @@ fn run_to<O: Sink, N: Sink>(
 ) -> Result<Status, SinkErr>
     requires stop { end < time_end }
     requires accepted { IsSomeAccepted sim }
-    ensures all { (tree : PureTree) → IsAcceptedTree tree sim → stop_in sim.flat.resolution asked.stop ≡ Some end
+    ensures all { (tree : PureTree) → IsAcceptedTree tree sim
+        → stop_in sim.flat.resolution asked.stop ≡ Some end
         → IfOk result (λ s. WritesOneOf (HasRunOutcome asked tree) s
         (O.taken out.old) (O.taken out.new) (N.taken notes.old) (N.taken notes.new)) }
-    ensures part { (tree : PureTree) → IsAcceptedTree tree sim → stop_in sim.flat.resolution asked.stop ≡ Some end
+    ensures part { (tree : PureTree) → IsAcceptedTree tree sim
+        → stop_in sim.flat.resolution asked.stop ≡ Some end
         → OnErr result (WritesFrontOf (HasRunOutcome asked tree)
         (O.taken out.old) (O.taken out.new) (N.taken notes.old) (N.taken notes.new)) }
     ensures counts { CountsTwoSinks why.Failed (O.faults out.old) (O.faults out.new)
@@ -94,9 +96,11 @@ pub(crate) fn run<O: Sink, N: Sink>(
 ) -> Result<Status, SinkErr>
     requires stop { asked.stop < time_end }
     requires accepted { IsSomeAccepted sim }
-    ensures all { (tree : PureTree) → IsAcceptedTree tree sim → IfOk result (λ s. WritesOneOf (HasRunOutcome asked tree) s
+    ensures all { (tree : PureTree) → IsAcceptedTree tree sim
+        → IfOk result (λ s. WritesOneOf (HasRunOutcome asked tree) s
         (O.taken out.old) (O.taken out.new) (N.taken notes.old) (N.taken notes.new)) }
-    ensures part { (tree : PureTree) → IsAcceptedTree tree sim → OnErr result (WritesFrontOf (HasRunOutcome asked tree)
+    ensures part { (tree : PureTree) → IsAcceptedTree tree sim
+        → OnErr result (WritesFrontOf (HasRunOutcome asked tree)
         (O.taken out.old) (O.taken out.new) (N.taken notes.old) (N.taken notes.new)) }
     ensures counts { CountsTwoSinks why.Failed (O.faults out.old) (O.faults out.new)
         (N.faults notes.old) (N.faults notes.new) result }

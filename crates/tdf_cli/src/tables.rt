@@ -41,7 +41,8 @@ fn put_stats<O: Sink>(
     requires table { IsTableForm table.now }
     requires window { IfSome window (λ step. 1 ≤ step) }
     ensures status { IfOk result (λ s. s ≡ Done) }
-    ensures writes { WritesText O.taken O.faults out.old out.new (stats_text table.now window) result }
+    ensures writes { WritesText O.taken O.faults out.old out.new (stats_text table.now window)
+        result }
 {
     match write_stats(alloc, table, window, out) {
         Ok(()) => Ok(Status::Done),
@@ -59,9 +60,11 @@ fn sample_table<O: Sink, N: Sink>(
 ) -> Result<Status, SinkErr>
     requires table { IsTableForm table.now }
     requires within { IsChoice choice }
-    ensures all { IfOk result (λ s. (text : List ℕ) → SpellsTable text table.now → WritesOutcome (Text (Sample choice) text) s
+    ensures all { IfOk result (λ s. (text : List ℕ) → SpellsTable text table.now
+        → WritesOutcome (Text (Sample choice) text) s
         (O.taken out.old) (O.taken out.new) (N.taken notes.old) (N.taken notes.new)) }
-    ensures part { OnErr result ((text : List ℕ) → SpellsTable text table.now → WritesNothingOrFront (Text (Sample choice) text)
+    ensures part { OnErr result ((text : List ℕ) → SpellsTable text table.now
+        → WritesNothingOrFront (Text (Sample choice) text)
         (O.taken out.old) (O.taken out.new) (N.taken notes.old) (N.taken notes.new)) }
     ensures counts { CountsTwoSinks why.Failed (O.faults out.old) (O.faults out.new)
         (N.faults notes.old) (N.faults notes.new) result }
