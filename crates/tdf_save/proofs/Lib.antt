@@ -1,0 +1,11 @@
+pub mod WordLists
+pub mod Each
+pub mod PartTexts
+pub mod Starts
+pub mod Ones
+pub mod Numerals
+pub mod LineOnes
+pub mod PartOnes
+pub mod WholeOnes
+pub mod Lines
+pub mod Passing
