@@ -44,4 +44,4 @@ pub use numerals::{
 pub use refusal::{TypeErr, verdict};
 pub use resolution::Resolution;
 pub use texts::{cluster_number, push_number, push_word, row_number};
-pub use times::{TimeErr, read_time, read_time_at};
+pub use times::{TimeErr, femtoseconds_of_count, read_time, read_time_at};

@@ -86,8 +86,8 @@ fn femtoseconds(unit: &[u8]) -> Option<u64>
     None
 }
 
-/// The femtoseconds of one count.
-fn femtoseconds_of_count(resolution: Resolution) -> u64
+/// The femtoseconds of one count: 1,000 where times are in ps, 1 where they are in fs.
+pub fn femtoseconds_of_count(resolution: Resolution) -> u64
     ensures value { result ≡ femtoseconds_in resolution }
     ensures some { 0 < result }
 {

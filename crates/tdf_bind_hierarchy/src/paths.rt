@@ -3,13 +3,13 @@
 //! Names may nest a thousand deep, and thousands of paths may have one front. So a path is its last name and a shared pointer
 //! to the path of what it is in: it takes memory for one name alone, and its text is made where it is printed.
 
-ghost use Rattle.std.specs.Prelude.{◌≡◌, ◌+◌, ◌++◌, IfOk, OnOk, min, length};
+ghost use Rattle.std.specs.Prelude.{◌≡◌, ◌+◌, ◌++◌, IfOk, OnErr, OnOk, min, length, take};
 ghost use Rattle.tdf_bind_hierarchy.specs.Paths.{path_in};
 
 use std::alloc::Global;
 use std::marker::Model;
 use std::rc::Rc;
-use tdf_base::{Memory, Name, Path};
+use tdf_base::{Memory, Name, Path, push_word};
 
 /// A dotted path, as `left.amplifier.out`, seen as its text.
 #[cycle(path)]
@@ -106,16 +106,31 @@ impl SharedPath {
     /// Appends the text of this path. The call goes as deep as the path has names.
     ///
     /// # Errors
-    /// Out of memory.
+    /// Out of memory; `out` is then unchanged.
     pub fn push_text(&self, out: &mut Vec<u8>) -> Result<(), Memory>
-        ensures { OnOk result (out.new.items ≡ out.old.items ++ self.now) }
+        ensures whole { OnOk result (out.new.items ≡ out.old.items ++ self.now) }
+        ensures kept { OnErr result (out.new.items ≡ out.old.items) }
+    {
+        let start = out.len();
+        match self.push_names(out) {
+            Ok(()) => Ok(()),
+            Err(error) => {
+                out.truncate(start);
+                Err(error)
+            }
+        }
+    }
+
+    fn push_names(&self, out: &mut Vec<u8>) -> Result<(), Memory>
+        ensures ok { OnOk result (out.new.items ≡ out.old.items ++ self.now) }
+        ensures kept { take (length out.old.items) out.new.items ≡ out.old.items }
     {
         match &*self.link {
-            Link::Top(name) => push_name(out, name),
+            Link::Top(name) => push_word(out, name.as_bytes()),
             Link::Inside(front, name) => {
-                front.push_text(out)?;
+                front.push_names(out)?;
                 out.push(b'.')?;
-                push_name(out, name)
+                push_word(out, name.as_bytes())
             }
         }
     }
@@ -126,11 +141,4 @@ fn sum_up_to(front: usize, name: usize, limit: usize) -> usize
     ensures { result ≡ min (front + (1 + name)) limit }
 {
     front.saturating_add(1).saturating_add(name).min(limit)
-}
-
-fn push_name(out: &mut Vec<u8>, name: &Name) -> Result<(), Memory>
-    ensures { OnOk result (out.new.items ≡ out.old.items ++ name.now) }
-{
-    out.extend_from_slice(name.as_bytes())?;
-    Ok(())
 }

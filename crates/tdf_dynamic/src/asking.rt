@@ -41,7 +41,7 @@ fn clear_all(ports: &mut Ports, count: u32)
 {
     for port in 0..count {
         clear_port(ports, port);
-        let _ = ports.ports();
+        ports.law_fit();
     }
 }
 
@@ -50,8 +50,9 @@ pub fn begin(ports: &mut Ports)
     requires few { length ports.old.spans ≤ 2 ^ 31 }
     ensures { AreBegun ports.old ports.new }
 {
-    let _ = ports.ports();
+    ports.law_fit();
     ports.reset();
+    ports.law_fit();
     let count = ports.ports();
     clear_all(ports, count as u32);
 }
@@ -76,7 +77,7 @@ fn run_if(flat: &Flat, attrs: &ModuleAttrs, instance: &mut ModuleFrame)
         &mut instance.frame,
         &mut instance.ports,
     );
-    let _ = instance.ports.ports();
+    instance.ports.law_fit();
 }
 
 /// A module says what it asks for: its change body runs, where it has changes.

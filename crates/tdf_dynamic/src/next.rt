@@ -55,63 +55,73 @@ fn module_fault(alloc: Global, flat: &Flat, why: Code, attrs: &ModuleAttrs) -> C
     }
 }
 
+/// A boundary of a cluster, after the change bodies of its modules have run.
+#[derive(Clone, Copy)]
+struct Boundary<'a> {
+    flat: &'a Flat,
+    /// The cluster of each actor.
+    clusters: &'a [u32],
+    cluster: u32,
+    /// The attributes in force.
+    table: &'a [ModuleAttrs],
+    frames: &'a [ModuleFrame],
+}
+
 /// Whether no module rejects, or the fault that one does.
 fn accepted(
     alloc: Global,
-    flat: &Flat,
-    table: &[ModuleAttrs],
-    frames: &[ModuleFrame],
+    at: &Boundary,
     before: &Net,
     old: &Timing,
     after: &Net,
     new: &Timing,
 ) -> Result<(), ChangeErr>
-    requires tells { AllTell flat.now table.now frames.now }
+    requires tells { AllTell at.now.flat.now at.now.table.now at.now.frames.now }
     ensures none { OnOk result (HoldsBelow (λ attrs f. IsRefusing before.now.ports.items after.now.ports.items old.now.steps new.now.steps attrs f → ⊥)
-        table.now frames.now (length table.now)) }
+        at.now.table.now at.now.frames.now (length at.now.table.now)) }
     ensures refused { IfErr result (IsRefusal (λ fault. (k : ℕ)
-        × (first : IsFirstPlace (IsRefusing before.now.ports.items after.now.ports.items old.now.steps new.now.steps) table.now frames.now k)
-        × (fault_of_row flat.now.tables code.Rejected first.one ≡ Some fault))) }
+        × (first : IsFirstPlace (IsRefusing before.now.ports.items after.now.ports.items old.now.steps new.now.steps) at.now.table.now at.now.frames.now k)
+        × (fault_of_row at.now.flat.now.tables code.Rejected first.one ≡ Some fault))) }
 {
-    match first_rejecting(flat, table, frames, before, &old.steps, after, &new.steps) {
+    let table = at.table;
+    match first_rejecting(
+        at.flat, table, at.frames, before, &old.steps, after, &new.steps,
+    ) {
         None => Ok(()),
-        Some(place) => Err(module_fault(alloc, flat, Code::Rejected, &table[place])),
+        Some(place) => Err(module_fault(alloc, at.flat, Code::Rejected, &table[place])),
     }
 }
 
 /// The plan of a new table, whose net and timing are given, if no module rejects it.
 fn judged_by(
     alloc: Global,
-    flat: &Flat,
-    clusters: &[u32],
-    cluster: u32,
-    table: &[ModuleAttrs],
-    frames: &[ModuleFrame],
+    at: &Boundary,
     new: &[ModuleAttrs],
     after: Net,
     timing: Timing,
     known: &mut KnownPlans,
 ) -> Result<Plan, ChangeErr>
-    requires wired { IsWired flat.now.tables }
-    requires own { clusters.now ≡ clusters_of flat.now.tables }
-    requires has { Contains (clusters_of flat.now.tables) cluster }
-    requires table { All (IsOfCluster flat.now.tables cluster) table.now }
-    requires rates { AreRates flat.now.tables table.now }
-    requires planned { IsPlanned flat.now.tables cluster table.now }
-    requires net { net_seen after ≡ net_of flat.now.tables new.now }
-    requires timing { HasTiming flat.now.tables (net_of flat.now.tables new.now) cluster new.now timing.counts.items timing.steps }
-    requires tells { AllTell flat.now table.now frames.now }
-    ensures plan { IfOk result (IsJudged flat.now.tables cluster table.now new.now frames.now) }
-    ensures refused { IfErr result (IsRefusal (IsJudgedFault flat.now.tables cluster table.now new.now frames.now)) }
+    requires wired { IsWired at.now.flat.now.tables }
+    requires own { at.now.clusters.now ≡ clusters_of at.now.flat.now.tables }
+    requires has { Contains (clusters_of at.now.flat.now.tables) at.now.cluster }
+    requires table { All (IsOfCluster at.now.flat.now.tables at.now.cluster) at.now.table.now }
+    requires rates { AreRates at.now.flat.now.tables at.now.table.now }
+    requires planned { IsPlanned at.now.flat.now.tables at.now.cluster at.now.table.now }
+    requires net { net_seen after ≡ net_of at.now.flat.now.tables new.now }
+    requires timing { HasTiming at.now.flat.now.tables (net_of at.now.flat.now.tables new.now) at.now.cluster new.now timing.counts.items timing.steps }
+    requires tells { AllTell at.now.flat.now at.now.table.now at.now.frames.now }
+    ensures plan { IfOk result (IsJudged at.now.flat.now.tables at.now.cluster at.now.table.now new.now at.now.frames.now) }
+    ensures refused { IfErr result (IsRefusal (IsJudgedFault at.now.flat.now.tables at.now.cluster at.now.table.now new.now at.now.frames.now)) }
 {
     law_counts();
-    let before = net_of(alloc, &flat.tables, table)?;
-    let old = match steps_of(alloc, &flat.tables, &before, clusters, cluster, table) {
+    let tables = &at.flat.tables;
+    let before = net_of(alloc, tables, at.table)?;
+    let old = match steps_of(alloc, tables, &before, at.clusters, at.cluster, at.table) {
         Ok(old) => old,
         Err(refused) => return Err(refused),
     };
-    match accepted(alloc, flat, table, frames, &before, &old, &after, &timing) {
-        Ok(()) => known.plan_of(alloc, &flat.tables, after, new, timing),
+    match accepted(alloc, at, &before, &old, &after, &timing) {
+        Ok(()) => known.plan_of(alloc, tables, after, new, timing),
         Err(refused) => Err(refused),
     }
 }
@@ -119,31 +129,25 @@ fn judged_by(
 /// The plan of a new table, if it has one and no module rejects it.
 fn judged(
     alloc: Global,
-    flat: &Flat,
-    clusters: &[u32],
-    cluster: u32,
-    table: &[ModuleAttrs],
-    frames: &[ModuleFrame],
+    at: &Boundary,
     new: &[ModuleAttrs],
     known: &mut KnownPlans,
 ) -> Result<Plan, ChangeErr>
-    requires wired { IsWired flat.now.tables }
-    requires own { clusters.now ≡ clusters_of flat.now.tables }
-    requires has { Contains (clusters_of flat.now.tables) cluster }
-    requires table { All (IsOfCluster flat.now.tables cluster) table.now }
-    requires rates { AreRates flat.now.tables table.now }
-    requires planned { IsPlanned flat.now.tables cluster table.now }
-    requires new { All (IsOfCluster flat.now.tables cluster) new.now }
-    requires new_rates { AreRates flat.now.tables new.now }
-    requires tells { AllTell flat.now table.now frames.now }
-    ensures plan { IfOk result (IsJudged flat.now.tables cluster table.now new.now frames.now) }
-    ensures refused { IfErr result (IsRefusal (IsJudgedFault flat.now.tables cluster table.now new.now frames.now)) }
+    requires wired { IsWired at.now.flat.now.tables }
+    requires own { at.now.clusters.now ≡ clusters_of at.now.flat.now.tables }
+    requires has { Contains (clusters_of at.now.flat.now.tables) at.now.cluster }
+    requires table { All (IsOfCluster at.now.flat.now.tables at.now.cluster) at.now.table.now }
+    requires rates { AreRates at.now.flat.now.tables at.now.table.now }
+    requires planned { IsPlanned at.now.flat.now.tables at.now.cluster at.now.table.now }
+    requires new { All (IsOfCluster at.now.flat.now.tables at.now.cluster) new.now }
+    requires new_rates { AreRates at.now.flat.now.tables new.now }
+    requires tells { AllTell at.now.flat.now at.now.table.now at.now.frames.now }
+    ensures plan { IfOk result (IsJudged at.now.flat.now.tables at.now.cluster at.now.table.now new.now at.now.frames.now) }
+    ensures refused { IfErr result (IsRefusal (IsJudgedFault at.now.flat.now.tables at.now.cluster at.now.table.now new.now at.now.frames.now)) }
 {
-    let after = net_of(alloc, &flat.tables, new)?;
-    match steps_of(alloc, &flat.tables, &after, clusters, cluster, new) {
-        Ok(timing) => judged_by(
-            alloc, flat, clusters, cluster, table, frames, new, after, timing, known,
-        ),
+    let after = net_of(alloc, &at.flat.tables, new)?;
+    match steps_of(alloc, &at.flat.tables, &after, at.clusters, at.cluster, new) {
+        Ok(timing) => judged_by(alloc, at, new, after, timing, known),
         Err(refused) => Err(refused),
     }
 }
@@ -168,9 +172,14 @@ fn with_table(
 {
     let after = table_after(alloc, flat, table, frames)?;
     let clusters = clusters_of(alloc, &flat.tables)?;
-    match judged(
-        alloc, flat, &clusters, cluster, table, frames, &after, known,
-    ) {
+    let at = Boundary {
+        flat,
+        clusters: &clusters,
+        cluster,
+        table,
+        frames,
+    };
+    match judged(alloc, &at, &after, known) {
         Ok(plan) => Ok(Next::Changed(Attrs::new(after, known.take(alloc)), plan)),
         Err(refused) => Err(refused),
     }

@@ -1,5 +1,7 @@
 -- Texts that are put together line by line.
 use Rattle.std.proofs.Common.{◌≡◌, ◌<◌, ◌+◌, ℕ, zero, suc, arith, List, [], ◌∷◌, ◌++◌, append_assoc, append-nil, refl, sym, ap, ◌∙◌, length, take}
+use Rattle.std.proofs.Math.Seq.{take-append_seam}
+use Rattle.std.proofs.lemmas.List.{length-append, take-take}
 use Rattle.std.proofs.lemmas.Grind.{flat_map-append}
 use Rattle.std.specs.Fmt.{decimal}
 use Rattle.std.specs.List.{flat_map, range_with_len}
@@ -30,3 +32,9 @@ accepted_joins (Ok x) old a b c d number clusters is e f g h =
     ∙ append_assoc (old ++ codes "accepted") (codes " clusters ") (decimal clusters) ∙ append_assoc old (codes "accepted") (codes " clusters " ++ decimal clusters))
     ∙ append_assoc old (codes "accepted" ++ codes " clusters " ++ decimal clusters) (codes "\n")
 accepted_joins (Err error) old a b c d number clusters is e f g h = tt
+
+-- what a text held in front is there still when the next piece finds no memory
+pub kept_after : (a t b c : List ℕ) → b ≡ a ++ t → take (length b) c ≡ b → take (length a) c ≡ a
+kept_after a t b c is kept =
+    let long : length b ≡ length a + length t = ap length is ∙ length-append a t in
+    sym (take-take (length a) (length b) c (omega (arith, long))) ∙ ap (take (length a)) (kept ∙ is) ∙ take-append_seam a t

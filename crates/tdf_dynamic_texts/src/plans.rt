@@ -1,7 +1,7 @@
 //! The texts of plans.
 
 ghost use Rattle.std.specs.List.{flat_map, range_with_len};
-ghost use Rattle.std.specs.Prelude.{◌≡◌, ◌<◌, ◌++◌, ◌/◌, All, OnOk, length};
+ghost use Rattle.std.specs.Prelude.{◌≡◌, ◌<◌, ◌++◌, ◌/◌, All, OnErr, OnOk, length, take};
 ghost use Rattle.tdf_bind_tables.specs.Ranges.{AreInRange};
 ghost use Rattle.tdf_dynamic_texts.specs.Plans.{accepted_line, actor_line, actor_text, cluster_line, edge_line, edge_text, fire_line, fires_text, plan_text, rows_of_plan};
 ghost use Rattle.tdf_dynamic_texts.specs.views.Counted.{AreCounted};
@@ -22,8 +22,9 @@ fn push_cluster_line(
     plan: &Plan,
     unit: Resolution,
 ) -> Result<(), Memory>
-    ensures { OnOk result (out.new.items ≡ out.old.items
+    ensures ok { OnOk result (out.new.items ≡ out.old.items
         ++ cluster_line unit cluster time plan.now.period (length plan.now.entries.items)) }
+    ensures kept { take (length out.old.items) out.new.items ≡ out.old.items }
 {
     push_word(out, b"cluster ")?;
     push_number(out, u64::from(cluster))?;
@@ -45,7 +46,8 @@ fn push_actor_line(
     step: u64,
     unit: Resolution,
 ) -> Result<(), Memory>
-    ensures { OnOk result (out.new.items ≡ out.old.items ++ actor_line unit path.now count step) }
+    ensures ok { OnOk result (out.new.items ≡ out.old.items ++ actor_line unit path.now count step) }
+    ensures kept { take (length out.old.items) out.new.items ≡ out.old.items }
 {
     push_word(out, b"actor ")?;
     path.push_text(out)?;
@@ -64,7 +66,8 @@ fn push_edge_line(
     delay: u32,
     bound: u32,
 ) -> Result<(), Memory>
-    ensures { OnOk result (out.new.items ≡ out.old.items ++ edge_line path.now delay bound) }
+    ensures ok { OnOk result (out.new.items ≡ out.old.items ++ edge_line path.now delay bound) }
+    ensures kept { take (length out.old.items) out.new.items ≡ out.old.items }
 {
     push_word(out, b"edge ")?;
     path.push_text(out)?;
@@ -83,7 +86,8 @@ fn push_fire_line(
     entry: &Entry,
     unit: Resolution,
 ) -> Result<(), Memory>
-    ensures { OnOk result (out.new.items ≡ out.old.items ++ fire_line unit path.now entry.now) }
+    ensures ok { OnOk result (out.new.items ≡ out.old.items ++ fire_line unit path.now entry.now) }
+    ensures kept { take (length out.old.items) out.new.items ≡ out.old.items }
 {
     push_word(out, b"fire ")?;
     push_seconds_at(out, entry.offset, unit)?;
@@ -116,8 +120,9 @@ fn push_actor(
     requires range { AreInRange flat.now }
     requires place { place < length flat.now.actors }
     requires counts { AreCounted (length flat.now.actors) plan.now.entries.items counts.now }
-    ensures { OnOk result (out.new.items
+    ensures ok { OnOk result (out.new.items
         ≡ out.old.items ++ actor_text unit flat.now (rows_of_plan plan.now) cluster place) }
+    ensures kept { take (length out.old.items) out.new.items ≡ out.old.items }
 {
     if flat.actors[place].cluster != cluster {
         return Ok(());
@@ -138,7 +143,8 @@ fn push_edge(
     requires range { AreInRange flat.now }
     requires place { place < length flat.now.edges }
     requires bounds { length plan.now.bounds.items ≡ length flat.now.edges }
-    ensures { OnOk result (out.new.items ≡ out.old.items ++ edge_text flat.now (rows_of_plan plan.now) cluster place) }
+    ensures ok { OnOk result (out.new.items ≡ out.old.items ++ edge_text flat.now (rows_of_plan plan.now) cluster place) }
+    ensures kept { take (length out.old.items) out.new.items ≡ out.old.items }
 {
     let row = flat.edges[place];
     if flat.actors[row.writer as usize].cluster != cluster {
@@ -159,9 +165,10 @@ fn push_actors(
 ) -> Result<(), Memory>
     requires range { AreInRange flat.now }
     requires counts { AreCounted (length flat.now.actors) plan.now.entries.items counts.now }
-    ensures { OnOk result (out.new.items ≡ out.old.items
+    ensures ok { OnOk result (out.new.items ≡ out.old.items
         ++ flat_map (actor_text unit flat.now (rows_of_plan plan.now) cluster)
         (range_with_len 0 (length flat.now.actors))) }
+    ensures kept { take (length out.old.items) out.new.items ≡ out.old.items }
 {
     for place in 0..flat.actors.len() {
         push_actor(out, flat, plan, counts, cluster, place, unit)?;
@@ -173,9 +180,10 @@ fn push_actors(
 fn push_edges(out: &mut Vec<u8>, flat: &FlatTables, plan: &Plan, cluster: u32) -> Result<(), Memory>
     requires range { AreInRange flat.now }
     requires bounds { length plan.now.bounds.items ≡ length flat.now.edges }
-    ensures { OnOk result (out.new.items ≡ out.old.items
+    ensures ok { OnOk result (out.new.items ≡ out.old.items
         ++ flat_map (edge_text flat.now (rows_of_plan plan.now) cluster)
         (range_with_len 0 (length flat.now.edges))) }
+    ensures kept { take (length out.old.items) out.new.items ≡ out.old.items }
 {
     for place in 0..flat.edges.len() {
         push_edge(out, flat, plan, cluster, place)?;
@@ -183,12 +191,33 @@ fn push_edges(out: &mut Vec<u8>, flat: &FlatTables, plan: &Plan, cluster: u32) -
     Ok(())
 }
 
+#[tactic(auto, unfolding(crate::specs::Plans::plan_text), using(crate::proofs::Texts::text_laws))]
+fn push_plan_lines(
+    out: &mut Vec<u8>,
+    flat: &FlatTables,
+    cluster: u32,
+    time: u64,
+    plan: &Plan,
+    unit: Resolution,
+) -> Result<(), Memory>
+    requires range { AreInRange flat.now }
+    requires bounds { length plan.now.bounds.items ≡ length flat.now.edges }
+    ensures ok { OnOk result (out.new.items
+        ≡ out.old.items ++ plan_text unit flat.now cluster time (rows_of_plan plan.now)) }
+    ensures kept { take (length out.old.items) out.new.items ≡ out.old.items }
+{
+    let alloc = *out.allocator();
+    let counts = counted(alloc, flat.actors.len(), &plan.entries)?;
+    push_cluster_line(out, cluster, time, plan, unit)?;
+    push_actors(out, flat, plan, &counts, cluster, unit)?;
+    push_edges(out, flat, plan, cluster)
+}
+
 /// Appends the plan of a cluster from a time on: one line for the cluster, one for each of its actors, and one for each of its
 /// edges. Times are in counts of `unit`.
 ///
 /// # Errors
-/// Out of memory.
-#[tactic(auto, unfolding(crate::specs::Plans::plan_text), using(crate::proofs::Texts::text_laws))]
+/// Out of memory; `out` is then unchanged.
 pub fn push_plan(
     out: &mut Vec<u8>,
     flat: &FlatTables,
@@ -199,22 +228,22 @@ pub fn push_plan(
 ) -> Result<(), Memory>
     requires range { AreInRange flat.now }
     requires bounds { length plan.now.bounds.items ≡ length flat.now.edges }
-    ensures { OnOk result (out.new.items
+    ensures whole { OnOk result (out.new.items
         ≡ out.old.items ++ plan_text unit flat.now cluster time (rows_of_plan plan.now)) }
+    ensures kept { OnErr result (out.new.items ≡ out.old.items) }
 {
-    let alloc = *out.allocator();
-    let counts = counted(alloc, flat.actors.len(), &plan.entries)?;
-    push_cluster_line(out, cluster, time, plan, unit)?;
-    push_actors(out, flat, plan, &counts, cluster, unit)?;
-    push_edges(out, flat, plan, cluster)
+    let start = out.len();
+    match push_plan_lines(out, flat, cluster, time, plan, unit) {
+        Ok(()) => Ok(()),
+        Err(error) => {
+            out.truncate(start);
+            Err(error)
+        }
+    }
 }
 
-/// Appends the firings of a plan, one line for each, in order. Times are in counts of `unit`.
-///
-/// # Errors
-/// Out of memory.
 #[tactic(auto, unfolding(crate::specs::Plans::fires_text), using(crate::proofs::Texts::text_laws))]
-pub fn push_fires(
+fn push_fire_lines(
     out: &mut Vec<u8>,
     flat: &FlatTables,
     plan: &Plan,
@@ -222,8 +251,9 @@ pub fn push_fires(
 ) -> Result<(), Memory>
     requires range { AreInRange flat.now }
     requires actors { All (λ entry. entry.actor < length flat.now.actors) plan.now.entries.items }
-    ensures { OnOk result (out.new.items
+    ensures ok { OnOk result (out.new.items
         ≡ out.old.items ++ fires_text unit flat.now (rows_of_plan plan.now)) }
+    ensures kept { take (length out.old.items) out.new.items ≡ out.old.items }
 {
     for place in 0..plan.entries.len() {
         let entry = plan.entries[place];
@@ -232,16 +262,57 @@ pub fn push_fires(
     Ok(())
 }
 
-/// Appends `accepted clusters N`.
+/// Appends the firings of a plan, one line for each, in order. Times are in counts of `unit`.
 ///
 /// # Errors
-/// Out of memory.
+/// Out of memory; `out` is then unchanged.
+pub fn push_fires(
+    out: &mut Vec<u8>,
+    flat: &FlatTables,
+    plan: &Plan,
+    unit: Resolution,
+) -> Result<(), Memory>
+    requires range { AreInRange flat.now }
+    requires actors { All (λ entry. entry.actor < length flat.now.actors) plan.now.entries.items }
+    ensures whole { OnOk result (out.new.items
+        ≡ out.old.items ++ fires_text unit flat.now (rows_of_plan plan.now)) }
+    ensures kept { OnErr result (out.new.items ≡ out.old.items) }
+{
+    let start = out.len();
+    match push_fire_lines(out, flat, plan, unit) {
+        Ok(()) => Ok(()),
+        Err(error) => {
+            out.truncate(start);
+            Err(error)
+        }
+    }
+}
+
 #[tactic(auto, unfolding(crate::specs::Plans::accepted_line), using(crate::proofs::Texts::text_laws))]
-pub fn push_accepted(out: &mut Vec<u8>, clusters: u32) -> Result<(), Memory>
-    ensures { OnOk result (out.new.items ≡ out.old.items ++ accepted_line clusters) }
+fn push_accepted_line(out: &mut Vec<u8>, clusters: u32) -> Result<(), Memory>
+    ensures ok { OnOk result (out.new.items ≡ out.old.items ++ accepted_line clusters) }
+    ensures kept { take (length out.old.items) out.new.items ≡ out.old.items }
 {
     push_word(out, b"accepted")?;
     push_word(out, b" clusters ")?;
     push_number(out, u64::from(clusters))?;
     push_word(out, b"\n")
+}
+
+/// Appends `accepted clusters N`.
+///
+/// # Errors
+/// Out of memory; `out` is then unchanged.
+pub fn push_accepted(out: &mut Vec<u8>, clusters: u32) -> Result<(), Memory>
+    ensures whole { OnOk result (out.new.items ≡ out.old.items ++ accepted_line clusters) }
+    ensures kept { OnErr result (out.new.items ≡ out.old.items) }
+{
+    let start = out.len();
+    match push_accepted_line(out, clusters) {
+        Ok(()) => Ok(()),
+        Err(error) => {
+            out.truncate(start);
+            Err(error)
+        }
+    }
 }

@@ -63,9 +63,9 @@ fn prepare(values: &[Raw], signals: &[u32], ports: &mut Ports)
     ensures state { ports.new.state ≡ process_ports_before values.now signals.now ports.old.spans
         (length ports.old.state.notified) }
 {
-    let _ = ports.ports();
+    ports.law_fit();
     ports.reset();
-    let _ = ports.ports();
+    ports.law_fit();
     read_signals(values, signals, ports);
 }
 
@@ -88,5 +88,5 @@ pub(crate) fn act(
 {
     prepare(values, signals, ports);
     run_body(checked, block, Body::Process(number), frame, ports);
-    let _ = ports.ports();
+    ports.law_fit();
 }

@@ -24,7 +24,7 @@ fn begun(alloc: Global, flat: &Flat, number: usize, wires: Wires) -> Result<Modu
     let block = flat.tables.modules[number].block;
     let mut frame = Frame::new(alloc, &flat.checked, block)?;
     let mut ports = Ports::new(alloc, &flat.checked, block)?;
-    let _ = ports.ports();
+    ports.law_fit();
     run_body(
         &flat.checked,
         block,

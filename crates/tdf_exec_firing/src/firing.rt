@@ -46,7 +46,7 @@ pub fn fire_module(
     clear(ports);
     take_inputs(wires.ins(), reads, rings, ports);
     run_body(checked, number, Body::Processing, frame, ports);
-    let _ = ports.ports();
+    ports.law_fit();
     put_outputs(wires.outs(), writes, rings, ports);
 }
 

@@ -16,9 +16,9 @@ pub(crate) fn clear(ports: &mut Ports)
     ensures cleared { IsCleared ports.old ports.new }
     ensures fit { ArePortsFit ports.new }
 {
-    let _ = ports.ports();
+    ports.law_fit();
     ports.reset();
-    let _ = ports.ports();
+    ports.law_fit();
 }
 
 /// The first `n` samples of a ring go into a port.

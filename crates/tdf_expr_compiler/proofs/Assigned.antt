@@ -33,7 +33,7 @@ same_shape shape given e = ap held e
     held None = shape
     held (Some x) = x
 
-pub sets_cell : (shape : Shape) (format : Format) (spot : Spot) (node : Node) (part : ℕ) → IsFormatOf shape format → SetsCell (Some shape) spot node part (SetCell spot node part format)
+pub sets_cell : (shape : Shape) (format : Format) (spot : Spot) (node : Node) (part : ℕ) → IsFormatOf shape format → SetsCell (Some shape) spot node part (SetCell spot (record { value = node; frac = part; format = format }))
 sets_cell shape format spot node part of_shape = record {
   same = λ given e turns s.
       let is : IsFormatOf given format = subst (λ x. IsFormatOf x format) (same_shape shape given e) of_shape in
@@ -44,7 +44,7 @@ sets_cell shape format spot node part of_shape = record {
 }
 
 pub sets_sample : (shape : Shape) (format : Format) (port : ℕ) (spot : Spot) (node : Node) (part : ℕ) → IsFormatOf shape format
-    → SetsSample (Some shape) port spot node part (SetSample port spot node part format)
+    → SetsSample (Some shape) port spot node part (SetSample port spot (record { value = node; frac = part; format = format }))
 sets_sample shape format port spot node part of_shape = record {
   same = λ given e turns s.
       let is : IsFormatOf given format = subst (λ x. IsFormatOf x format) (same_shape shape given e) of_shape in

@@ -61,7 +61,10 @@ fn notify(scope: &Scope, layout: &Layout, event: &Name, after: u64) -> Act
 {
     match find(scope, layout, event) {
         None => Act::Skip,
-        Some(found) => Act::Notify(found.numbers.event, after),
+        Some(found) => Act::Notify {
+            event: found.numbers.event,
+            after,
+        },
     }
 }
 
@@ -77,7 +80,12 @@ fn rate(thing: Thing, numbers: Numbers, value: Compiled) -> Act
                 least: small(least),
                 greatest: small(greatest),
             };
-            Act::SetRate(numbers.rate, value.node, part, bounds)
+            Act::SetRate {
+                rate: numbers.rate,
+                value: value.node,
+                frac: part,
+                bounds,
+            }
         }
         _ => {
             drop(value);
@@ -119,10 +127,13 @@ fn set_step(scope: &Scope, layout: &Layout, port: &Option<Name>, step: u64) -> A
     ensures { (loops : List LoopSeen) (line : ℕ) → Acts scope.now loops (SSetStep line port.now step) result }
 {
     match port {
-        None => Act::SetStep(0, step),
+        None => Act::SetStep { place: 0, step },
         Some(port) => match find(scope, layout, port) {
             None => Act::Skip,
-            Some(found) => Act::SetStep(found.numbers.port + 1, step),
+            Some(found) => Act::SetStep {
+                place: found.numbers.port + 1,
+                step,
+            },
         },
     }
 }
@@ -137,7 +148,11 @@ fn branch(alloc: Global, test: Compiled, first: Act, second: Act) -> Result<Act,
 {
     match Box::new(alloc, first) {
         Ok(first) => match Box::new(alloc, second) {
-            Ok(second) => Ok(Act::If(test.node, first, second)),
+            Ok(second) => Ok(Act::If {
+                test: test.node,
+                yes: first,
+                no: second,
+            }),
             Err(refused) => {
                 drop(test);
                 drop(first);
@@ -200,7 +215,10 @@ fn times(scope: &Scope, layout: &Layout, factor: u64, name: &Name) -> Turns
 {
     match find(scope, layout, name) {
         None => Turns::Fixed(0),
-        Some(found) => Turns::Times(small(factor), found.numbers.rate),
+        Some(found) => Turns::Times {
+            factor: small(factor),
+            rate: found.numbers.rate,
+        },
     }
 }
 
@@ -235,9 +253,13 @@ fn repeated(
     ensures { (loops : List LoopSeen) (line : ℕ) (name : List ℕ) (ss : PureStmts) → ActsAll scope.now (loops ++ opened name from limit.now ∷ []) ss body
         → IfOk result (λ act. Acts scope.now loops (SFor line name from limit.now ss) act) }
 {
-    let end = end_of(scope, layout, limit);
+    let turns = end_of(scope, layout, limit);
     let body = Box::new(alloc, body)?;
-    Ok(Act::For(small(from), end, body))
+    Ok(Act::For {
+        from: small(from),
+        turns,
+        body,
+    })
 }
 
 /// A loop variable.

@@ -12,7 +12,7 @@ use crate::formats::format_of;
 use crate::names::Compiled;
 use crate::numbers::Numbers;
 use crate::spots::spot_of;
-use tdf_expr_machine::{Act, Spot};
+use tdf_expr_machine::{Act, CastNode, Spot};
 use tdf_expr_symbols::{OpenLoop, Thing};
 use tdf_lang_tree::{Index, Shape};
 
@@ -34,7 +34,14 @@ fn set_cell(shape: Option<Shape>, spot: Spot, value: Compiled) -> Act
 {
     let part = u32::from(value.part);
     match shape {
-        Some(shape) => Act::SetCell(spot, value.node, part, format_of(shape)),
+        Some(shape) => Act::SetCell {
+            spot,
+            cast: CastNode {
+                value: value.node,
+                frac: part,
+                format: format_of(shape),
+            },
+        },
         None => {
             drop(value);
             Act::Skip
@@ -49,7 +56,15 @@ fn set_sample(shape: Option<Shape>, port: u32, spot: Spot, value: Compiled) -> A
 {
     let part = u32::from(value.part);
     match shape {
-        Some(shape) => Act::SetSample(port, spot, value.node, part, format_of(shape)),
+        Some(shape) => Act::SetSample {
+            port,
+            spot,
+            cast: CastNode {
+                value: value.node,
+                frac: part,
+                format: format_of(shape),
+            },
+        },
         None => {
             drop(value);
             Act::Skip

@@ -1,8 +1,8 @@
 -- Casts that need no more than a cut: the neighbour below, where it lies in the range.
-use Rattle.std.proofs.Common.{◌≡◌, ◌∙◌, ℕ, ◌+◌, ◌-◌, ◌*◌, ◌/◌, ◌%◌, ◌^◌, ◌<◌, ◌≤◌, Bool, true, false, ℤ, pos, negsuc, ◌*ℤ◌, ◌≤ℤ◌, nat_eq, if◌then◌else◌, refl, sym, ap, subst, arith}
+use Rattle.std.proofs.Common.{◌≡◌, ◌∙◌, ℕ, ◌+◌, ◌-◌, ◌*◌, ◌/◌, ◌%◌, ◌^◌, ◌<◌, ◌≤◌, Bool, true, false, ℤ, pos, negsuc, ◌*ℤ◌, ◌≤ℤ◌, nat_eq, if◌then◌else◌, refl, sym, ap, subst, inl, inr, ◌⊎◌, arith}
 use Rattle.std.proofs.Math.Nat.{mul-le-mul_right}
 use Rattle.std.proofs.lemmas.Int.{ints}
-use Rattle.std.proofs.lemmas.Nat.{div-add-mod', mod_below, pow_pos, pow-add}
+use Rattle.std.proofs.lemmas.Nat.{div-add-mod', div_below, mod_below, pow_pos, pow-add}
 use Rattle.std.specs.Prelude.{unsigned_abs}
 use Rattle.tdf_fixed.proofs.Api.{cast_keeps, kept, placed_up, placed_down}
 use Rattle.tdf_fixed.specs.Cast.{cast_of, fraction_of}
@@ -57,7 +57,16 @@ small_high (pos n) places none = absurd (omega (arith, ints, none))
 small_high (negsuc n) places none =
     let less : n < 2 ^ places = none_above n (2 ^ places) (pow_pos places) (ap part none) in omega (arith, less)
 
-pub ruleset size_laws = (small_low, small_high)
+none_in : (n d : ℕ) → n < d → n / d ≡ 0
+none_in n d less =
+    let some : 0 < d = omega (arith, less) in
+    let one : n / d < 1 = div_below n d 1 some (omega (arith, less)) in omega (arith, one)
+
+pub seen_small : (num : ℤ) (places : ℕ) → unsigned_abs num < 2 ^ places → (below num (2 ^ places) ≡ pos 0) ⊎ (below num (2 ^ places) ≡ negsuc 0)
+seen_small (pos n) places less = inl (ap pos (none_in n (2 ^ places) less))
+seen_small (negsuc n) places less = let small : n < 2 ^ places = omega (arith, less) in inr (ap negsuc (none_in n (2 ^ places) small))
+
+pub ruleset size_laws = (small_low, small_high, seen_small)
 
 pub raised_small : (m bits : ℕ) → bits ≤ 61 → m ≤ 2 ^ (61 - bits) → m * 2 ^ bits ≤ 2 ^ 61
 raised_small m bits few less =
@@ -66,7 +75,24 @@ raised_small m bits few less =
     let power : 2 ^ 61 ≡ 2 ^ (61 - bits) * 2 ^ bits = ap (λ k. 2 ^ k) (sym all) ∙ pow-add 2 (61 - bits) bits in
     omega (arith, times, power)
 
-pub ruleset range_laws = (in_low, in_high, in_unsigned)
+pub seen_signed : (num : ℤ) (wl : ℕ) → IsOfWidth true wl num → (below num (2 ^ (wl - 1)) ≡ pos 0) ⊎ (below num (2 ^ (wl - 1)) ≡ negsuc 0)
+seen_signed (pos n) wl range =
+    let some = pow_pos (wl - 1) in
+    let high = range.high in
+    let less : n < 2 ^ (wl - 1) = omega (arith, ints, some, high) in inl (ap pos (none_in n (2 ^ (wl - 1)) less))
+seen_signed (negsuc n) wl range =
+    let some = pow_pos (wl - 1) in
+    let low = range.low in
+    let less : n < 2 ^ (wl - 1) = omega (arith, ints, some, low) in inr (ap negsuc (none_in n (2 ^ (wl - 1)) less))
+
+pub seen_unsigned : (num : ℤ) (wl : ℕ) → IsOfWidth false wl num → below num (2 ^ wl) ≡ pos 0
+seen_unsigned (pos n) wl range =
+    let some = pow_pos wl in
+    let high = range.high in
+    let less : n < 2 ^ wl = omega (arith, ints, some, high) in ap pos (none_in n (2 ^ wl) less)
+seen_unsigned (negsuc n) wl range = let low = range.low in absurd (omega (arith, ints, low))
+
+pub ruleset range_laws = (in_low, in_high, in_unsigned, seen_signed, seen_unsigned)
 
 -- ---- casts
 

@@ -37,10 +37,10 @@ with_rate_of number None s = with_range_fault s
 -- the state that a statement leaves
 abbrev pub acted : Act → List ℕ → State → State
 acted act.Skip loops s = s
-acted (act.SetCell at value frac format) loops s =
-    with_cell (spot_place at loops) (cast_of format (node_value value s loops) frac) s
-acted (act.SetSample port at value frac format) loops s =
-    with_sample port (spot_place at loops) (cast_of format (node_value value s loops) frac) s
+acted (act.SetCell at c) loops s =
+    with_cell (spot_place at loops) (cast_of c.format (node_value c.value s loops) c.frac) s
+acted (act.SetSample port at c) loops s =
+    with_sample port (spot_place at loops) (cast_of c.format (node_value c.value s loops) c.frac) s
 acted (act.SetRate number value frac bounds) loops s =
     with_rate_of number (rate_within bounds frac (node_value value s loops)) s
 acted (act.SetStep place step) loops s = with_step place step s
@@ -55,11 +55,11 @@ acted (act.Seq' p a q b) loops s = acted b loops (acted a loops s)
 -- no step passes 2 ^ 120, no place lies outside, and no loop is more than 8 deep
 abbrev pub IsSafeAct : Act → List ℕ → State → Type 0
 IsSafeAct act.Skip loops s = Unit {0}
-IsSafeAct (act.SetCell at value frac format) loops s = IsSafe value s loops
-    × IsCastable (node_value value s loops) frac (fraction_of format)
+IsSafeAct (act.SetCell at c) loops s = IsSafe c.value s loops
+    × IsCastable (node_value c.value s loops) c.frac (fraction_of c.format)
     × IsSpot at loops × (spot_place at loops < length s.frame.cells)
-IsSafeAct (act.SetSample port at value frac format) loops s = IsSafe value s loops
-    × IsCastable (node_value value s loops) frac (fraction_of format)
+IsSafeAct (act.SetSample port at c) loops s = IsSafe c.value s loops
+    × IsCastable (node_value c.value s loops) c.frac (fraction_of c.format)
     × IsSpot at loops × (spot_place at loops < length s.ports.samples)
     × (port < length s.ports.assigned)
 IsSafeAct (act.SetRate number value frac bounds) loops s =

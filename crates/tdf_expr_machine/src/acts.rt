@@ -19,8 +19,8 @@ use tdf_fixed::Format;
 #[derive(Clone, Copy)]
 pub enum Turns {
     Fixed(u32),
-    /// The first number times the value of the rate variable that the second one names.
-    Times(u32, u32),
+    /// A number times the value of the rate variable of this number.
+    Times { factor: u32, rate: u32 },
 }
 
 /// The least and the greatest value of a rate variable.
@@ -30,25 +30,59 @@ pub struct Bounds {
     pub greatest: u32,
 }
 
+/// An expression, and the format that its value, which has so many fraction bits, is cast into.
+#[derive(Drop)]
+pub struct CastNode {
+    pub value: Node,
+    pub frac: u32,
+    pub format: Format,
+}
+
 /// A statement.
 #[derive(Drop)]
 pub enum Act {
     Skip,
-    /// The value, which has so many fraction bits, is cast into a cell.
-    SetCell(Spot, Node, u32, Format),
-    /// The value is cast into a sample of this port.
-    SetSample(u32, Spot, Node, u32, Format),
+    /// A value is cast into a cell.
+    SetCell {
+        spot: Spot,
+        cast: CastNode,
+    },
+    /// A value is cast into a sample of this port.
+    SetSample {
+        port: u32,
+        spot: Spot,
+        cast: CastNode,
+    },
     /// The value, which has so many fraction bits, goes into this rate variable if it is allowed there.
-    SetRate(u32, Node, u32, Bounds),
+    SetRate {
+        rate: u32,
+        value: Node,
+        frac: u32,
+        bounds: Bounds,
+    },
     /// The module (place 0) or a port (place 1 + its number) is given a timestep.
-    SetStep(u32, u64),
+    SetStep {
+        place: u32,
+        step: u64,
+    },
     /// An event is notified, to come after a time.
-    Notify(u32, u64),
+    Notify {
+        event: u32,
+        after: u64,
+    },
     /// The rates are accepted or rejected.
     Answer(bool),
-    If(Node, Box<Act>, Box<Act>),
+    If {
+        test: Node,
+        yes: Box<Act>,
+        no: Box<Act>,
+    },
     /// The innermost loop variable runs from the number up to and not including the end.
-    For(u32, Turns, Box<Act>),
+    For {
+        from: u32,
+        turns: Turns,
+        body: Box<Act>,
+    },
     Seq(Box<Act>, Box<Act>),
 }
 
@@ -103,7 +137,7 @@ fn turns_end(turns: Turns, cells: &Cells) -> u32
 {
     match turns {
         Turns::Fixed(end) => end,
-        Turns::Times(factor, rate) => factor * cells.rate(rate as usize),
+        Turns::Times { factor, rate } => factor * cells.rate(rate as usize),
     }
 }
 
@@ -119,51 +153,38 @@ fn copied(loops: &[u32]) -> [u32; 8]
     all
 }
 
-/// The value of an expression, which has so many fraction bits, goes into a cell.
+/// The value of an expression is cast into a cell.
 #[inline(never)]
-fn assign(
-    spot: &Spot,
-    value: &Node,
-    frac: u32,
-    format: &Format,
-    loops: &[u32],
-    cells: &mut Cells,
-    signals: &Signals,
-)
-    requires safe { IsSafe value.now (state_of cells.old signals.now) loops.now }
-    requires castable { IsCastable (node_value value.now (state_of cells.old signals.now) loops.now) frac (fraction_of format.now) }
-    requires spot { IsSpot spot.now loops.now × (spot_place spot.now loops.now < length cells.old.cells) }
-    ensures { cells.new ≡ (with_cell (spot_place spot.now loops.now) (cast_of format.now (node_value value.now (state_of cells.old signals.now) loops.now) frac) (state_of cells.old signals.now)).frame }
+fn assign(spot: Spot, cast: &CastNode, loops: &[u32], cells: &mut Cells, signals: &Signals)
+    requires safe { IsSafe cast.now.value (state_of cells.old signals.now) loops.now }
+    requires castable { IsCastable (node_value cast.now.value (state_of cells.old signals.now) loops.now) cast.now.frac (fraction_of cast.now.format) }
+    requires spot { IsSpot spot loops.now × (spot_place spot loops.now < length cells.old.cells) }
+    ensures { cells.new ≡ (with_cell (spot_place spot loops.now) (cast_of cast.now.format (node_value cast.now.value (state_of cells.old signals.now) loops.now) cast.now.frac) (state_of cells.old signals.now)).frame }
 {
     let at = Sight {
         cells,
         signals,
         loops,
     };
-    let num = eval_in(top_value(value, &at), value, frac, format, &at);
-    cells.set_cell(place(*spot, loops), num);
+    let value = &cast.value;
+    let num = eval_in(top_value(value, &at), value, cast.frac, &cast.format, &at);
+    cells.set_cell(place(spot, loops), num);
 }
 
-/// The value of an expression, which has so many fraction bits, in the format of a port.
+/// The value of an expression, cast into its format.
 #[inline(always)]
-fn output(
-    value: &Node,
-    frac: u32,
-    format: &Format,
-    loops: &[u32],
-    cells: &Cells,
-    signals: &Signals,
-) -> i128
-    requires safe { IsSafe value.now (state_of cells.now signals.now) loops.now }
-    requires castable { IsCastable (node_value value.now (state_of cells.now signals.now) loops.now) frac (fraction_of format.now) }
-    ensures { result ≡ cast_of format.now (node_value value.now (state_of cells.now signals.now) loops.now) frac }
+fn output(cast: &CastNode, loops: &[u32], cells: &Cells, signals: &Signals) -> i128
+    requires safe { IsSafe cast.now.value (state_of cells.now signals.now) loops.now }
+    requires castable { IsCastable (node_value cast.now.value (state_of cells.now signals.now) loops.now) cast.now.frac (fraction_of cast.now.format) }
+    ensures { result ≡ cast_of cast.now.format (node_value cast.now.value (state_of cells.now signals.now) loops.now) cast.now.frac }
 {
     let at = Sight {
         cells,
         signals,
         loops,
     };
-    eval_in(operand(value, &at), value, frac, format, &at)
+    let value = &cast.value;
+    eval_in(operand(value, &at), value, cast.frac, &cast.format, &at)
 }
 
 /// Runs a part of a statement: an assignment to a cell without a call of `run`.
@@ -175,9 +196,7 @@ fn step(act: &Act, loops: &[u32], cells: &mut Cells, signals: &mut Signals)
     ensures ports { signals.new ≡ (acted act.now loops.now (state_of cells.old signals.old)).ports }
 {
     match act {
-        Act::SetCell(spot, value, frac, format) => assign(
-            spot, value, *frac, format, loops, cells, signals,
-        ),
+        Act::SetCell { spot, cast } => assign(*spot, cast, loops, cells, signals),
         _ => run(act, loops, cells, signals),
     }
 }
@@ -238,28 +257,31 @@ pub fn run(act: &Act, loops: &[u32], cells: &mut Cells, signals: &mut Signals)
 {
     match act {
         Act::Skip => {}
-        Act::SetCell(spot, value, frac, format) => {
-            assign(spot, value, *frac, format, loops, cells, signals);
-        }
-        Act::SetSample(port, spot, value, frac, format) => {
-            let num = output(value, *frac, format, loops, cells, signals);
+        Act::SetCell { spot, cast } => assign(*spot, cast, loops, cells, signals),
+        Act::SetSample { port, spot, cast } => {
+            let num = output(cast, loops, cells, signals);
             signals.set_sample(*port as usize, place(*spot, loops), num);
         }
-        Act::SetRate(rate, value, frac, bounds) => {
+        Act::SetRate {
+            rate,
+            value,
+            frac,
+            bounds,
+        } => {
             let found = rate_of(*bounds, *frac, eval(value, cells, signals, loops));
             set_rate(*rate, found, cells, signals);
         }
-        Act::SetStep(at, step) => signals.set_step(*at as usize, *step),
-        Act::Notify(event, after) => signals.notify(*event as usize, *after),
+        Act::SetStep { place, step } => signals.set_step(*place as usize, *step),
+        Act::Notify { event, after } => signals.notify(*event as usize, *after),
         Act::Answer(accepted) => signals.answer(*accepted),
-        Act::If(test, first, second) => {
+        Act::If { test, yes, no } => {
             if eval_holds(test, cells, signals, loops) {
-                step(first, loops, cells, signals);
+                step(yes, loops, cells, signals);
             } else {
-                step(second, loops, cells, signals);
+                step(no, loops, cells, signals);
             }
         }
-        Act::For(from, turns, body) => {
+        Act::For { from, turns, body } => {
             let end = turns_end(*turns, cells);
             run_loop(body, *from, end, loops, cells, signals);
         }

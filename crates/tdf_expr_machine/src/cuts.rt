@@ -1,11 +1,12 @@
 //! Casts of 64-bit numbers that no more than a cut of the last bits brings into the format: the common ones, by a shift.
 
-ghost use Rattle.std.specs.Prelude.{◌≡◌, ◌≤◌, ◌-◌, ◌*◌, ◌^◌, ◌*ℤ◌, pos, unsigned_abs, IsTrue, IfSome, Bool, true, ℕ};
+ghost use Rattle.std.specs.Prelude.{◌≡◌, ◌≢◌, ◌≤◌, ◌-◌, ◌*◌, ◌^◌, ◌*ℤ◌, ◌<◌, pos, unsigned_abs, IsTrue, IfSome, IsSome, Bool, true, ℕ};
 ghost use Rattle.tdf_fixed.specs.Cast.{cast_of, fraction_of};
 ghost use Rattle.tdf_fixed.specs.CastLaws.{least_kept};
 ghost use Rattle.tdf_fixed.specs.Overflow.{IsOfWidth, least};
 ghost use Rattle.tdf_fixed.specs.Quantise.{below};
 ghost use Rattle.tdf_expr_machine.specs.machine.Cuts.{IsCutOf};
+ghost use Rattle.tdf_fixed.specs.declared.over.Over.TheVariants.{SatSym};
 ghost use Rattle.tdf_fixed.specs.declared.quant.Quant.TheVariants.{Trn};
 
 use tdf_fixed::{Format, Over, Quant};
@@ -45,7 +46,8 @@ fn multiple(num: i64, bits: u32) -> i64
 #[tactic(auto, using(crate::proofs::Keeping::size_laws))]
 fn is_small(num: i64, places: u32) -> bool
     requires { places ≤ 61 }
-    ensures { IsTrue result → unsigned_abs num ≤ 2 ^ places }
+    ensures small { IsTrue result → unsigned_abs num ≤ 2 ^ places }
+    ensures seen { unsigned_abs num < 2 ^ places → IsTrue result }
 {
     let high = floor(num, places);
     high == 0 || high == -1
@@ -55,7 +57,8 @@ fn is_small(num: i64, places: u32) -> bool
 #[inline(always)]
 #[tactic(auto, using(crate::proofs::Keeping::raised_small))]
 pub(crate) fn raised(num: i64, bits: u32) -> Option<i64>
-    ensures { IfSome result (λ n. n ≡ num *ℤ pos (2 ^ bits)) }
+    ensures value { IfSome result (λ n. n ≡ num *ℤ pos (2 ^ bits)) }
+    ensures found { bits ≤ 61 → unsigned_abs num < 2 ^ (61 - bits) → IsSome result }
 {
     if bits == 0 {
         return Some(num);
@@ -71,7 +74,8 @@ pub(crate) fn raised(num: i64, bits: u32) -> Option<i64>
 #[tactic(auto, using(crate::proofs::Keeping::range_laws))]
 fn is_within_signed(num: i64, wl: u32) -> bool
     requires { (1 ≤ wl) × (wl ≤ 64) }
-    ensures { IsTrue result → IsOfWidth true wl num }
+    ensures range { IsTrue result → IsOfWidth true wl num }
+    ensures seen { IsOfWidth true wl num → IsTrue result }
 {
     let high = floor(num, wl - 1);
     high == 0 || high == -1
@@ -82,7 +86,8 @@ fn is_within_signed(num: i64, wl: u32) -> bool
 #[tactic(auto, using(crate::proofs::Keeping::range_laws))]
 fn is_within(num: i64, signed: bool, wl: u32) -> bool
     requires { (1 ≤ wl) × (wl ≤ 62) }
-    ensures { IsTrue result → IsOfWidth signed wl num }
+    ensures range { IsTrue result → IsOfWidth signed wl num }
+    ensures seen { IsOfWidth signed wl num → IsTrue result }
 {
     if signed {
         is_within_signed(num, wl)
@@ -94,7 +99,8 @@ fn is_within(num: i64, signed: bool, wl: u32) -> bool
 /// Whether an overflow mode leaves each number of the range alone.
 #[inline(always)]
 fn is_plain(over: Over) -> bool
-    ensures { IsTrue result → (signed : Bool) (wl : ℕ) → least_kept over signed wl ≡ least signed wl }
+    ensures kept { IsTrue result → (signed : Bool) (wl : ℕ) → least_kept over signed wl ≡ least signed wl }
+    ensures seen { over ≢ SatSym → IsTrue result }
 {
     match over {
         Over::SatSym => false,
@@ -107,7 +113,8 @@ fn is_plain(over: Over) -> bool
 /// Whether a mode cuts the last bits off.
 #[inline(always)]
 fn is_trn(quant: Quant) -> bool
-    ensures { IsTrue result → quant ≡ Trn }
+    ensures is { IsTrue result → quant ≡ Trn }
+    ensures seen { quant ≡ Trn → IsTrue result }
 {
     match quant {
         Quant::Trn => true,
@@ -121,6 +128,7 @@ fn within(num: i64, format: &Format) -> Option<i64>
     requires { format.now.wl ≤ 62 }
     ensures same { IfSome result (λ n. n ≡ num) }
     ensures range { IfSome result (λ n. IsOfWidth format.now.signed format.now.wl n) }
+    ensures found { IsOfWidth format.now.signed format.now.wl num → IsSome result }
 {
     if is_within(num, format.signed, format.wl) {
         Some(num)
@@ -136,7 +144,9 @@ fn widened(num: i64, frac: u32, format: &Format) -> Option<i64>
     requires few { format.now.wl ≤ 62 }
     requires plain { (signed : Bool) (wl : ℕ) → least_kept format.now.over signed wl ≡ least signed wl }
     requires places { frac ≤ fraction_of format.now }
-    ensures { IfSome result (λ n. n ≡ cast_of format.now num frac) }
+    ensures value { IfSome result (λ n. n ≡ cast_of format.now num frac) }
+    ensures raised { fraction_of format.now - frac ≤ 61 → unsigned_abs num < 2 ^ (61 - (fraction_of format.now - frac))
+        → IsOfWidth format.now.signed format.now.wl (num *ℤ pos (2 ^ (fraction_of format.now - frac))) → IsSome result }
 {
     within(raised(num, format.wl - format.iwl - frac)?, format)
 }
@@ -149,7 +159,8 @@ fn narrowed(num: i64, frac: u32, format: &Format) -> Option<i64>
     requires plain { (signed : Bool) (wl : ℕ) → least_kept format.now.over signed wl ≡ least signed wl }
     requires places { fraction_of format.now ≤ frac }
     requires trn { format.now.quant ≡ Trn }
-    ensures { IfSome result (λ n. n ≡ cast_of format.now num frac) }
+    ensures value { IfSome result (λ n. n ≡ cast_of format.now num frac) }
+    ensures cut { IsOfWidth format.now.signed format.now.wl (below num (2 ^ (frac - fraction_of format.now))) → IsSome result }
 {
     within(floor(num, frac - (format.wl - format.iwl)), format)
 }
@@ -165,7 +176,9 @@ pub(crate) struct Cut {
 /// The cut that a cast is for numbers that lie in the range then.
 #[tactic(auto, using(crate::proofs::Keeping::cut_laws))]
 pub(crate) fn cut_of(frac: u32, format: &Format) -> Option<Cut>
-    ensures { IfSome result (λ c. IsCutOf c format.now frac) }
+    ensures cut { IfSome result (λ c. IsCutOf c format.now frac) }
+    ensures found { format.now.over ≢ SatSym → format.now.wl ≤ 62 → fraction_of format.now ≤ frac
+        → frac - fraction_of format.now ≤ 62 → format.now.quant ≡ Trn → IsSome result }
 {
     let to = format.wl - format.iwl;
     if format.wl > 62 || !is_plain(format.over) || frac < to || frac - to > 62 {
@@ -187,6 +200,7 @@ pub(crate) fn cut_by(num: i64, by: &Cut) -> Option<i64>
     requires { (by.now.shift ≤ 62) × (1 ≤ by.now.wl) × (by.now.wl ≤ 62) }
     ensures same { IfSome result (λ n. n ≡ below num (2 ^ by.now.shift)) }
     ensures range { IfSome result (λ n. IsOfWidth by.now.signed by.now.wl n) }
+    ensures found { IsOfWidth by.now.signed by.now.wl (below num (2 ^ by.now.shift)) → IsSome result }
 {
     let whole = floor(num, by.shift);
     if is_within(whole, by.signed, by.wl) {
@@ -201,7 +215,8 @@ pub(crate) fn cut_by(num: i64, by: &Cut) -> Option<i64>
 #[tactic(auto, using(crate::proofs::Keeping::kept_is))]
 fn kept_signed(num: i64, frac: u32, format: &Format) -> Option<i64>
     requires { (signed : Bool) (wl : ℕ) → least_kept format.now.over signed wl ≡ least signed wl }
-    ensures { IfSome result (λ n. n ≡ cast_of format.now num frac) }
+    ensures value { IfSome result (λ n. n ≡ cast_of format.now num frac) }
+    ensures kept { format.now.signed ≡ true → frac ≡ fraction_of format.now → IsOfWidth true format.now.wl num → IsSome result }
 {
     if format.signed && frac == format.wl - format.iwl && is_within_signed(num, format.wl) {
         Some(num)
@@ -214,7 +229,11 @@ fn kept_signed(num: i64, frac: u32, format: &Format) -> Option<i64>
 #[inline(always)]
 fn moved_cast(num: i64, frac: u32, format: &Format) -> Option<i64>
     requires { (signed : Bool) (wl : ℕ) → least_kept format.now.over signed wl ≡ least signed wl }
-    ensures { IfSome result (λ n. n ≡ cast_of format.now num frac) }
+    ensures value { IfSome result (λ n. n ≡ cast_of format.now num frac) }
+    ensures raised { format.now.wl ≤ 62 → frac ≤ fraction_of format.now → fraction_of format.now - frac ≤ 61 → unsigned_abs num < 2 ^ (61 - (fraction_of format.now - frac))
+        → IsOfWidth format.now.signed format.now.wl (num *ℤ pos (2 ^ (fraction_of format.now - frac))) → IsSome result }
+    ensures cut { format.now.wl ≤ 62 → fraction_of format.now < frac → frac - fraction_of format.now ≤ 62 → format.now.quant ≡ Trn
+        → IsOfWidth format.now.signed format.now.wl (below num (2 ^ (frac - fraction_of format.now))) → IsSome result }
 {
     let to = format.wl - format.iwl;
     if format.wl > 62 {
@@ -233,7 +252,12 @@ fn moved_cast(num: i64, frac: u32, format: &Format) -> Option<i64>
 /// common case, in which the number stays.
 #[inline(always)]
 pub(crate) fn short_cast(num: i64, frac: u32, format: &Format) -> Option<i64>
-    ensures { IfSome result (λ n. n ≡ cast_of format.now num frac) }
+    ensures value { IfSome result (λ n. n ≡ cast_of format.now num frac) }
+    ensures kept { format.now.over ≢ SatSym → format.now.signed ≡ true → frac ≡ fraction_of format.now → IsOfWidth true format.now.wl num → IsSome result }
+    ensures raised { format.now.over ≢ SatSym → format.now.wl ≤ 62 → frac ≤ fraction_of format.now → fraction_of format.now - frac ≤ 61 → unsigned_abs num < 2 ^ (61 - (fraction_of format.now - frac))
+        → IsOfWidth format.now.signed format.now.wl (num *ℤ pos (2 ^ (fraction_of format.now - frac))) → IsSome result }
+    ensures cut { format.now.over ≢ SatSym → format.now.wl ≤ 62 → fraction_of format.now < frac → frac - fraction_of format.now ≤ 62
+        → format.now.quant ≡ Trn → IsOfWidth format.now.signed format.now.wl (below num (2 ^ (frac - fraction_of format.now))) → IsSome result }
 {
     if !is_plain(format.over) {
         return None;

@@ -19,7 +19,7 @@ mod sequences;
 mod short;
 mod spots;
 
-pub use acts::{Act, Bounds, Turns, run};
+pub use acts::{Act, Bounds, CastNode, Turns, run};
 pub use nodes::{Node, Relation, eval};
 pub use sequences::sequence;
 pub use spots::Spot;

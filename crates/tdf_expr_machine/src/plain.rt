@@ -1,11 +1,13 @@
 //! Loops whose body is one assignment of a value that is read straight from the cells: a copy of an element, and a sum with
 //! a product of two elements. Their turns go without a walk over the tree.
 
-ghost use Rattle.std.specs.Prelude.{◌≡◌, ◌<◌, ◌≤◌, ◌^◌, ◌*ℤ◌, max, IfSome, IsTrue, false, length};
+ghost use Rattle.std.specs.Int.{w64};
+ghost use Rattle.std.specs.Prelude.{◌≡◌, ◌<◌, ◌≤◌, ◌^◌, ◌*ℤ◌, max, FitsSigned, IfSome, IsSome, IsTrue, false, length};
 ghost use Rattle.tdf_expr_machine.specs.Acts.{IsTurnSafe, act_turn};
 ghost use Rattle.tdf_expr_machine.specs.Turns.{AreTurnsSafe, turned};
 ghost use Rattle.tdf_expr_machine.specs.declared.nodes.Node.TheVariants.{Cell, CellAt};
 ghost use Rattle.tdf_expr_machine.specs.machine.Plain.{AreCells, AreTerms, IsElement, IsOn, IsOnTarget, IsPlain, IsPlainSet, IsProduct, IsSum, IsTarget, IsTrackOf, plain_value, terms_value, target_place, track_place};
+ghost use Rattle.tdf_expr_machine.specs.machine.Steps.{IsShortProduct, PlainFits, TermsFit};
 ghost use Rattle.tdf_fixed.specs.Quantise.{below};
 ghost use Rattle.tdf_fixed.specs.Overflow.{IsOfWidth};
 ghost use Rattle.tdf_expr_state.specs.State.{cell_at, state_of};
@@ -176,10 +178,10 @@ fn plain_set(act: &Act, depth: usize) -> Option<PlainSet>
     ensures { IfSome result (λ set. IsPlainSet act.now depth set) }
 {
     match act {
-        Act::SetCell(spot, node, frac, format) => {
+        Act::SetCell { spot, cast } => {
             let target = target_of(*spot, depth)?;
-            let value = plain_of(node, depth)?;
-            let cut = cut_of(*frac, format)?;
+            let value = plain_of(&cast.value, depth)?;
+            let cut = cut_of(cast.frac, &cast.format)?;
             Some(PlainSet { target, value, cut })
         }
         _ => None,
@@ -215,7 +217,8 @@ fn target_place(target: Target, turn: u32) -> usize
 #[inline(always)]
 fn element(track: Track, turn: u32, cells: &Cells) -> Option<i64>
     requires { IsElement track turn cells.now.cells }
-    ensures { IfSome result (λ n. n ≡ cell_at cells.now.cells (track_place track turn)) }
+    ensures value { IfSome result (λ n. n ≡ cell_at cells.now.cells (track_place track turn)) }
+    ensures found { FitsSigned w64 (cell_at cells.now.cells (track_place track turn)) → IsSome result }
 {
     short_of(cells.cell(track_place(track, turn)))
 }
@@ -224,7 +227,8 @@ fn element(track: Track, turn: u32, cells: &Cells) -> Option<i64>
 #[inline(always)]
 fn elements_product(first: Track, second: Track, turn: u32, cells: &Cells) -> Option<i64>
     requires { IsElement first turn cells.now.cells × IsElement second turn cells.now.cells }
-    ensures { IfSome result (λ n. n ≡ cell_at cells.now.cells (track_place first turn) *ℤ cell_at cells.now.cells (track_place second turn)) }
+    ensures value { IfSome result (λ n. n ≡ cell_at cells.now.cells (track_place first turn) *ℤ cell_at cells.now.cells (track_place second turn)) }
+    ensures found { IsShortProduct first second turn cells.now.cells → IsSome result }
 {
     let first = element(first, turn, cells)?;
     product(first, element(second, turn, cells)?)
@@ -234,7 +238,8 @@ fn elements_product(first: Track, second: Track, turn: u32, cells: &Cells) -> Op
 #[inline(always)]
 fn terms_value(terms: &Terms, turn: u32, cells: &Cells) -> Option<i64>
     requires { AreTerms terms.now turn cells.now.cells }
-    ensures { IfSome result (λ n. n ≡ terms_value terms.now turn cells.now.cells) }
+    ensures value { IfSome result (λ n. n ≡ terms_value terms.now turn cells.now.cells) }
+    ensures found { TermsFit terms.now turn cells.now.cells → IsSome result }
 {
     let base = raised(short_of(cells.cell(terms.base as usize))?, terms.lift)?;
     let both = elements_product(terms.first, terms.second, turn, cells)?;
@@ -245,7 +250,8 @@ fn terms_value(terms: &Terms, turn: u32, cells: &Cells) -> Option<i64>
 #[inline(always)]
 fn plain_value(value: &Plain, turn: u32, cells: &Cells) -> Option<i64>
     requires { AreCells value.now turn cells.now.cells }
-    ensures { IfSome result (λ n. n ≡ plain_value value.now turn cells.now.cells) }
+    ensures value { IfSome result (λ n. n ≡ plain_value value.now turn cells.now.cells) }
+    ensures found { PlainFits value.now turn cells.now.cells → IsSome result }
 {
     match value {
         Plain::Element(track) => element(*track, turn, cells),
@@ -260,6 +266,8 @@ fn plain_cut(set: &PlainSet, turn: u32, cells: &Cells) -> Option<i64>
     requires cut { (set.now.cut.shift ≤ 62) × (1 ≤ set.now.cut.wl) × (set.now.cut.wl ≤ 62) }
     ensures same { IfSome result (λ n. n ≡ below (plain_value set.now.value turn cells.now.cells) (2 ^ set.now.cut.shift)) }
     ensures range { IfSome result (λ n. IsOfWidth set.now.cut.signed set.now.cut.wl n) }
+    ensures found { PlainFits set.now.value turn cells.now.cells
+        → IsOfWidth set.now.cut.signed set.now.cut.wl (below (plain_value set.now.value turn cells.now.cells) (2 ^ set.now.cut.shift)) → IsSome result }
 {
     cut_by(plain_value(&set.value, turn, cells)?, &set.cut)
 }

@@ -1,7 +1,9 @@
 //! The values of expressions by 64-bit arithmetic, where each step of it fits.
 
-ghost use Rattle.std.specs.Prelude.{◌≡◌, ◌≤◌, ◌^◌, pos, ◌+ℤ◌, ◌-ℤ◌, ◌*ℤ◌, neg_ℤ, IfSome};
+ghost use Rattle.std.specs.Int.{w64};
+ghost use Rattle.std.specs.Prelude.{◌≡◌, ◌≤◌, ◌^◌, pos, ◌+ℤ◌, ◌-ℤ◌, ◌*ℤ◌, neg_ℤ, FitsSigned, IfSome, IsSome};
 ghost use Rattle.tdf_expr_machine.specs.Nodes.{IsSafe, node_value, is_true, relates, truth_number};
+ghost use Rattle.tdf_expr_machine.specs.machine.Steps.{IsLeaf, StepsFit};
 ghost use Rattle.tdf_expr_state.specs.State.{state_of};
 
 use crate::cuts::raised;
@@ -11,7 +13,8 @@ use crate::spots::place;
 /// A number in 64 bits, where it fits.
 #[inline(always)]
 pub(crate) fn short_of(num: i128) -> Option<i64>
-    ensures { IfSome result (λ n. n ≡ num) }
+    ensures value { IfSome result (λ n. n ≡ num) }
+    ensures found { FitsSigned w64 num → IsSome result }
 {
     match i64::try_from(num) {
         Ok(short) => Some(short),
@@ -21,21 +24,24 @@ pub(crate) fn short_of(num: i128) -> Option<i64>
 
 #[inline(always)]
 pub(crate) fn product(a: i64, b: i64) -> Option<i64>
-    ensures { IfSome result (λ n. n ≡ a *ℤ b) }
+    ensures value { IfSome result (λ n. n ≡ a *ℤ b) }
+    ensures found { FitsSigned w64 (a *ℤ b) → IsSome result }
 {
     short_of(i128::from(a) * i128::from(b))
 }
 
 #[inline(always)]
 pub(crate) fn sum(a: i64, b: i64) -> Option<i64>
-    ensures { IfSome result (λ n. n ≡ a +ℤ b) }
+    ensures value { IfSome result (λ n. n ≡ a +ℤ b) }
+    ensures found { FitsSigned w64 (a +ℤ b) → IsSome result }
 {
     a.checked_add(b)
 }
 
 #[inline(always)]
 fn difference(a: i64, b: i64) -> Option<i64>
-    ensures { IfSome result (λ n. n ≡ a -ℤ b) }
+    ensures value { IfSome result (λ n. n ≡ a -ℤ b) }
+    ensures found { FitsSigned w64 (a -ℤ b) → IsSome result }
 {
     a.checked_sub(b)
 }
@@ -54,7 +60,8 @@ fn relates(relation: Relation, a: i64, b: i64) -> bool
 
 #[inline(always)]
 fn negative(a: i64) -> Option<i64>
-    ensures { IfSome result (λ n. n ≡ neg_ℤ a) }
+    ensures value { IfSome result (λ n. n ≡ neg_ℤ a) }
+    ensures found { FitsSigned w64 (neg_ℤ a) → IsSome result }
 {
     short_of(-i128::from(a))
 }
@@ -70,7 +77,8 @@ fn holds(num: i64) -> bool
 /// 1 for true, 0 for false.
 #[inline(always)]
 fn truth(so: bool) -> Option<i64>
-    ensures { IfSome result (λ n. n ≡ truth_number so) }
+    ensures value { IfSome result (λ n. n ≡ truth_number so) }
+    ensures found { IsSome result }
 {
     if so { Some(1) } else { Some(0) }
 }
@@ -79,7 +87,8 @@ fn truth(so: bool) -> Option<i64>
 #[inline(always)]
 fn leaf(node: &Node, at: &Sight) -> Option<i64>
     requires { IsSafe node.now (state_of at.now.cells.now at.now.signals.now) at.now.loops.now }
-    ensures { IfSome result (λ n. n ≡ node_value node.now (state_of at.now.cells.now at.now.signals.now) at.now.loops.now) }
+    ensures value { IfSome result (λ n. n ≡ node_value node.now (state_of at.now.cells.now at.now.signals.now) at.now.loops.now) }
+    ensures found { IsLeaf node.now → StepsFit node.now (state_of at.now.cells.now at.now.signals.now) at.now.loops.now → IsSome result }
 {
     match node {
         Node::Const(num) => short_of(*num),
@@ -111,7 +120,8 @@ fn near(node: &Node, at: &Sight) -> Option<i64>
 #[inline(always)]
 pub(crate) fn operand(node: &Node, at: &Sight) -> Option<i64>
     requires { IsSafe node.now (state_of at.now.cells.now at.now.signals.now) at.now.loops.now }
-    ensures { IfSome result (λ n. n ≡ node_value node.now (state_of at.now.cells.now at.now.signals.now) at.now.loops.now) }
+    ensures value { IfSome result (λ n. n ≡ node_value node.now (state_of at.now.cells.now at.now.signals.now) at.now.loops.now) }
+    ensures found { StepsFit node.now (state_of at.now.cells.now at.now.signals.now) at.now.loops.now → IsSome result }
 {
     match near(node, at) {
         Some(num) => Some(num),
@@ -125,7 +135,8 @@ pub(crate) fn operand(node: &Node, at: &Sight) -> Option<i64>
 #[tactic(auto, using(crate::proofs::Powers::holds_truth))]
 pub(crate) fn verdict(node: &Node, at: &Sight) -> Option<bool>
     requires { IsSafe node.now (state_of at.now.cells.now at.now.signals.now) at.now.loops.now }
-    ensures { IfSome result (λ so. so ≡ is_true (node_value node.now (state_of at.now.cells.now at.now.signals.now) at.now.loops.now)) }
+    ensures value { IfSome result (λ so. so ≡ is_true (node_value node.now (state_of at.now.cells.now at.now.signals.now) at.now.loops.now)) }
+    ensures found { StepsFit node.now (state_of at.now.cells.now at.now.signals.now) at.now.loops.now → IsSome result }
 {
     match node {
         Node::Compare(relation, a, m, b, n) => {
@@ -140,7 +151,8 @@ pub(crate) fn verdict(node: &Node, at: &Sight) -> Option<bool>
 #[cycle(short)]
 pub(crate) fn short_value(node: &Node, at: &Sight) -> Option<i64>
     requires { IsSafe node.now (state_of at.now.cells.now at.now.signals.now) at.now.loops.now }
-    ensures { IfSome result (λ n. n ≡ node_value node.now (state_of at.now.cells.now at.now.signals.now) at.now.loops.now) }
+    ensures value { IfSome result (λ n. n ≡ node_value node.now (state_of at.now.cells.now at.now.signals.now) at.now.loops.now) }
+    ensures found { StepsFit node.now (state_of at.now.cells.now at.now.signals.now) at.now.loops.now → IsSome result }
 {
     match node {
         Node::Sum(a, m, b, n) => {
@@ -188,7 +200,8 @@ pub(crate) fn short_value(node: &Node, at: &Sight) -> Option<i64>
 #[inline(always)]
 pub(crate) fn top_value(node: &Node, at: &Sight) -> Option<i64>
     requires { IsSafe node.now (state_of at.now.cells.now at.now.signals.now) at.now.loops.now }
-    ensures { IfSome result (λ n. n ≡ node_value node.now (state_of at.now.cells.now at.now.signals.now) at.now.loops.now) }
+    ensures value { IfSome result (λ n. n ≡ node_value node.now (state_of at.now.cells.now at.now.signals.now) at.now.loops.now) }
+    ensures found { StepsFit node.now (state_of at.now.cells.now at.now.signals.now) at.now.loops.now → IsSome result }
 {
     match node {
         Node::Sum(a, m, b, n) => {

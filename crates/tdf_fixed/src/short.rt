@@ -1,7 +1,8 @@
 //! Casts of 64-bit values, by 64-bit arithmetic and without a branch on the value.
 
-ghost use Rattle.std.specs.Prelude.{◌≡◌, ◌+◌, ◌-◌, ◌*◌, ◌/◌, ◌<◌, ◌≤◌, ◌^◌, pos, ◌*ℤ◌, unsigned_abs, IfSome};
-ghost use Rattle.tdf_fixed.specs.Cast.{cast_of};
+ghost use Rattle.std.specs.Prelude.{◌≡◌, ◌+◌, ◌-◌, ◌*◌, ◌/◌, ◌<◌, ◌≤◌, ◌^◌, pos, ◌*ℤ◌, unsigned_abs, FitsSigned, IfSome, IsSome};
+ghost use Rattle.std.specs.Int.{w64};
+ghost use Rattle.tdf_fixed.specs.Cast.{cast_of, fraction_of};
 ghost use Rattle.tdf_fixed.specs.Overflow.{least, most, least_symmetric, half_of, wrapped, overflowed};
 ghost use Rattle.tdf_fixed.specs.Quantise.{above_by, below, is_odd, rounded_whole, quantised, requantised};
 ghost use Rattle.tdf_fixed.specs.declared.over.Over.TheVariants.{Wrap};
@@ -168,7 +169,8 @@ fn overflow(over: Over, signed: bool, wl: u32, num: i64) -> i64
 #[inline(always)]
 fn lowered(num: i64, s: u32, format: &Format) -> Option<i64>
     requires { format.now.wl ≤ 62 }
-    ensures { IfSome result (λ n. n ≡ overflowed format.now.over format.now.signed format.now.wl (quantised format.now.quant num (2 ^ s))) }
+    ensures value { IfSome result (λ n. n ≡ overflowed format.now.over format.now.signed format.now.wl (quantised format.now.quant num (2 ^ s))) }
+    ensures found { s ≤ 62 → IsSome result }
 {
     if s > 62 {
         return None;
@@ -182,7 +184,8 @@ fn lowered(num: i64, s: u32, format: &Format) -> Option<i64>
 #[tactic(auto, using(crate::proofs::Shorts::raised_within))]
 fn raised(num: i64, s: u32, format: &Format) -> Option<i64>
     requires { format.now.wl ≤ 62 }
-    ensures { IfSome result (λ n. n ≡ overflowed format.now.over format.now.signed format.now.wl (num *ℤ pos (2 ^ s))) }
+    ensures value { IfSome result (λ n. n ≡ overflowed format.now.over format.now.signed format.now.wl (num *ℤ pos (2 ^ s))) }
+    ensures found { s ≤ 61 → unsigned_abs num < 2 ^ (61 - s) → IsSome result }
 {
     if s > 61 || num.unsigned_abs() >> (61 - s) != 0 {
         return None;
@@ -194,7 +197,12 @@ fn raised(num: i64, s: u32, format: &Format) -> Option<i64>
 #[inline(always)]
 #[tactic(auto, using(crate::proofs::Scaling::placed_up, crate::proofs::Scaling::placed_down), unfolding(crate::specs::Cast::cast_of))]
 pub(crate) fn cast_short(value: &Raw, format: &Format) -> Option<i64>
-    ensures { IfSome result (λ n. n ≡ cast_of format.now value.now.num value.now.frac) }
+    ensures value { IfSome result (λ n. n ≡ cast_of format.now value.now.num value.now.frac) }
+    ensures lowered { FitsSigned w64 value.now.num → format.now.wl ≤ 62 → fraction_of format.now ≤ value.now.frac
+        → value.now.frac - fraction_of format.now ≤ 62 → IsSome result }
+    ensures raised { format.now.wl ≤ 62 → value.now.frac < fraction_of format.now
+        → fraction_of format.now - value.now.frac ≤ 61
+        → unsigned_abs value.now.num < 2 ^ (61 - (fraction_of format.now - value.now.frac)) → IsSome result }
 {
     let to = format.wl - format.iwl;
     if format.wl > 62
@@ -225,7 +233,8 @@ fn cut(num: i64, s: u32, signed: bool, wl: u32) -> i64
 #[tactic(auto, using(crate::proofs::Scaling::placed_down))]
 pub(crate) fn cut_short(num: i128, from: u32, to: u32, signed: bool, wl: u32) -> Option<i64>
     requires { 1 ≤ wl }
-    ensures { IfSome result (λ n. n ≡ overflowed Wrap signed wl (requantised Trn num from to)) }
+    ensures value { IfSome result (λ n. n ≡ overflowed Wrap signed wl (requantised Trn num from to)) }
+    ensures found { FitsSigned w64 num → wl ≤ 62 → to ≤ from → from - to ≤ 62 → IsSome result }
 {
     if wl > 62 || from < to || from - to > 62 {
         return None;

@@ -1,6 +1,6 @@
 -- Actors in parts, each part with a label.
 -- Source: own.
-use Rattle.std.specs.Prelude.{ℕ, ◌≡◌, ◌≢◌, ◌<◌, List, Some, Vec, length, nat_eq, if◌then◌else◌, ◌⊎◌, slice_get, slice_index, Contains}
+use Rattle.std.specs.Prelude.{ℕ, ◌≡◌, ◌≢◌, ◌<◌, ◌≤◌, List, Some, Vec, length, nat_eq, if◌then◌else◌, ◌⊎◌, slice_get, slice_index, Contains}
 use Rattle.std.specs.Global.{Global}
 use Rattle.tdf_graph.specs.Clusters.{Joined}
 use Rattle.tdf_graph.specs.declared.actors.Edge.{Edge}
@@ -28,6 +28,15 @@ pub record IsRenamed (gone kept : ℕ) (old new : List ℕ) : Type 0 where
 -- the parts of two labels are one
 abbrev pub Merges : (first second : ℕ) (old new : List ℕ) → Type 0
 Merges first second old new = IsRenamed first second old new ⊎ IsRenamed second first old new
+
+-- of two parts, given by their lists, the one with fewer actors takes the label of the other
+pub record MovesFewer (first second : ℕ) (old new : List ℕ) : Type 0 where
+  pub mine : List ℕ
+  pub other : List ℕ
+  pub first_list : ListsPart old first mine
+  pub second_list : ListsPart old second other
+  pub moved : ((length mine < length other) × IsRenamed first second old new)
+      ⊎ ((length other ≤ length mine) × IsRenamed second first old new)
 
 -- how parts are kept: for each label the list of its actors
 pub record HasMembers (labels : List ℕ) (members : List (Vec ℕ Global)) : Type 0 where

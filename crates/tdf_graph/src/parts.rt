@@ -21,7 +21,7 @@ impl Model for Parts {
 }
 
 ghost use Rattle.std.specs.Prelude.{◌≡◌, ◌≢◌, ◌<◌, [], ◌∷◌, length, vec_len, IfOk, slice_index};
-ghost use Rattle.tdf_graph.specs.Parts.{AreAlone, IsRenamed, ListsPart, Merges};
+ghost use Rattle.tdf_graph.specs.Parts.{AreAlone, IsRenamed, ListsPart, Merges, MovesFewer};
 ghost use Rattle.tdf_graph.specs.views.Rows.{AreRows, AreWithin, IsRelabelled};
 
 use std::alloc::Global;
@@ -114,7 +114,8 @@ impl Parts {
         Ok(Parts { labels, members })
     }
 
-    /// Makes one part of the parts with two labels: the label of the one with more actors stays.
+    /// Makes one part of the parts with two labels: the label of the one with more actors stays, and that of the first of two
+    /// with as many.
     ///
     /// # Errors
     /// Out of memory.
@@ -122,7 +123,8 @@ impl Parts {
         requires first { first < length self }
         requires second { second < length self }
         requires apart { first ≢ second }
-        ensures { IfOk result (Merges first second self) }
+        ensures merged { IfOk result (Merges first second self) }
+        ensures fewer { IfOk result (MovesFewer first second self) }
     {
         if self.members(first).len() < self.members(second).len() {
             self.rename(alloc, first, second)

@@ -1,7 +1,7 @@
 //! The token that a piece is, in a version of the language and at a resolution of time.
 
 ghost use Rattle.std.specs.Cmp.Lexicographic.{pointwise};
-ghost use Rattle.std.specs.Prelude.{OnOk, map, ◌++◌, ◌≡◌};
+ghost use Rattle.std.specs.Prelude.{◌≡◌, ◌++◌, OnErr, OnOk, length, map, take};
 ghost use Rattle.tdf_base.specs.Names.{is_name};
 ghost use Rattle.tdf_lang_lexer.specs.Dialect.{is_resolution, time_in, time_or_wrong, token_of};
 ghost use Rattle.tdf_lang_lexer.specs.Token.{tok};
@@ -70,19 +70,40 @@ fn token<'t>(dialect: Dialect, piece: &'t [u8]) -> Token<'t>
     time(dialect, piece)
 }
 
-/// Appends the tokens that some pieces are in a dialect: a piece that is no token is `Token::Wrong`.
-///
-/// # Errors
-/// Out of memory; some of the tokens may be appended then.
-pub fn push_tokens<'t>(
+fn push_each<'t>(
     dialect: Dialect,
     pieces: &[&'t [u8]],
     out: &mut Vec<Token<'t>>,
 ) -> Result<(), Memory>
-    ensures { OnOk result (map tok out.new.items ≡ map tok out.old.items ++ map (token_of dialect) (map (λ p. p.now) pieces.now)) }
+    ensures ok { OnOk result (map tok out.new.items
+        ≡ map tok out.old.items ++ map (token_of dialect) (map (λ p. p.now) pieces.now)) }
+    ensures kept { take (length out.old.items) out.new.items ≡ out.old.items }
 {
     for piece in pieces {
         out.push(token(dialect, piece))?;
     }
     Ok(())
+}
+
+/// Appends the tokens that some pieces are in a dialect: a piece that is no token is `Token::Wrong`.
+///
+/// # Errors
+/// Out of memory; `out` is then unchanged.
+pub fn push_tokens<'t>(
+    dialect: Dialect,
+    pieces: &[&'t [u8]],
+    out: &mut Vec<Token<'t>>,
+) -> Result<(), Memory>
+    ensures whole { OnOk result (map tok out.new.items
+        ≡ map tok out.old.items ++ map (token_of dialect) (map (λ p. p.now) pieces.now)) }
+    ensures kept { OnErr result (out.new.items ≡ out.old.items) }
+{
+    let start = out.len();
+    match push_each(dialect, pieces, out) {
+        Ok(()) => Ok(()),
+        Err(error) => {
+            out.truncate(start);
+            Err(error)
+        }
+    }
 }

@@ -1,7 +1,7 @@
 //! How a run ended, and the closing line of its notes.
 
 ghost use Rattle.std.specs.Fmt.{decimal};
-ghost use Rattle.std.specs.Prelude.{◌≡◌, ◌++◌, OnOk, codes};
+ghost use Rattle.std.specs.Prelude.{◌≡◌, ◌++◌, OnErr, OnOk, codes, length, take};
 ghost use Rattle.tdf_io.specs.Bytes.{WritesText};
 ghost use Rattle.tdf_sim_notes.specs.Ending.{end_line, end_text, spent_line, stopped_line};
 
@@ -39,7 +39,8 @@ pub enum End {
 /// Appends ` turns N` and ends the line.
 #[tactic(auto, using(crate::proofs::Texts::text_laws))]
 fn push_turns(out: &mut Vec<u8>, turns: u64) -> Result<(), Memory>
-    ensures { OnOk result (out.new.items ≡ out.old.items ++ codes " turns " ++ decimal turns ++ codes "\n") }
+    ensures ok { OnOk result (out.new.items ≡ out.old.items ++ codes " turns " ++ decimal turns ++ codes "\n") }
+    ensures kept { take (length out.old.items) out.new.items ≡ out.old.items }
 {
     push_word(out, b" turns ")?;
     push_number(out, turns)?;
@@ -49,7 +50,8 @@ fn push_turns(out: &mut Vec<u8>, turns: u64) -> Result<(), Memory>
 /// Appends `end TIME turns TAKEN`.
 #[tactic(auto, unfolding(crate::specs::Ending::end_line), using(crate::proofs::Texts::text_laws))]
 fn push_end(out: &mut Vec<u8>, unit: Resolution, time: u64, taken: u64) -> Result<(), Memory>
-    ensures { OnOk result (out.new.items ≡ out.old.items ++ end_line unit time taken) }
+    ensures ok { OnOk result (out.new.items ≡ out.old.items ++ end_line unit time taken) }
+    ensures kept { take (length out.old.items) out.new.items ≡ out.old.items }
 {
     push_word(out, b"end ")?;
     push_seconds_at(out, time, unit)?;
@@ -65,7 +67,8 @@ fn push_stopped(
     cluster: u32,
     fault: &Fault,
 ) -> Result<(), Memory>
-    ensures { OnOk result (out.new.items ≡ out.old.items ++ stopped_line unit time cluster fault.now) }
+    ensures ok { OnOk result (out.new.items ≡ out.old.items ++ stopped_line unit time cluster fault.now) }
+    ensures kept { take (length out.old.items) out.new.items ≡ out.old.items }
 {
     push_word(out, b"stopped ")?;
     push_seconds_at(out, time, unit)?;
@@ -79,24 +82,17 @@ fn push_stopped(
 /// Appends `spent TIME turns GIVEN`.
 #[tactic(auto, unfolding(crate::specs::Ending::spent_line), using(crate::proofs::Texts::text_laws))]
 fn push_spent(out: &mut Vec<u8>, unit: Resolution, time: u64, given: u64) -> Result<(), Memory>
-    ensures { OnOk result (out.new.items ≡ out.old.items ++ spent_line unit time given) }
+    ensures ok { OnOk result (out.new.items ≡ out.old.items ++ spent_line unit time given) }
+    ensures kept { take (length out.old.items) out.new.items ≡ out.old.items }
 {
     push_word(out, b"spent ")?;
     push_seconds_at(out, time, unit)?;
     push_turns(out, given)
 }
 
-/// Appends the closing line of a run that was given so many turns.
-///
-/// # Errors
-/// Out of memory.
-pub fn push_closing(
-    out: &mut Vec<u8>,
-    unit: Resolution,
-    turns: u64,
-    end: &End,
-) -> Result<(), Memory>
-    ensures { OnOk result (out.new.items ≡ out.old.items ++ end_text unit turns end.now) }
+fn push_ending(out: &mut Vec<u8>, unit: Resolution, turns: u64, end: &End) -> Result<(), Memory>
+    ensures ok { OnOk result (out.new.items ≡ out.old.items ++ end_text unit turns end.now) }
+    ensures kept { take (length out.old.items) out.new.items ≡ out.old.items }
 {
     match end {
         End::Reached { time, turns: taken } => push_end(out, unit, *time, *taken),
@@ -106,6 +102,29 @@ pub fn push_closing(
             fault,
         } => push_stopped(out, unit, *time, *cluster, fault),
         End::Spent { time } => push_spent(out, unit, *time, turns),
+    }
+}
+
+/// Appends the closing line of a run that was given so many turns.
+///
+/// # Errors
+/// Out of memory; `out` is then unchanged.
+pub fn push_closing(
+    out: &mut Vec<u8>,
+    unit: Resolution,
+    turns: u64,
+    end: &End,
+) -> Result<(), Memory>
+    ensures whole { OnOk result (out.new.items ≡ out.old.items ++ end_text unit turns end.now) }
+    ensures kept { OnErr result (out.new.items ≡ out.old.items) }
+{
+    let start = out.len();
+    match push_ending(out, unit, turns, end) {
+        Ok(()) => Ok(()),
+        Err(error) => {
+            out.truncate(start);
+            Err(error)
+        }
     }
 }
 

@@ -1,6 +1,6 @@
 //! The plan of a cluster as a note.
 
-ghost use Rattle.std.specs.Prelude.{◌≡◌, ◌+◌, ◌++◌, OnOk, length};
+ghost use Rattle.std.specs.Prelude.{◌≡◌, ◌+◌, ◌++◌, OnErr, OnOk, length};
 ghost use Rattle.tdf_bind_tables.specs.Ranges.{AreInRange};
 ghost use Rattle.tdf_dynamic_texts.specs.Plans.{plan_text, rows_of_plan};
 ghost use Rattle.tdf_io.specs.Bytes.{WritesText};
@@ -14,7 +14,7 @@ use tdf_schedule::Plan;
 /// Appends the plan of the cluster at a place, from a time on. Clusters have numbers from 1 on, and places from 0 on.
 ///
 /// # Errors
-/// Out of memory.
+/// Out of memory; `text` is then unchanged.
 pub fn push_plan_at(
     text: &mut Vec<u8>,
     flat: &Flat,
@@ -26,6 +26,7 @@ pub fn push_plan_at(
     requires bounds { length plan.now.bounds.items ≡ length flat.now.tables.edges }
     ensures plan { OnOk result (text.new.items ≡ text.old.items
         ++ plan_text flat.now.resolution flat.now.tables (place + 1) time (rows_of_plan plan.now)) }
+    ensures kept { OnErr result (text.new.items ≡ text.old.items) }
 {
     let number = cluster_number(place)?;
     push_plan(text, &flat.tables, number, time, plan, flat.resolution)

@@ -1,7 +1,6 @@
 //! When a table can't drive a model.
 
 ghost use Rattle.std.specs.Prelude.{◌≡◌, ◌∷◌, [], ◌++◌, ◌+◌, ◌<◌, ◌≤◌, None, Some, false, true, length, map, IfErr, IfOk, IfSome, OnErr, OnOk, ◌&&◌, is_some};
-ghost use Rattle.tdf_base.specs.Time.{femtoseconds_in};
 ghost use Rattle.tdf_stim.specs.Drivable.{first_row_line, has_long, is_long, is_off, is_too_large, without_minus};
 ghost use Rattle.tdf_stim.specs.Driver.{counts};
 ghost use Rattle.tdf_stim.specs.declared.err.StimErr.TheVariants as why;
@@ -15,7 +14,8 @@ use crate::err::StimErr;
 use crate::signals::Source;
 use std::alloc::Global;
 use tdf_base::{
-    GREATEST_RATE, HEAVIEST_BODY, Memory, Resolution, TIME_END, is_short, row_number, split,
+    GREATEST_RATE, HEAVIEST_BODY, Memory, Resolution, TIME_END, femtoseconds_of_count, is_short,
+    row_number, split,
 };
 use tdf_tables::{Row, cut_word};
 
@@ -133,23 +133,12 @@ pub(crate) fn check_digits(sources: &[Option<Source>], rows: &[Row]) -> Result<(
     Ok(())
 }
 
-/// The femtoseconds of one count.
-fn femtoseconds_of(unit: Resolution) -> u128
-    ensures value { result ≡ femtoseconds_in unit }
-    ensures some { 0 < result }
-{
-    match unit {
-        Resolution::Ps => 1_000,
-        Resolution::Fs => 1,
-    }
-}
-
 /// A time in fs as a count of a resolution; none where it is no whole count below 10^18.
 fn count(unit: Resolution, time: u128) -> Option<u64>
     ensures some { IfSome result (λ n. (n ≡ counts unit time) × (is_off unit time ≡ false)) }
     ensures none { result ≡ None → is_off unit time ≡ true }
 {
-    let one = femtoseconds_of(unit);
+    let one = u128::from(femtoseconds_of_count(unit));
     if time % one != 0 {
         return None;
     }

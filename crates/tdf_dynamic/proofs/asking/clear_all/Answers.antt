@@ -12,7 +12,7 @@ clear_port-requires-clause-port c =
 
 pub loop-port-preserved : goal.loop-port-preserved
 loop-port-preserved c = record {
-  fit = c.ports.ensures.fit;
+  fit = c.law_fit.ensures;
   zero =
       let below : c.loop-port.port < length c.args.ports.now.spans = (let a = c.loop-port-test.true in let b = c.requires.count in omega (arith, a, b)) in
       all_next c.loop-port.port c.args.ports.now c.loop-port.ports c.clear_port.new.ports c.requires.fit below c.loop-port.invariant.zero c.clear_port.ensures;

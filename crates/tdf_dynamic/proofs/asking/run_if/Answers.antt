@@ -24,4 +24,4 @@ returns c =
     row_at _ c.args.flat.now c.flat.view_is _ c.args.attrs.now.number c.index-row.result.now (ap (λ (x : AttrsOf). x.number) c.attrs.view_is) c.requires.is_module c.index-row.ensures in
     let has : c.index-row.result.now.changes ≡ true = search rules in
     run_at _ c.args.flat.now c.flat.view_is c.args.attrs.now c.index-row.result.now at c.requires.text c.requires.is_module c.requires.allowed c.args.instance.now
-    (record { frame = c.run_body.new.frame; ports = c.run_body.new.ports }) c.requires.frame c.requires.begun has c.run_body.ensures.frame c.run_body.ensures.after c.ports.ensures.fit c.run_body.ensures.inputs
+    (record { frame = c.run_body.new.frame; ports = c.run_body.new.ports }) c.requires.frame c.requires.begun has c.run_body.ensures.frame c.run_body.ensures.after c.law_fit.ensures c.run_body.ensures.inputs

@@ -5,5 +5,5 @@ use Rattle.tdf_dynamic.proofs.next.accepted.Goals as goal
 
 pub returns-in-Some-clause-refused : goal.returns-in-Some-clause-refused
 returns-in-Some-clause-refused c =
-    told_first (IsRefusing c.args.before.now.ports.items c.args.after.now.ports.items c.args.old.now.steps c.args.new.now.steps) c.args.flat.now.tables code.Rejected c.args.table.now c.args.frames.now
+    told_first (IsRefusing c.args.before.now.ports.items c.args.after.now.ports.items c.args.old.now.steps c.args.new.now.steps) c.args.at.now.flat.now.tables code.Rejected c.args.at.now.table.now c.args.at.now.frames.now
     c.in-Some.place c.index-table-place.result c.in-Some.ensures c.index-table-place.is c.module_fault.result c.module_fault.ensures

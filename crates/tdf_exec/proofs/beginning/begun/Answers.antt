@@ -6,7 +6,7 @@ returns c = begun_from _ c.args.flat.now c.flat.view_is c.args.number c.index.re
     c.in_ok-frame.frame c.run_body.new.frame c.in_ok-ports.ports c.run_body.new.ports c.in_ok-frame.ensures.start_cells c.in_ok-frame.ensures.start_rates
     (record {
       spans_are = c.in_ok-ports.ensures.spans;
-      fit = c.ports.ensures.fit;
+      fit = c.law_fit.ensures;
       count = _;
       samples = c.in_ok-ports.ensures.samples;
       assigned = c.in_ok-ports.ensures.assigned;

@@ -57,4 +57,4 @@ returns-clause-zeros c =
     c.run_body.ensures.inputs
 
 pub returns-clause-formats : goal.returns-clause-formats
-returns-clause-formats c = hold_formats c.run_body.new.ports c.ports.ensures.fit
+returns-clause-formats c = hold_formats c.run_body.new.ports c.law_fit.ensures

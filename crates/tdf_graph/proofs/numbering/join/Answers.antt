@@ -11,4 +11,4 @@ pub returns : goal.returns
 returns c edges all are = IfOk-weaker c.merge.result _ _
     (λ parts merged. labels_next _ edges c.args.parts parts c.args.edge.now c.label-first.result c.label-second.result all c.requires are
     c.label-first.ensures.value c.label-second.ensures.value merged)
-    c.merge.ensures
+    c.merge.ensures.merged

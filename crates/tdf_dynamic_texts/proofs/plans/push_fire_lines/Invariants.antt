@@ -3,7 +3,7 @@ use Rattle.std.specs.List.{flat_map}
 use Rattle.tdf_bind_tables.specs.Ranges.{actor_path}
 use Rattle.tdf_dynamic_texts.specs.Plans.{fire_line}
 use Rattle.tdf_schedule.specs.declared.entry.Entry.{Entry}
-use Rattle.tdf_dynamic_texts.proofs.plans.push_fires.Given as goal
+use Rattle.tdf_dynamic_texts.proofs.plans.push_fire_lines.Given as goal
 
 abbrev pub invariant-loop-place : goal.invariant-loop-place
 invariant-loop-place l = l.out.items ≡ l.initial.out.items

@@ -1,0 +1,11 @@
+use Rattle.tdf_dynamic_texts.proofs.Api.{kept_after}
+use Rattle.tdf_sim_notes.proofs.ending.push_stopped.Goals as goal
+
+pub returns-clause-kept : goal.returns-clause-kept
+returns-clause-kept c =
+    kept_after c.args.out.now.items _ c.push_word.new.out.items c.push_word-4.new.out.items c.in_ok-push_word.ensures.ok (
+    kept_after c.push_word.new.out.items _ c.push_seconds_at.new.out.items c.push_word-4.new.out.items c.in_ok-push_seconds_at.ensures.ok (
+    kept_after c.push_seconds_at.new.out.items _ c.push_word-2.new.out.items c.push_word-4.new.out.items c.in_ok-push_word-2.ensures.ok (
+    kept_after c.push_word-2.new.out.items _ c.push_number.new.out.items c.push_word-4.new.out.items c.in_ok-push_number.ensures.ok (
+    kept_after c.push_number.new.out.items _ c.push_word-3.new.out.items c.push_word-4.new.out.items c.in_ok-push_word-3.ensures.ok (
+    kept_after c.push_word-3.new.out.items _ c.push_fault.new.out.items c.push_word-4.new.out.items c.in_ok-push_fault.ensures.ok c.push_word-4.ensures.kept)))))
