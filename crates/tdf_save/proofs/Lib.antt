@@ -1,3 +1,4 @@
+pub mod Api
 pub mod WordLists
 pub mod Each
 pub mod PartTexts

@@ -38,7 +38,7 @@ spaced_one word fits one = pre_one (32 ∷ []) word fits Stops one
 abbrev pub NoMore : List ℕ → Type 0
 NoMore r = Stops r × (begins_with_byte 32 r ≡ false)
 
-list_is : {V : Type 0} (word : V → List ℕ) (vs : List V) → after_spaces (map word vs) ≡ flat_map (λ v. 32 ∷ word v) vs
+pub list_is : {V : Type 0} (word : V → List ℕ) (vs : List V) → after_spaces (map word vs) ≡ flat_map (λ v. 32 ∷ word v) vs
 list_is word [] = words_none
 list_is word (v ∷ vs) = words_some (word v) (map word vs) ∙ ap (λ x. 32 ∷ (word v ++ x)) (list_is word vs)
 

@@ -8,7 +8,7 @@ use Rattle.std.specs.List.{list_any}
 use Rattle.tdf_save.proofs.Ones.{word_one}
 use Rattle.tdf_save.specs.Members.{IsCount32, IsCount64, IsNum}
 use Rattle.tdf_save.specs.Text.{accept_word, carry_word, kind_word}
-use Rattle.tdf_save.specs.machine.Pieces.{IsOne, Stops, is_stop}
+use Rattle.tdf_save.specs.machine.Pieces.{AnyFlag, IsOne, Stops, is_stop}
 
 -- ---- the bytes of a number
 
@@ -37,7 +37,7 @@ pub count_plain : (n : ℕ) → n < 2 ^ 64 → list_any is_stop (decimal n) ≡ 
 count_plain n h = none_in is_stop digit_goes_on n h
 
 -- no count begins with a dash
-no_dash : (n : ℕ) (rest : List ℕ) → n < 2 ^ 64 → decimal n ≡ 45 ∷ rest → ⊥
+pub no_dash : (n : ℕ) (rest : List ℕ) → n < 2 ^ 64 → decimal n ≡ 45 ∷ rest → ⊥
 no_dash n rest h e =
     let f : list_any is_dash (45 ∷ rest) ≡ false = subst (λ t. list_any is_dash t ≡ false) e (none_in is_dash digit_no_dash n h) in
     let apart : true ≡ false = f in
@@ -69,9 +69,6 @@ pub num_one : IsOne signed_decimal IsNum Stops
 num_one = word_one signed_decimal IsNum num_plain num_same
 
 -- ---- other words
-
-abbrev pub AnyFlag : Bool → Type 0
-AnyFlag flag = Unit {0}
 
 accept_plain : (flag : Bool) → AnyFlag flag → list_any is_stop (accept_word flag) ≡ false
 accept_plain true h = refl

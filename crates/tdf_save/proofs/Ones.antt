@@ -86,10 +86,10 @@ fewer_one text fits mid ends goes one = record {
 
 -- ---- items, up to something else
 
-apart : (x : Bool) → x ≡ true → x ≡ false → ⊥
+pub apart : (x : Bool) → x ≡ true → x ≡ false → ⊥
 apart x p q = let f : true ≡ false = sym p ∙ q in cc
 
-items_end : {V : Type 0} (f : V → List ℕ) (fits : V → Type 0) (ends : List ℕ → Type 0) → ((v : V) (r : List ℕ) → fits v → ends (f v ++ r))
+pub items_end : {V : Type 0} (f : V → List ℕ) (fits : V → Type 0) (ends : List ℕ → Type 0) → ((v : V) (r : List ℕ) → fits v → ends (f v ++ r))
     → (vs : List V) (r : List ℕ) → AllByRecursion fits vs → ends r → ends (flat_map f vs ++ r)
 items_end f fits ends goes [] r all e = e
 items_end f fits ends goes (v ∷ vs) r all e = subst ends (sym (append_assoc (f v) (flat_map f vs) r)) (goes v (flat_map f vs ++ r) all.0)

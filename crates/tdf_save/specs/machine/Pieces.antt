@@ -22,6 +22,17 @@ begins_with_byte byte (first ∷ rest) = nat_eq first byte
 abbrev pub Any : List ℕ → Type 0
 Any rest = Unit {0}
 
+-- so may any flag
+abbrev pub AnyFlag : Bool → Type 0
+AnyFlag flag = Unit {0}
+
+-- what may come after the notifications, and after a column: neither `sample`, nor `later`, nor
+-- `pending`
+pub record IsNext (rest : List ℕ) : Type 0 where
+  pub sample : begins_with_byte 115 rest ≡ false
+  pub later : begins_with_byte 108 rest ≡ false
+  pub pending : begins_with_byte 112 rest ≡ false
+
 -- a text that begins with that of something which fits, so that `ends` holds of what comes after
 -- it, does so in one way
 pub record IsOne {V : Type 0} (text : V → List ℕ) (fits : V → Type 0)
