@@ -4,3 +4,10 @@ pub mod ListReads
 pub mod ModuleReads
 pub mod ModuleSteps
 pub mod ClusterSteps
+pub mod ItemReads
+pub mod ValueSteps
+pub mod ColumnSteps
+pub mod EventSteps
+pub mod KernelSteps
+pub mod HeadSteps
+pub mod WholeSteps

@@ -68,7 +68,7 @@ last_text word v = (32 ∷ word v) ++ line_end
 pub path_line_is : {V : Type 0} (keyword path : List ℕ) (word : V → List ℕ) (v : V) → saved_line keyword (path ∷ (word v ∷ [])) ≡ path_front keyword path ++ last_text word v
 path_line_is keyword path word v = two_is keyword path (word v) ∙ sym (append_assoc keyword (32 ∷ path) (last_text word v))
 
-path_list_is : {V : Type 0} (keyword path : List ℕ) (word : V → List ℕ) (vs : List V) → saved_line keyword (path ∷ map word vs) ≡ path_front keyword path ++ list_text word vs
+pub path_list_is : {V : Type 0} (keyword path : List ℕ) (word : V → List ℕ) (vs : List V) → saved_line keyword (path ∷ map word vs) ≡ path_front keyword path ++ list_text word vs
 unfolding list_text
 path_list_is keyword path word vs = more_is keyword path (map word vs) ∙ sym (append_assoc keyword (32 ∷ path) (after_spaces (map word vs) ++ line_end))
 

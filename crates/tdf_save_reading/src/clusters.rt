@@ -62,3 +62,28 @@ fn read_cluster<'t>(
         Err(why) => Err(why),
     }
 }
+
+/// The states of clusters.
+pub(crate) fn read_clusters<'t>(
+    alloc: Global,
+    members: &[ClusterMembers],
+    text: &'t [u8],
+) -> Result<(Vec<ClusterState>, &'t [u8]), StateErr>
+    ensures is { IfOk result (λ p. IsPiece (each_text saved_cluster members.now)
+        (AllZip IsClusterFor members.now) Any text.entry.now p.0.items p.1.now) }
+    ensures refused { IfErr result (IsStateRefusal
+        (NoPiece (each_text saved_cluster members.now) (AllZip IsClusterFor members.now) Any text.entry.now)) }
+{
+    let mut list = Vec::new(alloc);
+    let mut rest = text;
+    for k in 0..members.len() {
+        match read_cluster(alloc, &members[k], rest) {
+            Ok((state, left)) => {
+                put(&mut list, state)?;
+                rest = left;
+            }
+            Err(why) => return Err(why),
+        }
+    }
+    Ok((list, rest))
+}

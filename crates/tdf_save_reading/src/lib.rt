@@ -6,9 +6,16 @@
 #![tactic(auto)]
 
 mod clusters;
+mod columns;
 mod err;
+mod events;
+mod head;
+mod kernel;
 mod lists;
 mod modules;
 mod numbers;
+mod snapshot;
+mod values;
 
 pub use err::StateErr;
+pub use snapshot::read_snapshot;

@@ -2,24 +2,33 @@
 
 ghost use Rattle.std.specs.Fmt.{signed_decimal};
 ghost use Rattle.std.specs.List.{AllByRecursion};
-ghost use Rattle.std.specs.Prelude.{◌≡◌, ◌++◌, ◌∷◌, [], IfErr, IfOk, OnOk, decimal, map};
+ghost use Rattle.std.specs.Prelude.{◌≡◌, ◌++◌, ◌∷◌, [], true, false, IfErr, IfOk, OnOk, decimal, map};
 ghost use Rattle.tdf_save.specs.Members.{IsCount32, IsCount64, IsNum};
 ghost use Rattle.tdf_save.specs.Text.{saved_line};
 ghost use Rattle.tdf_save_reading.specs.machine.Lists.{list_text};
-ghost use Rattle.tdf_save.specs.machine.Pieces.{Any, begins_with_byte};
+ghost use Rattle.tdf_save.specs.machine.Pieces.{Any, IsNext, begins_with_byte};
 ghost use Rattle.tdf_save_reading.specs.machine.Pieces.{IsPiece, IsStateRefusal, NoPiece, IsWant};
 
 use crate::err::StateErr;
 use crate::numbers::{cut, spaced_count, spaced_num, spaced_rate};
 use std::alloc::Global;
 
-fn goes_on(text: &[u8]) -> bool
-    ensures { result ≡ begins_with_byte 32 text.now }
+/// Whether a text begins with a byte.
+pub(crate) fn begins_with(text: &[u8], byte: u8) -> bool
+    ensures { result ≡ begins_with_byte byte text.now }
 {
     match text {
         [] => false,
-        [first, ..] => *first == b' ',
+        [first, ..] => *first == byte,
     }
+}
+
+/// Whether neither a sample, nor a later one, nor a notification begins a text.
+pub(crate) fn is_next(text: &[u8]) -> bool
+    ensures yes { result ≡ true → IsNext text.now }
+    ensures no { result ≡ false → IsNext text.now → ⊥ }
+{
+    !begins_with(text, b's') && !begins_with(text, b'l') && !begins_with(text, b'p')
 }
 
 /// One item more.
@@ -45,7 +54,7 @@ pub(crate) fn read_rates<'t>(
 {
     let mut list = Vec::new(alloc);
     let mut rest = text;
-    while goes_on(rest) {
+    while begins_with(rest, b' ') {
         match spaced_rate(rest) {
             Some((number, left)) => {
                 put(&mut list, number)?;
@@ -72,7 +81,7 @@ pub(crate) fn read_steps<'t>(
 {
     let mut list = Vec::new(alloc);
     let mut rest = text;
-    while goes_on(rest) {
+    while begins_with(rest, b' ') {
         match spaced_count(rest) {
             Some((number, left)) => {
                 put(&mut list, number)?;
@@ -99,7 +108,7 @@ pub(crate) fn read_nums<'t>(
 {
     let mut list = Vec::new(alloc);
     let mut rest = text;
-    while goes_on(rest) {
+    while begins_with(rest, b' ') {
         match spaced_num(rest) {
             Some((number, left)) => {
                 put(&mut list, number)?;

@@ -1,6 +1,8 @@
 -- Pieces of a text that is read, and why there is none.
 -- Source: own.
-use Rattle.std.specs.Prelude.{◌≡◌, ℕ, List, ◌++◌}
+use Rattle.std.specs.Prelude.{◌≡◌, ℕ, ℤ, Option, IfSome, false, List, ◌++◌}
+use Rattle.tdf_save.specs.Members.{IsNum}
+use Rattle.tdf_save.specs.machine.Pieces.{Any, begins_with_byte}
 use Rattle.tdf_save_reading.specs.declared.err.StateErr.{StateErr}
 use Rattle.tdf_save_reading.specs.declared.err.StateErr.TheVariants.{Bad, Memory}
 
@@ -23,3 +25,11 @@ IsStateRefusal reason Memory = Unit {0}
 abbrev pub IsWant : StateErr → Type 0
 IsWant Bad = ⊥
 IsWant Memory = Unit {0}
+
+-- no sample comes
+abbrev pub NoSample : List ℕ → Type 0
+NoSample rest = Any rest × (begins_with_byte 115 rest ≡ false)
+
+-- a carry in range, or none
+abbrev pub HasCarry : Option ℤ → Type 0
+HasCarry carry = IfSome carry IsNum

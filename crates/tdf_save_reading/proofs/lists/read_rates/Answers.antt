@@ -16,7 +16,7 @@ loop-rest-preserved c =
 pub returns-in-None-clause-refused : goal.returns-in-None-clause-refused
 returns-in-None-clause-refused c =
     list_stuck decimal IsCount32 count32_one c.args.text.now c.loop-rest.list.items c.loop-rest.rest.now c.loop-rest.invariant
-    (sym c.goes_on.ensures ∙ c.loop-rest-test.true) (c.in-None.ensures.none refl)
+    (sym c.begins_with.ensures ∙ c.loop-rest-test.true) (c.in-None.ensures.none refl)
 
 pub returns-in-Some-cut-clause-is : goal.returns-in-Some-cut-clause-is
 returns-in-Some-cut-clause-is c =
@@ -25,4 +25,4 @@ returns-in-Some-cut-clause-is c =
 pub returns-clause-refused : goal.returns-clause-refused
 returns-clause-refused c =
     list_no_end decimal IsCount32 count32_one c.args.text.now c.loop-rest.list.items c.loop-rest.rest.now c.loop-rest.invariant
-    (sym c.goes_on.ensures ∙ c.loop-rest-test.false) c.in-None-cut.ensures
+    (sym c.begins_with.ensures ∙ c.loop-rest-test.false) c.in-None-cut.ensures

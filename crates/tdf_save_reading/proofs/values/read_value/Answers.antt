@@ -1,0 +1,23 @@
+use Rattle.std.proofs.Common.{codes, refl, rules, SFits}
+use Rattle.std.proofs.lemmas.Int.{to_z-of_z}
+use Rattle.std.specs.Fmt.{signed_decimal}
+use Rattle.std.specs.Int.{w128}
+use Rattle.tdf_save.specs.Members.{IsNum}
+use Rattle.tdf_save.specs.Text.{saved_value}
+use Rattle.tdf_save.specs.machine.Pieces.{Any}
+use Rattle.tdf_save_reading.proofs.ModuleReads.{front_absent, front_none, front_piece, last_text, path_front}
+use Rattle.tdf_save_reading.proofs.ValueSteps.{value_front}
+use Rattle.tdf_save_reading.proofs.values.read_value.Goals as goal
+
+pub returns-in-Some-last_num-clause-is : goal.returns-in-Some-last_num-clause-is
+returns-in-Some-last_num-clause-is c =
+    let f : SFits w128 c.in-Some-last_num.num = search rules in
+    rw (to_z-of_z w128 c.in-Some-last_num.num f)
+    (front_piece (path_front (codes "value") c.args.path.now) (saved_value c.args.path.now) (last_text signed_decimal) IsNum Any c.args.text.now c.in-Some.rest.now c.in-Some-last_num.num c.in-Some-last_num.left.now
+    (value_front c.args.path.now) c.in-Some.ensures c.in-Some-last_num.ensures.is)
+
+pub returns-in-None-last_num-clause-none : goal.returns-in-None-last_num-clause-none
+returns-in-None-last_num-clause-none c = λ _. front_none (path_front (codes "value") c.args.path.now) (saved_value c.args.path.now) (last_text signed_decimal) IsNum Any c.args.text.now c.in-Some.rest.now (value_front c.args.path.now) c.in-Some.ensures (c.in-None-last_num.ensures.none refl)
+
+pub returns-in-None-clause-none : goal.returns-in-None-clause-none
+returns-in-None-clause-none c = λ _. front_absent (path_front (codes "value") c.args.path.now) (saved_value c.args.path.now) (last_text signed_decimal) IsNum Any c.args.text.now (value_front c.args.path.now) c.in-None.ensures
