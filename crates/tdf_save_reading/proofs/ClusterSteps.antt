@@ -1,8 +1,8 @@
 -- A cluster is read part after part.
-use Rattle.std.proofs.Common.{◌≡◌, ℕ, ℤ, List, [], ◌∷◌, ◌++◌, ◌∙◌, sym, ap, refl, subst, codes, decimal}
+use Rattle.std.proofs.Common.{◌≡◌, ℕ, ℤ, List, [], ◌∷◌, ◌++◌, ◌∙◌, ap, refl, codes, decimal}
 use Rattle.std.specs.List.{AllByRecursion, AllZip}
-use Rattle.tdf_save.proofs.Api.{ClusterParts, ClusterPartsFit, cluster_fit, cluster_is, cluster_parts, cluster_parts_text, count64_one, each_one, edge_one, module_one, path_line_one, start_line}
-use Rattle.tdf_save_reading.proofs.ModuleReads.{front_absent, front_none, front_piece, last_text, path_front, path_line_is}
+use Rattle.tdf_save.proofs.Api.{ClusterPartsFit, cluster_fit, cluster_is, cluster_parts, cluster_parts_text, count64_one, each_one, module_one, path_line_one, start_line}
+use Rattle.tdf_save_reading.proofs.ModuleReads.{last_text, path_front, path_line_is}
 use Rattle.tdf_save_reading.proofs.ReadSteps.{along_none, along_piece, no_first, no_second, pair_piece}
 use Rattle.tdf_save.specs.Members.{ClusterMembersOf, IsClusterFor, IsCount64, IsModuleFor, IsNum}
 use Rattle.tdf_save.specs.Text.{saved_cluster, each_text, saved_edge, saved_module, saved_line}

@@ -1,11 +1,11 @@
 -- A column is read part after part.
-use Rattle.std.proofs.Common.{◌≡◌, ℕ, ℤ, List, [], ◌∷◌, ◌++◌, ◌∙◌, sym, ap, refl, codes, decimal, Option, Some, None, true, false}
+use Rattle.std.proofs.Common.{◌≡◌, ℕ, ℤ, List, [], ◌∷◌, ◌++◌, ◌∙◌, ap, refl, codes, decimal, Option, Some, None}
 use Rattle.std.specs.Fmt.{signed_decimal}
 use Rattle.std.specs.List.{AllByRecursion, flat_map}
-use Rattle.tdf_save.proofs.Api.{ColumnParts, ColumnPartsFit, carry_line, carry_one, column_fit, column_is, column_next, column_one, column_parts, column_parts_text, count64_one, later_begins, later_is, later_one, laters_no_sample, num_one, one_is, path_line_one, sample_begins, sample_is, sample_one, samples_one, spaced_one, stamp_fit, stamp_parts, two_is}
+use Rattle.tdf_save.proofs.Api.{ColumnPartsFit, carry_line, carry_one, column_fit, column_is, column_next, column_one, column_parts, column_parts_text, count64_one, later_begins, later_is, later_one, laters_no_sample, one_is, path_line_one, sample_begins, sample_is, sample_one, samples_one, spaced_one, stamp_fit, stamp_parts, two_is}
 use Rattle.tdf_save.specs.Members.{IsColumnInRange, IsCount64, IsNum, IsStampInRange}
 use Rattle.tdf_save.specs.Text.{carry_word, saved_column, saved_later, saved_sample}
-use Rattle.tdf_save.specs.machine.Pieces.{Any, IsNext, IsOne, Stops, begins_with_byte}
+use Rattle.tdf_save.specs.machine.Pieces.{Any, IsNext, Stops}
 use Rattle.tdf_save_reading.proofs.ModuleReads.{last_text, path_front, path_line_is}
 use Rattle.tdf_save_reading.proofs.ReadSteps.{AreEach, AreItems, along_none, along_piece, no_first, no_second, pair_piece, pre_absent, pre_none, pre_piece}
 use Rattle.tdf_save_reading.specs.machine.Pieces.{HasCarry, IsPiece, NoPiece, NoSample}

@@ -1,9 +1,9 @@
 -- Notifications are read exactly.
-use Rattle.std.proofs.Common.{◌≡◌, ℕ, zero, suc, ◌<◌, ◌≤◌, ◌^◌, ◌+◌, Bool, true, false, List, [], ◌∷◌, ◌++◌, length, map, get_or, ◌∙◌, sym, ap, refl, subst, codes, decimal, arith, slice_index_or, ⊎_elim}
+use Rattle.std.proofs.Common.{◌≡◌, ℕ, zero, suc, ◌<◌, ◌≤◌, ◌+◌, false, List, [], ◌∷◌, ◌++◌, length, get_or, ◌∙◌, sym, ap, refl, codes, decimal, arith, ⊎_elim}
 use Rattle.std.proofs.lemmas.Bool.{cases_lt}
-use Rattle.std.specs.List.{AllByRecursion, flat_map}
+use Rattle.std.specs.List.{AllByRecursion}
 use Rattle.tdf_save.proofs.Api.{apart, cancel, count64_one, last_one, name_one, pair_one, pending_is, pending_parts, pre_one, pending_begins}
-use Rattle.tdf_save.specs.Members.{AreNamesApart, IsCount32, IsCount64, IsPendingFor, MembersOf}
+use Rattle.tdf_save.specs.Members.{AreNamesApart, IsCount64, IsPendingFor, MembersOf}
 use Rattle.tdf_save.specs.Text.{saved_pending}
 use Rattle.tdf_save.specs.machine.Pieces.{Any, IsNext, IsOne, begins_with_byte}
 use Rattle.tdf_save_reading.proofs.ModuleReads.{last_text}

@@ -1,6 +1,6 @@
 -- The head of a text is read part after part.
-use Rattle.std.proofs.Common.{◌≡◌, ℕ, Bool, true, false, List, [], ◌∷◌, ◌++◌, ◌∙◌, sym, ap, refl, codes, decimal, append_assoc}
-use Rattle.tdf_save.proofs.Api.{along_one, count64_one, kind_one, last_one, line_end, pair_one, pre_one, spaced_one, three_is, three_line_one, word_line_one}
+use Rattle.std.proofs.Common.{◌≡◌, ℕ, Bool, true, false, List, [], ◌∷◌, ◌++◌, ◌∙◌, sym, ap, refl, codes, decimal}
+use Rattle.tdf_save.proofs.Api.{along_one, count64_one, kind_one, pre_one, spaced_one, three_is, three_line_one, word_line_one}
 use Rattle.tdf_save.specs.Members.{IsCount64}
 use Rattle.tdf_save.specs.Text.{after_spaces, kind_word, saved_line}
 use Rattle.tdf_save.specs.machine.Pieces.{Any, AnyFlag, IsOne, Stops}

@@ -1,7 +1,7 @@
 -- The event kernel is read part after part.
 use Rattle.std.proofs.Common.{◌≡◌, ℕ, ℤ, List, ◌++◌, ◌∙◌, ap, refl}
 use Rattle.std.specs.List.{AllByRecursion, AllZip, flat_map}
-use Rattle.tdf_save.proofs.Api.{KernelParts, KernelPartsFit, block_one, each_one, kernel_fit, kernel_is, kernel_parts, kernel_parts_text, value_one}
+use Rattle.tdf_save.proofs.Api.{KernelPartsFit, block_one, each_one, kernel_fit, kernel_is, kernel_parts, kernel_parts_text, value_one}
 use Rattle.tdf_save.specs.Members.{IsKernelFor, IsPendingFor, MembersOf}
 use Rattle.tdf_save.specs.Text.{each_text, saved_block, saved_kernel, saved_pending, saved_value}
 use Rattle.tdf_save.specs.machine.Pieces.{Any, IsNext, IsOne}

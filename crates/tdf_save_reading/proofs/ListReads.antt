@@ -1,10 +1,10 @@
 -- Lists of numbers, up to the end of their line.
-use Rattle.std.proofs.Common.{◌≡◌, ℕ, ◌<◌, true, false, nat_eq, List, [], ◌∷◌, ◌++◌, map, refl, ◌∙◌, sym, ap, append_assoc}
+use Rattle.std.proofs.Common.{◌≡◌, ℕ, true, false, List, [], ◌∷◌, ◌++◌, map, refl, ◌∙◌, sym, ap, append_assoc}
 use Rattle.std.proofs.lemmas.Bool.{eqb-true}
 use Rattle.std.specs.List.{AllByRecursion, flat_map}
-use Rattle.tdf_save.proofs.Api.{apart, line_end, list_is, spaced_one}
+use Rattle.tdf_save.proofs.Api.{line_end, list_is, spaced_one}
 use Rattle.tdf_save_reading.proofs.ReadSteps.{AreItems, HasRead, done, stuck}
-use Rattle.tdf_save.specs.machine.Pieces.{Any, IsOne, Stops, is_stop, begins_with_byte}
+use Rattle.tdf_save.specs.machine.Pieces.{Any, IsOne, Stops, begins_with_byte}
 use Rattle.tdf_save_reading.specs.machine.Pieces.{IsPiece, NoPiece}
 use Rattle.tdf_save_reading.specs.machine.Lists.{list_text}
 use Rattle.tdf_save.specs.Text.{after_spaces}

@@ -1,5 +1,5 @@
 -- Lines of modules are read exactly.
-use Rattle.std.proofs.Common.{◌≡◌, ℕ, ℤ, List, [], ◌∷◌, ◌++◌, map, refl, ◌∙◌, sym, ap, Result, Ok, Err, IfErr, Option, Some, None, Bor, Bool, true, false, codes, append_assoc}
+use Rattle.std.proofs.Common.{◌≡◌, ℕ, ℤ, List, [], ◌∷◌, ◌++◌, map, ◌∙◌, sym, ap, Result, Ok, Err, IfErr, Option, Some, None, Bor, Bool, true, false, codes, append_assoc}
 use Rattle.std.specs.List.{AllByRecursion}
 use Rattle.std.specs.Fmt.{signed_decimal}
 use Rattle.std.specs.Option.{MatchOption}

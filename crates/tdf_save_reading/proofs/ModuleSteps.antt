@@ -1,10 +1,9 @@
 -- A module is read line after line.
-use Rattle.std.proofs.Common.{◌≡◌, ℕ, ℤ, Bool, List, ◌++◌, length, ◌∙◌, sym, ap, refl, codes, decimal, append_assoc, subst}
-use Rattle.std.specs.Fmt.{signed_decimal}
+use Rattle.std.proofs.Common.{◌≡◌, ℕ, ℤ, Bool, List, ◌++◌, length, ◌∙◌, sym, ap, refl, codes, decimal, subst}
 use Rattle.std.specs.List.{AllByRecursion}
-use Rattle.tdf_save.proofs.Api.{ModuleParts, ModulePartsFit, accept_one, along_one, cells_of, count32_one, count64_one, edge_one, list_line_one, module_is, module_one, module_parts, module_parts_one, module_parts_text, module_same, num_one, path_line_one, rates_of, steps_of, title_of}
+use Rattle.tdf_save.proofs.Api.{ModulePartsFit, accept_one, along_one, cells_of, count32_one, count64_one, edge_one, list_line_one, module_is, module_one, module_parts, module_parts_one, module_parts_text, module_same, path_line_one, rates_of, steps_of, title_of}
 use Rattle.tdf_save_reading.proofs.ReadSteps.{AreEach, along_none, along_piece, no_first, no_second, pair_piece}
-use Rattle.tdf_save.specs.Members.{AreNums, IsCount32, IsCount64, IsModuleFor, IsNum, ModuleMembersOf}
+use Rattle.tdf_save.specs.Members.{IsCount32, IsCount64, IsModuleFor, IsNum, ModuleMembersOf}
 use Rattle.tdf_save.specs.Text.{accept_word, saved_edge, saved_module}
 use Rattle.tdf_save_reading.specs.machine.Modules.{HasCounts, IsModuleInRange}
 use Rattle.tdf_save.specs.machine.Pieces.{Any, AnyFlag, IsOne}

@@ -1,11 +1,11 @@
 -- Reading step by step: items one after the other, one for each member, and part after part.
-use Rattle.std.proofs.Common.{◌≡◌, ℕ, zero, suc, ◌+◌, ◌<◌, ◌≤◌, Bool, true, false, nat_eq, List, [], ◌∷◌, ◌++◌, length, take, drop, get_or, map, take-suc, refl, ◌∙◌, sym, ap, subst, append_assoc, append-nil, arith}
+use Rattle.std.proofs.Common.{◌≡◌, ℕ, zero, suc, ◌+◌, ◌<◌, ◌≤◌, true, false, List, [], ◌∷◌, ◌++◌, length, take, drop, get_or, take-suc, refl, ◌∙◌, sym, ap, subst, append_assoc, append-nil, arith}
 use Rattle.std.specs.List.{AllByRecursion, AllZip, flat_map}
 use Rattle.std.proofs.lemmas.Grind.{flat_map-append}
 use Rattle.std.proofs.lemmas.List.{take_all}
 use Rattle.tdf_save.proofs.Api.{apart, cancel, each_end, items_end}
 use Rattle.tdf_save.specs.Text.{each_text}
-use Rattle.tdf_save.specs.machine.Pieces.{Any, IsOne, Stops, begins_with_byte}
+use Rattle.tdf_save.specs.machine.Pieces.{Any, IsOne, begins_with_byte}
 use Rattle.tdf_save_reading.specs.machine.Pieces.{IsPiece, NoPiece}
 
 -- ---- items

@@ -1,11 +1,11 @@
 -- Numbers are read exactly.
 use Rattle.std.proofs.Common.{◌≡◌, ℕ, suc, ◌+◌, ◌<◌, ◌≤◌, ◌^◌, ℤ, pos, negsuc, Bool, true, false, ◌||◌, nat_eq, List, [], ◌∷◌, ◌++◌, length, take, drop, refl, ◌∙◌, sym, ap, subst, arith, append-nil, decimal, Option, Some, None, not}
-use Rattle.std.proofs.lemmas.Bool.{cases_Bool, eqb-true}
+use Rattle.std.proofs.lemmas.Bool.{eqb-true}
 use Rattle.std.proofs.lemmas.List.{take_all, drop_all, take_rest, take-append-drop}
 use Rattle.std.proofs.lemmas.List.Sums.{prefix_len-le-length}
 use Rattle.std.specs.Fmt.{signed_decimal}
 use Rattle.std.specs.List.{before_first, position_or_len, list_any}
-use Rattle.tdf_save.proofs.Api.{cancel, count64_one, count_plain, cut_at_stop, no_dash, num_plain}
+use Rattle.tdf_save.proofs.Api.{cancel, count64_one, cut_at_stop, no_dash}
 use Rattle.tdf_save.specs.Members.{IsCount32, IsCount64, IsNum}
 use Rattle.tdf_save.specs.machine.Pieces.{Stops, is_stop, begins_with_stop}
 use Rattle.tdf_save_reading.specs.machine.Pieces.{IsPiece, NoPiece}

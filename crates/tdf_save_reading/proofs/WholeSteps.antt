@@ -1,7 +1,7 @@
 -- A snapshot is read part after part, up to the text of the model.
-use Rattle.std.proofs.Common.{◌≡◌, ℕ, ◌<◌, ◌^◌, Bool, List, [], ◌∷◌, ◌++◌, length, ◌∙◌, sym, ap, refl, codes, decimal, append_assoc, subst, Result, Ok, Err, ◌⊎◌, inl, inr, IfErr}
-use Rattle.std.specs.List.{AllByRecursion, AllZip}
-use Rattle.tdf_save.proofs.Api.{along_one, body_parts, cancel, cluster_one, columns_next, count64_one, each_one, kernel_one, last_one, line_end, model_is, model_next, one_is, saved_is, snapshot_one, snapshot_text}
+use Rattle.std.proofs.Common.{◌≡◌, ℕ, ◌<◌, ◌^◌, Bool, List, [], ◌∷◌, ◌++◌, length, ◌∙◌, sym, ap, refl, codes, decimal, append_assoc, subst, Result, Ok, Err, ◌⊎◌, inr}
+use Rattle.std.specs.List.{AllZip}
+use Rattle.tdf_save.proofs.Api.{along_one, body_parts, cancel, cluster_one, columns_next, count64_one, each_one, kernel_one, last_one, model_is, model_next, one_is, saved_is, snapshot_one, snapshot_text}
 use Rattle.tdf_save.specs.Members.{AreNamesApart, IsClusterFor, IsCount64, IsKernelFor, IsSnapshotFor, MembersOf}
 use Rattle.tdf_save.specs.Text.{each_text, kind_word, saved_line, saved_cluster, saved_column, saved_head, saved_kernel, saved_model, saved_text}
 use Rattle.tdf_save.specs.machine.Pieces.{Any, AnyFlag, IsNext, IsOne}

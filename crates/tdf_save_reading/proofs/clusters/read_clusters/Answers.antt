@@ -1,4 +1,3 @@
-use Rattle.std.proofs.Common.{refl}
 use Rattle.tdf_save_reading.proofs.ModuleReads.{why_weaker}
 use Rattle.tdf_save_reading.proofs.ValueSteps.{clusters_each}
 use Rattle.tdf_save_reading.proofs.ReadSteps.{each_none_read, each_piece, each_read, each_stuck}

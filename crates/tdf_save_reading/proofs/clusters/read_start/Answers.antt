@@ -1,4 +1,4 @@
-use Rattle.std.proofs.Common.{codes, decimal, refl, ◌∙◌, ◌≡◌, ◌++◌, ap, sym, List, ℕ}
+use Rattle.std.proofs.Common.{codes, decimal, refl, ◌∙◌, ◌≡◌, ◌++◌, ap, sym}
 use Rattle.tdf_save_reading.proofs.ClusterSteps.{start_is, start_text}
 use Rattle.tdf_save_reading.proofs.ModuleReads.{front_absent, front_none, front_piece, last_text, path_front}
 use Rattle.tdf_save.specs.Members.{IsCount64}

@@ -1,4 +1,3 @@
-use Rattle.std.proofs.Common.{refl}
 use Rattle.tdf_save_reading.proofs.HeadSteps.{no_kind, table_piece, vcd_piece}
 use Rattle.tdf_save_reading.proofs.head.read_kind.Goals as goal
 

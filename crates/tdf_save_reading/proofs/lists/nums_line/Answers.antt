@@ -1,4 +1,3 @@
-use Rattle.std.proofs.Common.{decimal, map, refl}
 use Rattle.std.specs.Fmt.{signed_decimal}
 use Rattle.tdf_save_reading.proofs.ModuleReads.{line_absent, line_none, line_piece, why_weaker}
 use Rattle.tdf_save.specs.Members.{IsNum}

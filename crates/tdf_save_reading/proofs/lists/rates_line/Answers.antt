@@ -1,5 +1,4 @@
-use Rattle.std.proofs.Common.{decimal, map, refl}
-use Rattle.std.specs.Fmt.{signed_decimal}
+use Rattle.std.proofs.Common.{decimal}
 use Rattle.tdf_save_reading.proofs.ModuleReads.{line_absent, line_none, line_piece, why_weaker}
 use Rattle.tdf_save.specs.Members.{IsCount32}
 use Rattle.tdf_save_reading.proofs.lists.rates_line.Goals as goal

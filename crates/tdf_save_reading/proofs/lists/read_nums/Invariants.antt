@@ -1,4 +1,4 @@
-use Rattle.std.proofs.Common.{length, decimal}
+use Rattle.std.proofs.Common.{length}
 use Rattle.std.specs.Fmt.{signed_decimal}
 use Rattle.tdf_save_reading.proofs.ListReads.{ListRead}
 use Rattle.tdf_save.specs.Members.{IsNum}

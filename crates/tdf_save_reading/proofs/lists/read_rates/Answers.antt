@@ -1,5 +1,4 @@
 use Rattle.std.proofs.Common.{decimal, ◌∷◌, ◌∙◌, refl, sym}
-use Rattle.std.specs.Fmt.{signed_decimal}
 use Rattle.tdf_save_reading.proofs.ListReads.{AtEnd, list_items, list_no_end, list_piece, list_stuck}
 use Rattle.tdf_save.proofs.Api.{count32_one}
 use Rattle.tdf_save_reading.proofs.ReadSteps.{one_read}

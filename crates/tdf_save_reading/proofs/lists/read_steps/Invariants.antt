@@ -1,5 +1,4 @@
 use Rattle.std.proofs.Common.{length, decimal}
-use Rattle.std.specs.Fmt.{signed_decimal}
 use Rattle.tdf_save_reading.proofs.ListReads.{ListRead}
 use Rattle.tdf_save.specs.Members.{IsCount64}
 use Rattle.tdf_save_reading.proofs.lists.read_steps.Given as goal

@@ -1,4 +1,4 @@
-use Rattle.std.proofs.Common.{codes, refl}
+use Rattle.std.proofs.Common.{codes}
 use Rattle.std.specs.Fmt.{signed_decimal}
 use Rattle.std.specs.List.{AllByRecursion}
 use Rattle.tdf_save_reading.proofs.ModuleReads.{edge_front, front_absent, front_none, front_piece, path_front, why_weaker}

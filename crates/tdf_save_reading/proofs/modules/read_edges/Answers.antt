@@ -1,4 +1,4 @@
-use Rattle.std.proofs.Common.{ℕ, ℤ, Vec, Global, map, ◌≡◌, ◌∷◌, ◌++◌, [], ◌∙◌, ap, sym, subst, arith, length, ◌<◌, ◌≤◌, get_or}
+use Rattle.std.proofs.Common.{ℕ, ℤ, Vec, Global, map, ◌≡◌, ◌∷◌, ◌++◌, [], ◌∙◌, ap, length, ◌<◌, ◌≤◌}
 use Rattle.std.proofs.lemmas.List.{length-map, map-append}
 use Rattle.std.specs.List.{AllByRecursion}
 use Rattle.tdf_save.proofs.Api.{at_map}

@@ -1,4 +1,4 @@
-use Rattle.std.proofs.Common.{ℕ, List, ◌≡◌, ◌∙◌, ap, refl, subst, sym}
+use Rattle.std.proofs.Common.{ℕ, List, ◌≡◌, ◌∙◌, ap, refl, subst}
 use Rattle.tdf_save_reading.proofs.ModuleReads.{title_text, why_weaker}
 use Rattle.tdf_save_reading.proofs.ModuleSteps.{all_lines, no_cells, no_rates, no_steps, no_title}
 use Rattle.tdf_save.specs.machine.Pieces.{Any, AnyFlag}

@@ -1,6 +1,5 @@
-use Rattle.std.proofs.Common.{refl}
 use Rattle.tdf_save_reading.proofs.ModuleReads.{why_weaker}
-use Rattle.tdf_save_reading.proofs.ModuleSteps.{narrower, other_counts, same_counts}
+use Rattle.tdf_save_reading.proofs.ModuleSteps.{narrower, other_counts}
 use Rattle.tdf_save_reading.proofs.modules.read_module.Goals as goal
 
 pub returns-then-not-has_counts-clause-refused : goal.returns-then-not-has_counts-clause-refused

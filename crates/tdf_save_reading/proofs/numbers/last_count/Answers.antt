@@ -1,7 +1,4 @@
-use Rattle.std.proofs.Common.{rules, SFits, decimal, refl, ◌∷◌}
-use Rattle.std.proofs.lemmas.Int.{to_z-of_z}
-use Rattle.std.specs.Int.{w128}
-use Rattle.std.specs.Fmt.{signed_decimal}
+use Rattle.std.proofs.Common.{decimal, refl, ◌∷◌}
 use Rattle.tdf_save.proofs.Api.{count64_one, line_end, spaced_one}
 use Rattle.tdf_save_reading.proofs.ReadSteps.{post_absent, post_none, post_piece}
 use Rattle.tdf_save.specs.Members.{IsCount64}

@@ -1,4 +1,4 @@
-use Rattle.std.proofs.Common.{rules, SFits, decimal, refl, ◌∷◌}
+use Rattle.std.proofs.Common.{rules, SFits, refl, ◌∷◌}
 use Rattle.std.proofs.lemmas.Int.{to_z-of_z}
 use Rattle.std.specs.Int.{w128}
 use Rattle.std.specs.Fmt.{signed_decimal}

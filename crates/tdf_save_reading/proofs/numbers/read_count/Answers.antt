@@ -1,7 +1,6 @@
-use Rattle.std.proofs.Common.{rules, sym, ◌∙◌, arith, length, ◌<◌, decimal, Some, None}
-use Rattle.std.specs.Fmt.{signed_decimal}
+use Rattle.std.proofs.Common.{decimal}
 use Rattle.tdf_save.proofs.Api.{count_plain}
-use Rattle.tdf_save_reading.proofs.Readings.{IsCut, cut_is, is_none, is_some, never, none_short, piece_of, word_is}
+use Rattle.tdf_save_reading.proofs.Readings.{cut_is, is_none, is_some, never, none_short, piece_of, word_is}
 use Rattle.tdf_save.specs.Members.{IsCount64}
 use Rattle.tdf_save_reading.proofs.numbers.read_count.Goals as goal
 

@@ -1,9 +1,9 @@
-use Rattle.std.proofs.Common.{rules, SFits, sym, ◌∙◌, arith, length, ◌<◌, decimal, Some, None}
+use Rattle.std.proofs.Common.{rules, SFits}
 use Rattle.std.specs.Int.{w128}
 use Rattle.std.proofs.lemmas.Int.{to_z-of_z}
 use Rattle.std.specs.Fmt.{signed_decimal}
 use Rattle.tdf_save.proofs.Api.{num_plain}
-use Rattle.tdf_save_reading.proofs.Readings.{IsCut, cut_is, is_none, is_some, never, none_short, piece_of, word_is}
+use Rattle.tdf_save_reading.proofs.Readings.{cut_is, is_none, is_some, never, none_short, piece_of, word_is}
 use Rattle.tdf_save.specs.Members.{IsNum}
 use Rattle.tdf_save_reading.proofs.numbers.read_num.Goals as goal
 

@@ -1,4 +1,4 @@
-use Rattle.std.proofs.Common.{ap, inl, inr, refl, Ok, Err}
+use Rattle.std.proofs.Common.{ap, inl, refl, Ok, Err}
 use Rattle.tdf_save_reading.proofs.WholeSteps.{bad_front, memory_or_none, no_model_there, only_one, whole_is}
 use Rattle.tdf_save_reading.proofs.snapshot.read_snapshot.Goals as goal
 

@@ -1,4 +1,4 @@
-use Rattle.std.proofs.Common.{ℕ, List, length, ap, sym, ◌≡◌, ◌∙◌}
+use Rattle.std.proofs.Common.{length, ap, sym, ◌≡◌, ◌∙◌}
 use Rattle.tdf_save_reading.proofs.ModuleReads.{why_weaker}
 use Rattle.tdf_save_reading.proofs.ValueSteps.{block_counted, block_miscounted, no_block}
 use Rattle.tdf_save_reading.proofs.values.read_block.Goals as goal
