@@ -38,9 +38,9 @@ pub none_yet : (names : List (List ℕ)) (from k : ℕ) (text name : List ℕ) �
 none_yet names from k text name less at none before i rest a b p = ⊎_elim
     (λ (under : i < k). before i rest a under p)
     (λ (over : k ≤ i).
-        let same : i ≡ k = omega (arith, over, b) in
-        let named : event_name names i ≡ name = ap (event_name names) same ∙ name_at_place names k name less at in
-        none rest p.end (p.is ∙ ap (λ x. x ++ rest) named))
+    let same : i ≡ k = omega (arith, over, b) in
+    let named : event_name names i ≡ name = ap (event_name names) same ∙ name_at_place names k name less at in
+    none rest p.end (p.is ∙ ap (λ x. x ++ rest) named))
     (cases_lt i k)
 
 pub none_at_all : (names : List (List ℕ)) (from k : ℕ) (text : List ℕ) → length names ≤ k → IsNoneUpTo names from k text → IsNoneFrom names from text
@@ -122,7 +122,7 @@ pub notice_large : (names : List (List ℕ)) (whole : List ℕ) (place time : �
 notice_large names whole place time rest far p large = λ n r q.
     let fit = notice_fit names n q.fit in
     let same = (place_one names far).only (place, time) (pending_parts n) rest r p.fit fit tt tt
-        (sym p.is ∙ q.is ∙ ap (λ x. x ++ r) (notice_front names n)) in
+    (sym p.is ∙ q.is ∙ ap (λ x. x ++ r) (notice_front names n)) in
     let event : place ≡ n.event = ap (λ (x : ℕ × ℕ). x.0) same.0 ∙ event_is n in
     omega (arith, large, event, q.fit.small)
 
@@ -137,7 +137,7 @@ notices_one_by : (names : List (List ℕ)) → AreNamesApart names → IsOne (sa
 notices_one_by names far = record {
   only = λ v w r s f g er es e.
       let cut = (place_one names far).only (pending_parts v) (pending_parts w) r s (notice_fit names v f) (notice_fit names w g) tt tt
-          (ap (λ x. x ++ r) (sym (notice_front names v)) ∙ e ∙ ap (λ x. x ++ s) (notice_front names w)) in
+      (ap (λ x. x ++ r) (sym (notice_front names v)) ∙ e ∙ ap (λ x. x ++ s) (notice_front names w)) in
       (pending_same v w cut.0, cut.1);
 }
 

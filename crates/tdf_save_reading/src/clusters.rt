@@ -9,11 +9,11 @@ ghost use Rattle.tdf_save_reading.specs.machine.Pieces.{IsPiece, IsStateRefusal,
 
 use crate::err::StateErr;
 use crate::lists::put;
-use tdf_save::ClusterMembers;
 use crate::modules::{read_edges, read_modules};
 use crate::numbers::{cut_path, last_count};
 use itoa::Buffer;
 use std::alloc::Global;
+use tdf_save::ClusterMembers;
 use tdf_saved::ClusterState;
 
 /// When the period of a cluster began.

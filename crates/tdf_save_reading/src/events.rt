@@ -83,11 +83,7 @@ fn read_place<'t>(
 }
 
 /// A notification.
-fn read_notice<'t>(
-    names: &[Vec<u8>],
-    from: usize,
-    text: &'t [u8],
-) -> Option<(Pending, &'t [u8])>
+fn read_notice<'t>(names: &[Vec<u8>], from: usize, text: &'t [u8]) -> Option<(Pending, &'t [u8])>
     requires apart { AreNamesApart (map (λ z. z.items) names.now) }
     ensures is { IfSome result (λ p. IsPiece (saved_pending (map (λ z. z.items) names.now))
         (IsNotice (map (λ z. z.items) names.now)) Any text.entry.now p.0 p.1.now) }

@@ -10,9 +10,9 @@ ghost use Rattle.tdf_save_reading.specs.machine.Pieces.{IsPiece, IsStateRefusal,
 
 use crate::err::StateErr;
 use crate::lists::{nums_line, put, rates_line, read_nums, steps_line};
-use tdf_save::ModuleMembers;
 use crate::numbers::{cut_path, last_flag};
 use std::alloc::Global;
+use tdf_save::ModuleMembers;
 use tdf_saved::ModuleState;
 
 /// Whether the module accepts changes.

@@ -12,12 +12,40 @@ ghost use Rattle.tdf_saved.specs.State.{SnapshotOf};
 use crate::clusters::read_clusters;
 use crate::columns::read_columns;
 use crate::err::StateErr;
-use crate::head::{read_kind, read_run};
+use crate::head::{Run, read_kind, read_run};
 use crate::kernel::read_kernel;
 use crate::numbers::{cut, last_count};
 use std::alloc::Global;
 use tdf_save::Members;
-use tdf_saved::Snapshot;
+use tdf_saved::{ClusterState, ColumnState, KernelState, Snapshot};
+
+fn assembled(
+    vcd: bool,
+    head: Run,
+    clusters: Vec<ClusterState>,
+    kernel: KernelState,
+    columns: Vec<ColumnState>,
+) -> Snapshot
+    ensures { result ≡ record {
+      vcd = vcd;
+      time = head.time;
+      used = head.used;
+      budget = head.budget;
+      clusters = clusters.items;
+      kernel = kernel;
+      columns = columns.items;
+    } }
+{
+    Snapshot {
+        vcd,
+        time: head.time,
+        used: head.used,
+        budget: head.budget,
+        clusters,
+        kernel,
+        columns,
+    }
+}
 
 /// A snapshot, and the rest of its text.
 fn read_front<'t>(
@@ -40,18 +68,9 @@ fn read_front<'t>(
     match read_clusters(alloc, &members.clusters, after) {
         Ok((clusters, after)) => match read_kernel(alloc, members, after) {
             Ok((kernel, after)) => match read_columns(alloc, &members.columns, after) {
-                Ok((columns, rest)) => Ok((
-                    Snapshot {
-                        vcd,
-                        time: head.time,
-                        used: head.used,
-                        budget: head.budget,
-                        clusters,
-                        kernel,
-                        columns,
-                    },
-                    rest,
-                )),
+                Ok((columns, rest)) => {
+                    Ok((assembled(vcd, head, clusters, kernel, columns), rest))
+                }
                 Err(why) => {
                     drop(kernel);
                     drop(clusters);
@@ -85,18 +104,14 @@ fn is_model_part(text: &[u8]) -> bool
 ///
 /// # Errors
 /// `Bad` where they are the text of none, and out of memory.
-pub fn read_snapshot(
-    alloc: Global,
-    members: &Members,
-    bytes: &[u8],
-) -> Result<Snapshot, StateErr>
+pub fn read_snapshot(alloc: Global, members: &Members, bytes: &[u8]) -> Result<Snapshot, StateErr>
     requires apart { AreNamesApart members.now.events }
     ensures is { IfOk result (IsSavedText members.now bytes.now) }
     ensures fits { IfOk result (IsSnapshotFor members.now) }
     ensures bad { IsErrOf result Bad
         → (s : SnapshotOf) → IsSnapshotFor members.now s → IsSavedText members.now bytes.now s → ⊥ }
-    ensures always { (s : SnapshotOf) → IsSnapshotFor members.now s → IsSavedText members.now bytes.now s
-        → (result ≡ Ok s) ⊎ (result ≡ Err Memory) }
+    ensures always { (s : SnapshotOf) → IsSnapshotFor members.now s
+        → IsSavedText members.now bytes.now s → (result ≡ Ok s) ⊎ (result ≡ Err Memory) }
 {
     match read_front(alloc, members, bytes) {
         Ok((snapshot, rest)) => {

@@ -8,7 +8,8 @@ use Rattle.tdf_saved.specs.State.{SnapshotOf}
 
 -- `saved 1`, `kind KIND`
 unfoldable pub kind_text : Bool → List ℕ
-kind_text vcd = saved_line (codes "saved") (codes "1" ∷ []) ++ saved_line (codes "kind") (kind_word vcd ∷ [])
+kind_text vcd = saved_line (codes "saved") (codes "1" ∷ [])
+    ++ saved_line (codes "kind") (kind_word vcd ∷ [])
 
 -- `run TIME USED BUDGET`
 unfoldable pub run_text : Run → List ℕ

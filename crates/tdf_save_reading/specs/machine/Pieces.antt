@@ -14,8 +14,10 @@ pub record IsPiece {V : Type 0} (text : V → List ℕ) (fits : V → Type 0) (e
   pub is : whole ≡ text v ++ rest
 
 -- a text begins so with that of nothing
-abbrev pub NoPiece : {V : Type 0} → (V → List ℕ) → (V → Type 0) → (List ℕ → Type 0) → List ℕ → Type 0
-NoPiece {V} text fits ends whole = (v : V) (rest : List ℕ) → IsPiece text fits ends whole v rest → ⊥
+abbrev pub NoPiece : {V : Type 0} → (V → List ℕ) → (V → Type 0) → (List ℕ → Type 0) → List ℕ
+    → Type 0
+NoPiece {V} text fits ends whole =
+    (v : V) (rest : List ℕ) → IsPiece text fits ends whole v rest → ⊥
 
 -- out of memory is free; else there is a reason
 abbrev pub IsStateRefusal : Type 0 → StateErr → Type 0

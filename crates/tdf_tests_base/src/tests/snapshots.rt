@@ -1,9 +1,12 @@
 //! The text of a snapshot with a line of each kind, written by hand.
 
+ghost use Rattle.std.specs.Prelude.{◌≡◌, IfOk, length};
+
 use std::alloc::Global;
 use std::test::Fail;
 use tdf_base::Memory;
 use tdf_save::{BlockMembers, ClusterMembers, Members, ModuleMembers, push_snapshot, text_start};
+use tdf_save_reading::read_snapshot;
 use tdf_saved::{ClusterState, ColumnState, KernelState, ModuleState, Pending, Snapshot, Stamp};
 
 const TEXT: &str = "saved 1\n\
@@ -25,7 +28,9 @@ later 8\n\
 text 6\n\
 model\n";
 
-fn list(alloc: Global, item: &[u8]) -> Result<Vec<Vec<u8>>, Memory> {
+fn list(alloc: Global, item: &[u8]) -> Result<Vec<Vec<u8>>, Memory>
+    ensures { IfOk result (λ list. length list.items ≡ 1) }
+{
     let mut list = Vec::new(alloc);
     list.push(Vec::from_slice(alloc, item)?)?;
     Ok(list)
@@ -54,7 +59,9 @@ fn clusters_of(alloc: Global) -> Result<Vec<ClusterMembers>, Memory> {
     Ok(clusters)
 }
 
-fn members(alloc: Global) -> Result<Members, Memory> {
+fn members(alloc: Global) -> Result<Members, Memory>
+    ensures { IfOk result (λ members. length members.events ≡ 1) }
+{
     let mut blocks = Vec::new(alloc);
     blocks.push(BlockMembers {
         path: Vec::from_slice(alloc, b"top.b")?,
@@ -140,8 +147,20 @@ fn written(alloc: Global, wanted: &[u8], place: usize) -> Option<bool> {
     Some(out.as_slice() == wanted && text_start(&out) == Some(place))
 }
 
+/// Whether the text is read, and what was read is written as the same text.
+fn read_back(alloc: Global, text: &[u8]) -> Option<bool> {
+    let Ok(members) = members(alloc) else {
+        return None;
+    };
+    let snapshot = read_snapshot(alloc, &members, text).ok()?;
+    let mut out = Vec::new(alloc);
+    push_snapshot(&mut out, &members, b"model\n", &snapshot).ok()?;
+    Some(snapshot.budget == 50 && out.as_slice() == text)
+}
+
 #[test]
-fn snapshots_are_written(rt: HostRuntime) -> Result<(), Fail> {
+fn snapshots_are_written_and_read(rt: HostRuntime) -> Result<(), Fail> {
     assert!(rt; written(rt.alloc(), TEXT.as_bytes(), 241) == Some(true));
+    assert!(rt; read_back(rt.alloc(), TEXT.as_bytes()) == Some(true));
     Ok(())
 }

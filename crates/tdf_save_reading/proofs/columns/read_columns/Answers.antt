@@ -15,10 +15,12 @@ loop-k-init c = rw c.new-list.ensures.items (each_none_read saved_column ColumnF
 pub loop-k-preserved : goal.loop-k-preserved
 loop-k-preserved c =
     let less : c.loop-k.k < length (map (λ (z : Vec ℕ Global). z.items) c.args.labels.now) = rw (length-map c.args.labels.now (λ (z : Vec ℕ Global). z.items)) c.loop-k-test.true in
-    rw c.in_ok-put-in-Ok.ensures.put
-    (each_read saved_column ColumnFits IsNext columns_each (map (λ (z : Vec ℕ Global). z.items) c.args.labels.now) c.args.text.now c.loop-k.k c.index-labels-k.result.items c.loop-k.list.items c.in-Ok.state c.loop-k.rest.now c.in-Ok.left.now
-    less (at_map (λ (z : Vec ℕ Global). z.items) c.args.labels.now c.loop-k.k c.index-labels-k.result c.index-labels-k.is) c.loop-k.invariant.0
-    (piece_at saved_column ColumnFits IsNext c.deref.result.now c.index-labels-k.result.items c.loop-k.rest.now c.in-Ok.state c.in-Ok.left.now c.deref.ensures.value c.in-Ok.ensures.is), c.in-Ok.ensures.is.end)
+    rw c.in_ok-put-in-Ok.ensures.put (
+      each_read saved_column ColumnFits IsNext columns_each (map (λ (z : Vec ℕ Global). z.items) c.args.labels.now) c.args.text.now c.loop-k.k c.index-labels-k.result.items c.loop-k.list.items c.in-Ok.state c.loop-k.rest.now c.in-Ok.left.now
+          less (at_map (λ (z : Vec ℕ Global). z.items) c.args.labels.now c.loop-k.k c.index-labels-k.result c.index-labels-k.is) c.loop-k.invariant.0
+          (piece_at saved_column ColumnFits IsNext c.deref.result.now c.index-labels-k.result.items c.loop-k.rest.now c.in-Ok.state c.in-Ok.left.now c.deref.ensures.value c.in-Ok.ensures.is),
+      c.in-Ok.ensures.is.end,
+    )
 
 pub returns-in-Err-clause-refused : goal.returns-in-Err-clause-refused
 returns-in-Err-clause-refused c =

@@ -24,9 +24,9 @@ returns-in-Ok-read_columns-clause-is c =
     let cs = subst (λ (xs : List ClusterMembersOf). IsPiece (each_text saved_cluster xs) (AllZip IsClusterFor xs) Any c.in-Some-read_run.after.now c.in-Ok.clusters.items c.in-Ok.after.now) clusters c.in-Ok.ensures.is in
     let columns : map (λ (z : Vec ℕ Global). z.items) c.deref-in-Ok-read_kernel.result.now ≡ c.args.members.now.columns = ap (map (λ (z : Vec ℕ Global). z.items)) c.deref-in-Ok-read_kernel.ensures.value ∙ ap (λ m. m.columns) c.members.view_is in
     let ss = subst (λ (xs : List (List ℕ)). IsPiece (each_text saved_column xs) (AllZip ColumnFits xs) IsNext c.in-Ok-read_kernel.after.now c.in-Ok-read_columns.columns.items c.in-Ok-read_columns.rest.now) columns c.in-Ok-read_columns.ensures.is in
-    all_parts c.args.members.now c.args.bytes.now c.in-Some.after.now c.in-Some-read_run.after.now c.in-Ok.after.now c.in-Ok-read_kernel.after.now c.in-Ok-read_columns.rest.now
+    rw c.assembled.ensures (all_parts c.args.members.now c.args.bytes.now c.in-Some.after.now c.in-Some-read_run.after.now c.in-Ok.after.now c.in-Ok-read_kernel.after.now c.in-Ok-read_columns.rest.now
     c.in-Some.vcd c.in-Some-read_run.head c.in-Ok.clusters.items c.in-Ok-read_kernel.kernel c.in-Ok-read_columns.columns.items
-    c.in-Some.ensures.is c.in-Some-read_run.ensures.is cs c.in-Ok-read_kernel.ensures.is ss
+    c.in-Some.ensures.is c.in-Some-read_run.ensures.is cs c.in-Ok-read_kernel.ensures.is ss)
 
 pub returns-in-Err-read_columns-clause-refused : goal.returns-in-Err-read_columns-clause-refused
 returns-in-Err-read_columns-clause-refused c =
