@@ -27,7 +27,7 @@ steps_of ns = saved_line (codes "steps") (map decimal ns)
 abbrev pub cells_of : List ℤ → List ℕ
 cells_of ns = saved_line (codes "cells") (map signed_decimal ns)
 
-abbrev pub ModuleParts : Type 0
+abbrev ModuleParts : Type 0
 ModuleParts = Bool × (List ℕ × (List ℕ × List ℤ))
 
 unfoldable pub module_parts : ModuleStateOf → ModuleParts
@@ -83,7 +83,7 @@ edge_one path = along_one (λ v. v) (saved_edge path) (λ nums. saved_line (code
 abbrev pub start_line : ClusterMembersOf → ℕ → List ℕ
 start_line m start = saved_line (codes "cluster") (decimal m.number ∷ (decimal start ∷ []))
 
-abbrev pub ClusterParts : Type 0
+abbrev ClusterParts : Type 0
 ClusterParts = ℕ × (List ModuleStateOf × List (List ℤ))
 
 unfoldable pub cluster_parts : ClusterStateOf → ClusterParts
@@ -138,13 +138,13 @@ pub block_one : (m : BlockMembersOf) → IsOne (saved_block m) (λ nums. AreNums
 block_one m = along_one (λ v. v) (saved_block m) (λ nums. saved_line (codes "block") (m.path ∷ map signed_decimal nums)) (λ nums. AreNums m.cells nums) (AllByRecursion IsNum) Any
     (λ v w e. e) (block_is m) (λ v f. f.each) (path_list_one (codes "block") m.path signed_decimal IsNum num_one)
 
-abbrev pub Blank : List ℕ → Type 0
+abbrev Blank : List ℕ → Type 0
 Blank r = begins_with_byte 32 r ≡ true
 
-abbrev pub name_at : List (List ℕ) → ℕ → List ℕ
+abbrev name_at : List (List ℕ) → ℕ → List ℕ
 name_at events i = slice_index_or events i []
 
-abbrev pub IsPlace : List (List ℕ) → ℕ → Type 0
+abbrev IsPlace : List (List ℕ) → ℕ → Type 0
 IsPlace events i = i < length events
 
 name_by : (events : List (List ℕ)) → AreNamesApart events → (i j : ℕ) (r s : List ℕ) → i < length events → j < length events → Blank r → Blank s
@@ -161,7 +161,7 @@ name_by events far i j (x ∷ r) (y ∷ s) f g er es e =
 pub name_one : (events : List (List ℕ)) → AreNamesApart events → IsOne (name_at events) (IsPlace events) Blank
 name_one events far = record { only = λ v w r s f g er es e. name_by events far v w r s f g er es e }
 
-abbrev pub PendingParts : Type 0
+abbrev PendingParts : Type 0
 PendingParts = ℕ × ℕ
 
 unfoldable pub pending_parts : Pending → PendingParts
@@ -170,7 +170,7 @@ pending_parts p = (p.event, p.time)
 pending_from : PendingParts → Pending
 pending_from p = record { event = p.0; time = p.1 }
 
-abbrev pub pending_parts_text : List (List ℕ) → PendingParts → List ℕ
+abbrev pending_parts_text : List (List ℕ) → PendingParts → List ℕ
 pending_parts_text events p = codes "pending" ++ ((32 ∷ name_at events p.0) ++ ((32 ∷ decimal p.1) ++ line_end))
 
 pub pending_is : (events : List (List ℕ)) (p : Pending) → saved_pending events p ≡ pending_parts_text events (pending_parts p)
@@ -181,7 +181,7 @@ pending_same : (v w : Pending) → pending_parts v ≡ pending_parts w → v ≡
 unfolding pending_parts pending_from
 pending_same v w e = ap pending_from e
 
-pub pending_fit : (m : MembersOf) (p : Pending) → IsPendingFor m p → IsPlace m.events (pending_parts p).0 × IsCount64 (pending_parts p).1
+pending_fit : (m : MembersOf) (p : Pending) → IsPendingFor m p → IsPlace m.events (pending_parts p).0 × IsCount64 (pending_parts p).1
 unfolding pending_parts
 pending_fit m p h = (h.event, h.time)
 
@@ -197,7 +197,7 @@ pub pending_begins : (events : List (List ℕ)) (p : Pending) (r : List ℕ) →
 unfolding saved_pending saved_line
 pending_begins events p r = refl
 
-abbrev pub KernelParts : Type 0
+abbrev KernelParts : Type 0
 KernelParts = List ℤ × (List (List ℤ) × List Pending)
 
 unfoldable pub kernel_parts : KernelStateOf → KernelParts

@@ -15,7 +15,7 @@ use Rattle.tdf_saved.specs.declared.state.Stamp.{Stamp}
 
 -- ---- columns
 
-abbrev pub StampParts : Type 0
+abbrev StampParts : Type 0
 StampParts = ℕ × ℤ
 
 unfoldable pub stamp_parts : Stamp → StampParts
@@ -60,7 +60,7 @@ later_no_sample : (n : ℤ) (r : List ℕ) → begins_with_byte 115 (saved_later
 unfolding saved_later saved_line
 later_no_sample n r = refl
 
-abbrev pub NoSample : List ℕ → Type 0
+abbrev NoSample : List ℕ → Type 0
 NoSample r = Any r × (begins_with_byte 115 r ≡ false)
 
 pub laters_no_sample : (ns : List ℤ) (r : List ℕ) → AllByRecursion IsNum ns → IsNext r → NoSample (flat_map saved_later ns ++ r)
@@ -74,7 +74,7 @@ pub laters_one : IsOne (flat_map saved_later) (AllByRecursion IsNum) IsNext
 laters_one = fewer_one (flat_map saved_later) (AllByRecursion IsNum) (λ r. Any r × (begins_with_byte 108 r ≡ false)) IsNext (λ r e. (tt, e.later))
     (items_one saved_later IsNum Any 108 later_one later_begins (λ v r f. tt))
 
-abbrev pub ColumnParts : Type 0
+abbrev ColumnParts : Type 0
 ColumnParts = Option ℤ × (List Stamp × List ℤ)
 
 unfoldable pub column_parts : ColumnStateOf → ColumnParts
@@ -125,22 +125,22 @@ columns_next labels ss r f e = each_end saved_column (λ label s. IsColumnInRang
 
 -- ---- the head
 
-abbrev pub HeadParts : Type 0
+abbrev HeadParts : Type 0
 HeadParts = Bool × (ℕ × (ℕ × ℕ))
 
-abbrev pub kind_line : Bool → List ℕ
+abbrev kind_line : Bool → List ℕ
 kind_line vcd = saved_line (codes "kind") (kind_word vcd ∷ [])
 
-abbrev pub run_line : ℕ × (ℕ × ℕ) → List ℕ
+abbrev run_line : ℕ × (ℕ × ℕ) → List ℕ
 run_line q = saved_line (codes "run") (decimal q.0 ∷ (decimal q.1.0 ∷ (decimal q.1.1 ∷ [])))
 
-abbrev pub head_text : HeadParts → List ℕ
+abbrev head_text : HeadParts → List ℕ
 head_text p = saved_line (codes "saved") (codes "1" ∷ []) ++ (kind_line p.0 ++ run_line p.1)
 
-abbrev pub AreCounts : ℕ × (ℕ × ℕ) → Type 0
+abbrev AreCounts : ℕ × (ℕ × ℕ) → Type 0
 AreCounts q = IsCount64 q.0 × (IsCount64 q.1.0 × IsCount64 q.1.1)
 
-abbrev pub HeadFit : HeadParts → Type 0
+abbrev HeadFit : HeadParts → Type 0
 HeadFit p = AnyFlag p.0 × AreCounts p.1
 
 pub head_one : IsOne head_text HeadFit Any
@@ -151,7 +151,7 @@ head_one = pre_one (saved_line (codes "saved") (codes "1" ∷ [])) (λ (p : Head
 
 -- ---- the whole
 
-abbrev pub BodyParts : Type 0
+abbrev BodyParts : Type 0
 BodyParts = HeadParts × (List ClusterStateOf × (KernelStateOf × List ColumnStateOf))
 
 unfoldable pub body_parts : SnapshotOf → BodyParts
@@ -160,10 +160,10 @@ body_parts s = ((s.vcd, (s.time, (s.used, s.budget))), (s.clusters, (s.kernel, s
 body_from : BodyParts → SnapshotOf
 body_from p = record { vcd = p.0.0; time = p.0.1.0; used = p.0.1.1.0; budget = p.0.1.1.1; clusters = p.1.0; kernel = p.1.1.0; columns = p.1.1.1 }
 
-abbrev pub body_text : MembersOf → BodyParts → List ℕ
+abbrev body_text : MembersOf → BodyParts → List ℕ
 body_text m p = head_text p.0 ++ (each_text saved_cluster m.clusters p.1.0 ++ (saved_kernel m p.1.1.0 ++ each_text saved_column m.columns p.1.1.1))
 
-abbrev pub BodyFit : MembersOf → BodyParts → Type 0
+abbrev BodyFit : MembersOf → BodyParts → Type 0
 BodyFit m p = HeadFit p.0 × (AllZip IsClusterFor m.clusters p.1.0 × (IsKernelFor m p.1.1.0 × AllZip (λ label s. IsColumnInRange s) m.columns p.1.1.1))
 
 body_one : (m : MembersOf) → AreNamesApart m.events → IsOne (body_text m) (BodyFit m) IsNext
@@ -185,11 +185,11 @@ snapshot_same : (v w : SnapshotOf) → body_parts v ≡ body_parts w → v ≡ w
 unfolding body_parts body_from
 snapshot_same v w e = ap body_from e
 
-pub snapshot_fit : (m : MembersOf) (s : SnapshotOf) → IsSnapshotFor m s → BodyFit m (body_parts s)
+snapshot_fit : (m : MembersOf) (s : SnapshotOf) → IsSnapshotFor m s → BodyFit m (body_parts s)
 unfolding body_parts
 snapshot_fit m s h = ((tt, (h.time, (h.used, h.budget))), (h.clusters, (h.kernel, h.columns)))
 
-pub snapshot_is : (m : MembersOf) (s : SnapshotOf) → snapshot_text m s ≡ body_text m (body_parts s)
+snapshot_is : (m : MembersOf) (s : SnapshotOf) → snapshot_text m s ≡ body_text m (body_parts s)
 unfolding snapshot_text
 snapshot_is m s = refl
 
@@ -214,7 +214,7 @@ pub model_is : (model : List ℕ) → saved_model model ≡ saved_line (codes "t
 unfolding saved_model
 model_is model = refl
 
-abbrev pub text_line : ℕ → List ℕ
+abbrev text_line : ℕ → List ℕ
 text_line n = saved_line (codes "text") (decimal n ∷ [])
 
 pub model_same : (x y : List ℕ) → length x < 2 ^ 64 → length y < 2 ^ 64 → saved_model x ≡ saved_model y → x ≡ y

@@ -45,7 +45,7 @@ fn event_from<'t>(names: &[Vec<u8>], from: usize, text: &'t [u8]) -> Option<(usi
     None
 }
 
-/// The event whose name begins a text, and what comes after the name: a place from which it is looked for first saves looking at all names.
+/// The event whose name begins a text, and what comes after the name. It is looked for from a place on first, and then from the front.
 fn read_event<'t>(names: &[Vec<u8>], from: usize, text: &'t [u8]) -> Option<(usize, &'t [u8])>
     ensures is { IfSome result (λ p. IsPiece (event_name (map (λ z. z.items) names.now))
         (IsEvent (map (λ z. z.items) names.now)) Blank text.entry.now p.0 p.1.now) }

@@ -1,8 +1,9 @@
 //! The text of a snapshot, read exactly.
 //!
+//! - `snapshot`: a snapshot is read from its text.
+//! - `head`, `clusters`, `kernel`, `columns`: its parts. `modules`, `values` and `events` read what they consist of.
+//! - `lists`, `numbers`: lists of numbers up to the end of their line, and numbers.
 //! - `err`: why a text is that of no snapshot.
-//! - `numbers`, `lists`: numbers, and lists of them up to the end of their line.
-//! - `modules`, `clusters`: what the text has of each module and each cluster.
 #![tactic(auto)]
 
 mod clusters;
