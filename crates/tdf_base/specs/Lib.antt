@@ -8,3 +8,4 @@ pub mod Number
 pub mod Sides
 pub mod Spelling
 pub mod Time
+pub mod Version

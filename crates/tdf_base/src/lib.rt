@@ -6,6 +6,7 @@
 //! - `names`: names, and numbers as they are written.
 //! - `numerals`: the forms of numbers, and the reader of whole numbers.
 //! - `resolution`: the unit of time of a model.
+//! - `version`: the version of the language.
 //! - `texts`: words and numbers of a line, and numbers of rows.
 //! - `times`: the readers of times.
 //! - `first`: a fault of a line, the order of faults, and the first so far.
@@ -25,6 +26,7 @@ mod refusal;
 mod resolution;
 mod texts;
 mod times;
+mod version;
 
 pub use codes::Code;
 pub use faults::{Fault, Path, Place, push_fault};
@@ -45,3 +47,4 @@ pub use refusal::{TypeErr, verdict};
 pub use resolution::Resolution;
 pub use texts::{cluster_number, push_number, push_word, row_number};
 pub use times::{TimeErr, femtoseconds_of_count, read_time, read_time_at};
+pub use version::Version;

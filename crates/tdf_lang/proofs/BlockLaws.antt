@@ -3,6 +3,7 @@ use Rattle.std.proofs.Common.{◌≡◌, ℕ, Bool, true, false, List, [], ◌�
 use Rattle.std.proofs.lemmas.List.{append-nil}
 use Rattle.std.specs.Prelude.{codes}
 use Rattle.std.specs.List.{flat_map}
+use Rattle.tdf_base.specs.declared.version.Version.{Version}
 use Rattle.tdf_lang_tree.specs.Forms.{Form, FType, FTdf, FDe, FComposite, FTop, FEnd, FSetAttributes, FInitialize, FProcessing, FChangeAttributes, FReinitialize, FProcess, FDontInitialize}
 use Rattle.tdf_lang_parser.specs.Items.{tdf_line_of, attr_of, initial_of, de_line_of, sense_of, member_of, net_line_of, trace_item, BodyKind, Plain}
 use Rattle.tdf_lang_lines.specs.SpellsLine.{SpellsLine}
@@ -318,7 +319,7 @@ pub record ModelAgain (lang : Dialect) (rows : List TokenLine) (t : PureTree) : 
   pub spells : SpellsModel lang rows tree
   pub alike : Alike tree t
 
-tree_same : (version : ℕ) (resolution : Resolution) (g1 g2 : List PureGlobal) (m1 m2 : List Member) (t1 t2 : List PureTrace) → g1 ≡ g2 → m1 ≡ m2 → t1 ≡ t2
+tree_same : (version : Version) (resolution : Resolution) (g1 g2 : List PureGlobal) (m1 m2 : List Member) (t1 t2 : List PureTrace) → g1 ≡ g2 → m1 ≡ m2 → t1 ≡ t2
     → (record { version = version; resolution = resolution; globals = g1; top = record { line = 0; name = codes "top"; members = m1 }; traces = t1 })
     ≡ (let y : PureTree = record { version = version; resolution = resolution; globals = g2; top = record { line = 0; name = codes "top"; members = m2 }; traces = t2 } in y)
 tree_same version resolution g1 g2 m1 m2 t1 t2 e f g = cc

@@ -3,6 +3,8 @@ use Rattle.std.proofs.Common.{◌≡◌, ℕ, true, List, [], ◌∷◌, ◌++�
 use Rattle.std.proofs.lemmas.Fmt.{decimal_digit}
 use Rattle.std.specs.Prelude.{codes}
 use Rattle.std.specs.List.{list_all}
+use Rattle.tdf_base.specs.declared.version.Version.{Version}
+use Rattle.tdf_base.specs.declared.version.Version.TheVariants.{V1, V2, V3}
 use Rattle.tdf_base.specs.declared.resolution.Resolution.{Resolution}
 use Rattle.tdf_base.specs.declared.resolution.Resolution.TheVariants.{Ps, Fs}
 use Rattle.tdf_lang_parser.specs.Head.{SpellsVersion, language_1, language_2, language_3, SpellsResolution, resolution_ps, resolution_fs, SpellsHead, head_version, head_resolution}
@@ -35,19 +37,19 @@ version_row version = record { number = 1; pieces = codes "language" ∷ version
 abbrev pub unit_row : List ℕ → Row
 unit_row unit = record { number = 2; pieces = codes "resolution" ∷ unit ∷ [] }
 
-text_1 : head_text 1 Ps ≡ codes "language 1" ++ 10 ∷ []
+text_1 : head_text V1 Ps ≡ codes "language 1" ++ 10 ∷ []
 unfolding head_text language_text resolution_text
 text_1 = rw (decimal_digit 1 (omega arith)) refl
 
-text_2 : head_text 2 Ps ≡ codes "language 2" ++ 10 ∷ []
+text_2 : head_text V2 Ps ≡ codes "language 2" ++ 10 ∷ []
 unfolding head_text language_text resolution_text
 text_2 = rw (decimal_digit 2 (omega arith)) refl
 
-text_ps : head_text 3 Ps ≡ codes "language 3" ++ 10 ∷ (codes "resolution 1ps" ++ 10 ∷ [])
+text_ps : head_text V3 Ps ≡ codes "language 3" ++ 10 ∷ (codes "resolution 1ps" ++ 10 ∷ [])
 unfolding head_text language_text resolution_text unit_line
 text_ps = rw (decimal_digit 3 (omega arith)) refl
 
-text_fs : head_text 3 Fs ≡ codes "language 3" ++ 10 ∷ (codes "resolution 1fs" ++ 10 ∷ [])
+text_fs : head_text V3 Fs ≡ codes "language 3" ++ 10 ∷ (codes "resolution 1fs" ++ 10 ∷ [])
 unfolding head_text language_text resolution_text unit_line
 text_fs = rw (decimal_digit 3 (omega arith)) refl
 
@@ -83,9 +85,9 @@ read_fs : (more : List (List ℕ)) → rows_from 1 (codes "language 3" ∷ (code
 unfolding rows_from pieces_of pieces_from
 read_fs more = refl
 
-headed_1 : Headed (record { version = 1; resolution = Ps })
+headed_1 : Headed (record { version = V1; resolution = Ps })
 headed_1 = record {
-  sound = sound_old 1 refl;
+  sound = sound_old V1 refl;
   lines = codes "language 1" ∷ [];
   rows = version_row (codes "1") ∷ [];
   next = 2;
@@ -96,9 +98,9 @@ headed_1 = record {
   plain = refl;
 }
 
-headed_2 : Headed (record { version = 2; resolution = Ps })
+headed_2 : Headed (record { version = V2; resolution = Ps })
 headed_2 = record {
-  sound = sound_old 2 refl;
+  sound = sound_old V2 refl;
   lines = codes "language 2" ∷ [];
   rows = version_row (codes "2") ∷ [];
   next = 2;
@@ -109,7 +111,7 @@ headed_2 = record {
   plain = refl;
 }
 
-headed_ps : Headed (record { version = 3; resolution = Ps })
+headed_ps : Headed (record { version = V3; resolution = Ps })
 headed_ps = record {
   sound = sound_new Ps;
   lines = codes "language 3" ∷ (codes "resolution 1ps" ∷ []);
@@ -122,7 +124,7 @@ headed_ps = record {
   plain = refl;
 }
 
-headed_fs : Headed (record { version = 3; resolution = Fs })
+headed_fs : Headed (record { version = V3; resolution = Fs })
 headed_fs = record {
   sound = sound_new Fs;
   lines = codes "language 3" ∷ (codes "resolution 1fs" ∷ []);
@@ -136,12 +138,12 @@ headed_fs = record {
 }
 
 -- version 1 and 2 have no resolution but 1 ps, and version 3 writes its own
-by_version : {pieces : List (List ℕ)} {version : ℕ} → SpellsVersion pieces version → Headed (record { version = version; resolution = Ps })
+by_version : {pieces : List (List ℕ)} {version : Version} → SpellsVersion pieces version → Headed (record { version = version; resolution = Ps })
 by_version language_1 = headed_1
 by_version language_2 = headed_2
 by_version language_3 = headed_ps
 
-by_unit : {pieces : List (List ℕ)} {unit : Resolution} → SpellsResolution pieces unit → Headed (record { version = 3; resolution = unit })
+by_unit : {pieces : List (List ℕ)} {unit : Resolution} → SpellsResolution pieces unit → Headed (record { version = V3; resolution = unit })
 by_unit resolution_ps = headed_ps
 by_unit resolution_fs = headed_fs
 

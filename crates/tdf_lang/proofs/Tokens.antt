@@ -9,6 +9,9 @@ use Rattle.std.specs.Fmt.{decimal}
 use Rattle.std.specs.List.{list_all}
 use Rattle.std.specs.Option.{option_map, unwrap_or}
 use Rattle.std.proofs.lemmas.List.Folds.{list_all-append}
+use Rattle.tdf_base.specs.Version.{has_resolution}
+use Rattle.tdf_base.specs.declared.version.Version.{Version}
+use Rattle.tdf_base.specs.declared.version.Version.TheVariants.{V3}
 use Rattle.tdf_base.proofs.Api.{time_small, time_at_small, time_of_count, time_at_picoseconds, time_at_femtoseconds}
 use Rattle.tdf_base.specs.Digits.{is_digit}
 use Rattle.tdf_base.specs.Names.{is_letter, is_part, is_name}
@@ -292,7 +295,7 @@ sign_unit symbol.AtLeast = refl
 sign_unit symbol.Becomes = refl
 
 no_unit : (lang : Dialect) (text : List ℕ) → is_unit text ≡ false → is_resolution lang text ≡ false
-no_unit lang text h = and_right (nat_le 3 lang.version) (is_unit text) h
+no_unit lang text h = and_right (has_resolution lang.version) (is_unit text) h
 
 -- symbols begin with no byte of a word
 sign_first : (mark : Symbol) → first_part (sign mark) ≡ false
@@ -486,7 +489,7 @@ time_token_at lang piece c false None None false false (Ok d) e h = let same : d
 time_token_at lang piece c false None None false false (Err x) e h = absurd (cc)
 
 time_in_small : (lang : Dialect) (piece : List ℕ) (c : ℕ) → time_in lang piece ≡ Ok c → c < 10 ^ 18
-time_in_small lang piece c h = go (nat_le 3 lang.version) h
+time_in_small lang piece c h = go (has_resolution lang.version) h
   where
     go : (b : Bool) → cond b (time_at lang.resolution piece) (time_of piece) ≡ Ok c → c < 10 ^ 18
     go true e = time_at_small lang.resolution piece c e
@@ -643,14 +646,14 @@ part_of_front (c ∷ d) t h k = digit_is_part c (and_parts (is_digit c) (list_al
 abbrev pub Sound : Dialect → Type 0
 Sound lang = (c : ℕ) → c < 10 ^ 18 → time_in lang (time_text lang.resolution c) ≡ Ok c
 
-pub sound_old : (v : ℕ) → nat_le 3 v ≡ false → Sound (record { version = v; resolution = Ps })
+pub sound_old : (v : Version) → has_resolution v ≡ false → Sound (record { version = v; resolution = Ps })
 sound_old v h c k = rw h (time_of_count c k)
 
 at_unit : (unit : Resolution) (c : ℕ) → c < 10 ^ 18 → time_at unit (time_text unit c) ≡ Ok c
 at_unit Ps c k = time_at_picoseconds c k
 at_unit Fs c k = time_at_femtoseconds c k
 
-pub sound_new : (unit : Resolution) → Sound (record { version = 3; resolution = unit })
+pub sound_new : (unit : Resolution) → Sound (record { version = V3; resolution = unit })
 sound_new unit c k = at_unit unit c k
 
 pub time_writable : (lang : Dialect) → Sound lang → (c : ℕ) → c < 10 ^ 18 → Writable lang (TTime c)

@@ -12,7 +12,7 @@
 mod laws;
 
 pub use laws::{law_exprs, law_spelled};
-pub use tdf_base::{Memory, Resolution};
+pub use tdf_base::{Memory, Resolution, Version};
 pub use tdf_lang_parser::{LangErr, parse};
 pub use tdf_lang_printer::push_tree;
 pub use tdf_lang_tree::{

@@ -3,6 +3,7 @@ use Rattle.std.proofs.Common.{◌≡◌, ℕ, List, Option, Some, None, Vec, sym
 use Rattle.std.specs.declared.alloc.Global.{Global}
 use Rattle.std.specs.Prelude.{MatchOption}
 use Rattle.std.specs.Option.{option_map}
+use Rattle.tdf_base.specs.declared.version.Version.{Version}
 use Rattle.tdf_lang_lexer.specs.Token.{Tok}
 use Rattle.tdf_lang_tree.specs.Views.{pure_expr}
 use Rattle.tdf_lang_tree.specs.declared.expr.Expr.{Expr}
@@ -24,11 +25,11 @@ use Rattle.tdf_lang_exprs.specs.machine.Indices.{index_of}
 use Rattle.tdf_lang_exprs.proofs.SpellsRuns.{index_reads, expr_reads}
 use Rattle.tdf_lang_exprs.proofs.RunSays.{index_says, expr_says}
 
-pub index_decided : (v : ℕ) (ts : List Tok) (o : Option Index) → o ≡ index_of v ts → MatchOption o (IsNoIndex v ts) (λ i. SpellsIndex v ts i)
+pub index_decided : (v : Version) (ts : List Tok) (o : Option Index) → o ≡ index_of v ts → MatchOption o (IsNoIndex v ts) (λ i. SpellsIndex v ts i)
 index_decided v ts None is = λ i d. let e : index_of v ts ≡ Some i = index_reads d in absurd (cc)
 index_decided v ts (Some i) is = index_says v ts i (sym is)
 
-pub expr_decided : (v : ℕ) (ts : List Tok) (o : Option Expr) → option_map pure_expr o ≡ expr_of v ts → MatchOption o (IsNoExpr v ts) (λ e. SpellsExpr v 0 ts (pure_expr e))
+pub expr_decided : (v : Version) (ts : List Tok) (o : Option Expr) → option_map pure_expr o ≡ expr_of v ts → MatchOption o (IsNoExpr v ts) (λ e. SpellsExpr v 0 ts (pure_expr e))
 expr_decided v ts None is = λ x d. let e : expr_of v ts ≡ Some x = expr_reads d in absurd (cc)
 expr_decided v ts (Some e) is = expr_says v ts (pure_expr e) (sym is)
 

@@ -1,5 +1,6 @@
 -- What is spelled has a form, and what has a form is spelled.
 use Rattle.std.proofs.Common.{ℕ, List, [], ◌∷◌}
+use Rattle.tdf_base.specs.declared.version.Version.{Version}
 use Rattle.tdf_fixed.specs.declared.over.Over.{Over}
 use Rattle.tdf_fixed.specs.declared.over.Over.TheVariants.{Wrap}
 use Rattle.tdf_fixed.specs.declared.quant.Quant.{Quant}
@@ -36,7 +37,7 @@ pub fits_lits : {ts : List Tok} → FitsLits ts → (xs : List Lit) × SpellsLit
 fits_lits fits_none = ([], lits_none)
 fits_lits (fits_more d e) = let x = fits_lit d in let xs = fits_lits e in (x.0 ∷ xs.0, lits_more x.1 xs.1)
 
-pub index_fits : {v : ℕ} {ts : List Tok} {i : Index} → SpellsIndex v ts i → FitsIndex v ts
+pub index_fits : {v : Version} {ts : List Tok} {i : Index} → SpellsIndex v ts i → FitsIndex v ts
 index_fits (index_int text {n = n} h) = fits_int text (n, h)
 index_fits (index_var name) = fits_var name
 index_fits (index_plus name text {n = n} h) = fits_add name text (n, h)
@@ -45,7 +46,7 @@ index_fits (index_from name text {n = n} h) = fits_from name text (n, h)
 index_fits (index_times le text name {n = n} h) = fits_times le text name (n, h)
 index_fits (index_times_plus le text name last {n = n} {m = m} h k) = fits_times_plus le text name last (n, h) (m, k)
 
-pub fits_index : {v : ℕ} {ts : List Tok} → FitsIndex v ts → (i : Index) × SpellsIndex v ts i
+pub fits_index : {v : Version} {ts : List Tok} → FitsIndex v ts → (i : Index) × SpellsIndex v ts i
 fits_index (fits_int text h) = (index.Int h.0, index_int text h.1)
 fits_index (fits_var name) = (index.Var name, index_var name)
 fits_index (fits_add name text h) = (index.Plus name h.0, index_plus name text h.1)
@@ -87,7 +88,7 @@ pub fits_path : {ts : List Tok} → FitsPath ts → (names : List (List ℕ)) ×
 fits_path (fits_one name) = (name ∷ [], path_one name)
 fits_path (fits_step name d) = let e = fits_path d in (name ∷ e.0, path_more name e.1)
 
-pub expr_fits : {v k : ℕ} {ts : List Tok} {x : PureExpr} → SpellsExpr v k ts x → FitsExpr v k ts
+pub expr_fits : {v : Version} {k : ℕ} {ts : List Tok} {x : PureExpr} → SpellsExpr v k ts x → FitsExpr v k ts
 expr_fits (number text) = fits_number text
 expr_fits (variable name) = fits_name name
 expr_fits (item name d) = fits_item name (index_fits d)
@@ -100,7 +101,7 @@ expr_fits (contrary d) = fits_contrary (expr_fits d)
 expr_fits (binary op h d e) = fits_binary op h (expr_fits d) (expr_fits e)
 expr_fits (tighter d) = fits_tighter (expr_fits d)
 
-pub fits_expr : {v k : ℕ} {ts : List Tok} → FitsExpr v k ts → (x : PureExpr) × SpellsExpr v k ts x
+pub fits_expr : {v : Version} {k : ℕ} {ts : List Tok} → FitsExpr v k ts → (x : PureExpr) × SpellsExpr v k ts x
 fits_expr (fits_number text) = (ENumber (trimmed text), number text)
 fits_expr (fits_name name) = (EName name, variable name)
 fits_expr (fits_item name d) = let i = fits_index d in (EAt name i.0, item name i.1)

@@ -5,6 +5,7 @@ use Rattle.std.proofs.Math.Nat.{mul-le-mul, pow-le-pow_right, pow-suc}
 use Rattle.std.proofs.lemmas.Bool.Decides.{nat_tests}
 use Rattle.std.specs.List.{list_all, prefix_len, suffix_len, before_first, after_first}
 use Rattle.std.specs.Prelude.{nat_le}
+use Rattle.tdf_base.specs.declared.version.Version.{Version}
 use Rattle.tdf_base.specs.Digits.{is_digit, are_digits, number, int_of}
 use Rattle.tdf_base.specs.Limits.{time_end}
 use Rattle.tdf_base.specs.Number.{Numeral, numeral_of, is_short, is_short_numeral, is_number}
@@ -162,7 +163,7 @@ pub lits_keep : {ts : List Tok} {xs : List Lit} → SpellsLits ts xs → KeepTok
 lits_keep lits_none h = tt
 lits_keep (lits_more {a = a} {ts = ts} d e) h = let s = keep_split a ts h in (lit_keeps d s.0, lits_keep e s.1)
 
-pub index_keeps : {v : ℕ} {ts : List Tok} {i : Index} → SpellsIndex v ts i → KeepTokens ts → KeepsIndex i
+pub index_keeps : {v : Version} {ts : List Tok} {i : Index} → SpellsIndex v ts i → KeepTokens ts → KeepsIndex i
 index_keeps (index_int text {n = n} e) h = int_count text n e
 index_keeps (index_var name) h = h.0
 index_keeps (index_plus name text {n = n} e) h = (h.0, int_count text n e)
@@ -182,7 +183,7 @@ pub path_keeps : {ts : List Tok} {names : List (List ℕ)} → SpellsPath ts nam
 path_keeps (path_one name) h = (h.0, tt)
 path_keeps (path_more name d) h = (h.0, path_keeps d h.1.1)
 
-pub expr_keeps : {v k : ℕ} {ts : List Tok} {x : PureExpr} → SpellsExpr v k ts x → KeepTokens ts → KeepsExpr x
+pub expr_keeps : {v : Version} {k : ℕ} {ts : List Tok} {x : PureExpr} → SpellsExpr v k ts x → KeepTokens ts → KeepsExpr x
 expr_keeps (number_expr text) h = trimmed_number text h.0
 expr_keeps (variable name) h = h.0
 expr_keeps (item name {a = a} d) h = (h.0, index_keeps d (keep_split a _ h.1.1).0)

@@ -1,5 +1,7 @@
 -- The forms of the parts of a line, with no tree (own): what tokens a literal, an index, a format, a path or an expression may be.
-use Rattle.std.specs.Prelude.{◌≡◌, ◌≤◌, ℕ, suc, Bool, List, [], ◌∷◌, ◌++◌, Some}
+use Rattle.std.specs.Prelude.{◌≡◌, ℕ, true, suc, Bool, List, [], ◌∷◌, ◌++◌, Some}
+use Rattle.tdf_base.specs.Version.{has_multiples}
+use Rattle.tdf_base.specs.declared.version.Version.{Version}
 use Rattle.tdf_base.specs.Digits.{int_of}
 use Rattle.tdf_fixed.specs.declared.over.Over.{Over}
 use Rattle.tdf_fixed.specs.declared.quant.Quant.{Quant}
@@ -23,15 +25,15 @@ pub data FitsLits : List Tok → Type 0 where
   fits_none : FitsLits []
   fits_more : {a ts : List Tok} → FitsLit a → FitsLits ts → FitsLits (a ++ ts)
 
-pub data FitsIndex (v : ℕ) : List Tok → Type 0 where
+pub data FitsIndex (v : Version) : List Tok → Type 0 where
   fits_int : (text : List ℕ) → IsInt text → FitsIndex v (TNumber text ∷ [])
   fits_var : (name : List ℕ) → FitsIndex v (TName name ∷ [])
   fits_add : (name text : List ℕ) → IsInt text → FitsIndex v (TName name ∷ TSymbol symbol.Plus ∷ TNumber text ∷ [])
   fits_sub : (name text : List ℕ) → IsInt text → FitsIndex v (TName name ∷ TSymbol symbol.Minus ∷ TNumber text ∷ [])
   fits_from : (name text : List ℕ) → IsInt text → FitsIndex v (TNumber text ∷ TSymbol symbol.Minus ∷ TName name ∷ [])
-  fits_times : 2 ≤ v → (text name : List ℕ) → IsInt text
+  fits_times : has_multiples v ≡ true → (text name : List ℕ) → IsInt text
       → FitsIndex v (TNumber text ∷ TSymbol symbol.Times ∷ TName name ∷ [])
-  fits_times_plus : 2 ≤ v → (text name last : List ℕ) → IsInt text → IsInt last
+  fits_times_plus : has_multiples v ≡ true → (text name last : List ℕ) → IsInt text → IsInt last
       → FitsIndex v (TNumber text ∷ TSymbol symbol.Times ∷ TName name ∷ TSymbol symbol.Plus ∷ TNumber last ∷ [])
 
 -- the words of a rounding and of an overflow, and those of a sign
@@ -62,7 +64,7 @@ pub data FitsPath : List Tok → Type 0 where
   fits_step : (name : List ℕ) {ts : List Tok} → FitsPath ts → FitsPath (TName name ∷ TSymbol symbol.Point ∷ ts)
 
 -- in version v an expression of level k or tighter
-pub data FitsExpr (v : ℕ) : ℕ → List Tok → Type 0 where
+pub data FitsExpr (v : Version) : ℕ → List Tok → Type 0 where
   fits_number : (text : List ℕ) → FitsExpr v 7 (TNumber text ∷ [])
   fits_name : (name : List ℕ) → FitsExpr v 7 (TName name ∷ [])
   fits_item : (name : List ℕ) {a : List Tok} → FitsIndex v a → FitsExpr v 7 (TName name ∷ TSymbol symbol.OpenSquare ∷ (a ++ TSymbol symbol.CloseSquare ∷ []))

@@ -1,6 +1,7 @@
 -- Laws of the parts of a line (own), for every version: tokens spell at most one tree, and they spell one exactly where
 -- they have the form.
-use Rattle.std.specs.Prelude.{◌≡◌, ◌↔◌, ℕ, List}
+use Rattle.std.specs.Prelude.{◌≡◌, ◌↔◌, List}
+use Rattle.tdf_base.specs.declared.version.Version.{Version}
 use Rattle.tdf_lang_lexer.specs.Token.{Tok}
 use Rattle.tdf_lang_exprs.specs.Index.{SpellsIndex}
 use Rattle.tdf_lang_exprs.specs.Literals.{SpellsLit, SpellsLits}
@@ -20,17 +21,17 @@ HasForm {T} spells fits = (ts : List Tok) → ((x : T) × spells ts x) ↔ fits 
 pub record PartsAreUnique : Type 0 where
   pub lit : SpellsAtMostOne SpellsLit
   pub lits : SpellsAtMostOne SpellsLits
-  pub index : (v : ℕ) → SpellsAtMostOne (SpellsIndex v)
+  pub index : (v : Version) → SpellsAtMostOne (SpellsIndex v)
   pub shape : SpellsAtMostOne SpellsShape
   pub format : SpellsAtMostOne SpellsFormat
   pub path : SpellsAtMostOne SpellsPath
-  pub expr : (v : ℕ) → SpellsAtMostOne (SpellsExpr v 0)
+  pub expr : (v : Version) → SpellsAtMostOne (SpellsExpr v 0)
 
 pub record PartsHaveForms : Type 0 where
   pub lit : HasForm SpellsLit FitsLit
   pub lits : HasForm SpellsLits FitsLits
-  pub index : (v : ℕ) → HasForm (SpellsIndex v) (FitsIndex v)
+  pub index : (v : Version) → HasForm (SpellsIndex v) (FitsIndex v)
   pub shape : HasForm SpellsShape FitsShape
   pub format : HasForm SpellsFormat FitsFormat
   pub path : HasForm SpellsPath FitsPath
-  pub expr : (v : ℕ) → HasForm (SpellsExpr v 0) (FitsExpr v 0)
+  pub expr : (v : Version) → HasForm (SpellsExpr v 0) (FitsExpr v 0)

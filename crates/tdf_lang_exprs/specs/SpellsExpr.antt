@@ -4,6 +4,7 @@
 -- Levels, from the loosest: 0 `or`, 1 `and`, 2 `not`, 3 comparisons, 4 `+` and `-` between, 5 `*` and shifts, 6 `-`
 -- before, 7 what needs no parentheses.
 use Rattle.std.specs.Prelude.{◌≡◌, ℕ, suc, Bool, true, false, List, [], ◌∷◌, ◌++◌, Some}
+use Rattle.tdf_base.specs.declared.version.Version.{Version}
 use Rattle.tdf_base.specs.Digits.{int_of}
 use Rattle.tdf_lang_lexer.specs.Token.{Tok, TName, TKey, TNumber, TSymbol}
 use Rattle.tdf_lang_lexer.specs.declared.key.Key.TheVariants as key
@@ -60,7 +61,7 @@ shift_sign true = TSymbol symbol.ShiftLeft
 shift_sign false = TSymbol symbol.ShiftRight
 
 -- `SpellsExpr v k ts x`: in version v the tokens ts are the expression x, of level k or tighter
-pub data SpellsExpr (v : ℕ) : ℕ → List Tok → PureExpr → Type 0 where
+pub data SpellsExpr (v : Version) : ℕ → List Tok → PureExpr → Type 0 where
   number : (text : List ℕ) → SpellsExpr v 7 (TNumber text ∷ []) (ENumber (trimmed text))
   variable : (name : List ℕ) → SpellsExpr v 7 (TName name ∷ []) (EName name)
   item : (name : List ℕ) {a : List Tok} {i : Index} → SpellsIndex v a i
@@ -83,5 +84,5 @@ pub data SpellsExpr (v : ℕ) : ℕ → List Tok → PureExpr → Type 0 where
   tighter : {k : ℕ} {a : List Tok} {x : PureExpr} → SpellsExpr v (suc k) a x → SpellsExpr v k a x
 
 -- in version v the tokens are no expression
-abbrev pub IsNoExpr : ℕ → List Tok → Type 0
+abbrev pub IsNoExpr : Version → List Tok → Type 0
 IsNoExpr v ts = (x : PureExpr) → SpellsExpr v 0 ts x → ⊥

@@ -11,7 +11,7 @@ ghost use Rattle.tdf_lang_exprs.specs.views.Waiting.{waits, reading};
 use crate::pending::{At, Pending, reduce};
 use crate::steps::step;
 use std::alloc::Global;
-use tdf_base::Memory;
+use tdf_base::{Memory, Version};
 use tdf_lang_lexer::Token;
 use tdf_lang_tree::Expr;
 
@@ -19,7 +19,7 @@ use tdf_lang_tree::Expr;
 ///
 /// # Errors
 /// Out of memory.
-pub fn read_expr(alloc: Global, version: u32, tokens: &[Token]) -> Result<Option<Expr>, Memory>
+pub fn read_expr(alloc: Global, version: Version, tokens: &[Token]) -> Result<Option<Expr>, Memory>
     ensures said { IfOk result (λ o. MatchOption o (IsNoExpr version (map tok tokens.now)) (λ e. SpellsExpr version 0 (map tok tokens.now) (pure_expr e))) }
     ensures read { IfOk result (λ o. option_map pure_expr o ≡ expr_of version (map tok tokens.now)) }
 {
@@ -27,7 +27,7 @@ pub fn read_expr(alloc: Global, version: u32, tokens: &[Token]) -> Result<Option
 }
 
 #[tactic(auto, using(crate::proofs::Waits::run_laws), unfolding(crate::specs::machine::Exprs::expr_of))]
-fn whole(alloc: Global, version: u32, tokens: &[Token]) -> Result<Option<Expr>, Memory>
+fn whole(alloc: Global, version: Version, tokens: &[Token]) -> Result<Option<Expr>, Memory>
     ensures { IfOk result (λ o. option_map pure_expr o ≡ expr_of version (map tok tokens.now)) }
 {
     let mut stack = Vec::new(alloc);

@@ -7,7 +7,7 @@ ghost use Rattle.tdf_lang_exprs.specs.Index.{SpellsIndex, IsNoIndex};
 ghost use Rattle.tdf_lang_exprs.specs.machine.Indices.{counted_index, from_index, index_of, is_sum, named_index, number_index, times_index, times_plus_index};
 
 use std::alloc::Global;
-use tdf_base::{Memory, read_int};
+use tdf_base::{Memory, Version, read_int};
 use tdf_lang_lexer::{Symbol, Token};
 use tdf_lang_tree::{Index, Name};
 
@@ -15,14 +15,18 @@ use tdf_lang_tree::{Index, Name};
 ///
 /// # Errors
 /// Out of memory.
-pub fn read_index(alloc: Global, version: u32, tokens: &[Token]) -> Result<Option<Index>, Memory>
+pub fn read_index(
+    alloc: Global,
+    version: Version,
+    tokens: &[Token],
+) -> Result<Option<Index>, Memory>
     ensures said { IfOk result (λ o. MatchOption o (IsNoIndex version (map tok tokens.now)) (λ i. SpellsIndex version (map tok tokens.now) i)) }
     ensures read { IfOk result (λ o. o ≡ index_of version (map tok tokens.now)) }
 {
     indexed(alloc, version, tokens)
 }
 
-fn indexed(alloc: Global, version: u32, tokens: &[Token]) -> Result<Option<Index>, Memory>
+fn indexed(alloc: Global, version: Version, tokens: &[Token]) -> Result<Option<Index>, Memory>
     ensures { IfOk result (λ o. o ≡ index_of version (map tok tokens.now)) }
 {
     match tokens {
@@ -43,7 +47,7 @@ fn indexed(alloc: Global, version: u32, tokens: &[Token]) -> Result<Option<Index
 /// What follows a number and a symbol.
 fn counted(
     alloc: Global,
-    version: u32,
+    version: Version,
     text: &[u8],
     symbol: Symbol,
     rest: &[Token],
@@ -58,7 +62,7 @@ fn counted(
             Token::Number(last),
         ] => sum(
             alloc,
-            2 <= version && is_sum(symbol, *second),
+            version.has_multiples() && is_sum(symbol, *second),
             name,
             text,
             last,
@@ -84,7 +88,7 @@ fn named(alloc: Global, name: &[u8], symbol: Symbol, text: &[u8]) -> Result<Opti
 /// `number - name` or `number * name`.
 fn numbered(
     alloc: Global,
-    version: u32,
+    version: Version,
     text: &[u8],
     symbol: Symbol,
     name: &[u8],
@@ -93,7 +97,7 @@ fn numbered(
 {
     match symbol {
         Symbol::Minus => from(alloc, text, name),
-        Symbol::Times => times(alloc, 2 <= version, name, text),
+        Symbol::Times => times(alloc, version.has_multiples(), name, text),
         _ => Ok(None),
     }
 }

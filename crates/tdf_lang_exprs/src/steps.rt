@@ -14,7 +14,7 @@ use crate::index::read_index;
 use crate::numbers::read_number;
 use crate::pending::{At, Bracket, Pending, reduce, stops};
 use std::alloc::Global;
-use tdf_base::{Memory, read_int};
+use tdf_base::{Memory, Version, read_int};
 use tdf_lang_lexer::{Key, Symbol, Token};
 use tdf_lang_tree::{Expr, Name, Op};
 
@@ -278,7 +278,7 @@ fn after_name<'t>(
 #[tactic(auto, using(crate::proofs::Waits::map_push))]
 fn within_index<'t>(
     alloc: Global,
-    version: u32,
+    version: Version,
     inside: &mut Vec<Token<'t>>,
     name: Name,
     token: Token<'t>,
@@ -296,7 +296,7 @@ fn within_index<'t>(
 
 fn indexed<'t>(
     alloc: Global,
-    version: u32,
+    version: Version,
     inside: &Vec<Token<'t>>,
     name: Name,
 ) -> Result<At, Memory>
@@ -357,7 +357,7 @@ fn after_select(stack: &mut Vec<Pending>, token: Token) -> Result<At, Memory>
 /// One token more. `inside` holds the tokens of an index that is open.
 pub(crate) fn step<'t>(
     alloc: Global,
-    version: u32,
+    version: Version,
     stack: &mut Vec<Pending>,
     inside: &mut Vec<Token<'t>>,
     at: At,

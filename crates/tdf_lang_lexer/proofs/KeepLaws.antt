@@ -1,10 +1,10 @@
 -- What the tokens of pieces keep: names and numbers have their forms, and times are below their end.
 use Rattle.std.proofs.Common.{◌≡◌, ℕ, ◌<◌, Bool, true, false, List, [], ◌∷◌, ◌++◌, Option, Some, None, Result, Ok, Err, refl, map, option_map, unwrap_or, if◌then◌else◌}
-use Rattle.std.specs.Prelude.{nat_le}
 use Rattle.tdf_base.specs.Limits.{time_end}
 use Rattle.tdf_base.specs.Names.{is_name}
 use Rattle.tdf_base.specs.Number.{is_number}
 use Rattle.tdf_base.specs.Time.{time_of, time_at}
+use Rattle.tdf_base.specs.Version.{has_resolution}
 use Rattle.tdf_base.specs.declared.times.TimeErr.{TimeErr}
 use Rattle.tdf_base.proofs.Api.{time_small, time_at_small}
 use Rattle.tdf_lang_lexer.specs.Dialect.{token_of, is_resolution, time_in, time_or_wrong}
@@ -43,7 +43,7 @@ keeps_at piece false None None true b r e f h = e
 keeps_at piece false None None false true r e f h = f
 keeps_at piece false None None false false r e f h = time_keeps r h
 
-time_in_small : (d : Dialect) (piece : List ℕ) (b : Bool) → nat_le 3 d.version ≡ b → (t : ℕ)
+time_in_small : (d : Dialect) (piece : List ℕ) (b : Bool) → has_resolution d.version ≡ b → (t : ℕ)
     → (if b then time_at d.resolution piece else time_of piece) ≡ Ok t → t < time_end
 time_in_small d piece true e t h = time_at_small d.resolution piece t h
 time_in_small d piece false e t h = time_small piece t h
@@ -52,7 +52,7 @@ pub token_keeps : (d : Dialect) (piece : List ℕ) → KeepsToken (token_of d pi
 unfolding token_of
 token_keeps d piece =
     keeps_at piece (is_resolution d piece) (key_of piece) (symbol_of piece) (is_name piece) (is_number piece) (time_in d piece) refl refl
-    (λ (t : ℕ) (e : time_in d piece ≡ Ok t). time_in_small d piece (nat_le 3 d.version) refl t e)
+    (λ (t : ℕ) (e : time_in d piece ≡ Ok t). time_in_small d piece (has_resolution d.version) refl t e)
 
 pub tokens_keep : (d : Dialect) (pieces : List (List ℕ)) → KeepTokens (map (token_of d) pieces)
 tokens_keep d [] = tt

@@ -1,9 +1,10 @@
 -- The token that a piece is, in a version of the language and at a resolution of time (own).
-use Rattle.std.specs.Prelude.{ℕ, Bool, ◌&&◌, nat_eq, nat_le, List, map, Result, Ok, Err, option_map, unwrap_or, codes, if◌then◌else◌}
+use Rattle.std.specs.Prelude.{ℕ, Bool, ◌&&◌, nat_eq, List, map, Result, Ok, Err, option_map, unwrap_or, codes, if◌then◌else◌}
 use Rattle.std.specs.Cmp.Lexicographic.{pointwise}
 use Rattle.tdf_base.specs.Names.{is_name}
 use Rattle.tdf_base.specs.Number.{is_number}
 use Rattle.tdf_base.specs.Time.{time_of, time_at}
+use Rattle.tdf_base.specs.Version.{has_resolution}
 use Rattle.tdf_base.specs.declared.times.TimeErr.{TimeErr}
 use Rattle.tdf_lang_lexer.specs.Rows.{Row}
 use Rattle.tdf_lang_lexer.specs.Token.{Tok, TName, TKey, TNumber, TTime, TSymbol, TWrong, TokenLine}
@@ -12,11 +13,11 @@ use Rattle.tdf_lang_lexer.specs.declared.dialect.Dialect.{Dialect}
 
 -- the word that a line of version 3 may begin with to set the resolution: there it is no name
 abbrev pub is_resolution : Dialect → List ℕ → Bool
-is_resolution d piece = nat_le 3 d.version && pointwise nat_eq piece (codes "resolution")
+is_resolution d piece = has_resolution d.version && pointwise nat_eq piece (codes "resolution")
 
 -- the time that a piece says: picoseconds by five units, and from version 3 on counts of the resolution by six
 abbrev pub time_in : Dialect → List ℕ → Result ℕ TimeErr
-time_in d piece = if nat_le 3 d.version then time_at d.resolution piece else time_of piece
+time_in d piece = if has_resolution d.version then time_at d.resolution piece else time_of piece
 
 abbrev pub time_or_wrong : Result ℕ TimeErr → Tok
 time_or_wrong (Ok count) = TTime count

@@ -9,13 +9,13 @@ ghost use Rattle.tdf_lang_lexer.specs.Token.{tok};
 use crate::pieces::{is_letter, is_word};
 use crate::token::Token;
 use crate::words::{key_of, symbol_of};
-use tdf_base::{LONGEST_NAME, Memory, Resolution, is_number, read_time, read_time_at};
+use tdf_base::{LONGEST_NAME, Memory, Resolution, Version, is_number, read_time, read_time_at};
 
-/// What says which token a piece is: the version of the language, 1 to 3, and the resolution of time, which is read from
-/// version 3 on.
+/// What says which token a piece is: the version of the language, and the resolution of time, which is read from version 3
+/// on.
 #[derive(Clone, Copy, Debug, PartialEq, Eq)]
 pub struct Dialect {
-    pub version: u32,
+    pub version: Version,
     pub resolution: Resolution,
 }
 
@@ -31,13 +31,13 @@ fn is_name(text: &[u8]) -> bool
 fn is_resolution(dialect: Dialect, piece: &[u8]) -> bool
     ensures { result ≡ is_resolution dialect piece.now }
 {
-    3 <= dialect.version && piece == b"resolution".as_slice()
+    dialect.version.has_resolution() && piece == b"resolution".as_slice()
 }
 
 fn time<'t>(dialect: Dialect, piece: &'t [u8]) -> Token<'t>
     ensures { tok result ≡ time_or_wrong (time_in dialect piece.now) }
 {
-    let time = if 3 <= dialect.version {
+    let time = if dialect.version.has_resolution() {
         read_time_at(piece, dialect.resolution)
     } else {
         read_time(piece)

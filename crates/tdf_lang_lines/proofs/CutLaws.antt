@@ -2,7 +2,9 @@
 use Rattle.std.proofs.Common.{◌≡◌, ◌∙◌, ap, ℕ, ◌≤◌, List, [], ◌∷◌, length, take, drop, map, refl, arith, min}
 use Rattle.std.proofs.lemmas.List.{take-map, drop-map, length-map, drop_min, take_min}
 use Rattle.tdf_lang_exprs.specs.machine.Formats.{format_len, keys_first}
-use Rattle.std.specs.Prelude.{Bool, true, false, cond, nat_le, Option, None}
+use Rattle.std.specs.Prelude.{Bool, true, false, cond, Option, None}
+use Rattle.tdf_base.specs.Version.{has_multiples}
+use Rattle.tdf_base.specs.declared.version.Version.{Version}
 use Rattle.tdf_lang_lines.specs.machine.Reads.{array_rest, both_of, second_rate, third_rate, times_limit, times_rate, name_limit, number_limit, item_value, item_close}
 use Rattle.tdf_lang_lexer.specs.declared.key.Symbol.{Symbol}
 use Rattle.tdf_lang_lexer.specs.declared.key.Symbol.TheVariants as symbol
@@ -57,35 +59,35 @@ third_none name second (TNumber third ∷ []) = refl
 third_none name second _ = refl
 
 -- a first number that is none makes no limit and no rate line
-name_none : (v : ℕ) (ts : List Tok) → name_limit v None ts ≡ None
-name_none v (TName name ∷ []) = none_by (nat_le 2 v) None refl
+name_none : (v : Version) (ts : List Tok) → name_limit v None ts ≡ None
+name_none v (TName name ∷ []) = none_by (has_multiples v) None refl
 name_none v _ = refl
 
-times_none : (v : ℕ) (c : Symbol) (ts : List Tok) → times_limit v c None ts ≡ None
+times_none : (v : Version) (c : Symbol) (ts : List Tok) → times_limit v c None ts ≡ None
 times_none v symbol.Times ts = name_none v ts
 times_none v _ ts = refl
 
-pub number_none : (v : ℕ) (ts : List Tok) → number_limit v None ts ≡ None
+pub number_none : (v : Version) (ts : List Tok) → number_limit v None ts ≡ None
 number_none v [] = refl
 number_none v (TSymbol c ∷ ts) = times_none v c ts
 number_none v _ = refl
 
-rate_none : (v : ℕ) (c : Symbol) (name : List ℕ) (ts : List Tok) → times_rate v c name None ts ≡ None
+rate_none : (v : Version) (c : Symbol) (name : List ℕ) (ts : List Tok) → times_rate v c name None ts ≡ None
 unfolding times_rate
 rate_none v c name ts = rw (times_none v c ts) refl
 
-pub second_none : (v : ℕ) (name : List ℕ) (ts : List Tok) → second_rate v name None ts ≡ None
+pub second_none : (v : Version) (name : List ℕ) (ts : List Tok) → second_rate v name None ts ≡ None
 second_none v name [] = refl
 second_none v name (TNumber second ∷ ts) = third_none name (int_of second) ts
 second_none v name (TSymbol c ∷ ts) = rate_none v c name ts
 second_none v name _ = refl
 
 -- an index that isn't one makes no assignment
-value_none : (v : ℕ) (name : List ℕ) (ts : List Tok) → item_value v name None ts ≡ None
+value_none : (v : Version) (name : List ℕ) (ts : List Tok) → item_value v name None ts ≡ None
 value_none v name (TSymbol symbol.Becomes ∷ ts) = refl
 value_none v name _ = refl
 
-pub close_none : (v : ℕ) (name : List ℕ) (ts : List Tok) → item_close v name None ts ≡ None
+pub close_none : (v : Version) (name : List ℕ) (ts : List Tok) → item_close v name None ts ≡ None
 close_none v name (TSymbol symbol.CloseSquare ∷ ts) = value_none v name ts
 close_none v name _ = refl
 

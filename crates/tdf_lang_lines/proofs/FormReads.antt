@@ -1,7 +1,7 @@
 -- A line form is read: what the tokens mean is what is read from them.
-use Rattle.std.proofs.Common.{◌≡◌, ◌≤◌, ℕ, true, nat_le, ◌-◌, List, [], ◌∷◌, ◌++◌, length, take, drop, Option, Some, refl, ap, ◌∙◌, arith, length-append}
-use Rattle.std.proofs.lemmas.Bool.{le-leb}
+use Rattle.std.proofs.Common.{◌≡◌, ℕ, ◌-◌, List, [], ◌∷◌, ◌++◌, length, take, drop, Option, Some, refl, ap, ◌∙◌, arith, length-append}
 use Rattle.std.proofs.lemmas.List.{drop_at, take_at}
+use Rattle.tdf_base.specs.declared.version.Version.{Version}
 use Rattle.tdf_lang_lexer.specs.Token.{Tok, TName, TKey, TNumber, TSymbol}
 use Rattle.tdf_lang_lexer.specs.declared.key.Key.{Key}
 use Rattle.tdf_lang_lexer.specs.declared.key.Key.TheVariants as key
@@ -32,13 +32,10 @@ three_is : {A B C : Type 0} (make : A → B → C → Form) (a : Option A) (b : 
     → three_of make a b c ≡ Some (make x y z)
 three_is make a b c x y z e f g = rw (e, f, g) refl
 
-from_two : (v : ℕ) → 2 ≤ v → nat_le 2 v ≡ true
-from_two v h = le-leb 2 v h
-
-limit_reads : {v : ℕ} {ts : List Tok} {l : Limit} → SpellsLimit v ts l → limit_of v ts ≡ Some l
+limit_reads : {v : Version} {ts : List Tok} {l : Limit} → SpellsLimit v ts l → limit_of v ts ≡ Some l
 limit_reads (limit_int text e) = rw e refl
 limit_reads (limit_var name) = refl
-limit_reads {v = v} (limit_times h text name e) = rw (e, from_two v h) refl
+limit_reads {v = v} (limit_times h text name e) = rw (e, h) refl
 
 -- a literal begins with no reserved word, and has a token
 lit_no_key : {ts : List Tok} {v : Lit} → SpellsLit ts v → BeginsWithNoKey ts
@@ -65,7 +62,7 @@ cut_rest_is : {a : List Tok} {x : FormatRef} → SpellsFormat a x → (b : List 
 cut_rest_is {a = a} d b h = ap (λ (n : ℕ). drop n (a ++ b)) (format_ends d b h) ∙ drop_at a b (length a) refl
 
 -- a line that is one reserved word
-word_reads : (v : ℕ) {word : Key} {f : Form} → SpellsWord word f → form_of v (TKey word ∷ []) ≡ Some f
+word_reads : (v : Version) {word : Key} {f : Form} → SpellsWord word f → form_of v (TKey word ∷ []) ≡ Some f
 unfolding form_of
 word_reads v word_top = refl
 word_reads v word_end = refl
@@ -81,7 +78,7 @@ word_reads v word_process = refl
 word_reads v word_dont_initialize = refl
 word_reads v word_else = refl
 
-named_reads : (v : ℕ) {word : Key} {name : List ℕ} {f : Form} → SpellsNamed word name f → form_of v (TKey word ∷ TName name ∷ []) ≡ Some f
+named_reads : (v : Version) {word : Key} {name : List ℕ} {f : Form} → SpellsNamed word name f → form_of v (TKey word ∷ TName name ∷ []) ≡ Some f
 unfolding form_of
 named_reads v (named_tdf name) = refl
 named_reads v (named_de name) = refl
@@ -89,7 +86,7 @@ named_reads v (named_composite name) = refl
 named_reads v (named_event name) = refl
 named_reads v (named_sensitive name) = refl
 
-port_reads : (v : ℕ) {word : Key} {kind : PortKind} → SpellsPort word kind → (name : List ℕ) (a : List Tok) (x : FormatRef) → format_of a ≡ Some x
+port_reads : (v : Version) {word : Key} {kind : PortKind} → SpellsPort word kind → (name : List ℕ) (a : List Tok) (x : FormatRef) → format_of a ≡ Some x
     → form_of v (TKey word ∷ TName name ∷ a) ≡ Some (FPort kind name x)
 unfolding form_of
 port_reads v port_in name a x e = rw e refl
@@ -97,11 +94,11 @@ port_reads v port_out name a x e = rw e refl
 port_reads v port_de_in name a x e = rw e refl
 port_reads v port_de_out name a x e = rw e refl
 
-rate_reads : {v : ℕ} (port : List ℕ) {a : List Tok} {l : Limit} → SpellsLimit v a l → form_of v (TKey key.Rate ∷ TName port ∷ a) ≡ Some (FRate port l)
+rate_reads : {v : Version} (port : List ℕ) {a : List Tok} {l : Limit} → SpellsLimit v a l → form_of v (TKey key.Rate ∷ TName port ∷ a) ≡ Some (FRate port l)
 unfolding form_of times_rate
 rate_reads port (limit_int text e) = rw e refl
 rate_reads port (limit_var name) = refl
-rate_reads {v = v} port (limit_times h text name e) = rw (e, from_two v h) refl
+rate_reads {v = v} port (limit_times h text name e) = rw (e, h) refl
 
 trace_reads : (label : List ℕ) (a : List Tok) (path : List (List ℕ)) → path_of a ≡ Some path → trace_form (a ++ TName label ∷ []) ≡ Some (FTrace path label)
 trace_reads label a path e =
@@ -112,7 +109,7 @@ array_reads : (name text : List ℕ) (first : Option FormatRef) (rest b : List T
     → int_of text ≡ Some n → lits_of b ≡ Some vs → array_rest name first rest ≡ Some (FArray name x n vs)
 array_reads name text first rest b x n vs e f g h = rw (e, f) (rw (g, h) refl)
 
-index_cut : {v : ℕ} (name : List ℕ) {a : List Tok} {i : Index} (b : List Tok) → SpellsIndex v a i
+index_cut : {v : Version} (name : List ℕ) {a : List Tok} {i : Index} (b : List Tok) → SpellsIndex v a i
     → form_of v (TName name ∷ TSymbol symbol.OpenSquare ∷ (a ++ TSymbol symbol.CloseSquare ∷ b)) ≡ item_close v name (index_of v a) (TSymbol symbol.CloseSquare ∷ b)
 unfolding form_of
 index_cut name b (index_int text e) = refl
@@ -123,7 +120,7 @@ index_cut name b (index_from n text e) = refl
 index_cut name b (index_times h text n e) = refl
 index_cut name b (index_times_plus h first n second e f) = refl
 
-pub form_is : {v : ℕ} {ts : List Tok} {f : Form} → SpellsLine v ts f → form_of v ts ≡ Some f
+pub form_is : {v : Version} {ts : List Tok} {f : Form} → SpellsLine v ts f → form_of v ts ≡ Some f
 unfolding form_of
 form_is (word_line word w) = word_reads _ w
 form_is (named_line word name w) = named_reads _ w

@@ -1,5 +1,6 @@
 -- What is spelled by the tokens of pieces is kept by the form of its line.
 use Rattle.std.proofs.Common.{ℕ, List, refl, arith}
+use Rattle.tdf_base.specs.declared.version.Version.{Version}
 use Rattle.tdf_base.specs.Number.{is_number, numeral_of}
 use Rattle.tdf_lang_exprs.proofs.Api.{int_count, lit_keeps, lits_keep, index_keeps, shape_keeps, format_keeps, path_keeps, expr_keeps}
 use Rattle.tdf_lang_lines.specs.SpellsLine.{zero_lit, SpellsStart, start_none, start_some, SpellsLimit, limit_int, limit_var, limit_times, SpellsWord, word_top, word_end, word_set_attributes, word_initialize, word_processing, word_change_attributes, word_reinitialize, word_does, word_accept, word_reject, word_process, word_dont_initialize, word_else, SpellsNamed, named_tdf, named_de, named_composite, named_event, named_sensitive, SpellsLine, word_line, named_line, type_line, port_line, const_line, var_line, array_line, rate_var_line, step_line, port_step_line, rate_line, delay_line, initial_line, notify_line, notify_after_line, signal_line, de_signal_line, instance_line, bind_line, trace_line, assign_line, assign_item_line, if_line, for_line, set_rate_line}
@@ -51,7 +52,7 @@ start_keeps : {ts : List Tok} {x : Lit} → SpellsStart ts x → KeepTokens ts �
 start_keeps start_none h = zero_keeps
 start_keeps (start_some d) h = lit_keeps d h
 
-limit_keeps : {v : ℕ} {ts : List Tok} {l : Limit} → SpellsLimit v ts l → KeepTokens ts → KeepsLimit l
+limit_keeps : {v : Version} {ts : List Tok} {l : Limit} → SpellsLimit v ts l → KeepTokens ts → KeepsLimit l
 limit_keeps (limit_int text {n = n} e) h = int_count text n e
 limit_keeps (limit_var name) h = h.0
 limit_keeps (limit_times some text name {n = n} e) h = (int_count text n e, h.1.1.0)
@@ -78,7 +79,7 @@ named_keeps (named_composite name) h = h
 named_keeps (named_event name) h = h
 named_keeps (named_sensitive name) h = h
 
-pub line_keeps : {v : ℕ} {ts : List Tok} {f : Form} → SpellsLine v ts f → KeepTokens ts → KeepsForm f
+pub line_keeps : {v : Version} {ts : List Tok} {f : Form} → SpellsLine v ts f → KeepTokens ts → KeepsForm f
 line_keeps (word_line word d) h = word_keeps d
 line_keeps (named_line word name d) h = named_keeps d h.1.0
 line_keeps (type_line name d) h = (h.1.0, shape_keeps d)

@@ -1,5 +1,6 @@
 -- A line form has a kind, and a line of a kind is a line form.
 use Rattle.std.proofs.Common.{◌≡◌, ℕ, List, refl, subst}
+use Rattle.tdf_base.specs.declared.version.Version.{Version}
 use Rattle.tdf_lang_exprs.proofs.Api.{lit_fits, fits_lit, lits_fit, fits_lits, index_fits, fits_index, shape_fits, fits_the_shape, format_fits, fits_format, path_fits, fits_path, expr_fits, fits_expr}
 use Rattle.tdf_lang_lines.specs.FitsLine.{FitsStart, fits_start_none, fits_start_some, FitsLimit, fits_limit_int, fits_limit_var, fits_limit_times, FitsWord, fits_top, fits_end, fits_set_attributes, fits_initialize, fits_processing, fits_change_attributes, fits_reinitialize, fits_does, fits_accept, fits_reject, fits_process, fits_dont_initialize, fits_else, FitsNamed, fits_tdf, fits_de, fits_composite, fits_event, fits_sensitive, FitsLine, fits_word_line, fits_named_line, fits_type, fits_port, fits_const, fits_var, fits_array, fits_rate_var, fits_step, fits_port_step, fits_rate, fits_delay, fits_initial, fits_notify, fits_notify_after, fits_signal, fits_de_signal, fits_instance, fits_bind, fits_trace, fits_assign, fits_assign_item, fits_if, fits_for, fits_set_rate}
 use Rattle.tdf_lang_lines.specs.Laws.{LinesHaveKinds}
@@ -19,12 +20,12 @@ fits_start : {ts : List Tok} → FitsStart ts → (x : Lit) × SpellsStart ts x
 fits_start fits_start_none = (_, start_none)
 fits_start (fits_start_some d) = let x = fits_lit d in (x.0, start_some x.1)
 
-limit_fits : {v : ℕ} {ts : List Tok} {l : Limit} → SpellsLimit v ts l → FitsLimit v ts
+limit_fits : {v : Version} {ts : List Tok} {l : Limit} → SpellsLimit v ts l → FitsLimit v ts
 limit_fits (limit_int text {n = n} e) = fits_limit_int text (n, e)
 limit_fits (limit_var name) = fits_limit_var name
 limit_fits (limit_times h text name {n = n} e) = fits_limit_times h text name (n, e)
 
-fits_limit : {v : ℕ} {ts : List Tok} → FitsLimit v ts → (l : Limit) × SpellsLimit v ts l
+fits_limit : {v : Version} {ts : List Tok} → FitsLimit v ts → (l : Limit) × SpellsLimit v ts l
 fits_limit (fits_limit_int text e) = (_, limit_int text e.1)
 fits_limit (fits_limit_var name) = (_, limit_var name)
 fits_limit (fits_limit_times h text name e) = (_, limit_times h text name e.1)
@@ -45,7 +46,7 @@ word_fits word_dont_initialize = fits_dont_initialize
 word_fits word_else = fits_else
 
 -- a line of a kind, with what it says
-record Says (v : ℕ) (ts : List Tok) (k : Kind) : Type 0 where
+record Says (v : Version) (ts : List Tok) (k : Kind) : Type 0 where
   form : Form
   line : SpellsLine v ts form
   kind : kind_of_form form ≡ k
@@ -79,7 +80,7 @@ fits_named fits_composite name = (_, named_composite name, refl)
 fits_named fits_event name = (_, named_event name, refl)
 fits_named fits_sensitive name = (_, named_sensitive name, refl)
 
-pub line_fits : {v : ℕ} {ts : List Tok} {f : Form} → SpellsLine v ts f → FitsLine v ts (kind_of_form f)
+pub line_fits : {v : Version} {ts : List Tok} {f : Form} → SpellsLine v ts f → FitsLine v ts (kind_of_form f)
 line_fits (word_line word w) = fits_word_line word (word_fits w)
 line_fits (named_line word name w) = fits_named_line word name (named_fits w)
 line_fits (type_line name d) = fits_type name (shape_fits d)
@@ -106,10 +107,10 @@ line_fits (if_line d) = fits_if (expr_fits d)
 line_fits (for_line name text {n = n} e d) = fits_for name text (n, e) (limit_fits d)
 line_fits (set_rate_line name d) = fits_set_rate name (expr_fits d)
 
-says : {v : ℕ} {ts : List Tok} {f : Form} → SpellsLine v ts f → Says v ts (kind_of_form f)
+says : {v : Version} {ts : List Tok} {f : Form} → SpellsLine v ts f → Says v ts (kind_of_form f)
 says {f = f} d = record { form = f; line = d; kind = refl }
 
-fits_line : {v : ℕ} {ts : List Tok} {k : Kind} → FitsLine v ts k → Says v ts k
+fits_line : {v : Version} {ts : List Tok} {k : Kind} → FitsLine v ts k → Says v ts k
 fits_line (fits_word_line word w) = let x = fits_word w in record { form = x.0; line = word_line word x.1; kind = x.2 }
 fits_line (fits_named_line word name w) = let x = fits_named w name in record { form = x.0; line = named_line word name x.1; kind = x.2 }
 fits_line (fits_type name d) = let x = fits_the_shape d in says (type_line name x.1)
@@ -136,7 +137,7 @@ fits_line (fits_if d) = let x = fits_expr d in says (if_line x.1)
 fits_line (fits_for name text e d) = let x = fits_limit d in says (for_line name text e.1 x.1)
 fits_line (fits_set_rate name d) = let x = fits_expr d in says (set_rate_line name x.1)
 
-pub line_of_kind : {v : ℕ} {ts : List Tok} {k : Kind} → FitsLine v ts k → (f : Form) × SpellsLine v ts f × (kind_of_form f ≡ k)
+pub line_of_kind : {v : Version} {ts : List Tok} {k : Kind} → FitsLine v ts k → (f : Form) × SpellsLine v ts f × (kind_of_form f ≡ k)
 line_of_kind d = let x = fits_line d in (x.form, x.line, x.kind)
 
 pub kinds : LinesHaveKinds

@@ -1,5 +1,7 @@
 -- Which tokens are a line of which kind, with no tree (own): the line forms of the grammar without what they hold.
-use Rattle.std.specs.Prelude.{◌≤◌, ℕ, List, [], ◌∷◌, ◌++◌}
+use Rattle.std.specs.Prelude.{◌≡◌, ℕ, true, List, [], ◌∷◌, ◌++◌}
+use Rattle.tdf_base.specs.Version.{has_multiples}
+use Rattle.tdf_base.specs.declared.version.Version.{Version}
 use Rattle.tdf_lang_exprs.specs.Fits.{IsInt, FitsLit, FitsLits, FitsIndex, FitsShape, FitsFormat, FitsPath, FitsExpr}
 use Rattle.tdf_lang_lines.specs.SpellsLine.{SpellsPort}
 use Rattle.tdf_lang_lexer.specs.Token.{Tok, TName, TKey, TNumber, TTime, TSymbol}
@@ -15,10 +17,10 @@ pub data FitsStart : List Tok → Type 0 where
   fits_start_some : {a : List Tok} → FitsLit a → FitsStart a
 
 -- a whole number, a rate variable, or from version 2 on a multiple of a rate variable
-pub data FitsLimit (v : ℕ) : List Tok → Type 0 where
+pub data FitsLimit (v : Version) : List Tok → Type 0 where
   fits_limit_int : (text : List ℕ) → IsInt text → FitsLimit v (TNumber text ∷ [])
   fits_limit_var : (name : List ℕ) → FitsLimit v (TName name ∷ [])
-  fits_limit_times : 2 ≤ v → (text name : List ℕ) → IsInt text → FitsLimit v (TNumber text ∷ TSymbol symbol.Times ∷ TName name ∷ [])
+  fits_limit_times : has_multiples v ≡ true → (text name : List ℕ) → IsInt text → FitsLimit v (TNumber text ∷ TSymbol symbol.Times ∷ TName name ∷ [])
 
 -- a line that is one reserved word
 pub data FitsWord : Key → Kind → Type 0 where
@@ -45,7 +47,7 @@ pub data FitsNamed : Key → Kind → Type 0 where
   fits_sensitive : FitsNamed key.Sensitive KSensitive
 
 -- `FitsLine v ts k`: in version v the tokens are a line of kind k
-pub data FitsLine (v : ℕ) : List Tok → Kind → Type 0 where
+pub data FitsLine (v : Version) : List Tok → Kind → Type 0 where
   fits_word_line : (word : Key) {k : Kind} → FitsWord word k → FitsLine v (TKey word ∷ []) k
   fits_named_line : (word : Key) (name : List ℕ) {k : Kind} → FitsNamed word k → FitsLine v (TKey word ∷ TName name ∷ []) k
   fits_type : (name : List ℕ) {a : List Tok} → FitsShape a → FitsLine v (TKey key.Type ∷ TName name ∷ a) KType

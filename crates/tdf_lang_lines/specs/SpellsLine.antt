@@ -1,7 +1,9 @@
 -- Which tokens are which line form (own): the line forms of the grammar, one case a form. `v` is the version of the text: a
 -- multiple of a rate variable is a limit from version 2 on. The lines that open a text, `language` and `resolution`, are not
 -- among them.
-use Rattle.std.specs.Prelude.{◌≡◌, ◌≤◌, ℕ, false, List, [], ◌∷◌, ◌++◌, Some, None, codes}
+use Rattle.std.specs.Prelude.{◌≡◌, ℕ, true, false, List, [], ◌∷◌, ◌++◌, Some, None, codes}
+use Rattle.tdf_base.specs.Version.{has_multiples}
+use Rattle.tdf_base.specs.declared.version.Version.{Version}
 use Rattle.tdf_lang_lexer.specs.Token.{Tok, TName, TKey, TNumber, TTime, TSymbol}
 use Rattle.tdf_lang_lexer.specs.declared.key.Key.{Key}
 use Rattle.tdf_lang_lexer.specs.declared.key.Key.TheVariants as key
@@ -33,10 +35,10 @@ pub data SpellsStart : List Tok → Lit → Type 0 where
   start_some : {a : List Tok} {x : Lit} → SpellsLit a x → SpellsStart a x
 
 -- a whole number, a rate variable, or from version 2 on a multiple of a rate variable
-pub data SpellsLimit (v : ℕ) : List Tok → Limit → Type 0 where
+pub data SpellsLimit (v : Version) : List Tok → Limit → Type 0 where
   limit_int : (text : List ℕ) {n : ℕ} → int_of text ≡ Some n → SpellsLimit v (TNumber text ∷ []) (limit.Int n)
   limit_var : (name : List ℕ) → SpellsLimit v (TName name ∷ []) (limit.Var name)
-  limit_times : 2 ≤ v → (text name : List ℕ) {n : ℕ} → int_of text ≡ Some n
+  limit_times : has_multiples v ≡ true → (text name : List ℕ) {n : ℕ} → int_of text ≡ Some n
       → SpellsLimit v (TNumber text ∷ TSymbol symbol.Times ∷ TName name ∷ []) (limit.Times n name)
 
 -- the word of a port line
@@ -71,7 +73,7 @@ pub data SpellsNamed : Key → List ℕ → Form → Type 0 where
   named_sensitive : (name : List ℕ) → SpellsNamed key.Sensitive name (FSensitive name)
 
 -- `SpellsLine version ts f`: in this version of the language the tokens of a line are the form f
-pub data SpellsLine (version : ℕ) : List Tok → Form → Type 0 where
+pub data SpellsLine (version : Version) : List Tok → Form → Type 0 where
   word_line : (word : Key) {f : Form} → SpellsWord word f → SpellsLine version (TKey word ∷ []) f
   named_line : (word : Key) (name : List ℕ) {f : Form} → SpellsNamed word name f → SpellsLine version (TKey word ∷ TName name ∷ []) f
   type_line : (name : List ℕ) {a : List Tok} {s : Shape} → SpellsShape a s → SpellsLine version (TKey key.Type ∷ TName name ∷ a) (FType name s)
@@ -109,5 +111,5 @@ pub data SpellsLine (version : ℕ) : List Tok → Form → Type 0 where
   set_rate_line : (name : List ℕ) {a : List Tok} {e : PureExpr} → SpellsExpr version 0 a e → SpellsLine version (TKey key.Rate ∷ TName name ∷ TSymbol symbol.Becomes ∷ a) (FSetRate name e)
 
 -- the tokens are no line form
-abbrev pub IsNoForm : ℕ → List Tok → Type 0
+abbrev pub IsNoForm : Version → List Tok → Type 0
 IsNoForm version ts = (f : Form) → SpellsLine version ts f → ⊥

@@ -16,7 +16,7 @@ use crate::cuts::cut_last;
 use crate::form::LineForm;
 use crate::limits::times_limit;
 use std::alloc::Global;
-use tdf_base::{Memory, read_int};
+use tdf_base::{Memory, Version, read_int};
 use tdf_lang_exprs::{read_expr, read_lit, read_path};
 use tdf_lang_lexer::{Key, Symbol, Token};
 use tdf_lang_tree::{Limit, Name};
@@ -68,7 +68,7 @@ fn third_rate(
 #[tactic(auto, unfolding(crate::specs::machine::Reads::times_rate))]
 fn times_rate(
     alloc: Global,
-    version: u32,
+    version: Version,
     symbol: Symbol,
     name: &[u8],
     first: u64,
@@ -93,7 +93,7 @@ fn times_rate(
 /// After `rate NAME NUMBER`.
 fn second_rate(
     alloc: Global,
-    version: u32,
+    version: Version,
     name: &[u8],
     first: u64,
     rest: &[Token],
@@ -113,7 +113,7 @@ fn second_rate(
 /// After `rate NAME SYMBOL`.
 fn rate_symbol(
     alloc: Global,
-    version: u32,
+    version: Version,
     symbol: Symbol,
     name: &[u8],
     rest: &[Token],
@@ -128,7 +128,7 @@ fn rate_symbol(
 
 fn set_rate_form(
     alloc: Global,
-    version: u32,
+    version: Version,
     name: &[u8],
     rest: &[Token],
 ) -> Result<Option<LineForm>, Memory>
@@ -168,7 +168,7 @@ fn named_rate(
 #[tactic(auto, using(crate::proofs::CutLaws::second_none))]
 pub(crate) fn rate_form(
     alloc: Global,
-    version: u32,
+    version: Version,
     name: &[u8],
     rest: &[Token],
 ) -> Result<Option<LineForm>, Memory>

@@ -5,14 +5,14 @@ ghost use Rattle.tdf_lang_lines.specs.machine.Reads.{limit_of, name_limit, numbe
 ghost use Rattle.tdf_lang_lexer.specs.Token.{tok};
 
 use std::alloc::Global;
-use tdf_base::{Memory, Name, read_int};
+use tdf_base::{Memory, Name, Version, read_int};
 use tdf_lang_lexer::{Symbol, Token};
 use tdf_lang_tree::Limit;
 
 /// After `NUMBER *`: a rate variable, from version 2 on.
 fn name_limit(
     alloc: Global,
-    version: u32,
+    version: Version,
     first: u64,
     rest: &[Token],
 ) -> Result<Option<Limit>, Memory>
@@ -20,7 +20,7 @@ fn name_limit(
 {
     match rest {
         [Token::Name(name)] => {
-            if version < 2 {
+            if !version.has_multiples() {
                 return Ok(None);
             }
             Ok(Some(Limit::Times(first, Name::copied(alloc, name)?)))
@@ -32,7 +32,7 @@ fn name_limit(
 /// After `NUMBER SYMBOL`.
 pub(crate) fn times_limit(
     alloc: Global,
-    version: u32,
+    version: Version,
     symbol: Symbol,
     first: u64,
     rest: &[Token],
@@ -48,7 +48,7 @@ pub(crate) fn times_limit(
 /// After `NUMBER`.
 fn number_limit(
     alloc: Global,
-    version: u32,
+    version: Version,
     first: u64,
     rest: &[Token],
 ) -> Result<Option<Limit>, Memory>
@@ -75,7 +75,7 @@ fn var_limit(alloc: Global, name: &[u8], rest: &[Token]) -> Result<Option<Limit>
 #[tactic(auto, using(crate::proofs::CutLaws::number_none))]
 pub(crate) fn read_limit(
     alloc: Global,
-    version: u32,
+    version: Version,
     tokens: &[Token],
 ) -> Result<Option<Limit>, Memory>
     ensures { IfOk result (λ o. o ≡ limit_of version (map tok tokens.now)) }

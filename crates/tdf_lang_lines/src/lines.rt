@@ -24,7 +24,7 @@ use crate::heads::{
 use crate::limits::read_limit;
 use crate::stores::{array_form, const_form, de_signal_form, signal_form, var_form};
 use std::alloc::Global;
-use tdf_base::{Memory, Name, read_int};
+use tdf_base::{Memory, Name, Version, read_int};
 use tdf_lang_exprs::{read_expr, read_index};
 use tdf_lang_lexer::{Key, Symbol, Token};
 use tdf_lang_tree::{Expr, Index, PortKind};
@@ -32,7 +32,7 @@ use tdf_lang_tree::{Expr, Index, PortKind};
 /// After `for NAME INT`.
 fn for_limit(
     alloc: Global,
-    version: u32,
+    version: Version,
     name: &[u8],
     from: u64,
     rest: &[Token],
@@ -55,7 +55,7 @@ fn for_limit(
 
 fn for_form(
     alloc: Global,
-    version: u32,
+    version: Version,
     name: &[u8],
     rest: &[Token],
 ) -> Result<Option<LineForm>, Memory>
@@ -73,7 +73,7 @@ fn for_form(
 /// A line of a reserved word and a name.
 fn key_name_form(
     alloc: Global,
-    version: u32,
+    version: Version,
     word: Key,
     name: &[u8],
     rest: &[Token],
@@ -109,7 +109,7 @@ fn key_name_form(
 
 fn rest_form(
     alloc: Global,
-    version: u32,
+    version: Version,
     word: Key,
     rest: &[Token],
 ) -> Result<Option<LineForm>, Memory>
@@ -122,7 +122,7 @@ fn rest_form(
     }
 }
 
-fn if_form(alloc: Global, version: u32, rest: &[Token]) -> Result<Option<LineForm>, Memory>
+fn if_form(alloc: Global, version: Version, rest: &[Token]) -> Result<Option<LineForm>, Memory>
     ensures { IfOk result (λ o. option_map pure_form o ≡ option_map FIf (expr_of version (map tok rest.now))) }
 {
     match read_expr(alloc, version, rest) {
@@ -135,7 +135,7 @@ fn if_form(alloc: Global, version: u32, rest: &[Token]) -> Result<Option<LineFor
 /// A line that begins with a reserved word.
 fn key_form(
     alloc: Global,
-    version: u32,
+    version: Version,
     word: Key,
     rest: &[Token],
 ) -> Result<Option<LineForm>, Memory>
@@ -152,7 +152,7 @@ fn key_form(
 /// After `NAME [ INDEX ] =`.
 fn item_value(
     alloc: Global,
-    version: u32,
+    version: Version,
     name: &[u8],
     index: Index,
     rest: &[Token],
@@ -193,7 +193,7 @@ fn item_assign(
 /// After `NAME [ INDEX ]`.
 fn item_becomes(
     alloc: Global,
-    version: u32,
+    version: Version,
     name: &[u8],
     index: Index,
     rest: &[Token],
@@ -214,7 +214,7 @@ fn item_becomes(
 /// After `NAME [ INDEX`.
 fn item_close(
     alloc: Global,
-    version: u32,
+    version: Version,
     name: &[u8],
     index: Index,
     rest: &[Token],
@@ -236,7 +236,7 @@ fn item_close(
 #[tactic(auto, using(crate::proofs::CutLaws::close_none))]
 fn item_form(
     alloc: Global,
-    version: u32,
+    version: Version,
     name: &[u8],
     tokens: &[Token],
 ) -> Result<Option<LineForm>, Memory>
@@ -252,7 +252,7 @@ fn item_form(
 
 fn assign_form(
     alloc: Global,
-    version: u32,
+    version: Version,
     name: &[u8],
     rest: &[Token],
 ) -> Result<Option<LineForm>, Memory>
@@ -274,7 +274,7 @@ fn assign_form(
 
 fn name_symbol(
     alloc: Global,
-    version: u32,
+    version: Version,
     symbol: Symbol,
     name: &[u8],
     rest: &[Token],
@@ -291,7 +291,7 @@ fn name_symbol(
 /// A line that begins with a name.
 fn name_form(
     alloc: Global,
-    version: u32,
+    version: Version,
     name: &[u8],
     rest: &[Token],
 ) -> Result<Option<LineForm>, Memory>
@@ -307,7 +307,11 @@ fn name_form(
 ///
 /// # Errors
 /// Out of memory.
-pub fn read_form(alloc: Global, version: u32, tokens: &[Token]) -> Result<Option<LineForm>, Memory>
+pub fn read_form(
+    alloc: Global,
+    version: Version,
+    tokens: &[Token],
+) -> Result<Option<LineForm>, Memory>
     ensures spelled { IfOk result (λ o. MatchOption o (IsNoForm version (map tok tokens.now))
         (λ f. SpellsLine version (map tok tokens.now) (pure_form f))) }
     ensures read { IfOk result (λ o. option_map pure_form o ≡ form_of version (map tok tokens.now)) }
@@ -316,7 +320,7 @@ pub fn read_form(alloc: Global, version: u32, tokens: &[Token]) -> Result<Option
 }
 
 #[tactic(auto, unfolding(crate::specs::machine::Reads::form_of))]
-fn form(alloc: Global, version: u32, tokens: &[Token]) -> Result<Option<LineForm>, Memory>
+fn form(alloc: Global, version: Version, tokens: &[Token]) -> Result<Option<LineForm>, Memory>
     ensures { IfOk result (λ o. option_map pure_form o ≡ form_of version (map tok tokens.now)) }
 {
     match tokens {

@@ -1,12 +1,13 @@
 -- What rows spell is kept by its tree, whose line numbers are those of rows in their order.
-use Rattle.std.proofs.Common.{◌≡◌, ◌⊎◌, ℕ, ◌+◌, ◌≤◌, List, [], ◌∷◌, ◌++◌, map, Option, Some, refl, sym, ap, subst, ◌∙◌, append_assoc, inl, inr, arith, Result, Ok, Err, IfOk}
+use Rattle.std.proofs.Common.{◌≡◌, ◌⊎◌, ℕ, ◌+◌, List, [], ◌∷◌, ◌++◌, map, Option, Some, refl, sym, ap, subst, ◌∙◌, append_assoc, inl, inr, Result, Ok, Err, IfOk}
 use Rattle.std.proofs.lemmas.Grind.{flat_map-append}
 use Rattle.std.proofs.lemmas.List.{append-nil, map-append}
 use Rattle.std.specs.List.{flat_map}
+use Rattle.tdf_base.specs.declared.version.Version.TheVariants.{V3}
 use Rattle.tdf_base.specs.declared.resolution.Resolution.TheVariants.{Ps}
 use Rattle.tdf_lang_parser.proofs.LineOrder.{Within, within_none, within_both, within_more, within_nothing, Rises, rises_within, rises_increase, numbers, within_rows, within_front, within_after, KeepRows, rows_split, rows_keep, row_numbers, numbers_of, rows_rise}
 use Rattle.tdf_lang_parser.proofs.TableKeeps.{KeepsMade, tdf_line_keeps, attr_keeps, initial_keeps, de_line_keeps, sense_keeps, member_keeps, net_line_keeps, trace_keeps, stmt_keeps}
-use Rattle.tdf_lang_parser.specs.Head.{SpellsVersion, language_1, language_2, language_3, SpellsHead, head_version, head_resolution}
+use Rattle.tdf_lang_parser.specs.Head.{SpellsHead, head_version, head_resolution}
 use Rattle.tdf_lang_parser.specs.Items.{tdf_line_of, attr_of, initial_of, de_line_of, sense_of, member_of, net_line_of, trace_item, BodyKind}
 use Rattle.tdf_lang_parser.specs.Refused.{SpellsText}
 use Rattle.tdf_lang_parser.specs.declared.err.LangErr.{LangErr}
@@ -218,9 +219,8 @@ globals_hold (globals_more {a = a} {b = b} {gs = gs} {g = g} all one) kept =
     }
 
 -- the dialects that a text may have
-record IsDialect (lang : Dialect) : Type 0 where
-  version : (1 ≤ lang.version) × (lang.version ≤ 3)
-  resolution : (lang.version ≡ 3) ⊎ (lang.resolution ≡ Ps)
+abbrev IsDialect : Dialect → Type 0
+IsDialect lang = (lang.version ≡ V3) ⊎ (lang.resolution ≡ Ps)
 
 model_holds : {lang : Dialect} {rows : List TokenLine} {t : PureTree} → IsDialect lang → SpellsModel lang rows t → KeepRows rows → Holds (IsKept t) (lines_in t) (numbers rows)
 model_holds {lang = lang} is (model {a = a} {b = b} {c = c} t l globals top members end traces) kept =
@@ -230,8 +230,7 @@ model_holds {lang = lang} is (model {a = a} {b = b} {c = c} t l globals top memb
     let r2 = lines_hold lang member_of KeepsMember line_of_member member_keeps members s2.0 in
     let r3 = lines_hold lang trace_item KeepsTrace line_of_trace trace_keeps traces s2.1.1 in record {
       keeps = record {
-        version = is.version;
-        resolution = is.resolution;
+        resolution = is;
         globals = r1.keeps;
         top = (refl, r2.keeps);
         traces = r3.keeps;
@@ -239,14 +238,9 @@ model_holds {lang = lang} is (model {a = a} {b = b} {c = c} t l globals top memb
       order = within_rows a (t ∷ (b ++ l ∷ c)) r1.order (within_both t.number (within_rows b (l ∷ c) r2.order (within_more l.number r3.order)));
     }
 
-version_is : {pieces : List (List ℕ)} {v : ℕ} → SpellsVersion pieces v → (1 ≤ v) × (v ≤ 3)
-version_is language_1 = (omega arith, omega arith)
-version_is language_2 = (omega arith, omega arith)
-version_is language_3 = (omega arith, omega arith)
-
 head_is : {rows : List Row} {lang : Dialect} → SpellsHead rows lang → IsDialect lang
-head_is (head_version h d) = record { version = version_is d; resolution = inr refl }
-head_is (head_resolution h r d e) = record { version = (omega arith, omega arith); resolution = inl refl }
+head_is (head_version h d) = inr refl
+head_is (head_resolution h r d e) = inl refl
 
 -- the rows after those that open a text
 rest_rise : {a : List Row} {lang : Dialect} (m : ℕ) (b : List Row) → SpellsHead a lang → Rises m (row_numbers (a ++ b)) → (n : ℕ) × Rises n (row_numbers b)

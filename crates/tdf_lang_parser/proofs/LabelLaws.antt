@@ -2,6 +2,7 @@
 use Rattle.std.proofs.Common.{◌≡◌, ℕ, Bool, true, false, List, [], ◌∷◌, ◌++◌, Option, Some, None, Result, Ok, Err, refl, subst, map, option_map, unwrap_or, if◌then◌else◌}
 use Rattle.std.proofs.lemmas.Option.{none-some, same_Some}
 use Rattle.std.specs.List.{AllByRecursion}
+use Rattle.tdf_base.specs.declared.version.Version.{Version}
 use Rattle.tdf_base.specs.Names.{is_name}
 use Rattle.tdf_base.specs.Number.{is_number}
 use Rattle.tdf_base.specs.declared.times.TimeErr.{TimeErr}
@@ -96,7 +97,7 @@ named_owns (named_composite name) = tt
 named_owns (named_event name) = tt
 named_owns (named_sensitive name) = tt
 
-line_owns : {v : ℕ} {ts : List Tok} {f : Form} → SpellsLine v ts f → AreOwn ts → OwnLabel f
+line_owns : {v : Version} {ts : List Tok} {f : Form} → SpellsLine v ts f → AreOwn ts → OwnLabel f
 line_owns (word_line word d) h = word_owns d
 line_owns (named_line word name d) h = named_owns d
 line_owns (type_line name d) h = tt

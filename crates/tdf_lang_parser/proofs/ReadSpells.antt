@@ -2,6 +2,7 @@
 use Rattle.std.proofs.Common.{◌≡◌, ℕ, zero, suc, ◌+◌, ◌-◌, ◌<◌, ◌≤◌, Bool, true, false, List, [], ◌∷◌, ◌++◌, length, Option, Some, None, refl, sym, ap, subst, ◌∙◌, append_assoc, arith, nat_lt, nat_le}
 use Rattle.std.proofs.lemmas.List.{append-nil}
 use Rattle.std.specs.Prelude.{codes}
+use Rattle.tdf_base.specs.declared.version.Version.{Version}
 use Rattle.tdf_base.specs.declared.resolution.Resolution.{Resolution}
 use Rattle.tdf_lang_lexer.specs.Token.{TokenLine}
 use Rattle.tdf_lang_lexer.specs.declared.dialect.Dialect.{Dialect}
@@ -600,7 +601,7 @@ traces_spell lang rows t k =
     let s1 : SpellsModel lang all (record t { version = lang.version; resolution = lang.resolution; top = record { line = k.h.number; name = codes "top"; members = t.top.members } })
     = model k.h k.l k.outer.globals k.head k.members k.end k.traces in
     let s2 : SpellsModel lang all (record t { resolution = lang.resolution; top = record { line = k.h.number; name = codes "top"; members = t.top.members } })
-    = subst (λ (n : ℕ). SpellsModel lang all (record t { version = n; resolution = lang.resolution; top = record { line = k.h.number; name = codes "top"; members = t.top.members } })) v s1 in
+    = subst (λ (n : Version). SpellsModel lang all (record t { version = n; resolution = lang.resolution; top = record { line = k.h.number; name = codes "top"; members = t.top.members } })) v s1 in
     let s3 : SpellsModel lang all (record t { top = record { line = k.h.number; name = codes "top"; members = t.top.members } })
     = subst (λ (u : Resolution). SpellsModel lang all (record t { resolution = u; top = record { line = k.h.number; name = codes "top"; members = t.top.members } })) w s2 in
     let s4 : SpellsModel lang all (record t { top = record { line = t.top.line; name = codes "top"; members = t.top.members } })

@@ -1,10 +1,11 @@
 -- Rows read one after another.
 use Rattle.std.proofs.Common.{◌≡◌, ℕ, ◌+◌, ◌<◌, ◌≤◌, Bool, true, false, cond, List, [], ◌∷◌, length, drop, take, ◌-◌, map, get_or, ◌++◌, length-append, Result, Ok, Err, Some, None, refl, sym, ap, ◌∙◌, arith, add-one, drop-cons}
 use Rattle.std.proofs.lemmas.List.{drop_all, take_rest}
+use Rattle.tdf_base.specs.declared.version.Version.{Version}
 use Rattle.tdf_lang_parser.proofs.FaultLaws.{found_fault}
 use Rattle.tdf_lang_parser.proofs.ReadSpells.{reads_spell}
 use Rattle.tdf_base.specs.declared.resolution.Resolution.{Resolution}
-use Rattle.tdf_lang_parser.proofs.HeadLaws.{has_resolution, read_after_resolution}
+use Rattle.tdf_lang_parser.proofs.HeadLaws.{resolution_read, read_after_resolution}
 use Rattle.tdf_lang_parser.specs.Faults.{AtGlobals, HasFault, no_row}
 use Rattle.tdf_lang_parser.specs.machine.Heads.{resolution_line}
 use Rattle.tdf_lang_parser.specs.declared.err.LangErr.{LangErr}
@@ -94,12 +95,12 @@ no_rows [] after h = no_row
 no_rows (x ∷ xs) after h = absurd (omega (arith, h))
 
 -- rows that have a first resolution are not empty
-pub some_row : (v : ℕ) (xs : List PieceLine) (s : Resolution) → resolution_line v (map row xs) ≡ Some s → 1 ≤ length xs
-some_row v [] s h = absurd (let k = has_resolution v [] s h in let q : [] ≡ k.h ∷ k.rest = k.is in cc)
+pub some_row : (v : Version) (xs : List PieceLine) (s : Resolution) → resolution_line v (map row xs) ≡ Some s → 1 ≤ length xs
+some_row v [] s h = absurd (let k = resolution_read v [] s h in let q : [] ≡ k.h ∷ k.rest = k.is in cc)
 some_row v (x ∷ xs) s h = omega arith
 
 -- the rows after a resolution line
 pub read_resolved : (h : Row) (lang : Dialect) (xs : List PieceLine) (a : Result Tree LangErr) (after : ℕ) → SpellsVersion h.pieces lang.version
     → resolution_line lang.version (map row xs) ≡ Some lang.resolution → IsModelRead a lang (token_lines lang (map row (drop 1 xs))) after → IsRead a (h ∷ map row xs) after
-read_resolved h lang [] a after d n e = absurd (let k = has_resolution lang.version [] lang.resolution n in let q : [] ≡ k.h ∷ k.rest = k.is in cc)
+read_resolved h lang [] a after d n e = absurd (let k = resolution_read lang.version [] lang.resolution n in let q : [] ≡ k.h ∷ k.rest = k.is in cc)
 read_resolved h lang (x ∷ xs) a after d n e = read_after_resolution h (row x) (map row xs) lang.version lang.resolution a after d n e

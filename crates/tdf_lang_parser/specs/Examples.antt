@@ -1,6 +1,7 @@
 -- Small texts and the trees that they spell, written out (own).
 use Rattle.std.specs.Prelude.{ℕ, true, false, List, [], ◌∷◌, ◌++◌, Some, None, codes}
 use Rattle.tdf_base.specs.declared.resolution.Resolution.TheVariants.{Ps, Fs}
+use Rattle.tdf_base.specs.declared.version.Version.TheVariants.{V1, V2, V3}
 use Rattle.tdf_fixed.specs.declared.over.Over.TheVariants.{Wrap, Sat}
 use Rattle.tdf_fixed.specs.declared.quant.Quant.TheVariants.{Rnd, RndConv}
 use Rattle.tdf_lang_tree.specs.Pure.{ENumber, EName, EAt, ECast, ESelect, ENot, ENeg, EShift, EBinary, SAssign, SIf, SFor, SNotify, SSetRate, SSetStep, SAccept, SReject, Done, More, PureBody, SConst, SVar, SArray, TPort, TStore, TRate, DPort, DStore, DEvent, PureGlobal, GShape, GTdf, GDe, GNet, PureTree}
@@ -37,7 +38,7 @@ port_of line kind name = record { line = line; kind = kind; name = name; format 
 
 -- the tree of a text with these globals, an empty `top` at a line and no trace
 abbrev pub tree_with : List PureGlobal → ℕ → PureTree
-tree_with globals line = record { version = 1; resolution = Ps; globals = globals; top = record { line = line; name = codes "top"; members = [] }; traces = [] }
+tree_with globals line = record { version = V1; resolution = Ps; globals = globals; top = record { line = line; name = codes "top"; members = [] }; traces = [] }
 
 -- a `tdf` block m at line 2 with these bodies
 abbrev pub tdf_bodies : PureBody → PureBody → PureBody → PureBody → PureGlobal
@@ -74,7 +75,7 @@ net_text = example_text (codes "language 1" ∷ codes "type w fixed 08 4 rnd sat
 
 abbrev pub net_tree : PureTree
 net_tree = record {
-  version = 1;
+  version = V1;
   resolution = Ps;
   globals = GShape (record { line = 2; name = codes "w"; shape = record { signed = true; wl = 8; iwl = 4; quant = Rnd; over = Sat } })
       ∷ GNet (record {
@@ -245,7 +246,7 @@ multiples_tree = record (tree_with (GTdf (record {
   };
   change = no_body;
   reinitialize = no_body;
-}) ∷ []) 12) { version = 2 }
+}) ∷ []) 12) { version = V2 }
 
 -- version 3 at 1 fs
 abbrev pub femtoseconds_text : List ℕ
@@ -263,7 +264,7 @@ femtoseconds_tree = record (tree_with (GTdf (record {
   processing = no_body;
   change = no_body;
   reinitialize = no_body;
-}) ∷ []) 8) { version = 3; resolution = Fs }
+}) ∷ []) 8) { version = V3; resolution = Fs }
 
 -- version 3 without a resolution line has the unit fs all the same: 1000 of them are 1 ps
 abbrev pub no_resolution_text : List ℕ
@@ -281,7 +282,7 @@ no_resolution_tree = record (tree_with (GTdf (record {
   processing = no_body;
   change = no_body;
   reinitialize = no_body;
-}) ∷ []) 7) { version = 3 }
+}) ∷ []) 7) { version = V3 }
 
 -- a text at fault on line 1: numbers in the grammar are spellings
 abbrev pub version_text : List ℕ

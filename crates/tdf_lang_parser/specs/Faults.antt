@@ -3,6 +3,8 @@ use Rattle.std.specs.Prelude.{◌≡◌, ◌≢◌, ℕ, zero, suc, Bool, true, 
 use Rattle.tdf_base.specs.Limits.{deepest_nesting}
 use Rattle.tdf_base.specs.declared.resolution.Resolution.{Resolution}
 use Rattle.tdf_base.specs.declared.resolution.Resolution.TheVariants.{Ps}
+use Rattle.tdf_base.specs.declared.version.Version.{Version}
+use Rattle.tdf_base.specs.declared.version.Version.TheVariants.{V3}
 use Rattle.tdf_lang_parser.specs.Head.{SpellsVersion, SpellsResolution}
 use Rattle.tdf_lang_parser.specs.Items.{BodyKind, Plain, OfChange, OfProcess}
 use Rattle.tdf_lang_lines.specs.FitsLine.{FitsLine}
@@ -206,21 +208,21 @@ Faults lang w (r ∷ rs) after n =
 
 -- the first row is no `language` line
 abbrev pub HasNoVersion : Row → Type 0
-HasNoVersion h = (version : ℕ) → SpellsVersion h.pieces version → ⊥
+HasNoVersion h = (version : Version) → SpellsVersion h.pieces version → ⊥
 
 -- the rows don't go on with a resolution line that the version allows
-abbrev pub HasNoResolution : ℕ → List Row → Type 0
+abbrev pub HasNoResolution : Version → List Row → Type 0
 HasNoResolution version [] = Unit {0}
-HasNoResolution version (r ∷ rs) = (resolution : Resolution) → version ≡ 3 → SpellsResolution r.pieces resolution → ⊥
+HasNoResolution version (r ∷ rs) = (resolution : Resolution) → version ≡ V3 → SpellsResolution r.pieces resolution → ⊥
 
 -- the first syntax fault of the rows of a text: that of its first row, or, where the first row says a version, that of the rows after those
 -- that open the text, in its dialect
 pub data HasFault : List Row → (after n : ℕ) → Type 0 where
   no_row : {after : ℕ} → HasFault [] after after
   no_version : (h : Row) {rs : List Row} {after : ℕ} → HasNoVersion h → HasFault (h ∷ rs) after h.number
-  after_version : (h : Row) {rs : List Row} {after n version : ℕ} → SpellsVersion h.pieces version → HasNoResolution version rs
+  after_version : (h : Row) {rs : List Row} {after n : ℕ} {version : Version} → SpellsVersion h.pieces version → HasNoResolution version rs
       → Faults (record { version = version; resolution = Ps }) AtGlobals (token_lines (record { version = version; resolution = Ps }) rs) after n
       → HasFault (h ∷ rs) after n
-  after_resolution : (h r : Row) {rs : List Row} {after n : ℕ} {resolution : Resolution} → SpellsVersion h.pieces 3 → SpellsResolution r.pieces resolution
-      → Faults (record { version = 3; resolution = resolution }) AtGlobals (token_lines (record { version = 3; resolution = resolution }) rs) after n
+  after_resolution : (h r : Row) {rs : List Row} {after n : ℕ} {resolution : Resolution} → SpellsVersion h.pieces V3 → SpellsResolution r.pieces resolution
+      → Faults (record { version = V3; resolution = resolution }) AtGlobals (token_lines (record { version = V3; resolution = resolution }) rs) after n
       → HasFault (h ∷ r ∷ rs) after n

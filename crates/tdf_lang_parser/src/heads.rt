@@ -4,20 +4,20 @@ ghost use Rattle.std.specs.Prelude.{map, ◌≡◌};
 ghost use Rattle.tdf_lang_parser.specs.machine.Heads.{read_resolution, read_version, resolution_line, resolution_of, version_of};
 ghost use Rattle.tdf_lang_lexer.specs.Rows.{row};
 
-use tdf_base::Resolution;
+use tdf_base::{Resolution, Version};
 use tdf_lang_lexer::PieceLine;
 
-fn version(piece: &[u8]) -> Option<u32>
+fn version(piece: &[u8]) -> Option<Version>
     ensures { result ≡ version_of piece.now }
 {
     if piece == b"1".as_slice() {
-        return Some(1);
+        return Some(Version::V1);
     }
     if piece == b"2".as_slice() {
-        return Some(2);
+        return Some(Version::V2);
     }
     if piece == b"3".as_slice() {
-        return Some(3);
+        return Some(Version::V3);
     }
     None
 }
@@ -35,7 +35,7 @@ fn resolution(piece: &[u8]) -> Option<Resolution>
 }
 
 /// The version that a row says, if it is a `language` line.
-pub(crate) fn read_version(pieces: &[&[u8]]) -> Option<u32>
+pub(crate) fn read_version(pieces: &[&[u8]]) -> Option<Version>
     ensures { result ≡ read_version (map (λ p. p.now) pieces.now) }
 {
     match pieces {
@@ -67,10 +67,10 @@ fn read_resolution(pieces: &[&[u8]]) -> Option<Resolution>
 }
 
 /// The resolution that the first of these rows says, where it is a `resolution` line and the version allows one.
-pub(crate) fn resolution_line(version: u32, rows: &[PieceLine]) -> Option<Resolution>
+pub(crate) fn resolution_line(version: Version, rows: &[PieceLine]) -> Option<Resolution>
     ensures { result ≡ resolution_line version (map row rows.now) }
 {
-    if version != 3 {
+    if !version.has_resolution() {
         return None;
     }
     match rows {

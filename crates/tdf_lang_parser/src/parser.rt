@@ -21,7 +21,7 @@ use crate::heads::{read_version, resolution_line};
 use crate::places::{Outer, Place};
 use crate::turns::goes;
 use std::alloc::Global;
-use tdf_base::{Memory, Resolution};
+use tdf_base::{Memory, Resolution, Version};
 use tdf_lang_lexer::{Dialect, PieceLine, Token, line_count, piece_lines, push_tokens, text_fault};
 use tdf_lang_lines::read_form;
 use tdf_lang_tree::Tree;
@@ -151,7 +151,7 @@ fn after_resolution(
 /// The rows after the `language` line: a resolution line, where version 3 has one, and the model.
 fn after_version(
     alloc: Global,
-    version: u32,
+    version: Version,
     rows: &[PieceLine],
     after: u32,
 ) -> Result<Tree, LangErr>

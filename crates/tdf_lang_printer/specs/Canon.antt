@@ -1,8 +1,10 @@
 -- The canonical text of a tree: its lines in order. An empty part of a `tdf` block and an empty
 -- `else` are left out; version 3 alone has a line with the resolution, and has it always. (own)
 use Rattle.std.specs.Fmt.{decimal}
-use Rattle.std.specs.Prelude.{ℕ, Bool, true, false, nat_eq, if◌then◌else◌, List, [], ◌∷◌, ◌++◌, map, codes}
+use Rattle.std.specs.Prelude.{ℕ, Bool, true, false, if◌then◌else◌, List, [], ◌∷◌, ◌++◌, map, codes}
+use Rattle.tdf_base.specs.Version.{has_resolution, number_of_version}
 use Rattle.tdf_base.specs.declared.resolution.Resolution.{Resolution}
+use Rattle.tdf_base.specs.declared.version.Version.{Version}
 use Rattle.std.specs.List.{flat_map}
 use Rattle.tdf_lang_tree.specs.Forms.{Form, FType, FTdf, FDe, FComposite, FTop, FEnd, FPort, FConst, FVar, FArray, FRateVar, FSetAttributes, FInitialize, FProcessing, FChangeAttributes, FReinitialize, FStep, FRate, FDelay, FDoes, FAccept, FReject, FInitial, FEvent, FProcess, FSensitive, FDontInitialize, FNotify, FSignal, FDeSignal, FInstance, FBind, FTrace, FAssign, FIf, FElse, FFor, FSetRate}
 use Rattle.tdf_lang_tree.specs.Pure.{PureStmt, SAssign, SIf, SFor, SNotify, SSetRate, SSetStep, SAccept, SReject, PureStmts, Done, More, PureStore, SConst, SVar, SArray, PureTdfLine, TPort, TStore, TRate, PureTdf, PureDeLine, DPort, DStore, DEvent, PureProcess, PureDe, PureComposite, PureGlobal, GShape, GTdf, GDe, GNet, PureTrace, PureTree}
@@ -131,17 +133,17 @@ abbrev pub tree_lines : PureTree → List Form
 tree_lines tree = flat_map global_lines tree.globals
     ++ (FTop ∷ (map member_line tree.top.members ++ (FEnd ∷ map form_of_trace tree.traces)))
 
-unfoldable pub language_text : ℕ → List ℕ
-language_text version = codes "language " ++ (decimal version ++ 10 ∷ [])
+unfoldable pub language_text : Version → List ℕ
+language_text version = codes "language " ++ (decimal (number_of_version version) ++ 10 ∷ [])
 
 unfoldable pub unit_line : Resolution → List ℕ
 unit_line unit = codes "resolution 1" ++ (unit_text unit ++ 10 ∷ [])
 
-unfoldable pub resolution_text : ℕ → Resolution → List ℕ
-resolution_text version unit = if nat_eq version 3 then unit_line unit else []
+unfoldable pub resolution_text : Version → Resolution → List ℕ
+resolution_text version unit = if has_resolution version then unit_line unit else []
 
 -- the lines that say how the others are read
-unfoldable pub head_text : ℕ → Resolution → List ℕ
+unfoldable pub head_text : Version → Resolution → List ℕ
 head_text version unit = language_text version ++ resolution_text version unit
 
 -- the canonical text

@@ -12,7 +12,7 @@ ghost use Rattle.tdf_lang_printer.specs.machine.Texts.{global_text};
 use crate::blocks::{push_composite, push_de, push_tdf};
 use crate::lines::{push_end, push_members, push_pair, push_traces, push_word};
 use crate::words::{push_head, push_spaced_shape, unit_text};
-use tdf_base::{Memory, Resolution, push_number};
+use tdf_base::{Memory, Resolution, Version, push_number};
 use tdf_lang_tree::{Global1, Tree, TypeDecl};
 
 fn push_type(out: &mut Vec<u8>, decl: &TypeDecl) -> Result<(), Memory>
@@ -45,11 +45,11 @@ fn push_globals(out: &mut Vec<u8>, unit: Resolution, list: &[Global1]) -> Result
 }
 
 #[tactic(auto, unfolding(crate::specs::Canon::language_text))]
-fn push_language(out: &mut Vec<u8>, version: u32) -> Result<(), Memory>
+fn push_language(out: &mut Vec<u8>, version: Version) -> Result<(), Memory>
     ensures { OnOk result (out.new.items ≡ out.old.items ++ language_text version) }
 {
     out.extend_from_slice(b"language ")?;
-    push_number(out, u64::from(version))?;
+    push_number(out, version.number())?;
     push_end(out)
 }
 
@@ -63,10 +63,10 @@ fn push_unit(out: &mut Vec<u8>, unit: Resolution) -> Result<(), Memory>
 
 /// The line with the resolution, which version 3 alone has.
 #[tactic(auto, unfolding(crate::specs::Canon::resolution_text))]
-fn push_resolution(out: &mut Vec<u8>, version: u32, unit: Resolution) -> Result<(), Memory>
+fn push_resolution(out: &mut Vec<u8>, version: Version, unit: Resolution) -> Result<(), Memory>
     ensures { OnOk result (out.new.items ≡ out.old.items ++ resolution_text version unit) }
 {
-    if version != 3 {
+    if !version.has_resolution() {
         return Ok(());
     }
     push_unit(out, unit)
@@ -74,7 +74,7 @@ fn push_resolution(out: &mut Vec<u8>, version: u32, unit: Resolution) -> Result<
 
 /// The lines that say how the others are read.
 #[tactic(auto, unfolding(crate::specs::Canon::head_text))]
-fn push_opening(out: &mut Vec<u8>, version: u32, unit: Resolution) -> Result<(), Memory>
+fn push_opening(out: &mut Vec<u8>, version: Version, unit: Resolution) -> Result<(), Memory>
     ensures { OnOk result (out.new.items ≡ out.old.items ++ head_text version unit) }
 {
     push_language(out, version)?;

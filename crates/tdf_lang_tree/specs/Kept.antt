@@ -2,11 +2,12 @@
 -- 10^18, `if` and `for` are nested at most 8 deep, and only version 3 has another resolution than 1 ps.
 --
 -- The crates that read a tree require this and nothing of the text.
-use Rattle.std.specs.Prelude.{◌≡◌, ◌≤◌, ◌<◌, ℕ, zero, suc, true, List, [], ◌∷◌, Option, Some, None, ◌⊎◌}
+use Rattle.std.specs.Prelude.{◌≡◌, ◌<◌, ℕ, zero, suc, true, List, [], ◌∷◌, Option, Some, None, ◌⊎◌}
 use Rattle.tdf_base.specs.Limits.{deepest_nesting, time_end}
 use Rattle.tdf_base.specs.Names.{is_name}
 use Rattle.tdf_base.specs.Number.{is_number}
 use Rattle.tdf_base.specs.declared.resolution.Resolution.TheVariants.{Ps}
+use Rattle.tdf_base.specs.declared.version.Version.TheVariants.{V3}
 use Rattle.tdf_lang_tree.specs.Pure.{PureExpr, ENumber, EName, EAt, ECast, ESelect, ENot, ENeg, EShift, EBinary, PureStmt, SAssign, SIf, SFor, SNotify, SSetRate, SSetStep, SAccept, SReject, PureStmts, Done, More, PureBody, PureStore, SConst, SVar, SArray, PureTdfLine, TPort, TStore, TRate, PureTdf, PureDeLine, DPort, DStore, DEvent, PureProcess, PureDe, PureComposite, PureGlobal, GShape, GTdf, GDe, GNet, PureTrace, PureTree}
 use Rattle.tdf_lang_tree.specs.declared.blocks.Attr.{Attr}
 use Rattle.tdf_lang_tree.specs.declared.blocks.Attr.TheVariants as attr
@@ -179,8 +180,7 @@ abbrev pub KeepsTrace : PureTrace → Type 0
 KeepsTrace trace = Each IsName trace.path × IsName trace.label
 
 pub record IsKept (tree : PureTree) : Type 0 where
-  pub version : (1 ≤ tree.version) × (tree.version ≤ 3)
-  pub resolution : (tree.version ≡ 3) ⊎ (tree.resolution ≡ Ps)
+  pub resolution : (tree.version ≡ V3) ⊎ (tree.resolution ≡ Ps)
   pub globals : Each KeepsGlobal tree.globals
   pub top : KeepsComposite tree.top
   pub traces : Each KeepsTrace tree.traces

@@ -2,6 +2,7 @@
 -- A type of `src/` that holds neither a box nor a vector stands in it as it is; names and numbers are seen as their bytes.
 use Rattle.std.specs.Prelude.{ℕ, Bool, List, Option}
 use Rattle.tdf_base.specs.declared.resolution.Resolution.{Resolution}
+use Rattle.tdf_base.specs.declared.version.Version.{Version}
 use Rattle.tdf_lang_tree.specs.declared.blocks.Attr.{Attr}
 use Rattle.tdf_lang_tree.specs.declared.blocks.Initial.{Initial}
 use Rattle.tdf_lang_tree.specs.declared.blocks.Member.{Member}
@@ -99,7 +100,7 @@ pub record PureTrace : Type 0 where
   pub label : List ℕ
 
 pub record PureTree : Type 0 where
-  pub version : ℕ
+  pub version : Version
   pub resolution : Resolution
   pub globals : List PureGlobal
   pub top : PureComposite

@@ -2,7 +2,7 @@
 
 use crate::blocks::{Composite, DeDecl, TdfDecl};
 use crate::shapes::TypeDecl;
-use tdf_base::{Name, Resolution};
+use tdf_base::{Name, Resolution, Version};
 
 /// A declaration before `top`.
 #[derive(Drop)]
@@ -24,8 +24,8 @@ pub struct Trace1 {
 /// The tree of a model text. Times in it are counts of its resolution.
 #[derive(Drop)]
 pub struct Tree {
-    /// The version of the language: 1, 2 or 3.
-    pub version: u32,
+    /// The version of the language.
+    pub version: Version,
     /// The unit of its times: 1 ps, or 1 fs, which version 3 alone can have.
     pub resolution: Resolution,
     pub globals: Vec<Global1>,

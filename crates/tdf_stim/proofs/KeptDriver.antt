@@ -346,7 +346,6 @@ binds_closed name j (label ∷ labels) = (tt, binds_closed name (j + 1) labels)
 pub with_driver_kept : (tree : PureTree) (columns : List Column) (times : List ℕ) → IsKept tree → IsName (driver_name tree) → AllByRecursion (ColumnFits (length times)) columns
     → AllByRecursion IsCount times → length times < 10 ^ 18 → length columns ≤ 10 ^ 18 → IsKept (with_driver tree columns times)
 with_driver_kept tree columns times kept is fits counted few small = record {
-  version = kept.version;
   resolution = kept.resolution;
   globals = each_both KeepsGlobal tree.globals (GDe (driver_block (driver_name tree) columns times) ∷ []) kept.globals (driver_kept (driver_name tree) columns times is fits counted few small, tt);
   top = (

@@ -120,7 +120,6 @@ global_keeps at (GNet block) k = composite_keeps at block k
 pub numbered_kept : (tree : PureTree) → IsKept tree → IsKept (numbered tree)
 unfolding numbered
 numbered_kept tree k = record {
-  version = k.version;
   resolution = k.resolution;
   globals = each_part KeepsGlobal global_lines global_at global_keeps _ tree.globals k.globals;
   top = composite_keeps _ tree.top k.top;

@@ -2,7 +2,9 @@
 -- stands there, and nothing else of the tree changes.
 -- Source: own.
 use Rattle.std.specs.List.{flat_map}
-use Rattle.std.specs.Prelude.{ℕ, ◌+◌, nat_eq, if◌then◌else◌, List, [], ◌∷◌, length}
+use Rattle.std.specs.Prelude.{ℕ, ◌+◌, if◌then◌else◌, List, [], ◌∷◌, length}
+use Rattle.tdf_base.specs.Version.{has_resolution}
+use Rattle.tdf_base.specs.declared.version.Version.{Version}
 use Rattle.tdf_lang_printer.specs.Canon.{stmt_lines, stmts_lines, attributes_lines, initialize_lines, part_lines, dont_lines, process_lines, global_lines}
 use Rattle.tdf_lang_tree.specs.Forms.{Form, FProcessing, FChangeAttributes}
 use Rattle.tdf_lang_tree.specs.Pure.{PureStmt, SAssign, SIf, SFor, SNotify, SSetRate, SSetStep, SAccept, SReject, PureStmts, Done, More, PureBody, PureStore, SConst, SVar, SArray, PureTdfLine, TPort, TStore, TRate, PureTdf, PureDeLine, DPort, DStore, DEvent, PureProcess, PureDe, PureComposite, PureGlobal, GShape, GTdf, GDe, GNet, PureTrace, PureTree}
@@ -148,8 +150,8 @@ abbrev pub trace_at : (at : ℕ) → PureTrace → PureTrace
 trace_at at trace = record trace { line = at }
 
 -- the first line after those that say how the others are read: version 3 has two of them
-abbrev pub line_after_head : (version : ℕ) → ℕ
-line_after_head version = if nat_eq version 3 then 3 else 2
+abbrev pub line_after_head : Version → ℕ
+line_after_head version = if has_resolution version then 3 else 2
 
 -- the tree with the numbers of its canonical text
 unfoldable pub numbered : PureTree → PureTree

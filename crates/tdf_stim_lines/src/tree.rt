@@ -7,14 +7,14 @@ ghost use Rattle.tdf_stim_lines.specs.machine.Walk.{last_number};
 
 use crate::blocks::{number_composite, number_globals};
 use crate::lines::number_traces;
-use tdf_base::Memory;
+use tdf_base::{Memory, Version};
 use tdf_lang_tree::Tree;
 
 /// The first line after `language`, and after `resolution`, which version 3 has.
-fn line_after_head(version: u32) -> u32
+fn line_after_head(version: Version) -> u32
     ensures { result ≡ line_after_head version }
 {
-    if version == 3 { 3 } else { 2 }
+    if version.has_resolution() { 3 } else { 2 }
 }
 
 /// Numbers all parts, and says the line after the last.

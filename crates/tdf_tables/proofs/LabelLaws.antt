@@ -4,6 +4,7 @@ use Rattle.std.proofs.lemmas.Bool.{and_parts, and_from}
 use Rattle.std.proofs.lemmas.Bool.Decides.{nat_tests}
 use Rattle.std.specs.List.{AllByRecursion, list_all}
 use Rattle.std.specs.Prelude.{is_none}
+use Rattle.tdf_base.specs.declared.version.Version.TheVariants.{V1}
 use Rattle.tdf_base.specs.Names.{is_letter, is_name, is_part}
 use Rattle.tdf_base.specs.Number.{is_number}
 use Rattle.tdf_base.specs.declared.resolution.Resolution.TheVariants.{Ps}
@@ -61,9 +62,9 @@ token_by word None None false false (Ok t) e f = refl
 token_by word None None false false (Err why) e f = refl
 
 -- a word is one name as a token exactly where it is a label
-pub label_token : (word : List ℕ) → are_one_name (token_of (record { version = 1; resolution = Ps }) word ∷ []) ≡ is_label word
+pub label_token : (word : List ℕ) → are_one_name (token_of (record { version = V1; resolution = Ps }) word ∷ []) ≡ is_label word
 unfolding token_of
-label_token word = token_by word (key_of word) (symbol_of word) (is_name word) (is_number word) (time_in (record { version = 1; resolution = Ps }) word) refl refl
+label_token word = token_by word (key_of word) (symbol_of word) (is_name word) (is_number word) (time_in (record { version = V1; resolution = Ps }) word) refl refl
 
 -- ---- labels
 

@@ -8,7 +8,7 @@ ghost use Rattle.tdf_tables.specs.machine.Scan.{are_one_name, is_label};
 
 use crate::table::cut_word;
 use std::alloc::Global;
-use tdf_base::{Memory, Resolution};
+use tdf_base::{Memory, Resolution, Version};
 use tdf_lang_lexer::{Dialect, Token, push_tokens};
 
 fn are_one_name(tokens: &[Token]) -> bool
@@ -26,7 +26,7 @@ fn is_label<'t>(word: &'t [u8], tokens: &mut Vec<Token<'t>>) -> Result<bool, Mem
     ensures { IfOk result (λ b. b ≡ is_label word.entry.now) }
 {
     let names = Dialect {
-        version: 1,
+        version: Version::V1,
         resolution: Resolution::Ps,
     };
     tokens.clear();

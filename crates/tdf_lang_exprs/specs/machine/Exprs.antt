@@ -1,6 +1,7 @@
 -- How an expression is read: token by token, with a stack of what waits for its right operand (own).
 -- Private functions mirror it; `proofs/` show that it reads exactly what `SpellsExpr` says.
 use Rattle.std.specs.Prelude.{ℕ, Bool, true, false, cond, nat_le, nat_lt, List, [], ◌∷◌, ◌++◌, Option, Some, None}
+use Rattle.tdf_base.specs.declared.version.Version.{Version}
 use Rattle.tdf_base.specs.Digits.{int_of}
 use Rattle.tdf_lang_lexer.specs.Token.{Tok, TName, TKey, TNumber, TSymbol}
 use Rattle.tdf_lang_lexer.specs.declared.key.Key.TheVariants as key
@@ -145,7 +146,7 @@ abbrev pub indexed : Option Index → List Wait → List ℕ → Reading
 indexed (Some i) s name = Have s (EAt name i)
 indexed None s name = Bad
 
-abbrev pub within_index : ℕ → Tok → List Wait → List ℕ → List Tok → Reading
+abbrev pub within_index : Version → Tok → List Wait → List ℕ → List Tok → Reading
 within_index v (TSymbol symbol.CloseSquare) s name a = indexed (index_of v a) s name
 within_index v t s name a = Indexing s name (a ++ t ∷ [])
 
@@ -162,7 +163,7 @@ abbrev pub after_select : Tok → List Wait → Reading
 after_select (TSymbol symbol.Open) s = Want (Within First ∷ s)
 after_select _ s = Bad
 
-abbrev pub step : ℕ → Reading → Tok → Reading
+abbrev pub step : Version → Reading → Tok → Reading
 step v (Want s) t = start t s
 step v (Have s e) t = join (after t) s e
 step v (Named s name) t = after_name t s name
@@ -181,9 +182,9 @@ finish (Have s e) = closed (reduce 0 s e).stack (reduce 0 s e).tree
 finish (Named s name) = closed (reduce 0 s (EName name)).stack (reduce 0 s (EName name)).tree
 finish _ = None
 
-abbrev pub run : ℕ → Reading → List Tok → Option PureExpr
+abbrev pub run : Version → Reading → List Tok → Option PureExpr
 run v r [] = finish r
 run v r (t ∷ ts) = run v (step v r t) ts
 
-unfoldable pub expr_of : ℕ → List Tok → Option PureExpr
+unfoldable pub expr_of : Version → List Tok → Option PureExpr
 expr_of v ts = run v (Want []) ts

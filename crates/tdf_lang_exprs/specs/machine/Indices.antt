@@ -1,6 +1,8 @@
 -- How an index is read in a version of the language (own). Private functions mirror it; `proofs/` show that it reads
 -- exactly what `SpellsIndex` says.
-use Rattle.std.specs.Prelude.{ℕ, Bool, true, false, ◌&&◌, nat_le, List, [], ◌∷◌, Option, Some, None}
+use Rattle.std.specs.Prelude.{ℕ, Bool, true, false, ◌&&◌, List, [], ◌∷◌, Option, Some, None}
+use Rattle.tdf_base.specs.Version.{has_multiples}
+use Rattle.tdf_base.specs.declared.version.Version.{Version}
 use Rattle.tdf_base.specs.Digits.{int_of}
 use Rattle.tdf_lang_lexer.specs.Token.{Tok, TName, TNumber, TSymbol}
 use Rattle.tdf_lang_lexer.specs.declared.key.Symbol.{Symbol}
@@ -40,9 +42,9 @@ named_index symbol.Plus name text = plus_index name (int_of text)
 named_index symbol.Minus name text = minus_index name (int_of text)
 named_index _ name text = None
 
-abbrev pub number_index : ℕ → Symbol → List ℕ → List ℕ → Option Index
+abbrev pub number_index : Version → Symbol → List ℕ → List ℕ → Option Index
 number_index v symbol.Minus text name = from_index name (int_of text)
-number_index v symbol.Times text name = times_index (nat_le 2 v) name (int_of text)
+number_index v symbol.Times text name = times_index (has_multiples v) name (int_of text)
 number_index v _ text name = None
 
 -- `*`, and then `+`
@@ -51,13 +53,13 @@ is_sum symbol.Times symbol.Plus = true
 is_sum _ _ = false
 
 -- what follows a number and a symbol
-abbrev pub counted_index : ℕ → List ℕ → Symbol → List Tok → Option Index
+abbrev pub counted_index : Version → List ℕ → Symbol → List Tok → Option Index
 counted_index v text c (TName name ∷ []) = number_index v c text name
 counted_index v text c (TName name ∷ (TSymbol d ∷ (TNumber last ∷ []))) =
-    times_plus_index (nat_le 2 v && is_sum c d) name (int_of text) (int_of last)
+    times_plus_index (has_multiples v && is_sum c d) name (int_of text) (int_of last)
 counted_index v text c _ = None
 
-abbrev pub index_of : ℕ → List Tok → Option Index
+abbrev pub index_of : Version → List Tok → Option Index
 index_of v (TNumber text ∷ []) = int_index (int_of text)
 index_of v (TName name ∷ []) = Some (index.Var name)
 index_of v (TName name ∷ (TSymbol c ∷ (TNumber text ∷ []))) = named_index c name text

@@ -1,6 +1,8 @@
 -- How a line is read (own): the form that its tokens are, token by token, in version v. Private functions' clauses cite it; `proofs/`
 -- show that it reads exactly what `SpellsLine` says.
-use Rattle.std.specs.Prelude.{ℕ, ◌-◌, nat_le, Bool, true, false, cond, List, [], ◌∷◌, length, take, drop, Option, Some, None, option_map}
+use Rattle.std.specs.Prelude.{ℕ, ◌-◌, Bool, true, false, cond, List, [], ◌∷◌, length, take, drop, Option, Some, None, option_map}
+use Rattle.tdf_base.specs.Version.{has_multiples}
+use Rattle.tdf_base.specs.declared.version.Version.{Version}
 use Rattle.tdf_lang_lexer.specs.Token.{Tok, TName, TKey, TNumber, TTime, TSymbol}
 use Rattle.tdf_lang_lexer.specs.declared.key.Key.{Key}
 use Rattle.tdf_lang_lexer.specs.declared.key.Key.TheVariants as key
@@ -37,17 +39,17 @@ nothing_after f [] = Some f
 nothing_after f _ = None
 
 -- after `NUMBER *`
-abbrev pub name_limit : ℕ → Option ℕ → List Tok → Option Limit
-name_limit v first (TName name ∷ []) = cond (nat_le 2 v) (option_map (λ n. limit.Times n name) first) None
+abbrev pub name_limit : Version → Option ℕ → List Tok → Option Limit
+name_limit v first (TName name ∷ []) = cond (has_multiples v) (option_map (λ n. limit.Times n name) first) None
 name_limit v first _ = None
 
 -- after `NUMBER SYMBOL`
-abbrev pub times_limit : ℕ → Symbol → Option ℕ → List Tok → Option Limit
+abbrev pub times_limit : Version → Symbol → Option ℕ → List Tok → Option Limit
 times_limit v symbol.Times first ts = name_limit v first ts
 times_limit v _ first ts = None
 
 -- after `NUMBER`
-abbrev pub number_limit : ℕ → Option ℕ → List Tok → Option Limit
+abbrev pub number_limit : Version → Option ℕ → List Tok → Option Limit
 number_limit v first [] = option_map limit.Int first
 number_limit v first (TSymbol c ∷ ts) = times_limit v c first ts
 number_limit v first _ = None
@@ -57,7 +59,7 @@ abbrev pub var_limit : List ℕ → List Tok → Option Limit
 var_limit name [] = Some (limit.Var name)
 var_limit name _ = None
 
-abbrev pub limit_of : ℕ → List Tok → Option Limit
+abbrev pub limit_of : Version → List Tok → Option Limit
 limit_of v (TNumber text ∷ ts) = number_limit v (int_of text) ts
 limit_of v (TName name ∷ ts) = var_limit name ts
 limit_of v _ = None
@@ -107,22 +109,22 @@ third_rate name first second (TNumber text ∷ []) = three_of (FRateVar name) fi
 third_rate name first second _ = None
 
 -- after `rate NAME NUMBER SYMBOL`
-unfoldable pub times_rate : ℕ → Symbol → List ℕ → Option ℕ → List Tok → Option Form
+unfoldable pub times_rate : Version → Symbol → List ℕ → Option ℕ → List Tok → Option Form
 times_rate v c name first ts = option_map (FRate name) (times_limit v c first ts)
 
 -- after `rate NAME NUMBER`
-abbrev pub second_rate : ℕ → List ℕ → Option ℕ → List Tok → Option Form
+abbrev pub second_rate : Version → List ℕ → Option ℕ → List Tok → Option Form
 second_rate v name first [] = option_map (λ n. FRate name (limit.Int n)) first
 second_rate v name first (TNumber text ∷ ts) = third_rate name first (int_of text) ts
 second_rate v name first (TSymbol c ∷ ts) = times_rate v c name first ts
 second_rate v name first _ = None
 
 -- after `rate NAME SYMBOL`
-abbrev pub rate_symbol : ℕ → Symbol → List ℕ → List Tok → Option Form
+abbrev pub rate_symbol : Version → Symbol → List ℕ → List Tok → Option Form
 rate_symbol v symbol.Becomes name ts = option_map (FSetRate name) (expr_of v ts)
 rate_symbol v _ name ts = None
 
-abbrev pub rate_form : ℕ → List ℕ → List Tok → Option Form
+abbrev pub rate_form : Version → List ℕ → List Tok → Option Form
 rate_form v name (TNumber text ∷ ts) = second_rate v name (int_of text) ts
 rate_form v name (TName rate ∷ ts) = nothing_after (FRate name (limit.Var rate)) ts
 rate_form v name (TSymbol c ∷ ts) = rate_symbol v c name ts
@@ -167,11 +169,11 @@ bind_form instance (TSymbol symbol.Point ∷ ts) = bind_port instance ts
 bind_form instance _ = None
 
 -- after `for NAME NUMBER`
-abbrev pub for_limit : ℕ → List ℕ → Option ℕ → List Tok → Option Form
+abbrev pub for_limit : Version → List ℕ → Option ℕ → List Tok → Option Form
 for_limit v name None ts = None
 for_limit v name (Some n) ts = option_map (FFor name n) (limit_of v ts)
 
-abbrev pub for_form : ℕ → List ℕ → List Tok → Option Form
+abbrev pub for_form : Version → List ℕ → List Tok → Option Form
 for_form v name (TNumber text ∷ ts) = for_limit v name (int_of text) ts
 for_form v name _ = None
 
@@ -182,7 +184,7 @@ abbrev pub cut_rest : List Tok → List Tok
 cut_rest ts = drop (format_len ts) ts
 
 -- after a reserved word and a name
-abbrev pub key_name_form : ℕ → Key → List ℕ → List Tok → Option Form
+abbrev pub key_name_form : Version → Key → List ℕ → List Tok → Option Form
 key_name_form v key.Tdf name ts = nothing_after (FTdf name) ts
 key_name_form v key.De name ts = nothing_after (FDe name) ts
 key_name_form v key.Composite name ts = nothing_after (FComposite name) ts
@@ -208,12 +210,12 @@ key_name_form v key.For name ts = for_form v name ts
 key_name_form v _ name ts = None
 
 -- after a reserved word
-abbrev pub rest_form : ℕ → Key → List Tok → Option Form
+abbrev pub rest_form : Version → Key → List Tok → Option Form
 rest_form v word [] = word_form word
 rest_form v word (TName name ∷ ts) = key_name_form v word name ts
 rest_form v word _ = None
 
-abbrev pub key_form : ℕ → Key → List Tok → Option Form
+abbrev pub key_form : Version → Key → List Tok → Option Form
 key_form v key.If ts = option_map FIf (expr_of v ts)
 key_form v key.Trace ts = trace_form ts
 key_form v key.Timestep ts = step_form ts
@@ -232,26 +234,26 @@ abbrev pub index_len : List Tok → ℕ
 index_len (t ∷ (u ∷ ts)) = cond (is_close u) 1 (index_len_more ts)
 index_len _ = 0
 
-abbrev pub item_value : ℕ → List ℕ → Option Index → List Tok → Option Form
+abbrev pub item_value : Version → List ℕ → Option Index → List Tok → Option Form
 item_value v name i (TSymbol symbol.Becomes ∷ ts) = both_of (λ j e. FAssign name (Some j) e) i (expr_of v ts)
 item_value v name i _ = None
 
-abbrev pub item_close : ℕ → List ℕ → Option Index → List Tok → Option Form
+abbrev pub item_close : Version → List ℕ → Option Index → List Tok → Option Form
 item_close v name i (TSymbol symbol.CloseSquare ∷ ts) = item_value v name i ts
 item_close v name i _ = None
 
 -- after a name
-abbrev pub name_symbol : ℕ → Symbol → List ℕ → List Tok → Option Form
+abbrev pub name_symbol : Version → Symbol → List ℕ → List Tok → Option Form
 name_symbol v symbol.Becomes name ts = option_map (FAssign name None) (expr_of v ts)
 name_symbol v symbol.OpenSquare name ts = item_close v name (index_of v (take (index_len ts) ts)) (drop (index_len ts) ts)
 name_symbol v _ name ts = None
 
-abbrev pub name_form : ℕ → List ℕ → List Tok → Option Form
+abbrev pub name_form : Version → List ℕ → List Tok → Option Form
 name_form v name (TSymbol c ∷ ts) = name_symbol v c name ts
 name_form v name _ = None
 
 -- the form of a line
-unfoldable pub form_of : ℕ → List Tok → Option Form
+unfoldable pub form_of : Version → List Tok → Option Form
 form_of v (TKey word ∷ ts) = key_form v word ts
 form_of v (TName name ∷ ts) = name_form v name ts
 form_of v _ = None

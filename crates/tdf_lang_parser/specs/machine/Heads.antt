@@ -4,13 +4,16 @@ use Rattle.std.specs.Prelude.{ℕ, nat_eq, if◌then◌else◌, List, [], ◌∷
 use Rattle.std.specs.Cmp.Lexicographic.{pointwise}
 use Rattle.tdf_base.specs.declared.resolution.Resolution.{Resolution}
 use Rattle.tdf_base.specs.declared.resolution.Resolution.TheVariants.{Ps, Fs}
+use Rattle.tdf_base.specs.Version.{has_resolution}
+use Rattle.tdf_base.specs.declared.version.Version.{Version}
+use Rattle.tdf_base.specs.declared.version.Version.TheVariants.{V1, V2, V3}
 use Rattle.tdf_lang_lexer.specs.Rows.{Row}
 
 -- the version that a piece says
-abbrev pub version_of : List ℕ → Option ℕ
-version_of piece = if pointwise nat_eq piece (codes "1") then Some 1
-    else if pointwise nat_eq piece (codes "2") then Some 2
-    else if pointwise nat_eq piece (codes "3") then Some 3
+abbrev pub version_of : List ℕ → Option Version
+version_of piece = if pointwise nat_eq piece (codes "1") then Some V1
+    else if pointwise nat_eq piece (codes "2") then Some V2
+    else if pointwise nat_eq piece (codes "3") then Some V3
     else None
 
 -- the resolution that a piece says
@@ -24,7 +27,7 @@ abbrev pub second_of : {A : Type 0} → List ℕ → (List ℕ → Option A) →
 second_of word says (first ∷ (second ∷ [])) = if pointwise nat_eq first word then says second else None
 second_of word says _ = None
 
-abbrev pub read_version : List (List ℕ) → Option ℕ
+abbrev pub read_version : List (List ℕ) → Option Version
 read_version pieces = second_of (codes "language") version_of pieces
 
 abbrev pub read_resolution : List (List ℕ) → Option Resolution
@@ -36,5 +39,5 @@ first_resolution [] = None
 first_resolution (r ∷ rs) = read_resolution r.pieces
 
 -- where the version allows a resolution line
-abbrev pub resolution_line : ℕ → List Row → Option Resolution
-resolution_line version rows = if nat_eq version 3 then first_resolution rows else None
+abbrev pub resolution_line : Version → List Row → Option Resolution
+resolution_line version rows = if has_resolution version then first_resolution rows else None

@@ -4,7 +4,7 @@ use super::joined;
 use std::alloc::Global;
 use std::test::Fail;
 use tdf_base::Memory;
-use tdf_lang::{Global1, LangErr, Resolution, Tree, law_exprs, law_spelled, parse};
+use tdf_lang::{Global1, LangErr, Resolution, Tree, Version, law_exprs, law_spelled, parse};
 
 /// Why a text is refused, or none where it has a tree. No text here has more than 10,000 bytes.
 fn refusal(alloc: Global, text: &[u8]) -> Result<Option<LangErr>, Memory> {
@@ -318,7 +318,7 @@ const MULTIPLES: &str =
 /// Whether a tree has the lines and the parts of MULTIPLES, but for what its blocks hold.
 fn is_multiples(tree: &Tree) -> bool {
     match tree.globals.as_slice() {
-        [Global1::Shape(shape), Global1::Tdf(module)] => tree.version == 3
+        [Global1::Shape(shape), Global1::Tdf(module)] => tree.version == Version::V3
             && tree.resolution == Resolution::Ps
             && shape.line == 2
             && module.line == 4
