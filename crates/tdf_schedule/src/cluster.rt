@@ -19,7 +19,7 @@ use crate::faults::{first_late, first_short, paces_of, samples};
 use crate::key::Row;
 use crate::links::{inputs_of, outputs_of, readers_of};
 use crate::sorted::entries_of;
-use crate::work::fill;
+use crate::work::{Given, fill};
 use std::alloc::Global;
 use tdf_base::MOST_SAMPLES;
 use tdf_graph::{Edge, Net};
@@ -65,7 +65,14 @@ fn keys_of(
 {
     let inputs = inputs_of(alloc, counts.len() as u32, net.edges())?;
     let readers = readers_of(alloc, counts.len() as u32, net.edges())?;
-    let table = fill(alloc, net.edges(), counts, paces, &inputs, &readers)?;
+    let given = Given {
+        edges: net.edges(),
+        counts,
+        paces,
+        inputs: &inputs,
+        readers: &readers,
+    };
+    let table = fill(alloc, &given)?;
     drop(inputs);
     drop(readers);
     Ok(table)

@@ -13,41 +13,58 @@ use std::alloc::Global;
 use tdf_base::Memory;
 use tdf_graph::Edge;
 
-fn push_one(actor: u32, stack: &mut Vec<u32>, on: &mut Vec<bool>) -> Result<(), Memory>
-    requires { actor < length on.old.items }
-    ensures { OnOk result (ArePushed (actor ∷ []) 1 stack.old.items stack.new.items on.old.items on.new.items) }
+/// What the work is done on.
+#[derive(Clone, Copy)]
+pub(crate) struct Given<'g> {
+    pub edges: &'g [Edge],
+    /// How often each actor fires in a period.
+    pub counts: &'g [u64],
+    /// The time from one firing of each actor to the next.
+    pub paces: &'g [u64],
+    /// The edges that each actor reads.
+    pub inputs: &'g [Links],
+    /// The actors that read what each actor writes.
+    pub readers: &'g [Links],
+}
+
+/// The actors that may have a firing whose needs all have their keys.
+#[derive(Drop)]
+struct Worklist {
+    stack: Vec<u32>,
+    /// Whether each actor is on the stack.
+    on: Vec<bool>,
+}
+
+fn push_one(actor: u32, work: &mut Worklist) -> Result<(), Memory>
+    requires { actor < length work.old.on.items }
+    ensures { OnOk result (ArePushed (actor ∷ []) 1 work.old.stack.items work.new.stack.items work.old.on.items work.new.on.items) }
 {
-    if on[actor as usize] {
+    if work.on[actor as usize] {
         return Ok(());
     }
-    stack.push(actor)?;
-    on[actor as usize] = true;
+    work.stack.push(actor)?;
+    work.on[actor as usize] = true;
     Ok(())
 }
 
-fn push_all(list: &[u32], stack: &mut Vec<u32>, on: &mut Vec<bool>) -> Result<(), Memory>
-    requires { (j k : ℕ) → slice_get list.now j ≡ Some k → k < length on.old.items }
-    ensures { OnOk result (ArePushed list.now (length list.now) stack.old.items stack.new.items on.old.items on.new.items) }
+fn push_all(list: &[u32], work: &mut Worklist) -> Result<(), Memory>
+    requires { (j k : ℕ) → slice_get list.now j ≡ Some k → k < length work.old.on.items }
+    ensures { OnOk result (ArePushed list.now (length list.now) work.old.stack.items work.new.stack.items work.old.on.items work.new.on.items) }
 {
     for i in 0..list.len() {
-        push_one(list[i], stack, on)?;
+        push_one(list[i], work)?;
     }
     Ok(())
 }
 
 /// Puts an actor and those that read what it writes on the stack.
-fn push_around(
-    actor: u32,
-    readers: &[u32],
-    stack: &mut Vec<u32>,
-    on: &mut Vec<bool>,
-) -> Result<(), Memory>
-    requires actor { actor < length on.old.items }
-    requires inside { (j k : ℕ) → slice_get readers.now j ≡ Some k → k < length on.old.items }
-    ensures { OnOk result (ArePushed (actor ∷ readers.now) (length readers.now + 1) stack.old.items stack.new.items on.old.items on.new.items) }
+fn push_around(actor: u32, readers: &[u32], work: &mut Worklist) -> Result<(), Memory>
+    requires actor { actor < length work.old.on.items }
+    requires inside { (j k : ℕ) → slice_get readers.now j ≡ Some k → k < length work.old.on.items }
+    ensures { OnOk result (ArePushed (actor ∷ readers.now) (length readers.now + 1) work.old.stack.items work.new.stack.items work.old.on.items work.new.on.items) }
 {
-    push_one(actor, stack, on)?;
-    push_all(readers, stack, on)?;
+    push_one(actor, work)?;
+    push_all(readers, work)?;
     Ok(())
 }
 
@@ -66,39 +83,36 @@ fn give(table: &mut Vec<Row>, actor: u32, need: Key) -> Result<(), Memory>
 /// Works on an actor that was taken from the stack.
 fn work_one(
     actor: u32,
-    edges: &[Edge],
-    counts: &[u64],
-    paces: &[u64],
-    inputs: &[Links],
-    readers: &[Links],
+    given: &Given,
     table: &mut Vec<Row>,
-    stack: &mut Vec<u32>,
-    on: &mut Vec<bool>,
+    work: &mut Worklist,
 ) -> Result<(), Memory>
-    requires given { AreGiven edges.now counts.now paces.now inputs.now readers.now }
-    requires rows { AreRows edges.now (slice_index paces.now) counts.now table.old.items }
-    requires worked { IsWorked edges.now counts.now table.old.items (stack.old.items ++ actor ∷ []) on.old.items }
-    ensures rows { OnOk result (AreRows edges.now (slice_index paces.now) counts.now table.new.items) }
-    ensures worked { OnOk result (IsWorked edges.now counts.now table.new.items stack.new.items on.new.items) }
-    ensures less { OnOk result (weight edges.now counts.now table.new.items stack.new.items ≤ weight edges.now counts.now table.old.items stack.old.items) }
+    requires given { AreGiven given.now.edges.now given.now.counts.now given.now.paces.now given.now.inputs.now given.now.readers.now }
+    requires rows { AreRows given.now.edges.now (slice_index given.now.paces.now) given.now.counts.now table.old.items }
+    requires worked { IsWorked given.now.edges.now given.now.counts.now table.old.items (work.old.stack.items ++ actor ∷ []) work.old.on.items }
+    ensures rows { OnOk result (AreRows given.now.edges.now (slice_index given.now.paces.now) given.now.counts.now table.new.items) }
+    ensures worked { OnOk result (IsWorked given.now.edges.now given.now.counts.now table.new.items work.new.stack.items work.new.on.items) }
+    ensures less { OnOk result (weight given.now.edges.now given.now.counts.now table.new.items work.new.stack.items
+        ≤ weight given.now.edges.now given.now.counts.now table.old.items work.old.stack.items) }
 {
-    on[actor as usize] = false;
-    if row_len(table, actor) == counts[actor as usize] {
+    work.on[actor as usize] = false;
+    if row_len(table, actor) == given.counts[actor as usize] {
         return Ok(());
     }
-    match greatest_need(edges, list_at(inputs, actor), paces, table, actor) {
+    let inputs = list_at(given.inputs, actor);
+    match greatest_need(given.edges, inputs, given.paces, table, actor) {
         None => Ok(()),
         Some(need) => {
             give(table, actor, need)?;
-            push_around(actor, list_at(readers, actor), stack, on)?;
+            push_around(actor, list_at(given.readers, actor), work)?;
             Ok(())
         }
     }
 }
 
 /// Every actor on the stack.
-fn all_on(alloc: Global, count: u32) -> Result<(Vec<u32>, Vec<bool>), Memory>
-    ensures { IfOk result (λ p. AreAllOn count p.0.items p.1.items) }
+fn all_on(alloc: Global, count: u32) -> Result<Worklist, Memory>
+    ensures { IfOk result (λ work. AreAllOn count work.stack.items work.on.items) }
 {
     let mut stack = Vec::new(alloc);
     let mut on = Vec::new(alloc);
@@ -106,7 +120,7 @@ fn all_on(alloc: Global, count: u32) -> Result<(Vec<u32>, Vec<bool>), Memory>
         stack.push(actor)?;
         on.push(true)?;
     }
-    Ok((stack, on))
+    Ok(Worklist { stack, on })
 }
 
 /// A row without keys for each actor.
@@ -121,27 +135,17 @@ fn no_rows(alloc: Global, count: u32) -> Result<Vec<Row>, Memory>
 }
 
 /// The keys of all firings that are grounded, each actor's from its first firing on.
-pub(crate) fn fill(
-    alloc: Global,
-    edges: &[Edge],
-    counts: &[u64],
-    paces: &[u64],
-    inputs: &[Links],
-    readers: &[Links],
-) -> Result<Vec<Row>, Memory>
-    requires given { AreGiven edges.now counts.now paces.now inputs.now readers.now }
-    requires small { length counts.now < 2 ^ 32 }
-    ensures rows { IfOk result (λ table. AreRows edges.now (slice_index paces.now) counts.now table.items) }
-    ensures settled { IfOk result (λ table. (m : ℕ) → m < length counts.now → IsSettled edges.now counts.now table.items m) }
+pub(crate) fn fill(alloc: Global, given: &Given) -> Result<Vec<Row>, Memory>
+    requires given { AreGiven given.now.edges.now given.now.counts.now given.now.paces.now given.now.inputs.now given.now.readers.now }
+    requires small { length given.now.counts.now < 2 ^ 32 }
+    ensures rows { IfOk result (λ table. AreRows given.now.edges.now (slice_index given.now.paces.now) given.now.counts.now table.items) }
+    ensures settled { IfOk result (λ table. (m : ℕ) → m < length given.now.counts.now → IsSettled given.now.edges.now given.now.counts.now table.items m) }
 {
-    let mut table = no_rows(alloc, counts.len() as u32)?;
-    let (mut stack, mut on) = all_on(alloc, counts.len() as u32)?;
-    while let Some(actor) = stack.pop() {
-        work_one(
-            actor, edges, counts, paces, inputs, readers, &mut table, &mut stack, &mut on,
-        )?;
+    let mut table = no_rows(alloc, given.counts.len() as u32)?;
+    let mut work = all_on(alloc, given.counts.len() as u32)?;
+    while let Some(actor) = work.stack.pop() {
+        work_one(actor, given, &mut table, &mut work)?;
     }
-    drop(stack);
-    drop(on);
+    drop(work);
     Ok(table)
 }

@@ -5,6 +5,6 @@ use Rattle.tdf_schedule.proofs.work.fill.Goals as goal
 
 pub loop-actor-init : goal.loop-actor-init
 loop-actor-init c = record {
-  rows = rows_start c.args.edges.now (slice_index c.args.paces.now) c.args.counts.now c.in_ok-table.table.items _ refl c.in_ok-table.ensures;
-  worked = worked_start c.args.edges.now c.args.counts.now c.in_ok-table.table.items _ _ _ refl c.in_ok-stack.ensures;
+  rows = rows_start c.args.given.now.edges.now (slice_index c.args.given.now.paces.now) c.args.given.now.counts.now c.in_ok-table.table.items _ refl c.in_ok-table.ensures;
+  worked = worked_start c.args.given.now.edges.now c.args.given.now.counts.now c.in_ok-table.table.items _ _ _ refl c.in_ok-work.ensures;
 }

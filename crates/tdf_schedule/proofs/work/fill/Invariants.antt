@@ -4,9 +4,9 @@ use Rattle.tdf_schedule.proofs.work.fill.Given as goal
 
 abbrev pub invariant-loop-actor : goal.invariant-loop-actor
 invariant-loop-actor l = record {
-  rows : AreRows l.edges (slice_index l.paces) l.counts l.table.items;
-  worked : IsWorked l.edges l.counts l.table.items l.stack.items l.on.items;
+  rows : AreRows l.given.edges.now (slice_index l.given.paces.now) l.given.counts.now l.table.items;
+  worked : IsWorked l.given.edges.now l.given.counts.now l.table.items l.work.stack.items l.work.on.items;
 }
 
 abbrev pub decreases-loop-actor : goal.decreases-loop-actor
-decreases-loop-actor l = weight l.edges l.counts l.table.items l.stack.items
+decreases-loop-actor l = weight l.given.edges.now l.given.counts.now l.table.items l.work.stack.items
