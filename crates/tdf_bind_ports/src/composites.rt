@@ -6,7 +6,6 @@ ghost use Rattle.std.specs.Prelude.{◌≡◌, map, IfOk, OnOk};
 ghost use Rattle.tdf_bind_ports.specs.Faults.{least_link_with};
 ghost use Rattle.tdf_bind_ports.specs.Links.{around_of, bind_faults, composite_link_faults, faults_around, first_free, free_faults, instance_faults, port_link_faults, port_in, port_around, unbound_faults};
 ghost use Rattle.tdf_bind_ports.specs.machine.Pairs.{has_pair, later, pairs_after, pairs_after_all};
-ghost use Rattle.tdf_expr_symbols.specs.Names.{thing_of};
 ghost use Rattle.tdf_expr_symbols.specs.Seen.{seen};
 ghost use Rattle.tdf_lang_tree.specs.Views.{pure_composite};
 
@@ -150,24 +149,6 @@ impl<'g, 't> Around<'g, 't> {
         }
     }
 
-    /// Notes the faults of a line that binds a port of an instance.
-    fn note_target(
-        &self,
-        first: &mut First<'t>,
-        line: u32,
-        again: bool,
-        instance: &[u8],
-        port: &[u8],
-        target: &[u8],
-    )
-        ensures { first.new ≡ least_link_with first.old (port_link_faults self.now.globals line again
-            (thing_of self.now.own target.now) (port_around self.now instance.now port.now)) }
-    {
-        let thing = self.scope.own(target);
-        let found = self.port(instance, port);
-        note_port(first, self.globals, line, again, thing, found);
-    }
-
     /// Notes the faults of a `bind` line, and what it binds.
     #[tactic(auto, using(crate::proofs::Notes::least_laws), unfolding(crate::specs::Links::bind_faults))]
     fn note_bind(
@@ -189,7 +170,9 @@ impl<'g, 't> Around<'g, 't> {
                 let instance = instance.as_bytes();
                 let port = port.as_bytes();
                 let again = pairs.has(instance, port);
-                self.note_target(first, *line, again, instance, port, target.as_bytes());
+                let thing = self.scope.own(target.as_bytes());
+                let found = self.port(instance, port);
+                note_port(first, self.globals, *line, again, thing, found);
                 pairs.add(instance, port)
             }
             Member::Port(_) => Ok(()),
