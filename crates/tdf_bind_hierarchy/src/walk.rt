@@ -12,6 +12,23 @@ use crate::tables::{InstanceRow, Signal, SignalNumber, Tables, no_tables};
 use std::alloc::Global;
 use tdf_base::Memory;
 
+/// Where the instances of a block stand: the path of the block, the numbers of its own signals, and those that its ports
+/// reach.
+#[derive(Clone, Copy)]
+struct Around<'a> {
+    path: &'a Option<SharedPath>,
+    own: &'a [SignalNumber],
+    outer: &'a [SignalNumber],
+}
+
+/// A walk through the blocks of a model.
+#[derive(Clone, Copy)]
+struct Walk<'b> {
+    blocks: &'b [Block],
+    /// How many blocks it still enters, one inside the other.
+    depth: usize,
+}
+
 #[tactic(auto, using(crate::proofs::Steps::place_laws))]
 fn number_at(numbers: &[SignalNumber], place: usize) -> SignalNumber
     ensures { result ≡ number_at numbers.now place }
@@ -25,27 +42,26 @@ fn number_at(numbers: &[SignalNumber], place: usize) -> SignalNumber
     }
 }
 
-fn number_of(own: &[SignalNumber], outer: &[SignalNumber], target: Target) -> SignalNumber
-    ensures { result ≡ number_of own.now outer.now target }
+fn number_of(around: &Around, target: Target) -> SignalNumber
+    ensures { result ≡ number_of around.now.own.now around.now.outer.now target }
 {
     match target {
-        Target::Own(signal) => number_at(own, signal),
-        Target::Outer(port) => number_at(outer, port),
+        Target::Own(signal) => number_at(around.own, signal),
+        Target::Outer(port) => number_at(around.outer, port),
     }
 }
 
 #[tactic(auto, using(crate::proofs::Steps::number_laws))]
 fn numbers_of(
     alloc: Global,
-    own: &[SignalNumber],
-    outer: &[SignalNumber],
+    around: &Around,
     targets: &Vec<Target>,
 ) -> Result<Vec<SignalNumber>, Memory>
-    ensures { IfOk result (λ numbers. numbers.items ≡ map (number_of own.now outer.now) targets.now.items) }
+    ensures { IfOk result (λ numbers. numbers.items ≡ map (number_of around.now.own.now around.now.outer.now) targets.now.items) }
 {
     let mut numbers = Vec::new(alloc);
     for target in targets {
-        numbers.push(number_of(own, outer, *target))?;
+        numbers.push(number_of(around, *target))?;
     }
     Ok(numbers)
 }
@@ -80,19 +96,13 @@ fn put_signals(
 }
 
 /// The row of an instance.
-fn row_of(
-    alloc: Global,
-    path: &Option<SharedPath>,
-    own: &[SignalNumber],
-    outer: &[SignalNumber],
-    instance: &Instance,
-) -> Result<InstanceRow, Memory>
-    ensures { IfOk result (λ row. row ≡ row_of path.now own.now outer.now instance.now) }
+fn row_of(alloc: Global, around: &Around, instance: &Instance) -> Result<InstanceRow, Memory>
+    ensures { IfOk result (λ row. row ≡ row_of around.now.path.now around.now.own.now around.now.outer.now instance.now) }
 {
     Ok(InstanceRow {
-        path: SharedPath::named(alloc, path, &instance.name)?,
+        path: SharedPath::named(alloc, around.path, &instance.name)?,
         block: instance.block,
-        signals: numbers_of(alloc, own, outer, &instance.targets)?,
+        signals: numbers_of(alloc, around, &instance.targets)?,
     })
 }
 
@@ -102,32 +112,31 @@ fn row_of(
 fn walk_block(
     alloc: Global,
     tables: &mut Tables,
-    blocks: &[Block],
-    depth: usize,
+    walk: &Walk,
     block: usize,
     path: &Option<SharedPath>,
     outer: &[SignalNumber],
 ) -> Result<(), Memory>
-    ensures { OnOk result (tables.new ≡ walked blocks.now depth block path.now outer.now tables.old) }
+    ensures { OnOk result (tables.new ≡ walked walk.now.blocks.now walk.now.depth block path.now outer.now tables.old) }
 {
-    if depth == 0 {
+    if walk.depth == 0 {
         return Ok(());
     }
-    if block >= blocks.len() {
+    if block >= walk.blocks.len() {
         return Ok(());
     }
-    let inner = &blocks[block];
+    let inner = &walk.blocks[block];
     let own = put_signals(alloc, tables, path, &inner.signals)?;
-    walk_all(
-        alloc,
-        tables,
-        blocks,
-        depth - 1,
-        &inner.instances,
+    let around = Around {
         path,
-        &own,
+        own: &own,
         outer,
-    )
+    };
+    let below = Walk {
+        blocks: walk.blocks,
+        depth: walk.depth - 1,
+    };
+    walk_all(alloc, tables, &below, &inner.instances, &around)
 }
 
 #[cycle(blocks)]
@@ -135,18 +144,16 @@ fn walk_block(
 fn walk_all(
     alloc: Global,
     tables: &mut Tables,
-    blocks: &[Block],
-    depth: usize,
+    walk: &Walk,
     instances: &Vec<Instance>,
-    path: &Option<SharedPath>,
-    own: &[SignalNumber],
-    outer: &[SignalNumber],
+    around: &Around,
 ) -> Result<(), Memory>
-    ensures { OnOk result (tables.new ≡ walked_all (walked blocks.now depth) instances.now.items path.now own.now outer.now tables.old) }
+    ensures { OnOk result (tables.new ≡ walked_all (walked walk.now.blocks.now walk.now.depth) instances.now.items
+        around.now.path.now around.now.own.now around.now.outer.now tables.old) }
 {
     for instance in instances {
-        let row = row_of(alloc, path, own, outer, instance)?;
-        walk_row(alloc, tables, blocks, depth, row)?;
+        let row = row_of(alloc, around, instance)?;
+        walk_row(alloc, tables, walk, row)?;
     }
     Ok(())
 }
@@ -154,20 +161,14 @@ fn walk_all(
 /// Adds an instance, and what is inside it.
 #[cycle(blocks)]
 #[tactic(auto, using(crate::proofs::Steps::walk_laws))]
-fn walk_row(
-    alloc: Global,
-    tables: &mut Tables,
-    blocks: &[Block],
-    depth: usize,
-    row: InstanceRow,
-) -> Result<(), Memory>
-    ensures { OnOk result (tables.new ≡ walked_row (walked blocks.now depth) row tables.old) }
+fn walk_row(alloc: Global, tables: &mut Tables, walk: &Walk, row: InstanceRow) -> Result<(), Memory>
+    ensures { OnOk result (tables.new ≡ walked_row (walked walk.now.blocks.now walk.now.depth) row tables.old) }
 {
     let block = row.block;
     let path = Some(row.path.shared()?);
     let numbers = Vec::from_slice(alloc, &row.signals)?;
     tables.put_row(row)?;
-    walk_block(alloc, tables, blocks, depth, block, &path, &numbers)
+    walk_block(alloc, tables, walk, block, &path, &numbers)
 }
 
 /// The tables of a model by its blocks, where `top` is the place of the outermost one.
@@ -181,6 +182,10 @@ pub fn tables_of(alloc: Global, blocks: &[Block], top: usize) -> Result<Tables, 
 {
     let mut tables = no_tables(alloc);
     let outer = Vec::new(alloc);
-    walk_block(alloc, &mut tables, blocks, blocks.len(), top, &None, &outer)?;
+    let walk = Walk {
+        blocks,
+        depth: blocks.len(),
+    };
+    walk_block(alloc, &mut tables, &walk, top, &None, &outer)?;
     Ok(tables)
 }
