@@ -120,7 +120,17 @@ fn initials_at(
     }
 }
 
-/// A port with what was found of it.
+/// What a block says of one of its ports.
+#[derive(Drop)]
+struct PortFacts<'t> {
+    /// What its name stands for.
+    thing: Option<Thing<'t>>,
+    /// Its timestep, 0 where it has none.
+    step: u64,
+    initials: Vec<(u32, Raw)>,
+}
+
+/// A port with what its block says of it.
 ///
 /// # Errors
 /// Out of memory.
@@ -129,15 +139,15 @@ fn made(
     scope: &Scope,
     numbers: &[u64],
     port: &PortLine,
-    thing: Option<Thing>,
-    step: u64,
-    initials: Vec<(u32, Raw)>,
+    facts: PortFacts,
 ) -> Result<PortData, Memory>
     requires { AreRateNumbers scope.now.own numbers.now }
-    ensures { IfOk result (λ made. made ≡ port_with scope.now.own port.now (option_map seen thing.entry) step initials.items) }
+    ensures { IfOk result (λ made. made
+        ≡ port_with scope.now.own port.now (option_map seen facts.entry.thing) facts.entry.step facts.entry.initials.items) }
 {
-    let (rate, delay) = attributes(thing);
-    let initials = Initials::new(alloc, initials)?;
+    let (rate, delay) = attributes(facts.thing);
+    let step = facts.step;
+    let initials = Initials::new(alloc, facts.initials)?;
     Ok(PortData {
         name: Name::copied(alloc, port.name.as_bytes())?,
         kind: port.kind,
@@ -163,26 +173,22 @@ fn port_data(
     ensures { IfOk result (λ made. made ≡ port_data scope.now (pure_tdf block.now) port.now) }
 {
     match find(scope, &gathered.steps, &port.name) {
-        None => made(
-            alloc,
-            scope,
-            &gathered.numbers,
-            port,
-            None,
-            0,
-            Vec::new(alloc),
-        ),
+        None => {
+            let facts = PortFacts {
+                thing: None,
+                step: 0,
+                initials: Vec::new(alloc),
+            };
+            made(alloc, scope, &gathered.numbers, port, facts)
+        }
         Some(found) => {
             let initials = initials_at(alloc, &gathered.initials, found.thing, found.place)?;
-            made(
-                alloc,
-                scope,
-                &gathered.numbers,
-                port,
-                Some(found.thing),
-                found.step,
+            let facts = PortFacts {
+                thing: Some(found.thing),
+                step: found.step,
                 initials,
-            )
+            };
+            made(alloc, scope, &gathered.numbers, port, facts)
         }
     }
 }
