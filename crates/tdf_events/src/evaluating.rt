@@ -27,10 +27,9 @@ fn act_in(parts: &mut Parts, checked: &Checked, block: &BlockRow, owner: u32, nu
 {
     act(
         checked,
-        block.block,
+        block,
         number,
         &parts.values,
-        &block.signals,
         &mut parts.frames[owner as usize],
         &mut parts.ports[owner as usize],
     );

@@ -8,6 +8,7 @@ ghost use Rattle.tdf_expr.specs.Frames.{ArePortsFit, IsOfFormat, is_written};
 ghost use Rattle.tdf_expr.specs.Made.{AreMadeFor};
 ghost use Rattle.tdf_expr.specs.declared.spans.PortSpan.{PortSpan as PortSpanOf};
 
+use tdf_bind_connections::BlockRow;
 use tdf_expr::{Body, Checked, Frame, PortSpan, Ports, run_body};
 use tdf_fixed::Raw;
 use tdf_lang_tree::PortKind;
@@ -69,24 +70,23 @@ fn prepare(values: &[Raw], signals: &[u32], ports: &mut Ports)
     read_signals(values, signals, ports);
 }
 
-/// A process of the block of a number runs from the values of the signals that its ports reach.
+/// A process of an instance runs from the values of the signals that its ports reach.
 pub(crate) fn act(
     checked: &Checked,
-    block: u32,
+    block: &BlockRow,
     number: u32,
     values: &[Raw],
-    signals: &[u32],
     frame: &mut Frame,
     ports: &mut Ports,
 )
-    requires made { AreMadeFor checked.now block frame.old ports.old }
-    requires can { CanRead values.now ports.old.spans signals.now }
-    ensures made { AreMadeFor checked.now block frame.new ports.new }
-    ensures run { HasRun checked.now block number values.now signals.now
+    requires made { AreMadeFor checked.now block.now.block frame.old ports.old }
+    requires can { CanRead values.now ports.old.spans block.now.signals }
+    ensures made { AreMadeFor checked.now block.now.block frame.new ports.new }
+    ensures run { HasRun checked.now block.now.block number values.now block.now.signals
         frame.old.state frame.new.state ports.new.state }
     ensures fit { ArePortsFit ports.new }
 {
-    prepare(values, signals, ports);
-    run_body(checked, block, Body::Process(number), frame, ports);
+    prepare(values, &block.signals, ports);
+    run_body(checked, block.block, Body::Process(number), frame, ports);
     ports.law_fit();
 }
