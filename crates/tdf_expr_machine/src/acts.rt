@@ -9,7 +9,7 @@ ghost use Rattle.tdf_expr_state.specs.State.{state_of, with_cell};
 
 use crate::nodes::{Node, Sight, eval, eval_holds, eval_in};
 use crate::numbers::low;
-use crate::plain::quick_turns;
+use crate::plain::{TurnRange, quick_turns};
 use crate::short::{operand, top_value};
 use crate::spots::{Spot, place};
 use tdf_expr_state::{Cells, Signals};
@@ -241,7 +241,7 @@ fn run_loop(
     ensures frame { cells.new ≡ (turned (act_turn body.now loops.now) from end (state_of cells.old signals.old)).frame }
     ensures ports { signals.new ≡ (turned (act_turn body.now loops.now) from end (state_of cells.old signals.old)).ports }
 {
-    let next = quick_turns(body, from, end, loops, cells, signals);
+    let next = quick_turns(body, TurnRange { from, end }, loops, cells, signals);
     if next < end {
         run_turns(body, next, end, loops, cells, signals);
     }

@@ -296,6 +296,13 @@ fn plain_turn(
     }
 }
 
+/// The turns of a loop, from the first on and below the end.
+#[derive(Clone, Copy)]
+pub(crate) struct TurnRange {
+    pub(crate) from: u32,
+    pub(crate) end: u32,
+}
+
 /// The turns of a loop up to the first that doesn't fit 64 bits, and the number of that turn. A copy of it for each form
 /// asks for the form before the loop, not at each turn.
 #[inline(always)]
@@ -303,24 +310,23 @@ fn plain_turn(
 fn plain_turns(
     act: &Act,
     set: &PlainSet,
-    from: u32,
-    end: u32,
+    turns: TurnRange,
     loops: &[u32],
     cells: &mut Cells,
     signals: &Signals,
 ) -> u32
     requires set { IsPlainSet act.now (length loops.now) set.now }
-    requires safe { AreTurnsSafe (act_turn act.now loops.now) (IsTurnSafe act.now loops.now) from end (state_of cells.old signals.now) }
-    ensures after { from ≤ result }
-    ensures within { result ≤ max from end }
-    ensures state { state_of cells.new signals.now ≡ turned (act_turn act.now loops.now) from result (state_of cells.old signals.now) }
+    requires safe { AreTurnsSafe (act_turn act.now loops.now) (IsTurnSafe act.now loops.now) turns.from turns.end (state_of cells.old signals.now) }
+    ensures after { turns.from ≤ result }
+    ensures within { result ≤ max turns.from turns.end }
+    ensures state { state_of cells.new signals.now ≡ turned (act_turn act.now loops.now) turns.from result (state_of cells.old signals.now) }
 {
-    for i in from..end {
+    for i in turns.from..turns.end {
         if !plain_turn(act, set, loops, i, cells, signals) {
             return i;
         }
     }
-    from.max(end)
+    turns.from.max(turns.end)
 }
 
 /// The turns of a loop that go without a walk over the tree of its body, none where its form is another; and the turn that
@@ -328,27 +334,26 @@ fn plain_turns(
 #[tactic(auto, using(crate::proofs::Runs::turn_laws))]
 pub(crate) fn quick_turns(
     body: &Act,
-    from: u32,
-    end: u32,
+    turns: TurnRange,
     loops: &[u32],
     cells: &mut Cells,
     signals: &Signals,
 ) -> u32
-    requires { AreTurnsSafe (act_turn body.now loops.now) (IsTurnSafe body.now loops.now) from end (state_of cells.old signals.now) }
-    ensures after { from ≤ result }
-    ensures within { result ≤ max from end }
-    ensures state { state_of cells.new signals.now ≡ turned (act_turn body.now loops.now) from result (state_of cells.old signals.now) }
+    requires { AreTurnsSafe (act_turn body.now loops.now) (IsTurnSafe body.now loops.now) turns.from turns.end (state_of cells.old signals.now) }
+    ensures after { turns.from ≤ result }
+    ensures within { result ≤ max turns.from turns.end }
+    ensures state { state_of cells.new signals.now ≡ turned (act_turn body.now loops.now) turns.from result (state_of cells.old signals.now) }
 {
     match plain_set(body, loops.len()) {
         Some(set) => match (set.target, set.value) {
             (Target::Element(_), Plain::Element(_)) => {
-                plain_turns(body, &set, from, end, loops, cells, signals)
+                plain_turns(body, &set, turns, loops, cells, signals)
             }
             (Target::Cell(_), Plain::Sum(_)) => {
-                plain_turns(body, &set, from, end, loops, cells, signals)
+                plain_turns(body, &set, turns, loops, cells, signals)
             }
-            _ => from,
+            _ => turns.from,
         },
-        None => from,
+        None => turns.from,
     }
 }

@@ -7,7 +7,7 @@ use Rattle.tdf_expr_machine.proofs.plain.plain_turns.Goals as goal
 pub plain_turn-requires-clause-safe : goal.plain_turn-requires-clause-safe
 plain_turn-requires-clause-safe c =
     let kept = c.loop-i.invariant in
-    rw kept.state (turn_safe (act_turn c.args.act.now c.args.loops.now) (IsTurnSafe c.args.act.now c.args.loops.now) c.args.from c.args.end c.loop-i.i (state_of c.args.cells.now c.args.signals.now)
+    rw kept.state (turn_safe (act_turn c.args.act.now c.args.loops.now) (IsTurnSafe c.args.act.now c.args.loops.now) c.args.turns.from c.args.turns.end c.loop-i.i (state_of c.args.cells.now c.args.signals.now)
     c.requires.safe kept.after c.loop-i-test.true)
 
 pub loop-i-preserved : goal.loop-i-preserved
@@ -17,5 +17,5 @@ loop-i-preserved c =
       after = omega (arith, kept.after);
       within = omega (arith, c.loop-i-test.true);
       state = c.if-not-plain_turn.ensures.done (search rules) ∙ ap (act_turn c.args.act.now c.args.loops.now c.loop-i.i) kept.state
-          ∙ sym (turned_more (act_turn c.args.act.now c.args.loops.now) c.args.from c.loop-i.i (state_of c.args.cells.now c.args.signals.now) kept.after);
+          ∙ sym (turned_more (act_turn c.args.act.now c.args.loops.now) c.args.turns.from c.loop-i.i (state_of c.args.cells.now c.args.signals.now) kept.after);
     }

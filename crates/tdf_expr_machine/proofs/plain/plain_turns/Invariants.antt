@@ -7,6 +7,6 @@ use Rattle.tdf_expr_machine.proofs.plain.plain_turns.Given as goal
 abbrev pub invariant-loop-i : goal.invariant-loop-i
 invariant-loop-i l = record {
   after : l.initial.i ≤ l.i;
-  within : l.i ≤ max l.initial.i l.end;
+  within : l.i ≤ max l.initial.i l.turns.end;
   state : state_of l.cells l.signals ≡ turned (act_turn l.act l.loops) l.initial.i l.i (state_of l.initial.cells l.initial.signals);
 }
