@@ -26,6 +26,13 @@ use tdf_expr_machine::{Act, Bounds, Turns, sequence};
 use tdf_expr_symbols::{OpenLoop, Scope, Thing};
 use tdf_lang_tree::{Expr, Index, Limit, Stmt};
 
+/// What an assignment sets: a name, or an element of it.
+#[derive(Clone, Copy)]
+struct Target<'s> {
+    name: &'s Name,
+    index: &'s Option<Index>,
+}
+
 /// An assignment.
 ///
 /// # Errors
@@ -35,21 +42,21 @@ fn assign(
     scope: &Scope,
     layout: &Layout,
     loops: &[OpenLoop],
-    name: &Name,
-    index: &Option<Index>,
+    target: &Target,
     value: &Expr,
 ) -> Result<Act, Memory>
     requires sound { IsSound scope.now }
     requires layout { IsLayout scope.now.own layout.now }
-    ensures { (line : ℕ) → IfOk result (λ act. Acts scope.now (map seen_loop loops.now) (SAssign line name.now index.now (pure_expr value.now)) act) }
+    ensures { (line : ℕ) → IfOk result (λ act. Acts scope.now (map seen_loop loops.now)
+        (SAssign line target.now.name.now target.now.index.now (pure_expr value.now)) act) }
 {
     let value = compile_expr(alloc, scope, layout, loops, value)?;
-    match find(scope, layout, name) {
+    match find(scope, layout, target.name) {
         None => {
             drop(value);
             Ok(Act::Skip)
         }
-        Some(found) => Ok(set(loops, found.thing, found.numbers, index, value)),
+        Some(found) => Ok(set(loops, found.thing, found.numbers, target.index, value)),
     }
 }
 
@@ -297,7 +304,7 @@ fn compile_stmt<'t>(
             index,
             value,
             ..
-        } => assign(alloc, scope, layout, loops, name, index, value),
+        } => assign(alloc, scope, layout, loops, &Target { name, index }, value),
         Stmt::If { test, yes, no, .. } => {
             let test = compile_expr(alloc, scope, layout, loops, test)?;
             let (test, first) = tested(test, compile_all(alloc, scope, layout, loops, yes))?;
