@@ -24,7 +24,7 @@ struct Around<'a> {
 /// A walk through the blocks of a model.
 #[derive(Clone, Copy)]
 struct Walk<'b> {
-    blocks: &'b [Block],
+    model: &'b [Block],
     /// How many blocks it still enters, one inside the other.
     depth: usize,
 }
@@ -117,15 +117,15 @@ fn walk_block(
     path: &Option<SharedPath>,
     outer: &[SignalNumber],
 ) -> Result<(), Memory>
-    ensures { OnOk result (tables.new ≡ walked walk.now.blocks.now walk.now.depth block path.now outer.now tables.old) }
+    ensures { OnOk result (tables.new ≡ walked walk.now.model.now walk.now.depth block path.now outer.now tables.old) }
 {
     if walk.depth == 0 {
         return Ok(());
     }
-    if block >= walk.blocks.len() {
+    if block >= walk.model.len() {
         return Ok(());
     }
-    let inner = &walk.blocks[block];
+    let inner = &walk.model[block];
     let own = put_signals(alloc, tables, path, &inner.signals)?;
     let around = Around {
         path,
@@ -133,7 +133,7 @@ fn walk_block(
         outer,
     };
     let below = Walk {
-        blocks: walk.blocks,
+        model: walk.model,
         depth: walk.depth - 1,
     };
     walk_all(alloc, tables, &below, &inner.instances, &around)
@@ -148,7 +148,7 @@ fn walk_all(
     instances: &Vec<Instance>,
     around: &Around,
 ) -> Result<(), Memory>
-    ensures { OnOk result (tables.new ≡ walked_all (walked walk.now.blocks.now walk.now.depth) instances.now.items
+    ensures { OnOk result (tables.new ≡ walked_all (walked walk.now.model.now walk.now.depth) instances.now.items
         around.now.path.now around.now.own.now around.now.outer.now tables.old) }
 {
     for instance in instances {
@@ -162,7 +162,7 @@ fn walk_all(
 #[cycle(blocks)]
 #[tactic(auto, using(crate::proofs::Steps::walk_laws))]
 fn walk_row(alloc: Global, tables: &mut Tables, walk: &Walk, row: InstanceRow) -> Result<(), Memory>
-    ensures { OnOk result (tables.new ≡ walked_row (walked walk.now.blocks.now walk.now.depth) row tables.old) }
+    ensures { OnOk result (tables.new ≡ walked_row (walked walk.now.model.now walk.now.depth) row tables.old) }
 {
     let block = row.block;
     let path = Some(row.path.shared()?);
@@ -183,7 +183,7 @@ pub fn tables_of(alloc: Global, blocks: &[Block], top: usize) -> Result<Tables, 
     let mut tables = no_tables(alloc);
     let outer = Vec::new(alloc);
     let walk = Walk {
-        blocks,
+        model: blocks,
         depth: blocks.len(),
     };
     walk_block(alloc, &mut tables, &walk, top, &None, &outer)?;

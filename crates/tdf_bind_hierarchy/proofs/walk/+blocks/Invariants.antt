@@ -3,7 +3,7 @@ use Rattle.tdf_bind_hierarchy.specs.machine.Walk.{walked, walked_all}
 use Rattle.tdf_bind_hierarchy.proofs.walk.+blocks.Given as goal
 
 abbrev pub invariant-walk_all-loop-instance : goal.invariant-walk_all-loop-instance
-invariant-walk_all-loop-instance l = walked_all (walked l.walk.blocks.now l.walk.depth) (drop l.instance-index l.instance-items) l.around.path.now l.around.own.now l.around.outer.now l.tables ≡ walked_all (walked l.walk.blocks.now l.walk.depth) l.instance-items l.around.path.now l.around.own.now l.around.outer.now l.initial.tables
+invariant-walk_all-loop-instance l = walked_all (walked l.walk.model.now l.walk.depth) (drop l.instance-index l.instance-items) l.around.path.now l.around.own.now l.around.outer.now l.tables ≡ walked_all (walked l.walk.model.now l.walk.depth) l.instance-items l.around.path.now l.around.own.now l.around.outer.now l.initial.tables
 
 abbrev pub decreases-walk_block : goal.decreases-walk_block
 decreases-walk_block l = 3 * l.walk.now.depth
