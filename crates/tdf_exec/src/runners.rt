@@ -80,7 +80,7 @@ ghost use Rattle.tdf_exec.specs.declared.runners.TracedPort.{TracedPort as Trace
 ghost use Rattle.tdf_exec_firing.specs.Actors.{HasTaken};
 
 use tdf_convert::{Inputs, Outputs, Sent, Traced};
-use tdf_exec_firing::{fire_module, fire_sampler, fire_sink};
+use tdf_exec_firing::{Rates, WiredModule, fire_module, fire_sampler, fire_sink};
 use tdf_expr::Checked;
 use tdf_rings::Ring;
 
@@ -98,16 +98,13 @@ impl ModuleRunner {
         ensures { HasFired checked.now reads.now.items writes.now.items rings.old.items
             rings.new.items self.old self.new }
     {
-        fire_module(
+        let module = WiredModule {
             checked,
-            self.block,
-            &self.wires,
-            reads,
-            writes,
-            rings,
-            &mut self.frame,
-            &mut self.ports,
-        );
+            block: self.block,
+            wires: &self.wires,
+        };
+        let rates = Rates { reads, writes };
+        fire_module(&module, &rates, rings, &mut self.frame, &mut self.ports);
     }
 }
 

@@ -14,40 +14,52 @@ use tdf_expr::{Body, Checked, Frame, Ports, run_body};
 use tdf_fixed::Raw;
 use tdf_rings::Ring;
 
-/// One firing of a module, an instance of the block of this number: it takes the samples that it reads, its processing
-/// body runs, and it puts the samples that it writes. `reads` and `writes` are the rates in force by edge, in samples
-/// an activation. It takes no memory and is never refused.
+/// A module and its edges, as they are at each firing: the checked model, the number of its block, and the edges.
+#[derive(Clone, Copy)]
+pub struct WiredModule<'m> {
+    pub checked: &'m Checked,
+    pub block: u32,
+    pub wires: &'m Wires,
+}
+
+/// The rates in force by edge, in samples an activation.
+#[derive(Clone, Copy)]
+pub struct Rates<'r> {
+    pub reads: &'r Vec<u32>,
+    pub writes: &'r Vec<u32>,
+}
+
+/// One firing of a module: it takes the samples that it reads, its processing body runs, and it puts the samples that it
+/// writes. It takes no memory and is never refused.
 pub fn fire_module(
-    checked: &Checked,
-    number: u32,
-    wires: &Wires,
-    reads: &Vec<u32>,
-    writes: &Vec<u32>,
+    module: &WiredModule,
+    rates: &Rates,
     rings: &mut Vec<Ring>,
     frame: &mut Frame,
     ports: &mut Ports,
 )
-    requires made { AreMadeFor checked.now number frame.old ports.old }
-    requires wired { AreWired wires.now ports.old.spans (length rings.old.items) }
-    requires rates { AreEdgeRates reads.now.items writes.now.items (length rings.old.items) }
-    requires can { CanFire wires.now reads.now.items writes.now.items ports.old.spans
-        rings.old.items }
-    requires formats { AreOfFormats wires.now ports.old.spans rings.old.items }
-    requires zeros { AreZerosBehind wires.now reads.now.items ports.old }
-    ensures acted { HasActed checked.now number
-        (samples_read wires.now reads.now.items rings.old.items)
+    requires made { AreMadeFor module.now.checked.now module.now.block frame.old ports.old }
+    requires wired { AreWired module.now.wires.now ports.old.spans (length rings.old.items) }
+    requires rates { AreEdgeRates rates.now.reads.now.items rates.now.writes.now.items
+        (length rings.old.items) }
+    requires can { CanFire module.now.wires.now rates.now.reads.now.items
+        rates.now.writes.now.items ports.old.spans rings.old.items }
+    requires formats { AreOfFormats module.now.wires.now ports.old.spans rings.old.items }
+    requires zeros { AreZerosBehind module.now.wires.now rates.now.reads.now.items ports.old }
+    ensures acted { HasActed module.now.checked.now module.now.block
+        (samples_read module.now.wires.now rates.now.reads.now.items rings.old.items)
         frame.old ports.old frame.new ports.new }
-    ensures moved { AreMoved wires.now reads.now.items writes.now.items ports.new
-        rings.old.items rings.new.items }
-    ensures made { AreMadeFor checked.now number frame.new ports.new }
-    ensures zeros { AreZerosBehind wires.now reads.now.items ports.new }
+    ensures moved { AreMoved module.now.wires.now rates.now.reads.now.items
+        rates.now.writes.now.items ports.new rings.old.items rings.new.items }
+    ensures made { AreMadeFor module.now.checked.now module.now.block frame.new ports.new }
+    ensures zeros { AreZerosBehind module.now.wires.now rates.now.reads.now.items ports.new }
     ensures formats { HoldFormats ports.new }
 {
     clear(ports);
-    take_inputs(wires.ins(), reads, rings, ports);
-    run_body(checked, number, Body::Processing, frame, ports);
+    take_inputs(module.wires.ins(), rates.reads, rings, ports);
+    run_body(module.checked, module.block, Body::Processing, frame, ports);
     ports.law_fit();
-    put_outputs(wires.outs(), writes, rings, ports);
+    put_outputs(module.wires.outs(), rates.writes, rings, ports);
 }
 
 /// One firing of a sampler: its value goes on each of its edges. It takes no memory and is never refused.

@@ -14,6 +14,6 @@ mod putting;
 mod taking;
 mod wires;
 
-pub use firing::{fire_module, fire_sampler, fire_sink};
+pub use firing::{Rates, WiredModule, fire_module, fire_sampler, fire_sink};
 pub use laws::{law_begin, law_formats};
 pub use wires::{InWire, OutWire, Wires};

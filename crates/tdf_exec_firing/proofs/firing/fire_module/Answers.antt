@@ -14,45 +14,45 @@ use Rattle.tdf_exec_firing.proofs.firing.fire_module.Goals as goal
 
 pub take_inputs-requires-clause-can : goal.take_inputs-requires-clause-can
 take_inputs-requires-clause-can c = λ j w at.
-    can_fill c.args.wires.now c.args.reads.now.items c.args.writes.now.items c.args.ports.now c.args.rings.now.items c.requires.wired c.requires.can c.requires.formats
+    can_fill c.args.module.now.wires.now c.args.rates.now.reads.now.items c.args.rates.now.writes.now.items c.args.ports.now c.args.rings.now.items c.requires.wired c.requires.can c.requires.formats
     c.clear.new.ports c.clear.ensures.cleared c.clear.ensures.fit j w (ap (λ (l : List InWire). slice_get l j) (sym c.ins.ensures) ∙ at)
 
 pub put_outputs-requires-clause-can : goal.put_outputs-requires-clause-can
 put_outputs-requires-clause-can c = λ j w at.
-    let took : AreChangedUpTo in_edge (taken_by c.args.reads.now.items) c.args.wires.now.ins (length c.args.wires.now.ins) c.args.rings.now.items c.take_inputs.new.rings.items =
-    subst (λ (l : List InWire). AreChangedUpTo in_edge (taken_by c.args.reads.now.items) l (length l) c.args.rings.now.items c.take_inputs.new.rings.items) c.ins.ensures
+    let took : AreChangedUpTo in_edge (taken_by c.args.rates.now.reads.now.items) c.args.module.now.wires.now.ins (length c.args.module.now.wires.now.ins) c.args.rings.now.items c.take_inputs.new.rings.items =
+    subst (λ (l : List InWire). AreChangedUpTo in_edge (taken_by c.args.rates.now.reads.now.items) l (length l) c.args.rings.now.items c.take_inputs.new.rings.items) c.ins.ensures
     c.take_inputs.ensures.taken in
-    can_give c.args.wires.now c.args.reads.now.items c.args.writes.now.items c.args.ports.now c.args.rings.now.items c.requires.wired c.requires.can
+    can_give c.args.module.now.wires.now c.args.rates.now.reads.now.items c.args.rates.now.writes.now.items c.args.ports.now c.args.rings.now.items c.requires.wired c.requires.can
     c.take_inputs.new.rings.items took c.run_body.new.ports (c.run_body.ensures.frame.ports_are ∙ sym c.requires.made.ports_are) j w
     (ap (λ (l : List OutWire). slice_get l j) (sym c.outs.ensures) ∙ at)
 
 pub returns-clause-acted : goal.returns-clause-acted
 returns-clause-acted c =
-    let filled : AreFilledUpTo c.args.wires.now.ins (count_read c.args.reads.now.items) (list_read c.args.rings.now.items) (length c.args.wires.now.ins) c.clear.new.ports c.take_inputs.new.ports =
-    subst (λ (l : List InWire). AreFilledUpTo l (count_read c.args.reads.now.items) (list_read c.args.rings.now.items) (length l) c.clear.new.ports c.take_inputs.new.ports) c.ins.ensures
+    let filled : AreFilledUpTo c.args.module.now.wires.now.ins (count_read c.args.rates.now.reads.now.items) (list_read c.args.rings.now.items) (length c.args.module.now.wires.now.ins) c.clear.new.ports c.take_inputs.new.ports =
+    subst (λ (l : List InWire). AreFilledUpTo l (count_read c.args.rates.now.reads.now.items) (list_read c.args.rings.now.items) (length l) c.clear.new.ports c.take_inputs.new.ports) c.ins.ensures
     c.take_inputs.ensures.filled in
-    subst (λ (s : PortsState). Ran c.args.checked.now c.args.number Processing (state_of c.args.frame.now.state s) (state_of c.run_body.new.frame.state c.run_body.new.ports.state))
-    (full_state c.args.wires.now c.args.reads.now.items c.args.writes.now.items c.args.ports.now c.args.rings.now.items c.requires.wired c.requires.can
+    subst (λ (s : PortsState). Ran c.args.module.now.checked.now c.args.module.now.block Processing (state_of c.args.frame.now.state s) (state_of c.run_body.new.frame.state c.run_body.new.ports.state))
+    (full_state c.args.module.now.wires.now c.args.rates.now.reads.now.items c.args.rates.now.writes.now.items c.args.ports.now c.args.rings.now.items c.requires.wired c.requires.can
     c.clear.new.ports c.take_inputs.new.ports c.clear.ensures.cleared c.clear.ensures.fit c.requires.zeros filled _ c.requires.made.events)
     c.run_body.ensures.after
 
 pub returns-clause-moved : goal.returns-clause-moved
 returns-clause-moved c =
-    let took : AreChangedUpTo in_edge (taken_by c.args.reads.now.items) c.args.wires.now.ins (length c.args.wires.now.ins) c.args.rings.now.items c.take_inputs.new.rings.items =
-    subst (λ (l : List InWire). AreChangedUpTo in_edge (taken_by c.args.reads.now.items) l (length l) c.args.rings.now.items c.take_inputs.new.rings.items) c.ins.ensures
+    let took : AreChangedUpTo in_edge (taken_by c.args.rates.now.reads.now.items) c.args.module.now.wires.now.ins (length c.args.module.now.wires.now.ins) c.args.rings.now.items c.take_inputs.new.rings.items =
+    subst (λ (l : List InWire). AreChangedUpTo in_edge (taken_by c.args.rates.now.reads.now.items) l (length l) c.args.rings.now.items c.take_inputs.new.rings.items) c.ins.ensures
     c.take_inputs.ensures.taken in
-    all_moved c.args.wires.now c.args.reads.now.items c.args.writes.now.items c.run_body.new.ports c.args.rings.now.items c.take_inputs.new.rings.items c.put_outputs.new.rings.items took
-    (subst (λ (l : List OutWire). AreChangedUpTo out_edge (put_by c.args.writes.now.items c.run_body.new.ports) l (length l) c.take_inputs.new.rings.items c.put_outputs.new.rings.items)
+    all_moved c.args.module.now.wires.now c.args.rates.now.reads.now.items c.args.rates.now.writes.now.items c.run_body.new.ports c.args.rings.now.items c.take_inputs.new.rings.items c.put_outputs.new.rings.items took
+    (subst (λ (l : List OutWire). AreChangedUpTo out_edge (put_by c.args.rates.now.writes.now.items c.run_body.new.ports) l (length l) c.take_inputs.new.rings.items c.put_outputs.new.rings.items)
     c.outs.ensures c.put_outputs.ensures)
 
 pub returns-clause-zeros : goal.returns-clause-zeros
 returns-clause-zeros c =
-    let filled : AreFilledUpTo c.args.wires.now.ins (count_read c.args.reads.now.items) (list_read c.args.rings.now.items) (length c.args.wires.now.ins) c.clear.new.ports c.take_inputs.new.ports =
-    subst (λ (l : List InWire). AreFilledUpTo l (count_read c.args.reads.now.items) (list_read c.args.rings.now.items) (length l) c.clear.new.ports c.take_inputs.new.ports) c.ins.ensures
+    let filled : AreFilledUpTo c.args.module.now.wires.now.ins (count_read c.args.rates.now.reads.now.items) (list_read c.args.rings.now.items) (length c.args.module.now.wires.now.ins) c.clear.new.ports c.take_inputs.new.ports =
+    subst (λ (l : List InWire). AreFilledUpTo l (count_read c.args.rates.now.reads.now.items) (list_read c.args.rings.now.items) (length l) c.clear.new.ports c.take_inputs.new.ports) c.ins.ensures
     c.take_inputs.ensures.filled in
-    zeros_after c.args.wires.now c.args.reads.now.items c.args.writes.now.items c.args.ports.now c.args.rings.now.items c.requires.wired c.requires.can
+    zeros_after c.args.module.now.wires.now c.args.rates.now.reads.now.items c.args.rates.now.writes.now.items c.args.ports.now c.args.rings.now.items c.requires.wired c.requires.can
     c.clear.new.ports c.take_inputs.new.ports c.clear.ensures.cleared c.clear.ensures.fit c.requires.zeros filled c.run_body.new.ports
-    (c.run_body.ensures.frame.ports_are ∙ sym (full_spans c.args.wires.now c.args.reads.now.items c.args.writes.now.items c.args.ports.now c.args.rings.now.items
+    (c.run_body.ensures.frame.ports_are ∙ sym (full_spans c.args.module.now.wires.now c.args.rates.now.reads.now.items c.args.rates.now.writes.now.items c.args.ports.now c.args.rings.now.items
     c.requires.wired c.requires.can c.clear.new.ports c.take_inputs.new.ports c.clear.ensures.cleared c.clear.ensures.fit c.requires.zeros filled ∙ c.requires.made.ports_are))
     c.run_body.ensures.inputs
 
