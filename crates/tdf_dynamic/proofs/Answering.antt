@@ -70,7 +70,7 @@ module _ (law : BoundariesHaveOne) (flat : Flat) (cluster : ℕ) (limits : AreWi
     (tell : Tell asks table frames) (before : AreAttributes flat cluster table) (differs : IsSame asks table → ⊥) where
   pub found_next : (next : Next) → NoneMarks table frames → IsFound flat.tables cluster table frames next → IsNext flat.tables cluster asks table table next
   found_next Same none is = absurd is
-  found_next (Changed after plan) none is = (refl, after_is asks table frames tell after is.0, new_plan asks table frames tell flat.tables cluster after plan differs none is.0 is.1)
+  found_next (Changed after plan) none is = (refl, after_is asks table frames tell after.rows is.0, new_plan asks table frames tell flat.tables cluster after.rows plan differs none is.0 is.1)
 
   pub all_found : (r : Result Next ChangeErr) → (IsOk r → NoneMarks table frames) → IfOk r (IsFound flat.tables cluster table frames) → IfOk r (IsNext flat.tables cluster asks table table)
   all_found (Ok next) none is = found_next next (none refl) is

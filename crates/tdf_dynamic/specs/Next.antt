@@ -9,6 +9,7 @@ use Rattle.tdf_dynamic.specs.declared.next.Next.{Next}
 use Rattle.tdf_dynamic.specs.declared.next.Next.TheVariants.{Changed, Same}
 use Rattle.tdf_dynamic_plans.specs.Attributes.{AttrsOf}
 use Rattle.tdf_dynamic_plans.specs.Faults.{IsRefusal}
+use Rattle.tdf_dynamic_plans.specs.Known.{HasTablePlanned, PlansOf}
 use Rattle.tdf_dynamic_plans.specs.declared.err.ChangeErr.{ChangeErr}
 use Rattle.tdf_dynamic_plans.specs.declared.err.ChangeErr.TheVariants.{Memory, Refused}
 use Rattle.tdf_expr.specs.Made.{AreMadeFor}
@@ -24,7 +25,14 @@ use Rattle.tdf_streams.specs.Places.{block_at}
 abbrev pub IsNext : FlatTablesOf → (cluster : ℕ) → Asks → (old new : List AttrsOf) → Next → Type 0
 IsNext tables cluster asks old new Same = IsSame asks old × (new ≡ table_after asks old)
 IsNext tables cluster asks old new (Changed attrs plan) =
-    (new ≡ old) × (attrs ≡ table_after asks old) × IsNewPlan tables cluster asks old plan
+    (new ≡ old) × (attrs.rows ≡ table_after asks old) × IsNewPlan tables cluster asks old plan
+
+-- the plans that are known go with the table in force: they stay where no module differs; else the
+-- new table has them, and that of its plan
+abbrev pub IsCarried : FlatTablesOf → (cluster : ℕ) → (old new : PlansOf) → Next → Type 0
+IsCarried tables cluster old new Same = new ≡ old
+IsCarried tables cluster old new (Changed attrs plan) =
+    HasTablePlanned tables cluster attrs.rows plan old attrs.known
 
 -- what a boundary answers to what the modules of a cluster ask for: each answer means what it says,
 -- and comes wherever its cause is there, but for want of memory

@@ -5,13 +5,14 @@ ghost use Rattle.std.specs.Vec.{vec_capacity};
 ghost use Rattle.tdf_base.specs.declared.codes.Code.TheVariants as code;
 ghost use Rattle.tdf_dynamic.specs.Change.{fault_of_row, table_after};
 ghost use Rattle.tdf_dynamic.specs.Given.{AreFramesOf, IsOfText, IsPlanned, WhenAsked};
-ghost use Rattle.tdf_dynamic.specs.Next.{AnswersAsks, HaveChanged};
+ghost use Rattle.tdf_dynamic.specs.Next.{AnswersAsks, HaveChanged, IsCarried};
 ghost use Rattle.tdf_dynamic.specs.machine.Asking.{AllTell};
 ghost use Rattle.tdf_dynamic.specs.machine.Boundary.{IsFound, IsRefusedAt, IsTableRefused, NoneMarks};
 ghost use Rattle.tdf_dynamic.specs.machine.Judging.{IsJudged, IsJudgedFault};
 ghost use Rattle.tdf_dynamic.specs.machine.Rows.{AreAfter, HoldsBelow, IsFirstPlace, IsRefusing};
 ghost use Rattle.tdf_dynamic_plans.specs.Attributes.{AttrsOf, IsOfCluster, clusters_of};
 ghost use Rattle.tdf_dynamic_plans.specs.Faults.{HasTiming, IsRefusal};
+ghost use Rattle.tdf_dynamic_plans.specs.Known.{HasTablePlanned};
 ghost use Rattle.tdf_dynamic_plans.specs.Rates.{AreRates, IsWired, net_of, net_seen};
 ghost use Rattle.tdf_dynamic_plans.specs.declared.err.ChangeErr.TheVariants.{Refused};
 ghost use Rattle.tdf_dynamic.specs.declared.next.Next.TheVariants.{Same};
@@ -112,6 +113,7 @@ fn judged_by(
     requires tells { AllTell at.now.flat.now at.now.table.now at.now.frames.now }
     ensures plan { IfOk result (IsJudged at.now.flat.now.tables at.now.cluster at.now.table.now new.now at.now.frames.now) }
     ensures refused { IfErr result (IsRefusal (IsJudgedFault at.now.flat.now.tables at.now.cluster at.now.table.now new.now at.now.frames.now)) }
+    ensures planned { IfOk result (λ plan. HasTablePlanned at.now.flat.now.tables at.now.cluster new.now plan known.old known.new) }
 {
     law_counts();
     let tables = &at.flat.tables;
@@ -144,6 +146,7 @@ fn judged(
     requires tells { AllTell at.now.flat.now at.now.table.now at.now.frames.now }
     ensures plan { IfOk result (IsJudged at.now.flat.now.tables at.now.cluster at.now.table.now new.now at.now.frames.now) }
     ensures refused { IfErr result (IsRefusal (IsJudgedFault at.now.flat.now.tables at.now.cluster at.now.table.now new.now at.now.frames.now)) }
+    ensures planned { IfOk result (λ plan. HasTablePlanned at.now.flat.now.tables at.now.cluster new.now plan known.old known.new) }
 {
     let after = net_of(alloc, &at.flat.tables, new)?;
     match steps_of(alloc, &at.flat.tables, &after, at.clusters, at.cluster, new) {
@@ -169,6 +172,7 @@ fn with_table(
     requires after { (after : List AttrsOf) → AreAfter table.now frames.now (length table.now) after → AreAttributes flat.now cluster after }
     ensures found { IfOk result (IsFound flat.now.tables cluster table.now frames.now) }
     ensures refused { IfErr result (IsRefusal (IsTableRefused flat.now.tables cluster table.now frames.now)) }
+    ensures carried { IfOk result (IsCarried flat.now.tables cluster known.old known.new) }
 {
     let after = table_after(alloc, flat, table, frames)?;
     let clusters = clusters_of(alloc, &flat.tables)?;
@@ -203,6 +207,7 @@ fn changed(
     ensures unmarked { IsOk result → NoneMarks table.now frames.now }
     ensures found { IfOk result (IsFound flat.now.tables cluster table.now frames.now) }
     ensures refused { IfErr result (IsRefusal (IsRefusedAt flat.now.tables cluster table.now frames.now)) }
+    ensures carried { IfOk result (IsCarried flat.now.tables cluster known.old known.new) }
 {
     match first_marked(table, frames) {
         None => with_table(alloc, flat, cluster, table, frames, known),
@@ -227,14 +232,16 @@ pub fn next_plan(
     requires limits { AreWithinLimits flat.now }
     requires text { IsOfText flat.now }
     requires has { Contains (clusters_of flat.now.tables) cluster }
-    requires attributes { AreAttributes flat.now cluster attrs.old }
-    requires planned { IsPlanned flat.now.tables cluster attrs.old }
-    requires frames { AreFramesOf flat.now attrs.old frames.old.modules.items }
-    ensures answer { WhenAsked flat.now attrs.old frames.old.modules.items (λ asks.
-        AnswersAsks flat.now cluster asks attrs.old attrs.new result) }
-    ensures kept { OnErr result (attrs.new ≡ attrs.old) }
-    ensures frames { WhenAsked flat.now attrs.old frames.old.modules.items (λ asks.
-        HaveChanged flat.now asks attrs.old frames.new.modules.items) }
+    requires attributes { AreAttributes flat.now cluster attrs.old.rows }
+    requires planned { IsPlanned flat.now.tables cluster attrs.old.rows }
+    requires frames { AreFramesOf flat.now attrs.old.rows frames.old.modules.items }
+    ensures answer { WhenAsked flat.now attrs.old.rows frames.old.modules.items (λ asks.
+        AnswersAsks flat.now cluster asks attrs.old.rows attrs.new.rows result) }
+    ensures kept { OnErr result (attrs.new.rows ≡ attrs.old.rows) }
+    ensures carried { IfOk result (IsCarried flat.now.tables cluster attrs.old.known
+        attrs.new.known) }
+    ensures frames { WhenAsked flat.now attrs.old.rows frames.old.modules.items (λ asks.
+        HaveChanged flat.now asks attrs.old.rows frames.new.modules.items) }
     ensures long { length frames.new.modules.items ≡ length frames.old.modules.items }
     ensures room { vec_capacity frames.old.modules ≤ vec_capacity frames.new.modules }
 {

@@ -16,7 +16,7 @@ use Rattle.tdf_bind_connections.specs.declared.modules.PortRow.{PortRow}
 
 -- the table of the text and its plan
 pub record IsFirstPlan (flat : Flat) (cluster : ℕ) (first : First) : Type 0 where
-  pub attrs_are : first.attrs ≡ first_table flat cluster
+  pub attrs_are : first.attrs.rows ≡ first_table flat cluster
   pub plan_is : IsTablePlan flat.tables cluster (first_table flat cluster) first.plan
 
 -- the first fault of a cluster

@@ -17,7 +17,7 @@ use Rattle.tdf_lang_tree.specs.Pure.{PureTree}
 
 -- the same attributes and the same plan
 pub record AreSameFirsts (one other : First) : Type 0 where
-  pub attrs_are : one.attrs ≡ other.attrs
+  pub attrs_are : one.attrs.rows ≡ other.attrs.rows
   pub plans_are : AreSamePlans one.plan other.plan
 
 -- a cluster of a flat model

@@ -4,7 +4,9 @@ ghost use Rattle.std.specs.Prelude.{◌≡◌, ◌⊎◌, Contains, Err, IfOk, I
 ghost use Rattle.tdf_base.specs.declared.faults.Fault.{Fault};
 ghost use Rattle.tdf_dynamic_plans.specs.Attributes.{clusters_of};
 ghost use Rattle.tdf_dynamic_plans.specs.Faults.{IsRefusal};
+ghost use Rattle.tdf_dynamic_plans.specs.Known.{HasTablePlanned};
 ghost use Rattle.tdf_dynamic_first.specs.First.{IsFirstPlan, IsClusterFault, IsPlannable};
+ghost use Rattle.tdf_dynamic_first.specs.Text.{none_known};
 ghost use Rattle.tdf_dynamic_plans.specs.declared.err.ChangeErr.TheVariants.{Refused, Memory};
 ghost use Rattle.tdf_dynamic_first.specs.declared.first.First.{First};
 
@@ -33,6 +35,9 @@ pub fn first_plan(alloc: Global, flat: &Flat, cluster: u32) -> Result<First, Cha
     requires plannable { IsPlannable flat.now }
     requires has { Contains (clusters_of flat.now.tables) cluster }
     ensures first { IfOk result (IsFirstPlan flat.now cluster) }
+    ensures planned { IfOk result (λ first. HasTablePlanned flat.now.tables cluster
+        first.attrs.rows first.plan (none_known flat.now.tables first.attrs.rows)
+        first.attrs.known) }
     ensures refused { IfErr result (IsRefusal (IsClusterFault flat.now cluster)) }
 
     // Each answer comes wherever its cause is there, but for want of memory.

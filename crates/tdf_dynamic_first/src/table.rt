@@ -3,7 +3,7 @@
 ghost use Rattle.std.specs.List.{cons_option};
 ghost use Rattle.std.specs.Prelude.{◌≡◌, ◌<◌, ◌≤◌, ◌++◌, ◌∷◌, [], All, IfOk, OnOk, length, map};
 ghost use Rattle.tdf_dynamic_plans.specs.Attributes.{number_if, ports_of_module};
-ghost use Rattle.tdf_dynamic_first.specs.Text.{port_step, first_attrs, attrs_if, attrs_in, first_table};
+ghost use Rattle.tdf_dynamic_first.specs.Text.{port_step, first_attrs, attrs_if, attrs_in, can_change, changes_at, first_table, none_known};
 ghost use Rattle.tdf_expr.specs.Checked.{IsChecked};
 ghost use Rattle.tdf_expr.specs.Made.{block_count, start_rates};
 
@@ -170,13 +170,17 @@ fn table_rows(
     Ok(rows)
 }
 
-fn changes_at(tables: &FlatTables, number: u32) -> bool {
+fn changes_at(tables: &FlatTables, number: u32) -> bool
+    ensures { result ≡ changes_at tables.now number }
+{
     let place = number as usize;
     place < tables.modules.len() && tables.modules[place].changes
 }
 
 /// Whether a module of a table has a body that changes attributes.
-fn has_changes(tables: &FlatTables, rows: &[ModuleAttrs]) -> bool {
+fn has_changes(tables: &FlatTables, rows: &[ModuleAttrs]) -> bool
+    ensures { result ≡ can_change tables.now rows.now }
+{
     rows.iter().any(|attrs| changes_at(tables, attrs.number))
 }
 
@@ -189,7 +193,8 @@ pub(crate) fn first_table(alloc: Global, flat: &Flat, cluster: u32) -> Result<At
     requires checked { IsChecked flat.now.checked }
     requires blocks { All (λ row. row.block < block_count flat.now.checked) flat.now.tables.modules }
     requires actors { length flat.now.tables.modules ≤ length flat.now.tables.actors }
-    ensures { IfOk result (λ attrs. attrs ≡ first_table flat.now cluster) }
+    ensures rows { IfOk result (λ attrs. attrs.rows ≡ first_table flat.now cluster) }
+    ensures known { IfOk result (λ attrs. attrs.known ≡ none_known flat.now.tables attrs.rows) }
 {
     let rows = table_rows(alloc, flat, cluster, &flat.tables.modules)?;
     let changes = has_changes(&flat.tables, &rows);

@@ -1,4 +1,5 @@
 -- The lemmas that the crates above use.
 pub use Rattle.tdf_dynamic_plans.proofs.Assigned.{assigned_fit}
 pub use Rattle.tdf_dynamic_plans.proofs.Excludes.{fault_apart, fault_once, here_err, no_counts, no_steps, one_counts, plan_once, same_steps}
+pub use Rattle.tdf_dynamic_plans.proofs.Keeping.{rows_same}
 pub use Rattle.tdf_dynamic_plans.proofs.Nets.{clusters_are, modules_few, ports_are, edges_are_fit, rated_clusters}

@@ -1,11 +1,12 @@
 -- A plan that is known is that of what it was made from.
-use Rattle.std.proofs.Common.{◌≡◌, ◌∙◌, ◌+◌, ◌-◌, ◌<◌, ◌++◌, ◌∷◌, [], ℕ, zero, suc, List, Some, All, drop, length, inl, inr, refl, slice_index_or, sym, ap, subst, arith}
+use Rattle.std.proofs.Common.{◌≡◌, ◌∙◌, ◌+◌, ◌-◌, ◌^◌, ◌<◌, ◌++◌, ◌∷◌, [], ℕ, zero, suc, List, Some, All, drop, length, inl, inr, refl, slice_index_or, sym, ap, subst, arith}
 use Rattle.std.proofs.lemmas.Bool.{cases_eq}
 use Rattle.std.proofs.lemmas.List.Elements.{All-drop, All-push}
-use Rattle.std.specs.Prelude.{slice_get, slice_index}
+use Rattle.std.specs.Prelude.{Err, IfOk, Ok, OnOk, Result, min, slice_get, slice_index}
 use Rattle.tdf_dynamic_plans.specs.Faults.{IsPlanErr, IsPlanOf}
 use Rattle.tdf_dynamic_plans.specs.Rates.{NetOf}
-use Rattle.tdf_dynamic_plans.specs.Known.{AreFew, HasSameItems, IsMadeFrom, IsShort, KnownOf, PlansOf}
+use Rattle.tdf_dynamic_plans.specs.Known.{AreFew, HasKept, HasPlanned, HasSameItems, IsKnown, IsMadeFrom, IsShort, KnownOf, Made, PlansOf, AttrsTable}
+use Rattle.tdf_dynamic_plans.specs.declared.err.ChangeErr.{ChangeErr}
 use Rattle.tdf_dynamic_plans.specs.machine.Kept.{IsPlanIn}
 use Rattle.tdf_schedule.specs.Plan.{pace_of, IsBound, IsDeadlock, IsNoncausal, IsPlan}
 use Rattle.tdf_schedule.specs.declared.entry.Entry.{Entry}
@@ -35,6 +36,10 @@ module _ (net : NetOf) (counts : List ℕ) (one other : Steps) (same : one.actor
       same = items.period ∙ is.planned.same ∙ period;
     };
   }
+
+-- two tables that are the same have the same rows
+pub rows_same : {a b : AttrsTable} → a ≡ b → a.rows ≡ b.rows
+rows_same same = ap (λ (t : AttrsTable). t.rows) same
 
 -- a plan of a known net, counts and steps is one of those that it was made from
 pub made_from : (known : KnownOf) (net : NetOf) (counts : List ℕ) (steps : Steps) → IsMadeFrom known net counts steps → (plan : Plan) → IsPlanIn known plan → IsPlanOf net counts steps plan
@@ -87,3 +92,10 @@ few_more kept room new known made are rest less short is = record {
   short = subst (All (λ (x : KnownOf). IsShort x.plan)) (sym is) (All-push (λ (x : KnownOf). IsShort x.plan) room known
       (subst (All (λ (x : KnownOf). IsShort x.plan)) (sym rest) (All-drop (λ (x : KnownOf). IsShort x.plan) (length kept.plans + 1 - kept.most) kept.plans are.short)) short);
 }
+
+-- the plan was made where none is known
+pub planned_made : (net : NetOf) (counts : List ℕ) (steps : Steps) (old new : PlansOf) (r : Result Plan ChangeErr) → (IsKnown old.plans net counts steps → ⊥)
+    → IfOk r (λ plan. HasKept net counts steps plan old new) → OnOk r (new.made ≡ min (old.made + 1) (2 ^ 64 - 1)) → new.most ≡ old.most
+    → IfOk r (λ plan. HasPlanned net counts steps plan old new)
+planned_made net counts steps old new (Ok plan) none kept made most = Made none kept most made
+planned_made net counts steps old new (Err e) none kept made most = tt

@@ -1,7 +1,10 @@
 -- The plans of a cluster that are kept, each with what it was made from.
 -- Source: own.
-use Rattle.std.specs.Prelude.{◌≡◌, ◌+◌, ◌-◌, ◌≤◌, ◌++◌, ◌∷◌, [], ℕ, All, List, Some, drop, length, slice_get}
-use Rattle.tdf_dynamic_plans.specs.Rates.{NetOf}
+use Rattle.std.specs.Prelude.{◌≡◌, ◌+◌, ◌-◌, ◌^◌, ◌≤◌, ◌++◌, ◌∷◌, [], ℕ, All, List, Some, drop, length, min, slice_get}
+use Rattle.tdf_bind_tables.specs.FlatTables.{FlatTablesOf}
+use Rattle.tdf_dynamic_plans.specs.Attributes.{AttrsOf}
+use Rattle.tdf_dynamic_plans.specs.Faults.{HasTiming}
+use Rattle.tdf_dynamic_plans.specs.Rates.{NetOf, net_of}
 use Rattle.tdf_schedule.specs.declared.entry.Plan.{Plan}
 use Rattle.tdf_timestep.specs.declared.assign.Steps.{Steps}
 
@@ -18,6 +21,11 @@ pub record PlansOf : Type 0 where
   pub plans : List KnownOf
   pub most : ℕ
   pub made : ℕ
+
+-- the table of a cluster: its rows, and the plans of the cluster that are kept
+pub record AttrsTable : Type 0 where
+  pub rows : List AttrsOf
+  pub known : PlansOf
 
 -- a plan that may be kept
 abbrev pub IsShort : Plan → Type 0
@@ -66,3 +74,21 @@ pub data HasKept (net : NetOf) (counts : List ℕ) (steps : Steps) (plan : Plan)
       → HasKept net counts steps plan old new
   Left : (1 ≤ old.most → IsShort plan → ⊥) → new.plans ≡ old.plans
       → HasKept net counts steps plan old new
+
+-- what is left of the plans that are kept where the plan of these was found: all as they were where
+-- one was made from these; else the plan was made, which counts, and is kept where it may be
+pub data HasPlanned (net : NetOf) (counts : List ℕ) (steps : Steps) (plan : Plan)
+    (old new : PlansOf) : Type 0 where
+  Known : IsKnown old.plans net counts steps → new ≡ old
+      → HasPlanned net counts steps plan old new
+  Made : (IsKnown old.plans net counts steps → ⊥) → HasKept net counts steps plan old new
+      → new.most ≡ old.most → new.made ≡ min (old.made + 1) (2 ^ 64 - 1)
+      → HasPlanned net counts steps plan old new
+
+-- the same where the plan of a cluster under a table was found
+pub record HasTablePlanned (tables : FlatTablesOf) (cluster : ℕ) (table : List AttrsOf)
+    (plan : Plan) (old new : PlansOf) : Type 0 where
+  pub counts : List ℕ
+  pub steps : Steps
+  pub timing : HasTiming tables (net_of tables table) cluster table counts steps
+  pub planned : HasPlanned (net_of tables table) counts steps plan old new

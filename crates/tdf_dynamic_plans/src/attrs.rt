@@ -37,17 +37,16 @@ impl Model for ModuleAttrs {
 pub struct Attrs {
     /// The modules of the cluster with their attributes, in order.
     pub rows: Vec<ModuleAttrs>,
-    /// The plans of the cluster that were made last; contracts do not see them.
+    /// The plans of the cluster that were made last.
     pub known: KnownPlans,
 }
 
 impl Model for Attrs {
-    ghost use Rattle.std.specs.Prelude.{List};
-    ghost use Rattle.tdf_dynamic_plans.specs.Attributes.{AttrsOf};
+    ghost use Rattle.tdf_dynamic_plans.specs.Known.{AttrsTable};
 
-    ghost Value = { List AttrsOf };
+    ghost Value = { AttrsTable };
 
-    ghost view = { λ a. a.rows.items };
+    ghost view = { λ a. record { rows = a.rows.items; known = a.known } };
 }
 
 ghost use Rattle.std.specs.Prelude.{◌≡◌, ◌<◌, length, slice_index};
@@ -56,20 +55,21 @@ ghost use Rattle.tdf_dynamic_plans.specs.Attributes.{table_rates, table_steps, t
 impl Attrs {
     /// The table of these modules, with the plans that are known. It takes no memory.
     pub fn new(rows: Vec<ModuleAttrs>, known: KnownPlans) -> Attrs
-        ensures table { result ≡ rows.items }
+        ensures table { result ≡ record { rows = rows.items; known = known } }
     {
         Attrs { rows, known }
     }
 
-    /// How often a plan was made for this cluster, the first one included; a number that is the greatest stays. No clause ties it
-    /// to the work that was done.
-    pub fn plannings(&self) -> u64 {
+    /// How often a plan was made for this cluster, the first one included; a number that is the greatest stays.
+    pub fn plannings(&self) -> u64
+        ensures made { result ≡ self.now.known.made }
+    {
         self.known.plannings()
     }
 
     /// The modules of the cluster with their attributes, in order.
     pub fn rows(&self) -> &[ModuleAttrs]
-        ensures rows { result.now ≡ self.now }
+        ensures rows { result.now ≡ self.now.rows }
     {
         &self.rows
     }
@@ -77,9 +77,9 @@ impl Attrs {
     /// The value of a rate variable of a module. The module is told by its place among those of the cluster, the variable by its
     /// place among those of the module's block.
     pub fn rate(&self, module: u32, i: u32) -> u32
-        requires row { «module» < length self.now }
-        requires rate { i < length (table_rates self.now «module») }
-        ensures { result ≡ slice_index (table_rates self.now «module») i }
+        requires row { «module» < length self.now.rows }
+        requires rate { i < length (table_rates self.now.rows «module») }
+        ensures { result ≡ slice_index (table_rates self.now.rows «module») i }
     {
         let row = &self.rows[module as usize];
         row.rates[i as usize]
@@ -88,9 +88,9 @@ impl Attrs {
     /// An assigned timestep of a module, in counts of the model's resolution: its own at place 0, that of its port `i` at place
     /// `1 + i`; 0 where none is assigned.
     pub fn step(&self, module: u32, place: u32) -> u64
-        requires row { «module» < length self.now }
-        requires step { place < length (table_steps self.now «module») }
-        ensures { result ≡ slice_index (table_steps self.now «module») place }
+        requires row { «module» < length self.now.rows }
+        requires step { place < length (table_steps self.now.rows «module») }
+        ensures { result ≡ slice_index (table_steps self.now.rows «module») place }
     {
         let row = &self.rows[module as usize];
         row.steps[place as usize]
@@ -98,8 +98,8 @@ impl Attrs {
 
     /// Whether a module accepts changes of attributes.
     pub fn accepts(&self, module: u32) -> bool
-        requires { «module» < length self.now }
-        ensures { result ≡ table_accepts self.now «module» }
+        requires { «module» < length self.now.rows }
+        ensures { result ≡ table_accepts self.now.rows «module» }
     {
         let row = &self.rows[module as usize];
         row.accepts

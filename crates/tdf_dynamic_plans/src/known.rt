@@ -6,7 +6,7 @@ ghost use Rattle.tdf_base.specs.declared.faults.Fault.{Fault as FaultOf};
 ghost use Rattle.tdf_dynamic_plans.specs.Faults.{IsPlanFault, IsPlanOf, IsRefusal};
 ghost use Rattle.tdf_dynamic_plans.specs.declared.err.ChangeErr.TheVariants.{Refused};
 ghost use Rattle.tdf_dynamic_plans.specs.Rates.{net_seen};
-ghost use Rattle.tdf_dynamic_plans.specs.Known.{HasKept, HasSameItems, IsKnown, IsMadeFrom, IsShort};
+ghost use Rattle.tdf_dynamic_plans.specs.Known.{HasKept, HasPlanned, HasSameItems, IsKnown, IsMadeFrom, IsShort};
 ghost use Rattle.tdf_dynamic_plans.specs.machine.Kept.{IsPlanIn};
 ghost use Rattle.tdf_schedule.specs.Plan.{IsPaced};
 
@@ -298,6 +298,8 @@ impl KnownPlans {
         ensures made { (IsKnown self.old.plans (net_seen net) timing.counts.items timing.steps → ⊥)
             → OnOk result (self.new.made ≡ min (self.old.made + 1) (2 ^ 64 - 1)) }
         ensures most { self.new.most ≡ self.old.most }
+        ensures planned { IfOk result (λ plan. HasPlanned (net_seen net) timing.counts.items
+            timing.steps plan self.old self.new) }
         ensures unplanned { (fault : FaultOf) → result ≡ Err (Refused fault)
             → self.new ≡ self.old }
     {

@@ -3,7 +3,8 @@
 ghost use Rattle.std.specs.Prelude.{◌≡◌, All, Contains, IfOk, IfErr, vec_len};
 ghost use Rattle.tdf_dynamic_plans.specs.Attributes.{clusters_of, IsOfCluster};
 ghost use Rattle.tdf_dynamic_plans.specs.Faults.{IsNetFault, IsNetPlan, IsTableFault, IsTablePlan, IsRefusal};
-ghost use Rattle.tdf_dynamic_plans.specs.Rates.{net_seen, net_ports, AreRates, IsWired};
+ghost use Rattle.tdf_dynamic_plans.specs.Known.{HasTablePlanned};
+ghost use Rattle.tdf_dynamic_plans.specs.Rates.{net_of, net_seen, net_ports, AreRates, IsWired};
 ghost use Rattle.tdf_graph.specs.Clusters.{AreClusters};
 
 use crate::attrs::ModuleAttrs;
@@ -49,6 +50,8 @@ fn net_plan(
     requires table { All (IsOfCluster tables.now cluster) table.now }
     ensures plan { IfOk result (IsNetPlan tables.now (net_seen net) cluster table.now) }
     ensures refused { IfErr result (IsRefusal (IsNetFault tables.now (net_seen net) cluster table.now)) }
+    ensures planned { net_seen net ≡ net_of tables.now table.now
+        → IfOk result (λ plan. HasTablePlanned tables.now cluster table.now plan known.old known.new) }
 {
     match steps_of(alloc, tables, &net, clusters, cluster, table) {
         Ok(timing) => known.plan_of(alloc, tables, net, table, timing),
@@ -76,6 +79,8 @@ pub fn table_plan(
     requires rates { AreRates tables.now table.now }
     ensures plan { IfOk result (IsTablePlan tables.now cluster table.now) }
     ensures refused { IfErr result (IsRefusal (IsTableFault tables.now cluster table.now)) }
+    ensures planned { IfOk result (λ plan. HasTablePlanned tables.now cluster table.now plan
+        known.old known.new) }
 {
     let clusters = clusters_of(alloc, tables)?;
     let net = net_of(alloc, tables, table)?;

@@ -188,9 +188,9 @@ impl Attrs {
     /// The rate of a port of the cluster, by its number in the flat model; 1 for a port of another cluster.
     pub fn port_rate(&self, tables: &FlatTables, port: u32) -> u32
         requires port { port < length tables.now.ports }
-        requires rates { AreRates tables.now self.now }
+        requires rates { AreRates tables.now self.now.rows }
         ensures { (row : PortRowOf) → slice_get tables.now.ports port ≡ Some row
-            → result ≡ port_rate self.now row }
+            → result ≡ port_rate self.now.rows row }
     {
         rate_in(&self.rows, &tables.ports[port as usize])
     }

@@ -12,6 +12,7 @@ use Rattle.tdf_dynamic.specs.declared.frames.ModuleFrame.{ModuleFrame}
 use Rattle.tdf_dynamic.specs.declared.next.Next.{Next}
 use Rattle.tdf_dynamic.specs.declared.next.Next.TheVariants.{Changed, Same}
 use Rattle.tdf_dynamic_plans.specs.Attributes.{AttrsOf, attrs_at, clusters_of, rates_in}
+use Rattle.tdf_dynamic_plans.specs.Known.{PlansOf}
 use Rattle.tdf_dynamic_plans.specs.declared.err.ChangeErr.{ChangeErr}
 use Rattle.tdf_exec.proofs.Asks.{modules_are}
 use Rattle.tdf_exec.proofs.Crosses.{turns_are}
@@ -44,8 +45,8 @@ use Rattle.tdf_streams.specs.Periods.{AreAttributes, PeriodRecord}
 use Rattle.tdf_streams.specs.Places.{actor_kind, block_at, changes_row, has_changes}
 use Rattle.tdf_lang_tree.specs.Pure.{PureTree}
 
-abbrev pub crossed_of : ClusterOf → List AttrsOf → List Runner → ClusterOf
-crossed_of c table runners = record c { table = table; crossed = true; runners = runners }
+abbrev pub crossed_of : ClusterOf → List AttrsOf → PlansOf → List Runner → ClusterOf
+crossed_of c table known runners = record c { table = table; known = known; crossed = true; runners = runners }
 
 pub all_from : {A : Type 0} (P : A → Type 0) (xs : List A) → ((j : ℕ) (x : A) → slice_get xs j ≡ Some x → P x) → All P xs
 all_from P xs each = λ j d below. each j (slice_index_or xs j d) (slice_get-get_or xs j d below)
@@ -103,7 +104,7 @@ cells_asked model flat a cells = go (has_changes flat.tables.modules a.number)
     go false = refl
 
 module _ (flat : Flat) (c : ClusterOf) (laid : IsLaid flat) (of : IsClusterOf flat c) (end : next_offset c ≡ None) (model : PureTree) (runners : List Runner)
-    (moved : HaveMoved flat (asks_of model flat (values_at c.runners)) c.table c.runners runners) where
+    (moved : HaveMoved flat (asks_of model flat (values_at c.runners)) c.table c.runners runners) (known : PlansOf) where
   abbrev asks : Asks
   asks = asks_of model flat (values_at c.runners)
 
@@ -169,7 +170,7 @@ module _ (flat : Flat) (c : ClusterOf) (laid : IsLaid flat) (of : IsClusterOf fl
 
   -- a module has the rates of the table after the change bodies
   module_after : (m : ℕ) (x : ModuleOf) (s : Runner) → IsModuleOf flat c m x → (asked : IsAsked m x s)
-      → IsModuleWith flat (table_after asks c.table) (crossed_of c c.table runners) m (whole_of asked.f (rest_of x))
+      → IsModuleWith flat (table_after asks c.table) (crossed_of c c.table known runners) m (whole_of asked.f (rest_of x))
   module_after m x s is asked = record {
     actor_is = record { kind_is = is.actor_is.kind_is; inside = is.actor_is.inside };
     block_is = is.block_is;
@@ -196,18 +197,18 @@ module _ (flat : Flat) (c : ClusterOf) (laid : IsLaid flat) (of : IsClusterOf fl
       span_at : (n : ℕ) (p : PortSpan) → slice_get asked.f.ports.spans n ≡ Some p → slice_get x.ports.spans n ≡ Some p
       span_at n p at = ap (λ l. slice_get l n) (sym same_spans) ∙ at
 
-  runner_after : (m : ℕ) (r s : Runner) → IsRunnerOf flat c m r → AskedTo m r s → IsRunnerWith flat (table_after asks c.table) (crossed_of c c.table runners) m s
+  runner_after : (m : ℕ) (r s : Runner) → IsRunnerOf flat c m r → AskedTo m r s → IsRunnerWith flat (table_after asks c.table) (crossed_of c c.table known runners) m s
   runner_after m (runner.Module x) s is to =
-      subst (IsRunnerWith flat (table_after asks c.table) (crossed_of c c.table runners) m) (sym to.is) (module_after m x s is to)
+      subst (IsRunnerWith flat (table_after asks c.table) (crossed_of c c.table known runners) m) (sym to.is) (module_after m x s is to)
   runner_after m (runner.Sampler k) s is to =
-      subst (IsRunnerWith flat (table_after asks c.table) (crossed_of c c.table runners) m) (sym to)
+      subst (IsRunnerWith flat (table_after asks c.table) (crossed_of c c.table known runners) m) (sym to)
       (record { actor_is = is.actor_is; edges_are = is.edges_are; place_is = is.place_is ∙ before m; rate = is.rate; none = is.none })
   runner_after m (runner.Sink k) s is to =
-      subst (IsRunnerWith flat (table_after asks c.table) (crossed_of c c.table runners) m) (sym to)
+      subst (IsRunnerWith flat (table_after asks c.table) (crossed_of c c.table known runners) m) (sym to)
       (record { actor_is = is.actor_is; edge_is = is.edge_is; rate = is.rate; none = is.none })
-  runner_after m runner.Outside s is to = subst (IsRunnerWith flat (table_after asks c.table) (crossed_of c c.table runners) m) (sym to) is
+  runner_after m runner.Outside s is to = subst (IsRunnerWith flat (table_after asks c.table) (crossed_of c c.table known runners) m) (sym to) is
 
-  cluster_after : IsClusterWith flat (table_after asks c.table) (crossed_of c c.table runners)
+  cluster_after : IsClusterWith flat (table_after asks c.table) (crossed_of c c.table known runners)
   cluster_after = record {
     attributes = of.attributes;
     rows = record { each = of.rows.each; once = of.rows.once };
@@ -241,14 +242,14 @@ module _ (flat : Flat) (c : ClusterOf) (laid : IsLaid flat) (of : IsClusterOf fl
       subst (λ x. x ≡ with_flag x.accepts a) e (quiet_flag a (all_at (λ x. IsQuiet x (asks x)) c.table i a same at)))
 
   pub can_install : AreAttributes flat c.number (table_after asks c.table) → (table : List AttrsOf) (next : Next) → IsNext flat.tables c.number asks c.table table next
-      → CanInstall flat (crossed_of c table runners) next
+      → CanInstall flat (crossed_of c table known runners) next
   can_install attributes table Same is =
-      subst (λ (t : List AttrsOf). IsClusterOf flat (crossed_of c t runners)) (sym is.1)
-      (other_flags flat (table_after asks c.table) (crossed_of c c.table runners) cluster_after (table_after asks c.table) (same_flags is.0) attributes
+      subst (λ (t : List AttrsOf). IsClusterOf flat (crossed_of c t known runners)) (sym is.1)
+      (other_flags flat (table_after asks c.table) (crossed_of c c.table known runners) cluster_after (table_after asks c.table) (same_flags is.0) attributes
       (rows_after after (λ a. refl) flat c.number c.table of.rows))
   can_install attributes table (Changed attrs plan) is =
-      subst (λ (t : List AttrsOf). IsReadyFor flat (crossed_of c t runners) attrs plan) (sym is.0)
-      (subst (λ (t : List AttrsOf). IsReadyFor flat (crossed_of c c.table runners) t plan) (sym is.1) (record {
+      subst (λ (t : List AttrsOf). IsReadyFor flat (crossed_of c t known runners) attrs plan) (sym is.0)
+      (subst (λ (t : List AttrsOf). IsReadyFor flat (crossed_of c c.table known runners) (record { rows = t; known = attrs.known }) plan) (sym is.1) (record {
         of = cluster_after;
         attributes = attributes;
         rows = rows_after after (λ a. refl) flat c.number c.table of.rows;
@@ -282,7 +283,7 @@ module _ (flat : Flat) (c : ClusterOf) (laid : IsLaid flat) (of : IsClusterOf fl
   as_long table (Ok (Changed attrs plan)) is kept = ap length is.0
   as_long table (Err e) is kept = ap length kept
 
-  pub has_crossed : (table : List AttrsOf) (r : Result Next ChangeErr) → IfOk r (IsNext flat.tables c.number asks c.table table) → OnErr r (table ≡ c.table) → HasCrossed c (crossed_of c table runners)
+  pub has_crossed : (table : List AttrsOf) (r : Result Next ChangeErr) → IfOk r (IsNext flat.tables c.number asks c.table table) → OnErr r (table ≡ c.table) → HasCrossed c (crossed_of c table known runners)
   has_crossed table r is kept = record {
     rest = refl;
     rows = as_long table r is kept;
@@ -314,7 +315,7 @@ module _ (flat : Flat) (c : ClusterOf) (laid : IsLaid flat) (of : IsClusterOf fl
       absurd (is (eqb-true (slice_index (clusters_of flat.tables) m) c.number (not_not _ (neither (is_sampler_kind (actor_kind flat.tables m)) _ inside).1)))
 
   pub crosses_asked : (table : List AttrsOf) → (old : List PeriodRecord) (p : PeriodRecord) → p.info.table ≡ c.table → (from : ℕ) → (m : ℕ) (x : List ℤ)
-      → slice_get (play_of from (crossed_of c table runners)).states m ≡ Some x → is_outside_cluster flat.tables c.number m ≡ false
+      → slice_get (play_of from (crossed_of c table known runners)).states m ≡ Some x → is_outside_cluster flat.tables c.number m ≡ false
       → (b : List ℤ) × (slice_get (play_of from c).states m ≡ Some b) × (x ≡ changed model flat m (old ++ p ∷ []) b)
   crosses_asked table old p is from m x at inside = go (slice_get runners m) refl (sym (slice_get-map runner_cells runners m) ∙ at)
     where
@@ -329,14 +330,14 @@ module _ (flat : Flat) (c : ClusterOf) (laid : IsLaid flat) (of : IsClusterOf fl
           )
 
 -- where it stood at the end of a period, it crosses: for each model that the bodies are of
-pub crosses_from : (flat : Flat) (c : ClusterOf) (laid : IsLaid flat) (of : IsClusterOf flat c) (end : next_offset c ≡ None) (runners : List Runner) (table : List AttrsOf)
+pub crosses_from : (flat : Flat) (c : ClusterOf) (laid : IsLaid flat) (of : IsClusterOf flat c) (end : next_offset c ≡ None) (runners : List Runner) (table : List AttrsOf) (known : PlansOf)
     → ((model : PureTree) → IsCheckedOf model flat.checked → HaveMoved flat (asks_of model flat (values_at c.runners)) c.table c.runners runners) → length runners ≡ length c.runners
-    → CrossesFrom flat c (crossed_of c table runners)
-crosses_from flat c laid of end runners table moved long model start old p reads from f checked period stands =
-    change_crosses (cluster_net model flat c.number start) old p reads f (play_of from c) (play_of from (crossed_of c table runners)) (turns_are flat c.table c of end from p period) stands (record {
+    → CrossesFrom flat c (crossed_of c table known runners)
+crosses_from flat c laid of end runners table known moved long model start old p reads from f checked period stands =
+    change_crosses (cluster_net model flat c.number start) old p reads f (play_of from c) (play_of from (crossed_of c table known runners)) (turns_are flat c.table c of end from p period) stands (record {
       turns = ap (λ n. map (turns_from c.entries from c.place) (range_with_len 0 n)) long;
       lists = refl;
-      states = λ m x at inside. crosses_asked flat c laid of end model runners (moved model checked) table old p period.table from m x at inside;
+      states = λ m x at inside. crosses_asked flat c laid of end model runners (moved model checked) known table old p period.table from m x at inside;
     })
 
 -- where no module has changes, nothing is asked for

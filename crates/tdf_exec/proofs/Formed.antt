@@ -273,23 +273,23 @@ module _ (flat : Flat) (cluster : ℕ) (table : List AttrsOf) (laid : IsLaid fla
 
 module _ (flat : Flat) (cluster : ℕ) (first : First) (laid : IsLaid flat) (is : IsFirstPlan flat cluster first) where
   pub attrs_found : (m : ℕ) (row : ModuleRow) → slice_get flat.tables.modules m ≡ Some row → slice_index (clusters_of flat.tables) m ≡ cluster
-      → attrs_at first.attrs m ≡ Some (first_attrs flat m row)
+      → attrs_at first.attrs.rows m ≡ Some (first_attrs flat m row)
   attrs_found m row at own = ap (λ (t : List AttrsOf). attrs_at t m) is.attrs_are ∙ first_found flat cluster m row at own
 
   -- each module has its row in the first table
-  pub first_rows : HasRows flat.tables cluster first.attrs
+  pub first_rows : HasRows flat.tables cluster first.attrs.rows
   unfolding first_table
   first_rows = record {
     each = λ m below own. (
         let row = get_inside flat.tables.modules m below in
-        let p = attrs_place first.attrs m (first_attrs flat m row.0) (attrs_found m row.0 row.1 own) in
+        let p = attrs_place first.attrs.rows m (first_attrs flat m row.0) (attrs_found m row.0 row.1 own) in
         (p.0, first_attrs flat m row.0, p.1, p.2));
     once = λ i j one other at there same. once_in flat cluster 0 flat.tables.modules i j one other
         (ap (λ (t : List AttrsOf). slice_get t i) (sym is.attrs_are) ∙ at) (ap (λ (t : List AttrsOf). slice_get t j) (sym is.attrs_are) ∙ there) same;
   }
 
   -- the rate of a port of the cluster is at most its greatest
-  pub first_fits : PortsFit flat cluster laid first.attrs
+  pub first_fits : PortsFit flat cluster laid first.attrs.rows
   first_fits number port at own =
       let h : IsOwnPort flat number port = laid.ports number port at in
       subst (λ r. r ≤ h.span.count) (sym (ap (rate_by port) (attrs_found port.«module» h.row h.module_is own)))
@@ -299,7 +299,7 @@ module _ (flat : Flat) (cluster : ℕ) (first : First) (laid : IsLaid flat) (is 
   module _ (m : ℕ) (kind : actor_kind flat.tables m ≡ Some actor.Module) (own : slice_index (clusters_of flat.tables) m ≡ cluster) (w : WiresOf) (are : AreWiresOf flat.tables m w) where
     module _ (rings : List RingOf) (runners : List Runner) (positions : List ℕ) (x : ModuleOf) (begun : IsBegun flat m w x) where
       abbrev started : ClusterOf
-      started = start_of cluster first (read_rates (net_of flat.tables first.attrs)) (write_rates (net_of flat.tables first.attrs)) rings runners positions
+      started = start_of cluster first (read_rates (net_of flat.tables first.attrs.rows)) (write_rates (net_of flat.tables first.attrs.rows)) rings runners positions
 
       row : (r : ModuleRow) × (slice_get flat.tables.modules m ≡ Some r)
       row = get_inside flat.tables.modules m (below_modules flat laid m kind)
@@ -307,7 +307,7 @@ module _ (flat : Flat) (cluster : ℕ) (first : First) (laid : IsLaid flat) (is 
       spans_are : x.ports.spans ≡ port_spans_of flat.checked (block_at flat.tables.modules m)
       spans_are = begun.made.ports_are ∙ ap (port_spans_of flat.checked) begun.block_is
 
-      pub is_module : (list : List TracedPort) → list ≡ map (traced_port flat.tables first.attrs) (traced_ports flat.tables m) → IsModuleOf flat started m (record x { traced = list })
+      pub is_module : (list : List TracedPort) → list ≡ map (traced_port flat.tables first.attrs.rows) (traced_ports flat.tables m) → IsModuleOf flat started m (record x { traced = list })
       is_module list traced = record {
         actor_is = record { kind_is = kind; inside = own };
         block_is = begun.block_is;
@@ -316,13 +316,13 @@ module _ (flat : Flat) (cluster : ℕ) (first : First) (laid : IsLaid flat) (is 
         wires_are = subst (AreWiresOf flat.tables m) (sym begun.wires_are) are;
         wired = subst (λ v. AreWired v x.ports.spans (length flat.tables.edges)) (sym begun.wires_are)
             (subst (λ s. AreWired w s (length flat.tables.edges)) (sym spans_are) (laid.wired m w (below_modules flat laid m kind) are));
-        read_rate = λ j v p at there. (in_fits flat cluster first.attrs laid first_fits m kind own w are j v p (ins_at j v at) (span_at v.port p there)).small;
-        write_rate = λ j v p at there. (out_fits flat cluster first.attrs laid first_fits m kind own w are j v p (outs_at j v at) (span_at v.port p there)).small;
-        read_format = λ j v p at there. (in_fits flat cluster first.attrs laid first_fits m kind own w are j v p (ins_at j v at) (span_at v.port p there)).format;
-        write_format = λ j v p at there. (out_fits flat cluster first.attrs laid first_fits m kind own w are j v p (outs_at j v at) (span_at v.port p there)).format;
-        zeros = begun.zeros (read_rates (net_of flat.tables first.attrs));
+        read_rate = λ j v p at there. (in_fits flat cluster first.attrs.rows laid first_fits m kind own w are j v p (ins_at j v at) (span_at v.port p there)).small;
+        write_rate = λ j v p at there. (out_fits flat cluster first.attrs.rows laid first_fits m kind own w are j v p (outs_at j v at) (span_at v.port p there)).small;
+        read_format = λ j v p at there. (in_fits flat cluster first.attrs.rows laid first_fits m kind own w are j v p (ins_at j v at) (span_at v.port p there)).format;
+        write_format = λ j v p at there. (out_fits flat cluster first.attrs.rows laid first_fits m kind own w are j v p (outs_at j v at) (span_at v.port p there)).format;
+        zeros = begun.zeros (read_rates (net_of flat.tables first.attrs.rows));
         traced = traced;
-        traced_rate = λ j t at. subst (λ s. IsInSpans s t) (sym spans_are) (traced_fits flat cluster first.attrs laid first_fits m kind own w are list traced j t at);
+        traced_rate = λ j t at. subst (λ s. IsInSpans s t) (sym spans_are) (traced_fits flat cluster first.attrs.rows laid first_fits m kind own w are list traced j t at);
       }
         where
           ins_at : (j : ℕ) (v : InWire) → slice_get x.wires.ins j ≡ Some v → slice_get w.ins j ≡ Some v

@@ -6,6 +6,7 @@ use Rattle.std.proofs.lemmas.Option.{get_or_from_slice_get, slice_get-map, slice
 use Rattle.std.specs.List.{enumerate_from, range_with_len}
 use Rattle.std.specs.Prelude.{All, filter_map, slice_get, slice_index, slice_index_or}
 use Rattle.tdf_dynamic_plans.specs.Attributes.{AttrsOf, attrs_at, clusters_of, rates_in}
+use Rattle.tdf_dynamic_plans.specs.Known.{AttrsTable}
 use Rattle.tdf_dynamic_plans.specs.Rates.{net_of, net_ports, rated_edge}
 use Rattle.tdf_exec.proofs.Acting.{block_there}
 use Rattle.tdf_exec.proofs.Crosses.{head_held}
@@ -106,7 +107,7 @@ plain_can flat attrs c m (runner.Sampler s) is = tt
 plain_can flat attrs c m (runner.Sink k) is = tt
 plain_can flat attrs c m runner.Outside is = tt
 
-module _ (flat : Flat) (c : ClusterOf) (attrs : List AttrsOf) (plan : Plan) (ready : IsReadyFor flat c attrs plan) where
+module _ (flat : Flat) (c : ClusterOf) (attrs : AttrsTable) (plan : Plan) (ready : IsReadyFor flat c attrs plan) where
   pub can_restart : (rows rest : List (List TracedPort)) (given : List Runner) → AreGivenTraced (length rows) rows rest c.runners given
       → (m : ℕ) (r : Runner) → slice_get given m ≡ Some r → CanRestart flat.checked r
   can_restart rows rest given are m r at = go (cases_lt m (length rows))
@@ -115,12 +116,12 @@ module _ (flat : Flat) (c : ClusterOf) (attrs : List AttrsOf) (plan : Plan) (rea
       old = get_inside c.runners m (let w = slice_get_within given m r at in let s = are.same in omega (arith, w, s))
 
       go : (m < length rows) ⊎ (length rows ≤ m) → CanRestart flat.checked r
-      go (inl below) = subst (CanRestart flat.checked) (some_inj _ r (sym (are.done m old.0 below old.1) ∙ at)) (traced_can flat attrs c m (slice_index_or rows m []) old.0 (ready.of.runners m old.0 old.1))
-      go (inr past) = subst (CanRestart flat.checked) (some_inj old.0 r (sym (are.waiting m past ∙ old.1) ∙ at)) (plain_can flat attrs c m old.0 (ready.of.runners m old.0 old.1))
+      go (inl below) = subst (CanRestart flat.checked) (some_inj _ r (sym (are.done m old.0 below old.1) ∙ at)) (traced_can flat attrs.rows c m (slice_index_or rows m []) old.0 (ready.of.runners m old.0 old.1))
+      go (inr past) = subst (CanRestart flat.checked) (some_inj old.0 r (sym (are.waiting m past ∙ old.1) ∙ at)) (plain_can flat attrs.rows c m old.0 (ready.of.runners m old.0 old.1))
 
   module _ (laid : IsLaid flat) (law : PlansArePresent) (sound : IsSoundFlat flat) (end : next_offset c ≡ None) where
     abbrev pub next_of : List RingOf → List Runner → ClusterOf
-    next_of rings runners = with_new_plan c attrs plan (read_rates (net_of flat.tables attrs)) (write_rates (net_of flat.tables attrs)) rings runners
+    next_of rings runners = with_new_plan c attrs plan (read_rates (net_of flat.tables attrs.rows)) (write_rates (net_of flat.tables attrs.rows)) rings runners
 
     planned : (rings : List RingOf) (runners : List Runner) → IsClusterPlanned flat.tables (next_of rings runners)
     planned rings runners = record { plan = plan; plan_is = ready.plan_is; entries_are = refl; bounds_are = refl; period_is = refl }
@@ -129,14 +130,14 @@ module _ (flat : Flat) (c : ClusterOf) (attrs : List AttrsOf) (plan : Plan) (rea
     safe rings runners = plans_safe law flat (next_of rings runners) laid.limits ready.attributes (planned rings runners) refl refl
 
     held : (e : ℕ) → e < length flat.tables.edges → length (ring_at c.rings e).samples ≡ held_at_head flat.tables c.number e
-    held e within = head_held flat attrs c ready.of end sound laid.limits law e within
+    held e within = head_held flat attrs.rows c ready.of end sound laid.limits law e within
 
-    pub has : HasRecord flat c.number attrs plan true
-    has = table_record flat c.number attrs plan true ready.attributes ready.plan_is
+    pub has : HasRecord flat c.number attrs.rows plan true
+    has = table_record flat c.number attrs.rows plan true ready.attributes ready.plan_is
 
     bounds_long : length plan.bounds.items ≡ length flat.tables.edges
     unfolding net_of
-    bounds_long = has.plan_is.long ∙ length-map flat.tables.edges (rated_edge flat.tables.ports (net_ports flat.tables attrs))
+    bounds_long = has.plan_is.long ∙ length-map flat.tables.edges (rated_edge flat.tables.ports (net_ports flat.tables attrs.rows))
 
     none_done : (m : ℕ) → done plan.entries.items 0 m ≡ 0
     unfolding done
@@ -150,8 +151,8 @@ module _ (flat : Flat) (c : ClusterOf) (attrs : List AttrsOf) (plan : Plan) (rea
           let within : e < length flat.tables.edges = subst (λ n. e < n) ready.of.held.same below in
           let h = held e within in
           let b = (safe c.rings c.runners).bounded 0 e (omega arith) within in
-          let w = no_times (done plan.entries.items 0 (writer_at flat.tables.edges e)) (slice_index (write_rates (net_of flat.tables attrs)) e) (none_done (writer_at flat.tables.edges e)) in
-          let r = no_times (done plan.entries.items 0 (reader_at flat.tables.edges e)) (slice_index (read_rates (net_of flat.tables attrs)) e) (none_done (reader_at flat.tables.edges e)) in
+          let w = no_times (done plan.entries.items 0 (writer_at flat.tables.edges e)) (slice_index (write_rates (net_of flat.tables attrs.rows)) e) (none_done (writer_at flat.tables.edges e)) in
+          let r = no_times (done plan.entries.items 0 (reader_at flat.tables.edges e)) (slice_index (read_rates (net_of flat.tables attrs.rows)) e) (none_done (reader_at flat.tables.edges e)) in
           let i : slice_index rooms e ≡ room_for (slice_index plan.bounds.items e) = ap (λ (l : List ℕ). slice_index l e) is ∙ room_index plan.bounds.items e (subst (λ n. e < n) (sym bounds_long) within) in
           omega (arith, h, b, w, r, i);
     }
@@ -160,7 +161,7 @@ module _ (flat : Flat) (c : ClusterOf) (attrs : List AttrsOf) (plan : Plan) (rea
       d_is : d ≡ next_of d.rings d.runners
       d_is = re.d_is
           ∙ ap (λ l. with_new_plan c attrs plan l d.writes d.rings d.runners) re.parts.reads_are
-          ∙ ap (λ l. with_new_plan c attrs plan (read_rates (net_of flat.tables attrs)) l d.rings d.runners) re.parts.writes_are
+          ∙ ap (λ l. with_new_plan c attrs plan (read_rates (net_of flat.tables attrs.rows)) l d.rings d.runners) re.parts.writes_are
 
       ring_is : (e : ℕ) → e < length flat.tables.edges → ring_at d.rings e ≡ ring_of (ring_at c.rings e).samples (room_for (slice_index plan.bounds.items e))
       ring_is e within =
@@ -220,7 +221,7 @@ module _ (flat : Flat) (c : ClusterOf) (attrs : List AttrsOf) (plan : Plan) (rea
           (take_all (length flat.tables.ports) flat.tables.ports (omega arith))
 
       -- a module that has begun again is one of the cluster
-      module _ (m : ℕ) (x y : ModuleOf) (list : List TracedPort) (is : IsModuleWith flat attrs c m x) (again : HasRestarted flat.checked (record x { traced = list }) y) where
+      module _ (m : ℕ) (x y : ModuleOf) (list : List TracedPort) (is : IsModuleWith flat attrs.rows c m x) (again : HasRestarted flat.checked (record x { traced = list }) y) where
         own : slice_index (clusters_of flat.tables) m ≡ c.number
         own = is.actor_is.inside
 
@@ -247,9 +248,9 @@ module _ (flat : Flat) (c : ClusterOf) (attrs : List AttrsOf) (plan : Plan) (rea
             ap (λ (s : State). s.frame.rates) (again.ran.after ready.of.keep.model block.0 ready.of.keep.are block.1)
             ∙ ready.of.keep.again x.block block.0 (state_of x.frame.state (ports_before x.ports.spans (length x.ports.state.notified) nothing_read)) block.1
 
-        next_module : list ≡ map (traced_port flat.tables attrs) (traced_ports flat.tables m) → IsModuleOf flat (next_of d.rings d.runners) m y
+        next_module : list ≡ map (traced_port flat.tables attrs.rows) (traced_ports flat.tables m) → IsModuleOf flat (next_of d.rings d.runners) m y
         next_module list_is =
-            let fits = ports_fit flat c.number laid attrs ready.attributes ready.rows in
+            let fits = ports_fit flat c.number laid attrs.rows ready.attributes ready.rows in
             record {
               actor_is = record { kind_is = kind; inside = own };
               block_is = again.block ∙ is.block_is;
@@ -258,13 +259,13 @@ module _ (flat : Flat) (c : ClusterOf) (attrs : List AttrsOf) (plan : Plan) (rea
               wires_are = wires_are;
               wired = subst (λ w. AreWired w y.ports.spans (length flat.tables.edges)) (sym again.wires)
                   (subst (λ s. AreWired x.wires s (length flat.tables.edges)) (sym same_spans) is.wired);
-              read_rate = λ j w p at there. (in_fits flat c.number attrs laid fits m kind own y.wires wires_are j w p at (span_at w.port p there)).small;
-              write_rate = λ j w p at there. (out_fits flat c.number attrs laid fits m kind own y.wires wires_are j w p at (span_at w.port p there)).small;
-              read_format = λ j w p at there. (in_fits flat c.number attrs laid fits m kind own y.wires wires_are j w p at (span_at w.port p there)).format;
-              write_format = λ j w p at there. (out_fits flat c.number attrs laid fits m kind own y.wires wires_are j w p at (span_at w.port p there)).format;
-              zeros = again.zeros y.wires (read_rates (net_of flat.tables attrs));
+              read_rate = λ j w p at there. (in_fits flat c.number attrs.rows laid fits m kind own y.wires wires_are j w p at (span_at w.port p there)).small;
+              write_rate = λ j w p at there. (out_fits flat c.number attrs.rows laid fits m kind own y.wires wires_are j w p at (span_at w.port p there)).small;
+              read_format = λ j w p at there. (in_fits flat c.number attrs.rows laid fits m kind own y.wires wires_are j w p at (span_at w.port p there)).format;
+              write_format = λ j w p at there. (out_fits flat c.number attrs.rows laid fits m kind own y.wires wires_are j w p at (span_at w.port p there)).format;
+              zeros = again.zeros y.wires (read_rates (net_of flat.tables attrs.rows));
               traced = again.traced ∙ list_is;
-              traced_rate = λ j t at. subst (λ s. IsInSpans s t) (sym spans_are) (traced_fits flat c.number attrs laid fits m kind own y.wires wires_are y.traced (again.traced ∙ list_is) j t at);
+              traced_rate = λ j t at. subst (λ s. IsInSpans s t) (sym spans_are) (traced_fits flat c.number attrs.rows laid fits m kind own y.wires wires_are y.traced (again.traced ∙ list_is) j t at);
             }
 
         -- its reinitialize body has run, with the rates of the table
@@ -272,29 +273,29 @@ module _ (flat : Flat) (c : ClusterOf) (attrs : List AttrsOf) (plan : Plan) (rea
         begun_state cells rates spans events = state_of (record { cells = cells; rates = rates }) (ports_before spans events nothing_read)
 
         state_is : state_of x.frame.state (ports_before x.ports.spans (length x.ports.state.notified) nothing_read)
-            ≡ begun_state x.frame.state.cells (rates_in (attrs_at attrs m)) (port_spans_of flat.checked (block_at flat.tables.modules m)) (event_count flat.checked (block_at flat.tables.modules m))
+            ≡ begun_state x.frame.state.cells (rates_in (attrs_at attrs.rows m)) (port_spans_of flat.checked (block_at flat.tables.modules m)) (event_count flat.checked (block_at flat.tables.modules m))
         state_is =
             ap (λ l. begun_state x.frame.state.cells l x.ports.spans (length x.ports.state.notified)) is.rates
-            ∙ ap (λ l. begun_state x.frame.state.cells (rates_in (attrs_at attrs m)) l (length x.ports.state.notified)) (is.made.ports_are ∙ ap (port_spans_of flat.checked) is.block_is)
-            ∙ ap (begun_state x.frame.state.cells (rates_in (attrs_at attrs m)) (port_spans_of flat.checked (block_at flat.tables.modules m))) (is.made.events ∙ ap (event_count flat.checked) is.block_is)
+            ∙ ap (λ l. begun_state x.frame.state.cells (rates_in (attrs_at attrs.rows m)) l (length x.ports.state.notified)) (is.made.ports_are ∙ ap (port_spans_of flat.checked) is.block_is)
+            ∙ ap (begun_state x.frame.state.cells (rates_in (attrs_at attrs.rows m)) (port_spans_of flat.checked (block_at flat.tables.modules m))) (is.made.events ∙ ap (event_count flat.checked) is.block_is)
 
         done_cells : (model : PureTree) → IsCheckedOf model flat.checked
-            → y.frame.state.cells ≡ (done_by model flat m body.Reinitialize x.frame.state.cells (rates_in (attrs_at attrs m)) nothing_read).frame.cells
+            → y.frame.state.cells ≡ (done_by model flat m body.Reinitialize x.frame.state.cells (rates_in (attrs_at attrs.rows m)) nothing_read).frame.cells
         unfolding done_by
         done_cells model checked =
             ap (λ (s : State). s.frame.cells) (again.ran.after model there.0 checked there.1)
             ∙ ap (λ s. (after_part model (Some there.0) body.Reinitialize s).frame.cells) state_is
-            ∙ ap (λ o. (after_part model o body.Reinitialize (begun_state x.frame.state.cells (rates_in (attrs_at attrs m)) (port_spans_of flat.checked (block_at flat.tables.modules m))
+            ∙ ap (λ o. (after_part model o body.Reinitialize (begun_state x.frame.state.cells (rates_in (attrs_at attrs.rows m)) (port_spans_of flat.checked (block_at flat.tables.modules m))
             (event_count flat.checked (block_at flat.tables.modules m)))).frame.cells) (sym there.1 ∙ ap (slice_get (blocks_of model.globals)) is.block_is)
           where
             there : (p : PureBlock) × (slice_get (blocks_of model.globals) x.block ≡ Some p)
             there = block_there _ (blocks_of model.globals) flat.checked.blocks.items x.block checked is.made.block
 
       -- the traced ports of a module
-      rows_are : (m : ℕ) → m < length flat.tables.modules → slice_index_or re.rows m [] ≡ map (traced_port flat.tables attrs) (traced_ports flat.tables m)
-      rows_are m below = re.parts.traced_are.each m below ∙ ap (map (traced_port flat.tables attrs)) (all_traced m)
+      rows_are : (m : ℕ) → m < length flat.tables.modules → slice_index_or re.rows m [] ≡ map (traced_port flat.tables attrs.rows) (traced_ports flat.tables m)
+      rows_are m below = re.parts.traced_are.each m below ∙ ap (map (traced_port flat.tables attrs.rows)) (all_traced m)
 
-      module_came : (m : ℕ) (x : ModuleOf) (g s : Runner) → IsModuleWith flat attrs c m x → (m < length re.rows → g ≡ with_traced (slice_index_or re.rows m []) (runner.Module x))
+      module_came : (m : ℕ) (x : ModuleOf) (g s : Runner) → IsModuleWith flat attrs.rows c m x → (m < length re.rows → g ≡ with_traced (slice_index_or re.rows m []) (runner.Module x))
           → IsRestarted flat.checked g s → (y : ModuleOf) × (s ≡ runner.Module y) × HasRestarted flat.checked (record x { traced = slice_index_or re.rows m [] }) y
       module_came m x g s is low again =
           let below = below_modules flat laid m is.actor_is.kind_is in let l = rows_long in
@@ -306,7 +307,7 @@ module _ (flat : Flat) (c : ClusterOf) (attrs : List AttrsOf) (plan : Plan) (rea
         edges_are = is.edges_are;
         place_is = is.place_is ∙ before m;
         rate = λ e writes. (let row = get_inside flat.tables.edges e writes.inside in
-            writes_at flat.tables attrs e row.0 row.1 ∙ sampler_writes flat laid attrs row.0 (laid.rows e row.0 row.1)
+            writes_at flat.tables attrs.rows e row.0 row.1 ∙ sampler_writes flat laid attrs.rows row.0 (laid.rows e row.0 row.1)
             (ap (actor_kind flat.tables) (sym (ap writer_of_row row.1) ∙ writes.writer) ∙ is.actor_is.kind_is));
         none = is.none;
       }
@@ -316,12 +317,12 @@ module _ (flat : Flat) (c : ClusterOf) (attrs : List AttrsOf) (plan : Plan) (rea
         actor_is = record { kind_is = is.actor_is.kind_is; inside = is.actor_is.inside };
         edge_is = is.edge_is;
         rate = (let row = get_inside flat.tables.edges edge is.edge_is.is.inside in
-            reads_at flat.tables attrs edge row.0 row.1 ∙ sink_reads flat laid attrs row.0 (laid.rows edge row.0 row.1)
+            reads_at flat.tables attrs.rows edge row.0 row.1 ∙ sink_reads flat laid attrs.rows row.0 (laid.rows edge row.0 row.1)
             (ap (actor_kind flat.tables) (sym (ap reader_of_row row.1) ∙ is.edge_is.is.reader) ∙ is.actor_is.kind_is));
         none = is.none;
       }
 
-      next_runner : (m : ℕ) (r g s : Runner) → IsRunnerWith flat attrs c m r → (m < length re.rows → g ≡ with_traced (slice_index_or re.rows m []) r) → (length re.rows ≤ m → g ≡ r)
+      next_runner : (m : ℕ) (r g s : Runner) → IsRunnerWith flat attrs.rows c m r → (m < length re.rows → g ≡ with_traced (slice_index_or re.rows m []) r) → (length re.rows ≤ m → g ≡ r)
           → IsRestarted flat.checked g s → IsRunnerOf flat (next_of d.rings d.runners) m s
       next_runner m (runner.Module x) g s is low high again =
           let y = module_came m x g s is low again in
@@ -333,7 +334,7 @@ module _ (flat : Flat) (c : ClusterOf) (attrs : List AttrsOf) (plan : Plan) (rea
       next_runner m runner.Outside g s is low high again =
           subst (IsRunnerOf flat (next_of d.rings d.runners) m) (sym (subst (λ (q : Runner). IsRestarted flat.checked q s) (plain m runner.Outside g (λ l. refl) low high) again)) is
 
-      kin : (m : ℕ) (r g s : Runner) → IsRunnerWith flat attrs c m r → (m < length re.rows → g ≡ with_traced (slice_index_or re.rows m []) r) → (length re.rows ≤ m → g ≡ r)
+      kin : (m : ℕ) (r g s : Runner) → IsRunnerWith flat attrs.rows c m r → (m < length re.rows → g ≡ with_traced (slice_index_or re.rows m []) r) → (length re.rows ≤ m → g ≡ r)
           → IsRestarted flat.checked g s → IsKin r s
       kin m (runner.Module x) g s is low high again = let y = module_came m x g s is low again in (y.0, y.1, y.2.block, y.2.wires)
       kin m (runner.Sampler k) g s is low high again = subst (λ (q : Runner). IsRestarted flat.checked q s) (plain m (runner.Sampler k) g (λ l. refl) low high) again
@@ -388,23 +389,23 @@ module _ (flat : Flat) (c : ClusterOf) (attrs : List AttrsOf) (plan : Plan) (rea
       new_cluster = subst (IsClusterOf flat) (sym d_is) next_cluster
 
       -- the values of an actor after its reinitialize body
-      next_cells : (model : PureTree) → IsCheckedOf model flat.checked → (m : ℕ) (r g s : Runner) → IsRunnerWith flat attrs c m r → (m < length re.rows → g ≡ with_traced (slice_index_or re.rows m []) r)
+      next_cells : (model : PureTree) → IsCheckedOf model flat.checked → (m : ℕ) (r g s : Runner) → IsRunnerWith flat attrs.rows c m r → (m < length re.rows → g ≡ with_traced (slice_index_or re.rows m []) r)
           → (length re.rows ≤ m → g ≡ r) → IsRestarted flat.checked g s
-          → runner_cells s ≡ (done_by model flat m body.Reinitialize (runner_cells r) (rates_in (attrs_at attrs m)) nothing_read).frame.cells
+          → runner_cells s ≡ (done_by model flat m body.Reinitialize (runner_cells r) (rates_in (attrs_at attrs.rows m)) nothing_read).frame.cells
       next_cells model checked m (runner.Module x) g s is low high again =
           let y = module_came m x g s is low again in
           ap runner_cells y.1 ∙ done_cells m x y.0 (slice_index_or re.rows m []) is y.2 model checked
       next_cells model checked m (runner.Sampler k) g s is low high again =
-          ap runner_cells (subst (λ (q : Runner). IsRestarted flat.checked q s) (plain m (runner.Sampler k) g (λ l. refl) low high) again) ∙ sym (done_bare model flat m body.Reinitialize (rates_in (attrs_at attrs m)) nothing_read)
+          ap runner_cells (subst (λ (q : Runner). IsRestarted flat.checked q s) (plain m (runner.Sampler k) g (λ l. refl) low high) again) ∙ sym (done_bare model flat m body.Reinitialize (rates_in (attrs_at attrs.rows m)) nothing_read)
       next_cells model checked m (runner.Sink k) g s is low high again =
-          ap runner_cells (subst (λ (q : Runner). IsRestarted flat.checked q s) (plain m (runner.Sink k) g (λ l. refl) low high) again) ∙ sym (done_bare model flat m body.Reinitialize (rates_in (attrs_at attrs m)) nothing_read)
+          ap runner_cells (subst (λ (q : Runner). IsRestarted flat.checked q s) (plain m (runner.Sink k) g (λ l. refl) low high) again) ∙ sym (done_bare model flat m body.Reinitialize (rates_in (attrs_at attrs.rows m)) nothing_read)
       next_cells model checked m runner.Outside g s is low high again =
-          ap runner_cells (subst (λ (q : Runner). IsRestarted flat.checked q s) (plain m runner.Outside g (λ l. refl) low high) again) ∙ sym (done_bare model flat m body.Reinitialize (rates_in (attrs_at attrs m)) nothing_read)
+          ap runner_cells (subst (λ (q : Runner). IsRestarted flat.checked q s) (plain m runner.Outside g (λ l. refl) low high) again) ∙ sym (done_bare model flat m body.Reinitialize (rates_in (attrs_at attrs.rows m)) nothing_read)
 
       abbrev Reinitialized : PureTree → PeriodInfo → ℕ → List ℤ → Type 0
       Reinitialized model info m x = (b : List ℤ) × (slice_get (map runner_cells c.runners) m ≡ Some b) × (x ≡ reinitialized model flat m info b)
 
-      state_at : (model : PureTree) → IsCheckedOf model flat.checked → (info : PeriodInfo) → info.is_new ≡ true → info.table ≡ attrs → (m : ℕ) (x : List ℤ)
+      state_at : (model : PureTree) → IsCheckedOf model flat.checked → (info : PeriodInfo) → info.is_new ≡ true → info.table ≡ attrs.rows → (m : ℕ) (x : List ℤ)
           → slice_get (map runner_cells d.runners) m ≡ Some x → Reinitialized model info m x
       state_at model checked info fresh table m x at = go (slice_get d.runners m) refl (sym (slice_get-map runner_cells d.runners m) ∙ at)
         where
@@ -419,7 +420,7 @@ module _ (flat : Flat) (c : ClusterOf) (attrs : List AttrsOf) (plan : Plan) (rea
                     ∙ sym (ap (λ (b : Bool). if b then (done_by model flat m body.Reinitialize (runner_cells h.r) (module_rates info m) nothing_read).frame.cells else runner_cells h.r) fresh),
               )
 
-      stands_next_of : StandsAtNew flat attrs c (next_of d.rings d.runners)
+      stands_next_of : StandsAtNew flat attrs.rows c (next_of d.rings d.runners)
       stands_next_of model start old p next reads from f checked past timed fresh table crosses =
           install_stands (cluster_net model flat c.number start) old p next reads f (play_of from c) (play_of 0 (next_of d.rings d.runners))
           (are_active model flat c.number start old p (play_of from c) past timed (let l = length-map c.runners runner_cells in let a = ready.of.actors in omega (arith, l, a))) crosses (record {
@@ -428,5 +429,5 @@ module _ (flat : Flat) (c : ClusterOf) (attrs : List AttrsOf) (plan : Plan) (rea
             states = λ m x at inside. state_at model checked next.info fresh table m x at;
           })
 
-      pub stands_new : StandsAtNew flat attrs c d
-      stands_new = subst (StandsAtNew flat attrs c) (sym d_is) stands_next_of
+      pub stands_new : StandsAtNew flat attrs.rows c d
+      stands_new = subst (StandsAtNew flat attrs.rows c) (sym d_is) stands_next_of

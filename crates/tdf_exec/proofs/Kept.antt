@@ -114,9 +114,9 @@ traced_alike l runner.Outside = refl
 
 module _ (flat : Flat) (cluster : ℕ) (first : First) (sound : IsSoundFlat flat) (laid : IsLaid flat) (is : IsFirstPlan flat cluster first) (law : PlansArePresent)
     (rings : List RingOf) (runners : List Runner) (positions : List ℕ) (rings_are : AreFirstRings flat.tables cluster first.plan.bounds.items (length flat.tables.edges) rings)
-    (are : AreRunnersOf flat cluster first.attrs runners) (none_done : positions ≡ replicate (length flat.tables.actors) 0) where
+    (are : AreRunnersOf flat cluster first.attrs.rows runners) (none_done : positions ≡ replicate (length flat.tables.actors) 0) where
   abbrev started : ClusterOf
-  started = start_of cluster first (read_rates (net_of flat.tables first.attrs)) (write_rates (net_of flat.tables first.attrs)) rings runners positions
+  started = start_of cluster first (read_rates (net_of flat.tables first.attrs.rows)) (write_rates (net_of flat.tables first.attrs.rows)) rings runners positions
 
   long : length runners ≡ length flat.tables.actors
   long = are.given.same ∙ are.begun_are.long ∙ are.wires_are.long
@@ -180,7 +180,7 @@ module _ (flat : Flat) (cluster : ℕ) (first : First) (sound : IsSoundFlat flat
         let l = are.traced_are.long in
         subst (IsRunnerOf flat started m) (sym (low (omega (arith, below, l))))
         (is_module flat cluster first laid is m kind own w h rings runners positions x begun (slice_index_or are.rows m [])
-        (are.traced_are.each m below ∙ ap (map (traced_port flat.tables first.attrs)) (all_traced m)))
+        (are.traced_are.each m below ∙ ap (map (traced_port flat.tables first.attrs.rows)) (all_traced m)))
       where
         all_traced : (m : ℕ) → traced_before flat.tables (length flat.tables.ports) m ≡ traced_ports flat.tables m
         all_traced m = ap (λ l. filter_map (λ port. number_if_traced flat.tables m port.0 port.1) (enumerate_from 0 l))
@@ -196,7 +196,7 @@ module _ (flat : Flat) (cluster : ℕ) (first : First) (sound : IsSoundFlat flat
       edges_are = subst (AreEdgesOf flat.tables m) (sym edges_are) h;
       place_is = place_is ∙ before m;
       rate = λ e writes. (let row = get_inside flat.tables.edges e writes.inside in
-          writes_at flat.tables first.attrs e row.0 row.1 ∙ sampler_writes flat laid first.attrs row.0 (laid.rows e row.0 row.1)
+          writes_at flat.tables first.attrs.rows e row.0 row.1 ∙ sampler_writes flat laid first.attrs.rows row.0 (laid.rows e row.0 row.1)
           (ap (actor_kind flat.tables) (sym (ap writer_of_row row.1) ∙ writes.writer) ∙ kind));
       none = λ e reads. (let row = get_inside flat.tables.edges e reads.inside in
           sampler_never flat laid row.0 (laid.rows e row.0 row.1) (ap (actor_kind flat.tables) (sym (ap reader_of_row row.1) ∙ reads.reader) ∙ kind));
@@ -207,7 +207,7 @@ module _ (flat : Flat) (cluster : ℕ) (first : First) (sound : IsSoundFlat flat
       actor_is = record { kind_is = kind; inside = own };
       edge_is = h;
       rate = (let row = get_inside flat.tables.edges edge h.is.inside in
-          reads_at flat.tables first.attrs edge row.0 row.1 ∙ sink_reads flat laid first.attrs row.0 (laid.rows edge row.0 row.1)
+          reads_at flat.tables first.attrs.rows edge row.0 row.1 ∙ sink_reads flat laid first.attrs.rows row.0 (laid.rows edge row.0 row.1)
           (ap (actor_kind flat.tables) (sym (ap reader_of_row row.1) ∙ h.is.reader) ∙ kind));
       none = λ e writes. (let row = get_inside flat.tables.edges e writes.inside in
           sink_never flat laid row.0 (laid.rows e row.0 row.1) (ap (actor_kind flat.tables) (sym (ap writer_of_row row.1) ∙ writes.writer) ∙ kind));
@@ -294,17 +294,17 @@ module _ (flat : Flat) (cluster : ℕ) (first : First) (sound : IsSoundFlat flat
 
   -- what the variables of a module hold at the start
   abbrev cells_at : PureTree → ℕ → List ℤ
-  cells_at model m = slice_index_or (text_start model flat cluster first.attrs).cells m []
+  cells_at model m = slice_index_or (text_start model flat cluster first.attrs.rows).cells m []
 
   abbrev first_cells : PureTree → ℕ → List ℤ
-  first_cells model m = initialized model flat m (rates_in (attrs_at first.attrs m))
+  first_cells model m = initialized model flat m (rates_in (attrs_at first.attrs.rows m))
 
   made_cells : (model : PureTree) (m : ℕ) → m < length flat.tables.modules → cells_at model m ≡ first_cells model m
-  made_cells model m below = get_or_from_slice_get (text_start model flat cluster first.attrs).cells m (first_cells model m) []
+  made_cells model m below = get_or_from_slice_get (text_start model flat cluster first.attrs.rows).cells m (first_cells model m) []
       (get_made_at (first_cells model) 0 (length flat.tables.modules) m below ∙ (let z : 0 + m ≡ m = omega arith in ap (λ k. Some (first_cells model k)) z))
 
   past_cells : (model : PureTree) (m : ℕ) → length flat.tables.modules ≤ m → cells_at model m ≡ []
-  past_cells model m past = get_or_past (text_start model flat cluster first.attrs).cells m []
+  past_cells model m past = get_or_past (text_start model flat cluster first.attrs.rows).cells m []
       (let l = length-map-range_with_len (first_cells model) 0 (length flat.tables.modules) in omega (arith, l, past))
 
   module_cells : (model : PureTree) → IsCheckedOf model flat.checked → (m : ℕ) → slice_index (clusters_of flat.tables) m ≡ cluster → m < length flat.tables.modules → (w : WiresOf) (x : ModuleOf)
@@ -367,15 +367,15 @@ module _ (flat : Flat) (cluster : ℕ) (first : First) (sound : IsSoundFlat flat
       go None there given = none_some x given
       go (Some r) there given = sym (some_same (runner_cells r) x given) ∙ state_is model checked m r there inside
 
-  list_at : (e : ℕ) → e < length flat.tables.edges → slice_index_or (map (λ (r : RingOf). r.samples) rings) e [] ≡ slice_index_or (text_start sound.model flat cluster first.attrs).lists e []
+  list_at : (e : ℕ) → e < length flat.tables.edges → slice_index_or (map (λ (r : RingOf). r.samples) rings) e [] ≡ slice_index_or (text_start sound.model flat cluster first.attrs.rows).lists e []
   list_at e within = get_or-map (λ (r : RingOf). r.samples) rings e (ring_of [] 0) ∙ lists_are flat cluster first sound laid is law rings runners positions rings_are e within
 
   pub stands : StandsAtStart flat started
-  stands model p reads checked = start_stands (cluster_net model flat cluster (text_start model flat cluster first.attrs)) p reads (play_of 0 started) (record {
+  stands model p reads checked = start_stands (cluster_net model flat cluster (text_start model flat cluster first.attrs.rows)) p reads (play_of 0 started) (record {
     turns = λ m. zero_in (turns_from first.plan.entries.items 0 0) (range_with_len 0 (length runners)) m (λ j. omega arith);
     states = λ m x at inside. state_at model checked m x at inside;
     long = λ e within. ap length (list_at e within);
-    items = λ e j x within at. sym (get_or_from_slice_get (slice_index_or (text_start model flat cluster first.attrs).lists e []) j x zero_sample
+    items = λ e j x within at. sym (get_or_from_slice_get (slice_index_or (text_start model flat cluster first.attrs.rows).lists e []) j x zero_sample
         (ap (λ l. slice_get l j) (sym (list_at e within)) ∙ at));
   })
 
@@ -385,9 +385,9 @@ pub is_made : (flat : Flat) (cluster : ℕ) (first : First) → IsSoundFlat flat
     → IsClusterOf flat (start_of cluster first reads writes rings runners positions)
 is_made flat cluster first sound laid is law reads writes rings runners positions parts =
     subst (λ r. IsClusterOf flat (start_of cluster first r writes rings runners positions)) (sym parts.reads_are)
-    (subst (λ w. IsClusterOf flat (start_of cluster first (read_rates (net_of flat.tables first.attrs)) w rings runners positions)) (sym parts.writes_are)
+    (subst (λ w. IsClusterOf flat (start_of cluster first (read_rates (net_of flat.tables first.attrs.rows)) w rings runners positions)) (sym parts.writes_are)
     (is_cluster flat cluster first sound laid is law rings runners positions parts.rings_are parts.runners_are parts.none_done))
 
 -- the rates of the first table are in range
-pub first_rates : (flat : Flat) (cluster : ℕ) (first : First) → IsSoundFlat flat → IsLaid flat → IsFirstPlan flat cluster first → PlansArePresent → AreRates flat.tables first.attrs
-first_rates flat cluster first sound laid is law = are_rates flat laid.limits first.attrs (timed flat cluster first sound laid is law).attributes.allowed
+pub first_rates : (flat : Flat) (cluster : ℕ) (first : First) → IsSoundFlat flat → IsLaid flat → IsFirstPlan flat cluster first → PlansArePresent → AreRates flat.tables first.attrs.rows
+first_rates flat cluster first sound laid is law = are_rates flat laid.limits first.attrs.rows (timed flat cluster first sound laid is law).attributes.allowed

@@ -40,10 +40,11 @@ use Rattle.tdf_bind_connections.specs.declared.edges.EdgeRow.{EdgeRow}
 abbrev pub start_of : (cluster : ℕ) → First → (reads writes : List ℕ) → List RingOf → List Runner → (positions : List ℕ) → ClusterOf
 start_of cluster first reads writes rings runners positions = record {
   number = cluster;
-  table = first.attrs;
+  table = first.attrs.rows;
   entries = first.plan.entries.items;
   bounds = first.plan.bounds.items;
   period = first.plan.period;
+  known = first.attrs.known;
   place = 0;
   crossed = false;
   reads = reads;
@@ -75,7 +76,7 @@ all_if P xs true all = all
 all_if P xs false all = λ k d inside. absurd (omega (arith, inside))
 
 module _ (flat : Flat) (cluster : ℕ) (first : First) (sound : IsSoundFlat flat) (laid : IsLaid flat) (is : IsFirstPlan flat cluster first) (law : PlansArePresent) where
-  pub has : HasRecord flat cluster first.attrs first.plan true
+  pub has : HasRecord flat cluster first.attrs.rows first.plan true
   has = first_record flat cluster first laid.limits is
 
   abbrev entries : List Entry
@@ -85,19 +86,19 @@ module _ (flat : Flat) (cluster : ℕ) (first : First) (sound : IsSoundFlat flat
   bounds = first.plan.bounds.items
 
   abbrev pub period : PeriodRecord
-  period = period_record flat.tables first.attrs has.counts first.plan.period true
+  period = period_record flat.tables first.attrs.rows has.counts first.plan.period true
 
   pub timed : IsTimedRecord flat cluster period
   timed = has.record_is.is.timed
 
   abbrev pace : ℕ → ℕ
-  pace = pace_in (net_of flat.tables first.attrs) has.steps
+  pace = pace_in (net_of flat.tables first.attrs.rows) has.steps
 
-  planned : IsPlan (net_of flat.tables first.attrs).edges pace has.counts entries
+  planned : IsPlan (net_of flat.tables first.attrs.rows).edges pace has.counts entries
   planned = has.plan_is.planned
 
   active : (i : ℕ) (x : Entry) → slice_get entries i ≡ Some x → x.index < slice_index has.counts x.actor
-  active i x at = entry_active (net_of flat.tables first.attrs).edges pace has.counts entries planned i x at
+  active i x at = entry_active (net_of flat.tables first.attrs.rows).edges pace has.counts entries planned i x at
 
   own : (i : ℕ) (x : Entry) → slice_get entries i ≡ Some x → slice_index (clusters_of flat.tables) x.actor ≡ cluster
   own i x at = active_inside flat cluster period timed x.actor x.index (active i x at)
@@ -122,50 +123,50 @@ module _ (flat : Flat) (cluster : ℕ) (first : First) (sound : IsSoundFlat flat
   nothing_done m = refl
 
   bounded : (i e : ℕ) → i ≤ length entries → e < length flat.tables.edges
-      → held_at_head flat.tables cluster e + done entries i (writer_at flat.tables.edges e) * slice_index (write_rates (net_of flat.tables first.attrs)) e
-      ≤ room_for (slice_index bounds e) + done entries i (reader_at flat.tables.edges e) * slice_index (read_rates (net_of flat.tables first.attrs)) e
+      → held_at_head flat.tables cluster e + done entries i (writer_at flat.tables.edges e) * slice_index (write_rates (net_of flat.tables first.attrs.rows)) e
+      ≤ room_for (slice_index bounds e) + done entries i (reader_at flat.tables.edges e) * slice_index (read_rates (net_of flat.tables first.attrs.rows)) e
   bounded i e below within = go (cases_eq (slice_index (clusters_of flat.tables) (writer_at flat.tables.edges e)) cluster)
     where
       go : (slice_index (clusters_of flat.tables) (writer_at flat.tables.edges e) ≡ cluster) ⊎ (slice_index (clusters_of flat.tables) (writer_at flat.tables.edges e) ≢ cluster)
-          → held_at_head flat.tables cluster e + done entries i (writer_at flat.tables.edges e) * slice_index (write_rates (net_of flat.tables first.attrs)) e
-          ≤ room_for (slice_index bounds e) + done entries i (reader_at flat.tables.edges e) * slice_index (read_rates (net_of flat.tables first.attrs)) e
+          → held_at_head flat.tables cluster e + done entries i (writer_at flat.tables.edges e) * slice_index (write_rates (net_of flat.tables first.attrs.rows)) e
+          ≤ room_for (slice_index bounds e) + done entries i (reader_at flat.tables.edges e) * slice_index (read_rates (net_of flat.tables first.attrs.rows)) e
       go (inl here) =
           let b = bound_at flat cluster laid.limits period timed pace first.plan has.plan_is i below e within here in
           let r = room_most (slice_index bounds e) in omega (arith, b, r)
       go (inr apart) =
           let h : held_at_head flat.tables cluster e ≡ 0 = ap (λ b. if b then initial_of_row (slice_get flat.tables.edges e) else 0)
           (ne_eqb (slice_index (clusters_of flat.tables) (writer_at flat.tables.edges e)) cluster apart) in
-          let d = no_times (done entries i (writer_at flat.tables.edges e)) (slice_index (write_rates (net_of flat.tables first.attrs)) e)
+          let d = no_times (done entries i (writer_at flat.tables.edges e)) (slice_index (write_rates (net_of flat.tables first.attrs.rows)) e)
           (none_done (writer_at flat.tables.edges e) i apart) in omega (arith, h, d)
 
   -- what the rings hold
   list_is : (e : ℕ) (edge : EdgeRow) → slice_get flat.tables.edges e ≡ Some edge
-      → list_of flat.tables cluster edge ≡ slice_index_or (text_start sound.model flat cluster first.attrs).lists e []
+      → list_of flat.tables cluster edge ≡ slice_index_or (text_start sound.model flat cluster first.attrs.rows).lists e []
   list_is e edge at =
       ap (λ o. if nat_eq (slice_index (clusters_of flat.tables) (writer_of_row o)) cluster then initial_list flat.tables edge else []) (sym at)
-      ∙ sym (text_list sound.model flat cluster first.attrs e edge at)
+      ∙ sym (text_list sound.model flat cluster first.attrs.rows e edge at)
 
   held_first : (e : ℕ) (edge : EdgeRow) → slice_get flat.tables.edges e ≡ Some edge → length (list_of flat.tables cluster edge) ≡ held_at_head flat.tables cluster e
   held_first e edge at = ap length (list_is e edge at)
-      ∙ text_holds_delays sound.model flat cluster first.attrs sound.is e (slice_get_within flat.tables.edges e edge at)
+      ∙ text_holds_delays sound.model flat cluster first.attrs.rows sound.is e (slice_get_within flat.tables.edges e edge at)
 
-  edges_long : length (net_of flat.tables first.attrs).edges ≡ length flat.tables.edges
+  edges_long : length (net_of flat.tables first.attrs.rows).edges ≡ length flat.tables.edges
   unfolding net_of
-  edges_long = length-map flat.tables.edges (rated_edge flat.tables.ports (net_ports flat.tables first.attrs))
+  edges_long = length-map flat.tables.edges (rated_edge flat.tables.ports (net_ports flat.tables first.attrs.rows))
 
   pub fit : FitAtFirst flat.tables cluster first.plan.bounds.items
   fit = record {
     long = has.plan_is.long ∙ edges_long;
     fits = λ e edge at.
         let h = held_first e edge at in let b = bounded 0 e (omega arith) (slice_get_within flat.tables.edges e edge at) in
-        let w = no_times (done entries 0 (writer_at flat.tables.edges e)) (slice_index (write_rates (net_of flat.tables first.attrs)) e) (nothing_done (writer_at flat.tables.edges e)) in
-        let r = no_times (done entries 0 (reader_at flat.tables.edges e)) (slice_index (read_rates (net_of flat.tables first.attrs)) e) (nothing_done (reader_at flat.tables.edges e)) in
+        let w = no_times (done entries 0 (writer_at flat.tables.edges e)) (slice_index (write_rates (net_of flat.tables first.attrs.rows)) e) (nothing_done (writer_at flat.tables.edges e)) in
+        let r = no_times (done entries 0 (reader_at flat.tables.edges e)) (slice_index (read_rates (net_of flat.tables first.attrs.rows)) e) (nothing_done (reader_at flat.tables.edges e)) in
         omega (arith, h, b, w, r);
   }
 
   module _ (rings : List RingOf) (runners : List Runner) (positions : List ℕ) (rings_are : AreFirstRings flat.tables cluster first.plan.bounds.items (length flat.tables.edges) rings) where
     abbrev begun : ClusterOf
-    begun = start_of cluster first (read_rates (net_of flat.tables first.attrs)) (write_rates (net_of flat.tables first.attrs)) rings runners positions
+    begun = start_of cluster first (read_rates (net_of flat.tables first.attrs.rows)) (write_rates (net_of flat.tables first.attrs.rows)) rings runners positions
 
     pub is_safe : IsClusterSafe flat.tables begun
     is_safe = record {
@@ -194,8 +195,8 @@ module _ (flat : Flat) (cluster : ℕ) (first : First) (sound : IsSoundFlat flat
       held = λ e within.
           let row = get_inside flat.tables.edges e within in
           let l = ap length (ring_is e row.0 row.1) in let h = held_first e row.0 row.1 in
-          let w = no_times (done entries 0 (writer_at flat.tables.edges e)) (slice_index (write_rates (net_of flat.tables first.attrs)) e) (nothing_done (writer_at flat.tables.edges e)) in
-          let r = no_times (done entries 0 (reader_at flat.tables.edges e)) (slice_index (read_rates (net_of flat.tables first.attrs)) e) (nothing_done (reader_at flat.tables.edges e)) in
+          let w = no_times (done entries 0 (writer_at flat.tables.edges e)) (slice_index (write_rates (net_of flat.tables first.attrs.rows)) e) (nothing_done (writer_at flat.tables.edges e)) in
+          let r = no_times (done entries 0 (reader_at flat.tables.edges e)) (slice_index (read_rates (net_of flat.tables first.attrs.rows)) e) (nothing_done (reader_at flat.tables.edges e)) in
           omega (arith, l, h, w, r);
       room = λ e within.
           let row = get_inside flat.tables.edges e within in
@@ -204,5 +205,5 @@ module _ (flat : Flat) (cluster : ℕ) (first : First) (sound : IsSoundFlat flat
     }
 
     -- the rings are the lists of the start
-    pub lists_are : (e : ℕ) → e < length flat.tables.edges → (ring_at rings e).samples ≡ slice_index_or (text_start sound.model flat cluster first.attrs).lists e []
+    pub lists_are : (e : ℕ) → e < length flat.tables.edges → (ring_at rings e).samples ≡ slice_index_or (text_start sound.model flat cluster first.attrs.rows).lists e []
     lists_are e within = let row = get_inside flat.tables.edges e within in ring_is e row.0 row.1 ∙ list_is e row.0 row.1

@@ -3,6 +3,7 @@
 use Rattle.std.specs.List.{count_by}
 use Rattle.std.specs.Prelude.{ℕ, Bool, false, List, Option, Some, None, drop, nat_eq, option_map, slice_get}
 use Rattle.tdf_dynamic_plans.specs.Attributes.{AttrsOf}
+use Rattle.tdf_dynamic_plans.specs.Known.{PlansOf}
 use Rattle.tdf_exec.specs.declared.runners.Runner.{Runner}
 use Rattle.tdf_rings.specs.Rings.{RingOf}
 use Rattle.tdf_schedule.specs.declared.entry.Entry.{Entry}
@@ -14,6 +15,8 @@ pub record ClusterOf : Type 0 where
   pub entries : List Entry
   pub bounds : List ℕ
   pub period : ℕ
+  -- the plans that are known
+  pub known : PlansOf
   -- how many entries are done in this period, and whether its change bodies have run
   pub place : ℕ
   pub crossed : Bool

@@ -7,6 +7,7 @@ use Rattle.tdf_dynamic.specs.declared.next.Next.{Next}
 use Rattle.tdf_dynamic.specs.declared.next.Next.TheVariants.{Changed, Same}
 use Rattle.tdf_dynamic_plans.specs.Attributes.{AttrsOf, clusters_of}
 use Rattle.tdf_dynamic_plans.specs.Faults.{IsTablePlan}
+use Rattle.tdf_dynamic_plans.specs.Known.{AttrsTable}
 use Rattle.tdf_exec.specs.Cluster.{ClusterOf}
 use Rattle.tdf_exec.specs.Made.{HasRows, IsClusterOf, IsClusterWith, room_for}
 use Rattle.tdf_exec.specs.Played.{IsLike, IsPeriodOf, runner_cells, play_of}
@@ -53,10 +54,15 @@ abbrev pub WhenItAsks : Flat → ClusterOf → (Asks → Type 0) → Type 0
 WhenItAsks flat c P = (model : PureTree) (cells : ℕ → List ℤ) → IsCheckedOf model flat.checked
     → AreCellsOf c cells → P (asks_of model flat cells)
 
--- the cluster has crossed: beside that, only the flags of its table have changed, and the values
--- and ports of its modules
+-- the cluster has crossed: beside that, only the flags of its table, the plans that are known, and
+-- the values and ports of its modules have changed
 pub record HasCrossed (c d : ClusterOf) : Type 0 where
-  pub rest : d ≡ record c { table = d.table; crossed = true; runners = d.runners }
+  pub rest : d ≡ record c {
+    table = d.table;
+    known = d.known;
+    crossed = true;
+    runners = d.runners;
+  }
   pub rows : length d.table ≡ length c.table
   pub flags : (i : ℕ) (attrs : AttrsOf) → slice_get c.table i ≡ Some attrs
       → (accepts : Bool) × (slice_get d.table i ≡ Some (record attrs { accepts = accepts }))
@@ -74,13 +80,13 @@ CrossesFrom flat c d = (model : PureTree) (start : Start) (old : List PeriodReco
     → Crosses (cluster_net model flat c.number start) old p reads f (play_of from d)
 
 -- a new table and its plan are those of the cluster, and its modules have the rates of this table
-pub record IsReadyFor (flat : Flat) (c : ClusterOf) (attrs : List AttrsOf) (plan : Plan)
+pub record IsReadyFor (flat : Flat) (c : ClusterOf) (attrs : AttrsTable) (plan : Plan)
     : Type 0 where
-  pub of : IsClusterWith flat attrs c
-  pub attributes : AreAttributes flat c.number attrs
-  pub rows : HasRows flat.tables c.number attrs
-  pub long : length attrs ≡ length c.table
-  pub plan_is : IsTablePlan flat.tables c.number attrs plan
+  pub of : IsClusterWith flat attrs.rows c
+  pub attributes : AreAttributes flat c.number attrs.rows
+  pub rows : HasRows flat.tables c.number attrs.rows
+  pub long : length attrs.rows ≡ length c.table
+  pub plan_is : IsTablePlan flat.tables c.number attrs.rows plan
 
 -- the next period can be begun with an answer
 abbrev pub CanInstall : Flat → ClusterOf → Next → Type 0
@@ -88,10 +94,11 @@ CanInstall flat c Same = IsClusterOf flat c
 CanInstall flat c (Changed attrs plan) = IsReadyFor flat c attrs plan
 
 -- a cluster at the head of a period with a new table and plan
-abbrev pub with_new_plan : ClusterOf → List AttrsOf → Plan → (reads writes : List ℕ) → List RingOf
+abbrev pub with_new_plan : ClusterOf → AttrsTable → Plan → (reads writes : List ℕ) → List RingOf
     → List Runner → ClusterOf
 with_new_plan c attrs plan reads writes rings runners = record c {
-  table = attrs;
+  table = attrs.rows;
+  known = attrs.known;
   entries = plan.entries.items;
   bounds = plan.bounds.items;
   period = plan.period;
@@ -116,7 +123,7 @@ IsKin other r = r ≡ other
 
 -- each edge holds what it held, and has room for its new bound; beside that, the rates in force and
 -- what its modules keep have changed
-pub record HasNewPlan (c : ClusterOf) (attrs : List AttrsOf) (plan : Plan) (d : ClusterOf)
+pub record HasNewPlan (c : ClusterOf) (attrs : AttrsTable) (plan : Plan) (d : ClusterOf)
     : Type 0 where
   pub rest : d ≡ with_new_plan c attrs plan d.reads d.writes d.rings d.runners
   pub same : length d.rings ≡ length c.rings
@@ -152,4 +159,4 @@ StandsAtNew flat attrs c d = (model : PureTree) (start : Start) (old : List Peri
 -- where it crosses with an answer, it then stands at the head of the period that follows
 abbrev pub StandsAfter : Flat → Next → (c d : ClusterOf) → Type 0
 StandsAfter flat Same c d = StandsAtNext flat c d
-StandsAfter flat (Changed attrs plan) c d = StandsAtNew flat attrs c d
+StandsAfter flat (Changed attrs plan) c d = StandsAtNew flat attrs.rows c d

@@ -38,7 +38,8 @@ pub record IsSoundFlat (flat : Flat) : Type 0 where
 -- under the first attributes and plan of a cluster nothing is done yet
 pub record IsAtStart (cluster : ℕ) (first : First) (c : ClusterOf) : Type 0 where
   pub number_is : c.number ≡ cluster
-  pub table_is : c.table ≡ first.attrs
+  pub table_is : c.table ≡ first.attrs.rows
+  pub known_is : c.known ≡ first.attrs.known
   pub entries_are : c.entries ≡ first.plan.entries.items
   pub bounds_are : c.bounds ≡ first.plan.bounds.items
   pub period_is : c.period ≡ first.plan.period

@@ -27,7 +27,7 @@ impl Model for Spare {
 
 ghost use Rattle.std.specs.Prelude.{◌≡◌, ◌≤◌, ℕ, Contains, IfOk, length, Ok, OnErr};
 ghost use Rattle.tdf_dynamic.specs.Given.{IsOfText, IsPlanned};
-ghost use Rattle.tdf_dynamic.specs.Next.{AnswersAsks};
+ghost use Rattle.tdf_dynamic.specs.Next.{AnswersAsks, IsCarried};
 ghost use Rattle.tdf_dynamic_plans.specs.Attributes.{clusters_of};
 ghost use Rattle.tdf_exec.specs.machine.Moving.{AreInstances, AreModules, HaveMoved, WhenTheyAsk, numbers_of};
 ghost use Rattle.tdf_bind_invariants.specs.Limits.{AreWithinLimits};
@@ -72,16 +72,18 @@ impl Spare {
         requires limits { AreWithinLimits flat.now }
         requires text { IsOfText flat.now }
         requires has { Contains (clusters_of flat.now.tables) cluster }
-        requires attributes { AreAttributes flat.now cluster attrs.old }
-        requires planned { IsPlanned flat.now.tables cluster attrs.old }
-        requires modules { AreModules (numbers_of attrs.old) runners.old.items }
-        requires instances { AreInstances flat.now attrs.old runners.old.items }
-        requires room { length attrs.old ≤ self.old }
-        ensures answer { WhenTheyAsk flat.now attrs.old runners.old.items (λ asks.
-            AnswersAsks flat.now cluster asks attrs.old attrs.new result) }
-        ensures kept { OnErr result (attrs.new ≡ attrs.old) }
-        ensures moved { WhenTheyAsk flat.now attrs.old runners.old.items (λ asks.
-            HaveMoved flat.now asks attrs.old runners.old.items runners.new.items) }
+        requires attributes { AreAttributes flat.now cluster attrs.old.rows }
+        requires planned { IsPlanned flat.now.tables cluster attrs.old.rows }
+        requires modules { AreModules (numbers_of attrs.old.rows) runners.old.items }
+        requires instances { AreInstances flat.now attrs.old.rows runners.old.items }
+        requires room { length attrs.old.rows ≤ self.old }
+        ensures answer { WhenTheyAsk flat.now attrs.old.rows runners.old.items (λ asks.
+            AnswersAsks flat.now cluster asks attrs.old.rows attrs.new.rows result) }
+        ensures kept { OnErr result (attrs.new.rows ≡ attrs.old.rows) }
+        ensures carried { IfOk result (IsCarried flat.now.tables cluster attrs.old.known
+            attrs.new.known) }
+        ensures moved { WhenTheyAsk flat.now attrs.old.rows runners.old.items (λ asks.
+            HaveMoved flat.now asks attrs.old.rows runners.old.items runners.new.items) }
         ensures room { self.old ≤ self.new }
     {
         take_out(

@@ -33,10 +33,11 @@ impl Model for Cluster {
 
     ghost view = { λ a. record {
       number = a.number;
-      table = a.attrs;
+      table = a.attrs.rows;
       entries = a.plan.entries.items;
       bounds = a.plan.bounds.items;
       period = a.plan.period;
+      known = a.attrs.known;
       place = a.place;
       crossed = a.crossed;
       reads = a.reads.items;
@@ -48,7 +49,7 @@ impl Model for Cluster {
 
     ghost invariant = { λ a. record {
       sorted : AreByOffset a.plan.entries.items;
-      room : length a.attrs ≤ a.spare;
+      room : length a.attrs.rows ≤ a.spare;
     } };
 }
 

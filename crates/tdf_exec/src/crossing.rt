@@ -1,7 +1,7 @@
 //! From the end of a period to the next.
 
 ghost use Rattle.std.specs.Prelude.{◌≡◌, ◌<◌, ℕ, All, IfOk, IsOk, None, Ok, OnErr, OnOk, Some, false, length, slice_get, true};
-ghost use Rattle.tdf_dynamic.specs.Next.{AnswersAsks};
+ghost use Rattle.tdf_dynamic.specs.Next.{AnswersAsks, IsCarried};
 ghost use Rattle.tdf_dynamic.specs.declared.next.Next.TheVariants.{Same};
 ghost use Rattle.tdf_dynamic_plans.specs.Attributes.{AttrsOf};
 ghost use Rattle.tdf_exec.specs.Cluster.{next_offset};
@@ -57,6 +57,8 @@ impl Cluster {
         ensures answer { WhenItAsks flat.now self.old (λ asks. AnswersAsks flat.now
             self.old.number asks self.old.table self.new.table result) }
         ensures kept { OnErr result (self.new.table ≡ self.old.table) }
+        ensures carried { IfOk result (IsCarried flat.now.tables self.old.number self.old.known
+            self.new.known) }
         ensures heads { HoldHeads flat.now.tables self.old }
         ensures crossed { HasCrossed self.old self.new }
         ensures crosses { CrossesFrom flat.now self.old self.new }

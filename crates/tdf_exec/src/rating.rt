@@ -24,8 +24,8 @@ fn edge_kind(ports: &[PortRow], edge: EdgeRow) -> Option<PortKind>
 }
 
 fn rate_at(flat: &Flat, attrs: &Attrs, port: u32) -> u32
-    requires { AreRates flat.now.tables attrs.now }
-    ensures { result ≡ rate_at_port (net_ports flat.now.tables attrs.now) (Some port) }
+    requires { AreRates flat.now.tables attrs.now.rows }
+    ensures { result ≡ rate_at_port (net_ports flat.now.tables attrs.now.rows) (Some port) }
 {
     if (port as usize) < flat.tables.ports.len() {
         return attrs.port_rate(&flat.tables, port);
@@ -35,8 +35,8 @@ fn rate_at(flat: &Flat, attrs: &Attrs, port: u32) -> u32
 
 /// The rate of a port that is told by its number, 1 where none is told.
 fn rate_of(flat: &Flat, attrs: &Attrs, port: Option<u32>) -> u32
-    requires { AreRates flat.now.tables attrs.now }
-    ensures { result ≡ rate_at_port (net_ports flat.now.tables attrs.now) port }
+    requires { AreRates flat.now.tables attrs.now.rows }
+    ensures { result ≡ rate_at_port (net_ports flat.now.tables attrs.now.rows) port }
 {
     match port {
         None => 1,
@@ -45,8 +45,8 @@ fn rate_of(flat: &Flat, attrs: &Attrs, port: Option<u32>) -> u32
 }
 
 fn read_rate(flat: &Flat, attrs: &Attrs, edge: EdgeRow) -> u32
-    requires { AreRates flat.now.tables attrs.now }
-    ensures { result ≡ read_rate_by (net_ports flat.now.tables attrs.now) edge
+    requires { AreRates flat.now.tables attrs.now.rows }
+    ensures { result ≡ read_rate_by (net_ports flat.now.tables attrs.now.rows) edge
         (edge_kind flat.now.tables.ports edge) }
 {
     match edge_kind(&flat.tables.ports, edge) {
@@ -59,8 +59,8 @@ fn read_rate(flat: &Flat, attrs: &Attrs, edge: EdgeRow) -> u32
 }
 
 fn write_rate(flat: &Flat, attrs: &Attrs, edge: EdgeRow) -> u32
-    requires { AreRates flat.now.tables attrs.now }
-    ensures { result ≡ write_rate_by (net_ports flat.now.tables attrs.now) edge
+    requires { AreRates flat.now.tables attrs.now.rows }
+    ensures { result ≡ write_rate_by (net_ports flat.now.tables attrs.now.rows) edge
         (edge_kind flat.now.tables.ports edge) }
 {
     match edge_kind(&flat.tables.ports, edge) {
@@ -77,8 +77,8 @@ fn write_rate(flat: &Flat, attrs: &Attrs, edge: EdgeRow) -> u32
 /// # Errors
 /// Out of memory.
 pub(crate) fn read_rates(alloc: Global, flat: &Flat, attrs: &Attrs) -> Result<Vec<u32>, Memory>
-    requires { AreRates flat.now.tables attrs.now }
-    ensures { IfOk result (λ rates. rates.items ≡ read_rates (net_of flat.now.tables attrs.now)) }
+    requires { AreRates flat.now.tables attrs.now.rows }
+    ensures { IfOk result (λ rates. rates.items ≡ read_rates (net_of flat.now.tables attrs.now.rows)) }
 {
     let mut rates = Vec::new(alloc);
     for e in 0..flat.tables.edges.len() {
@@ -92,8 +92,8 @@ pub(crate) fn read_rates(alloc: Global, flat: &Flat, attrs: &Attrs) -> Result<Ve
 /// # Errors
 /// Out of memory.
 pub(crate) fn write_rates(alloc: Global, flat: &Flat, attrs: &Attrs) -> Result<Vec<u32>, Memory>
-    requires { AreRates flat.now.tables attrs.now }
-    ensures { IfOk result (λ rates. rates.items ≡ write_rates (net_of flat.now.tables attrs.now)) }
+    requires { AreRates flat.now.tables attrs.now.rows }
+    ensures { IfOk result (λ rates. rates.items ≡ write_rates (net_of flat.now.tables attrs.now.rows)) }
 {
     let mut rates = Vec::new(alloc);
     for e in 0..flat.tables.edges.len() {

@@ -92,8 +92,8 @@ fn next_parts(
     bounds: &[u32],
 ) -> Result<NextParts, Memory>
     requires sound { IsSoundFlat flat.now }
-    requires rates { AreRates flat.now.tables attrs.now }
-    ensures { IfOk result (λ p. AreNextParts flat.now attrs.now bounds.now p.reads.items
+    requires rates { AreRates flat.now.tables attrs.now.rows }
+    ensures { IfOk result (λ p. AreNextParts flat.now attrs.now.rows bounds.now p.reads.items
         p.writes.items p.rooms.items p.rows.items) }
 {
     law_laid();

@@ -64,8 +64,8 @@ fn runners_of(
     attrs: &Attrs,
 ) -> Result<Vec<Runner>, Memory>
     requires sound { IsSoundFlat flat.now }
-    requires rates { AreRates flat.now.tables attrs.now }
-    ensures { IfOk result (λ runners. AreRunnersOf flat.now cluster attrs.now runners.items) }
+    requires rates { AreRates flat.now.tables attrs.now.rows }
+    ensures { IfOk result (λ runners. AreRunnersOf flat.now cluster attrs.now.rows runners.items) }
 {
     law_laid();
     let mut rows = traced_rows(alloc, flat, attrs)?;
@@ -81,7 +81,7 @@ fn first_parts(alloc: Global, flat: &Flat, cluster: u32, first: &First) -> Resul
     requires plan { IsFirstPlan flat.now cluster first.now }
     ensures parts { IfOk result (λ p. AreParts flat.now cluster first.now p.reads.items
         p.writes.items p.rings.items p.runners.items p.positions.items) }
-    ensures room { IfOk result (λ p. length first.now.attrs ≤ p.spare) }
+    ensures room { IfOk result (λ p. length first.now.attrs.rows ≤ p.spare) }
 {
     law_laid();
     let reads = read_rates(alloc, flat, &first.attrs)?;

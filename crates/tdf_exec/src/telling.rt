@@ -180,14 +180,17 @@ impl Cluster {
 
     /// The table in force: the attributes of the modules of the cluster.
     pub fn attrs(&self) -> &Attrs
-        ensures { result.now ≡ self.now.table }
+        ensures rows { result.now.rows ≡ self.now.table }
+        ensures known { result.now.known ≡ self.now.known }
     {
         &self.attrs
     }
 
     /// How often a plan was made for this cluster, the first one included; a number that is the greatest stays. A plan that was
-    /// kept is not made again. No clause ties it to the work that was done.
-    pub fn plannings(&self) -> u64 {
+    /// kept is not made again.
+    pub fn plannings(&self) -> u64
+        ensures made { result ≡ self.now.known.made }
+    {
         self.attrs.plannings()
     }
 

@@ -119,14 +119,14 @@ fn put_port(
     number: u32,
     rows: &mut Vec<TracedPorts>,
 ) -> Result<(), Memory>
-    requires rates { AreRates flat.now.tables attrs.now }
+    requires rates { AreRates flat.now.tables attrs.now.rows }
     requires marks { AreMarked flat.now.tables.traces (length flat.now.tables.traces) marks.now.items }
     requires number { number < length flat.now.tables.ports }
     requires place { place ≡ place_of_port flat.now.tables.ports number }
     requires rows { length rows.old.items ≡ length flat.now.tables.modules }
     requires modules { All (λ port. port.«module» < length flat.now.tables.modules) flat.now.tables.ports }
     ensures { (port : PortRowOf) → slice_get flat.now.tables.ports number ≡ Some port
-        → OnOk result (rows.new.items ≡ put_traced flat.now.tables attrs.now number port rows.old.items) }
+        → OnOk result (rows.new.items ≡ put_traced flat.now.tables attrs.now.rows number port rows.old.items) }
 {
     let port = &flat.tables.ports[number as usize];
     if !is_traced(marks, &flat.tables.traces, port) {
@@ -159,10 +159,10 @@ pub(crate) fn traced_rows(
     flat: &Flat,
     attrs: &Attrs,
 ) -> Result<Vec<TracedPorts>, Memory>
-    requires rates { AreRates flat.now.tables attrs.now }
+    requires rates { AreRates flat.now.tables attrs.now.rows }
     requires modules { All (λ port. port.«module» < length flat.now.tables.modules) flat.now.tables.ports }
     ensures { IfOk result (λ rows.
-        AreTracedUpTo flat.now.tables attrs.now (length flat.now.tables.ports) rows.items) }
+        AreTracedUpTo flat.now.tables attrs.now.rows (length flat.now.tables.ports) rows.items) }
 {
     let marks = marks_of(alloc, &flat.tables)?;
     let places = port_places(alloc, flat.tables.modules.len(), &flat.tables.ports)?;

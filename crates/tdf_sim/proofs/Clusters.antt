@@ -74,9 +74,9 @@ module _ (one : ClustersHaveOne) (whole : ClustersAreWhole) where
       ap (λ z. z ∷ map f xs) (each 0 x y refl refl) ∙ ap (λ zs. f y ∷ zs) (same_maps f xs ys (omega (arith, long)) (λ k a b. each (suc k) a b))
 
   -- two models that are alike have the same attributes
-  pub attrs_alike : (a b : Flat) (xs ys : List First) → IsAlike a b → ArePlans a xs → ArePlans b ys → map (λ (f : First). f.attrs) xs ≡ map (λ (f : First). f.attrs) ys
+  pub attrs_alike : (a b : Flat) (xs ys : List First) → IsAlike a b → ArePlans a xs → ArePlans b ys → map (λ (f : First). f.attrs.rows) xs ≡ map (λ (f : First). f.attrs.rows) ys
   attrs_alike a b xs ys same p q =
-      same_maps (λ (f : First). f.attrs) xs ys (p.all ∙ same_count a b same ∙ sym q.all)
+      same_maps (λ (f : First). f.attrs.rows) xs ys (p.all ∙ same_count a b same ∙ sym q.all)
       (λ k x y x_is y_is. (p.each k x x_is).attrs_are ∙ same_table a b (k + 1) same ∙ sym (q.each k y y_is).attrs_are)
 
   -- and the same plans

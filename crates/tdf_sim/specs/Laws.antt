@@ -71,7 +71,7 @@ PlansFaultOrPlans = (flat : Flat) (fault : Fault) (firsts : List First) → IsPl
 pub record AreAlike (one other : Sim) : Type 0 where
   pub tables : one.flat.tables ≡ other.flat.tables
   pub unit : one.flat.resolution ≡ other.flat.resolution
-  pub attrs : map (λ f. f.attrs) one.firsts.items ≡ map (λ f. f.attrs) other.firsts.items
+  pub attrs : map (λ f. f.attrs.rows) one.firsts.items ≡ map (λ f. f.attrs.rows) other.firsts.items
   pub plans : map plan_rows one.firsts.items ≡ map plan_rows other.firsts.items
 
 abbrev pub ModelsAreAlike : Type 0

@@ -206,7 +206,7 @@ module _ {K : Type 0} (flat : Flat) where
 -- a start by first plans: its attributes are those of the text
 first_at : (model : PureTree) (flat : Flat) (ahead : List (List Change)) (k : ℕ) (firsts : List First) (n : ℕ) (c : ClusterAt)
     → slice_get (map (λ (first : ℕ × First). first_cluster model flat (first.0 + 1) first.1 (slice_index_or ahead first.0 [])) (enumerate_from k firsts)) n ≡ Some c
-    → (first : First) × (slice_get firsts n ≡ Some first) × (c.now.info.table ≡ first.attrs)
+    → (first : First) × (slice_get firsts n ≡ Some first) × (c.now.info.table ≡ first.attrs.rows)
 first_at model flat ahead k [] n c at = absurd cc
 first_at model flat ahead k (x ∷ firsts) zero c at = (x, refl, ap (λ (d : ClusterAt). d.now.info.table) (sym (some_same _ c at)))
 first_at model flat ahead k (x ∷ firsts) (suc n) c at = first_at model flat ahead (k + 1) firsts n c at

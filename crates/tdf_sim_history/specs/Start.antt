@@ -27,7 +27,7 @@ counts_in tables entries =
 abbrev pub first_cluster : PureTree → Flat → (cluster : ℕ) → First → (ahead : List Change)
     → ClusterAt
 first_cluster model flat cluster first ahead = record {
-  begun = text_start model flat cluster first.attrs;
+  begun = text_start model flat cluster first.attrs.rows;
   entries = first.plan.entries.items;
   bounds = first.plan.bounds.items;
   origin = 0;
@@ -35,7 +35,7 @@ first_cluster model flat cluster first ahead = record {
   from = 0;
   place = 0;
   old = [];
-  now = period_record flat.tables first.attrs (counts_in flat.tables first.plan.entries.items)
+  now = period_record flat.tables first.attrs.rows (counts_in flat.tables first.plan.entries.items)
       first.plan.period true;
   reads = replicate (length flat.tables.actors) [];
   ahead = ahead;

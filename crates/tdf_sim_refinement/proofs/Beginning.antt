@@ -51,16 +51,16 @@ module _ (model : PureTree) (flat : Flat) (number : ℕ) (first : First) (c : Cl
   entries = first.plan.entries.items
 
   abbrev now : PeriodRecord
-  now = period_record flat.tables first.attrs (counts_in flat.tables entries) first.plan.period true
+  now = period_record flat.tables first.attrs.rows (counts_in flat.tables entries) first.plan.period true
 
   first_whole : IsWholeRecord flat number now
   first_whole = let r = first_record flat number first limits begun.first_is in
-      subst (λ l. IsWholeRecord flat number (period_record flat.tables first.attrs l first.plan.period true))
-      (sym (counted_in flat entries r.counts r.record_is.is.timed.counts_are.long (plan_counts (net_of flat.tables first.attrs).edges _ r.counts entries r.plan_is.planned))) r.record_is
+      subst (λ l. IsWholeRecord flat number (period_record flat.tables first.attrs.rows l first.plan.period true))
+      (sym (counted_in flat entries r.counts r.record_is.is.timed.counts_are.long (plan_counts (net_of flat.tables first.attrs.rows).edges _ r.counts entries r.plan_is.planned))) r.record_is
 
   first_counts : (m : ℕ) → slice_index (counts_in flat.tables entries) m ≡ count_by (λ (x : Entry). nat_eq x.actor m) entries
   first_counts m = let r = first_record flat number first limits begun.first_is in
-      let p = plan_counts (net_of flat.tables first.attrs).edges _ r.counts entries r.plan_is.planned in
+      let p = plan_counts (net_of flat.tables first.attrs.rows).edges _ r.counts entries r.plan_is.planned in
       ap (λ l. slice_index l m) (counted_in flat entries r.counts r.record_is.is.timed.counts_are.long p) ∙ sym (p m)
 
   first_period : IsPeriodOf c 0 now
@@ -80,7 +80,7 @@ module _ (model : PureTree) (flat : Flat) (number : ℕ) (first : First) (c : Cl
     samplers = λ m sampler. (let r = ap length (none_read (length flat.tables.actors) m) in let n = done_none entries m in omega (arith, r, n));
   }
 
-  first_stands : (reads : ℕ → List Raw) → Stands (cluster_net model flat number (text_start model flat number first.attrs)) [] now reads 0 (play_of 0 c)
+  first_stands : (reads : ℕ → List Raw) → Stands (cluster_net model flat number (text_start model flat number first.attrs.rows)) [] now reads 0 (play_of 0 c)
   first_stands reads =
       let here = begun.stands model now reads checked in
       let at_number = subst (λ j. Stands (cluster_net model flat j (text_start model flat j c.table)) [] now reads 0 (play_of 0 c)) begun.start.number_is here in
@@ -99,7 +99,7 @@ module _ (model : PureTree) (flat : Flat) (number : ℕ) (first : First) (c : Cl
     of = begun.of;
     period = first_period;
     counts = λ m. first_counts m ∙ done_all entries m;
-    records = record { lists = text_has_lists model flat number first.attrs now is refl; head = first_whole.is; rest = All-nil (IsWholeRecord flat number) };
+    records = record { lists = text_has_lists model flat number first.attrs.rows now is refl; head = first_whole.is; rest = All-nil (IsWholeRecord flat number) };
     have_read = first_read;
     positions = λ m below. (let z = begun.start.none_done m in let n = done_none entries m in omega (arith, z, n));
     steps = 0;

@@ -11,6 +11,7 @@ use Rattle.tdf_exec.specs.Made.{IsClusterOf}
 use Rattle.tdf_exec.specs.Played.{IsPeriodOf, play_of}
 use Rattle.tdf_dynamic.specs.declared.next.Next.TheVariants as next
 use Rattle.tdf_dynamic_plans.specs.Attributes.{AttrsOf}
+use Rattle.tdf_dynamic_plans.specs.Known.{AttrsTable}
 use Rattle.tdf_dynamic_plans.specs.Rates.{net_of}
 use Rattle.tdf_expr.specs.Checked.{IsCheckedOf}
 use Rattle.tdf_bind.specs.declared.model.Flat.{Flat}
@@ -168,7 +169,7 @@ module _ (model : PureTree) (flat : Flat) (number time : ℕ) (h : ClusterAt) (c
     abbrev back : ClusterOf → ClusterOf
     back z = record z { place = 0; crossed = false }
 
-    d_is : d ≡ back (record c { table = crossed.table; crossed = true; runners = crossed.runners })
+    d_is : d ≡ back (record c { table = crossed.table; known = crossed.known; crossed = true; runners = crossed.runners })
     d_is = begun ∙ ap back is.rest
 
     -- its record in parts
@@ -197,9 +198,9 @@ module _ (model : PureTree) (flat : Flat) (number time : ℕ) (h : ClusterAt) (c
         (ap (λ (z : ClusterOf). z.entries) d_is ∙ at.entries_are) (ap (λ (z : ClusterOf). z.bounds) d_is ∙ at.bounds_are) same_is (ap (λ (z : ClusterOf). z.positions) d_is) stands
 
   -- with a new one
-  module _ (crossed d : ClusterOf) (attrs : List AttrsOf) (plan : Plan) (is : HasCrossed c crossed) (begun : HasBegunPeriod crossed (next.Changed attrs plan) d) (of : IsClusterOf flat d) where
+  module _ (crossed d : ClusterOf) (attrs : AttrsTable) (plan : Plan) (is : HasCrossed c crossed) (begun : HasBegunPeriod crossed (next.Changed attrs plan) d) (of : IsClusterOf flat d) where
     abbrev new : ClusterAt
-    new = with_new flat.tables time attrs (counts_in flat.tables plan.entries.items) plan.period plan.entries.items plan.bounds.items h
+    new = with_new flat.tables time attrs.rows (counts_in flat.tables plan.entries.items) plan.period plan.entries.items plan.bounds.items h
 
     pub new_at : Stands (cluster_net model flat number h.begun) (h.old ++ h.now ∷ []) new.now (λ m. slice_index_or h.reads m []) at.steps (play_of 0 d) → IsAt model flat number new d
     new_at stands = begins_at d plan.entries.items plan.bounds.items new.now true of
@@ -216,6 +217,6 @@ boundary_at model flat number time h next.Same c crossed d checked at passed =
 boundary_at model flat number time h (next.Changed attrs plan) c crossed d checked at passed =
     new_at model flat number time h c at passed.answered.done crossed d attrs plan passed.crossed_is passed.begun passed.of
     (stands_by model flat number time h c at passed.answered.done crossed passed.crossed_is passed.crosses
-    (period_record flat.tables attrs (counts_in flat.tables plan.entries.items) plan.period true) d checked
-    (λ past timed cross. passed.stands model h.begun h.old h.now (period_record flat.tables attrs (counts_in flat.tables plan.entries.items) plan.period true)
+    (period_record flat.tables attrs.rows (counts_in flat.tables plan.entries.items) plan.period true) d checked
+    (λ past timed cross. passed.stands model h.begun h.old h.now (period_record flat.tables attrs.rows (counts_in flat.tables plan.entries.items) plan.period true)
     (λ m. slice_index_or h.reads m []) h.from at.steps checked past timed refl refl cross))

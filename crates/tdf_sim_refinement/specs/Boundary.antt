@@ -27,7 +27,8 @@ use Rattle.tdf_lang_tree.specs.Pure.{PureTree}
 abbrev pub change_of : FlatTablesOf → (table : List AttrsOf) → Next → Change
 change_of tables table next.Same = Same table
 change_of tables table (next.Changed attrs plan) =
-    New attrs (counts_in tables plan.entries.items) plan.period plan.entries.items plan.bounds.items
+    New attrs.rows (counts_in tables plan.entries.items) plan.period plan.entries.items
+    plan.bounds.items
 
 -- the period of a cluster is done, and what its modules ask for leads to this; the table that they
 -- ask for is one of the cluster

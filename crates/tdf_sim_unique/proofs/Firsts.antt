@@ -37,23 +37,23 @@ module _ (model : PureTree) (a : Flat) (ahead : List (List Change)) where
   abbrev clusters_from : ℕ → List First → List ClusterAt
   clusters_from k firsts = map (λ first. first_cluster model a (first.0 + 1) first.1 (slice_index_or ahead first.0 [])) (enumerate_from k firsts)
 
-  same_firsts : (k : ℕ) (firsts others : List First) → map (λ f. f.attrs) firsts ≡ map (λ f. f.attrs) others → map (λ f. rows_of_plan f.plan) firsts ≡ map (λ f. rows_of_plan f.plan) others
+  same_firsts : (k : ℕ) (firsts others : List First) → map (λ f. f.attrs.rows) firsts ≡ map (λ f. f.attrs.rows) others → map (λ f. rows_of_plan f.plan) firsts ≡ map (λ f. rows_of_plan f.plan) others
       → clusters_from k firsts ≡ clusters_from k others
   same_firsts k [] [] attrs plans = refl
   same_firsts k [] (g ∷ others) attrs plans = absurd (subst IsFull (sym attrs) tt)
   same_firsts k (f ∷ firsts) [] attrs plans = absurd (subst IsFull attrs tt)
   same_firsts k (f ∷ firsts) (g ∷ others) attrs plans =
-      let ats : f.attrs ≡ g.attrs = ap (head_or f.attrs) attrs in
+      let ats : f.attrs.rows ≡ g.attrs.rows = ap (head_or f.attrs.rows) attrs in
       let rows : rows_of_plan f.plan ≡ rows_of_plan g.plan = ap (head_or (rows_of_plan f.plan)) plans in
       λ i. cluster_by (k + 1) (ats i) (rows i) (slice_index_or ahead k []) ∷ same_firsts (k + 1) firsts others (ap tail_of attrs) (ap tail_of plans) i
 
 module _ (model : PureTree) (a : Flat) (y : Checked) (same : AreSame a.checked y) (ahead : List (List Change)) where
   clusters_same : (firsts : List First) → first_clusters model a firsts ahead ≡ first_clusters model (with_bodies a y) firsts ahead
   clusters_same firsts = λ i. map (λ (first : ℕ × First). record (first_cluster model a (first.0 + 1) first.1 (slice_index_or ahead first.0 [])) {
-    begun = start_same model a y same (first.0 + 1) first.1.attrs i;
+    begun = start_same model a y same (first.0 + 1) first.1.attrs.rows i;
   }) (enumerate_from 0 firsts)
 
-  pub world_same : (firsts others : List First) (turns : ℕ) → map (λ f. f.attrs) firsts ≡ map (λ f. f.attrs) others → map (λ f. rows_of_plan f.plan) firsts ≡ map (λ f. rows_of_plan f.plan) others
+  pub world_same : (firsts others : List First) (turns : ℕ) → map (λ f. f.attrs.rows) firsts ≡ map (λ f. f.attrs.rows) others → map (λ f. rows_of_plan f.plan) firsts ≡ map (λ f. rows_of_plan f.plan) others
       → start_world model a firsts ahead turns ≡ start_world model (with_bodies a y) others ahead turns
   world_same firsts others turns attrs plans = λ i. record (start_world model a firsts ahead turns) {
     clusters = (clusters_same firsts ∙ same_firsts model (with_bodies a y) ahead 0 firsts others attrs plans) i;

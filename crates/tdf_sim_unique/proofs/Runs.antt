@@ -23,7 +23,7 @@ use Rattle.tdf_sim_history.specs.Rules.{rules_of, start_world}
 
 -- with other compiled bodies of the text
 module _ (model : PureTree) (a : Flat) (y : Checked) (same : AreSame a.checked y) (firsts others : List First) (ahead : List (List Change))
-    (attrs : map (λ f. f.attrs) firsts ≡ map (λ f. f.attrs) others) (plans : map (λ f. rows_of_plan f.plan) firsts ≡ map (λ f. rows_of_plan f.plan) others) (stop turns : ℕ) where
+    (attrs : map (λ f. f.attrs.rows) firsts ≡ map (λ f. f.attrs.rows) others) (plans : map (λ f. rows_of_plan f.plan) firsts ≡ map (λ f. rows_of_plan f.plan) others) (stop turns : ℕ) where
   starts : start_world model a firsts ahead turns ≡ start_world model (with_bodies a y) others ahead turns
   starts = world_same model a y same ahead firsts others turns attrs plans
 

@@ -25,7 +25,7 @@ pub record AreModelsAlike (model : PureTree) (a b : Flat) (firsts others : List 
   pub other : IsFlatOf model b
   pub tables : a.tables ≡ b.tables
   pub unit : a.resolution ≡ b.resolution
-  pub attrs : map (λ f. f.attrs) firsts ≡ map (λ f. f.attrs) others
+  pub attrs : map (λ f. f.attrs.rows) firsts ≡ map (λ f. f.attrs.rows) others
   pub plans : map (λ f. rows_of_plan f.plan) firsts ≡ map (λ f. rows_of_plan f.plan) others
 
 -- a run by either writes the same trace, written in some way, and the same notes, and ends alike,

@@ -122,5 +122,5 @@ table_record flat cluster table plan is_new attributes is = record {
 }
 
 pub first_record : FirstPlanIsRecord
-first_record flat cluster first limits is = table_record flat cluster first.attrs first.plan true (subst (AreAttributes flat cluster) (sym is.attrs_are) (text_attributes flat cluster limits))
+first_record flat cluster first limits is = table_record flat cluster first.attrs.rows first.plan true (subst (AreAttributes flat cluster) (sym is.attrs_are) (text_attributes flat cluster limits))
     (subst (λ (table : List AttrsOf). IsTablePlan flat.tables cluster table first.plan) (sym is.attrs_are) is.plan_is)

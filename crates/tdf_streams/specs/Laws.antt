@@ -227,4 +227,4 @@ TablePlanIsRecord = (flat : Flat) (cluster : ℕ) (table : List AttrsOf) (plan :
 -- so is that of the text
 abbrev pub FirstPlanIsRecord : Type 0
 FirstPlanIsRecord = (flat : Flat) (cluster : ℕ) (first : First) → AreWithinLimits flat
-    → IsFirstPlan flat cluster first → HasRecord flat cluster first.attrs first.plan true
+    → IsFirstPlan flat cluster first → HasRecord flat cluster first.attrs.rows first.plan true

@@ -16,7 +16,8 @@ use Rattle.tdf_dynamic_plans.specs.Attributes.{AttrsOf}
 abbrev pub IsFound : FlatTablesOf → (cluster : ℕ) → List AttrsOf → List ModuleFrame → Next → Type 0
 IsFound tables cluster table frames Same = ⊥
 IsFound tables cluster table frames (Changed after plan) =
-    AreAfter table frames (length table) after × IsJudged tables cluster table after frames plan
+    AreAfter table frames (length table) after.rows
+    × IsJudged tables cluster table after.rows frames plan
 
 -- the fault of a new table
 pub record IsTableRefused (tables : FlatTablesOf) (cluster : ℕ) (table : List AttrsOf)

@@ -63,9 +63,9 @@ pub record AreRunnersOf (flat : Flat) (cluster : ℕ) (table : List AttrsOf) (ru
 -- the parts of a cluster at its start
 pub record AreParts (flat : Flat) (cluster : ℕ) (first : First) (reads writes : List ℕ)
     (rings : List RingOf) (runners : List Runner) (positions : List ℕ) : Type 0 where
-  pub reads_are : reads ≡ read_rates (net_of flat.tables first.attrs)
-  pub writes_are : writes ≡ write_rates (net_of flat.tables first.attrs)
+  pub reads_are : reads ≡ read_rates (net_of flat.tables first.attrs.rows)
+  pub writes_are : writes ≡ write_rates (net_of flat.tables first.attrs.rows)
   pub rings_are : AreFirstRings flat.tables cluster first.plan.bounds.items
       (length flat.tables.edges) rings
-  pub runners_are : AreRunnersOf flat cluster first.attrs runners
+  pub runners_are : AreRunnersOf flat cluster first.attrs.rows runners
   pub none_done : positions ≡ replicate (length flat.tables.actors) 0

@@ -2,6 +2,7 @@
 -- Source: own.
 use Rattle.std.specs.Prelude.{◌≡◌, ◌<◌, ◌≤◌, ℕ, List, length, map, Some, slice_get}
 use Rattle.tdf_dynamic_plans.specs.Attributes.{AttrsOf}
+use Rattle.tdf_dynamic_plans.specs.Known.{AttrsTable}
 use Rattle.tdf_dynamic_plans.specs.Rates.{net_of}
 use Rattle.tdf_exec.specs.Cluster.{ClusterOf}
 use Rattle.tdf_exec.specs.Crossing.{with_new_plan}
@@ -63,14 +64,14 @@ pub record AreNextParts (flat : Flat) (attrs : List AttrsOf) (bounds reads write
   pub traced_are : AreTracedUpTo flat.tables attrs (length flat.tables.ports) rows
 
 -- a cluster for which it has been moved, and whose modules have begun again
-pub record HasReplaced (flat : Flat) (c : ClusterOf) (attrs : List AttrsOf) (plan : Plan)
+pub record HasReplaced (flat : Flat) (c : ClusterOf) (attrs : AttrsTable) (plan : Plan)
     (d : ClusterOf) : Type 0 where
   pub rooms : List ℕ
   pub rows : List (List TracedPort)
   pub rest : List (List TracedPort)
   pub given : List Runner
   pub d_is : d ≡ with_new_plan c attrs plan d.reads d.writes d.rings d.runners
-  pub parts : AreNextParts flat attrs plan.bounds.items d.reads d.writes rooms rows
+  pub parts : AreNextParts flat attrs.rows plan.bounds.items d.reads d.writes rooms rows
   pub carried : AreCarried rooms c.rings d.rings
   pub given_are : AreGivenTraced (length rows) rows rest c.runners given
   pub restarted : AreRestarted flat.checked (length given) given d.runners

@@ -1,4 +1,4 @@
-use Rattle.std.proofs.Common.{arith}
+use Rattle.std.proofs.Common.{arith, subst}
 use Rattle.std.proofs.lemmas.Result.{IfOk-weaker}
 use Rattle.std.specs.Prelude.{vec_len}
 use Rattle.tdf_base.specs.declared.codes.Code.TheVariants as code
@@ -7,7 +7,9 @@ use Rattle.tdf_dynamic.specs.machine.Judging.{IsJudged, IsJudgedFault}
 use Rattle.tdf_dynamic.specs.machine.Rows.{IsRefusing}
 use Rattle.tdf_dynamic_plans.proofs.Api.{clusters_are, modules_few, ports_are}
 use Rattle.tdf_dynamic_plans.specs.Faults.{IsPlanFault, IsPlanOf}
-use Rattle.tdf_dynamic_plans.specs.Rates.{net_seen}
+use Rattle.tdf_dynamic_plans.specs.Known.{HasPlanned, HasTablePlanned}
+use Rattle.tdf_dynamic_plans.specs.Rates.{NetOf, net_seen}
+use Rattle.tdf_schedule.specs.declared.entry.Plan.{Plan}
 use Rattle.tdf_dynamic.proofs.next.judged_by.Goals as goal
 
 pub net_of-requires-clause-modules : goal.net_of-requires-clause-modules
@@ -52,3 +54,14 @@ returns-in-Err-accepted-clause-refused c =
     (IsJudgedFault c.args.at.now.flat.now.tables c.args.at.now.cluster c.args.at.now.table.now c.args.new.now c.args.at.now.frames.now)
     (change_refused c.args.at.now.flat.now.tables c.args.at.now.cluster c.args.at.now.table.now c.args.new.now c.args.at.now.frames.now c.in_ok-before.before c.args.after c.in_ok-before.ensures.net c.requires.net
     c.in-Ok.old.counts.items c.args.timing.counts.items c.in-Ok.old.steps c.args.timing.steps c.in-Ok.ensures.timing c.requires.timing) c.in-Err-accepted.refused c.in-Err-accepted.ensures.refused
+
+pub returns-in-Ok-accepted-clause-planned : goal.returns-in-Ok-accepted-clause-planned
+returns-in-Ok-accepted-clause-planned c =
+    IfOk-weaker c.plan_of.result (λ (plan : Plan). HasPlanned (net_seen c.args.after) c.args.timing.counts.items c.args.timing.steps plan c.args.known.now c.plan_of.new.self)
+    (λ (plan : Plan). HasTablePlanned c.args.at.now.flat.now.tables c.args.at.now.cluster c.args.new.now plan c.args.known.now c.plan_of.new.self)
+    (λ plan h. record {
+      counts = c.args.timing.counts.items;
+      steps = c.args.timing.steps;
+      timing = c.requires.timing;
+      planned = subst (λ (n : NetOf). HasPlanned n c.args.timing.counts.items c.args.timing.steps plan c.args.known.now c.plan_of.new.self) c.requires.net h;
+    }) c.plan_of.ensures.planned

@@ -1,7 +1,7 @@
 use Rattle.std.proofs.Common.{◌∙◌, sym, subst}
 use Rattle.std.specs.Prelude.{All, List, Ok, Err}
 use Rattle.tdf_dynamic_first.proofs.Firsts.{refused_always, first_always}
-use Rattle.tdf_dynamic_plans.proofs.Api.{modules_few}
+use Rattle.tdf_dynamic_plans.proofs.Api.{modules_few, rows_same}
 use Rattle.tdf_dynamic_first.proofs.Tables.{table_is, rates_are}
 use Rattle.tdf_dynamic_plans.specs.Attributes.{AttrsOf, IsOfCluster}
 use Rattle.tdf_dynamic_plans.specs.Faults.{IsTableFault, IsTablePlan, IsRefusal}
@@ -12,22 +12,22 @@ pub first_table-requires-clause-actors : goal.first_table-requires-clause-actors
 first_table-requires-clause-actors c = modules_few c.args.flat.now.tables c.requires.plannable.wired
 
 pub table_plan-requires-clause-table : goal.table_plan-requires-clause-table
-table_plan-requires-clause-table c = subst (All (IsOfCluster c.args.flat.now.tables c.args.cluster)) (sym (c.deref.ensures.value ∙ c.attrs.view_is ∙ c.in_ok-attrs.ensures)) (table_is c.args.flat.now c.args.cluster c.requires.plannable)
+table_plan-requires-clause-table c = subst (All (IsOfCluster c.args.flat.now.tables c.args.cluster)) (sym (c.deref.ensures.value ∙ rows_same c.attrs.view_is ∙ c.in_ok-attrs.ensures.rows)) (table_is c.args.flat.now c.args.cluster c.requires.plannable)
 
 pub table_plan-requires-clause-rates : goal.table_plan-requires-clause-rates
-table_plan-requires-clause-rates c = subst (AreRates c.args.flat.now.tables) (sym (c.deref.ensures.value ∙ c.attrs.view_is ∙ c.in_ok-attrs.ensures)) (rates_are c.args.flat.now c.args.cluster c.requires.plannable.rates)
+table_plan-requires-clause-rates c = subst (AreRates c.args.flat.now.tables) (sym (c.deref.ensures.value ∙ rows_same c.attrs.view_is ∙ c.in_ok-attrs.ensures.rows)) (rates_are c.args.flat.now c.args.cluster c.requires.plannable.rates)
 
 pub returns-in-Ok-clause-refused_always : goal.returns-in-Ok-clause-refused_always
 returns-in-Ok-clause-refused_always c = refused_always c.law_one_plan.ensures c.args.flat.now c.args.cluster (record { plannable = c.requires.plannable; has = c.requires.has })
-    (Ok (record { attrs = c.attrs.inside.rows.items; plan = c.in-Ok.plan }))
-    (record { attrs_are = c.attrs.view_is ∙ c.in_ok-attrs.ensures; plan_is = subst (λ (t : List AttrsOf). IsTablePlan c.args.flat.now.tables c.args.cluster t c.in-Ok.plan) (c.deref.ensures.value ∙ c.attrs.view_is ∙ c.in_ok-attrs.ensures) c.in-Ok.ensures.plan }) tt
+    (Ok (record { attrs = record { rows = c.attrs.inside.rows.items; known = c.table_plan.new.known }; plan = c.in-Ok.plan }))
+    (record { attrs_are = rows_same c.attrs.view_is ∙ c.in_ok-attrs.ensures.rows; plan_is = subst (λ (t : List AttrsOf). IsTablePlan c.args.flat.now.tables c.args.cluster t c.in-Ok.plan) (c.deref.ensures.value ∙ rows_same c.attrs.view_is ∙ c.in_ok-attrs.ensures.rows) c.in-Ok.ensures.plan }) tt
 
 pub returns-in-Err-clause-refused_always : goal.returns-in-Err-clause-refused_always
 returns-in-Err-clause-refused_always c = refused_always c.law_one_plan.ensures c.args.flat.now c.args.cluster (record { plannable = c.requires.plannable; has = c.requires.has })
     (Err c.in-Err.refused) tt
-    (subst (λ (t : List AttrsOf). IsRefusal (IsTableFault c.args.flat.now.tables c.args.cluster t) c.in-Err.refused) (c.deref.ensures.value ∙ c.attrs.view_is ∙ c.in_ok-attrs.ensures) c.in-Err.ensures.refused)
+    (subst (λ (t : List AttrsOf). IsRefusal (IsTableFault c.args.flat.now.tables c.args.cluster t) c.in-Err.refused) (c.deref.ensures.value ∙ rows_same c.attrs.view_is ∙ c.in_ok-attrs.ensures.rows) c.in-Err.ensures.refused)
 
 pub returns-in-Err-clause-first_always : goal.returns-in-Err-clause-first_always
 returns-in-Err-clause-first_always c = first_always c.law_one_plan.ensures c.args.flat.now c.args.cluster (record { plannable = c.requires.plannable; has = c.requires.has })
     (Err c.in-Err.refused)
-    (subst (λ (t : List AttrsOf). IsRefusal (IsTableFault c.args.flat.now.tables c.args.cluster t) c.in-Err.refused) (c.deref.ensures.value ∙ c.attrs.view_is ∙ c.in_ok-attrs.ensures) c.in-Err.ensures.refused)
+    (subst (λ (t : List AttrsOf). IsRefusal (IsTableFault c.args.flat.now.tables c.args.cluster t) c.in-Err.refused) (c.deref.ensures.value ∙ rows_same c.attrs.view_is ∙ c.in_ok-attrs.ensures.rows) c.in-Err.ensures.refused)

@@ -10,7 +10,7 @@ use Rattle.tdf_exec.proofs.cluster.Cluster.begin_new.Goals as goal
 
 pub next_parts-requires-clause-rates : goal.next_parts-requires-clause-rates
 next_parts-requires-clause-rates c =
-    are_rates c.args.flat.now (c.law_laid.ensures.laid c.args.flat.now c.requires.sound).limits c.args.attrs c.requires.ready.attributes.allowed
+    are_rates c.args.flat.now (c.law_laid.ensures.laid c.args.flat.now c.requires.sound).limits c.args.attrs.rows c.requires.ready.attributes.allowed
 
 pub carry-requires-clause-some : goal.carry-requires-clause-some
 carry-requires-clause-some c = some_rooms c.args.plan.bounds.items c.deref-2.result.now

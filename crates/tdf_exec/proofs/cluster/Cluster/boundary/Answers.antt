@@ -32,7 +32,7 @@ returns-then-not-has_changes-clause-answer c =
     let result : c.has_changes.result ≡ false = search rules in
     let none : (i : ℕ) (a : AttrsOf) → slice_get (the_view c.self.inside).table i ≡ Some a → has_changes c.args.flat.now.tables.modules a.number ≡ false =
     λ i a at. c.has_changes.ensures.none result i a (ap (λ l. slice_get l i) c.rows.ensures.rows ∙ at) in
-    subst (λ (s : ClusterOf). WhenItAsks c.args.flat.now s (λ asks. AnswersAsks c.args.flat.now s.number asks s.table c.self.inside.attrs stays)) c.self.view_is
+    subst (λ (s : ClusterOf). WhenItAsks c.args.flat.now s (λ asks. AnswersAsks c.args.flat.now s.number asks s.table c.self.inside.attrs.rows stays)) c.self.view_is
     (λ model cells checked are. record {
       next = still_next c.args.flat.now (the_view c.self.inside) laid of end none model cells;
       refused = tt;
@@ -104,13 +104,13 @@ invariant_of-self-2 c =
     let laid = c.law_laid.ensures.laid c.args.flat.now c.requires.sound in
     let of : IsClusterOf c.args.flat.now (the_view c.self.inside) = subst (IsClusterOf c.args.flat.now) (sym c.self.view_is) c.requires.of in
     let end : next_offset (the_view c.self.inside) ≡ None = subst (λ (s : ClusterOf). next_offset s ≡ None) (sym c.self.view_is) c.requires.done in
-    let long = as_long c.args.flat.now (the_view c.self.inside) laid of end c.requires.sound.model c.ask.new.runners.items (c.ask.ensures.moved c.requires.sound.model (values_at c.self.inside.runners.items) c.requires.sound.is.bodies (λ i a at. refl)) c.ask.new.attrs c.ask.result (c.ask.ensures.answer c.requires.sound.model (values_at c.self.inside.runners.items) c.requires.sound.is.bodies (λ i a at. refl)).next c.ask.ensures.kept in
+    let long = as_long c.args.flat.now (the_view c.self.inside) laid of end c.requires.sound.model c.ask.new.runners.items (c.ask.ensures.moved c.requires.sound.model (values_at c.self.inside.runners.items) c.requires.sound.is.bodies (λ i a at. refl)) c.ask.new.attrs.known c.ask.new.attrs.rows c.ask.result (c.ask.ensures.answer c.requires.sound.model (values_at c.self.inside.runners.items) c.requires.sound.is.bodies (λ i a at. refl)).next c.ask.ensures.kept in
     let room = c.self.invariant.room in let more = c.ask.ensures.room in
     record { sorted = c.self.invariant.sorted; room = omega (arith, long, room, more) }
 
 pub returns-clause-answer : goal.returns-clause-answer
 returns-clause-answer c =
-    subst (λ (s : ClusterOf). WhenItAsks c.args.flat.now s (λ asks. AnswersAsks c.args.flat.now s.number asks s.table c.ask.new.attrs c.ask.result)) c.self.view_is
+    subst (λ (s : ClusterOf). WhenItAsks c.args.flat.now s (λ asks. AnswersAsks c.args.flat.now s.number asks s.table c.ask.new.attrs.rows c.ask.result)) c.self.view_is
     (λ model cells checked are. c.ask.ensures.answer model cells checked are.each)
 
 pub returns-clause-crossed : goal.returns-clause-crossed
@@ -118,7 +118,7 @@ returns-clause-crossed c =
     let laid = c.law_laid.ensures.laid c.args.flat.now c.requires.sound in
     let of : IsClusterOf c.args.flat.now (the_view c.self.inside) = subst (IsClusterOf c.args.flat.now) (sym c.self.view_is) c.requires.of in
     let end : next_offset (the_view c.self.inside) ≡ None = subst (λ (s : ClusterOf). next_offset s ≡ None) (sym c.self.view_is) c.requires.done in
-    subst (λ (s : ClusterOf). HasCrossed s (crossed_of (the_view c.self.inside) c.ask.new.attrs c.ask.new.runners.items)) c.self.view_is (has_crossed c.args.flat.now (the_view c.self.inside) laid of end c.requires.sound.model c.ask.new.runners.items (c.ask.ensures.moved c.requires.sound.model (values_at c.self.inside.runners.items) c.requires.sound.is.bodies (λ i a at. refl)) c.ask.new.attrs c.ask.result (c.ask.ensures.answer c.requires.sound.model (values_at c.self.inside.runners.items) c.requires.sound.is.bodies (λ i a at. refl)).next c.ask.ensures.kept)
+    subst (λ (s : ClusterOf). HasCrossed s (crossed_of (the_view c.self.inside) c.ask.new.attrs.rows c.ask.new.attrs.known c.ask.new.runners.items)) c.self.view_is (has_crossed c.args.flat.now (the_view c.self.inside) laid of end c.requires.sound.model c.ask.new.runners.items (c.ask.ensures.moved c.requires.sound.model (values_at c.self.inside.runners.items) c.requires.sound.is.bodies (λ i a at. refl)) c.ask.new.attrs.known c.ask.new.attrs.rows c.ask.result (c.ask.ensures.answer c.requires.sound.model (values_at c.self.inside.runners.items) c.requires.sound.is.bodies (λ i a at. refl)).next c.ask.ensures.kept)
 
 pub returns-clause-crosses : goal.returns-clause-crosses
 returns-clause-crosses c =
@@ -126,8 +126,8 @@ returns-clause-crosses c =
     let of : IsClusterOf c.args.flat.now (the_view c.self.inside) = subst (IsClusterOf c.args.flat.now) (sym c.self.view_is) c.requires.of in
     let end : next_offset (the_view c.self.inside) ≡ None = subst (λ (s : ClusterOf). next_offset s ≡ None) (sym c.self.view_is) c.requires.done in
     let moved = c.ask.ensures.moved c.requires.sound.model (values_at c.self.inside.runners.items) c.requires.sound.is.bodies (λ i a at. refl) in
-    subst (λ (s : ClusterOf). CrossesFrom c.args.flat.now s (crossed_of (the_view c.self.inside) c.ask.new.attrs c.ask.new.runners.items)) c.self.view_is
-    (crosses_from c.args.flat.now (the_view c.self.inside) laid of end c.ask.new.runners.items c.ask.new.attrs (λ model checked. c.ask.ensures.moved model (values_at c.self.inside.runners.items) checked (λ i a at. refl)) moved.are.same)
+    subst (λ (s : ClusterOf). CrossesFrom c.args.flat.now s (crossed_of (the_view c.self.inside) c.ask.new.attrs.rows c.ask.new.attrs.known c.ask.new.runners.items)) c.self.view_is
+    (crosses_from c.args.flat.now (the_view c.self.inside) laid of end c.ask.new.runners.items c.ask.new.attrs.rows c.ask.new.attrs.known (λ model checked. c.ask.ensures.moved model (values_at c.self.inside.runners.items) checked (λ i a at. refl)) moved.are.same)
 
 pub returns-clause-of : goal.returns-clause-of
 returns-clause-of c =
@@ -135,7 +135,7 @@ returns-clause-of c =
     let of : IsClusterOf c.args.flat.now (the_view c.self.inside) = subst (IsClusterOf c.args.flat.now) (sym c.self.view_is) c.requires.of in
     let end : next_offset (the_view c.self.inside) ≡ None = subst (λ (s : ClusterOf). next_offset s ≡ None) (sym c.self.view_is) c.requires.done in
     if_ok c.ask.result (c.ask.ensures.answer c.requires.sound.model (values_at c.self.inside.runners.items) c.requires.sound.is.bodies (λ i a at. refl)).next
-    (λ next is. can_install c.args.flat.now (the_view c.self.inside) laid of end c.requires.sound.model c.ask.new.runners.items (c.ask.ensures.moved c.requires.sound.model (values_at c.self.inside.runners.items) c.requires.sound.is.bodies (λ i a at. refl)) (c.ask.ensures.answer c.requires.sound.model (values_at c.self.inside.runners.items) c.requires.sound.is.bodies (λ i a at. refl)).after c.ask.new.attrs next is)
+    (λ next is. can_install c.args.flat.now (the_view c.self.inside) laid of end c.requires.sound.model c.ask.new.runners.items (c.ask.ensures.moved c.requires.sound.model (values_at c.self.inside.runners.items) c.requires.sound.is.bodies (λ i a at. refl)) c.ask.new.attrs.known (c.ask.ensures.answer c.requires.sound.model (values_at c.self.inside.runners.items) c.requires.sound.is.bodies (λ i a at. refl)).after c.ask.new.attrs.rows next is)
 
 pub returns-clause-still : goal.returns-clause-still
 returns-clause-still c =
