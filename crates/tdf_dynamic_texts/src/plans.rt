@@ -107,29 +107,36 @@ fn step_of(period: u64, count: u64) -> u64
     period.checked_div(count).unwrap_or(0)
 }
 
-/// Appends the line of an actor, if it is one of the cluster.
-fn push_actor(
-    out: &mut Vec<u8>,
-    flat: &FlatTables,
-    plan: &Plan,
-    counts: &[u64],
+/// The plan of a cluster, with what the lines of its actors say.
+#[derive(Clone, Copy)]
+struct ActorLines<'a> {
+    flat: &'a FlatTables,
+    plan: &'a Plan,
+    /// How often each actor of the model fires in the plan.
+    counts: &'a [u64],
     cluster: u32,
-    place: usize,
     unit: Resolution,
-) -> Result<(), Memory>
-    requires range { AreInRange flat.now }
-    requires place { place < length flat.now.actors }
-    requires counts { AreCounted (length flat.now.actors) plan.now.entries.items counts.now }
-    ensures ok { OnOk result (out.new.items
-        ≡ out.old.items ++ actor_text unit flat.now (rows_of_plan plan.now) cluster place) }
+}
+
+/// Appends the line of an actor, if it is one of the cluster.
+fn push_actor(out: &mut Vec<u8>, lines: &ActorLines, place: usize) -> Result<(), Memory>
+    requires range { AreInRange lines.now.flat.now }
+    requires place { place < length lines.now.flat.now.actors }
+    requires counts { AreCounted (length lines.now.flat.now.actors) lines.now.plan.now.entries.items
+        lines.now.counts.now }
+    ensures ok { OnOk result (out.new.items ≡ out.old.items
+        ++ actor_text lines.now.unit lines.now.flat.now (rows_of_plan lines.now.plan.now)
+        lines.now.cluster place) }
     ensures kept { take (length out.old.items) out.new.items ≡ out.old.items }
 {
-    if flat.actors[place].cluster != cluster {
+    let flat = lines.flat;
+    if flat.actors[place].cluster != lines.cluster {
         return Ok(());
     }
     let path = flat.actor_path(row_number(place)?);
-    let count = counts[place];
-    push_actor_line(out, path, count, step_of(plan.period, count), unit)
+    let count = lines.counts[place];
+    let step = step_of(lines.plan.period, count);
+    push_actor_line(out, path, count, step, lines.unit)
 }
 
 /// Appends the line of an edge, if its writer is one of the cluster.
@@ -155,23 +162,19 @@ fn push_edge(
 }
 
 /// Appends the lines of the actors of a cluster.
-fn push_actors(
-    out: &mut Vec<u8>,
-    flat: &FlatTables,
-    plan: &Plan,
-    counts: &[u64],
-    cluster: u32,
-    unit: Resolution,
-) -> Result<(), Memory>
-    requires range { AreInRange flat.now }
-    requires counts { AreCounted (length flat.now.actors) plan.now.entries.items counts.now }
+fn push_actors(out: &mut Vec<u8>, lines: &ActorLines) -> Result<(), Memory>
+    requires range { AreInRange lines.now.flat.now }
+    requires counts { AreCounted (length lines.now.flat.now.actors) lines.now.plan.now.entries.items
+        lines.now.counts.now }
     ensures ok { OnOk result (out.new.items ≡ out.old.items
-        ++ flat_map (actor_text unit flat.now (rows_of_plan plan.now) cluster)
-        (range_with_len 0 (length flat.now.actors))) }
+        ++ flat_map (actor_text lines.now.unit lines.now.flat.now
+        (rows_of_plan lines.now.plan.now) lines.now.cluster)
+        (range_with_len 0 (length lines.now.flat.now.actors))) }
     ensures kept { take (length out.old.items) out.new.items ≡ out.old.items }
 {
+    let flat = lines.flat;
     for place in 0..flat.actors.len() {
-        push_actor(out, flat, plan, counts, cluster, place, unit)?;
+        push_actor(out, lines, place)?;
     }
     Ok(())
 }
@@ -209,7 +212,14 @@ fn push_plan_lines(
     let alloc = *out.allocator();
     let counts = counted(alloc, flat.actors.len(), &plan.entries)?;
     push_cluster_line(out, cluster, time, plan, unit)?;
-    push_actors(out, flat, plan, &counts, cluster, unit)?;
+    let lines = ActorLines {
+        flat,
+        plan,
+        counts: &counts,
+        cluster,
+        unit,
+    };
+    push_actors(out, &lines)?;
     push_edges(out, flat, plan, cluster)
 }
 

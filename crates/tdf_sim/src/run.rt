@@ -16,7 +16,7 @@ use std::alloc::Global;
 use tdf_bind_invariants::law_limits;
 use tdf_events_invariants::law_runnable;
 use tdf_io::{Sink, SinkErr};
-use tdf_sim_runs::{Ran, run_model};
+use tdf_sim_runs::{Ran, Request, run_model};
 use tdf_trace_rows::TraceKind;
 
 /// Why a run did not end.
@@ -71,7 +71,8 @@ impl Sim {
         law_limits();
         law_runnable();
         let Sim { flat, firsts } = self;
-        match run_model(alloc, &flat, firsts, stop, turns, kind, out, notes) {
+        let request = Request { stop, turns, kind };
+        match run_model(alloc, &flat, firsts, request, out, notes) {
             Ok(ran) => {
                 drop(flat);
                 Ok(ran)

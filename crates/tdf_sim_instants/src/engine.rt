@@ -55,7 +55,7 @@ use tdf_base::Memory;
 use tdf_bind::Flat;
 use tdf_bind_invariants::law_limits;
 use tdf_convert::{emit_due, law_by_offset};
-use tdf_sim_refinement::fire_all;
+use tdf_sim_refinement::{Moment, fire_all};
 
 impl Engine {
     /// The least time at which something is next due; the stop where there is none before it.
@@ -155,15 +155,12 @@ impl Engine {
             self.kernel.values(),
             &mut self.inputs,
         );
-        fire_all(
-            flat,
+        let moment = Moment {
             time,
-            &self.since,
-            &self.inputs,
-            &mut self.clusters,
-            &mut self.outputs,
-            left,
-        )
+            since: &self.since,
+            inputs: &self.inputs,
+        };
+        fire_all(flat, &moment, &mut self.clusters, &mut self.outputs, left)
     }
 
     /// The event part of an instant, with what sinks sent.

@@ -22,6 +22,7 @@ use Rattle.tdf_sim_refinement.specs.At.{AreSettled, IsAt}
 use Rattle.tdf_sim_refinement.specs.Fired.{HasFired, HasTooFew}
 use Rattle.tdf_sim_refinement.specs.Firings.{settled_values, world_after, write_of}
 use Rattle.tdf_lang_tree.specs.Pure.{PureTree}
+use Rattle.tdf_sim_refinement.specs.declared.turns.Moment.{Moment}
 
 -- the clusters in progress, what they gave, and the turns that are left
 pub record RunOf : Type 0 where
@@ -40,6 +41,10 @@ pass_run clusters outputs left = record { clusters = clusters; outputs = outputs
 
 abbrev pub pass_at : (time : ℕ) → (since : List ℕ) → (inputs : List (List Raw)) → PassAt
 pass_at time since inputs = record { time = time; since = since; inputs = inputs }
+
+-- as the code has it
+abbrev pub pass_of : Moment → PassAt
+pass_of moment = pass_at moment.time moment.since.now moment.inputs.now
 
 -- the cluster that has its turn, before and after it
 pub record TurnAt : Type 0 where

@@ -20,4 +20,4 @@ pub use laws::{
 };
 pub use linking::{sampler_links, sink_links};
 pub use periods::{law_boundary, law_start};
-pub use turns::fire_all;
+pub use turns::{Moment, fire_all};

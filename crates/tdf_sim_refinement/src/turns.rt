@@ -6,12 +6,23 @@ ghost use Rattle.tdf_exec.specs.Gained.{HaveRoom};
 ghost use Rattle.tdf_exec.specs.Made.{IsClusterOf};
 ghost use Rattle.tdf_exec.specs.Played.{AreInputsFor};
 ghost use Rattle.tdf_sim_refinement.specs.Fired.{HasFired, HasStayed, HasTooFew};
-ghost use Rattle.tdf_sim_refinement.specs.Pass.{CanPass, HasPassedAll, HasPassedPart, pass_at, pass_run};
+ghost use Rattle.tdf_sim_refinement.specs.Pass.{CanPass, HasPassedAll, HasPassedPart, pass_of, pass_run};
 
 use crate::firing::fire_due;
 use tdf_bind::Flat;
 use tdf_convert::{Inputs, Outputs};
 use tdf_exec::Cluster;
+
+/// What the firings of a time go by.
+#[derive(Drop)]
+pub struct Moment<'a> {
+    /// The time, in counts of the resolution.
+    pub time: u64,
+    /// When the period of each cluster began, in order of number.
+    pub since: &'a [u64],
+    /// What the samplers of each cluster read.
+    pub inputs: &'a [Inputs],
+}
 
 /// The turn of a cluster: its entries of an offset, if its next one has this offset. The answer is false where the
 /// turns that are left are too few.
@@ -46,35 +57,28 @@ fn fire_turn(
 }
 
 /// Gives each cluster its turn at a time, in order of number: it does its entries of the time, each for one of the
-/// turns that are left. `since` has the start of the period of each cluster, `inputs` what its samplers read. Where the
-/// turns are too few for a cluster, those before it have had theirs, and the answer is false.
+/// turns that are left. Where the turns are too few for a cluster, those before it have had theirs, and the answer is
+/// false.
 pub fn fire_all(
     flat: &Flat,
-    time: u64,
-    since: &[u64],
-    inputs: &[Inputs],
+    moment: &Moment,
     clusters: &mut Vec<Cluster>,
     outputs: &mut Outputs,
     left: &mut u64,
 ) -> bool
-    requires { CanPass flat.now (pass_at time since.now inputs.now)
+    requires { CanPass flat.now (pass_of moment.now)
         (pass_run clusters.old.items outputs.old left.old) }
-    ensures all { result ≡ true → HasPassedAll flat.now (pass_at time since.now inputs.now)
+    ensures all { result ≡ true → HasPassedAll flat.now (pass_of moment.now)
         (pass_run clusters.old.items outputs.old left.old)
         (pass_run clusters.new.items outputs.new left.new) }
-    ensures part { result ≡ false → HasPassedPart flat.now (pass_at time since.now inputs.now)
+    ensures part { result ≡ false → HasPassedPart flat.now (pass_of moment.now)
         (pass_run clusters.old.items outputs.old left.old)
         (pass_run clusters.new.items outputs.new left.new) }
 {
     for n in 0..clusters.len() {
-        if !fire_turn(
-            flat,
-            time - since[n],
-            &inputs[n],
-            &mut clusters[n],
-            outputs,
-            left,
-        ) {
+        let offset = moment.time - moment.since[n];
+        let inputs = &moment.inputs[n];
+        if !fire_turn(flat, offset, inputs, &mut clusters[n], outputs, left) {
             return false;
         }
     }

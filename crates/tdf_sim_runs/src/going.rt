@@ -51,7 +51,7 @@ use tdf_bind::Flat;
 use tdf_dynamic::law_one_answer;
 use tdf_io::{Sink, SinkErr};
 use tdf_sim_instants::{Engine, Pass, law_instant};
-use tdf_sim_traces::Shown;
+use tdf_sim_traces::{Clock, Shown};
 
 /// Shows what an instant gave.
 fn show(shown: &mut Shown, engine: &Engine, flat: &Flat, time: u64) -> Result<(), Memory>
@@ -66,14 +66,12 @@ fn show(shown: &mut Shown, engine: &Engine, flat: &Flat, time: u64) -> Result<()
     ensures stage { shown.new.trace.stage ≡ shown.old.trace.stage }
     ensures about { shown.new.trace.about ≡ shown.old.trace.about }
 {
-    shown.take(
-        flat,
+    let clock = Clock {
         time,
-        &engine.since,
-        &engine.clusters,
-        engine.traced(),
-        engine.kernel.values(),
-    )
+        since: &engine.since,
+        clusters: &engine.clusters,
+    };
+    shown.take(flat, &clock, engine.traced(), engine.kernel.values())
 }
 
 impl Running {

@@ -19,6 +19,6 @@ mod standing;
 mod starting;
 
 pub use laws::{law_advancing, law_going, law_next, law_staying, law_waiting};
-pub use run::{Ran, run_model};
+pub use run::{Ran, Request, run_model};
 pub use running::Running;
 pub use standing::law_standing;

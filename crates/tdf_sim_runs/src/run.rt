@@ -3,6 +3,18 @@
 use tdf_events::Kernel;
 use tdf_exec::Cluster;
 use tdf_sim_notes::End;
+use tdf_trace_rows::TraceKind;
+
+/// What a run is asked for.
+#[derive(Clone, Copy)]
+pub struct Request {
+    /// Where it stops, in counts of the resolution.
+    pub stop: u64,
+    /// How many turns it may take.
+    pub turns: u64,
+    /// The form of its trace.
+    pub kind: TraceKind,
+}
 
 /// How a run ended, and what it leaves.
 #[derive(Drop)]
@@ -45,7 +57,6 @@ use tdf_dynamic::law_one_answer;
 use tdf_dynamic_first::First;
 use tdf_io::{Sink, SinkErr, put_all};
 use tdf_sim_notes::{law_report, write_closing, write_plans};
-use tdf_trace_rows::TraceKind;
 
 /// A run that ended, and the text of the plans that its boundaries brought.
 #[derive(Drop)]
@@ -142,32 +153,32 @@ fn trace_run<O: Sink>(
     alloc: Global,
     flat: &Flat,
     firsts: Vec<First>,
-    stop: u64,
-    turns: u64,
-    kind: TraceKind,
+    request: Request,
     out: &mut O,
 ) -> Result<Whole, SinkErr>
     requires can { CanRun flat.now firsts.items }
-    requires stop { stop < time_end }
+    requires stop { request.stop < time_end }
     ensures ended { (model : PureTree) → IsModelOf model flat.now → IfOk result (λ whole.
-        HasEnded model flat.now firsts.items stop turns whole) }
+        HasEnded model flat.now firsts.items request.stop request.turns whole) }
     ensures trace { (model : PureTree) → IsModelOf model flat.now
-        → (ahead : List (List Change)) → HaveAnswers model flat.now firsts.items ahead stop turns
+        → (ahead : List (List Change))
+        → HaveAnswers model flat.now firsts.items ahead request.stop request.turns
         → OnOk result (Appends (O.taken out.old) (O.taken out.new)
-        (trace_of kind model flat.now firsts.items ahead stop turns)) }
+        (trace_of request.kind model flat.now firsts.items ahead request.stop request.turns)) }
     ensures part { (model : PureTree) → IsModelOf model flat.now
-        → (ahead : List (List Change)) → HaveAnswers model flat.now firsts.items ahead stop turns
+        → (ahead : List (List Change))
+        → HaveAnswers model flat.now firsts.items ahead request.stop request.turns
         → OnErr result (AppendsFront (O.taken out.old) (O.taken out.new)
-        (trace_of kind model flat.now firsts.items ahead stop turns)) }
+        (trace_of request.kind model flat.now firsts.items ahead request.stop request.turns)) }
     ensures counted { CountsSinkFaults (O.faults out.old) (O.faults out.new) result }
 {
     law_one_answer();
-    let mut run = match opened(alloc, flat, firsts, kind, turns, out) {
+    let mut run = match opened(alloc, flat, firsts, request.kind, request.turns, out) {
         Ok(run) => run,
         Err(error) => return Err(error),
     };
-    match run.go(alloc, flat, stop, out) {
-        Ok(ended) => closed(run, ended, stop, turns, out),
+    match run.go(alloc, flat, request.stop, out) {
+        Ok(ended) => closed(run, ended, request.stop, request.turns, out),
         Err(error) => {
             drop(run);
             Err(error)
@@ -192,7 +203,7 @@ fn write_notes<N: Sink>(
     }
 }
 
-/// Runs a model from its first plans up to a stop, in counts of its resolution, within so many turns. It writes the trace on `out`,
+/// Runs a model from its first plans up to the stop of a request, within its turns. It writes the trace on `out`,
 /// and on `notes` the plans and how it ended. What it writes is that of the history which is told the answers of the boundaries.
 ///
 /// # Errors
@@ -202,20 +213,20 @@ pub fn run_model<O: Sink, N: Sink>(
     alloc: Global,
     flat: &Flat,
     firsts: Vec<First>,
-    stop: u64,
-    turns: u64,
-    kind: TraceKind,
+    request: Request,
     out: &mut O,
     notes: &mut N,
 ) -> Result<Ran, SinkErr>
     requires can { CanRun flat.now firsts.items }
-    requires stop { stop < time_end }
+    requires stop { request.stop < time_end }
     ensures answered { (model : PureTree) → IsModelOf model flat.now → OnOk result
-        ((ahead : List (List Change)) × HaveAnswers model flat.now firsts.items ahead stop turns) }
+        ((ahead : List (List Change))
+        × HaveAnswers model flat.now firsts.items ahead request.stop request.turns) }
     ensures runs { (model : PureTree) → IsModelOf model flat.now
-        → (ahead : List (List Change)) → HaveAnswers model flat.now firsts.items ahead stop turns
-        → RunsAs kind model flat.now firsts.items ahead stop turns (O.taken out.old)
-        (O.taken out.new) (N.taken notes.old) (N.taken notes.new) result }
+        → (ahead : List (List Change))
+        → HaveAnswers model flat.now firsts.items ahead request.stop request.turns
+        → RunsAs request.kind model flat.now firsts.items ahead request.stop request.turns
+        (O.taken out.old) (O.taken out.new) (N.taken notes.old) (N.taken notes.new) result }
     ensures counts { CountsTwoSinks Failed (O.faults out.old) (O.faults out.new)
         (N.faults notes.old) (N.faults notes.new) result }
 {
@@ -225,11 +236,11 @@ pub fn run_model<O: Sink, N: Sink>(
         drop(firsts);
         return Err(error);
     }
-    let whole = match trace_run(alloc, flat, firsts, stop, turns, kind, out) {
+    let whole = match trace_run(alloc, flat, firsts, request, out) {
         Ok(whole) => whole,
         Err(error) => return Err(error),
     };
-    match write_notes(alloc, flat, turns, &whole, notes) {
+    match write_notes(alloc, flat, request.turns, &whole, notes) {
         Ok(()) => Ok(whole.ran),
         Err(error) => {
             drop(whole);

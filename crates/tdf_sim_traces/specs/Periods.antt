@@ -12,6 +12,7 @@ use Rattle.tdf_exec.specs.Played.{turns_from}
 use Rattle.tdf_bind.specs.declared.model.Flat.{Flat}
 use Rattle.tdf_bind_invariants.specs.Limits.{AreWithinLimits}
 use Rattle.tdf_trace_rows.specs.Positions.{Span, span_of}
+use Rattle.tdf_sim_traces.specs.declared.periods.Clock.{Clock}
 use Rattle.tdf_sim_traces.specs.declared.signals.TracedSignal.{TracedSignal}
 use Rattle.tdf_bind_connections.specs.declared.modules.PortRow.{PortRow}
 
@@ -23,6 +24,10 @@ pub record ClockAt : Type 0 where
 
 abbrev pub clock_at : (time : ℕ) → (since : List ℕ) → List ClusterOf → ClockAt
 clock_at time since clusters = record { time = time; since = since; clusters = clusters }
+
+-- as the code has it
+abbrev pub clock_of : Clock → ClockAt
+clock_of clock = clock_at clock.time clock.since.now clock.clusters.now
 
 -- the period of the cluster of a signal begins at the time
 abbrev pub begins : ClockAt → TracedSignal → Bool

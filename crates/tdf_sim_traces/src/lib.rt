@@ -19,5 +19,6 @@ mod variables;
 
 pub use events::EventColumn;
 pub use laws::{law_can, law_kept};
+pub use periods::Clock;
 pub use shown::Shown;
 pub use signals::TracedSignal;

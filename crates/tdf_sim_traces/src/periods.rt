@@ -1,16 +1,28 @@
 //! The periods of traced signals that begin.
 
+use tdf_exec::Cluster;
+
+/// What goes by time in a run: the time, the start of the period of each cluster, and the clusters, in order of number.
+#[derive(Drop)]
+pub struct Clock<'a> {
+    /// The time, in counts of the resolution.
+    pub time: u64,
+    /// When the period of each cluster began.
+    pub since: &'a [u64],
+    /// The clusters.
+    pub clusters: &'a [Cluster],
+}
+
 ghost use Rattle.std.specs.Prelude.{◌≡◌, ◌<◌, ◌≤◌, ◌^◌, length, OnOk};
 ghost use Rattle.tdf_trace.specs.Calls.{HasNoneLeft, HasStarted, TakesPeriod};
 ghost use Rattle.tdf_exec.specs.Made.{IsClusterOf};
 ghost use Rattle.tdf_bind_invariants.specs.Limits.{AreWithinLimits};
-ghost use Rattle.tdf_sim_traces.specs.Periods.{CanBegin, CanBeginAll, clock_at, positions_in, span_in};
+ghost use Rattle.tdf_sim_traces.specs.Periods.{CanBegin, CanBeginAll, clock_of, positions_in, span_in};
 ghost use Rattle.tdf_sim_traces.specs.machine.Beginning.{HasBegun, IsBeginning};
 
 use crate::signals::TracedSignal;
 use tdf_base::Memory;
 use tdf_bind::Flat;
-use tdf_exec::Cluster;
 use tdf_trace::{Trace, Tracking};
 
 /// How many positions a signal has in a period of its cluster.
@@ -53,7 +65,7 @@ fn begin_one(
     tracking.begin(trace, traced.signal, time, step, count)
 }
 
-/// The periods of all signals whose clusters begin one at this time; `since` has the start of the period of each cluster.
+/// The periods of all signals whose clusters begin one at this time.
 ///
 /// # Errors
 /// Out of memory; some cells may be noted then.
@@ -61,17 +73,15 @@ pub(crate) fn begin_all(
     tracking: &mut Tracking,
     trace: &mut Trace,
     flat: &Flat,
-    time: u64,
-    since: &[u64],
-    clusters: &[Cluster],
+    clock: &Clock,
     signals: &[TracedSignal],
 ) -> Result<(), Memory>
-    requires can { CanBeginAll flat.now (clock_at time since.now clusters.now) signals.now
+    requires can { CanBeginAll flat.now (clock_of clock.now) signals.now
         tracking.old.list }
     requires width { tracking.old.width ≤ length trace.old.about.variables }
-    requires upto { trace.old.rows.upto ≤ time }
+    requires upto { trace.old.rows.upto ≤ clock.now.time }
     ensures began { OnOk result (IsBeginning flat.now.tables
-        (clock_at time since.now clusters.now) signals.now (length signals.now)
+        (clock_of clock.now) signals.now (length signals.now)
         tracking.old tracking.new trace.old trace.new) }
     ensures upto { trace.new.rows.upto ≡ trace.old.rows.upto }
     ensures stage { trace.new.stage ≡ trace.old.stage }
@@ -79,8 +89,9 @@ pub(crate) fn begin_all(
 {
     for k in 0..signals.len() {
         let place = signals[k].cluster as usize;
-        if since[place] == time {
-            begin_one(tracking, trace, flat, time, &clusters[place], signals[k])?;
+        if clock.since[place] == clock.time {
+            let cluster = &clock.clusters[place];
+            begin_one(tracking, trace, flat, clock.time, cluster, signals[k])?;
         }
     }
     Ok(())
@@ -94,24 +105,22 @@ pub(crate) fn begin_later(
     tracking: &mut Tracking,
     trace: &mut Trace,
     flat: &Flat,
-    time: u64,
-    since: &[u64],
-    clusters: &[Cluster],
+    clock: &Clock,
     signals: &[TracedSignal],
 ) -> Result<(), Memory>
-    requires can { 0 < time → CanBeginAll flat.now (clock_at time since.now clusters.now)
+    requires can { 0 < clock.now.time → CanBeginAll flat.now (clock_of clock.now)
         signals.now tracking.old.list }
     requires width { tracking.old.width ≤ length trace.old.about.variables }
-    requires upto { trace.old.rows.upto ≤ time }
+    requires upto { trace.old.rows.upto ≤ clock.now.time }
     ensures began { OnOk result (HasBegun flat.now.tables
-        (clock_at time since.now clusters.now) signals.now tracking.old tracking.new
+        (clock_of clock.now) signals.now tracking.old tracking.new
         trace.old trace.new) }
     ensures upto { trace.new.rows.upto ≡ trace.old.rows.upto }
     ensures stage { trace.new.stage ≡ trace.old.stage }
     ensures about { trace.new.about ≡ trace.old.about }
 {
-    if time == 0 {
+    if clock.time == 0 {
         return Ok(());
     }
-    begin_all(tracking, trace, flat, time, since, clusters, signals)
+    begin_all(tracking, trace, flat, clock, signals)
 }

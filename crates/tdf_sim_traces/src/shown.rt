@@ -22,10 +22,10 @@ ghost use Rattle.tdf_trace.specs.Tracked.{AreSince};
 ghost use Rattle.tdf_events.specs.Runnable.{IsRunnable};
 ghost use Rattle.tdf_exec.specs.Starts.{IsSoundFlat};
 ghost use Rattle.tdf_sim_traces.specs.Calls.{CanBeShown, CanStart, CanTake, IsUnshown, ShowsEnd, ShowsInstant, StartsShowing};
-ghost use Rattle.tdf_sim_traces.specs.Periods.{clock_at};
+ghost use Rattle.tdf_sim_traces.specs.Periods.{clock_at, clock_of};
 
 use crate::initials::give_all;
-use crate::periods::{begin_all, begin_later};
+use crate::periods::{Clock, begin_all, begin_later};
 use crate::variables::variables;
 use std::alloc::Global;
 use tdf_base::{Memory, row_number};
@@ -78,13 +78,16 @@ impl Shown {
         ensures stage { self.new.trace.stage ≡ self.old.trace.stage }
         ensures about { self.new.trace.about ≡ self.old.trace.about }
     {
+        let clock = Clock {
+            time: 0,
+            since,
+            clusters,
+        };
         begin_all(
             &mut self.tracking,
             &mut self.trace,
             flat,
-            0,
-            since,
-            clusters,
+            &clock,
             &self.signals,
         )?;
         give_all(
@@ -97,23 +100,20 @@ impl Shown {
     }
 
     /// Takes what an instant gave: the periods that began, the samples that firings traced, and the values that the event signals have
-    /// settled. `since` has the start of the period of each cluster.
+    /// settled.
     ///
     /// # Errors
     /// Out of memory.
     pub fn take(
         &mut self,
         flat: &Flat,
-        time: u64,
-        since: &[u64],
-        clusters: &[Cluster],
+        clock: &Clock,
         traced: &[Traced],
         values: &[Raw],
     ) -> Result<(), Memory>
-        requires { CanTake flat.now (clock_at time since.now clusters.now) traced.now values.now
-            self.old }
-        ensures shown { OnOk result (ShowsInstant flat.now
-            (clock_at time since.now clusters.now) traced.now values.now self.old self.new) }
+        requires { CanTake flat.now (clock_of clock.now) traced.now values.now self.old }
+        ensures shown { OnOk result
+            (ShowsInstant flat.now (clock_of clock.now) traced.now values.now self.old self.new) }
         ensures since { OnOk result
             (AreSince self.old.trace.rows.upto self.new.tracking.list) }
         ensures upto { self.new.trace.rows.upto ≡ self.old.trace.rows.upto }
@@ -124,13 +124,11 @@ impl Shown {
             &mut self.tracking,
             &mut self.trace,
             flat,
-            time,
-            since,
-            clusters,
+            clock,
             &self.signals,
         )?;
         self.tracking.give(&mut self.trace, traced)?;
-        show_all(&mut self.events, &mut self.trace, time, values)
+        show_all(&mut self.events, &mut self.trace, clock.time, values)
     }
 
     /// The run ends: the positions of traced signals below the end that have no sample are unknown.

@@ -8,8 +8,8 @@ returns-in-Err-clause-runs g c = λ model m ahead have. record {
   end = tt;
   trace = tt;
   notes = tt;
-  trace_part = front_none (g.O.Sink.taken c.args.out.now) (trace_of c.args.kind model c.args.flat.now c.args.firsts.items ahead c.args.stop c.args.turns);
-  notes_part = plans_part c.law_report.ensures.notes model c.args.flat.now c.args.firsts.items c.deref.result.now c.deref.ensures.value ahead c.args.stop c.args.turns
+  trace_part = front_none (g.O.Sink.taken c.args.out.now) (trace_of c.args.request.kind model c.args.flat.now c.args.firsts.items ahead c.args.request.stop c.args.request.turns);
+  notes_part = plans_part c.law_report.ensures.notes model c.args.flat.now c.args.firsts.items c.deref.result.now c.deref.ensures.value ahead c.args.request.stop c.args.request.turns
       (g.N.Sink.taken c.args.notes.now) (g.N.Sink.taken c.write_plans.new.notes) c.in-Err.ensures.part;
   left = tt;
 }
@@ -20,7 +20,7 @@ returns-in-Err-trace_run-clause-runs g c = λ model m ahead have. record {
   trace = tt;
   notes = tt;
   trace_part = c.in-Err-trace_run.ensures.part model m ahead have;
-  notes_part = plans_whole c.law_report.ensures.notes model c.args.flat.now c.args.firsts.items c.deref.result.now c.deref.ensures.value ahead c.args.stop c.args.turns
+  notes_part = plans_whole c.law_report.ensures.notes model c.args.flat.now c.args.firsts.items c.deref.result.now c.deref.ensures.value ahead c.args.request.stop c.args.request.turns
       (g.N.Sink.taken c.args.notes.now) (g.N.Sink.taken c.write_plans.new.notes) c.in_default.ensures.all;
   left = tt;
 }
@@ -34,7 +34,7 @@ returns-in-Ok-write_notes-clause-runs g c = λ model m ahead have.
     record {
       end = ended.end ahead have;
       trace = c.in-Ok.ensures.trace model m ahead have;
-      notes = notes_whole c.law_report.ensures.notes model c.args.flat.now c.args.firsts.items c.deref.result.now c.deref.ensures.value ahead c.args.stop c.args.turns
+      notes = notes_whole c.law_report.ensures.notes model c.args.flat.now c.args.firsts.items c.deref.result.now c.deref.ensures.value ahead c.args.request.stop c.args.request.turns
           (g.N.Sink.taken c.args.notes.now) (g.N.Sink.taken c.write_plans.new.notes) c.in_default.ensures.all
           c.in-Ok.whole.news.items (ended.news ahead have) c.in-Ok.whole.ran.end (ended.end ahead have) (g.N.Sink.taken c.write_notes.new.notes) c.in-Ok-write_notes.ensures.all;
       trace_part = tt;
@@ -50,8 +50,8 @@ returns-in-Err-write_notes-clause-runs g c = λ model m ahead have.
       trace = tt;
       notes = tt;
       trace_part = front_whole (g.O.Sink.taken c.args.out.now) (g.O.Sink.taken c.trace_run.new.out)
-          (trace_of c.args.kind model c.args.flat.now c.args.firsts.items ahead c.args.stop c.args.turns) (c.in-Ok.ensures.trace model m ahead have);
-      notes_part = notes_part c.law_report.ensures.notes model c.args.flat.now c.args.firsts.items c.deref.result.now c.deref.ensures.value ahead c.args.stop c.args.turns
+          (trace_of c.args.request.kind model c.args.flat.now c.args.firsts.items ahead c.args.request.stop c.args.request.turns) (c.in-Ok.ensures.trace model m ahead have);
+      notes_part = notes_part c.law_report.ensures.notes model c.args.flat.now c.args.firsts.items c.deref.result.now c.deref.ensures.value ahead c.args.request.stop c.args.request.turns
           (g.N.Sink.taken c.args.notes.now) (g.N.Sink.taken c.write_plans.new.notes) c.in_default.ensures.all
           c.in-Ok.whole.news.items (ended.news ahead have) c.in-Ok.whole.ran.end (ended.end ahead have) (g.N.Sink.taken c.write_notes.new.notes) c.in-Err-write_notes.ensures.part;
       left = tt;
