@@ -1,8 +1,8 @@
 -- How a new table is judged.
-use Rattle.std.proofs.Common.{◌≡◌, ◌∙◌, ℕ, List, Some, length, sym, ap, subst}
+use Rattle.std.proofs.Common.{◌≡◌, ◌∙◌, ℕ, List, Some, length, refl, sym, ap, subst}
 use Rattle.std.proofs.lemmas.List.{length-map}
 use Rattle.std.proofs.lemmas.Option.{same_Some, slice_get_within}
-use Rattle.std.specs.Prelude.{Contains, Result, Ok, Err, IfErr, slice_index_or}
+use Rattle.std.specs.Prelude.{All, Contains, Result, Ok, Err, IfErr, slice_index_or}
 use Rattle.tdf_balance.specs.Laws.{AnswersExclude, CountsAreUnique}
 use Rattle.tdf_base.specs.declared.codes.Code.{Code}
 use Rattle.tdf_base.specs.declared.codes.Code.TheVariants as code
@@ -11,14 +11,15 @@ use Rattle.tdf_bind_tables.specs.Actors.{cluster_of}
 use Rattle.tdf_bind_tables.specs.FlatTables.{FlatTablesOf}
 use Rattle.tdf_bind_tables.specs.declared.actors.ActorRow.{ActorRow}
 use Rattle.tdf_dynamic.proofs.Rows.{get_read}
-use Rattle.tdf_dynamic.specs.Change.{fault_of_row}
+use Rattle.tdf_dynamic.specs.Change.{TimingOf, fault_of_row}
 use Rattle.tdf_dynamic.specs.Given.{IsPlanned}
 use Rattle.tdf_dynamic.specs.declared.frames.ModuleFrame.{ModuleFrame}
-use Rattle.tdf_dynamic.specs.machine.Judging.{AreTimed, InPlan, InRejected, InSteps, IsJudged, IsJudgedFault, NoneRefuse}
+use Rattle.tdf_dynamic.specs.machine.Judging.{InPlan, InRejected, InSteps, IsJudged, IsJudgedFault, IsRejection, IsUnrejected}
 use Rattle.tdf_dynamic.specs.machine.Rows.{HoldsBelow, IsFirstPlace, IsRefusing}
-use Rattle.tdf_dynamic_plans.proofs.Api.{fault_apart, ports_are}
+use Rattle.tdf_dynamic_plans.proofs.Api.{fault_apart, plan_same, ports_are, true_at}
 use Rattle.tdf_dynamic_first.proofs.Api.{net_clusters, net_fit}
-use Rattle.tdf_dynamic_plans.specs.Attributes.{AttrsOf, clusters_of}
+use Rattle.tdf_dynamic_plans.specs.Attributes.{AttrsOf, IsOfCluster, clusters_of}
+use Rattle.tdf_dynamic_plans.specs.Known.{AreTrueFor, HasSameItems, IsKnownAt, PlansOf, table_key}
 use Rattle.tdf_dynamic_plans.specs.Faults.{HasTiming, IsPlanFault, IsPlanOf, IsRefusal, IsStepsFault, OfTiming}
 use Rattle.tdf_dynamic_plans.specs.Rates.{AreRates, IsWired, NetOf, net_of, net_ports, net_seen}
 use Rattle.tdf_dynamic_plans.specs.declared.err.ChangeErr.{ChangeErr}
@@ -62,38 +63,63 @@ unfolding net_of
 counts_long tables table net n counts is count long =
     long ∙ length-map tables.actors cluster_of ∙ sym (count ∙ ap (λ (x : NetOf). length x.actors) is ∙ length-map tables.actors (λ (row : ActorRow). row.kind))
 
-module _ (tables : FlatTablesOf) (cluster : ℕ) (table new : List AttrsOf) (frames : List ModuleFrame) (before after : Net) (before_is : net_seen before ≡ net_of tables table)
-    (after_is : net_seen after ≡ net_of tables new) (old_counts counts : List ℕ) (old_steps steps : Steps) (old_timing : HasTiming tables (net_seen before) cluster table old_counts old_steps)
-    (timing : HasTiming tables (net_of tables new) cluster new counts steps) where
-  pub times : AreTimed tables cluster table new
-  times = record {
-    before = record { counts = old_counts; steps = old_steps; timing = subst (λ (n : NetOf). HasTiming tables n cluster table old_counts old_steps) before_is old_timing };
-    after = record { counts = counts; steps = steps; timing = timing };
+-- from the rates and steps that are compared to what no module rejects, and to the first that one does
+module _ (tables : FlatTablesOf) (cluster : ℕ) (table : List AttrsOf) (frames : List ModuleFrame) (before : Net) (before_is : net_seen before ≡ net_of tables table) (counts : List ℕ) (steps : Steps)
+    (timing : HasTiming tables (net_seen before) cluster table counts steps) (ports : List Port) (new : Steps) where
+  timing_before : TimingOf tables cluster table
+  timing_before = record { counts = counts; steps = steps; timing = subst (λ (n : NetOf). HasTiming tables n cluster table counts steps) before_is timing }
+
+  pub unrejected_is : HoldsBelow (λ attrs f. IsRefusing before.ports.items ports steps new attrs f → ⊥) table frames (length table) → IsUnrejected tables cluster table frames ports new
+  unfolding timing_before
+  unrejected_is none = record {
+    before = timing_before;
+    none = subst (λ (ps : List Port). HoldsBelow (λ attrs f. IsRefusing ps ports steps new attrs f → ⊥) table frames (length table)) (ports_are tables table before before_is) none;
   }
 
-  pub none_refuse : HoldsBelow (λ attrs f. IsRefusing before.ports.items after.ports.items old_steps steps attrs f → ⊥) table frames (length table) → NoneRefuse tables cluster table new times frames
-  unfolding times
-  none_refuse none =
-      subst (λ (ps : List Port). HoldsBelow (λ attrs f. IsRefusing ps (net_ports tables new) old_steps steps attrs f → ⊥) table frames (length table)) (ports_are tables table before before_is)
-      (subst (λ (qs : List Port). HoldsBelow (λ attrs f. IsRefusing before.ports.items qs old_steps steps attrs f → ⊥) table frames (length table)) (ports_are tables new after after_is) none)
+  pub rejection_is : (fault : Fault) → IsToldFirst (IsRefusing before.ports.items ports steps new) tables code.Rejected table frames fault → IsRejection tables cluster table frames ports new fault
+  unfolding timing_before
+  rejection_is fault is =
+      let told = subst (λ (ps : List Port). IsToldFirst (IsRefusing ps ports steps new) tables code.Rejected table frames fault) (ports_are tables table before before_is) is in
+      record { before = timing_before; place = told.0; first = told.1; told = told.2 }
 
-  pub is_judged : HoldsBelow (λ attrs f. IsRefusing before.ports.items after.ports.items old_steps steps attrs f → ⊥) table frames (length table)
-      → (plan : Plan) → IsPlanOf (net_seen after) counts steps plan → IsJudged tables cluster table new frames plan
-  unfolding times
-  is_judged none plan is = record { times = times; none = none_refuse none; plan_is = subst (λ (n : NetOf). IsPlanOf n counts steps plan) after_is is }
+-- what comes of a new table with these counts and steps
+module _ (tables : FlatTablesOf) (cluster : ℕ) (table new : List AttrsOf) (frames : List ModuleFrame) (after : Net) (after_is : net_seen after ≡ net_of tables new) (counts : List ℕ) (steps : Steps)
+    (timing : HasTiming tables (net_of tables new) cluster new counts steps) where
+  by_net : IsUnrejected tables cluster table frames after.ports.items steps → IsUnrejected tables cluster table frames (net_ports tables new) steps
+  by_net is = subst (λ (ps : List Port). IsUnrejected tables cluster table frames ps steps) (ports_are tables new after after_is) is
 
-  pub plan_refused : HoldsBelow (λ attrs f. IsRefusing before.ports.items after.ports.items old_steps steps attrs f → ⊥) table frames (length table)
-      → (fault : Fault) → IsPlanFault tables (net_seen after) new counts steps fault → IsJudgedFault tables cluster table new frames fault
-  unfolding times
-  plan_refused none fault is = InPlan times (none_refuse none) (subst (λ (n : NetOf). IsPlanFault tables n new counts steps fault) after_is is)
+  pub judged_is : IsUnrejected tables cluster table frames after.ports.items steps → (plan : Plan) → IsPlanOf (net_of tables new) counts steps plan → IsJudged tables cluster table new frames plan
+  judged_is un plan is =
+      let by = by_net un in
+      record { times = record { before = by.before; after = record { counts = counts; steps = steps; timing = timing } }; none = by.none; plan_is = is }
 
-  pub change_refused : (fault : Fault) → IsToldFirst (IsRefusing before.ports.items after.ports.items old_steps steps) tables code.Rejected table frames fault
+  pub plan_refused : IsUnrejected tables cluster table frames after.ports.items steps → (fault : Fault) → IsPlanFault tables (net_seen after) new counts steps fault
       → IsJudgedFault tables cluster table new frames fault
-  unfolding times
+  plan_refused un fault is =
+      let by = by_net un in
+      InPlan (record { before = by.before; after = record { counts = counts; steps = steps; timing = timing } }) by.none (subst (λ (n : NetOf). IsPlanFault tables n new counts steps fault) after_is is)
+
+  pub change_refused : (fault : Fault) → IsRejection tables cluster table frames after.ports.items steps fault → IsJudgedFault tables cluster table new frames fault
   change_refused fault is =
-      let told = subst (λ (ps : List Port). IsToldFirst (IsRefusing ps (net_ports tables new) old_steps steps) tables code.Rejected table frames fault) (ports_are tables table before before_is)
-      (subst (λ (qs : List Port). IsToldFirst (IsRefusing before.ports.items qs old_steps steps) tables code.Rejected table frames fault) (ports_are tables new after after_is) is) in
-      InRejected times (record { place = told.0; first = told.1; told = told.2 })
+      let by = subst (λ (ps : List Port). IsRejection tables cluster table frames ps steps fault) (ports_are tables new after after_is) is in
+      InRejected (record { before = by.before; after = record { counts = counts; steps = steps; timing = timing } }) (record { place = by.place; first = by.first; told = by.told })
+
+-- what comes of a new table that is known at a place
+module _ (tables : FlatTablesOf) (cluster : ℕ) (table new : List AttrsOf) (frames : List ModuleFrame) (after : Net) (after_is : net_seen after ≡ net_of tables new) (known : PlansOf) (place : ℕ)
+    (here : IsKnownAt known.plans (table_key new) place) (are : AreTrueFor tables cluster known.plans) (own : All (IsOfCluster tables cluster) new) (steps : Steps) (same : steps ≡ here.0.steps) where
+  timing_known : HasTiming tables (net_of tables new) cluster new here.0.counts here.0.steps
+  timing_known = (true_at tables cluster known.plans place here.0 are here.1).timing new own (sym here.2)
+
+  pub known_judged : IsUnrejected tables cluster table frames after.ports.items steps → (plan : Plan) → HasSameItems here.0.plan plan → IsJudged tables cluster table new frames plan
+  known_judged un plan items =
+      judged_is tables cluster table new frames after after_is here.0.counts here.0.steps timing_known (subst (λ (s : Steps). IsUnrejected tables cluster table frames after.ports.items s) same un) plan
+      (plan_same (net_of tables new) here.0.counts here.0.steps here.0.steps refl here.0.plan plan refl items ((true_at tables cluster known.plans place here.0 are here.1).plan_is new own (sym here.2)))
+
+  pub known_refused : (e : ChangeErr) → IsRefusal (IsRejection tables cluster table frames after.ports.items steps) e → IsRefusal (IsJudgedFault tables cluster table new frames) e
+  known_refused e is =
+      refusal_weaker (IsRejection tables cluster table frames after.ports.items here.0.steps) (IsJudgedFault tables cluster table new frames)
+      (change_refused tables cluster table new frames after after_is here.0.counts here.0.steps timing_known) e
+      (subst (λ (s : Steps). IsRefusal (IsRejection tables cluster table frames after.ports.items s) e) same is)
 
 pub steps_refused : (tables : FlatTablesOf) (cluster : ℕ) (table new : List AttrsOf) (frames : List ModuleFrame) (net : NetOf) → net ≡ net_of tables new → (e : ChangeErr)
     → IsRefusal (IsStepsFault tables net cluster new) e → IsRefusal (IsJudgedFault tables cluster table new frames) e

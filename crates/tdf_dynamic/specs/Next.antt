@@ -1,6 +1,6 @@
 -- What is left after a boundary.
 -- Source: own.
-use Rattle.std.specs.Prelude.{◌≡◌, ◌⊎◌, ℕ, List, Some, slice_get, Result, Ok, Err, IfOk, IfErr, IsOk}
+use Rattle.std.specs.Prelude.{◌≡◌, ◌⊎◌, ℕ, List, [], Some, slice_get, Result, Ok, Err, IfOk, IfErr, IsOk}
 use Rattle.tdf_base.specs.declared.faults.Fault.{Fault}
 use Rattle.tdf_bind_tables.specs.FlatTables.{FlatTablesOf}
 use Rattle.tdf_dynamic.specs.Change.{Asks, IsChangeFault, IsNewPlan, IsSame, table_after}
@@ -28,11 +28,11 @@ IsNext tables cluster asks old new (Changed attrs plan) =
     (new ≡ old) × (attrs.rows ≡ table_after asks old) × IsNewPlan tables cluster asks old plan
 
 -- the plans that are known go with the table in force: they stay where no module differs; else the
--- new table has them, and that of its plan
+-- new table has them, with that of its plan, and the old one has none
 abbrev pub IsCarried : FlatTablesOf → (cluster : ℕ) → (old new : PlansOf) → Next → Type 0
 IsCarried tables cluster old new Same = new ≡ old
 IsCarried tables cluster old new (Changed attrs plan) =
-    HasTablePlanned tables cluster attrs.rows plan old attrs.known
+    HasTablePlanned tables cluster attrs.rows plan old attrs.known × (new.plans ≡ [])
 
 -- what a boundary answers to what the modules of a cluster ask for: each answer means what it says,
 -- and comes wherever its cause is there, but for want of memory

@@ -8,11 +8,11 @@ ghost use Rattle.tdf_dynamic.specs.Given.{AreFramesOf, IsOfText, IsPlanned, When
 ghost use Rattle.tdf_dynamic.specs.Next.{AnswersAsks, HaveChanged, IsCarried};
 ghost use Rattle.tdf_dynamic.specs.machine.Asking.{AllTell};
 ghost use Rattle.tdf_dynamic.specs.machine.Boundary.{IsFound, IsRefusedAt, IsTableRefused, NoneMarks};
-ghost use Rattle.tdf_dynamic.specs.machine.Judging.{IsJudged, IsJudgedFault};
+ghost use Rattle.tdf_dynamic.specs.machine.Judging.{IsJudged, IsJudgedFault, IsRejection, IsUnrejected};
 ghost use Rattle.tdf_dynamic.specs.machine.Rows.{AreAfter, HoldsBelow, IsFirstPlace, IsRefusing};
 ghost use Rattle.tdf_dynamic_plans.specs.Attributes.{AttrsOf, IsOfCluster, clusters_of};
-ghost use Rattle.tdf_dynamic_plans.specs.Faults.{HasTiming, IsRefusal};
-ghost use Rattle.tdf_dynamic_plans.specs.Known.{HasTablePlanned};
+ghost use Rattle.tdf_dynamic_plans.specs.Faults.{HasTiming, IsRefusal, IsStepsFault};
+ghost use Rattle.tdf_dynamic_plans.specs.Known.{AreTrueFor, HasTablePlanned, IsKnown, IsKnownAt, table_key};
 ghost use Rattle.tdf_dynamic_plans.specs.Rates.{AreRates, IsWired, net_of, net_seen};
 ghost use Rattle.tdf_dynamic_plans.specs.declared.err.ChangeErr.TheVariants.{Refused};
 ghost use Rattle.tdf_dynamic.specs.declared.next.Next.TheVariants.{Same};
@@ -93,13 +93,98 @@ fn accepted(
     }
 }
 
-/// The plan of a new table, whose net and timing are given, if no module rejects it.
-fn judged_by(
+/// The counts and steps under the attributes in force: those of the plan that is known, else found anew.
+fn old_timing(
+    alloc: Global,
+    at: &Boundary,
+    before: &Net,
+    known: &KnownPlans,
+) -> Result<Timing, ChangeErr>
+    requires wired { IsWired at.now.flat.now.tables }
+    requires own { at.now.clusters.now ≡ clusters_of at.now.flat.now.tables }
+    requires has { Contains (clusters_of at.now.flat.now.tables) at.now.cluster }
+    requires table { All (IsOfCluster at.now.flat.now.tables at.now.cluster) at.now.table.now }
+    requires known { AreTrueFor at.now.flat.now.tables at.now.cluster known.now.plans }
+    requires net { net_seen before.now ≡ net_of at.now.flat.now.tables at.now.table.now }
+    ensures timing { IfOk result (λ t. HasTiming at.now.flat.now.tables (net_seen before.now) at.now.cluster at.now.table.now t.counts.items t.steps) }
+    ensures refused { IfErr result (IsRefusal (IsStepsFault at.now.flat.now.tables (net_seen before.now) at.now.cluster at.now.table.now)) }
+{
+    match known.find(at.table) {
+        Some(place) => Ok(known.timing(place).copy(alloc)?),
+        None => steps_of(
+            alloc,
+            &at.flat.tables,
+            before,
+            at.clusters,
+            at.cluster,
+            at.table,
+        ),
+    }
+}
+
+/// Whether no module rejects a new table with this net and this timing, or the fault that one does.
+fn unrejected(
+    alloc: Global,
+    at: &Boundary,
+    after: &Net,
+    new: &Timing,
+    known: &KnownPlans,
+) -> Result<(), ChangeErr>
+    requires wired { IsWired at.now.flat.now.tables }
+    requires own { at.now.clusters.now ≡ clusters_of at.now.flat.now.tables }
+    requires has { Contains (clusters_of at.now.flat.now.tables) at.now.cluster }
+    requires table { All (IsOfCluster at.now.flat.now.tables at.now.cluster) at.now.table.now }
+    requires rates { AreRates at.now.flat.now.tables at.now.table.now }
+    requires planned { IsPlanned at.now.flat.now.tables at.now.cluster at.now.table.now }
+    requires tells { AllTell at.now.flat.now at.now.table.now at.now.frames.now }
+    requires known { AreTrueFor at.now.flat.now.tables at.now.cluster known.now.plans }
+    ensures none { OnOk result (IsUnrejected at.now.flat.now.tables at.now.cluster at.now.table.now at.now.frames.now after.now.ports.items new.now.steps) }
+    ensures refused { IfErr result (IsRefusal (IsRejection at.now.flat.now.tables at.now.cluster at.now.table.now at.now.frames.now after.now.ports.items new.now.steps)) }
+{
+    law_counts();
+    let before = net_of(alloc, &at.flat.tables, at.table)?;
+    match old_timing(alloc, at, &before, known) {
+        Ok(old) => accepted(alloc, at, &before, &old, after, new),
+        Err(refused) => Err(refused),
+    }
+}
+
+/// The plan of a new table that is known at a place, if no module rejects it.
+fn judged_known(
     alloc: Global,
     at: &Boundary,
     new: &[ModuleAttrs],
-    after: Net,
-    timing: Timing,
+    after: &Net,
+    known: &KnownPlans,
+    place: usize,
+) -> Result<Plan, ChangeErr>
+    requires wired { IsWired at.now.flat.now.tables }
+    requires own { at.now.clusters.now ≡ clusters_of at.now.flat.now.tables }
+    requires has { Contains (clusters_of at.now.flat.now.tables) at.now.cluster }
+    requires table { All (IsOfCluster at.now.flat.now.tables at.now.cluster) at.now.table.now }
+    requires rates { AreRates at.now.flat.now.tables at.now.table.now }
+    requires planned { IsPlanned at.now.flat.now.tables at.now.cluster at.now.table.now }
+    requires tells { AllTell at.now.flat.now at.now.table.now at.now.frames.now }
+    requires known { AreTrueFor at.now.flat.now.tables at.now.cluster known.now.plans }
+    requires new { All (IsOfCluster at.now.flat.now.tables at.now.cluster) new.now }
+    requires net { net_seen after.now ≡ net_of at.now.flat.now.tables new.now }
+    requires here { IsKnownAt known.now.plans (table_key new.now) place }
+    ensures plan { IfOk result (IsJudged at.now.flat.now.tables at.now.cluster at.now.table.now new.now at.now.frames.now) }
+    ensures refused { IfErr result (IsRefusal (IsJudgedFault at.now.flat.now.tables at.now.cluster at.now.table.now new.now at.now.frames.now)) }
+    ensures planned { IfOk result (λ plan. HasTablePlanned at.now.flat.now.tables at.now.cluster new.now plan known.now known.now) }
+{
+    match unrejected(alloc, at, after, known.timing(place), known) {
+        Ok(()) => Ok(known.plan(alloc, place)?),
+        Err(refused) => Err(refused),
+    }
+}
+
+/// The plan of a new table that is not known, if it has one and no module rejects it.
+fn judged_anew(
+    alloc: Global,
+    at: &Boundary,
+    new: &[ModuleAttrs],
+    after: &Net,
     known: &mut KnownPlans,
 ) -> Result<Plan, ChangeErr>
     requires wired { IsWired at.now.flat.now.tables }
@@ -108,27 +193,30 @@ fn judged_by(
     requires table { All (IsOfCluster at.now.flat.now.tables at.now.cluster) at.now.table.now }
     requires rates { AreRates at.now.flat.now.tables at.now.table.now }
     requires planned { IsPlanned at.now.flat.now.tables at.now.cluster at.now.table.now }
-    requires net { net_seen after ≡ net_of at.now.flat.now.tables new.now }
-    requires timing { HasTiming at.now.flat.now.tables (net_of at.now.flat.now.tables new.now) at.now.cluster new.now timing.counts.items timing.steps }
     requires tells { AllTell at.now.flat.now at.now.table.now at.now.frames.now }
+    requires known { AreTrueFor at.now.flat.now.tables at.now.cluster known.old.plans }
+    requires new { All (IsOfCluster at.now.flat.now.tables at.now.cluster) new.now }
+    requires net { net_seen after.now ≡ net_of at.now.flat.now.tables new.now }
+    requires unknown { IsKnown known.old.plans (table_key new.now) → ⊥ }
     ensures plan { IfOk result (IsJudged at.now.flat.now.tables at.now.cluster at.now.table.now new.now at.now.frames.now) }
     ensures refused { IfErr result (IsRefusal (IsJudgedFault at.now.flat.now.tables at.now.cluster at.now.table.now new.now at.now.frames.now)) }
     ensures planned { IfOk result (λ plan. HasTablePlanned at.now.flat.now.tables at.now.cluster new.now plan known.old known.new) }
 {
-    law_counts();
     let tables = &at.flat.tables;
-    let before = net_of(alloc, tables, at.table)?;
-    let old = match steps_of(alloc, tables, &before, at.clusters, at.cluster, at.table) {
-        Ok(old) => old,
+    let timing = match steps_of(alloc, tables, after, at.clusters, at.cluster, new) {
+        Ok(timing) => timing,
         Err(refused) => return Err(refused),
     };
-    match accepted(alloc, at, &before, &old, &after, &timing) {
-        Ok(()) => known.plan_of(alloc, tables, after, new, timing),
-        Err(refused) => Err(refused),
+    match unrejected(alloc, at, after, &timing, known) {
+        Ok(()) => known.make(alloc, tables, after, new, timing),
+        Err(refused) => {
+            drop(timing);
+            Err(refused)
+        }
     }
 }
 
-/// The plan of a new table, if it has one and no module rejects it.
+/// The plan of a new table, if it has one and no module rejects it. One that is known has no other fault.
 fn judged(
     alloc: Global,
     at: &Boundary,
@@ -141,17 +229,18 @@ fn judged(
     requires table { All (IsOfCluster at.now.flat.now.tables at.now.cluster) at.now.table.now }
     requires rates { AreRates at.now.flat.now.tables at.now.table.now }
     requires planned { IsPlanned at.now.flat.now.tables at.now.cluster at.now.table.now }
+    requires tells { AllTell at.now.flat.now at.now.table.now at.now.frames.now }
+    requires known { AreTrueFor at.now.flat.now.tables at.now.cluster known.old.plans }
     requires new { All (IsOfCluster at.now.flat.now.tables at.now.cluster) new.now }
     requires new_rates { AreRates at.now.flat.now.tables new.now }
-    requires tells { AllTell at.now.flat.now at.now.table.now at.now.frames.now }
     ensures plan { IfOk result (IsJudged at.now.flat.now.tables at.now.cluster at.now.table.now new.now at.now.frames.now) }
     ensures refused { IfErr result (IsRefusal (IsJudgedFault at.now.flat.now.tables at.now.cluster at.now.table.now new.now at.now.frames.now)) }
     ensures planned { IfOk result (λ plan. HasTablePlanned at.now.flat.now.tables at.now.cluster new.now plan known.old known.new) }
 {
     let after = net_of(alloc, &at.flat.tables, new)?;
-    match steps_of(alloc, &at.flat.tables, &after, at.clusters, at.cluster, new) {
-        Ok(timing) => judged_by(alloc, at, new, after, timing, known),
-        Err(refused) => Err(refused),
+    match known.find(new) {
+        Some(place) => judged_known(alloc, at, new, &after, known, place),
+        None => judged_anew(alloc, at, new, &after, known),
     }
 }
 
@@ -169,6 +258,7 @@ fn with_table(
     requires attributes { AreAttributes flat.now cluster table.now }
     requires planned { IsPlanned flat.now.tables cluster table.now }
     requires tells { AllTell flat.now table.now frames.now }
+    requires known { AreTrueFor flat.now.tables cluster known.old.plans }
     requires after { (after : List AttrsOf) → AreAfter table.now frames.now (length table.now) after → AreAttributes flat.now cluster after }
     ensures found { IfOk result (IsFound flat.now.tables cluster table.now frames.now) }
     ensures refused { IfErr result (IsRefusal (IsTableRefused flat.now.tables cluster table.now frames.now)) }
@@ -203,6 +293,7 @@ fn changed(
     requires attributes { AreAttributes flat.now cluster table.now }
     requires planned { IsPlanned flat.now.tables cluster table.now }
     requires tells { AllTell flat.now table.now frames.now }
+    requires known { AreTrueFor flat.now.tables cluster known.old.plans }
     requires after { (after : List AttrsOf) → AreAfter table.now frames.now (length table.now) after → AreAttributes flat.now cluster after }
     ensures unmarked { IsOk result → NoneMarks table.now frames.now }
     ensures found { IfOk result (IsFound flat.now.tables cluster table.now frames.now) }
@@ -234,6 +325,7 @@ pub fn next_plan(
     requires has { Contains (clusters_of flat.now.tables) cluster }
     requires attributes { AreAttributes flat.now cluster attrs.old.rows }
     requires planned { IsPlanned flat.now.tables cluster attrs.old.rows }
+    requires known { AreTrueFor flat.now.tables cluster attrs.old.known.plans }
     requires frames { AreFramesOf flat.now attrs.old.rows frames.old.modules.items }
     ensures answer { WhenAsked flat.now attrs.old.rows frames.old.modules.items (λ asks.
         AnswersAsks flat.now cluster asks attrs.old.rows attrs.new.rows result) }

@@ -1,18 +1,20 @@
 -- A cluster of a flat model has one fault or one plan, and which answer comes.
 use Rattle.std.proofs.Common.{◌≡◌, ◌∙◌, ℕ, List, length, refl, sym, ap, map, subst, inl, inr, ◌⊎◌}
 use Rattle.std.proofs.lemmas.List.{length-map}
+use Rattle.std.proofs.lemmas.List.Elements.{All-nil}
 use Rattle.std.specs.Prelude.{All, Result, Ok, Err, IsOk, IfOk, IfErr}
 use Rattle.tdf_balance.specs.Laws.{CountsAreUnique, AnswersExclude}
 use Rattle.tdf_base.specs.declared.faults.Fault.{Fault}
 use Rattle.tdf_bind_tables.specs.Actors.{cluster_of}
 use Rattle.tdf_bind_tables.specs.FlatTables.{FlatTablesOf}
-use Rattle.tdf_dynamic_plans.proofs.Api.{fault_once, fault_apart, plan_once}
+use Rattle.tdf_dynamic_plans.proofs.Api.{fault_once, fault_apart, plan_once, planned_true}
 use Rattle.tdf_dynamic_plans.proofs.Api.{edges_are_fit, rated_clusters}
-use Rattle.tdf_dynamic_first.proofs.Tables.{rates_are}
-use Rattle.tdf_dynamic_plans.specs.Attributes.{AttrsOf, clusters_of}
-use Rattle.tdf_dynamic_plans.specs.Faults.{IsRefusal}
-use Rattle.tdf_dynamic_first.specs.Text.{first_table}
-use Rattle.tdf_dynamic_first.specs.First.{IsFirstPlan, IsClusterFault}
+use Rattle.tdf_dynamic_first.proofs.Tables.{rates_are, table_is}
+use Rattle.tdf_dynamic_plans.specs.Attributes.{AttrsOf, IsOfCluster, clusters_of}
+use Rattle.tdf_dynamic_plans.specs.Faults.{IsRefusal, IsTablePlan}
+use Rattle.tdf_dynamic_plans.specs.Known.{AreTrueFor, HasTablePlanned, IsTrueFor, PlansOf}
+use Rattle.tdf_dynamic_first.specs.Text.{first_table, none_known}
+use Rattle.tdf_dynamic_first.specs.First.{IsFirstPlan, IsClusterFault, IsPlannable}
 use Rattle.tdf_dynamic_first.specs.Laws.{ClustersHaveOne, IsPlannableCluster}
 use Rattle.tdf_dynamic_plans.specs.Rates.{net_of, rated_edge, net_ports, AreRates, IsWired}
 use Rattle.tdf_dynamic_plans.specs.declared.err.ChangeErr.{ChangeErr}
@@ -22,6 +24,7 @@ use Rattle.tdf_bind.specs.declared.model.Flat.{Flat}
 use Rattle.tdf_graph.specs.Clusters.{AreClusters}
 use Rattle.tdf_graph.specs.Ranges.{IsEdge}
 use Rattle.tdf_schedule.specs.Laws.{PlansAreUnique, BoundsAreUnique}
+use Rattle.tdf_schedule.specs.declared.entry.Plan.{Plan}
 
 module _ (tables : FlatTablesOf) (table : List AttrsOf) (wired : IsWired tables) (rates : AreRates tables table) where
   counted : length tables.actors ≡ length (clusters_of tables)
@@ -65,3 +68,19 @@ module _ (law : ClustersHaveOne) (flat : Flat) (cluster : ℕ) (of : IsPlannable
   first_always (Ok other) bad first is = inl refl
   first_always (Err (Refused fault)) bad first is = absurd (law.fault_or_plan flat cluster fault first of bad is)
   first_always (Err Memory) bad first is = inr refl
+
+-- the first plan is found where none is known yet
+module _ (flat : Flat) (cluster : ℕ) (plannable : IsPlannable flat) (rows : List AttrsOf) (old : PlansOf) (rows_are : rows ≡ first_table flat cluster) (known_is : old ≡ none_known flat.tables (first_table flat cluster)) where
+  pub none_true : AreTrueFor flat.tables cluster old.plans
+  none_true = subst (λ (s : PlansOf). AreTrueFor flat.tables cluster s.plans) (sym known_is) (All-nil (IsTrueFor flat.tables cluster))
+
+  own : All (IsOfCluster flat.tables cluster) rows
+  own = subst (All (IsOfCluster flat.tables cluster)) (sym rows_are) (table_is flat cluster plannable)
+
+  pub first_is : (plan : Plan) (new : PlansOf) → IsTablePlan flat.tables cluster rows plan → HasTablePlanned flat.tables cluster rows plan old new
+      → IsFirstPlan flat cluster (record { attrs = record { rows = rows; known = new }; plan = plan })
+  first_is plan new is planned = record {
+    attrs_are = rows_are;
+    plan_is = subst (λ (t : List AttrsOf). IsTablePlan flat.tables cluster t plan) rows_are is;
+    known = planned_true flat.tables cluster rows plan old new own none_true planned;
+  }

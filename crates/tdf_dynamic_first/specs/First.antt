@@ -4,6 +4,7 @@ use Rattle.std.specs.Prelude.{◌≡◌, ◌<◌, ℕ, List, [], Option, Some, N
 use Rattle.tdf_base.specs.Limits.{time_end}
 use Rattle.tdf_base.specs.declared.faults.Fault.{Fault}
 use Rattle.tdf_dynamic_plans.specs.Faults.{IsTableFault, IsTablePlan}
+use Rattle.tdf_dynamic_plans.specs.Known.{AreTrueFor}
 use Rattle.tdf_dynamic_plans.specs.Rates.{times_value, IsWired}
 use Rattle.tdf_dynamic_first.specs.Text.{first_table}
 use Rattle.tdf_dynamic_first.specs.declared.first.First.{First}
@@ -14,10 +15,11 @@ use Rattle.tdf_graph.specs.Ranges.{IsRate}
 use Rattle.tdf_bind_connections.specs.declared.modules.ModuleRow.{ModuleRow}
 use Rattle.tdf_bind_connections.specs.declared.modules.PortRow.{PortRow}
 
--- the table of the text and its plan
+-- the table of the text and its plan; the plans that are known are those of the cluster
 pub record IsFirstPlan (flat : Flat) (cluster : ℕ) (first : First) : Type 0 where
   pub attrs_are : first.attrs.rows ≡ first_table flat cluster
   pub plan_is : IsTablePlan flat.tables cluster (first_table flat cluster) first.plan
+  pub known : AreTrueFor flat.tables cluster first.attrs.known.plans
 
 -- the first fault of a cluster
 abbrev pub IsClusterFault : Flat → (cluster : ℕ) → Fault → Type 0

@@ -1,13 +1,17 @@
--- A plan that is known is that of what it was made from.
-use Rattle.std.proofs.Common.{◌≡◌, ◌∙◌, ◌+◌, ◌-◌, ◌^◌, ◌<◌, ◌++◌, ◌∷◌, [], ℕ, zero, suc, List, Some, All, drop, length, inl, inr, refl, slice_index_or, sym, ap, subst, arith}
+-- What is known of the plans that are kept.
+use Rattle.std.proofs.Common.{◌≡◌, ◌∙◌, ◌+◌, ◌-◌, ◌*◌, ◌<◌, ◌++◌, ◌∷◌, [], ℕ, zero, suc, List, Some, All, drop, length, inl, inr, refl, slice_index_or, sym, ap, subst, arith}
 use Rattle.std.proofs.lemmas.Bool.{cases_eq}
 use Rattle.std.proofs.lemmas.List.Elements.{All-drop, All-push}
-use Rattle.std.specs.Prelude.{Err, IfOk, Ok, OnOk, Result, min, slice_get, slice_index}
-use Rattle.tdf_dynamic_plans.specs.Faults.{IsPlanErr, IsPlanOf}
+use Rattle.std.proofs.lemmas.Option.{slice_get-map}
+use Rattle.std.specs.Option.{option_map}
+use Rattle.tdf_timestep.specs.Period.{IsPeriod}
+use Rattle.std.specs.Prelude.{slice_get, slice_index}
+use Rattle.tdf_bind_tables.specs.FlatTables.{FlatTablesOf}
+use Rattle.tdf_dynamic_plans.specs.Assignments.{assignments}
+use Rattle.tdf_dynamic_plans.specs.Attributes.{AttrsOf}
+use Rattle.tdf_dynamic_plans.specs.Faults.{HasTiming, IsPlanErr, IsPlanOf}
 use Rattle.tdf_dynamic_plans.specs.Rates.{NetOf}
-use Rattle.tdf_dynamic_plans.specs.Known.{AreFew, HasKept, HasPlanned, HasSameItems, IsKnown, IsMadeFrom, IsShort, KnownOf, Made, PlansOf, AttrsTable}
-use Rattle.tdf_dynamic_plans.specs.declared.err.ChangeErr.{ChangeErr}
-use Rattle.tdf_dynamic_plans.specs.machine.Kept.{IsPlanIn}
+use Rattle.tdf_dynamic_plans.specs.Known.{AreFew, HasSameItems, IsShort, KeyOf, KnownOf, PlansOf, AttrsTable, table_key, row_key}
 use Rattle.tdf_schedule.specs.Plan.{pace_of, IsBound, IsDeadlock, IsNoncausal, IsPlan}
 use Rattle.tdf_schedule.specs.declared.entry.Entry.{Entry}
 use Rattle.tdf_schedule.specs.declared.entry.Plan.{Plan}
@@ -41,11 +45,8 @@ module _ (net : NetOf) (counts : List ℕ) (one other : Steps) (same : one.actor
 pub rows_same : {a b : AttrsTable} → a ≡ b → a.rows ≡ b.rows
 rows_same same = ap (λ (t : AttrsTable). t.rows) same
 
--- a plan of a known net, counts and steps is one of those that it was made from
-pub made_from : (known : KnownOf) (net : NetOf) (counts : List ℕ) (steps : Steps) → IsMadeFrom known net counts steps → (plan : Plan) → IsPlanIn known plan → IsPlanOf net counts steps plan
-made_from known net counts steps from plan is =
-    plan_same net counts known.steps steps from.steps_are plan plan from.period_is (record { entries = λ _. plan.entries.items; bounds = λ _. plan.bounds.items; period = λ _. plan.period })
-    (subst (λ (n : NetOf). IsPlanOf n counts known.steps plan) from.net_is (subst (λ (l : List ℕ). IsPlanOf known.net l known.steps plan) from.counts_are is))
+pub known_same : {a b : AttrsTable} → a ≡ b → a.known ≡ b.known
+known_same same = ap (λ (t : AttrsTable). t.known) same
 
 -- an element that is there is within the list
 pub within : {A : Type 0} (xs : List A) (i : ℕ) (x : A) → slice_get xs i ≡ Some x → i < length xs
@@ -64,16 +65,48 @@ length_push : {A : Type 0} (xs : List A) (x : A) → length (xs ++ x ∷ []) ≡
 length_push [] x = refl
 length_push (y ∷ ys) x = let h = length_push ys x in omega (arith, h)
 
--- none of the plans up to here was made from these, nor this one
-pub one_more : (plans : List KnownOf) (net : NetOf) (counts : List ℕ) (steps : Steps) (i : ℕ) (here : KnownOf) → slice_get plans i ≡ Some here → (IsMadeFrom here net counts steps → ⊥)
-    → ((j : ℕ) (k : KnownOf) → j < i → slice_get plans j ≡ Some k → IsMadeFrom k net counts steps → ⊥)
-    → (j : ℕ) (k : KnownOf) → j < i + 1 → slice_get plans j ≡ Some k → IsMadeFrom k net counts steps → ⊥
-one_more plans net counts steps i here at not before j k less at_j made = elim (cases_eq j i) [
+-- none of the plans up to here has this key, nor this one
+pub one_more : (plans : List KnownOf) (key : List KeyOf) (i : ℕ) (here : KnownOf) → slice_get plans i ≡ Some here → (here.key ≡ key → ⊥)
+    → ((j : ℕ) (k : KnownOf) → j < i → slice_get plans j ≡ Some k → k.key ≡ key → ⊥)
+    → (j : ℕ) (k : KnownOf) → j < i + 1 → slice_get plans j ≡ Some k → k.key ≡ key → ⊥
+one_more plans key i here at not before j k less at_j has = elim (cases_eq j i) [
   | inl same ↦ (let there : slice_get plans i ≡ Some k = subst (λ (n : ℕ). slice_get plans n ≡ Some k) same at_j in
       let is : k ≡ here = cc (sym there ∙ at) in
-      not (subst (λ (x : KnownOf). IsMadeFrom x net counts steps) is made))
-  | inr apart ↦ before j k (omega (arith, less, apart)) at_j made
+      not (subst (λ (x : KnownOf). x.key ≡ key) is has))
+  | inr apart ↦ before j k (omega (arith, less, apart)) at_j has
 ]
+
+-- the keys up to a place are those of the rows
+abbrev pub AreKeysBelow : List KeyOf → List AttrsOf → ℕ → Type 0
+AreKeysBelow key table i = (j : ℕ) (k : KeyOf) (a : AttrsOf) → j < i → slice_get key j ≡ Some k → slice_get table j ≡ Some a → k ≡ row_key a
+
+pub key_next : (key : List KeyOf) (table : List AttrsOf) (i : ℕ) (here : KeyOf) (row : AttrsOf) → slice_get key i ≡ Some here → slice_get table i ≡ Some row → here ≡ row_key row → AreKeysBelow key table i
+    → AreKeysBelow key table (i + 1)
+key_next key table i here row at row_at is before j k a less at_j a_j = elim (cases_eq j i) [
+  | inl same ↦ (let there : slice_get key i ≡ Some k = subst (λ (n : ℕ). slice_get key n ≡ Some k) same at_j in
+      let row_there : slice_get table i ≡ Some a = subst (λ (n : ℕ). slice_get table n ≡ Some a) same a_j in
+      let key_is : k ≡ here = cc (sym there ∙ at) in
+      let row_is : row ≡ a = cc (sym row_at ∙ row_there) in
+      key_is ∙ is ∙ ap row_key row_is)
+  | inr apart ↦ before j k a (omega (arith, less, apart)) at_j a_j
+]
+
+pub all_keys : (key : List KeyOf) (table : List AttrsOf) → length key ≡ length table → AreKeysBelow key table (length key) → key ≡ table_key table
+all_keys [] [] long each = refl
+all_keys [] (a ∷ table) long each = absurd (omega (arith, long))
+all_keys (k ∷ key) [] long each = absurd (omega (arith, long))
+all_keys (k ∷ key) (a ∷ table) long each =
+    let first : k ≡ row_key a = each 0 k a (omega arith) refl refl in
+    let rest : key ≡ table_key table = all_keys key table (omega (arith, long)) (λ j x b less at there. each (suc j) x b (omega (arith, less)) at there) in
+    ap (λ x. x ∷ key) first ∙ ap (λ l. row_key a ∷ l) rest
+
+-- a key that is not that of its row is not that of the table
+pub other_key : (key : List KeyOf) (table : List AttrsOf) (i : ℕ) (here : KeyOf) (row : AttrsOf) → slice_get key i ≡ Some here → slice_get table i ≡ Some row → (here ≡ row_key row → ⊥) → key ≡ table_key table → ⊥
+other_key key table i here row at row_at not same =
+    not (some_key here (row_key row) (sym at ∙ ap (λ (l : List KeyOf). slice_get l i) same ∙ slice_get-map row_key table i ∙ ap (option_map row_key) row_at))
+  where
+    some_key : (x y : KeyOf) → Some x ≡ Some y → x ≡ y
+    some_key x y is = cc is
 
 -- the plans that stay where there is room for one more, and that one
 pub few_after : (kept : PlansOf) (room new : List KnownOf) (made : ℕ) → AreFew kept → room ≡ drop (length kept.plans + 1 - kept.most) kept.plans → length room < kept.most → new ≡ room
@@ -93,9 +126,16 @@ few_more kept room new known made are rest less short is = record {
       (subst (All (λ (x : KnownOf). IsShort x.plan)) (sym rest) (All-drop (λ (x : KnownOf). IsShort x.plan) (length kept.plans + 1 - kept.most) kept.plans are.short)) short);
 }
 
--- the plan was made where none is known
-pub planned_made : (net : NetOf) (counts : List ℕ) (steps : Steps) (old new : PlansOf) (r : Result Plan ChangeErr) → (IsKnown old.plans net counts steps → ⊥)
-    → IfOk r (λ plan. HasKept net counts steps plan old new) → OnOk r (new.made ≡ min (old.made + 1) (2 ^ 64 - 1)) → new.most ≡ old.most
-    → IfOk r (λ plan. HasPlanned net counts steps plan old new)
-planned_made net counts steps old new (Ok plan) none kept made most = Made none kept most made
-planned_made net counts steps old new (Err e) none kept made most = tt
+-- steps with the same items are those of the same counts
+pub timing_same : (tables : FlatTablesOf) (net : NetOf) (cluster : ℕ) (table : List AttrsOf) (counts other : List ℕ) (steps new : Steps) → other ≡ counts → new.actor_steps.items ≡ steps.actor_steps.items
+    → new.period ≡ steps.period → HasTiming tables net cluster table counts steps → HasTiming tables net cluster table other new
+timing_same tables net cluster table counts other steps new same items period timing =
+    subst (λ (l : List ℕ). HasTiming tables net cluster table l new) (sym same) (record {
+      counts_are = timing.counts_are;
+      steps_are = record {
+        is = subst (λ (n : ℕ). IsPeriod net.ports counts (assignments table) n) (sym period) timing.steps_are.is;
+        long = ap length items ∙ timing.steps_are.long;
+        firing = λ a some. ap (λ (l : List ℕ). slice_index l a * slice_index counts a) items ∙ timing.steps_are.firing a some ∙ sym period;
+        none = λ a no. ap (λ (l : List ℕ). slice_index l a) items ∙ timing.steps_are.none a no;
+      };
+    })

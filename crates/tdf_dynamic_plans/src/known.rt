@@ -1,13 +1,12 @@
-//! The plans of a cluster that were made last, each with what it was made from.
+//! The plans of a cluster that were made last, each with what it is known by.
 
-ghost use Rattle.std.specs.Prelude.{◌≡◌, ◌<◌, ◌≤◌, ◌+◌, ◌-◌, ◌^◌, Err, IfErr, IfOk, IfSome, [], None, Ok, OnOk, drop, false, if◌then◌else◌, length, min, true, vec_len};
+ghost use Rattle.std.specs.Prelude.{◌≡◌, ◌<◌, ◌≤◌, ◌+◌, ◌-◌, ◌^◌, Err, IfErr, IfOk, IfSome, [], None, Ok, OnOk, Some, drop, false, if◌then◌else◌, length, min, slice_get, true, vec_len};
 ghost use Rattle.tdf_bind_tables.specs.Ranges.{AreInRange};
 ghost use Rattle.tdf_base.specs.declared.faults.Fault.{Fault as FaultOf};
 ghost use Rattle.tdf_dynamic_plans.specs.Faults.{IsPlanFault, IsPlanOf, IsRefusal};
 ghost use Rattle.tdf_dynamic_plans.specs.declared.err.ChangeErr.TheVariants.{Refused};
 ghost use Rattle.tdf_dynamic_plans.specs.Rates.{net_seen};
-ghost use Rattle.tdf_dynamic_plans.specs.Known.{HasKept, HasPlanned, HasSameItems, IsKnown, IsMadeFrom, IsShort};
-ghost use Rattle.tdf_dynamic_plans.specs.machine.Kept.{IsPlanIn};
+ghost use Rattle.tdf_dynamic_plans.specs.Known.{HasKept, HasSameItems, IsKnown, IsKnownAt, IsShort, KnownOf as Known, table_key, row_key};
 ghost use Rattle.tdf_schedule.specs.Plan.{IsPaced};
 
 use crate::attrs::ModuleAttrs;
@@ -18,7 +17,7 @@ use std::alloc::Global;
 use std::marker::Model;
 use tdf_base::Memory;
 use tdf_bind_tables::FlatTables;
-use tdf_graph::{Actor, Edge, Net, Port};
+use tdf_graph::Net;
 use tdf_schedule::Plan;
 
 /// The most plans that are kept of a cluster.
@@ -27,68 +26,111 @@ const MOST_PLANS: usize = 8;
 /// The most entries of a plan that is kept.
 const MOST_ENTRIES: usize = 16_384;
 
-/// A plan, and what it was made from.
+/// A module, the values of its rate variables, and the timesteps that are assigned to it and to its ports.
+#[derive(Drop)]
+pub(crate) struct Key {
+    number: u32,
+    rates: Vec<u32>,
+    steps: Vec<u64>,
+}
+
+impl Model for Key {
+    ghost use Rattle.tdf_dynamic_plans.specs.Known.{KeyOf};
+
+    ghost Value = { KeyOf };
+
+    ghost view = { λ a. record {
+      number = a.number;
+      rates = a.rates.items;
+      steps = a.steps.items;
+    } };
+}
+
+/// A plan with its counts and steps, and what it is known by.
 #[derive(Drop)]
 pub(crate) struct KnownPlan {
-    net: Net,
+    key: Vec<Key>,
     timing: Timing,
     plan: Plan,
 }
 
 impl Model for KnownPlan {
-    ghost use Rattle.tdf_dynamic_plans.specs.Faults.{IsPlanOf};
-    ghost use Rattle.tdf_dynamic_plans.specs.Rates.{net_seen};
     ghost use Rattle.tdf_dynamic_plans.specs.Known.{KnownOf};
 
     ghost Value = { KnownOf };
 
     ghost view = { λ a. record {
-      net = net_seen a.net;
+      key = a.key.items;
       counts = a.timing.counts.items;
       steps = a.timing.steps;
       plan = a.plan;
     } };
-
-    ghost invariant = { λ a. record {
-      is_plan : IsPlanOf (net_seen a.net) a.timing.counts.items a.timing.steps a.plan;
-    } };
 }
 
-fn are_same_actors(one: &[Actor], other: &[Actor]) -> bool
+fn are_same_rates(one: &[u32], other: &[u32]) -> bool
     ensures same { result ≡ true → one.now ≡ other.now }
     ensures other { result ≡ false → one.now ≡ other.now → ⊥ }
 {
     one == other
 }
 
-fn are_same_edges(one: &[Edge], other: &[Edge]) -> bool
+fn are_same_steps(one: &[u64], other: &[u64]) -> bool
     ensures same { result ≡ true → one.now ≡ other.now }
     ensures other { result ≡ false → one.now ≡ other.now → ⊥ }
 {
     one == other
 }
 
-fn are_same_ports(one: &[Port], other: &[Port]) -> bool
-    ensures same { result ≡ true → one.now ≡ other.now }
-    ensures other { result ≡ false → one.now ≡ other.now → ⊥ }
-{
-    one == other
+impl Key {
+    /// What a module is known by.
+    fn new(alloc: Global, attrs: &ModuleAttrs) -> Result<Key, Memory>
+        ensures { IfOk result (λ key. key ≡ row_key attrs.now) }
+    {
+        let rates = Vec::from_slice(alloc, &attrs.rates)?;
+        let steps = Vec::from_slice(alloc, &attrs.steps)?;
+        Ok(Key {
+            number: attrs.number,
+            rates,
+            steps,
+        })
+    }
+
+    /// Whether a module is known by it.
+    fn is_of(&self, attrs: &ModuleAttrs) -> bool
+        ensures same { result ≡ true → self.now ≡ row_key attrs.now }
+        ensures other { result ≡ false → self.now ≡ row_key attrs.now → ⊥ }
+    {
+        self.number == attrs.number
+            && are_same_rates(&self.rates, &attrs.rates)
+            && are_same_steps(&self.steps, &attrs.steps)
+    }
 }
 
-fn are_same_numbers(one: &[u64], other: &[u64]) -> bool
-    ensures same { result ≡ true → one.now ≡ other.now }
-    ensures other { result ≡ false → one.now ≡ other.now → ⊥ }
+/// What a table is known by.
+fn table_key(alloc: Global, table: &[ModuleAttrs]) -> Result<Vec<Key>, Memory>
+    ensures { IfOk result (λ key. key.items ≡ table_key table.now) }
 {
-    one == other
+    let mut key = Vec::new(alloc);
+    for i in 0..table.len() {
+        key.push(Key::new(alloc, &table[i])?)?;
+    }
+    Ok(key)
 }
 
-fn is_same_net(one: &Net, other: &Net) -> bool
-    ensures same { result ≡ true → net_seen one.now ≡ net_seen other.now }
-    ensures other { result ≡ false → net_seen one.now ≡ net_seen other.now → ⊥ }
+/// Whether a table is known by it.
+fn is_key_of(key: &[Key], table: &[ModuleAttrs]) -> bool
+    ensures same { result ≡ true → key.now ≡ table_key table.now }
+    ensures other { result ≡ false → key.now ≡ table_key table.now → ⊥ }
 {
-    are_same_actors(one.actors(), other.actors())
-        && are_same_edges(one.edges(), other.edges())
-        && are_same_ports(one.ports(), other.ports())
+    if key.len() != table.len() {
+        return false;
+    }
+    for i in 0..key.len() {
+        if !key[i].is_of(&table[i]) {
+            return false;
+        }
+    }
+    true
 }
 
 /// A plan with the same entries, bounds and period.
@@ -104,44 +146,45 @@ fn copy_of(alloc: Global, plan: &Plan) -> Result<Plan, Memory>
     })
 }
 
-impl KnownPlan {
-    /// Whether it was made from this net with these counts and steps.
-    fn is_of(&self, net: &Net, timing: &Timing) -> bool
-        ensures made { result ≡ true → IsMadeFrom self.now (net_seen net.now) timing.now.counts.items timing.now.steps }
-        ensures other { result ≡ false → IsMadeFrom self.now (net_seen net.now) timing.now.counts.items timing.now.steps → ⊥ }
-    {
-        self.timing.steps.period == timing.steps.period
-            && are_same_numbers(&self.timing.counts, &timing.counts)
-            && are_same_numbers(&self.timing.steps.actor_steps, &timing.steps.actor_steps)
-            && is_same_net(&self.net, net)
-    }
-
-    /// A copy of the plan.
-    fn plan(&self, alloc: Global) -> Result<Plan, Memory>
-        ensures { IfOk result (IsPlanIn self.now) }
-    {
-        copy_of(alloc, &self.plan)
-    }
-}
-
-/// The plan that was made from this net with these counts and steps, if it is there.
-fn found_in(
-    alloc: Global,
-    plans: &[KnownPlan],
-    net: &Net,
-    timing: &Timing,
-) -> Result<Option<Plan>, Memory>
-    ensures plan { IfOk result (λ found. IfSome found (IsPlanOf (net_seen net.now) timing.now.counts.items timing.now.steps)) }
-    ensures known { IfOk result (λ found. IfSome found (λ _. IsKnown plans.now (net_seen net.now) timing.now.counts.items timing.now.steps)) }
-    ensures none { result ≡ Ok None → IsKnown plans.now (net_seen net.now) timing.now.counts.items timing.now.steps → ⊥ }
+/// The place of the plan that is known by the key of a table.
+fn found_in(plans: &[KnownPlan], table: &[ModuleAttrs]) -> Option<usize>
+    ensures known { IfSome result (IsKnownAt plans.now (table_key table.now)) }
+    ensures none { result ≡ None → IsKnown plans.now (table_key table.now) → ⊥ }
 {
     for i in 0..plans.len() {
         let known = &plans[i];
-        if known.is_of(net, timing) {
-            return Ok(Some(known.plan(alloc)?));
+        if is_key_of(&known.key, table) {
+            return Some(i);
         }
     }
-    Ok(None)
+    None
+}
+
+/// A plan that was made under a table, with what it is known by.
+fn known_plan(
+    alloc: Global,
+    table: &[ModuleAttrs],
+    timing: Timing,
+    plan: &Plan,
+) -> Result<KnownPlan, Memory>
+    ensures known { IfOk result (λ known. (known.key ≡ table_key table.now)
+        × (known.counts ≡ timing.counts.items) × (known.steps ≡ timing.steps)) }
+    ensures plan { IfOk result (λ known. HasSameItems plan.now known.plan) }
+{
+    match table_key(alloc, table) {
+        Ok(key) => match copy_of(alloc, plan) {
+            Ok(plan) => Ok(KnownPlan { key, timing, plan }),
+            Err(refused) => {
+                drop(key);
+                drop(timing);
+                Err(refused)
+            }
+        },
+        Err(refused) => {
+            drop(timing);
+            Err(refused)
+        }
+    }
 }
 
 /// Has room for one more plan: the one that was kept first gives way, where there are as many as may be.
@@ -156,7 +199,7 @@ fn make_room(plans: &mut Vec<KnownPlan>, most: usize)
     }
 }
 
-/// The plans of a cluster that were made last, each with what it was made from, and how many were made. No more than eight are
+/// The plans of a cluster that were made last, each with what it is known by, and how many were made. No more than eight are
 /// kept, and none of more than 16,384 entries; the one that was kept first gives way to the next.
 #[derive(Drop)]
 pub struct KnownPlans {
@@ -209,54 +252,92 @@ impl KnownPlans {
         self.made
     }
 
+    /// The place of the plan that is known by the key of a table. It takes no memory.
+    pub fn find(&self, table: &[ModuleAttrs]) -> Option<usize>
+        ensures known { IfSome result (IsKnownAt self.now.plans (table_key table.now)) }
+        ensures none { result ≡ None → IsKnown self.now.plans (table_key table.now) → ⊥ }
+    {
+        found_in(&self.plans, table)
+    }
+
+    /// The counts and steps of the plan at a place.
+    pub fn timing(&self, place: usize) -> &Timing
+        requires { place < length self.now.plans }
+        ensures { (known : Known) → slice_get self.now.plans place ≡ Some known
+            → (result.now.counts.items ≡ known.counts) × (result.now.steps ≡ known.steps) }
+    {
+        let known = &self.plans[place];
+        &known.timing
+    }
+
+    /// A copy of the plan at a place.
+    ///
+    /// # Errors
+    /// Out of memory.
+    pub fn plan(&self, alloc: Global, place: usize) -> Result<Plan, Memory>
+        requires { place < length self.now.plans }
+        ensures { IfOk result (λ plan. (known : Known)
+            → slice_get self.now.plans place ≡ Some known → HasSameItems known.plan plan) }
+    {
+        let known = &self.plans[place];
+        copy_of(alloc, &known.plan)
+    }
+
     /// Keeps a plan that was made, if it is short enough.
-    fn keep(&mut self, alloc: Global, net: Net, timing: Timing, plan: &Plan) -> Result<(), Memory>
-        requires { IsPlanOf (net_seen net) timing.counts.items timing.steps plan.now }
-        ensures kept { OnOk result (HasKept (net_seen net) timing.counts.items timing.steps plan.now self.old self.new) }
+    fn keep(
+        &mut self,
+        alloc: Global,
+        table: &[ModuleAttrs],
+        timing: Timing,
+        plan: &Plan,
+    ) -> Result<(), Memory>
+        ensures kept { OnOk result (HasKept (table_key table.now) timing.counts.items timing.steps plan.now self.old self.new) }
         ensures made { OnOk result (self.new.made ≡ min (self.old.made + 1) (2 ^ 64 - 1)) }
         ensures most { self.new.most ≡ self.old.most }
     {
         self.made = self.made.saturating_add(1);
         if self.most == 0 || plan.entries.len() > MOST_ENTRIES {
-            drop(net);
             drop(timing);
             return Ok(());
         }
-        match copy_of(alloc, plan) {
-            Ok(plan) => {
+        match known_plan(alloc, table, timing, plan) {
+            Ok(known) => {
                 make_room(&mut self.plans, self.most);
-                self.plans.push(KnownPlan { net, timing, plan })?;
+                self.plans.push(known)?;
                 Ok(())
             }
-            Err(refused) => {
-                drop(net);
-                drop(timing);
-                Err(refused)
-            }
+            Err(refused) => Err(refused),
         }
     }
 
-    /// The plan of a cluster under a table, made and kept.
-    fn make(
+    /// The plan of a cluster under a table, whose net, counts and steps are given. It is made and kept.
+    ///
+    /// # Errors
+    /// The first fault of buffers, firings that wait for themselves, or sinks that are late; or out of memory.
+    pub fn make(
         &mut self,
         alloc: Global,
         tables: &FlatTables,
-        net: Net,
+        net: &Net,
         table: &[ModuleAttrs],
         timing: Timing,
     ) -> Result<Plan, ChangeErr>
         requires in_range { AreInRange tables.now }
-        requires actors { length timing.counts.items ≡ vec_len net.actors }
-        requires paced { IsPaced net.edges.items timing.counts.items timing.steps.actor_steps.items }
-        ensures plan { IfOk result (IsPlanOf (net_seen net) timing.counts.items timing.steps) }
-        ensures refused { IfErr result (IsRefusal (IsPlanFault tables.now (net_seen net) table.now timing.counts.items timing.steps)) }
-        ensures kept { IfOk result (λ plan. HasKept (net_seen net) timing.counts.items timing.steps plan self.old self.new) }
+        requires actors { length timing.counts.items ≡ vec_len net.now.actors }
+        requires paced { IsPaced net.now.edges.items timing.counts.items
+            timing.steps.actor_steps.items }
+        ensures plan { IfOk result (IsPlanOf (net_seen net.now) timing.counts.items timing.steps) }
+        ensures refused { IfErr result (IsRefusal (IsPlanFault tables.now (net_seen net.now)
+            table.now timing.counts.items timing.steps)) }
+        ensures kept { IfOk result (λ plan. HasKept (table_key table.now) timing.counts.items
+            timing.steps plan self.old self.new) }
         ensures made { OnOk result (self.new.made ≡ min (self.old.made + 1) (2 ^ 64 - 1)) }
         ensures most { self.new.most ≡ self.old.most }
-        ensures unplanned { (fault : FaultOf) → result ≡ Err (Refused fault) → self.new ≡ self.old }
+        ensures unplanned { (fault : FaultOf) → result ≡ Err (Refused fault)
+            → self.new ≡ self.old }
     {
-        match plan_of(alloc, tables, &net, table, &timing) {
-            Ok(plan) => match self.keep(alloc, net, timing, &plan) {
+        match plan_of(alloc, tables, net, table, &timing) {
+            Ok(plan) => match self.keep(alloc, table, timing, &plan) {
                 Ok(()) => Ok(plan),
                 Err(refused) => {
                     drop(plan);
@@ -264,56 +345,8 @@ impl KnownPlans {
                 }
             },
             Err(refused) => {
-                drop(net);
                 drop(timing);
                 Err(refused)
-            }
-        }
-    }
-
-    /// The plan of a cluster under a table, whose net, counts and steps are given. One that is known is not made again.
-    ///
-    /// # Errors
-    /// The first fault of buffers, firings that wait for themselves, or sinks that are late; or out of memory.
-    pub fn plan_of(
-        &mut self,
-        alloc: Global,
-        tables: &FlatTables,
-        net: Net,
-        table: &[ModuleAttrs],
-        timing: Timing,
-    ) -> Result<Plan, ChangeErr>
-        requires in_range { AreInRange tables.now }
-        requires actors { length timing.counts.items ≡ vec_len net.actors }
-        requires paced { IsPaced net.edges.items timing.counts.items
-            timing.steps.actor_steps.items }
-        ensures plan { IfOk result (IsPlanOf (net_seen net) timing.counts.items timing.steps) }
-        ensures refused { IfErr result (IsRefusal (IsPlanFault tables.now (net_seen net) table.now
-            timing.counts.items timing.steps)) }
-        ensures known { IsKnown self.old.plans (net_seen net) timing.counts.items timing.steps
-            → self.new ≡ self.old }
-        ensures kept { (IsKnown self.old.plans (net_seen net) timing.counts.items timing.steps → ⊥)
-            → IfOk result (λ plan. HasKept (net_seen net) timing.counts.items timing.steps plan
-            self.old self.new) }
-        ensures made { (IsKnown self.old.plans (net_seen net) timing.counts.items timing.steps → ⊥)
-            → OnOk result (self.new.made ≡ min (self.old.made + 1) (2 ^ 64 - 1)) }
-        ensures most { self.new.most ≡ self.old.most }
-        ensures planned { IfOk result (λ plan. HasPlanned (net_seen net) timing.counts.items
-            timing.steps plan self.old self.new) }
-        ensures unplanned { (fault : FaultOf) → result ≡ Err (Refused fault)
-            → self.new ≡ self.old }
-    {
-        match found_in(alloc, &self.plans, &net, &timing) {
-            Ok(Some(plan)) => {
-                drop(net);
-                drop(timing);
-                Ok(plan)
-            }
-            Ok(None) => self.make(alloc, tables, net, table, timing),
-            Err(refused) => {
-                drop(net);
-                drop(timing);
-                Err(ChangeErr::from(refused))
             }
         }
     }

@@ -1,11 +1,10 @@
 //! The plan of a cluster under a table of attributes, or its first fault.
 
-ghost use Rattle.std.specs.Prelude.{◌≡◌, All, Contains, IfOk, IfErr, vec_len};
+ghost use Rattle.std.specs.Prelude.{◌≡◌, All, Contains, IfOk, IfErr};
 ghost use Rattle.tdf_dynamic_plans.specs.Attributes.{clusters_of, IsOfCluster};
-ghost use Rattle.tdf_dynamic_plans.specs.Faults.{IsNetFault, IsNetPlan, IsTableFault, IsTablePlan, IsRefusal};
-ghost use Rattle.tdf_dynamic_plans.specs.Known.{HasTablePlanned};
-ghost use Rattle.tdf_dynamic_plans.specs.Rates.{net_of, net_seen, net_ports, AreRates, IsWired};
-ghost use Rattle.tdf_graph.specs.Clusters.{AreClusters};
+ghost use Rattle.tdf_dynamic_plans.specs.Faults.{IsTableFault, IsTablePlan, IsRefusal};
+ghost use Rattle.tdf_dynamic_plans.specs.Known.{AreTrueFor, HasTablePlanned, IsKnown, table_key};
+ghost use Rattle.tdf_dynamic_plans.specs.Rates.{net_of, net_seen, AreRates, IsWired};
 
 use crate::attrs::ModuleAttrs;
 use crate::err::ChangeErr;
@@ -32,37 +31,55 @@ pub fn clusters_of(alloc: Global, tables: &FlatTables) -> Result<Vec<u32>, Memor
     Ok(numbers)
 }
 
-/// The plan of a cluster, whose net under a table is given.
+/// The plan of a cluster under a table that is not known, whose net is given. It is made and kept.
 fn net_plan(
     alloc: Global,
     tables: &FlatTables,
-    net: Net,
-    clusters: &[u32],
+    net: &Net,
     cluster: u32,
     table: &[ModuleAttrs],
     known: &mut KnownPlans,
 ) -> Result<Plan, ChangeErr>
     requires wired { IsWired tables.now }
-    requires own { clusters.now ≡ clusters_of tables.now }
-    requires clusters { AreClusters (vec_len net.actors) net.edges.items clusters.now }
-    requires has { Contains clusters.now cluster }
-    requires ports { net.ports.items ≡ net_ports tables.now table.now }
+    requires has { Contains (clusters_of tables.now) cluster }
+    requires net { net_seen net.now ≡ net_of tables.now table.now }
     requires table { All (IsOfCluster tables.now cluster) table.now }
-    ensures plan { IfOk result (IsNetPlan tables.now (net_seen net) cluster table.now) }
-    ensures refused { IfErr result (IsRefusal (IsNetFault tables.now (net_seen net) cluster table.now)) }
-    ensures planned { net_seen net ≡ net_of tables.now table.now
-        → IfOk result (λ plan. HasTablePlanned tables.now cluster table.now plan known.old known.new) }
+    requires unknown { IsKnown known.old.plans (table_key table.now) → ⊥ }
+    ensures planned { IfOk result (λ plan. HasTablePlanned tables.now cluster table.now plan known.old known.new) }
+    ensures refused { IfErr result (IsRefusal (IsTableFault tables.now cluster table.now)) }
 {
-    match steps_of(alloc, tables, &net, clusters, cluster, table) {
-        Ok(timing) => known.plan_of(alloc, tables, net, table, timing),
-        Err(refused) => {
-            drop(net);
-            Err(refused)
-        }
+    let clusters = clusters_of(alloc, tables)?;
+    let found = steps_of(alloc, tables, net, &clusters, cluster, table);
+    drop(clusters);
+    match found {
+        Ok(timing) => known.make(alloc, tables, net, table, timing),
+        Err(refused) => Err(refused),
     }
 }
 
-/// The plan of a cluster under a table, which is then known.
+/// The same, where no net is given.
+fn new_plan(
+    alloc: Global,
+    tables: &FlatTables,
+    cluster: u32,
+    table: &[ModuleAttrs],
+    known: &mut KnownPlans,
+) -> Result<Plan, ChangeErr>
+    requires wired { IsWired tables.now }
+    requires has { Contains (clusters_of tables.now) cluster }
+    requires table { All (IsOfCluster tables.now cluster) table.now }
+    requires rates { AreRates tables.now table.now }
+    requires unknown { IsKnown known.old.plans (table_key table.now) → ⊥ }
+    ensures planned { IfOk result (λ plan. HasTablePlanned tables.now cluster table.now plan known.old known.new) }
+    ensures refused { IfErr result (IsRefusal (IsTableFault tables.now cluster table.now)) }
+{
+    let net = net_of(alloc, tables, table)?;
+    let found = net_plan(alloc, tables, &net, cluster, table, known);
+    drop(net);
+    found
+}
+
+/// The plan of a cluster under a table, which is then known: one that is known is not made again.
 ///
 /// # Errors
 /// The first fault of the cluster under this table; or out of memory.
@@ -77,14 +94,14 @@ pub fn table_plan(
     requires has { Contains (clusters_of tables.now) cluster }
     requires table { All (IsOfCluster tables.now cluster) table.now }
     requires rates { AreRates tables.now table.now }
+    requires known { AreTrueFor tables.now cluster known.old.plans }
     ensures plan { IfOk result (IsTablePlan tables.now cluster table.now) }
     ensures refused { IfErr result (IsRefusal (IsTableFault tables.now cluster table.now)) }
     ensures planned { IfOk result (λ plan. HasTablePlanned tables.now cluster table.now plan
         known.old known.new) }
 {
-    let clusters = clusters_of(alloc, tables)?;
-    let net = net_of(alloc, tables, table)?;
-    let found = net_plan(alloc, tables, net, &clusters, cluster, table, known);
-    drop(clusters);
-    found
+    match known.find(table) {
+        Some(place) => Ok(known.plan(alloc, place)?),
+        None => new_plan(alloc, tables, cluster, table, known),
+    }
 }

@@ -16,7 +16,7 @@ use crate::err::ChangeErr;
 use crate::faults::{balance_error, step_error};
 use std::alloc::Global;
 use tdf_balance::counts;
-use tdf_base::row_number;
+use tdf_base::{Memory, row_number};
 use tdf_bind_tables::FlatTables;
 use tdf_graph::Net;
 use tdf_timestep::{Assign, Steps, steps};
@@ -28,6 +28,29 @@ pub struct Timing {
     pub counts: Vec<u64>,
     /// The period and the steps.
     pub steps: Steps,
+}
+
+impl Timing {
+    /// The same counts, period and steps.
+    ///
+    /// # Errors
+    /// Out of memory.
+    pub fn copy(&self, alloc: Global) -> Result<Timing, Memory>
+        ensures counts { IfOk result (λ t. t.counts.items ≡ self.now.counts.items) }
+        ensures steps { IfOk result (λ t. t.steps.actor_steps.items
+            ≡ self.now.steps.actor_steps.items) }
+        ensures period { IfOk result (λ t. t.steps.period ≡ self.now.steps.period) }
+    {
+        let counts = Vec::from_slice(alloc, &self.counts)?;
+        let actor_steps = Vec::from_slice(alloc, &self.steps.actor_steps)?;
+        Ok(Timing {
+            counts,
+            steps: Steps {
+                period: self.steps.period,
+                actor_steps,
+            },
+        })
+    }
 }
 
 /// The counts of a cluster, or the fault that it has none.

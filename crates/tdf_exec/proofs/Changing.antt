@@ -2,17 +2,19 @@
 use Rattle.std.proofs.Common.{◌≡◌, ◌∙◌, ℕ, zero, suc, ◌+◌, Bool, true, false, if◌then◌else◌, nat_eq, List, [], ◌∷◌, ◌++◌, Option, Some, None, option_map, ℤ, length, map, refl, sym, ap, subst, arith, Result, Ok, Err, OnErr}
 use Rattle.std.proofs.lemmas.Bool.{eqb-true}
 use Rattle.std.proofs.lemmas.List.{length-map}
+use Rattle.std.proofs.lemmas.List.Elements.{All-nil}
 use Rattle.std.proofs.lemmas.Option.{slice_get-get_or, slice_get-map, slice_get_within}
 use Rattle.std.specs.List.{range_with_len}
 use Rattle.std.specs.Prelude.{All, IfOk, replicate, slice_get, slice_index, slice_index_or}
 use Rattle.tdf_dynamic.specs.Asked.{AskedOf, IsQuiet, asked, asked_in, attrs_after, nothing_asked, port_count, steps_after}
 use Rattle.tdf_dynamic.specs.Change.{Asks, IsSame, asks_of, table_after}
-use Rattle.tdf_dynamic.specs.Next.{HasChanged, IsNext}
+use Rattle.tdf_dynamic.specs.Next.{HasChanged, IsCarried, IsNext}
 use Rattle.tdf_dynamic.specs.declared.frames.ModuleFrame.{ModuleFrame}
 use Rattle.tdf_dynamic.specs.declared.next.Next.{Next}
 use Rattle.tdf_dynamic.specs.declared.next.Next.TheVariants.{Changed, Same}
-use Rattle.tdf_dynamic_plans.specs.Attributes.{AttrsOf, attrs_at, clusters_of, rates_in}
-use Rattle.tdf_dynamic_plans.specs.Known.{PlansOf}
+use Rattle.tdf_dynamic_plans.specs.Attributes.{AttrsOf, IsOfCluster, attrs_at, clusters_of, rates_in}
+use Rattle.tdf_dynamic_plans.proofs.Api.{planned_true}
+use Rattle.tdf_dynamic_plans.specs.Known.{AreTrueFor, IsTrueFor, PlansOf}
 use Rattle.tdf_dynamic_plans.specs.declared.err.ChangeErr.{ChangeErr}
 use Rattle.tdf_exec.proofs.Asks.{modules_are}
 use Rattle.tdf_exec.proofs.Crosses.{turns_are}
@@ -208,8 +210,8 @@ module _ (flat : Flat) (c : ClusterOf) (laid : IsLaid flat) (of : IsClusterOf fl
       (record { actor_is = is.actor_is; edge_is = is.edge_is; rate = is.rate; none = is.none })
   runner_after m runner.Outside s is to = subst (IsRunnerWith flat (table_after asks c.table) (crossed_of c c.table known runners) m) (sym to) is
 
-  cluster_after : IsClusterWith flat (table_after asks c.table) (crossed_of c c.table known runners)
-  cluster_after = record {
+  cluster_after : AreTrueFor flat.tables c.number known.plans → IsClusterWith flat (table_after asks c.table) (crossed_of c c.table known runners)
+  cluster_after are = record {
     attributes = of.attributes;
     rows = record { each = of.rows.each; once = of.rows.once };
     planned = record {
@@ -230,6 +232,7 @@ module _ (flat : Flat) (c : ClusterOf) (laid : IsLaid flat) (of : IsClusterOf fl
     counted = of.counted;
     runners = λ m s at. (let h : CameFrom m s = came m s at in runner_after m h.r s (of.runners m h.r h.r_at) h.to);
     keep = of.keep;
+    known = are;
   }
 
   -- where no module differs, only flags do
@@ -241,16 +244,16 @@ module _ (flat : Flat) (c : ClusterOf) (laid : IsLaid flat) (of : IsClusterOf fl
       let e : after a ≡ b = some_inj (after a) b (sym (slice_get-map after c.table i ∙ ap (option_map after) at) ∙ there) in
       subst (λ x. x ≡ with_flag x.accepts a) e (quiet_flag a (all_at (λ x. IsQuiet x (asks x)) c.table i a same at)))
 
-  pub can_install : AreAttributes flat c.number (table_after asks c.table) → (table : List AttrsOf) (next : Next) → IsNext flat.tables c.number asks c.table table next
+  pub can_install : AreAttributes flat c.number (table_after asks c.table) → (table : List AttrsOf) (next : Next) → IsNext flat.tables c.number asks c.table table next → IsCarried flat.tables c.number c.known known next
       → CanInstall flat (crossed_of c table known runners) next
-  can_install attributes table Same is =
+  can_install attributes table Same is same =
       subst (λ (t : List AttrsOf). IsClusterOf flat (crossed_of c t known runners)) (sym is.1)
-      (other_flags flat (table_after asks c.table) (crossed_of c c.table known runners) cluster_after (table_after asks c.table) (same_flags is.0) attributes
+      (other_flags flat (table_after asks c.table) (crossed_of c c.table known runners) (cluster_after (subst (λ (k : PlansOf). AreTrueFor flat.tables c.number k.plans) (sym same) of.known)) (table_after asks c.table) (same_flags is.0) attributes
       (rows_after after (λ a. refl) flat c.number c.table of.rows))
-  can_install attributes table (Changed attrs plan) is =
+  can_install attributes table (Changed attrs plan) is carried =
       subst (λ (t : List AttrsOf). IsReadyFor flat (crossed_of c t known runners) attrs plan) (sym is.0)
       (subst (λ (t : List AttrsOf). IsReadyFor flat (crossed_of c c.table known runners) (record { rows = t; known = attrs.known }) plan) (sym is.1) (record {
-        of = cluster_after;
+        of = cluster_after (subst (AreTrueFor flat.tables c.number) (sym carried.1) (All-nil (IsTrueFor flat.tables c.number)));
         attributes = attributes;
         rows = rows_after after (λ a. refl) flat c.number c.table of.rows;
         long = length-map c.table after;
@@ -260,6 +263,7 @@ module _ (flat : Flat) (c : ClusterOf) (laid : IsLaid flat) (of : IsClusterOf fl
           timing = is.2.times.after.timing;
           plan_is = is.2.plan_is;
         };
+        known = planned_true flat.tables c.number attrs.rows plan c.known attrs.known (subst (All (IsOfCluster flat.tables c.number)) (sym is.1) attributes.own) of.known carried.0;
       }))
 
   -- nothing else has changed

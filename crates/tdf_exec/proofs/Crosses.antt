@@ -89,6 +89,7 @@ of_at flat held c place crossed of within over samples = record {
   counted = of.counted;
   runners = λ m r at. kept_at flat held c place crossed m r (of.runners m r at);
   keep = of.keep;
+  known = of.known;
 }
 
 pub of_crossed : (flat : Flat) (held : List AttrsOf) (c : ClusterOf) (crossed : Bool) → IsClusterWith flat held c → next_offset c ≡ None → IsClusterWith flat held (at_place c c.place crossed)

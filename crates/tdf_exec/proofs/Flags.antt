@@ -146,4 +146,5 @@ module _ (flat : Flat) (rated : List AttrsOf) (c : ClusterOf) (of : IsClusterWit
     counted = of.counted;
     runners = λ m r at. runner_same m r (of.runners m r at);
     keep = of.keep;
+    known = of.known;
   }

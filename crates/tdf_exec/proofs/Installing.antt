@@ -383,6 +383,7 @@ module _ (flat : Flat) (c : ClusterOf) (attrs : AttrsTable) (plan : Plan) (ready
         counted = ready.of.counted;
         runners = λ m s at. (let h : CameFrom m s = came m s at in next_runner m h.r h.g s (ready.of.runners m h.r h.r_at) h.low h.high h.again);
         keep = ready.of.keep;
+        known = ready.known;
       }
 
       pub new_cluster : IsClusterOf flat d

@@ -244,4 +244,5 @@ module _ (flat : Flat) (c : ClusterOf) (inputs : List Raw) (x : Entry) (of : IsC
       counted = λ m. small_at small m (cases_eq m x.actor);
       runners = λ m r here. each m r here (cases_eq m x.actor);
       keep = of.keep;
+      known = of.known;
     }

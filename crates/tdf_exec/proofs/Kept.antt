@@ -290,6 +290,7 @@ module _ (flat : Flat) (cluster : ℕ) (first : First) (sound : IsSoundFlat flat
     counted = λ m. (let z = zero_at m in omega (arith, z));
     runners = runner_is;
     keep = laid.keep;
+    known = is.known;
   }
 
   -- what the variables of a module hold at the start

@@ -7,7 +7,7 @@ use Rattle.tdf_dynamic.specs.declared.next.Next.{Next}
 use Rattle.tdf_dynamic.specs.declared.next.Next.TheVariants.{Changed, Same}
 use Rattle.tdf_dynamic_plans.specs.Attributes.{AttrsOf, clusters_of}
 use Rattle.tdf_dynamic_plans.specs.Faults.{IsTablePlan}
-use Rattle.tdf_dynamic_plans.specs.Known.{AttrsTable}
+use Rattle.tdf_dynamic_plans.specs.Known.{AreTrueFor, AttrsTable}
 use Rattle.tdf_exec.specs.Cluster.{ClusterOf}
 use Rattle.tdf_exec.specs.Made.{HasRows, IsClusterOf, IsClusterWith, room_for}
 use Rattle.tdf_exec.specs.Played.{IsLike, IsPeriodOf, runner_cells, play_of}
@@ -79,7 +79,8 @@ CrossesFrom flat c d = (model : PureTree) (start : Start) (old : List PeriodReco
     → Stands (cluster_net model flat c.number start) old p reads f (play_of from c)
     → Crosses (cluster_net model flat c.number start) old p reads f (play_of from d)
 
--- a new table and its plan are those of the cluster, and its modules have the rates of this table
+-- a new table, its plan and the plans that are known are those of the cluster, and its modules have
+-- the rates of this table
 pub record IsReadyFor (flat : Flat) (c : ClusterOf) (attrs : AttrsTable) (plan : Plan)
     : Type 0 where
   pub of : IsClusterWith flat attrs.rows c
@@ -87,6 +88,7 @@ pub record IsReadyFor (flat : Flat) (c : ClusterOf) (attrs : AttrsTable) (plan :
   pub rows : HasRows flat.tables c.number attrs.rows
   pub long : length attrs.rows ≡ length c.table
   pub plan_is : IsTablePlan flat.tables c.number attrs.rows plan
+  pub known : AreTrueFor flat.tables c.number attrs.known.plans
 
 -- the next period can be begun with an answer
 abbrev pub CanInstall : Flat → ClusterOf → Next → Type 0

@@ -6,6 +6,7 @@ use Rattle.std.specs.Prelude.{◌≡◌, ℕ, zero, suc, ◌+◌, ◌-◌, ◌*�
 use Rattle.tdf_bind_tables.specs.FlatTables.{FlatTablesOf}
 use Rattle.tdf_dynamic_plans.specs.Attributes.{AttrsOf, attrs_at, clusters_of, rates_in}
 use Rattle.tdf_dynamic_plans.specs.Faults.{IsTablePlan}
+use Rattle.tdf_dynamic_plans.specs.Known.{AreTrueFor}
 use Rattle.tdf_dynamic_plans.specs.Rates.{net_of}
 use Rattle.tdf_exec.specs.Cluster.{ClusterOf, next_offset}
 use Rattle.tdf_exec.specs.Runners.{ModuleOf, SamplerOf}
@@ -182,7 +183,7 @@ pub record KeepRates (checked : Checked) : Type 0 where
       ≡ s.frame.rates
 
 -- a cluster of a flat model, wherever it is in its period, whose modules have the rates of a table;
--- it has crossed only at the end of its period
+-- it has crossed only at the end of its period, and the plans that are known are its own
 pub record IsClusterWith (flat : Flat) (rated : List AttrsOf) (c : ClusterOf) : Type 0 where
   pub attributes : AreAttributes flat c.number c.table
   pub rows : HasRows flat.tables c.number c.table
@@ -199,6 +200,7 @@ pub record IsClusterWith (flat : Flat) (rated : List AttrsOf) (c : ClusterOf) : 
   pub runners : (m : ℕ) (r : Runner) → slice_get c.runners m ≡ Some r
       → IsRunnerWith flat rated c m r
   pub keep : KeepRates flat.checked
+  pub known : AreTrueFor flat.tables c.number c.known.plans
 
 -- the table is that in force
 abbrev pub IsClusterOf : Flat → ClusterOf → Type 0

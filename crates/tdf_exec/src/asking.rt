@@ -29,6 +29,7 @@ ghost use Rattle.std.specs.Prelude.{◌≡◌, ◌≤◌, ℕ, Contains, IfOk, l
 ghost use Rattle.tdf_dynamic.specs.Given.{IsOfText, IsPlanned};
 ghost use Rattle.tdf_dynamic.specs.Next.{AnswersAsks, IsCarried};
 ghost use Rattle.tdf_dynamic_plans.specs.Attributes.{clusters_of};
+ghost use Rattle.tdf_dynamic_plans.specs.Known.{AreTrueFor};
 ghost use Rattle.tdf_exec.specs.machine.Moving.{AreInstances, AreModules, HaveMoved, WhenTheyAsk, numbers_of};
 ghost use Rattle.tdf_bind_invariants.specs.Limits.{AreWithinLimits};
 ghost use Rattle.tdf_streams.specs.Periods.{AreAttributes};
@@ -74,6 +75,7 @@ impl Spare {
         requires has { Contains (clusters_of flat.now.tables) cluster }
         requires attributes { AreAttributes flat.now cluster attrs.old.rows }
         requires planned { IsPlanned flat.now.tables cluster attrs.old.rows }
+        requires known { AreTrueFor flat.now.tables cluster attrs.old.known.plans }
         requires modules { AreModules (numbers_of attrs.old.rows) runners.old.items }
         requires instances { AreInstances flat.now attrs.old.rows runners.old.items }
         requires room { length attrs.old.rows ≤ self.old }

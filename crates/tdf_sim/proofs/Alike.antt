@@ -6,6 +6,7 @@ use Rattle.tdf_base.specs.declared.faults.Fault.{Fault}
 use Rattle.tdf_bind_tables.specs.FlatTables.{FlatTablesOf}
 use Rattle.tdf_dynamic_plans.specs.Attributes.{AttrsOf, clusters_of, ports_of_module}
 use Rattle.tdf_dynamic_plans.specs.Faults.{IsTableFault, IsTablePlan}
+use Rattle.tdf_dynamic_plans.specs.Known.{AreTrueFor}
 use Rattle.tdf_dynamic_first.specs.First.{IsFirstPlan, IsClusterFault}
 use Rattle.tdf_dynamic_first.specs.Text.{attrs_if, first_table, port_step}
 use Rattle.tdf_dynamic_first.specs.declared.first.First.{First}
@@ -93,4 +94,5 @@ move_plan a b cluster first same is = record {
   attrs_are = is.attrs_are ∙ same_table a b cluster same;
   plan_is = subst (λ (table : List AttrsOf). IsTablePlan b.tables cluster table first.plan) (same_table a b cluster same)
       (subst (λ (tables : FlatTablesOf). IsTablePlan tables cluster (first_table a cluster) first.plan) same.tables is.plan_is);
+  known = subst (λ (tables : FlatTablesOf). AreTrueFor tables cluster first.attrs.known.plans) same.tables is.known;
 }

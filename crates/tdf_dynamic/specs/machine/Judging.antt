@@ -10,7 +10,9 @@ use Rattle.tdf_dynamic.specs.machine.Rows.{HoldsBelow, IsFirstPlace, IsRefusing}
 use Rattle.tdf_dynamic_plans.specs.Attributes.{AttrsOf}
 use Rattle.tdf_dynamic_plans.specs.Faults.{IsPlanFault, IsPlanOf, IsStepsFault}
 use Rattle.tdf_dynamic_plans.specs.Rates.{net_of, net_ports}
+use Rattle.tdf_graph.specs.declared.actors.Port.{Port}
 use Rattle.tdf_schedule.specs.declared.entry.Plan.{Plan}
+use Rattle.tdf_timestep.specs.declared.assign.Steps.{Steps}
 
 -- the counts and steps under two tables
 pub record AreTimed (tables : FlatTablesOf) (cluster : ℕ) (old new : List AttrsOf) : Type 0 where
@@ -34,6 +36,24 @@ pub record IsRefused (tables : FlatTablesOf) (cluster : ℕ) (old new : List Att
     : Type 0 where
   pub place : ℕ
   pub first : IsFirstPlace (Refuses tables cluster old new times) old frames place
+  pub told : fault_of_row tables code.Rejected first.one ≡ Some fault
+
+-- no module rejects these rates of ports and steps, by the counts and steps from before
+pub record IsUnrejected (tables : FlatTablesOf) (cluster : ℕ) (old : List AttrsOf)
+    (frames : List ModuleFrame) (ports : List Port) (steps : Steps) : Type 0 where
+  pub before : TimingOf tables cluster old
+  pub none : HoldsBelow
+      (λ attrs f. IsRefusing (net_ports tables old) ports before.steps steps attrs f → ⊥)
+      old frames (length old)
+
+-- the fault that the first module rejects that does
+pub record IsRejection (tables : FlatTablesOf) (cluster : ℕ) (old : List AttrsOf)
+    (frames : List ModuleFrame) (ports : List Port) (steps : Steps) (fault : Fault)
+    : Type 0 where
+  pub before : TimingOf tables cluster old
+  pub place : ℕ
+  pub first : IsFirstPlace (IsRefusing (net_ports tables old) ports before.steps steps)
+      old frames place
   pub told : fault_of_row tables code.Rejected first.one ≡ Some fault
 
 -- a new table has a plan, and no module rejects it

@@ -12,7 +12,8 @@ use Rattle.tdf_dynamic.specs.machine.Boundary.{IsFound, IsRefusedAt, NoneMarks}
 use Rattle.tdf_dynamic.specs.machine.Rows.{AreAfter, AreFlagged, HoldsBelow}
 use Rattle.tdf_dynamic_plans.specs.Attributes.{AttrsOf}
 use Rattle.tdf_dynamic_plans.specs.Faults.{IsRefusal}
-use Rattle.tdf_dynamic_plans.proofs.Api.{rows_same}
+use Rattle.tdf_dynamic_plans.proofs.Api.{known_same, rows_same}
+use Rattle.tdf_dynamic_plans.specs.Known.{AreTrueFor, PlansOf}
 use Rattle.tdf_streams.specs.Periods.{AreAttributes}
 use Rattle.tdf_dynamic.proofs.next.next_plan.Goals as goal
 
@@ -29,6 +30,9 @@ returns-then-is_same-clause-frames c = λ model cells checked have.
 pub changed-requires-clause-tells : goal.changed-requires-clause-tells
 changed-requires-clause-tells c = along (AllTell c.args.flat.now) c.args.attrs.now.rows c.deref-4.result.now c.run_changes.new.frames.items c.deref-5.result.now (sym (c.deref-4.ensures.value ∙ rows_same c.attrs.view_is)) (sym c.deref-5.ensures.value)
     (all_tell c.args.flat.now c.args.attrs.now.rows c.args.frames.now.modules.items c.run_changes.new.frames.items c.requires.frames (have_table c.args.flat.now c.deref.result.now c.args.attrs.now.rows c.args.frames.now.modules.items c.run_changes.new.frames.items (c.deref.ensures.value ∙ rows_same c.attrs.view_is) c.run_changes.ensures.asked))
+
+pub changed-requires-clause-known : goal.changed-requires-clause-known
+changed-requires-clause-known c = subst (λ (s : PlansOf). AreTrueFor c.args.flat.now.tables c.args.cluster s.plans) (sym (known_same c.attrs.view_is)) c.requires.known
 
 pub changed-requires-clause-after : goal.changed-requires-clause-after
 changed-requires-clause-after c = λ after is. after_attributes c.args.flat.now c.args.attrs.now.rows c.args.frames.now.modules.items c.run_changes.new.frames.items c.requires.frames (have_table c.args.flat.now c.deref.result.now c.args.attrs.now.rows c.args.frames.now.modules.items c.run_changes.new.frames.items (c.deref.ensures.value ∙ rows_same c.attrs.view_is) c.run_changes.ensures.asked) c.args.cluster c.requires.attributes after

@@ -1,14 +1,14 @@
-use Rattle.std.proofs.Common.{◌∙◌, arith}
-use Rattle.std.specs.Prelude.{vec_len}
-use Rattle.tdf_dynamic_plans.proofs.Nets.{modules_few, clusters_are, ports_are}
+use Rattle.tdf_dynamic_plans.proofs.Keys.{all_planned, known_planned, planned_is}
 use Rattle.tdf_dynamic_plans.proofs.plans.table_plan.Goals as goal
 
-pub net_of-requires-clause-modules : goal.net_of-requires-clause-modules
-net_of-requires-clause-modules c = modules_few c.args.tables.now c.requires.wired
+pub returns-in_ok-plan-in-Some-clause-planned : goal.returns-in_ok-plan-in-Some-clause-planned
+returns-in_ok-plan-in-Some-clause-planned c = known_planned c.args.tables.now c.args.cluster c.args.table.now c.args.known.now c.in-Some.place c.in-Some.ensures.known c.requires.known c.requires.table
+    c.in_ok-plan-in-Some.field-0 (c.in_ok-plan-in-Some.ensures c.in-Some.ensures.known.0 c.in-Some.ensures.known.1)
 
-pub net_plan-found-requires-clause-clusters : goal.net_plan-found-requires-clause-clusters
-net_plan-found-requires-clause-clusters c = clusters_are c.args.tables.now c.args.table.now c.requires.wired c.in_ok-net.net (vec_len c.in_ok-net.net.actors) c.deref.result.now c.in_ok-net.ensures.net
-    (let o = c.in_ok-net.net.actors.ok in omega (arith, o)) (c.deref.ensures.value ∙ c.in_ok-clusters.ensures.numbers)
+pub returns-in_ok-plan-in-Some-clause-plan : goal.returns-in_ok-plan-in-Some-clause-plan
+returns-in_ok-plan-in-Some-clause-plan c = planned_is c.args.tables.now c.args.cluster c.args.table.now c.in_ok-plan-in-Some.field-0 c.args.known.now c.args.known.now
+    (known_planned c.args.tables.now c.args.cluster c.args.table.now c.args.known.now c.in-Some.place c.in-Some.ensures.known c.requires.known c.requires.table
+    c.in_ok-plan-in-Some.field-0 (c.in_ok-plan-in-Some.ensures c.in-Some.ensures.known.0 c.in-Some.ensures.known.1))
 
-pub net_plan-found-requires-clause-ports : goal.net_plan-found-requires-clause-ports
-net_plan-found-requires-clause-ports c = ports_are c.args.tables.now c.args.table.now c.in_ok-net.net c.in_ok-net.ensures.net
+pub returns-in-None-clause-plan : goal.returns-in-None-clause-plan
+returns-in-None-clause-plan c = all_planned c.args.tables.now c.args.cluster c.args.table.now c.args.known.now c.new_plan.new.known c.new_plan.result c.new_plan.ensures.planned

@@ -20,9 +20,9 @@ use Rattle.tdf_exec.proofs.cluster.Cluster.boundary.Goals as goal
 abbrev stays : Result Next ChangeErr
 stays = Ok Same
 
-if_ok : {T E : Type 0} {P Q : T → Type 0} (r : Result T E) → IfOk r P → ((x : T) → P x → Q x) → IfOk r Q
-if_ok (Ok x) p then = then x p
-if_ok (Err e) p then = tt
+if_ok : {T E : Type 0} {P R Q : T → Type 0} (r : Result T E) → IfOk r P → IfOk r R → ((x : T) → P x → R x → Q x) → IfOk r Q
+if_ok (Ok x) p q then = then x p q
+if_ok (Err e) p q then = tt
 
 pub returns-then-not-has_changes-clause-answer : goal.returns-then-not-has_changes-clause-answer
 returns-then-not-has_changes-clause-answer c =
@@ -87,6 +87,11 @@ ask-requires-clause-planned c =
     let of : IsClusterOf c.args.flat.now (the_view c.self.inside) = subst (IsClusterOf c.args.flat.now) (sym c.self.view_is) c.requires.of in
     planned_is c.args.flat.now (the_view c.self.inside) laid of
 
+pub ask-requires-clause-known : goal.ask-requires-clause-known
+ask-requires-clause-known c =
+    let of : IsClusterOf c.args.flat.now (the_view c.self.inside) = subst (IsClusterOf c.args.flat.now) (sym c.self.view_is) c.requires.of in
+    of.known
+
 pub ask-requires-clause-modules : goal.ask-requires-clause-modules
 ask-requires-clause-modules c =
     let laid = c.law_laid.ensures.laid c.args.flat.now c.requires.sound in
@@ -134,8 +139,8 @@ returns-clause-of c =
     let laid = c.law_laid.ensures.laid c.args.flat.now c.requires.sound in
     let of : IsClusterOf c.args.flat.now (the_view c.self.inside) = subst (IsClusterOf c.args.flat.now) (sym c.self.view_is) c.requires.of in
     let end : next_offset (the_view c.self.inside) ≡ None = subst (λ (s : ClusterOf). next_offset s ≡ None) (sym c.self.view_is) c.requires.done in
-    if_ok c.ask.result (c.ask.ensures.answer c.requires.sound.model (values_at c.self.inside.runners.items) c.requires.sound.is.bodies (λ i a at. refl)).next
-    (λ next is. can_install c.args.flat.now (the_view c.self.inside) laid of end c.requires.sound.model c.ask.new.runners.items (c.ask.ensures.moved c.requires.sound.model (values_at c.self.inside.runners.items) c.requires.sound.is.bodies (λ i a at. refl)) c.ask.new.attrs.known (c.ask.ensures.answer c.requires.sound.model (values_at c.self.inside.runners.items) c.requires.sound.is.bodies (λ i a at. refl)).after c.ask.new.attrs.rows next is)
+    if_ok c.ask.result (c.ask.ensures.answer c.requires.sound.model (values_at c.self.inside.runners.items) c.requires.sound.is.bodies (λ i a at. refl)).next c.ask.ensures.carried
+    (λ next is carried. can_install c.args.flat.now (the_view c.self.inside) laid of end c.requires.sound.model c.ask.new.runners.items (c.ask.ensures.moved c.requires.sound.model (values_at c.self.inside.runners.items) c.requires.sound.is.bodies (λ i a at. refl)) c.ask.new.attrs.known (c.ask.ensures.answer c.requires.sound.model (values_at c.self.inside.runners.items) c.requires.sound.is.bodies (λ i a at. refl)).after c.ask.new.attrs.rows next is carried)
 
 pub returns-clause-still : goal.returns-clause-still
 returns-clause-still c =
