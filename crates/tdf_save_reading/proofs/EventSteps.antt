@@ -8,7 +8,7 @@ use Rattle.tdf_save.specs.Text.{saved_pending}
 use Rattle.tdf_save.specs.machine.Pieces.{Any, IsNext, IsOne, begins_with_byte}
 use Rattle.tdf_save_reading.proofs.ModuleReads.{last_text}
 use Rattle.tdf_save_reading.proofs.ReadSteps.{AreItems, along_none, along_piece, no_first, no_second, pair_piece, pre_absent, pre_none, pre_piece}
-use Rattle.tdf_save_reading.specs.machine.Events.{Blank, IsEvent, IsNotice, IsNoneFrom, IsPlaceFor, event_name, place_text}
+use Rattle.tdf_save_reading.specs.machine.Events.{Blank, IsEvent, IsNotice, IsPlaceFor, event_name, place_text}
 use Rattle.tdf_save_reading.specs.machine.Pieces.{IsPiece, NoPiece}
 use Rattle.tdf_saved.specs.declared.state.Pending.{Pending}
 
@@ -21,37 +21,34 @@ other_blank text name rest is here r blank e =
 
 -- ---- events, one after the other
 
--- none of the events from one place up to another has a name that begins the text
-abbrev pub IsNoneUpTo : (names : List (List ℕ)) → (from upto : ℕ) → List ℕ → Type 0
-IsNoneUpTo names from upto text = (i : ℕ) (rest : List ℕ) → from ≤ i → i < upto → IsPiece (event_name names) (IsEvent names) Blank text i rest → ⊥
+-- none of the events up to a place has a name that begins the text
+abbrev pub IsNoneUpTo : (names : List (List ℕ)) → (upto : ℕ) → List ℕ → Type 0
+IsNoneUpTo names upto text = (i : ℕ) (rest : List ℕ) → i < upto → IsPiece (event_name names) (IsEvent names) Blank text i rest → ⊥
 
-pub none_at_first : (names : List (List ℕ)) (from : ℕ) (text : List ℕ) → IsNoneUpTo names from from text
-none_at_first names from text i rest a b p = omega (arith, a, b)
+pub none_at_first : (names : List (List ℕ)) (text : List ℕ) → IsNoneUpTo names 0 text
+none_at_first names text i rest b p = omega (arith, b)
 
 name_at_place : (names : List (List ℕ)) (k : ℕ) (name : List ℕ) → k < length names → name ≡ get_or names k name → event_name names k ≡ name
 name_at_place [] k name less at = absurd (omega (arith, less))
 name_at_place (n ∷ names) zero name less at = sym at
 name_at_place (n ∷ names) (suc k) name less at = name_at_place names k name (omega (arith, less)) at
 
-pub none_yet : (names : List (List ℕ)) (from k : ℕ) (text name : List ℕ) → k < length names → name ≡ get_or names k name
-    → ((r : List ℕ) → Blank r → text ≡ name ++ r → ⊥) → IsNoneUpTo names from k text → IsNoneUpTo names from (k + 1) text
-none_yet names from k text name less at none before i rest a b p = ⊎_elim
-    (λ (under : i < k). before i rest a under p)
+pub none_yet : (names : List (List ℕ)) (k : ℕ) (text name : List ℕ) → k < length names → name ≡ get_or names k name
+    → ((r : List ℕ) → Blank r → text ≡ name ++ r → ⊥) → IsNoneUpTo names k text → IsNoneUpTo names (k + 1) text
+none_yet names k text name less at none before i rest b p = ⊎_elim
+    (λ (under : i < k). before i rest under p)
     (λ (over : k ≤ i).
     let same : i ≡ k = omega (arith, over, b) in
     let named : event_name names i ≡ name = ap (event_name names) same ∙ name_at_place names k name less at in
     none rest p.end (p.is ∙ ap (λ x. x ++ rest) named))
     (cases_lt i k)
 
-pub none_at_all : (names : List (List ℕ)) (from k : ℕ) (text : List ℕ) → length names ≤ k → IsNoneUpTo names from k text → IsNoneFrom names from text
-none_at_all names from k text all before i rest a p = before i rest a (omega (arith, all, p.fit)) p
+pub none_at_all : (names : List (List ℕ)) (k : ℕ) (text : List ℕ) → length names ≤ k → IsNoneUpTo names k text → NoPiece (event_name names) (IsEvent names) Blank text
+none_at_all names k text all before i rest p = before i rest (omega (arith, all, p.fit)) p
 
 pub event_piece : (names : List (List ℕ)) (k : ℕ) (text name rest : List ℕ) → k < length names → name ≡ get_or names k name → text ≡ name ++ rest → Blank rest
     → IsPiece (event_name names) (IsEvent names) Blank text k rest
 event_piece names k text name rest less at is blank = record { fit = less; end = blank; is = is ∙ ap (λ x. x ++ rest) (sym (name_at_place names k name less at)) }
-
-pub no_event : (names : List (List ℕ)) (text : List ℕ) → IsNoneFrom names 0 text → NoPiece (event_name names) (IsEvent names) Blank text
-no_event names text none = λ i rest p. none i rest (omega arith) p
 
 -- ---- the place of an event, and a time
 

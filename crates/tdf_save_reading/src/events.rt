@@ -1,16 +1,18 @@
 //! Notifications of a saved text, read exactly.
 
 ghost use Rattle.std.specs.List.{AllByRecursion, flat_map};
-ghost use Rattle.std.specs.Prelude.{◌≡◌, ◌≢◌, ◌++◌, ◌≤◌, ℕ, List, true, false, IfErr, IfOk, IfSome, None, map};
+ghost use Rattle.std.specs.Prelude.{◌≡◌, ◌≢◌, ◌++◌, ℕ, List, true, false, IfErr, IfOk, IfSome, None, map};
 ghost use Rattle.tdf_save.specs.Members.{AreNamesApart};
 ghost use Rattle.tdf_save.specs.Text.{saved_pending};
 ghost use Rattle.tdf_save.specs.machine.Pieces.{Any, IsNext};
-ghost use Rattle.tdf_save_reading.specs.machine.Events.{Blank, IsEvent, IsNotice, IsNoneFrom, IsPlaceFor, event_name, place_text};
+ghost use Rattle.tdf_save_reading.specs.machine.Events.{Blank, IsEvent, IsNotice, IsPlaceFor, event_name, place_text};
 ghost use Rattle.tdf_save_reading.specs.machine.Pieces.{IsPiece, IsStateRefusal, NoPiece};
 
 use crate::err::StateErr;
 use crate::lists::{begins_with, is_next, put};
 use crate::numbers::{cut, last_count};
+use crate::places::{likely_place, places_of};
+use indexmap::IndexSet;
 use std::alloc::Global;
 use tdf_saved::Pending;
 
@@ -31,13 +33,28 @@ fn cut_name<'t>(text: &'t [u8], name: &[u8]) -> Option<&'t [u8]>
     }
 }
 
-/// The first event from a place on whose name begins a text, and what comes after the name.
-fn event_from<'t>(names: &[Vec<u8>], from: usize, text: &'t [u8]) -> Option<(usize, &'t [u8])>
+/// The event at a place, if its name begins a text, and what comes after the name.
+fn event_at<'t>(names: &[Vec<u8>], place: usize, text: &'t [u8]) -> Option<(usize, &'t [u8])>
     ensures is { IfSome result (λ p. IsPiece (event_name (map (λ z. z.items) names.now))
         (IsEvent (map (λ z. z.items) names.now)) Blank text.entry.now p.0 p.1.now) }
-    ensures none { result ≡ None → IsNoneFrom (map (λ z. z.items) names.now) from text.entry.now }
 {
-    for k in from..names.len() {
+    if place >= names.len() {
+        return None;
+    }
+    match cut_name(text, &names[place]) {
+        Some(rest) => Some((place, rest)),
+        None => None,
+    }
+}
+
+/// The first event whose name begins a text, and what comes after the name.
+fn first_event<'t>(names: &[Vec<u8>], text: &'t [u8]) -> Option<(usize, &'t [u8])>
+    ensures is { IfSome result (λ p. IsPiece (event_name (map (λ z. z.items) names.now))
+        (IsEvent (map (λ z. z.items) names.now)) Blank text.entry.now p.0 p.1.now) }
+    ensures none { result ≡ None → NoPiece (event_name (map (λ z. z.items) names.now))
+        (IsEvent (map (λ z. z.items) names.now)) Blank text.entry.now }
+{
+    for k in 0..names.len() {
         if let Some(rest) = cut_name(text, &names[k]) {
             return Some((k, rest));
         }
@@ -45,23 +62,30 @@ fn event_from<'t>(names: &[Vec<u8>], from: usize, text: &'t [u8]) -> Option<(usi
     None
 }
 
-/// The event whose name begins a text, and what comes after the name. It is looked for from a place on first, and then from the front.
-fn read_event<'t>(names: &[Vec<u8>], from: usize, text: &'t [u8]) -> Option<(usize, &'t [u8])>
+/// The event whose name begins a text, and what comes after the name. The place that the map has for the name up to the last space of the
+/// line is tried first, and all events only where it isn't the one: then the text is that of no notification, or the name has an LF.
+fn read_event<'t>(
+    names: &[Vec<u8>],
+    places: &IndexSet<&[u8]>,
+    text: &'t [u8],
+) -> Option<(usize, &'t [u8])>
     ensures is { IfSome result (λ p. IsPiece (event_name (map (λ z. z.items) names.now))
         (IsEvent (map (λ z. z.items) names.now)) Blank text.entry.now p.0 p.1.now) }
     ensures none { result ≡ None → NoPiece (event_name (map (λ z. z.items) names.now))
         (IsEvent (map (λ z. z.items) names.now)) Blank text.entry.now }
 {
-    match event_from(names, from, text) {
-        Some((place, rest)) => Some((place, rest)),
-        None => event_from(names, 0, text),
+    if let Some(place) = likely_place(places, text) {
+        if let Some((place, rest)) = event_at(names, place, text) {
+            return Some((place, rest));
+        }
     }
+    first_event(names, text)
 }
 
 /// The place of an event among the names, and the time of its notification.
 fn read_place<'t>(
     names: &[Vec<u8>],
-    from: usize,
+    places: &IndexSet<&[u8]>,
     text: &'t [u8],
 ) -> Option<((usize, u64), &'t [u8])>
     requires apart { AreNamesApart (map (λ z. z.items) names.now) }
@@ -73,7 +97,7 @@ fn read_place<'t>(
     let Some(word) = cut(text, b"pending ") else {
         return None;
     };
-    let Some((place, last)) = read_event(names, from, word) else {
+    let Some((place, last)) = read_event(names, places, word) else {
         return None;
     };
     match last_count(last) {
@@ -83,14 +107,18 @@ fn read_place<'t>(
 }
 
 /// A notification.
-fn read_notice<'t>(names: &[Vec<u8>], from: usize, text: &'t [u8]) -> Option<(Pending, &'t [u8])>
+fn read_notice<'t>(
+    names: &[Vec<u8>],
+    places: &IndexSet<&[u8]>,
+    text: &'t [u8],
+) -> Option<(Pending, &'t [u8])>
     requires apart { AreNamesApart (map (λ z. z.items) names.now) }
     ensures is { IfSome result (λ p. IsPiece (saved_pending (map (λ z. z.items) names.now))
         (IsNotice (map (λ z. z.items) names.now)) Any text.entry.now p.0 p.1.now) }
     ensures none { result ≡ None → NoPiece (saved_pending (map (λ z. z.items) names.now))
         (IsNotice (map (λ z. z.items) names.now)) Any text.entry.now }
 {
-    let Some(((place, time), rest)) = read_place(names, from, text) else {
+    let Some(((place, time), rest)) = read_place(names, places, text) else {
         return None;
     };
     if place > 4_294_967_295 {
@@ -106,6 +134,37 @@ fn read_notice<'t>(names: &[Vec<u8>], from: usize, text: &'t [u8]) -> Option<(Pe
 }
 
 /// Notifications, up to what may come after them.
+fn read_all<'t>(
+    alloc: Global,
+    names: &[Vec<u8>],
+    places: &IndexSet<&[u8]>,
+    text: &'t [u8],
+) -> Result<(Vec<Pending>, &'t [u8]), StateErr>
+    requires apart { AreNamesApart (map (λ z. z.items) names.now) }
+    ensures is { IfOk result (λ p. IsPiece (flat_map (saved_pending (map (λ z. z.items) names.now)))
+        (AllByRecursion (IsNotice (map (λ z. z.items) names.now))) IsNext text.entry.now p.0.items p.1.now) }
+    ensures refused { IfErr result (IsStateRefusal
+        (NoPiece (flat_map (saved_pending (map (λ z. z.items) names.now)))
+        (AllByRecursion (IsNotice (map (λ z. z.items) names.now))) IsNext text.entry.now)) }
+{
+    let mut list = Vec::new(alloc);
+    let mut rest = text;
+    while begins_with(rest, b'p') {
+        match read_notice(names, places, rest) {
+            Some((notice, left)) => {
+                put(&mut list, notice)?;
+                rest = left;
+            }
+            None => return Err(StateErr::Bad),
+        }
+    }
+    if is_next(rest) {
+        return Ok((list, rest));
+    }
+    Err(StateErr::Bad)
+}
+
+/// Notifications, up to what may come after them. The place of each event is in a map that is made once.
 pub(crate) fn read_notices<'t>(
     alloc: Global,
     names: &[Vec<u8>],
@@ -118,21 +177,6 @@ pub(crate) fn read_notices<'t>(
         (NoPiece (flat_map (saved_pending (map (λ z. z.items) names.now)))
         (AllByRecursion (IsNotice (map (λ z. z.items) names.now))) IsNext text.entry.now)) }
 {
-    let mut list = Vec::new(alloc);
-    let mut rest = text;
-    let mut from = 0;
-    while begins_with(rest, b'p') {
-        match read_notice(names, from, rest) {
-            Some((notice, left)) => {
-                from = notice.event as usize + 1;
-                put(&mut list, notice)?;
-                rest = left;
-            }
-            None => return Err(StateErr::Bad),
-        }
-    }
-    if is_next(rest) {
-        return Ok((list, rest));
-    }
-    Err(StateErr::Bad)
+    let places = places_of(alloc, names)?;
+    read_all(alloc, names, &places, text)
 }

@@ -2,6 +2,7 @@
 //!
 //! - `snapshot`: a snapshot is read from its text.
 //! - `head`, `clusters`, `kernel`, `columns`: its parts. `modules`, `values` and `events` read what they consist of.
+//! - `places`: where the event of a notification is likely to stand among the events.
 //! - `lists`, `numbers`: lists of numbers up to the end of their line, and numbers.
 //! - `err`: why a text is that of no snapshot.
 #![tactic(auto)]
@@ -15,6 +16,7 @@ mod kernel;
 mod lists;
 mod modules;
 mod numbers;
+mod places;
 mod snapshot;
 mod values;
 

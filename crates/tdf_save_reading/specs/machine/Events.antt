@@ -1,9 +1,8 @@
 -- Notifications, with events by their names.
 -- Source: own.
-use Rattle.std.specs.Prelude.{◌≡◌, ℕ, ◌<◌, ◌≤◌, true, List, [], ◌∷◌, ◌++◌, length, codes, decimal, slice_index_or}
+use Rattle.std.specs.Prelude.{◌≡◌, ℕ, ◌<◌, true, List, [], ◌∷◌, ◌++◌, length, codes, decimal, slice_index_or}
 use Rattle.tdf_save.specs.Members.{IsCount32, IsCount64}
 use Rattle.tdf_save.specs.machine.Pieces.{begins_with_byte}
-use Rattle.tdf_save_reading.specs.machine.Pieces.{IsPiece}
 use Rattle.tdf_saved.specs.declared.state.Pending.{Pending}
 
 abbrev pub event_name : (names : List (List ℕ)) → ℕ → List ℕ
@@ -15,11 +14,6 @@ IsEvent names i = i < length names
 -- a space comes
 abbrev pub Blank : List ℕ → Type 0
 Blank rest = begins_with_byte 32 rest ≡ true
-
--- no event from a place on has a name that begins the text
-abbrev pub IsNoneFrom : (names : List (List ℕ)) → (from : ℕ) → List ℕ → Type 0
-IsNoneFrom names from text = (i : ℕ) (rest : List ℕ) → from ≤ i
-    → IsPiece (event_name names) (IsEvent names) Blank text i rest → ⊥
 
 -- the place of an event, and a time
 abbrev pub place_text : (names : List (List ℕ)) → ℕ × ℕ → List ℕ

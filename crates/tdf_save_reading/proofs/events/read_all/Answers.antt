@@ -6,7 +6,7 @@ use Rattle.tdf_save_reading.proofs.EventSteps.{notices_items}
 use Rattle.tdf_save_reading.proofs.ItemReads.{item_shorter, items_no_tail, items_piece}
 use Rattle.tdf_save_reading.proofs.ReadSteps.{none_read, one_read, stuck}
 use Rattle.tdf_save_reading.specs.machine.Events.{IsNotice}
-use Rattle.tdf_save_reading.proofs.events.read_notices.Goals as goal
+use Rattle.tdf_save_reading.proofs.events.read_all.Goals as goal
 
 pub loop-rest-init : goal.loop-rest-init
 loop-rest-init c = rw c.new-list.ensures.items (none_read (saved_pending (map (λ (z : Vec ℕ Global). z.items) c.args.names.now)) (IsNotice (map (λ (z : Vec ℕ Global). z.items) c.args.names.now)) IsNext c.args.text.now)

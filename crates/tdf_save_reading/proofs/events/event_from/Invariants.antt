@@ -1,6 +1,0 @@
-use Rattle.std.proofs.Common.{ℕ, Vec, Global, map}
-use Rattle.tdf_save_reading.proofs.EventSteps.{IsNoneUpTo}
-use Rattle.tdf_save_reading.proofs.events.event_from.Given as goal
-
-abbrev pub invariant-loop-k : goal.invariant-loop-k
-invariant-loop-k l = IsNoneUpTo (map (λ (z : Vec ℕ Global). z.items) l.names) l.from l.k l.text
