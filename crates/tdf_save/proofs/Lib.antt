@@ -9,4 +9,5 @@ pub mod LineOnes
 pub mod PartOnes
 pub mod WholeOnes
 pub mod Lines
+pub mod TextStarts
 pub mod Passing

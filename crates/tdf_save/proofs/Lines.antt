@@ -1,13 +1,14 @@
 -- Lines that are passed on the way to the text of the model.
 use Rattle.std.proofs.Common.{◌≡◌, ℕ, zero, suc, ◌+◌, ◌<◌, ◌≤◌, Bool, true, false, nat_eq, nat_lt, List, [], ◌∷◌, ◌++◌, length, drop, refl, ◌∙◌, sym, ap, append_assoc, arith, codes, Option, Some, None, ⊎_elim, if◌then◌else◌}
 use Rattle.std.proofs.lemmas.Bool.{cases_Bool, lt-ltb}
+use Rattle.std.proofs.lemmas.Bool.Decides.{nat_tests}
 use Rattle.std.proofs.lemmas.List.{length-append}
 use Rattle.std.proofs.lemmas.List.Folds.{list_any-append}
 use Rattle.std.specs.List.{AllByRecursion, AllZip, flat_map, list_any, position, position_or_len, starts_with}
 use Rattle.tdf_save.proofs.WordLists.{line_is, words_none, words_some}
-use Rattle.tdf_save.specs.Laws.{IsInLine}
-use Rattle.tdf_save.specs.Start.{ends_a_line, start_by_line, text_start_in}
+use Rattle.tdf_save.specs.Start.{IsInLine, ends_a_line}
 use Rattle.tdf_save.specs.Text.{after_spaces, each_text, saved_line}
+use Rattle.tdf_save.specs.machine.Start.{start_by_line, text_start_in}
 
 -- ---- room enough
 
@@ -58,7 +59,7 @@ end_by : (c : ℕ) (b : Bool) → ends_a_line c ≡ b → (line rest : List ℕ)
 end_by c true e line rest h is = absurd (let f : true ≡ false = rw e at h in cc)
 end_by c false e line rest h is = rw e (rw is (omega arith))
 
-tail_of : (c : ℕ) (line : List ℕ) → list_any ends_a_line (c ∷ line) ≡ false → list_any ends_a_line line ≡ false
+pub tail_of : (c : ℕ) (line : List ℕ) → list_any ends_a_line (c ∷ line) ≡ false → list_any ends_a_line line ≡ false
 tail_of c line h = ⊎_elim
     (λ (here : ends_a_line c ≡ true). absurd (let f : true ≡ false = rw here at h in cc))
     (λ (other : ends_a_line c ≡ false). rw other at h)
@@ -80,6 +81,24 @@ drop_line [] rest = refl
 drop_line (c ∷ line) rest =
     let e : suc (length line) + 1 ≡ suc (length line + 1) = omega arith in
     rw e (drop_line line rest)
+
+no_end : (text : List ℕ) → IsInLine text → position_or_len ends_a_line text ≡ length text
+no_end [] h = refl
+no_end (c ∷ text) h = no_end_by c (ends_a_line c) refl text h (no_end text (tail_of c text h))
+  where
+    no_end_by : (c : ℕ) (b : Bool) → ends_a_line c ≡ b → (text : List ℕ) → IsInLine (c ∷ text) → position_or_len ends_a_line text ≡ length text → position_or_len ends_a_line (c ∷ text) ≡ suc (length text)
+    no_end_by c true e text h is = absurd (let f : true ≡ false = rw e at h in cc)
+    no_end_by c false e text h is = rw e (rw is (omega arith))
+
+-- a text without an LF gives nothing
+pub found_none : (place : ℕ) (text : List ℕ) → IsInLine text → found place text ≡ None
+found_none place [] h = in_none 0 place
+found_none place (c ∷ text) h =
+    let long = length (c ∷ text) in
+    let less : nat_lt long long ≡ false = grind (arith, nat_tests) in
+    let none : position ends_a_line (c ∷ text) ≡ None = rw (no_end (c ∷ text) h) (rw less refl) in
+    in_step (length text) place (c ∷ text)
+    ∙ ap (start_by_line place (starts_with nat_eq (c ∷ text) (codes "text ")) (λ size. text_start_in (length text) (place + size) (drop size (c ∷ text)))) none
 
 -- what a line gives
 pub found_line : (place : ℕ) (line rest : List ℕ) → IsInLine line

@@ -8,10 +8,12 @@ use Rattle.tdf_save.proofs.Lines.{Passes, found, found_line, passes_both, passes
 use Rattle.tdf_save.proofs.LineOnes.{one_is}
 use Rattle.tdf_save.proofs.Numerals.{IsCarry, none_in}
 use Rattle.tdf_save.proofs.Starts.{start_whole}
-use Rattle.tdf_save.specs.Laws.{AreInLines, FindsText, IsClusterInLine, IsInLine}
+use Rattle.tdf_save.proofs.TextStarts.{found_start}
+use Rattle.tdf_save.specs.Laws.{AreInLines, FindsText, IsClusterInLine}
 use Rattle.tdf_save.specs.Members.{AreNums, BlockMembersOf, ClusterMembersOf, IsClusterFor, IsColumnInRange, IsCount32, IsCount64, IsKernelFor, IsModuleFor, IsNum, IsPendingFor, IsSnapshotFor, IsStampInRange, MembersOf, ModuleMembersOf}
-use Rattle.tdf_save.specs.Start.{ends_a_line, text_start_of}
+use Rattle.tdf_save.specs.Start.{IsInLine, ends_a_line}
 use Rattle.tdf_save.specs.Text.{accept_word, saved_block, carry_word, saved_cluster, saved_column, each_text, saved_edge, saved_kernel, kind_word, saved_later, saved_model, saved_module, saved_pending, saved_sample, saved_head, saved_line, saved_text, saved_value}
+use Rattle.tdf_save.specs.machine.Start.{text_start_of}
 use Rattle.tdf_saved.specs.State.{ModuleStateOf, ClusterStateOf, KernelStateOf, ColumnStateOf, SnapshotOf}
 use Rattle.tdf_saved.specs.declared.state.Pending.{Pending}
 use Rattle.tdf_saved.specs.declared.state.Stamp.{Stamp}
@@ -193,4 +195,4 @@ finds_text m model s g h small =
     start_whole (saved_text m model s) ∙ ap (found 0) whole ∙ front_passes m s g h 0 (saved_model model) ∙ ap (λ n. found n (saved_model model)) none ∙ model_found (length front) model small in
     let rest : drop place (saved_text m model s) ≡ model =
     ap (drop place) whole ∙ drop_front front (saved_model model) (length line + 1) ∙ ap (drop (length line + 1)) (model_is model) ∙ drop_line line model in
-    (place, at, rest)
+    (place, found_start (saved_text m model s) place at, rest)

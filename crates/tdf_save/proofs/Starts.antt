@@ -2,7 +2,8 @@
 use Rattle.std.proofs.Common.{◌≡◌, ℕ, suc, ◌+◌, ◌-◌, ◌<◌, ◌≤◌, nat_eq, List, length, drop, refl, arith, None, codes}
 use Rattle.std.proofs.lemmas.List.{take_rest}
 use Rattle.std.specs.List.{position, starts_with}
-use Rattle.tdf_save.specs.Start.{ends_a_line, start_by_line, text_start_in, text_start_of}
+use Rattle.tdf_save.specs.Start.{ends_a_line}
+use Rattle.tdf_save.specs.machine.Start.{start_by_line, text_start_in, text_start_of}
 
 pub start_whole : (text : List ℕ) → text_start_of text ≡ text_start_in (length text) 0 text
 unfolding text_start_of

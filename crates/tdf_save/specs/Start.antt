@@ -1,28 +1,38 @@
 -- Where the text of the model begins in the text of a snapshot.
 -- Source: own.
-use Rattle.std.specs.Prelude.{ℕ, zero, suc, ◌+◌, Bool, nat_eq, List, drop, codes, length}
-use Rattle.std.specs.Prelude.{Option, Some, None, if◌then◌else◌}
-use Rattle.std.specs.List.{position, starts_with}
+use Rattle.std.specs.Prelude.{◌≡◌, ℕ, ◌+◌, Bool, true, false, nat_eq, List, [], ◌∷◌, ◌++◌, codes, length}
+use Rattle.std.specs.List.{AllByRecursion, flat_map, list_any, starts_with}
 
 abbrev pub ends_a_line : ℕ → Bool
 ends_a_line byte = nat_eq byte 10
 
--- what comes of the first line, which ends before byte `end`: if it is that of the text, the place
--- after it, and else what the later lines give; none where no line ends
-abbrev pub start_by_line : (place : ℕ) → (is_text : Bool) → (later : ℕ → Option ℕ)
-    → (end : Option ℕ) → Option ℕ
-start_by_line place is_text later None = None
-start_by_line place is_text later (Some end) =
-    if is_text then Some (place + (end + 1)) else later (end + 1)
+-- bytes without an LF
+abbrev pub IsInLine : List ℕ → Type 0
+IsInLine line = list_any ends_a_line line ≡ false
 
--- the place after the first line that begins with `text `, where the text stands at a place, and
--- has no more lines than `room`
-unfoldable pub text_start_in : (room : ℕ) → (place : ℕ) → List ℕ → Option ℕ
-text_start_in zero place text = None
-text_start_in (suc room) place text =
-    start_by_line place (starts_with nat_eq text (codes "text "))
-    (λ size. text_start_in room (place + size) (drop size text)) (position ends_a_line text)
+abbrev pub names_text : (line : List ℕ) → Bool
+names_text line = starts_with nat_eq line (codes "text ")
 
--- none where there is no such line, or it doesn't end with LF
-unfoldable pub text_start_of : List ℕ → Option ℕ
-text_start_of text = text_start_in (length text) 0 text
+-- a line that begins with `text `
+pub record IsTextLine (line : List ℕ) : Type 0 where
+  pub plain : IsInLine line
+  pub names : names_text line ≡ true
+
+-- a line that begins otherwise
+pub record IsOtherLine (line : List ℕ) : Type 0 where
+  pub plain : IsInLine line
+  pub names : names_text line ≡ false
+
+-- lines, each ended by LF
+abbrev pub ended : List (List ℕ) → List ℕ
+ended lines = flat_map (λ line. line ++ 10 ∷ []) lines
+
+-- `place` is the one after the first line that begins with `text `, where that ends with LF
+pub record IsTextStart (text : List ℕ) (place : ℕ) : Type 0 where
+  pub before : List (List ℕ)
+  pub line : List ℕ
+  pub rest : List ℕ
+  pub is : text ≡ ended before ++ (line ++ (10 ∷ rest))
+  pub others : AllByRecursion IsOtherLine before
+  pub own : IsTextLine line
+  pub after : place ≡ length (ended before) + (length line + 1)
