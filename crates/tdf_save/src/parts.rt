@@ -5,9 +5,7 @@ ghost use Rattle.std.specs.Prelude.{◌≡◌, ◌++◌, [], OnOk, codes, length
 ghost use Rattle.tdf_save.specs.Text.{accept_word, saved_block, saved_cluster, each_text, saved_edge, saved_kernel, saved_module, saved_pending, saved_value};
 
 use crate::members::{BlockMembers, ClusterMembers, Members, ModuleMembers};
-use crate::words::{
-    push_cells_line, push_nums_line, push_pair, push_rates_line, push_steps_line, push_two_numbers,
-};
+use crate::words::{push_numbers_line, push_pair, push_path_line, push_two_numbers};
 use itoa::Buffer;
 use tdf_base::Memory;
 use tdf_saved::{ClusterState, KernelState, ModuleState, Pending};
@@ -24,9 +22,9 @@ fn push_module(out: &mut Vec<u8>, member: &ModuleMembers, state: &ModuleState) -
     ensures kept { take (length out.old.items) out.new.items ≡ out.old.items }
 {
     push_pair(out, b"module", &member.path, accept_word(state.accept))?;
-    push_rates_line(out, &state.rates)?;
-    push_steps_line(out, &state.steps)?;
-    push_cells_line(out, &state.cells)
+    push_numbers_line(out, b"rates", &state.rates)?;
+    push_numbers_line(out, b"steps", &state.steps)?;
+    push_numbers_line(out, b"cells", &state.cells)
 }
 
 #[tactic(auto, using(crate::proofs::Each::each_laws))]
@@ -50,7 +48,7 @@ fn push_edge(out: &mut Vec<u8>, path: &[u8], nums: &[i128]) -> Result<(), Memory
     ensures ok { OnOk result (out.new.items ≡ out.old.items ++ saved_edge path.now nums.now) }
     ensures kept { take (length out.old.items) out.new.items ≡ out.old.items }
 {
-    push_nums_line(out, b"edge", path, nums)
+    push_path_line(out, b"edge", path, nums)
 }
 
 #[tactic(auto, using(crate::proofs::Each::each_laws))]
@@ -120,7 +118,7 @@ fn push_block(out: &mut Vec<u8>, member: &BlockMembers, nums: &[i128]) -> Result
     ensures ok { OnOk result (out.new.items ≡ out.old.items ++ saved_block member.now nums.now) }
     ensures kept { take (length out.old.items) out.new.items ≡ out.old.items }
 {
-    push_nums_line(out, b"block", &member.path, nums)
+    push_path_line(out, b"block", &member.path, nums)
 }
 
 #[tactic(auto, using(crate::proofs::Each::each_laws))]

@@ -1,10 +1,9 @@
 //! Words, each after one space, and lines of them.
 
-ghost use Rattle.std.specs.Prelude.{◌≡◌, ◌++◌, ◌∷◌, [], OnOk, codes, decimal, length, map, take};
-ghost use Rattle.std.specs.Fmt.{signed_decimal};
+ghost use Rattle.std.specs.Prelude.{◌≡◌, ◌++◌, ◌∷◌, [], OnOk, decimal, length, map, take};
 ghost use Rattle.tdf_save.specs.Text.{after_spaces, saved_line};
 
-use itoa::Buffer;
+use itoa::{Buffer, Integer};
 use tdf_base::{Memory, push_word};
 
 /// Appends a word after one space.
@@ -88,9 +87,9 @@ pub(crate) fn push_three_numbers(
 
 /// Appends numbers, each after one space.
 #[tactic(auto, using(crate::proofs::WordLists::list_laws))]
-fn push_rates(out: &mut Vec<u8>, numbers: &[u32]) -> Result<(), Memory>
+fn push_numbers<N: Integer>(out: &mut Vec<u8>, numbers: &[N]) -> Result<(), Memory>
     ensures ok { OnOk result (out.new.items ≡ out.old.items
-        ++ after_spaces (map decimal numbers.now)) }
+        ++ after_spaces (map N.text numbers.now)) }
     ensures kept { take (length out.old.items) out.new.items ≡ out.old.items }
 {
     for k in 0..numbers.len() {
@@ -99,91 +98,36 @@ fn push_rates(out: &mut Vec<u8>, numbers: &[u32]) -> Result<(), Memory>
     Ok(())
 }
 
-/// Appends numbers, each after one space.
-#[tactic(auto, using(crate::proofs::WordLists::list_laws))]
-fn push_steps(out: &mut Vec<u8>, numbers: &[u64]) -> Result<(), Memory>
-    ensures ok { OnOk result (out.new.items ≡ out.old.items
-        ++ after_spaces (map decimal numbers.now)) }
-    ensures kept { take (length out.old.items) out.new.items ≡ out.old.items }
-{
-    for k in 0..numbers.len() {
-        push_spaced(out, Buffer::new().format(numbers[k]).as_bytes())?;
-    }
-    Ok(())
-}
-
-/// Appends a number after one space.
-#[tactic(auto, using(crate::proofs::WordLists::word_laws))]
-fn push_num(out: &mut Vec<u8>, num: &i128) -> Result<(), Memory>
-    ensures ok { OnOk result (out.new.items ≡ out.old.items ++ 32 ∷ signed_decimal num.now) }
-    ensures kept { take (length out.old.items) out.new.items ≡ out.old.items }
-{
-    push_spaced(out, Buffer::new().format(*num).as_bytes())
-}
-
-/// Appends numbers, each after one space.
-#[tactic(auto, using(crate::proofs::WordLists::list_laws))]
-pub(crate) fn push_nums(out: &mut Vec<u8>, numbers: &[i128]) -> Result<(), Memory>
-    ensures ok { OnOk result (out.new.items ≡ out.old.items
-        ++ after_spaces (map signed_decimal numbers.now)) }
-    ensures kept { take (length out.old.items) out.new.items ≡ out.old.items }
-{
-    for k in 0..numbers.len() {
-        push_num(out, &numbers[k])?;
-    }
-    Ok(())
-}
-
-/// Appends the line of some rates.
+/// Appends a line of numbers after its keyword.
 #[tactic(auto, using(crate::proofs::WordLists::line_laws))]
-pub(crate) fn push_rates_line(out: &mut Vec<u8>, numbers: &[u32]) -> Result<(), Memory>
+pub(crate) fn push_numbers_line<N: Integer>(
+    out: &mut Vec<u8>,
+    keyword: &[u8],
+    numbers: &[N],
+) -> Result<(), Memory>
     ensures ok { OnOk result (out.new.items ≡ out.old.items
-        ++ saved_line (codes "rates") (map decimal numbers.now)) }
+        ++ saved_line keyword.now (map N.text numbers.now)) }
     ensures kept { take (length out.old.items) out.new.items ≡ out.old.items }
 {
-    push_word(out, b"rates")?;
-    push_rates(out, numbers)?;
+    push_word(out, keyword)?;
+    push_numbers(out, numbers)?;
     push_word(out, b"\n")
 }
 
-/// Appends the line of some timesteps.
+/// Appends a line of a path and numbers after its keyword.
 #[tactic(auto, using(crate::proofs::WordLists::line_laws))]
-pub(crate) fn push_steps_line(out: &mut Vec<u8>, numbers: &[u64]) -> Result<(), Memory>
-    ensures ok { OnOk result (out.new.items ≡ out.old.items
-        ++ saved_line (codes "steps") (map decimal numbers.now)) }
-    ensures kept { take (length out.old.items) out.new.items ≡ out.old.items }
-{
-    push_word(out, b"steps")?;
-    push_steps(out, numbers)?;
-    push_word(out, b"\n")
-}
-
-/// Appends a line of numbers.
-#[tactic(auto, using(crate::proofs::WordLists::line_laws))]
-pub(crate) fn push_cells_line(out: &mut Vec<u8>, numbers: &[i128]) -> Result<(), Memory>
-    ensures ok { OnOk result (out.new.items ≡ out.old.items
-        ++ saved_line (codes "cells") (map signed_decimal numbers.now)) }
-    ensures kept { take (length out.old.items) out.new.items ≡ out.old.items }
-{
-    push_word(out, b"cells")?;
-    push_nums(out, numbers)?;
-    push_word(out, b"\n")
-}
-
-/// Appends a line of a path and numbers.
-#[tactic(auto, using(crate::proofs::WordLists::line_laws))]
-pub(crate) fn push_nums_line(
+pub(crate) fn push_path_line<N: Integer>(
     out: &mut Vec<u8>,
     keyword: &[u8],
     path: &[u8],
-    numbers: &[i128],
+    numbers: &[N],
 ) -> Result<(), Memory>
     ensures ok { OnOk result (out.new.items ≡ out.old.items
-        ++ saved_line keyword.now (path.now ∷ map signed_decimal numbers.now)) }
+        ++ saved_line keyword.now (path.now ∷ map N.text numbers.now)) }
     ensures kept { take (length out.old.items) out.new.items ≡ out.old.items }
 {
     push_word(out, keyword)?;
     push_spaced(out, path)?;
-    push_nums(out, numbers)?;
+    push_numbers(out, numbers)?;
     push_word(out, b"\n")
 }
