@@ -6,8 +6,8 @@ use Rattle.std.specs.Option.{MatchOption}
 use Rattle.tdf_save.proofs.Api.{cancel, line_end, line_is, more_is, two_is}
 use Rattle.tdf_save_reading.proofs.ReadSteps.{along_none, along_piece, pre_absent, pre_none, pre_piece}
 use Rattle.tdf_save.specs.Text.{accept_word, after_spaces, saved_edge, saved_line}
-use Rattle.tdf_save_reading.specs.declared.err.StateErr.{StateErr}
-use Rattle.tdf_save_reading.specs.declared.err.StateErr.TheVariants.{Bad, Memory}
+use Rattle.tdf_saved.specs.declared.err.StateErr.{StateErr}
+use Rattle.tdf_saved.specs.declared.err.StateErr.TheVariants.{Bad, Memory}
 use Rattle.tdf_save_reading.specs.machine.Lists.{list_text}
 use Rattle.tdf_save.specs.machine.Pieces.{AnyFlag, Any}
 use Rattle.tdf_save_reading.specs.machine.Pieces.{IsPiece, IsStateRefusal, NoPiece}

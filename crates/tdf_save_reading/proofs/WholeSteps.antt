@@ -10,8 +10,8 @@ use Rattle.tdf_save_reading.proofs.HeadSteps.{kind_text_one, run_text_one}
 use Rattle.tdf_save_reading.proofs.ModuleReads.{last_text}
 use Rattle.tdf_save_reading.proofs.ReadSteps.{along_none, along_piece, no_first, no_second, pair_piece}
 use Rattle.tdf_save_reading.specs.Reading.{IsSavedText}
-use Rattle.tdf_save_reading.specs.declared.err.StateErr.{StateErr}
-use Rattle.tdf_save_reading.specs.declared.err.StateErr.TheVariants.{Bad, Memory}
+use Rattle.tdf_saved.specs.declared.err.StateErr.{StateErr}
+use Rattle.tdf_saved.specs.declared.err.StateErr.TheVariants.{Bad, Memory}
 use Rattle.tdf_save_reading.specs.declared.head.Run.{Run}
 use Rattle.tdf_save_reading.specs.machine.Heads.{IsModelPart, IsRunInRange, front_text, kind_text, run_text}
 use Rattle.tdf_save_reading.specs.machine.Pieces.{IsPiece, IsStateRefusal, NoPiece}

@@ -7,14 +7,13 @@ ghost use Rattle.tdf_save.specs.Text.{saved_cluster, each_text, saved_line};
 ghost use Rattle.tdf_save.specs.machine.Pieces.{Any};
 ghost use Rattle.tdf_save_reading.specs.machine.Pieces.{IsPiece, IsStateRefusal, NoPiece};
 
-use crate::err::StateErr;
 use crate::lists::put;
 use crate::modules::{read_edges, read_modules};
 use crate::numbers::{cut_path, last_count};
 use itoa::Buffer;
 use std::alloc::Global;
 use tdf_save::ClusterMembers;
-use tdf_saved::ClusterState;
+use tdf_saved::{ClusterState, StateErr};
 
 /// When the period of a cluster began.
 fn read_start<'t>(number: u32, text: &'t [u8]) -> Option<(u64, &'t [u8])>

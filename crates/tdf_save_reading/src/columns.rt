@@ -8,11 +8,10 @@ ghost use Rattle.tdf_save.specs.Text.{carry_word, each_text, saved_column, saved
 ghost use Rattle.tdf_save.specs.machine.Pieces.{Any, IsNext, begins_with_byte};
 ghost use Rattle.tdf_save_reading.specs.machine.Pieces.{HasCarry, IsPiece, IsStateRefusal, NoPiece, NoSample};
 
-use crate::err::StateErr;
 use crate::lists::{begins_with, is_next, put};
 use crate::numbers::{cut, cut_path, last_num, spaced_count};
 use std::alloc::Global;
-use tdf_saved::{ColumnState, Stamp};
+use tdf_saved::{ColumnState, Stamp, StateErr};
 
 /// A number at its time.
 fn read_sample<'t>(text: &'t [u8]) -> Option<(Stamp, &'t [u8])>

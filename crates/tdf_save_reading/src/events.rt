@@ -8,13 +8,12 @@ ghost use Rattle.tdf_save.specs.machine.Pieces.{Any, IsNext};
 ghost use Rattle.tdf_save_reading.specs.machine.Events.{Blank, IsEvent, IsNotice, IsPlaceFor, event_name, place_text};
 ghost use Rattle.tdf_save_reading.specs.machine.Pieces.{IsPiece, IsStateRefusal, NoPiece};
 
-use crate::err::StateErr;
 use crate::lists::{begins_with, is_next, put};
 use crate::numbers::{cut, last_count};
 use crate::places::{likely_place, places_of};
 use indexmap::IndexSet;
 use std::alloc::Global;
-use tdf_saved::Pending;
+use tdf_saved::{Pending, StateErr};
 
 /// What comes after a name that a space ends; none where the text begins otherwise.
 fn cut_name<'t>(text: &'t [u8], name: &[u8]) -> Option<&'t [u8]>

@@ -6,12 +6,11 @@ ghost use Rattle.tdf_save.specs.Text.{saved_kernel};
 ghost use Rattle.tdf_save.specs.machine.Pieces.{IsNext};
 ghost use Rattle.tdf_save_reading.specs.machine.Pieces.{IsPiece, IsStateRefusal, NoPiece};
 
-use crate::err::StateErr;
 use crate::events::read_notices;
 use crate::values::{read_blocks, read_values};
 use std::alloc::Global;
 use tdf_save::Members;
-use tdf_saved::KernelState;
+use tdf_saved::{KernelState, StateErr};
 
 /// The state of the event kernel.
 pub(crate) fn read_kernel<'t>(

@@ -4,12 +4,10 @@
 //! - `head`, `clusters`, `kernel`, `columns`: its parts. `modules`, `values` and `events` read what they consist of.
 //! - `places`: where the event of a notification is likely to stand among the events.
 //! - `lists`, `numbers`: lists of numbers up to the end of their line, and numbers.
-//! - `err`: why a text is that of no snapshot.
 #![tactic(auto)]
 
 mod clusters;
 mod columns;
-mod err;
 mod events;
 mod head;
 mod kernel;
@@ -20,5 +18,4 @@ mod places;
 mod snapshot;
 mod values;
 
-pub use err::StateErr;
 pub use snapshot::read_snapshot;

@@ -9,9 +9,9 @@ ghost use Rattle.tdf_save_reading.specs.machine.Lists.{list_text};
 ghost use Rattle.tdf_save.specs.machine.Pieces.{Any, IsNext, begins_with_byte};
 ghost use Rattle.tdf_save_reading.specs.machine.Pieces.{IsPiece, IsStateRefusal, NoPiece, IsWant};
 
-use crate::err::StateErr;
 use crate::numbers::{cut, spaced_count, spaced_num, spaced_rate};
 use std::alloc::Global;
+use tdf_saved::StateErr;
 
 /// Whether a text begins with a byte.
 pub(crate) fn begins_with(text: &[u8], byte: u8) -> bool

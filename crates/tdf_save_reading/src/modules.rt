@@ -8,12 +8,11 @@ ghost use Rattle.tdf_save_reading.specs.machine.Modules.{HasCounts, IsModuleInRa
 ghost use Rattle.tdf_save.specs.machine.Pieces.{Any, AnyFlag};
 ghost use Rattle.tdf_save_reading.specs.machine.Pieces.{IsPiece, IsStateRefusal, NoPiece};
 
-use crate::err::StateErr;
 use crate::lists::{nums_line, put, rates_line, read_nums, steps_line};
 use crate::numbers::{cut_path, last_flag};
 use std::alloc::Global;
 use tdf_save::ModuleMembers;
-use tdf_saved::ModuleState;
+use tdf_saved::{ModuleState, StateErr};
 
 /// Whether the module accepts changes.
 fn read_title<'t>(path: &[u8], text: &'t [u8]) -> Option<(bool, &'t [u8])>

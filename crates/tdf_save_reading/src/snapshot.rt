@@ -4,20 +4,19 @@ ghost use Rattle.std.specs.Prelude.{◌≡◌, ◌⊎◌, true, false, IfErr, If
 ghost use Rattle.tdf_save.specs.Members.{AreNamesApart, IsSnapshotFor};
 ghost use Rattle.tdf_save.specs.machine.Pieces.{IsNext};
 ghost use Rattle.tdf_save_reading.specs.Reading.{IsSavedText};
-ghost use Rattle.tdf_save_reading.specs.declared.err.StateErr.TheVariants.{Bad, Memory};
+ghost use Rattle.tdf_saved.specs.declared.err.StateErr.TheVariants.{Bad, Memory};
 ghost use Rattle.tdf_save_reading.specs.machine.Heads.{IsModelPart, front_text};
 ghost use Rattle.tdf_save_reading.specs.machine.Pieces.{IsPiece, IsStateRefusal, NoPiece};
 ghost use Rattle.tdf_saved.specs.State.{SnapshotOf};
 
 use crate::clusters::read_clusters;
 use crate::columns::read_columns;
-use crate::err::StateErr;
 use crate::head::{Run, read_kind, read_run};
 use crate::kernel::read_kernel;
 use crate::numbers::{cut, last_count};
 use std::alloc::Global;
 use tdf_save::Members;
-use tdf_saved::{ClusterState, ColumnState, KernelState, Snapshot};
+use tdf_saved::{ClusterState, ColumnState, KernelState, Snapshot, StateErr};
 
 fn assembled(
     vcd: bool,

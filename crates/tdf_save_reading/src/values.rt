@@ -8,11 +8,11 @@ ghost use Rattle.tdf_save.specs.Text.{each_text, saved_block, saved_line, saved_
 ghost use Rattle.tdf_save.specs.machine.Pieces.{Any};
 ghost use Rattle.tdf_save_reading.specs.machine.Pieces.{IsPiece, IsStateRefusal, NoPiece};
 
-use crate::err::StateErr;
 use crate::lists::{put, read_nums};
 use crate::numbers::{cut_path, last_num};
 use std::alloc::Global;
 use tdf_save::BlockMembers;
+use tdf_saved::StateErr;
 
 /// The value of an event signal.
 fn read_value<'t>(path: &[u8], text: &'t [u8]) -> Option<(i128, &'t [u8])>

@@ -3,8 +3,8 @@
 use Rattle.std.specs.Prelude.{◌≡◌, ℕ, ℤ, Option, IfSome, false, List, ◌++◌}
 use Rattle.tdf_save.specs.Members.{IsNum}
 use Rattle.tdf_save.specs.machine.Pieces.{Any, begins_with_byte}
-use Rattle.tdf_save_reading.specs.declared.err.StateErr.{StateErr}
-use Rattle.tdf_save_reading.specs.declared.err.StateErr.TheVariants.{Bad, Memory}
+use Rattle.tdf_saved.specs.declared.err.StateErr.{StateErr}
+use Rattle.tdf_saved.specs.declared.err.StateErr.TheVariants.{Bad, Memory}
 
 -- a text begins with that of v, which fits, and `ends` holds of what comes after it
 pub record IsPiece {V : Type 0} (text : V → List ℕ) (fits : V → Type 0) (ends : List ℕ → Type 0)

@@ -1,12 +1,12 @@
-//! Why a text is that of no snapshot.
+//! Why no part of a run goes on from a state.
 
 use tdf_base::Memory;
 use thiserror::Error;
 
-/// Why there is no snapshot.
+/// Why nothing is made of a state.
 #[derive(Clone, Copy, Debug, Drop, Error, PartialEq, Eq)]
 pub enum StateErr {
-    /// The text is that of no snapshot of the model.
+    /// It is no state of this model.
     #[error("bad state")]
     Bad,
     /// Out of memory.
@@ -16,7 +16,7 @@ pub enum StateErr {
 
 impl From<Memory> for StateErr {
     ghost use Rattle.std.specs.Prelude.{◌≡◌};
-    ghost use Rattle.tdf_save_reading.specs.declared.err.StateErr.TheVariants as why;
+    ghost use Rattle.tdf_saved.specs.declared.err.StateErr.TheVariants as why;
 
     ghost from_gives = { λ _ e. e ≡ why.Memory };
 
