@@ -3,6 +3,7 @@
 ghost use Rattle.std.specs.Prelude.{◌≡◌, ◌-◌, ◌≤◌, MatchOption};
 
 use crate::over::Over;
+use crate::overflows::{highest, lowest};
 use crate::quant::Quant;
 
 /// A fixed-point format: `wl` bits in all, `iwl` of them before the binary point, so the last place is `2^(iwl-wl)`.
@@ -26,7 +27,8 @@ pub struct Format {
 
 impl Format {
     ghost use Rattle.tdf_fixed.specs.Cast.{IsLegal};
-    ghost use Rattle.std.specs.Prelude.{◌↔◌, IsSome, IfSome};
+    ghost use Rattle.tdf_fixed.specs.Overflow.{IsOfWidth};
+    ghost use Rattle.std.specs.Prelude.{◌↔◌, IsSome, IfSome, true};
 
     /// The format of these parts. `None` exactly where not `1 <= wl <= 64`, not `iwl <= wl`, or `wl - iwl > 63`.
     pub fn new(signed: bool, wl: u32, iwl: u32, quant: Quant, over: Over) -> Option<Format>
@@ -82,5 +84,12 @@ impl Format {
         ensures { result ≡ self.now.over }
     {
         self.over
+    }
+
+    /// Whether a number, in units of the last place, lies in the range of the format.
+    pub fn holds(&self, num: i128) -> bool
+        ensures { (result ≡ true) ↔ IsOfWidth self.now.signed self.now.wl num }
+    {
+        lowest(self.signed, self.wl) <= num && num <= highest(self.signed, self.wl)
     }
 }

@@ -6,14 +6,16 @@ ghost use Rattle.tdf_fixed.specs.Overflow.{least, most, least_symmetric, wrapped
 use crate::over::Over;
 use crate::rounding::part;
 
-fn lowest(signed: bool, wl: u32) -> i128
+/// The least number of a range.
+pub(crate) fn lowest(signed: bool, wl: u32) -> i128
     requires { (1 ≤ wl) × (wl ≤ 64) }
     ensures { result ≡ least signed wl }
 {
     if signed { -(1 << (wl - 1)) } else { 0 }
 }
 
-fn highest(signed: bool, wl: u32) -> i128
+/// The greatest number of a range.
+pub(crate) fn highest(signed: bool, wl: u32) -> i128
     requires { (1 ≤ wl) × (wl ≤ 64) }
     ensures { result ≡ most signed wl }
 {
