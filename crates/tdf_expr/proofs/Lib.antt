@@ -4,6 +4,7 @@ pub mod Declared
 pub mod Finely
 pub mod Fitting
 pub mod Framed
+pub mod Held
 pub mod Listed
 pub mod Planned
 pub mod Ported

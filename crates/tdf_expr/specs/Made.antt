@@ -2,11 +2,13 @@
 use Rattle.std.specs.Prelude.{◌≡◌, ℕ, ◌<◌, List, [], length, map, Option, Some, None, ℤ, slice_get}
 use Rattle.tdf_expr.specs.Checked.{IsChecked}
 use Rattle.tdf_expr.specs.Frames.{FrameSeen, PortsSeen}
+use Rattle.tdf_expr.specs.Plans.{shape_written}
 use Rattle.tdf_expr.specs.declared.blocks.Block.{Block}
 use Rattle.tdf_expr.specs.declared.checked.Checked.{Checked}
 use Rattle.tdf_expr.specs.declared.spans.PortSpan.{PortSpan}
 use Rattle.tdf_expr.specs.declared.spans.RateSpan.{RateSpan}
 use Rattle.tdf_fixed.specs.declared.format.Format.{Format}
+use Rattle.tdf_expr_semantics.specs.Fits.{NumbersFit}
 
 abbrev pub block_count : Checked → ℕ
 block_count checked = length checked.blocks.items
@@ -38,6 +40,10 @@ events_in (Some b) = b.events
 -- the format of each variable and element, in order of declaration, and the value it starts with
 abbrev pub cell_formats : Checked → ℕ → List Format
 cell_formats checked number = formats_in (slice_get checked.blocks.items number)
+
+-- as many numbers as it has variables and elements, each in the range of its format
+abbrev pub CellsFit : Checked → (number : ℕ) → List ℤ → Type 0
+CellsFit checked number nums = NumbersFit (map shape_written (cell_formats checked number)) nums
 
 abbrev pub start_cells : Checked → ℕ → List ℤ
 start_cells checked number = starts_in (slice_get checked.blocks.items number)

@@ -36,6 +36,8 @@ ghost use Rattle.std.specs.Prelude.{◌≡◌, ◌<◌, ◌≤◌, ◌^◌, map,
 ghost use Rattle.tdf_expr.specs.Checked.{IsChecked};
 ghost use Rattle.tdf_expr.specs.Frames.{IsAllowedRate};
 ghost use Rattle.tdf_expr.specs.Made.{block_count, cell_formats, rate_spans_of, start_cells, start_rates};
+ghost use Rattle.tdf_expr.specs.Plans.{shape_written};
+ghost use Rattle.tdf_expr_semantics.specs.Fits.{NumbersFit};
 ghost use Rattle.tdf_expr.specs.declared.spans.RateSpan.{RateSpan as RateSpanOf};
 ghost use Rattle.tdf_fixed.specs.Cast.{fraction_of};
 ghost use Rattle.tdf_fixed.specs.Overflow.{IsOfWidth};
@@ -115,6 +117,23 @@ impl Frame {
         } }
     {
         self.cells.set_cell(i as usize, num);
+    }
+
+    /// The values of all variables and elements, in order of declaration, each in units of the last place of its format.
+    pub fn nums(&self) -> &[i128]
+        ensures { result.now ≡ self.now.state.cells }
+    {
+        self.cells.cells()
+    }
+
+    /// Sets all variables and elements.
+    pub fn set_cells(&mut self, nums: &[i128])
+        requires { NumbersFit (map shape_written self.old.formats) nums.now }
+        ensures { self.new ≡ record self.old {
+          state = record self.old.state { cells = nums.now };
+        } }
+    {
+        self.cells.set_cells(nums);
     }
 
     /// The value of a rate variable.

@@ -5,6 +5,7 @@
 //! - `modules`: how they are compiled.
 //! - `runs`: how bodies run.
 //! - `frames`: the values of an instance of a block.
+//! - `holding`: whether numbers can be the values of a block.
 //! - `samples`: the samples of its ports, and what its bodies asked for.
 //! - `cells`, `rates`, `ports`, `events`, `spans`: what the values of a block look like.
 #![tactic(auto)]
@@ -16,6 +17,7 @@ mod checked;
 mod checking;
 mod events;
 mod frames;
+mod holding;
 mod modules;
 mod ports;
 mod rates;

@@ -73,6 +73,14 @@ impl Cells {
         self.cells[place] = num;
     }
 
+    /// Sets all values, in order of declaration.
+    pub fn set_cells(&mut self, nums: &[i128])
+        requires { length nums.now ≡ length self.old.cells }
+        ensures { self.new ≡ record self.old { cells = nums.now } }
+    {
+        self.cells.copy_from_slice(nums);
+    }
+
     /// Sets a rate variable.
     #[inline]
     pub fn set_rate(&mut self, number: usize, value: u32)
