@@ -121,6 +121,13 @@ impl Calendar {
         }
     }
 
+    /// How many events there are.
+    pub fn len(&self) -> usize
+        ensures { result ≡ length self.now }
+    {
+        self.times.len()
+    }
+
     /// The pending time of an event.
     pub fn time(&self, event: u32) -> Option<u64>
         requires { event < length self.now }
