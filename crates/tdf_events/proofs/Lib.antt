@@ -10,4 +10,8 @@ pub mod Settles
 pub mod Dues
 pub mod Begun
 pub mod Afterwards
+pub mod Fits
+pub mod Resumed
+pub mod Onward
+pub mod Returning
 pub mod Api

@@ -21,13 +21,13 @@ use Rattle.tdf_expr_state.specs.State.{FrameState}
 use Rattle.tdf_bind_connections.specs.ProcessBlocks.{BlockRowOf, ProcessRowOf}
 use Rattle.tdf_bind_connections.specs.declared.drivers.SignalRow.{SignalRow}
 
-abbrev no_frame : FrameState
+abbrev pub no_frame : FrameState
 no_frame = record { cells = []; rates = [] }
 
-abbrev seen : FrameSeen → FrameState
+abbrev pub seen : FrameSeen → FrameState
 seen f = f.state
 
-abbrev first_of : Checked → BlockRowOf → FrameState
+abbrev pub first_of : Checked → BlockRowOf → FrameState
 first_of checked row = record { cells = start_cells checked row.block; rates = start_rates checked row.block }
 
 frames_are : (checked : Checked) (rows : List BlockRowOf) (frames : List FrameSeen) → AreFrames checked rows (length rows) frames → map seen frames ≡ map (first_of checked) rows
@@ -54,7 +54,7 @@ pub record IsFresh (flat : Flat) (k : KernelOf) : Type 0 where
   pub own : (n : ℕ) → n < length flat.tables.blocks → list_at k.own_events n ≡ owned_events flat n
   pub going : k.spent ≡ false
 
-abbrev with : List Raw → List FrameState → NoticesOf → List Bool → List (Option Raw) → SideOf
+abbrev pub with : List Raw → List FrameState → NoticesOf → List Bool → List (Option Raw) → SideOf
 with values frames notices triggered waiting = record { values = values; frames = frames; notices = notices; triggered = triggered; waiting = waiting }
 
 pub fresh_side : (flat : Flat) (k : KernelOf) → IsFresh flat k → side_of k ≡ start_side flat

@@ -32,7 +32,7 @@ front_or_end (x ∷ xs) p zero k h = inl h
 front_or_end (x ∷ xs) p (suc j) k h = front_or_end xs p j k h
 
 -- an element of a list with one more at its end
-pushed : {X : Type 0} (xs : List X) (x : X) (k : ℕ) (y : X) → slice_get (xs ++ x ∷ []) k ≡ Some y → (slice_get xs k ≡ Some y) ⊎ ((k ≡ length xs) × (y ≡ x))
+pub pushed : {X : Type 0} (xs : List X) (x : X) (k : ℕ) (y : X) → slice_get (xs ++ x ∷ []) k ≡ Some y → (slice_get xs k ≡ Some y) ⊎ ((k ≡ length xs) × (y ≡ x))
 pushed [] x zero y h = inr (refl, sym (same_Some x y h))
 pushed [] x (suc k) y h = absurd cc
 pushed (z ∷ xs) x zero y h = inl h

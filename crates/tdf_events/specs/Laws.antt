@@ -1,5 +1,5 @@
 -- What holds of the event part of an instant and of the next time, so that instants can follow one
--- another.
+-- another; and of what goes on from a state.
 -- Source: IEEE 1666-2011, 4.2.1.2 to 4.2.1.5.
 use Rattle.std.specs.Prelude.{◌≡◌, ◌<◌, ◌≤◌, ℕ, ◌+◌, ◌^◌, true, false, List, Option, Some, None, slice_index_or}
 use Rattle.tdf_events_queue.specs.Sets.{is_on}
@@ -8,8 +8,10 @@ use Rattle.tdf_convert.specs.declared.writes.SignalWrite.{SignalWrite}
 use Rattle.tdf_events.specs.Delta.{IsNoneBefore, event_part, is_idle}
 use Rattle.tdf_events.specs.Kernel.{IsNextOf}
 use Rattle.tdf_events.specs.Side.{SideOf, start_side}
+use Rattle.tdf_events.specs.State.{IsKernelState, kernel_state_of, resumed_side}
 use Rattle.tdf_bind.specs.declared.model.Flat.{Flat}
 use Rattle.tdf_lang_tree.specs.Pure.{PureTree}
+use Rattle.tdf_saved.specs.State.{KernelStateOf}
 
 -- no value waits for a signal, and no event has a delta notification
 pub record HasNothingWaiting (s : SideOf) : Type 0 where
@@ -77,3 +79,8 @@ NoneAtStart = (flat : Flat) → IsNonePending (start_side flat).notices.times
 abbrev pub NonePendingNoneBefore : Type 0
 NonePendingNoneBefore = (times : List (Option ℕ)) (time : ℕ) → IsNonePending times
     → IsNoneBefore time times
+
+-- what goes on from a state of a model has this state
+abbrev pub StatesAreKept : Type 0
+StatesAreKept = (flat : Flat) (time : ℕ) (s : KernelStateOf) → IsKernelState flat time s
+    → kernel_state_of (resumed_side flat time s) ≡ s

@@ -5,5 +5,6 @@ pub mod Notices
 pub mod Processes
 pub mod Runnable
 pub mod Side
+pub mod State
 pub mod machine
 pub mod views

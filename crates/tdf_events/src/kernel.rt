@@ -1,9 +1,9 @@
 //! The kernel and its calls.
 
-use crate::parts::Parts;
+use crate::parts::{Parts, parts_of};
 use std::marker::Model;
 
-/// The event side of a model while it runs. Only [`Kernel::new`] takes memory.
+/// The event side of a model while it runs. Its instants take no memory.
 #[derive(Drop)]
 pub struct Kernel {
     parts: Parts,
@@ -19,58 +19,27 @@ impl Model for Kernel {
     ghost view = { λ a. record (kernel_of a.parts) { spent = a.spent } };
 }
 
-ghost use Rattle.std.specs.Prelude.{◌≡◌, ◌<◌, ◌+◌, ◌^◌, IfOk, OnErr, OnOk, None, Some, false, true};
+ghost use Rattle.std.specs.Prelude.{◌≡◌, ◌<◌, ◌+◌, ◌^◌, Err, IfOk, OnErr, OnOk, None, Some, false, true};
 ghost use Rattle.tdf_events.specs.Delta.{AreWritesOf, IsNoneBefore, event_part};
 ghost use Rattle.tdf_events.specs.Kernel.{IsKernelOf, IsNextOf, side_of};
 ghost use Rattle.tdf_events.specs.Runnable.{IsRunnable, signal_formats};
 ghost use Rattle.tdf_events.specs.Side.{start_side};
-ghost use Rattle.tdf_events.specs.views.Parts.{kernel_of};
+ghost use Rattle.tdf_events.specs.State.{IsKernelState, kernel_state_of, resumed_side};
+ghost use Rattle.tdf_saved.specs.declared.err.StateErr.TheVariants as why;
 ghost use Rattle.tdf_expr.specs.Checked.{IsCheckedOf};
 ghost use Rattle.tdf_lang_tree.specs.Pure.{PureTree};
 
+use crate::fitting::is_state;
 use crate::instants::run_instant;
-use crate::making::{
-    by_event, by_signal, own_events, start_frames, start_ports, start_values, started,
-};
-use crate::notices::Notices;
+use crate::resuming::resumed_parts;
+use crate::state::{cells_of, nums_of, pending_of};
 use crate::turns::{Spent, Turns};
-use crate::waiting::Waiting;
 use std::alloc::Global;
 use tdf_base::Memory;
 use tdf_bind::Flat;
 use tdf_convert::SignalWrite;
 use tdf_fixed::Raw;
-
-/// The parts before the first instant.
-fn parts_of(alloc: Global, flat: &Flat) -> Result<Parts, Memory>
-    requires { IsRunnable flat.now }
-    ensures side { IfOk result (λ parts. side_of (kernel_of parts) ≡ start_side flat.now) }
-    ensures kernel { IfOk result (λ parts. IsKernelOf flat.now (kernel_of parts)) }
-{
-    let tables = &flat.tables;
-    let signals = tables.de_signals.len() as u32;
-    let events = tables.events.len() as u32;
-    let values = start_values(alloc, &tables.de_signals)?;
-    let frames = start_frames(alloc, &flat.checked, &tables.blocks)?;
-    let ports = start_ports(alloc, &flat.checked, &tables.blocks)?;
-    let notices = Notices::new(alloc, events)?;
-    let triggered = started(alloc, &tables.processes)?;
-    let waiting = Waiting::new(alloc, signals)?;
-    let by_signal = by_signal(alloc, signals, &tables.processes)?;
-    let by_event = by_event(alloc, events, &tables.processes)?;
-    let own_events = own_events(alloc, tables.blocks.len() as u32, &tables.events)?;
-    Ok(Parts {
-        values,
-        frames,
-        ports,
-        notices,
-        triggered,
-        waiting,
-        by_signal,
-        by_event,
-        own_events,
-    })
-}
+use tdf_saved::{KernelState, StateErr};
 
 impl Kernel {
     /// The event side before the first instant: starting values, declared states, nothing pending; the processes that
@@ -95,6 +64,58 @@ impl Kernel {
         ensures { result.now ≡ self.now.values }
     {
         &self.parts.values
+    }
+
+    /// What the kernel holds between two instants: the settled values, the cells of each instance of a block of processes,
+    /// and the pending notifications, by event.
+    ///
+    /// # Errors
+    /// Out of memory.
+    pub fn state(&self, alloc: Global) -> Result<KernelState, Memory>
+        requires going { self.now.spent ≡ false }
+        ensures { IfOk result (λ state. state ≡ kernel_state_of (side_of self.now)) }
+    {
+        let values = nums_of(alloc, &self.parts.values)?;
+        let blocks = cells_of(alloc, &self.parts.frames)?;
+        let pending = pending_of(alloc, &self.parts.notices)?;
+        Ok(KernelState {
+            values,
+            blocks,
+            pending,
+        })
+    }
+
+    /// The event side that goes on from a state at a time, before which every instant has happened; at time 0 the first
+    /// one is still to come.
+    ///
+    /// # Errors
+    /// `Bad` exactly where it is no state of the model at this time, or out of memory.
+    pub fn from_state(
+        alloc: Global,
+        flat: &Flat,
+        state: KernelState,
+        time: u64,
+    ) -> Result<Kernel, StateErr>
+        requires { IsRunnable flat.now }
+        ensures side { IfOk result (λ kernel. side_of kernel ≡ resumed_side flat.now time state) }
+        ensures kernel { IfOk result (IsKernelOf flat.now) }
+        ensures state { IfOk result (λ kernel. IsKernelState flat.now time state) }
+        ensures bad { result ≡ Err why.Bad → IsKernelState flat.now time state → ⊥ }
+        ensures bad_always { (IsKernelState flat.now time state → ⊥) → result ≡ Err why.Bad }
+    {
+        if !is_state(flat, &state, time) {
+            drop(state);
+            return Err(StateErr::Bad);
+        }
+        let resumed = resumed_parts(alloc, flat, &state, time);
+        drop(state);
+        match resumed {
+            Ok(parts) => Ok(Kernel {
+                parts,
+                spent: false,
+            }),
+            Err(Memory) => Err(StateErr::Memory),
+        }
     }
 
     /// The next time at which something is to be done: 0 where a process is to run at the start, else the least pending

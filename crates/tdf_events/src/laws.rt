@@ -1,6 +1,6 @@
-//! What holds of instants that follow one another: each function here only carries its clauses.
+//! What holds of instants that follow one another, and of states: each function here only carries its clauses.
 
-ghost use Rattle.tdf_events.specs.Laws.{EndsIdle, NextIsLater, NoneAtStart, NoneBeforeNext, NonePendingNoneBefore, NoneStaysBefore, NoneWithoutNext, NothingStaysWaiting, OnlyLaterStay, TurnsNeverGrow};
+ghost use Rattle.tdf_events.specs.Laws.{EndsIdle, NextIsLater, NoneAtStart, NoneBeforeNext, NonePendingNoneBefore, NoneStaysBefore, NoneWithoutNext, NothingStaysWaiting, OnlyLaterStay, StatesAreKept, TurnsNeverGrow};
 
 /// After the event part of an instant no process is triggered, nothing waits where nothing did
 /// before, the turns that are left are no more, and only later notifications are pending.
@@ -20,4 +20,9 @@ pub fn law_next()
     ensures without { NoneWithoutNext }
     ensures start { NoneAtStart }
     ensures pending { NonePendingNoneBefore }
+{}
+
+/// What goes on from a state of its model has this state.
+pub fn law_state()
+    ensures { StatesAreKept }
 {}

@@ -21,10 +21,10 @@ impl Model for Notices {
     ghost invariant = { λ a. length a.calendar ≡ length a.delta.flags };
 }
 
-ghost use Rattle.std.specs.Prelude.{◌≡◌, ◌<◌, ◌^◌, ℕ, IfOk, None, Some, false, if◌then◌else◌, length, map, replicate, slice_get};
+ghost use Rattle.std.specs.Prelude.{◌≡◌, ◌<◌, ◌^◌, ℕ, IfOk, None, Some, false, if◌then◌else◌, length, map, replicate, slice_get, slice_set};
 ghost use Rattle.tdf_events_queue.specs.Lists.{list_at};
 ghost use Rattle.tdf_events_queue.specs.Sets.{is_on};
-ghost use Rattle.tdf_events_queue.specs.Times.{IsNextTime};
+ghost use Rattle.tdf_events_queue.specs.Times.{IsNextTime, pending_time};
 ghost use Rattle.tdf_events.specs.Delta.{IsNoneBefore, is_due};
 ghost use Rattle.tdf_events.specs.machine.Due.{comes};
 ghost use Rattle.tdf_events.specs.machine.Updating.{AreAllReached};
@@ -55,6 +55,24 @@ impl Notices {
         let calendar = Calendar::new(alloc, events)?;
         let delta = NumberSet::new(alloc, events)?;
         Ok(Notices { calendar, delta })
+    }
+
+    /// The time of the timed notification of an event.
+    pub(crate) fn time(&self, event: u32) -> Option<u64>
+        requires { event < length self.now.times }
+        ensures { result ≡ pending_time self.now.times event }
+    {
+        self.calendar.time(event)
+    }
+
+    /// Gives an event without a timed notification one.
+    pub(crate) fn set_time(&mut self, event: u32, time: u64)
+        requires event { event < length self.old.times }
+        requires free { pending_time self.old.times event ≡ None }
+        ensures { self.new
+            ≡ record self.old { times = slice_set self.old.times event (Some time) } }
+    {
+        self.calendar.notify(event, time);
     }
 
     /// The least time of a timed notification, none where there is none.

@@ -7,7 +7,7 @@ use Rattle.tdf_events.specs.machine.Making.{AreAllPorts, AreFrames}
 use Rattle.tdf_events.specs.views.Parts.{kernel_of}
 use Rattle.tdf_bind_connections.specs.ProcessBlocks.{BlockRowOf, ProcessRowOf}
 use Rattle.tdf_bind_connections.specs.declared.drivers.SignalRow.{SignalRow}
-use Rattle.tdf_events.proofs.kernel.parts_of.Goals as goal
+use Rattle.tdf_events.proofs.parts.parts_of.Goals as goal
 
 pub start_frames-requires-clause-inside : goal.start_frames-requires-clause-inside
 start_frames-requires-clause-inside c = λ n row at. (c.requires.instances n row (ap (λ (t : FlatTablesOf). slice_get t.blocks n) (sym c.tables.view_is) ∙ ap (λ (xs : List BlockRowOf). slice_get xs n) (sym c.deref-2.ensures.value) ∙ at)).block
