@@ -11,3 +11,4 @@ mod table;
 
 pub use first::{First, first_plan};
 pub use laws::{law_numbers, law_one_plan, law_plannable};
+pub use table::first_table;

@@ -189,9 +189,10 @@ fn has_changes(tables: &FlatTables, rows: &[ModuleAttrs]) -> bool
 /// # Errors
 /// Out of memory.
 #[tactic(auto, unfolding(crate::specs::Text::first_table))]
-pub(crate) fn first_table(alloc: Global, flat: &Flat, cluster: u32) -> Result<Attrs, Memory>
+pub fn first_table(alloc: Global, flat: &Flat, cluster: u32) -> Result<Attrs, Memory>
     requires checked { IsChecked flat.now.checked }
-    requires blocks { All (λ row. row.block < block_count flat.now.checked) flat.now.tables.modules }
+    requires blocks { All (λ row. row.block < block_count flat.now.checked)
+        flat.now.tables.modules }
     requires actors { length flat.now.tables.modules ≤ length flat.now.tables.actors }
     ensures rows { IfOk result (λ attrs. attrs.rows ≡ first_table flat.now cluster) }
     ensures known { IfOk result (λ attrs. attrs.known ≡ none_known flat.now.tables attrs.rows) }

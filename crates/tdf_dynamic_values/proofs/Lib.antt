@@ -1,0 +1,5 @@
+pub mod Fits
+pub mod Holding
+pub mod Once
+pub mod One
+pub mod Rows
