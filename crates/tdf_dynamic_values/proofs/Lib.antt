@@ -3,3 +3,4 @@ pub mod Holding
 pub mod Once
 pub mod One
 pub mod Rows
+pub mod Stated

@@ -1,4 +1,5 @@
 pub mod Laws
 pub mod Planned
+pub mod States
 pub mod Values
 pub mod machine
