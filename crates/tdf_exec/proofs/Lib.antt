@@ -17,6 +17,7 @@ mod Formed
 mod Gains
 mod Giving
 pub mod Greatest
+mod Held
 mod Installing
 mod Keeping
 mod Kept
@@ -24,6 +25,7 @@ mod Marks
 mod Moved
 mod Moves
 mod Nexts
+mod Own
 mod Planned
 pub mod Playing
 mod Rates

@@ -5,6 +5,7 @@ use Rattle.tdf_expr_blocks.specs.Types.{type_faults}
 use Rattle.tdf_dynamic_plans.specs.Rates.{net_of}
 use Rattle.tdf_exec.specs.Cluster.{ClusterOf}
 use Rattle.tdf_exec.specs.Made.{IsClusterOf, IsClusterPlanned, IsClusterSafe, KeepRates}
+use Rattle.tdf_exec.specs.Saved.{edges_with_room, own_edges}
 use Rattle.tdf_exec.specs.Starts.{BeginWithRates}
 use Rattle.tdf_exec.specs.Telling.{GivesTooMany}
 use Rattle.tdf_expr.specs.Checked.{IsCheckedOf}
@@ -44,6 +45,11 @@ samples_held c = sum_by (λ (r : RingOf). length r.samples) c.rings
 abbrev pub ClustersHoldFew : Type 0
 ClustersHoldFew = (model : PureTree) (flat : Flat) (c : ClusterOf) → IsFlatOf model flat
     → AreWithinLimits flat → IsClusterOf flat c → samples_held c ≤ 1048576
+
+-- the edges that the plan of a cluster gives room are its own
+abbrev pub RoomIsForOwn : Type 0
+RoomIsForOwn = (flat : Flat) (c : ClusterOf) → AreWithinLimits flat → IsClusterOf flat c
+    → edges_with_room c.bounds (length c.rings) ≡ own_edges flat.tables c.number
 
 -- no offset of the plan of a cluster gives 2 ^ 32 samples of sinks or more, nor of traced signals
 abbrev pub RoomIsThere : Type 0

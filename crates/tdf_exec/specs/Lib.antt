@@ -5,6 +5,7 @@ pub mod Laws
 pub mod Made
 pub mod Played
 pub mod Runners
+pub mod Saved
 pub mod Starts
 pub mod Telling
 pub mod Traced

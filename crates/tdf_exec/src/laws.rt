@@ -1,6 +1,6 @@
 //! What holds of clusters in progress: each function here only carries its clauses.
 
-ghost use Rattle.tdf_exec.specs.Laws.{ClustersHoldFew, HeadsHold, PlansAreSafe, RatesAreBegun, RatesAreKept, RoomIsThere};
+ghost use Rattle.tdf_exec.specs.Laws.{ClustersHoldFew, HeadsHold, PlansAreSafe, RatesAreBegun, RatesAreKept, RoomIsForOwn, RoomIsThere};
 
 use tdf_exec_layout::{law_edges, law_rates as law_edge_rates};
 use tdf_schedule::law_present;
@@ -24,6 +24,13 @@ pub fn law_few()
 {
     law_edges();
     law_edge_rates();
+}
+
+/// The edges that the plan of a cluster gives room, and so those of its state, are its own.
+pub fn law_own()
+    ensures { RoomIsForOwn }
+{
+    law_present();
 }
 
 /// No offset of the plan of a cluster gives more samples than `Cluster::room` has numbers for.

@@ -12,6 +12,7 @@
 //! - `restarting`: the next period with a new plan.
 //! - `tracing`: the ports of modules whose signals are traced.
 //! - `telling`: what a cluster in progress tells of itself.
+//! - `saving`: what a cluster in progress holds, for a snapshot.
 //! - `laws`: what holds of clusters in progress.
 #![tactic(auto)]
 
@@ -25,12 +26,13 @@ mod moving;
 mod rating;
 mod restarting;
 mod runners;
+mod saving;
 mod starting;
 mod telling;
 mod tracing;
 
 pub use cluster::Cluster;
-pub use laws::{law_few, law_heads, law_rates, law_room, law_safe};
+pub use laws::{law_few, law_heads, law_own, law_rates, law_room, law_safe};
 pub use runners::{ModuleRunner, Runner, SamplerRunner, SinkRunner, TracedPort};
 pub use tdf_dynamic::Next;
 pub use telling::Room;

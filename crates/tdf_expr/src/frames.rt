@@ -93,6 +93,13 @@ impl Frame {
         self.formats.len() as u32
     }
 
+    /// All variables and elements, in order of declaration, each in units of the last place of its format.
+    pub fn nums(&self) -> &[i128]
+        ensures { result.now ≡ self.now.state.cells }
+    {
+        self.cells.cells()
+    }
+
     /// The value of a variable or element.
     pub fn cell(&self, i: u32) -> Raw
         requires { i < length self.now.formats }
@@ -117,13 +124,6 @@ impl Frame {
         } }
     {
         self.cells.set_cell(i as usize, num);
-    }
-
-    /// The values of all variables and elements, in order of declaration, each in units of the last place of its format.
-    pub fn nums(&self) -> &[i128]
-        ensures { result.now ≡ self.now.state.cells }
-    {
-        self.cells.cells()
     }
 
     /// Sets all variables and elements.
