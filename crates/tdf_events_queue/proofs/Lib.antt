@@ -2,4 +2,4 @@ pub mod Api
 mod Members
 mod Skips
 mod Sorted
-mod Times
+mod Nodes

@@ -11,84 +11,89 @@ pub struct Pending {
     pub event: u32,
 }
 
-/// The pending time of each event, at most one, with a list in falling order and room for all. Only [`Calendar::new`] takes
-/// memory.
+/// The pending time of each event, at most one, with a tree over all events whose root has a least time. Only [`Calendar::new`]
+/// takes memory.
 #[derive(Drop)]
 pub struct Calendar {
     times: Vec<Option<u64>>,
-    list: Vec<Pending>,
+    nodes: Vec<Option<Pending>>,
 }
 
 impl Model for Calendar {
-    ghost use Rattle.std.specs.Prelude.{List, ℕ, Option, length, ◌≤◌};
-    ghost use Rattle.std.specs.Vec.{vec_capacity};
-    ghost use Rattle.tdf_events_queue.specs.machine.Calendar.{IsCalendar};
+    ghost use Rattle.std.specs.Prelude.{◌≡◌, ◌^◌, ◌<◌, List, ℕ, Option, length};
+    ghost use Rattle.tdf_events_queue.specs.machine.Calendar.{AreEarlier};
 
     ghost Value = { List (Option ℕ) };
 
     ghost view = { λ a. a.times.items };
 
     ghost invariant = { λ a. record {
-      listed : IsCalendar a.times.items a.list.items;
-      room : length a.times.items ≤ vec_capacity a.list;
+      many : length a.nodes.items ≡ length a.times.items;
+      few : length a.times.items < 2 ^ 32;
+      earlier : AreEarlier a.times.items a.nodes.items;
     } };
 }
 
-ghost use Rattle.std.specs.List.{insert};
-ghost use Rattle.std.specs.Prelude.{◌≡◌, ◌≤◌, ◌<◌, ℕ, IfOk, IsSome, None, Some, length, replicate, slice_get, slice_set};
-ghost use Rattle.std.specs.Vec.{vec_capacity, vec_len};
+ghost use Rattle.std.specs.Prelude.{◌≡◌, ◌<◌, ◌+◌, ◌*◌, ◌/◌, ◌^◌, IfOk, None, Some, length, replicate, slice_set};
 ghost use Rattle.tdf_events_queue.specs.Times.{IsNextPending, IsNextTime, earliest, pending_time};
-ghost use Rattle.tdf_events_queue.specs.machine.Calendar.{IsLast, IsPlace, IsPlaceOf};
+ghost use Rattle.tdf_events_queue.specs.machine.Calendar.{AreEarlier, AreEarlierBut, earlier_of, notice_at};
 
 use std::alloc::{AllocError, Global};
 
-/// The place of a time: behind all that come later. The least times stand at the end, so the search begins there.
-fn place_of(list: &Vec<Pending>, time: u64) -> usize
-    requires { (i j : ℕ) (x y : Pending) → i < j → slice_get list.now.items i ≡ Some x
-        → slice_get list.now.items j ≡ Some y → y.time ≤ x.time }
-    ensures { IsPlace list.now.items time result }
+/// The earlier of two, the first where none is.
+fn earlier(one: Option<Pending>, other: Option<Pending>) -> Option<Pending>
+    ensures { result ≡ earlier_of one other }
 {
-    let mut k = list.len();
-    while 0 < k && list[k - 1].time < time {
-        k -= 1;
+    match one {
+        None => other,
+        Some(first) => match other {
+            None => one,
+            Some(second) => {
+                if second.time < first.time {
+                    return other;
+                }
+                one
+            }
+        },
     }
-    k
 }
 
-/// Where an event stands. It is looked for from the end.
-fn place_of_event(list: &Vec<Pending>, event: u32) -> usize
-    requires { (j : ℕ) × (x : Pending) × (slice_get list.now.items j ≡ Some x) × (x.event ≡ event) }
-    ensures { IsPlaceOf list.now.items event result }
+/// What stands at a place: an inner node, or from the number of events on a leaf.
+fn notice(times: &Vec<Option<u64>>, nodes: &Vec<Option<Pending>>, place: usize) -> Option<Pending>
+    requires many { length nodes.now.items ≡ length times.now.items }
+    requires few { length times.now.items < 2 ^ 32 }
+    requires within { place < 2 * length times.now.items }
+    ensures { result ≡ notice_at times.now.items nodes.now.items place }
 {
-    let mut k = list.len();
-    while 0 < k {
-        k -= 1;
-        if list[k].event == event {
-            return k;
-        }
+    if place < times.len() {
+        return nodes[place];
     }
-    k
+    let event = place - times.len();
+    match times[event] {
+        None => None,
+        Some(time) => Some(Pending {
+            time,
+            event: event as u32,
+        }),
+    }
 }
 
-/// Inserts where there is spare room: it takes no memory.
-fn insert_at(list: &mut Vec<Pending>, k: usize, item: Pending)
-    requires place { k ≤ length list.old.items }
-    requires room { vec_len list.old < vec_capacity list.old }
-    ensures items { list.new.items ≡ insert list.old.items k item }
-    ensures room { vec_capacity list.old ≤ vec_capacity list.new }
+/// The inner nodes above an event get the earlier of those below them.
+fn settle(times: &Vec<Option<u64>>, nodes: &mut Vec<Option<Pending>>, event: u32)
+    requires many { length nodes.old.items ≡ length times.now.items }
+    requires few { length times.now.items < 2 ^ 32 }
+    requires event { event < length times.now.items }
+    requires others { AreEarlierBut ((length times.now.items + event) / 2) times.now.items nodes.old.items }
+    ensures many { length nodes.new.items ≡ length nodes.old.items }
+    ensures earlier { AreEarlier times.now.items nodes.new.items }
 {
-    let _ = list.insert(k, item);
-}
-
-/// What stands at the end.
-fn last(list: &Vec<Pending>) -> Option<Pending>
-    ensures { IsLast list.now.items result }
-{
-    let n = list.len();
-    if n == 0 {
-        return None;
+    let mut place = (times.len() + event as usize) / 2;
+    while 0 < place {
+        let one = notice(times, nodes, 2 * place);
+        let other = notice(times, nodes, 2 * place + 1);
+        nodes[place] = earlier(one, other);
+        place /= 2;
     }
-    Some(list[n - 1])
 }
 
 impl Calendar {
@@ -99,16 +104,19 @@ impl Calendar {
     pub fn new(alloc: Global, events: u32) -> Result<Calendar, AllocError>
         ensures { IfOk result (λ calendar. calendar ≡ replicate events None) }
     {
-        let list = Vec::with_capacity(alloc, events as usize)?;
+        let nodes = Vec::from_elem(alloc, None, events as usize)?;
         let times = Vec::from_elem(alloc, None, events as usize)?;
-        Ok(Calendar { times, list })
+        Ok(Calendar { times, nodes })
     }
 
     /// A pending notification with the least time, none where nothing is pending.
     pub fn first(&self) -> Option<Pending>
         ensures { IsNextPending self.now result }
     {
-        last(&self.list)
+        if self.times.is_empty() {
+            return None;
+        }
+        notice(&self.times, &self.nodes, 1)
     }
 
     /// The least pending time, none where nothing is pending.
@@ -136,25 +144,13 @@ impl Calendar {
         self.times[event as usize]
     }
 
-    /// Makes an event that has no pending time pending.
-    fn add(&mut self, event: u32, time: u64)
-        requires event { event < length self.old }
-        requires free { pending_time self.old event ≡ None }
-        ensures { self.new ≡ slice_set self.old event (Some time) }
+    /// Gives an event a pending time, or none.
+    fn put(&mut self, event: u32, time: Option<u64>)
+        requires { event < length self.old }
+        ensures { self.new ≡ slice_set self.old event time }
     {
-        let k = place_of(&self.list, time);
-        insert_at(&mut self.list, k, Pending { time, event });
-        self.times[event as usize] = Some(time);
-    }
-
-    /// Takes an event's pending time away.
-    fn remove(&mut self, event: u32)
-        requires { IsSome (pending_time self.old event) }
-        ensures { self.new ≡ slice_set self.old event None }
-    {
-        let k = place_of_event(&self.list, event);
-        self.list.remove(k);
-        self.times[event as usize] = None;
+        self.times[event as usize] = time;
+        settle(&self.times, &mut self.nodes, event);
     }
 
     /// Notifies an event at a time. An earlier time replaces a pending one; a later one changes nothing.
@@ -164,11 +160,10 @@ impl Calendar {
             ≡ slice_set self.old event (Some (earliest (pending_time self.old event) time)) }
     {
         match self.time(event) {
-            None => self.add(event, time),
+            None => self.put(event, Some(time)),
             Some(pending) => {
                 if time < pending {
-                    self.remove(event);
-                    self.add(event, time);
+                    self.put(event, Some(time));
                 }
             }
         }
@@ -180,7 +175,7 @@ impl Calendar {
         ensures { self.new ≡ slice_set self.old event None }
     {
         if self.time(event).is_some() {
-            self.remove(event);
+            self.put(event, None);
         }
     }
 }

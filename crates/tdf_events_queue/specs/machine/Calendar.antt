@@ -1,36 +1,35 @@
--- The list of pending times, the least at its end.
--- Source: own.
-use Rattle.std.specs.Prelude.{ℕ, ◌-◌, ◌<◌, ◌≤◌, ◌≡◌, Option, Some, None, is_some, List, length, slice_get, slice_index_or}
-use Rattle.std.specs.List.{count_by}
+-- The tree of pending notifications: its leaves are the events, and each inner node has the earlier
+-- of the two nodes below it.
+-- Source: own; a tournament tree, of Knuth, The Art of Computer Programming 3, 5.4.1.
+use Rattle.std.specs.Prelude.{ℕ, ◌+◌, ◌-◌, ◌*◌, ◌<◌, ◌≡◌, Option, Some, None, option_map, if◌then◌else◌, nat_lt, List, length, slice_index_or}
 use Rattle.tdf_events_queue.specs.Times.{pending_time}
 use Rattle.tdf_events_queue.specs.declared.calendar.Pending.{Pending}
 
-pub record IsCalendar (times : List (Option ℕ)) (list : List Pending) : Type 0 where
-  pub on : (j : ℕ) (x : Pending) → slice_get list j ≡ Some x
-      → pending_time times x.event ≡ Some x.time
-  pub all : (e t : ℕ) → pending_time times e ≡ Some t
-      → (j : ℕ) × (x : Pending) × (slice_get list j ≡ Some x) × (x.event ≡ e)
-  pub falling : (i j : ℕ) (x y : Pending) → i < j → slice_get list i ≡ Some x
-      → slice_get list j ≡ Some y → y.time ≤ x.time
-  pub once : (i j : ℕ) (x y : Pending) → slice_get list i ≡ Some x → slice_get list j ≡ Some y
-      → x.event ≡ y.event → i ≡ j
-  pub count : length list ≡ count_by is_some times
+-- the earlier of two, the first where none is
+abbrev pub earlier_of : Option Pending → Option Pending → Option Pending
+earlier_of None other = other
+earlier_of (Some one) None = Some one
+earlier_of (Some one) (Some other) =
+    if nat_lt other.time one.time then Some other else Some one
 
--- where one with this time may stand
-pub record IsPlace (list : List Pending) (time k : ℕ) : Type 0 where
-  pub within : k ≤ length list
-  pub before : (i : ℕ) (x : Pending) → i < k → slice_get list i ≡ Some x → time ≤ x.time
-  pub behind : (i : ℕ) (x : Pending) → k ≤ i → slice_get list i ≡ Some x → x.time ≤ time
+-- an event with its pending time
+abbrev pub notice_of : List (Option ℕ) → (event : ℕ) → Option Pending
+notice_of times event = option_map (λ (time : ℕ). record { time = time; event = event })
+    (pending_time times event)
 
-abbrev pub item_at : List Pending → ℕ → Pending
-item_at list i = slice_index_or list i (record { time = 0; event = 0 })
+-- what stands at a place: an inner node, or from the number of events on a leaf
+abbrev pub notice_at : (times : List (Option ℕ)) → (nodes : List (Option Pending)) → (place : ℕ)
+    → Option Pending
+notice_at times nodes place = if nat_lt place (length times) then slice_index_or nodes place None
+    else notice_of times (place - length times)
 
--- the last of the list
-abbrev pub IsLast : List Pending → Option Pending → Type 0
-IsLast list None = length list ≡ 0
-IsLast list (Some x) = (0 < length list) × (item_at list (length list - 1) ≡ x)
+-- each inner node has the earlier of the two below it, but for one place
+abbrev pub AreEarlierBut : (but : ℕ) → (times : List (Option ℕ)) → (nodes : List (Option Pending))
+    → Type 0
+AreEarlierBut but times nodes = (place : ℕ) → 0 < place → place < length times
+    → (place ≡ but → ⊥) → slice_index_or nodes place None
+    ≡ earlier_of (notice_at times nodes (2 * place)) (notice_at times nodes (2 * place + 1))
 
--- where the event stands
-pub record IsPlaceOf (list : List Pending) (event k : ℕ) : Type 0 where
-  pub within : k < length list
-  pub is : (item_at list k).event ≡ event
+-- each has; no inner node is at place 0
+abbrev pub AreEarlier : (times : List (Option ℕ)) → (nodes : List (Option Pending)) → Type 0
+AreEarlier times nodes = AreEarlierBut 0 times nodes
