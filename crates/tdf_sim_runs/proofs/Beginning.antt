@@ -165,6 +165,7 @@ module _ (flat : Flat) (firsts : List First) (e : Engine) (kind : TraceKind) (s 
       model = model;
       of = of;
       start = start turns model of;
+      handed = [];
       is = subst (IsRunning model flat (start turns model of) 0 e turns t) (sym empty) (runs_at_first turns model of);
     };
   }

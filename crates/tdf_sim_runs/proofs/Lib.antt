@@ -3,9 +3,12 @@ pub mod Advancing
 pub mod Answering
 pub mod Beginning
 pub mod Below
+pub mod Counting
 pub mod Dues
 pub mod Ended
 pub mod Finishing
+pub mod Handed
+pub mod Handing
 pub mod Keeping
 pub mod Leading
 pub mod Marking

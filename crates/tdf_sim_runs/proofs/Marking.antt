@@ -1,5 +1,5 @@
 -- Rows of a run are written up to a mark that no period began before.
-use Rattle.std.proofs.Common.{◌≡◌, ◌∙◌, ℕ, ◌≤◌, List, Option, max, sym, subst, inl, inr, arith}
+use Rattle.std.proofs.Common.{◌≡◌, ◌∙◌, ℕ, ◌≤◌, ◌++◌, List, [], Option, max, sym, subst, inl, inr, arith}
 use Rattle.std.proofs.lemmas.Bool.{cases_lt}
 use Rattle.std.specs.Io.KnownBytes.{Appends}
 use Rattle.tdf_trace.specs.Calls.{StandBelow}
@@ -12,6 +12,7 @@ use Rattle.tdf_dynamic.specs.Laws.{BoundariesHaveOne}
 use Rattle.tdf_sim_history.specs.Telling.{world_told}
 use Rattle.tdf_sim_history.specs.World.{Change, World}
 use Rattle.tdf_io.specs.Bytes.{AppendsFront}
+use Rattle.tdf_sim_runs.proofs.Handing.{hands_none}
 use Rattle.tdf_sim_runs.proofs.Onward.{since_mark}
 use Rattle.tdf_sim_runs.proofs.RunStands.{run_stands}
 use Rattle.tdf_sim_runs.proofs.Finishing.{rows_same}
@@ -38,14 +39,14 @@ rows_by about g h u v mark a b agree low within took = elim (cases_lt mark v) [
 ]
 
 module _ (law : BoundariesHaveOne) (stands : ShownStandsBelow) (flat : Flat) (r : Running) (can : CanGoOn flat r) (mark : ℕ) (least : IsLeastStart r.engine.since.items r.from mark) where
-  stand : (model : PureTree) (start : World SideOf) → IsModelOf model flat → (run : IsRunningAt model flat start r)
+  stand : (model : PureTree) (start : World SideOf) (handed : List ℕ) → IsModelOf model flat → (run : IsRunningAt model flat start handed r)
       → StandBelow (run_cells model flat (rules_of model flat) (world_told run.going.ahead start) r.from) mark r.shown.trace.rows
-  stand model start m run = run_stands stands model flat start r.from mark r.left r.engine r.shown r.news.items m run (since_mark flat r can mark least.each) least.within
+  stand model start handed m run = run_stands stands model flat start r.from mark r.left r.engine r.shown (handed ++ r.news.items) m run (since_mark flat r can mark least.each) least.within
 
   -- they agree with the cells of the history that is told other answers
-  agrees : (model : PureTree) (start : World SideOf) (ahead : List (List Change)) → (m : IsModelOf model flat) → (run : IsRunningAt model flat start r) → AreToldTo model flat start r.from ahead
+  agrees : (model : PureTree) (start : World SideOf) (handed : List ℕ) (ahead : List (List Change)) → (m : IsModelOf model flat) → (run : IsRunningAt model flat start handed r) → AreToldTo model flat start r.from ahead
       → (noted : Cells) → Agree noted (run_cells model flat (rules_of model flat) (world_told run.going.ahead start) r.from) mark → Agree noted (run_cells model flat (rules_of model flat) (world_told ahead start) r.from) mark
-  agrees model start ahead m run to noted agree = agree_trans noted (run_cells model flat (rules_of model flat) (world_told run.going.ahead start) r.from)
+  agrees model start handed ahead m run to noted agree = agree_trans noted (run_cells model flat (rules_of model flat) (world_told run.going.ahead start) r.from)
       (run_cells model flat (rules_of model flat) (world_told ahead start) r.from) mark r.from least.within agree
       (cells_told law model flat start r.from r.left r.engine m run.going ahead to)
 
@@ -54,10 +55,10 @@ module _ (law : BoundariesHaveOne) (stands : ShownStandsBelow) (flat : Flat) (r 
     mark = mark;
     early = least.within;
     late = least.each;
-    front = λ model start ahead m run to. (
-        let s = stand model start m run in
+    front = λ model start handed ahead m run to. (
+        let s = stand model start handed m run in
         subst (λ (t : List ℕ). AppendsFront before after t)
-        (rows_same r.shown.trace.about s.noted (run_cells model flat (rules_of model flat) (world_told ahead start) r.from) r.shown.trace.rows.upto mark (agrees model start ahead m run to s.noted s.agree))
+        (rows_same r.shown.trace.about s.noted (run_cells model flat (rules_of model flat) (world_told ahead start) r.from) r.shown.trace.rows.upto mark (agrees model start handed ahead m run to s.noted s.agree))
         (part s.noted s.stand));
   }
 
@@ -66,10 +67,10 @@ module _ (law : BoundariesHaveOne) (stands : ShownStandsBelow) (flat : Flat) (r 
     marked = record r { shown = record r.shown { trace = trace } }
 
     upto_later : r.shown.trace.rows.upto ≤ trace.rows.upto
-    upto_later = let some = can.some in let s = stand some.model some.start some.of some.is in (wrote s.noted s.stand).later
+    upto_later = let some = can.some in let s = stand some.model some.start some.handed some.of some.is in (wrote s.noted s.stand).later
 
-    marks_run : (model : PureTree) (start : World SideOf) → IsModelOf model flat → IsRunningAt model flat start r → IsRunningAt model flat start marked
-    marks_run model start m run = record {
+    marks_run : (model : PureTree) (start : World SideOf) (handed : List ℕ) → IsModelOf model flat → IsRunningAt model flat start handed r → IsRunningAt model flat start handed marked
+    marks_run model start handed m run = record {
       going = run.going;
       shown = written_is_shown model flat (world_told run.going.ahead start) run.going.world r.from r.shown trace run.shown (λ cells old. (wrote cells old).stands) about;
       news_are = run.news_are;
@@ -84,18 +85,18 @@ module _ (law : BoundariesHaveOne) (stands : ShownStandsBelow) (flat : Flat) (r 
       since = λ place t t_at more. (let a = can.since place t t_at more in let b = since_mark flat r can mark least.each place t t_at more in omega (arith, a, b, within));
       within = λ n s c s_at c_at. (let e = can.within n s c s_at c_at in let l = least.each n s s_at in omega (arith, e, l, within));
       printable = can.printable;
-      some = record { model = can.some.model; of = can.some.of; start = can.some.start; is = marks_run can.some.model can.some.start can.some.of can.some.is };
+      some = record { model = can.some.model; of = can.some.of; start = can.some.start; handed = can.some.handed; is = marks_run can.some.model can.some.start can.some.handed can.some.of can.some.is };
     }
 
-    pub marks_goes : RunGoesOn flat r marked before after
+    pub marks_goes : RunGoesOn flat r marked [] before after
     marks_goes = record {
       later = omega arith;
       about = about;
       wrote = upto_later;
-      runs = marks_run;
-      rows = λ model start ahead m run to. (
-          let s = stand model start m run in
+      runs = λ model start handed m run. hands_none model flat start marked handed (marks_run model start handed m run);
+      rows = λ model start handed ahead m run to. (
+          let s = stand model start handed m run in
           rows_by r.shown.trace.about s.noted (run_cells model flat (rules_of model flat) (world_told ahead start) r.from) r.shown.trace.rows.upto trace.rows.upto mark before after
-          (agrees model start ahead m run to s.noted s.agree) upto_later within
+          (agrees model start handed ahead m run to s.noted s.agree) upto_later within
           (wrote s.noted s.stand).took);
     }

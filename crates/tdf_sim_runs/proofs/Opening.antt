@@ -1,5 +1,5 @@
 -- A run whose trace got its head is still what it was.
-use Rattle.std.proofs.Common.{◌≡◌, sym, ap, subst, arith}
+use Rattle.std.proofs.Common.{◌≡◌, ℕ, List, sym, ap, subst, arith}
 use Rattle.tdf_events.specs.Side.{SideOf}
 use Rattle.tdf_bind.specs.declared.model.Flat.{Flat}
 use Rattle.tdf_sim_history.specs.Telling.{world_told}
@@ -14,8 +14,8 @@ module _ (flat : Flat) (r : Running) (trace : TraceSeen) (rows : trace.rows ≡ 
   abbrev pub with_head : Running
   with_head = record r { shown = record r.shown { trace = trace } }
 
-  pub opens_run : (model : PureTree) (start : World SideOf) → IsRunningAt model flat start r → IsRunningAt model flat start with_head
-  opens_run model start run = record {
+  pub opens_run : (model : PureTree) (start : World SideOf) (handed : List ℕ) → IsRunningAt model flat start handed r → IsRunningAt model flat start handed with_head
+  opens_run model start handed run = record {
     going = run.going;
     shown = written_is_shown model flat (world_told run.going.ahead start) run.going.world r.from r.shown trace run.shown (λ cells stands. subst (λ (x : RowsSeen). Stands cells x) (sym rows) stands) about;
     news_are = run.news_are;
@@ -30,5 +30,5 @@ module _ (flat : Flat) (r : Running) (trace : TraceSeen) (rows : trace.rows ≡ 
     since = λ place t t_at more. (let l = can.since place t t_at more in let u : trace.rows.upto ≡ r.shown.trace.rows.upto = ap (λ (x : RowsSeen). x.upto) rows in omega (arith, l, u));
     within = λ n s c s_at c_at. (let l = can.within n s c s_at c_at in let u : trace.rows.upto ≡ r.shown.trace.rows.upto = ap (λ (x : RowsSeen). x.upto) rows in omega (arith, l, u));
     printable = can.printable;
-    some = record { model = can.some.model; of = can.some.of; start = can.some.start; is = opens_run can.some.model can.some.start can.some.is };
+    some = record { model = can.some.model; of = can.some.of; start = can.some.start; handed = can.some.handed; is = opens_run can.some.model can.some.start can.some.handed can.some.is };
   }

@@ -1,5 +1,5 @@
 -- The notes of new plans, from one instant to the next.
-use Rattle.std.proofs.Common.{◌≡◌, ◌∙◌, ℕ, zero, suc, ◌+◌, ◌-◌, ◌<◌, ◌≤◌, Option, Some, None, option_map, List, [], ◌++◌, slice_get, if◌then◌else◌, refl, sym, ap, arith}
+use Rattle.std.proofs.Common.{◌≡◌, ◌∙◌, ℕ, zero, suc, ◌+◌, ◌-◌, ◌<◌, ◌≤◌, Option, Some, None, option_map, List, [], ◌++◌, append_assoc, slice_get, if◌then◌else◌, refl, sym, ap, arith}
 use Rattle.std.proofs.lemmas.List.{append-nil}
 use Rattle.std.specs.List.{flat_map}
 use Rattle.tdf_sim_instants.specs.CrossingLaws.{HavePlansOf}
@@ -36,6 +36,20 @@ module _ {K : Type 0} (model : PureTree) (flat : Flat) (rules : Rules K) (start 
       ap (notes_to model flat rules start) e ∙ one_later (a + k)
       ∙ ap (λ t. notes_to model flat rules start (a + k) ++ t) (none (a + k) (omega arith) (omega arith))
       ∙ append-nil (notes_to model flat rules start (a + k)) ∙ rest_to a k (λ t low high. none t low (omega (arith, high)))
+
+  -- those of later instants come after
+  on_to : (a k : ℕ) → (rest : List ℕ) × (notes_to model flat rules start (a + k) ≡ notes_to model flat rules start a ++ rest)
+  on_to a zero = let z : a + 0 ≡ a = omega arith in ([], ap (notes_to model flat rules start) z ∙ sym (append-nil (notes_to model flat rules start a)))
+  on_to a (suc k) =
+      let e : a + suc k ≡ suc (a + k) = omega arith in
+      let before = on_to a k in
+      let now = notes_in model flat rules (a + k) (history (engine model flat rules) 0 start (a + k)) in
+      (before.0 ++ now, ap (notes_to model flat rules start) e ∙ one_later (a + k) ∙ ap (λ t. t ++ now) before.1 ∙ append_assoc (notes_to model flat rules start a) before.0 now)
+
+  pub notes_on : (a b : ℕ) → a ≤ b → (rest : List ℕ) × (notes_to model flat rules start b ≡ notes_to model flat rules start a ++ rest)
+  notes_on a b low =
+      let e : b ≡ a + (b - a) = omega (arith, low) in
+      let on = on_to a (b - a) in (on.0, ap (notes_to model flat rules start) e ∙ on.1)
 
   pub notes_rest : (a b : ℕ) → a ≤ b → ((t : ℕ) → a ≤ t → t < b → notes_in model flat rules t (history (engine model flat rules) 0 start t) ≡ []) → notes_to model flat rules start b ≡ notes_to model flat rules start a
   notes_rest a b low none =

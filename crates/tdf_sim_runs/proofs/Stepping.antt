@@ -23,6 +23,7 @@ use Rattle.tdf_sim_history.specs.WorldLaws.{AreSteady}
 use Rattle.tdf_sim_history.specs.History.{HistoryState, history}
 use Rattle.tdf_sim_runs.proofs.Keeping.{IsInPeriod}
 use Rattle.tdf_sim_runs.proofs.Leading.{from_before, goes_now, leads_on, news_now}
+use Rattle.tdf_sim_runs.proofs.Handing.{news_more}
 use Rattle.tdf_sim_runs.proofs.Onward.{goes_quietly}
 use Rattle.tdf_sim_runs.proofs.Staying.{steady, steady_more}
 use Rattle.tdf_sim_runs.specs.Advancing.{InstantAdvances}
@@ -66,7 +67,7 @@ module _ (along : InstantGoesAlong) (advances : InstantAdvances) (flat : Flat) (
       (subst (λ (o : OutputsOf). All SampleHasFewPlaces o.traced) (sym had.traced)
       (passes_few flat _ _ _ _ had.fired.firings.sent had.fired.firings.passed (subst (All SampleHasFewPlaces) (sym had.fired.none_traced) (All-nil SampleHasFewPlaces))))
 
-  module _ (model : PureTree) (start : World SideOf) (m : IsModelOf model flat) (run : IsRunningAt model flat start r) where
+  module _ (model : PureTree) (start : World SideOf) (handed : List ℕ) (m : IsModelOf model flat) (run : IsRunningAt model flat start handed r) where
     abbrev on_now : IsOngoing model flat start (r.from + 1) e rest
     on_now = leads_on along model flat start r.from due.stop r.from r.left r.engine m can.engine can.ready run.going (let b = due.below in omega (arith, b)) due.next due.below e rest had
 
@@ -129,10 +130,10 @@ module _ (along : InstantGoesAlong) (advances : InstantAdvances) (flat : Flat) (
   pub can_take : r.from < time_end → CanTake flat clock e.outputs.traced e.kernel.values r.shown
   can_take soon =
       let some = can.some in
-      let g = goes some.model some.start some.of some.is in
-      advanced_can_be_taken some.model flat (own some.model some.start some.of some.is) (world_told g.crossing.told some.is.going.world) g.world clock e.outputs.traced e.kernel.values r.shown some.of.is some.of.limits
-      (shown_told some.model some.start some.of some.is)
-      (advanced some.model some.start some.of some.is) (steady_now some.model some.start some.of some.is) g.now.at of.since soon can.early
+      let g = goes some.model some.start some.handed some.of some.is in
+      advanced_can_be_taken some.model flat (own some.model some.start some.handed some.of some.is) (world_told g.crossing.told some.is.going.world) g.world clock e.outputs.traced e.kernel.values r.shown some.of.is some.of.limits
+      (shown_told some.model some.start some.handed some.of some.is)
+      (advanced some.model some.start some.handed some.of some.is) (steady_now some.model some.start some.handed some.of some.is) g.now.at of.since soon can.early
       can.since traced_few of.kernel.values
 
   -- and when it is shown
@@ -142,11 +143,11 @@ module _ (along : InstantGoesAlong) (advances : InstantAdvances) (flat : Flat) (
     abbrev stepped : Running
     stepped = record r { engine = record e { outputs = record e.outputs { traced = [] } }; shown = s; from = r.from + 1; left = rest; news = last.news }
 
-    runs_so : (model : PureTree) (start : World SideOf) → IsModelOf model flat → IsRunningAt model flat start r → IsRunningAt model flat start stepped
+    runs_so : (model : PureTree) (start : World SideOf) (handed : List ℕ) → IsModelOf model flat → IsRunningAt model flat start handed r → IsRunningAt model flat start handed stepped
     unfolding leads_on
-    runs_so model start m run =
-        let g = goes model start m run in
-        let on = on_now model start m run in record {
+    runs_so model start handed m run =
+        let g = goes model start handed m run in
+        let on = on_now model start handed m run in record {
           going = record {
             can = on.can;
             ahead = on.ahead;
@@ -157,12 +158,12 @@ module _ (along : InstantGoesAlong) (advances : InstantAdvances) (flat : Flat) (
             now = record { at = g.now.at; side = g.now.side; turns = g.now.turns };
             timed = on.timed;
           };
-          shown = shows model (own model start m run) (world_told g.crossing.told run.going.world) g.world m.limits (shown_told model start m run) (advanced model start m run) g.now.at (values_are model start m run);
-          news_are = news_is ∙ news_now along model flat start r.from due.stop r.from r.left r.engine m can.engine can.ready run.going (let b = due.below in omega (arith, b)) due.next due.below e rest had r.news.items run.news_are;
+          shown = shows model (own model start handed m run) (world_told g.crossing.told run.going.world) g.world m.limits (shown_told model start handed m run) (advanced model start handed m run) g.now.at (values_are model start handed m run);
+          news_are = news_more handed r.news.items (news_text flat r.from e.clusters.items e.planned.items) last.news.items news_is ∙ news_now along model flat start r.from due.stop r.from r.left r.engine m can.engine can.ready run.going (let b = due.below in omega (arith, b)) due.next due.below e rest had (handed ++ r.news.items) run.news_are;
         }
 
-    pub step_runs : (model : PureTree) (start : World SideOf) → IsModelOf model flat → IsRunningAt model flat start r → IsRunningAt model flat start last
-    step_runs model start m run = subst (IsRunningAt model flat start) (sym is) (runs_so model start m run)
+    pub step_runs : (model : PureTree) (start : World SideOf) (handed : List ℕ) → IsModelOf model flat → IsRunningAt model flat start handed r → IsRunningAt model flat start handed last
+    step_runs model start handed m run = subst (IsRunningAt model flat start handed) (sym is) (runs_so model start handed m run)
 
     pub step_can : IsEngineOf flat stepped.engine → IsReadyAt (r.from + 1) stepped.engine → CanGoOn flat last
     step_can engine ready =
@@ -172,10 +173,10 @@ module _ (along : InstantGoesAlong) (advances : InstantAdvances) (flat : Flat) (
           none = refl;
           early = (let y = can.early in omega (arith, y, upto));
           since = since;
-          within = λ n t d t_at d_at. (let l = within_at some.model some.start some.of some.is n t d t_at d_at in omega (arith, l, upto));
+          within = λ n t d t_at d_at. (let l = within_at some.model some.start some.handed some.of some.is n t d t_at d_at in omega (arith, l, upto));
           printable = can.printable;
-          some = record { model = some.model; of = some.of; start = some.start; is = runs_so some.model some.start some.of some.is };
+          some = record { model = some.model; of = some.of; start = some.start; handed = some.handed; is = runs_so some.model some.start some.handed some.of some.is };
         })
 
-    pub step_goes : (taken : Option (List ℕ)) → RunGoesOn flat r last taken taken
+    pub step_goes : (taken : Option (List ℕ)) → RunGoesOn flat r last [] taken taken
     step_goes taken = goes_quietly flat r last taken (let f = ap (λ (z : Running). z.from) is in omega (arith, f)) (ap (λ (z : Running). z.shown.trace.about) is ∙ about) (ap (λ (z : Running). z.shown.trace.rows.upto) is ∙ upto) step_runs

@@ -9,7 +9,7 @@ use Rattle.tdf_sim_instants.specs.declared.engine.Engine.{Engine}
 use Rattle.tdf_sim_runs.proofs.Staying.{counts_of, steady}
 use Rattle.tdf_sim_runs.specs.Ongoing.{AreToldTo, CanBeTold, IsOngoing}
 use Rattle.tdf_sim_runs.specs.Staying.{CellsStayBelow}
-use Rattle.tdf_sim_history.proofs.Api.{cells_agree, go_on, starts, answers_agree, attributes_alike, cells_same, states_end, untold_told}
+use Rattle.tdf_sim_history.proofs.Api.{cells_agree, go_on, starts, answers_agree, attributes_alike, cells_same, states_end, to_same, untold_told}
 use Rattle.tdf_streams.proofs.Api.{get_inside, some_same}
 use Rattle.tdf_dynamic.specs.Laws.{BoundariesHaveOne}
 use Rattle.tdf_events.specs.Side.{SideOf}
@@ -17,7 +17,7 @@ use Rattle.tdf_bind.specs.declared.model.Flat.{Flat}
 use Rattle.tdf_sim_history.specs.Cells.{run_cells, column_spans, samples_done}
 use Rattle.tdf_sim_history.specs.Instant.{RunFault, periods_of}
 use Rattle.tdf_sim_history.specs.Telling.{state_as, told_more, untold, world_told, world_untold}
-use Rattle.tdf_sim_history.specs.Texts.{end_of}
+use Rattle.tdf_sim_history.specs.Texts.{end_of, notes_to}
 use Rattle.tdf_sim_history.specs.World.{Change, ClusterAt, Rules, World}
 use Rattle.tdf_sim_history.specs.History.{HistoryState, On, Spent, Stopped, history}
 use Rattle.tdf_trace_rows.specs.Laws.{Agree}
@@ -69,6 +69,10 @@ module _ (law : BoundariesHaveOne) (model : PureTree) (flat : Flat) (start : Wor
   pub on_other : (v : World SideOf) × (history (world_engine model flat) 0 other from ≡ On v) × (world_untold v ≡ world_untold going.world)
   on_other = on_untold going.world (history (world_engine model flat) 0 other from)
       (ap (state_as world_untold) (sym on_own) ∙ agrees from (omega arith))
+
+  -- and so are the plans that came
+  pub news_told : notes_to model flat rules own from ≡ notes_to model flat rules other from
+  news_told = to_same model flat rules own other from same_starts agrees from (omega arith)
 
   -- the cells before the time are the same
   pub cells_told : Agree (run_cells model flat rules own from) (run_cells model flat rules other from) from

@@ -8,7 +8,7 @@ use Rattle.tdf_sim_instants.specs.InstantLaws.{IsModelOf}
 use Rattle.tdf_sim_runs.proofs.Ended.{end_lies_in}
 use Rattle.tdf_sim_runs.proofs.Finishing.{rows_same}
 use Rattle.tdf_sim_runs.proofs.Told.{ends_alike, ends_cells, on_untold}
-use Rattle.tdf_sim_runs.specs.Ending.{EndsAs, EndsBy, GoesToEnd, WritesPart, end_by, end_from, state_from}
+use Rattle.tdf_sim_runs.specs.Ending.{EndsAs, EndsBy, GoesToEnd, HandsPart, WritesPart, end_by, end_from, state_from}
 use Rattle.tdf_sim_runs.specs.Ongoing.{AreToldTo}
 use Rattle.tdf_sim_runs.specs.Running.{IsRunningAt}
 use Rattle.tdf_sim_runs.specs.Runs.{IsLeft, model_about, trace_of}
@@ -17,10 +17,10 @@ use Rattle.tdf_sim_runs.specs.declared.going.Ended.TheVariants as ended
 use Rattle.tdf_sim_runs.specs.declared.run.Ran.{Ran}
 use Rattle.tdf_sim_runs.specs.declared.run.Whole.{Whole}
 use Rattle.tdf_sim_runs.specs.declared.running.Running.{Running}
-use Rattle.tdf_sim_runs.specs.machine.Whole.{HasEnded}
+use Rattle.tdf_sim_runs.specs.machine.Whole.{HasEnded, news_of}
 use Rattle.tdf_sim_notes.specs.Ending.{HaveAnswers, end_of, run_end, run_state}
 use Rattle.tdf_sim_notes.specs.declared.ending.End.TheVariants.{Reached, Spent, Stopped}
-use Rattle.tdf_io.proofs.Api.{front_then}
+use Rattle.tdf_io.proofs.Api.{front_more, front_then, front_whole}
 use Rattle.tdf_streams.proofs.Api.{get_inside}
 use Rattle.tdf_trace.proofs.Api.{head_front, makes_whole, rows_front, written_none}
 use Rattle.tdf_base.specs.declared.faults.Fault.{Fault}
@@ -83,17 +83,21 @@ module _ (law : BoundariesHaveOne) (kind : TraceKind) (model : PureTree) (flat :
   pub head_part : (a b : Option (List ℕ)) → AppendsFront a b (head_of about) → AppendsFront a b (trace_of kind model flat firsts ahead stop turns)
   head_part a b part = subst (λ (t : List ℕ). AppendsFront a b t) trace_is (head_front about (cells_at end) end a b part)
 
-  module _ (r : Running) (from : r.from ≡ 0) (upto : r.shown.trace.rows.upto ≡ 0) (of : r.shown.trace.about ≡ about) (run : IsRunningAt model flat start r) (a b : Option (List ℕ)) (head : Appends a b (head_of about)) where
+  module _ (r : Running) (from : r.from ≡ 0) (upto : r.shown.trace.rows.upto ≡ 0) (of : r.shown.trace.about ≡ about) (run : IsRunningAt model flat start [] r) (a b : Option (List ℕ)) (head : Appends a b (head_of about)) where
     -- and so is a front part of the rows after it
     pub rows_part_of : (c : Option (List ℕ)) → WritesPart flat stop r b c → AppendsFront a c (trace_of kind model flat firsts ahead stop turns)
     rows_part_of c part = subst (λ (t : List ℕ). AppendsFront a c t) trace_is (
         rows_front about (cells_at end) 0 end end a b c (omega arith) (omega arith) (subst (λ (t : List ℕ). Appends a b t) (sym (written_none about (cells_at end))) head)
         (subst (λ u. AppendsFront b c (rows_text about (cells_at end) u end)) upto
-        (subst (λ (o : AboutSeen). AppendsFront b c (rows_text o (cells_at end) r.shown.trace.rows.upto end)) of (part model start ahead m run to))))
+        (subst (λ (o : AboutSeen). AppendsFront b c (rows_text o (cells_at end) r.shown.trace.rows.upto end)) of (part model start [] ahead m run to))))
 
-    module _ (last : Running) (how : Ended) (c : Option (List ℕ)) (goes : GoesToEnd flat stop r last b c how) where
-      abbrev ending : EndsAs model flat start stop last how
-      ending = goes.ends model start m run
+    -- and what it handed on is a front part of the plans that came
+    pub hands_front : (c d : Option (List ℕ)) → HandsPart flat stop r c d → AppendsFront c d (news_of model flat firsts ahead stop turns)
+    hands_front c d part = part model start [] ahead (news_of model flat firsts ahead stop turns) m run to (ap (λ (w : World SideOf). notes_to model flat (rules_of model flat) w stop) (sym told_is))
+
+    module _ (last : Running) (how : Ended) (news : List ℕ) (c : Option (List ℕ)) (goes : GoesToEnd flat stop r last news b c how) where
+      abbrev ending : EndsAs model flat start news stop last how
+      ending = goes.ends model start [] m run
 
       end_is : end ≡ last.from
       end_is = sym (ends_alike law model flat start ending.ahead ahead stop m ending.can ending.told to) ∙ ending.time
@@ -101,7 +105,7 @@ module _ (law : BoundariesHaveOne) (kind : TraceKind) (model : PureTree) (flat :
       written : Appends a c (written_text about (cells_at last.from) last.shown.trace.rows.upto)
       written = Appends-trans a b c (head_of about) (rows_text about (cells_at last.from) 0 last.shown.trace.rows.upto) head
           (subst (λ u. Appends b c (rows_text about (cells_at last.from) u last.shown.trace.rows.upto)) upto
-          (subst (λ (o : AboutSeen). Appends b c (rows_text o (cells_at last.from) r.shown.trace.rows.upto last.shown.trace.rows.upto)) of (goes.rows model start ahead m run to)))
+          (subst (λ (o : AboutSeen). Appends b c (rows_text o (cells_at last.from) r.shown.trace.rows.upto last.shown.trace.rows.upto)) of (goes.rows model start [] ahead m run to)))
 
       -- the rest, by the answers that the run was told, and by these
       abbrev own_cells : Cells
@@ -133,7 +137,7 @@ module _ (law : BoundariesHaveOne) (kind : TraceKind) (model : PureTree) (flat :
           (subst (λ (t : List ℕ). AppendsFront c d t) rest_is part))
 
 -- how it ended, and what it leaves
-module _ (model : PureTree) (flat : Flat) (firsts : List First) (stop turns : ℕ) (last : Running) (how : Ended) (ending : EndsAs model flat (start_world model flat firsts [] turns) stop last how) where
+module _ (model : PureTree) (flat : Flat) (firsts : List First) (stop turns : ℕ) (last : Running) (how : Ended) (given : List ℕ) (ending : EndsAs model flat (start_world model flat firsts [] turns) given stop last how) where
   abbrev first : World SideOf
   first = start_world model flat firsts [] turns
 
@@ -220,12 +224,19 @@ module _ (model : PureTree) (flat : Flat) (firsts : List First) (stop turns : �
           going = is.going;
         }
 
-  pub has_ended : BoundariesHaveOne → IsModelOf model flat → (whole : Whole) → whole.ran.end ≡ end_by last stop turns how → whole.ran.clusters ≡ last.engine.clusters → whole.ran.kernel ≡ last.engine.kernel
-      → whole.news.items ≡ last.news.items → HasEnded model flat firsts stop turns whole
-  has_ended law m whole end clusters kernel news = record {
+  -- the news that were taken are a front part of the plans that came
+  pub given_front : BoundariesHaveOne → IsModelOf model flat → (others : List (List Change)) → HaveAnswers model flat firsts others stop turns → (before after : Option (List ℕ)) → Appends before after given
+      → AppendsFront before after (news_of model flat firsts others stop turns)
+  given_front law m others have before after took = subst (λ (t : List ℕ). AppendsFront before after t) (ending.news ∙ news_same law m others have) (front_more before after given last.news.items (front_whole before after given took))
+
+  pub has_ended : BoundariesHaveOne → IsModelOf model flat → (before after : Option (List ℕ)) → Appends before after given → (whole : Whole) → whole.ran.end ≡ end_by last stop turns how → whole.ran.clusters ≡ last.engine.clusters → whole.ran.kernel ≡ last.engine.kernel
+      → whole.news.items ≡ last.news.items → HasEnded model flat firsts stop turns before after whole
+  has_ended law m before after took whole end clusters kernel news = record {
     ahead = ending.ahead;
     answers = answers;
     end = λ others have. end ∙ ends_by how ending.by ∙ end_same law m others have;
-    news = λ others have. news ∙ ending.news ∙ news_same law m others have;
+    given = given;
+    took = took;
+    news = λ others have. ap (λ l. given ++ l) news ∙ ending.news ∙ news_same law m others have;
     left = λ others have time taken is. left_same law m others have whole.ran (left_by how ending.by whole.ran end clusters kernel time taken is);
   }

@@ -1,7 +1,7 @@
 -- How a run ends.
 -- Source: own.
 use Rattle.std.specs.Io.KnownBytes.{Appends}
-use Rattle.std.specs.Prelude.{◌≡◌, ◌≤◌, ◌-◌, ℕ, List, Option, Result}
+use Rattle.std.specs.Prelude.{◌≡◌, ◌≤◌, ◌-◌, ◌++◌, ℕ, List, Option, Result}
 use Rattle.tdf_trace.specs.Calls.{StandBelow}
 use Rattle.tdf_trace.specs.Tracked.{AreSince}
 use Rattle.tdf_sim_instants.specs.InstantLaws.{IsModelOf, IsNow}
@@ -83,9 +83,10 @@ end_by r stop turns ended.Spent = ending.Spent r.from
 end_by r stop turns (ended.Stopped cluster fault) = ending.Stopped r.from cluster fault
 
 -- a run has ended as the history does that is told the answers of its boundaries; its trace shows
--- what it did before its end, and the news are the plans that came
-pub record EndsAs (model : PureTree) (flat : Flat) (start : World SideOf) (stop : ℕ)
-    (r : Running) (how : Ended) : Type 0 where
+-- what it did before its end, and the news, those handed on and those it holds, are the plans that
+-- came
+pub record EndsAs (model : PureTree) (flat : Flat) (start : World SideOf) (handed : List ℕ)
+    (stop : ℕ) (r : Running) (how : Ended) : Type 0 where
   pub can : CanBeTold flat start
   pub ahead : List (List Change)
   pub told : AreToldTo model flat start stop ahead
@@ -93,20 +94,22 @@ pub record EndsAs (model : PureTree) (flat : Flat) (start : World SideOf) (stop 
   pub time : end_from model flat start ahead stop ≡ r.from
   pub shown : IsShown model flat (world_told ahead start) r.from (world_before model flat
       (rules_of model flat) (world_told ahead start) r.from) r.shown
-  pub news : r.news.items
+  pub news : handed ++ r.news.items
       ≡ notes_to model flat (rules_of model flat) (world_told ahead start) stop
 
--- from one state of a run to its end
-pub record GoesToEnd (flat : Flat) (stop : ℕ) (old new : Running)
+-- from one state of a run to its end, and these news were handed on
+pub record GoesToEnd (flat : Flat) (stop : ℕ) (old new : Running) (news : List ℕ)
     (before after : Option (List ℕ)) (how : Ended) : Type 0 where
   pub about : new.shown.trace.about ≡ old.shown.trace.about
   pub wrote : old.shown.trace.rows.upto ≤ new.shown.trace.rows.upto
   pub early : new.shown.trace.rows.upto ≤ new.from
   pub since : AreSince new.shown.trace.rows.upto new.shown.tracking.list
-  pub ends : (model : PureTree) (start : World SideOf) → IsModelOf model flat
-      → IsRunningAt model flat start old → EndsAs model flat start stop new how
-  pub rows : (model : PureTree) (start : World SideOf) (ahead : List (List Change))
-      → IsModelOf model flat → IsRunningAt model flat start old
+  pub ends : (model : PureTree) (start : World SideOf) (handed : List ℕ)
+      → IsModelOf model flat → IsRunningAt model flat start handed old
+      → EndsAs model flat start (handed ++ news) stop new how
+  pub rows : (model : PureTree) (start : World SideOf) (handed : List ℕ)
+      → (ahead : List (List Change)) → IsModelOf model flat
+      → IsRunningAt model flat start handed old
       → AreToldTo model flat start stop ahead → Appends before after
       (told_rows model flat start ahead old.shown.trace.about new.from
       old.shown.trace.rows.upto new.shown.trace.rows.upto)
@@ -116,8 +119,17 @@ pub record GoesToEnd (flat : Flat) (stop : ℕ) (old new : Running)
 abbrev pub WritesPart : Flat → (stop : ℕ) → (old : Running) → (before after : Option (List ℕ))
     → Type 0
 WritesPart flat stop old before after = (model : PureTree) (start : World SideOf)
-    → (ahead : List (List Change)) → IsModelOf model flat → IsRunningAt model flat start old
-    → AreToldTo model flat start stop ahead
+    → (handed : List ℕ) (ahead : List (List Change)) → IsModelOf model flat
+    → IsRunningAt model flat start handed old → AreToldTo model flat start stop ahead
     → AppendsFront before after (told_rows model flat start ahead old.shown.trace.about
     (end_from model flat start ahead stop) old.shown.trace.rows.upto
     (end_from model flat start ahead stop))
+
+-- and of the news that weren't handed on yet
+abbrev pub HandsPart : Flat → (stop : ℕ) → (old : Running) → (before after : Option (List ℕ))
+    → Type 0
+HandsPart flat stop old before after = (model : PureTree) (start : World SideOf)
+    → (handed : List ℕ) (ahead : List (List Change)) (rest : List ℕ) → IsModelOf model flat
+    → IsRunningAt model flat start handed old → AreToldTo model flat start stop ahead
+    → handed ++ rest ≡ notes_to model flat (rules_of model flat) (world_told ahead start) stop
+    → AppendsFront before after rest

@@ -1,5 +1,6 @@
 pub mod Advancing
 pub mod Ending
+pub mod Handing
 pub mod Laws
 pub mod News
 pub mod Ongoing

@@ -1,7 +1,7 @@
 -- A run with what it shows.
 -- Source: own.
 use Rattle.std.specs.Io.KnownBytes.{Appends}
-use Rattle.std.specs.Prelude.{◌≡◌, ◌<◌, ◌≤◌, ℕ, List, [], Option, Some, slice_get, ◌+◌}
+use Rattle.std.specs.Prelude.{◌≡◌, ◌<◌, ◌≤◌, ℕ, List, [], Option, Some, slice_get, ◌+◌, ◌++◌}
 use Rattle.tdf_sim_instants.specs.Engine.{IsEngineOf, IsReadyAt}
 use Rattle.tdf_sim_instants.specs.InstantLaws.{IsModelOf}
 use Rattle.tdf_sim_instants.specs.Times.{IsNextDue}
@@ -34,17 +34,18 @@ pub record IsRunning (model : PureTree) (flat : Flat) (start : World SideOf) (fr
   pub news_are : news
       ≡ notes_to model flat (rules_of model flat) (world_told going.ahead start) from
 
--- so does this run
-abbrev pub IsRunningAt : PureTree → Flat → World SideOf → Running → Type 0
-IsRunningAt model flat start r =
-    IsRunning model flat start r.from r.engine r.left r.shown r.news.items
+-- so does this run, where the news before those that it holds were handed on
+abbrev pub IsRunningAt : PureTree → Flat → World SideOf → (handed : List ℕ) → Running → Type 0
+IsRunningAt model flat start handed r =
+    IsRunning model flat start r.from r.engine r.left r.shown (handed ++ r.news.items)
 
 -- it does so for one model and start at least
 pub record IsSomeRun (flat : Flat) (r : Running) : Type 0 where
   pub model : PureTree
   pub of : IsModelOf model flat
   pub start : World SideOf
-  pub is : IsRunningAt model flat start r
+  pub handed : List ℕ
+  pub is : IsRunningAt model flat start handed r
 
 -- no period in progress ends before a mark
 abbrev pub AreWithin : (mark : ℕ) → Engine → Type 0
@@ -77,17 +78,19 @@ abbrev pub told_rows : PureTree → Flat → (start : World SideOf) → (ahead :
 told_rows model flat start ahead about before from end = rows_text about
     (run_cells model flat (rules_of model flat) (world_told ahead start) before) from end
 
--- a run went on from one state to another, and the sink took the rows that were written: those of
--- the history, whatever answers it is told
-pub record RunGoesOn (flat : Flat) (old new : Running) (before after : Option (List ℕ))
-    : Type 0 where
+-- a run went on from one state to another and handed on these news, and the sink took the rows that
+-- were written: those of the history, whatever answers it is told
+pub record RunGoesOn (flat : Flat) (old new : Running) (news : List ℕ)
+    (before after : Option (List ℕ)) : Type 0 where
   pub later : old.from ≤ new.from
   pub about : new.shown.trace.about ≡ old.shown.trace.about
   pub wrote : old.shown.trace.rows.upto ≤ new.shown.trace.rows.upto
-  pub runs : (model : PureTree) (start : World SideOf) → IsModelOf model flat
-      → IsRunningAt model flat start old → IsRunningAt model flat start new
-  pub rows : (model : PureTree) (start : World SideOf) (ahead : List (List Change))
-      → IsModelOf model flat → IsRunningAt model flat start old
+  pub runs : (model : PureTree) (start : World SideOf) (handed : List ℕ)
+      → IsModelOf model flat → IsRunningAt model flat start handed old
+      → IsRunningAt model flat start (handed ++ news) new
+  pub rows : (model : PureTree) (start : World SideOf) (handed : List ℕ)
+      → (ahead : List (List Change)) → IsModelOf model flat
+      → IsRunningAt model flat start handed old
       → AreToldTo model flat start new.from ahead → Appends before after
       (told_rows model flat start ahead old.shown.trace.about new.from
       old.shown.trace.rows.upto new.shown.trace.rows.upto)
@@ -98,8 +101,9 @@ pub record WritesFrontTo (flat : Flat) (r : Running) (before after : Option (Lis
   pub mark : ℕ
   pub early : mark ≤ r.from
   pub late : (n s : ℕ) → slice_get r.engine.since.items n ≡ Some s → mark ≤ s
-  pub front : (model : PureTree) (start : World SideOf) (ahead : List (List Change))
-      → IsModelOf model flat → IsRunningAt model flat start r
+  pub front : (model : PureTree) (start : World SideOf) (handed : List ℕ)
+      → (ahead : List (List Change)) → IsModelOf model flat
+      → IsRunningAt model flat start handed r
       → AreToldTo model flat start r.from ahead → AppendsFront before after
       (told_rows model flat start ahead r.shown.trace.about r.from r.shown.trace.rows.upto mark)
 

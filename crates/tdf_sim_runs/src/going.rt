@@ -32,8 +32,11 @@ ghost use Rattle.tdf_exec.specs.Starts.{IsSoundFlat};
 ghost use Rattle.tdf_events.specs.Kernel.{side_of};
 ghost use Rattle.tdf_events.specs.Runnable.{IsRunnable};
 ghost use Rattle.tdf_bind.specs.declared.model.Flat.{Flat as FlatModel};
-ghost use Rattle.tdf_io.specs.Faults.{CountsSinkFaults};
-ghost use Rattle.tdf_sim_runs.specs.Ending.{GoesToEnd, WritesPart};
+ghost use Rattle.tdf_io.specs.Bytes.{AppendsFront};
+ghost use Rattle.tdf_io.specs.Faults.{CountsSinkFaults, CountsTwoSinks};
+ghost use Rattle.tdf_io.specs.declared.writing.SinkErr.TheVariants.{Failed};
+ghost use Rattle.tdf_sim_runs.specs.Ending.{GoesToEnd, HandsPart, WritesPart};
+ghost use Rattle.tdf_sim_runs.specs.Handing.{EndsHanding, HandsOn};
 ghost use Rattle.tdf_sim_runs.specs.Running.{CanGoOn, RunGoesOn, IsDueNow, WritesFrontTo};
 ghost use Rattle.tdf_sim_traces.specs.Calls.{CanTake, ShowsInstant};
 ghost use Rattle.tdf_sim_traces.specs.Periods.{clock_at};
@@ -49,9 +52,12 @@ use std::alloc::Global;
 use tdf_base::Memory;
 use tdf_bind::Flat;
 use tdf_dynamic::law_one_answer;
-use tdf_io::{Sink, SinkErr};
+use tdf_io::{Sink, SinkErr, put_all};
 use tdf_sim_instants::{Engine, Pass, law_instant};
 use tdf_sim_traces::{Clock, Shown};
+
+/// So many bytes of news are handed on at once.
+const MANY_NEWS: usize = 65_536;
 
 /// Shows what an instant gave.
 fn show(shown: &mut Shown, engine: &Engine, flat: &Flat, time: u64) -> Result<(), Memory>
@@ -140,7 +146,7 @@ impl Running {
         requires early { self.old.from < time_end }
         ensures can { result ≡ Ok pass.Done → CanGoOn flat.now self.new }
         ensures goes { result ≡ Ok pass.Done → (taken : Option (List ℕ))
-            → RunGoesOn flat.now self.old self.new taken taken }
+            → RunGoesOn flat.now self.old self.new [] taken taken }
         ensures after { result ≡ Ok pass.Done → self.new.from ≡ self.old.from + 1 }
         ensures stage { self.new.shown.trace.stage ≡ self.old.shown.trace.stage }
         ensures spent { result ≡ Ok pass.Spent → HasBeenSpent flat.now self.old.from
@@ -176,7 +182,7 @@ impl Running {
         requires open { self.old.shown.trace.stage ≡ Open }
         ensures can { OnOk result (CanGoOn flat.now self.new) }
         ensures goes { OnOk result
-            (RunGoesOn flat.now self.old self.new (K.taken out.old) (K.taken out.new)) }
+            (RunGoesOn flat.now self.old self.new [] (K.taken out.old) (K.taken out.new)) }
         ensures part { OnErr result (WritesFrontTo flat.now self.old (K.taken out.old) (K.taken out.new)) }
         ensures same { self.new.from ≡ self.old.from }
         ensures stage { IsStageAfter result self.new.shown.trace.stage }
@@ -186,6 +192,22 @@ impl Running {
         law_one_answer();
         let mark = self.engine.least_start(self.from);
         self.shown.trace.advance(mark, out)
+    }
+
+    /// Hands on its news, where there are many.
+    fn hand_on<N: Sink>(&mut self, notes: &mut N) -> Result<(), SinkErr>
+        ensures hands { OnOk result
+            (HandsOn self.old self.new (N.taken notes.old) (N.taken notes.new)) }
+        ensures part { OnErr result
+            (AppendsFront (N.taken notes.old) (N.taken notes.new) self.old.news.items) }
+        ensures counted { CountsSinkFaults (N.faults notes.old) (N.faults notes.new) result }
+    {
+        if self.news.len() < MANY_NEWS {
+            return Ok(());
+        }
+        put_all(notes, &self.news)?;
+        self.news.clear();
+        Ok(())
     }
 
     /// The next instant before the stop, and the rows that no later one changes.
@@ -203,12 +225,12 @@ impl Running {
         requires open { self.old.shown.trace.stage ≡ Open }
         ensures can { result ≡ Ok None → CanGoOn flat.now self.new }
         ensures goes { result ≡ Ok None
-            → RunGoesOn flat.now self.old self.new (K.taken out.old) (K.taken out.new) }
+            → RunGoesOn flat.now self.old self.new [] (K.taken out.old) (K.taken out.new) }
         ensures on { result ≡ Ok None → self.old.from < self.new.from }
         ensures within { result ≡ Ok None → self.new.from ≤ stop }
         ensures open { OnOk result (self.new.shown.trace.stage ≡ Open) }
         ensures ends { IfOk result (λ end. IfSome end
-            (GoesToEnd flat.now stop self.old self.new (K.taken out.old) (K.taken out.new))) }
+            (GoesToEnd flat.now stop self.old self.new [] (K.taken out.old) (K.taken out.new))) }
         ensures part { OnErr result (WritesPart flat.now stop self.old (K.taken out.old) (K.taken out.new)) }
         ensures counted { CountsSinkFaults (K.faults out.old) (K.faults out.new) result }
     {
@@ -230,24 +252,29 @@ impl Running {
         Ok(None)
     }
 
-    /// Goes on to the stop, or as far as the turns that are left reach.
-    pub(crate) fn go<K: Sink>(
+    /// Goes on to the stop, or as far as the turns that are left reach. It writes rows on `out`, and hands on news to `notes`; those
+    /// that it holds at the end are few.
+    pub(crate) fn go<K: Sink, N: Sink>(
         &mut self,
         alloc: Global,
         flat: &Flat,
         stop: u64,
         out: &mut K,
+        notes: &mut N,
     ) -> Result<Ended, SinkErr>
         requires runnable { IsRunnable flat.now }
         requires can { CanGoOn flat.now self.old }
         requires within { self.old.from ≤ stop }
         requires early { stop < time_end }
         requires open { self.old.shown.trace.stage ≡ Open }
-        ensures ends { IfOk result
-            (GoesToEnd flat.now stop self.old self.new (K.taken out.old) (K.taken out.new)) }
+        ensures ends { IfOk result (EndsHanding flat.now stop self.old self.new
+            (K.taken out.old) (K.taken out.new) (N.taken notes.old) (N.taken notes.new)) }
         ensures open { OnOk result (self.new.shown.trace.stage ≡ Open) }
         ensures part { OnErr result (WritesPart flat.now stop self.old (K.taken out.old) (K.taken out.new)) }
-        ensures counted { CountsSinkFaults (K.faults out.old) (K.faults out.new) result }
+        ensures notes_part { OnErr result
+            (HandsPart flat.now stop self.old (N.taken notes.old) (N.taken notes.new)) }
+        ensures counts { CountsTwoSinks Failed (K.faults out.old) (K.faults out.new)
+            (N.faults notes.old) (N.faults notes.new) result }
     {
         law_one_answer();
         loop {
@@ -255,6 +282,9 @@ impl Running {
                 Ok(None) => {}
                 Ok(Some(ended)) => return Ok(ended),
                 Err(error) => return Err(error),
+            }
+            if let Err(error) = self.hand_on(notes) {
+                return Err(error);
             }
         }
     }

@@ -36,7 +36,7 @@ ghost use Rattle.tdf_io.specs.Bytes.{AppendsFront, WritesText};
 ghost use Rattle.tdf_io.specs.Faults.{CountsSinkFaults, CountsTwoSinks};
 ghost use Rattle.tdf_io.specs.declared.writing.SinkErr.TheVariants.{Failed};
 ghost use Rattle.tdf_sim_runs.specs.Ending.{WritesEnd, end_by};
-ghost use Rattle.tdf_sim_runs.specs.machine.Whole.{HasEnded};
+ghost use Rattle.tdf_sim_runs.specs.machine.Whole.{HasEnded, news_of};
 ghost use Rattle.tdf_sim_runs.specs.Running.{CanGoOn, IsRunningAt};
 ghost use Rattle.tdf_sim_runs.specs.Runs.{CanRun, RunsAs, model_about, trace_of};
 ghost use Rattle.tdf_sim_notes.specs.Ending.{HaveAnswers, end_text};
@@ -58,7 +58,7 @@ use tdf_dynamic_first::First;
 use tdf_io::{Sink, SinkErr, put_all};
 use tdf_sim_notes::{law_report, write_closing, write_plans};
 
-/// A run that ended, and the text of the plans that its boundaries brought.
+/// A run that ended, and the text of the last plans that its boundaries brought.
 #[derive(Drop)]
 struct Whole {
     ran: Ran,
@@ -95,7 +95,7 @@ fn opened<O: Sink>(
     requires can { CanRun flat.now firsts.items }
     ensures can { IfOk result (CanGoOn flat.now) }
     ensures runs { (model : PureTree) → IsModelOf model flat.now → IfOk result (λ run.
-        IsRunningAt model flat.now (start_world model flat.now firsts.items [] turns) run) }
+        IsRunningAt model flat.now (start_world model flat.now firsts.items [] turns) [] run) }
     ensures from { IfOk result (λ run. run.from ≡ 0) }
     ensures upto { IfOk result (λ run. run.shown.trace.rows.upto ≡ 0) }
     ensures stage { IfOk result (λ run. run.shown.trace.stage ≡ Open) }
@@ -148,18 +148,20 @@ fn closed<O: Sink>(
     }
 }
 
-/// Runs a model, and writes its trace.
-fn trace_run<O: Sink>(
+/// Runs a model, writes its trace, and hands on the plans that its boundaries bring, but for the last.
+fn trace_run<O: Sink, N: Sink>(
     alloc: Global,
     flat: &Flat,
     firsts: Vec<First>,
     request: Request,
     out: &mut O,
+    notes: &mut N,
 ) -> Result<Whole, SinkErr>
     requires can { CanRun flat.now firsts.items }
     requires stop { request.stop < time_end }
     ensures ended { (model : PureTree) → IsModelOf model flat.now → IfOk result (λ whole.
-        HasEnded model flat.now firsts.items request.stop request.turns whole) }
+        HasEnded model flat.now firsts.items request.stop request.turns (N.taken notes.old)
+        (N.taken notes.new) whole) }
     ensures trace { (model : PureTree) → IsModelOf model flat.now
         → (ahead : List (List Change))
         → HaveAnswers model flat.now firsts.items ahead request.stop request.turns
@@ -170,14 +172,20 @@ fn trace_run<O: Sink>(
         → HaveAnswers model flat.now firsts.items ahead request.stop request.turns
         → OnErr result (AppendsFront (O.taken out.old) (O.taken out.new)
         (trace_of request.kind model flat.now firsts.items ahead request.stop request.turns)) }
-    ensures counted { CountsSinkFaults (O.faults out.old) (O.faults out.new) result }
+    ensures notes_part { (model : PureTree) → IsModelOf model flat.now
+        → (ahead : List (List Change))
+        → HaveAnswers model flat.now firsts.items ahead request.stop request.turns
+        → OnErr result (AppendsFront (N.taken notes.old) (N.taken notes.new)
+        (news_of model flat.now firsts.items ahead request.stop request.turns)) }
+    ensures counts { CountsTwoSinks Failed (O.faults out.old) (O.faults out.new)
+        (N.faults notes.old) (N.faults notes.new) result }
 {
     law_one_answer();
     let mut run = match opened(alloc, flat, firsts, request.kind, request.turns, out) {
         Ok(run) => run,
         Err(error) => return Err(error),
     };
-    match run.go(alloc, flat, request.stop, out) {
+    match run.go(alloc, flat, request.stop, out, notes) {
         Ok(ended) => closed(run, ended, request.stop, request.turns, out),
         Err(error) => {
             drop(run);
@@ -186,7 +194,7 @@ fn trace_run<O: Sink>(
     }
 }
 
-/// Writes the plans that boundaries brought, and how the run ended.
+/// Writes the last plans that boundaries brought, and how the run ended.
 fn write_notes<N: Sink>(
     alloc: Global,
     flat: &Flat,
@@ -236,7 +244,7 @@ pub fn run_model<O: Sink, N: Sink>(
         drop(firsts);
         return Err(error);
     }
-    let whole = match trace_run(alloc, flat, firsts, request, out) {
+    let whole = match trace_run(alloc, flat, firsts, request, out, notes) {
         Ok(whole) => whole,
         Err(error) => return Err(error),
     };

@@ -14,6 +14,6 @@ pub struct Running {
     pub from: u64,
     /// The turns that are left.
     pub left: u64,
-    /// The text of the plans that its boundaries brought.
+    /// The text of the plans that its boundaries brought, but for those that were handed on.
     pub news: Vec<u8>,
 }

@@ -31,7 +31,7 @@ pub(crate) fn begin(
     requires can { CanRun flat.now firsts.items }
     ensures can { IfOk result (CanGoOn flat.now) }
     ensures runs { (model : PureTree) → IsModelOf model flat.now → IfOk result (λ run.
-        IsRunningAt model flat.now (start_world model flat.now firsts.items [] turns) run) }
+        IsRunningAt model flat.now (start_world model flat.now firsts.items [] turns) [] run) }
     ensures from { IfOk result (λ run. run.from ≡ 0) }
     ensures upto { IfOk result (λ run. run.shown.trace.rows.upto ≡ 0) }
     ensures stage { IfOk result (λ run. run.shown.trace.stage ≡ New) }

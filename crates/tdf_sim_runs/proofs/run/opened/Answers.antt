@@ -12,7 +12,7 @@ returns-in-Ok-begin-clause-can g c = opens c.args.flat.now c.in-Ok.run' c.begin-
 
 pub returns-in-Ok-begin-clause-runs : goal.returns-in-Ok-begin-clause-runs
 returns-in-Ok-begin-clause-runs g c = λ model m. opens_run c.args.flat.now c.in-Ok.run' c.begin-2.new.self c.begin-2.ensures.rows c.begin-2.ensures.about model
-    (start_world model c.args.flat.now c.args.firsts.items [] c.args.turns) (c.in-Ok.ensures.runs model m)
+    (start_world model c.args.flat.now c.args.firsts.items [] c.args.turns) [] (c.in-Ok.ensures.runs model m)
 
 pub returns-in-Err-begin-clause-wrote : goal.returns-in-Err-begin-clause-wrote
 returns-in-Err-begin-clause-wrote g c = writes_err g.O.Sink.taken g.O.Sink.faults c.args.out.now c.begin-2.new.sink (head_of (model_about c.args.kind c.args.flat.now)) c.in-Err-begin.error

@@ -1,5 +1,5 @@
 use Rattle.tdf_io.proofs.Api.{front_none, front_whole}
-use Rattle.tdf_sim_runs.proofs.Noting.{notes_part, notes_whole, plans_part, plans_whole}
+use Rattle.tdf_sim_runs.proofs.Noting.{news_part, notes_part, notes_whole, plans_part}
 use Rattle.tdf_sim_runs.proofs.run.run_model.Goals as goal
 use Rattle.tdf_sim_runs.specs.Runs.{trace_of}
 
@@ -20,8 +20,8 @@ returns-in-Err-trace_run-clause-runs g c = λ model m ahead have. record {
   trace = tt;
   notes = tt;
   trace_part = c.in-Err-trace_run.ensures.part model m ahead have;
-  notes_part = plans_whole c.law_report.ensures.notes model c.args.flat.now c.args.firsts.items c.deref.result.now c.deref.ensures.value ahead c.args.request.stop c.args.request.turns
-      (g.N.Sink.taken c.args.notes.now) (g.N.Sink.taken c.write_plans.new.notes) c.in_default.ensures.all;
+  notes_part = news_part c.law_report.ensures.notes model c.args.flat.now c.args.firsts.items c.deref.result.now c.deref.ensures.value ahead c.args.request.stop c.args.request.turns
+      (g.N.Sink.taken c.args.notes.now) (g.N.Sink.taken c.write_plans.new.notes) c.in_default.ensures.all (g.N.Sink.taken c.trace_run.new.notes) (c.in-Err-trace_run.ensures.notes_part model m ahead have);
   left = tt;
 }
 
@@ -35,7 +35,7 @@ returns-in-Ok-write_notes-clause-runs g c = λ model m ahead have.
       end = ended.end ahead have;
       trace = c.in-Ok.ensures.trace model m ahead have;
       notes = notes_whole c.law_report.ensures.notes model c.args.flat.now c.args.firsts.items c.deref.result.now c.deref.ensures.value ahead c.args.request.stop c.args.request.turns
-          (g.N.Sink.taken c.args.notes.now) (g.N.Sink.taken c.write_plans.new.notes) c.in_default.ensures.all
+          (g.N.Sink.taken c.args.notes.now) (g.N.Sink.taken c.write_plans.new.notes) c.in_default.ensures.all (g.N.Sink.taken c.trace_run.new.notes) ended.given ended.took
           c.in-Ok.whole.news.items (ended.news ahead have) c.in-Ok.whole.ran.end (ended.end ahead have) (g.N.Sink.taken c.write_notes.new.notes) c.in-Ok-write_notes.ensures.all;
       trace_part = tt;
       notes_part = tt;
@@ -52,7 +52,7 @@ returns-in-Err-write_notes-clause-runs g c = λ model m ahead have.
       trace_part = front_whole (g.O.Sink.taken c.args.out.now) (g.O.Sink.taken c.trace_run.new.out)
           (trace_of c.args.request.kind model c.args.flat.now c.args.firsts.items ahead c.args.request.stop c.args.request.turns) (c.in-Ok.ensures.trace model m ahead have);
       notes_part = notes_part c.law_report.ensures.notes model c.args.flat.now c.args.firsts.items c.deref.result.now c.deref.ensures.value ahead c.args.request.stop c.args.request.turns
-          (g.N.Sink.taken c.args.notes.now) (g.N.Sink.taken c.write_plans.new.notes) c.in_default.ensures.all
+          (g.N.Sink.taken c.args.notes.now) (g.N.Sink.taken c.write_plans.new.notes) c.in_default.ensures.all (g.N.Sink.taken c.trace_run.new.notes) ended.given ended.took
           c.in-Ok.whole.news.items (ended.news ahead have) c.in-Ok.whole.ran.end (ended.end ahead have) (g.N.Sink.taken c.write_notes.new.notes) c.in-Err-write_notes.ensures.part;
       left = tt;
     }

@@ -1,4 +1,4 @@
-use Rattle.std.proofs.Common.{◌≡◌, ◌∙◌, ◌++◌, ℕ, ◌<◌, ◌≤◌, Ok, ap, sym, subst, inl, inr, arith}
+use Rattle.std.proofs.Common.{[], ◌≡◌, ◌∙◌, ◌++◌, ℕ, ◌<◌, ◌≤◌, Ok, ap, sym, subst, inl, inr, arith}
 use Rattle.std.proofs.lemmas.Bool.{cases_lt}
 use Rattle.tdf_sim_instants.specs.Engine.{HasBeenSpent, HasBeenStopped}
 use Rattle.tdf_sim_instants.specs.declared.crossing.Pass.TheVariants as pass
@@ -25,7 +25,7 @@ less_than t stop within other = elim (cases_lt t stop) [
 pub returns-then-self-stop-clause-ends : goal.returns-then-self-stop-clause-ends
 returns-then-self-stop-clause-ends g c =
     let taken = g.K.Sink.taken c.args.out.now in
-    subst (λ (x : Running). GoesToEnd c.args.flat.now c.args.stop c.args.self.now x taken taken ended.Reached) (sym c.wait.ensures.rest)
+    subst (λ (x : Running). GoesToEnd c.args.flat.now c.args.stop c.args.self.now x [] taken taken ended.Reached) (sym c.wait.ensures.rest)
     (reaches c.args.flat.now c.args.self.now c.args.stop c.wait.new.self.from c.requires.can c.requires.within c.wait.ensures.next c.if-self-stop.true taken)
 
 pub wait-requires-clause-going : goal.wait-requires-clause-going
@@ -36,7 +36,7 @@ step-requires-clause-can g c = subst (CanGoOn c.args.flat.now) (sym c.wait.ensur
     (waits c.args.flat.now c.args.self.now c.args.stop c.wait.new.self.from c.requires.can c.requires.within c.wait.ensures.next)
 
 pub returns-in-Err-clause-part : goal.returns-in-Err-clause-part
-returns-in-Err-clause-part g c = λ model start ahead m run to.
+returns-in-Err-clause-part g c = λ model start handed ahead m run to.
     none_front c.args.self.now.shown.trace.about (run_cells model c.args.flat.now (rules_of model c.args.flat.now) (world_told ahead start) (end_from model c.args.flat.now start ahead c.args.stop))
     c.args.self.now.shown.trace.rows.upto (end_from model c.args.flat.now start ahead c.args.stop) (g.K.Sink.taken c.args.out.now)
 
@@ -48,15 +48,15 @@ returns-in_err-write-clause-part g c =
     let can = c.requires.can in
     let next = c.wait.ensures.next in
     let waited = subst (CanGoOn flat) (sym c.wait.ensures.rest) (waits flat r c.args.stop c.wait.new.self.from can c.requires.within next) in
-    let first : RunGoesOn flat r c.wait.new.self taken taken =
-    subst (λ (x : Running). RunGoesOn flat r x taken taken) (sym c.wait.ensures.rest) (waits_goes flat r c.args.stop c.wait.new.self.from can c.requires.within next taken) in
+    let first : RunGoesOn flat r c.wait.new.self [] taken taken =
+    subst (λ (x : Running). RunGoesOn flat r x [] taken taken) (sym c.wait.ensures.rest) (waits_goes flat r c.args.stop c.wait.new.self.from can c.requires.within next taken) in
     let is = ap Ok c.in-Ok-Done.field-0-is in
     let mid = c.in-Ok-Done.ensures.can is in
-    let one = goes_then c.law_one_answer.ensures flat r c.wait.new.self c.step.new.self taken taken taken waited first (c.in-Ok-Done.ensures.goes is taken) in
+    let one = goes_then c.law_one_answer.ensures flat r c.wait.new.self c.step.new.self [] [] taken taken taken waited first (c.in-Ok-Done.ensures.goes is taken) in
     let low : c.step.new.self.from ≤ c.args.stop =
     (let a = c.in-Ok-Done.ensures.after is in let l = less_than c.wait.new.self.from c.args.stop next.within c.if-self-stop.false in omega (arith, a, l)) in
     always_err c.from_residual.result
-    (part_then c.law_one_answer.ensures flat r c.step.new.self c.args.stop taken taken (g.K.Sink.taken c.write.new.out) mid low one
+    (part_then c.law_one_answer.ensures flat r c.step.new.self c.args.stop [] taken taken (g.K.Sink.taken c.write.new.out) mid low one
     (part_to c.law_one_answer.ensures flat c.step.new.self c.args.stop taken (g.K.Sink.taken c.write.new.out) mid low c.in_err-write.ensures.part))
 
 pub returns-clause-goes : goal.returns-clause-goes
@@ -67,11 +67,11 @@ returns-clause-goes g c = λ _.
     let can = c.requires.can in
     let next = c.wait.ensures.next in
     let waited = subst (CanGoOn flat) (sym c.wait.ensures.rest) (waits flat r c.args.stop c.wait.new.self.from can c.requires.within next) in
-    let first : RunGoesOn flat r c.wait.new.self taken taken =
-    subst (λ (x : Running). RunGoesOn flat r x taken taken) (sym c.wait.ensures.rest) (waits_goes flat r c.args.stop c.wait.new.self.from can c.requires.within next taken) in
+    let first : RunGoesOn flat r c.wait.new.self [] taken taken =
+    subst (λ (x : Running). RunGoesOn flat r x [] taken taken) (sym c.wait.ensures.rest) (waits_goes flat r c.args.stop c.wait.new.self.from can c.requires.within next taken) in
     let is = ap Ok c.in-Ok-Done.field-0-is in
-    let one = goes_then c.law_one_answer.ensures flat r c.wait.new.self c.step.new.self taken taken taken waited first (c.in-Ok-Done.ensures.goes is taken) in
-    goes_then c.law_one_answer.ensures flat r c.step.new.self c.write.new.self taken taken (g.K.Sink.taken c.write.new.out) (c.in-Ok-Done.ensures.can is) one c.in_ok-write.ensures.goes
+    let one = goes_then c.law_one_answer.ensures flat r c.wait.new.self c.step.new.self [] [] taken taken taken waited first (c.in-Ok-Done.ensures.goes is taken) in
+    goes_then c.law_one_answer.ensures flat r c.step.new.self c.write.new.self [] [] taken taken (g.K.Sink.taken c.write.new.out) (c.in-Ok-Done.ensures.can is) one c.in_ok-write.ensures.goes
 
 pub returns-clause-on : goal.returns-clause-on
 returns-clause-on g c = λ _.
