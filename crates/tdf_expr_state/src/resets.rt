@@ -7,7 +7,14 @@ ghost use Rattle.tdf_expr_state.specs.Resets.{no_times, none_set, with_zeros};
 pub(crate) fn unset(flags: &mut Vec<bool>)
     ensures { flags.new.items ≡ none_set flags.old.items }
 {
-    flags.fill(false);
+    match flags.len() {
+        1 => flags[0] = false,
+        2 => {
+            flags[0] = false;
+            flags[1] = false;
+        }
+        _ => flags.fill(false),
+    }
 }
 
 /// No time stands.
@@ -22,5 +29,9 @@ pub(crate) fn blank(numbers: &mut Vec<i128>, from: usize, count: usize)
     requires { from + count ≤ length numbers.old.items }
     ensures { numbers.new.items ≡ with_zeros from count numbers.old.items }
 {
+    if count == 1 {
+        numbers[from] = 0;
+        return;
+    }
     numbers[from..from + count].fill(0);
 }

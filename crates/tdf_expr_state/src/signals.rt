@@ -8,12 +8,18 @@ pub struct Signals {
     samples: Vec<i128>,
     assigned: Vec<bool>,
     notified: Vec<Option<u64>>,
+    /// Whether an event was notified since all were cleared.
+    has_notified: bool,
     steps: Vec<Option<u64>>,
+    /// Whether a timestep was given since all were cleared.
+    has_steps: bool,
     accepts: Option<bool>,
     out_of_range: bool,
 }
 
 impl Model for Signals {
+    ghost use Rattle.std.specs.Prelude.{◌≡◌, false};
+    ghost use Rattle.tdf_expr_state.specs.Resets.{no_times};
     ghost use Rattle.tdf_expr_state.specs.State.{PortsState};
 
     ghost Value = { PortsState };
@@ -25,6 +31,11 @@ impl Model for Signals {
       steps = a.steps.items;
       accepts = a.accepts;
       out_of_range = a.out_of_range;
+    } };
+
+    ghost invariant = { λ a. record {
+      notified : a.has_notified ≡ false → a.notified.items ≡ no_times a.notified.items;
+      steps : a.has_steps ≡ false → a.steps.items ≡ no_times a.steps.items;
     } };
 }
 
@@ -68,7 +79,9 @@ impl Signals {
             samples: vec![in alloc; 0; samples as usize]?,
             assigned: vec![in alloc; false; ports as usize]?,
             notified: vec![in alloc; None; events as usize]?,
+            has_notified: false,
             steps: vec![in alloc; None; ports as usize + 1]?,
+            has_steps: false,
             accepts: None,
             out_of_range: false,
         })
@@ -159,6 +172,7 @@ impl Signals {
         ensures { self.new ≡ record self.old { notified = noticed self.old.notified event after } }
     {
         note(&mut self.notified, event, after);
+        self.has_notified = true;
     }
 
     /// The module (place 0) or a port (place 1 + its number) is given a timestep.
@@ -167,6 +181,7 @@ impl Signals {
         ensures { self.new ≡ record self.old { steps = slice_set self.old.steps at (Some step) } }
     {
         self.steps[at] = Some(step);
+        self.has_steps = true;
     }
 
     /// The rates are accepted or rejected; the last answer stands.
@@ -202,14 +217,20 @@ impl Signals {
     pub fn clear_notified(&mut self)
         ensures { self.new ≡ record self.old { notified = no_times self.old.notified } }
     {
-        forget(&mut self.notified);
+        if self.has_notified {
+            forget(&mut self.notified);
+            self.has_notified = false;
+        }
     }
 
     /// No timestep is given. It takes no memory.
     pub fn clear_steps(&mut self)
         ensures { self.new ≡ record self.old { steps = no_times self.old.steps } }
     {
-        forget(&mut self.steps);
+        if self.has_steps {
+            forget(&mut self.steps);
+            self.has_steps = false;
+        }
     }
 
     /// Nothing is accepted or rejected, and no rate was out of range. It takes no memory.
