@@ -6,3 +6,4 @@ pub mod Keys
 pub mod Nets
 pub mod Periods
 pub mod Phases
+pub mod Placing

@@ -1,9 +1,10 @@
 //! The net with the rates that a table of attributes gives.
 
-ghost use Rattle.std.specs.Prelude.{◌≡◌, ◌<◌, ◌≤◌, ◌*◌, All, IfOk, Some, length, map, slice_get, slice_index};
+ghost use Rattle.std.specs.Prelude.{◌≡◌, ◌<◌, ◌≤◌, ◌*◌, All, IfOk, Some, length, map, slice_get, slice_index, slice_set};
 ghost use Rattle.tdf_base.specs.Limits.{greatest_delay};
 ghost use Rattle.tdf_bind_tables.specs.Ranges.{AreInRange};
 ghost use Rattle.tdf_dynamic_plans.specs.Rates.{times_value, port_rate, edge_kind, write_rate_by, read_rate_by, rated_edge, rated_port, net_ports, net_of, net_seen, AreRates};
+ghost use Rattle.tdf_dynamic_plans.specs.machine.Placing.{ArePlacesFrom};
 ghost use Rattle.tdf_graph.specs.Ranges.{IsRate};
 ghost use Rattle.tdf_timestep.specs.Period.{rate_at_port};
 ghost use Rattle.tdf_bind_connections.specs.declared.modules.PortRow.{PortRow as PortRowOf};
@@ -51,13 +52,64 @@ fn rate_in(table: &[ModuleAttrs], port: &PortRow) -> u32
     1
 }
 
-fn rated_port(table: &[ModuleAttrs], port: &PortRow) -> Port
-    requires { IsRate (port_rate table.now port.now) }
+/// A module stands at a place, if it is below the end of the places.
+fn place(places: &mut Vec<Option<usize>>, module: u32, at: usize)
+    ensures { places.new.items ≡ slice_set places.old.items «module» (Some at) }
+{
+    let module = module as usize;
+    if module < places.len() {
+        places[module] = Some(at);
+    }
+}
+
+/// The places in a table of the modules below a number, none for one that isn't in it.
+fn places_of(
+    alloc: Global,
+    table: &[ModuleAttrs],
+    modules: usize,
+) -> Result<Vec<Option<usize>>, Memory>
+    ensures { IfOk result (λ places. ArePlacesFrom 0 table.now places.items) }
+{
+    let mut places = vec![in alloc; None; modules]?;
+    let mut left = table.len();
+    while 0 < left {
+        left -= 1;
+        let attrs = &table[left];
+        place(&mut places, attrs.number, left);
+    }
+    Ok(places)
+}
+
+/// The rate of a port, by the places of the modules in the table.
+fn rate_by_place(table: &[ModuleAttrs], places: &[Option<usize>], port: &PortRow) -> u32
+    requires rate { IsRate (port_rate table.now port.now) }
+    requires places { ArePlacesFrom 0 table.now places.now }
+    ensures { result ≡ port_rate table.now port.now }
+{
+    let module = port.module as usize;
+    if places.len() <= module {
+        return rate_in(table, port);
+    }
+    match places[module] {
+        None => 1,
+        Some(at) => {
+            if table.len() <= at {
+                return 1;
+            }
+            let attrs = &table[at];
+            times_value(port.rate, &attrs.rates)
+        }
+    }
+}
+
+fn rated_port(table: &[ModuleAttrs], places: &[Option<usize>], port: &PortRow) -> Port
+    requires rate { IsRate (port_rate table.now port.now) }
+    requires places { ArePlacesFrom 0 table.now places.now }
     ensures { result ≡ rated_port table.now port.now }
 {
     Port {
         actor: port.module,
-        rate: rate_in(table, port),
+        rate: rate_by_place(table, places, port),
     }
 }
 
@@ -67,9 +119,10 @@ fn net_ports(alloc: Global, tables: &FlatTables, table: &[ModuleAttrs]) -> Resul
     requires { AreRates tables.now table.now }
     ensures { IfOk result (λ ports. ports.items ≡ net_ports tables.now table.now) }
 {
+    let places = places_of(alloc, table, tables.modules.len())?;
     let mut ports = Vec::new(alloc);
     for i in 0..tables.ports.len() {
-        ports.push(rated_port(table, &tables.ports[i]))?;
+        ports.push(rated_port(table, &places, &tables.ports[i]))?;
     }
     Ok(ports)
 }
