@@ -141,3 +141,11 @@ all_sampled entries offset low high links values old new before from upto after 
         choose (inl less) there = absurd (omega (arith, before due.place due.entry less due.at, due.when))
         choose (inr past) (inl below) = record { place = due.place; entry = due.entry; from = past; below = below; at = due.at; who = due.who }
         choose (inr past) (inr over) = absurd (omega (arith, after due.place due.entry over due.at, due.when))
+
+-- without links none is due
+pub none_sampled : (entries : List Entry) (offset : ℕ) (values inputs : List Raw) → AreSampled entries offset [] values inputs inputs
+none_sampled entries offset values inputs = record {
+  same = refl;
+  due = λ j l at. absurd cc;
+  others = λ i none. refl;
+}

@@ -77,6 +77,9 @@ pub fn sample_due(plan: &Plan, offset: u64, links: &Links, values: &[Raw], input
     ensures { AreSampled plan.now.entries.items offset links.now.list.items values.now
         inputs.old inputs.new }
 {
+    if links.list.is_empty() {
+        return;
+    }
     let low = first_from(&plan.entries, offset);
     let high = first_after(&plan.entries, offset);
     if low < high {
