@@ -4,6 +4,7 @@ pub mod Keys
 pub mod Lates
 pub mod Linked
 pub mod Orders
+pub mod Parts
 pub mod Plans
 pub mod Presents
 pub mod Pushes

@@ -2,5 +2,6 @@ pub mod Answers
 pub mod Bounds
 pub mod Entries
 pub mod Faults
+pub mod Parts
 pub mod Table
 pub mod Work

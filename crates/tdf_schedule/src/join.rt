@@ -1,12 +1,30 @@
 //! The key of an actor's next firing.
 
-ghost use Rattle.std.specs.Prelude.{◌≡◌, ◌<◌, ◌≤◌, ◌+◌, ◌*◌, ◌^◌, ℕ, All, Option, MatchOption, length, slice_get, slice_index, vec_len};
+ghost use Rattle.std.specs.Prelude.{◌≡◌, ◌<◌, ◌≤◌, ◌+◌, ◌*◌, ◌^◌, ℕ, All, Option, length, slice_get, slice_index, vec_len};
 ghost use Rattle.tdf_graph.specs.Ranges.{IsEdge};
 ghost use Rattle.tdf_schedule.specs.Needs.{HasKey};
-ghost use Rattle.tdf_schedule.specs.views.Table.{need_of, row_at, joined, AreLow, MeetsNeed, IsStart, HasKeys, IsStuck, IsJoined, AreInputs};
+ghost use Rattle.tdf_schedule.specs.views.Parts.{IsAsked, IsPart};
+ghost use Rattle.tdf_schedule.specs.views.Table.{need_of, row_at, joined, AreLow, MeetsNeed, IsStart, HasKeys, AreInputs};
 
 use crate::key::{Key, Row};
 use tdf_graph::Edge;
+
+/// What is known of the key of an actor's next firing: the later of its own and of what the first so many of its edges ask.
+#[derive(Clone, Copy)]
+pub(crate) struct Part {
+    /// How many of its edges were asked, in order; where none was, the key says nothing.
+    pub asked: usize,
+    /// What they need together.
+    pub key: Key,
+}
+
+/// What an actor's next firing asks for.
+pub(crate) enum Asked {
+    /// All its edges were asked, and need this together.
+    Whole(Key),
+    /// The next of its edges needs a firing that has no key yet.
+    Part(Part),
+}
 
 /// The later of two keys.
 #[tactic(auto, unfolding(crate::specs::views::Table::joined))]
@@ -69,6 +87,18 @@ fn start(table: &Vec<Row>, actor: u32, due: u64) -> Key
     join(first, row.key(row.len() - 1))
 }
 
+/// What an actor's next firing needs before the next of its edges is asked.
+fn begin(table: &Vec<Row>, actor: u32, due: u64, part: Part) -> Key
+    requires actor { actor < length table.now.items }
+    ensures first { part.asked ≡ 0 → IsStart (row_at table.now.items actor) due result }
+    ensures later { 0 < part.asked → result ≡ part.key }
+{
+    if 0 < part.asked {
+        return part.key;
+    }
+    start(table, actor, due)
+}
+
 /// How many firings of an actor have their keys.
 pub(crate) fn row_len(table: &Vec<Row>, actor: u32) -> u64
     requires { actor < length table.now.items }
@@ -77,14 +107,15 @@ pub(crate) fn row_len(table: &Vec<Row>, actor: u32) -> u64
     table[actor as usize].len() as u64
 }
 
-/// The greatest key that an actor's next firing needs; `None` where one isn't there yet.
+/// The greatest key that an actor's next firing needs, if each has its key; the edges that were asked before aren't asked again.
 pub(crate) fn greatest_need(
     edges: &[Edge],
     inputs: &[u32],
     paces: &[u64],
     table: &Vec<Row>,
     actor: u32,
-) -> Option<Key>
+    part: Part,
+) -> Asked
     requires fit { All (IsEdge (length table.now.items)) edges.now }
     requires actor { actor < length table.now.items }
     requires few { length (row_at table.now.items actor) < 2 ^ 31 }
@@ -93,16 +124,17 @@ pub(crate) fn greatest_need(
     requires low { AreLow table.now.items }
     requires paces { length paces.now ≡ length table.now.items }
     requires due { length (row_at table.now.items actor) * slice_index paces.now actor < 2 ^ 63 }
-    ensures { MatchOption result (IsStuck edges.now table.now.items actor) (IsJoined edges.now (slice_index paces.now) table.now.items actor (length (row_at table.now.items actor)) inputs.now (length inputs.now)) }
+    requires part { IsPart edges.now (slice_index paces.now) table.now.items actor inputs.now part }
+    ensures { IsAsked edges.now (slice_index paces.now) table.now.items actor inputs.now result }
 {
     let firing = row_len(table, actor);
-    let mut key = start(table, actor, firing * paces[actor as usize]);
-    for number in inputs {
-        let edge = &edges[*number as usize];
+    let mut key = begin(table, actor, firing * paces[actor as usize], part);
+    for place in part.asked..inputs.len() {
+        let edge = &edges[inputs[place] as usize];
         match meet(edge, firing, table, key) {
-            None => return None,
+            None => return Asked::Part(Part { asked: place, key }),
             Some(next) => key = next,
         }
     }
-    Some(key)
+    Asked::Whole(key)
 }

@@ -3,15 +3,25 @@
 ghost use Rattle.std.specs.Prelude.{◌≡◌, ◌<◌, ◌≤◌, ◌+◌, ◌*◌, ◌^◌, ◌++◌, ◌∷◌, [], ℕ, List, All, length, sum, replicate, slice_index, slice_get, Some, IfOk, OnOk};
 ghost use Rattle.tdf_base.specs.Limits.{most_firings};
 ghost use Rattle.tdf_graph.specs.Ranges.{IsEdge};
+ghost use Rattle.tdf_schedule.specs.views.Parts.{AreParts, no_part};
 ghost use Rattle.tdf_schedule.specs.views.Table.{row_at, key_of};
 ghost use Rattle.tdf_schedule.specs.views.Work.{links_at, with_key, weight, AreGiven, AreRows, AreAllOn, IsSettled, IsWorked, ArePushed};
 
-use crate::join::{greatest_need, row_len};
+use crate::join::{Asked, Part, greatest_need, row_len};
 use crate::key::{Key, Links, Row};
 use crate::links::list_at;
 use std::alloc::Global;
 use tdf_base::Memory;
 use tdf_graph::Edge;
+
+/// No edge of an actor was asked.
+const NO_PART: Part = Part {
+    asked: 0,
+    key: Key {
+        level: 0,
+        offset: 0,
+    },
+};
 
 /// What the work is done on.
 #[derive(Clone, Copy)]
@@ -85,11 +95,14 @@ fn work_one(
     actor: u32,
     given: &Given,
     table: &mut Vec<Row>,
+    parts: &mut Vec<Part>,
     work: &mut Worklist,
 ) -> Result<(), Memory>
     requires given { AreGiven given.now.edges.now given.now.counts.now given.now.paces.now given.now.inputs.now given.now.readers.now }
     requires rows { AreRows given.now.edges.now (slice_index given.now.paces.now) given.now.counts.now table.old.items }
+    requires parts { AreParts given.now.edges.now (slice_index given.now.paces.now) given.now.counts.now table.old.items given.now.inputs.now parts.old.items }
     requires worked { IsWorked given.now.edges.now given.now.counts.now table.old.items (work.old.stack.items ++ actor ∷ []) work.old.on.items }
+    ensures parts { OnOk result (AreParts given.now.edges.now (slice_index given.now.paces.now) given.now.counts.now table.new.items given.now.inputs.now parts.new.items) }
     ensures rows { OnOk result (AreRows given.now.edges.now (slice_index given.now.paces.now) given.now.counts.now table.new.items) }
     ensures worked { OnOk result (IsWorked given.now.edges.now given.now.counts.now table.new.items work.new.stack.items work.new.on.items) }
     ensures less { OnOk result (weight given.now.edges.now given.now.counts.now table.new.items work.new.stack.items
@@ -100,9 +113,21 @@ fn work_one(
         return Ok(());
     }
     let inputs = list_at(given.inputs, actor);
-    match greatest_need(given.edges, inputs, given.paces, table, actor) {
-        None => Ok(()),
-        Some(need) => {
+    let place = actor as usize;
+    match greatest_need(
+        given.edges,
+        inputs,
+        given.paces,
+        table,
+        actor,
+        parts[place],
+    ) {
+        Asked::Part(part) => {
+            parts[place] = part;
+            Ok(())
+        }
+        Asked::Whole(need) => {
+            parts[place] = NO_PART;
             give(table, actor, need)?;
             push_around(actor, list_at(given.readers, actor), work)?;
             Ok(())
@@ -134,6 +159,17 @@ fn no_rows(alloc: Global, count: u32) -> Result<Vec<Row>, Memory>
     Ok(rows)
 }
 
+/// Nothing is known of the next firing of each actor.
+fn no_parts(alloc: Global, count: u32) -> Result<Vec<Part>, Memory>
+    ensures { IfOk result (λ parts. parts.items ≡ replicate count no_part) }
+{
+    let mut parts = Vec::new(alloc);
+    for made in 0..count {
+        parts.push(NO_PART)?;
+    }
+    Ok(parts)
+}
+
 /// The keys of all firings that are grounded, each actor's from its first firing on.
 pub(crate) fn fill(alloc: Global, given: &Given) -> Result<Vec<Row>, Memory>
     requires given { AreGiven given.now.edges.now given.now.counts.now given.now.paces.now given.now.inputs.now given.now.readers.now }
@@ -142,9 +178,10 @@ pub(crate) fn fill(alloc: Global, given: &Given) -> Result<Vec<Row>, Memory>
     ensures settled { IfOk result (λ table. (m : ℕ) → m < length given.now.counts.now → IsSettled given.now.edges.now given.now.counts.now table.items m) }
 {
     let mut table = no_rows(alloc, given.counts.len() as u32)?;
+    let mut parts = no_parts(alloc, given.counts.len() as u32)?;
     let mut work = all_on(alloc, given.counts.len() as u32)?;
     while let Some(actor) = work.stack.pop() {
-        work_one(actor, given, &mut table, &mut work)?;
+        work_one(actor, given, &mut table, &mut parts, &mut work)?;
     }
     drop(work);
     Ok(table)

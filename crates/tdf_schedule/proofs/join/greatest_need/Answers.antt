@@ -1,4 +1,5 @@
-use Rattle.std.proofs.Common.{◌≡◌, ◌*◌, subst, ap, arith, length}
+use Rattle.std.proofs.Common.{◌≡◌, ◌≤◌, ◌*◌, subst, sym, ap, arith, length, inl, inr}
+use Rattle.std.proofs.lemmas.Bool.{cases_lt}
 use Rattle.std.specs.Prelude.{slice_index}
 use Rattle.tdf_graph.specs.declared.actors.Edge.{Edge}
 use Rattle.tdf_schedule.proofs.Keys.{start_joined, stuck_at, joined_at, input_within, input_fits}
@@ -8,29 +9,39 @@ use Rattle.tdf_schedule.proofs.join.greatest_need.Goals as goal
 abbrev no_edge : Edge
 no_edge = record { writer = 0; reader = 0; write_rate = 0; read_rate = 0; initial = 0 }
 
-pub loop-number-init : goal.loop-number-init
-loop-number-init c = start_joined c.args.edges.now (slice_index c.args.paces.now) c.args.table.now.items c.args.actor c.args.inputs.now c.requires.fit c.requires.keys c.requires.low _ c.start-key.result (ap (λ n. n * slice_index c.args.paces.now c.args.actor) c.row_len-firing.ensures) c.start-key.ensures
+pub loop-place-init : goal.loop-place-init
+loop-place-init c = elim (cases_lt 0 c.args.part.asked) [
+  | inl some ↦ subst (IsJoined c.args.edges.now (slice_index c.args.paces.now) c.args.table.now.items c.args.actor (length (row_at c.args.table.now.items c.args.actor)) c.args.inputs.now c.args.part.asked)
+      (sym (c.begin-key.ensures.later some)) (c.requires.part some).1
+  | inr none ↦ (let zero : c.args.part.asked ≡ 0 = omega (arith, none) in
+      subst (λ n. IsJoined c.args.edges.now (slice_index c.args.paces.now) c.args.table.now.items c.args.actor (length (row_at c.args.table.now.items c.args.actor)) c.args.inputs.now n c.begin-key.result) (sym zero)
+      (start_joined c.args.edges.now (slice_index c.args.paces.now) c.args.table.now.items c.args.actor c.args.inputs.now c.requires.fit c.requires.keys c.requires.low _ c.begin-key.result (ap (λ n. n * slice_index c.args.paces.now c.args.actor) c.row_len-firing.ensures) (c.begin-key.ensures.first zero)))
+]
 
-pub bounds-edges-number : goal.bounds-edges-number
-bounds-edges-number c = input_within c.args.edges.now _ c.args.actor c.args.inputs.now c.loop-number.number-index no_edge c.requires.fit c.requires.inputs c.loop-number-test.true
+pub bounds-edges-inputs : goal.bounds-edges-inputs
+bounds-edges-inputs c = input_within c.args.edges.now _ c.args.actor c.args.inputs.now c.loop-place.place no_edge c.requires.fit c.requires.inputs c.loop-place-test.true
 
 pub meet-requires-clause-some : goal.meet-requires-clause-some
-meet-requires-clause-some c = (input_fits c.args.edges.now _ c.args.actor c.args.inputs.now c.loop-number.number-index _ c.requires.fit c.requires.inputs c.loop-number-test.true).writes.some
+meet-requires-clause-some c = (input_fits c.args.edges.now _ c.args.actor c.args.inputs.now c.loop-place.place _ c.requires.fit c.requires.inputs c.loop-place-test.true).writes.some
 
 pub meet-requires-clause-rate : goal.meet-requires-clause-rate
-meet-requires-clause-rate c = (input_fits c.args.edges.now _ c.args.actor c.args.inputs.now c.loop-number.number-index _ c.requires.fit c.requires.inputs c.loop-number-test.true).reads.some
+meet-requires-clause-rate c = (input_fits c.args.edges.now _ c.args.actor c.args.inputs.now c.loop-place.place _ c.requires.fit c.requires.inputs c.loop-place-test.true).reads.some
 
 pub meet-requires-clause-writer : goal.meet-requires-clause-writer
-meet-requires-clause-writer c = (input_fits c.args.edges.now _ c.args.actor c.args.inputs.now c.loop-number.number-index _ c.requires.fit c.requires.inputs c.loop-number-test.true).writer
+meet-requires-clause-writer c = (input_fits c.args.edges.now _ c.args.actor c.args.inputs.now c.loop-place.place _ c.requires.fit c.requires.inputs c.loop-place-test.true).writer
 
 pub returns-in-None : goal.returns-in-None
-returns-in-None c = stuck_at c.args.edges.now (slice_index c.args.paces.now) c.args.table.now.items c.args.actor c.args.inputs.now c.requires.fit c.requires.keys c.requires.low c.requires.inputs
-    c.loop-number.number-index c.row_len-firing.result no_edge c.loop-number.key c.loop-number-test.true c.row_len-firing.ensures c.loop-number.invariant c.in-None.ensures
+returns-in-None c = (stuck_at c.args.edges.now (slice_index c.args.paces.now) c.args.table.now.items c.args.actor c.args.inputs.now c.requires.fit c.requires.keys c.requires.low c.requires.inputs
+    c.loop-place.place c.row_len-firing.result no_edge c.loop-place.key c.loop-place-test.true c.row_len-firing.ensures c.loop-place.invariant c.in-None.ensures,
+    λ some. ((let w = c.loop-place-test.true in omega (arith, w)), c.loop-place.invariant))
 
-pub loop-number-preserved : goal.loop-number-preserved
-loop-number-preserved c = joined_at c.args.edges.now (slice_index c.args.paces.now) c.args.table.now.items c.args.actor c.args.inputs.now c.requires.fit c.requires.keys c.requires.low c.requires.inputs
-    c.loop-number.number-index c.row_len-firing.result no_edge c.loop-number.key c.loop-number-test.true c.row_len-firing.ensures c.loop-number.invariant c.in-Some.next c.in-Some.ensures
+pub loop-place-preserved : goal.loop-place-preserved
+loop-place-preserved c = joined_at c.args.edges.now (slice_index c.args.paces.now) c.args.table.now.items c.args.actor c.args.inputs.now c.requires.fit c.requires.keys c.requires.low c.requires.inputs
+    c.loop-place.place c.row_len-firing.result no_edge c.loop-place.key c.loop-place-test.true c.row_len-firing.ensures c.loop-place.invariant c.in-Some.next c.in-Some.ensures
 
 pub returns : goal.returns
-returns c = subst (λ n. IsJoined c.args.edges.now (slice_index c.args.paces.now) c.args.table.now.items c.args.actor (length (row_at c.args.table.now.items c.args.actor)) c.args.inputs.now n c.loop-number.key)
-    (let n : c.loop-number.number-index ≡ length c.args.inputs.now = omega (arith, c.loop-number-test.false, c.loop-number.auto.number-index-end) in n) c.loop-number.invariant
+returns c = subst (λ n. IsJoined c.args.edges.now (slice_index c.args.paces.now) c.args.table.now.items c.args.actor (length (row_at c.args.table.now.items c.args.actor)) c.args.inputs.now n c.loop-place.key)
+    (let n : c.loop-place.place ≡ length c.args.inputs.now = omega (arith, c.loop-place-test.false, c.loop-place.auto.place-end asked_within) in n) c.loop-place.invariant
+  where
+    asked_within : c.args.part.asked ≤ length c.args.inputs.now
+    asked_within = elim (cases_lt 0 c.args.part.asked) [ inl some ↦ (c.requires.part some).0 | inr none ↦ omega (arith, none) ]
