@@ -1,0 +1,2 @@
+pub mod ColumnStates
+pub mod machine
