@@ -12,8 +12,10 @@ pub mod Moving
 pub mod Pieces
 pub mod Places
 pub mod Puts
+pub mod Resumed
 pub mod Showings
 pub mod Singles
+pub mod Stated
 pub mod Turns
 pub mod Uses
 pub mod Whole

@@ -1,6 +1,8 @@
 pub mod Calls
 pub mod Columns
 pub mod Stands
+pub mod Starts
+pub mod States
 pub mod Tables
 pub mod Traces
 pub mod Tracked

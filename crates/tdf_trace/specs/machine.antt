@@ -4,5 +4,6 @@ pub mod Firsts
 pub mod Going
 pub mod Moving
 pub mod Putting
+pub mod Resuming
 pub mod Showing
 pub mod Turning

@@ -1,12 +1,18 @@
 //! The cells of one column that wait for their rows.
-ghost use Rattle.std.specs.Prelude.{◌≡◌, [], OnOk, OnErr};
+ghost use Rattle.std.specs.Prelude.{◌≡◌, [], IfOk, OnOk, OnErr};
+ghost use Rattle.tdf_trace.specs.States.{column_state};
 ghost use Rattle.tdf_trace.specs.machine.Putting.{AreInOrder, IsPlace, column_with, is_time_at, put};
+ghost use Rattle.tdf_trace.specs.machine.Resuming.{column_in};
 ghost use Rattle.tdf_trace.specs.machine.Turning.{front_time, turned, waits};
 
+use crate::states::{held_in, stamps_of};
 use std::alloc::{AllocError, Global};
 use std::collections::VecDeque;
 use std::marker::Model;
-use tdf_fixed::Raw;
+use tdf_base::Memory;
+use tdf_fixed::{Format, Raw};
+use tdf_saved::ColumnState;
+use tdf_trace_states::{carry_in, number_of};
 
 /// A cell that waits for its row.
 #[derive(Clone, Copy)]
@@ -43,6 +49,35 @@ impl Column {
             before: first,
             shown: first,
         }
+    }
+
+    /// A column that goes on from a state, for a signal of this format.
+    pub(crate) fn from_state(
+        alloc: Global,
+        format: Format,
+        state: &ColumnState,
+    ) -> Result<Column, Memory>
+        ensures { IfOk result (λ column. column ≡ column_in format state.now) }
+    {
+        let held = held_in(alloc, format, &state.samples)?;
+        let shown = carry_in(format, state.carry);
+        Ok(Column {
+            held,
+            before: shown,
+            shown,
+        })
+    }
+
+    /// Its state: what it shows, and its cells with a value.
+    pub(crate) fn state(&self, alloc: Global) -> Result<ColumnState, Memory>
+        ensures { IfOk result (λ state. state ≡ column_state self.now) }
+    {
+        let samples = stamps_of(alloc, &self.held)?;
+        Ok(ColumnState {
+            carry: number_of(self.shown),
+            samples,
+            later: Vec::new(alloc),
+        })
     }
 
     /// The time of its first cell, or `limit` where it has none.

@@ -5,6 +5,7 @@
 //!
 //! - `about`: what a trace is of, its variables.
 //! - `column`, `columns`: the cells of one column that wait; going from row to row.
+//! - `states`: the states of columns.
 //! - `tables`, `vcd`: the lines of both kinds.
 //! - `rows`: writing rows up to a time.
 //! - `heads`: writing what is before the rows, and after them.
@@ -23,6 +24,7 @@ mod laws;
 mod notes;
 mod rows;
 mod stage;
+mod states;
 mod tables;
 mod trace;
 mod tracked;
@@ -30,6 +32,6 @@ mod tracking;
 mod vcd;
 
 pub use about::Variable;
-pub use laws::{law_left, law_whole};
+pub use laws::{law_left, law_resumed, law_whole};
 pub use trace::Trace;
 pub use tracking::Tracking;

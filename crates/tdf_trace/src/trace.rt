@@ -1,11 +1,13 @@
 //! Traces, and their calls.
-ghost use Rattle.std.specs.Prelude.{◌≡◌, ◌≤◌, ◌<◌, length, map, max, IfOk, OnOk, OnErr};
+ghost use Rattle.std.specs.Prelude.{◌≡◌, ◌≤◌, ◌<◌, length, map, max, Err, IfOk, OnOk, OnErr};
 ghost use Rattle.tdf_io.specs.Bytes.{WritesText};
 ghost use Rattle.tdf_io.specs.Faults.{CountsSinkFaults};
 ghost use Rattle.tdf_trace.specs.Columns.{HasFewPlaces};
-ghost use Rattle.tdf_trace.specs.Stands.{AreWrittenTo, IsNew, IsStageAfter, TakesCell, WritesFront, WritesRest, WritesRows};
+ghost use Rattle.tdf_trace.specs.Stands.{AreWrittenTo, IsNew, IsStageAfter, Stands, TakesCell, WritesFront, WritesRest, WritesRows};
+ghost use Rattle.tdf_trace.specs.States.{AreColumnStates, AreStampedFrom, AreStatesOf, cells_of_states, column_states, known_part};
 ghost use Rattle.tdf_trace.specs.Writings.{CanBeTraced, about_of, head_of};
 ghost use Rattle.tdf_trace.specs.declared.stage.Stage.TheVariants.{New, Open};
+ghost use Rattle.tdf_saved.specs.declared.err.StateErr.TheVariants as why;
 ghost use Rattle.tdf_trace.specs.views.Seen.{fresh};
 
 use crate::about::{About, Variable};
@@ -14,10 +16,12 @@ use crate::columns::put_cell;
 use crate::heads::{write_head, write_tail};
 use crate::rows::{Rows, write_below};
 use crate::stage::Stage;
+use crate::states::{are_states, columns_in, states_of};
 use std::alloc::Global;
 use std::marker::Model;
 use tdf_base::{Memory, Resolution};
 use tdf_io::{Sink, SinkErr};
+use tdf_saved::{ColumnState, StateErr};
 use tdf_trace_rows::{Cell, TraceKind};
 
 /// A trace while it is written: what it is of, the cells that wait for their rows, and how far its rows are written. Contracts see
@@ -86,6 +90,77 @@ impl Trace {
                 Err(error)
             }
         }
+    }
+
+    /// A trace of these variables that goes on at a time with the rows from `upto` on, after its head is written. Its columns have
+    /// the cells that the states say; those of variables with a first value are of event signals.
+    ///
+    /// # Errors
+    /// `Bad` exactly where the states aren't those of the columns of these variables at this time, or out of memory.
+    #[tactic(auto, using(crate::proofs::Stated::going_laws))]
+    pub fn from_columns(
+        alloc: Global,
+        variables: Vec<Variable>,
+        resolution: Resolution,
+        kind: TraceKind,
+        columns: Vec<ColumnState>,
+        time: u64,
+        upto: u64,
+    ) -> Result<Trace, StateErr>
+        requires traced { CanBeTraced variables.items }
+        requires from { AreStampedFrom upto columns.items }
+        ensures about { IfOk result (λ trace.
+            trace.about ≡ about_of kind resolution variables.items) }
+        ensures stage { IfOk result (λ trace. trace.stage ≡ Open) }
+        ensures upto { IfOk result (λ trace. trace.rows.upto ≡ upto) }
+        ensures stands { IfOk result (λ trace.
+            Stands (cells_of_states variables.items columns.items) trace.rows) }
+        ensures states { IfOk result (λ trace.
+            column_states trace.rows ≡ map known_part columns.items) }
+        ensures fit { IfOk result (λ trace. AreColumnStates variables.items time columns.items) }
+        ensures bad { result ≡ Err why.Bad
+            → AreColumnStates variables.items time columns.items → ⊥ }
+        ensures bad_always { (AreColumnStates variables.items time columns.items → ⊥)
+            → result ≡ Err why.Bad }
+    {
+        if !are_states(&variables, &columns, time) {
+            drop(columns);
+            drop(variables);
+            return Err(StateErr::Bad);
+        }
+        let made = columns_in(alloc, &variables, &columns);
+        drop(columns);
+        match made {
+            Ok(columns) => Ok(Trace {
+                about: About {
+                    kind,
+                    resolution,
+                    variables,
+                },
+                stage: Stage::Open,
+                rows: Rows {
+                    columns,
+                    upto,
+                    line: Vec::new(alloc),
+                },
+            }),
+            Err(Memory) => {
+                drop(variables);
+                Err(StateErr::Memory)
+            }
+        }
+    }
+
+    /// The state of each column: what it shows, and its cells with a value from `upto` on.
+    ///
+    /// # Errors
+    /// Out of memory.
+    #[tactic(auto, using(crate::proofs::Stated::states_are))]
+    pub fn columns(&self, alloc: Global) -> Result<Vec<ColumnState>, Memory>
+        ensures states { IfOk result (λ states. states.items ≡ column_states self.now.rows) }
+        ensures cells { IfOk result (λ states. AreStatesOf self.now.rows states.items) }
+    {
+        states_of(alloc, &self.rows.columns)
     }
 
     /// Writes the head; the first write call of each line hands the sink the whole line.

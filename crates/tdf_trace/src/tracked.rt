@@ -1,8 +1,8 @@
 //! A traced signal: its samples on their way to the cells of its columns.
-ghost use Rattle.std.specs.Prelude.{◌≡◌, ◌≤◌, ◌<◌, ◌+◌, ◌*◌, ◌^◌, ◌++◌, [], ◌∷◌, length, ℕ, IfOk, OnOk};
+ghost use Rattle.std.specs.Prelude.{◌≡◌, ◌≤◌, ◌<◌, ◌+◌, ◌*◌, ◌^◌, ◌++◌, [], ◌∷◌, length, map, ℕ, IfOk, OnOk};
 ghost use Rattle.tdf_trace.specs.Tracked.{label};
 ghost use Rattle.tdf_trace.specs.machine.Going.{IsNewFor};
-ghost use Rattle.tdf_trace.specs.machine.Showing.{AreColumns, CatchesUp, NotesOne, TakesCells, TakesOne, TakesOnePeriod};
+ghost use Rattle.tdf_trace.specs.machine.Showing.{AreColumns, CatchesUp, HaveFewPlaces, NotesOne, TakesCells, TakesOne, TakesOnePeriod};
 ghost use Rattle.tdf_trace_rows.specs.Positions.{span_of};
 ghost use Rattle.tdf_trace_rows.specs.Stamping.{stamps_after};
 
@@ -14,6 +14,7 @@ use std::marker::Model;
 use tdf_base::Memory;
 use tdf_fixed::Raw;
 use tdf_trace_rows::Stamps;
+use tdf_trace_states::numbers_of;
 
 /// A signal that is traced: the columns that show it, the start of the period that has begun last, the stamps of its positions
 /// without a time, and its samples without a position.
@@ -160,6 +161,25 @@ impl Tracked {
         self.stamps.begin(start, step, count);
         self.since = start;
         self.catch_up(trace)
+    }
+
+    /// The signal goes on inside a period that began at `since`, with these stamps, and with these samples that wait.
+    pub(crate) fn resume(&mut self, since: u64, stamps: Stamps, later: VecDeque<Raw>)
+        requires after { since ≤ stamps.time }
+        requires small { stamps.time + stamps.left * stamps.step < 2 ^ 64 }
+        requires few { HaveFewPlaces later.items }
+        ensures { self.new ≡ record self.old { since = since; stamps = stamps; waiting = later.items } }
+    {
+        self.since = since;
+        self.stamps = stamps;
+        self.waiting = later;
+    }
+
+    /// The numbers of its samples that wait.
+    pub(crate) fn later(&self, alloc: Global) -> Result<Vec<i128>, Memory>
+        ensures { IfOk result (λ nums. nums.items ≡ map (λ v. v.num) self.now.waiting) }
+    {
+        numbers_of(alloc, &self.waiting)
     }
 
     /// The positions below an end that have a time and no sample are noted as unknown.

@@ -2,6 +2,7 @@
 ghost use Rattle.std.specs.Prelude.{◌≡◌, ◌≤◌, ◌<◌, ◌+◌, ◌*◌, ◌^◌, [], ◌∷◌, false, length, All, IfOk, OnOk};
 ghost use Rattle.tdf_base.specs.Limits.{most_traces};
 ghost use Rattle.tdf_trace.specs.Calls.{AreBelow, HasNoneLeft, HasStarted, IsFresh, NotesRest, TakesPeriod, TakesSamples};
+ghost use Rattle.tdf_trace.specs.Starts.{IsLaterOf, IsResumed, TakesStart};
 ghost use Rattle.tdf_trace.specs.Tracked.{AreLater, AreSince, labels, sinces};
 ghost use Rattle.tdf_trace.specs.machine.Finding.{HasNone, IsPlaceOf, found};
 ghost use Rattle.tdf_trace.specs.machine.Going.{AddsTrace, IsAdding};
@@ -10,10 +11,13 @@ ghost use Rattle.tdf_trace_rows.specs.Positions.{span_of};
 use crate::trace::Trace;
 use crate::tracked::Tracked;
 use std::alloc::Global;
+use std::collections::VecDeque;
 use std::marker::Model;
 use tdf_base::Memory;
 use tdf_bind_connections::TraceRow;
 use tdf_convert::Traced;
+use tdf_fixed::Raw;
+use tdf_trace_rows::Stamps;
 
 /// The traced signals of samples of a trace with `width` columns, found by their numbers.
 #[derive(Drop)]
@@ -223,6 +227,36 @@ impl Tracking {
         match self.place_of(signal) {
             None => Ok(()),
             Some(place) => self.list[place].begin(trace, start, step, count),
+        }
+    }
+
+    /// A signal goes on inside a period that began at `since`: the stamps are those of its positions without a sample, and `later`
+    /// are its samples without a position. Nothing happens where the signal isn't tracked.
+    pub fn resume(&mut self, signal: u32, since: u64, stamps: Stamps, later: VecDeque<Raw>)
+        requires after { since ≤ stamps.time }
+        requires small { stamps.time + stamps.left * stamps.step < 2 ^ 64 }
+        requires few { All (λ value. value.frac ≤ 120) later.items }
+        requires idle { 0 < length later.items → stamps.left ≡ 0 }
+        ensures resumed { IsResumed signal since stamps later.items self.old.list self.new.list }
+        ensures took { TakesStart signal stamps later.items self.old.list self.new.list }
+        ensures width { self.new.width ≡ self.old.width }
+    {
+        match self.place_of(signal) {
+            None => drop(later),
+            Some(place) => self.list[place].resume(since, stamps, later),
+        }
+    }
+
+    /// The numbers of the samples of a signal that wait for a position, in order; none where the signal isn't tracked.
+    ///
+    /// # Errors
+    /// Out of memory.
+    pub fn later(&self, alloc: Global, signal: u32) -> Result<Vec<i128>, Memory>
+        ensures { IfOk result (λ nums. IsLaterOf signal self.now.list nums.items) }
+    {
+        match self.place_of(signal) {
+            None => Ok(Vec::new(alloc)),
+            Some(place) => self.list[place].later(alloc),
         }
     }
 

@@ -1,10 +1,12 @@
 -- What holds of the first items of a list.
-use Rattle.std.proofs.Common.{◌≡◌, ◌≢◌, ◌∙◌, ◌<◌, ◌≤◌, ◌+◌, ℕ, zero, suc, ℤ, pos, List, [], Some, IsSome, option_map, length, slice_get, refl, sym, ap, subst, inl, inr, arith}
+use Rattle.std.proofs.Common.{◌≡◌, ◌≢◌, ◌∙◌, ◌<◌, ◌≤◌, ◌+◌, ◌-◌, ℕ, zero, suc, ℤ, pos, List, [], ◌∷◌, Some, IsSome, option_map, length, map, slice_get, slice_index_or, refl, sym, ap, subst, inl, inr, arith}
 use Rattle.std.proofs.lemmas.Bool.{cases_lt}
 use Rattle.std.proofs.lemmas.Option.{slice_get_within, same_Some}
+use Rattle.tdf_fixed.specs.declared.format.Format.{Format}
+use Rattle.tdf_fixed.specs.declared.raw.Raw.{Raw}
 use Rattle.tdf_saved.specs.declared.state.Stamp.{Stamp}
 use Rattle.tdf_saved.specs.State.{ColumnStateOf}
-use Rattle.tdf_trace_states.specs.ColumnStates.{ShowsChanges, number_before}
+use Rattle.tdf_trace_states.specs.ColumnStates.{ShowsChanges, number_before, sample_in}
 use Rattle.tdf_trace_states.specs.machine.{AreChanges, shown_before}
 
 -- the first n items are so
@@ -51,3 +53,9 @@ changes_of s carry time is none are = record {
 
 pub of_changes : (s : ColumnStateOf) (carry : ℤ) (time : ℕ) → s.carry ≡ Some carry → ShowsChanges time s → AreChanges carry s.samples time
 of_changes s carry time is shows i x at = (shows.below i x at, λ e. shows.other i x at (before_same s carry is i ∙ e))
+
+-- samples of a format have few places
+pub few_in : (format : Format) (nums : List ℤ) (k : ℕ) (d : Raw) → k < length (map (sample_in format) nums) → (slice_index_or (map (sample_in format) nums) k d).frac ≤ 120
+few_in format [] k d less = absurd (omega (arith, less))
+few_in format (x ∷ xs) zero d less = let l : format.wl - format.iwl ≤ 63 = format.fraction_bits in omega (arith, l)
+few_in format (x ∷ xs) (suc k) d less = few_in format xs k d (omega (arith, less))

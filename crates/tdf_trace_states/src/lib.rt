@@ -8,4 +8,4 @@ mod fitting;
 mod numbers;
 
 pub use fitting::is_column_state;
-pub use numbers::{carry_in, number_of, numbers_of, sample_in};
+pub use numbers::{carry_in, number_of, numbers_of, sample_in, samples_in};

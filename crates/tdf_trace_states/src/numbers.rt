@@ -1,6 +1,6 @@
 //! Numbers and samples.
 
-ghost use Rattle.std.specs.Prelude.{◌≡◌, IfOk, map, option_map};
+ghost use Rattle.std.specs.Prelude.{◌≡◌, ◌≤◌, All, IfOk, map, option_map};
 ghost use Rattle.tdf_trace_states.specs.ColumnStates.{sample_in};
 
 use std::alloc::Global;
@@ -50,4 +50,19 @@ pub fn numbers_of(alloc: Global, values: &VecDeque<Raw>) -> Result<Vec<i128>, Me
         nums.push(values[i].num)?;
     }
     Ok(nums)
+}
+
+/// Numbers as samples of a format.
+///
+/// # Errors
+/// Out of memory.
+pub fn samples_in(alloc: Global, format: Format, nums: &[i128]) -> Result<VecDeque<Raw>, Memory>
+    ensures is { IfOk result (λ samples. samples.items ≡ map (sample_in format) nums.now) }
+    ensures few { IfOk result (λ samples. All (λ v. v.frac ≤ 120) samples.items) }
+{
+    let mut samples = VecDeque::new(alloc);
+    for i in 0..nums.len() {
+        samples.push_back(sample_in(format, nums[i]))?;
+    }
+    Ok(samples)
 }
