@@ -10,7 +10,7 @@ use Rattle.tdf_bind_tables.specs.declared.actors.ActorPlace.{ActorPlace}
 use Rattle.tdf_bind_tables.specs.declared.actors.ActorRow.{ActorRow}
 use Rattle.tdf_dynamic_plans.specs.Attributes.{AttrsOf}
 use Rattle.tdf_dynamic_plans.specs.Rates.{kind_of_port, net_ports, port_rate, read_rate_by, write_rate_by}
-use Rattle.tdf_exec.proofs.EdgeRates.{edge_reads, edge_writes, rate_there}
+use Rattle.tdf_exec_parts.proofs.Api.{edge_reads, edge_writes, rate_there}
 use Rattle.tdf_exec.proofs.Rows.{all_at}
 use Rattle.tdf_exec.specs.machine.Laid.{IsLaid}
 use Rattle.tdf_bind.specs.declared.model.Flat.{Flat}

@@ -17,7 +17,7 @@ use Rattle.tdf_graph.specs.Counts.{AreCounts}
 use Rattle.tdf_graph.specs.declared.actors.Edge.{Edge}
 use Rattle.tdf_exec.proofs.Sums.{all_keys, by_key, once, over_map, pair_sums}
 use Rattle.tdf_exec.proofs.Traffic.{counts_in, entries_of, moved_in, within}
-use Rattle.tdf_exec.proofs.EdgeRates.{edge_reads, edge_writes, reads_at, writes_at}
+use Rattle.tdf_exec_parts.proofs.Api.{edge_reads, edge_writes, reads_at, writes_at}
 use Rattle.tdf_exec.proofs.Rows.{all_at, index_at}
 use Rattle.tdf_exec_layout.specs.Edges.{EdgesAreRows, IsEdgeRow, PortsGiveOnce}
 use Rattle.tdf_exec_layout.specs.Rates.{PortsSetRates, SamplersPutOne, SinksTakeOne}

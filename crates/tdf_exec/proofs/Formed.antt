@@ -12,7 +12,7 @@ use Rattle.tdf_dynamic_first.specs.Text.{attrs_if, first_attrs, first_table}
 use Rattle.tdf_dynamic_first.specs.declared.first.First.{First}
 use Rattle.tdf_exec.proofs.Ends.{HasPort, below_modules, module_reads, module_writes}
 use Rattle.tdf_exec.proofs.Planned.{start_of}
-use Rattle.tdf_exec.proofs.EdgeRates.{edge_reads, edge_writes, reads_at, writes_at}
+use Rattle.tdf_exec_parts.proofs.Api.{edge_reads, edge_writes, reads_at, writes_at}
 use Rattle.tdf_exec.proofs.Rows.{all_at}
 use Rattle.tdf_exec.specs.Cluster.{ClusterOf}
 use Rattle.tdf_exec.specs.Made.{HasRows, IsInSpans, IsModuleOf}

@@ -10,7 +10,7 @@ use Rattle.tdf_dynamic_plans.specs.Known.{AttrsTable}
 use Rattle.tdf_dynamic_plans.specs.Rates.{net_of, net_ports, rated_edge}
 use Rattle.tdf_exec.proofs.Acting.{block_there}
 use Rattle.tdf_exec.proofs.Crosses.{head_held}
-use Rattle.tdf_exec.proofs.EdgeRates.{reads_at, writes_at}
+use Rattle.tdf_exec_parts.proofs.Api.{reads_at, writes_at}
 use Rattle.tdf_exec.proofs.Empty.{done_bare}
 use Rattle.tdf_exec.proofs.Ends.{below_modules, sampler_writes, sink_reads}
 use Rattle.tdf_exec.proofs.Formed.{in_fits, out_fits, ports_fit, traced_fits}
@@ -21,7 +21,8 @@ use Rattle.tdf_exec.proofs.Rows.{index_at}
 use Rattle.tdf_exec.proofs.Safe.{heads_hold, plans_safe}
 use Rattle.tdf_exec.specs.Cluster.{ClusterOf, next_offset}
 use Rattle.tdf_exec.specs.Crossing.{HasNewPlan, HoldHeads, IsKin, IsReadyFor, StandsAtNew, with_new_plan}
-use Rattle.tdf_exec.specs.Made.{AreHeld, IsClusterOf, IsInSpans, IsModuleOf, IsModuleWith, IsClusterPlanned, IsRunnerOf, IsRunnerWith, IsClusterSafe, IsSamplerOf, IsSinkOf, is_sampler_runner, room_for, sampler_runners_before}
+use Rattle.tdf_exec.specs.Made.{AreHeld, IsClusterOf, IsInSpans, IsModuleOf, IsModuleWith, IsClusterPlanned, IsRunnerOf, IsRunnerWith, IsClusterSafe, IsSamplerOf, IsSinkOf, is_sampler_runner, sampler_runners_before}
+use Rattle.tdf_exec_parts.specs.Rings.{room_for}
 use Rattle.tdf_exec.specs.Played.{runner_cells, play_of, turns_from}
 use Rattle.tdf_exec.specs.Runners.{ModuleOf, SamplerOf}
 use Rattle.tdf_exec.specs.Starts.{IsSoundFlat}

@@ -13,13 +13,14 @@ use Rattle.tdf_bind_tables.specs.declared.actors.ActorRow.{ActorRow}
 use Rattle.tdf_dynamic_plans.specs.Attributes.{AttrsOf, attrs_at, clusters_of, rates_in}
 use Rattle.tdf_dynamic_plans.specs.Faults.{IsTablePlan}
 use Rattle.tdf_dynamic_first.specs.First.{IsFirstPlan}
+use Rattle.tdf_dynamic_values.specs.Planned.{IsTableFirst}
 use Rattle.tdf_dynamic_plans.specs.Rates.{AreRates, net_of}
 use Rattle.tdf_dynamic_first.specs.declared.first.First.{First}
 use Rattle.tdf_exec.proofs.Ends.{below_modules, module_kind, no_sink, sampler_never, sampler_writes, sink_never, sink_reads}
-use Rattle.tdf_exec.proofs.EdgeRates.{reads_at, writes_at}
+use Rattle.tdf_exec_parts.proofs.Api.{reads_at, writes_at}
 use Rattle.tdf_exec.proofs.Formed.{attrs_found, first_rows, is_module}
 use Rattle.tdf_exec.proofs.Moved.{some_inj}
-use Rattle.tdf_exec.proofs.Planned.{are_held, is_safe, lists_are, start_of, timed}
+use Rattle.tdf_exec.proofs.Planned.{are_held, is_safe, lists_are, start_of, text_first, timed}
 use Rattle.tdf_exec.proofs.Rows.{index_at}
 use Rattle.tdf_exec.specs.Cluster.{ClusterOf}
 use Rattle.tdf_exec.specs.Made.{IsClusterOf, IsRunnerOf, IsSamplerOf, IsSinkOf, is_sampler_runner, sampler_runners_before}
@@ -32,7 +33,8 @@ use Rattle.tdf_exec.specs.declared.runners.Runner.{Runner}
 use Rattle.tdf_exec.specs.declared.runners.Runner.TheVariants as runner
 use Rattle.tdf_exec.specs.declared.runners.TracedPort.{TracedPort}
 use Rattle.tdf_exec.specs.machine.Laid.{AreParts, AreRunnersOf, IsLaid}
-use Rattle.tdf_exec.specs.machine.Starting.{AreFirstRings, IsBegun, IsFirstRunner, IsOfModule}
+use Rattle.tdf_exec.specs.machine.Starting.{IsBegun, IsFirstRunner, IsOfModule}
+use Rattle.tdf_exec_parts.specs.Rings.{AreFirstRings}
 use Rattle.tdf_exec.specs.machine.Tracing.{traced_before, with_traced}
 use Rattle.tdf_expr.specs.Checked.{IsCheckedOf}
 use Rattle.tdf_expr.specs.Made.{start_rates}
@@ -270,7 +272,7 @@ module _ (flat : Flat) (cluster : ℕ) (first : First) (sound : IsSoundFlat flat
 
   pub is_cluster : IsClusterOf flat started
   is_cluster = record {
-    attributes = (timed flat cluster first sound laid is law).attributes;
+    attributes = (timed flat cluster first sound laid (text_first flat cluster first laid.limits is) law).attributes;
     rows = first_rows flat cluster first laid is;
     planned = record {
       plan = first.plan;
@@ -281,10 +283,10 @@ module _ (flat : Flat) (cluster : ℕ) (first : First) (sound : IsSoundFlat flat
     };
     reads_are = refl;
     writes_are = refl;
-    safe = is_safe flat cluster first sound laid is law rings runners positions rings_are;
+    safe = is_safe flat cluster first sound laid (text_first flat cluster first laid.limits is) law rings runners positions rings_are;
     within = omega arith;
     over = λ crossed. false_true crossed;
-    held = are_held flat cluster first sound laid is law rings runners positions rings_are;
+    held = are_held flat cluster first sound laid (text_first flat cluster first laid.limits is) law rings runners positions rings_are;
     actors = long;
     positions = ap length none_done ∙ length-replicate {A = ℕ} (length flat.tables.actors) 0;
     counted = λ m. (let z = zero_at m in omega (arith, z));
@@ -369,7 +371,7 @@ module _ (flat : Flat) (cluster : ℕ) (first : First) (sound : IsSoundFlat flat
       go (Some r) there given = sym (some_same (runner_cells r) x given) ∙ state_is model checked m r there inside
 
   list_at : (e : ℕ) → e < length flat.tables.edges → slice_index_or (map (λ (r : RingOf). r.samples) rings) e [] ≡ slice_index_or (text_start sound.model flat cluster first.attrs.rows).lists e []
-  list_at e within = get_or-map (λ (r : RingOf). r.samples) rings e (ring_of [] 0) ∙ lists_are flat cluster first sound laid is law rings runners positions rings_are e within
+  list_at e within = get_or-map (λ (r : RingOf). r.samples) rings e (ring_of [] 0) ∙ lists_are flat cluster first sound laid (text_first flat cluster first laid.limits is) law rings runners positions rings_are e within
 
   pub stands : StandsAtStart flat started
   stands model p reads checked = start_stands (cluster_net model flat cluster (text_start model flat cluster first.attrs.rows)) p reads (play_of 0 started) (record {
@@ -389,6 +391,6 @@ is_made flat cluster first sound laid is law reads writes rings runners position
     (subst (λ w. IsClusterOf flat (start_of cluster first (read_rates (net_of flat.tables first.attrs.rows)) w rings runners positions)) (sym parts.writes_are)
     (is_cluster flat cluster first sound laid is law rings runners positions parts.rings_are parts.runners_are parts.none_done))
 
--- the rates of the first table are in range
-pub first_rates : (flat : Flat) (cluster : ℕ) (first : First) → IsSoundFlat flat → IsLaid flat → IsFirstPlan flat cluster first → PlansArePresent → AreRates flat.tables first.attrs.rows
-first_rates flat cluster first sound laid is law = are_rates flat laid.limits first.attrs.rows (timed flat cluster first sound laid is law).attributes.allowed
+-- the rates of a table are in range
+pub first_rates : (flat : Flat) (cluster : ℕ) (first : First) → IsLaid flat → IsTableFirst flat cluster first.attrs.rows first → AreRates flat.tables first.attrs.rows
+first_rates flat cluster first laid is = are_rates flat laid.limits first.attrs.rows is.attributes.allowed

@@ -7,7 +7,6 @@ mod Changing
 mod Counting
 mod Counts
 mod Crosses
-mod EdgeRates
 mod Empty
 mod Ends
 pub mod Entries

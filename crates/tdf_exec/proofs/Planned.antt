@@ -7,23 +7,26 @@ use Rattle.std.proofs.lemmas.Option.{slice_get_within}
 use Rattle.std.specs.List.{count_by}
 use Rattle.std.specs.Prelude.{All, cond, slice_get, slice_index, slice_index_or}
 use Rattle.tdf_bind_tables.specs.Actors.{cluster_of}
-use Rattle.tdf_dynamic_plans.specs.Attributes.{clusters_of}
-use Rattle.tdf_dynamic_plans.specs.Faults.{pace_in}
 use Rattle.tdf_dynamic_first.specs.First.{IsFirstPlan}
+use Rattle.tdf_dynamic_plans.specs.Attributes.{AttrsOf, clusters_of}
+use Rattle.tdf_dynamic_plans.specs.Faults.{IsTablePlan, pace_in}
+use Rattle.tdf_dynamic_values.specs.Planned.{IsTableFirst}
+use Rattle.tdf_bind_invariants.specs.Limits.{AreWithinLimits}
 use Rattle.tdf_dynamic_plans.specs.Rates.{net_of, net_ports, rated_edge}
 use Rattle.tdf_dynamic_first.specs.declared.first.First.{First}
 use Rattle.tdf_exec.specs.Cluster.{ClusterOf}
-use Rattle.tdf_exec.specs.Made.{AreHeld, IsClusterSafe, room_for}
+use Rattle.tdf_exec.specs.Made.{AreHeld, IsClusterSafe}
+use Rattle.tdf_exec_parts.specs.Rings.{room_for}
 use Rattle.tdf_exec_layout.specs.Samples.{edge_format}
 use Rattle.tdf_exec.specs.Starts.{IsSoundFlat}
 use Rattle.tdf_exec.specs.declared.runners.Runner.{Runner}
 use Rattle.tdf_exec.specs.machine.Laid.{IsLaid}
-use Rattle.tdf_exec.specs.machine.Starting.{AreFirstRings, FitAtFirst, list_of}
+use Rattle.tdf_exec_parts.specs.Rings.{AreFirstRings, FitAtFirst, list_of}
 use Rattle.tdf_expr.specs.Frames.{IsOfFormat}
 use Rattle.tdf_fixed.specs.declared.format.Format.{Format}
 use Rattle.tdf_fixed.specs.declared.raw.Raw.{Raw}
 use Rattle.tdf_bind.specs.declared.model.Flat.{Flat}
-use Rattle.tdf_streams.proofs.Api.{get_inside, some_same, active_inside, bound_at, entry_active, first_record, present_at, record_present, text_holds_delays, text_list}
+use Rattle.tdf_streams.proofs.Api.{get_inside, some_same, active_inside, bound_at, entry_active, table_record, text_attributes, present_at, record_present, text_holds_delays, text_list}
 use Rattle.tdf_rings.specs.Carried.{ring_at}
 use Rattle.tdf_rings.specs.Rings.{RingOf}
 use Rattle.tdf_schedule.specs.Laws.{PlansArePresent}
@@ -31,7 +34,7 @@ use Rattle.tdf_schedule.specs.Plan.{IsPlan, done}
 use Rattle.tdf_schedule.specs.declared.entry.Entry.{Entry}
 use Rattle.tdf_streams.specs.Cluster.{initial_list, text_start}
 use Rattle.tdf_streams.specs.Laws.{HasRecord}
-use Rattle.tdf_streams.specs.Periods.{IsTimedRecord, PeriodRecord, period_record, read_rates, write_rates}
+use Rattle.tdf_streams.specs.Periods.{AreAttributes, IsTimedRecord, PeriodRecord, period_record, read_rates, write_rates}
 use Rattle.tdf_streams.specs.Places.{reader_at, writer_at, writer_of_row}
 use Rattle.tdf_streams.specs.Starts.{held_at_head, initial_of_row}
 use Rattle.tdf_bind_connections.specs.declared.edges.EdgeRow.{EdgeRow}
@@ -52,6 +55,15 @@ start_of cluster first reads writes rings runners positions = record {
   rings = rings;
   runners = runners;
   positions = positions;
+}
+
+-- the first attributes and plan are those of a table
+pub text_first : (flat : Flat) (cluster : ℕ) (first : First) → AreWithinLimits flat → IsFirstPlan flat cluster first → IsTableFirst flat cluster first.attrs.rows first
+text_first flat cluster first limits is = record {
+  attrs_are = refl;
+  attributes = subst (AreAttributes flat cluster) (sym is.attrs_are) (text_attributes flat cluster limits);
+  plan_is = subst (λ (table : List AttrsOf). IsTablePlan flat.tables cluster table first.plan) (sym is.attrs_are) is.plan_is;
+  known = is.known;
 }
 
 -- none passes before a place, where none passes
@@ -75,9 +87,9 @@ all_if : (P : Raw → Type 0) (xs : List Raw) (b : Bool) → All P xs → All P 
 all_if P xs true all = all
 all_if P xs false all = λ k d inside. absurd (omega (arith, inside))
 
-module _ (flat : Flat) (cluster : ℕ) (first : First) (sound : IsSoundFlat flat) (laid : IsLaid flat) (is : IsFirstPlan flat cluster first) (law : PlansArePresent) where
+module _ (flat : Flat) (cluster : ℕ) (first : First) (sound : IsSoundFlat flat) (laid : IsLaid flat) (is : IsTableFirst flat cluster first.attrs.rows first) (law : PlansArePresent) where
   pub has : HasRecord flat cluster first.attrs.rows first.plan true
-  has = first_record flat cluster first laid.limits is
+  has = table_record flat cluster first.attrs.rows first.plan true is.attributes is.plan_is
 
   abbrev entries : List Entry
   entries = first.plan.entries.items

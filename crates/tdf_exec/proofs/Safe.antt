@@ -10,7 +10,8 @@ use Rattle.tdf_dynamic_plans.specs.Faults.{pace_in}
 use Rattle.tdf_dynamic_plans.specs.Rates.{net_of}
 use Rattle.tdf_exec.specs.Cluster.{ClusterOf}
 use Rattle.tdf_exec.specs.Laws.{HeadsHold, PlansAreSafe}
-use Rattle.tdf_exec.specs.Made.{IsClusterSafe, room_for}
+use Rattle.tdf_exec.specs.Made.{IsClusterSafe}
+use Rattle.tdf_exec_parts.specs.Rings.{room_for}
 use Rattle.tdf_bind.specs.declared.model.Flat.{Flat}
 use Rattle.tdf_bind_invariants.specs.Limits.{AreWithinLimits}
 use Rattle.tdf_schedule.specs.Laws.{PlansArePresent}

@@ -2,7 +2,7 @@
 -- model, and each edge holds as many samples as its firings have left.
 -- Source: own.
 use Rattle.std.specs.List.{All, count_by}
-use Rattle.std.specs.Prelude.{◌≡◌, ℕ, zero, suc, ◌+◌, ◌-◌, ◌*◌, ◌^◌, ◌<◌, ◌≤◌, Bool, true, false, List, None, Some, length, slice_get, slice_index, map, take}
+use Rattle.std.specs.Prelude.{◌≡◌, ℕ, ◌+◌, ◌-◌, ◌*◌, ◌^◌, ◌<◌, ◌≤◌, Bool, true, false, List, None, Some, length, slice_get, slice_index, map, take}
 use Rattle.tdf_bind_tables.specs.FlatTables.{FlatTablesOf}
 use Rattle.tdf_dynamic_plans.specs.Attributes.{AttrsOf, attrs_at, clusters_of, rates_in}
 use Rattle.tdf_dynamic_plans.specs.Faults.{IsTablePlan}
@@ -12,6 +12,7 @@ use Rattle.tdf_exec.specs.Cluster.{ClusterOf, next_offset}
 use Rattle.tdf_exec.specs.Runners.{ModuleOf, SamplerOf}
 use Rattle.tdf_exec.specs.Traced.{traced_port}
 use Rattle.tdf_exec_layout.specs.Traced.{traced_ports}
+use Rattle.tdf_exec_parts.specs.Rings.{room_for}
 use Rattle.tdf_exec.specs.declared.runners.Runner.{Runner}
 use Rattle.tdf_exec.specs.declared.runners.Runner.TheVariants as runner
 use Rattle.tdf_exec.specs.declared.runners.TracedPort.{TracedPort}
@@ -131,11 +132,6 @@ pub record IsClusterPlanned (tables : FlatTablesOf) (c : ClusterOf) : Type 0 whe
   pub entries_are : plan.entries.items ≡ c.entries
   pub bounds_are : plan.bounds.items ≡ c.bounds
   pub period_is : plan.period ≡ c.period
-
--- how many samples an edge has room for: its bound, but a ring has room for one at least
-abbrev pub room_for : (bound : ℕ) → ℕ
-room_for zero = 1
-room_for (suc n) = suc n
 
 -- along the plan only actors of the cluster fire, the samples that a firing reads are there, and no
 -- edge holds more than it has room for

@@ -2,8 +2,6 @@
 //!
 //! - `runners`: what each actor needs to fire, and one firing.
 //! - `cluster`: a cluster in progress, and its calls.
-//! - `rating`: the rates in force, by edge.
-//! - `filling`: the rings of a cluster at its start.
 //! - `beginning`: what its actors keep at its start.
 //! - `starting`: a cluster at the start of its first period.
 //! - `crossing`: from the end of a period to the next.
@@ -20,10 +18,8 @@ mod asking;
 mod beginning;
 mod cluster;
 mod crossing;
-mod filling;
 mod laws;
 mod moving;
-mod rating;
 mod restarting;
 mod runners;
 mod saving;

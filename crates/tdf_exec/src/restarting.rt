@@ -3,15 +3,13 @@
 ghost use Rattle.std.specs.Prelude.{◌≡◌, ℕ, IfOk, length, map, OnErr, OnOk, Some, slice_get, true};
 ghost use Rattle.tdf_dynamic_plans.specs.Rates.{AreRates};
 ghost use Rattle.tdf_exec.specs.Crossing.{IsReadyFor};
-ghost use Rattle.tdf_exec.specs.Made.{room_for};
+ghost use Rattle.tdf_exec_parts.specs.Rings.{room_for};
 ghost use Rattle.tdf_exec.specs.Starts.{IsSoundFlat};
 ghost use Rattle.tdf_exec.specs.declared.runners.Runner.{Runner as RunnerOf};
 ghost use Rattle.tdf_exec.specs.machine.Restarting.{AreNextParts, AreRestarted, CanRestart, HasReplaced, HasRestarted, IsRestarted};
 ghost use Rattle.tdf_expr.specs.Made.{AreMadeFor};
 
 use crate::cluster::Cluster;
-use crate::filling::room_for;
-use crate::rating::{read_rates, write_rates};
 use crate::runners::{ModuleRunner, Runner};
 use crate::starting::law_laid;
 use crate::tracing::{TracedPorts, give_all, traced_rows};
@@ -20,6 +18,7 @@ use tdf_base::Memory;
 use tdf_bind::Flat;
 use tdf_dynamic::begin;
 use tdf_dynamic_plans::Attrs;
+use tdf_exec_parts::{read_rates, room_for, write_rates};
 use tdf_expr::{Body, Checked, run_body};
 use tdf_rings::carry;
 use tdf_schedule::Plan;

@@ -4,6 +4,7 @@ ghost use Rattle.std.specs.Prelude.{◌≤◌, IfOk, length};
 ghost use Rattle.tdf_convert.specs.Sampled.{PlansGoByOffset};
 ghost use Rattle.tdf_dynamic_first.specs.First.{IsFirstPlan};
 ghost use Rattle.tdf_dynamic_plans.specs.Rates.{AreRates};
+ghost use Rattle.tdf_dynamic_values.specs.Planned.{IsTableFirst};
 ghost use Rattle.tdf_exec.specs.Made.{IsClusterOf};
 ghost use Rattle.tdf_exec.specs.Starts.{IsAtStart, IsSoundFlat, StandsAtStart};
 ghost use Rattle.tdf_exec.specs.machine.Laid.{AreParts, AreRunnersOf, SoundIsLaid};
@@ -12,9 +13,7 @@ ghost use Rattle.tdf_schedule.specs.Laws.{PlansArePresent};
 use crate::asking::Spare;
 use crate::beginning::first_runners;
 use crate::cluster::Cluster;
-use crate::filling::first_rings;
 use crate::laws::law_rates;
-use crate::rating::{read_rates, write_rates};
 use crate::runners::Runner;
 use crate::tracing::{give_all, traced_rows};
 use std::alloc::Global;
@@ -25,6 +24,7 @@ use tdf_convert::law_by_offset;
 use tdf_dynamic_first::First;
 use tdf_dynamic_plans::Attrs;
 use tdf_exec_layout::{cluster_wires, law_edge_formats, law_edges, law_wired};
+use tdf_exec_parts::{first_rings, read_rates, write_rates};
 use tdf_rings::Ring;
 use tdf_schedule::law_present;
 
@@ -75,10 +75,10 @@ fn runners_of(
     Ok(runners)
 }
 
-/// The parts of a cluster under its first attributes and plan.
+/// The parts of a cluster at its start, under a table and its plan.
 fn first_parts(alloc: Global, flat: &Flat, cluster: u32, first: &First) -> Result<Parts, Memory>
     requires sound { IsSoundFlat flat.now }
-    requires plan { IsFirstPlan flat.now cluster first.now }
+    requires plan { IsTableFirst flat.now cluster first.now.attrs.rows first.now }
     ensures parts { IfOk result (λ p. AreParts flat.now cluster first.now p.reads.items
         p.writes.items p.rings.items p.runners.items p.positions.items) }
     ensures room { IfOk result (λ p. length first.now.attrs.rows ≤ p.spare) }

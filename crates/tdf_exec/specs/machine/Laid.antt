@@ -8,7 +8,8 @@ use Rattle.tdf_exec.specs.Made.{KeepRates}
 use Rattle.tdf_exec.specs.Starts.{BeginWithRates, IsSoundFlat}
 use Rattle.tdf_exec.specs.declared.runners.Runner.{Runner}
 use Rattle.tdf_exec.specs.declared.runners.TracedPort.{TracedPort}
-use Rattle.tdf_exec.specs.machine.Starting.{AreFirstRings, AreFirstRunners}
+use Rattle.tdf_exec.specs.machine.Starting.{AreFirstRunners}
+use Rattle.tdf_exec_parts.specs.Rings.{AreFirstRings}
 use Rattle.tdf_exec.specs.machine.Tracing.{AreGivenTraced, AreTracedUpTo}
 use Rattle.tdf_expr.specs.Made.{port_spans_of}
 use Rattle.tdf_exec_firing.specs.Wires.{AreWired, WiresOf}

@@ -1,10 +1,8 @@
--- The parts of a cluster at its start: rings by edge, and runners by actor.
+-- The runners of a cluster at its start, by actor.
 -- Source: own.
 use Rattle.std.specs.List.{count_by}
-use Rattle.std.specs.Prelude.{◌≡◌, ℕ, ◌<◌, ◌≤◌, if◌then◌else◌, nat_eq, List, [], length, Some, slice_get, slice_index, All}
-use Rattle.tdf_bind_tables.specs.FlatTables.{FlatTablesOf}
-use Rattle.tdf_dynamic_plans.specs.Attributes.{clusters_of}
-use Rattle.tdf_exec.specs.Made.{is_sampler_runner, room_for, sampler_runners_before}
+use Rattle.std.specs.Prelude.{◌≡◌, ℕ, ◌<◌, ◌≤◌, List, length, Some, slice_get, All}
+use Rattle.tdf_exec.specs.Made.{is_sampler_runner, sampler_runners_before}
 use Rattle.tdf_exec.specs.Runners.{ModuleOf}
 use Rattle.tdf_exec.specs.Starts.{BeginWithRates}
 use Rattle.tdf_exec.specs.declared.runners.Runner.{Runner}
@@ -13,36 +11,12 @@ use Rattle.tdf_expr.specs.Checked.{IsChecked, IsCheckedOf}
 use Rattle.tdf_expr.specs.Made.{AreMadeFor, block_count, start_rates}
 use Rattle.tdf_exec_firing.specs.Firing.{AreZerosBehind}
 use Rattle.tdf_exec_firing.specs.Wires.{WiresOf}
-use Rattle.tdf_fixed.specs.declared.raw.Raw.{Raw}
 use Rattle.tdf_bind.specs.declared.model.Flat.{Flat}
 use Rattle.tdf_exec_layout.specs.declared.wiring.ActorWires.{ActorWires}
 use Rattle.tdf_exec_layout.specs.declared.wiring.ActorWires.TheVariants as wires
-use Rattle.tdf_rings.specs.Carried.{ring_at}
-use Rattle.tdf_rings.specs.Rings.{RingOf, ring_of}
 use Rattle.tdf_streams.specs.Bodies.{initialized}
-use Rattle.tdf_streams.specs.Cluster.{initial_list}
 use Rattle.tdf_streams.specs.Places.{block_at}
 use Rattle.tdf_lang_tree.specs.Pure.{PureTree}
-use Rattle.tdf_bind_connections.specs.declared.edges.EdgeRow.{EdgeRow}
-
--- the samples of an edge at first; none of an edge of another cluster
-abbrev pub list_of : FlatTablesOf → (cluster : ℕ) → EdgeRow → List Raw
-list_of tables cluster edge =
-    if nat_eq (slice_index (clusters_of tables) edge.writer) cluster then initial_list tables edge
-    else []
-
--- there is a bound for each edge, whose ring has room for its first samples
-pub record FitAtFirst (tables : FlatTablesOf) (cluster : ℕ) (bounds : List ℕ) : Type 0 where
-  pub long : length bounds ≡ length tables.edges
-  pub fits : (e : ℕ) (edge : EdgeRow) → slice_get tables.edges e ≡ Some edge
-      → length (list_of tables cluster edge) ≤ room_for (slice_index bounds e)
-
--- a ring for each of the first n edges
-pub record AreFirstRings (tables : FlatTablesOf) (cluster : ℕ) (bounds : List ℕ) (n : ℕ)
-    (rings : List RingOf) : Type 0 where
-  pub long : length rings ≡ n
-  pub each : (e : ℕ) (edge : EdgeRow) → e < n → slice_get tables.edges e ≡ Some edge
-      → ring_at rings e ≡ ring_of (list_of tables cluster edge) (room_for (slice_index bounds e))
 
 -- what the modules of a flat model have, so that their initialize bodies can run
 pub record CanBegin (flat : Flat) : Type 0 where

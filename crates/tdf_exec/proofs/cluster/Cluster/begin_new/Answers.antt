@@ -3,7 +3,7 @@ use Rattle.tdf_dynamic_plans.proofs.Api.{modules_few}
 use Rattle.tdf_exec.proofs.Installing.{can_restart, fit_in, has, some_rooms}
 use Rattle.tdf_exec.specs.Cluster.{ClusterOf, next_offset}
 use Rattle.tdf_exec.specs.Crossing.{IsReadyFor}
-use Rattle.tdf_exec.specs.Made.{room_for}
+use Rattle.tdf_exec_parts.specs.Rings.{room_for}
 use Rattle.tdf_exec.specs.contracts.cluster.Cluster.{the_view}
 use Rattle.tdf_streams.proofs.Api.{are_rates, is_wired}
 use Rattle.tdf_exec.proofs.cluster.Cluster.begin_new.Goals as goal

@@ -1,10 +1,14 @@
 use Rattle.tdf_exec.proofs.Kept.{is_made, stands}
-use Rattle.tdf_exec.proofs.Planned.{has}
+use Rattle.tdf_exec.proofs.Planned.{has, text_first}
 use Rattle.tdf_exec.proofs.cluster.Cluster.new.Goals as goal
+
+pub first_parts-requires-clause-plan : goal.first_parts-requires-clause-plan
+first_parts-requires-clause-plan c = text_first c.args.flat.now c.args.cluster c.args.first (c.law_laid.ensures.laid c.args.flat.now c.requires.sound).limits c.requires.plan
 
 pub invariant_of-result : goal.invariant_of-result
 invariant_of-result c =
-    let h = has c.args.flat.now c.args.cluster c.args.first c.requires.sound (c.law_laid.ensures.laid c.args.flat.now c.requires.sound) c.requires.plan c.law_laid.ensures.present in
+    let laid = c.law_laid.ensures.laid c.args.flat.now c.requires.sound in
+    let h = has c.args.flat.now c.args.cluster c.args.first c.requires.sound laid (text_first c.args.flat.now c.args.cluster c.args.first laid.limits c.requires.plan) c.law_laid.ensures.present in
     record { sorted = c.law_laid.ensures.sorted _ _ _ c.args.first.plan.entries.items h.plan_is.planned; room = c.in-Ok.ensures.room }
 
 pub returns-in-Ok-clause-of : goal.returns-in-Ok-clause-of

@@ -1,8 +1,7 @@
 //! The rings of a cluster at its start.
 
 ghost use Rattle.std.specs.Prelude.{◌≡◌, ◌<◌, ◌≤◌, [], All, IfOk, length};
-ghost use Rattle.tdf_exec.specs.Made.{room_for};
-ghost use Rattle.tdf_exec.specs.machine.Starting.{AreFirstRings, FitAtFirst, list_of};
+ghost use Rattle.tdf_exec_parts.specs.Rings.{AreFirstRings, FitAtFirst, list_of, room_for};
 ghost use Rattle.tdf_rings.specs.Rings.{ring_of};
 
 use std::alloc::Global;
@@ -14,7 +13,7 @@ use tdf_fixed::Raw;
 use tdf_rings::Ring;
 
 /// How many samples a ring has room for.
-pub(crate) fn room_for(bound: u32) -> u32
+pub fn room_for(bound: u32) -> u32
     ensures value { result ≡ room_for bound }
     ensures some { 1 ≤ result }
 {
@@ -73,7 +72,7 @@ fn first_ring(
 ///
 /// # Errors
 /// Out of memory.
-pub(crate) fn first_rings(
+pub fn first_rings(
     alloc: Global,
     tables: &FlatTables,
     cluster: u32,

@@ -76,9 +76,10 @@ fn write_rate(flat: &Flat, attrs: &Attrs, edge: EdgeRow) -> u32
 ///
 /// # Errors
 /// Out of memory.
-pub(crate) fn read_rates(alloc: Global, flat: &Flat, attrs: &Attrs) -> Result<Vec<u32>, Memory>
+pub fn read_rates(alloc: Global, flat: &Flat, attrs: &Attrs) -> Result<Vec<u32>, Memory>
     requires { AreRates flat.now.tables attrs.now.rows }
-    ensures { IfOk result (λ rates. rates.items ≡ read_rates (net_of flat.now.tables attrs.now.rows)) }
+    ensures { IfOk result (λ rates.
+        rates.items ≡ read_rates (net_of flat.now.tables attrs.now.rows)) }
 {
     let mut rates = Vec::new(alloc);
     for e in 0..flat.tables.edges.len() {
@@ -91,9 +92,10 @@ pub(crate) fn read_rates(alloc: Global, flat: &Flat, attrs: &Attrs) -> Result<Ve
 ///
 /// # Errors
 /// Out of memory.
-pub(crate) fn write_rates(alloc: Global, flat: &Flat, attrs: &Attrs) -> Result<Vec<u32>, Memory>
+pub fn write_rates(alloc: Global, flat: &Flat, attrs: &Attrs) -> Result<Vec<u32>, Memory>
     requires { AreRates flat.now.tables attrs.now.rows }
-    ensures { IfOk result (λ rates. rates.items ≡ write_rates (net_of flat.now.tables attrs.now.rows)) }
+    ensures { IfOk result (λ rates.
+        rates.items ≡ write_rates (net_of flat.now.tables attrs.now.rows)) }
 {
     let mut rates = Vec::new(alloc);
     for e in 0..flat.tables.edges.len() {

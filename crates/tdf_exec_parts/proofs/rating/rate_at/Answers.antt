@@ -1,8 +1,8 @@
 use Rattle.std.proofs.Common.{◌∙◌, ◌<◌, ◌≤◌, ap, arith, length, sym}
 use Rattle.tdf_bind.specs.declared.model.Flat.{Flat}
-use Rattle.tdf_exec.proofs.EdgeRates.{rate_past, rate_there}
+use Rattle.tdf_exec_parts.proofs.EdgeRates.{rate_past, rate_there}
 use Rattle.tdf_streams.proofs.Api.{get_inside}
-use Rattle.tdf_exec.proofs.rating.rate_at.Goals as goal
+use Rattle.tdf_exec_parts.proofs.rating.rate_at.Goals as goal
 
 pub returns-then-port-len : goal.returns-then-port-len
 returns-then-port-len c =

@@ -1,0 +1,3 @@
+-- The lemmas that the crates above use.
+pub use Rattle.tdf_exec_parts.proofs.EdgeRates.{edge_reads, edge_writes, rate_there, reads_at, writes_at}
+pub use Rattle.tdf_exec_parts.proofs.Rows.{index_at}

@@ -1,0 +1,8 @@
+-- Rows of lists, by number.
+use Rattle.std.proofs.Common.{◌≡◌, ◌∙◌, ℕ, Some, option_map, List, map, ap}
+use Rattle.std.proofs.lemmas.Option.{get_or_from_slice_get, slice_get-map}
+use Rattle.std.specs.Prelude.{slice_get, slice_index}
+
+-- a field of the row at a number
+pub index_at : {X : Type 0} (f : X → ℕ) (xs : List X) (j : ℕ) (x : X) → slice_get xs j ≡ Some x → slice_index (map f xs) j ≡ f x
+index_at f xs j x is = get_or_from_slice_get (map f xs) j (f x) 0 (slice_get-map f xs j ∙ ap (option_map f) is)
