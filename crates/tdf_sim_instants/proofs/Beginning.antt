@@ -3,18 +3,20 @@ use Rattle.std.proofs.Common.{◌≡◌, ◌∙◌, ◌⊎◌, ℕ, zero, suc, �
 use Rattle.std.proofs.lemmas.List.{length_push}
 use Rattle.std.proofs.lemmas.List.Sums.{sum_by_push}
 use Rattle.std.proofs.lemmas.Option.{slice_get_within}
+use Rattle.std.specs.Prelude.{Err, IfOk, Ok, Result}
+use Rattle.tdf_base.specs.declared.memory.Memory.{Memory}
 use Rattle.tdf_bind_tables.specs.FlatTables.{FlatTablesOf}
 use Rattle.tdf_convert.specs.Outputs.{OutputsOf, WritesOf}
 use Rattle.tdf_convert.specs.declared.links.Links.{Links}
 use Rattle.tdf_dynamic_first.specs.First.{IsFirstPlan}
 use Rattle.tdf_dynamic_first.specs.declared.first.First.{First}
-use Rattle.tdf_sim_instants.specs.Engine.{HaveRooms, IsEngineOf, IsInProgress, IsReadyAt}
+use Rattle.tdf_sim_instants.specs.Engine.{AreInProgress, HaveRooms, IsEngineOf, IsReadyAt}
 use Rattle.tdf_sim_instants.specs.Making.{HavePlans}
 use Rattle.tdf_sim_instants.specs.Settling.{IsBefore}
 use Rattle.tdf_sim_instants.specs.declared.engine.Engine.{Engine}
 use Rattle.tdf_sim_instants.specs.machine.Making.{AreGivenUpTo, AreLinkedUpTo}
 use Rattle.tdf_events.proofs.Api.{none_at_start, none_pending_before}
-use Rattle.tdf_events.specs.Kernel.{IsKernelOf, side_of}
+use Rattle.tdf_events.specs.Kernel.{IsKernelOf, KernelOf, side_of}
 use Rattle.tdf_events.specs.Side.{start_side}
 use Rattle.tdf_exec.specs.Cluster.{ClusterOf}
 use Rattle.tdf_exec.specs.Gained.{sent_size, size_due, traced_size}
@@ -88,50 +90,78 @@ rooms_more size cs room m c rooms is = record {
         subst (λ (x : ClusterOf). size_due size x.runners offset x.entries ≤ k) one.1 (subst (λ x. size_due size c.runners offset c.entries ≤ x) other.1 (is.above offset))
 
 -- all together
-module _ (flat : Flat) (firsts : List First) (limits : AreWithinLimits flat) (e : Engine) (begun : HaveBegun flat firsts e.clusters.items)
-    (since : e.since.items ≡ replicate (length e.clusters.items) 0) where
-  in_progress : (n : ℕ) (c : ClusterOf) → slice_get e.clusters.items n ≡ Some c → IsInProgress flat n c
-  in_progress n c at =
-      let within = slice_get_within e.clusters.items n c at in
-      let same = begun.same in
-      let inside : n < length firsts = omega (arith, within, same) in
-      let f = there_at firsts n inside in
-      let b = begun.each n f.0 c f.1 at in
-      record {
-        of = b.of;
-        number = b.start.number_is;
-        going = b.start.not_crossed;
-        takes = takes_time flat c limits b.of;
-        inside = entries_inside flat c limits b.of;
-      }
+pub engine_made : (flat : Flat) (e : Engine) → length e.since.items ≡ length e.clusters.items → AreInProgress flat e.clusters.items
+    → AreLinkedUpTo flat.tables (length e.clusters.items) e.links.items
+    → AreGivenUpTo e.links.items (length e.links.items) e.inputs.items → AreSinkLinks flat.tables e.sinks.list.items
+    → (sent traced : ℕ) → HaveRooms sent_size e.clusters.items sent → HaveRooms traced_size e.clusters.items traced
+    → e.outputs ≡ record { sent = []; traced = []; sent_room = sent; traced_room = traced }
+    → e.writes ≡ record { list = []; room = sent } → IsKernelOf flat e.kernel → IsEngineOf flat e
+engine_made flat e as_many going linked given sinks sent traced sent_rooms traced_rooms outputs writes kernel = record {
+  since = as_many;
+  links = linked.long;
+  inputs = given.long ∙ linked.long;
+  clusters = going;
+  linked = linked.each;
+  given = given.each;
+  sinks = sinks;
+  sent_room = subst (HaveRooms sent_size e.clusters.items) (sym (ap (λ (o : OutputsOf). o.sent_room) outputs)) sent_rooms;
+  traced_room = subst (HaveRooms traced_size e.clusters.items) (sym (ap (λ (o : OutputsOf). o.traced_room) outputs)) traced_rooms;
+  write_room = let a : e.outputs.sent_room ≡ sent = ap (λ (o : OutputsOf). o.sent_room) outputs in let b : e.writes.room ≡ sent = ap (λ (w : WritesOf). w.room) writes in omega (arith, a, b);
+  none_sent = ap (λ (o : OutputsOf). o.sent) outputs;
+  none_written = ap (λ (w : WritesOf). w.list) writes;
+  kernel = kernel;
+}
 
-  pub engine_made : length e.since.items ≡ length e.clusters.items → AreLinkedUpTo flat.tables (length e.clusters.items) e.links.items
-      → AreGivenUpTo e.links.items (length e.links.items) e.inputs.items → AreSinkLinks flat.tables e.sinks.list.items
-      → (sent traced : ℕ) → HaveRooms sent_size e.clusters.items sent → HaveRooms traced_size e.clusters.items traced
-      → e.outputs ≡ record { sent = []; traced = []; sent_room = sent; traced_room = traced }
-      → e.writes ≡ record { list = []; room = sent } → IsKernelOf flat e.kernel → IsEngineOf flat e
-  engine_made as_many linked given sinks sent traced sent_rooms traced_rooms outputs writes kernel = record {
-    since = as_many;
-    links = linked.long;
-    inputs = given.long ∙ linked.long;
-    clusters = in_progress;
-    linked = linked.each;
-    given = given.each;
-    sinks = sinks;
-    sent_room = subst (HaveRooms sent_size e.clusters.items) (sym (ap (λ (o : OutputsOf). o.sent_room) outputs)) sent_rooms;
-    traced_room = subst (HaveRooms traced_size e.clusters.items) (sym (ap (λ (o : OutputsOf). o.traced_room) outputs)) traced_rooms;
-    write_room = let a : e.outputs.sent_room ≡ sent = ap (λ (o : OutputsOf). o.sent_room) outputs in let b : e.writes.room ≡ sent = ap (λ (w : WritesOf). w.room) writes in omega (arith, a, b);
-    none_sent = ap (λ (o : OutputsOf). o.sent) outputs;
-    none_written = ap (λ (w : WritesOf). w.list) writes;
-    kernel = kernel;
-  }
+-- the clusters at the start
+pub all_begun : (flat : Flat) (firsts : List First) (cs : List ClusterOf) → AreWithinLimits flat → HaveBegun flat firsts cs → AreInProgress flat cs
+all_begun flat firsts cs limits begun n c at =
+    let within = slice_get_within cs n c at in
+    let same = begun.same in
+    let inside : n < length firsts = omega (arith, within, same) in
+    let f = there_at firsts n inside in
+    let b = begun.each n f.0 c f.1 at in
+    record {
+      of = b.of;
+      number = b.start.number_is;
+      going = b.start.not_crossed;
+      takes = takes_time flat c limits b.of;
+      inside = entries_inside flat c limits b.of;
+    }
 
-  pub ready_made : side_of e.kernel ≡ start_side flat → IsReadyAt 0 e
-  ready_made side = record {
-    begun = λ n s at. (let z : s ≡ 0 = all_same 0 (length e.clusters.items) n s (ap (λ (l : List ℕ). slice_get l n) (sym since) ∙ at) in omega (arith, z));
-    clusters = λ n s c c_at s_at. omega arith;
-    side = subst (IsBefore 0) (sym side) (record {
-      none = none_pending_before (start_side flat).notices.times 0 (none_at_start flat).0;
-      idle = λ less. absurd (omega (arith, less));
-    });
-  }
+pub ready_made : (flat : Flat) (e : Engine) → e.since.items ≡ replicate (length e.clusters.items) 0 → side_of e.kernel ≡ start_side flat → IsReadyAt 0 e
+ready_made flat e since side = record {
+  begun = λ n s at. (let z : s ≡ 0 = all_same 0 (length e.clusters.items) n s (ap (λ (l : List ℕ). slice_get l n) (sym since) ∙ at) in omega (arith, z));
+  clusters = λ n s c c_at s_at. omega arith;
+  side = subst (IsBefore 0) (sym side) (record {
+    none = none_pending_before (start_side flat).notices.times 0 (none_at_start flat).0;
+    idle = λ less. absurd (omega (arith, less));
+  });
+}
+
+-- an engine that is made of such parts has them
+module _ (flat : Flat) (firsts : List First) (clusters : List ClusterOf) (r : Result Engine Memory) (kept : IfOk r (λ (e : Engine). e.clusters.items ≡ clusters)) where
+  pub begun_kept : HaveBegun flat firsts clusters → IfOk r (λ (e : Engine). HaveBegun flat firsts e.clusters.items)
+  begun_kept begun = go r kept
+    where
+      go : (r : Result Engine Memory) → IfOk r (λ (e : Engine). e.clusters.items ≡ clusters) → IfOk r (λ (e : Engine). HaveBegun flat firsts e.clusters.items)
+      go (Ok e) same = subst (HaveBegun flat firsts) (sym same) begun
+      go (Err e) same = tt
+
+  module _ (since : List ℕ) (at : IfOk r (λ (e : Engine). e.since.items ≡ since)) (none : since ≡ replicate (length clusters) 0) where
+    pub since_kept : IfOk r (λ (e : Engine). e.since.items ≡ replicate (length e.clusters.items) 0)
+    since_kept = go r kept at
+      where
+        go : (r : Result Engine Memory) → IfOk r (λ (e : Engine). e.clusters.items ≡ clusters) → IfOk r (λ (e : Engine). e.since.items ≡ since) → IfOk r (λ (e : Engine). e.since.items ≡ replicate (length e.clusters.items) 0)
+        go (Ok e) same at = at ∙ none ∙ ap (λ (l : List ClusterOf). replicate (length l) 0) (sym same)
+        go (Err e) same at = tt
+
+    pub ready_kept : (k : KernelOf) → IfOk r (λ (e : Engine). e.kernel ≡ k) → side_of k ≡ start_side flat → IfOk r (λ (e : Engine). IsReadyAt 0 e)
+    ready_kept k is side = go r since_kept is
+      where
+        go : (r : Result Engine Memory) → IfOk r (λ (e : Engine). e.since.items ≡ replicate (length e.clusters.items) 0) → IfOk r (λ (e : Engine). e.kernel ≡ k) → IfOk r (λ (e : Engine). IsReadyAt 0 e)
+        go (Ok e) since is = ready_made flat e since (ap side_of is ∙ side)
+        go (Err e) since is = tt
+
+pub side_kept : (flat : Flat) (r : Result Engine Memory) (k : KernelOf) → IfOk r (λ (e : Engine). e.kernel ≡ k) → side_of k ≡ start_side flat → IfOk r (λ (e : Engine). side_of e.kernel ≡ start_side flat)
+side_kept flat (Ok e) k is side = ap side_of is ∙ side
+side_kept flat (Err e) k is side = tt

@@ -34,6 +34,11 @@ pub record IsInProgress (flat : Flat) (n : ℕ) (c : ClusterOf) : Type 0 where
   pub takes : 0 < c.period
   pub inside : LieInside c
 
+-- each of them is
+abbrev pub AreInProgress : Flat → List ClusterOf → Type 0
+AreInProgress flat clusters = (n : ℕ) (c : ClusterOf) → slice_get clusters n ≡ Some c
+    → IsInProgress flat n c
+
 -- no more samples come from the entries of one offset of each cluster than these numbers say, and
 -- their sum is no more than there is room for
 pub record HaveRooms (size : Option Runner → ℕ) (clusters : List ClusterOf) (room : ℕ)

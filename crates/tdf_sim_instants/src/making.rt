@@ -3,10 +3,10 @@
 ghost use Rattle.std.specs.Prelude.{◌≡◌, ◌+◌, [], IfOk, length, replicate};
 ghost use Rattle.tdf_convert.specs.Links.{samplers_in};
 ghost use Rattle.tdf_dynamic_first.specs.First.{IsFirstPlan};
-ghost use Rattle.tdf_sim_instants.specs.Engine.{HaveRooms, IsEngineOf, IsReadyAt};
+ghost use Rattle.tdf_sim_instants.specs.Engine.{AreInProgress, HaveRooms, IsEngineOf, IsReadyAt};
 ghost use Rattle.tdf_sim_instants.specs.Making.{HavePlans};
 ghost use Rattle.tdf_sim_instants.specs.machine.Making.{AreGivenUpTo, AreLinkedUpTo, room_of};
-ghost use Rattle.tdf_events.specs.Kernel.{side_of};
+ghost use Rattle.tdf_events.specs.Kernel.{IsKernelOf, side_of};
 ghost use Rattle.tdf_events.specs.Runnable.{IsRunnable};
 ghost use Rattle.tdf_events.specs.Side.{start_side};
 ghost use Rattle.tdf_exec.specs.Gained.{sent_size, traced_size};
@@ -119,6 +119,49 @@ pub(crate) fn rooms_of(clusters: &[Cluster]) -> Result<Room, Memory>
 }
 
 impl Engine {
+    /// All that runs of a model, between two instants: these clusters, whose periods began at the times `since`, and this
+    /// event side. Its samplers have read nothing yet, and nothing is written.
+    ///
+    /// # Errors
+    /// Out of memory; samples of one offset whose number has more than 32 bits do not fit in memory.
+    pub fn from_parts(
+        alloc: Global,
+        flat: &Flat,
+        since: Vec<u64>,
+        clusters: Vec<Cluster>,
+        kernel: Kernel,
+    ) -> Result<Engine, Memory>
+        requires sound { IsSoundFlat flat.now }
+        requires since { length since.items ≡ length clusters.items }
+        requires clusters { AreInProgress flat.now clusters.items }
+        requires kernel { IsKernelOf flat.now kernel }
+        ensures engine { IfOk result (λ engine. IsEngineOf flat.now engine) }
+        ensures clusters { IfOk result (λ engine. engine.clusters.items ≡ clusters.items) }
+        ensures since { IfOk result (λ engine. engine.since.items ≡ since.items) }
+        ensures kernel { IfOk result (λ engine. engine.kernel ≡ kernel) }
+        ensures none { IfOk result (λ engine. engine.outputs.traced ≡ []) }
+        ensures planned { IfOk result (λ engine. engine.planned.items ≡ []) }
+    {
+        law_ports();
+        let room = rooms_of(&clusters)?;
+        let links = links_of(alloc, flat, clusters.len())?;
+        let inputs = inputs_of(alloc, &links)?;
+        let sinks = sink_links(alloc, &flat.tables)?;
+        let outputs = Outputs::new(alloc, room.sent, room.traced)?;
+        let writes = Writes::new(alloc, room.sent)?;
+        Ok(Engine {
+            clusters,
+            since,
+            links,
+            inputs,
+            sinks,
+            outputs,
+            writes,
+            kernel,
+            planned: Vec::new(alloc),
+        })
+    }
+
     /// All that runs of a model, before its first instant: each cluster at the start of its first period, which begins at
     /// the time 0, and the event side as the model declares it. `firsts` has the first attributes and plans of the
     /// clusters.
@@ -140,26 +183,9 @@ impl Engine {
         ensures side { IfOk result (λ engine. side_of engine.kernel ≡ start_side flat.now) }
     {
         law_limits();
-        law_ports();
         let clusters = first_clusters(alloc, flat, firsts)?;
-        let room = rooms_of(&clusters)?;
         let since = vec![in alloc; 0; clusters.len()]?;
-        let links = links_of(alloc, flat, clusters.len())?;
-        let inputs = inputs_of(alloc, &links)?;
-        let sinks = sink_links(alloc, &flat.tables)?;
-        let outputs = Outputs::new(alloc, room.sent, room.traced)?;
-        let writes = Writes::new(alloc, room.sent)?;
         let kernel = Kernel::new(alloc, flat)?;
-        Ok(Engine {
-            clusters,
-            since,
-            links,
-            inputs,
-            sinks,
-            outputs,
-            writes,
-            kernel,
-            planned: Vec::new(alloc),
-        })
+        Engine::from_parts(alloc, flat, since, clusters, kernel)
     }
 }

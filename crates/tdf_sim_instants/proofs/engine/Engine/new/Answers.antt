@@ -1,34 +1,24 @@
-use Rattle.std.proofs.Common.{◌≡◌, List, length, subst, replicate, rules}
-use Rattle.tdf_convert.specs.declared.links.Links.{Links}
-use Rattle.tdf_sim_instants.specs.Engine.{HaveRooms}
-use Rattle.tdf_sim_instants.specs.machine.Making.{AreGivenUpTo, AreLinkedUpTo}
-use Rattle.tdf_exec.specs.Cluster.{ClusterOf}
-use Rattle.tdf_exec.specs.Gained.{sent_size, traced_size}
-use Rattle.tdf_sim_instants.proofs.Beginning.{engine_made, ready_made}
+use Rattle.std.proofs.Common.{◌≡◌, length, replicate, rules}
+use Rattle.tdf_sim_instants.proofs.Beginning.{all_begun, begun_kept, ready_kept, side_kept, since_kept}
 use Rattle.tdf_sim_instants.proofs.engine.Engine.new.Goals as goal
 
-pub links_of-requires : goal.links_of-requires
-links_of-requires c = record { ports = c.law_ports.ensures c.requires.sound.model c.args.flat.now c.requires.sound.sound c.requires.sound.is }
+pub from_parts-requires-clause-clusters : goal.from_parts-requires-clause-clusters
+from_parts-requires-clause-clusters c =
+    all_begun c.args.flat.now c.args.firsts.items c.in_ok-clusters.clusters.items (c.law_limits.ensures c.requires.sound.model c.args.flat.now c.requires.sound.sound.kept c.requires.sound.sound.types c.requires.sound.is) c.in_ok-clusters.ensures
 
-pub sink_links-requires : goal.sink_links-requires
-sink_links-requires c = record { ports = c.law_ports.ensures c.requires.sound.model c.args.flat.now c.requires.sound.sound c.requires.sound.is }
+pub returns-clause-begun : goal.returns-clause-begun
+returns-clause-begun c = begun_kept c.args.flat.now c.args.firsts.items c.in_ok-clusters.clusters.items c.from_parts.result c.from_parts.ensures.clusters c.in_ok-clusters.ensures
 
-pub returns-clause-engine : goal.returns-clause-engine
-returns-clause-engine c =
-    let t = c.args.flat.now.tables in
-    let clusters = c.in_ok-clusters.clusters.items in
-    let since : c.in_ok-since.since.items ≡ replicate (length clusters) 0 = search rules in
-    let count : c.len-2.result ≡ length clusters = search rules in
-    let as_many : length c.in_ok-since.since.items ≡ length clusters = search rules in
-    engine_made c.args.flat.now c.args.firsts.items (c.law_limits.ensures c.requires.sound.model c.args.flat.now c.requires.sound.sound.kept c.requires.sound.sound.types c.requires.sound.is) _
-    c.in_ok-clusters.ensures since as_many (subst (λ k. AreLinkedUpTo t k c.in_ok-links.links.items) count c.in_ok-links.ensures)
-    (subst (λ (l : List Links). AreGivenUpTo l (length l) c.in_ok-inputs.inputs.items) c.deref-2.ensures.value c.in_ok-inputs.ensures) c.in_ok-sinks.ensures.links c.in_ok-room.room.sent c.in_ok-room.room.traced
-    (subst (λ (l : List ClusterOf). HaveRooms sent_size l c.in_ok-room.room.sent) c.deref.ensures.value c.in_ok-room.ensures.sent)
-    (subst (λ (l : List ClusterOf). HaveRooms traced_size l c.in_ok-room.room.traced) c.deref.ensures.value c.in_ok-room.ensures.traced)
-    c.in_ok-outputs.ensures c.in_ok-writes.ensures c.in_ok-kernel.ensures.kernel
+pub returns-clause-since : goal.returns-clause-since
+returns-clause-since c =
+    let none : c.in_ok-since.since.items ≡ replicate (length c.in_ok-clusters.clusters.items) 0 = search rules in
+    since_kept c.args.flat.now c.args.firsts.items c.in_ok-clusters.clusters.items c.from_parts.result c.from_parts.ensures.clusters c.in_ok-since.since.items c.from_parts.ensures.since none
 
 pub returns-clause-ready : goal.returns-clause-ready
 returns-clause-ready c =
-    let since : c.in_ok-since.since.items ≡ replicate (length c.in_ok-clusters.clusters.items) 0 = search rules in
-    ready_made c.args.flat.now c.args.firsts.items (c.law_limits.ensures c.requires.sound.model c.args.flat.now c.requires.sound.sound.kept c.requires.sound.sound.types c.requires.sound.is) _
-    c.in_ok-clusters.ensures since c.in_ok-kernel.ensures.side
+    let none : c.in_ok-since.since.items ≡ replicate (length c.in_ok-clusters.clusters.items) 0 = search rules in
+    ready_kept c.args.flat.now c.args.firsts.items c.in_ok-clusters.clusters.items c.from_parts.result c.from_parts.ensures.clusters c.in_ok-since.since.items c.from_parts.ensures.since none
+    c.in_ok-kernel.kernel c.from_parts.ensures.kernel c.in_ok-kernel.ensures.side
+
+pub returns-clause-side : goal.returns-clause-side
+returns-clause-side c = side_kept c.args.flat.now c.from_parts.result c.in_ok-kernel.kernel c.from_parts.ensures.kernel c.in_ok-kernel.ensures.side

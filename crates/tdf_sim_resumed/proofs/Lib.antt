@@ -1,0 +1,4 @@
+mod Good
+mod Members
+mod One
+mod Quiet
