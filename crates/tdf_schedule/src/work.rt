@@ -114,14 +114,7 @@ fn work_one(
     }
     let inputs = list_at(given.inputs, actor);
     let place = actor as usize;
-    match greatest_need(
-        given.edges,
-        inputs,
-        given.paces,
-        table,
-        actor,
-        parts[place],
-    ) {
+    match greatest_need(given.edges, inputs, given.paces, table, actor, parts[place]) {
         Asked::Part(part) => {
             parts[place] = part;
             Ok(())

@@ -77,8 +77,8 @@ module _ {S V I : Type 0} (net : Net S V I) (old : List (Period I)) (p : Period 
       same_items (slice_index_or y.lists e []) (slice_index_or z.lists e [])
       (lengths_same (length (slice_index_or y.lists e [])) (length (slice_index_or z.lists e [])) _ _ _ _ (net.delay e) a.count b.count r w)
       (λ j x v x_at v_at. some_same x v (sym (place_kept net run.periods (known net run f) (known net run (g + f)) one_more e _ x (a.items j x x_at))
-          ∙ ap (λ k. place net run.periods (known net run (g + f)) e (k + j)) r
-          ∙ place_kept net run.periods (known net run g) (known net run (g + f)) other_more e _ v (b.items j v v_at)))
+      ∙ ap (λ k. place net run.periods (known net run (g + f)) e (k + j)) r
+      ∙ place_kept net run.periods (known net run g) (known net run (g + f)) other_more e _ v (b.items j v v_at)))
 
 -- ---- states by their parts
 

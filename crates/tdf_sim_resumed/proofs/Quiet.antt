@@ -147,8 +147,8 @@ none_of t (c ∷ cs) each = or_from (is_cluster_due t c) (list_any (is_cluster_d
 pub none_due : NoneIsDueBefore
 none_due model flat firsts s ahead t valid low = or_from (list_any (is_cluster_due t) (resumed_clusters model flat firsts s ahead)) (is_side_due (resumed_side flat s.time s.kernel) t)
     (none_of t (resumed_clusters model flat firsts s ahead) (λ n c at. (
-        let r = resumed_at model flat firsts s ahead n c at in
-        ap (is_cluster_due t) r.is ∙ cluster_later flat (n + 1) s.time r.first r.state (valid.clusters.each n r.first r.state r.first_at r.state_at) model (slice_index_or ahead n []) t low)))
+    let r = resumed_at model flat firsts s ahead n c at in
+    ap (is_cluster_due t) r.is ∙ cluster_later flat (n + 1) s.time r.first r.state (valid.clusters.each n r.first r.state r.first_at r.state_at) model (slice_index_or ahead n []) t low)))
     (side_later flat s.time s.kernel valid.kernel t low)
 
 pub still : StandsStill

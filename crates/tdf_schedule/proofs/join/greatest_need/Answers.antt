@@ -31,9 +31,11 @@ pub meet-requires-clause-writer : goal.meet-requires-clause-writer
 meet-requires-clause-writer c = (input_fits c.args.edges.now _ c.args.actor c.args.inputs.now c.loop-place.place _ c.requires.fit c.requires.inputs c.loop-place-test.true).writer
 
 pub returns-in-None : goal.returns-in-None
-returns-in-None c = (stuck_at c.args.edges.now (slice_index c.args.paces.now) c.args.table.now.items c.args.actor c.args.inputs.now c.requires.fit c.requires.keys c.requires.low c.requires.inputs
-    c.loop-place.place c.row_len-firing.result no_edge c.loop-place.key c.loop-place-test.true c.row_len-firing.ensures c.loop-place.invariant c.in-None.ensures,
-    λ some. ((let w = c.loop-place-test.true in omega (arith, w)), c.loop-place.invariant))
+returns-in-None c = (
+  stuck_at c.args.edges.now (slice_index c.args.paces.now) c.args.table.now.items c.args.actor c.args.inputs.now c.requires.fit c.requires.keys c.requires.low c.requires.inputs
+      c.loop-place.place c.row_len-firing.result no_edge c.loop-place.key c.loop-place-test.true c.row_len-firing.ensures c.loop-place.invariant c.in-None.ensures,
+  λ some. ((let w = c.loop-place-test.true in omega (arith, w)), c.loop-place.invariant),
+)
 
 pub loop-place-preserved : goal.loop-place-preserved
 loop-place-preserved c = joined_at c.args.edges.now (slice_index c.args.paces.now) c.args.table.now.items c.args.actor c.args.inputs.now c.requires.fit c.requires.keys c.requires.low c.requires.inputs

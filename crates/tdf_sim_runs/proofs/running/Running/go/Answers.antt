@@ -94,7 +94,7 @@ returns-in-Err-hand_on g c =
     let goes = c.loop-ended.invariant.goes in
     let out = g.K.Sink.taken c.turn.new.out in
     let turned = goes_then c.law_one_answer.ensures flat c.args.self.now c.loop-ended.self c.turn.new.self goes.news [] (g.K.Sink.taken c.args.out.now) (g.K.Sink.taken c.loop-ended.out) out
-        c.loop-ended.invariant.can goes.goes (c.in-Ok-None.ensures.goes is) in
+    c.loop-ended.invariant.can goes.goes (c.in-Ok-None.ensures.goes is) in
     let quiet = subst (λ l. RunGoesOn flat c.args.self.now c.turn.new.self l (g.K.Sink.taken c.args.out.now) out) (append-nil goes.news) turned in
     let counted = counts_then _ _ _ tt _ c.loop-ended.invariant.counted c.in-Ok-None.ensures.counted in
     let noted = counts_then _ _ _ tt _ c.loop-ended.invariant.noted c.in-Err-hand_on.ensures.counted in
