@@ -12,6 +12,7 @@ pub mod Begun
 pub mod Afterwards
 pub mod Fits
 pub mod Resumed
+pub mod Times
 pub mod Onward
 pub mod Returning
 pub mod Api

@@ -15,8 +15,9 @@ use Rattle.tdf_events.specs.Kernel.{IsKernelOf, KernelOf, side_of}
 use Rattle.tdf_events.specs.Notices.{NoticesOf}
 use Rattle.tdf_events.specs.Runnable.{AreOfSignals, signal_formats}
 use Rattle.tdf_events.specs.Side.{SideOf, start_side}
-use Rattle.tdf_events.specs.State.{IsKernelState, frame_with, kernel_state_of, notifications, resumed_side, value_in, with_pending}
-use Rattle.tdf_events.specs.machine.Resuming.{AreValuesIn, CanHold, HaveCells, with_cells}
+use Rattle.tdf_events.proofs.Times.{times_are}
+use Rattle.tdf_events.specs.State.{IsKernelState, frame_with, kernel_state_of, notifications, resumed_side, value_in}
+use Rattle.tdf_events.specs.machine.Resuming.{AreValuesIn, CanHold, HaveCells, with_cells, with_pending}
 use Rattle.tdf_expr.proofs.Api.{fits_one}
 use Rattle.tdf_expr.specs.Frames.{FrameSeen}
 use Rattle.tdf_expr.specs.Made.{AreMadeFor, start_rates}
@@ -125,7 +126,8 @@ goes_on flat time s old new fits first on =
     let formats : length (signal_formats flat) ≡ length (map shape_written (signal_formats flat)) = sym (length-map (signal_formats flat) shape_written) in
     let values : new.values ≡ goal.values = values_are (signal_formats flat) s.values new.values (fits.values.long ∙ sym formats) on.values in
     let frames : map seen new.frames ≡ goal.frames = frames_are flat.checked flat.tables.blocks s.blocks old.frames new.frames fits.blocks.long (ap (λ (x : SideOf). x.frames) first) on.frames in
-    let notices : new.notices ≡ goal.notices = on.notices ∙ ap (λ (x : SideOf). record x.notices { times = with_pending s.pending x.notices.times }) first in
+    let notices : new.notices ≡ goal.notices = on.notices ∙ ap (λ (x : SideOf). record x.notices { times = with_pending s.pending x.notices.times }) first
+        ∙ ap (λ l. record goal.notices { times = l }) (times_are (length flat.tables.events) time s.pending fits.pending) in
     let triggered : new.triggered.flags ≡ goal.triggered = triggers time flat.tables.processes old.triggered.flags new.triggered.flags on.triggered (ap (λ (x : SideOf). x.triggered) first) in
     let waiting : new.waiting ≡ goal.waiting = ap (λ (k : KernelOf). k.waiting) on.rest ∙ ap (λ (x : SideOf). x.waiting) first in
     ap (λ x. with x (map seen new.frames) new.notices new.triggered.flags new.waiting) values

@@ -13,8 +13,8 @@ use Rattle.tdf_events_queue.specs.Times.{pending_time}
 use Rattle.tdf_events.proofs.Reading.{has_at}
 use Rattle.tdf_events.proofs.Tables.{pushed}
 use Rattle.tdf_events.specs.Notices.{NoticesOf}
-use Rattle.tdf_events.specs.State.{ArePendingFrom, notification_of, value_in, with_pending}
-use Rattle.tdf_events.specs.machine.Resuming.{AreValuesIn, CanHold, HaveCells, with_cells}
+use Rattle.tdf_events.specs.State.{ArePendingFrom, notification_of, value_in}
+use Rattle.tdf_events.specs.machine.Resuming.{AreValuesIn, CanHold, HaveCells, with_cells, with_pending}
 use Rattle.tdf_expr.specs.Frames.{FrameSeen}
 use Rattle.tdf_expr.specs.Plans.{shape_written}
 use Rattle.tdf_expr_semantics.specs.Fits.{NumbersFit}

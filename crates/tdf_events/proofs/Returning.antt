@@ -1,15 +1,17 @@
 -- What goes on from a state has this state.
-use Rattle.std.proofs.Common.{◌≡◌, ◌≢◌, ◌∙◌, ◌<◌, ◌≤◌, ◌+◌, ℕ, zero, suc, ℤ, List, [], ◌∷◌, ◌++◌, Option, Some, None, length, map, replicate, slice_get, slice_set, length-set, get_or-set_same, get_or-set_other, refl, sym, ap, subst, inl, inr, arith}
-use Rattle.std.proofs.lemmas.Bool.{cases_eq}
-use Rattle.std.proofs.lemmas.List.{length-map, length-replicate}
+use Rattle.std.proofs.Common.{◌≡◌, ◌≢◌, ◌∙◌, ◌<◌, ◌≤◌, ◌+◌, ℕ, zero, suc, ℤ, if◌then◌else◌, List, [], ◌∷◌, ◌++◌, Option, Some, None, length, map, slice_get, refl, sym, ap, subst, inl, inr, arith}
+use Rattle.std.proofs.lemmas.Bool.{cases_eq, eq-eqb, ne_eqb}
+use Rattle.std.proofs.lemmas.List.{length-map}
+use Rattle.std.proofs.lemmas.List.FromFn.{get_or-map-range_with_len, length-map-range_with_len}
 use Rattle.std.proofs.lemmas.Option.{same_Some}
 use Rattle.std.specs.List.{flat_map, range_with_len, zip}
 use Rattle.tdf_bind.specs.declared.model.Flat.{Flat}
 use Rattle.tdf_bind_connections.specs.ProcessBlocks.{BlockRowOf}
 use Rattle.tdf_events.proofs.Onward.{saved}
-use Rattle.tdf_events.proofs.Resumed.{rises_to, with_length}
+use Rattle.tdf_events.proofs.Resumed.{rises_to}
+use Rattle.tdf_events.proofs.Times.{AreOfOthers, first_is_apart, none_in, rest_come}
 use Rattle.tdf_events.specs.Runnable.{signal_formats}
-use Rattle.tdf_events.specs.State.{ArePendingFrom, IsKernelState, frame_with, kernel_state_of, notification_of, notifications, resumed_side, value_in, with_pending}
+use Rattle.tdf_events.specs.State.{ArePendingFrom, IsKernelState, frame_with, kernel_state_of, notification_of, notifications, resumed_side, time_pending, times_pending, value_in}
 use Rattle.tdf_events_queue.specs.Times.{pending_time}
 use Rattle.tdf_expr.specs.Plans.{shape_written}
 use Rattle.tdf_expr.specs.declared.checked.Checked.{Checked}
@@ -34,39 +36,19 @@ cells_kept checked (r ∷ rs) (b ∷ bs) same = ap (λ xs. b ∷ xs) (cells_kept
 
 -- ---- notifications
 
--- none of these is of an event
-abbrev AreOfOthers : List Pending → (event : ℕ) → Type 0
-AreOfOthers list event = (i : ℕ) (p : Pending) → slice_get list i ≡ Some p → p.event ≢ event
-
-rest_come : (events time : ℕ) (p : Pending) (ps : List Pending) → ArePendingFrom events time (p ∷ ps) → ArePendingFrom events time ps
-rest_come events time p ps all = record {
-  each = λ i q at. all.each (suc i) q at;
-  rising = λ i q r at next. all.rising (suc i) q r at (subst (λ k. slice_get (p ∷ ps) k ≡ Some r) (suc_same i) next);
-}
-  where
-    suc_same : (i : ℕ) → suc (i + 1) ≡ suc i + 1
-    suc_same i = omega arith
-
-first_is_apart : (events time : ℕ) (p : Pending) (ps : List Pending) → ArePendingFrom events time (p ∷ ps) → AreOfOthers ps p.event
-first_is_apart events time p ps all i q at = λ same. absurd (let less = rises_to events time (p ∷ ps) all 0 (suc i) p q (omega arith) refl at in omega (arith, less, same))
-
-others_stay : (list : List Pending) (times : List (Option ℕ)) (event : ℕ) → AreOfOthers list event → pending_time (with_pending list times) event ≡ pending_time times event
-unfolding with_pending
-others_stay [] times event apart = refl
-others_stay (p ∷ ps) times event apart = others_stay ps (slice_set times p.event (Some p.time)) event (λ i q at. apart (suc i) q at)
-    ∙ get_or-set_other times p.event event (Some p.time) None (λ e. absurd (apart 0 p refl (sym e)))
-
-own_time : (events time : ℕ) (list : List Pending) (times : List (Option ℕ)) (i : ℕ) (p : Pending) → ArePendingFrom events time list → events ≡ length times → slice_get list i ≡ Some p
-    → pending_time (with_pending list times) p.event ≡ Some p.time
-unfolding with_pending
-own_time events time [] times i p all long at = absurd cc
-own_time events time (q ∷ qs) times zero p all long at =
+-- what is pending of an event has its time
+own_time : (events time : ℕ) (list : List Pending) (i : ℕ) (p : Pending) → ArePendingFrom events time list → slice_get list i ≡ Some p → time_pending list p.event ≡ Some p.time
+unfolding time_pending
+own_time events time [] i p all at = absurd cc
+own_time events time (q ∷ qs) zero p all at =
     let here : q ≡ p = same_Some q p at in
-    let inside = (all.each 0 q refl).event in
-    subst (λ (x : Pending). pending_time (with_pending qs (slice_set times q.event (Some q.time))) x.event ≡ Some x.time) here
-    (others_stay qs (slice_set times q.event (Some q.time)) q.event (first_is_apart events time q qs all) ∙ get_or-set_same times q.event (Some q.time) None (omega (arith, inside, long)))
-own_time events time (q ∷ qs) times (suc i) p all long at =
-    own_time events time qs (slice_set times q.event (Some q.time)) i p (rest_come events time q qs all) (long ∙ sym (length-set times q.event (Some q.time))) at
+    subst (λ (x : Pending). time_pending (q ∷ qs) x.event ≡ Some x.time) here (ap (λ b. if b then Some q.time else time_pending qs q.event) (eq-eqb q.event q.event refl))
+own_time events time (q ∷ qs) (suc i) p all at =
+    let apart : q.event ≢ p.event = (λ same. absurd (first_is_apart events time q qs all i p at (sym same))) in
+    ap (λ b. if b then Some q.time else time_pending qs p.event) (ne_eqb q.event p.event apart) ∙ own_time events time qs i p (rest_come events time q qs all) at
+
+inside_at : (events : ℕ) (list : List Pending) (k : ℕ) → k < events → pending_time (times_pending events list) k ≡ time_pending list k
+inside_at events list k less = get_or-map-range_with_len (time_pending list) 0 events k k None less (omega arith)
 
 -- these are the times from an event on
 record AreTimesFrom (times : ℕ → Option ℕ) (from : ℕ) (list : List Pending) : Type 0 where
@@ -115,23 +97,24 @@ told events time times (suc n) from (p ∷ ps) end all are = elim (cases_eq p.ev
       }))
 ]
 
-none_pending : (n event : ℕ) → pending_time (replicate n None) event ≡ None
-none_pending zero event = refl
-none_pending (suc n) zero = refl
-none_pending (suc n) (suc event) = none_pending n event
+told_same : (f g : ℕ → Option ℕ) (count from : ℕ) → ((k : ℕ) → k < from + count → f k ≡ g k) → told_from f from count ≡ told_from g from count
+told_same f g zero from same = refl
+told_same f g (suc n) from same = ap (λ t. notification_of from t ++ told_from f (from + 1) n) (same from (omega arith))
+    ∙ ap (λ l. notification_of from (g from) ++ l) (told_same f g n (from + 1) (λ k less. same k (omega (arith, less))))
 
 pub state_kept : (flat : Flat) (time : ℕ) (s : KernelStateOf) → IsKernelState flat time s → kernel_state_of (resumed_side flat time s) ≡ s
 state_kept flat time s is =
     let n = length flat.tables.events in
-    let none : List (Option ℕ) = replicate n None in
-    let times : ℕ → Option ℕ = pending_time (with_pending s.pending none) in
-    let long : length none ≡ n = length-replicate {A = Option ℕ} n None in
+    let list = times_pending n s.pending in
+    let times : ℕ → Option ℕ = time_pending s.pending in
+    let long : length list ≡ n = length-map-range_with_len times 0 n in
     let are : AreTimesFrom times 0 s.pending = record {
-      own = λ i p at. own_time n time s.pending none i p is.pending (sym long) at;
-      none = λ event up apart. others_stay s.pending none event apart ∙ none_pending n event;
+      own = λ i p at. own_time n time s.pending i p is.pending at;
+      none = λ event up apart. none_in s.pending event apart;
       low = λ i p at. omega arith;
     } in
-    let pending : notifications (with_pending s.pending none) ≡ s.pending = ap (told_from times 0) (with_length s.pending none ∙ long) ∙ told n time times n 0 s.pending (omega arith) is.pending are in
-    ap (λ x. saved x (kernel_state_of (resumed_side flat time s)).blocks (notifications (with_pending s.pending none))) (values_kept (signal_formats flat) s.values (is.values.long ∙ length-map (signal_formats flat) shape_written))
-    ∙ ap (λ x. saved s.values x (notifications (with_pending s.pending none))) (cells_kept flat.checked flat.tables.blocks s.blocks is.blocks.long)
+    let pending : notifications list ≡ s.pending = ap (told_from (pending_time list) 0) long ∙ told_same (pending_time list) times n 0 (λ k less. inside_at n s.pending k (omega (arith, less)))
+        ∙ told n time times n 0 s.pending (omega arith) is.pending are in
+    ap (λ x. saved x (kernel_state_of (resumed_side flat time s)).blocks (notifications list)) (values_kept (signal_formats flat) s.values (is.values.long ∙ length-map (signal_formats flat) shape_written))
+    ∙ ap (λ x. saved s.values x (notifications list)) (cells_kept flat.checked flat.tables.blocks s.blocks is.blocks.long)
     ∙ ap (λ x. saved s.values s.blocks x) pending

@@ -1,7 +1,7 @@
 -- The event side between two instants as a snapshot has it, and the side that goes on from there.
 -- Source: IEEE 1666-2011, 4.2.1 (scheduling) and 5.10.8 (notify and cancel).
 use Rattle.std.specs.Prelude.{◌≡◌, ◌<◌, ◌≤◌, ◌+◌, ◌^◌, ℕ, ℤ, false, ◌&&◌, nat_eq, List, [], ◌∷◌}
-use Rattle.std.specs.Prelude.{length, map, replicate, Option, None, Some, slice_get, slice_set}
+use Rattle.std.specs.Prelude.{if◌then◌else◌, length, map, replicate, Option, None, Some, slice_get}
 use Rattle.std.specs.List.{flat_map, range_with_len, zip}
 use Rattle.tdf_bind.specs.declared.model.Flat.{Flat}
 use Rattle.tdf_bind_connections.specs.ProcessBlocks.{BlockRowOf}
@@ -74,10 +74,13 @@ pub record IsKernelState (flat : Flat) (time : ℕ) (s : KernelStateOf) : Type 0
 abbrev pub value_in : Format → ℤ → Raw
 value_in format num = record { num = num; frac = fraction_of format }
 
--- each notification gives its event its time
-unfoldable pub with_pending : List Pending → List (Option ℕ) → List (Option ℕ)
-with_pending [] times = times
-with_pending (p ∷ ps) times = with_pending ps (slice_set times p.event (Some p.time))
+-- when an event is to come, where a notification of it is pending; and so by event
+unfoldable pub time_pending : List Pending → (event : ℕ) → Option ℕ
+time_pending [] event = None
+time_pending (p ∷ ps) event = if nat_eq p.event event then Some p.time else time_pending ps event
+
+abbrev pub times_pending : (events : ℕ) → List Pending → List (Option ℕ)
+times_pending events list = map (time_pending list) (range_with_len 0 events)
 
 -- an instance of a block of processes with these cells; it has no rates but those declared
 abbrev pub frame_with : Checked → BlockRowOf → List ℤ → FrameState
@@ -89,7 +92,7 @@ resumed_side flat time s = record {
   values = map (λ v. value_in v.0 v.1) (zip (signal_formats flat) s.values);
   frames = map (λ b. frame_with flat.checked b.0 b.1) (zip flat.tables.blocks s.blocks);
   notices = record {
-    times = with_pending s.pending (replicate (length flat.tables.events) None);
+    times = times_pending (length flat.tables.events) s.pending;
     delta = replicate (length flat.tables.events) false;
   };
   triggered = map (λ row. nat_eq time 0 && row.starts) flat.tables.processes;

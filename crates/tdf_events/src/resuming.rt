@@ -4,8 +4,8 @@ ghost use Rattle.std.specs.Prelude.{◌≡◌, ◌<◌, ◌≤◌, ◌&&◌, ℕ
 ghost use Rattle.tdf_events_queue.specs.Times.{pending_time};
 ghost use Rattle.tdf_events.specs.Kernel.{IsKernelOf, side_of};
 ghost use Rattle.tdf_events.specs.Runnable.{IsRunnable};
-ghost use Rattle.tdf_events.specs.State.{ArePendingFrom, IsKernelState, resumed_side, with_pending};
-ghost use Rattle.tdf_events.specs.machine.Resuming.{AreValuesIn, CanHold, HaveCells};
+ghost use Rattle.tdf_events.specs.State.{ArePendingFrom, IsKernelState, resumed_side};
+ghost use Rattle.tdf_events.specs.machine.Resuming.{AreValuesIn, CanHold, HaveCells, with_pending};
 ghost use Rattle.tdf_events.specs.views.Parts.{kernel_of};
 
 use crate::notices::Notices;

@@ -1,6 +1,6 @@
 -- The parts of a kernel that goes on from a state, made one after the other.
 -- Source: own.
-use Rattle.std.specs.Prelude.{◌≡◌, ◌<◌, ◌≤◌, ℕ, ℤ, List, length, map, Some, slice_get}
+use Rattle.std.specs.Prelude.{◌≡◌, ◌<◌, ◌≤◌, ℕ, ℤ, List, [], ◌∷◌, Option, length, map, Some, slice_get, slice_set}
 use Rattle.tdf_events.specs.State.{value_in}
 use Rattle.tdf_expr.specs.Frames.{FrameSeen}
 use Rattle.tdf_expr.specs.Plans.{shape_written}
@@ -8,6 +8,12 @@ use Rattle.tdf_expr_semantics.specs.Fits.{NumbersFit}
 use Rattle.tdf_expr_state.specs.State.{cell_at}
 use Rattle.tdf_fixed.specs.declared.format.Format.{Format}
 use Rattle.tdf_fixed.specs.declared.raw.Raw.{Raw}
+use Rattle.tdf_saved.specs.declared.state.Pending.{Pending}
+
+-- each notification gives its event its time
+unfoldable pub with_pending : List Pending → List (Option ℕ) → List (Option ℕ)
+with_pending [] times = times
+with_pending (p ∷ ps) times = with_pending ps (slice_set times p.event (Some p.time))
 
 -- the first n numbers as values of their formats
 pub record AreValuesIn (formats : List Format) (nums : List ℤ) (n : ℕ) (values : List Raw)

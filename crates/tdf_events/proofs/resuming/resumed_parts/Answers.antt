@@ -5,8 +5,7 @@ use Rattle.tdf_bind_tables.specs.FlatTables.{FlatTablesOf}
 use Rattle.tdf_events.proofs.Onward.{GoesOn, can_hold, goes_on, keeps}
 use Rattle.tdf_events.proofs.resuming.resumed_parts.Goals as goal
 use Rattle.tdf_events.specs.Kernel.{KernelOf}
-use Rattle.tdf_events.specs.State.{with_pending}
-use Rattle.tdf_events.specs.machine.Resuming.{AreValuesIn, CanHold, HaveCells}
+use Rattle.tdf_events.specs.machine.Resuming.{AreValuesIn, CanHold, HaveCells, with_pending}
 use Rattle.tdf_events.specs.views.Parts.{kernel_of}
 use Rattle.tdf_saved.specs.State.{KernelStateOf}
 use Rattle.tdf_saved.specs.declared.state.Pending.{Pending}
