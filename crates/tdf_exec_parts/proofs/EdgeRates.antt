@@ -1,6 +1,6 @@
 -- The rates of ports and edges, as they are found.
 use Rattle.std.proofs.Common.{◌≡◌, ◌∙◌, ℕ, ◌≤◌, Some, option_map, List, length, map, take, ap, sym}
-use Rattle.std.proofs.lemmas.List.{take_all}
+use Rattle.std.proofs.lemmas.List.{length-map, take_all}
 use Rattle.std.proofs.lemmas.Option.{slice_get-map, slice_get_past}
 use Rattle.std.proofs.lemmas.Simd.{map-map}
 use Rattle.std.specs.Prelude.{slice_get, slice_index}
@@ -43,6 +43,12 @@ module _ (tables : FlatTablesOf) (table : List AttrsOf) where
 
   pub all_written : (n : ℕ) → length tables.edges ≤ n → map edge_writes (take n tables.edges) ≡ write_rates (net_of tables table)
   all_written n all = ap (map edge_writes) (take_all n tables.edges all) ∙ sym writes_map
+
+  pub reads_long : length (read_rates (net_of tables table)) ≡ length tables.edges
+  reads_long = ap length reads_map ∙ length-map tables.edges edge_reads
+
+  pub writes_long : length (write_rates (net_of tables table)) ≡ length tables.edges
+  writes_long = ap length writes_map ∙ length-map tables.edges edge_writes
 
   -- those of one edge
   pub reads_at : (e : ℕ) (edge : EdgeRow) → slice_get tables.edges e ≡ Some edge → slice_index (read_rates (net_of tables table)) e ≡ edge_reads edge

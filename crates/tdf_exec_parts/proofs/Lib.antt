@@ -1,3 +1,9 @@
 pub mod Api
 mod EdgeRates
+mod Fired
+mod Fits
+mod Onward
+mod Places
 mod Rows
+mod Said
+mod Stated

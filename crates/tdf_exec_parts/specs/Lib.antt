@@ -1,1 +1,3 @@
 pub mod Rings
+pub mod States
+pub mod machine

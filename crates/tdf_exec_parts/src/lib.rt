@@ -1,11 +1,18 @@
-//! The parts of a cluster under a table of attributes and its plan, by edge.
+//! The parts of a cluster under a table of attributes and its plan, by edge, and whether a state has such parts.
 //!
 //! - `rating`: the rates in force, by edge.
 //! - `filling`: the rings of a cluster at its start.
+//! - `fitting`: whether the modules and the time of a state fit.
+//! - `holding`: whether the samples of a state are those of its edges.
+//! - `judging`: whether a cluster can go on from a state, and under which table and plan.
 #![tactic(auto)]
 
 mod filling;
+mod fitting;
+mod holding;
+mod judging;
 mod rating;
 
 pub use filling::{first_rings, room_for};
+pub use judging::{Standing, standing_of};
 pub use rating::{read_rates, write_rates};

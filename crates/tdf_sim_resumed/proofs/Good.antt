@@ -12,7 +12,7 @@ use Rattle.tdf_bind.specs.declared.model.Flat.{Flat}
 use Rattle.tdf_dynamic_first.specs.declared.first.First.{First}
 use Rattle.tdf_dynamic_plans.specs.Rates.{net_of}
 use Rattle.tdf_exec.proofs.Api.{plan_counts}
-use Rattle.tdf_sim_resumed.specs.Restored.{IsStateUnder}
+use Rattle.tdf_exec_parts.specs.States.{IsStateUnder}
 use Rattle.tdf_lang_tree.specs.Pure.{PureTree}
 use Rattle.tdf_saved.specs.State.{ClusterStateOf}
 use Rattle.tdf_schedule.specs.Plan.{done}
@@ -79,7 +79,7 @@ module _ (flat : Flat) (number time : ℕ) (first : First) (s : ClusterStateOf) 
   entries = first.plan.entries.items
 
   of_plan : HasRecord flat number first.attrs.rows first.plan false
-  of_plan = table_record flat number first.attrs.rows first.plan false state.says.attributes state.planned
+  of_plan = table_record flat number first.attrs.rows first.plan false state.table_is.attributes state.planned
 
   counted : (m : ℕ) → count_by (λ (x : Entry). nat_eq x.actor m) entries ≡ slice_index of_plan.counts m
   counted = plan_counts (net_of flat.tables first.attrs.rows).edges _ of_plan.counts entries of_plan.plan_is.planned
@@ -113,7 +113,7 @@ pub resumed_good : ResumedAreGood
 resumed_good model flat firsts s ahead limits valid told = record {
   attributes = record {
     has = λ n c at. (let r = at_number n c at in cluster_there flat (n + 1) (whole_period flat.tables r.first) limits (whole_is flat (n + 1) s.time r.first r.state (under n c r)).is);
-    each = λ n c at. (let r = at_number n c at in subst (AreAttributes flat (n + 1)) (sym (ap (λ (d : ClusterAt). d.now.info.table) r.is)) (under n c r).says.attributes);
+    each = λ n c at. (let r = at_number n c at in subst (AreAttributes flat (n + 1)) (sym (ap (λ (d : ClusterAt). d.now.info.table) r.is)) (under n c r).table_is.attributes);
   };
   plans = λ n c at. (let r = at_number n c at in subst HasWholePlan (sym r.is) (plan_whole flat (n + 1) s.time r.first r.state (under n c r) model (slice_index_or ahead n []) (told_at ahead n told)));
   timed = λ n c at. (let r = at_number n c at in subst (λ (d : ClusterAt). d.since ≡ d.origin + time_of_periods d.old) (sym r.is) (zero_more r.state.start));

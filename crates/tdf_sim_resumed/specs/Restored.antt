@@ -1,96 +1,26 @@
--- A cluster that goes on from a state, and the states that one can go on from.
+-- A cluster that goes on from a state.
 -- Source: own.
-use Rattle.std.specs.List.{AllZip, count_by, range_with_len}
-use Rattle.std.specs.Prelude.{◌≡◌, ◌⊎◌, ◌+◌, ◌*◌, ◌<◌, ◌≤◌, ℕ, ℤ, false, List, [], ◌∷◌, All, None, Option, Some, if◌then◌else◌, length, map, nat_eq, nat_lt, slice_index, unwrap_or}
+use Rattle.std.specs.List.{range_with_len}
+use Rattle.std.specs.Prelude.{◌≡◌, ℕ, ℤ, false, List, [], ◌∷◌, None, Option, Some, if◌then◌else◌, length, map, nat_eq, slice_index, unwrap_or}
 use Rattle.tdf_bind.specs.declared.model.Flat.{Flat}
 use Rattle.tdf_bind_tables.specs.FlatTables.{FlatTablesOf}
-use Rattle.tdf_dynamic_first.specs.Text.{first_table}
 use Rattle.tdf_dynamic_plans.specs.Attributes.{AttrsOf, attrs_at, rates_in}
-use Rattle.tdf_dynamic_plans.specs.Faults.{IsTablePlan}
-use Rattle.tdf_dynamic_plans.specs.Rates.{net_of}
 use Rattle.tdf_exec.specs.Cluster.{ClusterOf}
 use Rattle.tdf_exec.specs.Played.{play_of}
 use Rattle.tdf_exec.specs.Saved.{own_edges}
 use Rattle.tdf_exec_layout.specs.Samples.{edge_format}
+use Rattle.tdf_exec_parts.specs.States.{IsStateUnder, due_before}
 use Rattle.tdf_expr.specs.Checked.{IsCheckedOf}
-use Rattle.tdf_expr.specs.Made.{cell_formats}
-use Rattle.tdf_expr.specs.Plans.{shape_written}
-use Rattle.tdf_expr_semantics.specs.Fits.{NumbersFit}
 use Rattle.tdf_fixed.specs.Cast.{fraction_of}
-use Rattle.tdf_fixed.specs.Overflow.{IsOfWidth}
 use Rattle.tdf_fixed.specs.declared.format.Format.{Format}
 use Rattle.tdf_fixed.specs.declared.raw.Raw.{Raw}
 use Rattle.tdf_lang_tree.specs.Pure.{PureTree}
 use Rattle.tdf_saved.specs.State.{ClusterStateOf, ModuleStateOf}
-use Rattle.tdf_schedule.specs.Plan.{done}
-use Rattle.tdf_schedule.specs.declared.entry.Entry.{Entry}
 use Rattle.tdf_schedule.specs.declared.entry.Plan.{Plan}
 use Rattle.tdf_streams.specs.Bodies.{initialized}
 use Rattle.tdf_streams.specs.Cluster.{Start, cluster_net}
-use Rattle.tdf_streams.specs.Periods.{AreAttributes, PeriodRecord, read_rates, write_rates}
-use Rattle.tdf_streams.specs.Places.{block_at, reader_at, writer_at}
+use Rattle.tdf_streams.specs.Periods.{PeriodRecord}
 use Rattle.tdf_streams.specs.Stands.{Stands}
-use Rattle.tdf_streams.specs.Starts.{held_at_head}
-
--- the attributes of a module are those that its state says
-pub record SaysAttrs (attrs : AttrsOf) (m : ModuleStateOf) : Type 0 where
-  pub accepts : attrs.accepts ≡ m.accept
-  pub rates : attrs.rates ≡ m.rates
-  pub steps : attrs.steps ≡ m.steps
-
--- the table that a state says: the modules of the cluster, in order
-pub record SaysTable (flat : Flat) (cluster : ℕ) (s : ClusterStateOf) (table : List AttrsOf)
-    : Type 0 where
-  pub members : map (λ (attrs : AttrsOf). attrs.number) table
-      ≡ map (λ (attrs : AttrsOf). attrs.number) (first_table flat cluster)
-  pub says : AllZip SaysAttrs table s.modules
-  pub attributes : AreAttributes flat cluster table
-
--- the values of a module are as many as its block has, each in the range of its format
-abbrev pub HasCellsOf : Flat → AttrsOf → ModuleStateOf → Type 0
-HasCellsOf flat attrs m = NumbersFit
-    (map shape_written (cell_formats flat.checked (block_at flat.tables.modules attrs.number)))
-    m.cells
-
--- the entries of a plan that are due before a time, where the period began at `start`
-abbrev pub due_before : (start time : ℕ) → List Entry → ℕ
-due_before start time entries =
-    count_by (λ (x : Entry). nat_lt (start + x.offset) time) entries
-
--- an edge holds what was written and not read up to a place, each number in the range of its format
-pub record HoldsUpTo (tables : FlatTablesOf) (cluster : ℕ) (table : List AttrsOf)
-    (entries : List Entry) (place e : ℕ) (nums : List ℤ) : Type 0 where
-  pub held : length nums
-      + done entries place (reader_at tables.edges e)
-      * slice_index (read_rates (net_of tables table)) e
-      ≡ held_at_head tables cluster e
-      + done entries place (writer_at tables.edges e)
-      * slice_index (write_rates (net_of tables table)) e
-  pub formats : (f : Format) → edge_format tables e ≡ Some f
-      → All (IsOfWidth f.signed f.wl) nums
-
--- either nothing is done at all, or the time lies after the beginning of the period, up to its end
-abbrev pub IsInPeriod : (start time period : ℕ) → Type 0
-IsInPeriod start time period =
-    ((start ≡ 0) × (time ≡ 0)) ⊎ ((start < time) × (time ≤ start + period))
-
--- a state that the cluster can go on from at a time, under the table that it says and its plan
-pub record IsStateUnder (flat : Flat) (cluster : ℕ) (s : ClusterStateOf) (time : ℕ)
-    (table : List AttrsOf) (plan : Plan) : Type 0 where
-  pub says : SaysTable flat cluster s table
-  pub planned : IsTablePlan flat.tables cluster table plan
-  pub inside : IsInPeriod s.start time plan.period
-  pub cells : AllZip (HasCellsOf flat) table s.modules
-  pub edges : AllZip (HoldsUpTo flat.tables cluster table plan.entries.items
-      (due_before s.start time plan.entries.items)) (own_edges flat.tables cluster) s.edges
-
--- a state that the cluster can go on from at a time
-pub record IsStateAt (flat : Flat) (cluster : ℕ) (s : ClusterStateOf) (time : ℕ) : Type 0 where
-  pub table : List AttrsOf
-  pub plan : Plan
-  pub is : IsStateUnder flat cluster s time table plan
-
--- ---- going on
 
 -- whole numbers of the least steps of the format of an edge, as samples
 abbrev pub samples_by : Option Format → List ℤ → List Raw
