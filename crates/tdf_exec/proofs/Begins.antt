@@ -11,14 +11,15 @@ use Rattle.tdf_exec.proofs.Acting.{block_there}
 use Rattle.tdf_exec.proofs.Keeping.{get_set_other}
 use Rattle.tdf_exec.proofs.Moved.{some_inj}
 use Rattle.tdf_exec.proofs.Nexts.{get_read}
+use Rattle.tdf_exec.proofs.Rows.{all_at}
 use Rattle.tdf_exec.specs.Made.{is_sampler_runner, sampler_runners_before}
 use Rattle.tdf_exec.specs.declared.runners.Runner.{Runner}
 use Rattle.tdf_exec.specs.declared.runners.TracedPort.{TracedPort}
-use Rattle.tdf_exec.specs.machine.Starting.{AreFirstRunners, CanBegin, IsBegun, IsFirstRunner}
+use Rattle.tdf_exec.specs.machine.Starting.{AreFirstRunners, CanBegin, HoldsText, IsBegun, IsFirstRunner}
 use Rattle.tdf_expr.specs.Blocks.{PureBlock, blocks_of}
 use Rattle.tdf_expr.specs.Checked.{IsCheckedOf}
 use Rattle.tdf_expr.specs.Frames.{ArePortsFit, FrameSeen, KeepsRead, PortsSeen, sample_formats}
-use Rattle.tdf_expr.specs.Made.{AreMadeFor, event_count, port_spans_of, start_cells, start_rates}
+use Rattle.tdf_expr.specs.Made.{AreMadeFor, block_count, cell_formats, event_count, port_spans_of, rate_spans_of, start_cells, start_rates}
 use Rattle.tdf_expr.specs.Plans.{shape_written}
 use Rattle.tdf_expr.specs.Runs.{Ran}
 use Rattle.tdf_expr.specs.declared.bodies.Body.TheVariants.{Initialize}
@@ -29,7 +30,7 @@ use Rattle.tdf_exec_firing.specs.Wires.{WiresOf}
 use Rattle.tdf_bind.specs.declared.model.Flat.{Flat}
 use Rattle.tdf_streams.proofs.Api.{get_high, get_low}
 use Rattle.tdf_exec_layout.specs.declared.wiring.ActorWires.{ActorWires}
-use Rattle.tdf_expr_state.specs.State.{State, state_of}
+use Rattle.tdf_expr_state.specs.State.{FrameState, State, state_of}
 use Rattle.tdf_streams.specs.Bodies.{after_part, done_by, initialized, nothing_read}
 use Rattle.tdf_streams.specs.Places.{block_of_row}
 use Rattle.tdf_lang_tree.specs.Pure.{PureTree}
@@ -114,35 +115,70 @@ module _ (flat : Flat) (m : ℕ) (row : ModuleRow) (at : slice_get flat.tables.m
       ap (λ (s : State). s.frame.rates) (ran.after can.begin.model block.0 can.begin.are block.1)
       ∙ can.begin.begin row.block block.0 (state_of before.state ports.state) block.1 ∙ rates
 
-  pub is_begun : BeginReady → KeepsRead ports next → (traced : List TracedPort)
-      → IsBegun flat m wires (record { block = row.block; frame = after; ports = next; wires = wires; traced = traced })
-  is_begun begin kept traced = record {
+  pub is_begun : (begins : Bool) → BeginReady → KeepsRead ports next → (traced : List TracedPort)
+      → IsBegun flat (HoldsText flat begins) m wires (record { block = row.block; frame = after; ports = next; wires = wires; traced = traced })
+  is_begun begins begin kept traced = record {
     block_is = sym (ap block_of_row at);
     made = made;
-    rates = rates_after;
     wires_are = refl;
     zeros = λ reads. record {
       zero = λ n k p there unwritten past below.
           let here : slice_get ports.spans n ≡ Some p = ap (λ (l : List PortSpan). slice_get l n) (new.spans_are ∙ sym made.ports_are) ∙ there in
           kept.same n k p here unwritten below ∙ (begin wires reads ports new.count new.samples).zero n k p here unwritten past below;
     };
-    cells = cells_after;
+    held = record {
+      rates = rates_after ∙ ap (start_rates flat.checked) (sym (ap block_of_row at));
+      cells = λ runs model checked. cells_after model checked ∙ ap (λ b. initialized model flat m (start_rates flat.checked b)) (sym (ap block_of_row at));
+    };
   }
 
 -- the same, where the model is seen another way
-pub begun_from : (f flat : Flat) (same : f ≡ flat) (m : ℕ) (row : ModuleRow) → m < length flat.tables.modules → row ≡ slice_index_or f.tables.modules m row → CanBegin flat → (wires : WiresOf)
+pub begun_from : (begins : Bool) (f flat : Flat) (same : f ≡ flat) (m : ℕ) (row : ModuleRow) → m < length flat.tables.modules → row ≡ slice_index_or f.tables.modules m row → CanBegin flat → (wires : WiresOf)
     → (before after : FrameSeen) (ports next : PortsSeen) → before.state.cells ≡ start_cells f.checked row.block → before.state.rates ≡ start_rates f.checked row.block
     → AreNew (port_spans_of f.checked row.block) (event_count f.checked row.block) ports → Ran f.checked row.block Initialize (state_of before.state ports.state) (state_of after.state next.state)
     → AreMadeFor f.checked row.block after next → BeginReady → KeepsRead ports next → (traced : List TracedPort)
-    → IsBegun flat m wires (record { block = row.block; frame = after; ports = next; wires = wires; traced = traced })
-begun_from f flat same m row below read can wires before after ports next cells rates new ran made begin kept traced =
-    subst (λ (x : Flat). IsBegun x m wires (record { block = row.block; frame = after; ports = next; wires = wires; traced = traced })) same
+    → IsBegun flat (HoldsText flat begins) m wires (record { block = row.block; frame = after; ports = next; wires = wires; traced = traced })
+begun_from begins f flat same m row below read can wires before after ports next cells rates new ran made begin kept traced =
+    subst (λ (x : Flat). IsBegun x (HoldsText x begins) m wires (record { block = row.block; frame = after; ports = next; wires = wires; traced = traced })) same
     (is_begun f m row (get_read f.tables.modules m row (subst (λ (x : Flat). m < length x.tables.modules) (sym same) below) read) (subst CanBegin (sym same) can) wires
-    before after ports next cells rates new ran made begin kept traced)
+    before after ports next cells rates new ran made begins begin kept traced)
+
+-- a module as it is made, whose body hasn't run
+module _ (flat : Flat) (m : ℕ) (row : ModuleRow) (at : slice_get flat.tables.modules m ≡ Some row) (can : CanBegin flat) (wires : WiresOf)
+    (frame : FrameSeen) (ports : PortsSeen) (formats : frame.formats ≡ cell_formats flat.checked row.block) (spans : frame.rates ≡ rate_spans_of flat.checked row.block)
+    (rates : frame.state.rates ≡ start_rates flat.checked row.block) (new : AreNew (port_spans_of flat.checked row.block) (event_count flat.checked row.block) ports) where
+  pub is_made : (begins : Bool) → begins ≡ false → BeginReady → (traced : List TracedPort)
+      → IsBegun flat (HoldsText flat begins) m wires (record { block = row.block; frame = frame; ports = ports; wires = wires; traced = traced })
+  is_made begins off begin traced = record {
+    block_is = sym (ap block_of_row at);
+    made = record {
+      made = can.checked;
+      block = all_at (λ (x : ModuleRow). x.block < block_count flat.checked) flat.tables.modules m row can.blocks at;
+      formats = formats;
+      rates = spans;
+      ports_are = new.spans_are;
+      events = ap length new.notified ∙ length-replicate (event_count flat.checked row.block) None;
+    };
+    wires_are = refl;
+    zeros = λ reads. begin wires reads ports new.count new.samples;
+    held = record {
+      rates = rates ∙ ap (start_rates flat.checked) (sym (ap block_of_row at));
+      cells = λ on. absurd (subst (λ b. elim b as (λ _. Type 0) [ true ↦ ⊥ | false ↦ Unit {0} ]) (sym off ∙ on) tt);
+    };
+  }
+
+pub made_from : (begins : Bool) → begins ≡ false → (f flat : Flat) (same : f ≡ flat) (m : ℕ) (row : ModuleRow) → m < length flat.tables.modules → row ≡ slice_index_or f.tables.modules m row → CanBegin flat → (wires : WiresOf)
+    → (frame : FrameSeen) (ports : PortsSeen) → frame.formats ≡ cell_formats f.checked row.block → frame.rates ≡ rate_spans_of f.checked row.block → frame.state.rates ≡ start_rates f.checked row.block
+    → AreNew (port_spans_of f.checked row.block) (event_count f.checked row.block) ports → BeginReady → (traced : List TracedPort)
+    → IsBegun flat (HoldsText flat begins) m wires (record { block = row.block; frame = frame; ports = ports; wires = wires; traced = traced })
+made_from begins off f flat same m row below read can wires frame ports formats spans rates new begin traced =
+    subst (λ (x : Flat). IsBegun x (HoldsText x begins) m wires (record { block = row.block; frame = frame; ports = ports; wires = wires; traced = traced })) same
+    (is_made f m row (get_read f.tables.modules m row (subst (λ (x : Flat). m < length x.tables.modules) (sym same) below) read) (subst CanBegin (sym same) can) wires
+    frame ports formats spans rates new begins off begin traced)
 
 -- one runner more
-module _ (flat : Flat) (n : ℕ) (old now : List ActorWires) (samplers next : ℕ) (runners : List Runner) (w dest : ActorWires) (r : Runner)
-    (are : AreFirstRunners flat n old now samplers runners) (there : slice_get now n ≡ Some w) (is : IsFirstRunner flat n samplers w r)
+module _ (flat : Flat) (Holds : ℕ → FrameState → Type 0) (n : ℕ) (old now : List ActorWires) (samplers next : ℕ) (runners : List Runner) (w dest : ActorWires) (r : Runner)
+    (are : AreFirstRunners flat Holds n old now samplers runners) (there : slice_get now n ≡ Some w) (is : IsFirstRunner flat Holds n samplers w r)
     (more : next ≡ samplers + (if is_sampler_runner r then 1 else 0)) where
   whole : sampler_runners_before (runners ++ r ∷ []) n ≡ samplers
   whole = ap (λ k. count_by is_sampler_runner (take k (runners ++ r ∷ []))) (sym are.long) ∙ ap (count_by is_sampler_runner) (take-append_seam runners (r ∷ [])) ∙ sym are.counted
@@ -151,20 +187,20 @@ module _ (flat : Flat) (n : ℕ) (old now : List ActorWires) (samplers next : �
   early m low = ap (count_by is_sampler_runner) (take-append-le m runners (r ∷ []) (let l = are.long in omega (arith, l, low)))
 
   here : (m : ℕ) (x : ActorWires) (s : Runner) → slice_get old m ≡ Some x → slice_get (runners ++ r ∷ []) m ≡ Some s → (m < n) ⊎ (n ≤ m)
-      → IsFirstRunner flat m (sampler_runners_before (runners ++ r ∷ []) m) x s
+      → IsFirstRunner flat Holds m (sampler_runners_before (runners ++ r ∷ []) m) x s
   here m x s xat sat (inl low) =
       let l = are.long in
-      subst (λ k. IsFirstRunner flat m k x s) (sym (early m low)) (are.each m x s xat (sym (get_low runners (r ∷ []) m (omega (arith, l, low))) ∙ sat))
+      subst (λ k. IsFirstRunner flat Holds m k x s) (sym (early m low)) (are.each m x s xat (sym (get_low runners (r ∷ []) m (omega (arith, l, low))) ∙ sat))
   here m x s xat sat (inr high) =
       let l = are.long in let a = length-append runners (r ∷ []) in let b = slice_get_within (runners ++ r ∷ []) m s sat in
       let same : n ≡ m = omega (arith, l, a, b, high) in
       let index : m - length runners ≡ 0 = omega (arith, l, same) in
       let one : r ≡ s = some_inj r s (ap (slice_get (r ∷ [])) (sym index) ∙ sym (get_high runners (r ∷ []) m (omega (arith, l, high))) ∙ sat) in
       let wire : w ≡ x = some_inj w x (sym there ∙ are.left n (omega arith) ∙ ap (slice_get old) same ∙ xat) in
-      subst (λ k. IsFirstRunner flat k (sampler_runners_before (runners ++ r ∷ []) k) x s) same
-      (subst (λ k. IsFirstRunner flat n k x s) (sym whole) (subst (λ y. IsFirstRunner flat n samplers y s) wire (subst (λ q. IsFirstRunner flat n samplers w q) one is)))
+      subst (λ k. IsFirstRunner flat Holds k (sampler_runners_before (runners ++ r ∷ []) k) x s) same
+      (subst (λ k. IsFirstRunner flat Holds n k x s) (sym whole) (subst (λ y. IsFirstRunner flat Holds n samplers y s) wire (subst (λ q. IsFirstRunner flat Holds n samplers w q) one is)))
 
-  pub runners_next : AreFirstRunners flat (n + 1) old (slice_set now n dest) next (runners ++ r ∷ [])
+  pub runners_next : AreFirstRunners flat Holds (n + 1) old (slice_set now n dest) next (runners ++ r ∷ [])
   runners_next = record {
     long = length-append runners (r ∷ []) ∙ ap (λ k. k + 1) are.long;
     counted = more ∙ (let s = sum_by-append (λ (x : Runner). cond {A = ℕ} (is_sampler_runner x) 1 0) runners (r ∷ []) in let c = are.counted in let o = last (is_sampler_runner r) in omega (arith, s, c, o));

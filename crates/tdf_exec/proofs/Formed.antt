@@ -23,9 +23,10 @@ use Rattle.tdf_exec_layout.specs.Traced.{is_traced, number_if_traced, traced_por
 use Rattle.tdf_exec.specs.declared.runners.Runner.{Runner}
 use Rattle.tdf_exec.specs.declared.runners.TracedPort.{TracedPort}
 use Rattle.tdf_exec.specs.machine.Laid.{IsLaid}
-use Rattle.tdf_exec.specs.machine.Starting.{IsBegun}
+use Rattle.tdf_exec.specs.machine.Starting.{HoldsText, IsBegun}
 use Rattle.tdf_expr.specs.Made.{port_spans_of, start_rates}
 use Rattle.tdf_expr.specs.declared.spans.PortSpan.{PortSpan}
+use Rattle.tdf_expr_state.specs.State.{FrameState}
 use Rattle.tdf_exec_firing.specs.Wires.{AreWired, WiresOf}
 use Rattle.tdf_exec_firing.specs.declared.wires.InWire.{InWire}
 use Rattle.tdf_exec_firing.specs.declared.wires.OutWire.{OutWire}
@@ -34,7 +35,6 @@ use Rattle.tdf_streams.proofs.Api.{get_inside, none_some, some_same}
 use Rattle.tdf_bind_invariants.specs.Formats.{IsOwnPort}
 use Rattle.tdf_graph.specs.declared.actors.Actor.TheVariants as actor
 use Rattle.tdf_exec_layout.specs.Wiring.{AreWiresOf, port_of_row}
-use Rattle.tdf_bind_invariants.proofs.Api.{starts_are_allowed}
 use Rattle.tdf_bind_invariants.specs.Limits.{limits_in}
 use Rattle.tdf_expr_semantics.specs.Fits.{RatesFit}
 use Rattle.tdf_rings.specs.Rings.{RingOf}
@@ -173,6 +173,35 @@ attrs_place (x ∷ table) number a is = go (cases_eq x.number number) (attrs_pla
         let found = rest (sym (ap (λ b. if b then Some x else attrs_at table number) (ne_eqb x.number number apart)) ∙ is) in
         (suc found.0, found.1, found.2)
 
+-- each module of the cluster has its row in the table of the text
+pub text_rows : (flat : Flat) (cluster : ℕ) → HasRows flat.tables cluster (first_table flat cluster)
+unfolding first_table
+text_rows flat cluster = record {
+  each = λ m below own. (
+      let row = get_inside flat.tables.modules m below in
+      let p = attrs_place (first_table flat cluster) m (first_attrs flat m row.0) (first_found flat cluster m row.0 row.1 own) in
+      (p.0, first_attrs flat m row.0, p.1, p.2));
+  once = λ i j one other at there same. once_in flat cluster 0 flat.tables.modules i j one other at there same;
+}
+
+-- so it has in each table with rows of the same modules
+pub numbered : (one other : List AttrsOf) → map (λ (a : AttrsOf). a.number) other ≡ map (λ (a : AttrsOf). a.number) one → (i : ℕ) (a : AttrsOf) → slice_get one i ≡ Some a
+    → (b : AttrsOf) × (slice_get other i ≡ Some b) × (b.number ≡ a.number)
+numbered one other same i a at = go (slice_get other i) refl
+    (sym (slice_get-map (λ (x : AttrsOf). x.number) other i) ∙ ap (λ l. slice_get l i) same ∙ slice_get-map (λ (x : AttrsOf). x.number) one i ∙ ap (option_map (λ (x : AttrsOf). x.number)) at)
+  where
+    go : (o : Option AttrsOf) → slice_get other i ≡ o → option_map (λ (x : AttrsOf). x.number) o ≡ Some a.number → (b : AttrsOf) × (slice_get other i ≡ Some b) × (b.number ≡ a.number)
+    go None there e = none_some a.number e
+    go (Some b) there e = (b, there, some_same b.number a.number e)
+
+pub rows_by_numbers : (tables : FlatTablesOf) (cluster : ℕ) (one other : List AttrsOf) → map (λ (a : AttrsOf). a.number) other ≡ map (λ (a : AttrsOf). a.number) one → HasRows tables cluster one → HasRows tables cluster other
+rows_by_numbers tables cluster one other same rows = record {
+  each = λ m below own. (let r = rows.each m below own in let s = numbered one other same r.0 r.1 r.2 in (r.0, s.0, s.1, s.2 ∙ r.3));
+  once = λ i j a b at there eq. (
+      let x = numbered other one (sym same) i a at in let y = numbered other one (sym same) j b there in
+      rows.once i j x.0 y.0 x.1 y.1 (x.2 ∙ eq ∙ sym y.2));
+}
+
 -- in a table with one row a module, each row is the one that is found
 pub row_found : (tables : FlatTablesOf) (cluster : ℕ) (table : List AttrsOf) → HasRows tables cluster table → (i : ℕ) (a : AttrsOf) → slice_get table i ≡ Some a → attrs_at table a.number ≡ Some a
 row_found tables cluster table rows i a at =
@@ -278,31 +307,21 @@ module _ (flat : Flat) (cluster : ℕ) (first : First) (laid : IsLaid flat) (is 
 
   -- each module has its row in the first table
   pub first_rows : HasRows flat.tables cluster first.attrs.rows
-  unfolding first_table
-  first_rows = record {
-    each = λ m below own. (
-        let row = get_inside flat.tables.modules m below in
-        let p = attrs_place first.attrs.rows m (first_attrs flat m row.0) (attrs_found m row.0 row.1 own) in
-        (p.0, first_attrs flat m row.0, p.1, p.2));
-    once = λ i j one other at there same. once_in flat cluster 0 flat.tables.modules i j one other
-        (ap (λ (t : List AttrsOf). slice_get t i) (sym is.attrs_are) ∙ at) (ap (λ (t : List AttrsOf). slice_get t j) (sym is.attrs_are) ∙ there) same;
-  }
+  first_rows = subst (HasRows flat.tables cluster) (sym is.attrs_are) (text_rows flat cluster)
 
-  -- the rate of a port of the cluster is at most its greatest
-  pub first_fits : PortsFit flat cluster laid first.attrs.rows
-  first_fits number port at own =
-      let h : IsOwnPort flat number port = laid.ports number port at in
-      subst (λ r. r ≤ h.span.count) (sym (ap (rate_by port) (attrs_found port.«module» h.row h.module_is own)))
-      (h.wide (start_rates flat.checked h.row.block) (starts_are_allowed flat.checked laid.limits.checked_is h.row.block))
+  -- the rates that a module of the cluster starts with
+  pub first_rates_held : (m : ℕ) (s : FrameState) → m < length flat.tables.modules → slice_index (clusters_of flat.tables) m ≡ cluster → HoldsText flat true m s → s.rates ≡ rates_in (attrs_at first.attrs.rows m)
+  first_rates_held m s below own held =
+      let row = get_inside flat.tables.modules m below in
+      held.rates ∙ ap (start_rates flat.checked) (ap block_of_row row.1) ∙ sym (ap rates_in (attrs_found m row.0 row.1 own))
 
-  -- a module with its wires
+-- a module with its wires, whose instance holds what is asked for
+module _ (flat : Flat) (cluster : ℕ) (first : First) (laid : IsLaid flat) (fits : PortsFit flat cluster laid first.attrs.rows) (Holds : ℕ → FrameState → Type 0)
+    (rates_held : (m : ℕ) (s : FrameState) → m < length flat.tables.modules → slice_index (clusters_of flat.tables) m ≡ cluster → Holds m s → s.rates ≡ rates_in (attrs_at first.attrs.rows m)) where
   module _ (m : ℕ) (kind : actor_kind flat.tables m ≡ Some actor.Module) (own : slice_index (clusters_of flat.tables) m ≡ cluster) (w : WiresOf) (are : AreWiresOf flat.tables m w) where
-    module _ (rings : List RingOf) (runners : List Runner) (positions : List ℕ) (x : ModuleOf) (begun : IsBegun flat m w x) where
+    module _ (place : ℕ) (rings : List RingOf) (runners : List Runner) (positions : List ℕ) (x : ModuleOf) (begun : IsBegun flat Holds m w x) where
       abbrev started : ClusterOf
-      started = start_of cluster first (read_rates (net_of flat.tables first.attrs.rows)) (write_rates (net_of flat.tables first.attrs.rows)) rings runners positions
-
-      row : (r : ModuleRow) × (slice_get flat.tables.modules m ≡ Some r)
-      row = get_inside flat.tables.modules m (below_modules flat laid m kind)
+      started = start_of cluster first place (read_rates (net_of flat.tables first.attrs.rows)) (write_rates (net_of flat.tables first.attrs.rows)) rings runners positions
 
       spans_are : x.ports.spans ≡ port_spans_of flat.checked (block_at flat.tables.modules m)
       spans_are = begun.made.ports_are ∙ ap (port_spans_of flat.checked) begun.block_is
@@ -312,17 +331,17 @@ module _ (flat : Flat) (cluster : ℕ) (first : First) (laid : IsLaid flat) (is 
         actor_is = record { kind_is = kind; inside = own };
         block_is = begun.block_is;
         made = begun.made;
-        rates = begun.rates ∙ ap (start_rates flat.checked) (begun.block_is ∙ ap block_of_row row.1) ∙ sym (ap rates_in (attrs_found m row.0 row.1 own));
+        rates = rates_held m x.frame.state (below_modules flat laid m kind) own begun.held;
         wires_are = subst (AreWiresOf flat.tables m) (sym begun.wires_are) are;
         wired = subst (λ v. AreWired v x.ports.spans (length flat.tables.edges)) (sym begun.wires_are)
             (subst (λ s. AreWired w s (length flat.tables.edges)) (sym spans_are) (laid.wired m w (below_modules flat laid m kind) are));
-        read_rate = λ j v p at there. (in_fits flat cluster first.attrs.rows laid first_fits m kind own w are j v p (ins_at j v at) (span_at v.port p there)).small;
-        write_rate = λ j v p at there. (out_fits flat cluster first.attrs.rows laid first_fits m kind own w are j v p (outs_at j v at) (span_at v.port p there)).small;
-        read_format = λ j v p at there. (in_fits flat cluster first.attrs.rows laid first_fits m kind own w are j v p (ins_at j v at) (span_at v.port p there)).format;
-        write_format = λ j v p at there. (out_fits flat cluster first.attrs.rows laid first_fits m kind own w are j v p (outs_at j v at) (span_at v.port p there)).format;
+        read_rate = λ j v p at there. (in_fits flat cluster first.attrs.rows laid fits m kind own w are j v p (ins_at j v at) (span_at v.port p there)).small;
+        write_rate = λ j v p at there. (out_fits flat cluster first.attrs.rows laid fits m kind own w are j v p (outs_at j v at) (span_at v.port p there)).small;
+        read_format = λ j v p at there. (in_fits flat cluster first.attrs.rows laid fits m kind own w are j v p (ins_at j v at) (span_at v.port p there)).format;
+        write_format = λ j v p at there. (out_fits flat cluster first.attrs.rows laid fits m kind own w are j v p (outs_at j v at) (span_at v.port p there)).format;
         zeros = begun.zeros (read_rates (net_of flat.tables first.attrs.rows));
         traced = traced;
-        traced_rate = λ j t at. subst (λ s. IsInSpans s t) (sym spans_are) (traced_fits flat cluster first.attrs.rows laid first_fits m kind own w are list traced j t at);
+        traced_rate = λ j t at. subst (λ s. IsInSpans s t) (sym spans_are) (traced_fits flat cluster first.attrs.rows laid fits m kind own w are list traced j t at);
       }
         where
           ins_at : (j : ℕ) (v : InWire) → slice_get x.wires.ins j ≡ Some v → slice_get w.ins j ≡ Some v

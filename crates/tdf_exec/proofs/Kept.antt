@@ -10,20 +10,19 @@ use Rattle.std.specs.List.{enumerate_from, range_with_len}
 use Rattle.std.specs.Prelude.{cond, filter_map, replicate, slice_get, slice_index, slice_index_or}
 use Rattle.tdf_bind_tables.specs.Actors.{cluster_of}
 use Rattle.tdf_bind_tables.specs.declared.actors.ActorRow.{ActorRow}
-use Rattle.tdf_dynamic_plans.specs.Attributes.{AttrsOf, attrs_at, clusters_of, rates_in}
-use Rattle.tdf_dynamic_plans.specs.Faults.{IsTablePlan}
+use Rattle.tdf_dynamic_plans.specs.Attributes.{attrs_at, clusters_of, rates_in}
 use Rattle.tdf_dynamic_first.specs.First.{IsFirstPlan}
 use Rattle.tdf_dynamic_values.specs.Planned.{IsTableFirst}
 use Rattle.tdf_dynamic_plans.specs.Rates.{AreRates, net_of}
 use Rattle.tdf_dynamic_first.specs.declared.first.First.{First}
 use Rattle.tdf_exec.proofs.Ends.{below_modules, module_kind, no_sink, sampler_never, sampler_writes, sink_never, sink_reads}
 use Rattle.tdf_exec_parts.proofs.Api.{reads_at, writes_at}
-use Rattle.tdf_exec.proofs.Formed.{attrs_found, first_rows, is_module}
+use Rattle.tdf_exec.proofs.Formed.{attrs_found, first_rates_held, first_rows, is_module, ports_fit}
 use Rattle.tdf_exec.proofs.Moved.{some_inj}
-use Rattle.tdf_exec.proofs.Planned.{are_held, is_safe, lists_are, start_of, text_first, timed}
+use Rattle.tdf_exec.proofs.Planned.{are_held, is_safe, lists_are, start_of, text_first}
 use Rattle.tdf_exec.proofs.Rows.{index_at}
 use Rattle.tdf_exec.specs.Cluster.{ClusterOf}
-use Rattle.tdf_exec.specs.Made.{IsClusterOf, IsRunnerOf, IsSamplerOf, IsSinkOf, is_sampler_runner, sampler_runners_before}
+use Rattle.tdf_exec.specs.Made.{AreHeld, HasRows, IsClusterOf, IsRunnerOf, IsSamplerOf, IsSinkOf, is_sampler_runner, sampler_runners_before}
 use Rattle.tdf_exec.specs.Played.{runner_cells, play_of, turns_from}
 use Rattle.tdf_exec.specs.Runners.{ModuleOf, SamplerOf}
 use Rattle.tdf_exec.specs.Starts.{IsSoundFlat, StandsAtStart}
@@ -33,7 +32,7 @@ use Rattle.tdf_exec.specs.declared.runners.Runner.{Runner}
 use Rattle.tdf_exec.specs.declared.runners.Runner.TheVariants as runner
 use Rattle.tdf_exec.specs.declared.runners.TracedPort.{TracedPort}
 use Rattle.tdf_exec.specs.machine.Laid.{AreParts, AreRunnersOf, IsLaid}
-use Rattle.tdf_exec.specs.machine.Starting.{IsBegun, IsFirstRunner, IsOfModule}
+use Rattle.tdf_exec.specs.machine.Starting.{HoldsText, IsFirstRunner, IsOfModule}
 use Rattle.tdf_exec_parts.specs.Rings.{AreFirstRings}
 use Rattle.tdf_exec.specs.machine.Tracing.{traced_before, with_traced}
 use Rattle.tdf_expr.specs.Checked.{IsCheckedOf}
@@ -47,12 +46,16 @@ use Rattle.tdf_exec_layout.specs.Wires.{AreClusterWires, IsWiringOf}
 use Rattle.tdf_exec_layout.specs.Wiring.{AreEdgesOf, IsEdgeOf}
 use Rattle.tdf_exec_layout.specs.declared.wiring.ActorWires.{ActorWires}
 use Rattle.tdf_exec_layout.specs.declared.wiring.ActorWires.TheVariants as wires
+use Rattle.tdf_expr_state.specs.State.{FrameState}
+use Rattle.tdf_rings.specs.Carried.{ring_at}
 use Rattle.tdf_rings.specs.Rings.{RingOf, ring_of}
 use Rattle.tdf_schedule.specs.Laws.{PlansArePresent}
 use Rattle.tdf_streams.specs.Bodies.{initialized}
-use Rattle.tdf_streams.specs.Cluster.{cluster_net, is_outside_cluster, is_sampler_kind, text_start, zero_sample}
-use Rattle.tdf_streams.specs.Periods.{read_rates, write_rates}
+use Rattle.tdf_streams.specs.Cluster.{Start, cluster_net, is_outside_cluster, is_sampler_kind, text_start, zero_sample}
+use Rattle.tdf_streams.specs.Periods.{PeriodRecord, read_rates, write_rates}
 use Rattle.tdf_streams.specs.Places.{actor_kind, block_of_row, kind_of_row, reader_of_row, writer_of_row}
+use Rattle.tdf_fixed.specs.declared.raw.Raw.{Raw}
+use Rattle.tdf_streams.specs.Stands.{Stands}
 use Rattle.tdf_lang_tree.specs.Pure.{PureTree}
 
 -- what is told of edges is told of modules alone
@@ -114,11 +117,15 @@ traced_alike l (runner.Sampler s) = refl
 traced_alike l (runner.Sink k) = refl
 traced_alike l runner.Outside = refl
 
-module _ (flat : Flat) (cluster : ℕ) (first : First) (sound : IsSoundFlat flat) (laid : IsLaid flat) (is : IsFirstPlan flat cluster first) (law : PlansArePresent)
-    (rings : List RingOf) (runners : List Runner) (positions : List ℕ) (rings_are : AreFirstRings flat.tables cluster first.plan.bounds.items (length flat.tables.edges) rings)
-    (are : AreRunnersOf flat cluster first.attrs.rows runners) (none_done : positions ≡ replicate (length flat.tables.actors) 0) where
+-- a cluster at a place of its first period, whose instances and rings hold what is asked for
+module _ (flat : Flat) (cluster : ℕ) (first : First) (sound : IsSoundFlat flat) (laid : IsLaid flat) (is : IsTableFirst flat cluster first.attrs.rows first) (law : PlansArePresent)
+    (table_rows : HasRows flat.tables cluster first.attrs.rows) (Holds : ℕ → FrameState → Type 0)
+    (rates_held : (m : ℕ) (s : FrameState) → m < length flat.tables.modules → slice_index (clusters_of flat.tables) m ≡ cluster → Holds m s → s.rates ≡ rates_in (attrs_at first.attrs.rows m))
+    (place : ℕ) (rings : List RingOf) (runners : List Runner) (positions : List ℕ) (within : place ≤ length first.plan.entries.items)
+    (held : AreHeld flat.tables (start_of cluster first place (read_rates (net_of flat.tables first.attrs.rows)) (write_rates (net_of flat.tables first.attrs.rows)) rings runners positions))
+    (are : AreRunnersOf flat Holds cluster first.attrs.rows runners) (none_done : positions ≡ replicate (length flat.tables.actors) 0) where
   abbrev started : ClusterOf
-  started = start_of cluster first (read_rates (net_of flat.tables first.attrs.rows)) (write_rates (net_of flat.tables first.attrs.rows)) rings runners positions
+  started = start_of cluster first place (read_rates (net_of flat.tables first.attrs.rows)) (write_rates (net_of flat.tables first.attrs.rows)) rings runners positions
 
   long : length runners ≡ length flat.tables.actors
   long = are.given.same ∙ are.begun_are.long ∙ are.wires_are.long
@@ -131,7 +138,7 @@ module _ (flat : Flat) (cluster : ℕ) (first : First) (sound : IsSoundFlat flat
     pub w_at : slice_get are.wires m ≡ Some w
     pub b : Runner
     pub b_at : slice_get are.begun m ≡ Some b
-    pub first_is : IsFirstRunner flat m (sampler_runners_before are.begun m) w b
+    pub first_is : IsFirstRunner flat Holds m (sampler_runners_before are.begun m) w b
     pub low : m < length are.rows → r ≡ with_traced (slice_index_or are.rows m []) b
     pub high : length are.rows ≤ m → r ≡ b
 
@@ -176,12 +183,12 @@ module _ (flat : Flat) (cluster : ℕ) (first : First) (sound : IsSoundFlat flat
 
   module _ (m : ℕ) (own : slice_index (clusters_of flat.tables) m ≡ cluster) (r : Runner) where
     by_module : (w : WiresOf) (b : Runner) → actor_kind flat.tables m ≡ Some actor.Module → IsWiringOf flat.tables m actor.Module (wires.Module w)
-        → IsFirstRunner flat m (sampler_runners_before are.begun m) (wires.Module w) b → (m < length are.rows → r ≡ with_traced (slice_index_or are.rows m []) b) → IsRunnerOf flat started m r
+        → IsFirstRunner flat Holds m (sampler_runners_before are.begun m) (wires.Module w) b → (m < length are.rows → r ≡ with_traced (slice_index_or are.rows m []) b) → IsRunnerOf flat started m r
     by_module w (runner.Module x) kind h begun low =
         let below : m < length flat.tables.modules = below_modules flat laid m kind in
         let l = are.traced_are.long in
         subst (IsRunnerOf flat started m) (sym (low (omega (arith, below, l))))
-        (is_module flat cluster first laid is m kind own w h rings runners positions x begun (slice_index_or are.rows m [])
+        (is_module flat cluster first laid (ports_fit flat cluster laid first.attrs.rows is.attributes table_rows) Holds rates_held m kind own w h place rings runners positions x begun (slice_index_or are.rows m [])
         (are.traced_are.each m below ∙ ap (map (traced_port flat.tables first.attrs.rows)) (all_traced m)))
       where
         all_traced : (m : ℕ) → traced_before flat.tables (length flat.tables.ports) m ≡ traced_ports flat.tables m
@@ -216,21 +223,21 @@ module _ (flat : Flat) (cluster : ℕ) (first : First) (sound : IsSoundFlat flat
     }
 
     by_sampler : (edges : _) (b : Runner) → actor_kind flat.tables m ≡ Some actor.Sampler → IsWiringOf flat.tables m actor.Sampler (wires.Sampler edges)
-        → IsFirstRunner flat m (sampler_runners_before are.begun m) (wires.Sampler edges) b → ((same : (l : List TracedPort) → with_traced l b ≡ b) → r ≡ b) → IsRunnerOf flat started m r
+        → IsFirstRunner flat Holds m (sampler_runners_before are.begun m) (wires.Sampler edges) b → ((same : (l : List TracedPort) → with_traced l b ≡ b) → r ≡ b) → IsRunnerOf flat started m r
     by_sampler edges (runner.Sampler s) kind h begun same = subst (IsRunnerOf flat started m) (sym (same (λ l. refl))) (sampler_is s edges.items kind h begun.0 begun.1)
     by_sampler edges (runner.Module x) kind h begun same = absurd begun
     by_sampler edges (runner.Sink k) kind h begun same = absurd begun
     by_sampler edges runner.Outside kind h begun same = absurd begun
 
     by_sink : (edge : ℕ) (b : Runner) → actor_kind flat.tables m ≡ Some actor.Sink → IsWiringOf flat.tables m actor.Sink (wires.Sink edge)
-        → IsFirstRunner flat m (sampler_runners_before are.begun m) (wires.Sink edge) b → ((same : (l : List TracedPort) → with_traced l b ≡ b) → r ≡ b) → IsRunnerOf flat started m r
+        → IsFirstRunner flat Holds m (sampler_runners_before are.begun m) (wires.Sink edge) b → ((same : (l : List TracedPort) → with_traced l b ≡ b) → r ≡ b) → IsRunnerOf flat started m r
     by_sink edge (runner.Sink k) kind h begun same =
         subst (IsRunnerOf flat started m) (sym (same (λ l. refl))) (sink_is k.edge kind (subst (IsEdgeOf flat.tables m) (sym begun) h))
     by_sink edge (runner.Module x) kind h begun same = absurd begun
     by_sink edge (runner.Sampler s) kind h begun same = absurd begun
     by_sink edge runner.Outside kind h begun same = absurd begun
 
-    own_runner : (kind : Actor) (w : ActorWires) (b : Runner) → actor_kind flat.tables m ≡ Some kind → IsWiringOf flat.tables m kind w → IsFirstRunner flat m (sampler_runners_before are.begun m) w b
+    own_runner : (kind : Actor) (w : ActorWires) (b : Runner) → actor_kind flat.tables m ≡ Some kind → IsWiringOf flat.tables m kind w → IsFirstRunner flat Holds m (sampler_runners_before are.begun m) w b
         → (m < length are.rows → r ≡ with_traced (slice_index_or are.rows m []) b) → (length are.rows ≤ m → r ≡ b) → IsRunnerOf flat started m r
     own_runner actor.Module (wires.Module w) b kind h begun low high = by_module w b kind h begun low
     own_runner actor.Module (wires.Sampler edges) b kind h begun low high = absurd h
@@ -245,7 +252,7 @@ module _ (flat : Flat) (cluster : ℕ) (first : First) (sound : IsSoundFlat flat
     own_runner actor.Sink (wires.Sampler edges) b kind h begun low high = absurd h
     own_runner actor.Sink wires.Elsewhere b kind h begun low high = absurd h
 
-  other_runner : (m : ℕ) (r b : Runner) → (slice_index (clusters_of flat.tables) m ≡ cluster → ⊥) → IsFirstRunner flat m (sampler_runners_before are.begun m) wires.Elsewhere b
+  other_runner : (m : ℕ) (r b : Runner) → (slice_index (clusters_of flat.tables) m ≡ cluster → ⊥) → IsFirstRunner flat Holds m (sampler_runners_before are.begun m) wires.Elsewhere b
       → ((same : (l : List TracedPort) → with_traced l b ≡ b) → r ≡ b) → IsRunnerOf flat started m r
   other_runner m r runner.Outside apart begun same = subst (IsRunnerOf flat started m) (sym (same (λ l. refl))) apart
   other_runner m r (runner.Module x) apart begun same = absurd begun
@@ -259,11 +266,11 @@ module _ (flat : Flat) (cluster : ℕ) (first : First) (sound : IsSoundFlat flat
       go h (inl own) = own_runner m own r h.row.kind h.w h.b (ap kind_of_row h.row_at)
           (are.wires_are.own m h.row h.w h.row_at h.w_at (sym (index_at cluster_of flat.tables.actors m h.row h.row_at) ∙ own)) h.first_is h.low h.high
       go h (inr apart) = other_runner m r h.b apart
-          (subst (λ x. IsFirstRunner flat m (sampler_runners_before are.begun m) x h.b)
+          (subst (λ x. IsFirstRunner flat Holds m (sampler_runners_before are.begun m) x h.b)
           (are.wires_are.other m h.row h.w h.row_at h.w_at (λ e. apart (index_at cluster_of flat.tables.actors m h.row h.row_at ∙ e))) h.first_is)
           (λ same. plain m r h.b same h.low h.high)
 
-  zero_at : (m : ℕ) → slice_index positions m ≡ 0
+  pub zero_at : (m : ℕ) → slice_index positions m ≡ 0
   zero_at m = ap (λ l. slice_index l m) none_done ∙ go (cases_lt m (length flat.tables.actors))
     where
       go : (m < length flat.tables.actors) ⊎ (length flat.tables.actors ≤ m) → slice_index (replicate (length flat.tables.actors) 0) m ≡ 0
@@ -272,21 +279,21 @@ module _ (flat : Flat) (cluster : ℕ) (first : First) (sound : IsSoundFlat flat
 
   pub is_cluster : IsClusterOf flat started
   is_cluster = record {
-    attributes = (timed flat cluster first sound laid (text_first flat cluster first laid.limits is) law).attributes;
-    rows = first_rows flat cluster first laid is;
+    attributes = is.attributes;
+    rows = table_rows;
     planned = record {
       plan = first.plan;
-      plan_is = subst (λ (t : List AttrsOf). IsTablePlan flat.tables cluster t first.plan) (sym is.attrs_are) is.plan_is;
+      plan_is = is.plan_is;
       entries_are = refl;
       bounds_are = refl;
       period_is = refl;
     };
     reads_are = refl;
     writes_are = refl;
-    safe = is_safe flat cluster first sound laid (text_first flat cluster first laid.limits is) law rings runners positions rings_are;
-    within = omega arith;
+    safe = is_safe flat cluster first sound laid is law place rings runners positions;
+    within = within;
     over = λ crossed. false_true crossed;
-    held = are_held flat cluster first sound laid (text_first flat cluster first laid.limits is) law rings runners positions rings_are;
+    held = held;
     actors = long;
     positions = ap length none_done ∙ length-replicate {A = ℕ} (length flat.tables.actors) 0;
     counted = λ m. (let z = zero_at m in omega (arith, z));
@@ -295,29 +302,6 @@ module _ (flat : Flat) (cluster : ℕ) (first : First) (sound : IsSoundFlat flat
     known = is.known;
   }
 
-  -- what the variables of a module hold at the start
-  abbrev cells_at : PureTree → ℕ → List ℤ
-  cells_at model m = slice_index_or (text_start model flat cluster first.attrs.rows).cells m []
-
-  abbrev first_cells : PureTree → ℕ → List ℤ
-  first_cells model m = initialized model flat m (rates_in (attrs_at first.attrs.rows m))
-
-  made_cells : (model : PureTree) (m : ℕ) → m < length flat.tables.modules → cells_at model m ≡ first_cells model m
-  made_cells model m below = get_or_from_slice_get (text_start model flat cluster first.attrs.rows).cells m (first_cells model m) []
-      (get_made_at (first_cells model) 0 (length flat.tables.modules) m below ∙ (let z : 0 + m ≡ m = omega arith in ap (λ k. Some (first_cells model k)) z))
-
-  past_cells : (model : PureTree) (m : ℕ) → length flat.tables.modules ≤ m → cells_at model m ≡ []
-  past_cells model m past = get_or_past (text_start model flat cluster first.attrs.rows).cells m []
-      (let l = length-map-range_with_len (first_cells model) 0 (length flat.tables.modules) in omega (arith, l, past))
-
-  module_cells : (model : PureTree) → IsCheckedOf model flat.checked → (m : ℕ) → slice_index (clusters_of flat.tables) m ≡ cluster → m < length flat.tables.modules → (w : WiresOf) (x : ModuleOf)
-      → IsBegun flat m w x → x.frame.state.cells ≡ cells_at model m
-  module_cells model checked m own below w x begun =
-      let row = get_inside flat.tables.modules m below in
-      begun.cells model checked
-      ∙ ap (initialized model flat m) (ap (start_rates flat.checked) (begun.block_is ∙ ap block_of_row row.1) ∙ sym (ap rates_in (attrs_found flat cluster first laid is m row.0 row.1 own)))
-      ∙ sym (made_cells model m below)
-
   no_module : (m : ℕ) → actor_kind flat.tables m ≡ Some actor.Sink → length flat.tables.modules ≤ m
   no_module m sink = go (cases_lt m (length flat.tables.modules))
     where
@@ -325,71 +309,137 @@ module _ (flat : Flat) (cluster : ℕ) (first : First) (sound : IsSoundFlat flat
       go (inl below) = no_sink (actor_kind flat.tables m) (module_kind flat laid m below) sink
       go (inr past) = past
 
-  module _ (model : PureTree) (checked : IsCheckedOf model flat.checked) (m : ℕ) (own : slice_index (clusters_of flat.tables) m ≡ cluster)
-      (no_samples : is_sampler_kind (actor_kind flat.tables m) ≡ false) (r : Runner) where
-    module_state : (w : WiresOf) (b : Runner) → actor_kind flat.tables m ≡ Some actor.Module → IsFirstRunner flat m (sampler_runners_before are.begun m) (wires.Module w) b
-        → (m < length are.rows → r ≡ with_traced (slice_index_or are.rows m []) b) → runner_cells r ≡ cells_at model m
-    module_state w (runner.Module x) kind begun low =
-        let below = below_modules flat laid m kind in let l = are.traced_are.long in
-        ap runner_cells (low (omega (arith, below, l))) ∙ module_cells model checked m own below w x begun
-    module_state w (runner.Sampler s) kind begun low = absurd begun
-    module_state w (runner.Sink k) kind begun low = absurd begun
-    module_state w runner.Outside kind begun low = absurd begun
-
-    sink_state : (edge : ℕ) (b : Runner) → actor_kind flat.tables m ≡ Some actor.Sink → IsFirstRunner flat m (sampler_runners_before are.begun m) (wires.Sink edge) b
-        → (((l : List TracedPort) → with_traced l b ≡ b) → r ≡ b) → runner_cells r ≡ cells_at model m
-    sink_state edge (runner.Sink k) kind begun same = ap runner_cells (same (λ l. refl)) ∙ sym (past_cells model m (no_module m kind))
-    sink_state edge (runner.Module x) kind begun same = absurd begun
-    sink_state edge (runner.Sampler s) kind begun same = absurd begun
-    sink_state edge runner.Outside kind begun same = absurd begun
-
-    own_state : (kind : Actor) (w : ActorWires) (b : Runner) → actor_kind flat.tables m ≡ Some kind → IsWiringOf flat.tables m kind w → IsFirstRunner flat m (sampler_runners_before are.begun m) w b
-        → (m < length are.rows → r ≡ with_traced (slice_index_or are.rows m []) b) → (length are.rows ≤ m → r ≡ b) → runner_cells r ≡ cells_at model m
-    own_state actor.Module (wires.Module w) b kind h begun low high = module_state w b kind begun low
-    own_state actor.Module (wires.Sampler edges) b kind h begun low high = absurd h
-    own_state actor.Module (wires.Sink edge) b kind h begun low high = absurd h
-    own_state actor.Module wires.Elsewhere b kind h begun low high = absurd h
-    own_state actor.Sampler w b kind h begun low high = true_false (sym (ap is_sampler_kind kind) ∙ no_samples)
-    own_state actor.Sink (wires.Sink edge) b kind h begun low high = sink_state edge b kind begun (λ same. plain m r b same low high)
-    own_state actor.Sink (wires.Module w) b kind h begun low high = absurd h
-    own_state actor.Sink (wires.Sampler edges) b kind h begun low high = absurd h
-    own_state actor.Sink wires.Elsewhere b kind h begun low high = absurd h
-
-  state_is : (model : PureTree) → IsCheckedOf model flat.checked → (m : ℕ) (r : Runner) → slice_get runners m ≡ Some r → is_outside_cluster flat.tables cluster m ≡ false → runner_cells r ≡ cells_at model m
-  state_is model checked m r at inside =
+  -- what is kept for a module of the cluster holds what is asked for
+  pub held_at : (m : ℕ) (r : Runner) → slice_get runners m ≡ Some r → m < length flat.tables.modules → slice_index (clusters_of flat.tables) m ≡ cluster
+      → (x : ModuleOf) × (r ≡ runner.Module x) × Holds m x.frame.state
+  held_at m r at below own =
       let h = came m r at in
-      let both = neither (is_sampler_kind (actor_kind flat.tables m)) _ inside in
-      let own : slice_index (clusters_of flat.tables) m ≡ cluster = eqb-true (slice_index (clusters_of flat.tables) m) cluster (not_not _ both.1) in
-      own_state model checked m own both.0 r h.row.kind h.w h.b (ap kind_of_row h.row_at)
-      (are.wires_are.own m h.row h.w h.row_at h.w_at (sym (index_at cluster_of flat.tables.actors m h.row h.row_at) ∙ own)) h.first_is h.low h.high
-
-  state_at : (model : PureTree) → IsCheckedOf model flat.checked → (m : ℕ) (x : List ℤ) → slice_get (map runner_cells runners) m ≡ Some x → is_outside_cluster flat.tables cluster m ≡ false → x ≡ cells_at model m
-  state_at model checked m x at inside = go (slice_get runners m) refl (sym (slice_get-map runner_cells runners m) ∙ at)
+      let kind : h.row.kind ≡ actor.Module = some_inj h.row.kind actor.Module (sym (ap kind_of_row h.row_at) ∙ module_kind flat laid m below) in
+      by h.w h.b
+      (subst (λ k. IsWiringOf flat.tables m k h.w) kind (are.wires_are.own m h.row h.w h.row_at h.w_at (sym (index_at cluster_of flat.tables.actors m h.row h.row_at) ∙ own))) h.first_is
+      (h.low (let l = are.traced_are.long in omega (arith, below, l)))
     where
-      go : (o : Option Runner) → slice_get runners m ≡ o → option_map runner_cells o ≡ Some x → x ≡ cells_at model m
-      go None there given = none_some x given
-      go (Some r) there given = sym (some_same (runner_cells r) x given) ∙ state_is model checked m r there inside
+      by : (w : ActorWires) (b : Runner) → IsWiringOf flat.tables m actor.Module w → IsFirstRunner flat Holds m (sampler_runners_before are.begun m) w b
+          → r ≡ with_traced (slice_index_or are.rows m []) b → (x : ModuleOf) × (r ≡ runner.Module x) × Holds m x.frame.state
+      by (wires.Module w) (runner.Module x) wiring begun same = (record x { traced = slice_index_or are.rows m [] }, same, begun.held)
+      by (wires.Module w) (runner.Sampler s) wiring begun same = absurd begun
+      by (wires.Module w) (runner.Sink k) wiring begun same = absurd begun
+      by (wires.Module w) runner.Outside wiring begun same = absurd begun
+      by (wires.Sampler edges) b wiring begun same = absurd wiring
+      by (wires.Sink edge) b wiring begun same = absurd wiring
+      by wires.Elsewhere b wiring begun same = absurd wiring
 
-  list_at : (e : ℕ) → e < length flat.tables.edges → slice_index_or (map (λ (r : RingOf). r.samples) rings) e [] ≡ slice_index_or (text_start sound.model flat cluster first.attrs.rows).lists e []
-  list_at e within = get_or-map (λ (r : RingOf). r.samples) rings e (ring_of [] 0) ∙ lists_are flat cluster first sound laid (text_first flat cluster first laid.limits is) law rings runners positions rings_are e within
+  -- the start that they hold
+  module _ (model : PureTree) (start : Start) (lists_held : (e : ℕ) → e < length flat.tables.edges → (ring_at rings e).samples ≡ slice_index_or start.lists e [])
+      (cells_held : (m : ℕ) (s : FrameState) → m < length flat.tables.modules → slice_index (clusters_of flat.tables) m ≡ cluster → Holds m s → s.cells ≡ slice_index_or start.cells m [])
+      (no_cells : (m : ℕ) → length flat.tables.modules ≤ m → slice_index_or start.cells m [] ≡ []) where
+    abbrev cells_at : ℕ → List ℤ
+    cells_at m = slice_index_or start.cells m []
 
-  pub stands : StandsAtStart flat started
-  stands model p reads checked = start_stands (cluster_net model flat cluster (text_start model flat cluster first.attrs.rows)) p reads (play_of 0 started) (record {
-    turns = λ m. zero_in (turns_from first.plan.entries.items 0 0) (range_with_len 0 (length runners)) m (λ j. omega arith);
-    states = λ m x at inside. state_at model checked m x at inside;
-    long = λ e within. ap length (list_at e within);
-    items = λ e j x within at. sym (get_or_from_slice_get (slice_index_or (text_start model flat cluster first.attrs.rows).lists e []) j x zero_sample
-        (ap (λ l. slice_get l j) (sym (list_at e within)) ∙ at));
-  })
+    module _ (m : ℕ) (own : slice_index (clusters_of flat.tables) m ≡ cluster)
+        (no_samples : is_sampler_kind (actor_kind flat.tables m) ≡ false) (r : Runner) where
+      module_state : (w : WiresOf) (b : Runner) → actor_kind flat.tables m ≡ Some actor.Module → IsFirstRunner flat Holds m (sampler_runners_before are.begun m) (wires.Module w) b
+          → (m < length are.rows → r ≡ with_traced (slice_index_or are.rows m []) b) → runner_cells r ≡ cells_at m
+      module_state w (runner.Module x) kind begun low =
+          let below = below_modules flat laid m kind in let l = are.traced_are.long in
+          ap runner_cells (low (omega (arith, below, l))) ∙ cells_held m x.frame.state below own begun.held
+      module_state w (runner.Sampler s) kind begun low = absurd begun
+      module_state w (runner.Sink k) kind begun low = absurd begun
+      module_state w runner.Outside kind begun low = absurd begun
+
+      sink_state : (edge : ℕ) (b : Runner) → actor_kind flat.tables m ≡ Some actor.Sink → IsFirstRunner flat Holds m (sampler_runners_before are.begun m) (wires.Sink edge) b
+          → (((l : List TracedPort) → with_traced l b ≡ b) → r ≡ b) → runner_cells r ≡ cells_at m
+      sink_state edge (runner.Sink k) kind begun same = ap runner_cells (same (λ l. refl)) ∙ sym (no_cells m (no_module m kind))
+      sink_state edge (runner.Module x) kind begun same = absurd begun
+      sink_state edge (runner.Sampler s) kind begun same = absurd begun
+      sink_state edge runner.Outside kind begun same = absurd begun
+
+      own_state : (kind : Actor) (w : ActorWires) (b : Runner) → actor_kind flat.tables m ≡ Some kind → IsWiringOf flat.tables m kind w → IsFirstRunner flat Holds m (sampler_runners_before are.begun m) w b
+          → (m < length are.rows → r ≡ with_traced (slice_index_or are.rows m []) b) → (length are.rows ≤ m → r ≡ b) → runner_cells r ≡ cells_at m
+      own_state actor.Module (wires.Module w) b kind h begun low high = module_state w b kind begun low
+      own_state actor.Module (wires.Sampler edges) b kind h begun low high = absurd h
+      own_state actor.Module (wires.Sink edge) b kind h begun low high = absurd h
+      own_state actor.Module wires.Elsewhere b kind h begun low high = absurd h
+      own_state actor.Sampler w b kind h begun low high = true_false (sym (ap is_sampler_kind kind) ∙ no_samples)
+      own_state actor.Sink (wires.Sink edge) b kind h begun low high = sink_state edge b kind begun (λ same. plain m r b same low high)
+      own_state actor.Sink (wires.Module w) b kind h begun low high = absurd h
+      own_state actor.Sink (wires.Sampler edges) b kind h begun low high = absurd h
+      own_state actor.Sink wires.Elsewhere b kind h begun low high = absurd h
+
+    state_is : (m : ℕ) (r : Runner) → slice_get runners m ≡ Some r → is_outside_cluster flat.tables cluster m ≡ false → runner_cells r ≡ cells_at m
+    state_is m r at inside =
+        let h = came m r at in
+        let both = neither (is_sampler_kind (actor_kind flat.tables m)) _ inside in
+        let own : slice_index (clusters_of flat.tables) m ≡ cluster = eqb-true (slice_index (clusters_of flat.tables) m) cluster (not_not _ both.1) in
+        own_state m own both.0 r h.row.kind h.w h.b (ap kind_of_row h.row_at)
+        (are.wires_are.own m h.row h.w h.row_at h.w_at (sym (index_at cluster_of flat.tables.actors m h.row h.row_at) ∙ own)) h.first_is h.low h.high
+
+    state_at : (m : ℕ) (x : List ℤ) → slice_get (map runner_cells runners) m ≡ Some x → is_outside_cluster flat.tables cluster m ≡ false → x ≡ cells_at m
+    state_at m x at inside = go (slice_get runners m) refl (sym (slice_get-map runner_cells runners m) ∙ at)
+      where
+        go : (o : Option Runner) → slice_get runners m ≡ o → option_map runner_cells o ≡ Some x → x ≡ cells_at m
+        go None there given = none_some x given
+        go (Some r) there given = sym (some_same (runner_cells r) x given) ∙ state_is m r there inside
+
+    list_at : (e : ℕ) → e < length flat.tables.edges → slice_index_or (map (λ (r : RingOf). r.samples) rings) e [] ≡ slice_index_or start.lists e []
+    list_at e within = get_or-map (λ (r : RingOf). r.samples) rings e (ring_of [] 0) ∙ lists_held e within
+
+    pub stands_from : (p : PeriodRecord) (reads : ℕ → List Raw) → Stands (cluster_net model flat cluster start) [] p reads 0 (play_of place started)
+    stands_from p reads = start_stands (cluster_net model flat cluster start) p reads (play_of place started) (record {
+      turns = λ m. zero_in (turns_from first.plan.entries.items place place) (range_with_len 0 (length runners)) m (λ j. omega arith);
+      states = λ m x at inside. state_at m x at inside;
+      long = λ e within. ap length (list_at e within);
+      items = λ e j x within at. sym (get_or_from_slice_get (slice_index_or start.lists e []) j x zero_sample
+          (ap (λ l. slice_get l j) (sym (list_at e within)) ∙ at));
+    })
+
+-- at the start that the text says
+module _ (flat : Flat) (cluster : ℕ) (first : First) (sound : IsSoundFlat flat) (laid : IsLaid flat) (is : IsFirstPlan flat cluster first) (law : PlansArePresent)
+    (rings : List RingOf) (runners : List Runner) (positions : List ℕ) (rings_are : AreFirstRings flat.tables cluster first.plan.bounds.items (length flat.tables.edges) rings)
+    (are : AreRunnersOf flat (HoldsText flat true) cluster first.attrs.rows runners) (none_done : positions ≡ replicate (length flat.tables.actors) 0) where
+  table_is : IsTableFirst flat cluster first.attrs.rows first
+  table_is = text_first flat cluster first laid.limits is
+
+  pub is_first : IsClusterOf flat (start_of cluster first 0 (read_rates (net_of flat.tables first.attrs.rows)) (write_rates (net_of flat.tables first.attrs.rows)) rings runners positions)
+  is_first = is_cluster flat cluster first sound laid table_is law (first_rows flat cluster first laid is) (HoldsText flat true) (first_rates_held flat cluster first laid is) 0 rings runners positions (omega arith)
+      (are_held flat cluster first sound laid table_is law rings runners positions rings_are) are none_done
+
+  abbrev cells_of : PureTree → ℕ → List ℤ
+  cells_of model m = slice_index_or (text_start model flat cluster first.attrs.rows).cells m []
+
+  abbrev first_cells : PureTree → ℕ → List ℤ
+  first_cells model m = initialized model flat m (rates_in (attrs_at first.attrs.rows m))
+
+  made_cells : (model : PureTree) (m : ℕ) → m < length flat.tables.modules → cells_of model m ≡ first_cells model m
+  made_cells model m below = get_or_from_slice_get (text_start model flat cluster first.attrs.rows).cells m (first_cells model m) []
+      (get_made_at (first_cells model) 0 (length flat.tables.modules) m below ∙ (let z : 0 + m ≡ m = omega arith in ap (λ k. Some (first_cells model k)) z))
+
+  past_cells : (model : PureTree) (m : ℕ) → length flat.tables.modules ≤ m → cells_of model m ≡ []
+  past_cells model m past = get_or_past (text_start model flat cluster first.attrs.rows).cells m []
+      (let l = length-map-range_with_len (first_cells model) 0 (length flat.tables.modules) in omega (arith, l, past))
+
+  module_cells : (model : PureTree) → IsCheckedOf model flat.checked → (m : ℕ) (s : FrameState) → m < length flat.tables.modules → slice_index (clusters_of flat.tables) m ≡ cluster
+      → HoldsText flat true m s → s.cells ≡ cells_of model m
+  module_cells model checked m s below own begun =
+      let row = get_inside flat.tables.modules m below in
+      begun.cells refl model checked
+      ∙ ap (initialized model flat m) (ap (start_rates flat.checked) (ap block_of_row row.1) ∙ sym (ap rates_in (attrs_found flat cluster first laid is m row.0 row.1 own)))
+      ∙ sym (made_cells model m below)
+
+  pub stands : StandsAtStart flat (start_of cluster first 0 (read_rates (net_of flat.tables first.attrs.rows)) (write_rates (net_of flat.tables first.attrs.rows)) rings runners positions)
+  stands model p reads checked = stands_from flat cluster first sound laid table_is law (first_rows flat cluster first laid is) (HoldsText flat true) (first_rates_held flat cluster first laid is) 0 rings runners positions (omega arith)
+      (are_held flat cluster first sound laid table_is law rings runners positions rings_are) are none_done
+      model (text_start model flat cluster first.attrs.rows) (lists_are flat cluster first sound laid table_is law rings runners positions rings_are) (module_cells model checked) (past_cells model) p reads
 
 -- with the rates as they are found
 pub is_made : (flat : Flat) (cluster : ℕ) (first : First) → IsSoundFlat flat → IsLaid flat → IsFirstPlan flat cluster first → PlansArePresent
-    → (reads writes : List ℕ) (rings : List RingOf) (runners : List Runner) (positions : List ℕ) → AreParts flat cluster first reads writes rings runners positions
-    → IsClusterOf flat (start_of cluster first reads writes rings runners positions)
+    → (reads writes : List ℕ) (rings : List RingOf) (runners : List Runner) (positions : List ℕ) → AreParts flat cluster first (HoldsText flat true)
+    (AreFirstRings flat.tables cluster first.plan.bounds.items (length flat.tables.edges)) reads writes rings runners positions
+    → IsClusterOf flat (start_of cluster first 0 reads writes rings runners positions)
 is_made flat cluster first sound laid is law reads writes rings runners positions parts =
-    subst (λ r. IsClusterOf flat (start_of cluster first r writes rings runners positions)) (sym parts.reads_are)
-    (subst (λ w. IsClusterOf flat (start_of cluster first (read_rates (net_of flat.tables first.attrs.rows)) w rings runners positions)) (sym parts.writes_are)
-    (is_cluster flat cluster first sound laid is law rings runners positions parts.rings_are parts.runners_are parts.none_done))
+    subst (λ r. IsClusterOf flat (start_of cluster first 0 r writes rings runners positions)) (sym parts.reads_are)
+    (subst (λ w. IsClusterOf flat (start_of cluster first 0 (read_rates (net_of flat.tables first.attrs.rows)) w rings runners positions)) (sym parts.writes_are)
+    (is_first flat cluster first sound laid is law rings runners positions parts.rings_are parts.runners_are parts.none_done))
 
 -- the rates of a table are in range
 pub first_rates : (flat : Flat) (cluster : ℕ) (first : First) → IsLaid flat → IsTableFirst flat cluster first.attrs.rows first → AreRates flat.tables first.attrs.rows

@@ -39,16 +39,16 @@ use Rattle.tdf_streams.specs.Places.{reader_at, writer_at, writer_of_row}
 use Rattle.tdf_streams.specs.Starts.{held_at_head, initial_of_row}
 use Rattle.tdf_bind_connections.specs.declared.edges.EdgeRow.{EdgeRow}
 
--- a cluster in its first period, with these parts
-abbrev pub start_of : (cluster : ℕ) → First → (reads writes : List ℕ) → List RingOf → List Runner → (positions : List ℕ) → ClusterOf
-start_of cluster first reads writes rings runners positions = record {
+-- a cluster at a place of its first period, with these parts
+abbrev pub start_of : (cluster : ℕ) → First → (place : ℕ) → (reads writes : List ℕ) → List RingOf → List Runner → (positions : List ℕ) → ClusterOf
+start_of cluster first place reads writes rings runners positions = record {
   number = cluster;
   table = first.attrs.rows;
   entries = first.plan.entries.items;
   bounds = first.plan.bounds.items;
   period = first.plan.period;
   known = first.attrs.known;
-  place = 0;
+  place = place;
   crossed = false;
   reads = reads;
   writes = writes;
@@ -125,7 +125,7 @@ module _ (flat : Flat) (cluster : ℕ) (first : First) (sound : IsSoundFlat flat
       go (inl below) = subst (λ n. x.actor < n) long below
       go (inr past) = absurd (let z = get_or_past has.counts x.actor 0 past in let a = active i x at in omega (arith, z, a))
 
-  none_done : (m i : ℕ) → (slice_index (clusters_of flat.tables) m ≡ cluster → ⊥) → done entries i m ≡ 0
+  pub none_done : (m i : ℕ) → (slice_index (clusters_of flat.tables) m ≡ cluster → ⊥) → done entries i m ≡ 0
   unfolding done
   none_done m i apart = none_before (λ (x : Entry). nat_eq x.actor m) entries i
       (λ j x at. ne_eqb x.actor m (λ e. apart (ap (slice_index (clusters_of flat.tables)) (sym e) ∙ own j x at)))
@@ -176,11 +176,8 @@ module _ (flat : Flat) (cluster : ℕ) (first : First) (sound : IsSoundFlat flat
         omega (arith, h, b, w, r);
   }
 
-  module _ (rings : List RingOf) (runners : List Runner) (positions : List ℕ) (rings_are : AreFirstRings flat.tables cluster first.plan.bounds.items (length flat.tables.edges) rings) where
-    abbrev begun : ClusterOf
-    begun = start_of cluster first (read_rates (net_of flat.tables first.attrs.rows)) (write_rates (net_of flat.tables first.attrs.rows)) rings runners positions
-
-    pub is_safe : IsClusterSafe flat.tables begun
+  module _ (place : ℕ) (rings : List RingOf) (runners : List Runner) (positions : List ℕ) where
+    pub is_safe : IsClusterSafe flat.tables (start_of cluster first place (read_rates (net_of flat.tables first.attrs.rows)) (write_rates (net_of flat.tables first.attrs.rows)) rings runners positions)
     is_safe = record {
       inside = inside;
       own = own;
@@ -188,6 +185,10 @@ module _ (flat : Flat) (cluster : ℕ) (first : First) (sound : IsSoundFlat flat
           present_at flat cluster laid.limits period timed entries (record_present flat cluster laid.limits period timed law pace entries planned) i x at (own i x at) e within reader;
       bounded = bounded;
     }
+
+  module _ (rings : List RingOf) (runners : List Runner) (positions : List ℕ) (rings_are : AreFirstRings flat.tables cluster first.plan.bounds.items (length flat.tables.edges) rings) where
+    abbrev begun : ClusterOf
+    begun = start_of cluster first 0 (read_rates (net_of flat.tables first.attrs.rows)) (write_rates (net_of flat.tables first.attrs.rows)) rings runners positions
 
     ring_is : (e : ℕ) (edge : EdgeRow) (at : slice_get flat.tables.edges e ≡ Some edge) → (ring_at rings e).samples ≡ list_of flat.tables cluster edge
     ring_is e edge at = ap (λ (r : RingOf). r.samples) (rings_are.each e edge (slice_get_within flat.tables.edges e edge at) at)

@@ -2,7 +2,7 @@
 
 ghost use Rattle.std.specs.Prelude.{◌≡◌, ◌+◌, ◌<◌, ℕ, IfOk, if◌then◌else◌, length, Some, slice_get};
 ghost use Rattle.tdf_exec.specs.Made.{is_sampler_runner};
-ghost use Rattle.tdf_exec.specs.machine.Starting.{AreFirstRunners, CanBegin, IsBegun, IsFirstRunner, IsOfModule};
+ghost use Rattle.tdf_exec.specs.machine.Starting.{AreFirstRunners, CanBegin, HoldsText, IsBegun, IsFirstRunner, IsOfModule};
 ghost use Rattle.tdf_exec_layout.specs.declared.wiring.ActorWires.{ActorWires as ActorWiresOf};
 
 use crate::runners::{ModuleRunner, Runner, SamplerRunner, SinkRunner};
@@ -14,17 +14,33 @@ use tdf_exec_firing::{Wires, law_begin};
 use tdf_exec_layout::ActorWires;
 use tdf_expr::{Body, Frame, Ports, run_body};
 
-/// A module, whose initialize body has run.
-fn begun(alloc: Global, flat: &Flat, number: usize, wires: Wires) -> Result<ModuleRunner, Memory>
+/// A module; its initialize body has run where `begins` says so.
+fn begun(
+    alloc: Global,
+    flat: &Flat,
+    number: usize,
+    wires: Wires,
+    begins: bool,
+) -> Result<ModuleRunner, Memory>
     requires can { CanBegin flat.now }
     requires module { number < length flat.now.tables.modules }
-    ensures { IfOk result (λ x. IsBegun flat.now number wires x) }
+    ensures { IfOk result (λ x. IsBegun flat.now (HoldsText flat.now begins) number wires x) }
 {
     law_begin();
     let block = flat.tables.modules[number].block;
     let mut frame = Frame::new(alloc, &flat.checked, block)?;
     let mut ports = Ports::new(alloc, &flat.checked, block)?;
     ports.law_fit();
+    let traced = Vec::new(alloc);
+    if !begins {
+        return Ok(ModuleRunner {
+            block,
+            frame,
+            ports,
+            wires,
+            traced,
+        });
+    }
     run_body(
         &flat.checked,
         block,
@@ -37,7 +53,7 @@ fn begun(alloc: Global, flat: &Flat, number: usize, wires: Wires) -> Result<Modu
         frame,
         ports,
         wires,
-        traced: Vec::new(alloc),
+        traced,
     })
 }
 
@@ -48,13 +64,15 @@ fn first_runner(
     number: usize,
     place: u32,
     wires: ActorWires,
+    begins: bool,
 ) -> Result<Runner, Memory>
     requires can { CanBegin flat.now }
     requires module { IsOfModule flat.now number wires }
-    ensures { IfOk result (λ r. IsFirstRunner flat.now number place wires r) }
+    ensures { IfOk result (λ r. IsFirstRunner flat.now (HoldsText flat.now begins) number place
+        wires r) }
 {
     match wires {
-        ActorWires::Module(wires) => Ok(Runner::Module(begun(alloc, flat, number, wires)?)),
+        ActorWires::Module(wires) => Ok(Runner::Module(begun(alloc, flat, number, wires, begins)?)),
         ActorWires::Sampler(edges) => Ok(Runner::Sampler(SamplerRunner { edges, place })),
         ActorWires::Sink(edge) => Ok(Runner::Sink(SinkRunner { edge })),
         ActorWires::Elsewhere => Ok(Runner::Outside),
@@ -83,7 +101,7 @@ fn samplers_with(samplers: u32, runner: &Runner) -> Result<u32, Memory>
     }
 }
 
-/// What is kept for each actor.
+/// What is kept for each actor; `begins` says whether the initialize bodies run.
 ///
 /// # Errors
 /// Out of memory.
@@ -91,18 +109,19 @@ pub(crate) fn first_runners(
     alloc: Global,
     flat: &Flat,
     wires: &mut Vec<ActorWires>,
+    begins: bool,
 ) -> Result<Vec<Runner>, Memory>
     requires can { CanBegin flat.now }
     requires modules { (m : ℕ) (w : ActorWiresOf) → slice_get wires.old.items m ≡ Some w
         → IsOfModule flat.now m w }
     ensures { IfOk result (λ runners. (samplers : ℕ) × AreFirstRunners flat.now
-        (length wires.old.items) wires.old.items wires.new.items samplers runners.items) }
+        (HoldsText flat.now begins) (length wires.old.items) wires.old.items wires.new.items samplers runners.items) }
 {
     let mut runners = Vec::new(alloc);
     let mut samplers = 0;
     for m in 0..wires.len() {
         let row = mem::replace(&mut wires[m], ActorWires::Elsewhere);
-        let runner = first_runner(alloc, flat, m, samplers, row)?;
+        let runner = first_runner(alloc, flat, m, samplers, row, begins)?;
         samplers = samplers_with(samplers, &runner)?;
         runners.push(runner)?;
     }

@@ -1,6 +1,6 @@
 //! A cluster at the start of its first period.
 
-ghost use Rattle.std.specs.Prelude.{◌≤◌, IfOk, length};
+ghost use Rattle.std.specs.Prelude.{◌≤◌, IfOk, length, true};
 ghost use Rattle.tdf_convert.specs.Sampled.{PlansGoByOffset};
 ghost use Rattle.tdf_dynamic_first.specs.First.{IsFirstPlan};
 ghost use Rattle.tdf_dynamic_plans.specs.Rates.{AreRates};
@@ -8,6 +8,8 @@ ghost use Rattle.tdf_dynamic_values.specs.Planned.{IsTableFirst};
 ghost use Rattle.tdf_exec.specs.Made.{IsClusterOf};
 ghost use Rattle.tdf_exec.specs.Starts.{IsAtStart, IsSoundFlat, StandsAtStart};
 ghost use Rattle.tdf_exec.specs.machine.Laid.{AreParts, AreRunnersOf, SoundIsLaid};
+ghost use Rattle.tdf_exec.specs.machine.Starting.{HoldsText};
+ghost use Rattle.tdf_exec_parts.specs.Rings.{AreFirstRings};
 ghost use Rattle.tdf_schedule.specs.Laws.{PlansArePresent};
 
 use crate::asking::Spare;
@@ -47,13 +49,13 @@ pub(crate) fn law_laid()
 /// The parts of a cluster at its start: rates and rings by edge, runners and counts of activations by actor, and room for
 /// the instances of its modules.
 #[derive(Drop)]
-struct Parts {
-    reads: Vec<u32>,
-    writes: Vec<u32>,
-    rings: Vec<Ring>,
-    runners: Vec<Runner>,
-    positions: Vec<u64>,
-    spare: Spare,
+pub(crate) struct Parts {
+    pub(crate) reads: Vec<u32>,
+    pub(crate) writes: Vec<u32>,
+    pub(crate) rings: Vec<Ring>,
+    pub(crate) runners: Vec<Runner>,
+    pub(crate) positions: Vec<u64>,
+    pub(crate) spare: Spare,
 }
 
 /// What is kept for the actors of a cluster.
@@ -65,12 +67,13 @@ fn runners_of(
 ) -> Result<Vec<Runner>, Memory>
     requires sound { IsSoundFlat flat.now }
     requires rates { AreRates flat.now.tables attrs.now.rows }
-    ensures { IfOk result (λ runners. AreRunnersOf flat.now cluster attrs.now.rows runners.items) }
+    ensures { IfOk result (λ runners. AreRunnersOf flat.now (HoldsText flat.now true) cluster
+        attrs.now.rows runners.items) }
 {
     law_laid();
     let mut rows = traced_rows(alloc, flat, attrs)?;
     let mut wires = cluster_wires(alloc, &flat.tables, cluster)?;
-    let mut runners = first_runners(alloc, flat, &mut wires)?;
+    let mut runners = first_runners(alloc, flat, &mut wires, true)?;
     give_all(alloc, &mut rows, &mut runners);
     Ok(runners)
 }
@@ -79,8 +82,10 @@ fn runners_of(
 fn first_parts(alloc: Global, flat: &Flat, cluster: u32, first: &First) -> Result<Parts, Memory>
     requires sound { IsSoundFlat flat.now }
     requires plan { IsTableFirst flat.now cluster first.now.attrs.rows first.now }
-    ensures parts { IfOk result (λ p. AreParts flat.now cluster first.now p.reads.items
-        p.writes.items p.rings.items p.runners.items p.positions.items) }
+    ensures parts { IfOk result (λ p. AreParts flat.now cluster first.now (HoldsText flat.now true)
+        (AreFirstRings flat.now.tables cluster first.now.plan.bounds.items
+        (length flat.now.tables.edges))
+        p.reads.items p.writes.items p.rings.items p.runners.items p.positions.items) }
     ensures room { IfOk result (λ p. length first.now.attrs.rows ≤ p.spare) }
 {
     law_laid();

@@ -9,9 +9,9 @@ use Rattle.tdf_exec.specs.Starts.{BeginWithRates, IsSoundFlat}
 use Rattle.tdf_exec.specs.declared.runners.Runner.{Runner}
 use Rattle.tdf_exec.specs.declared.runners.TracedPort.{TracedPort}
 use Rattle.tdf_exec.specs.machine.Starting.{AreFirstRunners}
-use Rattle.tdf_exec_parts.specs.Rings.{AreFirstRings}
 use Rattle.tdf_exec.specs.machine.Tracing.{AreGivenTraced, AreTracedUpTo}
 use Rattle.tdf_expr.specs.Made.{port_spans_of}
+use Rattle.tdf_expr_state.specs.State.{FrameState}
 use Rattle.tdf_exec_firing.specs.Wires.{AreWired, WiresOf}
 use Rattle.tdf_bind.specs.declared.model.Flat.{Flat}
 use Rattle.tdf_bind_invariants.specs.Formats.{IsOwnPort}
@@ -48,8 +48,8 @@ SoundIsLaid = (flat : Flat) → IsSoundFlat flat → IsLaid flat
 
 -- what is kept for the actors of a cluster: each is begun by what it is told of its edges, and then
 -- given its traced ports
-pub record AreRunnersOf (flat : Flat) (cluster : ℕ) (table : List AttrsOf) (runners : List Runner)
-    : Type 0 where
+pub record AreRunnersOf (flat : Flat) (Holds : ℕ → FrameState → Type 0) (cluster : ℕ)
+    (table : List AttrsOf) (runners : List Runner) : Type 0 where
   pub wires : List ActorWires
   pub left : List ActorWires
   pub samplers : ℕ
@@ -57,16 +57,16 @@ pub record AreRunnersOf (flat : Flat) (cluster : ℕ) (table : List AttrsOf) (ru
   pub rows : List (List TracedPort)
   pub rest : List (List TracedPort)
   pub wires_are : AreClusterWires flat.tables cluster wires
-  pub begun_are : AreFirstRunners flat (length wires) wires left samplers begun
+  pub begun_are : AreFirstRunners flat Holds (length wires) wires left samplers begun
   pub traced_are : AreTracedUpTo flat.tables table (length flat.tables.ports) rows
   pub given : AreGivenTraced (length rows) rows rest begun runners
 
--- the parts of a cluster at its start
-pub record AreParts (flat : Flat) (cluster : ℕ) (first : First) (reads writes : List ℕ)
-    (rings : List RingOf) (runners : List Runner) (positions : List ℕ) : Type 0 where
+-- the parts of a cluster at a start, where its instances and its rings hold what is asked for
+pub record AreParts (flat : Flat) (cluster : ℕ) (first : First) (Holds : ℕ → FrameState → Type 0)
+    (AreFilled : List RingOf → Type 0) (reads writes : List ℕ) (rings : List RingOf)
+    (runners : List Runner) (positions : List ℕ) : Type 0 where
   pub reads_are : reads ≡ read_rates (net_of flat.tables first.attrs.rows)
   pub writes_are : writes ≡ write_rates (net_of flat.tables first.attrs.rows)
-  pub rings_are : AreFirstRings flat.tables cluster first.plan.bounds.items
-      (length flat.tables.edges) rings
-  pub runners_are : AreRunnersOf flat cluster first.attrs.rows runners
+  pub rings_are : AreFilled rings
+  pub runners_are : AreRunnersOf flat Holds cluster first.attrs.rows runners
   pub none_done : positions ≡ replicate (length flat.tables.actors) 0

@@ -1,7 +1,7 @@
 -- The runners of a cluster at its start, by actor.
 -- Source: own.
 use Rattle.std.specs.List.{count_by}
-use Rattle.std.specs.Prelude.{◌≡◌, ℕ, ◌<◌, ◌≤◌, List, length, Some, slice_get, All}
+use Rattle.std.specs.Prelude.{◌≡◌, ℕ, ◌<◌, ◌≤◌, Bool, true, List, length, Some, slice_get, All}
 use Rattle.tdf_exec.specs.Made.{is_sampler_runner, sampler_runners_before}
 use Rattle.tdf_exec.specs.Runners.{ModuleOf}
 use Rattle.tdf_exec.specs.Starts.{BeginWithRates}
@@ -9,6 +9,7 @@ use Rattle.tdf_exec.specs.declared.runners.Runner.{Runner}
 use Rattle.tdf_exec.specs.declared.runners.Runner.TheVariants as runner
 use Rattle.tdf_expr.specs.Checked.{IsChecked, IsCheckedOf}
 use Rattle.tdf_expr.specs.Made.{AreMadeFor, block_count, start_rates}
+use Rattle.tdf_expr_state.specs.State.{FrameState}
 use Rattle.tdf_exec_firing.specs.Firing.{AreZerosBehind}
 use Rattle.tdf_exec_firing.specs.Wires.{WiresOf}
 use Rattle.tdf_bind.specs.declared.model.Flat.{Flat}
@@ -24,15 +25,21 @@ pub record CanBegin (flat : Flat) : Type 0 where
   pub blocks : All (λ row. row.block < block_count flat.checked) flat.tables.modules
   pub begin : BeginWithRates flat.checked
 
--- a module whose initialize body alone has run
-pub record IsBegun (flat : Flat) (m : ℕ) (wires : WiresOf) (x : ModuleOf) : Type 0 where
+-- what the instance of a module holds at the start that the text says: the rates that it starts
+-- with, and, where initialize bodies run, the values after its own
+pub record HoldsText (flat : Flat) (begins : Bool) (m : ℕ) (s : FrameState) : Type 0 where
+  pub rates : s.rates ≡ start_rates flat.checked (block_at flat.tables.modules m)
+  pub cells : begins ≡ true → (model : PureTree) → IsCheckedOf model flat.checked → s.cells
+      ≡ initialized model flat m (start_rates flat.checked (block_at flat.tables.modules m))
+
+-- the instance of a module at a start: it holds what is asked for by its number
+pub record IsBegun (flat : Flat) (Holds : ℕ → FrameState → Type 0) (m : ℕ) (wires : WiresOf)
+    (x : ModuleOf) : Type 0 where
   pub block_is : x.block ≡ block_at flat.tables.modules m
   pub made : AreMadeFor flat.checked x.block x.frame x.ports
-  pub rates : x.frame.state.rates ≡ start_rates flat.checked x.block
   pub wires_are : x.wires ≡ wires
   pub zeros : (reads : List ℕ) → AreZerosBehind x.wires reads x.ports
-  pub cells : (model : PureTree) → IsCheckedOf model flat.checked → x.frame.state.cells
-      ≡ initialized model flat m (start_rates flat.checked x.block)
+  pub held : Holds m x.frame.state
 
 -- only modules of the model are told of wires
 abbrev pub IsOfModule : Flat → ℕ → ActorWires → Type 0
@@ -41,20 +48,22 @@ IsOfModule flat m _ = Unit {0}
 
 -- what is kept for an actor at first, by what it is told of its edges and the number of samplers
 -- before it
-abbrev pub IsFirstRunner : Flat → (m place : ℕ) → ActorWires → Runner → Type 0
-IsFirstRunner flat m place (wires.Module w) (runner.Module x) = IsBegun flat m w x
-IsFirstRunner flat m place (wires.Sampler edges) (runner.Sampler s) =
+abbrev pub IsFirstRunner : Flat → (ℕ → FrameState → Type 0) → (m place : ℕ) → ActorWires → Runner
+    → Type 0
+IsFirstRunner flat Holds m place (wires.Module w) (runner.Module x) = IsBegun flat Holds m w x
+IsFirstRunner flat Holds m place (wires.Sampler edges) (runner.Sampler s) =
     (s.edges ≡ edges.items) × (s.place ≡ place)
-IsFirstRunner flat m place (wires.Sink edge) (runner.Sink k) = k.edge ≡ edge
-IsFirstRunner flat m place wires.Elsewhere runner.Outside = Unit {0}
-IsFirstRunner flat m place _ _ = ⊥
+IsFirstRunner flat Holds m place (wires.Sink edge) (runner.Sink k) = k.edge ≡ edge
+IsFirstRunner flat Holds m place wires.Elsewhere runner.Outside = Unit {0}
+IsFirstRunner flat Holds m place _ _ = ⊥
 
 -- a runner for each of the first n actors; the others are still to be told
-pub record AreFirstRunners (flat : Flat) (n : ℕ) (old new : List ActorWires) (samplers : ℕ)
-    (runners : List Runner) : Type 0 where
+pub record AreFirstRunners (flat : Flat) (Holds : ℕ → FrameState → Type 0) (n : ℕ)
+    (old new : List ActorWires) (samplers : ℕ) (runners : List Runner) : Type 0 where
   pub long : length runners ≡ n
   pub counted : samplers ≡ count_by is_sampler_runner runners
   pub same : length new ≡ length old
   pub left : (m : ℕ) → n ≤ m → slice_get new m ≡ slice_get old m
   pub each : (m : ℕ) (w : ActorWires) (r : Runner) → slice_get old m ≡ Some w
-      → slice_get runners m ≡ Some r → IsFirstRunner flat m (sampler_runners_before runners m) w r
+      → slice_get runners m ≡ Some r
+      → IsFirstRunner flat Holds m (sampler_runners_before runners m) w r

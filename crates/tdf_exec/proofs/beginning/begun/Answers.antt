@@ -1,8 +1,8 @@
-use Rattle.tdf_exec.proofs.Begins.{begun_from}
+use Rattle.tdf_exec.proofs.Begins.{begun_from, made_from}
 use Rattle.tdf_exec.proofs.beginning.begun.Goals as goal
 
 pub returns : goal.returns
-returns c = begun_from _ c.args.flat.now c.flat.view_is c.args.number c.index.result.now c.requires.module c.index.ensures c.requires.can c.args.wires
+returns c = begun_from c.args.begins _ c.args.flat.now c.flat.view_is c.args.number c.index.result.now c.requires.module c.index.ensures c.requires.can c.args.wires
     c.in_ok-frame.frame c.run_body.new.frame c.in_ok-ports.ports c.run_body.new.ports c.in_ok-frame.ensures.start_cells c.in_ok-frame.ensures.start_rates
     (record {
       spans_are = c.in_ok-ports.ensures.spans;
@@ -14,4 +14,19 @@ returns c = begun_from _ c.args.flat.now c.flat.view_is c.args.number c.index.re
       steps = c.in_ok-ports.ensures.steps;
       accepts = c.in_ok-ports.ensures.accepts;
       out_of_range = c.in_ok-ports.ensures.out_of_range;
-    }) c.run_body.ensures.after c.run_body.ensures.frame c.law_begin.ensures c.run_body.ensures.inputs c.new-3.result.items
+    }) c.run_body.ensures.after c.run_body.ensures.frame c.law_begin.ensures c.run_body.ensures.inputs c.new-traced.result.items
+
+pub returns-then-not-begins : goal.returns-then-not-begins
+returns-then-not-begins c = made_from c.args.begins c.if-not-begins.true _ c.args.flat.now c.flat.view_is c.args.number c.index.result.now c.requires.module c.index.ensures c.requires.can
+    c.args.wires c.in_ok-frame.frame c.in_ok-ports.ports c.in_ok-frame.ensures.formats c.in_ok-frame.ensures.rates c.in_ok-frame.ensures.start_rates
+    (record {
+      spans_are = c.in_ok-ports.ensures.spans;
+      fit = c.law_fit.ensures;
+      count = _;
+      samples = c.in_ok-ports.ensures.samples;
+      assigned = c.in_ok-ports.ensures.assigned;
+      notified = c.in_ok-ports.ensures.notified;
+      steps = c.in_ok-ports.ensures.steps;
+      accepts = c.in_ok-ports.ensures.accepts;
+      out_of_range = c.in_ok-ports.ensures.out_of_range;
+    }) c.law_begin.ensures c.new-traced.result.items
