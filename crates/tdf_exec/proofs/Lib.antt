@@ -4,6 +4,7 @@ mod Asks
 mod Begins
 mod Boundaries
 mod Changing
+mod Continued
 mod Counting
 mod Counts
 mod Crosses
@@ -29,6 +30,7 @@ mod Planned
 pub mod Playing
 mod Rates
 mod Restarts
+mod Resumed
 mod Rooms
 mod Rows
 mod Runs

@@ -4,6 +4,7 @@ pub mod Gained
 pub mod Laws
 pub mod Made
 pub mod Played
+pub mod Restored
 pub mod Runners
 pub mod Saved
 pub mod Starts

@@ -3,6 +3,7 @@ pub mod Fired
 pub mod Laid
 pub mod Moving
 pub mod Restarting
+pub mod Resuming
 pub mod Starting
 pub mod Steps
 pub mod Telling

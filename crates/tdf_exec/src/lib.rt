@@ -8,6 +8,7 @@
 //! - `asking`: the modules say which changes of attributes they ask for.
 //! - `moving`: the instances of modules go into a list and come back.
 //! - `restarting`: the next period with a new plan.
+//! - `resuming`: a cluster that goes on from a state.
 //! - `tracing`: the ports of modules whose signals are traced.
 //! - `telling`: what a cluster in progress tells of itself.
 //! - `saving`: what a cluster in progress holds, for a snapshot.
@@ -21,6 +22,7 @@ mod crossing;
 mod laws;
 mod moving;
 mod restarting;
+mod resuming;
 mod runners;
 mod saving;
 mod starting;

@@ -6,4 +6,5 @@ mod Onward
 mod Places
 mod Rows
 mod Said
+mod StateRings
 mod Stated

@@ -1,3 +1,4 @@
+pub mod Restored
 pub mod Rings
 pub mod States
 pub mod machine

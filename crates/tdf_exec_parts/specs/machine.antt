@@ -1,2 +1,3 @@
 -- How the code of this crate works.
+pub mod Restoring
 pub mod Traffic

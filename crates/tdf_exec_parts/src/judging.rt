@@ -31,7 +31,7 @@ use tdf_saved::{ClusterState, ModuleState, StateErr};
 use tdf_schedule::law_plans;
 
 /// Whether an edge is of the cluster.
-fn is_own(tables: &FlatTables, cluster: u32, number: usize) -> bool
+pub(crate) fn is_own(tables: &FlatTables, cluster: u32, number: usize) -> bool
     requires edge { number < length tables.now.edges }
     requires writers { All (λ edge. edge.writer < length tables.now.actors) tables.now.edges }
     ensures { result ≡ is_own tables.now cluster number }

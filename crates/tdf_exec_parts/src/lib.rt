@@ -5,6 +5,7 @@
 //! - `fitting`: whether the modules and the time of a state fit.
 //! - `holding`: whether the samples of a state are those of its edges.
 //! - `judging`: whether a cluster can go on from a state, and under which table and plan.
+//! - `restoring`: the rings of a state, and the values of an instance.
 #![tactic(auto)]
 
 mod filling;
@@ -12,7 +13,9 @@ mod fitting;
 mod holding;
 mod judging;
 mod rating;
+mod restoring;
 
 pub use filling::{first_rings, room_for};
 pub use judging::{Standing, standing_of};
 pub use rating::{read_rates, write_rates};
+pub use restoring::{set_values, state_rings};

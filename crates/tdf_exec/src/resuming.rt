@@ -1,0 +1,186 @@
+//! A cluster that goes on from a state, inside its period.
+
+ghost use Rattle.std.specs.Prelude.{◌≡◌, ◌⊎◌, ◌≤◌, Contains, Err, IfOk, length};
+ghost use Rattle.tdf_dynamic_first.specs.Text.{first_table};
+ghost use Rattle.tdf_dynamic_plans.specs.Attributes.{clusters_of};
+ghost use Rattle.tdf_dynamic_values.specs.Planned.{IsTableFirst};
+ghost use Rattle.tdf_dynamic_values.specs.States.{IsTableOfStates};
+ghost use Rattle.tdf_exec.specs.Made.{IsClusterOf};
+ghost use Rattle.tdf_exec.specs.Restored.{IsAtState, StandsAtState};
+ghost use Rattle.tdf_exec.specs.Starts.{IsSoundFlat};
+ghost use Rattle.tdf_exec.specs.machine.Laid.{AreParts, AreRunnersOf};
+ghost use Rattle.tdf_exec.specs.machine.Resuming.{AreRestored, CanRestore, CanTake, FitInstance, HoldsState, IsInstance, module_with_values, with_values};
+ghost use Rattle.tdf_exec_parts.specs.Restored.{AreStateRings};
+ghost use Rattle.tdf_exec_parts.specs.States.{AreStatesOfRows, HoldEdges, IsStateAt};
+ghost use Rattle.tdf_saved.specs.declared.err.StateErr.TheVariants as why;
+
+use crate::asking::Spare;
+use crate::beginning::first_runners;
+use crate::cluster::Cluster;
+use crate::runners::{ModuleRunner, Runner};
+use crate::starting::{Parts, law_laid};
+use crate::tracing::{give_all, traced_rows};
+use std::alloc::Global;
+use tdf_base::Memory;
+use tdf_bind::Flat;
+use tdf_dynamic_plans::{Attrs, ModuleAttrs};
+use tdf_exec_layout::cluster_wires;
+use tdf_exec_parts::{Standing, read_rates, set_values, standing_of, state_rings, write_rates};
+use tdf_expr::Checked;
+use tdf_saved::{ClusterState, ModuleState, StateErr};
+
+/// The instance of a module gets these rates and values.
+fn restore(checked: &Checked, rates: &[u32], cells: &[i128], instance: &mut ModuleRunner)
+    requires is { IsInstance checked.now instance.old }
+    requires fit { FitInstance checked.now rates.now cells.now instance.old }
+    ensures { instance.new ≡ module_with_values rates.now cells.now instance.old }
+{
+    set_values(checked, instance.block, &mut instance.frame, rates, cells);
+}
+
+/// An actor gets the rates of a row and the values of a state, if it is a module.
+fn restore_runner(checked: &Checked, row: &ModuleAttrs, state: &ModuleState, runner: &mut Runner)
+    requires { CanTake checked.now row.now.rates state.now.cells runner.old }
+    ensures { runner.new ≡ with_values row.now.rates state.now.cells runner.old }
+{
+    match runner {
+        Runner::Module(module) => restore(checked, &row.rates, &state.cells, module),
+        Runner::Sampler(_) => {}
+        Runner::Sink(_) => {}
+        Runner::Outside => {}
+    }
+}
+
+/// All modules of a table get the rates of their rows and the values of their states.
+fn restore_all(
+    checked: &Checked,
+    table: &[ModuleAttrs],
+    modules: &[ModuleState],
+    runners: &mut Vec<Runner>,
+)
+    requires { CanRestore checked.now table.now modules.now runners.old.items }
+    ensures { AreRestored checked.now table.now modules.now (length table.now)
+        runners.old.items runners.new.items }
+{
+    for i in 0..table.len() {
+        let row = &table[i];
+        restore_runner(checked, row, &modules[i], &mut runners[row.number as usize]);
+    }
+}
+
+/// What is kept for the actors of a cluster, by a state of its modules; no body runs.
+fn restored_runners(
+    alloc: Global,
+    flat: &Flat,
+    cluster: u32,
+    attrs: &Attrs,
+    modules: &[ModuleState],
+) -> Result<Vec<Runner>, Memory>
+    requires sound { IsSoundFlat flat.now }
+    requires states { AreStatesOfRows flat.now (first_table flat.now cluster) modules.now }
+    requires table { IsTableOfStates flat.now cluster modules.now attrs.now.rows }
+    ensures { IfOk result (λ runners. AreRunnersOf flat.now (HoldsState attrs.now.rows modules.now)
+        cluster attrs.now.rows runners.items) }
+{
+    law_laid();
+    let mut rows = traced_rows(alloc, flat, attrs)?;
+    let mut wires = cluster_wires(alloc, &flat.tables, cluster)?;
+    let mut runners = first_runners(alloc, flat, &mut wires, false)?;
+    restore_all(&flat.checked, &attrs.rows, modules, &mut runners);
+    give_all(alloc, &mut rows, &mut runners);
+    Ok(runners)
+}
+
+/// The parts of a cluster by a state, under the table that it says and its plan.
+fn state_parts(
+    alloc: Global,
+    flat: &Flat,
+    cluster: u32,
+    standing: &Standing,
+    state: &ClusterState,
+) -> Result<Parts, Memory>
+    requires sound { IsSoundFlat flat.now }
+    requires plan { IsTableFirst flat.now cluster standing.now.first.attrs.rows
+        standing.now.first }
+    requires states { AreStatesOfRows flat.now (first_table flat.now cluster) state.now.modules }
+    requires table { IsTableOfStates flat.now cluster state.now.modules
+        standing.now.first.attrs.rows }
+    requires place { standing.now.place ≤ length standing.now.first.plan.entries.items }
+    requires edges { HoldEdges flat.now.tables cluster standing.now.first.attrs.rows
+        standing.now.first.plan.entries.items standing.now.place state.now.edges }
+    ensures parts { IfOk result (λ p. AreParts flat.now cluster standing.now.first
+        (HoldsState standing.now.first.attrs.rows state.now.modules)
+        (AreStateRings flat.now.tables cluster standing.now.first.plan.bounds.items
+        state.now.edges (length flat.now.tables.edges))
+        p.reads.items p.writes.items p.rings.items p.runners.items p.positions.items) }
+    ensures room { IfOk result (λ p. length standing.now.first.attrs.rows ≤ p.spare) }
+{
+    law_laid();
+    let first = &standing.first;
+    let reads = read_rates(alloc, flat, &first.attrs)?;
+    let writes = write_rates(alloc, flat, &first.attrs)?;
+    let rings = state_rings(
+        alloc,
+        &flat.tables,
+        cluster,
+        &first.plan.bounds,
+        &state.edges,
+    )?;
+    let runners = restored_runners(alloc, flat, cluster, &first.attrs, &state.modules)?;
+    let positions = vec![in alloc; 0; flat.tables.actors.len()]?;
+    let spare = Spare::new(alloc, first.attrs.rows.len())?;
+    Ok(Parts {
+        reads,
+        writes,
+        rings,
+        runners,
+        positions,
+        spare,
+    })
+}
+
+impl Cluster {
+    /// A cluster inside the period that a state says, at a time: the entries of its plan before that time are done, and
+    /// its edges and modules hold what the state says. No body runs.
+    ///
+    /// # Errors
+    /// `Bad` exactly where the cluster can't go on from this state at this time, or out of memory.
+    pub fn from_state(
+        alloc: Global,
+        flat: &Flat,
+        cluster: u32,
+        state: &ClusterState,
+        time: u64,
+    ) -> Result<Cluster, StateErr>
+        requires sound { IsSoundFlat flat.now }
+        requires has { Contains (clusters_of flat.now.tables) cluster }
+        ensures of { IfOk result (λ c. IsClusterOf flat.now c) }
+        ensures at { IfOk result (λ c. IsAtState flat.now cluster state.now time c) }
+        ensures stands { IfOk result (λ c. StandsAtState flat.now state.now c) }
+        ensures bad { result ≡ Err why.Bad → IsStateAt flat.now cluster state.now time → ⊥ }
+        ensures bad_always { (IsStateAt flat.now cluster state.now time → ⊥)
+            → (result ≡ Err why.Bad) ⊎ (result ≡ Err why.Memory) }
+    {
+        law_laid();
+        let standing = standing_of(alloc, flat, cluster, state, time)?;
+        match state_parts(alloc, flat, cluster, &standing, state) {
+            Ok(parts) => Ok(Cluster {
+                number: cluster,
+                attrs: standing.first.attrs,
+                plan: standing.first.plan,
+                place: standing.place,
+                crossed: false,
+                reads: parts.reads,
+                writes: parts.writes,
+                rings: parts.rings,
+                runners: parts.runners,
+                positions: parts.positions,
+                spare: parts.spare,
+            }),
+            Err(failed) => {
+                drop(standing);
+                Err(StateErr::from(failed))
+            }
+        }
+    }
+}
