@@ -16,3 +16,4 @@ pub use Rattle.tdf_sim_history.proofs.Known.{done_before, whole_sum}
 pub use Rattle.tdf_sim_history.proofs.Positions.{column_push, column_total, held_long, some_periods}
 pub use Rattle.tdf_sim_history.proofs.Staying.{marks_are_settled}
 pub use Rattle.tdf_sim_history.proofs.Records.{last_record, later_at, past_of, record_at, records_push}
+pub use Rattle.tdf_sim_history.proofs.Stamps.{AreRising, first_time, stamps_chain, stamps_early, stamps_late}

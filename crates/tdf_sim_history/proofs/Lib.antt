@@ -9,6 +9,7 @@ pub mod Leading
 mod Once
 pub mod Positions
 mod Records
+pub mod Stamps
 pub mod Staying
 mod Tables
 mod Texts
