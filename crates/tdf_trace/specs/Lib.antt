@@ -1,5 +1,6 @@
 pub mod Calls
 pub mod Columns
+pub mod Missing
 pub mod Stands
 pub mod Starts
 pub mod States

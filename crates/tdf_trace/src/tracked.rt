@@ -1,5 +1,5 @@
 //! A traced signal: its samples on their way to the cells of its columns.
-ghost use Rattle.std.specs.Prelude.{◌≡◌, ◌≤◌, ◌<◌, ◌+◌, ◌*◌, ◌^◌, ◌++◌, [], ◌∷◌, length, map, ℕ, IfOk, OnOk};
+ghost use Rattle.std.specs.Prelude.{◌≡◌, ◌≤◌, ◌<◌, ◌+◌, ◌*◌, ◌^◌, ◌++◌, [], ◌∷◌, length, ℕ, IfOk, OnOk};
 ghost use Rattle.tdf_trace.specs.Tracked.{label};
 ghost use Rattle.tdf_trace.specs.machine.Going.{IsNewFor};
 ghost use Rattle.tdf_trace.specs.machine.Showing.{AreColumns, CatchesUp, HaveFewPlaces, NotesOne, TakesCells, TakesOne, TakesOnePeriod};
@@ -14,7 +14,6 @@ use std::marker::Model;
 use tdf_base::Memory;
 use tdf_fixed::Raw;
 use tdf_trace_rows::Stamps;
-use tdf_trace_states::numbers_of;
 
 /// A signal that is traced: the columns that show it, the start of the period that has begun last, the stamps of its positions
 /// without a time, and its samples without a position.
@@ -23,8 +22,8 @@ pub(crate) struct Tracked {
     signal: u32,
     columns: Vec<u32>,
     since: u64,
-    stamps: Stamps,
-    waiting: VecDeque<Raw>,
+    pub(crate) stamps: Stamps,
+    pub(crate) waiting: VecDeque<Raw>,
 }
 
 impl Model for Tracked {
@@ -173,13 +172,6 @@ impl Tracked {
         self.since = since;
         self.stamps = stamps;
         self.waiting = later;
-    }
-
-    /// The numbers of its samples that wait.
-    pub(crate) fn later(&self, alloc: Global) -> Result<Vec<i128>, Memory>
-        ensures { IfOk result (λ nums. nums.items ≡ map (λ v. v.num) self.now.waiting) }
-    {
-        numbers_of(alloc, &self.waiting)
     }
 
     /// The positions below an end that have a time and no sample are noted as unknown.

@@ -2,6 +2,7 @@
 ghost use Rattle.std.specs.Prelude.{◌≡◌, ◌≤◌, ◌<◌, ◌+◌, ◌*◌, ◌^◌, [], ◌∷◌, false, length, All, IfOk, OnOk};
 ghost use Rattle.tdf_base.specs.Limits.{most_traces};
 ghost use Rattle.tdf_trace.specs.Calls.{AreBelow, HasNoneLeft, HasStarted, IsFresh, NotesRest, TakesPeriod, TakesSamples};
+ghost use Rattle.tdf_trace.specs.Missing.{IsFirstMissing};
 ghost use Rattle.tdf_trace.specs.Starts.{IsLaterOf, IsResumed, TakesStart};
 ghost use Rattle.tdf_trace.specs.Tracked.{AreLater, AreSince, labels, sinces};
 ghost use Rattle.tdf_trace.specs.machine.Finding.{HasNone, IsPlaceOf, found};
@@ -18,6 +19,7 @@ use tdf_bind_connections::TraceRow;
 use tdf_convert::Traced;
 use tdf_fixed::Raw;
 use tdf_trace_rows::Stamps;
+use tdf_trace_states::numbers_of;
 
 /// The traced signals of samples of a trace with `width` columns, found by their numbers.
 #[derive(Drop)]
@@ -256,8 +258,25 @@ impl Tracking {
     {
         match self.place_of(signal) {
             None => Ok(Vec::new(alloc)),
-            Some(place) => self.list[place].later(alloc),
+            Some(place) => {
+                let tracked = &self.list[place];
+                numbers_of(alloc, &tracked.waiting)
+            }
         }
+    }
+
+    /// The least time, below a limit, of a position that has no sample; the limit where there is none.
+    pub fn first_missing(&self, limit: u64) -> u64
+        ensures { IsFirstMissing self.now.list (length self.now.list) limit result }
+    {
+        let mut least = limit;
+        for i in 0..self.list.len() {
+            let tracked = &self.list[i];
+            if tracked.stamps.left > 0 && tracked.stamps.time < least {
+                least = tracked.stamps.time;
+            }
+        }
+        least
     }
 
     /// Notes the positions below an end that have no sample as unknown.
