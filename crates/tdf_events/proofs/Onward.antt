@@ -127,7 +127,7 @@ goes_on flat time s old new fits first on =
     let values : new.values ≡ goal.values = values_are (signal_formats flat) s.values new.values (fits.values.long ∙ sym formats) on.values in
     let frames : map seen new.frames ≡ goal.frames = frames_are flat.checked flat.tables.blocks s.blocks old.frames new.frames fits.blocks.long (ap (λ (x : SideOf). x.frames) first) on.frames in
     let notices : new.notices ≡ goal.notices = on.notices ∙ ap (λ (x : SideOf). record x.notices { times = with_pending s.pending x.notices.times }) first
-        ∙ ap (λ l. record goal.notices { times = l }) (times_are (length flat.tables.events) time s.pending fits.pending) in
+    ∙ ap (λ l. record goal.notices { times = l }) (times_are (length flat.tables.events) time s.pending fits.pending) in
     let triggered : new.triggered.flags ≡ goal.triggered = triggers time flat.tables.processes old.triggered.flags new.triggered.flags on.triggered (ap (λ (x : SideOf). x.triggered) first) in
     let waiting : new.waiting ≡ goal.waiting = ap (λ (k : KernelOf). k.waiting) on.rest ∙ ap (λ (x : SideOf). x.waiting) first in
     ap (λ x. with x (map seen new.frames) new.notices new.triggered.flags new.waiting) values

@@ -114,7 +114,7 @@ state_kept flat time s is =
       low = λ i p at. omega arith;
     } in
     let pending : notifications list ≡ s.pending = ap (told_from (pending_time list) 0) long ∙ told_same (pending_time list) times n 0 (λ k less. inside_at n s.pending k (omega (arith, less)))
-        ∙ told n time times n 0 s.pending (omega arith) is.pending are in
+    ∙ told n time times n 0 s.pending (omega arith) is.pending are in
     ap (λ x. saved x (kernel_state_of (resumed_side flat time s)).blocks (notifications list)) (values_kept (signal_formats flat) s.values (is.values.long ∙ length-map (signal_formats flat) shape_written))
     ∙ ap (λ x. saved s.values x (notifications list)) (cells_kept flat.checked flat.tables.blocks s.blocks is.blocks.long)
     ∙ ap (λ x. saved s.values s.blocks x) pending
