@@ -83,7 +83,7 @@ total_append [] ys = omega arith
 total_append (x ∷ xs) ys = let r = total_append xs ys in omega (arith, r)
 
 -- samples at their times have one position each
-stamps_total : (stamps : List Stamp) (end : ℕ) → count_of_spans (spans_to stamps end) ≡ length stamps
+pub stamps_total : (stamps : List Stamp) (end : ℕ) → count_of_spans (spans_to stamps end) ≡ length stamps
 unfolding count_of_spans spans_to
 stamps_total [] end = refl
 stamps_total (x ∷ []) end = refl

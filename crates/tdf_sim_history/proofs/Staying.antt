@@ -9,7 +9,7 @@ use Rattle.tdf_bind.specs.declared.model.Flat.{Flat}
 use Rattle.tdf_streams.proofs.Api.{get_inside, is_wired}
 use Rattle.tdf_graph.specs.Clusters.{AreClusters}
 use Rattle.tdf_graph.specs.declared.actors.Edge.{Edge}
-use Rattle.tdf_sim_history.specs.Cells.{cell_by_driver, driven_cell, driver_of_row, event_cell, port_cell, run_cells, signal_cell, trace_cell, world_of}
+use Rattle.tdf_sim_history.specs.Cells.{cell_by_driver, driven_cell, driver_of_row, event_column_cell, port_cell, run_cells, signal_cell, trace_cell, world_of}
 use Rattle.tdf_sim_history.specs.Columns.{ColumnStart, start_of}
 use Rattle.tdf_sim_history.specs.Instant.{engine}
 use Rattle.tdf_sim_history.specs.World.{ClusterAt, Rules, World}
@@ -97,7 +97,7 @@ module _ {K : Type 0} (model : PureTree) (flat : Flat) (rules : Rules K)
   trace_stays : (time : ℕ) → time < mark → (column : ℕ) (o : Option TraceRow) → slice_get flat.tables.traces column ≡ o
       → trace_cell model flat rules start now time (start_of start.shown column) o ≡ trace_cell model flat rules start end time (start_of start.shown column) o
   trace_stays time below column None there = refl
-  trace_stays time below column (Some row) there = either row.event (event_cell model flat rules start row.signal time) _ _ (λ plain.
+  trace_stays time below column (Some row) there = either row.event (event_column_cell model flat rules start (start_of start.shown column) row.signal time) _ _ (λ plain.
       ap (λ v. signal_cell model flat (start_of start.shown column) time (world_of v).clusters row.signal) on
       ∙ signal_cell_stays model flat limits start.shown w e steady (go_on model flat rules start w now on end e low on_end) mark time below settled column row there plain
       ∙ sym (ap (λ v. signal_cell model flat (start_of start.shown column) time (world_of v).clusters row.signal) on_end))

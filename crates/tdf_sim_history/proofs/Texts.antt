@@ -11,12 +11,12 @@ use Rattle.tdf_bind.specs.declared.model.Flat.{Flat}
 use Rattle.tdf_sim_history.proofs.Told.{history_told}
 use Rattle.tdf_sim_history.proofs.Twice.{next_is}
 use Rattle.tdf_sim_history.proofs.Once.{one_history}
-use Rattle.tdf_sim_history.specs.Cells.{cell_by_driver, changed_cell, driven_cell, driver_of_row, port_cell, run_cells, signal_cell, trace_cell, value_before, world_before, world_of}
+use Rattle.tdf_sim_history.specs.Cells.{cell_by_driver, cell_or, changed_cell, driven_cell, driver_of_row, port_cell, run_cells, signal_cell, trace_cell, value_before, world_before, world_of}
 use Rattle.tdf_sim_history.specs.Instant.{RunFault, engine, instant, is_cluster_due, is_due}
 use Rattle.tdf_sim_history.specs.Answers.{AreAnswers}
 use Rattle.tdf_sim_history.specs.Telling.{AreTold, state_as, told_more, untold, world_told, world_untold}
 use Rattle.tdf_sim_history.specs.Texts.{closing_text, end_of, first_plans, left_by, new_plans, notes_in, notes_to, plan_note, run_notes, run_trace}
-use Rattle.tdf_sim_history.specs.Columns.{ColumnStart, start_of}
+use Rattle.tdf_sim_history.specs.Columns.{ColumnStart, stamp_at, start_of}
 use Rattle.tdf_sim_history.specs.World.{Change, ClusterAt, Rules, World}
 use Rattle.tdf_sim_history.specs.History.{Engine, Fault, Going, On, Past, Spent, HistoryState, Step, Stopped, after, end_time, history, state_of}
 use Rattle.tdf_trace_rows.proofs.Api.{text_same}
@@ -184,7 +184,7 @@ module _ {K : Type 0} where
         cell_same end time within low s (Some row) =
             let now : time ≤ stop = omega (arith, within, low) in
             let next : time + 1 ≤ stop = omega (arith, within, low) in
-            λ i. if row.event then changed_cell (value_same row.signal time now i) (value_same row.signal (time + 1) next i)
+            λ i. if row.event then cell_or (stamp_at s.stamps time) (changed_cell (value_same row.signal time now i) (value_same row.signal (time + 1) next i))
             else signal_same (world_before model flat rules one end) (world_before model flat rules other end) (worlds_same end within) s time row.signal i
 
         pub cells_same : (end : ℕ) → end ≤ stop → Agree (run_cells model flat rules one end) (run_cells model flat rules other end) end

@@ -10,7 +10,7 @@ use Rattle.tdf_streams.specs.Grounds.{firings}
 use Rattle.tdf_streams.specs.Net.{Past}
 use Rattle.tdf_streams.specs.Streams.{known}
 use Rattle.tdf_sim_history.specs.Instant.{RunFault, acts_now, engine, periods_of, run_in}
-use Rattle.tdf_sim_history.specs.Columns.{ColumnStart, held_by, span_after, spans_to, start_of}
+use Rattle.tdf_sim_history.specs.Columns.{ColumnStart, held_by, span_after, spans_to, stamp_at, start_of}
 use Rattle.tdf_sim_history.specs.World.{ClusterAt, Rules, World}
 use Rattle.tdf_sim_history.specs.History.{HistoryState, On, Stopped, Spent, history}
 use Rattle.tdf_trace_rows.specs.Positions.{Span, position_at, span_of}
@@ -97,6 +97,11 @@ is_same_value a b = int_eq a.num b.num && nat_eq a.frac b.frac
 abbrev pub changed_cell : Raw → Raw → Option (Option Raw)
 changed_cell before after = if is_same_value before after then None else Some (Some after)
 
+-- and a column of it where its start has a sample
+abbrev pub cell_or : Option Raw → Option (Option Raw) → Option (Option Raw)
+cell_or None cell = cell
+cell_or (Some value) cell = Some (Some value)
+
 module _ {K : Type 0} where
   -- what there is in a state of the history
   abbrev pub world_of : HistoryState (World K) RunFault → World K
@@ -120,11 +125,17 @@ module _ {K : Type 0} where
       (value_before model flat rules start signal time)
       (value_before model flat rules start signal (time + 1))
 
+  -- in a column with such a start
+  abbrev pub event_column_cell : PureTree → Flat → Rules K → World K → ColumnStart
+      → (signal time : ℕ) → Option (Option Raw)
+  event_column_cell model flat rules start s signal time =
+      cell_or (stamp_at s.stamps time) (event_cell model flat rules start signal time)
+
   abbrev pub trace_cell : PureTree → Flat → Rules K → World K → (end time : ℕ) → ColumnStart
       → Option TraceRow → Option (Option Raw)
   trace_cell model flat rules start end time s None = None
   trace_cell model flat rules start end time s (Some row) = if row.event
-      then event_cell model flat rules start row.signal time
+      then event_column_cell model flat rules start s row.signal time
       else signal_cell model flat s time (world_before model flat rules start end).clusters
       row.signal
 

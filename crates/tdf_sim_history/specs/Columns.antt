@@ -1,7 +1,7 @@
 -- What the columns of a trace show from a start on: samples that stand at their times, and then the
 -- positions of periods, where the start may lie inside the first.
 -- Source: own.
-use Rattle.std.specs.Prelude.{ℕ, ◌+◌, ◌-◌, ◌*◌, Option, None, List, [], ◌∷◌, ◌++◌, map, slice_index_or}
+use Rattle.std.specs.Prelude.{ℕ, ◌+◌, ◌-◌, ◌*◌, Option, None, Some, if◌then◌else◌, List, [], ◌∷◌, ◌++◌, map, nat_eq, slice_index_or}
 use Rattle.tdf_fixed.specs.declared.raw.Raw.{Raw}
 use Rattle.tdf_trace_rows.specs.Positions.{Span, span_of}
 
@@ -29,6 +29,11 @@ start_of shown column = slice_index_or shown column no_start
 -- the samples that a start holds
 unfoldable pub held_by : ColumnStart → List Raw
 held_by s = map (λ (x : Stamp). x.value) s.stamps ++ s.ahead
+
+-- the one that stands at a time, where there is one
+abbrev pub stamp_at : List Stamp → (time : ℕ) → Option Raw
+stamp_at [] time = None
+stamp_at (x ∷ xs) time = if nat_eq x.time time then Some x.value else stamp_at xs time
 
 -- the spans of samples that stand at their times, each up to the next, the last up to an end
 unfoldable pub spans_to : List Stamp → (end : ℕ) → List Span

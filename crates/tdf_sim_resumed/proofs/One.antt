@@ -20,11 +20,13 @@ use Rattle.tdf_graph.specs.declared.actors.Actor.TheVariants as actor
 use Rattle.tdf_lang_tree.specs.Pure.{PureTree}
 use Rattle.tdf_saved.specs.State.{ClusterStateOf, ColumnStateOf, KernelStateOf, ModuleStateOf, SnapshotOf}
 use Rattle.tdf_saved.specs.declared.state.Stamp.{Stamp as SavedStamp}
+use Rattle.tdf_sim_history.specs.Cells.{run_cells}
 use Rattle.tdf_sim_history.specs.Instant.{run_in}
+use Rattle.tdf_sim_history.specs.Rules.{rules_of}
 use Rattle.tdf_sim_history.specs.World.{ClusterAt, World}
 use Rattle.tdf_sim_resumed.proofs.Members.{each_at}
 use Rattle.tdf_sim_resumed.specs.Laws.{SnapshotIsOne}
-use Rattle.tdf_sim_resumed.specs.Snapshot.{AreSavedColumns, IsRowsFrom, IsSavedCluster, IsSavedColumn, cells_from_start}
+use Rattle.tdf_sim_resumed.specs.Snapshot.{AreSavedColumns, IsRowsFrom, IsSavedCluster, IsSavedColumn}
 use Rattle.tdf_streams.proofs.Api.{get_inside, get_low, get_made_at, is_wired, known_more, none_some, place_kept, some_same, state_more}
 use Rattle.tdf_streams.specs.Cluster.{cluster_net, is_outside_cluster, is_sampler_kind}
 use Rattle.tdf_streams.specs.Net.{Net, Period, Run, count, taken, written}
@@ -175,9 +177,9 @@ columns_same : (model : PureTree) (flat : Flat) (start w : World SideOf) (time :
 columns_same model flat start w time one other a b = same_items one other (a.same ∙ sym b.same) (λ n x y x_at y_at. (
     let inside : n < length flat.tables.traces = (let i = slice_get_within one n x x_at in let l = a.same in omega (arith, i, l)) in
     let row = get_inside flat.tables.traces n inside in
-    let rows = rows_same (cells_from_start model flat start time) time a.rows b.rows a.rows_are b.rows_are in
-    column_same model flat start w (cells_from_start model flat start time) b.rows time n row.0 x y
-    (subst (λ k. IsSavedColumn model flat start w (cells_from_start model flat start time) k time n row.0 x) rows (a.each n row.0 x row.1 x_at)) (b.each n row.0 y row.1 y_at)))
+    let rows = rows_same (run_cells model flat (rules_of model flat) start time) time a.rows b.rows a.rows_are b.rows_are in
+    column_same model flat start w (run_cells model flat (rules_of model flat) start time) b.rows time n row.0 x y
+    (subst (λ k. IsSavedColumn model flat start w (run_cells model flat (rules_of model flat) start time) k time n row.0 x) rows (a.each n row.0 x row.1 x_at)) (b.each n row.0 y row.1 y_at)))
 
 -- ---- all together
 

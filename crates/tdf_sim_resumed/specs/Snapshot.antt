@@ -1,7 +1,7 @@
 -- Which snapshot the world of a history has at a time.
 -- Source: own.
 use Rattle.std.specs.List.{flat_map, range_with_len}
-use Rattle.std.specs.Prelude.{◌≡◌, ◌≢◌, ◌⊎◌, ◌<◌, ◌≤◌, ◌+◌, ◌-◌, ℕ, ℤ, Bool, false, List, [], ◌∷◌, None, Option, Some, if◌then◌else◌, length, map, nat_eq, option_map, slice_get, slice_index}
+use Rattle.std.specs.Prelude.{◌≡◌, ◌≢◌, ◌⊎◌, ◌<◌, ◌≤◌, ◌+◌, ◌-◌, ℕ, ℤ, Bool, List, [], ◌∷◌, None, Option, Some, length, map, option_map, slice_get, slice_index}
 use Rattle.tdf_bind.specs.declared.model.Flat.{Flat}
 use Rattle.tdf_bind_connections.specs.declared.traces.TraceRow.{TraceRow}
 use Rattle.tdf_dynamic_plans.specs.Attributes.{clusters_of}
@@ -13,7 +13,7 @@ use Rattle.tdf_lang_tree.specs.Pure.{PureTree}
 use Rattle.tdf_saved.specs.State.{ClusterStateOf, ColumnStateOf, KernelStateOf, SnapshotOf}
 use Rattle.tdf_saved.specs.declared.state.Stamp.{Stamp as SavedStamp}
 use Rattle.tdf_sim_history.specs.Cells.{column_spans, driver_of_row, run_cells, sample_at, samples_done}
-use Rattle.tdf_sim_history.specs.Columns.{ColumnStart, Stamp, start_of}
+use Rattle.tdf_sim_history.specs.Columns.{ColumnStart, start_of}
 use Rattle.tdf_sim_history.specs.History.{On}
 use Rattle.tdf_sim_history.specs.Instant.{acts_now, periods_of, run_in}
 use Rattle.tdf_sim_history.specs.Rules.{rules_of}
@@ -53,29 +53,6 @@ abbrev pub IsSavedSide : SideOf → KernelStateOf → Type 0
 IsSavedSide side s = s ≡ kernel_state_of side
 
 -- ---- what the trace shows
-
--- the value that a start gives a column at a time, where it gives one
-abbrev pub stamp_at : List Stamp → (time : ℕ) → Option Raw
-stamp_at [] time = None
-stamp_at (x ∷ xs) time = if nat_eq x.time time then Some x.value else stamp_at xs time
-
--- an event column shows what its start gives it, and then what the history changes
-abbrev pub cell_or : Option Raw → Option (Option Raw) → Option (Option Raw)
-cell_or None cell = cell
-cell_or (Some value) cell = Some (Some value)
-
-abbrev pub is_event_row : Option TraceRow → Bool
-is_event_row None = false
-is_event_row (Some row) = row.event
-
-abbrev pub cells_from_start : PureTree → Flat → World SideOf → (end : ℕ) → Cells
-cells_from_start model flat start end =
-    record (run_cells model flat (rules_of model flat) start end) {
-      at = λ column time. if is_event_row (slice_get flat.tables.traces column)
-          then cell_or (stamp_at (start_of start.shown column).stamps time)
-          ((run_cells model flat (rules_of model flat) start end).at column time)
-          else (run_cells model flat (rules_of model flat) start end).at column time;
-    }
 
 -- the least time below another at which a column has a position whose sample isn't known; else that
 -- other time
@@ -132,11 +109,12 @@ pub record IsSavedColumn (model : PureTree) (flat : Flat) (start w : World SideO
 pub record AreSavedColumns (model : PureTree) (flat : Flat) (start w : World SideOf) (time : ℕ)
     (columns : List ColumnStateOf) : Type 0 where
   pub rows : ℕ
-  pub rows_are : IsRowsFrom (cells_from_start model flat start time) time rows
+  pub rows_are : IsRowsFrom (run_cells model flat (rules_of model flat) start time) time rows
   pub same : length columns ≡ length flat.tables.traces
   pub each : (n : ℕ) (row : TraceRow) (s : ColumnStateOf)
       → slice_get flat.tables.traces n ≡ Some row → slice_get columns n ≡ Some s
-      → IsSavedColumn model flat start w (cells_from_start model flat start time) rows time n row s
+      → IsSavedColumn model flat start w (run_cells model flat (rules_of model flat) start time)
+      rows time n row s
 
 -- ---- all together
 

@@ -5,7 +5,8 @@ use Rattle.std.specs.List.{enumerate_from}
 use Rattle.std.specs.Prelude.{slice_index_or}
 use Rattle.tdf_fixed.specs.declared.raw.Raw.{Raw}
 use Rattle.tdf_bind.specs.declared.model.Flat.{Flat}
-use Rattle.tdf_sim_history.specs.Cells.{changed_cell, event_cell, world_of}
+use Rattle.tdf_sim_history.specs.Cells.{cell_or, changed_cell, event_cell, world_of}
+use Rattle.tdf_sim_history.specs.Columns.{ColumnStart, stamp_at, start_of}
 use Rattle.tdf_sim_history.specs.Instant.{RunFault, engine}
 use Rattle.tdf_sim_history.specs.World.{Change, ClusterAt, World}
 use Rattle.tdf_sim_history.specs.History.{On, Spent, HistoryState, Stopped, history}
@@ -69,16 +70,16 @@ module _ (model : PureTree) (flat : Flat) (start : World SideOf) (from : ℕ) (m
       let after : values_before model flat start (time + 1) ≡ values_before model flat (world_told more start) (time + 1) = sym (values_same (time + 1) low) in
       λ i. changed_cell (value_of (before i) signal) (value_of (after i) signal)
 
-  cell_same : (time : ℕ) (o : Option TraceRow) → event_before model flat start from time o ≡ event_before model flat (world_told more start) from time o
-  cell_same time None = refl
-  cell_same time (Some row) = both_ways row.event (nat_lt time from) _ _ (λ is. (let low = ltb-true time from is in event_same row.signal time (omega (arith, low))))
+  cell_same : (time : ℕ) (s : ColumnStart) (o : Option TraceRow) → event_before model flat start from time s o ≡ event_before model flat (world_told more start) from time s o
+  cell_same time s None = refl
+  cell_same time s (Some row) = both_ways row.event (nat_lt time from) _ _ (λ is. (let low = ltb-true time from is in ap (cell_or (stamp_at s.stamps time)) (event_same row.signal time (omega (arith, low)))))
 
   -- so are the cells of event signals
   cells_same : (below : ℕ) → Agree (events_before model flat start from) (events_before model flat (world_told more start) from) below
   cells_same below = record {
     columns = refl;
     first = λ c inside. refl;
-    cells = λ c t inside low. cell_same t (slice_get flat.tables.traces c);
+    cells = λ c t inside low. cell_same t (start_of start.shown c) (slice_get flat.tables.traces c);
   }
 
 pub told_is_shown : ToldIsShown
@@ -102,6 +103,7 @@ told_is_shown model flat start w from more s told shown = record {
   });
   none = shown.none;
   events = subst (λ (l : List Raw). AreEventColumns flat.tables.traces l s.events.items) (sym (values_same model flat start from more told from (omega arith))) shown.events;
+  stamped = shown.stamped;
   begun = λ n h there. (
       let back = told_back more w n h there in
       let b = shown.begun n back.0 back.1 in

@@ -8,7 +8,7 @@ use Rattle.tdf_dynamic_plans.specs.Attributes.{clusters_of}
 use Rattle.tdf_events.specs.Side.{SideOf}
 use Rattle.tdf_bind.specs.declared.model.Flat.{Flat}
 use Rattle.tdf_streams.proofs.Api.{none_some}
-use Rattle.tdf_sim_history.specs.Cells.{cell_by_driver, driven_cell, driver_of_row, event_cell, port_cell, run_cells, signal_cell, trace_cell, world_before}
+use Rattle.tdf_sim_history.specs.Cells.{cell_by_driver, driven_cell, driver_of_row, event_column_cell, port_cell, run_cells, signal_cell, trace_cell, world_before}
 use Rattle.tdf_sim_history.specs.World.{World}
 use Rattle.tdf_exec_layout.specs.Traced.{is_trace_of}
 use Rattle.tdf_trace_rows.proofs.Api.{agree_trans}
@@ -36,7 +36,7 @@ module _ (model : PureTree) (flat : Flat) (start : World SideOf) (end : ℕ) (s 
   cells = with_signal_samples flat.tables.traces (events_before model flat start end) (cells_by shown.spans shown.samples)
 
   -- a port that drives the signal of a trace of samples
-  driving : (column number : ℕ) (row : TraceRow) → slice_get flat.tables.traces column ≡ Some row → row.event ≡ false → driver_of_row (slice_get flat.tables.signals row.signal) ≡ Some number → (is : IsDriverOf flat.tables row.signal number)
+  pub driving : (column number : ℕ) (row : TraceRow) → slice_get flat.tables.traces column ≡ Some row → row.event ≡ false → driver_of_row (slice_get flat.tables.signals row.signal) ≡ Some number → (is : IsDriverOf flat.tables row.signal number)
       → DrivesTraced flat (slice_index (clusters_of flat.tables) is.port.«module» - 1) number is.port
   driving column number row at plain driven is = record {
     traced = record {
@@ -50,7 +50,7 @@ module _ (model : PureTree) (flat : Flat) (start : World SideOf) (end : ℕ) (s 
   }
 
   -- the cell of a signal of samples
-  sample_cell : (column time : ℕ) (row : TraceRow) → slice_get flat.tables.traces column ≡ Some row → row.event ≡ false → (o : Option ℕ) → driver_of_row (slice_get flat.tables.signals row.signal) ≡ o
+  pub sample_cell : (column time : ℕ) (row : TraceRow) → slice_get flat.tables.traces column ≡ Some row → row.event ≡ false → (o : Option ℕ) → driver_of_row (slice_get flat.tables.signals row.signal) ≡ o
       → cell_of (shown.spans row.signal) (shown.samples row.signal) time ≡ cell_by_driver model flat (start_of start.shown column) time w.clusters o
   unfolding position_at
   sample_cell column time row at plain None none =
@@ -72,12 +72,12 @@ module _ (model : PureTree) (flat : Flat) (start : World SideOf) (end : ℕ) (s 
       ∙ sym (ap (driven_cell model flat (start_of start.shown column) time w.clusters number) is.there)
 
   cell_is : (column time : ℕ) → time < end → (o : Option TraceRow) → slice_get flat.tables.traces column ≡ o
-      → sample_or o (λ k. cells_by shown.spans shown.samples k time) (event_before model flat start end time o) ≡ trace_cell model flat (rules_of model flat) start end time (start_of start.shown column) o
+      → sample_or o (λ k. cells_by shown.spans shown.samples k time) (event_before model flat start end time (start_of start.shown column) o) ≡ trace_cell model flat (rules_of model flat) start end time (start_of start.shown column) o
   cell_is column time low None at = refl
   cell_is column time low (Some row) at = go row.event refl
     where
-      go : (b : Bool) → row.event ≡ b → (if row.event then (if row.event && nat_lt time end then event_cell model flat (rules_of model flat) start row.signal time else None) else cells_by shown.spans shown.samples row.signal time)
-          ≡ (if row.event then event_cell model flat (rules_of model flat) start row.signal time else signal_cell model flat (start_of start.shown column) time w.clusters row.signal)
+      go : (b : Bool) → row.event ≡ b → (if row.event then (if row.event && nat_lt time end then event_column_cell model flat (rules_of model flat) start (start_of start.shown column) row.signal time else None) else cells_by shown.spans shown.samples row.signal time)
+          ≡ (if row.event then event_column_cell model flat (rules_of model flat) start (start_of start.shown column) row.signal time else signal_cell model flat (start_of start.shown column) time w.clusters row.signal)
       go true is = rw (is, lt-ltb time end low) refl
       go false is = rw is (sample_cell column time row at is (driver_of_row (slice_get flat.tables.signals row.signal)) refl)
 

@@ -6,7 +6,8 @@ use Rattle.std.specs.List.{list_any}
 use Rattle.std.specs.Ordering.{int_eq}
 use Rattle.tdf_trace.proofs.Api.{left_is}
 use Rattle.tdf_fixed.specs.declared.raw.Raw.{Raw}
-use Rattle.tdf_sim_history.specs.Cells.{changed_cell, event_cell, is_same_value}
+use Rattle.tdf_sim_history.specs.Cells.{cell_or, changed_cell, event_cell, event_column_cell, is_same_value}
+use Rattle.tdf_sim_history.specs.Columns.{start_of}
 use Rattle.tdf_trace_rows.specs.Laws.{Agree}
 use Rattle.tdf_trace_rows.specs.Positions.{count_of_spans}
 use Rattle.tdf_sim_traces.proofs.Items.{true_false}
@@ -29,13 +30,14 @@ written_is_shown model flat start w from s trace shown stands about = record {
   each = shown.each;
   none = shown.none;
   events = shown.events;
+  stamped = shown.stamped;
   begun = shown.begun;
   width = shown.width;
   columns = ap (λ (a : AboutSeen). length a.variables) about ∙ shown.columns;
 }
 
 -- a signal is listed or not
-listed_or : (list : List TracedSignal) (signal : ℕ) → ((k : ℕ) × (t : TracedSignal) × (slice_get list k ≡ Some t) × (t.signal ≡ signal)) ⊎ ((k : ℕ) (t : TracedSignal) → slice_get list k ≡ Some t → t.signal ≡ signal → ⊥)
+pub listed_or : (list : List TracedSignal) (signal : ℕ) → ((k : ℕ) × (t : TracedSignal) × (slice_get list k ≡ Some t) × (t.signal ≡ signal)) ⊎ ((k : ℕ) (t : TracedSignal) → slice_get list k ≡ Some t → t.signal ≡ signal → ⊥)
 listed_or list signal = go (list_any (λ (t : TracedSignal). nat_eq t.signal signal) list) refl
   where
     go : (b : Bool) → list_any (λ (t : TracedSignal). nat_eq t.signal signal) list ≡ b
@@ -63,7 +65,7 @@ same_value v = both (int_eq v.num v.num) (nat_eq v.frac v.frac) ((Decides-int_eq
     both : (p q : Bool) → p ≡ true → q ≡ true → (p && q) ≡ true
     both p q x y = ap (λ (b : Bool). b && q) x ∙ y
 
-no_change : (v w : Raw) → w ≡ v → changed_cell v w ≡ None
+pub no_change : (v w : Raw) → w ≡ v → changed_cell v w ≡ None
 no_change v w same = ap (changed_cell v) same ∙ ap (λ (b : Bool). if b then None else Some (Some v)) (same_value v)
 
 pub later_is_shown : LaterIsShown
@@ -75,6 +77,7 @@ later_is_shown model flat start w from time s shown later same = record {
   each = shown.each;
   none = shown.none;
   events = subst (λ (l : List Raw). AreEventColumns flat.tables.traces l s.events.items) (sym (same time later (omega arith))) shown.events;
+  stamped = λ column row at event t low. shown.stamped column row at event t (omega (arith, later, low));
   begun = λ n h there. (let b = shown.begun n h there in record { early = (let e = b.early in omega (arith, e, later)); after_old = b.after_old });
   width = shown.width;
   columns = shown.columns;
@@ -84,19 +87,22 @@ later_is_shown model flat start w from time s shown later same = record {
     quiet row t low high = no_change (value_of (values_before model flat start t) row.signal) (value_of (values_before model flat start (t + 1)) row.signal)
         (ap (λ l. value_of l row.signal) (same (t + 1) (omega (arith, low)) (omega (arith, high)) ∙ sym (same t low (omega (arith, high)))))
 
-    cell : (t : ℕ) (o : Option TraceRow) → event_before model flat start from t o ≡ event_before model flat start time t o
-    cell t None = refl
-    cell t (Some row) = elim (cases_lt t from) [
-      | inl low ↦ ap (λ (b : Bool). if row.event && b then event_cell model flat (rules_of model flat) start row.signal t else None) (lt-ltb t from low ∙ sym (lt-ltb t time (omega (arith, low, later))))
+    cell : (c t : ℕ) (o : Option TraceRow) → slice_get flat.tables.traces c ≡ o → event_before model flat start from t (start_of start.shown c) o ≡ event_before model flat start time t (start_of start.shown c) o
+    cell c t None at = refl
+    cell c t (Some row) at = elim (cases_lt t from) [
+      | inl low ↦ ap (λ (b : Bool). if row.event && b then event_column_cell model flat (rules_of model flat) start (start_of start.shown c) row.signal t else None) (lt-ltb t from low ∙ sym (lt-ltb t time (omega (arith, low, later))))
       | inr high ↦ elim (cases_lt t time) [
-        | inr past ↦ ap (λ (b : Bool). if row.event && b then event_cell model flat (rules_of model flat) start row.signal t else None) (le-ltb t from high ∙ sym (le-ltb t time past))
-        | inl below ↦ rw (le-ltb t from high, lt-ltb t time below) (both row.event (quiet row t high below))
+        | inr past ↦ ap (λ (b : Bool). if row.event && b then event_column_cell model flat (rules_of model flat) start (start_of start.shown c) row.signal t else None) (le-ltb t from high ∙ sym (le-ltb t time past))
+        | inl below ↦ rw (le-ltb t from high, lt-ltb t time below) (both row.event (λ event. ap (λ o. cell_or o (event_cell model flat (rules_of model flat) start row.signal t)) (shown.stamped c row at event t high) ∙ quiet row t high below))
       ]
     ]
       where
-        both : (b : Bool) → event_cell model flat (rules_of model flat) start row.signal t ≡ None → (if b && false then event_cell model flat (rules_of model flat) start row.signal t else None) ≡ (if b && true then event_cell model flat (rules_of model flat) start row.signal t else None)
-        both true none = sym none
+        shown_here : Option (Option Raw)
+        shown_here = event_column_cell model flat (rules_of model flat) start (start_of start.shown c) row.signal t
+
+        both : (b : Bool) → (b ≡ true → shown_here ≡ None) → (if b && false then shown_here else None) ≡ (if b && true then shown_here else None)
+        both true none = sym (none refl)
         both false none = refl
 
     agree : (below : ℕ) → Agree (events_before model flat start from) (events_before model flat start time) below
-    agree below = record { columns = refl; first = λ c inside. refl; cells = λ c t inside low. cell t (slice_get flat.tables.traces c) }
+    agree below = record { columns = refl; first = λ c inside. refl; cells = λ c t inside low. cell c t (slice_get flat.tables.traces c) refl }

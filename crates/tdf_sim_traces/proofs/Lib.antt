@@ -14,3 +14,4 @@ pub mod Spans
 pub mod Starting
 pub mod Taking
 pub mod Telling
+pub mod Waiting

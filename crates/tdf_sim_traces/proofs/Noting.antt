@@ -11,14 +11,15 @@ use Rattle.tdf_events.specs.Side.{SideOf}
 use Rattle.tdf_fixed.specs.declared.raw.Raw.{Raw}
 use Rattle.tdf_bind.specs.declared.model.Flat.{Flat}
 use Rattle.tdf_streams.proofs.Api.{get_inside, none_some, some_same}
-use Rattle.tdf_sim_history.specs.Cells.{changed_cell, event_cell, is_same_value}
+use Rattle.tdf_sim_history.specs.Cells.{cell_or, changed_cell, event_cell, event_column_cell, is_same_value}
+use Rattle.tdf_sim_history.specs.Columns.{start_of}
 use Rattle.tdf_sim_history.specs.World.{World}
 use Rattle.tdf_trace_rows.specs.Laws.{Agree}
 use Rattle.tdf_trace_rows.specs.Noted.{is_cell_of}
 use Rattle.tdf_trace_rows.specs.Positions.{Span}
 use Rattle.tdf_trace_rows.specs.Rows.{Cells}
 use Rattle.tdf_sim_traces.proofs.Items.{true_false}
-use Rattle.tdf_sim_traces.specs.Events.{AreEventColumns, IsColumnOf, IsEventColumn, event_before, events_before, value_of, values_before}
+use Rattle.tdf_sim_traces.specs.Events.{AreEventColumns, EventsStartBefore, IsColumnOf, IsEventColumn, event_before, events_before, value_of, values_before}
 use Rattle.tdf_sim_traces.specs.declared.events.EventColumn.{EventColumn}
 use Rattle.tdf_sim_traces.specs.machine.Noting.{HaveShown, IsShowing, TakesChange, cell_for, with_change, with_changes, with_shown}
 use Rattle.tdf_trace.specs.Stands.{RowsSeen, TakesCell, TraceSeen}
@@ -64,14 +65,17 @@ other_taken values time e before after apart took traces cells spans samples lis
     }
 
 -- all columns
+pub have_none : (values : List Raw) (events : List EventColumn) → HaveShown values 0 events events
+have_none values events = record {
+  long = refl;
+  done = λ j e below at. absurd (omega (arith, below));
+  rest = λ j low. refl;
+}
+
 pub none_shown : (values : List Raw) (time : ℕ) (events : List EventColumn) (trace : TraceSeen) → IsShowing values time 0 events events trace trace
 unfolding with_changes
 none_shown values time events trace = record {
-  shown = record {
-    long = refl;
-    done = λ j e below at. absurd (omega (arith, below));
-    rest = λ j low. refl;
-  };
+  shown = have_none values events;
   took = λ traces cells spans samples list of h. h;
   upto = refl;
   stage = refl;
@@ -95,20 +99,27 @@ set_long [] k x = refl
 set_long (y ∷ ys) zero x = refl
 set_long (y ∷ ys) (suc k) x = ap suc (set_long ys k x)
 
+pub have_more : (values : List Raw) (k : ℕ) (old mid : List EventColumn) (e : EventColumn) → slice_get mid k ≡ Some e → k < length mid → HaveShown values k old mid
+    → HaveShown values (k + 1) old (slice_set mid k (with_shown values e))
+have_more values k old mid e at low s = record {
+  long = set_long mid k (with_shown values e) ∙ s.long;
+  done = λ j f below there. elim (cases_eq j k) [
+    | inl same ↦ ap (slice_get (slice_set mid k (with_shown values e))) same ∙ set_same mid k (with_shown values e) low
+        ∙ ap (λ (x : EventColumn). Some (with_shown values x)) (some_same e f (sym was ∙ ap (slice_get old) (sym same) ∙ there))
+    | inr apart ↦ set_apart mid k j (with_shown values e) apart ∙ s.done j f (omega (arith, below, apart)) there
+  ];
+  rest = λ j high. set_apart mid k j (with_shown values e) (λ same. omega (arith, high, same)) ∙ s.rest j (omega (arith, high));
+}
+  where
+    was : slice_get old k ≡ Some e
+    was = sym (s.rest k (omega arith)) ∙ at
+
 pub more_shown : (values : List Raw) (time k : ℕ) (old mid : List EventColumn) (e : EventColumn) (before between after : TraceSeen) → slice_get mid k ≡ Some e → k < length mid → IsShowing values time k old mid before between
     → TakesChange values time e between.rows after.rows → after.rows.upto ≡ between.rows.upto → after.stage ≡ between.stage → after.about ≡ between.about
     → IsShowing values time (k + 1) old (slice_set mid k (with_shown values e)) before after
 unfolding with_changes
 more_shown values time k old mid e before between after at low s took upto stage about = record {
-  shown = record {
-    long = set_long mid k (with_shown values e) ∙ s.shown.long;
-    done = λ j f below there. elim (cases_eq j k) [
-      | inl same ↦ ap (slice_get (slice_set mid k (with_shown values e))) same ∙ set_same mid k (with_shown values e) low
-          ∙ ap (λ (x : EventColumn). Some (with_shown values x)) (some_same e f (sym was ∙ ap (slice_get old) (sym same) ∙ there))
-      | inr apart ↦ set_apart mid k j (with_shown values e) apart ∙ s.shown.done j f (omega (arith, below, apart)) there
-    ];
-    rest = λ j high. set_apart mid k j (with_shown values e) (λ same. omega (arith, high, same)) ∙ s.shown.rest j (omega (arith, high));
-  };
+  shown = have_more values k old mid e at low s.shown;
   took = λ traces cells spans samples list of h. (
       let w = of k e was in
       subst (λ g. Holds traces g spans samples list after.rows) (sym (next cells))
@@ -216,7 +227,7 @@ module _ (values : List Raw) (time : ℕ) (events : List EventColumn) (cells : C
 
 -- the cells of the instants before a time, and those of one more
 module _ (model : PureTree) (flat : Flat) (start : World SideOf) (time : ℕ) (events : List EventColumn)
-    (are : AreEventColumns flat.tables.traces (values_before model flat start time) events) where
+    (are : AreEventColumns flat.tables.traces (values_before model flat start time) events) (stamped : EventsStartBefore flat.tables.traces start.shown time) where
   abbrev values : List Raw
   values = values_before model flat start (time + 1)
 
@@ -230,8 +241,8 @@ module _ (model : PureTree) (flat : Flat) (start : World SideOf) (time : ℕ) (e
   changed = with_changes values time events (length events) before
 
   of_row : (c t : ℕ) (row : TraceRow) → slice_get flat.tables.traces c ≡ Some row → (b : Bool) → row.event ≡ b → (g : ℕ)
-      → (events_before model flat start g).at c t ≡ (if b && nat_lt t g then event_cell model flat (rules_of model flat) start row.signal t else None)
-  of_row c t row at b is g = ap (event_before model flat start g t) at ∙ ap (λ (p : Bool). if p && nat_lt t g then event_cell model flat (rules_of model flat) start row.signal t else None) is
+      → (events_before model flat start g).at c t ≡ (if b && nat_lt t g then event_column_cell model flat (rules_of model flat) start (start_of start.shown c) row.signal t else None)
+  of_row c t row at b is g = ap (event_before model flat start g t (start_of start.shown c)) at ∙ ap (λ (p : Bool). if p && nat_lt t g then event_column_cell model flat (rules_of model flat) start (start_of start.shown c) row.signal t else None) is
 
   later : (t : ℕ) → (time ≡ t → ⊥) → nat_lt t time ≡ nat_lt t (time + 1)
   later t apart = elim (cases_lt t time) [
@@ -240,18 +251,18 @@ module _ (model : PureTree) (flat : Flat) (start : World SideOf) (time : ℕ) (e
   ]
 
   -- another time
-  other_cell : (c t : ℕ) → (time ≡ t → ⊥) → (o : Option TraceRow) → event_before model flat start time t o ≡ event_before model flat start (time + 1) t o
+  other_cell : (c t : ℕ) → (time ≡ t → ⊥) → (o : Option TraceRow) → event_before model flat start time t (start_of start.shown c) o ≡ event_before model flat start (time + 1) t (start_of start.shown c) o
   other_cell c t apart None = refl
-  other_cell c t apart (Some row) = ap (λ (p : Bool). if row.event && p then event_cell model flat (rules_of model flat) start row.signal t else None) (later t apart)
+  other_cell c t apart (Some row) = ap (λ (p : Bool). if row.event && p then event_column_cell model flat (rules_of model flat) start (start_of start.shown c) row.signal t else None) (later t apart)
 
   -- a column of samples, or none
   no_event : (c : ℕ) → ((j : ℕ) (e : EventColumn) → slice_get events j ≡ Some e → e.column ≡ c → ⊥) → (o : Option TraceRow) → slice_get flat.tables.traces c ≡ o
-      → event_before model flat start time time o ≡ event_before model flat start (time + 1) time o
+      → event_before model flat start time time (start_of start.shown c) o ≡ event_before model flat start (time + 1) time (start_of start.shown c) o
   no_event c not None at = refl
   no_event c not (Some row) at = go row.event refl
     where
-      go : (b : Bool) → row.event ≡ b → (if row.event && nat_lt time time then event_cell model flat (rules_of model flat) start row.signal time else None)
-          ≡ (if row.event && nat_lt time (time + 1) then event_cell model flat (rules_of model flat) start row.signal time else None)
+      go : (b : Bool) → row.event ≡ b → (if row.event && nat_lt time time then event_column_cell model flat (rules_of model flat) start (start_of start.shown c) row.signal time else None)
+          ≡ (if row.event && nat_lt time (time + 1) then event_column_cell model flat (rules_of model flat) start (start_of start.shown c) row.signal time else None)
       go true is = absurd (let w : IsColumnOf events c = are.all c row at is in not w.place w.it w.there w.same)
       go false is = rw is refl
 
@@ -262,13 +273,14 @@ module _ (model : PureTree) (flat : Flat) (start : World SideOf) (time : ℕ) (e
       let x : IsEventColumn flat.tables.traces (values_before model flat start time) w.it = are.are w.place w.it w.there in
       let same_row : x.row ≡ row = some_same x.row row (sym x.there ∙ ap (slice_get flat.tables.traces) w.same ∙ at) in
       let signal : w.it.signal ≡ row.signal = x.signal_is ∙ ap (λ (r : TraceRow). r.signal) same_row in
-      let none : before.at c time ≡ None = of_row c time row at true is time ∙ ap (λ (p : Bool). if p then event_cell model flat (rules_of model flat) start row.signal time else None) (le-ltb time time (omega arith)) in
+      let none : before.at c time ≡ None = of_row c time row at true is time ∙ ap (λ (p : Bool). if p then event_column_cell model flat (rules_of model flat) start (start_of start.shown c) row.signal time else None) (le-ltb time time (omega arith)) in
       let none_here : before.at w.it.column time ≡ None = ap (λ k. before.at k time) w.same ∙ none in
       ap (λ k. changed.at k time) (sym w.same)
       ∙ changes_here values time events before (length events) w.place w.it (slice_get_within events w.place w.it w.there) w.there (λ i f there same. are.once w.place i w.it f w.there there same) none_here
       ∙ ap (λ v. changed_cell v (value_of values w.it.signal)) (x.shown_is ∙ ap (λ (r : TraceRow). value_of (values_before model flat start time) r.signal) same_row)
       ∙ ap (λ s. changed_cell (value_of (values_before model flat start time) row.signal) (value_of values s)) signal
-      ∙ sym (of_row c time row at true is (time + 1) ∙ ap (λ (p : Bool). if p then event_cell model flat (rules_of model flat) start row.signal time else None) (lt-ltb time (time + 1) (omega arith)))
+      ∙ sym (of_row c time row at true is (time + 1) ∙ ap (λ (p : Bool). if p then event_column_cell model flat (rules_of model flat) start (start_of start.shown c) row.signal time else None) (lt-ltb time (time + 1) (omega arith))
+      ∙ ap (λ o. cell_or o (event_cell model flat (rules_of model flat) start row.signal time)) (stamped c row at is time (omega arith)))
 
   cell_same : (c t : ℕ) → changed.at c t ≡ after.at c t
   cell_same c t = elim (cases_eq time t) [
@@ -279,7 +291,7 @@ module _ (model : PureTree) (flat : Flat) (start : World SideOf) (time : ℕ) (e
       by_row : (o : Option TraceRow) → slice_get flat.tables.traces c ≡ o → changed.at c time ≡ after.at c time
       by_row None at = changes_apart values time events before (length events) c time (λ j e below there. other_column values time events before e c time (λ same. (
           let x = are.are j e there in none_some x.row (sym at ∙ ap (slice_get flat.tables.traces) (sym same) ∙ x.there))))
-          ∙ ap (event_before model flat start time time) at ∙ sym (ap (event_before model flat start (time + 1) time) at)
+          ∙ ap (event_before model flat start time time (start_of start.shown c)) at ∙ sym (ap (event_before model flat start (time + 1) time (start_of start.shown c)) at)
       by_row (Some row) at = by_event row.event refl
         where
           by_event : (b : Bool) → row.event ≡ b → changed.at c time ≡ after.at c time

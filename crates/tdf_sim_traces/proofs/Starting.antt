@@ -11,7 +11,7 @@ use Rattle.tdf_dynamic_first.specs.declared.first.First.{First}
 use Rattle.tdf_events.specs.Side.{SideOf}
 use Rattle.tdf_bind.specs.declared.model.Flat.{Flat}
 use Rattle.tdf_streams.proofs.Api.{get_inside, none_some, some_same}
-use Rattle.tdf_sim_history.specs.Cells.{event_cell, column_spans, driver_of_row}
+use Rattle.tdf_sim_history.specs.Cells.{column_spans, driver_of_row, event_column_cell}
 use Rattle.tdf_sim_history.specs.Instant.{periods_of}
 use Rattle.tdf_sim_history.specs.Start.{first_cluster, first_clusters, starting_value, text_column}
 use Rattle.tdf_sim_history.specs.World.{ClusterAt, World}
@@ -45,7 +45,7 @@ use Rattle.tdf_bind_connections.specs.declared.drivers.SignalRow.{SignalRow}
 use Rattle.tdf_bind_connections.specs.declared.modules.PortRow.{PortRow}
 use Rattle.tdf_bind_connections.specs.declared.traces.TraceRow.{TraceRow}
 use Rattle.tdf_sim_history.specs.Rules.{rules_of, start_world}
-use Rattle.tdf_sim_history.specs.Columns.{ColumnStart, held_by, no_start, spans_to, start_of}
+use Rattle.tdf_sim_history.specs.Columns.{ColumnStart, held_by, no_start, spans_to, stamp_at, start_of}
 use Rattle.tdf_sim_history.specs.WorldLaws.{HoldsFirst}
 use Rattle.tdf_sim_history.proofs.Api.{last_record}
 use Rattle.tdf_trace.specs.Tracks.{IsChain}
@@ -70,7 +70,7 @@ given_few f (x ∷ xs) = go (f x) (given_few f xs)
     go None few = omega (arith, few)
     go (Some y) few = omega (arith, few)
 
-given_at : {A B : Type 0} (f : A → Option B) (xs : List A) (i : ℕ) (x : A) → length (filter_map f xs) ≡ length xs → slice_get xs i ≡ Some x → (y : B) × (f x ≡ Some y) × (slice_get (filter_map f xs) i ≡ Some y)
+pub given_at : {A B : Type 0} (f : A → Option B) (xs : List A) (i : ℕ) (x : A) → length (filter_map f xs) ≡ length xs → slice_get xs i ≡ Some x → (y : B) × (f x ≡ Some y) × (slice_get (filter_map f xs) i ≡ Some y)
 given_at f [] i x long at = none_some x at
 given_at {A} {B} f (z ∷ xs) i x long at = go (f z) refl long i at (given_few f xs) (λ j same there. given_at f xs j x same there)
   where
@@ -114,16 +114,16 @@ module _ (model : PureTree) (flat : Flat) (firsts : List First) (turns : ℕ) (l
   none_agree below = record {
     columns = long;
     first = λ column inside. (let r = get_inside flat.tables.traces column (omega (arith, inside, long)) in first_row column r.0 r.1);
-    cells = λ column time inside low. no_cell (slice_get flat.tables.traces column) time;
+    cells = λ column time inside low. no_cell (start_of start.shown column) (slice_get flat.tables.traces column) time;
   }
     where
       and_false : (p q : Bool) → q ≡ false → (p && q) ≡ false
       and_false true q is = is
       and_false false q is = refl
 
-      no_cell : (o : Option TraceRow) (time : ℕ) → None ≡ event_before model flat start 0 time o
-      no_cell None time = refl
-      no_cell (Some row) time = sym (ap (λ (b : Bool). if b then event_cell model flat (rules_of model flat) start row.signal time else None) (and_false row.event (nat_lt time 0) (le-ltb time 0 (omega arith))))
+      no_cell : (s : ColumnStart) (o : Option TraceRow) (time : ℕ) → None ≡ event_before model flat start 0 time s o
+      no_cell s None time = refl
+      no_cell s (Some row) time = sym (ap (λ (b : Bool). if b then event_column_cell model flat (rules_of model flat) start s row.signal time else None) (and_false row.event (nat_lt time 0) (le-ltb time 0 (omega arith))))
 
 module _ (flat : Flat) (clock : ClockAt) (old : Shown) (t1 t2 : TrackingOf) (r1 r2 : TraceSeen) (zero_time : clock.time ≡ 0) (can : CanStart flat clock old)
     (began : IsBeginning flat.tables clock old.signals.items (length old.signals.items) old.tracking t1 old.trace r1) (gave : IsGivingTo flat.tables old.signals.items (length old.signals.items) t1 t2 r1 r2) where
@@ -137,6 +137,7 @@ module _ (flat : Flat) (clock : ClockAt) (old : Shown) (t1 t2 : TrackingOf) (r1 
     each = λ n number port drives. each n number port drives (found flat old.signals.items n number port un.signals drives);
     none = λ signal unlisted. b.have.other signal (λ a. unlisted a.place a.it a.there a.same);
     events = subst (λ vs. AreEventColumns flat.tables.traces vs old.events.items) (sym (values_start model flat firsts turns un.columns)) un.events;
+    stamped = λ column row there event t low. ap (λ (c : ColumnStart). stamp_at c.stamps t) (column_at model flat firsts turns un.columns column row there);
     begun = λ n h there. (let f = first_at model flat firsts n h there in record {
       early = (let e : h.since ≡ 0 = ap (λ (x : ClusterAt). x.since) f.1 in omega (arith, e));
       after_old = (
@@ -160,7 +161,7 @@ module _ (flat : Flat) (clock : ClockAt) (old : Shown) (t1 t2 : TrackingOf) (r1 
           (stands_alike (no_cells (variables_of flat.tables)) (events_before model flat start 0) old.trace.rows (none_agree model flat firsts turns un.columns) un.trace.stands)
         where
           no_sample : (column : ℕ) (row : TraceRow) → slice_get flat.tables.traces column ≡ Some row → row.event ≡ false → (time : ℕ) → (events_before model flat start 0).at column time ≡ None
-          no_sample column row there plain time = ap (event_before model flat start 0 time) there ∙ ap (λ (p : Bool). if p && nat_lt time 0 then event_cell model flat (rules_of model flat) start row.signal time else None) plain
+          no_sample column row there plain time = ap (event_before model flat start 0 time (start_of start.shown column)) there ∙ ap (λ (p : Bool). if p && nat_lt time 0 then event_column_cell model flat (rules_of model flat) start (start_of start.shown column) row.signal time else None) plain
 
       -- the cluster of a listed signal
       cluster_of_signal : (k : ℕ) (t : TracedSignal) → slice_get old.signals.items k ≡ Some t → (h : ClusterAt) × (first : First) × (slice_get start.clusters t.cluster ≡ Some h) × (h ≡ first_cluster model flat (t.cluster + 1) first [])

@@ -327,7 +327,7 @@ module _ (model : PureTree) (flat : Flat) (clock : ClockAt) (start w v : World S
     holds_values : Holds flat.tables.traces (events_before model flat start (clock.time + 1)) on.now samples t2.list r3.rows
     holds_values =
         holds_cells flat.tables.traces (with_changes (values_before model flat start (clock.time + 1)) clock.time s.events.items (length s.events.items) (events_before model flat start clock.time)) (events_before model flat start (clock.time + 1)) on.now samples t2.list r3.rows
-        (events_agree model flat start clock.time s.events.items shown.events)
+        (events_agree model flat start clock.time s.events.items shown.events shown.stamped)
         (subst (λ (l : List Raw). Holds flat.tables.traces (with_changes l clock.time s.events.items (length s.events.items) (events_before model flat start clock.time)) on.now samples t2.list r3.rows) vals
         (showed.took flat.tables.traces (events_before model flat start clock.time) on.now samples t2.list (λ k e there. let x = shown.events.are k e there in (x.row, x.there, x.event)) holds_samples))
 
@@ -368,6 +368,7 @@ module _ (model : PureTree) (flat : Flat) (clock : ClockAt) (start w v : World S
       events = subst (AreEventColumns flat.tables.traces (values_before model flat start (clock.time + 1))) (sym columns)
           (columns_shown flat.tables.traces (values_before model flat start clock.time) (values_before model flat start (clock.time + 1)) s.events.items events shown.events
           (subst (λ (l : List Raw). HaveShown l (length s.events.items) s.events.items events) vals showed.shown));
+      stamped = λ column row at event t low. shown.stamped column row at event t (omega (arith, low));
       begun = begun_before;
       width = ap (λ (t : TrackingOf). t.width) tracking ∙ width ∙ on.width ∙ shown.width;
       columns = ap (λ (r : TraceSeen). length r.about.variables) trace ∙ ap (λ (a : AboutSeen). length a.variables) (showed.about ∙ about ∙ on.about) ∙ shown.columns;

@@ -1,11 +1,11 @@
 -- The columns of the traces of event signals.
 -- Source: own.
-use Rattle.std.specs.Prelude.{◌≡◌, ◌&&◌, ℕ, true, nat_lt, if◌then◌else◌, List, Option, Some, None, length, slice_get, slice_index_or}
+use Rattle.std.specs.Prelude.{◌≡◌, ◌≤◌, ◌&&◌, ℕ, true, nat_lt, if◌then◌else◌, List, Option, Some, None, length, slice_get, slice_index_or}
 use Rattle.tdf_events.specs.Side.{SideOf}
 use Rattle.tdf_fixed.specs.declared.raw.Raw.{Raw}
 use Rattle.tdf_bind.specs.declared.model.Flat.{Flat}
-use Rattle.tdf_sim_history.specs.Cells.{event_cell, world_before}
-use Rattle.tdf_sim_history.specs.Columns.{start_of}
+use Rattle.tdf_sim_history.specs.Cells.{event_column_cell, world_before}
+use Rattle.tdf_sim_history.specs.Columns.{ColumnStart, stamp_at, start_of}
 use Rattle.tdf_sim_history.specs.World.{World}
 use Rattle.tdf_trace_rows.specs.Rows.{Cells}
 use Rattle.tdf_sim_traces.specs.declared.events.EventColumn.{EventColumn}
@@ -23,21 +23,28 @@ abbrev pub values_before : PureTree → Flat → (start : World SideOf) → (tim
 values_before model flat start time =
     (world_before model flat (rules_of model flat) start time).events.values
 
--- the cell that the instants before a time give to a trace of an event signal
+-- the cell that the start of a column and the instants before a time give to a trace of an event
+-- signal
 abbrev pub event_before : PureTree → Flat → (start : World SideOf) → (from time : ℕ)
-    → Option TraceRow → Option (Option Raw)
-event_before model flat start from time None = None
-event_before model flat start from time (Some row) = if row.event && nat_lt time from
-    then event_cell model flat (rules_of model flat) start row.signal time else None
+    → ColumnStart → Option TraceRow → Option (Option Raw)
+event_before model flat start from time s None = None
+event_before model flat start from time s (Some row) = if row.event && nat_lt time from
+    then event_column_cell model flat (rules_of model flat) start s row.signal time else None
 
 -- the cells of the traces of event signals by these instants; those of samples have none
 abbrev pub events_before : PureTree → Flat → (start : World SideOf) → (from : ℕ) → Cells
 events_before model flat start from = record {
   columns = length flat.tables.traces;
   first = λ column. (start_of start.shown column).carry;
-  at = λ column time.
-      event_before model flat start from time (slice_get flat.tables.traces column);
+  at = λ column time. event_before model flat start from time
+      (start_of start.shown column) (slice_get flat.tables.traces column);
 }
+
+-- from a time on the starts of the columns of event signals give no cell
+abbrev pub EventsStartBefore : List TraceRow → List ColumnStart → (time : ℕ) → Type 0
+EventsStartBefore traces shown time =
+    (column : ℕ) (row : TraceRow) → slice_get traces column ≡ Some row
+    → row.event ≡ true → (t : ℕ) → time ≤ t → stamp_at (start_of shown column).stamps t ≡ None
 
 -- a column is that of a trace of an event signal, and shows the signal's value
 pub record IsEventColumn (traces : List TraceRow) (values : List Raw) (e : EventColumn)

@@ -14,7 +14,7 @@ use Rattle.tdf_bind_connections.specs.declared.traces.TraceRow.{TraceRow}
 use Rattle.tdf_sim_history.specs.Instant.{periods_of}
 use Rattle.tdf_sim_history.specs.World.{ClusterAt, World}
 use Rattle.tdf_trace_rows.specs.Positions.{Span}
-use Rattle.tdf_sim_traces.specs.Events.{AreEventColumns, events_before, values_before}
+use Rattle.tdf_sim_traces.specs.Events.{AreEventColumns, EventsStartBefore, events_before, values_before}
 use Rattle.tdf_sim_traces.specs.Signals.{AreTracedSignals, DrivesTraced}
 use Rattle.tdf_sim_traces.specs.declared.shown.Shown.{Shown}
 use Rattle.tdf_sim_traces.specs.declared.signals.TracedSignal.{TracedSignal}
@@ -64,6 +64,7 @@ pub record IsShown (model : PureTree) (flat : Flat) (start : World SideOf) (from
       → slice_get s.signals.items place ≡ Some t → t.signal ≡ signal → ⊥) → spans signal ≡ []
   pub events : AreEventColumns flat.tables.traces (values_before model flat start from)
       s.events.items
+  pub stamped : EventsStartBefore flat.tables.traces start.shown from
   pub begun : (n : ℕ) (h : ClusterAt) → slice_get w.clusters n ≡ Some h → HasBegunBefore from h
   -- the trace and the tracking have a column for each trace
   pub width : s.tracking.width ≡ length flat.tables.traces

@@ -9,8 +9,8 @@ use Rattle.tdf_expr.specs.declared.checked.Checked.{Checked}
 use Rattle.tdf_bind.specs.declared.model.Flat.{Flat}
 use Rattle.tdf_streams.specs.Grounds.{firings}
 use Rattle.tdf_streams.specs.Streams.{known}
-use Rattle.tdf_sim_history.specs.Cells.{cell_by_driver, changed_cell, column_spans, driven_cell, driver_of_row, event_cell, port_cell, run_cells, sample_at, sample_of, samples_done, signal_cell, trace_cell, value_before, world_of}
-use Rattle.tdf_sim_history.specs.Columns.{ColumnStart, start_of}
+use Rattle.tdf_sim_history.specs.Cells.{cell_by_driver, cell_or, changed_cell, column_spans, driven_cell, driver_of_row, event_cell, port_cell, run_cells, sample_at, sample_of, samples_done, signal_cell, trace_cell, value_before, world_of}
+use Rattle.tdf_sim_history.specs.Columns.{ColumnStart, stamp_at, start_of}
 use Rattle.tdf_sim_history.specs.Instant.{periods_of, run_in}
 use Rattle.tdf_sim_history.specs.World.{ClusterAt, Rules, World}
 use Rattle.tdf_trace_rows.specs.Positions.{position_at}
@@ -50,7 +50,7 @@ module _ (model : PureTree) (a : Flat) (y : Checked) (same : AreSame a.checked y
 
     trace_same : (end time : ℕ) (s : ColumnStart) (o : Option TraceRow) → trace_cell model a rules start end time s o ≡ trace_cell model (with_bodies a y) rules start end time s o
     trace_same end time s None = refl
-    trace_same end time s (Some row) = λ i. if row.event then event_same row.signal time i
+    trace_same end time s (Some row) = λ i. if row.event then cell_or (stamp_at s.stamps time) (event_same row.signal time i)
         else signal_same s time (world_of (history_same model a y same rules start end i)).clusters row.signal i
 
     pub cells_same : (end : ℕ) → run_cells model a rules start end ≡ run_cells model (with_bodies a y) rules start end

@@ -2,7 +2,7 @@
 use Rattle.std.proofs.Common.{◌≡◌, ℕ, zero, suc, ◌+◌, ◌-◌, if◌then◌else◌, nat_lt, List, [], ◌∷◌, length, ℤ, Option, Some, None, option_map, refl}
 use Rattle.std.specs.List.{AllByRecursion, range_with_len}
 use Rattle.std.specs.Option.{option_and_then}
-use Rattle.std.specs.Prelude.{slice_get, slice_index, unwrap_or}
+use Rattle.std.specs.Prelude.{◌++◌, map, nat_eq, slice_get, slice_index, unwrap_or}
 use Rattle.tdf_bind.specs.Flat.{IsFlatOf}
 use Rattle.tdf_bind.specs.declared.model.Flat.{Flat}
 use Rattle.tdf_bind_connections.specs.declared.modules.PortRow.{PortRow}
@@ -14,8 +14,8 @@ use Rattle.tdf_events.specs.Side.{SideOf}
 use Rattle.tdf_events_invariants.specs.Runnable.{SignalsStartInFormat}
 use Rattle.tdf_fixed.specs.declared.raw.Raw.{Raw}
 use Rattle.tdf_lang_tree.specs.Pure.{PureTree}
-use Rattle.tdf_sim_history.specs.Cells.{cell_by_driver, column_spans, driven_cell, driver_of_row, event_cell, is_same_value, port_cell, run_cells, sample_at, samples_done, signal_cell, trace_cell, value_before, world_before}
-use Rattle.tdf_sim_history.specs.Columns.{ColumnStart, held_by, no_start, start_of}
+use Rattle.tdf_sim_history.specs.Cells.{cell_by_driver, cell_or, column_spans, driven_cell, driver_of_row, event_cell, event_column_cell, is_same_value, port_cell, run_cells, sample_at, samples_done, signal_cell, trace_cell, value_before, world_before}
+use Rattle.tdf_sim_history.specs.Columns.{ColumnStart, Stamp, held_by, no_start, stamp_at, start_of}
 use Rattle.tdf_sim_history.specs.Instant.{periods_of, run_in}
 use Rattle.tdf_sim_history.specs.Rules.{rules_of, start_world}
 use Rattle.tdf_sim_history.specs.Start.{text_columns}
@@ -45,6 +45,19 @@ held_small : (values : List Raw) (j : ℕ) → AreSmall values → IsSmallOption
 held_small [] j h = tt
 held_small (v ∷ vs) zero h = h.0
 held_small (v ∷ vs) (suc j) h = held_small vs j h.1
+
+-- what a column's start gives at a time
+stamp_small : (stamps : List Stamp) (ahead : List Raw) (time : ℕ) → AreSmall (map (λ (x : Stamp). x.value) stamps ++ ahead) → IsSmallOption (stamp_at stamps time)
+stamp_small [] ahead time h = tt
+stamp_small (x ∷ xs) ahead time h = either IsSmallOption (nat_eq x.time time) (Some x.value) (stamp_at xs time) h.0 (stamp_small xs ahead time h.1)
+
+start_small_at : (s : ColumnStart) (time : ℕ) → AreSmall (held_by s) → IsSmallOption (stamp_at s.stamps time)
+unfolding held_by
+start_small_at s time h = stamp_small s.stamps s.ahead time h
+
+cell_or_small : (o : Option Raw) (cell : Option (Option Raw)) → IsSmallOption o → IsSmallCell cell → IsSmallCell (cell_or o cell)
+cell_or_small None cell g h = h
+cell_or_small (Some value) cell g h = g
 
 -- ---- samples
 
@@ -115,8 +128,8 @@ module _ (model : PureTree) (flat : Flat) (formats : PortsHaveFormats) (starts :
     trace_small end time s None held = tt
     trace_small end time s (Some row) held =
         let clusters = (world_before model flat (rules_of model flat) start end).clusters in
-        either IsSmallCell row.event (event_cell model flat (rules_of model flat) start row.signal time) (signal_cell model flat s time clusters row.signal)
-        (event_small row.signal time) (by_driver s held time clusters (driver_of_row (slice_get flat.tables.signals row.signal)) (before_small end).clusters)
+        either IsSmallCell row.event (event_column_cell model flat (rules_of model flat) start s row.signal time) (signal_cell model flat s time clusters row.signal)
+        (cell_or_small (stamp_at s.stamps time) (event_cell model flat (rules_of model flat) start row.signal time) (start_small_at s time held) (event_small row.signal time)) (by_driver s held time clusters (driver_of_row (slice_get flat.tables.signals row.signal)) (before_small end).clusters)
 
     -- ---- the columns
 
