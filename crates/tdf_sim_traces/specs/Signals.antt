@@ -1,6 +1,6 @@
 -- The traced signals of samples, and the ports that drive them.
 -- Source: own.
-use Rattle.std.specs.Prelude.{◌≡◌, ◌<◌, ℕ, true, false, ◌+◌, List, Some, length, slice_get, slice_index}
+use Rattle.std.specs.Prelude.{◌≡◌, ◌<◌, ℕ, true, false, ◌+◌, List, None, Option, Some, if◌then◌else◌, length, option_map, slice_get, slice_index}
 use Rattle.tdf_bind_tables.specs.FlatTables.{FlatTablesOf}
 use Rattle.tdf_dynamic_plans.specs.Attributes.{clusters_of}
 use Rattle.tdf_bind.specs.declared.model.Flat.{Flat}
@@ -56,3 +56,8 @@ pub record AreTold (tables : FlatTablesOf) : Type 0 where
       → row.event ≡ true → row.signal < length tables.de_signals
   pub drivers : (signal number : ℕ) → driver_of_row (slice_get tables.signals signal) ≡ Some number
       → IsDriverOf tables signal number
+
+-- the signal of samples that a trace shows, where a port drives it
+abbrev pub driven_of : FlatTablesOf → TraceRow → Option ℕ
+driven_of tables row = if row.event then None else option_map (λ (number : ℕ). row.signal)
+    (driver_of_row (slice_get tables.signals row.signal))

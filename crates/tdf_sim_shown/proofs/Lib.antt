@@ -1,0 +1,6 @@
+mod Adding
+mod Cells
+mod Columns
+mod Ends
+mod Rising
+mod RowsFrom

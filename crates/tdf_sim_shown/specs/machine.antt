@@ -1,0 +1,2 @@
+-- How the code goes from column to column.
+pub mod Waiting
