@@ -51,3 +51,11 @@ module _ {T E : Type 0} where
   pub same_ok : (a b : T) → good a ≡ good b → a ≡ b
   unfolding got
   same_ok a b same = ap (got a) same
+
+pub always_ok : {T E : Type 0} {P : Type 0} (r : Result T E) → P → OnOk r P
+always_ok (Ok value) p = p
+always_ok (Err error) p = tt
+
+pub if_three : {T E : Type 0} {P Q R U : T → Type 0} (r : Result T E) → IfOk r P → IfOk r Q → IfOk r R → ((value : T) → P value → Q value → R value → U value) → IfOk r U
+if_three (Ok x) p q r then = then x p q r
+if_three (Err e) p q r then = tt

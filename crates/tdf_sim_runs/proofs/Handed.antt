@@ -26,7 +26,7 @@ use Rattle.tdf_sim_runs.specs.declared.going.Ended.{Ended}
 use Rattle.tdf_sim_runs.specs.declared.running.Running.{Running}
 use Rattle.tdf_sim_history.specs.Cells.{run_cells}
 
-same_rest : (xs ys zs : List ℕ) → xs ++ ys ≡ xs ++ zs → ys ≡ zs
+pub same_rest : (xs ys zs : List ℕ) → xs ++ ys ≡ xs ++ zs → ys ≡ zs
 same_rest [] ys zs same = same
 same_rest (x ∷ xs) ys zs same = let rest : xs ++ ys ≡ xs ++ zs = cc in same_rest xs ys zs rest
 
@@ -107,3 +107,11 @@ module _ (law : BoundariesHaveOne) (flat : Flat) (x y : Running) (a b c d : Opti
 pub rows_front_of : BoundariesHaveOne → (flat : Flat) (x y : Running) (stop : ℕ) (g : List ℕ) (a b : Option (List ℕ)) → CanGoOn flat y → y.from ≤ stop → RunGoesOn flat x y g a b → WritesPart flat stop x a b
 rows_front_of law flat x y stop g a b can within one = part_then law flat x y stop g a b b can within one (λ model start handed ahead m run to.
     none_front y.shown.trace.about (run_cells model flat (rules_of model flat) (world_told ahead start) (end_from model flat start ahead stop)) y.shown.trace.rows.upto (end_from model flat start ahead stop) b)
+
+-- a run that goes on and hands on news, and then goes on without
+pub goes_last : BoundariesHaveOne → (flat : Flat) (x y z : Running) (a b e c d : Option (List ℕ)) → CanGoOn flat y → GoesHanding flat x y a b c d → RunGoesOn flat y z [] b e → GoesHanding flat x z a e c d
+goes_last law flat x y z a b e c d can one other = record {
+  news = one.news;
+  took = one.took;
+  goes = subst (λ l. RunGoesOn flat x z l a e) (append-nil one.news) (goes_then law flat x y z one.news [] a b e can one.goes other);
+}

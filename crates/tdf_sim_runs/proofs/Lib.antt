@@ -17,6 +17,7 @@ pub mod Noting
 pub mod Onward
 pub mod Opening
 pub mod Reaching
+pub mod Resting
 pub mod RunStands
 pub mod Staying
 pub mod Stepping

@@ -1,10 +1,9 @@
--- Rows of a run are written up to a mark that no period began before.
+-- Rows of a run are written up to a mark: no position without a sample and no end of a period lies before it.
 use Rattle.std.proofs.Common.{◌≡◌, ◌∙◌, ℕ, ◌≤◌, ◌++◌, List, [], Option, max, sym, subst, inl, inr, arith}
 use Rattle.std.proofs.lemmas.Bool.{cases_lt}
 use Rattle.std.specs.Io.KnownBytes.{Appends}
 use Rattle.tdf_trace.specs.Calls.{StandBelow}
 use Rattle.tdf_sim_instants.specs.InstantLaws.{IsModelOf}
-use Rattle.tdf_sim_instants.specs.Telling.{IsLeastStart}
 use Rattle.tdf_events.specs.Side.{SideOf}
 use Rattle.tdf_bind.specs.declared.model.Flat.{Flat}
 use Rattle.tdf_sim_history.specs.Cells.{run_cells}
@@ -13,20 +12,20 @@ use Rattle.tdf_sim_history.specs.Telling.{world_told}
 use Rattle.tdf_sim_history.specs.World.{Change, World}
 use Rattle.tdf_io.specs.Bytes.{AppendsFront}
 use Rattle.tdf_sim_runs.proofs.Handing.{hands_none}
-use Rattle.tdf_sim_runs.proofs.Onward.{since_mark}
 use Rattle.tdf_sim_runs.proofs.RunStands.{run_stands}
 use Rattle.tdf_sim_runs.proofs.Finishing.{rows_same}
 use Rattle.tdf_sim_runs.proofs.Told.{cells_told}
 use Rattle.tdf_sim_runs.proofs.Written.{rows_alike, rows_past}
 use Rattle.tdf_sim_runs.specs.Ending.{ShownStandsBelow}
 use Rattle.tdf_sim_runs.specs.Ongoing.{AreToldTo}
-use Rattle.tdf_sim_runs.specs.Running.{CanGoOn, RunGoesOn, IsRunningAt, WritesFrontTo}
+use Rattle.tdf_sim_runs.specs.Running.{AreWithin, CanGoOn, RunGoesOn, IsRunningAt, WritesFrontTo}
 use Rattle.tdf_sim_runs.specs.declared.running.Running.{Running}
 use Rattle.tdf_trace_rows.specs.Laws.{Agree}
 use Rattle.tdf_trace_rows.specs.Rows.{Cells}
 use Rattle.tdf_trace_rows.proofs.Api.{agree_trans}
 use Rattle.tdf_sim_traces.proofs.Api.{written_is_shown}
 use Rattle.tdf_trace.specs.Stands.{TraceSeen, WritesFront, WritesRows}
+use Rattle.tdf_trace.specs.Tracked.{AreSince}
 use Rattle.tdf_trace.specs.Writings.{AboutSeen, rows_text}
 use Rattle.tdf_lang_tree.specs.Pure.{PureTree}
 use Rattle.tdf_sim_history.specs.Rules.{rules_of}
@@ -38,23 +37,24 @@ rows_by about g h u v mark a b agree low within took = elim (cases_lt mark v) [
   | inl past ↦ subst (λ (t : List ℕ). Appends a b t) (rows_past about g u v (omega (arith, low, within, past)) ∙ sym (rows_past about h u v (omega (arith, low, within, past)))) took
 ]
 
-module _ (law : BoundariesHaveOne) (stands : ShownStandsBelow) (flat : Flat) (r : Running) (can : CanGoOn flat r) (mark : ℕ) (least : IsLeastStart r.engine.since.items r.from mark) where
-  stand : (model : PureTree) (start : World SideOf) (handed : List ℕ) → IsModelOf model flat → (run : IsRunningAt model flat start handed r)
+module _ (law : BoundariesHaveOne) (stands : ShownStandsBelow) (flat : Flat) (r : Running) (can : CanGoOn flat r) (mark : ℕ) (low : mark ≤ r.from) (since : AreSince mark r.shown.tracking.list) (inside : AreWithin mark r.engine) where
+  pub stand : (model : PureTree) (start : World SideOf) (handed : List ℕ) → IsModelOf model flat → (run : IsRunningAt model flat start handed r)
       → StandBelow (run_cells model flat (rules_of model flat) (world_told run.going.ahead start) r.from) mark r.shown.trace.rows
-  stand model start handed m run = run_stands stands model flat start r.from mark r.left r.engine r.shown (handed ++ r.news.items) m run (since_mark flat r can mark least.each) least.within
+  stand model start handed m run = run_stands stands model flat start r.from mark r.left r.engine r.shown (handed ++ r.news.items) m run since low
 
   -- they agree with the cells of the history that is told other answers
-  agrees : (model : PureTree) (start : World SideOf) (handed : List ℕ) (ahead : List (List Change)) → (m : IsModelOf model flat) → (run : IsRunningAt model flat start handed r) → AreToldTo model flat start r.from ahead
+  pub agrees : (model : PureTree) (start : World SideOf) (handed : List ℕ) (ahead : List (List Change)) → (m : IsModelOf model flat) → (run : IsRunningAt model flat start handed r) → AreToldTo model flat start r.from ahead
       → (noted : Cells) → Agree noted (run_cells model flat (rules_of model flat) (world_told run.going.ahead start) r.from) mark → Agree noted (run_cells model flat (rules_of model flat) (world_told ahead start) r.from) mark
   agrees model start handed ahead m run to noted agree = agree_trans noted (run_cells model flat (rules_of model flat) (world_told run.going.ahead start) r.from)
-      (run_cells model flat (rules_of model flat) (world_told ahead start) r.from) mark r.from least.within agree
+      (run_cells model flat (rules_of model flat) (world_told ahead start) r.from) mark r.from low agree
       (cells_told law model flat start r.from r.left r.engine m run.going ahead to)
 
   pub marks_part : (before after : Option (List ℕ)) → WritesFront r.shown.trace mark before after → WritesFrontTo flat r before after
   marks_part before after part = record {
     mark = mark;
-    early = least.within;
-    late = least.each;
+    early = low;
+    since = since;
+    within = inside;
     front = λ model start handed ahead m run to. (
         let s = stand model start handed m run in
         subst (λ (t : List ℕ). AppendsFront before after t)
@@ -81,9 +81,9 @@ module _ (law : BoundariesHaveOne) (stands : ShownStandsBelow) (flat : Flat) (r 
       engine = can.engine;
       ready = can.ready;
       none = can.none;
-      early = (let e = can.early in let l = least.within in omega (arith, e, l, within));
-      since = λ place t t_at more. (let a = can.since place t t_at more in let b = since_mark flat r can mark least.each place t t_at more in omega (arith, a, b, within));
-      within = λ n s c s_at c_at. (let e = can.within n s c s_at c_at in let l = least.each n s s_at in omega (arith, e, l, within));
+      early = (let e = can.early in omega (arith, e, low, within));
+      since = λ place t t_at more. (let a = can.since place t t_at more in let b = since place t t_at more in omega (arith, a, b, within));
+      within = λ n s c s_at c_at. (let e = can.within n s c s_at c_at in let l = inside n s c s_at c_at in omega (arith, e, l, within));
       printable = can.printable;
       some = record { model = can.some.model; of = can.some.of; start = can.some.start; handed = can.some.handed; is = marks_run can.some.model can.some.start can.some.handed can.some.of can.some.is };
     }

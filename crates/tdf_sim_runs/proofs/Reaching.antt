@@ -23,7 +23,7 @@ use Rattle.tdf_sim_runs.proofs.Ended.{before_end}
 use Rattle.tdf_sim_runs.proofs.Handing.{news_more}
 use Rattle.tdf_sim_runs.proofs.Waiting.{runs_to, runs_to_next}
 use Rattle.tdf_sim_runs.proofs.Leading.{ends_so, halts, more_halted, more_spent, news_halted, news_spent, spends, stop_reached}
-use Rattle.tdf_sim_runs.proofs.Onward.{cells_stay, on_before, since_mark, told_before, waiting, waits_later, waits_runs, within_mark}
+use Rattle.tdf_sim_runs.proofs.Onward.{cells_stay, on_before, told_before, waiting, waits_later, waits_runs}
 use Rattle.tdf_sim_runs.proofs.Written.{none_taken, rows_less, rows_part, rows_then}
 use Rattle.tdf_sim_runs.specs.Ending.{EndsAs, EndsBy, GoesToEnd, WritesPart, end_from, state_from}
 use Rattle.tdf_sim_runs.specs.News.{news_text}
@@ -71,7 +71,7 @@ module _ (law : BoundariesHaveOne) where
       let end = end_from model flat start ahead stop in
       rows_less r.shown.trace.about (run_cells model flat (rules_of model flat) own r.from) (run_cells model flat (rules_of model flat) own end)
       r.shown.trace.rows.upto part.mark end before after (let e = part.early in omega (arith, e, later))
-      (cells_stay law model flat start last.0 handed ahead r end part.mark m can run early later last.1 part.early (since_mark flat r can part.mark part.late) (within_mark flat r part.mark part.late))
+      (cells_stay law model flat start last.0 handed ahead r end part.mark m can run early later last.1 part.early part.since part.within)
       (part.front model start handed ahead m run early)
 
   -- also after the rows that were written before

@@ -25,7 +25,7 @@ rows_alike about g h u v mark agree low high = elim (cases_lt u v) [
 ]
 
 -- some rows and then more
-rows_split : (about : AboutSeen) (g : Cells) (u v w : ℕ) → u ≤ v → v ≤ w → rows_text about g u w ≡ rows_text about g u v ++ rows_text about g v w
+pub rows_split : (about : AboutSeen) (g : Cells) (u v w : ℕ) → u ≤ v → v ≤ w → rows_text about g u w ≡ rows_text about g u v ++ rows_text about g v w
 rows_split about g u v w low high = text_split (writing_of about).line g u v w low high
 
 pub rows_then : (about : AboutSeen) (g h : Cells) (u v w : ℕ) (a b c : Option (List ℕ)) → u ≤ v → v ≤ w → Agree g h v

@@ -95,12 +95,13 @@ pub record RunGoesOn (flat : Flat) (old new : Running) (news : List ℕ)
       (told_rows model flat start ahead old.shown.trace.about new.from
       old.shown.trace.rows.upto new.shown.trace.rows.upto)
 
--- a call that writes was refused: the sink took a front part of the rows below a mark that no
--- period began before
+-- a call that writes was refused: the sink took a front part of the rows below a mark; no position
+-- without a sample and no end of a period lies before it
 pub record WritesFrontTo (flat : Flat) (r : Running) (before after : Option (List ℕ)) : Type 0 where
   pub mark : ℕ
   pub early : mark ≤ r.from
-  pub late : (n s : ℕ) → slice_get r.engine.since.items n ≡ Some s → mark ≤ s
+  pub since : AreSince mark r.shown.tracking.list
+  pub within : AreWithin mark r.engine
   pub front : (model : PureTree) (start : World SideOf) (handed : List ℕ)
       → (ahead : List (List Change)) → IsModelOf model flat
       → IsRunningAt model flat start handed r

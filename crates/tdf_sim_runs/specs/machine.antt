@@ -1,2 +1,2 @@
 -- How the code of this crate works.
-pub mod Whole
+pub mod Closing

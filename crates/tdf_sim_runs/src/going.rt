@@ -36,7 +36,7 @@ ghost use Rattle.tdf_io.specs.Bytes.{AppendsFront};
 ghost use Rattle.tdf_io.specs.Faults.{CountsSinkFaults, CountsTwoSinks};
 ghost use Rattle.tdf_io.specs.declared.writing.SinkErr.TheVariants.{Failed};
 ghost use Rattle.tdf_sim_runs.specs.Ending.{GoesToEnd, HandsPart, WritesPart};
-ghost use Rattle.tdf_sim_runs.specs.Handing.{EndsHanding, HandsOn};
+ghost use Rattle.tdf_sim_runs.specs.Handing.{ComesHanding, ComesToStop, EndsHanding, HandsOn};
 ghost use Rattle.tdf_sim_runs.specs.Running.{CanGoOn, RunGoesOn, IsDueNow, WritesFrontTo};
 ghost use Rattle.tdf_sim_traces.specs.Calls.{CanTake, ShowsInstant};
 ghost use Rattle.tdf_sim_traces.specs.Periods.{clock_at};
@@ -231,6 +231,8 @@ impl Running {
         ensures open { OnOk result (self.new.shown.trace.stage ≡ Open) }
         ensures ends { IfOk result (λ end. IfSome end
             (GoesToEnd flat.now stop self.old self.new [] (K.taken out.old) (K.taken out.new))) }
+        ensures comes { result ≡ Ok (Some ended.Reached)
+            → ComesToStop flat.now stop self.old self.new (K.taken out.old) (K.taken out.new) }
         ensures part { OnErr result (WritesPart flat.now stop self.old (K.taken out.old) (K.taken out.new)) }
         ensures counted { CountsSinkFaults (K.faults out.old) (K.faults out.new) result }
     {
@@ -269,6 +271,8 @@ impl Running {
         requires open { self.old.shown.trace.stage ≡ Open }
         ensures ends { IfOk result (EndsHanding flat.now stop self.old self.new
             (K.taken out.old) (K.taken out.new) (N.taken notes.old) (N.taken notes.new)) }
+        ensures comes { result ≡ Ok ended.Reached → ComesHanding flat.now stop self.old self.new
+            (K.taken out.old) (K.taken out.new) (N.taken notes.old) (N.taken notes.new) }
         ensures open { OnOk result (self.new.shown.trace.stage ≡ Open) }
         ensures part { OnErr result (WritesPart flat.now stop self.old (K.taken out.old) (K.taken out.new)) }
         ensures notes_part { OnErr result

@@ -4,6 +4,7 @@
 //! - `starting`: how a run begins.
 //! - `going`: from instant to instant.
 //! - `ending`: how the trace of a run ends.
+//! - `rest`: a run that goes on to its end.
 //! - `run`: a whole run.
 //! - `news`: the plans that boundaries bring, as text.
 //! - `laws`, `standing`: what holds of the definitions.
@@ -13,12 +14,14 @@ mod ending;
 mod going;
 mod laws;
 mod news;
+mod rest;
 mod run;
 mod running;
 mod standing;
 mod starting;
 
 pub use laws::{law_advancing, law_going, law_next, law_staying, law_waiting};
-pub use run::{Ran, Request, run_model};
+pub use rest::{Until, go_on};
+pub use run::{Ran, Request, begin_run, run_model};
 pub use running::Running;
 pub use standing::law_standing;

@@ -1,13 +1,15 @@
-use Rattle.std.proofs.Common.{[], append-nil, IfSome, ◌∙◌, ◌<◌, ◌≤◌, Err, Ok, ap, subst, refl, arith}
+use Rattle.std.proofs.Common.{[], append-nil, IfSome, Some, ◌∙◌, ◌<◌, ◌≤◌, Err, Ok, ap, subst, refl, arith}
 use Rattle.std.proofs.KnownBytes.{Appends-nil}
 use Rattle.tdf_io.proofs.Api.{counts_then, front_none}
 use Rattle.tdf_sim_runs.proofs.Counting.{first_failed, second_failed}
-use Rattle.tdf_sim_runs.proofs.Handed.{end_handing, hands_can, hands_part, rows_front_of, turn_then}
+use Rattle.tdf_sim_runs.proofs.Answering.{same_ok}
+use Rattle.tdf_sim_runs.proofs.Handed.{end_handing, goes_last, hands_can, hands_part, rows_front_of, turn_then}
 use Rattle.tdf_sim_runs.proofs.Onward.{goes_quietly, goes_then}
 use Rattle.tdf_sim_runs.proofs.Reaching.{part_then}
 use Rattle.tdf_sim_runs.proofs.running.Running.go.Goals as goal
 use Rattle.tdf_sim_runs.specs.Ending.{GoesToEnd}
 use Rattle.tdf_sim_runs.specs.Running.{RunGoesOn}
+use Rattle.tdf_sim_runs.specs.declared.going.Ended.TheVariants as ended
 use Rattle.tdf_sim_runs.specs.declared.running.Running.{Running}
 
 pub loop-ended-init : goal.loop-ended-init
@@ -64,6 +66,14 @@ returns-in-Ok-Some g c =
       ends = end_handing c.law_one_answer.ensures c.args.flat.now c.args.self.now c.loop-ended.self (g.K.Sink.taken c.args.out.now) (g.K.Sink.taken c.loop-ended.out) (g.N.Sink.taken c.args.notes.now) (g.N.Sink.taken c.loop-ended.notes)
           c.loop-ended.invariant.can c.loop-ended.invariant.goes c.turn.new.self c.args.stop c.in-Ok-Some.ended (g.K.Sink.taken c.turn.new.out) c.loop-ended.invariant.within
           (subst (λ o. IfSome o (GoesToEnd c.args.flat.now c.args.stop c.loop-ended.self c.turn.new.self [] (g.K.Sink.taken c.loop-ended.out) (g.K.Sink.taken c.turn.new.out))) c.in-Ok-Some.field-0-is c.in-Ok-Some.ensures.ends);
+      comes = λ is. (
+          let come = c.in-Ok-Some.ensures.comes (ap Ok (c.in-Ok-Some.field-0-is) ∙ ap (λ e. Ok (Some e)) (same_ok c.in-Ok-Some.ended ended.Reached is)) in
+          record {
+            can = come.can;
+            at = come.at;
+            goes = goes_last c.law_one_answer.ensures c.args.flat.now c.args.self.now c.loop-ended.self c.turn.new.self (g.K.Sink.taken c.args.out.now) (g.K.Sink.taken c.loop-ended.out) (g.K.Sink.taken c.turn.new.out) (g.N.Sink.taken c.args.notes.now) (g.N.Sink.taken c.loop-ended.notes)
+                c.loop-ended.invariant.can c.loop-ended.invariant.goes come.goes;
+          });
       «open» = c.in-Ok-Some.ensures.«open»;
       part = tt;
       notes_part = tt;
@@ -100,6 +110,7 @@ returns-in-Err-hand_on g c =
     let noted = counts_then _ _ _ tt _ c.loop-ended.invariant.noted c.in-Err-hand_on.ensures.counted in
     record {
       ends = tt;
+      comes = λ is. absurd cc;
       «open» = tt;
       part = rows_front_of c.law_one_answer.ensures flat c.args.self.now c.turn.new.self c.args.stop goes.news (g.K.Sink.taken c.args.out.now) out (c.in-Ok-None.ensures.can is) (c.in-Ok-None.ensures.within is) quiet;
       notes_part = hands_part c.law_one_answer.ensures flat c.args.self.now c.turn.new.self c.args.stop goes.news (g.K.Sink.taken c.args.out.now) out

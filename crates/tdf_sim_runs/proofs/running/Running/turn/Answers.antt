@@ -28,6 +28,17 @@ returns-then-self-stop-clause-ends g c =
     subst (λ (x : Running). GoesToEnd c.args.flat.now c.args.stop c.args.self.now x [] taken taken ended.Reached) (sym c.wait.ensures.rest)
     (reaches c.args.flat.now c.args.self.now c.args.stop c.wait.new.self.from c.requires.can c.requires.within c.wait.ensures.next c.if-self-stop.true taken)
 
+pub returns-then-self-stop-clause-comes : goal.returns-then-self-stop-clause-comes
+returns-then-self-stop-clause-comes g c = λ _.
+    let flat = c.args.flat.now in
+    let taken = g.K.Sink.taken c.args.out.now in
+    let next = c.wait.ensures.next in
+    record {
+      can = subst (CanGoOn flat) (sym c.wait.ensures.rest) (waits flat c.args.self.now c.args.stop c.wait.new.self.from c.requires.can c.requires.within next);
+      at = c.if-self-stop.true;
+      goes = subst (λ (x : Running). RunGoesOn flat c.args.self.now x [] taken taken) (sym c.wait.ensures.rest) (waits_goes flat c.args.self.now c.args.stop c.wait.new.self.from c.requires.can c.requires.within next taken);
+    }
+
 pub wait-requires-clause-going : goal.wait-requires-clause-going
 wait-requires-clause-going g c = c.requires.can.engine.kernel.going
 

@@ -1,6 +1,6 @@
 use Rattle.tdf_sim_history.specs.Cells.{run_cells}
 use Rattle.tdf_sim_runs.proofs.Answering.{writes_err}
-use Rattle.tdf_sim_runs.proofs.run.closed.Goals as goal
+use Rattle.tdf_sim_runs.proofs.rest.closed.Goals as goal
 use Rattle.tdf_trace.specs.Writings.{rest_text}
 use Rattle.tdf_sim_history.specs.Rules.{rules_of}
 

@@ -2,7 +2,7 @@ use Rattle.std.proofs.Common.{List, Ok, ℕ, subst}
 use Rattle.tdf_io.proofs.Api.{writes_then}
 use Rattle.tdf_sim_notes.specs.Ending.{end_text}
 use Rattle.tdf_io.specs.Bytes.{WritesText}
-use Rattle.tdf_sim_runs.proofs.run.write_notes.Goals as goal
+use Rattle.tdf_sim_runs.proofs.rest.write_notes.Goals as goal
 
 pub returns-in-Ok : goal.returns-in-Ok
 returns-in-Ok g c = writes_then g.N.Sink.taken g.N.Sink.faults c.args.notes.now c.put_all.new.sink c.write_closing.new.notes c.args.whole.now.news.items
