@@ -17,7 +17,7 @@ pub use Rattle.tdf_sim_refinement.proofs.Writing.{begins, enough, entry_in, give
 pub use Rattle.tdf_sim_refinement.proofs.Inside.{entries_inside, needs_inside, offset_by, offset_inside}
 pub use Rattle.tdf_sim_refinement.proofs.Lasting.{takes_time}
 pub use Rattle.tdf_sim_refinement.proofs.Answered.{answers_are_told}
-pub use Rattle.tdf_sim_refinement.proofs.Knowing.{column_more, done_known, held, known_to, outputs_known}
+pub use Rattle.tdf_sim_refinement.proofs.Knowing.{column_more, done_known, held, known_to, none_done, outputs_known}
 pub use Rattle.tdf_sim_refinement.proofs.Passes.{passes_trace}
 pub use Rattle.tdf_sim_refinement.proofs.Picked.{samples_append, samples_none}
 pub use Rattle.tdf_sim_refinement.proofs.Sampled.{boundaries_add_none, boundary_adds_none, cell_of_samples, starts_have_samples}

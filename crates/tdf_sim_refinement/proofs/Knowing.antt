@@ -96,7 +96,7 @@ outputs_known tables s old p later port number a k past t inside below at = colu
         ∙ ap (port_output (old ++ p ∷ later) port number past) rest
 
 -- an actor of no entry is never activated
-none_done : (es : List Entry) (i m : ℕ) → ((k : ℕ) (x : Entry) → slice_get es k ≡ Some x → x.actor ≢ m) → done es i m ≡ 0
+pub none_done : (es : List Entry) (i m : ℕ) → ((k : ℕ) (x : Entry) → slice_get es k ≡ Some x → x.actor ≢ m) → done es i m ≡ 0
 unfolding done
 none_done [] zero m apart = refl
 none_done [] (suc i) m apart = refl

@@ -2,3 +2,4 @@ mod Good
 mod Members
 mod One
 mod Quiet
+mod Saved

@@ -1,19 +1,22 @@
 -- What holds of the world that a valid snapshot says, and of the snapshots of a world.
 -- Source: own.
-use Rattle.std.specs.Prelude.{◌≡◌, ◌<◌, ◌≤◌, ◌+◌, ℕ, Bool, false, List, All, Some, slice_get}
+use Rattle.std.specs.Prelude.{◌≡◌, ◌<◌, ◌≤◌, ◌+◌, ℕ, Bool, false, List, All, Some, length, slice_get}
 use Rattle.tdf_bind.specs.declared.model.Flat.{Flat}
 use Rattle.tdf_bind_invariants.specs.Limits.{AreWithinLimits}
 use Rattle.tdf_dynamic_first.specs.declared.first.First.{First}
 use Rattle.tdf_events.specs.Side.{SideOf}
+use Rattle.tdf_exec.specs.Cluster.{ClusterOf}
+use Rattle.tdf_exec.specs.Saved.{cluster_state}
 use Rattle.tdf_lang_tree.specs.Pure.{PureTree}
-use Rattle.tdf_saved.specs.State.{SnapshotOf}
+use Rattle.tdf_saved.specs.State.{ClusterStateOf, SnapshotOf}
 use Rattle.tdf_sim_history.specs.Continuing.{HasToldCounts, HasWholePlan}
 use Rattle.tdf_sim_history.specs.History.{On}
 use Rattle.tdf_sim_history.specs.Rules.{rules_of, world_engine}
 use Rattle.tdf_sim_history.specs.TableLaws.{HaveAttributes}
 use Rattle.tdf_sim_history.specs.Texts.{state_at}
 use Rattle.tdf_sim_history.specs.World.{Change, ClusterAt, World}
-use Rattle.tdf_sim_resumed.specs.Snapshot.{IsSnapshot}
+use Rattle.tdf_sim_refinement.specs.Pass.{AreAt}
+use Rattle.tdf_sim_resumed.specs.Snapshot.{AreSavedClusters, IsSnapshot}
 use Rattle.tdf_sim_resumed.specs.Starting.{resumed_world}
 use Rattle.tdf_sim_resumed.specs.Valid.{IsValid}
 use Rattle.tdf_streams.specs.Signals.{time_of_periods}
@@ -53,3 +56,17 @@ SnapshotIsOne = (model : PureTree) (flat : Flat) (start w : World SideOf) (time 
     → (vcd : Bool) (one other : SnapshotOf) → AreWithinLimits flat → HaveAttributes flat w
     → IsSnapshot model flat start w time budget vcd one
     → IsSnapshot model flat start w time budget vcd other → one ≡ other
+
+-- these are the states that clusters in progress tell, whose periods began at these times
+pub record AreToldStates (since : List ℕ) (clusters : List ClusterOf)
+    (states : List ClusterStateOf) : Type 0 where
+  pub same : length states ≡ length clusters
+  pub each : (n : ℕ) (c : ClusterOf) (t : ℕ) (s : ClusterStateOf) → slice_get clusters n ≡ Some c
+      → slice_get since n ≡ Some t → slice_get states n ≡ Some s → s ≡ cluster_state c t
+
+-- where clusters in progress are those of the history, they are the states of these
+abbrev pub ClustersAreSaved : Type 0
+ClustersAreSaved = (model : PureTree) (flat : Flat) (w : World SideOf) (since : List ℕ)
+    → (clusters : List ClusterOf) (states : List ClusterStateOf) → AreWithinLimits flat
+    → AreAt model flat since w.clusters clusters → length since ≡ length clusters
+    → AreToldStates since clusters states → AreSavedClusters model flat w states
