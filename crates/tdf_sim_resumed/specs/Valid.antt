@@ -17,6 +17,7 @@ use Rattle.tdf_lang_tree.specs.Pure.{PureTree}
 use Rattle.tdf_saved.specs.State.{ClusterStateOf, ColumnStateOf, SnapshotOf}
 use Rattle.tdf_saved.specs.declared.state.Stamp.{Stamp as SavedStamp}
 use Rattle.tdf_sim_resumed.specs.Resuming.{resumed_clusters}
+use Rattle.tdf_trace_states.specs.Windows.{AreChangesTo, AreRisingFrom}
 use Rattle.tdf_sim_resumed.specs.Starting.{Tracked, known_count, position_count, positions_before, row_of_trace, rows_from_saved, stamps_from, time_of_position, tracked_of}
 
 -- the time is one of a run, and no more turns were used than there are
@@ -53,12 +54,6 @@ pub record HasNumbersFor (tables : FlatTablesOf) (row : TraceRow) (s : ColumnSta
   pub samples : All (λ (x : SavedStamp). IsNumberFor (row_of_trace tables row) x.num) s.samples
   pub later : All (IsNumberFor (row_of_trace tables row)) s.later
 
--- the times of samples rise, from a time on
-pub record AreRisingFrom (time : ℕ) (samples : List SavedStamp) : Type 0 where
-  pub from : All (λ (x : SavedStamp). time ≤ x.time) samples
-  pub rise : (i : ℕ) (x y : SavedStamp) → slice_get samples i ≡ Some x
-      → slice_get samples (i + 1) ≡ Some y → x.time < y.time
-
 -- a column of samples, where rows are written from a time on: from the start of the period on it
 -- has a sample at each known position, from those rows on, and the known ones for positions after
 -- the period; nothing is carried to the time 0, and where rows begin there the first sample does
@@ -72,12 +67,6 @@ pub record IsValidSamples (rows : ℕ) (x : Tracked) (s : ColumnStateOf) : Type 
   pub some : 0 < rows → IsSome s.carry
   pub first : rows ≡ 0 → 0 < x.cluster.since → (sample : SavedStamp)
       × (slice_get s.samples 0 ≡ Some sample) × (sample.time ≡ 0)
-
--- each number differs from the one before it, and so does the first of them from a value; the last
--- of all is another value
-unfoldable pub AreChangesTo : (value : ℤ) → List ℤ → (last : ℤ) → Type 0
-AreChangesTo value [] last = value ≡ last
-AreChangesTo value (num ∷ nums) last = (value ≢ num) × AreChangesTo num nums last
 
 -- the starting value of a signal
 abbrev pub StartsWith : Option SignalRow → ℤ → Type 0

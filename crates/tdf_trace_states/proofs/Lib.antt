@@ -1,1 +1,3 @@
+pub mod Changing
 pub mod Fits
+pub mod Standing

@@ -1,2 +1,3 @@
 pub mod ColumnStates
+pub mod Windows
 pub mod machine

@@ -42,7 +42,7 @@ fn is_carry(format: Format, carry: Option<i128>) -> bool
 }
 
 /// Whether samples stand at rising times.
-fn do_rise(samples: &[Stamp]) -> bool
+pub(crate) fn do_rise(samples: &[Stamp]) -> bool
     ensures { (result ≡ true) ↔ DoRise samples.now }
 {
     for i in 1..samples.len() {
