@@ -1,3 +1,4 @@
+pub mod Api
 mod Good
 mod Members
 mod One

@@ -1,6 +1,12 @@
 mod Adding
 mod Cells
+mod ColumnStarts
 mod Columns
+mod Counting
 mod Ends
+mod Going
 mod Rising
+mod Restored
 mod RowsFrom
+mod Splits
+mod Taken

@@ -1,2 +1,3 @@
+pub mod Resumed
 pub mod Saved
 pub mod machine

@@ -1,2 +1,3 @@
 -- How the code goes from column to column.
+pub mod Resuming
 pub mod Waiting

@@ -1,6 +1,7 @@
 pub mod Advanced
 pub mod Calls
 pub mod Events
+pub mod GoingOn
 pub mod Laws
 pub mod Periods
 pub mod Shown

@@ -1,6 +1,6 @@
 -- The traced signals of samples, and the ports that drive them.
 -- Source: own.
-use Rattle.std.specs.Prelude.{◌≡◌, ◌<◌, ℕ, true, false, ◌+◌, List, None, Option, Some, if◌then◌else◌, length, option_map, slice_get, slice_index}
+use Rattle.std.specs.Prelude.{◌≡◌, ◌<◌, ℕ, true, false, ◌+◌, IfSome, List, None, Option, Some, if◌then◌else◌, length, option_map, slice_get, slice_index}
 use Rattle.tdf_bind_tables.specs.FlatTables.{FlatTablesOf}
 use Rattle.tdf_dynamic_plans.specs.Attributes.{clusters_of}
 use Rattle.tdf_bind.specs.declared.model.Flat.{Flat}
@@ -61,3 +61,9 @@ pub record AreTold (tables : FlatTablesOf) : Type 0 where
 abbrev pub driven_of : FlatTablesOf → TraceRow → Option ℕ
 driven_of tables row = if row.event then None else option_map (λ (number : ℕ). row.signal)
     (driver_of_row (slice_get tables.signals row.signal))
+
+-- what is listed of the trace of a column
+pub record IsTracedAt (flat : Flat) (column : ℕ) (traced : Option TracedSignal) : Type 0 where
+  pub signal : (row : TraceRow) → slice_get flat.tables.traces column ≡ Some row
+      → option_map (λ (t : TracedSignal). t.signal) traced ≡ driven_of flat.tables row
+  pub listed : IfSome traced (IsListed flat)

@@ -19,7 +19,8 @@ ghost use Rattle.tdf_sim_history.specs.Cells.{is_same_value};
 ghost use Rattle.tdf_sim_traces.specs.Calls.{CanBeShown, start_values};
 ghost use Rattle.tdf_sim_traces.specs.Events.{AreEventColumns};
 ghost use Rattle.tdf_sim_traces.specs.declared.events.EventColumn.{EventColumn as Column};
-ghost use Rattle.tdf_sim_traces.specs.machine.Noting.{IsShowing, TakesChange, with_shown};
+ghost use Rattle.tdf_sim_traces.specs.GoingOn.{HaveValues};
+ghost use Rattle.tdf_sim_traces.specs.machine.Noting.{HaveShown, IsShowing, TakesChange, with_shown};
 ghost use Rattle.tdf_sim_traces.specs.machine.Pushing.{AreColumnsTo};
 
 use std::alloc::Global;
@@ -129,4 +130,15 @@ pub(crate) fn show_all(
         events[k].show(trace, time, values)?;
     }
     Ok(())
+}
+
+/// All columns of event signals show these values, without a cell.
+pub(crate) fn settle_all(events: &mut Vec<EventColumn>, values: &[Raw])
+    requires { HaveValues events.old.items values.now }
+    ensures { HaveShown values.now (length events.old.items) events.old.items events.new.items }
+{
+    for k in 0..events.len() {
+        let signal = events[k].signal as usize;
+        events[k].shown = values[signal];
+    }
 }

@@ -19,6 +19,6 @@ mod variables;
 
 pub use events::EventColumn;
 pub use laws::{law_can, law_kept};
-pub use periods::Clock;
+pub use periods::{Clock, positions};
 pub use shown::Shown;
-pub use signals::TracedSignal;
+pub use signals::{TracedSignal, traced_at};

@@ -25,8 +25,8 @@ use tdf_base::Memory;
 use tdf_bind::Flat;
 use tdf_trace::{Trace, Tracking};
 
-/// How many positions a signal has in a period of its cluster.
-fn positions(flat: &Flat, cluster: &Cluster, traced: TracedSignal) -> u64
+/// How many positions a signal has in a period of its cluster. It takes no memory.
+pub fn positions(flat: &Flat, cluster: &Cluster, traced: TracedSignal) -> u64
     requires limits { AreWithinLimits flat.now }
     requires of { IsClusterOf flat.now cluster.now }
     requires port { traced.port < length flat.now.tables.ports }

@@ -1,6 +1,6 @@
 //! The trace of a run with all that leads to its columns.
 
-use crate::events::{EventColumn, event_columns, show_all};
+use crate::events::{EventColumn, event_columns, settle_all, show_all};
 use crate::signals::{TracedSignal, traced_signals};
 use tdf_trace::{Trace, Tracking};
 
@@ -17,12 +17,16 @@ pub struct Shown {
     pub events: Vec<EventColumn>,
 }
 
-ghost use Rattle.std.specs.Prelude.{◌≡◌, ◌≤◌, length, IfOk, OnOk};
+ghost use Rattle.std.specs.Prelude.{◌≡◌, ◌≤◌, Err, length, IfOk, OnOk};
 ghost use Rattle.tdf_trace.specs.Tracked.{AreSince};
 ghost use Rattle.tdf_events.specs.Runnable.{IsRunnable};
 ghost use Rattle.tdf_exec.specs.Starts.{IsSoundFlat};
 ghost use Rattle.tdf_sim_traces.specs.Calls.{CanBeShown, CanStart, CanTake, IsUnshown, ShowsEnd, ShowsInstant, StartsShowing};
+ghost use Rattle.tdf_sim_traces.specs.GoingOn.{GoesOnFromStates, HaveValues, IsNotMade};
 ghost use Rattle.tdf_sim_traces.specs.Periods.{clock_at, clock_of};
+ghost use Rattle.tdf_sim_traces.specs.Variables.{variables_of};
+ghost use Rattle.tdf_saved.specs.declared.err.StateErr.TheVariants as why;
+ghost use Rattle.tdf_trace.specs.States.{AreColumnStates, AreStampedFrom};
 
 use crate::initials::give_all;
 use crate::periods::{Clock, begin_all, begin_later};
@@ -33,6 +37,7 @@ use tdf_bind::Flat;
 use tdf_convert::Traced;
 use tdf_exec::Cluster;
 use tdf_fixed::Raw;
+use tdf_saved::{ColumnState, StateErr};
 use tdf_trace_rows::TraceKind;
 
 impl Shown {
@@ -57,6 +62,47 @@ impl Shown {
             signals,
             events,
         })
+    }
+
+    /// The trace goes on from the states of its columns at a time, with rows to be written from `rows` on; the columns of event signals
+    /// show the values that these have then.
+    ///
+    /// # Errors
+    /// Bad where they are no such states; out of memory.
+    pub fn go_on(
+        &mut self,
+        alloc: Global,
+        flat: &Flat,
+        kind: TraceKind,
+        states: Vec<ColumnState>,
+        values: &[Raw],
+        time: u64,
+        rows: u64,
+    ) -> Result<(), StateErr>
+        requires can { CanBeShown flat.now.tables }
+        requires from { AreStampedFrom rows states.items }
+        requires signals { HaveValues self.old.events.items values.now }
+        ensures goes_on { OnOk result
+            (GoesOnFromStates kind flat.now states.items values.now rows self.old self.new) }
+        ensures fit { OnOk result
+            (AreColumnStates (variables_of flat.now.tables) time states.items) }
+        ensures bad { result ≡ Err why.Bad
+            → AreColumnStates (variables_of flat.now.tables) time states.items → ⊥ }
+        ensures bad_always { (AreColumnStates (variables_of flat.now.tables) time states.items → ⊥)
+            → IsNotMade result }
+    {
+        let columns = variables(alloc, &flat.tables)?;
+        self.trace = Trace::from_columns(
+            alloc,
+            columns,
+            flat.resolution,
+            kind,
+            states,
+            time,
+            rows,
+        )?;
+        settle_all(&mut self.events, values);
+        Ok(())
     }
 
     /// The run starts: each traced signal has its initial samples, and its first period begins. `since` has the start of the period

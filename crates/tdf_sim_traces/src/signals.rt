@@ -16,7 +16,7 @@ pub struct TracedSignal {
 ghost use Rattle.std.specs.List.{list_any};
 ghost use Rattle.std.specs.Prelude.{◌≡◌, ◌+◌, ◌<◌, Some, length, nat_eq, slice_get, IfOk, OnOk, false};
 ghost use Rattle.tdf_sim_history.specs.Cells.{driver_of_row};
-ghost use Rattle.tdf_sim_traces.specs.Signals.{AreTold, AreTracedSignals, IsDriverOf, IsListed};
+ghost use Rattle.tdf_sim_traces.specs.Signals.{AreTold, AreTracedSignals, IsDriverOf, IsListed, IsTracedAt};
 ghost use Rattle.tdf_sim_traces.specs.machine.Pushing.{AreSignalsTo, HasTrace, driver_of_trace};
 
 use std::alloc::Global;
@@ -92,4 +92,17 @@ pub(crate) fn traced_signals(alloc: Global, flat: &Flat) -> Result<Vec<TracedSig
         push_signal(flat, column, &mut list)?;
     }
     Ok(list)
+}
+
+/// The signal that a trace shows, where it is one of samples that a port of a module drives. It takes no memory.
+pub fn traced_at(flat: &Flat, column: usize) -> Option<TracedSignal>
+    requires told { AreTold flat.now.tables }
+    requires column { column < length flat.now.tables.traces }
+    ensures { IsTracedAt flat.now column result }
+{
+    let row = &flat.tables.traces[column];
+    match driver_of(flat, row) {
+        None => None,
+        Some(port) => Some(listed(flat, row.signal, port)),
+    }
 }
