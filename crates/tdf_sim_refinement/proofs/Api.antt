@@ -12,8 +12,8 @@ pub use Rattle.tdf_sim_refinement.proofs.Roomy.{pass_rooms, pass_sent, pass_trac
 pub use Rattle.tdf_sim_refinement.proofs.Sampling.{reads_kept, reads_long, sampler_reads}
 pub use Rattle.tdf_sim_refinement.proofs.Sinking.{drop_at, here_next, here_stands, keeps_to, stands_next, turns_next}
 pub use Rattle.tdf_sim_refinement.proofs.Starting.{all_starts_are_at}
-pub use Rattle.tdf_sim_refinement.proofs.Taking.{have_one, sinks_take_one}
-pub use Rattle.tdf_sim_refinement.proofs.Writing.{begins, enough, entry_in, given_here, sinks_write, turns_here}
+pub use Rattle.tdf_sim_refinement.proofs.Taking.{have_one, sinks_take_one, takes_one}
+pub use Rattle.tdf_sim_refinement.proofs.Writing.{begins, done_all, enough, entry_in, given_here, sinks_write, turns_here}
 pub use Rattle.tdf_sim_refinement.proofs.Inside.{entries_inside, needs_inside, offset_by, offset_inside}
 pub use Rattle.tdf_sim_refinement.proofs.Lasting.{takes_time}
 pub use Rattle.tdf_sim_refinement.proofs.Answered.{answers_are_told}

@@ -43,7 +43,7 @@ module _ (model : PureTree) (flat : Flat) (is : IsFlatOf model flat) (limits : A
   by_row table m e edge at reader kind (IsEdgeRow.FromSampler port h) = absurd (no_module m edge.port port h.port_at (sym h.reader ∙ reader) kind)
   by_row table m e edge at reader kind (IsEdgeRow.ToSink port h) = (sink_rates flat.tables table e edge port at h).read
 
-  takes_one : (table : List AttrsOf) (m e : ℕ) → actor_kind flat.tables m ≡ Some actor.Sink → Reads flat.tables m e → slice_index (read_rates (net_of flat.tables table)) e ≡ 1
+  pub takes_one : (table : List AttrsOf) (m e : ℕ) → actor_kind flat.tables m ≡ Some actor.Sink → Reads flat.tables m e → slice_index (read_rates (net_of flat.tables table)) e ≡ 1
   takes_one table m e kind r = let row = get_inside flat.tables.edges e r.inside in
       by_row table m e row.0 row.1 (sym (ap reader_of_row row.1) ∙ r.reader) kind (edge_row model flat is e row.0 row.1)
 

@@ -1,3 +1,4 @@
+pub mod Api
 pub mod Back
 pub mod Bodies
 pub mod Enough

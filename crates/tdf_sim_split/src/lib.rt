@@ -1,0 +1,10 @@
+//! A run that is saved and one that goes on from the snapshot are together one unbroken run.
+//!
+//! There is no code here but laws, and the definitions are in `specs`.
+//!
+//! - `laws`: what holds of the history from a snapshot on.
+#![tactic(auto)]
+
+mod laws;
+
+pub use laws::{law_goes_on, law_sound};
