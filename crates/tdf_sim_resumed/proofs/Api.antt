@@ -1,4 +1,4 @@
 -- The lemmas that other crates may use.
-pub use Rattle.tdf_sim_resumed.proofs.Good.{resumed_good}
-pub use Rattle.tdf_sim_resumed.proofs.Members.{ResumedAt, resumed_at}
+pub use Rattle.tdf_sim_resumed.proofs.Good.{plan_whole, resumed_good, whole_is}
+pub use Rattle.tdf_sim_resumed.proofs.Members.{ResumedAt, each_at, resumed_at}
 pub use Rattle.tdf_sim_resumed.proofs.Quiet.{still}

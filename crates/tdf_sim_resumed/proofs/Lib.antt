@@ -1,6 +1,6 @@
 pub mod Api
-mod Good
-mod Members
+pub mod Good
+pub mod Members
 mod One
 mod Quiet
 mod Saved
