@@ -1,9 +1,9 @@
--- No two signals of a flat model have the same path.
+-- No two signals of a flat model have the same path, and their paths are those that were met.
 use Rattle.std.proofs.Common.{◌≡◌, ◌∙◌, ℕ, ◌+◌, Bool, true, false, List, [], ◌∷◌, ◌++◌, map, refl, sym, ap, subst, true≢false}
-use Rattle.std.specs.List.{enumerate_from}
+use Rattle.std.specs.List.{AllByRecursion, enumerate_from}
 use Rattle.std.specs.Prelude.{filter, filter_map}
 use Rattle.tdf_bind_tables.specs.FlatTables.{FlatTablesOf, IsFlat}
-use Rattle.tdf_bind.proofs.Lists.{Differ, both_differ}
+use Rattle.tdf_bind.proofs.Lists.{Differ, all_values, both_differ, kept_all}
 use Rattle.tdf_bind_hierarchy.specs.Blocks.{BlockOf}
 use Rattle.tdf_bind_hierarchy.specs.Met.{met_in}
 use Rattle.tdf_bind_hierarchy.specs.Tables.{is_of, same_kind, met_signal}
@@ -41,3 +41,19 @@ flat_differ blocks top roles lines flat is differ =
     subst (λ l. Differ (l ++ map (λ (row : SignalRow). row.path) flat.de_signals)) (sym (paths_are _ flat.signals is.tables.signals (filter (is_of false) signals) is.follows.signals.signals is.met.signals))
     (subst (λ l. Differ (map path_of (filter (is_of false) signals) ++ l)) (sym (paths_are _ flat.de_signals is.tables.event_signals (filter (is_of true) signals) is.follows.signals.de_signals is.met.event_signals))
     (both_differ path_of (is_of false) (is_of true) never_both signals differ))
+
+-- a fact of the paths of all signals
+module _ (blocks : List BlockOf) (top : ℕ) (roles : List Role) (lines : List TraceLine) (flat : FlatTablesOf) (is : IsFlat blocks top roles lines flat) (P : List ℕ → Type 0)
+    (all : AllByRecursion P (map (λ (signal : Signal). signal.path) (filter_map met_signal (met_in blocks top)))) where
+  abbrev met_signals : List Signal
+  met_signals = filter_map met_signal (met_in blocks top)
+
+  pub signals_have : AllByRecursion (λ (row : SignalRow). P row.path) flat.signals
+  signals_have =
+      all_values P (λ (row : SignalRow). row.path) flat.signals
+      (subst (AllByRecursion P) (sym (paths_are _ flat.signals is.tables.signals (filter (is_of false) met_signals) is.follows.signals.signals is.met.signals)) (kept_all P path_of (is_of false) met_signals all))
+
+  pub de_signals_have : AllByRecursion (λ (row : SignalRow). P row.path) flat.de_signals
+  de_signals_have =
+      all_values P (λ (row : SignalRow). row.path) flat.de_signals
+      (subst (AllByRecursion P) (sym (paths_are _ flat.de_signals is.tables.event_signals (filter (is_of true) met_signals) is.follows.signals.de_signals is.met.event_signals)) (kept_all P path_of (is_of true) met_signals all))

@@ -12,4 +12,8 @@ pub mod OneFlat
 pub mod OneTables
 pub mod OwnNames
 pub mod OwnPaths
+pub mod PartRows
+pub mod Parts
 pub mod Paths
+pub mod PlainNames
+pub mod RoleNames

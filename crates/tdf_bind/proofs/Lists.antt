@@ -1,8 +1,8 @@
 -- Lists whose items differ, and facts of each item.
-use Rattle.std.proofs.Common.{◌≡◌, ◌≢◌, ◌∙◌, ℕ, zero, suc, Bool, true, false, cond, List, [], ◌∷◌, ◌++◌, Some, sym, ap, map, refl, subst}
+use Rattle.std.proofs.Common.{◌≡◌, ◌≢◌, ◌∙◌, ℕ, zero, suc, Bool, true, false, cond, List, [], ◌∷◌, ◌++◌, Option, Some, None, sym, ap, map, refl, subst}
 use Rattle.std.proofs.lemmas.Option.{same_Some, none-some}
-use Rattle.std.specs.List.{AllByRecursion}
-use Rattle.std.specs.Prelude.{filter, slice_get}
+use Rattle.std.specs.List.{AllByRecursion, cons_option}
+use Rattle.std.specs.Prelude.{filter, filter_map, slice_get}
 
 pub weaker : {A : Type 0} (P Q : A → Type 0) → ((x : A) → P x → Q x) → (xs : List A) → AllByRecursion P xs → AllByRecursion Q xs
 weaker P Q f [] all = tt
@@ -28,6 +28,15 @@ pub all_at : {A : Type 0} (P : A → Type 0) (xs : List A) (i : ℕ) (x : A) →
 all_at P [] i x all there = absurd (none-some x there)
 all_at P (y ∷ ys) zero x all there = subst P (same_Some y x there) all.0
 all_at P (y ∷ ys) (suc i) x all there = all_at P ys i x all.1 there
+
+-- a fact of a value of each item
+pub all_values : {A B : Type 0} (P : B → Type 0) (f : A → B) (xs : List A) → AllByRecursion P (map f xs) → AllByRecursion (λ x. P (f x)) xs
+all_values P f [] all = tt
+all_values P f (x ∷ xs) all = (all.0, all_values P f xs all.1)
+
+pub all_mapped : {A B : Type 0} (P : B → Type 0) (f : A → B) (xs : List A) → AllByRecursion (λ x. P (f x)) xs → AllByRecursion P (map f xs)
+all_mapped P f [] all = tt
+all_mapped P f (x ∷ xs) all = (all.0, all_mapped P f xs all.1)
 
 -- each item differs from those after it
 abbrev pub Differ : {A : Type 0} → List A → Type 0
@@ -83,7 +92,7 @@ none_there {A} x xs same = subst IsEmpty same tt
     IsEmpty (y ∷ ys) = ⊥
 
 -- items that pass a test
-kept_all : {A B : Type 0} (P : B → Type 0) (f : A → B) (test : A → Bool) (xs : List A) → AllByRecursion P (map f xs) → AllByRecursion P (map f (filter test xs))
+pub kept_all : {A B : Type 0} (P : B → Type 0) (f : A → B) (test : A → Bool) (xs : List A) → AllByRecursion P (map f xs) → AllByRecursion P (map f (filter test xs))
 kept_all P f test [] all = tt
 kept_all P f test (x ∷ xs) all = go (test x) (kept_all P f test xs all.1)
   where
@@ -99,7 +108,7 @@ kept_differ f test (x ∷ xs) differ = go (test x) (kept_differ f test xs differ
     go true rest = (kept_all (λ v. f x ≢ v) f test xs differ.0, rest)
     go false rest = rest
 
-all_both : {A : Type 0} (P Q : A → Type 0) (xs : List A) → AllByRecursion P xs → AllByRecursion Q xs → AllByRecursion (λ x. P x × Q x) xs
+pub all_both : {A : Type 0} (P Q : A → Type 0) (xs : List A) → AllByRecursion P xs → AllByRecursion Q xs → AllByRecursion (λ x. P x × Q x) xs
 all_both P Q [] one other = tt
 all_both P Q (x ∷ xs) one other = ((one.0, other.0), all_both P Q xs one.1 other.1)
 
@@ -124,3 +133,21 @@ module _ {A B : Type 0} (f : A → B) (one other : A → Bool) (never : (x : A) 
   pub both_differ : (xs : List A) → Differ (map f xs) → Differ (map f (filter one xs) ++ map f (filter other xs))
   both_differ xs differ =
       differ_append (map f (filter one xs)) (map f (filter other xs)) (kept_differ f one xs differ) (kept_differ f other xs differ) (across_all xs differ)
+
+-- what some items give, where its values are those of the items
+module _ {A B V : Type 0} (f : A → V) (g : B → V) (pick : A → Option B) (agrees : (x : A) (y : B) → pick x ≡ Some y → f x ≡ g y) where
+  pub picked_all : (P : V → Type 0) (xs : List A) → AllByRecursion P (map f xs) → AllByRecursion P (map g (filter_map pick xs))
+  picked_all P [] all = tt
+  picked_all P (x ∷ xs) all = go (pick x) refl (picked_all P xs all.1)
+    where
+      go : (o : Option B) → pick x ≡ o → AllByRecursion P (map g (filter_map pick xs)) → AllByRecursion P (map g (cons_option o (filter_map pick xs)))
+      go None is rest = rest
+      go (Some y) is rest = (subst P (agrees x y is) all.0, rest)
+
+  pub picked_differ : (xs : List A) → Differ (map f xs) → Differ (map g (filter_map pick xs))
+  picked_differ [] differ = tt
+  picked_differ (x ∷ xs) differ = go (pick x) refl (picked_differ xs differ.1)
+    where
+      go : (o : Option B) → pick x ≡ o → Differ (map g (filter_map pick xs)) → Differ (map g (cons_option o (filter_map pick xs)))
+      go None is rest = rest
+      go (Some y) is rest = (subst (λ v. AllByRecursion (λ w. v ≢ w) (map g (filter_map pick xs))) (agrees x y is) (picked_all (λ w. f x ≢ w) xs differ.0), rest)

@@ -1,5 +1,5 @@
 -- A model that passes its checks has one answer: one fault, or one list of tables.
-use Rattle.std.proofs.Common.{◌≡◌, ◌∙◌, ℕ, true, false, List, [], Some, None, length, refl, sym, ap, subst, true≢false}
+use Rattle.std.proofs.Common.{◌≡◌, ◌∙◌, ℕ, true, false, List, [], Some, refl, sym, ap, subst, true≢false}
 use Rattle.std.proofs.lemmas.List.{map-id}
 use Rattle.std.proofs.lemmas.Option.{none-some, same_Some}
 use Rattle.tdf_base.specs.declared.faults.Fault.{Fault}
@@ -11,7 +11,7 @@ use Rattle.tdf_bind.proofs.OneFault.{first_or_flat, one_first}
 use Rattle.tdf_bind.proofs.OneFlat.{one_follows}
 use Rattle.tdf_bind.proofs.OneTables.{one_tables}
 use Rattle.tdf_bind.proofs.OwnNames.{own_names}
-use Rattle.tdf_bind.proofs.OwnPaths.{all_own, paths_are}
+use Rattle.tdf_bind.proofs.OwnPaths.{signals_differ}
 use Rattle.tdf_bind.specs.Flat.{OfLine, OfSize, OfTables, top_place, trace_lines}
 use Rattle.tdf_bind.specs.Laws.{PassesChecks, StandOnce, paths_in, signal_paths, BlocksAreOne, PathsAreUnique, FlatPathsAreUnique, FaultIsOne, FaultOrFlat, TablesAreOne}
 use Rattle.tdf_bind_ports.specs.Faults.{LinkFault, fault_of_link, first_link_fault, least_link_with}
@@ -27,7 +27,7 @@ use Rattle.tdf_bind_hierarchy.specs.Blocks.{BlockOf}
 use Rattle.tdf_bind_hierarchy.specs.Met.{met_in}
 use Rattle.tdf_bind_hierarchy.specs.Tables.{TablesOf, IsTable}
 
-once_at : (paths : List (List ℕ)) → Differ paths → StandOnce paths
+pub once_at : (paths : List (List ℕ)) → Differ paths → StandOnce paths
 once_at paths differ i j path at there = one_place (λ (p : List ℕ). p) paths (subst Differ (sym (map-id paths)) differ) i j path path at there refl
 
 pub blocks_are_one : BlocksAreOne
@@ -39,9 +39,7 @@ unfolding least_link_with
 no_line faults f none first = none-some f (sym (ap first_link_fault none) ∙ first)
 
 paths_differ : (model : PureTree) (blocks : List BlockOf) → IsKept model → name_faults model ≡ [] → AreResolved model blocks → Differ (paths_in blocks)
-paths_differ model blocks kept none are =
-    subst Differ (paths_are (met_in blocks (top_place blocks)))
-    ((all_own blocks (own_names model blocks kept (names_once model none) are) (length blocks)).differ (top_place blocks) None [])
+paths_differ model blocks kept none are = signals_differ blocks (own_names model blocks kept (names_once model none) are)
 
 module _ (model : PureTree) (passes : PassesChecks model) where
   same_size : (bs cs : List BlockOf) → AreResolved model bs → AreResolved model cs → is_too_many model bs ≡ true → is_too_many model cs ≡ false → ⊥

@@ -1,14 +1,11 @@
--- The blocks of a model without a fault of names declare no name twice, and no name holds a point.
-use Rattle.std.proofs.Common.{◌≡◌, ◌≢◌, ◌∙◌, ℕ, Bool, true, false, List, [], ◌∷◌, ◌++◌, Option, Some, None, map, refl, sym, ap, subst, ◌&&◌, ◌||◌, true≢false}
+-- The blocks of a model without a fault of names declare no name twice.
+use Rattle.std.proofs.Common.{◌≡◌, ◌≢◌, ◌∙◌, ℕ, Bool, true, false, List, [], ◌∷◌, ◌++◌, Option, Some, None, map, refl, sym, ap, subst, ◌||◌, true≢false}
 use Rattle.std.proofs.lemmas.Cmp.{nat_list_eq_equiv}
 use Rattle.std.specs.Cmp.Lexicographic.{pointwise}
-use Rattle.std.specs.List.{AllByRecursion, AllZip, flat_map, list_all}
-use Rattle.std.specs.Prelude.{nat_eq, nat_le, length}
-use Rattle.tdf_base.specs.Limits.{longest_name}
-use Rattle.tdf_base.specs.Names.{is_letter, is_part}
-use Rattle.tdf_bind.proofs.Lists.{Differ}
+use Rattle.std.specs.List.{AllByRecursion, AllZip, flat_map}
+use Rattle.std.specs.Prelude.{nat_eq}
+use Rattle.tdf_bind.proofs.Lists.{Differ, all_both, weaker}
 use Rattle.tdf_bind.proofs.OwnPaths.{HasOwnNames}
-use Rattle.tdf_bind.proofs.Paths.{HasNoPoint}
 use Rattle.tdf_bind_ports.specs.Ports.{Known, no_blocks, ports_named, ports_of_composite, ports_of_de, ports_of_tdf, with_block}
 use Rattle.tdf_expr_names.specs.Law.{AreApart, DeclaresOnce, HasNamesOnce}
 use Rattle.tdf_expr_names.specs.Names.{Name, has, names_of_member}
@@ -41,41 +38,18 @@ not_has x (y ∷ names) e = (
   not_has x names (or_second (pointwise nat_eq x y) (has names x) e),
 )
 
-apart_differ : (names : List Name) → AreApart names → Differ names
+pub apart_differ : (names : List Name) → AreApart names → Differ names
 apart_differ [] apart = tt
 apart_differ (x ∷ names) apart = (not_has x names apart.0, apart_differ names apart.1)
 
--- a name holds no point
-and_first : (a b : Bool) → a && b ≡ true → a ≡ true
-and_first true b e = refl
-and_first false b e = absurd (true≢false (sym e))
-
-and_second : (a b : Bool) → a && b ≡ true → b ≡ true
-and_second true b e = e
-and_second false b e = absurd (true≢false (sym e))
-
-parts_plain : (name : List ℕ) → list_all is_part name ≡ true → HasNoPoint name
-parts_plain [] e = tt
-parts_plain (c ∷ name) e = (
-  λ same. true≢false (sym (and_first (is_part c) (list_all is_part name) e) ∙ ap is_part same),
-  parts_plain name (and_second (is_part c) (list_all is_part name) e),
-)
-
-name_plain : (name : List ℕ) → IsName name → HasNoPoint name
-name_plain [] is = tt
-name_plain (c ∷ name) is =
-    let both = and_first (is_letter c && list_all is_part name) (nat_le (length (c ∷ name)) longest_name) is in (
-      λ same. true≢false (sym (and_first (is_letter c) (list_all is_part name) both) ∙ ap is_letter same),
-      parts_plain name (and_second (is_letter c) (list_all is_part name) both),
-    )
-
-names_plain : (ms : List Member) → Each KeepsMember ms → AllByRecursion HasNoPoint (flat_map names_of_member ms)
-names_plain [] kept = tt
-names_plain (member.Port port ∷ ms) kept = (name_plain port.name kept.0.0, names_plain ms kept.1)
-names_plain (member.Signal line name x ∷ ms) kept = (name_plain name kept.0.0, names_plain ms kept.1)
-names_plain (member.DeSignal line name x start ∷ ms) kept = (name_plain name kept.0.0, names_plain ms kept.1)
-names_plain (member.Instance line name block ∷ ms) kept = (name_plain name kept.0.0, names_plain ms kept.1)
-names_plain (member.Bind line instance port target ∷ ms) kept = names_plain ms kept.1
+-- the names of members
+names_kept : (ms : List Member) → Each KeepsMember ms → AllByRecursion IsName (flat_map names_of_member ms)
+names_kept [] kept = tt
+names_kept (member.Port port ∷ ms) kept = (kept.0.0, names_kept ms kept.1)
+names_kept (member.Signal line name x ∷ ms) kept = (kept.0.0, names_kept ms kept.1)
+names_kept (member.DeSignal line name x start ∷ ms) kept = (kept.0.0, names_kept ms kept.1)
+names_kept (member.Instance line name block ∷ ms) kept = (kept.0.0, names_kept ms kept.1)
+names_kept (member.Bind line instance port target ∷ ms) kept = names_kept ms kept.1
 
 -- the names of signals are among those of all members
 abbrev declared_names : List Member → List Name
@@ -140,26 +114,50 @@ module _ (known : Known) (target : List ℕ → List ℕ → Option Target) wher
       differ_with name (place_in known.names block) (ports_named known block) (flat_map (instance_of known target) ms) (all_instances (λ y. name ≢ y) ms differ.0) (differ_instances ms differ.1)
   differ_instances (member.Bind line instance port to ∷ ms) differ = differ_instances ms differ
 
+  -- and no signal has the name of an instance
+  abbrev AreAcross : List Name → List Name → Type 0
+  AreAcross names inner = AllByRecursion (λ one. AllByRecursion (λ other. one ≢ other) inner) names
+
+  across_with : (name : Name) (block : Option ℕ) (ports : Option (List PortLine)) (later : List InstanceOf) (names : List Name) → AllByRecursion (λ y. name ≢ y) names → AreAcross names (names_of later)
+      → AreAcross names (names_of (instance_with target name block ports ++ later))
+  across_with name (Some block) (Some ports) later names all across =
+      all_both (λ one. one ≢ name) (λ one. AllByRecursion (λ other. one ≢ other) (names_of later)) names (weaker (λ y. name ≢ y) (λ y. y ≢ name) (λ y apart same. apart (sym same)) names all) across
+  across_with name (Some block) None later names all across = across
+  across_with name None ports later names all across = across
+
+  across_instances : (ms : List Member) → Differ (flat_map names_of_member ms) → AreAcross (declared_names ms) (names_of (flat_map (instance_of known target) ms))
+  unfolding instance_of
+  across_instances [] differ = tt
+  across_instances (member.Port port ∷ ms) differ = across_instances ms differ.1
+  across_instances (member.Signal line name x ∷ ms) differ = (all_instances (λ y. name ≢ y) ms differ.0, across_instances ms differ.1)
+  across_instances (member.DeSignal line name x start ∷ ms) differ = (all_instances (λ y. name ≢ y) ms differ.0, across_instances ms differ.1)
+  across_instances (member.Instance line name block ∷ ms) differ =
+      across_with name (place_in known.names block) (ports_named known block) (flat_map (instance_of known target) ms) (declared_names ms) (all_declared (λ y. name ≢ y) ms differ.0) (across_instances ms differ.1)
+  across_instances (member.Bind line instance port to ∷ ms) differ = across_instances ms differ
+
 composite_own : (globals : Names) (known : Known) (block : PureComposite) (b : BlockOf) → IsComposite globals known block b → AreApart (flat_map names_of_member block.members) → Each KeepsMember block.members
     → HasOwnNames b
 composite_own globals known block b is apart kept = record {
   signals = subst Differ same (differ_declared block.members differ);
   instances = subst (λ (l : List InstanceOf). Differ (map (λ (i : InstanceOf). i.name) l)) (sym is.instances) (differ_instances known (target_of (inside_of block.members) block.members) block.members differ);
-  signal_points = subst (AllByRecursion HasNoPoint) same (all_declared HasNoPoint block.members plain);
-  instance_points = subst (λ (l : List InstanceOf). AllByRecursion HasNoPoint (map (λ (i : InstanceOf). i.name) l)) (sym is.instances) (all_instances known (target_of (inside_of block.members) block.members) HasNoPoint block.members plain);
+  apart = subst (λ names. AreAcross known (target_of (inside_of block.members) block.members) names (map (λ (i : InstanceOf). i.name) b.instances)) same
+      (subst (λ (l : List InstanceOf). AreAcross known (target_of (inside_of block.members) block.members) (declared_names block.members) (map (λ (i : InstanceOf). i.name) l)) (sym is.instances)
+      (across_instances known (target_of (inside_of block.members) block.members) block.members differ));
+  named_signals = subst (AllByRecursion IsName) same (all_declared IsName block.members plain);
+  named_instances = subst (λ (l : List InstanceOf). AllByRecursion IsName (map (λ (i : InstanceOf). i.name) l)) (sym is.instances) (all_instances known (target_of (inside_of block.members) block.members) IsName block.members plain);
 }
   where
     differ : Differ (flat_map names_of_member block.members)
     differ = apart_differ (flat_map names_of_member block.members) apart
 
-    plain : AllByRecursion HasNoPoint (flat_map names_of_member block.members)
-    plain = names_plain block.members kept
+    plain : AllByRecursion IsName (flat_map names_of_member block.members)
+    plain = names_kept block.members kept
 
     same : declared_names block.members ≡ map (λ (s : SignalLine). s.name) b.signals
     same = signal_names globals (flat_map declared_by block.members) b.signals is.signals
 
 leaf_own : (ports : List PortLine) (b : BlockOf) → b ≡ leaf ports → HasOwnNames b
-leaf_own ports b is = subst HasOwnNames (sym is) (record { signals = tt; instances = tt; signal_points = tt; instance_points = tt })
+leaf_own ports b is = subst HasOwnNames (sym is) (record { signals = tt; instances = tt; apart = tt; named_signals = tt; named_instances = tt })
 
 blocks_own : (globals : Names) (known : Known) (gs : List PureGlobal) (bs : List BlockOf) → AreBlocks globals known gs bs → Each DeclaresOnce gs → Each KeepsGlobal gs → AllByRecursion HasOwnNames bs
 blocks_own globals known [] bs are once kept = subst (AllByRecursion HasOwnNames) (sym are) tt
@@ -174,7 +172,7 @@ blocks_own globals known (GNet block ∷ gs) [] are once kept = absurd are
 blocks_own globals known (GNet block ∷ gs) (b ∷ bs) are once kept =
     (composite_own globals known block b are.0 once.0 kept.0.1, blocks_own globals (with_block block.name (ports_of_composite block) known) gs bs are.1 once.1 kept.1)
 
-each_push : (P : PureGlobal → Type 0) (gs : List PureGlobal) (g : PureGlobal) → Each P gs → P g → Each P (gs ++ g ∷ [])
+pub each_push : (P : PureGlobal → Type 0) (gs : List PureGlobal) (g : PureGlobal) → Each P gs → P g → Each P (gs ++ g ∷ [])
 each_push P [] g each last = (last, tt)
 each_push P (h ∷ gs) g each last = (each.0, each_push P gs g each.1 last)
 

@@ -1,6 +1,6 @@
 //! What holds of all flat models: each function here only carries its clauses.
 
-ghost use Rattle.tdf_bind.specs.Laws.{BlocksAreOne, DelaysAreShort, FaultIsOne, FaultOrFlat, FlatPathsAreUnique, PathsAreUnique, TablesAreOne};
+ghost use Rattle.tdf_bind.specs.Laws.{BlockPathsAreUnique, BlocksAreOne, DelaysAreShort, EventsAreApart, FaultIsOne, FaultOrFlat, FlatPathsAreUnique, PathsAreUnique, PathsArePlain, TablesAreOne};
 
 /// A model without a fault of types has one list of resolved blocks.
 pub fn law_blocks()
@@ -12,6 +12,14 @@ pub fn law_blocks()
 pub fn law_paths()
     ensures paths { PathsAreUnique }
     ensures flat_paths { FlatPathsAreUnique }
+{}
+
+/// No two instances of blocks of processes of a flat model have the same path, nor have two events
+/// of one instance the same name. Paths hold nothing but names and points.
+pub fn law_parts()
+    ensures blocks { BlockPathsAreUnique }
+    ensures events { EventsAreApart }
+    ensures plain { PathsArePlain }
 {}
 
 /// A model has one answer: one fault of binding, or tables, which are one.

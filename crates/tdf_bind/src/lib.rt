@@ -12,5 +12,5 @@ mod lines;
 mod model;
 
 pub use binding::flatten;
-pub use laws::{law_blocks, law_delays, law_one_fault, law_paths};
+pub use laws::{law_blocks, law_delays, law_one_fault, law_parts, law_paths};
 pub use model::Flat;
