@@ -16,8 +16,8 @@ AreStatesAt flat states time = (n : ℕ) (s : ClusterStateOf) → slice_get stat
 
 -- the cluster of this number goes on from a state at a time: it is where the state says, and stands
 -- for the streams from each start that the state says
-pub record GoesOnFromState (flat : Flat) (number : ℕ) (s : ClusterStateOf) (time : ℕ) (c : ClusterOf)
-    : Type 0 where
+pub record GoesOnFromState (flat : Flat) (number : ℕ) (s : ClusterStateOf) (time : ℕ)
+    (c : ClusterOf) : Type 0 where
   pub of : IsClusterOf flat c
   pub at : IsAtState flat number s time c
   pub stands : StandsAtState flat s c
