@@ -7,7 +7,7 @@ use std::marker::Model;
 pub struct ModuleMembers {
     /// Its path.
     pub path: Vec<u8>,
-    /// How many rates it has: one for each of its ports of samples.
+    /// How many rates it has: one for each of its rate variables.
     pub rates: usize,
     /// How many timesteps may be assigned to it.
     pub steps: usize,

@@ -1,0 +1,6 @@
+use Rattle.std.proofs.Common.{◌≡◌, map, take}
+use Rattle.tdf_save_members.specs.OfFlat.{module_members}
+use Rattle.tdf_save_members.proofs.modules.module_list.Given as goal
+
+abbrev pub invariant-loop-i : goal.invariant-loop-i
+invariant-loop-i l = l.list.items ≡ map (module_members l.flat) (take l.i l.table)
