@@ -1,15 +1,15 @@
 -- Nothing is due in the world that a valid snapshot says before its time.
-use Rattle.std.proofs.Common.{◌≡◌, ◌∙◌, ℕ, zero, suc, ◌+◌, ◌<◌, ◌≤◌, Bool, true, false, ◌&&◌, not, nat_eq, nat_lt, List, [], ◌∷◌, Option, Some, None, length, map, replicate, slice_get, slice_set, inl, inr, refl, sym, ap, arith}
-use Rattle.std.proofs.lemmas.Bool.{and_right, cases_lt, le-ltb, lt-ltb, ltb-false, ne_eqb, or_from, or_left, or_parts}
+use Rattle.std.proofs.Common.{◌≡◌, ◌∙◌, ℕ, zero, suc, ◌+◌, ◌<◌, ◌≤◌, Bool, true, false, ◌&&◌, not, nat_eq, nat_lt, if◌then◌else◌, List, [], ◌∷◌, Option, Some, None, length, map, slice_get, inl, inr, refl, sym, ap, arith}
+use Rattle.std.proofs.lemmas.Bool.{and_right, cases_lt, le-ltb, lt-ltb, ltb-false, ne_eqb, or_from, or_left}
 use Rattle.std.proofs.lemmas.List.Sums.{sum_by-cons}
-use Rattle.std.specs.List.{count_by, list_any}
+use Rattle.std.specs.List.{count_by, list_any, range_with_len}
 use Rattle.std.specs.Prelude.{cond, slice_index_or}
 use Rattle.tdf_bind.specs.declared.model.Flat.{Flat}
 use Rattle.tdf_bind_connections.specs.ProcessBlocks.{ProcessRowOf}
 use Rattle.tdf_dynamic_first.specs.declared.first.First.{First}
 use Rattle.tdf_events.specs.Delta.{is_due, is_idle}
 use Rattle.tdf_events.specs.Side.{SideOf}
-use Rattle.tdf_events.specs.State.{IsKernelState, resumed_side, with_pending}
+use Rattle.tdf_events.specs.State.{IsKernelState, resumed_side, time_pending}
 use Rattle.tdf_events_queue.specs.Sets.{count_on}
 use Rattle.tdf_exec_parts.specs.States.{IsStateUnder, due_before}
 use Rattle.tdf_lang_tree.specs.Pure.{PureTree}
@@ -107,23 +107,19 @@ module _ (flat : Flat) (number time : ℕ) (first : First) (s : ClusterStateOf) 
 
 -- ---- the event side
 
-set_off : (t : ℕ) (times : List (Option ℕ)) (i : ℕ) (o : Option ℕ) → list_any (is_due t) times ≡ false → is_due t o ≡ false → list_any (is_due t) (slice_set times i o) ≡ false
-set_off t [] i o off later = refl
-set_off t (x ∷ xs) zero o off later = or_from (is_due t o) (list_any (is_due t) xs) later (or_parts (is_due t x) (list_any (is_due t) xs) off).1
-set_off t (x ∷ xs) (suc i) o off later =
-    let parts = or_parts (is_due t x) (list_any (is_due t) xs) off in or_from (is_due t x) (list_any (is_due t) (slice_set xs i o)) parts.0 (set_off t xs i o parts.1 later)
+-- no event is to come before the notifications of a list
+one_off : (t : ℕ) (list : List Pending) → ((i : ℕ) (p : Pending) → slice_get list i ≡ Some p → t < p.time) → (event : ℕ) → is_due t (time_pending list event) ≡ false
+unfolding time_pending
+one_off t [] later event = refl
+one_off t (p ∷ ps) later event = go (nat_eq p.event event) (one_off t ps (λ i q at. later (suc i) q at) event)
+  where
+    go : (b : Bool) → is_due t (time_pending ps event) ≡ false → is_due t (if b then Some p.time else time_pending ps event) ≡ false
+    go true rest = ne_eqb p.time t (λ e. let l = later 0 p refl in omega (arith, e, l))
+    go false rest = rest
 
-pending_off : (t : ℕ) (list : List Pending) (times : List (Option ℕ)) → ((i : ℕ) (p : Pending) → slice_get list i ≡ Some p → t < p.time) → list_any (is_due t) times ≡ false
-    → list_any (is_due t) (with_pending list times) ≡ false
-unfolding with_pending
-pending_off t [] times later off = off
-pending_off t (p ∷ ps) times later off =
-    pending_off t ps (slice_set times p.event (Some p.time)) (λ i q at. later (suc i) q at)
-    (set_off t times p.event (Some p.time) off (ne_eqb p.time t (λ e. let l = later 0 p refl in omega (arith, e, l))))
-
-none_off : (t n : ℕ) → list_any (is_due t) (replicate n None) ≡ false
-none_off t zero = refl
-none_off t (suc n) = none_off t n
+pending_off : (t : ℕ) (list : List Pending) → ((i : ℕ) (p : Pending) → slice_get list i ≡ Some p → t < p.time) → (events : List ℕ) → list_any (is_due t) (map (time_pending list) events) ≡ false
+pending_off t list later [] = refl
+pending_off t list later (e ∷ es) = or_from (is_due t (time_pending list e)) (list_any (is_due t) (map (time_pending list) es)) (one_off t list later e) (pending_off t list later es)
 
 idle_off : (time : ℕ) (rows : List ProcessRowOf) → 0 < time → count_on (map (λ (row : ProcessRowOf). nat_eq time 0 && row.starts) rows) ≡ 0
 idle_off time [] some = refl
@@ -136,7 +132,7 @@ idle_off time (row ∷ rows) some =
 pub side_later : (flat : Flat) (time : ℕ) (s : KernelStateOf) → IsKernelState flat time s → (t : ℕ) → t < time → is_side_due (resumed_side flat time s) t ≡ false
 side_later flat time s state t low = or_from (not (is_idle (resumed_side flat time s))) (list_any (is_due t) (resumed_side flat time s).notices.times)
     (ap (λ n. not (nat_eq n 0)) (idle_off time flat.tables.processes (omega (arith, low))))
-    (pending_off t s.pending (replicate (length flat.tables.events) None) (λ i p at. (let e = (state.pending.each i p at).from in omega (arith, e, low))) (none_off t (length flat.tables.events)))
+    (pending_off t s.pending (λ i p at. (let e = (state.pending.each i p at).from in omega (arith, e, low))) (range_with_len 0 (length flat.tables.events)))
 
 -- ---- the world
 
