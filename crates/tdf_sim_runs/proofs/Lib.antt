@@ -15,6 +15,7 @@ pub mod Marking
 pub mod Plans
 pub mod Noting
 pub mod Onward
+pub mod AtStop
 pub mod Opening
 pub mod Reaching
 pub mod Resting
@@ -22,6 +23,7 @@ pub mod RunStands
 pub mod Staying
 pub mod Stepping
 pub mod Told
+pub mod Waited
 pub mod Waiting
 pub mod WholeRun
 pub mod Written

@@ -4,6 +4,7 @@ pub mod Handing
 pub mod Laws
 pub mod News
 pub mod Ongoing
+pub mod Pausing
 pub mod Rest
 pub mod Running
 pub mod Runs

@@ -4,6 +4,7 @@
 //! - `starting`: how a run begins.
 //! - `going`: from instant to instant.
 //! - `ending`: how the trace of a run ends.
+//! - `pausing`: a run that comes to a stop and waits there.
 //! - `rest`: a run that goes on to its end.
 //! - `run`: a whole run.
 //! - `news`: the plans that boundaries bring, as text.
@@ -14,6 +15,7 @@ mod ending;
 mod going;
 mod laws;
 mod news;
+mod pausing;
 mod rest;
 mod run;
 mod running;
@@ -21,6 +23,7 @@ mod standing;
 mod starting;
 
 pub use laws::{law_advancing, law_going, law_next, law_staying, law_waiting};
+pub use pausing::{Part, pause};
 pub use rest::{Until, go_on};
 pub use run::{Ran, Request, begin_run, run_model};
 pub use running::Running;

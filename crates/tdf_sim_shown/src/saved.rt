@@ -2,6 +2,7 @@
 
 ghost use Rattle.std.specs.Prelude.{◌≡◌, length, IfOk, OnOk};
 ghost use Rattle.tdf_sim_shown.specs.Saved.{GivesColumns, GivesRowsFrom};
+ghost use Rattle.tdf_trace.specs.Missing.{IsFirstMissing};
 ghost use Rattle.tdf_sim_shown.specs.machine.Waiting.{HaveLater, IsLaterFor, driven_at};
 
 use std::alloc::Global;
@@ -15,7 +16,9 @@ use tdf_trace::Tracking;
 /// The time from which rows are still to be written at a time: the least one, below it, of a position of a traced signal whose sample
 /// isn't known, or that time. It takes no memory.
 pub fn rows_from(shown: &Shown, time: u64) -> u64
-    ensures { GivesRowsFrom shown.now time result }
+    ensures rows { GivesRowsFrom shown.now time result }
+    ensures first { IsFirstMissing shown.now.tracking.list (length shown.now.tracking.list) time
+        result }
 {
     shown.tracking.first_missing(time)
 }
