@@ -1,22 +1,23 @@
 -- Below a mark that no period with positions left began before, the cells with a value are all cells.
-use Rattle.std.proofs.Common.{◌≡◌, ◌∙◌, ℕ, ◌+◌, ◌*◌, ◌<◌, ◌≤◌, Bool, true, false, if◌then◌else◌, Option, Some, None, option_map, List, [], ◌∷◌, length, slice_get, refl, ap, sym, subst, inl, inr, arith, ◌-◌, slice_index}
+use Rattle.std.proofs.Common.{◌≡◌, ◌∙◌, ℕ, ◌+◌, ◌<◌, ◌≤◌, ◌&&◌, Bool, true, false, if◌then◌else◌, nat_lt, Option, Some, None, List, [], length, slice_get, refl, ap, sym, subst, arith, ◌-◌, slice_index}
 use Rattle.tdf_trace.specs.Tracked.{AreSince, TrackedOf}
 use Rattle.tdf_trace.specs.Tracks.{Tracks, cells_by, known_by, known_cell}
 use Rattle.tdf_trace.specs.Traces.{IsTracked, sample_or, with_signal_samples}
 use Rattle.tdf_events.specs.Side.{SideOf}
 use Rattle.tdf_fixed.specs.declared.raw.Raw.{Raw}
+use Rattle.tdf_bind.specs.Flat.{IsFlatOf}
 use Rattle.tdf_bind.specs.declared.model.Flat.{Flat}
-use Rattle.tdf_streams.proofs.Api.{get_inside, none_some, some_same}
-use Rattle.tdf_sim_history.specs.Cells.{driver_of_row, run_cells, samples_done, world_before, column_spans}
+use Rattle.tdf_streams.proofs.Api.{none_some, some_same}
+use Rattle.tdf_sim_history.specs.Cells.{cell_or, changed_cell, driver_of_row, event_column_cell, is_same_value, run_cells, samples_done, value_before, world_before, column_spans}
 use Rattle.tdf_sim_history.specs.Instant.{periods_of}
 use Rattle.tdf_sim_history.specs.World.{World, ClusterAt}
-use Rattle.tdf_sim_runs.specs.Ending.{ShownStandsBelow}
+use Rattle.tdf_sim_runs.specs.Ending.{AreKnownBelow, ShownStandsBelow}
 use Rattle.tdf_trace_rows.proofs.Api.{agree_trans}
 use Rattle.tdf_trace_rows.specs.Laws.{Agree}
 use Rattle.tdf_trace_rows.specs.Positions.{Span, cell_of, position_at}
 use Rattle.tdf_trace_rows.specs.Rows.{Cells}
 use Rattle.tdf_sim_traces.proofs.Api.{cell_known, run_agree, told, tracked_sample}
-use Rattle.tdf_sim_traces.specs.Events.{events_before}
+use Rattle.tdf_sim_traces.specs.Events.{event_before, events_before}
 use Rattle.tdf_sim_traces.specs.Shown.{IsShown, IsShownOf}
 use Rattle.tdf_sim_traces.specs.Signals.{IsListed, IsSignalOf}
 use Rattle.tdf_sim_traces.specs.declared.shown.Shown.{Shown}
@@ -26,7 +27,7 @@ use Rattle.tdf_bind_connections.specs.declared.modules.PortRow.{PortRow}
 use Rattle.tdf_bind_connections.specs.declared.traces.TraceRow.{TraceRow}
 use Rattle.tdf_sim_history.specs.WorldLaws.{AreSteady, IsSettled}
 use Rattle.tdf_sim_history.specs.Rules.{rules_of}
-use Rattle.tdf_sim_history.specs.Columns.{ColumnStart}
+use Rattle.tdf_sim_history.specs.Columns.{ColumnStart, stamp_at, start_of}
 use Rattle.tdf_bind_invariants.specs.Limits.{AreWithinLimits}
 use Rattle.tdf_dynamic_plans.specs.Attributes.{clusters_of}
 
@@ -95,14 +96,60 @@ settled_below model flat start w from mark s limits shown steady since ends = re
       (subst (λ (z : ColumnStart). position_at 0 (column_spans l.port z x.cluster.origin (periods_of x.cluster)) time ≡ Some j → j < samples_done z l.port x.cluster) start_is base)) position);
 }
 
-pub shown_stands_below : ShownStandsBelow
-shown_stands_below model flat start from mark s is limits shown steady since low =
-    let w = world_before model flat (rules_of model flat) start from in
+-- the cells with a value, and those of event signals, agree below the mark with those of the run
+noted_agree : (model : PureTree) (flat : Flat) (start : World SideOf) (from mark : ℕ) (s : Shown) → IsFlatOf model flat → AreWithinLimits flat
+    → (shown : IsShown model flat start from (world_before model flat (rules_of model flat) start from) s) → AreSteady model flat (world_before model flat (rules_of model flat) start from) → AreSince mark s.tracking.list → mark ≤ from
+    → Agree (with_signal_samples flat.tables.traces (events_before model flat start from) (known_by shown.spans shown.samples)) (run_cells model flat (rules_of model flat) start from) mark
+noted_agree model flat start from mark s is limits shown steady since low =
     let cells = events_before model flat start from in
-    record {
-      noted = with_signal_samples flat.tables.traces cells (known_by shown.spans shown.samples);
-      stand = shown.holds.stands;
-      agree = agree_trans (with_signal_samples flat.tables.traces cells (known_by shown.spans shown.samples)) (with_signal_samples flat.tables.traces cells (cells_by shown.spans shown.samples))
-          (run_cells model flat (rules_of model flat) start from) mark from low (known_agree model flat start w from mark s shown steady since cells)
-          (run_agree model flat start from s (told model flat is limits) shown);
-    }
+    agree_trans (with_signal_samples flat.tables.traces cells (known_by shown.spans shown.samples)) (with_signal_samples flat.tables.traces cells (cells_by shown.spans shown.samples))
+    (run_cells model flat (rules_of model flat) start from) mark from low (known_agree model flat start (world_before model flat (rules_of model flat) start from) from mark s shown steady since cells)
+    (run_agree model flat start from s (told model flat is limits) shown)
+
+pub shown_stands_below : ShownStandsBelow
+shown_stands_below model flat start from mark s is limits shown steady since low = record {
+  noted = with_signal_samples flat.tables.traces (events_before model flat start from) (known_by shown.spans shown.samples);
+  stand = shown.holds.stands;
+  agree = noted_agree model flat start from mark s is limits shown steady since low;
+}
+
+-- ---- and each of these is known
+
+value_known : (x : Option (Option Raw)) → known_cell x ≡ Some None → ⊥
+value_known None is = none_some None is
+value_known (Some None) is = none_some None is
+value_known (Some (Some value)) is = none_some value (sym (some_same (Some value) None is))
+
+event_known : (o : Option Raw) (before after : Raw) → cell_or o (changed_cell before after) ≡ Some None → ⊥
+event_known (Some value) before after is = none_some value (sym (some_same (Some value) None is))
+event_known None before after is = go (is_same_value before after) is
+  where
+    go : (b : Bool) → (if b then None else Some (Some after)) ≡ Some None → ⊥
+    go true same = none_some None same
+    go false same = none_some after (sym (some_same (Some after) None same))
+
+before_known : (model : PureTree) (flat : Flat) (start : World SideOf) (from time : ℕ) (s : ColumnStart) (o : Option TraceRow) → event_before model flat start from time s o ≡ Some None → ⊥
+before_known model flat start from time s None is = none_some None is
+before_known model flat start from time s (Some row) is = go (row.event && nat_lt time from) is
+  where
+    go : (b : Bool) → (if b then event_column_cell model flat (rules_of model flat) start s row.signal time else None) ≡ Some None → ⊥
+    go true at = event_known (stamp_at s.stamps time) (value_before model flat (rules_of model flat) start row.signal time) (value_before model flat (rules_of model flat) start row.signal (time + 1)) at
+    go false at = none_some None at
+
+noted_known : (o : Option TraceRow) (of : ℕ → Option (Option Raw)) (other : Option (Option Raw)) → (other ≡ Some None → ⊥) → sample_or o (λ k. known_cell (of k)) other ≡ Some None → ⊥
+noted_known None of other apart is = apart is
+noted_known (Some row) of other apart is = go row.event is
+  where
+    go : (b : Bool) → (if b then other else known_cell (of row.signal)) ≡ Some None → ⊥
+    go true at = apart at
+    go false at = value_known (of row.signal) at
+
+-- so the cells of the run below the mark are known
+pub known_below : (model : PureTree) (flat : Flat) (start : World SideOf) (from mark : ℕ) (s : Shown) → IsFlatOf model flat → AreWithinLimits flat
+    → IsShown model flat start from (world_before model flat (rules_of model flat) start from) s → AreSteady model flat (world_before model flat (rules_of model flat) start from) → AreSince mark s.tracking.list → mark ≤ from
+    → AreKnownBelow (run_cells model flat (rules_of model flat) start from) mark
+known_below model flat start from mark s is limits shown steady since low = λ column t inside less none.
+    let agree = noted_agree model flat start from mark s is limits shown steady since low in
+    noted_known (slice_get flat.tables.traces column) (λ k. cells_by shown.spans shown.samples k t) (event_before model flat start from t (start_of start.shown column) (slice_get flat.tables.traces column))
+    (λ at. before_known model flat start from t (start_of start.shown column) (slice_get flat.tables.traces column) at)
+    (agree.cells column t inside less ∙ none)

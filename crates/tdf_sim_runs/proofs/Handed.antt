@@ -15,10 +15,10 @@ use Rattle.tdf_sim_history.specs.World.{Change, World}
 use Rattle.tdf_sim_instants.specs.InstantLaws.{IsModelOf}
 use Rattle.tdf_sim_runs.proofs.Onward.{goes_then, told_before}
 use Rattle.tdf_sim_runs.proofs.Plans.{notes_on}
-use Rattle.tdf_sim_runs.proofs.Reaching.{end_then, part_then}
+use Rattle.tdf_sim_runs.proofs.Reaching.{end_then, part_none, part_then}
 use Rattle.tdf_sim_runs.proofs.Told.{news_told}
-use Rattle.tdf_sim_runs.proofs.Written.{none_front, none_taken}
-use Rattle.tdf_sim_runs.specs.Ending.{GoesToEnd, HandsPart, WritesPart, end_from}
+use Rattle.tdf_sim_runs.proofs.Written.{none_taken}
+use Rattle.tdf_sim_runs.specs.Ending.{GoesToEnd, HandsPart, WritesPart}
 use Rattle.tdf_sim_runs.specs.Ongoing.{AreToldTo}
 use Rattle.tdf_sim_runs.specs.Handing.{EndsHanding, GoesHanding, HandsOn}
 use Rattle.tdf_sim_runs.specs.Running.{CanGoOn, IsRunning, IsRunningAt, RunGoesOn}
@@ -105,8 +105,7 @@ module _ (law : BoundariesHaveOne) (flat : Flat) (x y : Running) (a b c d : Opti
 
 -- the rows that were written are a front part of those up to the end
 pub rows_front_of : BoundariesHaveOne → (flat : Flat) (x y : Running) (stop : ℕ) (g : List ℕ) (a b : Option (List ℕ)) → CanGoOn flat y → y.from ≤ stop → RunGoesOn flat x y g a b → WritesPart flat stop x a b
-rows_front_of law flat x y stop g a b can within one = part_then law flat x y stop g a b b can within one (λ model start handed ahead m run to.
-    none_front y.shown.trace.about (run_cells model flat (rules_of model flat) (world_told ahead start) (end_from model flat start ahead stop)) y.shown.trace.rows.upto (end_from model flat start ahead stop) b)
+rows_front_of law flat x y stop g a b can within one = part_then law flat x y stop g a b b can within one (part_none law flat y stop b)
 
 -- a run that goes on and hands on news, and then goes on without
 pub goes_last : BoundariesHaveOne → (flat : Flat) (x y z : Running) (a b e c d : Option (List ℕ)) → CanGoOn flat y → GoesHanding flat x y a b c d → RunGoesOn flat y z [] b e → GoesHanding flat x z a e c d

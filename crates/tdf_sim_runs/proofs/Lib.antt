@@ -10,6 +10,7 @@ pub mod Finishing
 pub mod Handed
 pub mod Handing
 pub mod Keeping
+pub mod Known
 pub mod Leading
 pub mod Marking
 pub mod Plans

@@ -1,5 +1,5 @@
 -- How a run comes to its end.
-use Rattle.std.proofs.Common.{◌≡◌, ◌∙◌, ℕ, ◌-◌, ◌<◌, ◌≤◌, List, [], ◌++◌, Option, append-nil, append_assoc, refl, sym, ap, subst, arith}
+use Rattle.std.proofs.Common.{◌≡◌, ◌∙◌, ℕ, ◌-◌, ◌<◌, ◌≤◌, List, [], ◌++◌, Option, max, append-nil, append_assoc, refl, sym, ap, subst, arith}
 use Rattle.std.specs.Io.KnownBytes.{Appends}
 use Rattle.tdf_sim_instants.specs.Engine.{HasBeenSpent, HasBeenStopped}
 use Rattle.tdf_sim_instants.specs.InstantLaws.{InstantEndsSpent, InstantEndsStopped, InstantGoesAlong, IsModelOf}
@@ -18,14 +18,14 @@ use Rattle.tdf_sim_history.specs.World.{Change, World}
 use Rattle.tdf_sim_history.proofs.Api.{end_lies, history_told, told_twice}
 use Rattle.tdf_sim_traces.proofs.Api.{told_is_shown}
 use Rattle.tdf_sim_history.specs.History.{On, Spent, HistoryState, Stopped, end_time, history}
-use Rattle.tdf_io.specs.Bytes.{AppendsFront}
 use Rattle.tdf_sim_runs.proofs.Ended.{before_end}
 use Rattle.tdf_sim_runs.proofs.Handing.{news_more}
+use Rattle.tdf_sim_runs.proofs.Known.{agree_known, known_max, known_none, known_now, known_rows}
 use Rattle.tdf_sim_runs.proofs.Waiting.{runs_to, runs_to_next}
 use Rattle.tdf_sim_runs.proofs.Leading.{ends_so, halts, more_halted, more_spent, news_halted, news_spent, spends, stop_reached}
 use Rattle.tdf_sim_runs.proofs.Onward.{cells_stay, on_before, told_before, waiting, waits_later, waits_runs}
 use Rattle.tdf_sim_runs.proofs.Written.{none_taken, rows_less, rows_part, rows_then}
-use Rattle.tdf_sim_runs.specs.Ending.{EndsAs, EndsBy, GoesToEnd, WritesPart, end_from, state_from}
+use Rattle.tdf_sim_runs.specs.Ending.{EndsAs, EndsBy, GoesToEnd, WritesKnown, WritesPart, end_from, state_from}
 use Rattle.tdf_sim_runs.specs.News.{news_text}
 use Rattle.tdf_sim_runs.specs.Ongoing.{AreToldTo}
 use Rattle.tdf_sim_runs.proofs.Told.{ends_alike, on_other}
@@ -61,7 +61,12 @@ module _ (model : PureTree) (flat : Flat) (start : World SideOf) (handed : List 
   ends_then one other stop z how ending = subst (λ l. EndsAs model flat start l stop z how) (append_assoc handed one other) ending
 
 module _ (law : BoundariesHaveOne) where
-  -- a front part of the rows below a mark is one of those up to the end
+  -- no row
+  pub part_none : (flat : Flat) (r : Running) (stop : ℕ) (taken : Option (List ℕ)) → WritesPart flat stop r taken taken
+  part_none flat r stop taken model start handed ahead m run to = known_none r.shown.trace.about (run_cells model flat (rules_of model flat) (world_told ahead start) (end_from model flat start ahead stop))
+      r.shown.trace.rows.upto (end_from model flat start ahead stop) taken
+
+  -- a front part of the rows below a mark is one of those that are known at the end
   pub part_to : (flat : Flat) (r : Running) (stop : ℕ) (before after : Option (List ℕ)) → CanGoOn flat r → r.from ≤ stop → WritesFrontTo flat r before after → WritesPart flat stop r before after
   part_to flat r stop before after can within part model start handed ahead m run to =
       let last = last_on model flat start ahead stop in
@@ -69,10 +74,15 @@ module _ (law : BoundariesHaveOne) where
       let early = told_before model flat start r.from stop ahead within to in
       let own = world_told ahead start in
       let end = end_from model flat start ahead stop in
-      rows_less r.shown.trace.about (run_cells model flat (rules_of model flat) own r.from) (run_cells model flat (rules_of model flat) own end)
-      r.shown.trace.rows.upto part.mark end before after (let e = part.early in omega (arith, e, later))
-      (cells_stay law model flat start last.0 handed ahead r end part.mark m can run early later last.1 part.early part.since part.within)
-      (part.front model start handed ahead m run early)
+      let stay = cells_stay law model flat start last.0 handed ahead r end part.mark m can run early later last.1 part.early part.since part.within in
+      record {
+        mark = part.mark;
+        within = (let e = part.early in omega (arith, e, later));
+        known = agree_known (run_cells model flat (rules_of model flat) own r.from) (run_cells model flat (rules_of model flat) own end) part.mark part.mark (omega arith) stay
+            (known_now law model flat start handed ahead r part.mark m run early part.early part.since);
+        front = rows_less r.shown.trace.about (run_cells model flat (rules_of model flat) own r.from) (run_cells model flat (rules_of model flat) own end)
+            r.shown.trace.rows.upto part.mark part.mark before after (omega arith) stay (part.front model start handed ahead m run early);
+      }
 
   -- also after the rows that were written before
   pub part_then : (flat : Flat) (x y : Running) (stop : ℕ) (g : List ℕ) (a b c : Option (List ℕ)) → CanGoOn flat y → y.from ≤ stop → RunGoesOn flat x y g a b → WritesPart flat stop y b c → WritesPart flat stop x a c
@@ -83,12 +93,20 @@ module _ (law : BoundariesHaveOne) where
       let early = told_before model flat start y.from stop ahead within to in
       let own = world_told ahead start in
       let end = end_from model flat start ahead stop in
-      rows_part x.shown.trace.about (run_cells model flat (rules_of model flat) own y.from) (run_cells model flat (rules_of model flat) own end)
-      x.shown.trace.rows.upto y.shown.trace.rows.upto end a b c one.wrote (let e = can.early in omega (arith, e, later))
-      (cells_stay law model flat start last.0 (handed ++ g) ahead y end y.shown.trace.rows.upto m can mid early later last.1 can.early can.since can.within)
-      (one.rows model start handed ahead m run early)
-      (subst (λ (o : AboutSeen). AppendsFront b c (rows_text o (run_cells model flat (rules_of model flat) own end) y.shown.trace.rows.upto end)) one.about
-      (part model start (handed ++ g) ahead m mid to))
+      let upto = y.shown.trace.rows.upto in
+      let stay = cells_stay law model flat start last.0 (handed ++ g) ahead y end upto m can mid early later last.1 can.early can.since can.within in
+      let rest : WritesKnown x.shown.trace.about (run_cells model flat (rules_of model flat) own end) upto end b c
+      = subst (λ (o : AboutSeen). WritesKnown o (run_cells model flat (rules_of model flat) own end) upto end b c) one.about (part model start (handed ++ g) ahead m mid to) in
+      record {
+        mark = max upto rest.mark;
+        within = (let e = can.early in let k = rest.within in omega (arith, e, later, k));
+        known = known_max (run_cells model flat (rules_of model flat) own end) upto rest.mark
+            (agree_known (run_cells model flat (rules_of model flat) own y.from) (run_cells model flat (rules_of model flat) own end) upto upto (omega arith) stay
+            (known_now law model flat start (handed ++ g) ahead y upto m mid early can.early can.since)) rest.known;
+        front = rows_part x.shown.trace.about (run_cells model flat (rules_of model flat) own y.from) (run_cells model flat (rules_of model flat) own end)
+            x.shown.trace.rows.upto upto (max upto rest.mark) a b c one.wrote (omega arith) stay (one.rows model start handed ahead m run early)
+            (known_rows x.shown.trace.about (run_cells model flat (rules_of model flat) own end) upto end (max upto rest.mark) b c rest (omega arith));
+      }
 
   -- the time at which a run has ended is that of the history, whatever answers it is told
   end_told : (model : PureTree) (flat : Flat) (start : World SideOf) (handed : List ℕ) (ahead : List (List Change)) (stop : ℕ) (z : Running) (how : Ended) → IsModelOf model flat → EndsAs model flat start handed stop z how

@@ -14,7 +14,7 @@ use Rattle.tdf_io.specs.declared.writing.SinkErr.{SinkErr}
 use Rattle.tdf_lang_tree.specs.Pure.{PureTree}
 use Rattle.tdf_sim_history.proofs.Api.{answers_agree, attributes_alike, to_same, untold_told}
 use Rattle.tdf_sim_history.specs.Cells.{run_cells}
-use Rattle.tdf_sim_history.specs.History.{history, On, Spent, HistoryState, Stopped}
+use Rattle.tdf_sim_history.specs.History.{end_time, history, On, Spent, HistoryState, Stopped}
 use Rattle.tdf_sim_history.specs.Instant.{RunFault}
 use Rattle.tdf_sim_history.specs.Rules.{rules_of, world_engine}
 use Rattle.tdf_sim_history.specs.Telling.{untold, world_told, state_as, world_untold}
@@ -24,13 +24,15 @@ use Rattle.tdf_sim_instants.specs.InstantLaws.{IsModelOf}
 use Rattle.tdf_sim_notes.specs.Ending.{end_of, end_text}
 use Rattle.tdf_sim_notes.specs.declared.ending.End.TheVariants as ending
 use Rattle.tdf_sim_refinement.specs.Pass.{AreAt}
+use Rattle.tdf_sim_resumed.specs.Snapshot.{IsRowsFrom}
 use Rattle.tdf_sim_runs.proofs.Answering.{if_three, on_err, then_ok}
 use Rattle.tdf_sim_runs.proofs.Ended.{end_lies_in}
 use Rattle.tdf_sim_runs.proofs.Finishing.{rows_same}
 use Rattle.tdf_sim_runs.proofs.Handed.{same_rest}
+use Rattle.tdf_sim_runs.proofs.Known.{known_rows, mark_before}
 use Rattle.tdf_sim_runs.proofs.Told.{ends_alike, ends_cells, on_untold}
 use Rattle.tdf_sim_runs.proofs.Written.{rows_split}
-use Rattle.tdf_sim_runs.specs.Ending.{EndsAs, EndsBy, GoesToEnd, WritesPart, end_by, end_from, state_from}
+use Rattle.tdf_sim_runs.specs.Ending.{EndsAs, EndsBy, GoesToEnd, WritesKnown, WritesPart, end_by, end_from, state_from}
 use Rattle.tdf_sim_runs.specs.Ongoing.{AreToldTo}
 use Rattle.tdf_sim_runs.specs.Rest.{AreNewsAfter, GoesOnAs, IsLeftFrom, rest_end, rest_notes, rest_trace}
 use Rattle.tdf_sim_runs.specs.Running.{IsRunningAt}
@@ -69,7 +71,17 @@ module _ (law : BoundariesHaveOne) (model : PureTree) (flat : Flat) (start : Wor
 
   -- a front part of the rows is one of it
   pub rows_of_rest : (b c : Option (List ℕ)) → WritesPart flat stop r b c → AppendsFront b c whole_rest
-  rows_of_rest b c part = front_more b c (rows_text about (cells_at end) upto end) ((writing_of about).tail end) (part model start handed ahead m run to)
+  rows_of_rest b c part =
+      let p = part model start handed ahead m run to in
+      front_more b c (rows_text about (cells_at end) upto end) ((writing_of about).tail end) (known_rows about (cells_at end) upto end end b c p p.within)
+
+  -- and of those before the time from which on rows are still to be written, where the history comes to the stop
+  pub rows_of_wait : (b c : Option (List ℕ)) → WritesPart flat stop r b c → (w : World SideOf) → state_from model flat start ahead stop ≡ On w → (rows : ℕ) → IsRowsFrom (cells_at stop) stop rows
+      → AppendsFront b c (rows_text about (cells_at stop) upto rows)
+  rows_of_wait b c part w on rows is =
+      let same : end ≡ stop = ap (λ (x : HistoryState (World SideOf) RunFault). end_time x stop) on in
+      let p : WritesKnown about (cells_at stop) upto stop b c = subst (λ n. WritesKnown about (cells_at n) upto n b c) same (part model start handed ahead m run to) in
+      known_rows about (cells_at stop) upto stop rows b c p (mark_before (cells_at stop) p.mark stop rows p.within p.known is)
 
   module _ (last : Running) (how : Ended) (news : List ℕ) (b c : Option (List ℕ)) (goes : GoesToEnd flat stop r last news b c how) where
     abbrev ending_is : EndsAs model flat start (handed ++ news) stop last how

@@ -1,16 +1,15 @@
 -- A run that was brought to a stop, as its history has it.
-use Rattle.std.proofs.Common.{◌≡◌, ◌∙◌, ◌++◌, ◌≤◌, ℕ, List, [], Option, Ok, IfOk, OnErr, append_assoc, append-nil, refl, sym, ap, subst, arith}
+use Rattle.std.proofs.Common.{◌≡◌, ◌∙◌, ◌++◌, ◌≤◌, ℕ, List, Option, append-nil, sym, ap, subst, arith}
 use Rattle.std.proofs.KnownBytes.{Appends-trans}
 use Rattle.std.specs.Io.KnownBytes.{Appends}
 use Rattle.tdf_bind.specs.declared.model.Flat.{Flat}
 use Rattle.tdf_dynamic.specs.Laws.{BoundariesHaveOne}
 use Rattle.tdf_events.specs.Side.{SideOf}
-use Rattle.tdf_io.proofs.Api.{front_more, front_then}
+use Rattle.tdf_io.proofs.Api.{front_more}
 use Rattle.tdf_io.specs.Bytes.{AppendsFront}
 use Rattle.tdf_lang_tree.specs.Pure.{PureTree}
 use Rattle.tdf_sim_history.specs.Cells.{run_cells}
-use Rattle.tdf_sim_history.specs.History.{HistoryState, On, Spent, Stopped}
-use Rattle.tdf_sim_history.specs.Instant.{RunFault}
+use Rattle.tdf_sim_history.specs.History.{On}
 use Rattle.tdf_sim_history.specs.Rules.{rules_of}
 use Rattle.tdf_sim_history.specs.Telling.{world_told}
 use Rattle.tdf_sim_history.specs.Texts.{notes_to}
@@ -18,20 +17,20 @@ use Rattle.tdf_sim_history.specs.World.{Change, World}
 use Rattle.tdf_sim_instants.specs.InstantLaws.{IsModelOf}
 use Rattle.tdf_sim_notes.specs.Ending.{end_text}
 use Rattle.tdf_sim_resumed.specs.Snapshot.{IsRowsFrom}
-use Rattle.tdf_sim_runs.proofs.Handed.{hands_part, same_rest}
+use Rattle.tdf_sim_runs.proofs.Handed.{hands_part}
 use Rattle.tdf_sim_runs.proofs.Onward.{goes_then}
 use Rattle.tdf_sim_runs.proofs.AtStop.{rows_agree}
 use Rattle.tdf_sim_runs.proofs.Reaching.{part_then, part_to}
-use Rattle.tdf_sim_runs.proofs.Resting.{rows_of_rest}
+use Rattle.tdf_sim_runs.proofs.Resting.{rows_of_rest, rows_of_wait}
 use Rattle.tdf_sim_runs.proofs.Told.{cells_told, news_told, on_other}
-use Rattle.tdf_sim_runs.specs.Ending.{state_from}
+use Rattle.tdf_sim_runs.specs.Ending.{HandsPart, WritesPart, state_from}
 use Rattle.tdf_sim_runs.specs.Handing.{ComesHanding}
 use Rattle.tdf_sim_runs.specs.Ongoing.{AreToldTo}
-use Rattle.tdf_sim_runs.specs.Pausing.{HasWaited, WaitsAs}
-use Rattle.tdf_sim_runs.specs.Rest.{AreNewsAfter, rest_end, rest_notes, rest_trace}
-use Rattle.tdf_sim_runs.specs.Running.{CanGoOn, IsRunningAt, RunGoesOn, WritesFrontTo}
+use Rattle.tdf_sim_runs.specs.Pausing.{HasWaited, PausesInPart, WaitsAs}
+use Rattle.tdf_sim_runs.specs.Rest.{AreNewsAfter, rest_end}
+use Rattle.tdf_sim_runs.specs.Running.{IsRunningAt, RunGoesOn, WritesFrontTo}
 use Rattle.tdf_sim_runs.specs.declared.running.Running.{Running}
-use Rattle.tdf_trace.specs.Writings.{AboutSeen, rows_text}
+use Rattle.tdf_trace.specs.Writings.{rows_text}
 
 module _ (law : BoundariesHaveOne) (flat : Flat) (stop : ℕ) (r mid : Running) (a b d e : Option (List ℕ)) (come : ComesHanding flat stop r mid a b d e) where
   -- so it was told what the boundaries up to the stop led to
@@ -88,16 +87,27 @@ module _ (law : BoundariesHaveOne) (flat : Flat) (stop : ℕ) (r mid : Running) 
           goes_on = last_run;
         }
 
-  -- it came to the stop, and a sink refused: front parts of what it writes to its end were taken
-  module _ (c f : Option (List ℕ)) (model : PureTree) (start : World SideOf) (handed : List ℕ) (ahead : List (List Change)) (m : IsModelOf model flat)
-      (run : IsRunningAt model flat start handed r) (to : AreToldTo model flat start stop ahead) where
-    within : mid.from ≤ stop
-    within = let s = come.at in omega (arith, s)
+  -- it came to the stop, and a sink refused: it wrote front parts of what is known then, and of the plans that came
+  within : mid.from ≤ stop
+  within = let s = come.at in omega (arith, s)
 
-    pub front_rows : WritesFrontTo flat mid b c → AppendsFront a c (rest_trace model flat r.shown.trace.about start ahead r.shown.trace.rows.upto stop)
-    front_rows part = rows_of_rest law model flat start handed ahead stop m to r run a c
-        (part_then law flat r mid stop come.goes.news a b c come.can within come.goes.goes (part_to law flat mid stop b c come.can within part))
+  pub front_rows : (c : Option (List ℕ)) → WritesFrontTo flat mid b c → WritesPart flat stop r a c
+  front_rows c part = part_then law flat r mid stop come.goes.news a b c come.can within come.goes.goes (part_to law flat mid stop b c come.can within part)
 
-    pub front_notes : AppendsFront e f mid.news.items → (turns : ℕ) (news : List ℕ) → AreNewsAfter model flat start ahead stop handed news → AppendsFront d f (rest_notes model flat start ahead stop turns news)
-    front_notes part turns news are = front_more d f news (end_text flat.resolution turns (rest_end model flat start ahead stop turns))
-        (hands_part law flat r mid stop come.goes.news a b d e f within come.goes.goes come.goes.took part model start handed ahead news m run to are)
+  pub front_news : (f : Option (List ℕ)) → AppendsFront e f mid.news.items → HandsPart flat stop r d f
+  front_news f part = hands_part law flat r mid stop come.goes.news a b d e f within come.goes.goes come.goes.took part
+
+-- so a pause wrote that was refused
+pub pauses_in_part : BoundariesHaveOne → (flat : Flat) (stop turns : ℕ) (r : Running) (a b d e : Option (List ℕ)) → WritesPart flat stop r a b → HandsPart flat stop r d e
+    → (model : PureTree) (start : World SideOf) (handed : List ℕ) (ahead : List (List Change)) → IsModelOf model flat → IsRunningAt model flat start handed r → AreToldTo model flat start stop ahead
+    → PausesInPart model flat r.shown.trace.about start handed ahead r.shown.trace.rows.upto stop turns a b d e
+pauses_in_part law flat stop turns r a b d e part hands model start handed ahead m run to = record {
+  waits = λ w on. record {
+    trace = λ rows is. rows_of_wait law model flat start handed ahead stop m to r run a b part w on rows is;
+    notes = λ news are. hands model start handed ahead news m run to are;
+  };
+  ends = λ none. record {
+    trace = rows_of_rest law model flat start handed ahead stop m to r run a b part;
+    notes = λ news are. front_more d e news (end_text flat.resolution turns (rest_end model flat start ahead stop turns)) (hands model start handed ahead news m run to are);
+  };
+}

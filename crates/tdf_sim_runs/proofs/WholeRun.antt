@@ -1,11 +1,11 @@
 -- A whole run is one that goes on from its start.
-use Rattle.std.proofs.Common.{◌≡◌, ◌∙◌, ℕ, ◌≤◌, List, [], ◌++◌, Option, Result, IfOk, OnErr, OnOk, Some, refl, sym, ap, subst, arith}
+use Rattle.std.proofs.Common.{◌≡◌, ◌∙◌, ℕ, List, [], ◌++◌, Option, Result, sym, ap, subst, arith}
 use Rattle.std.proofs.KnownBytes.{Appends-trans}
 use Rattle.std.specs.Io.KnownBytes.{Appends}
 use Rattle.tdf_bind.specs.declared.model.Flat.{Flat}
 use Rattle.tdf_dynamic_first.specs.declared.first.First.{First}
 use Rattle.tdf_events.specs.Side.{SideOf, start_side}
-use Rattle.tdf_io.proofs.Api.{front_then, front_whole}
+use Rattle.tdf_io.proofs.Api.{front_then}
 use Rattle.tdf_io.specs.Bytes.{AppendsFront}
 use Rattle.tdf_io.specs.declared.writing.SinkErr.{SinkErr}
 use Rattle.tdf_lang_tree.specs.Pure.{PureTree}
@@ -14,12 +14,11 @@ use Rattle.tdf_sim_history.specs.Answers.{AreAnswers}
 use Rattle.tdf_sim_history.specs.Cells.{run_cells}
 use Rattle.tdf_sim_history.specs.Rules.{rules_of, start_world}
 use Rattle.tdf_sim_history.specs.Telling.{world_told}
-use Rattle.tdf_sim_history.specs.Texts.{end_of as end_before, notes_to, run_trace, state_at}
+use Rattle.tdf_sim_history.specs.Texts.{end_of as end_before, notes_to, state_at}
 use Rattle.tdf_sim_history.specs.World.{Change, World}
 use Rattle.tdf_sim_notes.specs.Ending.{HaveAnswers, end_of, end_text, run_end}
 use Rattle.tdf_sim_notes.specs.Laws.{NotesAreWritten}
 use Rattle.tdf_sim_notes.specs.Plans.{plans_of}
-use Rattle.tdf_sim_notes.specs.declared.ending.End.TheVariants.{Reached}
 use Rattle.tdf_sim_runs.proofs.Answering.{if_ok, on_err, then_ok}
 use Rattle.tdf_sim_runs.proofs.Noting.{after_plans, notes_whole, plans_alone}
 use Rattle.tdf_sim_runs.specs.Ongoing.{AreToldTo}
@@ -27,8 +26,8 @@ use Rattle.tdf_sim_runs.specs.Rest.{AreNewsAfter, GoesOnAs, IsLeftFrom, rest_end
 use Rattle.tdf_sim_runs.specs.Runs.{IsLeft, RunsAs, model_about, trace_of}
 use Rattle.tdf_sim_runs.specs.declared.run.Ran.{Ran}
 use Rattle.tdf_trace.proofs.Api.{head_front, makes_whole, written_none}
-use Rattle.tdf_trace.specs.Writings.{AboutSeen, head_of, rest_text, writing_of, written_text}
-use Rattle.tdf_trace_rows.specs.Rows.{Cells, trace_text}
+use Rattle.tdf_trace.specs.Writings.{AboutSeen, head_of, rest_text}
+use Rattle.tdf_trace_rows.specs.Rows.{Cells}
 use Rattle.tdf_trace_rows.specs.declared.kinds.TraceKind.{TraceKind}
 
 module _ (kind : TraceKind) (model : PureTree) (flat : Flat) (firsts : List First) (ahead : List (List Change)) (stop turns : ℕ) where
@@ -39,7 +38,7 @@ module _ (kind : TraceKind) (model : PureTree) (flat : Flat) (firsts : List Firs
   told = start_world model flat firsts ahead turns
 
   -- a start of which this is told
-  told_is : world_told ahead start ≡ told
+  pub told_is : world_told ahead start ≡ told
   told_is = starts_told model flat [] ahead firsts (start_side flat) turns
 
   pub told_to : HaveAnswers model flat firsts ahead stop turns → AreToldTo model flat start stop ahead

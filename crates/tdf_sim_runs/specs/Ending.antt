@@ -1,7 +1,7 @@
 -- How a run ends.
 -- Source: own.
 use Rattle.std.specs.Io.KnownBytes.{Appends}
-use Rattle.std.specs.Prelude.{◌≡◌, ◌≤◌, ◌-◌, ◌++◌, ℕ, List, Option, Result}
+use Rattle.std.specs.Prelude.{◌≡◌, ◌≢◌, ◌<◌, ◌≤◌, ◌-◌, ◌++◌, ℕ, List, None, Option, Result, Some}
 use Rattle.tdf_trace.specs.Calls.{StandBelow}
 use Rattle.tdf_trace.specs.Tracked.{AreSince}
 use Rattle.tdf_sim_instants.specs.InstantLaws.{IsModelOf, IsNow}
@@ -27,7 +27,8 @@ use Rattle.tdf_sim_notes.specs.declared.ending.End.{End}
 use Rattle.tdf_sim_notes.specs.declared.ending.End.TheVariants as ending
 use Rattle.tdf_sim_traces.specs.Shown.{IsShown}
 use Rattle.tdf_sim_traces.specs.declared.shown.Shown.{Shown}
-use Rattle.tdf_trace.specs.Writings.{rest_text}
+use Rattle.tdf_trace.specs.Writings.{AboutSeen, rest_text, rows_text}
+use Rattle.tdf_trace_rows.specs.Rows.{Cells}
 use Rattle.tdf_lang_tree.specs.Pure.{PureTree}
 use Rattle.tdf_sim_history.specs.WorldLaws.{AreSteady}
 use Rattle.tdf_sim_history.specs.Rules.{rules_of}
@@ -114,16 +115,30 @@ pub record GoesToEnd (flat : Flat) (stop : ℕ) (old new : Running) (news : List
       (told_rows model flat start ahead old.shown.trace.about new.from
       old.shown.trace.rows.upto new.shown.trace.rows.upto)
 
--- a call was refused: the sink took a front part of the rows up to the end, whatever answers the
--- history is told
+-- each cell below a time is known
+abbrev pub AreKnownBelow : Cells → (time : ℕ) → Type 0
+AreKnownBelow cells time = (column t : ℕ) → column < cells.columns → t < time
+    → cells.at column t ≢ Some None
+
+-- the sink took a front part of the rows of these cells from a time on, up to one that is not past
+-- the end and below which each cell is known
+pub record WritesKnown (about : AboutSeen) (cells : Cells) (from end : ℕ)
+    (before after : Option (List ℕ)) : Type 0 where
+  pub mark : ℕ
+  pub within : mark ≤ end
+  pub known : AreKnownBelow cells mark
+  pub front : AppendsFront before after (rows_text about cells from mark)
+
+-- a call was refused: the sink took a front part of the rows that are known at the end, whatever
+-- answers the history is told
 abbrev pub WritesPart : Flat → (stop : ℕ) → (old : Running) → (before after : Option (List ℕ))
     → Type 0
 WritesPart flat stop old before after = (model : PureTree) (start : World SideOf)
     → (handed : List ℕ) (ahead : List (List Change)) → IsModelOf model flat
     → IsRunningAt model flat start handed old → AreToldTo model flat start stop ahead
-    → AppendsFront before after (told_rows model flat start ahead old.shown.trace.about
-    (end_from model flat start ahead stop) old.shown.trace.rows.upto
-    (end_from model flat start ahead stop))
+    → WritesKnown old.shown.trace.about (run_cells model flat (rules_of model flat)
+    (world_told ahead start) (end_from model flat start ahead stop))
+    old.shown.trace.rows.upto (end_from model flat start ahead stop) before after
 
 -- and of the news that weren't handed on yet
 abbrev pub HandsPart : Flat → (stop : ℕ) → (old : Running) → (before after : Option (List ℕ))

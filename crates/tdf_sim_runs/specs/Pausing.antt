@@ -17,21 +17,21 @@ use Rattle.tdf_sim_resumed.specs.Snapshot.{IsRowsFrom}
 use Rattle.tdf_sim_runs.specs.Ending.{state_from}
 use Rattle.tdf_sim_runs.specs.Rest.{AreNewsAfter, GoesOnAs, rest_notes, rest_trace}
 use Rattle.tdf_sim_runs.specs.Running.{CanGoOn, IsRunningAt, RunGoesOn, told_rows}
-use Rattle.tdf_sim_runs.specs.declared.pausing.Part.{Part}
-use Rattle.tdf_sim_runs.specs.declared.pausing.Part.TheVariants as part
+use Rattle.tdf_sim_runs.specs.declared.pausing.Arrival.{Arrival}
+use Rattle.tdf_sim_runs.specs.declared.pausing.Arrival.TheVariants as arrival
 use Rattle.tdf_sim_runs.specs.declared.run.Ran.{Ran}
 use Rattle.tdf_sim_runs.specs.declared.running.Running.{Running}
 use Rattle.tdf_trace.specs.Writings.{AboutSeen}
 use Rattle.tdf_trace.specs.declared.stage.Stage.TheVariants.{Open}
 
 -- what holds of a run that waits, and of one that ended
-abbrev pub IfWaiting : Part → (Running → Type 0) → Type 0
-IfWaiting (part.Waiting r) Holds = Holds r
-IfWaiting (part.Ended ran) Holds = ⊤
+abbrev pub IfWaiting : Arrival → (Running → Type 0) → Type 0
+IfWaiting (arrival.Waiting r) Holds = Holds r
+IfWaiting (arrival.Ended ran) Holds = ⊤
 
-abbrev pub IfEnded : Part → (Ran → Type 0) → Type 0
-IfEnded (part.Waiting r) Holds = ⊤
-IfEnded (part.Ended ran) Holds = Holds ran
+abbrev pub IfEnded : Arrival → (Ran → Type 0) → Type 0
+IfEnded (arrival.Waiting r) Holds = ⊤
+IfEnded (arrival.Ended ran) Holds = Holds ran
 
 -- a run wrote rows up to the time from which on they are still to be written, and handed on all its
 -- news
@@ -74,18 +74,46 @@ pub record EndsBefore (model : PureTree) (flat : Flat) (about : AboutSeen) (star
   pub goes : GoesOnAs {E = SinkErr} model flat about start handed ahead from stop turns out_old
       out_new notes_old notes_new (Ok ran)
 
+-- where the history comes to the stop, one that was refused wrote front parts of the rows up to
+-- that time from which on they are still to be written, and of the news that were not handed on
+-- before
+pub record WaitsInPart (model : PureTree) (flat : Flat) (about : AboutSeen) (start : World SideOf)
+    (handed : List ℕ) (ahead : List (List Change)) (from stop : ℕ)
+    (out_old out_new notes_old notes_new : Option (List ℕ)) : Type 0 where
+  pub trace : (rows : ℕ) → IsRowsFrom (run_cells model flat (rules_of model flat)
+      (world_told ahead start) stop) stop rows
+      → AppendsFront out_old out_new (told_rows model flat start ahead about stop from rows)
+  pub notes : (news : List ℕ) → AreNewsAfter model flat start ahead stop handed news
+      → AppendsFront notes_old notes_new news
+
+-- where it ended before, of all of its trace and its notes
+pub record EndsInPart (model : PureTree) (flat : Flat) (about : AboutSeen) (start : World SideOf)
+    (handed : List ℕ) (ahead : List (List Change)) (from stop turns : ℕ)
+    (out_old out_new notes_old notes_new : Option (List ℕ)) : Type 0 where
+  pub trace : AppendsFront out_old out_new (rest_trace model flat about start ahead from stop)
+  pub notes : (news : List ℕ) → AreNewsAfter model flat start ahead stop handed news
+      → AppendsFront notes_old notes_new (rest_notes model flat start ahead stop turns news)
+
+-- so it wrote, where it does and where it doesn't
+pub record PausesInPart (model : PureTree) (flat : Flat) (about : AboutSeen) (start : World SideOf)
+    (handed : List ℕ) (ahead : List (List Change)) (from stop turns : ℕ)
+    (out_old out_new notes_old notes_new : Option (List ℕ)) : Type 0 where
+  pub waits : (w : World SideOf) → state_from model flat start ahead stop ≡ On w
+      → WaitsInPart model flat about start handed ahead from stop out_old out_new notes_old
+      notes_new
+  pub ends : ((w : World SideOf) → state_from model flat start ahead stop ≢ On w)
+      → EndsInPart model flat about start handed ahead from stop turns out_old out_new notes_old
+      notes_new
+
 -- a run waits at a stop where the history from a start comes to it, or ended before as the history
--- does; one that was refused wrote front parts of what it writes to its end
+-- does; one that was refused wrote front parts of what it writes so
 pub record PausesAs (model : PureTree) (flat : Flat) (about : AboutSeen) (start : World SideOf)
     (handed : List ℕ) (ahead : List (List Change)) (from stop turns : ℕ)
-    (out_old out_new notes_old notes_new : Option (List ℕ)) (result : Result Part SinkErr)
+    (out_old out_new notes_old notes_new : Option (List ℕ)) (result : Result Arrival SinkErr)
     : Type 0 where
   pub waits : IfOk result (λ p. IfWaiting p (WaitsAs model flat about start handed ahead from stop
       out_old out_new notes_old notes_new))
   pub ended : IfOk result (λ p. IfEnded p (EndsBefore model flat about start handed ahead from stop
       turns out_old out_new notes_old notes_new))
-  pub trace_part : OnErr result
-      (AppendsFront out_old out_new (rest_trace model flat about start ahead from stop))
-  pub notes_part : (news : List ℕ) → AreNewsAfter model flat start ahead stop handed news
-      → OnErr result
-      (AppendsFront notes_old notes_new (rest_notes model flat start ahead stop turns news))
+  pub part : OnErr result (PausesInPart model flat about start handed ahead from stop turns out_old
+      out_new notes_old notes_new)

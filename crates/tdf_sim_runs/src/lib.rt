@@ -23,7 +23,7 @@ mod standing;
 mod starting;
 
 pub use laws::{law_advancing, law_going, law_next, law_staying, law_waiting};
-pub use pausing::{Part, pause};
+pub use pausing::{Arrival, pause};
 pub use rest::{Until, go_on};
 pub use run::{Ran, Request, begin_run, run_model};
 pub use running::Running;

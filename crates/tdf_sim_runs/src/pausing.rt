@@ -3,9 +3,9 @@
 use crate::run::Ran;
 use crate::running::Running;
 
-/// A run at a stop.
+/// A run that went to a stop.
 #[derive(Drop)]
-pub enum Part {
+pub enum Arrival {
     /// It waits there, and can go on: all its instants before the stop have happened, its rows are written up to the first position
     /// of a traced signal whose sample isn't known, and its notes have all plans that came.
     Waiting(Running),
@@ -80,8 +80,8 @@ fn wait<O: Sink, N: Sink>(
 /// history from each start from which the run goes on, told the answers of its boundaries.
 ///
 /// # Errors
-/// A write failed, or out of memory. Both sinks then hold front parts of their texts. Where no write failed, no count of faults
-/// changes.
+/// A write failed, or out of memory. Both sinks then hold front parts of what the run writes up to the stop, or to its end before it.
+/// Where no write failed, no count of faults changes.
 pub fn pause<O: Sink, N: Sink>(
     alloc: Global,
     flat: &Flat,
@@ -89,15 +89,15 @@ pub fn pause<O: Sink, N: Sink>(
     until: Until,
     out: &mut O,
     notes: &mut N,
-) -> Result<Part, SinkErr>
+) -> Result<Arrival, SinkErr>
     requires runnable { IsRunnable flat.now }
     requires can { CanGoOn flat.now run }
     requires within { run.from ≤ until.stop }
     requires early { until.stop < time_end }
     requires open { run.shown.trace.stage ≡ Open }
-    ensures can { IfOk result (λ part. IfWaiting part (CanGoOn flat.now)) }
-    ensures at { IfOk result (λ part. IfWaiting part (λ after. after.from ≡ until.stop)) }
-    ensures stage { IfOk result (λ part. IfWaiting part (λ after. after.shown.trace.stage ≡ Open)) }
+    ensures can { IfOk result (λ it. IfWaiting it (CanGoOn flat.now)) }
+    ensures at { IfOk result (λ it. IfWaiting it (λ after. after.from ≡ until.stop)) }
+    ensures stage { IfOk result (λ it. IfWaiting it (λ after. after.shown.trace.stage ≡ Open)) }
     ensures answered { (model : PureTree) (start : World SideOf) (handed : List ℕ)
         → IsModelOf model flat.now → IsRunningAt model flat.now start handed run
         → OnOk result ((ahead : List (List Change))
@@ -122,11 +122,11 @@ pub fn pause<O: Sink, N: Sink>(
     };
     match ended {
         Ended::Reached => match wait(flat, run, out, notes) {
-            Ok(run) => Ok(Part::Waiting(run)),
+            Ok(run) => Ok(Arrival::Waiting(run)),
             Err(error) => Err(error),
         },
         ended => match close_run(alloc, flat, run, ended, until, out, notes) {
-            Ok(ran) => Ok(Part::Ended(ran)),
+            Ok(ran) => Ok(Arrival::Ended(ran)),
             Err(error) => Err(error),
         },
     }

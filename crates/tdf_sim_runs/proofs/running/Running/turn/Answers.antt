@@ -3,18 +3,14 @@ use Rattle.std.proofs.lemmas.Bool.{cases_lt}
 use Rattle.tdf_sim_instants.specs.Engine.{HasBeenSpent, HasBeenStopped}
 use Rattle.tdf_sim_instants.specs.declared.crossing.Pass.TheVariants as pass
 use Rattle.tdf_sim_runs.specs.News.{news_text}
-use Rattle.tdf_sim_history.specs.Cells.{run_cells}
-use Rattle.tdf_sim_history.specs.Telling.{world_told}
 use Rattle.tdf_sim_runs.proofs.Answering.{always_err}
 use Rattle.tdf_sim_runs.proofs.Onward.{goes_then, waits, waits_goes, waits_later}
-use Rattle.tdf_sim_runs.proofs.Reaching.{is_spent, is_stopped, part_then, part_to, reaches}
-use Rattle.tdf_sim_runs.proofs.Written.{none_front}
+use Rattle.tdf_sim_runs.proofs.Reaching.{is_spent, is_stopped, part_none, part_then, part_to, reaches}
 use Rattle.tdf_sim_runs.proofs.running.Running.turn.Goals as goal
-use Rattle.tdf_sim_runs.specs.Ending.{GoesToEnd, end_from}
+use Rattle.tdf_sim_runs.specs.Ending.{GoesToEnd}
 use Rattle.tdf_sim_runs.specs.Running.{CanGoOn, RunGoesOn}
 use Rattle.tdf_sim_runs.specs.declared.going.Ended.TheVariants as ended
 use Rattle.tdf_sim_runs.specs.declared.running.Running.{Running}
-use Rattle.tdf_sim_history.specs.Rules.{rules_of}
 
 less_than : (t stop : ℕ) → t ≤ stop → (t ≡ stop → ⊥) → t < stop
 less_than t stop within other = elim (cases_lt t stop) [
@@ -47,9 +43,7 @@ step-requires-clause-can g c = subst (CanGoOn c.args.flat.now) (sym c.wait.ensur
     (waits c.args.flat.now c.args.self.now c.args.stop c.wait.new.self.from c.requires.can c.requires.within c.wait.ensures.next)
 
 pub returns-in-Err-clause-part : goal.returns-in-Err-clause-part
-returns-in-Err-clause-part g c = λ model start handed ahead m run to.
-    none_front c.args.self.now.shown.trace.about (run_cells model c.args.flat.now (rules_of model c.args.flat.now) (world_told ahead start) (end_from model c.args.flat.now start ahead c.args.stop))
-    c.args.self.now.shown.trace.rows.upto (end_from model c.args.flat.now start ahead c.args.stop) (g.K.Sink.taken c.args.out.now)
+returns-in-Err-clause-part g c = part_none c.law_one_answer.ensures c.args.flat.now c.args.self.now c.args.stop (g.K.Sink.taken c.args.out.now)
 
 pub returns-in_err-write-clause-part : goal.returns-in_err-write-clause-part
 returns-in_err-write-clause-part g c =
