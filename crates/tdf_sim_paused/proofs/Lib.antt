@@ -1,0 +1,5 @@
+pub mod Api
+mod OfRun
+mod Parting
+mod Snapshot
+mod Telling

@@ -1,0 +1,4 @@
+pub mod Parts
+pub mod Paused
+pub mod Saving
+pub mod machine
