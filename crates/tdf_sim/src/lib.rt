@@ -4,12 +4,14 @@
 //! - `elaboration`: all checks of a text, in their order.
 //! - `sim`: a model that was accepted.
 //! - `run`: a run of it.
+//! - `part`: a run of it up to a stop at which it waits.
 //! - `laws`: what holds of the definitions.
 #![tactic(auto)]
 
 mod elaboration;
 mod err;
 mod laws;
+mod part;
 mod run;
 mod sim;
 
@@ -21,4 +23,5 @@ pub use laws::{
 pub use run::RunErr;
 pub use sim::Sim;
 pub use tdf_sim_notes::End;
+pub use tdf_sim_paused::{Part, Paused};
 pub use tdf_sim_runs::Ran;

@@ -29,7 +29,7 @@ pub enum RunErr {
 }
 
 /// What a sink answered.
-fn by_sink(error: SinkErr) -> RunErr
+pub(crate) fn by_sink(error: SinkErr) -> RunErr
     ensures { result ≡ by_sink error }
 {
     match error {
