@@ -20,13 +20,13 @@ use Rattle.tdf_lang_tree.specs.Pure.{PureTree}
 use Rattle.tdf_trace_rows.specs.declared.kinds.TraceKind.{TraceKind}
 use Rattle.tdf_sim_history.specs.Rules.{rules_of, start_world}
 
-same_about : (kind : TraceKind) (a b : Flat) → a.tables ≡ b.tables → a.resolution ≡ b.resolution → model_about kind a ≡ model_about kind b
+pub same_about : (kind : TraceKind) (a b : Flat) → a.tables ≡ b.tables → a.resolution ≡ b.resolution → model_about kind a ≡ model_about kind b
 same_about kind a b tables unit =
     ap (λ (t : FlatTablesOf). model_about kind (record a { tables = t })) tables
     ∙ ap (λ (u : Resolution). model_about kind (record b { resolution = u })) unit
 
-module _ (models : ModelsAreAlike) (writes : RunsWriteTheSame) where
-  say_the_same : (tree : PureTree) (one other : Sim) → IsKept tree → IsAccepted tree one → IsAccepted tree other
+module _ (models : ModelsAreAlike) where
+  pub say_the_same : (tree : PureTree) (one other : Sim) → IsKept tree → IsAccepted tree one → IsAccepted tree other
       → SayTheSame tree one.flat other.flat one.firsts.items other.firsts.items
   say_the_same tree one other kept a b = let same = models tree one other kept a b in record {
     one = a.is_flat;
@@ -37,10 +37,11 @@ module _ (models : ModelsAreAlike) (writes : RunsWriteTheSame) where
     plans = same.plans;
   }
 
-  -- a run of either of two models of one tree writes the same
+-- a run of either of two models of one tree writes the same
+module _ (models : ModelsAreAlike) (writes : RunsWriteTheSame) where
   pub runs_alike : RunsAreAlike
   runs_alike tree one other kept a b ahead kind stop turns =
-      let say = say_the_same tree one other kept a b in
+      let say = say_the_same models tree one other kept a b in
       let runs = writes tree one.flat other.flat one.firsts.items other.firsts.items say ahead (writing_of (model_about kind one.flat)) stop turns in record {
         alike = record {
           trace = runs.trace ∙ ap (λ (about : AboutSeen). run_trace (writing_of about) tree other.flat (rules_of tree other.flat) (start_world tree other.flat other.firsts.items ahead turns) stop)
@@ -51,9 +52,8 @@ module _ (models : ModelsAreAlike) (writes : RunsWriteTheSame) where
         answers = runs.answers;
       }
 
--- and so do two runs of one model that are told the answers of their boundaries
-module _ (within : FlatIsWithinLimits) (whole : ClustersAreWhole) (plannable : FlatIsPlannable) (writes : AnswersWriteAlike) where
-  first_plans : (tree : PureTree) (sim : Sim) → IsKept tree → IsAccepted tree sim → AreFirstPlans sim.flat sim.firsts.items
+module _ (whole : ClustersAreWhole) (plannable : FlatIsPlannable) where
+  pub first_plans : (tree : PureTree) (sim : Sim) → IsKept tree → IsAccepted tree sim → AreFirstPlans sim.flat sim.firsts.items
   first_plans tree sim kept accepted = record {
     has = λ n first at. (
         let low = slice_get_within sim.firsts.items n first at in
@@ -62,9 +62,11 @@ module _ (within : FlatIsWithinLimits) (whole : ClustersAreWhole) (plannable : F
     each = accepted.plans.each;
   }
 
+-- and so do two runs of one model that are told the answers of their boundaries
+module _ (within : FlatIsWithinLimits) (whole : ClustersAreWhole) (plannable : FlatIsPlannable) (writes : AnswersWriteAlike) where
   pub answers_run_alike : AnswersRunAlike
   answers_run_alike tree sim kept accepted ahead others kind stop turns answers same =
-      let runs = writes tree sim.flat sim.firsts.items kept accepted.is_flat (within tree sim.flat kept accepted.lines.types accepted.is_flat) (first_plans tree sim kept accepted)
+      let runs = writes tree sim.flat sim.firsts.items kept accepted.is_flat (within tree sim.flat kept accepted.lines.types accepted.is_flat) (first_plans whole plannable tree sim kept accepted)
       ahead others (writing_of (model_about kind sim.flat)) stop turns answers same in record {
         trace = runs.trace;
         notes = runs.notes;
