@@ -2,3 +2,4 @@
 pub use Rattle.tdf_sim_resumed.proofs.Good.{plan_whole, resumed_good, whole_is}
 pub use Rattle.tdf_sim_resumed.proofs.Members.{ResumedAt, each_at, resumed_at}
 pub use Rattle.tdf_sim_resumed.proofs.Quiet.{still}
+pub use Rattle.tdf_sim_resumed.proofs.One.{rows_same}

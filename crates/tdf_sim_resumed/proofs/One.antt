@@ -162,7 +162,7 @@ rows_below cells time one other a b less = elim a.one [
   | inr found ↦ b.known found.0 one found.1 less found.2
 ]
 
-rows_same : (cells : Cells) (time one other : ℕ) → IsRowsFrom cells time one → IsRowsFrom cells time other → one ≡ other
+pub rows_same : (cells : Cells) (time one other : ℕ) → IsRowsFrom cells time one → IsRowsFrom cells time other → one ≡ other
 rows_same cells time one other a b = elim (cases_lt one other) [
   | inl less ↦ absurd (rows_below cells time one other a b less)
   | inr past ↦ elim (cases_lt other one) [ inl less ↦ absurd (rows_below cells time other one b a less) | inr up ↦ omega (arith, past, up) ]

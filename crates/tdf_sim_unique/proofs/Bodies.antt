@@ -56,7 +56,7 @@ module _ (model : PureTree) (a : Flat) (y : Checked) (same : AreSame a.checked y
   reinitialized_same : (m : ℕ) (info : PeriodInfo) (cells : List ℤ) → reinitialized model a m info cells ≡ reinitialized model (with_bodies a y) m info cells
   reinitialized_same m info cells = ap (λ (s : State). if info.is_new then s.frame.cells else cells) (done_same m body.Reinitialize cells (module_rates info m) nothing_read)
 
-  initialized_same : (m : ℕ) (rates : List ℕ) → initialized model a m rates ≡ initialized model (with_bodies a y) m rates
+  pub initialized_same : (m : ℕ) (rates : List ℕ) → initialized model a m rates ≡ initialized model (with_bodies a y) m rates
   initialized_same m rates = λ i. (done_same m body.Initialize (same.cells (block_at a.tables.modules m) i) rates nothing_read i).frame.cells
 
   pub net_same : (cluster : ℕ) (start : Start) → cluster_net model a cluster start ≡ cluster_net model (with_bodies a y) cluster start

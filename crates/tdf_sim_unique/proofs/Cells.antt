@@ -20,7 +20,7 @@ use Rattle.tdf_bind_connections.specs.declared.modules.PortRow.{PortRow}
 use Rattle.tdf_bind_connections.specs.declared.traces.TraceRow.{TraceRow}
 
 module _ (model : PureTree) (a : Flat) (y : Checked) (same : AreSame a.checked y) where
-  sample_same : (cluster : ℕ) (c : ClusterAt) (s : ColumnStart) (port : PortRow) (number j : ℕ) → sample_at model a cluster c s port number j ≡ sample_at model (with_bodies a y) cluster c s port number j
+  pub sample_same : (cluster : ℕ) (c : ClusterAt) (s : ColumnStart) (port : PortRow) (number j : ℕ) → sample_at model a cluster c s port number j ≡ sample_at model (with_bodies a y) cluster c s port number j
   sample_same cluster c s port number j = λ i. if nat_lt j (samples_done s port c)
       then sample_of s (periods_of c) port number (known (net_same model a y same cluster c.begun i) (run_in c) (firings (periods_of c))) j
       else None

@@ -55,7 +55,7 @@ module _ {A : Type 0} (part : Option Block → A) (one : (globals : Names) (p : 
   same_at globals (p ∷ ps) (b ∷ bs) (c ∷ cs) h k zero = one globals p b c h.0 k.0
   same_at globals (p ∷ ps) (b ∷ bs) (c ∷ cs) h k (suc n) = same_at globals ps bs cs h.1 k.1 n
 
-  in_checked : (model : PureTree) (x y : Checked) → IsCheckedOf model x → IsCheckedOf model y → (n : ℕ) → part (slice_get x.blocks.items n) ≡ part (slice_get y.blocks.items n)
+  pub in_checked : (model : PureTree) (x y : Checked) → IsCheckedOf model x → IsCheckedOf model y → (n : ℕ) → part (slice_get x.blocks.items n) ≡ part (slice_get y.blocks.items n)
   in_checked model x y h k n = same_at (globals_of model.globals) (blocks_of model.globals) x.blocks.items y.blocks.items h k n
 
 pub are_same : (model : PureTree) (x y : Checked) → IsCheckedOf model x → IsCheckedOf model y → AreSame x y

@@ -21,7 +21,7 @@ use Rattle.tdf_sim_history.proofs.Api.{answers_agree, first_attributes, notes_sa
 use Rattle.tdf_dynamic.specs.Laws.{BoundariesHaveOne}
 
 -- how a history ended, whatever is told of the boundaries to come
-ended_bare : (stop turns : ℕ) (x : HistoryState (World SideOf) RunFault) → end_of stop turns (state_as world_untold x) ≡ end_of stop turns x
+pub ended_bare : (stop turns : ℕ) (x : HistoryState (World SideOf) RunFault) → end_of stop turns (state_as world_untold x) ≡ end_of stop turns x
 ended_bare stop turns (On w) = refl
 ended_bare stop turns (Stopped time fault w) = refl
 ended_bare stop turns (Spent time w) = refl
@@ -34,7 +34,7 @@ module _ (model : PureTree) (flat : Flat) (ahead others : List (List Change)) wh
   starts_from k (x ∷ firsts) = ap (λ (l : List ClusterAt). untold (first_cluster model flat (k + 1) x []) ∷ l) (starts_from (k + 1) firsts)
 
   -- runs start alike but for what is told
-  starts_alike : (firsts : List First) (turns : ℕ) → world_untold (start_world model flat firsts ahead turns) ≡ world_untold (start_world model flat firsts others turns)
+  pub starts_alike : (firsts : List First) (turns : ℕ) → world_untold (start_world model flat firsts ahead turns) ≡ world_untold (start_world model flat firsts others turns)
   starts_alike firsts turns = λ i. record (start_world model flat firsts [] turns) { clusters = starts_from 0 firsts i }
 
 module _ (law : BoundariesHaveOne) (model : PureTree) (flat : Flat) (firsts : List First) (kept : IsKept model) (is : IsFlatOf model flat) (limits : AreWithinLimits flat)
