@@ -106,7 +106,7 @@ module _ (tables : FlatTablesOf) (rows : ℕ) (row : TraceRow) (state : ColumnSt
       length-range a zero = refl
       length-range a (suc n) = ap suc (length-range (a + 1) n)
 
-  given_long : length given ≡ min (known_count x) count - skipped
+  pub given_long : length given ≡ min (known_count x) count - skipped
   given_long = sym (length-map given (λ (s : SavedStamp). s.time)) ∙ ap length valid.known ∙ length-map-range_with_len (time_of_position x) skipped (min (known_count x) count - skipped)
 
   -- those that the start holds for its period and later ones

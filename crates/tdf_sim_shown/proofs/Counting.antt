@@ -5,7 +5,7 @@ use Rattle.std.proofs.lemmas.Bool.{cases_lt, le-ltb, lt-ltb}
 use Rattle.std.proofs.lemmas.List.Sums.{sum_by-cons}
 use Rattle.std.specs.List.{count_by, range_with_len}
 use Rattle.std.specs.Prelude.{cond}
-use Rattle.tdf_sim_shown.specs.machine.Resuming.{skipped_in}
+use Rattle.tdf_sim_shown.specs.Resumed.{skipped_in}
 
 module _ (f : ℕ → Bool) (k : ℕ) (below : (i : ℕ) → i < k → f i ≡ true) (above : (i : ℕ) → k ≤ i → f i ≡ false) where
   count_all : (a n : ℕ) → a + n ≤ k → count_by f (range_with_len a n) ≡ n

@@ -1,7 +1,7 @@
 -- A trace that goes on from the columns of a valid snapshot shows the world that this says.
-use Rattle.std.proofs.Common.{◌≡◌, ◌∙◌, ◌<◌, ◌≤◌, ◌+◌, ◌-◌, ◌*◌, ◌++◌, ◌&&◌, ℕ, ℤ, zero, suc, Bool, true, false, if◌then◌else◌, min, nat_eq, nat_lt, not, Option, Some, None, option_map, List, [], ◌∷◌, length, map, slice_get, slice_index, refl, ap, sym, subst, inl, inr, arith}
-use Rattle.std.proofs.Math.Nat.{add-mul}
-use Rattle.std.proofs.lemmas.Bool.{cases_lt, eq-eqb, eqb-true, le-ltb, lt-ltb}
+use Rattle.std.proofs.Common.{◌≡◌, ◌∙◌, ◌<◌, ◌≤◌, ◌+◌, ◌-◌, ◌*◌, ◌++◌, ◌&&◌, ◌⊎◌, ℕ, ℤ, zero, suc, Bool, true, false, if◌then◌else◌, min, nat_eq, nat_lt, not, Option, Some, None, option_map, List, [], ◌∷◌, length, map, slice_get, slice_index, refl, ap, sym, subst, inl, inr, arith}
+use Rattle.std.proofs.Math.Nat.{add-mul, mul-le-mul_right}
+use Rattle.std.proofs.lemmas.Bool.{cases_eq, cases_lt, eq-eqb, eqb-true, le-ltb, lt-ltb}
 use Rattle.std.proofs.lemmas.List.Elements.{All-nil}
 use Rattle.std.proofs.lemmas.Option.{get_or_from_slice_get, slice_get-map, slice_get_within}
 use Rattle.std.specs.List.{sum_by, zip}
@@ -37,11 +37,11 @@ use Rattle.tdf_sim_refinement.specs.Samples.{AreSamplesOf}
 use Rattle.tdf_sim_resumed.proofs.Api.{ResumedAt, resumed_at, resumed_good, still}
 use Rattle.tdf_sim_resumed.specs.Laws.{IsGoodStart}
 use Rattle.tdf_sim_resumed.specs.Resuming.{resumed_clusters}
-use Rattle.tdf_sim_resumed.specs.Starting.{Tracked, column_start_of, known_count, numbers_ahead, position_count, positions_before, resumed_world, row_of_trace, rows_from_saved, stamp_of_trace, stamps_before, tracked_of, tracked_port, tracked_signal, value_of_trace}
+use Rattle.tdf_sim_resumed.specs.Starting.{Tracked, column_start_of, first_unknown, known_count, least_within, numbers_ahead, position_count, positions_before, resumed_world, row_of_trace, rows_from_saved, stamp_of_trace, stamps_before, tracked_of, tracked_port, tracked_signal, value_of_trace}
 use Rattle.tdf_sim_resumed.specs.Valid.{IsValid, IsValidEvents, IsValidNothing, IsValidSamples, IsValidTracked}
-use Rattle.tdf_sim_shown.proofs.ColumnStarts.{all_held, chain_here, given_here, held_by_it, sampled_here, skipped_within, spans_by, stamping_here, start_by, waiting_by, waits_are}
+use Rattle.tdf_sim_shown.proofs.ColumnStarts.{all_held, chain_here, given_count, given_here, given_long, held_by_it, sampled_here, skipped_within, spans_by, stamping_here, start_by, waiting_by, waits_are}
 use Rattle.tdf_sim_shown.proofs.Taken.{FitsColumn, all_kept, all_labels, all_tracked, begun_none, begun_some, samples_now, spans_now}
-use Rattle.tdf_sim_shown.specs.Resumed.{CanGoOnFrom, ShowsResumed}
+use Rattle.tdf_sim_shown.specs.Resumed.{CanGoOnFrom, LeavesSince, ShowsResumed, skipped_in}
 use Rattle.tdf_sim_shown.specs.machine.Resuming.{HaveTaken, TakesSignal, given_from, later_in, rest_in, stamps_by}
 use Rattle.tdf_sim_shown.specs.machine.Waiting.{driven_at, driven_in}
 use Rattle.tdf_sim_traces.proofs.Api.{any_found, any_here, given_at, no_change, span_is, steps_of, true_false}
@@ -63,8 +63,8 @@ use Rattle.tdf_trace.proofs.Api.{get_zip, holds_resumed, number_apart, of_kept}
 use Rattle.tdf_trace.specs.Stands.{Stands}
 use Rattle.tdf_trace.specs.Starts.{AgreeOutside, AreSampledBy, IsSampledBy}
 use Rattle.tdf_trace.specs.States.{cell_stated, cells_of_states, first_stated}
-use Rattle.tdf_trace.specs.Tracked.{TrackedOf, TrackingOf}
-use Rattle.tdf_trace.specs.Tracks.{IsChain}
+use Rattle.tdf_trace.specs.Tracked.{AreSince, TrackedOf, TrackingOf}
+use Rattle.tdf_trace.specs.Tracks.{AreTracked, IsChain}
 use Rattle.tdf_trace.specs.Writings.{AboutSeen, about_of}
 use Rattle.tdf_trace.specs.declared.about.Variable.{Variable}
 use Rattle.tdf_trace_rows.specs.Positions.{Span, count_of_spans, span_of}
@@ -87,6 +87,13 @@ unzipped (x ∷ xs) (y ∷ ys) (suc k) p at = unzipped xs ys k p at
 is_of : (event : Bool) (n m : ℕ) → (not event && nat_eq n m) ≡ true → (event ≡ false) × (n ≡ m)
 is_of true n m h = absurd (true_false (sym h))
 is_of false n m h = (refl, eqb-true n m h)
+
+-- the least of some times is no later than each
+least_below : (limit : ℕ) (times : List ℕ) (k time : ℕ) → slice_get times k ≡ Some time → least_within limit times ≤ time
+unfolding least_within
+least_below limit [] k time at = absurd (none_some time at)
+least_below limit (t ∷ ts) zero time at = let e = some_same t time at in omega (arith, e)
+least_below limit (t ∷ ts) (suc k) time at = let r = least_below limit ts k time at in omega (arith, r)
 
 -- ---- the first column of a signal, with its state
 
@@ -302,6 +309,38 @@ module _ (model : PureTree) (flat : Flat) (firsts : List First) (s : SnapshotOf)
         stamps : stamps_by flat (slice_index clock.since y.it.cluster) y.cluster y.it y.state rows ≡ rest_in h.since (step_in port h.now) (positions port h.now) rows (given_from h.since p.1.samples)
         stamps = stamps_are y.it y.cluster y.state y.listed same y.there state_is
 
+    -- no position without a sample lies before the rows that are still to be written
+    abbrev rest_here : Stamps
+    rest_here = rest_in h.since (step_in port h.now) (positions port h.now) rows (given_from h.since p.1.samples)
+
+    rest_late : 0 < rest_here.left → rows ≤ rest_here.time
+    rest_late more = omega (arith, least, later)
+      where
+        given_is : given_from h.since p.1.samples ≡ min (known_count x) (position_count x) - positions_before rows x
+        given_is = given_count flat.tables rows p.0 p.1 x first_valid some begins ∙ given_long flat.tables rows p.0 p.1 x first_valid some begins
+
+        done_here : ℕ
+        done_here = min (given_from h.since p.1.samples) (positions port h.now - skipped_in h.since (step_in port h.now) (positions port h.now) rows)
+
+        few : (known_count x < position_count x) × (known_count x ≤ positions_before rows x + done_here)
+        few = let g = given_is in (omega (arith, g, more), omega (arith, g, more))
+
+        product : known_count x * step_in port h.now ≤ (positions_before rows x + done_here) * step_in port h.now
+        product = mul-le-mul_right (step_in port h.now) few.1
+
+        later : h.since + known_count x * step_in port h.now ≤ rest_here.time
+        later = let a = add-mul (positions_before rows x) done_here (step_in port h.now) in let b = product in omega (arith, a, b)
+
+        first_is_then : first_unknown s.time (Some x) ≡ min s.time (h.since + known_count x * step_in port h.now)
+        first_is_then = ap (λ (b : Bool). if b then min s.time (h.since + known_count x * step_in port h.now) else s.time) (lt-ltb (known_count x) (position_count x) few.0)
+
+        least : rows ≤ h.since + known_count x * step_in port h.now
+        least =
+            let f : TraceRow → ℕ = λ (r : TraceRow). first_unknown s.time (tracked_of flat.tables start.clusters r) in
+            let at : slice_get (map f flat.tables.traces) first.place ≡ Some (first_unknown s.time (Some x)) = slice_get-map f flat.tables.traces first.place ∙ ap (option_map f) p_at.0 ∙ ap (λ o. Some (first_unknown s.time o)) (tracked_is p.0 p_of.0 p_of.1) in
+            let l = least_below s.time (map f flat.tables.traces) first.place (first_unknown s.time (Some x)) at in
+            let e = first_is_then in omega (arith, l, e)
+
     -- the positions of the period have their samples
     holds_first : HoldsFirst here_start port (periods_of h)
     holds_first = subst (λ l. HoldsFirst here_start port (l ++ h.now ∷ [])) (sym no_old) (skipped_within flat.tables rows p.0 p.1 x first_valid some begins, enough)
@@ -406,6 +445,26 @@ module _ (model : PureTree) (flat : Flat) (firsts : List First) (s : SnapshotOf)
       let q = driven_parts r.0 signal (sym (ap (driven_in flat.tables) r.1) ∙ is) in
       none q.2.0 (ap (λ m. driver_of_row (slice_get flat.tables.signals m)) (sym q.1) ∙ q.2.1)
 
+  -- whether one of the first n columns shows a signal that a port drives
+  driven_or : (signal n : ℕ) → ((k : ℕ) × (k < n) × (driven_at flat.tables k ≡ Some signal)) ⊎ ((k : ℕ) → k < n → driven_at flat.tables k ≡ Some signal → ⊥)
+  driven_or signal zero = inr (λ k less is. absurd (omega (arith, less)))
+  driven_or signal (suc n) = go (driven_or signal n) (driven_at flat.tables n) refl
+    where
+      go : ((k : ℕ) × (k < n) × (driven_at flat.tables k ≡ Some signal)) ⊎ ((k : ℕ) → k < n → driven_at flat.tables k ≡ Some signal → ⊥) → (o : Option ℕ) → driven_at flat.tables n ≡ o
+          → ((k : ℕ) × (k < suc n) × (driven_at flat.tables k ≡ Some signal)) ⊎ ((k : ℕ) → k < suc n → driven_at flat.tables k ≡ Some signal → ⊥)
+      go (inl f) o at = inl (f.0, (let l = f.1 in omega (arith, l)), f.2)
+      go (inr none) None at = inr (λ k less is. elim (cases_eq k n) [
+        | inl same ↦ absurd (none_some signal (sym at ∙ ap (driven_at flat.tables) (sym same) ∙ is))
+        | inr apart ↦ none k (omega (arith, less, apart)) is
+      ])
+      go (inr none) (Some s2) at = elim (cases_eq s2 signal) [
+        | inl same ↦ inl (n, omega arith, at ∙ ap Some same)
+        | inr other ↦ inr (λ k less is. elim (cases_eq k n) [
+          | inl same ↦ absurd (other (some_same s2 signal (sym at ∙ ap (driven_at flat.tables) (sym same) ∙ is)))
+          | inr apart ↦ none k (omega (arith, less, apart)) is
+        ])
+      ]
+
   -- ---- events
 
   event_start : (column : ℕ) (row : TraceRow) (state : ColumnStateOf) → slice_get flat.tables.traces column ≡ Some row → row.event ≡ true → slice_get s.columns column ≡ Some state
@@ -438,6 +497,34 @@ module _ (model : PureTree) (flat : Flat) (firsts : List First) (s : SnapshotOf)
   quiet : (row : TraceRow) (t : ℕ) → t < s.time → event_cell model flat (rules_of model flat) start row.signal t ≡ None
   quiet row t low = no_change (value_of (values_before model flat start t) row.signal) (value_of (values_before model flat start (t + 1)) row.signal)
       (ap (λ l. value_of l row.signal) (values_stay (t + 1) (omega (arith, low)) ∙ sym (values_stay t (omega (arith, low)))))
+
+  -- ---- what is tracked
+
+  module _ (kind : TraceKind) (fresh : Shown) (list : List TrackedOf) (un : IsUnshown kind flat fresh) (taken : HaveTaken flat clock s.columns rows (length flat.tables.traces) fresh.tracking.list list) where
+    tracked_now : AreTracked spans samples list
+    tracked_now = all_tracked flat clock s.columns rows valid.members.columns its held waits all_fit fresh.tracking.list list taken un.tracking.tracked
+
+    -- no position without a sample lies before the rows that are still to be written
+    pub resumed_since : AreSince rows list
+    unfolding count_of_spans
+    resumed_since place t there more = elim (driven_or t.signal (length flat.tables.traces)) [
+      | inl f ↦ (
+          let r = get_inside flat.tables.traces f.0 f.1 in
+          let q = driven_parts r.0 t.signal (sym (ap (driven_in flat.tables) r.1) ∙ f.2) in
+          let d = driven_by f.0 q.2.0 r.0 r.1 q.0 q.2.1 in
+          all_kept flat clock s.columns rows valid.members.columns t.signal (λ u. 0 < u.stamps.left → rows ≤ u.stamps.time)
+          (λ column row old mid at y signal u since stamps left. (
+          let v = driven_parts row y.it.signal y.same in
+          let same : y.it.signal ≡ d.port.signal = signal ∙ sym q.1 ∙ d.signal in
+          let st = stamps_are d.n d.number d.port d.drives d.h d.h_at y.it y.cluster y.state y.listed same y.there (same_state d.n d.number d.port d.drives d.h d.h_at column row y.state at v.0 (v.1 ∙ same) y.at) in
+          let late = rest_late d.n d.number d.port d.drives d.h d.h_at in
+          subst (λ (z : Stamps). 0 < z.left → rows ≤ z.time) (sym (stamps ∙ st)) late left))
+          fresh.tracking.list list taken f.0 f.1 f.2 place t there refl more)
+      | inr none ↦ absurd (
+          let w = (tracked_now place t there).stamping.whole in
+          let z : count_of_spans (spans t.signal) ≡ 0 = ap count_of_spans (begun_none flat its (λ signal. []) (length flat.tables.traces) t.signal none) in
+          omega (arith, w, z, more))
+    ]
 
   -- ---- the cells of the states
 
@@ -639,7 +726,7 @@ module _ (model : PureTree) (flat : Flat) (firsts : List First) (s : SnapshotOf)
         samples = samples;
         holds = holds_resumed flat.tables.traces (events_before model flat start s.time) spans samples new.tracking.list new.trace.rows (variables_of flat.tables) s.columns
             (of_kept flat.tables.traces fresh.tracking.list new.tracking.list (all_labels flat clock s.columns rows valid.members.columns fresh.tracking.list new.tracking.list taken) un.tracking.of)
-            (all_tracked flat clock s.columns rows valid.members.columns its held waits all_fit fresh.tracking.list new.tracking.list taken un.tracking.tracked)
+            (tracked_now kind fresh new.tracking.list un taken)
             sampled outside stands;
         signals = subst (λ l. AreTracedSignals flat l) (sym (ap (λ l. l.items) signals_same)) un.signals;
         each = λ n number port drives. (let k = cluster_of n number port drives in shown_of n number port drives k.0 k.1);
@@ -672,3 +759,13 @@ shows_resumed flat clock columns values from kind fresh taken new can un have wi
     goes.about
     (subst (λ (l : List Raw). AreEventColumns flat.tables.traces l new.events.items) (sym values_are)
     (goes.events (start_values flat.tables) (subst (λ l. AreEventColumns flat.tables.traces (start_values flat.tables) l.items) (sym events) un.events)))
+
+pub leaves_since : (flat : Flat) (clock : ClockAt) (columns : List ColumnStateOf) (from : ℕ) (kind : TraceKind) (fresh taken new : Shown) → CanGoOnFrom flat clock → IsUnshown kind flat fresh
+    → HaveTaken flat clock columns from (length flat.tables.traces) fresh.tracking.list taken.tracking.list → new.tracking ≡ taken.tracking → LeavesSince flat clock columns from new
+leaves_since flat clock columns from kind fresh taken new can un have same =
+    λ model firsts s valid columns_are from_is at.
+    subst (λ n. AreSince n new.tracking.list) from_is
+    (resumed_since model flat firsts s can.limits can.shown.told valid clock can at kind fresh new.tracking.list un
+    (subst (λ (x : TrackingOf). HaveTaken flat clock s.columns (rows_from_saved model flat firsts s) (length flat.tables.traces) fresh.tracking.list x.list) (sym same)
+    (subst (λ (l : List ColumnStateOf). HaveTaken flat clock l (rows_from_saved model flat firsts s) (length flat.tables.traces) fresh.tracking.list taken.tracking.list) (sym columns_are)
+    (subst (λ n. HaveTaken flat clock columns n (length flat.tables.traces) fresh.tracking.list taken.tracking.list) (sym from_is) have))))

@@ -7,5 +7,5 @@
 mod resumed;
 mod saved;
 
-pub use resumed::shown_from_columns;
+pub use resumed::{positions_before, shown_from_columns};
 pub use saved::{rows_from, shown_columns};

@@ -2,13 +2,14 @@
 
 ghost use Rattle.std.specs.Prelude.{◌≡◌, ◌+◌, ◌*◌, ◌^◌, ◌<◌, ◌≤◌, All, Err, IfOk, OnOk, length};
 ghost use Rattle.tdf_saved.specs.declared.err.StateErr.TheVariants as why;
-ghost use Rattle.tdf_sim_shown.specs.Resumed.{CanGoOnFrom, HaveEventValues, ShowsResumed};
-ghost use Rattle.tdf_sim_shown.specs.machine.Resuming.{HaveTaken, TakesAt, TakesState, given_from, later_in, rest_in, skipped_in};
+ghost use Rattle.tdf_sim_shown.specs.Resumed.{CanGoOnFrom, HaveEventValues, LeavesSince, ShowsResumed, skipped_in};
+ghost use Rattle.tdf_sim_shown.specs.machine.Resuming.{HaveTaken, TakesAt, TakesState, given_from, later_in, rest_in};
 ghost use Rattle.tdf_sim_traces.specs.GoingOn.{IsNotMade};
 ghost use Rattle.tdf_sim_traces.specs.Periods.{CanBegin, clock_of, positions_in};
 ghost use Rattle.tdf_sim_traces.specs.Variables.{variables_of};
 ghost use Rattle.tdf_bind_invariants.specs.Limits.{AreWithinLimits};
 ghost use Rattle.tdf_trace.specs.States.{AreColumnStates, AreStampedFrom};
+ghost use Rattle.tdf_trace.specs.Writings.{about_of};
 ghost use Rattle.tdf_trace.specs.declared.stage.Stage.TheVariants.{Open};
 
 use std::alloc::Global;
@@ -36,8 +37,8 @@ fn count_from(samples: &[Stamp], time: u64) -> u64
     count
 }
 
-/// How many of the positions of a period lie before a time. Without a step all of them lie at its start.
-fn positions_before(since: u64, step: u64, count: u64, time: u64) -> u64
+/// How many of the positions of a period lie before a time. Without a step all of them lie at its start. It takes no memory.
+pub fn positions_before(since: u64, step: u64, count: u64, time: u64) -> u64
     ensures is { result ≡ skipped_in since step count time }
     ensures within { result ≤ count }
 {
@@ -190,6 +191,9 @@ pub fn shown_from_columns(
         values.now rows) }
     ensures upto { IfOk result (λ shown. shown.trace.rows.upto ≡ rows) }
     ensures stage { IfOk result (λ shown. shown.trace.stage ≡ Open) }
+    ensures about { IfOk result (λ shown. shown.trace.about
+        ≡ about_of kind flat.now.resolution (variables_of flat.now.tables)) }
+    ensures since { IfOk result (LeavesSince flat.now (clock_of clock.now) columns.items rows) }
     ensures fit { IfOk result (λ shown.
         AreColumnStates (variables_of flat.now.tables) clock.now.time columns.items) }
     ensures bad { result ≡ Err why.Bad

@@ -1,6 +1,6 @@
 -- The signals go on with what the states of their columns have, one column after the other.
 -- Source: own.
-use Rattle.std.specs.List.{count_by, range_with_len}
+use Rattle.std.specs.List.{count_by}
 use Rattle.std.specs.Prelude.{◌≡◌, ◌+◌, ◌-◌, ◌*◌, ◌/◌, ℕ, ℤ, zero, suc, None, Some, if◌then◌else◌, List, [], map, min, nat_lt, not, slice_get, slice_index}
 use Rattle.tdf_bind.specs.declared.model.Flat.{Flat}
 use Rattle.tdf_bind_connections.specs.declared.drivers.SignalRow.{SignalRow}
@@ -11,6 +11,7 @@ use Rattle.tdf_fixed.specs.declared.raw.Raw.{Raw}
 use Rattle.tdf_saved.specs.State.{ColumnStateOf}
 use Rattle.tdf_saved.specs.declared.state.Stamp.{Stamp}
 use Rattle.tdf_sim_history.specs.Columns.{span_after}
+use Rattle.tdf_sim_shown.specs.Resumed.{skipped_in}
 use Rattle.tdf_sim_traces.specs.Periods.{ClockAt, positions_in}
 use Rattle.tdf_sim_traces.specs.Signals.{IsListed, driven_of}
 use Rattle.tdf_sim_traces.specs.declared.signals.TracedSignal.{TracedSignal}
@@ -18,11 +19,6 @@ use Rattle.tdf_trace.specs.Starts.{IsResumed, TakesStart, stamps_after_first}
 use Rattle.tdf_trace.specs.Tracked.{TrackedOf}
 use Rattle.tdf_trace_rows.specs.declared.stamps.Stamps.{Stamps}
 use Rattle.tdf_trace_states.specs.ColumnStates.{sample_in}
-
--- how many positions of a period lie before a time
-abbrev pub skipped_in : (since step count rows : ℕ) → ℕ
-skipped_in since step count rows =
-    count_by (λ i. nat_lt (since + i * step) rows) (range_with_len 0 count)
 
 -- how many samples stand at a time or after it
 abbrev pub given_from : (time : ℕ) → List Stamp → ℕ

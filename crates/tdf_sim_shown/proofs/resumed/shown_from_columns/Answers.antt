@@ -1,6 +1,6 @@
 use Rattle.std.proofs.Common.{rules, ◌≡◌, length, refl, subst}
 use Rattle.tdf_sim_shown.proofs.Going.{have_values}
-use Rattle.tdf_sim_shown.proofs.Restored.{shows_resumed}
+use Rattle.tdf_sim_shown.proofs.Restored.{leaves_since, shows_resumed}
 use Rattle.tdf_sim_shown.proofs.resumed.shown_from_columns.Goals as goal
 use Rattle.tdf_sim_shown.specs.machine.Resuming.{HaveTaken}
 use Rattle.tdf_sim_traces.specs.Calls.{start_values}
@@ -22,3 +22,14 @@ returns-clause-upto c = c.in_ok-go_on.ensures.goes_on.upto
 
 pub returns-clause-stage : goal.returns-clause-stage
 returns-clause-stage c = c.in_ok-go_on.ensures.goes_on.stage
+
+pub returns-clause-about : goal.returns-clause-about
+returns-clause-about c = c.in_ok-go_on.ensures.goes_on.about
+
+pub returns-clause-since : goal.returns-clause-since
+returns-clause-since c =
+    let columns_are : c.deref.result.now ≡ c.args.columns.items = search rules in
+    leaves_since c.args.flat.now (clock_of c.args.clock.now) c.args.columns.items c.args.rows c.args.kind c.in_ok-shown.shown (record c.in_ok-shown.shown { tracking = c.resume_all.new.tracking }) c.go_on.new.self
+    c.requires.can c.in_ok-shown.ensures
+    (subst (λ l. HaveTaken c.args.flat.now (clock_of c.args.clock.now) l c.args.rows (length c.args.flat.now.tables.traces) c.in_ok-shown.shown.tracking.list c.resume_all.new.tracking.list) columns_are c.in_ok-resume_all.ensures.took)
+    c.in_ok-go_on.ensures.goes_on.tracking
