@@ -1,0 +1,3 @@
+-- How the code goes from trace to trace.
+pub mod Alike
+pub mod Windows
