@@ -1,0 +1,6 @@
+mod Clock
+mod Going
+mod Judged
+mod Refused
+mod Reopening
+mod Telling

@@ -1,0 +1,2 @@
+-- What stands before a run goes on.
+pub mod Standing
