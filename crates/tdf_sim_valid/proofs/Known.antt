@@ -1,5 +1,5 @@
 -- How many samples of a traced signal are known, as the code counts them.
-use Rattle.std.proofs.Common.{◌≡◌, ◌∙◌, ◌<◌, ◌≤◌, ◌+◌, ◌-◌, ◌*◌, ◌/◌, ◌^◌, ◌&&◌, ℕ, nat_eq, nat_lt, Some, length, slice_get, refl, sym, ap, arith}
+use Rattle.std.proofs.Common.{◌≡◌, ◌∙◌, ◌<◌, ◌≤◌, ◌+◌, ◌-◌, ◌*◌, ◌/◌, ◌^◌, ◌&&◌, ℕ, nat_eq, nat_lt, Some, length, slice_get, sym, ap, arith}
 use Rattle.std.proofs.Math.Nat.{div-mul-le_self, mul-le-mul_right, mul_comm}
 use Rattle.std.specs.List.{count_by}
 use Rattle.tdf_bind.specs.declared.model.Flat.{Flat}
@@ -15,7 +15,7 @@ use Rattle.tdf_sim_refinement.proofs.Api.{done_none}
 use Rattle.tdf_sim_traces.specs.Periods.{positions_in, row_rate}
 use Rattle.tdf_sim_traces.specs.declared.signals.TracedSignal.{TracedSignal}
 use Rattle.tdf_sim_valid.proofs.Front.{few_fired, fired_before}
-use Rattle.tdf_sim_valid.specs.machine.Windows.{HasRoom, row_delay, window_in}
+use Rattle.tdf_sim_valid.specs.machine.Windows.{row_delay, window_in}
 use Rattle.tdf_trace_states.specs.declared.windows.Window.{Window}
 
 module _ (flat : Flat) (c : ClusterOf) (t : TracedSignal) (since time fired rate : ℕ) (row : PortRow) (of : IsClusterOf flat c) (place : c.place ≡ due_before since time c.entries) (there : slice_get flat.tables.ports t.port ≡ Some row)

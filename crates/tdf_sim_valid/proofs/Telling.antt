@@ -1,12 +1,11 @@
 -- The window of a traced signal, by a cluster in progress and by that of a history.
-use Rattle.std.proofs.Common.{◌≡◌, ◌∙◌, ◌<◌, ◌≤◌, ◌+◌, ◌-◌, ◌*◌, ◌/◌, ◌^◌, ◌&&◌, ℕ, zero, suc, Bool, true, false, if◌then◌else◌, Option, Some, None, option_map, List, [], ◌∷◌, ◌++◌, length, map, min, nat_lt, take, slice_get, slice_index, refl, sym, ap, subst, arith}
+use Rattle.std.proofs.Common.{◌≡◌, ◌∙◌, ◌<◌, ◌+◌, ◌-◌, ◌*◌, ℕ, zero, suc, Bool, true, false, if◌then◌else◌, Option, Some, None, option_map, List, [], ◌∷◌, ◌++◌, length, map, min, take, slice_get, slice_index, refl, sym, ap, subst, arith}
 use Rattle.std.proofs.Math.Seq.{take-length}
 use Rattle.std.proofs.lemmas.List.{length_push, map-append, take_more}
-use Rattle.std.proofs.lemmas.Option.{get_or_from_slice_get, slice_get-map, slice_get_within}
+use Rattle.std.proofs.lemmas.Option.{get_or_from_slice_get, slice_get_within}
 use Rattle.std.specs.Option.{option_and_then}
 use Rattle.std.specs.Prelude.{IfSome}
 use Rattle.tdf_bind.specs.declared.model.Flat.{Flat}
-use Rattle.tdf_bind_connections.specs.declared.modules.PortRow.{PortRow}
 use Rattle.tdf_bind_connections.specs.declared.traces.TraceRow.{TraceRow}
 use Rattle.tdf_dynamic_plans.specs.Attributes.{clusters_of}
 use Rattle.tdf_exec.specs.Cluster.{ClusterOf}
@@ -16,18 +15,16 @@ use Rattle.tdf_schedule.specs.Plan.{done}
 use Rattle.tdf_sim_history.specs.Cells.{driver_of_row}
 use Rattle.tdf_sim_history.specs.World.{ClusterAt}
 use Rattle.tdf_sim_refinement.specs.At.{IsAt}
-use Rattle.tdf_sim_refinement.specs.Pass.{AreAt}
 use Rattle.tdf_sim_resumed.specs.Starting.{Tracked, first_unknown, known_count, least_within, tracked_of, tracked_port, tracked_signal}
 use Rattle.tdf_sim_resumed.specs.Valid.{IsValidTracked}
 use Rattle.tdf_sim_traces.proofs.Api.{span_is}
 use Rattle.tdf_sim_traces.specs.Periods.{ClockAt, row_rate, span_in}
 use Rattle.tdf_sim_traces.specs.Signals.{IsListed, IsTracedAt, driven_of}
 use Rattle.tdf_sim_traces.specs.declared.signals.TracedSignal.{TracedSignal}
-use Rattle.tdf_sim_valid.specs.machine.Windows.{AreWindowsOf, AreWindowsTo, HasRoom, HaveRoom, IsSamplesBy, IsWindowAt, first_missing, row_delay, window_by, window_from, window_in}
+use Rattle.tdf_sim_valid.specs.machine.Windows.{AreWindowsOf, AreWindowsTo, HasRoom, HaveRoom, IsSamplesBy, IsWindowAt, first_missing, row_delay, window_by, window_in}
 use Rattle.tdf_streams.proofs.Api.{get_inside, none_some, some_same}
 use Rattle.tdf_streams.specs.Signals.{positions, step_in}
 use Rattle.tdf_trace_rows.specs.Positions.{Span, span_of}
-use Rattle.tdf_trace_states.specs.Windows.{IsSamplesState}
 use Rattle.tdf_trace_states.specs.declared.windows.Window.{Window}
 
 module _ (flat : Flat) (row : TraceRow) where

@@ -1,4 +1,4 @@
-use Rattle.std.proofs.Common.{◌<◌, arith, length, refl, sym}
+use Rattle.std.proofs.Common.{◌<◌, arith, length, refl}
 use Rattle.std.proofs.lemmas.Option.{slice_get_read}
 use Rattle.tdf_sim_valid.proofs.Same.{like_here, more_unlike, on_off, same_here}
 use Rattle.tdf_sim_valid.proofs.alike.first_like.Goals as goal

@@ -1,5 +1,4 @@
-use Rattle.std.proofs.Common.{rules, ◌≡◌, ◌∙◌, List, Option, ap, refl}
-use Rattle.tdf_saved.specs.State.{SnapshotOf}
+use Rattle.std.proofs.Common.{rules, ◌≡◌}
 use Rattle.tdf_sim_traces.specs.Periods.{clock_of}
 use Rattle.tdf_sim_valid.proofs.Columned.{are_both, are_good, rows_by}
 use Rattle.tdf_sim_valid.proofs.Same.{on_off}

@@ -1,4 +1,4 @@
-use Rattle.std.proofs.Common.{◌≡◌, ◌∙◌, ◌<◌, None, ap, arith, length, min, slice_index_or}
+use Rattle.std.proofs.Common.{◌∙◌, ◌<◌, None, ap, arith, length, min, slice_index_or}
 use Rattle.std.proofs.lemmas.Option.{slice_get-get_or}
 use Rattle.tdf_sim_valid.proofs.Telling.{least_all, least_next, least_none}
 use Rattle.tdf_sim_valid.proofs.missing.least_missing.Goals as goal

@@ -1,4 +1,4 @@
-use Rattle.std.proofs.Common.{◌≡◌, ◌<◌, Some, length, slice_get, slice_index_or, subst}
+use Rattle.std.proofs.Common.{Some, slice_index_or, subst}
 use Rattle.std.proofs.lemmas.Option.{slice_get-get_or}
 use Rattle.tdf_sim_traces.specs.Periods.{clock_of}
 use Rattle.tdf_sim_traces.specs.Signals.{IsTracedAt}

@@ -1,4 +1,4 @@
-use Rattle.std.proofs.Common.{rules, ◌≡◌, ◌∙◌, ◌&&◌, ◌<◌, ◌-◌, List, Some, ap, arith, length, nat_eq, nat_lt, refl, slice_get}
+use Rattle.std.proofs.Common.{rules, ◌≡◌, ◌∙◌, ◌&&◌, ◌-◌, List, Some, ap, arith, length, nat_eq, nat_lt, refl, slice_get}
 use Rattle.std.proofs.lemmas.Option.{slice_get_read}
 use Rattle.std.specs.List.{count_by}
 use Rattle.tdf_schedule.specs.declared.entry.Entry.{Entry}
