@@ -50,15 +50,16 @@ refused a words k same either other = with_fault words (nonempty k (fault_of com
     (subst (λ b. is_simple_and_free b ≡ true → (k ≡ OutOfMemory) ⊎ IsAmong k (fault_of b words)) same either is_free) other)
 
 -- the texts of the arguments, one by one
-pub given_all : (words : List Text) (job stop format turns seed size every nth : Option Text)
+pub given_all : (words : List Text) (job stop format turns part seed size every nth : Option Text)
     → job ≡ first_of (codes "JOB") (matches_of command words)
     → stop ≡ first_of (codes "stop") (matches_of command words)
     → format ≡ first_of (codes "format") (matches_of command words)
     → turns ≡ first_of (codes "turns") (matches_of command words)
+    → part ≡ first_of (codes "part") (matches_of command words)
     → seed ≡ first_of (codes "seed") (matches_of command words)
     → size ≡ first_of (codes "size") (matches_of command words)
     → every ≡ first_of (codes "every") (matches_of command words)
     → nth ≡ first_of (codes "nth") (matches_of command words)
-    → ◌≡◌ {A = Given} (record { job = job; stop = stop; format = format; turns = turns; seed = seed; size = size; every = every; nth = nth }) (given_of words)
+    → ◌≡◌ {A = Given} (record { job = job; stop = stop; format = format; turns = turns; part = part; seed = seed; size = size; every = every; nth = nth }) (given_of words)
 unfolding text_of
-given_all words job stop format turns seed size every nth a b c d e f g h = rw (a, b, c, d, e, f, g, h) refl
+given_all words job stop format turns part seed size every nth a b c d e f g h i = rw (a, b, c, d, e, f, g, h, i) refl

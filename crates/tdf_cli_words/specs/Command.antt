@@ -14,13 +14,14 @@ option name = record (new_rule name) { long = Some name }
 abbrev pub without_name : App → App
 without_name command = record command { top = record command.top { no_binary_name = true } }
 
--- `tdf JOB --stop TIME --format FORMAT --turns N --seed N --size N --every TIME --nth N`
+-- `tdf JOB --stop TIME --format FORMAT --turns N --part PART --seed N --size N --every TIME
+-- --nth N`
 unfoldable pub command : App
 command = with_rule (with_rule (with_rule (with_rule (with_rule (with_rule (with_rule (with_rule
-    (without_name (new_app (codes "tdf"))) (new_rule (codes "JOB")))
+    (with_rule (without_name (new_app (codes "tdf"))) (new_rule (codes "JOB")))
     (option (codes "stop"))) (option (codes "format"))) (option (codes "turns")))
-    (option (codes "seed"))) (option (codes "size"))) (option (codes "every")))
-    (option (codes "nth"))
+    (option (codes "part"))) (option (codes "seed"))) (option (codes "size")))
+    (option (codes "every"))) (option (codes "nth"))
 
 -- the words meet none of the faults of the command; asking for help is one of them
 unfoldable pub are_matched : List (List ℕ) → Bool
@@ -36,6 +37,7 @@ pub record Given : Type 0 where
   pub stop : Option (List ℕ)
   pub format : Option (List ℕ)
   pub turns : Option (List ℕ)
+  pub part : Option (List ℕ)
   pub seed : Option (List ℕ)
   pub size : Option (List ℕ)
   pub every : Option (List ℕ)
@@ -47,6 +49,7 @@ given_of words = record {
   stop = text_of (codes "stop") words;
   format = text_of (codes "format") words;
   turns = text_of (codes "turns") words;
+  part = text_of (codes "part") words;
   seed = text_of (codes "seed") words;
   size = text_of (codes "size") words;
   every = text_of (codes "every") words;

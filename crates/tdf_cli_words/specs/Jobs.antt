@@ -9,8 +9,10 @@ use Rattle.tdf_base.specs.Time.{time_of}
 use Rattle.tdf_base.specs.declared.times.TimeErr.{TimeErr}
 use Rattle.tdf_cli_words.specs.Command.{Given}
 use Rattle.tdf_cli_words.specs.declared.asked.RunOptions.{RunOptions}
+use Rattle.tdf_cli_words.specs.declared.asked.SavePart.{SavePart}
+use Rattle.tdf_cli_words.specs.declared.asked.SavePart.TheVariants.{Trace, State}
 use Rattle.tdf_cli_words.specs.declared.asked.Settings.{Settings}
-use Rattle.tdf_cli_words.specs.declared.asked.Settings.TheVariants.{Run, Drive, Check, Plan, Load, Sample, Stats}
+use Rattle.tdf_cli_words.specs.declared.asked.Settings.TheVariants.{Run, Drive, Save, Resume, Check, Plan, Load, Sample, Stats}
 use Rattle.tdf_sampling.specs.declared.asked.Choice.{Choice}
 use Rattle.tdf_sampling.specs.declared.asked.Choice.TheVariants.{Every, Nth}
 use Rattle.tdf_trace_rows.specs.declared.kinds.TraceKind.{TraceKind}
@@ -63,6 +65,12 @@ abbrev pub turns_given : Option (List ℕ) → Option ℕ
 turns_given None = Some usual_turns
 turns_given (Some text) = number_within 1 most_turns text
 
+abbrev pub save_part : Option (List ℕ) → Option SavePart
+save_part None = None
+save_part (Some text) = if is_text (codes "trace") text then Some Trace
+    else if is_text (codes "state") text then Some State
+    else None
+
 -- a time in ps, from 1 on and below 10^18
 abbrev pub step_of : List ℕ → Option ℕ
 step_of text = option_and_then (kept_within 1 time_end) (time_read (time_of text))
@@ -73,9 +81,10 @@ step_of text = option_and_then (kept_within 1 time_end) (time_read (time_of text
 abbrev pub has_any : List (Option (List ℕ)) → Bool
 has_any options = list_any (λ option. is_some option) options
 
--- an option of a run is there
+-- an option of a run, or of a part of it, is there
 abbrev pub has_run_option : Given → Bool
-has_run_option given = has_any (given.stop ∷ (given.format ∷ (given.turns ∷ [])))
+has_run_option given =
+    has_any (given.stop ∷ (given.format ∷ (given.turns ∷ (given.part ∷ []))))
 
 -- an option of `load` is there
 abbrev pub has_load_option : Given → Bool
@@ -90,15 +99,41 @@ run_for (Some stop) (Some kind) (Some turns) =
     Some (record { stop = stop; kind = kind; turns = turns })
 run_for _ _ _ = None
 
--- of `run` and `drive`: `--stop TIME`, with `--format table` or `--format vcd`, and `--turns N`
+-- `--stop TIME`, with `--format table` or `--format vcd`, and `--turns N`
+abbrev pub run_values : Given → Option RunOptions
+run_values given =
+    run_for (stop_of given.stop) (trace_kind given.format) (turns_given given.turns)
+
+-- an option is there that is none of a run and of a part of it
+abbrev pub has_other_option : Given → Bool
+has_other_option given = has_load_option given || has_table_option given
+
+-- of `run` and `drive`
 abbrev pub run_options : Given → Option RunOptions
-run_options given = if has_load_option given || has_table_option given then None
-    else run_for (stop_of given.stop) (trace_kind given.format) (turns_given given.turns)
+run_options given = if has_other_option given || is_some given.part then None
+    else run_values given
+
+abbrev pub save_for : Option SavePart → Option RunOptions → Option Settings
+save_for (Some part) (Some asked) = Some (Save part asked)
+save_for _ _ = None
+
+-- `save --part trace` or `save --part state`, with the options of `run`
+abbrev pub save_given : Given → Option Settings
+save_given given = if has_other_option given then None
+    else save_for (save_part given.part) (run_values given)
+
+-- an option of a run is there that isn't its stop
+abbrev pub has_run_choice : Given → Bool
+has_run_choice given = has_any (given.format ∷ (given.turns ∷ (given.part ∷ [])))
+
+-- `resume --stop TIME`
+abbrev pub resume_given : Given → Option Settings
+resume_given given = if has_run_choice given || has_other_option given then None
+    else option_map Resume (stop_of given.stop)
 
 -- a job without options
 abbrev pub alone : Settings → Given → Option Settings
-alone job given = if has_run_option given || (has_load_option given || has_table_option given)
-    then None else Some job
+alone job given = if has_run_option given || has_other_option given then None else Some job
 
 abbrev pub load_for : Option ℕ → Option ℕ → Option Settings
 load_for (Some seed) (Some size) = Some (Load seed size)
@@ -133,6 +168,8 @@ stats_given given = if has_run_option given || (has_load_option given || is_some
 abbrev pub job_given : List ℕ → Given → Option Settings
 job_given job given = if is_text (codes "run") job then option_map Run (run_options given)
     else if is_text (codes "drive") job then option_map Drive (run_options given)
+    else if is_text (codes "save") job then save_given given
+    else if is_text (codes "resume") job then resume_given given
     else if is_text (codes "check") job then alone Check given
     else if is_text (codes "plan") job then alone Plan given
     else if is_text (codes "load") job then load_given given
@@ -173,6 +210,8 @@ IsChoice (Nth number) = IsNth number
 abbrev pub IsWithin : Settings → Type 0
 IsWithin (Run asked) = IsRun asked.stop asked.turns
 IsWithin (Drive asked) = IsRun asked.stop asked.turns
+IsWithin (Save part asked) = IsRun asked.stop asked.turns
+IsWithin (Resume stop) = stop < time_end
 IsWithin Check = ⊤
 IsWithin Plan = ⊤
 IsWithin (Load seed size) = IsLoad seed size

@@ -10,6 +10,7 @@ short_run = record {
   stop = Some (codes "3us");
   format = None;
   turns = None;
+  part = None;
   seed = None;
   size = None;
   every = None;

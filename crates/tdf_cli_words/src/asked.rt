@@ -16,6 +16,15 @@ pub struct RunOptions {
     pub turns: u64,
 }
 
+/// What `save` writes of a run at its stop.
+#[derive(Clone, Copy, Debug, PartialEq, Eq)]
+pub enum SavePart {
+    /// The trace so far.
+    Trace,
+    /// The state, from which `resume` goes on.
+    State,
+}
+
 /// What the words ask for.
 #[derive(Clone, Copy, Debug, PartialEq, Eq)]
 pub enum Settings {
@@ -23,6 +32,13 @@ pub enum Settings {
     Run(RunOptions),
     /// Run the model with event signals that a table drives, and write its traces.
     Drive(RunOptions),
+    /// Run the model up to a stop, and write what there is of it then.
+    Save(SavePart, RunOptions),
+    /// Go on from the state of a run, and write the rest of its traces.
+    Resume {
+        /// Where the run ends, in ps, below 10^18.
+        stop: u64,
+    },
     /// Write the canonical text of the model.
     Check,
     /// Write the plans of the model.

@@ -23,6 +23,7 @@ pub(crate) struct Given<'a> {
     pub(crate) stop: Option<&'a str>,
     pub(crate) format: Option<&'a str>,
     pub(crate) turns: Option<&'a str>,
+    pub(crate) part: Option<&'a str>,
     pub(crate) seed: Option<&'a str>,
     pub(crate) size: Option<&'a str>,
     pub(crate) every: Option<&'a str>,
@@ -40,6 +41,7 @@ impl<'a> Model for Given<'a> {
       stop = option_map (λ s. s.now) a.stop;
       format = option_map (λ s. s.now) a.format;
       turns = option_map (λ s. s.now) a.turns;
+      part = option_map (λ s. s.now) a.part;
       seed = option_map (λ s. s.now) a.seed;
       size = option_map (λ s. s.now) a.size;
       every = option_map (λ s. s.now) a.every;
@@ -68,6 +70,7 @@ fn make_command<'a>(alloc: Global) -> Result<Command<'a>, AllocError>
     let command = with_option(alloc, command, "stop")?;
     let command = with_option(alloc, command, "format")?;
     let command = with_option(alloc, command, "turns")?;
+    let command = with_option(alloc, command, "part")?;
     let command = with_option(alloc, command, "seed")?;
     let command = with_option(alloc, command, "size")?;
     let command = with_option(alloc, command, "every")?;
@@ -114,6 +117,7 @@ pub(crate) fn read_texts<'a>(alloc: Global, words: &'a [String]) -> Result<Given
         stop: matches.get_str("stop"),
         format: matches.get_str("format"),
         turns: matches.get_str("turns"),
+        part: matches.get_str("part"),
         seed: matches.get_str("seed"),
         size: matches.get_str("size"),
         every: matches.get_str("every"),

@@ -1,11 +1,11 @@
 //! What a job and its options ask for.
 
 ghost use Rattle.std.specs.Prelude.{◌≡◌, ◌<◌, ◌≤◌, IfSome, option_map};
-ghost use Rattle.tdf_cli_words.specs.Jobs.{number_within, stop_of, step_of, trace_kind, turns_given, has_run_option, has_load_option, has_table_option, run_options, alone, load_given, choice_for, sample_given, stats_given, settings_given, most_turns, IsChoice, IsRun, IsStep, IsWithin};
+ghost use Rattle.tdf_cli_words.specs.Jobs.{number_within, stop_of, step_of, trace_kind, turns_given, save_part, has_run_option, has_load_option, has_table_option, has_other_option, has_run_choice, run_values, run_options, save_given, resume_given, alone, load_given, choice_for, sample_given, stats_given, settings_given, most_turns, IsChoice, IsRun, IsStep, IsWithin};
 ghost use Rattle.tdf_cli_words.specs.declared.asked.Settings.TheVariants.{Drive, Run};
 ghost use Rattle.tdf_base.specs.Limits.{time_end};
 
-use crate::asked::{RunOptions, Settings};
+use crate::asked::{RunOptions, SavePart, Settings};
 use crate::command::Given;
 use tdf_base::{read_int, read_time};
 use tdf_sampling::Choice;
@@ -72,10 +72,30 @@ fn turns(given: &Given) -> Option<u64>
     }
 }
 
+/// The value of `--part`.
+fn part(given: &Given) -> Option<SavePart>
+    ensures { result ≡ save_part given.now.part }
+{
+    let text = given.part?;
+    if text == "trace" {
+        return Some(SavePart::Trace);
+    }
+    if text == "state" {
+        return Some(SavePart::State);
+    }
+    None
+}
+
+fn has_run_choice(given: &Given) -> bool
+    ensures { result ≡ has_run_choice given.now }
+{
+    given.format.is_some() || given.turns.is_some() || given.part.is_some()
+}
+
 fn has_run_option(given: &Given) -> bool
     ensures { result ≡ has_run_option given.now }
 {
-    given.stop.is_some() || given.format.is_some() || given.turns.is_some()
+    given.stop.is_some() || has_run_choice(given)
 }
 
 fn has_load_option(given: &Given) -> bool
@@ -90,18 +110,32 @@ fn has_table_option(given: &Given) -> bool
     given.every.is_some() || given.nth.is_some()
 }
 
+fn has_other_option(given: &Given) -> bool
+    ensures { result ≡ has_other_option given.now }
+{
+    has_load_option(given) || has_table_option(given)
+}
+
+/// The values of the options of a run.
+fn run_values(given: &Given) -> Option<RunOptions>
+    ensures value { result ≡ run_values given.now }
+    ensures within { IfSome result (λ asked. IsRun asked.stop asked.turns) }
+{
+    let stop = stop(given)?;
+    let kind = kind(given)?;
+    let turns = turns(given)?;
+    Some(RunOptions { stop, kind, turns })
+}
+
 /// The options of a run, for a job that has these alone.
 fn run_options(given: &Given) -> Option<RunOptions>
     ensures value { result ≡ run_options given.now }
     ensures within { IfSome result (λ asked. IsRun asked.stop asked.turns) }
 {
-    if has_load_option(given) || has_table_option(given) {
+    if has_other_option(given) || given.part.is_some() {
         return None;
     }
-    let stop = stop(given)?;
-    let kind = kind(given)?;
-    let turns = turns(given)?;
-    Some(RunOptions { stop, kind, turns })
+    run_values(given)
 }
 
 /// What `run` asks for.
@@ -120,12 +154,36 @@ fn drive(given: &Given) -> Option<Settings>
     Some(Settings::Drive(run_options(given)?))
 }
 
+/// What `save` asks for.
+fn save(given: &Given) -> Option<Settings>
+    ensures value { result ≡ save_given given.now }
+    ensures within { IfSome result IsWithin }
+{
+    if has_other_option(given) {
+        return None;
+    }
+    let part = part(given)?;
+    let asked = run_values(given)?;
+    Some(Settings::Save(part, asked))
+}
+
+/// What `resume` asks for.
+fn resume(given: &Given) -> Option<Settings>
+    ensures value { result ≡ resume_given given.now }
+    ensures within { IfSome result IsWithin }
+{
+    if has_run_choice(given) || has_other_option(given) {
+        return None;
+    }
+    Some(Settings::Resume { stop: stop(given)? })
+}
+
 /// What a job without options asks for.
 fn alone(job: Settings, given: &Given) -> Option<Settings>
     ensures value { result ≡ alone job given.now }
     ensures same { IfSome result (λ s. s ≡ job) }
 {
-    if has_run_option(given) || has_load_option(given) || has_table_option(given) {
+    if has_run_option(given) || has_other_option(given) {
         return None;
     }
     Some(job)
@@ -205,6 +263,12 @@ pub(crate) fn settings_given(given: &Given) -> Option<Settings>
     }
     if job == "drive" {
         return drive(given);
+    }
+    if job == "save" {
+        return save(given);
+    }
+    if job == "resume" {
+        return resume(given);
     }
     if job == "check" {
         return alone(Settings::Check, given);

@@ -13,6 +13,6 @@ mod jobs;
 mod laws;
 mod words;
 
-pub use asked::{RunOptions, Settings, WordsErr};
+pub use asked::{RunOptions, SavePart, Settings, WordsErr};
 pub use laws::law_worked;
 pub use words::settings;
