@@ -6,6 +6,7 @@ use Rattle.std.specs.Prelude.{Result, Ok, Err, IfOk}
 use Rattle.tdf_lang_parser.proofs.LabelLaws.{OwnRows, own_after, rows_own, traces_own}
 use Rattle.tdf_lang_parser.specs.Formed.{AllAssignNone, AssignsNone, HasEventPorts, HasPlainBodies, IsEventLine, IsFormed, IsNoPort, IsPlainGlobal}
 use Rattle.tdf_lang_parser.specs.Items.{Plain, de_line_of, member_of, plain_of}
+use Rattle.tdf_lang_parser.specs.Refused.{SpellsText}
 use Rattle.tdf_lang_parser.specs.SpellsTree.{Lines, lines_none, lines_more, SpellsOne, simple, choice, both, turns, SpellsAll, stmts_none, stmts_more, body_with, SpellsPart, part_none, part_some, SpellsInitialize, initialize_none, initialize_some, SpellsTdf, tdf, SpellsGlobal, global_type, global_tdf, global_de, global_net, SpellsGlobals, globals_none, globals_more, SpellsModel, model, SpellsTree, whole_text}
 use Rattle.tdf_lang_parser.specs.declared.err.LangErr.{LangErr}
 use Rattle.tdf_lang_parser.specs.machine.Walks.{IsRead}
@@ -117,6 +118,10 @@ model_formed (model {a = a} {b = b} {c = c} t l globals top members end traces) 
 
 tree_formed : {rows : List Row} {t : PureTree} → SpellsTree rows t → IsFormed t
 tree_formed (whole_text {lang = lang} b head spelled) = model_formed spelled (rows_own lang b)
+
+-- of each text that is spelled
+pub text_formed : {text : List ℕ} {tree : PureTree} → SpellsText text tree → IsFormed tree
+text_formed spells = tree_formed spells.spelled
 
 pub read_formed : (result : Result Tree LangErr) (rows : List Row) (after : ℕ) → IsRead result rows after → IfOk result (λ t. IsFormed (pure_tree t))
 read_formed (Ok t) rows after read = tree_formed read
