@@ -1,0 +1,4 @@
+pub mod Api
+pub mod Alike
+pub mod FromBytes
+pub mod Texts

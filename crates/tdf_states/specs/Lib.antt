@@ -1,0 +1,3 @@
+pub mod Laws
+pub mod States
+pub mod machine

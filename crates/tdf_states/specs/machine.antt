@@ -1,0 +1,2 @@
+-- How the code of this crate works.
+pub mod Reading
