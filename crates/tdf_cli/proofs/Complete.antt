@@ -1,31 +1,39 @@
 -- Each reading has at most one outcome, and that is met where nothing hinders.
 use Rattle.std.proofs.Common.{map, ◌≡◌, ◌⊎◌, ℕ, ◌≤◌, Bool, true, false, List, ◌++◌, Option, Some, None, refl, sym, ap, ◌∙◌, subst, inl, inr, length, length-append, append-nil, arith}
 use Rattle.std.specs.Io.KnownBytes.{Consumes, IsAtEnd}
+use Rattle.std.specs.Prelude.{nat_lt}
 use Rattle.tdf_lang_parser.proofs.Api.{text_keeps}
 use Rattle.tdf_lang_parser.specs.Refused.{SpellsText}
 use Rattle.tdf_cli.proofs.Driven.{accepted_runs, driven_from, early_only, faulty_only, no_table_only, run_accepted, seen_driven, text_from, OfDriven}
 use Rattle.tdf_base.specs.Limits.{longest_text}
 use Rattle.tdf_cli.proofs.FewNames.{stimulus_kept}
-use Rattle.tdf_cli.proofs.Seen.{OfAccepted, OfEnd, OfJob, OfLoad, OfRunText, OfStimulus, OfTable, OfText, Seen, line_of, of_choice, ran, same_tree, seen}
+use Rattle.tdf_cli.proofs.Saving.{by_length}
+use Rattle.tdf_cli.proofs.Seen.{OfAccepted, OfEnd, OfJob, OfLoad, OfRunText, OfSaveText, OfStimulus, OfTable, OfText, Seen, line_of, of_choice, ran, same_tree, seen}
+use Rattle.tdf_cli.proofs.Resumed.{same_resume}
+use Rattle.tdf_cli.proofs.Saved.{same_save, same_whole, seen_state, seen_trace}
 use Rattle.tdf_cli.specs.Driven.{HasDrivenOutcome, behind, driven_faulty, driven_run, early, ignored_text, long_cell, no_stimulus, off_time, too_many}
 use Rattle.tdf_cli.specs.Parts.{model_part, table_part}
-use Rattle.tdf_cli.specs.Runs.{HasRunOutcome, Outcome, note, refused, run_outcome, status_of, stop_in, too_late, has_run}
+use Rattle.tdf_cli.specs.Resumed.{HasResumeOutcome, bad_state, early_stop, goes_on, late_stop}
+use Rattle.tdf_cli.specs.Runs.{HasRunOutcome, Outcome, note, refused, status_of, stop_in, too_late, has_run}
+use Rattle.tdf_cli.specs.Saving.{HasSaveOutcome, HasStateOutcome, HasTraceOutcome, ended_state, ended_trace, late_state, late_trace, saved_state, saved_trace}
 use Rattle.tdf_cli.specs.machine.Stages.{HasDrivenTree, HasLookedAt, HasTextOutcome, HasTreeOutcome}
 use Rattle.tdf_cli_words.specs.declared.asked.RunOptions.{RunOptions}
 use Rattle.tdf_stim.specs.Drivable.{has_too_many, long_line, off_line}
 use Rattle.tdf_stim.specs.Driven.{driven_tree}
 use Rattle.tdf_stim.specs.Signals.{ignored_labels}
-use Rattle.tdf_cli.specs.Input.{Reading, BadWords, Text, TooLong, ReadFault, NoMemory, AskToRead, ComesFrom, InputIs, most_bytes, reads_text}
+use Rattle.tdf_cli.specs.Input.{Reading, BadWords, Text, TooLong, ReadFault, NoMemory, AskToRead, ComesFrom, InputIs, most_bytes, reads_text, longest_state}
 use Rattle.tdf_cli.specs.Tables.{table_refusal}
 use Rattle.tdf_tables.specs.Laws.{LineIsOne, TableIsOne, TableOrFault}
 use Rattle.tdf_tables.specs.Tables.{TableOf}
-use Rattle.tdf_cli.specs.Outcome.{measured, no_table, too_fine, is_sampled, is_measured, accepted_text, HasOutcome, usage, read_fault, too_long, faulty, is_run, too_long_model, is_driven, is_checked, is_planned, is_loaded, load_end, WritesOutcome, HasOneOutcome}
+use Rattle.tdf_cli.specs.Outcome.{measured, no_table, too_fine, is_sampled, is_measured, accepted_text, HasOutcome, usage, read_fault, too_long, faulty, is_run, too_long_model, is_driven, is_saved, is_resumed, is_checked, is_planned, is_loaded, load_end, WritesOutcome, HasOneOutcome}
 use Rattle.tdf_cli.specs.Status.{status_number}
 use Rattle.tdf_cli_words.specs.Words.{taken_of}
 use Rattle.tdf_cli.specs.declared.status.Status.{Status}
 use Rattle.tdf_cli.specs.declared.status.Status.TheVariants as status
+use Rattle.tdf_cli_words.specs.declared.asked.SavePart.{SavePart}
+use Rattle.tdf_cli_words.specs.declared.asked.SavePart.TheVariants.{Trace, State}
 use Rattle.tdf_cli_words.specs.declared.asked.Settings.{Settings}
-use Rattle.tdf_cli_words.specs.declared.asked.Settings.TheVariants.{Run, Drive, Check, Plan, Load, Sample, Stats}
+use Rattle.tdf_cli_words.specs.declared.asked.Settings.TheVariants.{Run, Drive, Save, Resume, Check, Plan, Load, Sample, Stats}
 use Rattle.tdf_bind_tables.specs.FlatTables.{FlatTablesOf}
 use Rattle.tdf_io.specs.Faults.{FaultsRose}
 use Rattle.tdf_dynamic_texts.specs.Plans.{PlanRows, accepted_line}
@@ -39,27 +47,21 @@ use Rattle.tdf_sim.specs.Laws.{AnswersRunAlike, EarlyTextFaultOrFlat, EarlyTextF
 use Rattle.tdf_sim.specs.PlanText.{clusters_text, plan_rows, plans_text}
 use Rattle.tdf_cli_load.specs.Text.{load_text}
 use Rattle.tdf_sim.specs.Ends.{Change, End, run_end, trace_of}
+use Rattle.tdf_sim_runs.specs.Rest.{rest_end}
+use Rattle.tdf_states.specs.Laws.{MembersAreAlike, PartsAreAlike, RestsAreAlike, SnapshotsAreOne, StateIsOne}
+use Rattle.tdf_states.specs.States.{saved_world}
 use Rattle.tdf_sim.specs.Ends as ending
 use Rattle.tdf_lang_tree.specs.Kept.{IsKept}
 use Rattle.tdf_lang_tree.specs.Pure.{PureTree}
 use Rattle.tdf_cli_words.specs.Jobs.{usual_turns}
-use Rattle.tdf_trace_rows.specs.declared.kinds.TraceKind.{TraceKind}
 use Rattle.tdf_trace_rows.specs.declared.kinds.TraceKind.TheVariants.{Table}
-
--- two runs that are alike have one outcome
-same_ran : (kind : TraceKind) (tree : PureTree) (a b : Sim) (ahead others : List (List Change)) (end turns : ℕ) → RunAlike tree a b ahead others kind end turns
-    → run_outcome kind tree a ahead end turns ≡ run_outcome kind tree b others end turns
-same_ran kind tree a b ahead others end turns alike = λ i. record { status = status_of (alike.end i); out = alike.trace i; notes = alike.notes i }
 
 -- so have the runs of two models of one tree, whichever answers of their boundaries they are told
 module _ (runs : RunsAreAlike) (told : AnswersRunAlike) (asked : RunOptions) (tree : PureTree) (a b : Sim) (kept : IsKept tree) (one_is : IsAccepted tree a) (other_is : IsAccepted tree b)
     (one other : Outcome) where
   same_end : (end : Option ℕ) → OfEnd asked tree a end one → OfEnd asked tree b end other → one ≡ other
   same_end None s t = s ∙ sym t
-  same_end (Some end) s t =
-      let both = runs tree a b kept one_is other_is s.0 asked.kind end asked.turns in
-      s.2 ∙ same_ran asked.kind tree a b s.0 s.0 end asked.turns both.alike
-      ∙ same_ran asked.kind tree b b s.0 t.0 end asked.turns (told tree b kept other_is s.0 t.0 asked.kind end asked.turns (both.answers s.1) t.1) ∙ sym t.2
+  same_end (Some end) s t = s.2 ∙ same_whole runs told asked.kind tree a b end asked.turns kept one_is other_is s.0 t.0 s.1 t.1 ∙ sym t.2
 
   same_run : a.flat.resolution ≡ b.flat.resolution → OfEnd asked tree a (stop_in a.flat.resolution asked.stop) one → OfEnd asked tree b (stop_in b.flat.resolution asked.stop) other → one ≡ other
   same_run unit s t = same_end (stop_in b.flat.resolution asked.stop) (subst (λ (u : Resolution). OfEnd asked tree a (stop_in u asked.stop) one) unit s) t
@@ -105,6 +107,8 @@ same_accepted : RunsAreAlike → AnswersRunAlike → (job : Settings) (tree : Pu
 unfolding written
 same_accepted runs told (Run asked) tree a b one other kept one_is other_is alike s t = absurd s
 same_accepted runs told (Drive asked) tree a b one other kept one_is other_is alike s t = absurd s
+same_accepted runs told (Save part asked) tree a b one other kept one_is other_is alike s t = absurd s
+same_accepted runs told (Resume stop) tree a b one other kept one_is other_is alike s t = absurd s
 same_accepted runs told Check tree a b one other kept one_is other_is alike s t = s ∙ ap (λ notes. written (canon tree) notes) (same_note a b alike) ∙ sym t
 same_accepted runs told Plan tree a b one other kept one_is other_is alike s t =
     s ∙ ap (λ notes. written (plans_text a) notes) (same_note a b alike) ∙ ap (λ out. written out (accepted_text b)) (same_plans a b alike) ∙ sym t
@@ -132,6 +136,35 @@ driven_failed (off_time parts few short off) is = absurd cc
 driven_failed (driven_faulty parts fine first) is = absurd cc
 driven_failed (driven_run parts fine run) is = run_failed run is
 
+trace_failed : {asked : RunOptions} {tree : PureTree} {o : Outcome} → HasTraceOutcome asked tree o → ¬ (status_number o.status ≡ status_number status.ReadFault)
+trace_failed (late_trace sound late) is = absurd cc
+trace_failed (saved_trace run comes rows) is = absurd cc
+trace_failed {asked = asked} {tree = tree} (ended_trace {sim = sim} {ahead = ahead} {end = end} run ends) is =
+    ended_otherwise (run_end tree sim.flat sim.firsts.items ahead end asked.turns) is
+
+length_failed : (long : Bool) (bytes : List ℕ) → ¬ (status_number (by_length long bytes).status ≡ status_number status.ReadFault)
+length_failed true bytes is = absurd cc
+length_failed false bytes is = absurd cc
+
+state_failed : {asked : RunOptions} {tree : PureTree} {text : List ℕ} {o : Outcome} → HasStateOutcome asked tree text o
+    → ¬ (status_number o.status ≡ status_number status.ReadFault)
+state_failed (late_state sound late) is = absurd cc
+state_failed (saved_state {bytes = bytes} sound stops has) is = length_failed (nat_lt longest_state (length bytes)) bytes is
+state_failed {asked = asked} {tree = tree} (ended_state {sim = sim} {ahead = ahead} {end = end} run ends) is =
+    ended_otherwise (run_end tree sim.flat sim.firsts.items ahead end asked.turns) is
+
+save_failed : (part : SavePart) (asked : RunOptions) (tree : PureTree) (text : List ℕ) (o : Outcome) → HasSaveOutcome part asked tree text o
+    → ¬ (status_number o.status ≡ status_number status.ReadFault)
+save_failed Trace asked tree text o has is = trace_failed has is
+save_failed State asked tree text o has is = state_failed has is
+
+resume_failed : {stop : ℕ} {bytes : List ℕ} {o : Outcome} → HasResumeOutcome stop bytes o → ¬ (status_number o.status ≡ status_number status.ReadFault)
+resume_failed (bad_state none) is = absurd cc
+resume_failed (late_stop saved late) is = absurd cc
+resume_failed (early_stop saved stops before) is = absurd cc
+resume_failed (goes_on {tree = tree} {sim = sim} {firsts = firsts} {s = s} {end = end} saved stops late ahead told) is =
+    ended_otherwise (rest_end tree sim.flat (saved_world tree sim firsts s) ahead end s.budget) is
+
 read_failed : {r : Reading} {o : Outcome} → HasOutcome r o → status_number o.status ≡ status_number status.ReadFault → r ≡ ReadFault
 read_failed usage is = absurd cc
 read_failed read_fault is = refl
@@ -140,6 +173,9 @@ read_failed (faulty model first) is = absurd cc
 read_failed (is_run spells run) is = absurd (run_failed run is)
 read_failed (too_long_model long) is = absurd cc
 read_failed (is_driven short has) is = absurd (driven_failed has is)
+read_failed (is_saved {part = part} {asked = asked} {text = text} {tree = tree} {outcome = outcome} spells saved) is =
+    absurd (save_failed part asked tree text outcome saved is)
+read_failed (is_resumed resumed) is = absurd (resume_failed resumed is)
 read_failed (is_checked spells sound) is = absurd cc
 read_failed (is_planned spells sound) is = absurd cc
 read_failed (is_loaded {tree = tree} {sim = sim} spells sound ahead answers) is =
@@ -164,7 +200,8 @@ some_job one other o s t = cc
 
 module _ (once : FaultsAreOne) (apart : FaultOrAccepted) (models : ModelsAreAlike) (runs : RunsAreAlike) (told : AnswersRunAlike)
     (table_once : TableIsOne) (line_once : LineIsOne) (tables_apart : TableOrFault)
-    (early_once : EarlyTextFaultsAreOne) (early_apart : EarlyTextFaultOrFlat) (tree_once : FaultsOfTreesAreOne) (tree_apart : TreeFaultOrAccepted) where
+    (early_once : EarlyTextFaultsAreOne) (early_apart : EarlyTextFaultOrFlat) (tree_once : FaultsOfTreesAreOne) (tree_apart : TreeFaultOrAccepted)
+    (parts : PartsAreAlike) (snapshots : SnapshotsAreOne) (members : MembersAreAlike) (one_state : StateIsOne) (rests : RestsAreAlike) where
   -- a text with a fault is not accepted
   not_both : (text : List ℕ) (fault : Fault) (tree : PureTree) (sim : Sim) → IsFirstFault text fault → SpellsText text tree → IsAccepted tree sim → ⊥
   not_both text fault tree sim is spells accepted = apart text fault sim is (record { tree = tree; spelled = spells; accepted = accepted })
@@ -186,6 +223,19 @@ module _ (once : FaultsAreOne) (apart : FaultOrAccepted) (models : ModelsAreAlik
   same_run_text asked text one other (inr s) (inl t) = let own = run_accepted s.2 in absurd (not_both text t.0 s.0 own.0 t.1 s.1 own.1)
   same_run_text asked text one other (inr s) (inr t) =
       same_runs models runs told asked s.0 one other (text_keeps s.1) s.2 (subst (λ (x : PureTree). HasRunOutcome asked x other) (same_tree text s.0 t.0 s.1 t.1) t.2)
+
+  -- `save` and `resume`
+  save_accepted : (part : SavePart) (asked : RunOptions) (tree : PureTree) (text : List ℕ) (o : Outcome) → HasSaveOutcome part asked tree text o → (sim : Sim) × IsAccepted tree sim
+  save_accepted Trace asked tree text o has = let of = seen_trace has in (of.0, of.1)
+  save_accepted State asked tree text o has = let of = seen_state has in (of.0, of.1)
+
+  same_save_text : (part : SavePart) (asked : RunOptions) (text : List ℕ) (one other : Outcome) → OfSaveText part asked text one → OfSaveText part asked text other → one ≡ other
+  same_save_text part asked text one other (inl s) (inl t) = s.2 ∙ ap refused (once text s.0 t.0 s.1 t.1) ∙ sym t.2
+  same_save_text part asked text one other (inl s) (inr t) = let own = save_accepted part asked t.0 text other t.2 in absurd (not_both text s.0 t.0 own.0 s.1 t.1 own.1)
+  same_save_text part asked text one other (inr s) (inl t) = let own = save_accepted part asked s.0 text one s.2 in absurd (not_both text t.0 s.0 own.0 t.1 s.1 own.1)
+  same_save_text part asked text one other (inr s) (inr t) =
+      same_save models runs told parts asked s.0 (text_keeps s.1) members snapshots text part one other s.2
+      (subst (λ (x : PureTree). HasSaveOutcome part asked x text other) (same_tree text s.0 t.0 s.1 t.1) t.2)
 
   -- the stages of `drive`, from the last one
   same_driven_tree : (lines : List ℕ) (asked : RunOptions) (tree : PureTree) (one other : Outcome) → IsKept tree → HasTreeOutcome lines asked tree one → HasTreeOutcome lines asked tree other
@@ -232,6 +282,8 @@ module _ (once : FaultsAreOne) (apart : FaultOrAccepted) (models : ModelsAreAlik
   same_job : (job : Settings) (text : List ℕ) (one other : Outcome) → OfJob job text one → OfJob job text other → one ≡ other
   same_job (Run asked) text one other s t = same_run_text asked text one other s t
   same_job (Drive asked) text one other s t = same_stimulus asked text one other s t
+  same_job (Save part asked) text one other s t = same_save_text part asked text one other s t
+  same_job (Resume stop) text one other s t = same_resume models one_state rests stop text one other s t
   same_job Check text one other s t = same_text Check text one other s t
   same_job Plan text one other s t = same_text Plan text one other s t
   same_job (Load seed size) text one other s t = same_text (Load seed size) text one other s t
@@ -269,6 +321,8 @@ few_read text given (Some left) (Some rest) told gave =
 has_read : (job : Settings) (text : List ℕ) (old new : Option (List ℕ)) → reads_text job ≡ true → ComesFrom job text old new → Consumes old new text × IsAtEnd new
 has_read (Run asked) text old new reads comes = comes
 has_read (Drive asked) text old new reads comes = comes
+has_read (Save part asked) text old new reads comes = comes
+has_read (Resume stop) text old new reads comes = comes
 has_read Check text old new reads comes = comes
 has_read Plan text old new reads comes = comes
 has_read (Load seed size) text old new reads comes = absurd cc

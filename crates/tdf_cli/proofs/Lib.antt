@@ -3,4 +3,7 @@ pub mod Driven
 pub mod FewNames
 pub mod Outcomes
 pub mod PartCounts
+pub mod Resumed
+pub mod Saved
+pub mod Saving
 pub mod Seen

@@ -1,25 +1,28 @@
 -- How what the steps wrote makes an outcome.
-use Rattle.std.proofs.Common.{◌≡◌, ℕ, ◌<◌, ◌≤◌, Bool, length, arith, codes, true, false, refl, List, [], Option, Some, None, Result, Ok, Err, IfOk, OnOk, OnErr, inl, inr, sym, ap, ◌∙◌, subst, append_assoc, append-nil}
+use Rattle.std.proofs.Common.{◌≡◌, ℕ, ◌≤◌, Bool, length, arith, codes, true, false, refl, List, [], Option, Some, None, Result, Ok, Err, IfOk, OnOk, OnErr, inl, inr, sym, ap, ◌∙◌, subst, append_assoc, append-nil}
 use Rattle.std.specs.Io.KnownBytes.{Appends}
 use Rattle.std.specs.Prelude.{string_bytes}
 use Rattle.std.proofs.KnownBytes.{Appends-nil}
 use Rattle.tdf_lang_parser.specs.Refused.{SpellsText}
 use Rattle.tdf_cli.specs.Input.{Reading, BadWords, Text, TooLong, ReadFault, NoMemory}
-use Rattle.tdf_cli.proofs.Seen.{OfEnd, OfRun, OfRunText, OfStimulus, ran, same_tree, seen}
+use Rattle.tdf_cli.proofs.Seen.{OfEnd, OfRun, OfRunText, OfSaveText, OfStimulus, ran, same_tree, seen}
 use Rattle.tdf_base.specs.Limits.{longest_text}
 use Rattle.tdf_cli.specs.Driven.{HasDrivenOutcome}
-use Rattle.tdf_cli.specs.Outcome.{HasOneOutcome, HasOutcome, usage, read_fault, too_long, faulty, is_run, too_long_model, is_driven, is_checked, is_planned, is_loaded, no_table, too_fine, is_sampled, is_measured, load_end, load_line, loaded, turns_taken, WritesOneOf, WritesOutcome, WritesFrontOf, WritesNothingOrFront}
+use Rattle.tdf_cli.specs.Outcome.{HasOneOutcome, HasOutcome, usage, read_fault, too_long, faulty, is_run, too_long_model, is_driven, is_saved, is_resumed, is_checked, is_planned, is_loaded, no_table, too_fine, is_sampled, is_measured, load_end, load_line, loaded, turns_taken, WritesOneOf, WritesOutcome, WritesFrontOf, WritesNothingOrFront}
 use Rattle.tdf_cli.specs.Parts.{model_part, table_part}
+use Rattle.tdf_cli.specs.Resumed.{HasResumeOutcome}
 use Rattle.tdf_cli.specs.Runs.{HasRunOutcome, Outcome, note, run_outcome, status_of, stop_in, too_late, has_run}
+use Rattle.tdf_cli.specs.Saving.{HasSaveOutcome}
 use Rattle.tdf_cli.specs.machine.Stages.{WritesOf}
 use Rattle.tdf_cli_words.specs.declared.asked.RunOptions.{RunOptions}
+use Rattle.tdf_cli_words.specs.declared.asked.SavePart.{SavePart}
 use Rattle.tdf_lang_tree.specs.Kept.{IsKept}
 use Rattle.tdf_sim.specs.Accepted.{IsAccepted}
 use Rattle.tdf_sim.specs.declared.sim.Sim.{Sim}
 use Rattle.tdf_cli.specs.declared.status.Status.{Status}
 use Rattle.tdf_cli.specs.declared.status.Status.TheVariants.{Done, StopTooLong}
 use Rattle.tdf_cli.specs.declared.jobs.Texts.{Texts}
-use Rattle.tdf_cli_words.specs.declared.asked.Settings.TheVariants.{Run, Drive, Check, Plan, Load, Sample}
+use Rattle.tdf_cli_words.specs.declared.asked.Settings.TheVariants.{Run, Drive, Save, Resume, Check, Plan, Load, Sample}
 use Rattle.tdf_cli.specs.declared.measure.Measurement.{Measurement}
 use Rattle.tdf_cli.specs.machine.Texts.{IsCheckText, IsMeasured, IsPlanText}
 use Rattle.tdf_lang_printer.specs.Canon.{canon}
@@ -51,6 +54,8 @@ has_some (faulty model is) = tt
 has_some (is_run spells run) = tt
 has_some (too_long_model long) = tt
 has_some (is_driven short has) = tt
+has_some (is_saved spells saved) = tt
+has_some (is_resumed resumed) = tt
 has_some (is_checked spells sound) = tt
 has_some (is_planned spells sound) = tt
 has_some (is_loaded spells sound ahead answers) = tt
@@ -218,6 +223,41 @@ driven_part (Err error) asked text a b c d short (inr w) = inr (record {
   out = λ o has. w.out o (stimulus_from asked text short o (seen has));
   notes = λ o has. w.notes o (stimulus_from asked text short o (seen has));
 })
+
+-- a part of a run
+saved_from : (part : SavePart) (asked : RunOptions) (text : List ℕ) (tree : PureTree) (sim : Sim) → FaultOrAccepted → SpellsText text tree → IsAccepted tree sim
+    → (o : Outcome) → OfSaveText part asked text o → HasSaveOutcome part asked tree text o
+saved_from part asked text tree sim apart spells sound o (inl f) = absurd (apart text f.0 sim f.1 (record { tree = tree; spelled = spells; accepted = sound }))
+saved_from part asked text tree sim apart spells sound o (inr save) =
+    subst (λ (x : PureTree). HasSaveOutcome part asked x text o) (same_tree text tree save.0 spells save.1) save.2
+
+module _ (part : SavePart) (asked : RunOptions) (text : List ℕ) (tree : PureTree) (a b c d : Option (List ℕ)) (spells : SpellsText text tree) where
+  pub saved_all : (result : Result Status SinkErr) → WritesOf (HasSaveOutcome part asked tree text) result a b c d
+      → IfOk result (λ s. WritesOutcome (Text (Save part asked) text) s a b c d)
+  saved_all (Ok s) w = record { outcome = w.outcome; has = is_saved {part = part} spells w.has; answers = w.answers; out = w.out; notes = w.notes }
+  saved_all (Err error) w = tt
+
+  pub saved_front : (sim : Sim) → FaultOrAccepted → IsAccepted tree sim → (result : Result Status SinkErr) → WritesOf (HasSaveOutcome part asked tree text) result a b c d
+      → OnErr result (WritesNothingOrFront (Text (Save part asked) text) a b c d)
+  saved_front sim apart sound (Ok s) w = tt
+  saved_front sim apart sound (Err error) (inl kept) = inl kept
+  saved_front sim apart sound (Err error) (inr w) = inr (record {
+    out = λ o has. w.out o (saved_from part asked text tree sim apart spells sound o (seen has));
+    notes = λ o has. w.notes o (saved_from part asked text tree sim apart spells sound o (seen has));
+  })
+
+-- a run that goes on
+module _ (stop : ℕ) (bytes : List ℕ) (a b c d : Option (List ℕ)) where
+  pub resumed_all : (result : Result Status SinkErr) → WritesOf (HasResumeOutcome stop bytes) result a b c d
+      → IfOk result (λ s. WritesOutcome (Text (Resume stop) bytes) s a b c d)
+  resumed_all (Ok s) w = record { outcome = w.outcome; has = is_resumed w.has; answers = w.answers; out = w.out; notes = w.notes }
+  resumed_all (Err error) w = tt
+
+  pub resumed_front : (result : Result Status SinkErr) → WritesOf (HasResumeOutcome stop bytes) result a b c d
+      → OnErr result (WritesNothingOrFront (Text (Resume stop) bytes) a b c d)
+  resumed_front (Ok s) w = tt
+  resumed_front (Err error) (inl kept) = inl kept
+  resumed_front (Err error) (inr w) = inr (record { out = λ o has. w.out o (seen has); notes = λ o has. w.notes o (seen has) })
 
 -- what holds for each text of a table
 pub each_table_ok : {T E : Type 0} (result : Result T E) (table : TableOf) (P : List ℕ → T → Type 0) → ((text : List ℕ) → SpellsTable text table → IfOk result (P text))

@@ -11,13 +11,16 @@ use Rattle.tdf_tables.specs.Faults.{HasTableFault}
 use Rattle.tdf_tables.specs.Tables.{SpellsTable, TableOf}
 use Rattle.tdf_base.specs.Limits.{longest_text}
 use Rattle.tdf_cli.specs.Driven.{HasDrivenOutcome}
-use Rattle.tdf_cli.specs.Outcome.{checked, planned, HasOutcome, usage, read_fault, too_long, faulty, is_run, too_long_model, is_driven, is_checked, is_planned, is_loaded, no_table, too_fine, is_sampled, is_measured, sampled, measured, load_end, load_line, turns_taken}
+use Rattle.tdf_cli.specs.Outcome.{checked, planned, HasOutcome, usage, read_fault, too_long, faulty, is_run, too_long_model, is_driven, is_saved, is_resumed, is_checked, is_planned, is_loaded, no_table, too_fine, is_sampled, is_measured, sampled, measured, load_end, load_line, turns_taken}
 use Rattle.tdf_cli.specs.Parts.{model_part, table_part}
+use Rattle.tdf_cli.specs.Resumed.{HasResumeOutcome}
 use Rattle.tdf_cli.specs.Runs.{HasRunOutcome, Outcome, note, refused, run_outcome, status_of, stop_in, too_late, has_run}
+use Rattle.tdf_cli.specs.Saving.{HasSaveOutcome}
 use Rattle.tdf_cli_words.specs.declared.asked.RunOptions.{RunOptions}
+use Rattle.tdf_cli_words.specs.declared.asked.SavePart.{SavePart}
 use Rattle.tdf_cli.specs.declared.status.Status.TheVariants as status
 use Rattle.tdf_cli_words.specs.declared.asked.Settings.{Settings}
-use Rattle.tdf_cli_words.specs.declared.asked.Settings.TheVariants.{Run, Drive, Check, Plan, Load, Sample, Stats}
+use Rattle.tdf_cli_words.specs.declared.asked.Settings.TheVariants.{Run, Drive, Save, Resume, Check, Plan, Load, Sample, Stats}
 use Rattle.tdf_sim.specs.Accepted.{IsAccepted}
 use Rattle.tdf_sim.specs.declared.sim.Sim.{Sim}
 use Rattle.tdf_sim.specs.Ends.{Change, End, HaveAnswers, run_end, trace_of}
@@ -58,6 +61,8 @@ OfLoad size tree sim end o = (ahead : List (List Change)) × HaveAnswers tree si
 abbrev pub OfAccepted : Settings → PureTree → Sim → Outcome → Type 0
 OfAccepted (Run asked) tree sim o = ⊥
 OfAccepted (Drive asked) tree sim o = ⊥
+OfAccepted (Save part asked) tree sim o = ⊥
+OfAccepted (Resume stop) tree sim o = ⊥
 OfAccepted Check tree sim o = o ≡ checked tree sim
 OfAccepted Plan tree sim o = o ≡ planned sim
 OfAccepted (Load seed size) tree sim o = OfLoad size tree sim (load_end sim.flat.resolution) o
@@ -72,6 +77,11 @@ OfText job text o = ((fault : Fault) × IsFirstFault text fault × (o ≡ refuse
 abbrev pub OfRunText : RunOptions → List ℕ → Outcome → Type 0
 OfRunText asked text o = ((fault : Fault) × IsFirstFault text fault × (o ≡ refused fault))
     ⊎ ((tree : PureTree) × SpellsText text tree × HasRunOutcome asked tree o)
+
+-- of a text whose run is saved
+abbrev pub OfSaveText : SavePart → RunOptions → List ℕ → Outcome → Type 0
+OfSaveText part asked text o = ((fault : Fault) × IsFirstFault text fault × (o ≡ refused fault))
+    ⊎ ((tree : PureTree) × SpellsText text tree × HasSaveOutcome part asked tree text o)
 
 -- of a text with a model and a table
 abbrev pub OfStimulus : RunOptions → List ℕ → Outcome → Type 0
@@ -93,6 +103,8 @@ of_choice choice table = by_grid (is_too_fine choice table.rows) choice table
 abbrev pub OfJob : Settings → List ℕ → Outcome → Type 0
 OfJob (Run asked) text o = OfRunText asked text o
 OfJob (Drive asked) text o = OfStimulus asked text o
+OfJob (Save part asked) text o = OfSaveText part asked text o
+OfJob (Resume stop) text o = HasResumeOutcome stop text o
 OfJob Check text o = OfText Check text o
 OfJob Plan text o = OfText Plan text o
 OfJob (Load seed size) text o = OfText (Load seed size) text o
@@ -103,6 +115,8 @@ OfJob (Stats window) text o = OfTable text (measured window) o
 model_faulty : (job : Settings) (text : List ℕ) (fault : Fault) → is_model_job job ≡ true → IsFirstFault text fault → OfJob job text (refused fault)
 model_faulty (Run asked) text fault model is = inl (fault, is, refl)
 model_faulty (Drive asked) text fault model is = absurd cc
+model_faulty (Save part asked) text fault model is = inl (fault, is, refl)
+model_faulty (Resume stop) text fault model is = absurd cc
 model_faulty Check text fault model is = inl (fault, is, refl)
 model_faulty Plan text fault model is = inl (fault, is, refl)
 model_faulty (Load seed size) text fault model is = inl (fault, is, refl)
@@ -113,6 +127,8 @@ model_faulty (Stats window) text fault model is = absurd cc
 table_faulty : (job : Settings) (text : List ℕ) (line : ℕ) → is_table_job job ≡ true → HasTableFault text line → OfJob job text (note status.Refused (table_refusal line))
 table_faulty (Run asked) text line table is = absurd cc
 table_faulty (Drive asked) text line table is = absurd cc
+table_faulty (Save part asked) text line table is = absurd cc
+table_faulty (Resume stop) text line table is = absurd cc
 table_faulty Check text line table is = absurd cc
 table_faulty Plan text line table is = absurd cc
 table_faulty (Load seed size) text line table is = absurd cc
@@ -134,6 +150,8 @@ seen (faulty {job = job} {text = text} {fault = fault} model is) = model_faulty 
 seen (is_run {tree = tree} spells run) = inr (tree, spells, run)
 seen (too_long_model long) = inl (long, refl)
 seen (is_driven short has) = inr (short, has)
+seen (is_saved {tree = tree} spells saved) = inr (tree, spells, saved)
+seen (is_resumed resumed) = resumed
 seen (is_checked {tree = tree} {sim = sim} spells sound) = inr (tree, sim, spells, sound, refl)
 seen (is_planned {tree = tree} {sim = sim} spells sound) = inr (tree, sim, spells, sound, refl)
 seen (is_loaded {tree = tree} {sim = sim} spells sound ahead answers) = inr (tree, sim, spells, sound, (ahead, answers, refl))

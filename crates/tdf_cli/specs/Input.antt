@@ -11,7 +11,7 @@ use Rattle.tdf_io.specs.Faults.{FaultsRose}
 use Rattle.tdf_cli_words.specs.Jobs.{IsWithin}
 use Rattle.tdf_cli_words.specs.Words.{taken_of}
 use Rattle.tdf_cli_words.specs.declared.asked.Settings.{Settings}
-use Rattle.tdf_cli_words.specs.declared.asked.Settings.TheVariants.{Drive, Load, Sample, Stats}
+use Rattle.tdf_cli_words.specs.declared.asked.Settings.TheVariants.{Drive, Load, Resume, Sample, Stats}
 use Rattle.tdf_tables.specs.Tables.{longest_table}
 
 pub data Reading : Type 0 where
@@ -37,9 +37,14 @@ reading input.NoMemory = NoMemory
 abbrev pub longest_stimulus : ℕ
 longest_stimulus = 4194304
 
--- the most bytes that a job reads: those of a model, of a table, or of both
+-- bytes of the longest text of a state
+abbrev pub longest_state : ℕ
+longest_state = 67108864
+
+-- the most bytes that a job reads: those of a model, of a table, of both, or of a state
 abbrev pub most_bytes : Settings → ℕ
 most_bytes (Drive asked) = longest_stimulus
+most_bytes (Resume stop) = longest_state
 most_bytes (Sample choice) = longest_table
 most_bytes (Stats window) = longest_table
 most_bytes _ = longest_text
@@ -52,6 +57,7 @@ bytes_for (Some job) = most_bytes job
 -- whether the text of a job is a model
 abbrev pub is_model_job : Settings → Bool
 is_model_job (Drive asked) = false
+is_model_job (Resume stop) = false
 is_model_job (Sample choice) = false
 is_model_job (Stats window) = false
 is_model_job _ = true

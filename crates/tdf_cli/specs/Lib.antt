@@ -7,7 +7,9 @@ pub mod Input
 pub mod Outcome
 pub mod Parts
 pub mod Refusals
+pub mod Resumed
 pub mod Runs
+pub mod Saving
 pub mod Status
 pub mod Tables
 pub mod machine

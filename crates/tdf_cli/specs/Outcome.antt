@@ -12,7 +12,9 @@ use Rattle.tdf_lang_parser.specs.Refused.{SpellsText}
 use Rattle.tdf_cli.specs.Driven.{HasDrivenOutcome}
 use Rattle.tdf_cli.specs.Input.{Reading, BadWords, Text, TooLong, ReadFault, NoMemory, is_model_job, is_table_job}
 use Rattle.tdf_cli.specs.Parts.{model_part, table_part}
+use Rattle.tdf_cli.specs.Resumed.{HasResumeOutcome}
 use Rattle.tdf_cli.specs.Runs.{HasRunOutcome, Outcome, note, refused, status_of}
+use Rattle.tdf_cli.specs.Saving.{HasSaveOutcome}
 use Rattle.tdf_cli.specs.Tables.{grid_refusal, table_refusal}
 use Rattle.tdf_sampling.specs.Choice.{chosen_table, is_too_fine}
 use Rattle.tdf_sampling.specs.Statistics.{stats_text}
@@ -33,8 +35,9 @@ use Rattle.tdf_sim.specs.PlanText.{plans_text}
 use Rattle.tdf_lang_tree.specs.Pure.{PureTree}
 use Rattle.tdf_cli_words.specs.Jobs.{usual_turns}
 use Rattle.tdf_cli_words.specs.declared.asked.RunOptions.{RunOptions}
+use Rattle.tdf_cli_words.specs.declared.asked.SavePart.{SavePart}
 use Rattle.tdf_cli_words.specs.declared.asked.Settings.{Settings}
-use Rattle.tdf_cli_words.specs.declared.asked.Settings.TheVariants.{Run, Drive, Check, Plan, Load, Sample, Stats}
+use Rattle.tdf_cli_words.specs.declared.asked.Settings.TheVariants.{Run, Drive, Save, Resume, Check, Plan, Load, Sample, Stats}
 use Rattle.tdf_trace_rows.specs.declared.kinds.TraceKind.TheVariants.{Table}
 
 -- the note of a model that was accepted: the number of its clusters
@@ -110,6 +113,11 @@ pub data HasOutcome : Reading → Outcome → Type 0 where
       → length (model_part text) ≤ longest_text
       → HasDrivenOutcome asked (model_part text) (table_part text) outcome
       → HasOutcome (Text (Drive asked) text) outcome
+  is_saved : {part : SavePart} {asked : RunOptions} {text : List ℕ} {tree : PureTree}
+      {outcome : Outcome} → SpellsText text tree → HasSaveOutcome part asked tree text outcome
+      → HasOutcome (Text (Save part asked) text) outcome
+  is_resumed : {stop : ℕ} {bytes : List ℕ} {outcome : Outcome}
+      → HasResumeOutcome stop bytes outcome → HasOutcome (Text (Resume stop) bytes) outcome
   is_checked : {text : List ℕ} {tree : PureTree} {sim : Sim} → SpellsText text tree
       → IsAccepted tree sim → HasOutcome (Text Check text) (checked tree sim)
   is_planned : {text : List ℕ} {tree : PureTree} {sim : Sim} → SpellsText text tree

@@ -1,7 +1,7 @@
 -- The numbers of the answers (own).
 use Rattle.std.specs.Prelude.{ℕ}
 use Rattle.tdf_cli.specs.declared.status.Status.{Status}
-use Rattle.tdf_cli.specs.declared.status.Status.TheVariants.{Done, Refused, Usage, ReadFault, Stopped, Spent, TooLong, StopTooLong}
+use Rattle.tdf_cli.specs.declared.status.Status.TheVariants.{Done, Refused, Usage, ReadFault, Stopped, Spent, TooLong, StopTooLong, StateTooLong, BadState, StopTooEarly}
 
 -- words that are not accepted
 abbrev pub usage : ℕ
@@ -16,6 +16,9 @@ status_number Stopped = 5
 status_number Spent = 6
 status_number TooLong = 8
 status_number StopTooLong = 9
+status_number StateTooLong = 10
+status_number BadState = 11
+status_number StopTooEarly = 12
 
 -- a write failed
 abbrev pub write_fault : ℕ

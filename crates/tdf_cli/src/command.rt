@@ -25,8 +25,9 @@ use tdf_io::{Sink, SinkErr, Source};
 ///
 /// The status is 0 where the job is done, 1 where the text has a fault, 2 where the words are not accepted, 3 where a read
 /// failed, 4 where a write failed, 5 where a refused change of attributes stopped a run, 6 where the turns of a run were too few, 7
-/// where it is out of memory, 8 where the text has more bytes than its job reads (1,048,576 of a model, 67,108,864 of a table,
-/// 4,194,304 of a model and a table), and 9 where the stop is too late for the resolution of the model.
+/// where it is out of memory, 8 where the text has more bytes than its job reads (1,048,576 of a model, 67,108,864 of a table or of a
+/// state, 4,194,304 of a model and a table), 9 where the stop is too late for the resolution of the model, 10 where the text of a state
+/// would have more than 67,108,864 bytes, 11 where a text is that of no state, and 12 where the stop is before the time of the state.
 pub fn tool<S: Source, O: Sink, N: Sink>(
     alloc: Global,
     words: &Vec<String>,

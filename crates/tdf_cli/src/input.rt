@@ -16,6 +16,9 @@ use tdf_tables::LONGEST_TABLE;
 /// The most bytes of the text of `drive` that is read.
 const LONGEST_STIMULUS: usize = 4_194_304;
 
+/// The most bytes of the text of a state.
+pub(crate) const LONGEST_STATE: usize = 67_108_864;
+
 /// What came of the words and of reading the model.
 #[derive(Drop)]
 pub(crate) enum Input {
@@ -53,6 +56,7 @@ fn most_bytes(job: &Settings) -> usize
 {
     match job {
         Settings::Drive(_) => LONGEST_STIMULUS,
+        Settings::Resume { .. } => LONGEST_STATE,
         Settings::Sample(_) | Settings::Stats { .. } => LONGEST_TABLE,
         _ => LONGEST_TEXT,
     }

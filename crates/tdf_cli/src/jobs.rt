@@ -27,7 +27,9 @@ use crate::laws::law_one_outcome;
 use crate::measure::measure;
 use crate::notes::{noted, refuse};
 use crate::refusals::first_fault;
+use crate::resume::resume;
 use crate::run::run;
+use crate::save::save;
 use crate::status::Status;
 use crate::tables::{sample, stats};
 use std::alloc::Global;
@@ -204,8 +206,12 @@ fn do_accepted<O: Sink, N: Sink>(
         Settings::Check => check(alloc, tree, &sim, out, notes),
         Settings::Plan => plan(alloc, tree, &sim, out, notes),
         Settings::Load { size, .. } => measure(alloc, sim, size, out),
-        // These have other texts.
-        Settings::Drive(_) | Settings::Sample(_) | Settings::Stats { .. } => {
+        // `save` needs the text too, and the others have other texts.
+        Settings::Save(..)
+        | Settings::Drive(_)
+        | Settings::Resume { .. }
+        | Settings::Sample(_)
+        | Settings::Stats { .. } => {
             drop(sim);
             Err(SinkErr::Memory)
         }
@@ -288,6 +294,8 @@ fn do_job<O: Sink, N: Sink>(
 {
     match job {
         Settings::Drive(asked) => drive(alloc, text, asked, out, notes),
+        Settings::Save(part, asked) => save(alloc, text, part, asked, out, notes),
+        Settings::Resume { stop } => resume(alloc, text, stop, out, notes),
         Settings::Sample(choice) => sample(alloc, text, choice, out, notes),
         Settings::Stats { window } => stats(alloc, text, window, out, notes),
         _ => do_text(alloc, text, job, out, notes),

@@ -5,6 +5,9 @@
 //! * `input`: the words, and the text of the model: read, or made.
 //! * `jobs`: what each outcome writes, but for runs.
 //! * `run`: the job `run`.
+//! * `save`: the job `save`.
+//! * `resume`: the job `resume`.
+//! * `nowhere`: a sink that keeps nothing.
 //! * `measure`: the job `load`.
 //! * `tables`: the jobs `sample` and `stats`.
 //! * `notes`: outcomes that only leave a note.
@@ -21,9 +24,12 @@ mod jobs;
 mod laws;
 mod measure;
 mod notes;
+mod nowhere;
 mod parts;
 mod refusals;
+mod resume;
 mod run;
+mod save;
 mod status;
 mod tables;
 

@@ -29,7 +29,7 @@ fn in_femtoseconds(stop: u64) -> Option<u64>
 }
 
 /// A stop, which the words say in ps, in counts of a resolution, where a run may have it.
-fn stop_in(unit: Resolution, stop: u64) -> Option<u64>
+pub(crate) fn stop_in(unit: Resolution, stop: u64) -> Option<u64>
     requires stop { stop < time_end }
     ensures value { result ≡ stop_in unit stop }
     ensures early { IfSome result (λ end. end < time_end) }

@@ -21,6 +21,12 @@ pub(crate) enum Status {
     TooLong,
     /// The stop is too late for the resolution of the model.
     StopTooLong,
+    /// The text of the state is too long.
+    StateTooLong,
+    /// The bytes are the text of no state.
+    BadState,
+    /// The stop is before the time of the state.
+    StopTooEarly,
 }
 
 /// The answer of a failed write.
@@ -48,6 +54,9 @@ impl Status {
             Status::Spent => 6,
             Status::TooLong => 8,
             Status::StopTooLong => 9,
+            Status::StateTooLong => 10,
+            Status::BadState => 11,
+            Status::StopTooEarly => 12,
         }
     }
 }
