@@ -1,0 +1,8 @@
+use Rattle.std.proofs.Common.{subst}
+use Rattle.tdf_sim_paused.specs.Parts.{IfPaused}
+use Rattle.tdf_sim_paused.specs.Paused.{IsPaused}
+use Rattle.tdf_sim_paused.specs.declared.part.Part.{Part}
+use Rattle.tdf_tests_tool.proofs.tests.pauses.waiting.Goals as goal
+
+pub returns-in-Paused : goal.returns-in-Paused
+returns-in-Paused c = record { paused = subst (λ (x : Part). IfPaused x IsPaused) c.in-Paused.is c.in-Ok-run_part.ensures.paused }
