@@ -46,10 +46,9 @@ use Rattle.tdf_sim.specs.FirstFault.{IsFirstFault, cluster_count}
 use Rattle.tdf_sim.specs.Laws.{AnswersRunAlike, EarlyTextFaultOrFlat, EarlyTextFaultsAreOne, FaultsAreOne, FaultsOfTreesAreOne, FaultOrAccepted, ModelsAreAlike, AreAlike, RunsAreAlike, RunAlike, TreeFaultOrAccepted}
 use Rattle.tdf_sim.specs.PlanText.{clusters_text, plan_rows, plans_text}
 use Rattle.tdf_cli_load.specs.Text.{load_text}
-use Rattle.tdf_sim.specs.Ends.{Change, End, run_end, trace_of}
-use Rattle.tdf_sim_runs.specs.Rest.{rest_end}
-use Rattle.tdf_states.specs.Laws.{MembersAreAlike, PartsAreAlike, RestsAreAlike, SnapshotsAreOne, StateIsOne}
-use Rattle.tdf_states.specs.States.{saved_world}
+use Rattle.tdf_sim.specs.Ends.{Change, End, rest_end, run_end, trace_of}
+use Rattle.tdf_sim.specs.StateLaws.{MembersAreAlike, PartsAreAlike, RestsAreAlike, SnapshotsAreOne, StateIsOne}
+use Rattle.tdf_sim.specs.States.{saved_world}
 use Rattle.tdf_sim.specs.Ends as ending
 use Rattle.tdf_lang_tree.specs.Kept.{IsKept}
 use Rattle.tdf_lang_tree.specs.Pure.{PureTree}

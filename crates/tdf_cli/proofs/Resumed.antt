@@ -2,15 +2,13 @@
 use Rattle.std.proofs.Common.{◌≡◌, ◌∙◌, ◌⊎◌, ℕ, ◌<◌, ◌≤◌, List, [], ◌++◌, Option, Some, None, Result, Ok, Err, refl, sym, ap, subst, inl, inr, arith, codes}
 use Rattle.std.specs.Prelude.{IsErrOf}
 use Rattle.tdf_base.specs.declared.resolution.Resolution.{Resolution}
-use Rattle.tdf_bind.specs.declared.model.Flat.{Flat}
+use Rattle.tdf_sim.specs.Ends.{AreToldTo, Change, First, Flat, GoesOnAs, IsModelOf, IsRunningAt, IsValid, Paused, Ran, SideOf, SnapshotOf, World, end_text, kind_saved, model_about, rows_from_saved}
 use Rattle.tdf_cli.specs.Outcome.{WritesFrontOf, WritesOneOf}
 use Rattle.tdf_cli.specs.Resumed.{HasResumeOutcome, bad_state, early_stop, goes_on, late_stop, rest_news, rest_outcome}
 use Rattle.tdf_cli.specs.Runs.{Outcome, note, status_of, stop_in}
 use Rattle.tdf_cli.specs.Saving.{stop_too_long}
 use Rattle.tdf_cli.specs.declared.status.Status.{Status}
 use Rattle.tdf_cli.specs.declared.status.Status.TheVariants as status
-use Rattle.tdf_dynamic_first.specs.declared.first.First.{First}
-use Rattle.tdf_events.specs.Side.{SideOf}
 use Rattle.tdf_io.proofs.Api.{failed_rose}
 use Rattle.tdf_io.specs.Bytes.{AppendsFront}
 use Rattle.tdf_io.specs.Faults.{CountsSinkFaults, CountsTwoSinks}
@@ -18,24 +16,10 @@ use Rattle.tdf_io.specs.declared.writing.SinkErr.{SinkErr}
 use Rattle.tdf_io.specs.declared.writing.SinkErr.TheVariants.{Failed}
 use Rattle.tdf_lang_parser.proofs.Api.{text_keeps}
 use Rattle.tdf_lang_tree.specs.Pure.{PureTree}
-use Rattle.tdf_saved.specs.State.{SnapshotOf}
-use Rattle.tdf_sim.specs.Ends.{Change}
 use Rattle.tdf_sim.specs.Laws.{ModelsAreAlike}
 use Rattle.tdf_sim.specs.declared.sim.Sim.{Sim}
-use Rattle.tdf_sim_history.specs.World.{World}
-use Rattle.tdf_sim_instants.specs.InstantLaws.{IsModelOf}
-use Rattle.tdf_sim_notes.specs.Ending.{end_text}
-use Rattle.tdf_sim_paused.specs.declared.paused.Paused.{Paused}
-use Rattle.tdf_sim_reopened.specs.Reopened.{kind_saved}
-use Rattle.tdf_sim_resumed.specs.Starting.{rows_from_saved}
-use Rattle.tdf_sim_resumed.specs.Valid.{IsValid}
-use Rattle.tdf_sim_runs.specs.Ongoing.{AreToldTo}
-use Rattle.tdf_sim_runs.specs.Rest.{GoesOnAs}
-use Rattle.tdf_sim_runs.specs.Running.{IsRunningAt}
-use Rattle.tdf_sim_runs.specs.Runs.{model_about}
-use Rattle.tdf_sim_runs.specs.declared.run.Ran.{Ran}
-use Rattle.tdf_states.specs.Laws.{AnswersAreAlike, RestsAreAlike, StateIsOne, ValidIsAlike}
-use Rattle.tdf_states.specs.States.{IsNoState, IsRunOf, IsSavedState, saved_world}
+use Rattle.tdf_sim.specs.StateLaws.{AnswersAreAlike, RestsAreAlike, StateIsOne, ValidIsAlike}
+use Rattle.tdf_sim.specs.States.{IsNoState, IsRunOf, IsSavedState, saved_world}
 use Rattle.tdf_trace_rows.specs.declared.kinds.TraceKind.{TraceKind}
 
 -- ---- what an outcome is

@@ -7,24 +7,15 @@ use Rattle.tdf_cli.specs.declared.status.Status.TheVariants as status
 use Rattle.tdf_cli_words.specs.declared.asked.RunOptions.{RunOptions}
 use Rattle.tdf_cli_words.specs.declared.asked.SavePart.{SavePart}
 use Rattle.tdf_cli_words.specs.declared.asked.SavePart.TheVariants.{Trace, State}
-use Rattle.tdf_events.specs.Side.{SideOf}
+use Rattle.tdf_sim.specs.Ends.{Change, HaveAnswers, HistoryState, IsRowsToWrite, MembersOf, On, RunFault, SideOf, World, end_of, end_text, is_vcd, members_of, run_state, saved_text}
 use Rattle.tdf_lang_tree.specs.Kept.{IsKept}
 use Rattle.tdf_lang_tree.specs.Pure.{PureTree}
-use Rattle.tdf_save.specs.Members.{MembersOf}
-use Rattle.tdf_save.specs.Text.{saved_text}
-use Rattle.tdf_save_members.specs.OfFlat.{members_of}
 use Rattle.tdf_sim.specs.Accepted.{IsAccepted}
-use Rattle.tdf_sim.specs.Ends.{Change, HaveAnswers}
 use Rattle.tdf_sim.specs.Laws.{AnswersRunAlike, ModelsAreAlike, RunAlike, RunsAreAlike}
 use Rattle.tdf_sim.specs.declared.sim.Sim.{Sim}
-use Rattle.tdf_sim_history.specs.History.{HistoryState, On, Spent, Stopped}
-use Rattle.tdf_sim_history.specs.Instant.{RunFault}
-use Rattle.tdf_sim_history.specs.World.{World}
-use Rattle.tdf_sim_notes.specs.Ending.{end_of, end_text, run_state}
-use Rattle.tdf_sim_paused.specs.Parts.{IsRowsToWrite}
-use Rattle.tdf_sim_paused.specs.Saving.{is_vcd}
-use Rattle.tdf_states.specs.Laws.{MembersAreAlike, PartsAreAlike, PartsRunAlike, SnapshotsAreOne}
-use Rattle.tdf_states.specs.States.{IsStateText}
+use Rattle.tdf_sim.specs.Histories.{Spent, Stopped}
+use Rattle.tdf_sim.specs.StateLaws.{MembersAreAlike, PartsAreAlike, PartsRunAlike, SnapshotsAreOne}
+use Rattle.tdf_sim.specs.States.{IsStateText}
 use Rattle.tdf_trace_rows.specs.declared.kinds.TraceKind.{TraceKind}
 
 -- ---- runs of the models of one tree

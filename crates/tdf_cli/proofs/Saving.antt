@@ -2,7 +2,7 @@
 use Rattle.std.proofs.Common.{◌≡◌, ◌∙◌, ℕ, ◌<◌, ◌≤◌, Bool, true, false, List, Option, Some, None, Result, length, refl, sym, ap, subst, inl, inr, arith, codes}
 use Rattle.std.specs.Prelude.{if◌then◌else◌, nat_lt}
 use Rattle.tdf_base.specs.declared.resolution.Resolution.{Resolution}
-use Rattle.tdf_bind.specs.declared.model.Flat.{Flat}
+use Rattle.tdf_sim.specs.Ends.{Change, End, Flat, HasEndedBefore, HaveAnswers, IsRefusedPart, Paused, PausesAt, Ran, end_text, is_vcd, run_state}
 use Rattle.tdf_cli.proofs.Driven.{writes_same}
 use Rattle.tdf_cli.proofs.Saved.{OfTrace, OfTraceEnd, comes_too, seen_trace}
 use Rattle.tdf_cli.specs.Input.{longest_state}
@@ -20,16 +20,10 @@ use Rattle.tdf_io.specs.declared.writing.SinkErr.{SinkErr}
 use Rattle.tdf_lang_tree.specs.Kept.{IsKept}
 use Rattle.tdf_lang_tree.specs.Pure.{PureTree}
 use Rattle.tdf_sim.specs.Accepted.{IsAccepted}
-use Rattle.tdf_sim.specs.Ends.{Change, End, HaveAnswers}
 use Rattle.tdf_sim.specs.Laws.{ModelsAreAlike, RunsAreAlike}
 use Rattle.tdf_sim.specs.declared.sim.Sim.{Sim}
-use Rattle.tdf_sim_notes.specs.Ending.{end_text, run_state}
-use Rattle.tdf_sim_paused.specs.Parts.{HasEndedBefore, IsRefusedPart, PausesAt}
-use Rattle.tdf_sim_paused.specs.Saving.{is_vcd}
-use Rattle.tdf_sim_paused.specs.declared.paused.Paused.{Paused}
-use Rattle.tdf_sim_runs.specs.declared.run.Ran.{Ran}
-use Rattle.tdf_states.specs.Laws.{PartsAreAlike}
-use Rattle.tdf_states.specs.States.{IsStateText}
+use Rattle.tdf_sim.specs.StateLaws.{PartsAreAlike}
+use Rattle.tdf_sim.specs.States.{IsStateText}
 use Rattle.tdf_trace_rows.specs.declared.kinds.TraceKind.{TraceKind}
 
 -- ---- the trace

@@ -4,20 +4,10 @@ use Rattle.std.specs.Prelude.{◌≡◌, ◌<◌, ◌≤◌, ℕ, List, None, So
 use Rattle.tdf_cli.specs.Runs.{Outcome, note, status_of, stop_in}
 use Rattle.tdf_cli.specs.Saving.{stop_too_long}
 use Rattle.tdf_cli.specs.declared.status.Status.TheVariants as status
-use Rattle.tdf_dynamic_first.specs.declared.first.First.{First}
+use Rattle.tdf_sim.specs.Ends.{AreToldTo, Change, First, SnapshotOf, kind_saved, model_about, notes_to, rest_end, rest_notes, rest_trace, rows_from_saved, rules_of, world_told}
 use Rattle.tdf_lang_tree.specs.Pure.{PureTree}
-use Rattle.tdf_saved.specs.State.{SnapshotOf}
-use Rattle.tdf_sim.specs.Ends.{Change}
 use Rattle.tdf_sim.specs.declared.sim.Sim.{Sim}
-use Rattle.tdf_sim_history.specs.Rules.{rules_of}
-use Rattle.tdf_sim_history.specs.Telling.{world_told}
-use Rattle.tdf_sim_history.specs.Texts.{notes_to}
-use Rattle.tdf_sim_reopened.specs.Reopened.{kind_saved}
-use Rattle.tdf_sim_resumed.specs.Starting.{rows_from_saved}
-use Rattle.tdf_sim_runs.specs.Ongoing.{AreToldTo}
-use Rattle.tdf_sim_runs.specs.Rest.{rest_end, rest_notes, rest_trace}
-use Rattle.tdf_sim_runs.specs.Runs.{model_about}
-use Rattle.tdf_states.specs.States.{IsNoState, IsSavedState, saved_world}
+use Rattle.tdf_sim.specs.States.{IsNoState, IsSavedState, saved_world}
 
 -- the plans that come from a snapshot on, up to a stop
 abbrev pub rest_news : PureTree → Sim → List First → SnapshotOf → (ahead : List (List Change))

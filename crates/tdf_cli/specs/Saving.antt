@@ -7,17 +7,11 @@ use Rattle.tdf_cli.specs.declared.status.Status.TheVariants as status
 use Rattle.tdf_cli_words.specs.declared.asked.RunOptions.{RunOptions}
 use Rattle.tdf_cli_words.specs.declared.asked.SavePart.{SavePart}
 use Rattle.tdf_cli_words.specs.declared.asked.SavePart.TheVariants.{Trace, State}
-use Rattle.tdf_events.specs.Side.{SideOf}
+use Rattle.tdf_sim.specs.Ends.{Change, HaveAnswers, IsRowsToWrite, On, SideOf, World, end_text, is_vcd, part_notes, part_trace, run_end, run_state}
 use Rattle.tdf_lang_tree.specs.Pure.{PureTree}
 use Rattle.tdf_sim.specs.Accepted.{IsAccepted}
-use Rattle.tdf_sim.specs.Ends.{Change, HaveAnswers, run_end}
 use Rattle.tdf_sim.specs.declared.sim.Sim.{Sim}
-use Rattle.tdf_sim_history.specs.History.{On}
-use Rattle.tdf_sim_history.specs.World.{World}
-use Rattle.tdf_sim_notes.specs.Ending.{end_text, run_state}
-use Rattle.tdf_sim_paused.specs.Parts.{IsRowsToWrite, part_notes, part_trace}
-use Rattle.tdf_sim_paused.specs.Saving.{is_vcd}
-use Rattle.tdf_states.specs.States.{IsStateText}
+use Rattle.tdf_sim.specs.States.{IsStateText}
 
 -- a model runs to a stop, in counts of its resolution, and this is told of its boundaries
 pub record IsAskedRun (asked : RunOptions) (tree : PureTree) (sim : Sim)

@@ -10,8 +10,8 @@ ghost use Rattle.tdf_cli.specs.machine.Stages.{WritesOf};
 ghost use Rattle.tdf_cli_words.specs.declared.asked.Settings.TheVariants.{Resume};
 ghost use Rattle.tdf_io.specs.Faults.{CountsTwoSinks};
 ghost use Rattle.tdf_io.specs.declared.writing.SinkErr.TheVariants as why;
-ghost use Rattle.tdf_sim_paused.specs.Paused.{IsPaused};
-ghost use Rattle.tdf_states.specs.States.{IsRunOf};
+ghost use Rattle.tdf_sim.specs.Ends.{IsPaused};
+ghost use Rattle.tdf_sim.specs.States.{IsRunOf};
 
 use crate::laws::law_one_outcome;
 use crate::notes::noted;
@@ -20,8 +20,7 @@ use crate::status::Status;
 use std::alloc::Global;
 use tdf_io::{Sink, SinkErr};
 use tdf_saved::StateErr;
-use tdf_sim::{Paused, law_one_model};
-use tdf_states::{law_one_state, law_rests_alike, read_state};
+use tdf_sim::{Paused, law_one_model, law_one_state, law_rests_alike, read_state};
 
 /// Goes on with a run to a stop, in counts of the resolution of its model, and answers how it ended.
 fn go_on<O: Sink, N: Sink>(

@@ -13,7 +13,7 @@ ghost use Rattle.tdf_io.specs.Faults.{CountsTwoSinks};
 ghost use Rattle.tdf_io.specs.declared.writing.SinkErr.TheVariants as why;
 ghost use Rattle.tdf_lang_tree.specs.Pure.{PureTree};
 ghost use Rattle.tdf_sim.specs.Runs.{IsAcceptedTree, IsSomeAccepted};
-ghost use Rattle.tdf_sim_notes.specs.Ending.{end_text};
+ghost use Rattle.tdf_sim.specs.Ends.{end_text};
 
 use crate::input::LONGEST_STATE;
 use crate::laws::law_one_outcome;
@@ -29,9 +29,9 @@ use tdf_events_invariants::law_runnable;
 use tdf_io::{Sink, SinkErr, put_all};
 use tdf_sim::{
     End, Part, RunErr, Sim, SimErr, elaborate, law_first_fault, law_one_model, law_one_run,
+    law_parts_alike, law_rests_alike, state_text,
 };
 use tdf_sim_notes::write_closing;
-use tdf_states::{law_parts_alike, law_rests_alike, state_text};
 
 /// Writes the trace of a run up to its stop, in counts of the resolution of its model.
 fn save_trace<O: Sink, N: Sink>(

@@ -1,10 +1,13 @@
-pub mod Api
 pub mod Alike
+pub mod Api
 pub mod Closed
 pub mod Clusters
 pub mod FirstFaults
+pub mod FromBytes
 pub mod Plannable
 pub mod Printing
 pub mod Refusing
 pub mod Running
+pub mod StateAlike
+pub mod Texts
 pub mod Writing

@@ -1,7 +1,10 @@
 pub mod Accepted
 pub mod Ends
 pub mod FirstFault
+pub mod Histories
 pub mod Laws
 pub mod PlanText
 pub mod Runs
+pub mod StateLaws
+pub mod States
 pub mod machine

@@ -1,2 +1,3 @@
 -- How the code of this crate works.
+pub mod Reading
 pub mod Steps

@@ -8,8 +8,8 @@ ghost use Rattle.tdf_sim.specs.Runs.{IsAcceptedTree, IsSomeAccepted};
 ghost use Rattle.tdf_sim.specs.declared.run.RunErr.TheVariants as why;
 ghost use Rattle.tdf_sim_history.specs.World.{Change};
 ghost use Rattle.tdf_sim_notes.specs.Ending.{HaveAnswers};
-ghost use Rattle.tdf_sim_paused.specs.Parts.{IfPaused, PartsAs};
-ghost use Rattle.tdf_sim_paused.specs.Paused.{IsPaused};
+ghost use Rattle.tdf_sim_runs.specs.Parts.{IfPaused, PartsAs};
+ghost use Rattle.tdf_sim_runs.specs.Paused.{IsPaused};
 
 use crate::run::{RunErr, by_sink};
 use crate::sim::Sim;
@@ -17,8 +17,7 @@ use std::alloc::Global;
 use tdf_bind_invariants::law_limits;
 use tdf_events_invariants::law_runnable;
 use tdf_io::Sink;
-use tdf_sim_paused::{Part, run_part};
-use tdf_sim_runs::Request;
+use tdf_sim_runs::{Part, Request, run_part};
 use tdf_trace_rows::TraceKind;
 
 impl Sim {

@@ -1,6 +1,9 @@
+mod One
+mod Onward
+mod Plans
+mod Quiet
+mod Saved
+mod Standing
 pub mod Api
 pub mod Good
 pub mod Members
-mod One
-mod Quiet
-mod Saved

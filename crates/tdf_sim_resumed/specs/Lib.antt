@@ -1,6 +1,9 @@
 pub mod Laws
+pub mod Made
+pub mod MadeLaws
 pub mod Restored
 pub mod Resuming
 pub mod Snapshot
 pub mod Starting
 pub mod Valid
+pub mod machine

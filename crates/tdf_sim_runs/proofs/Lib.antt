@@ -1,6 +1,17 @@
-pub mod Api
+mod Clock
+mod GoingOn
+mod Judged
+mod OfRun
+mod Parting
+mod Refused
+mod ReopenedTelling
+mod Reopening
+mod Snapshot
+mod Telling
 pub mod Advancing
 pub mod Answering
+pub mod Api
+pub mod AtStop
 pub mod Beginning
 pub mod Below
 pub mod Counting
@@ -13,11 +24,10 @@ pub mod Keeping
 pub mod Known
 pub mod Leading
 pub mod Marking
-pub mod Plans
 pub mod Noting
 pub mod Onward
-pub mod AtStop
 pub mod Opening
+pub mod Plans
 pub mod Reaching
 pub mod Resting
 pub mod RunStands

@@ -4,9 +4,13 @@ pub mod Handing
 pub mod Laws
 pub mod News
 pub mod Ongoing
+pub mod Parts
+pub mod Paused
 pub mod Pausing
+pub mod Reopened
 pub mod Rest
 pub mod Running
 pub mod Runs
+pub mod Saving
 pub mod Staying
 pub mod machine

@@ -1,3 +1,4 @@
+pub mod Columns
 pub mod Resumed
 pub mod Saved
 pub mod machine

@@ -2,7 +2,7 @@
 
 ghost use Rattle.std.specs.Prelude.{◌<◌, IfSome};
 ghost use Rattle.tdf_base.specs.Limits.{time_end};
-ghost use Rattle.tdf_sim_paused.specs.Paused.{IsPaused};
+ghost use Rattle.tdf_sim.specs.Ends.{IsPaused};
 
 use std::alloc::Global;
 use std::test::Fail;

@@ -1,7 +1,7 @@
 use Rattle.std.proofs.Common.{[], inr}
 use Rattle.tdf_cli.proofs.Resumed.{is_model, is_running, ran_on, refused_counts, refused_on}
 use Rattle.tdf_cli.proofs.resume.go_on.Goals as goal
-use Rattle.tdf_states.specs.States.{saved_world}
+use Rattle.tdf_sim.specs.States.{saved_world}
 
 pub returns-in-Ok-clause-writes : goal.returns-in-Ok-clause-writes
 returns-in-Ok-clause-writes g c = λ bytes stop of is.

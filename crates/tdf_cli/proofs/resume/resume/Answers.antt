@@ -6,7 +6,7 @@ use Rattle.tdf_cli.specs.Outcome.{is_resumed}
 use Rattle.tdf_cli.specs.Resumed.{bad_state}
 use Rattle.tdf_cli.specs.declared.status.Status.TheVariants.{BadState}
 use Rattle.tdf_cli_words.specs.declared.asked.Settings.TheVariants.{Resume}
-use Rattle.tdf_states.specs.States.{IsNoState, IsRunOf}
+use Rattle.tdf_sim.specs.States.{IsNoState, IsRunOf}
 
 pub returns-in-Ok-clause-all : goal.returns-in-Ok-clause-all
 returns-in-Ok-clause-all g c = resumed_all c.args.stop c.args.bytes.now.items (g.O.Sink.taken c.args.out.now) (g.O.Sink.taken c.go_on_to.new.out) (g.N.Sink.taken c.args.notes.now)

@@ -14,7 +14,7 @@ use Rattle.tdf_lang_parser.specs.Refused.{SpellsText}
 use Rattle.tdf_sim.specs.Accepted.{IsTextRefusal}
 use Rattle.tdf_sim.specs.FirstFault.{IsFirstFault}
 use Rattle.tdf_sim.specs.declared.err.SimErr.{SimErr}
-use Rattle.tdf_states.proofs.Api.{accepted_tree}
+use Rattle.tdf_sim.proofs.Api.{accepted_tree}
 
 pub returns-in-Ok-clause-all : goal.returns-in-Ok-clause-all
 returns-in-Ok-clause-all g c =

@@ -7,13 +7,8 @@ use Rattle.tdf_cli.specs.Runs.{Outcome, note, status_of}
 use Rattle.tdf_cli.specs.Saving.{HasStateOutcome, saved_state, state_outcome}
 use Rattle.tdf_cli.specs.machine.Stages.{WritesOf}
 use Rattle.tdf_io.specs.declared.writing.SinkErr.TheVariants.{Memory}
-use Rattle.tdf_sim.proofs.Api.{can_run}
-use Rattle.tdf_sim_history.specs.Rules.{rules_of, start_world}
-use Rattle.tdf_sim_history.specs.Texts.{notes_to}
-use Rattle.tdf_sim_notes.specs.Ending.{end_text}
-use Rattle.tdf_sim_paused.proofs.Api.{own_model, own_start}
-use Rattle.tdf_sim_paused.specs.Parts.{HasEndedBefore, IfEndedBefore, IfPaused, PausesAt}
-use Rattle.tdf_sim_paused.specs.declared.part.Part.{Part}
+use Rattle.tdf_sim.proofs.Api.{can_run, own_model, own_start}
+use Rattle.tdf_sim.specs.Ends.{HasEndedBefore, IfEndedBefore, IfPaused, Part, PausesAt, end_text, notes_to, rules_of, start_world}
 
 pub returns-in-Ok-clause-writes : goal.returns-in-Ok-clause-writes
 returns-in-Ok-clause-writes g c = λ tree accepted is.

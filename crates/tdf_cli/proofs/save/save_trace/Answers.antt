@@ -1,8 +1,7 @@
 use Rattle.std.proofs.Common.{inr, subst}
 use Rattle.tdf_cli.proofs.Saving.{ended_writes, paused_writes, refused_writes}
 use Rattle.tdf_cli.proofs.save.save_trace.Goals as goal
-use Rattle.tdf_sim_paused.specs.Parts.{HasEndedBefore, IfEndedBefore, IfPaused, PausesAt}
-use Rattle.tdf_sim_paused.specs.declared.part.Part.{Part}
+use Rattle.tdf_sim.specs.Ends.{HasEndedBefore, IfEndedBefore, IfPaused, Part, PausesAt}
 
 pub returns-in-Ok-Paused-clause-writes : goal.returns-in-Ok-Paused-clause-writes
 returns-in-Ok-Paused-clause-writes g c = λ tree accepted is.

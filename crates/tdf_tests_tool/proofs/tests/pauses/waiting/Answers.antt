@@ -1,7 +1,5 @@
 use Rattle.std.proofs.Common.{subst}
-use Rattle.tdf_sim_paused.specs.Parts.{IfPaused}
-use Rattle.tdf_sim_paused.specs.Paused.{IsPaused}
-use Rattle.tdf_sim_paused.specs.declared.part.Part.{Part}
+use Rattle.tdf_sim.specs.Ends.{IfPaused, IsPaused, Part}
 use Rattle.tdf_tests_tool.proofs.tests.pauses.waiting.Goals as goal
 
 pub returns-in-Paused : goal.returns-in-Paused

@@ -1,5 +1,0 @@
-pub mod Api
-mod OfRun
-mod Parting
-mod Snapshot
-mod Telling

@@ -1,5 +1,0 @@
-use Rattle.tdf_sim_paused.proofs.Telling.{AreFirstStates}
-use Rattle.tdf_sim_paused.proofs.saving.cluster_states.Given as goal
-
-abbrev pub invariant-loop-place : goal.invariant-loop-place
-invariant-loop-place l = AreFirstStates l.place l.since.items l.clusters.items l.states.items

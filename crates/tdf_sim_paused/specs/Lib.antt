@@ -1,4 +1,0 @@
-pub mod Parts
-pub mod Paused
-pub mod Saving
-pub mod machine

@@ -1,2 +1,0 @@
--- How the code of this crate works.
-pub mod Parting

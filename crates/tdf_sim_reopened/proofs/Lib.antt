@@ -1,6 +1,0 @@
-mod Clock
-mod Going
-mod Judged
-mod Refused
-mod Reopening
-mod Telling

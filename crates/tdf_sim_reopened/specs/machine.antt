@@ -1,2 +1,0 @@
--- What stands before a run goes on.
-pub mod Standing

@@ -1,3 +1,0 @@
-mod Onward
-mod Plans
-mod Standing

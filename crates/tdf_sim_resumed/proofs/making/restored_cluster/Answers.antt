@@ -1,0 +1,15 @@
+use Rattle.std.proofs.Common.{◌+◌}
+use Rattle.tdf_sim_resumed.proofs.Onward.{goes_on, has_number, is_bad}
+use Rattle.tdf_sim_resumed.proofs.making.restored_cluster.Goals as goal
+
+pub from_state-requires-clause-has : goal.from_state-requires-clause-has
+from_state-requires-clause-has c =
+    has_number c.law_numbers.ensures c.args.flat.now c.args.place c.in-Ok.number (c.law_limits.ensures c.requires.sound.model c.args.flat.now c.requires.sound.sound.kept c.requires.sound.sound.types c.requires.sound.is)
+    c.requires.there c.in-Ok.ensures.number
+
+pub returns-in-Ok-clause-made : goal.returns-in-Ok-clause-made
+returns-in-Ok-clause-made c =
+    goes_on c.args.flat.now c.in-Ok.number (c.args.place + 1) c.args.state.now c.args.time c.from_state.result c.in-Ok.ensures.number c.from_state.ensures.of c.from_state.ensures.at c.from_state.ensures.stands
+
+pub returns-in-Ok-clause-bad : goal.returns-in-Ok-clause-bad
+returns-in-Ok-clause-bad c = is_bad c.args.flat.now c.in-Ok.number (c.args.place + 1) c.args.state.now c.args.time c.from_state.result c.in-Ok.ensures.number c.from_state.ensures.bad

@@ -1,0 +1,14 @@
+-- How the clusters are made one after the other.
+-- Source: own.
+use Rattle.std.specs.Prelude.{◌≡◌, ◌+◌, ℕ, List, Some, length, slice_get}
+use Rattle.tdf_bind.specs.declared.model.Flat.{Flat}
+use Rattle.tdf_exec.specs.Cluster.{ClusterOf}
+use Rattle.tdf_saved.specs.State.{ClusterStateOf}
+use Rattle.tdf_sim_resumed.specs.Made.{GoesOnFromState}
+
+-- the first n clusters go on from their states
+pub record AreMadeUpTo (flat : Flat) (states : List ClusterStateOf) (time n : ℕ)
+    (cs : List ClusterOf) : Type 0 where
+  pub long : length cs ≡ n
+  pub each : (m : ℕ) (s : ClusterStateOf) (c : ClusterOf) → slice_get states m ≡ Some s
+      → slice_get cs m ≡ Some c → GoesOnFromState flat (m + 1) s time c

@@ -1,0 +1,40 @@
+-- The snapshot of a run that waits is that of its history.
+use Rattle.std.proofs.Common.{◌≡◌, ◌∙◌, ◌-◌, ℕ, Bool, ap, sym, subst, arith}
+use Rattle.tdf_bind.specs.declared.model.Flat.{Flat}
+use Rattle.tdf_events.specs.Kernel.{side_of}
+use Rattle.tdf_events.specs.Side.{SideOf}
+use Rattle.tdf_events.specs.State.{kernel_state_of}
+use Rattle.tdf_saved.specs.State.{SnapshotOf}
+use Rattle.tdf_sim_history.specs.Cells.{world_before, world_of}
+use Rattle.tdf_sim_history.specs.History.{history}
+use Rattle.tdf_sim_history.specs.Rules.{rules_of, world_engine}
+use Rattle.tdf_sim_history.specs.Telling.{world_told}
+use Rattle.tdf_sim_history.specs.World.{World}
+use Rattle.tdf_sim_runs.specs.Saving.{IsSnapshotOf}
+use Rattle.tdf_sim_resumed.specs.Laws.{AreToldStates, ClustersAreSaved}
+use Rattle.tdf_sim_resumed.specs.Snapshot.{AreSavedColumns}
+use Rattle.tdf_sim_runs.specs.Running.{CanGoOn}
+use Rattle.tdf_sim_runs.specs.declared.running.Running.{Running}
+use Rattle.tdf_sim_shown.specs.Saved.{GivesColumns}
+use Rattle.tdf_sim_traces.specs.Shown.{IsShown}
+
+module _ (saves : ClustersAreSaved) (flat : Flat) (r : Running) (can : CanGoOn flat r) (turns : ℕ) (vcd : Bool) (s : SnapshotOf) (vcd_is : s.vcd ≡ vcd) (time : s.time ≡ r.from) (used : s.used ≡ turns - r.left) (budget : s.budget ≡ turns)
+    (clusters : AreToldStates r.engine.since.items r.engine.clusters.items s.clusters) (kernel : s.kernel ≡ kernel_state_of (side_of r.engine.kernel)) (columns : GivesColumns flat r.shown s.columns) where
+  pub is_snapshot_of : IsSnapshotOf flat r turns vcd s
+  is_snapshot_of model start handed m run rows =
+      let own = world_told run.going.ahead start in
+      let w = run.going.world in
+      let z : r.from ≡ r.from - 0 = omega arith in
+      let on = ap (history (world_engine model flat) 0 own) z ∙ run.going.on.on in
+      let now : w ≡ world_before model flat (rules_of model flat) own r.from = sym (ap world_of on) in
+      record {
+        reached = on;
+        vcd_is = vcd_is;
+        time_is = time;
+        used_is = used ∙ ap (λ k. turns - k) (sym run.going.now.turns);
+        budget_is = budget;
+        clusters = saves model flat w r.engine.since.items r.engine.clusters.items s.clusters m.limits run.going.now.at can.engine.since clusters;
+        side = kernel ∙ ap kernel_state_of run.going.now.side;
+        columns = subst (λ (v : World SideOf). AreSavedColumns model flat own v r.from s.columns) (sym now)
+            (columns model own r.from m.is m.limits (subst (λ (v : World SideOf). IsShown model flat own r.from v r.shown) now run.shown) rows);
+      }

@@ -1,2 +1,0 @@
--- The lemmas that other crates may use.
-pub use Rattle.tdf_sim_valid.proofs.Front.{next_late}

@@ -1,6 +1,0 @@
-pub mod Api
-pub mod Front
-mod Columned
-mod Known
-mod Same
-mod Telling

@@ -1,5 +1,0 @@
-use Rattle.tdf_sim_valid.proofs.alike.are_alike.Given as goal
-use Rattle.tdf_sim_valid.specs.machine.Alike.{AreAlikeTo}
-
-abbrev pub invariant-loop-n : goal.invariant-loop-n
-invariant-loop-n l = AreAlikeTo l.traces l.columns l.n

@@ -1,7 +1,0 @@
-use Rattle.std.proofs.Common.{◌≡◌, map, take}
-use Rattle.tdf_sim_resumed.specs.Starting.{least_within}
-use Rattle.tdf_sim_valid.proofs.missing.least_missing.Given as goal
-use Rattle.tdf_sim_valid.specs.machine.Windows.{first_missing}
-
-abbrev pub invariant-loop-k : goal.invariant-loop-k
-invariant-loop-k l = l.least ≡ least_within l.time (map (first_missing l.time) (take l.k l.windows))

@@ -1,3 +1,0 @@
--- How the code goes from trace to trace.
-pub mod Alike
-pub mod Windows

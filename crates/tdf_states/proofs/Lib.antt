@@ -1,4 +1,0 @@
-pub mod Api
-pub mod Alike
-pub mod FromBytes
-pub mod Texts
