@@ -1,3 +1,5 @@
+mod Cells
 mod Indices
 pub mod Checked
 pub mod Maps
+mod Processes

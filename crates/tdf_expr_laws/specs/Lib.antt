@@ -1,3 +1,5 @@
+pub mod Cells
 pub mod Checked
 pub mod Indices
 pub mod Maps
+pub mod Processes

@@ -1,8 +1,10 @@
 //! What holds of the meaning of bodies: each function here only carries its clauses.
 
+ghost use Rattle.tdf_expr_laws.specs.Cells.{BodiesKeepCells, StartsFit};
 ghost use Rattle.tdf_expr_laws.specs.Checked.{CheckedIsOfTree};
 ghost use Rattle.tdf_expr_laws.specs.Indices.{LiesBelowRate};
 ghost use Rattle.tdf_expr_laws.specs.Maps.{AreMarkMaps, AreNoticeMaps, AreRateMaps, AreStepMaps};
+ghost use Rattle.tdf_expr_laws.specs.Processes.{ProcessesLeaveSoon};
 
 /// Each rate variable has its own value, the module and each port its own timestep, each event its own notice, and each port its
 /// own mark: setting one changes that one and no other.
@@ -22,4 +24,16 @@ pub fn law_indices_in_force()
 /// variables, ports, samples and events of each block.
 pub fn law_checked()
     ensures { CheckedIsOfTree }
+{}
+
+/// A process of a model without a fault of types sets no rate variable, and notifications that it asks for come in less than 10^18
+/// counts.
+pub fn law_processes()
+    ensures { ProcessesLeaveSoon }
+{}
+
+/// Each body of a model without a fault leaves values of the formats of their variables, and they start with such values.
+pub fn law_cells()
+    ensures keep { BodiesKeepCells }
+    ensures start { StartsFit }
 {}
