@@ -8,13 +8,13 @@ use Rattle.tdf_convert.specs.Links.{AreLinks, AreRising, HaveSignals}
 use Rattle.tdf_convert.specs.Sampled.{PlansGoByOffset}
 use Rattle.tdf_convert.specs.declared.links.Links.{Links}
 use Rattle.tdf_sim_instants.proofs.Crossed.{Crosses, GivesAsMuch, all_crosses, crossed_long}
-use Rattle.tdf_sim_instants.proofs.Onward.{IsDueFrom, crossed_due, crossed_on, fired_on, turned_later}
+use Rattle.tdf_sim_instants.proofs.Onward.{IsDueFrom, crossed_before, crossed_due, crossed_on, fired_on, turned_before, turned_later}
 use Rattle.tdf_sim_instants.proofs.Parts.{pass_sends, sorted_of}
 use Rattle.tdf_sim_instants.proofs.Passed.{Turns, all_turns, passed_long}
 use Rattle.tdf_sim_instants.proofs.Rooms.{room_for_pass, rooms_kept}
 use Rattle.tdf_sim_instants.proofs.Samples.{samples_here}
 use Rattle.tdf_sim_instants.specs.Crossing.{CanCross, CrossingOf, crossing_of}
-use Rattle.tdf_sim_instants.specs.Engine.{AreRoomy, CanFireAll, HaveBoundaries, HaveRooms, IsEngineOf, IsInProgress, IsReadyAt}
+use Rattle.tdf_sim_instants.specs.Engine.{AreRoomy, CanFireAll, HasDoneBefore, HaveBoundaries, HaveRooms, IsEngineOf, IsInProgress, IsReadyAt}
 use Rattle.tdf_sim_instants.specs.Sampling.{CanSample, HaveSampled, sampling_at}
 use Rattle.tdf_sim_instants.specs.Settling.{CanSettle, IsBefore}
 use Rattle.tdf_sim_instants.specs.Times.{due_time}
@@ -84,6 +84,9 @@ module _ (flat : Flat) (time left : ℕ) (e : Engine) (of : IsEngineOf flat e) (
 
     pub due_at : IsDueFrom time t d
     due_at = crossed_due Unplanned flat time from.1 t from.0 d on_at.takes (ready.clusters n from.1 from.0 from.2 from.3) from.4
+
+    pub before_at : HasDoneBefore (time + 1) t d
+    before_at = crossed_before Unplanned flat time from.1 t from.0 d (ready.before n from.1 from.0 from.2 from.3) from.4
 
     much_by : Unplanned → (c : ClusterOf) (s : ℕ) → Crosses Unplanned flat time c d s t → GivesAsMuch c d
     much_by none c s (Crosses.Stays going same kept) = record {
@@ -188,6 +191,9 @@ module _ (flat : Flat) (time left : ℕ) (e : Engine) (of : IsEngineOf flat e) (
       later_after = turned_later flat time s turned.0 d (begun_at n s turned.0 turned.1 s_at) (sorted_of by flat turned.0 (on_at n s turned.0 turned.1 s_at).of) (on_at n s turned.0 turned.1 s_at).inside
           (due_at n s turned.0 turned.1 s_at) turned.2
 
+      pub before_after : HasDoneBefore (time + 1) s d
+      before_after = turned_before flat time s turned.0 d (begun_at n s turned.0 turned.1 s_at) (before_at n s turned.0 turned.1 s_at) turned.2
+
       alike_after : (size : Option Runner → ℕ) → ((offset : ℕ) (c b : ClusterOf) → IsMoved c b → size_due size b.runners offset b.entries ≡ size_due size c.runners offset c.entries) → (offset : ℕ) (c : ClusterOf)
           → Turns flat (time - s) c d → size_due size d.runners offset d.entries ≡ size_due size c.runners offset c.entries
       alike_after size moved offset c (Turns.Idles none same) = ap (λ (z : ClusterOf). size_due size z.runners offset z.entries) same
@@ -272,6 +278,7 @@ module _ (flat : Flat) (time left : ℕ) (e : Engine) (of : IsEngineOf flat e) (
       pub ready_after : IsBefore (time + 1) (side_of f.kernel) → IsReadyAt (time + 1) f
       ready_after side = subst (IsReadyAt (time + 1)) (sym whole) (record {
         begun = λ n s s_at. (let b = begun_mid n s s_at in omega (arith, b));
+        before = λ n s d d_at s_at. before_after n s d d_at s_at;
         clusters = λ n s d d_at s_at. later_after n s d d_at s_at;
         side = side;
       })

@@ -128,15 +128,29 @@ all_begun flat firsts cs limits begun n c at =
       inside = entries_inside flat c limits b.of;
     }
 
-pub ready_made : (flat : Flat) (e : Engine) → e.since.items ≡ replicate (length e.clusters.items) 0 → side_of e.kernel ≡ start_side flat → IsReadyAt 0 e
-ready_made flat e since side = record {
-  begun = λ n s at. (let z : s ≡ 0 = all_same 0 (length e.clusters.items) n s (ap (λ (l : List ℕ). slice_get l n) (sym since) ∙ at) in omega (arith, z));
+pub ready_made : (flat : Flat) (firsts : List First) (e : Engine) → HaveBegun flat firsts e.clusters.items → e.since.items ≡ replicate (length e.clusters.items) 0 → side_of e.kernel ≡ start_side flat → IsReadyAt 0 e
+ready_made flat firsts e begun since side = record {
+  begun = λ n s at. (let z = starts n s at in omega (arith, z));
+  before = λ n s c c_at s_at. record {
+    begun = inl (starts n s s_at, refl);
+    done = λ i x below at. absurd (let z = none_done n c c_at in omega (arith, z, below));
+  };
   clusters = λ n s c c_at s_at. omega arith;
   side = subst (IsBefore 0) (sym side) (record {
     none = none_pending_before (start_side flat).notices.times 0 (none_at_start flat).0;
     idle = λ less. absurd (omega (arith, less));
   });
 }
+  where
+    starts : (n s : ℕ) → slice_get e.since.items n ≡ Some s → s ≡ 0
+    starts n s at = all_same 0 (length e.clusters.items) n s (ap (λ (l : List ℕ). slice_get l n) (sym since) ∙ at)
+
+    none_done : (n : ℕ) (c : ClusterOf) → slice_get e.clusters.items n ≡ Some c → c.place ≡ 0
+    none_done n c c_at =
+        let within = slice_get_within e.clusters.items n c c_at in
+        let same = begun.same in
+        let f = there_at firsts n (omega (arith, within, same)) in
+        (begun.each n f.0 c f.1 c_at).start.place_is
 
 -- an engine that is made of such parts has them
 module _ (flat : Flat) (firsts : List First) (clusters : List ClusterOf) (r : Result Engine Memory) (kept : IfOk r (λ (e : Engine). e.clusters.items ≡ clusters)) where
@@ -155,12 +169,13 @@ module _ (flat : Flat) (firsts : List First) (clusters : List ClusterOf) (r : Re
         go (Ok e) same at = at ∙ none ∙ ap (λ (l : List ClusterOf). replicate (length l) 0) (sym same)
         go (Err e) same at = tt
 
-    pub ready_kept : (k : KernelOf) → IfOk r (λ (e : Engine). e.kernel ≡ k) → side_of k ≡ start_side flat → IfOk r (λ (e : Engine). IsReadyAt 0 e)
-    ready_kept k is side = go r since_kept is
+    pub ready_kept : HaveBegun flat firsts clusters → (k : KernelOf) → IfOk r (λ (e : Engine). e.kernel ≡ k) → side_of k ≡ start_side flat → IfOk r (λ (e : Engine). IsReadyAt 0 e)
+    ready_kept begun k is side = go r (begun_kept begun) since_kept is
       where
-        go : (r : Result Engine Memory) → IfOk r (λ (e : Engine). e.since.items ≡ replicate (length e.clusters.items) 0) → IfOk r (λ (e : Engine). e.kernel ≡ k) → IfOk r (λ (e : Engine). IsReadyAt 0 e)
-        go (Ok e) since is = ready_made flat e since (ap side_of is ∙ side)
-        go (Err e) since is = tt
+        go : (r : Result Engine Memory) → IfOk r (λ (e : Engine). HaveBegun flat firsts e.clusters.items) → IfOk r (λ (e : Engine). e.since.items ≡ replicate (length e.clusters.items) 0) → IfOk r (λ (e : Engine). e.kernel ≡ k)
+            → IfOk r (λ (e : Engine). IsReadyAt 0 e)
+        go (Ok e) begun since is = ready_made flat firsts e begun since (ap side_of is ∙ side)
+        go (Err e) begun since is = tt
 
 pub side_kept : (flat : Flat) (r : Result Engine Memory) (k : KernelOf) → IfOk r (λ (e : Engine). e.kernel ≡ k) → side_of k ≡ start_side flat → IfOk r (λ (e : Engine). side_of e.kernel ≡ start_side flat)
 side_kept flat (Ok e) k is side = ap side_of is ∙ side

@@ -13,10 +13,11 @@ use Rattle.tdf_bind.specs.declared.model.Flat.{Flat}
 use Rattle.tdf_exec.proofs.Api.{due_alike, like_sent, like_traced, sizes_alike}
 use Rattle.tdf_sim_refinement.proofs.Api.{get_set_other, same_or_not, set_is}
 
--- the next period of a cluster has begun
+-- the next period of a cluster has begun, and no entry of it is done
 pub record IsAtHead (c d : ClusterOf) : Type 0 where
   pub number : d.number ≡ c.number
   pub going : d.crossed ≡ false
+  pub place : d.place ≡ 0
 
 -- its entries give as many samples as before
 pub record GivesAsMuch (c d : ClusterOf) : Type 0 where
@@ -32,10 +33,12 @@ at_head : (next : Next) (c between d : ClusterOf) → HasLeft c between → HasB
 at_head answer.Same c between d left begun = record {
   number = ap (λ (z : ClusterOf). z.number) begun ∙ ap (λ (z : ClusterOf). z.number) left.rest;
   going = ap (λ (z : ClusterOf). z.crossed) begun;
+  place = ap (λ (z : ClusterOf). z.place) begun;
 }
 at_head (answer.Changed attrs plan) c between d left begun = record {
   number = ap (λ (z : ClusterOf). z.number) begun.rest ∙ ap (λ (z : ClusterOf). z.number) left.rest;
   going = ap (λ (z : ClusterOf). z.crossed) begun.rest;
+  place = ap (λ (z : ClusterOf). z.place) begun.rest;
 }
 
 as_much : (next : Next) (c between d : ClusterOf) → is_new next ≡ false → HasLeft c between → HasBegunPeriod between next d → GivesAsMuch c d

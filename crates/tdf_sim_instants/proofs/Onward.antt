@@ -8,7 +8,7 @@ use Rattle.tdf_convert.specs.Sampled.{AreByOffset}
 use Rattle.tdf_sim_instants.proofs.Crossed.{Crosses}
 use Rattle.tdf_sim_instants.proofs.Passed.{Turns}
 use Rattle.tdf_sim_instants.specs.Crossing.{is_ending}
-use Rattle.tdf_sim_instants.specs.Engine.{IsInProgress}
+use Rattle.tdf_sim_instants.specs.Engine.{HasDoneBefore, IsInProgress}
 use Rattle.tdf_sim_instants.specs.Times.{due_offset, due_time}
 use Rattle.tdf_exec.specs.Cluster.{ClusterOf, is_next_due, is_offset, next_offset, offset_in}
 use Rattle.tdf_exec.specs.Played.{AreDone}
@@ -120,3 +120,31 @@ pub turned_later : (flat : Flat) (time s : ℕ) (c d : ClusterOf) → s ≤ time
     → time + 1 ≤ due_time s d
 turned_later flat time s c d begun sorted inside from (Turns.Idles none same) = subst (λ z. time + 1 ≤ due_time s z) (sym same) (idle_later time s c begun from none (next_or_none c))
 turned_later flat time s c d begun sorted inside from (Turns.Fires due of did) = fired_later time s c d begun sorted inside due did (next_or_none d)
+
+-- ---- what is done was due before
+
+before_more : (time s : ℕ) (c : ClusterOf) → HasDoneBefore time s c → HasDoneBefore (time + 1) s c
+before_more time s c before = record {
+  begun = elim before.begun [ inl start ↦ inr (let a = start.0 in omega (arith, a)) | inr less ↦ inr (omega (arith, less)) ];
+  done = λ i x below at. (let l = before.done i x below at in omega (arith, l));
+}
+
+pub crossed_before : (P : Type 0) (flat : Flat) (time s t : ℕ) (c d : ClusterOf) → HasDoneBefore time s c → Crosses P flat time c d s t → HasDoneBefore (time + 1) t d
+crossed_before P flat time s t c d before (Crosses.Stays going same kept) =
+    subst (λ k. HasDoneBefore (time + 1) k d) (sym kept) (subst (HasDoneBefore (time + 1) s) (sym same) (before_more time s c before))
+crossed_before P flat time s t c d before (Crosses.Begins head much of now) = record {
+  begun = inr (omega (arith, now));
+  done = λ i x below at. absurd (let z = head.place in omega (arith, below, z));
+}
+
+pub turned_before : (flat : Flat) (time s : ℕ) (c d : ClusterOf) → s ≤ time → HasDoneBefore (time + 1) s c → Turns flat (time - s) c d → HasDoneBefore (time + 1) s d
+turned_before flat time s c d begun before (Turns.Idles none same) = subst (HasDoneBefore (time + 1) s) (sym same) before
+turned_before flat time s c d begun before (Turns.Fires due of did) = record {
+  begun = before.begun;
+  done = λ i x below at. (
+      let there : slice_get c.entries i ≡ Some x = sym (ap (λ (z : ClusterOf). slice_get z.entries i) did.moved.rest) ∙ at in
+      elim (cases_lt i c.place) [
+        | inl old ↦ before.done i x old there
+        | inr new ↦ (let o = did.each i x new below there in omega (arith, o, begun))
+      ]);
+}

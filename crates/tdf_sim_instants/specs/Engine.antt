@@ -1,6 +1,6 @@
 -- All that runs of a model, between two instants.
 -- Source: own.
-use Rattle.std.specs.Prelude.{◌≡◌, ◌<◌, ◌≤◌, ◌+◌, ℕ, false, List, [], Some, length, map, None, Option, slice_get, sum}
+use Rattle.std.specs.Prelude.{◌≡◌, ◌⊎◌, ◌<◌, ◌≤◌, ◌+◌, ℕ, false, List, [], Some, length, map, None, Option, slice_get, sum}
 use Rattle.tdf_base.specs.declared.faults.Fault.{Fault}
 use Rattle.tdf_convert.specs.Emitted.{write_of_sent}
 use Rattle.tdf_convert.specs.Links.{samplers_in}
@@ -22,6 +22,7 @@ use Rattle.tdf_exec.specs.declared.runners.Runner.{Runner}
 use Rattle.tdf_expr.specs.Checked.{IsCheckedOf}
 use Rattle.tdf_fixed.specs.declared.raw.Raw.{Raw}
 use Rattle.tdf_bind.specs.declared.model.Flat.{Flat}
+use Rattle.tdf_schedule.specs.declared.entry.Entry.{Entry}
 use Rattle.tdf_sim_refinement.specs.Pass.{CanPass, HasPassedAll, HasPassedPart, RunOf, pass_at, pass_run}
 use Rattle.tdf_lang_tree.specs.Pure.{PureTree}
 
@@ -78,9 +79,18 @@ pub record IsEngineOf (flat : Flat) (e : Engine) : Type 0 where
   pub none_written : e.writes.list ≡ []
   pub kernel : IsKernelOf flat e.kernel
 
--- nothing is due before a time, and the periods have begun by then
+-- the period of a cluster began before a time, or there was none before it; each entry that is done
+-- was due before that time
+pub record HasDoneBefore (time s : ℕ) (c : ClusterOf) : Type 0 where
+  pub begun : ((s ≡ 0) × (time ≡ 0)) ⊎ (s < time)
+  pub done : (i : ℕ) (x : Entry) → i < c.place → slice_get c.entries i ≡ Some x
+      → s + x.offset < time
+
+-- nothing is due before a time, what is done was, and the periods have begun by then
 pub record IsReadyAt (time : ℕ) (e : Engine) : Type 0 where
   pub begun : (n s : ℕ) → slice_get e.since.items n ≡ Some s → s ≤ time
+  pub before : (n s : ℕ) (c : ClusterOf) → slice_get e.clusters.items n ≡ Some c
+      → slice_get e.since.items n ≡ Some s → HasDoneBefore time s c
   pub clusters : (n s : ℕ) (c : ClusterOf) → slice_get e.clusters.items n ≡ Some c
       → slice_get e.since.items n ≡ Some s → time ≤ due_time s c
   pub side : IsBefore time (side_of e.kernel)

@@ -1,5 +1,6 @@
 mod One
 mod Onward
+mod Places
 mod Plans
 mod Quiet
 mod Saved

@@ -127,8 +127,8 @@ module _ (flat : Flat) (limits : AreWithinLimits flat) where
   plain cluster a own = ap (λ k. is_sampler_kind k || not (nat_eq (slice_index (clusters_of flat.tables) a.number) cluster)) (module_kind a.number own.is_module)
       ∙ ap not (eq-eqb (slice_index (clusters_of flat.tables) a.number) cluster own.inside)
 
-  module _ (model : PureTree) (number : ℕ) (h : ClusterAt) (attributes : AreAttributes flat number h.now.info.table) (one other : ClusterStateOf)
-      (a : IsSavedCluster model flat number h one) (b : IsSavedCluster model flat number h other) where
+  module _ (model : PureTree) (number time : ℕ) (h : ClusterAt) (attributes : AreAttributes flat number h.now.info.table) (one other : ClusterStateOf)
+      (a : IsSavedCluster model flat number time h one) (b : IsSavedCluster model flat number time h other) where
     same_turns : (m : ℕ) → slice_index a.play.turns m ≡ slice_index b.play.turns m
     same_turns m = a.turns m ∙ sym (b.turns m)
 
@@ -190,11 +190,11 @@ snapshot_is_one model flat start w time budget vcd one other limits have a b =
     ∙ ap (λ x. snapshot_with other.vcd other.time x one.budget one.clusters one.kernel one.columns) (a.used_is ∙ sym b.used_is)
     ∙ ap (λ x. snapshot_with other.vcd other.time other.used x one.clusters one.kernel one.columns) (a.budget_is ∙ sym b.budget_is)
     ∙ ap (λ x. snapshot_with other.vcd other.time other.used other.budget x one.kernel one.columns) clusters_same
-    ∙ ap (λ x. snapshot_with other.vcd other.time other.used other.budget other.clusters x one.columns) (a.side ∙ sym b.side)
+    ∙ ap (λ x. snapshot_with other.vcd other.time other.used other.budget other.clusters x one.columns) (a.side.is ∙ sym b.side.is)
     ∙ ap (snapshot_with other.vcd other.time other.used other.budget other.clusters other.kernel) (columns_same model flat start w time one.columns other.columns a.columns b.columns)
   where
     clusters_same : one.clusters ≡ other.clusters
     clusters_same = same_items one.clusters other.clusters (a.clusters.same ∙ sym b.clusters.same) (λ n x y x_at y_at. (
         let inside : n < length w.clusters = (let i = slice_get_within one.clusters n x x_at in let l = a.clusters.same in omega (arith, i, l)) in
         let h = get_inside w.clusters n inside in
-        cluster_same flat limits model (n + 1) h.0 (have.each n h.0 h.1) x y (a.clusters.each n h.0 x h.1 x_at) (b.clusters.each n h.0 y h.1 y_at)))
+        cluster_same flat limits model (n + 1) time h.0 (have.each n h.0 h.1) x y (a.clusters.each n h.0 x h.1 x_at) (b.clusters.each n h.0 y h.1 y_at)))

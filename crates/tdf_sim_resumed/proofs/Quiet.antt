@@ -13,7 +13,7 @@ use Rattle.tdf_events.specs.State.{IsKernelState, resumed_side, time_pending}
 use Rattle.tdf_events_queue.specs.Sets.{count_on}
 use Rattle.tdf_exec_parts.specs.States.{IsStateUnder, due_before}
 use Rattle.tdf_lang_tree.specs.Pure.{PureTree}
-use Rattle.tdf_saved.specs.State.{ClusterStateOf, KernelStateOf}
+use Rattle.tdf_saved.specs.State.{ClusterStateOf, KernelStateOf, SnapshotOf}
 use Rattle.tdf_saved.specs.declared.state.Pending.{Pending}
 use Rattle.tdf_schedule.specs.Plan.{is_earlier}
 use Rattle.tdf_schedule.specs.declared.entry.Entry.{Entry}
@@ -26,6 +26,7 @@ use Rattle.tdf_sim_resumed.proofs.Members.{resumed_at}
 use Rattle.tdf_sim_resumed.specs.Laws.{NoneIsDueBefore, StandsStill}
 use Rattle.tdf_sim_resumed.specs.Resuming.{resumed_cluster, resumed_clusters}
 use Rattle.tdf_sim_resumed.specs.Starting.{resumed_world}
+use Rattle.tdf_sim_resumed.specs.Valid.{ArePlansOf}
 use Rattle.tdf_streams.proofs.Api.{none_some, some_same}
 
 abbrev weight : Bool → ℕ
@@ -140,16 +141,20 @@ none_of : (t : ℕ) (cs : List ClusterAt) → ((n : ℕ) (c : ClusterAt) → sli
 none_of t [] each = refl
 none_of t (c ∷ cs) each = or_from (is_cluster_due t c) (list_any (is_cluster_due t) cs) (each 0 c refl) (none_of t cs (λ n d at. each (suc n) d at))
 
-pub none_due : NoneIsDueBefore
-none_due model flat firsts s ahead t valid low = or_from (list_any (is_cluster_due t) (resumed_clusters model flat firsts s ahead)) (is_side_due (resumed_side flat s.time s.kernel) t)
+-- where its clusters have plans, and on its event side nothing is
+pub none_due : (model : PureTree) (flat : Flat) (firsts : List First) (s : SnapshotOf) (ahead : List (List Change)) (t : ℕ) → ArePlansOf flat s firsts → is_side_due (resumed_side flat s.time s.kernel) t ≡ false → t < s.time
+    → (world_engine model flat).is_due (resumed_world model flat firsts s ahead) t ≡ false
+none_due model flat firsts s ahead t are side low = or_from (list_any (is_cluster_due t) (resumed_clusters model flat firsts s ahead)) (is_side_due (resumed_side flat s.time s.kernel) t)
     (none_of t (resumed_clusters model flat firsts s ahead) (λ n c at. (
     let r = resumed_at model flat firsts s ahead n c at in
-    ap (is_cluster_due t) r.is ∙ cluster_later flat (n + 1) s.time r.first r.state (valid.clusters.each n r.first r.state r.first_at r.state_at) model (slice_index_or ahead n []) t low)))
-    (side_later flat s.time s.kernel valid.kernel t low)
+    ap (is_cluster_due t) r.is ∙ cluster_later flat (n + 1) s.time r.first r.state (are.each n r.first r.state r.first_at r.state_at) model (slice_index_or ahead n []) t low))) side
+
+pub none_due_before : NoneIsDueBefore
+none_due_before model flat firsts s ahead t valid low = none_due model flat firsts s ahead t valid.clusters (side_later flat s.time s.kernel valid.kernel t low) low
 
 pub still : StandsStill
 still model flat firsts s ahead time valid low =
     let e : time + 0 ≡ time = omega arith in
     let w : World SideOf = resumed_world model flat firsts s ahead in
     ap (history (world_engine model flat) 0 w) (sym e) ∙ skipped (world_engine model flat) 0 w 0 w time (starts (world_engine model flat) 0 w)
-    (λ t from high. none_due model flat firsts s ahead t valid (omega (arith, high, low)))
+    (λ t from high. none_due_before model flat firsts s ahead t valid (omega (arith, high, low)))

@@ -58,7 +58,7 @@ module _ {X : Type 0} where
       get_or_from_slice_get (map f (range_with_len 0 n)) m (f (0 + m)) d (get_made_at f 0 n m inside) ∙ ap f z
 
 -- no two rows are of one module
-abbrev AreApart : List AttrsOf → Type 0
+abbrev pub AreApart : List AttrsOf → Type 0
 AreApart table = (i j : ℕ) (one other : AttrsOf) → slice_get table i ≡ Some one → slice_get table j ≡ Some other → one.number ≡ other.number → i ≡ j
 
 -- so what is listed for a module is what its state says
@@ -82,7 +82,7 @@ found (x ∷ table) (y ∷ modules) (suc i) attrs m apart at there = go (cases_e
 
 module _ (model : PureTree) (flat : Flat) (number : ℕ) (table : List AttrsOf) (s : ClusterStateOf) (of_cluster : (i : ℕ) (attrs : AttrsOf) → slice_get table i ≡ Some attrs → attrs.number < length flat.tables.modules)
     (apart : AreApart table) where
-  says : IsStateStart flat number table s (state_start model flat number table s)
+  pub says : IsStateStart flat number table s (state_start model flat number table s)
   says = record {
     lists = λ e below. made_or (held_by_state flat.tables number s.edges) [] (length flat.tables.edges) e below;
     cells = λ i attrs m at there. (

@@ -7,8 +7,10 @@ use Rattle.tdf_dynamic_first.specs.declared.first.First.{First}
 use Rattle.tdf_events.specs.Side.{SideOf}
 use Rattle.tdf_exec.specs.Cluster.{ClusterOf}
 use Rattle.tdf_exec.specs.Saved.{cluster_state}
+use Rattle.tdf_exec_parts.specs.States.{IsInPeriod}
 use Rattle.tdf_lang_tree.specs.Pure.{PureTree}
 use Rattle.tdf_saved.specs.State.{ClusterStateOf, SnapshotOf}
+use Rattle.tdf_schedule.specs.declared.entry.Entry.{Entry}
 use Rattle.tdf_sim_history.specs.Continuing.{HasToldCounts, HasWholePlan}
 use Rattle.tdf_sim_history.specs.History.{On}
 use Rattle.tdf_sim_history.specs.Rules.{rules_of, world_engine}
@@ -64,9 +66,24 @@ pub record AreToldStates (since : List ℕ) (clusters : List ClusterOf)
   pub each : (n : ℕ) (c : ClusterOf) (t : ℕ) (s : ClusterStateOf) → slice_get clusters n ≡ Some c
       → slice_get since n ≡ Some t → slice_get states n ≡ Some s → s ≡ cluster_state c t
 
--- where clusters in progress are those of the history, they are the states of these
+-- a cluster in progress, whose period began at `since`, is up to a time: it began before it, or
+-- nothing has happened at all; what is done was due before the time, and what is left isn't
+pub record IsUpTo (time since : ℕ) (c : ClusterOf) : Type 0 where
+  pub inside : IsInPeriod since time c.period
+  pub done : (i : ℕ) (x : Entry) → i < c.place → slice_get c.entries i ≡ Some x
+      → since + x.offset < time
+  pub next : (x : Entry) → slice_get c.entries c.place ≡ Some x → time ≤ since + x.offset
+
+-- so is each
+abbrev pub AreUpTo : (time : ℕ) → (since : List ℕ) → List ClusterOf → Type 0
+AreUpTo time since clusters = (n t : ℕ) (c : ClusterOf) → slice_get clusters n ≡ Some c
+    → slice_get since n ≡ Some t → IsUpTo time t c
+
+-- where clusters in progress are those of the history, and up to a time, they are the states of
+-- these
 abbrev pub ClustersAreSaved : Type 0
-ClustersAreSaved = (model : PureTree) (flat : Flat) (w : World SideOf) (since : List ℕ)
+ClustersAreSaved = (model : PureTree) (flat : Flat) (time : ℕ) (w : World SideOf) (since : List ℕ)
     → (clusters : List ClusterOf) (states : List ClusterStateOf) → AreWithinLimits flat
     → AreAt model flat since w.clusters clusters → length since ≡ length clusters
-    → AreToldStates since clusters states → AreSavedClusters model flat w states
+    → AreUpTo time since clusters
+    → AreToldStates since clusters states → AreSavedClusters model flat time w states

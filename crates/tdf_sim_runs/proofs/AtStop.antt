@@ -57,7 +57,7 @@ rows_agree g h time rows agree is = record {
 }
 
 -- what is next due in a period comes by its end
-due_within : (c : ClusterOf) → LieInside c → due_offset c (next_offset c) ≤ c.period
+pub due_within : (c : ClusterOf) → LieInside c → due_offset c (next_offset c) ≤ c.period
 due_within c inside = go (slice_get c.entries c.place) refl
   where
     go : (o : Option Entry) → slice_get c.entries c.place ≡ o → due_offset c (offset_in o) ≤ c.period

@@ -15,11 +15,12 @@ use Rattle.tdf_lang_tree.specs.Pure.{PureTree}
 use Rattle.tdf_saved.specs.State.{ClusterStateOf, SnapshotOf}
 use Rattle.tdf_sim_history.proofs.Api.{last_record}
 use Rattle.tdf_sim_history.specs.World.{ClusterAt}
-use Rattle.tdf_sim_instants.specs.Engine.{AreInProgress}
+use Rattle.tdf_sim_instants.specs.Engine.{AreInProgress, HasDoneBefore}
 use Rattle.tdf_sim_refinement.proofs.Api.{entries_inside, takes_time}
 use Rattle.tdf_sim_refinement.specs.At.{IsAt}
 use Rattle.tdf_sim_refinement.specs.Pass.{AreAt}
 use Rattle.tdf_sim_runs.specs.machine.Standing.{clock_in}
+use Rattle.tdf_sim_resumed.proofs.Api.{done_early}
 use Rattle.tdf_sim_resumed.specs.Made.{AllGoOnFromStates, GoesOnFromState}
 use Rattle.tdf_sim_resumed.specs.Valid.{HasMembersOf, HasTimesOf}
 use Rattle.tdf_sim_traces.proofs.Api.{span_is, steps_of}
@@ -79,6 +80,16 @@ module _ (flat : Flat) (s : SnapshotOf) (since : List ℕ) (cs : List ClusterOf)
 
   pub places : (n t : ℕ) (c : ClusterOf) → slice_get since n ≡ Some t → slice_get cs n ≡ Some c → c.place ≡ due_before t s.time c.entries
   places n t c t_at at = (goes n c at).at.place_is ∙ ap (λ k. due_before k s.time c.entries) (sym (begun_at n t c at t_at))
+
+  -- what is done was due before
+  pub done_so : (n t : ℕ) (c : ClusterOf) → slice_get since n ≡ Some t → slice_get cs n ≡ Some c → HasDoneBefore s.time t c
+  done_so n t c t_at at = record {
+    begun = elim (goes n c at).at.is.inside [
+      | inl begin ↦ (let b = begun_at n t c at t_at in inl (b ∙ begin.0, begin.1))
+      | inr inside ↦ (let b = begun_at n t c at t_at in let l = inside.0 in inr (omega (arith, l, b)))
+    ];
+    done = λ i x below there. done_early flat c (goes n c at).of t s.time (places n t c t_at at) i x below there;
+  }
 
   pub in_progress : AreInProgress flat cs
   in_progress n c at =

@@ -39,6 +39,15 @@ use Rattle.tdf_sim_history.specs.Rules.{rules_of, world_engine}
 pub ready_then : (from stop time : ℕ) (e : Engine) → IsReadyAt from e → from ≤ time → IsNextDue e.clusters.items e.since.items (side_of e.kernel) stop time → IsReadyAt time e
 ready_then from stop time e ready low next = record {
   begun = λ n s s_at. (let b = ready.begun n s s_at in omega (arith, b, low));
+  before = λ n s c c_at s_at. (
+      let b = ready.before n s c c_at s_at in
+      record {
+        begun = elim b.begun [
+          | inl start ↦ (let z = start.0 in elim (cases_lt 0 time) [ inl some ↦ inr (omega (arith, z, some)) | inr none ↦ inl (z, omega (arith, none)) ])
+          | inr less ↦ inr (omega (arith, less, low))
+        ];
+        done = λ i x below at. (let d = b.done i x below at in omega (arith, d, low));
+      });
   clusters = λ n s c c_at s_at. next.each n s c (record { cluster = c_at; begun = s_at });
   side = next.before;
 }

@@ -21,7 +21,7 @@ use Rattle.tdf_sim_instants.specs.Settling.{IsBefore}
 use Rattle.tdf_sim_instants.specs.Times.{due_offset}
 use Rattle.tdf_sim_instants.specs.declared.engine.Engine.{Engine}
 use Rattle.tdf_sim_refinement.specs.Pass.{AreAt}
-use Rattle.tdf_sim_runs.proofs.Clock.{can_tell, early, ends_late, in_progress, places}
+use Rattle.tdf_sim_runs.proofs.Clock.{can_tell, done_so, early, ends_late, in_progress, places}
 use Rattle.tdf_sim_runs.proofs.GoingOn.{is_before, runs_on}
 use Rattle.tdf_sim_runs.proofs.Judged.{are_states, is_valid, stamped_from}
 use Rattle.tdf_sim_runs.specs.Reopened.{CanReopen}
@@ -120,6 +120,7 @@ module _ (flat : Flat) (s : SnapshotOf) (x : Standing) (can : CanReopen flat) (t
     ready : IsReadyAt s.time e
     ready = record {
       begun = λ n k at. early flat s x.since.items x.clusters.items can.of.limits times members stands.since stands.clusters n k (ap (λ l. slice_get l n) (sym since_are) ∙ at);
+      before = λ n k c c_at k_at. done_so flat s x.since.items x.clusters.items can.of.limits times members stands.since stands.clusters n k c (ap (λ l. slice_get l n) (sym since_are) ∙ k_at) (ap (λ l. slice_get l n) (sym clusters_are) ∙ c_at);
       clusters = λ n k c c_at k_at. not_over n k c (ap (λ l. slice_get l n) (sym clusters_are) ∙ c_at) (ap (λ l. slice_get l n) (sym since_are) ∙ k_at);
       side = subst (IsBefore s.time) (sym side) (is_before can.model flat plans.firsts s due still here);
     }

@@ -1,8 +1,17 @@
+mod Again
 mod Alike
 mod Asked
+mod Calm
+mod Fits
 mod History
+mod Kernel
 mod Onward
+mod Others
+mod Saved
+mod Snapshots
 mod Sound
 mod Split
 mod Starts
 mod Streams
+mod Turns
+mod Valid

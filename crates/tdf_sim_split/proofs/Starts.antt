@@ -1,35 +1,42 @@
 -- A run from its text begins with sound clusters.
-use Rattle.std.proofs.Common.{true, ◌≡◌, ◌∙◌, ◌+◌, ℕ, zero, suc, List, [], ◌∷◌, Some, length, map, replicate, slice_get, slice_index_or, nat_eq, refl, sym, ap, subst, arith}
+use Rattle.std.proofs.Common.{true, false, None, option_map, ◌≡◌, ◌∙◌, ◌+◌, ℕ, zero, suc, List, [], ◌∷◌, Some, length, map, replicate, slice_get, slice_index_or, nat_eq, refl, sym, ap, subst, arith}
 use Rattle.std.proofs.lemmas.List.{length-replicate}
+use Rattle.std.proofs.lemmas.Option.{slice_get-map}
 use Rattle.std.proofs.lemmas.List.Elements.{All-nil}
 use Rattle.std.specs.List.{All, count_by, enumerate_from}
 use Rattle.std.specs.Prelude.{slice_index}
 use Rattle.tdf_bind.specs.Flat.{IsFlatOf}
 use Rattle.tdf_bind.specs.declared.model.Flat.{Flat}
+use Rattle.tdf_bind_connections.specs.ProcessBlocks.{BlockRowOf}
 use Rattle.tdf_bind_invariants.specs.Limits.{AreWithinLimits}
 use Rattle.tdf_dynamic_first.specs.First.{IsFirstPlan}
 use Rattle.tdf_dynamic_first.specs.declared.first.First.{First}
-use Rattle.tdf_dynamic_plans.specs.Attributes.{AttrsOf}
+use Rattle.tdf_dynamic_plans.specs.Attributes.{IsOfCluster}
 use Rattle.tdf_dynamic_plans.specs.Faults.{IsTablePlan}
 use Rattle.tdf_dynamic_plans.specs.Rates.{net_of}
+use Rattle.tdf_events.proofs.Api.{none_at_start}
 use Rattle.tdf_exec.proofs.Api.{plan_counts}
+use Rattle.tdf_expr.specs.Made.{CellsFit, start_cells, start_rates}
+use Rattle.tdf_expr_laws.specs.Cells.{BodiesKeepCells, StartsFit}
+use Rattle.tdf_expr_state.specs.State.{FrameState}
 use Rattle.tdf_lang_tree.specs.Pure.{PureTree}
 use Rattle.tdf_schedule.specs.Plan.{done}
 use Rattle.tdf_schedule.specs.declared.entry.Entry.{Entry}
 use Rattle.tdf_sim_history.specs.Continuing.{HasToldCounts}
-use Rattle.tdf_sim_history.specs.Instant.{activations}
-use Rattle.tdf_sim_history.specs.Rules.{start_world}
 use Rattle.tdf_sim_history.specs.Start.{counts_in, first_cluster}
 use Rattle.tdf_sim_history.specs.World.{Change, ClusterAt}
-use Rattle.tdf_sim_refinement.proofs.Api.{counted_in}
+use Rattle.tdf_sim_refinement.proofs.Api.{all_at, counted_in}
 use Rattle.tdf_sim_refinement.proofs.Api.{done_all}
+use Rattle.tdf_sim_split.proofs.Fits.{text_fits}
+use Rattle.tdf_sim_split.proofs.Others.{text_others}
 use Rattle.tdf_sim_split.proofs.Sound.{none_before, number_of}
 use Rattle.tdf_sim_split.specs.Following.{IsSoundCluster}
 use Rattle.tdf_fixed.specs.declared.raw.Raw.{Raw}
-use Rattle.tdf_sim_split.specs.Laws.{AreSound, TextsBeginSound}
-use Rattle.tdf_streams.proofs.Api.{first_record, some_same, text_has_lists}
+use Rattle.tdf_sim_split.specs.Laws.{TextsBeginSound}
+use Rattle.tdf_sim_split.specs.Snapshots.{HasFitCells, SaysOthers, TextsAreSoundStarts}
+use Rattle.tdf_streams.proofs.Api.{first_record, some_same, text_attributes, text_has_lists}
 use Rattle.tdf_streams.specs.Laws.{HasRecord}
-use Rattle.tdf_streams.specs.Periods.{IsWholeRecord, PeriodRecord, period_record}
+use Rattle.tdf_streams.specs.Periods.{HasAllowedRates, IsWholeRecord, PeriodRecord, period_record}
 
 -- a cluster of many, one after the other
 first_at : (f : ℕ × First → ClusterAt) (k : ℕ) (firsts : List First) (n : ℕ) (c : ClusterAt) → slice_get (map f (enumerate_from k firsts)) n ≡ Some c → (first : First) × (slice_get firsts n ≡ Some first) × (c ≡ f (k + n, first))
@@ -42,7 +49,7 @@ first_at f k (x ∷ firsts) (suc n) c at =
     let z : k + 1 + n ≡ k + suc n = omega arith in
     (rest.0, rest.1, rest.2 ∙ ap (λ j. f (j, rest.0)) z)
 
-none_read : (n m : ℕ) → slice_index_or (replicate {A = List Raw} n []) m [] ≡ []
+pub none_read : (n m : ℕ) → slice_index_or (replicate {A = List Raw} n []) m [] ≡ []
 none_read zero m = refl
 none_read (suc n) zero = refl
 none_read (suc n) (suc m) = none_read n m
@@ -98,6 +105,10 @@ module _ (model : PureTree) (flat : Flat) (is : IsFlatOf model flat) (limits : A
     none = λ m other. none_read (length flat.tables.actors) m;
   }
 
+-- how an instance of a block of processes starts
+abbrev starting : Flat → BlockRowOf → FrameState
+starting flat row = record { cells = start_cells flat.checked row.block; rates = start_rates flat.checked row.block }
+
 pub texts_begin_sound : TextsBeginSound
 texts_begin_sound model flat firsts ahead turns is limits plans told = record {
   each = λ n c at. (
@@ -105,4 +116,36 @@ texts_begin_sound model flat firsts ahead turns is limits plans told = record {
       let z : 0 + n ≡ n = omega arith in
       let made : c ≡ first_cluster model flat (n + 1) x.0 (slice_index_or ahead n []) = x.2 ∙ ap (λ k. first_cluster model flat (k + 1) x.0 (slice_index_or ahead k [])) z in
       subst (IsSoundCluster flat (n + 1)) (sym made) (cluster_sound model flat is limits (n + 1) x.0 (plans n x.0 x.1) (slice_index_or ahead n []) (told_at ahead n told)));
+}
+
+-- and so in all
+
+pub texts_are_sound : BodiesKeepCells → StartsFit → TextsAreSoundStarts
+texts_are_sound keep starts model flat firsts ahead turns is checked limits plans told = record {
+  sound = texts_begin_sound model flat firsts ahead turns is limits plans told;
+  others = λ n c at. (
+      let x = first_at (λ f. first_cluster model flat (f.0 + 1) f.1 (slice_index_or ahead f.0 [])) 0 firsts n c at in
+      let z : 0 + n ≡ n = omega arith in
+      let made : c ≡ first_cluster model flat (n + 1) x.0 (slice_index_or ahead n []) = x.2 ∙ ap (λ k. first_cluster model flat (k + 1) x.0 (slice_index_or ahead k [])) z in
+      let own = subst (All (IsOfCluster flat.tables (n + 1))) (sym (plans n x.0 x.1).attrs_are) (text_attributes flat (n + 1) limits).own in
+      subst (λ (d : ClusterAt). SaysOthers model flat (n + 1) d.begun) (sym made)
+      (text_others model flat limits (n + 1) x.0.attrs.rows (λ i a there. all_at (IsOfCluster flat.tables (n + 1)) x.0.attrs.rows i a own there)));
+  cells = λ n c at. (
+      let x = first_at (λ f. first_cluster model flat (f.0 + 1) f.1 (slice_index_or ahead f.0 [])) 0 firsts n c at in
+      let z : 0 + n ≡ n = omega arith in
+      let made : c ≡ first_cluster model flat (n + 1) x.0 (slice_index_or ahead n []) = x.2 ∙ ap (λ k. first_cluster model flat (k + 1) x.0 (slice_index_or ahead k [])) z in
+      let allowed = subst (All (HasAllowedRates flat)) (sym (plans n x.0 x.1).attrs_are) (text_attributes flat (n + 1) limits).allowed in
+      subst (λ (d : ClusterAt). HasFitCells flat d.begun.cells) (sym made) (text_fits keep starts model flat checked (n + 1) x.0.attrs.rows allowed));
+  side = record {
+    waiting = (none_at_start flat).1;
+    delta = length-replicate (length flat.tables.events) false;
+    rates = λ n row f row_at f_at. ap (λ (x : FrameState). x.rates) (sym (some_same _ f
+        (sym (slice_get-map (starting flat) flat.tables.blocks n ∙ ap (option_map (starting flat)) row_at) ∙ f_at)));
+    cells = λ n row f row_at f_at. subst (λ (x : FrameState). CellsFit flat.checked row.block x.cells) (some_same _ f
+        (sym (slice_get-map (starting flat) flat.tables.blocks n ∙ ap (option_map (starting flat)) row_at) ∙ f_at)) (starts model flat.checked row.block checked);
+    until = λ event time at. absurd (let no : None ≡ Some time = sym ((none_at_start flat).0.none event) ∙ at in absurd cc);
+    none = λ zero_time. (none_at_start flat).0;
+    first = λ zero_time. refl;
+  };
+  left = omega arith;
 }

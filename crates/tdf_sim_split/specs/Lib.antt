@@ -1,3 +1,4 @@
 pub mod Alike
 pub mod Following
 pub mod Laws
+pub mod Snapshots

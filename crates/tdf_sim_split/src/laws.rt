@@ -1,8 +1,13 @@
 //! What holds of histories that go on: each function here only carries its clauses.
 
 ghost use Rattle.tdf_sim_split.specs.Laws.{HistoryGoesOnFrom, TextsBeginSound};
+ghost use Rattle.tdf_sim_split.specs.Snapshots.{SnapshotsAreSoundStarts, SnapshotsAreValid, SnapshotsGoOn, TextsAreSoundStarts};
 
-use tdf_exec_layout::law_edges;
+use tdf_balance::law_counts;
+use tdf_dynamic_values::law_one_table;
+use tdf_exec_layout::{law_edge_formats, law_edges};
+use tdf_expr_laws::{law_cells, law_processes};
+use tdf_schedule::law_plans;
 use tdf_streams_onward::{law_enough, law_onward};
 
 /// A history from a world that goes on from what another history came to is told answers where that one is, ends as it does, and
@@ -15,7 +20,25 @@ pub fn law_goes_on()
     law_enough();
 }
 
-/// A run from its text begins with sound clusters.
+/// A run from its text begins with sound clusters, and it can be saved.
 pub fn law_sound()
-    ensures { TextsBeginSound }
-{}
+    ensures clusters { TextsBeginSound }
+    ensures start { TextsAreSoundStarts }
+{
+    law_cells();
+}
+
+/// The snapshot of a run has states that its clusters and its event side can go on from, and the world that it says, under plans for
+/// the clusters, goes on from the world of the run, and can be saved again.
+pub fn law_saved_goes_on()
+    ensures valid { SnapshotsAreValid }
+    ensures on { SnapshotsGoOn }
+    ensures again { SnapshotsAreSoundStarts }
+{
+    law_counts();
+    law_one_table();
+    law_edge_formats();
+    law_plans();
+    law_processes();
+    law_cells();
+}

@@ -13,7 +13,6 @@ use Rattle.tdf_bind_invariants.specs.Limits.{AreWithinLimits}
 use Rattle.tdf_dynamic.specs.Laws.{BoundariesHaveOne}
 use Rattle.tdf_dynamic_plans.specs.Attributes.{clusters_of}
 use Rattle.tdf_events.specs.Side.{SideOf}
-use Rattle.tdf_events.specs.State.{kernel_state_of}
 use Rattle.tdf_fixed.specs.declared.raw.Raw.{Raw}
 use Rattle.tdf_lang_tree.specs.Kept.{IsKept}
 use Rattle.tdf_lang_tree.specs.Pure.{PureTree}
@@ -27,7 +26,7 @@ use Rattle.tdf_sim_history.specs.Rules.{rules_of}
 use Rattle.tdf_sim_history.specs.Telling.{state_as, untold, world_untold}
 use Rattle.tdf_sim_history.specs.World.{ClusterAt, World}
 use Rattle.tdf_sim_notes.specs.Ending.{end_of}
-use Rattle.tdf_sim_resumed.specs.Snapshot.{AreSavedClusters, IsRowsFrom, IsSavedCluster, IsSavedColumn, IsSnapshot, later_of, shown_until, stamp_of_cell, stamps_between}
+use Rattle.tdf_sim_resumed.specs.Snapshot.{AreSavedClusters, IsRowsFrom, IsSavedCluster, IsSavedColumn, IsSavedSide, IsSnapshot, later_of, shown_until, stamp_of_cell, stamps_between}
 use Rattle.tdf_sim_resumed.specs.Starting.{Tracked, cluster_of_port, tracked_of, tracked_port, tracked_signal}
 use Rattle.tdf_sim_unique.proofs.Telling.{ended_bare}
 use Rattle.tdf_sim_unique.specs.PartLaws.{AnswersComeToTheSame, AnswersHaveSnapshots, AreToldAlike, ComeToTheSame}
@@ -95,8 +94,8 @@ module _ (model : PureTree) (flat : Flat) where
   later_bare s (Some x) None = refl
   later_bare s (Some x) (Some number) = refl
 
-  saved_bare : (number : ℕ) (h : ClusterAt) (s : ClusterStateOf) → IsSavedCluster model flat number h s → IsSavedCluster model flat number (untold h) s
-  saved_bare number h s is = record {
+  saved_bare : (number time : ℕ) (h : ClusterAt) (s : ClusterStateOf) → IsSavedCluster model flat number time h s → IsSavedCluster model flat number time (untold h) s
+  saved_bare number time h s is = record {
     start = is.start;
     play = is.play;
     steps = is.steps;
@@ -105,10 +104,12 @@ module _ (model : PureTree) (flat : Flat) where
     stands = is.stands;
     modules = is.modules;
     edges = is.edges;
+    done = is.done;
+    own = is.own;
   }
 
-  saved_told : (number : ℕ) (h : ClusterAt) (s : ClusterStateOf) → IsSavedCluster model flat number (untold h) s → IsSavedCluster model flat number h s
-  saved_told number h s is = record {
+  saved_told : (number time : ℕ) (h : ClusterAt) (s : ClusterStateOf) → IsSavedCluster model flat number time (untold h) s → IsSavedCluster model flat number time h s
+  saved_told number time h s is = record {
     start = is.start;
     play = is.play;
     steps = is.steps;
@@ -117,6 +118,8 @@ module _ (model : PureTree) (flat : Flat) where
     stands = is.stands;
     modules = is.modules;
     edges = is.edges;
+    done = is.done;
+    own = is.own;
   }
 
 -- the samples of a column, where the cells are the same
@@ -184,7 +187,7 @@ module _ (law : BoundariesHaveOne) (model : PureTree) (flat : Flat) (one other :
     events : w.events ≡ v.events
     events = ap (λ (u : World SideOf). u.events) worlds
 
-    clusters : AreSavedClusters model flat v s.clusters
+    clusters : AreSavedClusters model flat stop v s.clusters
     clusters = record {
       same = snapshot.clusters.same ∙ by_bare length (λ cs. length-map cs untold) w v worlds;
       each = λ n h c at on. (
@@ -192,7 +195,7 @@ module _ (law : BoundariesHaveOne) (model : PureTree) (flat : Flat) (one other :
           let g = get_inside w.clusters n (omega (arith, i, l)) in
           let bare : untold g.0 ≡ untold h = some_same (untold g.0) (untold h) (sym (slice_get-map untold w.clusters n ∙ ap (option_map untold) g.1)
           ∙ ap (λ (u : World SideOf). slice_get u.clusters n) worlds ∙ slice_get-map untold v.clusters n ∙ ap (option_map untold) at) in
-          saved_told model flat (n + 1) h c (subst (λ (x : ClusterAt). IsSavedCluster model flat (n + 1) x c) bare (saved_bare model flat (n + 1) g.0 c (snapshot.clusters.each n g.0 c g.1 on))));
+          saved_told model flat (n + 1) stop h c (subst (λ (x : ClusterAt). IsSavedCluster model flat (n + 1) stop x c) bare (saved_bare model flat (n + 1) stop g.0 c (snapshot.clusters.each n g.0 c g.1 on))));
     }
 
     abbrev rows : ℕ
@@ -248,7 +251,7 @@ module _ (law : BoundariesHaveOne) (model : PureTree) (flat : Flat) (one other :
       used_is = snapshot.used_is ∙ ap (λ n. budget - n) left;
       budget_is = snapshot.budget_is;
       clusters = clusters;
-      side = snapshot.side ∙ ap kernel_state_of events;
+      side = subst (λ (x : SideOf). IsSavedSide flat stop x s.kernel) events snapshot.side;
       columns = record { rows = rows; rows_are = rows_are; same = snapshot.columns.same; each = λ n row c at on. column n row c at (snapshot.columns.each n row c at on) };
     }
 

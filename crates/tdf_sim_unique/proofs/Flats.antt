@@ -55,8 +55,8 @@ module _ (model : PureTree) (a : Flat) (y : Checked) (same : AreSame a.checked y
       answers = answers_same model a y same (rules_of model a) (rules_of model (with_bodies a y)) start start stop (rules_same model a y same) refl;
     }
 
-  cluster_same : (number : ℕ) (h : ClusterAt) (s : ClusterStateOf) → IsSavedCluster model a number h s → IsSavedCluster model (with_bodies a y) number h s
-  cluster_same number h s is = record {
+  cluster_same : (number time : ℕ) (h : ClusterAt) (s : ClusterStateOf) → IsSavedCluster model a number time h s → IsSavedCluster model (with_bodies a y) number time h s
+  cluster_same number time h s is = record {
     start = is.start;
     play = is.play;
     steps = is.steps;
@@ -65,6 +65,8 @@ module _ (model : PureTree) (a : Flat) (y : Checked) (same : AreSame a.checked y
     stands = subst (λ (net : Net (List ℤ) Raw PeriodInfo). Stands net h.old h.now (run_in h).reads is.steps is.play) (net_same model a y same number h.begun) is.stands;
     modules = is.modules;
     edges = is.edges;
+    done = is.done;
+    own = is.own;
   }
 
   later_same : (s : ColumnStart) (x : Option Tracked) (driver : Option ℕ) → later_of model a s x driver ≡ later_of model (with_bodies a y) s x driver
@@ -89,8 +91,19 @@ module _ (model : PureTree) (a : Flat) (y : Checked) (same : AreSame a.checked y
     time_is = is.time_is;
     used_is = is.used_is;
     budget_is = is.budget_is;
-    clusters = record { same = is.clusters.same; each = λ n h c at there. cluster_same (n + 1) h c (is.clusters.each n h c at there) };
-    side = is.side;
+    clusters = record { same = is.clusters.same; each = λ n h c at there. cluster_same (n + 1) time h c (is.clusters.each n h c at there) };
+    side = record {
+      is = is.side.is;
+      before = record {
+        values = is.side.before.values;
+        frames = is.side.before.frames;
+        times = is.side.before.times;
+        triggered = is.side.before.triggered;
+        waiting = is.side.before.waiting;
+        none = is.side.before.none;
+        idle = is.side.before.idle;
+      };
+    };
     columns = record {
       rows = is.columns.rows;
       rows_are = subst (λ (c : Cells). IsRowsFrom c time is.columns.rows) (run_same start time) is.columns.rows_are;

@@ -18,7 +18,7 @@ pub returns-clause-ready : goal.returns-clause-ready
 returns-clause-ready c =
     let none : c.in_ok-since.since.items ≡ replicate (length c.in_ok-clusters.clusters.items) 0 = search rules in
     ready_kept c.args.flat.now c.args.firsts.items c.in_ok-clusters.clusters.items c.from_parts.result c.from_parts.ensures.clusters c.in_ok-since.since.items c.from_parts.ensures.since none
-    c.in_ok-kernel.kernel c.from_parts.ensures.kernel c.in_ok-kernel.ensures.side
+    c.in_ok-clusters.ensures c.in_ok-kernel.kernel c.from_parts.ensures.kernel c.in_ok-kernel.ensures.side
 
 pub returns-clause-side : goal.returns-clause-side
 returns-clause-side c = side_kept c.args.flat.now c.from_parts.result c.in_ok-kernel.kernel c.from_parts.ensures.kernel c.in_ok-kernel.ensures.side
