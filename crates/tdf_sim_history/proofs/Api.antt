@@ -12,8 +12,9 @@ pub use Rattle.tdf_sim_history.proofs.Clusters.{continues_refl, continues_trans,
 pub use Rattle.tdf_sim_history.proofs.Staying.{cells_agree, port_cluster, signal_cell_stays}
 pub use Rattle.tdf_sim_history.proofs.Worlds.{all_refl, all_trans, firings_lead, go_on, instant_leads}
 pub use Rattle.tdf_sim_history.proofs.Leading.{AllBy, LeadsBy, all_itself, all_through, boundaries_by, firing_by, firings_by, instant_by, then_by, turns_by}
-pub use Rattle.tdf_sim_history.proofs.Known.{done_before, whole_sum}
+pub use Rattle.tdf_sim_history.proofs.Known.{done_before, sample_value, whole_sum}
 pub use Rattle.tdf_sim_history.proofs.Positions.{column_push, column_total, held_long, some_periods, stamps_total}
 pub use Rattle.tdf_sim_history.proofs.Staying.{marks_are_settled}
 pub use Rattle.tdf_sim_history.proofs.Records.{last_record, later_at, past_of, record_at, records_push}
-pub use Rattle.tdf_sim_history.proofs.Stamps.{AreRising, first_time, stamps_chain, stamps_early, stamps_late}
+pub use Rattle.tdf_sim_history.proofs.Stamps.{first_time, stamps_chain, stamps_early, stamps_late}
+unfoldable pub use Rattle.tdf_sim_history.proofs.Stamps.{AreRising}

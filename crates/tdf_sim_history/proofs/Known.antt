@@ -82,7 +82,8 @@ module _ (model : PureTree) (flat : Flat) (number : ℕ) (c : ClusterAt) (has : 
     held_there : (j : ℕ) → j < length (held_by s) → (v : Raw) × (slice_get (held_by s) j ≡ Some v)
     held_there j low = get_inside (held_by s) j low
 
-    sample_value : (j : ℕ) → j < samples_done s port c → (v : Raw) × (sample_of s (periods_of c) port out known_here j ≡ Some v)
+    -- each of those that are done is there
+    pub sample_value : (j : ℕ) → j < samples_done s port c → (v : Raw) × (sample_of s (periods_of c) port out known_here j ≡ Some v)
     sample_value j low = elim (cases_lt j (length (held_by s))) [
       | inl early ↦ (let h = held_there j early in (h.0, rw (lt-ltb j (length (held_by s)) early) h.1))
       | inr late ↦ (

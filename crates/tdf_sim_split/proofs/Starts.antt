@@ -39,7 +39,7 @@ use Rattle.tdf_streams.specs.Laws.{HasRecord}
 use Rattle.tdf_streams.specs.Periods.{HasAllowedRates, IsWholeRecord, PeriodRecord, period_record}
 
 -- a cluster of many, one after the other
-first_at : (f : ℕ × First → ClusterAt) (k : ℕ) (firsts : List First) (n : ℕ) (c : ClusterAt) → slice_get (map f (enumerate_from k firsts)) n ≡ Some c → (first : First) × (slice_get firsts n ≡ Some first) × (c ≡ f (k + n, first))
+pub first_at : (f : ℕ × First → ClusterAt) (k : ℕ) (firsts : List First) (n : ℕ) (c : ClusterAt) → slice_get (map f (enumerate_from k firsts)) n ≡ Some c → (first : First) × (slice_get firsts n ≡ Some first) × (c ≡ f (k + n, first))
 first_at f k [] n c at = absurd cc
 first_at f k (x ∷ firsts) zero c at =
     let z : k ≡ k + 0 = omega arith in

@@ -70,7 +70,7 @@ taken_one m e (p ∷ old) ones =
     omega (arith, a, b, r, one)
 
 -- what is known in some number of steps is known in as many as there are firings
-enough_of : FiringsAreEnough → (model : PureTree) (flat : Flat) (number : ℕ) (begun : Start) (ps : List PeriodRecord) (reads : ℕ → List Raw) → AreWithinLimits flat → AreRecordsOf flat number begun ps
+pub enough_of : FiringsAreEnough → (model : PureTree) (flat : Flat) (number : ℕ) (begun : Start) (ps : List PeriodRecord) (reads : ℕ → List Raw) → AreWithinLimits flat → AreRecordsOf flat number begun ps
     → IsEnough (cluster_net model flat number begun) (record { periods = ps; reads = reads })
 enough_of enough model flat number begun [] reads limits records d m n t at = absurd records
 enough_of enough model flat number begun (first ∷ later) reads limits records d m n t at = enough model flat number begun first later reads limits records d m n t at

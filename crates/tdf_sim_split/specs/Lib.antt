@@ -1,4 +1,5 @@
 pub mod Alike
+pub mod Columns
 pub mod Following
 pub mod Laws
 pub mod Snapshots

@@ -1,5 +1,6 @@
 //! What holds of histories that go on: each function here only carries its clauses.
 
+ghost use Rattle.tdf_sim_split.specs.Columns.{ResumedBeginWithColumns, SavedColumnsAreValid, TextsBeginWithColumns};
 ghost use Rattle.tdf_sim_split.specs.Laws.{HistoryGoesOnFrom, TextsBeginSound};
 ghost use Rattle.tdf_sim_split.specs.Snapshots.{SnapshotsAreSoundStarts, SnapshotsAreValid, SnapshotsGoOn, TextsAreSoundStarts};
 
@@ -8,6 +9,7 @@ use tdf_dynamic_values::law_one_table;
 use tdf_exec_layout::{law_edge_formats, law_edges};
 use tdf_expr_laws::{law_cells, law_processes};
 use tdf_schedule::law_plans;
+use tdf_sim_resumed::law_resumed;
 use tdf_streams_onward::{law_enough, law_onward};
 
 /// A history from a world that goes on from what another history came to is told answers where that one is, ends as it does, and
@@ -41,4 +43,15 @@ pub fn law_saved_goes_on()
     law_plans();
     law_processes();
     law_cells();
+}
+
+/// The columns of a snapshot of a run from a start with sound columns are valid, where its clusters are at the same places under
+/// the plans that it says; a text begins with such columns, and so does a valid snapshot.
+pub fn law_columns()
+    ensures valid { SavedColumnsAreValid }
+    ensures text { TextsBeginWithColumns }
+    ensures resumed { ResumedBeginWithColumns }
+{
+    law_enough();
+    law_resumed();
 }

@@ -2,9 +2,9 @@
 //!
 //! There is no code here but laws, and the definitions are in `specs`.
 //!
-//! - `laws`: what holds of the history from a snapshot on.
+//! - `laws`: what holds of the history from a snapshot on, and of the columns that a snapshot has.
 #![tactic(auto)]
 
 mod laws;
 
-pub use laws::{law_goes_on, law_saved_goes_on, law_sound};
+pub use laws::{law_columns, law_goes_on, law_saved_goes_on, law_sound};
