@@ -1,15 +1,19 @@
 -- The streams of a cluster that goes on are those of the whole run.
-use Rattle.std.proofs.Common.{◌≡◌, ◌≢◌, ◌∙◌, ◌⊎◌, ℕ, ℤ, zero, suc, ◌+◌, ◌-◌, ◌*◌, ◌<◌, ◌≤◌, Bool, true, false, nat_eq, if◌then◌else◌, Option, Some, None, option_map, List, [], ◌∷◌, ◌++◌, append_assoc, append-nil, length, slice_get, slice_index, slice_index_or, refl, sym, ap, subst, inl, inr, arith}
+use Rattle.std.proofs.Common.{◌≡◌, ◌≢◌, ◌∙◌, ◌⊎◌, ℕ, ℤ, zero, suc, ◌+◌, ◌-◌, ◌*◌, ◌/◌, ◌%◌, ◌<◌, ◌≤◌, Bool, true, false, nat_eq, if◌then◌else◌, Option, Some, None, option_map, List, [], ◌∷◌, ◌++◌, append_assoc, append-nil, length, slice_get, slice_index, slice_index_or, refl, sym, ap, subst, inl, inr, arith}
+use Rattle.std.proofs.Math.Nat.{add-mul, mul-add-div_right, mul-add-mod_self_right}
 use Rattle.std.proofs.lemmas.Bool.{cases_eq, cases_lt, eq-eqb, ne_eqb}
 use Rattle.std.proofs.lemmas.List.Sums.{sum_by-cons, sum_by_push}
 use Rattle.std.proofs.lemmas.Option.{get_or_from_slice_get, slice_get_past, slice_get_within}
 use Rattle.std.specs.List.{sum_by}
+use Rattle.std.specs.Option.{option_and_then}
 use Rattle.std.specs.Prelude.{All, unwrap_or}
 use Rattle.tdf_bind.specs.Flat.{IsFlatOf}
 use Rattle.tdf_bind.specs.declared.model.Flat.{Flat}
 use Rattle.tdf_bind_invariants.specs.Limits.{AreWithinLimits}
+use Rattle.tdf_bind_connections.specs.declared.modules.PortRow.{PortRow}
 use Rattle.tdf_bind_tables.specs.FlatTables.{FlatTablesOf}
 use Rattle.tdf_dynamic_plans.specs.Attributes.{AttrsOf}
+use Rattle.tdf_dynamic_plans.specs.Rates.{port_rate}
 use Rattle.tdf_exec_layout.specs.Wires.{SinksHaveOne}
 use Rattle.tdf_exec_layout.specs.Wiring.{Reads}
 use Rattle.tdf_fixed.specs.declared.raw.Raw.{Raw}
@@ -19,6 +23,7 @@ use Rattle.tdf_lang_tree.specs.Pure.{PureTree}
 use Rattle.tdf_schedule.specs.Plan.{done}
 use Rattle.tdf_sim_history.proofs.Api.{last_record, past_of, record_at}
 use Rattle.tdf_sim_history.specs.Answers.{last_cells}
+use Rattle.tdf_sim_history.specs.Cells.{outputs_done}
 use Rattle.tdf_sim_history.specs.Instant.{activations, acts_now, edge_read_from, periods_of, run_in, sample_taken}
 use Rattle.tdf_sim_history.specs.World.{ClusterAt}
 use Rattle.tdf_sim_history.specs.WorldLaws.{AreRecordsOf}
@@ -32,9 +37,10 @@ use Rattle.tdf_streams.specs.Laws.{ClusterNet, ClusterRun, run_from}
 use Rattle.tdf_streams.specs.Net.{Net, Past, Period, Run, Turn, count, taken}
 use Rattle.tdf_streams.specs.Periods.{PeriodInfo, PeriodRecord}
 use Rattle.tdf_streams.specs.Places.{actor_kind, kind_of_row, reader_at}
+use Rattle.tdf_streams.specs.Signals.{output_at_spot, outputs_in, port_output, rate_in}
 use Rattle.tdf_streams.specs.Stands.{KeepsReads, Play}
-use Rattle.tdf_streams.specs.Streams.{entered, known, place, spot, state_before}
-use Rattle.tdf_streams_onward.proofs.Api.{before_plain, entered_not, map_id, plain_state, same_state, sum_after}
+use Rattle.tdf_streams.specs.Streams.{Spot, entered, find, known, place, spot, state_before}
+use Rattle.tdf_streams_onward.proofs.Api.{After as LiesAfter, Inside as LiesInside, before_plain, entered_not, lies, lies_none, map_id, plain_state, same_state, sum_after}
 use Rattle.tdf_streams_onward.specs.Laws.{BodiesGoByTable, FiringsAreEnough, GoesOn, StreamsGoOn, net_from, table_of, whole_run}
 use Rattle.tdf_streams_onward.specs.Onward.{GoOnAs, IsEnough, acts_before, all_known, started, taken_before}
 
@@ -300,3 +306,101 @@ module _ (by_table : BodiesGoByTable) (goes_on : StreamsGoOn) (enough : FiringsA
         ∙ state_same
         ∙ (λ i. plain_state (cluster_net model flat number (sym follows.begun i)) (known (cluster_net model flat number (sym follows.begun i)) (record { periods = sym has.whole i; reads = long_reads }) (firings (sym has.whole i))) m (total h))
         ∙ sym (last_of (cluster_net model flat number h.begun) (known (cluster_net model flat number h.begun) (run_in h) (firings (periods_of h))) h sound_h)
+
+  -- ---- the outputs of a port
+
+  module _ (port : PortRow) (out : ℕ) where
+    -- those of the period in which the part begins that were made before
+    abbrev made : ℕ
+    made = acts_now c port.«module» * rate_in port c.now
+
+    rate_same : rate_in port b.now ≡ rate_in port c.now
+    rate_same = ap (λ (i : PeriodInfo). port_rate i.table port) resumed.rest.info
+
+    left : made + outputs_in port b.now ≡ outputs_in port c.now
+    left =
+        let e : outputs_in port b.now ≡ slice_index b.now.counts port.«module» * rate_in port c.now = ap (λ r. slice_index b.now.counts port.«module» * r) rate_same in
+        let d = add-mul (acts_now c port.«module») (slice_index b.now.counts port.«module») (rate_in port c.now) in
+        let k : (acts_now c port.«module» + slice_index b.now.counts port.«module») * rate_in port c.now ≡ outputs_in port c.now = ap (λ n. n * rate_in port c.now) (resumed.rest.counts port.«module») in
+        omega (arith, e, d, k)
+
+    done_in : HavePeriods c b h g → outputs_done port h ≡ outputs_done port c + outputs_done port g
+    done_in (Inside old now old_g now_g from from_g low entries) =
+        let e : outputs_done port h ≡ sum_by (outputs_in port) c.old + acts_now h port.«module» * rate_in port c.now = (λ i. sum_by (outputs_in port) (old i) + acts_now h port.«module» * rate_in port (now i)) in
+        let f : outputs_done port g ≡ sum_by (outputs_in port) [] + acts_now g port.«module» * rate_in port c.now =
+        (λ i. sum_by (outputs_in port) (old_g i) + acts_now g port.«module» * rate_in port (now_g i)) ∙ ap (λ r. sum_by (outputs_in port) [] + acts_now g port.«module» * r) rate_same in
+        let none : sum_by (outputs_in port) [] ≡ 0 = refl in
+        let a = acts_are port.«module» in
+        let t = resumed.turns port.«module» in
+        let s = ap (λ (l : List PeriodRecord). sum_by (count port.«module») l) old in
+        let u = ap (λ (l : List PeriodRecord). sum_by (count port.«module») l) old_g in
+        let v : sum_by (count {I = PeriodInfo} port.«module») [] ≡ 0 = refl in
+        let n : acts_now h port.«module» ≡ acts_now c port.«module» + acts_now g port.«module» = omega (arith, a, t, s, u, v) in
+        let d = add-mul (acts_now c port.«module») (acts_now g port.«module») (rate_in port c.now) in
+        let m = ap (λ k. k * rate_in port c.now) n in
+        omega (arith, e, f, none, d, m)
+    done_in (Later between old old_g now from from_g) =
+        let e : outputs_done port h ≡ sum_by (outputs_in port) (c.old ++ c.now ∷ between) + acts_now h port.«module» * rate_in port h.now = (λ i. sum_by (outputs_in port) (old i) + acts_now h port.«module» * rate_in port h.now) in
+        let f : outputs_done port g ≡ sum_by (outputs_in port) (b.now ∷ between) + acts_now g port.«module» * rate_in port h.now = (λ i. sum_by (outputs_in port) (old_g i) + acts_now g port.«module» * rate_in port (now i)) in
+        let same : acts_now g port.«module» ≡ acts_now h port.«module» = (λ i. done (follows.entries i) (follows.place i) port.«module» - done (follows.entries i) ((from_g ∙ sym from) i) port.«module») in
+        let m = ap (λ k. k * rate_in port h.now) same in
+        let s = sum_after (outputs_in port) c.old between c.now b.now made left in
+        omega (arith, e, f, m, s)
+
+    -- the whole has those that were made before, and those of the part
+    pub outputs_are : outputs_done port h ≡ outputs_done port c + outputs_done port g
+    outputs_are = done_in follows.periods
+
+    output_all : (n : ℕ) → port_output (b.now ∷ has.later) port out part_all n ≡ port_output (c.old ++ c.now ∷ has.later) port out whole_all (outputs_done port c + n)
+    unfolding port_output
+    output_all n = go (find (outputs_in port) [] (b.now ∷ has.later) n) refl
+      where
+        whole_at : ℕ → Option (Spot PeriodInfo)
+        whole_at k = find (outputs_in port) [] (c.old ++ c.now ∷ has.later) k
+
+        some_rate : n < outputs_in port b.now → 0 < rate_in port c.now
+        some_rate below = positive (slice_index b.now.counts port.«module») (rate_in port c.now) (let e : outputs_in port b.now ≡ slice_index b.now.counts port.«module» * rate_in port c.now = ap (λ r. slice_index b.now.counts port.«module» * r) rate_same in omega (arith, below, e))
+          where
+            positive : (x y : ℕ) → n < x * y → 0 < y
+            positive x zero l = (let z : x * 0 ≡ 0 = grind arith in absurd (omega (arith, l, z)))
+            positive x (suc y) l = omega arith
+
+        -- an output of the period in which the part begins
+        inside : (s : Spot PeriodInfo) → n < outputs_in port b.now → s ≡ spot [] b.now n → whole_at (outputs_done port c + n) ≡ Some (spot c.old c.now (made + n))
+            → output_at_spot port out part_all s ≡ option_and_then (output_at_spot port out whole_all) (whole_at (outputs_done port c + n))
+        inside s below is found =
+            let some = some_rate below in
+            let d : (made + n) / rate_in port c.now ≡ acts_now c port.«module» + n / rate_in port c.now = mul-add-div_right some (acts_now c port.«module») n in
+            let r : (made + n) % rate_in port c.now ≡ n % rate_in port c.now = mul-add-mod_self_right (acts_now c port.«module») (rate_in port c.now) n in
+            let t = resumed.turns port.«module» in
+            let z : acts port.«module» + (0 + n / rate_in port c.now) ≡ sum_by (count port.«module») c.old + (made + n) / rate_in port c.now = omega (arith, d, t) in
+            ap (output_at_spot port out part_all) is
+            ∙ ap (λ k. option_map (λ (u : Turn (List ℤ) Raw). u.outputs out (n % k)) (part_all port.«module» (sum_by (count {I = PeriodInfo} port.«module») [] + n / k))) rate_same
+            ∙ ap (option_map (λ (u : Turn (List ℤ) Raw). u.outputs out (n % rate_in port c.now))) (on.turns port.«module» (0 + n / rate_in port c.now) ∙ ap (whole_all port.«module») z)
+            ∙ ap (λ k. option_map (λ (u : Turn (List ℤ) Raw). u.outputs out k) (whole_all port.«module» (sum_by (count port.«module») c.old + (made + n) / rate_in port c.now))) (sym r)
+            ∙ sym (ap (option_and_then (output_at_spot port out whole_all)) found)
+
+        -- or of a later one
+        after : (s : Spot PeriodInfo) (more : List PeriodRecord) (p : PeriodRecord) (k : ℕ) → s ≡ spot (b.now ∷ more) p k → whole_at (outputs_done port c + n) ≡ Some (spot (c.old ++ c.now ∷ more) p k)
+            → output_at_spot port out part_all s ≡ option_and_then (output_at_spot port out whole_all) (whole_at (outputs_done port c + n))
+        after s more p k is found =
+            let a = sum_after (count port.«module») c.old more c.now b.now (slice_index play.turns port.«module») (rest_counts port.«module») in
+            let z : acts port.«module» + (sum_by (count port.«module») (b.now ∷ more) + k / rate_in port p) ≡ sum_by (count port.«module») (c.old ++ c.now ∷ more) + k / rate_in port p = omega (arith, a) in
+            ap (output_at_spot port out part_all) is
+            ∙ ap (option_map (λ (u : Turn (List ℤ) Raw). u.outputs out (k % rate_in port p))) (on.turns port.«module» (sum_by (count port.«module») (b.now ∷ more) + k / rate_in port p) ∙ ap (whole_all port.«module») z)
+            ∙ sym (ap (option_and_then (output_at_spot port out whole_all)) found)
+
+        go : (o : Option (Spot PeriodInfo)) → find (outputs_in port) [] (b.now ∷ has.later) n ≡ o → option_and_then (output_at_spot port out part_all) o ≡ option_and_then (output_at_spot port out whole_all) (whole_at (outputs_done port c + n))
+        go None at = sym (ap (option_and_then (output_at_spot port out whole_all)) (lies_none (outputs_in port) c.old has.later c.now b.now made n left at))
+        go (Some s) at = elim (lies (outputs_in port) c.old has.later c.now b.now made n s left at) [
+          | LiesInside below is found ↦ inside s below is found
+          | LiesAfter more p k above is found ↦ after s more p k is found
+        ]
+
+    -- an output of the part is one of the whole
+    pub output_same : (n : ℕ) → port_output (periods_of g) port out (known (cluster_net model flat number g.begun) (run_in g) (firings (periods_of g))) n
+        ≡ port_output (periods_of h) port out (known (cluster_net model flat number h.begun) (run_in h) (firings (periods_of h))) (outputs_done port c + n)
+    output_same n =
+        (λ i. port_output (has.part i) port out (known (cluster_net model flat number (follows.begun_on i)) (record { periods = has.part i; reads = rest_reads }) (firings (has.part i))) n)
+        ∙ output_all n
+        ∙ (λ i. port_output (sym has.whole i) port out (known (cluster_net model flat number (sym follows.begun i)) (record { periods = sym has.whole i; reads = long_reads }) (firings (sym has.whole i))) (outputs_done port c + n))

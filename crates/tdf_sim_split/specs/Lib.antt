@@ -2,4 +2,5 @@ pub mod Alike
 pub mod Columns
 pub mod Following
 pub mod Laws
+pub mod Parts
 pub mod Snapshots

@@ -2,13 +2,17 @@
 
 ghost use Rattle.tdf_sim_split.specs.Columns.{ResumedBeginWithColumns, SavedColumnsAreValid, TextsBeginWithColumns};
 ghost use Rattle.tdf_sim_split.specs.Laws.{HistoryGoesOnFrom, TextsBeginSound};
+ghost use Rattle.tdf_sim_split.specs.Parts.{RunsSplit};
 ghost use Rattle.tdf_sim_split.specs.Snapshots.{SnapshotsAreSoundStarts, SnapshotsAreValid, SnapshotsGoOn, TextsAreSoundStarts};
 
 use tdf_balance::law_counts;
+use tdf_bind_invariants::law_formats;
+use tdf_dynamic::law_one_answer;
 use tdf_dynamic_values::law_one_table;
 use tdf_exec_layout::{law_edge_formats, law_edges};
 use tdf_expr_laws::{law_cells, law_processes};
 use tdf_schedule::law_plans;
+use tdf_sim_history::law_samples_there;
 use tdf_sim_resumed::law_resumed;
 use tdf_streams_onward::{law_enough, law_onward};
 
@@ -54,4 +58,17 @@ pub fn law_columns()
 {
     law_enough();
     law_resumed();
+}
+
+/// A run that is saved and one that goes on from the snapshot are together one unbroken run: they end alike, and what both write is what
+/// it writes.
+pub fn law_parts()
+    ensures { RunsSplit }
+{
+    law_formats();
+    law_one_answer();
+    law_edges();
+    law_onward();
+    law_enough();
+    law_samples_there();
 }
