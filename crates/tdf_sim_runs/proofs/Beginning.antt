@@ -7,6 +7,9 @@ use Rattle.std.proofs.lemmas.List.{length-replicate}
 use Rattle.std.specs.Prelude.{slice_index, slice_index_or}
 use Rattle.tdf_dynamic_plans.specs.Attributes.{clusters_of}
 use Rattle.tdf_dynamic_first.specs.declared.first.First.{First}
+use Rattle.tdf_events.specs.Runnable.{AreOfSignals, signal_formats}
+use Rattle.tdf_sim_history.specs.Cells.{world_before, world_of}
+use Rattle.tdf_sim_history.specs.Instant.{RunFault}
 use Rattle.tdf_sim_instants.specs.Engine.{IsEngineOf, IsReadyAt}
 use Rattle.tdf_sim_instants.specs.InstantLaws.{IsModelOf}
 use Rattle.tdf_sim_instants.specs.Making.{HavePlans}
@@ -27,7 +30,7 @@ use Rattle.tdf_sim_refinement.proofs.Api.{cluster_there, all_starts_are_at, done
 use Rattle.tdf_streams.proofs.Api.{get_inside}
 use Rattle.tdf_sim_history.proofs.Api.{first_attributes, starts, last_record}
 use Rattle.tdf_sim_history.specs.TableLaws.{HaveAttributes}
-use Rattle.tdf_sim_history.specs.History.{history}
+use Rattle.tdf_sim_history.specs.History.{HistoryState, history}
 use Rattle.tdf_sim_runs.specs.Running.{CanGoOn, IsRunning}
 use Rattle.tdf_sim_runs.specs.declared.running.Running.{Running}
 use Rattle.tdf_sim_refinement.specs.Begun.{HaveBegun}
@@ -86,7 +89,7 @@ unfolding notes_to
 no_notes model flat start = refl
 
 module _ (flat : Flat) (firsts : List First) (e : Engine) (kind : TraceKind) (s t : Shown) (plans : HavePlans flat firsts) (begun : HaveBegun flat firsts e.clusters.items) (zeros : e.since.items ≡ replicate (length e.clusters.items) 0)
-    (side : side_of e.kernel ≡ start_side flat) (un : IsUnshown kind flat s) (shows : StartsShowing flat (clock_at 0 e.since.items e.clusters.items) s t) where
+    (side : side_of e.kernel ≡ start_side flat) (values : AreOfSignals (signal_formats flat) e.kernel.values) (un : IsUnshown kind flat s) (shows : StartsShowing flat (clock_at 0 e.since.items e.clusters.items) s t) where
   module _ (turns : ℕ) (model : PureTree) (of : IsModelOf model flat) where
     abbrev start : World SideOf
     start = start_world model flat firsts [] turns
@@ -147,6 +150,9 @@ module _ (flat : Flat) (firsts : List First) (e : Engine) (kind : TraceKind) (s 
         timed = record { each = λ n h there. (shown.begun n h there).after_old };
       };
       shown = subst (λ (w : World SideOf). IsShown model flat w 0 start t) (sym untold_is) shown;
+      fits = λ t low. (let z : 0 ≡ t = omega (arith, low) in
+          subst (λ k. AreOfSignals (signal_formats flat) (world_before model flat (rules_of model flat) (world_told [] start) k).events.values) z
+          (subst (AreOfSignals (signal_formats flat)) (ap (λ (x : SideOf). x.values) side ∙ sym (ap (λ (x : HistoryState (World SideOf) RunFault). (world_of x).events.values) (starts (world_engine model flat) 0 (world_told [] start)))) values));
       news_are = sym (no_notes model flat (world_told [] start));
     }
 

@@ -8,15 +8,16 @@ use Rattle.tdf_bind.specs.declared.model.Flat.{Flat}
 use Rattle.tdf_dynamic_first.specs.declared.first.First.{First}
 use Rattle.tdf_events.specs.Delta.{is_due as is_due_at, is_idle}
 use Rattle.tdf_events.specs.Kernel.{side_of}
+use Rattle.tdf_events.specs.Runnable.{AreOfSignals, signal_formats}
 use Rattle.tdf_events.specs.Side.{SideOf}
 use Rattle.tdf_events.specs.State.{resumed_side}
 use Rattle.tdf_lang_tree.specs.Pure.{PureTree}
 use Rattle.tdf_saved.specs.State.{SnapshotOf}
 use Rattle.tdf_sim_history.specs.Answers.{AreAnswers}
-use Rattle.tdf_sim_history.specs.Cells.{world_of}
+use Rattle.tdf_sim_history.specs.Cells.{world_before, world_of}
 use Rattle.tdf_sim_history.specs.Continuing.{HasToldCounts}
-use Rattle.tdf_sim_history.specs.History.{On, history}
-use Rattle.tdf_sim_history.specs.Instant.{is_cluster_due, is_due}
+use Rattle.tdf_sim_history.specs.History.{HistoryState, On, history}
+use Rattle.tdf_sim_history.specs.Instant.{RunFault, is_cluster_due, is_due}
 use Rattle.tdf_sim_history.specs.Rules.{is_side_due, rules_of, world_engine}
 use Rattle.tdf_sim_history.specs.Telling.{AreTold, told_more, world_told}
 use Rattle.tdf_sim_history.specs.Texts.{new_plans, left_by, notes_in, notes_to}
@@ -109,7 +110,7 @@ module _ (model : PureTree) (flat : Flat) (firsts : List First) (s : SnapshotOf)
         (or_left_off (not (is_idle (resumed_side flat s.time s.kernel))) (list_any (is_due_at 0) (resumed_side flat s.time s.kernel).notices.times) (side_off 0 some));
   }
 
-  module _ (good : IsGoodStart flat start) (e : Engine) (t : Shown) (at : AreAt model flat e.since.items start.clusters e.clusters.items) (side : side_of e.kernel ≡ start.events) (shown : IsShown model flat start s.time start t) where
+  module _ (good : IsGoodStart flat start) (e : Engine) (t : Shown) (at : AreAt model flat e.since.items start.clusters e.clusters.items) (side : side_of e.kernel ≡ start.events) (values : AreOfSignals (signal_formats flat) e.kernel.values) (shown : IsShown model flat start s.time start t) where
     -- all that runs is what the snapshot says
     pub runs_on : IsRunning model flat start s.time e (s.budget - s.used) t []
     runs_on = record {
@@ -130,5 +131,7 @@ module _ (model : PureTree) (flat : Flat) (firsts : List First) (s : SnapshotOf)
         timed = record { each = good.timed };
       };
       shown = subst (λ (w : World SideOf). IsShown model flat w s.time start t) (sym untold_is) shown;
+      fits = λ k low. subst (λ (w : World SideOf). AreOfSignals (signal_formats flat) (world_before model flat (rules_of model flat) w k).events.values) (sym untold_is)
+          (subst (AreOfSignals (signal_formats flat)) (ap (λ (x : SideOf). x.values) side ∙ sym (ap (λ (x : HistoryState (World SideOf) RunFault). (world_of x).events.values) (stays k low))) values);
       news_are = sym (ap (λ (w : World SideOf). notes_to model flat (rules_of model flat) w s.time) untold_is ∙ no_notes s.time (omega arith));
     }

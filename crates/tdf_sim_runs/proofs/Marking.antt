@@ -73,6 +73,7 @@ module _ (law : BoundariesHaveOne) (stands : ShownStandsBelow) (flat : Flat) (r 
     marks_run model start handed m run = record {
       going = run.going;
       shown = written_is_shown model flat (world_told run.going.ahead start) run.going.world r.from r.shown trace run.shown (λ cells old. (wrote cells old).stands) about;
+      fits = run.fits;
       news_are = run.news_are;
     }
 

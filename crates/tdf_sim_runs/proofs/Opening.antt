@@ -18,6 +18,7 @@ module _ (flat : Flat) (r : Running) (trace : TraceSeen) (rows : trace.rows ≡ 
   opens_run model start handed run = record {
     going = run.going;
     shown = written_is_shown model flat (world_told run.going.ahead start) run.going.world r.from r.shown trace run.shown (λ cells stands. subst (λ (x : RowsSeen). Stands cells x) (sym rows) stands) about;
+    fits = run.fits;
     news_are = run.news_are;
   }
 

@@ -7,6 +7,7 @@ use Rattle.tdf_bind_connections.specs.declared.drivers.SignalRow.{SignalRow}
 use Rattle.tdf_bind_connections.specs.declared.traces.TraceRow.{TraceRow}
 use Rattle.tdf_dynamic_first.specs.declared.first.First.{First}
 use Rattle.tdf_events.specs.Kernel.{KernelOf, IsKernelOf, side_of}
+use Rattle.tdf_events.specs.Runnable.{AreOfSignals, signal_formats}
 use Rattle.tdf_events.specs.Side.{SideOf}
 use Rattle.tdf_events.specs.State.{IsKernelState, resumed_side}
 use Rattle.tdf_exec.specs.Cluster.{ClusterOf, offset_in}
@@ -101,7 +102,7 @@ module _ (flat : Flat) (s : SnapshotOf) (x : Standing) (can : CanReopen flat) (t
 
   module _ (due : NoneIsDueBefore) (still : StandsStill) (law_good : ResumedAreGood) (kernel_is : IsKernelState flat s.time s.kernel) (fit : AreColumnStates (variables_of flat.tables) s.time s.columns)
       (e : Engine) (t : Shown) (since_are : e.since.items ≡ x.since.items) (clusters_are : e.clusters.items ≡ x.clusters.items) (side : side_of e.kernel ≡ resumed_side flat s.time s.kernel) (values : List Raw)
-      (values_are : values ≡ e.kernel.values) (shows : ShowsResumed flat (clock_in s x.since.items x.clusters.items) s.columns values x.rows t) where
+      (values_are : values ≡ e.kernel.values) (of_signals : AreOfSignals (signal_formats flat) e.kernel.values) (shows : ShowsResumed flat (clock_in s x.since.items x.clusters.items) s.columns values x.rows t) where
     engine_at : (model : PureTree) (firsts : List First) → IsModelOf model flat → ArePlansOf flat s firsts → AreAt model flat e.since.items (resumed_clusters model flat firsts s []) e.clusters.items
     engine_at model firsts of are =
         subst (λ l. AreAt model flat l (resumed_clusters model flat firsts s []) e.clusters.items) (sym since_are)
@@ -111,7 +112,7 @@ module _ (flat : Flat) (s : SnapshotOf) (x : Standing) (can : CanReopen flat) (t
     reopens model firsts of are =
         let valid = still_valid model firsts of are kernel_is fit in
         let good : IsGoodStart flat (resumed_world model flat firsts s []) = law_good model flat firsts s [] of.limits valid (All-nil (All HasToldCounts)) in
-        runs_on model flat firsts s due still valid good e t (engine_at model firsts of are) side
+        runs_on model flat firsts s due still valid good e t (engine_at model firsts of are) side of_signals
         (shows model firsts s of.is valid refl refl (sym (rows_are model firsts of are)) (sym (ap (λ (z : SideOf). z.values) side) ∙ sym values_are) (are_at model firsts of are))
 
     here : IsValid can.model flat plans.firsts s

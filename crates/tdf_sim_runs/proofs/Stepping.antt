@@ -1,12 +1,14 @@
 -- An instant of a run, and what its trace shows of it.
-use Rattle.std.proofs.Common.{◌≡◌, ◌∙◌, ℕ, zero, suc, ◌+◌, ◌-◌, ◌<◌, ◌≤◌, List, [], ◌++◌, Option, refl, sym, ap, subst, arith}
+use Rattle.std.proofs.Common.{◌≡◌, ◌∙◌, ℕ, zero, suc, ◌+◌, ◌-◌, ◌<◌, ◌≤◌, List, [], ◌++◌, Option, refl, sym, ap, subst, arith, inl, inr}
 use Rattle.std.proofs.lemmas.List.Elements.{All-append, All-nil, All-weaker}
 use Rattle.std.proofs.lemmas.Option.{slice_get_within}
 use Rattle.std.specs.Prelude.{All}
+use Rattle.std.proofs.lemmas.Bool.{cases_lt}
 use Rattle.tdf_base.specs.Limits.{time_end}
 use Rattle.tdf_convert.specs.Outputs.{OutputsOf}
 use Rattle.tdf_convert.specs.declared.outputs.Traced.{Traced}
 use Rattle.tdf_convert.specs.declared.outputs.Sent.{Sent}
+use Rattle.tdf_events.specs.Runnable.{AreOfSignals, signal_formats}
 use Rattle.tdf_sim_instants.specs.Engine.{HasHadInstant, IsEngineOf, IsReadyAt}
 use Rattle.tdf_sim_instants.specs.CrossingLaws.{Becomes}
 use Rattle.tdf_sim_instants.specs.InstantLaws.{InstantGoes, InstantGoesAlong, IsModelOf}
@@ -14,8 +16,9 @@ use Rattle.tdf_sim_instants.specs.declared.engine.Engine.{Engine}
 use Rattle.tdf_events.specs.Side.{SideOf}
 use Rattle.tdf_exec.specs.Gained.{SampleHasFewPlaces}
 use Rattle.tdf_bind.specs.declared.model.Flat.{Flat}
+use Rattle.tdf_sim_resumed.specs.Formats.{AreInFormatsTo}
 use Rattle.tdf_streams.proofs.Api.{get_inside}
-use Rattle.tdf_sim_history.specs.Cells.{world_of}
+use Rattle.tdf_sim_history.specs.Cells.{world_before, world_of}
 use Rattle.tdf_sim_history.specs.Instant.{RunFault}
 use Rattle.tdf_sim_history.specs.Telling.{world_told}
 use Rattle.tdf_sim_history.specs.World.{ClusterAt, World}
@@ -40,8 +43,8 @@ use Rattle.tdf_sim_traces.specs.Periods.{ClockAt, clock_at}
 use Rattle.tdf_sim_traces.specs.Shown.{IsShown}
 use Rattle.tdf_sim_traces.specs.declared.shown.Shown.{Shown}
 use Rattle.tdf_lang_tree.specs.Pure.{PureTree}
-use Rattle.tdf_sim_history.specs.Rules.{world_engine}
-use Rattle.tdf_sim_history.proofs.Api.{told_twice}
+use Rattle.tdf_sim_history.specs.Rules.{rules_of, world_engine}
+use Rattle.tdf_sim_history.proofs.Api.{states_leave, told_alike, told_twice}
 use Rattle.tdf_trace.specs.Tracked.{AreSince}
 use Rattle.tdf_streams.specs.Periods.{PeriodRecord}
 
@@ -95,6 +98,17 @@ module _ (along : InstantGoesAlong) (advances : InstantAdvances) (flat : Flat) (
         let z : r.from + 1 ≡ r.from + 1 - 0 = omega arith in
         ap (λ (s : SideOf). s.values) goes.now.side
         ∙ sym (ap (λ (x : HistoryState (World SideOf) RunFault). (world_of x).events.values) (ap (history (world_engine model flat) 0 own) z ∙ on_now.on.on))
+
+    -- as before, whatever is told besides, the values are of their formats
+    fits_now : AreInFormatsTo model flat own (r.from + 1)
+    fits_now t low = elim (cases_lt r.from t) [
+      | inl late ↦ (let z : r.from + 1 ≡ t = omega (arith, low, late) in
+          subst (λ k. AreOfSignals (signal_formats flat) (world_before model flat (rules_of model flat) own k).events.values) z (subst (AreOfSignals (signal_formats flat)) values_are of.kernel.values))
+      | inr early ↦ subst (AreOfSignals (signal_formats flat))
+          (sym (ap (λ (w : World SideOf). w.events.values) (states_leave (history (world_engine model flat) 0 (world_told goes.crossing.told (world_told run.going.ahead start)) t) (history (world_engine model flat) 0 (world_told run.going.ahead start) t)
+          (told_alike model flat (rules_of model flat) (world_told run.going.ahead start) goes.crossing.told r.from run.going.some t early)))
+          ∙ ap (λ (w : World SideOf). (world_before model flat (rules_of model flat) w t).events.values) twice) (run.fits t early)
+    ]
 
     -- as what is told is told with its counts
     steady_now : AreSteady model flat (world_told goes.crossing.told run.going.world)
@@ -159,6 +173,7 @@ module _ (along : InstantGoesAlong) (advances : InstantAdvances) (flat : Flat) (
             timed = on.timed;
           };
           shown = shows model (own model start handed m run) (world_told g.crossing.told run.going.world) g.world m.limits (shown_told model start handed m run) (advanced model start handed m run) g.now.at (values_are model start handed m run);
+          fits = fits_now model start handed m run;
           news_are = news_more handed r.news.items (news_text flat r.from e.clusters.items e.planned.items) last.news.items news_is ∙ news_now along model flat start r.from due.stop r.from r.left r.engine m can.engine can.ready run.going (let b = due.below in omega (arith, b)) due.next due.below e rest had (handed ++ r.news.items) run.news_are;
         }
 

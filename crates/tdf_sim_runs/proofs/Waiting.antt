@@ -1,8 +1,9 @@
 -- A run goes on up to the next time at which something is due.
-use Rattle.std.proofs.Common.{◌≡◌, ◌∙◌, ℕ, ◌+◌, ◌-◌, ◌<◌, ◌≤◌, List, [], ◌∷◌, map, if◌then◌else◌, inl, inr, refl, sym, ap, arith}
+use Rattle.std.proofs.Common.{◌≡◌, ◌∙◌, ℕ, ◌+◌, ◌-◌, ◌<◌, ◌≤◌, List, [], ◌∷◌, map, subst, if◌then◌else◌, inl, inr, refl, sym, ap, arith}
 use Rattle.std.specs.List.{enumerate_from, list_any}
 use Rattle.std.specs.Prelude.{◌||◌, slice_index_or}
 use Rattle.std.proofs.lemmas.Bool.{cases_lt}
+use Rattle.tdf_events.specs.Runnable.{AreOfSignals, signal_formats}
 use Rattle.tdf_sim_instants.specs.Engine.{IsEngineOf, IsReadyAt}
 use Rattle.tdf_sim_instants.specs.Times.{IsNextDue}
 use Rattle.tdf_sim_instants.specs.declared.engine.Engine.{Engine}
@@ -100,6 +101,10 @@ module _ (model : PureTree) (flat : Flat) (start : World SideOf) (from stop time
     };
     shown = later_is_shown model flat own run.going.world from time s run.shown next_time.not_before
         (λ t low high. ap values_of (on_between t low high) ∙ sym (ap values_of (on_between from (omega arith) next_time.not_before)));
+    fits = λ t low. elim (cases_lt t from) [
+      | inl early ↦ run.fits t (omega (arith, early))
+      | inr late ↦ subst (AreOfSignals (signal_formats flat)) (ap values_of (on_between from (omega arith) next_time.not_before) ∙ sym (ap values_of (on_between t late low))) (run.fits from (omega arith))
+    ];
     news_are = run.news_are ∙ sym (notes_rest model flat (rules_of model flat) own from time next_time.not_before quiet);
   }
 

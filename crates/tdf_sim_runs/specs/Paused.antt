@@ -14,6 +14,7 @@ use Rattle.tdf_sim_history.specs.Telling.{world_told}
 use Rattle.tdf_sim_history.specs.World.{Change, World}
 use Rattle.tdf_sim_notes.specs.Ending.{HaveAnswers}
 use Rattle.tdf_sim_runs.specs.declared.paused.Paused.{Paused}
+use Rattle.tdf_sim_resumed.specs.Formats.{AreInFormatsTo}
 use Rattle.tdf_sim_resumed.specs.Snapshot.{IsRowsFrom, IsSnapshot}
 use Rattle.tdf_sim_runs.specs.Running.{CanGoOn, IsRunningAt}
 use Rattle.tdf_sim_runs.specs.Runs.{model_about}
@@ -36,10 +37,12 @@ pub record IsPausedAt (model : PureTree) (start : World SideOf) (handed : List â
   pub rows : IsRowsFrom (run_cells model p.flat (rules_of model p.flat)
       (world_told goes_on.going.ahead start) p.run.from) p.run.from p.run.shown.trace.rows.upto
 
--- it is the snapshot at a time of the history of a model from its first plans on
+-- it is the snapshot at a time of the history of a model from its first plans on, whose event
+-- signals had values of their formats up to then
 pub record IsSnapshotOfRun (model : PureTree) (flat : Flat) (firsts : List First)
     (time turns : â„•) (vcd : Bool) (s : SnapshotOf) : Type 0 where
   pub ahead : List (List Change)
   pub answers : HaveAnswers model flat firsts ahead time turns
   pub world : World SideOf
   pub is : IsSnapshot model flat (start_world model flat firsts ahead turns) world time turns vcd s
+  pub fits : AreInFormatsTo model flat (start_world model flat firsts ahead turns) time

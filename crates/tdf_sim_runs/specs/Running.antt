@@ -15,6 +15,7 @@ use Rattle.tdf_sim_history.specs.Telling.{world_told}
 use Rattle.tdf_sim_history.specs.Texts.{notes_to}
 use Rattle.tdf_sim_history.specs.World.{Change, World}
 use Rattle.tdf_io.specs.Bytes.{AppendsFront}
+use Rattle.tdf_sim_resumed.specs.Formats.{AreInFormatsTo}
 use Rattle.tdf_sim_runs.specs.Ongoing.{AreToldTo, IsOngoing}
 use Rattle.tdf_sim_runs.specs.declared.running.Running.{Running}
 use Rattle.tdf_sim_traces.specs.Shown.{IsShown}
@@ -25,12 +26,13 @@ use Rattle.tdf_sim_history.specs.Rules.{rules_of}
 use Rattle.tdf_trace.specs.Tracked.{AreSince}
 use Rattle.tdf_exec.specs.Cluster.{ClusterOf}
 
--- a run goes on before a time, its trace shows what it has done, and the news are the plans that
--- came
+-- a run goes on before a time, its trace shows what it has done, its event signals had values of
+-- their formats, and the news are the plans that came
 pub record IsRunning (model : PureTree) (flat : Flat) (start : World SideOf) (from : ℕ)
     (e : Engine) (left : ℕ) (s : Shown) (news : List ℕ) : Type 0 where
   pub going : IsOngoing model flat start from e left
   pub shown : IsShown model flat (world_told going.ahead start) from going.world s
+  pub fits : AreInFormatsTo model flat (world_told going.ahead start) from
   pub news_are : news
       ≡ notes_to model flat (rules_of model flat) (world_told going.ahead start) from
 

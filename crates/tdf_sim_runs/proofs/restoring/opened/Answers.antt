@@ -69,7 +69,7 @@ returns-clause-can c =
     subst (λ (s : SnapshotOf). CanGoOn c.args.flat.now (record { engine = engine.engine; shown = shown.shown; from = s.time; left = s.budget - s.used; news = c.new.result })) (sym c.snapshot.view_is)
     (can_reopen c.args.flat.now c.args.snapshot c.args.standing c.requires.can c.requires.times c.requires.members c.requires.stands c.law_restored.ensures.clusters c.law_restored.ensures.plans c.law_restored.ensures.theirs
     c.law_can.ensures.shown c.law_resumed.ensures.due c.law_resumed.ensures.still c.law_resumed.ensures.start kernel fit
-    engine.engine shown.shown engine.ensures.since engine.ensures.clusters side c.values.result.now values shows
+    engine.engine shown.shown engine.ensures.since engine.ensures.clusters side c.values.result.now values engine.ensures.engine.kernel.values shows
     (record { engine = engine.engine; shown = shown.shown; from = c.args.snapshot.time; left = c.args.snapshot.budget - c.args.snapshot.used; news = c.new.result }) c.new.ensures.items engine.ensures.engine engine.ensures.none
     shown.ensures.upto leaves))
 
@@ -88,7 +88,7 @@ returns-clause-runs c = λ model firsts m are.
     (subst (λ (s : SnapshotOf). ShowsResumed c.args.flat.now (clock_in s c.deref.result.now c.deref-2.result.now) s.columns c.values.result.now c.args.standing.rows shown.shown) c.snapshot.view_is shown.ensures.shown) in
     let runs = reopens c.args.flat.now c.args.snapshot c.args.standing c.requires.can c.requires.times c.requires.members c.requires.stands c.law_restored.ensures.clusters c.law_restored.ensures.plans c.law_restored.ensures.theirs
     c.law_can.ensures.shown c.law_resumed.ensures.due c.law_resumed.ensures.still c.law_resumed.ensures.start kernel fit
-    engine.engine shown.shown engine.ensures.since engine.ensures.clusters side c.values.result.now values shows model firsts m are in
+    engine.engine shown.shown engine.ensures.since engine.ensures.clusters side c.values.result.now values engine.ensures.engine.kernel.values shows model firsts m are in
     subst (λ (s : SnapshotOf). IsRunningAt model c.args.flat.now (resumed_world model c.args.flat.now firsts c.args.snapshot []) []
     (record { engine = engine.engine; shown = shown.shown; from = s.time; left = s.budget - s.used; news = c.new.result })) (sym c.snapshot.view_is)
     (subst (IsRunning model c.args.flat.now (resumed_world model c.args.flat.now firsts c.args.snapshot []) c.args.snapshot.time engine.engine (c.args.snapshot.budget - c.args.snapshot.used) shown.shown) (sym c.new.ensures.items) runs))

@@ -33,7 +33,7 @@ returns-clause-can c =
     let t = c.start.new.self in
     let since : c.deref.result.now ≡ e.since.items = search rules in
     let clusters : c.deref-2.result.now ≡ e.clusters.items = search rules in
-    can_begin flat c.args.firsts.items e c.args.kind s t can.plans c.in_ok-engine.ensures.begun c.in_ok-engine.ensures.since c.in_ok-engine.ensures.side c.in_ok-shown.ensures
+    can_begin flat c.args.firsts.items e c.args.kind s t can.plans c.in_ok-engine.ensures.begun c.in_ok-engine.ensures.since c.in_ok-engine.ensures.side c.in_ok-engine.ensures.engine.kernel.values c.in_ok-shown.ensures
     (subst (λ (l : List ℕ). StartsShowing flat (clock_at 0 l e.clusters.items) s t) since
     (subst (λ (l : List ClusterOf). StartsShowing flat (clock_at 0 c.deref.result.now l) s t) clusters c.in_ok-start.ensures.shown))
     (record { engine = e; shown = t; from = 0; left = c.args.turns; news = c.new-3.result }) c.new-3.ensures.items c.in_ok-engine.ensures.engine c.in_ok-engine.ensures.ready c.in_ok-engine.ensures.none c.start.ensures.upto
@@ -48,7 +48,7 @@ returns-clause-runs c = λ model m.
     let since : c.deref.result.now ≡ e.since.items = search rules in
     let clusters : c.deref-2.result.now ≡ e.clusters.items = search rules in
     subst (IsRunning model flat (start_world model flat c.args.firsts.items [] c.args.turns) 0 e c.args.turns t) (sym c.new-3.ensures.items)
-    (runs_at_first flat c.args.firsts.items e c.args.kind s t c.requires.can.plans c.in_ok-engine.ensures.begun c.in_ok-engine.ensures.since c.in_ok-engine.ensures.side c.in_ok-shown.ensures
+    (runs_at_first flat c.args.firsts.items e c.args.kind s t c.requires.can.plans c.in_ok-engine.ensures.begun c.in_ok-engine.ensures.since c.in_ok-engine.ensures.side c.in_ok-engine.ensures.engine.kernel.values c.in_ok-shown.ensures
     (subst (λ (l : List ℕ). StartsShowing flat (clock_at 0 l e.clusters.items) s t) since
     (subst (λ (l : List ClusterOf). StartsShowing flat (clock_at 0 c.deref.result.now l) s t) clusters c.in_ok-start.ensures.shown))
     c.args.turns model m)

@@ -4,6 +4,7 @@ use Rattle.tdf_sim_history.specs.Rules.{start_world}
 use Rattle.tdf_sim_history.specs.World.{World}
 use Rattle.tdf_sim_runs.proofs.paused.Paused.snapshot.Goals as goal
 use Rattle.tdf_sim_runs.specs.Saving.{is_vcd}
+use Rattle.tdf_sim_resumed.specs.Formats.{AreInFormatsTo}
 use Rattle.tdf_sim_resumed.specs.Snapshot.{IsSnapshot}
 use Rattle.tdf_sim_runs.proofs.Answering.{if_ok}
 use Rattle.tdf_sim_runs.proofs.WholeRun.{have_to, told_is}
@@ -21,4 +22,5 @@ returns-clause-of_run c = λ model firsts handed m at.
       world = at.goes_on.going.world;
       is = subst (λ (w : World SideOf). IsSnapshot model p.flat w at.goes_on.going.world p.run.from p.turns (is_vcd p.kind) s)
           (told_is p.kind model p.flat firsts at.goes_on.going.ahead p.run.from p.turns) (is model (start_world model p.flat firsts [] p.turns) handed m at.goes_on at.rows);
+      fits = subst (λ (w : World SideOf). AreInFormatsTo model p.flat w p.run.from) (told_is p.kind model p.flat firsts at.goes_on.going.ahead p.run.from p.turns) at.goes_on.fits;
     })
