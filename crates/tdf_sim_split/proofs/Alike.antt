@@ -1,6 +1,5 @@
 -- Two histories whose clusters are in a relation that each step keeps.
 use Rattle.std.proofs.Common.{◌≡◌, ◌≢◌, ◌∙◌, ℕ, zero, suc, ◌+◌, ◌-◌, ◌<◌, ◌≤◌, ◌⊎◌, Bool, true, false, ◌&&◌, ◌||◌, nat_eq, if◌then◌else◌, Option, Some, None, List, [], ◌∷◌, ◌++◌, length, slice_get, slice_index_or, slice_set, length-set, refl, sym, ap, subst, inl, inr, arith}
-use Rattle.std.proofs.lemmas.Bool.{cases_eq}
 use Rattle.std.proofs.lemmas.Bool.Decides.{nat_tests}
 use Rattle.std.proofs.lemmas.Option.{slice_get_within}
 use Rattle.std.specs.List.{list_any}
@@ -12,10 +11,10 @@ use Rattle.tdf_graph.specs.declared.actors.Actor.{Actor}
 use Rattle.tdf_graph.specs.declared.actors.Actor.TheVariants as actor
 use Rattle.tdf_lang_tree.specs.Pure.{PureTree}
 use Rattle.tdf_schedule.specs.declared.entry.Entry.{Entry}
-use Rattle.tdf_sim_history.specs.Answers.{AreAnswers, AreFirstAnswers, HasTurn, IsAnswer}
-use Rattle.tdf_sim_history.specs.History.{Engine, Fault, Going, HistoryState, On, Past, Spent, Step, Stopped, after, and_then, history, state_of, turns_to}
+use Rattle.tdf_sim_history.specs.Answers.{AreAnswers, AreFirstAnswers, IsAnswer}
+use Rattle.tdf_sim_history.specs.History.{Going, HistoryState, On, Past, Step, after, and_then, history, state_of, turns_to}
 use Rattle.tdf_sim_history.specs.Instant.{RunFault, actor_of_entry, all_firings, at_begin, boundary, boundary_of, changed_by, engine, events_of, fired, fired_as, firing, firing_of, has_write, instant, is_cluster_due, is_due, is_entry_due, is_over, next_entry, plan_length, sample_taken, settled_as, signal_of, stepped, with_cluster, with_new, with_read, with_same}
-use Rattle.tdf_sim_history.specs.World.{Change, ClusterAt, New, Refused, Rules, Same, Settled, SinkWrite, World, next_change}
+use Rattle.tdf_sim_history.specs.World.{Change, ClusterAt, New, Refused, Rules, Same, Settled, World, next_change}
 use Rattle.tdf_sim_split.specs.Alike.{BothFault, BothGo, BothOn, BothPast, BothSpent, BothStopped, StatesAlike, StepsAlike}
 use Rattle.tdf_streams.proofs.Api.{get_inside, none_some, some_same}
 use Rattle.tdf_streams.specs.Cluster.{zero_sample}

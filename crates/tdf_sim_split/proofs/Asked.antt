@@ -1,18 +1,16 @@
 -- What modules ask for leads to the same where the modules of the table ask for the same.
-use Rattle.std.proofs.Common.{◌≡◌, ◌∙◌, ℕ, zero, suc, ◌<◌, true, false, Some, List, [], ◌∷◌, length, map, slice_get, refl, sym, ap, subst}
-use Rattle.std.proofs.lemmas.Option.{get_or_from_slice_get, slice_get_within}
-use Rattle.std.specs.Prelude.{All, slice_index_or}
-use Rattle.tdf_base.specs.declared.codes.Code.TheVariants as code
+use Rattle.std.proofs.Common.{◌≡◌, ◌∙◌, ℕ, suc, false, Some, List, [], ◌∷◌, map, slice_get, refl, sym, ap, subst}
+use Rattle.std.proofs.lemmas.Option.{get_or_from_slice_get}
+use Rattle.std.specs.Prelude.{All}
 use Rattle.tdf_base.specs.declared.faults.Fault.{Fault}
 use Rattle.tdf_bind_tables.specs.FlatTables.{FlatTablesOf}
 use Rattle.tdf_dynamic.specs.Asked.{AskedOf, HasSameRates, IsQuiet, attrs_after}
-use Rattle.tdf_dynamic.specs.Change.{AreUnmarked, Asks, HasSameSteps, IsChangeFault, IsFirstChangeFault, IsFirstRow, IsMarked, IsNewPlan, IsRejecting, IsSame, OfPlan, OfRange, OfRejected, OfSteps, Rejects, TimingOf, TimingsOf, table_after}
+use Rattle.tdf_dynamic.specs.Change.{AreUnmarked, Asks, HasSameSteps, IsFirstChangeFault, IsFirstRow, IsMarked, IsNewPlan, IsSame, OfPlan, OfRange, OfRejected, OfSteps, Rejects, TimingsOf, table_after}
 use Rattle.tdf_dynamic_plans.specs.Attributes.{AttrsOf}
 use Rattle.tdf_dynamic_plans.specs.Faults.{HasTiming, IsPlanFault, IsPlanOf, IsStepsFault}
 use Rattle.tdf_dynamic_plans.specs.Rates.{net_of, net_ports}
-use Rattle.tdf_schedule.specs.declared.entry.Entry.{Entry}
 use Rattle.tdf_schedule.specs.declared.entry.Plan.{Plan}
-use Rattle.tdf_sim_history.specs.Answers.{IsNewPeriod, Leads}
+use Rattle.tdf_sim_history.specs.Answers.{Leads}
 use Rattle.tdf_sim_history.specs.World.{Change, New, Refused, Same}
 use Rattle.tdf_streams.proofs.Api.{get_inside}
 

@@ -1,5 +1,5 @@
 -- The column of an event signal shows its changes.
-use Rattle.std.proofs.Common.{◌≡◌, ◌≢◌, ◌∙◌, ◌<◌, ◌≤◌, ◌+◌, ◌-◌, ◌++◌, ◌&&◌, ◌⊎◌, ℕ, zero, suc, Bool, true, false, if◌then◌else◌, nat_eq, Option, Some, None, option_map, List, [], ◌∷◌, map, refl, ap, sym, subst, inl, inr, arith}
+use Rattle.std.proofs.Common.{◌≡◌, ◌≢◌, ◌∙◌, ◌<◌, ◌≤◌, ◌+◌, ◌-◌, ◌++◌, ◌&&◌, ℕ, zero, suc, Bool, true, false, if◌then◌else◌, nat_eq, Option, Some, None, option_map, List, [], ◌∷◌, map, refl, ap, sym, subst, inl, inr, arith}
 use Rattle.std.proofs.lemmas.Bool.{cases_eq, eq-eqb, ne_eqb}
 use Rattle.std.proofs.lemmas.Bool.Decides.{Decides-int_eq}
 use Rattle.std.specs.Ordering.{int_eq}
@@ -11,7 +11,7 @@ use Rattle.tdf_sim_history.specs.Columns.{Stamp, stamp_at}
 use Rattle.tdf_sim_resumed.specs.Snapshot.{stamp_of_cell}
 use Rattle.tdf_sim_split.proofs.Rises.{found_in}
 use Rattle.tdf_sim_split.specs.Columns.{StandRising}
-use Rattle.tdf_streams.proofs.Api.{none_some, some_same}
+use Rattle.tdf_streams.proofs.Api.{some_same}
 use Rattle.tdf_trace_rows.proofs.Api.{last_more}
 use Rattle.tdf_trace_rows.specs.Rows.{Cells, last}
 use Rattle.tdf_trace_states.specs.Windows.{AreChangesTo}

@@ -1,17 +1,15 @@
 -- The columns of a snapshot are valid: one column of samples.
-use Rattle.std.proofs.Common.{◌≡◌, ◌≢◌, ◌∙◌, ◌<◌, ◌≤◌, ◌+◌, ◌-◌, ◌*◌, ◌/◌, ◌++◌, ◌⊎◌, ℕ, ℤ, zero, suc, Bool, true, false, if◌then◌else◌, min, nat_lt, Option, Some, None, option_map, List, [], ◌∷◌, length, map, slice_get, slice_index, refl, ap, sym, subst, inl, inr, arith}
+use Rattle.std.proofs.Common.{◌≡◌, ◌∙◌, ◌<◌, ◌≤◌, ◌+◌, ◌-◌, ◌*◌, ◌/◌, ◌++◌, ℕ, if◌then◌else◌, Option, Some, None, option_map, List, [], ◌∷◌, length, slice_get, slice_index, refl, ap, sym, subst, inl, inr, arith}
 use Rattle.std.proofs.lemmas.Bool.{cases_lt, le-ltb, lt-ltb}
-use Rattle.std.proofs.lemmas.Option.{slice_get_past, slice_get_within}
-use Rattle.std.specs.List.{range_with_len, sum_by}
+use Rattle.std.proofs.lemmas.Option.{slice_get_past}
+use Rattle.std.specs.List.{sum_by}
 use Rattle.std.specs.Option.{option_and_then}
-use Rattle.std.specs.Prelude.{IsSome}
 use Rattle.tdf_bind.specs.declared.model.Flat.{Flat}
 use Rattle.tdf_bind_connections.specs.declared.modules.PortRow.{PortRow}
 use Rattle.tdf_bind_connections.specs.declared.traces.TraceRow.{TraceRow}
 use Rattle.tdf_bind_invariants.specs.Limits.{AreWithinLimits}
 use Rattle.tdf_dynamic_plans.specs.Attributes.{clusters_of}
 use Rattle.tdf_dynamic_plans.specs.Rates.{port_rate}
-use Rattle.tdf_events.specs.Side.{SideOf}
 use Rattle.tdf_fixed.specs.declared.raw.Raw.{Raw}
 use Rattle.tdf_lang_tree.specs.Pure.{PureTree}
 use Rattle.tdf_schedule.specs.Plan.{done}
@@ -20,10 +18,9 @@ use Rattle.tdf_sim_history.proofs.Api.{sample_value}
 use Rattle.tdf_sim_history.specs.Cells.{cell_by_driver, column_spans, driven_cell, driver_of_row, port_cell, sample_at, sample_of, samples_done, signal_cell}
 use Rattle.tdf_sim_history.specs.Columns.{ColumnStart, held_by}
 use Rattle.tdf_sim_history.specs.Instant.{periods_of, run_in}
-use Rattle.tdf_sim_history.specs.World.{ClusterAt, World}
+use Rattle.tdf_sim_history.specs.World.{ClusterAt}
 use Rattle.tdf_sim_history.specs.WorldLaws.{AreRecordsOf, HasDone}
-use Rattle.tdf_sim_resumed.specs.Starting.{Tracked, known_count, position_count, tracked_of, tracked_port, tracked_signal}
-use Rattle.tdf_sim_split.proofs.Showing.{ShowsPositions}
+use Rattle.tdf_sim_resumed.specs.Starting.{Tracked, known_count, position_count, tracked_port, tracked_signal}
 use Rattle.tdf_sim_split.proofs.Spanning.{InPeriod, PeriodNumbers, here, later}
 use Rattle.tdf_sim_split.specs.Columns.{BeginsIn, IsAtSame}
 use Rattle.tdf_streams.proofs.Api.{get_inside, none_some}

@@ -1,5 +1,5 @@
 -- The columns of event signals in a snapshot are valid.
-use Rattle.std.proofs.Common.{◌≡◌, ◌≢◌, ◌∙◌, ◌<◌, ◌≤◌, ◌+◌, ◌-◌, ◌++◌, ◌⊎◌, ℕ, ℤ, zero, suc, Bool, true, false, ◌&&◌, if◌then◌else◌, nat_eq, Option, Some, None, option_map, List, [], ◌∷◌, length, map, slice_get, refl, ap, sym, subst, inl, inr, arith}
+use Rattle.std.proofs.Common.{◌≡◌, ◌∙◌, ◌<◌, ◌≤◌, ◌+◌, ◌-◌, ℕ, ℤ, zero, suc, Bool, true, false, ◌&&◌, if◌then◌else◌, nat_eq, Option, Some, None, option_map, List, [], ◌∷◌, length, map, slice_get, refl, ap, sym, subst, inl, inr, arith}
 use Rattle.std.proofs.lemmas.Bool.{cases_lt, eq-eqb, ne_eqb}
 use Rattle.std.proofs.lemmas.Bool.Decides.{Decides-int_eq}
 use Rattle.std.proofs.lemmas.Option.{get_or_from_slice_get}
@@ -18,10 +18,10 @@ use Rattle.tdf_sim_history.specs.History.{HistoryState, On, after, history, stat
 use Rattle.tdf_sim_history.specs.Instant.{RunFault, engine, instant}
 use Rattle.tdf_sim_history.specs.Rules.{rules_of}
 use Rattle.tdf_sim_history.specs.World.{World}
-use Rattle.tdf_sim_resumed.specs.Snapshot.{IsRowsFrom, IsSavedColumn, later_of, shown_until, stamps_between}
+use Rattle.tdf_sim_resumed.specs.Snapshot.{IsSavedColumn, later_of, shown_until, stamps_between}
 use Rattle.tdf_sim_resumed.specs.Starting.{tracked_of, tracked_signal}
 use Rattle.tdf_sim_resumed.specs.Valid.{IsValidEvents, StartsWith}
-use Rattle.tdf_sim_split.proofs.Changing.{IsChange, ShowsChanges, changes_to, shown_num, stamp_none, stamps_change, value_at, value_changes}
+use Rattle.tdf_sim_split.proofs.Changing.{IsChange, ShowsChanges, changes_to, shown_num, stamps_change, value_at, value_changes}
 use Rattle.tdf_sim_split.proofs.Rises.{found_below, found_in, found_rising}
 use Rattle.tdf_sim_split.specs.Columns.{HasSoundColumns, IsEventStart, StandRising}
 use Rattle.tdf_streams.proofs.Api.{get_inside, none_some, some_same}

@@ -1,7 +1,6 @@
 -- A history that goes on from where another one came to.
-use Rattle.std.proofs.Common.{◌≡◌, ◌∙◌, ℕ, zero, suc, ◌+◌, ◌-◌, ◌<◌, ◌≤◌, Bool, true, false, if◌then◌else◌, Option, Some, None, List, [], ◌∷◌, ◌++◌, append-nil, append_assoc, length, slice_get, refl, sym, ap, subst, inl, inr, arith}
+use Rattle.std.proofs.Common.{◌≡◌, ◌∙◌, ℕ, zero, suc, ◌+◌, ◌-◌, ◌<◌, ◌≤◌, Bool, true, false, if◌then◌else◌, Some, List, [], ◌∷◌, ◌++◌, append-nil, append_assoc, length, slice_get, refl, sym, ap, subst, inl, inr, arith}
 use Rattle.std.proofs.lemmas.Bool.{cases_lt}
-use Rattle.std.proofs.lemmas.Option.{slice_get_within}
 use Rattle.std.specs.List.{flat_map}
 use Rattle.tdf_bind.specs.declared.model.Flat.{Flat}
 use Rattle.tdf_dynamic_texts.specs.Plans.{plan_text}
@@ -9,11 +8,11 @@ use Rattle.tdf_lang_tree.specs.Pure.{PureTree}
 use Rattle.tdf_sim_history.specs.Answers.{AreAnswers, AreFirstAnswers, HasTurn, IsAnswer}
 use Rattle.tdf_sim_history.specs.History.{Fault, Going, HistoryState, On, Past, Spent, Step, Stopped, after, history, state_of, turns_to}
 use Rattle.tdf_sim_history.specs.Instant.{RunFault, at_begin, boundary, engine, instant, is_due, is_over}
-use Rattle.tdf_sim_history.specs.Texts.{left_by, new_plans, notes_in, notes_to, plan_note, plan_of}
+use Rattle.tdf_sim_history.specs.Texts.{left_by, new_plans, notes_in, notes_to, plan_note}
 use Rattle.tdf_sim_history.specs.World.{ClusterAt, Rules, World, next_change}
 use Rattle.tdf_sim_split.proofs.Alike.{AreAlike, AreBetween, AtPlace, Both, Neither, StepsKeep, at_place, boundaries_alike, change_same, due_alike, histories_alike, instant_alike, over_same}
 use Rattle.tdf_sim_split.specs.Alike.{BothFault, BothGo, BothOn, BothPast, BothSpent, BothStopped, StatesAlike, StepsAlike}
-use Rattle.tdf_streams.proofs.Api.{get_inside, none_some, some_same}
+use Rattle.tdf_streams.proofs.Api.{none_some, some_same}
 
 -- the world of a history that goes on, and of a step
 on_world : {W F : Type 0} → HistoryState W F → W → W

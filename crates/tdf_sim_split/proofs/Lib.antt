@@ -34,6 +34,8 @@ mod TextColumns
 mod Timed
 mod Timely
 mod Turns
+mod Unbroken
 mod Valid
 mod ValidColumns
+mod Validity
 mod Values

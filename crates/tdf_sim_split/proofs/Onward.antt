@@ -1,13 +1,11 @@
 -- What a cluster came to, and what came of one that goes on from it, stay the same.
-use Rattle.std.proofs.Common.{◌≡◌, ◌≢◌, ◌∙◌, ℕ, suc, ◌+◌, ◌<◌, ◌≤◌, true, false, ◌&&◌, ◌||◌, not, nat_eq, Option, Some, None, List, [], ◌∷◌, ◌++◌, append_assoc, length, slice_get, slice_index_or, slice_set, length-set, get_or-set_same, get_or-set_other, refl, sym, ap, subst, inl, inr, arith}
-use Rattle.std.proofs.lemmas.Bool.{cases_eq, eq-eqb, ne_eqb}
-use Rattle.std.proofs.lemmas.Bool.Decides.{nat_tests}
+use Rattle.std.proofs.Common.{◌≡◌, ◌∙◌, ℕ, ◌+◌, ◌<◌, ◌≤◌, true, false, ◌&&◌, ◌||◌, not, nat_eq, Option, Some, None, List, [], ◌∷◌, ◌++◌, append_assoc, length, slice_get, slice_index_or, slice_set, length-set, get_or-set_same, get_or-set_other, refl, sym, ap, subst, inl, inr, arith}
+use Rattle.std.proofs.lemmas.Bool.{cases_eq, eq-eqb}
 use Rattle.std.proofs.lemmas.Option.{get_or_from_slice_get, slice_get_within}
 use Rattle.std.specs.Prelude.{All, IsSome, drop, slice_index, unwrap_or}
 use Rattle.tdf_bind.specs.Flat.{IsFlatOf}
 use Rattle.tdf_bind.specs.declared.model.Flat.{Flat}
 use Rattle.tdf_bind_invariants.specs.Limits.{AreWithinLimits}
-use Rattle.tdf_bind_tables.specs.FlatTables.{FlatTablesOf}
 use Rattle.tdf_bind_tables.specs.declared.actors.ActorRow.{ActorRow}
 use Rattle.tdf_dynamic.specs.Asked.{asked}
 use Rattle.tdf_dynamic_plans.proofs.Api.{modules_few}
@@ -16,7 +14,6 @@ use Rattle.tdf_exec_layout.proofs.Api.{module_kind}
 use Rattle.tdf_exec_layout.specs.Wires.{SinksHaveOne}
 use Rattle.tdf_expr.specs.Checked.{IsCheckedOf}
 use Rattle.tdf_fixed.specs.declared.raw.Raw.{Raw}
-use Rattle.tdf_graph.specs.declared.actors.Actor.{Actor}
 use Rattle.tdf_graph.specs.declared.actors.Actor.TheVariants as actor
 use Rattle.tdf_lang_tree.specs.Kept.{IsKept}
 use Rattle.tdf_lang_tree.specs.Pure.{PureTree}
@@ -24,7 +21,7 @@ use Rattle.tdf_schedule.specs.declared.entry.Entry.{Entry}
 use Rattle.tdf_sim_history.proofs.Api.{last_record}
 use Rattle.tdf_sim_history.specs.Answers.{IsAnswer, Leads, asks_in, last_cells}
 use Rattle.tdf_sim_history.specs.Instant.{is_over, next_entry, periods_of, sample_taken, same_period, stepped, with_new, with_read, with_same}
-use Rattle.tdf_sim_history.specs.World.{Change, ClusterAt, New, Same, World, next_change}
+use Rattle.tdf_sim_history.specs.World.{Change, ClusterAt, New, Same, next_change}
 use Rattle.tdf_sim_split.proofs.Alike.{HasView, IsNoSampler, IsSampler, IsSink, StepsKeep}
 use Rattle.tdf_sim_split.proofs.Asked.{leads_same}
 use Rattle.tdf_sim_split.proofs.Sound.{new_sound, same_sound, step_plain, step_read}
@@ -34,7 +31,7 @@ use Rattle.tdf_sim_refinement.proofs.Api.{all_at}
 use Rattle.tdf_streams.proofs.Api.{get_inside, is_wired}
 use Rattle.tdf_streams.specs.Cluster.{is_outside_cluster, is_sampler_kind}
 use Rattle.tdf_streams.specs.Periods.{PeriodRecord, period_record}
-use Rattle.tdf_streams.specs.Places.{actor_kind, kind_of_row}
+use Rattle.tdf_streams.specs.Places.{kind_of_row}
 use Rattle.tdf_streams_onward.specs.Laws.{BodiesGoByTable, FiringsAreEnough, StreamsGoOn}
 
 module _ (by_table : BodiesGoByTable) (goes_on : StreamsGoOn) (enough : FiringsAreEnough) (model : PureTree) (flat : Flat) (is_flat : IsFlatOf model flat) (limits : AreWithinLimits flat) (sinks : SinksHaveOne flat.tables)

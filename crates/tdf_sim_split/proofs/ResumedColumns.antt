@@ -1,11 +1,11 @@
 -- The world that a valid snapshot says begins with sound columns.
-use Rattle.std.proofs.Common.{◌≡◌, ◌∙◌, ◌<◌, ◌≤◌, ◌+◌, ◌-◌, ◌*◌, ◌++◌, ◌⊎◌, ℕ, ℤ, zero, suc, Bool, true, false, if◌then◌else◌, min, nat_lt, not, Option, Some, None, option_map, List, [], ◌∷◌, length, length-append, map, slice_get, slice_index, refl, ap, sym, subst, inl, inr, arith}
+use Rattle.std.proofs.Common.{◌≡◌, ◌∙◌, ◌<◌, ◌≤◌, ◌+◌, ◌-◌, ◌*◌, ℕ, ℤ, zero, suc, Bool, true, false, if◌then◌else◌, min, nat_lt, Option, Some, None, option_map, List, [], ◌∷◌, length, length-append, map, slice_get, slice_index, refl, ap, sym, subst, inl, inr, arith}
 use Rattle.std.proofs.lemmas.Bool.{cases_lt, le-ltb, lt-ltb}
 use Rattle.std.proofs.lemmas.List.{length-map}
 use Rattle.std.proofs.lemmas.List.Elements.{All-cons, All-nil}
 use Rattle.std.proofs.lemmas.List.FromFn.{length-map-range_with_len}
 use Rattle.std.proofs.lemmas.Option.{get_or_from_slice_get, slice_get-map, slice_get_within}
-use Rattle.std.specs.List.{enumerate_from, filter, range_with_len, zip}
+use Rattle.std.specs.List.{enumerate_from, filter, zip}
 use Rattle.std.specs.Prelude.{All, IsSome, cond, slice_index_or}
 use Rattle.tdf_bind.specs.declared.model.Flat.{Flat}
 use Rattle.tdf_bind_connections.specs.declared.drivers.SignalRow.{SignalRow}
@@ -17,8 +17,8 @@ use Rattle.tdf_dynamic_first.specs.declared.first.First.{First}
 use Rattle.tdf_dynamic_plans.specs.Attributes.{clusters_of}
 use Rattle.tdf_events.specs.Runnable.{signal_formats}
 use Rattle.tdf_events.specs.Side.{SideOf}
-use Rattle.tdf_events.specs.State.{resumed_side, value_in}
-use Rattle.tdf_exec_parts.specs.States.{IsInPeriod, IsStateUnder}
+use Rattle.tdf_events.specs.State.{value_in}
+use Rattle.tdf_exec_parts.specs.States.{IsStateUnder}
 use Rattle.tdf_fixed.specs.declared.format.Format.{Format}
 use Rattle.tdf_fixed.specs.declared.raw.Raw.{Raw}
 use Rattle.tdf_lang_tree.specs.Pure.{PureTree}
@@ -34,8 +34,8 @@ use Rattle.tdf_sim_history.specs.WorldLaws.{IsClusterOfPort, Shows}
 use Rattle.tdf_sim_resumed.proofs.Api.{ResumedAt, plan_whole, resumed_at, whole_is}
 use Rattle.tdf_sim_resumed.specs.Laws.{NoneIsDueBefore}
 use Rattle.tdf_sim_resumed.specs.Resuming.{resumed_cluster, resumed_clusters}
-use Rattle.tdf_sim_resumed.specs.Starting.{Tracked, column_start_of, column_starts, first_unknown, least_within, numbers_ahead, positions_before, resumed_world, row_of_trace, rows_from_saved, stamp_of_trace, stamps_before, stamps_from, tracked_of, tracked_signal, value_of_trace}
-use Rattle.tdf_sim_resumed.specs.Valid.{IsValid, IsValidEvents, IsValidNothing, IsValidSamples, IsValidTracked, StartsWith}
+use Rattle.tdf_sim_resumed.specs.Starting.{Tracked, column_start_of, first_unknown, numbers_ahead, positions_before, resumed_world, row_of_trace, rows_from_saved, stamp_of_trace, stamps_before, stamps_from, tracked_of, tracked_signal, value_of_trace}
+use Rattle.tdf_sim_resumed.specs.Valid.{IsValid, IsValidEvents, IsValidNothing, IsValidSamples, IsValidTracked}
 use Rattle.tdf_sim_split.proofs.Columned.{Driven, HowShown, IsDriven, Nothing, how_shown, numbers_of, tracked_by, tracked_in, tracked_is}
 use Rattle.tdf_sim_split.proofs.Rises.{Rises, rises_less, time_of}
 use Rattle.tdf_sim_split.proofs.Showing.{front_before, front_of, front_past, front_within, not_before}
@@ -45,8 +45,8 @@ use Rattle.tdf_sim_split.specs.Columns.{BeginsIn, EventsAreThere, HasSoundColumn
 use Rattle.tdf_streams.proofs.Api.{get_inside, none_some, some_same, steps_whole}
 use Rattle.tdf_streams.specs.Cluster.{fraction_of_row, zero_sample}
 use Rattle.tdf_streams.specs.Laws.{IsClusterPort}
-use Rattle.tdf_streams.specs.Periods.{PeriodRecord, done_before}
-use Rattle.tdf_streams.specs.Signals.{positions, rate_in, step_in, time_of_periods}
+use Rattle.tdf_streams.specs.Periods.{done_before}
+use Rattle.tdf_streams.specs.Signals.{rate_in, time_of_periods}
 use Rattle.tdf_trace_states.specs.ColumnStates.{DoRise}
 use Rattle.tdf_trace_states.specs.Windows.{AreChangesTo, AreRisingFrom}
 

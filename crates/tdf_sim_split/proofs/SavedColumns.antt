@@ -1,50 +1,46 @@
 -- The columns of a snapshot are valid.
-use Rattle.std.proofs.Common.{◌≡◌, ◌≢◌, ◌∙◌, ◌<◌, ◌≤◌, ◌+◌, ◌-◌, ◌*◌, ◌/◌, ◌++◌, ◌⊎◌, ℕ, ℤ, zero, suc, Bool, true, false, if◌then◌else◌, min, nat_lt, not, Option, Some, None, option_map, List, [], ◌∷◌, length, map, slice_get, slice_index, refl, ap, sym, subst, inl, inr, arith}
+use Rattle.std.proofs.Common.{◌≡◌, ◌≢◌, ◌∙◌, ◌<◌, ◌≤◌, ◌+◌, ◌-◌, ◌*◌, ◌/◌, ◌++◌, ℕ, zero, suc, Bool, false, if◌then◌else◌, min, nat_lt, not, Option, Some, None, option_map, List, [], ◌∷◌, length, map, slice_get, slice_index, refl, ap, sym, subst, inl, inr, arith}
 use Rattle.std.proofs.Math.Nat.{add-mul, div-mul-le_self, mul-le-mul_right, mul_comm}
-use Rattle.std.proofs.lemmas.Bool.{cases_eq, cases_lt, eq-eqb, ne_eqb}
-use Rattle.std.proofs.lemmas.Option.{get_or_from_slice_get, slice_get-map, slice_get_within}
+use Rattle.std.proofs.lemmas.Bool.{cases_lt}
+use Rattle.std.proofs.lemmas.Option.{slice_get_within}
 use Rattle.std.specs.List.{filter, flat_map, range_with_len}
-use Rattle.std.specs.Prelude.{All, IsSome, slice_index_or, unwrap_or}
+use Rattle.std.specs.Prelude.{IsSome, unwrap_or}
 use Rattle.tdf_bind.specs.declared.model.Flat.{Flat}
 use Rattle.tdf_bind_connections.specs.declared.modules.PortRow.{PortRow}
 use Rattle.tdf_bind_connections.specs.declared.traces.TraceRow.{TraceRow}
 use Rattle.tdf_bind_invariants.specs.Limits.{AreWithinLimits}
-use Rattle.tdf_dynamic_first.specs.declared.first.First.{First}
 use Rattle.tdf_dynamic_plans.specs.Attributes.{clusters_of}
 use Rattle.tdf_events.specs.Side.{SideOf}
 use Rattle.tdf_fixed.specs.declared.raw.Raw.{Raw}
 use Rattle.tdf_lang_tree.specs.Pure.{PureTree}
-use Rattle.tdf_saved.specs.State.{ColumnStateOf, SnapshotOf}
+use Rattle.tdf_saved.specs.State.{ColumnStateOf}
 use Rattle.tdf_saved.specs.declared.state.Stamp.{Stamp as SavedStamp}
 use Rattle.tdf_sim_history.proofs.Api.{go_on, port_cluster}
-use Rattle.tdf_sim_history.specs.Cells.{column_spans, driver_of_row, event_column_cell, run_cells, sample_at, samples_done, signal_cell, trace_cell, value_before, world_before, world_of}
+use Rattle.tdf_sim_history.specs.Cells.{column_spans, driver_of_row, event_column_cell, run_cells, sample_at, samples_done, signal_cell, trace_cell, world_before, world_of}
 use Rattle.tdf_sim_history.specs.Columns.{ColumnStart, start_of}
 use Rattle.tdf_sim_history.specs.Continuing.{AllGoOn, Continues}
 use Rattle.tdf_sim_history.specs.History.{On, history}
-use Rattle.tdf_sim_history.specs.Instant.{engine, periods_of, run_in}
+use Rattle.tdf_sim_history.specs.Instant.{engine, periods_of}
 use Rattle.tdf_sim_history.specs.Rules.{rules_of}
 use Rattle.tdf_sim_history.specs.World.{ClusterAt, World}
 use Rattle.tdf_sim_history.specs.WorldLaws.{HasDone, Shows}
-use Rattle.tdf_sim_resumed.specs.Resuming.{resumed_clusters}
-use Rattle.tdf_sim_resumed.specs.Snapshot.{IsRowsFrom, IsSavedColumn, IsSnapshot, later_numbers, later_of, number_of_sample, shown_until, stamp_of_cell, stamps_between}
-use Rattle.tdf_sim_resumed.specs.Starting.{Tracked, first_unknown, known_count, least_within, position_count, positions_before, rows_from_saved, stamps_from, time_of_position, tracked_of, tracked_signal}
-use Rattle.tdf_sim_resumed.specs.Valid.{AreAlikeColumns, AreColumns, IsValidColumn, IsValidEvents, IsValidNothing, IsValidSamples, IsValidTracked}
-use Rattle.tdf_sim_split.proofs.Changing.{IsChange, changes_to, shown_num, value_at, value_changes}
-use Rattle.tdf_sim_split.proofs.Columned.{Driven, HowShown, IsDriven, Nothing, cell_is, how_shown, in_period, numbers_of, same_numbers, sample_past, sample_there, tracked_by, tracked_in, tracked_is}
-use Rattle.tdf_sim_split.proofs.Rises.{found_below, found_in, found_rising}
+use Rattle.tdf_sim_resumed.specs.Snapshot.{IsRowsFrom, IsSavedColumn, later_of, number_of_sample, shown_until, stamp_of_cell, stamps_between}
+use Rattle.tdf_sim_resumed.specs.Starting.{Tracked, tracked_of, tracked_signal}
+use Rattle.tdf_sim_resumed.specs.Valid.{IsValidNothing, IsValidSamples}
+use Rattle.tdf_sim_split.proofs.Columned.{IsDriven, cell_is, in_period, numbers_of, sample_past, sample_there, tracked_by, tracked_is}
+use Rattle.tdf_sim_split.proofs.Rises.{found_in, found_rising}
 use Rattle.tdf_sim_split.proofs.Showing.{ShowsPositions, first_at, first_found, front_of, known_times, later_many, rows_after, rows_high, rows_low, still_some, unknown_from}
 use Rattle.tdf_sim_split.proofs.Spanning.{InPeriod, PeriodNumbers, time_in}
-use Rattle.tdf_sim_split.specs.Columns.{AreAtSame, BeginsIn, EventsAreThere, HasSoundColumns, HasValidColumns, IsAtSame, IsEventStart, IsInFormats}
+use Rattle.tdf_sim_split.specs.Columns.{BeginsIn, HasSoundColumns}
 use Rattle.tdf_sim_split.specs.Following.{IsSoundCluster}
 use Rattle.tdf_sim_split.specs.Laws.{AreSound}
-use Rattle.tdf_streams.proofs.Api.{get_inside, none_some, some_same}
+use Rattle.tdf_streams.proofs.Api.{get_inside, none_some}
 use Rattle.tdf_streams.specs.Laws.{IsClusterPort}
 use Rattle.tdf_streams.specs.Periods.{PeriodRecord}
-use Rattle.tdf_streams.specs.Signals.{positions, step_in, time_of_periods}
-use Rattle.tdf_trace_rows.proofs.Api.{last_more}
-use Rattle.tdf_trace_rows.specs.Positions.{count_of_spans, position_at}
+use Rattle.tdf_streams.specs.Signals.{positions, time_of_periods}
+use Rattle.tdf_trace_rows.specs.Positions.{count_of_spans}
 use Rattle.tdf_trace_rows.specs.Rows.{Cells, last}
-use Rattle.tdf_trace_states.specs.Windows.{AreChangesTo, AreRisingFrom}
+use Rattle.tdf_trace_states.specs.Windows.{AreRisingFrom}
 
 -- ---- where columns begin
 

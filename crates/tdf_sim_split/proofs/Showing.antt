@@ -1,5 +1,5 @@
 -- What a column of samples shows, by its positions and the samples that are there.
-use Rattle.std.proofs.Common.{◌≡◌, ◌≢◌, ◌∙◌, ◌<◌, ◌≤◌, ◌+◌, ◌-◌, ◌*◌, ◌++◌, ◌⊎◌, ℕ, zero, suc, Bool, true, false, if◌then◌else◌, min, nat_lt, not, Option, Some, None, option_map, List, [], ◌∷◌, length, length-append, map, slice_get, refl, ap, sym, subst, inl, inr, arith}
+use Rattle.std.proofs.Common.{◌≡◌, ◌≢◌, ◌∙◌, ◌<◌, ◌≤◌, ◌+◌, ◌-◌, ◌*◌, ◌++◌, ℕ, zero, suc, Bool, true, false, if◌then◌else◌, min, nat_lt, not, Option, Some, None, option_map, List, [], ◌∷◌, length, map, slice_get, refl, ap, sym, subst, inl, inr, arith}
 use Rattle.std.proofs.Math.Nat.{add-mul, mul-le-mul_right}
 use Rattle.std.proofs.lemmas.Bool.{cases_lt, le-ltb, lt-ltb, ltb-true}
 use Rattle.std.specs.List.{count_by, flat_map, range_with_len}
@@ -7,11 +7,11 @@ use Rattle.std.specs.Prelude.{IsSome, unwrap_or}
 use Rattle.tdf_fixed.specs.declared.raw.Raw.{Raw}
 use Rattle.tdf_saved.specs.declared.state.Stamp.{Stamp}
 use Rattle.tdf_sim_resumed.specs.Snapshot.{number_of_sample, stamp_of_cell}
-use Rattle.tdf_sim_split.proofs.Rises.{IsFound, IsIn, Rises, found_in, found_is, found_rise, counted_within, front_passes, in_range, is_found, of_range, one_list, passing, range_rises, rises_less, time_of}
-use Rattle.tdf_sim_split.proofs.Spanning.{InPeriod, IsSpot, PeriodNumbers, late_spot, place_of, spot_of, time_in}
+use Rattle.tdf_sim_split.proofs.Rises.{IsFound, IsIn, found_in, found_is, found_rise, counted_within, front_passes, in_range, is_found, of_range, one_list, passing, range_rises, rises_less, time_of}
+use Rattle.tdf_sim_split.proofs.Spanning.{InPeriod, PeriodNumbers, late_spot, place_of, spot_of, time_in}
 use Rattle.tdf_streams.proofs.Api.{none_some, some_same}
 use Rattle.tdf_trace_rows.proofs.Api.{time_is}
-use Rattle.tdf_trace_rows.specs.Positions.{Span, count_of_spans, position_at, time_in_spans}
+use Rattle.tdf_trace_rows.specs.Positions.{Span, count_of_spans, position_at}
 use Rattle.tdf_trace_rows.specs.Rows.{Cells, last}
 
 -- ---- cells

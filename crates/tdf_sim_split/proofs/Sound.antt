@@ -1,28 +1,25 @@
 -- The clusters of a history from a good start stay sound.
-use Rattle.std.proofs.Common.{◌≡◌, ◌≢◌, ◌∙◌, ℕ, zero, suc, ◌+◌, ◌-◌, ◌<◌, ◌≤◌, Bool, true, false, ◌&&◌, nat_eq, if◌then◌else◌, Option, Some, None, List, [], ◌∷◌, ◌++◌, length, map, take, slice_get, slice_index_or, slice_set, length-set, length-append, get_or-set_same, get_or-set_other, refl, sym, ap, subst, inl, inr, arith}
+use Rattle.std.proofs.Common.{◌≡◌, ◌≢◌, ◌∙◌, ℕ, suc, ◌+◌, ◌<◌, ◌≤◌, true, nat_eq, if◌then◌else◌, Option, Some, None, List, [], ◌∷◌, ◌++◌, length, map, take, slice_get, slice_index_or, slice_set, length-set, length-append, get_or-set_same, get_or-set_other, refl, sym, ap, subst, inl, inr, arith}
 use Rattle.std.proofs.lemmas.Bool.{cases_eq, eq-eqb, ne_eqb}
 use Rattle.std.proofs.lemmas.Bool.Decides.{nat_tests}
 use Rattle.std.proofs.lemmas.List.{take-take}
 use Rattle.std.proofs.lemmas.List.Sums.{sum_by-take-le, sum_by_push}
 use Rattle.std.proofs.lemmas.Option.{slice_get_within}
 use Rattle.std.specs.List.{flat_map, sum_by}
-use Rattle.std.specs.Prelude.{All, cond, drop, slice_index, unwrap_or}
+use Rattle.std.specs.Prelude.{cond, slice_index, unwrap_or}
 use Rattle.tdf_bind.specs.declared.model.Flat.{Flat}
-use Rattle.tdf_bind_connections.specs.declared.modules.PortRow.{PortRow}
-use Rattle.tdf_bind_tables.specs.FlatTables.{FlatTablesOf}
 use Rattle.tdf_bind_tables.specs.declared.actors.ActorRow.{ActorRow}
 use Rattle.tdf_dynamic.proofs.Api.{attributes_stay}
-use Rattle.tdf_dynamic.specs.Asked.{AskedOf, IsQuiet, attrs_after}
+use Rattle.tdf_dynamic.specs.Asked.{IsQuiet, attrs_after}
 use Rattle.tdf_dynamic.specs.Change.{Asks, IsSame, table_after}
 use Rattle.tdf_dynamic_plans.specs.Assignments.{assigned_by, assignments}
 use Rattle.tdf_dynamic_plans.specs.Attributes.{AttrsOf, clusters_of}
 use Rattle.tdf_dynamic_plans.specs.Faults.{IsTablePlan}
 use Rattle.tdf_dynamic_plans.specs.Rates.{net_of}
-use Rattle.tdf_exec.proofs.Api.{DifferInFlags, net_same, plan_same, with_flag}
+use Rattle.tdf_exec.proofs.Api.{DifferInFlags, net_same, plan_same}
 use Rattle.tdf_expr.specs.Checked.{IsCheckedOf}
 use Rattle.tdf_fixed.specs.declared.raw.Raw.{Raw}
 use Rattle.tdf_graph.specs.Counts.{AreCounts}
-use Rattle.tdf_graph.specs.declared.actors.Actor.{Actor}
 use Rattle.tdf_graph.specs.declared.actors.Actor.TheVariants as actor
 use Rattle.tdf_lang_tree.specs.Kept.{IsKept}
 use Rattle.tdf_lang_tree.specs.Pure.{PureTree}
@@ -32,14 +29,13 @@ use Rattle.tdf_schedule.specs.declared.entry.Entry.{Entry}
 use Rattle.tdf_sim_history.proofs.Api.{last_record, new_goes, records_push, same_goes}
 use Rattle.tdf_sim_history.specs.Answers.{IsAnswer, IsNewPeriod, asks_in, last_cells}
 use Rattle.tdf_sim_history.specs.Instant.{activations, acts_now, is_over, next_entry, periods_of, sample_taken, same_period, stepped, with_new, with_read, with_same}
-use Rattle.tdf_sim_history.specs.Start.{counts_in}
-use Rattle.tdf_sim_history.specs.World.{Change, ClusterAt, New, Same, next_change}
+use Rattle.tdf_sim_history.specs.World.{ClusterAt, New, Same, next_change}
 use Rattle.tdf_sim_refinement.proofs.Api.{new_record}
 use Rattle.tdf_sim_split.proofs.Alike.{IsNoSampler, IsSampler, StepsKeep}
 use Rattle.tdf_sim_split.specs.Following.{IsSoundCluster}
 use Rattle.tdf_streams.proofs.Api.{done_next}
 use Rattle.tdf_streams.specs.Net.{count}
-use Rattle.tdf_streams.specs.Periods.{AreAttributes, AreGrounded, IsPeriodRecord, IsWholeRecord, PeriodRecord, net_in, period_record, read_rates, write_rates}
+use Rattle.tdf_streams.specs.Periods.{AreAttributes, IsPeriodRecord, IsWholeRecord, PeriodRecord, period_record, read_rates, write_rates}
 use Rattle.tdf_streams.specs.Places.{actor_kind, kind_of_row}
 use Rattle.tdf_timestep.specs.Period.{IsPeriod}
 

@@ -1,11 +1,11 @@
 -- The positions of a column in the period in progress.
-use Rattle.std.proofs.Common.{◌≡◌, ◌≢◌, ◌∙◌, ◌<◌, ◌≤◌, ◌+◌, ◌-◌, ◌*◌, ◌/◌, ◌++◌, ℕ, zero, suc, Bool, true, false, if◌then◌else◌, nat_lt, Option, Some, None, option_map, List, [], ◌∷◌, length, slice_get, slice_index, refl, ap, sym, subst, inl, inr, arith}
+use Rattle.std.proofs.Common.{◌≡◌, ◌∙◌, ◌<◌, ◌≤◌, ◌+◌, ◌-◌, ◌*◌, ◌/◌, ◌++◌, ℕ, zero, suc, false, if◌then◌else◌, nat_lt, Option, Some, None, option_map, List, [], ◌∷◌, length, slice_get, slice_index, refl, ap, sym, subst, inl, inr, arith}
 use Rattle.std.proofs.Math.Nat.{add-mul, mul-le-mul_right}
 use Rattle.std.proofs.lemmas.Bool.{cases_lt, le-ltb, lt-ltb}
 use Rattle.std.proofs.lemmas.List.Sums.{sum_by-cons}
 use Rattle.std.proofs.lemmas.Option.{get_or_from_slice_get, slice_get_within}
 use Rattle.std.specs.List.{sum_by}
-use Rattle.std.specs.Prelude.{All, IsSome}
+use Rattle.std.specs.Prelude.{All}
 use Rattle.tdf_bind.specs.declared.model.Flat.{Flat}
 use Rattle.tdf_bind_connections.specs.declared.modules.PortRow.{PortRow}
 use Rattle.tdf_bind_invariants.specs.Limits.{AreWithinLimits}
@@ -14,11 +14,9 @@ use Rattle.tdf_schedule.specs.declared.entry.Entry.{Entry}
 use Rattle.tdf_sim_history.proofs.Api.{AreRising, column_push, column_total, first_time, held_long, stamps_chain, stamps_early, stamps_total, whole_sum}
 use Rattle.tdf_sim_history.specs.Cells.{column_spans, spans_from}
 use Rattle.tdf_sim_history.specs.Columns.{ColumnStart, Stamp, held_by, span_after, spans_to}
-use Rattle.tdf_sim_history.specs.WorldLaws.{AreRecordsOf}
 use Rattle.tdf_sim_split.proofs.Sound.{done_rises}
 use Rattle.tdf_sim_split.specs.Columns.{IsSampleStart, StandRising, first_or}
 use Rattle.tdf_streams.proofs.Api.{none_some, some_same, steps_whole}
-use Rattle.tdf_streams.specs.Cluster.{Start}
 use Rattle.tdf_streams.specs.Laws.{IsClusterPort}
 use Rattle.tdf_streams.specs.Periods.{IsTimedRecord, IsWholeRecord, PeriodRecord, done_before}
 use Rattle.tdf_streams.specs.Signals.{outputs_in, positions, rate_in, step_in, time_of_periods}

@@ -1,10 +1,8 @@
 -- A history that goes on from a world that goes on from what another history came to.
-use Rattle.std.proofs.Common.{◌≡◌, ◌∙◌, ◌+◌, ◌-◌, ◌<◌, ◌≤◌, ℕ, List, [], ◌++◌, Some, length, slice_get, append-nil, refl, sym, ap, subst, arith}
+use Rattle.std.proofs.Common.{◌≡◌, ◌∙◌, ◌+◌, ◌-◌, ◌≤◌, ℕ, [], ◌++◌, append-nil, refl, sym, ap, subst, arith}
 use Rattle.std.proofs.lemmas.Option.{slice_get_within}
 use Rattle.std.specs.Prelude.{slice_index_or}
-use Rattle.tdf_bind.specs.Flat.{IsFlatOf}
 use Rattle.tdf_bind.specs.declared.model.Flat.{Flat}
-use Rattle.tdf_bind_invariants.specs.Limits.{AreWithinLimits}
 use Rattle.tdf_events.specs.Side.{SideOf}
 use Rattle.tdf_exec_layout.specs.Edges.{SinksAreRead}
 use Rattle.tdf_exec_layout.specs.Wires.{SinksHaveOne}
@@ -12,18 +10,18 @@ use Rattle.tdf_expr.specs.Checked.{IsCheckedOf}
 use Rattle.tdf_lang_tree.specs.Kept.{IsKept}
 use Rattle.tdf_lang_tree.specs.Pure.{PureTree}
 use Rattle.tdf_sim_history.specs.Answers.{AreAnswers}
-use Rattle.tdf_sim_history.specs.History.{HistoryState, On, Spent, Stopped, history}
+use Rattle.tdf_sim_history.specs.History.{HistoryState, On, history}
 use Rattle.tdf_sim_history.specs.Instant.{RunFault, engine}
 use Rattle.tdf_sim_history.specs.Rules.{rules_of}
 use Rattle.tdf_sim_history.specs.Texts.{notes_to, state_at}
 use Rattle.tdf_sim_history.specs.World.{ClusterAt, World}
 use Rattle.tdf_sim_split.proofs.Alike.{AreBetween, StepsKeep, histories_alike}
 use Rattle.tdf_sim_split.proofs.History.{answers_on, both_at, notes_on, on_other}
-use Rattle.tdf_sim_split.proofs.Onward.{At, GoAt, GoesWith, steps_keep}
+use Rattle.tdf_sim_split.proofs.Onward.{At, GoAt, steps_keep}
 use Rattle.tdf_sim_split.proofs.Sound.{IsSoundSame, steps_sound}
 use Rattle.tdf_sim_split.specs.Alike.{BothOn, BothSpent, BothStopped, StatesAlike}
-use Rattle.tdf_sim_split.specs.Following.{Follows, HavePeriods, Inside, IsResumedCluster, IsSoundCluster}
-use Rattle.tdf_sim_split.specs.Laws.{AreSound, GoesAlike, GoesOnFrom, HasCome, HaveCome, HistoryGoesOnFrom}
+use Rattle.tdf_sim_split.specs.Following.{Follows, Inside, IsResumedCluster}
+use Rattle.tdf_sim_split.specs.Laws.{AreSound, HasCome, HaveCome, HistoryGoesOnFrom}
 use Rattle.tdf_streams.proofs.Api.{get_inside, some_same}
 use Rattle.tdf_streams_onward.specs.Laws.{BodiesGoByTable, FiringsAreEnough, StreamsGoOn}
 

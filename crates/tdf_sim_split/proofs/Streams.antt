@@ -1,18 +1,17 @@
 -- The streams of a cluster that goes on are those of the whole run.
-use Rattle.std.proofs.Common.{◌≡◌, ◌≢◌, ◌∙◌, ◌⊎◌, ℕ, ℤ, zero, suc, ◌+◌, ◌-◌, ◌*◌, ◌/◌, ◌%◌, ◌<◌, ◌≤◌, Bool, true, false, nat_eq, if◌then◌else◌, Option, Some, None, option_map, List, [], ◌∷◌, ◌++◌, append_assoc, append-nil, length, slice_get, slice_index, slice_index_or, refl, sym, ap, subst, inl, inr, arith}
+use Rattle.std.proofs.Common.{◌≡◌, ◌∙◌, ◌⊎◌, ℕ, ℤ, zero, suc, ◌+◌, ◌-◌, ◌*◌, ◌/◌, ◌%◌, ◌<◌, ◌≤◌, false, if◌then◌else◌, Option, Some, None, option_map, List, [], ◌∷◌, ◌++◌, append_assoc, length, slice_get, slice_index, slice_index_or, refl, sym, ap, subst, inl, inr, arith}
 use Rattle.std.proofs.Math.Nat.{add-mul, mul-add-div_right, mul-add-mod_self_right}
-use Rattle.std.proofs.lemmas.Bool.{cases_eq, cases_lt, eq-eqb, ne_eqb}
-use Rattle.std.proofs.lemmas.List.Sums.{sum_by-cons, sum_by_push}
-use Rattle.std.proofs.lemmas.Option.{get_or_from_slice_get, slice_get_past, slice_get_within}
+use Rattle.std.proofs.lemmas.Bool.{cases_eq, eq-eqb, ne_eqb}
+use Rattle.std.proofs.lemmas.List.Sums.{sum_by-cons}
+use Rattle.std.proofs.lemmas.Option.{slice_get_within}
 use Rattle.std.specs.List.{sum_by}
 use Rattle.std.specs.Option.{option_and_then}
-use Rattle.std.specs.Prelude.{All, unwrap_or}
+use Rattle.std.specs.Prelude.{unwrap_or}
 use Rattle.tdf_bind.specs.Flat.{IsFlatOf}
 use Rattle.tdf_bind.specs.declared.model.Flat.{Flat}
 use Rattle.tdf_bind_invariants.specs.Limits.{AreWithinLimits}
 use Rattle.tdf_bind_connections.specs.declared.modules.PortRow.{PortRow}
 use Rattle.tdf_bind_tables.specs.FlatTables.{FlatTablesOf}
-use Rattle.tdf_dynamic_plans.specs.Attributes.{AttrsOf}
 use Rattle.tdf_dynamic_plans.specs.Rates.{port_rate}
 use Rattle.tdf_exec_layout.specs.Wires.{SinksHaveOne}
 use Rattle.tdf_exec_layout.specs.Wiring.{Reads}
@@ -30,19 +29,19 @@ use Rattle.tdf_sim_history.specs.WorldLaws.{AreRecordsOf}
 use Rattle.tdf_sim_refinement.proofs.Api.{takes_one}
 use Rattle.tdf_sim_split.proofs.Sound.{done_rises}
 use Rattle.tdf_sim_split.specs.Following.{Follows, HavePeriods, Inside, IsResumedCluster, IsSoundCluster, Later}
-use Rattle.tdf_streams.proofs.Api.{are_active, get_high, get_inside, get_low, none_some}
+use Rattle.tdf_streams.proofs.Api.{are_active, get_high, get_low}
 use Rattle.tdf_streams.specs.Cluster.{Start, cluster_net, is_outside_cluster, zero_sample}
 use Rattle.tdf_streams.specs.Grounds.{firings}
-use Rattle.tdf_streams.specs.Laws.{ClusterNet, ClusterRun, run_from}
-use Rattle.tdf_streams.specs.Net.{Net, Past, Period, Run, Turn, count, taken}
+use Rattle.tdf_streams.specs.Laws.{ClusterNet, run_from}
+use Rattle.tdf_streams.specs.Net.{Past, Turn, count, taken}
 use Rattle.tdf_streams.specs.Periods.{PeriodInfo, PeriodRecord}
-use Rattle.tdf_streams.specs.Places.{actor_kind, kind_of_row, reader_at}
+use Rattle.tdf_streams.specs.Places.{actor_kind, reader_at}
 use Rattle.tdf_streams.specs.Signals.{output_at_spot, outputs_in, port_output, rate_in}
 use Rattle.tdf_streams.specs.Stands.{KeepsReads, Play}
 use Rattle.tdf_streams.specs.Streams.{Spot, entered, find, known, place, spot, state_before}
 use Rattle.tdf_streams_onward.proofs.Api.{After as LiesAfter, Inside as LiesInside, before_plain, entered_not, lies, lies_none, map_id, plain_state, same_state, sum_after}
-use Rattle.tdf_streams_onward.specs.Laws.{BodiesGoByTable, FiringsAreEnough, GoesOn, StreamsGoOn, net_from, table_of, whole_run}
-use Rattle.tdf_streams_onward.specs.Onward.{GoOnAs, IsEnough, acts_before, all_known, started, taken_before}
+use Rattle.tdf_streams_onward.specs.Laws.{BodiesGoByTable, FiringsAreEnough, GoesOn, StreamsGoOn, table_of, whole_run}
+use Rattle.tdf_streams_onward.specs.Onward.{GoOnAs, IsEnough, acts_before, all_known, taken_before}
 
 no_cons : {A : Type 0} {x : A} {xs : List A} → x ∷ xs ≡ [] → ⊥
 no_cons same = absurd cc

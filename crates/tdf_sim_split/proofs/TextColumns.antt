@@ -1,5 +1,5 @@
 -- A run from its text begins with sound columns.
-use Rattle.std.proofs.Common.{◌≡◌, ◌∙◌, ◌<◌, ◌≤◌, ◌+◌, ◌-◌, ◌*◌, ℕ, Bool, true, false, if◌then◌else◌, Option, Some, None, option_map, List, [], ◌∷◌, length, map, slice_get, slice_index, refl, ap, sym, subst, arith}
+use Rattle.std.proofs.Common.{◌≡◌, ◌∙◌, ◌<◌, ◌+◌, ◌*◌, ℕ, Bool, true, false, if◌then◌else◌, Some, None, option_map, [], length, map, slice_get, slice_index, refl, ap, sym, subst, arith}
 use Rattle.std.proofs.lemmas.List.Elements.{All-nil}
 use Rattle.std.proofs.lemmas.List.FromFn.{length-map-range_with_len}
 use Rattle.std.proofs.lemmas.Option.{get_or_from_slice_get, slice_get-map}
@@ -10,23 +10,20 @@ use Rattle.tdf_bind_connections.specs.declared.drivers.SignalRow.{SignalRow}
 use Rattle.tdf_bind_connections.specs.declared.modules.PortRow.{PortRow}
 use Rattle.tdf_bind_connections.specs.declared.traces.TraceRow.{TraceRow}
 use Rattle.tdf_dynamic_first.specs.declared.first.First.{First}
-use Rattle.tdf_events.specs.Side.{SideOf}
 use Rattle.tdf_fixed.specs.declared.raw.Raw.{Raw}
-use Rattle.tdf_lang_tree.specs.Pure.{PureTree}
 use Rattle.tdf_sim_history.specs.Cells.{driver_of_row}
 use Rattle.tdf_sim_history.specs.Columns.{ColumnStart, Stamp, no_start, start_of}
 use Rattle.tdf_sim_history.specs.Instant.{periods_of}
 use Rattle.tdf_sim_history.specs.Rules.{start_world}
 use Rattle.tdf_sim_history.specs.Start.{first_cluster, starting_value, text_column, text_columns}
-use Rattle.tdf_sim_history.specs.World.{Change, ClusterAt, World}
-use Rattle.tdf_sim_history.specs.WorldLaws.{IsClusterOfPort, Shows}
+use Rattle.tdf_sim_history.specs.World.{ClusterAt}
 use Rattle.tdf_sim_resumed.specs.Valid.{StartsWith}
 use Rattle.tdf_sim_split.proofs.Starts.{first_at}
-use Rattle.tdf_sim_split.specs.Columns.{BeginsIn, EventsAreThere, HasSoundColumns, IsEventStart, IsSampleStart, TextsBeginWithColumns}
+use Rattle.tdf_sim_split.specs.Columns.{BeginsIn, IsEventStart, IsSampleStart, TextsBeginWithColumns}
 use Rattle.tdf_streams.proofs.Api.{get_inside}
 use Rattle.tdf_streams.specs.Cluster.{driver_samples, initial_sample, initial_samples, zero_sample}
 use Rattle.tdf_streams.specs.Periods.{PeriodRecord, done_before}
-use Rattle.tdf_streams.specs.Signals.{rate_in, step_in, time_of_periods}
+use Rattle.tdf_streams.specs.Signals.{rate_in, time_of_periods}
 use Rattle.tdf_trace_states.specs.Windows.{AreChangesTo}
 
 -- the start of a column is that of its row

@@ -1,13 +1,11 @@
 -- The columns of a snapshot of a run from a start with sound columns are valid.
-use Rattle.std.proofs.Common.{◌≡◌, ◌≢◌, ◌∙◌, ◌<◌, ◌≤◌, ◌+◌, ◌-◌, ◌++◌, ◌&&◌, ◌⊎◌, ℕ, ℤ, zero, suc, Bool, true, false, if◌then◌else◌, Option, Some, None, option_map, List, [], ◌∷◌, length, map, slice_get, slice_index, refl, ap, sym, subst, inl, inr, arith}
-use Rattle.std.proofs.lemmas.Bool.{cases_lt}
+use Rattle.std.proofs.Common.{◌≡◌, ◌∙◌, ◌<◌, ◌≤◌, ◌+◌, ◌-◌, ℕ, zero, suc, Bool, true, false, if◌then◌else◌, Some, None, option_map, List, [], ◌∷◌, length, map, slice_get, slice_index, refl, ap, sym, subst, inl, inr, arith}
 use Rattle.std.proofs.lemmas.Option.{slice_get-map, slice_get_within}
 use Rattle.std.proofs.lemmas.List.{length-map}
 use Rattle.std.specs.List.{flat_map, range_with_len, sum_by}
 use Rattle.std.specs.Prelude.{unwrap_or}
 use Rattle.tdf_bind.specs.declared.model.Flat.{Flat}
 use Rattle.tdf_bind_connections.specs.declared.drivers.SignalRow.{SignalRow}
-use Rattle.tdf_bind_connections.specs.declared.modules.PortRow.{PortRow}
 use Rattle.tdf_bind_connections.specs.declared.traces.TraceRow.{TraceRow}
 use Rattle.tdf_bind_invariants.specs.Limits.{AreWithinLimits}
 use Rattle.tdf_dynamic_first.specs.declared.first.First.{First}
@@ -24,23 +22,22 @@ use Rattle.tdf_sim_history.specs.Cells.{driver_of_row, event_column_cell, run_ce
 use Rattle.tdf_sim_history.specs.Columns.{ColumnStart, start_of}
 use Rattle.tdf_sim_history.specs.Continuing.{AllGoOn}
 use Rattle.tdf_sim_history.specs.History.{On, history}
-use Rattle.tdf_sim_history.specs.Instant.{acts_now, engine, periods_of, run_in}
+use Rattle.tdf_sim_history.specs.Instant.{engine, periods_of, run_in}
 use Rattle.tdf_sim_history.specs.Rules.{rules_of}
 use Rattle.tdf_sim_history.specs.World.{ClusterAt, World}
 use Rattle.tdf_sim_history.specs.WorldLaws.{HasDone}
 use Rattle.tdf_sim_resumed.specs.Resuming.{resumed_clusters}
-use Rattle.tdf_sim_resumed.specs.Snapshot.{AreSavedColumns, IsSavedCluster, IsSavedColumn, IsSnapshot, later_of, shown_until, stamp_of_cell, stamps_between}
+use Rattle.tdf_sim_resumed.specs.Snapshot.{AreSavedColumns, IsSavedCluster, IsSavedColumn, later_of, shown_until, stamp_of_cell}
 use Rattle.tdf_sim_resumed.specs.Starting.{Tracked, first_unknown, least_within, rows_from_saved, tracked_of, tracked_signal}
-use Rattle.tdf_sim_resumed.specs.Valid.{AreAlikeColumns, AreColumns, IsValidColumn, IsValidEvents, IsValidTracked}
+use Rattle.tdf_sim_resumed.specs.Valid.{IsValidColumn, IsValidEvents, IsValidTracked}
 use Rattle.tdf_sim_split.proofs.Columned.{Driven, HowShown, IsDriven, Nothing, how_shown, numbers_of, same_numbers, tracked_by, tracked_in}
 use Rattle.tdf_sim_split.proofs.EventColumns.{no_unknown, valid_events}
 use Rattle.tdf_sim_split.proofs.SavedColumns.{after_here, high_here, low_here, sample_cell, valid, valid_nothing}
 use Rattle.tdf_sim_split.proofs.Showing.{unknown_from}
-use Rattle.tdf_sim_split.proofs.Spanning.{PeriodNumbers}
 use Rattle.tdf_sim_split.proofs.Split.{sound_at}
 use Rattle.tdf_sim_split.proofs.Streams.{enough_of}
 use Rattle.tdf_sim_split.proofs.Timed.{timed_at}
-use Rattle.tdf_sim_split.specs.Columns.{AreAtSame, EventsAreThere, HasSoundColumns, HasValidColumns, IsAtSame, IsInFormats, SavedColumnsAreValid}
+use Rattle.tdf_sim_split.specs.Columns.{AreAtSame, EventsAreThere, HasSoundColumns, HasValidColumns, IsInFormats, SavedColumnsAreValid}
 use Rattle.tdf_sim_split.specs.Following.{IsSoundCluster}
 use Rattle.tdf_sim_split.specs.Laws.{AreSound}
 use Rattle.tdf_streams.proofs.Api.{get_inside, none_some, some_same}

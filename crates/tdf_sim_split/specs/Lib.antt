@@ -4,3 +4,5 @@ pub mod Following
 pub mod Laws
 pub mod Parts
 pub mod Snapshots
+pub mod Unbroken
+pub mod Validity

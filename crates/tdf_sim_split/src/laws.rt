@@ -4,6 +4,8 @@ ghost use Rattle.tdf_sim_split.specs.Columns.{ResumedBeginWithColumns, SavedColu
 ghost use Rattle.tdf_sim_split.specs.Laws.{HistoryGoesOnFrom, TextsBeginSound};
 ghost use Rattle.tdf_sim_split.specs.Parts.{RunsSplit};
 ghost use Rattle.tdf_sim_split.specs.Snapshots.{SnapshotsAreSoundStarts, SnapshotsAreValid, SnapshotsGoOn, TextsAreSoundStarts};
+ghost use Rattle.tdf_sim_split.specs.Unbroken.{RunsAreUnbroken};
+ghost use Rattle.tdf_sim_split.specs.Validity.{SnapshotIsValid};
 
 use tdf_balance::law_counts;
 use tdf_bind_invariants::law_formats;
@@ -71,4 +73,23 @@ pub fn law_parts()
     law_onward();
     law_enough();
     law_samples_there();
+}
+
+/// The snapshot of a run is valid, under plans for its clusters.
+pub fn law_saved_is_valid()
+    ensures { SnapshotIsValid }
+{
+    law_columns();
+    law_saved_goes_on();
+}
+
+/// A run and one that goes on from a snapshot of it are one unbroken run, with whatever plans the clusters of the snapshot can go on
+/// under.
+pub fn law_unbroken()
+    ensures { RunsAreUnbroken }
+{
+    law_parts();
+    law_sound();
+    law_saved_goes_on();
+    law_columns();
 }

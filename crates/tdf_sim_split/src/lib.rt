@@ -7,4 +7,7 @@
 
 mod laws;
 
-pub use laws::{law_columns, law_goes_on, law_parts, law_saved_goes_on, law_sound};
+pub use laws::{
+    law_columns, law_goes_on, law_parts, law_saved_goes_on, law_saved_is_valid, law_sound,
+    law_unbroken,
+};
