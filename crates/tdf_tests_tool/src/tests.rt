@@ -3,7 +3,6 @@
 //! - `devices`: sources and sinks.
 //! - `failing`: devices that fail under the command.
 //! - `kernels`: what the kernel of a run tells after its stop.
-//! - `pauses`: a run that waits at a stop and goes on.
 //! - `plans`: how often a plan is made in a run, and which rates are in force after it.
 //! - `runs`: runs and refusals of the command.
 //! - `stimulus`: a model that a table drives.
@@ -11,7 +10,6 @@
 mod devices;
 mod failing;
 mod kernels;
-mod pauses;
 mod plans;
 mod runs;
 mod stimulus;
