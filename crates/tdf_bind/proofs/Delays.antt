@@ -12,10 +12,9 @@ use Rattle.tdf_expr_blocks.specs.Lines.{attr_faults, initial_faults, tdf_line_fa
 use Rattle.tdf_expr_blocks.specs.Types.{global_faults, traces_faults, type_faults}
 use Rattle.tdf_base.proofs.Api.{if_none, none_first, none_second}
 use Rattle.tdf_base.specs.First.{fault_if}
-use Rattle.tdf_expr.proofs.Api.{AllThings, all_changed, all_named}
+use Rattle.tdf_expr.proofs.Api.{AllThings, all_changed, all_named, found}
 use Rattle.tdf_bind.specs.Laws.{DelaysAreShort}
 use Rattle.tdf_bind_ports.specs.Ports.{ports_of_tdf}
-use Rattle.tdf_expr_semantics.proofs.Api.{found}
 use Rattle.tdf_bind_attributes.specs.Roles.{delay_of_port, port_data, roles_from, roles_of}
 use Rattle.tdf_expr_symbols.specs.Index.{kind_faults}
 use Rattle.tdf_expr_symbols.specs.Names.{Names, Thing, Port, no_names, place_of, thing_of, at_delay, at_rate, globals_of, tdf_names, with_attr, with_attrs, with_store, with_tdf_line, with_tdf_lines}

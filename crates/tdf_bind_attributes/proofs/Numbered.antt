@@ -5,7 +5,7 @@ use Rattle.std.proofs.Math.Seq.{get_or-append_seam}
 use Rattle.std.proofs.lemmas.Bool.{cases_lt}
 use Rattle.std.proofs.lemmas.Option.{slice_get_within}
 use Rattle.std.specs.Prelude.{slice_get, slice_index}
-use Rattle.tdf_expr_semantics.specs.Places.{before, rates_of, rate_number}
+use Rattle.tdf_expr_compiler.specs.Below.{before, rate_number, rates_of}
 use Rattle.tdf_bind_attributes.specs.machine.Numbers.{AreRateNumbers}
 use Rattle.tdf_expr_symbols.specs.Names.{Names, Thing}
 

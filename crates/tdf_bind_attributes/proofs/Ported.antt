@@ -10,7 +10,7 @@ use Rattle.std.specs.Cmp.Lexicographic.{pointwise, same_text}
 use Rattle.std.specs.Ordering.{nat_cmp}
 use Rattle.std.specs.Prelude.{nat_eq, slice_get, slice_index, slice_index_or, slice_set, replicate, map}
 use Rattle.tdf_fixed.specs.declared.raw.Raw.{Raw}
-use Rattle.tdf_expr_semantics.specs.Value.{literal_in}
+use Rattle.tdf_expr_compiler.specs.Below.{literal_in}
 use Rattle.tdf_bind_attributes.specs.Roles.{with_initial, with_initials, initials_of_port, data_of_port, port_data}
 use Rattle.tdf_bind_attributes.specs.Standing.{or_else, last_of, assigned_port_step}
 use Rattle.tdf_bind_attributes.specs.declared.ports.Gathered.{Gathered}

@@ -8,8 +8,7 @@ use Rattle.std.specs.List.{flat_map}
 use Rattle.std.specs.Ordering.{nat_cmp}
 use Rattle.tdf_fixed.specs.declared.raw.Raw.{Raw}
 use Rattle.tdf_bind_ports.specs.Ports.{ports_of_tdf, ports_of_de}
-use Rattle.tdf_expr_semantics.specs.Places.{rate_number}
-use Rattle.tdf_expr_semantics.specs.Value.{literal_in}
+use Rattle.tdf_expr_compiler.specs.Below.{literal_in, rate_number}
 use Rattle.tdf_bind_attributes.specs.Standing.{last_of, module_step, assigned_port_step, accepting}
 use Rattle.tdf_expr_symbols.specs.Names.{Names, Thing, Port, RateVar, place_in, place_of, thing_of, globals_of}
 use Rattle.tdf_expr_symbols.specs.Scope.{Scope, tdf_scope, does_change}

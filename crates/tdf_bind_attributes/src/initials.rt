@@ -4,7 +4,7 @@ ghost use Rattle.std.specs.BTreeMap.{insert_entry};
 ghost use Rattle.std.specs.Ordering.{nat_cmp};
 ghost use Rattle.std.specs.Prelude.{◌≡◌, ◌<◌, ◌++◌, ◌∷◌, [], map, IfOk, OnOk, Some, length, replicate, slice_set, slice_index_or};
 ghost use Rattle.tdf_fixed.specs.Cast.{IsLegal};
-ghost use Rattle.tdf_expr_semantics.specs.Value.{literal_in as literal_of};
+ghost use Rattle.tdf_expr_compiler.specs.Below.{literal_in as literal_of};
 ghost use Rattle.tdf_bind_attributes.specs.machine.Standing.{put_entry, initial_put, initials_put};
 ghost use Rattle.tdf_expr_symbols.specs.Sound.{IsSound};
 ghost use Rattle.tdf_lang_tree.specs.Kept.{Each, KeepsInitial, KeepsLit};

@@ -2,7 +2,7 @@
 
 ghost use Rattle.std.specs.Option.{option_map};
 ghost use Rattle.std.specs.Prelude.{◌≡◌, ◌<◌, ◌≤◌, ◌^◌, ◌+◌, ℕ, IfOk, Some, length, slice_get, slice_index};
-ghost use Rattle.tdf_expr_semantics.specs.Places.{before, rates_of, rate_number};
+ghost use Rattle.tdf_expr_compiler.specs.Below.{before, rate_number, rates_of};
 ghost use Rattle.tdf_bind_attributes.specs.Roles.{rate_of_limit, variable_at, variable_of};
 ghost use Rattle.tdf_bind_attributes.specs.machine.Numbers.{AreRateNumbers};
 ghost use Rattle.tdf_expr_symbols.specs.Names.{place_of, Thing as ThingSeen};

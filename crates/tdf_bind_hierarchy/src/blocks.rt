@@ -1,8 +1,7 @@
 //! Blocks whose names are resolved to numbers.
 
 use std::marker::Model;
-use tdf_fixed::{Format, Raw};
-use tdf_lang_tree::Name;
+use tdf_lang_tree::{Format, Name, Raw};
 
 /// What a port of an instance is bound to, in the composite around the instance.
 #[derive(Clone, Copy, Debug)]

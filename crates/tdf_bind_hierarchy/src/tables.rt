@@ -8,7 +8,7 @@ use crate::paths::SharedPath;
 use std::alloc::Global;
 use std::marker::Model;
 use tdf_base::Memory;
-use tdf_fixed::{Format, Raw};
+use tdf_lang_tree::{Format, Raw};
 
 /// A signal by its number: signals of samples and event signals are numbered apart, each from 0, in preorder.
 #[derive(Clone, Copy, Debug, PartialEq, Eq)]

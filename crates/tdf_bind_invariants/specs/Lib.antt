@@ -1,3 +1,4 @@
+pub mod Below
 pub mod Formats
 pub mod Limits
 pub mod Tags

@@ -2,6 +2,7 @@ pub use Rattle.tdf_base.specs.Fault
 pub use Rattle.tdf_lang_parser.specs.Refused
 pub use Rattle.tdf_io.specs.Bytes
 pub use Rattle.tdf_io.specs.Faults
+pub mod Below
 pub mod Driven
 pub mod Input
 pub mod Outcome

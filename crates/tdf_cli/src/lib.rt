@@ -36,3 +36,4 @@ mod tables;
 pub use command::tool;
 pub use laws::law_one_outcome;
 pub use status::{NO_MEMORY, USAGE, WRITE_FAULT};
+pub use tdf_sim::{Ran, check_tree, elaborate};

@@ -29,9 +29,8 @@ use tdf_events_invariants::law_runnable;
 use tdf_io::{Sink, SinkErr, put_all};
 use tdf_sim::{
     End, Part, RunErr, Sim, SimErr, elaborate, law_first_fault, law_one_model, law_one_run,
-    law_parts_alike, law_rests_alike, state_text,
+    law_parts_alike, law_rests_alike, state_text, write_closing,
 };
-use tdf_sim_notes::write_closing;
 
 /// Writes the trace of a run up to its stop, in counts of the resolution of its model.
 fn save_trace<O: Sink, N: Sink>(

@@ -25,7 +25,7 @@ use Rattle.tdf_dynamic_plans.specs.declared.err.ChangeErr.TheVariants.{Refused, 
 use Rattle.tdf_expr.specs.Checked.{IsCheckedOf}
 use Rattle.tdf_bind.specs.declared.model.Flat.{Flat}
 use Rattle.tdf_streams.proofs.Api.{get_inside}
-use Rattle.tdf_bind_invariants.specs.Limits.{AreWithinLimits}
+use Rattle.tdf_streams.specs.Below.{AreWithinLimits}
 use Rattle.tdf_schedule.specs.declared.entry.Plan.{Plan}
 use Rattle.tdf_streams.specs.Periods.{AreAttributes}
 use Rattle.tdf_lang_tree.specs.Pure.{PureTree}

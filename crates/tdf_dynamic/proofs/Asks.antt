@@ -25,7 +25,7 @@ use Rattle.tdf_expr.specs.declared.spans.PortSpan.{PortSpan}
 use Rattle.tdf_exec_firing.specs.Activation.{ports_before}
 use Rattle.tdf_bind.specs.declared.model.Flat.{Flat}
 use Rattle.tdf_streams.proofs.Api.{get_inside}
-use Rattle.tdf_bind_invariants.specs.Limits.{limits_in}
+use Rattle.tdf_streams.specs.Below.{limits_in}
 use Rattle.tdf_expr_semantics.specs.Bodies.{after_body}
 use Rattle.tdf_expr_semantics.specs.Fits.{RatesFit}
 use Rattle.tdf_expr_semantics.specs.Places.{RateLimits, rate_limits}

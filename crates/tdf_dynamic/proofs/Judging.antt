@@ -17,7 +17,7 @@ use Rattle.tdf_dynamic.specs.declared.frames.ModuleFrame.{ModuleFrame}
 use Rattle.tdf_dynamic.specs.machine.Judging.{InPlan, InRejected, InSteps, IsJudged, IsJudgedFault, IsRejection, IsUnrejected}
 use Rattle.tdf_dynamic.specs.machine.Rows.{HoldsBelow, IsFirstPlace, IsRefusing}
 use Rattle.tdf_dynamic_plans.proofs.Api.{fault_apart, plan_same, ports_are, true_at}
-use Rattle.tdf_dynamic_first.proofs.Api.{net_clusters, net_fit}
+use Rattle.tdf_streams.proofs.Api.{net_clusters, net_fit}
 use Rattle.tdf_dynamic_plans.specs.Attributes.{AttrsOf, IsOfCluster, clusters_of}
 use Rattle.tdf_dynamic_plans.specs.Known.{AreTrueFor, HasSameItems, IsKnownAt, PlansOf, table_key}
 use Rattle.tdf_dynamic_plans.specs.Faults.{HasTiming, IsPlanFault, IsPlanOf, IsRefusal, IsStepsFault, OfTiming}

@@ -11,7 +11,6 @@ use Rattle.tdf_dynamic.proofs.Rows.{not_both}
 use Rattle.tdf_dynamic.specs.Change.{AreUnmarked, Asks, HasSameSteps, IsFirstChangeFault, IsFirstRow, IsMarked, IsNewPlan, OfPlan, OfRange, OfRejected, OfSteps, Rejects, TimingOf, TimingsOf, fault_of_row, step_of_module, table_after}
 use Rattle.tdf_dynamic.specs.Laws.{BoundariesHaveOne, IsBoundary}
 use Rattle.tdf_dynamic_plans.proofs.Api.{fault_apart, fault_once, no_counts, no_steps, plan_once, same_steps}
-use Rattle.tdf_dynamic_first.proofs.Api.{net_clusters, net_fit}
 use Rattle.tdf_dynamic_plans.specs.Attributes.{AttrsOf, clusters_of}
 use Rattle.tdf_dynamic_plans.specs.Faults.{IsNetFault, IsNetPlan, IsStepsFault, OfCounts, OfPeriod, OfPlan as NetPlanFault, OfTiming}
 use Rattle.tdf_dynamic_plans.specs.Same.{AreSamePlans}
@@ -22,7 +21,7 @@ use Rattle.tdf_graph.specs.Ranges.{IsEdge}
 use Rattle.tdf_graph.specs.declared.actors.Port.{Port}
 use Rattle.tdf_schedule.specs.Laws.{BoundsAreUnique, PlansAreUnique}
 use Rattle.tdf_schedule.specs.declared.entry.Plan.{Plan}
-use Rattle.tdf_streams.proofs.Api.{are_rates, is_wired}
+use Rattle.tdf_streams.proofs.Api.{are_rates, is_wired, net_clusters, net_fit}
 use Rattle.tdf_streams.specs.Periods.{AreAttributes}
 use Rattle.tdf_timestep.specs.Period.{rate_at_port}
 use Rattle.tdf_timestep.specs.declared.assign.Steps.{Steps}

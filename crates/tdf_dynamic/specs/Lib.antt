@@ -1,4 +1,5 @@
 pub mod Asked
+pub mod Below
 pub mod Change
 pub mod Given
 pub mod Laws

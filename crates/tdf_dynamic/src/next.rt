@@ -16,7 +16,7 @@ ghost use Rattle.tdf_dynamic_plans.specs.Known.{AreTrueFor, HasTablePlanned, IsK
 ghost use Rattle.tdf_dynamic_plans.specs.Rates.{AreRates, IsWired, net_of, net_seen};
 ghost use Rattle.tdf_dynamic_plans.specs.declared.err.ChangeErr.TheVariants.{Refused};
 ghost use Rattle.tdf_dynamic.specs.declared.next.Next.TheVariants.{Same};
-ghost use Rattle.tdf_bind_invariants.specs.Limits.{AreWithinLimits};
+ghost use Rattle.tdf_streams.specs.Below.{AreWithinLimits};
 ghost use Rattle.tdf_streams.specs.Periods.{AreAttributes};
 
 use crate::asking::run_changes;

@@ -7,7 +7,7 @@ use Rattle.std.specs.List.{AllByRecursion, flat_map, list_any, sum_by}
 use Rattle.std.specs.Prelude.{◌||◌, if◌then◌else◌}
 use Rattle.tdf_base.specs.Limits.{time_end}
 use Rattle.tdf_bind.specs.declared.model.Flat.{Flat}
-use Rattle.tdf_bind_invariants.specs.Limits.{AreWithinLimits}
+use Rattle.tdf_streams.specs.Below.{AreWithinLimits}
 use Rattle.tdf_bind_tables.specs.FlatTables.{FlatTablesOf}
 use Rattle.tdf_dynamic_first.specs.Text.{can_change, changes_at, first_table, none_known}
 use Rattle.tdf_dynamic_plans.specs.Attributes.{AttrsOf, IsOfCluster}

@@ -4,7 +4,7 @@ use Rattle.std.specs.Prelude.{Contains, Result, Ok, Err, IsOk, IfOk, IfErr}
 use Rattle.tdf_balance.specs.Laws.{AnswersExclude, CountsAreUnique}
 use Rattle.tdf_base.specs.declared.faults.Fault.{Fault}
 use Rattle.tdf_bind.specs.declared.model.Flat.{Flat}
-use Rattle.tdf_bind_invariants.specs.Limits.{AreWithinLimits}
+use Rattle.tdf_streams.specs.Below.{AreWithinLimits}
 use Rattle.tdf_dynamic_first.proofs.Api.{net_clusters, net_fit}
 use Rattle.tdf_dynamic_first.specs.declared.first.First.{First}
 use Rattle.tdf_dynamic_plans.proofs.Api.{fault_apart, fault_once, planned_true}

@@ -5,7 +5,7 @@ use Rattle.std.proofs.lemmas.List.Elements.{recursion_from_All}
 use Rattle.std.specs.List.{AllByRecursion, flat_map}
 use Rattle.std.specs.Prelude.{slice_get}
 use Rattle.tdf_bind.specs.declared.model.Flat.{Flat}
-use Rattle.tdf_bind_invariants.specs.Limits.{limits_in}
+use Rattle.tdf_streams.specs.Below.{limits_in}
 use Rattle.tdf_dynamic_plans.specs.Attributes.{AttrsOf, IsOfCluster, ports_of_module}
 use Rattle.tdf_dynamic_values.specs.Laws.{ValuesAreOfOne}
 use Rattle.tdf_streams.specs.Periods.{HasAllowedRates}

@@ -2,7 +2,7 @@
 
 ghost use Rattle.std.specs.Prelude.{◌≡◌, ◌⊎◌, Contains, Err, IfErr, IfOk, IsOk};
 ghost use Rattle.tdf_base.specs.declared.faults.Fault.{Fault};
-ghost use Rattle.tdf_bind_invariants.specs.Limits.{AreWithinLimits};
+ghost use Rattle.tdf_streams.specs.Below.{AreWithinLimits};
 ghost use Rattle.tdf_dynamic_plans.specs.Attributes.{clusters_of};
 ghost use Rattle.tdf_dynamic_plans.specs.Faults.{IsRefusal, IsTableFault, IsTablePlan};
 ghost use Rattle.tdf_dynamic_plans.specs.Known.{AreTrueFor, HasTablePlanned};

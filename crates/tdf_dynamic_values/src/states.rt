@@ -3,7 +3,7 @@
 ghost use Rattle.std.specs.List.{flat_map};
 ghost use Rattle.std.specs.Prelude.{◌≡◌, ◌⊎◌, Contains, Err, IfErr, IfOk, IsOk, List, map};
 ghost use Rattle.tdf_base.specs.declared.faults.Fault.{Fault};
-ghost use Rattle.tdf_bind_invariants.specs.Limits.{AreWithinLimits};
+ghost use Rattle.tdf_streams.specs.Below.{AreWithinLimits};
 ghost use Rattle.tdf_dynamic_plans.specs.Attributes.{AttrsOf, clusters_of};
 ghost use Rattle.tdf_dynamic_plans.specs.Faults.{IsRefusal, IsTablePlan};
 ghost use Rattle.tdf_dynamic_plans.specs.declared.err.ChangeErr.TheVariants.{Memory, Refused};

@@ -2,7 +2,7 @@
 
 ghost use Rattle.std.specs.List.{sum_by};
 ghost use Rattle.std.specs.Prelude.{◌≡◌, ◌≤◌, IfOk, length};
-ghost use Rattle.tdf_bind_invariants.specs.Limits.{AreWithinLimits};
+ghost use Rattle.tdf_streams.specs.Below.{AreWithinLimits};
 ghost use Rattle.tdf_dynamic_first.specs.Text.{none_known};
 ghost use Rattle.tdf_dynamic_values.specs.Values.{AreValuesFor, HoldsValues};
 ghost use Rattle.tdf_dynamic_values.specs.machine.Rows.{row_by, rows_by};

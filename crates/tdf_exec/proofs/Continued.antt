@@ -12,7 +12,7 @@ use Rattle.tdf_dynamic_plans.proofs.Api.{modules_few}
 use Rattle.tdf_dynamic_plans.specs.Attributes.{AttrsOf, IsOfCluster, attrs_at, clusters_of, rates_in}
 use Rattle.tdf_dynamic_plans.specs.Known.{AreTrueFor}
 use Rattle.tdf_dynamic_plans.specs.Rates.{net_of}
-use Rattle.tdf_dynamic_values.specs.Planned.{IsTableFirst}
+use Rattle.tdf_exec_parts.specs.Below.{IsTableFirst}
 use Rattle.tdf_exec.proofs.Kept.{held_at, is_cluster, stands_from, zero_at}
 use Rattle.tdf_exec.proofs.Planned.{fit, is_safe, no_times, none_done, start_of}
 use Rattle.tdf_exec.proofs.Resumed.{rates_of_state, state_of_row, state_rows}

@@ -12,7 +12,7 @@ use Rattle.tdf_bind_tables.specs.Actors.{cluster_of}
 use Rattle.tdf_bind_tables.specs.declared.actors.ActorRow.{ActorRow}
 use Rattle.tdf_dynamic_plans.specs.Attributes.{attrs_at, clusters_of, rates_in}
 use Rattle.tdf_dynamic_first.specs.First.{IsFirstPlan}
-use Rattle.tdf_dynamic_values.specs.Planned.{IsTableFirst}
+use Rattle.tdf_exec_parts.specs.Below.{IsTableFirst}
 use Rattle.tdf_dynamic_plans.specs.Rates.{AreRates, net_of}
 use Rattle.tdf_dynamic_first.specs.declared.first.First.{First}
 use Rattle.tdf_exec.proofs.Ends.{below_modules, module_kind, no_sink, sampler_never, sampler_writes, sink_never, sink_reads}

@@ -10,7 +10,7 @@ use Rattle.tdf_bind_tables.specs.Actors.{cluster_of}
 use Rattle.tdf_dynamic_first.specs.First.{IsFirstPlan}
 use Rattle.tdf_dynamic_plans.specs.Attributes.{AttrsOf, clusters_of}
 use Rattle.tdf_dynamic_plans.specs.Faults.{IsTablePlan, pace_in}
-use Rattle.tdf_dynamic_values.specs.Planned.{IsTableFirst}
+use Rattle.tdf_exec_parts.specs.Below.{IsTableFirst}
 use Rattle.tdf_bind_invariants.specs.Limits.{AreWithinLimits}
 use Rattle.tdf_dynamic_plans.specs.Rates.{net_of, net_ports, rated_edge}
 use Rattle.tdf_dynamic_first.specs.declared.first.First.{First}

@@ -10,7 +10,7 @@ use Rattle.tdf_bind_invariants.specs.Limits.{AreWithinLimits, limits_in}
 use Rattle.tdf_dynamic_first.specs.Text.{first_table}
 use Rattle.tdf_dynamic_plans.proofs.Api.{modules_few}
 use Rattle.tdf_dynamic_plans.specs.Attributes.{AttrsOf, IsOfCluster, attrs_at, clusters_of, rates_in}
-use Rattle.tdf_dynamic_values.specs.States.{IsTableOfStates}
+use Rattle.tdf_exec_parts.specs.Below.{IsTableOfStates}
 use Rattle.tdf_exec.proofs.Formed.{numbered, row_found, rows_by_numbers, text_rows}
 use Rattle.tdf_exec.proofs.Keeping.{get_set, get_set_other}
 use Rattle.tdf_exec.proofs.Kept.{count_alike}

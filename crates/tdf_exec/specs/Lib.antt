@@ -1,3 +1,4 @@
+pub mod Below
 pub mod Cluster
 pub mod Crossing
 pub mod Gained

@@ -3,8 +3,7 @@
 ghost use Rattle.std.specs.Prelude.{◌≡◌, ◌⊎◌, ◌≤◌, Contains, Err, IfOk, length};
 ghost use Rattle.tdf_dynamic_first.specs.Text.{first_table};
 ghost use Rattle.tdf_dynamic_plans.specs.Attributes.{clusters_of};
-ghost use Rattle.tdf_dynamic_values.specs.Planned.{IsTableFirst};
-ghost use Rattle.tdf_dynamic_values.specs.States.{IsTableOfStates};
+ghost use Rattle.tdf_exec_parts.specs.Below.{IsTableFirst, IsTableOfStates};
 ghost use Rattle.tdf_exec.specs.Made.{IsClusterOf};
 ghost use Rattle.tdf_exec.specs.Restored.{IsAtState, StandsAtState};
 ghost use Rattle.tdf_exec.specs.Starts.{IsSoundFlat};

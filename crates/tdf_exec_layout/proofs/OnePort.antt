@@ -7,8 +7,7 @@ use Rattle.std.proofs.lemmas.Option.{slice_get_within}
 use Rattle.std.specs.List.{cons_option, enumerate_from}
 use Rattle.std.specs.Prelude.{filter, filter_map}
 use Rattle.tdf_base.specs.declared.codes.Code.{Code}
-use Rattle.tdf_bind.specs.Flat.{IsFlatOf, top_place}
-use Rattle.tdf_bind.specs.declared.model.Flat.{Flat}
+use Rattle.tdf_bind_invariants.specs.Below.{Flat, IsFlatOf, top_place}
 use Rattle.tdf_streams.proofs.Api.{get_low, none_some, some_same}
 use Rattle.tdf_bind_invariants.specs.Formats.{IsOwnPort, IsSoundModel, PortsHaveFormats, format_of_row, signal_format}
 use Rattle.tdf_fixed.specs.declared.format.Format.{Format}

@@ -14,8 +14,7 @@ use Rattle.tdf_fixed.specs.Cast.{fraction_of}
 use Rattle.tdf_fixed.specs.Overflow.{IsOfWidth}
 use Rattle.tdf_fixed.specs.declared.format.Format.{Format}
 use Rattle.tdf_fixed.specs.declared.raw.Raw.{Raw}
-use Rattle.tdf_bind.specs.Flat.{IsFlatOf}
-use Rattle.tdf_bind.specs.declared.model.Flat.{Flat}
+use Rattle.tdf_bind_invariants.specs.Below.{Flat, IsFlatOf}
 use Rattle.tdf_streams.proofs.Api.{none_some, some_same}
 use Rattle.tdf_bind_invariants.specs.Formats.{IsOwnPort, IsSoundModel, PortsHaveFormats, format_of_row, signal_format}
 use Rattle.tdf_exec_layout.proofs.Edges.{edge_row}

@@ -7,8 +7,7 @@ use Rattle.tdf_exec_firing.specs.Actors.{CanPutOne}
 use Rattle.tdf_exec_firing.specs.Formats.{AreFormats}
 use Rattle.tdf_exec_firing.specs.Wires.{WiresOf}
 use Rattle.tdf_fixed.specs.declared.format.Format.{Format}
-use Rattle.tdf_bind.specs.Flat.{IsFlatOf}
-use Rattle.tdf_bind.specs.declared.model.Flat.{Flat}
+use Rattle.tdf_bind_invariants.specs.Below.{Flat, IsFlatOf}
 use Rattle.tdf_streams.proofs.Api.{some_same}
 use Rattle.tdf_bind_invariants.specs.Formats.{IsSoundModel, PortsHaveFormats}
 use Rattle.tdf_exec_layout.proofs.Samples.{edge_fits, read_format, write_format}

@@ -7,8 +7,7 @@ use Rattle.tdf_bind_tables.specs.Ranges.{AreInRange}
 use Rattle.tdf_bind_tables.specs.declared.actors.ActorRow.{ActorRow}
 use Rattle.tdf_exec_firing.specs.Wires.{AreWired, WiresOf}
 use Rattle.tdf_expr.specs.Made.{port_spans_of}
-use Rattle.tdf_bind.specs.Flat.{IsFlatOf}
-use Rattle.tdf_bind.specs.declared.model.Flat.{Flat}
+use Rattle.tdf_bind_invariants.specs.Below.{Flat, IsFlatOf}
 use Rattle.tdf_bind_invariants.specs.Formats.{IsSoundModel}
 use Rattle.tdf_graph.specs.declared.actors.Actor.{Actor}
 use Rattle.tdf_graph.specs.declared.actors.Actor.TheVariants as actor

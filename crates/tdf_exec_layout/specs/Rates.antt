@@ -9,8 +9,7 @@ use Rattle.tdf_expr.specs.declared.spans.PortSpan.{PortSpan}
 use Rattle.tdf_exec_firing.specs.Wires.{WiresOf}
 use Rattle.tdf_exec_firing.specs.declared.wires.InWire.{InWire}
 use Rattle.tdf_exec_firing.specs.declared.wires.OutWire.{OutWire}
-use Rattle.tdf_bind.specs.Flat.{IsFlatOf}
-use Rattle.tdf_bind.specs.declared.model.Flat.{Flat}
+use Rattle.tdf_bind_invariants.specs.Below.{Flat, IsFlatOf}
 use Rattle.tdf_bind_invariants.specs.Formats.{IsSoundModel}
 use Rattle.tdf_exec_layout.specs.Edges.{IsBetween, IsFromSampler, IsToSink}
 use Rattle.tdf_exec_layout.specs.Wiring.{AreWiresOf}

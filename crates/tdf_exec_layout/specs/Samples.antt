@@ -6,8 +6,7 @@ use Rattle.tdf_expr.specs.Frames.{IsOfFormat}
 use Rattle.tdf_expr.specs.Made.{port_spans_of}
 use Rattle.tdf_expr.specs.declared.spans.PortSpan.{PortSpan}
 use Rattle.tdf_fixed.specs.declared.format.Format.{Format}
-use Rattle.tdf_bind.specs.Flat.{IsFlatOf}
-use Rattle.tdf_bind.specs.declared.model.Flat.{Flat}
+use Rattle.tdf_bind_invariants.specs.Below.{Flat, IsFlatOf}
 use Rattle.tdf_bind_invariants.specs.Formats.{IsSoundModel, signal_format}
 use Rattle.tdf_exec_layout.specs.Wiring.{port_of_edge}
 use Rattle.tdf_streams.specs.Cluster.{initial_list}

@@ -1,3 +1,4 @@
+pub mod Below
 pub mod Restored
 pub mod Rings
 pub mod States

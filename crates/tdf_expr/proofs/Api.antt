@@ -1,4 +1,5 @@
 -- The lemmas that the crates above use.
+pub use Rattle.tdf_expr_semantics.proofs.Api.{found}
 pub use Rattle.tdf_expr.proofs.Declared.{IsGlobal, format_there, globals_all}
 pub use Rattle.tdf_expr.proofs.Fitting.{limits_same, rates_in_order, rates_start}
 pub use Rattle.tdf_expr.proofs.Things.{AllThings, all_changed, all_named}

@@ -23,7 +23,7 @@ use Rattle.tdf_expr_symbols.specs.declared.kinds.Part.{Part}
 use Rattle.tdf_expr_symbols.specs.declared.kinds.Part.TheVariants as part
 use Rattle.tdf_lang_tree.specs.Kept.{Each, KeepsStmts, KeepsTdf, KeepsDe, KeepsProcess, KeepsGlobal, IsKept}
 use Rattle.tdf_lang_tree.specs.Pure.{Done, PureBody, PureGlobal, GShape, GTdf, GDe, GNet, PureTdf, PureDe, PureProcess, PureTree}
-use Rattle.tdf_expr_types.specs.Bodies.{body_faults}
+use Rattle.tdf_expr_blocks.specs.Below.{body_faults}
 
 -- no statement at all
 done_faultless : (scope : Scope) → AreFaultless scope Done

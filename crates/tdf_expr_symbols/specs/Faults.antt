@@ -4,9 +4,7 @@ use Rattle.tdf_base.specs.Limits.{greatest_rate as most_rate}
 use Rattle.tdf_base.specs.declared.codes.Code.TheVariants as code
 use Rattle.tdf_base.specs.First.{fault_if}
 use Rattle.tdf_base.specs.declared.first.LineFault.{LineFault}
-use Rattle.tdf_fixed.specs.Literal.{exact_of}
-use Rattle.tdf_fixed.specs.declared.literals.NumErr.{NumErr}
-use Rattle.tdf_fixed.specs.declared.raw.Raw.{Raw}
+use Rattle.tdf_lang_tree.specs.Below.{NumErr, Raw, exact_of}
 use Rattle.tdf_expr_symbols.specs.Index.{kind_faults, index_faults}
 use Rattle.tdf_expr_symbols.specs.Names.{Thing, shape_of, thing_of, type_shape}
 use Rattle.tdf_expr_symbols.specs.Scope.{Scope, OpenLoop, named, least_of, greatest_of}

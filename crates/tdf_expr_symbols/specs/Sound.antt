@@ -2,7 +2,7 @@
 -- within their limits.
 use Rattle.std.specs.Prelude.{◌≡◌, ◌≤◌, ℕ, List, length, Option, Some, None, slice_get}
 use Rattle.tdf_base.specs.Limits.{greatest_rate}
-use Rattle.tdf_fixed.specs.Cast.{IsLegal}
+use Rattle.tdf_lang_tree.specs.Below.{IsLegal}
 use Rattle.tdf_expr_symbols.specs.Names.{Names, Thing, Const, Var, Array, Port, RateVar, Event, Signal, DeSignal, Instance, Loop, TypeName, Tdf, De, Composite}
 use Rattle.tdf_expr_symbols.specs.Scope.{Scope, least_of, greatest_of}
 use Rattle.tdf_lang_tree.specs.Kept.{Each, KeepsLit}

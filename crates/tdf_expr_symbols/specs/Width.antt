@@ -1,9 +1,7 @@
 -- The width (I, F) of an expression (own): its value is k / 2 ^ F with
 -- -2 ^ (I + F) <= k <= 2 ^ (I + F).
 use Rattle.std.specs.Prelude.{ℕ, zero, suc, ◌+◌, ◌-◌, ◌^◌, ◌/◌, Bool, if◌then◌else◌, nat_lt, max, List, Option, Some, None, Result, Ok, Err, unsigned_abs}
-use Rattle.tdf_fixed.specs.Literal.{exact_of}
-use Rattle.tdf_fixed.specs.declared.literals.NumErr.{NumErr}
-use Rattle.tdf_fixed.specs.declared.raw.Raw.{Raw}
+use Rattle.tdf_lang_tree.specs.Below.{NumErr, Raw, exact_of}
 use Rattle.tdf_expr_symbols.specs.Names.{Thing, RateVar, Loop, shape_of, thing_of, type_shape}
 use Rattle.tdf_expr_symbols.specs.Scope.{Scope, OpenLoop, named}
 use Rattle.tdf_lang_tree.specs.Pure.{PureExpr, ENumber, EName, EAt, ECast, ESelect, ENot, ENeg, EShift, EBinary}

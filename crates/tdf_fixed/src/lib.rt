@@ -33,4 +33,4 @@ pub use literals::{DecimalErr, NumErr, read_decimal, read_exact};
 pub use over::Over;
 pub use quant::Quant;
 pub use raw::Raw;
-pub use tdf_base::{Resolution, TimeErr, read_time, read_time_at};
+pub use tdf_base::{Digits, Name, Resolution, TimeErr, Version, read_time, read_time_at};

@@ -3,11 +3,7 @@
 --
 -- The crates that read a tree require this and nothing of the text.
 use Rattle.std.specs.Prelude.{◌≡◌, ◌<◌, ℕ, zero, suc, true, List, [], ◌∷◌, Option, Some, None, ◌⊎◌}
-use Rattle.tdf_base.specs.Limits.{deepest_nesting, time_end}
-use Rattle.tdf_base.specs.Names.{is_name}
-use Rattle.tdf_base.specs.Number.{is_number}
-use Rattle.tdf_base.specs.declared.resolution.Resolution.TheVariants.{Ps}
-use Rattle.tdf_base.specs.declared.version.Version.TheVariants.{V3}
+use Rattle.tdf_fixed.specs.Below.{Ps, V3, deepest_nesting, is_name, is_number, time_end}
 use Rattle.tdf_lang_tree.specs.Pure.{PureExpr, ENumber, EName, EAt, ECast, ESelect, ENot, ENeg, EShift, EBinary, PureStmt, SAssign, SIf, SFor, SNotify, SSetRate, SSetStep, SAccept, SReject, PureStmts, Done, More, PureBody, PureStore, SConst, SVar, SArray, PureTdfLine, TPort, TStore, TRate, PureTdf, PureDeLine, DPort, DStore, DEvent, PureProcess, PureDe, PureComposite, PureGlobal, GShape, GTdf, GDe, GNet, PureTrace, PureTree}
 use Rattle.tdf_lang_tree.specs.declared.blocks.Attr.{Attr}
 use Rattle.tdf_lang_tree.specs.declared.blocks.Attr.TheVariants as attr

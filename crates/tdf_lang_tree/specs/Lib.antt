@@ -1,4 +1,5 @@
 pub mod Alike
+pub mod Below
 pub mod Forms
 pub mod Kept
 pub mod Kinds

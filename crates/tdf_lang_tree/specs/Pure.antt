@@ -1,8 +1,7 @@
 -- The pure tree: a model text's tree without pointers and spare room, of which the laws of the language speak (own).
 -- A type of `src/` that holds neither a box nor a vector stands in it as it is; names and numbers are seen as their bytes.
 use Rattle.std.specs.Prelude.{ℕ, Bool, List, Option}
-use Rattle.tdf_base.specs.declared.resolution.Resolution.{Resolution}
-use Rattle.tdf_base.specs.declared.version.Version.{Version}
+use Rattle.tdf_fixed.specs.Below.{Resolution, Version}
 use Rattle.tdf_lang_tree.specs.declared.blocks.Attr.{Attr}
 use Rattle.tdf_lang_tree.specs.declared.blocks.Initial.{Initial}
 use Rattle.tdf_lang_tree.specs.declared.blocks.Member.{Member}

@@ -3,7 +3,7 @@
 use crate::names::Lit;
 use crate::shapes::FormatRef;
 use crate::stmt::{Limit, Stmts};
-use tdf_base::Name;
+use tdf_fixed::Name;
 
 /// The word of a port line: `in`, `out`, `de_in` or `de_out`.
 #[derive(Clone, Copy, Debug, PartialEq, Eq)]

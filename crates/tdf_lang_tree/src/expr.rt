@@ -1,6 +1,6 @@
 //! Expressions and indices.
 
-use tdf_base::{Digits, Name};
+use tdf_fixed::{Digits, Name};
 
 /// An index: a whole number, a loop variable, the sum or difference of both, or from version 2 on a multiple of a loop
 /// variable. `From(n, i)` is `n - i`, `Times(c, i)` is `c * i`, and `TimesPlus(c, i, d)` is `c * i + d`.

@@ -26,5 +26,5 @@ pub use expr::{Expr, Index, Op};
 pub use names::Lit;
 pub use shapes::{FormatRef, Shape, TypeDecl};
 pub use stmt::{Limit, Stmt, Stmts};
-pub use tdf_base::{Digits, Name};
+pub use tdf_fixed::{Digits, Format, Name, Raw};
 pub use tree::{Global1, Trace1, Tree};

@@ -1,6 +1,6 @@
 //! Literals; names and numbers as they are written are those of `tdf_base`.
 
-use tdf_base::Digits;
+use tdf_fixed::Digits;
 
 /// A literal: a number, or `-` and a number. Zero has no `-`.
 #[derive(Debug, Drop, PartialEq, Eq)]

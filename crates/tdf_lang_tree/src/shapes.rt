@@ -1,7 +1,6 @@
 //! Number formats, and the `type` lines that name them.
 
-use tdf_base::Name;
-use tdf_fixed::{Over, Quant};
+use tdf_fixed::{Name, Over, Quant};
 
 /// A fixed-point format as it is written: `wl` bits in all, `iwl` of them before the point.
 #[derive(Clone, Copy, Debug, PartialEq, Eq)]

@@ -1,7 +1,7 @@
 //! Statements and bodies.
 
 use crate::expr::{Expr, Index};
-use tdf_base::Name;
+use tdf_fixed::Name;
 
 /// The end of a `for`, or an assigned rate: a whole number, the value of a rate variable, or from version 2 on a multiple of
 /// it. `Times(c, r)` is `c * r`.

@@ -2,7 +2,7 @@
 
 use crate::blocks::{Composite, DeDecl, TdfDecl};
 use crate::shapes::TypeDecl;
-use tdf_base::{Name, Resolution, Version};
+use tdf_fixed::{Name, Resolution, Version};
 
 /// A declaration before `top`.
 #[derive(Drop)]

@@ -13,8 +13,7 @@ use Rattle.tdf_save.specs.Laws.{FindsText, SavedIsOne, StartIsOne}
 use Rattle.tdf_save.specs.Members.{AreNamesApart, IsSnapshotFor, MembersOf}
 use Rattle.tdf_save.specs.Start.{IsTextStart, ended}
 use Rattle.tdf_save.specs.Text.{saved_text}
-use Rattle.tdf_save_members.specs.Laws.{MembersAreApart, MembersAreInLines}
-use Rattle.tdf_save_members.specs.OfFlat.{members_of}
+use Rattle.tdf_sim_unique.specs.Below.{MembersAreApart, MembersAreInLines, members_of}
 use Rattle.tdf_save_reading.specs.Reading.{IsSavedText}
 use Rattle.tdf_saved.specs.State.{SnapshotOf}
 use Rattle.tdf_saved.specs.declared.err.StateErr.{StateErr}
@@ -24,7 +23,7 @@ use Rattle.tdf_sim.specs.Accepted.{IsAccepted}
 use Rattle.tdf_sim.specs.FirstFault.{IsFirstFault}
 use Rattle.tdf_sim.specs.Laws.{FaultOrAccepted}
 use Rattle.tdf_sim.specs.declared.sim.Sim.{Sim}
-use Rattle.tdf_sim_instants.specs.InstantLaws.{IsModelOf}
+use Rattle.tdf_sim_runs.specs.Below.{IsModelOf}
 use Rattle.tdf_sim_runs.specs.declared.paused.Paused.{Paused}
 use Rattle.tdf_sim_runs.specs.Reopened.{CanReopen}
 use Rattle.tdf_sim.proofs.Texts.{accepted_tree, few_bytes, one_text, same_tree, start_in}

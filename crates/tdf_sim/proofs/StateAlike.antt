@@ -13,7 +13,7 @@ use Rattle.tdf_sim.specs.declared.sim.Sim.{Sim}
 use Rattle.tdf_sim_history.specs.World.{Change}
 use Rattle.tdf_sim_notes.specs.Ending.{HaveAnswers}
 use Rattle.tdf_sim_runs.specs.Parts.{part_cells}
-use Rattle.tdf_sim_resumed.specs.Starting.{rows_from_saved}
+use Rattle.tdf_sim_runs.specs.Below.{rows_from_saved}
 use Rattle.tdf_sim_runs.specs.Rest.{rest_trace}
 use Rattle.tdf_sim_runs.specs.Runs.{model_about}
 use Rattle.tdf_sim_unique.specs.PartLaws.{AreFlatsAlike, FlatsHaveMembers, FlatsHaveValid, PartsWriteOne, PartsWriteTheSame, RestsAreTold, RestsWriteOne, RestsWriteTheSame, end_told, rows_told}

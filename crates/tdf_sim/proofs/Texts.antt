@@ -10,8 +10,7 @@ use Rattle.tdf_save.specs.Laws.{FindsText, SavedIsOne, StartIsOne}
 use Rattle.tdf_save.specs.Members.{IsSnapshotFor, MembersOf}
 use Rattle.tdf_save.specs.Start.{IsTextStart}
 use Rattle.tdf_save.specs.Text.{saved_text}
-use Rattle.tdf_save_members.specs.Laws.{MembersAreApart, MembersAreInLines}
-use Rattle.tdf_save_members.specs.OfFlat.{members_of}
+use Rattle.tdf_sim_unique.specs.Below.{MembersAreApart, MembersAreInLines, members_of}
 use Rattle.tdf_saved.specs.State.{SnapshotOf}
 use Rattle.tdf_sim.proofs.Running.{sound_model}
 use Rattle.tdf_sim.specs.Accepted.{IsAccepted}

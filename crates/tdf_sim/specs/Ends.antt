@@ -11,7 +11,7 @@ pub use Rattle.tdf_dynamic_first.specs.declared.first.First.{First}
 pub use Rattle.tdf_events.specs.Side.{SideOf}
 pub use Rattle.tdf_save.specs.Members.{MembersOf}
 pub use Rattle.tdf_save.specs.Text.{saved_text}
-pub use Rattle.tdf_save_members.specs.OfFlat.{members_of}
+pub use Rattle.tdf_sim_unique.specs.Below.{members_of}
 pub use Rattle.tdf_saved.specs.State.{SnapshotOf}
 pub use Rattle.tdf_sim_history.specs.History.{HistoryState, On}
 pub use Rattle.tdf_sim_history.specs.Instant.{RunFault}
@@ -19,10 +19,8 @@ pub use Rattle.tdf_sim_history.specs.Rules.{rules_of, start_world}
 pub use Rattle.tdf_sim_history.specs.Telling.{world_told}
 pub use Rattle.tdf_sim_history.specs.Texts.{notes_to}
 pub use Rattle.tdf_sim_history.specs.World.{World}
-pub use Rattle.tdf_sim_instants.specs.InstantLaws.{IsModelOf}
+pub use Rattle.tdf_sim_runs.specs.Below.{IsModelOf, IsValid, rows_from_saved}
 pub use Rattle.tdf_sim_notes.specs.Ending.{end_of, end_text, run_state}
-pub use Rattle.tdf_sim_resumed.specs.Starting.{rows_from_saved}
-pub use Rattle.tdf_sim_resumed.specs.Valid.{IsValid}
 pub use Rattle.tdf_sim_runs.specs.Ongoing.{AreToldTo}
 pub use Rattle.tdf_sim_runs.specs.Parts.{HasEndedBefore, IfEndedBefore, IfPaused, IsRefusedPart, IsRowsToWrite, PausesAt, part_notes, part_trace}
 pub use Rattle.tdf_sim_runs.specs.Paused.{IsPaused}

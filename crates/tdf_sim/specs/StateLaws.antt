@@ -4,7 +4,7 @@ use Rattle.std.specs.Prelude.{◌≡◌, ◌≤◌, ℕ, Bool, List}
 use Rattle.tdf_dynamic_first.specs.declared.first.First.{First}
 use Rattle.tdf_lang_tree.specs.Kept.{IsKept}
 use Rattle.tdf_lang_tree.specs.Pure.{PureTree}
-use Rattle.tdf_save_members.specs.OfFlat.{members_of}
+use Rattle.tdf_sim_unique.specs.Below.{members_of}
 use Rattle.tdf_saved.specs.State.{SnapshotOf}
 use Rattle.tdf_sim.specs.Accepted.{IsAccepted}
 use Rattle.tdf_sim.specs.declared.sim.Sim.{Sim}
@@ -15,8 +15,7 @@ use Rattle.tdf_sim_history.specs.World.{Change}
 use Rattle.tdf_sim_notes.specs.Ending.{HaveAnswers, run_end}
 use Rattle.tdf_sim_runs.specs.Parts.{IsRowsToWrite, part_notes, part_trace}
 use Rattle.tdf_sim_runs.specs.Paused.{IsSnapshotOfRun}
-use Rattle.tdf_sim_resumed.specs.Starting.{rows_from_saved}
-use Rattle.tdf_sim_resumed.specs.Valid.{IsValid}
+use Rattle.tdf_sim_runs.specs.Below.{IsValid, rows_from_saved}
 use Rattle.tdf_sim_runs.specs.Ongoing.{AreToldTo}
 use Rattle.tdf_sim_runs.specs.Rest.{rest_end, rest_trace}
 use Rattle.tdf_sim_runs.specs.Runs.{model_about}

@@ -9,17 +9,15 @@ use Rattle.tdf_lang_parser.specs.Refused.{SpellsText}
 use Rattle.tdf_lang_tree.specs.Pure.{PureTree}
 use Rattle.tdf_save.specs.Members.{IsSnapshotFor}
 use Rattle.tdf_save.specs.Text.{saved_text}
-use Rattle.tdf_save_members.specs.OfFlat.{members_of}
+use Rattle.tdf_sim_unique.specs.Below.{members_of}
 use Rattle.tdf_saved.specs.State.{SnapshotOf}
 use Rattle.tdf_sim.specs.Accepted.{IsAccepted}
 use Rattle.tdf_sim.specs.declared.sim.Sim.{Sim}
 use Rattle.tdf_sim_history.specs.World.{World}
-use Rattle.tdf_sim_instants.specs.InstantLaws.{IsModelOf}
+use Rattle.tdf_sim_runs.specs.Below.{IsModelOf, IsValid, resumed_world, rows_from_saved}
 use Rattle.tdf_sim_runs.specs.Paused.{IsSnapshotOfRun}
 use Rattle.tdf_sim_runs.specs.declared.paused.Paused.{Paused}
 use Rattle.tdf_sim_runs.specs.Reopened.{kind_saved}
-use Rattle.tdf_sim_resumed.specs.Starting.{resumed_world, rows_from_saved}
-use Rattle.tdf_sim_resumed.specs.Valid.{IsValid}
 use Rattle.tdf_sim_runs.specs.Running.{IsRunningAt}
 
 -- ---- of a run from its first plans on

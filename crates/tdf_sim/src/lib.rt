@@ -31,5 +31,5 @@ pub use run::RunErr;
 pub use sim::Sim;
 pub use state_laws::{law_one_state, law_parts_alike, law_rests_alike};
 pub use state_texts::state_text;
-pub use tdf_sim_notes::End;
+pub use tdf_sim_notes::{End, write_closing};
 pub use tdf_sim_runs::{Part, Paused, Ran};

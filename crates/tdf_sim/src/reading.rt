@@ -20,10 +20,10 @@ use tdf_bind::Flat;
 use tdf_bind_invariants::law_limits;
 use tdf_events_invariants::law_runnable;
 use tdf_save::{law_text, text_start};
-use tdf_save_members::{law_members, members_of};
 use tdf_save_reading::read_snapshot;
 use tdf_saved::{Snapshot, StateErr};
 use tdf_sim_runs::{Paused, restored_run};
+use tdf_sim_unique::{law_members, members_of};
 use tdf_trace_rows::TraceKind;
 
 /// The form of the trace of a snapshot.

@@ -7,8 +7,7 @@ use tdf_bind_invariants::law_limits;
 use tdf_dynamic_first::{law_numbers, law_plannable};
 use tdf_events_invariants::law_runnable;
 use tdf_save::law_text;
-use tdf_save_members::law_members;
-use tdf_sim_unique::{law_alike_parts, law_one_part, law_one_rest};
+use tdf_sim_unique::{law_alike_parts, law_members, law_one_part, law_one_rest};
 
 /// Two runs of one tree's models that are told the answers of their boundaries have the same parts up to a stop, and one snapshot.
 pub fn law_parts_alike()

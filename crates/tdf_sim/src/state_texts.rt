@@ -4,7 +4,7 @@ ghost use Rattle.std.specs.Prelude.{[], IfOk, List, ℕ};
 ghost use Rattle.tdf_dynamic_first.specs.declared.first.First.{First};
 ghost use Rattle.tdf_lang_tree.specs.Pure.{PureTree};
 ghost use Rattle.tdf_sim_history.specs.Rules.{start_world};
-ghost use Rattle.tdf_sim_instants.specs.InstantLaws.{IsModelOf};
+ghost use Rattle.tdf_sim_runs.specs.Below.{IsModelOf};
 ghost use Rattle.tdf_sim_runs.specs.Paused.{IsPaused, IsPausedAt};
 ghost use Rattle.tdf_sim_runs.specs.Saving.{is_vcd};
 ghost use Rattle.tdf_sim.specs.States.{IsStateText};
@@ -12,8 +12,8 @@ ghost use Rattle.tdf_sim.specs.States.{IsStateText};
 use std::alloc::Global;
 use tdf_base::Memory;
 use tdf_save::push_snapshot;
-use tdf_save_members::members_of;
 use tdf_sim_runs::Paused;
+use tdf_sim_unique::members_of;
 
 /// The text of the state of a run that waits, with this text of its model: of the snapshot of its history from its first plans on.
 ///

@@ -3,14 +3,13 @@ use Rattle.std.proofs.Common.{◌≡◌, ◌∙◌, ℕ, zero, suc, ◌+◌, ◌
 use Rattle.std.specs.List.{list_any}
 use Rattle.std.specs.Prelude.{◌||◌, slice_get, slice_index_or, slice_set}
 use Rattle.tdf_bind_tables.specs.declared.actors.ActorRow.{ActorRow}
-use Rattle.tdf_bind.specs.declared.model.Flat.{Flat}
+use Rattle.tdf_dynamic.specs.Below.{Flat, zero_sample}
 use Rattle.tdf_graph.specs.declared.actors.Actor.{Actor}
 use Rattle.tdf_graph.specs.declared.actors.Actor.TheVariants as actor
 use Rattle.tdf_sim_history.specs.Instant.{RunFault, actor_of_entry, all_firings, events_of, fired, fired_as, firing, firing_of, is_cluster_due, is_due, is_entry_due, has_write, next_entry, plan_length, sample_taken, settled_as, signal_of, stepped, with_cluster, with_read}
 use Rattle.tdf_sim_history.specs.Telling.{step_as}
 use Rattle.tdf_sim_history.specs.World.{Change, ClusterAt, Rules, Settled, World}
 use Rattle.tdf_sim_history.specs.History.{Fault, Going, Past, Step, and_then, turns_to}
-use Rattle.tdf_streams.specs.Cluster.{zero_sample}
 use Rattle.tdf_lang_tree.specs.Pure.{PureTree}
 
 module _ (g : ℕ → List Change → List Change) where

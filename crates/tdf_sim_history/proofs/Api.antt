@@ -1,4 +1,5 @@
 -- The lemmas that other crates may use.
+pub use Rattle.tdf_dynamic.proofs.Api.{get_inside, none_some}
 pub use Rattle.tdf_sim_history.proofs.Once.{one_history}
 pub use Rattle.tdf_sim_history.proofs.Told.{first_answers, first_told, history_told, more_answers, more_told, starts_told, turns_told}
 pub use Rattle.tdf_sim_history.proofs.Twice.{next_is, told_twice}

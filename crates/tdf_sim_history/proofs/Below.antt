@@ -6,20 +6,13 @@ use Rattle.std.proofs.lemmas.Option.{get_or_from_slice_get, slice_get_within}
 use Rattle.std.specs.List.{All, sum, sum_by}
 use Rattle.std.specs.Option.{option_and_then}
 use Rattle.tdf_fixed.specs.declared.raw.Raw.{Raw}
-use Rattle.tdf_bind.specs.declared.model.Flat.{Flat}
-use Rattle.tdf_streams.proofs.Api.{find_more, get_high, known_more}
-use Rattle.tdf_streams.specs.Grounds.{firings}
-use Rattle.tdf_streams.specs.Net.{Past, count}
-use Rattle.tdf_streams.specs.Stands.{Less}
-use Rattle.tdf_streams.specs.Streams.{find, known}
+use Rattle.tdf_dynamic.specs.Below.{Flat, Less, Past, PeriodRecord, cluster_net, count, find, firings, known, output_at_spot, outputs_in, port_output, rate_in, time_of_periods}
+use Rattle.tdf_dynamic.proofs.Api.{find_more, get_high, known_more}
 use Rattle.tdf_sim_history.specs.Cells.{column_spans, outputs_done, port_cell, sample_at, sample_of, samples_done}
 use Rattle.tdf_sim_history.specs.Columns.{ColumnStart, held_by}
 use Rattle.tdf_sim_history.specs.Instant.{acts_now, periods_of, run_in}
 use Rattle.tdf_sim_history.specs.World.{ClusterAt}
 use Rattle.tdf_trace_rows.specs.Positions.{position_at}
-use Rattle.tdf_streams.specs.Cluster.{cluster_net}
-use Rattle.tdf_streams.specs.Periods.{PeriodRecord}
-use Rattle.tdf_streams.specs.Signals.{output_at_spot, outputs_in, port_output, rate_in, time_of_periods}
 use Rattle.tdf_lang_tree.specs.Pure.{PureTree}
 use Rattle.tdf_bind_connections.specs.declared.modules.PortRow.{PortRow}
 use Rattle.tdf_sim_history.proofs.Known.{made_of, output_made, output_of, turn_of}

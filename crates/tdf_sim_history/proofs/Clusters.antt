@@ -9,14 +9,13 @@ use Rattle.std.specs.Prelude.{cond, drop, nat_eq, slice_get, slice_index, slice_
 use Rattle.tdf_bind_tables.specs.FlatTables.{FlatTablesOf}
 use Rattle.tdf_dynamic_plans.specs.Attributes.{AttrsOf}
 use Rattle.tdf_fixed.specs.declared.raw.Raw.{Raw}
-use Rattle.tdf_streams.proofs.Api.{get_low, none_some}
+use Rattle.tdf_dynamic.proofs.Api.{get_low, none_some}
 use Rattle.tdf_sim_history.specs.Cells.{outputs_done}
 use Rattle.tdf_sim_history.specs.Instant.{acts_now, periods_of, same_period, stepped, with_new, with_read, with_same}
 use Rattle.tdf_sim_history.specs.World.{Change, ClusterAt, New, Same, next_change}
 use Rattle.tdf_schedule.specs.Plan.{done}
 use Rattle.tdf_schedule.specs.declared.entry.Entry.{Entry}
-use Rattle.tdf_streams.specs.Periods.{period_record}
-use Rattle.tdf_streams.specs.Signals.{outputs_in, rate_in}
+use Rattle.tdf_dynamic.specs.Below.{outputs_in, period_record, rate_in}
 use Rattle.tdf_bind_connections.specs.declared.modules.PortRow.{PortRow}
 use Rattle.tdf_sim_history.specs.Continuing.{Continues, ClusterGoesOn, HasToldCounts, HasWholePlan}
 

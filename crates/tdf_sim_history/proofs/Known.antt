@@ -5,19 +5,13 @@ use Rattle.std.proofs.lemmas.List.Sums.{sum_by-cons}
 use Rattle.std.specs.List.{All, sum_by}
 use Rattle.std.specs.Option.{option_and_then}
 use Rattle.tdf_fixed.specs.declared.raw.Raw.{Raw}
-use Rattle.tdf_bind.specs.declared.model.Flat.{Flat}
-use Rattle.tdf_streams.proofs.Api.{get_inside}
-use Rattle.tdf_streams.specs.Grounds.{firings}
-use Rattle.tdf_streams.specs.Net.{Past, Turn, count}
-use Rattle.tdf_streams.specs.Streams.{known}
+use Rattle.tdf_dynamic.specs.Below.{Flat, IsWholeRecord, Past, PeriodInfo, PeriodRecord, Start, Turn, cluster_net, count, firings, known, output_at_spot, outputs_in, port_output, positions, rate_in, time_of_periods}
+use Rattle.tdf_dynamic.proofs.Api.{get_inside}
 use Rattle.tdf_sim_history.specs.Cells.{column_spans, sample_of, samples_done}
 use Rattle.tdf_sim_history.specs.Columns.{ColumnStart, held_by}
 use Rattle.tdf_sim_history.specs.Instant.{acts_now, periods_of, run_in}
 use Rattle.tdf_sim_history.specs.World.{ClusterAt}
 use Rattle.tdf_trace_rows.specs.Positions.{position_at}
-use Rattle.tdf_streams.specs.Cluster.{Start, cluster_net}
-use Rattle.tdf_streams.specs.Periods.{IsWholeRecord, PeriodInfo, PeriodRecord}
-use Rattle.tdf_streams.specs.Signals.{output_at_spot, outputs_in, port_output, positions, rate_in, time_of_periods}
 use Rattle.tdf_lang_tree.specs.Pure.{PureTree}
 use Rattle.tdf_bind_connections.specs.declared.modules.PortRow.{PortRow}
 use Rattle.tdf_sim_history.proofs.Clusters.{done_within}

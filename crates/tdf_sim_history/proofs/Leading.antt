@@ -6,8 +6,8 @@ use Rattle.std.specs.Prelude.{◌||◌, slice_get, slice_set}
 use Rattle.tdf_bind_tables.specs.declared.actors.ActorRow.{ActorRow}
 use Rattle.tdf_dynamic_plans.specs.Attributes.{AttrsOf}
 use Rattle.tdf_fixed.specs.declared.raw.Raw.{Raw}
-use Rattle.tdf_bind.specs.declared.model.Flat.{Flat}
-use Rattle.tdf_streams.proofs.Api.{get_inside, some_same}
+use Rattle.tdf_dynamic.specs.Below.{Flat}
+use Rattle.tdf_dynamic.proofs.Api.{get_inside, some_same}
 use Rattle.tdf_graph.specs.declared.actors.Actor.{Actor}
 use Rattle.tdf_graph.specs.declared.actors.Actor.TheVariants as actor
 use Rattle.tdf_sim_history.specs.Instant.{RunFault, actor_of_entry, all_firings, at_begin, boundary, boundary_of, changed_by, events_of, fired, fired_as, firing, firing_of, instant, is_entry_due, is_over, has_write, next_entry, plan_length, settled_as, stepped, with_cluster, with_new, with_read, with_same}

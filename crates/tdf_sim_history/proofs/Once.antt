@@ -6,8 +6,8 @@ use Rattle.tdf_bind_tables.specs.FlatTables.{FlatTablesOf}
 use Rattle.tdf_dynamic.specs.Change.{Asks}
 use Rattle.tdf_dynamic.specs.Laws.{BoundariesHaveOne, IsBoundary}
 use Rattle.tdf_dynamic_plans.specs.Attributes.{AttrsOf}
-use Rattle.tdf_bind.specs.declared.model.Flat.{Flat}
-use Rattle.tdf_streams.proofs.Api.{some_same}
+use Rattle.tdf_dynamic.specs.Below.{Flat}
+use Rattle.tdf_dynamic.proofs.Api.{some_same}
 use Rattle.tdf_sim_history.proofs.Ahead.{Rest, re_all, re_due, re_get, re_long, re_rest, re_world, with_re}
 use Rattle.tdf_sim_history.proofs.Told.{next_is}
 use Rattle.tdf_sim_history.specs.Answers.{AreAnswers, HasTurn, IsAnswer, Leads, OfAll, asks_in}

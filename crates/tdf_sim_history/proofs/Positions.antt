@@ -5,14 +5,11 @@ use Rattle.std.proofs.lemmas.List.{append_assoc, length-map}
 use Rattle.std.proofs.lemmas.List.Sums.{sum_by-cons, sum_by_push}
 use Rattle.std.proofs.lemmas.Nat.{div_below}
 use Rattle.std.specs.List.{sum_by}
-use Rattle.tdf_streams.proofs.Api.{none_some, some_same}
-use Rattle.tdf_streams.specs.Net.{count}
-use Rattle.tdf_streams.specs.Streams.{Spot, find, spot}
+use Rattle.tdf_dynamic.proofs.Api.{none_some, some_same}
+use Rattle.tdf_dynamic.specs.Below.{PeriodInfo, PeriodRecord, Spot, count, find, outputs_in, positions, rate_in, spot, step_in, time_of_periods}
 use Rattle.tdf_sim_history.specs.Cells.{column_spans, spans_from}
 use Rattle.tdf_sim_history.specs.Columns.{ColumnStart, Stamp, held_by, span_after, spans_to}
 use Rattle.tdf_trace_rows.specs.Positions.{Span, span_end, place_in_span, position_at, span_of, count_of_spans}
-use Rattle.tdf_streams.specs.Periods.{PeriodInfo, PeriodRecord}
-use Rattle.tdf_streams.specs.Signals.{outputs_in, positions, rate_in, step_in, time_of_periods}
 use Rattle.tdf_bind_connections.specs.declared.modules.PortRow.{PortRow}
 
 pub some_periods : (old : List PeriodRecord) (now : PeriodRecord) → 0 < length (old ++ now ∷ [])

@@ -3,11 +3,8 @@ use Rattle.std.proofs.Common.{◌≡◌, ℕ, zero, suc, Some, List, [], ◌∷�
 use Rattle.std.proofs.lemmas.List.Elements.{All-append, All-cons, All-nil}
 use Rattle.std.proofs.lemmas.Option.{get_or_from_slice_get, slice_get_within}
 use Rattle.std.specs.List.{All}
-use Rattle.tdf_bind.specs.declared.model.Flat.{Flat}
-use Rattle.tdf_streams.proofs.Api.{none_some, some_same}
-use Rattle.tdf_streams.specs.Cluster.{Start}
-use Rattle.tdf_streams.specs.Periods.{IsPeriodRecord, IsWholeRecord, PeriodRecord}
-use Rattle.tdf_streams.specs.Starts.{ArePast}
+use Rattle.tdf_dynamic.specs.Below.{ArePast, Flat, IsPeriodRecord, IsWholeRecord, PeriodRecord, Start}
+use Rattle.tdf_dynamic.proofs.Api.{none_some, some_same}
 use Rattle.tdf_sim_history.specs.WorldLaws.{AreRecordsOf}
 
 each_of : {X : Type 0} (P : X → Type 0) (xs : List X) (j : ℕ) (x : X) → All P xs → slice_get xs j ≡ Some x → P x

@@ -5,8 +5,8 @@ use Rattle.std.proofs.lemmas.List.Sums.{sum_by_push}
 use Rattle.std.proofs.lemmas.Option.{slice_get_past}
 use Rattle.tdf_dynamic_plans.proofs.Api.{modules_few}
 use Rattle.tdf_dynamic_plans.specs.Attributes.{clusters_of}
-use Rattle.tdf_bind.specs.declared.model.Flat.{Flat}
-use Rattle.tdf_streams.proofs.Api.{get_inside, is_wired}
+use Rattle.tdf_dynamic.specs.Below.{AreWithinLimits, Flat, PeriodRecord}
+use Rattle.tdf_dynamic.proofs.Api.{get_inside, is_wired}
 use Rattle.tdf_graph.specs.Clusters.{AreClusters}
 use Rattle.tdf_graph.specs.declared.actors.Edge.{Edge}
 use Rattle.tdf_sim_history.specs.Cells.{cell_by_driver, driven_cell, driver_of_row, event_column_cell, port_cell, run_cells, signal_cell, trace_cell, world_of}
@@ -14,9 +14,7 @@ use Rattle.tdf_sim_history.specs.Columns.{ColumnStart, start_of}
 use Rattle.tdf_sim_history.specs.Instant.{engine}
 use Rattle.tdf_sim_history.specs.World.{ClusterAt, Rules, World}
 use Rattle.tdf_sim_history.specs.History.{On, history}
-use Rattle.tdf_bind_invariants.specs.Limits.{AreWithinLimits}
 use Rattle.tdf_trace_rows.specs.Laws.{Agree}
-use Rattle.tdf_streams.specs.Periods.{PeriodRecord}
 use Rattle.tdf_lang_tree.specs.Pure.{PureTree}
 use Rattle.tdf_bind_connections.specs.declared.modules.PortRow.{PortRow}
 use Rattle.tdf_bind_connections.specs.declared.traces.TraceRow.{TraceRow}

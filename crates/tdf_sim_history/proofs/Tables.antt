@@ -4,8 +4,7 @@ use Rattle.std.proofs.lemmas.Bool.Decides.{nat_tests}
 use Rattle.std.proofs.lemmas.Option.{slice_get-map}
 use Rattle.std.specs.List.{enumerate_from}
 use Rattle.std.specs.Prelude.{◌||◌, Contains, slice_get, slice_index_or, slice_set, unwrap_or}
-use Rattle.tdf_dynamic.proofs.Api.{attributes_stay}
-use Rattle.tdf_streams.proofs.Api.{first_record, some_same}
+use Rattle.tdf_dynamic.proofs.Api.{attributes_stay, first_record, some_same}
 use Rattle.tdf_sim_history.proofs.Twice.{next_is}
 use Rattle.tdf_sim_history.proofs.Once.{one_history}
 use Rattle.tdf_sim_history.specs.Answers.{AreAnswers, AreFirstAnswers, IsAnswer, Leads, OfAll, asks_in, last_cells}
@@ -17,16 +16,11 @@ use Rattle.tdf_bind_tables.specs.declared.actors.ActorRow.{ActorRow}
 use Rattle.tdf_dynamic.specs.Change.{table_after}
 use Rattle.tdf_dynamic.specs.Laws.{BoundariesHaveOne, IsBoundary}
 use Rattle.tdf_dynamic_plans.specs.Attributes.{clusters_of}
-use Rattle.tdf_dynamic_first.specs.First.{IsFirstPlan}
-use Rattle.tdf_dynamic_first.specs.declared.first.First.{First}
 use Rattle.tdf_expr.specs.Checked.{IsCheckedOf}
-use Rattle.tdf_bind.specs.declared.model.Flat.{Flat}
+use Rattle.tdf_dynamic.specs.Below.{AreAttributes, AreWithinLimits, First, Flat, IsFirstPlan, zero_sample}
 use Rattle.tdf_graph.specs.declared.actors.Actor.{Actor}
 use Rattle.tdf_graph.specs.declared.actors.Actor.TheVariants as actor
 use Rattle.tdf_sim_history.specs.History.{Engine, Fault, Going, On, Past, Spent, HistoryState, Step, Stopped, after, and_then, history, state_of, turns_to}
-use Rattle.tdf_bind_invariants.specs.Limits.{AreWithinLimits}
-use Rattle.tdf_streams.specs.Cluster.{zero_sample}
-use Rattle.tdf_streams.specs.Periods.{AreAttributes}
 use Rattle.tdf_lang_tree.specs.Kept.{IsKept}
 use Rattle.tdf_lang_tree.specs.Pure.{PureTree}
 use Rattle.tdf_sim_history.specs.TableLaws.{AnswersAgree, BoundariesHaveTables, HaveAttributes}

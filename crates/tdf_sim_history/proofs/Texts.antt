@@ -7,7 +7,7 @@ use Rattle.std.specs.Prelude.{◌||◌, slice_get, slice_index, slice_index_or}
 use Rattle.tdf_dynamic.specs.Laws.{BoundariesHaveOne}
 use Rattle.tdf_base.specs.declared.resolution.Resolution.{Resolution}
 use Rattle.tdf_dynamic_plans.specs.Attributes.{clusters_of}
-use Rattle.tdf_bind.specs.declared.model.Flat.{Flat}
+use Rattle.tdf_dynamic.specs.Below.{Flat, zero_sample}
 use Rattle.tdf_sim_history.proofs.Told.{history_told}
 use Rattle.tdf_sim_history.proofs.Twice.{next_is}
 use Rattle.tdf_sim_history.proofs.Once.{one_history}
@@ -22,7 +22,6 @@ use Rattle.tdf_sim_history.specs.History.{Engine, Fault, Going, On, Past, Spent,
 use Rattle.tdf_trace_rows.proofs.Api.{text_same}
 use Rattle.tdf_trace_rows.specs.Laws.{Agree}
 use Rattle.tdf_trace_rows.specs.Rows.{Writing, trace_text}
-use Rattle.tdf_streams.specs.Cluster.{zero_sample}
 use Rattle.tdf_sim_history.specs.TableLaws.{AnswersWriteOne, MoreWritesTheSame}
 use Rattle.tdf_lang_tree.specs.Pure.{PureTree}
 use Rattle.tdf_bind_connections.specs.declared.modules.PortRow.{PortRow}

@@ -4,9 +4,8 @@ use Rattle.std.proofs.lemmas.Bool.Decides.{nat_tests}
 use Rattle.std.specs.List.{enumerate_from}
 use Rattle.std.specs.Prelude.{slice_get, slice_index_or}
 use Rattle.tdf_bind_tables.specs.FlatTables.{FlatTablesOf}
-use Rattle.tdf_dynamic_first.specs.declared.first.First.{First}
-use Rattle.tdf_bind.specs.declared.model.Flat.{Flat}
-use Rattle.tdf_streams.proofs.Api.{some_same}
+use Rattle.tdf_dynamic.specs.Below.{First, Flat}
+use Rattle.tdf_dynamic.proofs.Api.{some_same}
 use Rattle.tdf_sim_history.proofs.Ahead.{re, re_all, re_due, re_get, re_long, re_rest, re_world, with_re}
 use Rattle.tdf_sim_history.specs.Answers.{AreAnswers, HasTurn, IsAnswer, OfAll, OfClusters, OfFirst}
 use Rattle.tdf_sim_history.specs.Instant.{RunFault, all_firings, at_begin, boundary, boundary_of, changed_by, engine, events_of, instant, is_due, is_over, with_new, with_same}

@@ -6,11 +6,10 @@ use Rattle.std.specs.Prelude.{replicate, unwrap_or, ℤ}
 use Rattle.tdf_dynamic.specs.Asked.{IsQuiet, asked, attrs_after, nothing_asked, port_count, steps_after}
 use Rattle.tdf_dynamic.specs.Change.{IsSame, table_after}
 use Rattle.tdf_dynamic_plans.specs.Attributes.{AttrsOf}
-use Rattle.tdf_bind.specs.declared.model.Flat.{Flat}
+use Rattle.tdf_dynamic.specs.Below.{Flat, has_changes}
 use Rattle.tdf_sim_history.specs.Answers.{asks_in, last_cells}
 use Rattle.tdf_sim_history.specs.Laws.{UnchangedStay}
 use Rattle.tdf_sim_history.specs.World.{ClusterAt}
-use Rattle.tdf_streams.specs.Places.{has_changes}
 use Rattle.tdf_lang_tree.specs.Pure.{PureTree}
 
 otherwise : {A : Type 0} (b : Bool) (x y : A) → b ≡ false → (if b then x else y) ≡ y

@@ -1,6 +1,6 @@
 -- Where an instant goes on, and so where a history does, all clusters go on.
 use Rattle.std.proofs.Common.{◌≡◌, ◌∙◌, ℕ, zero, suc, ◌+◌, ◌-◌, ◌≤◌, Bool, true, false, if◌then◌else◌, sym, ap, subst, arith}
-use Rattle.tdf_bind.specs.declared.model.Flat.{Flat}
+use Rattle.tdf_dynamic.specs.Below.{Flat}
 use Rattle.tdf_sim_history.specs.Instant.{RunFault, all_firings, engine, instant}
 use Rattle.tdf_sim_history.specs.World.{Rules, World}
 use Rattle.tdf_sim_history.specs.History.{Fault, Going, On, Past, Spent, HistoryState, Step, Stopped, after, history, state_of}

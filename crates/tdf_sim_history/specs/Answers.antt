@@ -6,17 +6,13 @@ use Rattle.std.specs.Prelude.{◌≡◌, ◌<◌, ◌+◌, ℕ, true, List, [], 
 use Rattle.tdf_bind_tables.specs.FlatTables.{FlatTablesOf}
 use Rattle.tdf_dynamic.specs.Change.{Asks, IsChangeFault, IsNewPlan, IsSame, asks_of, table_after}
 use Rattle.tdf_dynamic_plans.specs.Attributes.{AttrsOf}
-use Rattle.tdf_bind.specs.declared.model.Flat.{Flat}
-use Rattle.tdf_streams.specs.Grounds.{firings}
-use Rattle.tdf_streams.specs.Net.{count}
-use Rattle.tdf_streams.specs.Streams.{known, spot, state_before}
+use Rattle.tdf_dynamic.specs.Below.{Flat, cluster_net, count, firings, known, spot, state_before}
 use Rattle.tdf_sim_history.specs.Instant.{at_begin, boundary, engine, is_due, is_over, periods_of, run_in}
 use Rattle.tdf_sim_history.specs.Start.{counts_in}
 use Rattle.tdf_sim_history.specs.World.{Change, ClusterAt, New, Refused, Rules, Same, World, next_change}
 use Rattle.tdf_sim_history.specs.History.{Going, On, history, turns_to}
 use Rattle.tdf_schedule.specs.declared.entry.Entry.{Entry}
 use Rattle.tdf_schedule.specs.declared.entry.Plan.{Plan}
-use Rattle.tdf_streams.specs.Cluster.{cluster_net}
 use Rattle.tdf_lang_tree.specs.Pure.{PureTree}
 
 -- what the variables of module m hold when the period of its cluster is done: by the streams, what

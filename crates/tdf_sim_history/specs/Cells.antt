@@ -5,19 +5,13 @@ use Rattle.std.specs.Prelude.{ℕ, ◌+◌, ◌-◌, ◌*◌, Bool, ◌&&◌, na
 use Rattle.std.specs.List.{sum_by}
 use Rattle.tdf_dynamic_plans.specs.Attributes.{clusters_of}
 use Rattle.tdf_fixed.specs.declared.raw.Raw.{Raw}
-use Rattle.tdf_bind.specs.declared.model.Flat.{Flat}
-use Rattle.tdf_streams.specs.Grounds.{firings}
-use Rattle.tdf_streams.specs.Net.{Past}
-use Rattle.tdf_streams.specs.Streams.{known}
+use Rattle.tdf_dynamic.specs.Below.{Flat, Past, PeriodRecord, cluster_net, firings, known, outputs_in, port_output, positions, rate_in, step_in, zero_sample}
 use Rattle.tdf_sim_history.specs.Instant.{RunFault, acts_now, engine, periods_of, run_in}
 use Rattle.tdf_sim_history.specs.Columns.{ColumnStart, held_by, span_after, spans_to, stamp_at, start_of}
 use Rattle.tdf_sim_history.specs.World.{ClusterAt, Rules, World}
 use Rattle.tdf_sim_history.specs.History.{HistoryState, On, Stopped, Spent, history}
 use Rattle.tdf_trace_rows.specs.Positions.{Span, position_at, span_of}
 use Rattle.tdf_trace_rows.specs.Rows.{Cells}
-use Rattle.tdf_streams.specs.Cluster.{cluster_net, zero_sample}
-use Rattle.tdf_streams.specs.Periods.{PeriodRecord}
-use Rattle.tdf_streams.specs.Signals.{outputs_in, port_output, positions, rate_in, step_in}
 use Rattle.tdf_lang_tree.specs.Pure.{PureTree}
 use Rattle.tdf_bind_connections.specs.declared.drivers.SignalRow.{SignalRow}
 use Rattle.tdf_bind_connections.specs.declared.modules.PortRow.{PortRow}

@@ -1,7 +1,7 @@
 -- What later instants make of clusters: periods and values of samplers are added, and samples.
 -- Source: own.
 use Rattle.std.specs.Prelude.{◌≡◌, ◌+◌, ◌≤◌, ℕ, List, All, Some, length, slice_get, slice_index}
-use Rattle.tdf_streams.specs.Stands.{Longer}
+use Rattle.tdf_dynamic.specs.Below.{Longer}
 use Rattle.tdf_sim_history.specs.Cells.{outputs_done}
 use Rattle.tdf_sim_history.specs.Instant.{run_in}
 use Rattle.tdf_sim_history.specs.World.{Change, ClusterAt, New, Refused, Same, World}

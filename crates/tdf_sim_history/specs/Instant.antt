@@ -9,19 +9,13 @@ use Rattle.tdf_bind_tables.specs.FlatTables.{FlatTablesOf}
 use Rattle.tdf_bind_tables.specs.declared.actors.ActorRow.{ActorRow}
 use Rattle.tdf_dynamic_plans.specs.Attributes.{AttrsOf}
 use Rattle.tdf_fixed.specs.declared.raw.Raw.{Raw}
-use Rattle.tdf_bind.specs.declared.model.Flat.{Flat}
-use Rattle.tdf_streams.specs.Net.{Run, count}
-use Rattle.tdf_streams.specs.Streams.{known, place}
-use Rattle.tdf_streams.specs.Grounds.{firings}
+use Rattle.tdf_dynamic.specs.Below.{Flat, PeriodInfo, PeriodRecord, Run, cluster_net, count, firings, known, period_record, place, reader_at, zero_sample}
 use Rattle.tdf_graph.specs.declared.actors.Actor.{Actor}
 use Rattle.tdf_graph.specs.declared.actors.Actor.TheVariants as actor
 use Rattle.tdf_sim_history.specs.World.{Change, ClusterAt, New, Refused, Rules, Same, Settled, SinkWrite, World, next_change}
 use Rattle.tdf_sim_history.specs.History.{Engine, Fault as Faulted, Going, Past, Step, and_then, turns_to}
 use Rattle.tdf_schedule.specs.Plan.{done}
 use Rattle.tdf_schedule.specs.declared.entry.Entry.{Entry}
-use Rattle.tdf_streams.specs.Cluster.{cluster_net, zero_sample}
-use Rattle.tdf_streams.specs.Periods.{PeriodInfo, PeriodRecord, period_record}
-use Rattle.tdf_streams.specs.Places.{reader_at}
 use Rattle.tdf_lang_tree.specs.Pure.{PureTree}
 use Rattle.tdf_bind_connections.specs.declared.modules.PortRow.{PortRow}
 

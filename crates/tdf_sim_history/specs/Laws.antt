@@ -4,15 +4,13 @@ use Rattle.std.specs.Prelude.{◌≡◌, ◌≤◌, ℕ, false, List, [], All, I
 use Rattle.tdf_bind_tables.specs.FlatTables.{FlatTablesOf}
 use Rattle.tdf_dynamic.specs.Laws.{IsBoundary}
 use Rattle.tdf_dynamic_plans.specs.Attributes.{AttrsOf}
-use Rattle.tdf_dynamic_first.specs.declared.first.First.{First}
-use Rattle.tdf_bind.specs.declared.model.Flat.{Flat}
+use Rattle.tdf_dynamic.specs.Below.{First, Flat, has_changes}
 use Rattle.tdf_sim_history.specs.Answers.{AreAnswers, AreFirstAnswers, IsAnswer, OfAll, OfFirst, asks_in, last_cells}
 use Rattle.tdf_sim_history.specs.Instant.{at_begin, boundary, engine}
 use Rattle.tdf_sim_history.specs.Start.{first_world}
 use Rattle.tdf_sim_history.specs.Telling.{AreTold, IsTold, all_told, state_as, step_as, world_told, world_untold}
 use Rattle.tdf_sim_history.specs.World.{Change, ClusterAt, Rules, Same, World}
 use Rattle.tdf_sim_history.specs.History.{On, history, turns_to}
-use Rattle.tdf_streams.specs.Places.{has_changes}
 use Rattle.tdf_lang_tree.specs.Pure.{PureTree}
 
 -- nothing happens in a model without clusters and with an event side where nothing is ever pending

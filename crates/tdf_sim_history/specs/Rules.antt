@@ -3,10 +3,9 @@
 use Rattle.std.specs.List.{list_any}
 use Rattle.std.specs.Prelude.{ℕ, Bool, ◌||◌, not, Option, option_map, List, map}
 use Rattle.tdf_convert.specs.declared.writes.SignalWrite.{SignalWrite}
-use Rattle.tdf_dynamic_first.specs.declared.first.First.{First}
 use Rattle.tdf_events.specs.Delta.{event_part, is_due, is_idle}
 use Rattle.tdf_events.specs.Side.{SideOf, start_side}
-use Rattle.tdf_bind.specs.declared.model.Flat.{Flat}
+use Rattle.tdf_dynamic.specs.Below.{First, Flat}
 use Rattle.tdf_sim_history.specs.Instant.{RunFault, engine}
 use Rattle.tdf_sim_history.specs.Start.{first_world}
 use Rattle.tdf_sim_history.specs.World.{Change, EventSide, Rules, Settled, SinkWrite, World}

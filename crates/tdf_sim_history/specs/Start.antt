@@ -4,8 +4,7 @@
 use Rattle.std.specs.List.{count_by, enumerate_from, range_with_len}
 use Rattle.std.specs.Prelude.{ℕ, ◌+◌, true, List, [], Option, None, Some, if◌then◌else◌, length, map, nat_eq, replicate, slice_get, slice_index_or}
 use Rattle.tdf_bind_tables.specs.FlatTables.{FlatTablesOf}
-use Rattle.tdf_dynamic_first.specs.declared.first.First.{First}
-use Rattle.tdf_bind.specs.declared.model.Flat.{Flat}
+use Rattle.tdf_dynamic.specs.Below.{First, Flat, driver_samples, period_record, text_start, zero_sample}
 use Rattle.tdf_bind_connections.specs.declared.drivers.SignalRow.{SignalRow}
 use Rattle.tdf_bind_connections.specs.declared.traces.TraceRow.{TraceRow}
 use Rattle.tdf_fixed.specs.declared.raw.Raw.{Raw}
@@ -13,8 +12,6 @@ use Rattle.tdf_sim_history.specs.Cells.{driver_of_row}
 use Rattle.tdf_sim_history.specs.Columns.{ColumnStart}
 use Rattle.tdf_sim_history.specs.World.{Change, ClusterAt, World}
 use Rattle.tdf_schedule.specs.declared.entry.Entry.{Entry}
-use Rattle.tdf_streams.specs.Cluster.{driver_samples, text_start, zero_sample}
-use Rattle.tdf_streams.specs.Periods.{period_record}
 use Rattle.tdf_lang_tree.specs.Pure.{PureTree}
 
 -- how often each actor fires in a plan

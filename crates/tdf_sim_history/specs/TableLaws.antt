@@ -5,16 +5,14 @@ use Rattle.std.specs.Prelude.{◌≡◌, ◌≤◌, ◌+◌, ℕ, List, Contains
 use Rattle.tdf_dynamic.specs.Laws.{IsBoundary}
 use Rattle.tdf_dynamic_plans.specs.Attributes.{clusters_of}
 use Rattle.tdf_expr.specs.Checked.{IsCheckedOf}
-use Rattle.tdf_bind.specs.declared.model.Flat.{Flat}
+use Rattle.tdf_dynamic.specs.Below.{AreAttributes, AreWithinLimits, Flat}
 use Rattle.tdf_sim_history.specs.Answers.{AreAnswers, OfAll, asks_in}
 use Rattle.tdf_sim_history.specs.Instant.{engine}
 use Rattle.tdf_sim_history.specs.Telling.{AreTold, state_as, world_told, world_untold}
 use Rattle.tdf_sim_history.specs.Texts.{run_notes, run_trace}
 use Rattle.tdf_sim_history.specs.World.{Change, ClusterAt, Rules, World}
 use Rattle.tdf_sim_history.specs.History.{history}
-use Rattle.tdf_bind_invariants.specs.Limits.{AreWithinLimits}
 use Rattle.tdf_trace_rows.specs.Rows.{Writing}
-use Rattle.tdf_streams.specs.Periods.{AreAttributes}
 use Rattle.tdf_lang_tree.specs.Kept.{IsKept}
 use Rattle.tdf_lang_tree.specs.Pure.{PureTree}
 

@@ -2,7 +2,7 @@
 -- Source: own.
 use Rattle.std.specs.List.{enumerate_from}
 use Rattle.std.specs.Prelude.{◌<◌, ℕ, List, [], ◌∷◌, ◌++◌, length, map, slice_index_or}
-use Rattle.tdf_bind.specs.declared.model.Flat.{Flat}
+use Rattle.tdf_dynamic.specs.Below.{Flat}
 use Rattle.tdf_sim_history.specs.Answers.{OfAll}
 use Rattle.tdf_sim_history.specs.World.{Change, ClusterAt, Rules, World}
 use Rattle.tdf_sim_history.specs.History.{HistoryState, On, Spent, Stopped, Step, Fault, Going, Past}

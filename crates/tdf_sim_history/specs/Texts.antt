@@ -6,7 +6,7 @@ use Rattle.std.specs.Prelude.{ℕ, zero, suc, ◌+◌, ◌-◌, if◌then◌else
 use Rattle.tdf_base.specs.Fault.{fault_text}
 use Rattle.tdf_base.specs.declared.resolution.Resolution.{Resolution}
 use Rattle.tdf_fixed.specs.Decimal.{seconds_text_at}
-use Rattle.tdf_bind.specs.declared.model.Flat.{Flat}
+use Rattle.tdf_dynamic.specs.Below.{Flat}
 use Rattle.tdf_sim_history.specs.Cells.{run_cells}
 use Rattle.tdf_sim_history.specs.Instant.{RunFault, engine, instant, is_due}
 use Rattle.tdf_sim_history.specs.World.{ClusterAt, Rules, World}

@@ -7,8 +7,7 @@ use Rattle.tdf_dynamic_plans.specs.Attributes.{AttrsOf}
 use Rattle.tdf_fixed.specs.declared.raw.Raw.{Raw}
 use Rattle.tdf_schedule.specs.declared.entry.Entry.{Entry}
 use Rattle.tdf_sim_history.specs.Columns.{ColumnStart}
-use Rattle.tdf_streams.specs.Cluster.{Start}
-use Rattle.tdf_streams.specs.Periods.{PeriodRecord}
+use Rattle.tdf_dynamic.specs.Below.{PeriodRecord, Start}
 
 -- what the change bodies of a cluster lead to at a boundary: the same plan with these attributes, a
 -- new one, or the fault that ends the run

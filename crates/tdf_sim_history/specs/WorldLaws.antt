@@ -2,10 +2,7 @@
 -- Source: own.
 use Rattle.std.specs.Prelude.{◌≡◌, ◌+◌, ◌-◌, ◌<◌, ◌≤◌, ℕ, ℤ, false, List, [], ◌∷◌, Some, length, slice_get, slice_index}
 use Rattle.tdf_fixed.specs.declared.raw.Raw.{Raw}
-use Rattle.tdf_bind.specs.declared.model.Flat.{Flat}
-use Rattle.tdf_streams.specs.Grounds.{firings}
-use Rattle.tdf_streams.specs.Net.{Turn}
-use Rattle.tdf_streams.specs.Streams.{known}
+use Rattle.tdf_dynamic.specs.Below.{AreRecords, AreWithinLimits, Flat, PeriodRecord, Start, Turn, cluster_net, firings, known, outputs_in, positions, time_of_periods}
 use Rattle.tdf_events.specs.Side.{SideOf}
 use Rattle.tdf_dynamic_plans.specs.Attributes.{clusters_of}
 use Rattle.tdf_sim_history.specs.Cells.{column_spans, driver_of_row, run_cells, sample_at, samples_done}
@@ -14,13 +11,8 @@ use Rattle.tdf_sim_history.specs.Instant.{activations, periods_of, run_in}
 use Rattle.tdf_sim_history.specs.World.{ClusterAt, World}
 use Rattle.tdf_sim_history.specs.History.{On, history}
 use Rattle.tdf_sim_history.specs.TurnLaws.{IsOn}
-use Rattle.tdf_bind_invariants.specs.Limits.{AreWithinLimits}
 use Rattle.tdf_trace_rows.specs.Laws.{Agree}
 use Rattle.tdf_trace_rows.specs.Positions.{position_at}
-use Rattle.tdf_streams.specs.Cluster.{Start, cluster_net}
-use Rattle.tdf_streams.specs.Periods.{PeriodRecord}
-use Rattle.tdf_streams.specs.Starts.{AreRecords}
-use Rattle.tdf_streams.specs.Signals.{outputs_in, positions, time_of_periods}
 use Rattle.tdf_lang_tree.specs.Pure.{PureTree}
 use Rattle.tdf_bind_connections.specs.declared.modules.PortRow.{PortRow}
 use Rattle.tdf_bind_connections.specs.declared.traces.TraceRow.{TraceRow}

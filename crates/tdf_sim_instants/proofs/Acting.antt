@@ -22,17 +22,12 @@ use Rattle.tdf_sim_instants.specs.declared.engine.Engine.{Engine}
 use Rattle.tdf_events.specs.Delta.{AreWritesOf}
 use Rattle.tdf_events.specs.Kernel.{IsKernelOf, side_of}
 use Rattle.tdf_events.specs.Runnable.{IsRunnable, signal_formats}
-use Rattle.tdf_exec.proofs.Api.{moved_sent, moved_traced}
-use Rattle.tdf_exec.specs.Cluster.{ClusterOf}
-use Rattle.tdf_exec.specs.Gained.{IsSentOf, sent_size, size_due, traced_size}
-use Rattle.tdf_exec.specs.Played.{IsMoved}
-use Rattle.tdf_exec.specs.Starts.{IsSoundFlat}
-use Rattle.tdf_exec.specs.declared.runners.Runner.{Runner}
+use Rattle.tdf_sim_refinement.specs.Below.{ClusterOf, IsMoved, IsSentOf, IsSoundFlat, Runner, sent_size, size_due, traced_size}
 use Rattle.tdf_fixed.specs.declared.raw.Raw.{Raw}
 use Rattle.tdf_bind.specs.declared.model.Flat.{Flat}
 use Rattle.tdf_bind_invariants.specs.Limits.{AreWithinLimits}
 use Rattle.tdf_streams.proofs.Api.{get_inside}
-use Rattle.tdf_sim_refinement.proofs.Api.{emitted_to, pass_rooms, pass_sent}
+use Rattle.tdf_sim_refinement.proofs.Api.{emitted_to, moved_sent, moved_traced, pass_rooms, pass_sent}
 use Rattle.tdf_sim_refinement.specs.Pass.{CanPass, HasPassedAll, PassAt, RunOf, pass_at, pass_run}
 
 -- a cluster that has done entries gives as much by its plan

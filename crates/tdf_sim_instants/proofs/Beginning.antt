@@ -18,10 +18,7 @@ use Rattle.tdf_sim_instants.specs.machine.Making.{AreGivenUpTo, AreLinkedUpTo}
 use Rattle.tdf_events.proofs.Api.{none_at_start, none_pending_before}
 use Rattle.tdf_events.specs.Kernel.{IsKernelOf, KernelOf, side_of}
 use Rattle.tdf_events.specs.Side.{start_side}
-use Rattle.tdf_exec.specs.Cluster.{ClusterOf}
-use Rattle.tdf_exec.specs.Gained.{sent_size, size_due, traced_size}
-use Rattle.tdf_exec.specs.Telling.{IsMostOf}
-use Rattle.tdf_exec.specs.declared.runners.Runner.{Runner}
+use Rattle.tdf_sim_refinement.specs.Below.{ClusterOf, IsMostOf, Runner, sent_size, size_due, traced_size}
 use Rattle.tdf_bind.specs.declared.model.Flat.{Flat}
 use Rattle.tdf_streams.proofs.Api.{none_some, some_same}
 use Rattle.tdf_bind_invariants.specs.Limits.{AreWithinLimits}

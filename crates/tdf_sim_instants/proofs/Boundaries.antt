@@ -15,8 +15,7 @@ use Rattle.tdf_dynamic.specs.Change.{asks_of}
 use Rattle.tdf_dynamic.specs.declared.next.Next.{Next}
 use Rattle.tdf_dynamic.specs.declared.next.Next.TheVariants as answer
 use Rattle.tdf_dynamic_plans.specs.Attributes.{AttrsOf}
-use Rattle.tdf_exec.specs.Cluster.{ClusterOf, next_offset, offset_in}
-use Rattle.tdf_exec.specs.Crossing.{AreCellsOf, values_at}
+use Rattle.tdf_sim_refinement.specs.Below.{AreCellsOf, ClusterOf, next_offset, offset_in, values_at}
 use Rattle.tdf_expr.specs.Checked.{IsCheckedOf}
 use Rattle.tdf_bind.specs.declared.model.Flat.{Flat}
 use Rattle.tdf_bind_invariants.specs.Limits.{AreWithinLimits}

@@ -5,13 +5,9 @@ use Rattle.tdf_sim_instants.proofs.Boundaries.{still_to_come, turn_in}
 use Rattle.tdf_sim_instants.specs.Crossing.{CrossingOf, EndingAt, HasEnding, HaveCrossed, IsEndingOf, is_ending, is_new, planned_if}
 use Rattle.tdf_dynamic.specs.declared.next.Next.{Next}
 use Rattle.tdf_dynamic.specs.declared.next.Next.TheVariants as answer
-use Rattle.tdf_exec.specs.Cluster.{ClusterOf}
-use Rattle.tdf_exec.specs.Crossing.{HasBegunPeriod, HasCrossed as HasLeft}
-use Rattle.tdf_exec.specs.Gained.{sent_size, size_due, traced_size}
-use Rattle.tdf_exec.specs.Made.{IsClusterOf}
+use Rattle.tdf_sim_refinement.specs.Below.{ClusterOf, HasBegunPeriod, HasCrossed as HasLeft, IsClusterOf, sent_size, size_due, traced_size}
 use Rattle.tdf_bind.specs.declared.model.Flat.{Flat}
-use Rattle.tdf_exec.proofs.Api.{due_alike, like_sent, like_traced, sizes_alike}
-use Rattle.tdf_sim_refinement.proofs.Api.{get_set_other, same_or_not, set_is}
+use Rattle.tdf_sim_refinement.proofs.Api.{due_alike, get_set_other, like_sent, like_traced, same_or_not, set_is, sizes_alike}
 
 -- the next period of a cluster has begun, and no entry of it is done
 pub record IsAtHead (c d : ClusterOf) : Type 0 where

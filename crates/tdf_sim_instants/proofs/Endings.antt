@@ -9,9 +9,7 @@ use Rattle.tdf_sim_instants.specs.declared.crossing.Turn.{Turn}
 use Rattle.tdf_sim_instants.specs.declared.crossing.Turn.TheVariants.{Kept, Planned}
 use Rattle.tdf_sim_instants.specs.machine.Crossing.{GoesOnBy}
 use Rattle.tdf_base.specs.declared.faults.Fault.{Fault}
-use Rattle.tdf_exec.specs.Cluster.{ClusterOf}
-use Rattle.tdf_exec.specs.Crossing.{HasNoChanges}
-use Rattle.tdf_exec.specs.Made.{IsClusterOf}
+use Rattle.tdf_sim_refinement.specs.Below.{ClusterOf, HasNoChanges, IsClusterOf}
 use Rattle.tdf_bind.specs.declared.model.Flat.{Flat}
 use Rattle.tdf_streams.proofs.Api.{get_inside}
 use Rattle.tdf_sim_refinement.proofs.Api.{set_own}

@@ -7,7 +7,7 @@ use Rattle.tdf_sim_instants.specs.Times.{IsLeastDue, IsNextDue, IsClusterRunning
 use Rattle.tdf_events.specs.Delta.{is_idle}
 use Rattle.tdf_events.specs.Kernel.{IsNextOf}
 use Rattle.tdf_events.specs.Side.{SideOf}
-use Rattle.tdf_exec.specs.Cluster.{ClusterOf}
+use Rattle.tdf_sim_refinement.specs.Below.{ClusterOf}
 use Rattle.std.proofs.lemmas.Bool.{eq-eqb}
 use Rattle.std.proofs.lemmas.Option.{slice_get_within}
 use Rattle.tdf_streams.proofs.Api.{none_some, some_same}

@@ -10,8 +10,7 @@ use Rattle.tdf_sim_instants.proofs.Passed.{Turns}
 use Rattle.tdf_sim_instants.specs.Crossing.{is_ending}
 use Rattle.tdf_sim_instants.specs.Engine.{HasDoneBefore, IsInProgress}
 use Rattle.tdf_sim_instants.specs.Times.{due_offset, due_time}
-use Rattle.tdf_exec.specs.Cluster.{ClusterOf, is_next_due, is_offset, next_offset, offset_in}
-use Rattle.tdf_exec.specs.Played.{AreDone}
+use Rattle.tdf_sim_refinement.specs.Below.{AreDone, ClusterOf, is_next_due, is_offset, next_offset, offset_in}
 use Rattle.tdf_bind.specs.declared.model.Flat.{Flat}
 use Rattle.tdf_streams.proofs.Api.{get_inside}
 use Rattle.tdf_bind_invariants.specs.Limits.{AreWithinLimits}

@@ -10,9 +10,7 @@ use Rattle.tdf_convert.specs.declared.outputs.Sent.{Sent}
 use Rattle.tdf_sim_instants.specs.Settling.{event_turn}
 use Rattle.tdf_events.specs.Delta.{event_part}
 use Rattle.tdf_events.specs.Side.{SideOf}
-use Rattle.tdf_exec.specs.Cluster.{ClusterOf}
-use Rattle.tdf_exec.specs.Gained.{IsSentOf}
-use Rattle.tdf_exec.specs.Made.{IsClusterOf}
+use Rattle.tdf_sim_refinement.specs.Below.{ClusterOf, IsClusterOf, IsSentOf}
 use Rattle.tdf_bind.specs.declared.model.Flat.{Flat}
 use Rattle.tdf_streams.proofs.Api.{some_same}
 use Rattle.tdf_sim_history.specs.Instant.{RunFault, events_of, has_write, settled_as}

@@ -2,9 +2,7 @@
 use Rattle.std.proofs.Common.{◌≡◌, ◌≢◌, ◌⊎◌, ◌∙◌, ℕ, zero, suc, ◌-◌, ◌<◌, true, false, List, Some, length, length-set, slice_get, inl, inr, sym, ap, subst, arith}
 use Rattle.std.proofs.lemmas.Option.{slice_get_within}
 use Rattle.tdf_convert.specs.declared.outputs.Sent.{Sent}
-use Rattle.tdf_exec.specs.Cluster.{ClusterOf, is_next_due}
-use Rattle.tdf_exec.specs.Made.{IsClusterOf}
-use Rattle.tdf_exec.specs.Played.{AreDone}
+use Rattle.tdf_sim_refinement.specs.Below.{AreDone, ClusterOf, IsClusterOf, is_next_due}
 use Rattle.tdf_bind.specs.declared.model.Flat.{Flat}
 use Rattle.tdf_streams.proofs.Api.{some_same}
 use Rattle.tdf_sim_refinement.proofs.Api.{get_set_other, later, same_or_not, set_is}

@@ -3,10 +3,8 @@ use Rattle.std.proofs.Common.{◌≡◌, ◌∙◌, ℕ, suc, ◌-◌, ◌≤◌
 use Rattle.std.proofs.lemmas.List.Sums.{sum_by-cons}
 use Rattle.std.specs.Prelude.{sum}
 use Rattle.tdf_sim_instants.specs.Engine.{HaveRooms}
-use Rattle.tdf_exec.proofs.Api.{due_left}
-use Rattle.tdf_exec.specs.Cluster.{ClusterOf, is_next_due}
-use Rattle.tdf_exec.specs.Gained.{size_due}
-use Rattle.tdf_exec.specs.declared.runners.Runner.{Runner}
+use Rattle.tdf_sim_refinement.proofs.Api.{due_left}
+use Rattle.tdf_sim_refinement.specs.Below.{ClusterOf, Runner, is_next_due, size_due}
 use Rattle.tdf_sim_refinement.specs.Pass.{pass_size}
 
 turn_few : (size : Option Runner → ℕ) (time s m : ℕ) (c : ClusterOf) (b : Bool) → size_due size c.runners (time - s) c.entries ≤ m

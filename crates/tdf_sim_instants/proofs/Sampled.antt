@@ -5,7 +5,7 @@ use Rattle.tdf_convert.specs.Links.{AreLinks, HaveSignals}
 use Rattle.tdf_convert.specs.Sampled.{AreSampled}
 use Rattle.tdf_convert.specs.declared.links.Links.{Links}
 use Rattle.tdf_sim_instants.specs.Sampling.{CanSample, HaveSampled, SamplingAt}
-use Rattle.tdf_exec.specs.Cluster.{ClusterOf, is_next_due}
+use Rattle.tdf_sim_refinement.specs.Below.{ClusterOf, is_next_due}
 use Rattle.tdf_fixed.specs.declared.raw.Raw.{Raw}
 use Rattle.tdf_streams.proofs.Api.{some_same}
 use Rattle.tdf_sim_refinement.proofs.Api.{get_set_other, same_or_not, set_is}

@@ -5,9 +5,7 @@ use Rattle.tdf_convert.specs.declared.links.Links.{Links}
 use Rattle.tdf_sim_instants.specs.Engine.{IsEngineOf}
 use Rattle.tdf_sim_instants.specs.Sampling.{HaveSampled, sampling_at}
 use Rattle.tdf_sim_instants.specs.declared.engine.Engine.{Engine}
-use Rattle.tdf_exec.specs.Cluster.{ClusterOf, is_next_due}
-use Rattle.tdf_exec.specs.Made.{IsClusterOf}
-use Rattle.tdf_exec.specs.Played.{AreInputsFor}
+use Rattle.tdf_sim_refinement.specs.Below.{AreInputsFor, ClusterOf, IsClusterOf, is_next_due}
 use Rattle.tdf_fixed.specs.declared.raw.Raw.{Raw}
 use Rattle.tdf_bind.specs.Flat.{IsFlatOf}
 use Rattle.tdf_bind.specs.declared.model.Flat.{Flat}

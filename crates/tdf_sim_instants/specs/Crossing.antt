@@ -5,9 +5,7 @@ use Rattle.std.specs.Prelude.{◌≡◌, ◌<◌, ◌≤◌, ◌+◌, ◌-◌, �
 use Rattle.tdf_base.specs.declared.faults.Fault.{Fault}
 use Rattle.tdf_dynamic.specs.declared.next.Next.{Next}
 use Rattle.tdf_dynamic.specs.declared.next.Next.TheVariants as answer
-use Rattle.tdf_exec.specs.Cluster.{ClusterOf, next_offset}
-use Rattle.tdf_exec.specs.Crossing.{HasCrossed as HasLeft, HasNoChanges}
-use Rattle.tdf_exec.specs.Made.{IsClusterOf}
+use Rattle.tdf_sim_refinement.specs.Below.{ClusterOf, HasCrossed as HasLeft, HasNoChanges, IsClusterOf, next_offset}
 use Rattle.tdf_bind.specs.declared.model.Flat.{Flat}
 use Rattle.tdf_sim_history.specs.World.{Refused}
 use Rattle.tdf_sim_refinement.specs.Boundary.{HasAnswered, HasPassedBoundary}

@@ -1,4 +1,5 @@
 pub mod Ahead
+pub mod Below
 pub mod Crossing
 pub mod CrossingLaws
 pub mod Engine

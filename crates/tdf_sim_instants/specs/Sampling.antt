@@ -4,7 +4,7 @@ use Rattle.std.specs.Prelude.{◌≡◌, ◌-◌, ◌<◌, ◌≤◌, ℕ, true,
 use Rattle.tdf_convert.specs.Links.{AreLinks, HaveSignals}
 use Rattle.tdf_convert.specs.Sampled.{AreSampled}
 use Rattle.tdf_convert.specs.declared.links.Links.{Links}
-use Rattle.tdf_exec.specs.Cluster.{ClusterOf, is_next_due}
+use Rattle.tdf_sim_refinement.specs.Below.{ClusterOf, is_next_due}
 use Rattle.tdf_fixed.specs.declared.raw.Raw.{Raw}
 
 -- a time, the start of the period of each cluster, and which signals their samplers have

@@ -3,7 +3,7 @@
 use Rattle.std.specs.Prelude.{◌≡◌, ◌⊎◌, ◌<◌, ◌≤◌, ◌+◌, ℕ, true, List, Option, Some, None, slice_get}
 use Rattle.tdf_sim_instants.specs.Settling.{IsBefore}
 use Rattle.tdf_events.specs.Side.{SideOf}
-use Rattle.tdf_exec.specs.Cluster.{ClusterOf, next_offset}
+use Rattle.tdf_sim_refinement.specs.Below.{ClusterOf, next_offset}
 use Rattle.tdf_sim_history.specs.Rules.{is_side_due}
 
 -- the offset of the next entry, or of the end of the period

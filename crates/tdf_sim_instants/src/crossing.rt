@@ -40,10 +40,7 @@ ghost use Rattle.tdf_base.specs.declared.faults.Fault.{Fault as FaultOf};
 ghost use Rattle.tdf_dynamic.specs.declared.next.Next.{Next as NextOf};
 ghost use Rattle.tdf_dynamic.specs.declared.next.Next.TheVariants.{Same};
 ghost use Rattle.tdf_dynamic_plans.specs.Faults.{IsRefusal};
-ghost use Rattle.tdf_exec.specs.Cluster.{ClusterOf, next_offset};
-ghost use Rattle.tdf_exec.specs.Crossing.{HasCrossed as HasLeft, CanInstall, HasBegunPeriod, HasNoChanges, StandsAfter};
-ghost use Rattle.tdf_exec.specs.Made.{IsClusterOf};
-ghost use Rattle.tdf_exec.specs.Starts.{IsSoundFlat};
+ghost use Rattle.tdf_sim_refinement.specs.Below.{CanInstall, ClusterOf, HasBegunPeriod, HasCrossed as HasLeft, HasNoChanges, IsClusterOf, IsSoundFlat, StandsAfter, next_offset};
 ghost use Rattle.tdf_sim_history.specs.World.{Refused};
 ghost use Rattle.tdf_sim_refinement.specs.Boundary.{HasAnswered, HasPassedBoundary};
 
@@ -52,8 +49,7 @@ use tdf_base::{Memory, cluster_number};
 use tdf_bind::Flat;
 use tdf_dynamic::Next;
 use tdf_dynamic_plans::ChangeErr;
-use tdf_exec::Cluster;
-use tdf_sim_refinement::law_boundary;
+use tdf_sim_refinement::{Cluster, law_boundary};
 
 /// Whether the period of a cluster, which began at `since`, ends at a time.
 fn is_ending(cluster: &Cluster, since: u64, time: u64) -> bool

@@ -2,7 +2,6 @@
 
 use tdf_convert::{Inputs, Links, Outputs, Writes};
 use tdf_events::Kernel;
-use tdf_exec::Cluster;
 
 /// All that runs of a model: its clusters and its event side.
 #[derive(Drop)]
@@ -40,7 +39,7 @@ ghost use Rattle.tdf_sim_instants.specs.Times.{IsNextDue};
 ghost use Rattle.tdf_sim_instants.specs.declared.crossing.Pass.TheVariants.{Done, Spent, Stopped};
 ghost use Rattle.tdf_events.specs.Kernel.{IsKernelOf, side_of};
 ghost use Rattle.tdf_events.specs.Runnable.{IsRunnable};
-ghost use Rattle.tdf_exec.specs.Starts.{IsSoundFlat};
+ghost use Rattle.tdf_sim_refinement.specs.Below.{IsSoundFlat};
 ghost use Rattle.tdf_expr.specs.Checked.{IsCheckedOf};
 ghost use Rattle.tdf_sim_refinement.specs.Pass.{HasPassedAll, HasPassedPart, pass_at, pass_run};
 ghost use Rattle.tdf_lang_tree.specs.Pure.{PureTree};
@@ -55,7 +54,7 @@ use tdf_base::Memory;
 use tdf_bind::Flat;
 use tdf_bind_invariants::law_limits;
 use tdf_convert::{emit_due, law_by_offset};
-use tdf_sim_refinement::{Moment, fire_all};
+use tdf_sim_refinement::{Cluster, Moment, fire_all};
 
 impl Engine {
     /// The least time at which something is next due; the stop where there is none before it.

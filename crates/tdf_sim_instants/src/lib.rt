@@ -22,3 +22,5 @@ mod times;
 pub use crossing::{Pass, cross_all};
 pub use engine::Engine;
 pub use laws::{law_crossing, law_instant};
+pub use tdf_dynamic::law_one_answer;
+pub use tdf_sim_refinement::Cluster;

@@ -9,8 +9,7 @@ ghost use Rattle.tdf_sim_instants.specs.machine.Making.{AreGivenUpTo, AreLinkedU
 ghost use Rattle.tdf_events.specs.Kernel.{IsKernelOf, side_of};
 ghost use Rattle.tdf_events.specs.Runnable.{IsRunnable};
 ghost use Rattle.tdf_events.specs.Side.{start_side};
-ghost use Rattle.tdf_exec.specs.Gained.{sent_size, traced_size};
-ghost use Rattle.tdf_exec.specs.Starts.{IsSoundFlat};
+ghost use Rattle.tdf_sim_refinement.specs.Below.{IsSoundFlat, sent_size, traced_size};
 ghost use Rattle.tdf_sim_refinement.specs.Linked.{HaveEventPorts};
 ghost use Rattle.tdf_sim_refinement.specs.Begun.{HasBegun, HaveBegun};
 
@@ -22,8 +21,7 @@ use tdf_bind_invariants::law_limits;
 use tdf_convert::{Inputs, Links, Outputs, Writes};
 use tdf_dynamic_first::First;
 use tdf_events::Kernel;
-use tdf_exec::{Cluster, Room};
-use tdf_sim_refinement::{law_ports, sampler_links, sink_links};
+use tdf_sim_refinement::{Cluster, Room, law_ports, sampler_links, sink_links};
 
 /// A sum, if it has 32 bits.
 fn sum(a: u32, b: u32) -> Result<u32, Memory>

@@ -4,11 +4,11 @@ ghost use Rattle.std.specs.Prelude.{◌≡◌, ◌≤◌, length, false, true};
 ghost use Rattle.tdf_convert.specs.Links.{AreLinks, HaveSignals};
 ghost use Rattle.tdf_convert.specs.Sampled.{AreSampled};
 ghost use Rattle.tdf_sim_instants.specs.Sampling.{CanSample, HaveSampled, sampling_at};
-ghost use Rattle.tdf_exec.specs.Cluster.{is_next_due};
+ghost use Rattle.tdf_sim_refinement.specs.Below.{is_next_due};
 
 use tdf_convert::{Inputs, Links};
-use tdf_exec::Cluster;
 use tdf_fixed::Raw;
+use tdf_sim_refinement::Cluster;
 
 /// The samplers of a cluster, if entries of this offset come next, get the values of their signals.
 fn sample_turn(cluster: &Cluster, offset: u64, links: &Links, values: &[Raw], inputs: &mut Inputs)

@@ -5,7 +5,7 @@ ghost use Rattle.tdf_sim_instants.specs.Times.{IsLeastDue, IsNextDue, due_time};
 ghost use Rattle.tdf_events.specs.Kernel.{side_of};
 
 use tdf_events::Kernel;
-use tdf_exec::Cluster;
+use tdf_sim_refinement::Cluster;
 
 /// The time at which something is next due in a cluster whose period began at `since`: its next entry, or the end of the period.
 fn due_time(cluster: &Cluster, since: u64) -> u64

@@ -15,7 +15,7 @@ use Rattle.tdf_dynamic_plans.specs.Rates.{net_of}
 use Rattle.tdf_dynamic_first.specs.Text.{first_table}
 use Rattle.tdf_dynamic_first.specs.declared.first.First.{First}
 use Rattle.tdf_bind.specs.declared.model.Flat.{Flat}
-use Rattle.tdf_streams.proofs.Api.{get_inside, none_some}
+use Rattle.tdf_sim_history.proofs.Api.{get_inside, none_some}
 use Rattle.tdf_sim_history.specs.Start.{first_cluster, first_clusters}
 use Rattle.tdf_sim_history.specs.Texts.{first_plans, plan_note}
 use Rattle.tdf_sim_history.specs.World.{Change}

@@ -17,7 +17,7 @@ use Rattle.tdf_bind_invariants.specs.Limits.{AreWithinLimits}
 use Rattle.tdf_sim_refinement.proofs.Crossing.{all_at, all_done, record_now}
 use Rattle.tdf_sim_refinement.proofs.Answering.{cluster_there}
 use Rattle.tdf_streams.proofs.Api.{get_inside, is_wired}
-use Rattle.tdf_exec_layout.proofs.Api.{module_kind}
+use Rattle.tdf_exec.proofs.Api.{module_kind}
 use Rattle.tdf_dynamic_plans.proofs.Api.{modules_few}
 use Rattle.tdf_sim_refinement.specs.At.{IsAt}
 use Rattle.tdf_sim_refinement.specs.Boundary.{HasAnswered}

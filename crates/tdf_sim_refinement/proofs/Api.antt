@@ -1,4 +1,5 @@
 -- The lemmas that other crates may use: the laws over all types, and what leads to them.
+pub use Rattle.tdf_exec.proofs.Api.{due_alike, due_left, like_sent, like_traced, moved_sent, moved_traced, plan_counts, sizes_alike}
 pub use Rattle.tdf_sim_refinement.proofs.Along.{due_here, goes_along, is_spent}
 pub use Rattle.tdf_sim_refinement.proofs.Answering.{answers_lead, cluster_there}
 pub use Rattle.tdf_sim_refinement.proofs.Arriving.{arrives, done_none, firings_keep_at, in_plan, not_late, place_d}

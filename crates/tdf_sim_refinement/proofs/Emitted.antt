@@ -19,7 +19,7 @@ use Rattle.tdf_bind.specs.Flat.{IsFlatOf}
 use Rattle.tdf_bind.specs.declared.model.Flat.{Flat}
 use Rattle.tdf_streams.proofs.Api.{get_inside, none_some, some_same}
 use Rattle.tdf_sim_history.specs.Instant.{signal_of}
-use Rattle.tdf_exec_layout.proofs.Api.{sinks_read}
+use Rattle.tdf_exec.proofs.Api.{sinks_read}
 use Rattle.tdf_sim_refinement.proofs.Ports.{in_range}
 use Rattle.tdf_sim_refinement.proofs.Rows.{all_at, map_some, map_twice}
 use Rattle.tdf_sim_refinement.proofs.Signals.{read_format}

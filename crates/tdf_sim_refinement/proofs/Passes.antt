@@ -19,8 +19,8 @@ use Rattle.tdf_sim_history.specs.Columns.{ColumnStart}
 use Rattle.tdf_sim_history.specs.World.{ClusterAt, Rules, World}
 use Rattle.tdf_sim_history.proofs.Api.{turns_more, turns_none}
 use Rattle.tdf_sim_history.specs.History.{Going, Step, turns_to}
-use Rattle.tdf_exec_layout.proofs.Api.{module_kind}
-use Rattle.tdf_exec_layout.specs.Traced.{SignalsHaveOnePort}
+use Rattle.tdf_exec.proofs.Api.{module_kind}
+use Rattle.tdf_exec.specs.Below.{SignalsHaveOnePort}
 use Rattle.tdf_bind_invariants.specs.Limits.{AreWithinLimits}
 use Rattle.tdf_sim_refinement.proofs.Along.{due_here}
 use Rattle.tdf_sim_refinement.proofs.Passing.{due_offset, later, none_due, passes_along}

@@ -18,7 +18,7 @@ use Rattle.tdf_streams.specs.Net.{Turn}
 use Rattle.tdf_bind_invariants.specs.Formats.{IsSoundModel}
 use Rattle.tdf_graph.specs.declared.actors.Actor.{Actor}
 use Rattle.tdf_graph.specs.declared.actors.Actor.TheVariants as actor
-use Rattle.tdf_exec_layout.specs.Traced.{SignalsHaveOnePort, is_out, is_trace_of, is_traced, number_if_traced}
+use Rattle.tdf_exec.specs.Below.{SignalsHaveOnePort, is_out, is_trace_of, is_traced, number_if_traced}
 use Rattle.tdf_sim_refinement.specs.Samples.{IsTracedPort, signal_samples, value_if}
 use Rattle.tdf_lang_tree.specs.Pure.{PureTree}
 use Rattle.tdf_lang_tree.specs.declared.blocks.PortKind.{PortKind}

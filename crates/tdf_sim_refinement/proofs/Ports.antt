@@ -17,8 +17,8 @@ use Rattle.tdf_streams.proofs.Api.{get_high, get_low, get_made_at, none_some, so
 use Rattle.tdf_bind_invariants.specs.Formats.{IsSoundModel, PortsHaveFormats, signal_format}
 use Rattle.tdf_graph.specs.declared.actors.Actor.{Actor}
 use Rattle.tdf_graph.specs.declared.actors.Actor.TheVariants as actor
-use Rattle.tdf_exec_layout.proofs.Api.{edge_row}
-use Rattle.tdf_exec_layout.specs.Edges.{IsEdgeRow}
+use Rattle.tdf_exec.proofs.Api.{edge_row}
+use Rattle.tdf_exec.specs.Below.{IsEdgeRow}
 use Rattle.tdf_sim_refinement.proofs.Rows.{all_of, false_true}
 use Rattle.tdf_sim_refinement.specs.LinkLaws.{PortsHaveEvents}
 use Rattle.tdf_sim_refinement.specs.Linked.{HasEventPort, is_converter}

@@ -9,10 +9,8 @@ use Rattle.tdf_bind_invariants.specs.Formats.{signal_format}
 use Rattle.tdf_graph.specs.declared.actors.Actor.{Actor}
 use Rattle.tdf_graph.specs.declared.actors.Actor.TheVariants as actor
 use Rattle.tdf_sim_history.specs.Instant.{signal_of, signal_of_port, signal_of_row}
-use Rattle.tdf_exec_layout.proofs.Api.{edge_row, module_kind}
-use Rattle.tdf_exec_layout.specs.Edges.{IsActorAt, IsEdgeRow}
-use Rattle.tdf_exec_layout.specs.Samples.{edge_format, format_of_port}
-use Rattle.tdf_exec_layout.specs.Wiring.{Reads, Writes, port_of_row}
+use Rattle.tdf_exec.proofs.Api.{edge_row, module_kind}
+use Rattle.tdf_exec.specs.Below.{IsActorAt, IsEdgeRow, Reads, Writes, edge_format, format_of_port, port_of_row}
 use Rattle.tdf_sim_refinement.proofs.Ports.{own_module}
 use Rattle.tdf_sim_refinement.proofs.Rows.{false_true}
 use Rattle.tdf_sim_refinement.specs.Linked.{is_converter}

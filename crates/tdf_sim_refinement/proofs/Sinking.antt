@@ -25,7 +25,7 @@ use Rattle.tdf_graph.specs.declared.actors.Actor.{Actor}
 use Rattle.tdf_graph.specs.declared.actors.Actor.TheVariants as actor
 use Rattle.tdf_sim_history.specs.Instant.{activations, actor_of_entry, edge_read_from, sample_taken, signal_of}
 use Rattle.tdf_sim_history.specs.World.{ClusterAt, SinkWrite}
-use Rattle.tdf_exec_layout.specs.Wiring.{IsEdgeOf}
+use Rattle.tdf_exec.specs.Below.{IsEdgeOf}
 use Rattle.tdf_sim_refinement.proofs.Due.{true_false}
 use Rattle.tdf_sim_refinement.proofs.Sampling.{done_to, done_up, read_kept, sampler_reads}
 use Rattle.tdf_sim_refinement.proofs.Arriving.{kind_inside}

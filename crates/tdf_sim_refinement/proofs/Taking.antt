@@ -10,9 +10,8 @@ use Rattle.tdf_bind.specs.declared.model.Flat.{Flat}
 use Rattle.tdf_streams.proofs.Api.{get_inside, get_low}
 use Rattle.tdf_graph.specs.declared.actors.Actor.TheVariants as actor
 use Rattle.tdf_sim_history.specs.World.{ClusterAt}
-use Rattle.tdf_exec_layout.proofs.Api.{edge_row, module_kind, sink_rates}
-use Rattle.tdf_exec_layout.specs.Edges.{IsEdgeRow}
-use Rattle.tdf_exec_layout.specs.Wiring.{Reads}
+use Rattle.tdf_exec.proofs.Api.{edge_row, module_kind, sink_rates}
+use Rattle.tdf_exec.specs.Below.{IsEdgeRow, Reads}
 use Rattle.tdf_bind_invariants.specs.Limits.{AreWithinLimits}
 use Rattle.tdf_sim_refinement.proofs.Due.{true_false}
 use Rattle.tdf_sim_refinement.proofs.Writing.{is_sink}

@@ -14,7 +14,7 @@ use Rattle.tdf_bind.specs.declared.model.Flat.{Flat}
 use Rattle.tdf_bind_invariants.specs.Formats.{IsSoundModel}
 use Rattle.tdf_graph.specs.declared.actors.Actor.TheVariants as actor
 use Rattle.tdf_sim_history.specs.World.{ClusterAt}
-use Rattle.tdf_exec_layout.specs.Traced.{SignalsHaveOnePort}
+use Rattle.tdf_exec.specs.Below.{SignalsHaveOnePort}
 use Rattle.tdf_sim_refinement.proofs.Writing.{begins, enough, entry_in, given_here, turns_here, started}
 use Rattle.tdf_sim_refinement.proofs.Along.{due_here}
 use Rattle.tdf_sim_refinement.proofs.Arriving.{not_late}

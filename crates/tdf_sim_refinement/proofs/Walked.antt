@@ -22,7 +22,7 @@ use Rattle.tdf_streams.specs.Streams.{known}
 use Rattle.tdf_bind_invariants.specs.Formats.{IsSoundModel}
 use Rattle.tdf_graph.specs.declared.actors.Actor.TheVariants as actor
 use Rattle.tdf_sim_history.specs.World.{ClusterAt}
-use Rattle.tdf_exec_layout.specs.Traced.{SignalsHaveOnePort}
+use Rattle.tdf_exec.specs.Below.{SignalsHaveOnePort}
 use Rattle.tdf_sim_refinement.proofs.Sinking.{drop_at, from_done, here_next, here_stands, keeps_to, stands_next, turns_next}
 use Rattle.tdf_sim_refinement.specs.At.{HaveRead}
 use Rattle.tdf_sim_refinement.specs.Firings.{after_firings, reads_after}

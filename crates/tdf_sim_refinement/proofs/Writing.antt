@@ -22,7 +22,7 @@ use Rattle.tdf_streams.specs.Stands.{Stands}
 use Rattle.tdf_graph.specs.declared.actors.Actor.{Actor}
 use Rattle.tdf_graph.specs.declared.actors.Actor.TheVariants as actor
 use Rattle.tdf_sim_history.specs.World.{ClusterAt}
-use Rattle.tdf_exec_layout.specs.Wiring.{IsEdgeOf}
+use Rattle.tdf_exec.specs.Below.{IsEdgeOf}
 use Rattle.tdf_sim_refinement.proofs.Arriving.{all_given, in_plan, kind_inside, not_late, place_d}
 use Rattle.tdf_sim_refinement.proofs.Due.{due_counted, true_false}
 use Rattle.tdf_sim_refinement.proofs.Sinking.{many, walk}

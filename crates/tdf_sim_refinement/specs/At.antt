@@ -16,7 +16,7 @@ use Rattle.tdf_sim_history.specs.Instant.{activations, periods_of, run_in}
 use Rattle.tdf_sim_history.specs.Continuing.{EntriesHaveCounts}
 use Rattle.tdf_sim_history.specs.World.{ClusterAt}
 use Rattle.tdf_sim_history.specs.WorldLaws.{AreRecordsOf}
-use Rattle.tdf_exec_layout.specs.Wiring.{Reads}
+use Rattle.tdf_exec.specs.Below.{Reads}
 use Rattle.tdf_sim_refinement.specs.Firings.{value_for}
 use Rattle.tdf_schedule.specs.declared.entry.Entry.{Entry}
 use Rattle.tdf_streams.specs.Cluster.{cluster_net}

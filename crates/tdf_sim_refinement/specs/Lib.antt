@@ -1,5 +1,6 @@
 pub mod At
 pub mod Begun
+pub mod Below
 pub mod Boundary
 pub mod Fired
 pub mod Firings

@@ -13,7 +13,7 @@ use Rattle.tdf_sim_history.specs.Cells.{sample_of, samples_done}
 use Rattle.tdf_sim_history.specs.Columns.{ColumnStart}
 use Rattle.tdf_sim_history.specs.Instant.{activations, periods_of, run_in}
 use Rattle.tdf_sim_history.specs.World.{ClusterAt}
-use Rattle.tdf_exec_layout.specs.Traced.{is_trace_of}
+use Rattle.tdf_exec.specs.Below.{is_trace_of}
 use Rattle.tdf_sim_refinement.specs.Pass.{RunOf}
 use Rattle.tdf_schedule.specs.Plan.{done}
 use Rattle.tdf_streams.specs.Cluster.{cluster_net}

@@ -7,7 +7,7 @@ ghost use Rattle.tdf_sim_refinement.specs.SampleLaws.{AnswersAreTold, Boundaries
 ghost use Rattle.tdf_sim_refinement.specs.LinkLaws.{PortsHaveEvents, SamplersReadSignals, SinksWriteSignals};
 
 use tdf_bind_invariants::law_formats;
-use tdf_exec_layout::law_one_port;
+use tdf_exec::law_one_port;
 
 /// The firings of a cluster at a time: its entries that are due, if the turns are enough for them.
 pub fn law_firings()

@@ -1,4 +1,5 @@
 -- The lemmas that other crates may use.
+pub use Rattle.tdf_sim_refinement.proofs.Api.{done_none}
 pub use Rattle.tdf_sim_resumed.proofs.Good.{plan_whole, resumed_good, whole_is}
 pub use Rattle.tdf_sim_resumed.proofs.Members.{ResumedAt, each_at, resumed_at}
 pub use Rattle.tdf_sim_resumed.proofs.Places.{done_early}

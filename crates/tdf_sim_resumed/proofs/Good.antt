@@ -11,8 +11,7 @@ use Rattle.std.specs.Prelude.{All, Some, cond, slice_index, slice_index_or}
 use Rattle.tdf_bind.specs.declared.model.Flat.{Flat}
 use Rattle.tdf_dynamic_first.specs.declared.first.First.{First}
 use Rattle.tdf_dynamic_plans.specs.Rates.{net_of}
-use Rattle.tdf_exec.proofs.Api.{plan_counts}
-use Rattle.tdf_exec_parts.specs.States.{IsStateUnder}
+use Rattle.tdf_sim_refinement.specs.Below.{IsStateUnder}
 use Rattle.tdf_lang_tree.specs.Pure.{PureTree}
 use Rattle.tdf_saved.specs.State.{ClusterStateOf}
 use Rattle.tdf_schedule.specs.Plan.{done}
@@ -20,7 +19,7 @@ use Rattle.tdf_schedule.specs.declared.entry.Entry.{Entry}
 use Rattle.tdf_sim_history.specs.Continuing.{HasToldCounts, HasWholePlan}
 use Rattle.tdf_sim_history.specs.Start.{counts_in}
 use Rattle.tdf_sim_history.specs.World.{Change, ClusterAt}
-use Rattle.tdf_sim_refinement.proofs.Api.{cluster_there, counted_in}
+use Rattle.tdf_sim_refinement.proofs.Api.{cluster_there, counted_in, plan_counts}
 use Rattle.tdf_sim_resumed.proofs.Members.{ResumedAt, resumed_at}
 use Rattle.tdf_sim_resumed.specs.Laws.{ResumedAreGood}
 use Rattle.tdf_sim_resumed.specs.Resuming.{resumed_cluster, rest_of, whole_period, place_before}

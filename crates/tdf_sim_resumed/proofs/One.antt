@@ -15,7 +15,7 @@ use Rattle.tdf_bind_tables.specs.declared.actors.ActorRow.{ActorRow}
 use Rattle.tdf_dynamic_plans.proofs.Api.{modules_few}
 use Rattle.tdf_dynamic_plans.specs.Attributes.{AttrsOf, IsOfCluster, clusters_of}
 use Rattle.tdf_events.specs.Side.{SideOf}
-use Rattle.tdf_exec.specs.Saved.{module_state, nums_of}
+use Rattle.tdf_sim_refinement.specs.Below.{module_state, nums_of}
 use Rattle.tdf_graph.specs.declared.actors.Actor.TheVariants as actor
 use Rattle.tdf_lang_tree.specs.Pure.{PureTree}
 use Rattle.tdf_saved.specs.State.{ClusterStateOf, ColumnStateOf, KernelStateOf, ModuleStateOf, SnapshotOf}

@@ -7,10 +7,7 @@ use Rattle.tdf_bind.specs.declared.model.Flat.{Flat}
 use Rattle.tdf_bind_invariants.specs.Limits.{AreWithinLimits}
 use Rattle.tdf_dynamic_first.specs.Laws.{ClustersAreWhole}
 use Rattle.tdf_dynamic_plans.specs.Attributes.{clusters_of}
-use Rattle.tdf_exec.specs.Cluster.{ClusterOf}
-use Rattle.tdf_exec.specs.Made.{IsClusterOf}
-use Rattle.tdf_exec.specs.Restored.{IsAtState, StandsAtState}
-use Rattle.tdf_exec_parts.specs.States.{IsStateAt}
+use Rattle.tdf_sim_refinement.specs.Below.{ClusterOf, IsAtState, IsClusterOf, IsStateAt, StandsAtState}
 use Rattle.tdf_graph.specs.Clusters.{greatest}
 use Rattle.tdf_saved.specs.State.{ClusterStateOf}
 use Rattle.tdf_saved.specs.declared.err.StateErr.{StateErr}

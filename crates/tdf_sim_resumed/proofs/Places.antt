@@ -5,9 +5,7 @@ use Rattle.std.proofs.lemmas.List.Sums.{sum_by-cons}
 use Rattle.std.proofs.lemmas.Option.{slice_get_within}
 use Rattle.std.specs.List.{count_by}
 use Rattle.tdf_bind.specs.declared.model.Flat.{Flat}
-use Rattle.tdf_exec.specs.Cluster.{ClusterOf}
-use Rattle.tdf_exec.specs.Made.{IsClusterOf}
-use Rattle.tdf_exec_parts.specs.States.{due_before}
+use Rattle.tdf_sim_refinement.specs.Below.{ClusterOf, IsClusterOf, due_before}
 use Rattle.tdf_schedule.specs.Plan.{is_earlier}
 use Rattle.tdf_schedule.specs.declared.entry.Entry.{Entry}
 use Rattle.tdf_streams.proofs.Api.{get_inside, some_same}

@@ -15,8 +15,7 @@ use Rattle.tdf_dynamic_plans.specs.Rates.{net_of}
 use Rattle.tdf_dynamic_plans.specs.Same.{AreSamePlans}
 use Rattle.tdf_dynamic_values.specs.Laws.{ValuesAreOfOne}
 use Rattle.tdf_dynamic_values.specs.States.{state_flags, state_rates, state_steps}
-use Rattle.tdf_exec.specs.Cluster.{ClusterOf}
-use Rattle.tdf_exec_parts.specs.States.{IsStateUnder}
+use Rattle.tdf_sim_refinement.specs.Below.{ClusterOf, IsStateUnder}
 use Rattle.tdf_saved.specs.State.{ClusterStateOf, SnapshotOf}
 use Rattle.tdf_schedule.specs.Laws.{BoundsAreUnique, PlansAreUnique}
 use Rattle.tdf_sim_resumed.proofs.Standing.{state_under}

@@ -11,7 +11,7 @@ use Rattle.tdf_events.specs.Delta.{is_due, is_idle}
 use Rattle.tdf_events.specs.Side.{SideOf}
 use Rattle.tdf_events.specs.State.{IsKernelState, resumed_side, time_pending}
 use Rattle.tdf_events_queue.specs.Sets.{count_on}
-use Rattle.tdf_exec_parts.specs.States.{IsStateUnder, due_before}
+use Rattle.tdf_sim_refinement.specs.Below.{IsStateUnder, due_before}
 use Rattle.tdf_lang_tree.specs.Pure.{PureTree}
 use Rattle.tdf_saved.specs.State.{ClusterStateOf, KernelStateOf, SnapshotOf}
 use Rattle.tdf_saved.specs.declared.state.Pending.{Pending}

@@ -9,14 +9,7 @@ use Rattle.tdf_bind.specs.declared.model.Flat.{Flat}
 use Rattle.tdf_bind_invariants.specs.Limits.{AreWithinLimits}
 use Rattle.tdf_dynamic_plans.specs.Attributes.{AttrsOf}
 use Rattle.tdf_dynamic_plans.specs.Rates.{net_of}
-use Rattle.tdf_exec.specs.Cluster.{ClusterOf}
-use Rattle.tdf_exec.specs.Laws.{RoomIsForOwn}
-use Rattle.tdf_exec.specs.Made.{HasRows}
-use Rattle.tdf_exec.specs.Played.{play_of, runner_cells, turns_from}
-use Rattle.tdf_exec.specs.Saved.{cluster_state, edge_states, module_state, own_edges}
-use Rattle.tdf_exec.specs.declared.runners.Runner.{Runner}
-use Rattle.tdf_exec.specs.declared.runners.Runner.TheVariants as runner
-use Rattle.tdf_exec_parts.specs.States.{IsInPeriod, due_before}
+use Rattle.tdf_sim_refinement.specs.Below.{ClusterOf, HasRows, IsInPeriod, Module, Outside, RoomIsForOwn, Runner, Sampler, Sink, cluster_state, due_before, edge_states, module_state, own_edges, play_of, runner_cells, turns_from}
 use Rattle.tdf_expr.specs.Frames.{IsOfFormat}
 use Rattle.tdf_fixed.specs.declared.raw.Raw.{Raw}
 use Rattle.tdf_graph.specs.declared.actors.Actor.TheVariants as actor
@@ -94,10 +87,10 @@ module _ (law : RoomIsForOwn) (model : PureTree) (flat : Flat) (number : ℕ) (h
       times_same m xs ys e same = λ i. done (sym at.entries_are i) (sym at.place_is i) m * slice_index (same i) e
 
       none_of : (m : ℕ) → (actor_kind flat.tables m ≡ Some actor.Module → ⊥) → (r : Runner) → slice_get c.runners m ≡ Some r → runner_cells r ≡ []
-      none_of m plain (runner.Module x) there = absurd (plain (at.of.runners m (runner.Module x) there).actor_is.kind_is)
-      none_of m plain (runner.Sampler x) there = refl
-      none_of m plain (runner.Sink x) there = refl
-      none_of m plain runner.Outside there = refl
+      none_of m plain (Module x) there = absurd (plain (at.of.runners m (Module x) there).actor_is.kind_is)
+      none_of m plain (Sampler x) there = refl
+      none_of m plain (Sink x) there = refl
+      none_of m plain Outside there = refl
 
       none_kept : (m : ℕ) → (actor_kind flat.tables m ≡ Some actor.Module → ⊥) → (o : Option Runner) → slice_get c.runners m ≡ o → slice_index_or (play_of h.from c).states m [] ≡ []
       none_kept m plain None there = get_none (play_of h.from c).states m [] (slice_get-map runner_cells c.runners m ∙ ap (option_map runner_cells) there)

@@ -15,11 +15,7 @@ use Rattle.tdf_dynamic_plans.proofs.Api.{plan_same}
 use Rattle.tdf_dynamic_plans.specs.Attributes.{AttrsOf, IsOfCluster, attrs_at, rates_in}
 use Rattle.tdf_dynamic_plans.specs.Known.{HasSameItems}
 use Rattle.tdf_dynamic_plans.specs.Rates.{net_of}
-use Rattle.tdf_exec.specs.Cluster.{ClusterOf}
-use Rattle.tdf_exec.specs.Played.{IsPeriodOf, play_of}
-use Rattle.tdf_exec.specs.Restored.{IsStateStart}
-use Rattle.tdf_exec_parts.specs.Restored.{held_by_state}
-use Rattle.tdf_exec_parts.specs.States.{HoldEdges, IsInPeriod, IsStateUnder, due_before}
+use Rattle.tdf_sim_refinement.specs.Below.{ClusterOf, HoldEdges, IsInPeriod, IsPeriodOf, IsStateStart, IsStateUnder, due_before, held_by_state, play_of}
 use Rattle.tdf_expr.specs.Checked.{IsCheckedOf}
 use Rattle.tdf_fixed.specs.declared.raw.Raw.{Raw}
 use Rattle.tdf_lang_tree.specs.Pure.{PureTree}

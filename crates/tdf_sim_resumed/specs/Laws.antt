@@ -5,9 +5,7 @@ use Rattle.tdf_bind.specs.declared.model.Flat.{Flat}
 use Rattle.tdf_bind_invariants.specs.Limits.{AreWithinLimits}
 use Rattle.tdf_dynamic_first.specs.declared.first.First.{First}
 use Rattle.tdf_events.specs.Side.{SideOf}
-use Rattle.tdf_exec.specs.Cluster.{ClusterOf}
-use Rattle.tdf_exec.specs.Saved.{cluster_state}
-use Rattle.tdf_exec_parts.specs.States.{IsInPeriod}
+use Rattle.tdf_sim_refinement.specs.Below.{ClusterOf, IsInPeriod, cluster_state}
 use Rattle.tdf_lang_tree.specs.Pure.{PureTree}
 use Rattle.tdf_saved.specs.State.{ClusterStateOf, SnapshotOf}
 use Rattle.tdf_schedule.specs.declared.entry.Entry.{Entry}

@@ -3,10 +3,7 @@
 use Rattle.std.specs.Prelude.{◌≡◌, ◌+◌, ℕ, List, Some, length, slice_get}
 use Rattle.tdf_bind.specs.declared.model.Flat.{Flat}
 use Rattle.tdf_dynamic_first.specs.declared.first.First.{First}
-use Rattle.tdf_exec.specs.Cluster.{ClusterOf}
-use Rattle.tdf_exec.specs.Made.{IsClusterOf}
-use Rattle.tdf_exec.specs.Restored.{IsAtState, StandsAtState}
-use Rattle.tdf_exec_parts.specs.States.{IsStateAt}
+use Rattle.tdf_sim_refinement.specs.Below.{ClusterOf, IsAtState, IsClusterOf, IsStateAt, StandsAtState}
 use Rattle.tdf_saved.specs.State.{ClusterStateOf}
 
 -- each cluster can go on from its state at a time; that of place n has the number n + 1

@@ -4,8 +4,7 @@ use Rattle.std.specs.Prelude.{ℕ, List, [], map}
 use Rattle.tdf_bind.specs.declared.model.Flat.{Flat}
 use Rattle.tdf_bind_invariants.specs.Limits.{AreWithinLimits}
 use Rattle.tdf_dynamic_first.specs.declared.first.First.{First}
-use Rattle.tdf_exec.specs.Cluster.{ClusterOf}
-use Rattle.tdf_exec.specs.Restored.{IsStateStart}
+use Rattle.tdf_sim_refinement.specs.Below.{ClusterOf, IsStateStart}
 use Rattle.tdf_expr.specs.Checked.{IsCheckedOf}
 use Rattle.tdf_lang_tree.specs.Pure.{PureTree}
 use Rattle.tdf_saved.specs.State.{ClusterStateOf, SnapshotOf}

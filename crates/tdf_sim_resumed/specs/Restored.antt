@@ -4,7 +4,7 @@ use Rattle.std.specs.List.{range_with_len}
 use Rattle.std.specs.Prelude.{ℕ, ℤ, List, [], ◌∷◌, None, Option, Some, if◌then◌else◌, length, map, nat_eq, unwrap_or}
 use Rattle.tdf_bind.specs.declared.model.Flat.{Flat}
 use Rattle.tdf_dynamic_plans.specs.Attributes.{AttrsOf, attrs_at, rates_in}
-use Rattle.tdf_exec_parts.specs.Restored.{held_by_state}
+use Rattle.tdf_sim_refinement.specs.Below.{held_by_state}
 use Rattle.tdf_lang_tree.specs.Pure.{PureTree}
 use Rattle.tdf_saved.specs.State.{ClusterStateOf, ModuleStateOf}
 use Rattle.tdf_streams.specs.Bodies.{initialized}

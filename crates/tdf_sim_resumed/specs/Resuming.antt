@@ -5,7 +5,7 @@ use Rattle.std.specs.Prelude.{ℕ, ◌+◌, ◌-◌, false, List, [], length, ma
 use Rattle.tdf_bind.specs.declared.model.Flat.{Flat}
 use Rattle.tdf_bind_tables.specs.FlatTables.{FlatTablesOf}
 use Rattle.tdf_dynamic_first.specs.declared.first.First.{First}
-use Rattle.tdf_exec_parts.specs.States.{due_before}
+use Rattle.tdf_sim_refinement.specs.Below.{due_before}
 use Rattle.tdf_sim_resumed.specs.Restored.{state_start}
 use Rattle.tdf_lang_tree.specs.Pure.{PureTree}
 use Rattle.tdf_saved.specs.State.{ClusterStateOf, SnapshotOf}

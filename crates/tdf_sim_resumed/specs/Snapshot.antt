@@ -10,10 +10,7 @@ use Rattle.tdf_events.specs.Delta.{IsNoneBefore, is_idle}
 use Rattle.tdf_events.specs.Runnable.{AreOfSignals, signal_formats}
 use Rattle.tdf_events.specs.Side.{SideOf}
 use Rattle.tdf_events.specs.State.{kernel_state_of}
-use Rattle.tdf_exec.specs.Made.{HasRows}
-use Rattle.tdf_exec.specs.Saved.{edge_states, module_state, own_edges}
-use Rattle.tdf_exec_layout.specs.Samples.{edge_format}
-use Rattle.tdf_exec_parts.specs.States.{IsFilledTo, IsInPeriod, due_before}
+use Rattle.tdf_sim_refinement.specs.Below.{HasRows, IsFilledTo, IsInPeriod, due_before, edge_format, edge_states, module_state, own_edges}
 use Rattle.tdf_expr.specs.Frames.{IsOfFormat}
 use Rattle.tdf_fixed.specs.declared.format.Format.{Format}
 use Rattle.tdf_fixed.specs.declared.raw.Raw.{Raw}

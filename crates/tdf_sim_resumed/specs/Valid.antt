@@ -10,7 +10,7 @@ use Rattle.tdf_bind_tables.specs.Actors.{cluster_of}
 use Rattle.tdf_bind_tables.specs.FlatTables.{FlatTablesOf}
 use Rattle.tdf_dynamic_first.specs.declared.first.First.{First}
 use Rattle.tdf_events.specs.State.{IsKernelState}
-use Rattle.tdf_exec_parts.specs.States.{IsStateUnder}
+use Rattle.tdf_sim_refinement.specs.Below.{IsStateUnder}
 use Rattle.tdf_fixed.specs.Overflow.{IsOfWidth}
 use Rattle.tdf_graph.specs.Clusters.{greatest}
 use Rattle.tdf_lang_tree.specs.Pure.{PureTree}

@@ -2,7 +2,7 @@
 
 ghost use Rattle.tdf_sim_resumed.specs.Laws.{ClustersAreSaved, NoneIsDueBefore, ResumedAreGood, SnapshotIsOne, StandsStill};
 
-use tdf_exec::law_own;
+use tdf_sim_refinement::law_own;
 
 /// In the world that a valid snapshot says nothing is due before its time, so its history stands still up to it; and a run can
 /// start there: the clusters have attributes and whole plans, and their periods began when those before were over.

@@ -15,3 +15,4 @@ mod making;
 pub use laws::{law_one_snapshot, law_resumed, law_saved};
 pub use made_laws::law_restored;
 pub use making::restored_clusters;
+pub use tdf_sim_refinement::Cluster;

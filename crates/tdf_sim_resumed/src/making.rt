@@ -2,8 +2,7 @@
 
 ghost use Rattle.std.specs.Prelude.{◌≡◌, ◌⊎◌, ◌<◌, ◌+◌, ◌++◌, ◌∷◌, [], Err, IfOk, OnOk, length, map};
 ghost use Rattle.tdf_bind_tables.specs.Actors.{cluster_of};
-ghost use Rattle.tdf_exec.specs.Starts.{IsSoundFlat};
-ghost use Rattle.tdf_exec_parts.specs.States.{IsStateAt};
+ghost use Rattle.tdf_sim_refinement.specs.Below.{IsSoundFlat, IsStateAt};
 ghost use Rattle.tdf_graph.specs.Clusters.{greatest};
 ghost use Rattle.tdf_saved.specs.declared.err.StateErr.TheVariants as why;
 ghost use Rattle.tdf_sim_resumed.specs.Made.{AllGoOnFromStates, AreStatesAt, GoesOnFromState};
@@ -13,8 +12,8 @@ use tdf_base::{Memory, cluster_number};
 use tdf_bind::Flat;
 use tdf_bind_invariants::law_limits;
 use tdf_dynamic_first::law_numbers;
-use tdf_exec::Cluster;
 use tdf_saved::{ClusterState, StateErr};
+use tdf_sim_refinement::Cluster;
 
 /// The cluster at a place, inside the period that a state says.
 fn restored_cluster(

@@ -3,14 +3,14 @@ use Rattle.std.proofs.Common.{◌≡◌, ◌∙◌, ◌&&◌, ℕ, ◌+◌, Bool
 use Rattle.std.proofs.lemmas.Bool.{eqb-true}
 use Rattle.std.proofs.lemmas.Option.{slice_get_within}
 use Rattle.tdf_convert.specs.Outputs.{OutputsOf}
-use Rattle.tdf_sim_instants.proofs.Api.{crossed_long, told_get, told_long}
+use Rattle.tdf_sim_instants.proofs.Api.{boundaries_add_none, crossed_long, passes_trace, told_get, told_long}
 use Rattle.tdf_sim_instants.specs.Crossing.{crossing_of}
 use Rattle.tdf_sim_instants.specs.CrossingLaws.{Becomes, world_crossed}
 use Rattle.tdf_sim_instants.specs.Engine.{HasHadInstant}
 use Rattle.tdf_sim_instants.specs.InstantLaws.{InstantGoes, IsModelOf, IsNow}
 use Rattle.tdf_sim_instants.specs.declared.engine.Engine.{Engine}
 use Rattle.tdf_events.specs.Side.{SideOf}
-use Rattle.tdf_exec.specs.Cluster.{ClusterOf}
+use Rattle.tdf_sim_instants.specs.Below.{AreSamplesOf, ClusterOf, HavePassed, HaveTraced, IsAt, RunOf, pass_at, pass_run, signal_samples}
 use Rattle.tdf_fixed.specs.declared.raw.Raw.{Raw}
 use Rattle.tdf_bind.specs.declared.model.Flat.{Flat}
 use Rattle.tdf_streams.proofs.Api.{get_inside, some_same}
@@ -22,11 +22,7 @@ use Rattle.tdf_exec_layout.specs.Traced.{SignalsHaveOnePort}
 use Rattle.tdf_sim_runs.proofs.Keeping.{IsInPeriod, firings_keep}
 use Rattle.tdf_sim_runs.proofs.Leading.{from_before}
 use Rattle.tdf_sim_runs.specs.Advancing.{InstantAdvances}
-use Rattle.tdf_sim_refinement.specs.At.{IsAt}
-use Rattle.tdf_sim_refinement.specs.Pass.{HavePassed, RunOf, pass_at, pass_run}
-use Rattle.tdf_sim_traces.specs.Advanced.{Advances, HasAdvanced}
-use Rattle.tdf_sim_refinement.proofs.Api.{boundaries_add_none, passes_trace}
-use Rattle.tdf_sim_refinement.specs.Samples.{AreSamplesOf, HaveTraced, signal_samples}
+use Rattle.tdf_sim_shown.specs.Below.{Advances, HasAdvanced}
 use Rattle.tdf_lang_tree.specs.Pure.{PureTree}
 use Rattle.tdf_bind_connections.specs.declared.modules.PortRow.{PortRow}
 use Rattle.tdf_sim_history.specs.Rules.{rules_of}

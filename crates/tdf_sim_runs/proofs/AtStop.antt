@@ -4,9 +4,8 @@ use Rattle.std.proofs.lemmas.Bool.{cases_lt}
 use Rattle.std.proofs.lemmas.Option.{slice_get_within}
 use Rattle.std.specs.Io.KnownBytes.{Appends}
 use Rattle.tdf_bind.specs.declared.model.Flat.{Flat}
-use Rattle.tdf_dynamic.specs.Laws.{BoundariesHaveOne}
 use Rattle.tdf_events.specs.Side.{SideOf}
-use Rattle.tdf_exec.specs.Cluster.{ClusterOf, next_offset, offset_in}
+use Rattle.tdf_sim_instants.specs.Below.{BoundariesHaveOne, ClusterOf, next_offset, offset_in}
 use Rattle.tdf_io.proofs.Api.{front_whole}
 use Rattle.tdf_lang_tree.specs.Pure.{PureTree}
 use Rattle.tdf_schedule.specs.declared.entry.Entry.{Entry}
@@ -18,8 +17,8 @@ use Rattle.tdf_sim_history.specs.World.{Change, World}
 use Rattle.tdf_sim_instants.specs.Ahead.{LieInside}
 use Rattle.tdf_sim_instants.specs.Times.{due_offset}
 use Rattle.tdf_sim_instants.specs.InstantLaws.{IsModelOf}
-use Rattle.tdf_sim_resumed.specs.Snapshot.{IsRowsFrom}
-use Rattle.tdf_sim_refinement.proofs.Api.{all_at}
+use Rattle.tdf_sim_shown.specs.Below.{IsRowsFrom, IsShown}
+use Rattle.tdf_sim_instants.proofs.Api.{all_at}
 use Rattle.tdf_sim_runs.proofs.Handed.{hands_can, hands_goes}
 use Rattle.tdf_sim_runs.proofs.Marking.{marked, marks_can, marks_goes, marks_part, stand}
 use Rattle.tdf_sim_runs.proofs.Onward.{goes_then}
@@ -31,7 +30,6 @@ use Rattle.tdf_sim_runs.specs.Pausing.{HasWaited}
 use Rattle.tdf_sim_runs.specs.Running.{AreWithin, CanGoOn, IsRunningAt, RunGoesOn, WritesFrontTo}
 use Rattle.tdf_sim_runs.specs.declared.running.Running.{Running}
 use Rattle.tdf_sim_shown.specs.Saved.{GivesRowsFrom}
-use Rattle.tdf_sim_traces.specs.Shown.{IsShown}
 use Rattle.tdf_trace.specs.Missing.{IsFirstMissing}
 use Rattle.tdf_trace.specs.Stands.{AreWrittenTo, TraceSeen, WritesFront, WritesRows}
 use Rattle.tdf_trace.specs.Tracked.{AreSince, TrackedOf}

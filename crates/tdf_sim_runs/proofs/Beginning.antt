@@ -16,7 +16,7 @@ use Rattle.tdf_sim_instants.specs.Making.{HavePlans}
 use Rattle.tdf_sim_instants.specs.declared.engine.Engine.{Engine}
 use Rattle.tdf_events.specs.Kernel.{side_of}
 use Rattle.tdf_events.specs.Side.{SideOf, start_side}
-use Rattle.tdf_exec.specs.Cluster.{ClusterOf}
+use Rattle.tdf_sim_instants.specs.Below.{AreAt, ClusterOf, HaveBegun}
 use Rattle.tdf_bind.specs.declared.model.Flat.{Flat}
 use Rattle.tdf_graph.specs.Clusters.{greatest}
 use Rattle.tdf_bind_tables.specs.Ranges.{AreInRange}
@@ -26,20 +26,14 @@ use Rattle.tdf_sim_history.specs.World.{Change, ClusterAt, World}
 use Rattle.tdf_sim_history.specs.Continuing.{HasToldCounts}
 use Rattle.tdf_sim_history.specs.TurnLaws.{IsOn}
 use Rattle.tdf_sim_runs.specs.Ongoing.{CanBeTold}
-use Rattle.tdf_sim_refinement.proofs.Api.{cluster_there, all_starts_are_at, done_known}
+use Rattle.tdf_sim_instants.proofs.Api.{all_starts_are_at, cluster_there, done_known}
 use Rattle.tdf_streams.proofs.Api.{get_inside}
 use Rattle.tdf_sim_history.proofs.Api.{first_attributes, starts, last_record}
 use Rattle.tdf_sim_history.specs.TableLaws.{HaveAttributes}
 use Rattle.tdf_sim_history.specs.History.{HistoryState, history}
 use Rattle.tdf_sim_runs.specs.Running.{CanGoOn, IsRunning}
 use Rattle.tdf_sim_runs.specs.declared.running.Running.{Running}
-use Rattle.tdf_sim_refinement.specs.Begun.{HaveBegun}
-use Rattle.tdf_sim_refinement.specs.Pass.{AreAt}
-use Rattle.tdf_sim_traces.specs.Calls.{CanStart, IsUnshown, StartsShowing}
-use Rattle.tdf_sim_traces.specs.Laws.{AreAllThere, SoundCanStart}
-use Rattle.tdf_sim_traces.specs.Periods.{clock_at}
-use Rattle.tdf_sim_traces.specs.Shown.{IsShown}
-use Rattle.tdf_sim_traces.specs.declared.shown.Shown.{Shown}
+use Rattle.tdf_sim_shown.specs.Below.{AreAllThere, CanStart, IsShown, IsUnshown, Shown, SoundCanStart, StartsShowing, clock_at}
 use Rattle.tdf_lang_tree.specs.Pure.{PureTree}
 use Rattle.tdf_trace_rows.specs.declared.kinds.TraceKind.{TraceKind}
 use Rattle.tdf_sim_history.specs.Rules.{rules_of, start_world, world_engine}

@@ -16,11 +16,8 @@ use Rattle.tdf_trace_rows.proofs.Api.{agree_trans}
 use Rattle.tdf_trace_rows.specs.Laws.{Agree}
 use Rattle.tdf_trace_rows.specs.Positions.{Span, cell_of, position_at}
 use Rattle.tdf_trace_rows.specs.Rows.{Cells}
-use Rattle.tdf_sim_traces.proofs.Api.{cell_known, run_agree, told, tracked_sample}
-use Rattle.tdf_sim_traces.specs.Events.{event_before, events_before}
-use Rattle.tdf_sim_traces.specs.Shown.{IsShown, IsShownOf}
-use Rattle.tdf_sim_traces.specs.Signals.{IsListed, IsSignalOf}
-use Rattle.tdf_sim_traces.specs.declared.shown.Shown.{Shown}
+use Rattle.tdf_sim_shown.proofs.Api.{cell_known, run_agree, told, tracked_sample}
+use Rattle.tdf_sim_shown.specs.Below.{IsListed, IsShown, IsShownOf, IsSignalOf, Shown, event_before, events_before}
 use Rattle.tdf_streams.specs.Signals.{time_of_periods as time_after}
 use Rattle.tdf_lang_tree.specs.Pure.{PureTree}
 use Rattle.tdf_bind_connections.specs.declared.modules.PortRow.{PortRow}

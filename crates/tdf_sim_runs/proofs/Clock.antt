@@ -8,26 +8,17 @@ use Rattle.tdf_base.specs.Limits.{time_end}
 use Rattle.tdf_bind.specs.declared.model.Flat.{Flat}
 use Rattle.tdf_bind_invariants.specs.Limits.{AreWithinLimits}
 use Rattle.tdf_dynamic_plans.specs.Attributes.{clusters_of}
-use Rattle.tdf_exec.specs.Cluster.{ClusterOf}
-use Rattle.tdf_exec_parts.specs.States.{due_before}
+use Rattle.tdf_sim_instants.specs.Below.{AreAt, ClusterOf, IsAt, due_before}
 use Rattle.tdf_graph.specs.Clusters.{greatest}
 use Rattle.tdf_lang_tree.specs.Pure.{PureTree}
 use Rattle.tdf_saved.specs.State.{ClusterStateOf, SnapshotOf}
 use Rattle.tdf_sim_history.proofs.Api.{last_record}
 use Rattle.tdf_sim_history.specs.World.{ClusterAt}
 use Rattle.tdf_sim_instants.specs.Engine.{AreInProgress, HasDoneBefore}
-use Rattle.tdf_sim_refinement.proofs.Api.{entries_inside, takes_time}
-use Rattle.tdf_sim_refinement.specs.At.{IsAt}
-use Rattle.tdf_sim_refinement.specs.Pass.{AreAt}
+use Rattle.tdf_sim_instants.proofs.Api.{entries_inside, takes_time}
 use Rattle.tdf_sim_runs.specs.machine.Standing.{clock_in}
-use Rattle.tdf_sim_resumed.proofs.Api.{done_early}
-use Rattle.tdf_sim_resumed.specs.Made.{AllGoOnFromStates, GoesOnFromState}
-use Rattle.tdf_sim_resumed.specs.Valid.{HasMembersOf, HasTimesOf}
-use Rattle.tdf_sim_traces.proofs.Api.{span_is, steps_of}
-use Rattle.tdf_sim_traces.specs.Calls.{CanBeShown}
-use Rattle.tdf_sim_traces.specs.Periods.{CanBegin, positions_in}
-use Rattle.tdf_sim_traces.specs.Signals.{IsListed}
-use Rattle.tdf_sim_traces.specs.declared.signals.TracedSignal.{TracedSignal}
+use Rattle.tdf_sim_shown.proofs.Api.{done_early, span_is, steps_of}
+use Rattle.tdf_sim_shown.specs.Below.{AllGoOnFromStates, CanBeShown, CanBegin, GoesOnFromState, HasMembersOf, HasTimesOf, IsListed, TracedSignal, positions_in}
 use Rattle.tdf_sim_shown.specs.Columns.{CanTellColumns}
 use Rattle.tdf_streams.proofs.Api.{get_inside, some_same}
 use Rattle.tdf_streams.specs.Periods.{IsPeriodRecord}

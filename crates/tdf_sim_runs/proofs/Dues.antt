@@ -11,14 +11,13 @@ use Rattle.tdf_events_queue.specs.Times.{pending_time}
 use Rattle.tdf_events.specs.Delta.{is_due as due_at, is_idle}
 use Rattle.tdf_events.specs.Kernel.{side_of}
 use Rattle.tdf_events.specs.Side.{SideOf}
-use Rattle.tdf_exec.specs.Cluster.{ClusterOf, next_offset, offset_in}
+use Rattle.tdf_sim_instants.specs.Below.{ClusterOf, IsAt, next_offset, offset_in}
 use Rattle.tdf_bind.specs.declared.model.Flat.{Flat}
 use Rattle.tdf_streams.proofs.Api.{get_inside, some_same}
 use Rattle.tdf_sim_history.specs.Instant.{is_cluster_due, is_due, is_entry_due, next_entry}
 use Rattle.tdf_sim_history.specs.World.{ClusterAt, World}
 use Rattle.tdf_sim_history.specs.TurnLaws.{IsNextTime}
-use Rattle.tdf_sim_refinement.proofs.Api.{true_false}
-use Rattle.tdf_sim_refinement.specs.At.{IsAt}
+use Rattle.tdf_sim_instants.proofs.Api.{true_false}
 use Rattle.tdf_lang_tree.specs.Pure.{PureTree}
 use Rattle.tdf_sim_history.specs.Rules.{is_side_due, rules_of, world_engine}
 

@@ -25,13 +25,9 @@ use Rattle.tdf_sim_history.specs.TurnLaws.{IsOn}
 use Rattle.tdf_sim_history.specs.World.{ClusterAt, World}
 use Rattle.tdf_sim_instants.specs.Settling.{IsBefore}
 use Rattle.tdf_sim_instants.specs.declared.engine.Engine.{Engine}
-use Rattle.tdf_sim_refinement.specs.Pass.{AreAt}
-use Rattle.tdf_sim_resumed.specs.Laws.{IsGoodStart, NoneIsDueBefore, StandsStill}
-use Rattle.tdf_sim_resumed.specs.Starting.{resumed_world}
-use Rattle.tdf_sim_resumed.specs.Valid.{IsValid}
+use Rattle.tdf_sim_instants.specs.Below.{AreAt}
+use Rattle.tdf_sim_shown.specs.Below.{IsGoodStart, IsShown, IsValid, NoneIsDueBefore, Shown, StandsStill, resumed_world}
 use Rattle.tdf_sim_runs.specs.Running.{IsRunning}
-use Rattle.tdf_sim_traces.specs.Shown.{IsShown}
-use Rattle.tdf_sim_traces.specs.declared.shown.Shown.{Shown}
 use Rattle.tdf_streams.proofs.Api.{none_some}
 
 -- nothing more is told

@@ -3,7 +3,7 @@ use Rattle.std.proofs.Common.{◌≡◌, ◌∙◌, ◌≤◌, ℕ, List, [], �
 use Rattle.std.proofs.KnownBytes.{Appends-trans}
 use Rattle.std.specs.Io.KnownBytes.{Appends}
 use Rattle.tdf_bind.specs.declared.model.Flat.{Flat}
-use Rattle.tdf_dynamic.specs.Laws.{BoundariesHaveOne}
+use Rattle.tdf_sim_instants.specs.Below.{BoundariesHaveOne}
 use Rattle.tdf_events.specs.Side.{SideOf}
 use Rattle.tdf_io.proofs.Api.{front_more, front_then}
 use Rattle.tdf_io.specs.Bytes.{AppendsFront}

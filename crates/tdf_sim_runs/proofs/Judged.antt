@@ -11,13 +11,8 @@ use Rattle.tdf_events.specs.State.{IsKernelState}
 use Rattle.tdf_lang_tree.specs.Pure.{PureTree}
 use Rattle.tdf_saved.specs.State.{ColumnStateOf, SnapshotOf}
 use Rattle.tdf_saved.specs.declared.state.Stamp.{Stamp}
-use Rattle.tdf_sim_resumed.specs.Made.{AreStatesAt}
-use Rattle.tdf_sim_resumed.specs.Resuming.{resumed_clusters}
-use Rattle.tdf_sim_resumed.specs.Starting.{Tracked, row_of_trace, rows_from_saved, tracked_of}
-use Rattle.tdf_sim_resumed.specs.Valid.{ArePlansOf, HasMembersOf, HasNumbersFor, HasTimesOf, IsNumberFor, IsValid, IsValidColumn, IsValidEvents, IsValidTracked}
-use Rattle.tdf_sim_traces.proofs.Api.{given_at}
-use Rattle.tdf_sim_traces.specs.Signals.{AreTold}
-use Rattle.tdf_sim_traces.specs.Variables.{trace_variable, traced_signal, variable_for, variables_of}
+use Rattle.tdf_sim_shown.specs.Below.{ArePlansOf, AreStatesAt, AreTold, HasMembersOf, HasNumbersFor, HasTimesOf, IsNumberFor, IsValid, IsValidColumn, IsValidEvents, IsValidTracked, Tracked, resumed_clusters, row_of_trace, rows_from_saved, trace_variable, traced_signal, tracked_of, variable_for, variables_of}
+use Rattle.tdf_sim_shown.proofs.Api.{given_at}
 use Rattle.tdf_sim_shown.specs.Columns.{AreGoodColumns}
 use Rattle.tdf_streams.proofs.Api.{get_inside, none_some, some_same}
 use Rattle.tdf_trace.specs.States.{AreColumnStates, AreStampedFrom}

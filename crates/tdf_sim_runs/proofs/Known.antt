@@ -2,7 +2,7 @@
 use Rattle.std.proofs.Common.{◌≡◌, ◌∙◌, ◌≤◌, ℕ, List, Option, max, refl, sym, ap, subst, inl, inr, arith}
 use Rattle.std.proofs.lemmas.Bool.{cases_lt}
 use Rattle.tdf_bind.specs.declared.model.Flat.{Flat}
-use Rattle.tdf_dynamic.specs.Laws.{BoundariesHaveOne}
+use Rattle.tdf_sim_instants.specs.Below.{BoundariesHaveOne}
 use Rattle.tdf_events.specs.Side.{SideOf}
 use Rattle.tdf_io.specs.Bytes.{AppendsFront}
 use Rattle.tdf_lang_tree.specs.Pure.{PureTree}
@@ -12,7 +12,7 @@ use Rattle.tdf_sim_history.specs.Telling.{world_told}
 use Rattle.tdf_sim_history.specs.World.{Change, World}
 use Rattle.tdf_sim_history.specs.WorldLaws.{AreSteady}
 use Rattle.tdf_sim_instants.specs.InstantLaws.{IsModelOf}
-use Rattle.tdf_sim_resumed.specs.Snapshot.{IsRowsFrom}
+use Rattle.tdf_sim_shown.specs.Below.{IsRowsFrom, IsShown}
 use Rattle.tdf_sim_runs.proofs.Below.{known_below}
 use Rattle.tdf_sim_runs.proofs.Onward.{on_before}
 use Rattle.tdf_sim_runs.proofs.Staying.{steady}
@@ -22,7 +22,6 @@ use Rattle.tdf_sim_runs.specs.Ending.{AreKnownBelow, WritesKnown}
 use Rattle.tdf_sim_runs.specs.Ongoing.{AreToldTo}
 use Rattle.tdf_sim_runs.specs.Running.{IsRunningAt}
 use Rattle.tdf_sim_runs.specs.declared.running.Running.{Running}
-use Rattle.tdf_sim_traces.specs.Shown.{IsShown}
 use Rattle.tdf_trace.specs.Tracked.{AreSince}
 use Rattle.tdf_trace.specs.Writings.{AboutSeen, rows_text}
 use Rattle.tdf_trace_rows.specs.Laws.{Agree}

@@ -3,7 +3,7 @@ use Rattle.std.proofs.Common.{◌≡◌, ◌∙◌, ℕ, ◌+◌, ◌-◌, ◌<�
 use Rattle.std.proofs.lemmas.Bool.{cases_lt, eqb-true}
 use Rattle.std.proofs.lemmas.List.Sums.{sum_by-append, sum_by-cons}
 use Rattle.std.proofs.lemmas.Option.{slice_get_within}
-use Rattle.tdf_sim_instants.proofs.Api.{counts_all, have_plans}
+use Rattle.tdf_sim_instants.proofs.Api.{counts_all, have_plans, true_false}
 use Rattle.tdf_sim_instants.specs.CrossingLaws.{AreToldAt, Becomes}
 use Rattle.tdf_sim_instants.specs.Engine.{HasBeenSpent, HasBeenStopped, HasHadInstant, IsEngineOf, IsReadyAt}
 use Rattle.tdf_sim_instants.specs.InstantLaws.{InstantEnds, InstantEndsSpent, InstantEndsStopped, InstantGoes, InstantGoesAlong, IsModelOf}
@@ -15,7 +15,6 @@ use Rattle.tdf_events.specs.Kernel.{side_of}
 use Rattle.tdf_events.specs.Side.{SideOf}
 use Rattle.tdf_bind.specs.declared.model.Flat.{Flat}
 use Rattle.tdf_streams.proofs.Api.{get_inside}
-use Rattle.tdf_sim_refinement.proofs.Api.{true_false}
 use Rattle.tdf_sim_history.specs.Answers.{AreAnswers, IsAnswer, OfAll, OfClusters, OfFirst}
 use Rattle.tdf_sim_history.specs.Instant.{RunFault, instant, is_due, is_over, periods_of}
 use Rattle.tdf_sim_history.specs.Telling.{AreTold, IsTold, all_told, state_as, world_told}

@@ -7,7 +7,7 @@ use Rattle.tdf_sim_instants.specs.InstantLaws.{IsModelOf}
 use Rattle.tdf_events.specs.Side.{SideOf}
 use Rattle.tdf_bind.specs.declared.model.Flat.{Flat}
 use Rattle.tdf_sim_history.specs.Cells.{run_cells}
-use Rattle.tdf_dynamic.specs.Laws.{BoundariesHaveOne}
+use Rattle.tdf_sim_instants.specs.Below.{BoundariesHaveOne}
 use Rattle.tdf_sim_history.specs.Telling.{world_told}
 use Rattle.tdf_sim_history.specs.World.{Change, World}
 use Rattle.tdf_io.specs.Bytes.{AppendsFront}
@@ -23,7 +23,7 @@ use Rattle.tdf_sim_runs.specs.declared.running.Running.{Running}
 use Rattle.tdf_trace_rows.specs.Laws.{Agree}
 use Rattle.tdf_trace_rows.specs.Rows.{Cells}
 use Rattle.tdf_trace_rows.proofs.Api.{agree_trans}
-use Rattle.tdf_sim_traces.proofs.Api.{written_is_shown}
+use Rattle.tdf_sim_shown.proofs.Api.{written_is_shown}
 use Rattle.tdf_trace.specs.Stands.{TraceSeen, WritesFront, WritesRows}
 use Rattle.tdf_trace.specs.Tracked.{AreSince}
 use Rattle.tdf_trace.specs.Writings.{AboutSeen, rows_text}

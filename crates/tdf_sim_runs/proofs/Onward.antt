@@ -12,7 +12,7 @@ use Rattle.tdf_events.specs.Side.{SideOf}
 use Rattle.tdf_bind.specs.declared.model.Flat.{Flat}
 use Rattle.tdf_streams.proofs.Api.{get_inside}
 use Rattle.tdf_sim_history.specs.Cells.{run_cells}
-use Rattle.tdf_dynamic.specs.Laws.{BoundariesHaveOne}
+use Rattle.tdf_sim_instants.specs.Below.{BoundariesHaveOne}
 use Rattle.tdf_sim_history.specs.Telling.{world_told}
 use Rattle.tdf_sim_history.specs.World.{Change, ClusterAt, World}
 use Rattle.tdf_sim_history.specs.History.{On, history}
@@ -27,7 +27,7 @@ use Rattle.tdf_sim_runs.specs.Ongoing.{AreToldTo}
 use Rattle.tdf_sim_runs.specs.Running.{CanGoOn, RunGoesOn, IsRunningAt, AreWithin}
 use Rattle.tdf_sim_runs.specs.declared.running.Running.{Running}
 use Rattle.tdf_trace_rows.specs.Laws.{Agree}
-use Rattle.tdf_sim_traces.proofs.Api.{rows_may_be_written}
+use Rattle.tdf_sim_shown.proofs.Api.{rows_may_be_written}
 use Rattle.tdf_trace.specs.Writings.{AboutSeen, rows_text}
 use Rattle.tdf_lang_tree.specs.Pure.{PureTree}
 use Rattle.tdf_sim_history.specs.Rules.{rules_of, world_engine}

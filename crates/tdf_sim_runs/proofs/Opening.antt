@@ -6,7 +6,7 @@ use Rattle.tdf_sim_history.specs.Telling.{world_told}
 use Rattle.tdf_sim_history.specs.World.{World}
 use Rattle.tdf_sim_runs.specs.Running.{CanGoOn, IsRunningAt}
 use Rattle.tdf_sim_runs.specs.declared.running.Running.{Running}
-use Rattle.tdf_sim_traces.proofs.Api.{written_is_shown}
+use Rattle.tdf_sim_shown.proofs.Api.{written_is_shown}
 use Rattle.tdf_trace.specs.Stands.{RowsSeen, Stands, TraceSeen}
 use Rattle.tdf_lang_tree.specs.Pure.{PureTree}
 

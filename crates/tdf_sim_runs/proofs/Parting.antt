@@ -25,7 +25,7 @@ use Rattle.tdf_sim_runs.specs.Parts.{HasEndedBefore, IfPaused, IsFrontOfPart, Is
 use Rattle.tdf_sim_runs.specs.Paused.{IsPaused, IsPausedAt}
 use Rattle.tdf_sim_runs.specs.declared.paused.Paused.{Paused}
 use Rattle.tdf_sim_runs.specs.machine.Parting.{part_of}
-use Rattle.tdf_sim_resumed.specs.Snapshot.{IsRowsFrom}
+use Rattle.tdf_sim_shown.specs.Below.{IsRowsFrom}
 use Rattle.tdf_sim_runs.proofs.Noting.{plans_part}
 use Rattle.tdf_sim_runs.proofs.WholeRun.{head_part, runs_whole, told_is}
 use Rattle.tdf_sim_runs.specs.Ending.{state_from}

@@ -5,7 +5,7 @@ use Rattle.std.specs.List.{flat_map}
 use Rattle.tdf_sim_instants.specs.CrossingLaws.{HavePlansOf}
 use Rattle.tdf_sim_runs.specs.News.{news_text, rows_note}
 use Rattle.tdf_events.specs.Side.{SideOf}
-use Rattle.tdf_exec.specs.Cluster.{ClusterOf}
+use Rattle.tdf_sim_instants.specs.Below.{ClusterOf}
 use Rattle.tdf_bind.specs.declared.model.Flat.{Flat}
 use Rattle.tdf_sim_history.specs.Instant.{instant, engine}
 use Rattle.tdf_sim_history.specs.Texts.{left_by, new_plans, notes_in, notes_to, plan_note, plan_of}

@@ -11,12 +11,12 @@ use Rattle.tdf_bind.specs.declared.model.Flat.{Flat}
 use Rattle.tdf_sim_history.specs.Cells.{run_cells, world_before, world_of}
 use Rattle.tdf_sim_history.specs.Instant.{RunFault}
 use Rattle.tdf_base.specs.declared.faults.Fault.{Fault as FaultOf}
-use Rattle.tdf_dynamic.specs.Laws.{BoundariesHaveOne}
+use Rattle.tdf_sim_instants.specs.Below.{BoundariesHaveOne}
 use Rattle.tdf_sim_history.specs.Telling.{all_told, state_as, world_told}
 use Rattle.tdf_sim_history.specs.Texts.{notes_to}
 use Rattle.tdf_sim_history.specs.World.{Change, World}
 use Rattle.tdf_sim_history.proofs.Api.{end_lies, history_told, told_twice}
-use Rattle.tdf_sim_traces.proofs.Api.{told_is_shown}
+use Rattle.tdf_sim_shown.proofs.Api.{told_is_shown}
 use Rattle.tdf_sim_history.specs.History.{On, Spent, HistoryState, Stopped, end_time, history}
 use Rattle.tdf_sim_runs.proofs.Ended.{before_end}
 use Rattle.tdf_sim_runs.proofs.Handing.{news_more}
@@ -33,7 +33,7 @@ use Rattle.tdf_sim_runs.specs.Running.{CanGoOn, RunGoesOn, IsRunningAt, WritesFr
 use Rattle.tdf_sim_runs.specs.declared.going.Ended.{Ended}
 use Rattle.tdf_sim_runs.specs.declared.going.Ended.TheVariants as ended
 use Rattle.tdf_sim_runs.specs.declared.running.Running.{Running}
-use Rattle.tdf_sim_traces.specs.Shown.{IsShown}
+use Rattle.tdf_sim_shown.specs.Below.{IsShown}
 use Rattle.tdf_trace.specs.Writings.{AboutSeen, rows_text}
 use Rattle.tdf_lang_tree.specs.Pure.{PureTree}
 use Rattle.tdf_sim_history.specs.Rules.{rules_of, world_engine}

@@ -3,7 +3,7 @@ use Rattle.std.proofs.Common.{◌≡◌, ◌⊎◌, Bool, true, false, Err, Ok, 
 use Rattle.std.specs.Prelude.{IfOk, IsOk, Result}
 use Rattle.tdf_saved.specs.declared.err.StateErr.TheVariants.{Bad, Memory}
 use Rattle.tdf_saved.specs.declared.err.StateErr.{StateErr}
-use Rattle.tdf_sim_traces.specs.GoingOn.{IsNotMade}
+use Rattle.tdf_sim_shown.specs.Below.{IsNotMade}
 
 -- the error of a result
 abbrev error_of : {A : Type 0} → StateErr → Result A StateErr → StateErr

@@ -2,20 +2,14 @@
 use Rattle.std.proofs.Common.{◌≡◌, ℕ, List, [], map, sym, subst}
 use Rattle.tdf_bind.specs.declared.model.Flat.{Flat}
 use Rattle.tdf_dynamic_first.specs.declared.first.First.{First}
-use Rattle.tdf_exec.specs.Cluster.{ClusterOf}
+use Rattle.tdf_sim_instants.specs.Below.{AreAt, ClusterOf}
 use Rattle.tdf_lang_tree.specs.Pure.{PureTree}
 use Rattle.tdf_saved.specs.State.{ClusterStateOf, SnapshotOf}
 use Rattle.tdf_sim_instants.specs.InstantLaws.{IsModelOf}
-use Rattle.tdf_sim_refinement.specs.Pass.{AreAt}
 use Rattle.tdf_sim_runs.proofs.Clock.{can_tell}
 use Rattle.tdf_sim_runs.specs.Reopened.{CanReopen}
 use Rattle.tdf_sim_runs.specs.machine.Standing.{clock_in}
-use Rattle.tdf_sim_resumed.specs.MadeLaws.{ClustersStandThere, HavePlansFor, PlansAreThere, PlansAreTheirs}
-use Rattle.tdf_sim_resumed.specs.Made.{AllGoOnFromStates, AreUnderPlans}
-use Rattle.tdf_sim_resumed.specs.Resuming.{resumed_clusters}
-use Rattle.tdf_sim_resumed.specs.Valid.{ArePlansOf, HasMembersOf, HasTimesOf}
-use Rattle.tdf_sim_traces.specs.Calls.{CanBeShown}
-use Rattle.tdf_sim_traces.specs.Laws.{SoundCanBeShown}
+use Rattle.tdf_sim_shown.specs.Below.{AllGoOnFromStates, ArePlansOf, AreUnderPlans, CanBeShown, ClustersStandThere, HasMembersOf, HasTimesOf, HavePlansFor, PlansAreTheirs, PlansAreThere, SoundCanBeShown, resumed_clusters}
 use Rattle.tdf_sim_shown.specs.Columns.{CanTellColumns}
 
 module _ (flat : Flat) (s : SnapshotOf) (since : List ℕ) (cs : List ClusterOf) (can : CanReopen flat) (times : HasTimesOf s) (members : HasMembersOf flat s)

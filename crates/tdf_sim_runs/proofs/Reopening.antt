@@ -10,7 +10,7 @@ use Rattle.tdf_events.specs.Kernel.{KernelOf, IsKernelOf, side_of}
 use Rattle.tdf_events.specs.Runnable.{AreOfSignals, signal_formats}
 use Rattle.tdf_events.specs.Side.{SideOf}
 use Rattle.tdf_events.specs.State.{IsKernelState, resumed_side}
-use Rattle.tdf_exec.specs.Cluster.{ClusterOf, offset_in}
+use Rattle.tdf_sim_instants.specs.Below.{AreAt, ClusterOf, offset_in}
 use Rattle.tdf_fixed.specs.declared.raw.Raw.{Raw}
 use Rattle.tdf_lang_tree.specs.Pure.{PureTree}
 use Rattle.tdf_saved.specs.State.{SnapshotOf}
@@ -21,27 +21,16 @@ use Rattle.tdf_sim_instants.specs.InstantLaws.{IsModelOf}
 use Rattle.tdf_sim_instants.specs.Settling.{IsBefore}
 use Rattle.tdf_sim_instants.specs.Times.{due_offset}
 use Rattle.tdf_sim_instants.specs.declared.engine.Engine.{Engine}
-use Rattle.tdf_sim_refinement.specs.Pass.{AreAt}
 use Rattle.tdf_sim_runs.proofs.Clock.{can_tell, done_so, early, ends_late, in_progress, places}
 use Rattle.tdf_sim_runs.proofs.GoingOn.{is_before, runs_on}
 use Rattle.tdf_sim_runs.proofs.Judged.{are_states, is_valid, stamped_from}
 use Rattle.tdf_sim_runs.specs.Reopened.{CanReopen}
 use Rattle.tdf_sim_runs.specs.declared.ready.Standing.{Standing}
 use Rattle.tdf_sim_runs.specs.machine.Standing.{IsStanding, clock_in}
-use Rattle.tdf_sim_resumed.specs.MadeLaws.{ClustersStandThere, HavePlansFor, PlansAreThere, PlansAreTheirs}
-use Rattle.tdf_sim_resumed.specs.Made.{AreUnderPlans}
-use Rattle.tdf_sim_resumed.specs.Laws.{IsGoodStart, NoneIsDueBefore, ResumedAreGood, StandsStill}
-use Rattle.tdf_sim_resumed.specs.Resuming.{resumed_clusters}
-use Rattle.tdf_sim_resumed.specs.Starting.{first_unknown, least_within, resumed_world, rows_from_saved, tracked_of}
-use Rattle.tdf_sim_resumed.specs.Valid.{ArePlansOf, HasMembersOf, HasTimesOf, IsValid}
+use Rattle.tdf_sim_shown.specs.Below.{ArePlansOf, AreUnderPlans, CanBeShown, ClockAt, ClustersStandThere, HasMembersOf, HasTimesOf, HavePlansFor, IsGoodStart, IsValid, NoneIsDueBefore, PlansAreTheirs, PlansAreThere, ResumedAreGood, Shown, SoundCanBeShown, StandsStill, first_unknown, least_within, resumed_clusters, resumed_world, rows_from_saved, tracked_of, variables_of}
 use Rattle.tdf_sim_runs.specs.Running.{CanGoOn, IsRunning}
 use Rattle.tdf_sim_runs.specs.declared.running.Running.{Running}
 use Rattle.tdf_sim_shown.specs.Resumed.{CanGoOnFrom, HaveEventValues, LeavesSince, ShowsResumed}
-use Rattle.tdf_sim_traces.specs.Calls.{CanBeShown}
-use Rattle.tdf_sim_traces.specs.Laws.{SoundCanBeShown}
-use Rattle.tdf_sim_traces.specs.Periods.{ClockAt}
-use Rattle.tdf_sim_traces.specs.Variables.{variables_of}
-use Rattle.tdf_sim_traces.specs.declared.shown.Shown.{Shown}
 use Rattle.tdf_sim_shown.proofs.Api.{next_late}
 use Rattle.tdf_sim_shown.specs.Columns.{AreGoodColumns}
 use Rattle.tdf_trace.specs.States.{AreColumnStates, AreStampedFrom}

@@ -5,7 +5,6 @@ use Rattle.std.proofs.lemmas.Option.{slice_get_within}
 use Rattle.std.specs.Io.KnownBytes.{Appends}
 use Rattle.tdf_base.specs.declared.faults.Fault.{Fault}
 use Rattle.tdf_bind.specs.declared.model.Flat.{Flat}
-use Rattle.tdf_dynamic.specs.Laws.{BoundariesHaveOne}
 use Rattle.tdf_events.specs.Kernel.{IsKernelOf, KernelOf, side_of}
 use Rattle.tdf_events.specs.Side.{SideOf}
 use Rattle.tdf_io.proofs.Api.{front_more, front_then}
@@ -23,8 +22,8 @@ use Rattle.tdf_sim_history.specs.World.{Change, ClusterAt, World}
 use Rattle.tdf_sim_instants.specs.InstantLaws.{IsModelOf}
 use Rattle.tdf_sim_notes.specs.Ending.{end_of, end_text}
 use Rattle.tdf_sim_notes.specs.declared.ending.End.TheVariants as ending
-use Rattle.tdf_sim_refinement.specs.Pass.{AreAt}
-use Rattle.tdf_sim_resumed.specs.Snapshot.{IsRowsFrom}
+use Rattle.tdf_sim_instants.specs.Below.{AreAt, BoundariesHaveOne}
+use Rattle.tdf_sim_shown.specs.Below.{IsRowsFrom}
 use Rattle.tdf_sim_runs.proofs.Answering.{if_three, on_err, then_ok}
 use Rattle.tdf_sim_runs.proofs.Ended.{end_lies_in}
 use Rattle.tdf_sim_runs.proofs.Finishing.{rows_same}

@@ -13,8 +13,7 @@ use Rattle.tdf_sim_history.specs.History.{history}
 use Rattle.tdf_sim_runs.proofs.Staying.{steady}
 use Rattle.tdf_sim_runs.specs.Ending.{ShownStandsBelow}
 use Rattle.tdf_sim_runs.specs.Running.{IsRunning}
-use Rattle.tdf_sim_traces.specs.Shown.{IsShown}
-use Rattle.tdf_sim_traces.specs.declared.shown.Shown.{Shown}
+use Rattle.tdf_sim_shown.specs.Below.{IsShown, Shown}
 use Rattle.tdf_lang_tree.specs.Pure.{PureTree}
 use Rattle.tdf_sim_history.specs.WorldLaws.{AreSteady}
 use Rattle.tdf_sim_history.specs.Rules.{rules_of, world_engine}

@@ -5,8 +5,7 @@ use Rattle.tdf_bind.specs.declared.model.Flat.{Flat}
 use Rattle.tdf_events.specs.Kernel.{side_of}
 use Rattle.tdf_events.specs.Side.{SideOf}
 use Rattle.tdf_events.specs.State.{kernel_state_of}
-use Rattle.tdf_exec.specs.Cluster.{next_offset, offset_in}
-use Rattle.tdf_exec_parts.specs.States.{IsInPeriod}
+use Rattle.tdf_sim_instants.specs.Below.{IsInPeriod, next_offset, offset_in}
 use Rattle.tdf_saved.specs.State.{SnapshotOf}
 use Rattle.tdf_sim_history.specs.Cells.{world_before, world_of}
 use Rattle.tdf_sim_history.specs.History.{history}
@@ -17,12 +16,10 @@ use Rattle.tdf_sim_instants.specs.Engine.{HasDoneBefore}
 use Rattle.tdf_sim_instants.specs.Times.{due_offset}
 use Rattle.tdf_sim_runs.proofs.AtStop.{due_within}
 use Rattle.tdf_sim_runs.specs.Saving.{IsSnapshotOf}
-use Rattle.tdf_sim_resumed.specs.Laws.{AreToldStates, AreUpTo, ClustersAreSaved}
-use Rattle.tdf_sim_resumed.specs.Snapshot.{AreSavedColumns, IsSideBefore}
+use Rattle.tdf_sim_shown.specs.Below.{AreSavedColumns, AreToldStates, AreUpTo, ClustersAreSaved, IsShown, IsSideBefore}
 use Rattle.tdf_sim_runs.specs.Running.{CanGoOn}
 use Rattle.tdf_sim_runs.specs.declared.running.Running.{Running}
 use Rattle.tdf_sim_shown.specs.Saved.{GivesColumns}
-use Rattle.tdf_sim_traces.specs.Shown.{IsShown}
 
 module _ (saves : ClustersAreSaved) (flat : Flat) (r : Running) (can : CanGoOn flat r) (turns : ℕ) (vcd : Bool) (s : SnapshotOf) (vcd_is : s.vcd ≡ vcd) (time : s.time ≡ r.from) (used : s.used ≡ turns - r.left) (budget : s.budget ≡ turns)
     (clusters : AreToldStates r.engine.since.items r.engine.clusters.items s.clusters) (kernel : s.kernel ≡ kernel_state_of (side_of r.engine.kernel)) (columns : GivesColumns flat r.shown s.columns) where

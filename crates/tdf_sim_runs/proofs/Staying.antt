@@ -3,7 +3,7 @@ use Rattle.std.proofs.Common.{◌≡◌, ◌∙◌, ℕ, zero, suc, ◌+◌, ◌
 use Rattle.std.proofs.lemmas.List.Elements.{All-append, All-head, All-nil, All-tail}
 use Rattle.std.proofs.lemmas.Option.{slice_get_within}
 use Rattle.std.specs.List.{All}
-use Rattle.tdf_sim_instants.proofs.Api.{told_get}
+use Rattle.tdf_sim_instants.proofs.Api.{done_known, told_get}
 use Rattle.tdf_sim_instants.specs.InstantLaws.{IsNow}
 use Rattle.tdf_sim_instants.specs.declared.engine.Engine.{Engine}
 use Rattle.tdf_events.specs.Side.{SideOf}
@@ -13,7 +13,6 @@ use Rattle.tdf_sim_history.specs.Telling.{told_more, world_told}
 use Rattle.tdf_sim_history.specs.World.{Change, ClusterAt, World}
 use Rattle.tdf_sim_runs.specs.Ongoing.{AreTimed}
 use Rattle.tdf_streams.specs.Signals.{time_of_periods}
-use Rattle.tdf_sim_refinement.proofs.Api.{done_known}
 use Rattle.tdf_lang_tree.specs.Pure.{PureTree}
 use Rattle.tdf_sim_history.specs.Continuing.{HasToldCounts}
 use Rattle.tdf_sim_history.specs.WorldLaws.{AreSteady, HasDone}

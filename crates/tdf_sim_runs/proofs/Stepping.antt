@@ -14,9 +14,9 @@ use Rattle.tdf_sim_instants.specs.CrossingLaws.{Becomes}
 use Rattle.tdf_sim_instants.specs.InstantLaws.{InstantGoes, InstantGoesAlong, IsModelOf}
 use Rattle.tdf_sim_instants.specs.declared.engine.Engine.{Engine}
 use Rattle.tdf_events.specs.Side.{SideOf}
-use Rattle.tdf_exec.specs.Gained.{SampleHasFewPlaces}
+use Rattle.tdf_sim_instants.specs.Below.{Done, HavePassed, Idle, PassAt, PassHasTurn, RunOf, SampleHasFewPlaces}
 use Rattle.tdf_bind.specs.declared.model.Flat.{Flat}
-use Rattle.tdf_sim_resumed.specs.Formats.{AreInFormatsTo}
+use Rattle.tdf_sim_shown.specs.Below.{AreInFormatsTo, CanTake, ClockAt, HasAdvanced, IsShown, Shown, ShowsInstant, clock_at, values_before}
 use Rattle.tdf_streams.proofs.Api.{get_inside}
 use Rattle.tdf_sim_history.specs.Cells.{world_before, world_of}
 use Rattle.tdf_sim_history.specs.Instant.{RunFault}
@@ -34,14 +34,7 @@ use Rattle.tdf_sim_runs.specs.News.{news_text}
 use Rattle.tdf_sim_runs.specs.Ongoing.{IsOngoing}
 use Rattle.tdf_sim_runs.specs.Running.{CanGoOn, RunGoesOn, IsDueNow, IsRunningAt, AreWithin}
 use Rattle.tdf_sim_runs.specs.declared.running.Running.{Running}
-use Rattle.tdf_sim_refinement.specs.Pass.{Done, PassHasTurn, HavePassed, Idle, PassAt, RunOf}
-use Rattle.tdf_sim_traces.proofs.Api.{advanced_can_be_taken, told_is_shown}
-use Rattle.tdf_sim_traces.specs.Advanced.{HasAdvanced}
-use Rattle.tdf_sim_traces.specs.Calls.{CanTake, ShowsInstant}
-use Rattle.tdf_sim_traces.specs.Events.{values_before}
-use Rattle.tdf_sim_traces.specs.Periods.{ClockAt, clock_at}
-use Rattle.tdf_sim_traces.specs.Shown.{IsShown}
-use Rattle.tdf_sim_traces.specs.declared.shown.Shown.{Shown}
+use Rattle.tdf_sim_shown.proofs.Api.{advanced_can_be_taken, told_is_shown}
 use Rattle.tdf_lang_tree.specs.Pure.{PureTree}
 use Rattle.tdf_sim_history.specs.Rules.{rules_of, world_engine}
 use Rattle.tdf_sim_history.proofs.Api.{states_leave, told_alike, told_twice}

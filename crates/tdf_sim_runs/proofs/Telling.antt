@@ -2,10 +2,9 @@
 use Rattle.std.proofs.Common.{◌≡◌, ◌∙◌, ◌+◌, ◌-◌, ℕ, List, [], ◌∷◌, ◌++◌, Some, length, length-append, slice_get, sym, ap, subst, inl, inr, arith}
 use Rattle.std.proofs.lemmas.Bool.{cases_lt}
 use Rattle.std.proofs.lemmas.Option.{slice_get_within}
-use Rattle.tdf_exec.specs.Cluster.{ClusterOf}
-use Rattle.tdf_exec.specs.Saved.{cluster_state}
+use Rattle.tdf_sim_instants.specs.Below.{ClusterOf, cluster_state}
 use Rattle.tdf_saved.specs.State.{ClusterStateOf}
-use Rattle.tdf_sim_resumed.specs.Laws.{AreToldStates}
+use Rattle.tdf_sim_shown.specs.Below.{AreToldStates}
 use Rattle.tdf_streams.proofs.Api.{get_high, get_low, some_same}
 
 -- the states of the first n clusters

@@ -11,7 +11,7 @@ use Rattle.tdf_sim_runs.specs.Ongoing.{AreToldTo, CanBeTold, IsOngoing}
 use Rattle.tdf_sim_runs.specs.Staying.{CellsStayBelow}
 use Rattle.tdf_sim_history.proofs.Api.{cells_agree, go_on, starts, answers_agree, attributes_alike, cells_same, states_end, to_same, untold_told}
 use Rattle.tdf_streams.proofs.Api.{get_inside, some_same}
-use Rattle.tdf_dynamic.specs.Laws.{BoundariesHaveOne}
+use Rattle.tdf_sim_instants.specs.Below.{BoundariesHaveOne}
 use Rattle.tdf_events.specs.Side.{SideOf}
 use Rattle.tdf_bind.specs.declared.model.Flat.{Flat}
 use Rattle.tdf_sim_history.specs.Cells.{run_cells, column_spans, samples_done}

@@ -3,7 +3,7 @@ use Rattle.std.proofs.Common.{◌≡◌, ◌∙◌, ◌++◌, ◌≤◌, ℕ, Li
 use Rattle.std.proofs.KnownBytes.{Appends-trans}
 use Rattle.std.specs.Io.KnownBytes.{Appends}
 use Rattle.tdf_bind.specs.declared.model.Flat.{Flat}
-use Rattle.tdf_dynamic.specs.Laws.{BoundariesHaveOne}
+use Rattle.tdf_sim_instants.specs.Below.{BoundariesHaveOne}
 use Rattle.tdf_events.specs.Side.{SideOf}
 use Rattle.tdf_io.proofs.Api.{front_more}
 use Rattle.tdf_io.specs.Bytes.{AppendsFront}
@@ -16,7 +16,7 @@ use Rattle.tdf_sim_history.specs.Texts.{notes_to}
 use Rattle.tdf_sim_history.specs.World.{Change, World}
 use Rattle.tdf_sim_instants.specs.InstantLaws.{IsModelOf}
 use Rattle.tdf_sim_notes.specs.Ending.{end_text}
-use Rattle.tdf_sim_resumed.specs.Snapshot.{IsRowsFrom}
+use Rattle.tdf_sim_shown.specs.Below.{IsRowsFrom}
 use Rattle.tdf_sim_runs.proofs.Handed.{hands_part}
 use Rattle.tdf_sim_runs.proofs.Onward.{goes_then}
 use Rattle.tdf_sim_runs.proofs.AtStop.{rows_agree}

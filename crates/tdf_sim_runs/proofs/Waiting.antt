@@ -18,14 +18,14 @@ use Rattle.tdf_sim_history.specs.Telling.{IsTold, told_more, world_told}
 use Rattle.tdf_sim_history.specs.Texts.{new_plans, notes_in, left_by}
 use Rattle.tdf_sim_history.specs.World.{Change, ClusterAt, Rules, World, next_change}
 use Rattle.tdf_sim_history.proofs.Api.{skipped}
-use Rattle.tdf_sim_refinement.proofs.Api.{true_false}
+use Rattle.tdf_sim_instants.proofs.Api.{true_false}
 use Rattle.tdf_sim_history.specs.History.{On, HistoryState, history}
 use Rattle.tdf_sim_history.specs.TurnLaws.{IsNextTime, IsOn}
 use Rattle.tdf_sim_runs.proofs.Dues.{next_is}
 use Rattle.tdf_sim_runs.specs.Running.{IsRunning, RunsToNext}
 use Rattle.tdf_sim_runs.proofs.Plans.{notes_rest}
-use Rattle.tdf_sim_traces.proofs.Api.{later_is_shown}
-use Rattle.tdf_sim_traces.specs.declared.shown.Shown.{Shown}
+use Rattle.tdf_sim_shown.proofs.Api.{later_is_shown}
+use Rattle.tdf_sim_shown.specs.Below.{Shown}
 use Rattle.tdf_lang_tree.specs.Pure.{PureTree}
 use Rattle.tdf_sim_history.specs.Rules.{rules_of, world_engine}
 

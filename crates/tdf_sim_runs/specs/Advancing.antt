@@ -8,7 +8,7 @@ use Rattle.tdf_events.specs.Side.{SideOf}
 use Rattle.tdf_bind.specs.declared.model.Flat.{Flat}
 use Rattle.tdf_sim_history.specs.Telling.{world_told}
 use Rattle.tdf_sim_history.specs.World.{World}
-use Rattle.tdf_sim_traces.specs.Advanced.{HasAdvanced}
+use Rattle.tdf_sim_shown.specs.Below.{HasAdvanced}
 use Rattle.tdf_lang_tree.specs.Pure.{PureTree}
 
 -- an instant that goes along with the history begins the periods that it has, and what its firings

@@ -25,8 +25,7 @@ use Rattle.tdf_sim_runs.specs.declared.going.Ended.TheVariants as ended
 use Rattle.tdf_sim_runs.specs.declared.running.Running.{Running}
 use Rattle.tdf_sim_notes.specs.declared.ending.End.{End}
 use Rattle.tdf_sim_notes.specs.declared.ending.End.TheVariants as ending
-use Rattle.tdf_sim_traces.specs.Shown.{IsShown}
-use Rattle.tdf_sim_traces.specs.declared.shown.Shown.{Shown}
+use Rattle.tdf_sim_shown.specs.Below.{IsShown, Shown}
 use Rattle.tdf_trace.specs.Writings.{AboutSeen, rest_text, rows_text}
 use Rattle.tdf_trace_rows.specs.Rows.{Cells}
 use Rattle.tdf_lang_tree.specs.Pure.{PureTree}

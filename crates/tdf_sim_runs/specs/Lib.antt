@@ -1,4 +1,5 @@
 pub mod Advancing
+pub mod Below
 pub mod Ending
 pub mod Handing
 pub mod Laws

@@ -3,7 +3,7 @@
 use Rattle.std.specs.List.{flat_map}
 use Rattle.std.specs.Prelude.{ℕ, ◌+◌, List, [], Option, Some, None, option_map, slice_get}
 use Rattle.tdf_sim_instants.specs.CrossingLaws.{rows_in}
-use Rattle.tdf_exec.specs.Cluster.{ClusterOf}
+use Rattle.tdf_sim_instants.specs.Below.{ClusterOf}
 use Rattle.tdf_bind.specs.declared.model.Flat.{Flat}
 use Rattle.tdf_dynamic_texts.specs.Plans.{PlanRows, plan_text}
 

@@ -19,7 +19,7 @@ use Rattle.tdf_sim_runs.specs.Paused.{IsPausedAt}
 use Rattle.tdf_sim_runs.specs.declared.part.Part.{Part}
 use Rattle.tdf_sim_runs.specs.declared.part.Part.TheVariants as part
 use Rattle.tdf_sim_runs.specs.declared.paused.Paused.{Paused}
-use Rattle.tdf_sim_resumed.specs.Snapshot.{IsRowsFrom}
+use Rattle.tdf_sim_shown.specs.Below.{IsRowsFrom}
 use Rattle.tdf_sim_runs.specs.Runs.{RunsAs, model_about, trace_of}
 use Rattle.tdf_sim_runs.specs.declared.run.Ran.{Ran}
 use Rattle.tdf_trace.specs.Writings.{head_of, rows_text}

@@ -14,8 +14,7 @@ use Rattle.tdf_sim_history.specs.Telling.{world_told}
 use Rattle.tdf_sim_history.specs.World.{Change, World}
 use Rattle.tdf_sim_notes.specs.Ending.{HaveAnswers}
 use Rattle.tdf_sim_runs.specs.declared.paused.Paused.{Paused}
-use Rattle.tdf_sim_resumed.specs.Formats.{AreInFormatsTo}
-use Rattle.tdf_sim_resumed.specs.Snapshot.{IsRowsFrom, IsSnapshot}
+use Rattle.tdf_sim_shown.specs.Below.{AreInFormatsTo, IsRowsFrom, IsSnapshot}
 use Rattle.tdf_sim_runs.specs.Running.{CanGoOn, IsRunningAt}
 use Rattle.tdf_sim_runs.specs.Runs.{model_about}
 use Rattle.tdf_trace.specs.declared.stage.Stage.TheVariants.{Open}

@@ -13,7 +13,7 @@ use Rattle.tdf_sim_history.specs.Rules.{rules_of}
 use Rattle.tdf_sim_history.specs.Telling.{world_told}
 use Rattle.tdf_sim_history.specs.World.{Change, World}
 use Rattle.tdf_sim_instants.specs.InstantLaws.{IsModelOf}
-use Rattle.tdf_sim_resumed.specs.Snapshot.{IsRowsFrom}
+use Rattle.tdf_sim_shown.specs.Below.{IsRowsFrom}
 use Rattle.tdf_sim_runs.specs.Ending.{state_from}
 use Rattle.tdf_sim_runs.specs.Rest.{AreNewsAfter, GoesOnAs, rest_notes, rest_trace}
 use Rattle.tdf_sim_runs.specs.Running.{CanGoOn, IsRunningAt, RunGoesOn, told_rows}

@@ -16,7 +16,7 @@ use Rattle.tdf_sim_history.specs.World.{Change, World}
 use Rattle.tdf_sim_notes.specs.Ending.{end_of, end_text}
 use Rattle.tdf_sim_notes.specs.declared.ending.End.{End}
 use Rattle.tdf_sim_notes.specs.declared.ending.End.TheVariants.{Reached}
-use Rattle.tdf_sim_refinement.specs.Pass.{AreAt}
+use Rattle.tdf_sim_instants.specs.Below.{AreAt}
 use Rattle.tdf_sim_runs.specs.Ending.{end_from, state_from}
 use Rattle.tdf_sim_runs.specs.declared.run.Ran.{Ran}
 use Rattle.tdf_trace.specs.Writings.{AboutSeen, rest_text}

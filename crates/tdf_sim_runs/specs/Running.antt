@@ -15,16 +15,14 @@ use Rattle.tdf_sim_history.specs.Telling.{world_told}
 use Rattle.tdf_sim_history.specs.Texts.{notes_to}
 use Rattle.tdf_sim_history.specs.World.{Change, World}
 use Rattle.tdf_io.specs.Bytes.{AppendsFront}
-use Rattle.tdf_sim_resumed.specs.Formats.{AreInFormatsTo}
+use Rattle.tdf_sim_shown.specs.Below.{AreInFormatsTo, IsShown, Shown}
 use Rattle.tdf_sim_runs.specs.Ongoing.{AreToldTo, IsOngoing}
 use Rattle.tdf_sim_runs.specs.declared.running.Running.{Running}
-use Rattle.tdf_sim_traces.specs.Shown.{IsShown}
-use Rattle.tdf_sim_traces.specs.declared.shown.Shown.{Shown}
 use Rattle.tdf_trace.specs.Writings.{AboutSeen, rows_text}
 use Rattle.tdf_lang_tree.specs.Pure.{PureTree}
 use Rattle.tdf_sim_history.specs.Rules.{rules_of}
 use Rattle.tdf_trace.specs.Tracked.{AreSince}
-use Rattle.tdf_exec.specs.Cluster.{ClusterOf}
+use Rattle.tdf_sim_instants.specs.Below.{ClusterOf}
 
 -- a run goes on before a time, its trace shows what it has done, its event signals had values of
 -- their formats, and the news are the plans that came

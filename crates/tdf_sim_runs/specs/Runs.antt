@@ -18,8 +18,8 @@ use Rattle.tdf_io.specs.Bytes.{AppendsFront}
 use Rattle.tdf_sim_notes.specs.Ending.{run_end, run_note, run_state}
 use Rattle.tdf_sim_notes.specs.declared.ending.End.TheVariants.{Reached}
 use Rattle.tdf_sim_notes.specs.Plans.{ArePrintable}
-use Rattle.tdf_sim_refinement.specs.Pass.{AreAt}
-use Rattle.tdf_sim_traces.specs.Variables.{variables_of}
+use Rattle.tdf_sim_instants.specs.Below.{AreAt}
+use Rattle.tdf_sim_shown.specs.Below.{variables_of}
 use Rattle.tdf_trace.specs.Writings.{AboutSeen, about_of, writing_of}
 use Rattle.tdf_lang_tree.specs.Pure.{PureTree}
 use Rattle.tdf_trace_rows.specs.declared.kinds.TraceKind.{TraceKind}

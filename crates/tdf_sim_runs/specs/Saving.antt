@@ -3,7 +3,7 @@
 use Rattle.std.specs.Prelude.{◌≡◌, ℕ, Bool, true, false, List, Some, slice_get}
 use Rattle.tdf_bind.specs.declared.model.Flat.{Flat}
 use Rattle.tdf_events.specs.Side.{SideOf}
-use Rattle.tdf_exec.specs.Cluster.{ClusterOf}
+use Rattle.tdf_sim_instants.specs.Below.{ClusterOf}
 use Rattle.tdf_lang_tree.specs.Pure.{PureTree}
 use Rattle.tdf_saved.specs.State.{SnapshotOf}
 use Rattle.tdf_sim_history.specs.Cells.{run_cells}
@@ -11,7 +11,7 @@ use Rattle.tdf_sim_history.specs.Rules.{rules_of}
 use Rattle.tdf_sim_history.specs.Telling.{world_told}
 use Rattle.tdf_sim_history.specs.World.{World}
 use Rattle.tdf_sim_instants.specs.InstantLaws.{IsModelOf}
-use Rattle.tdf_sim_resumed.specs.Snapshot.{IsRowsFrom, IsSnapshot}
+use Rattle.tdf_sim_shown.specs.Below.{IsRowsFrom, IsSnapshot}
 use Rattle.tdf_sim_runs.specs.Running.{IsRunningAt}
 use Rattle.tdf_sim_runs.specs.declared.running.Running.{Running}
 use Rattle.tdf_trace_rows.specs.declared.kinds.TraceKind.{TraceKind}

@@ -7,7 +7,7 @@ ghost use Rattle.tdf_sim_runs.specs.Ending.{WritesEnd};
 ghost use Rattle.tdf_trace.specs.declared.stage.Stage.TheVariants.{Open};
 
 use tdf_io::{Sink, SinkErr};
-use tdf_sim_traces::Shown;
+use tdf_sim_shown::Shown;
 
 /// Writes the other rows below the end, samples that are not there as unknown, and the tail.
 ///

@@ -6,9 +6,8 @@ ghost use Rattle.tdf_sim_runs.specs.Ongoing.{InstantLeadsOn, InstantSpends, Inst
 ghost use Rattle.tdf_sim_runs.specs.Running.{RunsToNext};
 ghost use Rattle.tdf_sim_runs.specs.Staying.{CellsStayBelow};
 
-use tdf_dynamic::law_one_answer;
 use tdf_exec_layout::law_one_port;
-use tdf_sim_instants::law_instant;
+use tdf_sim_instants::{law_instant, law_one_answer};
 
 /// The time at which something is next due in all that runs is the next time of the history.
 pub fn law_next()

@@ -7,7 +7,7 @@ ghost use Rattle.tdf_bind_tables.specs.Ranges.{AreInRange};
 
 use tdf_base::Memory;
 use tdf_bind::Flat;
-use tdf_exec::Cluster;
+use tdf_sim_instants::Cluster;
 use tdf_sim_notes::push_plan_at;
 
 /// Appends the plan of the cluster at a place, which begins at a time. A plan has a bound for each edge; no other is written.

@@ -31,7 +31,7 @@ ghost use Rattle.tdf_sim_history.specs.World.{Change, World};
 ghost use Rattle.tdf_sim_instants.specs.InstantLaws.{IsModelOf};
 ghost use Rattle.tdf_sim_runs.specs.Paused.{IsPaused, IsPausedAt, IsSnapshotOfRun};
 ghost use Rattle.tdf_sim_runs.specs.Saving.{is_vcd};
-ghost use Rattle.tdf_sim_resumed.specs.Snapshot.{IsSnapshot};
+ghost use Rattle.tdf_sim_shown.specs.Below.{IsSnapshot};
 ghost use Rattle.tdf_sim_runs.specs.Ongoing.{AreToldTo};
 ghost use Rattle.tdf_sim_runs.specs.Rest.{GoesOnAs};
 ghost use Rattle.tdf_sim_runs.specs.Running.{IsRunningAt};

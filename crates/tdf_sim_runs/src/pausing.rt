@@ -34,8 +34,8 @@ use crate::rest::{Until, close_run};
 use crate::standing::law_standing;
 use std::alloc::Global;
 use tdf_bind::Flat;
-use tdf_dynamic::law_one_answer;
 use tdf_io::{Sink, SinkErr, put_all};
+use tdf_sim_instants::law_one_answer;
 use tdf_sim_shown::rows_from;
 
 /// Writes the rows of a run up to the time from which on they are still to be written, and hands on its news.

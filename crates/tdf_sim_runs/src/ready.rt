@@ -1,6 +1,6 @@
 //! The clusters of a snapshot inside their periods, and whether a run can go on from its columns.
 
-use tdf_exec::Cluster;
+use tdf_sim_instants::Cluster;
 
 /// What stands by a snapshot.
 #[derive(Drop)]
@@ -21,17 +21,14 @@ ghost use Rattle.tdf_saved.specs.declared.err.StateErr.TheVariants as why;
 ghost use Rattle.tdf_sim_instants.specs.InstantLaws.{IsModelOf};
 ghost use Rattle.tdf_sim_runs.specs.Reopened.{CanReopen};
 ghost use Rattle.tdf_sim_runs.specs.machine.Standing.{IsStanding, clock_in};
-ghost use Rattle.tdf_sim_resumed.specs.Made.{AllGoOnFromStates};
-ghost use Rattle.tdf_sim_resumed.specs.Valid.{HasMembersOf, HasTimesOf, IsValid};
+ghost use Rattle.tdf_sim_shown.specs.Below.{AllGoOnFromStates, HasMembersOf, HasTimesOf, IsValid};
 ghost use Rattle.tdf_sim_shown.specs.Columns.{AreGoodColumns, WhereTheyStand, rows_among};
 
 use crate::starts::starts_of;
 use std::alloc::Global;
 use tdf_bind::Flat;
 use tdf_saved::{Snapshot, StateErr};
-use tdf_sim_resumed::{law_restored, restored_clusters};
-use tdf_sim_shown::valid_rows;
-use tdf_sim_traces::{Clock, law_can};
+use tdf_sim_shown::{Clock, law_can, law_restored, restored_clusters, valid_rows};
 
 /// The time from which rows are still to be written by a snapshot, with its clusters.
 fn rows_in(

@@ -35,8 +35,8 @@ use crate::run::Ran;
 use crate::running::Running;
 use std::alloc::Global;
 use tdf_bind::Flat;
-use tdf_dynamic::law_one_answer;
 use tdf_io::{Sink, SinkErr, put_all};
+use tdf_sim_instants::law_one_answer;
 use tdf_sim_notes::{End, write_closing};
 
 /// A run that ended, and the text of the last plans that its boundaries brought.

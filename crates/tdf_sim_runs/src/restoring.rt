@@ -8,11 +8,9 @@ ghost use Rattle.tdf_saved.specs.declared.err.StateErr.TheVariants as why;
 ghost use Rattle.tdf_sim_instants.specs.InstantLaws.{IsModelOf};
 ghost use Rattle.tdf_sim_runs.specs.Reopened.{CanReopen, kind_saved};
 ghost use Rattle.tdf_sim_runs.specs.machine.Standing.{IsStanding};
-ghost use Rattle.tdf_sim_resumed.specs.Starting.{resumed_world, rows_from_saved};
-ghost use Rattle.tdf_sim_resumed.specs.Valid.{ArePlansOf, HasMembersOf, HasTimesOf, IsValid};
+ghost use Rattle.tdf_sim_shown.specs.Below.{ArePlansOf, HasMembersOf, HasTimesOf, IsNotMade, IsValid, resumed_world, rows_from_saved};
 ghost use Rattle.tdf_sim_runs.specs.Running.{CanGoOn, IsRunningAt};
 ghost use Rattle.tdf_sim_runs.specs.Runs.{model_about};
-ghost use Rattle.tdf_sim_traces.specs.GoingOn.{IsNotMade};
 ghost use Rattle.tdf_trace.specs.declared.stage.Stage.TheVariants.{Open};
 
 use crate::ready::{Standing, stand};
@@ -22,9 +20,9 @@ use tdf_bind::Flat;
 use tdf_events::Kernel;
 use tdf_saved::{Snapshot, StateErr};
 use tdf_sim_instants::Engine;
-use tdf_sim_resumed::{law_restored, law_resumed};
-use tdf_sim_shown::{has_members, has_times, shown_from_columns};
-use tdf_sim_traces::{Clock, law_can};
+use tdf_sim_shown::{
+    Clock, has_members, has_times, law_can, law_restored, law_resumed, shown_from_columns,
+};
 use tdf_trace_rows::TraceKind;
 
 /// The kind of a trace.

@@ -1,7 +1,7 @@
 //! A whole run.
 
 use tdf_events::Kernel;
-use tdf_exec::Cluster;
+use tdf_sim_instants::Cluster;
 use tdf_sim_notes::End;
 use tdf_trace_rows::TraceKind;
 

@@ -1,7 +1,7 @@
 //! A run while it goes on.
 
 use tdf_sim_instants::Engine;
-use tdf_sim_traces::Shown;
+use tdf_sim_shown::Shown;
 
 /// A run while it goes on.
 #[derive(Drop)]

@@ -2,21 +2,19 @@
 
 ghost use Rattle.std.specs.Prelude.{◌≡◌, ◌<◌, ◌≤◌, ◌+◌, false, length, slice_get, IfOk, ℕ, Some};
 ghost use Rattle.tdf_bind_invariants.specs.Limits.{AreWithinLimits};
-ghost use Rattle.tdf_exec.specs.Cluster.{ClusterOf};
-ghost use Rattle.tdf_exec.specs.Saved.{cluster_state};
+ghost use Rattle.tdf_sim_instants.specs.Below.{ClusterOf, cluster_state};
 ghost use Rattle.tdf_sim_instants.specs.Engine.{IsEngineOf};
 ghost use Rattle.tdf_sim_runs.specs.Saving.{AreNotCrossed, IsSnapshotOf, is_vcd};
-ghost use Rattle.tdf_sim_resumed.specs.Laws.{AreToldStates};
+ghost use Rattle.tdf_sim_shown.specs.Below.{AreToldStates};
 ghost use Rattle.tdf_sim_runs.specs.Running.{CanGoOn};
 
 use crate::running::Running;
 use std::alloc::Global;
 use tdf_base::Memory;
 use tdf_bind::Flat;
-use tdf_exec::Cluster;
 use tdf_saved::{ClusterState, Snapshot};
-use tdf_sim_resumed::law_saved;
-use tdf_sim_shown::shown_columns;
+use tdf_sim_instants::Cluster;
+use tdf_sim_shown::{law_saved, shown_columns};
 use tdf_trace_rows::TraceKind;
 
 /// Whether a trace is a value change dump.

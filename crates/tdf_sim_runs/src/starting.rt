@@ -14,7 +14,7 @@ use tdf_base::Memory;
 use tdf_bind::Flat;
 use tdf_dynamic_first::First;
 use tdf_sim_instants::Engine;
-use tdf_sim_traces::{Shown, law_can};
+use tdf_sim_shown::{Shown, law_can};
 use tdf_trace_rows::TraceKind;
 
 /// A run before its first instant, whose trace has no head yet.

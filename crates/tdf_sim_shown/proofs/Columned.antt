@@ -7,7 +7,7 @@ use Rattle.tdf_bind_connections.specs.declared.traces.TraceRow.{TraceRow}
 use Rattle.tdf_lang_tree.specs.Pure.{PureTree}
 use Rattle.tdf_saved.specs.State.{ColumnStateOf, SnapshotOf}
 use Rattle.tdf_sim_history.specs.World.{ClusterAt}
-use Rattle.tdf_sim_refinement.specs.Pass.{AreAt}
+use Rattle.tdf_sim_resumed.specs.Below.{AreAt}
 use Rattle.tdf_sim_resumed.specs.Starting.{least_within, tracked_of}
 use Rattle.tdf_sim_resumed.specs.Valid.{IsValidColumn}
 use Rattle.tdf_sim_traces.specs.Periods.{ClockAt}

@@ -18,7 +18,7 @@ use Rattle.tdf_sim_history.specs.Columns.{ColumnStart, start_of}
 use Rattle.tdf_sim_history.specs.Instant.{periods_of}
 use Rattle.tdf_sim_history.specs.Rules.{rules_of}
 use Rattle.tdf_sim_history.specs.World.{ClusterAt, World}
-use Rattle.tdf_sim_refinement.specs.Samples.{sample_known}
+use Rattle.tdf_sim_resumed.specs.Below.{sample_known}
 use Rattle.tdf_sim_resumed.specs.Snapshot.{AreSavedColumns, IsRowsFrom, IsSavedColumn, later_numbers, later_of, number_of_sample, shown_until, stamp_of_cell, stamps_between}
 use Rattle.tdf_sim_resumed.specs.Starting.{Tracked, tracked_of, tracked_signal, tracked_port}
 use Rattle.tdf_sim_shown.proofs.Cells.{IsUnknown, cells, event_at, event_known, sample_here}

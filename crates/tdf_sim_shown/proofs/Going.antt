@@ -3,7 +3,7 @@ use Rattle.std.proofs.Common.{◌≡◌, ◌<◌, ◌+◌, ℕ, suc, List, None,
 use Rattle.std.proofs.lemmas.Option.{slice_get_within}
 use Rattle.tdf_bind.specs.declared.model.Flat.{Flat}
 use Rattle.tdf_bind_connections.specs.declared.drivers.SignalRow.{SignalRow}
-use Rattle.tdf_exec.specs.Cluster.{ClusterOf}
+use Rattle.tdf_sim_resumed.specs.Below.{ClusterOf}
 use Rattle.tdf_fixed.specs.declared.raw.Raw.{Raw}
 use Rattle.tdf_saved.specs.State.{ColumnStateOf}
 use Rattle.tdf_sim_history.specs.Cells.{driver_of_row}

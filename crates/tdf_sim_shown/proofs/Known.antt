@@ -5,13 +5,10 @@ use Rattle.std.specs.List.{count_by}
 use Rattle.tdf_bind.specs.declared.model.Flat.{Flat}
 use Rattle.tdf_bind_connections.specs.declared.modules.PortRow.{PortRow}
 use Rattle.tdf_dynamic_plans.specs.Rates.{port_rate}
-use Rattle.tdf_exec.specs.Cluster.{ClusterOf}
-use Rattle.tdf_exec.specs.Made.{IsClusterOf}
-use Rattle.tdf_exec.specs.Played.{turns_from}
-use Rattle.tdf_exec_parts.specs.States.{due_before}
+use Rattle.tdf_sim_resumed.specs.Below.{ClusterOf, IsClusterOf, due_before, turns_from}
 use Rattle.tdf_schedule.specs.Plan.{done}
 use Rattle.tdf_schedule.specs.declared.entry.Entry.{Entry}
-use Rattle.tdf_sim_refinement.proofs.Api.{done_none}
+use Rattle.tdf_sim_resumed.proofs.Api.{done_none}
 use Rattle.tdf_sim_traces.specs.Periods.{positions_in, row_rate}
 use Rattle.tdf_sim_traces.specs.declared.signals.TracedSignal.{TracedSignal}
 use Rattle.tdf_sim_shown.proofs.Front.{few_fired, fired_before}

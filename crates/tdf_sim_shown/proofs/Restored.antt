@@ -15,8 +15,7 @@ use Rattle.tdf_bind_invariants.specs.Limits.{AreWithinLimits}
 use Rattle.tdf_dynamic_first.specs.declared.first.First.{First}
 use Rattle.tdf_dynamic_plans.specs.Attributes.{clusters_of}
 use Rattle.tdf_events.specs.Side.{SideOf}
-use Rattle.tdf_exec.specs.Cluster.{ClusterOf}
-use Rattle.tdf_exec_layout.specs.Traced.{is_trace_of}
+use Rattle.tdf_sim_traces.specs.Below.{is_trace_of}
 use Rattle.tdf_fixed.specs.declared.raw.Raw.{Raw}
 use Rattle.tdf_lang_tree.specs.Pure.{PureTree}
 use Rattle.tdf_saved.specs.State.{ColumnStateOf, SnapshotOf}
@@ -31,9 +30,7 @@ use Rattle.tdf_sim_history.specs.Instant.{RunFault, acts_now, periods_of, run_in
 use Rattle.tdf_sim_history.specs.Rules.{rules_of}
 use Rattle.tdf_sim_history.specs.World.{ClusterAt, World}
 use Rattle.tdf_sim_history.specs.WorldLaws.{HoldsFirst}
-use Rattle.tdf_sim_refinement.specs.At.{IsAt}
-use Rattle.tdf_sim_refinement.specs.Pass.{AreAt}
-use Rattle.tdf_sim_refinement.specs.Samples.{AreSamplesOf}
+use Rattle.tdf_sim_resumed.specs.Below.{AreAt, AreSamplesOf, ClusterOf, IsAt}
 use Rattle.tdf_sim_resumed.proofs.Api.{ResumedAt, resumed_at, resumed_good, still}
 use Rattle.tdf_sim_resumed.specs.Laws.{IsGoodStart}
 use Rattle.tdf_sim_resumed.specs.Resuming.{resumed_clusters}

@@ -5,7 +5,7 @@ use Rattle.std.proofs.lemmas.Option.{slice_get_past, slice_get_within}
 use Rattle.tdf_bind.specs.declared.model.Flat.{Flat}
 use Rattle.tdf_bind_connections.specs.declared.traces.TraceRow.{TraceRow}
 use Rattle.tdf_events.specs.Side.{SideOf}
-use Rattle.tdf_exec_layout.specs.Traced.{is_trace_of}
+use Rattle.tdf_sim_traces.specs.Below.{is_trace_of}
 use Rattle.tdf_lang_tree.specs.Pure.{PureTree}
 use Rattle.tdf_sim_history.specs.Cells.{world_before}
 use Rattle.tdf_sim_history.specs.Rules.{rules_of}

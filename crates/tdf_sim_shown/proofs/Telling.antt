@@ -8,13 +8,12 @@ use Rattle.std.specs.Prelude.{IfSome}
 use Rattle.tdf_bind.specs.declared.model.Flat.{Flat}
 use Rattle.tdf_bind_connections.specs.declared.traces.TraceRow.{TraceRow}
 use Rattle.tdf_dynamic_plans.specs.Attributes.{clusters_of}
-use Rattle.tdf_exec.specs.Cluster.{ClusterOf}
 use Rattle.tdf_lang_tree.specs.Pure.{PureTree}
 use Rattle.tdf_saved.specs.State.{ColumnStateOf}
 use Rattle.tdf_schedule.specs.Plan.{done}
 use Rattle.tdf_sim_history.specs.Cells.{driver_of_row}
 use Rattle.tdf_sim_history.specs.World.{ClusterAt}
-use Rattle.tdf_sim_refinement.specs.At.{IsAt}
+use Rattle.tdf_sim_resumed.specs.Below.{ClusterOf, IsAt}
 use Rattle.tdf_sim_resumed.specs.Starting.{Tracked, first_unknown, known_count, least_within, tracked_of, tracked_port, tracked_signal}
 use Rattle.tdf_sim_resumed.specs.Valid.{IsValidTracked}
 use Rattle.tdf_sim_traces.proofs.Api.{span_is}

@@ -4,12 +4,10 @@ use Rattle.std.specs.Prelude.{◌≡◌, ◌<◌, ℕ, List, Some, map, slice_ge
 use Rattle.tdf_base.specs.Limits.{time_end}
 use Rattle.tdf_bind.specs.declared.model.Flat.{Flat}
 use Rattle.tdf_bind_connections.specs.declared.traces.TraceRow.{TraceRow}
-use Rattle.tdf_exec.specs.Cluster.{ClusterOf}
-use Rattle.tdf_exec_parts.specs.States.{due_before}
 use Rattle.tdf_lang_tree.specs.Pure.{PureTree}
 use Rattle.tdf_saved.specs.State.{ColumnStateOf, SnapshotOf}
 use Rattle.tdf_sim_history.specs.World.{ClusterAt}
-use Rattle.tdf_sim_refinement.specs.Pass.{AreAt}
+use Rattle.tdf_sim_resumed.specs.Below.{AreAt, ClusterOf, due_before}
 use Rattle.tdf_sim_resumed.specs.Starting.{first_unknown, least_within, tracked_of}
 use Rattle.tdf_sim_resumed.specs.Valid.{AreAlikeColumns, IsValidColumn}
 use Rattle.tdf_sim_shown.specs.Resumed.{CanGoOnFrom}

@@ -1,3 +1,4 @@
+pub mod Below
 pub mod Columns
 pub mod Resumed
 pub mod Saved

@@ -8,11 +8,10 @@ use Rattle.tdf_bind_connections.specs.declared.traces.TraceRow.{TraceRow}
 use Rattle.tdf_bind_invariants.specs.Limits.{AreWithinLimits}
 use Rattle.tdf_dynamic_first.specs.declared.first.First.{First}
 use Rattle.tdf_events.specs.State.{resumed_side}
-use Rattle.tdf_exec.specs.Cluster.{ClusterOf}
 use Rattle.tdf_fixed.specs.declared.raw.Raw.{Raw}
 use Rattle.tdf_lang_tree.specs.Pure.{PureTree}
 use Rattle.tdf_saved.specs.State.{ColumnStateOf, SnapshotOf}
-use Rattle.tdf_sim_refinement.specs.Pass.{AreAt}
+use Rattle.tdf_sim_resumed.specs.Below.{AreAt, ClusterOf}
 use Rattle.tdf_sim_resumed.specs.Resuming.{resumed_clusters}
 use Rattle.tdf_sim_resumed.specs.Starting.{resumed_world, rows_from_saved}
 use Rattle.tdf_sim_resumed.specs.Valid.{IsValid}

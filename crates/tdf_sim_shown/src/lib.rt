@@ -23,3 +23,5 @@ pub use judging::valid_rows;
 pub use members::{has_members, has_times};
 pub use resumed::{positions_before, shown_from_columns};
 pub use saved::{rows_from, shown_columns};
+pub use tdf_sim_resumed::{law_restored, law_resumed, law_saved, restored_clusters};
+pub use tdf_sim_traces::{Clock, Shown, law_can};

@@ -4,7 +4,7 @@ ghost use Rattle.std.specs.List.{count_by};
 ghost use Rattle.std.specs.Prelude.{◌≡◌, ◌<◌, ◌+◌, ◌*◌, ◌&&◌, IfOk, IfSome, length, nat_eq, nat_lt};
 ghost use Rattle.tdf_base.specs.Limits.{time_end};
 ghost use Rattle.tdf_bind_invariants.specs.Limits.{AreWithinLimits};
-ghost use Rattle.tdf_exec_parts.specs.States.{due_before};
+ghost use Rattle.tdf_sim_resumed.specs.Below.{due_before};
 ghost use Rattle.tdf_sim_traces.specs.Periods.{CanBegin, clock_of, positions_in};
 ghost use Rattle.tdf_sim_shown.specs.Columns.{CanTellColumns};
 ghost use Rattle.tdf_sim_shown.specs.machine.Windows.{AreWindowsOf, HasRoom, HaveRoom, IsWindowAt, window_in};
@@ -12,8 +12,8 @@ ghost use Rattle.tdf_sim_shown.specs.machine.Windows.{AreWindowsOf, HasRoom, Hav
 use std::alloc::Global;
 use tdf_base::Memory;
 use tdf_bind::Flat;
-use tdf_exec::Cluster;
 use tdf_schedule::Entry;
+use tdf_sim_resumed::Cluster;
 use tdf_sim_traces::{Clock, TracedSignal, positions, traced_at};
 use tdf_trace_states::Window;
 

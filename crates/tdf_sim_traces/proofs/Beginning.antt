@@ -5,7 +5,7 @@ use Rattle.tdf_bind_tables.specs.FlatTables.{FlatTablesOf}
 use Rattle.tdf_trace.proofs.Api.{started_back}
 use Rattle.tdf_trace.specs.Calls.{HasNoneLeft, HasStarted, TakesPeriod, with_span}
 use Rattle.tdf_trace.specs.Tracked.{AreSince, TrackedOf, TrackingOf}
-use Rattle.tdf_exec.specs.Cluster.{ClusterOf}
+use Rattle.tdf_sim_refinement.specs.Below.{ClusterOf}
 use Rattle.tdf_streams.proofs.Api.{none_some, some_same}
 use Rattle.tdf_trace.specs.Tracks.{IsChain}
 use Rattle.tdf_trace_rows.specs.Positions.{Span}

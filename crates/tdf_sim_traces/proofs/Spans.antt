@@ -8,8 +8,7 @@ use Rattle.std.proofs.lemmas.Option.{get_or_from_slice_get, slice_get_within}
 use Rattle.std.specs.List.{sum_by}
 use Rattle.std.specs.Prelude.{All}
 use Rattle.tdf_base.specs.Limits.{time_end}
-use Rattle.tdf_exec.specs.Cluster.{ClusterOf}
-use Rattle.tdf_exec.specs.Played.{turns_from}
+use Rattle.tdf_sim_refinement.specs.Below.{ClusterOf, turns_from}
 use Rattle.tdf_bind.specs.declared.model.Flat.{Flat}
 use Rattle.tdf_streams.proofs.Api.{get_low, steps_whole}
 use Rattle.tdf_sim_history.specs.Cells.{column_spans, samples_done, spans_from}

@@ -49,7 +49,7 @@ use Rattle.tdf_sim_history.specs.Columns.{ColumnStart, held_by, no_start, spans_
 use Rattle.tdf_sim_history.specs.WorldLaws.{HoldsFirst}
 use Rattle.tdf_sim_history.proofs.Api.{last_record}
 use Rattle.tdf_trace.specs.Tracks.{IsChain}
-use Rattle.tdf_exec.specs.Cluster.{ClusterOf}
+use Rattle.tdf_sim_refinement.specs.Below.{ClusterOf}
 
 -- a cluster at the start
 first_from : (model : PureTree) (flat : Flat) (k : ℕ) (firsts : List First) (n : ℕ) (h : ClusterAt) → slice_get (map (λ (first : ℕ × First). first_cluster model flat (first.0 + 1) first.1 []) (enumerate_from k firsts)) n ≡ Some h

@@ -6,7 +6,7 @@ use Rattle.tdf_trace.specs.Calls.{Holds, TakesSamples, with_traced}
 use Rattle.tdf_trace.specs.Tracked.{AreSince, TrackedOf, TrackingOf, labels, sinces, AreLater}
 use Rattle.tdf_convert.specs.declared.outputs.Traced.{Traced}
 use Rattle.tdf_events.specs.Side.{SideOf}
-use Rattle.tdf_exec.specs.Cluster.{ClusterOf}
+use Rattle.tdf_sim_refinement.specs.Below.{ClusterOf}
 use Rattle.tdf_fixed.specs.declared.raw.Raw.{Raw}
 use Rattle.tdf_bind.specs.declared.model.Flat.{Flat}
 use Rattle.tdf_streams.proofs.Api.{get_inside, some_same}

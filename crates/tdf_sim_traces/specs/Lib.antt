@@ -1,4 +1,5 @@
 pub mod Advanced
+pub mod Below
 pub mod Calls
 pub mod Events
 pub mod GoingOn

@@ -6,9 +6,7 @@ use Rattle.tdf_trace.specs.Calls.{HasNoneLeft}
 use Rattle.tdf_trace.specs.Tracked.{TrackedOf}
 use Rattle.tdf_dynamic_plans.specs.Attributes.{AttrsOf}
 use Rattle.tdf_dynamic_plans.specs.Rates.{port_rate}
-use Rattle.tdf_exec.specs.Cluster.{ClusterOf}
-use Rattle.tdf_exec.specs.Made.{IsClusterOf}
-use Rattle.tdf_exec.specs.Played.{turns_from}
+use Rattle.tdf_sim_refinement.specs.Below.{ClusterOf, IsClusterOf, turns_from}
 use Rattle.tdf_bind.specs.declared.model.Flat.{Flat}
 use Rattle.tdf_bind_invariants.specs.Limits.{AreWithinLimits}
 use Rattle.tdf_trace_rows.specs.Positions.{Span, span_of}

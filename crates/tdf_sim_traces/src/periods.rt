@@ -1,6 +1,6 @@
 //! The periods of traced signals that begin.
 
-use tdf_exec::Cluster;
+use tdf_sim_refinement::Cluster;
 
 /// What goes by time in a run: the time, the start of the period of each cluster, and the clusters, in order of number.
 #[derive(Drop)]
@@ -15,7 +15,7 @@ pub struct Clock<'a> {
 
 ghost use Rattle.std.specs.Prelude.{◌≡◌, ◌<◌, ◌≤◌, ◌^◌, length, OnOk};
 ghost use Rattle.tdf_trace.specs.Calls.{HasNoneLeft, HasStarted, TakesPeriod};
-ghost use Rattle.tdf_exec.specs.Made.{IsClusterOf};
+ghost use Rattle.tdf_sim_refinement.specs.Below.{IsClusterOf};
 ghost use Rattle.tdf_bind_invariants.specs.Limits.{AreWithinLimits};
 ghost use Rattle.tdf_sim_traces.specs.Periods.{CanBegin, CanBeginAll, clock_of, positions_in, span_in};
 ghost use Rattle.tdf_sim_traces.specs.machine.Beginning.{HasBegun, IsBeginning};

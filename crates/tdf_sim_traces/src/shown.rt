@@ -20,7 +20,7 @@ pub struct Shown {
 ghost use Rattle.std.specs.Prelude.{◌≡◌, ◌≤◌, Err, length, IfOk, OnOk};
 ghost use Rattle.tdf_trace.specs.Tracked.{AreSince};
 ghost use Rattle.tdf_events.specs.Runnable.{IsRunnable};
-ghost use Rattle.tdf_exec.specs.Starts.{IsSoundFlat};
+ghost use Rattle.tdf_sim_refinement.specs.Below.{IsSoundFlat};
 ghost use Rattle.tdf_sim_traces.specs.Calls.{CanBeShown, CanStart, CanTake, IsUnshown, ShowsEnd, ShowsInstant, StartsShowing};
 ghost use Rattle.tdf_sim_traces.specs.GoingOn.{GoesOnFromStates, HaveValues, IsNotMade};
 ghost use Rattle.tdf_sim_traces.specs.Periods.{clock_at, clock_of};
@@ -35,9 +35,9 @@ use std::alloc::Global;
 use tdf_base::{Memory, row_number};
 use tdf_bind::Flat;
 use tdf_convert::Traced;
-use tdf_exec::Cluster;
 use tdf_fixed::Raw;
 use tdf_saved::{ColumnState, StateErr};
+use tdf_sim_refinement::Cluster;
 use tdf_trace_rows::TraceKind;
 
 impl Shown {

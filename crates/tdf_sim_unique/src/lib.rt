@@ -11,3 +11,4 @@ mod part_laws;
 
 pub use laws::{law_alike, law_answers};
 pub use part_laws::{law_alike_parts, law_answered_parts, law_one_part, law_one_rest};
+pub use tdf_save_members::{law_members, members_of};

@@ -7,7 +7,7 @@ use Rattle.std.specs.Prelude.{All, cond, count_by}
 use Rattle.tdf_dynamic_first.proofs.Api.{net_fit}
 use Rattle.tdf_dynamic_plans.specs.Attributes.{clusters_of}
 use Rattle.tdf_fixed.specs.declared.raw.Raw.{Raw}
-use Rattle.tdf_bind.specs.declared.model.Flat.{Flat}
+use Rattle.tdf_bind_invariants.specs.Below.{Flat}
 use Rattle.tdf_streams.proofs.Lists.{some_same}
 use Rattle.tdf_streams.specs.Firing.{IsPresent}
 use Rattle.tdf_streams.specs.Stands.{Stands}

@@ -1,4 +1,5 @@
 -- The lemmas that other crates may use.
+pub use Rattle.tdf_dynamic_first.proofs.Api.{net_clusters, net_fit}
 pub use Rattle.tdf_streams.proofs.Along.{bound_at, done_next, entry_active, list_along, list_within, plan_present, present_at, record_present, room_at}
 pub use Rattle.tdf_streams.proofs.Carried.{begin_as_read, driven_is, edges_carry, outputs_are}
 pub use Rattle.tdf_streams.proofs.Edges.{are_rates, is_plannable, is_wired, one_cluster}

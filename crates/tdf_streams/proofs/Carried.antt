@@ -25,8 +25,7 @@ use Rattle.tdf_streams.specs.Laws.{ClusterNet}
 use Rattle.tdf_streams.specs.Places.{driver_or, source_at, source_of_row, writer_at, writer_of_row}
 use Rattle.tdf_dynamic_plans.specs.Attributes.{AttrsOf, clusters_of}
 use Rattle.tdf_dynamic_plans.specs.Rates.{edge_kind, kind_of_port, net_ports, rated_port, write_rate_by}
-use Rattle.tdf_bind.specs.Flat.{IsFlatOf}
-use Rattle.tdf_bind.specs.declared.model.Flat.{Flat}
+use Rattle.tdf_bind_invariants.specs.Below.{Flat, IsFlatOf}
 use Rattle.tdf_bind_invariants.specs.Limits.{AreWithinLimits}
 use Rattle.tdf_timestep.specs.Period.{port_rate_or_one, rate_at_port}
 use Rattle.tdf_lang_tree.specs.Pure.{PureTree}

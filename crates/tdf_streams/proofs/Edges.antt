@@ -9,7 +9,7 @@ use Rattle.tdf_dynamic_first.proofs.Api.{net_fit}
 use Rattle.tdf_dynamic_plans.specs.Attributes.{AttrsOf, attrs_at, clusters_of}
 use Rattle.tdf_dynamic_first.specs.First.{IsPlannable}
 use Rattle.tdf_dynamic_plans.specs.Rates.{AreRates, IsWired, net_of, net_ports, rate_by, rated_edge}
-use Rattle.tdf_bind.specs.declared.model.Flat.{Flat}
+use Rattle.tdf_bind_invariants.specs.Below.{Flat}
 use Rattle.tdf_streams.proofs.Lists.{get_inside}
 use Rattle.tdf_graph.specs.Clusters.{goes, stays}
 use Rattle.tdf_graph.specs.Ranges.{IsEdge, IsRate}

@@ -1,7 +1,7 @@
 -- A firing is grounded in the net of a cluster exactly where it is grounded among the edges of the model, whatever its pace.
 use Rattle.std.proofs.Common.{◌≡◌, ◌∙◌, ℕ, zero, suc, ◌+◌, ◌-◌, ◌*◌, ◌/◌, ◌<◌, ◌≤◌, Some, List, length, slice_get, slice_index, ap, sym, subst, inl, inr, arith}
 use Rattle.tdf_dynamic_plans.specs.Attributes.{clusters_of}
-use Rattle.tdf_bind.specs.declared.model.Flat.{Flat}
+use Rattle.tdf_bind_invariants.specs.Below.{Flat}
 use Rattle.tdf_streams.proofs.Lists.{some_same}
 use Rattle.tdf_streams.specs.Grounds.{EndsIn, IsGrounded, Takes}
 use Rattle.tdf_graph.specs.declared.actors.Edge.{Edge}

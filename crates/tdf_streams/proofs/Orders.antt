@@ -1,6 +1,6 @@
 -- Orders in which the firings of a period are played.
 use Rattle.std.proofs.Common.{◌≡◌, ◌∙◌, ℕ, suc, ◌+◌, ◌*◌, ◌<◌, List, [], ◌∷◌, length, slice_index, slice_index_or, ap, inl, inr, arith}
-use Rattle.tdf_bind.specs.declared.model.Flat.{Flat}
+use Rattle.tdf_bind_invariants.specs.Below.{Flat}
 use Rattle.tdf_streams.proofs.Playing.{any_order, order_keeps, played_turns}
 use Rattle.tdf_streams.proofs.Firing.{fired_turn}
 use Rattle.tdf_streams.proofs.Plays.{order_plays}

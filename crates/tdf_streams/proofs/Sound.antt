@@ -4,7 +4,7 @@ use Rattle.std.proofs.lemmas.Bool.{cases_eq, eqb-true}
 use Rattle.std.proofs.lemmas.List.{length-map}
 use Rattle.tdf_bind_tables.specs.Actors.{cluster_of}
 use Rattle.tdf_dynamic_plans.specs.Attributes.{clusters_of}
-use Rattle.tdf_bind.specs.declared.model.Flat.{Flat}
+use Rattle.tdf_bind_invariants.specs.Below.{Flat}
 use Rattle.tdf_streams.proofs.Values.{all_are_known}
 use Rattle.tdf_streams.proofs.Fed.{fed_are_known}
 use Rattle.tdf_streams.proofs.Known.{known_more}

@@ -7,8 +7,7 @@ use Rattle.std.specs.List.{AllByRecursion, cons_option, enumerate_from}
 use Rattle.std.specs.Prelude.{All, IfSome, filter_map}
 use Rattle.tdf_bind_tables.specs.FlatTables.{FlatTablesOf}
 use Rattle.tdf_dynamic_plans.specs.Attributes.{AttrsOf}
-use Rattle.tdf_bind.specs.Flat.{IsFlatOf}
-use Rattle.tdf_bind.specs.declared.model.Flat.{Flat}
+use Rattle.tdf_bind_invariants.specs.Below.{Flat, IsFlatOf}
 use Rattle.tdf_streams.proofs.Lists.{get_inside}
 use Rattle.tdf_streams.proofs.Steps.{none_some}
 use Rattle.tdf_streams.proofs.Rows.{all_at}

@@ -12,7 +12,7 @@ use Rattle.tdf_bind_tables.specs.Actors.{cluster_of}
 use Rattle.tdf_dynamic_plans.proofs.Api.{assigned_fit, modules_few}
 use Rattle.tdf_dynamic_plans.specs.Assignments.{assignments}
 use Rattle.tdf_dynamic_plans.specs.Rates.{net_of, net_ports, port_rate, rated_port}
-use Rattle.tdf_bind.specs.declared.model.Flat.{Flat}
+use Rattle.tdf_bind_invariants.specs.Below.{Flat}
 use Rattle.tdf_streams.proofs.Lists.{get_inside, some_same}
 use Rattle.tdf_streams.proofs.Steps.{none_some}
 use Rattle.tdf_streams.specs.Streams.{Spot, find, spot}

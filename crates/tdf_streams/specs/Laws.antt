@@ -7,8 +7,7 @@ use Rattle.tdf_dynamic_first.specs.First.{IsFirstPlan}
 use Rattle.tdf_dynamic_plans.specs.Rates.{net_of}
 use Rattle.tdf_dynamic_first.specs.declared.first.First.{First}
 use Rattle.tdf_fixed.specs.declared.raw.Raw.{Raw}
-use Rattle.tdf_bind.specs.Flat.{IsFlatOf}
-use Rattle.tdf_bind.specs.declared.model.Flat.{Flat}
+use Rattle.tdf_bind_invariants.specs.Below.{Flat, IsFlatOf}
 use Rattle.tdf_streams.specs.Fed.{IsFed}
 use Rattle.tdf_streams.specs.Firing.{Flows, IsNextTurn, IsPresent}
 use Rattle.tdf_streams.specs.Grounds.{AreGiven, firings}

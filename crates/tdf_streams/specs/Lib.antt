@@ -1,3 +1,4 @@
+pub mod Below
 pub mod Bodies
 pub mod Carried
 pub mod Cluster

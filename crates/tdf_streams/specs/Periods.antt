@@ -5,7 +5,7 @@ use Rattle.tdf_bind_tables.specs.FlatTables.{FlatTablesOf}
 use Rattle.tdf_dynamic_plans.specs.Assignments.{assignments}
 use Rattle.tdf_dynamic_plans.specs.Attributes.{AttrsOf, IsOfCluster, clusters_of}
 use Rattle.tdf_dynamic_plans.specs.Rates.{NetOf, net_of}
-use Rattle.tdf_bind.specs.declared.model.Flat.{Flat}
+use Rattle.tdf_bind_invariants.specs.Below.{Flat}
 use Rattle.tdf_streams.specs.Net.{Period}
 use Rattle.tdf_graph.specs.Counts.{AreCounts}
 use Rattle.tdf_graph.specs.declared.actors.Edge.{Edge}

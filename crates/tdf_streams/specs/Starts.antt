@@ -2,7 +2,7 @@
 -- Source: own.
 use Rattle.std.specs.Prelude.{◌≡◌, ◌<◌, ◌+◌, ◌*◌, ℕ, List, [], ◌∷◌, Option, Some, None, length, if◌then◌else◌, slice_get, slice_index, slice_index_or, All}
 use Rattle.tdf_bind_tables.specs.FlatTables.{FlatTablesOf}
-use Rattle.tdf_bind.specs.declared.model.Flat.{Flat}
+use Rattle.tdf_bind_invariants.specs.Below.{Flat}
 use Rattle.tdf_streams.specs.Cluster.{Start}
 use Rattle.tdf_streams.specs.Periods.{PeriodRecord, IsPeriodRecord, IsWholeRecord, done_before}
 use Rattle.tdf_streams.specs.Places.{is_own, reader_at, writer_at}

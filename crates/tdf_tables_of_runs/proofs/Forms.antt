@@ -16,8 +16,7 @@ use Rattle.tdf_lang_tree.specs.Kept.{Each, KeepsTrace}
 use Rattle.tdf_lang_tree.specs.Pure.{PureTrace, PureTree}
 use Rattle.tdf_lang_tree.specs.declared.blocks.Member.{Member}
 use Rattle.tdf_lang_tree.specs.declared.blocks.Member.TheVariants as member
-use Rattle.tdf_sim.specs.Runs.{IsAcceptedTree}
-use Rattle.tdf_sim.specs.declared.sim.Sim.{Sim}
+use Rattle.tdf_cli.specs.Below.{IsAcceptedTree, Sim}
 use Rattle.tdf_sim_history.specs.Instant.{engine}
 use Rattle.tdf_sim_history.specs.Rules.{rules_of, start_world}
 use Rattle.tdf_sim_history.specs.World.{Change}

@@ -16,7 +16,7 @@ use Rattle.tdf_lang_tree.specs.Pure.{PureTree}
 use Rattle.tdf_sampling.specs.Choice.{chosen_table, is_too_fine}
 use Rattle.tdf_sampling.specs.Statistics.{stats_text}
 use Rattle.tdf_sampling.specs.declared.asked.Choice.{Choice}
-use Rattle.tdf_sim.specs.Ends.{trace_of}
+use Rattle.tdf_cli.specs.Below.{trace_of}
 use Rattle.tdf_tables.specs.Laws.{TableIsOne, TableOrFault}
 use Rattle.tdf_tables.specs.Tables.{SpellsTable, TableOf, table_text}
 use Rattle.tdf_tables_of_runs.specs.Laws.{AnswersSample, AnswersStats, IsReadAsItsTable, IsTableOfRun, IsTableOfTrace, MeasuresItsTable, SamplesItsTable}

@@ -19,10 +19,7 @@ use Rattle.tdf_lang_tree.specs.Pure.{PureTree}
 use Rattle.tdf_sampling.specs.Choice.{chosen_table, is_too_fine}
 use Rattle.tdf_sampling.specs.Statistics.{stats_text}
 use Rattle.tdf_sampling.specs.declared.asked.Choice.{Choice}
-use Rattle.tdf_sim.specs.Accepted.{IsAccepted}
-use Rattle.tdf_sim.specs.Ends.{HaveAnswers, trace_of}
-use Rattle.tdf_sim.specs.Runs.{IsAcceptedTree}
-use Rattle.tdf_sim.specs.declared.sim.Sim.{Sim}
+use Rattle.tdf_cli.specs.Below.{HaveAnswers, IsAccepted, IsAcceptedTree, Sim, trace_of}
 use Rattle.tdf_sim_history.specs.World.{Change}
 use Rattle.tdf_tables.specs.Tables.{SpellsTable, TableOf, table_text}
 use Rattle.tdf_tables_of_runs.specs.RunTables.{run_end_time, run_table, run_trace_cells}

@@ -3,7 +3,7 @@ use Rattle.std.specs.BTreeMap.{insert_entry}
 use Rattle.std.specs.Ordering.{nat_cmp}
 use Rattle.std.specs.Prelude.{ℕ, List, [], ◌∷◌, Option, Some, None, slice_index_or, slice_set}
 use Rattle.tdf_fixed.specs.declared.raw.Raw.{Raw}
-use Rattle.tdf_expr_semantics.specs.Value.{literal_in}
+use Rattle.tdf_expr_compiler.specs.Below.{literal_in}
 use Rattle.tdf_expr_symbols.specs.Names.{Names, Thing, Port, place_of, thing_of}
 use Rattle.tdf_lang_tree.specs.declared.blocks.Attr.{Attr}
 use Rattle.tdf_lang_tree.specs.declared.blocks.Attr.TheVariants as attr

@@ -6,14 +6,12 @@ use Rattle.tdf_dynamic_first.specs.declared.first.First.{First}
 use Rattle.tdf_lang_tree.specs.Pure.{PureTree}
 use Rattle.tdf_save.specs.Members.{IsSnapshotFor}
 use Rattle.tdf_save.specs.Start.{IsTextStart}
-use Rattle.tdf_save_members.specs.OfFlat.{members_of}
+use Rattle.tdf_sim_unique.specs.Below.{members_of}
 use Rattle.tdf_save_reading.specs.Reading.{IsSavedText}
 use Rattle.tdf_saved.specs.State.{SnapshotOf}
-use Rattle.tdf_sim_instants.specs.InstantLaws.{IsModelOf}
+use Rattle.tdf_sim_runs.specs.Below.{IsModelOf, IsValid, resumed_world, rows_from_saved}
 use Rattle.tdf_sim_runs.specs.declared.paused.Paused.{Paused}
 use Rattle.tdf_sim_runs.specs.Reopened.{kind_saved}
-use Rattle.tdf_sim_resumed.specs.Starting.{resumed_world, rows_from_saved}
-use Rattle.tdf_sim_resumed.specs.Valid.{IsValid}
 use Rattle.tdf_sim_runs.specs.Running.{IsRunningAt}
 
 -- the text of the model that the bytes hold

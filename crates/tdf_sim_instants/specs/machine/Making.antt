@@ -5,9 +5,7 @@ use Rattle.tdf_bind_tables.specs.FlatTables.{FlatTablesOf}
 use Rattle.tdf_convert.specs.Links.{samplers_in}
 use Rattle.tdf_convert.specs.declared.links.Links.{Links}
 use Rattle.tdf_sim_instants.specs.Engine.{HaveRooms}
-use Rattle.tdf_exec.specs.Cluster.{ClusterOf}
-use Rattle.tdf_exec.specs.Gained.{sent_size, traced_size}
-use Rattle.tdf_exec.specs.declared.telling.Room.{Room}
+use Rattle.tdf_sim_refinement.specs.Below.{ClusterOf, Room, sent_size, traced_size}
 use Rattle.tdf_fixed.specs.declared.raw.Raw.{Raw}
 use Rattle.tdf_sim_refinement.specs.Linked.{AreSamplerLinks}
 

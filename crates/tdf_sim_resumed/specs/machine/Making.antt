@@ -2,7 +2,7 @@
 -- Source: own.
 use Rattle.std.specs.Prelude.{◌≡◌, ◌+◌, ℕ, List, Some, length, slice_get}
 use Rattle.tdf_bind.specs.declared.model.Flat.{Flat}
-use Rattle.tdf_exec.specs.Cluster.{ClusterOf}
+use Rattle.tdf_sim_refinement.specs.Below.{ClusterOf}
 use Rattle.tdf_saved.specs.State.{ClusterStateOf}
 use Rattle.tdf_sim_resumed.specs.Made.{GoesOnFromState}
 

@@ -14,8 +14,7 @@ use Rattle.tdf_sim_notes.specs.Ending.{end_text}
 use Rattle.tdf_sim_runs.specs.Ending.{end_by}
 use Rattle.tdf_sim_runs.specs.declared.going.Ended.{Ended}
 use Rattle.tdf_sim_runs.specs.declared.running.Running.{Running}
-use Rattle.tdf_sim_traces.specs.Shown.{IsShown}
-use Rattle.tdf_sim_traces.specs.declared.shown.Shown.{Shown}
+use Rattle.tdf_sim_shown.specs.Below.{IsShown, Shown}
 use Rattle.tdf_trace.specs.Writings.{rest_text}
 
 -- so it is with the other rows below an end and the tail, whatever model and start what is shown is

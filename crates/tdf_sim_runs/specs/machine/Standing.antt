@@ -2,11 +2,10 @@
 -- Source: own.
 use Rattle.std.specs.Prelude.{◌≡◌, ℕ, List, map}
 use Rattle.tdf_bind.specs.declared.model.Flat.{Flat}
-use Rattle.tdf_exec.specs.Cluster.{ClusterOf}
+use Rattle.tdf_sim_instants.specs.Below.{ClusterOf}
 use Rattle.tdf_saved.specs.State.{ClusterStateOf, SnapshotOf}
 use Rattle.tdf_sim_runs.specs.declared.ready.Standing.{Standing}
-use Rattle.tdf_sim_resumed.specs.Made.{AllGoOnFromStates}
-use Rattle.tdf_sim_traces.specs.Periods.{ClockAt, clock_at}
+use Rattle.tdf_sim_shown.specs.Below.{AllGoOnFromStates, ClockAt, clock_at}
 use Rattle.tdf_sim_shown.specs.Columns.{AreGoodColumns, WhereTheyStand, rows_among}
 
 abbrev pub clock_in : SnapshotOf → (since : List ℕ) → List ClusterOf → ClockAt

@@ -5,12 +5,11 @@ use Rattle.tdf_bind.specs.declared.model.Flat.{Flat}
 use Rattle.tdf_bind_connections.specs.declared.modules.PortRow.{PortRow}
 use Rattle.tdf_bind_connections.specs.declared.traces.TraceRow.{TraceRow}
 use Rattle.tdf_bind_tables.specs.FlatTables.{FlatTablesOf}
-use Rattle.tdf_exec.specs.Cluster.{ClusterOf}
 use Rattle.tdf_lang_tree.specs.Pure.{PureTree}
 use Rattle.tdf_saved.specs.State.{ColumnStateOf}
 use Rattle.tdf_schedule.specs.Plan.{done}
 use Rattle.tdf_sim_history.specs.World.{ClusterAt}
-use Rattle.tdf_sim_refinement.specs.Pass.{AreAt}
+use Rattle.tdf_sim_resumed.specs.Below.{AreAt, ClusterOf}
 use Rattle.tdf_sim_resumed.specs.Starting.{Tracked, known_count, position_count, tracked_of}
 use Rattle.tdf_sim_resumed.specs.Valid.{IsValidEvents, IsValidNothing}
 use Rattle.tdf_sim_shown.specs.Resumed.{skipped_in}

@@ -4,7 +4,7 @@ use Rattle.std.specs.Prelude.{◌≡◌, ◌<◌, ◌≤◌, ℕ, true, List, []
 use Rattle.tdf_bind_tables.specs.FlatTables.{FlatTablesOf}
 use Rattle.tdf_trace.specs.Calls.{HasNoneLeft, Holds}
 use Rattle.tdf_trace.specs.Tracked.{TrackedOf, TrackingOf, labels}
-use Rattle.tdf_exec.specs.Cluster.{ClusterOf}
+use Rattle.tdf_sim_refinement.specs.Below.{ClusterOf}
 use Rattle.tdf_fixed.specs.declared.raw.Raw.{Raw}
 use Rattle.tdf_trace.specs.Tracks.{IsChain}
 use Rattle.tdf_trace_rows.specs.Positions.{Span}

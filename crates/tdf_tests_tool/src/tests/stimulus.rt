@@ -5,9 +5,9 @@ ghost use Rattle.tdf_base.specs.Limits.{longest_text};
 ghost use Rattle.tdf_tables.specs.Tables.{longest_table};
 
 use std::alloc::Global;
+use tdf_cli::check_tree;
 use tdf_lang_parser::parse;
 use tdf_lang_printer::push_tree;
-use tdf_sim::check_tree;
 use tdf_stim::drive;
 use tdf_tables::read_table;
 

@@ -1,6 +1,6 @@
 use Rattle.std.proofs.Common.{◌≡◌, ◌<◌, ℕ, length}
 use Rattle.std.specs.Prelude.{slice_index}
-use Rattle.tdf_expr_semantics.specs.Places.{before, rates_of, rate_number}
+use Rattle.tdf_expr_compiler.specs.Below.{before, rate_number, rates_of}
 use Rattle.tdf_bind_attributes.proofs.rates.rate_numbers.Given as goal
 
 abbrev pub invariant-loop-place : goal.invariant-loop-place

@@ -6,7 +6,7 @@ use Rattle.tdf_dynamic.specs.Next.{IsNext}
 use Rattle.tdf_dynamic_plans.specs.Faults.{IsRefusal}
 use Rattle.tdf_dynamic_plans.specs.declared.err.ChangeErr.{ChangeErr}
 use Rattle.tdf_dynamic_plans.specs.declared.err.ChangeErr.TheVariants as err
-use Rattle.tdf_exec.specs.Crossing.{CanInstall, HasCrossed as HasLeft}
+use Rattle.tdf_sim_refinement.specs.Below.{CanInstall, HasCrossed as HasLeft}
 use Rattle.tdf_sim_instants.proofs.crossing.begin_next.Goals as goal
 
 -- a fact of the answer that there is, from four others

@@ -3,7 +3,7 @@ use Rattle.std.proofs.lemmas.Iterator.Adapters.{YieldsList-from_vec}
 use Rattle.std.proofs.lemmas.Iterator.Consumers.{YieldsList-turn}
 use Rattle.std.proofs.lemmas.Option.{slice_get-get_or}
 use Rattle.tdf_sim_instants.proofs.Beginning.{begun_more, plan_here}
-use Rattle.tdf_exec.specs.Cluster.{ClusterOf}
+use Rattle.tdf_sim_refinement.specs.Below.{ClusterOf}
 use Rattle.tdf_sim_refinement.specs.Begun.{HaveBegun}
 use Rattle.tdf_sim_instants.proofs.making.first_clusters.Goals as goal
 

@@ -3,8 +3,7 @@ use Rattle.std.proofs.lemmas.List.{take_more}
 use Rattle.tdf_sim_instants.proofs.Beginning.{rooms_more}
 use Rattle.tdf_sim_instants.specs.machine.Making.{AreRoomsUpTo}
 use Rattle.tdf_sim_instants.specs.Engine.{HaveRooms}
-use Rattle.tdf_exec.specs.Cluster.{ClusterOf}
-use Rattle.tdf_exec.specs.Gained.{sent_size, traced_size}
+use Rattle.tdf_sim_refinement.specs.Below.{ClusterOf, sent_size, traced_size}
 use Rattle.tdf_sim_instants.proofs.making.rooms_of.Goals as goal
 
 pub loop-n-preserved : goal.loop-n-preserved

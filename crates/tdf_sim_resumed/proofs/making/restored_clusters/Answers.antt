@@ -1,7 +1,7 @@
 use Rattle.std.proofs.Common.{◌≡◌, ◌+◌, ◌<◌, List, arith, length, refl, subst, sym, rules}
 use Rattle.std.proofs.lemmas.Option.{slice_get_read}
 use Rattle.std.specs.Prelude.{Err}
-use Rattle.tdf_exec.specs.Cluster.{ClusterOf}
+use Rattle.tdf_sim_refinement.specs.Below.{ClusterOf}
 use Rattle.tdf_sim_resumed.proofs.Onward.{all_made, are_states, made_more, one_of, same_why}
 use Rattle.tdf_sim_resumed.specs.machine.Making.{AreMadeUpTo}
 use Rattle.tdf_sim_resumed.proofs.making.restored_clusters.Goals as goal

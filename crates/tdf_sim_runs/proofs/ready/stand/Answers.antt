@@ -1,5 +1,5 @@
 use Rattle.std.proofs.Common.{rules, ◌≡◌, ◌∙◌, [], List, ℕ, ap, length, map, sym, subst}
-use Rattle.tdf_exec.specs.Cluster.{ClusterOf}
+use Rattle.tdf_sim_instants.specs.Below.{ClusterOf}
 use Rattle.tdf_saved.specs.State.{ClusterStateOf, SnapshotOf}
 use Rattle.tdf_saved.specs.declared.err.StateErr.TheVariants.{Bad}
 use Rattle.tdf_sim_runs.proofs.Judged.{are_states_at}
@@ -7,8 +7,7 @@ use Rattle.tdf_sim_runs.proofs.Refused.{same_error}
 use Rattle.tdf_sim_runs.proofs.ReopenedTelling.{stand_by}
 use Rattle.tdf_sim_runs.proofs.ready.stand.Goals as goal
 use Rattle.tdf_sim_runs.specs.machine.Standing.{clock_in}
-use Rattle.tdf_sim_resumed.specs.Made.{AllGoOnFromStates, AreStatesAt}
-use Rattle.tdf_sim_resumed.specs.Resuming.{resumed_clusters}
+use Rattle.tdf_sim_shown.specs.Below.{AllGoOnFromStates, AreStatesAt, resumed_clusters}
 use Rattle.tdf_sim_shown.specs.Columns.{AreGoodColumns, WhereTheyStand, rows_among}
 
 pub restored_clusters-requires-clause-sound : goal.restored_clusters-requires-clause-sound

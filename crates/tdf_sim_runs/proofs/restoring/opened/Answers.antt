@@ -8,11 +8,9 @@ use Rattle.tdf_sim_runs.proofs.Reopening.{can_go_with, can_reopen, from_rows, ha
 use Rattle.tdf_sim_runs.proofs.Refused.{same_error}
 use Rattle.tdf_sim_runs.proofs.restoring.opened.Goals as goal
 use Rattle.tdf_sim_runs.specs.machine.Standing.{clock_in}
-use Rattle.tdf_sim_resumed.specs.Starting.{resumed_world}
+use Rattle.tdf_sim_shown.specs.Below.{ClockAt, resumed_world, variables_of}
 use Rattle.tdf_sim_runs.specs.Running.{CanGoOn, IsRunning, IsRunningAt}
 use Rattle.tdf_sim_shown.specs.Resumed.{CanGoOnFrom, HaveEventValues, LeavesSince, ShowsResumed}
-use Rattle.tdf_sim_traces.specs.Periods.{ClockAt}
-use Rattle.tdf_sim_traces.specs.Variables.{variables_of}
 use Rattle.tdf_trace.specs.States.{AreColumnStates, AreStampedFrom}
 
 pub shown_from_columns-requires-clause-can : goal.shown_from_columns-requires-clause-can

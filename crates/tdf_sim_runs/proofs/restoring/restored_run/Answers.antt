@@ -3,7 +3,7 @@ use Rattle.tdf_saved.specs.declared.err.StateErr.TheVariants.{Bad}
 use Rattle.tdf_sim_runs.proofs.Reopening.{plans, rows_are}
 use Rattle.tdf_sim_runs.proofs.Refused.{if_made, not_made, on_off, one_of, same_error}
 use Rattle.tdf_sim_runs.proofs.restoring.restored_run.Goals as goal
-use Rattle.tdf_sim_resumed.specs.Starting.{rows_from_saved}
+use Rattle.tdf_sim_shown.specs.Below.{rows_from_saved}
 use Rattle.tdf_sim_runs.specs.declared.running.Running.{Running}
 
 pub returns-then-not-has_both-clause-bad : goal.returns-then-not-has_both-clause-bad

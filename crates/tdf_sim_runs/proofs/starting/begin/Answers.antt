@@ -1,8 +1,7 @@
 use Rattle.std.proofs.Common.{◌≡◌, [], List, ℕ, subst, sym, rules}
-use Rattle.tdf_exec.specs.Cluster.{ClusterOf}
+use Rattle.tdf_sim_instants.specs.Below.{ClusterOf}
 use Rattle.tdf_sim_runs.proofs.Beginning.{can_begin, can_start, runs_at_first}
-use Rattle.tdf_sim_traces.specs.Calls.{CanStart, StartsShowing}
-use Rattle.tdf_sim_traces.specs.Periods.{clock_at}
+use Rattle.tdf_sim_shown.specs.Below.{CanStart, StartsShowing, clock_at}
 use Rattle.tdf_sim_runs.specs.Running.{IsRunning}
 use Rattle.tdf_sim_history.specs.Rules.{start_world}
 use Rattle.tdf_sim_runs.proofs.starting.begin.Goals as goal

@@ -1,6 +1,6 @@
 use Rattle.std.proofs.Common.{rules, ◌≡◌, ◌<◌, ◌+◌, true, false, Some, length, slice_get, slice_index_or, sym, subst}
 use Rattle.std.proofs.lemmas.Option.{slice_get-get_or}
-use Rattle.tdf_exec.specs.Cluster.{ClusterOf}
+use Rattle.tdf_sim_refinement.specs.Below.{ClusterOf}
 use Rattle.tdf_sim_traces.proofs.Beginning.{begins_more, begins_passed}
 use Rattle.tdf_sim_traces.proofs.periods.begin_all.Goals as goal
 use Rattle.tdf_sim_traces.proofs.periods.begin_all.Goals.{then-clock-place+in_ok-begin_one, else-clock-place}

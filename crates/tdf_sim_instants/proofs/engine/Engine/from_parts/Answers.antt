@@ -2,8 +2,7 @@ use Rattle.std.proofs.Common.{◌≡◌, List, length, subst, rules}
 use Rattle.tdf_convert.specs.declared.links.Links.{Links}
 use Rattle.tdf_sim_instants.specs.Engine.{HaveRooms}
 use Rattle.tdf_sim_instants.specs.machine.Making.{AreGivenUpTo, AreLinkedUpTo}
-use Rattle.tdf_exec.specs.Cluster.{ClusterOf}
-use Rattle.tdf_exec.specs.Gained.{sent_size, traced_size}
+use Rattle.tdf_sim_refinement.specs.Below.{ClusterOf, sent_size, traced_size}
 use Rattle.tdf_sim_instants.proofs.Beginning.{engine_made}
 use Rattle.tdf_sim_instants.proofs.engine.Engine.from_parts.Goals as goal
 

@@ -4,8 +4,7 @@ use Rattle.tdf_sim_history.specs.Rules.{start_world}
 use Rattle.tdf_sim_history.specs.World.{World}
 use Rattle.tdf_sim_runs.proofs.paused.Paused.snapshot.Goals as goal
 use Rattle.tdf_sim_runs.specs.Saving.{is_vcd}
-use Rattle.tdf_sim_resumed.specs.Formats.{AreInFormatsTo}
-use Rattle.tdf_sim_resumed.specs.Snapshot.{IsSnapshot}
+use Rattle.tdf_sim_shown.specs.Below.{AreInFormatsTo, IsSnapshot}
 use Rattle.tdf_sim_runs.proofs.Answering.{if_ok}
 use Rattle.tdf_sim_runs.proofs.WholeRun.{have_to, told_is}
 

@@ -6,8 +6,7 @@ use Rattle.tdf_sim_runs.proofs.Answering.{same_ok}
 use Rattle.tdf_sim_runs.proofs.Stepping.{can_take, step_can, step_goes}
 use Rattle.tdf_sim_runs.proofs.running.Running.step.Goals as goal
 use Rattle.tdf_sim_runs.specs.declared.running.Running.{Running}
-use Rattle.tdf_sim_traces.specs.Calls.{CanTake, ShowsInstant}
-use Rattle.tdf_sim_traces.specs.Periods.{clock_at}
+use Rattle.tdf_sim_shown.specs.Below.{CanTake, ShowsInstant, clock_at}
 use Rattle.tdf_trace.specs.Tracked.{AreSince}
 
 pub show-requires-clause-going : goal.show-requires-clause-going
