@@ -3,3 +3,4 @@ pub mod Checked
 pub mod Indices
 pub mod Maps
 pub mod Processes
+pub mod Samples

@@ -5,6 +5,7 @@ ghost use Rattle.tdf_expr_laws.specs.Checked.{CheckedIsOfTree};
 ghost use Rattle.tdf_expr_laws.specs.Indices.{LiesBelowRate};
 ghost use Rattle.tdf_expr_laws.specs.Maps.{AreMarkMaps, AreNoticeMaps, AreRateMaps, AreStepMaps};
 ghost use Rattle.tdf_expr_laws.specs.Processes.{ProcessesLeaveSoon};
+ghost use Rattle.tdf_expr_laws.specs.Samples.{BodiesKeepSamples, PortsLieInOrder};
 
 /// Each rate variable has its own value, the module and each port its own timestep, each event its own notice, and each port its
 /// own mark: setting one changes that one and no other.
@@ -36,4 +37,11 @@ pub fn law_processes()
 pub fn law_cells()
     ensures keep { BodiesKeepCells }
     ensures start { StartsFit }
+{}
+
+/// Each body of a model without a fault leaves samples of the formats of the ports that it writes; the samples of each port of a block
+/// come after those of the port before.
+pub fn law_samples()
+    ensures keep { BodiesKeepSamples }
+    ensures placed { PortsLieInOrder }
 {}
