@@ -1,5 +1,6 @@
 -- The values of variables of modules, along the streams of a cluster, are of the formats of their variables.
-use Rattle.std.proofs.Common.{◌≡◌, ◌∙◌, ℕ, zero, suc, ℤ, ◌+◌, ◌-◌, ◌&&◌, not, Bool, true, false, if◌then◌else◌, nat_eq, nat_lt, List, [], ◌∷◌, ◌++◌, Option, Some, None, option_map, length, map, slice_get, slice_index, slice_index_or, refl, sym, ap, subst, arith}
+use Rattle.std.proofs.Common.{◌≡◌, ◌∙◌, ℕ, zero, suc, ℤ, ◌+◌, ◌-◌, ◌<◌, ◌&&◌, not, Bool, true, false, if◌then◌else◌, nat_eq, nat_lt, List, [], ◌∷◌, ◌++◌, Option, Some, None, option_map, length, map, slice_get, slice_index, slice_index_or, refl, sym, ap, subst, arith}
+use Rattle.std.proofs.lemmas.Bool.Decides.{nat_tests}
 use Rattle.std.proofs.lemmas.Bool.{eqb-true}
 use Rattle.std.proofs.lemmas.List.{length-map}
 use Rattle.std.proofs.lemmas.List.Elements.{All-head, All-tail}
@@ -46,9 +47,13 @@ use Rattle.tdf_streams.specs.Streams.{Spot, entered, find, inputs, is_first, kno
 -- ---- periods
 
 -- each of them is so
-abbrev Every : (PeriodRecord → Type 0) → List PeriodRecord → Type 0
+abbrev pub Every : (PeriodRecord → Type 0) → List PeriodRecord → Type 0
 Every P [] = Unit {0}
 Every P (p ∷ ps) = P p × Every P ps
+
+pub every_of : (P : PeriodRecord → Type 0) (ps : List PeriodRecord) → ((k : ℕ) (p : PeriodRecord) → slice_get ps k ≡ Some p → P p) → Every P ps
+every_of P [] each = tt
+every_of P (p ∷ ps) each = (each 0 p refl, every_of P ps (λ k q at. each (suc k) q at))
 
 every_both : (P : PeriodRecord → Type 0) (ps qs : List PeriodRecord) → Every P ps → Every P qs → Every P (ps ++ qs)
 every_both P [] qs one two = two
@@ -62,7 +67,7 @@ every_last : (P : PeriodRecord → Type 0) (ps : List PeriodRecord) (p : PeriodR
 every_last P [] p all = all.0
 every_last P (q ∷ ps) p all = every_last P ps p all.1
 
-find_every : (P : PeriodRecord → Type 0) (size : PeriodRecord → ℕ) (before ps : List PeriodRecord) (n : ℕ) (s : Spot PeriodInfo) → Every P before → Every P ps → find size before ps n ≡ Some s
+pub find_every : (P : PeriodRecord → Type 0) (size : PeriodRecord → ℕ) (before ps : List PeriodRecord) (n : ℕ) (s : Spot PeriodInfo) → Every P before → Every P ps → find size before ps n ≡ Some s
     → Every P s.before × P s.period
 unfolding find
 find_every P size before [] n s was all is = absurd cc
@@ -72,6 +77,20 @@ find_every P size before (q ∷ ps) n s was all is =
     go : (find size (before ++ q ∷ []) ps (n - size q) ≡ Some s → Every P s.before × P s.period) → (t : Bool) → (if t then Some (spot before q n) else find size (before ++ q ∷ []) ps (n - size q)) ≡ Some s → Every P s.before × P s.period
     go rest true here = subst (λ (x : Spot PeriodInfo). Every P x.before × P x.period) (same_Some (spot before q n) s here) (was, all.0)
     go rest false later = rest later
+
+less_of : (a b : ℕ) → nat_lt a b ≡ true → a < b
+less_of a b e = grind (arith, nat_tests)
+
+-- a number that is found lies in its period
+pub find_less : (size : PeriodRecord → ℕ) (before ps : List PeriodRecord) (n : ℕ) (s : Spot PeriodInfo) → find size before ps n ≡ Some s → s.rest < size s.period
+unfolding find
+find_less size before [] n s is = absurd cc
+find_less size before (q ∷ ps) n s is = go (λ later. find_less size (before ++ q ∷ []) ps (n - size q) s later) (nat_lt n (size q)) refl is
+  where
+    go : (find size (before ++ q ∷ []) ps (n - size q) ≡ Some s → s.rest < size s.period) → (t : Bool) → nat_lt n (size q) ≡ t
+        → (if t then Some (spot before q n) else find size (before ++ q ∷ []) ps (n - size q)) ≡ Some s → s.rest < size s.period
+    go rest true less here = subst (λ (x : Spot PeriodInfo). x.rest < size x.period) (same_Some (spot before q n) s here) (less_of n (size q) less)
+    go rest false less later = rest later
 
 -- ---- one module
 

@@ -1,9 +1,7 @@
 -- The samples of a traced signal have the fraction bits of its format.
-use Rattle.std.proofs.Common.{◌≡◌, ◌∙◌, ℕ, ℤ, zero, suc, ◌+◌, ◌-◌, ◌/◌, ◌%◌, ◌<◌, Bool, true, false, ◌||◌, not, if◌then◌else◌, nat_eq, nat_lt, Option, Some, None, option_map, List, [], ◌∷◌, length, map, slice_get, slice_index, refl, ap, sym, subst}
-use Rattle.std.proofs.lemmas.Bool.{eq-eqb}
+use Rattle.std.proofs.Common.{◌≡◌, ◌∙◌, ℕ, ℤ, suc, ◌-◌, ◌<◌, Bool, true, false, if◌then◌else◌, nat_eq, Option, Some, None, option_map, List, [], ◌∷◌, length, map, slice_get, slice_index, refl, ap, sym, subst}
 use Rattle.std.proofs.lemmas.Option.{get_or_from_slice_get, slice_get-map, slice_get_within}
-use Rattle.std.specs.List.{range_with_len, sum_by}
-use Rattle.std.specs.Option.{option_and_then}
+use Rattle.std.specs.List.{range_with_len}
 use Rattle.tdf_bind.specs.Flat.{IsFlatOf}
 use Rattle.tdf_bind.specs.declared.model.Flat.{Flat}
 use Rattle.tdf_bind_attributes.specs.Roles.{roles_of}
@@ -26,34 +24,21 @@ use Rattle.tdf_fixed.specs.declared.raw.Raw.{Raw}
 use Rattle.tdf_graph.specs.declared.actors.Actor.TheVariants as actor
 use Rattle.tdf_lang_tree.specs.Pure.{PureTree}
 use Rattle.tdf_lang_tree.specs.declared.blocks.PortKind.TheVariants.{Out}
-use Rattle.tdf_sim_history.specs.Cells.{driver_of_row, sample_at, sample_of, samples_done}
+use Rattle.tdf_sim_history.specs.Cells.{driver_of_row, sample_at}
 use Rattle.tdf_sim_history.specs.Columns.{ColumnStart, held_by, no_start, start_of}
-use Rattle.tdf_sim_history.specs.Instant.{periods_of, run_in}
+use Rattle.tdf_sim_history.specs.Instant.{periods_of}
 use Rattle.tdf_sim_history.specs.Start.{text_column, text_columns}
 use Rattle.tdf_sim_history.specs.World.{ClusterAt, World}
 use Rattle.tdf_sim_refinement.proofs.Api.{all_at}
 use Rattle.tdf_sim_resumed.specs.Starting.{row_of_trace}
+use Rattle.tdf_sim_split.proofs.Fits.{every_of}
 use Rattle.tdf_sim_split.proofs.Fitting.{FitsTrace, SamplesFit}
+use Rattle.tdf_sim_split.proofs.Outputs.{map_some, sample_has}
 use Rattle.tdf_streams.proofs.Api.{none_some, some_same}
 use Rattle.tdf_streams.specs.Bodies.{module_acted}
-use Rattle.tdf_streams.specs.Cluster.{Start, cluster_net, driver_samples, fraction_of_kind, fraction_of_row, given_at, initial_sample, initial_samples, is_sampler_kind, zero_of_port}
-use Rattle.tdf_streams.specs.Grounds.{firings}
-use Rattle.tdf_streams.specs.Laws.{ClusterNet, ClusterRun}
-use Rattle.tdf_streams.specs.Net.{Past, Turn, count}
-use Rattle.tdf_streams.specs.Periods.{PeriodInfo, PeriodRecord}
+use Rattle.tdf_streams.specs.Cluster.{driver_samples, fraction_of_kind, fraction_of_row, given_at, initial_sample, initial_samples, zero_of_port}
+use Rattle.tdf_streams.specs.Periods.{PeriodInfo}
 use Rattle.tdf_streams.specs.Places.{actor_kind, block_of_row, place_of_port}
-use Rattle.tdf_streams.specs.Signals.{output_at_spot, outputs_in, port_output, rate_in}
-use Rattle.tdf_streams.specs.Streams.{Spot, find, inputs, known, sampled, state_before, turn, turn_at}
-
--- ---- what stands behind a `Some`
-
-map_some : {A B : Type 0} (f : A → B) (o : Option A) (y : B) → option_map f o ≡ Some y → (x : A) × (o ≡ Some x) × (f x ≡ y)
-map_some f None y at = none_some y at
-map_some f (Some x) y at = (x, refl, some_same (f x) y at)
-
-then_some : {A B : Type 0} (f : A → Option B) (o : Option A) (y : B) → option_and_then f o ≡ Some y → (x : A) × (o ≡ Some x) × (f x ≡ Some y)
-then_some f None y at = none_some y at
-then_some f (Some x) y at = (x, refl, at)
 
 driver_same : (o : Option SignalRow) → driver_row o ≡ driver_of_row o
 driver_same None = refl
@@ -63,11 +48,11 @@ row_fraction : (o : Option SignalRow) (f : Format) → format_of_row o ≡ Some 
 row_fraction None f is = none_some f is
 row_fraction (Some s) f is = ap fraction_of (some_same s.format f is)
 
-given_fits : (bits k : ℕ) (none : Raw) (given : List (ℕ × Raw)) → none.frac ≡ bits → ((j : ℕ) (g : ℕ × Raw) → slice_get given j ≡ Some g → g.1.frac ≡ bits) → (given_at none k given).frac ≡ bits
-given_fits bits k none [] first all = first
-given_fits bits k none (g ∷ given) first all = given_fits bits k (if nat_eq g.0 k then g.1 else none) given (choose (nat_eq g.0 k)) (λ j x at. all (suc j) x at)
+pub given_has : (P : Raw → Type 0) (k : ℕ) (none : Raw) (given : List (ℕ × Raw)) → P none → ((j : ℕ) (g : ℕ × Raw) → slice_get given j ≡ Some g → P g.1) → P (given_at none k given)
+given_has P k none [] first all = first
+given_has P k none (g ∷ given) first all = given_has P k (if nat_eq g.0 k then g.1 else none) given (choose (nat_eq g.0 k)) (λ j x at. all (suc j) x at)
   where
-    choose : (b : Bool) → (if b then g.1 else none).frac ≡ bits
+    choose : (b : Bool) → P (if b then g.1 else none)
     choose true = all 0 g refl
     choose false = first
 
@@ -79,20 +64,23 @@ module _ (formats : PortsHaveFormats) (model : PureTree) (flat : Flat) (sound : 
   port_is : d.row ≡ port
   port_is = some_same d.row port (sym d.at ∙ there)
 
-  kind : port.kind ≡ Out
+  pub kind : port.kind ≡ Out
   kind = sym (ap (λ (p : PortRow). p.kind) port_is) ∙ d.kind
 
   signal : port.signal ≡ row.signal
   signal = sym (ap (λ (p : PortRow). p.signal) port_is) ∙ d.writes
 
-  own : IsOwnPort flat number port
+  abbrev pub own : IsOwnPort flat number port
   own = formats model flat sound is number port there
 
   abbrev bits : ℕ
   bits = fraction_of own.span.format
 
-  form : format_of_row (slice_get flat.tables.signals row.signal) ≡ Some own.span.format
+  pub form : format_of_row (slice_get flat.tables.signals row.signal) ≡ Some own.span.format
   form = (λ i. signal_format flat.tables (sym kind i) (sym signal i)) ∙ own.format
+
+  zero_bits : (zero_of_port flat.tables port).frac ≡ bits
+  zero_bits = (λ i. fraction_of_kind flat.tables (kind i) (signal i)) ∙ row_fraction (slice_get flat.tables.signals row.signal) own.span.format form
 
   row_bits : fraction_of_row (row_of_trace flat.tables row) ≡ bits
   row_bits = ap (λ (b : Bool). fraction_of_row (if b then slice_get flat.tables.de_signals row.signal else slice_get flat.tables.signals row.signal)) plain
@@ -100,8 +88,8 @@ module _ (formats : PortsHaveFormats) (model : PureTree) (flat : Flat) (sound : 
 
   -- initial samples
   first_bits : (k : ℕ) → (initial_sample flat.tables port k).frac ≡ bits
-  first_bits k = given_fits bits k (zero_of_port flat.tables port) port.initials
-      ((λ i. fraction_of_kind flat.tables (kind i) (signal i)) ∙ row_fraction (slice_get flat.tables.signals row.signal) own.span.format form)
+  first_bits k = given_has (λ (v : Raw). v.frac ≡ bits) k (zero_of_port flat.tables port) port.initials
+      zero_bits
       (λ j g at. (all_at (λ (x : ℕ × Raw). IsOfFormat own.span.format x.1) port.initials j g own.initials at).frac)
 
   -- what the module writes
@@ -111,49 +99,12 @@ module _ (formats : PortsHaveFormats) (model : PureTree) (flat : Flat) (sound : 
   assigned_bits : (samples : List ℤ) (k : ℕ) → (assigned_sample (port_spans_of flat.checked (block_of_row (slice_get flat.tables.modules port.«module»))) samples (place_of_port flat.tables.ports number) k).frac ≡ bits
   assigned_bits samples k = ap (λ o. (sample_of_span samples k o).frac) span_at
 
-  module_is : actor_kind flat.tables port.«module» ≡ Some actor.Module
+  pub module_is : actor_kind flat.tables port.«module» ≡ Some actor.Module
   module_is = module_kind (length flat.tables.modules) flat.tables limits.actors port.«module»
       (subst (λ (r : PortRow). r.«module» < length flat.tables.modules) (get_or_from_slice_get flat.tables.ports number port port there) (limits.in_range.port_modules number port (slice_get_within flat.tables.ports number port there)))
 
   acted_bits : (info : PeriodInfo) (cells : List ℤ) (given : List (List Raw)) (k : ℕ) → ((module_acted model flat port.«module» (actor_kind flat.tables port.«module») info cells given).outputs number k).frac ≡ bits
   acted_bits info cells given k = ap (λ o. ((module_acted model flat port.«module» o info cells given).outputs number k).frac) module_is ∙ assigned_bits _ k
-
-  module _ (begun : Start) (run : ClusterRun) where
-    abbrev cluster : ℕ
-    cluster = slice_index (clusters_of flat.tables) port.«module»
-
-    abbrev net : ClusterNet
-    net = cluster_net model flat cluster begun
-
-    no_sampler : net.is_sampler port.«module» ≡ false
-    no_sampler = ap (λ k. is_sampler_kind k || not (nat_eq cluster cluster)) module_is ∙ ap not (eq-eqb cluster cluster refl)
-
-    at_spot : (past : Past (List ℤ) Raw) (n : ℕ) (s : Spot PeriodInfo) (t : Turn (List ℤ) Raw) (k : ℕ) → turn_at net run past port.«module» n s ≡ Some t → (t.outputs number k).frac ≡ bits
-    unfolding turn_at
-    at_spot past n s t k at = go (net.is_sampler port.«module») no_sampler at
-      where
-        go : (b : Bool) → b ≡ false → (if b then option_map (sampled net port.«module») (slice_get (run.reads port.«module») n)
-            else option_and_then (λ (x : List ℤ). option_map (net.process port.«module» s.period x) (inputs net run.periods past port.«module» s 0 net.edges)) (state_before net past port.«module» s n)) ≡ Some t → (t.outputs number k).frac ≡ bits
-        go true e h = absurd cc
-        go false e h =
-            let x = then_some _ (state_before net past port.«module» s n) t h in
-            let given = map_some (net.process port.«module» s.period x.0) (inputs net run.periods past port.«module» s 0 net.edges) t x.2 in
-            subst (λ (u : Turn (List ℤ) Raw). (u.outputs number k).frac ≡ bits) given.2 (acted_bits s.period.info x.0 given.0 k)
-
-    turn_bits : (f n : ℕ) (t : Turn (List ℤ) Raw) (k : ℕ) → known net run f port.«module» n ≡ Some t → (t.outputs number k).frac ≡ bits
-    unfolding known turn
-    turn_bits zero n t k at = none_some t at
-    turn_bits (suc f) n t k at =
-        let s = then_some (turn_at net run (known net run f) port.«module» n) (find (count port.«module») [] run.periods n) t at in
-        at_spot (known net run f) n s.0 t k s.2
-
-    output_bits : (f j : ℕ) (v : Raw) → port_output run.periods port number (known net run f) j ≡ Some v → v.frac ≡ bits
-    unfolding port_output
-    output_bits f j v at =
-        let s = then_some (output_at_spot port number (known net run f)) (find (outputs_in port) [] run.periods j) v at in
-        let t = map_some (λ (u : Turn (List ℤ) Raw). u.outputs number (s.0.rest % rate_in port s.0.period))
-        (known net run f port.«module» (sum_by (λ (p : PeriodRecord). slice_index p.counts port.«module») s.0.before + s.0.rest / rate_in port s.0.period)) v s.2 in
-        subst (λ (u : Raw). u.frac ≡ bits) t.2 (turn_bits f _ t.0 _ t.1)
 
   -- a sample of a column that begins as the text says it
   module _ (start : ColumnStart) (text : start ≡ text_column flat.tables row) (c : ClusterAt) where
@@ -167,18 +118,10 @@ module _ (formats : PortsHaveFormats) (model : PureTree) (flat : Flat) (sound : 
         subst (λ (u : Raw). u.frac ≡ bits) k.2 (first_bits k.0)
 
     pub sample_bits : (j : ℕ) (v : Raw) → sample_at model flat (slice_index (clusters_of flat.tables) port.«module») c start port number j ≡ Some v → FitsTrace flat.tables row v
-    sample_bits j v at = go (nat_lt j (samples_done start port c)) at ∙ sym row_bits
-      where
-        past : Past (List ℤ) Raw
-        past = known (cluster_net model flat (slice_index (clusters_of flat.tables) port.«module») c.begun) (run_in c) (firings (periods_of c))
-
-        by_held : (b : Bool) → (if b then slice_get (held_by start) j else port_output (periods_of c) port number past (j - length (held_by start))) ≡ Some v → v.frac ≡ bits
-        by_held true h = held_bits j v h
-        by_held false h = output_bits c.begun (run_in c) (firings (periods_of c)) (j - length (held_by start)) v h
-
-        go : (b : Bool) → (if b then sample_of start (periods_of c) port number past j else None) ≡ Some v → v.frac ≡ bits
-        go true h = by_held (nat_lt j (length (held_by start))) h
-        go false h = none_some v h
+    sample_bits j v at =
+        sample_has model flat number port module_is (λ (u : Raw). u.frac ≡ bits) (λ p. Unit {0}) (λ p q cells given k one two low. acted_bits p.info cells given k) start c
+        (every_of (λ p. Unit {0}) (periods_of c) (λ k p there. tt)) (λ i u is. held_bits i u is) j v at
+        ∙ sym row_bits
 
 -- so it is with all traces of a run from its text
 pub samples_fit : PortsHaveFormats → (model : PureTree) (flat : Flat) → IsSoundModel model → IsFlatOf model flat → AreWithinLimits flat → (one w : World SideOf) → one.shown ≡ text_columns flat.tables

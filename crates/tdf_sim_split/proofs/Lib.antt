@@ -9,11 +9,13 @@ mod Fits
 mod Fitting
 mod Fractions
 mod History
+mod InFormats
 mod Kernel
 mod Meeting
 mod Onward
 mod Order
 mod Others
+mod Outputs
 mod Parts
 mod ResumedColumns
 mod Rises
@@ -39,3 +41,4 @@ mod Valid
 mod ValidColumns
 mod Validity
 mod Values
+mod Written

@@ -288,6 +288,7 @@ module _ (formats : PortsHaveFormats) (one_answer : BoundariesHaveOne) (by_table
           ∙ ap (λ k. (writing.head ++ text_from writing.line then_cells 0 rows) ++ (text_from writing.line (run_cells model flat (rules_of model flat) three k) rows (k - rows) ++ writing.tail k)) (sym end_told);
       notes = (alike stop early (omega arith)).notes
           ∙ ap (λ l. notes_to model flat (rules_of model flat) one from ++ l) (to_same model flat (rules_of model flat) two three stop bare_same told_alike stop (omega arith));
+      unwritten = rows_are;
     }
 
 pub runs_split : PortsHaveFormats → BoundariesHaveOne → BodiesGoByTable → StreamsGoOn → FiringsAreEnough → SinksAreRead → SamplesAreThere → RunsSplit

@@ -52,7 +52,7 @@ use Rattle.tdf_trace_states.specs.Windows.{AreChangesTo, AreRisingFrom}
 
 -- ---- lists
 
-get_zip : {A B : Type 0} (xs : List A) (ys : List B) (i : ℕ) (x : A) (y : B) → slice_get xs i ≡ Some x → slice_get ys i ≡ Some y → slice_get (zip xs ys) i ≡ Some (x, y)
+pub get_zip : {A B : Type 0} (xs : List A) (ys : List B) (i : ℕ) (x : A) (y : B) → slice_get xs i ≡ Some x → slice_get ys i ≡ Some y → slice_get (zip xs ys) i ≡ Some (x, y)
 get_zip [] ys i x y x_at y_at = none_some x x_at
 get_zip (a ∷ xs) [] i x y x_at y_at = none_some y y_at
 get_zip (a ∷ xs) (b ∷ ys) zero x y x_at y_at = λ i. Some (some_same a x x_at i, some_same b y y_at i)

@@ -15,15 +15,16 @@ use Rattle.tdf_sim_resumed.specs.Snapshot.{IsRowsFrom}
 use Rattle.tdf_sim_resumed.specs.Starting.{resumed_world, rows_from_saved}
 use Rattle.tdf_sim_resumed.specs.Valid.{IsValid}
 use Rattle.tdf_sim_split.proofs.Validity.{places_same}
-use Rattle.tdf_sim_split.specs.Columns.{AreAtSame, HasValidColumns, SavedColumnsAreValid, TextsBeginWithColumns}
+use Rattle.tdf_sim_split.specs.Columns.{AreAtSame, HasValidColumns, IsInFormats, SavedColumnsAreValid, TextsBeginWithColumns}
+use Rattle.tdf_sim_split.specs.Formats.{FormatsAreKept, TextsBeginInFormats}
 use Rattle.tdf_sim_split.specs.Laws.{GoesOnFrom}
 use Rattle.tdf_sim_split.specs.Parts.{RunsSplit}
 use Rattle.tdf_sim_split.specs.Snapshots.{HasSnapshot, HasValidParts, SnapshotsAreValid, SnapshotsGoOn, TextsAreSoundStarts, told_ahead}
 use Rattle.tdf_sim_split.specs.Unbroken.{RunsAreUnbroken}
 
-module _ (split : RunsSplit) (begin : TextsAreSoundStarts) (parts_of : SnapshotsAreValid) (on : SnapshotsGoOn) (columns_of : SavedColumnsAreValid) (text : TextsBeginWithColumns) where
+module _ (split : RunsSplit) (begin : TextsAreSoundStarts) (parts_of : SnapshotsAreValid) (on : SnapshotsGoOn) (columns_of : SavedColumnsAreValid) (text : TextsBeginWithColumns) (formats_of : FormatsAreKept) (text_in : TextsBeginInFormats) where
   pub runs_are_unbroken : RunsAreUnbroken
-  runs_are_unbroken writing model flat firsts later ahead told w s from stop turns vcd sound is_flat checked limits events plans all counts answers early below some most snapshot fits formats later_plans answers_on =
+  runs_are_unbroken writing model flat firsts later ahead told w s from stop turns vcd sound is_flat checked limits events plans all counts answers early below some most snapshot fits later_plans answers_on =
       split writing model flat firsts later ahead (told_ahead w) told w s from stop turns vcd sound is_flat checked limits plans counts answers early snapshot fits valid goes rows_are answers_on
     where
       one : World SideOf
@@ -46,6 +47,9 @@ module _ (split : RunsSplit) (begin : TextsAreSoundStarts) (parts_of : Snapshots
 
       same : AreAtSame w.clusters (resumed_clusters model flat later s [])
       same = places_same model flat later s w from goes
+
+      formats : IsInFormats model flat one from s.columns
+      formats = formats_of model flat one w from turns vcd s sound is_flat limits events has.start_is.sound so_far (text_in model flat firsts ahead turns from sound is_flat limits events fits) fits snapshot
 
       columns : HasValidColumns model flat later s snapshot.columns.rows
       columns = columns_of model flat one w 0 0 from turns vcd s later sound.kept checked limits events has.start_is.sound so_far (omega arith) (text model flat firsts ahead turns events) snapshot same parts.kernel formats

@@ -13,6 +13,7 @@ use Rattle.tdf_sim_resumed.proofs.Api.{resumed_at}
 use Rattle.tdf_sim_resumed.specs.Resuming.{resumed_cluster, resumed_clusters}
 use Rattle.tdf_sim_resumed.specs.Starting.{resumed_world}
 use Rattle.tdf_sim_split.specs.Columns.{AreAtSame, HasValidColumns, IsAtSame, SavedColumnsAreValid}
+use Rattle.tdf_sim_split.specs.Formats.{FormatsAreKept}
 use Rattle.tdf_sim_split.specs.Following.{IsResumedCluster}
 use Rattle.tdf_sim_split.specs.Laws.{GoesOnFrom}
 use Rattle.tdf_sim_split.specs.Snapshots.{HasValidParts, SnapshotsAreValid, SnapshotsGoOn, told_ahead}
@@ -67,8 +68,8 @@ module _ (model : PureTree) (flat : Flat) (firsts : List First) (s : SnapshotOf)
     each = each_same;
   }
 
-pub snapshot_valid : SavedColumnsAreValid → SnapshotsAreValid → SnapshotsGoOn → SnapshotIsValid
-snapshot_valid columns_valid parts_valid goes_on model flat firsts start w rows from time budget vcd s kept sound is checked limits tells has columns many soon some most plans formats = record {
+pub snapshot_valid : SavedColumnsAreValid → SnapshotsAreValid → SnapshotsGoOn → FormatsAreKept → SnapshotIsValid
+snapshot_valid columns_valid parts_valid goes_on formats_kept model flat firsts start w rows from time budget vcd s kept sound is checked limits tells has columns many soon some most plans begins values = record {
   times = parts.times;
   members = record { clusters = parts.all; columns = shown.members };
   clusters = plans;
@@ -82,4 +83,5 @@ snapshot_valid columns_valid parts_valid goes_on model flat firsts start w rows 
 
     shown : HasValidColumns model flat firsts s has.is.columns.rows
     shown = columns_valid model flat start w rows from time budget vcd s firsts kept checked limits tells has.start_is.sound has.told has.later columns has.is
-        (places_same model flat firsts s w time (goes_on model flat firsts start w from time budget vcd s sound is checked limits has plans)) parts.kernel formats
+        (places_same model flat firsts s w time (goes_on model flat firsts start w from time budget vcd s sound is checked limits has plans)) parts.kernel
+        (formats_kept model flat start w time budget vcd s sound is limits tells has.start_is.sound has.told begins values has.is)

@@ -1,5 +1,5 @@
 -- The values of event signals that a run from its text shows have the fraction bits of their formats.
-use Rattle.std.proofs.Common.{◌≡◌, ◌∙◌, ◌<◌, ◌≤◌, ◌+◌, ℕ, zero, suc, Bool, true, false, if◌then◌else◌, Option, Some, None, option_map, List, [], ◌∷◌, length, map, slice_get, slice_index_or, unwrap_or, refl, ap, sym, subst, inl, inr, arith}
+use Rattle.std.proofs.Common.{◌≡◌, ◌∙◌, ◌<◌, ◌≤◌, ◌+◌, ℕ, zero, suc, Bool, true, false, if◌then◌else◌, Option, Some, None, option_map, List, [], ◌∷◌, length, map, slice_get, slice_index_or, refl, ap, sym, subst, inl, inr, arith}
 use Rattle.std.proofs.lemmas.Bool.{cases_lt}
 use Rattle.std.proofs.lemmas.List.{length-map}
 use Rattle.std.proofs.lemmas.Option.{get_or_from_slice_get, slice_get-map, slice_get_past}
@@ -9,6 +9,7 @@ use Rattle.tdf_bind_connections.specs.declared.traces.TraceRow.{TraceRow}
 use Rattle.tdf_dynamic_first.specs.declared.first.First.{First}
 use Rattle.tdf_events.specs.Runnable.{AreOfSignals, signal_formats}
 use Rattle.tdf_events.specs.Side.{SideOf}
+use Rattle.tdf_fixed.specs.Overflow.{IsOfWidth}
 use Rattle.tdf_fixed.specs.declared.raw.Raw.{Raw}
 use Rattle.tdf_lang_tree.specs.Pure.{PureTree}
 use Rattle.tdf_sim_history.specs.Cells.{cell_or, changed_cell, event_cell, event_column_cell, is_same_value, run_cells, signal_cell, trace_cell, value_before, world_before, world_of}
@@ -18,12 +19,13 @@ use Rattle.tdf_sim_history.specs.Rules.{rules_of, start_world}
 use Rattle.tdf_sim_history.specs.Start.{starting_value, text_column, text_columns}
 use Rattle.tdf_sim_history.specs.Texts.{state_at}
 use Rattle.tdf_sim_history.specs.World.{Change, World}
-use Rattle.tdf_sim_resumed.specs.Starting.{row_of_trace}
-use Rattle.tdf_sim_split.proofs.Fitting.{EventsFit, FitsShown, FitsTrace}
 use Rattle.tdf_sim_resumed.specs.Formats.{AreInFormatsTo}
+use Rattle.tdf_sim_resumed.specs.Starting.{row_of_trace}
+use Rattle.tdf_sim_resumed.specs.Valid.{IsNumberFor}
+use Rattle.tdf_sim_split.proofs.Fitting.{EventsFit, FitsTrace, HasShown, last_has}
 use Rattle.tdf_streams.proofs.Api.{get_inside, none_some, some_same}
 use Rattle.tdf_streams.specs.Cluster.{fraction_of_row, zero_sample}
-use Rattle.tdf_trace_rows.specs.Rows.{Cells, last}
+use Rattle.tdf_trace_rows.specs.Rows.{Cells}
 
 past_or : {A : Type 0} (xs : List A) (k : ℕ) (d : A) → length xs ≤ k → slice_index_or xs k d ≡ d
 past_or [] k d past = refl
@@ -48,8 +50,53 @@ module _ (flat : Flat) (values : List Raw) (are : AreOfSignals (signal_formats f
         ∙ ap fraction_of_row (sym (slice_get_past flat.tables.de_signals k (let l = long in omega (arith, past, l)))))
   ]
 
+  -- and its number is in the range of that row
+  pub value_in : (k : ℕ) → k < length flat.tables.de_signals → IsNumberFor (slice_get flat.tables.de_signals k) (slice_index_or values k zero_sample).num
+  value_in k inside =
+      let v = get_inside values k (let l = long in omega (arith, inside, l)) in
+      let row = get_inside flat.tables.de_signals k inside in
+      subst (λ (o : Option SignalRow). IsNumberFor o (slice_index_or values k zero_sample).num) (sym row.1)
+      (subst (λ (x : Raw). IsOfWidth row.0.format.signed row.0.format.wl x.num) (sym (get_or_from_slice_get values k v.0 zero_sample v.1))
+      (are.each k row.0.format v.0 (slice_get-map (λ (r : SignalRow). r.format) flat.tables.de_signals k ∙ ap (option_map (λ (r : SignalRow). r.format)) row.1) v.1).num)
+
+-- ---- what a column of an event signal shows
+
+module _ (model : PureTree) (flat : Flat) (start : World SideOf) (from rows : ℕ) (early : rows ≤ from) (column : ℕ) (row : TraceRow) (row_at : slice_get flat.tables.traces column ≡ Some row) (event : row.event ≡ true) (P : Raw → Type 0) where
+  abbrev cells : Cells
+  cells = run_cells model flat (rules_of model flat) start from
+
+  abbrev value : ℕ → Raw
+  value t = value_before model flat (rules_of model flat) start row.signal t
+
+  cell_at : (t : ℕ) → cells.at column t ≡ cell_or (stamp_at (start_of start.shown column).stamps t) (event_cell model flat (rules_of model flat) start row.signal t)
+  cell_at t =
+      ap (trace_cell model flat (rules_of model flat) start from t (start_of start.shown column)) row_at
+      ∙ ap (λ (b : Bool). if b then event_column_cell model flat (rules_of model flat) start (start_of start.shown column) row.signal t
+      else signal_cell model flat (start_of start.shown column) t (world_of (state_at model flat (rules_of model flat) start from)).clusters row.signal) event
+
+  module _ (values : (t : ℕ) → t ≤ from → P (value t)) (carries : (x : Raw) → (start_of start.shown column).carry ≡ Some x → P x) (stamps : (t : ℕ) (x : Raw) → stamp_at (start_of start.shown column).stamps t ≡ Some x → P x) where
+    change_has : (v u x : Raw) → P u → changed_cell v u ≡ Some (Some x) → P x
+    change_has v u x has is = go (is_same_value v u) is
+      where
+        go : (b : Bool) → (if b then None else Some (Some u)) ≡ Some (Some x) → P x
+        go true same = none_some (Some x) same
+        go false same = subst P (some_same u x (some_same (Some u) (Some x) same)) has
+
+    cell_has : (t : ℕ) (x : Raw) → t < from → cells.at column t ≡ Some (Some x) → P x
+    cell_has t x low is = go (stamp_at (start_of start.shown column).stamps t) refl (sym (cell_at t) ∙ is)
+      where
+        go : (o : Option Raw) → stamp_at (start_of start.shown column).stamps t ≡ o → cell_or o (event_cell model flat (rules_of model flat) start row.signal t) ≡ Some (Some x) → P x
+        go None at same = change_has (value t) (value (t + 1)) x (values (t + 1) (omega (arith, low))) same
+        go (Some v) at same = stamps t x (at ∙ some_same (Some v) (Some x) same)
+
+    -- what is so of its values and of what it begins with is so of what it shows
+    pub changes_have : HasShown P cells column rows from
+    changes_have = record { before = λ x is. last_has P cells column from carries cell_has rows x early is; after = λ t x low high is. cell_has t x high is }
+
+-- ---- a run from its text
+
 -- a signal begins with the value that its row says
-first_value : (rows : List SignalRow) (k : ℕ) → starting_value (slice_get rows k) ≡ slice_index_or (map (λ (r : SignalRow). r.start) rows) k zero_sample
+pub first_value : (rows : List SignalRow) (k : ℕ) → starting_value (slice_get rows k) ≡ slice_index_or (map (λ (r : SignalRow). r.start) rows) k zero_sample
 first_value [] k = refl
 first_value (row ∷ rows) zero = refl
 first_value (row ∷ rows) (suc k) = first_value rows k
@@ -58,62 +105,30 @@ module _ (model : PureTree) (flat : Flat) (firsts : List First) (ahead : List (L
   abbrev one : World SideOf
   one = start_world model flat firsts ahead turns
 
-  abbrev cells : Cells
-  cells = run_cells model flat (rules_of model flat) one from
-
   module _ (column : ℕ) (row : TraceRow) (row_at : slice_get flat.tables.traces column ≡ Some row) (event : row.event ≡ true) where
-    abbrev value : ℕ → Raw
-    value t = value_before model flat (rules_of model flat) one row.signal t
-
     one_is : start_of one.shown column ≡ text_column flat.tables row
     one_is = get_or_from_slice_get (text_columns flat.tables) column (text_column flat.tables row) no_start (slice_get-map (text_column flat.tables) flat.tables.traces column ∙ ap (option_map (text_column flat.tables)) row_at)
 
     row_is : fraction_of_row (slice_get flat.tables.de_signals row.signal) ≡ fraction_of_row (row_of_trace flat.tables row)
     row_is = sym (ap (λ (b : Bool). fraction_of_row (if b then slice_get flat.tables.de_signals row.signal else slice_get flat.tables.signals row.signal)) event)
 
-    fits_at : (t : ℕ) → t ≤ from → FitsTrace flat.tables row (value t)
+    fits_at : (t : ℕ) → t ≤ from → FitsTrace flat.tables row (value_before model flat (rules_of model flat) one row.signal t)
     fits_at t low = value_fits flat (world_before model flat (rules_of model flat) one t).events.values (are t low) row.signal ∙ row_is
-
-    cell_at : (t : ℕ) → cells.at column t ≡ event_cell model flat (rules_of model flat) one row.signal t
-    cell_at t =
-        ap (trace_cell model flat (rules_of model flat) one from t (start_of one.shown column)) row_at
-        ∙ ap (λ (b : Bool). if b then event_column_cell model flat (rules_of model flat) one (start_of one.shown column) row.signal t
-        else signal_cell model flat (start_of one.shown column) t (world_of (state_at model flat (rules_of model flat) one from)).clusters row.signal) event
-        ∙ ap (λ (c : ColumnStart). cell_or (stamp_at c.stamps t) (event_cell model flat (rules_of model flat) one row.signal t)) one_is
-
-    change_fits : (v u : Raw) → FitsTrace flat.tables row u → (x : Raw) → changed_cell v u ≡ Some (Some x) → FitsTrace flat.tables row x
-    change_fits v u fits x is = go (is_same_value v u) is
-      where
-        go : (b : Bool) → (if b then None else Some (Some u)) ≡ Some (Some x) → FitsTrace flat.tables row x
-        go true same = none_some (Some x) same
-        go false same = subst (FitsTrace flat.tables row) (some_same u x (some_same (Some u) (Some x) same)) fits
-
-    cell_fits : (t : ℕ) (x : Raw) → t < from → cells.at column t ≡ Some (Some x) → FitsTrace flat.tables row x
-    cell_fits t x low is = change_fits (value t) (value (t + 1)) (fits_at (t + 1) (omega (arith, low))) x (sym (cell_at t) ∙ is)
 
     -- what it begins with is its value at the time 0
     first_fits : FitsTrace flat.tables row (starting_value (slice_get flat.tables.de_signals row.signal))
     unfolding history
     first_fits = subst (FitsTrace flat.tables row) (sym (first_value flat.tables.de_signals row.signal)) (fits_at 0 (omega arith))
 
-    start_fits : (x : Raw) → cells.first column ≡ Some x → FitsTrace flat.tables row x
-    start_fits x is = subst (FitsTrace flat.tables row) (some_same (starting_value (slice_get flat.tables.de_signals row.signal)) x (sym carry ∙ is)) first_fits
+    carry_fits : (x : Raw) → (start_of one.shown column).carry ≡ Some x → FitsTrace flat.tables row x
+    carry_fits x is = subst (FitsTrace flat.tables row) (some_same (starting_value (slice_get flat.tables.de_signals row.signal)) x (sym carry ∙ is)) first_fits
       where
-        carry : cells.first column ≡ Some (starting_value (slice_get flat.tables.de_signals row.signal))
+        carry : (start_of one.shown column).carry ≡ Some (starting_value (slice_get flat.tables.de_signals row.signal))
         carry = ap (λ (c : ColumnStart). c.carry) one_is ∙ ap (λ (b : Bool). if b then Some (starting_value (slice_get flat.tables.de_signals row.signal)) else None) event
 
-    last_fits : (t : ℕ) (x : Raw) → t ≤ from → last cells column t ≡ Some x → FitsTrace flat.tables row x
-    unfolding last
-    last_fits zero x low is = start_fits x is
-    last_fits (suc t) x low is = go (λ y shows. last_fits t y (omega (arith, low)) shows) (cells.at column t) refl is
-      where
-        go : ((y : Raw) → last cells column t ≡ Some y → FitsTrace flat.tables row y) → (o : Option (Option Raw)) → cells.at column t ≡ o → unwrap_or o (last cells column t) ≡ Some x → FitsTrace flat.tables row x
-        go before None at shows = before x shows
-        go before (Some None) at shows = none_some x shows
-        go before (Some (Some y)) at shows = cell_fits t x (omega (arith, low)) (at ∙ ap Some shows)
-
-    shown_fits : FitsShown flat.tables cells column row rows from
-    shown_fits = record { before = λ x is. last_fits rows x early is; after = λ t x low high is. cell_fits t x high is }
+    no_stamp : (t : ℕ) (x : Raw) → stamp_at (start_of one.shown column).stamps t ≡ Some x → FitsTrace flat.tables row x
+    no_stamp t x is = none_some x (sym (ap (λ (c : ColumnStart). stamp_at c.stamps t) one_is) ∙ is)
 
   pub events_fit : EventsFit model flat one from rows
-  events_fit column row row_at event = shown_fits column row row_at event
+  events_fit column row row_at event = changes_have model flat one from rows early column row row_at event (FitsTrace flat.tables row)
+      (fits_at column row row_at event) (carry_fits column row row_at event) (no_stamp column row row_at event)

@@ -1,6 +1,7 @@
 pub mod Alike
 pub mod Columns
 pub mod Following
+pub mod Formats
 pub mod Laws
 pub mod Parts
 pub mod Snapshots

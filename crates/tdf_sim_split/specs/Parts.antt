@@ -31,9 +31,9 @@ pub record StandsAlike (a b : World SideOf) : Type 0 where
   pub events : b.events ≡ a.events
   pub left : b.left ≡ a.left
 
--- a history and one that goes on from it end alike; the whole trace is what was written before a
--- time, and then, from there on, that of the one that goes on; and so it is with the plans that
--- come
+-- a history and one that goes on from it end alike; the whole trace is what was written before the
+-- time from which on rows are still to be written, and then that of the one that goes on; and so it
+-- is with the plans that come
 pub record RunSplits (writing : Writing) (model : PureTree) (flat : Flat) (one two : World SideOf)
     (from rows stop : ℕ) : Type 0 where
   pub states : StatesAlike StandsAlike (state_at model flat (rules_of model flat) one stop)
@@ -47,6 +47,7 @@ pub record RunSplits (writing : Writing) (model : PureTree) (flat : Flat) (one t
   pub notes : notes_to model flat (rules_of model flat) one stop
       ≡ notes_to model flat (rules_of model flat) one from
       ++ notes_to model flat (rules_of model flat) two stop
+  pub unwritten : IsRowsFrom (run_cells model flat (rules_of model flat) one from) from rows
 
 -- so it is with a run from its text and one that goes on from its snapshot, where both are told the
 -- answers of their boundaries

@@ -23,7 +23,7 @@ use Rattle.tdf_sim_resumed.specs.Formats.{AreInFormatsTo}
 use Rattle.tdf_sim_resumed.specs.Snapshot.{IsSnapshot}
 use Rattle.tdf_sim_resumed.specs.Starting.{resumed_world, rows_from_saved}
 use Rattle.tdf_sim_resumed.specs.Valid.{ArePlansOf}
-use Rattle.tdf_sim_split.specs.Columns.{EventsAreThere, IsInFormats}
+use Rattle.tdf_sim_split.specs.Columns.{EventsAreThere}
 use Rattle.tdf_sim_split.specs.Parts.{RunSplits}
 use Rattle.tdf_trace_rows.specs.Rows.{Writing}
 
@@ -41,7 +41,6 @@ RunsAreUnbroken = (writing : Writing) (model : PureTree) (flat : Flat) (firsts l
     → from ≤ stop → from < time_end → 1 ≤ turns → turns ≤ 10 ^ 12
     → IsSnapshot model flat (start_world model flat firsts ahead turns) w from turns vcd s
     → AreInFormatsTo model flat (start_world model flat firsts ahead turns) from
-    → IsInFormats model flat (start_world model flat firsts ahead turns) from s.columns
     → ArePlansOf flat s later
     → AreAnswers model flat (rules_of model flat)
     (world_told told (resumed_world model flat later s [])) stop

@@ -15,12 +15,15 @@ use Rattle.tdf_lang_tree.specs.Kept.{IsKept}
 use Rattle.tdf_lang_tree.specs.Pure.{PureTree}
 use Rattle.tdf_saved.specs.State.{SnapshotOf}
 use Rattle.tdf_sim_history.specs.World.{World}
+use Rattle.tdf_sim_resumed.specs.Formats.{AreInFormatsTo}
 use Rattle.tdf_sim_resumed.specs.Valid.{ArePlansOf, IsValid}
-use Rattle.tdf_sim_split.specs.Columns.{EventsAreThere, HasSoundColumns, IsInFormats}
+use Rattle.tdf_sim_split.specs.Columns.{EventsAreThere, HasSoundColumns}
+use Rattle.tdf_sim_split.specs.Formats.{BeginInFormats}
 use Rattle.tdf_sim_split.specs.Snapshots.{HasSnapshot}
 
--- the snapshot of a run from a sound start with sound columns, which was given so many turns, is
--- valid, under plans for its clusters
+-- the snapshot of a run from a sound start with sound columns, which begin with numbers of their
+-- formats, and which was given so many turns, is valid, under plans for its clusters, where event
+-- signals had values of their formats
 abbrev pub SnapshotIsValid : Type 0
 SnapshotIsValid = (model : PureTree) (flat : Flat) (firsts : List First) (start w : World SideOf)
     → (rows from time budget : ℕ) (vcd : Bool) (s : SnapshotOf) → IsKept model
@@ -30,4 +33,5 @@ SnapshotIsValid = (model : PureTree) (flat : Flat) (firsts : List First) (start 
     → HasSoundColumns model flat rows from start
     → length start.clusters ≡ greatest (clusters_of flat.tables) → time < time_end
     → 1 ≤ budget → budget ≤ 10 ^ 12 → ArePlansOf flat s firsts
-    → IsInFormats model flat start time s.columns → IsValid model flat firsts s
+    → BeginInFormats flat.tables start.shown → AreInFormatsTo model flat start time
+    → IsValid model flat firsts s

@@ -1,6 +1,7 @@
 //! What holds of histories that go on: each function here only carries its clauses.
 
 ghost use Rattle.tdf_sim_split.specs.Columns.{ResumedBeginWithColumns, SavedColumnsAreValid, TextsBeginWithColumns};
+ghost use Rattle.tdf_sim_split.specs.Formats.{FormatsAreKept, ResumedBeginInFormats, TextsBeginInFormats};
 ghost use Rattle.tdf_sim_split.specs.Laws.{HistoryGoesOnFrom, TextsBeginSound};
 ghost use Rattle.tdf_sim_split.specs.Parts.{RunsSplit};
 ghost use Rattle.tdf_sim_split.specs.Snapshots.{SnapshotsAreSoundStarts, SnapshotsAreValid, SnapshotsGoOn, TextsAreSoundStarts};
@@ -12,7 +13,7 @@ use tdf_bind_invariants::law_formats;
 use tdf_dynamic::law_one_answer;
 use tdf_dynamic_values::law_one_table;
 use tdf_exec_layout::{law_edge_formats, law_edges};
-use tdf_expr_laws::{law_cells, law_processes};
+use tdf_expr_laws::{law_cells, law_processes, law_samples};
 use tdf_schedule::law_plans;
 use tdf_sim_history::law_samples_there;
 use tdf_sim_resumed::law_resumed;
@@ -62,6 +63,17 @@ pub fn law_columns()
     law_resumed();
 }
 
+/// What a run shows is of the formats of its signals, where what it begins with is and event signals have values of theirs; a text begins
+/// so, and so does a valid snapshot.
+pub fn law_in_formats()
+    ensures kept { FormatsAreKept }
+    ensures text { TextsBeginInFormats }
+    ensures resumed { ResumedBeginInFormats }
+{
+    law_formats();
+    law_samples();
+}
+
 /// A run that is saved and one that goes on from the snapshot are together one unbroken run: they end alike, and what both write is what
 /// it writes.
 pub fn law_parts()
@@ -81,6 +93,7 @@ pub fn law_saved_is_valid()
 {
     law_columns();
     law_saved_goes_on();
+    law_in_formats();
 }
 
 /// A run and one that goes on from a snapshot of it are one unbroken run, with whatever plans the clusters of the snapshot can go on
@@ -92,4 +105,5 @@ pub fn law_unbroken()
     law_sound();
     law_saved_goes_on();
     law_columns();
+    law_in_formats();
 }

@@ -8,6 +8,6 @@
 mod laws;
 
 pub use laws::{
-    law_columns, law_goes_on, law_parts, law_saved_goes_on, law_saved_is_valid, law_sound,
-    law_unbroken,
+    law_columns, law_goes_on, law_in_formats, law_parts, law_saved_goes_on, law_saved_is_valid,
+    law_sound, law_unbroken,
 };
