@@ -11,11 +11,11 @@ use tdf_io::{MemSink, MemSource};
 
 /// The words of a job and its text, and the output and the notes that it writes where nothing fails.
 #[derive(Clone, Copy)]
-struct Run<'a> {
-    words: &'a [&'a str],
-    text: &'a [u8],
-    table: &'a [u8],
-    notes: &'a [u8],
+pub(crate) struct Run<'a> {
+    pub(crate) words: &'a [&'a str],
+    pub(crate) text: &'a [u8],
+    pub(crate) table: &'a [u8],
+    pub(crate) notes: &'a [u8],
 }
 
 /// The signal chain: a gain that an event halves, a modulator, a decimator that goes from 64 samples to 32, and a filter whose
@@ -160,7 +160,7 @@ fn only_notes(
 }
 
 /// The first read whose failure has another answer, or none. There is a read for each byte and one for the end.
-fn first_wrong_read(alloc: Global, run: Run<'_>) -> Result<Option<u64>, Memory> {
+pub(crate) fn first_wrong_read(alloc: Global, run: Run<'_>) -> Result<Option<u64>, Memory> {
     let end = run.text.len() as u64;
     for read in 0..=end {
         if !only_notes(alloc, run.words, run.text, read, (3, b"read fault\n"))? {
@@ -173,7 +173,7 @@ fn first_wrong_read(alloc: Global, run: Run<'_>) -> Result<Option<u64>, Memory> 
 }
 
 /// How many writes of notes or of output there are, if the failure of each in turn has the right answer.
-fn failing_writes(
+pub(crate) fn failing_writes(
     alloc: Global,
     run: Run<'_>,
     most: usize,
