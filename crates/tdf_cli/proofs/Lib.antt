@@ -1,3 +1,4 @@
+pub mod Api
 pub mod Complete
 pub mod Driven
 pub mod FewNames

@@ -198,6 +198,7 @@ module _ (scope : Scope) (sound : IsSound scope) (Q : (cells samples : List ℤ)
     stmts_keep loops body Done turns s none has lf = has
     stmts_keep loops body (More x xs) turns s none has lf =
         stmts_keep loops body xs turns (after scope loops turns x s) (none_second (stmt_faults scope body loops x) _ none) (stmt_keeps loops body x turns s (none_first _ _ none) has lf) lf
+
 -- ---- blocks
 
 -- the block of a model at a place, and what is kept of it

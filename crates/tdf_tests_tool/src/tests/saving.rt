@@ -52,7 +52,10 @@ fn states_survive_reads_that_fail(rt: HostRuntime) -> Result<(), Fail> {
 fn states_survive_writes_that_fail(rt: HostRuntime) -> Result<(), Fail> {
     assert_eq!(rt; failing_writes(rt.alloc(), SAVED_TRACE, 4, false)?, Some(6));
     assert_eq!(rt; failing_writes(rt.alloc(), SAVED_TRACE, 4, true)?, Some(18));
-    assert_eq!(rt; failing_writes(rt.alloc(), SAVED_STATE, 16, false)?, Some(19));
+    assert_eq!(rt;
+        failing_writes(rt.alloc(), SAVED_STATE, 16, false)?,
+        Some(19)
+    );
     assert_eq!(rt; failing_writes(rt.alloc(), RESUMED, 4, false)?, Some(3));
     assert_eq!(rt; failing_writes(rt.alloc(), RESUMED, 4, true)?, Some(6));
     Ok(())

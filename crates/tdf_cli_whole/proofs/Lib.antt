@@ -1,0 +1,10 @@
+mod Clusters
+mod Edged
+mod Joining
+mod Members
+mod Numbers
+mod Rates
+mod Shown
+mod Splitting
+mod Told
+mod Zips
