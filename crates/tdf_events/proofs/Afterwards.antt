@@ -75,7 +75,7 @@ part_keeps P true true first after left rest more p later is = subst P (ap (λ (
 part_keeps P true false first after left rest more p later is = later is
 part_keeps P false b first after left rest more p later is = later is
 
-instant_keeps : (P : SideOf → Type 0) (model : PureTree) (flat : Flat) (time left rest : ℕ) (writes : List SignalWrite) (s after : SideOf) → ((s : SideOf) → P s → P (delta_stepped model flat time s))
+pub instant_keeps : (P : SideOf → Type 0) (model : PureTree) (flat : Flat) (time left rest : ℕ) (writes : List SignalWrite) (s after : SideOf) → ((s : SideOf) → P s → P (delta_stepped model flat time s))
     → (nat_eq (length writes) 0 ≡ true → P (begun flat time writes s)) → P (delta_stepped model flat time (begun flat time writes s))
     → event_part model flat time writes s left ≡ Some (after, rest) → P after
 instant_keeps P model flat time left rest writes s after keep first next is = part_keeps P (nat_eq (length writes) 0) (is_idle (begun flat time writes s)) (begun flat time writes s) after left rest

@@ -3,12 +3,13 @@ use Rattle.std.proofs.Common.{◌≡◌, ℕ, zero, suc, ◌<◌, Bool, true, fa
 use Rattle.std.proofs.lemmas.Bool.{cases_lt, true≢false}
 use Rattle.std.proofs.lemmas.List.{ext_get_or, get_or_past, length-map}
 use Rattle.std.proofs.lemmas.Option.{slice_get_within}
+use Rattle.tdf_events_queue.proofs.Api.{forgotten_all as all_gone}
 use Rattle.tdf_events_queue.specs.Lists.{list_at}
-use Rattle.tdf_events_queue.specs.Sets.{AreListed, is_on}
+use Rattle.tdf_events_queue.specs.Sets.{AreForgotten, AreListed, is_on}
 use Rattle.tdf_events_queue.specs.Triggered.{AreAllTriggered}
 use Rattle.tdf_events.specs.Delta.{differs, updated}
 use Rattle.tdf_events.specs.Side.{value_at}
-use Rattle.tdf_events.specs.machine.Updating.{AreAllReached, AreForgotten, AreReached, AreTaken, does_change}
+use Rattle.tdf_events.specs.machine.Updating.{AreAllReached, AreReached, AreTaken, does_change}
 use Rattle.tdf_fixed.specs.declared.raw.Raw.{Raw}
 
 abbrev nothing : Option Raw
@@ -86,17 +87,11 @@ taken_all values new waiting flags members are listed taken = ext_get_or _ new (
 
 pub forgotten_all : (waiting new : List (Option Raw)) (flags : List Bool) (members : List ℕ) → flags ≡ map is_some waiting → AreListed flags members → AreForgotten members (length members) waiting new
     → new ≡ map (λ (value : Option Raw). nothing) waiting
-forgotten_all waiting new flags members are listed gone = ext_get_or nothing new (map (λ (value : Option Raw). nothing) waiting) (gone.same ∙ sym (length-map waiting (λ (value : Option Raw). nothing)))
-    (λ s less. one s (what waiting s) refl ∙ sym (none waiting s))
+forgotten_all waiting new flags members are listed gone = all_gone flags members waiting new are listed.all gone ∙ none_map waiting
   where
-    none : (xs : List (Option Raw)) (s : ℕ) → slice_index_or (map (λ (value : Option Raw). nothing) xs) s nothing ≡ nothing
-    none [] s = refl
-    none (x ∷ xs) zero = refl
-    none (x ∷ xs) (suc s) = none xs s
-
-    one : (s : ℕ) (o : Option Raw) → what waiting s ≡ o → slice_index_or new s nothing ≡ nothing
-    one s (Some v) is = let w = listed_at flags members waiting s v are listed is in gone.gone w.0 s (slice_get_within members w.0 s w.1) w.1
-    one s None is = gone.kept s is
+    none_map : (xs : List (Option Raw)) → replicate (length xs) nothing ≡ map (λ (value : Option Raw). nothing) xs
+    none_map [] = refl
+    none_map (x ∷ xs) = ap (λ (ys : List (Option Raw)). nothing ∷ ys) (none_map xs)
 
 pub flags_gone : (xs : List (Option Raw)) → map is_some (map (λ (value : Option Raw). nothing) xs) ≡ replicate (length xs) false
 flags_gone [] = refl

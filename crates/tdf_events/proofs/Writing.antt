@@ -59,17 +59,3 @@ wrote signal ports port spans waiting new v inside on num frac put = let p = has
   where
     plus_zero : (n : ℕ) → n + 0 ≡ n
     plus_zero n = omega arith
-
--- the flags of what waits
-pub flags_put : (flags new : List Bool) (values : List (Option Raw)) (s : ℕ) (v : Raw) → flags ≡ map is_some values → new ≡ slice_set flags s true → new ≡ map is_some (slice_set values s (Some v))
-flags_put flags new values s v are put = put ∙ ap (λ (xs : List Bool). slice_set xs s true) are ∙ sym (map-set is_some values s (Some v))
-
-abbrev nothing : Option Raw
-nothing = None
-
-pub flags_new : (n : ℕ) (flags : List Bool) (values : List (Option Raw)) → flags ≡ replicate n false → values ≡ replicate n None → flags ≡ map is_some values
-flags_new n flags values a b = a ∙ sym (ap (map is_some) b ∙ none n)
-  where
-    none : (n : ℕ) → map is_some (replicate n nothing) ≡ replicate n false
-    none zero = refl
-    none (suc n) = ap (λ (xs : List Bool). false ∷ xs) (none n)

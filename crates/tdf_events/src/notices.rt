@@ -138,15 +138,15 @@ impl Notices {
     }
 }
 
-#[tactic(auto, using(crate::proofs::Noticing::notices))]
-/// Notifies the events of an instance, by what its process asked for.
+/// Notifies the events of an instance, by what its process asked for: those alone are gone through.
 pub(crate) fn notify_all(notices: &mut Notices, time: u64, events: &[u32], ports: &Ports)
     requires inside { (i e : ℕ) → slice_get events.now i ≡ Some e → e < length notices.old.times }
-    requires few { length events.now < 2 ^ 32 }
     requires asked { length events.now ≡ length ports.now.state.notified }
     ensures { notices.new ≡ noticed_first time events.now ports.now.state.notified (length events.now) notices.old }
 {
-    for i in 0..events.len() {
-        notices.notify(time, events[i], ports.notified(i as u32));
+    let asked = ports.notified_events();
+    for i in 0..asked.len() {
+        let event = asked[i];
+        notices.notify(time, events[event as usize], ports.notified(event));
     }
 }

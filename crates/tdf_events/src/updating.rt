@@ -2,8 +2,9 @@
 
 ghost use Rattle.std.specs.Prelude.{◌≡◌, ◌<◌, ℕ, Some, length, slice_get};
 ghost use Rattle.tdf_events_queue.specs.Lists.{list_at};
+ghost use Rattle.tdf_events_queue.specs.Sets.{AreForgotten};
 ghost use Rattle.tdf_events.specs.Delta.{differs};
-ghost use Rattle.tdf_events.specs.machine.Updating.{AreForgotten, AreReached, AreTaken, does_change};
+ghost use Rattle.tdf_events.specs.machine.Updating.{AreReached, AreTaken, does_change};
 
 use tdf_events_queue::{Lists, NumberSet, trigger};
 use tdf_fixed::Raw;

@@ -1,4 +1,5 @@
 pub mod Api
+mod Forgotten
 mod Members
 mod Skips
 mod Sorted

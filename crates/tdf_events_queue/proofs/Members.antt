@@ -1,10 +1,11 @@
 -- A number more is listed.
-use Rattle.std.proofs.Common.{◌≡◌, ℕ, zero, suc, ◌+◌, ◌<◌, ◌≤◌, Bool, true, false, List, [], ◌∷◌, ◌++◌, length, slice_get, slice_set, get_or-set_same, get_or-set_other, length-append, length-set, replicate, Some, refl, ap, sym, ◌∙◌, subst, inl, inr, arith, cond}
+use Rattle.std.proofs.Common.{◌≡◌, ℕ, zero, suc, ◌+◌, ◌-◌, ◌<◌, ◌≤◌, Bool, true, false, List, [], ◌∷◌, ◌++◌, length, slice_get, slice_index, slice_set, get_or-set_same, get_or-set_other, length-append, length-set, replicate, Some, refl, ap, sym, ◌∙◌, subst, inl, inr, arith, cond}
 use Rattle.std.specs.List.{count_by}
 use Rattle.std.proofs.lemmas.Bool.{cases_eq, cases_lt, true≢false}
 use Rattle.std.proofs.lemmas.List.Sums.{sum_by-cons, count_by-le-length}
 use Rattle.std.proofs.lemmas.List.{get_or_past, get_or-replicate, length-replicate}
-use Rattle.tdf_events_queue.specs.Sets.{is_on, count_on, AreListed}
+use Rattle.std.proofs.lemmas.Option.{slice_get_within, slice_get-get_or}
+use Rattle.tdf_events_queue.specs.Sets.{is_on, count_on, AreListed, AreRisingFlags}
 use Rattle.tdf_events_queue.specs.machine.Clearing.{AreOff}
 
 count_cons : (b : Bool) (flags : List Bool) → count_by (λ b. b) (b ∷ flags) ≡ cond b 1 0 + count_by (λ b. b) flags
@@ -68,8 +69,56 @@ set_listed flags list p inside off listed = record {
     fresh : (i q : ℕ) → slice_get list i ≡ Some q → q ≡ p → ⊥
     fresh i q at same = true≢false (sym (listed.on i q at) ∙ ap (is_on flags) same ∙ off)
 
+-- in a list in rising order no number is above the last
+up_to_last : (flags : List Bool) (list : List ℕ) (p : ℕ) → AreRisingFlags flags list → ((j last : ℕ) → slice_get list j ≡ Some last → j + 1 ≡ length list → last < p)
+    → (i n : ℕ) → slice_get list i ≡ Some n → n < p
+up_to_last flags list p rising below i n at = let within : i < length list = slice_get_within list i n at in
+    let end : slice_get list (length list - 1) ≡ Some (slice_index list (length list - 1)) = slice_get-get_or list (length list - 1) 0 (omega (arith, within)) in
+    let high : slice_index list (length list - 1) < p = below (length list - 1) _ end (omega (arith, within)) in
+    elim (cases_eq i (length list - 1)) [
+      | inl same ↦ below i n at (omega (arith, same, within))
+      | inr apart ↦ (let up : n < slice_index list (length list - 1) = rising.rising i (length list - 1) n _ (omega (arith, apart, within)) at end in omega (arith, up, high))
+    ]
+
+pub set_rising : (flags : List Bool) (list : List ℕ) (p : ℕ) → p < length flags → is_on flags p ≡ false → AreListed flags list → AreRisingFlags flags list
+    → ((j last : ℕ) → slice_get list j ≡ Some last → j + 1 ≡ length list → last < p) → AreRisingFlags (slice_set flags p true) (list ++ p ∷ [])
+set_rising flags list p inside off listed rising below = record {
+  on = set.on;
+  all = set.all;
+  rising = λ i j n m less a b. elim (spots list p j m b) [
+    | Front g ↦ elim (spots list p i n a) [
+      | Front f ↦ rising.rising i j n m less f g
+      | End e f ↦ (let within : j < length list = slice_get_within list j m g in absurd (omega (arith, e, within, less)))
+    ]
+    | End e same ↦ elim (spots list p i n a) [
+      | Front f ↦ (let up : n < p = up_to_last flags list p rising below i n f in omega (arith, up, same))
+      | End d f ↦ absurd (omega (arith, d, e, less))
+    ]
+  ];
+}
+  where
+    set : AreListed (slice_set flags p true) (list ++ p ∷ [])
+    set = set_listed flags list p inside off listed
+
+-- no number is listed
+pub none_rising : (n : ℕ) → AreRisingFlags (replicate n false) []
+none_rising n = record {
+  on = λ j q at. absurd (grind (arith, at));
+  all = λ q on. absurd (true≢false (sym on ∙ none_on n q));
+  rising = λ i j q m less a b. absurd (grind (arith, a));
+}
+  where
+    none_on : (n q : ℕ) → is_on (replicate n false) q ≡ false
+    none_on n q = elim (cases_lt q n) [
+      | inl less ↦ get_or-replicate n q false false less
+      | inr past ↦ get_or_past (replicate n false) q false (let l = length-replicate {A = Bool} n false in omega (arith, l, past))
+    ]
+
 pub room_left : (flags : List Bool) (list : List ℕ) (p : ℕ) → p < length flags → is_on flags p ≡ false → AreListed flags list → length list < length flags
 room_left flags list p inside off listed = let c : length list ≡ count_by (λ b. b) flags = listed.count in let n : count_by (λ b. b) flags < length flags = count_off flags p inside off in omega (arith, c, n)
+
+pub has_room : (flags : List Bool) (list : List ℕ) (p len cap : ℕ) → p < length flags → is_on flags p ≡ false → AreListed flags list → length flags ≤ cap → len ≡ length list → len < cap
+has_room flags list p len cap inside off listed room is = let less : length list < length flags = room_left flags list p inside off listed in omega (arith, less, room, is)
 
 pub listed_inside : (flags : List Bool) (list : List ℕ) (j n : ℕ) → AreListed flags list → slice_get list j ≡ Some n → n < length flags
 listed_inside flags list j n listed at = elim (cases_lt n (length flags)) [ inl less ↦ less | inr past ↦ absurd (true≢false (sym (listed.on j n at) ∙ get_or_past flags n false past)) ]

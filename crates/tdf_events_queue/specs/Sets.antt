@@ -1,6 +1,6 @@
 -- A set of numbers below a bound (own): a flag for each number, and the members in a list.
 -- Source: own.
-use Rattle.std.specs.Prelude.{ℕ, ◌<◌, ◌≡◌, Bool, true, false, Some, List, length, slice_get, slice_index_or}
+use Rattle.std.specs.Prelude.{ℕ, ◌<◌, ◌≡◌, Bool, true, false, Option, Some, None, List, length, slice_get, slice_index_or}
 use Rattle.std.specs.List.{count_by}
 
 pub record SetOf : Type 0 where
@@ -29,3 +29,10 @@ pub record AreRisingFlags (flags : List Bool) (list : List ℕ) : Type 0 where
   pub all : (n : ℕ) → is_on flags n ≡ true → (j : ℕ) × (slice_get list j ≡ Some n)
   pub rising : (i j n m : ℕ) → i < j → slice_get list i ≡ Some n → slice_get list j ≡ Some m
       → n < m
+
+-- nothing stands at the first n listed places, and nothing new at the others
+pub record AreForgotten {A : Type 0} (list : List ℕ) (n : ℕ) (old new : List (Option A))
+    : Type 0 where
+  pub same : length new ≡ length old
+  pub gone : (i s : ℕ) → i < n → slice_get list i ≡ Some s → slice_index_or new s None ≡ None
+  pub kept : (s : ℕ) → slice_index_or old s None ≡ None → slice_index_or new s None ≡ None

@@ -25,7 +25,7 @@ impl Model for NumberSet {
     } };
 }
 
-ghost use Rattle.std.specs.Prelude.{◌≡◌, ◌≤◌, ◌<◌, ◌++◌, ◌∷◌, [], IfOk, false, true, length, nat_eq, replicate, slice_set};
+ghost use Rattle.std.specs.Prelude.{◌≡◌, ◌≤◌, ◌<◌, ◌+◌, ◌++◌, ◌∷◌, [], ℕ, IfOk, Some, false, true, length, nat_eq, replicate, slice_get, slice_set};
 ghost use Rattle.std.specs.Vec.{vec_capacity, vec_len};
 ghost use Rattle.tdf_events_queue.specs.Sets.{AreListed, AreRisingFlags, is_on, count_on};
 ghost use Rattle.tdf_events_queue.specs.machine.Clearing.{AreOff};
@@ -39,6 +39,15 @@ fn append(list: &mut Vec<u32>, n: u32)
     ensures room { vec_capacity list.old ≤ vec_capacity list.new }
 {
     let _ = list.push(n);
+}
+
+/// Whether a list is empty or ends with a lower number.
+fn ends_below(list: &[u32], n: u32) -> bool
+    ensures { result ≡ true → (j last : ℕ) → slice_get list.now j ≡ Some last
+        → j + 1 ≡ length list.now → last < n }
+{
+    let len = list.len();
+    len == 0 || list[len - 1] < n
 }
 
 /// Takes the listed numbers out.
@@ -89,16 +98,43 @@ impl NumberSet {
         &self.list
     }
 
+    /// A number that is not in comes to the end of the list.
+    fn put(&mut self, n: u32)
+        requires inside { n < length self.old.flags }
+        requires off { is_on self.old.flags n ≡ false }
+        ensures flags { self.new.flags ≡ slice_set self.old.flags n true }
+        ensures members { self.new.members ≡ self.old.members ++ n ∷ [] }
+    {
+        self.flags[n as usize] = true;
+        append(&mut self.list, n);
+    }
+
     /// Puts a number in.
     pub fn insert(&mut self, n: u32)
         requires { n < length self.old.flags }
         ensures { self.new.flags ≡ slice_set self.old.flags n true }
     {
-        if self.flags[n as usize] {
+        if !self.contains(n) {
+            self.put(n);
+        }
+    }
+
+    /// Puts a number in, where the members are in rising order, and stay so. One that is greater than all others comes to
+    /// the end of the list, else the members are sorted.
+    pub fn insert_rising(&mut self, n: u32)
+        requires inside { n < length self.old.flags }
+        requires rising { AreRisingFlags self.old.flags self.old.members }
+        ensures flags { self.new.flags ≡ slice_set self.old.flags n true }
+        ensures rising { AreRisingFlags self.new.flags self.new.members }
+    {
+        if self.contains(n) {
             return;
         }
-        self.flags[n as usize] = true;
-        append(&mut self.list, n);
+        let is_last = ends_below(self.members(), n);
+        self.put(n);
+        if !is_last {
+            self.sort();
+        }
     }
 
     /// Brings the members into rising order.

@@ -22,7 +22,8 @@ impl Model for Ports {
     ghost invariant = { λ a. ArePortsFit (record { spans = a.spans.items; state = a.signals }) };
 }
 
-ghost use Rattle.std.specs.Prelude.{◌≡◌, ℕ, ◌<◌, ◌≤◌, ◌+◌, length, replicate, slice_get, slice_set, slice_index_or, Some, None, true, false, pos, IfOk};
+ghost use Rattle.std.specs.Prelude.{◌≡◌, ℕ, ◌<◌, ◌≤◌, ◌+◌, is_some, length, map, replicate, slice_get, slice_set, slice_index_or, Some, None, true, false, pos, IfOk};
+ghost use Rattle.tdf_events_queue.specs.Sets.{AreRisingFlags};
 ghost use Rattle.tdf_expr.specs.Checked.{IsChecked};
 ghost use Rattle.tdf_expr.specs.Frames.{ArePortsFit, IsOfFormat, is_written, reset_state};
 ghost use Rattle.tdf_expr.specs.machine.Zeroed.{zeroed_one, zeroed};
@@ -38,6 +39,7 @@ use tdf_fixed::Raw;
 use tdf_lang_tree::PortKind;
 
 /// Whether a body writes the samples of a port.
+#[inline(always)]
 fn is_written(word: PortKind) -> bool
     ensures { result ≡ is_written word }
 {
@@ -50,6 +52,7 @@ fn is_written(word: PortKind) -> bool
 }
 
 /// Sets the samples of a port to 0, where a body writes them.
+#[inline(always)]
 fn zero_one(signals: &mut Signals, span: PortSpan)
     requires { span.first + span.count ≤ length signals.old.samples }
     ensures { signals.new ≡ zeroed_one span signals.old }
@@ -60,6 +63,7 @@ fn zero_one(signals: &mut Signals, span: PortSpan)
 }
 
 /// Sets the samples of each port that a body writes to 0.
+#[inline(always)]
 #[tactic(auto, using(crate::proofs::Framed::zero_laws))]
 fn zero_all(signals: &mut Signals, spans: &[PortSpan])
     requires { (n : ℕ) (p : PortSpanOf) → slice_get spans.now n ≡ Some p
@@ -153,6 +157,7 @@ impl Ports {
     }
 
     /// How an activation begins: the samples of `out` and `de_out` ports are 0, and nothing is asked for. It takes no memory.
+    #[inline(always)]
     pub fn reset(&mut self)
         ensures { self.new ≡ record self.old { state = reset_state self.old.spans self.old.state } }
     {
@@ -177,6 +182,13 @@ impl Ports {
         ensures { result ≡ standing (slice_get self.now.state.notified event) }
     {
         self.signals.notified(event as usize)
+    }
+
+    /// The events that were notified, in rising order.
+    pub fn notified_events(&self) -> &[u32]
+        ensures { AreRisingFlags (map is_some self.now.state.notified) result.now }
+    {
+        self.signals.notified_events()
     }
 
     /// The last timestep that was given to the module (place 0) or to port `i` (place 1 + i).

@@ -4,6 +4,7 @@ ghost use Rattle.std.specs.Prelude.{◌≡◌, ◌+◌, ◌≤◌, length};
 ghost use Rattle.tdf_expr_state.specs.Resets.{no_times, none_set, with_zeros};
 
 /// No flag is set.
+#[inline(always)]
 pub(crate) fn unset(flags: &mut Vec<bool>)
     ensures { flags.new.items ≡ none_set flags.old.items }
 {
@@ -25,6 +26,7 @@ pub(crate) fn forget(times: &mut Vec<Option<u64>>)
 }
 
 /// The numbers from `from` on, `count` of them, are 0.
+#[inline(always)]
 pub(crate) fn blank(numbers: &mut Vec<i128>, from: usize, count: usize)
     requires { from + count ≤ length numbers.old.items }
     ensures { numbers.new.items ≡ with_zeros from count numbers.old.items }

@@ -1,5 +1,6 @@
 //! The samples of the ports, and what statements asked for.
 
+use crate::notified::Notified;
 use std::marker::Model;
 
 /// The samples of the ports of a block, port after port, and what the statements of its bodies asked for.
@@ -7,9 +8,7 @@ use std::marker::Model;
 pub struct Signals {
     samples: Vec<i128>,
     assigned: Vec<bool>,
-    notified: Vec<Option<u64>>,
-    /// Whether an event was notified since all were cleared.
-    has_notified: bool,
+    notified: Notified,
     steps: Vec<Option<u64>>,
     /// Whether a timestep was given since all were cleared.
     has_steps: bool,
@@ -27,43 +26,25 @@ impl Model for Signals {
     ghost view = { λ a. record {
       samples = a.samples.items;
       assigned = a.assigned.items;
-      notified = a.notified.items;
+      notified = a.notified;
       steps = a.steps.items;
       accepts = a.accepts;
       out_of_range = a.out_of_range;
     } };
 
     ghost invariant = { λ a. record {
-      notified : a.has_notified ≡ false → a.notified.items ≡ no_times a.notified.items;
       steps : a.has_steps ≡ false → a.steps.items ≡ no_times a.steps.items;
     } };
 }
 
-ghost use Rattle.std.specs.Prelude.{◌≡◌, ◌<◌, ◌≤◌, ◌+◌, IfOk, length, replicate, pos, slice_set, slice_index_or, slice_get, Some, None, true, false};
+ghost use Rattle.std.specs.Prelude.{◌≡◌, ◌<◌, ◌≤◌, ◌+◌, IfOk, is_some, length, map, replicate, pos, slice_set, slice_index_or, slice_get, Some, None, true, false};
+ghost use Rattle.tdf_events_queue.specs.Sets.{AreRisingFlags};
 ghost use Rattle.tdf_expr_state.specs.Resets.{no_times, none_set, with_zeros};
-ghost use Rattle.tdf_expr_state.specs.State.{cell_at, least_time, standing, noticed};
+ghost use Rattle.tdf_expr_state.specs.State.{cell_at, standing, noticed};
 
 use crate::resets::{blank, forget, unset};
 use std::alloc::Global;
 use tdf_base::Memory;
-
-/// The earlier of a time and one from before.
-fn least_time(before: Option<u64>, after: u64) -> u64
-    ensures { result ≡ least_time before after }
-{
-    match before {
-        None => after,
-        Some(time) => time.min(after),
-    }
-}
-
-/// One more notification of an event.
-fn note(notified: &mut Vec<Option<u64>>, event: usize, after: u64)
-    requires { event < length notified.old.items }
-    ensures { notified.new.items ≡ noticed notified.old.items event after }
-{
-    notified[event] = Some(least_time(notified[event], after));
-}
 
 impl Signals {
     /// The ports with so many samples in all, each 0, and nothing asked for.
@@ -78,8 +59,7 @@ impl Signals {
         Ok(Signals {
             samples: vec![in alloc; 0; samples as usize]?,
             assigned: vec![in alloc; false; ports as usize]?,
-            notified: vec![in alloc; None; events as usize]?,
-            has_notified: false,
+            notified: Notified::new(alloc, events)?,
             steps: vec![in alloc; None; ports as usize + 1]?,
             has_steps: false,
             accepts: None,
@@ -117,7 +97,14 @@ impl Signals {
         requires { event < length self.now.notified }
         ensures { result ≡ standing (slice_get self.now.notified event) }
     {
-        self.notified[event]
+        self.notified.time(event)
+    }
+
+    /// The events that were notified, in rising order.
+    pub fn notified_events(&self) -> &[u32]
+        ensures { AreRisingFlags (map is_some self.now.notified) result.now }
+    {
+        self.notified.events()
     }
 
     /// The timestep that was given last: of the module at place 0, of a port at place 1 + its number.
@@ -171,8 +158,7 @@ impl Signals {
         requires { event < length self.old.notified }
         ensures { self.new ≡ record self.old { notified = noticed self.old.notified event after } }
     {
-        note(&mut self.notified, event, after);
-        self.has_notified = true;
+        self.notified.note(event, after);
     }
 
     /// The module (place 0) or a port (place 1 + its number) is given a timestep.
@@ -199,6 +185,7 @@ impl Signals {
     }
 
     /// The samples from `from` on, `count` of them, are 0. It takes no memory.
+    #[inline(always)]
     pub fn clear_samples(&mut self, from: usize, count: usize)
         requires { from + count ≤ length self.old.samples }
         ensures { self.new ≡ record self.old { samples = with_zeros from count self.old.samples } }
@@ -207,23 +194,23 @@ impl Signals {
     }
 
     /// No port has an assigned sample. It takes no memory.
+    #[inline(always)]
     pub fn clear_assigned(&mut self)
         ensures { self.new ≡ record self.old { assigned = none_set self.old.assigned } }
     {
         unset(&mut self.assigned);
     }
 
-    /// No event is notified. It takes no memory.
+    /// No event is notified. It takes no memory, and goes through the events that were notified alone.
+    #[inline(always)]
     pub fn clear_notified(&mut self)
         ensures { self.new ≡ record self.old { notified = no_times self.old.notified } }
     {
-        if self.has_notified {
-            forget(&mut self.notified);
-            self.has_notified = false;
-        }
+        self.notified.clear();
     }
 
     /// No timestep is given. It takes no memory.
+    #[inline(always)]
     pub fn clear_steps(&mut self)
         ensures { self.new ≡ record self.old { steps = no_times self.old.steps } }
     {
@@ -234,6 +221,7 @@ impl Signals {
     }
 
     /// Nothing is accepted or rejected, and no rate was out of range. It takes no memory.
+    #[inline(always)]
     pub fn clear_answers(&mut self)
         ensures { self.new ≡ record self.old { accepts = None; out_of_range = false } }
     {

@@ -41,12 +41,6 @@ pub record AreTaken (signals : List ℕ) (waiting : List (Option Raw)) (n : ℕ)
   pub others : (s : ℕ) → (value_at new s ≡ value_at old s)
       ⊎ (value_at new s ≡ unwrap_or (slice_index_or waiting s None) (value_at old s))
 
--- nothing waits for the first n signals, and nothing new for the others
-pub record AreForgotten (signals : List ℕ) (n : ℕ) (old new : List (Option Raw)) : Type 0 where
-  pub same : length new ≡ length old
-  pub gone : (i s : ℕ) → i < n → slice_get signals i ≡ Some s → slice_index_or new s None ≡ None
-  pub kept : (s : ℕ) → slice_index_or old s None ≡ None → slice_index_or new s None ≡ None
-
 -- a process that is sensitive to a number that passes
 pub record IsSensitive (lists : List (List ℕ)) (test : ℕ → Bool) (p : ℕ) : Type 0 where
   pub number : ℕ

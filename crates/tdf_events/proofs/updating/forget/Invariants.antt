@@ -1,4 +1,4 @@
-use Rattle.tdf_events.specs.machine.Updating.{AreForgotten}
+use Rattle.tdf_events_queue.specs.Sets.{AreForgotten}
 use Rattle.tdf_events.proofs.updating.forget.Given as goal
 
 abbrev pub invariant-loop-i : goal.invariant-loop-i

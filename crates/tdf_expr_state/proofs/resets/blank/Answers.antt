@@ -1,4 +1,4 @@
-use Rattle.std.proofs.Common.{rules, ◌∙◌, ap, sym, arith}
+use Rattle.std.proofs.Common.{◌∙◌, ap, sym, arith}
 use Rattle.tdf_expr_state.proofs.Blanks.{one_zero}
 use Rattle.tdf_expr_state.proofs.resets.blank.Goals as goal
 use Rattle.tdf_expr_state.specs.Resets.{with_zeros}

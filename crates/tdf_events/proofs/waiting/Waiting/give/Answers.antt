@@ -1,7 +1,8 @@
 use Rattle.std.proofs.Common.{arith, ◌≡◌, ◌<◌, ℕ, List, Option, None, is_some, false, length, map, replicate, slice_get, ap, sym, ◌∙◌, subst}
 use Rattle.std.proofs.lemmas.List.{length-map}
 use Rattle.tdf_events.specs.Delta.{updated}
-use Rattle.tdf_events.specs.machine.Updating.{AreForgotten, AreTaken}
+use Rattle.tdf_events.specs.machine.Updating.{AreTaken}
+use Rattle.tdf_events_queue.specs.Sets.{AreForgotten}
 use Rattle.tdf_events.proofs.Updates.{flags_gone, forgotten_all, member_inside, taken_all}
 use Rattle.tdf_fixed.specs.declared.raw.Raw.{Raw}
 use Rattle.tdf_events.proofs.waiting.Waiting.give.Goals as goal

@@ -1,6 +1,6 @@
 use Rattle.std.proofs.Common.{rules, ◌≡◌, Option, None, replicate}
 use Rattle.tdf_fixed.specs.declared.raw.Raw.{Raw}
-use Rattle.tdf_events.proofs.Writing.{flags_new}
+use Rattle.tdf_events_queue.proofs.Api.{flags_new}
 use Rattle.tdf_events.proofs.waiting.Waiting.new.Goals as goal
 
 abbrev nothing : Option Raw

@@ -1,10 +1,7 @@
-use Rattle.std.proofs.Common.{rules, arith, ◌≡◌, ◌<◌, ◌≤◌, List, ℕ, true, false, length, slice_set, subst, sym, Bool}
+use Rattle.std.proofs.Common.{rules, ◌≡◌, ◌<◌, List, ℕ, true, false, length, slice_set, subst, sym}
 use Rattle.tdf_events_queue.specs.Sets.{is_on, AreListed}
-use Rattle.tdf_events_queue.proofs.Members.{set_listed, room_left}
-use Rattle.tdf_events_queue.proofs.sets.NumberSet.insert.Goals as goal
-
-has_room : (flags : List Bool) (list : List ℕ) (p len cap : ℕ) → p < length flags → is_on flags p ≡ false → AreListed flags list → length flags ≤ cap → len ≡ length list → len < cap
-has_room flags list p len cap inside off listed room is = let less : length list < length flags = room_left flags list p inside off listed in omega (arith, less, room, is)
+use Rattle.tdf_events_queue.proofs.Members.{has_room, set_listed}
+use Rattle.tdf_events_queue.proofs.sets.NumberSet.put.Goals as goal
 
 pub append-requires : goal.append-requires
 append-requires c = has_room c.self.inside.flags.items c.self.inside.list.items c.args.n _ _ (search rules) (search rules) c.self.invariant.listed c.self.invariant.room (search rules)
