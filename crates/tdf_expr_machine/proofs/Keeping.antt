@@ -1,7 +1,7 @@
 -- Casts that need no more than a cut: the neighbour below, where it lies in the range.
 use Rattle.std.proofs.Common.{◌≡◌, ◌∙◌, ℕ, ◌+◌, ◌-◌, ◌*◌, ◌/◌, ◌%◌, ◌^◌, ◌<◌, ◌≤◌, Bool, true, false, ℤ, pos, negsuc, ◌*ℤ◌, ◌≤ℤ◌, nat_eq, if◌then◌else◌, refl, sym, ap, subst, inl, inr, ◌⊎◌, arith}
-use Rattle.std.proofs.Math.Nat.{mul-le-mul_right}
-use Rattle.std.proofs.lemmas.Int.{ints}
+use Rattle.std.proofs.Math.Nat.{mul-le-mul_right, pow-le-pow_right}
+use Rattle.std.proofs.lemmas.Int.{ints, unsigned_abs-mul}
 use Rattle.std.proofs.lemmas.Nat.{div-add-mod', div_below, mod_below, pow_pos, pow-add}
 use Rattle.std.specs.Prelude.{unsigned_abs}
 use Rattle.tdf_fixed.proofs.Api.{cast_keeps, kept, placed_up, placed_down}
@@ -74,6 +74,23 @@ raised_small m bits few less =
     let all : (61 - bits) + bits ≡ 61 = omega arith in
     let power : 2 ^ 61 ≡ 2 ^ (61 - bits) * 2 ^ bits = ap (λ k. 2 ^ k) (sym all) ∙ pow-add 2 (61 - bits) bits in
     omega (arith, times, power)
+
+width_abs : (num : ℤ) (wl : ℕ) → IsOfWidth true wl num → unsigned_abs num ≤ 2 ^ (wl - 1)
+width_abs (pos n) wl range = let high = range.high in let some = pow_pos (wl - 1) in omega (arith, ints, some, high)
+width_abs (negsuc n) wl range = let low = range.low in let some = pow_pos (wl - 1) in omega (arith, ints, some, low)
+
+-- a number of a signed range moved up
+pub range_raised : (num : ℤ) (wl bits : ℕ) → 1 ≤ wl → bits + wl ≤ 62 → IsOfWidth true wl num → unsigned_abs num * 2 ^ bits ≤ 2 ^ 61
+range_raised num wl bits some few range =
+    let half : unsigned_abs num ≤ 2 ^ (wl - 1) = width_abs num wl range in
+    let times : unsigned_abs num * 2 ^ bits ≤ 2 ^ (wl - 1) * 2 ^ bits = mul-le-mul_right (2 ^ bits) half in
+    let power : 2 ^ (wl - 1 + bits) ≡ 2 ^ (wl - 1) * 2 ^ bits = pow-add 2 (wl - 1) bits in
+    let below_all : wl - 1 + bits ≤ 61 = omega (arith, some, few) in
+    let most : 2 ^ (wl - 1 + bits) ≤ 2 ^ 61 = pow-le-pow_right (omega arith) below_all in
+    omega (arith, times, power, most)
+
+pub raised_abs : (num z : ℤ) (bits : ℕ) → z ≡ num *ℤ pos (2 ^ bits) → unsigned_abs num * 2 ^ bits ≤ 2 ^ 61 → unsigned_abs z ≤ 2 ^ 61
+raised_abs num z bits is small = rw (is, unsigned_abs-mul num (pos (2 ^ bits))) small
 
 pub seen_signed : (num : ℤ) (wl : ℕ) → IsOfWidth true wl num → (below num (2 ^ (wl - 1)) ≡ pos 0) ⊎ (below num (2 ^ (wl - 1)) ≡ negsuc 0)
 seen_signed (pos n) wl range =

@@ -4,3 +4,4 @@ pub mod InOrder
 pub mod Plains
 pub mod Powers
 pub mod Runs
+pub mod Sums

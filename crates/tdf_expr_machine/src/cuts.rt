@@ -1,6 +1,6 @@
 //! Casts of 64-bit numbers that no more than a cut of the last bits brings into the format: the common ones, by a shift.
 
-ghost use Rattle.std.specs.Prelude.{◌≡◌, ◌≢◌, ◌≤◌, ◌-◌, ◌*◌, ◌^◌, ◌*ℤ◌, ◌<◌, pos, unsigned_abs, IsTrue, IfSome, IsSome, Bool, true, ℕ};
+ghost use Rattle.std.specs.Prelude.{◌≡◌, ◌≢◌, ◌≤◌, ◌+◌, ◌-◌, ◌*◌, ◌^◌, ◌*ℤ◌, ◌<◌, pos, unsigned_abs, IsTrue, IfSome, IsSome, Bool, true, ℕ};
 ghost use Rattle.tdf_fixed.specs.Cast.{cast_of, fraction_of};
 ghost use Rattle.tdf_fixed.specs.CastLaws.{least_kept};
 ghost use Rattle.tdf_fixed.specs.Overflow.{IsOfWidth, least};
@@ -9,6 +9,7 @@ ghost use Rattle.tdf_expr_machine.specs.machine.Cuts.{IsCutOf};
 ghost use Rattle.tdf_fixed.specs.declared.over.Over.TheVariants.{SatSym};
 ghost use Rattle.tdf_fixed.specs.declared.quant.Quant.TheVariants.{Trn};
 
+use crate::short::short_of;
 use tdf_fixed::{Format, Over, Quant};
 
 /// `num / 2^s`, rounded down.
@@ -208,6 +209,67 @@ pub(crate) fn cut_by(num: i64, by: &Cut) -> Option<i64>
     } else {
         None
     }
+}
+
+/// The same cut, where it goes to a signed range whose numbers, moved up by so many bits, have no more than 62.
+#[inline(always)]
+pub(crate) fn roomy_cut(cut: Cut, bits: u32) -> Option<Cut>
+    ensures same { IfSome result (λ c. c ≡ cut) }
+    ensures signed { IfSome result (λ c. c.signed ≡ true) }
+    ensures few { IfSome result (λ c. bits + c.wl ≤ 62) }
+    ensures found { cut.signed ≡ true → bits + cut.wl ≤ 62 → IsSome result }
+{
+    if !cut.signed || cut.wl > 62 || bits > 62 - cut.wl {
+        return None;
+    }
+    Some(Cut {
+        shift: cut.shift,
+        signed: true,
+        wl: cut.wl,
+    })
+}
+
+/// The same cut, where it cuts nothing off and goes to a signed range.
+#[inline(always)]
+pub(crate) fn whole_cut(cut: Cut) -> Option<Cut>
+    ensures same { IfSome result (λ c. c ≡ cut) }
+    ensures found { cut.signed ≡ true → cut.shift ≡ 0 → IsSome result }
+{
+    if !cut.signed || cut.shift != 0 {
+        return None;
+    }
+    Some(Cut {
+        shift: 0,
+        signed: true,
+        wl: cut.wl,
+    })
+}
+
+/// The number, where it lies in the range that a cut goes to.
+#[inline(always)]
+pub(crate) fn held_by(num: i128, by: &Cut) -> Option<i64>
+    requires { (1 ≤ by.now.wl) × (by.now.wl ≤ 62) }
+    ensures same { IfSome result (λ n. n ≡ num) }
+    ensures range { IfSome result (λ n. IsOfWidth by.now.signed by.now.wl n) }
+{
+    let short = short_of(num)?;
+    if is_within(short, by.signed, by.wl) {
+        Some(short)
+    } else {
+        None
+    }
+}
+
+/// A number of the signed range that a cut goes to, moved up by so many bits.
+#[inline(always)]
+#[tactic(auto, using(crate::proofs::Keeping::range_raised))]
+pub(crate) fn multiple_in(num: i64, bits: u32, by: &Cut) -> i64
+    requires few { (1 ≤ by.now.wl) × (bits + by.now.wl ≤ 62) }
+    requires range { IsOfWidth true by.now.wl num }
+    ensures value { result ≡ num *ℤ pos (2 ^ bits) }
+    ensures small { unsigned_abs result ≤ 2 ^ 61 }
+{
+    multiple(num, bits)
 }
 
 /// The number itself, where it lies in the range of a signed format with as many bits after the point.

@@ -1,21 +1,21 @@
 //! Loops whose body is one assignment of a value that is read straight from the cells: a copy of an element, and a sum with
 //! a product of two elements. Their turns go without a walk over the tree.
 
-ghost use Rattle.std.specs.Int.{w64};
-ghost use Rattle.std.specs.Prelude.{◌≡◌, ◌<◌, ◌≤◌, ◌^◌, ◌*ℤ◌, max, FitsSigned, IfSome, IsSome, IsTrue, false, length};
+ghost use Rattle.std.specs.Int.{w32, w64};
+ghost use Rattle.std.specs.Prelude.{◌≡◌, ◌≢◌, ℕ, ◌+◌, ◌<◌, ◌≤◌, ◌^◌, ◌*ℤ◌, max, unsigned_abs, FitsSigned, IfSome, IsSome, IsTrue, true, false, length};
 ghost use Rattle.tdf_expr_machine.specs.Acts.{IsTurnSafe, act_turn};
 ghost use Rattle.tdf_expr_machine.specs.Turns.{AreTurnsSafe, turned};
 ghost use Rattle.tdf_expr_machine.specs.declared.nodes.Node.TheVariants.{Cell, CellAt};
-ghost use Rattle.tdf_expr_machine.specs.machine.Plain.{AreCells, AreTerms, IsElement, IsOn, IsOnTarget, IsPlain, IsPlainSet, IsProduct, IsSum, IsTarget, IsTrackOf, plain_value, terms_value, target_place, track_place};
+ghost use Rattle.tdf_expr_machine.specs.machine.Plain.{AreCells, AreTerms, IsElement, IsInnerProduct, IsOn, IsOnTarget, IsPlain, IsPlainSet, IsProduct, IsSum, IsTarget, IsTrackOf, inner_step, plain_value, terms_value, target_place, track_place};
 ghost use Rattle.tdf_expr_machine.specs.machine.Steps.{IsShortProduct, PlainFits, TermsFit};
 ghost use Rattle.tdf_fixed.specs.Quantise.{below};
 ghost use Rattle.tdf_fixed.specs.Overflow.{IsOfWidth};
 ghost use Rattle.tdf_expr_state.specs.State.{cell_at, state_of};
 
 use crate::acts::Act;
-use crate::cuts::{Cut, cut_by, cut_of, raised};
+use crate::cuts::{Cut, cut_by, cut_of, held_by, multiple_in, raised, roomy_cut, whole_cut};
 use crate::nodes::Node;
-use crate::short::{product, short_of, sum};
+use crate::short::{product, short_of, small_of, small_product, sum};
 use crate::spots::Spot;
 use tdf_expr_state::{Cells, Signals};
 
@@ -329,6 +329,224 @@ fn plain_turns(
     turns.from.max(turns.end)
 }
 
+/// The same copy, where both its elements go this way and it keeps all bits of a signed number: a loop over it asks for
+/// none of this at its turns.
+#[inline(always)]
+fn straight_copy(set: &PlainSet, down: bool) -> Option<PlainSet>
+    ensures { IfSome result (λ same. same ≡ set.now) }
+{
+    match (set.target, set.value) {
+        (Target::Element(to), Plain::Element(of)) => {
+            if to.down != down || of.down != down {
+                return None;
+            }
+            let cut = whole_cut(set.cut)?;
+            Some(PlainSet {
+                target: Target::Element(Track { at: to.at, down }),
+                value: Plain::Element(Track { at: of.at, down }),
+                cut,
+            })
+        }
+        _ => None,
+    }
+}
+
+/// The turns of a loop that copies elements, as `plain_turns`.
+#[inline(always)]
+fn copy_turns(
+    act: &Act,
+    set: &PlainSet,
+    turns: TurnRange,
+    loops: &[u32],
+    cells: &mut Cells,
+    signals: &Signals,
+) -> u32
+    requires set { IsPlainSet act.now (length loops.now) set.now }
+    requires safe { AreTurnsSafe (act_turn act.now loops.now) (IsTurnSafe act.now loops.now) turns.from turns.end (state_of cells.old signals.now) }
+    ensures after { turns.from ≤ result }
+    ensures within { result ≤ max turns.from turns.end }
+    ensures state { state_of cells.new signals.now ≡ turned (act_turn act.now loops.now) turns.from result (state_of cells.old signals.now) }
+{
+    match straight_copy(set, true) {
+        Some(falling) => plain_turns(act, &falling, turns, loops, cells, signals),
+        None => match straight_copy(set, false) {
+            Some(rising) => plain_turns(act, &rising, turns, loops, cells, signals),
+            None => plain_turns(act, set, turns, loops, cells, signals),
+        },
+    }
+}
+
+/// A cell that gets itself, moved up by some bits, and a product of the next elements of two rows: after the turns it
+/// holds the inner product of the rows.
+#[derive(Clone, Copy)]
+pub(crate) struct InnerProduct {
+    at: u32,
+    lift: u32,
+    first: u32,
+    second: u32,
+    cut: Cut,
+}
+
+/// The begin of a row of elements that goes up and doesn't reach a cell at these turns.
+#[inline(always)]
+fn row_of(track: Track, at: u32, turns: TurnRange) -> Option<u32>
+    ensures row { IfSome result (λ first. track ≡ record { at = first; down = false }) }
+    ensures apart { IfSome result (λ first. (turn : ℕ) → turns.from ≤ turn → turn < turns.end → first + turn ≢ at) }
+{
+    let from = u64::from(track.at) + u64::from(turns.from);
+    let end = u64::from(track.at) + u64::from(turns.end);
+    if track.down || (from <= u64::from(at) && u64::from(at) < end) {
+        return None;
+    }
+    Some(track.at)
+}
+
+/// The inner product that an assignment makes at these turns.
+#[inline(always)]
+fn inner_product_of(set: &PlainSet, turns: TurnRange) -> Option<InnerProduct>
+    ensures { IfSome result (λ inner. IsInnerProduct set.now turns.from turns.end inner) }
+{
+    match (set.target, set.value) {
+        (Target::Cell(at), Plain::Sum(terms)) => {
+            if terms.base != at || terms.rise != 0 {
+                return None;
+            }
+            let first = row_of(terms.first, at, turns)?;
+            let second = row_of(terms.second, at, turns)?;
+            let cut = roomy_cut(set.cut, terms.lift)?;
+            Some(InnerProduct {
+                at,
+                lift: terms.lift,
+                first,
+                second,
+                cut,
+            })
+        }
+        _ => None,
+    }
+}
+
+/// The product of the elements at a turn, where both fit 32 bits.
+#[inline(always)]
+fn rows_product(inner: &InnerProduct, turn: u32, cells: &Cells) -> Option<i64>
+    requires first { inner.now.first + turn < length cells.now.cells }
+    requires second { inner.now.second + turn < length cells.now.cells }
+    ensures value { IfSome result (λ n. n ≡ cell_at cells.now.cells (inner.now.first + turn) *ℤ cell_at cells.now.cells (inner.now.second + turn)) }
+    ensures small { IfSome result (λ n. unsigned_abs n ≤ 2 ^ 62) }
+    ensures found { FitsSigned w32 (cell_at cells.now.cells (inner.now.first + turn)) → FitsSigned w32 (cell_at cells.now.cells (inner.now.second + turn)) → IsSome result }
+{
+    let first = small_of(cells.cell(inner.first as usize + turn as usize))?;
+    let second = small_of(cells.cell(inner.second as usize + turn as usize))?;
+    Some(small_product(first, second))
+}
+
+/// The sum after a turn, where the elements fit 32 bits and the sum lies in the range.
+#[inline(always)]
+fn inner_step(inner: &InnerProduct, turn: u32, sum: i64, cells: &Cells) -> Option<i64>
+    requires first { inner.now.first + turn < length cells.now.cells }
+    requires second { inner.now.second + turn < length cells.now.cells }
+    requires cut { (inner.now.cut.shift ≤ 62) × (1 ≤ inner.now.cut.wl) × (inner.now.lift + inner.now.cut.wl ≤ 62) }
+    requires range { IsOfWidth true inner.now.cut.wl sum }
+    ensures value { IfSome result (λ n. n ≡ inner_step inner.now turn sum cells.now.cells) }
+    ensures range { IfSome result (λ n. IsOfWidth inner.now.cut.signed inner.now.cut.wl n) }
+    ensures found { FitsSigned w32 (cell_at cells.now.cells (inner.now.first + turn)) → FitsSigned w32 (cell_at cells.now.cells (inner.now.second + turn))
+        → IsOfWidth inner.now.cut.signed inner.now.cut.wl (inner_step inner.now turn sum cells.now.cells) → IsSome result }
+{
+    let both = rows_product(inner, turn, cells)?;
+    cut_by(multiple_in(sum, inner.lift, &inner.cut) + both, &inner.cut)
+}
+
+/// The turns of a loop that makes an inner product, as `plain_turns`. The sum is kept out of the cells till the end.
+#[inline(always)]
+#[tactic(auto, using(crate::proofs::Runs::turn_laws))]
+fn inner_turns(
+    act: &Act,
+    set: &PlainSet,
+    inner: &InnerProduct,
+    turns: TurnRange,
+    loops: &[u32],
+    cells: &mut Cells,
+    signals: &Signals,
+) -> u32
+    requires set { IsPlainSet act.now (length loops.now) set.now }
+    requires inner { IsInnerProduct set.now turns.from turns.end inner.now }
+    requires some { turns.from < turns.end }
+    requires safe { AreTurnsSafe (act_turn act.now loops.now) (IsTurnSafe act.now loops.now) turns.from turns.end (state_of cells.old signals.now) }
+    ensures after { turns.from ≤ result }
+    ensures within { result ≤ turns.end }
+    ensures state { state_of cells.new signals.now ≡ turned (act_turn act.now loops.now) turns.from result (state_of cells.old signals.now) }
+{
+    let place = inner.at as usize;
+    let Some(first) = held_by(cells.cell(place), &inner.cut) else {
+        return turns.from;
+    };
+    let mut sum = first;
+    for i in turns.from..turns.end {
+        match inner_step(inner, i, sum, cells) {
+            Some(next) => sum = next,
+            None => {
+                cells.set_cell(place, i128::from(sum));
+                return i;
+            }
+        }
+    }
+    cells.set_cell(place, i128::from(sum));
+    turns.end
+}
+
+/// The turns of a loop that makes an inner product, and none of another.
+#[inline(always)]
+#[tactic(auto, using(crate::proofs::Runs::turn_laws))]
+fn product_turns(
+    act: &Act,
+    set: &PlainSet,
+    turns: TurnRange,
+    loops: &[u32],
+    cells: &mut Cells,
+    signals: &Signals,
+) -> u32
+    requires set { IsPlainSet act.now (length loops.now) set.now }
+    requires some { turns.from < turns.end }
+    requires safe { AreTurnsSafe (act_turn act.now loops.now) (IsTurnSafe act.now loops.now) turns.from turns.end (state_of cells.old signals.now) }
+    ensures after { turns.from ≤ result }
+    ensures within { result ≤ turns.end }
+    ensures state { state_of cells.new signals.now ≡ turned (act_turn act.now loops.now) turns.from result (state_of cells.old signals.now) }
+{
+    match inner_product_of(set, turns) {
+        Some(inner) => inner_turns(act, set, &inner, turns, loops, cells, signals),
+        None => turns.from,
+    }
+}
+
+/// The turns of a loop that adds products to a cell, as `plain_turns`: as an inner product till a turn whose elements
+/// don't fit 32 bits.
+#[inline(always)]
+#[tactic(auto, using(crate::proofs::Runs::turn_laws))]
+fn sum_turns(
+    act: &Act,
+    set: &PlainSet,
+    turns: TurnRange,
+    loops: &[u32],
+    cells: &mut Cells,
+    signals: &Signals,
+) -> u32
+    requires set { IsPlainSet act.now (length loops.now) set.now }
+    requires safe { AreTurnsSafe (act_turn act.now loops.now) (IsTurnSafe act.now loops.now) turns.from turns.end (state_of cells.old signals.now) }
+    ensures after { turns.from ≤ result }
+    ensures within { result ≤ max turns.from turns.end }
+    ensures state { state_of cells.new signals.now ≡ turned (act_turn act.now loops.now) turns.from result (state_of cells.old signals.now) }
+{
+    if turns.end <= turns.from {
+        return turns.from;
+    }
+    let next = product_turns(act, set, turns, loops, cells, signals);
+    let rest = TurnRange {
+        from: next,
+        end: turns.end,
+    };
+    plain_turns(act, set, rest, loops, cells, signals)
+}
+
 /// The turns of a loop that go without a walk over the tree of its body, none where its form is another; and the turn that
 /// comes next.
 #[tactic(auto, using(crate::proofs::Runs::turn_laws))]
@@ -347,10 +565,10 @@ pub(crate) fn quick_turns(
     match plain_set(body, loops.len()) {
         Some(set) => match (set.target, set.value) {
             (Target::Element(_), Plain::Element(_)) => {
-                plain_turns(body, &set, turns, loops, cells, signals)
+                copy_turns(body, &set, turns, loops, cells, signals)
             }
             (Target::Cell(_), Plain::Sum(_)) => {
-                plain_turns(body, &set, turns, loops, cells, signals)
+                sum_turns(body, &set, turns, loops, cells, signals)
             }
             _ => turns.from,
         },

@@ -1,13 +1,14 @@
 //! The values of expressions by 64-bit arithmetic, where each step of it fits.
 
-ghost use Rattle.std.specs.Int.{w64};
-ghost use Rattle.std.specs.Prelude.{◌≡◌, ◌≤◌, ◌^◌, pos, ◌+ℤ◌, ◌-ℤ◌, ◌*ℤ◌, neg_ℤ, FitsSigned, IfSome, IsSome};
+ghost use Rattle.std.specs.Int.{w32, w64};
+ghost use Rattle.std.specs.Prelude.{◌≡◌, ◌≤◌, ◌^◌, pos, ◌+ℤ◌, ◌-ℤ◌, ◌*ℤ◌, neg_ℤ, unsigned_abs, FitsSigned, IfSome, IsSome};
 ghost use Rattle.tdf_expr_machine.specs.Nodes.{IsSafe, node_value, is_true, relates, truth_number};
-ghost use Rattle.tdf_expr_machine.specs.machine.Steps.{IsLeaf, StepsFit};
+ghost use Rattle.tdf_expr_machine.specs.machine.Steps.{IsLeaf, IsShortRaised, StepsFit};
 ghost use Rattle.tdf_expr_state.specs.State.{state_of};
 
 use crate::cuts::raised;
 use crate::nodes::{Node, Relation, Sight, fitted_short};
+use crate::numbers::holds;
 use crate::spots::place;
 
 /// A number in 64 bits, where it fits.
@@ -20,6 +21,27 @@ pub(crate) fn short_of(num: i128) -> Option<i64>
         Ok(short) => Some(short),
         Err(_) => None,
     }
+}
+
+/// A number in 32 bits, where it fits.
+#[inline(always)]
+pub(crate) fn small_of(num: i128) -> Option<i32>
+    ensures value { IfSome result (λ n. n ≡ num) }
+    ensures found { FitsSigned w32 num → IsSome result }
+{
+    match i32::try_from(num) {
+        Ok(small) => Some(small),
+        Err(_) => None,
+    }
+}
+
+/// The product of two numbers of 32 bits.
+#[inline(always)]
+pub(crate) fn small_product(a: i32, b: i32) -> i64
+    ensures value { result ≡ a *ℤ b }
+    ensures small { unsigned_abs result ≤ 2 ^ 62 }
+{
+    i64::from(a) * i64::from(b)
 }
 
 #[inline(always)]
@@ -64,14 +86,6 @@ fn negative(a: i64) -> Option<i64>
     ensures found { FitsSigned w64 (neg_ℤ a) → IsSome result }
 {
     short_of(-i128::from(a))
-}
-
-/// Whether a number is taken as true.
-#[inline(always)]
-fn holds(num: i64) -> bool
-    ensures { result ≡ is_true num }
-{
-    num != 0
 }
 
 /// 1 for true, 0 for false.
@@ -129,6 +143,18 @@ pub(crate) fn operand(node: &Node, at: &Sight) -> Option<i64>
     }
 }
 
+/// The value of a part of an expression, moved up.
+#[cycle(short)]
+#[inline(always)]
+fn raised_part(node: &Node, bits: u32, at: &Sight) -> Option<i64>
+    requires { IsSafe node.now (state_of at.now.cells.now at.now.signals.now) at.now.loops.now }
+    ensures value { IfSome result (λ n. n ≡ node_value node.now (state_of at.now.cells.now at.now.signals.now) at.now.loops.now *ℤ pos (2 ^ bits)) }
+    ensures found { StepsFit node.now (state_of at.now.cells.now at.now.signals.now) at.now.loops.now
+        → IsShortRaised (node_value node.now (state_of at.now.cells.now at.now.signals.now) at.now.loops.now) bits → IsSome result }
+{
+    raised(operand(node, at)?, bits)
+}
+
 /// Whether an expression holds, where its value and that of each part fit 64 bits.
 #[cycle(short)]
 #[inline(never)]
@@ -140,10 +166,10 @@ pub(crate) fn verdict(node: &Node, at: &Sight) -> Option<bool>
 {
     match node {
         Node::Compare(relation, a, m, b, n) => {
-            let a = raised(operand(a, at)?, *m)?;
-            Some(relates(*relation, a, raised(operand(b, at)?, *n)?))
+            let a = raised_part(a, *m, at)?;
+            Some(relates(*relation, a, raised_part(b, *n, at)?))
         }
-        _ => Some(holds(operand(node, at)?)),
+        _ => Some(holds(i128::from(operand(node, at)?))),
     }
 }
 
@@ -156,37 +182,37 @@ pub(crate) fn short_value(node: &Node, at: &Sight) -> Option<i64>
 {
     match node {
         Node::Sum(a, m, b, n) => {
-            let a = raised(operand(a, at)?, *m)?;
-            sum(a, raised(operand(b, at)?, *n)?)
+            let a = raised_part(a, *m, at)?;
+            sum(a, raised_part(b, *n, at)?)
         }
         Node::Difference(a, m, b, n) => {
-            let a = raised(operand(a, at)?, *m)?;
-            difference(a, raised(operand(b, at)?, *n)?)
+            let a = raised_part(a, *m, at)?;
+            difference(a, raised_part(b, *n, at)?)
         }
         Node::Product(a, b) => {
             let a = operand(a, at)?;
             product(a, operand(b, at)?)
         }
         Node::Negative(a) => negative(operand(a, at)?),
-        Node::Up(a, n) => raised(operand(a, at)?, *n),
+        Node::Up(a, n) => raised_part(a, *n, at),
         Node::Compare(relation, a, m, b, n) => {
-            let a = raised(operand(a, at)?, *m)?;
-            truth(relates(*relation, a, raised(operand(b, at)?, *n)?))
+            let a = raised_part(a, *m, at)?;
+            truth(relates(*relation, a, raised_part(b, *n, at)?))
         }
         Node::And(a, b) => {
             let a = operand(a, at)?;
-            truth(holds(a) && holds(operand(b, at)?))
+            truth(holds(i128::from(a)) && holds(i128::from(operand(b, at)?)))
         }
         Node::Or(a, b) => {
             let a = operand(a, at)?;
-            truth(holds(a) || holds(operand(b, at)?))
+            truth(holds(i128::from(a)) || holds(i128::from(operand(b, at)?)))
         }
-        Node::Not(a) => truth(!holds(operand(a, at)?)),
+        Node::Not(a) => truth(!holds(i128::from(operand(a, at)?))),
         Node::Choice(test, a, m, b, n) => {
             if verdict(test, at)? {
-                raised(operand(a, at)?, *m)
+                raised_part(a, *m, at)
             } else {
-                raised(operand(b, at)?, *n)
+                raised_part(b, *n, at)
             }
         }
         Node::Cast(a, frac, format) => short_of(fitted_short(operand(a, at)?, *frac, format)),
@@ -205,12 +231,12 @@ pub(crate) fn top_value(node: &Node, at: &Sight) -> Option<i64>
 {
     match node {
         Node::Sum(a, m, b, n) => {
-            let a = raised(operand(a, at)?, *m)?;
-            sum(a, raised(operand(b, at)?, *n)?)
+            let a = raised_part(a, *m, at)?;
+            sum(a, raised_part(b, *n, at)?)
         }
         Node::Difference(a, m, b, n) => {
-            let a = raised(operand(a, at)?, *m)?;
-            difference(a, raised(operand(b, at)?, *n)?)
+            let a = raised_part(a, *m, at)?;
+            difference(a, raised_part(b, *n, at)?)
         }
         _ => operand(node, at),
     }

@@ -1,11 +1,12 @@
 -- Assignments of values that are read straight from the cells, at the innermost of some loops.
-use Rattle.std.specs.Prelude.{◌≡◌, ℕ, ◌+◌, ◌-◌, ◌^◌, ◌<◌, ◌≤◌, ℤ, pos, ◌+ℤ◌, ◌*ℤ◌, true, if◌then◌else◌, List, [], ◌∷◌, ◌++◌, length}
+use Rattle.std.specs.Prelude.{◌≡◌, ◌≢◌, ℕ, ◌+◌, ◌-◌, ◌^◌, ◌<◌, ◌≤◌, ℤ, pos, ◌+ℤ◌, ◌*ℤ◌, true, false, if◌then◌else◌, List, [], ◌∷◌, ◌++◌, length}
 use Rattle.tdf_fixed.specs.Overflow.{IsOfWidth}
 use Rattle.tdf_fixed.specs.Quantise.{below}
 use Rattle.tdf_expr_machine.specs.Acts.{acted, IsSafeAct}
 use Rattle.tdf_expr_machine.specs.Nodes.{node_value, spot_place, IsSafe, IsSpot}
 use Rattle.tdf_expr_machine.specs.declared.acts.Act.{Act}
 use Rattle.tdf_expr_machine.specs.declared.nodes.Node.{Node}
+use Rattle.tdf_expr_machine.specs.declared.plain.InnerProduct.{InnerProduct}
 use Rattle.tdf_expr_machine.specs.declared.plain.Plain.{Plain}
 use Rattle.tdf_expr_machine.specs.declared.plain.Plain.TheVariants as plain
 use Rattle.tdf_expr_machine.specs.declared.plain.PlainSet.{PlainSet}
@@ -105,3 +106,28 @@ pub record IsPlainSet (act : Act) (depth : ℕ) (set : PlainSet) : Type 0 where
   pub few : set.cut.shift ≤ 62
   pub some : 1 ≤ set.cut.wl
   pub small : set.cut.wl ≤ 62
+
+-- the sum of a cell and the product of the next elements of two rows, which is no more than cut
+abbrev pub inner_terms : InnerProduct → Terms
+inner_terms g = record {
+  base = g.at;
+  lift = g.lift;
+  first = record { at = g.first; down = false };
+  second = record { at = g.second; down = false };
+  rise = 0;
+}
+
+abbrev pub inner_step : InnerProduct → (turn : ℕ) → (sum : ℤ) → List ℤ → ℤ
+inner_step g turn sum cells = below (sum *ℤ pos (2 ^ g.lift)
+    +ℤ cell_at cells (g.first + turn) *ℤ cell_at cells (g.second + turn)) (2 ^ g.cut.shift)
+
+-- the assignment gives a cell that sum, whose rows don't reach the cell at the turns from the first
+-- on and below the end
+pub record IsInnerProduct (set : PlainSet) (from end : ℕ) (g : InnerProduct) : Type 0 where
+  pub target : set.target ≡ target.Cell g.at
+  pub value : set.value ≡ plain.Sum (inner_terms g)
+  pub cut : set.cut ≡ g.cut
+  pub signed : g.cut.signed ≡ true
+  pub few : g.lift + g.cut.wl ≤ 62
+  pub first : (turn : ℕ) → from ≤ turn → turn < end → g.first + turn ≢ g.at
+  pub second : (turn : ℕ) → from ≤ turn → turn < end → g.second + turn ≢ g.at
