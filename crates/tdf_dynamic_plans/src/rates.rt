@@ -237,6 +237,59 @@ pub fn net_of(alloc: Global, tables: &FlatTables, table: &[ModuleAttrs]) -> Resu
     Ok(Net::new(actors, edges, ports).unwrap())
 }
 
+/// The rates in force, by edge.
+#[derive(Drop)]
+pub struct EdgeRates {
+    /// How many samples an activation reads from each edge.
+    pub reads: Vec<u32>,
+    /// How many samples an activation writes to each edge.
+    pub writes: Vec<u32>,
+}
+
+fn reads_of(alloc: Global, edges: &[Edge]) -> Result<Vec<u32>, Memory>
+    ensures { IfOk result (λ rates. rates.items ≡ map (λ edge. edge.read_rate) edges.now) }
+{
+    let mut rates = Vec::new(alloc);
+    for e in 0..edges.len() {
+        rates.push(edges[e].read_rate)?;
+    }
+    Ok(rates)
+}
+
+fn writes_of(alloc: Global, edges: &[Edge]) -> Result<Vec<u32>, Memory>
+    ensures { IfOk result (λ rates. rates.items ≡ map (λ edge. edge.write_rate) edges.now) }
+{
+    let mut rates = Vec::new(alloc);
+    for e in 0..edges.len() {
+        rates.push(edges[e].write_rate)?;
+    }
+    Ok(rates)
+}
+
+/// The rates of each edge of a model under a table: those of the edges of its net.
+///
+/// # Errors
+/// Out of memory.
+#[tactic(auto, unfolding(crate::specs::Rates::net_of))]
+pub fn edge_rates(
+    alloc: Global,
+    tables: &FlatTables,
+    table: &[ModuleAttrs],
+) -> Result<EdgeRates, Memory>
+    requires { AreRates tables.now table.now }
+    ensures reads { IfOk result (λ rates. rates.reads.items
+        ≡ map (λ edge. edge.read_rate) (net_of tables.now table.now).edges) }
+    ensures writes { IfOk result (λ rates. rates.writes.items
+        ≡ map (λ edge. edge.write_rate) (net_of tables.now table.now).edges) }
+{
+    let ports = net_ports(alloc, tables, table)?;
+    let edges = net_edges(alloc, tables, &ports)?;
+    Ok(EdgeRates {
+        reads: reads_of(alloc, &edges)?,
+        writes: writes_of(alloc, &edges)?,
+    })
+}
+
 impl Attrs {
     /// The rate of a port of the cluster, by its number in the flat model; 1 for a port of another cluster.
     pub fn port_rate(&self, tables: &FlatTables, port: u32) -> u32

@@ -1,4 +1,5 @@
 -- How the code of this crate works.
+pub mod Counted
 pub mod Fired
 pub mod Laid
 pub mod Moving

@@ -18,6 +18,8 @@ pub struct Cluster {
     pub(crate) crossed: bool,
     pub(crate) reads: Vec<u32>,
     pub(crate) writes: Vec<u32>,
+    /// How often each actor fires in a period of the plan.
+    pub(crate) firings: Vec<u64>,
     pub(crate) rings: Vec<Ring>,
     pub(crate) runners: Vec<Runner>,
     pub(crate) positions: Vec<u64>,
@@ -28,6 +30,7 @@ impl Model for Cluster {
     ghost use Rattle.std.specs.Prelude.{◌≤◌, length};
     ghost use Rattle.tdf_convert.specs.Sampled.{AreByOffset};
     ghost use Rattle.tdf_exec.specs.Cluster.{ClusterOf};
+    ghost use Rattle.tdf_exec.specs.machine.Counted.{AreCounted};
 
     ghost Value = { ClusterOf };
 
@@ -49,6 +52,7 @@ impl Model for Cluster {
 
     ghost invariant = { λ a. record {
       sorted : AreByOffset a.plan.entries.items;
+      counted : AreCounted a.plan.entries.items a.firings.items;
       room : length a.attrs.rows ≤ a.spare;
     } };
 }

@@ -6,19 +6,20 @@ ghost use Rattle.tdf_exec.specs.Crossing.{IsReadyFor};
 ghost use Rattle.tdf_exec_parts.specs.Rings.{room_for};
 ghost use Rattle.tdf_exec.specs.Starts.{IsSoundFlat};
 ghost use Rattle.tdf_exec.specs.declared.runners.Runner.{Runner as RunnerOf};
+ghost use Rattle.tdf_exec.specs.machine.Counted.{AreCounted};
 ghost use Rattle.tdf_exec.specs.machine.Restarting.{AreNextParts, AreRestarted, CanRestart, HasReplaced, HasRestarted, IsRestarted};
 ghost use Rattle.tdf_expr.specs.Made.{AreMadeFor};
 
 use crate::cluster::Cluster;
 use crate::runners::{ModuleRunner, Runner};
-use crate::starting::law_laid;
+use crate::starting::{law_laid, plan_firings};
 use crate::tracing::{TracedPorts, give_all, traced_rows};
 use std::alloc::Global;
 use tdf_base::Memory;
 use tdf_bind::Flat;
 use tdf_dynamic::begin;
-use tdf_dynamic_plans::Attrs;
-use tdf_exec_parts::{read_rates, room_for, write_rates};
+use tdf_dynamic_plans::{Attrs, edge_rates};
+use tdf_exec_parts::room_for;
 use tdf_expr::{Body, Checked, run_body};
 use tdf_rings::carry;
 use tdf_schedule::Plan;
@@ -79,30 +80,28 @@ fn rooms_of(alloc: Global, bounds: &[u32]) -> Result<Vec<u32>, Memory>
 struct NextParts {
     reads: Vec<u32>,
     writes: Vec<u32>,
+    firings: Vec<u64>,
     rooms: Vec<u32>,
     rows: Vec<TracedPorts>,
 }
 
 /// The parts of a cluster under a new table and plan.
-fn next_parts(
-    alloc: Global,
-    flat: &Flat,
-    attrs: &Attrs,
-    bounds: &[u32],
-) -> Result<NextParts, Memory>
+fn next_parts(alloc: Global, flat: &Flat, attrs: &Attrs, plan: &Plan) -> Result<NextParts, Memory>
     requires sound { IsSoundFlat flat.now }
     requires rates { AreRates flat.now.tables attrs.now.rows }
-    ensures { IfOk result (λ p. AreNextParts flat.now attrs.now.rows bounds.now p.reads.items
-        p.writes.items p.rooms.items p.rows.items) }
+    ensures parts { IfOk result (λ p. AreNextParts flat.now attrs.now.rows
+        plan.now.bounds.items p.reads.items p.writes.items p.rooms.items p.rows.items) }
+    ensures counted { IfOk result (λ p. AreCounted plan.now.entries.items p.firings.items) }
 {
     law_laid();
-    let reads = read_rates(alloc, flat, attrs)?;
-    let writes = write_rates(alloc, flat, attrs)?;
-    let rooms = rooms_of(alloc, bounds)?;
+    let rates = edge_rates(alloc, &flat.tables, &attrs.rows)?;
+    let firings = plan_firings(alloc, flat, plan)?;
+    let rooms = rooms_of(alloc, &plan.bounds)?;
     let rows = traced_rows(alloc, flat, attrs)?;
     Ok(NextParts {
-        reads,
-        writes,
+        reads: rates.reads,
+        writes: rates.writes,
+        firings,
         rooms,
         rows,
     })
@@ -128,7 +127,7 @@ impl Cluster {
         ensures err { OnErr result (self.new ≡ self.old) }
     {
         law_laid();
-        let mut parts = match next_parts(alloc, flat, &attrs, &plan.bounds) {
+        let mut parts = match next_parts(alloc, flat, &attrs, &plan) {
             Ok(parts) => parts,
             Err(failed) => {
                 drop(attrs);
@@ -150,6 +149,7 @@ impl Cluster {
         self.crossed = false;
         self.reads = parts.reads;
         self.writes = parts.writes;
+        self.firings = parts.firings;
         Ok(())
     }
 }

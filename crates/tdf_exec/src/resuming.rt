@@ -7,6 +7,7 @@ ghost use Rattle.tdf_exec_parts.specs.Below.{IsTableFirst, IsTableOfStates};
 ghost use Rattle.tdf_exec.specs.Made.{IsClusterOf};
 ghost use Rattle.tdf_exec.specs.Restored.{IsAtState, StandsAtState};
 ghost use Rattle.tdf_exec.specs.Starts.{IsSoundFlat};
+ghost use Rattle.tdf_exec.specs.machine.Counted.{AreCounted};
 ghost use Rattle.tdf_exec.specs.machine.Laid.{AreParts, AreRunnersOf};
 ghost use Rattle.tdf_exec.specs.machine.Resuming.{AreRestored, CanRestore, CanTake, FitInstance, HoldsState, IsInstance, module_with_values, with_values};
 ghost use Rattle.tdf_exec_parts.specs.Restored.{AreStateRings};
@@ -17,14 +18,14 @@ use crate::asking::Spare;
 use crate::beginning::first_runners;
 use crate::cluster::Cluster;
 use crate::runners::{ModuleRunner, Runner};
-use crate::starting::{Parts, law_laid};
+use crate::starting::{Parts, law_laid, plan_firings};
 use crate::tracing::{give_all, traced_rows};
 use std::alloc::Global;
 use tdf_base::Memory;
 use tdf_bind::Flat;
-use tdf_dynamic_plans::{Attrs, ModuleAttrs};
+use tdf_dynamic_plans::{Attrs, ModuleAttrs, edge_rates};
 use tdf_exec_layout::cluster_wires;
-use tdf_exec_parts::{Standing, read_rates, set_values, standing_of, state_rings, write_rates};
+use tdf_exec_parts::{Standing, set_values, standing_of, state_rings};
 use tdf_expr::Checked;
 use tdf_saved::{ClusterState, ModuleState, StateErr};
 
@@ -112,12 +113,14 @@ fn state_parts(
         (AreStateRings flat.now.tables cluster standing.now.first.plan.bounds.items
         state.now.edges (length flat.now.tables.edges))
         p.reads.items p.writes.items p.rings.items p.runners.items p.positions.items) }
+    ensures counted { IfOk result (λ p. AreCounted standing.now.first.plan.entries.items
+        p.firings.items) }
     ensures room { IfOk result (λ p. length standing.now.first.attrs.rows ≤ p.spare) }
 {
     law_laid();
     let first = &standing.first;
-    let reads = read_rates(alloc, flat, &first.attrs)?;
-    let writes = write_rates(alloc, flat, &first.attrs)?;
+    let rates = edge_rates(alloc, &flat.tables, &first.attrs.rows)?;
+    let firings = plan_firings(alloc, flat, &first.plan)?;
     let rings = state_rings(
         alloc,
         &flat.tables,
@@ -129,8 +132,9 @@ fn state_parts(
     let positions = vec![in alloc; 0; flat.tables.actors.len()]?;
     let spare = Spare::new(alloc, first.attrs.rows.len())?;
     Ok(Parts {
-        reads,
-        writes,
+        reads: rates.reads,
+        writes: rates.writes,
+        firings,
         rings,
         runners,
         positions,
@@ -171,6 +175,7 @@ impl Cluster {
                 crossed: false,
                 reads: parts.reads,
                 writes: parts.writes,
+                firings: parts.firings,
                 rings: parts.rings,
                 runners: parts.runners,
                 positions: parts.positions,

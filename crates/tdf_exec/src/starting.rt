@@ -7,6 +7,7 @@ ghost use Rattle.tdf_dynamic_plans.specs.Rates.{AreRates};
 ghost use Rattle.tdf_exec_parts.specs.Below.{IsTableFirst};
 ghost use Rattle.tdf_exec.specs.Made.{IsClusterOf};
 ghost use Rattle.tdf_exec.specs.Starts.{IsAtStart, IsSoundFlat, StandsAtStart};
+ghost use Rattle.tdf_exec.specs.machine.Counted.{AreCounted};
 ghost use Rattle.tdf_exec.specs.machine.Laid.{AreParts, AreRunnersOf, SoundIsLaid};
 ghost use Rattle.tdf_exec.specs.machine.Starting.{HoldsText};
 ghost use Rattle.tdf_exec_parts.specs.Rings.{AreFirstRings};
@@ -24,11 +25,11 @@ use tdf_bind::Flat;
 use tdf_bind_invariants::{law_formats, law_limits};
 use tdf_convert::law_by_offset;
 use tdf_dynamic_first::First;
-use tdf_dynamic_plans::Attrs;
+use tdf_dynamic_plans::{Attrs, edge_rates};
 use tdf_exec_layout::{cluster_wires, law_edge_formats, law_edges, law_wired};
-use tdf_exec_parts::{first_rings, read_rates, write_rates};
+use tdf_exec_parts::{firings, first_rings};
 use tdf_rings::Ring;
-use tdf_schedule::law_present;
+use tdf_schedule::{Plan, law_present};
 
 /// What the tables of a sound flat model have, and what holds along plans.
 pub(crate) fn law_laid()
@@ -46,12 +47,13 @@ pub(crate) fn law_laid()
     law_by_offset();
 }
 
-/// The parts of a cluster at its start: rates and rings by edge, runners and counts of activations by actor, and room for
-/// the instances of its modules.
+/// The parts of a cluster at its start: rates and rings by edge, the firings of a period, runners and counts of activations
+/// by actor, and room for the instances of its modules.
 #[derive(Drop)]
 pub(crate) struct Parts {
     pub(crate) reads: Vec<u32>,
     pub(crate) writes: Vec<u32>,
+    pub(crate) firings: Vec<u64>,
     pub(crate) rings: Vec<Ring>,
     pub(crate) runners: Vec<Runner>,
     pub(crate) positions: Vec<u64>,
@@ -78,6 +80,18 @@ fn runners_of(
     Ok(runners)
 }
 
+/// How often each actor fires in a period of a plan.
+pub(crate) fn plan_firings(alloc: Global, flat: &Flat, plan: &Plan) -> Result<Vec<u64>, Memory>
+    ensures { IfOk result (λ counts. AreCounted plan.now.entries.items counts.items) }
+{
+    firings(
+        alloc,
+        &plan.entries,
+        plan.entries.len(),
+        flat.tables.actors.len(),
+    )
+}
+
 /// The parts of a cluster at its start, under a table and its plan.
 fn first_parts(alloc: Global, flat: &Flat, cluster: u32, first: &First) -> Result<Parts, Memory>
     requires sound { IsSoundFlat flat.now }
@@ -86,18 +100,20 @@ fn first_parts(alloc: Global, flat: &Flat, cluster: u32, first: &First) -> Resul
         (AreFirstRings flat.now.tables cluster first.now.plan.bounds.items
         (length flat.now.tables.edges))
         p.reads.items p.writes.items p.rings.items p.runners.items p.positions.items) }
+    ensures counted { IfOk result (λ p. AreCounted first.now.plan.entries.items p.firings.items) }
     ensures room { IfOk result (λ p. length first.now.attrs.rows ≤ p.spare) }
 {
     law_laid();
-    let reads = read_rates(alloc, flat, &first.attrs)?;
-    let writes = write_rates(alloc, flat, &first.attrs)?;
+    let rates = edge_rates(alloc, &flat.tables, &first.attrs.rows)?;
+    let firings = plan_firings(alloc, flat, &first.plan)?;
     let rings = first_rings(alloc, &flat.tables, cluster, &first.plan.bounds)?;
     let runners = runners_of(alloc, flat, cluster, &first.attrs)?;
     let positions = vec![in alloc; 0; flat.tables.actors.len()]?;
     let spare = Spare::new(alloc, first.attrs.rows.len())?;
     Ok(Parts {
-        reads,
-        writes,
+        reads: rates.reads,
+        writes: rates.writes,
+        firings,
         rings,
         runners,
         positions,
@@ -128,6 +144,7 @@ impl Cluster {
                 crossed: false,
                 reads: parts.reads,
                 writes: parts.writes,
+                firings: parts.firings,
                 rings: parts.rings,
                 runners: parts.runners,
                 positions: parts.positions,

@@ -198,6 +198,10 @@ impl Cluster {
     pub fn activations(&self, actor: u32) -> u64
         ensures { result ≡ turns_from self.now.entries 0 (length self.now.entries) actor }
     {
+        let place = actor as usize;
+        if place < self.firings.len() {
+            return self.firings[place];
+        }
         count_of(&self.plan.entries, actor) as u64
     }
 

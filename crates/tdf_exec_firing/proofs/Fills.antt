@@ -1,5 +1,5 @@
 -- The ports of a module are filled.
-use Rattle.std.proofs.Common.{◌≡◌, ◌∙◌, ◌≢◌, ℕ, ◌+◌, ◌<◌, ◌≤◌, List, Some, ℤ, pos, length, sym, ap, subst, inl, inr, ◌⊎◌, arith}
+use Rattle.std.proofs.Common.{◌≡◌, ◌∙◌, ◌≢◌, ℕ, ◌+◌, ◌<◌, ◌≤◌, List, Some, ℤ, pos, length, sym, refl, ap, subst, inl, inr, ◌⊎◌, arith}
 use Rattle.std.proofs.lemmas.Bool.{cases_eq, cases_lt}
 use Rattle.std.proofs.lemmas.List.{get_or-set_same, get_or-set_other, length-set}
 use Rattle.std.proofs.lemmas.Option.{same_Some, slice_get-map, slice_get_within, get_or_from_slice_get}
@@ -83,6 +83,21 @@ fill_more port i n list x old cur new can below before at set =
         other j (inr high) =
             ap (λ l. cell_at l j) samples ∙ get_or-set_other cur.state.samples (p.first + i) j x.num (pos 0) (omega (arith, high))
             ∙ before.others p j here (inr (omega (arith, high)))
+
+none_filled : (port : ℕ) (list : List Raw) (ports : PortsSeen) → IsFilled port 0 list ports ports
+none_filled port list ports = record {
+  rest = refl;
+  long = refl;
+  here = λ p k at small. absurd (omega (arith, small));
+  others = λ p i at past. refl;
+}
+
+-- one sample alone
+pub fill_one : (port n : ℕ) (list : List Raw) (x : Raw) (old new : PortsSeen) → CanFill port n list old → n ≡ 1 → slice_get list 0 ≡ Some x
+    → ((p : PortSpan) → slice_get old.spans port ≡ Some p → new ≡ with_samples (slice_set old.state.samples (p.first + 0) x.num) old)
+    → IsFilled port n list old new
+fill_one port n list x old new can one at set =
+    subst (λ k. IsFilled port k list old new) (sym one) (fill_more port 0 n list x old old new can (omega (arith, one)) (none_filled port list old) at set)
 
 -- a port can still get its samples
 pub can_still : (port n : ℕ) (list list2 : List Raw) (samples : List ℤ) (old cur : PortsSeen) → list2 ≡ list → cur ≡ with_samples samples old

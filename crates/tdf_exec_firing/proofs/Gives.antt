@@ -46,3 +46,12 @@ give_more port i n ports old cur new value can below is num frac put =
     value_is =
         ap (λ z. record value { num = z }) (num found.0 found.1) ∙ ap (λ z. record read { frac = z }) (frac found.0 found.1)
         ∙ ap (sample_of_span ports.state.samples i) (sym found.1)
+
+-- one sample alone
+pub give_one : (port n : ℕ) (ports : PortsSeen) (old new : RingOf) (value : Raw) → CanGive port n ports old → n ≡ 1
+    → ((p : PortSpan) → slice_get ports.spans port ≡ Some p → value.num ≡ cell_at ports.state.samples (p.first + 0))
+    → ((p : PortSpan) → slice_get ports.spans port ≡ Some p → value.frac ≡ fraction_of p.format)
+    → new ≡ ring_of (old.samples ++ value ∷ []) old.capacity → new ≡ with_more (front_of ports (Some port) n) old
+give_one port n ports old new value can one num frac put =
+    give_more port 0 n ports old old new value can (omega (arith, one)) (give_none ports port old) num frac put
+    ∙ ap (λ k. with_more (front_of ports (Some port) k) old) (sym one)

@@ -77,8 +77,5 @@ pub fn fire_sink(edge: u32, rings: &mut Vec<Ring>) -> Raw
     ensures value { slice_get (ring_at rings.old.items edge).samples 0 ≡ Some result }
     ensures taken { HasTaken edge rings.old.items rings.new.items }
 {
-    let ring = &mut rings[edge as usize];
-    let value = ring.read(0);
-    ring.take(1);
-    value
+    rings[edge as usize].pop()
 }

@@ -17,6 +17,10 @@ fn give(ports: &Ports, port: u32, n: u32, ring: &mut Ring)
     requires can { CanGive port n ports.now ring.old }
     ensures { ring.new ≡ with_more (front_of ports.now (Some port) n) ring.old }
 {
+    if n == 1 {
+        ring.put(ports.sample(port, 0));
+        return;
+    }
     for i in 0..n {
         ring.put(ports.sample(port, i));
     }

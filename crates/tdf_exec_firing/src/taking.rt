@@ -37,6 +37,10 @@ fn take_from(ring: &mut Ring, n: u32, ports: &mut Ports, port: u32)
     ensures filled { IsFilled port n ring.old.samples ports.old ports.new }
     ensures taken { ring.new ≡ without n ring.old }
 {
+    if n == 1 {
+        ports.set(port, 0, ring.pop());
+        return;
+    }
     fill(ring, n, ports, port);
     ring.take(n);
 }

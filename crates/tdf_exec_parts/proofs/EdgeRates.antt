@@ -1,7 +1,7 @@
 -- The rates of ports and edges, as they are found.
-use Rattle.std.proofs.Common.{◌≡◌, ◌∙◌, ℕ, ◌≤◌, Some, option_map, List, length, map, take, ap, sym}
-use Rattle.std.proofs.lemmas.List.{length-map, take_all}
-use Rattle.std.proofs.lemmas.Option.{slice_get-map, slice_get_past}
+use Rattle.std.proofs.Common.{◌≡◌, ◌∙◌, ℕ, Some, option_map, List, length, map, ap}
+use Rattle.std.proofs.lemmas.List.{length-map}
+use Rattle.std.proofs.lemmas.Option.{slice_get-map}
 use Rattle.std.proofs.lemmas.Simd.{map-map}
 use Rattle.std.specs.Prelude.{slice_get, slice_index}
 use Rattle.tdf_bind_tables.specs.FlatTables.{FlatTablesOf}
@@ -15,14 +15,10 @@ use Rattle.tdf_bind_connections.specs.declared.edges.EdgeRow.{EdgeRow}
 use Rattle.tdf_bind_connections.specs.declared.modules.PortRow.{PortRow}
 
 module _ (tables : FlatTablesOf) (table : List AttrsOf) where
-  -- the rate of a port, and of one that isn't there
+  -- the rate of a port
   pub rate_there : (n : ℕ) (row : PortRow) → slice_get tables.ports n ≡ Some row → rate_at_port (net_ports tables table) (Some n) ≡ port_rate table row
   unfolding net_ports
   rate_there n row at = ap port_rate_or_one (slice_get-map (rated_port table) tables.ports n ∙ ap (option_map (rated_port table)) at)
-
-  pub rate_past : (n : ℕ) → length tables.ports ≤ n → rate_at_port (net_ports tables table) (Some n) ≡ 1
-  unfolding net_ports
-  rate_past n past = ap port_rate_or_one (slice_get-map (rated_port table) tables.ports n ∙ ap (option_map (rated_port table)) (slice_get_past tables.ports n past))
 
   abbrev pub edge_reads : EdgeRow → ℕ
   edge_reads edge = read_rate_by (net_ports tables table) edge (edge_kind tables.ports edge)
@@ -37,12 +33,6 @@ module _ (tables : FlatTablesOf) (table : List AttrsOf) where
   pub writes_map : write_rates (net_of tables table) ≡ map edge_writes tables.edges
   unfolding net_of
   writes_map = map-map (λ (e : Edge). e.write_rate) (rated_edge tables.ports (net_ports tables table)) tables.edges
-
-  pub all_read : (n : ℕ) → length tables.edges ≤ n → map edge_reads (take n tables.edges) ≡ read_rates (net_of tables table)
-  all_read n all = ap (map edge_reads) (take_all n tables.edges all) ∙ sym reads_map
-
-  pub all_written : (n : ℕ) → length tables.edges ≤ n → map edge_writes (take n tables.edges) ≡ write_rates (net_of tables table)
-  all_written n all = ap (map edge_writes) (take_all n tables.edges all) ∙ sym writes_map
 
   pub reads_long : length (read_rates (net_of tables table)) ≡ length tables.edges
   reads_long = ap length reads_map ∙ length-map tables.edges edge_reads

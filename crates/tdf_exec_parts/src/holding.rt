@@ -15,7 +15,10 @@ use tdf_lang_tree::PortKind;
 use tdf_schedule::Entry;
 
 /// How often each actor fires in the first entries of a plan.
-pub(crate) fn firings(
+///
+/// # Errors
+/// Out of memory.
+pub fn firings(
     alloc: Global,
     entries: &[Entry],
     place: usize,

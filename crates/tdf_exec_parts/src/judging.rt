@@ -17,7 +17,6 @@ ghost use Rattle.tdf_streams.specs.Places.{is_own};
 
 use crate::fitting::{are_states_of, due_before, is_in_period};
 use crate::holding::{are_in_format, firings, is_left, port_format};
-use crate::rating::{read_rates, write_rates};
 use std::alloc::Global;
 use tdf_balance::law_counts;
 use tdf_base::Memory;
@@ -25,7 +24,7 @@ use tdf_bind::Flat;
 use tdf_bind_connections::EdgeRow;
 use tdf_bind_tables::FlatTables;
 use tdf_dynamic_first::{First, first_table};
-use tdf_dynamic_plans::ChangeErr;
+use tdf_dynamic_plans::{ChangeErr, edge_rates};
 use tdf_dynamic_values::{law_one_table, plan_of_states};
 use tdf_saved::{ClusterState, ModuleState, StateErr};
 use tdf_schedule::law_plans;
@@ -115,12 +114,11 @@ fn traffic_of(alloc: Global, flat: &Flat, first: &First, place: usize) -> Result
     ensures { IfOk result (λ t. IsTraffic flat.now.tables first.now.attrs.rows
         first.now.plan.entries.items place t.reads.items t.writes.items t.firings.items) }
 {
-    let reads = read_rates(alloc, flat, &first.attrs)?;
-    let writes = write_rates(alloc, flat, &first.attrs)?;
+    let rates = edge_rates(alloc, &flat.tables, &first.attrs.rows)?;
     let firings = firings(alloc, &first.plan.entries, place, flat.tables.actors.len())?;
     Ok(Traffic {
-        reads,
-        writes,
+        reads: rates.reads,
+        writes: rates.writes,
         firings,
     })
 }

@@ -1,6 +1,5 @@
 //! The parts of a cluster under a table of attributes and its plan, by edge, and whether a state has such parts.
 //!
-//! - `rating`: the rates in force, by edge.
 //! - `filling`: the rings of a cluster at its start.
 //! - `fitting`: whether the modules and the time of a state fit.
 //! - `holding`: whether the samples of a state are those of its edges.
@@ -12,10 +11,9 @@ mod filling;
 mod fitting;
 mod holding;
 mod judging;
-mod rating;
 mod restoring;
 
 pub use filling::{first_rings, room_for};
+pub use holding::firings;
 pub use judging::{Standing, standing_of};
-pub use rating::{read_rates, write_rates};
 pub use restoring::{set_values, state_rings};

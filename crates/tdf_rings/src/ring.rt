@@ -65,6 +65,18 @@ impl Ring {
         }
     }
 
+    /// Takes the first sample out.
+    pub fn pop(&mut self) -> Raw
+        requires { 0 < length self.old.samples }
+        ensures value { slice_get self.old.samples 0 ≡ Some result }
+        ensures rest { self.new ≡ ring_of (drop 1 self.old.samples) self.old.capacity }
+    {
+        match self.buffer.pop_front() {
+            Some(value) => value,
+            None => Raw { num: 0, frac: 0 },
+        }
+    }
+
     /// Drops the first `n` samples.
     pub fn take(&mut self, n: u32)
         requires { n ≤ length self.old.samples }

@@ -1,3 +1,5 @@
+use Rattle.std.proofs.Common.{rules, ◌∙◌, ap, length}
+use Rattle.std.proofs.lemmas.List.{length-replicate}
 use Rattle.tdf_exec.proofs.Begins.{begun_from, made_from}
 use Rattle.tdf_exec.proofs.beginning.begun.Goals as goal
 
@@ -30,3 +32,15 @@ returns-then-not-begins c = made_from c.args.begins c.if-not-begins.true _ c.arg
       accepts = c.in_ok-ports.ensures.accepts;
       out_of_range = c.in_ok-ports.ensures.out_of_range;
     }) c.law_begin.ensures c.new-traced.result.items
+
+pub run_body-requires : goal.run_body-requires
+run_body-requires c = record {
+  made = record {
+    made = search rules;
+    block = search rules;
+    formats = c.in_ok-frame.ensures.formats;
+    rates = c.in_ok-frame.ensures.rates;
+    ports_are = c.in_ok-ports.ensures.spans;
+    events = ap length c.in_ok-ports.ensures.notified ∙ length-replicate _ _;
+  };
+}

@@ -1,9 +1,8 @@
-use Rattle.std.proofs.Common.{◌≡◌, ◌∙◌, None, ap, arith, map, subst, sym, true}
+use Rattle.std.proofs.Common.{◌≡◌, ◌∙◌, None, arith, subst, sym, true}
 use Rattle.tdf_dynamic_plans.proofs.Api.{modules_few}
 use Rattle.tdf_exec.proofs.Installing.{can_restart, fit_in, has, some_rooms}
 use Rattle.tdf_exec.specs.Cluster.{ClusterOf, next_offset}
 use Rattle.tdf_exec.specs.Crossing.{IsReadyFor}
-use Rattle.tdf_exec_parts.specs.Rings.{room_for}
 use Rattle.tdf_exec.specs.contracts.cluster.Cluster.{the_view}
 use Rattle.tdf_streams.proofs.Api.{are_rates, is_wired}
 use Rattle.tdf_exec.proofs.cluster.Cluster.begin_new.Goals as goal
@@ -13,8 +12,8 @@ next_parts-requires-clause-rates c =
     are_rates c.args.flat.now (c.law_laid.ensures.laid c.args.flat.now c.requires.sound).limits c.args.attrs.rows c.requires.ready.attributes.allowed
 
 pub carry-requires-clause-some : goal.carry-requires-clause-some
-carry-requires-clause-some c = some_rooms c.args.plan.bounds.items c.deref-2.result.now
-    (c.deref-2.ensures.value ∙ c.in-Ok.ensures.rooms_are ∙ ap (map room_for) c.deref.ensures.value)
+carry-requires-clause-some c = some_rooms c.args.plan.bounds.items c.deref.result.now
+    (c.deref.ensures.value ∙ c.in-Ok.ensures.parts.rooms_are)
 
 pub carry-requires-clause-fit : goal.carry-requires-clause-fit
 carry-requires-clause-fit c =
@@ -22,14 +21,14 @@ carry-requires-clause-fit c =
     subst (λ (s : ClusterOf). IsReadyFor c.args.flat.now s c.args.attrs c.args.plan) (sym c.self.view_is) c.requires.ready in
     let end : next_offset (the_view c.self.inside) ≡ None = ready.of.over (subst (λ (s : ClusterOf). s.crossed ≡ true) (sym c.self.view_is) c.requires.crossed) in
     fit_in c.args.flat.now (the_view c.self.inside) c.args.attrs c.args.plan ready (c.law_laid.ensures.laid c.args.flat.now c.requires.sound) c.law_laid.ensures.present c.requires.sound end
-    c.deref-2.result.now (c.deref-2.ensures.value ∙ c.in-Ok.ensures.rooms_are ∙ ap (map room_for) c.deref.ensures.value)
+    c.deref.result.now (c.deref.ensures.value ∙ c.in-Ok.ensures.parts.rooms_are)
 
 pub give_all-requires : goal.give_all-requires
 give_all-requires c =
     let ready : IsReadyFor c.args.flat.now (the_view c.self.inside) c.args.attrs c.args.plan =
     subst (λ (s : ClusterOf). IsReadyFor c.args.flat.now s c.args.attrs c.args.plan) (sym c.self.view_is) c.requires.ready in
     let few = modules_few c.args.flat.now.tables (is_wired c.args.flat.now (c.law_laid.ensures.laid c.args.flat.now c.requires.sound).limits) in
-    let rows = c.in-Ok.ensures.traced_are.long in let actors = ready.of.actors in
+    let rows = c.in-Ok.ensures.parts.traced_are.long in let actors = ready.of.actors in
     omega (arith, few, rows, actors)
 
 pub restart_all-requires : goal.restart_all-requires
@@ -45,4 +44,4 @@ invariant_of-self-2 c =
     let end : next_offset (the_view c.self.inside) ≡ None = ready.of.over (subst (λ (s : ClusterOf). s.crossed ≡ true) (sym c.self.view_is) c.requires.crossed) in
     let h = has c.args.flat.now (the_view c.self.inside) c.args.attrs c.args.plan ready (c.law_laid.ensures.laid c.args.flat.now c.requires.sound) c.law_laid.ensures.present c.requires.sound end in
     let long = ready.long in let room = c.self.invariant.room in
-    record { sorted = c.law_laid.ensures.sorted _ _ _ c.args.plan.entries.items h.plan_is.planned; room = omega (arith, long, room) }
+    record { sorted = c.law_laid.ensures.sorted _ _ _ c.args.plan.entries.items h.plan_is.planned; counted = c.in-Ok.ensures.counted; room = omega (arith, long, room) }

@@ -31,7 +31,7 @@ invariant_of-result c =
     let first = c.in_ok-standing.standing.first in
     let is = first_of c.args.flat.now c.args.cluster first c.args.state.now c.args.time c.in_ok-standing.ensures.state c.in_ok-standing.ensures.known in
     let h = has c.args.flat.now c.args.cluster first c.requires.sound laid is c.law_laid.ensures.present in
-    record { sorted = c.law_laid.ensures.sorted _ _ _ first.plan.entries.items h.plan_is.planned; room = c.in-Ok.ensures.room }
+    record { sorted = c.law_laid.ensures.sorted _ _ _ first.plan.entries.items h.plan_is.planned; counted = c.in-Ok.ensures.counted; room = c.in-Ok.ensures.room }
 
 pub returns-in-Ok-clause-of : goal.returns-in-Ok-clause-of
 returns-in-Ok-clause-of c =
