@@ -1,7 +1,7 @@
 -- A cell that is put among those that wait.
-use Rattle.std.proofs.Common.{◌≡◌, ◌≢◌, ℕ, zero, suc, ◌+◌, ◌<◌, ◌≤◌, Bool, true, false, nat_eq, nat_lt, if◌then◌else◌, length-set, List, [], ◌∷◌, length, slice_get, slice_set, Some, refl, ap, sym, ◌∙◌, subst, inl, inr, arith}
+use Rattle.std.proofs.Common.{◌≡◌, ◌≢◌, ℕ, zero, suc, ◌+◌, ◌<◌, ◌≤◌, Bool, true, false, nat_eq, nat_lt, if◌then◌else◌, length-set, List, [], ◌∷◌, ◌++◌, length, slice_get, slice_set, Some, refl, ap, sym, ◌∙◌, subst, inl, inr, arith}
 use Rattle.std.specs.List.{insert}
-use Rattle.std.proofs.lemmas.Bool.{lt-ltb, le-ltb, cases_eq, cases_lt, eq-eqb, ne_eqb, eqb-true, eqb-false, true≢false}
+use Rattle.std.proofs.lemmas.Bool.{lt-ltb, le-ltb, cases_eq, cases_lt, eq-eqb, ne_eqb, true≢false}
 use Rattle.std.proofs.lemmas.Option.{slice_get_within}
 use Rattle.tdf_trace_rows.proofs.Api.{last_with_cell}
 use Rattle.tdf_trace_rows.specs.Noted.{with_noted_cell}
@@ -11,7 +11,7 @@ use Rattle.tdf_trace.proofs.Places.{get_some}
 use Rattle.tdf_trace.specs.Columns.{ColumnSeen, HasFewPlaces, held_at}
 use Rattle.tdf_trace.specs.Stands.{Stands}
 use Rattle.tdf_trace.specs.declared.column.Held.{Held}
-use Rattle.tdf_trace.specs.machine.Putting.{AreInOrder, IsPlace, IsPut, column_with, is_time_at, put}
+use Rattle.tdf_trace.specs.machine.Putting.{AreInOrder, IsPlace, IsPut, column_with, put}
 use Rattle.tdf_trace.specs.machine.Turning.{AreSound, HaveFewPlaces, IsSound, Rising}
 
 rising_after : (a : ℕ) (xs : List Held) (j : ℕ) (y : Held) → Rising a xs → slice_get xs j ≡ Some y → a ≤ y.time
@@ -75,21 +75,28 @@ next_place t y ys k place = record {
   after = λ i x less at. place.after (suc i) x (omega (arith, less)) at;
 }
 
-pub put_set : (x : Held) (xs : List Held) (k : ℕ) → IsPlace xs x.time k → is_time_at xs k x.time ≡ true → put x xs ≡ slice_set xs k x
+pub put_set : (x w : Held) (xs : List Held) (k : ℕ) → IsPlace xs x.time k → slice_get xs k ≡ Some w → w.time ≡ x.time → put x xs ≡ slice_set xs k x
 unfolding put
-put_set x [] k place is = absurd (true≢false (sym is))
-put_set x (y ∷ ys) zero place is = let e : y.time ≡ x.time = eqb-true y.time x.time is in rw (le-ltb x.time y.time (omega (arith, e)), eq-eqb x.time y.time (sym e)) refl
-put_set x (y ∷ ys) (suc k) place is = let b : y.time < x.time = place.before 0 y (omega arith) refl in
-    rw (le-ltb x.time y.time (omega (arith, b)), ne_eqb x.time y.time (λ i. omega (arith, i, b))) (ap (λ zs. y ∷ zs) (put_set x ys k (next_place x.time y ys k place) is))
+put_set x w [] k place at same = absurd (grind (arith, at))
+put_set x w (y ∷ ys) zero place at same = let e : y ≡ w = grind (arith, at) in let t : y.time ≡ x.time = ap (λ (z : Held). z.time) e ∙ same in
+    rw (le-ltb x.time y.time (omega (arith, t)), eq-eqb x.time y.time (sym t)) refl
+put_set x w (y ∷ ys) (suc k) place at same = let b : y.time < x.time = place.before 0 y (omega arith) refl in
+    rw (le-ltb x.time y.time (omega (arith, b)), ne_eqb x.time y.time (λ i. omega (arith, i, b))) (ap (λ zs. y ∷ zs) (put_set x w ys k (next_place x.time y ys k place) at same))
 
-pub put_insert : (x : Held) (xs : List Held) (k : ℕ) → IsPlace xs x.time k → is_time_at xs k x.time ≡ false → put x xs ≡ insert xs k x
+pub put_insert : (x w : Held) (xs : List Held) (k : ℕ) → IsPlace xs x.time k → slice_get xs k ≡ Some w → w.time ≢ x.time → put x xs ≡ insert xs k x
 unfolding put
-put_insert x [] zero place is = refl
-put_insert x [] (suc k) place is = absurd (let e : suc k ≤ 0 = place.within in omega (arith, e))
-put_insert x (y ∷ ys) zero place is = let b : x.time ≤ y.time = place.after 0 y (omega arith) refl in let n : y.time ≢ x.time = eqb-false y.time x.time is in
-    rw (lt-ltb x.time y.time (omega (arith, b, n))) refl
-put_insert x (y ∷ ys) (suc k) place is = let b : y.time < x.time = place.before 0 y (omega arith) refl in
-    rw (le-ltb x.time y.time (omega (arith, b)), ne_eqb x.time y.time (λ i. omega (arith, i, b))) (ap (λ zs. y ∷ zs) (put_insert x ys k (next_place x.time y ys k place) is))
+put_insert x w [] k place at apart = absurd (grind (arith, at))
+put_insert x w (y ∷ ys) zero place at apart = let b : x.time ≤ y.time = place.after 0 y (omega arith) refl in let e : y ≡ w = grind (arith, at) in
+    let n : y.time ≢ x.time = (λ same. apart (ap (λ (z : Held). z.time) (sym e) ∙ same)) in rw (lt-ltb x.time y.time (omega (arith, b, n))) refl
+put_insert x w (y ∷ ys) (suc k) place at apart = let b : y.time < x.time = place.before 0 y (omega arith) refl in
+    rw (le-ltb x.time y.time (omega (arith, b)), ne_eqb x.time y.time (λ i. omega (arith, i, b))) (ap (λ zs. y ∷ zs) (put_insert x w ys k (next_place x.time y ys k place) at apart))
+
+pub put_last : (x : Held) (xs : List Held) (k : ℕ) → IsPlace xs x.time k → k ≡ length xs → put x xs ≡ xs ++ x ∷ []
+unfolding put
+put_last x [] k place end = refl
+put_last x (y ∷ ys) zero place end = absurd (omega (arith, end))
+put_last x (y ∷ ys) (suc k) place end = let b : y.time < x.time = place.before 0 y (omega arith) refl in let e : k ≡ length ys = omega (arith, end) in
+    rw (le-ltb x.time y.time (omega (arith, b)), ne_eqb x.time y.time (λ i. omega (arith, i, b))) (ap (λ zs. y ∷ zs) (put_last x ys k (next_place x.time y ys k place) e))
 
 pub put_few : (x : Held) (xs : List Held) → HasFewPlaces x.value → HaveFewPlaces xs → HaveFewPlaces (put x xs)
 unfolding HaveFewPlaces put

@@ -1,7 +1,7 @@
 //! The cells of one column that wait for their rows.
 ghost use Rattle.std.specs.Prelude.{◌≡◌, [], IfOk, OnOk, OnErr};
 ghost use Rattle.tdf_trace.specs.States.{column_state};
-ghost use Rattle.tdf_trace.specs.machine.Putting.{AreInOrder, IsPlace, column_with, is_time_at, put};
+ghost use Rattle.tdf_trace.specs.machine.Putting.{AreInOrder, IsPlace, column_with, put};
 ghost use Rattle.tdf_trace.specs.machine.Resuming.{column_in};
 ghost use Rattle.tdf_trace.specs.machine.Turning.{front_time, turned, waits};
 
@@ -150,16 +150,6 @@ fn place_of(held: &VecDeque<Held>, time: u64) -> usize
     k
 }
 
-/// Whether the cell at this place is of this time.
-fn stands_at(held: &VecDeque<Held>, k: usize, time: u64) -> bool
-    ensures { result ≡ is_time_at held.now.items k time }
-{
-    match held.get(k) {
-        None => false,
-        Some(item) => item.time == time,
-    }
-}
-
 /// One cell more, or the value of one that was announced.
 fn put_into(held: &mut VecDeque<Held>, item: Held) -> Result<(), AllocError>
     requires { AreInOrder held.old.items }
@@ -167,7 +157,11 @@ fn put_into(held: &mut VecDeque<Held>, item: Held) -> Result<(), AllocError>
     ensures err { OnErr result (held.new.items ≡ held.old.items) }
 {
     let k = place_of(held, item.time);
-    if stands_at(held, k, item.time) {
+    if k == held.len() {
+        held.push_back(item)?;
+        return Ok(());
+    }
+    if held[k].time == item.time {
         held[k] = item;
         return Ok(());
     }

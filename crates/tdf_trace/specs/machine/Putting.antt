@@ -1,6 +1,6 @@
 -- How a cell is put among those that wait.
 -- Source: own.
-use Rattle.std.specs.Prelude.{◌≡◌, ℕ, ◌<◌, ◌≤◌, Bool, false, nat_eq, nat_lt, if◌then◌else◌, Option, Some, None, List, [], ◌∷◌, length, slice_get}
+use Rattle.std.specs.Prelude.{◌≡◌, ℕ, ◌<◌, ◌≤◌, nat_eq, nat_lt, if◌then◌else◌, Some, List, [], ◌∷◌, length, slice_get}
 use Rattle.tdf_trace.specs.Columns.{ColumnSeen}
 use Rattle.tdf_trace.specs.declared.column.Held.{Held}
 
@@ -10,13 +10,6 @@ put x [] = x ∷ []
 put x (y ∷ ys) = if nat_lt x.time y.time then x ∷ (y ∷ ys)
     else if nat_eq x.time y.time then x ∷ ys
     else y ∷ put x ys
-
-abbrev pub is_time : Option Held → ℕ → Bool
-is_time None time = false
-is_time (Some x) time = nat_eq x.time time
-
-abbrev pub is_time_at : List Held → (place time : ℕ) → Bool
-is_time_at list place time = is_time (slice_get list place) time
 
 -- a cell before another has an earlier time
 abbrev pub AreInOrder : List Held → Type 0
