@@ -11,7 +11,7 @@ use Rattle.tdf_expr.specs.Made.{spans_in}
 use Rattle.tdf_expr.specs.Plans.{PortPlace, place_of_span, places_from, port_places, shape_of_format, shape_written}
 use Rattle.tdf_expr.specs.declared.blocks.Block.{Block}
 use Rattle.tdf_expr.specs.declared.spans.PortSpan.{PortSpan}
-use Rattle.tdf_expr_laws.proofs.Cells.{zero_in}
+use Rattle.tdf_expr.proofs.Api.{zero_in}
 use Rattle.tdf_expr_laws.proofs.Kept.{ElementsKeep, body_keeps, kept_at}
 use Rattle.tdf_expr_laws.specs.Samples.{BodiesKeepSamples, PortsLieInOrder, WrittenFit}
 use Rattle.tdf_expr_semantics.proofs.Api.{placed, slice_left, slice_replicate, slice_right}

@@ -1,5 +1,5 @@
 -- What event parts keep of an event side: rates are those declared, values of variables are of their formats, and notifications come soon.
-use Rattle.std.proofs.Common.{◌≡◌, ◌∙◌, ◌⊎◌, ℕ, zero, suc, ◌+◌, ◌-◌, ◌<◌, ◌≤◌, ◌&&◌, Bool, true, false, if◌then◌else◌, min, nat_eq, nat_lt, List, [], ◌∷◌, Option, Some, None, map, replicate, length, length-set, slice_get, slice_index, slice_set, refl, ap, sym, subst, inl, inr, arith}
+use Rattle.std.proofs.Common.{◌≡◌, ◌∙◌, ◌⊎◌, ℕ, zero, suc, ◌+◌, ◌-◌, ◌<◌, ◌≤◌, Bool, true, false, if◌then◌else◌, min, nat_eq, List, [], ◌∷◌, Option, Some, None, map, replicate, length, length-set, slice_get, slice_index, slice_set, refl, ap, sym, subst, inl, inr, arith}
 use Rattle.std.proofs.lemmas.List.{length-map}
 use Rattle.std.proofs.lemmas.Option.{get_or_from_slice_get, same_Some, slice_get_within}
 use Rattle.tdf_base.specs.Limits.{time_end}
@@ -8,7 +8,8 @@ use Rattle.tdf_bind_connections.specs.ProcessBlocks.{BlockRowOf, ProcessRowOf}
 use Rattle.tdf_bind_invariants.proofs.Api.{starts_are_allowed}
 use Rattle.tdf_bind_invariants.specs.Limits.{AreWithinLimits}
 use Rattle.tdf_convert.specs.declared.writes.SignalWrite.{SignalWrite}
-use Rattle.tdf_events.specs.Delta.{after_evaluation, begun, delta_stepped, event_part, is_due, is_idle, settled_by, turns_of}
+use Rattle.tdf_events.proofs.Api.{instant_keeps}
+use Rattle.tdf_events.specs.Delta.{after_evaluation, begun, delta_stepped, event_part, is_due}
 use Rattle.tdf_events.specs.Notices.{NoticesOf, event_noticed, noticed_first, time_after}
 use Rattle.tdf_events.specs.Processes.{after_process, frame_at, owned_events, owner_of, process_done, process_ports_before, ran, run_of}
 use Rattle.tdf_events.specs.Side.{SideOf}
@@ -31,26 +32,8 @@ use Rattle.tdf_streams.proofs.Api.{get_inside, none_some, some_same}
 -- ---- what an event part keeps
 
 module _ (model : PureTree) (flat : Flat) (time : ℕ) (P : SideOf → Type 0) (keep : (s : SideOf) → P s → P (delta_stepped model flat time s)) (first : (writes : List SignalWrite) (s : SideOf) → P s → P (begun flat time writes s)) where
-  keep_one : (t i : Bool) (next after : SideOf) (over rest : ℕ) (more : Option (SideOf × ℕ)) → P next → (more ≡ Some (after, rest) → P after)
-      → (if t then None else if i then Some (next, over) else more) ≡ Some (after, rest) → P after
-  keep_one true i next after over rest more p later is = absurd cc
-  keep_one false true next after over rest more p later is = subst P (ap (λ (x : SideOf × ℕ). x.0) (same_Some (next, over) (after, rest) is)) p
-  keep_one false false next after over rest more p later is = later is
-
-  settles : (fuel : ℕ) (s after : SideOf) (left rest : ℕ) → P s → settled_by fuel model flat time s left ≡ Some (after, rest) → P after
-  unfolding settled_by
-  settles zero s after left rest p is = absurd cc
-  settles (suc fuel) s after left rest p is = keep_one (nat_lt left (turns_of s)) (is_idle (delta_stepped model flat time s)) (delta_stepped model flat time s) after (left - turns_of s) rest
-      (settled_by fuel model flat time (delta_stepped model flat time s) (left - turns_of s)) (keep s p) (λ h. settles fuel (delta_stepped model flat time s) after (left - turns_of s) rest (keep s p) h) is
-
-  ends : (a b : Bool) (x after : SideOf) (left rest : ℕ) (more : Option (SideOf × ℕ)) → P x → (more ≡ Some (after, rest) → P after) → (if a && b then Some (x, left) else more) ≡ Some (after, rest) → P after
-  ends true true x after left rest more p later is = subst P (ap (λ (y : SideOf × ℕ). y.0) (same_Some (x, left) (after, rest) is)) p
-  ends true false x after left rest more p later is = later is
-  ends false b x after left rest more p later is = later is
-
   pub part_keeps : (left rest : ℕ) (writes : List SignalWrite) (s after : SideOf) → P s → event_part model flat time writes s left ≡ Some (after, rest) → P after
-  part_keeps left rest writes s after p is = ends (nat_eq (length writes) 0) (is_idle (begun flat time writes s)) (begun flat time writes s) after left rest
-      (settled_by (left + 1) model flat time (begun flat time writes s) left) (first writes s p) (λ h. settles (left + 1) (begun flat time writes s) after left rest (first writes s p) h) is
+  part_keeps left rest writes s after p is = instant_keeps P model flat time left rest writes s after keep (λ e. first writes s p) (keep (begun flat time writes s) (first writes s p)) is
 
 -- ---- rates, and notifications
 

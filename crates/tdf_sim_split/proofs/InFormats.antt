@@ -14,6 +14,7 @@ use Rattle.tdf_bind_tables.specs.FlatTables.{FlatTablesOf}
 use Rattle.tdf_dynamic_first.specs.declared.first.First.{First}
 use Rattle.tdf_dynamic_plans.specs.Attributes.{clusters_of}
 use Rattle.tdf_events.specs.Side.{SideOf}
+use Rattle.tdf_expr.proofs.Api.{zero_in}
 use Rattle.tdf_expr.specs.Frames.{IsOfFormat, is_written}
 use Rattle.tdf_expr_laws.specs.Samples.{BodiesKeepSamples, PortsLieInOrder}
 use Rattle.tdf_fixed.specs.Overflow.{IsOfWidth}
@@ -45,7 +46,7 @@ use Rattle.tdf_sim_split.proofs.Outputs.{map_some, sample_has}
 use Rattle.tdf_sim_split.proofs.ResumedColumns.{get_zip}
 use Rattle.tdf_sim_split.proofs.Split.{sound_at}
 use Rattle.tdf_sim_split.proofs.Values.{changes_have, first_value, value_fits, value_in}
-use Rattle.tdf_sim_split.proofs.Written.{HasAllowed, output_in, zero_in}
+use Rattle.tdf_sim_split.proofs.Written.{HasAllowed, output_in}
 use Rattle.tdf_sim_split.specs.Columns.{EventsAreThere}
 use Rattle.tdf_sim_split.specs.Formats.{BeginInFormats, BeginsInFormat, FormatsAreKept, ResumedBeginInFormats, TextsBeginInFormats}
 use Rattle.tdf_sim_split.specs.Laws.{AreSound}

@@ -20,7 +20,7 @@ use Rattle.tdf_lang_tree.specs.Pure.{PureTree}
 use Rattle.tdf_saved.specs.State.{ColumnStateOf}
 use Rattle.tdf_saved.specs.declared.state.Stamp.{Stamp as SavedStamp}
 use Rattle.tdf_schedule.specs.Plan.{done}
-use Rattle.tdf_sim_history.proofs.Api.{cell_stays, first_time, held_long, record_at, sample_stays, stamps_early, stamps_late}
+use Rattle.tdf_sim_history.proofs.Api.{AreRising, cell_stays, first_time, held_long, record_at, sample_stays, stamps_chain, stamps_early, stamps_late}
 use Rattle.tdf_sim_history.specs.Cells.{column_spans, outputs_done, port_cell, sample_at, sample_of, samples_done, spans_from}
 use Rattle.tdf_sim_history.specs.Columns.{ColumnStart, Stamp, held_by, span_after, spans_to}
 use Rattle.tdf_sim_history.specs.Continuing.{Continues}
@@ -30,7 +30,7 @@ use Rattle.tdf_sim_history.specs.WorldLaws.{HasDone, HoldsFirst, SamplesAreThere
 use Rattle.tdf_sim_resumed.specs.Snapshot.{number_of_sample}
 use Rattle.tdf_sim_resumed.specs.Starting.{Tracked, column_start_of, known_count, numbers_ahead, position_count, positions_before, stamp_of_trace, stamps_before, stamps_from, time_of_position, value_of_trace}
 use Rattle.tdf_sim_resumed.specs.Valid.{IsValidSamples}
-use Rattle.tdf_sim_split.proofs.Order.{AreInOrder, order_chain, order_more}
+use Rattle.tdf_sim_split.proofs.Order.{rising_below}
 use Rattle.tdf_sim_split.proofs.Sound.{none_before}
 use Rattle.tdf_sim_split.proofs.Spans.{AreCut, IsCut, IsFront, cells_meet, front_is, spans_append, spans_chained, spans_count, spans_end, text_spans, time_behind, time_in_front, time_skipped}
 use Rattle.tdf_sim_split.proofs.Stamped.{IsShown, early_rise, has_shown, kept_there, shown_at, stamp_for, stamps_in, there_kept}
@@ -412,15 +412,15 @@ module _ (there : SamplesAreThere) (by_table : BodiesGoByTable) (goes_on : Strea
         let e : Some y.0.time ≡ Some t = sym (stamps_early first_end j stamps (span_after since step count skipped ∷ later_spans) inside ∙ ap (option_map (λ (z : Stamp). z.time)) s) ∙ at in
         (y.0, y.1, some_same y.0.time t e)
 
-    part_rising : AreInOrder 0 stamps first_end
-    part_rising = order_more 0 stamps since first_end (omega arith)
-        (subst (λ k. AreInOrder 0 stamps k) since_is
-        (subst (λ l. AreInOrder 0 (map (stamp_of_trace flat.tables row) (filter (λ (y : SavedStamp). nat_lt y.time x.cluster.since) l)) x.cluster.since) (sym samples_are)
+    part_rising : AreRising 0 stamps first_end
+    part_rising = rising_below 0 stamps since first_end (omega arith)
+        (subst (λ k. AreRising 0 stamps k) since_is
+        (subst (λ l. AreRising 0 (map (stamp_of_trace flat.tables row) (filter (λ (y : SavedStamp). nat_lt y.time x.cluster.since) l)) x.cluster.since) (sym samples_are)
         (early_rise cell_then (stamp_of_trace flat.tables row) (λ y. refl) x.cluster.since rows (since + period - rows) 0 (omega arith) (omega arith))))
 
     part_chained : AreChained (first_time stamps first_end) part_spans
     unfolding AreChained
-    part_chained = order_chain 0 first_end stamps (span_after since step count skipped ∷ later_spans) part_rising rest_chained
+    part_chained = stamps_chain 0 first_end stamps (span_after since step count skipped ∷ later_spans) part_rising rest_chained
       where
         rest_chained : AreChained first_end (span_after since step count skipped ∷ later_spans)
         rest_chained =

@@ -5,9 +5,9 @@ use Rattle.std.specs.List.{flat_map, range_with_len}
 use Rattle.std.specs.Prelude.{cond, filter}
 use Rattle.tdf_fixed.specs.declared.raw.Raw.{Raw}
 use Rattle.tdf_saved.specs.declared.state.Stamp.{Stamp as SavedStamp}
+use Rattle.tdf_sim_history.proofs.Api.{AreRising}
 use Rattle.tdf_sim_history.specs.Columns.{Stamp, stamp_at}
 use Rattle.tdf_sim_resumed.specs.Snapshot.{stamp_of_cell}
-use Rattle.tdf_sim_split.proofs.Order.{AreInOrder}
 use Rattle.tdf_streams.proofs.Api.{none_some, some_same}
 
 -- those of some cells, at so many times from one on
@@ -97,8 +97,8 @@ module _ (cell : ℕ → Option (Option Raw)) where
             ap (λ b. if b then Some (f (stamp_for from first)).value else stamp_at (map f (stamps_in cell (from + 1) count)) time) (ne_eqb (f (stamp_for from first)).time time (λ e. apart (sym (keeps (stamp_for from first)) ∙ e))) ∙ rest
 
     -- those before an end rise up to it
-    pub early_rise : (end from count low : ℕ) → low ≤ from → low ≤ end → AreInOrder low (map f (filter (λ (x : SavedStamp). nat_lt x.time end) (stamps_in cell from count))) end
-    unfolding AreInOrder
+    pub early_rise : (end from count low : ℕ) → low ≤ from → low ≤ end → AreRising low (map f (filter (λ (x : SavedStamp). nat_lt x.time end) (stamps_in cell from count))) end
+    unfolding AreRising
     early_rise end from zero low within before = before
     early_rise end from (suc count) low within before =
         go (early_rise end (from + 1) count low (omega (arith, within)) before) (λ less. early_rise end (from + 1) count (from + 1) (omega arith) (omega (arith, less))) (cell from)
@@ -106,14 +106,14 @@ module _ (cell : ℕ → Option (Option Raw)) where
         is_before : SavedStamp → Bool
         is_before x = nat_lt x.time end
 
-        go : AreInOrder low (map f (filter is_before (stamps_in cell (from + 1) count))) end → (from < end → AreInOrder (from + 1) (map f (filter is_before (stamps_in cell (from + 1) count))) end)
-            → (o : Option (Option Raw)) → AreInOrder low (map f (filter is_before (stamp_of_cell from o ++ stamps_in cell (from + 1) count))) end
+        go : AreRising low (map f (filter is_before (stamps_in cell (from + 1) count))) end → (from < end → AreRising (from + 1) (map f (filter is_before (stamps_in cell (from + 1) count))) end)
+            → (o : Option (Option Raw)) → AreRising low (map f (filter is_before (stamp_of_cell from o ++ stamps_in cell (from + 1) count))) end
         go rest later None = rest
         go rest later (Some None) = rest
         go rest later (Some (Some value)) = elim (cases_lt from end) [
-          | inl less ↦ subst (λ b. AreInOrder low (map f (cond b (stamp_for from value ∷ filter is_before (stamps_in cell (from + 1) count)) (filter is_before (stamps_in cell (from + 1) count)))) end) (sym (lt-ltb from end less))
-              ((let e = keeps (stamp_for from value) in omega (arith, e, within)), subst (λ t. AreInOrder (t + 1) (map f (filter is_before (stamps_in cell (from + 1) count))) end) (sym (keeps (stamp_for from value))) (later less))
-          | inr past ↦ subst (λ b. AreInOrder low (map f (cond b (stamp_for from value ∷ filter is_before (stamps_in cell (from + 1) count)) (filter is_before (stamps_in cell (from + 1) count)))) end) (sym (le-ltb from end past)) rest
+          | inl less ↦ subst (λ b. AreRising low (map f (cond b (stamp_for from value ∷ filter is_before (stamps_in cell (from + 1) count)) (filter is_before (stamps_in cell (from + 1) count)))) end) (sym (lt-ltb from end less))
+              ((let e = keeps (stamp_for from value) in omega (arith, e, within)), subst (λ t. AreRising (t + 1) (map f (filter is_before (stamps_in cell (from + 1) count))) end) (sym (keeps (stamp_for from value))) (later less))
+          | inr past ↦ subst (λ b. AreRising low (map f (cond b (stamp_for from value ∷ filter is_before (stamps_in cell (from + 1) count)) (filter is_before (stamps_in cell (from + 1) count)))) end) (sym (le-ltb from end past)) rest
         ]
 
 -- ---- those that a test keeps

@@ -2,7 +2,6 @@
 use Rattle.std.proofs.Common.{◌≡◌, ◌∙◌, ℕ, ℤ, zero, suc, ◌+◌, ◌-◌, ◌<◌, ◌≤◌, ◌&&◌, Bool, true, false, if◌then◌else◌, min, nat_eq, Option, Some, None, List, [], ◌∷◌, ◌++◌, length, map, pos, replicate, slice_get, take, refl, ap, sym, subst, arith}
 use Rattle.std.proofs.Math.Seq.{take-nil}
 use Rattle.std.proofs.lemmas.Bool.{eqb-true}
-use Rattle.std.proofs.lemmas.Int.{ints}
 use Rattle.std.proofs.lemmas.List.Elements.{All-head, All-tail}
 use Rattle.std.proofs.lemmas.List.{get_or-append_right, get_or-replicate, get_or_append_left, length-append, length-map, length-replicate, length-take}
 use Rattle.std.proofs.lemmas.Option.{same_Some, slice_get_within}
@@ -19,6 +18,7 @@ use Rattle.tdf_dynamic_plans.specs.Attributes.{AttrsOf, attrs_at, rates_in}
 use Rattle.tdf_dynamic_plans.specs.Rates.{rate_by}
 use Rattle.tdf_exec_firing.specs.Activation.{num_of, port_samples, ports_before, sample_of_span, samples_from}
 use Rattle.tdf_exec_layout.proofs.Api.{at_place, edge_row, read_by}
+use Rattle.tdf_expr.proofs.Api.{zero_in}
 use Rattle.tdf_expr.specs.Blocks.{PureBlock, blocks_of}
 use Rattle.tdf_expr.specs.Frames.{AreConsecutive, IsOfFormat, is_written, limits_of_rate}
 use Rattle.tdf_expr.specs.Made.{event_count, port_spans_of, rate_spans_of, start_rates}
@@ -41,11 +41,6 @@ use Rattle.tdf_streams.specs.Places.{actor_kind, block_at, block_of_row, place_o
 use Rattle.tdf_streams.specs.Signals.{rate_in}
 
 -- ---- samples before a body runs
-
--- 0 is in each range
-pub zero_in : (signed : Bool) (wl : ℕ) → IsOfWidth signed wl (pos 0)
-zero_in true wl = record { low = omega (arith, ints); high = omega (arith, ints) }
-zero_in false wl = record { low = omega (arith, ints); high = omega (arith, ints) }
 
 -- the samples of each port come after those of the ports before it
 later_on : (first : ℕ) (spans : List PortSpan) (n : ℕ) (p : PortSpan) → AreConsecutive first spans → slice_get spans n ≡ Some p → first ≤ p.first

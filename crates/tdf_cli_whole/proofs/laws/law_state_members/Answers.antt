@@ -6,4 +6,4 @@ pub returns-clause-fit : goal.returns-clause-fit
 returns-clause-fit c = snapshots_fit c.law_limits.ensures c.law_few_rows.ensures c.law_edge_formats.ensures
 
 pub returns-clause-told : goal.returns-clause-told
-returns-clause-told c = events_are_told
+returns-clause-told c = events_are_told c.law_limits.ensures
