@@ -1,5 +1,6 @@
 //! Casts of tables and of SystemC, each public function once on its happy path, and printed texts.
 
+mod devices;
 mod snapshots;
 mod tables;
 mod traces;

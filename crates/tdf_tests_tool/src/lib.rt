@@ -1,4 +1,4 @@
-//! Tests of the command and of its sources and sinks from outside: worked runs, refusals by name, and devices that fail.
+//! Tests of the command from outside: worked runs, and refusals by name.
 //!
 //! Nothing but tests is here, and nothing stands on this crate.
 #![tactic(auto)]

@@ -17,7 +17,7 @@ fn joined(alloc: Global, parts: &[&str]) -> Result<Vec<u8>, Memory> {
 
 /// The ramp: its first lines, the bits of its word, its timestep, and what each sample adds.
 #[derive(Clone, Copy)]
-pub(crate) struct Ramp<'a> {
+struct Ramp<'a> {
     first: &'a str,
     bits: &'a str,
     step: &'a str,
@@ -25,7 +25,7 @@ pub(crate) struct Ramp<'a> {
 }
 
 impl<'a> Ramp<'a> {
-    pub(crate) fn text(self, alloc: Global) -> Result<Vec<u8>, Memory> {
+    fn text(self, alloc: Global) -> Result<Vec<u8>, Memory> {
         joined(
             alloc,
             &[
@@ -45,14 +45,14 @@ impl<'a> Ramp<'a> {
 }
 
 /// The ramp of 16 bits, one sample a microsecond.
-pub(crate) const RAMP: Ramp<'static> = Ramp {
+const RAMP: Ramp<'static> = Ramp {
     first: "language 1",
     bits: "16",
     step: "1us",
     add: "1",
 };
 
-pub(crate) fn words_of(alloc: Global, words: &[&str]) -> Result<Vec<String>, Memory> {
+fn words_of(alloc: Global, words: &[&str]) -> Result<Vec<String>, Memory> {
     let mut list = Vec::new(alloc);
     for word in words {
         list.push(String::from_str(alloc, word)?)?;
@@ -61,7 +61,7 @@ pub(crate) fn words_of(alloc: Global, words: &[&str]) -> Result<Vec<String>, Mem
 }
 
 /// Whether the command, over devices that never fail, answers this status, this output and these notes.
-pub(crate) fn answers(
+fn answers(
     alloc: Global,
     words: &[&str],
     text: &[u8],
@@ -187,7 +187,7 @@ fn wrong_run(alloc: Global) -> Result<&'static str, Memory> {
     Ok("")
 }
 
-pub(crate) const RUN: &[&str] = &["run", "--stop", "3us"];
+const RUN: &[&str] = &["run", "--stop", "3us"];
 
 /// Ramps that do not run: the first lines, bits, timestep, the words, the status and the note.
 const RAMPS: &[(&str, &str, &str, &[&str], u8, &str)] = &[
@@ -392,6 +392,17 @@ fn wrong_change(alloc: Global) -> Result<&'static str, Memory> {
     Ok("")
 }
 
+/// A text of 1,048,577 spaces is too long, and one of 1,048,576 is not.
+fn stops_at_a_long_text(alloc: Global) -> Result<bool, Memory> {
+    let mut spaces = Vec::new(alloc);
+    for _ in 0..1_048_576u64 {
+        spaces.push(b' ')?;
+    }
+    let fits = answers(alloc, RUN, &spaces, (1, b"", b"refused LONG_LINE line 1\n"))?;
+    spaces.push(b' ')?;
+    Ok(fits && answers(alloc, RUN, &spaces, (8, b"", b"too long\n"))?)
+}
+
 #[test]
 fn runs_and_refuses_by_name(rt: HostRuntime) -> Result<(), Fail> {
     assert_eq!(rt; wrong_run(rt.alloc())?, "");
@@ -404,5 +415,11 @@ fn runs_and_refuses_by_name(rt: HostRuntime) -> Result<(), Fail> {
 #[test]
 fn makes_models_and_measures_them(rt: HostRuntime) -> Result<(), Fail> {
     assert!(rt; loads(rt.alloc())?);
+    Ok(())
+}
+
+#[test]
+fn a_text_is_too_long(rt: HostRuntime) -> Result<(), Fail> {
+    assert!(rt; stops_at_a_long_text(rt.alloc())?);
     Ok(())
 }

@@ -2,12 +2,19 @@
 
 ghost use Rattle.std.specs.Prelude.{◌<◌};
 
-use super::runs::{RAMP, RUN, answers, words_of};
 use std::alloc::Global;
 use std::test::Fail;
 use tdf_base::Memory;
 use tdf_cli::{NO_MEMORY, USAGE, WRITE_FAULT, tool};
 use tdf_io::{MemSink, MemSource};
+
+/// The ramp of 16 bits, one sample a microsecond.
+pub(crate) const RAMP: &[u8] = b"language 1\ntype w fixed 16 16\ntdf ramp\nout y w\nvar n w\n\
+    set_attributes\ntimestep 1us\nend\nprocessing\ny = n\nn = n + 1\nend\nend\ntop\nsignal s w\n\
+    instance u ramp\nbind u.y s\nend\ntrace s s\n";
+
+/// The words of its run to 3 microseconds.
+const RUN: &[&str] = &["run", "--stop", "3us"];
 
 /// The words of a job and its text, and the output and the notes that it writes where nothing fails.
 #[derive(Clone, Copy)]
@@ -70,6 +77,14 @@ const RAMP_TABLE: &[u8] = b"%time s\n0 0\n0.000001 1\n0.000002 2\n";
 const RAMP_NOTES: &[u8] =
     b"cluster 1 at 0 period 0.000001 firings 1\nactor u count 1 step 0.000001\nend 0.000003 turns 5\n";
 
+/// That run.
+const RAMP_RUN: Run<'static> = Run {
+    words: RUN,
+    text: RAMP,
+    table: RAMP_TABLE,
+    notes: RAMP_NOTES,
+};
+
 /// A table, as `sample` and `stats` read it.
 const ROWS: &[u8] = b"%time a b\n0 1 *\n0.000001 2 0.5\n0.000002 -3 0.5\n";
 
@@ -103,6 +118,14 @@ const DRIVEN: Run<'static> = Run {
 type Fails<'a> = (&'a [u64], &'a [u64], &'a [u64]);
 
 const NO_CALLS: &[u64] = &[];
+
+fn words_of(alloc: Global, words: &[&str]) -> Result<Vec<String>, Memory> {
+    let mut list = Vec::new(alloc);
+    for word in words {
+        list.push(String::from_str(alloc, word)?)?;
+    }
+    Ok(list)
+}
 
 /// What the command answers to these words for a text, its output and its notes, where these calls fail, and no other one gives
 /// or takes more than `most` bytes.
@@ -199,8 +222,7 @@ pub(crate) fn failing_writes(
 
 /// A write of output that fails after four bytes.
 fn stops_at_a_write(alloc: Global) -> Result<bool, Memory> {
-    let text = RAMP.text(alloc)?;
-    let (status, out, notes) = failing(alloc, RUN, &text, 4, (NO_CALLS, &[1], NO_CALLS))?;
+    let (status, out, notes) = failing(alloc, RUN, RAMP, 4, (NO_CALLS, &[1], NO_CALLS))?;
     Ok(
         status == WRITE_FAULT
             && out.bytes() == b"%tim".as_slice()
@@ -210,52 +232,24 @@ fn stops_at_a_write(alloc: Global) -> Result<bool, Memory> {
 
 /// A read that fails, and words that are not accepted, which leave the source unread.
 fn stops_before_the_text(alloc: Global) -> Result<bool, Memory> {
-    let text = RAMP.text(alloc)?;
     Ok(
-        only_notes(alloc, RUN, &text, 0, (3, b"read fault\n"))?
-            && only_notes(alloc, &["run"], &text, 0, (USAGE, b"usage\n"))?,
+        only_notes(alloc, RUN, RAMP, 0, (3, b"read fault\n"))?
+            && only_notes(alloc, &["run"], RAMP, 0, (USAGE, b"usage\n"))?,
     )
-}
-
-/// A text of 1,048,577 spaces is too long, and one of 1,048,576 is not.
-fn stops_at_a_long_text(alloc: Global) -> Result<bool, Memory> {
-    let mut spaces = Vec::new(alloc);
-    for _ in 0..1_048_576u64 {
-        spaces.push(b' ')?;
-    }
-    let fits = answers(alloc, RUN, &spaces, (1, b"", b"refused LONG_LINE line 1\n"))?;
-    spaces.push(b' ')?;
-    Ok(fits && answers(alloc, RUN, &spaces, (8, b"", b"too long\n"))?)
-}
-
-/// The run of RUN over the ramp.
-fn ramp_run<'a>(text: &'a [u8]) -> Run<'a> {
-    Run {
-        words: RUN,
-        text,
-        table: RAMP_TABLE,
-        notes: RAMP_NOTES,
-    }
 }
 
 #[test]
 fn survives_reads_that_fail(rt: HostRuntime) -> Result<(), Fail> {
-    let text = RAMP.text(rt.alloc())?;
-    assert_eq!(rt; text.len(), 178);
-    assert_eq!(rt;
-        first_wrong_read(rt.alloc(), ramp_run(text.as_slice()))?,
-        None
-    );
+    assert_eq!(rt; RAMP.len(), 178);
+    assert_eq!(rt; first_wrong_read(rt.alloc(), RAMP_RUN)?, None);
     Ok(())
 }
 
 // The counts of writes: each row of a table is a piece of its own; the notes of plans are, and the closing one.
 #[test]
 fn survives_writes_that_fail(rt: HostRuntime) -> Result<(), Fail> {
-    let text = RAMP.text(rt.alloc())?;
-    let ramp = ramp_run(text.as_slice());
-    assert_eq!(rt; failing_writes(rt.alloc(), ramp, 4, false)?, Some(9));
-    assert_eq!(rt; failing_writes(rt.alloc(), ramp, 4, true)?, Some(24));
+    assert_eq!(rt; failing_writes(rt.alloc(), RAMP_RUN, 4, false)?, Some(9));
+    assert_eq!(rt; failing_writes(rt.alloc(), RAMP_RUN, 4, true)?, Some(24));
     assert_eq!(rt; failing_writes(rt.alloc(), CHAIN, 16, false)?, Some(8));
     assert_eq!(rt; failing_writes(rt.alloc(), CHAIN, 16, true)?, Some(50));
     Ok(())
@@ -283,6 +277,5 @@ fn tables_survive_writes_that_fail(rt: HostRuntime) -> Result<(), Fail> {
 fn the_outside(rt: HostRuntime) -> Result<(), Fail> {
     assert!(rt; stops_at_a_write(rt.alloc())?);
     assert!(rt; stops_before_the_text(rt.alloc())?);
-    assert!(rt; stops_at_a_long_text(rt.alloc())?);
     Ok(())
 }

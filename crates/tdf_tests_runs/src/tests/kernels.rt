@@ -5,10 +5,10 @@ ghost use Rattle.tdf_base.specs.Limits.{time_end};
 
 use std::alloc::Global;
 use std::test::Fail;
-use tdf_cli::elaborate;
 use tdf_events::Kernel;
 use tdf_fixed::Raw;
 use tdf_io::SureSink;
+use tdf_sim::elaborate;
 use tdf_sim_notes::End;
 use tdf_trace_rows::TraceKind;
 

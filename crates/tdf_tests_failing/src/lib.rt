@@ -1,4 +1,4 @@
-//! Tests from outside of a run that waits at a stop and goes on.
+//! Tests from outside of the command over devices that fail.
 //!
 //! Nothing but tests is here, and nothing stands on this crate.
 #![tactic(auto)]

@@ -1,4 +1,4 @@
-use Rattle.tdf_tests_tool.proofs.tests.kernels.left.Goals as goal
+use Rattle.tdf_tests_runs.proofs.tests.kernels.left.Goals as goal
 
 pub returns-in-Reached : goal.returns-in-Reached
 returns-in-Reached c =

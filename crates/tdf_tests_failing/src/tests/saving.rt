@@ -1,14 +1,9 @@
 //! Devices that fail under `save` and `resume`: each read, each write of output and each note in turn.
 
-use super::failing::{Run, failing_writes, first_wrong_read};
+use super::failing::{RAMP, Run, failing_writes, first_wrong_read};
 use std::test::Fail;
 
-/// The ramp of 16 bits, one sample a microsecond.
-const MODEL: &[u8] = b"language 1\ntype w fixed 16 16\ntdf ramp\nout y w\nvar n w\n\
-    set_attributes\ntimestep 1us\nend\nprocessing\ny = n\nn = n + 1\nend\nend\ntop\nsignal s w\n\
-    instance u ramp\nbind u.y s\nend\ntrace s s\n";
-
-/// Its state at 2 microseconds.
+/// The state of the ramp at 2 microseconds.
 const STATE: &[u8] =
     b"saved 1\nkind table\nrun 2000000 3 100000000\ncluster 1 1000000\nmodule u 0\nrates\n\
     steps 1000000 0\ncells 2\ncolumn s 1\ntext 178\nlanguage 1\ntype w fixed 16 16\ntdf ramp\n\
@@ -18,7 +13,7 @@ const STATE: &[u8] =
 /// Its trace up to there.
 const SAVED_TRACE: Run<'static> = Run {
     words: &["save", "--stop", "2us", "--part", "trace"],
-    text: MODEL,
+    text: RAMP,
     table: b"%time s\n0 0\n0.000001 1\n",
     notes: b"cluster 1 at 0 period 0.000001 firings 1\nactor u count 1 step 0.000001\n",
 };
@@ -26,7 +21,7 @@ const SAVED_TRACE: Run<'static> = Run {
 /// That state.
 const SAVED_STATE: Run<'static> = Run {
     words: &["save", "--stop", "2us", "--part", "state"],
-    text: MODEL,
+    text: RAMP,
     table: STATE,
     notes: b"",
 };

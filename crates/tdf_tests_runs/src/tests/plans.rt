@@ -5,8 +5,8 @@ ghost use Rattle.std.specs.Prelude.{◌<◌, ◌^◌};
 use std::alloc::Global;
 use std::test::Fail;
 use tdf_base::Resolution;
-use tdf_cli::{Ran, elaborate};
 use tdf_io::SureSink;
+use tdf_sim::{Ran, elaborate};
 use tdf_trace_rows::TraceKind;
 
 /// A module whose rate goes from one to four at the first boundary, and back to one at the second.
