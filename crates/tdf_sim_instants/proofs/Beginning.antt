@@ -10,7 +10,7 @@ use Rattle.tdf_convert.specs.Outputs.{OutputsOf, WritesOf}
 use Rattle.tdf_convert.specs.declared.links.Links.{Links}
 use Rattle.tdf_dynamic_first.specs.First.{IsFirstPlan}
 use Rattle.tdf_dynamic_first.specs.declared.first.First.{First}
-use Rattle.tdf_sim_instants.specs.Engine.{AreInProgress, HaveRooms, IsEngineOf, IsReadyAt}
+use Rattle.tdf_sim_instants.specs.Engine.{AreInProgress, AreRoomy, HaveRooms, IsEngineOf, IsReadyAt}
 use Rattle.tdf_sim_instants.specs.Making.{HavePlans}
 use Rattle.tdf_sim_instants.specs.Settling.{IsBefore}
 use Rattle.tdf_sim_instants.specs.declared.engine.Engine.{Engine}
@@ -86,14 +86,24 @@ rooms_more size cs room m c rooms is = record {
     by_case n k offset d (inr one) (inr other) =
         subst (λ (x : ClusterOf). size_due size x.runners offset x.entries ≤ k) one.1 (subst (λ x. size_due size c.runners offset c.entries ≤ x) other.1 (is.above offset))
 
+-- empty lists with the rooms that clusters need
+pub rooms_made : (clusters : List ClusterOf) (o : OutputsOf) (w : WritesOf) (sent traced : ℕ) → HaveRooms sent_size clusters sent → HaveRooms traced_size clusters traced
+    → o ≡ record { sent = []; traced = []; sent_room = sent; traced_room = traced } → w ≡ record { list = []; room = sent } → AreRoomy clusters o w
+rooms_made clusters o w sent traced sent_rooms traced_rooms outputs writes = record {
+  sent_room = subst (HaveRooms sent_size clusters) (sym (ap (λ (p : OutputsOf). p.sent_room) outputs)) sent_rooms;
+  traced_room = subst (HaveRooms traced_size clusters) (sym (ap (λ (p : OutputsOf). p.traced_room) outputs)) traced_rooms;
+  write_room = let a : o.sent_room ≡ sent = ap (λ (p : OutputsOf). p.sent_room) outputs in let b : w.room ≡ sent = ap (λ (v : WritesOf). v.room) writes in omega (arith, a, b);
+  none_sent = ap (λ (p : OutputsOf). p.sent) outputs;
+  none_traced = ap (λ (p : OutputsOf). p.traced) outputs;
+  none_written = ap (λ (v : WritesOf). v.list) writes;
+}
+
 -- all together
 pub engine_made : (flat : Flat) (e : Engine) → length e.since.items ≡ length e.clusters.items → AreInProgress flat e.clusters.items
     → AreLinkedUpTo flat.tables (length e.clusters.items) e.links.items
     → AreGivenUpTo e.links.items (length e.links.items) e.inputs.items → AreSinkLinks flat.tables e.sinks.list.items
-    → (sent traced : ℕ) → HaveRooms sent_size e.clusters.items sent → HaveRooms traced_size e.clusters.items traced
-    → e.outputs ≡ record { sent = []; traced = []; sent_room = sent; traced_room = traced }
-    → e.writes ≡ record { list = []; room = sent } → IsKernelOf flat e.kernel → IsEngineOf flat e
-engine_made flat e as_many going linked given sinks sent traced sent_rooms traced_rooms outputs writes kernel = record {
+    → AreRoomy e.clusters.items e.outputs e.writes → IsKernelOf flat e.kernel → IsEngineOf flat e
+engine_made flat e as_many going linked given sinks roomy kernel = record {
   since = as_many;
   links = linked.long;
   inputs = given.long ∙ linked.long;
@@ -101,11 +111,11 @@ engine_made flat e as_many going linked given sinks sent traced sent_rooms trace
   linked = linked.each;
   given = given.each;
   sinks = sinks;
-  sent_room = subst (HaveRooms sent_size e.clusters.items) (sym (ap (λ (o : OutputsOf). o.sent_room) outputs)) sent_rooms;
-  traced_room = subst (HaveRooms traced_size e.clusters.items) (sym (ap (λ (o : OutputsOf). o.traced_room) outputs)) traced_rooms;
-  write_room = let a : e.outputs.sent_room ≡ sent = ap (λ (o : OutputsOf). o.sent_room) outputs in let b : e.writes.room ≡ sent = ap (λ (w : WritesOf). w.room) writes in omega (arith, a, b);
-  none_sent = ap (λ (o : OutputsOf). o.sent) outputs;
-  none_written = ap (λ (w : WritesOf). w.list) writes;
+  sent_room = roomy.sent_room;
+  traced_room = roomy.traced_room;
+  write_room = roomy.write_room;
+  none_sent = roomy.none_sent;
+  none_written = roomy.none_written;
   kernel = kernel;
 }
 

@@ -3,14 +3,14 @@
 ghost use Rattle.std.specs.Prelude.{◌≡◌, ◌+◌, [], IfOk, length, replicate};
 ghost use Rattle.tdf_convert.specs.Links.{samplers_in};
 ghost use Rattle.tdf_dynamic_first.specs.First.{IsFirstPlan};
-ghost use Rattle.tdf_sim_instants.specs.Engine.{AreInProgress, HaveRooms, IsEngineOf, IsReadyAt};
+ghost use Rattle.tdf_sim_instants.specs.Engine.{AreInProgress, AreRoomy, HaveRooms, IsEngineOf, IsReadyAt};
 ghost use Rattle.tdf_sim_instants.specs.Making.{HavePlans};
 ghost use Rattle.tdf_sim_instants.specs.machine.Making.{AreGivenUpTo, AreLinkedUpTo, room_of};
 ghost use Rattle.tdf_events.specs.Kernel.{IsKernelOf, side_of};
 ghost use Rattle.tdf_events.specs.Runnable.{IsRunnable};
 ghost use Rattle.tdf_events.specs.Side.{start_side};
 ghost use Rattle.tdf_sim_refinement.specs.Below.{IsSoundFlat, sent_size, traced_size};
-ghost use Rattle.tdf_sim_refinement.specs.Linked.{HaveEventPorts};
+ghost use Rattle.tdf_sim_refinement.specs.Linked.{AreSinkLinks, HaveEventPorts};
 ghost use Rattle.tdf_sim_refinement.specs.Begun.{HasBegun, HaveBegun};
 
 use crate::engine::Engine;
@@ -116,6 +116,53 @@ pub(crate) fn rooms_of(clusters: &[Cluster]) -> Result<Room, Memory>
     Ok(room)
 }
 
+/// What an engine has beside its clusters and its event side: what samplers read and sinks write, and room for what firings give.
+#[derive(Drop)]
+struct Lines {
+    links: Vec<Links>,
+    inputs: Vec<Inputs>,
+    sinks: Links,
+    outputs: Outputs,
+    writes: Writes,
+}
+
+/// That of these clusters. Nothing is read or written yet.
+fn lines_of(alloc: Global, flat: &Flat, clusters: &[Cluster]) -> Result<Lines, Memory>
+    requires ports { HaveEventPorts flat.now.tables }
+    ensures linked { IfOk result (λ lines.
+        AreLinkedUpTo flat.now.tables (length clusters.now) lines.links.items) }
+    ensures given { IfOk result (λ lines.
+        AreGivenUpTo lines.links.items (length lines.links.items) lines.inputs.items) }
+    ensures sinks { IfOk result (λ lines. AreSinkLinks flat.now.tables lines.sinks.list.items) }
+    ensures roomy { IfOk result (λ lines. AreRoomy clusters.now lines.outputs lines.writes) }
+{
+    let room = rooms_of(clusters)?;
+    let links = links_of(alloc, flat, clusters.len())?;
+    let inputs = inputs_of(alloc, &links)?;
+    let sinks = sink_links(alloc, &flat.tables)?;
+    let outputs = Outputs::new(alloc, room.sent, room.traced)?;
+    let writes = Writes::new(alloc, room.sent)?;
+    Ok(Lines {
+        links,
+        inputs,
+        sinks,
+        outputs,
+        writes,
+    })
+}
+
+/// The begin of the first period of so many clusters, and the event side as the model declares it.
+fn first_times(alloc: Global, flat: &Flat, count: usize) -> Result<(Vec<u64>, Kernel), Memory>
+    requires runnable { IsRunnable flat.now }
+    ensures since { IfOk result (λ first. first.0.items ≡ replicate count 0) }
+    ensures side { IfOk result (λ first. side_of first.1 ≡ start_side flat.now) }
+    ensures kernel { IfOk result (λ first. IsKernelOf flat.now first.1) }
+{
+    let since = vec![in alloc; 0; count]?;
+    let kernel = Kernel::new(alloc, flat)?;
+    Ok((since, kernel))
+}
+
 impl Engine {
     /// All that runs of a model, between two instants: these clusters, whose periods began at the times `since`, and this
     /// event side. Its samplers have read nothing yet, and nothing is written.
@@ -141,23 +188,34 @@ impl Engine {
         ensures planned { IfOk result (λ engine. engine.planned.items ≡ []) }
     {
         law_ports();
-        let room = rooms_of(&clusters)?;
-        let links = links_of(alloc, flat, clusters.len())?;
-        let inputs = inputs_of(alloc, &links)?;
-        let sinks = sink_links(alloc, &flat.tables)?;
-        let outputs = Outputs::new(alloc, room.sent, room.traced)?;
-        let writes = Writes::new(alloc, room.sent)?;
-        Ok(Engine {
-            clusters,
-            since,
-            links,
-            inputs,
-            sinks,
-            outputs,
-            writes,
-            kernel,
-            planned: Vec::new(alloc),
-        })
+        match lines_of(alloc, flat, &clusters) {
+            Ok(lines) => {
+                let Lines {
+                    links,
+                    inputs,
+                    sinks,
+                    outputs,
+                    writes,
+                } = lines;
+                Ok(Engine {
+                    clusters,
+                    since,
+                    links,
+                    inputs,
+                    sinks,
+                    outputs,
+                    writes,
+                    kernel,
+                    planned: Vec::new(alloc),
+                })
+            }
+            Err(failed) => {
+                drop(kernel);
+                drop(clusters);
+                drop(since);
+                Err(failed)
+            }
+        }
     }
 
     /// All that runs of a model, before its first instant: each cluster at the start of its first period, which begins at
@@ -182,8 +240,12 @@ impl Engine {
     {
         law_limits();
         let clusters = first_clusters(alloc, flat, firsts)?;
-        let since = vec![in alloc; 0; clusters.len()]?;
-        let kernel = Kernel::new(alloc, flat)?;
-        Engine::from_parts(alloc, flat, since, clusters, kernel)
+        match first_times(alloc, flat, clusters.len()) {
+            Ok((since, kernel)) => Engine::from_parts(alloc, flat, since, clusters, kernel),
+            Err(failed) => {
+                drop(clusters);
+                Err(failed)
+            }
+        }
     }
 }

@@ -6,19 +6,19 @@ pub from_parts-requires-clause-clusters : goal.from_parts-requires-clause-cluste
 from_parts-requires-clause-clusters c =
     all_begun c.args.flat.now c.args.firsts.items c.in_ok-clusters.clusters.items (c.law_limits.ensures c.requires.sound.model c.args.flat.now c.requires.sound.sound.kept c.requires.sound.sound.types c.requires.sound.is) c.in_ok-clusters.ensures
 
-pub returns-clause-begun : goal.returns-clause-begun
-returns-clause-begun c = begun_kept c.args.flat.now c.args.firsts.items c.in_ok-clusters.clusters.items c.from_parts.result c.from_parts.ensures.clusters c.in_ok-clusters.ensures
+pub returns-in-Ok-clause-begun : goal.returns-in-Ok-clause-begun
+returns-in-Ok-clause-begun c = begun_kept c.args.flat.now c.args.firsts.items c.in_ok-clusters.clusters.items c.from_parts.result c.from_parts.ensures.clusters c.in_ok-clusters.ensures
 
-pub returns-clause-since : goal.returns-clause-since
-returns-clause-since c =
-    let none : c.in_ok-since.since.items ≡ replicate (length c.in_ok-clusters.clusters.items) 0 = search rules in
-    since_kept c.args.flat.now c.args.firsts.items c.in_ok-clusters.clusters.items c.from_parts.result c.from_parts.ensures.clusters c.in_ok-since.since.items c.from_parts.ensures.since none
+pub returns-in-Ok-clause-since : goal.returns-in-Ok-clause-since
+returns-in-Ok-clause-since c =
+    let none : c.in-Ok.since.items ≡ replicate (length c.in_ok-clusters.clusters.items) 0 = search rules in
+    since_kept c.args.flat.now c.args.firsts.items c.in_ok-clusters.clusters.items c.from_parts.result c.from_parts.ensures.clusters c.in-Ok.since.items c.from_parts.ensures.since none
 
-pub returns-clause-ready : goal.returns-clause-ready
-returns-clause-ready c =
-    let none : c.in_ok-since.since.items ≡ replicate (length c.in_ok-clusters.clusters.items) 0 = search rules in
-    ready_kept c.args.flat.now c.args.firsts.items c.in_ok-clusters.clusters.items c.from_parts.result c.from_parts.ensures.clusters c.in_ok-since.since.items c.from_parts.ensures.since none
-    c.in_ok-clusters.ensures c.in_ok-kernel.kernel c.from_parts.ensures.kernel c.in_ok-kernel.ensures.side
+pub returns-in-Ok-clause-ready : goal.returns-in-Ok-clause-ready
+returns-in-Ok-clause-ready c =
+    let none : c.in-Ok.since.items ≡ replicate (length c.in_ok-clusters.clusters.items) 0 = search rules in
+    ready_kept c.args.flat.now c.args.firsts.items c.in_ok-clusters.clusters.items c.from_parts.result c.from_parts.ensures.clusters c.in-Ok.since.items c.from_parts.ensures.since none
+    c.in_ok-clusters.ensures c.in-Ok.kernel c.from_parts.ensures.kernel c.in-Ok.ensures.side
 
-pub returns-clause-side : goal.returns-clause-side
-returns-clause-side c = side_kept c.args.flat.now c.from_parts.result c.in_ok-kernel.kernel c.from_parts.ensures.kernel c.in_ok-kernel.ensures.side
+pub returns-in-Ok-clause-side : goal.returns-in-Ok-clause-side
+returns-in-Ok-clause-side c = side_kept c.args.flat.now c.from_parts.result c.in-Ok.kernel c.from_parts.ensures.kernel c.in-Ok.ensures.side
