@@ -36,7 +36,7 @@ use crate::running::Running;
 use std::alloc::Global;
 use tdf_bind::Flat;
 use tdf_io::{Sink, SinkErr, put_all};
-use tdf_sim_instants::law_one_answer;
+use tdf_sim_instants::{Engine, law_one_answer};
 use tdf_sim_notes::{End, write_closing};
 
 /// A run that ended, and the text of the last plans that its boundaries brought.
@@ -64,6 +64,35 @@ fn end_of(run: &Running, ended: Ended, stop: u64, turns: u64) -> End
     }
 }
 
+/// What all that ran leaves: its clusters and its event side.
+fn ran_of(engine: Engine, end: End) -> Ran
+    ensures { result ≡ record { end = end; clusters = engine.clusters; kernel = engine.kernel } }
+{
+    let Engine {
+        clusters,
+        since,
+        links,
+        inputs,
+        sinks,
+        outputs,
+        writes,
+        kernel,
+        planned,
+    } = engine;
+    drop(since);
+    drop(links);
+    drop(inputs);
+    drop(sinks);
+    drop(outputs);
+    drop(writes);
+    drop(planned);
+    Ran {
+        end,
+        clusters,
+        kernel,
+    }
+}
+
 /// What a run leaves that goes no further; its trace is whole then.
 fn closed<O: Sink>(
     run: Running,
@@ -83,17 +112,24 @@ fn closed<O: Sink>(
     ensures news { IfOk result (λ whole. whole.news.items ≡ run.news.items) }
 {
     let end = end_of(&run, ended, stop, turns);
-    let news = run.news;
-    match finish(run.shown, run.from, out) {
+    let Running {
+        engine,
+        shown,
+        from,
+        left: _,
+        news,
+    } = run;
+    match finish(shown, from, out) {
         Ok(()) => Ok(Whole {
-            ran: Ran {
-                end,
-                clusters: run.engine.clusters,
-                kernel: run.engine.kernel,
-            },
+            ran: ran_of(engine, end),
             news,
         }),
-        Err(error) => Err(error),
+        Err(error) => {
+            drop(engine);
+            drop(end);
+            drop(news);
+            Err(error)
+        }
     }
 }
 

@@ -39,8 +39,18 @@ pub(crate) fn begin(
 {
     law_can();
     let engine = Engine::new(alloc, flat, firsts)?;
-    let mut shown = Shown::new(alloc, flat, kind)?;
-    shown.start(alloc, flat, &engine.since, &engine.clusters)?;
+    let mut shown = match Shown::new(alloc, flat, kind) {
+        Ok(shown) => shown,
+        Err(failed) => {
+            drop(engine);
+            return Err(failed);
+        }
+    };
+    if let Err(failed) = shown.start(alloc, flat, &engine.since, &engine.clusters) {
+        drop(shown);
+        drop(engine);
+        return Err(failed);
+    }
     Ok(Running {
         engine,
         shown,
