@@ -1,14 +1,16 @@
 //! What the kernel of a run tells after its stop: the values of the event signals, and the next time.
 
-ghost use Rattle.std.specs.Prelude.{◌≡◌, ◌<◌, IfSome, false};
+ghost use Rattle.std.specs.Prelude.{◌≡◌, ◌<◌, ℕ, IfSome, false};
 ghost use Rattle.tdf_base.specs.Limits.{time_end};
+ghost use Rattle.tdf_sim.specs.Runs.{IsSomeAccepted};
+ghost use Rattle.tdf_sim_notes.specs.declared.ending.End.TheVariants.{Reached};
 
 use std::alloc::Global;
 use std::test::Fail;
 use tdf_events::Kernel;
 use tdf_fixed::Raw;
 use tdf_io::SureSink;
-use tdf_sim::elaborate;
+use tdf_sim::{Ran, Sim, elaborate};
 use tdf_sim_notes::End;
 use tdf_trace_rows::TraceKind;
 
@@ -18,32 +20,81 @@ const TICK: &str =
     q = n\nn = n + 1\nnotify e after 1us\nend\nend\ntop\nde_signal q w\ninstance t tick\n\
     bind t.q q\nend\ntrace q q\n";
 
-/// The kernel that a run of it leaves, where the run reached its stop in picoseconds.
+/// The kernel that a run left, where it reached its stop.
+fn kernel_of(ran: Ran) -> Option<Kernel>
+    requires { (time turns : ℕ) → ran.end ≡ Reached time turns → ran.kernel.spent ≡ false }
+    ensures going { IfSome result (λ kernel. kernel.spent ≡ false) }
+{
+    let Ran {
+        end,
+        clusters,
+        kernel,
+    } = ran;
+    drop(clusters);
+    match end {
+        End::Reached { .. } => Some(kernel),
+        other => {
+            drop(other);
+            drop(kernel);
+            None
+        }
+    }
+}
+
+/// The kernel that a run of this model leaves, where the run reaches its stop in picoseconds.
+fn run_to(alloc: Global, sim: Sim, stop: u64) -> Option<Kernel>
+    requires accepted { IsSomeAccepted sim }
+    requires stop { stop < time_end }
+    ensures going { IfSome result (λ kernel. kernel.spent ≡ false) }
+{
+    let mut out = SureSink::new(alloc);
+    let mut notes = SureSink::new(alloc);
+    let ran = sim.run(alloc, stop, 1_000, TraceKind::Table, &mut out, &mut notes);
+    drop(out);
+    drop(notes);
+    match ran {
+        Ok(ran) => kernel_of(ran),
+        Err(error) => {
+            drop(error);
+            None
+        }
+    }
+}
+
+/// The same of the model above.
 fn left(alloc: Global, stop: u64) -> Option<Kernel>
     requires { stop < time_end }
     ensures going { IfSome result (λ kernel. kernel.spent ≡ false) }
 {
-    let Ok(sim) = elaborate(alloc, TICK.as_bytes()) else {
-        return None;
-    };
-    let mut out = SureSink::new(alloc);
-    let mut notes = SureSink::new(alloc);
-    match sim.run(alloc, stop, 1_000, TraceKind::Table, &mut out, &mut notes) {
-        Ok(ran) => match ran.end {
-            End::Reached { .. } => Some(ran.kernel),
-            End::Stopped { .. } | End::Spent { .. } => None,
-        },
-        Err(_) => None,
+    match elaborate(alloc, TICK.as_bytes()) {
+        Ok(sim) => run_to(alloc, sim, stop),
+        Err(refused) => {
+            drop(refused);
+            None
+        }
     }
 }
 
-/// What it tells at a stop in picoseconds: the value of its first signal, and its next time.
+/// What a kernel tells: the value of its first signal, and its next time.
+fn told_by(kernel: &Kernel) -> Option<(Raw, u64)>
+    requires { kernel.now.spent ≡ false }
+{
+    let value = *kernel.values().get(0)?;
+    Some((value, kernel.next_time()?))
+}
+
+/// What it tells at a stop in picoseconds.
 fn told(alloc: Global, stop: u64) -> Option<(Raw, u64)>
     requires { stop < time_end }
 {
-    let kernel = left(alloc, stop)?;
-    let value = *kernel.values().get(0)?;
-    Some((value, kernel.next_time()?))
+    match left(alloc, stop) {
+        Some(kernel) => {
+            let told = told_by(&kernel);
+            drop(kernel);
+            told
+        }
+        None => None,
+    }
 }
 
 #[test]

@@ -29,12 +29,25 @@ fn ran(alloc: Global, stop: u64) -> Option<Ran>
         .ok()
 }
 
+/// How often a plan was made for its cluster.
+fn plannings_of(ran: &Ran) -> Option<u64> {
+    Some(ran.clusters.get(0)?.plannings())
+}
+
+/// The rate of its first module that is in force.
+fn rate_of(ran: &Ran) -> Option<u32> {
+    let row = ran.clusters.get(0)?.attrs().rows().get(0)?;
+    Some(*row.rates.get(0)?)
+}
+
 /// How often a plan was made for its cluster up to a time.
 fn plannings(alloc: Global, stop: u64) -> Option<u64>
     requires { stop < 10 ^ 18 }
 {
     let ran = ran(alloc, stop)?;
-    Some(ran.clusters.get(0)?.plannings())
+    let made = plannings_of(&ran);
+    drop(ran);
+    made
 }
 
 /// The rate of its first module that is in force at a time.
@@ -42,8 +55,9 @@ fn rate(alloc: Global, stop: u64) -> Option<u32>
     requires { stop < 10 ^ 18 }
 {
     let ran = ran(alloc, stop)?;
-    let row = ran.clusters.get(0)?.attrs().rows().get(0)?;
-    Some(*row.rates.get(0)?)
+    let rate = rate_of(&ran);
+    drop(ran);
+    rate
 }
 
 /// What one count of its times stands for, as the accepted model tells it.
