@@ -144,6 +144,9 @@ fn place_of(held: &VecDeque<Held>, time: u64) -> usize
     ensures { IsPlace held.now.items time result }
 {
     let mut k = held.len();
+    if k == 0 || held[k - 1].time < time {
+        return k;
+    }
     while 0 < k && time <= held[k - 1].time {
         k -= 1;
     }
