@@ -3,11 +3,11 @@ use Rattle.std.proofs.Common.{◌≡◌, ◌∙◌, ℕ, zero, suc, ◌+◌, ◌
 use Rattle.std.specs.Option.{option_map}
 use Rattle.std.specs.Prelude.{slice_get, min, ◌||◌}
 use Rattle.tdf_expr_semantics.proofs.Api.{inside, of_kind}
-use Rattle.tdf_expr_compiler.proofs.Stored.{shaped, cell_within, sample_within, own_found, own_none, thing_at, at_few, part_thing}
+use Rattle.tdf_expr_compiler.proofs.Stored.{shaped, cell_there, sample_there, own_found, own_none, thing_at, at_few, part_thing}
 use Rattle.tdf_expr_compiler.specs.Layouts.{IsNumbered}
 use Rattle.tdf_expr_compiler.specs.declared.numbers.Numbers.{Numbers}
 use Rattle.tdf_expr_compiler.specs.machine.Computed.{IsAt, Computes}
-use Rattle.tdf_expr_compiler.specs.machine.Found.{IsFound, IsIndexed, IsCellAt, IsSampleAt}
+use Rattle.tdf_expr_compiler.specs.machine.Found.{IsFound, IsIndexed, IsCellAt, IsSampleAt, bits_in}
 use Rattle.tdf_expr_compiler.specs.machine.Indexed.{AreTurns, IsSpotOf}
 use Rattle.tdf_base.proofs.Api.{none_first, none_second}
 use Rattle.tdf_expr_machine.specs.declared.nodes.Node.{Node}
@@ -54,7 +54,7 @@ are_turns scope loops turns s at = record {
 
 module _ (scope : Scope) (loops : List OpenLoop) where
   pub indexed_array : (n : ℕ) (p : Numbers) (shape : Option Shape) (size : ℕ) (vs : List Lit) (i : Index) (spot : Spot) (code : Node) → IsNumbered scope.own n p
-      → IsSpotOf loops p.cell i spot → IsCellAt spot code → IsIndexed scope loops n (Array shape size vs) i code
+      → IsSpotOf loops p.cell i spot → IsCellAt spot (bits_in shape) code → IsIndexed scope loops n (Array shape size vs) i code
   unfolding greatest_of
   indexed_array n p shape size vs i spot code numbered spots cell = record {
     at = λ body line turns s at is kind none.
@@ -63,20 +63,20 @@ module _ (scope : Scope) (loops : List OpenLoop) where
         let below : x.place < size = x.below in
         let there = spots.stands turns (are_turns scope loops turns s at) x.place x.is (omega (arith, below, holds.4)) in
         let here = there.1 ∙ ap (λ k. k + x.place) numbered.cell in (
-          cell.safe turns s there.0 (rw here (cell_within scope loops turns s n x.place (Array shape size vs) at is below)),
+          cell.safe turns s there.0 (rw here (cell_there scope loops turns s n x.place (Array shape size vs) at is holds.0 below)),
           (x.place, x.is, cell.num turns s ∙ ap (cell_at s.frame.cells) here ∙ sym (shaped shape (cell_at s.frame.cells (first_cell scope.own n + x.place)) holds.0)),
         );
   }
 
   pub indexed_port : (n : ℕ) (p : Numbers) (word : PortKind) (shape : Option Shape) (rate : Limit) (delay : ℕ) (i : Index) (spot : Spot) (code : Node) → IsNumbered scope.own n p
-      → IsSpotOf loops p.sample i spot → IsSampleAt spot code → IsIndexed scope loops n (Port word shape rate delay) i code
+      → IsSpotOf loops p.sample i spot → IsSampleAt spot (bits_in shape) code → IsIndexed scope loops n (Port word shape rate delay) i code
   indexed_port n p word shape rate delay i spot code numbered spots sample = record {
     at = λ body line turns s at is kind none.
         let holds = at.sound.own n (Port word shape rate delay) is in
         let x = inside scope loops line (Port word shape rate delay) rate i turns at.sound refl none at.running in
         let there = spots.stands turns (are_turns scope loops turns s at) x.place x.is (omega (arith, x.below, holds.2)) in
         let here = there.1 ∙ ap (λ k. k + x.place) numbered.sample in (
-          sample.safe turns s there.0 (rw here (sample_within scope loops turns s n x.place (Port word shape rate delay) at is x.below)),
+          sample.safe turns s there.0 (rw here (sample_there scope loops turns s n x.place (Port word shape rate delay) at is holds.0 x.below)),
           (x.place, x.is, sample.num turns s ∙ ap (cell_at s.ports.samples) here ∙ sym (shaped shape (cell_at s.ports.samples (first_sample scope.own n + x.place)) holds.0)),
         );
   }

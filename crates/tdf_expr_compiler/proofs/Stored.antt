@@ -10,10 +10,13 @@ use Rattle.tdf_expr_compiler.proofs.Indexed.{place_within}
 use Rattle.tdf_expr_compiler.specs.Layouts.{IsNumbered}
 use Rattle.tdf_expr_compiler.specs.declared.numbers.Numbers.{Numbers}
 use Rattle.tdf_expr_compiler.specs.machine.Computed.{IsAt, Computes}
-use Rattle.tdf_expr_compiler.specs.machine.Found.{IsFound, IsKept, IsWhole}
+use Rattle.tdf_expr_compiler.specs.machine.Found.{IsFound, IsKept, IsWhole, bits_in}
 use Rattle.tdf_base.proofs.Api.{if_none, none_second}
+use Rattle.tdf_expr_machine.specs.Nodes.{HasBits, IsNumberAt}
 use Rattle.tdf_expr_machine.specs.declared.nodes.Node.{Node}
 use Rattle.tdf_expr_machine.specs.declared.nodes.Node.TheVariants as node
+use Rattle.tdf_fixed.proofs.Api.{in_width}
+use Rattle.tdf_expr_semantics.specs.Fits.{NumbersFit}
 use Rattle.tdf_expr_semantics.specs.Places.{cells_of, samples_of, first_cell, first_sample, rate_number, cell_shapes, sample_shapes, rate_limits}
 use Rattle.tdf_expr_semantics.specs.Value.{of_shape as number_in, value, element, element_at, own_value, turn_or, literal_in}
 use Rattle.tdf_expr_symbols.specs.Faults.{expr_faults, own_faults, wide_faults, is_wide}
@@ -53,6 +56,15 @@ part_thing (TypeName shape) = refl
 part_thing Tdf = refl
 part_thing De = refl
 part_thing Composite = refl
+
+-- a number that fits its format has no more bits
+bits_within : (shapes : List (Option Shape)) (nums : List ℤ) → NumbersFit shapes nums → (j : ℕ) (shape : Option Shape) → HasFormat shape → slice_get shapes j ≡ Some shape
+    → HasBits (cell_at nums j) (bits_in shape)
+bits_within shapes nums fit j (Some s) has at =
+    let less = in_width s.signed s.wl (cell_at nums j) has.some_bits (fit.each j s at) in
+    let same : min s.wl 255 ≡ s.wl = omega (arith, has.few_bits) in
+    rw same (omega (arith, less))
+bits_within shapes nums fit j None has at = absurd has
 
 -- no more bits than a value may have
 pub few_bits : (w p line : ℕ) → wide_faults (record { whole = w; part = p }) line ≡ [] → w + p ≤ 120
@@ -172,6 +184,23 @@ module _ (scope : Scope) (loops : List OpenLoop) where
       let low = slice_get_within (sample_shapes scope.own) (first_sample scope.own n + k) (shape_of t) there in
       omega (arith, low, at.state.ports.samples.long)
 
+  -- and have no more bits than their formats
+  pub cell_there : (turns : List ℕ) (s : State) (n k : ℕ) (t : Thing) → IsAt scope loops turns s → slice_get scope.own.things n ≡ Some t → HasFormat (shape_of t) → k < cells_of t
+      → IsNumberAt s.frame.cells (first_cell scope.own n + k) (bits_in (shape_of t))
+  cell_there turns s n k t at is has inside =
+      let there = placed cells_of shape_of scope.own.things n k t is inside in (
+        cell_within turns s n k t at is inside,
+        bits_within (cell_shapes scope.own) s.frame.cells at.state.frame.cells (first_cell scope.own n + k) (shape_of t) has there,
+      )
+
+  pub sample_there : (turns : List ℕ) (s : State) (n k : ℕ) (t : Thing) → IsAt scope loops turns s → slice_get scope.own.things n ≡ Some t → HasFormat (shape_of t)
+      → k < samples_of scope.own t → IsNumberAt s.ports.samples (first_sample scope.own n + k) (bits_in (shape_of t))
+  sample_there turns s n k t at is has inside =
+      let there = placed (samples_of scope.own) shape_of scope.own.things n k t is inside in (
+        sample_within turns s n k t at is inside,
+        bits_within (sample_shapes scope.own) s.ports.samples at.state.ports.samples (first_sample scope.own n + k) (shape_of t) has there,
+      )
+
   pub rate_within : (turns : List ℕ) (s : State) (n least greatest start : ℕ) → IsAt scope loops turns s → slice_get scope.own.things n ≡ Some (RateVar least greatest start)
       → rate_number scope.own n < length s.frame.rates
   rate_within turns s n least greatest start at is =
@@ -189,35 +218,35 @@ shaped (Some shape) num has = refl
 shaped None num has = absurd has
 
 module _ (scope : Scope) (loops : List OpenLoop) where
-  pub whole_var : (n : ℕ) (p : Numbers) (shape : Option Shape) (v : Lit) → IsNumbered scope.own n p → IsWhole scope loops n (Var shape v) (node.Cell p.cell)
+  pub whole_var : (n : ℕ) (p : Numbers) (shape : Option Shape) (v : Lit) → IsNumbered scope.own n p → IsWhole scope loops n (Var shape v) (node.Cell p.cell (bits_in shape))
   whole_var n p shape v numbered = record {
     at = λ turns s at is.
         let has = (at.sound.own n (Var shape v) is).0 in
         let here : p.cell ≡ first_cell scope.own n + 0 = numbered.cell ∙ omega arith in (
-          rw here (cell_within scope loops turns s n 0 (Var shape v) at is (omega arith)),
+          rw here (cell_there scope loops turns s n 0 (Var shape v) at is has (omega arith)),
           ap (cell_at s.frame.cells) here ∙ sym (shaped shape (cell_at s.frame.cells (first_cell scope.own n + 0)) has),
         );
   }
 
   pub whole_array : (n : ℕ) (p : Numbers) (shape : Option Shape) (size : ℕ) (vs : List Lit) → IsNumbered scope.own n p
-      → IsWhole scope loops n (Array shape size vs) (node.Cell p.cell)
+      → IsWhole scope loops n (Array shape size vs) (node.Cell p.cell (bits_in shape))
   whole_array n p shape size vs numbered = record {
     at = λ turns s at is.
         let holds = at.sound.own n (Array shape size vs) is in
         let here : p.cell ≡ first_cell scope.own n + 0 = numbered.cell ∙ omega arith in (
-          rw here (cell_within scope loops turns s n 0 (Array shape size vs) at is (omega (arith, holds.3))),
+          rw here (cell_there scope loops turns s n 0 (Array shape size vs) at is holds.0 (omega (arith, holds.3))),
           ap (cell_at s.frame.cells) here ∙ sym (shaped shape (cell_at s.frame.cells (first_cell scope.own n + 0)) holds.0),
         );
   }
 
   pub whole_port : (n : ℕ) (p : Numbers) (word : PortKind) (shape : Option Shape) (rate : Limit) (delay : ℕ) → IsNumbered scope.own n p
-      → IsWhole scope loops n (Port word shape rate delay) (node.Sample p.sample)
+      → IsWhole scope loops n (Port word shape rate delay) (node.Sample p.sample (bits_in shape))
   whole_port n p word shape rate delay numbered = record {
     at = λ turns s at is.
         let holds = at.sound.own n (Port word shape rate delay) is in
         let here : p.sample ≡ first_sample scope.own n + 0 = numbered.sample ∙ omega arith in
         let some = least_greatest scope at.sound rate in (
-          rw here (sample_within scope loops turns s n 0 (Port word shape rate delay) at is (omega (arith, some, holds.1))),
+          rw here (sample_there scope loops turns s n 0 (Port word shape rate delay) at is holds.0 (omega (arith, some, holds.1))),
           ap (cell_at s.ports.samples) here ∙ sym (shaped shape (cell_at s.ports.samples (first_sample scope.own n + 0)) holds.0),
         );
   }

@@ -3,6 +3,7 @@
 ghost use Rattle.std.specs.Prelude.{◌≡◌, ◌∷◌, min, Ok, IfOk, if◌then◌else◌};
 ghost use Rattle.tdf_base.specs.Number.{numeral_of};
 ghost use Rattle.tdf_expr_compiler.specs.Formats.{IsFormatOf};
+ghost use Rattle.tdf_expr_compiler.specs.machine.Found.{bits_in};
 ghost use Rattle.tdf_fixed.specs.Cast.{IsLegal};
 ghost use Rattle.tdf_fixed.specs.Literal.{decimal_of};
 ghost use Rattle.tdf_fixed.specs.declared.raw.Raw.{Raw as RawOf};
@@ -36,6 +37,16 @@ pub(crate) fn part_of(shape: Option<Shape>) -> u8
     match shape {
         None => 0,
         Some(shape) => shape.wl.saturating_sub(shape.iwl).min(255) as u8,
+    }
+}
+
+/// How many bits a number in a format has at most.
+pub(crate) fn bits_in(shape: Option<Shape>) -> u32
+    ensures { result ≡ bits_in shape }
+{
+    match shape {
+        None => 0,
+        Some(shape) => shape.wl.min(255) as u32,
     }
 }
 

@@ -13,7 +13,7 @@ ghost use Rattle.tdf_expr_symbols.specs.Sound.{HasFormat, IsSound};
 ghost use Rattle.tdf_lang_tree.specs.Kept.{KeepsLit};
 ghost use Rattle.tdf_lang_tree.specs.Pure.{EAt, EName};
 
-use crate::formats::{literal_in, part_of};
+use crate::formats::{bits_in, literal_in, part_of};
 use crate::layouts::Layout;
 use crate::numbers::Numbers;
 use crate::spots::{small, spot_of};
@@ -84,9 +84,9 @@ fn whole(alloc: Global, thing: Thing, numbers: Numbers) -> Result<Node, Memory>
 {
     match thing {
         Thing::Const(shape, value) => constant(alloc, shape, value),
-        Thing::Var(_, _) => Ok(Node::Cell(numbers.cell)),
-        Thing::Array(_, _, _) => Ok(Node::Cell(numbers.cell)),
-        Thing::Port(_, _, _, _) => Ok(Node::Sample(numbers.sample)),
+        Thing::Var(shape, _) => Ok(Node::Cell(numbers.cell, bits_in(shape))),
+        Thing::Array(shape, _, _) => Ok(Node::Cell(numbers.cell, bits_in(shape))),
+        Thing::Port(_, shape, _, _) => Ok(Node::Sample(numbers.sample, bits_in(shape))),
         Thing::RateVar(_, _, _) => Ok(Node::Rate(numbers.rate)),
         _ => Ok(Node::Const(0)),
     }
@@ -139,23 +139,23 @@ pub(crate) fn named(
     }
 }
 
-/// The cell at a place.
-fn cell_at(spot: Spot) -> Node
-    ensures { IsCellAt spot result }
+/// The cell at a place, whose number has at most so many bits.
+fn cell_at(spot: Spot, bits: u32) -> Node
+    ensures { IsCellAt spot bits result }
 {
     match spot {
-        Spot::Fixed(at) => Node::Cell(at),
-        other => Node::CellAt(other),
+        Spot::Fixed(at) => Node::Cell(at, bits),
+        other => Node::CellAt(other, bits),
     }
 }
 
-/// The sample at a place.
-fn sample_at(spot: Spot) -> Node
-    ensures { IsSampleAt spot result }
+/// The sample at a place, whose number has at most so many bits.
+fn sample_at(spot: Spot, bits: u32) -> Node
+    ensures { IsSampleAt spot bits result }
 {
     match spot {
-        Spot::Fixed(at) => Node::Sample(at),
-        other => Node::SampleAt(other),
+        Spot::Fixed(at) => Node::Sample(at, bits),
+        other => Node::SampleAt(other, bits),
     }
 }
 
@@ -166,8 +166,12 @@ fn indexed(loops: &[OpenLoop], thing: Thing, numbers: Numbers, index: &Index) ->
         → IsIndexed scope (map seen_loop loops.now) n (seen thing.entry) index.now result }
 {
     match thing {
-        Thing::Array(_, _, _) => cell_at(spot_of(loops, numbers.cell, index)),
-        Thing::Port(_, _, _, _) => sample_at(spot_of(loops, numbers.sample, index)),
+        Thing::Array(shape, _, _) => {
+            cell_at(spot_of(loops, numbers.cell, index), bits_in(shape))
+        }
+        Thing::Port(_, shape, _, _) => {
+            sample_at(spot_of(loops, numbers.sample, index), bits_in(shape))
+        }
         _ => Node::Const(0),
     }
 }

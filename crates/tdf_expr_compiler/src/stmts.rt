@@ -22,7 +22,7 @@ use crate::spots::small;
 use crate::targets::set;
 use std::alloc::Global;
 use tdf_base::{Memory, Name};
-use tdf_expr_machine::{Act, Bounds, Turns, sequence};
+use tdf_expr_machine::{Act, Bounds, Expression, Turns, sequence};
 use tdf_expr_symbols::{OpenLoop, Scope, Thing};
 use tdf_lang_tree::{Expr, Index, Limit, Stmt};
 
@@ -153,16 +153,13 @@ fn branch(alloc: Global, test: Compiled, first: Act, second: Act) -> Result<Act,
     ensures { (scope : ScopeSeen) (loops : List LoopSeen) (line : ℕ) (e : PureExpr) (ss ts : PureStmts) → Computes scope loops e test.node test.part
         → ActsAll scope loops ss first → ActsAll scope loops ts second → IfOk result (λ act. Acts scope loops (SIf line e ss ts) act) }
 {
+    let test = Expression::new(test.node);
     match Box::new(alloc, first) {
-        Ok(first) => match Box::new(alloc, second) {
-            Ok(second) => Ok(Act::If {
-                test: test.node,
-                yes: first,
-                no: second,
-            }),
+        Ok(yes) => match Box::new(alloc, second) {
+            Ok(no) => Ok(Act::If { test, yes, no }),
             Err(refused) => {
                 drop(test);
-                drop(first);
+                drop(yes);
                 Err(Memory::from(refused))
             }
         },

@@ -12,7 +12,7 @@ use crate::formats::format_of;
 use crate::names::Compiled;
 use crate::numbers::Numbers;
 use crate::spots::spot_of;
-use tdf_expr_machine::{Act, CastNode, Spot};
+use tdf_expr_machine::{Act, CastNode, Expression, Spot};
 use tdf_expr_symbols::{OpenLoop, Thing};
 use tdf_lang_tree::{Index, Shape};
 
@@ -37,7 +37,7 @@ fn set_cell(shape: Option<Shape>, spot: Spot, value: Compiled) -> Act
         Some(shape) => Act::SetCell {
             spot,
             cast: CastNode {
-                value: value.node,
+                value: Expression::new(value.node),
                 frac: part,
                 format: format_of(shape),
             },
@@ -60,7 +60,7 @@ fn set_sample(shape: Option<Shape>, port: u32, spot: Spot, value: Compiled) -> A
             port,
             spot,
             cast: CastNode {
-                value: value.node,
+                value: Expression::new(value.node),
                 frac: part,
                 format: format_of(shape),
             },

@@ -1,5 +1,5 @@
 pub mod Api
-pub mod Keeping
+pub mod Bits
 pub mod InOrder
 pub mod Plains
 pub mod Powers

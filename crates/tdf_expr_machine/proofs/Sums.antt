@@ -1,5 +1,7 @@
 -- A cell that gathers the products of two rows, turn by turn.
-use Rattle.std.proofs.Common.{◌≡◌, ◌∙◌, ℕ, ◌+◌, ◌^◌, ◌<◌, ◌≤◌, List, length, ℤ, pos, ◌+ℤ◌, ◌*ℤ◌, refl, sym, ap, subst, arith}
+use Rattle.std.proofs.Common.{◌≡◌, ◌∙◌, ℕ, ◌+◌, ◌^◌, ◌<◌, ◌≤◌, List, length, ℤ, pos, ◌+ℤ◌, ◌*ℤ◌, unsigned_abs, refl, sym, ap, subst, arith}
+use Rattle.std.specs.Int.{w64}
+use Rattle.std.specs.Prelude.{FitsSigned}
 use Rattle.std.proofs.lemmas.Int.{ints}
 use Rattle.std.proofs.lemmas.List.{get_or-set_same, get_or-set_other, set-set, set-get_or, length-set}
 use Rattle.tdf_expr_machine.proofs.Runs.{turn_safe, turned_more, turned_none}
@@ -8,7 +10,7 @@ use Rattle.tdf_expr_machine.specs.Turns.{AreTurnsSafe, turned}
 use Rattle.tdf_expr_machine.specs.declared.acts.Act.{Act}
 use Rattle.tdf_expr_machine.specs.declared.plain.InnerProduct.{InnerProduct}
 use Rattle.tdf_expr_machine.specs.declared.plain.PlainSet.{PlainSet}
-use Rattle.tdf_expr_machine.specs.machine.Plain.{AreCells, AreTerms, IsInnerProduct, IsOnTarget, IsPlainSet, inner_step, inner_terms, plain_value, target_place}
+use Rattle.tdf_expr_machine.specs.machine.Plain.{AreCells, AreTerms, IsInnerProduct, IsOnTarget, IsPlainSet, IsRowsProduct, PlainFits, TermsFit, inner_step, inner_terms, plain_value, target_place}
 use Rattle.tdf_expr_state.specs.State.{State, cell_at, with_cell}
 use Rattle.tdf_fixed.specs.Overflow.{IsOfWidth}
 use Rattle.tdf_fixed.specs.Quantise.{below}
@@ -61,6 +63,19 @@ module _ (act : Act) (set : PlainSet) (g : InnerProduct) (from end i : ℕ) (loo
       ∙ ap (λ z. sum *ℤ pos (2 ^ g.lift) +ℤ z *ℤ cell_at now.frame.cells (g.second + i)) one
       ∙ ap (λ z. sum *ℤ pos (2 ^ g.lift) +ℤ cell_at s.frame.cells (g.first + i) *ℤ z) two
 
+  -- the elements and their product are short
+  pub short : IsRowsProduct g i s.frame.cells
+  short =
+      let one : cell_at now.frame.cells (g.first + i) ≡ cell_at s.frame.cells (g.first + i) = get_or-set_other s.frame.cells g.at (g.first + i) sum (pos 0) (inner.first i after before) in
+      let two : cell_at now.frame.cells (g.second + i) ≡ cell_at s.frame.cells (g.second + i) = get_or-set_other s.frame.cells g.at (g.second + i) sum (pos 0) (inner.second i after before) in
+      let fit : TermsFit (inner_terms g) i now.frame.cells = subst (λ v. PlainFits v i now.frame.cells) inner.value (sets.fits inner.narrow loops i now refl safe) in
+      let small : unsigned_abs (cell_at now.frame.cells (g.first + i) *ℤ cell_at now.frame.cells (g.second + i)) < 2 ^ 61 = fit.3.1 in
+      record {
+        first = subst (λ z. FitsSigned w64 z) one fit.2.0;
+        second = subst (λ z. FitsSigned w64 z) two fit.2.1;
+        small = subst (λ z. unsigned_abs (cell_at s.frame.cells (g.first + i) *ℤ z) < 2 ^ 61) two (subst (λ z. unsigned_abs (z *ℤ cell_at now.frame.cells (g.second + i)) < 2 ^ 61) one small);
+      }
+
   -- the turn leaves the next sum in the cell
   pub next_sum : (next : ℤ) → next ≡ inner_step g i sum s.frame.cells → IsOfWidth g.cut.signed g.cut.wl next → act_turn act loops i (with_cell g.at sum s) ≡ with_cell g.at next s
   next_sum next is range =
@@ -89,6 +104,9 @@ module _ (act : Act) (set : PlainSet) (g : InnerProduct) (from end : ℕ) (loops
 
     pub reads_second : g.second + i < length s.frame.cells
     reads_second = second_in act set g from end i loops s sum sets inner after before here
+
+    pub reads_short : IsRowsProduct g i s.frame.cells
+    reads_short = short act set g from end i loops s sum sets inner after before here
 
     pub goes_on : (next : ℤ) → next ≡ inner_step g i sum s.frame.cells → IsOfWidth g.cut.signed g.cut.wl next → with_cell g.at next s ≡ turned (act_turn act loops) from (i + 1) s
     goes_on next step range =

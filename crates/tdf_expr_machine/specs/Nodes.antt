@@ -41,10 +41,10 @@ relates relation.Different a b = not (int_eq a b)
 -- the value of an expression, in units of its last place
 abbrev pub node_value : Node → State → List ℕ → ℤ
 node_value (node.Const num) s loops = num
-node_value (node.Cell place) s loops = cell_at s.frame.cells place
-node_value (node.CellAt at) s loops = cell_at s.frame.cells (spot_place at loops)
-node_value (node.Sample place) s loops = cell_at s.ports.samples place
-node_value (node.SampleAt at) s loops = cell_at s.ports.samples (spot_place at loops)
+node_value (node.Cell place bits) s loops = cell_at s.frame.cells place
+node_value (node.CellAt at bits) s loops = cell_at s.frame.cells (spot_place at loops)
+node_value (node.Sample place bits) s loops = cell_at s.ports.samples place
+node_value (node.SampleAt at bits) s loops = cell_at s.ports.samples (spot_place at loops)
 node_value (node.Rate number) s loops = pos (slice_index s.frame.rates number)
 node_value (node.Loop depth) s loops = pos (slice_index loops depth)
 node_value (node.Sum' p a m q b n) s loops =
@@ -67,6 +67,14 @@ node_value (node.Choice' o t p a m q b n) s loops =
     else node_value b s loops *ℤ pos (2 ^ n)
 node_value (node.Cast' p a frac format) s loops = cast_of format (node_value a s loops) frac
 
+-- a number has at most so many bits, its sign aside
+abbrev pub HasBits : ℤ → ℕ → Type 0
+HasBits num bits = unsigned_abs num ≤ 2 ^ bits
+
+-- a number of a list is there, and has at most so many bits
+abbrev pub IsNumberAt : List ℤ → (place bits : ℕ) → Type 0
+IsNumberAt nums place bits = (place < length nums) × HasBits (cell_at nums place) bits
+
 -- moved up by so many bits the number is at most 2 ^ 120
 abbrev pub IsRaised : ℤ → ℕ → Type 0
 IsRaised num bits = (bits ≤ 120) × (unsigned_abs num * 2 ^ bits ≤ 2 ^ 120)
@@ -75,13 +83,15 @@ IsRaised num bits = (bits ≤ 120) × (unsigned_abs num * 2 ^ bits ≤ 2 ^ 120)
 abbrev pub IsCastable : ℤ → (frac fraction : ℕ) → Type 0
 IsCastable num frac fraction = (frac ≤ 120) × (unsigned_abs num * 2 ^ (fraction - frac) ≤ 2 ^ 120)
 
--- no step passes 2 ^ 120, and no place lies outside
+-- no step passes 2 ^ 120, no place lies outside, and no number has more bits than its operand says
 abbrev pub IsSafe : Node → State → List ℕ → Type 0
 IsSafe (node.Const num) s loops = Unit {0}
-IsSafe (node.Cell place) s loops = place < length s.frame.cells
-IsSafe (node.CellAt at) s loops = IsSpot at loops × (spot_place at loops < length s.frame.cells)
-IsSafe (node.Sample place) s loops = place < length s.ports.samples
-IsSafe (node.SampleAt at) s loops = IsSpot at loops × (spot_place at loops < length s.ports.samples)
+IsSafe (node.Cell place bits) s loops = IsNumberAt s.frame.cells place bits
+IsSafe (node.CellAt at bits) s loops =
+    IsSpot at loops × IsNumberAt s.frame.cells (spot_place at loops) bits
+IsSafe (node.Sample place bits) s loops = IsNumberAt s.ports.samples place bits
+IsSafe (node.SampleAt at bits) s loops =
+    IsSpot at loops × IsNumberAt s.ports.samples (spot_place at loops) bits
 IsSafe (node.Rate number) s loops = number < length s.frame.rates
 IsSafe (node.Loop depth) s loops = depth < length loops
 IsSafe (node.Sum' p a m q b n) s loops = IsSafe a s loops × IsSafe b s loops

@@ -4,13 +4,13 @@ ghost use Rattle.std.specs.Prelude.{◌≡◌, ◌<◌, ◌≤◌, ◌^◌, ◌&
 ghost use Rattle.tdf_expr_machine.specs.Acts.{AreTurns, IsSafeAct, acted, rate_within, turns_end, with_rate_of, act_turn, IsTurnSafe};
 ghost use Rattle.tdf_expr_machine.specs.Turns.{AreTurnsSafe, turned};
 ghost use Rattle.tdf_fixed.specs.Cast.{cast_of, fraction_of};
-ghost use Rattle.tdf_expr_machine.specs.Nodes.{IsCastable, IsSafe, IsSpot, node_value, spot_place};
+ghost use Rattle.tdf_expr_machine.specs.Nodes.{IsCastable, IsSafe, IsSpot, is_true, node_value, spot_place};
 ghost use Rattle.tdf_expr_state.specs.State.{state_of, with_cell};
 
-use crate::nodes::{Node, Sight, eval, eval_holds, eval_in};
+use crate::expressions::Expression;
+use crate::nodes::{Node, Sight, eval};
 use crate::numbers::low;
 use crate::plain::{TurnRange, quick_turns};
-use crate::short::{operand, top_value};
 use crate::spots::{Spot, place};
 use tdf_expr_state::{Cells, Signals};
 use tdf_fixed::Format;
@@ -33,7 +33,7 @@ pub struct Bounds {
 /// An expression, and the format that its value, which has so many fraction bits, is cast into.
 #[derive(Drop)]
 pub struct CastNode {
-    pub value: Node,
+    pub value: Expression,
     pub frac: u32,
     pub format: Format,
 }
@@ -73,7 +73,7 @@ pub enum Act {
     /// The rates are accepted or rejected.
     Answer(bool),
     If {
-        test: Node,
+        test: Expression,
         yes: Box<Act>,
         no: Box<Act>,
     },
@@ -166,8 +166,7 @@ fn assign(spot: Spot, cast: &CastNode, loops: &[u32], cells: &mut Cells, signals
         signals,
         loops,
     };
-    let value = &cast.value;
-    let num = eval_in(top_value(value, &at), value, cast.frac, &cast.format, &at);
+    let num = cast.value.eval(cast.frac, &cast.format, &at);
     cells.set_cell(place(spot, loops), num);
 }
 
@@ -183,8 +182,21 @@ fn output(cast: &CastNode, loops: &[u32], cells: &Cells, signals: &Signals) -> i
         signals,
         loops,
     };
-    let value = &cast.value;
-    eval_in(operand(value, &at), value, cast.frac, &cast.format, &at)
+    cast.value.eval(cast.frac, &cast.format, &at)
+}
+
+/// Whether an expression holds.
+#[inline(always)]
+fn is_met(test: &Expression, loops: &[u32], cells: &Cells, signals: &Signals) -> bool
+    requires { IsSafe test.now (state_of cells.now signals.now) loops.now }
+    ensures { result ≡ is_true (node_value test.now (state_of cells.now signals.now) loops.now) }
+{
+    let at = Sight {
+        cells,
+        signals,
+        loops,
+    };
+    test.holds(&at)
 }
 
 /// Runs a part of a statement: an assignment to a cell without a call of `run`.
@@ -275,7 +287,7 @@ pub fn run(act: &Act, loops: &[u32], cells: &mut Cells, signals: &mut Signals)
         Act::Notify { event, after } => signals.notify(*event as usize, *after),
         Act::Answer(accepted) => signals.answer(*accepted),
         Act::If { test, yes, no } => {
-            if eval_holds(test, cells, signals, loops) {
+            if is_met(test, loops, cells, signals) {
                 step(yes, loops, cells, signals);
             } else {
                 step(no, loops, cells, signals);

@@ -4,14 +4,16 @@
 //! - `numbers`: arithmetic in 128 bits, below 2^120.
 //! - `nodes`: compiled expressions and their values.
 //! - `short`: the same in 64 bits, where every step fits.
-//! - `cuts`: casts in 64 bits that only cut bits off.
+//! - `narrow`: expressions all of whose steps fit 64 bits wherever they are safe.
+//! - `expressions`: expressions that know whether all their steps fit 64 bits.
 //! - `plain`: loops over elements that go without a walk over their bodies.
 //! - `acts`: compiled statements, and how they run.
 //! - `sequences`: many statements as one.
 #![tactic(auto)]
 
 mod acts;
-mod cuts;
+mod expressions;
+mod narrow;
 mod nodes;
 mod numbers;
 mod plain;
@@ -20,6 +22,7 @@ mod short;
 mod spots;
 
 pub use acts::{Act, Bounds, CastNode, Turns, run};
+pub use expressions::Expression;
 pub use nodes::{Node, Relation, eval};
 pub use sequences::sequence;
 pub use spots::Spot;

@@ -5,10 +5,10 @@ ghost use Rattle.tdf_fixed.specs.Cast.{cast_of, fraction_of};
 ghost use Rattle.tdf_expr_machine.specs.Nodes.{IsCastable, IsSafe, is_true, node_value};
 ghost use Rattle.tdf_expr_state.specs.State.{state_of};
 
-use crate::cuts::short_cast;
 use crate::numbers::{difference, holds, negative, product, raised, relates, sum, truth_number};
 use crate::short::{short_value, verdict};
 use crate::spots::{Spot, place};
+use tdf_expr_cuts::short_cast;
 use tdf_expr_state::{Cells, Signals};
 use tdf_fixed::{Format, Raw, cast};
 
@@ -21,18 +21,19 @@ pub enum Relation {
     Different,
 }
 
-/// An expression whose fraction bits are settled. A number beside an operand says by how many bits it is moved up.
+/// An expression whose fraction bits are settled. A number beside an operand says by how many bits it is moved up; one beside a place,
+/// how many bits the number there has at most, its sign aside.
 #[derive(Drop)]
 pub enum Node {
     Const(i128),
     /// A variable, or an element at a fixed place.
-    Cell(u32),
+    Cell(u32, u32),
     /// An element at a place that a loop variable moves.
-    CellAt(Spot),
+    CellAt(Spot, u32),
     /// A sample at a fixed place.
-    Sample(u32),
+    Sample(u32, u32),
     /// A sample at a place that a loop variable moves.
-    SampleAt(Spot),
+    SampleAt(Spot, u32),
     /// A rate variable.
     Rate(u32),
     /// A loop variable, by its depth.
@@ -88,10 +89,10 @@ fn value(node: &Node, at: &Sight) -> i128
 {
     match node {
         Node::Const(num) => *num,
-        Node::Cell(place) => at.cells.cell(*place as usize),
-        Node::CellAt(spot) => at.cells.cell(place(*spot, at.loops)),
-        Node::Sample(place) => at.signals.sample(*place as usize),
-        Node::SampleAt(spot) => at.signals.sample(place(*spot, at.loops)),
+        Node::Cell(place, _) => at.cells.cell(*place as usize),
+        Node::CellAt(spot, _) => at.cells.cell(place(*spot, at.loops)),
+        Node::Sample(place, _) => at.signals.sample(*place as usize),
+        Node::SampleAt(spot, _) => at.signals.sample(place(*spot, at.loops)),
         Node::Rate(number) => i128::from(at.cells.rate(*number as usize)),
         Node::Loop(depth) => i128::from(at.loops[*depth as usize]),
         Node::Sum(a, m, b, n) => sum(raised(value(a, at), *m), raised(value(b, at), *n)),
@@ -167,19 +168,14 @@ pub(crate) fn eval_in(
     }
 }
 
-/// Whether an expression holds at these loop variables.
+/// Whether an expression holds.
 #[inline(always)]
-pub(crate) fn eval_holds(node: &Node, cells: &Cells, signals: &Signals, loops: &[u32]) -> bool
-    requires { IsSafe node.now (state_of cells.now signals.now) loops.now }
-    ensures { result ≡ is_true (node_value node.now (state_of cells.now signals.now) loops.now) }
+pub(crate) fn eval_holds(node: &Node, at: &Sight) -> bool
+    requires { IsSafe node.now (state_of at.now.cells.now at.now.signals.now) at.now.loops.now }
+    ensures { result ≡ is_true (node_value node.now (state_of at.now.cells.now at.now.signals.now) at.now.loops.now) }
 {
-    let at = Sight {
-        cells,
-        signals,
-        loops,
-    };
-    match verdict(node, &at) {
+    match verdict(node, at) {
         Some(so) => so,
-        None => holds(value(node, &at)),
+        None => holds(value(node, at)),
     }
 }

@@ -1,22 +1,23 @@
 //! Loops whose body is one assignment of a value that is read straight from the cells: a copy of an element, and a sum with
 //! a product of two elements. Their turns go without a walk over the tree.
 
-ghost use Rattle.std.specs.Int.{w32, w64};
+ghost use Rattle.std.specs.Int.{w64};
 ghost use Rattle.std.specs.Prelude.{◌≡◌, ◌≢◌, ℕ, ◌+◌, ◌<◌, ◌≤◌, ◌^◌, ◌*ℤ◌, max, unsigned_abs, FitsSigned, IfSome, IsSome, IsTrue, true, false, length};
 ghost use Rattle.tdf_expr_machine.specs.Acts.{IsTurnSafe, act_turn};
 ghost use Rattle.tdf_expr_machine.specs.Turns.{AreTurnsSafe, turned};
 ghost use Rattle.tdf_expr_machine.specs.declared.nodes.Node.TheVariants.{Cell, CellAt};
-ghost use Rattle.tdf_expr_machine.specs.machine.Plain.{AreCells, AreTerms, IsElement, IsInnerProduct, IsOn, IsOnTarget, IsPlain, IsPlainSet, IsProduct, IsSum, IsTarget, IsTrackOf, inner_step, plain_value, terms_value, target_place, track_place};
-ghost use Rattle.tdf_expr_machine.specs.machine.Steps.{IsShortProduct, PlainFits, TermsFit};
+ghost use Rattle.tdf_expr_machine.specs.machine.Plain.{AreCells, AreTerms, IsElement, IsInnerProduct, IsOn, IsOnTarget, IsPlain, IsPlainSet, IsProduct, IsRowsProduct, IsShortProduct, IsSum, IsTarget, IsTrackOf, PlainFits, TermsFit, inner_step, plain_value, terms_value, target_place, track_place};
 ghost use Rattle.tdf_fixed.specs.Quantise.{below};
 ghost use Rattle.tdf_fixed.specs.Overflow.{IsOfWidth};
 ghost use Rattle.tdf_expr_state.specs.State.{cell_at, state_of};
 
 use crate::acts::Act;
-use crate::cuts::{Cut, cut_by, cut_of, held_by, multiple_in, raised, roomy_cut, whole_cut};
 use crate::nodes::Node;
-use crate::short::{product, short_of, small_of, small_product, sum};
+use crate::short::{product, sum};
 use crate::spots::Spot;
+use tdf_expr_cuts::{
+    Cut, cut_by, cut_of, held_by, multiple_in, raised, roomy_cut, short_of, whole_cut,
+};
 use tdf_expr_state::{Cells, Signals};
 
 /// A place that goes up or down with the innermost loop variable.
@@ -56,6 +57,8 @@ pub(crate) struct PlainSet {
     target: Target,
     value: Plain,
     cut: Cut,
+    /// Whether all steps of the value fit 64 bits wherever the statement is safe.
+    narrow: bool,
 }
 
 /// How a place goes with the innermost of so many loop variables and one.
@@ -102,22 +105,22 @@ fn target_of(spot: Spot, depth: usize) -> Option<Target>
     }
 }
 
-/// The place of a cell, where the expression is one.
-fn cell_of(node: &Node) -> Option<u32>
-    ensures { IfSome result (λ at. node.now ≡ Cell at) }
+/// The place of a cell and how many bits its number has, where the expression is one.
+fn cell_of(node: &Node) -> Option<(u32, u32)>
+    ensures { IfSome result (λ at. node.now ≡ Cell at.0 at.1) }
 {
     match node {
-        Node::Cell(at) => Some(*at),
+        Node::Cell(at, bits) => Some((*at, *bits)),
         _ => None,
     }
 }
 
-/// The place of an element, where the expression is one.
-fn element_of(node: &Node) -> Option<Spot>
-    ensures { IfSome result (λ at. node.now ≡ CellAt at) }
+/// The place of an element and how many bits its number has, where the expression is one.
+fn element_of(node: &Node) -> Option<(Spot, u32)>
+    ensures { IfSome result (λ at. node.now ≡ CellAt at.0 at.1) }
 {
     match node {
-        Node::CellAt(at) => Some(*at),
+        Node::CellAt(at, bits) => Some((*at, *bits)),
         _ => None,
     }
 }
@@ -128,8 +131,8 @@ fn product_of(node: &Node, depth: usize) -> Option<(Track, Track)>
 {
     match node {
         Node::Product(a, b) => {
-            let first = track_of(element_of(a)?, depth)?;
-            let second = track_of(element_of(b)?, depth)?;
+            let first = track_of(element_of(a)?.0, depth)?;
+            let second = track_of(element_of(b)?.0, depth)?;
             Some((first, second))
         }
         _ => None,
@@ -142,7 +145,7 @@ fn terms_of(node: &Node, depth: usize) -> Option<Terms>
 {
     match node {
         Node::Sum(a, lift, b, rise) => {
-            let base = cell_of(a)?;
+            let (base, _) = cell_of(a)?;
             let (first, second) = product_of(b, depth)?;
             Some(Terms {
                 base,
@@ -161,7 +164,7 @@ fn plain_of(node: &Node, depth: usize) -> Option<Plain>
     ensures { IfSome result (λ value. IsPlain node.now depth value) }
 {
     match node {
-        Node::CellAt(at) => match track_of(*at, depth) {
+        Node::CellAt(at, _) => match track_of(*at, depth) {
             Some(track) => Some(Plain::Element(track)),
             None => None,
         },
@@ -180,9 +183,14 @@ fn plain_set(act: &Act, depth: usize) -> Option<PlainSet>
     match act {
         Act::SetCell { spot, cast } => {
             let target = target_of(*spot, depth)?;
-            let value = plain_of(&cast.value, depth)?;
+            let value = plain_of(&cast.value.node, depth)?;
             let cut = cut_of(cast.frac, &cast.format)?;
-            Some(PlainSet { target, value, cut })
+            Some(PlainSet {
+                target,
+                value,
+                cut,
+                narrow: cast.value.narrow,
+            })
         }
         _ => None,
     }
@@ -213,49 +221,67 @@ fn target_place(target: Target, turn: u32) -> usize
     }
 }
 
-/// The number at an element, where it fits 64 bits.
+/// The number at an element, where it fits 64 bits, as it always does where it is narrow.
 #[inline(always)]
-fn element(track: Track, turn: u32, cells: &Cells) -> Option<i64>
-    requires { IsElement track turn cells.now.cells }
+fn element(track: Track, turn: u32, narrow: bool, cells: &Cells) -> Option<i64>
+    requires element { IsElement track turn cells.now.cells }
+    requires fits { narrow ≡ true → FitsSigned w64 (cell_at cells.now.cells (track_place track turn)) }
     ensures value { IfSome result (λ n. n ≡ cell_at cells.now.cells (track_place track turn)) }
     ensures found { FitsSigned w64 (cell_at cells.now.cells (track_place track turn)) → IsSome result }
 {
-    short_of(cells.cell(track_place(track, turn)))
+    let num = cells.cell(track_place(track, turn));
+    if narrow {
+        return Some(num as i64);
+    }
+    short_of(num)
 }
 
 /// The product of two elements, where it fits 64 bits.
 #[inline(always)]
-fn elements_product(first: Track, second: Track, turn: u32, cells: &Cells) -> Option<i64>
-    requires { IsElement first turn cells.now.cells × IsElement second turn cells.now.cells }
+fn elements_product(
+    first: Track,
+    second: Track,
+    turn: u32,
+    narrow: bool,
+    cells: &Cells,
+) -> Option<i64>
+    requires elements { IsElement first turn cells.now.cells × IsElement second turn cells.now.cells }
+    requires fits { narrow ≡ true → IsShortProduct first second turn cells.now.cells }
     ensures value { IfSome result (λ n. n ≡ cell_at cells.now.cells (track_place first turn) *ℤ cell_at cells.now.cells (track_place second turn)) }
     ensures found { IsShortProduct first second turn cells.now.cells → IsSome result }
 {
-    let first = element(first, turn, cells)?;
-    product(first, element(second, turn, cells)?)
+    let first = element(first, turn, narrow, cells)?;
+    let second = element(second, turn, narrow, cells)?;
+    if narrow {
+        return Some(first * second);
+    }
+    product(first, second)
 }
 
 /// A cell and a product, where each step fits 64 bits.
 #[inline(always)]
-fn terms_value(terms: &Terms, turn: u32, cells: &Cells) -> Option<i64>
-    requires { AreTerms terms.now turn cells.now.cells }
+fn terms_value(terms: &Terms, turn: u32, narrow: bool, cells: &Cells) -> Option<i64>
+    requires terms { AreTerms terms.now turn cells.now.cells }
+    requires fits { narrow ≡ true → TermsFit terms.now turn cells.now.cells }
     ensures value { IfSome result (λ n. n ≡ terms_value terms.now turn cells.now.cells) }
     ensures found { TermsFit terms.now turn cells.now.cells → IsSome result }
 {
     let base = raised(short_of(cells.cell(terms.base as usize))?, terms.lift)?;
-    let both = elements_product(terms.first, terms.second, turn, cells)?;
+    let both = elements_product(terms.first, terms.second, turn, narrow, cells)?;
     sum(base, raised(both, terms.rise)?)
 }
 
 /// The value of such an expression, where each step of it fits 64 bits.
 #[inline(always)]
-fn plain_value(value: &Plain, turn: u32, cells: &Cells) -> Option<i64>
-    requires { AreCells value.now turn cells.now.cells }
+fn plain_value(value: &Plain, turn: u32, narrow: bool, cells: &Cells) -> Option<i64>
+    requires cells { AreCells value.now turn cells.now.cells }
+    requires fits { narrow ≡ true → PlainFits value.now turn cells.now.cells }
     ensures value { IfSome result (λ n. n ≡ plain_value value.now turn cells.now.cells) }
     ensures found { PlainFits value.now turn cells.now.cells → IsSome result }
 {
     match value {
-        Plain::Element(track) => element(*track, turn, cells),
-        Plain::Sum(terms) => terms_value(terms, turn, cells),
+        Plain::Element(track) => element(*track, turn, narrow, cells),
+        Plain::Sum(terms) => terms_value(terms, turn, narrow, cells),
     }
 }
 
@@ -263,13 +289,14 @@ fn plain_value(value: &Plain, turn: u32, cells: &Cells) -> Option<i64>
 #[inline(always)]
 fn plain_cut(set: &PlainSet, turn: u32, cells: &Cells) -> Option<i64>
     requires cells { AreCells set.now.value turn cells.now.cells }
+    requires fits { set.now.narrow ≡ true → PlainFits set.now.value turn cells.now.cells }
     requires cut { (set.now.cut.shift ≤ 62) × (1 ≤ set.now.cut.wl) × (set.now.cut.wl ≤ 62) }
     ensures same { IfSome result (λ n. n ≡ below (plain_value set.now.value turn cells.now.cells) (2 ^ set.now.cut.shift)) }
     ensures range { IfSome result (λ n. IsOfWidth set.now.cut.signed set.now.cut.wl n) }
     ensures found { PlainFits set.now.value turn cells.now.cells
         → IsOfWidth set.now.cut.signed set.now.cut.wl (below (plain_value set.now.value turn cells.now.cells) (2 ^ set.now.cut.shift)) → IsSome result }
 {
-    cut_by(plain_value(&set.value, turn, cells)?, &set.cut)
+    cut_by(plain_value(&set.value, turn, set.narrow, cells)?, &set.cut)
 }
 
 /// One turn, where each step of it fits 64 bits; else nothing is changed.
@@ -329,15 +356,15 @@ fn plain_turns(
     turns.from.max(turns.end)
 }
 
-/// The same copy, where both its elements go this way and it keeps all bits of a signed number: a loop over it asks for
-/// none of this at its turns.
+/// The same copy, where both its elements go this way, its numbers fit 64 bits and it keeps all bits of a signed one: a loop
+/// over it asks for none of this at its turns.
 #[inline(always)]
 fn straight_copy(set: &PlainSet, down: bool) -> Option<PlainSet>
     ensures { IfSome result (λ same. same ≡ set.now) }
 {
     match (set.target, set.value) {
         (Target::Element(to), Plain::Element(of)) => {
-            if to.down != down || of.down != down {
+            if !set.narrow || to.down != down || of.down != down {
                 return None;
             }
             let cut = whole_cut(set.cut)?;
@@ -345,6 +372,7 @@ fn straight_copy(set: &PlainSet, down: bool) -> Option<PlainSet>
                 target: Target::Element(Track { at: to.at, down }),
                 value: Plain::Element(Track { at: of.at, down }),
                 cut,
+                narrow: true,
             })
         }
         _ => None,
@@ -408,7 +436,7 @@ fn inner_product_of(set: &PlainSet, turns: TurnRange) -> Option<InnerProduct>
 {
     match (set.target, set.value) {
         (Target::Cell(at), Plain::Sum(terms)) => {
-            if terms.base != at || terms.rise != 0 {
+            if !set.narrow || terms.base != at || terms.rise != 0 {
                 return None;
             }
             let first = row_of(terms.first, at, turns)?;
@@ -426,33 +454,33 @@ fn inner_product_of(set: &PlainSet, turns: TurnRange) -> Option<InnerProduct>
     }
 }
 
-/// The product of the elements at a turn, where both fit 32 bits.
+/// The product of the elements at a turn.
 #[inline(always)]
-fn rows_product(inner: &InnerProduct, turn: u32, cells: &Cells) -> Option<i64>
+fn rows_product(inner: &InnerProduct, turn: u32, cells: &Cells) -> i64
     requires first { inner.now.first + turn < length cells.now.cells }
     requires second { inner.now.second + turn < length cells.now.cells }
-    ensures value { IfSome result (λ n. n ≡ cell_at cells.now.cells (inner.now.first + turn) *ℤ cell_at cells.now.cells (inner.now.second + turn)) }
-    ensures small { IfSome result (λ n. unsigned_abs n ≤ 2 ^ 62) }
-    ensures found { FitsSigned w32 (cell_at cells.now.cells (inner.now.first + turn)) → FitsSigned w32 (cell_at cells.now.cells (inner.now.second + turn)) → IsSome result }
+    requires short { IsRowsProduct inner.now turn cells.now.cells }
+    ensures value { result ≡ cell_at cells.now.cells (inner.now.first + turn) *ℤ cell_at cells.now.cells (inner.now.second + turn) }
+    ensures small { unsigned_abs result < 2 ^ 61 }
 {
-    let first = small_of(cells.cell(inner.first as usize + turn as usize))?;
-    let second = small_of(cells.cell(inner.second as usize + turn as usize))?;
-    Some(small_product(first, second))
+    let first = cells.cell(inner.first as usize + turn as usize) as i64;
+    let second = cells.cell(inner.second as usize + turn as usize) as i64;
+    first * second
 }
 
-/// The sum after a turn, where the elements fit 32 bits and the sum lies in the range.
+/// The sum after a turn, where it lies in the range.
 #[inline(always)]
 fn inner_step(inner: &InnerProduct, turn: u32, sum: i64, cells: &Cells) -> Option<i64>
     requires first { inner.now.first + turn < length cells.now.cells }
     requires second { inner.now.second + turn < length cells.now.cells }
     requires cut { (inner.now.cut.shift ≤ 62) × (1 ≤ inner.now.cut.wl) × (inner.now.lift + inner.now.cut.wl ≤ 62) }
     requires range { IsOfWidth true inner.now.cut.wl sum }
+    requires short { IsRowsProduct inner.now turn cells.now.cells }
     ensures value { IfSome result (λ n. n ≡ inner_step inner.now turn sum cells.now.cells) }
     ensures range { IfSome result (λ n. IsOfWidth inner.now.cut.signed inner.now.cut.wl n) }
-    ensures found { FitsSigned w32 (cell_at cells.now.cells (inner.now.first + turn)) → FitsSigned w32 (cell_at cells.now.cells (inner.now.second + turn))
-        → IsOfWidth inner.now.cut.signed inner.now.cut.wl (inner_step inner.now turn sum cells.now.cells) → IsSome result }
+    ensures found { IsOfWidth inner.now.cut.signed inner.now.cut.wl (inner_step inner.now turn sum cells.now.cells) → IsSome result }
 {
-    let both = rows_product(inner, turn, cells)?;
+    let both = rows_product(inner, turn, cells);
     cut_by(multiple_in(sum, inner.lift, &inner.cut) + both, &inner.cut)
 }
 
@@ -518,8 +546,8 @@ fn product_turns(
     }
 }
 
-/// The turns of a loop that adds products to a cell, as `plain_turns`: as an inner product till a turn whose elements
-/// don't fit 32 bits.
+/// The turns of a loop that adds products to a cell, as `plain_turns`: as an inner product till a turn whose sum doesn't lie
+/// in its range.
 #[inline(always)]
 #[tactic(auto, using(crate::proofs::Runs::turn_laws))]
 fn sum_turns(

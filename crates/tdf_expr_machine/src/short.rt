@@ -1,48 +1,15 @@
 //! The values of expressions by 64-bit arithmetic, where each step of it fits.
 
-ghost use Rattle.std.specs.Int.{w32, w64};
+ghost use Rattle.std.specs.Int.{w64};
 ghost use Rattle.std.specs.Prelude.{◌≡◌, ◌≤◌, ◌^◌, pos, ◌+ℤ◌, ◌-ℤ◌, ◌*ℤ◌, neg_ℤ, unsigned_abs, FitsSigned, IfSome, IsSome};
 ghost use Rattle.tdf_expr_machine.specs.Nodes.{IsSafe, node_value, is_true, relates, truth_number};
 ghost use Rattle.tdf_expr_machine.specs.machine.Steps.{IsLeaf, IsShortRaised, StepsFit};
 ghost use Rattle.tdf_expr_state.specs.State.{state_of};
 
-use crate::cuts::raised;
 use crate::nodes::{Node, Relation, Sight, fitted_short};
 use crate::numbers::holds;
 use crate::spots::place;
-
-/// A number in 64 bits, where it fits.
-#[inline(always)]
-pub(crate) fn short_of(num: i128) -> Option<i64>
-    ensures value { IfSome result (λ n. n ≡ num) }
-    ensures found { FitsSigned w64 num → IsSome result }
-{
-    match i64::try_from(num) {
-        Ok(short) => Some(short),
-        Err(_) => None,
-    }
-}
-
-/// A number in 32 bits, where it fits.
-#[inline(always)]
-pub(crate) fn small_of(num: i128) -> Option<i32>
-    ensures value { IfSome result (λ n. n ≡ num) }
-    ensures found { FitsSigned w32 num → IsSome result }
-{
-    match i32::try_from(num) {
-        Ok(small) => Some(small),
-        Err(_) => None,
-    }
-}
-
-/// The product of two numbers of 32 bits.
-#[inline(always)]
-pub(crate) fn small_product(a: i32, b: i32) -> i64
-    ensures value { result ≡ a *ℤ b }
-    ensures small { unsigned_abs result ≤ 2 ^ 62 }
-{
-    i64::from(a) * i64::from(b)
-}
+use tdf_expr_cuts::{raised, short_of};
 
 #[inline(always)]
 pub(crate) fn product(a: i64, b: i64) -> Option<i64>
@@ -69,7 +36,7 @@ fn difference(a: i64, b: i64) -> Option<i64>
 }
 
 #[inline(always)]
-fn relates(relation: Relation, a: i64, b: i64) -> bool
+pub(crate) fn relates(relation: Relation, a: i64, b: i64) -> bool
     ensures { result ≡ relates relation a b }
 {
     match relation {
@@ -106,10 +73,10 @@ fn leaf(node: &Node, at: &Sight) -> Option<i64>
 {
     match node {
         Node::Const(num) => short_of(*num),
-        Node::Cell(place) => short_of(at.cells.cell(*place as usize)),
-        Node::CellAt(spot) => short_of(at.cells.cell(place(*spot, at.loops))),
-        Node::Sample(place) => short_of(at.signals.sample(*place as usize)),
-        Node::SampleAt(spot) => short_of(at.signals.sample(place(*spot, at.loops))),
+        Node::Cell(place, _) => short_of(at.cells.cell(*place as usize)),
+        Node::CellAt(spot, _) => short_of(at.cells.cell(place(*spot, at.loops))),
+        Node::Sample(place, _) => short_of(at.signals.sample(*place as usize)),
+        Node::SampleAt(spot, _) => short_of(at.signals.sample(place(*spot, at.loops))),
         _ => None,
     }
 }

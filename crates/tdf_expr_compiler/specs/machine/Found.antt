@@ -1,10 +1,10 @@
 -- What a name of a block stands for, with its numbers.
-use Rattle.std.specs.Prelude.{◌≡◌, ℕ, ◌<◌, List, [], length, Option, Some, pos, slice_get}
+use Rattle.std.specs.Prelude.{◌≡◌, ℕ, min, List, [], Option, None, Some, pos, slice_get}
 use Rattle.tdf_expr_compiler.specs.Layouts.{IsNumbered}
 use Rattle.tdf_expr_compiler.specs.declared.numbers.Numbers.{Numbers}
 use Rattle.tdf_expr_compiler.specs.machine.Computed.{IsAt}
 use Rattle.tdf_fixed.specs.Cast.{IsLegal}
-use Rattle.tdf_expr_machine.specs.Nodes.{node_value, spot_place, IsSafe, IsSpot}
+use Rattle.tdf_expr_machine.specs.Nodes.{node_value, spot_place, IsNumberAt, IsSafe, IsSpot}
 use Rattle.tdf_expr_machine.specs.declared.nodes.Node.{Node}
 use Rattle.tdf_expr_machine.specs.declared.spots.Spot.{Spot}
 use Rattle.tdf_expr_semantics.specs.Value.{element, index_value}
@@ -38,20 +38,23 @@ pub record IsWhole (scope : Scope) (loops : List OpenLoop) (n : ℕ) (t : Thing)
       → slice_get scope.own.things n ≡ Some t
       → IsSafe node s turns × (node_value node s turns ≡ (element scope.own s n t 0).num)
 
--- the code of a cell, and of a sample
-pub record IsCellAt (spot : Spot) (node : Node) : Type 0 where
+-- how many bits a number in a format has at most
+abbrev pub bits_in : Option Shape → ℕ
+bits_in None = 0
+bits_in (Some shape) = min shape.wl 255
+
+-- the code of a cell, and of a sample, whose number has at most so many bits
+pub record IsCellAt (spot : Spot) (bits : ℕ) (node : Node) : Type 0 where
   pub num : (turns : List ℕ) (s : State)
       → node_value node s turns ≡ cell_at s.frame.cells (spot_place spot turns)
   pub safe : (turns : List ℕ) (s : State) → IsSpot spot turns
-      → spot_place spot turns < length s.frame.cells
-      → IsSafe node s turns
+      → IsNumberAt s.frame.cells (spot_place spot turns) bits → IsSafe node s turns
 
-pub record IsSampleAt (spot : Spot) (node : Node) : Type 0 where
+pub record IsSampleAt (spot : Spot) (bits : ℕ) (node : Node) : Type 0 where
   pub num : (turns : List ℕ) (s : State)
       → node_value node s turns ≡ cell_at s.ports.samples (spot_place spot turns)
   pub safe : (turns : List ℕ) (s : State) → IsSpot spot turns
-      → spot_place spot turns < length s.ports.samples
-      → IsSafe node s turns
+      → IsNumberAt s.ports.samples (spot_place spot turns) bits → IsSafe node s turns
 
 -- the code of an element of the n-th name of the block
 pub record IsIndexed (scope : Scope) (loops : List OpenLoop) (n : ℕ) (t : Thing) (i : Index)

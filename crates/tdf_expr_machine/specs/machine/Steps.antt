@@ -1,15 +1,10 @@
 -- Expressions whose steps all fit 64 bits, so that no step of them is done in 128.
 use Rattle.std.specs.Int.{w64}
-use Rattle.std.specs.Prelude.{ℕ, ◌-◌, ◌^◌, ◌<◌, ◌≤◌, ◌*ℤ◌, List, ℤ, unsigned_abs, FitsSigned}
-use Rattle.tdf_expr_machine.specs.Nodes.{node_value}
+use Rattle.std.specs.Prelude.{ℕ, ◌-◌, ◌^◌, ◌<◌, ◌≤◌, List, ℤ, unsigned_abs, FitsSigned}
+use Rattle.tdf_expr_machine.specs.Nodes.{node_value, HasBits, IsSafe}
 use Rattle.tdf_expr_machine.specs.declared.nodes.Node.{Node}
 use Rattle.tdf_expr_machine.specs.declared.nodes.Node.TheVariants as node
-use Rattle.tdf_expr_machine.specs.declared.plain.Plain.{Plain}
-use Rattle.tdf_expr_machine.specs.declared.plain.Plain.TheVariants as plain
-use Rattle.tdf_expr_machine.specs.declared.plain.Terms.{Terms}
-use Rattle.tdf_expr_machine.specs.declared.plain.Track.{Track}
-use Rattle.tdf_expr_machine.specs.machine.Plain.{plain_value, terms_value, track_place}
-use Rattle.tdf_expr_state.specs.State.{State, cell_at}
+use Rattle.tdf_expr_state.specs.State.{State}
 
 -- moved up by so many bits the number is below 2 ^ 61
 abbrev pub IsShortRaised : ℤ → ℕ → Type 0
@@ -18,19 +13,21 @@ IsShortRaised num bits = (bits ≤ 61) × (unsigned_abs num < 2 ^ (61 - bits))
 -- an expression without parts that reads a number
 abbrev pub IsLeaf : Node → Type 0
 IsLeaf (node.Const num) = Unit {0}
-IsLeaf (node.Cell place) = Unit {0}
-IsLeaf (node.CellAt at) = Unit {0}
-IsLeaf (node.Sample place) = Unit {0}
-IsLeaf (node.SampleAt at) = Unit {0}
+IsLeaf (node.Cell place bits) = Unit {0}
+IsLeaf (node.CellAt at bits) = Unit {0}
+IsLeaf (node.Sample place bits) = Unit {0}
+IsLeaf (node.SampleAt at bits) = Unit {0}
 IsLeaf other = ⊥
 
 -- the value of an expression, and that of each part, fit 64 bits, and so do parts that are moved up
 abbrev pub StepsFit : Node → State → List ℕ → Type 0
 StepsFit (node.Const num) s loops = FitsSigned w64 num
-StepsFit (node.Cell place) s loops = FitsSigned w64 (node_value (node.Cell place) s loops)
-StepsFit (node.CellAt at) s loops = FitsSigned w64 (node_value (node.CellAt at) s loops)
-StepsFit (node.Sample place) s loops = FitsSigned w64 (node_value (node.Sample place) s loops)
-StepsFit (node.SampleAt at) s loops = FitsSigned w64 (node_value (node.SampleAt at) s loops)
+StepsFit (node.Cell place bits) s loops = FitsSigned w64 (node_value (node.Cell place bits) s loops)
+StepsFit (node.CellAt at bits) s loops = FitsSigned w64 (node_value (node.CellAt at bits) s loops)
+StepsFit (node.Sample place bits) s loops =
+    FitsSigned w64 (node_value (node.Sample place bits) s loops)
+StepsFit (node.SampleAt at bits) s loops =
+    FitsSigned w64 (node_value (node.SampleAt at bits) s loops)
 StepsFit (node.Rate number) s loops = Unit {0}
 StepsFit (node.Loop depth) s loops = Unit {0}
 StepsFit (node.Sum' p a m q b n) s loops = StepsFit a s loops × StepsFit b s loops
@@ -55,24 +52,8 @@ StepsFit (node.Choice' o t p a m q b n) s loops =
 StepsFit (node.Cast' p a frac format) s loops =
     StepsFit a s loops × FitsSigned w64 (node_value (node.Cast' p a frac format) s loops)
 
--- the same of a product of two elements
-abbrev pub elements_product : Track → Track → ℕ → List ℤ → ℤ
-elements_product first second turn cells =
-    cell_at cells (track_place first turn) *ℤ cell_at cells (track_place second turn)
-
-abbrev pub IsShortProduct : Track → Track → ℕ → List ℤ → Type 0
-IsShortProduct first second turn cells = FitsSigned w64 (cell_at cells (track_place first turn))
-    × FitsSigned w64 (cell_at cells (track_place second turn))
-    × FitsSigned w64 (elements_product first second turn cells)
-
--- and of a value that is read straight from the cells
-abbrev pub TermsFit : Terms → ℕ → List ℤ → Type 0
-TermsFit t turn cells = FitsSigned w64 (cell_at cells t.base)
-    × IsShortRaised (cell_at cells t.base) t.lift × IsShortProduct t.first t.second turn cells
-    × IsShortRaised (elements_product t.first t.second turn cells) t.rise
-    × FitsSigned w64 (terms_value t turn cells)
-
-abbrev pub PlainFits : Plain → ℕ → List ℤ → Type 0
-PlainFits (plain.Element track) turn cells =
-    FitsSigned w64 (plain_value (plain.Element track) turn cells)
-PlainFits (plain.Sum terms) turn cells = TermsFit terms turn cells
+-- wherever an expression is safe all its steps fit 64 bits, and its value has at most so many
+pub record IsNarrow (node : Node) (bits : ℕ) : Type 0 where
+  pub steps : (s : State) (loops : List ℕ) → IsSafe node s loops → StepsFit node s loops
+  pub small : (s : State) (loops : List ℕ) → IsSafe node s loops
+      → HasBits (node_value node s loops) bits

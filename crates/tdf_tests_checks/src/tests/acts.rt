@@ -40,7 +40,7 @@ fn sequences(rt: HostRuntime) -> Result<(), Fail> {
 fn sum(alloc: Global, cells: &Cells, signals: &Signals, turn: u32) -> Result<i128, Memory>
     requires { cells.now.cells ≡ pos 6 ∷ [] }
 {
-    let cell = Box::new(alloc, Node::Cell(0))?;
+    let cell = Box::new(alloc, Node::Cell(0, 3))?;
     match Box::new(alloc, Node::Loop(0)) {
         Ok(variable) => {
             let sum = Node::Sum(cell, 2, variable, 0);

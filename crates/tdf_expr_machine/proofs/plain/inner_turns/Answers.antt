@@ -1,8 +1,8 @@
 use Rattle.std.proofs.Common.{rules, SFits, to_z, of_z, ◌≡◌, ◌∙◌, ◌+◌, ◌<◌, length, true, refl, sym, ap, subst, arith}
 use Rattle.std.proofs.lemmas.Int.{to_z-of_z}
 use Rattle.std.specs.Int.{w64}
-use Rattle.tdf_expr_machine.specs.machine.Plain.{inner_step}
-use Rattle.tdf_expr_machine.proofs.Sums.{begin_in, begins, goes_on, reads_first, reads_second}
+use Rattle.tdf_expr_machine.specs.machine.Plain.{IsRowsProduct, inner_step}
+use Rattle.tdf_expr_machine.proofs.Sums.{begin_in, begins, goes_on, reads_first, reads_second, reads_short}
 use Rattle.tdf_expr_state.specs.State.{FrameState, cell_at, state_of, with_cell}
 use Rattle.tdf_fixed.specs.Overflow.{IsOfWidth}
 use Rattle.tdf_expr_machine.proofs.plain.inner_turns.Goals as goal
@@ -45,6 +45,14 @@ inner_step-requires-clause-second c =
     let kept = c.loop-i.invariant in
     subst (λ (f : FrameState). a.inner.now.second + c.loop-i.i < length f.cells) (sym kept.kept)
     (reads_second a.act.now a.set.now a.inner.now a.turns.from a.turns.end a.loops.now (state_of a.cells.now a.signals.now) c.requires.set c.requires.inner c.requires.safe
+    c.loop-i.i (to_z w64 c.loop-i.sum-bits) kept.after c.loop-i-test.true kept.state)
+
+pub inner_step-requires-clause-short : goal.inner_step-requires-clause-short
+inner_step-requires-clause-short c =
+    let a = c.args in
+    let kept = c.loop-i.invariant in
+    subst (λ (f : FrameState). IsRowsProduct a.inner.now c.loop-i.i f.cells) (sym kept.kept)
+    (reads_short a.act.now a.set.now a.inner.now a.turns.from a.turns.end a.loops.now (state_of a.cells.now a.signals.now) c.requires.set c.requires.inner c.requires.safe
     c.loop-i.i (to_z w64 c.loop-i.sum-bits) kept.after c.loop-i-test.true kept.state)
 
 pub set_cell-requires : goal.set_cell-requires

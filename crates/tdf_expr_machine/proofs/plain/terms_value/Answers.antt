@@ -1,8 +1,7 @@
 use Rattle.std.proofs.Common.{rules, ◌≡◌, ◌∙◌, ◌^◌, ℤ, pos, ◌+ℤ◌, ◌*ℤ◌, ap, subst, sym}
 use Rattle.std.specs.Int.{w64}
 use Rattle.std.specs.Prelude.{FitsSigned, IfSome, IsSome}
-use Rattle.tdf_expr_machine.specs.machine.Plain.{terms_value}
-use Rattle.tdf_expr_machine.specs.machine.Steps.{elements_product}
+use Rattle.tdf_expr_machine.specs.machine.Plain.{elements_product, terms_value}
 use Rattle.tdf_expr_state.specs.State.{cell_at}
 use Rattle.tdf_expr_machine.proofs.plain.terms_value.Goals as goal
 

@@ -3,14 +3,16 @@ use Rattle.std.proofs.Common.{◌≡◌, ◌∙◌, ℕ, ◌+◌, ◌-◌, ◌*�
 use Rattle.std.proofs.Math.Nat.{mul-le-mul_right, pow-le-pow_right}
 use Rattle.std.proofs.lemmas.Int.{ints, unsigned_abs-mul}
 use Rattle.std.proofs.lemmas.Nat.{div-add-mod', div_below, mod_below, pow_pos, pow-add}
-use Rattle.std.specs.Prelude.{unsigned_abs}
-use Rattle.tdf_fixed.proofs.Api.{cast_keeps, kept, placed_up, placed_down}
+use Rattle.std.specs.Int.{w64}
+use Rattle.std.specs.Prelude.{unsigned_abs, FitsSigned}
+use Rattle.tdf_expr_cuts.proofs.Powers.{small_power}
+use Rattle.tdf_fixed.proofs.Api.{cast_keeps, in_width, kept, placed_up, placed_down}
 use Rattle.tdf_fixed.specs.Cast.{cast_of, fraction_of}
 use Rattle.tdf_fixed.specs.CastLaws.{least_kept}
 use Rattle.tdf_fixed.specs.Overflow.{IsOfWidth, least, overflowed}
 use Rattle.tdf_fixed.specs.Quantise.{above_by, below, quantised, rounded_whole}
 use Rattle.tdf_fixed.specs.declared.format.Format.{Format}
-use Rattle.tdf_expr_machine.specs.machine.Cuts.{IsCutOf}
+use Rattle.tdf_expr_cuts.specs.Cuts.{IsCutOf}
 use Rattle.tdf_fixed.specs.declared.quant.Quant.TheVariants.{Trn}
 
 -- ---- ranges
@@ -108,6 +110,17 @@ seen_unsigned (pos n) wl range =
     let high = range.high in
     let less : n < 2 ^ wl = omega (arith, ints, some, high) in ap pos (none_in n (2 ^ wl) less)
 seen_unsigned (negsuc n) wl range = let low = range.low in absurd (omega (arith, ints, low))
+
+-- a number of a range of few bits fits 64
+pub width_fits : (signed : Bool) (wl : ℕ) (num : ℤ) → 1 ≤ wl → wl ≤ 62 → IsOfWidth signed wl num → FitsSigned w64 num
+width_fits signed wl num some few range =
+    let less = in_width signed wl num some range in
+    let power = small_power wl few in
+    go num (2 ^ wl) less power
+  where
+    go : (num : ℤ) (m : ℕ) → unsigned_abs num < m → m ≤ 2 ^ 62 → FitsSigned w64 num
+    go (pos n) m less power = record { sfits = omega (arith, less, power) }
+    go (negsuc n) m less power = record { sfits = omega (arith, less, power) }
 
 pub ruleset range_laws = (in_low, in_high, in_unsigned, seen_signed, seen_unsigned)
 

@@ -1,16 +1,28 @@
 //! Casts of 64-bit numbers that no more than a cut of the last bits brings into the format: the common ones, by a shift.
 
-ghost use Rattle.std.specs.Prelude.{◌≡◌, ◌≢◌, ◌≤◌, ◌+◌, ◌-◌, ◌*◌, ◌^◌, ◌*ℤ◌, ◌<◌, pos, unsigned_abs, IsTrue, IfSome, IsSome, Bool, true, ℕ};
+ghost use Rattle.std.specs.Int.{w64};
+ghost use Rattle.std.specs.Prelude.{FitsSigned, ◌≡◌, ◌≢◌, ◌≤◌, ◌+◌, ◌-◌, ◌*◌, ◌^◌, ◌*ℤ◌, ◌<◌, pos, unsigned_abs, IsTrue, IfSome, IsSome, Bool, true, ℕ};
 ghost use Rattle.tdf_fixed.specs.Cast.{cast_of, fraction_of};
 ghost use Rattle.tdf_fixed.specs.CastLaws.{least_kept};
 ghost use Rattle.tdf_fixed.specs.Overflow.{IsOfWidth, least};
 ghost use Rattle.tdf_fixed.specs.Quantise.{below};
-ghost use Rattle.tdf_expr_machine.specs.machine.Cuts.{IsCutOf};
+ghost use Rattle.tdf_expr_cuts.specs.Cuts.{IsCutOf};
 ghost use Rattle.tdf_fixed.specs.declared.over.Over.TheVariants.{SatSym};
 ghost use Rattle.tdf_fixed.specs.declared.quant.Quant.TheVariants.{Trn};
 
-use crate::short::short_of;
 use tdf_fixed::{Format, Over, Quant};
+
+/// A number in 64 bits, where it fits.
+#[inline(always)]
+pub fn short_of(num: i128) -> Option<i64>
+    ensures value { IfSome result (λ n. n ≡ num) }
+    ensures found { FitsSigned w64 num → IsSome result }
+{
+    match i64::try_from(num) {
+        Ok(short) => Some(short),
+        Err(_) => None,
+    }
+}
 
 /// `num / 2^s`, rounded down.
 #[inline(always)]
@@ -34,7 +46,7 @@ fn power(bits: u32) -> i64
 
 /// The number times a power of two.
 #[inline(always)]
-fn multiple(num: i64, bits: u32) -> i64
+pub fn multiple(num: i64, bits: u32) -> i64
     requires few { bits ≤ 61 }
     requires small { unsigned_abs num * 2 ^ bits ≤ 2 ^ 61 }
     ensures { result ≡ num *ℤ pos (2 ^ bits) }
@@ -57,7 +69,7 @@ fn is_small(num: i64, places: u32) -> bool
 /// The number moved up by so many bits, where that is small.
 #[inline(always)]
 #[tactic(auto, using(crate::proofs::Keeping::raised_small))]
-pub(crate) fn raised(num: i64, bits: u32) -> Option<i64>
+pub fn raised(num: i64, bits: u32) -> Option<i64>
     ensures value { IfSome result (λ n. n ≡ num *ℤ pos (2 ^ bits)) }
     ensures found { bits ≤ 61 → unsigned_abs num < 2 ^ (61 - bits) → IsSome result }
 {
@@ -168,15 +180,17 @@ fn narrowed(num: i64, frac: u32, format: &Format) -> Option<i64>
 
 /// A cast that cuts bits off, to a range of so many bits.
 #[derive(Clone, Copy)]
-pub(crate) struct Cut {
-    shift: u32,
-    signed: bool,
-    wl: u32,
+pub struct Cut {
+    /// How many bits it cuts off.
+    pub shift: u32,
+    pub signed: bool,
+    /// The bits of the range.
+    pub wl: u32,
 }
 
 /// The cut that a cast is for numbers that lie in the range then.
 #[tactic(auto, using(crate::proofs::Keeping::cut_laws))]
-pub(crate) fn cut_of(frac: u32, format: &Format) -> Option<Cut>
+pub fn cut_of(frac: u32, format: &Format) -> Option<Cut>
     ensures cut { IfSome result (λ c. IsCutOf c format.now frac) }
     ensures found { format.now.over ≢ SatSym → format.now.wl ≤ 62 → fraction_of format.now ≤ frac
         → frac - fraction_of format.now ≤ 62 → format.now.quant ≡ Trn → IsSome result }
@@ -197,11 +211,12 @@ pub(crate) fn cut_of(frac: u32, format: &Format) -> Option<Cut>
 
 /// A number without its last bits, where that lies in the range.
 #[inline(always)]
-pub(crate) fn cut_by(num: i64, by: &Cut) -> Option<i64>
+pub fn cut_by(num: i64, by: &Cut) -> Option<i64>
     requires { (by.now.shift ≤ 62) × (1 ≤ by.now.wl) × (by.now.wl ≤ 62) }
     ensures same { IfSome result (λ n. n ≡ below num (2 ^ by.now.shift)) }
     ensures range { IfSome result (λ n. IsOfWidth by.now.signed by.now.wl n) }
-    ensures found { IsOfWidth by.now.signed by.now.wl (below num (2 ^ by.now.shift)) → IsSome result }
+    ensures found { IsOfWidth by.now.signed by.now.wl (below num (2 ^ by.now.shift))
+        → IsSome result }
 {
     let whole = floor(num, by.shift);
     if is_within(whole, by.signed, by.wl) {
@@ -213,7 +228,7 @@ pub(crate) fn cut_by(num: i64, by: &Cut) -> Option<i64>
 
 /// The same cut, where it goes to a signed range whose numbers, moved up by so many bits, have no more than 62.
 #[inline(always)]
-pub(crate) fn roomy_cut(cut: Cut, bits: u32) -> Option<Cut>
+pub fn roomy_cut(cut: Cut, bits: u32) -> Option<Cut>
     ensures same { IfSome result (λ c. c ≡ cut) }
     ensures signed { IfSome result (λ c. c.signed ≡ true) }
     ensures few { IfSome result (λ c. bits + c.wl ≤ 62) }
@@ -231,7 +246,7 @@ pub(crate) fn roomy_cut(cut: Cut, bits: u32) -> Option<Cut>
 
 /// The same cut, where it cuts nothing off and goes to a signed range.
 #[inline(always)]
-pub(crate) fn whole_cut(cut: Cut) -> Option<Cut>
+pub fn whole_cut(cut: Cut) -> Option<Cut>
     ensures same { IfSome result (λ c. c ≡ cut) }
     ensures found { cut.signed ≡ true → cut.shift ≡ 0 → IsSome result }
 {
@@ -247,10 +262,12 @@ pub(crate) fn whole_cut(cut: Cut) -> Option<Cut>
 
 /// The number, where it lies in the range that a cut goes to.
 #[inline(always)]
-pub(crate) fn held_by(num: i128, by: &Cut) -> Option<i64>
+#[tactic(auto, using(crate::proofs::Keeping::width_fits))]
+pub fn held_by(num: i128, by: &Cut) -> Option<i64>
     requires { (1 ≤ by.now.wl) × (by.now.wl ≤ 62) }
     ensures same { IfSome result (λ n. n ≡ num) }
     ensures range { IfSome result (λ n. IsOfWidth by.now.signed by.now.wl n) }
+    ensures found { IsOfWidth by.now.signed by.now.wl num → IsSome result }
 {
     let short = short_of(num)?;
     if is_within(short, by.signed, by.wl) {
@@ -263,7 +280,7 @@ pub(crate) fn held_by(num: i128, by: &Cut) -> Option<i64>
 /// A number of the signed range that a cut goes to, moved up by so many bits.
 #[inline(always)]
 #[tactic(auto, using(crate::proofs::Keeping::range_raised))]
-pub(crate) fn multiple_in(num: i64, bits: u32, by: &Cut) -> i64
+pub fn multiple_in(num: i64, bits: u32, by: &Cut) -> i64
     requires few { (1 ≤ by.now.wl) × (bits + by.now.wl ≤ 62) }
     requires range { IsOfWidth true by.now.wl num }
     ensures value { result ≡ num *ℤ pos (2 ^ bits) }
@@ -313,13 +330,19 @@ fn moved_cast(num: i64, frac: u32, format: &Format) -> Option<i64>
 /// The cast of a number where that is no more than a cut or a rise, and the number lies in the range then: first the most
 /// common case, in which the number stays.
 #[inline(always)]
-pub(crate) fn short_cast(num: i64, frac: u32, format: &Format) -> Option<i64>
+pub fn short_cast(num: i64, frac: u32, format: &Format) -> Option<i64>
     ensures value { IfSome result (λ n. n ≡ cast_of format.now num frac) }
-    ensures kept { format.now.over ≢ SatSym → format.now.signed ≡ true → frac ≡ fraction_of format.now → IsOfWidth true format.now.wl num → IsSome result }
-    ensures raised { format.now.over ≢ SatSym → format.now.wl ≤ 62 → frac ≤ fraction_of format.now → fraction_of format.now - frac ≤ 61 → unsigned_abs num < 2 ^ (61 - (fraction_of format.now - frac))
-        → IsOfWidth format.now.signed format.now.wl (num *ℤ pos (2 ^ (fraction_of format.now - frac))) → IsSome result }
-    ensures cut { format.now.over ≢ SatSym → format.now.wl ≤ 62 → fraction_of format.now < frac → frac - fraction_of format.now ≤ 62
-        → format.now.quant ≡ Trn → IsOfWidth format.now.signed format.now.wl (below num (2 ^ (frac - fraction_of format.now))) → IsSome result }
+    ensures kept { format.now.over ≢ SatSym → format.now.signed ≡ true
+        → frac ≡ fraction_of format.now → IsOfWidth true format.now.wl num → IsSome result }
+    ensures raised { format.now.over ≢ SatSym → format.now.wl ≤ 62 → frac ≤ fraction_of format.now
+        → fraction_of format.now - frac ≤ 61
+        → unsigned_abs num < 2 ^ (61 - (fraction_of format.now - frac))
+        → IsOfWidth format.now.signed format.now.wl
+        (num *ℤ pos (2 ^ (fraction_of format.now - frac))) → IsSome result }
+    ensures cut { format.now.over ≢ SatSym → format.now.wl ≤ 62 → fraction_of format.now < frac
+        → frac - fraction_of format.now ≤ 62 → format.now.quant ≡ Trn
+        → IsOfWidth format.now.signed format.now.wl
+        (below num (2 ^ (frac - fraction_of format.now))) → IsSome result }
 {
     if !is_plain(format.over) {
         return None;

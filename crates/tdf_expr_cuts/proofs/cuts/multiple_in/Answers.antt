@@ -2,8 +2,8 @@ use Rattle.std.proofs.Common.{rules, SFits, ◌≡◌, ◌≤◌, ◌*◌, ◌^�
 use Rattle.std.proofs.lemmas.Int.{to_z-of_z}
 use Rattle.std.specs.Int.{w64}
 use Rattle.std.specs.Prelude.{unsigned_abs}
-use Rattle.tdf_expr_machine.proofs.Keeping.{raised_abs, range_raised}
-use Rattle.tdf_expr_machine.proofs.cuts.multiple_in.Goals as goal
+use Rattle.tdf_expr_cuts.proofs.Keeping.{raised_abs, range_raised}
+use Rattle.tdf_expr_cuts.proofs.cuts.multiple_in.Goals as goal
 
 pub returns-clause-small : goal.returns-clause-small
 returns-clause-small c =

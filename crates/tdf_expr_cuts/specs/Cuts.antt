@@ -4,7 +4,7 @@ use Rattle.tdf_fixed.specs.Cast.{cast_of}
 use Rattle.tdf_fixed.specs.Overflow.{IsOfWidth}
 use Rattle.tdf_fixed.specs.Quantise.{below}
 use Rattle.tdf_fixed.specs.declared.format.Format.{Format}
-use Rattle.tdf_expr_machine.specs.declared.cuts.Cut.{Cut}
+use Rattle.tdf_expr_cuts.specs.declared.cuts.Cut.{Cut}
 
 -- the cast of a number is its neighbour below, where that lies in the range
 pub record IsCutOf (c : Cut) (f : Format) (frac : ℕ) : Type 0 where

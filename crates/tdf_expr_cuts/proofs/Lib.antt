@@ -1,0 +1,3 @@
+pub mod Api
+pub mod Keeping
+pub mod Powers

@@ -1,0 +1,9 @@
+//! Numbers of 64 bits that stay within them: moved up, cut, and cast where a cast is no more than that.
+#![tactic(auto)]
+
+mod cuts;
+
+pub use cuts::{
+    Cut, cut_by, cut_of, held_by, multiple, multiple_in, raised, roomy_cut, short_cast, short_of,
+    whole_cut,
+};
