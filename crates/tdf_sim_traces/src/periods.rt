@@ -101,6 +101,7 @@ pub(crate) fn begin_all(
 ///
 /// # Errors
 /// Out of memory; some cells may be noted then.
+#[inline(always)]
 pub(crate) fn begin_later(
     tracking: &mut Tracking,
     trace: &mut Trace,

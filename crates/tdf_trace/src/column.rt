@@ -1,5 +1,5 @@
 //! The cells of one column that wait for their rows.
-ghost use Rattle.std.specs.Prelude.{◌≡◌, [], IfOk, OnOk, OnErr};
+ghost use Rattle.std.specs.Prelude.{◌≡◌, ◌<◌, [], length, IfOk, OnOk, OnErr};
 ghost use Rattle.tdf_trace.specs.States.{column_state};
 ghost use Rattle.tdf_trace.specs.machine.Putting.{AreInOrder, IsPlace, column_with, put};
 ghost use Rattle.tdf_trace.specs.machine.Resuming.{column_in};
@@ -128,6 +128,7 @@ impl Column {
     }
 
     /// One cell more, or the value of one that was announced.
+    #[inline(always)]
     pub(crate) fn put(&mut self, item: Held) -> Result<(), AllocError>
         requires { AreInOrder self.old.held }
         ensures ok { OnOk result (self.new ≡ column_with item self.old) }
@@ -139,6 +140,7 @@ impl Column {
 }
 
 /// The place of a time: after all cells before it. New cells mostly come last.
+#[inline(always)]
 fn place_of(held: &VecDeque<Held>, time: u64) -> usize
     requires { AreInOrder held.now.items }
     ensures { IsPlace held.now.items time result }
@@ -153,21 +155,33 @@ fn place_of(held: &VecDeque<Held>, time: u64) -> usize
     k
 }
 
+/// One cell more at the place of its time, before the cell that stands there, or in its stead where that was announced.
+#[inline(never)]
+fn put_at(held: &mut VecDeque<Held>, place: usize, item: Held) -> Result<(), AllocError>
+    requires place { IsPlace held.old.items item.time place }
+    requires before { place < length held.old.items }
+    ensures ok { OnOk result (held.new.items ≡ put item held.old.items) }
+    ensures err { OnErr result (held.new.items ≡ held.old.items) }
+{
+    if held[place].time == item.time {
+        held[place] = item;
+        return Ok(());
+    }
+    held.insert(place, item)?;
+    Ok(())
+}
+
 /// One cell more, or the value of one that was announced.
+#[inline(always)]
 fn put_into(held: &mut VecDeque<Held>, item: Held) -> Result<(), AllocError>
     requires { AreInOrder held.old.items }
     ensures ok { OnOk result (held.new.items ≡ put item held.old.items) }
     ensures err { OnErr result (held.new.items ≡ held.old.items) }
 {
-    let k = place_of(held, item.time);
-    if k == held.len() {
+    let place = place_of(held, item.time);
+    if place == held.len() {
         held.push_back(item)?;
         return Ok(());
     }
-    if held[k].time == item.time {
-        held[k] = item;
-        return Ok(());
-    }
-    held.insert(k, item)?;
-    Ok(())
+    put_at(held, place, item)
 }

@@ -44,6 +44,7 @@ pub(crate) fn turn_all(columns: &mut Vec<Column>, time: u64)
 }
 
 /// One cell more in one column, or the value of one that was announced.
+#[inline(always)]
 pub(crate) fn put_cell(
     columns: &mut Vec<Column>,
     upto: u64,
