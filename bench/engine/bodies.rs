@@ -109,6 +109,16 @@ pub enum Act {
     Notify(usize, u64),
 }
 
+/// Whether a body writes a port of a process, by its slot.
+pub fn writes(acts: &[Act], port: usize) -> bool {
+    acts.iter().any(|act| match act {
+        Act::Write(slot, ..) => *slot == port,
+        Act::If(_, yes, no) => writes(yes, port) || writes(no, port),
+        Act::For(_, body) => writes(body, port),
+        _ => false,
+    })
+}
+
 /// A loop of one assignment in its own form, where it has one.
 pub fn looped(turns: Turns, body: Vec<Act>, formats: &[Format]) -> Act {
     let special = match body.as_slice() {
@@ -186,35 +196,44 @@ fn products(rows: [&[i64]; 2], cut: u32) -> i64 {
     rows[0].iter().zip(rows[1]).map(|(a, b)| a * b >> cut).sum()
 }
 
+/// Runs a body; assignments, which are most, without a call.
 pub fn run(acts: &[Act], slots: &mut [i64], notices: &mut Vec<(usize, u64)>) {
     for act in acts {
         match act {
             Act::Set(place, value, cast) => *at_mut(slots, *place) = cast.of(part(value, slots)),
-            Act::SetAt(moved, value, cast) => *at_mut(slots, moved.place(slots)) = cast.of(part(value, slots)),
-            Act::Write(place, written, value, cast) => {
-                *at_mut(slots, *place) = cast.of(part(value, slots));
-                *at_mut(slots, *written) = 1;
-            }
-            Act::SetRate(place, value, after) => *at_mut(slots, *place) = part(value, slots) >> after,
-            Act::If(test, yes, no) => run(if eval(test, slots) != 0 { yes } else { no }, slots, notices),
-            Act::For(turns, body) => {
-                let (first, end) = turns.of(slots);
-                for turn in first..end {
-                    *at_mut(slots, turns.by) = turn;
-                    run(body, slots, notices);
-                }
-            }
-            Act::Copy(turns, to, of) => copy(*to, *of, turns.of(slots), slots),
-            Act::Total(turns, sum, of, cast) => {
-                let total: i64 = row(*of, turns.of(slots), slots).iter().sum();
-                *at_mut(slots, *sum) = cast.of((*at(slots, *sum) + total) << cast.down);
-            }
-            Act::Products(turns, sum, a, b, cast) => {
-                let both = turns.of(slots);
-                let total = products([row(*a, both, slots), row(*b, both, slots)], cast.down);
-                *at_mut(slots, *sum) = cast.of((*at(slots, *sum) + total) << cast.down);
-            }
-            Act::Notify(event, after) => notices.push((*event, *after)),
+            _ => run_other(act, slots, notices),
         }
+    }
+}
+
+#[inline(never)]
+fn run_other(act: &Act, slots: &mut [i64], notices: &mut Vec<(usize, u64)>) {
+    match act {
+        Act::Set(place, value, cast) => *at_mut(slots, *place) = cast.of(part(value, slots)),
+        Act::SetAt(moved, value, cast) => *at_mut(slots, moved.place(slots)) = cast.of(part(value, slots)),
+        Act::Write(place, written, value, cast) => {
+            *at_mut(slots, *place) = cast.of(part(value, slots));
+            *at_mut(slots, *written) = 1;
+        }
+        Act::SetRate(place, value, after) => *at_mut(slots, *place) = part(value, slots) >> after,
+        Act::If(test, yes, no) => run(if eval(test, slots) != 0 { yes } else { no }, slots, notices),
+        Act::For(turns, body) => {
+            let (first, end) = turns.of(slots);
+            for turn in first..end {
+                *at_mut(slots, turns.by) = turn;
+                run(body, slots, notices);
+            }
+        }
+        Act::Copy(turns, to, of) => copy(*to, *of, turns.of(slots), slots),
+        Act::Total(turns, sum, of, cast) => {
+            let total: i64 = row(*of, turns.of(slots), slots).iter().sum();
+            *at_mut(slots, *sum) = cast.wrapped(*at(slots, *sum) + total);
+        }
+        Act::Products(turns, sum, a, b, cast) => {
+            let both = turns.of(slots);
+            let total = products([row(*a, both, slots), row(*b, both, slots)], cast.down);
+            *at_mut(slots, *sum) = cast.wrapped(*at(slots, *sum) + total);
+        }
+        Act::Notify(event, after) => notices.push((*event, *after)),
     }
 }

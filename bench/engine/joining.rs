@@ -1,6 +1,6 @@
 //! An engine made of the lines of a text.
 
-use crate::bodies::{Act, Bound};
+use crate::bodies::{writes, Act, Bound};
 use crate::events::{Events, Outlet, Process};
 use crate::planning::{Edge, Progress};
 use crate::reading::{Block, Kind, Lines, Port};
@@ -14,9 +14,9 @@ fn is_set(port: &Port, body: &[Act]) -> bool {
     matches!(port.rate, Bound::Number(rate) if (port.base..port.base + rate as usize).all(sets))
 }
 
-/// The ports by which the processes of an instance write.
-fn outlets(it: &Instance, block: &Block) -> Vec<Outlet> {
-    let ports = block.ports.iter().zip(&it.signals).enumerate().filter(|(_, port)| port.0.kind == Kind::EventOut);
+/// The ports that a body of an instance writes.
+fn outlets(it: &Instance, block: &Block, body: &[Act]) -> Vec<Outlet> {
+    let ports = block.ports.iter().zip(&it.signals).enumerate().filter(|(_, port)| writes(body, port.0.base));
     let outlet = |(number, (port, signal)): (usize, (&Port, &Option<usize>))| Outlet {
         slot: port.base,
         written: block.written + number,
@@ -188,7 +188,7 @@ impl Lines<'_> {
                     wakes.push(events.processes.len());
                 }
                 events.triggered.push(process.initialize);
-                events.processes.push(Process { instance, body: process.body.clone(), outlets: outlets(it, block), first_event });
+                events.processes.push(Process { instance, body: process.body.clone(), outlets: outlets(it, block, &process.body), first_event });
             }
         }
         events.times = vec![NEVER; events.wakes.len()];

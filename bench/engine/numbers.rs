@@ -29,22 +29,22 @@ pub struct Format {
 /// Whole numbers as they are.
 pub const PLAIN: Format = Format { signed: true, bits: 64, after: 0 };
 
-/// How a number is cut and wrapped into a format: it is moved down, up to the end of the 64 bits, and back.
+/// How a number is cut and wrapped into a format: it is moved down or up, its bits are kept, and the sign's bit counts less.
 #[derive(Clone, Copy)]
 pub struct Cast {
     pub down: u32,
     up: u32,
-    back: u32,
-    signed: bool,
+    kept: i64,
+    sign: i64,
 }
 
 impl Format {
     /// The cast of numbers with so many bits after the point.
     pub fn cast(self, after: u32) -> Cast {
-        let back = 64 - self.bits;
-        let up = back + self.after.saturating_sub(after);
-        assert!(up < 64, "a cast that moves by 64 bits or more");
-        Cast { down: after.saturating_sub(self.after), up, back, signed: self.signed }
+        let (down, up) = (after.saturating_sub(self.after), self.after.saturating_sub(after));
+        assert!(down < 64 && up < 64, "a cast that moves by 64 bits or more");
+        let sign = if self.signed { 1 << (self.bits - 1) } else { 0 };
+        Cast { down, up, kept: (u64::MAX >> (64 - self.bits)) as i64, sign }
     }
 
     /// A literal, cut and wrapped.
@@ -60,13 +60,18 @@ impl Format {
 impl Cast {
     #[inline(always)]
     pub fn of(self, number: i64) -> i64 {
-        let moved = number >> self.down << self.up;
-        if self.signed { moved >> self.back } else { (moved as u64 >> self.back) as i64 }
+        self.wrapped(number >> self.down << self.up)
+    }
+
+    /// Of a number that has as many bits after the point as the format.
+    #[inline(always)]
+    pub fn wrapped(self, number: i64) -> i64 {
+        (number & self.kept ^ self.sign).wrapping_sub(self.sign)
     }
 
     /// Whether it leaves the bits after the point as they are, or cuts some.
     pub fn only_cuts(self) -> bool {
-        self.up == self.back
+        self.up == 0
     }
 }
 

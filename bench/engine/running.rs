@@ -156,16 +156,24 @@ impl Flow {
         }
         for inlet in &mut it.reads {
             let (ring, Wire { slot, rate, .. }) = (at(&self.rings, inlet.wire.other), inlet.wire);
-            for k in 0..rate {
-                *at_mut(&mut it.slots, slot + k) = ring.get(inlet.first.wrapping_add(k));
+            if rate == 1 {
+                *at_mut(&mut it.slots, slot) = ring.get(inlet.first);
+            } else {
+                for k in 0..rate {
+                    *at_mut(&mut it.slots, slot + k) = ring.get(inlet.first.wrapping_add(k));
+                }
             }
             inlet.first = inlet.first.wrapping_add(rate);
         }
         run(&it.body, &mut it.slots, &mut self.notices);
         for wire in &it.writes {
             let ring = at_mut(&mut self.rings, wire.other);
-            for k in 0..wire.rate {
-                ring.push(*at(&it.slots, wire.slot + k));
+            if wire.rate == 1 {
+                ring.push(*at(&it.slots, wire.slot));
+            } else {
+                for k in 0..wire.rate {
+                    ring.push(*at(&it.slots, wire.slot + k));
+                }
             }
         }
         if !it.plain {
