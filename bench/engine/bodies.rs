@@ -95,8 +95,8 @@ impl Turns {
 pub enum Act {
     Set(usize, Node, Cast),
     SetAt(Moved, Node, Cast),
-    /// A port of a process: its slot, and the slot that says that it was written.
-    Write(usize, usize, Node, Cast),
+    /// A port of a process, by its number.
+    Write(usize, Node, Cast),
     SetRate(usize, Node, u32),
     If(Node, Vec<Act>, Vec<Act>),
     For(Turns, Vec<Act>),
@@ -109,14 +109,11 @@ pub enum Act {
     Notify(usize, u64),
 }
 
-/// Whether a body writes a port of a process, by its slot.
-pub fn writes(acts: &[Act], port: usize) -> bool {
-    acts.iter().any(|act| match act {
-        Act::Write(slot, ..) => *slot == port,
-        Act::If(_, yes, no) => writes(yes, port) || writes(no, port),
-        Act::For(_, body) => writes(body, port),
-        _ => false,
-    })
+/// What a body of a process asks for: ports with their values, and events with the times after which they come.
+#[derive(Default)]
+pub struct Asked {
+    pub writes: Vec<(usize, i64)>,
+    pub notices: Vec<(usize, u64)>,
 }
 
 /// A loop of one assignment in its own form, where it has one.
@@ -197,31 +194,28 @@ fn products(rows: [&[i64]; 2], cut: u32) -> i64 {
 }
 
 /// Runs a body; assignments, which are most, without a call.
-pub fn run(acts: &[Act], slots: &mut [i64], notices: &mut Vec<(usize, u64)>) {
+pub fn run(acts: &[Act], slots: &mut [i64], asked: &mut Asked) {
     for act in acts {
         match act {
             Act::Set(place, value, cast) => *at_mut(slots, *place) = cast.of(part(value, slots)),
-            _ => run_other(act, slots, notices),
+            _ => run_other(act, slots, asked),
         }
     }
 }
 
 #[inline(never)]
-fn run_other(act: &Act, slots: &mut [i64], notices: &mut Vec<(usize, u64)>) {
+fn run_other(act: &Act, slots: &mut [i64], asked: &mut Asked) {
     match act {
         Act::Set(place, value, cast) => *at_mut(slots, *place) = cast.of(part(value, slots)),
         Act::SetAt(moved, value, cast) => *at_mut(slots, moved.place(slots)) = cast.of(part(value, slots)),
-        Act::Write(place, written, value, cast) => {
-            *at_mut(slots, *place) = cast.of(part(value, slots));
-            *at_mut(slots, *written) = 1;
-        }
+        Act::Write(port, value, cast) => asked.writes.push((*port, cast.of(part(value, slots)))),
         Act::SetRate(place, value, after) => *at_mut(slots, *place) = part(value, slots) >> after,
-        Act::If(test, yes, no) => run(if eval(test, slots) != 0 { yes } else { no }, slots, notices),
+        Act::If(test, yes, no) => run(if eval(test, slots) != 0 { yes } else { no }, slots, asked),
         Act::For(turns, body) => {
             let (first, end) = turns.of(slots);
             for turn in first..end {
                 *at_mut(slots, turns.by) = turn;
-                run(body, slots, notices);
+                run(body, slots, asked);
             }
         }
         Act::Copy(turns, to, of) => copy(*to, *of, turns.of(slots), slots),
@@ -234,6 +228,6 @@ fn run_other(act: &Act, slots: &mut [i64], notices: &mut Vec<(usize, u64)>) {
             let total = products([row(*a, both, slots), row(*b, both, slots)], cast.down);
             *at_mut(slots, *sum) = cast.wrapped(*at(slots, *sum) + total);
         }
-        Act::Notify(event, after) => notices.push((*event, *after)),
+        Act::Notify(event, after) => asked.notices.push((*event, *after)),
     }
 }

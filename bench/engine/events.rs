@@ -2,33 +2,38 @@
 
 use crate::bodies::{run, Act};
 use crate::numbers::{at, at_mut};
-use crate::running::Flow;
+use crate::running::{Flow, Instance};
 use crate::writing::NEVER;
 use std::cmp::Reverse;
 use std::collections::BinaryHeap;
 use std::rc::Rc;
 
-/// A port of a process that writes an event signal: its slot, the slot that says that it was written, and the signal.
-#[derive(Clone, Copy)]
-pub struct Outlet {
-    pub slot: usize,
-    pub written: usize,
-    pub signal: usize,
-}
-
 pub struct Process {
     pub instance: usize,
     pub body: Rc<[Act]>,
-    pub outlets: Vec<Outlet>,
     /// The number of its block's first event.
     pub first_event: usize,
+}
+
+/// The processes that run in the next delta step: by process a bit, and whether there are any.
+#[derive(Default)]
+pub struct Ready {
+    pub words: Vec<u64>,
+    any: bool,
+}
+
+impl Ready {
+    #[inline(always)]
+    pub fn add(&mut self, process: usize) {
+        *at_mut(&mut self.words, process / 64) |= 1 << (process % 64);
+        self.any = true;
+    }
 }
 
 #[derive(Default)]
 pub struct Events {
     pub processes: Vec<Process>,
-    /// By process, whether it is to run in the next delta step.
-    pub triggered: Vec<bool>,
+    pub ready: Ready,
     /// By event, the processes that are sensitive to it, and the time at which it comes.
     pub wakes: Vec<Vec<usize>>,
     pub times: Vec<u64>,
@@ -46,52 +51,56 @@ impl Events {
     }
 
     /// All that happens at a time, with its delta steps.
-    pub fn settle(&mut self, flow: &mut Flow, time: u64, begins: bool) {
-        let mut woken = update(flow, &mut self.triggered, time) || begins;
+    pub fn settle(&mut self, flow: &mut Flow, time: u64) {
+        if !flow.written.is_empty() {
+            update(flow, &mut self.ready, time);
+        }
         while self.first() <= time {
             let Some(Reverse((due, event))) = self.pending.pop() else { break };
             if *at(&self.times, event) == due {
-                woken |= self.come(event);
+                self.come(event);
             }
         }
-        while woken {
-            for number in 0..self.processes.len() {
-                if std::mem::take(at_mut(&mut self.triggered, number)) {
-                    self.run_process(number, flow, time);
+        while std::mem::take(&mut self.ready.any) {
+            for word in 0..self.ready.words.len() {
+                let mut bits = std::mem::take(at_mut(&mut self.ready.words, word));
+                while bits != 0 {
+                    self.run_process(64 * word + bits.trailing_zeros() as usize, flow, time);
+                    bits &= bits - 1;
                 }
             }
-            woken = update(flow, &mut self.triggered, time);
+            if !flow.written.is_empty() {
+                update(flow, &mut self.ready, time);
+            }
             while let Some(event) = self.soon.pop() {
-                woken |= self.come(event);
+                self.come(event);
             }
         }
     }
 
-    /// An event comes; whether a process wakes.
-    fn come(&mut self, event: usize) -> bool {
+    /// An event comes, and wakes processes.
+    fn come(&mut self, event: usize) {
         *at_mut(&mut self.times, event) = NEVER;
-        trigger(&mut self.triggered, at(&self.wakes, event))
+        for process in at(&self.wakes, event) {
+            self.ready.add(*process);
+        }
     }
 
     fn run_process(&mut self, number: usize, flow: &mut Flow, time: u64) {
         let process = at(&self.processes, number);
-        let it = at_mut(&mut flow.instances, process.instance);
-        for (slot, signal) in &it.inputs {
-            *at_mut(&mut it.slots, *slot) = at(&flow.signals, *signal).value;
+        let Instance { slots, inputs, signals, .. } = at_mut(&mut flow.instances, process.instance);
+        let slots = slots.as_mut_slice();
+        for (slot, signal) in &*inputs {
+            *at_mut(slots, *slot) = at(&flow.signals, *signal).value;
         }
-        for outlet in &process.outlets {
-            *at_mut(&mut it.slots, outlet.slot) = 0;
-            *at_mut(&mut it.slots, outlet.written) = 0;
-        }
-        run(&process.body, &mut it.slots, &mut flow.notices);
-        for outlet in &process.outlets {
-            if *at(&it.slots, outlet.written) != 0 {
-                at_mut(&mut flow.signals, outlet.signal).waiting = Some(*at(&it.slots, outlet.slot));
-                flow.written.push(outlet.signal);
-            }
+        run(&process.body, slots, &mut flow.asked);
+        while let Some((port, value)) = flow.asked.writes.pop() {
+            let signal = *at(signals, port);
+            at_mut(&mut flow.signals, signal).waiting.get_or_insert(value);
+            flow.written.push(signal);
         }
         let first = process.first_event;
-        while let Some((event, after)) = flow.notices.pop() {
+        while let Some((event, after)) = flow.asked.notices.pop() {
             self.notify(first + event, time, after);
         }
     }
@@ -106,16 +115,8 @@ impl Events {
     }
 }
 
-fn trigger(triggered: &mut [bool], wakes: &Vec<usize>) -> bool {
-    for process in wakes {
-        *at_mut(triggered, *process) = true;
-    }
-    !wakes.is_empty()
-}
-
-/// Signals that were written change; whether a process wakes.
-fn update(flow: &mut Flow, triggered: &mut [bool], time: u64) -> bool {
-    let mut woken = false;
+/// Signals that were written change, and wake processes.
+fn update(flow: &mut Flow, ready: &mut Ready, time: u64) {
     for number in &flow.written {
         let signal = at_mut(&mut flow.signals, *number);
         let Some(value) = signal.waiting.take() else { continue };
@@ -123,11 +124,12 @@ fn update(flow: &mut Flow, triggered: &mut [bool], time: u64) -> bool {
             continue;
         }
         signal.value = value;
-        woken |= trigger(triggered, &signal.wakes);
+        for process in &signal.wakes {
+            ready.add(*process);
+        }
         if let Some(column) = signal.column {
             at_mut(&mut flow.sheet.columns, column).change(time, value);
         }
     }
     flow.written.clear();
-    woken
 }

@@ -1,7 +1,7 @@
 //! An engine made of the lines of a text.
 
-use crate::bodies::{writes, Act, Bound};
-use crate::events::{Events, Outlet, Process};
+use crate::bodies::{Act, Asked, Bound};
+use crate::events::{Events, Process};
 use crate::planning::{Edge, Progress};
 use crate::reading::{Block, Kind, Lines, Port};
 use crate::running::{Cluster, Engine, Flow, Inlet, Instance, Ring, Signal, Sink, Wire};
@@ -12,17 +12,6 @@ use std::collections::{HashMap, VecDeque};
 fn is_set(port: &Port, body: &[Act]) -> bool {
     let sets = |slot: usize| body.iter().any(|act| matches!(act, Act::Set(place, _, _) if *place == slot));
     matches!(port.rate, Bound::Number(rate) if (port.base..port.base + rate as usize).all(sets))
-}
-
-/// The ports that a body of an instance writes.
-fn outlets(it: &Instance, block: &Block, body: &[Act]) -> Vec<Outlet> {
-    let ports = block.ports.iter().zip(&it.signals).enumerate().filter(|(_, port)| writes(body, port.0.base));
-    let outlet = |(number, (port, signal)): (usize, (&Port, &Option<usize>))| Outlet {
-        slot: port.base,
-        written: block.written + number,
-        signal: signal.expect("an event signal"),
-    };
-    ports.map(outlet).collect()
 }
 
 /// Instances with their wires, and what these join.
@@ -92,7 +81,7 @@ impl Lines<'_> {
             cleared: block.ports.iter().enumerate().filter(is_cleared).map(wire).collect(),
             inputs: Vec::new(),
             sinks: Vec::new(),
-            signals: vec![None; block.ports.len()],
+            signals: vec![usize::MAX; block.ports.len()],
             plain: false,
             step: 0,
             next: 0,
@@ -130,7 +119,7 @@ impl Lines<'_> {
                 }
                 _ => {}
             }
-            it.signals[port] = self.event_signals.get(signal).copied();
+            it.signals[port] = self.event_signals.get(signal).copied().unwrap_or(usize::MAX);
         }
         self.join_edges(&mut joined, &writers);
         for it in &mut joined.instances {
@@ -183,12 +172,15 @@ impl Lines<'_> {
                     let wakes = if is_event {
                         &mut events.wakes[first_event + number]
                     } else {
-                        &mut signals[it.signals[number].expect("an event signal")].wakes
+                        &mut signals[it.signals[number]].wakes
                     };
                     wakes.push(events.processes.len());
                 }
-                events.triggered.push(process.initialize);
-                events.processes.push(Process { instance, body: process.body.clone(), outlets: outlets(it, block, &process.body), first_event });
+                events.ready.words.resize(events.processes.len() / 64 + 1, 0);
+                if process.initialize {
+                    events.ready.add(events.processes.len());
+                }
+                events.processes.push(Process { instance, body: process.body.clone(), first_event });
             }
         }
         events.times = vec![NEVER; events.wakes.len()];
@@ -204,7 +196,7 @@ impl Lines<'_> {
         let progress = Progress::of(joined.instances.len(), joined.edges.len(), joined.sinks.len());
         let sheet = self.sheet();
         let Joined { instances, edges, rings, sinks } = joined;
-        let flow = Flow { instances, rings, sinks, signals, written: Vec::new(), notices: Vec::new(), sheet };
+        let flow = Flow { instances, rings, sinks, signals, written: Vec::new(), asked: Asked::default(), sheet };
         Engine { blocks: self.blocks, flow, clusters, edges, progress, events }
     }
 }

@@ -50,9 +50,8 @@ pub struct Block {
     pub formats: Vec<Format>,
     /// By slot, the greatest value of a rate variable.
     greatest: HashMap<usize, usize>,
-    /// The slots of the loop variables, after those of the ports; and those that say that a port was written.
+    /// The slots of the loop variables, after those of the ports.
     pub loops: usize,
-    pub written: usize,
     pub events: usize,
     /// A timestep, of a port or of the whole module.
     pub step: Option<(Option<usize>, u64)>,
@@ -72,7 +71,7 @@ impl Block {
 
     /// Each port gets its slots before the first body is read.
     fn place_ports(&mut self) {
-        if self.written != 0 {
+        if self.loops != 0 {
             return;
         }
         for port in 0..self.ports.len() {
@@ -83,7 +82,6 @@ impl Block {
             self.ports[port].base = self.grow(room, self.ports[port].format);
         }
         self.loops = self.grow(DEPTH, PLAIN);
-        self.written = self.grow(self.ports.len(), PLAIN);
     }
 }
 
@@ -113,7 +111,7 @@ impl<'a> Reader<'a> {
         assert!(tokens.take("="), "{row:?}");
         let (value, after) = scope.expression(block, &mut tokens);
         match thing {
-            Thing::Port(port) if block.is_events => Act::Write(base, block.written + port, value, format.cast(after)),
+            Thing::Port(port) if block.is_events => Act::Write(port, value, format.cast(after)),
             _ if to.times == 0 => Act::Set(to.base as usize, value, format.cast(after)),
             _ => Act::SetAt(to, value, format.cast(after)),
         }

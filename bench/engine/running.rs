@@ -1,6 +1,6 @@
 //! Clusters as they run: firings by a plan, what they move, and the boundaries between periods.
 
-use crate::bodies::{run, Act};
+use crate::bodies::{run, Act, Asked};
 use crate::events::Events;
 use crate::numbers::{at, at_mut};
 use crate::planning::{Edge, Progress};
@@ -79,8 +79,8 @@ pub struct Instance {
     pub inputs: Vec<(usize, usize)>,
     /// Slots of ports of a module that write an event signal, and their sinks.
     pub sinks: Vec<(usize, usize)>,
-    /// By port, its event signal.
-    pub signals: Vec<Option<usize>>,
+    /// By port, its event signal if it has one.
+    pub signals: Vec<usize>,
     /// Whether a firing reads and writes rings and nothing else.
     pub plain: bool,
     /// The time between two firings, and that of the next one.
@@ -142,8 +142,8 @@ pub struct Flow {
     pub signals: Vec<Signal>,
     /// Event signals that were written since the last delta step.
     pub written: Vec<usize>,
-    /// What a body notified: events of its block and the times after which they come.
-    pub notices: Vec<(usize, u64)>,
+    /// What the body that runs asks for.
+    pub asked: Asked,
     pub sheet: Sheet,
 }
 
@@ -165,7 +165,7 @@ impl Flow {
             }
             inlet.first = inlet.first.wrapping_add(rate);
         }
-        run(&it.body, &mut it.slots, &mut self.notices);
+        run(&it.body, &mut it.slots, &mut self.asked);
         for wire in &it.writes {
             let ring = at_mut(&mut self.rings, wire.other);
             if wire.rate == 1 {
@@ -244,7 +244,7 @@ impl Engine {
             let it = &mut self.flow.instances[module];
             let block = &self.blocks[it.block];
             if block.changes {
-                run(&block.change, &mut it.slots, &mut self.flow.notices);
+                run(&block.change, &mut it.slots, &mut self.flow.asked);
                 changed |= it.take_rates(block);
             }
         }
@@ -289,7 +289,7 @@ impl Engine {
 
     pub fn run(&mut self, stop: u64) {
         let mut dues: Vec<u64> = self.clusters.iter().map(|cluster| cluster.due()).collect();
-        let (mut time, mut begins) = (0, true);
+        let mut time = 0;
         while time < stop {
             let mut next = NEVER;
             for number in 0..dues.len() {
@@ -299,9 +299,9 @@ impl Engine {
                 }
                 next = next.min(dues[number]);
             }
-            if begins || !self.flow.written.is_empty() || self.events.first() <= time {
-                self.events.settle(&mut self.flow, time, begins);
-                begins = false;
+            let events = &mut self.events;
+            if time == 0 || !self.flow.written.is_empty() || events.first() <= time {
+                events.settle(&mut self.flow, time);
             }
             self.flow.sheet.rows(time + 1, false);
             self.flow.sheet.flush(8_192);
