@@ -5,6 +5,7 @@ use crate::events::{Events, Process};
 use crate::planning::{Edge, Progress};
 use crate::reading::{Block, Kind, Lines, Port};
 use crate::running::{Cluster, Engine, Flow, Inlet, Instance, Ring, Signal, Sink, Wire};
+use crate::straight::Form;
 use crate::writing::{Column, Sheet, NEVER};
 use std::collections::{HashMap, VecDeque};
 
@@ -83,6 +84,7 @@ impl Lines<'_> {
             sinks: Vec::new(),
             signals: vec![usize::MAX; block.ports.len()],
             plain: false,
+            form: Form::Walked,
             step: 0,
             next: 0,
         }
@@ -109,7 +111,7 @@ impl Lines<'_> {
                     it.traced.extend(self.column_of(signal).map(|other| Wire { port, slot, rate: 0, other }));
                 }
                 Kind::EventIn => {
-                    assert!(block.ports[port].is_simple(), "a rate or a delay of {name}");
+                    assert!(block.ports[port].moves_one() && block.ports[port].delay == 0, "a rate or a delay of {name}");
                     it.inputs.push((slot, self.event_signals[signal]));
                 }
                 Kind::EventOut if !block.is_events => {
@@ -124,6 +126,7 @@ impl Lines<'_> {
         self.join_edges(&mut joined, &writers);
         for it in &mut joined.instances {
             it.plain = it.cleared.is_empty() && it.inputs.is_empty() && it.traced.is_empty() && it.sinks.is_empty();
+            it.form = Form::of(it, &self.blocks[it.block]);
         }
         joined
     }

@@ -5,7 +5,7 @@
 //!     rustc --edition 2021 -O bench/engine/main.rs -o bench/out/engine
 //!     bench/out/engine STOP < MODEL                                       STOP with its unit
 //!
-//! Built with `--cfg unchecked` it doesn't ask whether a list has the element that is asked for.
+//! Built with `--cfg unchecked` it doesn't ask whether a list has the element that is asked for, and bodies of sums alone are not walked.
 
 #![cfg_attr(not(unchecked), forbid(unsafe_code))]
 
@@ -17,6 +17,7 @@ mod numbers;
 mod planning;
 mod reading;
 mod running;
+mod straight;
 mod writing;
 
 use std::io::Read;

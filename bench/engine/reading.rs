@@ -24,9 +24,9 @@ pub struct Port {
 }
 
 impl Port {
-    /// Whether it moves one sample at a firing, and has no first ones.
-    pub fn is_simple(&self) -> bool {
-        matches!(self.rate, Bound::Number(1)) && self.delay == 0
+    /// Whether it moves one sample at each firing.
+    pub fn moves_one(&self) -> bool {
+        matches!(self.rate, Bound::Number(1))
     }
 }
 

@@ -5,6 +5,7 @@ use crate::events::Events;
 use crate::numbers::{at, at_mut};
 use crate::planning::{Edge, Progress};
 use crate::reading::Block;
+use crate::straight::{pass, run_sums, Form};
 use crate::writing::{Sheet, NEVER};
 use std::collections::VecDeque;
 use std::rc::Rc;
@@ -19,12 +20,12 @@ pub struct Ring {
 
 impl Ring {
     #[inline(always)]
-    fn get(&self, place: usize) -> i64 {
+    pub fn get(&self, place: usize) -> i64 {
         *at(&self.samples, place & (self.samples.len() - 1))
     }
 
     #[inline(always)]
-    fn push(&mut self, sample: i64) {
+    pub fn push(&mut self, sample: i64) {
         let place = self.end & (self.samples.len() - 1);
         *at_mut(&mut self.samples, place) = sample;
         self.end = self.end.wrapping_add(1);
@@ -83,6 +84,7 @@ pub struct Instance {
     pub signals: Vec<usize>,
     /// Whether a firing reads and writes rings and nothing else.
     pub plain: bool,
+    pub form: Form,
     /// The time between two firings, and that of the next one.
     pub step: u64,
     pub next: u64,
@@ -151,6 +153,9 @@ impl Flow {
     #[inline(always)]
     fn fire(&mut self, module: usize) {
         let it = at_mut(&mut self.instances, module);
+        if let Form::Passed(number, cast) = it.form {
+            return pass(it, &mut self.rings, number, cast);
+        }
         if !it.plain {
             it.prepare(&self.signals);
         }
@@ -165,7 +170,10 @@ impl Flow {
             }
             inlet.first = inlet.first.wrapping_add(rate);
         }
-        run(&it.body, &mut it.slots, &mut self.asked);
+        match &it.form {
+            Form::Sums(sums) => run_sums(sums, &mut it.slots),
+            _ => run(&it.body, &mut it.slots, &mut self.asked),
+        }
         for wire in &it.writes {
             let ring = at_mut(&mut self.rings, wire.other);
             if wire.rate == 1 {
