@@ -59,6 +59,12 @@ impl<'a> Tokens<'a> {
         self.list[self.place - 1]
     }
 
+    /// The number after the next token.
+    fn count(&mut self) -> u32 {
+        self.next();
+        self.next().parse().expect("a number")
+    }
+
     pub fn take(&mut self, word: &str) -> bool {
         let is_next = self.peek() == word;
         self.place += usize::from(is_next);
@@ -107,7 +113,7 @@ impl<'a> Scope<'a> {
     fn primary(&self, block: &Block, tokens: &mut Tokens<'a>) -> Part {
         match tokens.next() {
             "(" => {
-                let inner = self.expression(block, tokens);
+                let inner = self.any(block, tokens);
                 assert!(tokens.take(")"), "a bracket is open");
                 inner
             }
@@ -154,10 +160,13 @@ impl<'a> Scope<'a> {
 
     fn shifted(&self, block: &Block, tokens: &mut Tokens<'a>) -> Part {
         let mut left = self.sum(block, tokens);
-        while tokens.take(">>") {
-            left.1 += tokens.next().parse::<u32>().unwrap();
+        loop {
+            left = match tokens.peek() {
+                ">>" => (left.0, left.1 + tokens.count()),
+                "<<" => (left.0.raised(tokens.count()), left.1),
+                _ => return left,
+            };
         }
-        left
     }
 
     fn relation(&self, block: &Block, tokens: &mut Tokens<'a>) -> Part {
@@ -184,12 +193,19 @@ impl<'a> Scope<'a> {
         left
     }
 
-    pub fn expression(&self, block: &Block, tokens: &mut Tokens<'a>) -> Part {
+    fn any(&self, block: &Block, tokens: &mut Tokens<'a>) -> Part {
         let mut left = self.all(block, tokens);
         while tokens.take("or") {
             left = (Node::Or(pair(left.0, self.all(block, tokens).0)), 0);
         }
         left
+    }
+
+    /// All tokens that are left.
+    pub fn expression(&self, block: &Block, tokens: &mut Tokens<'a>) -> Part {
+        let part = self.any(block, tokens);
+        assert!(tokens.place == tokens.list.len(), "{:?}", tokens.list);
+        part
     }
 
     pub fn bound(&self, word: &str) -> Bound {

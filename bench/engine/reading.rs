@@ -87,6 +87,10 @@ impl Block {
 
 type Words<'a> = Vec<&'a str>;
 
+fn words_of(row: &str) -> Words<'_> {
+    row.split('#').next().unwrap_or("").split_whitespace().collect()
+}
+
 struct Reader<'a> {
     rows: Vec<Words<'a>>,
     place: usize,
@@ -273,7 +277,7 @@ pub struct Lines<'a> {
 }
 
 pub fn read(text: &str) -> Lines<'_> {
-    let rows = text.lines().map(|row| row.split_whitespace().collect()).filter(|row: &Words| !row.is_empty()).collect();
+    let rows = text.lines().map(words_of).filter(|row| !row.is_empty()).collect();
     let mut reader = Reader { rows, place: 0, types: HashMap::new() };
     let (mut lines, mut numbers) = (Lines::default(), HashMap::new());
     while reader.place < reader.rows.len() {
