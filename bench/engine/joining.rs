@@ -6,7 +6,7 @@ use crate::planning::{Edge, Progress};
 use crate::reading::{Block, Kind, Lines, Port};
 use crate::running::{Cluster, Engine, Flow, Inlet, Instance, Ring, Signal, Sink, Wire};
 use crate::straight::Form;
-use crate::writing::{Column, Sheet, NEVER};
+use crate::writing::{Column, Sheet, MOST_DECIMALS, NEVER};
 use std::collections::{HashMap, VecDeque};
 
 /// Whether a body sets all samples of a port, whatever it reads.
@@ -158,7 +158,9 @@ impl Lines<'_> {
             let event = self.event_signals.get(it.0);
             let first = event.map(|number| (0, self.starts[*number].1));
             let ahead = first.into_iter().collect();
-            Column { is_event: event.is_some(), after: self.formats[it.0].after, ahead, next: 0, last: 0 }
+            let after = self.formats[it.0].after;
+            assert!(after <= MOST_DECIMALS, "{after} bits after the point in {}", it.0);
+            Column { is_event: event.is_some(), after, ahead, next: 0, last: 0 }
         };
         let names: String = self.traces.iter().map(|it| format!(" {}", it.1)).collect();
         Sheet { columns: self.traces.iter().map(column).collect(), out: format!("%time{names}\n").into_bytes() }

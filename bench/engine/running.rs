@@ -210,7 +210,8 @@ impl Instance {
     /// What it does after it has written rings.
     fn finish(&mut self, sheet: &mut Sheet, sinks: &mut [Sink]) {
         for wire in &self.traced {
-            let (step, column) = (self.step / wire.rate as u64, at_mut(&mut sheet.columns, wire.other));
+            let step = if wire.rate == 1 { self.step } else { self.step / wire.rate as u64 };
+            let column = at_mut(&mut sheet.columns, wire.other);
             for k in 0..wire.rate {
                 column.ahead.push_back((self.next + k as u64 * step, *at(&self.slots, wire.slot + k)));
             }

@@ -7,6 +7,9 @@ use std::io::Write;
 /// A time that doesn't come.
 pub const NEVER: u64 = u64::MAX;
 
+/// The most bits after the point of a number that is written, which has as many digits there.
+pub const MOST_DECIMALS: u32 = 19;
+
 pub struct Column {
     /// Whether it is of an event signal: then all its values are known.
     pub is_event: bool,
@@ -76,6 +79,16 @@ impl Sheet {
     }
 }
 
+/// Powers of 5.
+const FIVES: [u64; MOST_DECIMALS as usize + 1] = {
+    let (mut powers, mut k) = ([1; MOST_DECIMALS as usize + 1], 1);
+    while k < powers.len() {
+        powers[k] = 5 * powers[k - 1];
+        k += 1;
+    }
+    powers
+};
+
 /// Pairs of digits.
 const PAIRS: &[u8; 200] = b"00010203040506070809101112131415161718192021222324252627282930313233343536373839\
 4041424344454647484950515253545556575859606162636465666768697071727374757677787980818283848586878889\
@@ -131,8 +144,13 @@ fn push_time(out: &mut Vec<u8>, time: u64) {
         rest /= 10;
         count -= 1;
     }
+    push_decimals(out, rest, count);
+}
+
+/// The point, and a number below 10^count in so many digits, which are 19 at most.
+fn push_decimals(out: &mut Vec<u8>, number: u64, count: usize) {
     let mut digits = [b'0'; 20];
-    digits_of(rest, &mut digits);
+    digits_of(number, &mut digits);
     let first = digits.len() - count;
     digits[first - 1] = b'.';
     out.extend_from_slice(&digits[first - 1..]);
@@ -144,16 +162,11 @@ fn push_number(out: &mut Vec<u8>, number: i64, after: u32) {
     }
     let (size, mask) = (number.unsigned_abs(), (1u64 << after) - 1);
     push_digits(out, size >> after);
-    let mut rest = size & mask;
-    if rest == 0 {
-        return;
+    let rest = size & mask;
+    if rest != 0 {
+        // (as many digits as bits, where the last ones are not 0)
+        let zeros = rest.trailing_zeros();
+        let count = (after - zeros) as usize;
+        push_decimals(out, (rest >> zeros) * at(&FIVES, count), count);
     }
-    let (mut digits, mut count) = ([b'.'; 65], 1);
-    while rest != 0 {
-        rest *= 10;
-        *at_mut(&mut digits, count) = b'0' + (rest >> after) as u8;
-        rest &= mask;
-        count += 1;
-    }
-    out.extend_from_slice(&digits[..count]);
 }
