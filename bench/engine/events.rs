@@ -8,6 +8,7 @@ use std::cmp::Reverse;
 use std::collections::BinaryHeap;
 use std::rc::Rc;
 
+/// A process of an instance.
 pub struct Process {
     pub instance: usize,
     pub body: Rc<[Act]>,
@@ -30,6 +31,7 @@ impl Ready {
     }
 }
 
+/// The event side: processes, events, and which of them come when.
 #[derive(Default)]
 pub struct Events {
     pub processes: Vec<Process>,

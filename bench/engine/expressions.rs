@@ -21,6 +21,7 @@ pub struct Scope<'a> {
     pub loops: Vec<&'a str>,
 }
 
+/// The tokens of a line, and the next one's place.
 pub struct Tokens<'a> {
     list: Vec<&'a str>,
     place: usize,

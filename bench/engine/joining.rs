@@ -115,6 +115,7 @@ impl Lines<'_> {
                     it.inputs.push((slot, self.event_signals[signal]));
                 }
                 Kind::EventOut if !block.is_events => {
+                    assert!(block.ports[port].moves_one(), "a rate of {name}");
                     it.sinks.push((slot, joined.sinks.len()));
                     let waiting = VecDeque::from(vec![0; block.ports[port].delay]);
                     joined.sinks.push(Sink { instance, signal: self.event_signals[signal], waiting });

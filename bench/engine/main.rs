@@ -5,7 +5,8 @@
 //!     rustc --edition 2021 -O bench/engine/main.rs -o bench/out/engine
 //!     bench/out/engine STOP < MODEL                                       STOP with its unit
 //!
-//! Built with `--cfg unchecked` it doesn't ask whether a list has the element that is asked for, and bodies of sums alone are not walked.
+//! Built with `--cfg unchecked` it doesn't ask whether a list has the element that is asked for, and bodies of sums alone are
+//! not walked.
 
 #![cfg_attr(not(unchecked), forbid(unsafe_code))]
 

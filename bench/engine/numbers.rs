@@ -18,6 +18,7 @@ pub fn at_mut<T>(list: &mut [T], place: usize) -> &mut T {
     &mut list[place]
 }
 
+/// A format of fixed point.
 #[derive(Clone, Copy, PartialEq)]
 pub struct Format {
     pub signed: bool,

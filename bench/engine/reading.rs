@@ -14,6 +14,7 @@ pub enum Kind {
     EventOut,
 }
 
+/// A port of a block.
 pub struct Port {
     pub kind: Kind,
     pub format: Format,
@@ -30,6 +31,7 @@ impl Port {
     }
 }
 
+/// A process of a block.
 pub struct Process {
     /// What wakes it: events (true) and ports, by their numbers.
     pub sensitive: Vec<(bool, usize)>,
@@ -91,6 +93,7 @@ fn words_of(row: &str) -> Words<'_> {
     row.split('#').next().unwrap_or("").split_whitespace().collect()
 }
 
+/// The rows that are left, and the types that were read.
 struct Reader<'a> {
     rows: Vec<Words<'a>>,
     place: usize,

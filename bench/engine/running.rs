@@ -82,7 +82,7 @@ pub struct Instance {
     pub sinks: Vec<(usize, usize)>,
     /// By port, its event signal if it has one.
     pub signals: Vec<usize>,
-    /// Whether a firing reads and writes rings and nothing else.
+    /// Whether a firing reads and writes rings and nothing else; and how the body runs.
     pub plain: bool,
     pub form: Form,
     /// The time between two firings, and that of the next one.
@@ -97,6 +97,7 @@ pub struct Sink {
     pub waiting: VecDeque<i64>,
 }
 
+/// An event signal: its value, and the one that was written since the last delta step.
 pub struct Signal {
     pub value: i64,
     pub waiting: Option<i64>,
@@ -112,6 +113,7 @@ pub enum Actor {
     Sink(usize),
 }
 
+/// Modules that edges join, with the plan of the period that they are in.
 #[derive(Default)]
 pub struct Cluster {
     pub modules: Vec<usize>,
@@ -230,6 +232,7 @@ impl Instance {
     }
 }
 
+/// A model that runs: its event side and its clusters, with what they share.
 pub struct Engine {
     pub blocks: Vec<Block>,
     pub flow: Flow,

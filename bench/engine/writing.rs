@@ -10,6 +10,7 @@ pub const NEVER: u64 = u64::MAX;
 /// The most bits after the point of a number that is written, which has as many digits there.
 pub const MOST_DECIMALS: u32 = 19;
 
+/// A column of the trace.
 pub struct Column {
     /// Whether it is of an event signal: then all its values are known.
     pub is_event: bool,
@@ -32,6 +33,7 @@ impl Column {
     }
 }
 
+/// The trace: its columns, and the text that is not yet written.
 pub struct Sheet {
     pub columns: Vec<Column>,
     pub out: Vec<u8>,
