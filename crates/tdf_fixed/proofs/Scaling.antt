@@ -20,7 +20,7 @@ div_scaled n d k j small some =
     (ap (λ m. m * k + j) (sym (div-add-mod' n d)) ∙ rests (n / d) d k (n % d) j)
     (let less : n % d * k + j < k * d = mul-add-lt (n % d) k j d (mod_below n d some) small in omega arith)
 
-div_up : (n d k : ℕ) → 0 < k → 0 < d → ((n * k) / (d * k) ≡ n / d) × ((n * k) % (d * k) ≡ (n % d) * k)
+pub div_up : (n d k : ℕ) → 0 < k → 0 < d → ((n * k) / (d * k) ≡ n / d) × ((n * k) % (d * k) ≡ (n % d) * k)
 div_up n d k some divides =
     let both = div_scaled n d k 0 some divides in
     let same : n * k + 0 ≡ n * k = omega arith in

@@ -189,8 +189,20 @@ fn next_digit(left: u128, frac: u32) -> u8
     ((10 * left) >> frac) as u8 + b'0'
 }
 
+/// The digits of a binary fraction with few bits: those of a decimal one with as many places.
+#[tactic(auto, using(crate::proofs::Fractions::digits_of_tens, crate::proofs::Fractions::few_fives, crate::proofs::Fractions::few_tens, crate::proofs::Fractions::below_tens))]
+fn push_few_digits(out: &mut Vec<u8>, rest: u64, frac: u32) -> Result<(), Memory>
+    requires few { frac ≤ 15 }
+    requires below { rest < 2 ^ frac }
+    ensures ok { OnOk result (out.new.items ≡ out.old.items ++ fraction_digits frac rest (2 ^ frac)) }
+    ensures kept { take (length out.old.items) out.new.items ≡ out.old.items }
+{
+    push_time_digits(out, rest * 5u64.pow(frac), 10u64.pow(frac), frac)
+}
+
+/// The digits of a binary fraction, one by one.
 #[tactic(auto, using(crate::proofs::Fractions::fraction_lemmas, tdf_base::proofs::Api::power_of_two))]
-fn push_binary_digits(out: &mut Vec<u8>, rest: u128, frac: u32) -> Result<(), Memory>
+fn push_many_digits(out: &mut Vec<u8>, rest: u128, frac: u32) -> Result<(), Memory>
     requires few { frac ≤ 120 }
     requires below { rest < 2 ^ frac }
     ensures ok { OnOk result (out.new.items ≡ out.old.items ++ fraction_digits frac rest (2 ^ frac)) }
@@ -205,6 +217,19 @@ fn push_binary_digits(out: &mut Vec<u8>, rest: u128, frac: u32) -> Result<(), Me
         left = low(10 * left, frac);
     }
     Ok(())
+}
+
+fn push_binary_digits(out: &mut Vec<u8>, rest: u128, frac: u32) -> Result<(), Memory>
+    requires few { frac ≤ 120 }
+    requires below { rest < 2 ^ frac }
+    ensures ok { OnOk result (out.new.items ≡ out.old.items ++ fraction_digits frac rest (2 ^ frac)) }
+    ensures kept { take (length out.old.items) out.new.items ≡ out.old.items }
+{
+    if frac <= 15 {
+        push_few_digits(out, rest as u64, frac)
+    } else {
+        push_many_digits(out, rest, frac)
+    }
 }
 
 #[tactic(auto, using(crate::proofs::Fractions::fraction_lemmas))]

@@ -1,7 +1,7 @@
 -- What is written and what is left make up the whole fraction.
 use Rattle.std.proofs.Common.{◌≡◌, ◌-◌, ◌<◌, ◌≤◌, ◌^◌, ◌++◌, take, length}
 use Rattle.tdf_fixed.specs.Decimal.{fraction_digits}
-use Rattle.tdf_fixed.proofs.decimals.push_binary_digits.Given as goal
+use Rattle.tdf_fixed.proofs.decimals.push_many_digits.Given as goal
 
 abbrev pub invariant-loop-k : goal.invariant-loop-k
 invariant-loop-k l = record {
