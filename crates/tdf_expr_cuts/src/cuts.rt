@@ -248,6 +248,8 @@ pub fn roomy_cut(cut: Cut, bits: u32) -> Option<Cut>
 #[inline(always)]
 pub fn whole_cut(cut: Cut) -> Option<Cut>
     ensures same { IfSome result (λ c. c ≡ cut) }
+    ensures whole { IfSome result (λ c. c.shift ≡ 0) }
+    ensures signed { IfSome result (λ c. c.signed ≡ true) }
     ensures found { cut.signed ≡ true → cut.shift ≡ 0 → IsSome result }
 {
     if !cut.signed || cut.shift != 0 {
