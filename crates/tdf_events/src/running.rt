@@ -24,10 +24,9 @@ fn value_before(port: PortSpan, value: Raw) -> Raw
         frac: port.format.wl - port.format.iwl,
     };
     match port.word {
-        PortKind::In => value,
         PortKind::Out => zero,
-        PortKind::DeIn => value,
         PortKind::DeOut => zero,
+        _ => value,
     }
 }
 

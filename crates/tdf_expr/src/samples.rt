@@ -44,10 +44,9 @@ fn is_written(word: PortKind) -> bool
     ensures { result ≡ is_written word }
 {
     match word {
-        PortKind::In => false,
         PortKind::Out => true,
-        PortKind::DeIn => false,
         PortKind::DeOut => true,
+        _ => false,
     }
 }
 
