@@ -5,8 +5,10 @@ use Rattle.std.specs.Prelude.{replicate, slice_get}
 use Rattle.tdf_base.specs.Limits.{deepest_nesting}
 use Rattle.tdf_dynamic.proofs.Begins.{begun_zeros, run_zeros}
 use Rattle.tdf_dynamic.proofs.Keeping.{AreShort, Stays, stmts_stay}
+use Rattle.tdf_dynamic.proofs.Rows.{not_both}
+use Rattle.tdf_dynamic.proofs.Steps.{steps_none}
 use Rattle.tdf_dynamic.proofs.Staying.{change_kept, limits_at, limits_same, none_short}
-use Rattle.tdf_dynamic.specs.Asked.{asked, asked_in, nothing_asked, port_count}
+use Rattle.tdf_dynamic.specs.Asked.{IsQuiet, asked, asked_in, nothing_asked, port_count}
 use Rattle.tdf_dynamic.specs.Given.{IsFrameOf, IsOfText}
 use Rattle.tdf_dynamic.specs.declared.frames.ModuleFrame.{ModuleFrame}
 use Rattle.tdf_dynamic.specs.Ports.{AreBegun}
@@ -99,6 +101,8 @@ module _ (flat : Flat) (attrs : AttrsOf) (text : IsOfText flat) (inside : attrs.
       few = frame_few flat.checked number old.ports.spans frame.made.ports_are;
       long = ap length steps_before ∙ length-replicate (1 + length (port_spans_of flat.checked number)) None ∙ ap (λ (l : List PortSpan). 1 + length l) (sym frame.made.ports_are);
       allowed = subst (λ r. RatesFit (limits_in flat.checked (slice_get flat.tables.modules attrs.number)) r) (sym frame.rates) allowed;
+      quiet = λ same. subst (IsQuiet attrs) (sym (ap asked_in before_is))
+          (record { same = record { rates = refl; steps = steps_none attrs.steps (1 + length (port_spans_of flat.checked number)) }; unmarked = refl });
     };
     short = subst AreShort (sym steps_before) (none_short (1 + length (port_spans_of flat.checked number)));
     asked_is = λ model checked.
@@ -148,6 +152,7 @@ module _ (flat : Flat) (attrs : AttrsOf) (text : IsOfText flat) (inside : attrs.
         few = frame_few flat.checked number new.ports.spans made.ports_are;
         long = fit.steps;
         allowed = subst (λ (l : List RateLimits). RatesFit l new.frame.state.rates) (sym kept_limits) stays.rates;
+        quiet = λ none. absurd (not_both (has_changes flat.tables.modules attrs.number) none has);
       };
       short = stays.short;
       asked_is = λ model checked.

@@ -1,8 +1,8 @@
 -- The timesteps after a change body, place by place.
-use Rattle.std.proofs.Common.{◌≡◌, ◌∙◌, ℕ, zero, suc, ◌+◌, ◌<◌, List, [], ◌∷◌, ◌++◌, Option, length, take, refl, sym, ap, arith}
+use Rattle.std.proofs.Common.{◌≡◌, ◌∙◌, ℕ, zero, suc, ◌+◌, ◌<◌, List, [], ◌∷◌, ◌++◌, Option, None, length, take, refl, sym, ap, arith}
 use Rattle.std.proofs.Math.ListN.{get_or}
 use Rattle.std.proofs.lemmas.List.{ext_get_or}
-use Rattle.std.specs.Prelude.{slice_get}
+use Rattle.std.specs.Prelude.{replicate, slice_get}
 use Rattle.tdf_dynamic.specs.Asked.{said_or, steps_after}
 use Rattle.tdf_expr_state.specs.State.{standing}
 
@@ -10,6 +10,12 @@ pub steps_long : (steps : List ℕ) (said : List (Option ℕ)) → length (steps
 steps_long [] said = refl
 steps_long (x ∷ steps) [] = refl
 steps_long (x ∷ steps) (o ∷ said) = ap suc (steps_long steps said)
+
+-- no timestep is given
+pub steps_none : (steps : List ℕ) (n : ℕ) → steps_after steps (replicate n None) ≡ steps
+steps_none [] n = refl
+steps_none (x ∷ steps) zero = refl
+steps_none (x ∷ steps) (suc n) = ap (λ l. x ∷ l) (steps_none steps n)
 
 none_said : (steps : List ℕ) → steps_after steps [] ≡ steps
 none_said [] = refl

@@ -10,7 +10,7 @@ ghost use Rattle.tdf_expr.specs.Frames.{ArePortsFit, PortsSeen};
 ghost use Rattle.tdf_expr.specs.declared.spans.PortSpan.{PortSpan as PortSpanOf};
 ghost use Rattle.tdf_streams.specs.Periods.{HasAllowedRates};
 
-use crate::frames::ModuleFrame;
+use crate::frames::{Instance, ModuleFrame};
 use tdf_bind::Flat;
 use tdf_dynamic_plans::ModuleAttrs;
 use tdf_expr::{Body, Ports, run_body};
@@ -81,19 +81,20 @@ fn run_if(flat: &Flat, attrs: &ModuleAttrs, instance: &mut ModuleFrame)
 }
 
 /// A module says what it asks for: its change body runs, where it has changes.
-fn run_change(flat: &Flat, attrs: &ModuleAttrs, instance: &mut ModuleFrame)
+fn run_change(flat: &Flat, attrs: &ModuleAttrs, instance: &mut Instance)
     requires text { IsOfText flat.now }
     requires is_module { attrs.now.number < length flat.now.tables.modules }
     requires allowed { HasAllowedRates flat.now attrs.now }
     requires frame { IsFrameOf flat.now attrs.now instance.old }
     ensures { HasAsked flat.now attrs.now instance.old.frame.state.cells instance.new }
 {
-    begin(&mut instance.ports);
-    run_if(flat, attrs, instance);
+    let frame = &mut *instance.boxed;
+    begin(&mut frame.ports);
+    run_if(flat, attrs, frame);
 }
 
 /// The modules of a table say what they ask for, in order. It takes no memory and is never refused.
-pub(crate) fn run_changes(flat: &Flat, table: &[ModuleAttrs], frames: &mut Vec<ModuleFrame>)
+pub(crate) fn run_changes(flat: &Flat, table: &[ModuleAttrs], frames: &mut Vec<Instance>)
     requires text { IsOfText flat.now }
     requires modules { All (λ attrs. attrs.number < length flat.now.tables.modules) table.now }
     requires allowed { All (HasAllowedRates flat.now) table.now }

@@ -16,6 +16,6 @@ mod rejecting;
 mod tables;
 
 pub use asking::begin;
-pub use frames::{Frames, ModuleFrame};
+pub use frames::{Frames, Instance, ModuleFrame};
 pub use laws::{law_attributes, law_one_answer};
 pub use next::{Next, next_plan};

@@ -20,7 +20,7 @@ ghost use Rattle.tdf_streams.specs.Below.{AreWithinLimits};
 ghost use Rattle.tdf_streams.specs.Periods.{AreAttributes};
 
 use crate::asking::run_changes;
-use crate::frames::{Frames, ModuleFrame};
+use crate::frames::{Frames, Instance};
 use crate::laws::law_one_answer;
 use crate::rejecting::first_rejecting;
 use crate::tables::{first_marked, is_same, set_flags, table_after};
@@ -65,7 +65,7 @@ struct Boundary<'a> {
     cluster: u32,
     /// The attributes in force.
     table: &'a [ModuleAttrs],
-    frames: &'a [ModuleFrame],
+    frames: &'a [Instance],
 }
 
 /// Whether no module rejects, or the fault that one does.
@@ -250,7 +250,7 @@ fn with_table(
     flat: &Flat,
     cluster: u32,
     table: &[ModuleAttrs],
-    frames: &[ModuleFrame],
+    frames: &[Instance],
     known: &mut KnownPlans,
 ) -> Result<Next, ChangeErr>
     requires limits { AreWithinLimits flat.now }
@@ -285,7 +285,7 @@ fn changed(
     flat: &Flat,
     cluster: u32,
     table: &[ModuleAttrs],
-    frames: &[ModuleFrame],
+    frames: &[Instance],
     known: &mut KnownPlans,
 ) -> Result<Next, ChangeErr>
     requires limits { AreWithinLimits flat.now }

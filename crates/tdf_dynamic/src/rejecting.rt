@@ -6,7 +6,7 @@ ghost use Rattle.tdf_dynamic.specs.machine.Asking.{AllTell, CanTell};
 ghost use Rattle.tdf_dynamic.specs.machine.Rows.{IsFirst, IsRefusing};
 ghost use Rattle.tdf_timestep.specs.Period.{rate_at_port};
 
-use crate::frames::ModuleFrame;
+use crate::frames::Instance;
 use crate::tables::{flag_after, is_unchanged};
 use tdf_bind::Flat;
 use tdf_dynamic_plans::ModuleAttrs;
@@ -85,7 +85,7 @@ fn has_same_steps(
 fn rejects(
     flat: &Flat,
     attrs: &ModuleAttrs,
-    instance: &ModuleFrame,
+    instance: &Instance,
     before: &Net,
     old_steps: &Steps,
     after: &Net,
@@ -94,8 +94,9 @@ fn rejects(
     requires tells { CanTell flat.now attrs.now instance.now }
     ensures { IsTrue result ↔ IsRefusing before.now.ports.items after.now.ports.items old_steps.now new_steps.now attrs.now instance.now }
 {
-    !flag_after(attrs.accepts, &instance.ports)
-        && is_unchanged(flat, attrs, instance)
+    let frame = &*instance.boxed;
+    !flag_after(attrs.accepts, &frame.ports)
+        && is_unchanged(flat, attrs, frame)
         && !has_same_steps(attrs, before, old_steps, after, new_steps)
 }
 
@@ -103,7 +104,7 @@ fn rejects(
 pub(crate) fn first_rejecting(
     flat: &Flat,
     table: &[ModuleAttrs],
-    frames: &[ModuleFrame],
+    frames: &[Instance],
     before: &Net,
     old_steps: &Steps,
     after: &Net,

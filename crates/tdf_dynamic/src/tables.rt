@@ -8,7 +8,7 @@ ghost use Rattle.tdf_expr.specs.Made.{block_count, rate_spans_of};
 ghost use Rattle.tdf_expr_state.specs.State.{standing};
 ghost use Rattle.tdf_streams.specs.Places.{block_at};
 
-use crate::frames::ModuleFrame;
+use crate::frames::{Instance, ModuleFrame};
 use std::alloc::Global;
 use tdf_base::Memory;
 use tdf_bind::Flat;
@@ -110,18 +110,19 @@ fn attrs_after(
     alloc: Global,
     flat: &Flat,
     attrs: &ModuleAttrs,
-    instance: &ModuleFrame,
+    instance: &Instance,
 ) -> Result<ModuleAttrs, Memory>
     requires tells { CanTell flat.now attrs.now instance.now }
     ensures { IfOk result (λ after. after ≡ attrs_after attrs.now (told instance.now)) }
 {
-    let rates = rates_after(alloc, &instance.frame, rate_count(flat, attrs))?;
-    let steps = steps_after(alloc, &attrs.steps, &instance.ports)?;
+    let frame = &*instance.boxed;
+    let rates = rates_after(alloc, &frame.frame, rate_count(flat, attrs))?;
+    let steps = steps_after(alloc, &attrs.steps, &frame.ports)?;
     let ports = Vec::from_slice(alloc, &attrs.ports)?;
     Ok(ModuleAttrs {
         number: attrs.number,
         ports,
-        accepts: flag_after(attrs.accepts, &instance.ports),
+        accepts: flag_after(attrs.accepts, &frame.ports),
         rates,
         steps,
     })
@@ -137,12 +138,17 @@ pub(crate) fn is_unchanged(flat: &Flat, attrs: &ModuleAttrs, instance: &ModuleFr
         && are_same_steps(&attrs.steps, &instance.ports)
 }
 
-/// Whether a module differs in nothing.
-fn is_quiet(flat: &Flat, attrs: &ModuleAttrs, instance: &ModuleFrame) -> bool
+/// Whether a module differs in nothing. One without changes does not.
+fn is_quiet(flat: &Flat, attrs: &ModuleAttrs, instance: &Instance) -> bool
     requires tells { CanTell flat.now attrs.now instance.now }
     ensures { IsTrue result ↔ IsQuiet attrs.now (told instance.now) }
 {
-    !instance.ports.out_of_range() && is_unchanged(flat, attrs, instance)
+    let row = &flat.tables.modules[attrs.number as usize];
+    if !row.changes {
+        return true;
+    }
+    let frame = &*instance.boxed;
+    !frame.ports.out_of_range() && is_unchanged(flat, attrs, frame)
 }
 
 /// The table after the change bodies.
@@ -153,7 +159,7 @@ pub(crate) fn table_after(
     alloc: Global,
     flat: &Flat,
     table: &[ModuleAttrs],
-    frames: &[ModuleFrame],
+    frames: &[Instance],
 ) -> Result<Vec<ModuleAttrs>, Memory>
     requires tells { AllTell flat.now table.now frames.now }
     ensures { IfOk result (λ after. AreAfter table.now frames.now (length table.now) after.items) }
@@ -166,7 +172,7 @@ pub(crate) fn table_after(
 }
 
 /// Whether no module differs.
-pub(crate) fn is_same(flat: &Flat, table: &[ModuleAttrs], frames: &[ModuleFrame]) -> bool
+pub(crate) fn is_same(flat: &Flat, table: &[ModuleAttrs], frames: &[Instance]) -> bool
     requires tells { AllTell flat.now table.now frames.now }
     ensures { IsTrue result ↔ HoldsBelow (λ attrs f. IsQuiet attrs (told f)) table.now frames.now (length table.now) }
 {
@@ -179,24 +185,26 @@ pub(crate) fn is_same(flat: &Flat, table: &[ModuleAttrs], frames: &[ModuleFrame]
 }
 
 /// The flags that were said. It takes no memory.
-pub(crate) fn set_flags(table: &mut Vec<ModuleAttrs>, frames: &[ModuleFrame])
+pub(crate) fn set_flags(table: &mut Vec<ModuleAttrs>, frames: &[Instance])
     requires long { length frames.now ≡ length table.old.items }
     ensures { AreFlagged table.old.items frames.now (length table.old.items) table.new.items }
 {
     for i in 0..table.len() {
-        let said = flag_after(table[i].accepts, &frames[i].ports);
+        let instance = &frames[i];
+        let said = flag_after(table[i].accepts, &instance.boxed.ports);
         table[i].accepts = said;
     }
 }
 
 /// The place of the first module whose body gave a rate that is not allowed.
-pub(crate) fn first_marked(table: &[ModuleAttrs], frames: &[ModuleFrame]) -> Option<usize>
+pub(crate) fn first_marked(table: &[ModuleAttrs], frames: &[Instance]) -> Option<usize>
     requires long { length frames.now ≡ length table.now }
     ensures first { IsFirst (λ attrs f. f.ports.state.out_of_range ≡ true) table.now frames.now result }
     ensures inside { IfSome result (λ place. place < length table.now) }
 {
     for i in 0..table.len() {
-        if frames[i].ports.out_of_range() {
+        let instance = &frames[i];
+        if instance.boxed.ports.out_of_range() {
             return Some(i);
         }
     }

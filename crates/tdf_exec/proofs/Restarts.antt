@@ -1,8 +1,10 @@
 -- A module that begins again.
-use Rattle.std.proofs.Common.{◌≡◌, ◌∙◌, subst, sym, refl}
+use Rattle.std.proofs.Common.{◌≡◌, ◌∙◌, ℕ, subst, sym, refl}
 use Rattle.tdf_dynamic.proofs.Api.{run_zeros}
 use Rattle.tdf_dynamic.specs.Ports.{AreBegun}
+use Rattle.tdf_dynamic.specs.declared.frames.ModuleFrame.{ModuleFrame}
 use Rattle.tdf_exec.specs.Runners.{ModuleOf}
+use Rattle.tdf_exec.specs.machine.Moving.{frame_of}
 use Rattle.tdf_exec.specs.machine.Restarting.{HasRestarted}
 use Rattle.tdf_expr.specs.Frames.{FrameSeen, KeepsRead, PortsSeen}
 use Rattle.tdf_expr.specs.Made.{AreMadeFor}
@@ -23,10 +25,14 @@ restarted checked x mid ports frame made begun ran now kept = record {
   ran = subst (λ s. Ran checked x.block Reinitialize (state_of x.frame.state s) (state_of frame.state ports.state)) begun.state ran;
 }
 
--- the same, where the module is seen another way
-pub restarted_as : (checked : Checked) (x seen : ModuleOf) (same : x ≡ seen) (mid ports : PortsSeen) (frame : FrameSeen) → AreMadeFor checked seen.block seen.frame seen.ports → AreBegun x.ports mid
-    → Ran checked x.block Reinitialize (state_of x.frame.state mid.state) (state_of frame.state ports.state) → AreMadeFor checked x.block frame ports → KeepsRead mid ports
-    → HasRestarted checked seen (record x { frame = frame; ports = ports })
-restarted_as checked x seen same mid ports frame made begun ran now kept =
+-- the same, where the module is seen another way, and so are its block and its instance
+pub restarted_as : (checked : Checked) (x seen : ModuleOf) (same : x ≡ seen) (block : ℕ) (instance : ModuleFrame) → block ≡ x.block → instance ≡ frame_of x → (mid ports : PortsSeen) (frame : FrameSeen)
+    → AreMadeFor checked seen.block seen.frame seen.ports → AreBegun instance.ports mid → Ran checked block Reinitialize (state_of instance.frame.state mid.state) (state_of frame.state ports.state)
+    → AreMadeFor checked block frame ports → KeepsRead mid ports → HasRestarted checked seen (record x { frame = frame; ports = ports })
+restarted_as checked x seen same block instance block_is instance_is mid ports frame made begun ran now kept =
     subst (λ (z : ModuleOf). HasRestarted checked z (record x { frame = frame; ports = ports })) same
-    (restarted checked x mid ports frame (subst (λ (z : ModuleOf). AreMadeFor checked z.block z.frame z.ports) (sym same) made) begun ran now kept)
+    (restarted checked x mid ports frame (subst (λ (z : ModuleOf). AreMadeFor checked z.block z.frame z.ports) (sym same) made)
+    (subst (λ (f : ModuleFrame). AreBegun f.ports mid) instance_is begun)
+    (subst (λ n. Ran checked n Reinitialize (state_of x.frame.state mid.state) (state_of frame.state ports.state)) block_is
+    (subst (λ (f : ModuleFrame). Ran checked block Reinitialize (state_of f.frame.state mid.state) (state_of frame.state ports.state)) instance_is ran))
+    (subst (λ n. AreMadeFor checked n frame ports) block_is now) kept)

@@ -1,6 +1,6 @@
 //! The modules of a cluster say which changes of attributes they ask for.
 
-use crate::moving::Rest;
+use crate::moving::Kept;
 use std::marker::Model;
 use tdf_dynamic::Frames;
 
@@ -8,7 +8,7 @@ use tdf_dynamic::Frames;
 #[derive(Drop)]
 pub(crate) struct Spare {
     frames: Frames,
-    rests: Vec<Rest>,
+    rests: Vec<Kept>,
 }
 
 impl Model for Spare {

@@ -2,17 +2,28 @@
 
 ghost use Rattle.std.specs.Prelude.{◌≡◌, ◌+◌, ◌<◌, ℕ, IfOk, if◌then◌else◌, length, Some, slice_get};
 ghost use Rattle.tdf_exec.specs.Made.{is_sampler_runner};
+ghost use Rattle.tdf_exec.specs.machine.Moving.{kept_of, whole_of};
 ghost use Rattle.tdf_exec.specs.machine.Starting.{AreFirstRunners, CanBegin, HoldsText, IsBegun, IsFirstRunner, IsOfModule};
 ghost use Rattle.tdf_exec_layout.specs.declared.wiring.ActorWires.{ActorWires as ActorWiresOf};
 
-use crate::runners::{ModuleRunner, Runner, SamplerRunner, SinkRunner};
+use crate::runners::{ModuleRunner, Rest, Runner, SamplerRunner, SinkRunner};
 use std::alloc::Global;
 use std::mem;
 use tdf_base::Memory;
 use tdf_bind::Flat;
+use tdf_dynamic::ModuleFrame;
 use tdf_exec_firing::{Wires, law_begin};
 use tdf_exec_layout::ActorWires;
 use tdf_expr::{Body, Frame, Ports, run_body};
+
+/// A module of these parts.
+fn module_of(alloc: Global, instance: ModuleFrame, rest: Rest) -> Result<ModuleRunner, Memory>
+    ensures { IfOk result (λ x. x ≡ whole_of instance (kept_of rest)) }
+{
+    let instance = Box::new(alloc, instance)?;
+    let rest = Box::new(alloc, rest)?;
+    Ok(ModuleRunner { instance, rest })
+}
 
 /// A module; its initialize body has run where `begins` says so.
 fn begun(
@@ -32,14 +43,13 @@ fn begun(
     let mut ports = Ports::new(alloc, &flat.checked, block)?;
     ports.law_fit();
     let traced = Vec::new(alloc);
+    let rest = Rest {
+        block,
+        wires,
+        traced,
+    };
     if !begins {
-        return Ok(ModuleRunner {
-            block,
-            frame,
-            ports,
-            wires,
-            traced,
-        });
+        return module_of(alloc, ModuleFrame { frame, ports }, rest);
     }
     run_body(
         &flat.checked,
@@ -48,13 +58,7 @@ fn begun(
         &mut frame,
         &mut ports,
     );
-    Ok(ModuleRunner {
-        block,
-        frame,
-        ports,
-        wires,
-        traced,
-    })
+    module_of(alloc, ModuleFrame { frame, ports }, rest)
 }
 
 /// What is kept for an actor; `place` samplers come before it.

@@ -1,23 +1,20 @@
 //! The instances of the modules of a cluster go into a list, in the order of its table, and come back.
 
-use crate::runners::{ModuleRunner, Runner, TracedPort};
+use crate::runners::{ModuleRunner, Rest, Runner};
 use std::marker::Model;
-use tdf_exec_firing::Wires;
 
 /// What is kept of a module beside its values and ports.
 #[derive(Drop)]
-pub(crate) struct Rest {
-    block: u32,
-    wires: Wires,
-    traced: Vec<TracedPort>,
+pub(crate) struct Kept {
+    boxed: Box<Rest>,
 }
 
-impl Model for Rest {
-    ghost use Rattle.tdf_exec.specs.machine.Moving.{RestOf};
+impl Model for Kept {
+    ghost use Rattle.tdf_exec.specs.machine.Moving.{RestOf, kept_of};
 
     ghost Value = { RestOf };
 
-    ghost view = { λ a. record { block = a.block; wires = a.wires; traced = a.traced.items } };
+    ghost view = { λ a. kept_of a.boxed.value };
 }
 
 ghost use Rattle.std.specs.Prelude.{◌≡◌, ◌++◌, ◌+◌, ◌-◌, ◌<◌, ◌≤◌, ◌∷◌, ℕ, [], length, Some, slice_get, slice_set, take};
@@ -28,11 +25,11 @@ ghost use Rattle.tdf_exec.specs.declared.runners.Runner.TheVariants.{Module, Out
 ghost use Rattle.tdf_exec.specs.machine.Moving.{AreBack, AreModules, AreOut, RestOf, frame_of, numbers_of, rest_of, whole_of};
 
 use std::mem;
-use tdf_dynamic::ModuleFrame;
+use tdf_dynamic::Instance;
 use tdf_dynamic_plans::ModuleAttrs;
 
 /// Appends where there is room: it takes no memory.
-fn put_frame(list: &mut Vec<ModuleFrame>, frame: ModuleFrame)
+fn put_frame(list: &mut Vec<Instance>, frame: Instance)
     requires { vec_len list.old < vec_capacity list.old }
     ensures items { list.new.items ≡ list.old.items ++ frame ∷ [] }
     ensures room { vec_capacity list.old ≤ vec_capacity list.new }
@@ -41,7 +38,7 @@ fn put_frame(list: &mut Vec<ModuleFrame>, frame: ModuleFrame)
 }
 
 /// Appends where there is room: it takes no memory.
-fn put_rest(list: &mut Vec<Rest>, rest: Rest)
+fn put_rest(list: &mut Vec<Kept>, rest: Kept)
     requires { vec_len list.old < vec_capacity list.old }
     ensures items { list.new.items ≡ list.old.items ++ rest ∷ [] }
     ensures room { vec_capacity list.old ≤ vec_capacity list.new }
@@ -50,7 +47,7 @@ fn put_rest(list: &mut Vec<Rest>, rest: Rest)
 }
 
 /// A module goes into the lists.
-fn take_module(kept: ModuleRunner, frames: &mut Vec<ModuleFrame>, rests: &mut Vec<Rest>)
+fn take_module(kept: ModuleRunner, frames: &mut Vec<Instance>, rests: &mut Vec<Kept>)
     requires frames_room { vec_len frames.old < vec_capacity frames.old }
     requires rests_room { vec_len rests.old < vec_capacity rests.old }
     ensures frames { frames.new.items ≡ frames.old.items ++ frame_of kept ∷ [] }
@@ -58,30 +55,17 @@ fn take_module(kept: ModuleRunner, frames: &mut Vec<ModuleFrame>, rests: &mut Ve
     ensures frames_room { vec_capacity frames.old ≤ vec_capacity frames.new }
     ensures rests_room { vec_capacity rests.old ≤ vec_capacity rests.new }
 {
-    let ModuleRunner {
-        block,
-        frame,
-        ports,
-        wires,
-        traced,
-    } = kept;
-    put_frame(frames, ModuleFrame { frame, ports });
-    put_rest(
-        rests,
-        Rest {
-            block,
-            wires,
-            traced,
-        },
-    );
+    let ModuleRunner { instance, rest } = kept;
+    put_frame(frames, Instance { boxed: instance });
+    put_rest(rests, Kept { boxed: rest });
 }
 
 /// The module of a number goes into the lists.
 fn take_row(
     number: u32,
     runners: &mut Vec<Runner>,
-    frames: &mut Vec<ModuleFrame>,
-    rests: &mut Vec<Rest>,
+    frames: &mut Vec<Instance>,
+    rests: &mut Vec<Kept>,
 )
     requires number { number < length runners.old.items }
     requires is { (x : ModuleOf) × (slice_get runners.old.items number ≡ Some (Module x)) }
@@ -107,8 +91,8 @@ fn take_row(
 pub(crate) fn take_out(
     rows: &[ModuleAttrs],
     runners: &mut Vec<Runner>,
-    frames: &mut Vec<ModuleFrame>,
-    rests: &mut Vec<Rest>,
+    frames: &mut Vec<Instance>,
+    rests: &mut Vec<Kept>,
 )
     requires modules { AreModules (numbers_of rows.now) runners.old.items }
     requires frames_empty { frames.old.items ≡ [] }
@@ -127,32 +111,22 @@ pub(crate) fn take_out(
 }
 
 /// A module is put back.
-fn put_module(number: u32, instance: ModuleFrame, rest: Rest, runners: &mut Vec<Runner>)
+fn put_module(number: u32, instance: Instance, rest: Kept, runners: &mut Vec<Runner>)
     requires { number < length runners.old.items }
     ensures { runners.new.items
         ≡ slice_set runners.old.items number (Module (whole_of instance rest)) }
 {
-    let ModuleFrame { frame, ports } = instance;
-    let Rest {
-        block,
-        wires,
-        traced,
-    } = rest;
-    runners[number as usize] = Runner::Module(ModuleRunner {
-        block,
-        frame,
-        ports,
-        wires,
-        traced,
-    });
+    let Instance { boxed: instance } = instance;
+    let Kept { boxed: rest } = rest;
+    runners[number as usize] = Runner::Module(ModuleRunner { instance, rest });
 }
 
 /// The last module of the lists is put back.
 fn put_row(
     number: u32,
     runners: &mut Vec<Runner>,
-    frames: &mut Vec<ModuleFrame>,
-    rests: &mut Vec<Rest>,
+    frames: &mut Vec<Instance>,
+    rests: &mut Vec<Kept>,
 )
     requires number { number < length runners.old.items }
     requires frames_some { 0 < length frames.old.items }
@@ -181,8 +155,8 @@ fn put_row(
 pub(crate) fn put_back(
     rows: &[ModuleAttrs],
     runners: &mut Vec<Runner>,
-    frames: &mut Vec<ModuleFrame>,
-    rests: &mut Vec<Rest>,
+    frames: &mut Vec<Instance>,
+    rests: &mut Vec<Kept>,
 )
     requires inside { (i m : ℕ) → slice_get (numbers_of rows.now) i ≡ Some m
         → m < length runners.old.items }

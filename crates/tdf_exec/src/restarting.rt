@@ -25,14 +25,16 @@ use tdf_rings::carry;
 use tdf_schedule::Plan;
 
 /// The ports of a module are set back, and its reinitialize body runs.
-fn restart(checked: &Checked, instance: &mut ModuleRunner)
-    requires { AreMadeFor checked.now instance.old.block instance.old.frame instance.old.ports }
-    ensures { HasRestarted checked.now instance.old instance.new }
+fn restart(checked: &Checked, runner: &mut ModuleRunner)
+    requires { AreMadeFor checked.now runner.old.block runner.old.frame runner.old.ports }
+    ensures { HasRestarted checked.now runner.old runner.new }
 {
+    let block = runner.rest.block;
+    let instance = &mut *runner.instance;
     begin(&mut instance.ports);
     run_body(
         checked,
-        instance.block,
+        block,
         Body::Reinitialize,
         &mut instance.frame,
         &mut instance.ports,

@@ -30,12 +30,14 @@ use tdf_expr::Checked;
 use tdf_saved::{ClusterState, ModuleState, StateErr};
 
 /// The instance of a module gets these rates and values.
-fn restore(checked: &Checked, rates: &[u32], cells: &[i128], instance: &mut ModuleRunner)
-    requires is { IsInstance checked.now instance.old }
-    requires fit { FitInstance checked.now rates.now cells.now instance.old }
-    ensures { instance.new ≡ module_with_values rates.now cells.now instance.old }
+fn restore(checked: &Checked, rates: &[u32], cells: &[i128], runner: &mut ModuleRunner)
+    requires is { IsInstance checked.now runner.old }
+    requires fit { FitInstance checked.now rates.now cells.now runner.old }
+    ensures { runner.new ≡ module_with_values rates.now cells.now runner.old }
 {
-    set_values(checked, instance.block, &mut instance.frame, rates, cells);
+    let block = runner.rest.block;
+    let instance = &mut *runner.instance;
+    set_values(checked, block, &mut instance.frame, rates, cells);
 }
 
 /// An actor gets the rates of a row and the values of a state, if it is a module.

@@ -1,8 +1,8 @@
 //! What each actor needs to fire, and one firing.
 
 use std::marker::Model;
+use tdf_dynamic::ModuleFrame;
 use tdf_exec_firing::Wires;
-use tdf_expr::{Frame, Ports};
 
 /// A port that a body writes, whose signal is traced.
 #[derive(Clone, Copy, Debug, PartialEq, Eq)]
@@ -15,14 +15,20 @@ pub struct TracedPort {
     pub rate: u32,
 }
 
-/// A module: the number of its block, its values and ports, its edges, and its ports whose signals are traced.
+/// What a module has beside its values and ports: the number of its block, its edges, and its ports whose signals are traced.
 #[derive(Drop)]
-pub struct ModuleRunner {
+pub struct Rest {
     pub(crate) block: u32,
-    pub(crate) frame: Frame,
-    pub(crate) ports: Ports,
     pub(crate) wires: Wires,
     pub(crate) traced: Vec<TracedPort>,
+}
+
+/// A module: its values and ports, and the rest. Each is in a box, so that it moves as a pointer where the modules of a cluster
+/// are asked for changes.
+#[derive(Drop)]
+pub struct ModuleRunner {
+    pub(crate) instance: Box<ModuleFrame>,
+    pub(crate) rest: Box<Rest>,
 }
 
 impl Model for ModuleRunner {
@@ -31,11 +37,11 @@ impl Model for ModuleRunner {
     ghost Value = { ModuleOf };
 
     ghost view = { λ a. record {
-      block = a.block;
-      frame = a.frame;
-      ports = a.ports;
-      wires = a.wires;
-      traced = a.traced.items;
+      block = a.rest.value.block;
+      frame = a.instance.value.frame;
+      ports = a.instance.value.ports;
+      wires = a.rest.value.wires;
+      traced = a.rest.value.traced.items;
     } };
 }
 
@@ -81,7 +87,7 @@ ghost use Rattle.tdf_exec_firing.specs.Actors.{HasTaken};
 
 use tdf_convert::{Inputs, Outputs, Sent, Traced};
 use tdf_exec_firing::{Rates, WiredModule, fire_module, fire_sampler, fire_sink};
-use tdf_expr::Checked;
+use tdf_expr::{Checked, Ports};
 use tdf_rings::Ring;
 
 impl ModuleRunner {
@@ -98,13 +104,21 @@ impl ModuleRunner {
         ensures { HasFired checked.now reads.now.items writes.now.items rings.old.items
             rings.new.items self.old self.new }
     {
+        let rest = &*self.rest;
         let module = WiredModule {
             checked,
-            block: self.block,
-            wires: &self.wires,
+            block: rest.block,
+            wires: &rest.wires,
         };
         let rates = Rates { reads, writes };
-        fire_module(&module, &rates, rings, &mut self.frame, &mut self.ports);
+        let instance = &mut *self.instance;
+        fire_module(
+            &module,
+            &rates,
+            rings,
+            &mut instance.frame,
+            &mut instance.ports,
+        );
     }
 }
 
@@ -154,7 +168,8 @@ fn run_module(
         (flat_map (traced_port_samples module.new.ports) module.new.traced) }
 {
     module.fire(checked, reads, writes, rings);
-    trace_ports(&module.ports, &module.traced, outputs);
+    let rest = &*module.rest;
+    trace_ports(&module.instance.ports, &rest.traced, outputs);
 }
 
 /// One firing of a sink, which sends its sample.

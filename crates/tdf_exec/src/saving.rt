@@ -17,7 +17,7 @@ fn cells_at(alloc: Global, runners: &[Runner], actor: u32) -> Result<Vec<i128>, 
     ensures { IfOk result (λ cells. cells.items ≡ slice_index_or (map runner_cells runners.now) actor []) }
 {
     match runners.get(actor as usize) {
-        Some(Runner::Module(module)) => Ok(Vec::from_slice(alloc, module.frame.nums())?),
+        Some(Runner::Module(module)) => Ok(Vec::from_slice(alloc, module.instance.frame.nums())?),
         _ => Ok(Vec::new(alloc)),
     }
 }

@@ -71,7 +71,7 @@ fn given_by(runner: &Runner) -> Result<Room, Memory>
     match runner {
         Runner::Module(module) => Ok(Room {
             sent: 0,
-            traced: traced_by(&module.traced)?,
+            traced: traced_by(&module.rest.traced)?,
         }),
         Runner::Sampler(_) => Ok(Room { sent: 0, traced: 0 }),
         Runner::Sink(_) => Ok(Room { sent: 1, traced: 0 }),

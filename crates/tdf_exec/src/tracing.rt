@@ -178,7 +178,7 @@ fn give_traced(runner: &mut Runner, traced: Vec<TracedPort>)
     ensures { runner.new ≡ with_traced traced.items runner.old }
 {
     match runner {
-        Runner::Module(module) => module.traced = traced,
+        Runner::Module(module) => module.rest.traced = traced,
         Runner::Sampler(_) => drop(traced),
         Runner::Sink(_) => drop(traced),
         Runner::Outside => drop(traced),

@@ -1,8 +1,8 @@
 -- How change bodies run, module by module.
 -- Source: own.
-use Rattle.std.specs.Prelude.{◌≡◌, ◌+◌, ◌<◌, ◌≤◌, ◌^◌, ℕ, List, length, Some, ℤ, pos, slice_get}
+use Rattle.std.specs.Prelude.{◌≡◌, ◌+◌, ◌<◌, ◌≤◌, ◌^◌, ℕ, false, List, length, Some, ℤ, pos, slice_get}
 use Rattle.tdf_base.specs.Limits.{time_end}
-use Rattle.tdf_dynamic.specs.Asked.{AskedOf, asked, asked_in}
+use Rattle.tdf_dynamic.specs.Asked.{AskedOf, IsQuiet, asked, asked_in}
 use Rattle.tdf_dynamic.specs.declared.frames.ModuleFrame.{ModuleFrame}
 use Rattle.tdf_dynamic_plans.specs.Attributes.{AttrsOf}
 use Rattle.tdf_expr.specs.Checked.{IsCheckedOf}
@@ -13,7 +13,7 @@ use Rattle.tdf_exec_firing.specs.Wires.{WiresOf}
 use Rattle.tdf_bind.specs.declared.model.Flat.{Flat}
 use Rattle.tdf_expr_state.specs.State.{cell_at, state_of}
 use Rattle.tdf_streams.specs.Periods.{HasAllowedRates}
-use Rattle.tdf_streams.specs.Places.{block_at}
+use Rattle.tdf_streams.specs.Places.{block_at, has_changes}
 use Rattle.tdf_lang_tree.specs.Pure.{PureTree}
 
 -- the samples below a place are 0, and all but samples is as before
@@ -27,7 +27,7 @@ abbrev pub told : ModuleFrame → AskedOf
 told f = asked_in (state_of f.frame.state f.ports.state)
 
 -- an instance of which can be read what its body asked for; its rates were within their limits, and
--- are so again
+-- are so again; where it has no changes, it asks for nothing
 pub record CanTell (flat : Flat) (attrs : AttrsOf) (f : ModuleFrame) : Type 0 where
   pub is_module : attrs.number < length flat.tables.modules
   pub before : HasAllowedRates flat attrs
@@ -35,6 +35,7 @@ pub record CanTell (flat : Flat) (attrs : AttrsOf) (f : ModuleFrame) : Type 0 wh
   pub few : length f.ports.spans ≤ 2 ^ 31
   pub long : length f.ports.state.steps ≡ 1 + length f.ports.spans
   pub allowed : HasAllowedRates flat (record attrs { rates = f.frame.state.rates })
+  pub quiet : has_changes flat.tables.modules attrs.number ≡ false → IsQuiet attrs (told f)
 
 -- one for each row of a table
 pub record AllTell (flat : Flat) (table : List AttrsOf) (frames : List ModuleFrame)

@@ -8,6 +8,7 @@ use Rattle.tdf_dynamic.specs.declared.frames.ModuleFrame.{ModuleFrame}
 use Rattle.tdf_dynamic_plans.specs.Attributes.{AttrsOf}
 use Rattle.tdf_exec.specs.Crossing.{values_at}
 use Rattle.tdf_exec.specs.Runners.{ModuleOf}
+use Rattle.tdf_exec.specs.declared.runners.Rest.{Rest}
 use Rattle.tdf_exec.specs.declared.runners.Runner.{Runner}
 use Rattle.tdf_exec.specs.declared.runners.Runner.TheVariants as runner
 use Rattle.tdf_exec.specs.declared.runners.TracedPort.{TracedPort}
@@ -23,6 +24,9 @@ pub record RestOf : Type 0 where
   pub block : ℕ
   pub wires : WiresOf
   pub traced : List TracedPort
+
+abbrev pub kept_of : Rest → RestOf
+kept_of x = record { block = x.block; wires = x.wires; traced = x.traced.items }
 
 abbrev pub frame_of : ModuleOf → ModuleFrame
 frame_of x = record { frame = x.frame; ports = x.ports }
