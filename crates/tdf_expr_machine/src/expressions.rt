@@ -33,7 +33,7 @@ ghost use Rattle.tdf_expr_machine.specs.Nodes.{IsCastable, IsSafe, is_true, node
 ghost use Rattle.tdf_expr_state.specs.State.{state_of};
 ghost use Rattle.tdf_fixed.specs.Cast.{cast_of, fraction_of};
 
-use crate::narrow::{bits_of, part, part_holds};
+use crate::narrow::{bits_of, narrow_top, narrow_verdict};
 use crate::nodes::{Sight, eval_holds, eval_in, fitted_short};
 use crate::short::top_value;
 use tdf_fixed::Format;
@@ -59,7 +59,7 @@ impl Expression {
             (state_of at.now.cells.now at.now.signals.now) at.now.loops.now) frac }
     {
         if self.narrow {
-            return fitted_short(part(&self.node, at), frac, format);
+            return fitted_short(narrow_top(&self.node, at), frac, format);
         }
         let node = &self.node;
         eval_in(top_value(node, at), node, frac, format, at)
@@ -74,7 +74,7 @@ impl Expression {
             (state_of at.now.cells.now at.now.signals.now) at.now.loops.now) }
     {
         if self.narrow {
-            return part_holds(&self.node, at);
+            return narrow_verdict(&self.node, at);
         }
         eval_holds(&self.node, at)
     }

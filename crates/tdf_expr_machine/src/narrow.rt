@@ -167,7 +167,7 @@ fn lifted(node: &Node, bits: u32, at: &Sight) -> i64
 /// The value of a part of an expression: without a call where it has no parts.
 #[cycle(narrow)]
 #[inline(always)]
-pub(crate) fn part(node: &Node, at: &Sight) -> i64
+fn part(node: &Node, at: &Sight) -> i64
     requires safe { IsSafe node.now (state_of at.now.cells.now at.now.signals.now) at.now.loops.now }
     requires fits { StepsFit node.now (state_of at.now.cells.now at.now.signals.now) at.now.loops.now }
     ensures { result ≡ node_value node.now (state_of at.now.cells.now at.now.signals.now) at.now.loops.now }
@@ -175,7 +175,9 @@ pub(crate) fn part(node: &Node, at: &Sight) -> i64
     match node {
         Node::Const(num) => *num as i64,
         Node::Cell(place, _) => at.cells.cell(*place as usize) as i64,
+        Node::CellAt(spot, _) => at.cells.cell(place(*spot, at.loops)) as i64,
         Node::Sample(place, _) => at.signals.sample(*place as usize) as i64,
+        Node::SampleAt(spot, _) => at.signals.sample(place(*spot, at.loops)) as i64,
         _ => narrow_value(node, at),
     }
 }
@@ -183,7 +185,7 @@ pub(crate) fn part(node: &Node, at: &Sight) -> i64
 /// Whether a part of an expression holds.
 #[cycle(narrow)]
 #[inline(always)]
-pub(crate) fn part_holds(node: &Node, at: &Sight) -> bool
+fn part_holds(node: &Node, at: &Sight) -> bool
     requires safe { IsSafe node.now (state_of at.now.cells.now at.now.signals.now) at.now.loops.now }
     requires fits { StepsFit node.now (state_of at.now.cells.now at.now.signals.now) at.now.loops.now }
     ensures { result ≡ is_true (node_value node.now (state_of at.now.cells.now at.now.signals.now) at.now.loops.now) }
@@ -225,5 +227,36 @@ fn narrow_value(node: &Node, at: &Sight) -> i64
             }
         }
         Node::Cast(a, frac, format) => fitted_short(part(a, at), *frac, format) as i64,
+    }
+}
+
+/// As `part`: without a call where it is a sum or a difference, as most assigned values are.
+#[inline(always)]
+pub(crate) fn narrow_top(node: &Node, at: &Sight) -> i64
+    requires safe { IsSafe node.now (state_of at.now.cells.now at.now.signals.now) at.now.loops.now }
+    requires fits { StepsFit node.now (state_of at.now.cells.now at.now.signals.now) at.now.loops.now }
+    ensures { result ≡ node_value node.now (state_of at.now.cells.now at.now.signals.now) at.now.loops.now }
+{
+    match node {
+        Node::Sum(a, m, b, n) => lifted(a, *m, at) + lifted(b, *n, at),
+        Node::Difference(a, m, b, n) => lifted(a, *m, at) - lifted(b, *n, at),
+        _ => part(node, at),
+    }
+}
+
+/// Whether an expression holds: without a call where it compares two numbers, as most tests do.
+#[inline(always)]
+#[tactic(auto, using(crate::proofs::Powers::holds_truth))]
+pub(crate) fn narrow_verdict(node: &Node, at: &Sight) -> bool
+    requires safe { IsSafe node.now (state_of at.now.cells.now at.now.signals.now) at.now.loops.now }
+    requires fits { StepsFit node.now (state_of at.now.cells.now at.now.signals.now) at.now.loops.now }
+    ensures { result ≡ is_true (node_value node.now (state_of at.now.cells.now at.now.signals.now) at.now.loops.now) }
+{
+    match node {
+        Node::Compare(relation, a, m, b, n) => {
+            let first = lifted(a, *m, at);
+            relates(*relation, first, lifted(b, *n, at))
+        }
+        _ => part_holds(node, at),
     }
 }
