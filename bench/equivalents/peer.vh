@@ -1,0 +1,23 @@
+// What the sinks share. A sink writes the head line and then rows, each LATE nanoseconds behind the time that it says.
+integer shown = -1;
+reg [63:0] stop;
+
+// Has %t show the time of a row, count / 10^digits s, without needless zeros.
+task show_time(input integer count, input integer digits);
+    begin
+        while (digits > 0 && count % 10 == 0) begin
+            count = count / 10;
+            digits = digits - 1;
+        end
+        if (digits != shown)
+            $timeformat(0, digits, "", 0);
+        shown = digits;
+    end
+endtask
+
+initial begin
+    if (!$value$plusargs("stop=%d", stop))
+        $finish(0);
+    $write("%%time %0s\n", LABEL);
+    #(stop + LATE - 0.5) $finish(0);
+end
