@@ -102,7 +102,7 @@ SC_MODULE(Sink)
     void step()
     {
         if (sc_time_stamp() >= late)
-            write_row<6>((sc_time_stamp() - late).value() / 1'000'000, x->read());
+            write_row((sc_time_stamp() - late).value() / 1'000'000, 6, x->read());
     }
 };
 

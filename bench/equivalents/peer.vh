@@ -1,6 +1,11 @@
 // What the sinks share. A sink writes the head line and then rows, each LATE nanoseconds behind the time that it says.
+// With Verilator a function of run.cpp writes the rows, since $write would take most of a run.
 integer shown = -1;
 reg [63:0] stop;
+
+`ifdef VERILATOR
+import "DPI-C" function void put_row(input longint count, input int digits, input int value, input int bits);
+`endif
 
 // Has %t show the time of a row, count / 10^digits s, without needless zeros.
 task show_time(input integer count, input integer digits);

@@ -65,7 +65,7 @@ SC_MODULE(Sink)
         sensitive << x;
     }
 
-    void step() { write_row<9>(sc_time_stamp().value() / 1'000, x->read()); }
+    void step() { write_row(sc_time_stamp().value() / 1'000, 9, x->read()); }
 };
 
 int sc_main(int, char **words)

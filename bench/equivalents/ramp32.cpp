@@ -30,7 +30,7 @@ SC_MODULE(Sink)
         dont_initialize();
     }
 
-    void step() { write_row<6>(sc_time_stamp().value() / 1'000'000, x->read()); }
+    void step() { write_row(sc_time_stamp().value() / 1'000'000, 6, x->read()); }
 };
 
 int sc_main(int, char **words)
