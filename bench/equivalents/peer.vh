@@ -24,5 +24,6 @@ initial begin
     if (!$value$plusargs("stop=%d", stop))
         $finish(0);
     $write("%%time %0s\n", LABEL);
-    #(stop + LATE - 0.5) $finish(0);
+    // Of a delay that is a real number Verilator keeps 32 bits, so the long one is whole.
+    #(stop + LATE - 1) #0.5 $finish(0);
 end
