@@ -39,6 +39,7 @@ impl Progress {
 }
 
 impl Progress {
+    /// How often a module fires in a period.
     pub fn count_of(&self, module: usize) -> u64 {
         self.shares[module].count
     }
