@@ -1,8 +1,10 @@
 -- Ports that are gathered by module.
-use Rattle.std.proofs.Common.{◌≡◌, ◌∙◌, ℕ, ◌+◌, ◌<◌, ◌≤◌, List, [], ◌∷◌, ◌++◌, Some, length, set, take, refl, sym, ap, subst, arith, inl, inr, ◌⊎◌}
-use Rattle.std.proofs.lemmas.Bool.{cases_eq, eq-eqb, ne_eqb}
+use Rattle.std.proofs.Common.{◌≡◌, ◌∙◌, ℕ, ◌+◌, ◌-◌, ◌<◌, ◌≤◌, List, [], ◌∷◌, ◌++◌, Some, length, set, take, refl, sym, ap, subst, arith, inl, inr, ◌⊎◌, true, false, true≢false, nat_eq}
+use Rattle.std.proofs.Math.ListN.{get_or}
+use Rattle.std.proofs.Math.Seq.{get_or-append_right}
+use Rattle.std.proofs.lemmas.Bool.{cases_eq, cases_lt, eq-eqb, ne_eqb}
 use Rattle.std.proofs.lemmas.Grind.{get_or-set_at}
-use Rattle.std.proofs.lemmas.List.{append-nil, length-set, get_or-set_other}
+use Rattle.std.proofs.lemmas.List.{append-nil, length-append, length-set, get_or-set_other, get_or_append_left}
 use Rattle.std.proofs.lemmas.Option.{slice_get_read, slice_get_within, get_or_from_slice_get}
 use Rattle.std.specs.Global.{Global}
 use Rattle.std.specs.List.{cons_option}
@@ -23,7 +25,7 @@ module _ (tables : FlatTablesOf) (cluster n : ℕ) (port : PortRow) (found : sli
   within : n < length tables.ports
   within = slice_get_within tables.ports n port found
 
-  port_is : port ≡ _
+  port_is : port ≡ get_or tables.ports n port
   port_is = sym (get_or_from_slice_get tables.ports n port port found)
 
   next_other : (m : ℕ) (row : List ℕ) → (port.«module» ≡ m → ⊥) → row ≡ ports_of_module (take n tables.ports) m → row ≡ ports_of_module (take (n + 1) tables.ports) m
@@ -37,23 +39,24 @@ module _ (tables : FlatTablesOf) (cluster n : ℕ) (port : PortRow) (found : sli
       (next_is ∙ ap (λ l. row ++ l) (sym (number_own m n port same)))
 
   -- the port is of no module of the cluster
-  pub ports_kept : (rows : List (Vec ℕ Global)) → (length rows ≤ port.«module») ⊎ (slice_index (clusters_of tables) port.«module» ≡ cluster → ⊥)
+  pub ports_kept : (rows : List (Vec ℕ Global)) → (length rows ≤ port.«module») ⊎ (nat_eq (slice_index (clusters_of tables) port.«module») cluster ≡ false)
       → HaveOwnPorts tables cluster n rows → HaveOwnPorts tables cluster (n + 1) rows
   ports_kept rows away have = record {
     long = have.long;
     own = λ m row at inside. next_other m row.items (apart away m row at inside) (have.own m row at inside);
   }
     where
-      apart : (length rows ≤ port.«module») ⊎ (slice_index (clusters_of tables) port.«module» ≡ cluster → ⊥)
+      apart : (length rows ≤ port.«module») ⊎ (nat_eq (slice_index (clusters_of tables) port.«module») cluster ≡ false)
           → (m : ℕ) (row : Vec ℕ Global) → slice_get rows m ≡ Some row → slice_index (clusters_of tables) m ≡ cluster → port.«module» ≡ m → ⊥
       apart (inl far) m row at inside same = let low = slice_get_within rows m row at in omega (arith, far, low, same)
-      apart (inr other) m row at inside same = other (ap (slice_index (clusters_of tables)) same ∙ inside)
+      apart (inr other) m row at inside same =
+          true≢false (sym (eq-eqb (slice_index (clusters_of tables) port.«module») cluster (ap (slice_index (clusters_of tables)) same ∙ inside)) ∙ other)
 
   -- the row of its module gets its number
   pub ports_put : (rows : List (Vec ℕ Global)) (row next : Vec ℕ Global) → slice_get rows port.«module» ≡ Some row
-      → slice_index (clusters_of tables) port.«module» ≡ cluster → next.items ≡ row.items ++ n ∷ []
+      → next.items ≡ row.items ++ n ∷ []
       → HaveOwnPorts tables cluster n rows → HaveOwnPorts tables cluster (n + 1) (set rows port.«module» next)
-  ports_put rows row next at inside next_is have = record {
+  ports_put rows row next at next_is have = record {
     long = length-set rows port.«module» next ∙ have.long;
     own = λ m other there in_cluster. go m other there in_cluster (cases_eq m port.«module»);
   }
@@ -68,6 +71,21 @@ module _ (tables : FlatTablesOf) (cluster n : ℕ) (port : PortRow) (found : sli
           let low : m < length rows = subst (λ k. m < k) (length-set rows port.«module» next) (slice_get_within (set rows port.«module» next) m other there) in
           let was : slice_get rows m ≡ Some other = slice_get_read rows (length rows) m other refl low (sym (sym (get_or-set_other rows port.«module» m next other apart) ∙ get_or_from_slice_get (set rows port.«module» next) m other other there)) in
           next_other m other.items (λ e. apart (sym e)) (have.own m other was in_cluster)
+
+-- one row more without a number
+pub empty_more : (count : ℕ) (rows : List (Vec ℕ Global)) (row : Vec ℕ Global) → AreEmptyRows count rows → row.items ≡ [] → AreEmptyRows (count + 1) (rows ++ row ∷ [])
+empty_more count rows row empty none = record {
+  long = (let a = length-append rows (row ∷ []) in let l = empty.long in omega (arith, a, l));
+  each = λ m other at. go m other at (cases_lt m (length rows));
+}
+  where
+    go : (m : ℕ) (other : Vec ℕ Global) → slice_get (rows ++ row ∷ []) m ≡ Some other → (m < length rows) ⊎ (length rows ≤ m) → other.items ≡ []
+    go m other at (inl low) = empty.each m other (slice_get_read rows (length rows) m other refl low (sym (sym (get_or_append_left rows (row ∷ []) other m low) ∙ get_or_from_slice_get (rows ++ row ∷ []) m other other at)))
+    go m other at (inr high) =
+        let long : m < length (rows ++ row ∷ []) = slice_get_within (rows ++ row ∷ []) m other at in
+        let last : m - length rows ≡ 0 = (let a = length-append rows (row ∷ []) in omega (arith, a, long, high)) in
+        let is : other ≡ row = sym (get_or_from_slice_get (rows ++ row ∷ []) m other other at) ∙ get_or-append_right rows (row ∷ []) m other high ∙ ap (λ k. get_or (row ∷ []) k other) last in
+        ap (λ (v : Vec ℕ Global). v.items) is ∙ none
 
 -- no port was looked at
 pub ports_begin : (tables : FlatTablesOf) (cluster count : ℕ) (rows : List (Vec ℕ Global)) → count ≡ length tables.modules → AreEmptyRows count rows → HaveOwnPorts tables cluster 0 rows

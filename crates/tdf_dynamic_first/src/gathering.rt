@@ -1,6 +1,7 @@
 //! The ports of the modules of a cluster, by one look at each port.
 
-ghost use Rattle.std.specs.Prelude.{◌≡◌, ◌+◌, ◌<◌, ◌≤◌, IfOk, OnOk, length};
+ghost use Rattle.std.specs.Prelude.{◌≡◌, ◌+◌, ◌<◌, ◌≤◌, IfOk, OnOk, length, nat_eq, slice_index};
+ghost use Rattle.tdf_dynamic_plans.specs.Attributes.{clusters_of};
 ghost use Rattle.tdf_dynamic_first.specs.machine.Gathered.{AreEmptyRows, HaveOwnPorts};
 
 use std::alloc::Global;
@@ -8,6 +9,7 @@ use tdf_base::{Memory, row_number};
 use tdf_bind_tables::FlatTables;
 
 /// So many rows without a number.
+#[tactic(auto, using(crate::proofs::Gathers::empty_more))]
 fn empty_rows(alloc: Global, count: usize) -> Result<Vec<Vec<u32>>, Memory>
     ensures { IfOk result (λ rows. AreEmptyRows count rows.items) }
 {
@@ -16,6 +18,14 @@ fn empty_rows(alloc: Global, count: usize) -> Result<Vec<Vec<u32>>, Memory>
         rows.push(Vec::new(alloc))?;
     }
     Ok(rows)
+}
+
+/// Whether a module is in the cluster.
+fn is_in(tables: &FlatTables, cluster: u32, module: usize) -> bool
+    requires { «module» < length tables.now.actors }
+    ensures { result ≡ nat_eq (slice_index (clusters_of tables.now) «module») cluster }
+{
+    tables.actors[module].cluster == cluster
 }
 
 /// The number of a port goes to the row of its module, if that is in the cluster.
@@ -32,7 +42,10 @@ fn put_port(
 {
     let port = &tables.ports[number];
     let place = port.module as usize;
-    if rows.len() <= place || tables.actors[place].cluster != cluster {
+    if rows.len() <= place {
+        return Ok(());
+    }
+    if !is_in(tables, cluster, place) {
         return Ok(());
     }
     let number = row_number(number)?;
