@@ -1,9 +1,8 @@
 //! The next period with a new plan: what is made first, and how the modules begin again.
 
-ghost use Rattle.std.specs.Prelude.{◌≡◌, ℕ, IfOk, length, map, OnErr, OnOk, Some, slice_get, true};
+ghost use Rattle.std.specs.Prelude.{◌≡◌, ℕ, IfOk, length, OnErr, OnOk, Some, slice_get, true};
 ghost use Rattle.tdf_dynamic_plans.specs.Rates.{AreRates};
 ghost use Rattle.tdf_exec.specs.Crossing.{IsReadyFor};
-ghost use Rattle.tdf_exec_parts.specs.Rings.{room_for};
 ghost use Rattle.tdf_exec.specs.Starts.{IsSoundFlat};
 ghost use Rattle.tdf_exec.specs.declared.runners.Runner.{Runner as RunnerOf};
 ghost use Rattle.tdf_exec.specs.machine.Counted.{AreCounted};
@@ -19,7 +18,6 @@ use tdf_base::Memory;
 use tdf_bind::Flat;
 use tdf_dynamic::begin;
 use tdf_dynamic_plans::{Attrs, edge_rates};
-use tdf_exec_parts::room_for;
 use tdf_expr::{Body, Checked, run_body};
 use tdf_rings::carry;
 use tdf_schedule::Plan;
@@ -66,24 +64,12 @@ fn restart_all(checked: &Checked, runners: &mut Vec<Runner>)
     }
 }
 
-/// How many samples each ring has room for.
-fn rooms_of(alloc: Global, bounds: &[u32]) -> Result<Vec<u32>, Memory>
-    ensures { IfOk result (λ rooms. rooms.items ≡ map room_for bounds.now) }
-{
-    let mut rooms = Vec::new(alloc);
-    for e in 0..bounds.len() {
-        rooms.push(room_for(bounds[e]))?;
-    }
-    Ok(rooms)
-}
-
-/// What is made before anything is moved: rates in force and room by edge, and the traced ports by module.
+/// What is made before anything is moved: rates in force by edge, firings by actor, and the traced ports by module.
 #[derive(Drop)]
 struct NextParts {
     reads: Vec<u32>,
     writes: Vec<u32>,
     firings: Vec<u64>,
-    rooms: Vec<u32>,
     rows: Vec<TracedPorts>,
 }
 
@@ -92,19 +78,17 @@ fn next_parts(alloc: Global, flat: &Flat, attrs: &Attrs, plan: &Plan) -> Result<
     requires sound { IsSoundFlat flat.now }
     requires rates { AreRates flat.now.tables attrs.now.rows }
     ensures parts { IfOk result (λ p. AreNextParts flat.now attrs.now.rows
-        plan.now.bounds.items p.reads.items p.writes.items p.rooms.items p.rows.items) }
+        p.reads.items p.writes.items p.rows.items) }
     ensures counted { IfOk result (λ p. AreCounted plan.now.entries.items p.firings.items) }
 {
     law_laid();
     let rates = edge_rates(alloc, &flat.tables, &attrs.rows)?;
     let firings = plan_firings(alloc, flat, plan)?;
-    let rooms = rooms_of(alloc, &plan.bounds)?;
     let rows = traced_rows(alloc, flat, attrs)?;
     Ok(NextParts {
         reads: rates.reads,
         writes: rates.writes,
         firings,
-        rooms,
         rows,
     })
 }
@@ -137,7 +121,7 @@ impl Cluster {
                 return Err(failed);
             }
         };
-        if let Err(failed) = carry(alloc, &mut self.rings, &parts.rooms) {
+        if let Err(failed) = carry(alloc, &mut self.rings, &plan.bounds) {
             drop(parts);
             drop(attrs);
             drop(plan);

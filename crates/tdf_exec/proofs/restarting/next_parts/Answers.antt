@@ -11,6 +11,5 @@ returns-clause-parts c =
     record {
       reads_are = c.in_ok-rates.ensures.reads ∙ ap (λ (t : List AttrsOf). read_rates (net_of tables t)) rows;
       writes_are = c.in_ok-rates.ensures.writes ∙ ap (λ (t : List AttrsOf). write_rates (net_of tables t)) rows;
-      rooms_are = search rules;
       traced_are = c.in_ok-rows.ensures;
     }

@@ -1,6 +1,6 @@
 use Rattle.std.proofs.Common.{◌≡◌, ◌∙◌, None, arith, subst, sym, true}
 use Rattle.tdf_dynamic_plans.proofs.Api.{modules_few}
-use Rattle.tdf_exec.proofs.Installing.{can_restart, fit_in, has, some_rooms}
+use Rattle.tdf_exec.proofs.Installing.{can_restart, fit_in, has}
 use Rattle.tdf_exec.specs.Cluster.{ClusterOf, next_offset}
 use Rattle.tdf_exec.specs.Crossing.{IsReadyFor}
 use Rattle.tdf_exec.specs.contracts.cluster.Cluster.{the_view}
@@ -11,17 +11,12 @@ pub next_parts-requires-clause-rates : goal.next_parts-requires-clause-rates
 next_parts-requires-clause-rates c =
     are_rates c.args.flat.now (c.law_laid.ensures.laid c.args.flat.now c.requires.sound).limits c.args.attrs.rows c.requires.ready.attributes.allowed
 
-pub carry-requires-clause-some : goal.carry-requires-clause-some
-carry-requires-clause-some c = some_rooms c.args.plan.bounds.items c.deref.result.now
-    (c.deref.ensures.value ∙ c.in-Ok.ensures.parts.rooms_are)
-
-pub carry-requires-clause-fit : goal.carry-requires-clause-fit
-carry-requires-clause-fit c =
+pub carry-requires : goal.carry-requires
+carry-requires c =
     let ready : IsReadyFor c.args.flat.now (the_view c.self.inside) c.args.attrs c.args.plan =
     subst (λ (s : ClusterOf). IsReadyFor c.args.flat.now s c.args.attrs c.args.plan) (sym c.self.view_is) c.requires.ready in
     let end : next_offset (the_view c.self.inside) ≡ None = ready.of.over (subst (λ (s : ClusterOf). s.crossed ≡ true) (sym c.self.view_is) c.requires.crossed) in
     fit_in c.args.flat.now (the_view c.self.inside) c.args.attrs c.args.plan ready (c.law_laid.ensures.laid c.args.flat.now c.requires.sound) c.law_laid.ensures.present c.requires.sound end
-    c.deref.result.now (c.deref.ensures.value ∙ c.in-Ok.ensures.parts.rooms_are)
 
 pub give_all-requires : goal.give_all-requires
 give_all-requires c =
