@@ -44,6 +44,7 @@ use Rattle.tdf_exec_firing.specs.Wires.{AreWired}
 use Rattle.tdf_bind.specs.declared.model.Flat.{Flat}
 use Rattle.tdf_streams.proofs.Api.{get_inside, install_stands, none_some, some_same, are_active, table_record}
 use Rattle.tdf_graph.specs.declared.actors.Actor.TheVariants as actor
+use Rattle.tdf_graph.specs.declared.actors.Edge.{Edge}
 use Rattle.tdf_exec_layout.specs.Traced.{number_if_traced, traced_ports}
 use Rattle.tdf_exec_layout.specs.Wiring.{AreWiresOf}
 use Rattle.tdf_rings.specs.Carried.{FitIn, ring_at}
@@ -101,6 +102,15 @@ module _ (flat : Flat) (c : ClusterOf) (attrs : AttrsTable) (plan : Plan) (ready
       go : (m < length rows) ⊎ (length rows ≤ m) → CanRestart flat.checked r
       go (inl below) = subst (CanRestart flat.checked) (some_inj _ r (sym (are.done m old.0 below old.1) ∙ at)) (traced_can flat attrs.rows c m (slice_index_or rows m []) old.0 (ready.of.runners m old.0 old.1))
       go (inr past) = subst (CanRestart flat.checked) (some_inj old.0 r (sym (are.waiting m past ∙ old.1) ∙ at)) (plain_can flat attrs.rows c m old.0 (ready.of.runners m old.0 old.1))
+
+  -- there is a rate in force for each edge
+  pub reads_long : length c.reads ≡ length flat.tables.edges
+  unfolding net_of
+  reads_long = ap length ready.of.reads_are ∙ length-map (net_of flat.tables c.table).edges (λ (e : Edge). e.read_rate) ∙ length-map flat.tables.edges (rated_edge flat.tables.ports (net_ports flat.tables c.table))
+
+  pub writes_long : length c.writes ≡ length flat.tables.edges
+  unfolding net_of
+  writes_long = ap length ready.of.writes_are ∙ length-map (net_of flat.tables c.table).edges (λ (e : Edge). e.write_rate) ∙ length-map flat.tables.edges (rated_edge flat.tables.ports (net_ports flat.tables c.table))
 
   module _ (laid : IsLaid flat) (law : PlansArePresent) (sound : IsSoundFlat flat) (end : next_offset c ≡ None) where
     abbrev pub next_of : List RingOf → List Runner → ClusterOf

@@ -213,7 +213,7 @@ impl Cluster {
         ensures { (row : PortRowOf) → slice_get flat.now.tables.ports port ≡ Some row
             → result ≡ port_rate self.now.table row }
     {
-        self.attrs.port_rate(&flat.tables, port)
+        self.attrs.rate_of_port(&flat.tables, port)
     }
 
     /// The greatest numbers of samples of sinks and of traced samples that the entries of one offset give, by one look at

@@ -1,7 +1,7 @@
 use Rattle.std.proofs.Common.{◌∙◌, ◌++◌, ◌∷◌, [], ap, sym, take}
 use Rattle.tdf_dynamic.proofs.Steps.{steps_take}
 use Rattle.tdf_dynamic.specs.Asked.{steps_after}
-use Rattle.tdf_dynamic.proofs.tables.steps_after.Goals as goal
+use Rattle.tdf_dynamic.proofs.tables.put_steps.Goals as goal
 
 pub loop-place-preserved : goal.loop-place-preserved
 loop-place-preserved c =
