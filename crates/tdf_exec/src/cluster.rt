@@ -250,6 +250,7 @@ impl Cluster {
 
     /// Does all entries of this offset, in the order of the plan. `inputs` has the values of the samplers; `outputs` gains
     /// the samples of sinks and those of traced signals. It takes no memory and is never refused.
+    #[inline(never)]
     pub fn fire_at(&mut self, flat: &Flat, offset: u64, inputs: &Inputs, outputs: &mut Outputs)
         requires of { IsClusterOf flat.now self.old }
         requires next { next_offset self.old ≡ Some offset }
