@@ -2,6 +2,7 @@
 
 use crate::bodies::{Act, Asked, Bound};
 use crate::events::{Events, Process};
+use crate::notes::Notes;
 use crate::planning::{Edge, Progress};
 use crate::reading::{Block, Kind, Lines, Port};
 use crate::running::{Cluster, Engine, Flow, Inlet, Instance, Ring, Signal, Sink, Wire};
@@ -193,8 +194,19 @@ impl Lines<'_> {
         events
     }
 
+    fn notes(&self) -> Notes {
+        let mut names = vec![String::new(); self.instances.len()];
+        self.names.iter().for_each(|(name, number)| names[*number] = name.to_string());
+        let of_block = |ports: &HashMap<&str, usize>| {
+            let mut names = vec![String::new(); ports.len()];
+            ports.iter().for_each(|(name, number)| names[*number] = name.to_string());
+            names
+        };
+        Notes { names, ports: self.ports.iter().map(of_block).collect(), out: Vec::new() }
+    }
+
     pub fn engine(self) -> Engine {
-        let joined = self.joined();
+        let (joined, notes) = (self.joined(), self.notes());
         let clusters = joined.clusters(&self.blocks);
         let signal = |it: &(&str, i64)| Signal { value: it.1, waiting: None, wakes: Vec::new(), column: self.column_of(it.0) };
         let mut signals: Vec<Signal> = self.starts.iter().map(signal).collect();
@@ -203,6 +215,6 @@ impl Lines<'_> {
         let sheet = self.sheet();
         let Joined { instances, edges, rings, sinks } = joined;
         let flow = Flow { instances, rings, sinks, signals, written: Vec::new(), asked: Asked::default(), sheet };
-        Engine { blocks: self.blocks, flow, clusters, edges, progress, events }
+        Engine { blocks: self.blocks, flow, clusters, edges, progress, events, notes }
     }
 }

@@ -1,5 +1,5 @@
 //! An engine for the models of `bench/streams`, in plain Rust and without a proof: to be timed beside the proved program, with
-//! whose trace its own is compared. Bodies are trees that are walked, a node a call; numbers have 64 bits; a loop that copies a
+//! whose trace its own is compared. Its notes of plans have the lines of the program's, and bounds of its own order. Bodies are trees that are walked, a node a call; numbers have 64 bits; a loop that copies a
 //! row or sums one is done at once. It checks no text: what it can't read stops it.
 //!
 //!     rustc --edition 2021 -O bench/engine/main.rs -o bench/out/engine
@@ -14,6 +14,7 @@ mod bodies;
 mod events;
 mod expressions;
 mod joining;
+mod notes;
 mod numbers;
 mod planning;
 mod reading;

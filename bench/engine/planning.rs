@@ -38,6 +38,17 @@ impl Progress {
     }
 }
 
+impl Progress {
+    pub fn count_of(&self, module: usize) -> u64 {
+        self.shares[module].count
+    }
+
+    /// The most samples on an edge in a period.
+    pub fn most_on(&self, edge: usize) -> usize {
+        self.samples[edge].1
+    }
+}
+
 fn gcd(a: u64, b: u64) -> u64 {
     if b == 0 { a } else { gcd(b, a % b) }
 }
@@ -167,6 +178,7 @@ impl Engine {
         for &edge in &cluster.edges {
             self.flow.rings[self.edges[edge].ring].reserve(progress.samples[edge].1);
         }
+        self.notes.plan(number, &cluster, &progress, &self.flow, &self.blocks);
         (self.clusters[number], self.progress) = (cluster, progress);
     }
 

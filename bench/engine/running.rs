@@ -2,6 +2,7 @@
 
 use crate::bodies::{run, Act, Asked};
 use crate::events::Events;
+use crate::notes::Notes;
 use crate::numbers::{at, at_mut};
 use crate::planning::{Edge, Progress};
 use crate::reading::Block;
@@ -225,6 +226,12 @@ impl Instance {
         self.next += self.step;
     }
 
+    /// The ports of a module that read or write an event signal.
+    pub fn event_ports(&self) -> impl Iterator<Item = usize> + '_ {
+        let is_one = |port: &usize| self.signals[*port] != usize::MAX;
+        (0..self.signals.len()).filter(is_one)
+    }
+
     /// All its wires, each with the rate of its port.
     pub fn wires(&mut self) -> impl Iterator<Item = &mut Wire> {
         let reads = self.reads.iter_mut().map(|inlet| &mut inlet.wire);
@@ -240,6 +247,7 @@ pub struct Engine {
     pub edges: Vec<Edge>,
     pub progress: Progress,
     pub events: Events,
+    pub notes: Notes,
 }
 
 impl Engine {
@@ -322,5 +330,6 @@ impl Engine {
         self.announce(stop);
         self.flow.sheet.rows(stop, true);
         self.flow.sheet.flush(0);
+        self.notes.flush(0);
     }
 }

@@ -121,7 +121,7 @@ fn put_pair(digits: &mut Digits, place: usize, pair: u64) {
     *at_mut(digits, place + 1) = *at(PAIRS, 2 * pair as usize + 1);
 }
 
-fn push_digits(out: &mut Vec<u8>, number: u64) {
+pub fn push_digits(out: &mut Vec<u8>, number: u64) {
     if number < 10 {
         return out.push(b'0' + number as u8);
     }
@@ -131,7 +131,7 @@ fn push_digits(out: &mut Vec<u8>, number: u64) {
 }
 
 /// A time in seconds: twelve digits after the point, without zeros at the end.
-fn push_time(out: &mut Vec<u8>, time: u64) {
+pub fn push_time(out: &mut Vec<u8>, time: u64) {
     let (whole, mut rest) = (time / 1_000_000_000_000, time % 1_000_000_000_000);
     push_digits(out, whole);
     if rest == 0 {
