@@ -139,6 +139,7 @@ fn places(resolution: Resolution) -> u32
     }
 }
 
+/// Appends a time in seconds. After an error `out` may have a front part of it.
 #[inline(always)]
 #[tactic(auto, using(crate::proofs::Fractions::text_lemmas))]
 fn push_time_in(out: &mut Vec<u8>, time: u64, resolution: Resolution) -> Result<(), Memory>
@@ -151,6 +152,7 @@ fn push_time_in(out: &mut Vec<u8>, time: u64, resolution: Resolution) -> Result<
 }
 
 /// The same, for each resolution by itself: the counts of a second are then known where they divide.
+#[inline(always)]
 fn push_time(out: &mut Vec<u8>, time: u64, resolution: Resolution) -> Result<(), Memory>
     ensures ok { OnOk result (out.new.items ≡ out.old.items ++ seconds_text_at resolution time) }
     ensures kept { take (length out.old.items) out.new.items ≡ out.old.items }
@@ -166,6 +168,7 @@ fn push_time(out: &mut Vec<u8>, time: u64, resolution: Resolution) -> Result<(),
 ///
 /// # Errors
 /// Out of memory; `out` is then unchanged.
+#[inline(always)]
 pub fn push_seconds_at(out: &mut Vec<u8>, time: u64, resolution: Resolution) -> Result<(), Memory>
     ensures ok { OnOk result (out.new.items ≡ out.old.items ++ seconds_text_at resolution time) }
     ensures err { OnErr result (out.new.items ≡ out.old.items) }
