@@ -238,6 +238,6 @@ impl Cluster {
         ensures { AreSampled self.now.entries offset links.now.list.items values.now
             inputs.old inputs.new }
     {
-        sample_due(&self.plan, offset, links, values, inputs);
+        sample_due(&self.plan, self.place, offset, links, values, inputs);
     }
 }

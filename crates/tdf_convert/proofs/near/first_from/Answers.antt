@@ -2,7 +2,7 @@ use Rattle.std.proofs.Common.{ltb, rules}
 use Rattle.std.proofs.lemmas.List.Sorted.{IsPartitionPoint-from_clause, IsPartitionedBy-ltb}
 use Rattle.tdf_convert.proofs.Halves.{below, reached}
 use Rattle.tdf_schedule.specs.declared.entry.Entry.{Entry}
-use Rattle.tdf_convert.proofs.sampling.first_from.Goals as goal
+use Rattle.tdf_convert.proofs.near.first_from.Goals as goal
 
 pub returns-clause-before : goal.returns-clause-before
 returns-clause-before c =

@@ -2,7 +2,7 @@ use Rattle.std.proofs.Common.{leb, rules}
 use Rattle.std.proofs.lemmas.List.Sorted.{IsPartitionPoint-from_clause, IsPartitionedBy-leb}
 use Rattle.tdf_convert.proofs.Halves.{beyond, upto}
 use Rattle.tdf_schedule.specs.declared.entry.Entry.{Entry}
-use Rattle.tdf_convert.proofs.sampling.first_after.Goals as goal
+use Rattle.tdf_convert.proofs.near.first_after.Goals as goal
 
 pub returns-clause-upto : goal.returns-clause-upto
 returns-clause-upto c =
