@@ -23,6 +23,7 @@ pub use emitting::emit_due;
 pub use inputs::Inputs;
 pub use laws::law_by_offset;
 pub use links::{Link, Links};
+pub use near::{first_after, first_from};
 pub use outputs::{Outputs, Sent, Traced};
 pub use sampling::{sample_due, sample_nothing};
 pub use writes::{SignalWrite, Writes};

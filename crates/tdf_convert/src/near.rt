@@ -72,8 +72,8 @@ fn near_begin(entries: &[Entry], place: usize, offset: u64) -> Option<usize>
     None
 }
 
-/// The place of the first entry at this offset or after: the one that is given, or found by halving.
-pub(crate) fn first_from(entries: &[Entry], place: usize, offset: u64) -> usize
+/// The place of the first entry at this offset or after: the one that is given, or found by halving. It takes no memory.
+pub fn first_from(entries: &[Entry], place: usize, offset: u64) -> usize
     requires sorted { AreByOffset entries.now }
     ensures bound { result ≤ length entries.now }
     ensures before { (j : ℕ) (x : EntryOf) → j < result → slice_get entries.now j ≡ Some x
@@ -87,8 +87,8 @@ pub(crate) fn first_from(entries: &[Entry], place: usize, offset: u64) -> usize
     entries.partition_point(|entry| entry.offset < offset)
 }
 
-/// The place of the first entry after this offset: one of the few that follow a place, or found by halving.
-pub(crate) fn first_after(entries: &[Entry], place: usize, offset: u64) -> usize
+/// The place of the first entry after this offset: one of the few that follow a place, or found by halving. It takes no memory.
+pub fn first_after(entries: &[Entry], place: usize, offset: u64) -> usize
     requires sorted { AreByOffset entries.now }
     ensures bound { result ≤ length entries.now }
     ensures upto { (j : ℕ) (x : EntryOf) → j < result → slice_get entries.now j ≡ Some x

@@ -201,12 +201,8 @@ pub(crate) fn fire_runner(
         rings.new.items runner.old runner.new }
     ensures given { HasGiven actor rings.old.items runner.new outputs.old outputs.new }
 {
-    if let Runner::Module(module) = runner {
-        run_module(checked, reads, writes, module, rings, outputs);
-        return;
-    }
     match runner {
-        Runner::Module(_) => {}
+        Runner::Module(module) => run_module(checked, reads, writes, module, rings, outputs),
         Runner::Sampler(sampler) => {
             fire_sampler(inputs.value(sampler.place), &sampler.edges, rings)
         }
