@@ -1,40 +1,18 @@
 //! The samplers that are due get the values of their signals.
 
-ghost use Rattle.std.specs.Prelude.{◌≡◌, ℕ, ◌<◌, ◌≤◌, length, Some, slice_get};
+ghost use Rattle.std.specs.Prelude.{◌≡◌, ℕ, ◌<◌, ◌≤◌, List, length, Some, slice_get, true};
 ghost use Rattle.std.specs.List.{count_by};
 ghost use Rattle.tdf_convert.specs.Links.{AreLinks, AreRising, HaveSignals};
 ghost use Rattle.tdf_convert.specs.Sampled.{AreByOffset, AreSampled};
 ghost use Rattle.tdf_convert.specs.machine.Sampling.{AreSampledUpTo, sampled_by};
+ghost use Rattle.tdf_fixed.specs.declared.raw.Raw.{Raw as RawOf};
 ghost use Rattle.tdf_schedule.specs.declared.entry.Entry.{Entry as EntryOf};
 
 use crate::inputs::Inputs;
 use crate::links::{Link, Links, link_of};
+use crate::near::{first_after, first_from};
 use tdf_fixed::Raw;
 use tdf_schedule::{Entry, Plan};
-
-/// The place of the first entry at this offset or after, found by halving.
-fn first_from(entries: &[Entry], offset: u64) -> usize
-    requires sorted { AreByOffset entries.now }
-    ensures bound { result ≤ length entries.now }
-    ensures before { (j : ℕ) (x : EntryOf) → j < result → slice_get entries.now j ≡ Some x
-        → x.offset < offset }
-    ensures from { (j : ℕ) (x : EntryOf) → result ≤ j → slice_get entries.now j ≡ Some x
-        → offset ≤ x.offset }
-{
-    entries.partition_point(|entry| entry.offset < offset)
-}
-
-/// The place of the first entry after this offset, found by halving.
-fn first_after(entries: &[Entry], offset: u64) -> usize
-    requires sorted { AreByOffset entries.now }
-    ensures bound { result ≤ length entries.now }
-    ensures upto { (j : ℕ) (x : EntryOf) → j < result → slice_get entries.now j ≡ Some x
-        → x.offset ≤ offset }
-    ensures after { (j : ℕ) (x : EntryOf) → result ≤ j → slice_get entries.now j ≡ Some x
-        → offset < x.offset }
-{
-    entries.partition_point(|entry| entry.offset <= offset)
-}
 
 /// The value of an actor's signal goes to its place, where the actor is a sampler.
 fn sample_one(actor: u32, links: &[Link], values: &[Raw], inputs: &mut Inputs)
@@ -69,19 +47,36 @@ fn sample_all(
     }
 }
 
-/// Sets each sampler with an entry of this offset to its signal's value. It takes no memory and is never refused.
-pub fn sample_due(plan: &Plan, offset: u64, links: &Links, values: &[Raw], inputs: &mut Inputs)
+/// Whether these links have no sampler: then at no offset of any plan is anything sampled.
+#[inline(always)]
+pub fn sample_nothing(links: &Links) -> bool
+    ensures { result ≡ true → (entries : List EntryOf) (offset : ℕ) (values inputs : List RawOf)
+        → AreSampled entries offset links.now.list.items values inputs inputs }
+{
+    links.list.is_empty()
+}
+
+/// Sets each sampler with an entry of this offset to its signal's value; these entries are looked for at a place first. It takes
+/// no memory and is never refused.
+pub fn sample_due(
+    plan: &Plan,
+    place: usize,
+    offset: u64,
+    links: &Links,
+    values: &[Raw],
+    inputs: &mut Inputs,
+)
     requires sorted { AreByOffset plan.now.entries.items }
     requires links { AreLinks links.now.list.items (length inputs.old) }
     requires signals { HaveSignals links.now.list.items (length values.now) }
     ensures { AreSampled plan.now.entries.items offset links.now.list.items values.now
         inputs.old inputs.new }
 {
-    if links.list.is_empty() {
+    if sample_nothing(links) {
         return;
     }
-    let low = first_from(&plan.entries, offset);
-    let high = first_after(&plan.entries, offset);
+    let low = first_from(&plan.entries, place, offset);
+    let high = first_after(&plan.entries, place, offset);
     if low < high {
         sample_all(&plan.entries, low, high, &links.list, values, inputs);
     }

@@ -15,7 +15,7 @@ use Rattle.tdf_dynamic.specs.Change.{TimingOf, fault_of_row}
 use Rattle.tdf_dynamic.specs.Given.{IsPlanned}
 use Rattle.tdf_dynamic.specs.declared.frames.ModuleFrame.{ModuleFrame}
 use Rattle.tdf_dynamic.specs.machine.Judging.{InPlan, InRejected, InSteps, IsJudged, IsJudgedFault, IsRejection, IsUnrejected}
-use Rattle.tdf_dynamic.specs.machine.Rows.{HoldsBelow, IsFirstPlace, IsRefusing}
+use Rattle.tdf_dynamic.specs.machine.Rows.{HoldsBelow, IsFirstPlace, IsRefusing, TakeAll}
 use Rattle.tdf_dynamic_plans.proofs.Api.{fault_apart, plan_same, ports_are, true_at}
 use Rattle.tdf_streams.proofs.Api.{net_clusters, net_fit}
 use Rattle.tdf_dynamic_plans.specs.Attributes.{AttrsOf, IsOfCluster, clusters_of}
@@ -120,6 +120,27 @@ module _ (tables : FlatTablesOf) (cluster : ℕ) (table new : List AttrsOf) (fra
       refusal_weaker (IsRejection tables cluster table frames after.ports.items here.0.steps) (IsJudgedFault tables cluster table new frames)
       (change_refused tables cluster table new frames after after_is here.0.counts here.0.steps timing_known) e
       (subst (λ (s : Steps). IsRefusal (IsRejection tables cluster table frames after.ports.items s) e) same is)
+
+-- where no module can reject, none does
+pub none_rejects : (tables : FlatTablesOf) (cluster : ℕ) (table : List AttrsOf) (frames : List ModuleFrame) → IsPlanned tables cluster table → TakeAll table frames → (ports : List Port) (new : Steps)
+    → IsUnrejected tables cluster table frames ports new
+none_rejects tables cluster table frames planned takes ports new = record {
+  before = record { counts = planned.is.counts; steps = planned.is.steps; timing = planned.is.timing };
+  none = λ j x y below at there. takes j x y below at there (net_ports tables table) ports planned.is.steps new;
+}
+
+-- and the plan of a new table that is known at a place is its own
+pub open_judged : (tables : FlatTablesOf) (cluster : ℕ) (table new : List AttrsOf) (frames : List ModuleFrame) (known : PlansOf) (place : ℕ)
+    (here : IsKnownAt known.plans (table_key new) place) → AreTrueFor tables cluster known.plans → All (IsOfCluster tables cluster) new → IsPlanned tables cluster table → TakeAll table frames
+    → (plan : Plan) → HasSameItems here.0.plan plan → IsJudged tables cluster table new frames plan
+open_judged tables cluster table new frames known place here are own planned takes plan items =
+    let entry = true_at tables cluster known.plans place here.0 are here.1 in
+    let un = none_rejects tables cluster table frames planned takes (net_ports tables new) here.0.steps in
+    record {
+      times = record { before = un.before; after = record { counts = here.0.counts; steps = here.0.steps; timing = entry.timing new own (sym here.2) } };
+      none = un.none;
+      plan_is = plan_same (net_of tables new) here.0.counts here.0.steps here.0.steps refl here.0.plan plan refl items (entry.plan_is new own (sym here.2));
+    }
 
 pub steps_refused : (tables : FlatTablesOf) (cluster : ℕ) (table new : List AttrsOf) (frames : List ModuleFrame) (net : NetOf) → net ≡ net_of tables new → (e : ChangeErr)
     → IsRefusal (IsStepsFault tables net cluster new) e → IsRefusal (IsJudgedFault tables cluster table new frames) e

@@ -7,7 +7,7 @@ use Rattle.std.specs.Prelude.{slice_get, slice_index_or, slice_set}
 use Rattle.tdf_dynamic.specs.Asked.{attrs_after}
 use Rattle.tdf_dynamic.specs.declared.frames.ModuleFrame.{ModuleFrame}
 use Rattle.tdf_dynamic.specs.machine.Asking.{HasAsked, HaveAsked, told}
-use Rattle.tdf_dynamic.specs.machine.Rows.{AreAfter, HoldsBelow}
+use Rattle.tdf_dynamic.specs.machine.Rows.{AreWritten, HoldsBelow}
 use Rattle.tdf_dynamic_plans.specs.Attributes.{AttrsOf}
 use Rattle.tdf_bind.specs.declared.model.Flat.{Flat}
 use Rattle.tdf_streams.proofs.Api.{get_high, get_low}
@@ -74,20 +74,18 @@ asked_more flat table n old cur attrs f g before at inside f_at asks = record {
         (subst (λ (x : ModuleFrame). HasAsked flat a x.frame.state.cells g) start (subst (λ (x : AttrsOf). HasAsked flat x f.frame.state.cells g) one asks))
 
 -- one row more
-pub after_more : (table : List AttrsOf) (frames : List ModuleFrame) (n : ℕ) (after new : List AttrsOf) (attrs row : AttrsOf) (f : ModuleFrame) → AreAfter table frames n after
-    → slice_get table n ≡ Some attrs → slice_get frames n ≡ Some f → row ≡ attrs_after attrs (told f) → new ≡ after ++ row ∷ [] → AreAfter table frames (n + 1) new
-after_more table frames n after new attrs row f before at f_at is new_is = record {
-  long = ap length new_is ∙ length-append after (row ∷ []) ∙ ap (λ k. k + 1) before.long;
-  each = λ j a g below here there. ap (λ (l : List AttrsOf). slice_get l j) new_is ∙ go j a g below here there (cases_lt j n);
+pub after_more : (table : List AttrsOf) (frames : List ModuleFrame) (n : ℕ) (after : List AttrsOf) (attrs row : AttrsOf) (f : ModuleFrame) → AreWritten table frames n after
+    → n < length after → slice_get table n ≡ Some attrs → slice_get frames n ≡ Some f → row ≡ attrs_after attrs (told f) → AreWritten table frames (n + 1) (slice_set after n row)
+after_more table frames n after attrs row f before inside at f_at is = record {
+  long = length-set after n row ∙ before.long;
+  each = λ j a g below here there. go j a g below here there (cases_lt j n);
 }
   where
     go : (j : ℕ) (a : AttrsOf) (g : ModuleFrame) → j < n + 1 → slice_get table j ≡ Some a → slice_get frames j ≡ Some g → (j < n) ⊎ (n ≤ j)
-        → slice_get (after ++ row ∷ []) j ≡ Some (attrs_after a (told g))
-    go j a g below here there (inl less) = get_low after (row ∷ []) j (let l = before.long in omega (arith, l, less)) ∙ before.each j a g less here there
+        → slice_get (slice_set after n row) j ≡ Some (attrs_after a (told g))
+    go j a g below here there (inl less) = set_other after n j row (λ same. absurd (omega (arith, less, same))) ∙ before.each j a g less here there
     go j a g below here there (inr most) =
-        let l = before.long in
         let same : j ≡ n = omega (arith, below, most) in
-        let place : j - length after ≡ 0 = omega (arith, l, same) in
         let one : attrs ≡ a = same_Some attrs a (sym at ∙ ap (slice_get table) (sym same) ∙ here) in
         let other : f ≡ g = same_Some f g (sym f_at ∙ ap (slice_get frames) (sym same) ∙ there) in
-        get_high after (row ∷ []) j (omega (arith, l, most)) ∙ ap (slice_get (row ∷ [])) place ∙ ap Some (is ∙ ap (λ (x : AttrsOf). attrs_after x (told f)) one ∙ ap (λ (x : ModuleFrame). attrs_after a (told x)) other)
+        ap (slice_get (slice_set after n row)) same ∙ set_same after n row inside ∙ ap Some (is ∙ ap (λ (x : AttrsOf). attrs_after x (told f)) one ∙ ap (λ (x : ModuleFrame). attrs_after a (told x)) other)

@@ -22,7 +22,7 @@ ghost use Rattle.tdf_streams.specs.Periods.{AreAttributes};
 use crate::asking::run_changes;
 use crate::frames::{Frames, Instance};
 use crate::laws::law_one_answer;
-use crate::rejecting::first_rejecting;
+use crate::rejecting::{first_rejecting, take_all};
 use crate::tables::{first_marked, is_same, set_flags, table_after};
 use std::alloc::Global;
 use tdf_balance::law_counts;
@@ -60,8 +60,6 @@ fn module_fault(alloc: Global, flat: &Flat, why: Code, attrs: &ModuleAttrs) -> C
 #[derive(Clone, Copy)]
 struct Boundary<'a> {
     flat: &'a Flat,
-    /// The cluster of each actor.
-    clusters: &'a [u32],
     cluster: u32,
     /// The attributes in force.
     table: &'a [ModuleAttrs],
@@ -93,6 +91,27 @@ fn accepted(
     }
 }
 
+/// The counts and steps under a table, whose net is given.
+fn timing_of(
+    alloc: Global,
+    at: &Boundary,
+    net: &Net,
+    table: &[ModuleAttrs],
+) -> Result<Timing, ChangeErr>
+    requires wired { IsWired at.now.flat.now.tables }
+    requires has { Contains (clusters_of at.now.flat.now.tables) at.now.cluster }
+    requires table { All (IsOfCluster at.now.flat.now.tables at.now.cluster) table.now }
+    requires net { net_seen net.now ≡ net_of at.now.flat.now.tables table.now }
+    ensures timing { IfOk result (λ t. HasTiming at.now.flat.now.tables (net_seen net.now) at.now.cluster table.now t.counts.items t.steps) }
+    ensures refused { IfErr result (IsRefusal (IsStepsFault at.now.flat.now.tables (net_seen net.now) at.now.cluster table.now)) }
+{
+    let tables = &at.flat.tables;
+    let clusters = clusters_of(alloc, tables)?;
+    let found = steps_of(alloc, tables, net, &clusters, at.cluster, table);
+    drop(clusters);
+    found
+}
+
 /// The counts and steps under the attributes in force: those of the plan that is known, else found anew.
 fn old_timing(
     alloc: Global,
@@ -101,7 +120,6 @@ fn old_timing(
     known: &KnownPlans,
 ) -> Result<Timing, ChangeErr>
     requires wired { IsWired at.now.flat.now.tables }
-    requires own { at.now.clusters.now ≡ clusters_of at.now.flat.now.tables }
     requires has { Contains (clusters_of at.now.flat.now.tables) at.now.cluster }
     requires table { All (IsOfCluster at.now.flat.now.tables at.now.cluster) at.now.table.now }
     requires known { AreTrueFor at.now.flat.now.tables at.now.cluster known.now.plans }
@@ -111,14 +129,7 @@ fn old_timing(
 {
     match known.find(at.table) {
         Some(place) => Ok(known.timing(place).copy(alloc)?),
-        None => steps_of(
-            alloc,
-            &at.flat.tables,
-            before,
-            at.clusters,
-            at.cluster,
-            at.table,
-        ),
+        None => timing_of(alloc, at, before, at.table),
     }
 }
 
@@ -131,7 +142,6 @@ fn unrejected(
     known: &KnownPlans,
 ) -> Result<(), ChangeErr>
     requires wired { IsWired at.now.flat.now.tables }
-    requires own { at.now.clusters.now ≡ clusters_of at.now.flat.now.tables }
     requires has { Contains (clusters_of at.now.flat.now.tables) at.now.cluster }
     requires table { All (IsOfCluster at.now.flat.now.tables at.now.cluster) at.now.table.now }
     requires rates { AreRates at.now.flat.now.tables at.now.table.now }
@@ -142,6 +152,9 @@ fn unrejected(
     ensures refused { IfErr result (IsRefusal (IsRejection at.now.flat.now.tables at.now.cluster at.now.table.now at.now.frames.now after.now.ports.items new.now.steps)) }
 {
     law_counts();
+    if take_all(at.flat, at.table, at.frames) {
+        return Ok(());
+    }
     let before = net_of(alloc, &at.flat.tables, at.table)?;
     match old_timing(alloc, at, &before, known) {
         Ok(old) => accepted(alloc, at, &before, &old, after, new),
@@ -149,8 +162,8 @@ fn unrejected(
     }
 }
 
-/// The plan of a new table that is known at a place, if no module rejects it.
-fn judged_known(
+/// The plan of a new table that is known at a place and whose net is given, if no module rejects it.
+fn asked_known(
     alloc: Global,
     at: &Boundary,
     new: &[ModuleAttrs],
@@ -159,7 +172,6 @@ fn judged_known(
     place: usize,
 ) -> Result<Plan, ChangeErr>
     requires wired { IsWired at.now.flat.now.tables }
-    requires own { at.now.clusters.now ≡ clusters_of at.now.flat.now.tables }
     requires has { Contains (clusters_of at.now.flat.now.tables) at.now.cluster }
     requires table { All (IsOfCluster at.now.flat.now.tables at.now.cluster) at.now.table.now }
     requires rates { AreRates at.now.flat.now.tables at.now.table.now }
@@ -179,6 +191,37 @@ fn judged_known(
     }
 }
 
+/// The plan of a new table that is known at a place, if no module rejects it. No net is made where none can.
+fn judged_known(
+    alloc: Global,
+    at: &Boundary,
+    new: &[ModuleAttrs],
+    known: &KnownPlans,
+    place: usize,
+) -> Result<Plan, ChangeErr>
+    requires wired { IsWired at.now.flat.now.tables }
+    requires has { Contains (clusters_of at.now.flat.now.tables) at.now.cluster }
+    requires table { All (IsOfCluster at.now.flat.now.tables at.now.cluster) at.now.table.now }
+    requires rates { AreRates at.now.flat.now.tables at.now.table.now }
+    requires planned { IsPlanned at.now.flat.now.tables at.now.cluster at.now.table.now }
+    requires tells { AllTell at.now.flat.now at.now.table.now at.now.frames.now }
+    requires known { AreTrueFor at.now.flat.now.tables at.now.cluster known.now.plans }
+    requires new { All (IsOfCluster at.now.flat.now.tables at.now.cluster) new.now }
+    requires new_rates { AreRates at.now.flat.now.tables new.now }
+    requires here { IsKnownAt known.now.plans (table_key new.now) place }
+    ensures plan { IfOk result (IsJudged at.now.flat.now.tables at.now.cluster at.now.table.now new.now at.now.frames.now) }
+    ensures refused { IfErr result (IsRefusal (IsJudgedFault at.now.flat.now.tables at.now.cluster at.now.table.now new.now at.now.frames.now)) }
+    ensures planned { IfOk result (λ plan. HasTablePlanned at.now.flat.now.tables at.now.cluster new.now plan known.now known.now) }
+{
+    if take_all(at.flat, at.table, at.frames) {
+        return Ok(known.plan(alloc, place)?);
+    }
+    let after = net_of(alloc, &at.flat.tables, new)?;
+    let judged = asked_known(alloc, at, new, &after, known, place);
+    drop(after);
+    judged
+}
+
 /// The plan of a new table that is not known, if it has one and no module rejects it.
 fn judged_anew(
     alloc: Global,
@@ -188,7 +231,6 @@ fn judged_anew(
     known: &mut KnownPlans,
 ) -> Result<Plan, ChangeErr>
     requires wired { IsWired at.now.flat.now.tables }
-    requires own { at.now.clusters.now ≡ clusters_of at.now.flat.now.tables }
     requires has { Contains (clusters_of at.now.flat.now.tables) at.now.cluster }
     requires table { All (IsOfCluster at.now.flat.now.tables at.now.cluster) at.now.table.now }
     requires rates { AreRates at.now.flat.now.tables at.now.table.now }
@@ -202,13 +244,12 @@ fn judged_anew(
     ensures refused { IfErr result (IsRefusal (IsJudgedFault at.now.flat.now.tables at.now.cluster at.now.table.now new.now at.now.frames.now)) }
     ensures planned { IfOk result (λ plan. HasTablePlanned at.now.flat.now.tables at.now.cluster new.now plan known.old known.new) }
 {
-    let tables = &at.flat.tables;
-    let timing = match steps_of(alloc, tables, after, at.clusters, at.cluster, new) {
+    let timing = match timing_of(alloc, at, after, new) {
         Ok(timing) => timing,
         Err(refused) => return Err(refused),
     };
     match unrejected(alloc, at, after, &timing, known) {
-        Ok(()) => known.make(alloc, tables, after, new, timing),
+        Ok(()) => known.make(alloc, &at.flat.tables, after, new, timing),
         Err(refused) => {
             drop(timing);
             Err(refused)
@@ -224,7 +265,6 @@ fn judged(
     known: &mut KnownPlans,
 ) -> Result<Plan, ChangeErr>
     requires wired { IsWired at.now.flat.now.tables }
-    requires own { at.now.clusters.now ≡ clusters_of at.now.flat.now.tables }
     requires has { Contains (clusters_of at.now.flat.now.tables) at.now.cluster }
     requires table { All (IsOfCluster at.now.flat.now.tables at.now.cluster) at.now.table.now }
     requires rates { AreRates at.now.flat.now.tables at.now.table.now }
@@ -237,11 +277,13 @@ fn judged(
     ensures refused { IfErr result (IsRefusal (IsJudgedFault at.now.flat.now.tables at.now.cluster at.now.table.now new.now at.now.frames.now)) }
     ensures planned { IfOk result (λ plan. HasTablePlanned at.now.flat.now.tables at.now.cluster new.now plan known.old known.new) }
 {
-    let after = net_of(alloc, &at.flat.tables, new)?;
-    match known.find(new) {
-        Some(place) => judged_known(alloc, at, new, &after, known, place),
-        None => judged_anew(alloc, at, new, &after, known),
+    if let Some(place) = known.find(new) {
+        return judged_known(alloc, at, new, known, place);
     }
+    let after = net_of(alloc, &at.flat.tables, new)?;
+    let judged = judged_anew(alloc, at, new, &after, known);
+    drop(after);
+    judged
 }
 
 /// The new table with its plan, if it has one and no module rejects it.
@@ -252,6 +294,7 @@ fn with_table(
     table: &[ModuleAttrs],
     frames: &[Instance],
     known: &mut KnownPlans,
+    spare: Option<Vec<ModuleAttrs>>,
 ) -> Result<Next, ChangeErr>
     requires limits { AreWithinLimits flat.now }
     requires has { Contains (clusters_of flat.now.tables) cluster }
@@ -264,11 +307,9 @@ fn with_table(
     ensures refused { IfErr result (IsRefusal (IsTableRefused flat.now.tables cluster table.now frames.now)) }
     ensures carried { IfOk result (IsCarried flat.now.tables cluster known.old known.new) }
 {
-    let after = table_after(alloc, flat, table, frames)?;
-    let clusters = clusters_of(alloc, &flat.tables)?;
+    let after = table_after(alloc, flat, table, frames, spare)?;
     let at = Boundary {
         flat,
-        clusters: &clusters,
         cluster,
         table,
         frames,
@@ -287,6 +328,7 @@ fn changed(
     table: &[ModuleAttrs],
     frames: &[Instance],
     known: &mut KnownPlans,
+    spare: Option<Vec<ModuleAttrs>>,
 ) -> Result<Next, ChangeErr>
     requires limits { AreWithinLimits flat.now }
     requires has { Contains (clusters_of flat.now.tables) cluster }
@@ -301,8 +343,11 @@ fn changed(
     ensures carried { IfOk result (IsCarried flat.now.tables cluster known.old known.new) }
 {
     match first_marked(table, frames) {
-        None => with_table(alloc, flat, cluster, table, frames, known),
-        Some(place) => Err(module_fault(alloc, flat, Code::Range, &table[place])),
+        None => with_table(alloc, flat, cluster, table, frames, known, spare),
+        Some(place) => {
+            drop(spare);
+            Err(module_fault(alloc, flat, Code::Range, &table[place]))
+        }
     }
 }
 
@@ -343,6 +388,7 @@ pub fn next_plan(
         set_flags(&mut attrs.rows, &frames.modules);
         return Ok(Next::Same);
     }
+    let spare = attrs.spare.take();
     changed(
         alloc,
         flat,
@@ -350,5 +396,6 @@ pub fn next_plan(
         &attrs.rows,
         &frames.modules,
         &mut attrs.known,
+        spare,
     )
 }

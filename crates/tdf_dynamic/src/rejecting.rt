@@ -1,9 +1,9 @@
 //! Whether a module rejects steps that others cause.
 
-ghost use Rattle.std.specs.Prelude.{◌≡◌, ◌≤◌, ◌↔◌, All, IsTrue, Some, length};
+ghost use Rattle.std.specs.Prelude.{◌≡◌, ◌≤◌, ◌↔◌, All, IsTrue, Some, length, true};
 ghost use Rattle.tdf_dynamic.specs.Change.{HasSameSteps, step_of_module, step_at_port};
 ghost use Rattle.tdf_dynamic.specs.machine.Asking.{AllTell, CanTell};
-ghost use Rattle.tdf_dynamic.specs.machine.Rows.{IsFirst, IsRefusing};
+ghost use Rattle.tdf_dynamic.specs.machine.Rows.{IsFirst, IsRefusing, TakeAll, TakesAll};
 ghost use Rattle.tdf_timestep.specs.Period.{rate_at_port};
 
 use crate::frames::Instance;
@@ -98,6 +98,28 @@ fn rejects(
     !flag_after(attrs.accepts, &frame.ports)
         && is_unchanged(flat, attrs, frame)
         && !has_same_steps(attrs, before, old_steps, after, new_steps)
+}
+
+/// Whether a module is seen to reject no steps: its flag says so, or its own attributes are others.
+fn takes_all(flat: &Flat, attrs: &ModuleAttrs, instance: &Instance) -> bool
+    requires tells { CanTell flat.now attrs.now instance.now }
+    ensures { result ≡ true → TakesAll attrs.now instance.now }
+{
+    let frame = &*instance.boxed;
+    flag_after(attrs.accepts, &frame.ports) || !is_unchanged(flat, attrs, frame)
+}
+
+/// Whether all modules are: then no rates and steps need be compared.
+pub(crate) fn take_all(flat: &Flat, table: &[ModuleAttrs], frames: &[Instance]) -> bool
+    requires tells { AllTell flat.now table.now frames.now }
+    ensures { result ≡ true → TakeAll table.now frames.now }
+{
+    for i in 0..table.len() {
+        if !takes_all(flat, &table[i], &frames[i]) {
+            return false;
+        }
+    }
+    true
 }
 
 /// The place of the first module that rejects.

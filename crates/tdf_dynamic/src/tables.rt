@@ -1,6 +1,6 @@
 //! The table of attributes after the change bodies, and whether it differs.
 
-ghost use Rattle.std.specs.Prelude.{◌≡◌, ◌+◌, ◌<◌, ◌≤◌, ◌^◌, ◌↔◌, false, true, IfOk, IfSome, IsTrue, length, Some, None, slice_get, slice_index};
+ghost use Rattle.std.specs.Prelude.{◌≡◌, ◌+◌, ◌<◌, ◌≤◌, ◌^◌, ◌↔◌, false, true, IfOk, IfSome, IsTrue, OnOk, length, Some, None, slice_get, slice_index};
 ghost use Rattle.tdf_dynamic.specs.Asked.{HasSameRates, IsQuiet, attrs_after, said_or, steps_after};
 ghost use Rattle.tdf_dynamic.specs.machine.Asking.{AllTell, CanTell, told};
 ghost use Rattle.tdf_dynamic.specs.machine.Rows.{AreAfter, AreFlagged, HoldsBelow, IsFirst};
@@ -30,17 +30,17 @@ fn step_after(before: u64, ports: &Ports, place: usize) -> u64
     }
 }
 
-/// The timesteps of a module and its ports.
-fn steps_after(alloc: Global, before: &[u64], ports: &Ports) -> Result<Vec<u64>, Memory>
+/// Writes the timesteps of a module and its ports.
+fn put_steps(steps: &mut Vec<u64>, before: &[u64], ports: &Ports) -> Result<(), Memory>
     requires few { length ports.now.spans ≤ 2 ^ 31 }
     requires long { length ports.now.state.steps ≡ 1 + length ports.now.spans }
-    ensures { IfOk result (λ steps. steps.items ≡ steps_after before.now ports.now.state.steps) }
+    ensures { OnOk result (steps.new.items ≡ steps_after before.now ports.now.state.steps) }
 {
-    let mut steps = Vec::new(alloc);
+    steps.clear();
     for place in 0..before.len() {
         steps.push(step_after(before[place], ports, place))?;
     }
-    Ok(steps)
+    Ok(())
 }
 
 /// Whether all timesteps are those from before.
@@ -57,17 +57,17 @@ fn are_same_steps(before: &[u64], ports: &Ports) -> bool
     true
 }
 
-/// The values of the rate variables.
-fn rates_after(alloc: Global, frame: &Frame, count: u32) -> Result<Vec<u32>, Memory>
+/// Writes the values of the rate variables.
+fn put_rates(rates: &mut Vec<u32>, frame: &Frame, count: u32) -> Result<(), Memory>
     requires spans { count ≡ length frame.now.rates }
     requires values { count ≡ length frame.now.state.rates }
-    ensures { IfOk result (λ rates. rates.items ≡ frame.now.state.rates) }
+    ensures { OnOk result (rates.new.items ≡ frame.now.state.rates) }
 {
-    let mut rates = Vec::new(alloc);
+    rates.clear();
     for i in 0..count {
         rates.push(frame.rate(i))?;
     }
-    Ok(rates)
+    Ok(())
 }
 
 /// Whether all rates are those from before.
@@ -105,27 +105,32 @@ pub(crate) fn flag_after(before: bool, ports: &Ports) -> bool
     }
 }
 
-/// The attributes of a module after its change body.
-fn attrs_after(
-    alloc: Global,
+/// Writes the numbers of ports.
+fn put_ports(ports: &mut Vec<u32>, before: &[u32]) -> Result<(), Memory>
+    ensures { OnOk result (ports.new.items ≡ before.now) }
+{
+    ports.clear();
+    ports.extend_from_slice(before)?;
+    Ok(())
+}
+
+/// Writes the attributes of a module after its change body.
+fn put_after(
+    after: &mut ModuleAttrs,
     flat: &Flat,
     attrs: &ModuleAttrs,
     instance: &Instance,
-) -> Result<ModuleAttrs, Memory>
+) -> Result<(), Memory>
     requires tells { CanTell flat.now attrs.now instance.now }
-    ensures { IfOk result (λ after. after ≡ attrs_after attrs.now (told instance.now)) }
+    ensures { OnOk result (after.new ≡ attrs_after attrs.now (told instance.now)) }
 {
     let frame = &*instance.boxed;
-    let rates = rates_after(alloc, &frame.frame, rate_count(flat, attrs))?;
-    let steps = steps_after(alloc, &attrs.steps, &frame.ports)?;
-    let ports = Vec::from_slice(alloc, &attrs.ports)?;
-    Ok(ModuleAttrs {
-        number: attrs.number,
-        ports,
-        accepts: flag_after(attrs.accepts, &frame.ports),
-        rates,
-        steps,
-    })
+    put_rates(&mut after.rates, &frame.frame, rate_count(flat, attrs))?;
+    put_steps(&mut after.steps, &attrs.steps, &frame.ports)?;
+    put_ports(&mut after.ports, &attrs.ports)?;
+    after.number = attrs.number;
+    after.accepts = flag_after(attrs.accepts, &frame.ports);
+    Ok(())
 }
 
 /// Whether the rates and assigned timesteps of a module are those from before.
@@ -151,7 +156,36 @@ fn is_quiet(flat: &Flat, attrs: &ModuleAttrs, instance: &Instance) -> bool
     !frame.ports.out_of_range() && is_unchanged(flat, attrs, frame)
 }
 
-/// The table after the change bodies.
+/// A row that holds nothing yet. It takes no memory.
+fn blank(alloc: Global) -> ModuleAttrs
+    ensures { length result.ports ≡ 0 }
+{
+    ModuleAttrs {
+        number: 0,
+        ports: Vec::new(alloc),
+        accepts: false,
+        rates: Vec::new(alloc),
+        steps: Vec::new(alloc),
+    }
+}
+
+/// So many rows to write into: those that are left of an earlier table, where there are such.
+fn rows_for(
+    alloc: Global,
+    spare: Option<Vec<ModuleAttrs>>,
+    count: usize,
+) -> Result<Vec<ModuleAttrs>, Memory>
+    ensures { IfOk result (λ rows. length rows.items ≡ count) }
+{
+    let mut rows = spare.unwrap_or(Vec::new(alloc));
+    rows.truncate(count);
+    while rows.len() < count {
+        rows.push(blank(alloc))?;
+    }
+    Ok(rows)
+}
+
+/// The table after the change bodies, in the memory of a table that is left, where there is one.
 ///
 /// # Errors
 /// Out of memory.
@@ -160,13 +194,14 @@ pub(crate) fn table_after(
     flat: &Flat,
     table: &[ModuleAttrs],
     frames: &[Instance],
+    spare: Option<Vec<ModuleAttrs>>,
 ) -> Result<Vec<ModuleAttrs>, Memory>
     requires tells { AllTell flat.now table.now frames.now }
     ensures { IfOk result (λ after. AreAfter table.now frames.now (length table.now) after.items) }
 {
-    let mut after = Vec::new(alloc);
+    let mut after = rows_for(alloc, spare, table.len())?;
     for i in 0..table.len() {
-        after.push(attrs_after(alloc, flat, &table[i], &frames[i])?)?;
+        put_after(&mut after[i], flat, &table[i], &frames[i])?;
     }
     Ok(after)
 }

@@ -1,11 +1,13 @@
 //! The attributes of a cluster as the text says them, and its first plan or its first fault.
 //!
+//! - `gathering`: the ports of the modules of a cluster, by one look at each port.
 //! - `table`: the table of attributes as the text says it.
 //! - `first`: the plan as the text says it, or the first fault.
 //! - `laws`: what holds of faults and plans.
 #![tactic(auto)]
 
 mod first;
+mod gathering;
 mod laws;
 mod table;
 

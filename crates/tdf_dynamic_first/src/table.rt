@@ -1,12 +1,13 @@
 //! The table of attributes as the text says it.
 
 ghost use Rattle.std.specs.List.{cons_option};
-ghost use Rattle.std.specs.Prelude.{◌≡◌, ◌<◌, ◌≤◌, ◌++◌, ◌∷◌, [], All, IfOk, OnOk, length, map};
-ghost use Rattle.tdf_dynamic_plans.specs.Attributes.{number_if, ports_of_module};
+ghost use Rattle.std.specs.Prelude.{◌≡◌, ◌<◌, ◌≤◌, ◌++◌, ◌∷◌, [], All, IfOk, OnOk, length, map, slice_index};
+ghost use Rattle.tdf_dynamic_plans.specs.Attributes.{clusters_of, ports_of_module};
 ghost use Rattle.tdf_dynamic_first.specs.Text.{port_step, first_attrs, attrs_if, attrs_in, can_change, changes_at, first_table, none_known};
 ghost use Rattle.tdf_expr.specs.Checked.{IsChecked};
 ghost use Rattle.tdf_expr.specs.Made.{block_count, start_rates};
 
+use crate::gathering::ports_by_module;
 use std::alloc::Global;
 use tdf_base::{Memory, row_number};
 use tdf_bind::Flat;
@@ -21,7 +22,7 @@ fn rates_of(alloc: Global, frame: &Frame, count: u32) -> Result<Vec<u32>, Memory
     requires values { count ≡ length frame.now.state.rates }
     ensures { IfOk result (λ rates. rates.items ≡ frame.now.state.rates) }
 {
-    let mut rates = Vec::new(alloc);
+    let mut rates = Vec::with_capacity(alloc, count as usize)?;
     for i in 0..count {
         rates.push(frame.rate(i))?;
     }
@@ -40,39 +41,6 @@ fn start_rates(alloc: Global, checked: &Checked, block: u32) -> Result<Vec<u32>,
     rates
 }
 
-fn number_if(module: u32, number: usize, port: &PortRow) -> Result<Option<u32>, Memory>
-    ensures { IfOk result (λ found. found ≡ number_if «module» number port.now) }
-{
-    if port.module == module {
-        return Ok(Some(row_number(number)?));
-    }
-    Ok(None)
-}
-
-fn put_number(numbers: &mut Vec<u32>, number: Option<u32>) -> Result<(), Memory>
-    ensures { OnOk result (numbers.new.items ≡ numbers.old.items ++ cons_option number []) }
-{
-    match number {
-        None => Ok(()),
-        Some(number) => {
-            numbers.push(number)?;
-            Ok(())
-        }
-    }
-}
-
-/// The numbers of the ports of a module.
-fn ports_of(alloc: Global, ports: &[PortRow], module: u32) -> Result<Vec<u32>, Memory>
-    ensures { IfOk result (λ numbers. numbers.items ≡ ports_of_module ports.now «module») }
-{
-    let mut numbers = Vec::new(alloc);
-    for number in 0..ports.len() {
-        let found = number_if(module, number, &ports[number])?;
-        put_number(&mut numbers, found)?;
-    }
-    Ok(numbers)
-}
-
 fn port_step(ports: &[PortRow], number: u32) -> u64
     ensures { result ≡ port_step ports.now number }
 {
@@ -87,7 +55,7 @@ fn port_step(ports: &[PortRow], number: u32) -> u64
 fn steps_of(alloc: Global, own: u64, ports: &[PortRow], numbers: &[u32]) -> Result<Vec<u64>, Memory>
     ensures { IfOk result (λ steps. steps.items ≡ own ∷ map (port_step ports.now) numbers.now) }
 {
-    let mut steps = Vec::new(alloc);
+    let mut steps = Vec::with_capacity(alloc, numbers.len().saturating_add(1))?;
     steps.push(own)?;
     for i in 0..numbers.len() {
         steps.push(port_step(ports, numbers[i]))?;
@@ -95,18 +63,20 @@ fn steps_of(alloc: Global, own: u64, ports: &[PortRow], numbers: &[u32]) -> Resu
     Ok(steps)
 }
 
-/// The attributes of a module.
+/// The attributes of a module with these ports.
 fn first_attrs(
     alloc: Global,
     flat: &Flat,
     number: u32,
     row: &ModuleRow,
+    own: &[u32],
 ) -> Result<ModuleAttrs, Memory>
     requires checked { IsChecked flat.now.checked }
     requires block { row.now.block < block_count flat.now.checked }
+    requires own { own.now ≡ ports_of_module flat.now.tables.ports number }
     ensures { IfOk result (λ attrs. attrs ≡ first_attrs flat.now number row.now) }
 {
-    let ports = ports_of(alloc, &flat.tables.ports, number)?;
+    let ports = Vec::from_slice(alloc, own)?;
     let steps = steps_of(alloc, row.step, &flat.tables.ports, &ports)?;
     let rates = start_rates(alloc, &flat.checked, row.block)?;
     Ok(ModuleAttrs {
@@ -125,17 +95,20 @@ fn attrs_if(
     cluster: u32,
     number: usize,
     row: &ModuleRow,
+    own: &[u32],
 ) -> Result<Option<ModuleAttrs>, Memory>
     requires checked { IsChecked flat.now.checked }
     requires block { row.now.block < block_count flat.now.checked }
     requires actor { number < length flat.now.tables.actors }
+    requires own { slice_index (clusters_of flat.now.tables) number ≡ cluster
+        → own.now ≡ ports_of_module flat.now.tables.ports number }
     ensures { IfOk result (λ attrs. attrs ≡ attrs_if flat.now cluster number row.now) }
 {
     if flat.tables.actors[number].cluster != cluster {
         return Ok(None);
     }
     let number = row_number(number)?;
-    Ok(Some(first_attrs(alloc, flat, number, row)?))
+    Ok(Some(first_attrs(alloc, flat, number, row, own)?))
 }
 
 fn put_attrs(rows: &mut Vec<ModuleAttrs>, attrs: Option<ModuleAttrs>) -> Result<(), Memory>
@@ -150,21 +123,19 @@ fn put_attrs(rows: &mut Vec<ModuleAttrs>, attrs: Option<ModuleAttrs>) -> Result<
     }
 }
 
-/// The attributes of those of these modules, the first ones of the model, that are in the cluster.
-fn table_rows(
-    alloc: Global,
-    flat: &Flat,
-    cluster: u32,
-    modules: &[ModuleRow],
-) -> Result<Vec<ModuleAttrs>, Memory>
+/// The attributes of the modules that are in the cluster.
+fn table_rows(alloc: Global, flat: &Flat, cluster: u32) -> Result<Vec<ModuleAttrs>, Memory>
     requires checked { IsChecked flat.now.checked }
-    requires blocks { All (λ row. row.block < block_count flat.now.checked) modules.now }
-    requires actors { length modules.now ≤ length flat.now.tables.actors }
-    ensures { IfOk result (λ rows. rows.items ≡ attrs_in flat.now cluster modules.now) }
+    requires blocks { All (λ row. row.block < block_count flat.now.checked)
+        flat.now.tables.modules }
+    requires actors { length flat.now.tables.modules ≤ length flat.now.tables.actors }
+    ensures { IfOk result (λ rows. rows.items ≡ attrs_in flat.now cluster flat.now.tables.modules) }
 {
+    let ports = ports_by_module(alloc, &flat.tables, cluster)?;
     let mut rows = Vec::new(alloc);
-    for number in 0..modules.len() {
-        let attrs = attrs_if(alloc, flat, cluster, number, &modules[number])?;
+    for number in 0..flat.tables.modules.len() {
+        let row = &flat.tables.modules[number];
+        let attrs = attrs_if(alloc, flat, cluster, number, row, &ports[number])?;
         put_attrs(&mut rows, attrs)?;
     }
     Ok(rows)
@@ -197,7 +168,7 @@ pub fn first_table(alloc: Global, flat: &Flat, cluster: u32) -> Result<Attrs, Me
     ensures rows { IfOk result (λ attrs. attrs.rows ≡ first_table flat.now cluster) }
     ensures known { IfOk result (λ attrs. attrs.known ≡ none_known flat.now.tables attrs.rows) }
 {
-    let rows = table_rows(alloc, flat, cluster, &flat.tables.modules)?;
+    let rows = table_rows(alloc, flat, cluster)?;
     let changes = has_changes(&flat.tables, &rows);
     Ok(Attrs::new(rows, KnownPlans::new(alloc, changes)))
 }

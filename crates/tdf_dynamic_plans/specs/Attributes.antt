@@ -43,6 +43,11 @@ attrs_at [] number = None
 attrs_at (attrs ∷ table) number =
     if nat_eq attrs.number number then Some attrs else attrs_at table number
 
+-- each module has one row
+abbrev pub RowsStandOnce : List AttrsOf → Type 0
+RowsStandOnce table = (i j : ℕ) (one other : AttrsOf) → slice_get table i ≡ Some one
+    → slice_get table j ≡ Some other → one.number ≡ other.number → i ≡ j
+
 -- the values of the rate variables, the timesteps and the flag of the module at a place of a table
 abbrev pub rates_in : Option AttrsOf → List ℕ
 rates_in None = []

@@ -39,6 +39,8 @@ pub struct Attrs {
     pub rows: Vec<ModuleAttrs>,
     /// The plans of the cluster that were made last.
     pub known: KnownPlans,
+    /// The rows of an earlier table, whose memory the next one takes.
+    pub spare: Option<Vec<ModuleAttrs>>,
 }
 
 impl Model for Attrs {
@@ -57,7 +59,21 @@ impl Attrs {
     pub fn new(rows: Vec<ModuleAttrs>, known: KnownPlans) -> Attrs
         ensures table { result ≡ record { rows = rows.items; known = known } }
     {
-        Attrs { rows, known }
+        Attrs {
+            rows,
+            known,
+            spare: None,
+        }
+    }
+
+    /// Keeps the rows of a table that is left: the next one takes their memory.
+    pub fn recycle(&mut self, left: Attrs)
+        ensures same { self.new ≡ self.old }
+    {
+        let Attrs { rows, known, spare } = left;
+        drop(known);
+        drop(spare);
+        self.spare = Some(rows);
     }
 
     /// How often a plan was made for this cluster, the first one included; a number that is the greatest stays.

@@ -110,7 +110,7 @@ impl Key {
 fn table_key(alloc: Global, table: &[ModuleAttrs]) -> Result<Vec<Key>, Memory>
     ensures { IfOk result (λ key. key.items ≡ table_key table.now) }
 {
-    let mut key = Vec::new(alloc);
+    let mut key = Vec::with_capacity(alloc, table.len())?;
     for i in 0..table.len() {
         key.push(Key::new(alloc, &table[i])?)?;
     }

@@ -28,5 +28,5 @@ pub use err::ChangeErr;
 pub use faults::module_path;
 pub use known::KnownPlans;
 pub use plans::{clusters_of, table_plan};
-pub use rates::{EdgeRates, edge_rates, net_of};
+pub use rates::{EdgeRates, edge_rates, net_of, set_edge_rates};
 pub use timing::{Timing, steps_of};

@@ -24,7 +24,7 @@ use tdf_schedule::Plan;
 pub fn clusters_of(alloc: Global, tables: &FlatTables) -> Result<Vec<u32>, Memory>
     ensures numbers { IfOk result (λ numbers. numbers.items ≡ clusters_of tables.now) }
 {
-    let mut numbers = Vec::new(alloc);
+    let mut numbers = Vec::with_capacity(alloc, tables.actors.len())?;
     for i in 0..tables.actors.len() {
         numbers.push(tables.actors[i].cluster)?;
     }

@@ -10,11 +10,7 @@ use tdf_schedule::Entry;
 fn no_counts(alloc: Global, actors: usize) -> Result<Vec<u64>, Memory>
     ensures { IfOk result (λ counts. counts.items ≡ replicate actors 0) }
 {
-    let mut counts = Vec::new(alloc);
-    for made in 0..actors {
-        counts.push(0)?;
-    }
-    Ok(counts)
+    Ok(vec![in alloc; 0; actors]?)
 }
 
 /// One firing more of an actor; a number that is none of an actor's changes nothing.

@@ -49,6 +49,14 @@ module _ (times : List (Option ℕ)) where
       below : (k : ℕ) → 2 * k ≢ place → 2 * k + 1 ≢ place → earlier_of (notice_at times new (2 * k)) (notice_at times new (2 * k + 1)) ≡ earlier_of (notice_at times nodes (2 * k)) (notice_at times nodes (2 * k + 1))
       below k one other = λ i. earlier_of (other_node nodes place (2 * k) it one i) (other_node nodes place (2 * k + 1) it other i)
 
+  -- a node that has the earlier of those below it, where all others have
+  pub settled : (nodes : List (Option Pending)) (place : ℕ) → AreEarlierBut place times nodes
+      → slice_index_or nodes place None ≡ earlier_of (notice_at times nodes (2 * place)) (notice_at times nodes (2 * place + 1)) → AreEarlier times nodes
+  settled nodes place before is q low high apart = elim (cases_eq q place) [
+    | inl same ↦ subst (λ k. slice_index_or nodes k None ≡ earlier_of (notice_at times nodes (2 * k)) (notice_at times nodes (2 * k + 1))) (sym same) is
+    | inr other ↦ before q low high other
+  ]
+
 -- an event that got another time: all but the node above it have the earlier of those below them
 module _ (times : List (Option ℕ)) (nodes : List (Option Pending)) (event : ℕ) (x : Option ℕ) where
   abbrev new : List (Option ℕ)

@@ -34,7 +34,7 @@ impl Model for Calendar {
     } };
 }
 
-ghost use Rattle.std.specs.Prelude.{◌≡◌, ◌<◌, ◌+◌, ◌*◌, ◌/◌, ◌^◌, IfOk, None, Some, length, replicate, slice_set};
+ghost use Rattle.std.specs.Prelude.{◌≡◌, ◌<◌, ◌+◌, ◌*◌, ◌/◌, ◌^◌, IfOk, None, Some, length, replicate, slice_set, true};
 ghost use Rattle.tdf_events_queue.specs.Times.{IsNextPending, IsNextTime, earliest, pending_time};
 ghost use Rattle.tdf_events_queue.specs.machine.Calendar.{AreEarlier, AreEarlierBut, earlier_of, notice_at};
 
@@ -54,6 +54,19 @@ fn earlier(one: Option<Pending>, other: Option<Pending>) -> Option<Pending>
                 }
                 one
             }
+        },
+    }
+}
+
+/// Whether two are the same.
+fn are_same(one: Option<Pending>, other: Option<Pending>) -> bool
+    ensures { result ≡ true → one ≡ other }
+{
+    match one {
+        None => other.is_none(),
+        Some(first) => match other {
+            None => false,
+            Some(second) => first.time == second.time && first.event == second.event,
         },
     }
 }
@@ -78,7 +91,7 @@ fn notice(times: &Vec<Option<u64>>, nodes: &Vec<Option<Pending>>, place: usize) 
     }
 }
 
-/// The inner nodes above an event get the earlier of those below them.
+/// The inner nodes above an event get the earlier of those below them, up to one that has it.
 fn settle(times: &Vec<Option<u64>>, nodes: &mut Vec<Option<Pending>>, event: u32)
     requires many { length nodes.old.items ≡ length times.now.items }
     requires few { length times.now.items < 2 ^ 32 }
@@ -91,7 +104,11 @@ fn settle(times: &Vec<Option<u64>>, nodes: &mut Vec<Option<Pending>>, event: u32
     while 0 < place {
         let one = notice(times, nodes, 2 * place);
         let other = notice(times, nodes, 2 * place + 1);
-        nodes[place] = earlier(one, other);
+        let least = earlier(one, other);
+        if are_same(nodes[place], least) {
+            return;
+        }
+        nodes[place] = least;
         place /= 2;
     }
 }

@@ -1,54 +1,11 @@
 -- How many entries of a sorted plan have an offset.
-use Rattle.std.proofs.Common.{◌≡◌, ◌∙◌, ℕ, zero, suc, ◌+◌, ◌-◌, ◌<◌, ◌≤◌, Bool, true, false, List, [], ◌∷◌, Some, length, leb, ltb, length-drop, drop, get_or, nat_eq, refl, sym, ap, subst, arith}
+use Rattle.std.proofs.Common.{◌≡◌, ◌∙◌, ℕ, zero, suc, ◌+◌, ◌-◌, ◌<◌, ◌≤◌, Bool, true, false, List, [], ◌∷◌, Some, length, length-drop, drop, nat_eq, refl, sym, ap, arith}
 use Rattle.std.proofs.lemmas.Bool.{eq-eqb, ne_eqb}
-use Rattle.std.proofs.lemmas.Bool.Decides.{nat_tests}
 use Rattle.std.proofs.lemmas.List.Sums.{sum_by-cons}
-use Rattle.std.proofs.lemmas.Option.{get_or_from_slice_get, slice_get_within}
-use Rattle.std.specs.List.Sorted.{IsPartitionPoint}
 use Rattle.std.specs.List.{count_by}
 use Rattle.std.specs.Prelude.{cond, slice_get}
-use Rattle.tdf_convert.specs.Sampled.{AreByOffset}
 use Rattle.tdf_exec.specs.Cluster.{due_from}
 use Rattle.tdf_schedule.specs.declared.entry.Entry.{Entry}
-
--- what halving finds in a plan
-module _ (offset : ℕ) (entries : List Entry) (i : ℕ) where
-  passed : (p : Entry → Bool) → IsPartitionPoint (λ y. p y ≡ true) (λ y. p y ≡ false) entries i → (j : ℕ) (x : Entry) → j < i → slice_get entries j ≡ Some x → p x ≡ true
-  passed p point j x small at = subst (λ y. p y ≡ true) (get_or_from_slice_get entries j x x at) (point.0 j x (omega arith) small)
-
-  failed : (p : Entry → Bool) → IsPartitionPoint (λ y. p y ≡ true) (λ y. p y ≡ false) entries i → (j : ℕ) (x : Entry) → i ≤ j → slice_get entries j ≡ Some x → p x ≡ false
-  failed p point j x past at = subst (λ y. p y ≡ false) (get_or_from_slice_get entries j x x at) (point.1 j x past (slice_get_within entries j x at))
-
-  pub below : IsPartitionPoint (λ (y : Entry). ltb y.offset offset ≡ true) (λ (y : Entry). ltb y.offset offset ≡ false) entries i
-      → (j : ℕ) (x : Entry) → j < i → slice_get entries j ≡ Some x → x.offset < offset
-  below point j x small at = let h = passed (λ (y : Entry). ltb y.offset offset) point j x small at in grind (arith, nat_tests, h)
-
-  pub reached : IsPartitionPoint (λ (y : Entry). ltb y.offset offset ≡ true) (λ (y : Entry). ltb y.offset offset ≡ false) entries i
-      → (j : ℕ) (x : Entry) → i ≤ j → slice_get entries j ≡ Some x → offset ≤ x.offset
-  reached point j x past at = let h = failed (λ (y : Entry). ltb y.offset offset) point j x past at in grind (arith, nat_tests, h)
-
-  pub upto : IsPartitionPoint (λ (y : Entry). leb y.offset offset ≡ true) (λ (y : Entry). leb y.offset offset ≡ false) entries i
-      → (j : ℕ) (x : Entry) → j < i → slice_get entries j ≡ Some x → x.offset ≤ offset
-  upto point j x small at = let h = passed (λ (y : Entry). leb y.offset offset) point j x small at in grind (arith, nat_tests, h)
-
-  pub beyond : IsPartitionPoint (λ (y : Entry). leb y.offset offset ≡ true) (λ (y : Entry). leb y.offset offset ≡ false) entries i
-      → (j : ℕ) (x : Entry) → i ≤ j → slice_get entries j ≡ Some x → offset < x.offset
-  beyond point j x past at = let h = failed (λ (y : Entry). leb y.offset offset) point j x past at in grind (arith, nat_tests, h)
-
--- what goes by offset is below one where its last entry is, and not where its first is not
-pub all_below : (entries : List Entry) (place offset : ℕ) (d : Entry) → AreByOffset entries → 0 < place → place ≤ length entries → (get_or entries (place - 1) d).offset < offset
-    → (j : ℕ) (x : Entry) → j < place → slice_get entries j ≡ Some x → x.offset < offset
-all_below entries place offset d sorted some within last j x small at =
-    let most = sorted j (place - 1) d (omega (arith, small)) (omega (arith, some, within)) in
-    let here : (get_or entries j d).offset ≡ x.offset = ap (λ (y : Entry). y.offset) (get_or_from_slice_get entries j x d at) in
-    omega (arith, most, here, last)
-
-pub all_from : (entries : List Entry) (place offset : ℕ) (d : Entry) → AreByOffset entries → offset ≤ (get_or entries place d).offset
-    → (j : ℕ) (x : Entry) → place ≤ j → slice_get entries j ≡ Some x → offset ≤ x.offset
-all_from entries place offset d sorted first j x past at =
-    let least = sorted place j d past (slice_get_within entries j x at) in
-    let here : (get_or entries j d).offset ≡ x.offset = ap (λ (y : Entry). y.offset) (get_or_from_slice_get entries j x d at) in
-    omega (arith, least, here, first)
 
 -- those that pass are those from one place up to another
 count_range : {A : Type 0} (p : A → Bool) (xs : List A) (low high : ℕ) → high ≤ length xs

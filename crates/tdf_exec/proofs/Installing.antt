@@ -22,7 +22,6 @@ use Rattle.tdf_exec.proofs.Safe.{heads_hold, plans_safe}
 use Rattle.tdf_exec.specs.Cluster.{ClusterOf, next_offset}
 use Rattle.tdf_exec.specs.Crossing.{HasNewPlan, HoldHeads, IsKin, IsReadyFor, StandsAtNew, with_new_plan}
 use Rattle.tdf_exec.specs.Made.{AreHeld, IsClusterOf, IsInSpans, IsModuleOf, IsModuleWith, IsClusterPlanned, IsRunnerOf, IsRunnerWith, IsClusterSafe, IsSamplerOf, IsSinkOf, is_sampler_runner, sampler_runners_before}
-use Rattle.tdf_exec_parts.specs.Rings.{room_for}
 use Rattle.tdf_exec.specs.Played.{runner_cells, play_of, turns_from}
 use Rattle.tdf_exec.specs.Runners.{ModuleOf, SamplerOf}
 use Rattle.tdf_exec.specs.Starts.{IsSoundFlat}
@@ -45,6 +44,7 @@ use Rattle.tdf_exec_firing.specs.Wires.{AreWired}
 use Rattle.tdf_bind.specs.declared.model.Flat.{Flat}
 use Rattle.tdf_streams.proofs.Api.{get_inside, install_stands, none_some, some_same, are_active, table_record}
 use Rattle.tdf_graph.specs.declared.actors.Actor.TheVariants as actor
+use Rattle.tdf_graph.specs.declared.actors.Edge.{Edge}
 use Rattle.tdf_exec_layout.specs.Traced.{number_if_traced, traced_ports}
 use Rattle.tdf_exec_layout.specs.Wiring.{AreWiresOf}
 use Rattle.tdf_rings.specs.Carried.{FitIn, ring_at}
@@ -60,23 +60,6 @@ use Rattle.tdf_streams.specs.Periods.{PeriodInfo, read_rates, write_rates}
 use Rattle.tdf_streams.specs.Places.{actor_kind, block_at, reader_at, reader_of_row, writer_at, writer_of_row}
 use Rattle.tdf_streams.specs.Starts.{held_at_head}
 use Rattle.tdf_lang_tree.specs.Pure.{PureTree}
-
--- room for each bound
-pub room_index : (bounds : List ℕ) (e : ℕ) → e < length bounds → slice_index (map room_for bounds) e ≡ room_for (slice_index bounds e)
-room_index bounds e below =
-    let x = get_inside bounds e below in
-    index_at room_for bounds e x.0 x.1 ∙ ap room_for (sym (get_or_from_slice_get bounds e x.0 0 x.1))
-
-some_room : (bound : ℕ) → 1 ≤ room_for bound
-some_room zero = omega arith
-some_room (suc n) = omega arith
-
-pub some_rooms : (bounds rooms : List ℕ) → rooms ≡ map room_for bounds → All (λ bound. 1 ≤ bound) rooms
-some_rooms bounds rooms is = subst (λ (l : List ℕ). All (λ bound. 1 ≤ bound) l) (sym is) (λ k d inside.
-    let below : k < length bounds = (let l = length-map bounds room_for in omega (arith, inside, l)) in
-    let x = get_inside bounds k below in
-    let at = get_or_from_slice_get (map room_for bounds) k (room_for x.0) d (slice_get-map room_for bounds k ∙ ap (option_map room_for) x.1) in
-    subst (λ n. 1 ≤ n) (sym at) (some_room x.0))
 
 -- rings with the same samples
 same_lists : (xs ys : List RingOf) → length xs ≡ length ys → ((e : ℕ) → e < length ys → (ring_at xs e).samples ≡ (ring_at ys e).samples)
@@ -120,6 +103,15 @@ module _ (flat : Flat) (c : ClusterOf) (attrs : AttrsTable) (plan : Plan) (ready
       go (inl below) = subst (CanRestart flat.checked) (some_inj _ r (sym (are.done m old.0 below old.1) ∙ at)) (traced_can flat attrs.rows c m (slice_index_or rows m []) old.0 (ready.of.runners m old.0 old.1))
       go (inr past) = subst (CanRestart flat.checked) (some_inj old.0 r (sym (are.waiting m past ∙ old.1) ∙ at)) (plain_can flat attrs.rows c m old.0 (ready.of.runners m old.0 old.1))
 
+  -- there is a rate in force for each edge
+  pub reads_long : length c.reads ≡ length flat.tables.edges
+  unfolding net_of
+  reads_long = ap length ready.of.reads_are ∙ length-map (net_of flat.tables c.table).edges (λ (e : Edge). e.read_rate) ∙ length-map flat.tables.edges (rated_edge flat.tables.ports (net_ports flat.tables c.table))
+
+  pub writes_long : length c.writes ≡ length flat.tables.edges
+  unfolding net_of
+  writes_long = ap length ready.of.writes_are ∙ length-map (net_of flat.tables c.table).edges (λ (e : Edge). e.write_rate) ∙ length-map flat.tables.edges (rated_edge flat.tables.ports (net_ports flat.tables c.table))
+
   module _ (laid : IsLaid flat) (law : PlansArePresent) (sound : IsSoundFlat flat) (end : next_offset c ≡ None) where
     abbrev pub next_of : List RingOf → List Runner → ClusterOf
     next_of rings runners = with_new_plan c attrs plan (read_rates (net_of flat.tables attrs.rows)) (write_rates (net_of flat.tables attrs.rows)) rings runners
@@ -145,17 +137,16 @@ module _ (flat : Flat) (c : ClusterOf) (attrs : AttrsTable) (plan : Plan) (ready
     none_done m = refl
 
     -- what each edge holds fits its new bound
-    pub fit_in : (rooms : List ℕ) → rooms ≡ map room_for plan.bounds.items → FitIn rooms c.rings
-    fit_in rooms is = record {
-      same = ap length is ∙ length-map plan.bounds.items room_for ∙ bounds_long ∙ sym ready.of.held.same;
+    pub fit_in : FitIn plan.bounds.items c.rings
+    fit_in = record {
+      same = bounds_long ∙ sym ready.of.held.same;
       fits = λ e below.
           let within : e < length flat.tables.edges = subst (λ n. e < n) ready.of.held.same below in
           let h = held e within in
           let b = (safe c.rings c.runners).bounded 0 e (omega arith) within in
           let w = no_times (done plan.entries.items 0 (writer_at flat.tables.edges e)) (slice_index (write_rates (net_of flat.tables attrs.rows)) e) (none_done (writer_at flat.tables.edges e)) in
           let r = no_times (done plan.entries.items 0 (reader_at flat.tables.edges e)) (slice_index (read_rates (net_of flat.tables attrs.rows)) e) (none_done (reader_at flat.tables.edges e)) in
-          let i : slice_index rooms e ≡ room_for (slice_index plan.bounds.items e) = ap (λ (l : List ℕ). slice_index l e) is ∙ room_index plan.bounds.items e (subst (λ n. e < n) (sym bounds_long) within) in
-          omega (arith, h, b, w, r, i);
+          omega (arith, h, b, w, r);
     }
 
     module _ (d : ClusterOf) (re : HasReplaced flat c attrs plan d) where
@@ -164,10 +155,8 @@ module _ (flat : Flat) (c : ClusterOf) (attrs : AttrsTable) (plan : Plan) (ready
           ∙ ap (λ l. with_new_plan c attrs plan l d.writes d.rings d.runners) re.parts.reads_are
           ∙ ap (λ l. with_new_plan c attrs plan (read_rates (net_of flat.tables attrs.rows)) l d.rings d.runners) re.parts.writes_are
 
-      ring_is : (e : ℕ) → e < length flat.tables.edges → ring_at d.rings e ≡ ring_of (ring_at c.rings e).samples (room_for (slice_index plan.bounds.items e))
-      ring_is e within =
-          re.carried.moved e (subst (λ n. e < n) (sym ready.of.held.same) within)
-          ∙ ap (ring_of (ring_at c.rings e).samples) (ap (λ (l : List ℕ). slice_index l e) re.parts.rooms_are ∙ room_index plan.bounds.items e (subst (λ n. e < n) (sym bounds_long) within))
+      ring_is : (e : ℕ) → e < length flat.tables.edges → ring_at d.rings e ≡ ring_of (ring_at c.rings e).samples (slice_index plan.bounds.items e)
+      ring_is e within = re.carried.moved e (subst (λ n. e < n) (sym ready.of.held.same) within)
 
       rows_long : length re.rows ≡ length flat.tables.modules
       rows_long = re.parts.traced_are.long

@@ -16,7 +16,6 @@ use Rattle.tdf_dynamic_plans.specs.Rates.{net_of, net_ports, rated_edge}
 use Rattle.tdf_dynamic_first.specs.declared.first.First.{First}
 use Rattle.tdf_exec.specs.Cluster.{ClusterOf}
 use Rattle.tdf_exec.specs.Made.{AreHeld, IsClusterSafe}
-use Rattle.tdf_exec_parts.specs.Rings.{room_for}
 use Rattle.tdf_exec_layout.specs.Samples.{edge_format}
 use Rattle.tdf_exec.specs.Starts.{IsSoundFlat}
 use Rattle.tdf_exec.specs.declared.runners.Runner.{Runner}
@@ -76,10 +75,6 @@ none_before p (x ∷ xs) (suc i) none =
     let h : cond {A = ℕ} (p x) 1 0 ≡ 0 = ap (λ (b : Bool). cond {A = ℕ} b 1 0) (none 0 x refl) in
     omega (arith, s, r, h)
 
-room_most : (n : ℕ) → n ≤ room_for n
-room_most zero = omega arith
-room_most (suc n) = omega arith
-
 pub no_times : (n k : ℕ) → n ≡ 0 → n * k ≡ 0
 no_times n k none = rw none (omega arith)
 
@@ -136,15 +131,15 @@ module _ (flat : Flat) (cluster : ℕ) (first : First) (sound : IsSoundFlat flat
 
   bounded : (i e : ℕ) → i ≤ length entries → e < length flat.tables.edges
       → held_at_head flat.tables cluster e + done entries i (writer_at flat.tables.edges e) * slice_index (write_rates (net_of flat.tables first.attrs.rows)) e
-      ≤ room_for (slice_index bounds e) + done entries i (reader_at flat.tables.edges e) * slice_index (read_rates (net_of flat.tables first.attrs.rows)) e
+      ≤ slice_index bounds e + done entries i (reader_at flat.tables.edges e) * slice_index (read_rates (net_of flat.tables first.attrs.rows)) e
   bounded i e below within = go (cases_eq (slice_index (clusters_of flat.tables) (writer_at flat.tables.edges e)) cluster)
     where
       go : (slice_index (clusters_of flat.tables) (writer_at flat.tables.edges e) ≡ cluster) ⊎ (slice_index (clusters_of flat.tables) (writer_at flat.tables.edges e) ≢ cluster)
           → held_at_head flat.tables cluster e + done entries i (writer_at flat.tables.edges e) * slice_index (write_rates (net_of flat.tables first.attrs.rows)) e
-          ≤ room_for (slice_index bounds e) + done entries i (reader_at flat.tables.edges e) * slice_index (read_rates (net_of flat.tables first.attrs.rows)) e
+          ≤ slice_index bounds e + done entries i (reader_at flat.tables.edges e) * slice_index (read_rates (net_of flat.tables first.attrs.rows)) e
       go (inl here) =
           let b = bound_at flat cluster laid.limits period timed pace first.plan has.plan_is i below e within here in
-          let r = room_most (slice_index bounds e) in omega (arith, b, r)
+          omega (arith, b)
       go (inr apart) =
           let h : held_at_head flat.tables cluster e ≡ 0 = ap (λ b. if b then initial_of_row (slice_get flat.tables.edges e) else 0)
           (ne_eqb (slice_index (clusters_of flat.tables) (writer_at flat.tables.edges e)) cluster apart) in

@@ -11,7 +11,6 @@ use Rattle.tdf_dynamic_plans.specs.Rates.{net_of}
 use Rattle.tdf_exec.specs.Cluster.{ClusterOf}
 use Rattle.tdf_exec.specs.Laws.{HeadsHold, PlansAreSafe}
 use Rattle.tdf_exec.specs.Made.{IsClusterSafe}
-use Rattle.tdf_exec_parts.specs.Rings.{room_for}
 use Rattle.tdf_bind.specs.declared.model.Flat.{Flat}
 use Rattle.tdf_bind_invariants.specs.Limits.{AreWithinLimits}
 use Rattle.tdf_schedule.specs.Laws.{PlansArePresent}
@@ -46,10 +45,6 @@ done_none : (entries : List Entry) (i m : ℕ) → ((j : ℕ) (x : Entry) → sl
 unfolding done
 done_none entries i m none = count_none (λ (x : Entry). nat_eq x.actor m) (take i entries) (λ j x at. ne_eqb _ _ (none j x (get_take i entries j x at)))
 
-room_enough : (bound : ℕ) → bound ≤ room_for bound
-room_enough zero = omega arith
-room_enough (suc n) = omega arith
-
 module _ (law : PlansArePresent) (flat : Flat) (limits : AreWithinLimits flat) (number : ℕ) (table : List AttrsOf) (attributes : AreAttributes flat number table) (plan : Plan)
     (has : HasRecord flat number table plan true) where
   abbrev p : PeriodRecord
@@ -82,12 +77,11 @@ module _ (law : PlansArePresent) (flat : Flat) (limits : AreWithinLimits flat) (
 
   bounded : (i e : ℕ) → i ≤ length entries → e < length flat.tables.edges
       → held_at_head flat.tables number e + done entries i (writer_at flat.tables.edges e) * slice_index p.writes e
-      ≤ room_for (slice_index plan.bounds.items e) + done entries i (reader_at flat.tables.edges e) * slice_index p.reads e
+      ≤ slice_index plan.bounds.items e + done entries i (reader_at flat.tables.edges e) * slice_index p.reads e
   bounded i e below within = elim (cases_eq (slice_index (clusters_of flat.tables) (writer_at flat.tables.edges e)) number) [
     | inl own ↦ (
         let b = bound_at flat number limits p timed (pace_in (net_of flat.tables table) has.steps) plan has.plan_is i below e within own in
-        let r = room_enough (slice_index plan.bounds.items e) in
-        omega (arith, b, r))
+        omega (arith, b))
     | inr away ↦ (
         let h : held_at_head flat.tables number e ≡ 0 = ap (λ (b : Bool). if b then initial_of_row (slice_get flat.tables.edges e) else 0) (ne_eqb _ _ away) in
         let d : done entries i (writer_at flat.tables.edges e) * slice_index p.writes e ≡ 0 * slice_index p.writes e = ap (λ n. n * slice_index p.writes e) (never_read e i (writer_at flat.tables.edges e) away) in

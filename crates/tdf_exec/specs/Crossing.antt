@@ -10,7 +10,6 @@ use Rattle.tdf_dynamic_plans.specs.Faults.{IsTablePlan}
 use Rattle.tdf_dynamic_plans.specs.Known.{AreTrueFor, AttrsTable}
 use Rattle.tdf_exec.specs.Cluster.{ClusterOf}
 use Rattle.tdf_exec.specs.Made.{HasRows, IsClusterOf, IsClusterWith}
-use Rattle.tdf_exec_parts.specs.Rings.{room_for}
 use Rattle.tdf_exec.specs.Played.{IsLike, IsPeriodOf, runner_cells, play_of}
 use Rattle.tdf_exec.specs.Runners.{ModuleOf}
 use Rattle.tdf_exec.specs.declared.runners.Runner.{Runner}
@@ -131,7 +130,7 @@ pub record HasNewPlan (c : ClusterOf) (attrs : AttrsTable) (plan : Plan) (d : Cl
   pub rest : d ≡ with_new_plan c attrs plan d.reads d.writes d.rings d.runners
   pub same : length d.rings ≡ length c.rings
   pub lists : (e : ℕ) → e < length c.rings → ring_at d.rings e
-      ≡ ring_of (ring_at c.rings e).samples (room_for (slice_index plan.bounds.items e))
+      ≡ ring_of (ring_at c.rings e).samples (slice_index plan.bounds.items e)
   pub as_many : length d.runners ≡ length c.runners
   pub runners : (m : ℕ) (r : Runner) → slice_get c.runners m ≡ Some r
       → (s : Runner) × (slice_get d.runners m ≡ Some s) × IsKin r s

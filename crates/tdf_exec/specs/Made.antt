@@ -12,7 +12,6 @@ use Rattle.tdf_exec.specs.Cluster.{ClusterOf, next_offset}
 use Rattle.tdf_exec.specs.Runners.{ModuleOf, SamplerOf}
 use Rattle.tdf_exec.specs.Traced.{traced_port}
 use Rattle.tdf_exec_layout.specs.Traced.{traced_ports}
-use Rattle.tdf_exec_parts.specs.Rings.{room_for}
 use Rattle.tdf_exec.specs.declared.runners.Runner.{Runner}
 use Rattle.tdf_exec.specs.declared.runners.Runner.TheVariants as runner
 use Rattle.tdf_exec.specs.declared.runners.TracedPort.{TracedPort}
@@ -149,7 +148,7 @@ pub record IsClusterSafe (tables : FlatTablesOf) (c : ClusterOf) : Type 0 where
   pub bounded : (i e : ℕ) → i ≤ length c.entries → e < length tables.edges
       → held_at_head tables c.number e
       + done c.entries i (writer_at tables.edges e) * slice_index c.writes e
-      ≤ room_for (slice_index c.bounds e)
+      ≤ slice_index c.bounds e
       + done c.entries i (reader_at tables.edges e) * slice_index c.reads e
 
 -- each edge holds what was written and not read, in its format, and has room for its bound
@@ -161,7 +160,7 @@ pub record AreHeld (tables : FlatTablesOf) (c : ClusterOf) : Type 0 where
       ≡ held_at_head tables c.number e
       + done c.entries c.place (writer_at tables.edges e) * slice_index c.writes e
   pub room : (e : ℕ) → e < length tables.edges
-      → (ring_at c.rings e).capacity ≡ room_for (slice_index c.bounds e)
+      → (ring_at c.rings e).capacity ≡ slice_index c.bounds e
   pub formats : (e : ℕ) (f : Format) → e < length tables.edges → edge_format tables e ≡ Some f
       → All (IsOfFormat f) (ring_at c.rings e).samples
 

@@ -1,13 +1,13 @@
 //! The next period with a new plan: what is made first, and how the modules begin again.
 
-ghost use Rattle.std.specs.Prelude.{◌≡◌, ℕ, IfOk, length, map, OnErr, OnOk, Some, slice_get, true};
+ghost use Rattle.std.specs.Prelude.{◌≡◌, ℕ, IfOk, length, OnErr, OnOk, Some, slice_get, true};
 ghost use Rattle.tdf_dynamic_plans.specs.Rates.{AreRates};
 ghost use Rattle.tdf_exec.specs.Crossing.{IsReadyFor};
-ghost use Rattle.tdf_exec_parts.specs.Rings.{room_for};
 ghost use Rattle.tdf_exec.specs.Starts.{IsSoundFlat};
 ghost use Rattle.tdf_exec.specs.declared.runners.Runner.{Runner as RunnerOf};
 ghost use Rattle.tdf_exec.specs.machine.Counted.{AreCounted};
-ghost use Rattle.tdf_exec.specs.machine.Restarting.{AreNextParts, AreRestarted, CanRestart, HasReplaced, HasRestarted, IsRestarted};
+ghost use Rattle.tdf_exec.specs.machine.Restarting.{AreRestarted, CanRestart, HasReplaced, HasRestarted, IsRestarted};
+ghost use Rattle.tdf_exec.specs.machine.Tracing.{AreTracedUpTo};
 ghost use Rattle.tdf_expr.specs.Made.{AreMadeFor};
 
 use crate::cluster::Cluster;
@@ -15,11 +15,11 @@ use crate::runners::{ModuleRunner, Runner};
 use crate::starting::{law_laid, plan_firings};
 use crate::tracing::{TracedPorts, give_all, traced_rows};
 use std::alloc::Global;
+use std::mem;
 use tdf_base::Memory;
 use tdf_bind::Flat;
 use tdf_dynamic::begin;
-use tdf_dynamic_plans::{Attrs, edge_rates};
-use tdf_exec_parts::room_for;
+use tdf_dynamic_plans::{Attrs, set_edge_rates};
 use tdf_expr::{Body, Checked, run_body};
 use tdf_rings::carry;
 use tdf_schedule::Plan;
@@ -66,24 +66,10 @@ fn restart_all(checked: &Checked, runners: &mut Vec<Runner>)
     }
 }
 
-/// How many samples each ring has room for.
-fn rooms_of(alloc: Global, bounds: &[u32]) -> Result<Vec<u32>, Memory>
-    ensures { IfOk result (λ rooms. rooms.items ≡ map room_for bounds.now) }
-{
-    let mut rooms = Vec::new(alloc);
-    for e in 0..bounds.len() {
-        rooms.push(room_for(bounds[e]))?;
-    }
-    Ok(rooms)
-}
-
-/// What is made before anything is moved: rates in force and room by edge, and the traced ports by module.
+/// What is made before anything is moved: how often each actor fires, and the traced ports by module.
 #[derive(Drop)]
 struct NextParts {
-    reads: Vec<u32>,
-    writes: Vec<u32>,
     firings: Vec<u64>,
-    rooms: Vec<u32>,
     rows: Vec<TracedPorts>,
 }
 
@@ -91,22 +77,14 @@ struct NextParts {
 fn next_parts(alloc: Global, flat: &Flat, attrs: &Attrs, plan: &Plan) -> Result<NextParts, Memory>
     requires sound { IsSoundFlat flat.now }
     requires rates { AreRates flat.now.tables attrs.now.rows }
-    ensures parts { IfOk result (λ p. AreNextParts flat.now attrs.now.rows
-        plan.now.bounds.items p.reads.items p.writes.items p.rooms.items p.rows.items) }
+    ensures traced { IfOk result (λ p. AreTracedUpTo flat.now.tables attrs.now.rows
+        (length flat.now.tables.ports) p.rows.items) }
     ensures counted { IfOk result (λ p. AreCounted plan.now.entries.items p.firings.items) }
 {
     law_laid();
-    let rates = edge_rates(alloc, &flat.tables, &attrs.rows)?;
     let firings = plan_firings(alloc, flat, plan)?;
-    let rooms = rooms_of(alloc, &plan.bounds)?;
     let rows = traced_rows(alloc, flat, attrs)?;
-    Ok(NextParts {
-        reads: rates.reads,
-        writes: rates.writes,
-        firings,
-        rooms,
-        rows,
-    })
+    Ok(NextParts { firings, rows })
 }
 
 impl Cluster {
@@ -137,7 +115,7 @@ impl Cluster {
                 return Err(failed);
             }
         };
-        if let Err(failed) = carry(alloc, &mut self.rings, &parts.rooms) {
+        if let Err(failed) = carry(alloc, &mut self.rings, &plan.bounds) {
             drop(parts);
             drop(attrs);
             drop(plan);
@@ -145,12 +123,12 @@ impl Cluster {
         }
         give_all(alloc, &mut parts.rows, &mut self.runners);
         restart_all(&flat.checked, &mut self.runners);
-        self.attrs = attrs;
+        set_edge_rates(&flat.tables, &attrs.rows, &mut self.reads, &mut self.writes);
+        let left = mem::replace(&mut self.attrs, attrs);
+        self.attrs.recycle(left);
         self.plan = plan;
         self.place = 0;
         self.crossed = false;
-        self.reads = parts.reads;
-        self.writes = parts.writes;
         self.firings = parts.firings;
         Ok(())
     }

@@ -213,7 +213,7 @@ impl Cluster {
         ensures { (row : PortRowOf) → slice_get flat.now.tables.ports port ≡ Some row
             → result ≡ port_rate self.now.table row }
     {
-        self.attrs.port_rate(&flat.tables, port)
+        self.attrs.rate_of_port(&flat.tables, port)
     }
 
     /// The greatest numbers of samples of sinks and of traced samples that the entries of one offset give, by one look at
@@ -238,6 +238,6 @@ impl Cluster {
         ensures { AreSampled self.now.entries offset links.now.list.items values.now
             inputs.old inputs.new }
     {
-        sample_due(&self.plan, offset, links, values, inputs);
+        sample_due(&self.plan, self.place, offset, links, values, inputs);
     }
 }

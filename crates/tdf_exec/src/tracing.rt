@@ -143,7 +143,7 @@ fn put_port(
 fn no_rows(alloc: Global, count: usize) -> Result<Vec<TracedPorts>, Memory>
     ensures { IfOk result (λ rows. rows.items ≡ replicate count []) }
 {
-    let mut rows = Vec::new(alloc);
+    let mut rows = Vec::with_capacity(alloc, count)?;
     for _ in 0..count {
         rows.push(TracedPorts::new(alloc))?;
     }

@@ -26,7 +26,7 @@ pub fn port_places(alloc: Global, modules: usize, ports: &[PortRow]) -> Result<V
     ensures { IfOk result (λ places. ArePortPlaces ports.now places.items) }
 {
     let mut counts: Vec<u32> = vec![in alloc; 0; modules]?;
-    let mut places = Vec::new(alloc);
+    let mut places = Vec::with_capacity(alloc, ports.len())?;
     for number in 0..ports.len() {
         let module = ports[number].module as usize;
         places.push(counts[module])?;

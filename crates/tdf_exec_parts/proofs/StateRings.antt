@@ -6,7 +6,6 @@ use Rattle.std.specs.Prelude.{slice_index, slice_index_or}
 use Rattle.tdf_bind_tables.specs.FlatTables.{FlatTablesOf}
 use Rattle.tdf_exec_parts.proofs.Places.{place_grows, place_other, place_own}
 use Rattle.tdf_exec_parts.specs.Restored.{held_by_state}
-use Rattle.tdf_exec_parts.specs.Rings.{room_for}
 use Rattle.tdf_exec_parts.specs.States.{place_of_edge}
 use Rattle.tdf_exec_parts.specs.machine.Restoring.{AreRingsUpTo}
 use Rattle.tdf_rings.specs.Rings.{RingOf, ring_of}
@@ -24,7 +23,7 @@ module _ (tables : FlatTablesOf) (cluster : ℕ) (bounds : List ℕ) (edges : Li
   place_after true own = ap (λ k. k + 1) are.place_is ∙ sym (place_own tables cluster n own)
   place_after false other = (let p = are.place_is in let o = place_other tables cluster n other in omega (arith, p, o))
 
-  pub rings_next : (next : ℕ) (ring : RingOf) → next ≡ place + (if is_own tables cluster n then 1 else 0) → ring ≡ ring_of (held_by_state tables cluster edges n) (room_for (slice_index bounds n))
+  pub rings_next : (next : ℕ) (ring : RingOf) → next ≡ place + (if is_own tables cluster n then 1 else 0) → ring ≡ ring_of (held_by_state tables cluster edges n) (slice_index bounds n)
       → AreRingsUpTo tables cluster bounds edges (n + 1) next (rings ++ ring ∷ [])
   rings_next next ring next_is ring_is = record {
     place_is = next_is ∙ place_after (is_own tables cluster n) refl;
@@ -35,7 +34,7 @@ module _ (tables : FlatTablesOf) (cluster : ℕ) (bounds : List ℕ) (edges : Li
         | inr past ↦ (let same : n ≡ e = omega (arith, less, past) in let l = are.rings_are.long in
             let last : e - n ≡ 0 = omega (arith, same) in
             get_or-append_right rings (ring ∷ []) n e (ring_of [] 0) l past ∙ ap (λ k. slice_index_or (ring ∷ []) k (ring_of [] 0)) last ∙ ring_is
-            ∙ ap (λ k. ring_of (held_by_state tables cluster edges k) (room_for (slice_index bounds k))) same)
+            ∙ ap (λ k. ring_of (held_by_state tables cluster edges k) (slice_index bounds k)) same)
       ];
     };
   }

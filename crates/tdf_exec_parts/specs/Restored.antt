@@ -3,7 +3,6 @@
 use Rattle.std.specs.Prelude.{◌≡◌, ◌<◌, ◌≤◌, ℕ, ℤ, List, [], None, Option, Some, if◌then◌else◌, length, map, slice_index, slice_index_or}
 use Rattle.tdf_bind_tables.specs.FlatTables.{FlatTablesOf}
 use Rattle.tdf_exec_layout.specs.Samples.{edge_format}
-use Rattle.tdf_exec_parts.specs.Rings.{room_for}
 use Rattle.tdf_exec_parts.specs.States.{place_of_edge}
 use Rattle.tdf_fixed.specs.Cast.{fraction_of}
 use Rattle.tdf_fixed.specs.declared.format.Format.{Format}
@@ -31,11 +30,11 @@ pub record FitStateRings (tables : FlatTablesOf) (cluster : ℕ) (bounds : List 
     (edges : List (List ℤ)) : Type 0 where
   pub long : length bounds ≡ length tables.edges
   pub fits : (e : ℕ) → e < length tables.edges
-      → length (held_by_state tables cluster edges e) ≤ room_for (slice_index bounds e)
+      → length (held_by_state tables cluster edges e) ≤ slice_index bounds e
 
 -- a ring for each of the first n edges
 pub record AreStateRings (tables : FlatTablesOf) (cluster : ℕ) (bounds : List ℕ)
     (edges : List (List ℤ)) (n : ℕ) (rings : List RingOf) : Type 0 where
   pub long : length rings ≡ n
   pub each : (e : ℕ) → e < n → ring_at rings e
-      ≡ ring_of (held_by_state tables cluster edges e) (room_for (slice_index bounds e))
+      ≡ ring_of (held_by_state tables cluster edges e) (slice_index bounds e)

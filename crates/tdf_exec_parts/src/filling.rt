@@ -1,7 +1,7 @@
 //! The rings of a cluster at its start.
 
 ghost use Rattle.std.specs.Prelude.{◌≡◌, ◌<◌, ◌≤◌, [], All, IfOk, length};
-ghost use Rattle.tdf_exec_parts.specs.Rings.{AreFirstRings, FitAtFirst, list_of, room_for};
+ghost use Rattle.tdf_exec_parts.specs.Rings.{AreFirstRings, FitAtFirst, list_of};
 ghost use Rattle.tdf_rings.specs.Rings.{ring_of};
 
 use std::alloc::Global;
@@ -11,17 +11,6 @@ use tdf_bind_tables::FlatTables;
 use tdf_exec_layout::initial_samples;
 use tdf_fixed::Raw;
 use tdf_rings::Ring;
-
-/// How many samples a ring has room for.
-pub fn room_for(bound: u32) -> u32
-    ensures value { result ≡ room_for bound }
-    ensures some { 1 ≤ result }
-{
-    if bound == 0 {
-        return 1;
-    }
-    bound
-}
 
 /// Puts samples into an empty ring.
 fn put_samples(ring: &mut Ring, samples: &[Raw])
@@ -59,11 +48,11 @@ fn first_ring(
     edge: EdgeRow,
 ) -> Result<Ring, Memory>
     requires writer { edge.writer < length tables.now.actors }
-    requires fits { length (list_of tables.now cluster edge) ≤ room_for bound }
-    ensures { IfOk result (λ ring. ring ≡ ring_of (list_of tables.now cluster edge) (room_for bound)) }
+    requires fits { length (list_of tables.now cluster edge) ≤ bound }
+    ensures { IfOk result (λ ring. ring ≡ ring_of (list_of tables.now cluster edge) bound) }
 {
     let samples = list_of(alloc, tables, cluster, edge)?;
-    let mut ring = Ring::new(alloc, room_for(bound))?;
+    let mut ring = Ring::new(alloc, bound)?;
     put_samples(&mut ring, &samples);
     Ok(ring)
 }

@@ -13,7 +13,7 @@ mod holding;
 mod judging;
 mod restoring;
 
-pub use filling::{first_rings, room_for};
+pub use filling::first_rings;
 pub use holding::firings;
 pub use judging::{Standing, standing_of};
 pub use restoring::{set_values, state_rings};

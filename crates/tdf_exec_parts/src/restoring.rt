@@ -2,7 +2,6 @@
 
 ghost use Rattle.std.specs.Prelude.{◌≡◌, ◌+◌, ◌<◌, ◌≤◌, [], All, IfOk, if◌then◌else◌, length, map, true};
 ghost use Rattle.tdf_exec_parts.specs.Restored.{AreStateRings, FitStateRings, held_by_state, samples_by};
-ghost use Rattle.tdf_exec_parts.specs.Rings.{room_for};
 ghost use Rattle.tdf_exec_parts.specs.States.{place_of_edge};
 ghost use Rattle.tdf_exec_parts.specs.machine.Restoring.{sample_of};
 ghost use Rattle.tdf_expr.specs.Frames.{limits_of_rate};
@@ -11,7 +10,6 @@ ghost use Rattle.tdf_expr_semantics.specs.Fits.{RatesFit};
 ghost use Rattle.tdf_rings.specs.Rings.{ring_of};
 ghost use Rattle.tdf_streams.specs.Places.{is_own};
 
-use crate::filling::room_for;
 use crate::holding::port_format;
 use crate::judging::is_own;
 use std::alloc::Global;
@@ -39,10 +37,10 @@ fn ring_with(
     format: Option<Format>,
     nums: &[i128],
 ) -> Result<Ring, Memory>
-    requires fits { length (samples_by format nums.now) ≤ room_for bound }
-    ensures { IfOk result (λ ring. ring ≡ ring_of (samples_by format nums.now) (room_for bound)) }
+    requires fits { length (samples_by format nums.now) ≤ bound }
+    ensures { IfOk result (λ ring. ring ≡ ring_of (samples_by format nums.now) bound) }
 {
-    let mut ring = Ring::new(alloc, room_for(bound))?;
+    let mut ring = Ring::new(alloc, bound)?;
     match format {
         None => Ok(ring),
         Some(format) => {
@@ -67,12 +65,12 @@ fn state_ring(
     requires place { place ≡ place_of_edge tables.now cluster number }
     requires inside { is_own tables.now cluster number ≡ true → place < length edges.now }
     requires fits { length (held_by_state tables.now cluster (map (λ nums. nums.items) edges.now)
-        number) ≤ room_for bound }
+        number) ≤ bound }
     ensures { IfOk result (λ ring. ring ≡ ring_of (held_by_state tables.now cluster
-        (map (λ nums. nums.items) edges.now) number) (room_for bound)) }
+        (map (λ nums. nums.items) edges.now) number) bound) }
 {
     if !is_own(tables, cluster, number) {
-        return Ring::new(alloc, room_for(bound));
+        return Ring::new(alloc, bound);
     }
     let format = port_format(tables, tables.edges[number].port);
     ring_with(alloc, bound, format, &edges[place])

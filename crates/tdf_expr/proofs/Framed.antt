@@ -1,20 +1,22 @@
 -- The samples of an instance, port after port.
-use Rattle.std.proofs.Common.{◌≡◌, ◌∙◌, ℕ, zero, suc, ◌+◌, ◌-◌, ◌<◌, ◌≤◌, Bool, true, false, List, [], ◌∷◌, ◌++◌, Option, Some, None, ℤ, pos, length, take, drop, refl, sym, ap, subst, arith, append_assoc, append-nil, if◌then◌else◌}
+use Rattle.std.proofs.Common.{◌≡◌, ◌∙◌, ℕ, zero, suc, ◌+◌, ◌<◌, ◌≤◌, Bool, true, false, List, [], ◌∷◌, ◌++◌, Option, Some, None, ℤ, pos, length, take, drop, refl, sym, ap, subst, arith, append_assoc, append-nil, if◌then◌else◌}
 use Rattle.std.proofs.Math.ListN.{get_or}
-use Rattle.std.proofs.Math.Seq.{take-append_seam, drop-append_seam, drop-append-add}
-use Rattle.std.proofs.lemmas.Option.{slice_get_within}
+use Rattle.std.proofs.Math.Seq.{take-append_seam, drop-append-add}
+use Rattle.std.proofs.lemmas.Option.{slice_get-get_or, slice_get_within}
 use Rattle.std.proofs.lemmas.List.{take-append-drop, length-append, length-replicate, length-drop, length-take, drop_more, drop_all, length-map}
 use Rattle.std.specs.List.{flat_map}
 use Rattle.std.specs.Option.{option_map}
 use Rattle.std.specs.Prelude.{map, replicate, slice_get, slice_set}
 use Rattle.tdf_expr.proofs.Planned.{has_at}
-use Rattle.tdf_expr.proofs.Fitting.{zero_fits, blanks_fit, fit_both, fit_first, fit_second, all_fit, numbers_fit}
+use Rattle.tdf_expr.proofs.Fitting.{blanks_fit, fit_both, fit_first, fit_second, all_fit, numbers_fit}
 use Rattle.tdf_expr.specs.Frames.{FrameSeen, PortsSeen, IsFrameFit, ArePortsFit, IsAllowedRate, limits_of_rate, sample_formats, AreConsecutive, is_written, reset_port, reset_samples, reset_state}
 use Rattle.tdf_expr.specs.Plans.{PortPlace, shape_of_format, shape_written, place_of_span, places_from, port_places}
+use Rattle.tdf_expr.specs.declared.samples.SamplePlace.{SamplePlace}
+use Rattle.tdf_expr.specs.declared.samples.Stretch.{Stretch}
 use Rattle.tdf_expr.specs.declared.spans.PortSpan.{PortSpan}
 use Rattle.tdf_expr.specs.declared.spans.RateSpan.{RateSpan}
-use Rattle.tdf_expr.specs.machine.Fitting.{FitsShape, AllFit}
-use Rattle.tdf_expr.specs.machine.Zeroed.{zeroed_one, zeroed}
+use Rattle.tdf_expr.specs.machine.Fitting.{AllFit}
+use Rattle.tdf_expr.specs.machine.Zeroed.{sample_place, stretch_of, written_in, zeroed_one, zeroed}
 use Rattle.tdf_fixed.specs.Overflow.{IsOfWidth}
 use Rattle.tdf_fixed.specs.declared.format.Format.{Format}
 use Rattle.tdf_expr_semantics.proofs.Api.{slice_replicate, slice_left, slice_right, numbers_set, rates_set}
@@ -106,23 +108,6 @@ sample_at first (q ∷ spans) (suc n) p i row at below =
       format = slice_right q.count (shape_written q.format) (sample_formats spans) rest.place ∙ rest.format;
     }
 
-pub span_inside : (first : ℕ) (spans : List PortSpan) (n : ℕ) (p : PortSpan) → AreConsecutive first spans → slice_get spans n ≡ Some p
-    → p.first + p.count ≤ first + length (sample_formats spans)
-span_inside first [] n p row at = absurd cc
-span_inside first (q ∷ spans) zero p row at =
-    let long : length (sample_formats (q ∷ spans)) ≡ q.count + length (sample_formats spans) =
-    length-append (replicate q.count (shape_written q.format)) (sample_formats spans) ∙ ap (λ k. k + length (sample_formats spans)) (length-replicate q.count (shape_written q.format)) in
-    subst (λ (x : PortSpan). x.first + x.count ≤ first + length (sample_formats (q ∷ spans))) (ap held at) (omega (arith, long, row.0))
-  where
-    held : Option PortSpan → PortSpan
-    held None = q
-    held (Some x) = x
-span_inside first (q ∷ spans) (suc n) p row at =
-    let long : length (sample_formats (q ∷ spans)) ≡ q.count + length (sample_formats spans) =
-    length-append (replicate q.count (shape_written q.format)) (sample_formats spans) ∙ ap (λ k. k + length (sample_formats spans)) (length-replicate q.count (shape_written q.format)) in
-    let rest = span_inside (first + q.count) spans n p row.1 at in
-    omega (arith, long, rest)
-
 -- samples set back to 0
 reset_fits_one : (p : PortSpan) (nums : List ℤ) → AllFit (replicate p.count (shape_written p.format)) (take p.count nums)
     → AllFit (replicate p.count (shape_written p.format)) (reset_port p nums)
@@ -145,67 +130,145 @@ reset_fits (p ∷ spans) nums all =
 pub reset_numbers : (spans : List PortSpan) (nums : List ℤ) → NumbersFit (sample_formats spans) nums → NumbersFit (sample_formats spans) (reset_samples spans nums)
 reset_numbers spans nums fits = numbers_fit (sample_formats spans) (reset_samples spans nums) (reset_fits spans nums (all_fit (sample_formats spans) nums fits))
 
--- the loop over the ports
-pub zeroed_one_long : (p : PortSpan) (s : PortsState) → p.first + p.count ≤ length s.samples → length (zeroed_one p s).samples ≡ length s.samples
-unfolding zeroed_one
-zeroed_one_long p s inside = choose (is_written p.word)
+-- what samples need of the spans
+pub places_done : (spans : List PortSpan) (i : ℕ) (xs : List SamplePlace) → length spans ≤ i → xs ++ map sample_place (drop i spans) ≡ xs
+places_done spans i xs past = ap (λ (l : List PortSpan). xs ++ map sample_place l) (drop_all i spans past) ∙ append-nil xs
+
+pub places_more : (spans : List PortSpan) (i : ℕ) (d : PortSpan) (xs : List SamplePlace) → i < length spans
+    → (xs ++ sample_place (get_or spans i d) ∷ []) ++ map sample_place (drop (i + 1) spans) ≡ xs ++ map sample_place (drop i spans)
+places_more spans i d xs within =
+    append_assoc xs (sample_place (get_or spans i d) ∷ []) (map sample_place (drop (i + 1) spans))
+    ∙ ap (λ (l : List PortSpan). xs ++ map sample_place l) (sym (drop_more spans i d within))
+
+pub ruleset place_laws = (places_done, places_more)
+
+-- what is found at the place of a port is of its span
+pub record IsFoundAt (spans : List PortSpan) (n : ℕ) (x : SamplePlace) : Type 0 where
+  pub span : PortSpan
+  pub at : slice_get spans n ≡ Some span
+  pub is : x ≡ sample_place span
+
+pub places_long : (spans : List PortSpan) (places : List SamplePlace) → places ≡ map sample_place spans → length places ≡ length spans
+places_long spans places same = ap (λ (l : List SamplePlace). length l) same ∙ length-map spans sample_place
+
+pub found_at : (spans : List PortSpan) (places : List SamplePlace) (n : ℕ) (x : SamplePlace) → places ≡ map sample_place spans → n < length spans
+    → slice_get places n ≡ Some x → IsFoundAt spans n x
+found_at spans places n x same within there =
+    let p = has_at spans n within in
+    record {
+      span = p.0;
+      at = p.1;
+      is = ap held (sym there ∙ ap (λ (l : List SamplePlace). slice_get l n) same ∙ map_at sample_place spans n p.0 p.1);
+    }
   where
-    choose : (b : Bool) → length (if b then with_zeros p.first p.count s.samples else s.samples) ≡ length s.samples
-    choose true =
-        length-append (take p.first s.samples) (replicate p.count (pos 0) ++ drop (p.first + p.count) s.samples)
-        ∙ ap (λ k. length (take p.first s.samples) + k) (length-append (replicate p.count (pos 0)) (drop (p.first + p.count) s.samples))
-        ∙ rw (length-take p.first s.samples, length-replicate p.count (pos 0), length-drop (p.first + p.count) s.samples) (omega (arith, inside))
-    choose false = refl
+    held : Option SamplePlace → SamplePlace
+    held None = x
+    held (Some y) = y
 
-pub zeroed_none : (spans : List PortSpan) (i : ℕ) (s : PortsState) → length spans ≤ i → zeroed (drop i spans) s ≡ s
+-- the loop over the ports, and that over the stretches
+pub written_done : (spans : List PortSpan) (i : ℕ) (xs : List Stretch) → length spans ≤ i → xs ++ written_in (drop i spans) ≡ xs
+written_done spans i xs past = ap (λ (l : List PortSpan). xs ++ written_in l) (drop_all i spans past) ∙ append-nil xs
+
+pub written_more : (spans : List PortSpan) (i : ℕ) (d : PortSpan) (xs : List Stretch) → i < length spans → is_written (get_or spans i d).word ≡ true
+    → (xs ++ stretch_of (get_or spans i d) ∷ []) ++ written_in (drop (i + 1) spans) ≡ xs ++ written_in (drop i spans)
+written_more spans i d xs within is =
+    let p = get_or spans i d in
+    append_assoc xs (stretch_of p ∷ []) (written_in (drop (i + 1) spans))
+    ∙ ap (λ (b : Bool). xs ++ (if b then stretch_of p ∷ written_in (drop (i + 1) spans) else written_in (drop (i + 1) spans))) (sym is)
+    ∙ ap (λ (l : List PortSpan). xs ++ written_in l) (sym (drop_more spans i d within))
+
+pub written_same : (spans : List PortSpan) (i : ℕ) (d : PortSpan) (xs : List Stretch) → i < length spans → is_written (get_or spans i d).word ≡ false
+    → xs ++ written_in (drop (i + 1) spans) ≡ xs ++ written_in (drop i spans)
+written_same spans i d xs within is =
+    let p = get_or spans i d in
+    ap (λ (b : Bool). xs ++ (if b then stretch_of p ∷ written_in (drop (i + 1) spans) else written_in (drop (i + 1) spans))) (sym is)
+    ∙ ap (λ (l : List PortSpan). xs ++ written_in l) (sym (drop_more spans i d within))
+
+pub ruleset written_laws = (written_done, written_more, written_same)
+
+zeros_long : (first count : ℕ) (nums : List ℤ) → first + count ≤ length nums → length (with_zeros first count nums) ≡ length nums
+zeros_long first count nums inside =
+    length-append (take first nums) (replicate count (pos 0) ++ drop (first + count) nums)
+    ∙ ap (λ k. length (take first nums) + k) (length-append (replicate count (pos 0)) (drop (first + count) nums))
+    ∙ rw (length-take first nums, length-replicate count (pos 0), length-drop (first + count) nums) (omega (arith, inside))
+
+pub zeroed_one_long : (p : Stretch) (s : PortsState) → p.first + p.count ≤ length s.samples → length (zeroed_one p s).samples ≡ length s.samples
+unfolding zeroed_one
+zeroed_one_long p s inside = zeros_long p.first p.count s.samples inside
+
+pub zeroed_none : (spans : List Stretch) (i : ℕ) (s : PortsState) → length spans ≤ i → zeroed (drop i spans) s ≡ s
 unfolding zeroed
-zeroed_none spans i s past = ap (λ (l : List PortSpan). zeroed l s) (drop_all i spans past)
+zeroed_none spans i s past = ap (λ (l : List Stretch). zeroed l s) (drop_all i spans past)
 
-pub zeroed_next : (spans : List PortSpan) (i : ℕ) (d : PortSpan) (s : PortsState) → i < length spans
+pub zeroed_next : (spans : List Stretch) (i : ℕ) (d : Stretch) (s : PortsState) → i < length spans
     → zeroed (drop (i + 1) spans) (zeroed_one (get_or spans i d) s) ≡ zeroed (drop i spans) s
 unfolding zeroed
-zeroed_next spans i d s within = ap (λ (l : List PortSpan). zeroed l s) (sym (drop_more spans i d within))
+zeroed_next spans i d s within = ap (λ (l : List Stretch). zeroed l s) (sym (drop_more spans i d within))
 
 pub ruleset zero_laws = (zeroed_one_long, zeroed_none, zeroed_next)
 
--- samples set back in place are those of the definition
-reset_port_long : (p : PortSpan) (nums : List ℤ) → p.count ≤ length nums → length (reset_port p nums) ≡ p.count
-reset_port_long p nums enough = choose (is_written p.word)
-  where
-    choose : (b : Bool) → length (if b then replicate p.count (pos 0) else take p.count nums) ≡ p.count
-    choose true = length-replicate p.count (pos 0)
-    choose false = length-take p.count nums ∙ omega (arith, enough)
+pub stretch_inside : (xs : List Stretch) (i : ℕ) (d : Stretch) (n m : ℕ) → i < length xs
+    → ((j : ℕ) (p : Stretch) → slice_get xs j ≡ Some p → p.first + p.count ≤ m) → n ≡ m → (get_or xs i d).first + (get_or xs i d).count ≤ n
+stretch_inside xs i d n m within inside same = let here = inside i (get_or xs i d) (slice_get-get_or xs i d within) in omega (arith, here, same)
 
-one_is : (pre nums : List ℤ) (p : PortSpan) (s : PortsState) → p.first ≡ length pre → s.samples ≡ pre ++ nums
-    → (zeroed_one p s).samples ≡ (pre ++ reset_port p nums) ++ drop p.count nums
-unfolding zeroed_one
-one_is pre nums p s first samples = choose (is_written p.word)
+-- the stretches lie among the samples
+pub written_inside : (first : ℕ) (spans : List PortSpan) (n : ℕ) (q : Stretch) → AreConsecutive first spans → slice_get (written_in spans) n ≡ Some q
+    → q.first + q.count ≤ first + length (sample_formats spans)
+written_inside first [] n q row at = absurd cc
+written_inside first (p ∷ spans) n q row at =
+    let long : length (sample_formats (p ∷ spans)) ≡ p.count + length (sample_formats spans) =
+    length-append (replicate p.count (shape_written p.format)) (sample_formats spans) ∙ ap (λ k. k + length (sample_formats spans)) (length-replicate p.count (shape_written p.format)) in
+    choose (is_written p.word) n at long (λ m there. written_inside (first + p.count) spans m q row.1 there)
   where
-    choose : (b : Bool) → (if b then with_zeros p.first p.count s.samples else s.samples)
-        ≡ (pre ++ (if b then replicate p.count (pos 0) else take p.count nums)) ++ drop p.count nums
-    choose true =
-        ap (λ l. with_zeros p.first p.count l) samples ∙ ap (λ k. with_zeros k p.count (pre ++ nums)) first
-        ∙ ap (λ l. l ++ (replicate p.count (pos 0) ++ drop (length pre + p.count) (pre ++ nums))) (take-append_seam pre nums)
-        ∙ ap (λ l. pre ++ (replicate p.count (pos 0) ++ l)) (drop-append-add pre nums p.count)
-        ∙ sym (append_assoc pre (replicate p.count (pos 0)) (drop p.count nums))
-    choose false = samples ∙ ap (λ l. pre ++ l) (sym (take-append-drop p.count nums)) ∙ sym (append_assoc pre (take p.count nums) (drop p.count nums))
+    held : Option Stretch → Stretch
+    held None = q
+    held (Some x) = x
+
+    choose : (b : Bool) (m : ℕ) → slice_get (if b then stretch_of p ∷ written_in spans else written_in spans) m ≡ Some q
+        → length (sample_formats (p ∷ spans)) ≡ p.count + length (sample_formats spans)
+        → ((m : ℕ) → slice_get (written_in spans) m ≡ Some q → q.first + q.count ≤ first + p.count + length (sample_formats spans))
+        → q.first + q.count ≤ first + length (sample_formats (p ∷ spans))
+    choose true zero there long rest =
+        subst (λ (x : Stretch). x.first + x.count ≤ first + length (sample_formats (p ∷ spans))) (ap held there) (omega (arith, long, row.0))
+    choose true (suc m) there long rest = let inside = rest m there in omega (arith, long, inside)
+    choose false m there long rest = let inside = rest m there in omega (arith, long, inside)
+
+-- samples set back in place are those of the definition
+zeros_behind : (pre nums : List ℤ) (first count : ℕ) → first ≡ length pre
+    → with_zeros first count (pre ++ nums) ≡ (pre ++ replicate count (pos 0)) ++ drop count nums
+zeros_behind pre nums first count at =
+    ap (λ k. with_zeros k count (pre ++ nums)) at
+    ∙ ap (λ l. l ++ (replicate count (pos 0) ++ drop (length pre + count) (pre ++ nums))) (take-append_seam pre nums)
+    ∙ ap (λ l. pre ++ (replicate count (pos 0) ++ l)) (drop-append-add pre nums count)
+    ∙ sym (append_assoc pre (replicate count (pos 0)) (drop count nums))
 
 zeroed_is : (pre nums : List ℤ) (spans : List PortSpan) (s : PortsState) → AreConsecutive (length pre) spans → s.samples ≡ pre ++ nums
-    → length nums ≡ length (sample_formats spans) → zeroed spans s ≡ record s { samples = pre ++ reset_samples spans nums }
+    → length nums ≡ length (sample_formats spans) → zeroed (written_in spans) s ≡ record s { samples = pre ++ reset_samples spans nums }
 unfolding zeroed zeroed_one
 zeroed_is pre nums [] s row samples long = ap (λ l. record s { samples = l }) samples
 zeroed_is pre nums (p ∷ spans) s row samples long =
     let whole : length (sample_formats (p ∷ spans)) ≡ p.count + length (sample_formats spans) =
     length-append (replicate p.count (shape_written p.format)) (sample_formats spans) ∙ ap (λ k. k + length (sample_formats spans)) (length-replicate p.count (shape_written p.format)) in
-    let own = reset_port_long p nums (omega (arith, long, whole)) in
-    let behind : length (pre ++ reset_port p nums) ≡ length pre + p.count = length-append pre (reset_port p nums) ∙ ap (λ k. length pre + k) own in
     let rest : length (drop p.count nums) ≡ length (sample_formats spans) = length-drop p.count nums ∙ omega (arith, long, whole) in
-    zeroed_is (pre ++ reset_port p nums) (drop p.count nums) spans (zeroed_one p s) (subst (λ k. AreConsecutive k spans) (sym behind) row.1)
-    (one_is pre nums p s row.0 samples) rest
-    ∙ ap (λ l. record s { samples = l }) (append_assoc pre (reset_port p nums) (reset_samples spans (drop p.count nums)))
+    choose (is_written p.word) (length-take p.count nums ∙ omega (arith, long, whole))
+    (λ own t are same. zeroed_is (pre ++ own) (drop p.count nums) spans t
+    (subst (λ k. AreConsecutive k spans) (sym (length-append pre own ∙ ap (λ k. length pre + k) are)) row.1) same rest
+    ∙ ap (λ l. record t { samples = l }) (append_assoc pre own (reset_samples spans (drop p.count nums))))
+  where
+    choose : (b : Bool) → length (take p.count nums) ≡ p.count
+        → ((own : List ℤ) (t : PortsState) → length own ≡ p.count → t.samples ≡ (pre ++ own) ++ drop p.count nums
+        → zeroed (written_in spans) t ≡ record t { samples = pre ++ (own ++ reset_samples spans (drop p.count nums)) })
+        → zeroed (if b then stretch_of p ∷ written_in spans else written_in spans) s
+        ≡ record s { samples = pre ++ ((if b then replicate p.count (pos 0) else take p.count nums) ++ reset_samples spans (drop p.count nums)) }
+    choose true enough go =
+        go (replicate p.count (pos 0)) (zeroed_one (stretch_of p) s) (length-replicate p.count (pos 0))
+        (ap (λ l. with_zeros p.first p.count l) samples ∙ zeros_behind pre nums p.first p.count row.0)
+    choose false enough go =
+        go (take p.count nums) s enough
+        (samples ∙ ap (λ l. pre ++ l) (sym (take-append-drop p.count nums)) ∙ sym (append_assoc pre (take p.count nums) (drop p.count nums)))
 
 pub zeroed_all : (spans : List PortSpan) (s : PortsState) → AreConsecutive 0 spans → NumbersFit (sample_formats spans) s.samples
-    → zeroed spans s ≡ record s { samples = reset_samples spans s.samples }
+    → zeroed (written_in spans) s ≡ record s { samples = reset_samples spans s.samples }
 zeroed_all spans s row fits = zeroed_is [] s.samples spans s row refl fits.long
 
 -- a place has one port

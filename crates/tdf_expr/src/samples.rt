@@ -4,30 +4,55 @@ use crate::spans::PortSpan;
 use std::marker::Model;
 use tdf_expr_state::Signals;
 
+/// Where the samples of a port stand.
+#[derive(Clone, Copy)]
+pub(crate) struct Stretch {
+    pub(crate) first: u32,
+    pub(crate) count: u32,
+}
+
+/// Where the first sample of a port stands, and how many fraction bits its samples have.
+#[derive(Clone, Copy)]
+pub(crate) struct SamplePlace {
+    pub(crate) first: u32,
+    pub(crate) frac: u32,
+}
+
 /// The ports of an instance of a block, each with as many samples as its greatest rate, and what the bodies that ran
 /// since `new` or `reset` asked for. Each sample is of its port's format.
 #[derive(Drop)]
 pub struct Ports {
     spans: Vec<PortSpan>,
+    /// What a sample of a port needs of its span, by port.
+    places: Vec<SamplePlace>,
+    /// Where the samples stand that bodies write, port after port.
+    written: Vec<Stretch>,
     pub(crate) signals: Signals,
 }
 
 impl Model for Ports {
+    ghost use Rattle.std.specs.Prelude.{◌≡◌, map};
     ghost use Rattle.tdf_expr.specs.Frames.{PortsSeen, ArePortsFit};
+    ghost use Rattle.tdf_expr.specs.machine.Zeroed.{sample_place, written_in};
 
     ghost Value = { PortsSeen };
 
     ghost view = { λ a. record { spans = a.spans.items; state = a.signals } };
 
-    ghost invariant = { λ a. ArePortsFit (record { spans = a.spans.items; state = a.signals }) };
+    ghost invariant = { λ a. record {
+      fit : ArePortsFit (record { spans = a.spans.items; state = a.signals });
+      places : a.places.items ≡ map sample_place a.spans.items;
+      written : a.written.items ≡ written_in a.spans.items;
+    } };
 }
 
 ghost use Rattle.std.specs.Prelude.{◌≡◌, ℕ, ◌<◌, ◌≤◌, ◌+◌, is_some, length, map, replicate, slice_get, slice_set, slice_index_or, Some, None, true, false, pos, IfOk};
 ghost use Rattle.tdf_events_queue.specs.Sets.{AreRisingFlags};
 ghost use Rattle.tdf_expr.specs.Checked.{IsChecked};
 ghost use Rattle.tdf_expr.specs.Frames.{ArePortsFit, IsOfFormat, is_written, reset_state};
-ghost use Rattle.tdf_expr.specs.machine.Zeroed.{zeroed_one, zeroed};
+ghost use Rattle.tdf_expr.specs.machine.Zeroed.{sample_place, written_in, zeroed, zeroed_one};
 ghost use Rattle.tdf_expr.specs.Made.{block_count, port_spans_of, sample_count, event_count};
+ghost use Rattle.tdf_expr.specs.declared.samples.Stretch.{Stretch as StretchOf};
 ghost use Rattle.tdf_expr.specs.declared.spans.PortSpan.{PortSpan as PortSpanOf};
 ghost use Rattle.tdf_fixed.specs.Cast.{fraction_of};
 ghost use Rattle.tdf_expr_state.specs.State.{cell_at, standing};
@@ -39,7 +64,6 @@ use tdf_fixed::Raw;
 use tdf_lang_tree::PortKind;
 
 /// Whether a body writes the samples of a port.
-#[inline(always)]
 fn is_written(word: PortKind) -> bool
     ensures { result ≡ is_written word }
 {
@@ -50,27 +74,64 @@ fn is_written(word: PortKind) -> bool
     }
 }
 
-/// Sets the samples of a port to 0, where a body writes them.
-#[inline(always)]
-fn zero_one(signals: &mut Signals, span: PortSpan)
-    requires { span.first + span.count ≤ length signals.old.samples }
-    ensures { signals.new ≡ zeroed_one span signals.old }
+/// What a sample of each port needs of its span.
+///
+/// # Errors
+/// Out of memory.
+#[tactic(auto, using(crate::proofs::Framed::place_laws))]
+fn places_of(alloc: Global, spans: &[PortSpan]) -> Result<Vec<SamplePlace>, Memory>
+    ensures { IfOk result (λ list. list.items ≡ map sample_place spans.now) }
 {
-    if is_written(span.word) {
-        signals.clear_samples(span.first as usize, span.count as usize);
+    let mut list = Vec::new(alloc);
+    for span in spans {
+        let format = span.format;
+        list.push(SamplePlace {
+            first: span.first,
+            frac: format.wl - format.iwl,
+        })?;
     }
+    Ok(list)
 }
 
-/// Sets the samples of each port that a body writes to 0.
+/// Where the samples stand that bodies write.
+///
+/// # Errors
+/// Out of memory.
+#[tactic(auto, using(crate::proofs::Framed::written_laws))]
+fn written_in(alloc: Global, spans: &[PortSpan]) -> Result<Vec<Stretch>, Memory>
+    ensures { IfOk result (λ list. list.items ≡ written_in spans.now) }
+{
+    let mut list = Vec::new(alloc);
+    for span in spans {
+        if is_written(span.word) {
+            list.push(Stretch {
+                first: span.first,
+                count: span.count,
+            })?;
+        }
+    }
+    Ok(list)
+}
+
+/// Sets the samples of a stretch to 0.
+#[inline(always)]
+fn zero_one(signals: &mut Signals, stretch: Stretch)
+    requires { stretch.first + stretch.count ≤ length signals.old.samples }
+    ensures { signals.new ≡ zeroed_one stretch signals.old }
+{
+    signals.clear_samples(stretch.first as usize, stretch.count as usize);
+}
+
+/// Sets the samples of these stretches to 0.
 #[inline(always)]
 #[tactic(auto, using(crate::proofs::Framed::zero_laws))]
-fn zero_all(signals: &mut Signals, spans: &[PortSpan])
-    requires { (n : ℕ) (p : PortSpanOf) → slice_get spans.now n ≡ Some p
+fn zero_all(signals: &mut Signals, stretches: &[Stretch])
+    requires { (n : ℕ) (p : StretchOf) → slice_get stretches.now n ≡ Some p
         → p.first + p.count ≤ length signals.old.samples }
-    ensures { signals.new ≡ zeroed spans.now signals.old }
+    ensures { signals.new ≡ zeroed stretches.now signals.old }
 {
-    for span in spans {
-        zero_one(signals, *span);
+    for stretch in stretches {
+        zero_one(signals, *stretch);
     }
 }
 
@@ -94,8 +155,15 @@ impl Ports {
     {
         let block = &checked.blocks[number as usize];
         let spans = Vec::from_slice(alloc, &block.ports.spans)?;
+        let places = places_of(alloc, &spans)?;
+        let written = written_in(alloc, &spans)?;
         let signals = Signals::new(alloc, block.ports.samples, spans.len() as u32, block.events)?;
-        Ok(Ports { spans, signals })
+        Ok(Ports {
+            spans,
+            places,
+            written,
+            signals,
+        })
     }
 
     /// How many ports there are.
@@ -130,10 +198,10 @@ impl Ports {
         ensures frac { (p : PortSpanOf) → slice_get self.now.spans port ≡ Some p
             → result.frac ≡ fraction_of p.format }
     {
-        let span = self.spans[port as usize];
+        let place = self.places[port as usize];
         Raw {
-            num: self.signals.sample(span.first as usize + i as usize),
-            frac: span.format.wl - span.format.iwl,
+            num: self.signals.sample(place.first as usize + i as usize),
+            frac: place.frac,
         }
     }
 
@@ -150,9 +218,9 @@ impl Ports {
               };
             } }
     {
-        let span = self.spans[port as usize];
+        let place = self.places[port as usize];
         self.signals
-            .put_sample(span.first as usize + i as usize, value.num);
+            .put_sample(place.first as usize + i as usize, value.num);
     }
 
     /// How an activation begins: the samples of `out` and `de_out` ports are 0, and nothing is asked for. It takes no memory.
@@ -160,7 +228,7 @@ impl Ports {
     pub fn reset(&mut self)
         ensures { self.new ≡ record self.old { state = reset_state self.old.spans self.old.state } }
     {
-        zero_all(&mut self.signals, &self.spans);
+        zero_all(&mut self.signals, &self.written);
         self.signals.clear_assigned();
         self.signals.clear_notified();
         self.signals.clear_steps();

@@ -50,7 +50,7 @@ unfolding fraction_digits
 digit_more room rest d some = let more : nat_eq rest 0 ≡ false = ne_eqb rest 0 (λ none. absurd (omega (arith, some, none))) in rw more refl
 
 -- a fraction whose parts are both taken so many times has the same digits
-digits_scaled : (room rest d k : ℕ) → 0 < d → 0 < k → fraction_digits room (rest * k) (d * k) ≡ fraction_digits room rest d
+pub digits_scaled : (room rest d k : ℕ) → 0 < d → 0 < k → fraction_digits room (rest * k) (d * k) ≡ fraction_digits room rest d
 digits_scaled zero rest d k divides some = fraction_end 0 (rest * k) (d * k) refl ∙ sym (fraction_end 0 rest d refl)
 digits_scaled (suc room) zero d k divides some = fraction_stop (suc room) (0 * k) (d * k) (zero-mul k) ∙ sym (fraction_stop (suc room) 0 d refl)
 digits_scaled (suc room) (suc rest) d k divides some =
@@ -90,6 +90,13 @@ pub ruleset fraction_lemmas = (fraction_end, fraction_stop, fraction_step, fract
 pub magnitude_parts : (room n d : ℕ) → magnitude_text room n d ≡ decimal (n / d) ++ fraction_text room (n % d) d
 unfolding magnitude_text
 magnitude_parts room n d = refl
+
+pub whole_text : (n frac : ℕ) → frac ≡ 0 → magnitude_text frac n (2 ^ frac) ≡ decimal n
+unfolding magnitude_text
+whole_text n frac none =
+    let one : n / 1 ≡ n = omega arith in
+    let no_rest : fraction_text 0 (n % 1) 1 ≡ [] = fraction_none 0 (n % 1) 1 (omega arith) in
+    rw (none, one, no_rest) (append-nil (decimal n))
 
 pub seconds_parts : (resolution : Resolution) (time : ℕ) → seconds_text_at resolution time
     ≡ decimal (time / 10 ^ places_of resolution) ++ fraction_text (places_of resolution) (time % 10 ^ places_of resolution) (10 ^ places_of resolution)

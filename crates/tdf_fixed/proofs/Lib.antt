@@ -11,6 +11,7 @@ pub mod Placed
 pub mod Ranges
 pub mod Readers
 pub mod Scaling
+pub mod ShortTimes
 pub mod Shorts
 pub mod ReadBack
 pub mod TimeTexts

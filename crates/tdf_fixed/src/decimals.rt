@@ -11,6 +11,17 @@ use crate::raw::Raw;
 use itoa::Buffer;
 use tdf_base::{Memory, Resolution};
 
+/// Appends a whole number by its digits.
+#[inline(never)]
+fn push_digits(out: &mut Vec<u8>, whole: u64) -> Result<(), Memory>
+    ensures ok { OnOk result (out.new.items ≡ out.old.items ++ decimal whole) }
+    ensures kept { take (length out.old.items) out.new.items ≡ out.old.items }
+{
+    out.extend_from_slice(Buffer::new().format(whole).as_bytes())?;
+    Ok(())
+}
+
+#[inline(always)]
 #[tactic(auto, using(crate::proofs::Fractions::one_digit))]
 fn push_whole(out: &mut Vec<u8>, whole: u64) -> Result<(), Memory>
     ensures ok { OnOk result (out.new.items ≡ out.old.items ++ decimal whole) }
@@ -20,8 +31,7 @@ fn push_whole(out: &mut Vec<u8>, whole: u64) -> Result<(), Memory>
         out.push(b'0' + whole as u8)?;
         return Ok(());
     }
-    out.extend_from_slice(Buffer::new().format(whole).as_bytes())?;
-    Ok(())
+    push_digits(out, whole)
 }
 
 fn push_wide(out: &mut Vec<u8>, whole: u128) -> Result<(), Memory>
@@ -79,8 +89,31 @@ fn push_time_digits(out: &mut Vec<u8>, rest: u64, second: u64, places: u32) -> R
     Ok(())
 }
 
+/// The same, of at least six places: a part of so many microseconds of a picosecond's resolution has the digits of their number, as
+/// has one of so many nanoseconds.
+#[inline(always)]
+#[tactic(auto, using(crate::proofs::ShortTimes::short_lemmas))]
+fn push_short_digits(out: &mut Vec<u8>, rest: u64, second: u64, places: u32) -> Result<(), Memory>
+    requires some { 6 ≤ places }
+    requires places { places ≤ 15 }
+    requires second { second ≡ 10 ^ places }
+    requires rest { rest < second }
+    requires small { second ≤ 10 ^ 15 }
+    ensures ok { OnOk result (out.new.items ≡ out.old.items ++ fraction_digits places rest second) }
+    ensures kept { take (length out.old.items) out.new.items ≡ out.old.items }
+{
+    if rest % 1_000_000 == 0 {
+        return push_time_digits(out, rest / 1_000_000, second / 1_000_000, places - 6);
+    }
+    if rest % 1_000 == 0 {
+        return push_time_digits(out, rest / 1_000, second / 1_000, places - 3);
+    }
+    push_time_digits(out, rest, second, places)
+}
+
 #[tactic(auto, using(crate::proofs::Fractions::fraction_lemmas))]
 fn push_time_fraction(out: &mut Vec<u8>, rest: u64, second: u64, places: u32) -> Result<(), Memory>
+    requires some { 6 ≤ places }
     requires places { places ≤ 15 }
     requires second { second ≡ 10 ^ places }
     requires rest { rest < second }
@@ -92,11 +125,12 @@ fn push_time_fraction(out: &mut Vec<u8>, rest: u64, second: u64, places: u32) ->
         return Ok(());
     }
     out.push(b'.')?;
-    push_time_digits(out, rest, second, places)
+    push_short_digits(out, rest, second, places)
 }
 
 fn places(resolution: Resolution) -> u32
     ensures value { result ≡ places_of resolution }
+    ensures some { 6 ≤ result }
     ensures few { result ≤ 15 }
 {
     match resolution {
@@ -105,8 +139,10 @@ fn places(resolution: Resolution) -> u32
     }
 }
 
+/// Appends a time in seconds. After an error `out` may have a front part of it.
+#[inline(always)]
 #[tactic(auto, using(crate::proofs::Fractions::text_lemmas))]
-fn push_time(out: &mut Vec<u8>, time: u64, resolution: Resolution) -> Result<(), Memory>
+fn push_time_in(out: &mut Vec<u8>, time: u64, resolution: Resolution) -> Result<(), Memory>
     ensures ok { OnOk result (out.new.items ≡ out.old.items ++ seconds_text_at resolution time) }
     ensures kept { take (length out.old.items) out.new.items ≡ out.old.items }
 {
@@ -115,11 +151,24 @@ fn push_time(out: &mut Vec<u8>, time: u64, resolution: Resolution) -> Result<(),
     push_time_fraction(out, time % second, second, places(resolution))
 }
 
+/// The same, for each resolution by itself: the counts of a second are then known where they divide.
+#[inline(always)]
+fn push_time(out: &mut Vec<u8>, time: u64, resolution: Resolution) -> Result<(), Memory>
+    ensures ok { OnOk result (out.new.items ≡ out.old.items ++ seconds_text_at resolution time) }
+    ensures kept { take (length out.old.items) out.new.items ≡ out.old.items }
+{
+    match resolution {
+        Resolution::Ps => push_time_in(out, time, Resolution::Ps),
+        Resolution::Fs => push_time_in(out, time, Resolution::Fs),
+    }
+}
+
 /// Appends a time of so many counts of the resolution, in seconds, as an exact decimal: `2500000` counts of a picosecond are
 /// `0.0000025`.
 ///
 /// # Errors
 /// Out of memory; `out` is then unchanged.
+#[inline(always)]
 pub fn push_seconds_at(out: &mut Vec<u8>, time: u64, resolution: Resolution) -> Result<(), Memory>
     ensures ok { OnOk result (out.new.items ≡ out.old.items ++ seconds_text_at resolution time) }
     ensures err { OnErr result (out.new.items ≡ out.old.items) }
@@ -246,14 +295,28 @@ fn push_binary_fraction(out: &mut Vec<u8>, rest: u128, frac: u32) -> Result<(), 
     push_binary_digits(out, rest, frac)
 }
 
+#[inline(never)]
 #[tactic(auto, using(crate::proofs::Fractions::text_lemmas))]
-fn push_magnitude(out: &mut Vec<u8>, magnitude: u128, frac: u32) -> Result<(), Memory>
+fn push_parts(out: &mut Vec<u8>, magnitude: u128, frac: u32) -> Result<(), Memory>
     requires few { frac ≤ 120 }
     ensures ok { OnOk result (out.new.items ≡ out.old.items ++ magnitude_text frac magnitude (2 ^ frac)) }
     ensures kept { take (length out.old.items) out.new.items ≡ out.old.items }
 {
     push_wide(out, magnitude >> frac)?;
     push_binary_fraction(out, low(magnitude, frac), frac)
+}
+
+#[inline(always)]
+#[tactic(auto, using(crate::proofs::Fractions::whole_text))]
+fn push_magnitude(out: &mut Vec<u8>, magnitude: u128, frac: u32) -> Result<(), Memory>
+    requires few { frac ≤ 120 }
+    ensures ok { OnOk result (out.new.items ≡ out.old.items ++ magnitude_text frac magnitude (2 ^ frac)) }
+    ensures kept { take (length out.old.items) out.new.items ≡ out.old.items }
+{
+    if frac == 0 {
+        return push_wide(out, magnitude);
+    }
+    push_parts(out, magnitude, frac)
 }
 
 fn push_negative(out: &mut Vec<u8>, magnitude: u128, frac: u32) -> Result<(), Memory>

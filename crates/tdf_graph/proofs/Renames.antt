@@ -7,8 +7,8 @@ use Rattle.std.proofs.lemmas.Grind.{get_or_default_zero, get_or-set_at}
 use Rattle.std.proofs.lemmas.List.{length-append, length-set, get_or-set_other, get_or_append_left}
 use Rattle.std.proofs.lemmas.List.Elements.{Contains-append_left, Contains-append_right}
 use Rattle.std.proofs.lemmas.Option.{slice_get_read, slice_get_within, get_or_from_slice_get}
-use Rattle.std.specs.Global.{Global}
-use Rattle.std.specs.Prelude.{slice_get, Contains, Vec}
+use Rattle.smallvec.specs.SmallVec.{SmallVec}
+use Rattle.std.specs.Prelude.{slice_get, Contains}
 use Rattle.tdf_graph.specs.Parts.{ListsPart, HasMembers, IsRenamed, renamed}
 use Rattle.tdf_graph.specs.views.Rows.{IsRelabelled}
 
@@ -142,7 +142,7 @@ module _ (gone kept : ℕ) (labels new moved : List ℕ) (apart : gone ≢ kept)
     }
 
 -- the whole step; `from` and `into` are the lists of the two labels, `empty` and `all` what they are afterwards
-module _ (gone kept : ℕ) (labels new : List ℕ) (members : List (Vec ℕ Global)) (from into empty all : Vec ℕ Global) (moved : List ℕ)
+module _ (gone kept : ℕ) (labels new : List ℕ) (members : List (SmallVec ℕ)) (from into empty all : SmallVec ℕ) (moved : List ℕ)
     (apart : gone ≢ kept) (gone_in : gone < length labels) (kept_in : kept < length labels) (has : HasMembers labels members)
     (from_is : from ≡ get_or members gone from) (into_is : into ≡ get_or (set members gone empty) kept into)
     (none : empty.items ≡ []) (moved_is : moved ≡ from.items) (all_is : all.items ≡ into.items ++ moved) where
@@ -164,19 +164,19 @@ module _ (gone kept : ℕ) (labels new : List ℕ) (members : List (Vec ℕ Glob
   pub moved_renames : IsRelabelled kept moved labels new → IsRenamed gone kept labels new
   moved_renames change = is_renamed gone kept labels new moved apart change moved_part
 
-  lists : IsRelabelled kept moved labels new → (l : ℕ) (row : Vec ℕ Global) → slice_get (set (set members gone empty) kept all) l ≡ Some row → ListsPart new l row.items
+  lists : IsRelabelled kept moved labels new → (l : ℕ) (row : SmallVec ℕ) → slice_get (set (set members gone empty) kept all) l ≡ Some row → ListsPart new l row.items
   lists change l row found = outer (set_found (set members gone empty) kept l all row (subst (λ n. kept < n) (sym (length-set members gone empty)) kept_row) found)
     where
       inner : l ≢ kept → ((l ≡ gone) × (row ≡ empty)) ⊎ ((l ≢ gone) × (slice_get members l ≡ Some row)) → ListsPart new l row.items
       inner not_kept (inl p) =
           subst (λ n. ListsPart new n row.items) (sym p.0)
-          (subst (ListsPart new gone) (sym (ap (λ (r : Vec ℕ Global). r.items) p.1 ∙ none)) (none_gone gone kept labels new moved apart change moved_part))
+          (subst (ListsPart new gone) (sym (ap (λ (r : SmallVec ℕ). r.items) p.1 ∙ none)) (none_gone gone kept labels new moved apart change moved_part))
       inner not_kept (inr p) = other_list gone kept labels new moved apart change moved_part l row.items p.0 not_kept (has.lists l row p.1)
 
       outer : ((l ≡ kept) × (row ≡ all)) ⊎ ((l ≢ kept) × (slice_get (set members gone empty) l ≡ Some row)) → ListsPart new l row.items
       outer (inl p) =
           subst (λ n. ListsPart new n row.items) (sym p.0)
-          (subst (ListsPart new kept) (sym (ap (λ (r : Vec ℕ Global). r.items) p.1 ∙ all_is)) (both_list gone kept labels new moved apart change moved_part into.items into_part))
+          (subst (ListsPart new kept) (sym (ap (λ (r : SmallVec ℕ). r.items) p.1 ∙ all_is)) (both_list gone kept labels new moved apart change moved_part into.items into_part))
       outer (inr p) = inner p.0 (set_found members gone l empty row gone_row p.1)
 
   small : IsRelabelled kept moved labels new → (a : ℕ) → a < length new → get_or new a 0 < length new

@@ -1,7 +1,7 @@
 -- Actors in parts, each part with a label.
 -- Source: own.
-use Rattle.std.specs.Prelude.{ℕ, ◌≡◌, ◌≢◌, ◌<◌, ◌≤◌, List, Some, Vec, length, nat_eq, if◌then◌else◌, ◌⊎◌, slice_get, slice_index, Contains}
-use Rattle.std.specs.Global.{Global}
+use Rattle.std.specs.Prelude.{ℕ, ◌≡◌, ◌≢◌, ◌<◌, ◌≤◌, List, Some, length, nat_eq, if◌then◌else◌, ◌⊎◌, slice_get, slice_index, Contains}
+use Rattle.smallvec.specs.SmallVec.{SmallVec}
 use Rattle.tdf_graph.specs.Clusters.{Joined}
 use Rattle.tdf_graph.specs.declared.actors.Edge.{Edge}
 
@@ -39,10 +39,10 @@ pub record MovesFewer (first second : ℕ) (old new : List ℕ) : Type 0 where
       ⊎ ((length other ≤ length mine) × IsRenamed second first old new)
 
 -- how parts are kept: for each label the list of its actors
-pub record HasMembers (labels : List ℕ) (members : List (Vec ℕ Global)) : Type 0 where
+pub record HasMembers (labels : List ℕ) (members : List (SmallVec ℕ)) : Type 0 where
   pub rows : length members ≡ length labels
   pub small : (a : ℕ) → a < length labels → slice_index labels a < length labels
-  pub lists : (l : ℕ) (row : Vec ℕ Global) → slice_get members l ≡ Some row
+  pub lists : (l : ℕ) (row : SmallVec ℕ) → slice_get members l ≡ Some row
       → ListsPart labels l row.items
 
 -- the parts are those that these edges connect

@@ -1,12 +1,16 @@
 //! The actors in parts that edges join, one edge after the other.
 
+use smallvec::SmallVec;
 use std::marker::Model;
+
+/// The actors of a part: one alone takes no memory of its own.
+type Members = SmallVec<u32, 1>;
 
 /// Actors in parts. Each part has a label, a number below the count of actors; callers see the label of each actor.
 #[derive(Drop)]
 pub struct Parts {
     labels: Vec<u32>,
-    members: Vec<Vec<u32>>,
+    members: Vec<Members>,
 }
 
 impl Model for Parts {
@@ -32,28 +36,20 @@ use tdf_base::Memory;
 fn own_labels(alloc: Global, count: u32) -> Result<Vec<u32>, Memory>
     ensures { IfOk result (λ labels. AreAlone count labels.items) }
 {
-    let mut labels = Vec::new(alloc);
+    let mut labels = Vec::with_capacity(alloc, count as usize)?;
     for actor in 0..count {
         labels.push(actor)?;
     }
     Ok(labels)
 }
 
-fn one(alloc: Global, actor: u32) -> Result<Vec<u32>, Memory>
-    ensures { IfOk result (λ row. row.items ≡ actor ∷ []) }
-{
-    let mut row = Vec::with_capacity(alloc, 1)?;
-    row.push(actor)?;
-    Ok(row)
-}
-
 /// For each number below `count` the list of it alone.
-fn own_members(alloc: Global, count: u32) -> Result<Vec<Vec<u32>>, Memory>
+fn own_members(alloc: Global, count: u32) -> Result<Vec<Members>, Memory>
     ensures { IfOk result (λ members. AreRows count members.items) }
 {
-    let mut members = Vec::new(alloc);
+    let mut members = Vec::with_capacity(alloc, count as usize)?;
     for actor in 0..count {
-        members.push(one(alloc, actor)?)?;
+        members.push(SmallVec::from_buf(alloc, [actor]))?;
     }
     Ok(members)
 }
@@ -95,7 +91,7 @@ impl Parts {
         requires { label < length self.now }
         ensures { ListsPart self.now label result.now }
     {
-        &self.members[label as usize]
+        self.members[label as usize].as_slice()
     }
 
     /// Gives the label `kept` to the actors with the label `gone`.
@@ -107,9 +103,9 @@ impl Parts {
     {
         let mut labels = self.labels;
         let mut members = self.members;
-        let moved = mem::replace(&mut members[gone as usize], Vec::new(alloc));
-        members[kept as usize].extend_from_slice(&moved)?;
-        relabel(&mut labels, &moved, kept);
+        let moved = mem::replace(&mut members[gone as usize], SmallVec::new(alloc));
+        members[kept as usize].extend_from_slice(moved.as_slice())?;
+        relabel(&mut labels, moved.as_slice(), kept);
         drop(moved);
         Ok(Parts { labels, members })
     }

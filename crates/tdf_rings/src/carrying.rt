@@ -1,6 +1,6 @@
 //! Rings that get new capacities and keep their samples.
 
-ghost use Rattle.std.specs.Prelude.{◌≡◌, ◌≤◌, ◌<◌, [], IfOk, OnErr, OnOk, length, All};
+ghost use Rattle.std.specs.Prelude.{◌≡◌, ◌≤◌, ◌<◌, [], IfOk, OnErr, OnOk, length};
 ghost use Rattle.tdf_rings.specs.Carried.{AreCarried, FitIn};
 ghost use Rattle.tdf_rings.specs.Rings.{ring_of};
 ghost use Rattle.tdf_rings.specs.views.Fresh.{AreFresh, fresh_of};
@@ -25,8 +25,7 @@ fn copy(from: &Ring, to: &mut Ring)
 /// # Errors
 /// Out of memory.
 fn copy_of(alloc: Global, ring: &Ring, capacity: u32) -> Result<Ring, Memory>
-    requires some { 1 ≤ capacity }
-    requires holds { length ring.now.samples ≤ capacity }
+    requires { length ring.now.samples ≤ capacity }
     ensures { IfOk result (λ new. new ≡ ring_of ring.now.samples capacity) }
 {
     let mut new = Ring::new(alloc, capacity)?;
@@ -39,8 +38,7 @@ fn copy_of(alloc: Global, ring: &Ring, capacity: u32) -> Result<Ring, Memory>
 /// # Errors
 /// Out of memory.
 fn fresh_of(alloc: Global, ring: &Ring, bound: u32) -> Result<Option<Ring>, Memory>
-    requires some { 1 ≤ bound }
-    requires holds { length ring.now.samples ≤ bound }
+    requires { length ring.now.samples ≤ bound }
     ensures { IfOk result (λ new. new ≡ fresh_of ring.now bound) }
 {
     if ring.capacity() == bound {
@@ -54,8 +52,7 @@ fn fresh_of(alloc: Global, ring: &Ring, bound: u32) -> Result<Option<Ring>, Memo
 /// # Errors
 /// Out of memory.
 fn all_fresh(alloc: Global, rings: &[Ring], bounds: &[u32]) -> Result<Vec<Option<Ring>>, Memory>
-    requires some { All (λ bound. 1 ≤ bound) bounds.now }
-    requires fit { FitIn bounds.now rings.now }
+    requires { FitIn bounds.now rings.now }
     ensures { IfOk result (λ list. AreFresh rings.now bounds.now (length rings.now) list.items) }
 {
     let mut list = Vec::new(alloc);
@@ -91,8 +88,7 @@ fn place_all(rings: &mut [Ring], fresh: &mut [Option<Ring>], bounds: &[u32])
 /// # Errors
 /// Out of memory; then nothing changes.
 pub fn carry(alloc: Global, rings: &mut Vec<Ring>, bounds: &[u32]) -> Result<(), Memory>
-    requires some { All (λ bound. 1 ≤ bound) bounds.now }
-    requires fit { FitIn bounds.now rings.old.items }
+    requires { FitIn bounds.now rings.old.items }
     ensures ok { OnOk result (AreCarried bounds.now rings.old.items rings.new.items) }
     ensures err { OnErr result (rings.new ≡ rings.old) }
 {

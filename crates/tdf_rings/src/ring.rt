@@ -16,23 +16,22 @@ pub struct Ring {
 }
 
 impl Model for Ring {
-    ghost use Rattle.std.specs.Prelude.{◌<◌, ◌≤◌, ◌^◌};
+    ghost use Rattle.std.specs.Prelude.{◌<◌, ◌^◌};
     ghost use Rattle.tdf_rings.specs.Rings.{RingOf};
 
     ghost Value = { RingOf };
 
     ghost view = { λ a. record { samples = a.buffer.items; capacity = a.buffer.capacity } };
 
-    ghost invariant = { λ a. record { some : 1 ≤ a.buffer.capacity; few : a.buffer.capacity < 2 ^ 32 } };
+    ghost invariant = { λ a. record { few : a.buffer.capacity < 2 ^ 32 } };
 }
 
 impl Ring {
-    /// An empty ring.
+    /// An empty ring. One without capacity takes no memory.
     ///
     /// # Errors
     /// Out of memory.
     pub fn new(alloc: Global, capacity: u32) -> Result<Ring, Memory>
-        requires { 1 ≤ capacity }
         ensures { IfOk result (λ ring. ring ≡ ring_of [] capacity) }
     {
         Ok(Ring {
@@ -99,8 +98,7 @@ impl Ring {
     /// # Errors
     /// Out of memory; then nothing changes.
     pub fn resize_keep(&mut self, capacity: u32) -> Result<(), Memory>
-        requires holds { length self.old.samples ≤ capacity }
-        requires some { 1 ≤ capacity }
+        requires { length self.old.samples ≤ capacity }
         ensures ok { OnOk result (self.new ≡ ring_of self.old.samples capacity) }
         ensures err { OnErr result (self.new ≡ self.old) }
     {

@@ -99,7 +99,7 @@ fn none_done(alloc: Global, count: u32) -> Result<Vec<u64>, Memory>
 fn initials(alloc: Global, edges: &[Edge]) -> Result<Vec<u64>, Memory>
     ensures { IfOk result (λ v. AreInitialUpTo (length edges.now) edges.now v.items) }
 {
-    let mut held = Vec::new(alloc);
+    let mut held = Vec::with_capacity(alloc, edges.len())?;
     for k in 0..edges.len() {
         held.push(u64::from(edges[k].initial))?;
     }

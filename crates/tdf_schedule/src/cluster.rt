@@ -37,7 +37,7 @@ fn narrow(
     requires small { All (λ b. b < 2 ^ 31) bounds.now }
     ensures { IfOk result (λ v. AreNarrowUpTo (length edges.now) edges.now counts.now bounds.now v.items) }
 {
-    let mut list: Vec<u32> = Vec::new(alloc);
+    let mut list: Vec<u32> = Vec::with_capacity(alloc, edges.len())?;
     for k in 0..edges.len() {
         let bound = if counts[edges[k].writer as usize] == 0 {
             0

@@ -26,10 +26,10 @@ impl Model for Row {
     ghost view = { λ a. a.keys.items };
 }
 
-/// Numbers of edges, or of actors.
+/// Numbers of edges, or of actors. Two of them, as most actors have at most, take no memory of their own.
 #[derive(Drop)]
 pub(crate) struct Links {
-    list: Vec<u32>,
+    list: SmallVec<u32, 2>,
 }
 
 impl Model for Links {
@@ -42,6 +42,7 @@ impl Model for Links {
 
 ghost use Rattle.std.specs.Prelude.{◌≡◌, ◌<◌, ◌++◌, ◌∷◌, [], Some, length, slice_get, OnOk};
 
+use smallvec::SmallVec;
 use std::alloc::Global;
 use tdf_base::Memory;
 
@@ -80,20 +81,22 @@ impl Links {
         ensures { result ≡ [] }
     {
         Links {
-            list: Vec::new(alloc),
+            list: SmallVec::new(alloc),
         }
     }
 
     pub(crate) fn list(&self) -> &[u32]
         ensures { result.now ≡ self.now }
     {
-        &self.list
+        self.list.as_slice()
     }
 
     pub(crate) fn push(&mut self, number: u32) -> Result<(), Memory>
         ensures { OnOk result (self.new ≡ self.old ++ number ∷ []) }
     {
-        self.list.push(number)?;
-        Ok(())
+        match self.list.push(number) {
+            Ok(()) => Ok(()),
+            Err(_) => Err(Memory),
+        }
     }
 }

@@ -13,7 +13,7 @@ use tdf_graph::Edge;
 fn no_links(alloc: Global, count: u32) -> Result<Vec<Links>, Memory>
     ensures { IfOk result (λ lists. lists.items ≡ replicate count []) }
 {
-    let mut lists = Vec::new(alloc);
+    let mut lists = Vec::with_capacity(alloc, count as usize)?;
     for made in 0..count {
         lists.push(Links::new(alloc))?;
     }

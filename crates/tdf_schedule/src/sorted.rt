@@ -42,6 +42,6 @@ pub(crate) fn entries_of(alloc: Global, table: &Vec<Row>) -> Result<Vec<Entry>, 
     for actor in 0..table.len() as u32 {
         push_row(&mut entries, table, actor)?;
     }
-    entries.sort_unstable();
+    entries.sort()?;
     Ok(entries)
 }

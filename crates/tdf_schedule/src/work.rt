@@ -132,8 +132,8 @@ fn work_one(
 fn all_on(alloc: Global, count: u32) -> Result<Worklist, Memory>
     ensures { IfOk result (λ work. AreAllOn count work.stack.items work.on.items) }
 {
-    let mut stack = Vec::new(alloc);
-    let mut on = Vec::new(alloc);
+    let mut stack = Vec::with_capacity(alloc, count as usize)?;
+    let mut on = Vec::with_capacity(alloc, count as usize)?;
     for actor in 0..count {
         stack.push(actor)?;
         on.push(true)?;
@@ -145,7 +145,7 @@ fn all_on(alloc: Global, count: u32) -> Result<Worklist, Memory>
 fn no_rows(alloc: Global, count: u32) -> Result<Vec<Row>, Memory>
     ensures { IfOk result (λ rows. rows.items ≡ replicate count []) }
 {
-    let mut rows = Vec::new(alloc);
+    let mut rows = Vec::with_capacity(alloc, count as usize)?;
     for made in 0..count {
         rows.push(Row::new(alloc))?;
     }
@@ -156,7 +156,7 @@ fn no_rows(alloc: Global, count: u32) -> Result<Vec<Row>, Memory>
 fn no_parts(alloc: Global, count: u32) -> Result<Vec<Part>, Memory>
     ensures { IfOk result (λ parts. parts.items ≡ replicate count no_part) }
 {
-    let mut parts = Vec::new(alloc);
+    let mut parts = Vec::with_capacity(alloc, count as usize)?;
     for made in 0..count {
         parts.push(NO_PART)?;
     }

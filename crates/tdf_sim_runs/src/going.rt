@@ -137,6 +137,7 @@ impl Running {
     }
 
     /// The instant at its time, and what its trace shows of it.
+    #[inline(always)]
     fn step(&mut self, alloc: Global, flat: &Flat) -> Result<Pass, Memory>
         requires runnable { IsRunnable flat.now }
         requires can { CanGoOn flat.now self.old }

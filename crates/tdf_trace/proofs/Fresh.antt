@@ -13,7 +13,7 @@ use Rattle.tdf_trace.specs.views.Seen.{fresh}
 pub ruleset fresh_laws = (map_more)
 
 -- the variable of a column
-fresh_of : (variables : List Variable) (c : ℕ) (column : ColumnSeen) → slice_get (map fresh variables) c ≡ Some column → (v : Variable) × (slice_get variables c ≡ Some v) × (column ≡ fresh v)
+pub fresh_of : (variables : List Variable) (c : ℕ) (column : ColumnSeen) → slice_get (map fresh variables) c ≡ Some column → (v : Variable) × (slice_get variables c ≡ Some v) × (column ≡ fresh v)
 fresh_of [] c column h = absurd (grind (arith, h))
 fresh_of (v ∷ vs) zero column h = (v, refl, grind (arith, h))
 fresh_of (v ∷ vs) (suc c) column h = fresh_of vs c column h

@@ -7,6 +7,7 @@ pub mod Declaring
 pub mod Findings
 pub mod Firsts
 pub mod Fresh
+pub mod Kept
 pub mod Manies
 pub mod Moving
 pub mod Pieces

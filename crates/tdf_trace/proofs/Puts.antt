@@ -1,5 +1,5 @@
 -- A cell that is put among those that wait.
-use Rattle.std.proofs.Common.{◌≡◌, ◌≢◌, ℕ, zero, suc, ◌+◌, ◌<◌, ◌≤◌, Bool, true, false, nat_eq, nat_lt, if◌then◌else◌, length-set, List, [], ◌∷◌, ◌++◌, length, slice_get, slice_set, Some, refl, ap, sym, ◌∙◌, subst, inl, inr, arith}
+use Rattle.std.proofs.Common.{◌≡◌, ◌≢◌, ℕ, zero, suc, ◌+◌, min, ◌<◌, ◌≤◌, Bool, true, false, nat_eq, nat_lt, if◌then◌else◌, length-set, List, [], ◌∷◌, ◌++◌, length, slice_get, slice_set, Some, is_some, refl, ap, sym, ◌∙◌, subst, inl, inr, arith}
 use Rattle.std.specs.List.{insert}
 use Rattle.std.proofs.lemmas.Bool.{lt-ltb, le-ltb, cases_eq, cases_lt, eq-eqb, ne_eqb, true≢false}
 use Rattle.std.proofs.lemmas.Option.{slice_get_within}
@@ -12,7 +12,7 @@ use Rattle.tdf_trace.specs.Columns.{ColumnSeen, HasFewPlaces, held_at}
 use Rattle.tdf_trace.specs.Stands.{Stands}
 use Rattle.tdf_trace.specs.declared.column.Held.{Held}
 use Rattle.tdf_trace.specs.machine.Putting.{AreInOrder, IsPlace, IsPut, column_with, put}
-use Rattle.tdf_trace.specs.machine.Turning.{AreSound, HaveFewPlaces, IsSound, Rising}
+use Rattle.tdf_trace.specs.machine.Turning.{AreSound, HaveFewPlaces, HaveValues, IsSound, Rising, front_time}
 
 rising_after : (a : ℕ) (xs : List Held) (j : ℕ) (y : Held) → Rising a xs → slice_get xs j ≡ Some y → a ≤ y.time
 unfolding Rising
@@ -114,12 +114,30 @@ put_sound upto x column low few is = record {
   shown = is.shown;
 }
 
+pub front_put : (x : Held) (xs : List Held) (limit : ℕ) → x.time ≤ limit → front_time (put x xs) limit ≡ min (front_time xs limit) x.time
+unfolding put
+front_put x [] limit inside = omega (arith, inside)
+front_put x (y ∷ ys) limit inside = elim (meets x y) [
+  | Before less t ↦ rw t (omega (arith, less))
+  | Same same t e ↦ rw (t, e) (omega (arith, same))
+  | After less t e ↦ rw (t, e) (omega (arith, less))
+]
+
+pub values_put : (x : Held) (xs : List Held) → is_some x.value ≡ true → HaveValues xs → HaveValues (put x xs)
+unfolding HaveValues put
+values_put x [] some r = (some, tt)
+values_put x (y ∷ ys) some r = elim (meets x y) [
+  | Before less t ↦ rw t (some, r)
+  | Same same t e ↦ rw (t, e) (some, r.1)
+  | After less t e ↦ rw (t, e) (r.0, values_put x ys some r.1)
+]
+
 -- one cell into one column: the column before, and what it is now
-data Was (old : List ColumnSeen) (c d : ℕ) (x : Held) (column : ColumnSeen) : Type 0 where
+pub data Was (old : List ColumnSeen) (c d : ℕ) (x : Held) (column : ColumnSeen) : Type 0 where
   Here : d ≡ c → (o : ColumnSeen) → slice_get old d ≡ Some o → column ≡ column_with x o → Was old c d x column
   There : (d ≡ c → ⊥) → slice_get old d ≡ Some column → Was old c d x column
 
-was : (old new : List ColumnSeen) (c d : ℕ) (x : Held) (column : ColumnSeen) → IsPut old new c x → slice_get new d ≡ Some column → Was old c d x column
+pub was : (old new : List ColumnSeen) (c d : ℕ) (x : Held) (column : ColumnSeen) → IsPut old new c x → slice_get new d ≡ Some column → Was old c d x column
 was old new c d x column is at = elim (cases_eq d c) [
   | inl same ↦ (let l : d < length new = slice_get_within new d column at in let n : length new ≡ length old = is.same in
       let w : (o : ColumnSeen) × (slice_get old d ≡ Some o) = get_some old d (omega (arith, l, n)) in

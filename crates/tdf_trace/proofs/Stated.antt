@@ -190,7 +190,7 @@ get_zip (v ∷ vs) (w ∷ ws) zero x y at here = ap (λ a. Some (a, w)) (same_So
 get_zip (v ∷ vs) (w ∷ ws) (suc k) x y at here = get_zip vs ws k x y at here
 
 -- the column of a place, its variable and its state
-record HasOne (variables : List Variable) (states : List ColumnStateOf) (k : ℕ) (column : ColumnSeen) : Type 0 where
+pub record HasOne (variables : List Variable) (states : List ColumnStateOf) (k : ℕ) (column : ColumnSeen) : Type 0 where
   pub variable : Variable
   pub state : ColumnStateOf
   pub here : slice_get variables k ≡ Some variable
@@ -198,7 +198,7 @@ record HasOne (variables : List Variable) (states : List ColumnStateOf) (k : ℕ
   pub is : column ≡ column_in variable.format state
   pub both : slice_get (zip variables states) k ≡ Some (variable, state)
 
-one_at : (variables : List Variable) (states : List ColumnStateOf) (columns : List ColumnSeen) → length states ≡ length variables → AreColumnsIn variables states (length states) columns
+pub one_at : (variables : List Variable) (states : List ColumnStateOf) (columns : List ColumnSeen) → length states ≡ length variables → AreColumnsIn variables states (length states) columns
     → (k : ℕ) (column : ColumnSeen) → slice_get columns k ≡ Some column → HasOne variables states k column
 one_at variables states columns long are k column at =
     let l : k < length states = (let m = slice_get_within columns k column at in let n = are.long in omega (arith, m, n)) in

@@ -1,5 +1,5 @@
 //! The cells of one column that wait for their rows.
-ghost use Rattle.std.specs.Prelude.{◌≡◌, ◌<◌, [], length, IfOk, OnOk, OnErr};
+ghost use Rattle.std.specs.Prelude.{◌≡◌, ◌<◌, ◌-◌, ◌^◌, [], length, IfOk, OnOk, OnErr};
 ghost use Rattle.tdf_trace.specs.States.{column_state};
 ghost use Rattle.tdf_trace.specs.machine.Putting.{AreInOrder, IsPlace, column_with, put};
 ghost use Rattle.tdf_trace.specs.machine.Resuming.{column_in};
@@ -114,17 +114,21 @@ impl Column {
         self.shown
     }
 
-    /// Goes to the row of this time.
-    pub(crate) fn turn(&mut self, time: u64)
-        ensures { self.new ≡ turned time self.old }
+    /// Goes to the row of this time. Returns the time of its first cell then, or the last of all times where it has none.
+    #[inline(always)]
+    pub(crate) fn turn(&mut self, time: u64) -> u64
+        ensures turned { self.new ≡ turned time self.old }
+        ensures next { result ≡ front_time self.new.held (2 ^ 64 - 1) }
     {
         self.before = self.shown;
-        let next = self.front_time(u64::MAX);
-        if next == time {
-            if let Some(item) = self.held.pop_front() {
-                self.shown = item.value;
-            }
+        let front = self.front_time(u64::MAX);
+        if front != time {
+            return front;
         }
+        if let Some(item) = self.held.pop_front() {
+            self.shown = item.value;
+        }
+        self.front_time(u64::MAX)
     }
 
     /// One cell more, or the value of one that was announced.
@@ -180,7 +184,8 @@ fn put_into(held: &mut VecDeque<Held>, item: Held) -> Result<(), AllocError>
 {
     let place = place_of(held, item.time);
     if place == held.len() {
-        held.push_back(item)?;
+        held.reserve(1)?;
+        held.push_back_reserved(item);
         return Ok(());
     }
     put_at(held, place, item)

@@ -1,5 +1,5 @@
 //! Going from row to row.
-ghost use Rattle.std.specs.Prelude.{◌≡◌, ◌≤◌, ◌<◌, length, OnOk, OnErr, IsTrue, IsFalse, true, false, ℕ, Some, slice_get};
+ghost use Rattle.std.specs.Prelude.{◌≡◌, ◌≤◌, ◌<◌, ◌-◌, ◌^◌, length, OnOk, OnErr, IsTrue, IsFalse, true, false, ℕ, Some, slice_get};
 ghost use Rattle.tdf_trace.specs.Columns.{ColumnSeen, HasFewPlaces};
 ghost use Rattle.tdf_trace.specs.machine.Putting.{IsPut};
 ghost use Rattle.tdf_trace.specs.machine.Turning.{AreSound, AreTurned, IsNext, NoneWaits, OneWaits};
@@ -34,13 +34,18 @@ pub(crate) fn any_waits(columns: &Vec<Column>, time: u64) -> bool
     false
 }
 
-/// All columns go to the row of this time.
-pub(crate) fn turn_all(columns: &mut Vec<Column>, time: u64)
-    ensures { AreTurned time (length columns.old.items) columns.old.items columns.new.items }
+/// All columns go to the row of this time. Returns the least time of a first cell then, or the last of all times.
+#[inline(always)]
+pub(crate) fn turn_all(columns: &mut Vec<Column>, time: u64) -> u64
+    ensures turned { AreTurned time (length columns.old.items) columns.old.items columns.new.items }
+    ensures next { IsNext columns.new.items (length columns.new.items) (2 ^ 64 - 1) result }
 {
+    let mut least = u64::MAX;
     for i in 0..columns.len() {
-        columns[i].turn(time);
+        let front = columns[i].turn(time);
+        least = least.min(front);
     }
+    least
 }
 
 /// One cell more in one column, or the value of one that was announced.

@@ -12,6 +12,7 @@ use tdf_trace_rows::Cell;
 ///
 /// # Errors
 /// Out of memory; some of them may be noted then.
+#[inline(always)]
 pub(crate) fn note_all(
     trace: &mut Trace,
     columns: &Vec<u32>,

@@ -3,43 +3,49 @@ ghost use Rattle.std.specs.Prelude.{◌≡◌, ◌≤◌, ◌<◌, ◌++◌, [],
 ghost use Rattle.tdf_io.specs.Bytes.{WritesText};
 ghost use Rattle.tdf_io.specs.Faults.{CountsSinkFaults};
 ghost use Rattle.tdf_trace.specs.machine.Moving.{Breaks, IsDone, MovesOn};
-ghost use Rattle.tdf_trace.specs.machine.Turning.{AreSound, IsNextRow, NoneWaits, OneWaits};
+ghost use Rattle.tdf_trace.specs.machine.Turning.{AreKept, AreSound, IsNextRow, NoneWaits, OneWaits};
 ghost use Rattle.tdf_trace.specs.views.Seen.{AreShown, Fits, row_line, rows_seen};
 
 use crate::about::About;
 use crate::column::Column;
-use crate::columns::{any_waits, next_time, turn_all};
+use crate::columns::{any_waits, turn_all};
 use crate::{tables, vcd};
 use tdf_base::Memory;
 use tdf_io::{Sink, SinkErr, put_all};
 use tdf_trace_rows::TraceKind;
 
-/// The columns of a trace, the time below which its rows are written, and the room for a line.
+/// The columns of a trace, the time below which its rows are written, the least time of a first cell of a column (the last of all
+/// times where there is none), whether some cell may be only announced, and the room for a line.
 #[derive(Drop)]
 pub(crate) struct Rows {
     pub(crate) columns: Vec<Column>,
     pub(crate) upto: u64,
+    pub(crate) least: u64,
+    pub(crate) announces: bool,
     pub(crate) line: Vec<u8>,
 }
 
-/// Appends the row that the columns show.
-fn push_row(
-    line: &mut Vec<u8>,
-    about: &About,
-    columns: &Vec<Column>,
-    time: u64,
-) -> Result<(), Memory>
-    requires fits { Fits about.now columns.now.items }
-    requires shown { AreShown columns.now.items }
-    ensures { OnOk result (line.new.items ≡ line.old.items ++ row_line about.now columns.now.items time) }
+/// Writes a line. Mostly one write call takes all of it.
+#[inline(always)]
+fn write_line<K: Sink>(sink: &mut K, line: &[u8]) -> Result<(), SinkErr>
+    ensures { WritesText K.taken K.faults sink.old sink.new line.now result }
 {
-    match about.kind {
-        TraceKind::Table => tables::push_line(line, columns, time, about.resolution),
-        TraceKind::Vcd => vcd::push_line(line, &about.variables, columns, time),
+    if line.is_empty() {
+        return Ok(());
+    }
+    match sink.write(line) {
+        Ok(count) => {
+            if count == line.len() {
+                return Ok(());
+            }
+            put_all(sink, &line[count..])
+        }
+        Err(error) => Err(error),
     }
 }
 
 /// Writes the row that the columns show, as one piece.
+#[inline(always)]
 fn write_row<K: Sink>(
     line: &mut Vec<u8>,
     about: &About,
@@ -52,32 +58,44 @@ fn write_row<K: Sink>(
     ensures { WritesText K.taken K.faults sink.old sink.new (row_line about.now columns.now.items time) result }
 {
     line.clear();
-    match push_row(line, about, columns, time) {
-        Ok(()) => put_all(sink, line),
+    let pushed = match about.kind {
+        TraceKind::Table => tables::push_line(line, columns, time, about.resolution),
+        TraceKind::Vcd => vcd::push_line(line, &about.variables, columns, time),
+    };
+    match pushed {
+        Ok(()) => write_line(sink, line),
         Err(Memory) => Err(SinkErr::Memory),
     }
 }
 
 /// The time of the next row below the limit, or the limit.
-fn next_row(columns: &Vec<Column>, upto: u64, limit: u64) -> u64
-    ensures { IsNextRow (record { columns = columns.now.items; upto = upto }) limit result }
+#[inline(always)]
+fn next_row(rows: &Rows, limit: u64) -> u64
+    requires kept { AreKept rows.now.columns.items rows.now.least rows.now.announces }
+    ensures { IsNextRow (rows_seen rows.now) limit result }
 {
-    if upto == 0 {
+    let time = rows.least.min(limit);
+    if rows.upto == 0 {
         return 0;
     }
-    next_time(columns, limit)
+    time
 }
 
 /// Whether the row of this time is held back: rows wait for cells that are only announced, and it has one.
-fn is_held_back(columns: &Vec<Column>, time: u64, waits: bool) -> bool
+#[inline(always)]
+fn is_held_back(rows: &Rows, time: u64, waits: bool) -> bool
+    requires kept { AreKept rows.now.columns.items rows.now.least rows.now.announces }
     ensures waits { result ≡ true → waits ≡ true }
-    ensures one { result ≡ true → OneWaits columns.now.items time }
-    ensures none { result ≡ false → waits ≡ true → NoneWaits columns.now.items time (length columns.now.items) }
+    ensures one { result ≡ true → OneWaits rows.now.columns.items time }
+    ensures none { result ≡ false → waits ≡ true → NoneWaits rows.now.columns.items time (length rows.now.columns.items) }
 {
     if !waits {
         return false;
     }
-    any_waits(columns, time)
+    if !rows.announces {
+        return false;
+    }
+    any_waits(&rows.columns, time)
 }
 
 /// Writes the next row below the limit, if there is one that needn't wait, and says whether it did.
@@ -90,9 +108,11 @@ fn write_next<K: Sink>(
 ) -> Result<bool, SinkErr>
     requires fits { Fits about.now rows.old.columns.items }
     requires sound { AreSound rows.old.upto rows.old.columns.items }
+    requires kept { AreKept rows.old.columns.items rows.old.least rows.old.announces }
     requires below { rows.old.upto < limit }
     ensures same { length rows.new.columns.items ≡ length rows.old.columns.items }
     ensures sound { AreSound rows.new.upto rows.new.columns.items }
+    ensures kept { AreKept rows.new.columns.items rows.new.least rows.new.announces }
     ensures wrote { IfOk result (λ more. MovesOn about.now waits (rows_seen rows.old) (rows_seen rows.new) (K.taken sink.old) (K.taken sink.new)) }
     ensures on { IfOk result (λ more. more ≡ true → rows.old.upto < rows.new.upto) }
     ensures within { IfOk result (λ more. rows.new.upto ≤ limit) }
@@ -100,15 +120,15 @@ fn write_next<K: Sink>(
     ensures part { OnErr result (Breaks about.now (rows_seen rows.old) limit (K.taken sink.old) (K.taken sink.new)) }
     ensures counted { CountsSinkFaults (K.faults sink.old) (K.faults sink.new) result }
 {
-    let time = next_row(&rows.columns, rows.upto, limit);
+    let time = next_row(rows, limit);
     if time >= limit {
         rows.upto = limit;
         return Ok(false);
     }
-    if is_held_back(&rows.columns, time, waits) {
+    if is_held_back(rows, time, waits) {
         return Ok(false);
     }
-    turn_all(&mut rows.columns, time);
+    rows.least = turn_all(&mut rows.columns, time);
     rows.upto = time + 1;
     match write_row(&mut rows.line, about, &rows.columns, time, sink) {
         Ok(()) => Ok(true),
@@ -126,8 +146,10 @@ pub(crate) fn write_below<K: Sink>(
 ) -> Result<(), SinkErr>
     requires fits { Fits about.now rows.old.columns.items }
     requires sound { AreSound rows.old.upto rows.old.columns.items }
+    requires kept { AreKept rows.old.columns.items rows.old.least rows.old.announces }
     ensures same { length rows.new.columns.items ≡ length rows.old.columns.items }
     ensures sound { AreSound rows.new.upto rows.new.columns.items }
+    ensures kept { AreKept rows.new.columns.items rows.new.least rows.new.announces }
     ensures wrote { OnOk result (MovesOn about.now waits (rows_seen rows.old) (rows_seen rows.new) (K.taken sink.old) (K.taken sink.new)) }
     ensures within { OnOk result (rows.new.upto ≤ max rows.old.upto limit) }
     ensures done { OnOk result (IsDone waits (rows_seen rows.new) limit) }

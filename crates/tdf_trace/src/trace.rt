@@ -12,7 +12,7 @@ ghost use Rattle.tdf_trace.specs.views.Seen.{fresh};
 
 use crate::about::{About, Variable};
 use crate::column::{Column, Held};
-use crate::columns::put_cell;
+use crate::columns::{next_time, put_cell};
 use crate::heads::{write_head, write_tail};
 use crate::rows::{Rows, write_below};
 use crate::stage::Stage;
@@ -35,14 +35,18 @@ pub struct Trace {
 
 impl Model for Trace {
     ghost use Rattle.tdf_trace.specs.Stands.{TraceSeen};
-    ghost use Rattle.tdf_trace.specs.machine.Turning.{AreSound};
+    ghost use Rattle.tdf_trace.specs.machine.Turning.{AreKept, AreSound};
     ghost use Rattle.tdf_trace.specs.views.Seen.{Fits, rows_seen};
 
     ghost Value = { TraceSeen };
 
     ghost view = { λ a. record { about = a.about; stage = a.stage; rows = rows_seen a.rows } };
 
-    ghost invariant = { λ a. record { fits : Fits a.about a.rows.columns.items; sound : AreSound a.rows.upto a.rows.columns.items } };
+    ghost invariant = { λ a. record {
+      fits : Fits a.about a.rows.columns.items;
+      sound : AreSound a.rows.upto a.rows.columns.items;
+      kept : AreKept a.rows.columns.items a.rows.least a.rows.announces;
+    } };
 }
 
 /// A column without cells for each variable.
@@ -82,6 +86,8 @@ impl Trace {
                 rows: Rows {
                     columns,
                     upto: 0,
+                    least: u64::MAX,
+                    announces: false,
                     line: Vec::new(alloc),
                 },
             }),
@@ -139,6 +145,8 @@ impl Trace {
                 },
                 stage: Stage::Open,
                 rows: Rows {
+                    least: next_time(&columns, u64::MAX),
+                    announces: false,
                     columns,
                     upto,
                     line: Vec::new(alloc),
@@ -192,6 +200,7 @@ impl Trace {
     ///
     /// # Errors
     /// Out of memory; the trace is then unchanged.
+    #[inline(always)]
     pub fn note(&mut self, cell: Cell) -> Result<(), Memory>
         requires column { cell.column < length self.old.about.variables }
         requires time { self.old.rows.upto ≤ cell.time }
@@ -207,6 +216,8 @@ impl Trace {
             value: cell.value,
         };
         put_cell(&mut self.rows.columns, self.rows.upto, cell.column, item)?;
+        self.rows.least = self.rows.least.min(cell.time);
+        self.rows.announces = self.rows.announces || cell.value.is_none();
         Ok(())
     }
 

@@ -116,6 +116,7 @@ impl Tracked {
     }
 
     /// Samples that wait get their times, as far as there are positions.
+    #[inline(never)]
     fn catch_up(&mut self, trace: &mut Trace) -> Result<(), Memory>
         requires columns { AreColumns (length trace.old.about.variables) self.old.columns }
         requires upto { trace.old.rows.upto ≤ self.old.stamps.time }
@@ -159,6 +160,9 @@ impl Tracked {
     {
         self.stamps.begin(start, step, count);
         self.since = start;
+        if self.waiting.is_empty() {
+            return Ok(());
+        }
         self.catch_up(trace)
     }
 

@@ -35,6 +35,13 @@ pub record AreAfter (table : List AttrsOf) (frames : List ModuleFrame) (n : ℕ)
   pub each : (j : ℕ) (attrs : AttrsOf) (f : ModuleFrame) → j < n → slice_get table j ≡ Some attrs
       → slice_get frames j ≡ Some f → slice_get after j ≡ Some (attrs_after attrs (told f))
 
+-- the first n of as many rows as there are modules are those after the change bodies
+pub record AreWritten (table : List AttrsOf) (frames : List ModuleFrame) (n : ℕ)
+    (after : List AttrsOf) : Type 0 where
+  pub long : length after ≡ length table
+  pub each : (j : ℕ) (attrs : AttrsOf) (f : ModuleFrame) → j < n → slice_get table j ≡ Some attrs
+      → slice_get frames j ≡ Some f → slice_get after j ≡ Some (attrs_after attrs (told f))
+
 -- the first n rows have the flags that were said; the others are as before
 abbrev pub flagged : AttrsOf → ModuleFrame → AttrsOf
 flagged attrs f = record attrs { accepts = said_or attrs.accepts f.ports.state.accepts }
@@ -52,3 +59,12 @@ pub record IsRefusing (before after : List Port) (old_steps new_steps : Steps) (
   pub flag : (attrs_after attrs (told f)).accepts ≡ false
   pub same : HasSameRates attrs (attrs_after attrs (told f))
   pub moved : HasSameSteps before after old_steps new_steps attrs → ⊥
+
+-- a module rejects no rates and steps, whichever they are
+abbrev pub TakesAll : AttrsOf → ModuleFrame → Type 0
+TakesAll attrs f = (before after : List Port) (old_steps new_steps : Steps)
+    → IsRefusing before after old_steps new_steps attrs f → ⊥
+
+-- no module does
+abbrev pub TakeAll : List AttrsOf → List ModuleFrame → Type 0
+TakeAll table frames = HoldsBelow TakesAll table frames (length table)

@@ -1,12 +1,11 @@
 -- How the next period begins with a new plan: what is made first, and how the modules begin again.
 -- Source: own.
-use Rattle.std.specs.Prelude.{◌≡◌, ◌<◌, ◌≤◌, ℕ, List, length, map, Some, slice_get}
+use Rattle.std.specs.Prelude.{◌≡◌, ◌<◌, ◌≤◌, ℕ, List, length, Some, slice_get}
 use Rattle.tdf_dynamic_plans.specs.Attributes.{AttrsOf}
 use Rattle.tdf_dynamic_plans.specs.Known.{AttrsTable}
 use Rattle.tdf_dynamic_plans.specs.Rates.{net_of}
 use Rattle.tdf_exec.specs.Cluster.{ClusterOf}
 use Rattle.tdf_exec.specs.Crossing.{with_new_plan}
-use Rattle.tdf_exec_parts.specs.Rings.{room_for}
 use Rattle.tdf_exec.specs.Runners.{ModuleOf}
 use Rattle.tdf_exec.specs.declared.runners.Runner.{Runner}
 use Rattle.tdf_exec.specs.declared.runners.Runner.TheVariants as runner
@@ -54,24 +53,22 @@ pub record AreRestarted (checked : Checked) (n : ℕ) (old new : List Runner) : 
       → IsRestarted checked r s
   pub waiting : (m : ℕ) → n ≤ m → slice_get new m ≡ slice_get old m
 
--- what is made before anything is moved: the rates in force, the room for the bounds, and the ports
--- of each module whose signals are traced
-pub record AreNextParts (flat : Flat) (attrs : List AttrsOf) (bounds reads writes rooms : List ℕ)
+-- what is made before anything is moved: the rates in force, and the ports of each module whose
+-- signals are traced
+pub record AreNextParts (flat : Flat) (attrs : List AttrsOf) (reads writes : List ℕ)
     (rows : List (List TracedPort)) : Type 0 where
   pub reads_are : reads ≡ read_rates (net_of flat.tables attrs)
   pub writes_are : writes ≡ write_rates (net_of flat.tables attrs)
-  pub rooms_are : rooms ≡ map room_for bounds
   pub traced_are : AreTracedUpTo flat.tables attrs (length flat.tables.ports) rows
 
 -- a cluster for which it has been moved, and whose modules have begun again
 pub record HasReplaced (flat : Flat) (c : ClusterOf) (attrs : AttrsTable) (plan : Plan)
     (d : ClusterOf) : Type 0 where
-  pub rooms : List ℕ
   pub rows : List (List TracedPort)
   pub rest : List (List TracedPort)
   pub given : List Runner
   pub d_is : d ≡ with_new_plan c attrs plan d.reads d.writes d.rings d.runners
-  pub parts : AreNextParts flat attrs.rows plan.bounds.items d.reads d.writes rooms rows
-  pub carried : AreCarried rooms c.rings d.rings
+  pub parts : AreNextParts flat attrs.rows d.reads d.writes rows
+  pub carried : AreCarried plan.bounds.items c.rings d.rings
   pub given_are : AreGivenTraced (length rows) rows rest c.runners given
   pub restarted : AreRestarted flat.checked (length given) given d.runners

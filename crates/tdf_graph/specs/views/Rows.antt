@@ -1,11 +1,11 @@
 -- How lists of parts are made and changed, step by step.
-use Rattle.std.specs.Prelude.{ℕ, ◌≡◌, ◌≢◌, ◌<◌, List, [], ◌∷◌, Some, Vec, length, slice_get, slice_index}
-use Rattle.std.specs.Global.{Global}
+use Rattle.std.specs.Prelude.{ℕ, ◌≡◌, ◌≢◌, ◌<◌, List, [], ◌∷◌, Some, length, slice_get, slice_index}
+use Rattle.smallvec.specs.SmallVec.{SmallVec}
 
 -- row by row, the number alone
-pub record AreRows (count : ℕ) (members : List (Vec ℕ Global)) : Type 0 where
+pub record AreRows (count : ℕ) (members : List (SmallVec ℕ)) : Type 0 where
   pub long : length members ≡ count
-  pub each : (l : ℕ) (row : Vec ℕ Global) → slice_get members l ≡ Some row → row.items ≡ l ∷ []
+  pub each : (l : ℕ) (row : SmallVec ℕ) → slice_get members l ≡ Some row → row.items ≡ l ∷ []
 
 abbrev pub AreWithin : ℕ → List ℕ → Type 0
 AreWithin count list = (i : ℕ) → i < length list → slice_index list i < count

@@ -1,6 +1,6 @@
 -- How columns go to the next row.
 -- Source: own.
-use Rattle.std.specs.Prelude.{◌≡◌, ℕ, ◌+◌, ◌<◌, ◌≤◌, Bool, true, false, nat_eq, ◌&&◌, not, if◌then◌else◌, Option, Some, is_some, List, [], ◌∷◌, length, slice_get}
+use Rattle.std.specs.Prelude.{◌≡◌, ℕ, ◌+◌, ◌-◌, ◌^◌, ◌<◌, ◌≤◌, Bool, true, false, nat_eq, ◌&&◌, not, if◌then◌else◌, Option, Some, is_some, List, [], ◌∷◌, length, slice_get}
 use Rattle.tdf_fixed.specs.declared.raw.Raw.{Raw}
 use Rattle.tdf_trace.specs.Columns.{ColumnSeen, HasFewPlaces}
 use Rattle.tdf_trace.specs.Stands.{RowsSeen}
@@ -67,6 +67,22 @@ pub record IsNext (columns : List ColumnSeen) (n limit time : ℕ) : Type 0 wher
       → slice_get columns place ≡ Some column → time ≤ front_time column.held limit
   pub found : time < limit → (place : ℕ) × (column : ColumnSeen) × (place < n)
       × (slice_get columns place ≡ Some column) × (front_time column.held limit ≡ time)
+
+-- cells of which none is only announced
+unfoldable pub HaveValues : List Held → Type 0
+HaveValues [] = Unit {0}
+HaveValues (x ∷ xs) = (is_some x.value ≡ true) × HaveValues xs
+
+abbrev pub AreAllGiven : List ColumnSeen → Type 0
+AreAllGiven columns =
+    (place : ℕ) (column : ColumnSeen) → slice_get columns place ≡ Some column
+    → HaveValues column.held
+
+-- what is kept of the cells: the least time of a first one, or the last of all times where there is
+-- none, and whether some may be only announced
+pub record AreKept (columns : List ColumnSeen) (least : ℕ) (announces : Bool) : Type 0 where
+  pub next : IsNext columns (length columns) (2 ^ 64 - 1) least
+  pub given : announces ≡ false → AreAllGiven columns
 
 -- the next row: the one at 0 where nothing is written, else that of the least first cell below the
 -- limit, or the limit

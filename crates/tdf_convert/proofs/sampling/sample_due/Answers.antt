@@ -1,8 +1,6 @@
-use Rattle.std.proofs.Common.{rules, ◌≡◌, ◌∙◌, [], ap, length, List, subst, sym}
-use Rattle.std.proofs.lemmas.List.{nil_from_length}
+use Rattle.std.proofs.Common.{◌∙◌, ap, List, subst}
 use Rattle.std.specs.Prelude.{slice_get}
-use Rattle.tdf_convert.proofs.Samples.{all_sampled, none_sampled}
-use Rattle.tdf_convert.specs.Sampled.{AreSampled}
+use Rattle.tdf_convert.proofs.Samples.{all_sampled}
 use Rattle.tdf_convert.specs.declared.links.Link.{Link}
 use Rattle.tdf_convert.specs.machine.Sampling.{AreSampledUpTo}
 use Rattle.tdf_schedule.specs.declared.entry.Entry.{Entry}
@@ -20,11 +18,3 @@ returns-then-low-high c =
     (subst (λ (e : List Entry). AreSampledUpTo e low high c.args.links.now.list.items c.args.values.now c.args.inputs.now c.sample_all.new.inputs) c.deref-then-low-high.ensures.value
     (subst (λ (l : List Link). AreSampledUpTo c.deref-then-low-high.result.now low high l c.args.values.now c.args.inputs.now c.sample_all.new.inputs) c.deref-then-low-high-2.ensures.value
     c.sample_all.ensures))
-
--- without links nothing changes
-pub returns-then-is_empty : goal.returns-then-is_empty
-returns-then-is_empty c =
-    let zero : length c.args.links.now.list.items ≡ 0 = search rules in
-    let none : c.args.links.now.list.items ≡ [] = nil_from_length c.args.links.now.list.items zero in
-    subst (λ (l : List Link). AreSampled c.args.plan.now.entries.items c.args.offset l c.args.values.now c.args.inputs.now c.args.inputs.now) (sym none)
-    (none_sampled c.args.plan.now.entries.items c.args.offset c.args.values.now c.args.inputs.now)

@@ -4,19 +4,9 @@ use Rattle.std.specs.Prelude.{vec_len}
 use Rattle.tdf_dynamic.proofs.Judging.{all_weaker, change_refused, counts_long, judged_is, plan_refused, refusal_weaker, steps_refused}
 use Rattle.tdf_dynamic.specs.machine.Judging.{IsJudged, IsJudgedFault, IsRejection}
 use Rattle.tdf_dynamic_plans.specs.Faults.{HasTiming, IsPlanFault, IsPlanOf}
-use Rattle.tdf_dynamic_plans.proofs.Api.{clusters_are, made_planned, modules_few, ports_are}
+use Rattle.tdf_dynamic_plans.proofs.Api.{made_planned}
 use Rattle.tdf_dynamic_plans.specs.Rates.{NetOf, net_seen}
 use Rattle.tdf_dynamic.proofs.next.judged_anew.Goals as goal
-
-pub steps_of-requires-clause-clusters : goal.steps_of-requires-clause-clusters
-steps_of-requires-clause-clusters c = clusters_are c.args.at.now.flat.now.tables c.args.new.now c.requires.wired c.args.after.now (vec_len c.args.after.now.actors) c.args.at.now.clusters.now c.requires.net
-    (let o = c.args.after.now.actors.ok in omega (arith, o)) c.requires.own
-
-pub steps_of-requires-clause-ports : goal.steps_of-requires-clause-ports
-steps_of-requires-clause-ports c = ports_are c.args.at.now.flat.now.tables c.args.new.now c.args.after.now c.requires.net
-
-pub steps_of-requires-clause-modules : goal.steps_of-requires-clause-modules
-steps_of-requires-clause-modules c = modules_few c.args.at.now.flat.now.tables c.requires.wired
 
 pub returns-in-Err-clause-refused : goal.returns-in-Err-clause-refused
 returns-in-Err-clause-refused c = steps_refused c.args.at.now.flat.now.tables c.args.at.now.cluster c.args.at.now.table.now c.args.new.now c.args.at.now.frames.now (net_seen c.args.after.now) c.requires.net c.in-Err.refused c.in-Err.ensures.refused

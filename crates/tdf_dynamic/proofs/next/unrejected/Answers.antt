@@ -1,6 +1,6 @@
 use Rattle.std.specs.Prelude.{Err, Ok, OnOk, Result}
 use Rattle.tdf_base.specs.declared.codes.Code.TheVariants as code
-use Rattle.tdf_dynamic.proofs.Judging.{IsToldFirst, all_weaker, old_fails, rejection_is, unrejected_is}
+use Rattle.tdf_dynamic.proofs.Judging.{IsToldFirst, all_weaker, none_rejects, old_fails, rejection_is, unrejected_is}
 use Rattle.tdf_dynamic.specs.machine.Judging.{IsRejection}
 use Rattle.tdf_dynamic.specs.machine.Rows.{IsRefusing}
 use Rattle.tdf_dynamic_plans.proofs.Api.{modules_few}
@@ -29,3 +29,6 @@ returns-in-Ok-clause-refused c =
     (IsRejection c.args.at.now.flat.now.tables c.args.at.now.cluster c.args.at.now.table.now c.args.at.now.frames.now c.args.after.now.ports.items c.args.new.now.steps)
     (rejection_is c.args.at.now.flat.now.tables c.args.at.now.cluster c.args.at.now.table.now c.args.at.now.frames.now c.in_ok-before.before c.in_ok-before.ensures.net c.in-Ok.old.counts.items c.in-Ok.old.steps c.in-Ok.ensures.timing c.args.after.now.ports.items c.args.new.now.steps)
     c.accepted.result c.accepted.ensures.refused
+
+pub returns-then-take_all-clause-none : goal.returns-then-take_all-clause-none
+returns-then-take_all-clause-none c = none_rejects c.args.at.now.flat.now.tables c.args.at.now.cluster c.args.at.now.table.now c.args.at.now.frames.now c.requires.planned (c.take_all.ensures c.if-take_all.true) c.args.after.now.ports.items c.args.new.now.steps

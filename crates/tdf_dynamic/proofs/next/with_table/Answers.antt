@@ -12,5 +12,5 @@ judged-requires-clause-rates c = are_rates c.args.flat.now c.requires.limits c.a
 
 pub judged-requires-clause-new_rates : goal.judged-requires-clause-new_rates
 judged-requires-clause-new_rates c =
-    subst (λ (l : List AttrsOf). AreRates c.args.flat.now.tables l) (sym c.deref-2.ensures.value)
+    subst (λ (l : List AttrsOf). AreRates c.args.flat.now.tables l) (sym c.deref.ensures.value)
     (are_rates c.args.flat.now c.requires.limits c.in_ok-after.after.items (c.requires.after c.in_ok-after.after.items c.in_ok-after.ensures).allowed)

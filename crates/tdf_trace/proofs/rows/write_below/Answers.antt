@@ -9,6 +9,7 @@ loop-rows-init g c = record {
   same = refl;
   fits = c.requires.fits;
   sound = c.requires.sound;
+  kept = c.requires.kept;
   within = omega arith;
   wrote = moves_none c.args.about.now c.args.waits (rows_seen c.args.rows.now) _;
   counted = record { later = omega arith; kept = refl; rose = tt };
@@ -19,6 +20,7 @@ loop-rows-preserved g c = record {
   same = c.write_next.ensures.same ∙ c.loop-rows.invariant.same;
   fits = record { same = c.loop-rows.invariant.fits.same ∙ sym c.write_next.ensures.same; few = (let e : length c.write_next.new.rows.columns.items ≡ length c.loop-rows.rows.columns.items = c.write_next.ensures.same in let f = c.loop-rows.invariant.fits.few in omega (arith, e, f)) };
   sound = c.write_next.ensures.sound;
+  kept = c.write_next.ensures.kept;
   within = (let w : c.write_next.new.rows.upto ≤ c.args.limit = c.in-Ok-true.ensures.within in omega (arith, w));
   wrote = moves_trans c.args.about.now c.args.waits _ _ _ _ _ _ c.loop-rows.invariant.wrote c.in-Ok-true.ensures.wrote;
   counted = (let on = counts_then _ _ _ tt _ c.loop-rows.invariant.counted c.in-Ok-true.ensures.counted in record { later = on.later; kept = on.kept; rose = tt });

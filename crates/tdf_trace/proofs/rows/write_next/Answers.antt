@@ -1,4 +1,5 @@
 use Rattle.std.proofs.Common.{rules, arith, ◌≡◌, ◌<◌, ◌≤◌, ◌+◌, subst}
+use Rattle.tdf_trace.proofs.Kept.{given_turned}
 use Rattle.tdf_trace.proofs.Moving.{breaks_row, done_waiting, moves_none, moves_quiet, moves_row}
 use Rattle.tdf_trace.proofs.Turns.{Next, next, sound_on, sound_shown}
 use Rattle.tdf_trace.proofs.rows.write_next.Goals as goal
@@ -32,18 +33,18 @@ returns-then-is_held_back-clause-done g c _ =
 pub write_row-requires-clause-shown : goal.write_row-requires-clause-shown
 write_row-requires-clause-shown g c =
     let n = next (rows_seen c.args.rows.now) c.args.limit c.next_row-time.result c.requires.sound c.next_row-time.ensures c.requires.below in
-    sound_shown (c.next_row-time.result + 1) c.turn_all.new.columns.items (sound_on c.args.rows.now.columns.items c.turn_all.new.columns.items c.next_row-time.result n.sound c.turn_all.ensures)
+    sound_shown (c.next_row-time.result + 1) c.turn_all-rows.new.columns.items (sound_on c.args.rows.now.columns.items c.turn_all-rows.new.columns.items c.next_row-time.result n.sound c.turn_all-rows.ensures.turned)
 
 pub returns-in-Ok-clause-sound : goal.returns-in-Ok-clause-sound
 returns-in-Ok-clause-sound g c =
     let n = next (rows_seen c.args.rows.now) c.args.limit c.next_row-time.result c.requires.sound c.next_row-time.ensures c.requires.below in
-    sound_on c.args.rows.now.columns.items c.turn_all.new.columns.items c.next_row-time.result n.sound c.turn_all.ensures
+    sound_on c.args.rows.now.columns.items c.turn_all-rows.new.columns.items c.next_row-time.result n.sound c.turn_all-rows.ensures.turned
 
 pub returns-in-Ok-clause-wrote : goal.returns-in-Ok-clause-wrote
 returns-in-Ok-clause-wrote g c =
     let n = next (rows_seen c.args.rows.now) c.args.limit c.next_row-time.result c.requires.sound c.next_row-time.ensures c.requires.below in
     let l : c.next_row-time.result < c.args.limit = omega arith in
-    moves_row c.args.about.now c.args.waits (rows_seen c.args.rows.now) c.turn_all.new.columns.items c.args.limit c.next_row-time.result _ _ n l c.turn_all.ensures
+    moves_row c.args.about.now c.args.waits (rows_seen c.args.rows.now) c.turn_all-rows.new.columns.items c.args.limit c.next_row-time.result _ _ n l c.turn_all-rows.ensures.turned
     (λ must. c.is_held_back.ensures.none (search rules) must) c.in-Ok.ensures.all
 
 pub returns-in-Ok-clause-on : goal.returns-in-Ok-clause-on
@@ -54,10 +55,22 @@ returns-in-Ok-clause-on g c _ =
 pub returns-in-Err-clause-sound : goal.returns-in-Err-clause-sound
 returns-in-Err-clause-sound g c =
     let n = next (rows_seen c.args.rows.now) c.args.limit c.next_row-time.result c.requires.sound c.next_row-time.ensures c.requires.below in
-    sound_on c.args.rows.now.columns.items c.turn_all.new.columns.items c.next_row-time.result n.sound c.turn_all.ensures
+    sound_on c.args.rows.now.columns.items c.turn_all-rows.new.columns.items c.next_row-time.result n.sound c.turn_all-rows.ensures.turned
 
 pub returns-in-Err-clause-part : goal.returns-in-Err-clause-part
 returns-in-Err-clause-part g c =
     let n = next (rows_seen c.args.rows.now) c.args.limit c.next_row-time.result c.requires.sound c.next_row-time.ensures c.requires.below in
     let l : c.next_row-time.result < c.args.limit = omega arith in
-    breaks_row c.args.about.now (rows_seen c.args.rows.now) c.turn_all.new.columns.items c.args.limit c.next_row-time.result _ _ n l c.turn_all.ensures c.in-Err.ensures.part
+    breaks_row c.args.about.now (rows_seen c.args.rows.now) c.turn_all-rows.new.columns.items c.args.limit c.next_row-time.result _ _ n l c.turn_all-rows.ensures.turned c.in-Err.ensures.part
+
+pub returns-in-Ok-clause-kept : goal.returns-in-Ok-clause-kept
+returns-in-Ok-clause-kept g c = record {
+  next = c.turn_all-rows.ensures.next;
+  given = λ none. given_turned c.next_row-time.result c.args.rows.now.columns.items c.turn_all-rows.new.columns.items c.turn_all-rows.ensures.turned (c.requires.kept.given none);
+}
+
+pub returns-in-Err-clause-kept : goal.returns-in-Err-clause-kept
+returns-in-Err-clause-kept g c = record {
+  next = c.turn_all-rows.ensures.next;
+  given = λ none. given_turned c.next_row-time.result c.args.rows.now.columns.items c.turn_all-rows.new.columns.items c.turn_all-rows.ensures.turned (c.requires.kept.given none);
+}

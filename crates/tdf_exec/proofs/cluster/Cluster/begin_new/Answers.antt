@@ -1,34 +1,36 @@
-use Rattle.std.proofs.Common.{◌≡◌, ◌∙◌, None, arith, subst, sym, true}
+use Rattle.std.proofs.Common.{rules, ◌≡◌, ◌∙◌, ℕ, List, None, ap, arith, length, subst, sym, true}
 use Rattle.tdf_dynamic_plans.proofs.Api.{modules_few}
-use Rattle.tdf_exec.proofs.Installing.{can_restart, fit_in, has, some_rooms}
+use Rattle.tdf_dynamic_plans.specs.Attributes.{AttrsOf, RowsStandOnce}
+use Rattle.tdf_dynamic_plans.specs.Known.{AttrsTable}
+use Rattle.tdf_dynamic_plans.specs.Rates.{AreRates, net_of}
+use Rattle.tdf_exec.proofs.Installing.{can_restart, fit_in, has, reads_long, writes_long}
 use Rattle.tdf_exec.specs.Cluster.{ClusterOf, next_offset}
-use Rattle.tdf_exec.specs.Crossing.{IsReadyFor}
+use Rattle.tdf_exec.specs.Crossing.{IsReadyFor, with_new_plan}
 use Rattle.tdf_exec.specs.contracts.cluster.Cluster.{the_view}
+use Rattle.tdf_exec.specs.machine.Tracing.{AreGivenTraced}
+use Rattle.tdf_rings.specs.Carried.{FitIn}
 use Rattle.tdf_streams.proofs.Api.{are_rates, is_wired}
+use Rattle.tdf_streams.specs.Periods.{read_rates, write_rates}
 use Rattle.tdf_exec.proofs.cluster.Cluster.begin_new.Goals as goal
 
 pub next_parts-requires-clause-rates : goal.next_parts-requires-clause-rates
 next_parts-requires-clause-rates c =
     are_rates c.args.flat.now (c.law_laid.ensures.laid c.args.flat.now c.requires.sound).limits c.args.attrs.rows c.requires.ready.attributes.allowed
 
-pub carry-requires-clause-some : goal.carry-requires-clause-some
-carry-requires-clause-some c = some_rooms c.args.plan.bounds.items c.deref.result.now
-    (c.deref.ensures.value ∙ c.in-Ok.ensures.parts.rooms_are)
-
-pub carry-requires-clause-fit : goal.carry-requires-clause-fit
-carry-requires-clause-fit c =
+pub carry-requires : goal.carry-requires
+carry-requires c =
     let ready : IsReadyFor c.args.flat.now (the_view c.self.inside) c.args.attrs c.args.plan =
     subst (λ (s : ClusterOf). IsReadyFor c.args.flat.now s c.args.attrs c.args.plan) (sym c.self.view_is) c.requires.ready in
     let end : next_offset (the_view c.self.inside) ≡ None = ready.of.over (subst (λ (s : ClusterOf). s.crossed ≡ true) (sym c.self.view_is) c.requires.crossed) in
-    fit_in c.args.flat.now (the_view c.self.inside) c.args.attrs c.args.plan ready (c.law_laid.ensures.laid c.args.flat.now c.requires.sound) c.law_laid.ensures.present c.requires.sound end
-    c.deref.result.now (c.deref.ensures.value ∙ c.in-Ok.ensures.parts.rooms_are)
+    subst (λ (l : List ℕ). FitIn l (the_view c.self.inside).rings) (sym c.deref.ensures.value)
+    (fit_in c.args.flat.now (the_view c.self.inside) c.args.attrs c.args.plan ready (c.law_laid.ensures.laid c.args.flat.now c.requires.sound) c.law_laid.ensures.present c.requires.sound end)
 
 pub give_all-requires : goal.give_all-requires
 give_all-requires c =
     let ready : IsReadyFor c.args.flat.now (the_view c.self.inside) c.args.attrs c.args.plan =
     subst (λ (s : ClusterOf). IsReadyFor c.args.flat.now s c.args.attrs c.args.plan) (sym c.self.view_is) c.requires.ready in
     let few = modules_few c.args.flat.now.tables (is_wired c.args.flat.now (c.law_laid.ensures.laid c.args.flat.now c.requires.sound).limits) in
-    let rows = c.in-Ok.ensures.parts.traced_are.long in let actors = ready.of.actors in
+    let rows = c.in-Ok.ensures.traced.long in let actors = ready.of.actors in
     omega (arith, few, rows, actors)
 
 pub restart_all-requires : goal.restart_all-requires
@@ -43,5 +45,49 @@ invariant_of-self-2 c =
     subst (λ (s : ClusterOf). IsReadyFor c.args.flat.now s c.args.attrs c.args.plan) (sym c.self.view_is) c.requires.ready in
     let end : next_offset (the_view c.self.inside) ≡ None = ready.of.over (subst (λ (s : ClusterOf). s.crossed ≡ true) (sym c.self.view_is) c.requires.crossed) in
     let h = has c.args.flat.now (the_view c.self.inside) c.args.attrs c.args.plan ready (c.law_laid.ensures.laid c.args.flat.now c.requires.sound) c.law_laid.ensures.present c.requires.sound end in
-    let long = ready.long in let room = c.self.invariant.room in
-    record { sorted = c.law_laid.ensures.sorted _ _ _ c.args.plan.entries.items h.plan_is.planned; counted = c.in-Ok.ensures.counted; room = omega (arith, long, room) }
+    let long = ready.long in let room = c.self.invariant.room in let kept = ap (λ (t : AttrsTable). length t.rows) (c.recycle.ensures.same ∙ c.replace-left.ensures.after) in
+    record { sorted = c.law_laid.ensures.sorted _ _ _ c.args.plan.entries.items h.plan_is.planned; counted = c.in-Ok.ensures.counted; room = omega (arith, long, room, kept) }
+
+pub set_edge_rates-requires-clause-rates : goal.set_edge_rates-requires-clause-rates
+set_edge_rates-requires-clause-rates c =
+    let fit : AreRates c.args.flat.now.tables c.args.attrs.rows = are_rates c.args.flat.now (c.law_laid.ensures.laid c.args.flat.now c.requires.sound).limits c.args.attrs.rows c.requires.ready.attributes.allowed in
+    let rows : c.deref-2.result.now ≡ c.args.attrs.rows = search rules in
+    subst (AreRates c.args.flat.now.tables) (sym rows) fit
+
+pub set_edge_rates-requires-clause-once : goal.set_edge_rates-requires-clause-once
+set_edge_rates-requires-clause-once c =
+    let rows : c.deref-2.result.now ≡ c.args.attrs.rows = search rules in
+    subst RowsStandOnce (sym rows) c.requires.ready.rows.once
+
+pub set_edge_rates-requires-clause-reads_long : goal.set_edge_rates-requires-clause-reads_long
+set_edge_rates-requires-clause-reads_long c =
+    let ready : IsReadyFor c.args.flat.now (the_view c.self.inside) c.args.attrs c.args.plan =
+    subst (λ (s : ClusterOf). IsReadyFor c.args.flat.now s c.args.attrs c.args.plan) (sym c.self.view_is) c.requires.ready in
+    reads_long c.args.flat.now (the_view c.self.inside) c.args.attrs c.args.plan ready
+
+pub set_edge_rates-requires-clause-writes_long : goal.set_edge_rates-requires-clause-writes_long
+set_edge_rates-requires-clause-writes_long c =
+    let ready : IsReadyFor c.args.flat.now (the_view c.self.inside) c.args.attrs c.args.plan =
+    subst (λ (s : ClusterOf). IsReadyFor c.args.flat.now s c.args.attrs c.args.plan) (sym c.self.view_is) c.requires.ready in
+    writes_long c.args.flat.now (the_view c.self.inside) c.args.attrs c.args.plan ready
+
+pub returns-clause-ok : goal.returns-clause-ok
+returns-clause-ok c =
+    let tables = c.args.flat.now.tables in
+    let rows : c.deref-2.result.now ≡ c.args.attrs.rows = search rules in
+    let same = c.recycle.ensures.same ∙ c.replace-left.ensures.after in
+    record {
+      rows = c.in-Ok.parts.rows.items;
+      rest = c.give_all.new.rows.items;
+      given = c.give_all.new.runners.items;
+      d_is = ap (λ (t : AttrsTable). with_new_plan (the_view c.self.inside) t c.args.plan c.set_edge_rates.new.reads.items c.set_edge_rates.new.writes.items c.carry.new.rings.items c.restart_all.new.runners.items) same
+          ∙ ap (λ (s : ClusterOf). with_new_plan s c.args.attrs c.args.plan c.set_edge_rates.new.reads.items c.set_edge_rates.new.writes.items c.carry.new.rings.items c.restart_all.new.runners.items) c.self.view_is;
+      parts = record {
+        reads_are = c.set_edge_rates.ensures.reads ∙ ap (λ (t : List AttrsOf). read_rates (net_of tables t)) rows;
+        writes_are = c.set_edge_rates.ensures.writes ∙ ap (λ (t : List AttrsOf). write_rates (net_of tables t)) rows;
+        traced_are = c.in-Ok.ensures.traced;
+      };
+      carried = search rules;
+      given_are = subst (λ (s : ClusterOf). AreGivenTraced (length c.in-Ok.parts.rows.items) c.in-Ok.parts.rows.items c.give_all.new.rows.items s.runners c.give_all.new.runners.items) c.self.view_is c.give_all.ensures;
+      restarted = c.restart_all.ensures;
+    }

@@ -1,11 +1,12 @@
-use Rattle.std.proofs.Common.{◌≡◌, List, map, length, refl, sym, subst, ap, ◌∙◌, ◌≤◌}
+use Rattle.std.proofs.Common.{◌≡◌, List, map, length, refl, sym, subst, ap, ◌∙◌, ◌≤◌, ◌-◌, ◌^◌, false}
 use Rattle.std.proofs.lemmas.List.{length-map}
 use Rattle.tdf_base.specs.Limits.{most_traces}
 use Rattle.tdf_trace.proofs.Fresh.{fresh_sound, fresh_stands}
+use Rattle.tdf_trace.proofs.Kept.{kept_fresh}
 use Rattle.tdf_trace.proofs.trace.Trace.new.Goals as goal
 use Rattle.tdf_trace.specs.Columns.{ColumnSeen}
 use Rattle.tdf_trace.specs.Stands.{Stands, no_cells}
-use Rattle.tdf_trace.specs.machine.Turning.{AreSound}
+use Rattle.tdf_trace.specs.machine.Turning.{AreKept, AreSound}
 use Rattle.tdf_trace.specs.views.Seen.{fresh}
 
 pub invariant_of-result : goal.invariant_of-result
@@ -15,6 +16,7 @@ invariant_of-result c =
     record {
       fits = record { same = sym n; few = subst (λ k. k ≤ most_traces) (sym n) c.requires.few };
       sound = subst (λ (l : List ColumnSeen). AreSound 0 l) (sym e) (fresh_sound c.args.variables.items c.requires.first);
+      kept = subst (λ (l : List ColumnSeen). AreKept l (2 ^ 64 - 1) false) (sym e) (kept_fresh c.args.variables.items);
     }
 
 pub returns-in-Ok : goal.returns-in-Ok
