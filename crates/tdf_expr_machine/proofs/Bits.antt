@@ -1,5 +1,5 @@
 -- Expressions whose steps fit 64 bits: how many bits each form has at most.
-use Rattle.std.proofs.Common.{◌≡◌, ◌∙◌, ℕ, ◌+◌, ◌-◌, ◌*◌, ◌^◌, ◌<◌, ◌≤◌, Bool, true, false, Box, Global, List, ℤ, pos, negsuc, neg_ℤ, ◌+ℤ◌, ◌-ℤ◌, ◌*ℤ◌, unsigned_abs, refl, sym, ap, subst, arith}
+use Rattle.std.proofs.Common.{◌≡◌, ℕ, ◌+◌, ◌-◌, ◌*◌, ◌^◌, ◌<◌, ◌≤◌, Bool, true, false, Box, Global, List, ℤ, pos, negsuc, neg_ℤ, ◌+ℤ◌, ◌-ℤ◌, ◌*ℤ◌, unsigned_abs, sym, subst, arith}
 use Rattle.std.proofs.Math.Nat.{pow-le-pow_right, mul-le-mul, mul-le-mul_right}
 use Rattle.std.proofs.lemmas.Int.{ints, unsigned_abs-mul}
 use Rattle.std.proofs.lemmas.Nat.{pow-add, pow_pos}
@@ -12,11 +12,10 @@ use Rattle.tdf_expr_machine.specs.declared.nodes.Node.TheVariants as variant
 use Rattle.tdf_expr_machine.specs.declared.nodes.Node.TheViews as view
 use Rattle.tdf_expr_machine.specs.declared.nodes.Relation.{Relation}
 use Rattle.tdf_expr_machine.specs.declared.spots.Spot.{Spot}
-use Rattle.tdf_expr_machine.specs.machine.Steps.{IsNarrow, IsShortRaised, StepsFit}
+use Rattle.tdf_expr_machine.specs.machine.Steps.{IsNarrow, IsShortRaised}
 use Rattle.tdf_expr_state.specs.State.{State, cell_at}
 use Rattle.tdf_fixed.proofs.Api.{in_range, in_width}
 use Rattle.tdf_fixed.specs.Cast.{cast_of}
-use Rattle.tdf_fixed.specs.Overflow.{IsOfWidth}
 use Rattle.tdf_fixed.specs.declared.format.Format.{Format}
 
 -- ---- numbers

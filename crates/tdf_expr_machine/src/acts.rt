@@ -1,11 +1,11 @@
 //! Compiled statements, and how they run.
 
-ghost use Rattle.std.specs.Prelude.{◌≡◌, ◌<◌, ◌≤◌, ◌^◌, ◌&&◌, IsTrue, length, nat_eq, nat_le, pos, take};
+ghost use Rattle.std.specs.Prelude.{◌≡◌, ◌<◌, ◌≤◌, ◌^◌, ◌&&◌, false, IfSome, IsTrue, length, nat_eq, nat_le, pos, take, true};
 ghost use Rattle.tdf_expr_machine.specs.Acts.{AreTurns, IsSafeAct, acted, rate_within, turns_end, with_rate_of, act_turn, IsTurnSafe};
 ghost use Rattle.tdf_expr_machine.specs.Turns.{AreTurnsSafe, turned};
 ghost use Rattle.tdf_fixed.specs.Cast.{cast_of, fraction_of};
 ghost use Rattle.tdf_expr_machine.specs.Nodes.{IsCastable, IsSafe, IsSpot, is_true, node_value, spot_place};
-ghost use Rattle.tdf_expr_state.specs.State.{state_of, with_cell};
+ghost use Rattle.tdf_expr_state.specs.State.{state_of, with_cell, with_sample};
 
 use crate::expressions::Expression;
 use crate::nodes::{Node, Sight, eval};
@@ -170,19 +170,29 @@ fn assign(spot: Spot, cast: &CastNode, loops: &[u32], cells: &mut Cells, signals
     cells.set_cell(place(spot, loops), num);
 }
 
-/// The value of an expression, cast into its format.
-#[inline(always)]
-fn output(cast: &CastNode, loops: &[u32], cells: &Cells, signals: &Signals) -> i128
-    requires safe { IsSafe cast.now.value (state_of cells.now signals.now) loops.now }
-    requires castable { IsCastable (node_value cast.now.value (state_of cells.now signals.now) loops.now) cast.now.frac (fraction_of cast.now.format) }
-    ensures { result ≡ cast_of cast.now.format (node_value cast.now.value (state_of cells.now signals.now) loops.now) cast.now.frac }
+/// The value of an expression is cast into a sample of a port.
+#[inline(never)]
+fn output(
+    port: u32,
+    spot: Spot,
+    cast: &CastNode,
+    loops: &[u32],
+    cells: &Cells,
+    signals: &mut Signals,
+)
+    requires safe { IsSafe cast.now.value (state_of cells.now signals.old) loops.now }
+    requires castable { IsCastable (node_value cast.now.value (state_of cells.now signals.old) loops.now) cast.now.frac (fraction_of cast.now.format) }
+    requires spot { IsSpot spot loops.now × (spot_place spot loops.now < length signals.old.samples) }
+    requires port { port < length signals.old.assigned }
+    ensures { signals.new ≡ (with_sample port (spot_place spot loops.now) (cast_of cast.now.format (node_value cast.now.value (state_of cells.now signals.old) loops.now) cast.now.frac) (state_of cells.now signals.old)).ports }
 {
     let at = Sight {
         cells,
         signals,
         loops,
     };
-    cast.value.eval(cast.frac, &cast.format, &at)
+    let num = cast.value.eval(cast.frac, &cast.format, &at);
+    signals.set_sample(port as usize, place(spot, loops), num);
 }
 
 /// Whether an expression holds.
@@ -199,7 +209,47 @@ fn is_met(test: &Expression, loops: &[u32], cells: &Cells, signals: &Signals) ->
     test.holds(&at)
 }
 
-/// Runs a part of a statement: an assignment to a cell without a call of `run`.
+/// Runs a statement that sets a cell or a sample at a fixed place to a value that is read straight from the state. For any other
+/// the answer is false, and nothing is done.
+#[inline(always)]
+fn quick_step(act: &Act, loops: &[u32], cells: &mut Cells, signals: &mut Signals) -> bool
+    requires { IsSafeAct act.now loops.now (state_of cells.old signals.old) }
+    ensures frame { result ≡ true → cells.new ≡ (acted act.now loops.now (state_of cells.old signals.old)).frame }
+    ensures ports { result ≡ true → signals.new ≡ (acted act.now loops.now (state_of cells.old signals.old)).ports }
+    ensures kept { result ≡ false → (cells.new ≡ cells.old) × (signals.new ≡ signals.old) }
+{
+    let at = Sight {
+        cells,
+        signals,
+        loops,
+    };
+    match act {
+        Act::SetCell {
+            spot: Spot::Fixed(place),
+            cast,
+        } => match cast.value.read(cast.frac, &cast.format, &at) {
+            Some(num) => {
+                cells.set_cell(*place as usize, num);
+                true
+            }
+            None => false,
+        },
+        Act::SetSample {
+            port,
+            spot: Spot::Fixed(place),
+            cast,
+        } => match cast.value.read(cast.frac, &cast.format, &at) {
+            Some(num) => {
+                signals.set_sample(*port as usize, *place as usize, num);
+                true
+            }
+            None => false,
+        },
+        _ => false,
+    }
+}
+
+/// Runs a part of a statement: most assignments without a call of `run`.
 #[cycle(runs)]
 #[inline(always)]
 fn step(act: &Act, loops: &[u32], cells: &mut Cells, signals: &mut Signals)
@@ -207,6 +257,9 @@ fn step(act: &Act, loops: &[u32], cells: &mut Cells, signals: &mut Signals)
     ensures frame { cells.new ≡ (acted act.now loops.now (state_of cells.old signals.old)).frame }
     ensures ports { signals.new ≡ (acted act.now loops.now (state_of cells.old signals.old)).ports }
 {
+    if quick_step(act, loops, cells, signals) {
+        return;
+    }
     match act {
         Act::SetCell { spot, cast } => assign(*spot, cast, loops, cells, signals),
         _ => run(act, loops, cells, signals),
@@ -267,13 +320,13 @@ pub fn run(act: &Act, loops: &[u32], cells: &mut Cells, signals: &mut Signals)
     ensures frame { cells.new ≡ (acted act.now loops.now (state_of cells.old signals.old)).frame }
     ensures ports { signals.new ≡ (acted act.now loops.now (state_of cells.old signals.old)).ports }
 {
+    if quick_step(act, loops, cells, signals) {
+        return;
+    }
     match act {
         Act::Skip => {}
         Act::SetCell { spot, cast } => assign(*spot, cast, loops, cells, signals),
-        Act::SetSample { port, spot, cast } => {
-            let num = output(cast, loops, cells, signals);
-            signals.set_sample(*port as usize, place(*spot, loops), num);
-        }
+        Act::SetSample { port, spot, cast } => output(*port, *spot, cast, loops, cells, signals),
         Act::SetRate {
             rate,
             value,

@@ -188,23 +188,3 @@ pub(crate) fn short_value(node: &Node, at: &Sight) -> Option<i64>
         _ => leaf(node, at),
     }
 }
-
-/// As `short_value`: without a call where it is a sum or a difference of near parts, as most assigned values are.
-#[inline(always)]
-pub(crate) fn top_value(node: &Node, at: &Sight) -> Option<i64>
-    requires { IsSafe node.now (state_of at.now.cells.now at.now.signals.now) at.now.loops.now }
-    ensures value { IfSome result (λ n. n ≡ node_value node.now (state_of at.now.cells.now at.now.signals.now) at.now.loops.now) }
-    ensures found { StepsFit node.now (state_of at.now.cells.now at.now.signals.now) at.now.loops.now → IsSome result }
-{
-    match node {
-        Node::Sum(a, m, b, n) => {
-            let a = raised_part(a, *m, at)?;
-            sum(a, raised_part(b, *n, at)?)
-        }
-        Node::Difference(a, m, b, n) => {
-            let a = raised_part(a, *m, at)?;
-            difference(a, raised_part(b, *n, at)?)
-        }
-        _ => operand(node, at),
-    }
-}

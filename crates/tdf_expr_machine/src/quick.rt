@@ -1,0 +1,111 @@
+//! Values that are read straight from the state: a number, a cell or a sample, or two of these joined. They take no walk over
+//! a tree.
+
+ghost use Rattle.std.specs.Prelude.{◌≡◌, ℕ, ◌^◌, pos, ◌*ℤ◌, IfSome, true};
+ghost use Rattle.tdf_expr_machine.specs.machine.Quick.{IsLeafOf, IsQuickAt, IsQuickOf, IsReadable, ReadsStraight, leaf_value, quick_value};
+ghost use Rattle.tdf_expr_machine.specs.machine.Steps.{IsNarrow, IsShortRaised};
+ghost use Rattle.tdf_expr_state.specs.State.{state_of};
+
+use crate::nodes::{Node, Sight};
+use tdf_expr_cuts::{multiple, short_of};
+
+/// A number, or where one stands.
+#[derive(Clone, Copy)]
+pub(crate) enum Leaf {
+    Const(i64),
+    /// A variable, or an element at a fixed place.
+    Cell(u32),
+    /// A sample at a fixed place.
+    Sample(u32),
+}
+
+/// One number, or two of them, each moved up by so many bits, or their product.
+#[derive(Clone, Copy)]
+pub(crate) enum Quick {
+    One(Leaf),
+    Sum(Leaf, u32, Leaf, u32),
+    Difference(Leaf, u32, Leaf, u32),
+    Product(Leaf, Leaf),
+}
+
+/// What an expression without parts reads, where that is no element that a loop moves.
+fn leaf_of(node: &Node) -> Option<Leaf>
+    ensures { IfSome result (IsLeafOf node.now) }
+{
+    match node {
+        Node::Const(num) => Some(Leaf::Const(short_of(*num)?)),
+        Node::Cell(place, _) => Some(Leaf::Cell(*place)),
+        Node::Sample(place, _) => Some(Leaf::Sample(*place)),
+        _ => None,
+    }
+}
+
+/// The value of an expression that is read straight from the state.
+fn quick_of(node: &Node) -> Option<Quick>
+    ensures { IfSome result (IsQuickOf node.now) }
+{
+    match node {
+        Node::Sum(a, m, b, n) => {
+            let first = leaf_of(a)?;
+            Some(Quick::Sum(first, *m, leaf_of(b)?, *n))
+        }
+        Node::Difference(a, m, b, n) => {
+            let first = leaf_of(a)?;
+            Some(Quick::Difference(first, *m, leaf_of(b)?, *n))
+        }
+        Node::Product(a, b) => {
+            let first = leaf_of(a)?;
+            Some(Quick::Product(first, leaf_of(b)?))
+        }
+        _ => Some(Quick::One(leaf_of(node)?)),
+    }
+}
+
+/// The same, where all steps of the expression fit 64 bits.
+pub(crate) fn straight_of(node: &Node, narrow: bool) -> Option<Quick>
+    requires { narrow ≡ true → (bits : ℕ) × IsNarrow node.now bits }
+    ensures { IfSome result (ReadsStraight node.now) }
+{
+    if !narrow {
+        return None;
+    }
+    quick_of(node)
+}
+
+/// A number, where it stands.
+#[inline(always)]
+fn read(leaf: Leaf, at: &Sight) -> i64
+    requires { IsReadable leaf (state_of at.now.cells.now at.now.signals.now) }
+    ensures { result ≡ leaf_value leaf (state_of at.now.cells.now at.now.signals.now) }
+{
+    match leaf {
+        Leaf::Const(num) => num,
+        Leaf::Cell(place) => at.cells.cell(place as usize) as i64,
+        Leaf::Sample(place) => at.signals.sample(place as usize) as i64,
+    }
+}
+
+/// The same, moved up by so many bits.
+#[inline(always)]
+#[tactic(auto, using(tdf_expr_cuts::proofs::Api::raised_small))]
+fn lifted(leaf: Leaf, bits: u32, at: &Sight) -> i64
+    requires readable { IsReadable leaf (state_of at.now.cells.now at.now.signals.now) }
+    requires raised { IsShortRaised (leaf_value leaf (state_of at.now.cells.now at.now.signals.now)) bits }
+    ensures { result ≡ leaf_value leaf (state_of at.now.cells.now at.now.signals.now) *ℤ pos (2 ^ bits) }
+{
+    multiple(read(leaf, at), bits)
+}
+
+/// The value that is read.
+#[inline(always)]
+pub(crate) fn quick_value(quick: &Quick, at: &Sight) -> i64
+    requires { IsQuickAt quick.now (state_of at.now.cells.now at.now.signals.now) }
+    ensures { result ≡ quick_value quick.now (state_of at.now.cells.now at.now.signals.now) }
+{
+    match quick {
+        Quick::One(leaf) => read(*leaf, at),
+        Quick::Sum(x, m, y, n) => lifted(*x, *m, at) + lifted(*y, *n, at),
+        Quick::Difference(x, m, y, n) => lifted(*x, *m, at) - lifted(*y, *n, at),
+        Quick::Product(x, y) => read(*x, at) * read(*y, at),
+    }
+}
