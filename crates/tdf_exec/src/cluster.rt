@@ -57,7 +57,7 @@ impl Model for Cluster {
     } };
 }
 
-ghost use Rattle.std.specs.Prelude.{◌≡◌, ◌<◌, ◌+◌, ◌^◌, ◌-◌, length, min, Some};
+ghost use Rattle.std.specs.Prelude.{◌≡◌, ◌<◌, ◌≤◌, ◌+◌, ◌^◌, ◌-◌, ℕ, length, min, Some};
 ghost use Rattle.tdf_convert.specs.Sampled.{AreByOffset};
 ghost use Rattle.tdf_exec.specs.Cluster.{due_count, due_from, is_next_due, next_offset};
 ghost use Rattle.tdf_exec.specs.Gained.{HasGained, HaveRoom};
@@ -117,6 +117,13 @@ impl Cluster {
         }
     }
 
+    /// How many entries of the period are still to come.
+    pub fn waiting(&self) -> u64
+        ensures { (offset : ℕ) → due_count self.now offset ≤ result }
+    {
+        self.plan.entries.len().saturating_sub(self.place) as u64
+    }
+
     /// How many entries of this offset are still to come.
     pub fn due_count(&self, offset: u64) -> u64
         ensures { result ≡ due_count self.now offset }
@@ -150,9 +157,16 @@ impl Cluster {
     }
 
     /// Does all entries of this offset, in the order of the plan. `inputs` has the values of the samplers; `outputs` gains
-    /// the samples of sinks and those of traced signals. It takes no memory and is never refused.
+    /// the samples of sinks and those of traced signals. It takes no memory and is never refused. The answer is how many
+    /// entries these are.
     #[inline(never)]
-    pub fn fire_at(&mut self, flat: &Flat, offset: u64, inputs: &Inputs, outputs: &mut Outputs)
+    pub fn fire_at(
+        &mut self,
+        flat: &Flat,
+        offset: u64,
+        inputs: &Inputs,
+        outputs: &mut Outputs,
+    ) -> u64
         requires of { IsClusterOf flat.now self.old }
         requires next { next_offset self.old ≡ Some offset }
         requires inputs { AreInputsFor flat.now offset self.old inputs.now }
@@ -163,9 +177,12 @@ impl Cluster {
         ensures stands { KeepsStanding flat.now offset inputs.now self.old self.new }
         ensures gained { HasGained flat.now offset inputs.now self.old self.new
             outputs.old outputs.new }
+        ensures count { result ≡ due_count self.old offset }
     {
+        let first = self.place;
         while self.is_due(offset) {
             self.fire_next(flat, inputs, outputs);
         }
+        (self.place - first) as u64
     }
 }

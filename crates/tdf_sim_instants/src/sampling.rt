@@ -6,7 +6,7 @@ ghost use Rattle.tdf_convert.specs.Sampled.{AreSampled};
 ghost use Rattle.tdf_sim_instants.specs.Sampling.{CanSample, HaveSampled, sampling_at};
 ghost use Rattle.tdf_sim_refinement.specs.Below.{is_next_due};
 
-use tdf_convert::{Inputs, Links};
+use tdf_convert::{Inputs, Links, sample_nothing};
 use tdf_fixed::Raw;
 use tdf_sim_refinement::Cluster;
 
@@ -19,6 +19,9 @@ fn sample_turn(cluster: &Cluster, offset: u64, links: &Links, values: &[Raw], in
     ensures idle { is_next_due cluster.now offset ≡ false → inputs.new ≡ inputs.old }
     ensures long { length inputs.new ≡ length inputs.old }
 {
+    if sample_nothing(links) {
+        return;
+    }
     if let Some(next) = cluster.next_offset() {
         if next == offset {
             cluster.sample_due(offset, links, values, inputs);

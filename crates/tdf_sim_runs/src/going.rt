@@ -90,6 +90,24 @@ impl Running {
         self.from = self.engine.next_time(stop);
     }
 
+    /// The plans that the instant at its time brought are news.
+    #[inline(always)]
+    fn tell(&mut self, flat: &Flat) -> Result<(), Memory>
+        requires range { AreInRange flat.now.tables }
+        ensures news { OnOk result (self.new.news.items ≡ self.old.news.items ++ news_text
+            flat.now self.old.from self.old.engine.clusters.items self.old.engine.planned.items) }
+        ensures rest { self.new ≡ record self.old { news = self.new.news } }
+    {
+        let engine = &self.engine;
+        push_news(
+            &mut self.news,
+            flat,
+            self.from,
+            &engine.clusters,
+            &engine.planned,
+        )
+    }
+
     /// The instant at its time, and the plans that it brings.
     fn instant(&mut self, alloc: Global, flat: &Flat) -> Result<Pass, Memory>
         requires runnable { IsRunnable flat.now }
@@ -116,23 +134,20 @@ impl Running {
           news = self.new.news;
         } }
     {
-        let pass = match self.engine.instant(alloc, flat, self.from, &mut self.left) {
-            Ok(pass) => pass,
-            Err(failed) => return Err(failed),
-        };
-        let engine = &self.engine;
-        match push_news(
-            &mut self.news,
-            flat,
-            self.from,
-            &engine.clusters,
-            &engine.planned,
-        ) {
-            Ok(()) => Ok(pass),
-            Err(failed) => {
-                drop(pass);
-                Err(failed)
-            }
+        let came = self.engine.instant(alloc, flat, self.from, &mut self.left);
+        match came {
+            Ok(Pass::Done) => match self.tell(flat) {
+                Ok(()) => Ok(Pass::Done),
+                Err(failed) => Err(failed),
+            },
+            Ok(ended) => match self.tell(flat) {
+                Ok(()) => Ok(ended),
+                Err(failed) => {
+                    drop(ended);
+                    Err(failed)
+                }
+            },
+            Err(failed) => Err(failed),
         }
     }
 

@@ -36,6 +36,7 @@ fn push_one(
 ///
 /// # Errors
 /// Out of memory.
+#[inline(never)]
 fn push_at(
     news: &mut Vec<u8>,
     flat: &Flat,
@@ -57,6 +58,7 @@ fn push_at(
 ///
 /// # Errors
 /// Out of memory.
+#[inline(always)]
 pub(crate) fn push_news(
     news: &mut Vec<u8>,
     flat: &Flat,

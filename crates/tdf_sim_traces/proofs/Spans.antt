@@ -35,6 +35,10 @@ use Rattle.tdf_bind_connections.specs.declared.modules.PortRow.{PortRow}
 use Rattle.tdf_sim_history.specs.WorldLaws.{AreRecordsOf, HasDone, HoldsFirst}
 use Rattle.std.proofs.lemmas.List.Elements.{All-cons, All-nil}
 
+-- a period with one position
+pub by_one : (period count : ℕ) → count ≡ 1 → period / count ≡ period
+by_one period count one = rw one (omega arith)
+
 all_at : {A : Type 0} (P : A → Type 0) (xs : List A) (i : ℕ) (x : A) → All P xs → slice_get xs i ≡ Some x → P x
 all_at P xs i x all at = subst P (get_or_from_slice_get xs i x x at) (all i x (slice_get_within xs i x at))
 

@@ -13,7 +13,7 @@ pub struct Clock<'a> {
     pub clusters: &'a [Cluster],
 }
 
-ghost use Rattle.std.specs.Prelude.{◌≡◌, ◌<◌, ◌≤◌, ◌^◌, length, OnOk};
+ghost use Rattle.std.specs.Prelude.{◌≡◌, ◌<◌, ◌≤◌, ◌/◌, ◌^◌, length, OnOk};
 ghost use Rattle.tdf_trace.specs.Calls.{HasNoneLeft, HasStarted, TakesPeriod};
 ghost use Rattle.tdf_sim_refinement.specs.Below.{IsClusterOf};
 ghost use Rattle.tdf_bind_invariants.specs.Limits.{AreWithinLimits};
@@ -35,6 +35,19 @@ pub fn positions(flat: &Flat, cluster: &Cluster, traced: TracedSignal) -> u64
 {
     let rate = u64::from(cluster.rate(flat, traced.port));
     cluster.activations(traced.module) * rate
+}
+
+/// The step of the positions of a period of a cluster. Where there is one, it is the period.
+#[inline(always)]
+#[tactic(auto, using(crate::proofs::Spans::by_one))]
+fn step_of(cluster: &Cluster, count: u64) -> u64
+    requires { 0 < count }
+    ensures { result ≡ cluster.now.period / count }
+{
+    if count == 1 {
+        return cluster.period();
+    }
+    cluster.period() / count
 }
 
 /// The period of a signal's cluster begins, and parts into equal steps.
@@ -61,7 +74,7 @@ fn begin_one(
     ensures about { trace.new.about ≡ trace.old.about }
 {
     let count = positions(flat, cluster, traced);
-    let step = cluster.period() / count;
+    let step = step_of(cluster, count);
     tracking.begin(trace, traced.signal, time, step, count)
 }
 

@@ -6,5 +6,5 @@ use Rattle.tdf_sim_traces.proofs.periods.begin_one.Goals as goal
 pub returns-clause-took : goal.returns-clause-took
 returns-clause-took c =
     subst (λ n. OnOk c.begin.result (TakesPeriod c.args.traced.signal (span_of c.args.time (c.args.cluster.now.period / n) n) c.args.tracking.now.list c.begin.new.self.list c.args.trace.now.rows c.begin.new.trace.rows)) c.positions-count.ensures
-    (subst (λ p. OnOk c.begin.result (TakesPeriod c.args.traced.signal (span_of c.args.time (p / c.positions-count.result) c.positions-count.result) c.args.tracking.now.list c.begin.new.self.list c.args.trace.now.rows c.begin.new.trace.rows)) c.period.ensures
+    (subst (λ s. OnOk c.begin.result (TakesPeriod c.args.traced.signal (span_of c.args.time s c.positions-count.result) c.args.tracking.now.list c.begin.new.self.list c.args.trace.now.rows c.begin.new.trace.rows)) c.step_of-step.ensures
     c.begin.ensures.took)
