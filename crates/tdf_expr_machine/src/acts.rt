@@ -4,7 +4,7 @@ ghost use Rattle.std.specs.Prelude.{◌≡◌, ◌<◌, ◌≤◌, ◌^◌, ◌&
 ghost use Rattle.tdf_expr_machine.specs.Acts.{AreTurns, IsSafeAct, acted, rate_within, turns_end, with_rate_of, act_turn, IsTurnSafe};
 ghost use Rattle.tdf_expr_machine.specs.Turns.{AreTurnsSafe, turned};
 ghost use Rattle.tdf_fixed.specs.Cast.{cast_of, fraction_of};
-ghost use Rattle.tdf_expr_machine.specs.Nodes.{IsCastable, IsSafe, IsSpot, is_true, node_value, spot_place};
+ghost use Rattle.tdf_expr_machine.specs.Nodes.{IsCastable, IsSafe, IsSpot, node_value, spot_place};
 ghost use Rattle.tdf_expr_state.specs.State.{state_of, with_cell, with_sample};
 
 use crate::expressions::Expression;
@@ -195,20 +195,6 @@ fn output(
     signals.set_sample(port as usize, place(spot, loops), num);
 }
 
-/// Whether an expression holds.
-#[inline(always)]
-fn is_met(test: &Expression, loops: &[u32], cells: &Cells, signals: &Signals) -> bool
-    requires { IsSafe test.now (state_of cells.now signals.now) loops.now }
-    ensures { result ≡ is_true (node_value test.now (state_of cells.now signals.now) loops.now) }
-{
-    let at = Sight {
-        cells,
-        signals,
-        loops,
-    };
-    test.holds(&at)
-}
-
 /// Runs a statement that sets a cell or a sample at a fixed place to a value that is read straight from the state. For any other
 /// the answer is false, and nothing is done.
 #[inline(always)]
@@ -340,7 +326,7 @@ pub fn run(act: &Act, loops: &[u32], cells: &mut Cells, signals: &mut Signals)
         Act::Notify { event, after } => signals.notify(*event as usize, *after),
         Act::Answer(accepted) => signals.answer(*accepted),
         Act::If { test, yes, no } => {
-            if is_met(test, loops, cells, signals) {
+            if test.holds(loops, cells, signals) {
                 step(yes, loops, cells, signals);
             } else {
                 step(no, loops, cells, signals);

@@ -38,10 +38,11 @@ ghost use Rattle.tdf_expr_machine.specs.Nodes.{IsCastable, IsSafe, is_true, node
 ghost use Rattle.tdf_expr_state.specs.State.{state_of};
 ghost use Rattle.tdf_fixed.specs.Cast.{cast_of, fraction_of};
 
-use crate::narrow::{bits_of, narrow_top, narrow_verdict};
+use crate::narrow::{bits_of, narrow_verdict, part};
 use crate::nodes::{Sight, eval_holds, eval_in, fitted_short};
 use crate::quick::{quick_value, straight_of};
 use crate::short::operand;
+use tdf_expr_state::{Cells, Signals};
 use tdf_fixed::Format;
 
 impl Expression {
@@ -70,7 +71,7 @@ impl Expression {
             (state_of at.now.cells.now at.now.signals.now) at.now.loops.now) frac }
     {
         if self.narrow {
-            return fitted_short(narrow_top(&self.node, at), frac, format);
+            return fitted_short(part(&self.node, at), frac, format);
         }
         let node = &self.node;
         eval_in(operand(node, at), node, frac, format, at)
@@ -95,15 +96,18 @@ impl Expression {
 
     /// Whether the expression holds.
     #[inline(always)]
-    pub(crate) fn holds(&self, at: &Sight) -> bool
-        requires { IsSafe self.now (state_of at.now.cells.now at.now.signals.now)
-            at.now.loops.now }
-        ensures { result ≡ is_true (node_value self.now
-            (state_of at.now.cells.now at.now.signals.now) at.now.loops.now) }
+    pub(crate) fn holds(&self, loops: &[u32], cells: &Cells, signals: &Signals) -> bool
+        requires { IsSafe self.now (state_of cells.now signals.now) loops.now }
+        ensures { result ≡ is_true (node_value self.now (state_of cells.now signals.now) loops.now) }
     {
+        let at = Sight {
+            cells,
+            signals,
+            loops,
+        };
         if self.narrow {
-            return narrow_verdict(&self.node, at);
+            return narrow_verdict(&self.node, &at);
         }
-        eval_holds(&self.node, at)
+        eval_holds(&self.node, &at)
     }
 }

@@ -1,8 +1,8 @@
-//! Values that are read straight from the state: a number, a cell or a sample, or two of these joined. They take no walk over
-//! a tree.
+//! Values that are read straight from the state: a number, a cell or a sample, two of these joined, or such a pair and a third. They
+//! take no walk over a tree.
 
 ghost use Rattle.std.specs.Prelude.{◌≡◌, ℕ, ◌^◌, pos, ◌*ℤ◌, IfSome, true};
-ghost use Rattle.tdf_expr_machine.specs.machine.Quick.{IsLeafOf, IsQuickAt, IsQuickOf, IsReadable, ReadsStraight, leaf_value, quick_value};
+ghost use Rattle.tdf_expr_machine.specs.machine.Quick.{IsLeafOf, IsPairAt, IsPairOf, IsQuickAt, IsQuickOf, IsReadable, ReadsStraight, leaf_value, pair_value, quick_value};
 ghost use Rattle.tdf_expr_machine.specs.machine.Steps.{IsNarrow, IsShortRaised};
 ghost use Rattle.tdf_expr_state.specs.State.{state_of};
 
@@ -21,11 +21,19 @@ pub(crate) enum Leaf {
 
 /// One number, or two of them, each moved up by so many bits, or their product.
 #[derive(Clone, Copy)]
-pub(crate) enum Quick {
+pub(crate) enum Pair {
     One(Leaf),
     Sum(Leaf, u32, Leaf, u32),
     Difference(Leaf, u32, Leaf, u32),
     Product(Leaf, Leaf),
+}
+
+/// Such a value, or that moved up with a number added or taken off.
+#[derive(Clone, Copy)]
+pub(crate) enum Quick {
+    Alone(Pair),
+    Plus(Pair, u32, Leaf, u32),
+    Minus(Pair, u32, Leaf, u32),
 }
 
 /// What an expression without parts reads, where that is no element that a loop moves.
@@ -40,24 +48,44 @@ fn leaf_of(node: &Node) -> Option<Leaf>
     }
 }
 
-/// The value of an expression that is read straight from the state.
-fn quick_of(node: &Node) -> Option<Quick>
-    ensures { IfSome result (IsQuickOf node.now) }
+/// The value of an expression that joins two numbers at most.
+fn pair_of(node: &Node) -> Option<Pair>
+    ensures { IfSome result (IsPairOf node.now) }
 {
     match node {
         Node::Sum(a, m, b, n) => {
             let first = leaf_of(a)?;
-            Some(Quick::Sum(first, *m, leaf_of(b)?, *n))
+            Some(Pair::Sum(first, *m, leaf_of(b)?, *n))
         }
         Node::Difference(a, m, b, n) => {
             let first = leaf_of(a)?;
-            Some(Quick::Difference(first, *m, leaf_of(b)?, *n))
+            Some(Pair::Difference(first, *m, leaf_of(b)?, *n))
         }
         Node::Product(a, b) => {
             let first = leaf_of(a)?;
-            Some(Quick::Product(first, leaf_of(b)?))
+            Some(Pair::Product(first, leaf_of(b)?))
         }
-        _ => Some(Quick::One(leaf_of(node)?)),
+        _ => Some(Pair::One(leaf_of(node)?)),
+    }
+}
+
+/// The value of an expression that is read straight from the state.
+fn quick_of(node: &Node) -> Option<Quick>
+    ensures { IfSome result (IsQuickOf node.now) }
+{
+    if let Some(pair) = pair_of(node) {
+        return Some(Quick::Alone(pair));
+    }
+    match node {
+        Node::Sum(a, m, b, n) => {
+            let first = pair_of(a)?;
+            Some(Quick::Plus(first, *m, leaf_of(b)?, *n))
+        }
+        Node::Difference(a, m, b, n) => {
+            let first = pair_of(a)?;
+            Some(Quick::Minus(first, *m, leaf_of(b)?, *n))
+        }
+        _ => None,
     }
 }
 
@@ -96,6 +124,31 @@ fn lifted(leaf: Leaf, bits: u32, at: &Sight) -> i64
     multiple(read(leaf, at), bits)
 }
 
+/// The value of a pair.
+#[inline(always)]
+fn pair_value(pair: &Pair, at: &Sight) -> i64
+    requires { IsPairAt pair.now (state_of at.now.cells.now at.now.signals.now) }
+    ensures { result ≡ pair_value pair.now (state_of at.now.cells.now at.now.signals.now) }
+{
+    match pair {
+        Pair::One(leaf) => read(*leaf, at),
+        Pair::Sum(x, m, y, n) => lifted(*x, *m, at) + lifted(*y, *n, at),
+        Pair::Difference(x, m, y, n) => lifted(*x, *m, at) - lifted(*y, *n, at),
+        Pair::Product(x, y) => read(*x, at) * read(*y, at),
+    }
+}
+
+/// The value of a pair, moved up by so many bits.
+#[inline(never)]
+#[tactic(auto, using(tdf_expr_cuts::proofs::Api::raised_small))]
+fn lifted_pair(pair: &Pair, bits: u32, at: &Sight) -> i64
+    requires pair { IsPairAt pair.now (state_of at.now.cells.now at.now.signals.now) }
+    requires raised { IsShortRaised (pair_value pair.now (state_of at.now.cells.now at.now.signals.now)) bits }
+    ensures { result ≡ pair_value pair.now (state_of at.now.cells.now at.now.signals.now) *ℤ pos (2 ^ bits) }
+{
+    multiple(pair_value(pair, at), bits)
+}
+
 /// The value that is read.
 #[inline(always)]
 pub(crate) fn quick_value(quick: &Quick, at: &Sight) -> i64
@@ -103,9 +156,8 @@ pub(crate) fn quick_value(quick: &Quick, at: &Sight) -> i64
     ensures { result ≡ quick_value quick.now (state_of at.now.cells.now at.now.signals.now) }
 {
     match quick {
-        Quick::One(leaf) => read(*leaf, at),
-        Quick::Sum(x, m, y, n) => lifted(*x, *m, at) + lifted(*y, *n, at),
-        Quick::Difference(x, m, y, n) => lifted(*x, *m, at) - lifted(*y, *n, at),
-        Quick::Product(x, y) => read(*x, at) * read(*y, at),
+        Quick::Alone(pair) => pair_value(pair, at),
+        Quick::Plus(pair, m, leaf, n) => lifted_pair(pair, *m, at) + lifted(*leaf, *n, at),
+        Quick::Minus(pair, m, leaf, n) => lifted_pair(pair, *m, at) - lifted(*leaf, *n, at),
     }
 }

@@ -81,22 +81,7 @@ fn leaf(node: &Node, at: &Sight) -> Option<i64>
     }
 }
 
-/// The value of a product of two expressions without parts, or of one such.
-#[inline(always)]
-fn near(node: &Node, at: &Sight) -> Option<i64>
-    requires { IsSafe node.now (state_of at.now.cells.now at.now.signals.now) at.now.loops.now }
-    ensures { IfSome result (λ n. n ≡ node_value node.now (state_of at.now.cells.now at.now.signals.now) at.now.loops.now) }
-{
-    match node {
-        Node::Product(a, b) => {
-            let a = leaf(a, at)?;
-            product(a, leaf(b, at)?)
-        }
-        _ => leaf(node, at),
-    }
-}
-
-/// The value of a part of an expression: without a call where it is near.
+/// The value of a part of an expression: without a call where it has no parts.
 #[cycle(short)]
 #[inline(always)]
 pub(crate) fn operand(node: &Node, at: &Sight) -> Option<i64>
@@ -104,7 +89,7 @@ pub(crate) fn operand(node: &Node, at: &Sight) -> Option<i64>
     ensures value { IfSome result (λ n. n ≡ node_value node.now (state_of at.now.cells.now at.now.signals.now) at.now.loops.now) }
     ensures found { StepsFit node.now (state_of at.now.cells.now at.now.signals.now) at.now.loops.now → IsSome result }
 {
-    match near(node, at) {
+    match leaf(node, at) {
         Some(num) => Some(num),
         None => short_value(node, at),
     }

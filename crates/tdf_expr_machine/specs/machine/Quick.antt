@@ -1,4 +1,4 @@
--- Values that are read straight from the state: a number, a cell or a sample, or two of them.
+-- Values that are read straight from the state: of one, two or three numbers, cells or samples.
 -- Source: own.
 use Rattle.std.specs.Int.{w64}
 use Rattle.std.specs.Prelude.{◌≡◌, ℕ, ◌^◌, ◌<◌, List, length, ℤ, pos, ◌+ℤ◌, ◌-ℤ◌, ◌*ℤ◌, FitsSigned}
@@ -6,6 +6,8 @@ use Rattle.tdf_expr_machine.specs.Nodes.{node_value, IsSafe}
 use Rattle.tdf_expr_machine.specs.declared.nodes.Node.{Node}
 use Rattle.tdf_expr_machine.specs.declared.quick.Leaf.{Leaf}
 use Rattle.tdf_expr_machine.specs.declared.quick.Leaf.TheVariants as leaf
+use Rattle.tdf_expr_machine.specs.declared.quick.Pair.{Pair}
+use Rattle.tdf_expr_machine.specs.declared.quick.Pair.TheVariants as pair
 use Rattle.tdf_expr_machine.specs.declared.quick.Quick.{Quick}
 use Rattle.tdf_expr_machine.specs.declared.quick.Quick.TheVariants as quick
 use Rattle.tdf_expr_machine.specs.machine.Steps.{IsShortRaised, StepsFit}
@@ -26,25 +28,42 @@ IsThere (leaf.Sample place) s = place < length s.ports.samples
 abbrev pub IsReadable : Leaf → State → Type 0
 IsReadable x s = IsThere x s × FitsSigned w64 (leaf_value x s)
 
-abbrev pub quick_value : Quick → State → ℤ
-quick_value (quick.One x) s = leaf_value x s
-quick_value (quick.Sum x m y n) s =
+abbrev pub pair_value : Pair → State → ℤ
+pair_value (pair.One x) s = leaf_value x s
+pair_value (pair.Sum x m y n) s =
     leaf_value x s *ℤ pos (2 ^ m) +ℤ leaf_value y s *ℤ pos (2 ^ n)
-quick_value (quick.Difference x m y n) s =
+pair_value (pair.Difference x m y n) s =
     leaf_value x s *ℤ pos (2 ^ m) -ℤ leaf_value y s *ℤ pos (2 ^ n)
-quick_value (quick.Product x y) s = leaf_value x s *ℤ leaf_value y s
+pair_value (pair.Product x y) s = leaf_value x s *ℤ leaf_value y s
 
 -- its parts are readable, and all steps fit 64 bits
-abbrev pub IsQuickAt : Quick → State → Type 0
-IsQuickAt (quick.One x) s = IsReadable x s
-IsQuickAt (quick.Sum x m y n) s = IsReadable x s × IsReadable y s
+abbrev pub IsPairAt : Pair → State → Type 0
+IsPairAt (pair.One x) s = IsReadable x s
+IsPairAt (pair.Sum x m y n) s = IsReadable x s × IsReadable y s
     × IsShortRaised (leaf_value x s) m × IsShortRaised (leaf_value y s) n
     × FitsSigned w64 (leaf_value x s *ℤ pos (2 ^ m) +ℤ leaf_value y s *ℤ pos (2 ^ n))
-IsQuickAt (quick.Difference x m y n) s = IsReadable x s × IsReadable y s
+IsPairAt (pair.Difference x m y n) s = IsReadable x s × IsReadable y s
     × IsShortRaised (leaf_value x s) m × IsShortRaised (leaf_value y s) n
     × FitsSigned w64 (leaf_value x s *ℤ pos (2 ^ m) -ℤ leaf_value y s *ℤ pos (2 ^ n))
-IsQuickAt (quick.Product x y) s = IsReadable x s × IsReadable y s
+IsPairAt (pair.Product x y) s = IsReadable x s × IsReadable y s
     × FitsSigned w64 (leaf_value x s *ℤ leaf_value y s)
+
+-- such a value, or that moved up with a number added or taken off
+abbrev pub quick_value : Quick → State → ℤ
+quick_value (quick.Alone p) s = pair_value p s
+quick_value (quick.Plus p m x n) s =
+    pair_value p s *ℤ pos (2 ^ m) +ℤ leaf_value x s *ℤ pos (2 ^ n)
+quick_value (quick.Minus p m x n) s =
+    pair_value p s *ℤ pos (2 ^ m) -ℤ leaf_value x s *ℤ pos (2 ^ n)
+
+abbrev pub IsQuickAt : Quick → State → Type 0
+IsQuickAt (quick.Alone p) s = IsPairAt p s
+IsQuickAt (quick.Plus p m x n) s = IsPairAt p s × IsReadable x s
+    × IsShortRaised (pair_value p s) m × IsShortRaised (leaf_value x s) n
+    × FitsSigned w64 (pair_value p s *ℤ pos (2 ^ m) +ℤ leaf_value x s *ℤ pos (2 ^ n))
+IsQuickAt (quick.Minus p m x n) s = IsPairAt p s × IsReadable x s
+    × IsShortRaised (pair_value p s) m × IsShortRaised (leaf_value x s) n
+    × FitsSigned w64 (pair_value p s *ℤ pos (2 ^ m) -ℤ leaf_value x s *ℤ pos (2 ^ n))
 
 -- an expression without parts that reads this number
 pub record IsLeafOf (node : Node) (x : Leaf) : Type 0 where
@@ -55,6 +74,12 @@ pub record IsLeafOf (node : Node) (x : Leaf) : Type 0 where
       → FitsSigned w64 (leaf_value x s)
 
 -- an expression that has this value, whose steps fit where those of the expression do
+pub record IsPairOf (node : Node) (p : Pair) : Type 0 where
+  pub num : (s : State) (loops : List ℕ) → IsSafe node s loops
+      → node_value node s loops ≡ pair_value p s
+  pub at : (s : State) (loops : List ℕ) → IsSafe node s loops → StepsFit node s loops
+      → IsPairAt p s
+
 pub record IsQuickOf (node : Node) (q : Quick) : Type 0 where
   pub num : (s : State) (loops : List ℕ) → IsSafe node s loops
       → node_value node s loops ≡ quick_value q s
