@@ -11,7 +11,7 @@ use crate::expressions::Expression;
 use crate::nodes::{Node, Sight, eval};
 use crate::numbers::low;
 use crate::plain::{TurnRange, quick_turns};
-use crate::spots::{Spot, place};
+use crate::spots::{Spot, near_place, place};
 use tdf_expr_state::{Cells, Signals};
 use tdf_fixed::Format;
 
@@ -195,8 +195,8 @@ fn output(
     signals.set_sample(port as usize, place(spot, loops), num);
 }
 
-/// Runs a statement that sets a cell or a sample at a fixed place to a value that is read straight from the state. For any other
-/// the answer is false, and nothing is done.
+/// Runs a statement that sets a cell or a sample to a value that is read straight from the state. For any other the answer is false,
+/// and nothing is done.
 #[inline(always)]
 fn quick_step(act: &Act, loops: &[u32], cells: &mut Cells, signals: &mut Signals) -> bool
     requires { IsSafeAct act.now loops.now (state_of cells.old signals.old) }
@@ -210,27 +210,22 @@ fn quick_step(act: &Act, loops: &[u32], cells: &mut Cells, signals: &mut Signals
         loops,
     };
     match act {
-        Act::SetCell {
-            spot: Spot::Fixed(place),
-            cast,
-        } => match cast.value.read(cast.frac, &cast.format, &at) {
+        Act::SetCell { spot, cast } => match cast.value.read(cast.frac, &cast.format, &at) {
             Some(num) => {
-                cells.set_cell(*place as usize, num);
+                cells.set_cell(near_place(*spot, loops), num);
                 true
             }
             None => false,
         },
-        Act::SetSample {
-            port,
-            spot: Spot::Fixed(place),
-            cast,
-        } => match cast.value.read(cast.frac, &cast.format, &at) {
-            Some(num) => {
-                signals.set_sample(*port as usize, *place as usize, num);
-                true
+        Act::SetSample { port, spot, cast } => {
+            match cast.value.read(cast.frac, &cast.format, &at) {
+                Some(num) => {
+                    signals.set_sample(*port as usize, near_place(*spot, loops), num);
+                    true
+                }
+                None => false,
             }
-            None => false,
-        },
+        }
         _ => false,
     }
 }

@@ -7,16 +7,16 @@ ghost use Rattle.tdf_expr_machine.specs.machine.Steps.{IsNarrow, IsShortRaised};
 ghost use Rattle.tdf_expr_state.specs.State.{state_of};
 
 use crate::nodes::{Node, Sight};
+use crate::spots::{Spot, near_place};
 use tdf_expr_cuts::{multiple, short_of};
 
 /// A number, or where one stands.
 #[derive(Clone, Copy)]
 pub(crate) enum Leaf {
     Const(i64),
-    /// A variable, or an element at a fixed place.
-    Cell(u32),
-    /// A sample at a fixed place.
-    Sample(u32),
+    /// A variable, or an element.
+    Cell(Spot),
+    Sample(Spot),
 }
 
 /// One number, or two of them, each moved up by so many bits, or their product.
@@ -36,14 +36,16 @@ pub(crate) enum Quick {
     Minus(Pair, u32, Leaf, u32),
 }
 
-/// What an expression without parts reads, where that is no element that a loop moves.
+/// What an expression without parts reads.
 fn leaf_of(node: &Node) -> Option<Leaf>
     ensures { IfSome result (IsLeafOf node.now) }
 {
     match node {
         Node::Const(num) => Some(Leaf::Const(short_of(*num)?)),
-        Node::Cell(place, _) => Some(Leaf::Cell(*place)),
-        Node::Sample(place, _) => Some(Leaf::Sample(*place)),
+        Node::Cell(at, _) => Some(Leaf::Cell(Spot::Fixed(*at))),
+        Node::CellAt(spot, _) => Some(Leaf::Cell(*spot)),
+        Node::Sample(at, _) => Some(Leaf::Sample(Spot::Fixed(*at))),
+        Node::SampleAt(spot, _) => Some(Leaf::Sample(*spot)),
         _ => None,
     }
 }
@@ -103,13 +105,13 @@ pub(crate) fn straight_of(node: &Node, narrow: bool) -> Option<Quick>
 /// A number, where it stands.
 #[inline(always)]
 fn read(leaf: Leaf, at: &Sight) -> i64
-    requires { IsReadable leaf (state_of at.now.cells.now at.now.signals.now) }
-    ensures { result ≡ leaf_value leaf (state_of at.now.cells.now at.now.signals.now) }
+    requires { IsReadable leaf (state_of at.now.cells.now at.now.signals.now) at.now.loops.now }
+    ensures { result ≡ leaf_value leaf (state_of at.now.cells.now at.now.signals.now) at.now.loops.now }
 {
     match leaf {
         Leaf::Const(num) => num,
-        Leaf::Cell(place) => at.cells.cell(place as usize) as i64,
-        Leaf::Sample(place) => at.signals.sample(place as usize) as i64,
+        Leaf::Cell(spot) => at.cells.cell(near_place(spot, at.loops)) as i64,
+        Leaf::Sample(spot) => at.signals.sample(near_place(spot, at.loops)) as i64,
     }
 }
 
@@ -117,9 +119,9 @@ fn read(leaf: Leaf, at: &Sight) -> i64
 #[inline(always)]
 #[tactic(auto, using(tdf_expr_cuts::proofs::Api::raised_small))]
 fn lifted(leaf: Leaf, bits: u32, at: &Sight) -> i64
-    requires readable { IsReadable leaf (state_of at.now.cells.now at.now.signals.now) }
-    requires raised { IsShortRaised (leaf_value leaf (state_of at.now.cells.now at.now.signals.now)) bits }
-    ensures { result ≡ leaf_value leaf (state_of at.now.cells.now at.now.signals.now) *ℤ pos (2 ^ bits) }
+    requires readable { IsReadable leaf (state_of at.now.cells.now at.now.signals.now) at.now.loops.now }
+    requires raised { IsShortRaised (leaf_value leaf (state_of at.now.cells.now at.now.signals.now) at.now.loops.now) bits }
+    ensures { result ≡ leaf_value leaf (state_of at.now.cells.now at.now.signals.now) at.now.loops.now *ℤ pos (2 ^ bits) }
 {
     multiple(read(leaf, at), bits)
 }
@@ -127,8 +129,8 @@ fn lifted(leaf: Leaf, bits: u32, at: &Sight) -> i64
 /// The value of a pair.
 #[inline(always)]
 fn pair_value(pair: &Pair, at: &Sight) -> i64
-    requires { IsPairAt pair.now (state_of at.now.cells.now at.now.signals.now) }
-    ensures { result ≡ pair_value pair.now (state_of at.now.cells.now at.now.signals.now) }
+    requires { IsPairAt pair.now (state_of at.now.cells.now at.now.signals.now) at.now.loops.now }
+    ensures { result ≡ pair_value pair.now (state_of at.now.cells.now at.now.signals.now) at.now.loops.now }
 {
     match pair {
         Pair::One(leaf) => read(*leaf, at),
@@ -142,9 +144,9 @@ fn pair_value(pair: &Pair, at: &Sight) -> i64
 #[inline(never)]
 #[tactic(auto, using(tdf_expr_cuts::proofs::Api::raised_small))]
 fn lifted_pair(pair: &Pair, bits: u32, at: &Sight) -> i64
-    requires pair { IsPairAt pair.now (state_of at.now.cells.now at.now.signals.now) }
-    requires raised { IsShortRaised (pair_value pair.now (state_of at.now.cells.now at.now.signals.now)) bits }
-    ensures { result ≡ pair_value pair.now (state_of at.now.cells.now at.now.signals.now) *ℤ pos (2 ^ bits) }
+    requires pair { IsPairAt pair.now (state_of at.now.cells.now at.now.signals.now) at.now.loops.now }
+    requires raised { IsShortRaised (pair_value pair.now (state_of at.now.cells.now at.now.signals.now) at.now.loops.now) bits }
+    ensures { result ≡ pair_value pair.now (state_of at.now.cells.now at.now.signals.now) at.now.loops.now *ℤ pos (2 ^ bits) }
 {
     multiple(pair_value(pair, at), bits)
 }
@@ -152,8 +154,8 @@ fn lifted_pair(pair: &Pair, bits: u32, at: &Sight) -> i64
 /// The value that is read.
 #[inline(always)]
 pub(crate) fn quick_value(quick: &Quick, at: &Sight) -> i64
-    requires { IsQuickAt quick.now (state_of at.now.cells.now at.now.signals.now) }
-    ensures { result ≡ quick_value quick.now (state_of at.now.cells.now at.now.signals.now) }
+    requires { IsQuickAt quick.now (state_of at.now.cells.now at.now.signals.now) at.now.loops.now }
+    ensures { result ≡ quick_value quick.now (state_of at.now.cells.now at.now.signals.now) at.now.loops.now }
 {
     match quick {
         Quick::Alone(pair) => pair_value(pair, at),
