@@ -31,9 +31,12 @@ pub(crate) fn blank(numbers: &mut Vec<i128>, from: usize, count: usize)
     requires { from + count ≤ length numbers.old.items }
     ensures { numbers.new.items ≡ with_zeros from count numbers.old.items }
 {
-    if count == 1 {
-        numbers[from] = 0;
-        return;
+    match count {
+        1 => numbers[from] = 0,
+        2 => {
+            numbers[from] = 0;
+            numbers[from + 1] = 0;
+        }
+        _ => numbers[from..from + count].fill(0),
     }
-    numbers[from..from + count].fill(0);
 }
