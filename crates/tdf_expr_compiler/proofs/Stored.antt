@@ -1,6 +1,7 @@
 -- The code of names.
-use Rattle.std.proofs.Common.{◌≡◌, ◌∙◌, ℕ, zero, suc, ◌+◌, ◌<◌, ◌≤◌, false, List, [], ◌∷◌, Bor, Option, Some, None, length, ℤ, pos, refl, sym, ap, arith}
+use Rattle.std.proofs.Common.{◌≡◌, ◌∙◌, ℕ, zero, suc, ◌+◌, ◌-◌, ◌^◌, ◌<◌, ◌≤◌, Bool, true, false, neg_ℤ, ◌≤ℤ◌, if◌then◌else◌, subst, List, [], ◌∷◌, Bor, Option, Some, None, length, ℤ, pos, refl, sym, ap, arith}
 use Rattle.std.proofs.lemmas.Bool.Decides.{nat_tests}
+use Rattle.std.proofs.lemmas.Int.{ints}
 use Rattle.std.proofs.lemmas.Option.{slice_get_within}
 use Rattle.std.specs.Option.{option_map}
 use Rattle.std.specs.Prelude.{min, slice_get, slice_index, nat_lt}
@@ -12,10 +13,10 @@ use Rattle.tdf_expr_compiler.specs.declared.numbers.Numbers.{Numbers}
 use Rattle.tdf_expr_compiler.specs.machine.Computed.{IsAt, Computes}
 use Rattle.tdf_expr_compiler.specs.machine.Found.{IsFound, IsKept, IsWhole, bits_in}
 use Rattle.tdf_base.proofs.Api.{if_none, none_second}
-use Rattle.tdf_expr_machine.specs.Nodes.{HasBits, IsNumberAt}
+use Rattle.tdf_expr_machine.specs.Nodes.{IsNumberAt}
 use Rattle.tdf_expr_machine.specs.declared.nodes.Node.{Node}
 use Rattle.tdf_expr_machine.specs.declared.nodes.Node.TheVariants as node
-use Rattle.tdf_fixed.proofs.Api.{in_width}
+use Rattle.tdf_fixed.specs.Overflow.{IsOfWidth}
 use Rattle.tdf_expr_semantics.specs.Fits.{NumbersFit}
 use Rattle.tdf_expr_semantics.specs.Places.{cells_of, samples_of, first_cell, first_sample, rate_number, cell_shapes, sample_shapes, rate_limits}
 use Rattle.tdf_expr_semantics.specs.Value.{of_shape as number_in, value, element, element_at, own_value, turn_or, literal_in}
@@ -57,13 +58,26 @@ part_thing Tdf = refl
 part_thing De = refl
 part_thing Composite = refl
 
--- a number that fits its format has no more bits
+-- a number of a format lies in the signed range of so many bits beside the sign
+of_range : (signed : Bool) (wl : ℕ) (z : ℤ) → 1 ≤ wl → IsOfWidth signed wl z → IsOfWidth true ((if signed then wl - 1 else wl) + 1) z
+of_range true wl z some range = let same : wl ≡ wl - 1 + 1 = omega (arith, some) in subst (λ k. IsOfWidth true k z) same range
+of_range false wl z some range =
+    let one : wl ≡ wl + 1 - 1 = omega arith in
+    let low : neg_ℤ (pos (2 ^ wl)) ≤ℤ z = below z (2 ^ wl) range.low in
+    record { low = subst (λ k. neg_ℤ (pos (2 ^ k)) ≤ℤ z) one low; high = subst (λ k. z ≤ℤ pos (2 ^ k - 1)) one range.high }
+  where
+    below : (z : ℤ) (m : ℕ) → pos 0 ≤ℤ z → neg_ℤ (pos m) ≤ℤ z
+    below z m low = omega (arith, ints, low)
+
+few_in : (signed : Bool) (wl : ℕ) → wl ≤ 64 → min (if signed then wl - 1 else wl) 255 ≡ (if signed then wl - 1 else wl)
+few_in true wl few = omega (arith, few)
+few_in false wl few = omega (arith, few)
+
 bits_within : (shapes : List (Option Shape)) (nums : List ℤ) → NumbersFit shapes nums → (j : ℕ) (shape : Option Shape) → HasFormat shape → slice_get shapes j ≡ Some shape
-    → HasBits (cell_at nums j) (bits_in shape)
+    → IsOfWidth true (bits_in shape + 1) (cell_at nums j)
 bits_within shapes nums fit j (Some s) has at =
-    let less = in_width s.signed s.wl (cell_at nums j) has.some_bits (fit.each j s at) in
-    let same : min s.wl 255 ≡ s.wl = omega (arith, has.few_bits) in
-    rw same (omega (arith, less))
+    subst (λ k. IsOfWidth true (k + 1) (cell_at nums j)) (sym (few_in s.signed s.wl has.few_bits))
+    (of_range s.signed s.wl (cell_at nums j) has.some_bits (fit.each j s at))
 bits_within shapes nums fit j None has at = absurd has
 
 -- no more bits than a value may have

@@ -40,13 +40,20 @@ pub(crate) fn part_of(shape: Option<Shape>) -> u8
     }
 }
 
-/// How many bits a number in a format has at most.
+/// How many bits a number in a format has at most, its sign aside.
 pub(crate) fn bits_in(shape: Option<Shape>) -> u32
     ensures { result ≡ bits_in shape }
 {
     match shape {
         None => 0,
-        Some(shape) => shape.wl.min(255) as u32,
+        Some(shape) => {
+            let bits = if shape.signed {
+                shape.wl.saturating_sub(1)
+            } else {
+                shape.wl
+            };
+            bits.min(255) as u32
+        }
     }
 }
 

@@ -1,5 +1,5 @@
 -- Casts that need no more than a cut: the neighbour below, where it lies in the range.
-use Rattle.std.proofs.Common.{◌≡◌, ◌∙◌, ℕ, ◌+◌, ◌-◌, ◌*◌, ◌/◌, ◌%◌, ◌^◌, ◌<◌, ◌≤◌, Bool, true, false, ℤ, pos, negsuc, ◌*ℤ◌, ◌≤ℤ◌, nat_eq, if◌then◌else◌, refl, sym, ap, subst, inl, inr, ◌⊎◌, arith}
+use Rattle.std.proofs.Common.{◌≡◌, ◌∙◌, ℕ, ◌+◌, ◌-◌, ◌*◌, ◌/◌, ◌%◌, ◌^◌, ◌<◌, ◌≤◌, Bool, true, false, ℤ, pos, negsuc, ◌*ℤ◌, ◌≤ℤ◌, neg_ℤ, nat_eq, if◌then◌else◌, refl, sym, ap, subst, inl, inr, ◌⊎◌, arith}
 use Rattle.std.proofs.Math.Nat.{mul-le-mul_right, pow-le-pow_right}
 use Rattle.std.proofs.lemmas.Int.{ints, unsigned_abs-mul}
 use Rattle.std.proofs.lemmas.Nat.{div-add-mod', div_below, mod_below, pow_pos, pow-add}
@@ -164,6 +164,25 @@ pub kept_is : (f : Format) (num : ℤ) (frac : ℕ) → ((signed : Bool) (wl : �
 kept_is f num frac plain same signed range =
     let inside : IsOfWidth f.signed f.wl num = subst (λ b. IsOfWidth b f.wl num) (sym signed) range in
     subst (λ k. cast_of f num k ≡ num) (sym same) (cast_keeps f num (subst (λ l. l ≤ℤ num) (sym (plain f.signed f.wl)) inside.low) inside.high)
+
+-- the range of fewer bits lies in that of more
+pub wider_in : (num : ℤ) (bits wl : ℕ) → bits < wl → IsOfWidth true (bits + 1) num → IsOfWidth true wl num
+wider_in num bits wl less range =
+    let power : 2 ^ bits ≤ 2 ^ (wl - 1) = pow-le-pow_right (omega arith) (omega (arith, less)) in
+    let one : bits + 1 - 1 ≡ bits = omega arith in
+    let low : neg_ℤ (pos (2 ^ bits)) ≤ℤ num = subst (λ k. neg_ℤ (pos (2 ^ k)) ≤ℤ num) one range.low in
+    let high : num ≤ℤ pos (2 ^ bits - 1) = subst (λ k. num ≤ℤ pos (2 ^ k - 1)) one range.high in
+    let both = go num (2 ^ bits) (2 ^ (wl - 1)) power low high in
+    record { low = both.0; high = both.1 }
+  where
+    go : (z : ℤ) (m k : ℕ) → m ≤ k → neg_ℤ (pos m) ≤ℤ z → z ≤ℤ pos (m - 1) → (neg_ℤ (pos k) ≤ℤ z) × (z ≤ℤ pos (k - 1))
+    go z m k more low high = (omega (arith, ints, more, low), omega (arith, ints, more, high))
+
+pub keeps_is : (f : Format) (num : ℤ) (bits frac : ℕ) → ((signed : Bool) (wl : ℕ) → least_kept f.over signed wl ≡ least signed wl)
+    → f.signed ≡ true → frac ≡ fraction_of f → bits < f.wl → IsOfWidth true (bits + 1) num → cast_of f num frac ≡ num
+keeps_is f num bits frac plain signed same few range = kept_is f num frac plain same signed (wider_in num bits f.wl few range)
+
+pub ruleset keeps_laws = (keeps_is)
 
 pub cut_same : (f : Format) (frac : ℕ) → f.wl ≤ 62 → ((signed : Bool) (wl : ℕ) → least_kept f.over signed wl ≡ least signed wl) → fraction_of f ≡ frac
     → IsCutOf (record { shift = frac - fraction_of f; signed = f.signed; wl = f.wl }) f frac

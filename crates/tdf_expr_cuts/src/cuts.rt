@@ -1,7 +1,7 @@
 //! Casts of 64-bit numbers that no more than a cut of the last bits brings into the format: the common ones, by a shift.
 
 ghost use Rattle.std.specs.Int.{w64};
-ghost use Rattle.std.specs.Prelude.{FitsSigned, ◌≡◌, ◌≢◌, ◌≤◌, ◌+◌, ◌-◌, ◌*◌, ◌^◌, ◌*ℤ◌, ◌<◌, pos, unsigned_abs, IsTrue, IfSome, IsSome, Bool, true, ℕ};
+ghost use Rattle.std.specs.Prelude.{FitsSigned, ◌≡◌, ◌≢◌, ◌≤◌, ◌+◌, ◌-◌, ◌*◌, ◌^◌, ◌*ℤ◌, ◌<◌, pos, unsigned_abs, IsTrue, IfSome, IsSome, Bool, true, ℕ, ℤ};
 ghost use Rattle.tdf_fixed.specs.Cast.{cast_of, fraction_of};
 ghost use Rattle.tdf_fixed.specs.CastLaws.{least_kept};
 ghost use Rattle.tdf_fixed.specs.Overflow.{IsOfWidth, least};
@@ -244,22 +244,18 @@ pub fn roomy_cut(cut: Cut, bits: u32) -> Option<Cut>
     })
 }
 
-/// The same cut, where it cuts nothing off and goes to a signed range.
-#[inline(always)]
-pub fn whole_cut(cut: Cut) -> Option<Cut>
-    ensures same { IfSome result (λ c. c ≡ cut) }
-    ensures whole { IfSome result (λ c. c.shift ≡ 0) }
-    ensures signed { IfSome result (λ c. c.signed ≡ true) }
-    ensures found { cut.signed ≡ true → cut.shift ≡ 0 → IsSome result }
+/// Whether a cast keeps each number of the signed range of so many bits beside the sign.
+#[tactic(auto, using(crate::proofs::Keeping::keeps_laws))]
+pub fn keeps_all(bits: u32, frac: u32, format: &Format) -> bool
+    ensures keeps { result ≡ true → (num : ℤ) → IsOfWidth true (bits + 1) num
+        → cast_of format.now num frac ≡ num }
+    ensures found { format.now.over ≢ SatSym → format.now.signed ≡ true
+        → frac ≡ fraction_of format.now → bits < format.now.wl → result ≡ true }
 {
-    if !cut.signed || cut.shift != 0 {
-        return None;
+    if !is_plain(format.over) || !format.signed || frac != format.wl - format.iwl {
+        return false;
     }
-    Some(Cut {
-        shift: 0,
-        signed: true,
-        wl: cut.wl,
-    })
+    bits < format.wl
 }
 
 /// The number, where it lies in the range that a cut goes to.

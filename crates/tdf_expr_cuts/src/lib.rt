@@ -4,6 +4,6 @@
 mod cuts;
 
 pub use cuts::{
-    Cut, cut_by, cut_of, held_by, multiple, multiple_in, raised, roomy_cut, short_cast, short_of,
-    whole_cut,
+    Cut, cut_by, cut_of, held_by, keeps_all, multiple, multiple_in, raised, roomy_cut, short_cast,
+    short_of,
 };

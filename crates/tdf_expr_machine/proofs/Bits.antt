@@ -1,5 +1,5 @@
 -- Expressions whose steps fit 64 bits: how many bits each form has at most.
-use Rattle.std.proofs.Common.{◌≡◌, ℕ, ◌+◌, ◌-◌, ◌*◌, ◌^◌, ◌<◌, ◌≤◌, Bool, true, false, Box, Global, List, ℤ, pos, negsuc, neg_ℤ, ◌+ℤ◌, ◌-ℤ◌, ◌*ℤ◌, unsigned_abs, sym, subst, arith}
+use Rattle.std.proofs.Common.{◌≡◌, ℕ, ◌+◌, ◌-◌, ◌*◌, ◌^◌, ◌<◌, ◌≤◌, Bool, true, false, Box, Global, List, ℤ, pos, negsuc, neg_ℤ, ◌+ℤ◌, ◌-ℤ◌, ◌*ℤ◌, ◌≤ℤ◌, unsigned_abs, sym, subst, arith}
 use Rattle.std.proofs.Math.Nat.{pow-le-pow_right, mul-le-mul, mul-le-mul_right}
 use Rattle.std.proofs.lemmas.Int.{ints, unsigned_abs-mul}
 use Rattle.std.proofs.lemmas.Nat.{pow-add, pow_pos}
@@ -16,6 +16,7 @@ use Rattle.tdf_expr_machine.specs.machine.Steps.{IsNarrow, IsShortRaised}
 use Rattle.tdf_expr_state.specs.State.{State, cell_at}
 use Rattle.tdf_fixed.proofs.Api.{in_range, in_width}
 use Rattle.tdf_fixed.specs.Cast.{cast_of}
+use Rattle.tdf_fixed.specs.Overflow.{IsOfWidth}
 use Rattle.tdf_fixed.specs.declared.format.Format.{Format}
 
 -- ---- numbers
@@ -23,6 +24,15 @@ use Rattle.tdf_fixed.specs.declared.format.Format.{Format}
 pub fits : (num : ℤ) (bits : ℕ) → bits ≤ 62 → HasBits num bits → FitsSigned w64 num
 fits (pos n) bits few small = let power = small_power bits few in record { sfits = omega (arith, power, small) }
 fits (negsuc n) bits few small = let power = small_power bits few in record { sfits = omega (arith, power, small) }
+
+-- a number of the signed range of so many bits and one has so many bits
+has_bits : (num : ℤ) (bits : ℕ) → IsOfWidth true (bits + 1) num → HasBits num bits
+has_bits num bits range =
+    let one : bits + 1 - 1 ≡ bits = omega arith in
+    go num (2 ^ bits) (subst (λ k. neg_ℤ (pos (2 ^ k)) ≤ℤ num) one range.low) (subst (λ k. num ≤ℤ pos (2 ^ k - 1)) one range.high)
+  where
+    go : (z : ℤ) (m : ℕ) → neg_ℤ (pos m) ≤ℤ z → z ≤ℤ pos (m - 1) → unsigned_abs z ≤ m
+    go z m low high = omega (arith, ints, low, high)
 
 more_bits : (num : ℤ) (bits more : ℕ) → bits ≤ more → HasBits num bits → HasBits num more
 more_bits num bits more up small = let power : 2 ^ bits ≤ 2 ^ more = pow-le-pow_right (omega arith) up in omega (arith, power, small)
@@ -85,16 +95,16 @@ pub narrow_const : (node : Node) (num : ℤ) (bits : ℕ) → node ≡ variant.C
 narrow_const node num bits is few small = rw is (record { steps = λ s l safe. fits num bits few small; small = λ s l safe. small })
 
 pub narrow_cell : (node : Node) (place bits : ℕ) → node ≡ variant.Cell place bits → bits ≤ 62 → IsNarrow node bits
-narrow_cell node place bits is few = rw is (record { steps = λ s l safe. fits (cell_at s.frame.cells place) bits few safe.1; small = λ s l safe. safe.1 })
+narrow_cell node place bits is few = rw is (record { steps = λ s l safe. fits (cell_at s.frame.cells place) bits few (has_bits _ bits safe.1); small = λ s l safe. has_bits _ bits safe.1 })
 
 pub narrow_sample : (node : Node) (place bits : ℕ) → node ≡ variant.Sample place bits → bits ≤ 62 → IsNarrow node bits
-narrow_sample node place bits is few = rw is (record { steps = λ s l safe. fits (cell_at s.ports.samples place) bits few safe.1; small = λ s l safe. safe.1 })
+narrow_sample node place bits is few = rw is (record { steps = λ s l safe. fits (cell_at s.ports.samples place) bits few (has_bits _ bits safe.1); small = λ s l safe. has_bits _ bits safe.1 })
 
 pub narrow_cell_at : (node : Node) (at : Spot) (bits : ℕ) → node ≡ variant.CellAt at bits → bits ≤ 62 → IsNarrow node bits
-narrow_cell_at node at bits is few = rw is (record { steps = λ s l safe. fits _ bits few safe.1.1; small = λ s l safe. safe.1.1 })
+narrow_cell_at node at bits is few = rw is (record { steps = λ s l safe. fits _ bits few (has_bits _ bits safe.1.1); small = λ s l safe. has_bits _ bits safe.1.1 })
 
 pub narrow_sample_at : (node : Node) (at : Spot) (bits : ℕ) → node ≡ variant.SampleAt at bits → bits ≤ 62 → IsNarrow node bits
-narrow_sample_at node at bits is few = rw is (record { steps = λ s l safe. fits _ bits few safe.1.1; small = λ s l safe. safe.1.1 })
+narrow_sample_at node at bits is few = rw is (record { steps = λ s l safe. fits _ bits few (has_bits _ bits safe.1.1); small = λ s l safe. has_bits _ bits safe.1.1 })
 
 module _ (node : Node) (a b : Box Node Global) (m n x y bits : ℕ) (first : IsNarrow a.value x) (second : IsNarrow b.value y) (low : x + m ≤ bits) (low' : y + n ≤ bits) (few : bits ≤ 60) where
   lifted_first : (s : State) (l : List ℕ) → IsSafe a.value s l → IsShortRaised (node_value a.value s l) m

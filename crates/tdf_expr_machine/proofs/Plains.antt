@@ -1,8 +1,18 @@
--- Places that go with the innermost loop variable.
-use Rattle.std.proofs.Common.{◌≡◌, ℕ, ◌-◌, ◌≤◌, List, [], ◌∷◌, ◌++◌, length, true, false, refl, subst, arith, rules}
+-- Places that go with the innermost loop variable, and copies between them.
+use Rattle.std.proofs.Common.{◌≡◌, ◌∙◌, ℕ, ◌+◌, ◌-◌, ◌<◌, ◌≤◌, List, [], ◌∷◌, ◌++◌, length, true, false, ℤ, refl, ap, subst, arith, rules}
 use Rattle.std.specs.Prelude.{slice_index}
+use Rattle.tdf_expr_machine.specs.Nodes.{IsSafe, node_value, spot_place}
+use Rattle.tdf_expr_machine.specs.declared.acts.Act.{Act}
+use Rattle.tdf_expr_machine.specs.declared.acts.Act.TheVariants as variant
+use Rattle.tdf_expr_machine.specs.declared.acts.CastNode.{CastNode}
+use Rattle.tdf_expr_machine.specs.declared.nodes.Node.TheVariants as code
+use Rattle.tdf_expr_machine.specs.declared.plain.Track.{Track}
+use Rattle.tdf_expr_machine.specs.declared.spots.Spot.{Spot}
 use Rattle.tdf_expr_machine.specs.declared.spots.Spot.TheVariants as spot
-use Rattle.tdf_expr_machine.specs.machine.Plain.{IsTrackOf}
+use Rattle.tdf_expr_machine.specs.machine.Plain.{IsRowCopy, IsTrackOf, track_place}
+use Rattle.tdf_expr_state.specs.State.{cell_at, with_cell}
+use Rattle.tdf_fixed.specs.Cast.{cast_of}
+use Rattle.tdf_fixed.specs.Overflow.{IsOfWidth}
 
 innermost : (loops : List ℕ) (turn : ℕ) → slice_index (loops ++ turn ∷ []) (length loops) ≡ turn
 innermost [] turn = refl
@@ -24,3 +34,25 @@ track_down at depth = record {
 }
 
 pub ruleset track_laws = (track_up, track_down)
+
+-- an assignment of one element to another, by a cast that keeps it
+pub row_is : (act : Act) (spot at : Spot) (bits depth : ℕ) (c : CastNode) (to of : Track) → act ≡ variant.SetCell spot c → c.value ≡ code.CellAt at bits
+    → ((num : ℤ) → IsOfWidth true (bits + 1) num → cast_of c.format num c.frac ≡ num) → IsTrackOf spot depth to → IsTrackOf at depth of → IsRowCopy act depth (record { to = to; of = of })
+row_is act spot at bits depth c to of is value keeps goes comes = rw is (record {
+  same = λ loops turn s long safe.
+      let all : List ℕ = loops ++ turn ∷ [] in
+      let here : IsSafe (code.CellAt at bits) s all = subst (λ n. IsSafe n s all) value safe.0 in
+      let num : node_value c.value s all ≡ cell_at s.frame.cells (spot_place at all) = ap (λ n. node_value n s all) value in
+      ap (λ z. with_cell (spot_place spot all) (cast_of c.format z c.frac) s) num
+      ∙ ap (λ z. with_cell (spot_place spot all) z s) (keeps (cell_at s.frame.cells (spot_place at all)) here.1.1)
+      ∙ ap (λ p. with_cell p (cell_at s.frame.cells (spot_place at all)) s) (goes.place loops turn long safe.2)
+      ∙ ap (λ p. with_cell (track_place to turn) (cell_at s.frame.cells p) s) (comes.place loops turn long here.0);
+  on = λ loops turn s long safe.
+      let all : List ℕ = loops ++ turn ∷ [] in
+      let here : IsSafe (code.CellAt at bits) s all = subst (λ n. IsSafe n s all) value safe.0 in (
+        (goes.on loops turn long safe.2, subst (λ p. p < length s.frame.cells) (goes.place loops turn long safe.2) safe.3),
+        (comes.on loops turn long here.0, subst (λ p. p < length s.frame.cells) (comes.place loops turn long here.0) here.1.0),
+      );
+})
+
+pub ruleset copy_laws = (row_is)

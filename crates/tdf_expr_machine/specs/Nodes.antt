@@ -3,6 +3,7 @@
 use Rattle.std.specs.Prelude.{ℕ, zero, ◌+◌, ◌-◌, ◌*◌, ◌^◌, ◌<◌, ◌≤◌, Bool, true, false, not, ◌&&◌, ◌||◌, if◌then◌else◌, List, length, slice_index, ℤ, pos, ◌+ℤ◌, ◌-ℤ◌, ◌*ℤ◌, neg_ℤ, int_le, unsigned_abs}
 use Rattle.std.specs.Ordering.{int_eq}
 use Rattle.tdf_fixed.specs.Cast.{cast_of, fraction_of}
+use Rattle.tdf_fixed.specs.Overflow.{IsOfWidth}
 use Rattle.tdf_expr_machine.specs.declared.nodes.Node.{Node}
 use Rattle.tdf_expr_machine.specs.declared.nodes.Node.TheVariants as node
 use Rattle.tdf_expr_machine.specs.declared.nodes.Relation.{Relation}
@@ -71,9 +72,9 @@ node_value (node.Cast' p a frac format) s loops = cast_of format (node_value a s
 abbrev pub HasBits : ℤ → ℕ → Type 0
 HasBits num bits = unsigned_abs num ≤ 2 ^ bits
 
--- a number of a list is there, and has at most so many bits
+-- a number of a list is there, and lies in the signed range of so many bits beside the sign
 abbrev pub IsNumberAt : List ℤ → (place bits : ℕ) → Type 0
-IsNumberAt nums place bits = (place < length nums) × HasBits (cell_at nums place) bits
+IsNumberAt nums place bits = (place < length nums) × IsOfWidth true (bits + 1) (cell_at nums place)
 
 -- moved up by so many bits the number is at most 2 ^ 120
 abbrev pub IsRaised : ℤ → ℕ → Type 0

@@ -1,4 +1,3 @@
 -- How the code of this crate works.
 pub mod Plain
-pub mod Quick
 pub mod Steps

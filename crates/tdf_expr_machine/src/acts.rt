@@ -1,17 +1,17 @@
 //! Compiled statements, and how they run.
 
-ghost use Rattle.std.specs.Prelude.{◌≡◌, ◌<◌, ◌≤◌, ◌^◌, ◌&&◌, false, IfSome, IsTrue, length, nat_eq, nat_le, pos, take, true};
+ghost use Rattle.std.specs.Prelude.{◌≡◌, ◌<◌, ◌≤◌, ◌^◌, ◌&&◌, IsTrue, length, nat_eq, nat_le, pos, take};
 ghost use Rattle.tdf_expr_machine.specs.Acts.{AreTurns, IsSafeAct, acted, rate_within, turns_end, with_rate_of, act_turn, IsTurnSafe};
 ghost use Rattle.tdf_expr_machine.specs.Turns.{AreTurnsSafe, turned};
 ghost use Rattle.tdf_fixed.specs.Cast.{cast_of, fraction_of};
-ghost use Rattle.tdf_expr_machine.specs.Nodes.{IsCastable, IsSafe, IsSpot, node_value, spot_place};
-ghost use Rattle.tdf_expr_state.specs.State.{state_of, with_cell, with_sample};
+ghost use Rattle.tdf_expr_machine.specs.Nodes.{IsCastable, IsSafe, IsSpot, is_true, node_value, spot_place};
+ghost use Rattle.tdf_expr_state.specs.State.{state_of, with_cell};
 
 use crate::expressions::Expression;
 use crate::nodes::{Node, Sight, eval};
 use crate::numbers::low;
 use crate::plain::{TurnRange, quick_turns};
-use crate::spots::{Spot, near_place, place};
+use crate::spots::{Spot, place};
 use tdf_expr_state::{Cells, Signals};
 use tdf_fixed::Format;
 
@@ -170,67 +170,36 @@ fn assign(spot: Spot, cast: &CastNode, loops: &[u32], cells: &mut Cells, signals
     cells.set_cell(place(spot, loops), num);
 }
 
-/// The value of an expression is cast into a sample of a port.
-#[inline(never)]
-fn output(
-    port: u32,
-    spot: Spot,
-    cast: &CastNode,
-    loops: &[u32],
-    cells: &Cells,
-    signals: &mut Signals,
-)
-    requires safe { IsSafe cast.now.value (state_of cells.now signals.old) loops.now }
-    requires castable { IsCastable (node_value cast.now.value (state_of cells.now signals.old) loops.now) cast.now.frac (fraction_of cast.now.format) }
-    requires spot { IsSpot spot loops.now × (spot_place spot loops.now < length signals.old.samples) }
-    requires port { port < length signals.old.assigned }
-    ensures { signals.new ≡ (with_sample port (spot_place spot loops.now) (cast_of cast.now.format (node_value cast.now.value (state_of cells.now signals.old) loops.now) cast.now.frac) (state_of cells.now signals.old)).ports }
-{
-    let at = Sight {
-        cells,
-        signals,
-        loops,
-    };
-    let num = cast.value.eval(cast.frac, &cast.format, &at);
-    signals.set_sample(port as usize, place(spot, loops), num);
-}
-
-/// Runs a statement that sets a cell or a sample to a value that is read straight from the state. For any other the answer is false,
-/// and nothing is done.
+/// The value of an expression, cast into its format.
 #[inline(always)]
-fn quick_step(act: &Act, loops: &[u32], cells: &mut Cells, signals: &mut Signals) -> bool
-    requires { IsSafeAct act.now loops.now (state_of cells.old signals.old) }
-    ensures frame { result ≡ true → cells.new ≡ (acted act.now loops.now (state_of cells.old signals.old)).frame }
-    ensures ports { result ≡ true → signals.new ≡ (acted act.now loops.now (state_of cells.old signals.old)).ports }
-    ensures kept { result ≡ false → (cells.new ≡ cells.old) × (signals.new ≡ signals.old) }
+fn output(cast: &CastNode, loops: &[u32], cells: &Cells, signals: &Signals) -> i128
+    requires safe { IsSafe cast.now.value (state_of cells.now signals.now) loops.now }
+    requires castable { IsCastable (node_value cast.now.value (state_of cells.now signals.now) loops.now) cast.now.frac (fraction_of cast.now.format) }
+    ensures { result ≡ cast_of cast.now.format (node_value cast.now.value (state_of cells.now signals.now) loops.now) cast.now.frac }
 {
     let at = Sight {
         cells,
         signals,
         loops,
     };
-    match act {
-        Act::SetCell { spot, cast } => match cast.value.read(cast.frac, &cast.format, &at) {
-            Some(num) => {
-                cells.set_cell(near_place(*spot, loops), num);
-                true
-            }
-            None => false,
-        },
-        Act::SetSample { port, spot, cast } => {
-            match cast.value.read(cast.frac, &cast.format, &at) {
-                Some(num) => {
-                    signals.set_sample(*port as usize, near_place(*spot, loops), num);
-                    true
-                }
-                None => false,
-            }
-        }
-        _ => false,
-    }
+    cast.value.eval(cast.frac, &cast.format, &at)
 }
 
-/// Runs a part of a statement: most assignments without a call of `run`.
+/// Whether an expression holds.
+#[inline(always)]
+fn is_met(test: &Expression, loops: &[u32], cells: &Cells, signals: &Signals) -> bool
+    requires { IsSafe test.now (state_of cells.now signals.now) loops.now }
+    ensures { result ≡ is_true (node_value test.now (state_of cells.now signals.now) loops.now) }
+{
+    let at = Sight {
+        cells,
+        signals,
+        loops,
+    };
+    test.holds(&at)
+}
+
+/// Runs a part of a statement: an assignment to a cell without a call of `run`.
 #[cycle(runs)]
 #[inline(always)]
 fn step(act: &Act, loops: &[u32], cells: &mut Cells, signals: &mut Signals)
@@ -238,9 +207,6 @@ fn step(act: &Act, loops: &[u32], cells: &mut Cells, signals: &mut Signals)
     ensures frame { cells.new ≡ (acted act.now loops.now (state_of cells.old signals.old)).frame }
     ensures ports { signals.new ≡ (acted act.now loops.now (state_of cells.old signals.old)).ports }
 {
-    if quick_step(act, loops, cells, signals) {
-        return;
-    }
     match act {
         Act::SetCell { spot, cast } => assign(*spot, cast, loops, cells, signals),
         _ => run(act, loops, cells, signals),
@@ -301,13 +267,13 @@ pub fn run(act: &Act, loops: &[u32], cells: &mut Cells, signals: &mut Signals)
     ensures frame { cells.new ≡ (acted act.now loops.now (state_of cells.old signals.old)).frame }
     ensures ports { signals.new ≡ (acted act.now loops.now (state_of cells.old signals.old)).ports }
 {
-    if quick_step(act, loops, cells, signals) {
-        return;
-    }
     match act {
         Act::Skip => {}
         Act::SetCell { spot, cast } => assign(*spot, cast, loops, cells, signals),
-        Act::SetSample { port, spot, cast } => output(*port, *spot, cast, loops, cells, signals),
+        Act::SetSample { port, spot, cast } => {
+            let num = output(cast, loops, cells, signals);
+            signals.set_sample(*port as usize, place(*spot, loops), num);
+        }
         Act::SetRate {
             rate,
             value,
@@ -321,7 +287,7 @@ pub fn run(act: &Act, loops: &[u32], cells: &mut Cells, signals: &mut Signals)
         Act::Notify { event, after } => signals.notify(*event as usize, *after),
         Act::Answer(accepted) => signals.answer(*accepted),
         Act::If { test, yes, no } => {
-            if test.holds(loops, cells, signals) {
+            if is_met(test, loops, cells, signals) {
                 step(yes, loops, cells, signals);
             } else {
                 step(no, loops, cells, signals);

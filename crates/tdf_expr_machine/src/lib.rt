@@ -6,7 +6,6 @@
 //! - `short`: the same in 64 bits, where every step fits.
 //! - `narrow`: expressions all of whose steps fit 64 bits wherever they are safe.
 //! - `expressions`: expressions that know whether all their steps fit 64 bits.
-//! - `quick`: values that are read straight from the state.
 //! - `plain`: loops over elements that go without a walk over their bodies.
 //! - `acts`: compiled statements, and how they run.
 //! - `sequences`: many statements as one.
@@ -18,7 +17,6 @@ mod narrow;
 mod nodes;
 mod numbers;
 mod plain;
-mod quick;
 mod sequences;
 mod short;
 mod spots;

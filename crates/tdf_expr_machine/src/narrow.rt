@@ -13,7 +13,7 @@ use tdf_expr_cuts::multiple;
 
 /// 1 for true, 0 for false.
 #[inline(always)]
-fn truth(so: bool) -> i64
+pub(crate) fn truth(so: bool) -> i64
     ensures { result ≡ truth_number so }
 {
     if so { 1 } else { 0 }
@@ -167,7 +167,7 @@ fn lifted(node: &Node, bits: u32, at: &Sight) -> i64
 /// The value of a part of an expression: without a call where it has no parts.
 #[cycle(narrow)]
 #[inline(always)]
-pub(crate) fn part(node: &Node, at: &Sight) -> i64
+fn part(node: &Node, at: &Sight) -> i64
     requires safe { IsSafe node.now (state_of at.now.cells.now at.now.signals.now) at.now.loops.now }
     requires fits { StepsFit node.now (state_of at.now.cells.now at.now.signals.now) at.now.loops.now }
     ensures { result ≡ node_value node.now (state_of at.now.cells.now at.now.signals.now) at.now.loops.now }
@@ -227,6 +227,20 @@ fn narrow_value(node: &Node, at: &Sight) -> i64
             }
         }
         Node::Cast(a, frac, format) => fitted_short(part(a, at), *frac, format) as i64,
+    }
+}
+
+/// As `part`: without a call where it is a sum or a difference, as most assigned values are.
+#[inline(always)]
+pub(crate) fn narrow_top(node: &Node, at: &Sight) -> i64
+    requires safe { IsSafe node.now (state_of at.now.cells.now at.now.signals.now) at.now.loops.now }
+    requires fits { StepsFit node.now (state_of at.now.cells.now at.now.signals.now) at.now.loops.now }
+    ensures { result ≡ node_value node.now (state_of at.now.cells.now at.now.signals.now) at.now.loops.now }
+{
+    match node {
+        Node::Sum(a, m, b, n) => lifted(a, *m, at) + lifted(b, *n, at),
+        Node::Difference(a, m, b, n) => lifted(a, *m, at) - lifted(b, *n, at),
+        _ => part(node, at),
     }
 }
 

@@ -6,7 +6,7 @@ ghost use Rattle.std.specs.Prelude.{◌≡◌, ◌≢◌, ℕ, ◌+◌, ◌<◌,
 ghost use Rattle.tdf_expr_machine.specs.Acts.{IsTurnSafe, act_turn};
 ghost use Rattle.tdf_expr_machine.specs.Turns.{AreTurnsSafe, turned};
 ghost use Rattle.tdf_expr_machine.specs.declared.nodes.Node.TheVariants.{Cell, CellAt};
-ghost use Rattle.tdf_expr_machine.specs.machine.Plain.{AreCells, AreTerms, IsElement, IsInnerProduct, IsOn, IsOnTarget, IsPlain, IsPlainSet, IsProduct, IsRowsProduct, IsShortProduct, IsSum, IsTarget, IsTrackOf, PlainFits, TermsFit, inner_step, plain_value, terms_value, target_place, track_place};
+ghost use Rattle.tdf_expr_machine.specs.machine.Plain.{AreCells, AreTerms, IsElement, IsInnerProduct, IsOn, IsOnTarget, IsPlain, IsPlainSet, IsProduct, IsRowCopy, IsRowsProduct, IsShortProduct, IsSum, IsTarget, IsTrackOf, PlainFits, TermsFit, inner_step, plain_value, terms_value, target_place, track_place};
 ghost use Rattle.tdf_fixed.specs.Quantise.{below};
 ghost use Rattle.tdf_fixed.specs.Overflow.{IsOfWidth};
 ghost use Rattle.tdf_expr_state.specs.State.{cell_at, state_of};
@@ -16,7 +16,7 @@ use crate::nodes::Node;
 use crate::short::{product, sum};
 use crate::spots::Spot;
 use tdf_expr_cuts::{
-    Cut, cut_by, cut_of, held_by, multiple_in, raised, roomy_cut, short_of, whole_cut,
+    Cut, cut_by, cut_of, held_by, keeps_all, multiple_in, raised, roomy_cut, short_of,
 };
 use tdf_expr_state::{Cells, Signals};
 
@@ -356,52 +356,85 @@ fn plain_turns(
     turns.from.max(turns.end)
 }
 
-/// The same copy, where both its elements go this way, its numbers fit 64 bits and it keeps all bits of a signed one: a loop
-/// over it asks for none of this at its turns.
-#[inline(always)]
-fn straight_copy(set: &PlainSet, down: bool) -> Option<PlainSet>
-    ensures { IfSome result (λ same. same ≡ set.now) }
+/// A copy of an element, whose format keeps each number of the other's.
+#[derive(Clone, Copy)]
+pub(crate) struct RowCopy {
+    to: Track,
+    of: Track,
+}
+
+/// The copy that an assignment makes.
+#[tactic(auto, using(crate::proofs::Plains::copy_laws))]
+fn row_copy(act: &Act, depth: usize) -> Option<RowCopy>
+    ensures { IfSome result (λ row. IsRowCopy act.now depth row) }
 {
-    match (set.target, set.value) {
-        (Target::Element(to), Plain::Element(of)) => {
-            if !set.narrow || to.down != down || of.down != down {
+    match act {
+        Act::SetCell { spot, cast } => {
+            let (at, bits) = element_of(&cast.value.node)?;
+            if !keeps_all(bits, cast.frac, &cast.format) {
                 return None;
             }
-            let cut = whole_cut(set.cut)?;
-            Some(PlainSet {
-                target: Target::Element(Track { at: to.at, down }),
-                value: Plain::Element(Track { at: of.at, down }),
-                cut,
-                narrow: true,
-            })
+            let to = track_of(*spot, depth)?;
+            let of = track_of(at, depth)?;
+            Some(RowCopy { to, of })
         }
         _ => None,
     }
 }
 
-/// The turns of a loop that copies elements, as `plain_turns`.
+/// The turns of a loop that copies a row, which ask for nothing. A copy of it for each way asks for that before the loop.
 #[inline(always)]
-fn copy_turns(
+#[tactic(auto, using(crate::proofs::Runs::turn_laws))]
+fn copied_turns(
     act: &Act,
-    set: &PlainSet,
+    row: RowCopy,
     turns: TurnRange,
     loops: &[u32],
     cells: &mut Cells,
     signals: &Signals,
-) -> u32
-    requires set { IsPlainSet act.now (length loops.now) set.now }
+)
+    requires row { IsRowCopy act.now (length loops.now) row }
     requires safe { AreTurnsSafe (act_turn act.now loops.now) (IsTurnSafe act.now loops.now) turns.from turns.end (state_of cells.old signals.now) }
-    ensures after { turns.from ≤ result }
-    ensures within { result ≤ max turns.from turns.end }
-    ensures state { state_of cells.new signals.now ≡ turned (act_turn act.now loops.now) turns.from result (state_of cells.old signals.now) }
+    ensures { state_of cells.new signals.now ≡ turned (act_turn act.now loops.now) turns.from turns.end (state_of cells.old signals.now) }
 {
-    match straight_copy(set, true) {
-        Some(falling) => plain_turns(act, &falling, turns, loops, cells, signals),
-        None => match straight_copy(set, false) {
-            Some(rising) => plain_turns(act, &rising, turns, loops, cells, signals),
-            None => plain_turns(act, set, turns, loops, cells, signals),
-        },
+    for i in turns.from..turns.end {
+        let num = cells.cell(track_place(row.of, i));
+        cells.set_cell(track_place(row.to, i), num);
     }
+}
+
+/// The turns of a loop that copies a row.
+#[inline(always)]
+fn row_turns(
+    act: &Act,
+    row: RowCopy,
+    turns: TurnRange,
+    loops: &[u32],
+    cells: &mut Cells,
+    signals: &Signals,
+)
+    requires row { IsRowCopy act.now (length loops.now) row }
+    requires safe { AreTurnsSafe (act_turn act.now loops.now) (IsTurnSafe act.now loops.now) turns.from turns.end (state_of cells.old signals.now) }
+    ensures { state_of cells.new signals.now ≡ turned (act_turn act.now loops.now) turns.from turns.end (state_of cells.old signals.now) }
+{
+    let (to, of) = (row.to.at, row.of.at);
+    if row.to.down && row.of.down {
+        let to = Track { at: to, down: true };
+        let of = Track { at: of, down: true };
+        return copied_turns(act, RowCopy { to, of }, turns, loops, cells, signals);
+    }
+    if !row.to.down && !row.of.down {
+        let to = Track {
+            at: to,
+            down: false,
+        };
+        let of = Track {
+            at: of,
+            down: false,
+        };
+        return copied_turns(act, RowCopy { to, of }, turns, loops, cells, signals);
+    }
+    copied_turns(act, row, turns, loops, cells, signals)
 }
 
 /// A cell that gets itself, moved up by some bits, and a product of the next elements of two rows: after the turns it
@@ -590,10 +623,14 @@ pub(crate) fn quick_turns(
     ensures within { result ≤ max turns.from turns.end }
     ensures state { state_of cells.new signals.now ≡ turned (act_turn body.now loops.now) turns.from result (state_of cells.old signals.now) }
 {
+    if let Some(row) = row_copy(body, loops.len()) {
+        row_turns(body, row, turns, loops, cells, signals);
+        return turns.from.max(turns.end);
+    }
     match plain_set(body, loops.len()) {
         Some(set) => match (set.target, set.value) {
             (Target::Element(_), Plain::Element(_)) => {
-                copy_turns(body, &set, turns, loops, cells, signals)
+                plain_turns(body, &set, turns, loops, cells, signals)
             }
             (Target::Cell(_), Plain::Sum(_)) => {
                 sum_turns(body, &set, turns, loops, cells, signals)

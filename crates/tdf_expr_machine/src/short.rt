@@ -2,10 +2,11 @@
 
 ghost use Rattle.std.specs.Int.{w64};
 ghost use Rattle.std.specs.Prelude.{◌≡◌, ◌≤◌, ◌^◌, pos, ◌+ℤ◌, ◌-ℤ◌, ◌*ℤ◌, neg_ℤ, unsigned_abs, FitsSigned, IfSome, IsSome};
-ghost use Rattle.tdf_expr_machine.specs.Nodes.{IsSafe, node_value, is_true, relates, truth_number};
+ghost use Rattle.tdf_expr_machine.specs.Nodes.{IsSafe, node_value, is_true, relates};
 ghost use Rattle.tdf_expr_machine.specs.machine.Steps.{IsLeaf, IsShortRaised, StepsFit};
 ghost use Rattle.tdf_expr_state.specs.State.{state_of};
 
+use crate::narrow::truth;
 use crate::nodes::{Node, Relation, Sight, fitted_short};
 use crate::numbers::holds;
 use crate::spots::place;
@@ -55,15 +56,6 @@ fn negative(a: i64) -> Option<i64>
     short_of(-i128::from(a))
 }
 
-/// 1 for true, 0 for false.
-#[inline(always)]
-fn truth(so: bool) -> Option<i64>
-    ensures value { IfSome result (λ n. n ≡ truth_number so) }
-    ensures found { IsSome result }
-{
-    if so { Some(1) } else { Some(0) }
-}
-
 /// The value of an expression without parts.
 #[inline(always)]
 fn leaf(node: &Node, at: &Sight) -> Option<i64>
@@ -81,7 +73,22 @@ fn leaf(node: &Node, at: &Sight) -> Option<i64>
     }
 }
 
-/// The value of a part of an expression: without a call where it has no parts.
+/// The value of a product of two expressions without parts, or of one such.
+#[inline(always)]
+fn near(node: &Node, at: &Sight) -> Option<i64>
+    requires { IsSafe node.now (state_of at.now.cells.now at.now.signals.now) at.now.loops.now }
+    ensures { IfSome result (λ n. n ≡ node_value node.now (state_of at.now.cells.now at.now.signals.now) at.now.loops.now) }
+{
+    match node {
+        Node::Product(a, b) => {
+            let a = leaf(a, at)?;
+            product(a, leaf(b, at)?)
+        }
+        _ => leaf(node, at),
+    }
+}
+
+/// The value of a part of an expression: without a call where it is near.
 #[cycle(short)]
 #[inline(always)]
 pub(crate) fn operand(node: &Node, at: &Sight) -> Option<i64>
@@ -89,7 +96,7 @@ pub(crate) fn operand(node: &Node, at: &Sight) -> Option<i64>
     ensures value { IfSome result (λ n. n ≡ node_value node.now (state_of at.now.cells.now at.now.signals.now) at.now.loops.now) }
     ensures found { StepsFit node.now (state_of at.now.cells.now at.now.signals.now) at.now.loops.now → IsSome result }
 {
-    match leaf(node, at) {
+    match near(node, at) {
         Some(num) => Some(num),
         None => short_value(node, at),
     }
@@ -149,17 +156,17 @@ pub(crate) fn short_value(node: &Node, at: &Sight) -> Option<i64>
         Node::Up(a, n) => raised_part(a, *n, at),
         Node::Compare(relation, a, m, b, n) => {
             let a = raised_part(a, *m, at)?;
-            truth(relates(*relation, a, raised_part(b, *n, at)?))
+            Some(truth(relates(*relation, a, raised_part(b, *n, at)?)))
         }
         Node::And(a, b) => {
             let a = operand(a, at)?;
-            truth(holds(i128::from(a)) && holds(i128::from(operand(b, at)?)))
+            Some(truth(holds(i128::from(a)) && holds(i128::from(operand(b, at)?))))
         }
         Node::Or(a, b) => {
             let a = operand(a, at)?;
-            truth(holds(i128::from(a)) || holds(i128::from(operand(b, at)?)))
+            Some(truth(holds(i128::from(a)) || holds(i128::from(operand(b, at)?))))
         }
-        Node::Not(a) => truth(!holds(i128::from(operand(a, at)?))),
+        Node::Not(a) => Some(truth(!holds(i128::from(operand(a, at)?)))),
         Node::Choice(test, a, m, b, n) => {
             if verdict(test, at)? {
                 raised_part(a, *m, at)
@@ -171,5 +178,25 @@ pub(crate) fn short_value(node: &Node, at: &Sight) -> Option<i64>
         Node::Rate(number) => Some(i64::from(at.cells.rate(*number as usize))),
         Node::Loop(depth) => Some(i64::from(at.loops[*depth as usize])),
         _ => leaf(node, at),
+    }
+}
+
+/// As `short_value`: without a call where it is a sum or a difference of near parts, as most assigned values are.
+#[inline(always)]
+pub(crate) fn top_value(node: &Node, at: &Sight) -> Option<i64>
+    requires { IsSafe node.now (state_of at.now.cells.now at.now.signals.now) at.now.loops.now }
+    ensures value { IfSome result (λ n. n ≡ node_value node.now (state_of at.now.cells.now at.now.signals.now) at.now.loops.now) }
+    ensures found { StepsFit node.now (state_of at.now.cells.now at.now.signals.now) at.now.loops.now → IsSome result }
+{
+    match node {
+        Node::Sum(a, m, b, n) => {
+            let a = raised_part(a, *m, at)?;
+            sum(a, raised_part(b, *n, at)?)
+        }
+        Node::Difference(a, m, b, n) => {
+            let a = raised_part(a, *m, at)?;
+            difference(a, raised_part(b, *n, at)?)
+        }
+        _ => operand(node, at),
     }
 }

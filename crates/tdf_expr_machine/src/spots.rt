@@ -22,8 +22,17 @@ pub enum Spot {
     },
 }
 
+/// `at + times * turn - less`.
+#[inline]
+fn risen(at: u32, times: u32, turn: u32, less: u32) -> usize
+    requires { less ≤ at + times * turn }
+    ensures { result ≡ at + times * turn - less }
+{
+    at as usize + times as usize * turn as usize - less as usize
+}
+
 /// The place that a spot names at these loop variables, outermost first.
-#[inline(never)]
+#[inline]
 pub(crate) fn place(spot: Spot, loops: &[u32]) -> usize
     requires { IsSpot spot loops.now }
     ensures { result ≡ spot_place spot loops.now }
@@ -35,19 +44,7 @@ pub(crate) fn place(spot: Spot, loops: &[u32]) -> usize
             times,
             variable,
             less,
-        } => { at as usize + times as usize * loops[variable as usize] as usize - less as usize }
+        } => risen(at, times, loops[variable as usize], less),
         Spot::Fall { at, variable } => at as usize - loops[variable as usize] as usize,
-    }
-}
-
-/// The same, without a call where the place is fixed.
-#[inline(always)]
-pub(crate) fn near_place(spot: Spot, loops: &[u32]) -> usize
-    requires { IsSpot spot loops.now }
-    ensures { result ≡ spot_place spot loops.now }
-{
-    match spot {
-        Spot::Fixed(at) => at as usize,
-        moved => place(moved, loops),
     }
 }

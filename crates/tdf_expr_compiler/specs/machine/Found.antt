@@ -1,5 +1,5 @@
 -- What a name of a block stands for, with its numbers.
-use Rattle.std.specs.Prelude.{◌≡◌, ℕ, min, List, [], Option, None, Some, pos, slice_get}
+use Rattle.std.specs.Prelude.{◌≡◌, ℕ, min, List, [], Option, None, Some, pos, slice_get, ◌-◌, if◌then◌else◌}
 use Rattle.tdf_expr_compiler.specs.Layouts.{IsNumbered}
 use Rattle.tdf_expr_compiler.specs.declared.numbers.Numbers.{Numbers}
 use Rattle.tdf_expr_compiler.specs.machine.Computed.{IsAt}
@@ -38,10 +38,10 @@ pub record IsWhole (scope : Scope) (loops : List OpenLoop) (n : ℕ) (t : Thing)
       → slice_get scope.own.things n ≡ Some t
       → IsSafe node s turns × (node_value node s turns ≡ (element scope.own s n t 0).num)
 
--- how many bits a number in a format has at most
+-- how many bits a number in a format has at most, its sign aside
 abbrev pub bits_in : Option Shape → ℕ
 bits_in None = 0
-bits_in (Some shape) = min shape.wl 255
+bits_in (Some shape) = min (if shape.signed then shape.wl - 1 else shape.wl) 255
 
 -- the code of a cell, and of a sample, whose number has at most so many bits
 pub record IsCellAt (spot : Spot) (bits : ℕ) (node : Node) : Type 0 where

@@ -11,6 +11,7 @@ use Rattle.tdf_expr_machine.specs.declared.plain.InnerProduct.{InnerProduct}
 use Rattle.tdf_expr_machine.specs.declared.plain.Plain.{Plain}
 use Rattle.tdf_expr_machine.specs.declared.plain.Plain.TheVariants as plain
 use Rattle.tdf_expr_machine.specs.declared.plain.PlainSet.{PlainSet}
+use Rattle.tdf_expr_machine.specs.declared.plain.RowCopy.{RowCopy}
 use Rattle.tdf_expr_machine.specs.declared.plain.Target.{Target}
 use Rattle.tdf_expr_machine.specs.declared.plain.Target.TheVariants as target
 use Rattle.tdf_expr_machine.specs.declared.plain.Terms.{Terms}
@@ -123,6 +124,16 @@ pub record IsPlain (node : Node) (depth : ℕ) (value : Plain) : Type 0 where
   pub fits : (loops : List ℕ) (turn : ℕ) (s : State) → length loops ≡ depth
       → IsSafe node s (loops ++ turn ∷ []) → StepsFit node s (loops ++ turn ∷ [])
       → PlainFits value turn s.frame.cells
+
+-- the statement gives an element the number of another
+pub record IsRowCopy (act : Act) (depth : ℕ) (row : RowCopy) : Type 0 where
+  pub same : (loops : List ℕ) (turn : ℕ) (s : State) → length loops ≡ depth
+      → IsSafeAct act (loops ++ turn ∷ []) s
+      → acted act (loops ++ turn ∷ []) s ≡ with_cell (track_place row.to turn)
+      (cell_at s.frame.cells (track_place row.of turn)) s
+  pub on : (loops : List ℕ) (turn : ℕ) (s : State) → length loops ≡ depth
+      → IsSafeAct act (loops ++ turn ∷ []) s
+      → IsElement row.to turn s.frame.cells × IsElement row.of turn s.frame.cells
 
 -- the statement cuts such a value into a cell, where that lies in the range
 pub record IsPlainSet (act : Act) (depth : ℕ) (set : PlainSet) : Type 0 where

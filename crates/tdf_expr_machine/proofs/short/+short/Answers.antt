@@ -1,5 +1,6 @@
-use Rattle.std.proofs.Common.{rules, ◌≡◌, ◌∙◌, ◌^◌, ℤ, pos, ◌*ℤ◌, ap, subst, sym}
-use Rattle.std.specs.Prelude.{IfSome}
+use Rattle.std.proofs.Common.{rules, SFits, ◌≡◌, ◌∙◌, ◌^◌, ℤ, pos, ◌*ℤ◌, ap, sym}
+use Rattle.std.proofs.lemmas.Int.{to_z-of_z}
+use Rattle.std.specs.Int.{w64}
 use Rattle.tdf_expr_machine.specs.Nodes.{node_value, relates, truth_number}
 use Rattle.tdf_expr_state.specs.State.{state_of}
 use Rattle.tdf_expr_machine.proofs.short.+short.Goals as goal
@@ -15,4 +16,5 @@ short_value-returns-in_ok-raised_part-in-Compare-clause-value t c =
     told ∙ ap (λ x. relates c.in-Compare.relation x c.in_ok-raised_part-in-Compare.field-0) a
     ∙ ap (λ x. relates c.in-Compare.relation (node_value c.in-Compare.a.value s l *ℤ pos (2 ^ c.in-Compare.m)) x) b in
     let is : truth_number c.relates.result ≡ node_value c.args.node.now s l = ap truth_number so ∙ sym (ap (λ n. node_value n s l) c.in-Compare.is) in
-    subst (λ (z : ℤ). IfSome c.truth.result (λ n. n ≡ z)) is c.truth.ensures.value
+    let fits : SFits w64 c.truth.result = search rules in
+    to_z-of_z w64 c.truth.result fits ∙ c.truth.ensures ∙ is
