@@ -1,11 +1,10 @@
 -- Entries in order.
-use Rattle.std.proofs.Common.{◌≡◌, ◌∙◌, ℕ, ◌+◌, ◌<◌, ◌≤◌, ◌⊎◌, inl, inr, Bool, true, false, ◌&&◌, ◌||◌, Some, List, length, nat_lt, nat_eq, refl, sym, ap, subst, arith, is_lt, nat_cmp, IsPermutation, ◌++◌, drop, take}
+use Rattle.std.proofs.Common.{◌≡◌, ◌∙◌, ℕ, ◌+◌, ◌<◌, ◌≤◌, ◌⊎◌, inl, inr, Bool, true, false, ◌&&◌, ◌||◌, Some, List, length, nat_lt, nat_eq, refl, sym, ap, subst, arith, is_lt, nat_cmp, IsPermutation}
 use Rattle.std.proofs.Math.ListN.{get_or}
 use Rattle.std.proofs.lemmas.Bool.{cases_lt, lt-ltb, le-ltb, eq-eqb, ne_eqb}
 use Rattle.std.proofs.lemmas.Bool.Decides.{nat_tests}
 use Rattle.std.proofs.lemmas.Grind.{common_steps}
-use Rattle.std.proofs.Math.Seq.{take-append_seam}
-use Rattle.std.proofs.lemmas.List.Sorted.{sorted_far, sum_by-IsPermutation, All-permutation, IsPermutation-append, IsPermutation-trans, length_permutation}
+use Rattle.std.proofs.lemmas.List.Sorted.{sorted_far, sum_by-IsPermutation, All-permutation}
 use Rattle.std.proofs.lemmas.Option.{slice_get_within, get_or_from_slice_get}
 use Rattle.std.specs.List.Sorted.{IsSortedBy}
 use Rattle.std.specs.Cmp.{IsStrictWeakOrder}
@@ -104,15 +103,3 @@ counted_all table m xs ys all counted moved k b = sum_by-IsPermutation _ xs ys m
 
 pub keys_all : (table : List (List Key)) (xs ys : List Entry) → HasOwnKeys table xs → IsPermutation xs ys → HasOwnKeys table ys
 keys_all table xs ys keys moved = All-permutation (λ (x : Entry). slice_get (row_at table x.actor) x.index ≡ Some (key_in x)) xs ys moved keys
-
--- two parts of a list, each put in another order twice
-pub both_parts : (whole a b c d e f : List Entry) → whole ≡ a ++ b → IsPermutation a c → IsPermutation c d → IsPermutation b e → IsPermutation e f → IsPermutation whole (d ++ f)
-both_parts whole a b c d e f is first second third fourth =
-    rw is (IsPermutation-append a d b f (IsPermutation-trans a c d first second) (IsPermutation-trans b e f third fourth))
-
--- all elements put in another order
-pub put_back : (xs ys : List Entry) (n : ℕ) → length xs ≡ n → IsPermutation xs ys → IsPermutation xs (take n (ys ++ drop (length ys) xs))
-put_back xs ys n long moved =
-    let same : length ys ≡ n = length_permutation xs ys moved ∙ long in
-    subst (λ k. IsPermutation xs (take k (ys ++ drop (length ys) xs))) same
-    (subst (IsPermutation xs) (sym (take-append_seam ys (drop (length ys) xs))) moved)

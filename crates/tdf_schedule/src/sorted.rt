@@ -1,7 +1,6 @@
 //! The firings of a table of keys, sorted.
 
 ghost use Rattle.std.specs.Prelude.{◌≡◌, ◌+◌, ◌<◌, ◌^◌, ℕ, length, IfOk, OnOk};
-ghost use Rattle.std.specs.List.Sorted.{IsPermutation};
 ghost use Rattle.tdf_schedule.specs.views.Entries.{IsCounted, IsComplete, HasOwnKeys, AreSorted};
 ghost use Rattle.tdf_schedule.specs.views.Table.{row_at, total};
 
@@ -31,24 +30,6 @@ fn push_row(entries: &mut Vec<Entry>, table: &Vec<Row>, actor: u32) -> Result<()
     Ok(())
 }
 
-/// A sort of no more entries finds short runs in order.
-const MANY: usize = 4_096;
-
-/// Sorts the halves of a long list, each after its own halves, so that a sort of the whole merges two runs.
-fn sort_halves(alloc: Global, entries: &mut [Entry]) -> Result<(), Memory>
-    ensures { OnOk result (IsPermutation entries.old entries.new) }
-{
-    if entries.len() <= MANY {
-        return Ok(());
-    }
-    let (front, back) = entries.split_at_mut(entries.len() / 2);
-    sort_halves(alloc, front)?;
-    front.sort(alloc)?;
-    sort_halves(alloc, back)?;
-    back.sort(alloc)?;
-    Ok(())
-}
-
 /// All firings, in the order of the plan.
 pub(crate) fn entries_of(alloc: Global, table: &Vec<Row>) -> Result<Vec<Entry>, Memory>
     requires few { length table.now.items < 2 ^ 32 }
@@ -61,7 +42,6 @@ pub(crate) fn entries_of(alloc: Global, table: &Vec<Row>) -> Result<Vec<Entry>, 
     for actor in 0..table.len() as u32 {
         push_row(&mut entries, table, actor)?;
     }
-    sort_halves(alloc, &mut entries)?;
-    entries.sort()?;
+    entries.sort_unstable();
     Ok(entries)
 }
