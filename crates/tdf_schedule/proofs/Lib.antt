@@ -1,4 +1,5 @@
 pub mod Flows
+pub mod Gains
 pub mod Grounds
 pub mod Keys
 pub mod Lates

@@ -93,13 +93,17 @@ sorted_all entries up i j x y less x_is y_is =
     (sorted_far is_earlier earlier_order entries (λ k d low high. sym (compared_is (get_or entries (k + 1) d) (get_or entries k d)) ∙ up k d low high) i j x (omega (arith, less)) (slice_get_within entries j y y_is)))
 
 -- what is counted actor by actor, after the last one
-pub counted_all : (table : List (List Key)) (m : ℕ) (xs ys : List Entry) → length table ≡ m → IsCounted table m 0 xs → IsPermutation xs ys → IsComplete table ys
-counted_all table m xs ys all counted moved k b = sum_by-IsPermutation _ xs ys moved ∙ counted k b ∙ ap one_if (ap (λ t. nat_lt k m && nat_lt b (length (row_at table k)) || nat_eq k m && t) (le-ltb b 0 (omega arith)) ∙ tests (nat_lt k m && nat_lt b (length (row_at table k))) (nat_eq k m) ∙ ap (λ n. nat_lt k n && nat_lt b (length (row_at table k))) (sym all))
+pub counted_all : (table : List (List Key)) (m : ℕ) (xs : List Entry) → length table ≡ m → IsCounted table m 0 xs → IsComplete table xs
+counted_all table m xs all counted k b = counted k b ∙ ap one_if (ap (λ t. nat_lt k m && nat_lt b (length (row_at table k)) || nat_eq k m && t) (le-ltb b 0 (omega arith)) ∙ tests (nat_lt k m && nat_lt b (length (row_at table k))) (nat_eq k m) ∙ ap (λ n. nat_lt k n && nat_lt b (length (row_at table k))) (sym all))
   where
     tests : (x y : Bool) → (x || y && false) ≡ x
     tests true y = refl
     tests false true = refl
     tests false false = refl
+
+-- the same firings in another order
+pub complete_all : (table : List (List Key)) (xs ys : List Entry) → IsComplete table xs → IsPermutation xs ys → IsComplete table ys
+complete_all table xs ys complete moved k b = sum_by-IsPermutation _ xs ys moved ∙ complete k b
 
 pub keys_all : (table : List (List Key)) (xs ys : List Entry) → HasOwnKeys table xs → IsPermutation xs ys → HasOwnKeys table ys
 keys_all table xs ys keys moved = All-permutation (λ (x : Entry). slice_get (row_at table x.actor) x.index ≡ Some (key_in x)) xs ys moved keys

@@ -4,4 +4,5 @@ pub mod Entries
 pub mod Faults
 pub mod Parts
 pub mod Table
+pub mod Turns
 pub mod Work

@@ -7,6 +7,7 @@
 //! - `join`: the key of an actor's next firing.
 //! - `work`: the keys of all firings that are grounded.
 //! - `faults`: the faults of a cluster, looked for in its keys.
+//! - `turns`: the firings, laid out by level.
 //! - `sorted`: the firings, sorted.
 //! - `bounds`: the most samples that each edge holds.
 //! - `cluster`: the plan of one cluster.
@@ -23,6 +24,7 @@ mod key;
 mod laws;
 mod links;
 mod sorted;
+mod turns;
 mod work;
 
 pub use cluster::plan;

@@ -21,7 +21,7 @@ fn no_links(alloc: Global, count: u32) -> Result<Vec<Links>, Memory>
 }
 
 /// Adds a number to an actor's list.
-fn add(lists: &mut Vec<Links>, actor: u32, number: u32) -> Result<(), Memory>
+pub(crate) fn add(lists: &mut Vec<Links>, actor: u32, number: u32) -> Result<(), Memory>
     requires { actor < length lists.old.items }
     ensures { OnOk result (lists.new.items ≡ slice_set lists.old.items actor (links_at lists.old.items actor ++ number ∷ [])) }
 {

@@ -5,6 +5,9 @@ use Rattle.tdf_schedule.proofs.Works.{total_few}
 use Rattle.tdf_schedule.specs.declared.entry.Entry.{Entry}
 use Rattle.tdf_schedule.proofs.cluster.laid.Goals as goal
 
+pub entries_of-requires-clause-firings : goal.entries_of-requires-clause-firings
+entries_of-requires-clause-firings c = let t = total_few c.args.table.now.items c.args.counts.now c.requires.rows.same c.requires.rows.within in omega (arith, t, c.requires.few)
+
 pub most_held-requires-clause-few : goal.most_held-requires-clause-few
 most_held-requires-clause-few c = let l = c.in_ok-entries.ensures.long in let d = ap (λ (x : List Entry). length x) c.deref-3.ensures.value in
     let t = total_few c.args.table.now.items c.args.counts.now c.requires.rows.same c.requires.rows.within in omega (arith, l, d, t, c.requires.few)
