@@ -1,21 +1,19 @@
 -- The turns of actors, one more, and the firings laid out by them.
-use Rattle.std.proofs.Common.{◌≡◌, ◌≢◌, ◌∙◌, ℕ, zero, suc, ◌+◌, ◌*◌, ◌-◌, ◌<◌, ◌≤◌, ◌⊎◌, inl, inr, Bool, true, false, ◌&&◌, Some, List, [], ◌∷◌, ◌++◌, length, set, replicate, map, take, nat_lt, nat_eq, if◌then◌else◌, refl, sym, ap, subst, arith}
+use Rattle.std.proofs.Common.{◌≡◌, ◌∙◌, ℕ, ◌+◌, ◌-◌, ◌<◌, ◌≤◌, ◌⊎◌, inl, inr, Bool, true, false, ◌&&◌, Some, List, [], ◌∷◌, ◌++◌, length, set, replicate, map, take, nat_lt, nat_eq, if◌then◌else◌, refl, sym, ap, subst, arith}
 use Rattle.std.proofs.Math.ListN.{get_or}
 use Rattle.std.proofs.lemmas.Bool.{cases_eq, cases_lt, lt-ltb, le-ltb, eq-eqb, ne_eqb}
-use Rattle.std.proofs.lemmas.Bool.Decides.{nat_tests}
-use Rattle.std.proofs.lemmas.Grind.{common_steps, get_or-set_at}
+use Rattle.std.proofs.lemmas.Grind.{get_or-set_at}
 use Rattle.std.proofs.lemmas.List.{append-nil, append_assoc, replicate_more, length-set, length_push, length-map, get_or-replicate, get_or-set_other, get_or_past, get_or_append_left, get_or-append_right, get_or_default, length-append, get_or-map, same_lists, take_more, take_all, length-replicate}
 use Rattle.std.proofs.lemmas.List.Elements.{All-push}
 use Rattle.std.proofs.lemmas.List.Folds.{sum_by-replicate}
-use Rattle.std.proofs.lemmas.List.Sums.{sum_by-append, sum_by_push, sum_by-set, sum_by_more, sum_by_more_le, sum_by-take-le, sum-map}
-use Rattle.std.proofs.lemmas.Option.{slice_get_within}
-use Rattle.std.specs.List.{count_by, sum_by}
+use Rattle.std.proofs.lemmas.List.Sums.{sum_by-append, sum_by_push, sum_by-set, sum_by_more, sum_by-take-le, sum-map}
+use Rattle.std.specs.List.{sum_by}
 use Rattle.std.specs.Prelude.{slice_get, sum}
 use Rattle.tdf_schedule.proofs.Linked.{row_here, row_other}
 use Rattle.tdf_schedule.specs.Plan.{is_firing, key_in}
 use Rattle.tdf_schedule.specs.declared.entry.Entry.{Entry}
 use Rattle.tdf_schedule.specs.declared.key.Key.{Key}
-use Rattle.tdf_schedule.specs.views.Entries.{HasOwnKeys, IsComplete, one_if}
+use Rattle.tdf_schedule.specs.views.Entries.{IsComplete, one_if}
 use Rattle.tdf_schedule.specs.views.Table.{row_at, total}
 use Rattle.tdf_schedule.specs.views.Turns.{turns_in, turns_of, at_level, GainsTurns, AreByLevel, AreLaid, HasAllTurns}
 use Rattle.tdf_schedule.specs.views.Work.{links_at}

@@ -42,6 +42,12 @@ module _ (edges : List Edge) (pace : ℕ → ℕ) (counts : List ℕ) (lists : L
     ]);
   }
 
+  -- what is known of one actor, as the code reads it
+  pub part_read : (table : List (List Key)) (parts : List Part) (m : ℕ) (into : List ℕ) (part : Part) → m < length counts → AreParts edges pace counts table lists parts → into ≡ links_at lists m → part ≡ get_or parts m part → IsPart edges pace table m into part
+  part_read table parts m into part m_in are into_is part_is =
+      let is : part ≡ part_at parts m = part_is ∙ any_default parts m part no_part (subst (λ n. m < n) (sym are.long) m_in) in
+      subst (IsPart edges pace table m into) (sym is) (subst (λ (l : List ℕ). IsPart edges pace table m l (part_at parts m)) (sym into_is) (are.each m m_in))
+
   -- a firing got its key: what is known of the others stays
   module _ (table : List (List Key)) (m : ℕ) (key : Key) (m_row : m < length table) where
     abbrev next : List (List Key)

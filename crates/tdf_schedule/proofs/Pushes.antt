@@ -1,5 +1,5 @@
 -- The stack of actors.
-use Rattle.std.proofs.Common.{◌≡◌, ◌∙◌, ℕ, zero, suc, ◌+◌, ◌<◌, ◌⊎◌, inl, inr, Bool, true, false, Some, List, [], ◌∷◌, length, sym, ap, subst, arith}
+use Rattle.std.proofs.Common.{◌≡◌, ◌∙◌, ℕ, ◌+◌, ◌<◌, ◌⊎◌, inl, inr, Bool, true, false, Some, List, [], ◌∷◌, length, sym, ap, subst, arith}
 use Rattle.std.proofs.Math.ListN.{get_or}
 use Rattle.std.proofs.lemmas.Bool.{cases_eq}
 use Rattle.std.proofs.lemmas.Option.{slice_get-get_or}
@@ -37,31 +37,3 @@ pushed_more list i a s0 s s2 o0 o o2 within a_is before step = record {
         go : (get_or o0 k false ≡ true) ⊎ ((j : ℕ) × (slice_get s j ≡ Some k)) → (get_or o0 k false ≡ true) ⊎ ((j : ℕ) × (slice_get s2 j ≡ Some k))
         go (inl x) = inl x
         go (inr w) = inr (w.0, step.kept w.0 k w.1)
-
--- one, and then a list
-pub pushed_cons : (list : List ℕ) (n a : ℕ) (s0 s s2 : List ℕ) (o0 o o2 : List Bool) → ArePushed (a ∷ []) 1 s0 s o0 o → ArePushed list n s s2 o o2 → ArePushed (a ∷ list) (n + 1) s0 s2 o0 o2
-pushed_cons list n a s0 s s2 o0 o o2 first rest = record {
-  flags = rest.flags ∙ first.flags;
-  few = let a' = first.few in let b = rest.few in omega (arith, a', b);
-  kept = λ j k h. rest.kept j k (first.kept j k h);
-  inside = λ j k h. inside j k (rest.inside j k h);
-  pushed = pushed;
-  on = λ k h. rest.on k (first.on k h);
-  stacked = λ k h. stacked k (rest.stacked k h);
-}
-  where
-    inside : (j k : ℕ) → (k < length o) ⊎ (slice_get s j ≡ Some k) → (k < length o0) ⊎ (slice_get s0 j ≡ Some k)
-    inside j k (inl below) = inl (subst (λ m. k < m) first.flags below)
-    inside j k (inr old) = first.inside j k old
-
-    pushed : (j k : ℕ) → j < n + 1 → slice_get (a ∷ list) j ≡ Some k → get_or o2 k false ≡ true
-    pushed zero k below at = rest.on k (first.pushed 0 k (omega arith) at)
-    pushed (suc j) k below at = rest.pushed j k (omega (arith, below)) at
-
-    stacked : (k : ℕ) → (get_or o k false ≡ true) ⊎ ((j : ℕ) × (slice_get s2 j ≡ Some k)) → (get_or o0 k false ≡ true) ⊎ ((j : ℕ) × (slice_get s2 j ≡ Some k))
-    stacked k (inr w) = inr w
-    stacked k (inl was) = go (first.stacked k was)
-      where
-        go : (get_or o0 k false ≡ true) ⊎ ((j : ℕ) × (slice_get s j ≡ Some k)) → (get_or o0 k false ≡ true) ⊎ ((j : ℕ) × (slice_get s2 j ≡ Some k))
-        go (inl x) = inl x
-        go (inr w) = inr (w.0, rest.kept w.0 k w.1)

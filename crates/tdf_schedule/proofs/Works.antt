@@ -7,7 +7,7 @@ use Rattle.std.proofs.lemmas.Grind.{get_or-set_at}
 use Rattle.std.proofs.lemmas.List.{length-set, length-replicate, length_push, get_or-set_other, get_or-replicate, get_or_past}
 use Rattle.std.proofs.lemmas.List.Sums.{sum_by-cons, sum_by-set}
 use Rattle.std.proofs.lemmas.Option.{slice_get_within}
-use Rattle.std.specs.Prelude.{slice_get, All, sum}
+use Rattle.std.specs.Prelude.{slice_get, All, Contains, sum}
 use Rattle.tdf_base.specs.Limits.{most_firings}
 use Rattle.tdf_graph.specs.Ranges.{IsEdge}
 use Rattle.tdf_graph.specs.declared.actors.Edge.{Edge}
@@ -16,7 +16,7 @@ use Rattle.tdf_schedule.proofs.Linked.{in_front, last_of, push_cases, row_here, 
 use Rattle.tdf_schedule.specs.Needs.{HasKey}
 use Rattle.tdf_schedule.specs.declared.key.Key.{Key}
 use Rattle.tdf_schedule.specs.views.Table.{row_at, total, IsJoined, need_of, key_of}
-use Rattle.tdf_schedule.specs.views.Work.{links_at, with_key, weight, AreGiven, AreRows, AreAllOn, IsSettled, IsWorked, ArePushed}
+use Rattle.tdf_schedule.specs.views.Work.{links_at, with_key, weight, AreGiven, AreRows, AreAllOn, AreReadersUpTo, HasGrown, IsSettled, IsWorked, ArePushed}
 
 pub true_false : true ≡ false → ⊥
 true_false e = subst only_true e tt
@@ -57,167 +57,163 @@ module _ (edges : List Edge) (counts paces : List ℕ) (inputs readers : List (L
   pub due_small : length (row_at table m) * get_or paces m 0 < 2 ^ 63
   due_small = let w = mul-le-mul_right (get_or paces m 0) (rows.within m) in let s = given.short m in omega (arith, w, s)
 
-  -- taken from the stack, and nothing more to do for it
-  module _ (stack : List ℕ) (on : List Bool) (worked : IsWorked edges counts table (stack ++ m ∷ []) on) where
-    other_flag : (k : ℕ) → k ≢ m → get_or (set on m false) k false ≡ get_or on k false
-    other_flag k apart = get_or-set_other on m k false false apart
+  -- its next firing has its key
+  module _ (r : Key) (more : length (row_at table m) ≡ get_or counts m 0 → ⊥) (joined : IsJoined edges (λ k. get_or paces k 0) table m (length (row_at table m)) (links_at inputs m) (length (links_at inputs m)) r) where
+    key : Key
+    key = key_of (r.level + 1) r.offset
 
-    own_flag : get_or (set on m false) m false ≡ false
-    own_flag = get_or-set_at on m m false false refl (subst (λ n. m < n) (sym worked.flags) m_in)
+    abbrev next : List (List Key)
+    next = with_key table m (key_of (r.level + 1) r.offset)
 
-    not_own : (k : ℕ) → get_or (set on m false) k false ≡ true → k ≢ m
-    not_own k h same = true_false (sym h ∙ ap (λ n. get_or (set on m false) n false) same ∙ own_flag)
+    m_row : m < length table
+    m_row = subst (λ n. m < n) (sym rows.same) m_in
 
-    pub worked_off : IsSettled edges counts table m → IsWorked edges counts table stack (set on m false)
-    worked_off here = record {
-      flags = length-set on m false ∙ worked.flags;
-      stacked = λ k h. let w = worked.stacked k (sym (other_flag k (not_own k h)) ∙ h) in (w.0, before_last stack m w.0 k (not_own k h) w.1);
-      inside = λ j k h. worked.inside j k (in_front stack (m ∷ []) j k h);
-      settled = λ k inside h. settled k inside h (cases_eq k m);
+    here_row : row_at next m ≡ row_at table m ++ key_of (r.level + 1) r.offset ∷ []
+    here_row = row_here table m (row_at table m ++ key_of (r.level + 1) r.offset ∷ []) m_row
+
+    other_row : (k : ℕ) → k ≢ m → row_at next k ≡ row_at table k
+    other_row k apart = row_other table m k (row_at table m ++ key_of (r.level + 1) r.offset ∷ []) apart
+
+    total_next : total next ≡ total table + 1
+    total_next =
+        let s = sum_by-set {X = List Key} length table m (row_at table m ++ key_of (r.level + 1) r.offset ∷ []) [] m_row in
+        let l = length_push (row_at table m) (key_of (r.level + 1) r.offset) in omega (arith, s, l)
+
+    fit_rows : All (IsEdge (length table)) edges
+    fit_rows = subst (λ n. All (IsEdge n) edges) (sym rows.same) given.fit
+
+    new_key : HasKey edges (λ k. get_or paces k 0) m (length (row_at table m)) (key_of (r.level + 1) r.offset)
+    new_key = next_key edges (λ k. get_or paces k 0) table m (links_at inputs m) fit_rows rows.keys rows.low (length (row_at table m)) r
+        (inputs_at (length counts) edges inputs m given.into) joined
+
+    keys_next : (k a : ℕ) (x : Key) → slice_get (row_at next k) a ≡ Some x → (k ≡ m) ⊎ (k ≡ m → ⊥) → HasKey edges (λ i. get_or paces i 0) k a x × (x.level ≤ total next)
+    keys_next k a x is (inr apart) =
+        let old = sym (ap (λ (l : List Key). slice_get l a) (other_row k apart)) ∙ is in (rows.keys k a x old, (let l = rows.low k a x old in omega (arith, l, total_next)))
+    keys_next k a x is (inl same) = go (push_cases (row_at table m) (key_of (r.level + 1) r.offset) a x
+        (sym (ap (λ (l : List Key). slice_get l a) here_row) ∙ ap (λ n. slice_get (row_at next n) a) (sym same) ∙ is))
+      where
+        go : (slice_get (row_at table m) a ≡ Some x) ⊎ ((a ≡ length (row_at table m)) × (x ≡ key_of (r.level + 1) r.offset)) → HasKey edges (λ i. get_or paces i 0) k a x × (x.level ≤ total next)
+        go (inl before) =
+            (subst (λ n. HasKey edges (λ i. get_or paces i 0) n a x) (sym same) (rows.keys m a x before), (let l = rows.low m a x before in omega (arith, l, total_next)))
+        go (inr p) = (
+          subst (λ n. HasKey edges (λ i. get_or paces i 0) n a x) (sym same) (subst (λ n. HasKey edges (λ i. get_or paces i 0) m n x) (sym p.0) (subst (HasKey edges (λ i. get_or paces i 0) m (length (row_at table m))) (sym p.1) new_key)),
+          (let e = ap (λ (y : Key). y.level) p.1 in let f = joined.few in omega (arith, e, f, total_next)),
+        )
+
+    pub rows_next : AreRows edges (λ k. get_or paces k 0) counts (with_key table m (key_of (r.level + 1) r.offset))
+    rows_next = record {
+      same = length-set table m _ ∙ rows.same;
+      within = λ k. within k (cases_eq k m);
+      keys = λ k a x is. (keys_next k a x is (cases_eq k m)).0;
+      low = λ k a x is. (keys_next k a x is (cases_eq k m)).1;
     }
       where
-        settled : (k : ℕ) → k < length counts → get_or (set on m false) k false ≡ false → (k ≡ m) ⊎ (k ≡ m → ⊥) → IsSettled edges counts table k
-        settled k inside h (inl same) = subst (IsSettled edges counts table) (sym same) here
-        settled k inside h (inr apart) = worked.settled k inside (sym (other_flag k apart) ∙ h)
+        within : (k : ℕ) → (k ≡ m) ⊎ (k ≡ m → ⊥) → length (row_at next k) ≤ get_or counts k 0
+        within k (inl same) =
+            let e = ap (λ n. length (row_at next n)) same in let h = ap (λ (l : List Key). length l) here_row in let l = length_push (row_at table m) (key_of (r.level + 1) r.offset) in
+            let w = rows.within m in let c = ap (λ n. get_or counts n 0) same in omega (arith, e, h, l, w, c, more)
+        within k (inr apart) = let e = ap (λ (l : List Key). length l) (other_row k apart) in let w = rows.within k in omega (arith, e, w)
 
-    -- its next firing has its key
-    module _ (r : Key) (more : length (row_at table m) ≡ get_or counts m 0 → ⊥) (joined : IsJoined edges (λ k. get_or paces k 0) table m (length (row_at table m)) (links_at inputs m) (length (links_at inputs m)) r) where
-      key : Key
-      key = key_of (r.level + 1) r.offset
+pub row_longer : (table new : List (List Key)) (m : ℕ) (key : Key) → m < length table → new ≡ with_key table m key → length (row_at new m) ≡ length (row_at table m) + 1
+row_longer table new m key m_row new_is =
+    ap (λ (t : List (List Key)). length (row_at t m)) new_is ∙ ap (λ (l : List Key). length l) (row_here table m (row_at table m ++ key ∷ []) m_row) ∙ length_push (row_at table m) key
 
-      abbrev next : List (List Key)
-      next = with_key table m (key_of (r.level + 1) r.offset)
+-- one actor has more keys
+pub grown_none : (m : ℕ) (table : List (List Key)) → HasGrown m table table
+grown_none m table = record { kept = omega arith; others = λ k apart. refl; whole = refl }
 
-      m_row : m < length table
-      m_row = subst (λ n. m < n) (sym rows.same) m_in
-
-      here_row : row_at next m ≡ row_at table m ++ key_of (r.level + 1) r.offset ∷ []
-      here_row = row_here table m (row_at table m ++ key_of (r.level + 1) r.offset ∷ []) m_row
-
-      other_row : (k : ℕ) → k ≢ m → row_at next k ≡ row_at table k
-      other_row k apart = row_other table m k (row_at table m ++ key_of (r.level + 1) r.offset ∷ []) apart
-
-      total_next : total next ≡ total table + 1
-      total_next =
-          let s = sum_by-set {X = List Key} length table m (row_at table m ++ key_of (r.level + 1) r.offset ∷ []) [] m_row in
-          let l = length_push (row_at table m) (key_of (r.level + 1) r.offset) in omega (arith, s, l)
-
-      fit_rows : All (IsEdge (length table)) edges
-      fit_rows = subst (λ n. All (IsEdge n) edges) (sym rows.same) given.fit
-
-      new_key : HasKey edges (λ k. get_or paces k 0) m (length (row_at table m)) (key_of (r.level + 1) r.offset)
-      new_key = next_key edges (λ k. get_or paces k 0) table m (links_at inputs m) fit_rows rows.keys rows.low (length (row_at table m)) r
-          (inputs_at (length counts) edges inputs m given.into) joined
-
-      keys_next : (k a : ℕ) (x : Key) → slice_get (row_at next k) a ≡ Some x → (k ≡ m) ⊎ (k ≡ m → ⊥) → HasKey edges (λ i. get_or paces i 0) k a x × (x.level ≤ total next)
-      keys_next k a x is (inr apart) =
-          let old = sym (ap (λ (l : List Key). slice_get l a) (other_row k apart)) ∙ is in (rows.keys k a x old, (let l = rows.low k a x old in omega (arith, l, total_next)))
-      keys_next k a x is (inl same) = go (push_cases (row_at table m) (key_of (r.level + 1) r.offset) a x
-          (sym (ap (λ (l : List Key). slice_get l a) here_row) ∙ ap (λ n. slice_get (row_at next n) a) (sym same) ∙ is))
-        where
-          go : (slice_get (row_at table m) a ≡ Some x) ⊎ ((a ≡ length (row_at table m)) × (x ≡ key_of (r.level + 1) r.offset)) → HasKey edges (λ i. get_or paces i 0) k a x × (x.level ≤ total next)
-          go (inl before) =
-              (subst (λ n. HasKey edges (λ i. get_or paces i 0) n a x) (sym same) (rows.keys m a x before), (let l = rows.low m a x before in omega (arith, l, total_next)))
-          go (inr p) = (
-            subst (λ n. HasKey edges (λ i. get_or paces i 0) n a x) (sym same) (subst (λ n. HasKey edges (λ i. get_or paces i 0) m n x) (sym p.0) (subst (HasKey edges (λ i. get_or paces i 0) m (length (row_at table m))) (sym p.1) new_key)),
-            (let e = ap (λ (y : Key). y.level) p.1 in let f = joined.few in omega (arith, e, f, total_next)),
-          )
-
-      pub rows_next : AreRows edges (λ k. get_or paces k 0) counts (with_key table m (key_of (r.level + 1) r.offset))
-      rows_next = record {
-        same = length-set table m _ ∙ rows.same;
-        within = λ k. within k (cases_eq k m);
-        keys = λ k a x is. (keys_next k a x is (cases_eq k m)).0;
-        low = λ k a x is. (keys_next k a x is (cases_eq k m)).1;
-      }
-        where
-          within : (k : ℕ) → (k ≡ m) ⊎ (k ≡ m → ⊥) → length (row_at next k) ≤ get_or counts k 0
-          within k (inl same) =
-              let e = ap (λ n. length (row_at next n)) same in let h = ap (λ (l : List Key). length l) here_row in let l = length_push (row_at table m) (key_of (r.level + 1) r.offset) in
-              let w = rows.within m in let c = ap (λ n. get_or counts n 0) same in omega (arith, e, h, l, w, c, more)
-          within k (inr apart) = let e = ap (λ (l : List Key). length l) (other_row k apart) in let w = rows.within k in omega (arith, e, w)
-
-      pub worked_on : (after : List ℕ) (flags : List Bool) → ArePushed (m ∷ links_at readers m) (length (links_at readers m) + 1) stack after (set on m false) flags
-          → IsWorked edges counts (with_key table m (key_of (r.level + 1) r.offset)) after flags
-      worked_on after flags pushed = record {
-        flags = pushed.flags ∙ length-set on m false ∙ worked.flags;
-        stacked = λ k h. stacked k (pushed.stacked k h);
-        inside = λ j k h. inside j k (pushed.inside j k h);
-        settled = λ k inside h. settled k inside h (cases_eq k m);
-      }
-        where
-          stacked : (k : ℕ) → (get_or (set on m false) k false ≡ true) ⊎ ((j : ℕ) × (slice_get after j ≡ Some k)) → (j : ℕ) × (slice_get after j ≡ Some k)
-          stacked k (inr w) = w
-          stacked k (inl was) = let w = worked.stacked k (sym (other_flag k (not_own k was)) ∙ was) in (w.0, pushed.kept w.0 k (before_last stack m w.0 k (not_own k was) w.1))
-
-          inside : (j k : ℕ) → (k < length (set on m false)) ⊎ (slice_get stack j ≡ Some k) → k < length counts
-          inside j k (inl below) = subst (λ n. k < n) (length-set on m false ∙ worked.flags) below
-          inside j k (inr old) = worked.inside j k (in_front stack (m ∷ []) j k old)
-
-          settled : (k : ℕ) → k < length counts → get_or flags k false ≡ false → (k ≡ m) ⊎ (k ≡ m → ⊥) → IsSettled edges counts next k
-          settled k k_in h (inl same) = absurd (true_false (sym (pushed.pushed 0 k (omega arith) (ap Some (sym same))) ∙ h))
-          settled k k_in h (inr apart) = go (worked.settled k k_in (false_unless (get_or on k false) (λ t. true_false (sym (pushed.on k (other_flag k apart ∙ t)) ∙ h))))
-            where
-              go : IsSettled edges counts table k → IsSettled edges counts next k
-              go (inl full) = inl (ap (λ (l : List Key). length l) (other_row k apart) ∙ full)
-              go (inr stuck) = inr (record {
-                edge = stuck.edge;
-                there = stuck.there;
-                reads = stuck.reads;
-                firing = stuck.firing;
-                needs = subst (λ (l : List Key). need_of stuck.edge (length l) ≡ Some stuck.firing) (sym (other_row k apart)) stuck.needs;
-                absent = absent (cases_eq stuck.edge.writer m);
-              })
-                where
-                  absent : (stuck.edge.writer ≡ m) ⊎ (stuck.edge.writer ≡ m → ⊥) → length (row_at next stuck.edge.writer) ≤ stuck.firing
-                  absent (inr other) = subst (λ (l : List Key). length l ≤ stuck.firing) (sym (other_row stuck.edge.writer other)) stuck.absent
-                  absent (inl writes) =
-                      let at = contains_at edges stuck.edge stuck.there in
-                      let j = given.out.all at.0 stuck.edge (slice_get_within edges at.0 stuck.edge at.1) at.1 in
-                      let found : slice_get (links_at readers m) j.0 ≡ Some k = ap (λ n. slice_get (links_at readers n) j.0) (sym writes) ∙ j.1 ∙ ap Some stuck.reads in
-                      let within = slice_get_within (links_at readers m) j.0 k found in
-                      absurd (true_false (sym (pushed.pushed (suc j.0) k (omega (arith, within)) found) ∙ h))
-
-      pub less_on : (after : List ℕ) (flags : List Bool) → ArePushed (m ∷ links_at readers m) (length (links_at readers m) + 1) stack after (set on m false) flags
-          → weight edges counts (with_key table m (key_of (r.level + 1) r.offset)) after ≤ weight edges counts table stack
-      less_on after flags pushed =
-          let few = pushed.few in let out = given.out.few m in
-          let top = total_few next counts rows_next.same rows_next.within in
-          step (sum counts - total next) (sum counts - total table) (length edges) (length after) (length stack) (length (links_at readers m)) (omega (arith, top, total_next)) few out
-        where
-          step : (l1 l0 w s2 s n : ℕ) → l0 ≡ l1 + 1 → s2 ≤ s + (n + 1) → n ≤ w → l1 * (w + 2) + s2 ≤ l0 * (w + 2) + s
-          step l1 l0 w s2 s n is grew few = let p : (l1 + 1) * (w + 2) ≡ l1 * (w + 2) + (w + 2) = grind arith in let q = ap (λ k. k * (w + 2)) is in omega (arith, p, q, grew, few)
-
--- the same as the code meets it
-pub record IsTurned (edges : List Edge) (counts paces : List ℕ) (old new : List (List Key)) (stack after : List ℕ) (flags : List Bool) : Type 0 where
-  pub rows : AreRows edges (λ k. get_or paces k 0) counts new
-  pub worked : IsWorked edges counts new after flags
-  pub less : weight edges counts new after ≤ weight edges counts old stack
-
-pub turned : (edges : List Edge) (counts paces : List ℕ) (inputs readers : List (List ℕ)) (table new : List (List Key)) (m len : ℕ) (stack after : List ℕ) (on flags : List Bool) (r : Key) (into out : List ℕ)
-    → AreGiven edges counts paces inputs readers → AreRows edges (λ k. get_or paces k 0) counts table → IsWorked edges counts table (stack ++ m ∷ []) on
-    → len ≡ length (row_at table m) → (len ≡ get_or counts m 0 → ⊥) → into ≡ links_at inputs m → out ≡ links_at readers m
-    → IsJoined edges (λ k. get_or paces k 0) table m (length (row_at table m)) into (length into) r
-    → new ≡ with_key table m (key_of (r.level + 1) r.offset) → ArePushed (m ∷ out) (length out + 1) stack after (set on m false) flags
-    → IsTurned edges counts paces table new stack after flags
-turned edges counts paces inputs readers table new m len stack after on flags r into out given rows worked len_is short into_is out_is joined new_is pushed =
-    subst (λ t. IsTurned edges counts paces table t stack after flags) (sym new_is) (record {
-      rows = rows_next edges counts paces inputs readers given table rows m m_in stack on worked r more joined_is;
-      worked = worked_on edges counts paces inputs readers given table rows m m_in stack on worked r more joined_is after flags pushed_is;
-      less = less_on edges counts paces inputs readers given table rows m m_in stack on worked r more joined_is after flags pushed_is;
-    })
+pub grown_more : (m : ℕ) (old table new : List (List Key)) (key : Key) → m < length table → new ≡ with_key table m key → HasGrown m old table → HasGrown m old new
+grown_more m old table new key m_row new_is grown = subst (HasGrown m old) (sym new_is) (record {
+  kept = (let h = here in let k = grown.kept in omega (arith, h, k));
+  others = λ k apart. row_other table m k (row_at table m ++ key ∷ []) apart ∙ grown.others k apart;
+  whole = (let s = sum_by-set {X = List Key} length table m (row_at table m ++ key ∷ []) [] m_row in let h = here in let l = length_push (row_at table m) key in let w = grown.whole in omega (arith, s, h, l, w));
+})
   where
-    m_in : m < length counts
-    m_in = worked.inside (length stack) m (last_of stack m)
+    here : length (row_at (with_key table m key) m) ≡ length (row_at table m) + 1
+    here = ap (λ (l : List Key). length l) (row_here table m (row_at table m ++ key ∷ []) m_row) ∙ length_push (row_at table m) key
 
-    more : length (row_at table m) ≡ get_or counts m 0 → ⊥
-    more full = short (len_is ∙ full)
+-- an actor that was taken from the stack has all the keys that it can have
+module _ (edges : List Edge) (counts : List ℕ) (readers : List (List ℕ)) (out : AreReadersUpTo (length edges) (length counts) edges readers) (old new : List (List Key)) (m : ℕ)
+    (stack : List ℕ) (on : List Bool) (worked : IsWorked edges counts old (stack ++ m ∷ []) on) (grown : HasGrown m old new) (here : IsSettled edges counts new m) where
+  m_in : m < length counts
+  m_in = worked.inside (length stack) m (last_of stack m)
 
-    joined_is : IsJoined edges (λ k. get_or paces k 0) table m (length (row_at table m)) (links_at inputs m) (length (links_at inputs m)) r
-    joined_is = subst (λ (l : List ℕ). IsJoined edges (λ k. get_or paces k 0) table m (length (row_at table m)) l (length l) r) into_is joined
+  other_flag : (k : ℕ) → k ≢ m → get_or (set on m false) k false ≡ get_or on k false
+  other_flag k apart = get_or-set_other on m k false false apart
 
-    pushed_is : ArePushed (m ∷ links_at readers m) (length (links_at readers m) + 1) stack after (set on m false) flags
-    pushed_is = subst (λ (l : List ℕ). ArePushed (m ∷ l) (length l + 1) stack after (set on m false) flags) out_is pushed
+  own_flag : get_or (set on m false) m false ≡ false
+  own_flag = get_or-set_at on m m false false refl (subst (λ n. m < n) (sym worked.flags) m_in)
+
+  not_own : (k : ℕ) → get_or (set on m false) k false ≡ true → k ≢ m
+  not_own k h same = true_false (sym h ∙ ap (λ n. get_or (set on m false) n false) same ∙ own_flag)
+
+  -- another actor stays settled, unless it waits for a key that came
+  still : (k : ℕ) → k ≢ m → ((e : Edge) → Contains edges e → e.reader ≡ k → e.writer ≡ m → length (row_at new m) ≤ length (row_at old m)) → IsSettled edges counts old k → IsSettled edges counts new k
+  still k apart none (inl full) = inl (ap (λ (l : List Key). length l) (grown.others k apart) ∙ full)
+  still k apart none (inr stuck) = inr (record {
+    edge = stuck.edge;
+    there = stuck.there;
+    reads = stuck.reads;
+    firing = stuck.firing;
+    needs = subst (λ (l : List Key). need_of stuck.edge (length l) ≡ Some stuck.firing) (sym (grown.others k apart)) stuck.needs;
+    absent = absent (cases_eq stuck.edge.writer m);
+  })
+    where
+      absent : (stuck.edge.writer ≡ m) ⊎ (stuck.edge.writer ≡ m → ⊥) → length (row_at new stuck.edge.writer) ≤ stuck.firing
+      absent (inr other) = subst (λ (l : List Key). length l ≤ stuck.firing) (sym (grown.others stuck.edge.writer other)) stuck.absent
+      absent (inl writes) =
+          let few = none stuck.edge stuck.there stuck.reads writes in let a = ap (λ n. length (row_at new n)) writes in let b = ap (λ n. length (row_at old n)) writes in
+          let was = stuck.absent in omega (arith, few, a, b, was)
+
+  -- it got none
+  pub worked_still : length (row_at new m) ≡ length (row_at old m) → IsWorked edges counts new stack (set on m false)
+  worked_still same = record {
+    flags = length-set on m false ∙ worked.flags;
+    stacked = λ k h. let w = worked.stacked k (sym (other_flag k (not_own k h)) ∙ h) in (w.0, before_last stack m w.0 k (not_own k h) w.1);
+    inside = λ j k h. worked.inside j k (in_front stack (m ∷ []) j k h);
+    settled = λ k inside h. settled k inside h (cases_eq k m);
+  }
+    where
+      settled : (k : ℕ) → k < length counts → get_or (set on m false) k false ≡ false → (k ≡ m) ⊎ (k ≡ m → ⊥) → IsSettled edges counts new k
+      settled k inside h (inl is) = subst (IsSettled edges counts new) (sym is) here
+      settled k inside h (inr apart) = still k apart (λ e there reads writes. omega (arith, same)) (worked.settled k inside (sym (other_flag k apart) ∙ h))
+
+  -- it got some, and those that read from it are put on the stack
+  pub worked_on : (after : List ℕ) (flags : List Bool) → ArePushed (links_at readers m) (length (links_at readers m)) stack after (set on m false) flags → IsWorked edges counts new after flags
+  worked_on after flags pushed = record {
+    flags = pushed.flags ∙ length-set on m false ∙ worked.flags;
+    stacked = λ k h. stacked k (pushed.stacked k h);
+    inside = λ j k h. inside j k (pushed.inside j k h);
+    settled = λ k inside h. settled k inside h (cases_eq k m);
+  }
+    where
+      stacked : (k : ℕ) → (get_or (set on m false) k false ≡ true) ⊎ ((j : ℕ) × (slice_get after j ≡ Some k)) → (j : ℕ) × (slice_get after j ≡ Some k)
+      stacked k (inr w) = w
+      stacked k (inl was) = let w = worked.stacked k (sym (other_flag k (not_own k was)) ∙ was) in (w.0, pushed.kept w.0 k (before_last stack m w.0 k (not_own k was) w.1))
+
+      inside : (j k : ℕ) → (k < length (set on m false)) ⊎ (slice_get stack j ≡ Some k) → k < length counts
+      inside j k (inl below) = subst (λ n. k < n) (length-set on m false ∙ worked.flags) below
+      inside j k (inr was) = worked.inside j k (in_front stack (m ∷ []) j k was)
+
+      reads_it : (k : ℕ) → get_or flags k false ≡ false → (e : Edge) → Contains edges e → e.reader ≡ k → e.writer ≡ m → length (row_at new m) ≤ length (row_at old m)
+      reads_it k h e there reads writes =
+          let at = contains_at edges e there in
+          let j = out.all at.0 e (slice_get_within edges at.0 e at.1) at.1 in
+          let found : slice_get (links_at readers m) j.0 ≡ Some k = ap (λ n. slice_get (links_at readers n) j.0) (sym writes) ∙ j.1 ∙ ap Some reads in
+          absurd (true_false (sym (pushed.pushed j.0 k (slice_get_within (links_at readers m) j.0 k found) found) ∙ h))
+
+      settled : (k : ℕ) → k < length counts → get_or flags k false ≡ false → (k ≡ m) ⊎ (k ≡ m → ⊥) → IsSettled edges counts new k
+      settled k k_in h (inl is) = subst (IsSettled edges counts new) (sym is) here
+      settled k k_in h (inr apart) = still k apart (reads_it k h) (worked.settled k k_in (false_unless (get_or on k false) (λ t. true_false (sym (pushed.on k (other_flag k apart ∙ t)) ∙ h))))
+
+  pub less_on : (after : List ℕ) (flags : List Bool) → length new ≡ length counts → ((k : ℕ) → length (row_at new k) ≤ get_or counts k 0) → (length (row_at new m) ≡ length (row_at old m) → ⊥)
+      → ArePushed (links_at readers m) (length (links_at readers m)) stack after (set on m false) flags → weight edges counts new after ≤ weight edges counts old stack
+  less_on after flags same within more pushed =
+      let top = total_few new counts same within in let whole = grown.whole in let kept = grown.kept in
+      step (sum counts - total new) (sum counts - total old) (length edges) (length after) (length stack) (length (links_at readers m)) (omega (arith, top, whole, kept, more)) pushed.few (out.few m)
+    where
+      step : (l1 l0 w s2 s n : ℕ) → l1 + 1 ≤ l0 → s2 ≤ s + n → n ≤ w → l1 * (w + 2) + s2 ≤ l0 * (w + 2) + s
+      step l1 l0 w s2 s n fewer grew few = let p : (l1 + 1) * (w + 2) ≡ l1 * (w + 2) + (w + 2) = grind arith in let q = mul-le-mul_right (w + 2) fewer in omega (arith, p, q, grew, few)
 
 -- before any turn
 pub rows_start : (edges : List Edge) (pace : ℕ → ℕ) (counts : List ℕ) (table : List (List Key)) (count : ℕ) → count ≡ length counts → table ≡ replicate count []

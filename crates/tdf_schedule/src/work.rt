@@ -5,7 +5,7 @@ ghost use Rattle.tdf_base.specs.Limits.{most_firings};
 ghost use Rattle.tdf_graph.specs.Ranges.{IsEdge};
 ghost use Rattle.tdf_schedule.specs.views.Parts.{AreParts, no_part};
 ghost use Rattle.tdf_schedule.specs.views.Table.{row_at, key_of};
-ghost use Rattle.tdf_schedule.specs.views.Work.{links_at, with_key, weight, AreGiven, AreRows, AreAllOn, IsSettled, IsWorked, ArePushed};
+ghost use Rattle.tdf_schedule.specs.views.Work.{links_at, with_key, weight, AreGiven, AreRows, AreAllOn, HasGrown, IsSettled, IsWorked, ArePushed};
 
 use crate::join::{Asked, Part, greatest_need, row_len};
 use crate::key::{Key, Links, Row};
@@ -67,17 +67,6 @@ fn push_all(list: &[u32], work: &mut Worklist) -> Result<(), Memory>
     Ok(())
 }
 
-/// Puts an actor and those that read what it writes on the stack.
-fn push_around(actor: u32, readers: &[u32], work: &mut Worklist) -> Result<(), Memory>
-    requires actor { actor < length work.old.on.items }
-    requires inside { (j k : ℕ) → slice_get readers.now j ≡ Some k → k < length work.old.on.items }
-    ensures { OnOk result (ArePushed (actor ∷ readers.now) (length readers.now + 1) work.old.stack.items work.new.stack.items work.old.on.items work.new.on.items) }
-{
-    push_one(actor, work)?;
-    push_all(readers, work)?;
-    Ok(())
-}
-
 /// Gives the next firing of an actor its key.
 fn give(table: &mut Vec<Row>, actor: u32, need: Key) -> Result<(), Memory>
     requires actor { actor < length table.old.items }
@@ -88,6 +77,39 @@ fn give(table: &mut Vec<Row>, actor: u32, need: Key) -> Result<(), Memory>
         level: need.level + 1,
         offset: need.offset,
     })
+}
+
+/// Gives an actor's next firings their keys, as long as all that they need have theirs.
+fn fire(
+    actor: u32,
+    given: &Given,
+    table: &mut Vec<Row>,
+    parts: &mut Vec<Part>,
+) -> Result<(), Memory>
+    requires given { AreGiven given.now.edges.now given.now.counts.now given.now.paces.now given.now.inputs.now given.now.readers.now }
+    requires actor { actor < length given.now.counts.now }
+    requires rows { AreRows given.now.edges.now (slice_index given.now.paces.now) given.now.counts.now table.old.items }
+    requires parts { AreParts given.now.edges.now (slice_index given.now.paces.now) given.now.counts.now table.old.items given.now.inputs.now parts.old.items }
+    ensures parts { OnOk result (AreParts given.now.edges.now (slice_index given.now.paces.now) given.now.counts.now table.new.items given.now.inputs.now parts.new.items) }
+    ensures rows { OnOk result (AreRows given.now.edges.now (slice_index given.now.paces.now) given.now.counts.now table.new.items) }
+    ensures grown { OnOk result (HasGrown actor table.old.items table.new.items) }
+    ensures settled { OnOk result (IsSettled given.now.edges.now given.now.counts.now table.new.items actor) }
+{
+    let inputs = list_at(given.inputs, actor);
+    let place = actor as usize;
+    for firing in row_len(table, actor)..given.counts[place] {
+        match greatest_need(given.edges, inputs, given.paces, table, actor, parts[place]) {
+            Asked::Part(part) => {
+                parts[place] = part;
+                return Ok(());
+            }
+            Asked::Whole(need) => {
+                parts[place] = NO_PART;
+                give(table, actor, need)?;
+            }
+        }
+    }
+    Ok(())
 }
 
 /// Works on an actor that was taken from the stack.
@@ -109,23 +131,13 @@ fn work_one(
         ≤ weight given.now.edges.now given.now.counts.now table.old.items work.old.stack.items) }
 {
     work.on[actor as usize] = false;
-    if row_len(table, actor) == given.counts[actor as usize] {
+    let before = row_len(table, actor);
+    fire(actor, given, table, parts)?;
+    if row_len(table, actor) == before {
         return Ok(());
     }
-    let inputs = list_at(given.inputs, actor);
-    let place = actor as usize;
-    match greatest_need(given.edges, inputs, given.paces, table, actor, parts[place]) {
-        Asked::Part(part) => {
-            parts[place] = part;
-            Ok(())
-        }
-        Asked::Whole(need) => {
-            parts[place] = NO_PART;
-            give(table, actor, need)?;
-            push_around(actor, list_at(given.readers, actor), work)?;
-            Ok(())
-        }
-    }
+    push_all(list_at(given.readers, actor), work)?;
+    Ok(())
 }
 
 /// Every actor on the stack.

@@ -85,6 +85,12 @@ pub record AreAllOn (n : ℕ) (stack : List ℕ) (on : List Bool) : Type 0 where
 abbrev pub with_key : List (List Key) → ℕ → Key → List (List Key)
 with_key table m key = slice_set table m (row_at table m ++ key ∷ [])
 
+-- one actor has more firings with keys, or as many as before, and all others have what they had
+pub record HasGrown (m : ℕ) (old new : List (List Key)) : Type 0 where
+  pub kept : length (row_at old m) ≤ length (row_at new m)
+  pub others : (k : ℕ) → (k ≡ m → ⊥) → row_at new k ≡ row_at old k
+  pub whole : total new + length (row_at old m) ≡ total old + length (row_at new m)
+
 -- what the work is done on
 pub record AreGiven (edges : List Edge) (counts paces : List ℕ) (inputs readers : List (List ℕ))
     : Type 0 where
