@@ -2,10 +2,11 @@
 use Rattle.std.proofs.Common.{◌≡◌, ◌≢◌, ◌∙◌, ℕ, zero, suc, ◌+◌, ◌-◌, ◌*◌, ◌/◌, ◌<◌, ◌≤◌, Bool, true, false, if◌then◌else◌, List, length, length-set, slice_set, get_or-set_same, get_or-set_other, Option, Some, None, refl, ap, sym, subst, inl, inr, arith, nat_lt}
 use Rattle.std.proofs.lemmas.Bool.{cases_eq, cases_lt}
 use Rattle.std.proofs.lemmas.List.{get_or_past}
+use Rattle.std.proofs.lemmas.Option.{get_or_from_slice_get, slice_get_read}
 use Rattle.std.specs.Prelude.{slice_index_or, option_map}
 use Rattle.tdf_events_queue.specs.declared.calendar.Pending.{Pending}
 use Rattle.tdf_events_queue.specs.Times.{IsNextPending, pending_time}
-use Rattle.tdf_events_queue.specs.machine.Calendar.{AreEarlier, AreEarlierBut, earlier_of, notice_at, notice_of}
+use Rattle.tdf_events_queue.specs.machine.Calendar.{AreEarlier, AreEarlierBut, AreLeaves, earlier_of, leaf_of, node_at}
 
 none_some : {A : Type 0} {P : Type 0} (o : Option A) (a : A) → o ≡ None → o ≡ Some a → P
 none_some o a e f = absurd (grind (arith, e, f))
@@ -19,64 +20,67 @@ lt_true a b less = grind (arith, less)
 lt_false : (a b : ℕ) → b ≤ a → nat_lt a b ≡ false
 lt_false a b low = grind (arith, low)
 
-module _ (times : List (Option ℕ)) where
-  -- what stands at an inner node, and at a leaf
-  inner_is : (nodes : List (Option Pending)) (place : ℕ) → place < length times → notice_at times nodes place ≡ slice_index_or nodes place None
-  inner_is nodes place less = ap (λ b. if b then slice_index_or nodes place None else notice_of times (place - length times)) (lt_true place (length times) less)
+-- what was read at a place
+pub stands : (nodes : List (Option Pending)) (place : ℕ) (r : Option Pending) → place < length nodes → r ≡ slice_index_or nodes place r → r ≡ node_at nodes place
+stands nodes place r within read = sym (get_or_from_slice_get nodes place r None (slice_get_read nodes (length nodes) place r refl within read))
 
-  leaf_is : (nodes : List (Option Pending)) (place : ℕ) → length times ≤ place → notice_at times nodes place ≡ notice_of times (place - length times)
-  leaf_is nodes place low = ap (λ b. if b then slice_index_or nodes place None else notice_of times (place - length times)) (lt_false place (length times) low)
+-- another node is as it was
+pub other_node : (nodes : List (Option Pending)) (set place : ℕ) (x : Option Pending) → place ≢ set → node_at (slice_set nodes set x) place ≡ node_at nodes place
+other_node nodes set place x apart = get_or-set_other nodes set place x None apart
 
-  -- another node is as it was
-  other_node : (nodes : List (Option Pending)) (set place : ℕ) (x : Option Pending) → place ≢ set → notice_at times (slice_set nodes set x) place ≡ notice_at times nodes place
-  other_node nodes set place x apart = ap (λ (o : Option Pending). if nat_lt place (length times) then o else notice_of times (place - length times)) (get_or-set_other nodes set place x None apart)
+-- a node that got the earlier of those below it, where all others but it had: then all but the node above it have
+pub settles : (nodes : List (Option Pending)) (place : ℕ) → 0 < place → place < length nodes → AreEarlierBut place nodes
+    → AreEarlierBut (place / 2) (slice_set nodes place (earlier_of (node_at nodes (2 * place)) (node_at nodes (2 * place + 1))))
+settles nodes place some within before q low high apart = elim (cases_eq q place) [
+  | inl same ↦ subst (λ k. node_at new k ≡ earlier_of (node_at new (2 * k)) (node_at new (2 * k + 1))) (sym same)
+      (get_or-set_same nodes place it None within ∙ sym (below place (omega (arith, some)) (omega (arith, some))))
+  | inr other ↦ get_or-set_other nodes place q it None other ∙ before q low (omega (arith, high, long)) other ∙ sym (below q (λ e. apart (omega (arith, e))) (λ e. apart (omega (arith, e))))
+]
+  where
+    it : Option Pending
+    it = earlier_of (node_at nodes (2 * place)) (node_at nodes (2 * place + 1))
 
-  -- a node that got the earlier of those below it, where all others but it had: then all but the node above it have
-  pub settles : (nodes : List (Option Pending)) (place : ℕ) → 0 < place → place < length nodes → AreEarlierBut place times nodes
-      → AreEarlierBut (place / 2) times (slice_set nodes place (earlier_of (notice_at times nodes (2 * place)) (notice_at times nodes (2 * place + 1))))
-  settles nodes place some within before q low high apart = elim (cases_eq q place) [
-    | inl same ↦ subst (λ k. slice_index_or new k None ≡ earlier_of (notice_at times new (2 * k)) (notice_at times new (2 * k + 1))) (sym same)
-        (get_or-set_same nodes place it None within ∙ sym (below place (omega (arith, some)) (omega (arith, some))))
-    | inr other ↦ get_or-set_other nodes place q it None other ∙ before q low high other ∙ sym (below q (λ e. apart (omega (arith, e))) (λ e. apart (omega (arith, e))))
-  ]
-    where
-      it : Option Pending
-      it = earlier_of (notice_at times nodes (2 * place)) (notice_at times nodes (2 * place + 1))
+    new : List (Option Pending)
+    new = slice_set nodes place it
 
-      new : List (Option Pending)
-      new = slice_set nodes place it
+    long : length new ≡ length nodes
+    long = length-set nodes place it
 
-      below : (k : ℕ) → 2 * k ≢ place → 2 * k + 1 ≢ place → earlier_of (notice_at times new (2 * k)) (notice_at times new (2 * k + 1)) ≡ earlier_of (notice_at times nodes (2 * k)) (notice_at times nodes (2 * k + 1))
-      below k one other = λ i. earlier_of (other_node nodes place (2 * k) it one i) (other_node nodes place (2 * k + 1) it other i)
+    below : (k : ℕ) → 2 * k ≢ place → 2 * k + 1 ≢ place → earlier_of (node_at new (2 * k)) (node_at new (2 * k + 1)) ≡ earlier_of (node_at nodes (2 * k)) (node_at nodes (2 * k + 1))
+    below k one other = λ i. earlier_of (other_node nodes place (2 * k) it one i) (other_node nodes place (2 * k + 1) it other i)
 
-  -- a node that has the earlier of those below it, where all others have
-  pub settled : (nodes : List (Option Pending)) (place : ℕ) → AreEarlierBut place times nodes
-      → slice_index_or nodes place None ≡ earlier_of (notice_at times nodes (2 * place)) (notice_at times nodes (2 * place + 1)) → AreEarlier times nodes
-  settled nodes place before is q low high apart = elim (cases_eq q place) [
-    | inl same ↦ subst (λ k. slice_index_or nodes k None ≡ earlier_of (notice_at times nodes (2 * k)) (notice_at times nodes (2 * k + 1))) (sym same) is
-    | inr other ↦ before q low high other
-  ]
+-- a node that has the earlier of those below it, where all others have
+pub settled : (nodes : List (Option Pending)) (place : ℕ) → AreEarlierBut place nodes
+    → node_at nodes place ≡ earlier_of (node_at nodes (2 * place)) (node_at nodes (2 * place + 1)) → AreEarlier nodes
+settled nodes place before is q low high apart = elim (cases_eq q place) [
+  | inl same ↦ subst (λ k. node_at nodes k ≡ earlier_of (node_at nodes (2 * k)) (node_at nodes (2 * k + 1))) (sym same) is
+  | inr other ↦ before q low high other
+]
 
--- an event that got another time: all but the node above it have the earlier of those below them
-module _ (times : List (Option ℕ)) (nodes : List (Option Pending)) (event : ℕ) (x : Option ℕ) where
-  abbrev new : List (Option ℕ)
-  new = slice_set times event x
+-- a leaf that got another value: all but the node above it have the earlier of those below them
+pub puts : (nodes : List (Option Pending)) (at : ℕ) (x : Option Pending) → length nodes ≤ 2 * at → AreEarlier nodes → AreEarlierBut (at / 2) (slice_set nodes at x)
+puts nodes at x leaf before q low high apart =
+    let long : length (slice_set nodes at x) ≡ length nodes = length-set nodes at x in
+    other_node nodes at q x (λ e. absurd (omega (arith, e, leaf, high, long)))
+    ∙ before q low (omega (arith, high, long)) (λ e. absurd (omega (arith, e, low)))
+    ∙ sym (λ i. earlier_of (other_node nodes at (2 * q) x (λ e. apart (omega (arith, e))) i) (other_node nodes at (2 * q + 1) x (λ e. apart (omega (arith, e))) i))
 
-  long : length new ≡ length times
-  long = length-set times event x
+-- and the leaves are those of the new times
+pub leaves_put : (times : List (Option ℕ)) (nodes new : List (Option Pending)) (event : ℕ) (x : Option ℕ) → event < length times → length nodes ≡ 2 * length times → AreLeaves times nodes
+    → ((place : ℕ) → length nodes ≤ 2 * place → node_at new place ≡ node_at (slice_set nodes (length times + event) (leaf_of event x)) place) → AreLeaves (slice_set times event x) new
+leaves_put times nodes new event x inside many leaves kept e less =
+    ap (λ n. node_at new (n + e)) long ∙ kept (length times + e) (omega (arith, many)) ∙ elim (cases_eq e event) [
+      | inl same ↦ subst (λ k. node_at set (length times + k) ≡ leaf_of k (pending_time (slice_set times event x) k)) (sym same)
+          (get_or-set_same nodes (length times + event) (leaf_of event x) None (omega (arith, inside, many)) ∙ sym (ap (leaf_of event) (get_or-set_same times event x None inside)))
+      | inr other ↦ other_node nodes (length times + event) (length times + e) (leaf_of event x) (λ q. other (omega (arith, q))) ∙ leaves e (omega (arith, less, long))
+          ∙ sym (ap (leaf_of e) (get_or-set_other times event e x None other))
+    ]
+  where
+    long : length (slice_set times event x) ≡ length times
+    long = length-set times event x
 
-  same_node : (place : ℕ) → place ≢ length times + event → notice_at new nodes place ≡ notice_at times nodes place
-  same_node place apart = elim (cases_lt place (length times)) [
-    | inl less ↦ inner_is new nodes place (omega (arith, less, long)) ∙ sym (inner_is times nodes place less)
-    | inr low ↦ leaf_is new nodes place (omega (arith, low, long)) ∙ ap (λ n. notice_of new (place - n)) long
-        ∙ ap (option_map (λ (time : ℕ). record { time = time; event = place - length times })) (get_or-set_other times event (place - length times) x None (λ e. apart (omega (arith, e, low))))
-        ∙ sym (leaf_is times nodes place low)
-  ]
-
-  pub puts : AreEarlier times nodes → AreEarlierBut ((length new + event) / 2) new nodes
-  puts before q low high apart =
-      before q low (omega (arith, high, long)) (λ e. absurd (omega (arith, e, low)))
-      ∙ sym (λ i. earlier_of (same_node (2 * q) (λ e. apart (omega (arith, e, long))) i) (same_node (2 * q + 1) (λ e. apart (omega (arith, e, long))) i))
+    set : List (Option Pending)
+    set = slice_set nodes (length times + event) (leaf_of event x)
 
 -- what stands at the root is no later than any event, and is the time of one
 record Covers (one other : Option Pending) : Type 0 where
@@ -112,12 +116,12 @@ earlier_one (Some p) (Some q) = go (nat_lt q.time p.time)
     go true = Second refl
     go false = First refl
 
-module _ (times : List (Option ℕ)) (nodes : List (Option Pending)) (earlier : AreEarlier times nodes) where
+module _ (times : List (Option ℕ)) (nodes : List (Option Pending)) (many : length nodes ≡ 2 * length times) (leaves : AreLeaves times nodes) (earlier : AreEarlier nodes) where
   abbrev node : ℕ → Option Pending
-  node place = notice_at times nodes place
+  node place = node_at nodes place
 
   node_is : (place : ℕ) → 0 < place → place < length times → node place ≡ earlier_of (node (2 * place)) (node (2 * place + 1))
-  node_is place some less = inner_is times nodes place less ∙ earlier place some less (λ e. absurd (omega (arith, e, some)))
+  node_is place some less = earlier place some (omega (arith, less, many)) (λ e. absurd (omega (arith, e, some)))
 
   -- from a place up to the root
   up : (fuel place : ℕ) → place ≤ fuel → 0 < place → place < 2 * length times → Covers (node 1) (node place)
@@ -142,7 +146,8 @@ module _ (times : List (Option ℕ)) (nodes : List (Option Pending)) (earlier : 
   down (suc fuel) place bound some within p is = elim (cases_lt place (length times)) [
     | inl less ↦ inner less (down fuel (2 * place) (omega (arith, bound, some)) (omega (arith, some)) (omega (arith, less)) p) (down fuel (2 * place + 1) (omega (arith, bound, some)) (omega (arith, some)) (omega (arith, less)) p)
         (earlier_one (node (2 * place)) (node (2 * place + 1)))
-    | inr low ↦ leaf (place - length times) (pending_time times (place - length times)) refl (sym (leaf_is times nodes place low) ∙ is)
+    | inr low ↦ leaf (place - length times) (pending_time times (place - length times)) refl
+        (sym (leaves (place - length times) (omega (arith, low, within))) ∙ ap node (omega (arith, low)) ∙ is)
   ]
     where
       inner : place < length times → (node (2 * place) ≡ Some p → pending_time times p.event ≡ Some p.time) → (node (2 * place + 1) ≡ Some p → pending_time times p.event ≡ Some p.time)
@@ -160,8 +165,7 @@ module _ (times : List (Option ℕ)) (nodes : List (Option Pending)) (earlier : 
   leaf_at : (event t : ℕ) → pending_time times event ≡ Some t → (event < length times) × (node (length times + event) ≡ Some (record { time = t; event = event }))
   leaf_at event t is =
       let inside : event < length times = elim (cases_lt event (length times)) [ inl less ↦ less | inr past ↦ none_some (pending_time times event) t (get_or_past times event None past) is ] in
-      let place : length times + event - length times ≡ event = omega arith in
-      (inside, leaf_is times nodes (length times + event) (omega arith) ∙ ap (notice_of times) place ∙ ap (option_map (λ (time : ℕ). record { time = time; event = event })) is)
+      (inside, leaves event inside ∙ ap (option_map (λ (time : ℕ). record { time = time; event = event })) is)
 
   -- so no event is earlier than the root
   root_least : (event t : ℕ) → pending_time times event ≡ Some t → (q : Pending) × (node 1 ≡ Some q) × (q.time ≤ t)

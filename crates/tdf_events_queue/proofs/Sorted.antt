@@ -64,6 +64,14 @@ module _ (flags : List Bool) (xs ys : List ℕ) (listed : AreListed flags xs) (m
       count = length_permutation xs ys moved ∙ listed.count;
     }
 
+-- a list of one member at most rises
+pub few_rising : (flags : List Bool) (list : List ℕ) → length list < 2 → AreListed flags list → AreRisingFlags flags list
+few_rising flags list few listed = record {
+  on = listed.on;
+  all = listed.all;
+  rising = λ i j n m less a b. (let within : j < length list = slice_get_within list j m b in absurd (omega (arith, within, few, less)));
+}
+
 -- what the loop that takes all members out leaves
 pub all_off : (flags new : List Bool) (list : List ℕ) → AreListed flags list → AreOff list (length list) flags new → new ≡ replicate (length flags) false
 all_off flags new list listed off = ext_get_or false new (replicate (length flags) false) (off.same ∙ sym (length-replicate {A = Bool} (length flags) false)) (λ n within. out n within ∙ sym (get_or-replicate (length flags) n false false (subst (λ l. n < l) off.same within)))

@@ -16,27 +16,29 @@ pub struct Pending {
 #[derive(Drop)]
 pub struct Calendar {
     times: Vec<Option<u64>>,
+    /// Two for each event: the inner nodes, from the root at place 1 on, then the leaves.
     nodes: Vec<Option<Pending>>,
 }
 
 impl Model for Calendar {
-    ghost use Rattle.std.specs.Prelude.{◌≡◌, ◌^◌, ◌<◌, List, ℕ, Option, length};
-    ghost use Rattle.tdf_events_queue.specs.machine.Calendar.{AreEarlier};
+    ghost use Rattle.std.specs.Prelude.{◌≡◌, ◌^◌, ◌*◌, ◌<◌, List, ℕ, Option, length};
+    ghost use Rattle.tdf_events_queue.specs.machine.Calendar.{AreEarlier, AreLeaves};
 
     ghost Value = { List (Option ℕ) };
 
     ghost view = { λ a. a.times.items };
 
     ghost invariant = { λ a. record {
-      many : length a.nodes.items ≡ length a.times.items;
+      many : length a.nodes.items ≡ 2 * length a.times.items;
       few : length a.times.items < 2 ^ 32;
-      earlier : AreEarlier a.times.items a.nodes.items;
+      leaves : AreLeaves a.times.items a.nodes.items;
+      earlier : AreEarlier a.nodes.items;
     } };
 }
 
-ghost use Rattle.std.specs.Prelude.{◌≡◌, ◌<◌, ◌+◌, ◌*◌, ◌/◌, ◌^◌, IfOk, None, Some, length, replicate, slice_set, true};
+ghost use Rattle.std.specs.Prelude.{◌≡◌, ◌<◌, ◌≤◌, ◌+◌, ◌*◌, ◌/◌, ◌^◌, ℕ, IfOk, None, Some, length, replicate, slice_set, true};
 ghost use Rattle.tdf_events_queue.specs.Times.{IsNextPending, IsNextTime, earliest, pending_time};
-ghost use Rattle.tdf_events_queue.specs.machine.Calendar.{AreEarlier, AreEarlierBut, earlier_of, notice_at};
+ghost use Rattle.tdf_events_queue.specs.machine.Calendar.{AreEarlier, AreEarlierBut, earlier_of, leaf_of, node_at};
 
 use std::alloc::{AllocError, Global};
 
@@ -71,40 +73,28 @@ fn are_same(one: Option<Pending>, other: Option<Pending>) -> bool
     }
 }
 
-/// What stands at a place: an inner node, or from the number of events on a leaf.
-fn notice(times: &Vec<Option<u64>>, nodes: &Vec<Option<Pending>>, place: usize) -> Option<Pending>
-    requires many { length nodes.now.items ≡ length times.now.items }
-    requires few { length times.now.items < 2 ^ 32 }
-    requires within { place < 2 * length times.now.items }
-    ensures { result ≡ notice_at times.now.items nodes.now.items place }
+/// The leaf of an event with a pending time, or none.
+fn leaf(event: u32, time: Option<u64>) -> Option<Pending>
+    ensures { result ≡ leaf_of event time }
 {
-    if place < times.len() {
-        return nodes[place];
-    }
-    let event = place - times.len();
-    match times[event] {
+    match time {
         None => None,
-        Some(time) => Some(Pending {
-            time,
-            event: event as u32,
-        }),
+        Some(time) => Some(Pending { time, event }),
     }
 }
 
-/// The inner nodes above an event get the earlier of those below them, up to one that has it.
-fn settle(times: &Vec<Option<u64>>, nodes: &mut Vec<Option<Pending>>, event: u32)
-    requires many { length nodes.old.items ≡ length times.now.items }
-    requires few { length times.now.items < 2 ^ 32 }
-    requires event { event < length times.now.items }
-    requires others { AreEarlierBut ((length times.now.items + event) / 2) times.now.items nodes.old.items }
+/// The inner nodes above a leaf get the earlier of those below them, up to one that has it.
+fn settle(nodes: &mut Vec<Option<Pending>>, at: usize)
+    requires within { 2 * (at / 2) + 1 < length nodes.old.items }
+    requires others { AreEarlierBut (at / 2) nodes.old.items }
     ensures many { length nodes.new.items ≡ length nodes.old.items }
-    ensures earlier { AreEarlier times.now.items nodes.new.items }
+    ensures leaves { (place : ℕ) → length nodes.old.items ≤ 2 * place
+        → node_at nodes.new.items place ≡ node_at nodes.old.items place }
+    ensures earlier { AreEarlier nodes.new.items }
 {
-    let mut place = (times.len() + event as usize) / 2;
+    let mut place = at / 2;
     while 0 < place {
-        let one = notice(times, nodes, 2 * place);
-        let other = notice(times, nodes, 2 * place + 1);
-        let least = earlier(one, other);
+        let least = earlier(nodes[2 * place], nodes[2 * place + 1]);
         if are_same(nodes[place], least) {
             return;
         }
@@ -121,7 +111,7 @@ impl Calendar {
     pub fn new(alloc: Global, events: u32) -> Result<Calendar, AllocError>
         ensures { IfOk result (λ calendar. calendar ≡ replicate events None) }
     {
-        let nodes = Vec::from_elem(alloc, None, events as usize)?;
+        let nodes = Vec::from_elem(alloc, None, 2 * events as usize)?;
         let times = Vec::from_elem(alloc, None, events as usize)?;
         Ok(Calendar { times, nodes })
     }
@@ -133,7 +123,7 @@ impl Calendar {
         if self.times.is_empty() {
             return None;
         }
-        notice(&self.times, &self.nodes, 1)
+        self.nodes[1]
     }
 
     /// The least pending time, none where nothing is pending.
@@ -166,8 +156,10 @@ impl Calendar {
         requires { event < length self.old }
         ensures { self.new ≡ slice_set self.old event time }
     {
+        let at = self.times.len() + event as usize;
         self.times[event as usize] = time;
-        settle(&self.times, &mut self.nodes, event);
+        self.nodes[at] = leaf(event, time);
+        settle(&mut self.nodes, at);
     }
 
     /// Notifies an event at a time. An earlier time replaces a pending one; a later one changes nothing.

@@ -138,10 +138,14 @@ impl NumberSet {
     }
 
     /// Brings the members into rising order.
+    #[inline]
     pub fn sort(&mut self)
         ensures flags { self.new.flags ≡ self.old.flags }
         ensures rising { AreRisingFlags self.new.flags self.new.members }
     {
+        if self.list.len() < 2 {
+            return;
+        }
         self.list.sort_unstable();
     }
 

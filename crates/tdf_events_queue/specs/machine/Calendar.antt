@@ -1,7 +1,7 @@
 -- The tree of pending notifications: its leaves are the events, and each inner node has the earlier
 -- of the two nodes below it.
 -- Source: own; a tournament tree, of Knuth, The Art of Computer Programming 3, 5.4.1.
-use Rattle.std.specs.Prelude.{ℕ, ◌+◌, ◌-◌, ◌*◌, ◌<◌, ◌≡◌, Option, Some, None, option_map, if◌then◌else◌, nat_lt, List, length, slice_index_or}
+use Rattle.std.specs.Prelude.{ℕ, ◌+◌, ◌*◌, ◌<◌, ◌≡◌, Option, Some, None, option_map, if◌then◌else◌, nat_lt, List, length, slice_index_or}
 use Rattle.tdf_events_queue.specs.Times.{pending_time}
 use Rattle.tdf_events_queue.specs.declared.calendar.Pending.{Pending}
 
@@ -12,24 +12,25 @@ earlier_of (Some one) None = Some one
 earlier_of (Some one) (Some other) =
     if nat_lt other.time one.time then Some other else Some one
 
--- an event with its pending time
-abbrev pub notice_of : List (Option ℕ) → (event : ℕ) → Option Pending
-notice_of times event = option_map (λ (time : ℕ). record { time = time; event = event })
-    (pending_time times event)
+-- an event with a pending time, or none
+abbrev pub leaf_of : (event : ℕ) → Option ℕ → Option Pending
+leaf_of event pending = option_map (λ (time : ℕ). record { time = time; event = event }) pending
 
--- what stands at a place: an inner node, or from the number of events on a leaf
-abbrev pub notice_at : (times : List (Option ℕ)) → (nodes : List (Option Pending)) → (place : ℕ)
-    → Option Pending
-notice_at times nodes place = if nat_lt place (length times) then slice_index_or nodes place None
-    else notice_of times (place - length times)
+-- what stands at a place: those from the number of events on are the leaves
+abbrev pub node_at : (nodes : List (Option Pending)) → (place : ℕ) → Option Pending
+node_at nodes place = slice_index_or nodes place None
+
+-- each event has its leaf
+abbrev pub AreLeaves : (times : List (Option ℕ)) → (nodes : List (Option Pending)) → Type 0
+AreLeaves times nodes = (event : ℕ) → event < length times
+    → node_at nodes (length times + event) ≡ leaf_of event (pending_time times event)
 
 -- each inner node has the earlier of the two below it, but for one place
-abbrev pub AreEarlierBut : (but : ℕ) → (times : List (Option ℕ)) → (nodes : List (Option Pending))
-    → Type 0
-AreEarlierBut but times nodes = (place : ℕ) → 0 < place → place < length times
-    → (place ≡ but → ⊥) → slice_index_or nodes place None
-    ≡ earlier_of (notice_at times nodes (2 * place)) (notice_at times nodes (2 * place + 1))
+abbrev pub AreEarlierBut : (but : ℕ) → (nodes : List (Option Pending)) → Type 0
+AreEarlierBut but nodes = (place : ℕ) → 0 < place → 2 * place + 1 < length nodes
+    → (place ≡ but → ⊥) → node_at nodes place
+    ≡ earlier_of (node_at nodes (2 * place)) (node_at nodes (2 * place + 1))
 
 -- each has; no inner node is at place 0
-abbrev pub AreEarlier : (times : List (Option ℕ)) → (nodes : List (Option Pending)) → Type 0
-AreEarlier times nodes = AreEarlierBut 0 times nodes
+abbrev pub AreEarlier : (nodes : List (Option Pending)) → Type 0
+AreEarlier nodes = AreEarlierBut 0 nodes

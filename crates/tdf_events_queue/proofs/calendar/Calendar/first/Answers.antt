@@ -1,10 +1,13 @@
-use Rattle.std.proofs.Common.{rules, ◌<◌, length, subst}
-use Rattle.tdf_events_queue.proofs.Nodes.{root_first}
+use Rattle.std.proofs.Common.{rules, ◌<◌, length, arith, subst}
+use Rattle.tdf_events_queue.proofs.Nodes.{root_first, stands}
 use Rattle.tdf_events_queue.specs.Times.{IsNextPending}
 use Rattle.tdf_events_queue.proofs.calendar.Calendar.first.Goals as goal
 
 pub returns : goal.returns
 returns c =
-    let some : 0 < length c.self.inside.times.items = search rules in
-    subst (λ times. IsNextPending times c.notice.result) c.self.view_is
-    (root_first c.self.inside.times.items c.self.inside.nodes.items c.self.invariant.earlier some c.notice.result c.notice.ensures)
+    let times = c.self.inside.times.items in
+    let nodes = c.self.inside.nodes.items in
+    let many = c.self.invariant.many in
+    let some : 0 < length times = search rules in
+    subst (λ xs. IsNextPending xs c.index.result.now) c.self.view_is
+    (root_first times nodes many c.self.invariant.leaves c.self.invariant.earlier some c.index.result.now (stands nodes 1 c.index.result.now (omega (arith, many, some)) c.index.ensures))
