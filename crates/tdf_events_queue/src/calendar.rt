@@ -36,9 +36,9 @@ impl Model for Calendar {
     } };
 }
 
-ghost use Rattle.std.specs.Prelude.{◌≡◌, ◌<◌, ◌≤◌, ◌+◌, ◌*◌, ◌/◌, ◌^◌, ℕ, IfOk, None, Some, length, replicate, slice_set, true};
+ghost use Rattle.std.specs.Prelude.{◌≡◌, ◌<◌, ◌≤◌, ◌+◌, ◌*◌, ◌/◌, ◌^◌, ℕ, IfOk, None, Some, is_some, length, replicate, slice_set, true};
 ghost use Rattle.tdf_events_queue.specs.Times.{IsNextPending, IsNextTime, earliest, pending_time};
-ghost use Rattle.tdf_events_queue.specs.machine.Calendar.{AreEarlier, AreEarlierBut, earlier_of, leaf_of, node_at};
+ghost use Rattle.tdf_events_queue.specs.machine.Calendar.{AreEarlier, IsCancelled, IsNoticed, earlier_of, is_after, is_of, node_at};
 
 use std::alloc::{AllocError, Global};
 
@@ -60,46 +60,63 @@ fn earlier(one: Option<Pending>, other: Option<Pending>) -> Option<Pending>
     }
 }
 
-/// Whether two are the same.
-fn are_same(one: Option<Pending>, other: Option<Pending>) -> bool
-    ensures { result ≡ true → one ≡ other }
+/// Whether it is of an event.
+fn is_of(one: Option<Pending>, event: u32) -> bool
+    ensures { result ≡ is_of event one }
 {
     match one {
-        None => other.is_none(),
-        Some(first) => match other {
-            None => false,
-            Some(second) => first.time == second.time && first.event == second.event,
-        },
+        None => false,
+        Some(pending) => pending.event == event,
     }
 }
 
-/// The leaf of an event with a pending time, or none.
-fn leaf(event: u32, time: Option<u64>) -> Option<Pending>
-    ensures { result ≡ leaf_of event time }
+/// Whether it comes after a time, as one that never comes does.
+fn is_after(one: Option<Pending>, time: u64) -> bool
+    ensures { result ≡ is_after time one }
 {
-    match time {
-        None => None,
-        Some(time) => Some(Pending { time, event }),
+    match one {
+        None => true,
+        Some(pending) => time < pending.time,
     }
 }
 
-/// The inner nodes above a leaf get the earlier of those below them, up to one that has it.
-fn settle(nodes: &mut Vec<Option<Pending>>, at: usize)
-    requires within { 2 * (at / 2) + 1 < length nodes.old.items }
-    requires others { AreEarlierBut (at / 2) nodes.old.items }
+/// The nodes above a leaf that is noticed earlier than before take its notification, up to one that is no later.
+fn hurry(nodes: &mut Vec<Option<Pending>>, leaf: usize, new: Pending)
+    requires within { 2 * (leaf / 2) + 1 < length nodes.old.items }
+    requires changed { IsNoticed new leaf nodes.old.items }
     ensures many { length nodes.new.items ≡ length nodes.old.items }
     ensures leaves { (place : ℕ) → length nodes.old.items ≤ 2 * place
         → node_at nodes.new.items place ≡ node_at nodes.old.items place }
     ensures earlier { AreEarlier nodes.new.items }
 {
-    let mut place = at / 2;
-    while 0 < place {
-        let least = earlier(nodes[2 * place], nodes[2 * place + 1]);
-        if are_same(nodes[place], least) {
+    let mut at = leaf;
+    while 1 < at {
+        let place = at / 2;
+        if !is_after(nodes[place], new.time) {
             return;
         }
-        nodes[place] = least;
-        place /= 2;
+        nodes[place] = Some(new);
+        at = place;
+    }
+}
+
+/// The nodes above the leaf of a cancelled event get the earlier of those below them, up to one of another event.
+fn retire(nodes: &mut Vec<Option<Pending>>, leaf: usize, event: u32)
+    requires within { 2 * (leaf / 2) + 1 < length nodes.old.items }
+    requires changed { IsCancelled event leaf nodes.old.items }
+    ensures many { length nodes.new.items ≡ length nodes.old.items }
+    ensures leaves { (place : ℕ) → length nodes.old.items ≤ 2 * place
+        → node_at nodes.new.items place ≡ node_at nodes.old.items place }
+    ensures earlier { AreEarlier nodes.new.items }
+{
+    let mut at = leaf;
+    while 1 < at {
+        let place = at / 2;
+        if !is_of(nodes[place], event) {
+            return;
+        }
+        nodes[place] = earlier(nodes[2 * place], nodes[2 * place + 1]);
+        at = place;
     }
 }
 
@@ -151,15 +168,29 @@ impl Calendar {
         self.times[event as usize]
     }
 
-    /// Gives an event a pending time, or none.
-    fn put(&mut self, event: u32, time: Option<u64>)
-        requires { event < length self.old }
-        ensures { self.new ≡ slice_set self.old event time }
+    /// Gives an event without a pending time, or with a later one, this time.
+    fn put(&mut self, event: u32, time: u64)
+        requires inside { event < length self.old }
+        requires earlier { (t : ℕ) → pending_time self.old event ≡ Some t → time < t }
+        ensures { self.new ≡ slice_set self.old event (Some time) }
     {
-        let at = self.times.len() + event as usize;
-        self.times[event as usize] = time;
-        self.nodes[at] = leaf(event, time);
-        settle(&mut self.nodes, at);
+        let leaf = self.times.len() + event as usize;
+        let new = Pending { time, event };
+        self.times[event as usize] = Some(time);
+        self.nodes[leaf] = Some(new);
+        hurry(&mut self.nodes, leaf, new);
+    }
+
+    /// Takes the pending time of an event away.
+    fn remove(&mut self, event: u32)
+        requires inside { event < length self.old }
+        requires some { is_some (pending_time self.old event) ≡ true }
+        ensures { self.new ≡ slice_set self.old event None }
+    {
+        let leaf = self.times.len() + event as usize;
+        self.times[event as usize] = None;
+        self.nodes[leaf] = None;
+        retire(&mut self.nodes, leaf, event);
     }
 
     /// Notifies an event at a time. An earlier time replaces a pending one; a later one changes nothing.
@@ -169,10 +200,10 @@ impl Calendar {
             ≡ slice_set self.old event (Some (earliest (pending_time self.old event) time)) }
     {
         match self.time(event) {
-            None => self.put(event, Some(time)),
+            None => self.put(event, time),
             Some(pending) => {
                 if time < pending {
-                    self.put(event, Some(time));
+                    self.put(event, time);
                 }
             }
         }
@@ -184,7 +215,7 @@ impl Calendar {
         ensures { self.new ≡ slice_set self.old event None }
     {
         if self.time(event).is_some() {
-            self.put(event, None);
+            self.remove(event);
         }
     }
 }
