@@ -1,5 +1,5 @@
 -- The side of a kernel that goes on from a state, and what it keeps of its model.
-use Rattle.std.proofs.Common.{◌≡◌, ◌∙◌, ◌<◌, ◌≤◌, ◌&&◌, ℕ, zero, suc, ℤ, Bool, true, false, nat_eq, List, [], ◌∷◌, Option, Some, None, length, map, replicate, slice_get, refl, sym, ap, subst, arith}
+use Rattle.std.proofs.Common.{◌≡◌, ◌∙◌, ◌<◌, ◌&&◌, ℕ, zero, suc, ℤ, Bool, true, false, nat_eq, List, [], ◌∷◌, Some, length, map, replicate, slice_get, refl, sym, ap, subst, arith}
 use Rattle.std.proofs.lemmas.Bool.{ne_eqb}
 use Rattle.std.proofs.lemmas.List.{ext_get_or, length-map}
 use Rattle.std.proofs.lemmas.Option.{get_or_from_slice_get, same_Some, slice_get-map, slice_get_within}
@@ -16,7 +16,7 @@ use Rattle.tdf_events.specs.Notices.{NoticesOf}
 use Rattle.tdf_events.specs.Runnable.{AreOfSignals, signal_formats}
 use Rattle.tdf_events.specs.Side.{SideOf, start_side}
 use Rattle.tdf_events.proofs.Times.{times_are}
-use Rattle.tdf_events.specs.State.{IsKernelState, frame_with, kernel_state_of, notifications, resumed_side, value_in}
+use Rattle.tdf_events.specs.State.{IsKernelState, frame_with, kernel_state_of, notifications, resumed_side}
 use Rattle.tdf_events.specs.machine.Resuming.{AreValuesIn, CanHold, HaveCells, with_cells, with_pending}
 use Rattle.tdf_expr.proofs.Api.{fits_one}
 use Rattle.tdf_expr.specs.Frames.{FrameSeen}
@@ -24,7 +24,7 @@ use Rattle.tdf_expr.specs.Made.{AreMadeFor, start_rates}
 use Rattle.tdf_expr.specs.Plans.{shape_written}
 use Rattle.tdf_expr.specs.declared.checked.Checked.{Checked}
 use Rattle.tdf_expr_semantics.specs.Fits.{NumbersFit}
-use Rattle.tdf_expr_state.specs.State.{FrameState, cell_at}
+use Rattle.tdf_expr_state.specs.State.{FrameState}
 use Rattle.tdf_fixed.specs.Overflow.{IsOfWidth}
 use Rattle.tdf_fixed.specs.declared.format.Format.{Format}
 use Rattle.tdf_fixed.specs.declared.raw.Raw.{Raw}

@@ -1,23 +1,20 @@
 -- A kernel that goes on from a state.
-use Rattle.std.proofs.Common.{◌≡◌, ◌≢◌, ◌∙◌, ◌<◌, ◌≤◌, ◌+◌, ◌-◌, ◌&&◌, ℕ, zero, suc, ℤ, Bool, true, false, nat_eq, List, [], ◌∷◌, ◌++◌, Option, Some, None, length, map, take, replicate, append-nil, slice_get, slice_set, slice_index_or, length-set, length-append, get_or-set_other, refl, sym, ap, subst, inl, inr, arith}
+use Rattle.std.proofs.Common.{◌≡◌, ◌≢◌, ◌∙◌, ◌<◌, ◌+◌, ◌-◌, ℕ, zero, suc, ℤ, List, [], ◌∷◌, ◌++◌, Option, Some, None, length, map, take, append-nil, slice_get, slice_set, length-set, length-append, get_or-set_other, refl, sym, ap, subst, inl, inr, arith}
 use Rattle.std.proofs.lemmas.Bool.{cases_lt}
 use Rattle.std.proofs.lemmas.Grind.{flat_map-append}
-use Rattle.std.proofs.lemmas.List.{ext_get_or, length-map, length-replicate, take_all, take_more}
-use Rattle.std.proofs.lemmas.Option.{get_or_from_slice_get, same_Some, slice_get-get_or, slice_get-map, slice_get_within}
-use Rattle.std.proofs.lemmas.Slice.Zip.{get_or-zip, length-zip}
+use Rattle.std.proofs.lemmas.List.{ext_get_or, length-map, take_all, take_more}
+use Rattle.std.proofs.lemmas.Option.{get_or_from_slice_get, same_Some, slice_get-map, slice_get_within}
+use Rattle.std.proofs.lemmas.Slice.Zip.{length-zip}
 use Rattle.std.specs.List.{flat_map, range_with_len, zip}
 use Rattle.std.specs.Option.{option_map}
-use Rattle.std.specs.Prelude.{min, pos}
-use Rattle.tdf_bind_connections.specs.ProcessBlocks.{BlockRowOf, ProcessRowOf}
+use Rattle.std.specs.Prelude.{pos}
 use Rattle.tdf_events_queue.specs.Times.{pending_time}
 use Rattle.tdf_events.proofs.Reading.{has_at}
 use Rattle.tdf_events.proofs.Tables.{pushed}
 use Rattle.tdf_events.specs.Notices.{NoticesOf}
 use Rattle.tdf_events.specs.State.{ArePendingFrom, notification_of, value_in}
-use Rattle.tdf_events.specs.machine.Resuming.{AreValuesIn, CanHold, HaveCells, with_cells, with_pending}
+use Rattle.tdf_events.specs.machine.Resuming.{AreValuesIn, HaveCells, with_cells, with_pending}
 use Rattle.tdf_expr.specs.Frames.{FrameSeen}
-use Rattle.tdf_expr.specs.Plans.{shape_written}
-use Rattle.tdf_expr_semantics.specs.Fits.{NumbersFit}
 use Rattle.tdf_expr_state.specs.State.{cell_at}
 use Rattle.tdf_fixed.specs.declared.format.Format.{Format}
 use Rattle.tdf_fixed.specs.declared.raw.Raw.{Raw}

@@ -1,6 +1,6 @@
 -- One port more of those that give their values to signals.
-use Rattle.std.proofs.Common.{◌≡◌, ℕ, ◌+◌, Bool, true, false, if◌then◌else◌, List, [], ◌∷◌, ◌++◌, Option, Some, None, is_some, ℤ, ◌<◌, map, take, replicate, zero, suc, arith, length, length-set, slice_get, slice_index, slice_index_or, slice_set, refl, ap, sym, ◌∙◌, add-one}
-use Rattle.std.proofs.lemmas.List.{map-set, take_more}
+use Rattle.std.proofs.Common.{◌≡◌, ℕ, ◌+◌, Bool, true, false, if◌then◌else◌, List, [], ◌∷◌, ◌++◌, Option, Some, None, ℤ, ◌<◌, take, arith, length, length-set, slice_get, slice_index, slice_index_or, slice_set, refl, ap, sym, ◌∙◌, add-one}
+use Rattle.std.proofs.lemmas.List.{take_more}
 use Rattle.tdf_events.proofs.Reading.{has_at}
 use Rattle.tdf_convert.specs.declared.writes.SignalWrite.{SignalWrite}
 use Rattle.tdf_events.specs.Delta.{waiting_with}

@@ -49,7 +49,7 @@ fn run_in(
         (kernel_of parts.new) }
 {
     act_in(parts, checked, block, owner, number);
-    let ports = &parts.ports[owner as usize];
+    let ports = parts.ports[owner as usize].ports();
     write_all(&mut parts.waiting, &block.signals, ports);
     notify_all(&mut parts.notices, time, parts.own_events.at(owner), ports);
 }

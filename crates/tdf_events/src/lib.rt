@@ -3,6 +3,7 @@
 //! - `kernel`: the kernel and its calls.
 //! - `parts`: what it holds.
 //! - `making`: the parts before the first instant.
+//! - `ported`: the ports of an instance, with those that its processes read.
 //! - `running`: the body of a process runs.
 //! - `due`: timed notifications come.
 //! - `evaluating`: the triggered processes run.
@@ -26,6 +27,7 @@ mod laws;
 mod making;
 mod notices;
 mod parts;
+mod ported;
 mod resuming;
 mod running;
 mod state;

@@ -10,11 +10,12 @@ ghost use Rattle.tdf_expr.specs.Checked.{IsChecked};
 ghost use Rattle.tdf_expr.specs.Made.{block_count};
 ghost use Rattle.tdf_bind_connections.specs.ProcessBlocks.{BlockRowOf, ProcessRowOf};
 
+use crate::ported::ProcessPorts;
 use std::alloc::Global;
 use tdf_base::Memory;
 use tdf_bind_connections::{BlockRow, EventRow, ProcessRow, SignalRow};
 use tdf_events_queue::{Lists, NumberSet};
-use tdf_expr::{Checked, Frame, Ports};
+use tdf_expr::{Checked, Frame};
 use tdf_fixed::Raw;
 
 /// The starting values of signals.
@@ -54,7 +55,7 @@ pub(crate) fn start_ports(
     alloc: Global,
     checked: &Checked,
     blocks: &[BlockRow],
-) -> Result<Vec<Ports>, Memory>
+) -> Result<Vec<ProcessPorts>, Memory>
     requires made { IsChecked checked.now }
     requires inside { (n : ℕ) (row : BlockRowOf) → slice_get blocks.now n ≡ Some row
         → row.block < block_count checked.now }
@@ -64,7 +65,7 @@ pub(crate) fn start_ports(
     let mut all = Vec::new(alloc);
     for i in 0..blocks.len() {
         let row = &blocks[i];
-        let ports = Ports::new(alloc, checked, row.block)?;
+        let ports = ProcessPorts::new(alloc, checked, row.block)?;
         all.push(ports)?;
     }
     Ok(all)

@@ -10,12 +10,13 @@ use crate::making::{
     by_event, by_signal, own_events, start_frames, start_ports, start_values, started,
 };
 use crate::notices::Notices;
+use crate::ported::ProcessPorts;
 use crate::waiting::Waiting;
 use std::alloc::Global;
 use tdf_base::Memory;
 use tdf_bind::Flat;
 use tdf_events_queue::{Lists, NumberSet};
-use tdf_expr::{Frame, Ports};
+use tdf_expr::Frame;
 use tdf_fixed::Raw;
 
 /// What a kernel holds.
@@ -26,7 +27,7 @@ pub(crate) struct Parts {
     /// What each instance of a block of processes holds.
     pub(crate) frames: Vec<Frame>,
     /// The ports of each instance.
-    pub(crate) ports: Vec<Ports>,
+    pub(crate) ports: Vec<ProcessPorts>,
     /// The pending notifications.
     pub(crate) notices: Notices,
     /// The processes that run in the next evaluation.

@@ -1,4 +1,4 @@
-use Rattle.std.proofs.Common.{◌≡◌, ◌∙◌, List, slice_get, ap, sym}
+use Rattle.std.proofs.Common.{◌∙◌, List, slice_get, ap, sym}
 use Rattle.tdf_bind_connections.specs.ProcessBlocks.{BlockRowOf}
 use Rattle.tdf_bind_tables.specs.FlatTables.{FlatTablesOf}
 use Rattle.tdf_events.proofs.fitting.is_state.Goals as goal

@@ -1,4 +1,4 @@
-use Rattle.std.proofs.Common.{◌≡◌, ◌<◌, Some, length, slice_get, slice_index_or, arith, subst}
+use Rattle.std.proofs.Common.{◌≡◌, Some, length, slice_get, slice_index_or, arith, subst}
 use Rattle.std.proofs.lemmas.Option.{slice_get-get_or}
 use Rattle.tdf_events.proofs.Resumed.{AreNotified, all_notified, next_free, next_inside, none_notified, notified_more}
 use Rattle.tdf_events.proofs.resuming.notify_all.Goals as goal

@@ -1,4 +1,4 @@
-use Rattle.std.proofs.Common.{◌≡◌, ◌∙◌, ℕ, Option, Some, Vec, Global, ap, sym}
+use Rattle.std.proofs.Common.{◌∙◌, Vec, Global, ap, sym}
 use Rattle.tdf_events.proofs.Resumed.{with_none, with_one}
 use Rattle.tdf_events.proofs.state.pending_of.Goals as goal
 use Rattle.tdf_events.proofs.state.pending_of.Goals.{in-Some+in_ok-push, in_default}

@@ -1,4 +1,4 @@
-use Rattle.std.proofs.Common.{◌≡◌, ◌∙◌, ℤ, List, Vec, Global, map, ap}
+use Rattle.std.proofs.Common.{◌∙◌, ℤ, Vec, Global, map, ap}
 use Rattle.tdf_events.proofs.Onward.{state_is}
 use Rattle.tdf_events.proofs.kernel.Kernel.state.Goals as goal
 use Rattle.tdf_events.specs.Kernel.{KernelOf, side_of}
