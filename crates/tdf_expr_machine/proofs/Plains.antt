@@ -1,16 +1,20 @@
 -- Places that go with the innermost loop variable, and copies between them.
 use Rattle.std.proofs.Common.{◌≡◌, ◌∙◌, ℕ, ◌+◌, ◌-◌, ◌<◌, ◌≤◌, List, [], ◌∷◌, ◌++◌, length, true, false, ℤ, refl, ap, subst, arith, rules}
 use Rattle.std.specs.Prelude.{slice_index}
+use Rattle.tdf_expr_machine.proofs.Runs.{turn_safe}
+use Rattle.tdf_expr_machine.specs.Acts.{IsTurnSafe, act_turn}
 use Rattle.tdf_expr_machine.specs.Nodes.{IsSafe, node_value, spot_place}
+use Rattle.tdf_expr_machine.specs.Turns.{AreTurnsSafe, turned}
 use Rattle.tdf_expr_machine.specs.declared.acts.Act.{Act}
 use Rattle.tdf_expr_machine.specs.declared.acts.Act.TheVariants as variant
 use Rattle.tdf_expr_machine.specs.declared.acts.CastNode.{CastNode}
 use Rattle.tdf_expr_machine.specs.declared.nodes.Node.TheVariants as code
+use Rattle.tdf_expr_machine.specs.declared.plain.RowCopy.{RowCopy}
 use Rattle.tdf_expr_machine.specs.declared.plain.Track.{Track}
 use Rattle.tdf_expr_machine.specs.declared.spots.Spot.{Spot}
 use Rattle.tdf_expr_machine.specs.declared.spots.Spot.TheVariants as spot
-use Rattle.tdf_expr_machine.specs.machine.Plain.{IsRowCopy, IsTrackOf, track_place}
-use Rattle.tdf_expr_state.specs.State.{cell_at, with_cell}
+use Rattle.tdf_expr_machine.specs.machine.Plain.{IsElement, IsRowCopy, IsTrackOf, track_place}
+use Rattle.tdf_expr_state.specs.State.{State, cell_at, with_cell}
 use Rattle.tdf_fixed.specs.Cast.{cast_of}
 use Rattle.tdf_fixed.specs.Overflow.{IsOfWidth}
 
@@ -56,3 +60,15 @@ row_is act spot at bits depth c to of is value keeps goes comes = rw is (record 
 })
 
 pub ruleset copy_laws = (row_is)
+
+-- a turn of a loop that copies a row: both elements are there, and one gets the number of the other
+pub record IsCopyTurn (act : Act) (loops : List ℕ) (row : RowCopy) (i : ℕ) (s : State) : Type 0 where
+  pub on : IsElement row.to i s.frame.cells × IsElement row.of i s.frame.cells
+  pub same : act_turn act loops i s ≡ with_cell (track_place row.to i) (cell_at s.frame.cells (track_place row.of i)) s
+
+-- it is one at what the turns before it leave
+pub copy_turn : (act : Act) (loops : List ℕ) (row : RowCopy) (from end i : ℕ) (start s : State) → IsRowCopy act (length loops) row → AreTurnsSafe (act_turn act loops) (IsTurnSafe act loops) from end start
+    → from ≤ i → i < end → s ≡ turned (act_turn act loops) from i start → IsCopyTurn act loops row i s
+copy_turn act loops row from end i start s is safe after before state =
+    let fine : IsTurnSafe act loops i s = rw state (turn_safe (act_turn act loops) (IsTurnSafe act loops) from end i start safe after before) in
+    record { on = is.on loops i s refl fine; same = is.same loops i s refl fine }

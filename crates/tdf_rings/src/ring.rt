@@ -27,7 +27,7 @@ impl Model for Ring {
 }
 
 impl Ring {
-    /// An empty ring. One without capacity takes no memory.
+    /// An empty ring.
     ///
     /// # Errors
     /// Out of memory.
