@@ -13,8 +13,8 @@ pub enum Pass {
     Stopped {
         /// The number of the cluster, from 1.
         cluster: u32,
-        /// The first fault.
-        fault: Fault,
+        /// The first fault. It is in a box, so that an answer is short.
+        fault: Box<Fault>,
     },
 }
 
@@ -28,7 +28,7 @@ pub(crate) enum Turn {
     /// No turn is left.
     Spent,
     /// What its modules ask for has a fault.
-    Refused(Fault),
+    Refused(Box<Fault>),
 }
 
 ghost use Rattle.std.specs.Prelude.{◌≡◌, ◌⊎◌, ◌≤◌, ◌+◌, ◌-◌, ◌++◌, ◌∷◌, ℕ, [], false, true, length, IfErr, IfOk, IfSome, IsOk, None, Ok, OnErr, OnOk, Some};
@@ -36,6 +36,7 @@ ghost use Rattle.tdf_sim_instants.specs.Crossing.{CanCross, HasCrossedBoundary, 
 ghost use Rattle.tdf_sim_instants.specs.machine.Crossing.{GoesOnBy};
 ghost use Rattle.tdf_sim_instants.specs.declared.crossing.Pass.TheVariants.{Done, Spent, Stopped};
 ghost use Rattle.tdf_sim_instants.specs.declared.crossing.Turn.TheVariants as came;
+ghost use Rattle.std.specs.Global.{Box as BoxOf};
 ghost use Rattle.tdf_base.specs.declared.faults.Fault.{Fault as FaultOf};
 ghost use Rattle.tdf_dynamic.specs.declared.next.Next.{Next as NextOf};
 ghost use Rattle.tdf_dynamic.specs.declared.next.Next.TheVariants.{Same};
@@ -126,14 +127,14 @@ fn cross(alloc: Global, flat: &Flat, cluster: &mut Cluster) -> Result<Turn, Memo
     ensures planned { result ≡ Ok came.Planned → (next : NextOf) × (is_new next ≡ true) × (between : ClusterOf)
         × HasPassedBoundary flat.now next cluster.old between cluster.new }
     ensures turns { result ≡ Ok came.Spent → ⊥ }
-    ensures refused { (fault : FaultOf) → result ≡ Ok (came.Refused fault)
-        → HasAnswered flat.now cluster.old (Refused fault) × HasLeft cluster.old cluster.new }
+    ensures refused { (fault : BoxOf FaultOf) → result ≡ Ok (came.Refused fault)
+        → HasAnswered flat.now cluster.old (Refused fault.value) × HasLeft cluster.old cluster.new }
     ensures still { HasNoChanges flat.now.tables cluster.old.number → result ≡ Ok came.Kept }
 {
     match begin_next(alloc, flat, cluster) {
         Ok(true) => Ok(Turn::Planned),
         Ok(false) => Ok(Turn::Kept),
-        Err(ChangeErr::Refused(fault)) => Ok(Turn::Refused(fault)),
+        Err(ChangeErr::Refused(fault)) => Ok(Turn::Refused(Box::new(alloc, fault)?)),
         Err(ChangeErr::Memory) => Err(Memory),
     }
 }
@@ -167,9 +168,9 @@ fn cross_turn(
     ensures spent { result ≡ Ok came.Spent → left.old ≡ 0 }
     ensures same { result ≡ Ok came.Spent → (cluster.new ≡ cluster.old) × (since.new ≡ since.old)
         × (left.new ≡ left.old) }
-    ensures refused { (fault : FaultOf) → result ≡ Ok (came.Refused fault)
-        → IsRefusedAt flat.now time fault since.old cluster.old cluster.new left.old }
-    ensures taken { (fault : FaultOf) → result ≡ Ok (came.Refused fault)
+    ensures refused { (fault : BoxOf FaultOf) → result ≡ Ok (came.Refused fault)
+        → IsRefusedAt flat.now time fault.value since.old cluster.old cluster.new left.old }
+    ensures taken { (fault : BoxOf FaultOf) → result ≡ Ok (came.Refused fault)
         → (since.new ≡ time) × (left.new ≡ left.old - 1) }
     ensures still { HasNoChanges flat.now.tables cluster.old.number
         → (result ≡ Ok came.Kept) ⊎ (result ≡ Ok came.Spent) }
@@ -203,7 +204,7 @@ fn put(planned: &mut Vec<usize>, place: usize) -> Result<Option<Pass>, Memory>
 ///
 /// # Errors
 /// Out of memory.
-fn stopped(place: usize, fault: Fault) -> Result<Option<Pass>, Memory>
+fn stopped(place: usize, fault: Box<Fault>) -> Result<Option<Pass>, Memory>
     ensures { IfOk result (λ ended. (number : ℕ) × (number ≡ place + 1)
         × (ended ≡ Some (Stopped number fault))) }
 {
@@ -223,7 +224,7 @@ fn stopped(place: usize, fault: Fault) -> Result<Option<Pass>, Memory>
 fn noted(planned: &mut Vec<usize>, place: usize, turn: Turn) -> Result<Option<Pass>, Memory>
     ensures on { result ≡ Ok None → GoesOnBy turn place planned.old.items planned.new.items }
     ensures spent { result ≡ Ok (Some Spent) → turn ≡ came.Spent }
-    ensures stopped { (number : ℕ) (fault : FaultOf) → result ≡ Ok (Some (Stopped number fault))
+    ensures stopped { (number : ℕ) (fault : BoxOf FaultOf) → result ≡ Ok (Some (Stopped number fault))
         → (turn ≡ came.Refused fault) × (number ≡ place + 1) }
     ensures done { result ≡ Ok (Some Done) → ⊥ }
     ensures kept { IfOk result (λ ended. IfSome ended (λ _. planned.new.items ≡ planned.old.items)) }
@@ -261,8 +262,8 @@ pub fn cross_all(
     ensures part { result ≡ Ok Spent → HasNoTurn flat.now time
         (crossing_of clusters.old.items since.old.items left.old planned.old.items)
         (crossing_of clusters.new.items since.new.items left.new planned.new.items) }
-    ensures stopped { (number : ℕ) (fault : FaultOf) → result ≡ Ok (Stopped number fault)
-        → HasStopped flat.now time number fault
+    ensures stopped { (number : ℕ) (fault : BoxOf FaultOf) → result ≡ Ok (Stopped number fault)
+        → HasStopped flat.now time number fault.value
         (crossing_of clusters.old.items since.old.items left.old planned.old.items)
         (crossing_of clusters.new.items since.new.items left.new planned.new.items) }
     ensures never { NoneChanges flat.now clusters.old.items → IsOk result }

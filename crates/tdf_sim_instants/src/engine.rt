@@ -28,6 +28,7 @@ pub struct Engine {
 
 ghost use Rattle.std.specs.Prelude.{◌≡◌, ◌<◌, ◌≤◌, ◌+◌, ℕ, [], false, true, length, map, IsOk, None, Ok, OnOk, Some};
 ghost use Rattle.tdf_base.specs.Limits.{time_end};
+ghost use Rattle.std.specs.Global.{Box as BoxOf};
 ghost use Rattle.tdf_base.specs.declared.faults.Fault.{Fault as FaultOf};
 ghost use Rattle.tdf_convert.specs.Emitted.{write_of_sent};
 ghost use Rattle.tdf_convert.specs.Links.{AreRising};
@@ -83,8 +84,8 @@ impl Engine {
         ensures part { result ≡ Ok Spent → HasNoTurn flat.now time
             (crossing_of self.old.clusters.items self.old.since.items left.old []) (crossing_of
             self.new.clusters.items self.new.since.items left.new self.new.planned.items) }
-        ensures stopped { (number : ℕ) (fault : FaultOf) → result ≡ Ok (Stopped number fault)
-            → HasStopped flat.now time number fault
+        ensures stopped { (number : ℕ) (fault : BoxOf FaultOf) → result ≡ Ok (Stopped number fault)
+            → HasStopped flat.now time number fault.value
             (crossing_of self.old.clusters.items self.old.since.items left.old []) (crossing_of
             self.new.clusters.items self.new.since.items left.new self.new.planned.items) }
         ensures rest { self.new ≡ record self.old {
@@ -178,7 +179,7 @@ impl Engine {
             → event_turn model flat.now time
             (map (write_of_sent self.old.sinks.list.items) self.old.outputs.sent)
             (side_of self.old.kernel) left.old ≡ None }
-        ensures never { (number : ℕ) (fault : FaultOf) → result ≡ Stopped number fault → ⊥ }
+        ensures never { (number : ℕ) (fault : BoxOf FaultOf) → result ≡ Stopped number fault → ⊥ }
         ensures rest { self.new ≡ record self.old {
           outputs = record self.old.outputs { sent = [] };
           writes = record self.old.writes { list = [] };
@@ -219,8 +220,8 @@ impl Engine {
         ensures later { result ≡ Ok Done → IsReadyAt (time + 1) self.new }
         ensures spent { result ≡ Ok Spent
             → HasBeenSpent flat.now time self.old self.new left.old }
-        ensures stopped { (number : ℕ) (fault : FaultOf) → result ≡ Ok (Stopped number fault)
-            → HasBeenStopped flat.now time number fault self.old self.new left.old }
+        ensures stopped { (number : ℕ) (fault : BoxOf FaultOf) → result ≡ Ok (Stopped number fault)
+            → HasBeenStopped flat.now time number fault.value self.old self.new left.old }
         ensures never { NoneChanges flat.now self.old.clusters.items → IsOk result }
     {
         law_by_offset();

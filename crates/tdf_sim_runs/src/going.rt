@@ -18,6 +18,7 @@ pub(crate) enum Ended {
     },
 }
 
+ghost use Rattle.std.specs.Global.{Box as BoxOf};
 ghost use Rattle.std.specs.Prelude.{◌≡◌, ◌<◌, ◌≤◌, ◌+◌, ◌++◌, [], List, ℕ, false, None, Ok, IfOk, IfSome, OnErr, OnOk, Option, Some, length};
 ghost use Rattle.tdf_base.specs.Limits.{time_end};
 ghost use Rattle.tdf_sim_instants.specs.Engine.{HasBeenSpent, HasBeenStopped, HasHadInstant, IsEngineOf, IsReadyAt};
@@ -58,6 +59,7 @@ use tdf_sim_shown::{Clock, Shown};
 const MANY_NEWS: usize = 65_536;
 
 /// Shows what an instant gave.
+#[inline(always)]
 fn show(shown: &mut Shown, engine: &Engine, flat: &Flat, time: u64) -> Result<(), Memory>
     requires going { engine.now.kernel.spent ≡ false }
     requires take { CanTake flat.now (clock_at time engine.now.since.items engine.now.clusters.items)
@@ -109,6 +111,7 @@ impl Running {
     }
 
     /// The instant at its time, and the plans that it brings.
+    #[inline(always)]
     fn instant(&mut self, alloc: Global, flat: &Flat) -> Result<Pass, Memory>
         requires runnable { IsRunnable flat.now }
         requires sound { IsSoundFlat flat.now }
@@ -123,9 +126,9 @@ impl Running {
         ensures later { result ≡ Ok pass.Done → IsReadyAt (self.old.from + 1) self.new.engine }
         ensures spent { result ≡ Ok pass.Spent → HasBeenSpent flat.now self.old.from
             self.old.engine self.new.engine self.old.left }
-        ensures stopped { (number : ℕ) (fault : FaultOf)
+        ensures stopped { (number : ℕ) (fault : BoxOf FaultOf)
             → result ≡ Ok (pass.Stopped number fault) → HasBeenStopped flat.now self.old.from number
-            fault self.old.engine self.new.engine self.old.left }
+            fault.value self.old.engine self.new.engine self.old.left }
         ensures news { IfOk result (λ pass. self.new.news.items ≡ self.old.news.items ++ news_text
             flat.now self.old.from self.new.engine.clusters.items self.new.engine.planned.items) }
         ensures rest { self.new ≡ record self.old {
@@ -165,9 +168,9 @@ impl Running {
         ensures stage { self.new.shown.trace.stage ≡ self.old.shown.trace.stage }
         ensures spent { result ≡ Ok pass.Spent → HasBeenSpent flat.now self.old.from
             self.old.engine self.new.engine self.old.left }
-        ensures stopped { (number : ℕ) (fault : FaultOf)
+        ensures stopped { (number : ℕ) (fault : BoxOf FaultOf)
             → result ≡ Ok (pass.Stopped number fault) → HasBeenStopped flat.now self.old.from number
-            fault self.old.engine self.new.engine self.old.left }
+            fault.value self.old.engine self.new.engine self.old.left }
         ensures news { (ended : PassOf) → result ≡ Ok ended → (ended ≡ pass.Done → ⊥)
             → self.new.news.items ≡ self.old.news.items ++ news_text flat.now self.old.from
             self.new.engine.clusters.items self.new.engine.planned.items }
@@ -260,6 +263,7 @@ impl Running {
             Ok(Pass::Done) => {}
             Ok(Pass::Spent) => return Ok(Some(Ended::Spent)),
             Ok(Pass::Stopped { cluster, fault }) => {
+                let fault = Box::into_inner(fault);
                 return Ok(Some(Ended::Stopped { cluster, fault }));
             }
             Err(_) => return Err(SinkErr::Memory),

@@ -67,7 +67,7 @@ returns-in-Some-clause-stopped c = λ number fault same.
     (crossing_of c.loop-n.clusters.items c.loop-n.since.items c.loop-n.left c.loop-n.planned.items) c.loop-n.invariant.crossed (omega (arith, c.loop-n-test.true, c.len-n-end.ensures))
     c.index_mut.result.now c.index_mut-in-loop-n.result.now c.index_mut.ensures.value c.index_mut-in-loop-n.ensures.value
     c.cross_turn.new.since c.cross_turn.new.cluster c.cross_turn.new.left c.noted.new.planned.items
-    number fault stopped.1 (c.cross_turn.ensures.refused fault (c.in_ok-turn.was ∙ ap Ok stopped.0)) (c.cross_turn.ensures.taken fault (c.in_ok-turn.was ∙ ap Ok stopped.0))
+    number fault.value stopped.1 (c.cross_turn.ensures.refused fault (c.in_ok-turn.was ∙ ap Ok stopped.0)) (c.cross_turn.ensures.taken fault (c.in_ok-turn.was ∙ ap Ok stopped.0))
     (subst (λ r. IfOk r (λ o. IfSome o (λ x. c.noted.new.planned.items ≡ c.loop-n.planned.items))) ended c.noted.ensures.kept))
 
 pub loop-n-preserved : goal.loop-n-preserved

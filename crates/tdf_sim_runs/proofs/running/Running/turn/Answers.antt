@@ -1,5 +1,6 @@
 use Rattle.std.proofs.Common.{[], ◌≡◌, ◌∙◌, ◌++◌, ℕ, ◌<◌, ◌≤◌, Ok, ap, sym, subst, inl, inr, arith}
 use Rattle.std.proofs.lemmas.Bool.{cases_lt}
+use Rattle.tdf_base.specs.declared.faults.Fault.{Fault}
 use Rattle.tdf_sim_instants.specs.Engine.{HasBeenSpent, HasBeenStopped}
 use Rattle.tdf_sim_instants.specs.declared.crossing.Pass.TheVariants as pass
 use Rattle.tdf_sim_runs.specs.News.{news_text}
@@ -107,6 +108,7 @@ returns-in-Ok-Stopped-clause-ends g c =
     (less_than c.wait.new.self.from c.args.stop c.wait.ensures.next.within c.if-self-stop.false) c.step.new.self.engine c.step.new.self.left c.step.new.self
     (same ∙ ap (λ (x : Running). record x { engine = c.step.new.self.engine; left = c.step.new.self.left; news = c.step.new.self.news }) rest)
     (subst (λ (x : Running). c.step.new.self.news.items ≡ x.news.items ++ news_text c.args.flat.now x.from c.step.new.self.engine.clusters.items c.step.new.self.engine.planned.items) rest news)
-    (g.K.Sink.taken c.args.out.now) c.law_instant.ensures.stopped c.in-Ok-Stopped.cluster c.in-Ok-Stopped.fault
-    (subst (λ (x : Running). HasBeenStopped c.args.flat.now x.from c.in-Ok-Stopped.cluster c.in-Ok-Stopped.fault x.engine c.step.new.self.engine x.left) rest
-    (c.in-Ok-Stopped.ensures.stopped c.in-Ok-Stopped.cluster c.in-Ok-Stopped.fault (ap Ok c.in-Ok-Stopped.field-0-is)))
+    (g.K.Sink.taken c.args.out.now) c.law_instant.ensures.stopped c.in-Ok-Stopped.cluster c.into_inner-fault.result
+    (subst (λ (f : Fault). HasBeenStopped c.args.flat.now c.wait.new.self.from c.in-Ok-Stopped.cluster f c.args.self.now.engine c.step.new.self.engine c.args.self.now.left) (sym c.into_inner-fault.ensures)
+    (subst (λ (x : Running). HasBeenStopped c.args.flat.now x.from c.in-Ok-Stopped.cluster c.in-Ok-Stopped.fault.value x.engine c.step.new.self.engine x.left) rest
+    (c.in-Ok-Stopped.ensures.stopped c.in-Ok-Stopped.cluster c.in-Ok-Stopped.fault (ap Ok c.in-Ok-Stopped.field-0-is))))
