@@ -1,10 +1,10 @@
 -- A cluster at the head of a period with a new plan.
-use Rattle.std.proofs.Common.{◌≡◌, ◌∙◌, ℕ, zero, suc, ◌<◌, ◌≤◌, Bool, true, if◌then◌else◌, List, [], ◌∷◌, Option, Some, None, option_map, ℤ, length, map, refl, sym, ap, subst, inl, inr, ◌⊎◌, arith}
-use Rattle.std.proofs.lemmas.Bool.{cases_lt}
-use Rattle.std.proofs.lemmas.List.{length-map, take_all}
-use Rattle.std.proofs.lemmas.Option.{get_or_from_slice_get, slice_get-map, slice_get_within}
-use Rattle.std.specs.List.{enumerate_from, range_with_len}
-use Rattle.std.specs.Prelude.{All, filter_map, slice_get, slice_index, slice_index_or}
+use Rattle.std.proofs.Common.{◌≡◌, ◌∙◌, ℕ, suc, ◌<◌, Bool, true, if◌then◌else◌, List, [], ◌∷◌, Option, Some, None, option_map, ℤ, length, map, refl, sym, ap, subst, arith}
+use Rattle.std.proofs.lemmas.List.{length-map}
+use Rattle.std.proofs.lemmas.Option.{slice_get-map, slice_get_within}
+use Rattle.std.proofs.lemmas.Simd.{map-map}
+use Rattle.std.specs.List.{range_with_len}
+use Rattle.std.specs.Prelude.{All, slice_get, slice_index}
 use Rattle.tdf_dynamic_plans.specs.Attributes.{AttrsOf, attrs_at, clusters_of, rates_in}
 use Rattle.tdf_dynamic_plans.specs.Known.{AttrsTable}
 use Rattle.tdf_dynamic_plans.specs.Rates.{net_of, net_ports, rated_edge}
@@ -12,12 +12,11 @@ use Rattle.tdf_exec.proofs.Acting.{block_there}
 use Rattle.tdf_exec.proofs.Crosses.{head_held}
 use Rattle.tdf_exec_parts.proofs.Api.{reads_at, writes_at}
 use Rattle.tdf_exec.proofs.Empty.{done_bare}
-use Rattle.tdf_exec.proofs.Ends.{below_modules, sampler_writes, sink_reads}
-use Rattle.tdf_exec.proofs.Formed.{in_fits, out_fits, ports_fit, traced_fits}
-use Rattle.tdf_exec.proofs.Kept.{count_alike, false_true, traced_alike, zero_in}
+use Rattle.tdf_exec.proofs.Ends.{sampler_writes, sink_reads}
+use Rattle.tdf_exec.proofs.Formed.{in_fits, out_fits, ports_fit, traced_fits, traced_numbered}
+use Rattle.tdf_exec.proofs.Kept.{count_alike, false_true, zero_in}
 use Rattle.tdf_exec.proofs.Moved.{some_inj}
 use Rattle.tdf_exec.proofs.Planned.{no_times}
-use Rattle.tdf_exec.proofs.Rows.{index_at}
 use Rattle.tdf_exec.proofs.Safe.{heads_hold, plans_safe}
 use Rattle.tdf_exec.specs.Cluster.{ClusterOf, next_offset}
 use Rattle.tdf_exec.specs.Crossing.{HasNewPlan, HoldHeads, IsKin, IsReadyFor, StandsAtNew, with_new_plan}
@@ -28,16 +27,14 @@ use Rattle.tdf_exec.specs.Starts.{IsSoundFlat}
 use Rattle.tdf_exec.specs.Traced.{traced_port}
 use Rattle.tdf_exec.specs.declared.runners.Runner.{Runner}
 use Rattle.tdf_exec.specs.declared.runners.Runner.TheVariants as runner
-use Rattle.tdf_exec.specs.declared.runners.TracedPort.{TracedPort}
 use Rattle.tdf_exec.specs.machine.Laid.{IsLaid}
 use Rattle.tdf_exec.specs.machine.Restarting.{CanRestart, HasReplaced, HasRestarted, IsRestarted}
-use Rattle.tdf_exec.specs.machine.Tracing.{AreGivenTraced, traced_before, with_traced}
+use Rattle.tdf_exec.specs.machine.Tracing.{rated, with_rates}
 use Rattle.tdf_expr.specs.Blocks.{PureBlock, blocks_of}
 use Rattle.tdf_expr.specs.Checked.{IsCheckedOf}
 use Rattle.tdf_expr.specs.Frames.{IsOfFormat}
 use Rattle.tdf_expr.specs.Made.{AreMadeFor, event_count, port_spans_of}
 use Rattle.tdf_expr.specs.declared.bodies.Body.TheVariants as body
-use Rattle.tdf_expr.specs.declared.checked.Checked.{Checked}
 use Rattle.tdf_expr.specs.declared.spans.PortSpan.{PortSpan}
 use Rattle.tdf_exec_firing.specs.Activation.{ports_before}
 use Rattle.tdf_exec_firing.specs.Wires.{AreWired}
@@ -45,7 +42,7 @@ use Rattle.tdf_bind.specs.declared.model.Flat.{Flat}
 use Rattle.tdf_streams.proofs.Api.{get_inside, install_stands, none_some, some_same, are_active, table_record}
 use Rattle.tdf_graph.specs.declared.actors.Actor.TheVariants as actor
 use Rattle.tdf_graph.specs.declared.actors.Edge.{Edge}
-use Rattle.tdf_exec_layout.specs.Traced.{number_if_traced, traced_ports}
+use Rattle.tdf_exec_layout.specs.Traced.{traced_ports}
 use Rattle.tdf_exec_layout.specs.Wiring.{AreWiresOf}
 use Rattle.tdf_rings.specs.Carried.{FitIn, ring_at}
 use Rattle.tdf_rings.specs.Rings.{RingOf, ring_of}
@@ -72,36 +69,22 @@ same_lists (x ∷ xs) (y ∷ ys) long same =
     let head : x.samples ≡ y.samples = same 0 (omega arith) in
     ap (λ l. l ∷ map (λ (r : RingOf). r.samples) xs) head ∙ ap (λ l. y.samples ∷ l) rest
 
-restarted_alike : (checked : Checked) (g s : Runner) → IsRestarted checked g s → is_sampler_runner s ≡ is_sampler_runner g
-restarted_alike checked (runner.Module x) s is = ap is_sampler_runner is.1
-restarted_alike checked (runner.Sampler k) s is = ap is_sampler_runner is
-restarted_alike checked (runner.Sink k) s is = ap is_sampler_runner is
-restarted_alike checked runner.Outside s is = ap is_sampler_runner is
+restarted_alike : (flat : Flat) (table : List AttrsOf) (r s : Runner) → IsRestarted flat table r s → is_sampler_runner s ≡ is_sampler_runner r
+restarted_alike flat table (runner.Module x) s is = ap is_sampler_runner is.1
+restarted_alike flat table (runner.Sampler k) s is = ap is_sampler_runner is
+restarted_alike flat table (runner.Sink k) s is = ap is_sampler_runner is
+restarted_alike flat table runner.Outside s is = ap is_sampler_runner is
 
--- a module that is given its traced ports can begin again
-traced_can : (flat : Flat) (attrs : List AttrsOf) (c : ClusterOf) (m : ℕ) (l : List TracedPort) (r : Runner) → IsRunnerWith flat attrs c m r → CanRestart flat.checked (with_traced l r)
-traced_can flat attrs c m l (runner.Module x) is = is.made
-traced_can flat attrs c m l (runner.Sampler s) is = tt
-traced_can flat attrs c m l (runner.Sink k) is = tt
-traced_can flat attrs c m l runner.Outside is = tt
-
-plain_can : (flat : Flat) (attrs : List AttrsOf) (c : ClusterOf) (m : ℕ) (r : Runner) → IsRunnerWith flat attrs c m r → CanRestart flat.checked r
-plain_can flat attrs c m (runner.Module x) is = is.made
-plain_can flat attrs c m (runner.Sampler s) is = tt
-plain_can flat attrs c m (runner.Sink k) is = tt
-plain_can flat attrs c m runner.Outside is = tt
+-- what is kept for an actor can begin again
+can_again : (flat : Flat) (attrs : List AttrsOf) (c : ClusterOf) (m : ℕ) (r : Runner) → IsRunnerWith flat attrs c m r → CanRestart flat r
+can_again flat attrs c m (runner.Module x) is = (is.made, traced_numbered flat c.table m x.traced is.traced)
+can_again flat attrs c m (runner.Sampler s) is = tt
+can_again flat attrs c m (runner.Sink k) is = tt
+can_again flat attrs c m runner.Outside is = tt
 
 module _ (flat : Flat) (c : ClusterOf) (attrs : AttrsTable) (plan : Plan) (ready : IsReadyFor flat c attrs plan) where
-  pub can_restart : (rows rest : List (List TracedPort)) (given : List Runner) → AreGivenTraced (length rows) rows rest c.runners given
-      → (m : ℕ) (r : Runner) → slice_get given m ≡ Some r → CanRestart flat.checked r
-  can_restart rows rest given are m r at = go (cases_lt m (length rows))
-    where
-      old : (x : Runner) × (slice_get c.runners m ≡ Some x)
-      old = get_inside c.runners m (let w = slice_get_within given m r at in let s = are.same in omega (arith, w, s))
-
-      go : (m < length rows) ⊎ (length rows ≤ m) → CanRestart flat.checked r
-      go (inl below) = subst (CanRestart flat.checked) (some_inj _ r (sym (are.done m old.0 below old.1) ∙ at)) (traced_can flat attrs.rows c m (slice_index_or rows m []) old.0 (ready.of.runners m old.0 old.1))
-      go (inr past) = subst (CanRestart flat.checked) (some_inj old.0 r (sym (are.waiting m past ∙ old.1) ∙ at)) (plain_can flat attrs.rows c m old.0 (ready.of.runners m old.0 old.1))
+  pub can_restart : (m : ℕ) (r : Runner) → slice_get c.runners m ≡ Some r → CanRestart flat r
+  can_restart m r at = can_again flat attrs.rows c m r (ready.of.runners m r at)
 
   -- there is a rate in force for each edge
   pub reads_long : length c.reads ≡ length flat.tables.edges
@@ -152,66 +135,37 @@ module _ (flat : Flat) (c : ClusterOf) (attrs : AttrsTable) (plan : Plan) (ready
     module _ (d : ClusterOf) (re : HasReplaced flat c attrs plan d) where
       d_is : d ≡ next_of d.rings d.runners
       d_is = re.d_is
-          ∙ ap (λ l. with_new_plan c attrs plan l d.writes d.rings d.runners) re.parts.reads_are
-          ∙ ap (λ l. with_new_plan c attrs plan (read_rates (net_of flat.tables attrs.rows)) l d.rings d.runners) re.parts.writes_are
+          ∙ ap (λ l. with_new_plan c attrs plan l d.writes d.rings d.runners) re.reads_are
+          ∙ ap (λ l. with_new_plan c attrs plan (read_rates (net_of flat.tables attrs.rows)) l d.rings d.runners) re.writes_are
 
       ring_is : (e : ℕ) → e < length flat.tables.edges → ring_at d.rings e ≡ ring_of (ring_at c.rings e).samples (slice_index plan.bounds.items e)
       ring_is e within = re.carried.moved e (subst (λ n. e < n) (sym ready.of.held.same) within)
 
-      rows_long : length re.rows ≡ length flat.tables.modules
-      rows_long = re.parts.traced_are.long
-
       long : length d.runners ≡ length flat.tables.actors
-      long = re.restarted.same ∙ re.given_are.same ∙ ready.of.actors
+      long = re.restarted.same ∙ ready.of.actors
 
       -- what is kept for an actor, and from what it came
       pub record CameFrom (m : ℕ) (s : Runner) : Type 0 where
         pub r : Runner
         pub r_at : slice_get c.runners m ≡ Some r
-        pub g : Runner
-        pub low : m < length re.rows → g ≡ with_traced (slice_index_or re.rows m []) r
-        pub high : length re.rows ≤ m → g ≡ r
-        pub again : IsRestarted flat.checked g s
+        pub again : IsRestarted flat attrs.rows r s
 
       came : (m : ℕ) (s : Runner) → slice_get d.runners m ≡ Some s → CameFrom m s
       came m s at =
-          let i = slice_get_within d.runners m s at in let a = re.restarted.same in let b = re.given_are.same in
-          let g = get_inside re.given m (omega (arith, i, a)) in
-          let r = get_inside c.runners m (omega (arith, i, a, b)) in
-          record {
-            r = r.0;
-            r_at = r.1;
-            g = g.0;
-            low = λ below. some_inj g.0 _ (sym g.1 ∙ re.given_are.done m r.0 below r.1);
-            high = λ past. some_inj g.0 r.0 (sym g.1 ∙ re.given_are.waiting m past ∙ r.1);
-            again = re.restarted.done m g.0 s (omega (arith, i, a)) g.1 at;
-          }
-
-      plain : (m : ℕ) (r g : Runner) → ((l : List TracedPort) → with_traced l r ≡ r) → (m < length re.rows → g ≡ with_traced (slice_index_or re.rows m []) r) → (length re.rows ≤ m → g ≡ r) → g ≡ r
-      plain m r g same low high = go (cases_lt m (length re.rows))
-        where
-          go : (m < length re.rows) ⊎ (length re.rows ≤ m) → g ≡ r
-          go (inl below) = low below ∙ same (slice_index_or re.rows m [])
-          go (inr past) = high past
+          let i = slice_get_within d.runners m s at in let a = re.restarted.same in
+          let r = get_inside c.runners m (omega (arith, i, a)) in
+          record { r = r.0; r_at = r.1; again = re.restarted.done m r.0 s (omega (arith, i, a)) r.1 at }
 
       alike : (m : ℕ) (x y : Runner) → slice_get d.runners m ≡ Some x → slice_get c.runners m ≡ Some y → is_sampler_runner x ≡ is_sampler_runner y
       alike m x y xat yat =
           let h : CameFrom m x = came m x xat in
-          restarted_alike flat.checked h.g x h.again ∙ go h (cases_lt m (length re.rows)) ∙ ap is_sampler_runner (some_inj h.r y (sym h.r_at ∙ yat))
-        where
-          go : (h : CameFrom m x) → (m < length re.rows) ⊎ (length re.rows ≤ m) → is_sampler_runner h.g ≡ is_sampler_runner h.r
-          go h (inl below) = ap is_sampler_runner (h.low below) ∙ traced_alike (slice_index_or re.rows m []) h.r
-          go h (inr past) = ap is_sampler_runner (h.high past)
+          restarted_alike flat attrs.rows h.r x h.again ∙ ap is_sampler_runner (some_inj h.r y (sym h.r_at ∙ yat))
 
       before : (m : ℕ) → sampler_runners_before c.runners m ≡ sampler_runners_before d.runners m
-      before m = sym (count_alike d.runners c.runners m (re.restarted.same ∙ re.given_are.same) alike)
-
-      all_traced : (m : ℕ) → traced_before flat.tables (length flat.tables.ports) m ≡ traced_ports flat.tables m
-      all_traced m = ap (λ l. filter_map (λ port. number_if_traced flat.tables m port.0 port.1) (enumerate_from 0 l))
-          (take_all (length flat.tables.ports) flat.tables.ports (omega arith))
+      before m = sym (count_alike d.runners c.runners m re.restarted.same alike)
 
       -- a module that has begun again is one of the cluster
-      module _ (m : ℕ) (x y : ModuleOf) (list : List TracedPort) (is : IsModuleWith flat attrs.rows c m x) (again : HasRestarted flat.checked (record x { traced = list }) y) where
+      module _ (m : ℕ) (x y : ModuleOf) (is : IsModuleWith flat attrs.rows c m x) (again : HasRestarted flat.checked (with_rates flat.tables attrs.rows x) y) where
         own : slice_index (clusters_of flat.tables) m ≡ c.number
         own = is.actor_is.inside
 
@@ -238,8 +192,12 @@ module _ (flat : Flat) (c : ClusterOf) (attrs : AttrsTable) (plan : Plan) (ready
             ap (λ (s : State). s.frame.rates) (again.ran.after ready.of.keep.model block.0 ready.of.keep.are block.1)
             ∙ ready.of.keep.again x.block block.0 (state_of x.frame.state (ports_before x.ports.spans (length x.ports.state.notified) nothing_read)) block.1
 
-        next_module : list ≡ map (traced_port flat.tables attrs.rows) (traced_ports flat.tables m) → IsModuleOf flat (next_of d.rings d.runners) m y
-        next_module list_is =
+        traced_now : y.traced ≡ map (traced_port flat.tables attrs.rows) (traced_ports flat.tables m)
+        traced_now = again.traced ∙ ap (map (rated flat.tables attrs.rows)) is.traced
+            ∙ map-map (rated flat.tables attrs.rows) (traced_port flat.tables c.table) (traced_ports flat.tables m)
+
+        next_module : IsModuleOf flat (next_of d.rings d.runners) m y
+        next_module =
             let fits = ports_fit flat c.number laid attrs.rows ready.attributes ready.rows in
             record {
               actor_is = record { kind_is = kind; inside = own };
@@ -254,8 +212,8 @@ module _ (flat : Flat) (c : ClusterOf) (attrs : AttrsTable) (plan : Plan) (ready
               read_format = λ j w p at there. (in_fits flat c.number attrs.rows laid fits m kind own y.wires wires_are j w p at (span_at w.port p there)).format;
               write_format = λ j w p at there. (out_fits flat c.number attrs.rows laid fits m kind own y.wires wires_are j w p at (span_at w.port p there)).format;
               zeros = again.zeros y.wires (read_rates (net_of flat.tables attrs.rows));
-              traced = again.traced ∙ list_is;
-              traced_rate = λ j t at. subst (λ s. IsInSpans s t) (sym spans_are) (traced_fits flat c.number attrs.rows laid fits m kind own y.wires wires_are y.traced (again.traced ∙ list_is) j t at);
+              traced = traced_now;
+              traced_rate = λ j t at. subst (λ s. IsInSpans s t) (sym spans_are) (traced_fits flat c.number attrs.rows laid fits m kind own y.wires wires_are y.traced traced_now j t at);
             }
 
         -- its reinitialize body has run, with the rates of the table
@@ -281,16 +239,6 @@ module _ (flat : Flat) (c : ClusterOf) (attrs : AttrsTable) (plan : Plan) (ready
             there : (p : PureBlock) × (slice_get (blocks_of model.globals) x.block ≡ Some p)
             there = block_there _ (blocks_of model.globals) flat.checked.blocks.items x.block checked is.made.block
 
-      -- the traced ports of a module
-      rows_are : (m : ℕ) → m < length flat.tables.modules → slice_index_or re.rows m [] ≡ map (traced_port flat.tables attrs.rows) (traced_ports flat.tables m)
-      rows_are m below = re.parts.traced_are.each m below ∙ ap (map (traced_port flat.tables attrs.rows)) (all_traced m)
-
-      module_came : (m : ℕ) (x : ModuleOf) (g s : Runner) → IsModuleWith flat attrs.rows c m x → (m < length re.rows → g ≡ with_traced (slice_index_or re.rows m []) (runner.Module x))
-          → IsRestarted flat.checked g s → (y : ModuleOf) × (s ≡ runner.Module y) × HasRestarted flat.checked (record x { traced = slice_index_or re.rows m [] }) y
-      module_came m x g s is low again =
-          let below = below_modules flat laid m is.actor_is.kind_is in let l = rows_long in
-          subst (λ (k : Runner). IsRestarted flat.checked k s) (low (omega (arith, below, l))) again
-
       next_sampler : (m : ℕ) (s : SamplerOf) → IsSamplerOf flat c m s → IsSamplerOf flat (next_of d.rings d.runners) m s
       next_sampler m s is = record {
         actor_is = record { kind_is = is.actor_is.kind_is; inside = is.actor_is.inside };
@@ -312,27 +260,20 @@ module _ (flat : Flat) (c : ClusterOf) (attrs : AttrsTable) (plan : Plan) (ready
         none = is.none;
       }
 
-      next_runner : (m : ℕ) (r g s : Runner) → IsRunnerWith flat attrs.rows c m r → (m < length re.rows → g ≡ with_traced (slice_index_or re.rows m []) r) → (length re.rows ≤ m → g ≡ r)
-          → IsRestarted flat.checked g s → IsRunnerOf flat (next_of d.rings d.runners) m s
-      next_runner m (runner.Module x) g s is low high again =
-          let y = module_came m x g s is low again in
-          subst (IsRunnerOf flat (next_of d.rings d.runners) m) (sym y.1) (next_module m x y.0 (slice_index_or re.rows m []) is y.2 (rows_are m (below_modules flat laid m is.actor_is.kind_is)))
-      next_runner m (runner.Sampler k) g s is low high again =
-          subst (IsRunnerOf flat (next_of d.rings d.runners) m) (sym (subst (λ (q : Runner). IsRestarted flat.checked q s) (plain m (runner.Sampler k) g (λ l. refl) low high) again)) (next_sampler m k is)
-      next_runner m (runner.Sink k) g s is low high again =
-          subst (IsRunnerOf flat (next_of d.rings d.runners) m) (sym (subst (λ (q : Runner). IsRestarted flat.checked q s) (plain m (runner.Sink k) g (λ l. refl) low high) again)) (next_sink m k.edge is)
-      next_runner m runner.Outside g s is low high again =
-          subst (IsRunnerOf flat (next_of d.rings d.runners) m) (sym (subst (λ (q : Runner). IsRestarted flat.checked q s) (plain m runner.Outside g (λ l. refl) low high) again)) is
+      next_runner : (m : ℕ) (r s : Runner) → IsRunnerWith flat attrs.rows c m r → IsRestarted flat attrs.rows r s → IsRunnerOf flat (next_of d.rings d.runners) m s
+      next_runner m (runner.Module x) s is again = subst (IsRunnerOf flat (next_of d.rings d.runners) m) (sym again.1) (next_module m x again.0 is again.2)
+      next_runner m (runner.Sampler k) s is again = subst (IsRunnerOf flat (next_of d.rings d.runners) m) (sym again) (next_sampler m k is)
+      next_runner m (runner.Sink k) s is again = subst (IsRunnerOf flat (next_of d.rings d.runners) m) (sym again) (next_sink m k.edge is)
+      next_runner m runner.Outside s is again = subst (IsRunnerOf flat (next_of d.rings d.runners) m) (sym again) is
 
-      kin : (m : ℕ) (r g s : Runner) → IsRunnerWith flat attrs.rows c m r → (m < length re.rows → g ≡ with_traced (slice_index_or re.rows m []) r) → (length re.rows ≤ m → g ≡ r)
-          → IsRestarted flat.checked g s → IsKin r s
-      kin m (runner.Module x) g s is low high again = let y = module_came m x g s is low again in (y.0, y.1, y.2.block, y.2.wires)
-      kin m (runner.Sampler k) g s is low high again = subst (λ (q : Runner). IsRestarted flat.checked q s) (plain m (runner.Sampler k) g (λ l. refl) low high) again
-      kin m (runner.Sink k) g s is low high again = subst (λ (q : Runner). IsRestarted flat.checked q s) (plain m (runner.Sink k) g (λ l. refl) low high) again
-      kin m runner.Outside g s is low high again = subst (λ (q : Runner). IsRestarted flat.checked q s) (plain m runner.Outside g (λ l. refl) low high) again
+      kin : (m : ℕ) (r s : Runner) → IsRunnerWith flat attrs.rows c m r → IsRestarted flat attrs.rows r s → IsKin r s
+      kin m (runner.Module x) s is again = (again.0, again.1, again.2.block, again.2.wires)
+      kin m (runner.Sampler k) s is again = again
+      kin m (runner.Sink k) s is again = again
+      kin m runner.Outside s is again = again
 
       as_many : length d.runners ≡ length c.runners
-      as_many = re.restarted.same ∙ re.given_are.same
+      as_many = re.restarted.same
 
       pub new_plan : HasNewPlan c attrs plan d
       new_plan = record {
@@ -343,7 +284,7 @@ module _ (flat : Flat) (c : ClusterOf) (attrs : AttrsTable) (plan : Plan) (ready
         runners = λ m r at. (
             let s = get_inside d.runners m (let w = slice_get_within c.runners m r at in let l = as_many in omega (arith, w, l)) in
             let h : CameFrom m s.0 = came m s.0 s.1 in
-            (s.0, s.1, subst (λ (q : Runner). IsKin q s.0) (some_inj h.r r (sym h.r_at ∙ at)) (kin m h.r h.g s.0 (ready.of.runners m h.r h.r_at) h.low h.high h.again)));
+            (s.0, s.1, subst (λ (q : Runner). IsKin q s.0) (some_inj h.r r (sym h.r_at ∙ at)) (kin m h.r s.0 (ready.of.runners m h.r h.r_at) h.again)));
       }
 
       pub new_heads : HoldHeads flat.tables d
@@ -371,7 +312,7 @@ module _ (flat : Flat) (c : ClusterOf) (attrs : AttrsTable) (plan : Plan) (ready
         actors = long;
         positions = ready.of.positions;
         counted = ready.of.counted;
-        runners = λ m s at. (let h : CameFrom m s = came m s at in next_runner m h.r h.g s (ready.of.runners m h.r h.r_at) h.low h.high h.again);
+        runners = λ m s at. (let h : CameFrom m s = came m s at in next_runner m h.r s (ready.of.runners m h.r h.r_at) h.again);
         keep = ready.of.keep;
         known = ready.known;
       }
@@ -380,18 +321,12 @@ module _ (flat : Flat) (c : ClusterOf) (attrs : AttrsTable) (plan : Plan) (ready
       new_cluster = subst (IsClusterOf flat) (sym d_is) next_cluster
 
       -- the values of an actor after its reinitialize body
-      next_cells : (model : PureTree) → IsCheckedOf model flat.checked → (m : ℕ) (r g s : Runner) → IsRunnerWith flat attrs.rows c m r → (m < length re.rows → g ≡ with_traced (slice_index_or re.rows m []) r)
-          → (length re.rows ≤ m → g ≡ r) → IsRestarted flat.checked g s
+      next_cells : (model : PureTree) → IsCheckedOf model flat.checked → (m : ℕ) (r s : Runner) → IsRunnerWith flat attrs.rows c m r → IsRestarted flat attrs.rows r s
           → runner_cells s ≡ (done_by model flat m body.Reinitialize (runner_cells r) (rates_in (attrs_at attrs.rows m)) nothing_read).frame.cells
-      next_cells model checked m (runner.Module x) g s is low high again =
-          let y = module_came m x g s is low again in
-          ap runner_cells y.1 ∙ done_cells m x y.0 (slice_index_or re.rows m []) is y.2 model checked
-      next_cells model checked m (runner.Sampler k) g s is low high again =
-          ap runner_cells (subst (λ (q : Runner). IsRestarted flat.checked q s) (plain m (runner.Sampler k) g (λ l. refl) low high) again) ∙ sym (done_bare model flat m body.Reinitialize (rates_in (attrs_at attrs.rows m)) nothing_read)
-      next_cells model checked m (runner.Sink k) g s is low high again =
-          ap runner_cells (subst (λ (q : Runner). IsRestarted flat.checked q s) (plain m (runner.Sink k) g (λ l. refl) low high) again) ∙ sym (done_bare model flat m body.Reinitialize (rates_in (attrs_at attrs.rows m)) nothing_read)
-      next_cells model checked m runner.Outside g s is low high again =
-          ap runner_cells (subst (λ (q : Runner). IsRestarted flat.checked q s) (plain m runner.Outside g (λ l. refl) low high) again) ∙ sym (done_bare model flat m body.Reinitialize (rates_in (attrs_at attrs.rows m)) nothing_read)
+      next_cells model checked m (runner.Module x) s is again = ap runner_cells again.1 ∙ done_cells m x again.0 is again.2 model checked
+      next_cells model checked m (runner.Sampler k) s is again = ap runner_cells again ∙ sym (done_bare model flat m body.Reinitialize (rates_in (attrs_at attrs.rows m)) nothing_read)
+      next_cells model checked m (runner.Sink k) s is again = ap runner_cells again ∙ sym (done_bare model flat m body.Reinitialize (rates_in (attrs_at attrs.rows m)) nothing_read)
+      next_cells model checked m runner.Outside s is again = ap runner_cells again ∙ sym (done_bare model flat m body.Reinitialize (rates_in (attrs_at attrs.rows m)) nothing_read)
 
       abbrev Reinitialized : PureTree → PeriodInfo → ℕ → List ℤ → Type 0
       Reinitialized model info m x = (b : List ℤ) × (slice_get (map runner_cells c.runners) m ≡ Some b) × (x ≡ reinitialized model flat m info b)
@@ -406,7 +341,7 @@ module _ (flat : Flat) (c : ClusterOf) (attrs : AttrsTable) (plan : Plan) (ready
               let h : CameFrom m s = came m s there in (
                 runner_cells h.r,
                 slice_get-map runner_cells c.runners m ∙ ap (option_map runner_cells) h.r_at,
-                sym (some_same (runner_cells s) x given) ∙ next_cells model checked m h.r h.g s (ready.of.runners m h.r h.r_at) h.low h.high h.again
+                sym (some_same (runner_cells s) x given) ∙ next_cells model checked m h.r s (ready.of.runners m h.r h.r_at) h.again
                     ∙ ap (λ (t : List AttrsOf). (done_by model flat m body.Reinitialize (runner_cells h.r) (rates_in (attrs_at t m)) nothing_read).frame.cells) (sym table)
                     ∙ sym (ap (λ (b : Bool). if b then (done_by model flat m body.Reinitialize (runner_cells h.r) (module_rates info m) nothing_read).frame.cells else runner_cells h.r) fresh),
               )

@@ -18,7 +18,7 @@ use Rattle.tdf_bind_connections.specs.declared.modules.PortRow.{PortRow}
 -- one port more
 module _ (tables : FlatTablesOf) (table : List AttrsOf) (n : ℕ) (port : PortRow) (at : slice_get tables.ports n ≡ Some port) where
   row_is : traced_row tables table n port ≡ traced_port tables table n
-  row_is = ap (λ o. record { port = place_of_port tables.ports n; signal = signal_of_port_row o; rate = rate_of_row table o }) (sym at)
+  row_is = ap (λ o. record { number = n; port = place_of_port tables.ports n; signal = signal_of_port_row o; rate = rate_of_row table o }) (sym at)
 
   more_ports : (m : ℕ) → traced_before tables n m ++ cons_option (number_if_traced tables m n port) [] ≡ traced_before tables (n + 1) m
   more_ports m = filtered_next (number_if_traced tables m) tables.ports n port [] (traced_before tables n m) (traced_before tables n m ++ cons_option (number_if_traced tables m n port) [])

@@ -25,6 +25,7 @@ rate_of_row table (Some port) = port_rate table port
 -- a port of this number, as it is kept for its module
 abbrev pub traced_port : FlatTablesOf → List AttrsOf → ℕ → TracedPort
 traced_port tables table number = record {
+  number = number;
   port = place_of_port tables.ports number;
   signal = signal_of_port_row (slice_get tables.ports number);
   rate = rate_of_row table (slice_get tables.ports number);

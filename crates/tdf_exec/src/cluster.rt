@@ -119,7 +119,8 @@ impl Cluster {
 
     /// How many entries of the period are still to come.
     pub fn waiting(&self) -> u64
-        ensures { (offset : ℕ) → due_count self.now offset ≤ result }
+        ensures left { result ≡ length self.now.entries - self.now.place }
+        ensures due { (offset : ℕ) → due_count self.now offset ≤ result }
     {
         self.plan.entries.len().saturating_sub(self.place) as u64
     }

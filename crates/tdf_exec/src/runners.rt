@@ -7,6 +7,8 @@ use tdf_exec_firing::Wires;
 /// A port that a body writes, whose signal is traced.
 #[derive(Clone, Copy, Debug, PartialEq, Eq)]
 pub struct TracedPort {
+    /// The number of the port in the flat model.
+    pub number: u32,
     /// The place of the port in its block.
     pub port: u32,
     /// The number of its signal.

@@ -19,10 +19,11 @@ impl Model for TracedPorts {
 }
 
 ghost use Rattle.std.specs.List.{list_any};
-ghost use Rattle.std.specs.Prelude.{◌≡◌, ◌&&◌, ◌++◌, ◌∷◌, ◌<◌, ◌≤◌, ℕ, [], All, IfOk, OnOk, Some, length, replicate, slice_get};
+ghost use Rattle.std.specs.Prelude.{◌≡◌, ◌&&◌, ◌++◌, ◌∷◌, ◌<◌, ◌≤◌, ℕ, [], All, IfOk, OnOk, Some, length, map, replicate, slice_get};
+ghost use Rattle.tdf_dynamic_plans.specs.Attributes.{RowsStandOnce};
 ghost use Rattle.tdf_dynamic_plans.specs.Rates.{AreRates};
 ghost use Rattle.tdf_exec_layout.specs.Traced.{is_trace_of};
-ghost use Rattle.tdf_exec.specs.machine.Tracing.{AreGivenTraced, AreMarked, AreTracedUpTo, is_written_traced, marked, put_traced, with_traced};
+ghost use Rattle.tdf_exec.specs.machine.Tracing.{AreGivenTraced, AreMarked, AreNumbered, AreTracedUpTo, is_written_traced, marked, put_traced, rated, with_traced};
 ghost use Rattle.tdf_streams.specs.Places.{place_of_port};
 ghost use Rattle.tdf_bind_connections.specs.declared.modules.PortRow.{PortRow as PortRowOf};
 
@@ -133,6 +134,7 @@ fn put_port(
         return Ok(());
     }
     rows[port.module as usize].put(TracedPort {
+        number,
         port: place,
         signal: port.signal,
         rate: attrs.port_rate(&flat.tables, number),
@@ -194,5 +196,32 @@ pub(crate) fn give_all(alloc: Global, rows: &mut Vec<TracedPorts>, runners: &mut
     for m in 0..rows.len() {
         let row = mem::replace(&mut rows[m], TracedPorts::new(alloc));
         give_traced(&mut runners[m], row.into_list());
+    }
+}
+
+/// A traced port with its rate under a table in which each module has one row.
+fn rated(tables: &FlatTables, attrs: &Attrs, port: TracedPort) -> TracedPort
+    requires rates { AreRates tables.now attrs.now.rows }
+    requires once { RowsStandOnce attrs.now.rows }
+    requires number { port.number < length tables.now.ports }
+    ensures { result ≡ rated tables.now attrs.now.rows port }
+{
+    TracedPort {
+        number: port.number,
+        port: port.port,
+        signal: port.signal,
+        rate: attrs.rate_of_port(tables, port.number),
+    }
+}
+
+/// Traced ports get their rates under a table in which each module has one row. It takes no memory.
+pub(crate) fn rate_ports(tables: &FlatTables, attrs: &Attrs, list: &mut Vec<TracedPort>)
+    requires rates { AreRates tables.now attrs.now.rows }
+    requires once { RowsStandOnce attrs.now.rows }
+    requires numbers { AreNumbered tables.now.ports list.old.items }
+    ensures { list.new.items ≡ map (rated tables.now attrs.now.rows) list.old.items }
+{
+    for j in 0..list.len() {
+        list[j] = rated(tables, attrs, list[j]);
     }
 }

@@ -1,4 +1,4 @@
--- How the next period begins with a new plan: what is made first, and how the modules begin again.
+-- How the next period begins with a new plan, and how the modules begin again.
 -- Source: own.
 use Rattle.std.specs.Prelude.{◌≡◌, ◌<◌, ◌≤◌, ℕ, List, length, Some, slice_get}
 use Rattle.tdf_dynamic_plans.specs.Attributes.{AttrsOf}
@@ -9,8 +9,7 @@ use Rattle.tdf_exec.specs.Crossing.{with_new_plan}
 use Rattle.tdf_exec.specs.Runners.{ModuleOf}
 use Rattle.tdf_exec.specs.declared.runners.Runner.{Runner}
 use Rattle.tdf_exec.specs.declared.runners.Runner.TheVariants as runner
-use Rattle.tdf_exec.specs.declared.runners.TracedPort.{TracedPort}
-use Rattle.tdf_exec.specs.machine.Tracing.{AreGivenTraced, AreTracedUpTo}
+use Rattle.tdf_exec.specs.machine.Tracing.{AreNumbered, with_rates}
 use Rattle.tdf_expr.specs.Made.{AreMadeFor}
 use Rattle.tdf_expr.specs.Runs.{Ran}
 use Rattle.tdf_expr.specs.declared.bodies.Body.TheVariants.{Reinitialize}
@@ -37,38 +36,30 @@ pub record HasRestarted (checked : Checked) (x y : ModuleOf) : Type 0 where
       (ports_before x.ports.spans (length x.ports.state.notified) nothing_read))
       (state_of y.frame.state y.ports.state)
 
-abbrev pub CanRestart : Checked → Runner → Type 0
-CanRestart checked (runner.Module x) = AreMadeFor checked x.block x.frame x.ports
-CanRestart checked _ = Unit {0}
+abbrev pub CanRestart : Flat → Runner → Type 0
+CanRestart flat (runner.Module x) =
+    AreMadeFor flat.checked x.block x.frame x.ports × AreNumbered flat.tables.ports x.traced
+CanRestart flat _ = Unit {0}
 
-abbrev pub IsRestarted : Checked → Runner → Runner → Type 0
-IsRestarted checked (runner.Module x) r =
-    (y : ModuleOf) × (r ≡ runner.Module y) × HasRestarted checked x y
-IsRestarted checked other r = r ≡ other
+-- the same of an actor, whose traced ports then have their rates under a table
+abbrev pub IsRestarted : Flat → List AttrsOf → Runner → Runner → Type 0
+IsRestarted flat table (runner.Module x) r = (y : ModuleOf) × (r ≡ runner.Module y)
+    × HasRestarted flat.checked (with_rates flat.tables table x) y
+IsRestarted flat table other r = r ≡ other
 
 -- the first n actors have begun again
-pub record AreRestarted (checked : Checked) (n : ℕ) (old new : List Runner) : Type 0 where
+pub record AreRestarted (flat : Flat) (table : List AttrsOf) (n : ℕ) (old new : List Runner)
+    : Type 0 where
   pub same : length new ≡ length old
   pub done : (m : ℕ) (r s : Runner) → m < n → slice_get old m ≡ Some r → slice_get new m ≡ Some s
-      → IsRestarted checked r s
+      → IsRestarted flat table r s
   pub waiting : (m : ℕ) → n ≤ m → slice_get new m ≡ slice_get old m
 
--- what is made before anything is moved: the rates in force, and the ports of each module whose
--- signals are traced
-pub record AreNextParts (flat : Flat) (attrs : List AttrsOf) (reads writes : List ℕ)
-    (rows : List (List TracedPort)) : Type 0 where
-  pub reads_are : reads ≡ read_rates (net_of flat.tables attrs)
-  pub writes_are : writes ≡ write_rates (net_of flat.tables attrs)
-  pub traced_are : AreTracedUpTo flat.tables attrs (length flat.tables.ports) rows
-
--- a cluster for which it has been moved, and whose modules have begun again
+-- a cluster for which the new table and plan are in force, and whose modules have begun again
 pub record HasReplaced (flat : Flat) (c : ClusterOf) (attrs : AttrsTable) (plan : Plan)
     (d : ClusterOf) : Type 0 where
-  pub rows : List (List TracedPort)
-  pub rest : List (List TracedPort)
-  pub given : List Runner
   pub d_is : d ≡ with_new_plan c attrs plan d.reads d.writes d.rings d.runners
-  pub parts : AreNextParts flat attrs.rows d.reads d.writes rows
+  pub reads_are : d.reads ≡ read_rates (net_of flat.tables attrs.rows)
+  pub writes_are : d.writes ≡ write_rates (net_of flat.tables attrs.rows)
   pub carried : AreCarried plan.bounds.items c.rings d.rings
-  pub given_are : AreGivenTraced (length rows) rows rest c.runners given
-  pub restarted : AreRestarted flat.checked (length given) given d.runners
+  pub restarted : AreRestarted flat attrs.rows (length c.runners) c.runners d.runners

@@ -5,7 +5,8 @@ use Rattle.std.specs.Prelude.{◌≡◌, ◌<◌, ◌≤◌, ◌&&◌, ◌++◌,
 use Rattle.tdf_bind_tables.specs.FlatTables.{FlatTablesOf}
 use Rattle.tdf_dynamic_plans.specs.Attributes.{AttrsOf}
 use Rattle.tdf_dynamic_plans.specs.Rates.{port_rate}
-use Rattle.tdf_exec.specs.Traced.{traced_port}
+use Rattle.tdf_exec.specs.Runners.{ModuleOf}
+use Rattle.tdf_exec.specs.Traced.{rate_of_row, traced_port}
 use Rattle.tdf_exec_layout.specs.Traced.{is_out, is_trace_of, number_if_traced}
 use Rattle.tdf_exec.specs.declared.runners.Runner.{Runner}
 use Rattle.tdf_exec.specs.declared.runners.Runner.TheVariants as runner
@@ -29,6 +30,7 @@ is_written_traced traces port = is_out port.kind && list_any (is_trace_of port.s
 
 abbrev pub traced_row : FlatTablesOf → List AttrsOf → ℕ → PortRow → TracedPort
 traced_row tables table number port = record {
+  number = number;
   port = place_of_port tables.ports number;
   signal = port.signal;
   rate = port_rate table port;
@@ -67,3 +69,16 @@ pub record AreGivenTraced (n : ℕ) (rows now : List (List TracedPort)) (old new
       → slice_get new m ≡ Some (with_traced (slice_index_or rows m []) r)
   pub waiting : (m : ℕ) → n ≤ m → slice_get new m ≡ slice_get old m
   pub left : (m : ℕ) → n ≤ m → slice_index_or now m [] ≡ slice_index_or rows m []
+
+-- traced ports have numbers of these
+abbrev pub AreNumbered : List PortRow → List TracedPort → Type 0
+AreNumbered ports list = (j : ℕ) (t : TracedPort) → slice_get list j ≡ Some t
+    → t.number < length ports
+
+-- a traced port has its rate under a table
+abbrev pub rated : FlatTablesOf → List AttrsOf → TracedPort → TracedPort
+rated tables table t = record t { rate = rate_of_row table (slice_get tables.ports t.number) }
+
+-- a module whose traced ports have theirs
+abbrev pub with_rates : FlatTablesOf → List AttrsOf → ModuleOf → ModuleOf
+with_rates tables table x = record x { traced = map (rated tables table) x.traced }

@@ -1,5 +1,4 @@
 use Rattle.std.proofs.Common.{rules, ◌≡◌, ◌∙◌, ℕ, List, None, ap, arith, length, subst, sym, true}
-use Rattle.tdf_dynamic_plans.proofs.Api.{modules_few}
 use Rattle.tdf_dynamic_plans.specs.Attributes.{AttrsOf, RowsStandOnce}
 use Rattle.tdf_dynamic_plans.specs.Known.{AttrsTable}
 use Rattle.tdf_dynamic_plans.specs.Rates.{AreRates, net_of}
@@ -7,15 +6,20 @@ use Rattle.tdf_exec.proofs.Installing.{can_restart, fit_in, has, reads_long, wri
 use Rattle.tdf_exec.specs.Cluster.{ClusterOf, next_offset}
 use Rattle.tdf_exec.specs.Crossing.{IsReadyFor, with_new_plan}
 use Rattle.tdf_exec.specs.contracts.cluster.Cluster.{the_view}
-use Rattle.tdf_exec.specs.machine.Tracing.{AreGivenTraced}
+use Rattle.tdf_exec.specs.machine.Counted.{AreCounted}
+use Rattle.tdf_exec.specs.machine.Restarting.{AreRestarted}
 use Rattle.tdf_rings.specs.Carried.{FitIn}
-use Rattle.tdf_streams.proofs.Api.{are_rates, is_wired}
+use Rattle.tdf_schedule.specs.declared.entry.Entry.{Entry}
+use Rattle.tdf_streams.proofs.Api.{are_rates}
 use Rattle.tdf_streams.specs.Periods.{read_rates, write_rates}
 use Rattle.tdf_exec.proofs.cluster.Cluster.begin_new.Goals as goal
 
-pub next_parts-requires-clause-rates : goal.next_parts-requires-clause-rates
-next_parts-requires-clause-rates c =
+pub restart_all-requires-clause-rates : goal.restart_all-requires-clause-rates
+restart_all-requires-clause-rates c =
     are_rates c.args.flat.now (c.law_laid.ensures.laid c.args.flat.now c.requires.sound).limits c.args.attrs.rows c.requires.ready.attributes.allowed
+
+pub restart_all-requires-clause-once : goal.restart_all-requires-clause-once
+restart_all-requires-clause-once c = c.requires.ready.rows.once
 
 pub carry-requires : goal.carry-requires
 carry-requires c =
@@ -25,19 +29,11 @@ carry-requires c =
     subst (λ (l : List ℕ). FitIn l (the_view c.self.inside).rings) (sym c.deref.ensures.value)
     (fit_in c.args.flat.now (the_view c.self.inside) c.args.attrs c.args.plan ready (c.law_laid.ensures.laid c.args.flat.now c.requires.sound) c.law_laid.ensures.present c.requires.sound end)
 
-pub give_all-requires : goal.give_all-requires
-give_all-requires c =
+pub restart_all-requires-clause-can : goal.restart_all-requires-clause-can
+restart_all-requires-clause-can c =
     let ready : IsReadyFor c.args.flat.now (the_view c.self.inside) c.args.attrs c.args.plan =
     subst (λ (s : ClusterOf). IsReadyFor c.args.flat.now s c.args.attrs c.args.plan) (sym c.self.view_is) c.requires.ready in
-    let few = modules_few c.args.flat.now.tables (is_wired c.args.flat.now (c.law_laid.ensures.laid c.args.flat.now c.requires.sound).limits) in
-    let rows = c.in-Ok.ensures.traced.long in let actors = ready.of.actors in
-    omega (arith, few, rows, actors)
-
-pub restart_all-requires : goal.restart_all-requires
-restart_all-requires c =
-    let ready : IsReadyFor c.args.flat.now (the_view c.self.inside) c.args.attrs c.args.plan =
-    subst (λ (s : ClusterOf). IsReadyFor c.args.flat.now s c.args.attrs c.args.plan) (sym c.self.view_is) c.requires.ready in
-    can_restart c.args.flat.now (the_view c.self.inside) c.args.attrs c.args.plan ready c.in-Ok.parts.rows.items c.give_all.new.rows.items c.give_all.new.runners.items c.give_all.ensures
+    can_restart c.args.flat.now (the_view c.self.inside) c.args.attrs c.args.plan ready
 
 pub invariant_of-self-2 : goal.invariant_of-self-2
 invariant_of-self-2 c =
@@ -46,7 +42,7 @@ invariant_of-self-2 c =
     let end : next_offset (the_view c.self.inside) ≡ None = ready.of.over (subst (λ (s : ClusterOf). s.crossed ≡ true) (sym c.self.view_is) c.requires.crossed) in
     let h = has c.args.flat.now (the_view c.self.inside) c.args.attrs c.args.plan ready (c.law_laid.ensures.laid c.args.flat.now c.requires.sound) c.law_laid.ensures.present c.requires.sound end in
     let long = ready.long in let room = c.self.invariant.room in let kept = ap (λ (t : AttrsTable). length t.rows) (c.recycle.ensures.same ∙ c.replace-left.ensures.after) in
-    record { sorted = c.law_laid.ensures.sorted _ _ _ c.args.plan.entries.items h.plan_is.planned; counted = c.in-Ok.ensures.counted; room = omega (arith, long, room, kept) }
+    record { sorted = c.law_laid.ensures.sorted _ _ _ c.args.plan.entries.items h.plan_is.planned; counted = subst (λ (l : List Entry). AreCounted l c.set_firings.new.counts.items) c.deref-3.ensures.value c.set_firings.ensures.each; room = omega (arith, long, room, kept) }
 
 pub set_edge_rates-requires-clause-rates : goal.set_edge_rates-requires-clause-rates
 set_edge_rates-requires-clause-rates c =
@@ -77,17 +73,10 @@ returns-clause-ok c =
     let rows : c.deref-2.result.now ≡ c.args.attrs.rows = search rules in
     let same = c.recycle.ensures.same ∙ c.replace-left.ensures.after in
     record {
-      rows = c.in-Ok.parts.rows.items;
-      rest = c.give_all.new.rows.items;
-      given = c.give_all.new.runners.items;
       d_is = ap (λ (t : AttrsTable). with_new_plan (the_view c.self.inside) t c.args.plan c.set_edge_rates.new.reads.items c.set_edge_rates.new.writes.items c.carry.new.rings.items c.restart_all.new.runners.items) same
           ∙ ap (λ (s : ClusterOf). with_new_plan s c.args.attrs c.args.plan c.set_edge_rates.new.reads.items c.set_edge_rates.new.writes.items c.carry.new.rings.items c.restart_all.new.runners.items) c.self.view_is;
-      parts = record {
-        reads_are = c.set_edge_rates.ensures.reads ∙ ap (λ (t : List AttrsOf). read_rates (net_of tables t)) rows;
-        writes_are = c.set_edge_rates.ensures.writes ∙ ap (λ (t : List AttrsOf). write_rates (net_of tables t)) rows;
-        traced_are = c.in-Ok.ensures.traced;
-      };
+      reads_are = c.set_edge_rates.ensures.reads ∙ ap (λ (t : List AttrsOf). read_rates (net_of tables t)) rows;
+      writes_are = c.set_edge_rates.ensures.writes ∙ ap (λ (t : List AttrsOf). write_rates (net_of tables t)) rows;
       carried = search rules;
-      given_are = subst (λ (s : ClusterOf). AreGivenTraced (length c.in-Ok.parts.rows.items) c.in-Ok.parts.rows.items c.give_all.new.rows.items s.runners c.give_all.new.runners.items) c.self.view_is c.give_all.ensures;
-      restarted = c.restart_all.ensures;
+      restarted = subst (λ (s : ClusterOf). AreRestarted c.args.flat.now c.args.attrs.rows (length s.runners) s.runners c.restart_all.new.runners.items) c.self.view_is c.restart_all.ensures;
     }
