@@ -5,4 +5,6 @@ pub mod LineLaws
 pub mod LongestLaws
 pub mod OnlyLaws
 pub mod PieceLaws
+pub mod PrintableLaws
 pub mod WordLaws
+pub mod WordRuns

@@ -1,5 +1,5 @@
 -- The first line of a text and the lines after it.
-use Rattle.std.proofs.Common.{◌≡◌, ◌≢◌, ℕ, zero, suc, ◌+◌, ◌-◌, ◌<◌, ◌≤◌, Bool, true, false, List, [], ◌∷◌, ◌++◌, length, take, drop, refl, ap, sym, ◌∙◌, cond, subst, append_assoc, arith, not, nat_eq, add-one, length-drop}
+use Rattle.std.proofs.Common.{◌≡◌, ◌≢◌, ℕ, zero, suc, ◌+◌, ◌-◌, ◌<◌, ◌≤◌, Bool, true, false, List, [], ◌∷◌, ◌++◌, length, take, drop, refl, ap, sym, ◌∙◌, cond, subst, append_assoc, arith, not, nat_eq, add-one, length-drop, map}
 use Rattle.std.proofs.lemmas.List.{append-nil, take_all, drop_all, take_rest, map-append}
 use Rattle.std.proofs.lemmas.List.Sums.{prefix_len-le-length}
 use Rattle.std.proofs.lemmas.Bool.{eqb-true}
@@ -87,6 +87,35 @@ rows-step number text h = rw (lines_of-step text h) refl
 pub rows-none : (number : ℕ) (text : List ℕ) → length text ≡ 0 → rows_from number (lines_of text) ≡ []
 unfolding rows_from
 rows-none number text h = rw (lines_of-none text h) refl
+
+-- the first line has these pieces
+rows-first : (number : ℕ) (text line after : List ℕ) (old new : List (List ℕ)) → 0 < length text
+    → line ≡ before_first is_line_end text → after ≡ after_first is_line_end text → old ≡ [] → new ≡ old ++ pieces_of (without_comment line)
+    → rows_from number (lines_of text) ≡ row_unless_bare number new ++ rows_from (number + 1) (lines_of after)
+rows-first number text line after old new h e f n g =
+    let same : pieces_of (without_comment (before_first is_line_end text)) ≡ new =
+    ap (λ (l : List ℕ). pieces_of (without_comment l)) (sym e) ∙ sym (ap (λ (o : List (List ℕ)). o ++ pieces_of (without_comment line)) n) ∙ sym g in
+    rows-step number text h
+    ∙ ap (λ (ps : List (List ℕ)). row_unless_bare number ps ++ rows_from (number + 1) (lines_of (after_first is_line_end text))) same
+    ∙ ap (λ (a : List ℕ). row_unless_bare number new ++ rows_from (number + 1) (lines_of a)) (sym f)
+
+-- it has none
+pub rows-bare : {A : Type 0} (f : A → List ℕ) (number : ℕ) (text line after : List ℕ) (old : List (List ℕ)) (items : List A) → 0 < length text
+    → line ≡ before_first is_line_end text → after ≡ after_first is_line_end text → old ≡ [] → map f items ≡ old ++ pieces_of (without_comment line)
+    → length items ≡ 0 → rows_from number (lines_of text) ≡ rows_from (number + 1) (lines_of after)
+rows-bare f number text line after old [] h e g n o b = rows-first number text line after old [] h e g n o
+rows-bare f number text line after old (x ∷ xs) h e g n o b = absurd (omega (arith, b))
+
+pub map-none : {A : Type 0} (f : A → List ℕ) (items : List A) → length items ≡ 0 → map f items ≡ []
+map-none f [] h = refl
+map-none f (x ∷ xs) h = absurd (omega (arith, h))
+
+-- it has some
+pub rows-row : {A : Type 0} (f : A → List ℕ) (number : ℕ) (text line after : List ℕ) (old : List (List ℕ)) (items : List A) → 0 < length text
+    → line ≡ before_first is_line_end text → after ≡ after_first is_line_end text → old ≡ [] → map f items ≡ old ++ pieces_of (without_comment line)
+    → length items ≢ 0 → rows_from number (lines_of text) ≡ (record { number = number; pieces = map f items }) ∷ rows_from (number + 1) (lines_of after)
+rows-row f number text line after old [] h e g n o b = absurd (b refl)
+rows-row f number text line after old (x ∷ xs) h e g n o b = rows-first number text line after old (f x ∷ map f xs) h e g n o
 
 pub push-bare : (number : ℕ) (pieces : List (List ℕ)) → length pieces ≡ 0 → row_unless_bare number pieces ≡ []
 push-bare number [] h = refl

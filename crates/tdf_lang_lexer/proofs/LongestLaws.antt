@@ -67,7 +67,7 @@ split (w ∷ ws) fraction (n ∷ ns) rest byte e h k =
     wider byte w n ns rest ws fraction f (split ws fraction ns rest byte g (and_right (is_digit w) (list_all is_digit ws) h) k)
 
 -- when a byte joins
-joins_part : (first byte : ℕ) (more rest : List ℕ) → is_part first ≡ true → is_part byte ≡ true → joins (first ∷ more) byte rest ≡ true
+pub joins_part : (first byte : ℕ) (more rest : List ℕ) → is_part first ≡ true → is_part byte ≡ true → joins (first ∷ more) byte rest ≡ true
 joins_part first byte more rest e f = rw (e, f) refl
 
 joins_point : (first : ℕ) (more rest : List ℕ) → is_part first ≡ true → list_all is_digit (first ∷ more) ≡ true → begins_with_digit rest ≡ true

@@ -20,7 +20,7 @@ slice_range-none xs i = let e : i - i ≡ 0 = omega arith in rw e refl
 slice_range-one : (xs : List ℕ) (i : ℕ) → i < length xs → slice_range xs i (i + 1) ≡ get_or xs i 0 ∷ []
 slice_range-one xs i k = slice_range-more xs i i (omega arith) k ∙ ap (λ (l : List ℕ). l ++ get_or xs i 0 ∷ []) (slice_range-none xs i)
 
-drop-more : (xs : List ℕ) (i : ℕ) → i < length xs → drop i xs ≡ get_or xs i 0 ∷ drop (i + 1) xs
+pub drop-more : (xs : List ℕ) (i : ℕ) → i < length xs → drop i xs ≡ get_or xs i 0 ∷ drop (i + 1) xs
 drop-more xs i k = rw (add-one, drop-cons xs i 0 k) refl
 
 -- the byte makes the piece longer
@@ -76,14 +76,14 @@ pub moved : (new old put left rest : List (List ℕ)) → new ≡ old ++ put →
 moved new old put left rest e f =
     ap (λ (l : List (List ℕ)). l ++ rest) e ∙ append_assoc old put rest ∙ ap (λ (l : List (List ℕ)). old ++ l) (sym f)
 
-pub pieces-done : (line code : List ℕ) (from i : ℕ) (list out : List (List ℕ)) → code ≡ without_comment line → i ≡ length code
+pub pieces-done : (line code : List ℕ) (from i : ℕ) (old list out : List (List ℕ)) → code ≡ without_comment line → i ≡ length code
     → out ≡ list ++ unless_empty (take (length code - from) (drop from code))
-    → list ++ pieces_left code from i ≡ pieces_left code 0 0 → out ≡ pieces_of (without_comment line)
-pieces-done line code from i list out e f g h =
+    → list ++ pieces_left code from i ≡ old ++ pieces_left code 0 0 → out ≡ old ++ pieces_of (without_comment line)
+pieces-done line code from i old list out e f g h =
     g ∙ ap (λ (l : List ℕ). list ++ unless_empty l) (take_rest code from)
     ∙ ap (λ (l : List (List ℕ)). list ++ l) (sym (left-all code from))
     ∙ ap (λ (j : ℕ). list ++ pieces_left code from j) (sym f)
-    ∙ h ∙ ap (λ (l : List ℕ). pieces_left l 0 0) e ∙ left-none line
+    ∙ h ∙ ap (λ (l : List ℕ). old ++ pieces_left l 0 0) e ∙ ap (λ (l : List (List ℕ)). old ++ l) (left-none line)
 
 pub ruleset put_laws = (put-none, put-one, append-nil, map-append)
 

@@ -1,14 +1,13 @@
 //! The pieces of a line by the longest match.
 
-ghost use Rattle.std.specs.List.{list_all, position_or_len};
+ghost use Rattle.std.specs.List.{list_all, position_or_len, prefix_len};
 ghost use Rattle.std.specs.Prelude.{drop, slice_index, IfOk, OnOk, length, map, slice_range, ◌++◌, ◌+◌, ◌<◌, ◌≡◌, ◌≤◌};
 ghost use Rattle.tdf_base.specs.Digits.{is_digit};
 ghost use Rattle.tdf_base.specs.Names.{is_letter, is_part};
 ghost use Rattle.tdf_lang_lexer.specs.Pieces.{begins_with_digit, without_comment, is_comment, is_pair, is_space, joins, pieces_of};
-ghost use Rattle.tdf_lang_lexer.specs.machine.Pieces.{pieces_left};
+ghost use Rattle.tdf_lang_lexer.specs.machine.Pieces.{pieces_left, word_end};
 ghost use Rattle.tdf_lang_lexer.specs.Text.{unless_empty};
 
-use std::alloc::Global;
 use tdf_base::Memory;
 
 pub(crate) fn is_letter(byte: u8) -> bool
@@ -118,22 +117,45 @@ fn step<'t>(
     Ok(i)
 }
 
+/// How many bytes of a word stand first.
+#[tactic(auto, using(crate::proofs::WordRuns::run_laws))]
+fn part_len(text: &[u8]) -> usize
+    ensures count { result ≡ prefix_len is_part text.now }
+    ensures within { result ≤ length text.now }
+{
+    text.iter().take_while(|byte| is_part(**byte)).count()
+}
+
+/// Where a word from `from` that has come to `at` ends; `at` itself, where no word is begun.
+#[tactic(auto, using(crate::proofs::WordRuns::run_laws))]
+fn word_end(code: &[u8], from: usize, at: usize) -> usize
+    requires within { at ≤ length code.now }
+    ensures { result ≡ word_end code.now from at }
+{
+    if from < at && is_part(code[from]) {
+        return at + part_len(&code[at..]);
+    }
+    at
+}
+
 fn code_len(line: &[u8]) -> usize
     ensures { result ≡ position_or_len is_comment line.now }
 {
     line.iter().take_while(|byte| **byte != b'#').count()
 }
 
-/// The pieces of a line.
-pub(crate) fn pieces<'t>(alloc: Global, line: &'t [u8]) -> Result<Vec<&'t [u8]>, Memory>
-    ensures { IfOk result (λ v. map (λ p. p.now) v.items ≡ pieces_of (without_comment line.now)) }
+/// Appends the pieces of a line.
+pub(crate) fn push_pieces<'t>(line: &'t [u8], list: &mut Vec<&'t [u8]>) -> Result<(), Memory>
+    ensures { OnOk result (map (λ p. p.now) list.new.items
+        ≡ map (λ p. p.now) list.old.items ++ pieces_of (without_comment line.now)) }
 {
     let code = &line[..code_len(line)];
-    let mut list = Vec::new(alloc);
     let mut from = 0;
-    for i in 0..code.len() {
-        from = step(&mut list, code, from, i)?;
+    let mut at = 0;
+    while at < code.len() {
+        from = step(list, code, from, at)?;
+        at = word_end(code, from, at + 1);
     }
-    put(&mut list, &code[from..])?;
-    Ok(list)
+    put(list, &code[from..])?;
+    Ok(())
 }

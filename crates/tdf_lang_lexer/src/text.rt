@@ -1,9 +1,10 @@
 //! The bytes and the lines of a text.
 
-ghost use Rattle.std.specs.List.{after_first, before_first, list_all, position_or_len};
-ghost use Rattle.std.specs.Prelude.{length, ◌≡◌, ◌≤◌};
+ghost use Rattle.std.specs.List.{after_first, before_first, list_all, position_or_len, prefix_len};
+ghost use Rattle.std.specs.Prelude.{drop, length, take, ◌≡◌, ◌+◌, ◌≤◌};
 ghost use Rattle.tdf_base.specs.Limits.{longest_text};
 ghost use Rattle.tdf_lang_lexer.specs.Text.{is_allowed_byte, fault_of, is_line_end, line_fault_of, lines_of};
+ghost use Rattle.tdf_lang_lexer.specs.machine.Texts.{is_printable, length_fault};
 
 use tdf_base::LONGEST_LINE;
 
@@ -23,17 +24,26 @@ fn line_len(text: &[u8]) -> usize
     text.iter().take_while(|byte| **byte != b'\n').count()
 }
 
+/// What stands before a byte of a text, and after it; before and after its end.
+#[tactic(auto, using(crate::proofs::LineLaws::cut_laws))]
+fn cut_at<'t>(text: &'t [u8], end: usize) -> (&'t [u8], &'t [u8])
+    requires { end ≤ length text.now }
+    ensures before { result.0.now ≡ take end text.now }
+    ensures after { result.1.now ≡ drop (end + 1) text.now }
+{
+    if end < text.len() {
+        return (&text[..end], &text[end + 1..]);
+    }
+    (text, &[])
+}
+
 /// The first line, without its LF, and what stands after it.
 #[tactic(auto, using(crate::proofs::LineLaws::cut_laws))]
 pub(crate) fn cut_line<'t>(text: &'t [u8]) -> (&'t [u8], &'t [u8])
     ensures line { result.0.now ≡ before_first is_line_end text.now }
     ensures rest { result.1.now ≡ after_first is_line_end text.now }
 {
-    let end = line_len(text);
-    if end < text.len() {
-        return (&text[..end], &text[end + 1..]);
-    }
-    (text, &[])
+    cut_at(text, line_len(text))
 }
 
 fn is_allowed(byte: u8) -> bool
@@ -60,6 +70,43 @@ fn line_fault(line: u32, bytes: &[u8]) -> Option<TextFault>
     None
 }
 
+fn is_printable(byte: u8) -> bool
+    ensures { result ≡ is_printable byte }
+{
+    b' ' <= byte && byte <= b'~'
+}
+
+/// How many printable bytes stand first.
+fn printable_len(text: &[u8]) -> usize
+    ensures { result ≡ prefix_len is_printable text.now }
+{
+    text.iter().take_while(|byte| is_printable(**byte)).count()
+}
+
+fn length_fault(line: u32, bytes: &[u8]) -> Option<TextFault>
+    ensures { result ≡ length_fault line bytes.now }
+{
+    if bytes.len() > LONGEST_LINE {
+        return Some(TextFault::LongLine { line });
+    }
+    None
+}
+
+/// The fault of the first line, if it has one, and what stands after the line. A line of printable bytes is read once.
+#[tactic(auto, using(crate::proofs::PrintableLaws::printable_laws))]
+fn checked_line<'t>(number: u32, text: &'t [u8]) -> (Option<TextFault>, &'t [u8])
+    ensures fault { result.0 ≡ line_fault_of number (before_first is_line_end text.now) }
+    ensures rest { result.1.now ≡ after_first is_line_end text.now }
+{
+    let end = printable_len(text);
+    if end < text.len() && text[end] != b'\n' {
+        let (line, after) = cut_line(text);
+        return (line_fault(number, line), after);
+    }
+    let (line, after) = cut_at(text, end);
+    (length_fault(number, line), after)
+}
+
 /// The fault of the least line that has one. It takes no memory.
 #[tactic(auto, using(crate::proofs::LineLaws::fault_laws), unfolding(crate::specs::Text::fault_of))]
 pub fn text_fault(text: &[u8]) -> Option<TextFault>
@@ -69,8 +116,8 @@ pub fn text_fault(text: &[u8]) -> Option<TextFault>
     let mut rest = text;
     let mut number = 1;
     while !rest.is_empty() {
-        let (line, after) = cut_line(rest);
-        if let Some(fault) = line_fault(number, line) {
+        let (fault, after) = checked_line(number, rest);
+        if let Some(fault) = fault {
             return Some(fault);
         }
         rest = after;

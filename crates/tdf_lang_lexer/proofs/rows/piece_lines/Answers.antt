@@ -8,8 +8,8 @@ pub loop-rest-preserved : goal.loop-rest-preserved
 loop-rest-preserved c =
     let some : 0 < length c.loop-rest.rest.now = grind arith in
     record {
-      rows = rows-pushed c.loop-rest.number c.loop-rest.rest.now c.cut_line.result.0.now c.cut_line.result.1.now (map (λ p. p.now) c.in_ok-pieces.field-0.items)
+      rows = rows-pushed c.loop-rest.number c.loop-rest.rest.now c.cut_line.result.0.now c.cut_line.result.1.now (map (λ p. p.now) c.in_ok-row_pieces.field-0.items)
           (rows_from 1 (lines_of c.args.text.now)) (map row c.loop-rest.lines.items) (map row c.push_line.new.lines.items)
-          some c.cut_line.ensures.line c.cut_line.ensures.rest c.in_ok-pieces.ensures c.in_ok-push_line.ensures c.loop-rest.invariant.rows;
+          some c.cut_line.ensures.line c.cut_line.ensures.rest c.in_ok-row_pieces.ensures c.in_ok-push_line.ensures c.loop-rest.invariant.rows;
       within = omega (arith, ap length c.cut_line.ensures.rest, length-after_first is_line_end c.loop-rest.rest.now some);
     }
