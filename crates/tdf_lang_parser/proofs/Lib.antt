@@ -13,4 +13,5 @@ pub mod SoFar
 pub mod SpellReads
 pub mod StmtLaws
 pub mod TableKeeps
+pub mod TurnLaws
 pub mod WalkLaws

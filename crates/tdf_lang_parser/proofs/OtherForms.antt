@@ -1,19 +1,22 @@
 -- The forms that a table doesn't have.
-use Rattle.std.proofs.Common.{◌≡◌, ℕ, zero, suc, ◌<◌, ◌≤◌, Bool, true, false, cond, List, [], map, Option, None, Vec, refl, ap, ◌∙◌, arith}
+use Rattle.std.proofs.Common.{◌≡◌, ℕ, zero, suc, ◌≤◌, Bool, true, false, cond, List, [], map, Option, None, Vec, refl, ap, ◌∙◌, arith}
 use Rattle.std.specs.declared.alloc.Global.{Global}
 use Rattle.tdf_lang_lines.specs.FormViews.{pure_form}
-use Rattle.tdf_lang_parser.specs.Items.{attr_of, tdf_line_of, de_line_of, member_of, plain_of}
+use Rattle.tdf_lang_parser.specs.Faults.{kind_of_body}
+use Rattle.tdf_lang_parser.specs.Items.{stmt_of, attr_of, tdf_line_of, de_line_of, member_of, net_line_of, plain_of}
 use Rattle.tdf_lang_tree.specs.Forms.{Form}
-use Rattle.tdf_lang_parser.specs.views.PlaceViews.{shown_frames}
-use Rattle.tdf_lang_parser.specs.machine.Places.{PLost, Outer, Owner, OwnInitialize, OwnProcess, Frame, goes_initialize, goes_process, goes_body, goes_de, more_de, goes_tdf, more_tdf}
+use Rattle.tdf_lang_parser.specs.views.PlaceViews.{begun_de, shown_frames}
+use Rattle.tdf_lang_parser.specs.machine.Places.{PLost, Outer, Owner, OwnInitialize, OwnProcess, Frame, goes_attributes, goes_initialize, goes_net, goes_process, goes_body, goes_de, goes_top, more_attributes, more_body, more_de, more_net, more_top, goes_tdf, more_tdf, part_of}
 use Rattle.tdf_lang_parser.specs.declared.places.Frame as open_frame
+use Rattle.tdf_lang_parser.specs.declared.places.InDe.TheVariants as de
 use Rattle.tdf_lang_parser.proofs.StmtLaws.{frames_none}
-use Rattle.tdf_lang_tree.specs.Pure.{PureTdf, PureDe, PureProcess}
-use Rattle.tdf_lang_tree.specs.Views.{pure_stmt}
+use Rattle.tdf_lang_tree.specs.Pure.{PureComposite, PureStmt, PureTdf, PureDe}
+use Rattle.tdf_lang_tree.specs.Views.{pure_process, pure_stmt}
 use Rattle.tdf_lang_tree.specs.declared.stmt.Stmt.{Stmt}
 use Rattle.tdf_lang_lines.specs.declared.form.LineForm.{LineForm}
 use Rattle.tdf_lang_lines.specs.declared.form.LineForm.TheVariants as lf
 use Rattle.tdf_lang_tree.specs.declared.blocks.PortKind.{PortKind}
+use Rattle.tdf_lang_tree.specs.declared.blocks.Process.{Process}
 use Rattle.tdf_lang_tree.specs.declared.expr.Expr.{Expr}
 use Rattle.tdf_lang_tree.specs.declared.expr.Index.{Index}
 use Rattle.tdf_lang_tree.specs.declared.names.Lit.{Lit}
@@ -61,12 +64,6 @@ pub initialize_other : (o : Outer) (t : PureTdf) (n : ℕ) (form : LineForm) →
 initialize_other o t n (lf.Initial x0 x1 x2) h = absurd (h x0 x1 x2 refl)
 initialize_other o t n _ h = refl
 
-pub process_other : (o : Outer) (d : PureDe) (p : PureProcess) (n : ℕ) (form : LineForm) → ((x0 : List ℕ) → form ≡ lf.Sensitive x0 → ⊥) → (form ≡ lf.DontInitialize → ⊥)
-    → goes_process o d p n (pure_form form) ≡ goes_body (OwnProcess o d p) [] [] n (pure_form form)
-process_other o d p n (lf.Sensitive x0) h k = absurd (h x0 refl)
-process_other o d p n lf.DontInitialize h k = absurd (k refl)
-process_other o d p n _ h k = refl
-
 pub de_other : (o : Outer) (declares : Bool) (d : PureDe) (n : ℕ) (form : LineForm) → (form ≡ lf.Process → ⊥) → (form ≡ lf.End → ⊥)
     → goes_de o declares d n (pure_form form) ≡ cond declares (more_de o d (de_line_of n (pure_form form))) PLost
 de_other o true d n lf.Process h k = absurd (h refl)
@@ -87,16 +84,40 @@ tdf_first o zero t n lf.Reinitialize q h0 h1 h2 h3 h4 h5 = absurd (h4 refl)
 tdf_first o zero t n lf.End q h0 h1 h2 h3 h4 h5 = absurd (h5 refl)
 tdf_first o zero t n _ q h0 h1 h2 h3 h4 h5 = refl
 
-pub tdf_late : (o : Outer) (parts : ℕ) (t : PureTdf) (n : ℕ) (form : LineForm) → 0 < parts → (form ≡ lf.SetAttributes → ⊥) → (form ≡ lf.Initialize → ⊥) → (form ≡ lf.Processing → ⊥)
-    → (form ≡ lf.ChangeAttributes → ⊥) → (form ≡ lf.Reinitialize → ⊥) → (form ≡ lf.End → ⊥) → PLost ≡ goes_tdf o parts t n (pure_form form)
-tdf_late o zero t n form q h0 h1 h2 h3 h4 h5 = absurd (omega (arith, q))
-tdf_late o (suc parts) t n lf.SetAttributes q h0 h1 h2 h3 h4 h5 = absurd (h0 refl)
-tdf_late o (suc parts) t n lf.Initialize q h0 h1 h2 h3 h4 h5 = absurd (h1 refl)
-tdf_late o (suc parts) t n lf.Processing q h0 h1 h2 h3 h4 h5 = absurd (h2 refl)
-tdf_late o (suc parts) t n lf.ChangeAttributes q h0 h1 h2 h3 h4 h5 = absurd (h3 refl)
-tdf_late o (suc parts) t n lf.Reinitialize q h0 h1 h2 h3 h4 h5 = absurd (h4 refl)
-tdf_late o (suc parts) t n lf.End q h0 h1 h2 h3 h4 h5 = absurd (h5 refl)
-tdf_late o (suc parts) t n _ q h0 h1 h2 h3 h4 h5 = refl
+pub attributes_other : (o : Outer) (t : PureTdf) (n : ℕ) (form : LineForm) → (form ≡ lf.End → ⊥)
+    → goes_attributes o t n (pure_form form) ≡ more_attributes o t (attr_of n (pure_form form))
+attributes_other o t n lf.End h = absurd (h refl)
+attributes_other o t n _ h = refl
+
+pub net_other : (o : Outer) (c : PureComposite) (n : ℕ) (form : LineForm) → (form ≡ lf.End → ⊥)
+    → goes_net o c n (pure_form form) ≡ more_net o c (net_line_of n (pure_form form))
+net_other o c n lf.End h = absurd (h refl)
+net_other o c n _ h = refl
+
+pub top_other : (o : Outer) (c : PureComposite) (n : ℕ) (form : LineForm) → (form ≡ lf.End → ⊥)
+    → goes_top o c n (pure_form form) ≡ more_top o c (member_of n (pure_form form))
+top_other o c n lf.End h = absurd (h refl)
+top_other o c n _ h = refl
+
+pub begun_other : (o : Outer) (d : PureDe) (p : Process) (n : ℕ) (form : LineForm) → (form ≡ lf.DontInitialize → ⊥)
+    → begun_de o d (de.Process p) n (pure_form form) ≡ goes_body (OwnProcess o d (pure_process p)) [] [] n (pure_form form)
+begun_other o d p n lf.DontInitialize h = absurd (h refl)
+begun_other o d p n _ h = refl
+
+pub process_begins : (o : Outer) (d : PureDe) (p : Process) (n : ℕ) (form : LineForm) → ((x0 : List ℕ) → form ≡ lf.Sensitive x0 → ⊥)
+    → goes_process o d (pure_process p) n (pure_form form) ≡ begun_de o d (de.Process p) n (pure_form form)
+process_begins o d p n (lf.Sensitive x0) h = absurd (h x0 refl)
+process_begins o d p n lf.DontInitialize h = refl
+process_begins o d p n _ h = refl
+
+pub body_other : (o : Owner) (fs : List Frame) (acc : List PureStmt) (n : ℕ) (form : LineForm) → ((x0 : Expr) → form ≡ lf.If x0 → ⊥)
+    → ((x0 : List ℕ) (x1 : ℕ) (x2 : Limit) → form ≡ lf.For x0 x1 x2 → ⊥) → (form ≡ lf.Else → ⊥) → (form ≡ lf.End → ⊥)
+    → goes_body o fs acc n (pure_form form) ≡ more_body o fs acc (stmt_of (kind_of_body (part_of o)) n (pure_form form))
+body_other o fs acc n (lf.If x0) h0 h1 h2 h3 = absurd (h0 x0 refl)
+body_other o fs acc n (lf.For x0 x1 x2) h0 h1 h2 h3 = absurd (h1 x0 x1 x2 refl)
+body_other o fs acc n lf.Else h0 h1 h2 h3 = absurd (h2 refl)
+body_other o fs acc n lf.End h0 h1 h2 h3 = absurd (h3 refl)
+body_other o fs acc n _ h0 h1 h2 h3 = refl
 
 -- an empty body begins
 pub body_begins : (owner : Owner) (fs : List open_frame.Frame) (acc : List Stmt) (n : ℕ) (f : Form) → fs ≡ [] → acc ≡ []

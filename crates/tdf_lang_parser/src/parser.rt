@@ -1,6 +1,6 @@
 //! From a text to its tree.
 
-ghost use Rattle.std.specs.Prelude.{IfErr, IfOk, Some, length, map, ◌+◌, ◌∷◌, ◌≡◌, ◌≤◌};
+ghost use Rattle.std.specs.Prelude.{IfErr, IfOk, OnOk, Some, length, map, ◌+◌, ◌∷◌, ◌≡◌, ◌≤◌};
 ghost use Rattle.tdf_base.specs.Limits.{longest_text};
 ghost use Rattle.tdf_lang_parser.specs.Formed.{IsFormed};
 ghost use Rattle.tdf_lang_parser.specs.Head.{SpellsVersion};
@@ -21,6 +21,7 @@ use crate::heads::{read_version, resolution_line};
 use crate::places::{Outer, Place};
 use crate::turns::goes;
 use std::alloc::Global;
+use std::mem;
 use tdf_base::{Memory, Resolution, Version};
 use tdf_lang_lexer::{Dialect, PieceLine, Token, line_count, piece_lines, push_tokens, text_fault};
 use tdf_lang_lines::read_form;
@@ -31,22 +32,19 @@ use tdf_lang_tree::Tree;
 fn read_tokens(
     alloc: Global,
     dialect: Dialect,
-    at: Place,
+    at: &mut Place,
     number: u32,
     tokens: &[Token],
-) -> Result<Place, Memory>
-    ensures { IfOk result (λ p. shown_place p ≡ reads_row dialect (shown_place at) (record { number = number; tokens = map tok tokens.now })) }
+) -> Result<(), Memory>
+    ensures { OnOk result (shown_place at.new ≡ reads_row dialect (shown_place at.old) (record { number = number; tokens = map tok tokens.now })) }
 {
     match read_form(alloc, dialect.version, tokens) {
         Ok(Some(form)) => goes(alloc, at, number, form),
         Ok(None) => {
-            drop(at);
-            Ok(Place::Lost)
+            drop(mem::replace(at, Place::Lost));
+            Ok(())
         }
-        Err(refused) => {
-            drop(at);
-            Err(refused)
-        }
+        Err(refused) => Err(refused),
     }
 }
 
@@ -54,19 +52,16 @@ fn read_tokens(
 fn read_row<'t>(
     alloc: Global,
     dialect: Dialect,
-    at: Place,
+    at: &mut Place,
     line: &PieceLine<'t>,
     tokens: &mut Vec<Token<'t>>,
-) -> Result<Place, Memory>
-    ensures { IfOk result (λ p. shown_place p ≡ reads_row dialect (shown_place at) (token_line dialect (row line.now))) }
+) -> Result<(), Memory>
+    ensures { OnOk result (shown_place at.new ≡ reads_row dialect (shown_place at.old) (token_line dialect (row line.now))) }
 {
     tokens.clear();
     match push_tokens(dialect, &line.pieces, tokens) {
         Ok(()) => read_tokens(alloc, dialect, at, line.number, tokens),
-        Err(refused) => {
-            drop(at);
-            Err(refused)
-        }
+        Err(refused) => Err(refused),
     }
 }
 
@@ -77,11 +72,7 @@ fn is_lost(at: &Place) -> bool
         Place::Lost => true,
         Place::Globals(_) => false,
         Place::Tdf(_, _, _) => false,
-        Place::Attributes(_, _) => false,
-        Place::Initialize(_, _) => false,
-        Place::Body(_, _, _) => false,
         Place::De(_, _, _) => false,
-        Place::Process(_, _, _) => false,
         Place::Net(_, _) => false,
         Place::Top(_, _) => false,
         Place::Traces(_) => false,
@@ -113,7 +104,7 @@ fn walk(alloc: Global, dialect: Dialect, rows: &[PieceLine], after: u32) -> Resu
         globals: Vec::new(alloc),
     });
     for line in rows {
-        at = read_row(alloc, dialect, at, line, &mut tokens)?;
+        read_row(alloc, dialect, &mut at, line, &mut tokens)?;
         if is_lost(&at) {
             drop(at);
             return Err(LangErr::Syntax { line: line.number });

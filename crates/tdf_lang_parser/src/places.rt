@@ -19,33 +19,57 @@ pub(crate) enum Frame {
     For(u32, Name, u64, Limit, Vec<Stmt>),
 }
 
-/// Whose body is open.
+/// The part of a `tdf` block whose body is open.
+#[derive(Clone, Copy, PartialEq, Eq)]
+pub(crate) enum BodyPart {
+    Initialize,
+    Processing,
+    Change,
+    Reinitialize,
+}
+
+/// Where a line is in a `tdf` block.
 #[derive(Drop)]
-pub(crate) enum Owner {
-    Initialize(Outer, TdfDecl),
-    Processing(Outer, TdfDecl),
-    Change(Outer, TdfDecl),
-    Reinitialize(Outer, TdfDecl),
-    Process(Outer, DeDecl, Process),
+pub(crate) enum InTdf {
+    /// Outside its parts, and the number of the next part that may come.
+    Lines(u32),
+    Attributes,
+    /// In `initialize`, before its statements.
+    Initialize,
+    /// In a body: the open `if` and `for`, and the statements of the innermost block.
+    Body(BodyPart, Vec<Frame>, Vec<Stmt>),
+}
+
+/// Where a line is in a `de` block.
+#[derive(Drop)]
+pub(crate) enum InDe {
+    /// Outside its processes, and whether declarations may come.
+    Lines(bool),
+    /// In a process, before its statements.
+    Process(Process),
+    /// In a process: the open `if` and `for`, and the statements of the innermost block.
+    Body(Process, Vec<Frame>, Vec<Stmt>),
 }
 
 #[derive(Drop)]
 pub(crate) enum Place {
     Globals(Outer),
-    /// In a `tdf` block, and the number of the next part that may come.
-    Tdf(Outer, u32, TdfDecl),
-    Attributes(Outer, TdfDecl),
-    /// In `initialize`, before its statements.
-    Initialize(Outer, TdfDecl),
-    /// In a body: the open `if` and `for`, and the statements of the innermost block.
-    Body(Owner, Vec<Frame>, Vec<Stmt>),
-    /// In a `de` block, and whether declarations may come.
-    De(Outer, bool, DeDecl),
-    /// In a process, before its statements.
-    Process(Outer, DeDecl, Process),
+    Tdf(Outer, TdfDecl, InTdf),
+    De(Outer, DeDecl, InDe),
     Net(Outer, Composite),
     Top(Outer, Composite),
     Traces(Tree),
     /// After a line that its place doesn't allow.
+    Lost,
+}
+
+/// What comes of a line in a block or a body.
+#[derive(Clone, Copy, PartialEq, Eq)]
+pub(crate) enum Turn {
+    /// The next line is in it too.
+    Stays,
+    /// The line is its `end`.
+    Ends,
+    /// The place doesn't allow the line.
     Lost,
 }

@@ -200,8 +200,12 @@ abbrev pub more_top : Outer → PureComposite → Option Member → Place
 more_top o c (Some x) = PTop o (with_member c x)
 more_top o c None = PLost
 
+-- the tree after the `end` of `top`
+abbrev pub closed_top : Outer → PureComposite → PureTree
+closed_top o c = record { version = o.dialect.version; resolution = o.dialect.resolution; globals = o.globals; top = c; traces = [] }
+
 abbrev pub goes_top : Outer → PureComposite → ℕ → Form → Place
-goes_top o c n FEnd = PTraces (record { version = o.dialect.version; resolution = o.dialect.resolution; globals = o.globals; top = c; traces = [] })
+goes_top o c n FEnd = PTraces (closed_top o c)
 goes_top o c n f = more_top o c (member_of n f)
 
 abbrev pub more_traces : PureTree → Option PureTrace → Place
