@@ -1,33 +1,35 @@
 -- Rows read one after another.
-use Rattle.std.proofs.Common.{◌≡◌, ℕ, ◌+◌, ◌<◌, ◌≤◌, Bool, true, false, cond, List, [], ◌∷◌, length, drop, take, ◌-◌, map, get_or, ◌++◌, length-append, Result, Ok, Err, Some, None, refl, sym, ap, ◌∙◌, arith, add-one, drop-cons}
-use Rattle.std.proofs.lemmas.List.{drop_all, take_rest}
-use Rattle.tdf_base.specs.declared.version.Version.{Version}
+use Rattle.std.proofs.Common.{◌≡◌, ℕ, ◌+◌, ◌≤◌, Bool, true, false, cond, List, [], ◌∷◌, length, map, ◌++◌, length-append, Option, Result, Ok, Err, Some, None, refl, sym, ap, subst, ◌∙◌, arith}
 use Rattle.tdf_lang_parser.proofs.FaultLaws.{found_fault}
 use Rattle.tdf_lang_parser.proofs.ReadSpells.{reads_spell}
-use Rattle.tdf_base.specs.declared.resolution.Resolution.{Resolution}
-use Rattle.tdf_lang_parser.proofs.HeadLaws.{resolution_read, read_after_resolution}
-use Rattle.tdf_lang_parser.specs.Faults.{AtGlobals, HasFault, no_row}
-use Rattle.tdf_lang_parser.specs.machine.Heads.{resolution_line}
+use Rattle.tdf_lang_parser.proofs.HeadLaws.{no_version_says, resolution_read, read_after_resolution}
+use Rattle.tdf_lang_parser.specs.Faults.{AtGlobals, HasFault, no_row, no_version}
+use Rattle.tdf_lang_parser.specs.machine.Heads.{read_version, resolution_line}
 use Rattle.tdf_lang_parser.specs.declared.err.LangErr.{LangErr}
 use Rattle.tdf_lang_parser.specs.declared.err.LangErr.TheVariants as why
 use Rattle.tdf_lang_parser.specs.machine.Places.{Place, PGlobals, outset, reads_row, reads_rows, fault_from, is_lost}
 use Rattle.tdf_lang_parser.specs.Head.{SpellsVersion}
 use Rattle.tdf_lang_parser.specs.machine.Walks.{IsEnd, IsModelRead, IsRead, IsWalked}
-use Rattle.tdf_lang_lexer.specs.Dialect.{token_line, token_lines}
-use Rattle.tdf_lang_lexer.specs.Rows.{Row, row}
+use Rattle.tdf_lang_lexer.specs.Dialect.{token_lines}
+use Rattle.tdf_lang_lexer.specs.Rows.{Row}
 use Rattle.tdf_lang_lexer.specs.Text.{unless_empty, lines_from, lines_of, is_line_end}
 use Rattle.tdf_lang_lexer.specs.Token.{TokenLine}
 use Rattle.tdf_lang_lexer.specs.declared.dialect.Dialect.{Dialect}
-use Rattle.tdf_lang_lexer.specs.declared.rows.PieceLine.{PieceLine}
+use Rattle.tdf_lang_parser.specs.declared.rows.RowsLeft.{RowsLeft}
+use Rattle.tdf_lang_parser.specs.views.RowViews.{rows_with, rows_left}
 use Rattle.tdf_lang_tree.specs.Views.{pure_tree}
 use Rattle.tdf_lang_tree.specs.declared.tree.Tree.{Tree}
 
-pub lines_drop : (lang : Dialect) (xs : List PieceLine) (i : ℕ) (d : PieceLine) → i < length xs
-    → token_lines lang (map row (drop i xs)) ≡ token_line lang (row (get_or xs i d)) ∷ token_lines lang (map row (drop (i + 1) xs))
-lines_drop lang xs i d h = rw (add-one, drop-cons xs i d h) refl
+-- the first of the rows that are left
+pub row_told : (r : RowsLeft) (n : ℕ) → r.number ≡ Some n → rows_left r ≡ (record { number = n; pieces = map (λ piece. piece.now) r.pieces.items }) ∷ r.after
+row_told r n h = ap (λ (o : Option ℕ). rows_with o (map (λ piece. piece.now) r.pieces.items) r.after) h
 
-pub lines_end : (lang : Dialect) (xs : List PieceLine) (i : ℕ) → length xs ≤ i → token_lines lang (map row (drop i xs)) ≡ []
-lines_end lang xs i h = ap (λ (ys : List PieceLine). token_lines lang (map row ys)) (drop_all i xs h)
+no_number : (o : Option ℕ) (pieces : List (List ℕ)) (rows : List Row) → ((n : ℕ) → o ≡ Some n → ⊥) → rows_with o pieces rows ≡ []
+no_number None pieces rows h = refl
+no_number (Some n) pieces rows h = absurd (h n refl)
+
+pub none_left : (r : RowsLeft) → ((n : ℕ) → r.number ≡ Some n → ⊥) → rows_left r ≡ []
+none_left r h = no_number r.number (map (λ piece. piece.now) r.pieces.items) r.after h
 
 pub reads_more : (lang : Dialect) (p : Place) (r : TokenLine) (rs : List TokenLine) → reads_rows lang p (r ∷ rs) ≡ reads_rows lang (reads_row lang p r) rs
 unfolding reads_rows
@@ -43,7 +45,7 @@ pub fault_here : (lang : Dialect) (p : Place) (r : TokenLine) (rs : List TokenLi
 unfolding fault_from
 fault_here lang p r rs after h = rw h refl
 
-pub ruleset walk_laws = (lines_drop, lines_end, reads_more, fault_more, fault_here)
+pub ruleset walk_laws = (row_told, reads_more, fault_more, fault_here)
 
 -- all rows are read
 pub walked_end : (lang : Dialect) (r : Result Tree LangErr) (p : Place) (lines : List TokenLine) (after : ℕ) → reads_rows lang p [] ≡ reads_rows lang (PGlobals (outset lang)) lines
@@ -82,25 +84,25 @@ pub few : (text : List ℕ) → length (lines_of text) ≤ length text
 unfolding lines_of
 few text = omega (arith, few_lines text [])
 
--- the first row and the others
-pub rows_first : (xs : List PieceLine) (x : PieceLine) → 1 ≤ length xs → x ≡ get_or xs 0 x → map row xs ≡ row x ∷ map row (take (length xs - 1) (drop 1 xs))
-rows_first [] x h e = absurd (omega (arith, h))
-rows_first (y ∷ ys) x h e =
-    let rest : take (length (y ∷ ys) - 1) (drop 1 (y ∷ ys)) ≡ ys = take_rest (y ∷ ys) 1 in
-    let same : y ≡ x = sym e in
-    ap (λ (z : PieceLine). row z ∷ map row ys) same ∙ ap (λ (zs : List PieceLine). row x ∷ map row zs) (sym rest)
-
-pub no_rows : (xs : List PieceLine) (after : ℕ) → length xs < 1 → HasFault (map row xs) after after
-no_rows [] after h = no_row
-no_rows (x ∷ xs) after h = absurd (omega (arith, h))
-
--- rows that have a first resolution are not empty
-pub some_row : (v : Version) (xs : List PieceLine) (s : Resolution) → resolution_line v (map row xs) ≡ Some s → 1 ≤ length xs
-some_row v [] s h = absurd (let k = resolution_read v [] s h in let q : [] ≡ k.h ∷ k.rest = k.is in cc)
-some_row v (x ∷ xs) s h = omega arith
-
 -- the rows after a resolution line
-pub read_resolved : (h : Row) (lang : Dialect) (xs : List PieceLine) (a : Result Tree LangErr) (after : ℕ) → SpellsVersion h.pieces lang.version
-    → resolution_line lang.version (map row xs) ≡ Some lang.resolution → IsModelRead a lang (token_lines lang (map row (drop 1 xs))) after → IsRead a (h ∷ map row xs) after
-read_resolved h lang [] a after d n e = absurd (let k = resolution_read lang.version [] lang.resolution n in let q : [] ≡ k.h ∷ k.rest = k.is in cc)
-read_resolved h lang (x ∷ xs) a after d n e = read_after_resolution h (row x) (map row xs) lang.version lang.resolution a after d n e
+pub read_resolved : (h : Row) (lang : Dialect) (number : Option ℕ) (pieces : List (List ℕ)) (rows rest : List Row) (a : Result Tree LangErr) (after : ℕ) → SpellsVersion h.pieces lang.version
+    → resolution_line lang.version (rows_with number pieces rows) ≡ Some lang.resolution → rest ≡ rows → IsModelRead a lang (token_lines lang rest) after
+    → IsRead a (h ∷ rows_with number pieces rows) after
+read_resolved h lang None pieces rows rest a after d n q e = absurd (let k = resolution_read lang.version [] lang.resolution n in let q : [] ≡ k.h ∷ k.rest = k.is in cc)
+read_resolved h lang (Some number) pieces rows rest a after d n q e =
+    read_after_resolution h (record { number = number; pieces = pieces }) rows lang.version lang.resolution a after d n
+    (subst (λ (rs : List Row). IsModelRead a lang (token_lines lang rs) after) q e)
+
+-- the first row of a text
+pub no_first : (all : List Row) (after : ℕ) → all ≡ [] → HasFault all after after
+no_first all after none = subst (λ (rs : List Row). HasFault rs after after) (sym none) no_row
+
+pub no_version_first : (number : ℕ) (pieces : List (List ℕ)) (rows all : List Row) (after : ℕ) → all ≡ (record { number = number; pieces = pieces }) ∷ rows → read_version pieces ≡ None
+    → HasFault all after number
+no_version_first number pieces rows all after is none =
+    subst (λ (rs : List Row). HasFault rs after number) (sym is) (no_version (record { number = number; pieces = pieces }) (no_version_says (record { number = number; pieces = pieces }) none))
+
+pub read_first : (number : ℕ) (pieces : List (List ℕ)) (rows rest all : List Row) (a : Result Tree LangErr) (after : ℕ) → all ≡ (record { number = number; pieces = pieces }) ∷ rows → rest ≡ rows
+    → IsRead a ((record { number = number; pieces = pieces }) ∷ rest) after → IsRead a all after
+read_first number pieces rows rest all a after is same e =
+    subst (λ (rs : List Row). IsRead a rs after) (sym is) (subst (λ (rs : List Row). IsRead a ((record { number = number; pieces = pieces }) ∷ rs) after) same e)

@@ -2,10 +2,10 @@
 
 ghost use Rattle.std.specs.Prelude.{map, ◌≡◌};
 ghost use Rattle.tdf_lang_parser.specs.machine.Heads.{read_resolution, read_version, resolution_line, resolution_of, version_of};
-ghost use Rattle.tdf_lang_lexer.specs.Rows.{row};
+ghost use Rattle.tdf_lang_parser.specs.views.RowViews.{rows_left};
 
+use crate::rows::RowsLeft;
 use tdf_base::{Resolution, Version};
-use tdf_lang_lexer::PieceLine;
 
 fn version(piece: &[u8]) -> Option<Version>
     ensures { result ≡ version_of piece.now }
@@ -67,14 +67,14 @@ fn read_resolution(pieces: &[&[u8]]) -> Option<Resolution>
 }
 
 /// The resolution that the first of these rows says, where it is a `resolution` line and the version allows one.
-pub(crate) fn resolution_line(version: Version, rows: &[PieceLine]) -> Option<Resolution>
-    ensures { result ≡ resolution_line version (map row rows.now) }
+pub(crate) fn resolution_line(version: Version, rows: &RowsLeft) -> Option<Resolution>
+    ensures { result ≡ resolution_line version (rows_left rows.now) }
 {
     if !version.has_resolution() {
         return None;
     }
-    match rows {
-        [] => None,
-        [first, ..] => read_resolution(&first.pieces),
+    match rows.number {
+        Some(_) => read_resolution(&rows.pieces),
+        None => None,
     }
 }

@@ -9,8 +9,10 @@ ghost use Rattle.tdf_lang_parser.specs.machine.Heads.{resolution_line};
 ghost use Rattle.tdf_lang_parser.specs.machine.Places.{is_lost, reads_row};
 ghost use Rattle.tdf_lang_parser.specs.machine.Walks.{IsEnd, IsModelRead, IsRead, IsWalked};
 ghost use Rattle.tdf_lang_parser.specs.views.PlaceViews.{shown_place};
+ghost use Rattle.tdf_lang_parser.specs.views.RowViews.{rows_left};
 ghost use Rattle.tdf_lang_lexer.specs.Dialect.{token_line, token_lines};
-ghost use Rattle.tdf_lang_lexer.specs.Rows.{Row, row};
+ghost use Rattle.tdf_lang_lexer.specs.Rows.{Row, rows_of};
+ghost use Rattle.tdf_lang_lexer.specs.Text.{lines_of};
 ghost use Rattle.tdf_lang_lexer.specs.Token.{tok};
 ghost use Rattle.tdf_lang_tree.specs.Kept.{IsKept};
 ghost use Rattle.tdf_lang_tree.specs.LinesIn.{HasLinesInOrder};
@@ -19,11 +21,12 @@ ghost use Rattle.tdf_lang_tree.specs.Views.{pure_tree};
 use crate::err::LangErr;
 use crate::heads::{read_version, resolution_line};
 use crate::places::{Outer, Place};
+use crate::rows::{RowsLeft, all_rows, leave_first};
 use crate::turns::goes;
 use std::alloc::Global;
 use std::mem;
 use tdf_base::{Memory, Resolution, Version};
-use tdf_lang_lexer::{Dialect, PieceLine, Token, line_count, piece_lines, push_tokens, text_fault};
+use tdf_lang_lexer::{Dialect, Token, line_count, push_tokens, text_fault};
 use tdf_lang_lines::read_form;
 use tdf_lang_tree::Tree;
 
@@ -53,14 +56,15 @@ fn read_row<'t>(
     alloc: Global,
     dialect: Dialect,
     at: &mut Place,
-    line: &PieceLine<'t>,
+    number: u32,
+    pieces: &[&'t [u8]],
     tokens: &mut Vec<Token<'t>>,
 ) -> Result<(), Memory>
-    ensures { OnOk result (shown_place at.new ≡ reads_row dialect (shown_place at.old) (token_line dialect (row line.now))) }
+    ensures { OnOk result (shown_place at.new ≡ reads_row dialect (shown_place at.old) (token_line dialect (record { number = number; pieces = map (λ p. p.now) pieces.now }))) }
 {
     tokens.clear();
-    match push_tokens(dialect, &line.pieces, tokens) {
-        Ok(()) => read_tokens(alloc, dialect, at, line.number, tokens),
+    match push_tokens(dialect, pieces, tokens) {
+        Ok(()) => read_tokens(alloc, dialect, at, number, tokens),
         Err(refused) => Err(refused),
     }
 }
@@ -79,74 +83,90 @@ fn is_lost(at: &Place) -> bool
     }
 }
 
+/// The number of lines, plus 1.
+fn line_after(text: &[u8]) -> u32
+    requires { length text.now ≤ longest_text }
+    ensures { result ≡ length (lines_of text.now) + 1 }
+{
+    line_count(text) + 1
+}
+
 /// The tree, where the last line leads to the traces.
 #[tactic(auto, unfolding(crate::specs::machine::Places::fault_from))]
-fn ended(at: Place, after: u32) -> Result<Tree, LangErr>
-    ensures { IsEnd result (shown_place at) after }
+fn ended(at: Place, text: &[u8]) -> Result<Tree, LangErr>
+    requires { length text.now ≤ longest_text }
+    ensures { IsEnd result (shown_place at) (length (lines_of text.now) + 1) }
 {
     match at {
         Place::Traces(tree) => Ok(tree),
         other => {
             drop(other);
-            Err(LangErr::Syntax { line: after })
+            Err(LangErr::Syntax {
+                line: line_after(text),
+            })
         }
     }
 }
 
 /// Row by row.
 #[tactic(auto, using(crate::proofs::WalkLaws::walk_laws))]
-fn walk(alloc: Global, dialect: Dialect, rows: &[PieceLine], after: u32) -> Result<Tree, LangErr>
-    ensures { IsWalked result dialect (token_lines dialect (map row rows.now)) after }
+fn walk(alloc: Global, dialect: Dialect, rows: &mut RowsLeft, text: &[u8]) -> Result<Tree, LangErr>
+    requires { length text.now ≤ longest_text }
+    ensures { IsWalked result dialect (token_lines dialect (rows_left rows.old)) (length (lines_of text.now) + 1) }
 {
     let mut tokens = Vec::new(alloc);
     let mut at = Place::Globals(Outer {
         dialect,
         globals: Vec::new(alloc),
     });
-    for line in rows {
-        read_row(alloc, dialect, &mut at, line, &mut tokens)?;
+    while let Some(number) = rows.number {
+        read_row(alloc, dialect, &mut at, number, &rows.pieces, &mut tokens)?;
         if is_lost(&at) {
             drop(at);
-            return Err(LangErr::Syntax { line: line.number });
+            return Err(LangErr::Syntax { line: number });
         }
+        leave_first(rows)?;
     }
-    ended(at, after)
+    ended(at, text)
 }
 
 /// The tree that the rows after those that open the text spell, or their first fault.
 fn read_model(
     alloc: Global,
     dialect: Dialect,
-    rows: &[PieceLine],
-    after: u32,
+    rows: &mut RowsLeft,
+    text: &[u8],
 ) -> Result<Tree, LangErr>
-    ensures { IsModelRead result dialect (token_lines dialect (map row rows.now)) after }
+    requires { length text.now ≤ longest_text }
+    ensures { IsModelRead result dialect (token_lines dialect (rows_left rows.old)) (length (lines_of text.now) + 1) }
 {
-    walk(alloc, dialect, rows, after)
+    walk(alloc, dialect, rows, text)
 }
 
 /// The rows after the `language` line, where the first of them is a resolution line.
-#[tactic(auto, using(crate::proofs::WalkLaws::some_row))]
 fn after_resolution(
     alloc: Global,
     dialect: Dialect,
-    rows: &[PieceLine],
-    after: u32,
+    rows: &mut RowsLeft,
+    text: &[u8],
 ) -> Result<Tree, LangErr>
-    requires { resolution_line dialect.version (map row rows.now) ≡ Some dialect.resolution }
-    ensures { (h : Row) → SpellsVersion h.pieces dialect.version → IsRead result (h ∷ map row rows.now) after }
+    requires short { length text.now ≤ longest_text }
+    requires first { resolution_line dialect.version (rows_left rows.old) ≡ Some dialect.resolution }
+    ensures { (h : Row) → SpellsVersion h.pieces dialect.version → IsRead result (h ∷ rows_left rows.old) (length (lines_of text.now) + 1) }
 {
-    read_model(alloc, dialect, &rows[1..], after)
+    leave_first(rows)?;
+    read_model(alloc, dialect, rows, text)
 }
 
 /// The rows after the `language` line: a resolution line, where version 3 has one, and the model.
 fn after_version(
     alloc: Global,
     version: Version,
-    rows: &[PieceLine],
-    after: u32,
+    rows: &mut RowsLeft,
+    text: &[u8],
 ) -> Result<Tree, LangErr>
-    ensures { (h : Row) → SpellsVersion h.pieces version → IsRead result (h ∷ map row rows.now) after }
+    requires { length text.now ≤ longest_text }
+    ensures { (h : Row) → SpellsVersion h.pieces version → IsRead result (h ∷ rows_left rows.old) (length (lines_of text.now) + 1) }
 {
     match resolution_line(version, rows) {
         Some(resolution) => after_resolution(
@@ -156,7 +176,7 @@ fn after_version(
                 resolution,
             },
             rows,
-            after,
+            text,
         ),
         None => read_model(
             alloc,
@@ -165,21 +185,28 @@ fn after_version(
                 resolution: Resolution::Ps,
             },
             rows,
-            after,
+            text,
         ),
     }
 }
 
 /// The tree that the rows of a text spell, or their first fault.
-fn read_rows(alloc: Global, rows: &[PieceLine], after: u32) -> Result<Tree, LangErr>
-    ensures { IsRead result (map row rows.now) after }
+fn read_rows(alloc: Global, text: &[u8]) -> Result<Tree, LangErr>
+    requires { length text.now ≤ longest_text }
+    ensures { IsRead result (rows_of text.now) (length (lines_of text.now) + 1) }
 {
-    match rows {
-        [] => Err(LangErr::Syntax { line: after }),
-        [first, rest @ ..] => match read_version(&first.pieces) {
-            Some(version) => after_version(alloc, version, rest, after),
-            None => Err(LangErr::Syntax { line: first.number }),
-        },
+    let mut rows = all_rows(alloc, text)?;
+    let Some(number) = rows.number else {
+        return Err(LangErr::Syntax {
+            line: line_after(text),
+        });
+    };
+    match read_version(&rows.pieces) {
+        Some(version) => {
+            leave_first(&mut rows)?;
+            after_version(alloc, version, &mut rows, text)
+        }
+        None => Err(LangErr::Syntax { line: number }),
     }
 }
 
@@ -199,6 +226,5 @@ pub fn parse(alloc: Global, text: &[u8]) -> Result<Tree, LangErr>
     if let Some(fault) = text_fault(text) {
         return Err(LangErr::from(fault));
     }
-    let rows = piece_lines(alloc, text)?;
-    read_rows(alloc, &rows, line_count(text) + 1)
+    read_rows(alloc, text)
 }
