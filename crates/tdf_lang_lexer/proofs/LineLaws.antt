@@ -1,13 +1,13 @@
 -- The first line of a text and the lines after it.
 use Rattle.std.proofs.Common.{◌≡◌, ◌≢◌, ℕ, zero, suc, ◌+◌, ◌-◌, ◌<◌, ◌≤◌, Bool, true, false, List, [], ◌∷◌, ◌++◌, length, take, drop, refl, ap, sym, ◌∙◌, cond, subst, append_assoc, arith, not, nat_eq, add-one, length-drop, map}
-use Rattle.std.proofs.lemmas.List.{append-nil, take_all, drop_all, take_rest, map-append}
+use Rattle.std.proofs.lemmas.List.{append-nil, take_all, drop_all, take_rest}
 use Rattle.std.proofs.lemmas.List.Sums.{prefix_len-le-length}
 use Rattle.std.proofs.lemmas.Bool.{eqb-true}
 use Rattle.std.proofs.lemmas.List.Folds.{list_any-append}
 use Rattle.std.specs.List.{list_any, before_first, after_first, position_or_len}
 use Rattle.std.specs.Prelude.{None}
 use Rattle.tdf_lang_lexer.specs.Pieces.{without_comment, pieces_of}
-use Rattle.tdf_lang_lexer.specs.Rows.{Row, rows_from, row_unless_bare}
+use Rattle.tdf_lang_lexer.specs.Rows.{rows_from, row_unless_bare}
 use Rattle.tdf_lang_lexer.specs.Text.{is_line_end, unless_empty, lines_from, lines_of, first_fault, line_fault_of, first_found, IsLines, no_line, last_line, line_end}
 
 -- what stands before and after the first byte that passes, one byte further
@@ -117,30 +117,7 @@ pub rows-row : {A : Type 0} (f : A → List ℕ) (number : ℕ) (text line after
 rows-row f number text line after old [] h e g n o b = absurd (b refl)
 rows-row f number text line after old (x ∷ xs) h e g n o b = rows-first number text line after old (f x ∷ map f xs) h e g n o
 
-pub push-bare : (number : ℕ) (pieces : List (List ℕ)) → length pieces ≡ 0 → row_unless_bare number pieces ≡ []
-push-bare number [] h = refl
-push-bare number (first ∷ more) h = absurd (omega (arith, h))
-
-pub push-one : (number : ℕ) (pieces : List (List ℕ)) → length pieces ≢ 0 → row_unless_bare number pieces ≡ (record { number = number; pieces = pieces }) ∷ []
-push-one number [] h = absurd (h refl)
-push-one number (first ∷ more) h = refl
-
--- the rows of the first line have been appended
-pub rows-pushed : (number : ℕ) (text line after : List ℕ) (pieces : List (List ℕ)) (all old new : List Row) → 0 < length text
-    → line ≡ before_first is_line_end text → after ≡ after_first is_line_end text → pieces ≡ pieces_of (without_comment line)
-    → new ≡ old ++ row_unless_bare number pieces → old ++ rows_from number (lines_of text) ≡ all
-    → new ++ rows_from (number + 1) (lines_of after) ≡ all
-rows-pushed number text line after pieces all old new h e f g n o =
-    let put : row_unless_bare number pieces ≡ row_unless_bare number (pieces_of (without_comment (before_first is_line_end text))) = ap (row_unless_bare number) (g ∙ ap (λ (l : List ℕ). pieces_of (without_comment l)) e) in
-    let rest : rows_from (number + 1) (lines_of after) ≡ rows_from (number + 1) (lines_of (after_first is_line_end text)) = ap (λ (b : List ℕ). rows_from (number + 1) (lines_of b)) f in
-    ap (λ (l : List Row). l ++ rows_from (number + 1) (lines_of after)) n
-    ∙ append_assoc old (row_unless_bare number pieces) (rows_from (number + 1) (lines_of after))
-    ∙ ap (λ (l : List Row). old ++ l) (cc (put, rest, rows-step number text h))
-    ∙ o
-
 pub ruleset row_laws = (rows-step, rows-none, length-after_first, append-nil)
-
-pub ruleset push_laws = (push-bare, push-one, append-nil, map-append)
 
 pub ruleset count_laws = (count-step, count-none, length-after_first)
 

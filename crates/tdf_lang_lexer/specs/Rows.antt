@@ -1,18 +1,13 @@
 -- The rows of a text: the lines that have a piece, each with its number and its pieces (own). They are alike in every
 -- version of the language.
-use Rattle.std.specs.Prelude.{ℕ, ◌+◌, List, [], ◌∷◌, ◌++◌, map}
+use Rattle.std.specs.Prelude.{ℕ, ◌+◌, List, [], ◌∷◌, ◌++◌}
 use Rattle.tdf_lang_lexer.specs.Pieces.{without_comment, pieces_of}
 use Rattle.tdf_lang_lexer.specs.Text.{lines_of}
-use Rattle.tdf_lang_lexer.specs.declared.rows.PieceLine.{PieceLine}
 
 -- a line that has pieces: its number, from 1, and its pieces
 pub record Row : Type 0 where
   pub number : ℕ
   pub pieces : List (List ℕ)
-
--- what is seen of a line of pieces
-abbrev pub row : PieceLine → Row
-row line = record { number = line.number; pieces = map (λ piece. piece.now) line.pieces.items }
 
 -- the row of a line, or none where it has no piece
 abbrev pub row_unless_bare : ℕ → List (List ℕ) → List Row

@@ -14,6 +14,6 @@ mod words;
 pub use dialect::{Dialect, push_tokens};
 pub use key::{Key, Symbol};
 pub use laws::{law_faults, law_lines, law_longest, law_words};
-pub use rows::{PieceLine, RowReader, piece_lines};
+pub use rows::RowReader;
 pub use text::{TextFault, line_count, text_fault};
 pub use token::Token;

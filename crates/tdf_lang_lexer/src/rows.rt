@@ -1,13 +1,11 @@
 //! The lines of a text that have a piece.
 
-ghost use Rattle.std.specs.Prelude.{IfOk, MatchOption, OnOk, [], length, map, ◌++◌, ◌∷◌, ◌≡◌, ◌≤◌};
+ghost use Rattle.std.specs.Prelude.{IfOk, MatchOption, [], length, map, ◌∷◌, ◌≡◌, ◌≤◌};
 ghost use Rattle.tdf_base.specs.Limits.{longest_text};
-ghost use Rattle.tdf_lang_lexer.specs.Pieces.{pieces_of, without_comment};
-ghost use Rattle.tdf_lang_lexer.specs.Rows.{row, row_unless_bare, rows_of};
+ghost use Rattle.tdf_lang_lexer.specs.Rows.{rows_of};
 
 use crate::pieces::push_pieces;
 use crate::text::cut_line;
-use std::alloc::Global;
 use std::marker::Model;
 use tdf_base::Memory;
 
@@ -69,53 +67,4 @@ impl<'t> RowReader<'t> {
         }
         Ok(None)
     }
-}
-
-/// The pieces of one line that has some, and its number. The lines of a text are numbered from 1.
-#[derive(Drop)]
-pub struct PieceLine<'t> {
-    pub number: u32,
-    pub pieces: Vec<&'t [u8]>,
-}
-
-fn row_pieces<'t>(alloc: Global, line: &'t [u8]) -> Result<Vec<&'t [u8]>, Memory>
-    ensures { IfOk result (λ v. map (λ p. p.now) v.items ≡ pieces_of (without_comment line.now)) }
-{
-    let mut pieces = Vec::new(alloc);
-    push_pieces(line, &mut pieces)?;
-    Ok(pieces)
-}
-
-/// Appends a line, if it has a piece.
-#[tactic(auto, using(crate::proofs::LineLaws::push_laws))]
-fn push_line<'t>(
-    lines: &mut Vec<PieceLine<'t>>,
-    number: u32,
-    pieces: Vec<&'t [u8]>,
-) -> Result<(), Memory>
-    ensures { OnOk result (map row lines.new.items ≡ map row lines.old.items ++ row_unless_bare number (map (λ p. p.now) pieces.entry.items)) }
-{
-    if pieces.is_empty() {
-        return Ok(());
-    }
-    lines.push(PieceLine { number, pieces })?;
-    Ok(())
-}
-
-/// The lines of the text that have a piece, each with its number.
-#[tactic(auto, using(crate::proofs::LineLaws::row_laws), unfolding(crate::specs::Rows::rows_of))]
-pub fn piece_lines<'t>(alloc: Global, text: &'t [u8]) -> Result<Vec<PieceLine<'t>>, Memory>
-    requires { length text.now ≤ longest_text }
-    ensures { IfOk result (λ v. map row v.items ≡ rows_of text.entry.now) }
-{
-    let mut lines = Vec::new(alloc);
-    let mut rest = text;
-    let mut number = 1;
-    while !rest.is_empty() {
-        let (line, after) = cut_line(rest);
-        push_line(&mut lines, number, row_pieces(alloc, line)?)?;
-        rest = after;
-        number += 1;
-    }
-    Ok(lines)
 }
