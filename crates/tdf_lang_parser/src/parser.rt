@@ -22,9 +22,8 @@ use crate::err::LangErr;
 use crate::heads::{read_version, resolution_line};
 use crate::places::{Outer, Place};
 use crate::rows::{RowsLeft, all_rows, leave_first};
-use crate::turns::goes;
+use crate::turns::{goes, lose};
 use std::alloc::Global;
-use std::mem;
 use tdf_base::{Memory, Resolution, Version};
 use tdf_lang_lexer::{Dialect, Token, line_count, push_tokens, text_fault};
 use tdf_lang_lines::read_form;
@@ -44,7 +43,7 @@ fn read_tokens(
     match read_form(alloc, dialect.version, tokens) {
         Ok(Some(form)) => goes(alloc, at, number, form),
         Ok(None) => {
-            drop(mem::replace(at, Place::Lost));
+            lose(at);
             Ok(())
         }
         Err(refused) => Err(refused),

@@ -709,6 +709,34 @@ fn after_global(alloc: Global, at: Place, line: u32, form: LineForm) -> Result<P
     }
 }
 
+/// After a line outside the blocks. It isn't inlined, since room for the places that it moves would be cleared at each line.
+#[inline(never)]
+fn leads_on(alloc: Global, at: &mut Place, line: u32, form: LineForm) -> Result<Turn, Memory>
+    ensures { IfOk result (λ t. place_turn t at.new ≡ opened_place at.old line (pure_form form)) }
+{
+    let from = mem::replace(at, Place::Lost);
+    drop(mem::replace(at, after_global(alloc, from, line, form)?));
+    Ok(Turn::Stays)
+}
+
+/// After the `end` of a block. It isn't inlined either.
+#[inline(never)]
+fn ends(alloc: Global, at: &mut Place) -> Result<(), Memory>
+    ensures { OnOk result (shown_place at.new ≡ closed_place at.old) }
+{
+    let from = mem::replace(at, Place::Lost);
+    drop(mem::replace(at, closed(alloc, from)?));
+    Ok(())
+}
+
+/// After a line that its place doesn't allow. It isn't inlined either.
+#[inline(never)]
+pub(crate) fn lose(at: &mut Place)
+    ensures { shown_place at.new ≡ PLost }
+{
+    drop(mem::replace(at, Place::Lost));
+}
+
 /// What comes of a line in the block of a place; a line outside the blocks leads on from there.
 fn turns(alloc: Global, at: &mut Place, line: u32, form: LineForm) -> Result<Turn, Memory>
     ensures { IfOk result (λ t. place_turn t at.new ≡ goes (shown_place at.old) line (pure_form form)) }
@@ -719,11 +747,7 @@ fn turns(alloc: Global, at: &mut Place, line: u32, form: LineForm) -> Result<Tur
         Place::Net(_, block) => goes_net(block, line, form),
         Place::Top(_, block) => goes_top(block, line, form),
         Place::Traces(tree) => more_traces(tree, line, form),
-        Place::Globals(_) => {
-            let from = mem::replace(at, Place::Lost);
-            drop(mem::replace(at, after_global(alloc, from, line, form)?));
-            Ok(Turn::Stays)
-        }
+        Place::Globals(_) => leads_on(alloc, at, line, form),
         Place::Lost => {
             drop(form);
             Ok(Turn::Lost)
@@ -737,13 +761,9 @@ pub(crate) fn goes(alloc: Global, at: &mut Place, line: u32, form: LineForm) -> 
 {
     match turns(alloc, at, line, form) {
         Ok(Turn::Stays) => Ok(()),
-        Ok(Turn::Ends) => {
-            let from = mem::replace(at, Place::Lost);
-            drop(mem::replace(at, closed(alloc, from)?));
-            Ok(())
-        }
+        Ok(Turn::Ends) => ends(alloc, at),
         Ok(Turn::Lost) => {
-            drop(mem::replace(at, Place::Lost));
+            lose(at);
             Ok(())
         }
         Err(refused) => Err(refused),
