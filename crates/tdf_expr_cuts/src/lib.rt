@@ -2,8 +2,10 @@
 #![tactic(auto)]
 
 mod cuts;
+mod sums;
 
 pub use cuts::{
     Cut, cut_by, cut_of, held_by, keeps_all, multiple, multiple_in, raised, roomy_cut, short_cast,
     short_of,
 };
+pub use sums::{difference, negative, product, sum};

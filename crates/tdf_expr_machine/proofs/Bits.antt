@@ -26,7 +26,7 @@ fits (pos n) bits few small = let power = small_power bits few in record { sfits
 fits (negsuc n) bits few small = let power = small_power bits few in record { sfits = omega (arith, power, small) }
 
 -- a number of the signed range of so many bits and one has so many bits
-has_bits : (num : ℤ) (bits : ℕ) → IsOfWidth true (bits + 1) num → HasBits num bits
+pub has_bits : (num : ℤ) (bits : ℕ) → IsOfWidth true (bits + 1) num → HasBits num bits
 has_bits num bits range =
     let one : bits + 1 - 1 ≡ bits = omega arith in
     go num (2 ^ bits) (subst (λ k. neg_ℤ (pos (2 ^ k)) ≤ℤ num) one range.low) (subst (λ k. num ≤ℤ pos (2 ^ k - 1)) one range.high)
@@ -37,7 +37,7 @@ has_bits num bits range =
 more_bits : (num : ℤ) (bits more : ℕ) → bits ≤ more → HasBits num bits → HasBits num more
 more_bits num bits more up small = let power : 2 ^ bits ≤ 2 ^ more = pow-le-pow_right (omega arith) up in omega (arith, power, small)
 
-short_raised : (num : ℤ) (x m bits : ℕ) → x + m ≤ bits → bits ≤ 60 → HasBits num x → IsShortRaised num m
+pub short_raised : (num : ℤ) (x m bits : ℕ) → x + m ≤ bits → bits ≤ 60 → HasBits num x → IsShortRaised num m
 short_raised num x m bits low few small =
     let power : 2 ^ x ≤ 2 ^ (60 - m) = pow-le-pow_right (omega arith) (omega (arith, low, few)) in
     let next : 61 - m ≡ 60 - m + 1 = omega (arith, low, few) in

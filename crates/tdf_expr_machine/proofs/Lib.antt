@@ -1,5 +1,6 @@
 pub mod Api
 pub mod Bits
+pub mod Flats
 pub mod InOrder
 pub mod Plains
 pub mod Powers

@@ -95,7 +95,7 @@ for_safe act node from turns body loops s is safe same =
 pub for_room : (act : Act) (from : ℕ) (turns : Turns) (body : Box Act Global) (loops : List ℕ) (s : State) → act ≡ view.For from turns body → IsSafeAct act loops s → (length loops < 8) × AreTurns turns s.frame.rates
 for_room act from turns body loops s is safe = let all = subst (λ a. IsSafeAct a loops s) is safe in (all.0, all.1)
 
-pub size_for : (act node : Act) (from : ℕ) (turns : Turns) (body : Box Act Global) → act ≡ view.For from turns body → node ≡ body.value → 2 * act_size node + 2 < 2 * act_size act
+pub size_for : (act node : Act) (from : ℕ) (turns : Turns) (body : Box Act Global) → act ≡ view.For from turns body → node ≡ body.value → 2 * act_size node + 3 < 2 * act_size act
 size_for act node from turns body is same = rw (is, same) (omega arith)
 
 pub size_first : (act node : Act) (test : Node) (a b : Box Act Global) → act ≡ view.If test a b → node ≡ a.value → 2 * act_size node + 1 < 2 * act_size act

@@ -2,6 +2,7 @@
 -- of the compiled code; no public clause of a crate above shows them.
 use Rattle.std.specs.Prelude.{◌≡◌, ℕ, ◌*◌, ◌/◌, ◌%◌, ◌^◌, ◌<◌, ◌≤◌, ℤ, pos, negsuc, true, false, ◌&&◌, nat_eq, nat_le, if◌then◌else◌, Option, Some, None, List, [], ◌∷◌, ◌++◌, length, slice_index}
 use Rattle.tdf_fixed.specs.Cast.{cast_of, fraction_of}
+use Rattle.tdf_expr_flat.specs.Flat.{AreSafeSteps, hand_of, after_steps}
 use Rattle.tdf_expr_machine.specs.Nodes.{node_value, spot_place, is_true, IsSafe, IsSpot, IsCastable}
 use Rattle.tdf_expr_machine.specs.Turns.{turned, AreTurnsSafe}
 use Rattle.tdf_expr_machine.specs.declared.acts.Act.{Act}
@@ -51,6 +52,7 @@ acted (act.If' test p a q b) loops s =
 acted (act.For' from end p body) loops s =
     turned (λ i rest. acted body (loops ++ i ∷ []) rest) from (turns_end end s.frame.rates) s
 acted (act.Seq' p a q b) loops s = acted b loops (acted a loops s)
+acted (act.Flat code) loops s = (after_steps code.items (hand_of (pos 0) s)).state
 
 -- no step passes 2 ^ 120, no place lies outside, and no loop is more than 8 deep
 abbrev pub IsSafeAct : Act → List ℕ → State → Type 0
@@ -74,6 +76,7 @@ IsSafeAct (act.For' from end p body) loops s = (length loops < 8) × AreTurns en
     × AreTurnsSafe (λ i rest. acted body (loops ++ i ∷ []) rest)
     (λ i rest. IsSafeAct body (loops ++ i ∷ []) rest) from (turns_end end s.frame.rates) s
 IsSafeAct (act.Seq' p a q b) loops s = IsSafeAct a loops s × IsSafeAct b loops (acted a loops s)
+IsSafeAct (act.Flat code) loops s = AreSafeSteps code.items (hand_of (pos 0) s)
 
 -- one turn of a loop, inside these loop variables, and whether it is safe
 abbrev pub act_turn : Act → List ℕ → ℕ → State → State

@@ -1,3 +1,4 @@
 -- How the code of this crate works.
+pub mod Flattening
 pub mod Plain
 pub mod Steps

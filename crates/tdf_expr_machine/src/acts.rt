@@ -12,6 +12,7 @@ use crate::nodes::{Node, Sight, eval};
 use crate::numbers::low;
 use crate::plain::{TurnRange, quick_turns};
 use crate::spots::{Spot, place};
+use tdf_expr_flat::{Operation, run_flat};
 use tdf_expr_state::{Cells, Signals};
 use tdf_fixed::Format;
 
@@ -84,6 +85,8 @@ pub enum Act {
         body: Box<Act>,
     },
     Seq(Box<Act>, Box<Act>),
+    /// Assignments and notifications, one after another, as flat code.
+    Flat(Vec<Operation>),
 }
 
 /// Whether a value without a rest lies within bounds.
@@ -199,17 +202,18 @@ fn is_met(test: &Expression, loops: &[u32], cells: &Cells, signals: &Signals) ->
     test.holds(&at)
 }
 
-/// Runs a part of a statement: an assignment to a cell without a call of `run`.
+/// Runs a statement at these loop variables, outermost first. It takes no memory. An assignment to a cell and flat code take no walk.
 #[cycle(runs)]
 #[inline(always)]
-fn step(act: &Act, loops: &[u32], cells: &mut Cells, signals: &mut Signals)
+pub fn run(act: &Act, loops: &[u32], cells: &mut Cells, signals: &mut Signals)
     requires { IsSafeAct act.now loops.now (state_of cells.old signals.old) }
     ensures frame { cells.new ≡ (acted act.now loops.now (state_of cells.old signals.old)).frame }
     ensures ports { signals.new ≡ (acted act.now loops.now (state_of cells.old signals.old)).ports }
 {
     match act {
         Act::SetCell { spot, cast } => assign(*spot, cast, loops, cells, signals),
-        _ => run(act, loops, cells, signals),
+        Act::Flat(code) => run_flat(code, cells, signals),
+        _ => walk(act, loops, cells, signals),
     }
 }
 
@@ -259,10 +263,11 @@ fn run_loop(
     }
 }
 
-/// Runs a statement at these loop variables, outermost first. It takes no memory.
+/// Runs a statement by its form.
 #[cycle(runs)]
+#[inline(never)]
 #[tactic(auto, using(crate::proofs::Runs::turn_laws))]
-pub fn run(act: &Act, loops: &[u32], cells: &mut Cells, signals: &mut Signals)
+fn walk(act: &Act, loops: &[u32], cells: &mut Cells, signals: &mut Signals)
     requires { IsSafeAct act.now loops.now (state_of cells.old signals.old) }
     ensures frame { cells.new ≡ (acted act.now loops.now (state_of cells.old signals.old)).frame }
     ensures ports { signals.new ≡ (acted act.now loops.now (state_of cells.old signals.old)).ports }
@@ -288,9 +293,9 @@ pub fn run(act: &Act, loops: &[u32], cells: &mut Cells, signals: &mut Signals)
         Act::Answer(accepted) => signals.answer(*accepted),
         Act::If { test, yes, no } => {
             if is_met(test, loops, cells, signals) {
-                step(yes, loops, cells, signals);
+                run(yes, loops, cells, signals);
             } else {
-                step(no, loops, cells, signals);
+                run(no, loops, cells, signals);
             }
         }
         Act::For { from, turns, body } => {
@@ -298,8 +303,9 @@ pub fn run(act: &Act, loops: &[u32], cells: &mut Cells, signals: &mut Signals)
             run_loop(body, *from, end, loops, cells, signals);
         }
         Act::Seq(first, second) => {
-            step(first, loops, cells, signals);
-            step(second, loops, cells, signals);
+            run(first, loops, cells, signals);
+            run(second, loops, cells, signals);
         }
+        Act::Flat(code) => run_flat(code, cells, signals),
     }
 }

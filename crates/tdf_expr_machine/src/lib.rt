@@ -8,11 +8,13 @@
 //! - `expressions`: expressions that know whether all their steps fit 64 bits.
 //! - `plain`: loops over elements that go without a walk over their bodies.
 //! - `acts`: compiled statements, and how they run.
+//! - `flattening`: statements as flat code.
 //! - `sequences`: many statements as one.
 #![tactic(auto)]
 
 mod acts;
 mod expressions;
+mod flattening;
 mod narrow;
 mod nodes;
 mod numbers;

@@ -45,7 +45,7 @@ fn few_bits(bits: u32) -> Option<u32>
 }
 
 /// How many bits two numbers have at most that are moved up, where these are few.
-fn joint_bits(a: u32, m: u32, b: u32, n: u32) -> Option<u32>
+pub(crate) fn joint_bits(a: u32, m: u32, b: u32, n: u32) -> Option<u32>
     ensures first { IfSome result (λ bits. a + m ≤ bits) }
     ensures second { IfSome result (λ bits. b + n ≤ bits) }
     ensures few { IfSome result (λ bits. bits ≤ 60) }

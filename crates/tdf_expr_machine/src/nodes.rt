@@ -5,7 +5,7 @@ ghost use Rattle.tdf_fixed.specs.Cast.{cast_of, fraction_of};
 ghost use Rattle.tdf_expr_machine.specs.Nodes.{IsCastable, IsSafe, is_true, node_value};
 ghost use Rattle.tdf_expr_state.specs.State.{state_of};
 
-use crate::numbers::{difference, holds, negative, product, raised, relates, sum, truth_number};
+use crate::numbers::{difference, holds, raised, relates, truth_number};
 use crate::short::{short_value, verdict};
 use crate::spots::{Spot, place};
 use tdf_expr_cuts::short_cast;
@@ -95,12 +95,12 @@ fn value(node: &Node, at: &Sight) -> i128
         Node::SampleAt(spot, _) => at.signals.sample(place(*spot, at.loops)),
         Node::Rate(number) => i128::from(at.cells.rate(*number as usize)),
         Node::Loop(depth) => i128::from(at.loops[*depth as usize]),
-        Node::Sum(a, m, b, n) => sum(raised(value(a, at), *m), raised(value(b, at), *n)),
+        Node::Sum(a, m, b, n) => raised(value(a, at), *m) + raised(value(b, at), *n),
         Node::Difference(a, m, b, n) => {
             difference(raised(value(a, at), *m), raised(value(b, at), *n))
         }
-        Node::Product(a, b) => product(value(a, at), value(b, at)),
-        Node::Negative(a) => negative(value(a, at)),
+        Node::Product(a, b) => value(a, at) * value(b, at),
+        Node::Negative(a) => -value(a, at),
         Node::Up(a, n) => raised(value(a, at), *n),
         Node::Compare(relation, a, m, b, n) => truth_number(relates(
             *relation,

@@ -1,6 +1,6 @@
 //! Arithmetic in 128 bits, of numbers that stay within 2^120.
 
-ghost use Rattle.std.specs.Prelude.{◌≡◌, ◌≤◌, ◌*◌, ◌%◌, ◌^◌, pos, ◌+ℤ◌, ◌-ℤ◌, ◌*ℤ◌, neg_ℤ, unsigned_abs};
+ghost use Rattle.std.specs.Prelude.{◌≡◌, ◌≤◌, ◌%◌, ◌^◌, pos, ◌-ℤ◌, ◌*ℤ◌, unsigned_abs};
 ghost use Rattle.tdf_expr_machine.specs.Nodes.{IsRaised, is_true, relates, truth_number};
 
 use crate::nodes::Relation;
@@ -15,35 +15,11 @@ pub(crate) fn raised(num: i128, bits: u32) -> i128
 }
 
 #[inline]
-pub(crate) fn sum(a: i128, b: i128) -> i128
-    requires { (unsigned_abs a ≤ 2 ^ 120) × (unsigned_abs b ≤ 2 ^ 120) }
-    ensures { result ≡ a +ℤ b }
-{
-    a + b
-}
-
-#[inline]
 pub(crate) fn difference(a: i128, b: i128) -> i128
     requires { (unsigned_abs a ≤ 2 ^ 120) × (unsigned_abs b ≤ 2 ^ 120) }
     ensures { result ≡ a -ℤ b }
 {
     a - b
-}
-
-#[inline]
-pub(crate) fn product(a: i128, b: i128) -> i128
-    requires { unsigned_abs a * unsigned_abs b ≤ 2 ^ 120 }
-    ensures { result ≡ a *ℤ b }
-{
-    a * b
-}
-
-#[inline]
-pub(crate) fn negative(a: i128) -> i128
-    requires { unsigned_abs a ≤ 2 ^ 120 }
-    ensures { result ≡ neg_ℤ a }
-{
-    -a
 }
 
 /// Whether a number is taken as true.

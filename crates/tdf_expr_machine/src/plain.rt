@@ -13,10 +13,9 @@ ghost use Rattle.tdf_expr_state.specs.State.{cell_at, state_of};
 
 use crate::acts::Act;
 use crate::nodes::Node;
-use crate::short::{product, sum};
 use crate::spots::Spot;
 use tdf_expr_cuts::{
-    Cut, cut_by, cut_of, held_by, keeps_all, multiple_in, raised, roomy_cut, short_of,
+    Cut, cut_by, cut_of, held_by, keeps_all, multiple_in, product, raised, roomy_cut, short_of, sum,
 };
 use tdf_expr_state::{Cells, Signals};
 

@@ -10,31 +10,7 @@ use crate::narrow::truth;
 use crate::nodes::{Node, Relation, Sight, fitted_short};
 use crate::numbers::holds;
 use crate::spots::place;
-use tdf_expr_cuts::{raised, short_of};
-
-#[inline(always)]
-pub(crate) fn product(a: i64, b: i64) -> Option<i64>
-    ensures value { IfSome result (λ n. n ≡ a *ℤ b) }
-    ensures found { FitsSigned w64 (a *ℤ b) → IsSome result }
-{
-    short_of(i128::from(a) * i128::from(b))
-}
-
-#[inline(always)]
-pub(crate) fn sum(a: i64, b: i64) -> Option<i64>
-    ensures value { IfSome result (λ n. n ≡ a +ℤ b) }
-    ensures found { FitsSigned w64 (a +ℤ b) → IsSome result }
-{
-    a.checked_add(b)
-}
-
-#[inline(always)]
-fn difference(a: i64, b: i64) -> Option<i64>
-    ensures value { IfSome result (λ n. n ≡ a -ℤ b) }
-    ensures found { FitsSigned w64 (a -ℤ b) → IsSome result }
-{
-    a.checked_sub(b)
-}
+use tdf_expr_cuts::{difference, negative, product, raised, short_of, sum};
 
 #[inline(always)]
 pub(crate) fn relates(relation: Relation, a: i64, b: i64) -> bool
@@ -46,14 +22,6 @@ pub(crate) fn relates(relation: Relation, a: i64, b: i64) -> bool
         Relation::Equal => a == b,
         Relation::Different => a != b,
     }
-}
-
-#[inline(always)]
-fn negative(a: i64) -> Option<i64>
-    ensures value { IfSome result (λ n. n ≡ neg_ℤ a) }
-    ensures found { FitsSigned w64 (neg_ℤ a) → IsSome result }
-{
-    short_of(-i128::from(a))
 }
 
 /// The value of an expression without parts.

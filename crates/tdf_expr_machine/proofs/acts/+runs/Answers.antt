@@ -8,8 +8,8 @@ use Rattle.tdf_expr_machine.proofs.acts.+runs.Goals as goal
 
 pub run_turns-run-requires : goal.run_turns-run-requires
 run_turns-run-requires t c =
-    let now : 2 * act_size c.args.body.now + 1 ≡ t = c.decreases in
-    let falls : 2 * act_size c.args.body.now < t = omega (arith, now) in
+    let now : 2 * act_size c.args.body.now + 2 ≡ t = c.decreases in
+    let falls : 2 * act_size c.args.body.now + 1 < t = omega (arith, now) in
     let kept = c.loop-i.invariant in
     let room : length c.args.loops.now < length c.loop-i.inner = omega (arith, kept.long, c.requires.room) in (
       falls,
@@ -34,8 +34,8 @@ run_turns-loop-i-preserved t c =
 
 pub run_loop-run_turns-requires : goal.run_loop-run_turns-requires
 run_loop-run_turns-requires t c =
-    let now : 2 * act_size c.args.body.now + 2 ≡ t = c.decreases in
-    let falls : 2 * act_size c.args.body.now + 1 < t = omega (arith, now) in
+    let now : 2 * act_size c.args.body.now + 3 ≡ t = c.decreases in
+    let falls : 2 * act_size c.args.body.now + 2 < t = omega (arith, now) in
     let before : c.quick_turns-next.result ≤ c.args.end = omega (arith, c.if-next-end.true) in
     let safe = safe_on (act_turn c.args.body.now c.args.loops.now) (IsTurnSafe c.args.body.now c.args.loops.now) c.args.from c.quick_turns-next.result c.args.end (state_of c.args.cells.now c.args.signals.now) (state_of c.quick_turns-next.new.cells c.args.signals.now)
     c.quick_turns-next.ensures.after before c.quick_turns-next.ensures.state c.requires.safe in

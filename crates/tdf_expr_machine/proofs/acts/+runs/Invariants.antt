@@ -15,14 +15,14 @@ invariant-run_turns-loop-i l = record {
   ports : l.signals ≡ (turned (act_turn l.body l.loops) l.initial.i l.i (state_of l.initial.cells l.initial.signals)).ports;
 }
 
-abbrev pub decreases-run : goal.decreases-run
-decreases-run l = 2 * act_size l.act.now
+abbrev pub decreases-walk : goal.decreases-walk
+decreases-walk l = 2 * act_size l.act.now
 
-abbrev pub decreases-step : goal.decreases-step
-decreases-step l = 2 * act_size l.act.now + 1
+abbrev pub decreases-run : goal.decreases-run
+decreases-run l = 2 * act_size l.act.now + 1
 
 abbrev pub decreases-run_turns : goal.decreases-run_turns
-decreases-run_turns l = 2 * act_size l.body.now + 1
+decreases-run_turns l = 2 * act_size l.body.now + 2
 
 abbrev pub decreases-run_loop : goal.decreases-run_loop
-decreases-run_loop l = 2 * act_size l.body.now + 2
+decreases-run_loop l = 2 * act_size l.body.now + 3

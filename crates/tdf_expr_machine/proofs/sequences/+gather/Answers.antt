@@ -1,10 +1,10 @@
 use Rattle.std.proofs.Common.{◌≡◌, ◌-◌, ◌/◌, ◌+◌, IfOk, length, take, drop, subst, arith, ap, ◌∙◌}
 use Rattle.tdf_expr_machine.specs.Sequences.{IsSequence}
 use Rattle.tdf_expr_machine.proofs.InOrder.{last_two}
-use Rattle.tdf_expr_machine.proofs.sequences.+gathered.Goals as goal
+use Rattle.tdf_expr_machine.proofs.sequences.+gather.Goals as goal
 
-pub returns-in-Ok-clause-act : goal.returns-in-Ok-clause-act
-returns-in-Ok-clause-act t c =
+pub halves-returns-in-Ok-clause-act : goal.halves-returns-in-Ok-clause-act
+halves-returns-in-Ok-clause-act t c =
     let all = c.args.list.now.items in
     let half = c.args.count / 2 in
     let rest = take (length all - half) all in

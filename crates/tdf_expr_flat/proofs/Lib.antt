@@ -1,0 +1,2 @@
+pub mod Api
+pub mod InOrder

@@ -1,0 +1,8 @@
+//! Flat code: assignments as steps one after another, of numbers of 64 bits. Running it takes no memory and refuses nothing.
+//!
+//! - `steps`: the steps of flat code, and how they run.
+#![tactic(auto)]
+
+mod steps;
+
+pub use steps::{Fit, Operand, Operation, run_flat};
