@@ -3,13 +3,12 @@ use Rattle.std.proofs.Common.{◌≡◌, ℕ, zero, suc, ◌<◌, Bool, true, fa
 use Rattle.std.proofs.lemmas.Bool.{cases_lt, true≢false}
 use Rattle.std.proofs.lemmas.List.{ext_get_or, get_or_past, length-map}
 use Rattle.std.proofs.lemmas.Option.{slice_get_within}
-use Rattle.tdf_events_queue.proofs.Api.{forgotten_all as all_gone}
 use Rattle.tdf_events_queue.specs.Lists.{list_at}
-use Rattle.tdf_events_queue.specs.Sets.{AreForgotten, AreListed, is_on}
+use Rattle.tdf_events_queue.specs.Sets.{AreListed, is_on}
 use Rattle.tdf_events_queue.specs.Triggered.{AreAllTriggered}
 use Rattle.tdf_events.specs.Delta.{differs, updated}
 use Rattle.tdf_events.specs.Side.{value_at}
-use Rattle.tdf_events.specs.machine.Updating.{AreAllReached, AreReached, AreTaken, does_change}
+use Rattle.tdf_events.specs.machine.Updating.{AreAllReached, AreGiven, AreReached, IsGiven, IsUntouched, does_change}
 use Rattle.tdf_fixed.specs.declared.raw.Raw.{Raw}
 
 abbrev nothing : Option Raw
@@ -76,22 +75,32 @@ updated_long [] waiting = refl
 updated_long (v ∷ vs) [] = refl
 updated_long (v ∷ vs) (w ∷ ws) = ap suc (updated_long vs ws)
 
-pub taken_all : (values new : List Raw) (waiting : List (Option Raw)) (flags : List Bool) (members : List ℕ) → flags ≡ map is_some waiting → AreListed flags members → AreTaken members waiting (length members) values new
-    → new ≡ updated values waiting
-taken_all values new waiting flags members are listed taken = ext_get_or _ new (updated values waiting) (taken.same ∙ sym (updated_long values waiting))
-    (λ s less. one s (what waiting s) refl ∙ sym (updated_at values waiting s (omega (arith, less, taken.same))))
+-- the listed signals took their values, and nothing waits any more
+given_at : (values new : List Raw) (from waiting : List (Option Raw)) (flags : List Bool) (members : List ℕ) → flags ≡ map is_some from → AreListed flags members
+    → AreGiven members (length members) from waiting values new → (s : ℕ) → IsGiven from waiting values new s
+given_at values new from waiting flags members are listed given s = one (what from s) refl
   where
-    one : (s : ℕ) (o : Option Raw) → what waiting s ≡ o → value_at new s ≡ unwrap_or (what waiting s) (value_at values s)
-    one s (Some v) is = let w = listed_at flags members waiting s v are listed is in taken.taken w.0 s (slice_get_within members w.0 s w.1) w.1
-    one s None is = elim (taken.others s) [ inl same ↦ same ∙ sym (ap (λ o. unwrap_or o (value_at values s)) is) | inr other ↦ other ]
+    one : (o : Option Raw) → what from s ≡ o → IsGiven from waiting values new s
+    one (Some v) is = let w = listed_at flags members from s v are listed is in given.given w.0 s (slice_get_within members w.0 s w.1) w.1
+    one None is = elim (given.others s) [
+      | inl kept ↦ record { value = kept.value ∙ sym (ap (λ o. unwrap_or o (value_at values s)) is); gone = kept.same ∙ is }
+      | inr done ↦ done
+    ]
 
-pub forgotten_all : (waiting new : List (Option Raw)) (flags : List Bool) (members : List ℕ) → flags ≡ map is_some waiting → AreListed flags members → AreForgotten members (length members) waiting new
-    → new ≡ map (λ (value : Option Raw). nothing) waiting
-forgotten_all waiting new flags members are listed gone = all_gone flags members waiting new are listed.all gone ∙ none_map waiting
+pub taken_all : (values new : List Raw) (from waiting : List (Option Raw)) (flags : List Bool) (members : List ℕ) → flags ≡ map is_some from → AreListed flags members
+    → AreGiven members (length members) from waiting values new → new ≡ updated values from
+taken_all values new from waiting flags members are listed given = ext_get_or _ new (updated values from) (given.values ∙ sym (updated_long values from))
+    (λ s less. (given_at values new from waiting flags members are listed given s).value ∙ sym (updated_at values from s (omega (arith, less, given.values))))
+
+pub forgotten_all : (values new : List Raw) (from waiting : List (Option Raw)) (flags : List Bool) (members : List ℕ) → flags ≡ map is_some from → AreListed flags members
+    → AreGiven members (length members) from waiting values new → waiting ≡ map (λ (value : Option Raw). nothing) from
+forgotten_all values new from waiting flags members are listed given = ext_get_or nothing waiting (map (λ (value : Option Raw). nothing) from) (given.waits ∙ sym (length-map from (λ (value : Option Raw). nothing)))
+    (λ s less. (given_at values new from waiting flags members are listed given s).gone ∙ sym (none_map from s))
   where
-    none_map : (xs : List (Option Raw)) → replicate (length xs) nothing ≡ map (λ (value : Option Raw). nothing) xs
-    none_map [] = refl
-    none_map (x ∷ xs) = ap (λ (ys : List (Option Raw)). nothing ∷ ys) (none_map xs)
+    none_map : (xs : List (Option Raw)) (s : ℕ) → what (map (λ (value : Option Raw). nothing) xs) s ≡ nothing
+    none_map [] s = refl
+    none_map (x ∷ xs) zero = refl
+    none_map (x ∷ xs) (suc s) = none_map xs s
 
 pub flags_gone : (xs : List (Option Raw)) → map is_some (map (λ (value : Option Raw). nothing) xs) ≡ replicate (length xs) false
 flags_gone [] = refl

@@ -2,9 +2,8 @@
 
 ghost use Rattle.std.specs.Prelude.{◌≡◌, ◌<◌, ℕ, Some, length, slice_get};
 ghost use Rattle.tdf_events_queue.specs.Lists.{list_at};
-ghost use Rattle.tdf_events_queue.specs.Sets.{AreForgotten};
 ghost use Rattle.tdf_events.specs.Delta.{differs};
-ghost use Rattle.tdf_events.specs.machine.Updating.{AreReached, AreTaken, does_change};
+ghost use Rattle.tdf_events.specs.machine.Updating.{AreGiven, AreReached, does_change};
 
 use tdf_events_queue::{Lists, NumberSet, trigger};
 use tdf_fixed::Raw;
@@ -43,28 +42,24 @@ pub(crate) fn trigger_changed(
     }
 }
 
-/// Each signal takes the value that waits for it.
-pub(crate) fn take_values(signals: &[u32], waiting: &[Option<Raw>], values: &mut Vec<Raw>)
+/// Each signal takes the value that waits for it, and nothing waits for it any more.
+pub(crate) fn give_values(
+    signals: &[u32],
+    waiting: &mut Vec<Option<Raw>>,
+    values: &mut Vec<Raw>,
+)
     requires values { (i s : ℕ) → slice_get signals.now i ≡ Some s
         → s < length values.old.items }
-    requires waiting { (i s : ℕ) → slice_get signals.now i ≡ Some s → s < length waiting.now }
-    ensures { AreTaken signals.now waiting.now (length signals.now) values.old.items
-        values.new.items }
+    requires waiting { (i s : ℕ) → slice_get signals.now i ≡ Some s
+        → s < length waiting.old.items }
+    ensures { AreGiven signals.now (length signals.now) waiting.old.items waiting.new.items
+        values.old.items values.new.items }
 {
     for i in 0..signals.len() {
         let signal = signals[i] as usize;
         if let Some(new) = waiting[signal] {
             values[signal] = new;
+            waiting[signal] = None;
         }
-    }
-}
-
-/// Nothing waits any more.
-pub(crate) fn forget(signals: &[u32], waiting: &mut Vec<Option<Raw>>)
-    requires { (i s : ℕ) → slice_get signals.now i ≡ Some s → s < length waiting.old.items }
-    ensures { AreForgotten signals.now (length signals.now) waiting.old.items waiting.new.items }
-{
-    for i in 0..signals.len() {
-        waiting[signals[i] as usize] = None;
     }
 }

@@ -30,7 +30,7 @@ ghost use Rattle.tdf_events.specs.Processes.{written, written_first, value_of_po
 ghost use Rattle.tdf_events.specs.machine.Updating.{AreAllReached, does_change};
 ghost use Rattle.tdf_expr.specs.declared.spans.PortSpan.{PortSpan as PortSpanOf};
 
-use crate::updating::{forget, take_values, trigger_changed};
+use crate::updating::{give_values, trigger_changed};
 use std::alloc::Global;
 use tdf_base::Memory;
 use tdf_convert::SignalWrite;
@@ -68,8 +68,7 @@ impl Waiting {
         ensures values { values.new.items ≡ updated values.old.items self.old }
         ensures waiting { self.new ≡ map (λ value. None) self.old }
     {
-        take_values(self.signals.members(), &self.values, values);
-        forget(self.signals.members(), &mut self.values);
+        give_values(self.signals.members(), &mut self.values, values);
         self.signals.clear();
     }
 

@@ -32,14 +32,25 @@ pub record AreReached (lists : List (List ℕ)) (changes : ℕ → Bool) (signal
   pub only : (p : ℕ) → is_on new p ≡ true
       → (is_on old p ≡ true) ⊎ IsReachedBy lists changes signals p
 
--- the first n signals took the values that wait for them; no other changed
-pub record AreTaken (signals : List ℕ) (waiting : List (Option Raw)) (n : ℕ) (old new : List Raw)
-    : Type 0 where
-  pub same : length new ≡ length old
-  pub taken : (i s : ℕ) → i < n → slice_get signals i ≡ Some s
-      → value_at new s ≡ unwrap_or (slice_index_or waiting s None) (value_at old s)
-  pub others : (s : ℕ) → (value_at new s ≡ value_at old s)
-      ⊎ (value_at new s ≡ unwrap_or (slice_index_or waiting s None) (value_at old s))
+-- a signal took the value that waited for it, and nothing waits for it any more
+pub record IsGiven (from waiting : List (Option Raw)) (old new : List Raw) (s : ℕ) : Type 0 where
+  pub value : value_at new s ≡ unwrap_or (slice_index_or from s None) (value_at old s)
+  pub gone : slice_index_or waiting s None ≡ None
+
+-- the same value waits for a signal, which is as it was
+pub record IsUntouched (from waiting : List (Option Raw)) (old new : List Raw) (s : ℕ) : Type 0
+    where
+  pub value : value_at new s ≡ value_at old s
+  pub same : slice_index_or waiting s None ≡ slice_index_or from s None
+
+-- the first n signals took the values that waited for them; no other changed but by the same
+pub record AreGiven (signals : List ℕ) (n : ℕ) (from waiting : List (Option Raw))
+    (old new : List Raw) : Type 0 where
+  pub values : length new ≡ length old
+  pub waits : length waiting ≡ length from
+  pub given : (i s : ℕ) → i < n → slice_get signals i ≡ Some s
+      → IsGiven from waiting old new s
+  pub others : (s : ℕ) → IsUntouched from waiting old new s ⊎ IsGiven from waiting old new s
 
 -- a process that is sensitive to a number that passes
 pub record IsSensitive (lists : List (List ℕ)) (test : ℕ → Bool) (p : ℕ) : Type 0 where
