@@ -2,6 +2,7 @@
 
 ghost use Rattle.std.specs.Prelude.{◌≡◌, ◌≤◌, ◌<◌, ◌++◌, [], ◌∷◌, length, drop, slice_get, IfOk, OnErr, OnOk, Some};
 ghost use Rattle.tdf_rings.specs.Rings.{ring_of};
+ghost use Rattle.tdf_rings.specs.views.Held.{ring_in};
 
 use circular_buffer::HeapCircularBuffer;
 use std::alloc::Global;
@@ -9,21 +10,35 @@ use std::marker::Model;
 use tdf_base::Memory;
 use tdf_fixed::Raw;
 
-/// The samples that an edge holds, in order, and how many it may hold. Only [`Ring::new`] and [`Ring::resize_keep`] take memory.
+/// The samples that an edge holds, in order, and how many it may hold. Only [`Ring::new`] and [`Ring::resize_keep`] take memory, and
+/// a ring of capacity 0 has none.
 #[derive(Drop)]
 pub struct Ring {
-    buffer: HeapCircularBuffer<Raw>,
+    alloc: Global,
+    /// None where the capacity is 0.
+    buffer: Option<HeapCircularBuffer<Raw>>,
 }
 
 impl Model for Ring {
     ghost use Rattle.std.specs.Prelude.{◌<◌, ◌^◌};
     ghost use Rattle.tdf_rings.specs.Rings.{RingOf};
+    ghost use Rattle.tdf_rings.specs.views.Held.{ring_in};
 
     ghost Value = { RingOf };
 
-    ghost view = { λ a. record { samples = a.buffer.items; capacity = a.buffer.capacity } };
+    ghost view = { λ a. ring_in a.buffer };
 
-    ghost invariant = { λ a. record { few : a.buffer.capacity < 2 ^ 32 } };
+    ghost invariant = { λ a. record { few : (ring_in a.buffer).capacity < 2 ^ 32 } };
+}
+
+/// An empty buffer of a capacity; none for 0.
+fn buffer_of(alloc: Global, capacity: u32) -> Result<Option<HeapCircularBuffer<Raw>>, Memory>
+    ensures { IfOk result (λ buffer. ring_in buffer ≡ ring_of [] capacity) }
+{
+    if capacity == 0 {
+        return Ok(None);
+    }
+    Ok(Some(HeapCircularBuffer::with_capacity(alloc, capacity as usize)?))
 }
 
 impl Ring {
@@ -34,23 +49,28 @@ impl Ring {
     pub fn new(alloc: Global, capacity: u32) -> Result<Ring, Memory>
         ensures { IfOk result (λ ring. ring ≡ ring_of [] capacity) }
     {
-        Ok(Ring {
-            buffer: HeapCircularBuffer::with_capacity(alloc, capacity as usize)?,
-        })
+        let buffer = buffer_of(alloc, capacity)?;
+        Ok(Ring { alloc, buffer })
     }
 
     /// How many samples it holds.
     pub fn len(&self) -> u32
         ensures { result ≡ length self.now.samples }
     {
-        self.buffer.len() as u32
+        match &self.buffer {
+            Some(buffer) => buffer.len() as u32,
+            None => 0,
+        }
     }
 
     /// How many samples it may hold.
     pub fn capacity(&self) -> u32
         ensures { result ≡ self.now.capacity }
     {
-        self.buffer.capacity() as u32
+        match &self.buffer {
+            Some(buffer) => buffer.capacity() as u32,
+            None => 0,
+        }
     }
 
     /// Sample `i` from the front.
@@ -58,9 +78,12 @@ impl Ring {
         requires { i < length self.now.samples }
         ensures { slice_get self.now.samples i ≡ Some result }
     {
-        match self.buffer.get(i as usize) {
-            Some(value) => *value,
-            None => Raw { num: 0, frac: 0 },
+        match &self.buffer {
+            Some(buffer) => match buffer.get(i as usize) {
+                Some(value) => *value,
+                None => unreachable!(),
+            },
+            None => unreachable!(),
         }
     }
 
@@ -70,9 +93,12 @@ impl Ring {
         ensures value { slice_get self.old.samples 0 ≡ Some result }
         ensures rest { self.new ≡ ring_of (drop 1 self.old.samples) self.old.capacity }
     {
-        match self.buffer.pop_front() {
-            Some(value) => value,
-            None => Raw { num: 0, frac: 0 },
+        match &mut self.buffer {
+            Some(buffer) => match buffer.pop_front() {
+                Some(value) => value,
+                None => unreachable!(),
+            },
+            None => unreachable!(),
         }
     }
 
@@ -81,8 +107,10 @@ impl Ring {
         requires { n ≤ length self.old.samples }
         ensures { self.new ≡ ring_of (drop n self.old.samples) self.old.capacity }
     {
-        let left = self.buffer.len() - n as usize;
-        self.buffer.truncate_front(left);
+        if let Some(buffer) = &mut self.buffer {
+            let left = buffer.len() - n as usize;
+            buffer.truncate_front(left);
+        }
     }
 
     /// Appends a sample.
@@ -90,7 +118,13 @@ impl Ring {
         requires { length self.old.samples < self.old.capacity }
         ensures { self.new ≡ ring_of (self.old.samples ++ value ∷ []) self.old.capacity }
     {
-        let _ = self.buffer.try_push_back(value);
+        match &mut self.buffer {
+            Some(buffer) => match buffer.try_push_back(value) {
+                Ok(()) => {}
+                Err(_) => unreachable!(),
+            },
+            None => unreachable!(),
+        }
     }
 
     /// The same samples, with another capacity.
@@ -102,7 +136,11 @@ impl Ring {
         ensures ok { OnOk result (self.new ≡ ring_of self.old.samples capacity) }
         ensures err { OnErr result (self.new ≡ self.old) }
     {
-        self.buffer.resize(capacity as usize)?;
+        if let Some(buffer) = &mut self.buffer {
+            buffer.resize(capacity as usize)?;
+            return Ok(());
+        }
+        self.buffer = buffer_of(self.alloc, capacity)?;
         Ok(())
     }
 }

@@ -1,4 +1,4 @@
-use Rattle.std.proofs.Common.{◌≡◌, ◌≤◌, ◌<◌, ℕ, length, slice_index_or}
+use Rattle.std.proofs.Common.{◌≡◌, ◌≤◌, ℕ, length, slice_index_or}
 use Rattle.std.specs.Prelude.{None}
 use Rattle.tdf_rings.specs.Carried.{AreCarriedUpTo}
 use Rattle.tdf_rings.proofs.carrying.place_all.Given as goal
