@@ -1,10 +1,9 @@
 -- One port more is counted.
-use Rattle.std.proofs.Common.{◌≡◌, ◌∙◌, ◌≢◌, ℕ, ◌+◌, ◌<◌, Bool, true, false, Some, if◌then◌else◌, nat_eq, List, [], ◌∷◌, ◌++◌, length, length-append, take, refl, ap, sym, inl, inr, ◌⊎◌, arith, slice_get, slice_index}
-use Rattle.std.proofs.Math.ListN.{get_or-append}
-use Rattle.std.proofs.Math.Seq.{get_or-append_seam}
+use Rattle.std.proofs.Common.{◌≡◌, ◌∙◌, ◌≢◌, ℕ, ◌+◌, ◌<◌, ◌≤◌, Bool, true, false, Some, if◌then◌else◌, nat_eq, List, [], ◌∷◌, ◌++◌, length, length-append, take, refl, ap, sym, inl, inr, ◌⊎◌, arith, slice_get, slice_index}
 use Rattle.std.proofs.lemmas.Bool.{cases_eq, eq-eqb, ne_eqb}
-use Rattle.std.proofs.lemmas.List.{get_or-set_same, get_or-set_other, length-set, take_more}
+use Rattle.std.proofs.lemmas.List.{get_or-set_same, get_or-set_other, length-set, length-take-le, take_more}
 use Rattle.std.proofs.lemmas.List.Elements.{filter-append}
+use Rattle.std.proofs.lemmas.List.Sums.{count_by-le-length, length-filter}
 use Rattle.std.proofs.lemmas.Option.{get_or_from_slice_get, slice_get_within}
 use Rattle.std.specs.Prelude.{cond, filter, slice_set}
 use Rattle.tdf_exec_layout.specs.machine.Places.{PlacesUpTo, count_of}
@@ -28,14 +27,22 @@ count_next ports n m port at =
 pub place_is : (ports : List PortRow) (n : ℕ) (port : PortRow) → slice_get ports n ≡ Some port → place_of_port ports n ≡ count_of (take n ports) port.«module»
 place_is ports n port at = ap (λ o. count_of (take n ports) (module_of_row o)) at
 
-pub places_next : (modules : ℕ) (ports : List PortRow) (n : ℕ) (port : PortRow) (counts places new : List ℕ) (count next : ℕ) → PlacesUpTo modules ports n counts places
-    → slice_get ports n ≡ Some port → port.«module» < modules → count ≡ slice_index counts port.«module» → next ≡ count + 1 → new ≡ places ++ count ∷ []
-    → PlacesUpTo modules ports (n + 1) (slice_set counts port.«module» next) new
-places_next modules ports n port counts places new count next h at inside count_is next_is new_is = record {
+-- no module has more of the first n ports than n
+pub count_within : (ports : List PortRow) (n m : ℕ) → n ≤ length ports → count_of (take n ports) m ≤ n
+count_within ports n m below =
+    let few = count_by-le-length (λ (p : PortRow). nat_eq p.«module» m) (take n ports) in
+    let is = length-filter (λ (p : PortRow). nat_eq p.«module» m) (take n ports) in
+    let long = length-take-le n ports below in
+    omega (arith, few, is, long)
+
+pub places_next : (modules : ℕ) (ports : List PortRow) (n : ℕ) (port : PortRow) (counts places : List ℕ) (count next : ℕ) → PlacesUpTo modules ports n counts places
+    → slice_get ports n ≡ Some port → port.«module» < modules → count ≡ slice_index counts port.«module» → next ≡ count + 1
+    → PlacesUpTo modules ports (n + 1) (slice_set counts port.«module» next) (slice_set places n count)
+places_next modules ports n port counts places count next h at inside count_is next_is = record {
   many = length-set counts port.«module» next ∙ h.many;
   counted = λ m below. counted m below (cases_eq m port.«module»);
-  long = ap length new_is ∙ length-append places (count ∷ []) ∙ ap (λ k. k + 1) h.long;
-  each = λ j below. ap (λ l. slice_index l j) new_is ∙ each j (cases_eq j n) below;
+  long = length-set places n count ∙ h.long;
+  each = λ j below. each j (cases_eq j n) below;
 }
   where
     counted : (m : ℕ) → m < modules → (m ≡ port.«module») ⊎ (m ≢ port.«module») → slice_index (slice_set counts port.«module» next) m ≡ count_of (take (n + 1) ports) m
@@ -46,7 +53,8 @@ places_next modules ports n port counts places new count next h at inside count_
         get_or-set_other counts port.«module» m next 0 other ∙ h.counted m below
         ∙ sym (count_next ports n m port at ∙ ap (λ b. count_of (take n ports) m + one_if b) (ne_eqb port.«module» m (λ s. other (sym s))) ∙ omega arith)
 
-    each : (j : ℕ) → (j ≡ n) ⊎ (j ≢ n) → j < n + 1 → slice_index (places ++ count ∷ []) j ≡ place_of_port ports j
-    each j (inl same) below = ap (λ k. slice_index (places ++ count ∷ []) k) (same ∙ sym h.long) ∙ get_or-append_seam places count [] 0
+    each : (j : ℕ) → (j ≡ n) ⊎ (j ≢ n) → j < n + 1 → slice_index (slice_set places n count) j ≡ place_of_port ports j
+    each j (inl same) below = let l = h.long in let room = slice_get_within ports n port at in
+        ap (λ k. slice_index (slice_set places n count) k) same ∙ get_or-set_same places n count 0 (omega (arith, room, l))
         ∙ count_is ∙ h.counted port.«module» inside ∙ sym (ap (place_of_port ports) same ∙ place_is ports n port at)
-    each j (inr other) below = let low : j < n = omega (arith, below, other) in let l = h.long in get_or-append places (count ∷ []) 0 j (omega (arith, low, l)) ∙ h.each j low
+    each j (inr other) below = get_or-set_other places n j count 0 other ∙ h.each j (omega (arith, below, other))

@@ -11,6 +11,7 @@ pub mod Rates
 pub mod Rows
 pub mod Samples
 pub mod Setting
+pub mod Telling
 pub mod Told
 pub mod Uses
 pub mod Wired

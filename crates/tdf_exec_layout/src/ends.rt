@@ -89,7 +89,7 @@ fn edges_of(alloc: Global, outs: &[OutWire]) -> Result<Vec<u32>, Memory>
 pub(crate) fn no_ends(alloc: Global, count: usize) -> Result<Vec<Ends>, Memory>
     ensures { IfOk result (λ rows. rows.items ≡ replicate count no_ends) }
 {
-    let mut rows = Vec::new(alloc);
+    let mut rows = Vec::with_capacity(alloc, count)?;
     for _ in 0..count {
         rows.push(Ends::new(alloc))?;
     }

@@ -5,7 +5,7 @@ ghost use Rattle.tdf_bind_tables.specs.Ranges.{AreInRange};
 ghost use Rattle.tdf_bind_tables.specs.declared.actors.ActorRow.{ActorRow as ActorRowOf};
 ghost use Rattle.tdf_exec_firing.specs.declared.wires.InWire.{InWire as InWireOf};
 ghost use Rattle.tdf_exec_layout.specs.Wires.{AreClusterWires, SinksHaveOne};
-ghost use Rattle.tdf_exec_layout.specs.machine.Ends.{HasInputIf, IsToldIf, ToldUpTo, ends_at};
+ghost use Rattle.tdf_exec_layout.specs.machine.Ends.{HasInput, HasInputIf, IsTold, ToldUpTo, ends_at};
 
 use crate::ends::Ends;
 use crate::gathering::gathered;
@@ -49,23 +49,19 @@ fn sink_edge(ends: Ends) -> u32
     edge
 }
 
-/// What an actor is told of its edges.
-fn told(alloc: Global, actor: ActorRow, cluster: u32, ends: Ends) -> Result<ActorWires, Memory>
-    requires { HasInputIf (nat_eq actor.cluster cluster) actor.kind ends }
-    ensures { IfOk result (λ wires. IsToldIf (nat_eq actor.cluster cluster) actor.kind ends wires) }
+/// What an actor of the cluster is told of its edges.
+fn told(alloc: Global, kind: Actor, ends: Ends) -> Result<ActorWires, Memory>
+    requires { HasInput kind ends }
+    ensures { IfOk result (λ wires. IsTold kind ends wires) }
 {
-    if actor.cluster != cluster {
-        drop(ends);
-        return Ok(ActorWires::Elsewhere);
-    }
-    match actor.kind {
+    match kind {
         Actor::Module => Ok(ActorWires::Module(ends.wires())),
         Actor::Sampler => Ok(ActorWires::Sampler(sampler_edges(alloc, ends)?)),
         Actor::Sink => Ok(ActorWires::Sink(sink_edge(ends))),
     }
 }
 
-/// What each actor is told.
+/// What each actor is told; of those of other clusters the rows are not looked at.
 fn all_told(
     alloc: Global,
     actors: &[ActorRow],
@@ -78,10 +74,15 @@ fn all_told(
     ensures { IfOk result (λ wires.
         ToldUpTo actors.now cluster (length actors.now) rows.old.items rows.new.items wires.items) }
 {
-    let mut wires = Vec::new(alloc);
+    let mut wires = Vec::with_capacity(alloc, actors.len())?;
     for m in 0..actors.len() {
+        let actor = actors[m];
+        if actor.cluster != cluster {
+            wires.push(ActorWires::Elsewhere)?;
+            continue;
+        }
         let ends = mem::replace(&mut rows[m], Ends::new(alloc));
-        let row = told(alloc, actors[m], cluster, ends)?;
+        let row = told(alloc, actor.kind, ends)?;
         wires.push(row)?;
     }
     Ok(wires)

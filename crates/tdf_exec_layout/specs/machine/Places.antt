@@ -8,10 +8,10 @@ use Rattle.tdf_bind_connections.specs.declared.modules.PortRow.{PortRow}
 abbrev pub count_of : List PortRow → ℕ → ℕ
 count_of ports m = length (filter (λ (port : PortRow). nat_eq port.«module» m) ports)
 
--- the first n ports have their places, and those of each module are counted
+-- the first n ports have their places, those of each module are counted, and each port has room
 pub record PlacesUpTo (modules : ℕ) (ports : List PortRow) (n : ℕ) (counts places : List ℕ)
     : Type 0 where
   pub many : length counts ≡ modules
   pub counted : (m : ℕ) → m < modules → slice_index counts m ≡ count_of (take n ports) m
-  pub long : length places ≡ n
+  pub long : length places ≡ length ports
   pub each : (j : ℕ) → j < n → slice_index places j ≡ place_of_port ports j
