@@ -23,23 +23,7 @@ fn put_samples(ring: &mut Ring, samples: &[Raw])
     }
 }
 
-/// The samples of an edge at first; none of an edge of another cluster.
-fn list_of(
-    alloc: Global,
-    tables: &FlatTables,
-    cluster: u32,
-    edge: EdgeRow,
-) -> Result<Vec<Raw>, Memory>
-    requires { edge.writer < length tables.now.actors }
-    ensures { IfOk result (λ samples. samples.items ≡ list_of tables.now cluster edge) }
-{
-    if tables.actors[edge.writer as usize].cluster != cluster {
-        return Ok(Vec::new(alloc));
-    }
-    initial_samples(alloc, tables, edge)
-}
-
-/// The ring of an edge.
+/// The ring of an edge, with its samples at first; none in that of an edge of another cluster.
 fn first_ring(
     alloc: Global,
     tables: &FlatTables,
@@ -51,7 +35,10 @@ fn first_ring(
     requires fits { length (list_of tables.now cluster edge) ≤ bound }
     ensures { IfOk result (λ ring. ring ≡ ring_of (list_of tables.now cluster edge) bound) }
 {
-    let samples = list_of(alloc, tables, cluster, edge)?;
+    if tables.actors[edge.writer as usize].cluster != cluster {
+        return Ring::new(alloc, bound);
+    }
+    let samples = initial_samples(alloc, tables, edge)?;
     let mut ring = Ring::new(alloc, bound)?;
     put_samples(&mut ring, &samples);
     Ok(ring)
@@ -72,7 +59,7 @@ pub fn first_rings(
     ensures { IfOk result (λ rings.
         AreFirstRings tables.now cluster bounds.now (length tables.now.edges) rings.items) }
 {
-    let mut rings = Vec::new(alloc);
+    let mut rings = Vec::with_capacity(alloc, tables.edges.len())?;
     for e in 0..tables.edges.len() {
         rings.push(first_ring(alloc, tables, cluster, bounds[e], tables.edges[e])?)?;
     }
