@@ -125,9 +125,10 @@ impl Column {
         if front != time {
             return front;
         }
-        if let Some(item) = self.held.pop_front() {
+        if let Some(item) = self.held.front() {
             self.shown = item.value;
         }
+        self.held.pop_front();
         self.front_time(u64::MAX)
     }
 
@@ -188,5 +189,10 @@ fn put_into(held: &mut VecDeque<Held>, item: Held) -> Result<(), AllocError>
         held.push_back_reserved(item);
         return Ok(());
     }
-    put_at(held, place, item)
+    // `put_at` gets a copy of its own: a cell that comes last is then never laid down anywhere but in the queue.
+    let again = Held {
+        time: item.time,
+        value: item.value,
+    };
+    put_at(held, place, again)
 }

@@ -59,7 +59,7 @@ fn push_cell(line: &mut Vec<u8>, columns: &Vec<Column>, column: usize) -> Result
     requires shown { AreShown columns.now.items }
     ensures { OnOk result (line.new.items ≡ line.old.items ++ cell_piece (shown_row columns.now.items) column) }
 {
-    push_word(line, b" ")?;
+    line.push(b' ')?;
     push_value(line, columns[column].shown())
 }
 
@@ -76,6 +76,7 @@ fn push_cells(line: &mut Vec<u8>, columns: &Vec<Column>) -> Result<(), Memory>
 }
 
 /// Appends a row: `TIME CELL CELL ..`, the time in seconds.
+#[inline(always)]
 #[tactic(auto, unfolding(crate::specs::Tables::table_line), using(crate::proofs::Pieces::text_laws))]
 pub(crate) fn push_line(
     line: &mut Vec<u8>,
@@ -88,5 +89,6 @@ pub(crate) fn push_line(
 {
     push_seconds_at(line, time, resolution)?;
     push_cells(line, columns)?;
-    push_word(line, b"\n")
+    line.push(b'\n')?;
+    Ok(())
 }

@@ -77,6 +77,7 @@ impl Tracked {
     }
 
     /// The next position gets its time and its sample.
+    #[inline(always)]
     fn stamp(&mut self, trace: &mut Trace, value: Raw) -> Result<(), Memory>
         requires left { 0 < self.old.stamps.left }
         requires columns { AreColumns (length trace.old.about.variables) self.old.columns }
@@ -94,6 +95,7 @@ impl Tracked {
     }
 
     /// A sample came: it is noted if its position has a time, else it waits.
+    #[inline(always)]
     pub(crate) fn give(&mut self, trace: &mut Trace, value: Raw) -> Result<(), Memory>
         requires columns { AreColumns (length trace.old.about.variables) self.old.columns }
         requires upto { 0 < self.old.stamps.left → trace.old.rows.upto ≤ self.old.stamps.time }

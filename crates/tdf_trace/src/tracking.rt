@@ -154,6 +154,7 @@ impl Tracking {
     }
 
     /// A sample of a signal came.
+    #[inline(always)]
     fn give_one(&mut self, trace: &mut Trace, sample: Traced) -> Result<(), Memory>
         requires width { self.old.width ≤ length trace.old.about.variables }
         requires since { AreSince trace.old.rows.upto self.old.list }
@@ -180,6 +181,7 @@ impl Tracking {
     ///
     /// # Errors
     /// Out of memory; some cells may be noted then.
+    #[inline(always)]
     pub fn give(&mut self, trace: &mut Trace, traced: &[Traced]) -> Result<(), Memory>
         requires width { self.old.width ≤ length trace.old.about.variables }
         requires since { AreSince trace.old.rows.upto self.old.list }
