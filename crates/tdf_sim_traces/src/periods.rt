@@ -82,6 +82,7 @@ fn begin_one(
 ///
 /// # Errors
 /// Out of memory; some cells may be noted then.
+#[inline(always)]
 pub(crate) fn begin_all(
     tracking: &mut Tracking,
     trace: &mut Trace,

@@ -150,6 +150,7 @@ impl Shown {
     ///
     /// # Errors
     /// Out of memory.
+    #[inline(always)]
     pub fn take(
         &mut self,
         flat: &Flat,
