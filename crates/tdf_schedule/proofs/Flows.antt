@@ -16,7 +16,7 @@ use Rattle.tdf_schedule.proofs.Keys.{some_same, at_contains}
 use Rattle.tdf_schedule.specs.Plan.{done}
 use Rattle.tdf_schedule.specs.declared.entry.Entry.{Entry}
 use Rattle.tdf_schedule.specs.views.Bounds.{held_of, AreRaisedUpTo, HasFired, AreBoundsUpTo, AreWalkedUpTo, AreInitialUpTo}
-use Rattle.tdf_schedule.specs.views.Work.{links_at, AreInputsUpTo, AreOutputsUpTo}
+use Rattle.tdf_schedule.specs.views.Table.{AreInputs, AreOutputs}
 
 -- a list raises the bounds of its edges
 module _ (list : List ℕ) (edges : List Edge) (counts old new : List ℕ) (raised : AreRaisedUpTo (length list) list edges counts old new) where
@@ -37,10 +37,18 @@ module _ (list : List ℕ) (edges : List Edge) (counts old new : List ℕ) (rais
   pub not_in_list : (k : ℕ) → ((j : ℕ) → slice_get list j ≡ Some k → ⊥) → get_or new k 0 ≡ get_or old k 0
   not_in_list k none = raised.rest k (λ j within same. none j (slice_get-get_or list j 0 within ∙ ap Some same))
 
+-- the numbers of a list are those of edges
+pub into_within : (edges : List Edge) (m : ℕ) (inputs list : List ℕ) → AreInputs edges m inputs → list ≡ inputs → (j : ℕ) → j < length list → get_or list j 0 < length edges
+into_within edges m inputs list are is j here =
+    let x = are.only j (get_or list j 0) (ap (λ (l : List ℕ). slice_get l j) (sym is) ∙ slice_get-get_or list j 0 here) in slice_get_within edges (get_or list j 0) x.0 x.1
+
+pub out_within : (edges : List Edge) (m : ℕ) (outputs list : List ℕ) → AreOutputs edges m outputs → list ≡ outputs → (j : ℕ) → j < length list → get_or list j 0 < length edges
+out_within edges m outputs list are is j here =
+    let x = are.only j (get_or list j 0) (ap (λ (l : List ℕ). slice_get l j) (sym is) ∙ slice_get-get_or list j 0 here) in slice_get_within edges (get_or list j 0) x.0 x.1
+
 -- the edges into an actor and those from it
-module _ (actor count : ℕ) (edges : List Edge) (inputs outputs : List (List ℕ)) (into out : List ℕ) (counts old mid new : List ℕ)
-    (ins : AreInputsUpTo (length edges) count edges inputs) (outs : AreOutputsUpTo (length edges) count edges outputs)
-    (into_is : into ≡ links_at inputs actor) (out_is : out ≡ links_at outputs actor)
+module _ (actor : ℕ) (edges : List Edge) (inputs outputs into out : List ℕ) (counts old mid new : List ℕ)
+    (ins : AreInputs edges actor inputs) (outs : AreOutputs edges actor outputs) (into_is : into ≡ inputs) (out_is : out ≡ outputs)
     (first : AreRaisedUpTo (length into) into edges counts old mid) (second : AreRaisedUpTo (length out) out edges counts mid new) where
   pub fired : HasFired actor edges counts old new
   fired = record {
@@ -53,18 +61,18 @@ module _ (actor count : ℕ) (edges : List Edge) (inputs outputs : List (List �
     where
       not_into : (k : ℕ) (e : Edge) → slice_get edges k ≡ Some e → (e.reader ≡ actor → ⊥) → (j : ℕ) → slice_get into j ≡ Some k → ⊥
       not_into k e e_is not j found =
-          let x = ins.only actor j k (ap (λ (l : List ℕ). slice_get l j) (sym into_is) ∙ found) in
+          let x = ins.only j k (ap (λ (l : List ℕ). slice_get l j) (sym into_is) ∙ found) in
           not (ap (λ (y : Edge). y.reader) (some_same (sym e_is ∙ x.1)) ∙ x.2)
 
       not_out : (k : ℕ) (e : Edge) → slice_get edges k ≡ Some e → (e.writer ≡ actor → ⊥) → (j : ℕ) → slice_get out j ≡ Some k → ⊥
       not_out k e e_is not j found =
-          let x = outs.only actor j k (ap (λ (l : List ℕ). slice_get l j) (sym out_is) ∙ found) in
+          let x = outs.only j k (ap (λ (l : List ℕ). slice_get l j) (sym out_is) ∙ found) in
           not (ap (λ (y : Edge). y.writer) (some_same (sym e_is ∙ x.1)) ∙ x.2)
 
       touched : (k : ℕ) (e : Edge) → slice_get edges k ≡ Some e → (e.reader ≡ actor) ⊎ (e.writer ≡ actor) → get_or new k 0 ≡ max (get_or old k 0) (held_of e counts)
       touched k e e_is (inl reads) =
-          let j = ins.all k e (slice_get_within edges k e e_is) e_is in
-          let a = in_list into edges counts old mid first j.0 k e (ap (λ (l : List ℕ). slice_get l j.0) into_is ∙ ap (λ m. slice_get (links_at inputs m) j.0) (sym reads) ∙ j.1) e_is in
+          let j = ins.all k e e_is reads in
+          let a = in_list into edges counts old mid first j.0 k e (ap (λ (l : List ℕ). slice_get l j.0) into_is ∙ j.1) e_is in
           go a (by_list out edges counts mid new second k e e_is)
         where
           go : get_or mid k 0 ≡ max (get_or old k 0) (held_of e counts) → (get_or new k 0 ≡ max (get_or mid k 0) (held_of e counts)) ⊎ (get_or new k 0 ≡ get_or mid k 0) → get_or new k 0 ≡ max (get_or old k 0) (held_of e counts)
@@ -74,8 +82,8 @@ module _ (actor count : ℕ) (edges : List Edge) (inputs outputs : List (List �
               twice x y = omega arith
           go a (inr b) = b ∙ a
       touched k e e_is (inr writes) =
-          let j = outs.all k e (slice_get_within edges k e e_is) e_is in
-          let b = in_list out edges counts mid new second j.0 k e (ap (λ (l : List ℕ). slice_get l j.0) out_is ∙ ap (λ m. slice_get (links_at outputs m) j.0) (sym writes) ∙ j.1) e_is in
+          let j = outs.all k e e_is writes in
+          let b = in_list out edges counts mid new second j.0 k e (ap (λ (l : List ℕ). slice_get l j.0) out_is ∙ j.1) e_is in
           go b (by_list into edges counts old mid first k e e_is)
         where
           go : get_or new k 0 ≡ max (get_or mid k 0) (held_of e counts) → (get_or mid k 0 ≡ max (get_or old k 0) (held_of e counts)) ⊎ (get_or mid k 0 ≡ get_or old k 0) → get_or new k 0 ≡ max (get_or old k 0) (held_of e counts)

@@ -2,9 +2,19 @@
 use Rattle.std.proofs.Common.{◌≡◌, ◌∙◌, ℕ, ◌+◌, ◌<◌, ◌⊎◌, inl, inr, Bool, true, false, Some, List, [], ◌∷◌, length, sym, ap, subst, arith}
 use Rattle.std.proofs.Math.ListN.{get_or}
 use Rattle.std.proofs.lemmas.Bool.{cases_eq}
+use Rattle.std.proofs.lemmas.List.{get_or-map, length-map}
 use Rattle.std.proofs.lemmas.Option.{slice_get-get_or}
 use Rattle.std.specs.Prelude.{slice_get}
-use Rattle.tdf_schedule.specs.views.Work.{ArePushed}
+use Rattle.tdf_graph.specs.declared.actors.Edge.{Edge}
+use Rattle.tdf_schedule.specs.views.Work.{ArePushed, reader_of, readers_in}
+
+-- the reader of an edge of a list
+pub reader_at : (edges : List Edge) (list : List ℕ) (i : ℕ) (d : Edge) → i < length list → get_or list i 0 < length edges → (get_or edges (get_or list i 0) d).reader ≡ get_or (readers_in edges list) i 0
+reader_at edges list i d here inside =
+    sym (get_or-map (λ (k : ℕ). reader_of (slice_get edges k)) list i 0 0 here ∙ ap reader_of (slice_get-get_or edges (get_or list i 0) d inside))
+
+pub readers_long : (edges : List Edge) (list : List ℕ) → length (readers_in edges list) ≡ length list
+readers_long edges list = length-map list (λ (k : ℕ). reader_of (slice_get edges k))
 
 -- the first i + 1 of a list
 pub pushed_more : (list : List ℕ) (i a : ℕ) (s0 s s2 : List ℕ) (o0 o o2 : List Bool) → i < length list → a ≡ get_or list i 0

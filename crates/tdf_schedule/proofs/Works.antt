@@ -6,7 +6,8 @@ use Rattle.std.proofs.lemmas.Bool.{cases_eq, cases_lt}
 use Rattle.std.proofs.lemmas.Grind.{get_or-set_at}
 use Rattle.std.proofs.lemmas.List.{length-set, length-replicate, length_push, get_or-set_other, get_or-replicate, get_or_past}
 use Rattle.std.proofs.lemmas.List.Sums.{sum_by-cons, sum_by-set}
-use Rattle.std.proofs.lemmas.Option.{slice_get_within}
+use Rattle.std.proofs.lemmas.Option.{slice_get_within, slice_get-map}
+use Rattle.std.specs.Option.{option_map}
 use Rattle.std.specs.Prelude.{slice_get, All, Contains, sum}
 use Rattle.tdf_base.specs.Limits.{most_firings}
 use Rattle.tdf_graph.specs.Ranges.{IsEdge}
@@ -16,7 +17,7 @@ use Rattle.tdf_schedule.proofs.Linked.{in_front, last_of, push_cases, row_here, 
 use Rattle.tdf_schedule.specs.Needs.{HasKey}
 use Rattle.tdf_schedule.specs.declared.key.Key.{Key}
 use Rattle.tdf_schedule.specs.views.Table.{row_at, total, IsJoined, need_of, key_of}
-use Rattle.tdf_schedule.specs.views.Work.{links_at, with_key, weight, AreGiven, AreRows, AreAllOn, AreReadersUpTo, HasGrown, IsSettled, IsWorked, ArePushed}
+use Rattle.tdf_schedule.specs.views.Work.{links_at, with_key, weight, AreGiven, AreRows, AreOutputsUpTo, HasGrown, IsSettled, IsStarted, IsWorked, ArePushed, reader_of, readers_in}
 
 pub true_false : true ≡ false → ⊥
 true_false e = subst only_true e tt
@@ -49,7 +50,7 @@ count_few [] m = omega arith
 count_few (c ∷ counts) zero = let b = sum_by-cons (λ x. x) c counts in omega (arith, b)
 count_few (c ∷ counts) (suc m) = let b = sum_by-cons (λ x. x) c counts in let r = count_few counts m in omega (arith, b, r)
 
-module _ (edges : List Edge) (counts paces : List ℕ) (inputs readers : List (List ℕ)) (given : AreGiven edges counts paces inputs readers) (table : List (List Key))
+module _ (edges : List Edge) (counts paces : List ℕ) (inputs outputs : List (List ℕ)) (given : AreGiven edges counts paces inputs outputs) (table : List (List Key))
     (rows : AreRows edges (λ k. get_or paces k 0) counts table) (m : ℕ) (m_in : m < length counts) where
   pub row_small : length (row_at table m) ≤ most_firings
   row_small = let w = rows.within m in let c = count_few counts m in let f = given.few in omega (arith, w, c, f)
@@ -84,7 +85,7 @@ module _ (edges : List Edge) (counts paces : List ℕ) (inputs readers : List (L
 
     new_key : HasKey edges (λ k. get_or paces k 0) m (length (row_at table m)) (key_of (r.level + 1) r.offset)
     new_key = next_key edges (λ k. get_or paces k 0) table m (links_at inputs m) fit_rows rows.keys rows.low (length (row_at table m)) r
-        (inputs_at (length counts) edges inputs m given.into) joined
+        (inputs_at counts edges inputs m (let w = rows.within m in omega (arith, w, more)) given.into) joined
 
     keys_next : (k a : ℕ) (x : Key) → slice_get (row_at next k) a ≡ Some x → (k ≡ m) ⊎ (k ≡ m → ⊥) → HasKey edges (λ i. get_or paces i 0) k a x × (x.level ≤ total next)
     keys_next k a x is (inr apart) =
@@ -133,7 +134,7 @@ grown_more m old table new key m_row new_is grown = subst (HasGrown m old) (sym 
     here = ap (λ (l : List Key). length l) (row_here table m (row_at table m ++ key ∷ []) m_row) ∙ length_push (row_at table m) key
 
 -- an actor that was taken from the stack has all the keys that it can have
-module _ (edges : List Edge) (counts : List ℕ) (readers : List (List ℕ)) (out : AreReadersUpTo (length edges) (length counts) edges readers) (old new : List (List Key)) (m : ℕ)
+module _ (edges : List Edge) (counts : List ℕ) (outputs : List (List ℕ)) (out : AreOutputsUpTo (length edges) counts edges outputs) (old new : List (List Key)) (m : ℕ)
     (stack : List ℕ) (on : List Bool) (worked : IsWorked edges counts old (stack ++ m ∷ []) on) (grown : HasGrown m old new) (here : IsSettled edges counts new m) where
   m_in : m < length counts
   m_in = worked.inside (length stack) m (last_of stack m)
@@ -179,8 +180,8 @@ module _ (edges : List Edge) (counts : List ℕ) (readers : List (List ℕ)) (ou
       settled k inside h (inr apart) = still k apart (λ e there reads writes. omega (arith, same)) (worked.settled k inside (sym (other_flag k apart) ∙ h))
 
   -- it got some, and those that read from it are put on the stack
-  pub worked_on : (after : List ℕ) (flags : List Bool) → ArePushed (links_at readers m) (length (links_at readers m)) stack after (set on m false) flags → IsWorked edges counts new after flags
-  worked_on after flags pushed = record {
+  pub worked_on : (after : List ℕ) (flags : List Bool) → length (row_at new m) ≤ get_or counts m 0 → ArePushed (readers_in edges (links_at outputs m)) (length (links_at outputs m)) stack after (set on m false) flags → IsWorked edges counts new after flags
+  worked_on after flags within pushed = record {
     flags = pushed.flags ∙ length-set on m false ∙ worked.flags;
     stacked = λ k h. stacked k (pushed.stacked k h);
     inside = λ j k h. inside j k (pushed.inside j k h);
@@ -196,21 +197,27 @@ module _ (edges : List Edge) (counts : List ℕ) (readers : List (List ℕ)) (ou
       inside j k (inr was) = worked.inside j k (in_front stack (m ∷ []) j k was)
 
       reads_it : (k : ℕ) → get_or flags k false ≡ false → (e : Edge) → Contains edges e → e.reader ≡ k → e.writer ≡ m → length (row_at new m) ≤ length (row_at old m)
-      reads_it k h e there reads writes =
-          let at = contains_at edges e there in
-          let j = out.all at.0 e (slice_get_within edges at.0 e at.1) at.1 in
-          let found : slice_get (links_at readers m) j.0 ≡ Some k = ap (λ n. slice_get (links_at readers n) j.0) (sym writes) ∙ j.1 ∙ ap Some reads in
-          absurd (true_false (sym (pushed.pushed j.0 k (slice_get_within (links_at readers m) j.0 k found) found) ∙ h))
+      reads_it k h e there reads writes = go (cases_eq (get_or counts m 0) 0)
+        where
+          go : (get_or counts m 0 ≡ 0) ⊎ (get_or counts m 0 ≡ 0 → ⊥) → length (row_at new m) ≤ length (row_at old m)
+          go (inl none) = omega (arith, within, none)
+          go (inr some) =
+              let at = contains_at edges e there in
+              let j = out.all at.0 e (slice_get_within edges at.0 e at.1) at.1 (subst (λ n. 0 < get_or counts n 0) (sym writes) (omega (arith, some))) in
+              let here : slice_get (links_at outputs m) j.0 ≡ Some at.0 = ap (λ n. slice_get (links_at outputs n) j.0) (sym writes) ∙ j.1 in
+              let found : slice_get (readers_in edges (links_at outputs m)) j.0 ≡ Some k =
+              slice_get-map (λ (n : ℕ). reader_of (slice_get edges n)) (links_at outputs m) j.0 ∙ ap (option_map (λ (n : ℕ). reader_of (slice_get edges n))) here ∙ ap Some (ap reader_of at.1 ∙ reads) in
+              absurd (true_false (sym (pushed.pushed j.0 k (slice_get_within (links_at outputs m) j.0 at.0 here) found) ∙ h))
 
       settled : (k : ℕ) → k < length counts → get_or flags k false ≡ false → (k ≡ m) ⊎ (k ≡ m → ⊥) → IsSettled edges counts new k
       settled k k_in h (inl is) = subst (IsSettled edges counts new) (sym is) here
       settled k k_in h (inr apart) = still k apart (reads_it k h) (worked.settled k k_in (false_unless (get_or on k false) (λ t. true_false (sym (pushed.on k (other_flag k apart ∙ t)) ∙ h))))
 
   pub less_on : (after : List ℕ) (flags : List Bool) → length new ≡ length counts → ((k : ℕ) → length (row_at new k) ≤ get_or counts k 0) → (length (row_at new m) ≡ length (row_at old m) → ⊥)
-      → ArePushed (links_at readers m) (length (links_at readers m)) stack after (set on m false) flags → weight edges counts new after ≤ weight edges counts old stack
+      → ArePushed (readers_in edges (links_at outputs m)) (length (links_at outputs m)) stack after (set on m false) flags → weight edges counts new after ≤ weight edges counts old stack
   less_on after flags same within more pushed =
       let top = total_few new counts same within in let whole = grown.whole in let kept = grown.kept in
-      step (sum counts - total new) (sum counts - total old) (length edges) (length after) (length stack) (length (links_at readers m)) (omega (arith, top, whole, kept, more)) pushed.few (out.few m)
+      step (sum counts - total new) (sum counts - total old) (length edges) (length after) (length stack) (length (links_at outputs m)) (omega (arith, top, whole, kept, more)) pushed.few (out.few m)
     where
       step : (l1 l0 w s2 s n : ℕ) → l1 + 1 ≤ l0 → s2 ≤ s + n → n ≤ w → l1 * (w + 2) + s2 ≤ l0 * (w + 2) + s
       step l1 l0 w s2 s n fewer grew few = let p : (l1 + 1) * (w + 2) ≡ l1 * (w + 2) + (w + 2) = grind arith in let q = mul-le-mul_right (w + 2) fewer in omega (arith, p, q, grew, few)
@@ -229,21 +236,59 @@ rows_start edges pace counts table count is table_is = subst (AreRows edges pace
     empty m (inl here) = get_or-replicate count m [] [] here
     empty m (inr past) = get_or_past (replicate count []) m [] (subst (λ n. n ≤ m) (sym (length-replicate count [])) past)
 
-pub worked_start : (edges : List Edge) (counts : List ℕ) (table : List (List Key)) (stack : List ℕ) (on : List Bool) (count : ℕ) → count ≡ length counts → AreAllOn count stack on
-    → IsWorked edges counts table stack on
-worked_start edges counts table stack on count is all = record {
-  flags = all.flags ∙ is;
-  stacked = λ k h. (k, all.each k (below k h (cases_lt k count)));
-  inside = λ j k h. inside j k h;
-  settled = λ k k_in h. absurd (true_false (sym (all.all k (subst (λ n. k < n) (sym is) k_in)) ∙ h));
+pub started_none : (counts stack : List ℕ) (on : List Bool) → stack ≡ [] → on ≡ replicate (length counts) false → IsStarted 0 counts stack on
+started_none counts stack on none off = subst (λ l. IsStarted 0 counts l on) (sym none) (subst (IsStarted 0 counts []) (sym off) (record {
+  flags = length-replicate (length counts) false;
+  stacked = λ k h. absurd (true_false (sym h ∙ is_off k (cases_lt k (length counts))));
+  inside = λ j k h. absurd (none_some h);
+  firing = λ k less. absurd (omega (arith, less));
+}))
+  where
+    is_off : (k : ℕ) → (k < length counts) ⊎ (length counts ≤ k) → get_or (replicate (length counts) false) k false ≡ false
+    is_off k (inl here) = get_or-replicate (length counts) k false false here
+    is_off k (inr past) = get_or_past (replicate (length counts) false) k false (subst (λ n. n ≤ k) (sym (length-replicate (length counts) false)) past)
+
+pub started_more : (n : ℕ) (counts stack after : List ℕ) (on flags : List Bool) → IsStarted n counts stack on → ArePushed (n ∷ []) 1 stack after on flags → IsStarted (n + 1) counts after flags
+started_more n counts stack after on flags started pushed = record {
+  flags = pushed.flags ∙ started.flags;
+  stacked = λ k h. stacked k (pushed.stacked k h);
+  inside = λ j k h. inside j k (pushed.inside j k h);
+  firing = λ k less some. firing k less some (cases_eq k n);
 }
   where
-    below : (k : ℕ) → get_or on k false ≡ true → (k < count) ⊎ (count ≤ k) → k < count
-    below k h (inl here) = here
-    below k h (inr past) = absurd (true_false (sym h ∙ get_or_past on k false (subst (λ n. n ≤ k) (sym all.flags) past)))
+    stacked : (k : ℕ) → (get_or on k false ≡ true) ⊎ ((j : ℕ) × (slice_get after j ≡ Some k)) → (j : ℕ) × (slice_get after j ≡ Some k)
+    stacked k (inr w) = w
+    stacked k (inl was) = let w = started.stacked k was in (w.0, pushed.kept w.0 k w.1)
 
-    inside : (j k : ℕ) → slice_get stack j ≡ Some k → k < length counts
-    inside j k h =
-        let within = slice_get_within stack j k h in
-        let j_in = subst (λ n. j < n) all.long within in
-        subst (λ n. n < length counts) (some_same (sym (all.each j j_in) ∙ h)) (subst (λ n. j < n) is j_in)
+    inside : (j k : ℕ) → (k < length on) ⊎ (slice_get stack j ≡ Some k) → k < length counts
+    inside j k (inl below) = subst (λ n. k < n) started.flags below
+    inside j k (inr was) = started.inside j k was
+
+    firing : (k : ℕ) → k < n + 1 → 0 < get_or counts k 0 → (k ≡ n) ⊎ (k ≡ n → ⊥) → get_or flags k false ≡ true
+    firing k less some (inl same) = pushed.pushed 0 k (omega arith) (ap Some (sym same))
+    firing k less some (inr apart) = pushed.on k (started.firing k (omega (arith, less, apart)) some)
+
+pub started_still : (n : ℕ) (counts stack : List ℕ) (on : List Bool) → get_or counts n 0 ≡ 0 → IsStarted n counts stack on → IsStarted (n + 1) counts stack on
+started_still n counts stack on none started = record {
+  flags = started.flags;
+  stacked = started.stacked;
+  inside = started.inside;
+  firing = λ k less some. firing k less some (cases_eq k n);
+}
+  where
+    firing : (k : ℕ) → k < n + 1 → 0 < get_or counts k 0 → (k ≡ n) ⊎ (k ≡ n → ⊥) → get_or on k false ≡ true
+    firing k less some (inl same) = absurd (let e = ap (λ i. get_or counts i 0) same in omega (arith, e, none, some))
+    firing k less some (inr apart) = started.firing k (omega (arith, less, apart)) some
+
+pub worked_start : (edges : List Edge) (pace : ℕ → ℕ) (counts : List ℕ) (table : List (List Key)) (stack : List ℕ) (on : List Bool) → AreRows edges pace counts table → IsStarted (length counts) counts stack on
+    → IsWorked edges counts table stack on
+worked_start edges pace counts table stack on rows started = record {
+  flags = started.flags;
+  stacked = started.stacked;
+  inside = started.inside;
+  settled = λ k k_in h. inl (idle k (rows.within k) (cases_eq (get_or counts k 0) 0) k_in h);
+}
+  where
+    idle : (k : ℕ) → length (row_at table k) ≤ get_or counts k 0 → (get_or counts k 0 ≡ 0) ⊎ (get_or counts k 0 ≡ 0 → ⊥) → k < length counts → get_or on k false ≡ false → length (row_at table k) ≡ get_or counts k 0
+    idle k within (inl none) k_in h = omega (arith, within, none)
+    idle k within (inr some) k_in h = absurd (true_false (sym (started.firing k k_in (omega (arith, some))) ∙ h))

@@ -3,7 +3,8 @@
 ghost use Rattle.std.specs.Prelude.{◌≡◌, ◌<◌, ◌≤◌, ◌+◌, ◌-◌, ◌*◌, ◌^◌, ℕ, All, length, max, take, replicate, slice_index, slice_set, slice_get, Some, IfOk, OnOk};
 ghost use Rattle.tdf_base.specs.Limits.{most_firings};
 ghost use Rattle.tdf_graph.specs.Ranges.{IsEdge};
-ghost use Rattle.tdf_schedule.specs.views.Work.{links_at, AreInputsUpTo, AreOutputsUpTo};
+ghost use Rattle.tdf_schedule.specs.views.Table.{AreInputs, AreOutputs};
+ghost use Rattle.tdf_schedule.specs.views.Work.{links_at};
 ghost use Rattle.tdf_schedule.specs.views.Bounds.{held_of, AreRaisedUpTo, HasFired, AreBoundsUpTo, AreWalkedUpTo, AreInitialUpTo};
 
 use crate::entry::Entry;
@@ -52,8 +53,10 @@ fn fire(
 )
     requires actor { actor < length done.old.items }
     requires fit { All (IsEdge (length done.old.items)) edges.now }
-    requires into { AreInputsUpTo (length edges.now) (length done.old.items) edges.now inputs.now }
-    requires out { AreOutputsUpTo (length edges.now) (length done.old.items) edges.now outputs.now }
+    requires inputs_long { length inputs.now ≡ length done.old.items }
+    requires outputs_long { length outputs.now ≡ length done.old.items }
+    requires into { AreInputs edges.now actor (links_at inputs.now actor) }
+    requires out { AreOutputs edges.now actor (links_at outputs.now actor) }
     requires few { All (λ n. n + 1 ≤ most_firings) done.old.items }
     requires long { length bounds.old.items ≡ length edges.now }
     requires small { All (λ b. b < 2 ^ 31) bounds.old.items }
@@ -76,8 +79,10 @@ fn walk(
     bounds: &mut Vec<u64>,
 )
     requires fit { All (IsEdge (length done.old.items)) edges.now }
-    requires into { AreInputsUpTo (length edges.now) (length done.old.items) edges.now inputs.now }
-    requires out { AreOutputsUpTo (length edges.now) (length done.old.items) edges.now outputs.now }
+    requires inputs_long { length inputs.now ≡ length done.old.items }
+    requires outputs_long { length outputs.now ≡ length done.old.items }
+    requires into { All (λ x. AreInputs edges.now x.actor (links_at inputs.now x.actor)) entries.now }
+    requires out { All (λ x. AreOutputs edges.now x.actor (links_at outputs.now x.actor)) entries.now }
     requires actors { All (λ x. x.actor < length done.old.items) entries.now }
     requires few { length entries.now ≤ most_firings }
     requires start { AreWalkedUpTo 0 (length done.old.items) entries.now edges.now done.old.items bounds.old.items }
@@ -99,9 +104,9 @@ fn none_done(alloc: Global, count: u32) -> Result<Vec<u64>, Memory>
 fn initials(alloc: Global, edges: &[Edge]) -> Result<Vec<u64>, Memory>
     ensures { IfOk result (λ v. AreInitialUpTo (length edges.now) edges.now v.items) }
 {
-    let mut held = Vec::with_capacity(alloc, edges.len())?;
+    let mut held = vec![in alloc; 0; edges.len()]?;
     for k in 0..edges.len() {
-        held.push(u64::from(edges[k].initial))?;
+        held[k] = u64::from(edges[k].initial);
     }
     Ok(held)
 }
@@ -116,8 +121,10 @@ pub(crate) fn most_held(
     entries: &[Entry],
 ) -> Result<Vec<u64>, Memory>
     requires fit { All (IsEdge count) edges.now }
-    requires into { AreInputsUpTo (length edges.now) count edges.now inputs.now }
-    requires out { AreOutputsUpTo (length edges.now) count edges.now outputs.now }
+    requires inputs_long { length inputs.now ≡ count }
+    requires outputs_long { length outputs.now ≡ count }
+    requires into { All (λ x. AreInputs edges.now x.actor (links_at inputs.now x.actor)) entries.now }
+    requires out { All (λ x. AreOutputs edges.now x.actor (links_at outputs.now x.actor)) entries.now }
     requires actors { All (λ x. x.actor < count) entries.now }
     requires few { length entries.now ≤ most_firings }
     ensures bounds { IfOk result (λ v. AreBoundsUpTo (length entries.now) entries.now edges.now v.items) }

@@ -10,14 +10,14 @@ ghost use Rattle.tdf_schedule.specs.declared.err.PlanErr.TheVariants.{TooLarge, 
 ghost use Rattle.tdf_schedule.specs.views.Answers.{AreNarrowUpTo, IsAnswer};
 ghost use Rattle.tdf_schedule.specs.views.Bounds.{AreBoundsUpTo};
 ghost use Rattle.tdf_schedule.specs.views.Faults.{IsFull};
-ghost use Rattle.tdf_schedule.specs.views.Work.{AreRows, IsSettled};
+ghost use Rattle.tdf_schedule.specs.views.Work.{AreInputsUpTo, AreOutputsUpTo, AreRows, IsSettled};
 
 use crate::bounds::most_held;
 use crate::entry::Plan;
 use crate::err::PlanErr;
 use crate::faults::{first_late, first_short, paces_of, samples};
 use crate::key::Row;
-use crate::links::{inputs_of, outputs_of, readers_of};
+use crate::links::{Ends, ends_of};
 use crate::sorted::entries_of;
 use crate::work::{Given, fill};
 use std::alloc::Global;
@@ -37,14 +37,14 @@ fn narrow(
     requires small { All (λ b. b < 2 ^ 31) bounds.now }
     ensures { IfOk result (λ v. AreNarrowUpTo (length edges.now) edges.now counts.now bounds.now v.items) }
 {
-    let mut list: Vec<u32> = Vec::with_capacity(alloc, edges.len())?;
+    let mut list: Vec<u32> = vec![in alloc; 0; edges.len()]?;
     for k in 0..edges.len() {
         let bound = if counts[edges[k].writer as usize] == 0 {
             0
         } else {
             bounds[k] as u32
         };
-        list.push(bound)?;
+        list[k] = bound;
     }
     Ok(list)
 }
@@ -55,27 +55,25 @@ fn keys_of(
     net: &Net,
     counts: &[u64],
     paces: &[u64],
+    ends: &Ends,
 ) -> Result<Vec<Row>, tdf_base::Memory>
     requires long { length counts.now ≡ vec_len net.now.actors }
+    requires into { AreInputsUpTo (length net.now.edges.items) counts.now net.now.edges.items ends.now.inputs.items }
+    requires out { AreOutputsUpTo (length net.now.edges.items) counts.now net.now.edges.items ends.now.outputs.items }
     requires few { sum counts.now ≤ most_firings }
     requires paces { length paces.now ≡ length counts.now }
     requires short { (m : ℕ) → slice_index counts.now m * slice_index paces.now m < 2 ^ 63 }
     ensures rows { IfOk result (λ table. AreRows net.now.edges.items (slice_index paces.now) counts.now table.items) }
     ensures settled { IfOk result (λ table. (m : ℕ) → m < length counts.now → IsSettled net.now.edges.items counts.now table.items m) }
 {
-    let inputs = inputs_of(alloc, counts.len() as u32, net.edges())?;
-    let readers = readers_of(alloc, counts.len() as u32, net.edges())?;
     let given = Given {
         edges: net.edges(),
         counts,
         paces,
-        inputs: &inputs,
-        readers: &readers,
+        inputs: &ends.inputs,
+        outputs: &ends.outputs,
     };
-    let table = fill(alloc, &given)?;
-    drop(inputs);
-    drop(readers);
-    Ok(table)
+    fill(alloc, &given)
 }
 
 /// The plan of a table in which all firings have their keys.
@@ -85,28 +83,27 @@ fn laid(
     counts: &[u64],
     paces: &[u64],
     period: u64,
+    ends: &Ends,
     table: &Vec<Row>,
 ) -> Result<Plan, tdf_base::Memory>
     requires long { length counts.now ≡ vec_len net.now.actors }
+    requires into { AreInputsUpTo (length net.now.edges.items) counts.now net.now.edges.items ends.now.inputs.items }
+    requires out { AreOutputsUpTo (length net.now.edges.items) counts.now net.now.edges.items ends.now.outputs.items }
     requires few { sum counts.now ≤ most_firings }
     requires rows { AreRows net.now.edges.items (slice_index paces.now) counts.now table.now.items }
     requires full { (m : ℕ) → m < length counts.now → IsFull counts.now table.now.items m }
     ensures { IfOk result (HasPlan net.now.edges.items (slice_index paces.now) counts.now period) }
 {
     let entries = entries_of(alloc, table)?;
-    let inputs = inputs_of(alloc, counts.len() as u32, net.edges())?;
-    let outputs = outputs_of(alloc, counts.len() as u32, net.edges())?;
     let most = most_held(
         alloc,
         counts.len() as u32,
         net.edges(),
-        &inputs,
-        &outputs,
+        &ends.inputs,
+        &ends.outputs,
         &entries,
     )?;
     let bounds = narrow(alloc, net.edges(), counts, &most)?;
-    drop(inputs);
-    drop(outputs);
     drop(most);
     Ok(Plan {
         entries,
@@ -122,9 +119,12 @@ fn decide(
     counts: &[u64],
     paces: &[u64],
     period: u64,
+    ends: &Ends,
     table: &Vec<Row>,
 ) -> Result<Plan, PlanErr>
     requires long { length counts.now ≡ vec_len net.now.actors }
+    requires into { AreInputsUpTo (length net.now.edges.items) counts.now net.now.edges.items ends.now.inputs.items }
+    requires out { AreOutputsUpTo (length net.now.edges.items) counts.now net.now.edges.items ends.now.outputs.items }
     requires balanced { (e : Edge) → Contains net.now.edges.items e → IsBalanced (slice_index counts.now) e }
     requires few { sum counts.now ≤ most_firings }
     requires paces { length paces.now ≡ length counts.now }
@@ -141,7 +141,7 @@ fn decide(
         Some((sink, index)) => return Err(PlanErr::Noncausal { sink, index }),
         None => {}
     }
-    match laid(alloc, net, counts, paces, period, table) {
+    match laid(alloc, net, counts, paces, period, ends, table) {
         Ok(plan) => Ok(plan),
         Err(_) => Err(PlanErr::Memory),
     }
@@ -154,9 +154,11 @@ fn answer(alloc: Global, net: &Net, counts: &[u64], steps: &Steps) -> Result<Pla
     ensures { IsAnswer net.now.actors.items net.now.edges.items (pace_of net.now.actors.items steps.now.actor_steps.items) counts.now steps.now.period result }
 {
     let paces = paces_of(alloc, net.actors(), &steps.actor_steps)?;
-    let table = keys_of(alloc, net, counts, &paces)?;
-    let result = decide(alloc, net, counts, &paces, steps.period, &table);
+    let ends = ends_of(alloc, counts, net.edges())?;
+    let table = keys_of(alloc, net, counts, &paces, &ends)?;
+    let result = decide(alloc, net, counts, &paces, steps.period, &ends, &table);
     drop(table);
+    drop(ends);
     drop(paces);
     result
 }

@@ -122,9 +122,9 @@ pub(crate) fn paces_of(alloc: Global, actors: &[Actor], steps: &[u64]) -> Result
     requires { length steps.now ≡ length actors.now }
     ensures { IfOk result (λ paces. ArePacesUpTo (length actors.now) actors.now steps.now paces.items) }
 {
-    let mut paces: Vec<u64> = Vec::new(alloc);
+    let mut paces: Vec<u64> = vec![in alloc; 0; actors.len()]?;
     for actor in 0..actors.len() {
-        paces.push(pace_of(actors[actor], steps[actor]))?;
+        paces[actor] = pace_of(actors[actor], steps[actor]);
     }
     Ok(paces)
 }

@@ -3,7 +3,7 @@
 //! - `entry`: plans and their entries.
 //! - `err`: why a cluster has no plan.
 //! - `key`: the level and the offset of a firing.
-//! - `links`: the edges into each actor and from it, and who reads what it writes.
+//! - `links`: the edges into each actor and from it.
 //! - `join`: the key of an actor's next firing.
 //! - `work`: the keys of all firings that are grounded.
 //! - `faults`: the faults of a cluster, looked for in its keys.

@@ -1,11 +1,11 @@
 //! The keys of all firings that are grounded, by a worklist of actors.
 
-ghost use Rattle.std.specs.Prelude.{◌≡◌, ◌<◌, ◌≤◌, ◌+◌, ◌*◌, ◌^◌, ◌++◌, ◌∷◌, [], ℕ, List, All, length, sum, replicate, slice_index, slice_get, Some, IfOk, OnOk};
+ghost use Rattle.std.specs.Prelude.{◌≡◌, ◌<◌, ◌≤◌, ◌+◌, ◌*◌, ◌^◌, ◌++◌, ◌∷◌, [], ℕ, List, All, false, length, sum, replicate, slice_index, slice_get, Some, IfOk, OnOk};
 ghost use Rattle.tdf_base.specs.Limits.{most_firings};
 ghost use Rattle.tdf_graph.specs.Ranges.{IsEdge};
 ghost use Rattle.tdf_schedule.specs.views.Parts.{AreParts, no_part};
 ghost use Rattle.tdf_schedule.specs.views.Table.{row_at, key_of};
-ghost use Rattle.tdf_schedule.specs.views.Work.{links_at, with_key, weight, AreGiven, AreRows, AreAllOn, HasGrown, IsSettled, IsWorked, ArePushed};
+ghost use Rattle.tdf_schedule.specs.views.Work.{links_at, with_key, weight, AreGiven, AreRows, HasGrown, IsSettled, IsStarted, IsWorked, ArePushed, readers_in};
 
 use crate::join::{Asked, Part, greatest_need, row_len};
 use crate::key::{Key, Links, Row};
@@ -33,8 +33,8 @@ pub(crate) struct Given<'g> {
     pub paces: &'g [u64],
     /// The edges that each actor reads.
     pub inputs: &'g [Links],
-    /// The actors that read what each actor writes.
-    pub readers: &'g [Links],
+    /// The edges that each actor writes.
+    pub outputs: &'g [Links],
 }
 
 /// The actors that may have a firing whose needs all have their keys.
@@ -57,12 +57,14 @@ fn push_one(actor: u32, work: &mut Worklist) -> Result<(), Memory>
     Ok(())
 }
 
-fn push_all(list: &[u32], work: &mut Worklist) -> Result<(), Memory>
-    requires { (j k : ℕ) → slice_get list.now j ≡ Some k → k < length work.old.on.items }
-    ensures { OnOk result (ArePushed list.now (length list.now) work.old.stack.items work.new.stack.items work.old.on.items work.new.on.items) }
+/// Puts the readers of these edges on the stack.
+fn push_readers(edges: &[Edge], list: &[u32], work: &mut Worklist) -> Result<(), Memory>
+    requires fit { All (IsEdge (length work.old.on.items)) edges.now }
+    requires inside { (j : ℕ) → j < length list.now → slice_index list.now j < length edges.now }
+    ensures { OnOk result (ArePushed (readers_in edges.now list.now) (length list.now) work.old.stack.items work.new.stack.items work.old.on.items work.new.on.items) }
 {
     for i in 0..list.len() {
-        push_one(list[i], work)?;
+        push_one(edges[list[i] as usize].reader, work)?;
     }
     Ok(())
 }
@@ -86,7 +88,7 @@ fn fire(
     table: &mut Vec<Row>,
     parts: &mut Vec<Part>,
 ) -> Result<(), Memory>
-    requires given { AreGiven given.now.edges.now given.now.counts.now given.now.paces.now given.now.inputs.now given.now.readers.now }
+    requires given { AreGiven given.now.edges.now given.now.counts.now given.now.paces.now given.now.inputs.now given.now.outputs.now }
     requires actor { actor < length given.now.counts.now }
     requires rows { AreRows given.now.edges.now (slice_index given.now.paces.now) given.now.counts.now table.old.items }
     requires parts { AreParts given.now.edges.now (slice_index given.now.paces.now) given.now.counts.now table.old.items given.now.inputs.now parts.old.items }
@@ -120,7 +122,7 @@ fn work_one(
     parts: &mut Vec<Part>,
     work: &mut Worklist,
 ) -> Result<(), Memory>
-    requires given { AreGiven given.now.edges.now given.now.counts.now given.now.paces.now given.now.inputs.now given.now.readers.now }
+    requires given { AreGiven given.now.edges.now given.now.counts.now given.now.paces.now given.now.inputs.now given.now.outputs.now }
     requires rows { AreRows given.now.edges.now (slice_index given.now.paces.now) given.now.counts.now table.old.items }
     requires parts { AreParts given.now.edges.now (slice_index given.now.paces.now) given.now.counts.now table.old.items given.now.inputs.now parts.old.items }
     requires worked { IsWorked given.now.edges.now given.now.counts.now table.old.items (work.old.stack.items ++ actor ∷ []) work.old.on.items }
@@ -136,21 +138,34 @@ fn work_one(
     if row_len(table, actor) == before {
         return Ok(());
     }
-    push_all(list_at(given.readers, actor), work)?;
+    push_readers(given.edges, list_at(given.outputs, actor), work)?;
     Ok(())
 }
 
-/// Every actor on the stack.
-fn all_on(alloc: Global, count: u32) -> Result<Worklist, Memory>
-    ensures { IfOk result (λ work. AreAllOn count work.stack.items work.on.items) }
+/// No actor is on the stack.
+fn no_work(alloc: Global, count: usize) -> Result<Worklist, Memory>
+    ensures stack { IfOk result (λ work. work.stack.items ≡ []) }
+    ensures on { IfOk result (λ work. work.on.items ≡ replicate count false) }
 {
-    let mut stack = Vec::with_capacity(alloc, count as usize)?;
-    let mut on = Vec::with_capacity(alloc, count as usize)?;
-    for actor in 0..count {
-        stack.push(actor)?;
-        on.push(true)?;
+    let on = vec![in alloc; false; count]?;
+    Ok(Worklist {
+        stack: Vec::new(alloc),
+        on,
+    })
+}
+
+/// Every actor that fires is on the stack.
+fn first_work(alloc: Global, counts: &[u64]) -> Result<Worklist, Memory>
+    requires { length counts.now < 2 ^ 32 }
+    ensures { IfOk result (λ work. IsStarted (length counts.now) counts.now work.stack.items work.on.items) }
+{
+    let mut work = no_work(alloc, counts.len())?;
+    for actor in 0..counts.len() as u32 {
+        if counts[actor as usize] != 0 {
+            push_one(actor, &mut work)?;
+        }
     }
-    Ok(Worklist { stack, on })
+    Ok(work)
 }
 
 /// A row without keys for each actor.
@@ -177,14 +192,14 @@ fn no_parts(alloc: Global, count: u32) -> Result<Vec<Part>, Memory>
 
 /// The keys of all firings that are grounded, each actor's from its first firing on.
 pub(crate) fn fill(alloc: Global, given: &Given) -> Result<Vec<Row>, Memory>
-    requires given { AreGiven given.now.edges.now given.now.counts.now given.now.paces.now given.now.inputs.now given.now.readers.now }
+    requires given { AreGiven given.now.edges.now given.now.counts.now given.now.paces.now given.now.inputs.now given.now.outputs.now }
     requires small { length given.now.counts.now < 2 ^ 32 }
     ensures rows { IfOk result (λ table. AreRows given.now.edges.now (slice_index given.now.paces.now) given.now.counts.now table.items) }
     ensures settled { IfOk result (λ table. (m : ℕ) → m < length given.now.counts.now → IsSettled given.now.edges.now given.now.counts.now table.items m) }
 {
     let mut table = no_rows(alloc, given.counts.len() as u32)?;
     let mut parts = no_parts(alloc, given.counts.len() as u32)?;
-    let mut work = all_on(alloc, given.counts.len() as u32)?;
+    let mut work = first_work(alloc, given.counts)?;
     while let Some(actor) = work.stack.pop() {
         work_one(actor, given, &mut table, &mut parts, &mut work)?;
     }

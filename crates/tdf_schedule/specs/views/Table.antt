@@ -81,6 +81,13 @@ pub record AreInputs (edges : List Edge) (m : ℕ) (inputs : List ℕ) : Type 0 
   pub only : (j n : ℕ) → slice_get inputs j ≡ Some n
       → (e : Edge) × (slice_get edges n ≡ Some e) × (e.reader ≡ m)
 
+-- the edges from an actor
+pub record AreOutputs (edges : List Edge) (m : ℕ) (outputs : List ℕ) : Type 0 where
+  pub all : (n : ℕ) (e : Edge) → slice_get edges n ≡ Some e → e.writer ≡ m
+      → (j : ℕ) × (slice_get outputs j ≡ Some n)
+  pub only : (j n : ℕ) → slice_get outputs j ≡ Some n
+      → (e : Edge) × (slice_get edges n ≡ Some e) × (e.writer ≡ m)
+
 -- the start of a row's next firing: its due time, and the key of the firing before it
 abbrev pub IsStart : List Key → (due : ℕ) → Key → Type 0
 IsStart row due r = ((row ≡ []) × (r ≡ key_of 0 due))

@@ -8,5 +8,6 @@ pub loop-actor-init : goal.loop-actor-init
 loop-actor-init c = record {
   rows = rows_start c.args.given.now.edges.now (slice_index c.args.given.now.paces.now) c.args.given.now.counts.now c.in_ok-table.table.items _ refl c.in_ok-table.ensures;
   parts = parts_start c.args.given.now.edges.now (slice_index c.args.given.now.paces.now) c.args.given.now.counts.now c.in_ok-table.table.items c.args.given.now.inputs.now c.in_ok-parts.parts.items c.in_ok-parts.ensures;
-  worked = worked_start c.args.given.now.edges.now c.args.given.now.counts.now c.in_ok-table.table.items _ _ _ refl c.in_ok-work.ensures;
+  worked = worked_start c.args.given.now.edges.now (slice_index c.args.given.now.paces.now) c.args.given.now.counts.now c.in_ok-table.table.items _ _
+      (rows_start c.args.given.now.edges.now (slice_index c.args.given.now.paces.now) c.args.given.now.counts.now c.in_ok-table.table.items _ refl c.in_ok-table.ensures) c.in_ok-work.ensures;
 }

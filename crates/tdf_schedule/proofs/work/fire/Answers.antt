@@ -4,7 +4,8 @@ use Rattle.std.specs.Prelude.{slice_index}
 use Rattle.tdf_schedule.proofs.Parts.{nothing_known, part_read, part_set, parts_next}
 use Rattle.tdf_schedule.proofs.Works.{grown_none, grown_more, row_longer, rows_next, total_few}
 use Rattle.tdf_schedule.specs.views.Parts.{AreParts, IsPart, no_part}
-use Rattle.tdf_schedule.specs.views.Table.{IsJoined, key_of, row_at}
+use Rattle.tdf_schedule.proofs.Linked.{inputs_at}
+use Rattle.tdf_schedule.specs.views.Table.{AreInputs, IsJoined, key_of, row_at}
 use Rattle.tdf_schedule.specs.views.Work.{AreRows, links_at}
 use Rattle.tdf_schedule.proofs.work.fire.Goals as goal
 
@@ -27,7 +28,7 @@ loop-firing-preserved c =
     record {
       long = (let e = row_longer table c.give.new.table.items m key m_row c.in_ok-give-in-Whole.ensures in omega (arith, e, long));
       rows = subst (AreRows edges pace counts) (sym c.in_ok-give-in-Whole.ensures)
-          (rows_next edges counts c.args.given.now.paces.now lists c.args.given.now.readers.now c.requires.given table c.loop-firing.invariant.rows m c.requires.actor c.in-Whole.need (λ full. omega (arith, long, below, full))
+          (rows_next edges counts c.args.given.now.paces.now lists c.args.given.now.outputs.now c.requires.given table c.loop-firing.invariant.rows m c.requires.actor c.in-Whole.need (λ full. omega (arith, long, below, full))
           (subst (λ (l : List ℕ). IsJoined edges pace table m (length (row_at table m)) l (length l) c.in-Whole.need) c.list_at-inputs.ensures c.in-Whole.ensures));
       parts = subst (λ t. AreParts edges pace counts t lists parts) (sym c.in_ok-give-in-Whole.ensures)
           (parts_next edges pace counts lists table m key m_row parts
@@ -39,6 +40,10 @@ loop-firing-preserved c =
 pub greatest_need-requires-clause-part : goal.greatest_need-requires-clause-part
 greatest_need-requires-clause-part c = part_read c.args.given.now.edges.now (slice_index c.args.given.now.paces.now) c.args.given.now.counts.now c.args.given.now.inputs.now c.loop-firing.table.items c.loop-firing.parts.items c.args.actor
     c.list_at-inputs.result.now c.index.result.now c.requires.actor c.loop-firing.invariant.parts c.list_at-inputs.ensures c.index.ensures
+
+pub greatest_need-requires-clause-inputs : goal.greatest_need-requires-clause-inputs
+greatest_need-requires-clause-inputs c = subst (AreInputs c.args.given.now.edges.now c.args.actor) (sym c.list_at-inputs.ensures)
+    (inputs_at c.args.given.now.counts.now c.args.given.now.edges.now c.args.given.now.inputs.now c.args.actor (let below = c.loop-firing-test.true in omega (arith, below)) c.requires.given.into)
 
 pub give-requires-clause-level : goal.give-requires-clause-level
 give-requires-clause-level c = let f = c.in-Whole.ensures.few in
