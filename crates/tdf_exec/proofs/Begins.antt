@@ -200,15 +200,28 @@ module _ (flat : Flat) (Holds : ℕ → FrameState → Type 0) (n : ℕ) (old no
       subst (λ k. IsFirstRunner flat Holds k (sampler_runners_before (runners ++ r ∷ []) k) x s) same
       (subst (λ k. IsFirstRunner flat Holds n k x s) (sym whole) (subst (λ y. IsFirstRunner flat Holds n samplers y s) wire (subst (λ q. IsFirstRunner flat Holds n samplers w q) one is)))
 
-  pub runners_next : AreFirstRunners flat Holds (n + 1) old (slice_set now n dest) next (runners ++ r ∷ [])
-  runners_next = record {
-    long = length-append runners (r ∷ []) ∙ ap (λ k. k + 1) are.long;
-    counted = more ∙ (let s = sum_by-append (λ (x : Runner). cond {A = ℕ} (is_sampler_runner x) 1 0) runners (r ∷ []) in let c = are.counted in let o = last (is_sampler_runner r) in omega (arith, s, c, o));
-    same = length-set now n dest ∙ are.same;
-    left = λ m high. get_set_other now n m dest (λ e. absurd (omega (arith, e, high))) ∙ are.left m (omega (arith, high));
-    each = λ m x s xat sat. here m x s xat sat (cases_lt m n);
-  }
+  counted_next : next ≡ count_by is_sampler_runner (runners ++ r ∷ [])
+  counted_next = more ∙ (let s = sum_by-append (λ (x : Runner). cond {A = ℕ} (is_sampler_runner x) 1 0) runners (r ∷ []) in let c = are.counted in let o = last (is_sampler_runner r) in omega (arith, s, c, o))
     where
       last : (b : Bool) → cond {A = ℕ} b 1 0 + 0 ≡ (if b then 1 else 0)
       last true = refl
       last false = refl
+
+  pub runners_next : AreFirstRunners flat Holds (n + 1) old (slice_set now n dest) next (runners ++ r ∷ [])
+  runners_next = record {
+    long = length-append runners (r ∷ []) ∙ ap (λ k. k + 1) are.long;
+    counted = counted_next;
+    same = length-set now n dest ∙ are.same;
+    left = λ m high. get_set_other now n m dest (λ e. absurd (omega (arith, e, high))) ∙ are.left m (omega (arith, high));
+    each = λ m x s xat sat. here m x s xat sat (cases_lt m n);
+  }
+
+  -- what the actor was told may stay where it stands
+  pub runners_kept : AreFirstRunners flat Holds (n + 1) old now next (runners ++ r ∷ [])
+  runners_kept = record {
+    long = length-append runners (r ∷ []) ∙ ap (λ k. k + 1) are.long;
+    counted = counted_next;
+    same = are.same;
+    left = λ m high. are.left m (omega (arith, high));
+    each = λ m x s xat sat. here m x s xat sat (cases_lt m n);
+  }

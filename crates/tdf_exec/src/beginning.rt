@@ -121,9 +121,13 @@ pub(crate) fn first_runners(
     ensures { IfOk result (λ runners. (samplers : ℕ) × AreFirstRunners flat.now
         (HoldsText flat.now begins) (length wires.old.items) wires.old.items wires.new.items samplers runners.items) }
 {
-    let mut runners = Vec::new(alloc);
+    let mut runners = Vec::with_capacity(alloc, wires.len())?;
     let mut samplers = 0;
     for m in 0..wires.len() {
+        if let ActorWires::Elsewhere = &wires[m] {
+            runners.push(Runner::Outside)?;
+            continue;
+        }
         let row = mem::replace(&mut wires[m], ActorWires::Elsewhere);
         let runner = first_runner(alloc, flat, m, samplers, row, begins)?;
         samplers = samplers_with(samplers, &runner)?;

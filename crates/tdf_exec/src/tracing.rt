@@ -194,6 +194,9 @@ pub(crate) fn give_all(alloc: Global, rows: &mut Vec<TracedPorts>, runners: &mut
         runners.old.items runners.new.items }
 {
     for m in 0..rows.len() {
+        if let Runner::Outside = &runners[m] {
+            continue;
+        }
         let row = mem::replace(&mut rows[m], TracedPorts::new(alloc));
         give_traced(&mut runners[m], row.into_list());
     }
