@@ -24,9 +24,9 @@ use tdf_schedule::Plan;
 pub fn clusters_of(alloc: Global, tables: &FlatTables) -> Result<Vec<u32>, Memory>
     ensures numbers { IfOk result (λ numbers. numbers.items ≡ clusters_of tables.now) }
 {
-    let mut numbers = Vec::with_capacity(alloc, tables.actors.len())?;
+    let mut numbers = vec![in alloc; 0; tables.actors.len()]?;
     for i in 0..tables.actors.len() {
-        numbers.push(tables.actors[i].cluster)?;
+        numbers[i] = tables.actors[i].cluster;
     }
     Ok(numbers)
 }

@@ -1,6 +1,6 @@
 //! The net with the rates that a table of attributes gives.
 
-ghost use Rattle.std.specs.Prelude.{◌≡◌, List, ◌<◌, ◌≤◌, ◌*◌, All, IfOk, IfSome, Some, true, length, map, slice_get, slice_index, slice_set};
+ghost use Rattle.std.specs.Prelude.{◌≡◌, List, ◌<◌, ◌≤◌, ◌*◌, All, IfOk, IfSome, Some, true, length, map, replicate, slice_get, slice_index, slice_set};
 ghost use Rattle.tdf_base.specs.Limits.{greatest_delay};
 ghost use Rattle.tdf_bind_tables.specs.Ranges.{AreInRange};
 ghost use Rattle.tdf_dynamic_plans.specs.Rates.{times_value, port_rate, edge_kind, write_rate_by, read_rate_by, rated_edge, rated_port, net_ports, net_of, net_seen, AreRates};
@@ -9,6 +9,7 @@ ghost use Rattle.tdf_dynamic_plans.specs.machine.Placing.{ArePlacesFrom, number_
 ghost use Rattle.tdf_graph.specs.Ranges.{IsRate};
 ghost use Rattle.tdf_graph.specs.declared.actors.Port.{Port as PortOf};
 ghost use Rattle.tdf_timestep.specs.Period.{rate_at_port};
+ghost use Rattle.tdf_bind_connections.specs.declared.edges.EdgeRow.{EdgeRow as EdgeRowOf};
 ghost use Rattle.tdf_bind_connections.specs.declared.modules.PortRow.{PortRow as PortRowOf};
 
 use crate::attrs::{Attrs, ModuleAttrs};
@@ -213,43 +214,69 @@ fn edge_kind(rows: &[PortRow], edge: &EdgeRow) -> Option<PortKind>
     None
 }
 
-/// The port whose rate an edge is written with, none where it is 1.
-fn write_port(edge: &EdgeRow, kind: Option<PortKind>) -> Option<u32>
-    ensures { (ports : List PortOf)
-        → write_rate_by ports edge.now kind ≡ rate_at_port ports result }
+/// The rates that an edge is read and written with.
+#[derive(Clone, Copy)]
+struct Rates {
+    read: u32,
+    write: u32,
+}
+
+/// The rates of an edge by the word of the port that gives it, the rate of that port and the rate of the port that drives it.
+fn rates_by(kind: Option<PortKind>, own: u32, driven: u32) -> Rates
+    ensures read { (ports : List PortOf) (edge : EdgeRowOf)
+        → rate_at_port ports (Some edge.port) ≡ own → rate_at_port ports edge.driver ≡ driven
+        → result.read ≡ read_rate_by ports edge kind }
+    ensures write { (ports : List PortOf) (edge : EdgeRowOf)
+        → rate_at_port ports (Some edge.port) ≡ own → rate_at_port ports edge.driver ≡ driven
+        → result.write ≡ write_rate_by ports edge kind }
 {
     match kind {
-        None => None,
-        Some(PortKind::In) => edge.driver,
-        Some(PortKind::Out) => None,
-        Some(PortKind::DeIn) => None,
-        Some(PortKind::DeOut) => Some(edge.port),
+        None => Rates { read: 1, write: 1 },
+        Some(PortKind::In) => Rates {
+            read: own,
+            write: driven,
+        },
+        Some(PortKind::Out) => Rates { read: 1, write: 1 },
+        Some(PortKind::DeIn) => Rates {
+            read: own,
+            write: 1,
+        },
+        Some(PortKind::DeOut) => Rates {
+            read: 1,
+            write: own,
+        },
     }
 }
 
-/// The port whose rate an edge is read with, none where it is 1.
-fn read_port(edge: &EdgeRow, kind: Option<PortKind>) -> Option<u32>
-    ensures { (ports : List PortOf)
-        → read_rate_by ports edge.now kind ≡ rate_at_port ports result }
+/// The rates of an edge. Where both ports have the rate 1, as those of modules that are not in the table, the word isn't asked.
+#[tactic(auto, using(crate::proofs::Ones::ones))]
+fn rates_of(rows: &[PortRow], edge: &EdgeRow, own: u32, driven: u32) -> Rates
+    ensures read { (ports : List PortOf)
+        → rate_at_port ports (Some edge.now.port) ≡ own
+        → rate_at_port ports edge.now.driver ≡ driven
+        → result.read ≡ read_rate_by ports edge.now (edge_kind rows.now edge.now) }
+    ensures write { (ports : List PortOf)
+        → rate_at_port ports (Some edge.now.port) ≡ own
+        → rate_at_port ports edge.now.driver ≡ driven
+        → result.write ≡ write_rate_by ports edge.now (edge_kind rows.now edge.now) }
 {
-    match kind {
-        None => None,
-        Some(PortKind::In) => Some(edge.port),
-        Some(PortKind::Out) => None,
-        Some(PortKind::DeIn) => Some(edge.port),
-        Some(PortKind::DeOut) => None,
+    if own == 1 && driven == 1 {
+        return Rates { read: 1, write: 1 };
     }
+    rates_by(edge_kind(rows, edge), own, driven)
 }
 
 fn rated_edge(rows: &[PortRow], ports: &[Port], edge: &EdgeRow) -> Edge
     ensures { result ≡ rated_edge rows.now ports.now edge.now }
 {
-    let kind = edge_kind(rows, edge);
+    let own = rate_at(ports, edge.port as usize);
+    let driven = rate_of(ports, edge.driver);
+    let rates = rates_of(rows, edge, own, driven);
     Edge {
         writer: edge.writer,
         reader: edge.reader,
-        write_rate: rate_of(ports, write_port(edge, kind)),
-        read_rate: rate_of(ports, read_port(edge, kind)),
+        write_rate: rates.write,
+        read_rate: rates.read,
         initial: edge.initial,
     }
 }
@@ -269,9 +296,9 @@ fn net_edges(alloc: Global, tables: &FlatTables, ports: &[Port]) -> Result<Vec<E
 fn net_actors(alloc: Global, tables: &FlatTables) -> Result<Vec<Actor>, Memory>
     ensures { IfOk result (λ actors. actors.items ≡ map (λ row. row.kind) tables.now.actors) }
 {
-    let mut actors = Vec::with_capacity(alloc, tables.actors.len())?;
+    let mut actors = vec![in alloc; Actor::Module; tables.actors.len()]?;
     for i in 0..tables.actors.len() {
-        actors.push(tables.actors[i].kind)?;
+        actors[i] = tables.actors[i].kind;
     }
     Ok(actors)
 }
@@ -294,7 +321,11 @@ pub fn net_of(alloc: Global, tables: &FlatTables, table: &[ModuleAttrs]) -> Resu
     row_number(actors.len())?;
     row_number(edges.len())?;
     row_number(ports.len())?;
-    Ok(Net::new(actors, edges, ports).unwrap())
+    Ok(Net {
+        actors,
+        edges,
+        ports,
+    })
 }
 
 /// The rates in force, by edge.
@@ -306,24 +337,77 @@ pub struct EdgeRates {
     pub writes: Vec<u32>,
 }
 
-fn reads_of(alloc: Global, edges: &[Edge]) -> Result<Vec<u32>, Memory>
-    ensures { IfOk result (λ rates. rates.items ≡ map (λ edge. edge.read_rate) edges.now) }
+/// The rate of a port that is told by its number, by the places of the modules in the table; 1 where none is told.
+#[tactic(auto, unfolding(crate::specs::Rates::net_ports), using(crate::proofs::Placing::told_rates))]
+fn rate_placed(
+    tables: &FlatTables,
+    table: &[ModuleAttrs],
+    places: &[Option<usize>],
+    number: Option<u32>,
+) -> u32
+    requires rates { AreRates tables.now table.now }
+    requires places { ArePlacesFrom 0 table.now places.now }
+    ensures { result ≡ rate_at_port (net_ports tables.now table.now) number }
 {
-    let mut rates = Vec::with_capacity(alloc, edges.len())?;
-    for e in 0..edges.len() {
-        rates.push(edges[e].read_rate)?;
+    match number {
+        None => 1,
+        Some(number) => {
+            let place = number as usize;
+            if place >= tables.ports.len() {
+                return 1;
+            }
+            rate_by_place(table, places, &tables.ports[place])
+        }
     }
-    Ok(rates)
 }
 
-fn writes_of(alloc: Global, edges: &[Edge]) -> Result<Vec<u32>, Memory>
-    ensures { IfOk result (λ rates. rates.items ≡ map (λ edge. edge.write_rate) edges.now) }
+/// The rates of an edge, by the places of the modules in the table.
+fn placed_rates(
+    tables: &FlatTables,
+    table: &[ModuleAttrs],
+    places: &[Option<usize>],
+    edge: &EdgeRow,
+) -> Rates
+    requires rates { AreRates tables.now table.now }
+    requires places { ArePlacesFrom 0 table.now places.now }
+    ensures read { result.read ≡ (rated_edge tables.now.ports (net_ports tables.now table.now) edge.now).read_rate }
+    ensures write { result.write ≡ (rated_edge tables.now.ports (net_ports tables.now table.now) edge.now).write_rate }
 {
-    let mut rates = Vec::with_capacity(alloc, edges.len())?;
-    for e in 0..edges.len() {
-        rates.push(edges[e].write_rate)?;
+    let own = rate_placed(tables, table, places, Some(edge.port));
+    let driven = rate_placed(tables, table, places, edge.driver);
+    rates_of(&tables.ports, edge, own, driven)
+}
+
+/// Sets the rates of each edge, by the places of the modules in the table.
+#[tactic(auto, unfolding(crate::specs::Rates::net_of))]
+fn set_placed_rates(
+    tables: &FlatTables,
+    table: &[ModuleAttrs],
+    places: &[Option<usize>],
+    reads: &mut Vec<u32>,
+    writes: &mut Vec<u32>,
+)
+    requires rates { AreRates tables.now table.now }
+    requires places { ArePlacesFrom 0 table.now places.now }
+    requires reads_long { length reads.old.items ≡ length tables.now.edges }
+    requires writes_long { length writes.old.items ≡ length tables.now.edges }
+    ensures reads { reads.new.items
+        ≡ map (λ edge. edge.read_rate) (net_of tables.now table.now).edges }
+    ensures writes { writes.new.items
+        ≡ map (λ edge. edge.write_rate) (net_of tables.now table.now).edges }
+{
+    for e in 0..tables.edges.len() {
+        let edge = &tables.edges[e];
+        let rates = placed_rates(tables, table, places, edge);
+        reads[e] = rates.read;
+        writes[e] = rates.write;
     }
-    Ok(rates)
+}
+
+fn ones(alloc: Global, count: usize) -> Result<Vec<u32>, Memory>
+    ensures { IfOk result (λ rates. rates.items ≡ replicate count 1) }
+{
+    Ok(vec![in alloc; 1; count]?)
 }
 
 /// The rates of each edge of a model under a table: those of the edges of its net.
@@ -342,12 +426,12 @@ pub fn edge_rates(
     ensures writes { IfOk result (λ rates. rates.writes.items
         ≡ map (λ edge. edge.write_rate) (net_of tables.now table.now).edges) }
 {
-    let ports = net_ports(alloc, tables, table)?;
-    let edges = net_edges(alloc, tables, &ports)?;
-    Ok(EdgeRates {
-        reads: reads_of(alloc, &edges)?,
-        writes: writes_of(alloc, &edges)?,
-    })
+    let places = places_of(alloc, table, tables.modules.len())?;
+    let mut reads = ones(alloc, tables.edges.len())?;
+    let mut writes = ones(alloc, tables.edges.len())?;
+    set_placed_rates(tables, table, &places, &mut reads, &mut writes);
+    drop(places);
+    Ok(EdgeRates { reads, writes })
 }
 
 /// The rate of a port that is told by its number, where each module has one row; 1 where none is told.
@@ -367,6 +451,18 @@ fn rate_told(tables: &FlatTables, table: &[ModuleAttrs], number: Option<u32>) ->
             rate_once(table, &tables.ports[place])
         }
     }
+}
+
+/// The rates of an edge, where each module has one row.
+fn told_rates(tables: &FlatTables, table: &[ModuleAttrs], edge: &EdgeRow) -> Rates
+    requires rates { AreRates tables.now table.now }
+    requires once { RowsStandOnce table.now }
+    ensures read { result.read ≡ (rated_edge tables.now.ports (net_ports tables.now table.now) edge.now).read_rate }
+    ensures write { result.write ≡ (rated_edge tables.now.ports (net_ports tables.now table.now) edge.now).write_rate }
+{
+    let own = rate_told(tables, table, Some(edge.port));
+    let driven = rate_told(tables, table, edge.driver);
+    rates_of(&tables.ports, edge, own, driven)
 }
 
 /// Sets the rates of each edge of a model to those under a table in which each module has one row: those of the edges of its
@@ -389,9 +485,9 @@ pub fn set_edge_rates(
 {
     for e in 0..tables.edges.len() {
         let edge = &tables.edges[e];
-        let kind = edge_kind(&tables.ports, edge);
-        reads[e] = rate_told(tables, table, read_port(edge, kind));
-        writes[e] = rate_told(tables, table, write_port(edge, kind));
+        let rates = told_rates(tables, table, edge);
+        reads[e] = rates.read;
+        writes[e] = rates.write;
     }
 }
 
