@@ -1,12 +1,13 @@
 -- The first spot whose step isn't whole, one more looked at.
-use Rattle.std.proofs.Common.{◌≡◌, ◌∙◌, ℕ, ◌+◌, ◌<◌, ◌%◌, Bool, true, false, not, nat_eq, List, Option, Some, None, sym, ap, subst, arith, inl, inr, ◌⊎◌}
+use Rattle.std.proofs.Common.{◌≡◌, ◌∙◌, ℕ, ◌+◌, ◌*◌, ◌<◌, ◌%◌, Bool, true, false, not, nat_eq, List, Option, Some, None, sym, ap, subst, arith, inl, inr, ◌⊎◌}
+use Rattle.std.proofs.Math.ListN.{get_or}
 use Rattle.std.proofs.lemmas.Bool.{cases_eq, eq-eqb, ne_eqb}
 use Rattle.std.proofs.lemmas.Nat.Gcd.{dvd_of_mod-eq-zero, mod-eq-zero_of_dvd}
 use Rattle.std.specs.Prelude.{slice_get}
 use Rattle.tdf_graph.specs.declared.actors.Port.{Port}
 use Rattle.tdf_timestep.proofs.Firsts.{never, after_first, some_same}
 use Rattle.tdf_timestep.specs.Order.{spot_comes_before, port_rank}
-use Rattle.tdf_timestep.specs.Period.{share_of, IsPortOf}
+use Rattle.tdf_timestep.specs.Period.{rate_at_port, share_of, IsPortOf}
 use Rattle.tdf_timestep.specs.declared.assign.Spot.{Spot}
 use Rattle.tdf_timestep.specs.views.Broken.{IsUnwhole, IsLesser, IsConsidered, IsPortSeen, IsSeen, IsFirstAmong}
 
@@ -134,3 +135,7 @@ module _ (ports : List Port) (counts : List ℕ) (period : ℕ) where
       none : (a : ℕ) (port : Option ℕ) → IsPortSeen ports 0 0 a port → ⊥
       none a None seen = omega (arith, seen)
       none a (Some p) seen = let h = seen.0 in omega (arith, h)
+
+-- an actor that doesn't fire has no share
+pub idle : (ports : List Port) (counts : List ℕ) (period : ℕ) (spot : Spot) → get_or counts spot.actor 0 ≡ 0 → IsUnwhole (share_of ports counts spot) period → ⊥
+idle ports counts period spot none is = let z = ap (λ n. n * rate_at_port ports spot.port) none in let some = is.some in omega (arith, z, some)

@@ -35,13 +35,14 @@ fn lesser(best: Option<Spot>, spot: Spot) -> Option<Spot>
 }
 
 /// The earlier of the best spot so far and one more, if the step of that one isn't whole.
+#[tactic(auto, using(crate::proofs::Unwhole::idle))]
 fn consider(net: &Net, counts: &[u64], period: u64, best: Option<Spot>, spot: Spot) -> Option<Spot>
     requires few { All (λ q. q ≤ most_firings) counts.now }
     requires actor { spot.actor < length counts.now }
     requires port { IsPortOf net.now.ports.items spot.actor spot.port }
     ensures { IsConsidered net.now.ports.items counts.now period best spot result }
 {
-    if !is_unwhole(share(net, counts, spot), period) {
+    if counts[spot.actor as usize] == 0 || !is_unwhole(share(net, counts, spot), period) {
         return best;
     }
     lesser(best, spot)

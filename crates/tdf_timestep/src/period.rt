@@ -54,9 +54,9 @@ fn step_of(period: u64, count: u64) -> u64
 fn actor_steps(alloc: Global, counts: &[u64], period: u64) -> Result<Vec<u64>, tdf_base::Memory>
     ensures { IfOk result (λ steps. AreStepsUpTo (length counts.now) counts.now period steps.items) }
 {
-    let mut steps: Vec<u64> = Vec::new(alloc);
+    let mut steps: Vec<u64> = vec![in alloc; 0; counts.len()]?;
     for actor in 0..counts.len() {
-        steps.push(step_of(period, counts[actor]))?;
+        steps[actor] = step_of(period, counts[actor]);
     }
     Ok(steps)
 }

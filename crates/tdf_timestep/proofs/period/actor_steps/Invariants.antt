@@ -1,5 +1,10 @@
-use Rattle.tdf_timestep.specs.views.Answers.{AreStepsUpTo}
+use Rattle.std.proofs.Common.{◌≡◌, ◌<◌, ℕ, length}
+use Rattle.std.specs.Prelude.{slice_index}
+use Rattle.tdf_timestep.specs.views.Answers.{step_of}
 use Rattle.tdf_timestep.proofs.period.actor_steps.Given as goal
 
 abbrev pub invariant-loop-actor : goal.invariant-loop-actor
-invariant-loop-actor l = AreStepsUpTo l.actor l.counts l.period l.steps.items
+invariant-loop-actor l = record {
+  long : length l.steps.items ≡ length l.counts;
+  each : (a : ℕ) → a < l.actor → slice_index l.steps.items a ≡ step_of l.period (slice_index l.counts a);
+}
