@@ -43,11 +43,7 @@ pub(crate) fn trigger_changed(
 }
 
 /// Each signal takes the value that waits for it, and nothing waits for it any more.
-pub(crate) fn give_values(
-    signals: &[u32],
-    waiting: &mut Vec<Option<Raw>>,
-    values: &mut Vec<Raw>,
-)
+pub(crate) fn give_values(signals: &[u32], waiting: &mut Vec<Option<Raw>>, values: &mut Vec<Raw>)
     requires values { (i s : ℕ) → slice_get signals.now i ≡ Some s
         → s < length values.old.items }
     requires waiting { (i s : ℕ) → slice_get signals.now i ≡ Some s

@@ -39,9 +39,9 @@ pub record IsGiven (from waiting : List (Option Raw)) (old new : List Raw) (s : 
 
 -- the same value waits for a signal, which is as it was
 pub record IsUntouched (from waiting : List (Option Raw)) (old new : List Raw) (s : ℕ) : Type 0
-    where
-  pub value : value_at new s ≡ value_at old s
-  pub same : slice_index_or waiting s None ≡ slice_index_or from s None
+  where
+    pub value : value_at new s ≡ value_at old s
+    pub same : slice_index_or waiting s None ≡ slice_index_or from s None
 
 -- the first n signals took the values that waited for them; no other changed but by the same
 pub record AreGiven (signals : List ℕ) (n : ℕ) (from waiting : List (Option Raw))
