@@ -59,7 +59,7 @@ pub fn first_rings(
     ensures { IfOk result (λ rings.
         AreFirstRings tables.now cluster bounds.now (length tables.now.edges) rings.items) }
 {
-    let mut rings = Vec::with_capacity(alloc, tables.edges.len())?;
+    let mut rings = Vec::new(alloc);
     for e in 0..tables.edges.len() {
         rings.push(first_ring(alloc, tables, cluster, bounds[e], tables.edges[e])?)?;
     }
