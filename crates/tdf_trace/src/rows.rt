@@ -137,7 +137,6 @@ fn write_next<K: Sink>(
 }
 
 /// Writes the rows below the limit, up to one that must wait.
-#[inline(always)]
 pub(crate) fn write_below<K: Sink>(
     about: &About,
     rows: &mut Rows,

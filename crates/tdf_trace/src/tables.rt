@@ -59,7 +59,7 @@ fn push_cell(line: &mut Vec<u8>, columns: &Vec<Column>, column: usize) -> Result
     requires shown { AreShown columns.now.items }
     ensures { OnOk result (line.new.items ≡ line.old.items ++ cell_piece (shown_row columns.now.items) column) }
 {
-    line.push(b' ')?;
+    push_word(line, b" ")?;
     push_value(line, columns[column].shown())
 }
 
@@ -76,7 +76,6 @@ fn push_cells(line: &mut Vec<u8>, columns: &Vec<Column>) -> Result<(), Memory>
 }
 
 /// Appends a row: `TIME CELL CELL ..`, the time in seconds.
-#[inline(always)]
 #[tactic(auto, unfolding(crate::specs::Tables::table_line), using(crate::proofs::Pieces::text_laws))]
 pub(crate) fn push_line(
     line: &mut Vec<u8>,
@@ -89,6 +88,5 @@ pub(crate) fn push_line(
 {
     push_seconds_at(line, time, resolution)?;
     push_cells(line, columns)?;
-    line.push(b'\n')?;
-    Ok(())
+    push_word(line, b"\n")
 }

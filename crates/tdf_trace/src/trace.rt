@@ -226,7 +226,6 @@ impl Trace {
     /// # Errors
     /// `Failed` where a write failed, `Memory` where no memory was found. The sink then took a front part of the rows below the
     /// watermark, and the trace is broken.
-    #[inline(always)]
     pub fn advance<K: Sink>(&mut self, watermark: u64, sink: &mut K) -> Result<(), SinkErr>
         requires open { self.old.stage ≡ Open }
         ensures wrote { OnOk result
