@@ -1,6 +1,6 @@
 //! The steps of flat code, and how they run.
 
-ghost use Rattle.std.specs.Prelude.{◌≡◌, pos};
+ghost use Rattle.std.specs.Prelude.{◌≡◌, IfSome, IsSome, None, pos};
 ghost use Rattle.tdf_expr_flat.specs.Flat.{AreSafeSteps, IsFit, IsOperand, IsSafeStep, hand_of, operand_value, after_steps, after_step};
 ghost use Rattle.tdf_expr_state.specs.State.{state_of};
 ghost use Rattle.tdf_fixed.specs.Cast.{cast_of};
@@ -75,15 +75,62 @@ fn wide_fit(num: i64, fit: &Fit) -> i128
     cast(value, fit.format).num
 }
 
-/// The cast of a number.
+/// One step, where it takes neither 128 bits nor a notification, and the number in hand after it; else none, and all is as it was.
 #[inline(always)]
-fn fitted(num: i64, fit: &Fit) -> i128
-    requires { IsFit num fit.now }
-    ensures { result ≡ cast_of fit.now.format num fit.now.frac }
+fn quick_step(
+    operation: &Operation,
+    number: i64,
+    cells: &mut Cells,
+    signals: &mut Signals,
+) -> Option<i64>
+    requires { IsSafeStep operation.now (hand_of number (state_of cells.old signals.old)) }
+    ensures number { IfSome result (λ next. next
+        ≡ (after_step operation.now (hand_of number (state_of cells.old signals.old))).number) }
+    ensures frame { IsSome result → cells.new
+        ≡ (after_step operation.now (hand_of number (state_of cells.old signals.old))).state.frame }
+    ensures ports { IsSome result → signals.new
+        ≡ (after_step operation.now (hand_of number (state_of cells.old signals.old))).state.ports }
+    ensures none { result ≡ None → (cells.new ≡ cells.old) × (signals.new ≡ signals.old)
+        × (number ≡ (after_step operation.now
+        (hand_of number (state_of cells.old signals.old))).number) }
 {
-    match cut_by(num, &fit.cut) {
-        Some(kept) => i128::from(kept),
-        None => wide_fit(num, fit),
+    match operation {
+        Operation::Take(operand) => Some(value(operand, cells, signals)),
+        Operation::Add(operand) => Some(number + value(operand, cells, signals)),
+        Operation::Subtract(operand) => Some(number - value(operand, cells, signals)),
+        Operation::Multiply(operand) => Some(number * value(operand, cells, signals)),
+        Operation::PutCell { place, fit } => {
+            let kept = cut_by(number, &fit.cut)?;
+            cells.set_cell(*place as usize, i128::from(kept));
+            Some(number)
+        }
+        Operation::PutSample { port, place, fit } => {
+            let kept = cut_by(number, &fit.cut)?;
+            signals.set_sample(*port as usize, *place as usize, i128::from(kept));
+            Some(number)
+        }
+        Operation::Notify { .. } => None,
+    }
+}
+
+/// What a step does to the values and to the ports, in 128 bits.
+#[inline(always)]
+fn long_step(operation: &Operation, number: i64, cells: &mut Cells, signals: &mut Signals)
+    requires { IsSafeStep operation.now (hand_of number (state_of cells.old signals.old)) }
+    ensures frame { cells.new
+        ≡ (after_step operation.now (hand_of number (state_of cells.old signals.old))).state.frame }
+    ensures ports { signals.new
+        ≡ (after_step operation.now (hand_of number (state_of cells.old signals.old))).state.ports }
+{
+    match operation {
+        Operation::PutCell { place, fit } => {
+            cells.set_cell(*place as usize, wide_fit(number, fit));
+        }
+        Operation::PutSample { port, place, fit } => {
+            signals.set_sample(*port as usize, *place as usize, wide_fit(number, fit));
+        }
+        Operation::Notify { event, after } => signals.notify(*event as usize, *after),
+        _ => {}
     }
 }
 
@@ -98,27 +145,34 @@ fn step(operation: &Operation, number: i64, cells: &mut Cells, signals: &mut Sig
     ensures ports { signals.new
         ≡ (after_step operation.now (hand_of number (state_of cells.old signals.old))).state.ports }
 {
-    match operation {
-        Operation::Take(operand) => value(operand, cells, signals),
-        Operation::Add(operand) => number + value(operand, cells, signals),
-        Operation::Subtract(operand) => number - value(operand, cells, signals),
-        Operation::Multiply(operand) => number * value(operand, cells, signals),
-        Operation::PutCell { place, fit } => {
-            cells.set_cell(*place as usize, fitted(number, fit));
-            number
-        }
-        Operation::PutSample { port, place, fit } => {
-            signals.set_sample(*port as usize, *place as usize, fitted(number, fit));
-            number
-        }
-        Operation::Notify { event, after } => {
-            signals.notify(*event as usize, *after);
+    match quick_step(operation, number, cells, signals) {
+        Some(next) => next,
+        None => {
+            long_step(operation, number, cells, signals);
             number
         }
     }
 }
 
+/// Runs steps, with a number in hand at first.
+#[inline(never)]
+#[tactic(auto, using(crate::proofs::InOrder::run_laws))]
+fn run_steps(code: &[Operation], first: i64, cells: &mut Cells, signals: &mut Signals)
+    requires { AreSafeSteps code.now (hand_of first (state_of cells.old signals.old)) }
+    ensures frame { cells.new
+        ≡ (after_steps code.now (hand_of first (state_of cells.old signals.old))).state.frame }
+    ensures ports { signals.new
+        ≡ (after_steps code.now (hand_of first (state_of cells.old signals.old))).state.ports }
+{
+    let mut number = first;
+    for operation in code {
+        number = step(operation, number, cells, signals);
+    }
+}
+
 /// Runs flat code, with 0 in hand at first. It takes no memory.
+///
+/// The loop over quick steps makes no call, so it needs no frame; all from the first other step on is left to `run_steps`.
 #[tactic(auto, using(crate::proofs::InOrder::run_laws))]
 pub fn run_flat(code: &[Operation], cells: &mut Cells, signals: &mut Signals)
     requires { AreSafeSteps code.now (hand_of (pos 0) (state_of cells.old signals.old)) }
@@ -128,7 +182,13 @@ pub fn run_flat(code: &[Operation], cells: &mut Cells, signals: &mut Signals)
         ≡ (after_steps code.now (hand_of (pos 0) (state_of cells.old signals.old))).state.ports }
 {
     let mut number = 0;
-    for operation in code {
-        number = step(operation, number, cells, signals);
+    for at in 0..code.len() {
+        match quick_step(&code[at], number, cells, signals) {
+            Some(next) => number = next,
+            None => {
+                run_steps(&code[at..], number, cells, signals);
+                return;
+            }
+        }
     }
 }
