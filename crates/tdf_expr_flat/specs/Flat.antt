@@ -1,7 +1,6 @@
 -- What flat code does and when it is safe (own): steps one after another, on a number in hand.
 use Rattle.std.specs.Int.{w64}
-use Rattle.std.specs.Prelude.{ℕ, ◌-◌, ◌*◌, ◌^◌, ◌<◌, ◌≤◌, List, [], ◌∷◌, length, ℤ, pos, ◌+ℤ◌, ◌-ℤ◌, ◌*ℤ◌, unsigned_abs, FitsSigned}
-use Rattle.tdf_expr_cuts.specs.Cuts.{IsCutOf}
+use Rattle.std.specs.Prelude.{◌≡◌, ℕ, ◌-◌, ◌*◌, ◌^◌, ◌<◌, ◌≤◌, List, [], ◌∷◌, length, ℤ, pos, ◌+ℤ◌, ◌-ℤ◌, ◌*ℤ◌, ◌≤ℤ◌, unsigned_abs, FitsSigned}
 use Rattle.tdf_expr_flat.specs.declared.steps.Fit.{Fit}
 use Rattle.tdf_expr_flat.specs.declared.steps.Operand.{Operand}
 use Rattle.tdf_expr_flat.specs.declared.steps.Operand.TheVariants as operand
@@ -9,6 +8,7 @@ use Rattle.tdf_expr_flat.specs.declared.steps.Operation.{Operation}
 use Rattle.tdf_expr_flat.specs.declared.steps.Operation.TheVariants as operation
 use Rattle.tdf_expr_state.specs.State.{State, cell_at, with_cell, with_notice, with_sample}
 use Rattle.tdf_fixed.specs.Cast.{cast_of, fraction_of}
+use Rattle.tdf_fixed.specs.Quantise.{below}
 
 -- the number in hand, and the state
 pub record Hand : Type 0 where
@@ -53,9 +53,16 @@ IsOperand (operand.Sample place up) s =
     (place < length s.ports.samples) × IsLow (cell_at s.ports.samples place) up
 IsOperand (operand.Number num) s = Unit {0}
 
--- the number can be cast, which is a cut where it lies in the range then
+-- the cast of a number is its neighbour below, where that lies between the bounds
+pub record IsBoundedCut (fit : Fit) : Type 0 where
+  pub few : fit.shift ≤ 62
+  pub casts : (num : ℤ) → fit.least ≤ℤ below num (2 ^ fit.shift)
+      → below num (2 ^ fit.shift) ≤ℤ fit.most
+      → cast_of fit.format num fit.frac ≡ below num (2 ^ fit.shift)
+
+-- the number can be cast
 abbrev pub IsFit : ℤ → Fit → Type 0
-IsFit num fit = IsCutOf fit.cut fit.format fit.frac × (fit.frac ≤ 120)
+IsFit num fit = IsBoundedCut fit × (fit.frac ≤ 120)
     × (unsigned_abs num * 2 ^ (fraction_of fit.format - fit.frac) ≤ 2 ^ 120)
 
 -- no number in hand passes 64 bits, and no place lies outside

@@ -5,7 +5,7 @@ ghost use Rattle.tdf_expr_flat.specs.Flat.{AreSafeSteps, IsFit, IsOperand, IsSaf
 ghost use Rattle.tdf_expr_state.specs.State.{state_of};
 ghost use Rattle.tdf_fixed.specs.Cast.{cast_of};
 
-use tdf_expr_cuts::{Cut, cut_by, multiple};
+use tdf_expr_cuts::multiple;
 use tdf_expr_state::{Cells, Signals};
 use tdf_fixed::{Format, Raw, cast};
 
@@ -18,13 +18,15 @@ pub enum Operand {
     Number(i64),
 }
 
-/// A cast of a number that has so many fraction bits into a format, and the cut that it is where the number lies in the range
-/// then.
+/// A cast of a number that has so many fraction bits into a format: it cuts so many last bits off where what is left lies
+/// between the bounds, both of them included.
 #[derive(Clone, Copy)]
 pub struct Fit {
     pub frac: u32,
     pub format: Format,
-    pub cut: Cut,
+    pub shift: u32,
+    pub least: i64,
+    pub most: i64,
 }
 
 /// A step, on a number in hand.
@@ -57,6 +59,20 @@ fn value(operand: &Operand, cells: &Cells, signals: &Signals) -> i64
         Operand::Cell { place, up } => multiple(cells.cell(*place as usize) as i64, *up),
         Operand::Sample { place, up } => multiple(signals.sample(*place as usize) as i64, *up),
         Operand::Number(num) => *num,
+    }
+}
+
+/// The number without its last bits, where that is its cast.
+#[inline(always)]
+fn cut(num: i64, fit: &Fit) -> Option<i64>
+    requires { IsFit num fit.now }
+    ensures { IfSome result (λ kept. kept ≡ cast_of fit.now.format num fit.now.frac) }
+{
+    let kept = num >> fit.shift;
+    if fit.least <= kept && kept <= fit.most {
+        Some(kept)
+    } else {
+        None
     }
 }
 
@@ -100,12 +116,12 @@ fn quick_step(
         Operation::Subtract(operand) => Some(number - value(operand, cells, signals)),
         Operation::Multiply(operand) => Some(number * value(operand, cells, signals)),
         Operation::PutCell { place, fit } => {
-            let kept = cut_by(number, &fit.cut)?;
+            let kept = cut(number, fit)?;
             cells.set_cell(*place as usize, i128::from(kept));
             Some(number)
         }
         Operation::PutSample { port, place, fit } => {
-            let kept = cut_by(number, &fit.cut)?;
+            let kept = cut(number, fit)?;
             signals.set_sample(*port as usize, *place as usize, i128::from(kept));
             Some(number)
         }

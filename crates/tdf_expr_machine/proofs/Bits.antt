@@ -46,7 +46,7 @@ short_raised num x m bits low few small =
     let less : unsigned_abs num < 2 ^ (60 - m + 1) = omega (arith, power, twice, some, small) in
     (omega (arith, low, few), subst (λ k. unsigned_abs num < 2 ^ k) (sym next) less)
 
-raised_bits : (num : ℤ) (x m bits : ℕ) → x + m ≤ bits → HasBits num x → HasBits (num *ℤ pos (2 ^ m)) bits
+pub raised_bits : (num : ℤ) (x m bits : ℕ) → x + m ≤ bits → HasBits num x → HasBits (num *ℤ pos (2 ^ m)) bits
 raised_bits num x m bits low small =
     let times : unsigned_abs num * 2 ^ m ≤ 2 ^ x * 2 ^ m = mul-le-mul_right (2 ^ m) small in
     let power : 2 ^ (x + m) ≡ 2 ^ x * 2 ^ m = pow-add 2 x m in

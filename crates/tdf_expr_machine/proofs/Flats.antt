@@ -1,19 +1,18 @@
 -- Flat code for expressions and for statements.
-use Rattle.std.proofs.Common.{◌≡◌, ◌∙◌, ℕ, suc, ◌+◌, ◌<◌, ◌≤◌, Box, Global, IfOk, Ok, Err, Result, List, [], ◌∷◌, ◌++◌, ℤ, pos, ◌+ℤ◌, ◌-ℤ◌, ◌*ℤ◌, ◌^◌, length, take, take-suc, refl, sym, ap, subst, arith, append_assoc}
+use Rattle.std.proofs.Common.{◌≡◌, ◌∙◌, ℕ, zero, suc, ◌+◌, ◌-◌, ◌*◌, ◌<◌, ◌≤◌, Box, Global, IfOk, Ok, Err, Result, List, [], ◌∷◌, ◌++◌, ℤ, pos, ◌+ℤ◌, ◌-ℤ◌, ◌*ℤ◌, ◌^◌, length, take, take-suc, refl, sym, ap, subst, arith, append_assoc}
 use Rattle.std.proofs.Math.ListN.{get_or}
-use Rattle.std.proofs.lemmas.Int.{ints}
+use Rattle.std.proofs.lemmas.Int.{ints, unsigned_abs-mul}
 use Rattle.std.proofs.lemmas.List.{take_all}
 use Rattle.std.specs.Int.{w64}
-use Rattle.std.specs.Prelude.{FitsSigned}
-use Rattle.tdf_expr_cuts.specs.Cuts.{IsCutOf}
+use Rattle.std.specs.Prelude.{unsigned_abs, FitsSigned}
 use Rattle.tdf_expr_flat.proofs.Api.{steps_append, safe_append}
-use Rattle.tdf_expr_flat.specs.Flat.{AreSafeSteps, Hand, IsFit, hand_of, operand_value, after_steps, after_step}
+use Rattle.tdf_expr_flat.specs.Flat.{AreSafeSteps, Hand, IsBoundedCut, IsFit, hand_of, operand_value, after_steps, after_step}
 use Rattle.tdf_expr_flat.specs.declared.steps.Fit.{Fit}
 use Rattle.tdf_expr_flat.specs.declared.steps.Operand.{Operand}
 use Rattle.tdf_expr_flat.specs.declared.steps.Operand.TheVariants as operand
 use Rattle.tdf_expr_flat.specs.declared.steps.Operation.{Operation}
 use Rattle.tdf_expr_flat.specs.declared.steps.Operation.TheVariants as operation
-use Rattle.tdf_expr_machine.proofs.Bits.{has_bits, short_raised}
+use Rattle.tdf_expr_machine.proofs.Bits.{fits, has_bits, raised_bits, short_raised}
 use Rattle.tdf_expr_machine.proofs.InOrder.{acted_append, safe_first, safe_second}
 use Rattle.tdf_expr_machine.specs.Acts.{acted, IsSafeAct}
 use Rattle.tdf_expr_machine.specs.Nodes.{IsCastable, IsSafe, node_value}
@@ -25,10 +24,12 @@ use Rattle.tdf_expr_machine.specs.declared.nodes.Node.{Node}
 use Rattle.tdf_expr_machine.specs.declared.nodes.Node.TheVariants as leaf
 use Rattle.tdf_expr_machine.specs.declared.nodes.Node.TheViews as view
 use Rattle.tdf_expr_machine.specs.declared.spots.Spot.TheVariants as spot
-use Rattle.tdf_expr_machine.specs.machine.Flattening.{GoesOn, IsCodeOf, IsFlatOf, IsOperandOf, TakesCast, TakesValue}
+use Rattle.tdf_expr_machine.specs.machine.Flattening.{FitsRaised, GoesOn, IsCodeOf, IsFlatOf, IsOperandOf, TakesCast, TakesValue}
 use Rattle.tdf_expr_machine.specs.machine.Steps.{IsNarrow, StepsFit}
 use Rattle.tdf_expr_state.specs.State.{State, cell_at, with_cell, with_sample}
+use Rattle.tdf_fixed.proofs.Api.{placed_up}
 use Rattle.tdf_fixed.specs.Cast.{cast_of, fraction_of}
+use Rattle.tdf_fixed.specs.Overflow.{overflowed}
 use Rattle.tdf_fixed.specs.declared.format.Format.{Format}
 
 up_none : (n : ℤ) → n *ℤ pos (2 ^ 0) ≡ n
@@ -131,33 +132,78 @@ product_goes node a b o old new is second taken = subst (λ x. GoesOn (TakesValu
     other : (h : Hand) (loops : List ℕ) → operand_value o h.state ≡ node_value b.value h.state loops
     other h loops = second.value h.state loops ∙ up_none (node_value b.value h.state loops)
 
-pub cast_goes : (cast : CastNode) (fit : Fit) (bits : ℕ) (old new : List Operation) → IsNarrow cast.value bits → GoesOn (TakesValue cast.value 0) old new
-    → fit.frac ≡ cast.frac → fit.format ≡ cast.format → IsCutOf fit.cut fit.format fit.frac → GoesOn (TakesCast cast fit) old new
-cast_goes cast fit bits old new narrow taken frac format cut = record {
+-- ---- values moved up
+
+pub one_times : (num : ℤ) (up : ℕ) → num ≡ pos 1 *ℤ pos (2 ^ up) → num ≡ pos (2 ^ up)
+one_times num up is = is ∙ go (2 ^ up)
+  where
+    go : (k : ℕ) → pos 1 *ℤ pos k ≡ pos k
+    go k = omega (arith, ints)
+
+pub narrow_raised : (node : Node) (bits up most : ℕ) → IsNarrow node bits → bits + up ≤ most → most ≤ 60 → FitsRaised node up
+narrow_raised node bits up most narrow low few = record {
+  fits = λ s loops safe. fits (node_value node s loops *ℤ pos (2 ^ up)) most (omega (arith, few)) (raised_bits (node_value node s loops) bits up most low (narrow.small s loops safe));
+}
+
+pub raise_goes : (node : Node) (up : ℕ) (old mid new : List Operation) → GoesOn (TakesValue node 0) old mid → FitsRaised node up
+    → new ≡ mid ++ operation.Multiply (operand.Number (pos (2 ^ up))) ∷ [] → GoesOn (TakesValue node up) old new
+raise_goes node up old mid new taken small more = record {
+  steps = taken.steps ++ last ∷ [];
+  more = more ∙ ap (λ xs. xs ++ last ∷ []) taken.more ∙ append_assoc old taken.steps (last ∷ []);
+  kind = record {
+    value = λ h loops. steps_append taken.steps (last ∷ []) h ∙ ap (after_step last) (first h loops);
+    safe = λ h loops safe fits. safe_append taken.steps (last ∷ []) h (taken.kind.safe h loops safe fits)
+        (subst (λ x. AreSafeSteps (last ∷ []) x) (sym (first h loops)) ((record {}, small.fits h.state loops safe), record {}));
+  };
+}
+  where
+    last : Operation
+    last = operation.Multiply (operand.Number (pos (2 ^ up)))
+
+    first : (h : Hand) (loops : List ℕ) → after_steps taken.steps h ≡ hand_of (node_value node h.state loops) h.state
+    first h loops = taken.kind.value h loops ∙ ap (λ k. hand_of k h.state) (up_none (node_value node h.state loops))
+
+-- a number moved up to the bits after the point that its format has
+moved_cast : (f : Format) (num : ℤ) (frac up : ℕ) → up ≡ fraction_of f - frac → cast_of f (num *ℤ pos (2 ^ up)) (frac + up) ≡ cast_of f num frac
+unfolding cast_of
+moved_cast f num frac zero is = let none : frac + 0 ≡ frac = omega arith in ap (λ k. cast_of f (num *ℤ pos (2 ^ 0)) k) none ∙ ap (λ n. cast_of f n frac) (up_none num)
+moved_cast f num frac (suc k) is =
+    let up = suc k in
+    let none : fraction_of f - (frac + up) ≡ 0 = omega (arith, is) in
+    ap (overflowed f.over f.signed f.wl) (placed_up f.quant (num *ℤ pos (2 ^ up)) (frac + up) (fraction_of f) (omega (arith, is))
+    ∙ ap (λ e. num *ℤ pos (2 ^ up) *ℤ pos (2 ^ e)) none ∙ up_none (num *ℤ pos (2 ^ up)) ∙ ap (λ e. num *ℤ pos (2 ^ e)) is
+    ∙ sym (placed_up f.quant num frac (fraction_of f) (omega (arith, is))))
+
+moved_castable : (f : Format) (num : ℤ) (frac up : ℕ) → up ≡ fraction_of f - frac → IsCastable num frac (fraction_of f) → IsCastable (num *ℤ pos (2 ^ up)) (frac + up) (fraction_of f)
+moved_castable f num frac up is castable = (omega (arith, castable.0, is, f.fraction_bits), subst (λ k. k ≤ 2 ^ 120) (sym same) castable.1)
+  where
+    none : fraction_of f - (frac + up) ≡ 0
+    none = omega (arith, is)
+
+    once : (k : ℕ) → k * 2 ^ 0 ≡ k
+    once k = omega arith
+
+    same : unsigned_abs (num *ℤ pos (2 ^ up)) * 2 ^ (fraction_of f - (frac + up)) ≡ unsigned_abs num * 2 ^ (fraction_of f - frac)
+    same = ap (λ e. unsigned_abs (num *ℤ pos (2 ^ up)) * 2 ^ e) none ∙ once (unsigned_abs (num *ℤ pos (2 ^ up))) ∙ unsigned_abs-mul num (pos (2 ^ up)) ∙ ap (λ e. unsigned_abs num * 2 ^ e) is
+
+pub cast_goes : (cast : CastNode) (fit : Fit) (bits up : ℕ) (old new : List Operation) → IsNarrow cast.value bits → GoesOn (TakesValue cast.value up) old new
+    → up ≡ fraction_of cast.format - cast.frac → fit.frac ≡ cast.frac + up → fit.format ≡ cast.format → IsBoundedCut fit → GoesOn (TakesCast cast fit) old new
+cast_goes cast fit bits up old new narrow taken rise frac format cut = record {
   steps = taken.steps;
   more = taken.more;
   kind = record {
-    value = λ h loops. taken.kind.value h loops ∙ ap (λ n. hand_of n h.state) (up_none (node_value cast.value h.state loops));
+    up = up;
+    value = taken.kind.value;
     safe = λ h loops safe. taken.kind.safe h loops safe (narrow.steps h.state loops safe);
-    frac = frac;
-    format = format;
-    cut = cut;
+    same = λ num. ap (λ f. cast_of f (num *ℤ pos (2 ^ up)) fit.frac) format ∙ ap (λ k. cast_of cast.format (num *ℤ pos (2 ^ up)) k) frac ∙ moved_cast cast.format num cast.frac up rise;
+    fits = λ num castable.
+        let moved = subst (λ f. IsCastable (num *ℤ pos (2 ^ up)) fit.frac (fraction_of f)) (sym format)
+        (subst (λ k. IsCastable (num *ℤ pos (2 ^ up)) k (fraction_of cast.format)) (sym frac) (moved_castable cast.format num cast.frac up rise castable)) in
+        (cut, moved.0, moved.1);
   };
 }
 
 -- ---- statements
-
-cast_is : (cast : CastNode) (fit : Fit) (num : ℤ) → fit.frac ≡ cast.frac → fit.format ≡ cast.format → cast_of fit.format num fit.frac ≡ cast_of cast.format num cast.frac
-cast_is cast fit num frac format = ap (λ f. cast_of f num fit.frac) format ∙ ap (λ k. cast_of cast.format num k) frac
-
-abbrev IsFitNumber : CastNode → ℤ → Type 0
-IsFitNumber cast num = IsCastable num cast.frac (fraction_of cast.format)
-
-fit_is : (cast : CastNode) (fit : Fit) (steps : List Operation) (h : Hand) (loops : List ℕ) → TakesCast cast fit steps
-    → IsFitNumber cast (node_value cast.value h.state loops) → IsFit (node_value cast.value h.state loops) fit
-fit_is cast fit steps h loops taken castable =
-    let same : IsFitNumber (record { value = cast.value; frac = fit.frac; format = fit.format }) (node_value cast.value h.state loops) = rw (taken.frac, taken.format) castable in
-    (taken.cut, same.0, same.1)
 
 pub set_cell_goes : (act : Act) (place : ℕ) (cast : CastNode) (fit : Fit) (old mid new : List Operation) → act ≡ variant.SetCell (spot.Fixed place) cast
     → GoesOn (TakesCast cast fit) old mid → new ≡ mid ++ operation.PutCell place fit ∷ [] → GoesOn (IsCodeOf act) old new
@@ -166,10 +212,10 @@ set_cell_goes act place cast fit old mid new is taken more = subst (λ x. GoesOn
   more = more ∙ ap (λ xs. xs ++ operation.PutCell place fit ∷ []) taken.more ∙ append_assoc old taken.steps (operation.PutCell place fit ∷ []);
   kind = record {
     same = λ h loops. ap (λ x. x.state) (steps_append taken.steps (operation.PutCell place fit ∷ []) h ∙ ap (after_step (operation.PutCell place fit)) (taken.kind.value h loops))
-        ∙ ap (λ n. with_cell place n h.state) (cast_is cast fit (node_value cast.value h.state loops) taken.kind.frac taken.kind.format);
+        ∙ ap (λ n. with_cell place n h.state) (taken.kind.same (node_value cast.value h.state loops));
     safe = λ h loops safe. safe_append taken.steps (operation.PutCell place fit ∷ []) h (taken.kind.safe h loops safe.0)
         (subst (λ x. AreSafeSteps (operation.PutCell place fit ∷ []) x) (sym (taken.kind.value h loops))
-        ((fit_is cast fit taken.steps h loops taken.kind safe.1, safe.3), record {}));
+        ((taken.kind.fits (node_value cast.value h.state loops) safe.1, safe.3), record {}));
   };
 })
 
@@ -180,10 +226,10 @@ set_sample_goes act port place cast fit old mid new is taken more = subst (λ x.
   more = more ∙ ap (λ xs. xs ++ operation.PutSample port place fit ∷ []) taken.more ∙ append_assoc old taken.steps (operation.PutSample port place fit ∷ []);
   kind = record {
     same = λ h loops. ap (λ x. x.state) (steps_append taken.steps (operation.PutSample port place fit ∷ []) h ∙ ap (after_step (operation.PutSample port place fit)) (taken.kind.value h loops))
-        ∙ ap (λ n. with_sample port place n h.state) (cast_is cast fit (node_value cast.value h.state loops) taken.kind.frac taken.kind.format);
+        ∙ ap (λ n. with_sample port place n h.state) (taken.kind.same (node_value cast.value h.state loops));
     safe = λ h loops safe. safe_append taken.steps (operation.PutSample port place fit ∷ []) h (taken.kind.safe h loops safe.0)
         (subst (λ x. AreSafeSteps (operation.PutSample port place fit ∷ []) x) (sym (taken.kind.value h loops))
-        ((fit_is cast fit taken.steps h loops taken.kind safe.1, safe.3, safe.4), record {}));
+        ((taken.kind.fits (node_value cast.value h.state loops) safe.1, safe.3, safe.4), record {}));
   };
 })
 
@@ -218,7 +264,9 @@ flat_all acts i code past flat = subst (λ xs. IsFlatOf xs code) (take_all i act
 
 pub ruleset operand_laws = (operand_cell, operand_sample, operand_number)
 
-pub ruleset take_laws = (take_operand, then_goes, sum_goes, difference_goes, product_goes)
+pub ruleset take_laws = (take_operand, then_goes, sum_goes, difference_goes, product_goes, raise_goes)
+
+pub ruleset rise_laws = (one_times, narrow_raised)
 
 pub ruleset goes_laws = (set_cell_goes, set_sample_goes, notify_goes)
 

@@ -1,17 +1,19 @@
 //! Statements as flat code, where they are assignments and notifications at fixed places.
 
-ghost use Rattle.std.specs.Prelude.{◌≡◌, ◌++◌, ◌∷◌, [], IfOk, IfSome, List, true};
+ghost use Rattle.std.specs.Prelude.{◌≡◌, ◌++◌, ◌∷◌, ◌^◌, [], IfOk, IfSome, List, pos, true};
+ghost use Rattle.tdf_expr_flat.specs.declared.steps.Operand.TheVariants.{Number};
 ghost use Rattle.tdf_expr_flat.specs.declared.steps.Operation.{Operation as OperationOf};
-ghost use Rattle.tdf_expr_machine.specs.machine.Flattening.{GoesOn, IsCodeOf, IsFlatOf, IsOperandOf, TakesCast, TakesValue};
+ghost use Rattle.tdf_expr_flat.specs.declared.steps.Operation.TheVariants.{Multiply};
+ghost use Rattle.tdf_expr_machine.specs.machine.Flattening.{FitsRaised, GoesOn, IsCodeOf, IsFlatOf, IsOperandOf, TakesCast, TakesValue};
 
 use crate::acts::{Act, CastNode};
-use crate::narrow::joint_bits;
+use crate::narrow::{bits_of, joint_bits};
 use crate::nodes::Node;
 use crate::spots::Spot;
 use std::alloc::Global;
 use tdf_base::Memory;
-use tdf_expr_cuts::{cut_of, raised, short_of};
-use tdf_expr_flat::{Fit, Operand, Operation};
+use tdf_expr_cuts::{raised, short_of};
+use tdf_expr_flat::{Fit, Operand, Operation, fit_of};
 
 /// The operand that an expression without parts is, moved up by so many bits.
 #[tactic(auto, using(crate::proofs::Flats::operand_laws))]
@@ -46,15 +48,48 @@ fn take(node: &Node, up: u32, code: &mut Vec<Operation>) -> Result<bool, Memory>
             Ok(true)
         }
         None => {
-            if up != 0 {
+            if up == 0 {
+                return take_parts(node, code);
+            }
+            if !take_parts(node, code)? {
                 return Ok(false);
             }
-            take_parts(node, code)
+            if !raise(node, up, code)? {
+                return Ok(false);
+            }
+            Ok(true)
         }
     }
 }
 
-/// The same, and one step more.
+/// The power of two that moves the value of an expression up by so many bits, where it fits 64 bits then.
+#[tactic(auto, using(crate::proofs::Flats::rise_laws))]
+fn factor_of(node: &Node, up: u32) -> Option<i64>
+    ensures value { IfSome result (λ factor. factor ≡ pos (2 ^ up)) }
+    ensures fits { IfSome result (λ factor. FitsRaised node.now up) }
+{
+    let bits = bits_of(node)?;
+    let _ = joint_bits(bits, up, 0, 0)?;
+    raised(1, up)
+}
+
+/// Appends the step that moves the value of an expression, in hand, up by so many bits, where it fits 64 bits then; it says whether it
+/// does.
+fn raise(node: &Node, up: u32, code: &mut Vec<Operation>) -> Result<bool, Memory>
+    ensures fits { IfOk result (λ so. so ≡ true → FitsRaised node.now up) }
+    ensures step { IfOk result (λ so. so ≡ true
+        → code.new.items ≡ code.old.items ++ Multiply (Number (pos (2 ^ up))) ∷ []) }
+{
+    match factor_of(node, up) {
+        None => Ok(false),
+        Some(factor) => {
+            code.push(Operation::Multiply(Operand::Number(factor)))?;
+            Ok(true)
+        }
+    }
+}
+
+/// As `take`, and one step more.
 #[cycle(flat)]
 #[tactic(auto, using(crate::proofs::Flats::take_laws))]
 fn take_then(
@@ -98,7 +133,8 @@ fn take_parts(node: &Node, code: &mut Vec<Operation>) -> Result<bool, Memory>
     }
 }
 
-/// Appends the steps that take the value of an expression in hand, and gives its cast; none, where it hasn't such steps.
+/// Appends the steps that take the value of an expression in hand, moved up where its format has more bits after the point, and gives
+/// its cast then; none, where it hasn't such steps.
 #[tactic(auto, using(crate::proofs::Flats::cast_goes))]
 fn cast_steps(cast: &CastNode, code: &mut Vec<Operation>) -> Result<Option<Fit>, Memory>
     ensures { IfOk result (λ found. IfSome found (λ fit.
@@ -107,14 +143,14 @@ fn cast_steps(cast: &CastNode, code: &mut Vec<Operation>) -> Result<Option<Fit>,
     if !cast.value.narrow {
         return Ok(None);
     }
-    match cut_of(cast.frac, &cast.format) {
+    let up = (cast.format.wl - cast.format.iwl).saturating_sub(cast.frac);
+    match fit_of(cast.frac + up, &cast.format) {
         None => Ok(None),
-        Some(cut) => {
-            if !take(&cast.value.node, 0, code)? {
+        Some(fit) => {
+            if !take(&cast.value.node, up, code)? {
                 return Ok(None);
             }
-            let (frac, format) = (cast.frac, cast.format);
-            Ok(Some(Fit { frac, format, cut }))
+            Ok(Some(fit))
         }
     }
 }
