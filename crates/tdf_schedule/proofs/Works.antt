@@ -12,7 +12,7 @@ use Rattle.std.specs.Prelude.{slice_get, All, Contains, sum}
 use Rattle.tdf_base.specs.Limits.{most_firings}
 use Rattle.tdf_graph.specs.Ranges.{IsEdge}
 use Rattle.tdf_graph.specs.declared.actors.Edge.{Edge}
-use Rattle.tdf_schedule.proofs.Keys.{some_same, none_some, contains_at, next_key}
+use Rattle.tdf_schedule.proofs.Keys.{none_some, contains_at, next_key}
 use Rattle.tdf_schedule.proofs.Linked.{in_front, last_of, push_cases, row_here, row_other, inputs_at}
 use Rattle.tdf_schedule.specs.Needs.{HasKey}
 use Rattle.tdf_schedule.specs.declared.key.Key.{Key}

@@ -8,8 +8,7 @@ ghost use Rattle.tdf_schedule.specs.views.Work.{links_at};
 ghost use Rattle.tdf_schedule.specs.views.Bounds.{held_of, AreRaisedUpTo, HasFired, AreBoundsUpTo, AreWalkedUpTo, AreInitialUpTo};
 
 use crate::entry::Entry;
-use crate::key::Links;
-use crate::links::list_at;
+use crate::lists::Lists;
 use std::alloc::Global;
 use tdf_base::Memory;
 use tdf_graph::Edge;
@@ -46,8 +45,8 @@ fn raise(list: &[u32], edges: &[Edge], done: &[u64], bounds: &mut Vec<u64>)
 fn fire(
     actor: u32,
     edges: &[Edge],
-    inputs: &[Links],
-    outputs: &[Links],
+    inputs: &Lists,
+    outputs: &Lists,
     done: &mut Vec<u64>,
     bounds: &mut Vec<u64>,
 )
@@ -65,15 +64,15 @@ fn fire(
     ensures raised { HasFired actor edges.now done.new.items bounds.old.items bounds.new.items }
 {
     done[actor as usize] += 1;
-    raise(list_at(inputs, actor), edges, done, bounds);
-    raise(list_at(outputs, actor), edges, done, bounds);
+    raise(inputs.list(actor), edges, done, bounds);
+    raise(outputs.list(actor), edges, done, bounds);
 }
 
 /// Walks through the entries of a plan.
 fn walk(
     edges: &[Edge],
-    inputs: &[Links],
-    outputs: &[Links],
+    inputs: &Lists,
+    outputs: &Lists,
     entries: &[Entry],
     done: &mut Vec<u64>,
     bounds: &mut Vec<u64>,
@@ -116,8 +115,8 @@ pub(crate) fn most_held(
     alloc: Global,
     count: u32,
     edges: &[Edge],
-    inputs: &[Links],
-    outputs: &[Links],
+    inputs: &Lists,
+    outputs: &Lists,
     entries: &[Entry],
 ) -> Result<Vec<u64>, Memory>
     requires fit { All (IsEdge count) edges.now }

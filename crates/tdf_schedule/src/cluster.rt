@@ -58,8 +58,8 @@ fn keys_of(
     ends: &Ends,
 ) -> Result<Vec<Row>, tdf_base::Memory>
     requires long { length counts.now ≡ vec_len net.now.actors }
-    requires into { AreInputsUpTo (length net.now.edges.items) counts.now net.now.edges.items ends.now.inputs.items }
-    requires out { AreOutputsUpTo (length net.now.edges.items) counts.now net.now.edges.items ends.now.outputs.items }
+    requires into { AreInputsUpTo (length net.now.edges.items) counts.now net.now.edges.items ends.now.inputs }
+    requires out { AreOutputsUpTo (length net.now.edges.items) counts.now net.now.edges.items ends.now.outputs }
     requires few { sum counts.now ≤ most_firings }
     requires paces { length paces.now ≡ length counts.now }
     requires short { (m : ℕ) → slice_index counts.now m * slice_index paces.now m < 2 ^ 63 }
@@ -87,8 +87,8 @@ fn laid(
     table: &Vec<Row>,
 ) -> Result<Plan, tdf_base::Memory>
     requires long { length counts.now ≡ vec_len net.now.actors }
-    requires into { AreInputsUpTo (length net.now.edges.items) counts.now net.now.edges.items ends.now.inputs.items }
-    requires out { AreOutputsUpTo (length net.now.edges.items) counts.now net.now.edges.items ends.now.outputs.items }
+    requires into { AreInputsUpTo (length net.now.edges.items) counts.now net.now.edges.items ends.now.inputs }
+    requires out { AreOutputsUpTo (length net.now.edges.items) counts.now net.now.edges.items ends.now.outputs }
     requires few { sum counts.now ≤ most_firings }
     requires rows { AreRows net.now.edges.items (slice_index paces.now) counts.now table.now.items }
     requires full { (m : ℕ) → m < length counts.now → IsFull counts.now table.now.items m }
@@ -123,8 +123,8 @@ fn decide(
     table: &Vec<Row>,
 ) -> Result<Plan, PlanErr>
     requires long { length counts.now ≡ vec_len net.now.actors }
-    requires into { AreInputsUpTo (length net.now.edges.items) counts.now net.now.edges.items ends.now.inputs.items }
-    requires out { AreOutputsUpTo (length net.now.edges.items) counts.now net.now.edges.items ends.now.outputs.items }
+    requires into { AreInputsUpTo (length net.now.edges.items) counts.now net.now.edges.items ends.now.inputs }
+    requires out { AreOutputsUpTo (length net.now.edges.items) counts.now net.now.edges.items ends.now.outputs }
     requires balanced { (e : Edge) → Contains net.now.edges.items e → IsBalanced (slice_index counts.now) e }
     requires few { sum counts.now ≤ most_firings }
     requires paces { length paces.now ≡ length counts.now }

@@ -3,6 +3,7 @@
 //! - `entry`: plans and their entries.
 //! - `err`: why a cluster has no plan.
 //! - `key`: the level and the offset of a firing.
+//! - `lists`: lists of numbers, by actor, of which most are empty.
 //! - `links`: the edges into each actor and from it.
 //! - `join`: the key of an actor's next firing.
 //! - `work`: the keys of all firings that are grounded.
@@ -23,6 +24,7 @@ mod join;
 mod key;
 mod laws;
 mod links;
+mod lists;
 mod sorted;
 mod turns;
 mod work;

@@ -1,13 +1,13 @@
 //! The firings of a table of keys, laid out by level and actor. That is the order of a plan in which no firing waits for a time.
 
-ghost use Rattle.std.specs.Prelude.{◌≡◌, ◌+◌, ◌-◌, ◌<◌, ◌≤◌, ◌^◌, ◌++◌, [], ℕ, length, replicate, slice_index, slice_set, IfOk, OnOk};
+ghost use Rattle.std.specs.Prelude.{◌≡◌, ◌+◌, ◌-◌, ◌<◌, ◌≤◌, ◌^◌, ◌++◌, ◌∷◌, [], ℕ, length, replicate, slice_index, slice_set, IfOk, OnOk};
 ghost use Rattle.tdf_schedule.specs.views.Entries.{IsComplete, HasOwnKeys};
 ghost use Rattle.tdf_schedule.specs.views.Table.{row_at, total};
+ghost use Rattle.tdf_schedule.specs.views.Work.{links_at};
 ghost use Rattle.tdf_schedule.specs.views.Turns.{turns_in, turns_of, GainsTurns, AreByLevel, AreLaid, HasAllTurns};
 
 use crate::entry::Entry;
 use crate::key::{Links, Row};
-use crate::links::add;
 use std::alloc::Global;
 use tdf_base::Memory;
 
@@ -20,6 +20,14 @@ fn reach(alloc: Global, levels: &mut Vec<Links>, level: u32) -> Result<(), Memor
         levels.push(Links::new(alloc))?;
     }
     Ok(())
+}
+
+/// Adds a number to the list of a level.
+fn add(lists: &mut Vec<Links>, level: u32, number: u32) -> Result<(), Memory>
+    requires { level < length lists.old.items }
+    ensures { OnOk result (lists.new.items ≡ slice_set lists.old.items level (links_at lists.old.items level ++ number ∷ [])) }
+{
+    lists[level as usize].push(number)
 }
 
 /// Adds the turns of an actor, each to the list of the level of its firing.

@@ -8,8 +8,8 @@ ghost use Rattle.tdf_schedule.specs.views.Table.{row_at, key_of};
 ghost use Rattle.tdf_schedule.specs.views.Work.{links_at, with_key, weight, AreGiven, AreRows, HasGrown, IsSettled, IsStarted, IsWorked, ArePushed, readers_in};
 
 use crate::join::{Asked, Part, greatest_need, row_len};
-use crate::key::{Key, Links, Row};
-use crate::links::list_at;
+use crate::key::{Key, Row};
+use crate::lists::Lists;
 use std::alloc::Global;
 use tdf_base::Memory;
 use tdf_graph::Edge;
@@ -32,9 +32,9 @@ pub(crate) struct Given<'g> {
     /// The time from one firing of each actor to the next.
     pub paces: &'g [u64],
     /// The edges that each actor reads.
-    pub inputs: &'g [Links],
+    pub inputs: &'g Lists,
     /// The edges that each actor writes.
-    pub outputs: &'g [Links],
+    pub outputs: &'g Lists,
 }
 
 /// The actors that may have a firing whose needs all have their keys.
@@ -97,7 +97,7 @@ fn fire(
     ensures grown { OnOk result (HasGrown actor table.old.items table.new.items) }
     ensures settled { OnOk result (IsSettled given.now.edges.now given.now.counts.now table.new.items actor) }
 {
-    let inputs = list_at(given.inputs, actor);
+    let inputs = given.inputs.list(actor);
     let place = actor as usize;
     for firing in row_len(table, actor)..given.counts[place] {
         match greatest_need(given.edges, inputs, given.paces, table, actor, parts[place]) {
@@ -138,7 +138,7 @@ fn work_one(
     if row_len(table, actor) == before {
         return Ok(());
     }
-    push_readers(given.edges, list_at(given.outputs, actor), work)?;
+    push_readers(given.edges, given.outputs.list(actor), work)?;
     Ok(())
 }
 

@@ -1,4 +1,4 @@
-use Rattle.std.proofs.Common.{◌≡◌, ◌<◌, ◌+◌, ℕ, List, arith, inl, inr, length, refl, slice_set, subst, sym}
+use Rattle.std.proofs.Common.{◌<◌, ◌+◌, ℕ, List, arith, inl, inr, length, refl, slice_set, subst, sym}
 use Rattle.std.proofs.lemmas.Grind.{get_or-set_at}
 use Rattle.std.specs.Prelude.{slice_index}
 use Rattle.tdf_schedule.proofs.Parts.{nothing_known, part_read, part_set, parts_next}
@@ -29,7 +29,7 @@ loop-firing-preserved c =
       long = (let e = row_longer table c.give.new.table.items m key m_row c.in_ok-give-in-Whole.ensures in omega (arith, e, long));
       rows = subst (AreRows edges pace counts) (sym c.in_ok-give-in-Whole.ensures)
           (rows_next edges counts c.args.given.now.paces.now lists c.args.given.now.outputs.now c.requires.given table c.loop-firing.invariant.rows m c.requires.actor c.in-Whole.need (λ full. omega (arith, long, below, full))
-          (subst (λ (l : List ℕ). IsJoined edges pace table m (length (row_at table m)) l (length l) c.in-Whole.need) c.list_at-inputs.ensures c.in-Whole.ensures));
+          (subst (λ (l : List ℕ). IsJoined edges pace table m (length (row_at table m)) l (length l) c.in-Whole.need) c.list-inputs.ensures c.in-Whole.ensures));
       parts = subst (λ t. AreParts edges pace counts t lists parts) (sym c.in_ok-give-in-Whole.ensures)
           (parts_next edges pace counts lists table m key m_row parts
           (get_or-set_at c.loop-firing.parts.items m m no_part no_part refl (let l = c.loop-firing.invariant.parts.long in let a = c.requires.actor in omega (arith, l, a)))
@@ -39,10 +39,10 @@ loop-firing-preserved c =
 
 pub greatest_need-requires-clause-part : goal.greatest_need-requires-clause-part
 greatest_need-requires-clause-part c = part_read c.args.given.now.edges.now (slice_index c.args.given.now.paces.now) c.args.given.now.counts.now c.args.given.now.inputs.now c.loop-firing.table.items c.loop-firing.parts.items c.args.actor
-    c.list_at-inputs.result.now c.index.result.now c.requires.actor c.loop-firing.invariant.parts c.list_at-inputs.ensures c.index.ensures
+    c.list-inputs.result.now c.index.result.now c.requires.actor c.loop-firing.invariant.parts c.list-inputs.ensures c.index.ensures
 
 pub greatest_need-requires-clause-inputs : goal.greatest_need-requires-clause-inputs
-greatest_need-requires-clause-inputs c = subst (AreInputs c.args.given.now.edges.now c.args.actor) (sym c.list_at-inputs.ensures)
+greatest_need-requires-clause-inputs c = subst (AreInputs c.args.given.now.edges.now c.args.actor) (sym c.list-inputs.ensures)
     (inputs_at c.args.given.now.counts.now c.args.given.now.edges.now c.args.given.now.inputs.now c.args.actor (let below = c.loop-firing-test.true in omega (arith, below)) c.requires.given.into)
 
 pub give-requires-clause-level : goal.give-requires-clause-level
@@ -53,7 +53,7 @@ pub returns-in-Part-clause-parts : goal.returns-in-Part-clause-parts
 returns-in-Part-clause-parts c =
     part_set c.args.given.now.edges.now (slice_index c.args.given.now.paces.now) c.args.given.now.counts.now c.args.given.now.inputs.now c.loop-firing.table.items c.loop-firing.parts.items c.args.actor c.in-Part.part
     c.requires.actor c.loop-firing.invariant.parts
-    (subst (λ l. IsPart c.args.given.now.edges.now (slice_index c.args.given.now.paces.now) c.loop-firing.table.items c.args.actor l c.in-Part.part) c.list_at-inputs.ensures c.in-Part.ensures.1)
+    (subst (λ l. IsPart c.args.given.now.edges.now (slice_index c.args.given.now.paces.now) c.loop-firing.table.items c.args.actor l c.in-Part.part) c.list-inputs.ensures c.in-Part.ensures.1)
 
 pub returns-in-Part-clause-settled : goal.returns-in-Part-clause-settled
 returns-in-Part-clause-settled c = inr c.in-Part.ensures.0

@@ -1,4 +1,4 @@
-use Rattle.std.proofs.Common.{◌<◌, length, subst, sym}
+use Rattle.std.proofs.Common.{◌<◌, subst, sym}
 use Rattle.tdf_schedule.proofs.Pushes.{pushed_more, reader_at, readers_long}
 use Rattle.tdf_schedule.specs.views.Work.{readers_in}
 use Rattle.tdf_schedule.proofs.work.push_readers.Goals as goal

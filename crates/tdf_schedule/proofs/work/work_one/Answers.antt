@@ -17,16 +17,16 @@ returns-then-row_len-before-clause-worked c = worked_still c.args.given.now.edge
 pub returns-clause-worked : goal.returns-clause-worked
 returns-clause-worked c = worked_on c.args.given.now.edges.now c.args.given.now.counts.now c.args.given.now.outputs.now c.requires.given.out c.args.table.now.items c.fire.new.table.items c.args.actor
     c.args.work.now.stack.items c.args.work.now.on.items c.requires.worked c.in_ok-fire.ensures.grown c.in_ok-fire.ensures.settled c.push_readers.new.work.stack.items c.push_readers.new.work.on.items (c.in_ok-fire.ensures.rows.within c.args.actor)
-    (subst (λ (l : List ℕ). ArePushed (readers_in c.args.given.now.edges.now l) (length l) c.args.work.now.stack.items c.push_readers.new.work.stack.items (slice_set c.args.work.now.on.items c.args.actor false) c.push_readers.new.work.on.items) c.list_at.ensures c.in_ok-push_readers.ensures)
+    (subst (λ (l : List ℕ). ArePushed (readers_in c.args.given.now.edges.now l) (length l) c.args.work.now.stack.items c.push_readers.new.work.stack.items (slice_set c.args.work.now.on.items c.args.actor false) c.push_readers.new.work.on.items) c.list.ensures c.in_ok-push_readers.ensures)
 
 pub returns-clause-less : goal.returns-clause-less
 returns-clause-less c = less_on c.args.given.now.edges.now c.args.given.now.counts.now c.args.given.now.outputs.now c.requires.given.out c.args.table.now.items c.fire.new.table.items c.args.actor
     c.args.work.now.stack.items c.args.work.now.on.items c.requires.worked c.in_ok-fire.ensures.grown c.in_ok-fire.ensures.settled c.push_readers.new.work.stack.items c.push_readers.new.work.on.items
     c.in_ok-fire.ensures.rows.same c.in_ok-fire.ensures.rows.within (λ same. c.if-row_len-before.false (c.row_len.ensures ∙ same ∙ sym c.row_len-before.ensures))
-    (subst (λ (l : List ℕ). ArePushed (readers_in c.args.given.now.edges.now l) (length l) c.args.work.now.stack.items c.push_readers.new.work.stack.items (slice_set c.args.work.now.on.items c.args.actor false) c.push_readers.new.work.on.items) c.list_at.ensures c.in_ok-push_readers.ensures)
+    (subst (λ (l : List ℕ). ArePushed (readers_in c.args.given.now.edges.now l) (length l) c.args.work.now.stack.items c.push_readers.new.work.stack.items (slice_set c.args.work.now.on.items c.args.actor false) c.push_readers.new.work.on.items) c.list.ensures c.in_ok-push_readers.ensures)
 
 pub push_readers-requires-clause-fit : goal.push_readers-requires-clause-fit
 push_readers-requires-clause-fit c = subst (λ n. All (IsEdge n) c.args.given.now.edges.now) (sym (length-set c.args.work.now.on.items c.args.actor false ∙ c.requires.worked.flags)) c.requires.given.fit
 
 pub push_readers-requires-clause-inside : goal.push_readers-requires-clause-inside
-push_readers-requires-clause-inside c = out_inside c.args.given.now.edges.now c.args.given.now.counts.now c.args.given.now.outputs.now c.args.actor c.list_at.result.now c.requires.given.out c.list_at.ensures
+push_readers-requires-clause-inside c = out_inside c.args.given.now.edges.now c.args.given.now.counts.now c.args.given.now.outputs.now c.args.actor c.list.result.now c.requires.given.out c.list.ensures
