@@ -1,3 +1,4 @@
 -- How the code of this crate works.
 pub mod Placing
+pub mod Rated
 pub mod Told

@@ -6,6 +6,7 @@ ghost use Rattle.tdf_bind_tables.specs.Ranges.{AreInRange};
 ghost use Rattle.tdf_dynamic_plans.specs.Rates.{times_value, port_rate, edge_kind, write_rate_by, read_rate_by, rated_edge, rated_port, net_ports, net_of, net_seen, AreRates};
 ghost use Rattle.tdf_dynamic_plans.specs.Attributes.{RowsStandOnce};
 ghost use Rattle.tdf_dynamic_plans.specs.machine.Placing.{ArePlacesFrom, number_at};
+ghost use Rattle.tdf_dynamic_plans.specs.machine.Rated.{HasRates};
 ghost use Rattle.tdf_graph.specs.Ranges.{IsRate};
 ghost use Rattle.tdf_graph.specs.declared.actors.Port.{Port as PortOf};
 ghost use Rattle.tdf_timestep.specs.Period.{rate_at_port};
@@ -170,6 +171,29 @@ fn rated_port(table: &[ModuleAttrs], places: &[Option<usize>], port: &PortRow) -
     }
 }
 
+fn any_ports(alloc: Global, count: usize) -> Result<Vec<Port>, Memory>
+    ensures { IfOk result (λ ports. length ports.items ≡ count) }
+{
+    Ok(vec![in alloc; Port { actor: 0, rate: 1 }; count]?)
+}
+
+/// Sets ports to those of some rows, with their rates.
+fn set_ports(
+    table: &[ModuleAttrs],
+    places: &[Option<usize>],
+    rows: &[PortRow],
+    ports: &mut Vec<Port>,
+)
+    requires rates { All (λ port. IsRate (port_rate table.now port)) rows.now }
+    requires places { ArePlacesFrom 0 table.now places.now }
+    requires long { length ports.old.items ≡ length rows.now }
+    ensures { ports.new.items ≡ map (rated_port table.now) rows.now }
+{
+    for i in 0..rows.len() {
+        ports[i] = rated_port(table, places, &rows[i]);
+    }
+}
+
 /// The ports with their rates.
 #[tactic(auto, unfolding(crate::specs::Rates::net_ports))]
 fn net_ports(alloc: Global, tables: &FlatTables, table: &[ModuleAttrs]) -> Result<Vec<Port>, Memory>
@@ -177,10 +201,9 @@ fn net_ports(alloc: Global, tables: &FlatTables, table: &[ModuleAttrs]) -> Resul
     ensures { IfOk result (λ ports. ports.items ≡ net_ports tables.now table.now) }
 {
     let places = places_of(alloc, table, tables.modules.len())?;
-    let mut ports = Vec::with_capacity(alloc, tables.ports.len())?;
-    for i in 0..tables.ports.len() {
-        ports.push(rated_port(table, &places, &tables.ports[i]))?;
-    }
+    let mut ports = any_ports(alloc, tables.ports.len())?;
+    set_ports(table, &places, &tables.ports, &mut ports);
+    drop(places);
     Ok(ports)
 }
 
@@ -281,16 +304,28 @@ fn rated_edge(rows: &[PortRow], ports: &[Port], edge: &EdgeRow) -> Edge
     }
 }
 
+/// Edges with the rates of their ports.
+fn rated_edges(
+    alloc: Global,
+    rows: &[PortRow],
+    edges: &[EdgeRow],
+    ports: &[Port],
+) -> Result<Vec<Edge>, Memory>
+    ensures { IfOk result (λ rated. rated.items ≡ map (rated_edge rows.now ports.now) edges.now) }
+{
+    let mut rated = Vec::with_capacity(alloc, edges.len())?;
+    for i in 0..edges.len() {
+        rated.push(rated_edge(rows, ports, &edges[i]))?;
+    }
+    Ok(rated)
+}
+
 /// The edges with the rates of their ports.
 fn net_edges(alloc: Global, tables: &FlatTables, ports: &[Port]) -> Result<Vec<Edge>, Memory>
     ensures { IfOk result (λ edges. edges.items
         ≡ map (rated_edge tables.now.ports ports.now) tables.now.edges) }
 {
-    let mut edges = Vec::with_capacity(alloc, tables.edges.len())?;
-    for i in 0..tables.edges.len() {
-        edges.push(rated_edge(&tables.ports, ports, &tables.edges[i]))?;
-    }
-    Ok(edges)
+    rated_edges(alloc, &tables.ports, &tables.edges, ports)
 }
 
 fn net_actors(alloc: Global, tables: &FlatTables) -> Result<Vec<Actor>, Memory>
@@ -338,67 +373,68 @@ pub struct EdgeRates {
 }
 
 /// The rate of a port that is told by its number, by the places of the modules in the table; 1 where none is told.
-#[tactic(auto, unfolding(crate::specs::Rates::net_ports), using(crate::proofs::Placing::told_rates))]
+#[tactic(auto, using(crate::proofs::Placing::told_rates))]
 fn rate_placed(
-    tables: &FlatTables,
     table: &[ModuleAttrs],
     places: &[Option<usize>],
+    rows: &[PortRow],
     number: Option<u32>,
 ) -> u32
-    requires rates { AreRates tables.now table.now }
+    requires rates { All (λ port. IsRate (port_rate table.now port)) rows.now }
     requires places { ArePlacesFrom 0 table.now places.now }
-    ensures { result ≡ rate_at_port (net_ports tables.now table.now) number }
+    ensures { result ≡ rate_at_port (map (rated_port table.now) rows.now) number }
 {
     match number {
         None => 1,
         Some(number) => {
             let place = number as usize;
-            if place >= tables.ports.len() {
+            if place >= rows.len() {
                 return 1;
             }
-            rate_by_place(table, places, &tables.ports[place])
+            rate_by_place(table, places, &rows[place])
         }
     }
 }
 
 /// The rates of an edge, by the places of the modules in the table.
 fn placed_rates(
-    tables: &FlatTables,
     table: &[ModuleAttrs],
     places: &[Option<usize>],
+    rows: &[PortRow],
     edge: &EdgeRow,
 ) -> Rates
-    requires rates { AreRates tables.now table.now }
+    requires rates { All (λ port. IsRate (port_rate table.now port)) rows.now }
     requires places { ArePlacesFrom 0 table.now places.now }
-    ensures read { result.read ≡ (rated_edge tables.now.ports (net_ports tables.now table.now) edge.now).read_rate }
-    ensures write { result.write ≡ (rated_edge tables.now.ports (net_ports tables.now table.now) edge.now).write_rate }
+    ensures { HasRates rows.now (map (rated_port table.now) rows.now) edge.now result.read result.write }
 {
-    let own = rate_placed(tables, table, places, Some(edge.port));
-    let driven = rate_placed(tables, table, places, edge.driver);
-    rates_of(&tables.ports, edge, own, driven)
+    let own = rate_placed(table, places, rows, Some(edge.port));
+    let driven = rate_placed(table, places, rows, edge.driver);
+    rates_of(rows, edge, own, driven)
 }
 
 /// Sets the rates of each edge, by the places of the modules in the table.
-#[tactic(auto, unfolding(crate::specs::Rates::net_of))]
 fn set_placed_rates(
-    tables: &FlatTables,
     table: &[ModuleAttrs],
     places: &[Option<usize>],
+    rows: &[PortRow],
+    edges: &[EdgeRow],
     reads: &mut Vec<u32>,
     writes: &mut Vec<u32>,
 )
-    requires rates { AreRates tables.now table.now }
+    requires rates { All (λ port. IsRate (port_rate table.now port)) rows.now }
     requires places { ArePlacesFrom 0 table.now places.now }
-    requires reads_long { length reads.old.items ≡ length tables.now.edges }
-    requires writes_long { length writes.old.items ≡ length tables.now.edges }
+    requires reads_long { length reads.old.items ≡ length edges.now }
+    requires writes_long { length writes.old.items ≡ length edges.now }
     ensures reads { reads.new.items
-        ≡ map (λ edge. edge.read_rate) (net_of tables.now table.now).edges }
+        ≡ map (λ edge. edge.read_rate)
+        (map (rated_edge rows.now (map (rated_port table.now) rows.now)) edges.now) }
     ensures writes { writes.new.items
-        ≡ map (λ edge. edge.write_rate) (net_of tables.now table.now).edges }
+        ≡ map (λ edge. edge.write_rate)
+        (map (rated_edge rows.now (map (rated_port table.now) rows.now)) edges.now) }
 {
-    for e in 0..tables.edges.len() {
-        let edge = &tables.edges[e];
-        let rates = placed_rates(tables, table, places, edge);
+    for e in 0..edges.len() {
+        let edge = &edges[e];
+        let rates = placed_rates(table, places, rows, edge);
         reads[e] = rates.read;
         writes[e] = rates.write;
     }
@@ -414,7 +450,7 @@ fn ones(alloc: Global, count: usize) -> Result<Vec<u32>, Memory>
 ///
 /// # Errors
 /// Out of memory.
-#[tactic(auto, unfolding(crate::specs::Rates::net_of))]
+#[tactic(auto, unfolding(crate::specs::Rates::net_of, crate::specs::Rates::net_ports))]
 pub fn edge_rates(
     alloc: Global,
     tables: &FlatTables,
@@ -429,7 +465,14 @@ pub fn edge_rates(
     let places = places_of(alloc, table, tables.modules.len())?;
     let mut reads = ones(alloc, tables.edges.len())?;
     let mut writes = ones(alloc, tables.edges.len())?;
-    set_placed_rates(tables, table, &places, &mut reads, &mut writes);
+    set_placed_rates(
+        table,
+        &places,
+        &tables.ports,
+        &tables.edges,
+        &mut reads,
+        &mut writes,
+    );
     drop(places);
     Ok(EdgeRates { reads, writes })
 }
