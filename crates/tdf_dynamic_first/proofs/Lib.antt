@@ -3,6 +3,8 @@ pub mod Delays
 pub mod Fine
 pub mod Firsts
 pub mod Gathers
+pub mod Listed
 pub mod Numbers
 pub mod Plannable
+pub mod Starts
 pub mod Tables

@@ -1,55 +1,68 @@
 //! The ports of the modules of a cluster, by one look at each port.
 
-ghost use Rattle.std.specs.Prelude.{◌≡◌, ◌+◌, ◌<◌, ◌≤◌, IfOk, OnOk, length, nat_eq, slice_index};
+ghost use Rattle.std.specs.Prelude.{◌≡◌, ◌+◌, ◌<◌, ◌≤◌, IfOk, List, OnOk, Some, length, map, nat_eq, slice_get, slice_index};
+ghost use Rattle.tdf_bind_tables.specs.Actors.{cluster_of};
 ghost use Rattle.tdf_dynamic_plans.specs.Attributes.{clusters_of};
-ghost use Rattle.tdf_dynamic_first.specs.machine.Gathered.{AreEmptyRows, HaveOwnPorts};
+ghost use Rattle.tdf_dynamic_first.specs.machine.Gathered.{HaveOwnPorts};
+ghost use Rattle.tdf_bind_connections.specs.declared.modules.PortRow.{PortRow as PortRowOf};
 
+use crate::lists::Lists;
 use std::alloc::Global;
 use tdf_base::{Memory, row_number};
-use tdf_bind_tables::FlatTables;
-
-/// So many rows without a number.
-#[tactic(auto, using(crate::proofs::Gathers::empty_more))]
-fn empty_rows(alloc: Global, count: usize) -> Result<Vec<Vec<u32>>, Memory>
-    ensures { IfOk result (λ rows. AreEmptyRows count rows.items) }
-{
-    let mut rows = Vec::with_capacity(alloc, count)?;
-    for made in 0..count {
-        rows.push(Vec::new(alloc))?;
-    }
-    Ok(rows)
-}
+use tdf_bind_connections::PortRow;
+use tdf_bind_tables::{ActorRow, FlatTables};
 
 /// Whether a module is in the cluster.
-fn is_in(tables: &FlatTables, cluster: u32, module: usize) -> bool
-    requires { «module» < length tables.now.actors }
-    ensures { result ≡ nat_eq (slice_index (clusters_of tables.now) «module») cluster }
+fn is_in(actors: &[ActorRow], cluster: u32, module: usize) -> bool
+    requires { «module» < length actors.now }
+    ensures { result ≡ nat_eq (slice_index (map cluster_of actors.now) «module») cluster }
 {
-    tables.actors[module].cluster == cluster
+    actors[module].cluster == cluster
 }
 
-/// The number of a port goes to the row of its module, if that is in the cluster.
+/// The number of a port goes to the list of its module, if that is in the cluster.
 fn put_port(
-    tables: &FlatTables,
+    alloc: Global,
+    actors: &[ActorRow],
     cluster: u32,
     number: usize,
-    rows: &mut Vec<Vec<u32>>,
+    port: &PortRow,
+    lists: &mut Lists,
 ) -> Result<(), Memory>
-    requires port { number < length tables.now.ports }
-    requires actors { length tables.now.modules ≤ length tables.now.actors }
-    requires before { HaveOwnPorts tables.now cluster number rows.old.items }
-    ensures { OnOk result (HaveOwnPorts tables.now cluster (number + 1) rows.new.items) }
+    requires actors { length lists.old ≤ length actors.now }
+    ensures long { OnOk result (length lists.new ≡ length lists.old) }
+    ensures put { OnOk result ((ports : List PortRowOf) → slice_get ports number ≡ Some port.now
+        → HaveOwnPorts (map cluster_of actors.now) ports cluster number lists.old
+        → HaveOwnPorts (map cluster_of actors.now) ports cluster (number + 1) lists.new) }
 {
-    let port = &tables.ports[number];
     let place = port.module as usize;
-    if rows.len() <= place {
+    if lists.len() <= place {
         return Ok(());
     }
-    if !is_in(tables, cluster, place) {
+    if !is_in(actors, cluster, place) {
         return Ok(());
     }
     let number = row_number(number)?;
-    rows[place].push(number)?;
+    lists.add(alloc, port.module, number)
+}
+
+/// The numbers of ports go to the lists of their modules, for those of the cluster.
+fn put_ports(
+    alloc: Global,
+    actors: &[ActorRow],
+    ports: &[PortRow],
+    cluster: u32,
+    lists: &mut Lists,
+) -> Result<(), Memory>
+    requires actors { length lists.old ≤ length actors.now }
+    requires none { HaveOwnPorts (map cluster_of actors.now) ports.now cluster 0 lists.old }
+    ensures long { OnOk result (length lists.new ≡ length lists.old) }
+    ensures put { OnOk result (HaveOwnPorts (map cluster_of actors.now) ports.now cluster
+        (length ports.now) lists.new) }
+{
+    for number in 0..ports.len() {
+        put_port(alloc, actors, cluster, number, &ports[number], lists)?;
+    }
     Ok(())
 }
 
@@ -57,18 +70,18 @@ fn put_port(
 ///
 /// # Errors
 /// Out of memory.
+#[tactic(auto, using(crate::proofs::Gathers::begun))]
 pub(crate) fn ports_by_module(
     alloc: Global,
     tables: &FlatTables,
     cluster: u32,
-) -> Result<Vec<Vec<u32>>, Memory>
+) -> Result<Lists, Memory>
     requires { length tables.now.modules ≤ length tables.now.actors }
-    ensures { IfOk result (λ rows.
-        HaveOwnPorts tables.now cluster (length tables.now.ports) rows.items) }
+    ensures long { IfOk result (λ lists. length lists ≡ length tables.now.modules) }
+    ensures own { IfOk result (λ lists. HaveOwnPorts (clusters_of tables.now) tables.now.ports
+        cluster (length tables.now.ports) lists) }
 {
-    let mut rows = empty_rows(alloc, tables.modules.len())?;
-    for number in 0..tables.ports.len() {
-        put_port(tables, cluster, number, &mut rows)?;
-    }
-    Ok(rows)
+    let mut lists = Lists::new(alloc, tables.modules.len())?;
+    put_ports(alloc, &tables.actors, &tables.ports, cluster, &mut lists)?;
+    Ok(lists)
 }

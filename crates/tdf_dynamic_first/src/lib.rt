@@ -1,5 +1,6 @@
 //! The attributes of a cluster as the text says them, and its first plan or its first fault.
 //!
+//! - `lists`: the ports of modules, of which most have none in the lists.
 //! - `gathering`: the ports of the modules of a cluster, by one look at each port.
 //! - `table`: the table of attributes as the text says it.
 //! - `first`: the plan as the text says it, or the first fault.
@@ -9,6 +10,7 @@
 mod first;
 mod gathering;
 mod laws;
+mod lists;
 mod table;
 
 pub use first::{First, first_plan};

@@ -29,14 +29,19 @@ fn rates_of(alloc: Global, frame: &Frame, count: u32) -> Result<Vec<u32>, Memory
     Ok(rates)
 }
 
-/// The values that the rate variables of a block start with.
+/// The values that the rate variables of a block start with. Where it has none, no frame is made.
+#[tactic(auto, using(crate::proofs::Starts::no_starts))]
 fn start_rates(alloc: Global, checked: &Checked, block: u32) -> Result<Vec<u32>, Memory>
     requires made { IsChecked checked.now }
     requires block { block < block_count checked.now }
     ensures { IfOk result (λ rates. rates.items ≡ start_rates checked.now block) }
 {
+    let count = checked.rates(block);
+    if count == 0 {
+        return Ok(Vec::new(alloc));
+    }
     let frame = Frame::new(alloc, checked, block)?;
-    let rates = rates_of(alloc, &frame, checked.rates(block));
+    let rates = rates_of(alloc, &frame, count);
     drop(frame);
     rates
 }
@@ -124,6 +129,7 @@ fn put_attrs(rows: &mut Vec<ModuleAttrs>, attrs: Option<ModuleAttrs>) -> Result<
 }
 
 /// The attributes of the modules that are in the cluster.
+#[tactic(auto, using(crate::proofs::Gathers::own_ports))]
 fn table_rows(alloc: Global, flat: &Flat, cluster: u32) -> Result<Vec<ModuleAttrs>, Memory>
     requires checked { IsChecked flat.now.checked }
     requires blocks { All (λ row. row.block < block_count flat.now.checked)
@@ -135,7 +141,7 @@ fn table_rows(alloc: Global, flat: &Flat, cluster: u32) -> Result<Vec<ModuleAttr
     let mut rows = Vec::new(alloc);
     for number in 0..flat.tables.modules.len() {
         let row = &flat.tables.modules[number];
-        let attrs = attrs_if(alloc, flat, cluster, number, row, &ports[number])?;
+        let attrs = attrs_if(alloc, flat, cluster, number, row, ports.list(number))?;
         put_attrs(&mut rows, attrs)?;
     }
     Ok(rows)
