@@ -117,22 +117,23 @@ fn put_port(
     attrs: &Attrs,
     marks: &Vec<bool>,
     place: u32,
-    number: u32,
+    n: usize,
     rows: &mut Vec<TracedPorts>,
 ) -> Result<(), Memory>
     requires rates { AreRates flat.now.tables attrs.now.rows }
     requires marks { AreMarked flat.now.tables.traces (length flat.now.tables.traces) marks.now.items }
-    requires number { number < length flat.now.tables.ports }
-    requires place { place ≡ place_of_port flat.now.tables.ports number }
+    requires number { n < length flat.now.tables.ports }
+    requires place { place ≡ place_of_port flat.now.tables.ports n }
     requires rows { length rows.old.items ≡ length flat.now.tables.modules }
     requires modules { All (λ port. port.«module» < length flat.now.tables.modules) flat.now.tables.ports }
-    ensures { (port : PortRowOf) → slice_get flat.now.tables.ports number ≡ Some port
-        → OnOk result (rows.new.items ≡ put_traced flat.now.tables attrs.now.rows number port rows.old.items) }
+    ensures { (port : PortRowOf) → slice_get flat.now.tables.ports n ≡ Some port
+        → OnOk result (rows.new.items ≡ put_traced flat.now.tables attrs.now.rows n port rows.old.items) }
 {
-    let port = &flat.tables.ports[number as usize];
+    let port = &flat.tables.ports[n];
     if !is_traced(marks, &flat.tables.traces, port) {
         return Ok(());
     }
+    let number = row_number(n)?;
     rows[port.module as usize].put(TracedPort {
         number,
         port: place,
@@ -170,7 +171,7 @@ pub(crate) fn traced_rows(
     let places = port_places(alloc, flat.tables.modules.len(), &flat.tables.ports)?;
     let mut rows = no_rows(alloc, flat.tables.modules.len())?;
     for n in 0..flat.tables.ports.len() {
-        put_port(flat, attrs, &marks, places[n], row_number(n)?, &mut rows)?;
+        put_port(flat, attrs, &marks, places[n], n, &mut rows)?;
     }
     Ok(rows)
 }
