@@ -23,8 +23,8 @@ pub(crate) fn is_of(actors: &[ActorRow], cluster: u32, actor: u32) -> bool
 }
 
 /// The port whose samples an edge carries.
-fn source(edge: EdgeRow) -> u32
-    ensures { result ≡ driver_or edge.port edge.driver }
+fn source(edge: &EdgeRow) -> u32
+    ensures { result ≡ driver_or edge.now.port edge.now.driver }
 {
     match edge.driver {
         None => edge.port,
@@ -37,21 +37,21 @@ fn put_reader(
     tables: &FlatTables,
     cluster: u32,
     places: &[u32],
-    number: u32,
-    edge: EdgeRow,
+    e: usize,
+    edge: &EdgeRow,
     rows: &mut Vec<Ends>,
 ) -> Result<(), Memory>
-    requires reader { edge.reader < length tables.now.actors }
+    requires reader { edge.now.reader < length tables.now.actors }
     requires rows { length rows.old.items ≡ length tables.now.actors }
     requires places { ArePortPlaces tables.now.ports places.now }
-    requires port { edge.port < length tables.now.ports }
-    ensures { OnOk result (rows.new.items ≡ read_by tables.now cluster number edge rows.old.items) }
+    requires port { edge.now.port < length tables.now.ports }
+    ensures { OnOk result (rows.new.items ≡ read_by tables.now cluster e edge.now rows.old.items) }
 {
     if !is_of(&tables.actors, cluster, edge.reader) {
         return Ok(());
     }
     let wire = InWire {
-        edge: number,
+        edge: row_number(e)?,
         port: places[edge.port as usize],
     };
     rows[edge.reader as usize].put_in(wire)
@@ -62,21 +62,21 @@ fn put_writer(
     tables: &FlatTables,
     cluster: u32,
     places: &[u32],
-    number: u32,
-    edge: EdgeRow,
+    e: usize,
+    edge: &EdgeRow,
     rows: &mut Vec<Ends>,
 ) -> Result<(), Memory>
-    requires writer { edge.writer < length tables.now.actors }
+    requires writer { edge.now.writer < length tables.now.actors }
     requires rows { length rows.old.items ≡ length tables.now.actors }
     requires places { ArePortPlaces tables.now.ports places.now }
-    requires port { driver_or edge.port edge.driver < length tables.now.ports }
-    ensures { OnOk result (rows.new.items ≡ written_by tables.now cluster number edge rows.old.items) }
+    requires port { driver_or edge.now.port edge.now.driver < length tables.now.ports }
+    ensures { OnOk result (rows.new.items ≡ written_by tables.now cluster e edge.now rows.old.items) }
 {
     if !is_of(&tables.actors, cluster, edge.writer) {
         return Ok(());
     }
     let wire = OutWire {
-        edge: number,
+        edge: row_number(e)?,
         port: places[source(edge) as usize],
     };
     rows[edge.writer as usize].put_out(wire)
@@ -95,10 +95,9 @@ pub(crate) fn gathered(
 {
     let mut rows = no_ends(alloc, tables.actors.len())?;
     for e in 0..tables.edges.len() {
-        let edge = tables.edges[e];
-        let number = row_number(e)?;
-        put_reader(tables, cluster, places, number, edge, &mut rows)?;
-        put_writer(tables, cluster, places, number, edge, &mut rows)?;
+        let edge = &tables.edges[e];
+        put_reader(tables, cluster, places, e, edge, &mut rows)?;
+        put_writer(tables, cluster, places, e, edge, &mut rows)?;
     }
     Ok(rows)
 }
