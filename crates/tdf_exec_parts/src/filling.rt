@@ -29,16 +29,16 @@ fn first_ring(
     tables: &FlatTables,
     cluster: u32,
     bound: u32,
-    edge: EdgeRow,
+    edge: &EdgeRow,
 ) -> Result<Ring, Memory>
-    requires writer { edge.writer < length tables.now.actors }
-    requires fits { length (list_of tables.now cluster edge) ≤ bound }
-    ensures { IfOk result (λ ring. ring ≡ ring_of (list_of tables.now cluster edge) bound) }
+    requires writer { edge.now.writer < length tables.now.actors }
+    requires fits { length (list_of tables.now cluster edge.now) ≤ bound }
+    ensures { IfOk result (λ ring. ring ≡ ring_of (list_of tables.now cluster edge.now) bound) }
 {
     if tables.actors[edge.writer as usize].cluster != cluster {
         return Ring::new(alloc, bound);
     }
-    let samples = initial_samples(alloc, tables, edge)?;
+    let samples = initial_samples(alloc, tables, *edge)?;
     let mut ring = Ring::new(alloc, bound)?;
     put_samples(&mut ring, &samples);
     Ok(ring)
@@ -61,7 +61,7 @@ pub fn first_rings(
 {
     let mut rings = Vec::new(alloc);
     for e in 0..tables.edges.len() {
-        rings.push(first_ring(alloc, tables, cluster, bounds[e], tables.edges[e])?)?;
+        rings.push(first_ring(alloc, tables, cluster, bounds[e], &tables.edges[e])?)?;
     }
     Ok(rings)
 }
