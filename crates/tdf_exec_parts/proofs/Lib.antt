@@ -1,5 +1,6 @@
 pub mod Api
 mod EdgeRates
+mod FirstRings
 mod Fired
 mod Fits
 mod Onward

@@ -59,9 +59,11 @@ pub fn first_rings(
     ensures { IfOk result (λ rings.
         AreFirstRings tables.now cluster bounds.now (length tables.now.edges) rings.items) }
 {
-    let mut rings = Vec::new(alloc);
+    let mut rings = Vec::with_capacity(alloc, tables.edges.len())?;
     for e in 0..tables.edges.len() {
-        rings.push(first_ring(alloc, tables, cluster, bounds[e], &tables.edges[e])?)?;
+        let edge = &tables.edges[e];
+        let ring = first_ring(alloc, tables, cluster, bounds[e], edge)?;
+        rings.push(ring)?;
     }
     Ok(rings)
 }
