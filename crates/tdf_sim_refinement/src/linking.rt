@@ -40,10 +40,13 @@ fn is_sink(kind: Actor) -> bool
     }
 }
 
-/// Whether an actor is one of those.
-fn is_wanted(wanted: Wanted, row: ActorRow) -> bool
-    ensures { result ≡ is_wanted wanted row }
+/// Whether an actor is one of those; no module is.
+fn is_wanted(wanted: Wanted, row: &ActorRow) -> bool
+    ensures { result ≡ is_wanted wanted row.now }
 {
+    if let Actor::Module = row.kind {
+        return false;
+    }
     match wanted {
         Wanted::SamplersOf(cluster) => is_sampler(row.kind) && row.cluster == cluster,
         Wanted::Sinks => is_sink(row.kind),
@@ -61,10 +64,10 @@ fn of_samplers(wanted: Wanted) -> bool
 }
 
 /// The signal of the port of an actor.
-fn signal_at(tables: &FlatTables, row: ActorRow) -> u32
-    requires { HasEventPort tables.now row }
+fn signal_at(tables: &FlatTables, row: &ActorRow) -> u32
+    requires { HasEventPort tables.now row.now }
     ensures inside { result < length tables.now.de_signals }
-    ensures own { result ≡ signal_of_row tables.now (Some row) }
+    ensures own { result ≡ signal_of_row tables.now (Some row.now) }
 {
     tables.ports[row.port as usize].signal
 }
@@ -76,7 +79,7 @@ fn put(links: &mut Links, tables: &FlatTables, wanted: Wanted, m: usize) -> Resu
     requires linked { AreLinkedUpTo tables.now wanted m links.old.list.items }
     ensures { OnOk result (AreLinkedUpTo tables.now wanted (m + 1) links.new.list.items) }
 {
-    let row = tables.actors[m];
+    let row = &tables.actors[m];
     if !is_wanted(wanted, row) {
         return Ok(());
     }

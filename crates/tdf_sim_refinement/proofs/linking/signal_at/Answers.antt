@@ -9,12 +9,12 @@ use Rattle.tdf_sim_refinement.proofs.linking.signal_at.Goals as goal
 pub index-requires : goal.index-requires
 index-requires c =
     let t = c.args.tables.now in
-    let v = ap (λ (x : FlatTablesOf). length x.ports) c.tables.view_is in let i = slice_get_within t.ports c.args.row.port c.requires.port c.requires.at in omega (arith, v, i)
+    let v = ap (λ (x : FlatTablesOf). length x.ports) c.tables.view_is in let i = slice_get_within t.ports c.args.row.now.port c.requires.port c.requires.at in omega (arith, v, i)
 
 pub returns : goal.returns
 returns c =
     let t = c.args.tables.now in
     let port : PortRow = c.index.result.now in
-    let inside : c.args.row.port < length t.ports = slice_get_within t.ports c.args.row.port c.requires.port c.requires.at in
-    let there : slice_get t.ports c.args.row.port ≡ Some port = row_read c.tables.inside.ports.items t.ports c.args.row.port port (ap (λ (x : FlatTablesOf). x.ports) c.tables.view_is) inside c.index.ensures in
-    record { inside = port_read t c.args.row port there c.requires; own = sym (ap signal_of_port there) }
+    let inside : c.args.row.now.port < length t.ports = slice_get_within t.ports c.args.row.now.port c.requires.port c.requires.at in
+    let there : slice_get t.ports c.args.row.now.port ≡ Some port = row_read c.tables.inside.ports.items t.ports c.args.row.now.port port (ap (λ (x : FlatTablesOf). x.ports) c.tables.view_is) inside c.index.ensures in
+    record { inside = port_read t c.args.row.now port there c.requires; own = sym (ap signal_of_port there) }
