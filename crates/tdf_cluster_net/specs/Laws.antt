@@ -1,0 +1,57 @@
+-- What holds of the net of a cluster: its counts, steps and plan are those of the cluster in the
+-- whole net.
+-- Source: own.
+use Rattle.std.specs.Prelude.{ℕ, ◌≡◌, ◌<◌, ◌×◌, List, All, Contains, length, map, replicate, slice_index}
+use Rattle.tdf_balance.specs.Balance.{HasCounts, IsRatesFault, IsSizeFault}
+use Rattle.tdf_cluster_net.specs.Numbers.{AreSpread}
+use Rattle.tdf_cluster_net.specs.Own.{IsOwnNet, OwnOf, whole_assign, whole_entry, whole_spot}
+use Rattle.tdf_graph.specs.Clusters.{AreClusters}
+use Rattle.tdf_graph.specs.Ranges.{IsEdge, IsGraphPort}
+use Rattle.tdf_graph.specs.declared.actors.Actor.{Actor}
+use Rattle.tdf_graph.specs.declared.actors.Edge.{Edge}
+use Rattle.tdf_graph.specs.declared.actors.Port.{Port}
+use Rattle.tdf_schedule.specs.Plan.{HasPlan, IsDeadlock, IsNoncausal, pace_of, period_samples}
+use Rattle.tdf_schedule.specs.declared.entry.Plan.{Plan}
+use Rattle.tdf_timestep.specs.Period.{HasSteps, IsAssigned, IsDisagreed, IsInexact, IsTooLong}
+use Rattle.tdf_timestep.specs.declared.assign.Assign.{Assign}
+use Rattle.tdf_timestep.specs.declared.assign.Spot.{Spot}
+use Rattle.tdf_timestep.specs.declared.assign.Steps.{Steps}
+
+-- a cluster of a net, and its own net; all its actors are in cluster 1 there
+pub record IsClusterNet (actors : List Actor) (edges : List Edge) (ports : List Port)
+    (clusters : List ℕ) (cluster : ℕ) (own : OwnOf) : Type 0 where
+  pub own_is : IsOwnNet actors edges ports clusters cluster own
+  pub clusters_are : AreClusters (length actors) edges clusters
+  pub has : Contains clusters cluster
+  pub edges_fit : All (IsEdge (length actors)) edges
+  pub ports_fit : All (IsGraphPort (length actors)) ports
+
+abbrev pub own_clusters : OwnOf → List ℕ
+own_clusters own = replicate (length own.actor_numbers) 1
+
+-- counts, and why there are none
+abbrev pub OwnCountsAreWhole : Type 0
+OwnCountsAreWhole = (actors : List Actor) (edges : List Edge) (ports : List Port)
+    (clusters : List ℕ) (cluster : ℕ) (own : OwnOf)
+    → IsClusterNet actors edges ports clusters cluster own
+    → (counts all : List ℕ) → AreSpread own.actor_numbers (length actors) counts all
+    → HasCounts own.edges (own_clusters own) 1 counts → HasCounts edges clusters cluster all
+
+abbrev pub OwnRatesFaultsAreWhole : Type 0
+OwnRatesFaultsAreWhole = (actors : List Actor) (edges : List Edge) (ports : List Port)
+    (clusters : List ℕ) (cluster : ℕ) (own : OwnOf)
+    → IsClusterNet actors edges ports clusters cluster own
+    → (k : ℕ) → IsRatesFault own.edges (own_clusters own) 1 k
+    → IsRatesFault edges clusters cluster (slice_index own.edge_numbers k)
+
+abbrev pub OwnSizeFaultsAreWhole : Type 0
+OwnSizeFaultsAreWhole = (actors : List Actor) (edges : List Edge) (ports : List Port)
+    (clusters : List ℕ) (cluster : ℕ) (own : OwnOf)
+    → IsClusterNet actors edges ports clusters cluster own
+    → IsSizeFault own.edges (own_clusters own) 1 → IsSizeFault edges clusters cluster
+
+-- a plan with the numbers of the whole net
+pub record IsWholePlan (own : OwnOf) (count : ℕ) (plan whole : Plan) : Type 0 where
+  pub entries : whole.entries.items ≡ map (whole_entry own.actor_numbers) plan.entries.items
+  pub bounds : AreSpread own.edge_numbers count plan.bounds.items whole.bounds.items
+  pub period : whole.period ≡ plan.period
