@@ -1,0 +1,16 @@
+pub mod Api
+pub mod Bounds
+pub mod Counts
+pub mod Edges
+pub mod Faults
+pub mod Joined
+pub mod Keys
+pub mod Making
+pub mod Numbering
+pub mod Picking
+pub mod Plans
+pub mod Ranks
+pub mod Samples
+pub mod Spread
+pub mod Valued
+pub mod Steps

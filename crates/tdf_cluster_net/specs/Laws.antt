@@ -1,7 +1,7 @@
 -- What holds of the net of a cluster: its counts, steps and plan are those of the cluster in the
 -- whole net.
 -- Source: own.
-use Rattle.std.specs.Prelude.{ℕ, ◌≡◌, ◌<◌, ◌×◌, List, All, Contains, length, map, replicate, slice_index}
+use Rattle.std.specs.Prelude.{ℕ, ◌≡◌, ◌<◌, List, All, Contains, length, map, replicate, slice_index}
 use Rattle.tdf_balance.specs.Balance.{HasCounts, IsRatesFault, IsSizeFault}
 use Rattle.tdf_cluster_net.specs.Numbers.{AreSpread}
 use Rattle.tdf_cluster_net.specs.Own.{IsOwnNet, OwnOf, whole_assign, whole_entry, whole_spot}
@@ -49,9 +49,3 @@ OwnSizeFaultsAreWhole = (actors : List Actor) (edges : List Edge) (ports : List 
     (clusters : List ℕ) (cluster : ℕ) (own : OwnOf)
     → IsClusterNet actors edges ports clusters cluster own
     → IsSizeFault own.edges (own_clusters own) 1 → IsSizeFault edges clusters cluster
-
--- a plan with the numbers of the whole net
-pub record IsWholePlan (own : OwnOf) (count : ℕ) (plan whole : Plan) : Type 0 where
-  pub entries : whole.entries.items ≡ map (whole_entry own.actor_numbers) plan.entries.items
-  pub bounds : AreSpread own.edge_numbers count plan.bounds.items whole.bounds.items
-  pub period : whole.period ≡ plan.period

@@ -1,3 +1,5 @@
 pub mod Laws
 pub mod Numbers
 pub mod Own
+pub mod Whole
+pub mod views

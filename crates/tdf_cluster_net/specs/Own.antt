@@ -1,7 +1,7 @@
 -- The net of one cluster, with numbers of its own.
 -- Source: own.
-use Rattle.std.specs.Prelude.{ℕ, ◌≡◌, ◌<◌, List, length, map, Option, Some, None, slice_get, slice_index}
-use Rattle.tdf_cluster_net.specs.Numbers.{AreNumbers}
+use Rattle.std.specs.Prelude.{ℕ, ◌≡◌, ◌<◌, ◌^◌, List, length, Option, Some, None, slice_get, slice_index}
+use Rattle.tdf_cluster_net.specs.Numbers.{AreNumbers, IsAmong}
 use Rattle.tdf_graph.specs.declared.actors.Actor.{Actor}
 use Rattle.tdf_graph.specs.declared.actors.Edge.{Edge}
 use Rattle.tdf_graph.specs.declared.actors.Port.{Port}
@@ -51,6 +51,25 @@ whole_assign own a = record {
   port = with_number own.port_numbers a.port;
   step = a.step;
 }
+
+-- a spot of the own net
+abbrev pub IsPortWithin : ℕ → Option ℕ → Type 0
+IsPortWithin count None = Unit {0}
+IsPortWithin count (Some p) = p < count
+
+pub record IsOwnSpot (own : OwnOf) (s : Spot) : Type 0 where
+  pub actor : s.actor < length own.actor_numbers
+  pub port : IsPortWithin (length own.port_numbers) s.port
+
+-- there are fewer actors and ports than numbers of 32 bits
+pub record HasFewNumbers (own : OwnOf) : Type 0 where
+  pub actors : length own.actor_numbers < 2 ^ 32
+  pub ports : length own.port_numbers < 2 ^ 32
+
+-- an assignment to an actor of the cluster or to one of its ports
+pub record IsAssignThere (own : OwnOf) (a : Assign) : Type 0 where
+  pub actor : IsAmong own.actor_numbers a.actor
+  pub port : (n : ℕ) → a.port ≡ Some n → IsAmong own.port_numbers n
 
 -- actors, edges and ports of a cluster of a whole net
 abbrev pub IsActorInCluster : (clusters : List ℕ) (cluster : ℕ) → ℕ → Type 0
