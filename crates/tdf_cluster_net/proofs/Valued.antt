@@ -1,11 +1,11 @@
 -- Values at numbers, one more.
-use Rattle.std.proofs.Common.{◌≡◌, ◌≢◌, ◌∙◌, ℕ, ◌+◌, ◌<◌, ◌≤◌, ◌⊎◌, inl, inr, List, length, set, replicate, refl, sym, ap, subst, arith}
+use Rattle.std.proofs.Common.{◌≡◌, ◌∙◌, ℕ, ◌+◌, ◌<◌, ◌≤◌, ◌⊎◌, inl, inr, List, length, set, replicate, refl, sym, ap, subst, arith}
 use Rattle.std.proofs.Math.ListN.{get_or}
 use Rattle.std.proofs.lemmas.Bool.{cases_eq, cases_lt}
 use Rattle.std.proofs.lemmas.Grind.{get_or-set_at}
 use Rattle.std.proofs.lemmas.List.{length-set, length-replicate, get_or-replicate, get_or-set_other, get_or_past}
 use Rattle.tdf_cluster_net.specs.Numbers.{AreSpread, Rise}
-use Rattle.tdf_cluster_net.specs.views.Spreading.{ArePicked, AreSpreadUpTo}
+use Rattle.tdf_cluster_net.specs.views.Spreading.{AreSpreadUpTo}
 
 zeros_at : (all : List ℕ) (count m : ℕ) → all ≡ replicate count 0 → get_or all m 0 ≡ 0
 zeros_at all count m is = go (cases_lt m count)

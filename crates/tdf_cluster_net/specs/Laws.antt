@@ -1,21 +1,15 @@
 -- What holds of the net of a cluster: its counts, steps and plan are those of the cluster in the
 -- whole net.
 -- Source: own.
-use Rattle.std.specs.Prelude.{ℕ, ◌≡◌, ◌<◌, List, All, Contains, length, map, replicate, slice_index}
+use Rattle.std.specs.Prelude.{ℕ, List, All, Contains, length, replicate, slice_index}
 use Rattle.tdf_balance.specs.Balance.{HasCounts, IsRatesFault, IsSizeFault}
 use Rattle.tdf_cluster_net.specs.Numbers.{AreSpread}
-use Rattle.tdf_cluster_net.specs.Own.{IsOwnNet, OwnOf, whole_assign, whole_entry, whole_spot}
+use Rattle.tdf_cluster_net.specs.Own.{IsOwnNet, OwnOf}
 use Rattle.tdf_graph.specs.Clusters.{AreClusters}
 use Rattle.tdf_graph.specs.Ranges.{IsEdge, IsGraphPort}
 use Rattle.tdf_graph.specs.declared.actors.Actor.{Actor}
 use Rattle.tdf_graph.specs.declared.actors.Edge.{Edge}
 use Rattle.tdf_graph.specs.declared.actors.Port.{Port}
-use Rattle.tdf_schedule.specs.Plan.{HasPlan, IsDeadlock, IsNoncausal, pace_of, period_samples}
-use Rattle.tdf_schedule.specs.declared.entry.Plan.{Plan}
-use Rattle.tdf_timestep.specs.Period.{HasSteps, IsAssigned, IsDisagreed, IsInexact, IsTooLong}
-use Rattle.tdf_timestep.specs.declared.assign.Assign.{Assign}
-use Rattle.tdf_timestep.specs.declared.assign.Spot.{Spot}
-use Rattle.tdf_timestep.specs.declared.assign.Steps.{Steps}
 
 -- a cluster of a net, and its own net; all its actors are in cluster 1 there
 pub record IsClusterNet (actors : List Actor) (edges : List Edge) (ports : List Port)

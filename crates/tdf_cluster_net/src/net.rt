@@ -14,7 +14,7 @@ pub struct ClusterNet {
 
 impl Model for ClusterNet {
     ghost use Rattle.std.specs.Prelude.{◌≡◌, length};
-    ghost use Rattle.tdf_cluster_net.specs.Own.{OwnOf};
+    ghost use Rattle.tdf_cluster_net.specs.Own.{HasFewNumbers, OwnOf};
 
     ghost Value = { OwnOf };
 
@@ -26,6 +26,15 @@ impl Model for ClusterNet {
       edge_numbers = a.edges.items;
       port_numbers = a.ports.items;
     } };
+
+    ghost invariant = { λ a. HasFewNumbers (record {
+      actors = a.net.actors.items;
+      edges = a.net.edges.items;
+      ports = a.net.ports.items;
+      actor_numbers = a.actors.items;
+      edge_numbers = a.edges.items;
+      port_numbers = a.ports.items;
+    }) };
 }
 
 ghost use Rattle.std.specs.Prelude.{◌≡◌, ◌<◌, ◌≤◌, ◌^◌, ℕ, All, IfOk, Some, length, slice_get, slice_index, vec_len};

@@ -2,7 +2,7 @@
 
 ghost use Rattle.std.specs.Prelude.{◌≡◌, ◌<◌, ◌^◌, ℕ, All, IfOk, Some, length, map, slice_index};
 ghost use Rattle.tdf_cluster_net.specs.Numbers.{AllBelow, AreSpread, IsAmong, Rise};
-ghost use Rattle.tdf_cluster_net.specs.Own.{HasFewNumbers, IsAssignThere, IsOwnSpot, IsPortWithin, whole_assign, whole_entry, with_number};
+ghost use Rattle.tdf_cluster_net.specs.Own.{IsAssignThere, IsOwnSpot, IsPortWithin, whole_assign, whole_entry, with_number};
 ghost use Rattle.tdf_timestep.specs.Order.{spot_of};
 ghost use Rattle.tdf_cluster_net.specs.Whole.{IsWholePlan, whole_balance, whole_planning, whole_timing};
 
@@ -14,7 +14,7 @@ use tdf_balance::BalanceErr;
 use tdf_base::Memory;
 use tdf_graph::Net;
 use tdf_schedule::{Entry, Plan, PlanErr};
-use tdf_timestep::{Assign, StepErr};
+use tdf_timestep::{Assign, StepErr, Steps};
 
 /// The number that a place stands for, 0 for a place that there is not.
 fn number_at(numbers: &[u32], place: u32) -> u32
@@ -72,8 +72,7 @@ fn rename_entries(numbers: &[u32], entries: &mut Vec<Entry>)
 
 /// An assignment with the cluster's own numbers.
 fn own_assign(net: &ClusterNet, assign: &Assign) -> Assign
-    requires few { HasFewNumbers net.now }
-    requires there { IsAssignThere net.now assign.now }
+    requires { IsAssignThere net.now assign.now }
     ensures is { whole_assign net.now result ≡ assign.now }
     ensures inside { IsOwnSpot net.now (spot_of result) }
 {
@@ -145,8 +144,7 @@ impl ClusterNet {
     /// # Errors
     /// Out of memory.
     pub fn own_assigned(&self, alloc: Global, assigned: &[Assign]) -> Result<Vec<Assign>, Memory>
-        requires few { HasFewNumbers self.now }
-        requires there { All (IsAssignThere self.now) assigned.now }
+        requires { All (IsAssignThere self.now) assigned.now }
         ensures are { IfOk result (λ own. map (whole_assign self.now) own.items ≡ assigned.now) }
         ensures inside { IfOk result (λ own. All (λ a. IsOwnSpot self.now (spot_of a)) own.items) }
     {
@@ -182,6 +180,45 @@ impl ClusterNet {
             ≡ slice_index all.now (slice_index self.now.actor_numbers i)) }
     {
         picked(alloc, &self.actors, all)
+    }
+
+    /// Steps of the cluster's actors among those of `count` actors.
+    ///
+    /// # Errors
+    /// Out of memory.
+    pub fn spread_steps(&self, alloc: Global, count: usize, steps: &Steps) -> Result<Steps, Memory>
+        requires long { length steps.now.actor_steps.items ≡ length self.now.actor_numbers }
+        requires within { AllBelow count self.now.actor_numbers }
+        requires rising { Rise self.now.actor_numbers }
+        ensures period { IfOk result (λ whole. whole.period ≡ steps.now.period) }
+        ensures steps { IfOk result (λ whole. AreSpread self.now.actor_numbers count
+            steps.now.actor_steps.items whole.actor_steps.items) }
+    {
+        let actor_steps = self.spread(alloc, count, &steps.actor_steps)?;
+        Ok(Steps {
+            period: steps.period,
+            actor_steps,
+        })
+    }
+
+    /// The steps of the cluster's actors from those of all.
+    ///
+    /// # Errors
+    /// Out of memory.
+    pub fn picked_steps(&self, alloc: Global, steps: &Steps) -> Result<Steps, Memory>
+        requires { AllBelow (length steps.now.actor_steps.items) self.now.actor_numbers }
+        ensures period { IfOk result (λ own. own.period ≡ steps.now.period) }
+        ensures long { IfOk result (λ own.
+            length own.actor_steps.items ≡ length self.now.actor_numbers) }
+        ensures each { IfOk result (λ own. (i : ℕ) → i < length self.now.actor_numbers
+            → slice_index own.actor_steps.items i
+            ≡ slice_index steps.now.actor_steps.items (slice_index self.now.actor_numbers i)) }
+    {
+        let actor_steps = self.picked(alloc, &steps.actor_steps)?;
+        Ok(Steps {
+            period: steps.period,
+            actor_steps,
+        })
     }
 
     /// A plan with the numbers of the whole net, which has `count` edges.

@@ -34,7 +34,7 @@ none_some {A} e = subst only_none e tt
     only_none (Some y) = ⊥
 
 -- the counts
-abbrev Counted : Type 0
+abbrev pub Counted : Type 0
 Counted = Result (Vec ℕ Global) BalanceErr
 
 module _ (tables : FlatTablesOf) (net : NetOf) (clusters : List ℕ) (cluster : ℕ) (table : List AttrsOf) (own : clusters ≡ clusters_of tables) (e : Counted)
@@ -46,7 +46,7 @@ module _ (tables : FlatTablesOf) (net : NetOf) (clusters : List ℕ) (cluster : 
   counts_refused balance.Memory (Refused fault) is told = absurd (none_some told)
 
 -- the steps
-abbrev Stepped : Type 0
+abbrev pub Stepped : Type 0
 Stepped = Result Steps StepErr
 
 module _ (tables : FlatTablesOf) (net : NetOf) (table : List AttrsOf) (counts : List ℕ) (e : Stepped)
@@ -75,7 +75,7 @@ steps_refused_of tables net table counts assigned are e none disagree too_long i
     (λ s. subst (λ xs. (e ≡ Err (timing.Inexact s.actor s.port)) ↔ IsInexact net.ports counts xs s) are (inexact s))
 
 -- the plan
-abbrev Planned : Type 0
+abbrev pub Planned : Type 0
 Planned = Result Plan PlanErr
 
 pub ok_err : {A E : Type 0} (r : Result A E) (x : A) (y : E) → r ≡ Ok x → r ≡ Err y → ⊥
@@ -94,7 +94,7 @@ err_same {A} {E} r x y one other = ap or_x (sym one ∙ other)
 
 module _ (tables : FlatTablesOf) (net : NetOf) (table : List AttrsOf) (counts : List ℕ) (steps : Steps) (e : Planned)
     (large : (e ≡ Err planning.TooLarge) ↔ (most_samples < samples_in net counts)) where
-  few : (why : PlanErr) → e ≡ Err why → (planning.TooLarge ≡ why → ⊥) → samples_in net counts ≤ most_samples
+  pub few : (why : PlanErr) → e ≡ Err why → (planning.TooLarge ≡ why → ⊥) → samples_in net counts ≤ most_samples
   few why is other = go (cases_lt most_samples (samples_in net counts))
     where
       go : (most_samples < samples_in net counts) ⊎ (samples_in net counts ≤ most_samples) → samples_in net counts ≤ most_samples

@@ -9,6 +9,7 @@
 //! - `faults`: how the faults of a cluster are told.
 //! - `timing`: the first phase, counts and steps.
 //! - `planning`: the second phase, the plan.
+//! - `own_timing`, `own_planning`: both by the own net of the cluster, for the first plan.
 //! - `known`: the plans that were made last.
 //! - `plans`: the plan under a table, or the first fault.
 #![tactic(auto)]
@@ -18,6 +19,8 @@ mod attrs;
 mod err;
 mod faults;
 mod known;
+mod own_planning;
+mod own_timing;
 mod planning;
 mod plans;
 mod rates;

@@ -4,16 +4,18 @@ ghost use Rattle.std.specs.Prelude.{◌≡◌, All, Contains, IfOk, IfErr};
 ghost use Rattle.tdf_dynamic_plans.specs.Attributes.{clusters_of, IsOfCluster};
 ghost use Rattle.tdf_dynamic_plans.specs.Faults.{IsTableFault, IsTablePlan, IsRefusal};
 ghost use Rattle.tdf_dynamic_plans.specs.Known.{AreTrueFor, HasTablePlanned, IsKnown, table_key};
+ghost use Rattle.tdf_dynamic_plans.specs.Own.{IsNetOfCluster};
 ghost use Rattle.tdf_dynamic_plans.specs.Rates.{net_of, net_seen, AreRates, IsWired};
 
 use crate::attrs::ModuleAttrs;
 use crate::err::ChangeErr;
 use crate::known::KnownPlans;
+use crate::own_timing::own_steps_of;
 use crate::rates::net_of;
-use crate::timing::steps_of;
 use std::alloc::Global;
 use tdf_base::Memory;
 use tdf_bind_tables::FlatTables;
+use tdf_cluster_net::ClusterNet;
 use tdf_graph::Net;
 use tdf_schedule::Plan;
 
@@ -31,28 +33,43 @@ pub fn clusters_of(alloc: Global, tables: &FlatTables) -> Result<Vec<u32>, Memor
     Ok(numbers)
 }
 
-/// The plan of a cluster under a table that is not known, whose net is given. It is made and kept.
-fn net_plan(
+/// The cluster's own part of a net, with numbers of its own.
+fn own_net(
     alloc: Global,
     tables: &FlatTables,
     net: &Net,
     cluster: u32,
     table: &[ModuleAttrs],
-    known: &mut KnownPlans,
-) -> Result<Plan, ChangeErr>
+) -> Result<ClusterNet, Memory>
     requires wired { IsWired tables.now }
     requires has { Contains (clusters_of tables.now) cluster }
     requires net { net_seen net.now ≡ net_of tables.now table.now }
+    ensures { IfOk result (IsNetOfCluster tables.now cluster table.now) }
+{
+    let clusters = clusters_of(alloc, tables)?;
+    let own = ClusterNet::of(alloc, net, &clusters, cluster);
+    drop(clusters);
+    own
+}
+
+/// The plan of a cluster under a table that is not known, by the own net of the cluster. It is made and kept.
+fn net_plan(
+    alloc: Global,
+    tables: &FlatTables,
+    own: &ClusterNet,
+    cluster: u32,
+    table: &[ModuleAttrs],
+    known: &mut KnownPlans,
+) -> Result<Plan, ChangeErr>
+    requires wired { IsWired tables.now }
+    requires net { IsNetOfCluster tables.now cluster table.now own.now }
     requires table { All (IsOfCluster tables.now cluster) table.now }
     requires unknown { IsKnown known.old.plans (table_key table.now) → ⊥ }
     ensures planned { IfOk result (λ plan. HasTablePlanned tables.now cluster table.now plan known.old known.new) }
     ensures refused { IfErr result (IsRefusal (IsTableFault tables.now cluster table.now)) }
 {
-    let clusters = clusters_of(alloc, tables)?;
-    let found = steps_of(alloc, tables, net, &clusters, cluster, table);
-    drop(clusters);
-    match found {
-        Ok(timing) => known.make(alloc, tables, net, table, timing),
+    match own_steps_of(alloc, tables, own, cluster, table) {
+        Ok(timing) => known.make_own(alloc, tables, own, cluster, table, timing),
         Err(refused) => Err(refused),
     }
 }
@@ -74,8 +91,11 @@ fn new_plan(
     ensures refused { IfErr result (IsRefusal (IsTableFault tables.now cluster table.now)) }
 {
     let net = net_of(alloc, tables, table)?;
-    let found = net_plan(alloc, tables, &net, cluster, table, known);
+    let own = own_net(alloc, tables, &net, cluster, table);
     drop(net);
+    let own = own?;
+    let found = net_plan(alloc, tables, &own, cluster, table, known);
+    drop(own);
     found
 }
 

@@ -440,7 +440,8 @@ fn set_placed_rates(
     }
 }
 
-fn ones(alloc: Global, count: usize) -> Result<Vec<u32>, Memory>
+/// So many times the rate 1.
+pub(crate) fn ones(alloc: Global, count: usize) -> Result<Vec<u32>, Memory>
     ensures { IfOk result (λ rates. rates.items ≡ replicate count 1) }
 {
     Ok(vec![in alloc; 1; count]?)

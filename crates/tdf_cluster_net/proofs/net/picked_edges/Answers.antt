@@ -1,4 +1,4 @@
-use Rattle.std.proofs.Common.{◌≡◌, ◌∙◌, ◌+◌, ◌++◌, ◌∷◌, [], Some, ap, subst, sym}
+use Rattle.std.proofs.Common.{◌∙◌, ◌+◌, Some, ap, subst, sym}
 use Rattle.std.proofs.Math.ListN.{get_or}
 use Rattle.std.proofs.lemmas.Option.{slice_get-get_or}
 use Rattle.tdf_cluster_net.proofs.Picking.{edges_more}

@@ -1,4 +1,4 @@
-use Rattle.std.proofs.Common.{◌≡◌, ◌∙◌, ap, arith, rules, sym}
+use Rattle.std.proofs.Common.{◌∙◌, ap, arith, rules, sym}
 use Rattle.tdf_dynamic_plans.proofs.Keeping.{at_index, one_more, within}
 use Rattle.tdf_dynamic_plans.specs.Known.{KnownOf, table_key}
 use Rattle.tdf_dynamic_plans.proofs.known.found_in.Goals as goal

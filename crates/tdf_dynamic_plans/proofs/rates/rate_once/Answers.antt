@@ -1,6 +1,6 @@
 use Rattle.std.proofs.Common.{rules, ◌≡◌, ◌∙◌, subst, sym}
 use Rattle.tdf_dynamic_plans.proofs.Placing.{rate_there}
-use Rattle.tdf_dynamic_plans.specs.Rates.{port_rate, times_value}
+use Rattle.tdf_dynamic_plans.specs.Rates.{times_value}
 use Rattle.tdf_graph.specs.Ranges.{IsRate}
 use Rattle.tdf_dynamic_plans.proofs.rates.rate_once.Goals as goal
 

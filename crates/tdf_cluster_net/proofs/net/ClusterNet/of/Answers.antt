@@ -1,4 +1,4 @@
-use Rattle.std.proofs.Common.{◌≡◌, ◌∙◌, ◌<◌, ◌≤◌, ℕ, List, length, ap, subst, sym, arith}
+use Rattle.std.proofs.Common.{◌≡◌, ◌<◌, ◌≤◌, ℕ, List, length, ap, subst, sym, arith}
 use Rattle.std.specs.Prelude.{All, vec_len}
 use Rattle.tdf_cluster_net.proofs.Making.{few_numbers, ends_there, actors_there, own_edges_fit, own_ports_fit}
 use Rattle.tdf_cluster_net.specs.Numbers.{AreNumbers}
