@@ -1,9 +1,8 @@
 -- What actors are told is what the tables say.
 use Rattle.std.proofs.Common.{◌≡◌, ◌∙◌, ℕ, ◌+◌, Bool, true, false, Option, Some, None, option_map, if◌then◌else◌, nat_eq, List, length, map, take, refl, ap, sym, subst, arith, slice_get}
 use Rattle.std.proofs.Math.Seq.{take-length}
-use Rattle.std.proofs.lemmas.Bool.{eq-eqb, eqb-true, ne_eqb}
+use Rattle.std.proofs.lemmas.Bool.{eq-eqb, eqb-true}
 use Rattle.std.proofs.lemmas.Option.{slice_get-map, slice_get_within}
-use Rattle.tdf_bind_tables.specs.Actors.{cluster_of}
 use Rattle.tdf_bind_tables.specs.FlatTables.{FlatTablesOf}
 use Rattle.tdf_bind_tables.specs.declared.actors.ActorRow.{ActorRow}
 use Rattle.tdf_exec_firing.specs.Wires.{WiresOf}
@@ -13,12 +12,11 @@ use Rattle.tdf_streams.proofs.Api.{get_inside, none_some, some_same}
 use Rattle.tdf_graph.specs.declared.actors.Actor.{Actor}
 use Rattle.tdf_graph.specs.declared.actors.Actor.TheVariants as actor
 use Rattle.tdf_exec_layout.proofs.Picked.{IsPicked, complete, once, sound}
-use Rattle.tdf_exec_layout.proofs.Rows.{index_map}
-use Rattle.tdf_exec_layout.specs.Wires.{AreClusterWires, IsWiringOf, SinksHaveOne}
+use Rattle.tdf_exec_layout.specs.Wires.{AreAllWires, IsWiringOf, SinksHaveOne}
 use Rattle.tdf_exec_layout.specs.Wiring.{AreEdgesOf, AreWiresOf, IsEdgeOf, Reads, Writes, port_of_row}
 use Rattle.tdf_exec_layout.specs.declared.wiring.ActorWires.{ActorWires}
 use Rattle.tdf_exec_layout.specs.declared.wiring.ActorWires.TheVariants.{Module, Sampler, Sink, Elsewhere}
-use Rattle.tdf_exec_layout.specs.machine.Ends.{EndsUpTo, HasInput, HasInputIf, IsTold, IsToldIf, ToldUpTo, ends_at, ends_if, in_wire, in_wires, is_of, out_wire, out_wires, wire_in, wire_out}
+use Rattle.tdf_exec_layout.specs.machine.Ends.{EndsUpTo, HasInput, IsTold, ToldUpTo, ends_at, in_wire, in_wires, out_wire, out_wires, wire_in, wire_out}
 use Rattle.tdf_streams.specs.Places.{kind_of_row, place_of_port, reader_of_row, source_of_row, writer_of_row}
 use Rattle.tdf_bind_connections.specs.declared.edges.EdgeRow.{EdgeRow}
 
@@ -143,27 +141,20 @@ module _ (tables : FlatTablesOf) (m : ℕ) where
   first_is e w h at = let r = reads w (has_in 0 w at) in
       record { is = r; only = λ d x. h.only d x ∙ sym (h.only w.edge r) }
 
--- an actor of the cluster
-own_is : (tables : FlatTablesOf) (cluster m : ℕ) (row : ActorRow) → slice_get tables.actors m ≡ Some row → is_of tables cluster m ≡ nat_eq row.cluster cluster
-own_is tables cluster m row at = ap (λ n. nat_eq n cluster) (index_map cluster_of tables.actors m row at)
-
-row_ends : (tables : FlatTablesOf) (cluster : ℕ) (rows : List WiresOf) (m : ℕ) (row : ActorRow) → EndsUpTo tables cluster (length tables.edges) rows → slice_get tables.actors m ≡ Some row
-    → ends_at rows m ≡ ends_if (nat_eq row.cluster cluster) (all_ends tables m)
-row_ends tables cluster rows m row h at = h.each m (slice_get_within tables.actors m row at) ∙ ap (λ b. ends_if b (all_ends tables m)) (own_is tables cluster m row at)
+row_ends : (tables : FlatTablesOf) (rows : List WiresOf) (m : ℕ) (row : ActorRow) → EndsUpTo tables (length tables.edges) rows → slice_get tables.actors m ≡ Some row
+    → ends_at rows m ≡ all_ends tables m
+row_ends tables rows m row h at = h.each m (slice_get_within tables.actors m row at)
 
 has_input : (tables : FlatTablesOf) (m : ℕ) (kind : Actor) → (kind ≡ actor.Sink → (e : ℕ) × IsEdgeOf tables m e) → HasInput kind (all_ends tables m)
 has_input tables m actor.Module sink = tt
 has_input tables m actor.Sampler sink = tt
 has_input tables m actor.Sink sink = let e = sink refl in let w = all_read tables m e.0 e.1.is in let i = slice_get_within (all_in tables m) w.0 w.1 w.2 in omega (arith, i)
 
--- each sink of the cluster has an edge
-pub sinks_have : (tables : FlatTablesOf) (cluster : ℕ) (rows : List WiresOf) → EndsUpTo tables cluster (length tables.edges) rows → SinksHaveOne tables
-    → (m : ℕ) (row : ActorRow) → slice_get tables.actors m ≡ Some row → HasInputIf (nat_eq row.cluster cluster) row.kind (ends_at rows m)
-sinks_have tables cluster rows h sinks m row at = subst (HasInputIf (nat_eq row.cluster cluster) row.kind) (sym (row_ends tables cluster rows m row h at)) (by_own (nat_eq row.cluster cluster))
-  where
-    by_own : (b : Bool) → HasInputIf b row.kind (ends_if b (all_ends tables m))
-    by_own true = has_input tables m row.kind (λ is. sinks m (ap kind_of_row at ∙ ap Some is))
-    by_own false = tt
+-- each sink has an edge
+pub sinks_have : (tables : FlatTablesOf) (rows : List WiresOf) → EndsUpTo tables (length tables.edges) rows → SinksHaveOne tables
+    → (m : ℕ) (row : ActorRow) → slice_get tables.actors m ≡ Some row → HasInput row.kind (ends_at rows m)
+sinks_have tables rows h sinks m row at =
+    subst (HasInput row.kind) (sym (row_ends tables rows m row h at)) (has_input tables m row.kind (λ is. sinks m (ap kind_of_row at ∙ ap Some is)))
 
 told_is : (tables : FlatTablesOf) (m : ℕ) (kind : Actor) (w : ActorWires) → (kind ≡ actor.Sink → (e : ℕ) × IsEdgeOf tables m e) → IsTold kind (all_ends tables m) w → IsWiringOf tables m kind w
 told_is tables m actor.Module (Module wires) sink is = subst (AreWiresOf tables m) (sym is) (are_wires tables m)
@@ -180,14 +171,10 @@ told_is tables m actor.Sink (Sampler edges) sink is = is
 told_is tables m actor.Sink Elsewhere sink is = is
 
 -- so what is told is what the tables say
-pub all_are : (tables : FlatTablesOf) (cluster : ℕ) (rows new : List WiresOf) (wires : List ActorWires) → EndsUpTo tables cluster (length tables.edges) rows → SinksHaveOne tables
-    → ToldUpTo tables.actors cluster (length tables.actors) rows new wires → AreClusterWires tables cluster wires
-all_are tables cluster rows new wires h sinks told = record {
+pub all_are : (tables : FlatTablesOf) (rows new : List WiresOf) (wires : List ActorWires) → EndsUpTo tables (length tables.edges) rows → SinksHaveOne tables
+    → ToldUpTo tables.actors (length tables.actors) rows new wires → AreAllWires tables wires
+all_are tables rows new wires h sinks told = record {
   long = told.long;
-  own = λ m row w at wat mine. own m row w at (subst (λ b. IsToldIf b row.kind (ends_at rows m) w) (eq-eqb row.cluster cluster mine) (told.told m row w at wat))
-      (row_ends tables cluster rows m row h at ∙ ap (λ b. ends_if b (all_ends tables m)) (eq-eqb row.cluster cluster mine));
-  other = λ m row w at wat apart. subst (λ b. IsToldIf b row.kind (ends_at rows m) w) (ne_eqb row.cluster cluster apart) (told.told m row w at wat);
+  each = λ m row w at wat. told_is tables m row.kind w (λ s. sinks m (ap kind_of_row at ∙ ap Some s))
+      (subst (λ x. IsTold row.kind x w) (row_ends tables rows m row h at) (told.told m row w at wat));
 }
-  where
-    own : (m : ℕ) (row : ActorRow) (w : ActorWires) → slice_get tables.actors m ≡ Some row → IsTold row.kind (ends_at rows m) w → ends_at rows m ≡ all_ends tables m → IsWiringOf tables m row.kind w
-    own m row w at is ends = told_is tables m row.kind w (λ s. sinks m (ap kind_of_row at ∙ ap Some s)) (subst (λ x. IsTold row.kind x w) ends is)

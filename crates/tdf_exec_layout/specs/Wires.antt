@@ -1,13 +1,13 @@
--- What each actor of a cluster reads and writes.
+-- What each actor reads and writes.
 -- Source: own.
-use Rattle.std.specs.Prelude.{◌≡◌, ◌≢◌, ℕ, List, length, Some, slice_get}
+use Rattle.std.specs.Prelude.{◌≡◌, ℕ, List, length, Some, slice_get}
 use Rattle.tdf_bind_tables.specs.FlatTables.{FlatTablesOf}
 use Rattle.tdf_bind_tables.specs.declared.actors.ActorRow.{ActorRow}
 use Rattle.tdf_graph.specs.declared.actors.Actor.{Actor}
 use Rattle.tdf_graph.specs.declared.actors.Actor.TheVariants as actor
 use Rattle.tdf_exec_layout.specs.Wiring.{AreEdgesOf, AreWiresOf, IsEdgeOf}
 use Rattle.tdf_exec_layout.specs.declared.wiring.ActorWires.{ActorWires}
-use Rattle.tdf_exec_layout.specs.declared.wiring.ActorWires.TheVariants.{Module, Sampler, Sink, Elsewhere}
+use Rattle.tdf_exec_layout.specs.declared.wiring.ActorWires.TheVariants.{Module, Sampler, Sink}
 use Rattle.tdf_streams.specs.Places.{actor_kind}
 
 -- of a module its wires, of a sampler its edges, of a sink its edge
@@ -17,14 +17,11 @@ IsWiringOf tables m actor.Sampler (Sampler edges) = AreEdgesOf tables m edges.it
 IsWiringOf tables m actor.Sink (Sink edge) = IsEdgeOf tables m edge
 IsWiringOf tables m kind wires = ⊥
 
--- one for each actor of the model; of actors of other clusters nothing is told
-pub record AreClusterWires (tables : FlatTablesOf) (cluster : ℕ) (wires : List ActorWires)
-    : Type 0 where
+-- one for each actor of the model
+pub record AreAllWires (tables : FlatTablesOf) (wires : List ActorWires) : Type 0 where
   pub long : length wires ≡ length tables.actors
-  pub own : (m : ℕ) (row : ActorRow) (w : ActorWires) → slice_get tables.actors m ≡ Some row
-      → slice_get wires m ≡ Some w → row.cluster ≡ cluster → IsWiringOf tables m row.kind w
-  pub other : (m : ℕ) (row : ActorRow) (w : ActorWires) → slice_get tables.actors m ≡ Some row
-      → slice_get wires m ≡ Some w → row.cluster ≢ cluster → w ≡ Elsewhere
+  pub each : (m : ℕ) (row : ActorRow) (w : ActorWires) → slice_get tables.actors m ≡ Some row
+      → slice_get wires m ≡ Some w → IsWiringOf tables m row.kind w
 
 -- each sink has an edge, and no other
 abbrev pub SinksHaveOne : FlatTablesOf → Type 0

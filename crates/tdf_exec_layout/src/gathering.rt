@@ -1,7 +1,6 @@
 //! Each edge goes to its writer and to its reader.
 
-ghost use Rattle.std.specs.Prelude.{◌≡◌, ◌<◌, IfOk, OnOk, length, map, nat_eq, slice_index};
-ghost use Rattle.tdf_bind_tables.specs.Actors.{cluster_of};
+ghost use Rattle.std.specs.Prelude.{◌≡◌, ◌<◌, IfOk, OnOk, length};
 ghost use Rattle.tdf_bind_tables.specs.Ranges.{AreInRange};
 ghost use Rattle.tdf_exec_layout.specs.Ports.{ArePortPlaces};
 ghost use Rattle.tdf_exec_layout.specs.machine.Ends.{EndsUpTo, read_by, written_by};
@@ -11,16 +10,8 @@ use crate::ends::{Ends, no_ends};
 use std::alloc::Global;
 use tdf_base::{Memory, row_number};
 use tdf_bind_connections::EdgeRow;
-use tdf_bind_tables::{ActorRow, FlatTables};
+use tdf_bind_tables::FlatTables;
 use tdf_exec_firing::{InWire, OutWire};
-
-/// Whether an actor is of the cluster.
-pub(crate) fn is_of(actors: &[ActorRow], cluster: u32, actor: u32) -> bool
-    requires { actor < length actors.now }
-    ensures { result ≡ nat_eq (slice_index (map cluster_of actors.now) actor) cluster }
-{
-    actors[actor as usize].cluster == cluster
-}
 
 /// The port whose samples an edge carries.
 fn source(edge: &EdgeRow) -> u32
@@ -32,10 +23,9 @@ fn source(edge: &EdgeRow) -> u32
     }
 }
 
-/// The reader of an edge gets it, if it is of the cluster.
+/// The reader of an edge gets it.
 fn put_reader(
     tables: &FlatTables,
-    cluster: u32,
     places: &[u32],
     e: usize,
     edge: &EdgeRow,
@@ -45,11 +35,8 @@ fn put_reader(
     requires rows { length rows.old.items ≡ length tables.now.actors }
     requires places { ArePortPlaces tables.now.ports places.now }
     requires port { edge.now.port < length tables.now.ports }
-    ensures { OnOk result (rows.new.items ≡ read_by tables.now cluster e edge.now rows.old.items) }
+    ensures { OnOk result (rows.new.items ≡ read_by tables.now e edge.now rows.old.items) }
 {
-    if !is_of(&tables.actors, cluster, edge.reader) {
-        return Ok(());
-    }
     let wire = InWire {
         edge: row_number(e)?,
         port: places[edge.port as usize],
@@ -57,10 +44,9 @@ fn put_reader(
     rows[edge.reader as usize].put_in(wire)
 }
 
-/// The writer of an edge gets it, if it is of the cluster.
+/// The writer of an edge gets it.
 fn put_writer(
     tables: &FlatTables,
-    cluster: u32,
     places: &[u32],
     e: usize,
     edge: &EdgeRow,
@@ -70,11 +56,8 @@ fn put_writer(
     requires rows { length rows.old.items ≡ length tables.now.actors }
     requires places { ArePortPlaces tables.now.ports places.now }
     requires port { driver_or edge.now.port edge.now.driver < length tables.now.ports }
-    ensures { OnOk result (rows.new.items ≡ written_by tables.now cluster e edge.now rows.old.items) }
+    ensures { OnOk result (rows.new.items ≡ written_by tables.now e edge.now rows.old.items) }
 {
-    if !is_of(&tables.actors, cluster, edge.writer) {
-        return Ok(());
-    }
     let wire = OutWire {
         edge: row_number(e)?,
         port: places[source(edge) as usize],
@@ -82,22 +65,21 @@ fn put_writer(
     rows[edge.writer as usize].put_out(wire)
 }
 
-/// The edges of each actor of the cluster.
+/// The edges of each actor.
 pub(crate) fn gathered(
     alloc: Global,
     tables: &FlatTables,
-    cluster: u32,
     places: &[u32],
 ) -> Result<Vec<Ends>, Memory>
     requires in_range { AreInRange tables.now }
     requires places { ArePortPlaces tables.now.ports places.now }
-    ensures { IfOk result (λ rows. EndsUpTo tables.now cluster (length tables.now.edges) rows.items) }
+    ensures { IfOk result (λ rows. EndsUpTo tables.now (length tables.now.edges) rows.items) }
 {
     let mut rows = no_ends(alloc, tables.actors.len())?;
     for e in 0..tables.edges.len() {
         let edge = &tables.edges[e];
-        put_reader(tables, cluster, places, e, edge, &mut rows)?;
-        put_writer(tables, cluster, places, e, edge, &mut rows)?;
+        put_reader(tables, places, e, edge, &mut rows)?;
+        put_writer(tables, places, e, edge, &mut rows)?;
     }
     Ok(rows)
 }

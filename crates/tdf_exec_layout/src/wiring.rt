@@ -1,11 +1,11 @@
-//! What each actor of a cluster reads and writes.
+//! What each actor reads and writes.
 
-ghost use Rattle.std.specs.Prelude.{◌≡◌, ◌<◌, ℕ, IfOk, length, map, nat_eq, Some, slice_get};
+ghost use Rattle.std.specs.Prelude.{◌≡◌, ◌<◌, ℕ, IfOk, length, map, Some, slice_get};
 ghost use Rattle.tdf_bind_tables.specs.Ranges.{AreInRange};
 ghost use Rattle.tdf_bind_tables.specs.declared.actors.ActorRow.{ActorRow as ActorRowOf};
 ghost use Rattle.tdf_exec_firing.specs.declared.wires.InWire.{InWire as InWireOf};
-ghost use Rattle.tdf_exec_layout.specs.Wires.{AreClusterWires, SinksHaveOne};
-ghost use Rattle.tdf_exec_layout.specs.machine.Ends.{HasInput, HasInputIf, IsTold, ToldUpTo, ends_at};
+ghost use Rattle.tdf_exec_layout.specs.Wires.{AreAllWires, SinksHaveOne};
+ghost use Rattle.tdf_exec_layout.specs.machine.Ends.{HasInput, IsTold, ToldUpTo, ends_at};
 
 use crate::ends::Ends;
 use crate::gathering::gathered;
@@ -26,7 +26,7 @@ pub enum ActorWires {
     Sampler(Vec<u32>),
     /// The edge of a sink.
     Sink(u32),
-    /// An actor of another cluster.
+    /// Nothing: of an actor whose edges have been taken.
     Elsewhere,
 }
 
@@ -49,7 +49,7 @@ fn sink_edge(ends: Ends) -> u32
     edge
 }
 
-/// What an actor of the cluster is told of its edges.
+/// What an actor is told of its edges.
 fn told(alloc: Global, kind: Actor, ends: Ends) -> Result<ActorWires, Memory>
     requires { HasInput kind ends }
     ensures { IfOk result (λ wires. IsTold kind ends wires) }
@@ -61,48 +61,38 @@ fn told(alloc: Global, kind: Actor, ends: Ends) -> Result<ActorWires, Memory>
     }
 }
 
-/// What each actor is told; of those of other clusters the rows are not looked at.
+/// What each actor is told.
 fn all_told(
     alloc: Global,
     actors: &[ActorRow],
-    cluster: u32,
     rows: &mut Vec<Ends>,
 ) -> Result<Vec<ActorWires>, Memory>
     requires rows { length rows.old.items ≡ length actors.now }
     requires sinks { (m : ℕ) (row : ActorRowOf) → slice_get actors.now m ≡ Some row
-        → HasInputIf (nat_eq row.cluster cluster) row.kind (ends_at rows.old.items m) }
+        → HasInput row.kind (ends_at rows.old.items m) }
     ensures { IfOk result (λ wires.
-        ToldUpTo actors.now cluster (length actors.now) rows.old.items rows.new.items wires.items) }
+        ToldUpTo actors.now (length actors.now) rows.old.items rows.new.items wires.items) }
 {
     let mut wires = Vec::with_capacity(alloc, actors.len())?;
     for m in 0..actors.len() {
-        let actor = actors[m];
-        if actor.cluster != cluster {
-            wires.push(ActorWires::Elsewhere)?;
-            continue;
-        }
         let ends = mem::replace(&mut rows[m], Ends::new(alloc));
-        let row = told(alloc, actor.kind, ends)?;
+        let row = told(alloc, actors[m].kind, ends)?;
         wires.push(row)?;
     }
     Ok(wires)
 }
 
-/// What each actor of a cluster reads and writes, by one look at each edge. The numbers in the tables are those of rows,
-/// and each sink has one edge, as in each flat model.
+/// What each actor reads and writes, by one look at each edge. The numbers in the tables are those of rows, and each sink
+/// has one edge, as in each flat model.
 ///
 /// # Errors
 /// Out of memory.
-pub fn cluster_wires(
-    alloc: Global,
-    tables: &FlatTables,
-    cluster: u32,
-) -> Result<Vec<ActorWires>, Memory>
+pub fn all_wires(alloc: Global, tables: &FlatTables) -> Result<Vec<ActorWires>, Memory>
     requires in_range { AreInRange tables.now }
     requires sinks { SinksHaveOne tables.now }
-    ensures { IfOk result (λ wires. AreClusterWires tables.now cluster wires.items) }
+    ensures { IfOk result (λ wires. AreAllWires tables.now wires.items) }
 {
     let places = port_places(alloc, tables.modules.len(), &tables.ports)?;
-    let mut rows = gathered(alloc, tables, cluster, &places)?;
-    all_told(alloc, &tables.actors, cluster, &mut rows)
+    let mut rows = gathered(alloc, tables, &places)?;
+    all_told(alloc, &tables.actors, &mut rows)
 }

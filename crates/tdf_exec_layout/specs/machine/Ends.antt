@@ -1,17 +1,16 @@
 -- How the edges of actors are gathered.
 -- Source: own.
 use Rattle.std.specs.List.{enumerate_from}
-use Rattle.std.specs.Prelude.{◌≡◌, ◌<◌, ◌≤◌, ℕ, Bool, false, true, List, [], ◌∷◌, ◌++◌, length, map, Option, Some, None, filter_map, if◌then◌else◌, nat_eq, slice_get, slice_index, slice_index_or, slice_set, take}
+use Rattle.std.specs.Prelude.{◌≡◌, ◌<◌, ◌≤◌, ℕ, List, [], ◌∷◌, ◌++◌, length, map, Option, Some, None, filter_map, if◌then◌else◌, nat_eq, slice_get, slice_index_or, slice_set, take}
 use Rattle.tdf_bind_tables.specs.FlatTables.{FlatTablesOf}
 use Rattle.tdf_bind_tables.specs.declared.actors.ActorRow.{ActorRow}
-use Rattle.tdf_dynamic_plans.specs.Attributes.{clusters_of}
 use Rattle.tdf_exec_firing.specs.Wires.{WiresOf}
 use Rattle.tdf_exec_firing.specs.declared.wires.InWire.{InWire}
 use Rattle.tdf_exec_firing.specs.declared.wires.OutWire.{OutWire}
 use Rattle.tdf_graph.specs.declared.actors.Actor.{Actor}
 use Rattle.tdf_graph.specs.declared.actors.Actor.TheVariants as actor
 use Rattle.tdf_exec_layout.specs.declared.wiring.ActorWires.{ActorWires}
-use Rattle.tdf_exec_layout.specs.declared.wiring.ActorWires.TheVariants.{Module, Sampler, Sink, Elsewhere}
+use Rattle.tdf_exec_layout.specs.declared.wiring.ActorWires.TheVariants.{Module, Sampler, Sink}
 use Rattle.tdf_streams.specs.Places.{driver_or, place_of_port}
 use Rattle.tdf_bind_connections.specs.declared.edges.EdgeRow.{EdgeRow}
 
@@ -26,10 +25,6 @@ with_out wire ends = record { ins = ends.ins; outs = ends.outs ++ wire ∷ [] }
 
 abbrev pub ends_at : List WiresOf → ℕ → WiresOf
 ends_at rows m = slice_index_or rows m no_ends
-
--- an actor of the cluster
-abbrev pub is_of : FlatTablesOf → (cluster : ℕ) → ℕ → Bool
-is_of tables cluster m = nat_eq (slice_index (clusters_of tables) m) cluster
 
 -- the wires of an edge
 abbrev pub wire_in : FlatTablesOf → ℕ → EdgeRow → InWire
@@ -54,29 +49,22 @@ abbrev pub out_wires : FlatTablesOf → ℕ → ℕ → List OutWire
 out_wires tables m n =
     filter_map (λ edge. out_wire tables m edge.0 edge.1) (enumerate_from 0 (take n tables.edges))
 
-abbrev pub ends_if : Bool → WiresOf → WiresOf
-ends_if own ends = if own then ends else no_ends
+abbrev pub ends_before : FlatTablesOf → (n m : ℕ) → WiresOf
+ends_before tables n m = record { ins = in_wires tables m n; outs = out_wires tables m n }
 
-abbrev pub ends_before : FlatTablesOf → (cluster : ℕ) → (n m : ℕ) → WiresOf
-ends_before tables cluster n m = ends_if (is_of tables cluster m)
-    (record { ins = in_wires tables m n; outs = out_wires tables m n })
+-- the reader of an edge gets it, and the writer
+abbrev pub read_by : FlatTablesOf → ℕ → EdgeRow → List WiresOf → List WiresOf
+read_by tables e edge rows =
+    slice_set rows edge.reader (with_in (wire_in tables e edge) (ends_at rows edge.reader))
 
--- the reader of an edge gets it, and the writer, if they are of the cluster
-abbrev pub read_by : FlatTablesOf → (cluster : ℕ) → ℕ → EdgeRow → List WiresOf → List WiresOf
-read_by tables cluster e edge rows = if is_of tables cluster edge.reader
-    then slice_set rows edge.reader (with_in (wire_in tables e edge) (ends_at rows edge.reader))
-    else rows
-
-abbrev pub written_by : FlatTablesOf → (cluster : ℕ) → ℕ → EdgeRow → List WiresOf → List WiresOf
-written_by tables cluster e edge rows = if is_of tables cluster edge.writer
-    then slice_set rows edge.writer (with_out (wire_out tables e edge) (ends_at rows edge.writer))
-    else rows
+abbrev pub written_by : FlatTablesOf → ℕ → EdgeRow → List WiresOf → List WiresOf
+written_by tables e edge rows =
+    slice_set rows edge.writer (with_out (wire_out tables e edge) (ends_at rows edge.writer))
 
 -- the first n edges are gathered
-pub record EndsUpTo (tables : FlatTablesOf) (cluster n : ℕ) (rows : List WiresOf) : Type 0 where
+pub record EndsUpTo (tables : FlatTablesOf) (n : ℕ) (rows : List WiresOf) : Type 0 where
   pub long : length rows ≡ length tables.actors
-  pub each : (m : ℕ) → m < length tables.actors
-      → ends_at rows m ≡ ends_before tables cluster n m
+  pub each : (m : ℕ) → m < length tables.actors → ends_at rows m ≡ ends_before tables n m
 
 -- what an actor is told of its edges
 abbrev pub IsTold : Actor → WiresOf → ActorWires → Type 0
@@ -86,25 +74,16 @@ IsTold actor.Sink ends (Sink edge) =
     (w : InWire) × (slice_get ends.ins 0 ≡ Some w) × (edge ≡ w.edge)
 IsTold kind ends wires = ⊥
 
-abbrev pub IsToldIf : Bool → Actor → WiresOf → ActorWires → Type 0
-IsToldIf true kind ends wires = IsTold kind ends wires
-IsToldIf false kind ends wires = wires ≡ Elsewhere
-
 -- a sink has an edge that it reads
 abbrev pub HasInput : Actor → WiresOf → Type 0
 HasInput actor.Sink ends = 0 < length ends.ins
 HasInput kind ends = Unit {0}
 
-abbrev pub HasInputIf : Bool → Actor → WiresOf → Type 0
-HasInputIf true kind ends = HasInput kind ends
-HasInputIf false kind ends = Unit {0}
-
 -- the first n actors are told, and the edges of the others are still there
-pub record ToldUpTo (actors : List ActorRow) (cluster n : ℕ) (old new : List WiresOf)
+pub record ToldUpTo (actors : List ActorRow) (n : ℕ) (old new : List WiresOf)
     (wires : List ActorWires) : Type 0 where
   pub same : length new ≡ length old
   pub long : length wires ≡ n
   pub told : (m : ℕ) (row : ActorRow) (w : ActorWires) → slice_get actors m ≡ Some row
-      → slice_get wires m ≡ Some w
-      → IsToldIf (nat_eq row.cluster cluster) row.kind (ends_at old m) w
+      → slice_get wires m ≡ Some w → IsTold row.kind (ends_at old m) w
   pub left : (m : ℕ) → n ≤ m → ends_at new m ≡ ends_at old m
