@@ -1,14 +1,13 @@
 -- What the actors of a cluster keep at its start.
-use Rattle.std.proofs.Common.{◌≡◌, ◌∙◌, ℕ, ◌+◌, ◌-◌, ◌<◌, ◌≤◌, Bool, true, false, if◌then◌else◌, List, [], ◌∷◌, ◌++◌, Some, None, pos, length, length-append, length-set, take, refl, sym, ap, subst, inl, inr, ◌⊎◌, arith}
+use Rattle.std.proofs.Common.{◌≡◌, ◌∙◌, ℕ, ◌+◌, ◌-◌, ◌<◌, ◌≤◌, Bool, true, false, if◌then◌else◌, List, [], ◌∷◌, ◌++◌, Some, None, pos, length, length-append, take, refl, sym, ap, subst, inl, inr, ◌⊎◌, arith}
 use Rattle.std.proofs.Math.Seq.{take-append_seam, take-nil}
 use Rattle.std.proofs.lemmas.Bool.{cases_lt}
 use Rattle.std.proofs.lemmas.List.{length-replicate, replicate-append-replicate, take-append-le}
 use Rattle.std.proofs.lemmas.List.Sums.{sum_by-append}
 use Rattle.std.proofs.lemmas.Option.{slice_get_within}
 use Rattle.std.specs.List.{count_by}
-use Rattle.std.specs.Prelude.{cond, replicate, slice_get, slice_index_or, slice_set}
+use Rattle.std.specs.Prelude.{cond, replicate, slice_get, slice_index_or}
 use Rattle.tdf_exec.proofs.Acting.{block_there}
-use Rattle.tdf_exec.proofs.Keeping.{get_set_other}
 use Rattle.tdf_exec.proofs.Moved.{some_inj}
 use Rattle.tdf_exec.proofs.Nexts.{get_read}
 use Rattle.tdf_exec.proofs.Rows.{all_at}
@@ -177,8 +176,8 @@ made_from begins off f flat same m row below read can wires frame ports formats 
     frame ports formats spans rates new begins off begin traced)
 
 -- one runner more
-module _ (flat : Flat) (Holds : ℕ → FrameState → Type 0) (n : ℕ) (old now : List ActorWires) (samplers next : ℕ) (runners : List Runner) (w dest : ActorWires) (r : Runner)
-    (are : AreFirstRunners flat Holds n old now samplers runners) (there : slice_get now n ≡ Some w) (is : IsFirstRunner flat Holds n samplers w r)
+module _ (flat : Flat) (Holds : ℕ → FrameState → Type 0) (n : ℕ) (told : List ActorWires) (samplers next : ℕ) (runners : List Runner) (w : ActorWires) (r : Runner)
+    (are : AreFirstRunners flat Holds n told samplers runners) (there : slice_get told n ≡ Some w) (is : IsFirstRunner flat Holds n samplers w r)
     (more : next ≡ samplers + (if is_sampler_runner r then 1 else 0)) where
   whole : sampler_runners_before (runners ++ r ∷ []) n ≡ samplers
   whole = ap (λ k. count_by is_sampler_runner (take k (runners ++ r ∷ []))) (sym are.long) ∙ ap (count_by is_sampler_runner) (take-append_seam runners (r ∷ [])) ∙ sym are.counted
@@ -186,7 +185,7 @@ module _ (flat : Flat) (Holds : ℕ → FrameState → Type 0) (n : ℕ) (old no
   early : (m : ℕ) → m < n → sampler_runners_before (runners ++ r ∷ []) m ≡ sampler_runners_before runners m
   early m low = ap (count_by is_sampler_runner) (take-append-le m runners (r ∷ []) (let l = are.long in omega (arith, l, low)))
 
-  here : (m : ℕ) (x : ActorWires) (s : Runner) → slice_get old m ≡ Some x → slice_get (runners ++ r ∷ []) m ≡ Some s → (m < n) ⊎ (n ≤ m)
+  here : (m : ℕ) (x : ActorWires) (s : Runner) → slice_get told m ≡ Some x → slice_get (runners ++ r ∷ []) m ≡ Some s → (m < n) ⊎ (n ≤ m)
       → IsFirstRunner flat Holds m (sampler_runners_before (runners ++ r ∷ []) m) x s
   here m x s xat sat (inl low) =
       let l = are.long in
@@ -196,7 +195,7 @@ module _ (flat : Flat) (Holds : ℕ → FrameState → Type 0) (n : ℕ) (old no
       let same : n ≡ m = omega (arith, l, a, b, high) in
       let index : m - length runners ≡ 0 = omega (arith, l, same) in
       let one : r ≡ s = some_inj r s (ap (slice_get (r ∷ [])) (sym index) ∙ sym (get_high runners (r ∷ []) m (omega (arith, l, high))) ∙ sat) in
-      let wire : w ≡ x = some_inj w x (sym there ∙ are.left n (omega arith) ∙ ap (slice_get old) same ∙ xat) in
+      let wire : w ≡ x = some_inj w x (sym there ∙ ap (slice_get told) same ∙ xat) in
       subst (λ k. IsFirstRunner flat Holds k (sampler_runners_before (runners ++ r ∷ []) k) x s) same
       (subst (λ k. IsFirstRunner flat Holds n k x s) (sym whole) (subst (λ y. IsFirstRunner flat Holds n samplers y s) wire (subst (λ q. IsFirstRunner flat Holds n samplers w q) one is)))
 
@@ -207,21 +206,9 @@ module _ (flat : Flat) (Holds : ℕ → FrameState → Type 0) (n : ℕ) (old no
       last true = refl
       last false = refl
 
-  pub runners_next : AreFirstRunners flat Holds (n + 1) old (slice_set now n dest) next (runners ++ r ∷ [])
+  pub runners_next : AreFirstRunners flat Holds (n + 1) told next (runners ++ r ∷ [])
   runners_next = record {
     long = length-append runners (r ∷ []) ∙ ap (λ k. k + 1) are.long;
     counted = counted_next;
-    same = length-set now n dest ∙ are.same;
-    left = λ m high. get_set_other now n m dest (λ e. absurd (omega (arith, e, high))) ∙ are.left m (omega (arith, high));
-    each = λ m x s xat sat. here m x s xat sat (cases_lt m n);
-  }
-
-  -- what the actor was told may stay where it stands
-  pub runners_kept : AreFirstRunners flat Holds (n + 1) old now next (runners ++ r ∷ [])
-  runners_kept = record {
-    long = length-append runners (r ∷ []) ∙ ap (λ k. k + 1) are.long;
-    counted = counted_next;
-    same = are.same;
-    left = λ m high. are.left m (omega (arith, high));
     each = λ m x s xat sat. here m x s xat sat (cases_lt m n);
   }

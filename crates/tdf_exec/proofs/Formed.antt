@@ -128,15 +128,17 @@ module _ (flat : Flat) (m : ℕ) where
       }
 
 -- the traced ports of a module have numbers of ports
-pub traced_numbered : (flat : Flat) (table : List AttrsOf) (m : ℕ) (list : List TracedPort) → list ≡ map (traced_port flat.tables table) (traced_ports flat.tables m) → AreNumbered flat.tables.ports list
-traced_numbered flat table m list are j t at = by_number (slice_get (traced_ports flat.tables m) j) refl
-    (sym (slice_get-map (traced_port flat.tables table) (traced_ports flat.tables m) j) ∙ ap (λ (l : List TracedPort). slice_get l j) (sym are) ∙ at)
+pub traced_numbered : (flat : Flat) (m : ℕ) (port : ℕ → TracedPort) → ((n : ℕ) → (port n).number ≡ n) → (list : List TracedPort) → list ≡ map port (traced_ports flat.tables m)
+    → AreNumbered flat.tables.ports list
+traced_numbered flat m port number list are j t at = by_number (slice_get (traced_ports flat.tables m) j) refl
+    (sym (slice_get-map port (traced_ports flat.tables m) j) ∙ ap (λ (l : List TracedPort). slice_get l j) (sym are) ∙ at)
   where
-    by_number : (o : Option ℕ) → slice_get (traced_ports flat.tables m) j ≡ o → option_map (traced_port flat.tables table) o ≡ Some t → t.number < length flat.tables.ports
+    by_number : (o : Option ℕ) → slice_get (traced_ports flat.tables m) j ≡ o → option_map port o ≡ Some t → t.number < length flat.tables.ports
     by_number None there given = none_some t given
     by_number (Some n) there given =
         let h : IsTracedOf flat m n = traced_is flat m 0 flat.tables.ports (λ k. let z : 0 + k ≡ k = omega arith in ap (slice_get flat.tables.ports) z) j n there in
-        subst (λ (u : TracedPort). u.number < length flat.tables.ports) (some_same (traced_port flat.tables table n) t given) (slice_get_within flat.tables.ports n h.port h.at)
+        subst (λ (u : TracedPort). u.number < length flat.tables.ports) (some_same (port n) t given)
+        (subst (λ k. k < length flat.tables.ports) (sym (number n)) (slice_get_within flat.tables.ports n h.port h.at))
 
 -- the row of a module in a table
 pub record FoundAt (table : List AttrsOf) (number : ℕ) : Type 0 where

@@ -77,7 +77,7 @@ restarted_alike flat table runner.Outside s is = ap is_sampler_runner is
 
 -- what is kept for an actor can begin again
 can_again : (flat : Flat) (attrs : List AttrsOf) (c : ClusterOf) (m : ℕ) (r : Runner) → IsRunnerWith flat attrs c m r → CanRestart flat r
-can_again flat attrs c m (runner.Module x) is = (is.made, traced_numbered flat c.table m x.traced is.traced)
+can_again flat attrs c m (runner.Module x) is = (is.made, traced_numbered flat m (traced_port flat.tables c.table) (λ n. refl) x.traced is.traced)
 can_again flat attrs c m (runner.Sampler s) is = tt
 can_again flat attrs c m (runner.Sink k) is = tt
 can_again flat attrs c m runner.Outside is = tt

@@ -2,12 +2,12 @@
 use Rattle.std.proofs.Common.{◌≡◌, ◌∙◌, ◌≢◌, ℕ, zero, suc, ◌+◌, ◌<◌, ◌≤◌, ◌||◌, Bool, true, false, not, List, [], ◌∷◌, Option, Some, None, option_map, ℤ, length, map, take, refl, sym, ap, subst, inl, inr, ◌⊎◌, arith}
 use Rattle.std.proofs.Math.ListN.{get_or-map}
 use Rattle.std.proofs.lemmas.Bool.{cases_eq, cases_lt, eqb-true}
-use Rattle.std.proofs.lemmas.List.{get_or-replicate, get_or_past, length-replicate, take_all}
+use Rattle.std.proofs.lemmas.List.{get_or-replicate, get_or_past, length-replicate}
 use Rattle.std.proofs.lemmas.List.FromFn.{length-map-range_with_len}
 use Rattle.std.proofs.lemmas.List.Sums.{sum_by-cons}
 use Rattle.std.proofs.lemmas.Option.{get_or_from_slice_get, slice_get-map, slice_get_within}
-use Rattle.std.specs.List.{enumerate_from, range_with_len}
-use Rattle.std.specs.Prelude.{cond, filter_map, replicate, slice_get, slice_index, slice_index_or}
+use Rattle.std.specs.List.{range_with_len}
+use Rattle.std.specs.Prelude.{cond, replicate, slice_get, slice_index, slice_index_or}
 use Rattle.tdf_bind_tables.specs.Actors.{cluster_of}
 use Rattle.tdf_bind_tables.specs.declared.actors.ActorRow.{ActorRow}
 use Rattle.tdf_dynamic_plans.specs.Attributes.{attrs_at, clusters_of, rates_in}
@@ -27,14 +27,14 @@ use Rattle.tdf_exec.specs.Played.{runner_cells, play_of, turns_from}
 use Rattle.tdf_exec.specs.Runners.{ModuleOf, SamplerOf}
 use Rattle.tdf_exec.specs.Starts.{IsSoundFlat, StandsAtStart}
 use Rattle.tdf_exec.specs.Traced.{traced_port}
-use Rattle.tdf_exec_layout.specs.Traced.{number_if_traced, traced_ports}
+use Rattle.tdf_exec_layout.specs.Traced.{traced_ports}
 use Rattle.tdf_exec.specs.declared.runners.Runner.{Runner}
 use Rattle.tdf_exec.specs.declared.runners.Runner.TheVariants as runner
 use Rattle.tdf_exec.specs.declared.runners.TracedPort.{TracedPort}
 use Rattle.tdf_exec.specs.machine.Laid.{AreParts, AreRunnersOf, IsLaid}
 use Rattle.tdf_exec.specs.machine.Starting.{HoldsText, IsFirstRunner, IsOfModule}
 use Rattle.tdf_exec_parts.specs.Rings.{AreFirstRings}
-use Rattle.tdf_exec.specs.machine.Tracing.{traced_before, with_traced}
+use Rattle.tdf_exec.specs.machine.Tracing.{with_traced}
 use Rattle.tdf_expr.specs.Checked.{IsCheckedOf}
 use Rattle.tdf_expr.specs.Made.{start_rates}
 use Rattle.tdf_exec_firing.specs.Wires.{WiresOf}
@@ -42,7 +42,7 @@ use Rattle.tdf_bind.specs.declared.model.Flat.{Flat}
 use Rattle.tdf_streams.proofs.Api.{get_inside, get_made_at, none_some, some_same, start_stands, are_rates}
 use Rattle.tdf_graph.specs.declared.actors.Actor.{Actor}
 use Rattle.tdf_graph.specs.declared.actors.Actor.TheVariants as actor
-use Rattle.tdf_exec_layout.specs.Wires.{AreClusterWires, IsWiringOf}
+use Rattle.tdf_exec_layout.specs.Wires.{IsWiringOf}
 use Rattle.tdf_exec_layout.specs.Wiring.{AreEdgesOf, IsEdgeOf}
 use Rattle.tdf_exec_layout.specs.declared.wiring.ActorWires.{ActorWires}
 use Rattle.tdf_exec_layout.specs.declared.wiring.ActorWires.TheVariants as wires
@@ -59,7 +59,8 @@ use Rattle.tdf_streams.specs.Stands.{Stands}
 use Rattle.tdf_lang_tree.specs.Pure.{PureTree}
 
 -- what is told of edges is told of modules alone
-module _ (flat : Flat) (laid : IsLaid flat) (cluster : ℕ) (ws : List ActorWires) (are : AreClusterWires flat.tables cluster ws) where
+module _ (flat : Flat) (laid : IsLaid flat) (cluster : ℕ) (ws : List ActorWires)
+    (own : (m : ℕ) (row : ActorRow) (w : ActorWires) → slice_get flat.tables.actors m ≡ Some row → slice_get ws m ≡ Some w → row.cluster ≡ cluster → IsWiringOf flat.tables m row.kind w) where
   told : (m : ℕ) (kind : Actor) (w : ActorWires) → actor_kind flat.tables m ≡ Some kind → IsWiringOf flat.tables m kind w → IsOfModule flat m w
   told m actor.Module (wires.Module w) kind h = below_modules flat laid m kind
   told m actor.Sampler (wires.Module w) kind h = absurd h
@@ -68,15 +69,8 @@ module _ (flat : Flat) (laid : IsLaid flat) (cluster : ℕ) (ws : List ActorWire
   told m kind (wires.Sink edge) is h = tt
   told m kind wires.Elsewhere is h = tt
 
-  pub of_modules : (m : ℕ) (w : ActorWires) → slice_get ws m ≡ Some w → IsOfModule flat m w
-  of_modules m w at = go (cases_eq row.0.cluster cluster)
-    where
-      row : (r : ActorRow) × (slice_get flat.tables.actors m ≡ Some r)
-      row = get_inside flat.tables.actors m (let l = are.long in let i = slice_get_within ws m w at in omega (arith, l, i))
-
-      go : (row.0.cluster ≡ cluster) ⊎ (row.0.cluster ≢ cluster) → IsOfModule flat m w
-      go (inl own) = told m row.0.kind w (ap kind_of_row row.1) (are.own m row.0 w row.1 at own)
-      go (inr other) = subst (IsOfModule flat m) (sym (are.other m row.0 w row.1 at other)) tt
+  pub of_modules : (m : ℕ) (row : ActorRow) (w : ActorWires) → slice_get flat.tables.actors m ≡ Some row → slice_get ws m ≡ Some w → row.cluster ≡ cluster → IsOfModule flat m w
+  of_modules m row w row_at at mine = told m row.kind w (ap kind_of_row row_at) (own m row w row_at at mine)
 
 pub true_false : {P : Type 0} → true ≡ false → P
 true_false h = absurd (subst (λ b. elim b as (λ _. Type 0) [ true ↦ Unit {0} | false ↦ ⊥ ]) h tt)
@@ -130,6 +124,9 @@ module _ (flat : Flat) (cluster : ℕ) (first : First) (sound : IsSoundFlat flat
   long : length runners ≡ length flat.tables.actors
   long = are.given.same ∙ are.begun_are.long ∙ are.wires_are.long
 
+  abbrev traced_at : ℕ → List TracedPort
+  traced_at m = map (traced_port flat.tables first.attrs.rows) (traced_ports flat.tables m)
+
   -- what is kept for an actor, and from what it came
   pub record CameFrom (m : ℕ) (r : Runner) : Type 0 where
     pub row : ActorRow
@@ -139,8 +136,8 @@ module _ (flat : Flat) (cluster : ℕ) (first : First) (sound : IsSoundFlat flat
     pub b : Runner
     pub b_at : slice_get are.begun m ≡ Some b
     pub first_is : IsFirstRunner flat Holds m (sampler_runners_before are.begun m) w b
-    pub low : m < length are.rows → r ≡ with_traced (slice_index_or are.rows m []) b
-    pub high : length are.rows ≤ m → r ≡ b
+    pub low : m < length flat.tables.modules → r ≡ with_traced (traced_at m) b
+    pub high : length flat.tables.modules ≤ m → r ≡ b
 
   came : (m : ℕ) (r : Runner) → slice_get runners m ≡ Some r → CameFrom m r
   came m r at =
@@ -156,44 +153,38 @@ module _ (flat : Flat) (cluster : ℕ) (first : First) (sound : IsSoundFlat flat
         b = b.0;
         b_at = b.1;
         first_is = are.begun_are.each m w.0 b.0 w.1 b.1;
-        low = λ below. some_inj r (with_traced (slice_index_or are.rows m []) b.0) (sym at ∙ are.given.done m b.0 below b.1);
-        high = λ past. some_inj r b.0 (sym at ∙ are.given.waiting m past ∙ b.1);
+        low = λ below. some_inj r (with_traced (traced_at m) b.0) (sym at ∙ are.given.done m b.0 below b.1);
+        high = λ past. some_inj r b.0 (sym at ∙ are.given.rest m past ∙ b.1);
       }
 
   alike : (m : ℕ) (x y : Runner) → slice_get runners m ≡ Some x → slice_get are.begun m ≡ Some y → is_sampler_runner x ≡ is_sampler_runner y
   alike m x y xat yat =
       let h : CameFrom m x = came m x xat in
       let same : h.b ≡ y = some_inj h.b y (sym h.b_at ∙ yat) in
-      go h (cases_lt m (length are.rows)) ∙ ap is_sampler_runner same
+      go h (cases_lt m (length flat.tables.modules)) ∙ ap is_sampler_runner same
     where
-      go : (h : CameFrom m x) → (m < length are.rows) ⊎ (length are.rows ≤ m) → is_sampler_runner x ≡ is_sampler_runner h.b
-      go h (inl below) = ap is_sampler_runner (h.low below) ∙ traced_alike (slice_index_or are.rows m []) h.b
+      go : (h : CameFrom m x) → (m < length flat.tables.modules) ⊎ (length flat.tables.modules ≤ m) → is_sampler_runner x ≡ is_sampler_runner h.b
+      go h (inl below) = ap is_sampler_runner (h.low below) ∙ traced_alike (traced_at m) h.b
       go h (inr past) = ap is_sampler_runner (h.high past)
 
   before : (m : ℕ) → sampler_runners_before are.begun m ≡ sampler_runners_before runners m
   before m = sym (count_alike runners are.begun m are.given.same alike)
 
   -- what isn't a module is as it was made
-  plain : (m : ℕ) (r b : Runner) → ((l : List TracedPort) → with_traced l b ≡ b) → (m < length are.rows → r ≡ with_traced (slice_index_or are.rows m []) b) → (length are.rows ≤ m → r ≡ b) → r ≡ b
-  plain m r b same low high = go (cases_lt m (length are.rows))
+  plain : (m : ℕ) (r b : Runner) → ((l : List TracedPort) → with_traced l b ≡ b) → (m < length flat.tables.modules → r ≡ with_traced (traced_at m) b) → (length flat.tables.modules ≤ m → r ≡ b) → r ≡ b
+  plain m r b same low high = go (cases_lt m (length flat.tables.modules))
     where
-      go : (m < length are.rows) ⊎ (length are.rows ≤ m) → r ≡ b
-      go (inl below) = low below ∙ same (slice_index_or are.rows m [])
+      go : (m < length flat.tables.modules) ⊎ (length flat.tables.modules ≤ m) → r ≡ b
+      go (inl below) = low below ∙ same (traced_at m)
       go (inr past) = high past
 
   module _ (m : ℕ) (own : slice_index (clusters_of flat.tables) m ≡ cluster) (r : Runner) where
     by_module : (w : WiresOf) (b : Runner) → actor_kind flat.tables m ≡ Some actor.Module → IsWiringOf flat.tables m actor.Module (wires.Module w)
-        → IsFirstRunner flat Holds m (sampler_runners_before are.begun m) (wires.Module w) b → (m < length are.rows → r ≡ with_traced (slice_index_or are.rows m []) b) → IsRunnerOf flat started m r
+        → IsFirstRunner flat Holds m (sampler_runners_before are.begun m) (wires.Module w) b → (m < length flat.tables.modules → r ≡ with_traced (traced_at m) b) → IsRunnerOf flat started m r
     by_module w (runner.Module x) kind h begun low =
         let below : m < length flat.tables.modules = below_modules flat laid m kind in
-        let l = are.traced_are.long in
-        subst (IsRunnerOf flat started m) (sym (low (omega (arith, below, l))))
-        (is_module flat cluster first laid (ports_fit flat cluster laid first.attrs.rows is.attributes table_rows) Holds rates_held m kind own w h place rings runners positions x begun (slice_index_or are.rows m [])
-        (are.traced_are.each m below ∙ ap (map (traced_port flat.tables first.attrs.rows)) (all_traced m)))
-      where
-        all_traced : (m : ℕ) → traced_before flat.tables (length flat.tables.ports) m ≡ traced_ports flat.tables m
-        all_traced m = ap (λ l. filter_map (λ port. number_if_traced flat.tables m port.0 port.1) (enumerate_from 0 l))
-            (take_all (length flat.tables.ports) flat.tables.ports (omega arith))
+        subst (IsRunnerOf flat started m) (sym (low below))
+        (is_module flat cluster first laid (ports_fit flat cluster laid first.attrs.rows is.attributes table_rows) Holds rates_held m kind own w h place rings runners positions x begun (traced_at m) refl)
     by_module w (runner.Sampler s) kind h begun low = absurd begun
     by_module w (runner.Sink k) kind h begun low = absurd begun
     by_module w runner.Outside kind h begun low = absurd begun
@@ -238,7 +229,7 @@ module _ (flat : Flat) (cluster : ℕ) (first : First) (sound : IsSoundFlat flat
     by_sink edge runner.Outside kind h begun same = absurd begun
 
     own_runner : (kind : Actor) (w : ActorWires) (b : Runner) → actor_kind flat.tables m ≡ Some kind → IsWiringOf flat.tables m kind w → IsFirstRunner flat Holds m (sampler_runners_before are.begun m) w b
-        → (m < length are.rows → r ≡ with_traced (slice_index_or are.rows m []) b) → (length are.rows ≤ m → r ≡ b) → IsRunnerOf flat started m r
+        → (m < length flat.tables.modules → r ≡ with_traced (traced_at m) b) → (length flat.tables.modules ≤ m → r ≡ b) → IsRunnerOf flat started m r
     own_runner actor.Module (wires.Module w) b kind h begun low high = by_module w b kind h begun low
     own_runner actor.Module (wires.Sampler edges) b kind h begun low high = absurd h
     own_runner actor.Module (wires.Sink edge) b kind h begun low high = absurd h
@@ -317,11 +308,11 @@ module _ (flat : Flat) (cluster : ℕ) (first : First) (sound : IsSoundFlat flat
       let kind : h.row.kind ≡ actor.Module = some_inj h.row.kind actor.Module (sym (ap kind_of_row h.row_at) ∙ module_kind flat laid m below) in
       by h.w h.b
       (subst (λ k. IsWiringOf flat.tables m k h.w) kind (are.wires_are.own m h.row h.w h.row_at h.w_at (sym (index_at cluster_of flat.tables.actors m h.row h.row_at) ∙ own))) h.first_is
-      (h.low (let l = are.traced_are.long in omega (arith, below, l)))
+      (h.low below)
     where
       by : (w : ActorWires) (b : Runner) → IsWiringOf flat.tables m actor.Module w → IsFirstRunner flat Holds m (sampler_runners_before are.begun m) w b
-          → r ≡ with_traced (slice_index_or are.rows m []) b → (x : ModuleOf) × (r ≡ runner.Module x) × Holds m x.frame.state
-      by (wires.Module w) (runner.Module x) wiring begun same = (record x { traced = slice_index_or are.rows m [] }, same, begun.held)
+          → r ≡ with_traced (traced_at m) b → (x : ModuleOf) × (r ≡ runner.Module x) × Holds m x.frame.state
+      by (wires.Module w) (runner.Module x) wiring begun same = (record x { traced = traced_at m }, same, begun.held)
       by (wires.Module w) (runner.Sampler s) wiring begun same = absurd begun
       by (wires.Module w) (runner.Sink k) wiring begun same = absurd begun
       by (wires.Module w) runner.Outside wiring begun same = absurd begun
@@ -339,10 +330,10 @@ module _ (flat : Flat) (cluster : ℕ) (first : First) (sound : IsSoundFlat flat
     module _ (m : ℕ) (own : slice_index (clusters_of flat.tables) m ≡ cluster)
         (no_samples : is_sampler_kind (actor_kind flat.tables m) ≡ false) (r : Runner) where
       module_state : (w : WiresOf) (b : Runner) → actor_kind flat.tables m ≡ Some actor.Module → IsFirstRunner flat Holds m (sampler_runners_before are.begun m) (wires.Module w) b
-          → (m < length are.rows → r ≡ with_traced (slice_index_or are.rows m []) b) → runner_cells r ≡ cells_at m
+          → (m < length flat.tables.modules → r ≡ with_traced (traced_at m) b) → runner_cells r ≡ cells_at m
       module_state w (runner.Module x) kind begun low =
-          let below = below_modules flat laid m kind in let l = are.traced_are.long in
-          ap runner_cells (low (omega (arith, below, l))) ∙ cells_held m x.frame.state below own begun.held
+          let below = below_modules flat laid m kind in
+          ap runner_cells (low below) ∙ cells_held m x.frame.state below own begun.held
       module_state w (runner.Sampler s) kind begun low = absurd begun
       module_state w (runner.Sink k) kind begun low = absurd begun
       module_state w runner.Outside kind begun low = absurd begun
@@ -355,7 +346,7 @@ module _ (flat : Flat) (cluster : ℕ) (first : First) (sound : IsSoundFlat flat
       sink_state edge runner.Outside kind begun same = absurd begun
 
       own_state : (kind : Actor) (w : ActorWires) (b : Runner) → actor_kind flat.tables m ≡ Some kind → IsWiringOf flat.tables m kind w → IsFirstRunner flat Holds m (sampler_runners_before are.begun m) w b
-          → (m < length are.rows → r ≡ with_traced (slice_index_or are.rows m []) b) → (length are.rows ≤ m → r ≡ b) → runner_cells r ≡ cells_at m
+          → (m < length flat.tables.modules → r ≡ with_traced (traced_at m) b) → (length flat.tables.modules ≤ m → r ≡ b) → runner_cells r ≡ cells_at m
       own_state actor.Module (wires.Module w) b kind h begun low high = module_state w b kind begun low
       own_state actor.Module (wires.Sampler edges) b kind h begun low high = absurd h
       own_state actor.Module (wires.Sink edge) b kind h begun low high = absurd h

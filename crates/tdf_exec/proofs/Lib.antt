@@ -37,5 +37,6 @@ mod Runs
 mod Safe
 mod Stepping
 mod Sums
+mod Taking
 pub mod Totals
 mod Traffic

@@ -177,8 +177,8 @@ module _ (flat : Flat) (cluster : ℕ) (limits : AreWithinLimits flat) (modules 
       (held.each row.0 row.1 state.0 row.2 state.1 row.3).0
       ∙ sym (ap rates_in (ap (attrs_at table) (sym row.3) ∙ row_found flat.tables cluster table state_rows row.0 row.1 row.2))
 
-  module _ (ws left : List ActorWires) (samplers : ℕ) (begun : List Runner) (many : length ws ≡ length flat.tables.actors)
-      (are : AreFirstRunners flat (HoldsText flat false) (length ws) ws left samplers begun) where
+  module _ (ws : List ActorWires) (samplers : ℕ) (begun : List Runner) (many : length ws ≡ length flat.tables.actors)
+      (are : AreFirstRunners flat (HoldsText flat false) (length ws) ws samplers begun) where
     wire : (m : ℕ) (r : Runner) → slice_get begun m ≡ Some r → (w : ActorWires) × (slice_get ws m ≡ Some w)
     wire m r at = get_inside ws m (let l = are.long in let w = slice_get_within begun m r at in omega (arith, l, w))
 
@@ -270,12 +270,10 @@ module _ (flat : Flat) (cluster : ℕ) (limits : AreWithinLimits flat) (modules 
       each_is m place wires.Elsewhere (runner.Sampler s) r h k at = absurd h
       each_is m place wires.Elsewhere (runner.Sink e) r h k at = absurd h
 
-      pub state_runners : AreFirstRunners flat (HoldsState table modules) (length ws) ws left samplers new
+      pub state_runners : AreFirstRunners flat (HoldsState table modules) (length ws) ws samplers new
       state_runners = record {
         long = restored.same ∙ are.long;
         counted = are.counted ∙ counts_same;
-        same = are.same;
-        left = are.left;
         each = λ m w r w_at r_at. (
             let b = get_inside begun m (let l = restored.same in let i = slice_get_within new m r r_at in omega (arith, l, i)) in
             let k = restored.kept m b.0 b.1 in

@@ -3,6 +3,7 @@ pub mod Cluster
 pub mod Crossing
 pub mod Gained
 pub mod Laws
+pub mod Layout
 pub mod Made
 pub mod Played
 pub mod Restored

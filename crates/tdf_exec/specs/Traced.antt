@@ -31,6 +31,15 @@ traced_port tables table number = record {
   rate = rate_of_row table (slice_get tables.ports number);
 }
 
+-- the same before it has a rate
+abbrev pub unrated_port : FlatTablesOf → ℕ → TracedPort
+unrated_port tables number = record {
+  number = number;
+  port = place_of_port tables.ports number;
+  signal = signal_of_port_row (slice_get tables.ports number);
+  rate = 0;
+}
+
 abbrev pub traced_sample : (signal : ℕ) → Raw → Traced
 traced_sample signal value = record { signal = signal; value = value }
 

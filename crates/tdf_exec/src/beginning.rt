@@ -3,7 +3,8 @@
 ghost use Rattle.std.specs.Prelude.{◌≡◌, ◌+◌, ◌<◌, ℕ, IfOk, if◌then◌else◌, length, Some, slice_get};
 ghost use Rattle.tdf_exec.specs.Made.{is_sampler_runner};
 ghost use Rattle.tdf_exec.specs.machine.Moving.{kept_of, whole_of};
-ghost use Rattle.tdf_exec.specs.machine.Starting.{AreFirstRunners, CanBegin, HoldsText, IsBegun, IsFirstRunner, IsOfModule};
+ghost use Rattle.tdf_exec.specs.machine.Starting.{AreTakenUpTo, CanBegin, HoldsText, IsBegun, IsFirstRunner, IsOfModule};
+ghost use Rattle.tdf_bind_tables.specs.declared.actors.ActorRow.{ActorRow as ActorRowOf};
 ghost use Rattle.tdf_exec_layout.specs.declared.wiring.ActorWires.{ActorWires as ActorWiresOf};
 
 use crate::runners::{ModuleRunner, Rest, Runner, SamplerRunner, SinkRunner};
@@ -105,26 +106,31 @@ fn samplers_with(samplers: u32, runner: &Runner) -> Result<u32, Memory>
     }
 }
 
-/// What is kept for each actor; `begins` says whether the initialize bodies run.
+/// What is kept for each actor of a cluster, which takes what it is told of its edges; of actors of other clusters nothing
+/// is taken. `begins` says whether the initialize bodies run.
 ///
 /// # Errors
 /// Out of memory.
 pub(crate) fn first_runners(
     alloc: Global,
     flat: &Flat,
+    cluster: u32,
     wires: &mut Vec<ActorWires>,
     begins: bool,
 ) -> Result<Vec<Runner>, Memory>
     requires can { CanBegin flat.now }
-    requires modules { (m : ℕ) (w : ActorWiresOf) → slice_get wires.old.items m ≡ Some w
-        → IsOfModule flat.now m w }
-    ensures { IfOk result (λ runners. (samplers : ℕ) × AreFirstRunners flat.now
-        (HoldsText flat.now begins) (length wires.old.items) wires.old.items wires.new.items samplers runners.items) }
+    requires long { length wires.old.items ≡ length flat.now.tables.actors }
+    requires modules { (m : ℕ) (row : ActorRowOf) (w : ActorWiresOf)
+        → slice_get flat.now.tables.actors m ≡ Some row → slice_get wires.old.items m ≡ Some w
+        → row.cluster ≡ cluster → IsOfModule flat.now m w }
+    ensures { IfOk result (λ runners. (samplers : ℕ) × AreTakenUpTo flat.now
+        (HoldsText flat.now begins) cluster (length wires.old.items) wires.old.items
+        wires.new.items samplers runners.items) }
 {
     let mut runners = Vec::with_capacity(alloc, wires.len())?;
     let mut samplers = 0;
     for m in 0..wires.len() {
-        if let ActorWires::Elsewhere = &wires[m] {
+        if flat.tables.actors[m].cluster != cluster {
             runners.push(Runner::Outside)?;
             continue;
         }

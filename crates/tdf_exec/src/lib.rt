@@ -2,6 +2,7 @@
 //!
 //! - `runners`: what each actor needs to fire, and one firing.
 //! - `cluster`: a cluster in progress, and its calls.
+//! - `laying`: what the actors of a model need at a start, laid out once for all clusters.
 //! - `beginning`: what its actors keep at its start.
 //! - `starting`: a cluster at the start of its first period.
 //! - `crossing`: from the end of a period to the next.
@@ -20,6 +21,7 @@ mod beginning;
 mod cluster;
 mod crossing;
 mod laws;
+mod laying;
 mod moving;
 mod restarting;
 mod resuming;
@@ -31,6 +33,7 @@ mod tracing;
 
 pub use cluster::Cluster;
 pub use laws::{law_few, law_heads, law_own, law_rates, law_room, law_safe};
+pub use laying::Layout;
 pub use runners::{ModuleRunner, Runner, SamplerRunner, SinkRunner, TracedPort};
 pub use tdf_dynamic::Next;
 pub use tdf_exec_layout::law_one_port;

@@ -17,14 +17,14 @@ ghost use Rattle.tdf_saved.specs.declared.err.StateErr.TheVariants as why;
 use crate::asking::Spare;
 use crate::beginning::first_runners;
 use crate::cluster::Cluster;
+use crate::laying::Layout;
 use crate::runners::{ModuleRunner, Runner};
 use crate::starting::{Parts, law_laid, plan_firings};
-use crate::tracing::{give_all, traced_rows};
+use crate::tracing::give_all;
 use std::alloc::Global;
 use tdf_base::Memory;
 use tdf_bind::Flat;
 use tdf_dynamic_plans::{Attrs, ModuleAttrs, edge_rates};
-use tdf_exec_layout::cluster_wires;
 use tdf_exec_parts::{Standing, set_values, standing_of, state_rings};
 use tdf_expr::Checked;
 use tdf_saved::{ClusterState, ModuleState, StateErr};
@@ -85,11 +85,10 @@ fn restored_runners(
         cluster attrs.now.rows runners.items) }
 {
     law_laid();
-    let mut rows = traced_rows(alloc, flat, attrs)?;
-    let mut wires = cluster_wires(alloc, &flat.tables, cluster)?;
-    let mut runners = first_runners(alloc, flat, &mut wires, false)?;
+    let mut layout = Layout::new(alloc, flat)?;
+    let mut runners = first_runners(alloc, flat, cluster, &mut layout.wires, false)?;
     restore_all(&flat.checked, &attrs.rows, modules, &mut runners);
-    give_all(alloc, &mut rows, &mut runners);
+    give_all(alloc, &flat.tables, attrs, &mut layout.traced, &mut runners);
     Ok(runners)
 }
 

@@ -1,10 +1,12 @@
 //! A cluster at the start of its first period.
 
-ghost use Rattle.std.specs.Prelude.{◌≤◌, IfOk, length, true};
+ghost use Rattle.std.specs.Prelude.{◌≤◌, IfOk, OnOk, length, true};
 ghost use Rattle.tdf_convert.specs.Sampled.{PlansGoByOffset};
 ghost use Rattle.tdf_dynamic_first.specs.First.{IsFirstPlan};
+ghost use Rattle.tdf_dynamic_plans.specs.Attributes.{RowsStandOnce};
 ghost use Rattle.tdf_dynamic_plans.specs.Rates.{AreRates};
 ghost use Rattle.tdf_exec_parts.specs.Below.{IsTableFirst};
+ghost use Rattle.tdf_exec.specs.Layout.{HasLayoutOf, KeepsLayouts};
 ghost use Rattle.tdf_exec.specs.Made.{IsClusterOf};
 ghost use Rattle.tdf_exec.specs.Starts.{IsAtStart, IsSoundFlat, StandsAtStart};
 ghost use Rattle.tdf_exec.specs.machine.Counted.{AreCounted};
@@ -17,8 +19,9 @@ use crate::asking::Spare;
 use crate::beginning::first_runners;
 use crate::cluster::Cluster;
 use crate::laws::law_rates;
+use crate::laying::Layout;
 use crate::runners::Runner;
-use crate::tracing::{give_all, traced_rows};
+use crate::tracing::give_all;
 use std::alloc::Global;
 use tdf_base::Memory;
 use tdf_bind::Flat;
@@ -26,7 +29,7 @@ use tdf_bind_invariants::{law_formats, law_limits};
 use tdf_convert::law_by_offset;
 use tdf_dynamic_first::First;
 use tdf_dynamic_plans::{Attrs, edge_rates};
-use tdf_exec_layout::{cluster_wires, law_edge_formats, law_edges, law_wired};
+use tdf_exec_layout::{law_edge_formats, law_edges, law_wired};
 use tdf_exec_parts::{firings, first_rings};
 use tdf_rings::Ring;
 use tdf_schedule::{Plan, law_present};
@@ -66,17 +69,19 @@ fn runners_of(
     flat: &Flat,
     cluster: u32,
     attrs: &Attrs,
+    layout: &mut Layout,
 ) -> Result<Vec<Runner>, Memory>
     requires sound { IsSoundFlat flat.now }
     requires rates { AreRates flat.now.tables attrs.now.rows }
-    ensures { IfOk result (λ runners. AreRunnersOf flat.now (HoldsText flat.now true) cluster
-        attrs.now.rows runners.items) }
+    requires once { RowsStandOnce attrs.now.rows }
+    requires layout { HasLayoutOf flat.now cluster layout.old }
+    ensures runners { IfOk result (λ runners. AreRunnersOf flat.now (HoldsText flat.now true)
+        cluster attrs.now.rows runners.items) }
+    ensures others { OnOk result (KeepsLayouts flat.now cluster layout.old layout.new) }
 {
     law_laid();
-    let mut rows = traced_rows(alloc, flat, attrs)?;
-    let mut wires = cluster_wires(alloc, &flat.tables, cluster)?;
-    let mut runners = first_runners(alloc, flat, &mut wires, true)?;
-    give_all(alloc, &mut rows, &mut runners);
+    let mut runners = first_runners(alloc, flat, cluster, &mut layout.wires, true)?;
+    give_all(alloc, &flat.tables, attrs, &mut layout.traced, &mut runners);
     Ok(runners)
 }
 
@@ -93,21 +98,30 @@ pub(crate) fn plan_firings(alloc: Global, flat: &Flat, plan: &Plan) -> Result<Ve
 }
 
 /// The parts of a cluster at its start, under a table and its plan.
-fn first_parts(alloc: Global, flat: &Flat, cluster: u32, first: &First) -> Result<Parts, Memory>
+fn first_parts(
+    alloc: Global,
+    flat: &Flat,
+    cluster: u32,
+    first: &First,
+    layout: &mut Layout,
+) -> Result<Parts, Memory>
     requires sound { IsSoundFlat flat.now }
     requires plan { IsTableFirst flat.now cluster first.now.attrs.rows first.now }
+    requires once { RowsStandOnce first.now.attrs.rows }
+    requires layout { HasLayoutOf flat.now cluster layout.old }
     ensures parts { IfOk result (λ p. AreParts flat.now cluster first.now (HoldsText flat.now true)
         (AreFirstRings flat.now.tables cluster first.now.plan.bounds.items
         (length flat.now.tables.edges))
         p.reads.items p.writes.items p.rings.items p.runners.items p.positions.items) }
     ensures counted { IfOk result (λ p. AreCounted first.now.plan.entries.items p.firings.items) }
     ensures room { IfOk result (λ p. length first.now.attrs.rows ≤ p.spare) }
+    ensures others { OnOk result (KeepsLayouts flat.now cluster layout.old layout.new) }
 {
     law_laid();
     let rates = edge_rates(alloc, &flat.tables, &first.attrs.rows)?;
     let firings = plan_firings(alloc, flat, &first.plan)?;
     let rings = first_rings(alloc, &flat.tables, cluster, &first.plan.bounds)?;
-    let runners = runners_of(alloc, flat, cluster, &first.attrs)?;
+    let runners = runners_of(alloc, flat, cluster, &first.attrs, layout)?;
     let positions = vec![in alloc; 0; flat.tables.actors.len()]?;
     let spare = Spare::new(alloc, first.attrs.rows.len())?;
     Ok(Parts {
@@ -123,19 +137,27 @@ fn first_parts(alloc: Global, flat: &Flat, cluster: u32, first: &First) -> Resul
 
 impl Cluster {
     /// A cluster at the start of its first period, with its samples at first in place, the initialize bodies of its modules
-    /// run. `first` has its first attributes and plan.
+    /// run. `first` has its first attributes and plan; of `layout` it takes what is its own.
     ///
     /// # Errors
     /// Out of memory.
-    pub fn new(alloc: Global, flat: &Flat, cluster: u32, first: First) -> Result<Cluster, Memory>
+    pub fn new(
+        alloc: Global,
+        flat: &Flat,
+        cluster: u32,
+        first: First,
+        layout: &mut Layout,
+    ) -> Result<Cluster, Memory>
         requires sound { IsSoundFlat flat.now }
         requires plan { IsFirstPlan flat.now cluster first }
+        requires layout { HasLayoutOf flat.now cluster layout.old }
         ensures of { IfOk result (λ c. IsClusterOf flat.now c) }
         ensures start { IfOk result (λ c. IsAtStart cluster first c) }
         ensures stands { IfOk result (λ c. StandsAtStart flat.now c) }
+        ensures others { OnOk result (KeepsLayouts flat.now cluster layout.old layout.new) }
     {
         law_laid();
-        match first_parts(alloc, flat, cluster, &first) {
+        match first_parts(alloc, flat, cluster, &first, layout) {
             Ok(parts) => Ok(Cluster {
                 number: cluster,
                 attrs: first.attrs,

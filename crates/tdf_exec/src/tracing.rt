@@ -19,11 +19,13 @@ impl Model for TracedPorts {
 }
 
 ghost use Rattle.std.specs.List.{list_any};
-ghost use Rattle.std.specs.Prelude.{◌≡◌, ◌&&◌, ◌++◌, ◌∷◌, ◌<◌, ◌≤◌, ℕ, [], All, IfOk, OnOk, Some, length, map, replicate, slice_get};
+ghost use Rattle.std.specs.Prelude.{◌≡◌, ◌&&◌, ◌++◌, ◌∷◌, ◌<◌, ◌≤◌, ℕ, [], All, IfOk, List, OnOk, Some, length, map, replicate, slice_get};
 ghost use Rattle.tdf_dynamic_plans.specs.Attributes.{RowsStandOnce};
 ghost use Rattle.tdf_dynamic_plans.specs.Rates.{AreRates};
 ghost use Rattle.tdf_exec_layout.specs.Traced.{is_trace_of};
-ghost use Rattle.tdf_exec.specs.machine.Tracing.{AreGivenTraced, AreMarked, AreNumbered, AreTracedUpTo, is_written_traced, marked, put_traced, rated, with_traced};
+ghost use Rattle.tdf_exec.specs.declared.runners.Runner.{Runner as RunnerOf};
+ghost use Rattle.tdf_exec.specs.declared.runners.TracedPort.{TracedPort as TracedPortOf};
+ghost use Rattle.tdf_exec.specs.machine.Tracing.{AreGivenTraced, AreMarked, AreNumbered, AreTracedUpTo, CanGet, KeepsRow, is_written_traced, marked, put_traced, rated, with_traced};
 ghost use Rattle.tdf_streams.specs.Places.{place_of_port};
 ghost use Rattle.tdf_bind_connections.specs.declared.modules.PortRow.{PortRow as PortRowOf};
 
@@ -111,23 +113,21 @@ fn is_traced(marks: &Vec<bool>, traces: &[TraceRow], port: &PortRow) -> bool
     }
 }
 
-/// A port comes to its module, if its signal is traced.
+/// A port comes to its module, if its signal is traced; it has no rate.
 fn put_port(
     flat: &Flat,
-    attrs: &Attrs,
     marks: &Vec<bool>,
     place: u32,
     n: usize,
     rows: &mut Vec<TracedPorts>,
 ) -> Result<(), Memory>
-    requires rates { AreRates flat.now.tables attrs.now.rows }
     requires marks { AreMarked flat.now.tables.traces (length flat.now.tables.traces) marks.now.items }
     requires number { n < length flat.now.tables.ports }
     requires place { place ≡ place_of_port flat.now.tables.ports n }
     requires rows { length rows.old.items ≡ length flat.now.tables.modules }
     requires modules { All (λ port. port.«module» < length flat.now.tables.modules) flat.now.tables.ports }
     ensures { (port : PortRowOf) → slice_get flat.now.tables.ports n ≡ Some port
-        → OnOk result (rows.new.items ≡ put_traced flat.now.tables attrs.now.rows n port rows.old.items) }
+        → OnOk result (rows.new.items ≡ put_traced flat.now.tables n port rows.old.items) }
 {
     let port = &flat.tables.ports[n];
     if !is_traced(marks, &flat.tables.traces, port) {
@@ -138,7 +138,7 @@ fn put_port(
         number,
         port: place,
         signal: port.signal,
-        rate: attrs.port_rate(&flat.tables, number),
+        rate: 0,
     })
 }
 
@@ -153,54 +153,22 @@ fn no_rows(alloc: Global, count: usize) -> Result<Vec<TracedPorts>, Memory>
     Ok(rows)
 }
 
-/// The ports of each module whose signals are traced, by one look at each port.
+/// The ports of each module whose signals are traced, by one look at each port; they have no rates.
 ///
 /// # Errors
 /// Out of memory.
-pub(crate) fn traced_rows(
-    alloc: Global,
-    flat: &Flat,
-    attrs: &Attrs,
-) -> Result<Vec<TracedPorts>, Memory>
-    requires rates { AreRates flat.now.tables attrs.now.rows }
+pub(crate) fn traced_rows(alloc: Global, flat: &Flat) -> Result<Vec<TracedPorts>, Memory>
     requires modules { All (λ port. port.«module» < length flat.now.tables.modules) flat.now.tables.ports }
     ensures { IfOk result (λ rows.
-        AreTracedUpTo flat.now.tables attrs.now.rows (length flat.now.tables.ports) rows.items) }
+        AreTracedUpTo flat.now.tables (length flat.now.tables.ports) rows.items) }
 {
     let marks = marks_of(alloc, &flat.tables)?;
     let places = port_places(alloc, flat.tables.modules.len(), &flat.tables.ports)?;
     let mut rows = no_rows(alloc, flat.tables.modules.len())?;
     for n in 0..flat.tables.ports.len() {
-        put_port(flat, attrs, &marks, places[n], n, &mut rows)?;
+        put_port(flat, &marks, places[n], n, &mut rows)?;
     }
     Ok(rows)
-}
-
-/// Gives a module its ports.
-fn give_traced(runner: &mut Runner, traced: Vec<TracedPort>)
-    ensures { runner.new ≡ with_traced traced.items runner.old }
-{
-    match runner {
-        Runner::Module(module) => module.rest.traced = traced,
-        Runner::Sampler(_) => drop(traced),
-        Runner::Sink(_) => drop(traced),
-        Runner::Outside => drop(traced),
-    }
-}
-
-/// Gives all modules their ports.
-pub(crate) fn give_all(alloc: Global, rows: &mut Vec<TracedPorts>, runners: &mut Vec<Runner>)
-    requires { length rows.old.items ≤ length runners.old.items }
-    ensures { AreGivenTraced (length rows.old.items) rows.old.items rows.new.items
-        runners.old.items runners.new.items }
-{
-    for m in 0..rows.len() {
-        if let Runner::Outside = &runners[m] {
-            continue;
-        }
-        let row = mem::replace(&mut rows[m], TracedPorts::new(alloc));
-        give_traced(&mut runners[m], row.into_list());
-    }
 }
 
 /// A traced port with its rate under a table in which each module has one row.
@@ -227,5 +195,68 @@ pub(crate) fn rate_ports(tables: &FlatTables, attrs: &Attrs, list: &mut Vec<Trac
 {
     for j in 0..list.len() {
         list[j] = rated(tables, attrs, list[j]);
+    }
+}
+
+/// The ports of a row, with their rates under a table in which each module has one row; the row has none after it.
+fn taken(
+    alloc: Global,
+    tables: &FlatTables,
+    attrs: &Attrs,
+    row: &mut TracedPorts,
+) -> Vec<TracedPort>
+    requires rates { AreRates tables.now attrs.now.rows }
+    requires once { RowsStandOnce attrs.now.rows }
+    requires numbers { AreNumbered tables.now.ports row.old }
+    ensures { result.items ≡ map (rated tables.now attrs.now.rows) row.old }
+{
+    let row = mem::replace(row, TracedPorts::new(alloc));
+    let mut list = row.into_list();
+    rate_ports(tables, attrs, &mut list);
+    list
+}
+
+/// A module takes its ports; what isn't a module takes none.
+fn give_traced(
+    alloc: Global,
+    tables: &FlatTables,
+    attrs: &Attrs,
+    row: &mut TracedPorts,
+    runner: &mut Runner,
+)
+    requires rates { AreRates tables.now attrs.now.rows }
+    requires once { RowsStandOnce attrs.now.rows }
+    requires can { CanGet tables.now.ports row.old runner.old }
+    ensures given { runner.new ≡ with_traced (map (rated tables.now attrs.now.rows) row.old)
+        runner.old }
+    ensures row { KeepsRow runner.old row.old row.new }
+{
+    match runner {
+        Runner::Module(module) => module.rest.traced = taken(alloc, tables, attrs, row),
+        Runner::Sampler(_) => {}
+        Runner::Sink(_) => {}
+        Runner::Outside => {}
+    }
+}
+
+/// All modules take their ports.
+pub(crate) fn give_all(
+    alloc: Global,
+    tables: &FlatTables,
+    attrs: &Attrs,
+    rows: &mut Vec<TracedPorts>,
+    runners: &mut Vec<Runner>,
+)
+    requires rates { AreRates tables.now attrs.now.rows }
+    requires once { RowsStandOnce attrs.now.rows }
+    requires many { length rows.old.items ≤ length runners.old.items }
+    requires can { (m : ℕ) (list : List TracedPortOf) (r : RunnerOf)
+        → slice_get rows.old.items m ≡ Some list → slice_get runners.old.items m ≡ Some r
+        → CanGet tables.now.ports list r }
+    ensures { AreGivenTraced tables.now attrs.now.rows (length rows.old.items)
+        rows.old.items rows.new.items runners.old.items runners.new.items }
+{
+    for m in 0..rows.len() {
+        give_traced(alloc, tables, attrs, &mut rows[m], &mut runners[m]);
     }
 }

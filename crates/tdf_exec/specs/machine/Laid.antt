@@ -1,15 +1,17 @@
 -- What the tables of a sound flat model have, and the parts of a cluster at its start.
 -- Source: own.
-use Rattle.std.specs.Prelude.{◌≡◌, ◌<◌, ℕ, List, Some, length, replicate, slice_get}
+use Rattle.std.specs.Prelude.{◌≡◌, ◌≢◌, ◌<◌, ◌≤◌, ℕ, List, Some, length, map, replicate, slice_get}
+use Rattle.tdf_bind_tables.specs.FlatTables.{FlatTablesOf}
+use Rattle.tdf_bind_tables.specs.declared.actors.ActorRow.{ActorRow}
 use Rattle.tdf_dynamic_plans.specs.Attributes.{AttrsOf}
 use Rattle.tdf_dynamic_plans.specs.Rates.{net_of}
 use Rattle.tdf_dynamic_first.specs.declared.first.First.{First}
 use Rattle.tdf_exec.specs.Made.{KeepRates}
 use Rattle.tdf_exec.specs.Starts.{BeginWithRates, IsSoundFlat}
+use Rattle.tdf_exec.specs.Traced.{traced_port}
 use Rattle.tdf_exec.specs.declared.runners.Runner.{Runner}
-use Rattle.tdf_exec.specs.declared.runners.TracedPort.{TracedPort}
 use Rattle.tdf_exec.specs.machine.Starting.{AreFirstRunners}
-use Rattle.tdf_exec.specs.machine.Tracing.{AreGivenTraced, AreTracedUpTo}
+use Rattle.tdf_exec.specs.machine.Tracing.{with_traced}
 use Rattle.tdf_expr.specs.Made.{port_spans_of}
 use Rattle.tdf_expr_state.specs.State.{FrameState}
 use Rattle.tdf_exec_firing.specs.Wires.{AreWired, WiresOf}
@@ -17,9 +19,11 @@ use Rattle.tdf_bind.specs.declared.model.Flat.{Flat}
 use Rattle.tdf_bind_invariants.specs.Formats.{IsOwnPort}
 use Rattle.tdf_exec_layout.specs.Edges.{IsEdgeRow}
 use Rattle.tdf_exec_layout.specs.Samples.{EdgeHasFormat}
-use Rattle.tdf_exec_layout.specs.Wires.{AreClusterWires, SinksHaveOne}
+use Rattle.tdf_exec_layout.specs.Traced.{traced_ports}
+use Rattle.tdf_exec_layout.specs.Wires.{IsWiringOf, SinksHaveOne}
 use Rattle.tdf_exec_layout.specs.Wiring.{AreWiresOf}
 use Rattle.tdf_exec_layout.specs.declared.wiring.ActorWires.{ActorWires}
+use Rattle.tdf_exec_layout.specs.declared.wiring.ActorWires.TheVariants.{Elsewhere}
 use Rattle.tdf_bind_invariants.specs.Limits.{AreWithinLimits}
 use Rattle.tdf_rings.specs.Rings.{RingOf}
 use Rattle.tdf_streams.specs.Periods.{read_rates, write_rates}
@@ -46,20 +50,34 @@ pub record IsLaid (flat : Flat) : Type 0 where
 abbrev pub SoundIsLaid : Type 0
 SoundIsLaid = (flat : Flat) → IsSoundFlat flat → IsLaid flat
 
+-- what each actor of a cluster is told of its edges; of actors of other clusters nothing is told
+pub record AreClusterWires (tables : FlatTablesOf) (cluster : ℕ) (told : List ActorWires)
+    : Type 0 where
+  pub long : length told ≡ length tables.actors
+  pub own : (m : ℕ) (row : ActorRow) (w : ActorWires) → slice_get tables.actors m ≡ Some row
+      → slice_get told m ≡ Some w → row.cluster ≡ cluster → IsWiringOf tables m row.kind w
+  pub other : (m : ℕ) (row : ActorRow) (w : ActorWires) → slice_get tables.actors m ≡ Some row
+      → slice_get told m ≡ Some w → row.cluster ≢ cluster → w ≡ Elsewhere
+
+-- each module has its traced ports, with their rates under a table
+pub record HaveTraced (tables : FlatTablesOf) (table : List AttrsOf) (old new : List Runner)
+    : Type 0 where
+  pub same : length new ≡ length old
+  pub done : (m : ℕ) (r : Runner) → m < length tables.modules → slice_get old m ≡ Some r
+      → slice_get new m
+      ≡ Some (with_traced (map (traced_port tables table) (traced_ports tables m)) r)
+  pub rest : (m : ℕ) → length tables.modules ≤ m → slice_get new m ≡ slice_get old m
+
 -- what is kept for the actors of a cluster: each is begun by what it is told of its edges, and then
 -- given its traced ports
 pub record AreRunnersOf (flat : Flat) (Holds : ℕ → FrameState → Type 0) (cluster : ℕ)
     (table : List AttrsOf) (runners : List Runner) : Type 0 where
   pub wires : List ActorWires
-  pub left : List ActorWires
   pub samplers : ℕ
   pub begun : List Runner
-  pub rows : List (List TracedPort)
-  pub rest : List (List TracedPort)
   pub wires_are : AreClusterWires flat.tables cluster wires
-  pub begun_are : AreFirstRunners flat Holds (length wires) wires left samplers begun
-  pub traced_are : AreTracedUpTo flat.tables table (length flat.tables.ports) rows
-  pub given : AreGivenTraced (length rows) rows rest begun runners
+  pub begun_are : AreFirstRunners flat Holds (length wires) wires samplers begun
+  pub given : HaveTraced flat.tables table begun runners
 
 -- the parts of a cluster at a start, where its instances and its rings hold what is asked for
 pub record AreParts (flat : Flat) (cluster : ℕ) (first : First) (Holds : ℕ → FrameState → Type 0)

@@ -1,7 +1,8 @@
 -- The runners of a cluster at its start, by actor.
 -- Source: own.
 use Rattle.std.specs.List.{count_by}
-use Rattle.std.specs.Prelude.{◌≡◌, ℕ, ◌<◌, ◌≤◌, Bool, true, List, length, Some, slice_get, All}
+use Rattle.std.specs.Prelude.{◌≡◌, ◌≢◌, ℕ, ◌<◌, ◌≤◌, Bool, true, List, [], ◌∷◌, length, Some, if◌then◌else◌, nat_eq, slice_get, All}
+use Rattle.tdf_bind_tables.specs.declared.actors.ActorRow.{ActorRow}
 use Rattle.tdf_exec.specs.Made.{is_sampler_runner, sampler_runners_before}
 use Rattle.tdf_exec.specs.Runners.{ModuleOf}
 use Rattle.tdf_exec.specs.Starts.{BeginWithRates}
@@ -57,13 +58,30 @@ IsFirstRunner flat Holds m place (wires.Sink edge) (runner.Sink k) = k.edge ≡ 
 IsFirstRunner flat Holds m place wires.Elsewhere runner.Outside = Unit {0}
 IsFirstRunner flat Holds m place _ _ = ⊥
 
--- a runner for each of the first n actors; the others are still to be told
+-- a runner for each of the first n actors
 pub record AreFirstRunners (flat : Flat) (Holds : ℕ → FrameState → Type 0) (n : ℕ)
-    (old new : List ActorWires) (samplers : ℕ) (runners : List Runner) : Type 0 where
+    (told : List ActorWires) (samplers : ℕ) (runners : List Runner) : Type 0 where
   pub long : length runners ≡ n
   pub counted : samplers ≡ count_by is_sampler_runner runners
-  pub same : length new ≡ length old
-  pub left : (m : ℕ) → n ≤ m → slice_get new m ≡ slice_get old m
-  pub each : (m : ℕ) (w : ActorWires) (r : Runner) → slice_get old m ≡ Some w
+  pub each : (m : ℕ) (w : ActorWires) (r : Runner) → slice_get told m ≡ Some w
       → slice_get runners m ≡ Some r
       → IsFirstRunner flat Holds m (sampler_runners_before runners m) w r
+
+-- what the actors of a cluster are told of their edges; of actors of other clusters nothing is told
+abbrev pub own_wire : (cluster : ℕ) → ActorRow → ActorWires → ActorWires
+own_wire cluster row w = if nat_eq row.cluster cluster then w else wires.Elsewhere
+
+abbrev pub own_wires : List ActorRow → (cluster : ℕ) → List ActorWires → List ActorWires
+own_wires [] cluster ws = []
+own_wires (row ∷ rows) cluster [] = []
+own_wires (row ∷ rows) cluster (w ∷ ws) = own_wire cluster row w ∷ own_wires rows cluster ws
+
+-- so far the actors of a cluster have taken what they are told, and all others' is still there
+pub record AreTakenUpTo (flat : Flat) (Holds : ℕ → FrameState → Type 0) (cluster n : ℕ)
+    (old new : List ActorWires) (samplers : ℕ) (runners : List Runner) : Type 0 where
+  pub first : AreFirstRunners flat Holds n (own_wires flat.tables.actors cluster old) samplers
+      runners
+  pub same : length new ≡ length old
+  pub left : (m : ℕ) → n ≤ m → slice_get new m ≡ slice_get old m
+  pub others : (m : ℕ) (row : ActorRow) → slice_get flat.tables.actors m ≡ Some row
+      → row.cluster ≢ cluster → slice_get new m ≡ slice_get old m

@@ -4,9 +4,8 @@ use Rattle.std.specs.List.{enumerate_from, list_any}
 use Rattle.std.specs.Prelude.{◌≡◌, ◌<◌, ◌≤◌, ◌&&◌, ◌++◌, ℕ, Bool, true, false, List, [], ◌∷◌, length, map, Some, filter_map, if◌then◌else◌, slice_get, slice_index_or, slice_set, take}
 use Rattle.tdf_bind_tables.specs.FlatTables.{FlatTablesOf}
 use Rattle.tdf_dynamic_plans.specs.Attributes.{AttrsOf}
-use Rattle.tdf_dynamic_plans.specs.Rates.{port_rate}
 use Rattle.tdf_exec.specs.Runners.{ModuleOf}
-use Rattle.tdf_exec.specs.Traced.{rate_of_row, traced_port}
+use Rattle.tdf_exec.specs.Traced.{rate_of_row, unrated_port}
 use Rattle.tdf_exec_layout.specs.Traced.{is_out, is_trace_of, number_if_traced}
 use Rattle.tdf_exec.specs.declared.runners.Runner.{Runner}
 use Rattle.tdf_exec.specs.declared.runners.Runner.TheVariants as runner
@@ -28,20 +27,20 @@ pub record AreMarked (traces : List TraceRow) (n : ℕ) (marks : List Bool) : Ty
 abbrev pub is_written_traced : List TraceRow → PortRow → Bool
 is_written_traced traces port = is_out port.kind && list_any (is_trace_of port.signal) traces
 
-abbrev pub traced_row : FlatTablesOf → List AttrsOf → ℕ → PortRow → TracedPort
-traced_row tables table number port = record {
+abbrev pub traced_row : FlatTablesOf → ℕ → PortRow → TracedPort
+traced_row tables number port = record {
   number = number;
   port = place_of_port tables.ports number;
   signal = port.signal;
-  rate = port_rate table port;
+  rate = 0;
 }
 
 -- such a port comes to its module
-abbrev pub put_traced : FlatTablesOf → List AttrsOf → ℕ → PortRow → List (List TracedPort)
+abbrev pub put_traced : FlatTablesOf → ℕ → PortRow → List (List TracedPort)
     → List (List TracedPort)
-put_traced tables table number port rows = if is_written_traced tables.traces port
+put_traced tables number port rows = if is_written_traced tables.traces port
     then slice_set rows port.«module»
-    (slice_index_or rows port.«module» [] ++ traced_row tables table number port ∷ []) else rows
+    (slice_index_or rows port.«module» [] ++ traced_row tables number port ∷ []) else rows
 
 -- the numbers of the traced ports of a module among the first n
 abbrev pub traced_before : FlatTablesOf → (n m : ℕ) → List ℕ
@@ -49,26 +48,16 @@ traced_before tables n m = filter_map (λ port. number_if_traced tables m port.0
     (enumerate_from 0 (take n tables.ports))
 
 -- the first n ports are gathered by module
-pub record AreTracedUpTo (tables : FlatTablesOf) (table : List AttrsOf) (n : ℕ)
-    (rows : List (List TracedPort)) : Type 0 where
+pub record AreTracedUpTo (tables : FlatTablesOf) (n : ℕ) (rows : List (List TracedPort))
+    : Type 0 where
   pub long : length rows ≡ length tables.modules
   pub each : (m : ℕ) → m < length tables.modules → slice_index_or rows m []
-      ≡ map (traced_port tables table) (traced_before tables n m)
+      ≡ map (unrated_port tables) (traced_before tables n m)
 
 -- a module is given its ports
 abbrev pub with_traced : List TracedPort → Runner → Runner
 with_traced traced (runner.Module x) = runner.Module (record x { traced = traced })
 with_traced traced r = r
-
--- the first n actors are given theirs
-pub record AreGivenTraced (n : ℕ) (rows now : List (List TracedPort)) (old new : List Runner)
-    : Type 0 where
-  pub many : length now ≡ length rows
-  pub same : length new ≡ length old
-  pub done : (m : ℕ) (r : Runner) → m < n → slice_get old m ≡ Some r
-      → slice_get new m ≡ Some (with_traced (slice_index_or rows m []) r)
-  pub waiting : (m : ℕ) → n ≤ m → slice_get new m ≡ slice_get old m
-  pub left : (m : ℕ) → n ≤ m → slice_index_or now m [] ≡ slice_index_or rows m []
 
 -- traced ports have numbers of these
 abbrev pub AreNumbered : List PortRow → List TracedPort → Type 0
@@ -82,3 +71,26 @@ rated tables table t = record t { rate = rate_of_row table (slice_get tables.por
 -- a module whose traced ports have theirs
 abbrev pub with_rates : FlatTablesOf → List AttrsOf → ModuleOf → ModuleOf
 with_rates tables table x = record x { traced = map (rated tables table) x.traced }
+
+-- an actor can take such ports
+abbrev pub CanGet : List PortRow → List TracedPort → Runner → Type 0
+CanGet ports list (runner.Module x) = AreNumbered ports list
+CanGet ports list _ = Unit {0}
+
+-- what an actor of another cluster isn't given stays
+abbrev pub KeepsRow : Runner → (old new : List TracedPort) → Type 0
+KeepsRow runner.Outside old new = new ≡ old
+KeepsRow _ old new = Unit {0}
+
+-- the first n actors have taken theirs, with the rates under a table
+pub record AreGivenTraced (tables : FlatTablesOf) (table : List AttrsOf) (n : ℕ)
+    (rows now : List (List TracedPort)) (old new : List Runner) : Type 0 where
+  pub many : length now ≡ length rows
+  pub same : length new ≡ length old
+  pub done : (m : ℕ) (list : List TracedPort) (r : Runner) → m < n
+      → slice_get rows m ≡ Some list → slice_get old m ≡ Some r
+      → slice_get new m ≡ Some (with_traced (map (rated tables table) list) r)
+  pub waiting : (m : ℕ) → n ≤ m → slice_get new m ≡ slice_get old m
+  pub left : (m : ℕ) → n ≤ m → slice_get now m ≡ slice_get rows m
+  pub kept : (m : ℕ) → slice_get old m ≡ Some runner.Outside
+      → slice_get now m ≡ slice_get rows m

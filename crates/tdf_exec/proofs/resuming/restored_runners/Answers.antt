@@ -1,50 +1,77 @@
-use Rattle.std.proofs.Common.{◌∙◌, List, ap, arith, length, subst, sym}
-use Rattle.tdf_dynamic_plans.proofs.Api.{modules_few}
+use Rattle.std.proofs.Common.{◌∙◌, List, ap, false, length, subst, sym}
 use Rattle.tdf_dynamic_plans.specs.Attributes.{AttrsOf}
 use Rattle.tdf_dynamic_plans.specs.Known.{AttrsTable}
 use Rattle.tdf_exec.proofs.Kept.{of_modules}
-use Rattle.tdf_exec.proofs.Resumed.{can_restore, state_runners}
-use Rattle.tdf_exec.specs.machine.Resuming.{AreRestored, CanRestore}
-use Rattle.tdf_streams.proofs.Api.{are_rates, is_wired}
+use Rattle.tdf_exec.proofs.Resumed.{can_restore, state_rows}
+use Rattle.tdf_exec.proofs.Taking.{can_take, first_told, many, restored_told, runners_are, told, told_long}
+use Rattle.tdf_exec.specs.Layout.{HasLayoutOf}
+use Rattle.tdf_exec.specs.contracts.laying.Layout.{the_view}
+use Rattle.tdf_exec.specs.machine.Resuming.{AreRestored, CanRestore, HoldsState}
+use Rattle.tdf_exec.specs.machine.Starting.{HoldsText}
+use Rattle.tdf_streams.proofs.Api.{are_rates}
 use Rattle.tdf_exec.proofs.resuming.restored_runners.Goals as goal
 
-pub traced_rows-requires-clause-rates : goal.traced_rows-requires-clause-rates
-traced_rows-requires-clause-rates c =
-    are_rates c.args.flat.now (c.law_laid.ensures.laid c.args.flat.now c.requires.sound).limits c.args.attrs.now.rows c.requires.table.attributes.allowed
+pub first_runners-requires-clause-long : goal.first_runners-requires-clause-long
+first_runners-requires-clause-long c =
+    let has : HasLayoutOf c.args.flat.now c.args.cluster (the_view c.layout.inside) = subst (HasLayoutOf c.args.flat.now c.args.cluster) (sym c.layout.view_is) (c.in_ok-layout.ensures c.args.cluster) in
+    has.actors
 
 pub first_runners-requires-clause-modules : goal.first_runners-requires-clause-modules
 first_runners-requires-clause-modules c =
-    of_modules c.args.flat.now (c.law_laid.ensures.laid c.args.flat.now c.requires.sound) c.args.cluster c.in_ok-wires.wires.items c.in_ok-wires.ensures
+    let has : HasLayoutOf c.args.flat.now c.args.cluster (the_view c.layout.inside) = subst (HasLayoutOf c.args.flat.now c.args.cluster) (sym c.layout.view_is) (c.in_ok-layout.ensures c.args.cluster) in
+    of_modules c.args.flat.now (c.law_laid.ensures.laid c.args.flat.now c.requires.sound) c.args.cluster c.layout.inside.wires.items has.wires
 
 pub restore_all-requires : goal.restore_all-requires
 restore_all-requires c =
-    let laid = c.law_laid.ensures.laid c.args.flat.now c.requires.sound in
-    subst (λ (t : List AttrsOf). CanRestore c.args.flat.now.checked t c.args.modules.now c.in_ok-runners.runners.items) (sym (c.deref.ensures.value ∙ ap (λ (a : AttrsTable). a.rows) c.attrs.view_is))
-    (can_restore c.args.flat.now c.args.cluster laid.limits c.args.modules.now c.args.attrs.now.rows c.requires.states c.requires.table
-    c.in_ok-wires.wires.items c.first_runners.new.wires.items c.in_ok-runners.ensures.0 c.in_ok-runners.runners.items c.in_ok-wires.ensures.long c.in_ok-runners.ensures.1)
+    let flat = c.args.flat.now in
+    let laid = c.law_laid.ensures.laid flat c.requires.sound in
+    let has : HasLayoutOf flat c.args.cluster (the_view c.layout.inside) = subst (HasLayoutOf flat c.args.cluster) (sym c.layout.view_is) (c.in_ok-layout.ensures c.args.cluster) in
+    let samplers = c.in_ok-runners.ensures.0 in
+    let begun = c.in_ok-runners.runners.items in
+    subst (λ (t : List AttrsOf). CanRestore flat.checked t c.args.modules.now begun) (sym (c.deref.ensures.value ∙ ap (λ (a : AttrsTable). a.rows) c.attrs.view_is))
+    (can_restore flat c.args.cluster laid.limits c.args.modules.now c.args.attrs.now.rows c.requires.states c.requires.table
+    (told flat laid (HoldsText flat false) c.args.cluster (the_view c.layout.inside) has samplers begun) samplers begun
+    (told_long flat laid (HoldsText flat false) c.args.cluster (the_view c.layout.inside) has samplers begun)
+    (first_told flat laid (HoldsText flat false) c.args.cluster (the_view c.layout.inside) has samplers begun c.in_ok-runners.ensures.1.first))
 
-pub give_all-requires : goal.give_all-requires
-give_all-requires c =
-    let laid = c.law_laid.ensures.laid c.args.flat.now c.requires.sound in
-    let few = modules_few c.args.flat.now.tables (is_wired c.args.flat.now laid.limits) in
-    let rows = c.in_ok-rows.ensures.long in let wires = c.in_ok-wires.ensures.long in let runners = c.in_ok-runners.ensures.1.long in let same = c.restore_all.ensures.same in
-    omega (arith, few, rows, wires, runners, same)
+pub give_all-requires-clause-rates : goal.give_all-requires-clause-rates
+give_all-requires-clause-rates c =
+    are_rates c.args.flat.now (c.law_laid.ensures.laid c.args.flat.now c.requires.sound).limits c.args.attrs.now.rows c.requires.table.attributes.allowed
+
+pub give_all-requires-clause-once : goal.give_all-requires-clause-once
+give_all-requires-clause-once c =
+    (state_rows c.args.flat.now c.args.cluster (c.law_laid.ensures.laid c.args.flat.now c.requires.sound).limits c.args.modules.now c.args.attrs.now.rows c.requires.states c.requires.table).once
+
+pub give_all-requires-clause-many : goal.give_all-requires-clause-many
+give_all-requires-clause-many c =
+    let flat = c.args.flat.now in
+    let laid = c.law_laid.ensures.laid flat c.requires.sound in
+    let has : HasLayoutOf flat c.args.cluster (the_view c.layout.inside) = subst (HasLayoutOf flat c.args.cluster) (sym c.layout.view_is) (c.in_ok-layout.ensures c.args.cluster) in
+    let held = restored_told flat laid c.args.cluster (the_view c.layout.inside) has c.args.modules.now c.args.attrs.now.rows c.requires.states c.requires.table c.in_ok-runners.ensures.0
+    c.in_ok-runners.runners.items c.restore_all.new.runners.items c.in_ok-runners.ensures.1.first
+    (subst (λ (t : List AttrsOf). AreRestored flat.checked t c.args.modules.now (length t) c.in_ok-runners.runners.items c.restore_all.new.runners.items)
+    (c.deref.ensures.value ∙ ap (λ (a : AttrsTable). a.rows) c.attrs.view_is) c.restore_all.ensures) in
+    many flat laid (HoldsState c.args.attrs.now.rows c.args.modules.now) c.args.cluster (the_view c.layout.inside) has c.in_ok-runners.ensures.0 c.restore_all.new.runners.items held
+
+pub give_all-requires-clause-can : goal.give_all-requires-clause-can
+give_all-requires-clause-can c =
+    let flat = c.args.flat.now in
+    let laid = c.law_laid.ensures.laid flat c.requires.sound in
+    let has : HasLayoutOf flat c.args.cluster (the_view c.layout.inside) = subst (HasLayoutOf flat c.args.cluster) (sym c.layout.view_is) (c.in_ok-layout.ensures c.args.cluster) in
+    let held = restored_told flat laid c.args.cluster (the_view c.layout.inside) has c.args.modules.now c.args.attrs.now.rows c.requires.states c.requires.table c.in_ok-runners.ensures.0
+    c.in_ok-runners.runners.items c.restore_all.new.runners.items c.in_ok-runners.ensures.1.first
+    (subst (λ (t : List AttrsOf). AreRestored flat.checked t c.args.modules.now (length t) c.in_ok-runners.runners.items c.restore_all.new.runners.items)
+    (c.deref.ensures.value ∙ ap (λ (a : AttrsTable). a.rows) c.attrs.view_is) c.restore_all.ensures) in
+    can_take flat laid (HoldsState c.args.attrs.now.rows c.args.modules.now) c.args.cluster (the_view c.layout.inside) has c.in_ok-runners.ensures.0 c.restore_all.new.runners.items held
 
 pub returns : goal.returns
 returns c =
-    let laid = c.law_laid.ensures.laid c.args.flat.now c.requires.sound in
-    record {
-      wires = c.in_ok-wires.wires.items;
-      left = c.first_runners.new.wires.items;
-      samplers = c.in_ok-runners.ensures.0;
-      begun = c.restore_all.new.runners.items;
-      rows = c.in_ok-rows.rows.items;
-      rest = c.give_all.new.rows.items;
-      wires_are = c.in_ok-wires.ensures;
-      begun_are = state_runners c.args.flat.now c.args.cluster laid.limits c.args.modules.now c.args.attrs.now.rows c.requires.states c.requires.table
-          c.in_ok-wires.wires.items c.first_runners.new.wires.items c.in_ok-runners.ensures.0 c.in_ok-runners.runners.items c.in_ok-wires.ensures.long c.in_ok-runners.ensures.1
-          c.restore_all.new.runners.items (subst (λ (t : List AttrsOf). AreRestored c.args.flat.now.checked t c.args.modules.now (length t) c.in_ok-runners.runners.items c.restore_all.new.runners.items)
-          (c.deref.ensures.value ∙ ap (λ (a : AttrsTable). a.rows) c.attrs.view_is) c.restore_all.ensures);
-      traced_are = c.in_ok-rows.ensures;
-      given = c.give_all.ensures;
-    }
+    let flat = c.args.flat.now in
+    let laid = c.law_laid.ensures.laid flat c.requires.sound in
+    let has : HasLayoutOf flat c.args.cluster (the_view c.layout.inside) = subst (HasLayoutOf flat c.args.cluster) (sym c.layout.view_is) (c.in_ok-layout.ensures c.args.cluster) in
+    let held = restored_told flat laid c.args.cluster (the_view c.layout.inside) has c.args.modules.now c.args.attrs.now.rows c.requires.states c.requires.table c.in_ok-runners.ensures.0
+    c.in_ok-runners.runners.items c.restore_all.new.runners.items c.in_ok-runners.ensures.1.first
+    (subst (λ (t : List AttrsOf). AreRestored flat.checked t c.args.modules.now (length t) c.in_ok-runners.runners.items c.restore_all.new.runners.items)
+    (c.deref.ensures.value ∙ ap (λ (a : AttrsTable). a.rows) c.attrs.view_is) c.restore_all.ensures) in
+    runners_are flat laid (HoldsState c.args.attrs.now.rows c.args.modules.now) c.args.cluster (the_view c.layout.inside) has c.in_ok-runners.ensures.0 c.restore_all.new.runners.items held
+    c.args.attrs.now.rows c.give_all.new.rows.items c.give_all.new.runners.items c.give_all.ensures

@@ -1,16 +1,41 @@
-use Rattle.std.proofs.Common.{arith}
-use Rattle.tdf_dynamic_plans.proofs.Api.{modules_few}
+use Rattle.std.proofs.Common.{refl, subst, sym, true}
 use Rattle.tdf_exec.proofs.Kept.{of_modules}
-use Rattle.tdf_streams.proofs.Api.{is_wired}
+use Rattle.tdf_exec.proofs.Taking.{can_take, keeps, many, runners_are}
+use Rattle.tdf_exec.specs.Layout.{HasLayoutOf, KeepsLayouts, LayoutOf}
+use Rattle.tdf_exec.specs.contracts.laying.Layout.{the_view}
+use Rattle.tdf_exec.specs.machine.Starting.{HoldsText}
 use Rattle.tdf_exec.proofs.starting.runners_of.Goals as goal
 
 pub first_runners-requires-clause-modules : goal.first_runners-requires-clause-modules
 first_runners-requires-clause-modules c =
-    of_modules c.args.flat.now (c.law_laid.ensures.laid c.args.flat.now c.requires.sound) c.args.cluster c.in_ok-wires.wires.items c.in_ok-wires.ensures
+    let flat = c.args.flat.now in
+    let has : HasLayoutOf flat c.args.cluster (the_view c.layout.inside) = subst (HasLayoutOf flat c.args.cluster) (sym c.layout.view_is) c.requires.layout in
+    of_modules flat (c.law_laid.ensures.laid flat c.requires.sound) c.args.cluster c.layout.inside.wires.items has.wires
 
-pub give_all-requires : goal.give_all-requires
-give_all-requires c =
-    let laid = c.law_laid.ensures.laid c.args.flat.now c.requires.sound in
-    let few = modules_few c.args.flat.now.tables (is_wired c.args.flat.now laid.limits) in
-    let rows = c.in_ok-rows.ensures.long in let wires = c.in_ok-wires.ensures.long in let runners = c.in_ok-runners.ensures.1.long in
-    omega (arith, few, rows, wires, runners)
+pub give_all-requires-clause-many : goal.give_all-requires-clause-many
+give_all-requires-clause-many c =
+    let flat = c.args.flat.now in
+    let has : HasLayoutOf flat c.args.cluster (the_view c.layout.inside) = subst (HasLayoutOf flat c.args.cluster) (sym c.layout.view_is) c.requires.layout in
+    many flat (c.law_laid.ensures.laid flat c.requires.sound) (HoldsText flat true) c.args.cluster (the_view c.layout.inside) has c.in_ok-runners.ensures.0 c.in_ok-runners.runners.items c.in_ok-runners.ensures.1.first
+
+pub give_all-requires-clause-can : goal.give_all-requires-clause-can
+give_all-requires-clause-can c =
+    let flat = c.args.flat.now in
+    let has : HasLayoutOf flat c.args.cluster (the_view c.layout.inside) = subst (HasLayoutOf flat c.args.cluster) (sym c.layout.view_is) c.requires.layout in
+    can_take flat (c.law_laid.ensures.laid flat c.requires.sound) (HoldsText flat true) c.args.cluster (the_view c.layout.inside) has c.in_ok-runners.ensures.0 c.in_ok-runners.runners.items c.in_ok-runners.ensures.1.first
+
+pub returns-clause-runners : goal.returns-clause-runners
+returns-clause-runners c =
+    let flat = c.args.flat.now in
+    let has : HasLayoutOf flat c.args.cluster (the_view c.layout.inside) = subst (HasLayoutOf flat c.args.cluster) (sym c.layout.view_is) c.requires.layout in
+    runners_are flat (c.law_laid.ensures.laid flat c.requires.sound) (HoldsText flat true) c.args.cluster (the_view c.layout.inside) has c.in_ok-runners.ensures.0 c.in_ok-runners.runners.items c.in_ok-runners.ensures.1.first
+    c.args.attrs.now.rows c.give_all.new.rows.items c.give_all.new.runners.items c.give_all.ensures
+
+pub returns-clause-others : goal.returns-clause-others
+returns-clause-others c =
+    let flat = c.args.flat.now in
+    let has : HasLayoutOf flat c.args.cluster (the_view c.layout.inside) = subst (HasLayoutOf flat c.args.cluster) (sym c.layout.view_is) c.requires.layout in
+    subst (λ (l : LayoutOf). KeepsLayouts flat c.args.cluster l (the_view record { wires = c.first_runners.new.wires; traced = c.give_all.new.rows })) c.layout.view_is
+    (keeps flat (c.law_laid.ensures.laid flat c.requires.sound) (HoldsText flat true) c.args.cluster (the_view c.layout.inside) has c.in_ok-runners.ensures.0 c.in_ok-runners.runners.items c.in_ok-runners.ensures.1.first
+    c.args.attrs.now.rows c.give_all.new.rows.items c.give_all.new.runners.items c.give_all.ensures (the_view record { wires = c.first_runners.new.wires; traced = c.give_all.new.rows }) refl
+    c.in_ok-runners.ensures.1.same c.in_ok-runners.ensures.1.others)

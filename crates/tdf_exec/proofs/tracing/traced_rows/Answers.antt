@@ -15,5 +15,5 @@ loop-n-preserved c =
     let row = get_inside c.args.flat.now.tables.ports c.loop-n.n inside in
     let put = c.in_ok-put_port.ensures row.0 row.1 in
     let own = all_at (λ (x : PortRow). x.«module» < length c.args.flat.now.tables.modules) c.args.flat.now.tables.ports c.loop-n.n row.0 c.requires.modules row.1 in
-    subst (λ (l : List (List TracedPort)). AreTracedUpTo c.args.flat.now.tables c.args.attrs.now.rows (c.loop-n.n + 1) l) (sym put)
-    (traced_next c.args.flat.now.tables c.args.attrs.now.rows c.loop-n.n row.0 row.1 c.loop-n.rows.items c.loop-n.invariant own)
+    subst (λ (l : List (List TracedPort)). AreTracedUpTo c.args.flat.now.tables (c.loop-n.n + 1) l) (sym put)
+    (traced_next c.args.flat.now.tables c.loop-n.n row.0 row.1 c.loop-n.rows.items c.loop-n.invariant own)

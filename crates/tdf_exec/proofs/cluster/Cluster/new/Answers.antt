@@ -1,9 +1,13 @@
+use Rattle.tdf_exec.proofs.Formed.{first_rows}
 use Rattle.tdf_exec.proofs.Kept.{is_made, stands}
 use Rattle.tdf_exec.proofs.Planned.{has, text_first}
 use Rattle.tdf_exec.proofs.cluster.Cluster.new.Goals as goal
 
 pub first_parts-requires-clause-plan : goal.first_parts-requires-clause-plan
 first_parts-requires-clause-plan c = text_first c.args.flat.now c.args.cluster c.args.first (c.law_laid.ensures.laid c.args.flat.now c.requires.sound).limits c.requires.plan
+
+pub first_parts-requires-clause-once : goal.first_parts-requires-clause-once
+first_parts-requires-clause-once c = (first_rows c.args.flat.now c.args.cluster c.args.first (c.law_laid.ensures.laid c.args.flat.now c.requires.sound) c.requires.plan).once
 
 pub invariant_of-result : goal.invariant_of-result
 invariant_of-result c =

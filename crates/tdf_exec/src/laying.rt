@@ -1,0 +1,48 @@
+//! What the actors of a model need at a start, laid out once for all clusters.
+
+use crate::tracing::TracedPorts;
+use std::marker::Model;
+use tdf_exec_layout::ActorWires;
+
+/// What the actors of a model need at a start: their edges, by actor, and the ports whose signals are traced, by module. Each
+/// cluster takes what is its own.
+#[derive(Drop)]
+pub struct Layout {
+    pub(crate) wires: Vec<ActorWires>,
+    pub(crate) traced: Vec<TracedPorts>,
+}
+
+impl Model for Layout {
+    ghost use Rattle.tdf_exec.specs.Layout.{LayoutOf};
+
+    ghost Value = { LayoutOf };
+
+    ghost view = { λ a. record { wires = a.wires.items; traced = a.traced.items } };
+}
+
+ghost use Rattle.std.specs.Prelude.{ℕ, IfOk};
+ghost use Rattle.tdf_exec.specs.Layout.{HasLayoutOf};
+ghost use Rattle.tdf_exec.specs.Starts.{IsSoundFlat};
+
+use crate::starting::law_laid;
+use crate::tracing::traced_rows;
+use std::alloc::Global;
+use tdf_base::Memory;
+use tdf_bind::Flat;
+use tdf_exec_layout::all_wires;
+
+impl Layout {
+    /// What the actors of a flat model need, by one look at each edge and at each port; nothing is taken.
+    ///
+    /// # Errors
+    /// Out of memory.
+    pub fn new(alloc: Global, flat: &Flat) -> Result<Layout, Memory>
+        requires sound { IsSoundFlat flat.now }
+        ensures { IfOk result (λ layout. (cluster : ℕ) → HasLayoutOf flat.now cluster layout) }
+    {
+        law_laid();
+        let traced = traced_rows(alloc, flat)?;
+        let wires = all_wires(alloc, &flat.tables)?;
+        Ok(Layout { wires, traced })
+    }
+}
