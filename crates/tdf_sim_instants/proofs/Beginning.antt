@@ -14,11 +14,11 @@ use Rattle.tdf_sim_instants.specs.Engine.{AreInProgress, AreRoomy, HaveRooms, Is
 use Rattle.tdf_sim_instants.specs.Making.{HavePlans}
 use Rattle.tdf_sim_instants.specs.Settling.{IsBefore}
 use Rattle.tdf_sim_instants.specs.declared.engine.Engine.{Engine}
-use Rattle.tdf_sim_instants.specs.machine.Making.{AreGivenUpTo, AreLinkedUpTo}
+use Rattle.tdf_sim_instants.specs.machine.Making.{AreGivenUpTo, AreLinkedUpTo, HaveBegunWith}
 use Rattle.tdf_events.proofs.Api.{none_at_start, none_pending_before}
 use Rattle.tdf_events.specs.Kernel.{IsKernelOf, KernelOf, side_of}
 use Rattle.tdf_events.specs.Side.{start_side}
-use Rattle.tdf_sim_refinement.specs.Below.{ClusterOf, IsMostOf, Runner, sent_size, size_due, traced_size}
+use Rattle.tdf_sim_refinement.specs.Below.{ClusterOf, HasLayoutOf, IsMostOf, KeepsLayouts, LayoutOf, Runner, sent_size, size_due, traced_size}
 use Rattle.tdf_bind.specs.declared.model.Flat.{Flat}
 use Rattle.tdf_streams.proofs.Api.{none_some, some_same}
 use Rattle.tdf_bind_invariants.specs.Limits.{AreWithinLimits}
@@ -60,6 +60,20 @@ begun_more flat firsts cs n first c begun many here = record {
     by_case m f d (inr one) (inr other) =
         let e : n ≡ m = many ∙ sym other.0 in
         subst (λ k. HasBegun flat (k + 1) f d) e (subst (λ x. HasBegun flat (n + 1) x d) one.1 (subst (λ x. HasBegun flat (n + 1) first x) other.1 here))
+
+begun_none : (flat : Flat) → HaveBegun flat [] []
+begun_none flat = record { same = refl; each = λ m f d f_at d_at. none_some f f_at }
+
+pub none_begun : (flat : Flat) (cs : List ClusterOf) (layout : LayoutOf) → cs ≡ [] → ((n : ℕ) → HasLayoutOf flat n layout) → HaveBegunWith flat [] cs layout
+none_begun flat cs layout none has = record { begun = subst (HaveBegun flat []) (sym none) (begun_none flat); left = λ n above. has n }
+
+pub begun_with : (flat : Flat) (firsts : List First) (cs : List ClusterOf) (old new : LayoutOf) (n : ℕ) (first : First) (c : ClusterOf) → HaveBegunWith flat firsts cs old → n ≡ length cs
+    → HasBegun flat (n + 1) first c → KeepsLayouts flat (n + 1) old new → HaveBegunWith flat (firsts ++ first ∷ []) (cs ++ c ∷ []) new
+begun_with flat firsts cs old new n first c have many here keeps = record {
+  begun = begun_more flat firsts cs n first c have.begun many here;
+  left = λ k above. (let l = length_push cs c in
+      keeps k (λ e. absurd (omega (arith, above, l, many, e))) (have.left k (omega (arith, above, l))));
+}
 
 pub linked_more : (tables : FlatTablesOf) (n : ℕ) (links : List Links) (own : Links) → AreLinkedUpTo tables n links → AreSamplerLinks tables (n + 1) own.list.items → AreLinkedUpTo tables (n + 1) (links ++ own ∷ [])
 linked_more tables n links own linked here = record {

@@ -1,6 +1,6 @@
 //! All that runs of a model, before its first instant.
 
-ghost use Rattle.std.specs.Prelude.{◌≡◌, ◌+◌, [], IfOk, length, replicate};
+ghost use Rattle.std.specs.Prelude.{◌≡◌, ◌+◌, ℕ, [], IfOk, OnOk, length, replicate};
 ghost use Rattle.tdf_convert.specs.Links.{samplers_in};
 ghost use Rattle.tdf_dynamic_first.specs.First.{IsFirstPlan};
 ghost use Rattle.tdf_sim_instants.specs.Engine.{AreInProgress, AreRoomy, HaveRooms, IsEngineOf, IsReadyAt};
@@ -9,7 +9,7 @@ ghost use Rattle.tdf_sim_instants.specs.machine.Making.{AreGivenUpTo, AreLinkedU
 ghost use Rattle.tdf_events.specs.Kernel.{IsKernelOf, side_of};
 ghost use Rattle.tdf_events.specs.Runnable.{IsRunnable};
 ghost use Rattle.tdf_events.specs.Side.{start_side};
-ghost use Rattle.tdf_sim_refinement.specs.Below.{IsSoundFlat, sent_size, traced_size};
+ghost use Rattle.tdf_sim_refinement.specs.Below.{HasLayoutOf, IsSoundFlat, KeepsLayouts, sent_size, traced_size};
 ghost use Rattle.tdf_sim_refinement.specs.Linked.{AreSinkLinks, HaveEventPorts};
 ghost use Rattle.tdf_sim_refinement.specs.Begun.{HasBegun, HaveBegun};
 
@@ -21,7 +21,7 @@ use tdf_bind_invariants::law_limits;
 use tdf_convert::{Inputs, Links, Outputs, Writes};
 use tdf_dynamic_first::First;
 use tdf_events::Kernel;
-use tdf_sim_refinement::{Cluster, Room, law_ports, sampler_links, sink_links};
+use tdf_sim_refinement::{Cluster, Layout, Room, law_ports, sampler_links, sink_links};
 
 /// A sum, if it has 32 bits.
 fn sum(a: u32, b: u32) -> Result<u32, Memory>
@@ -42,14 +42,22 @@ fn both(a: Room, b: Room) -> Result<Room, Memory>
     Ok(Room { sent, traced })
 }
 
-/// The cluster at a place, at the start of its first period.
-fn cluster_at(alloc: Global, flat: &Flat, place: usize, first: First) -> Result<Cluster, Memory>
+/// The cluster at a place, at the start of its first period; it takes what is laid out for it.
+fn cluster_at(
+    alloc: Global,
+    flat: &Flat,
+    place: usize,
+    first: First,
+    layout: &mut Layout,
+) -> Result<Cluster, Memory>
     requires sound { IsSoundFlat flat.now }
     requires plan { IsFirstPlan flat.now (place + 1) first }
-    ensures { IfOk result (λ c. HasBegun flat.now (place + 1) first c) }
+    requires layout { HasLayoutOf flat.now (place + 1) layout.old }
+    ensures begun { IfOk result (λ c. HasBegun flat.now (place + 1) first c) }
+    ensures others { OnOk result (KeepsLayouts flat.now (place + 1) layout.old layout.new) }
 {
     match cluster_number(place) {
-        Ok(number) => Cluster::new(alloc, flat, number, first),
+        Ok(number) => Cluster::new(alloc, flat, number, first, layout),
         Err(failed) => {
             drop(first);
             Err(failed)
@@ -57,18 +65,42 @@ fn cluster_at(alloc: Global, flat: &Flat, place: usize, first: First) -> Result<
     }
 }
 
-/// All clusters at the start of their first periods, in order of number.
+/// All clusters at the start of their first periods, in order of number; each takes what is laid out for it.
+fn clusters_with(
+    alloc: Global,
+    flat: &Flat,
+    firsts: Vec<First>,
+    layout: &mut Layout,
+) -> Result<Vec<Cluster>, Memory>
+    requires sound { IsSoundFlat flat.now }
+    requires plans { HavePlans flat.now firsts.items }
+    requires layout { (cluster : ℕ) → HasLayoutOf flat.now cluster layout.old }
+    ensures { IfOk result (λ clusters. HaveBegun flat.now firsts.items clusters.items) }
+{
+    let mut clusters = Vec::new(alloc);
+    for first in firsts {
+        let cluster = cluster_at(alloc, flat, clusters.len(), first, layout)?;
+        clusters.push(cluster)?;
+    }
+    Ok(clusters)
+}
+
+/// All clusters at the start of their first periods: what their actors need is laid out once.
 fn first_clusters(alloc: Global, flat: &Flat, firsts: Vec<First>) -> Result<Vec<Cluster>, Memory>
     requires sound { IsSoundFlat flat.now }
     requires plans { HavePlans flat.now firsts.items }
     ensures { IfOk result (λ clusters. HaveBegun flat.now firsts.items clusters.items) }
 {
-    let mut clusters = Vec::new(alloc);
-    for first in firsts {
-        let cluster = cluster_at(alloc, flat, clusters.len(), first)?;
-        clusters.push(cluster)?;
+    match Layout::new(alloc, flat) {
+        Ok(laid) => {
+            let mut layout = laid;
+            clusters_with(alloc, flat, firsts, &mut layout)
+        }
+        Err(failed) => {
+            drop(firsts);
+            Err(failed)
+        }
     }
-    Ok(clusters)
 }
 
 /// The links of the samplers of the first `count` clusters.

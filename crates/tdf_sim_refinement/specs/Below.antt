@@ -6,6 +6,7 @@ pub use Rattle.tdf_exec.specs.Crossing.{AreCellsOf, CanInstall, HasBegunPeriod, 
 pub use Rattle.tdf_exec.specs.Gained.{IsSentOf, SampleHasFewPlaces, sent_size, traced_size}
 unfoldable pub use Rattle.tdf_exec.specs.Gained.{size_due}
 pub use Rattle.tdf_exec.specs.Laws.{RoomIsForOwn}
+pub use Rattle.tdf_exec.specs.Layout.{HasLayoutOf, KeepsLayouts, LayoutOf}
 pub use Rattle.tdf_exec.specs.Made.{HasRows, IsClusterOf}
 pub use Rattle.tdf_exec.specs.Played.{AreDone, AreInputsFor, IsMoved, IsPeriodOf, play_of, runner_cells, turns_from}
 pub use Rattle.tdf_exec.specs.Restored.{IsAtState, IsStateStart, StandsAtState}
