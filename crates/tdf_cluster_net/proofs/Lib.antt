@@ -3,6 +3,7 @@ pub mod Bounds
 pub mod Counts
 pub mod Edges
 pub mod Faults
+pub mod Grouped
 pub mod Joined
 pub mod Keys
 pub mod Making
