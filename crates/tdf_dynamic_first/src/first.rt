@@ -14,7 +14,8 @@ use crate::laws::law_one_plan;
 use crate::table::first_table;
 use std::alloc::Global;
 use tdf_bind::Flat;
-use tdf_dynamic_plans::{Attrs, ChangeErr, table_plan};
+use tdf_cluster_plans::table_plan;
+use tdf_dynamic_plans::{Attrs, ChangeErr};
 use tdf_schedule::Plan;
 
 /// The first attributes of a cluster and the plan under them.

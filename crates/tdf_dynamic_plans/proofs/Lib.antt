@@ -4,10 +4,7 @@ pub mod Excludes
 pub mod Keeping
 pub mod Keys
 pub mod Nets
-pub mod Ones
-pub mod OwnCounts
-pub mod OwnNets
-pub mod OwnPlans
 pub mod Periods
 pub mod Phases
 pub mod Placing
+pub mod RatedEdges

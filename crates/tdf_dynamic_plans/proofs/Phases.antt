@@ -10,11 +10,10 @@ use Rattle.tdf_base.specs.Limits.{most_samples}
 use Rattle.tdf_bind_tables.specs.FlatTables.{FlatTablesOf}
 use Rattle.tdf_dynamic_plans.specs.Assignments.{assignments}
 use Rattle.tdf_dynamic_plans.specs.Attributes.{AttrsOf, clusters_of}
-use Rattle.tdf_dynamic_plans.specs.Faults.{balance_fault, IsCountsFault, step_fault, IsPeriodFault, HasCountsOf, HasTiming, IsStepsFault, OfCounts, OfPeriod, pace_in, samples_in, IsPlanErr, plan_fault, IsPlanFault, IsPlanOf, IsNetFault, OfTiming, OfPlan, IsRefusal}
+use Rattle.tdf_dynamic_plans.specs.Faults.{balance_fault, IsCountsFault, step_fault, IsPeriodFault, HasCountsOf, HasTiming, IsStepsFault, OfCounts, OfPeriod, pace_in, samples_in, IsPlanErr, plan_fault, IsPlanFault, IsPlanOf, IsNetFault, OfTiming, OfPlan, IsRefusal, IsToldFault}
 use Rattle.tdf_dynamic_plans.specs.Rates.{NetOf}
 use Rattle.tdf_dynamic_plans.specs.declared.err.ChangeErr.{ChangeErr}
 use Rattle.tdf_dynamic_plans.specs.declared.err.ChangeErr.TheVariants.{Refused, Memory}
-use Rattle.tdf_dynamic_plans.specs.machine.Told.{IsTold}
 use Rattle.tdf_schedule.specs.Plan.{IsDeadlock, IsNoncausal, HasPlan}
 use Rattle.tdf_schedule.specs.declared.entry.Plan.{Plan}
 use Rattle.tdf_schedule.specs.declared.err.PlanErr.{PlanErr}
@@ -39,7 +38,7 @@ Counted = Result (Vec ℕ Global) BalanceErr
 
 module _ (tables : FlatTablesOf) (net : NetOf) (clusters : List ℕ) (cluster : ℕ) (table : List AttrsOf) (own : clusters ≡ clusters_of tables) (e : Counted)
     (rates : (k : ℕ) → e ≡ Err (balance.Rates k) → IsRatesFault net.edges clusters cluster k) (size : e ≡ Err balance.TooLarge → IsSizeFault net.edges clusters cluster) where
-  pub counts_refused : (why : BalanceErr) (told : ChangeErr) → e ≡ Err why → IsTold (balance_fault tables table why) told → IsRefusal (IsCountsFault tables net cluster table) told
+  pub counts_refused : (why : BalanceErr) (told : ChangeErr) → e ≡ Err why → IsToldFault (balance_fault tables table why) told → IsRefusal (IsCountsFault tables net cluster table) told
   counts_refused why Memory is told = tt
   counts_refused (balance.Rates k) (Refused fault) is told = record { why = balance.Rates k; is = subst (λ cs. IsRatesFault net.edges cs cluster k) own (rates k is); told = told }
   counts_refused balance.TooLarge (Refused fault) is told = record { why = balance.TooLarge; is = subst (λ cs. IsSizeFault net.edges cs cluster) own (size is); told = told }
@@ -54,7 +53,7 @@ module _ (tables : FlatTablesOf) (net : NetOf) (table : List AttrsOf) (counts : 
     (disagree : (a b : ℕ) → (e ≡ Err (timing.Disagree a b)) ↔ IsDisagreed net.ports counts (assignments table) a b)
     (too_long : (e ≡ Err timing.TooLong) ↔ IsTooLong net.ports counts (assignments table))
     (inexact : (s : Spot) → (e ≡ Err (timing.Inexact s.actor s.port)) ↔ IsInexact net.ports counts (assignments table) s) where
-  pub steps_refused : (why : StepErr) (told : ChangeErr) → e ≡ Err why → IsTold (step_fault tables table why) told → IsRefusal (IsPeriodFault tables net table counts) told
+  pub steps_refused : (why : StepErr) (told : ChangeErr) → e ≡ Err why → IsToldFault (step_fault tables table why) told → IsRefusal (IsPeriodFault tables net table counts) told
   steps_refused why Memory is told = tt
   steps_refused timing.NoTimestep (Refused fault) is told = record { why = timing.NoTimestep; is = none.0 is; told = told }
   steps_refused (timing.Disagree a b) (Refused fault) is told = record { why = timing.Disagree a b; is = (disagree a b).0 is; told = told }
@@ -67,7 +66,7 @@ pub steps_refused_of : (tables : FlatTablesOf) (net : NetOf) (table : List Attrs
     → ((a b : ℕ) → (e ≡ Err (timing.Disagree a b)) ↔ IsDisagreed net.ports counts assigned a b)
     → ((e ≡ Err timing.TooLong) ↔ IsTooLong net.ports counts assigned)
     → ((s : Spot) → (e ≡ Err (timing.Inexact s.actor s.port)) ↔ IsInexact net.ports counts assigned s)
-    → (why : StepErr) (told : ChangeErr) → e ≡ Err why → IsTold (step_fault tables table why) told → IsRefusal (IsPeriodFault tables net table counts) told
+    → (why : StepErr) (told : ChangeErr) → e ≡ Err why → IsToldFault (step_fault tables table why) told → IsRefusal (IsPeriodFault tables net table counts) told
 steps_refused_of tables net table counts assigned are e none disagree too_long inexact = steps_refused tables net table counts e
     (subst (λ xs. (e ≡ Err timing.NoTimestep) ↔ (xs ≡ [])) are none)
     (λ a b. subst (λ xs. (e ≡ Err (timing.Disagree a b)) ↔ IsDisagreed net.ports counts xs a b) are (disagree a b))
@@ -103,7 +102,7 @@ module _ (tables : FlatTablesOf) (net : NetOf) (table : List AttrsOf) (counts : 
 
   pub plan_refused : ((m : ℕ) → e ≡ Err (planning.Deadlock m) → IsDeadlock net.edges (pace_in net steps) counts m)
       → ((m a : ℕ) → e ≡ Err (planning.Noncausal m a) → IsNoncausal net.edges net.actors (pace_in net steps) counts m a)
-      → (why : PlanErr) (told : ChangeErr) → e ≡ Err why → IsTold (plan_fault tables table why) told → IsRefusal (IsPlanFault tables net table counts steps) told
+      → (why : PlanErr) (told : ChangeErr) → e ≡ Err why → IsToldFault (plan_fault tables table why) told → IsRefusal (IsPlanFault tables net table counts steps) told
   plan_refused dead late why Memory is told = tt
   plan_refused dead late planning.TooLarge (Refused fault) is told = record { why = planning.TooLarge; is = large.0 is; told = told }
   plan_refused dead late (planning.Deadlock m) (Refused fault) is told =
@@ -136,7 +135,7 @@ module _ (tables : FlatTablesOf) (net : NetOf) (table : List AttrsOf) (counts th
     (large : (e ≡ Err planning.TooLarge) ↔ (most_samples < samples_in net there)) where
   pub plan_refused_of : ((m : ℕ) → e ≡ Err (planning.Deadlock m) → IsDeadlock net.edges (pace_in net steps) there m)
       → ((m a : ℕ) → e ≡ Err (planning.Noncausal m a) → IsNoncausal net.edges net.actors (pace_in net steps) there m a)
-      → (why : PlanErr) (told : ChangeErr) → e ≡ Err why → IsTold (plan_fault tables table why) told → IsRefusal (IsPlanFault tables net table counts steps) told
+      → (why : PlanErr) (told : ChangeErr) → e ≡ Err why → IsToldFault (plan_fault tables table why) told → IsRefusal (IsPlanFault tables net table counts steps) told
   plan_refused_of dead late why told is h = subst (λ c. IsRefusal (IsPlanFault tables net table c steps) told) same (plan_refused tables net table there steps e large dead late why told is h)
 
   pub plan_good_of : (plan : Plan) → e ≡ Ok plan

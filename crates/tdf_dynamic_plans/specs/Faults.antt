@@ -49,6 +49,11 @@ abbrev pub IsRefusal : (Fault → Type 0) → ChangeErr → Type 0
 IsRefusal P (Refused fault) = P fault
 IsRefusal P Memory = Unit {0}
 
+-- a refusal is the fault that is told; want of memory is free
+abbrev pub IsToldFault : Option Fault → ChangeErr → Type 0
+IsToldFault told (Refused fault) = told ≡ Some fault
+IsToldFault told Memory = Unit {0}
+
 -- why a cluster has no counts, and how that is told
 abbrev pub IsBalanceErr : NetOf → (clusters : List ℕ) (cluster : ℕ) → BalanceErr → Type 0
 IsBalanceErr net clusters cluster (balance.Rates k) = IsRatesFault net.edges clusters cluster k

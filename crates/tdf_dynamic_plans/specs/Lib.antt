@@ -2,7 +2,6 @@ pub mod Assignments
 pub mod Attributes
 pub mod Faults
 pub mod Known
-pub mod Own
 pub mod Rates
 pub mod Same
 pub mod machine

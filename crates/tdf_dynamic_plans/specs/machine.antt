@@ -1,4 +1,3 @@
 -- How the code of this crate works.
 pub mod Placing
 pub mod Rated
-pub mod Told

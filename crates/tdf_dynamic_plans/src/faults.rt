@@ -6,8 +6,7 @@ ghost use Rattle.tdf_base.specs.declared.faults.Fault.{Fault};
 ghost use Rattle.tdf_base.specs.declared.faults.Place.TheVariants as place;
 ghost use Rattle.tdf_bind_tables.specs.Ranges.{AreInRange, module_path, port_path, actor_path, edge_path};
 ghost use Rattle.tdf_dynamic_plans.specs.Assignments.{assignments};
-ghost use Rattle.tdf_dynamic_plans.specs.Faults.{spot_path, assign_path, first_path, both_paths, fault_at, balance_fault, step_fault, plan_fault};
-ghost use Rattle.tdf_dynamic_plans.specs.machine.Told.{IsTold};
+ghost use Rattle.tdf_dynamic_plans.specs.Faults.{spot_path, assign_path, first_path, both_paths, fault_at, balance_fault, step_fault, plan_fault, IsToldFault};
 
 use crate::attrs::ModuleAttrs;
 use crate::err::ChangeErr;
@@ -213,7 +212,7 @@ fn plan_fault(
 
 /// The refusal with a fault, where there is one and there was memory to tell it.
 fn refusal(told: Result<Option<Fault>, Memory>) -> ChangeErr
-    ensures { (fault : Option Fault) → IfOk told (λ f. f ≡ fault) → IsTold fault result }
+    ensures { (fault : Option Fault) → IfOk told (λ f. f ≡ fault) → IsToldFault fault result }
 {
     match told {
         Ok(Some(fault)) => ChangeErr::Refused(fault),
@@ -223,20 +222,20 @@ fn refusal(told: Result<Option<Fault>, Memory>) -> ChangeErr
 }
 
 /// How want of counts is told.
-pub(crate) fn balance_error(
+pub fn balance_error(
     alloc: Global,
     tables: &FlatTables,
     table: &[ModuleAttrs],
     why: BalanceErr,
 ) -> ChangeErr
     requires { AreInRange tables.now }
-    ensures { IsTold (balance_fault tables.now table.now why) result }
+    ensures { IsToldFault (balance_fault tables.now table.now why) result }
 {
     refusal(balance_fault(alloc, tables, table, why))
 }
 
 /// How want of a period is told.
-pub(crate) fn step_error(
+pub fn step_error(
     alloc: Global,
     tables: &FlatTables,
     table: &[ModuleAttrs],
@@ -244,20 +243,20 @@ pub(crate) fn step_error(
     why: StepErr,
 ) -> ChangeErr
     requires { assigned.now ≡ assignments table.now }
-    ensures { IsTold (step_fault tables.now table.now why) result }
+    ensures { IsToldFault (step_fault tables.now table.now why) result }
 {
     refusal(step_fault(alloc, tables, table, assigned, why))
 }
 
 /// How want of a plan is told.
-pub(crate) fn plan_error(
+pub fn plan_error(
     alloc: Global,
     tables: &FlatTables,
     table: &[ModuleAttrs],
     why: PlanErr,
 ) -> ChangeErr
     requires { AreInRange tables.now }
-    ensures { IsTold (plan_fault tables.now table.now why) result }
+    ensures { IsToldFault (plan_fault tables.now table.now why) result }
 {
     refusal(plan_fault(alloc, tables, table, why))
 }

@@ -3,23 +3,20 @@
 ghost use Rattle.std.specs.Prelude.{◌≡◌, ◌<◌, ◌≤◌, ◌+◌, ◌-◌, ◌^◌, Err, IfErr, IfOk, IfSome, [], None, Ok, OnOk, Some, drop, false, if◌then◌else◌, length, min, slice_get, true, vec_len};
 ghost use Rattle.tdf_bind_tables.specs.Ranges.{AreInRange};
 ghost use Rattle.tdf_base.specs.declared.faults.Fault.{Fault as FaultOf};
-ghost use Rattle.tdf_dynamic_plans.specs.Faults.{HasTiming, IsPlanFault, IsPlanOf, IsRefusal};
+ghost use Rattle.tdf_dynamic_plans.specs.Faults.{IsPlanFault, IsPlanOf, IsRefusal};
 ghost use Rattle.tdf_dynamic_plans.specs.declared.err.ChangeErr.TheVariants.{Refused};
-ghost use Rattle.tdf_dynamic_plans.specs.Own.{IsNetOfCluster};
-ghost use Rattle.tdf_dynamic_plans.specs.Rates.{net_of, net_seen};
+ghost use Rattle.tdf_dynamic_plans.specs.Rates.{net_seen};
 ghost use Rattle.tdf_dynamic_plans.specs.Known.{HasKept, HasSameItems, IsKnown, IsKnownAt, IsShort, KnownOf as Known, table_key, row_key};
 ghost use Rattle.tdf_schedule.specs.Plan.{IsPaced};
 
 use crate::attrs::ModuleAttrs;
 use crate::err::ChangeErr;
-use crate::own_planning::own_plan_of;
 use crate::planning::plan_of;
 use crate::timing::Timing;
 use std::alloc::Global;
 use std::marker::Model;
 use tdf_base::Memory;
 use tdf_bind_tables::FlatTables;
-use tdf_cluster_net::ClusterNet;
 use tdf_graph::Net;
 use tdf_schedule::Plan;
 
@@ -287,14 +284,18 @@ impl KnownPlans {
     }
 
     /// Keeps a plan that was made, if it is short enough.
-    fn keep(
+    ///
+    /// # Errors
+    /// Out of memory.
+    pub fn keep(
         &mut self,
         alloc: Global,
         table: &[ModuleAttrs],
         timing: Timing,
         plan: &Plan,
     ) -> Result<(), Memory>
-        ensures kept { OnOk result (HasKept (table_key table.now) timing.counts.items timing.steps plan.now self.old self.new) }
+        ensures kept { OnOk result (HasKept (table_key table.now) timing.counts.items timing.steps
+            plan.now self.old self.new) }
         ensures made { OnOk result (self.new.made ≡ min (self.old.made + 1) (2 ^ 64 - 1)) }
         ensures most { self.new.most ≡ self.old.most }
     {
@@ -340,49 +341,6 @@ impl KnownPlans {
             → self.new ≡ self.old }
     {
         match plan_of(alloc, tables, net, table, &timing) {
-            Ok(plan) => match self.keep(alloc, table, timing, &plan) {
-                Ok(()) => Ok(plan),
-                Err(refused) => {
-                    drop(plan);
-                    Err(ChangeErr::from(refused))
-                }
-            },
-            Err(refused) => {
-                drop(timing);
-                Err(refused)
-            }
-        }
-    }
-
-    /// The same by the own net of the cluster.
-    ///
-    /// # Errors
-    /// The first fault of buffers, firings that wait for themselves, or sinks that are late; or out of memory.
-    pub(crate) fn make_own(
-        &mut self,
-        alloc: Global,
-        tables: &FlatTables,
-        own: &ClusterNet,
-        cluster: u32,
-        table: &[ModuleAttrs],
-        timing: Timing,
-    ) -> Result<Plan, ChangeErr>
-        requires in_range { AreInRange tables.now }
-        requires net { IsNetOfCluster tables.now cluster table.now own.now }
-        requires timing { HasTiming tables.now (net_of tables.now table.now) cluster table.now
-            timing.counts.items timing.steps }
-        ensures plan { IfOk result (IsPlanOf (net_of tables.now table.now) timing.counts.items
-            timing.steps) }
-        ensures refused { IfErr result (IsRefusal (IsPlanFault tables.now
-            (net_of tables.now table.now) table.now timing.counts.items timing.steps)) }
-        ensures kept { IfOk result (λ plan. HasKept (table_key table.now) timing.counts.items
-            timing.steps plan self.old self.new) }
-        ensures made { OnOk result (self.new.made ≡ min (self.old.made + 1) (2 ^ 64 - 1)) }
-        ensures most { self.new.most ≡ self.old.most }
-        ensures unplanned { (fault : FaultOf) → result ≡ Err (Refused fault)
-            → self.new ≡ self.old }
-    {
-        match own_plan_of(alloc, tables, own, cluster, table, &timing) {
             Ok(plan) => match self.keep(alloc, table, timing, &plan) {
                 Ok(()) => Ok(plan),
                 Err(refused) => {

@@ -272,7 +272,7 @@ fn rates_by(kind: Option<PortKind>, own: u32, driven: u32) -> Rates
 }
 
 /// The rates of an edge. Where both ports have the rate 1, as those of modules that are not in the table, the word isn't asked.
-#[tactic(auto, using(crate::proofs::Ones::ones))]
+#[tactic(auto, using(crate::proofs::RatedEdges::ones))]
 fn rates_of(rows: &[PortRow], edge: &EdgeRow, own: u32, driven: u32) -> Rates
     ensures read { (ports : List PortOf)
         → rate_at_port ports (Some edge.now.port) ≡ own
@@ -441,7 +441,10 @@ fn set_placed_rates(
 }
 
 /// So many times the rate 1.
-pub(crate) fn ones(alloc: Global, count: usize) -> Result<Vec<u32>, Memory>
+///
+/// # Errors
+/// Out of memory.
+pub fn ones(alloc: Global, count: usize) -> Result<Vec<u32>, Memory>
     ensures { IfOk result (λ rates. rates.items ≡ replicate count 1) }
 {
     Ok(vec![in alloc; 1; count]?)

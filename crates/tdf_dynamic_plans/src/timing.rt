@@ -10,7 +10,7 @@ ghost use Rattle.tdf_bind_tables.specs.Ranges.{AreInRange};
 ghost use Rattle.tdf_graph.specs.Clusters.{AreClusters};
 ghost use Rattle.tdf_timestep.specs.Period.{IsAssigned};
 
-use crate::assignments::assignments;
+use crate::assigning::assignments;
 use crate::attrs::ModuleAttrs;
 use crate::err::ChangeErr;
 use crate::faults::{balance_error, step_error};

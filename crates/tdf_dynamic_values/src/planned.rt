@@ -14,8 +14,9 @@ ghost use Rattle.tdf_streams.specs.Periods.{AreAttributes};
 use std::alloc::Global;
 use tdf_balance::law_counts;
 use tdf_bind::Flat;
+use tdf_cluster_plans::table_plan;
 use tdf_dynamic_first::First;
-use tdf_dynamic_plans::{Attrs, ChangeErr, table_plan};
+use tdf_dynamic_plans::{Attrs, ChangeErr};
 
 /// A table of attributes of a cluster, with the plan under it. One that is known is not made again.
 ///

@@ -4,7 +4,7 @@ use Rattle.std.proofs.lemmas.Simd.{map-map}
 use Rattle.tdf_bind_connections.specs.declared.edges.EdgeRow.{EdgeRow}
 use Rattle.tdf_bind_tables.specs.FlatTables.{FlatTablesOf}
 use Rattle.tdf_dynamic_plans.specs.Rates.{net_of, net_ports, rated_edge}
-use Rattle.tdf_dynamic_plans.proofs.Ones.{set_next}
+use Rattle.tdf_dynamic_plans.proofs.RatedEdges.{set_next}
 use Rattle.tdf_graph.specs.declared.actors.Edge.{Edge}
 use Rattle.tdf_dynamic_plans.proofs.rates.set_edge_rates.Goals as goal
 

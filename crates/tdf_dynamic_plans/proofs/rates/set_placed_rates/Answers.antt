@@ -3,7 +3,7 @@ use Rattle.std.proofs.lemmas.List.{length-set}
 use Rattle.std.proofs.lemmas.Simd.{map-map}
 use Rattle.tdf_bind_connections.specs.declared.edges.EdgeRow.{EdgeRow}
 use Rattle.tdf_dynamic_plans.specs.Rates.{rated_edge, rated_port}
-use Rattle.tdf_dynamic_plans.proofs.Ones.{set_all, set_rates}
+use Rattle.tdf_dynamic_plans.proofs.RatedEdges.{set_all, set_rates}
 use Rattle.tdf_graph.specs.declared.actors.Edge.{Edge}
 use Rattle.tdf_dynamic_plans.proofs.rates.set_placed_rates.Goals as goal
 

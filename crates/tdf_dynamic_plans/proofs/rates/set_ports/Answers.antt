@@ -1,6 +1,6 @@
 use Rattle.std.proofs.Common.{◌≤◌, length, arith}
 use Rattle.tdf_dynamic_plans.specs.Rates.{rated_port}
-use Rattle.tdf_dynamic_plans.proofs.Ones.{set_all}
+use Rattle.tdf_dynamic_plans.proofs.RatedEdges.{set_all}
 use Rattle.tdf_dynamic_plans.proofs.rates.set_ports.Goals as goal
 
 pub returns : goal.returns

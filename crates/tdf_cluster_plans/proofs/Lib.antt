@@ -1,0 +1,3 @@
+pub mod OwnCounts
+pub mod OwnNets
+pub mod OwnPlans

@@ -1,0 +1,12 @@
+//! The plan of one cluster under a table of attributes, over the net that is the cluster's own.
+//!
+//! - `own_timing`: the first phase by the own net of the cluster, counts and steps.
+//! - `own_planning`: the second phase by it, the plan.
+//! - `plans`: the plan under a table, or the first fault.
+#![tactic(auto)]
+
+mod own_planning;
+mod own_timing;
+mod plans;
+
+pub use plans::table_plan;
