@@ -11,6 +11,7 @@ pub mod Numbering
 pub mod Picking
 pub mod Plans
 pub mod Ranks
+pub mod Renaming
 pub mod Samples
 pub mod Spread
 pub mod Valued

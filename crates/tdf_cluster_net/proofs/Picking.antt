@@ -13,17 +13,17 @@ use Rattle.tdf_graph.specs.declared.actors.Port.{Port}
 none_there : {X : Type 0} {x : X} → None ≡ Some x → ⊥
 none_there e = absurd cc
 
-in_front : {X : Type 0} (xs : List X) (y : X) (j : ℕ) → j < length xs → slice_get (xs ++ y ∷ []) j ≡ slice_get xs j
+pub in_front : {X : Type 0} (xs : List X) (y : X) (j : ℕ) → j < length xs → slice_get (xs ++ y ∷ []) j ≡ slice_get xs j
 in_front [] y j less = absurd (omega (arith, less))
 in_front (x ∷ xs) y zero less = refl
 in_front (x ∷ xs) y (suc j) less = in_front xs y j (omega (arith, less))
 
-at_end : {X : Type 0} (xs : List X) (y : X) → slice_get (xs ++ y ∷ []) (length xs) ≡ Some y
+pub at_end : {X : Type 0} (xs : List X) (y : X) → slice_get (xs ++ y ∷ []) (length xs) ≡ Some y
 at_end [] y = refl
 at_end (x ∷ xs) y = at_end xs y
 
 -- what stands at a place of a list with one thing more: one of those before it, or that one
-pushed : {X : Type 0} (P : ℕ → X → Type 0) (xs : List X) (y : X) → ((j : ℕ) (x : X) → slice_get xs j ≡ Some x → P j x) → P (length xs) y → (j : ℕ) (x : X) → slice_get (xs ++ y ∷ []) j ≡ Some x → P j x
+pub pushed : {X : Type 0} (P : ℕ → X → Type 0) (xs : List X) (y : X) → ((j : ℕ) (x : X) → slice_get xs j ≡ Some x → P j x) → P (length xs) y → (j : ℕ) (x : X) → slice_get (xs ++ y ∷ []) j ≡ Some x → P j x
 pushed {X} P xs y before last j x at = go (cases_lt j (length xs))
   where
     go : (j < length xs) ⊎ (length xs ≤ j) → P j x

@@ -61,7 +61,7 @@ fn picked_actors(alloc: Global, actors: &[Actor], numbers: &[u32]) -> Result<Vec
 }
 
 /// An edge of the cluster with numbers of its own.
-fn own_edge(numbers: &[u32], edge: &Edge) -> Edge
+pub(crate) fn own_edge(numbers: &[u32], edge: &Edge) -> Edge
     requires few { length numbers.now < 2 ^ 32 }
     requires writer { IsAmong numbers.now edge.now.writer }
     requires reader { IsAmong numbers.now edge.now.reader }
@@ -99,7 +99,7 @@ fn picked_edges(
 }
 
 /// A port of the cluster with the number of its own that its actor has.
-fn own_port(numbers: &[u32], port: &Port) -> Port
+pub(crate) fn own_port(numbers: &[u32], port: &Port) -> Port
     requires few { length numbers.now < 2 ^ 32 }
     requires actor { IsAmong numbers.now port.now.actor }
     ensures whole { whole_port numbers.now result ≡ port.now }

@@ -8,3 +8,4 @@ pub mod Periods
 pub mod Phases
 pub mod Placing
 pub mod RatedEdges
+pub mod Rising

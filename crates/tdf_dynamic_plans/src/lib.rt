@@ -5,6 +5,7 @@
 //! - `attrs`: the attributes of the modules of a cluster.
 //! - `clusters`: the clusters of the actors.
 //! - `rates`: the net with the rates that a table gives.
+//! - `single`: one port, and one edge, with their rates.
 //! - `assigning`: the timesteps that a table assigns.
 //! - `err`: why a cluster has no plan.
 //! - `faults`: how the faults of a cluster are told.
@@ -21,6 +22,7 @@ mod faults;
 mod known;
 mod planning;
 mod rates;
+mod single;
 mod timing;
 
 pub use assigning::assignments;
@@ -30,4 +32,5 @@ pub use err::ChangeErr;
 pub use faults::{balance_error, module_path, plan_error, step_error};
 pub use known::KnownPlans;
 pub use rates::{EdgeRates, edge_rates, net_of, ones, set_edge_rates};
+pub use single::{are_rising, edge_under, port_under};
 pub use timing::{Timing, steps_of};

@@ -43,7 +43,7 @@ fn times_value(rate: Rate, values: &[u32]) -> u32
 }
 
 /// The rate of a port, 1 for a port of a module that is not in the table.
-fn rate_in(table: &[ModuleAttrs], port: &PortRow) -> u32
+pub(crate) fn rate_in(table: &[ModuleAttrs], port: &PortRow) -> u32
     requires { IsRate (port_rate table.now port.now) }
     ensures { result ≡ port_rate table.now port.now }
 {
@@ -96,7 +96,7 @@ fn row_of(table: &[ModuleAttrs], module: u32) -> Option<usize>
 }
 
 /// The rate of a port, where each module has one row.
-fn rate_once(table: &[ModuleAttrs], port: &PortRow) -> u32
+pub(crate) fn rate_once(table: &[ModuleAttrs], port: &PortRow) -> u32
     requires rate { IsRate (port_rate table.now port.now) }
     requires once { RowsStandOnce table.now }
     ensures { result ≡ port_rate table.now port.now }
@@ -239,9 +239,9 @@ fn edge_kind(rows: &[PortRow], edge: &EdgeRow) -> Option<PortKind>
 
 /// The rates that an edge is read and written with.
 #[derive(Clone, Copy)]
-struct Rates {
-    read: u32,
-    write: u32,
+pub(crate) struct Rates {
+    pub(crate) read: u32,
+    pub(crate) write: u32,
 }
 
 /// The rates of an edge by the word of the port that gives it, the rate of that port and the rate of the port that drives it.
@@ -273,7 +273,7 @@ fn rates_by(kind: Option<PortKind>, own: u32, driven: u32) -> Rates
 
 /// The rates of an edge. Where both ports have the rate 1, as those of modules that are not in the table, the word isn't asked.
 #[tactic(auto, using(crate::proofs::RatedEdges::ones))]
-fn rates_of(rows: &[PortRow], edge: &EdgeRow, own: u32, driven: u32) -> Rates
+pub(crate) fn rates_of(rows: &[PortRow], edge: &EdgeRow, own: u32, driven: u32) -> Rates
     ensures read { (ports : List PortOf)
         → rate_at_port ports (Some edge.now.port) ≡ own
         → rate_at_port ports edge.now.driver ≡ driven
