@@ -1,12 +1,17 @@
 //! The plan of one cluster under a table of attributes, over the net that is the cluster's own.
 //!
+//! - `groups`: the things of a model by cluster.
+//! - `own_parts`: what is a cluster's own.
 //! - `own_timing`: the first phase by the own net of the cluster, counts and steps.
 //! - `own_planning`: the second phase by it, the plan.
 //! - `plans`: the plan under a table, or the first fault.
 #![tactic(auto)]
 
+mod groups;
+mod own_parts;
 mod own_planning;
 mod own_timing;
 mod plans;
 
+pub use groups::TableGroups;
 pub use plans::table_plan;

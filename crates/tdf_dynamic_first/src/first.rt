@@ -2,6 +2,7 @@
 
 ghost use Rattle.std.specs.Prelude.{◌≡◌, ◌⊎◌, Contains, Err, IfOk, IfErr, IsOk};
 ghost use Rattle.tdf_base.specs.declared.faults.Fault.{Fault};
+ghost use Rattle.tdf_cluster_plans.specs.Groups.{AreTableGroups};
 ghost use Rattle.tdf_dynamic_plans.specs.Attributes.{clusters_of};
 ghost use Rattle.tdf_dynamic_plans.specs.Faults.{IsRefusal};
 ghost use Rattle.tdf_dynamic_plans.specs.Known.{HasTablePlanned};
@@ -14,7 +15,7 @@ use crate::laws::law_one_plan;
 use crate::table::first_table;
 use std::alloc::Global;
 use tdf_bind::Flat;
-use tdf_cluster_plans::table_plan;
+use tdf_cluster_plans::{TableGroups, table_plan};
 use tdf_dynamic_plans::{Attrs, ChangeErr};
 use tdf_schedule::Plan;
 
@@ -27,13 +28,19 @@ pub struct First {
     pub plan: Plan,
 }
 
-/// The attributes of a cluster as the text says them, and the plan under them.
+/// The attributes of a cluster as the text says them, and the plan under them. The things of the model by cluster are given.
 ///
 /// # Errors
 /// The first fault of the cluster: of rates and counts, then of timesteps, then of buffers, then of firings that wait for
 /// themselves, then of sinks that are late. Or out of memory.
-pub fn first_plan(alloc: Global, flat: &Flat, cluster: u32) -> Result<First, ChangeErr>
+pub fn first_plan(
+    alloc: Global,
+    flat: &Flat,
+    groups: &TableGroups,
+    cluster: u32,
+) -> Result<First, ChangeErr>
     requires plannable { IsPlannable flat.now }
+    requires groups { AreTableGroups flat.now.tables groups.now }
     requires has { Contains (clusters_of flat.now.tables) cluster }
     ensures first { IfOk result (IsFirstPlan flat.now cluster) }
     ensures planned { IfOk result (λ first. HasTablePlanned flat.now.tables cluster
@@ -49,7 +56,14 @@ pub fn first_plan(alloc: Global, flat: &Flat, cluster: u32) -> Result<First, Cha
 {
     law_one_plan();
     let mut attrs = first_table(alloc, flat, cluster)?;
-    match table_plan(alloc, &flat.tables, cluster, &attrs.rows, &mut attrs.known) {
+    match table_plan(
+        alloc,
+        &flat.tables,
+        groups,
+        cluster,
+        &attrs.rows,
+        &mut attrs.known,
+    ) {
         Ok(plan) => Ok(First { attrs, plan }),
         Err(refused) => {
             drop(attrs);

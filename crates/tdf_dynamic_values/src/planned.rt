@@ -3,6 +3,7 @@
 ghost use Rattle.std.specs.Prelude.{◌≡◌, ◌⊎◌, Contains, Err, IfErr, IfOk, IsOk};
 ghost use Rattle.tdf_base.specs.declared.faults.Fault.{Fault};
 ghost use Rattle.tdf_streams.specs.Below.{AreWithinLimits};
+ghost use Rattle.tdf_cluster_plans.specs.Groups.{AreTableGroups};
 ghost use Rattle.tdf_dynamic_plans.specs.Attributes.{clusters_of};
 ghost use Rattle.tdf_dynamic_plans.specs.Faults.{IsRefusal, IsTableFault, IsTablePlan};
 ghost use Rattle.tdf_dynamic_plans.specs.Known.{AreTrueFor, HasTablePlanned};
@@ -14,11 +15,12 @@ ghost use Rattle.tdf_streams.specs.Periods.{AreAttributes};
 use std::alloc::Global;
 use tdf_balance::law_counts;
 use tdf_bind::Flat;
-use tdf_cluster_plans::table_plan;
+use tdf_cluster_plans::{TableGroups, table_plan};
 use tdf_dynamic_first::First;
 use tdf_dynamic_plans::{Attrs, ChangeErr};
 
-/// A table of attributes of a cluster, with the plan under it. One that is known is not made again.
+/// A table of attributes of a cluster, with the plan under it. One that is known is not made again. The things of the model by cluster
+/// are given.
 ///
 /// # Errors
 /// The first fault of the cluster under this table: of rates and counts, then of timesteps, then of buffers, then of firings
@@ -26,10 +28,12 @@ use tdf_dynamic_plans::{Attrs, ChangeErr};
 pub fn plan_of(
     alloc: Global,
     flat: &Flat,
+    groups: &TableGroups,
     mut attrs: Attrs,
     cluster: u32,
 ) -> Result<First, ChangeErr>
     requires limits { AreWithinLimits flat.now }
+    requires groups { AreTableGroups flat.now.tables groups.now }
     requires has { Contains (clusters_of flat.now.tables) cluster }
     requires attributes { AreAttributes flat.now cluster attrs.rows }
     requires known { AreTrueFor flat.now.tables cluster attrs.known.plans }
@@ -45,7 +49,14 @@ pub fn plan_of(
         → IsOk result ⊎ (result ≡ Err Memory) }
 {
     law_counts();
-    match table_plan(alloc, &flat.tables, cluster, &attrs.rows, &mut attrs.known) {
+    match table_plan(
+        alloc,
+        &flat.tables,
+        groups,
+        cluster,
+        &attrs.rows,
+        &mut attrs.known,
+    ) {
         Ok(plan) => Ok(First { attrs, plan }),
         Err(refused) => {
             drop(attrs);

@@ -17,6 +17,7 @@ use crate::values::from_values;
 use std::alloc::Global;
 use tdf_base::Memory as OutOfMemory;
 use tdf_bind::Flat;
+use tdf_cluster_plans::TableGroups;
 use tdf_dynamic_first::First;
 use tdf_dynamic_plans::ChangeErr;
 use tdf_saved::ModuleState;
@@ -80,9 +81,10 @@ pub fn plan_of_states(
         → IsTablePlan flat.now.tables cluster table plan → IsOk result ⊎ (result ≡ Err Memory) }
 {
     law_one_table();
+    let groups = TableGroups::of(alloc, &flat.tables, flat.cluster_count())?;
     let accepts = flags_of(alloc, modules)?;
     let rates = rates_of(alloc, modules)?;
     let steps = steps_of(alloc, modules)?;
     let attrs = from_values(alloc, flat, cluster, accepts, rates, steps)?;
-    plan_of(alloc, flat, attrs, cluster)
+    plan_of(alloc, flat, &groups, attrs, cluster)
 }

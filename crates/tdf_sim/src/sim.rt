@@ -3,6 +3,7 @@
 ghost use Rattle.std.specs.Prelude.{◌≡◌, ◌+◌, ◌<◌, ◌≤◌, ◌⊎◌, ◌++◌, ◌∷◌, [], Err, IfErr, IfOk, OnErr, OnOk, ℕ, length, map, slice_get, Some, take};
 ghost use Rattle.tdf_base.specs.declared.faults.Fault.{Fault};
 ghost use Rattle.tdf_bind_tables.specs.Ranges.{AreInRange};
+ghost use Rattle.tdf_cluster_plans.specs.Groups.{AreTableGroups};
 ghost use Rattle.tdf_dynamic_first.specs.First.{IsFirstPlan, IsPlannable};
 ghost use Rattle.tdf_sim.specs.Accepted.{ArePlans, IsPlansRefusal};
 ghost use Rattle.tdf_sim.specs.FirstFault.{IsPlansFault, cluster_count};
@@ -15,6 +16,7 @@ use crate::laws::law_plans_fault;
 use std::alloc::Global;
 use tdf_base::{Memory, Resolution};
 use tdf_bind::Flat;
+use tdf_cluster_plans::TableGroups;
 use tdf_dynamic_first::{First, first_plan, law_numbers};
 use tdf_dynamic_plans::ChangeErr;
 use tdf_dynamic_texts::{push_fires, push_plan};
@@ -32,14 +34,15 @@ pub struct Sim {
 ///
 /// # Errors
 /// Its first fault, or out of memory.
-fn plan_of(alloc: Global, flat: &Flat, cluster: u32) -> Result<First, SimErr>
+fn plan_of(alloc: Global, flat: &Flat, groups: &TableGroups, cluster: u32) -> Result<First, SimErr>
     requires plannable { IsPlannable flat.now }
+    requires groups { AreTableGroups flat.now.tables groups.now }
     requires cluster { (1 ≤ cluster) × (cluster ≤ cluster_count flat.now.tables) }
     ensures plan { IfOk result (IsFirstPlan flat.now cluster) }
     ensures refused { IfErr result (IsFirstRefusal flat.now cluster) }
 {
     law_numbers();
-    match first_plan(alloc, flat, cluster) {
+    match first_plan(alloc, flat, groups, cluster) {
         Ok(first) => Ok(first),
         Err(ChangeErr::Refused(fault)) => Err(SimErr::Refused(fault)),
         Err(ChangeErr::Memory) => Err(SimErr::Memory),
@@ -67,10 +70,12 @@ fn put(firsts: &mut Vec<First>, first: First) -> Result<(), SimErr>
 fn push_next(
     alloc: Global,
     flat: &Flat,
+    groups: &TableGroups,
     cluster: u32,
     firsts: &mut Vec<First>,
 ) -> Result<(), SimErr>
     requires plannable { IsPlannable flat.now }
+    requires groups { AreTableGroups flat.now.tables groups.now }
     requires within { cluster ≤ cluster_count flat.now.tables }
     requires next { length firsts.old.items + 1 ≡ cluster }
     requires plans { HavePlans flat.now firsts.old.items }
@@ -78,7 +83,7 @@ fn push_next(
     ensures plans { OnOk result (HavePlans flat.now firsts.new.items) }
     ensures refused { IfErr result (IsPlansRefusal flat.now) }
 {
-    match plan_of(alloc, flat, cluster) {
+    match plan_of(alloc, flat, groups, cluster) {
         Ok(first) => put(firsts, first),
         Err(error) => Err(error),
     }
@@ -93,9 +98,13 @@ fn plans_of(alloc: Global, flat: &Flat) -> Result<Vec<First>, SimErr>
     ensures plans { IfOk result (λ firsts. ArePlans flat.now firsts.items) }
     ensures refused { IfErr result (IsPlansRefusal flat.now) }
 {
+    let groups = match TableGroups::of(alloc, &flat.tables, flat.cluster_count()) {
+        Ok(groups) => groups,
+        Err(_) => return Err(SimErr::Memory),
+    };
     let mut firsts = Vec::new(alloc);
     for made in 0..flat.cluster_count() {
-        if let Err(error) = push_next(alloc, flat, made + 1, &mut firsts) {
+        if let Err(error) = push_next(alloc, flat, &groups, made + 1, &mut firsts) {
             drop(firsts);
             return Err(error);
         }

@@ -1,0 +1,6 @@
+use Rattle.std.proofs.Common.{◌≡◌, map, take}
+use Rattle.tdf_cluster_plans.specs.Groups.{port_cluster}
+use Rattle.tdf_cluster_plans.proofs.groups.port_clusters.Given as goal
+
+abbrev pub invariant-loop-i : goal.invariant-loop-i
+invariant-loop-i l = l.of.items ≡ map (port_cluster l.clusters) (take l.i l.ports)

@@ -1,0 +1,29 @@
+-- The things of a model by cluster.
+-- Source: own.
+use Rattle.std.specs.Prelude.{ℕ, ◌<◌, List, map, slice_index}
+use Rattle.tdf_bind_connections.specs.declared.edges.EdgeRow.{EdgeRow}
+use Rattle.tdf_bind_connections.specs.declared.modules.PortRow.{PortRow}
+use Rattle.tdf_bind_tables.specs.FlatTables.{FlatTablesOf}
+use Rattle.tdf_cluster_net.specs.Grouped.{AreGroups}
+use Rattle.tdf_dynamic_plans.specs.Attributes.{clusters_of}
+use Rattle.tdf_graph.specs.Clusters.{greatest}
+
+-- for each cluster the numbers of its actors, edges and ports
+pub record TableGroupsOf : Type 0 where
+  pub actors : List (List ℕ)
+  pub edges : List (List ℕ)
+  pub ports : List (List ℕ)
+
+-- the cluster of an edge is that of its writer, that of a port the one of its module
+abbrev pub edge_cluster : List ℕ → EdgeRow → ℕ
+edge_cluster clusters edge = slice_index clusters edge.writer
+
+abbrev pub port_cluster : List ℕ → PortRow → ℕ
+port_cluster clusters port = slice_index clusters port.«module»
+
+pub record AreTableGroups (tables : FlatTablesOf) (groups : TableGroupsOf) : Type 0 where
+  pub count : ℕ
+  pub all : greatest (clusters_of tables) < count
+  pub actors : AreGroups count (clusters_of tables) groups.actors
+  pub edges : AreGroups count (map (edge_cluster (clusters_of tables)) tables.edges) groups.edges
+  pub ports : AreGroups count (map (port_cluster (clusters_of tables)) tables.ports) groups.ports

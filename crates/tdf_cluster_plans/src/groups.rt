@@ -1,0 +1,108 @@
+//! The things of a model by cluster.
+
+use std::marker::Model;
+use tdf_cluster_net::Groups;
+
+/// For each cluster of a model the numbers of its actors, edges and ports.
+#[derive(Drop)]
+pub struct TableGroups {
+    actors: Groups,
+    edges: Groups,
+    ports: Groups,
+}
+
+impl Model for TableGroups {
+    ghost use Rattle.tdf_cluster_plans.specs.Groups.{TableGroupsOf};
+
+    ghost Value = { TableGroupsOf };
+
+    ghost view = { λ a. record { actors = a.actors; edges = a.edges; ports = a.ports } };
+}
+
+ghost use Rattle.std.specs.Prelude.{◌≡◌, ◌<◌, ◌≤◌, [], All, IfOk, length, map, slice_index_or};
+ghost use Rattle.tdf_cluster_plans.specs.Groups.{AreTableGroups, edge_cluster, port_cluster};
+ghost use Rattle.tdf_dynamic_plans.specs.Attributes.{clusters_of};
+ghost use Rattle.tdf_dynamic_plans.specs.Rates.{IsWired};
+ghost use Rattle.tdf_graph.specs.Clusters.{greatest};
+
+use std::alloc::Global;
+use tdf_base::{Memory, row_number};
+use tdf_bind_connections::{EdgeRow, PortRow};
+use tdf_bind_tables::FlatTables;
+use tdf_dynamic_plans::clusters_of;
+
+/// The clusters of edges.
+fn edge_clusters(alloc: Global, edges: &[EdgeRow], clusters: &[u32]) -> Result<Vec<u32>, Memory>
+    requires { All (λ edge. edge.writer < length clusters.now) edges.now }
+    ensures { IfOk result (λ of. of.items ≡ map (edge_cluster clusters.now) edges.now) }
+{
+    let mut of = Vec::with_capacity(alloc, edges.len())?;
+    for i in 0..edges.len() {
+        of.push(clusters[edges[i].writer as usize])?;
+    }
+    Ok(of)
+}
+
+/// The clusters of ports.
+fn port_clusters(alloc: Global, ports: &[PortRow], clusters: &[u32]) -> Result<Vec<u32>, Memory>
+    requires { All (λ port. port.«module» < length clusters.now) ports.now }
+    ensures { IfOk result (λ of. of.items ≡ map (port_cluster clusters.now) ports.now) }
+{
+    let mut of = Vec::with_capacity(alloc, ports.len())?;
+    for i in 0..ports.len() {
+        of.push(clusters[ports[i].module as usize])?;
+    }
+    Ok(of)
+}
+
+impl TableGroups {
+    /// The things of a model by cluster, of which there are `count`.
+    ///
+    /// # Errors
+    /// Out of memory.
+    pub fn of(alloc: Global, tables: &FlatTables, count: u32) -> Result<TableGroups, Memory>
+        requires wired { IsWired tables.now }
+        requires count { greatest (clusters_of tables.now) ≤ count }
+        ensures { IfOk result (AreTableGroups tables.now) }
+    {
+        row_number(tables.actors.len())?;
+        row_number(tables.edges.len())?;
+        row_number(tables.ports.len())?;
+        let count = count as usize + 1;
+        let clusters = clusters_of(alloc, tables)?;
+        let of_edges = edge_clusters(alloc, &tables.edges, &clusters)?;
+        let of_ports = port_clusters(alloc, &tables.ports, &clusters)?;
+        let actors = Groups::of(alloc, count, &clusters)?;
+        let edges = Groups::of(alloc, count, &of_edges)?;
+        let ports = Groups::of(alloc, count, &of_ports)?;
+        Ok(TableGroups {
+            actors,
+            edges,
+            ports,
+        })
+    }
+
+    /// The numbers of the actors of a cluster.
+    pub(crate) fn actors(&self, cluster: u32) -> &[u32]
+        requires { cluster < length self.now.actors }
+        ensures { result.now ≡ slice_index_or self.now.actors cluster [] }
+    {
+        self.actors.group(cluster)
+    }
+
+    /// The numbers of its edges.
+    pub(crate) fn edges(&self, cluster: u32) -> &[u32]
+        requires { cluster < length self.now.edges }
+        ensures { result.now ≡ slice_index_or self.now.edges cluster [] }
+    {
+        self.edges.group(cluster)
+    }
+
+    /// The numbers of its ports.
+    pub(crate) fn ports(&self, cluster: u32) -> &[u32]
+        requires { cluster < length self.now.ports }
+        ensures { result.now ≡ slice_index_or self.now.ports cluster [] }
+    {
+        self.ports.group(cluster)
+    }
+}
