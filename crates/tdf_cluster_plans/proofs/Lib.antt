@@ -1,4 +1,6 @@
+pub mod Api
 pub mod Clustering
+pub mod EdgeOnes
 pub mod OwnCounts
 pub mod OwnNets
 pub mod OwnPlans

@@ -14,7 +14,7 @@ use Rattle.tdf_cluster_net.proofs.Api.{edges_among, made_is_own, picked_one_more
 use Rattle.tdf_cluster_net.specs.Made.{ArePickedOf, IsEdgeAmong, IsMadeOf, IsPortAmong, PartsOf}
 use Rattle.tdf_cluster_net.specs.Numbers.{AllBelow, AreNumbers}
 use Rattle.tdf_cluster_net.specs.Own.{IsActorInCluster, IsEdgeInCluster, IsPortInCluster, OwnOf}
-use Rattle.tdf_cluster_plans.proofs.Clustering.{index_below}
+use Rattle.tdf_cluster_plans.proofs.Clustering.{in_count}
 use Rattle.tdf_cluster_plans.specs.Groups.{AreTableGroups, TableGroupsOf, edge_cluster, port_cluster}
 use Rattle.tdf_cluster_plans.specs.Own.{IsNetOfCluster}
 use Rattle.tdf_dynamic_plans.proofs.Api.{edges_are_fit, modules_few, ports_are_fit, rated_clusters}
@@ -69,7 +69,7 @@ module _ {A B : Type 0} (f : A → B) (g : A → ℕ) (h : B → ℕ) (same : (x
 
 module _ (tables : FlatTablesOf) (cluster : ℕ) (table : List AttrsOf) (groups : TableGroupsOf) (wired : IsWired tables) (has : Contains (clusters_of tables) cluster) (rates : AreRates tables table) (are : AreTableGroups tables groups) where
   pub in_groups : cluster < are.count
-  in_groups = subst (λ k. k < are.count) (sym (get_or_default (clusters_of tables) has.0 cluster 0 has.1) ∙ has.2) (index_below (clusters_of tables) are.count are.all has.0)
+  in_groups = in_count (clusters_of tables) cluster are.count has are.all
 
   abbrev actor_numbers : List ℕ
   actor_numbers = slice_index_or groups.actors cluster []

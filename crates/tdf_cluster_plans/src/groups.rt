@@ -3,12 +3,13 @@
 use std::marker::Model;
 use tdf_cluster_net::Groups;
 
-/// For each cluster of a model the numbers of its actors, edges and ports.
+/// For each cluster of a model the numbers of its actors, edges and ports; and for each actor those of its ports.
 #[derive(Drop)]
 pub struct TableGroups {
     actors: Groups,
     edges: Groups,
     ports: Groups,
+    actor_ports: Groups,
 }
 
 impl Model for TableGroups {
@@ -16,7 +17,7 @@ impl Model for TableGroups {
 
     ghost Value = { TableGroupsOf };
 
-    ghost view = { λ a. record { actors = a.actors; edges = a.edges; ports = a.ports } };
+    ghost view = { λ a. record { actors = a.actors; edges = a.edges; ports = a.ports; actor_ports = a.actor_ports } };
 }
 
 ghost use Rattle.std.specs.Prelude.{◌≡◌, ◌<◌, ◌≤◌, [], All, IfOk, length, map, slice_index_or};
@@ -55,6 +56,17 @@ fn port_clusters(alloc: Global, ports: &[PortRow], clusters: &[u32]) -> Result<V
     Ok(of)
 }
 
+/// The modules of ports.
+fn port_modules(alloc: Global, ports: &[PortRow]) -> Result<Vec<u32>, Memory>
+    ensures { IfOk result (λ of. of.items ≡ map (λ port. port.«module») ports.now) }
+{
+    let mut of = Vec::with_capacity(alloc, ports.len())?;
+    for i in 0..ports.len() {
+        of.push(ports[i].module)?;
+    }
+    Ok(of)
+}
+
 impl TableGroups {
     /// The things of a model by cluster, of which there are `count`.
     ///
@@ -75,15 +87,18 @@ impl TableGroups {
         let actors = Groups::of(alloc, count, &clusters)?;
         let edges = Groups::of(alloc, count, &of_edges)?;
         let ports = Groups::of(alloc, count, &of_ports)?;
+        let modules = port_modules(alloc, &tables.ports)?;
+        let actor_ports = Groups::of(alloc, tables.actors.len(), &modules)?;
         Ok(TableGroups {
             actors,
             edges,
             ports,
+            actor_ports,
         })
     }
 
     /// The numbers of the actors of a cluster.
-    pub(crate) fn actors(&self, cluster: u32) -> &[u32]
+    pub fn actors(&self, cluster: u32) -> &[u32]
         requires { cluster < length self.now.actors }
         ensures { result.now ≡ slice_index_or self.now.actors cluster [] }
     {
@@ -91,7 +106,7 @@ impl TableGroups {
     }
 
     /// The numbers of its edges.
-    pub(crate) fn edges(&self, cluster: u32) -> &[u32]
+    pub fn edges(&self, cluster: u32) -> &[u32]
         requires { cluster < length self.now.edges }
         ensures { result.now ≡ slice_index_or self.now.edges cluster [] }
     {
@@ -99,10 +114,17 @@ impl TableGroups {
     }
 
     /// The numbers of its ports.
-    pub(crate) fn ports(&self, cluster: u32) -> &[u32]
+    pub fn ports(&self, cluster: u32) -> &[u32]
         requires { cluster < length self.now.ports }
         ensures { result.now ≡ slice_index_or self.now.ports cluster [] }
     {
         self.ports.group(cluster)
+    }
+
+    /// For each actor the numbers of its ports.
+    pub fn ports_by_actor(&self) -> &Groups
+        ensures { result.now ≡ self.now.actor_ports }
+    {
+        &self.actor_ports
     }
 }

@@ -4,14 +4,17 @@
 //! - `own_parts`: what is a cluster's own.
 //! - `own_timing`: the first phase by the own net of the cluster, counts and steps.
 //! - `own_planning`: the second phase by it, the plan.
+//! - `own_rates`: the rates of edges under a table of one cluster.
 //! - `plans`: the plan under a table, or the first fault.
 #![tactic(auto)]
 
 mod groups;
 mod own_parts;
 mod own_planning;
+mod own_rates;
 mod own_timing;
 mod plans;
 
 pub use groups::TableGroups;
+pub use own_rates::cluster_rates;
 pub use plans::table_plan;

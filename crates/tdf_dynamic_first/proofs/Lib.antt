@@ -2,9 +2,9 @@ pub mod Api
 pub mod Delays
 pub mod Fine
 pub mod Firsts
-pub mod Gathers
-pub mod Listed
 pub mod Numbers
+pub mod Own
+pub mod Picking
 pub mod Plannable
 pub mod Starts
 pub mod Tables

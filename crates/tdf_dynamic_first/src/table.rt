@@ -1,18 +1,20 @@
 //! The table of attributes as the text says it.
 
 ghost use Rattle.std.specs.List.{cons_option};
-ghost use Rattle.std.specs.Prelude.{◌≡◌, ◌<◌, ◌≤◌, ◌++◌, ◌∷◌, [], All, IfOk, OnOk, length, map, slice_index};
-ghost use Rattle.tdf_dynamic_plans.specs.Attributes.{clusters_of, ports_of_module};
-ghost use Rattle.tdf_dynamic_first.specs.Text.{port_step, first_attrs, attrs_if, attrs_in, can_change, changes_at, first_table, none_known};
+ghost use Rattle.std.specs.Prelude.{◌≡◌, ◌<◌, ◌≤◌, ◌++◌, ◌∷◌, [], All, IfOk, OnOk, length, map};
+ghost use Rattle.tdf_dynamic_plans.specs.Attributes.{ports_of_module};
+ghost use Rattle.tdf_dynamic_first.specs.Text.{port_step, first_attrs, can_change, changes_at, first_table, none_known};
+ghost use Rattle.tdf_dynamic_first.specs.machine.Placed.{ArePortsByModule, attrs_of, own_rows};
 ghost use Rattle.tdf_expr.specs.Checked.{IsChecked};
 ghost use Rattle.tdf_expr.specs.Made.{block_count, start_rates};
 
-use crate::gathering::ports_by_module;
+use crate::members::{own_actors, ports_by_module};
 use std::alloc::Global;
-use tdf_base::{Memory, row_number};
+use tdf_base::Memory;
 use tdf_bind::Flat;
 use tdf_bind_connections::{ModuleRow, PortRow};
 use tdf_bind_tables::FlatTables;
+use tdf_cluster_net::Groups;
 use tdf_dynamic_plans::{Attrs, KnownPlans, ModuleAttrs};
 use tdf_expr::{Checked, Frame};
 
@@ -93,27 +95,26 @@ fn first_attrs(
     })
 }
 
-/// The attributes of a module, if it is in the cluster.
-fn attrs_if(
+/// The attributes of an actor, if it is a module.
+fn attrs_of(
     alloc: Global,
     flat: &Flat,
-    cluster: u32,
-    number: usize,
-    row: &ModuleRow,
-    own: &[u32],
+    number: u32,
+    ports: &Groups,
 ) -> Result<Option<ModuleAttrs>, Memory>
     requires checked { IsChecked flat.now.checked }
-    requires block { row.now.block < block_count flat.now.checked }
-    requires actor { number < length flat.now.tables.actors }
-    requires own { slice_index (clusters_of flat.now.tables) number ≡ cluster
-        → own.now ≡ ports_of_module flat.now.tables.ports number }
-    ensures { IfOk result (λ attrs. attrs ≡ attrs_if flat.now cluster number row.now) }
+    requires blocks { All (λ row. row.block < block_count flat.now.checked)
+        flat.now.tables.modules }
+    requires ports { ArePortsByModule flat.now.tables.ports (length flat.now.tables.modules)
+        ports.now }
+    ensures { IfOk result (λ attrs. attrs ≡ attrs_of flat.now number) }
 {
-    if flat.tables.actors[number].cluster != cluster {
+    let place = number as usize;
+    if flat.tables.modules.len() <= place {
         return Ok(None);
     }
-    let number = row_number(number)?;
-    Ok(Some(first_attrs(alloc, flat, number, row, own)?))
+    let row = &flat.tables.modules[place];
+    Ok(Some(first_attrs(alloc, flat, number, row, ports.group(number))?))
 }
 
 fn put_attrs(rows: &mut Vec<ModuleAttrs>, attrs: Option<ModuleAttrs>) -> Result<(), Memory>
@@ -128,20 +129,23 @@ fn put_attrs(rows: &mut Vec<ModuleAttrs>, attrs: Option<ModuleAttrs>) -> Result<
     }
 }
 
-/// The attributes of the modules that are in the cluster.
-#[tactic(auto, using(crate::proofs::Gathers::own_ports))]
-fn table_rows(alloc: Global, flat: &Flat, cluster: u32) -> Result<Vec<ModuleAttrs>, Memory>
+/// The attributes of the modules among some actors.
+fn table_rows(
+    alloc: Global,
+    flat: &Flat,
+    actors: &[u32],
+    ports: &Groups,
+) -> Result<Vec<ModuleAttrs>, Memory>
     requires checked { IsChecked flat.now.checked }
     requires blocks { All (λ row. row.block < block_count flat.now.checked)
         flat.now.tables.modules }
-    requires actors { length flat.now.tables.modules ≤ length flat.now.tables.actors }
-    ensures { IfOk result (λ rows. rows.items ≡ attrs_in flat.now cluster flat.now.tables.modules) }
+    requires ports { ArePortsByModule flat.now.tables.ports (length flat.now.tables.modules)
+        ports.now }
+    ensures { IfOk result (λ rows. rows.items ≡ own_rows flat.now actors.now) }
 {
-    let ports = ports_by_module(alloc, &flat.tables, cluster)?;
-    let mut rows = Vec::new(alloc);
-    for number in 0..flat.tables.modules.len() {
-        let row = &flat.tables.modules[number];
-        let attrs = attrs_if(alloc, flat, cluster, number, row, ports.list(number))?;
+    let mut rows = Vec::with_capacity(alloc, actors.len())?;
+    for i in 0..actors.len() {
+        let attrs = attrs_of(alloc, flat, actors[i], ports)?;
         put_attrs(&mut rows, attrs)?;
     }
     Ok(rows)
@@ -161,11 +165,35 @@ fn has_changes(tables: &FlatTables, rows: &[ModuleAttrs]) -> bool
     rows.iter().any(|attrs| changes_at(tables, attrs.number))
 }
 
-/// The table of a cluster. Plans are kept where the table can change.
+/// The table of the modules among some actors, where the ports of each module are given. Plans are kept where the table can
+/// change.
 ///
 /// # Errors
 /// Out of memory.
-#[tactic(auto, unfolding(crate::specs::Text::first_table))]
+pub(crate) fn own_table(
+    alloc: Global,
+    flat: &Flat,
+    actors: &[u32],
+    ports: &Groups,
+) -> Result<Attrs, Memory>
+    requires checked { IsChecked flat.now.checked }
+    requires blocks { All (λ row. row.block < block_count flat.now.checked)
+        flat.now.tables.modules }
+    requires ports { ArePortsByModule flat.now.tables.ports (length flat.now.tables.modules)
+        ports.now }
+    ensures rows { IfOk result (λ attrs. attrs.rows ≡ own_rows flat.now actors.now) }
+    ensures known { IfOk result (λ attrs. attrs.known ≡ none_known flat.now.tables attrs.rows) }
+{
+    let rows = table_rows(alloc, flat, actors, ports)?;
+    let changes = has_changes(&flat.tables, &rows);
+    Ok(Attrs::new(rows, KnownPlans::new(alloc, changes)))
+}
+
+/// The table of a cluster. Plans are kept where the table can change. Its actors and their ports are found by a look at each
+/// of the model.
+///
+/// # Errors
+/// Out of memory.
 pub fn first_table(alloc: Global, flat: &Flat, cluster: u32) -> Result<Attrs, Memory>
     requires checked { IsChecked flat.now.checked }
     requires blocks { All (λ row. row.block < block_count flat.now.checked)
@@ -174,7 +202,7 @@ pub fn first_table(alloc: Global, flat: &Flat, cluster: u32) -> Result<Attrs, Me
     ensures rows { IfOk result (λ attrs. attrs.rows ≡ first_table flat.now cluster) }
     ensures known { IfOk result (λ attrs. attrs.known ≡ none_known flat.now.tables attrs.rows) }
 {
-    let rows = table_rows(alloc, flat, cluster)?;
-    let changes = has_changes(&flat.tables, &rows);
-    Ok(Attrs::new(rows, KnownPlans::new(alloc, changes)))
+    let actors = own_actors(alloc, &flat.tables.actors, cluster)?;
+    let ports = ports_by_module(alloc, &flat.tables.ports, flat.tables.modules.len())?;
+    own_table(alloc, flat, &actors, &ports)
 }
