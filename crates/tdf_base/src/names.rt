@@ -9,6 +9,7 @@ ghost use Rattle.std.specs.Hash as fed;
 ghost use Rattle.std.specs.Ordering.{nat_cmp};
 
 use crate::memory::Memory;
+use smallvec::SmallVec;
 use std::alloc::Global;
 use std::cmp::Ordering;
 use std::hash::{Hash, Hasher};
@@ -16,9 +17,10 @@ use std::marker::Model;
 
 /// A name of the language, seen as its bytes: a letter or `_`, then letters, digits or `_`.
 /// Names are equal exactly where their bytes are, and are ordered by their bytes.
+/// Up to 16 bytes, as most names have, stand in the value and take no memory of their own.
 #[derive(Debug, Drop)]
 pub struct Name {
-    bytes: Vec<u8>,
+    bytes: SmallVec<u8, 16>,
 }
 
 impl Model for Name {
@@ -34,7 +36,9 @@ impl Name {
     pub fn new(bytes: Vec<u8>) -> Name
         ensures { result ≡ bytes.items }
     {
-        Name { bytes }
+        Name {
+            bytes: SmallVec::from_vec(bytes),
+        }
     }
 
     /// A name with a copy of these bytes.
@@ -44,7 +48,9 @@ impl Name {
     pub fn copied(alloc: Global, bytes: &[u8]) -> Result<Name, Memory>
         ensures { IfOk result (λ name. name ≡ bytes.now) }
     {
-        Ok(Name::new(Vec::from_slice(alloc, bytes)?))
+        Ok(Name {
+            bytes: SmallVec::from_slice(alloc, bytes)?,
+        })
     }
 
     /// The bytes of this name.
@@ -52,13 +58,6 @@ impl Name {
         ensures { result.now ≡ self.now }
     {
         self.bytes.as_slice()
-    }
-
-    /// Gives the bytes back. It takes no memory.
-    pub fn into_bytes(self) -> Vec<u8>
-        ensures { result.items ≡ self }
-    {
-        self.bytes
     }
 }
 

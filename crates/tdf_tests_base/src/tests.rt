@@ -455,7 +455,7 @@ fn names(rt: HostRuntime) -> Result<(), Fail> {
     assert!(rt; first < second);
     assert!(rt; first != second);
     assert_eq!(rt; first.as_bytes(), b"gain".as_slice());
-    assert_eq!(rt; second.into_bytes().as_slice(), b"gain_2".as_slice());
+    assert_eq!(rt; second.as_bytes(), b"gain_2".as_slice());
     Ok(())
 }
 

@@ -65,7 +65,8 @@ fn driven(alloc: Global, model: &[u8], table: &[u8]) -> Option<(Vec<u8>, Vec<u8>
     let mut out = Vec::new(alloc);
     push_tree(&mut out, &driven.tree).ok()?;
     let label = driven.ignored.pop()?;
-    Some((out, label.into_bytes()))
+    let label = Vec::from_slice(alloc, label.as_bytes()).ok()?;
+    Some((out, label))
 }
 
 #[test]
