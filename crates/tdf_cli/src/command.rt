@@ -28,6 +28,9 @@ use tdf_io::{Sink, SinkErr, Source};
 /// where it is out of memory, 8 where the text has more bytes than its job reads (1,048,576 of a model, 67,108,864 of a table or of a
 /// state, 4,194,304 of a model and a table), 9 where the stop is too late for the resolution of the model, 10 where the text of a state
 /// would have more than 67,108,864 bytes, 11 where a text is that of no state, and 12 where the stop is before the time of the state.
+///
+/// What a job made, as the tree of its text, a model that is not run and what a run leaves, is left to the end of the process, which
+/// gives it back at once. A caller that goes on keeps that memory.
 pub fn tool<S: Source, O: Sink, N: Sink>(
     alloc: Global,
     words: &Vec<String>,

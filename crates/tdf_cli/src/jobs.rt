@@ -33,6 +33,7 @@ use crate::save::save;
 use crate::status::Status;
 use crate::tables::{sample, stats};
 use std::alloc::Global;
+use std::mem;
 use tdf_base::Memory;
 use tdf_cli_words::Settings;
 use tdf_dynamic_texts::push_accepted;
@@ -203,8 +204,16 @@ fn do_accepted<O: Sink, N: Sink>(
     law_first_fault();
     match job {
         Settings::Run(asked) => run(alloc, sim, asked, out, notes),
-        Settings::Check => check(alloc, tree, &sim, out, notes),
-        Settings::Plan => plan(alloc, tree, &sim, out, notes),
+        Settings::Check => {
+            let done = check(alloc, tree, &sim, out, notes);
+            mem::forget(sim);
+            done
+        }
+        Settings::Plan => {
+            let done = plan(alloc, tree, &sim, out, notes);
+            mem::forget(sim);
+            done
+        }
         Settings::Load { size, .. } => measure(alloc, sim, size, out),
         // `save` needs the text too, and the others have other texts.
         Settings::Save(..)
@@ -267,7 +276,11 @@ fn do_text<O: Sink, N: Sink>(
 {
     law_one_outcome();
     match parse(alloc, text) {
-        Ok(tree) => do_tree(alloc, &tree, job, out, notes),
+        Ok(tree) => {
+            let done = do_tree(alloc, &tree, job, out, notes);
+            mem::forget(tree);
+            done
+        }
         Err(refused) => match first_fault(refused) {
             Some(fault) => refuse(alloc, notes, fault),
             None => Err(SinkErr::Memory),

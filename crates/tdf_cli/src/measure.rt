@@ -17,6 +17,7 @@ use crate::laws::law_one_outcome;
 use crate::run::status_of;
 use crate::status::Status;
 use std::alloc::Global;
+use std::mem;
 use tdf_base::{Memory, Resolution};
 use tdf_io::{Sink, SinkErr, SureSink, put_all};
 use tdf_sim::{End, Sim};
@@ -103,7 +104,7 @@ fn measured(alloc: Global, sim: Sim, size: u64) -> Result<Measurement, Memory>
     ) {
         Ok(ran) => {
             let measured = measured_by(alloc, size, &ran.end, table.bytes());
-            drop(ran);
+            mem::forget(ran);
             measured
         }
         Err(_) => Err(Memory),

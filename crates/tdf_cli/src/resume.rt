@@ -18,6 +18,7 @@ use crate::notes::noted;
 use crate::run::{status_of, stop_in};
 use crate::status::Status;
 use std::alloc::Global;
+use std::mem;
 use tdf_io::{Sink, SinkErr};
 use tdf_saved::StateErr;
 use tdf_sim::{Paused, law_one_model, law_one_state, law_rests_alike, read_state};
@@ -46,7 +47,7 @@ fn go_on<O: Sink, N: Sink>(
     match paused.resume(alloc, end, out, notes) {
         Ok(ran) => {
             let status = status_of(&ran.end);
-            drop(ran);
+            mem::forget(ran);
             Ok(status)
         }
         Err(error) => Err(error),

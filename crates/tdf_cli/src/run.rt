@@ -12,6 +12,7 @@ ghost use Rattle.tdf_lang_tree.specs.Pure.{PureTree};
 use crate::notes::noted;
 use crate::status::Status;
 use std::alloc::Global;
+use std::mem;
 use tdf_base::{Resolution, TIME_END};
 use tdf_cli_words::RunOptions;
 use tdf_io::{Sink, SinkErr};
@@ -78,7 +79,7 @@ fn run_to<O: Sink, N: Sink>(
     match sim.run(alloc, end, asked.turns, asked.kind, out, notes) {
         Ok(ran) => {
             let status = status_of(&ran.end);
-            drop(ran);
+            mem::forget(ran);
             Ok(status)
         }
         Err(RunErr::WriteFault) => Err(SinkErr::Failed),

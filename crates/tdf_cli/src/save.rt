@@ -22,6 +22,7 @@ use crate::nowhere::Nowhere;
 use crate::run::{status_of, stop_in};
 use crate::status::Status;
 use std::alloc::Global;
+use std::mem;
 use tdf_base::Resolution;
 use tdf_bind_invariants::law_limits;
 use tdf_cli_words::{RunOptions, SavePart};
@@ -55,12 +56,12 @@ fn save_trace<O: Sink, N: Sink>(
     law_parts_alike();
     match sim.run_part(alloc, end, asked.turns, asked.kind, out, notes) {
         Ok(Part::Paused(paused)) => {
-            drop(paused);
+            mem::forget(paused);
             Ok(Status::Done)
         }
         Ok(Part::Ended(ran)) => {
             let status = status_of(&ran.end);
-            drop(ran);
+            mem::forget(ran);
             Ok(status)
         }
         Err(RunErr::WriteFault) => Err(SinkErr::Failed),
@@ -133,7 +134,7 @@ fn save_state<O: Sink, N: Sink>(
     match sim.run_part(alloc, end, asked.turns, asked.kind, &mut trace, &mut plans) {
         Ok(Part::Paused(paused)) => match state_text(alloc, &paused, text) {
             Ok(bytes) => {
-                drop(paused);
+                mem::forget(paused);
                 put_state(&bytes, out, notes)
             }
             Err(_) => {
@@ -143,7 +144,7 @@ fn save_state<O: Sink, N: Sink>(
         },
         Ok(Part::Ended(ran)) => {
             let noted = note_end(alloc, unit, asked.turns, &ran.end, notes);
-            drop(ran);
+            mem::forget(ran);
             noted
         }
         Err(_) => Err(SinkErr::Memory),
