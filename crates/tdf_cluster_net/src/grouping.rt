@@ -2,10 +2,10 @@
 
 use std::marker::Model;
 
-/// The numbers of some things, rising.
+/// The numbers of some things, rising. Four of them take no memory of their own: few modules have more ports.
 #[derive(Drop)]
 struct Numbers {
-    list: Vec<u32>,
+    list: SmallVec<u32, 4>,
 }
 
 impl Model for Numbers {
@@ -35,6 +35,7 @@ ghost use Rattle.tdf_cluster_net.specs.Grouped.{AreGroups};
 ghost use Rattle.tdf_cluster_net.specs.Numbers.{AllBelow};
 ghost use Rattle.tdf_cluster_net.specs.views.Grouping.{AreGroupsUpTo};
 
+use smallvec::SmallVec;
 use std::alloc::Global;
 use tdf_base::Memory;
 
@@ -43,21 +44,23 @@ impl Numbers {
         ensures { result ≡ [] }
     {
         Numbers {
-            list: Vec::new(alloc),
+            list: SmallVec::new(alloc),
         }
     }
 
     fn put(&mut self, number: u32) -> Result<(), Memory>
         ensures { OnOk result (self.new ≡ self.old ++ number ∷ []) }
     {
-        self.list.push(number)?;
-        Ok(())
+        match self.list.push(number) {
+            Ok(()) => Ok(()),
+            Err(_) => Err(Memory),
+        }
     }
 
     fn list(&self) -> &[u32]
         ensures { result.now ≡ self.now }
     {
-        &self.list
+        self.list.as_slice()
     }
 }
 
