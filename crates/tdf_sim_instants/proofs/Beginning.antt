@@ -75,15 +75,11 @@ begun_with flat firsts cs old new n first c have many here keeps = record {
       keeps k (λ e. absurd (omega (arith, above, l, many, e))) (have.left k (omega (arith, above, l))));
 }
 
-pub linked_more : (tables : FlatTablesOf) (n : ℕ) (links : List Links) (own : Links) → AreLinkedUpTo tables n links → AreSamplerLinks tables (n + 1) own.list.items → AreLinkedUpTo tables (n + 1) (links ++ own ∷ [])
-linked_more tables n links own linked here = record {
-  long = length_push links own ∙ ap (λ k. k + 1) linked.long;
-  each = λ m l at. elim (pushed links own m l at) [
-    | inl old ↦ linked.each m l old
-    | inr new ↦ (let e : n ≡ m = sym linked.long ∙ sym new.0 in
-        subst (λ k. AreSamplerLinks tables (k + 1) l.list.items) e (subst (λ (x : Links). AreSamplerLinks tables (n + 1) x.list.items) new.1 here))
-  ];
-}
+-- the links that were found are those of so many clusters
+pub linked_all : {V E : Type 0} (items_of : V → List Links) (tables : FlatTablesOf) (count : ℕ) (found : Result V E) → IfOk found (λ v. length (items_of v) ≡ count)
+    → IfOk found (λ v. (m : ℕ) (l : Links) → slice_get (items_of v) m ≡ Some l → AreSamplerLinks tables (m + 1) l.list.items) → IfOk found (λ v. AreLinkedUpTo tables count (items_of v))
+linked_all items_of tables count (Ok v) long each = record { long = long; each = each }
+linked_all items_of tables count (Err e) long each = tt
 
 pub rooms_more : (size : Option Runner → ℕ) (cs : List ClusterOf) (room m : ℕ) (c : ClusterOf) → HaveRooms size cs room → IsMostOf size c.runners c.entries m → HaveRooms size (cs ++ c ∷ []) (room + m)
 rooms_more size cs room m c rooms is = record {

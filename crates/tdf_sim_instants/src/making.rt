@@ -21,7 +21,7 @@ use tdf_bind_invariants::law_limits;
 use tdf_convert::{Inputs, Links, Outputs, Writes};
 use tdf_dynamic_first::First;
 use tdf_events::Kernel;
-use tdf_sim_refinement::{Cluster, Layout, Room, law_ports, sampler_links, sink_links};
+use tdf_sim_refinement::{Cluster, Layout, Room, all_sampler_links, law_ports, sink_links};
 
 /// A sum, if it has 32 bits.
 fn sum(a: u32, b: u32) -> Result<u32, Memory>
@@ -108,12 +108,7 @@ fn links_of(alloc: Global, flat: &Flat, count: usize) -> Result<Vec<Links>, Memo
     requires ports { HaveEventPorts flat.now.tables }
     ensures { IfOk result (λ links. AreLinkedUpTo flat.now.tables count links.items) }
 {
-    let mut links = Vec::new(alloc);
-    for n in 0..count {
-        let own = sampler_links(alloc, &flat.tables, cluster_number(n)?)?;
-        links.push(own)?;
-    }
-    Ok(links)
+    all_sampler_links(alloc, &flat.tables, count)
 }
 
 /// A 0 for each sampler of a cluster.

@@ -25,7 +25,7 @@ use Rattle.tdf_streams.specs.Places.{actor_kind, kind_of_row}
 use Rattle.tdf_bind_connections.specs.declared.modules.PortRow.{PortRow}
 
 -- what a list with one thing more has
-pushed : {A : Type 0} (xs : List A) (y : A) (j : ℕ) (x : A) → slice_get (xs ++ y ∷ []) j ≡ Some x → (slice_get xs j ≡ Some x) ⊎ ((j ≡ length xs) × (y ≡ x))
+pub pushed : {A : Type 0} (xs : List A) (y : A) (j : ℕ) (x : A) → slice_get (xs ++ y ∷ []) j ≡ Some x → (slice_get xs j ≡ Some x) ⊎ ((j ≡ length xs) × (y ≡ x))
 pushed xs y j x at = go (cases_lt j (length xs))
   where
     go : (j < length xs) ⊎ (length xs ≤ j) → (slice_get xs j ≡ Some x) ⊎ ((j ≡ length xs) × (y ≡ x))

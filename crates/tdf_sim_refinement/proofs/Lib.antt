@@ -9,6 +9,7 @@ pub mod Due
 pub mod Emitted
 pub mod Firings
 pub mod Found
+pub mod Gathered
 pub mod Inside
 pub mod Knowing
 pub mod Lasting

@@ -3,7 +3,7 @@
 //! - `firing`: the firings of a cluster at a time, within the turns that are left.
 //! - `periods`: what holds at the start and at the boundaries of a cluster.
 //! - `turns`: the pass over all clusters at a time.
-//! - `linking`: the links of the samplers of a cluster, and of all sinks.
+//! - `linking`: the links of the samplers of each cluster, and of all sinks.
 //! - `laws`: what holds of the firings of an instant.
 #![tactic(auto)]
 
@@ -18,7 +18,7 @@ pub use laws::{
     law_along, law_answers, law_cluster, law_emitted, law_firings, law_offsets, law_pass,
     law_ports, law_samples, law_settled, law_traced,
 };
-pub use linking::{sampler_links, sink_links};
+pub use linking::{all_sampler_links, sink_links};
 pub use periods::{law_boundary, law_start};
 pub use tdf_exec::{Cluster, Layout, Room, law_own};
 pub use turns::{Moment, fire_all};

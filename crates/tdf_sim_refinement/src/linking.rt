@@ -1,9 +1,10 @@
-//! The links of samplers and sinks, by one look at each actor.
+//! The links of the samplers of all clusters and of all sinks, by one look at each actor.
 
-ghost use Rattle.std.specs.Prelude.{◌≡◌, ◌+◌, ◌<◌, IfOk, OnOk, Some, length, slice_get, true};
+ghost use Rattle.std.specs.Prelude.{◌≡◌, ◌+◌, ◌<◌, ℕ, IfOk, OnOk, Some, length, slice_get, true};
+ghost use Rattle.tdf_convert.specs.declared.links.Links.{Links};
 ghost use Rattle.tdf_sim_history.specs.Instant.{signal_of_row};
 ghost use Rattle.tdf_sim_refinement.specs.Linked.{AreSamplerLinks, AreSinkLinks, HasEventPort, HaveEventPorts, is_sampler};
-ghost use Rattle.tdf_sim_refinement.specs.machine.Linking.{AreLinkedUpTo, is_sink, is_wanted, of_samplers};
+ghost use Rattle.tdf_sim_refinement.specs.machine.Linking.{AreAllLinkedUpTo, AreLinkedUpTo, AreWithoutLinks, is_sink, is_some_sampler, is_wanted, of_samplers};
 
 use std::alloc::Global;
 use tdf_base::{Memory, row_number};
@@ -99,16 +100,66 @@ fn links_of(alloc: Global, tables: &FlatTables, wanted: Wanted) -> Result<Links,
     Ok(links)
 }
 
-/// The links of the samplers of a cluster. The ports of samplers and sinks have event signals, as in each flat model.
+/// No links for any of so many clusters.
+fn no_links(alloc: Global, count: usize) -> Result<Vec<Links>, Memory>
+    ensures { IfOk result (λ links. AreWithoutLinks count links.items) }
+{
+    let mut links = Vec::with_capacity(alloc, count)?;
+    for _ in 0..count {
+        let own = Links::new(alloc);
+        links.push(own)?;
+    }
+    Ok(links)
+}
+
+/// Whether an actor is a sampler of one of so many clusters.
+fn is_some_sampler(count: usize, row: &ActorRow) -> bool
+    ensures { result ≡ is_some_sampler count row.now }
+{
+    is_sampler(row.kind) && 0 < row.cluster && row.cluster as usize <= count
+}
+
+/// The link of an actor comes to those of its cluster, if it is a sampler of one of these.
+fn put_sampler(links: &mut Vec<Links>, tables: &FlatTables, m: usize) -> Result<(), Memory>
+    requires ports { HaveEventPorts tables.now }
+    requires inside { m < length tables.now.actors }
+    requires linked { AreAllLinkedUpTo tables.now (length links.old.items) m links.old.items }
+    ensures { OnOk result (AreAllLinkedUpTo tables.now (length links.old.items) (m + 1) links.new.items) }
+{
+    let row = &tables.actors[m];
+    if !is_some_sampler(links.len(), row) {
+        return Ok(());
+    }
+    let place = row.cluster as usize - 1;
+    put(
+        &mut links[place],
+        tables,
+        Wanted::SamplersOf(row.cluster),
+        m,
+    )
+}
+
+/// The links of the samplers of the first `count` clusters, in order of number. The ports of samplers and sinks have event
+/// signals, as in each flat model.
 ///
 /// # Errors
 /// Out of memory.
-pub fn sampler_links(alloc: Global, tables: &FlatTables, cluster: u32) -> Result<Links, Memory>
+pub fn all_sampler_links(
+    alloc: Global,
+    tables: &FlatTables,
+    count: usize,
+) -> Result<Vec<Links>, Memory>
     requires ports { HaveEventPorts tables.now }
+    ensures long { IfOk result (λ links. length links.items ≡ count) }
     ensures links { IfOk result (λ links.
-        AreSamplerLinks tables.now cluster links.list.items) }
+        (n : ℕ) (l : Links) → slice_get links.items n ≡ Some l
+        → AreSamplerLinks tables.now (n + 1) l.list.items) }
 {
-    links_of(alloc, tables, Wanted::SamplersOf(cluster))
+    let mut links = no_links(alloc, count)?;
+    for m in 0..tables.actors.len() {
+        put_sampler(&mut links, tables, m)?;
+    }
+    Ok(links)
 }
 
 /// The links of all sinks. The ports of samplers and sinks have event signals, as in each flat model.

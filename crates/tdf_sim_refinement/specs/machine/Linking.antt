@@ -1,14 +1,15 @@
 -- How links are found, by one look at each actor.
 -- Source: own.
 use Rattle.std.specs.List.{count_by}
-use Rattle.std.specs.Prelude.{◌≡◌, ◌<◌, ℕ, Bool, true, false, List, Some, length, slice_get, take}
+use Rattle.std.specs.Prelude.{◌≡◌, ◌<◌, ◌+◌, ◌&&◌, ℕ, Bool, true, false, List, [], Some, length, nat_le, nat_lt, slice_get, take}
 use Rattle.tdf_bind_tables.specs.FlatTables.{FlatTablesOf}
 use Rattle.tdf_bind_tables.specs.declared.actors.ActorRow.{ActorRow}
 use Rattle.tdf_convert.specs.Links.{AreBefore, AreLinks, HaveSignals, samplers_in}
 use Rattle.tdf_convert.specs.declared.links.Link.{Link}
+use Rattle.tdf_convert.specs.declared.links.Links.{Links}
 use Rattle.tdf_graph.specs.declared.actors.Actor.{Actor}
 use Rattle.tdf_graph.specs.declared.actors.Actor.TheVariants as actor
-use Rattle.tdf_sim_refinement.specs.Linked.{HaveSignalsOf, HasLink, is_own_sampler}
+use Rattle.tdf_sim_refinement.specs.Linked.{HaveSignalsOf, HasLink, is_own_sampler, is_sampler}
 use Rattle.tdf_sim_refinement.specs.declared.linking.Wanted.{Wanted}
 use Rattle.tdf_sim_refinement.specs.declared.linking.Wanted.TheVariants.{SamplersOf, Sinks}
 
@@ -53,3 +54,19 @@ pub record AreLinkedUpTo (tables : FlatTablesOf) (wanted : Wanted) (n : ℕ) (li
   pub all : (m : ℕ) (row : ActorRow) → m < n → slice_get tables.actors m ≡ Some row
       → is_wanted wanted row ≡ true → HasLink links m
   pub counted : samplers_in links ≡ counted_before tables wanted n
+
+-- a sampler of one of the first `count` clusters
+abbrev pub is_some_sampler : (count : ℕ) → ActorRow → Bool
+is_some_sampler count row = is_sampler row.kind && nat_lt 0 row.cluster && nat_le row.cluster count
+
+-- so many clusters have no links yet
+pub record AreWithoutLinks (count : ℕ) (links : List Links) : Type 0 where
+  pub long : length links ≡ count
+  pub each : (m : ℕ) (l : Links) → slice_get links m ≡ Some l → l.list.items ≡ []
+
+-- the links of the samplers of the first `count` clusters, of those among the first n actors
+pub record AreAllLinkedUpTo (tables : FlatTablesOf) (count n : ℕ) (links : List Links)
+    : Type 0 where
+  pub long : length links ≡ count
+  pub each : (m : ℕ) (l : Links) → slice_get links m ≡ Some l
+      → AreLinkedUpTo tables (SamplersOf (m + 1)) n l.list.items
