@@ -9,6 +9,7 @@ mod Counting
 mod Counts
 mod Crosses
 mod Empty
+mod EndPorts
 mod Ends
 pub mod Entries
 mod Few
@@ -18,6 +19,7 @@ mod Gains
 mod Giving
 pub mod Greatest
 mod Held
+mod InTurn
 mod Installing
 mod Keeping
 mod Kept
@@ -25,6 +27,7 @@ mod Marks
 mod Moved
 mod Moves
 mod Nexts
+mod Numbered
 mod Own
 mod Planned
 pub mod Playing

@@ -5,18 +5,20 @@ use Rattle.std.proofs.lemmas.List.{take_all}
 use Rattle.std.proofs.lemmas.Option.{get_or_from_slice_get, slice_get_within}
 use Rattle.std.proofs.lemmas.Simd.{map-map}
 use Rattle.std.specs.List.{enumerate_from}
-use Rattle.std.specs.Prelude.{filter_map, slice_get, slice_index, slice_index_or, slice_set}
+use Rattle.std.specs.Prelude.{filter_map, slice_get, slice_index, slice_set}
 use Rattle.tdf_bind.specs.declared.model.Flat.{Flat}
 use Rattle.tdf_bind_tables.specs.Actors.{cluster_of}
 use Rattle.tdf_bind_tables.specs.FlatTables.{FlatTablesOf}
 use Rattle.tdf_bind_tables.specs.declared.actors.ActorRow.{ActorRow}
+use Rattle.tdf_cluster_net.specs.Numbers.{AreNumbers}
+use Rattle.tdf_cluster_plans.specs.Groups.{AreTableGroups}
 use Rattle.tdf_dynamic_plans.proofs.Api.{modules_few}
 use Rattle.tdf_dynamic_plans.specs.Attributes.{AttrsOf, clusters_of}
 use Rattle.tdf_exec.proofs.Begins.{runners_next}
 use Rattle.tdf_exec.proofs.Formed.{traced_numbered}
 use Rattle.tdf_exec.proofs.Keeping.{get_set_other}
 use Rattle.tdf_exec.proofs.Moved.{some_inj}
-use Rattle.tdf_exec.proofs.Nexts.{get_read}
+use Rattle.tdf_exec.proofs.Numbered.{none_other, own_among}
 use Rattle.tdf_exec.proofs.Resumed.{state_runners}
 use Rattle.tdf_exec.proofs.Rows.{index_at}
 use Rattle.tdf_exec.specs.Layout.{HasLayoutOf, KeepsLayouts, LayoutOf}
@@ -64,11 +66,6 @@ other_there rows cluster ws m row w at there apart = own_at rows cluster ws m ro
 
 -- ---- one actor more
 
--- the row of an actor, as it is read
-pub actor_at : (f flat : Flat) → f ≡ flat → (m : ℕ) (row : ActorRow) → m < length flat.tables.actors → row ≡ slice_index_or f.tables.actors m row → slice_get flat.tables.actors m ≡ Some row
-actor_at f flat same m row below read = subst (λ (x : Flat). slice_get x.tables.actors m ≡ Some row) same
-    (get_read f.tables.actors m row (subst (λ (x : Flat). m < length x.tables.actors) (sym same) below) read)
-
 module _ (flat : Flat) (Holds : ℕ → FrameState → Type 0) (cluster n : ℕ) (old now : List ActorWires) (samplers : ℕ) (runners : List Runner)
     (are : AreTakenUpTo flat Holds cluster n old now samplers runners) (row : ActorRow) (at : slice_get flat.tables.actors n ≡ Some row) (w : ActorWires) (there : slice_get now n ≡ Some w) where
   was : slice_get old n ≡ Some w
@@ -100,13 +97,15 @@ module _ (flat : Flat) (Holds : ℕ → FrameState → Type 0) (cluster n : ℕ)
 all_traced : (tables : FlatTablesOf) (m : ℕ) → traced_before tables (length tables.ports) m ≡ traced_ports tables m
 all_traced tables m = ap (λ l. filter_map (λ port. number_if_traced tables m port.0 port.1) (enumerate_from 0 l)) (take_all (length tables.ports) tables.ports (omega arith))
 
-pub laid_out : (flat : Flat) (layout : LayoutOf) → AreAllWires flat.tables layout.wires → AreTracedUpTo flat.tables (length flat.tables.ports) layout.traced → (cluster : ℕ) → HasLayoutOf flat cluster layout
-laid_out flat layout wires traced cluster = record {
+pub laid_out : (flat : Flat) (layout : LayoutOf) → AreAllWires flat.tables layout.wires → AreTracedUpTo flat.tables (length flat.tables.ports) layout.traced → AreTableGroups flat.tables layout.groups
+    → (cluster : ℕ) → HasLayoutOf flat cluster layout
+laid_out flat layout wires traced groups cluster = record {
   actors = wires.long;
   modules = traced.long;
   wires = λ m row w at there own. wires.each m row w at there;
   traced = λ m list at own. sym (get_or_from_slice_get layout.traced m list [] at) ∙ traced.each m (let i = slice_get_within layout.traced m list at in let l = traced.long in omega (arith, i, l))
       ∙ ap (map (unrated_port flat.tables)) (all_traced flat.tables m);
+  groups = groups;
 }
 
 -- ports with their rates
@@ -162,9 +161,6 @@ module _ (flat : Flat) (laid : IsLaid flat) (Holds : ℕ → FrameState → Type
     row_of : (m : ℕ) → m < length flat.tables.modules → (row : ActorRow) × (slice_get flat.tables.actors m ≡ Some row)
     row_of m below = get_inside flat.tables.actors m (let f = few in omega (arith, f, below))
 
-    begun_of : (m : ℕ) → m < length flat.tables.modules → (r : Runner) × (slice_get begun m ≡ Some r)
-    begun_of m below = get_inside begun m (let f = few in let l = are.long in let a = has.actors in omega (arith, f, below, l, a))
-
     pub many : length layout.traced ≤ length begun
     many = let f = few in let l = are.long in let h = has.modules in let a = has.actors in omega (arith, f, l, h, a)
 
@@ -178,28 +174,30 @@ module _ (flat : Flat) (laid : IsLaid flat) (Holds : ℕ → FrameState → Type
         go row row_at (inl own) = can_get flat m list (has.traced m list at (index_at cluster_of flat.tables.actors m row row_at ∙ own)) r
         go row row_at (inr apart) = subst (CanGet flat.tables.ports list) (sym (other_is m row r row_at there apart)) tt
 
-    module _ (table : List AttrsOf) (now : List (List TracedPort)) (runners : List Runner) (given : AreGivenTraced flat.tables table (length layout.traced) layout.traced now begun runners) where
+    module _ (table : List AttrsOf) (numbers : List ℕ) (own : AreNumbers (length (clusters_of flat.tables)) (λ m. slice_index (clusters_of flat.tables) m ≡ cluster) numbers)
+        (now : List (List TracedPort)) (runners : List Runner) (given : AreGivenTraced flat.tables table numbers (length numbers) layout.traced now begun runners) where
       have_traced : HaveTraced flat.tables table begun runners
       have_traced = record {
         same = given.same;
         done = λ m r below there. done m r below there (cases_eq (row_of m below).0.cluster cluster);
-        rest = λ m past. given.waiting m (let l = has.modules in omega (arith, past, l));
+        rest = λ m past. given.past m (let l = has.modules in omega (arith, past, l));
       }
         where
           done : (m : ℕ) (r : Runner) (below : m < length flat.tables.modules) → slice_get begun m ≡ Some r → ((row_of m below).0.cluster ≡ cluster) ⊎ ((row_of m below).0.cluster ≢ cluster)
               → slice_get runners m ≡ Some (with_traced (map (traced_port flat.tables table) (traced_ports flat.tables m)) r)
-          done m r below there (inl own) =
+          done m r below there (inl mine) =
               let row = row_of m below in let l = has.modules in
               let list = get_inside layout.traced m (omega (arith, below, l)) in
-              given.done m list.0 r (omega (arith, below, l)) list.1 there
-              ∙ ap (λ x. Some (with_traced x r)) (ap (map (rated flat.tables table)) (has.traced m list.0 list.1 (index_at cluster_of flat.tables.actors m row.0 row.1 ∙ own))
+              let among = own_among flat.tables cluster numbers own m row.0 row.1 mine in
+              ap (slice_get runners) (sym among.2)
+              ∙ given.done among.0 list.0 r among.1 (ap (slice_get layout.traced) among.2 ∙ list.1) (ap (slice_get begun) among.2 ∙ there)
+              ∙ ap (λ x. Some (with_traced x r)) (ap (map (rated flat.tables table)) (has.traced m list.0 list.1 (index_at cluster_of flat.tables.actors m row.0 row.1 ∙ mine))
               ∙ all_rated flat.tables table (traced_ports flat.tables m))
           done m r below there (inr apart) =
-              let row = row_of m below in let l = has.modules in
-              let list = get_inside layout.traced m (omega (arith, below, l)) in
+              let row = row_of m below in
               let is = other_is m row.0 r row.1 there apart in
-              given.done m list.0 r (omega (arith, below, l)) list.1 there
-              ∙ ap (λ x. Some (with_traced (map (rated flat.tables table) list.0) x)) is ∙ sym (ap (λ x. Some (with_traced (map (traced_port flat.tables table) (traced_ports flat.tables m)) x)) is)
+              given.waiting m (none_other flat.tables cluster numbers own m row.0 row.1 apart) ∙ there
+              ∙ ap Some is ∙ sym (ap (λ x. Some (with_traced (map (traced_port flat.tables table) (traced_ports flat.tables m)) x)) is)
 
       pub runners_are : AreRunnersOf flat Holds cluster table runners
       runners_are = record {
@@ -212,22 +210,23 @@ module _ (flat : Flat) (laid : IsLaid flat) (Holds : ℕ → FrameState → Type
       }
 
       -- what other clusters have is still there
-      pub keeps : (new : LayoutOf) → new.traced ≡ now → length new.wires ≡ length layout.wires
+      pub keeps : (new : LayoutOf) → new.traced ≡ now → new.groups ≡ layout.groups → length new.wires ≡ length layout.wires
           → ((m : ℕ) (row : ActorRow) → slice_get flat.tables.actors m ≡ Some row → row.cluster ≢ cluster → slice_get new.wires m ≡ slice_get layout.wires m) → KeepsLayouts flat cluster layout new
-      keeps new now_is same others other apart h = record {
+      keeps new now_is groups_are same others other apart h = record {
         actors = same ∙ h.actors;
         modules = ap length now_is ∙ given.many ∙ h.modules;
-        wires = λ m row w at there own. h.wires m row w at (sym (others m row at (λ e. apart (sym own ∙ e))) ∙ there) own;
-        traced = λ m list at own. h.traced m list (sym (stays m list at own) ∙ at) own;
+        wires = λ m row w at there mine. h.wires m row w at (sym (others m row at (λ e. apart (sym mine ∙ e))) ∙ there) mine;
+        traced = λ m list at mine. h.traced m list (sym (stays m list at mine) ∙ at) mine;
+        groups = subst (AreTableGroups flat.tables) (sym groups_are) h.groups;
       }
         where
           stays : (m : ℕ) (list : List TracedPort) → slice_get new.traced m ≡ Some list → slice_index (clusters_of flat.tables) m ≡ other → slice_get new.traced m ≡ slice_get layout.traced m
-          stays m list at own =
+          stays m list at mine =
               let i = slice_get_within new.traced m list at in let l = h.modules in let g = given.many in let n : length new.traced ≡ length now = ap length now_is in
               let below : m < length flat.tables.modules = omega (arith, i, l, g, n) in
-              let row = row_of m below in let r = begun_of m below in
-              let is = other_is m row.0 r.0 row.1 r.1 (λ e. apart (sym own ∙ index_at cluster_of flat.tables.actors m row.0 row.1 ∙ e)) in
-              ap (λ l. slice_get l m) now_is ∙ given.kept m (r.1 ∙ ap Some is)
+              let row = row_of m below in
+              ap (λ l. slice_get l m) now_is
+              ∙ given.left m (none_other flat.tables cluster numbers own m row.0 row.1 (λ e. apart (sym mine ∙ index_at cluster_of flat.tables.actors m row.0 row.1 ∙ e)))
 
 -- after they have got the values of a state
 pub restored_told : (flat : Flat) (laid : IsLaid flat) (cluster : ℕ) (layout : LayoutOf) → HasLayoutOf flat cluster layout → (modules : List ModuleStateOf) (table : List AttrsOf)

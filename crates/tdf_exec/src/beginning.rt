@@ -1,7 +1,10 @@
 //! What the actors of a cluster keep at its start.
 
-ghost use Rattle.std.specs.Prelude.{◌≡◌, ◌+◌, ◌<◌, ℕ, IfOk, if◌then◌else◌, length, Some, slice_get};
+ghost use Rattle.std.specs.Prelude.{◌≡◌, ◌+◌, ◌<◌, ℕ, Contains, IfOk, if◌then◌else◌, length, replicate, Some, slice_get};
+ghost use Rattle.tdf_cluster_plans.specs.Groups.{AreTableGroups};
+ghost use Rattle.tdf_dynamic_plans.specs.Attributes.{clusters_of};
 ghost use Rattle.tdf_exec.specs.Made.{is_sampler_runner};
+ghost use Rattle.tdf_exec.specs.declared.runners.Runner.TheVariants as kept;
 ghost use Rattle.tdf_exec.specs.machine.Moving.{kept_of, whole_of};
 ghost use Rattle.tdf_exec.specs.machine.Starting.{AreTakenUpTo, CanBegin, HoldsText, IsBegun, IsFirstRunner, IsOfModule};
 ghost use Rattle.tdf_bind_tables.specs.declared.actors.ActorRow.{ActorRow as ActorRowOf};
@@ -12,6 +15,7 @@ use std::alloc::Global;
 use std::mem;
 use tdf_base::Memory;
 use tdf_bind::Flat;
+use tdf_cluster_plans::TableGroups;
 use tdf_dynamic::ModuleFrame;
 use tdf_exec_firing::{Wires, law_begin};
 use tdf_exec_layout::ActorWires;
@@ -106,19 +110,34 @@ fn samplers_with(samplers: u32, runner: &Runner) -> Result<u32, Memory>
     }
 }
 
-/// What is kept for each actor of a cluster, which takes what it is told of its edges; of actors of other clusters nothing
-/// is taken. `begins` says whether the initialize bodies run.
+/// Nothing is kept yet for any of so many actors.
+fn none_kept(alloc: Global, count: usize) -> Result<Vec<Runner>, Memory>
+    ensures { IfOk result (λ runners. runners.items ≡ replicate count kept.Outside) }
+{
+    let mut runners = Vec::with_capacity(alloc, count)?;
+    for _ in 0..count {
+        runners.push(Runner::Outside)?;
+    }
+    Ok(runners)
+}
+
+/// What is kept for each actor of a cluster, which takes what it is told of its edges; actors of other clusters aren't looked
+/// at, and nothing is kept for them. The things of the model by cluster are given. `begins` says whether the initialize bodies
+/// run.
 ///
 /// # Errors
 /// Out of memory.
 pub(crate) fn first_runners(
     alloc: Global,
     flat: &Flat,
+    groups: &TableGroups,
     cluster: u32,
     wires: &mut Vec<ActorWires>,
     begins: bool,
 ) -> Result<Vec<Runner>, Memory>
     requires can { CanBegin flat.now }
+    requires has { Contains (clusters_of flat.now.tables) cluster }
+    requires groups { AreTableGroups flat.now.tables groups.now }
     requires long { length wires.old.items ≡ length flat.now.tables.actors }
     requires modules { (m : ℕ) (row : ActorRowOf) (w : ActorWiresOf)
         → slice_get flat.now.tables.actors m ≡ Some row → slice_get wires.old.items m ≡ Some w
@@ -127,17 +146,15 @@ pub(crate) fn first_runners(
         (HoldsText flat.now begins) cluster (length wires.old.items) wires.old.items
         wires.new.items samplers runners.items) }
 {
-    let mut runners = Vec::with_capacity(alloc, wires.len())?;
+    let numbers = groups.actors(cluster);
+    let mut runners = none_kept(alloc, wires.len())?;
     let mut samplers = 0;
-    for m in 0..wires.len() {
-        if flat.tables.actors[m].cluster != cluster {
-            runners.push(Runner::Outside)?;
-            continue;
-        }
+    for i in 0..numbers.len() {
+        let m = numbers[i] as usize;
         let row = mem::replace(&mut wires[m], ActorWires::Elsewhere);
         let runner = first_runner(alloc, flat, m, samplers, row, begins)?;
         samplers = samplers_with(samplers, &runner)?;
-        runners.push(runner)?;
+        drop(mem::replace(&mut runners[m], runner));
     }
     Ok(runners)
 }

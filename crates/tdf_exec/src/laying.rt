@@ -2,14 +2,16 @@
 
 use crate::tracing::TracedPorts;
 use std::marker::Model;
+use tdf_cluster_plans::TableGroups;
 use tdf_exec_layout::ActorWires;
 
 /// What the actors of a model need at a start: their edges, by actor, and the ports whose signals are traced, by module. Each
-/// cluster takes what is its own.
+/// cluster takes what is its own, which it finds by the numbers of its things.
 #[derive(Drop)]
 pub struct Layout {
     pub(crate) wires: Vec<ActorWires>,
     pub(crate) traced: Vec<TracedPorts>,
+    pub(crate) groups: TableGroups,
 }
 
 impl Model for Layout {
@@ -17,7 +19,7 @@ impl Model for Layout {
 
     ghost Value = { LayoutOf };
 
-    ghost view = { λ a. record { wires = a.wires.items; traced = a.traced.items } };
+    ghost view = { λ a. record { wires = a.wires.items; traced = a.traced.items; groups = a.groups } };
 }
 
 ghost use Rattle.std.specs.Prelude.{ℕ, IfOk};
@@ -32,7 +34,7 @@ use tdf_bind::Flat;
 use tdf_exec_layout::all_wires;
 
 impl Layout {
-    /// What the actors of a flat model need, by one look at each edge and at each port; nothing is taken.
+    /// What the actors of a flat model need, by some few looks at each actor, edge and port; nothing is taken.
     ///
     /// # Errors
     /// Out of memory.
@@ -43,6 +45,11 @@ impl Layout {
         law_laid();
         let traced = traced_rows(alloc, flat)?;
         let wires = all_wires(alloc, &flat.tables)?;
-        Ok(Layout { wires, traced })
+        let groups = TableGroups::of(alloc, &flat.tables, flat.cluster_count())?;
+        Ok(Layout {
+            wires,
+            traced,
+            groups,
+        })
     }
 }

@@ -79,6 +79,7 @@ fn restored_runners(
     modules: &[ModuleState],
 ) -> Result<Vec<Runner>, Memory>
     requires sound { IsSoundFlat flat.now }
+    requires has { Contains (clusters_of flat.now.tables) cluster }
     requires states { AreStatesOfRows flat.now (first_table flat.now cluster) modules.now }
     requires table { IsTableOfStates flat.now cluster modules.now attrs.now.rows }
     ensures { IfOk result (λ runners. AreRunnersOf flat.now (HoldsState attrs.now.rows modules.now)
@@ -86,9 +87,18 @@ fn restored_runners(
 {
     law_laid();
     let mut layout = Layout::new(alloc, flat)?;
-    let mut runners = first_runners(alloc, flat, cluster, &mut layout.wires, false)?;
+    let groups = &layout.groups;
+    let mut runners = first_runners(alloc, flat, groups, cluster, &mut layout.wires, false)?;
     restore_all(&flat.checked, &attrs.rows, modules, &mut runners);
-    give_all(alloc, &flat.tables, attrs, &mut layout.traced, &mut runners);
+    let numbers = layout.groups.actors(cluster);
+    give_all(
+        alloc,
+        &flat.tables,
+        attrs,
+        numbers,
+        &mut layout.traced,
+        &mut runners,
+    );
     Ok(runners)
 }
 

@@ -1,9 +1,9 @@
 //! A cluster at the start of its first period.
 
-ghost use Rattle.std.specs.Prelude.{◌≤◌, IfOk, OnOk, length, true};
+ghost use Rattle.std.specs.Prelude.{◌≤◌, Contains, IfOk, OnOk, length, true};
 ghost use Rattle.tdf_convert.specs.Sampled.{PlansGoByOffset};
 ghost use Rattle.tdf_dynamic_first.specs.First.{IsFirstPlan};
-ghost use Rattle.tdf_dynamic_plans.specs.Attributes.{RowsStandOnce};
+ghost use Rattle.tdf_dynamic_plans.specs.Attributes.{RowsStandOnce, clusters_of};
 ghost use Rattle.tdf_dynamic_plans.specs.Rates.{AreRates};
 ghost use Rattle.tdf_exec_parts.specs.Below.{IsTableFirst};
 ghost use Rattle.tdf_exec.specs.Layout.{HasLayoutOf, KeepsLayouts};
@@ -26,9 +26,10 @@ use std::alloc::Global;
 use tdf_base::Memory;
 use tdf_bind::Flat;
 use tdf_bind_invariants::{law_formats, law_limits};
+use tdf_cluster_plans::cluster_rates;
 use tdf_convert::law_by_offset;
 use tdf_dynamic_first::First;
-use tdf_dynamic_plans::{Attrs, edge_rates};
+use tdf_dynamic_plans::Attrs;
 use tdf_exec_layout::{law_edge_formats, law_edges, law_wired};
 use tdf_exec_parts::{firings, first_rings};
 use tdf_rings::Ring;
@@ -72,6 +73,7 @@ fn runners_of(
     layout: &mut Layout,
 ) -> Result<Vec<Runner>, Memory>
     requires sound { IsSoundFlat flat.now }
+    requires has { Contains (clusters_of flat.now.tables) cluster }
     requires rates { AreRates flat.now.tables attrs.now.rows }
     requires once { RowsStandOnce attrs.now.rows }
     requires layout { HasLayoutOf flat.now cluster layout.old }
@@ -80,8 +82,17 @@ fn runners_of(
     ensures others { OnOk result (KeepsLayouts flat.now cluster layout.old layout.new) }
 {
     law_laid();
-    let mut runners = first_runners(alloc, flat, cluster, &mut layout.wires, true)?;
-    give_all(alloc, &flat.tables, attrs, &mut layout.traced, &mut runners);
+    let groups = &layout.groups;
+    let mut runners = first_runners(alloc, flat, groups, cluster, &mut layout.wires, true)?;
+    let numbers = layout.groups.actors(cluster);
+    give_all(
+        alloc,
+        &flat.tables,
+        attrs,
+        numbers,
+        &mut layout.traced,
+        &mut runners,
+    );
     Ok(runners)
 }
 
@@ -118,9 +129,10 @@ fn first_parts(
     ensures others { OnOk result (KeepsLayouts flat.now cluster layout.old layout.new) }
 {
     law_laid();
-    let rates = edge_rates(alloc, &flat.tables, &first.attrs.rows)?;
+    let groups = &layout.groups;
+    let rates = cluster_rates(alloc, &flat.tables, groups, cluster, &first.attrs.rows)?;
     let firings = plan_firings(alloc, flat, &first.plan)?;
-    let rings = first_rings(alloc, &flat.tables, cluster, &first.plan.bounds)?;
+    let rings = first_rings(alloc, &flat.tables, groups, cluster, &first.plan.bounds)?;
     let runners = runners_of(alloc, flat, cluster, &first.attrs, layout)?;
     let positions = vec![in alloc; 0; flat.tables.actors.len()]?;
     let spare = Spare::new(alloc, first.attrs.rows.len())?;

@@ -20,12 +20,13 @@ impl Model for TracedPorts {
 
 ghost use Rattle.std.specs.List.{list_any};
 ghost use Rattle.std.specs.Prelude.{◌≡◌, ◌&&◌, ◌++◌, ◌∷◌, ◌<◌, ◌≤◌, ℕ, [], All, IfOk, List, OnOk, Some, length, map, replicate, slice_get};
+ghost use Rattle.tdf_cluster_net.specs.Numbers.{Rise};
 ghost use Rattle.tdf_dynamic_plans.specs.Attributes.{RowsStandOnce};
 ghost use Rattle.tdf_dynamic_plans.specs.Rates.{AreRates};
 ghost use Rattle.tdf_exec_layout.specs.Traced.{is_trace_of};
 ghost use Rattle.tdf_exec.specs.declared.runners.Runner.{Runner as RunnerOf};
 ghost use Rattle.tdf_exec.specs.declared.runners.TracedPort.{TracedPort as TracedPortOf};
-ghost use Rattle.tdf_exec.specs.machine.Tracing.{AreGivenTraced, AreMarked, AreNumbered, AreTracedUpTo, CanGet, KeepsRow, is_written_traced, marked, put_traced, rated, with_traced};
+ghost use Rattle.tdf_exec.specs.machine.Tracing.{AreGivenTraced, AreMarked, AreNumbered, AreTracedUpTo, CanGet, is_written_traced, marked, put_traced, rated, with_traced};
 ghost use Rattle.tdf_streams.specs.Places.{place_of_port};
 ghost use Rattle.tdf_bind_connections.specs.declared.modules.PortRow.{PortRow as PortRowOf};
 
@@ -227,9 +228,8 @@ fn give_traced(
     requires rates { AreRates tables.now attrs.now.rows }
     requires once { RowsStandOnce attrs.now.rows }
     requires can { CanGet tables.now.ports row.old runner.old }
-    ensures given { runner.new ≡ with_traced (map (rated tables.now attrs.now.rows) row.old)
+    ensures { runner.new ≡ with_traced (map (rated tables.now attrs.now.rows) row.old)
         runner.old }
-    ensures row { KeepsRow runner.old row.old row.new }
 {
     match runner {
         Runner::Module(module) => module.rest.traced = taken(alloc, tables, attrs, row),
@@ -239,24 +239,32 @@ fn give_traced(
     }
 }
 
-/// All modules take their ports.
+/// The modules among the actors with these numbers take their ports.
 pub(crate) fn give_all(
     alloc: Global,
     tables: &FlatTables,
     attrs: &Attrs,
+    numbers: &[u32],
     rows: &mut Vec<TracedPorts>,
     runners: &mut Vec<Runner>,
 )
     requires rates { AreRates tables.now attrs.now.rows }
     requires once { RowsStandOnce attrs.now.rows }
     requires many { length rows.old.items ≤ length runners.old.items }
+    requires rising { Rise numbers.now }
     requires can { (m : ℕ) (list : List TracedPortOf) (r : RunnerOf)
         → slice_get rows.old.items m ≡ Some list → slice_get runners.old.items m ≡ Some r
         → CanGet tables.now.ports list r }
-    ensures { AreGivenTraced tables.now attrs.now.rows (length rows.old.items)
+    ensures { AreGivenTraced tables.now attrs.now.rows numbers.now (length numbers.now)
         rows.old.items rows.new.items runners.old.items runners.new.items }
 {
-    for m in 0..rows.len() {
-        give_traced(alloc, tables, attrs, &mut rows[m], &mut runners[m]);
+    for i in 0..numbers.len() {
+        let m = numbers[i] as usize;
+        if m >= rows.len() {
+            continue;
+        }
+        let row = &mut rows[m];
+        let runner = &mut runners[m];
+        give_traced(alloc, tables, attrs, row, runner);
     }
 }

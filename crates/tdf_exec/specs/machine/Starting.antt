@@ -1,7 +1,7 @@
 -- The runners of a cluster at its start, by actor.
 -- Source: own.
 use Rattle.std.specs.List.{count_by}
-use Rattle.std.specs.Prelude.{◌≡◌, ◌≢◌, ℕ, ◌<◌, ◌≤◌, Bool, true, List, [], ◌∷◌, length, Some, if◌then◌else◌, nat_eq, slice_get, All}
+use Rattle.std.specs.Prelude.{◌≡◌, ◌≢◌, ℕ, ◌<◌, ◌≤◌, Bool, true, List, [], ◌∷◌, length, Some, if◌then◌else◌, nat_eq, slice_get, slice_index, take, All}
 use Rattle.tdf_bind_tables.specs.declared.actors.ActorRow.{ActorRow}
 use Rattle.tdf_exec.specs.Made.{is_sampler_runner, sampler_runners_before}
 use Rattle.tdf_exec.specs.Runners.{ModuleOf}
@@ -85,3 +85,16 @@ pub record AreTakenUpTo (flat : Flat) (Holds : ℕ → FrameState → Type 0) (c
   pub left : (m : ℕ) → n ≤ m → slice_get new m ≡ slice_get old m
   pub others : (m : ℕ) (row : ActorRow) → slice_get flat.tables.actors m ≡ Some row
       → row.cluster ≢ cluster → slice_get new m ≡ slice_get old m
+
+-- the actors with the first i of these numbers have done so: they are the cluster's below a place,
+-- and from there on nothing is kept yet
+pub record AreTakenBy (flat : Flat) (Holds : ℕ → FrameState → Type 0) (cluster : ℕ)
+    (numbers : List ℕ) (i : ℕ) (old new : List ActorWires) (samplers : ℕ) (runners : List Runner)
+    : Type 0 where
+  pub place : ℕ
+  pub low : (j : ℕ) → j < i → slice_index numbers j < place
+  pub high : (j : ℕ) → i ≤ j → j < length numbers → place ≤ slice_index numbers j
+  pub long : length runners ≡ length old
+  pub taken : AreTakenUpTo flat Holds cluster place old new samplers (take place runners)
+  pub rest : (m : ℕ) → place ≤ m → m < length runners
+      → slice_get runners m ≡ Some runner.Outside

@@ -1,7 +1,7 @@
 -- How the ports whose signals are traced are gathered.
 -- Source: own.
 use Rattle.std.specs.List.{enumerate_from, list_any}
-use Rattle.std.specs.Prelude.{◌≡◌, ◌<◌, ◌≤◌, ◌&&◌, ◌++◌, ℕ, Bool, true, false, List, [], ◌∷◌, length, map, Some, filter_map, if◌then◌else◌, slice_get, slice_index_or, slice_set, take}
+use Rattle.std.specs.Prelude.{◌≡◌, ◌≢◌, ◌<◌, ◌≤◌, ◌&&◌, ◌++◌, ℕ, Bool, true, false, List, [], ◌∷◌, length, map, Some, filter_map, if◌then◌else◌, slice_get, slice_index, slice_index_or, slice_set, take}
 use Rattle.tdf_bind_tables.specs.FlatTables.{FlatTablesOf}
 use Rattle.tdf_dynamic_plans.specs.Attributes.{AttrsOf}
 use Rattle.tdf_exec.specs.Runners.{ModuleOf}
@@ -77,20 +77,19 @@ abbrev pub CanGet : List PortRow → List TracedPort → Runner → Type 0
 CanGet ports list (runner.Module x) = AreNumbered ports list
 CanGet ports list _ = Unit {0}
 
--- what an actor of another cluster isn't given stays
-abbrev pub KeepsRow : Runner → (old new : List TracedPort) → Type 0
-KeepsRow runner.Outside old new = new ≡ old
-KeepsRow _ old new = Unit {0}
-
--- the first n actors have taken theirs, with the rates under a table
-pub record AreGivenTraced (tables : FlatTablesOf) (table : List AttrsOf) (n : ℕ)
+-- the actors with the first n of these numbers have taken theirs, with the rates under a table, and
+-- all others are as they were
+pub record AreGivenTraced (tables : FlatTablesOf) (table : List AttrsOf) (numbers : List ℕ) (n : ℕ)
     (rows now : List (List TracedPort)) (old new : List Runner) : Type 0 where
   pub many : length now ≡ length rows
   pub same : length new ≡ length old
-  pub done : (m : ℕ) (list : List TracedPort) (r : Runner) → m < n
-      → slice_get rows m ≡ Some list → slice_get old m ≡ Some r
-      → slice_get new m ≡ Some (with_traced (map (rated tables table) list) r)
-  pub waiting : (m : ℕ) → n ≤ m → slice_get new m ≡ slice_get old m
-  pub left : (m : ℕ) → n ≤ m → slice_get now m ≡ slice_get rows m
-  pub kept : (m : ℕ) → slice_get old m ≡ Some runner.Outside
+  pub done : (i : ℕ) (list : List TracedPort) (r : Runner) → i < n
+      → slice_get rows (slice_index numbers i) ≡ Some list
+      → slice_get old (slice_index numbers i) ≡ Some r
+      → slice_get new (slice_index numbers i)
+      ≡ Some (with_traced (map (rated tables table) list) r)
+  pub past : (m : ℕ) → length rows ≤ m → slice_get new m ≡ slice_get old m
+  pub waiting : (m : ℕ) → ((i : ℕ) → i < n → slice_index numbers i ≢ m)
+      → slice_get new m ≡ slice_get old m
+  pub left : (m : ℕ) → ((i : ℕ) → i < n → slice_index numbers i ≢ m)
       → slice_get now m ≡ slice_get rows m

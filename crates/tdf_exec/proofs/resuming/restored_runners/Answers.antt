@@ -2,6 +2,7 @@ use Rattle.std.proofs.Common.{◌∙◌, List, ap, false, length, subst, sym}
 use Rattle.tdf_dynamic_plans.specs.Attributes.{AttrsOf}
 use Rattle.tdf_dynamic_plans.specs.Known.{AttrsTable}
 use Rattle.tdf_exec.proofs.Kept.{of_modules}
+use Rattle.tdf_exec.proofs.Numbered.{actors_here, in_actors}
 use Rattle.tdf_exec.proofs.Resumed.{can_restore, state_rows}
 use Rattle.tdf_exec.proofs.Taking.{can_take, first_told, many, restored_told, runners_are, told, told_long}
 use Rattle.tdf_exec.specs.Layout.{HasLayoutOf}
@@ -10,6 +11,11 @@ use Rattle.tdf_exec.specs.machine.Resuming.{AreRestored, CanRestore, HoldsState}
 use Rattle.tdf_exec.specs.machine.Starting.{HoldsText}
 use Rattle.tdf_streams.proofs.Api.{are_rates}
 use Rattle.tdf_exec.proofs.resuming.restored_runners.Goals as goal
+
+pub first_runners-requires-clause-groups : goal.first_runners-requires-clause-groups
+first_runners-requires-clause-groups c =
+    let has : HasLayoutOf c.args.flat.now c.args.cluster (the_view c.layout.inside) = subst (HasLayoutOf c.args.flat.now c.args.cluster) (sym c.layout.view_is) (c.in_ok-layout.ensures c.args.cluster) in
+    has.groups
 
 pub first_runners-requires-clause-long : goal.first_runners-requires-clause-long
 first_runners-requires-clause-long c =
@@ -33,6 +39,16 @@ restore_all-requires c =
     (told flat laid (HoldsText flat false) c.args.cluster (the_view c.layout.inside) has samplers begun) samplers begun
     (told_long flat laid (HoldsText flat false) c.args.cluster (the_view c.layout.inside) has samplers begun)
     (first_told flat laid (HoldsText flat false) c.args.cluster (the_view c.layout.inside) has samplers begun c.in_ok-runners.ensures.1.first))
+
+pub actors-numbers-requires : goal.actors-numbers-requires
+actors-numbers-requires c =
+    let has : HasLayoutOf c.args.flat.now c.args.cluster (the_view c.layout.inside) = subst (HasLayoutOf c.args.flat.now c.args.cluster) (sym c.layout.view_is) (c.in_ok-layout.ensures c.args.cluster) in
+    in_actors c.args.flat.now.tables c.layout.inside.groups c.args.cluster c.requires.has has.groups
+
+pub give_all-requires-clause-rising : goal.give_all-requires-clause-rising
+give_all-requires-clause-rising c =
+    let has : HasLayoutOf c.args.flat.now c.args.cluster (the_view c.layout.inside) = subst (HasLayoutOf c.args.flat.now c.args.cluster) (sym c.layout.view_is) (c.in_ok-layout.ensures c.args.cluster) in
+    (actors_here c.args.flat.now.tables c.layout.inside.groups c.args.cluster c.requires.has has.groups c.actors-numbers.result.now c.actors-numbers.ensures).rising
 
 pub give_all-requires-clause-rates : goal.give_all-requires-clause-rates
 give_all-requires-clause-rates c =
@@ -73,5 +89,6 @@ returns c =
     c.in_ok-runners.runners.items c.restore_all.new.runners.items c.in_ok-runners.ensures.1.first
     (subst (λ (t : List AttrsOf). AreRestored flat.checked t c.args.modules.now (length t) c.in_ok-runners.runners.items c.restore_all.new.runners.items)
     (c.deref.ensures.value ∙ ap (λ (a : AttrsTable). a.rows) c.attrs.view_is) c.restore_all.ensures) in
+    let own = actors_here flat.tables c.layout.inside.groups c.args.cluster c.requires.has has.groups c.actors-numbers.result.now c.actors-numbers.ensures in
     runners_are flat laid (HoldsState c.args.attrs.now.rows c.args.modules.now) c.args.cluster (the_view c.layout.inside) has c.in_ok-runners.ensures.0 c.restore_all.new.runners.items held
-    c.args.attrs.now.rows c.give_all.new.rows.items c.give_all.new.runners.items c.give_all.ensures
+    c.args.attrs.now.rows c.actors-numbers.result.now own c.give_all.new.rows.items c.give_all.new.runners.items c.give_all.ensures

@@ -5,6 +5,7 @@ use Rattle.tdf_dynamic_plans.specs.Rates.{AreRates, net_of}
 use Rattle.tdf_streams.specs.Periods.{read_rates, write_rates}
 use Rattle.tdf_exec.proofs.Continued.{state_fits}
 use Rattle.tdf_exec.proofs.Kept.{first_rates}
+use Rattle.tdf_exec.proofs.Numbered.{is_there}
 use Rattle.tdf_exec.specs.machine.Counted.{AreCounted}
 use Rattle.tdf_exec_parts.specs.Restored.{FitStateRings}
 use Rattle.tdf_saved.specs.State.{ClusterStateOf}
@@ -30,6 +31,9 @@ state_rings-requires-clause-fits c =
     (subst (λ (l : List (List ℤ)). FitStateRings tables c.args.cluster first.plan.bounds.items l) (sym edges)
     (state_fits c.args.flat.now c.args.cluster first c.requires.sound (c.law_laid.ensures.laid c.args.flat.now c.requires.sound) c.requires.plan c.law_laid.ensures.present
     c.args.state.now.edges c.args.standing.now.place c.requires.place c.requires.edges))
+
+pub restored_runners-requires-clause-has : goal.restored_runners-requires-clause-has
+restored_runners-requires-clause-has c = is_there c.args.flat.now c.args.cluster c.args.standing.now.first (c.law_laid.ensures.laid c.args.flat.now c.requires.sound) c.requires.plan
 
 pub returns-clause-parts : goal.returns-clause-parts
 returns-clause-parts c =
