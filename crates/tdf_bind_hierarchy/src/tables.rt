@@ -11,7 +11,7 @@ use tdf_base::Memory;
 use tdf_lang_tree::{Format, Raw};
 
 /// A signal by its number: signals of samples and event signals are numbered apart, each from 0, in preorder.
-#[derive(Clone, Copy, Debug, PartialEq, Eq)]
+#[derive(Clone, Copy, Debug, Default, PartialEq, Eq)]
 pub struct SignalNumber {
     /// Whether it is an event signal; else it is one of samples.
     pub event: bool,

@@ -9,6 +9,7 @@ ghost use Rattle.tdf_bind_hierarchy.specs.machine.Walk.{number_at, number_of, ro
 use crate::blocks::{Block, Instance, SignalLine, Target};
 use crate::paths::SharedPath;
 use crate::tables::{InstanceRow, Signal, SignalNumber, Tables, no_tables};
+use smallvec::SmallVec;
 use std::alloc::Global;
 use tdf_base::Memory;
 
@@ -166,9 +167,10 @@ fn walk_row(alloc: Global, tables: &mut Tables, walk: &Walk, row: InstanceRow) -
 {
     let block = row.block;
     let path = Some(row.path.shared()?);
-    let numbers = Vec::from_slice(alloc, &row.signals)?;
+    // The row goes into the tables; a copy of a few numbers takes no memory.
+    let numbers = SmallVec::<SignalNumber, 4>::from_slice(alloc, &row.signals)?;
     tables.put_row(row)?;
-    walk_block(alloc, tables, walk, block, &path, &numbers)
+    walk_block(alloc, tables, walk, block, &path, numbers.as_slice())
 }
 
 /// The tables of a model by its blocks, where `top` is the place of the outermost one.
