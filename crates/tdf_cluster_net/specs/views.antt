@@ -1,3 +1,2 @@
 pub mod Grouping
-pub mod Picked
 pub mod Spreading

@@ -101,6 +101,13 @@ impl Groups {
         Ok(Groups { rows })
     }
 
+    /// How many clusters there are.
+    pub fn count(&self) -> usize
+        ensures { result ≡ length self.now }
+    {
+        self.rows.len()
+    }
+
     /// The numbers of the things in a cluster.
     pub fn group(&self, cluster: u32) -> &[u32]
         requires { cluster < length self.now }

@@ -36,25 +36,25 @@ fn renamed_ports(alloc: Global, numbers: &[u32], ports: &[Port]) -> Result<Vec<P
     Ok(own)
 }
 
-impl ClusterNet {
-    /// The net of a cluster's own actors, edges and ports. They have the numbers of the whole net still, and the numbers that they have
-    /// there are given.
+impl<'g> ClusterNet<'g> {
+    /// The net of a cluster's own actors, edges and ports. These edges and ports have the numbers of the whole net still, and the numbers
+    /// that all have there are given.
     ///
     /// # Errors
     /// Out of memory.
     pub fn made(
         alloc: Global,
-        actor_numbers: &[u32],
-        edge_numbers: &[u32],
-        port_numbers: &[u32],
-        actors: &[Actor],
+        actor_numbers: &'g [u32],
+        edge_numbers: &'g [u32],
+        port_numbers: &'g [u32],
+        actors: Vec<Actor>,
         edges: &[Edge],
         ports: &[Port],
-    ) -> Result<ClusterNet, Memory>
+    ) -> Result<ClusterNet<'g>, Memory>
         requires few_actors { length actor_numbers.now < 2 ^ 32 }
         requires few_edges { length edges.now < 2 ^ 32 }
         requires few_ports { length port_numbers.now < 2 ^ 32 }
-        requires actors { length actors.now ≡ length actor_numbers.now }
+        requires actors { length actors.items ≡ length actor_numbers.now }
         requires ports { length ports.now ≡ length port_numbers.now }
         requires edges_among { All (IsEdgeAmong actor_numbers.now) edges.now }
         requires ports_among { All (IsPortAmong actor_numbers.now) ports.now }
@@ -62,27 +62,23 @@ impl ClusterNet {
           actor_numbers = actor_numbers.now;
           edge_numbers = edge_numbers.now;
           port_numbers = port_numbers.now;
-          actors = actors.now;
+          actors = actors.items;
           edges = edges.now;
           ports = ports.now;
         })) }
     {
         let own_edges = renamed_edges(alloc, actor_numbers, edges)?;
         let own_ports = renamed_ports(alloc, actor_numbers, ports)?;
-        let own_actors = Vec::from_slice(alloc, actors)?;
-        let actors = Vec::from_slice(alloc, actor_numbers)?;
-        let edges = Vec::from_slice(alloc, edge_numbers)?;
-        let ports = Vec::from_slice(alloc, port_numbers)?;
         let net = Net {
-            actors: own_actors,
+            actors,
             edges: own_edges,
             ports: own_ports,
         };
         Ok(ClusterNet {
             net,
-            actors,
-            edges,
-            ports,
+            actors: actor_numbers,
+            edges: edge_numbers,
+            ports: port_numbers,
         })
     }
 }

@@ -1,71 +1,7 @@
-//! The numbers of the actors, edges and ports of a cluster, and places among them.
+//! Places of numbers.
 
-ghost use Rattle.std.specs.Prelude.{◌≡◌, ◌≢◌, ◌<◌, ◌^◌, ℕ, All, IfOk, IfSome, None, length, slice_index, true};
-ghost use Rattle.tdf_cluster_net.specs.Numbers.{AreNumbers, IsAmong};
-ghost use Rattle.tdf_cluster_net.specs.Own.{IsActorInCluster, IsEdgeInCluster, IsPortInCluster};
-
-use std::alloc::Global;
-use tdf_base::Memory;
-use tdf_graph::{Edge, Port};
-
-/// The numbers of the actors of a cluster.
-pub(crate) fn actors_of(alloc: Global, clusters: &[u32], cluster: u32) -> Result<Vec<u32>, Memory>
-    requires { length clusters.now < 2 ^ 32 }
-    ensures { IfOk result (λ numbers. AreNumbers (length clusters.now)
-        (IsActorInCluster clusters.now cluster) numbers.items) }
-{
-    let mut numbers = Vec::new(alloc);
-    for m in 0..clusters.len() as u32 {
-        if clusters[m as usize] == cluster {
-            numbers.push(m)?;
-        }
-    }
-    Ok(numbers)
-}
-
-/// The numbers of the edges of a cluster.
-pub(crate) fn edges_of(
-    alloc: Global,
-    edges: &[Edge],
-    clusters: &[u32],
-    cluster: u32,
-) -> Result<Vec<u32>, Memory>
-    requires few { length edges.now < 2 ^ 32 }
-    requires writers { All (λ e. e.writer < length clusters.now) edges.now }
-    ensures { IfOk result (λ numbers. AreNumbers (length edges.now)
-        (IsEdgeInCluster edges.now clusters.now cluster) numbers.items) }
-{
-    let mut numbers = Vec::new(alloc);
-    for k in 0..edges.len() as u32 {
-        let writer = edges[k as usize].writer;
-        if clusters[writer as usize] == cluster {
-            numbers.push(k)?;
-        }
-    }
-    Ok(numbers)
-}
-
-/// The numbers of the ports of a cluster.
-pub(crate) fn ports_of(
-    alloc: Global,
-    ports: &[Port],
-    clusters: &[u32],
-    cluster: u32,
-) -> Result<Vec<u32>, Memory>
-    requires few { length ports.now < 2 ^ 32 }
-    requires actors { All (λ p. p.actor < length clusters.now) ports.now }
-    ensures { IfOk result (λ numbers. AreNumbers (length ports.now)
-        (IsPortInCluster ports.now clusters.now cluster) numbers.items) }
-{
-    let mut numbers = Vec::new(alloc);
-    for n in 0..ports.len() as u32 {
-        let actor = ports[n as usize].actor;
-        if clusters[actor as usize] == cluster {
-            numbers.push(n)?;
-        }
-    }
-    Ok(numbers)
-}
+ghost use Rattle.std.specs.Prelude.{◌≡◌, ◌≢◌, ◌<◌, ◌^◌, ℕ, IfSome, None, length, slice_index, true};
+ghost use Rattle.tdf_cluster_net.specs.Numbers.{IsAmong};
 
 /// Whether a number stands at a place.
 fn is_at(numbers: &[u32], place: usize, number: u32) -> bool

@@ -77,13 +77,13 @@ fn own_assign(net: &ClusterNet, assign: &Assign) -> Assign
     ensures inside { IsOwnSpot net.now (spot_of result) }
 {
     Assign {
-        actor: place_of(&net.actors, assign.actor),
-        port: place_if(&net.ports, assign.port),
+        actor: place_of(net.actors, assign.actor),
+        port: place_if(net.ports, assign.port),
         step: assign.step,
     }
 }
 
-impl ClusterNet {
+impl<'g> ClusterNet<'g> {
     /// The net by numbers of its own.
     pub fn net(&self) -> &Net
         ensures actors { result.now.actors.items ≡ self.now.actors }
@@ -99,7 +99,7 @@ impl ClusterNet {
     {
         match why {
             BalanceErr::Rates { edge } => BalanceErr::Rates {
-                edge: number_at(&self.edges, edge),
+                edge: number_at(self.edges, edge),
             },
             BalanceErr::TooLarge => BalanceErr::TooLarge,
             BalanceErr::Memory => BalanceErr::Memory,
@@ -115,8 +115,8 @@ impl ClusterNet {
             StepErr::Disagree { a, b } => StepErr::Disagree { a, b },
             StepErr::TooLong => StepErr::TooLong,
             StepErr::Inexact { actor, port } => StepErr::Inexact {
-                actor: number_at(&self.actors, actor),
-                port: with_number(&self.ports, port),
+                actor: number_at(self.actors, actor),
+                port: with_number(self.ports, port),
             },
             StepErr::Memory => StepErr::Memory,
         }
@@ -129,10 +129,10 @@ impl ClusterNet {
         match why {
             PlanErr::TooLarge => PlanErr::TooLarge,
             PlanErr::Deadlock { actor } => PlanErr::Deadlock {
-                actor: number_at(&self.actors, actor),
+                actor: number_at(self.actors, actor),
             },
             PlanErr::Noncausal { sink, index } => PlanErr::Noncausal {
-                sink: number_at(&self.actors, sink),
+                sink: number_at(self.actors, sink),
                 index,
             },
             PlanErr::Memory => PlanErr::Memory,
@@ -165,7 +165,7 @@ impl ClusterNet {
         requires rising { Rise self.now.actor_numbers }
         ensures { IfOk result (λ all. AreSpread self.now.actor_numbers count values.now all.items) }
     {
-        spread(alloc, &self.actors, count, values)
+        spread(alloc, self.actors, count, values)
     }
 
     /// The values of the cluster's actors from a list of all.
@@ -179,7 +179,7 @@ impl ClusterNet {
             → slice_index values.items i
             ≡ slice_index all.now (slice_index self.now.actor_numbers i)) }
     {
-        picked(alloc, &self.actors, all)
+        picked(alloc, self.actors, all)
     }
 
     /// Steps of the cluster's actors among those of `count` actors.
@@ -231,7 +231,7 @@ impl ClusterNet {
         requires rising { Rise self.now.edge_numbers }
         ensures { IfOk result (IsWholePlan self.now count plan) }
     {
-        let bounds = match spread_bounds(alloc, &self.edges, count, &plan.bounds) {
+        let bounds = match spread_bounds(alloc, self.edges, count, &plan.bounds) {
             Ok(bounds) => bounds,
             Err(refused) => {
                 drop(plan);
@@ -239,7 +239,7 @@ impl ClusterNet {
             }
         };
         let mut entries = plan.entries;
-        rename_entries(&self.actors, &mut entries);
+        rename_entries(self.actors, &mut entries);
         drop(plan.bounds);
         Ok(Plan {
             entries,

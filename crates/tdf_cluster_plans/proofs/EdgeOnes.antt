@@ -15,7 +15,7 @@ use Rattle.tdf_bind_connections.specs.declared.modules.PortRow.{PortRow}
 use Rattle.tdf_bind_tables.specs.FlatTables.{FlatTablesOf}
 use Rattle.tdf_cluster_net.specs.Numbers.{AreNumbers, IsAmong}
 use Rattle.tdf_cluster_plans.proofs.OwnNets.{edges_long}
-use Rattle.tdf_cluster_plans.specs.Groups.{HasPortsInside, edge_cluster, port_cluster}
+use Rattle.tdf_cluster_plans.specs.Groups.{AreOnesElsewhere, HasPortsInside, edge_cluster, port_cluster}
 use Rattle.tdf_cluster_plans.specs.machine.Setting.{AreDue}
 use Rattle.tdf_dynamic_plans.specs.Attributes.{AttrsOf, IsOfCluster, attrs_at, clusters_of}
 use Rattle.tdf_dynamic_plans.specs.Rates.{edge_kind, net_of, net_ports, rate_by, rated_edge, rated_port, read_rate_by, write_rate_by}
@@ -100,12 +100,12 @@ all_at tables [] all k edge is = absurd cc
 all_at tables (x ∷ edges) all zero edge is = subst (HasPortsInside tables) (same_Some x edge is) all.0
 all_at tables (x ∷ edges) all (suc k) edge is = all_at tables edges all.1 k edge is
 
--- a list of ones is right but at the numbers of those that are of a kind
+-- a list that has ones elsewhere is right but at the numbers of those that are of a kind
 module _ {A : Type 0} (f g : A → ℕ) (rows : List A) (cluster : ℕ) (numbers : List ℕ) (one : (k : ℕ) (x : A) → slice_get rows k ≡ Some x → (g x ≡ cluster → ⊥) → f x ≡ 1)
     (are : AreNumbers (length (map g rows)) (λ k. slice_index (map g rows) k ≡ cluster) numbers) where
-  pub ones_due : (list : List ℕ) (count : ℕ) → count ≡ length rows → list ≡ replicate count 1 → AreDue (map f rows) numbers 0 list
-  ones_due list count count_is is = record {
-    long = ap length is ∙ length-replicate count 1 ∙ count_is ∙ sym (length-map rows f);
+  pub ones_due : (list : List ℕ) → length list ≡ length rows → ((k : ℕ) (x : A) → slice_get rows k ≡ Some x → (g x ≡ cluster → ⊥) → slice_index list k ≡ 1) → AreDue (map f rows) numbers 0 list
+  ones_due list long ones = record {
+    long = long ∙ sym (length-map rows f);
     each = λ k less. go k (let l = length-map rows f in omega (arith, less, l)) (cases_eq (slice_index (map g rows) k) cluster);
   }
     where
@@ -117,26 +117,48 @@ module _ {A : Type 0} (f g : A → ℕ) (rows : List A) (cluster : ℕ) (numbers
       go k less (inl own) = inr (among_due k (are.all k (let l = length-map rows g in omega (arith, less, l)) own))
       go k less (inr other) =
           let x = row_at rows k less in
-          inl (ap (λ l. get_or l k 0) is ∙ get_or-replicate count k 1 0 (omega (arith, less, count_is))
-          ∙ sym (at_map f rows k x.0 x.1 ∙ one k x.0 x.1 (λ same. other (at_map g rows k x.0 x.1 ∙ same))))
+          let apart : g x.0 ≡ cluster → ⊥ = (λ same. other (at_map g rows k x.0 x.1 ∙ same)) in
+          inl (ones k x.0 x.1 apart ∙ sym (at_map f rows k x.0 x.1 ∙ one k x.0 x.1 apart))
 
-module _ (tables : FlatTablesOf) (cluster : ℕ) (table : List AttrsOf) (all : All (IsOfCluster tables cluster) table) (inside : All (HasPortsInside tables) tables.edges) (group : List ℕ)
-    (are : AreNumbers (length (map (edge_cluster (clusters_of tables)) tables.edges)) (λ k. slice_index (map (edge_cluster (clusters_of tables)) tables.edges) k ≡ cluster) group)
-    (numbers list : List ℕ) (count : ℕ) (same : numbers ≡ group) (count_is : count ≡ length tables.edges) (is : list ≡ replicate count 1) where
-  due : (f : Edge → ℕ) → ((k : ℕ) (x : EdgeRow) → slice_get tables.edges k ≡ Some x → (edge_cluster (clusters_of tables) x ≡ cluster → ⊥) → f (rated_edge tables.ports (net_ports tables table) x) ≡ 1)
-      → AreDue (map f (net_of tables table).edges) numbers 0 list
-  due f one =
-      subst (λ w. AreDue w numbers 0 list) (sym (wanted_is tables table f))
-      (subst (λ n. AreDue (map (λ (row : EdgeRow). f (rated_edge tables.ports (net_ports tables table) row)) tables.edges) n 0 list) (sym same)
-      (ones_due (λ (row : EdgeRow). f (rated_edge tables.ports (net_ports tables table) row)) (edge_cluster (clusters_of tables)) tables.edges cluster group one are list count count_is is))
+-- ones are ones elsewhere
+pub all_ones : (tables : FlatTablesOf) (cluster count : ℕ) (list : List ℕ) → count ≡ length tables.edges → list ≡ replicate count 1 → AreOnesElsewhere tables cluster list
+all_ones tables cluster count list count_is is = record {
+  long = ap length is ∙ length-replicate count 1 ∙ count_is;
+  ones = λ e edge at other. ap (λ l. get_or l e 0) is ∙ get_or-replicate count e 1 0 (let w = slice_get_within tables.edges e edge at in omega (arith, w, count_is));
+}
 
-  pub reads_due : AreDue (map (λ (edge : Edge). edge.read_rate) (net_of tables table).edges) numbers 0 list
-  reads_due = due (λ (edge : Edge). edge.read_rate)
-      (λ k x at other. reads_one tables cluster table all x (all_at tables tables.edges (recursion_from_All (HasPortsInside tables) tables.edges inside) k x at) other)
+module _ (tables : FlatTablesOf) (cluster : ℕ) (table : List AttrsOf) (all : All (IsOfCluster tables cluster) table) (inside : All (HasPortsInside tables) tables.edges) where
+  edge_has : (k : ℕ) (x : EdgeRow) → slice_get tables.edges k ≡ Some x → HasPortsInside tables x
+  edge_has k x at = all_at tables tables.edges (recursion_from_All (HasPortsInside tables) tables.edges inside) k x at
 
-  pub writes_due : AreDue (map (λ (edge : Edge). edge.write_rate) (net_of tables table).edges) numbers 0 list
-  writes_due = due (λ (edge : Edge). edge.write_rate)
-      (λ k x at other. writes_one tables cluster table all x (all_at tables tables.edges (recursion_from_All (HasPortsInside tables) tables.edges inside) k x at) other)
+  -- the rates under a table of the cluster are ones elsewhere
+  elsewhere : (f : Edge → ℕ) → ((k : ℕ) (x : EdgeRow) → slice_get tables.edges k ≡ Some x → (edge_cluster (clusters_of tables) x ≡ cluster → ⊥) → f (rated_edge tables.ports (net_ports tables table) x) ≡ 1)
+      → AreOnesElsewhere tables cluster (map f (net_of tables table).edges)
+  elsewhere f one = record {
+    long = wanted_long tables table f;
+    ones = λ e edge at other. ap (λ l. get_or l e 0) (wanted_is tables table f) ∙ at_map (λ (row : EdgeRow). f (rated_edge tables.ports (net_ports tables table) row)) tables.edges e edge at ∙ one e edge at other;
+  }
+
+  pub reads_elsewhere : AreOnesElsewhere tables cluster (map (λ (edge : Edge). edge.read_rate) (net_of tables table).edges)
+  reads_elsewhere = elsewhere (λ (edge : Edge). edge.read_rate) (λ k x at other. reads_one tables cluster table all x (edge_has k x at) other)
+
+  pub writes_elsewhere : AreOnesElsewhere tables cluster (map (λ (edge : Edge). edge.write_rate) (net_of tables table).edges)
+  writes_elsewhere = elsewhere (λ (edge : Edge). edge.write_rate) (λ k x at other. writes_one tables cluster table all x (edge_has k x at) other)
+
+  module _ (group : List ℕ) (are : AreNumbers (length (map (edge_cluster (clusters_of tables)) tables.edges)) (λ k. slice_index (map (edge_cluster (clusters_of tables)) tables.edges) k ≡ cluster) group)
+      (numbers list : List ℕ) (same : numbers ≡ group) (is : AreOnesElsewhere tables cluster list) where
+    due : (f : Edge → ℕ) → ((k : ℕ) (x : EdgeRow) → slice_get tables.edges k ≡ Some x → (edge_cluster (clusters_of tables) x ≡ cluster → ⊥) → f (rated_edge tables.ports (net_ports tables table) x) ≡ 1)
+        → AreDue (map f (net_of tables table).edges) numbers 0 list
+    due f one =
+        subst (λ w. AreDue w numbers 0 list) (sym (wanted_is tables table f))
+        (subst (λ n. AreDue (map (λ (row : EdgeRow). f (rated_edge tables.ports (net_ports tables table) row)) tables.edges) n 0 list) (sym same)
+        (ones_due (λ (row : EdgeRow). f (rated_edge tables.ports (net_ports tables table) row)) (edge_cluster (clusters_of tables)) tables.edges cluster group one are list is.long is.ones))
+
+    pub reads_due : AreDue (map (λ (edge : Edge). edge.read_rate) (net_of tables table).edges) numbers 0 list
+    reads_due = due (λ (edge : Edge). edge.read_rate) (λ k x at other. reads_one tables cluster table all x (edge_has k x at) other)
+
+    pub writes_due : AreDue (map (λ (edge : Edge). edge.write_rate) (net_of tables table).edges) numbers 0 list
+    writes_due = due (λ (edge : Edge). edge.write_rate) (λ k x at other. writes_one tables cluster table all x (edge_has k x at) other)
 
 -- one value more is set
 pub due_set : (wanted numbers list : List ℕ) (i e v : ℕ) → e ≡ slice_index numbers i → e < length wanted → v ≡ slice_index wanted e → AreDue wanted numbers i list

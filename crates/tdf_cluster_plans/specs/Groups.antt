@@ -1,6 +1,6 @@
 -- The things of a model by cluster.
 -- Source: own.
-use Rattle.std.specs.Prelude.{ℕ, ◌≡◌, ◌<◌, List, Some, length, map, slice_get, slice_index}
+use Rattle.std.specs.Prelude.{ℕ, ◌≡◌, ◌≢◌, ◌<◌, List, Some, length, map, slice_get, slice_index}
 use Rattle.tdf_bind_connections.specs.declared.edges.EdgeRow.{EdgeRow}
 use Rattle.tdf_bind_connections.specs.declared.modules.PortRow.{PortRow}
 use Rattle.tdf_bind_tables.specs.FlatTables.{FlatTablesOf}
@@ -38,3 +38,9 @@ pub record HasPortsInside (tables : FlatTablesOf) (edge : EdgeRow) : Type 0 wher
       → port_cluster (clusters_of tables) p ≡ edge_cluster (clusters_of tables) edge
   pub driver : (n : ℕ) (p : PortRow) → edge.driver ≡ Some n → slice_get tables.ports n ≡ Some p
       → port_cluster (clusters_of tables) p ≡ edge_cluster (clusters_of tables) edge
+
+-- the edges of other clusters have the rate 1
+pub record AreOnesElsewhere (tables : FlatTablesOf) (cluster : ℕ) (rates : List ℕ) : Type 0 where
+  pub long : length rates ≡ length tables.edges
+  pub ones : (e : ℕ) (edge : EdgeRow) → slice_get tables.edges e ≡ Some edge
+      → edge_cluster (clusters_of tables) edge ≢ cluster → slice_index rates e ≡ 1

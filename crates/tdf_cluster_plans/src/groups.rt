@@ -97,6 +97,13 @@ impl TableGroups {
         })
     }
 
+    /// The number that those of all clusters are below.
+    pub fn count(&self) -> usize
+        ensures { result ≡ length self.now.actors }
+    {
+        self.actors.count()
+    }
+
     /// The numbers of the actors of a cluster.
     pub fn actors(&self, cluster: u32) -> &[u32]
         requires { cluster < length self.now.actors }

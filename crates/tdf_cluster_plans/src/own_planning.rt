@@ -47,7 +47,7 @@ fn own_plan_of(
 ///
 /// # Errors
 /// The first fault of buffers, firings that wait for themselves, or sinks that are late; or out of memory.
-pub(crate) fn make_own(
+pub fn make_plan(
     alloc: Global,
     tables: &FlatTables,
     own: &ClusterNet,

@@ -2,7 +2,7 @@
 
 ghost use Rattle.std.specs.Prelude.{◌≡◌, All, Contains, IfOk, length, map, true};
 ghost use Rattle.tdf_cluster_net.specs.Numbers.{AllBelow};
-ghost use Rattle.tdf_cluster_plans.specs.Groups.{AreTableGroups, HasPortsInside};
+ghost use Rattle.tdf_cluster_plans.specs.Groups.{AreOnesElsewhere, AreTableGroups, HasPortsInside};
 ghost use Rattle.tdf_cluster_plans.specs.machine.Setting.{AreDue};
 ghost use Rattle.tdf_dynamic_plans.specs.Attributes.{IsOfCluster, RowsStandOnce, clusters_of};
 ghost use Rattle.tdf_dynamic_plans.specs.Rates.{AreRates, IsWired, net_of};
@@ -43,8 +43,36 @@ fn set_rates(
     }
 }
 
+/// Sets the rates of each edge of a model to those under a table of one cluster: those of the edges of its net. Only the cluster's own edges
+/// are looked at: the others have the rate 1 already, since their ports are of modules that aren't in the table. It takes no memory.
+pub fn set_cluster_rates(
+    tables: &FlatTables,
+    groups: &TableGroups,
+    cluster: u32,
+    table: &[ModuleAttrs],
+    reads: &mut Vec<u32>,
+    writes: &mut Vec<u32>,
+)
+    requires wired { IsWired tables.now }
+    requires inside { All (HasPortsInside tables.now) tables.now.edges }
+    requires has { Contains (clusters_of tables.now) cluster }
+    requires table { All (IsOfCluster tables.now cluster) table.now }
+    requires rates { AreRates tables.now table.now }
+    requires groups { AreTableGroups tables.now groups.now }
+    requires reads { AreOnesElsewhere tables.now cluster reads.old.items }
+    requires writes { AreOnesElsewhere tables.now cluster writes.old.items }
+    ensures reads { reads.new.items
+        ≡ map (λ edge. edge.read_rate) (net_of tables.now table.now).edges }
+    ensures writes { writes.new.items
+        ≡ map (λ edge. edge.write_rate) (net_of tables.now table.now).edges }
+{
+    let numbers = groups.edges(cluster);
+    let once = are_rising(table);
+    set_rates(tables, table, once, numbers, reads, writes);
+}
+
 /// The rates of each edge of a model under a table of one cluster: those of the edges of its net. The edges of other clusters
-/// have the rate 1, and aren't looked at: their ports are of modules that aren't in the table.
+/// have the rate 1, and aren't looked at.
 ///
 /// # Errors
 /// Out of memory.
@@ -66,11 +94,8 @@ pub fn cluster_rates(
     ensures writes { IfOk result (λ rates. rates.writes.items
         ≡ map (λ edge. edge.write_rate) (net_of tables.now table.now).edges) }
 {
-    let numbers = groups.edges(cluster);
-    let count = tables.edges.len();
-    let mut reads = ones(alloc, count)?;
-    let mut writes = ones(alloc, count)?;
-    let once = are_rising(table);
-    set_rates(tables, table, once, numbers, &mut reads, &mut writes);
+    let mut reads = ones(alloc, tables.edges.len())?;
+    let mut writes = ones(alloc, tables.edges.len())?;
+    set_cluster_rates(tables, groups, cluster, table, &mut reads, &mut writes);
     Ok(EdgeRates { reads, writes })
 }

@@ -96,7 +96,7 @@ fn own_steps_or(
 ///
 /// # Errors
 /// The first fault of the counts, the period or the steps; or out of memory.
-pub(crate) fn own_steps_of(
+pub fn cluster_timing(
     alloc: Global,
     tables: &FlatTables,
     own: &ClusterNet,

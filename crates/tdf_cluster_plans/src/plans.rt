@@ -10,8 +10,8 @@ ghost use Rattle.tdf_dynamic_plans.specs.Rates.{AreRates, IsWired};
 
 use crate::groups::TableGroups;
 use crate::own_parts::{own_actors, own_edges, own_ports};
-use crate::own_planning::make_own;
-use crate::own_timing::own_steps_of;
+use crate::own_planning::make_plan;
+use crate::own_timing::cluster_timing;
 use std::alloc::Global;
 use tdf_base::{Memory, row_number};
 use tdf_bind_tables::FlatTables;
@@ -20,13 +20,16 @@ use tdf_dynamic_plans::{ChangeErr, KnownPlans, ModuleAttrs, are_rising};
 use tdf_schedule::Plan;
 
 /// The cluster's own net under a table, made of the numbers of what is the cluster's.
-fn own_net(
+///
+/// # Errors
+/// Out of memory.
+pub fn own_net<'g>(
     alloc: Global,
     tables: &FlatTables,
-    groups: &TableGroups,
+    groups: &'g TableGroups,
     cluster: u32,
     table: &[ModuleAttrs],
-) -> Result<ClusterNet, Memory>
+) -> Result<ClusterNet<'g>, Memory>
     requires wired { IsWired tables.now }
     requires has { Contains (clusters_of tables.now) cluster }
     requires rates { AreRates tables.now table.now }
@@ -48,7 +51,7 @@ fn own_net(
         actor_numbers,
         edge_numbers,
         port_numbers,
-        &actors,
+        actors,
         &edges,
         &ports,
     )
@@ -70,8 +73,8 @@ fn net_plan(
     ensures planned { IfOk result (λ plan. HasTablePlanned tables.now cluster table.now plan known.old known.new) }
     ensures refused { IfErr result (IsRefusal (IsTableFault tables.now cluster table.now)) }
 {
-    match own_steps_of(alloc, tables, own, cluster, table) {
-        Ok(timing) => make_own(alloc, tables, own, cluster, table, timing, known),
+    match cluster_timing(alloc, tables, own, cluster, table) {
+        Ok(timing) => make_plan(alloc, tables, own, cluster, table, timing, known),
         Err(refused) => Err(refused),
     }
 }

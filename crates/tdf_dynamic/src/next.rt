@@ -3,6 +3,8 @@
 ghost use Rattle.std.specs.Prelude.{◌≡◌, ◌≤◌, ℕ, List, All, Contains, Some, Ok, Err, IfOk, IfErr, IsOk, OnOk, OnErr, length};
 ghost use Rattle.std.specs.Vec.{vec_capacity};
 ghost use Rattle.tdf_base.specs.declared.codes.Code.TheVariants as code;
+ghost use Rattle.tdf_cluster_plans.specs.Groups.{AreTableGroups};
+ghost use Rattle.tdf_cluster_plans.specs.Own.{IsNetOfCluster};
 ghost use Rattle.tdf_dynamic.specs.Change.{fault_of_row, table_after};
 ghost use Rattle.tdf_dynamic.specs.Given.{AreFramesOf, IsOfText, IsPlanned, WhenAsked};
 ghost use Rattle.tdf_dynamic.specs.Next.{AnswersAsks, HaveChanged, IsCarried};
@@ -13,7 +15,7 @@ ghost use Rattle.tdf_dynamic.specs.machine.Rows.{AreAfter, HoldsBelow, IsFirstPl
 ghost use Rattle.tdf_dynamic_plans.specs.Attributes.{AttrsOf, IsOfCluster, clusters_of};
 ghost use Rattle.tdf_dynamic_plans.specs.Faults.{HasTiming, IsRefusal, IsStepsFault};
 ghost use Rattle.tdf_dynamic_plans.specs.Known.{AreTrueFor, HasTablePlanned, IsKnown, IsKnownAt, table_key};
-ghost use Rattle.tdf_dynamic_plans.specs.Rates.{AreRates, IsWired, net_of, net_seen};
+ghost use Rattle.tdf_dynamic_plans.specs.Rates.{AreRates, IsWired, net_of, net_ports};
 ghost use Rattle.tdf_dynamic_plans.specs.declared.err.ChangeErr.TheVariants.{Refused};
 ghost use Rattle.tdf_dynamic.specs.declared.next.Next.TheVariants.{Same};
 ghost use Rattle.tdf_streams.specs.Below.{AreWithinLimits};
@@ -28,10 +30,9 @@ use std::alloc::Global;
 use tdf_balance::law_counts;
 use tdf_base::{Code, Fault, Place};
 use tdf_bind::Flat;
-use tdf_dynamic_plans::{
-    Attrs, ChangeErr, KnownPlans, ModuleAttrs, Timing, clusters_of, module_path, net_of, steps_of,
-};
-use tdf_graph::Net;
+use tdf_cluster_net::ClusterNet;
+use tdf_cluster_plans::{TableGroups, cluster_timing, make_plan, own_net};
+use tdf_dynamic_plans::{Attrs, ChangeErr, KnownPlans, ModuleAttrs, Timing, module_path};
 use tdf_schedule::Plan;
 
 /// What a boundary of a cluster leads to.
@@ -60,138 +61,103 @@ fn module_fault(alloc: Global, flat: &Flat, why: Code, attrs: &ModuleAttrs) -> C
 #[derive(Clone, Copy)]
 struct Boundary<'a> {
     flat: &'a Flat,
+    /// The things of the model by cluster.
+    groups: &'a TableGroups,
     cluster: u32,
     /// The attributes in force.
     table: &'a [ModuleAttrs],
     frames: &'a [Instance],
 }
 
-/// Whether no module rejects, or the fault that one does.
+/// Whether no module rejects a new table with this timing, or the fault that one does. The timing of the table in force is given.
 fn accepted(
     alloc: Global,
     at: &Boundary,
-    before: &Net,
     old: &Timing,
-    after: &Net,
-    new: &Timing,
+    new: &[ModuleAttrs],
+    timing: &Timing,
 ) -> Result<(), ChangeErr>
+    requires rates { AreRates at.now.flat.now.tables at.now.table.now }
     requires tells { AllTell at.now.flat.now at.now.table.now at.now.frames.now }
-    ensures none { OnOk result (HoldsBelow (λ attrs f. IsRefusing before.now.ports.items after.now.ports.items old.now.steps new.now.steps attrs f → ⊥)
+    requires new_rates { AreRates at.now.flat.now.tables new.now }
+    ensures none { OnOk result (HoldsBelow (λ attrs f. IsRefusing (net_ports at.now.flat.now.tables at.now.table.now) (net_ports at.now.flat.now.tables new.now) old.now.steps timing.now.steps attrs f → ⊥)
         at.now.table.now at.now.frames.now (length at.now.table.now)) }
     ensures refused { IfErr result (IsRefusal (λ fault. (k : ℕ)
-        × (first : IsFirstPlace (IsRefusing before.now.ports.items after.now.ports.items old.now.steps new.now.steps) at.now.table.now at.now.frames.now k)
+        × (first : IsFirstPlace (IsRefusing (net_ports at.now.flat.now.tables at.now.table.now) (net_ports at.now.flat.now.tables new.now) old.now.steps timing.now.steps) at.now.table.now at.now.frames.now k)
         × (fault_of_row at.now.flat.now.tables code.Rejected first.one ≡ Some fault))) }
 {
     let table = at.table;
-    match first_rejecting(
-        at.flat, table, at.frames, before, &old.steps, after, &new.steps,
-    ) {
+    match first_rejecting(at.flat, table, new, at.frames, &old.steps, &timing.steps) {
         None => Ok(()),
         Some(place) => Err(module_fault(alloc, at.flat, Code::Rejected, &table[place])),
     }
 }
 
-/// The counts and steps under a table, whose net is given.
-fn timing_of(
-    alloc: Global,
-    at: &Boundary,
-    net: &Net,
-    table: &[ModuleAttrs],
-) -> Result<Timing, ChangeErr>
+/// The counts and steps under the attributes in force, found anew.
+fn timing_of(alloc: Global, at: &Boundary) -> Result<Timing, ChangeErr>
     requires wired { IsWired at.now.flat.now.tables }
+    requires groups { AreTableGroups at.now.flat.now.tables at.now.groups.now }
     requires has { Contains (clusters_of at.now.flat.now.tables) at.now.cluster }
-    requires table { All (IsOfCluster at.now.flat.now.tables at.now.cluster) table.now }
-    requires net { net_seen net.now ≡ net_of at.now.flat.now.tables table.now }
-    ensures timing { IfOk result (λ t. HasTiming at.now.flat.now.tables (net_seen net.now) at.now.cluster table.now t.counts.items t.steps) }
-    ensures refused { IfErr result (IsRefusal (IsStepsFault at.now.flat.now.tables (net_seen net.now) at.now.cluster table.now)) }
+    requires table { All (IsOfCluster at.now.flat.now.tables at.now.cluster) at.now.table.now }
+    requires rates { AreRates at.now.flat.now.tables at.now.table.now }
+    ensures timing { IfOk result (λ t. HasTiming at.now.flat.now.tables (net_of at.now.flat.now.tables at.now.table.now) at.now.cluster at.now.table.now t.counts.items t.steps) }
+    ensures refused { IfErr result (IsRefusal (IsStepsFault at.now.flat.now.tables (net_of at.now.flat.now.tables at.now.table.now) at.now.cluster at.now.table.now)) }
 {
     let tables = &at.flat.tables;
-    let clusters = clusters_of(alloc, tables)?;
-    let found = steps_of(alloc, tables, net, &clusters, at.cluster, table);
-    drop(clusters);
+    let own = own_net(alloc, tables, at.groups, at.cluster, at.table)?;
+    let found = cluster_timing(alloc, tables, &own, at.cluster, at.table);
+    drop(own);
     found
 }
 
 /// The counts and steps under the attributes in force: those of the plan that is known, else found anew.
-fn old_timing(
-    alloc: Global,
-    at: &Boundary,
-    before: &Net,
-    known: &KnownPlans,
-) -> Result<Timing, ChangeErr>
+fn old_timing(alloc: Global, at: &Boundary, known: &KnownPlans) -> Result<Timing, ChangeErr>
     requires wired { IsWired at.now.flat.now.tables }
+    requires groups { AreTableGroups at.now.flat.now.tables at.now.groups.now }
     requires has { Contains (clusters_of at.now.flat.now.tables) at.now.cluster }
     requires table { All (IsOfCluster at.now.flat.now.tables at.now.cluster) at.now.table.now }
+    requires rates { AreRates at.now.flat.now.tables at.now.table.now }
     requires known { AreTrueFor at.now.flat.now.tables at.now.cluster known.now.plans }
-    requires net { net_seen before.now ≡ net_of at.now.flat.now.tables at.now.table.now }
-    ensures timing { IfOk result (λ t. HasTiming at.now.flat.now.tables (net_seen before.now) at.now.cluster at.now.table.now t.counts.items t.steps) }
-    ensures refused { IfErr result (IsRefusal (IsStepsFault at.now.flat.now.tables (net_seen before.now) at.now.cluster at.now.table.now)) }
+    ensures timing { IfOk result (λ t. HasTiming at.now.flat.now.tables (net_of at.now.flat.now.tables at.now.table.now) at.now.cluster at.now.table.now t.counts.items t.steps) }
+    ensures refused { IfErr result (IsRefusal (IsStepsFault at.now.flat.now.tables (net_of at.now.flat.now.tables at.now.table.now) at.now.cluster at.now.table.now)) }
 {
     match known.find(at.table) {
         Some(place) => Ok(known.timing(place).copy(alloc)?),
-        None => timing_of(alloc, at, before, at.table),
+        None => timing_of(alloc, at),
     }
 }
 
-/// Whether no module rejects a new table with this net and this timing, or the fault that one does.
+/// Whether no module rejects a new table with this timing, or the fault that one does.
 fn unrejected(
     alloc: Global,
     at: &Boundary,
-    after: &Net,
-    new: &Timing,
+    new: &[ModuleAttrs],
+    timing: &Timing,
     known: &KnownPlans,
 ) -> Result<(), ChangeErr>
     requires wired { IsWired at.now.flat.now.tables }
+    requires groups { AreTableGroups at.now.flat.now.tables at.now.groups.now }
     requires has { Contains (clusters_of at.now.flat.now.tables) at.now.cluster }
     requires table { All (IsOfCluster at.now.flat.now.tables at.now.cluster) at.now.table.now }
     requires rates { AreRates at.now.flat.now.tables at.now.table.now }
     requires planned { IsPlanned at.now.flat.now.tables at.now.cluster at.now.table.now }
     requires tells { AllTell at.now.flat.now at.now.table.now at.now.frames.now }
     requires known { AreTrueFor at.now.flat.now.tables at.now.cluster known.now.plans }
-    ensures none { OnOk result (IsUnrejected at.now.flat.now.tables at.now.cluster at.now.table.now at.now.frames.now after.now.ports.items new.now.steps) }
-    ensures refused { IfErr result (IsRefusal (IsRejection at.now.flat.now.tables at.now.cluster at.now.table.now at.now.frames.now after.now.ports.items new.now.steps)) }
+    requires new_rates { AreRates at.now.flat.now.tables new.now }
+    ensures none { OnOk result (IsUnrejected at.now.flat.now.tables at.now.cluster at.now.table.now at.now.frames.now (net_ports at.now.flat.now.tables new.now) timing.now.steps) }
+    ensures refused { IfErr result (IsRefusal (IsRejection at.now.flat.now.tables at.now.cluster at.now.table.now at.now.frames.now (net_ports at.now.flat.now.tables new.now) timing.now.steps)) }
 {
     law_counts();
     if take_all(at.flat, at.table, at.frames) {
         return Ok(());
     }
-    let before = net_of(alloc, &at.flat.tables, at.table)?;
-    match old_timing(alloc, at, &before, known) {
-        Ok(old) => accepted(alloc, at, &before, &old, after, new),
+    match old_timing(alloc, at, known) {
+        Ok(old) => accepted(alloc, at, &old, new, timing),
         Err(refused) => Err(refused),
     }
 }
 
-/// The plan of a new table that is known at a place and whose net is given, if no module rejects it.
-fn asked_known(
-    alloc: Global,
-    at: &Boundary,
-    new: &[ModuleAttrs],
-    after: &Net,
-    known: &KnownPlans,
-    place: usize,
-) -> Result<Plan, ChangeErr>
-    requires wired { IsWired at.now.flat.now.tables }
-    requires has { Contains (clusters_of at.now.flat.now.tables) at.now.cluster }
-    requires table { All (IsOfCluster at.now.flat.now.tables at.now.cluster) at.now.table.now }
-    requires rates { AreRates at.now.flat.now.tables at.now.table.now }
-    requires planned { IsPlanned at.now.flat.now.tables at.now.cluster at.now.table.now }
-    requires tells { AllTell at.now.flat.now at.now.table.now at.now.frames.now }
-    requires known { AreTrueFor at.now.flat.now.tables at.now.cluster known.now.plans }
-    requires new { All (IsOfCluster at.now.flat.now.tables at.now.cluster) new.now }
-    requires net { net_seen after.now ≡ net_of at.now.flat.now.tables new.now }
-    requires here { IsKnownAt known.now.plans (table_key new.now) place }
-    ensures plan { IfOk result (IsJudged at.now.flat.now.tables at.now.cluster at.now.table.now new.now at.now.frames.now) }
-    ensures refused { IfErr result (IsRefusal (IsJudgedFault at.now.flat.now.tables at.now.cluster at.now.table.now new.now at.now.frames.now)) }
-    ensures planned { IfOk result (λ plan. HasTablePlanned at.now.flat.now.tables at.now.cluster new.now plan known.now known.now) }
-{
-    match unrejected(alloc, at, after, known.timing(place), known) {
-        Ok(()) => Ok(known.plan(alloc, place)?),
-        Err(refused) => Err(refused),
-    }
-}
-
-/// The plan of a new table that is known at a place, if no module rejects it. No net is made where none can.
+/// The plan of a new table that is known at a place, if no module rejects it.
 fn judged_known(
     alloc: Global,
     at: &Boundary,
@@ -200,6 +166,7 @@ fn judged_known(
     place: usize,
 ) -> Result<Plan, ChangeErr>
     requires wired { IsWired at.now.flat.now.tables }
+    requires groups { AreTableGroups at.now.flat.now.tables at.now.groups.now }
     requires has { Contains (clusters_of at.now.flat.now.tables) at.now.cluster }
     requires table { All (IsOfCluster at.now.flat.now.tables at.now.cluster) at.now.table.now }
     requires rates { AreRates at.now.flat.now.tables at.now.table.now }
@@ -213,24 +180,22 @@ fn judged_known(
     ensures refused { IfErr result (IsRefusal (IsJudgedFault at.now.flat.now.tables at.now.cluster at.now.table.now new.now at.now.frames.now)) }
     ensures planned { IfOk result (λ plan. HasTablePlanned at.now.flat.now.tables at.now.cluster new.now plan known.now known.now) }
 {
-    if take_all(at.flat, at.table, at.frames) {
-        return Ok(known.plan(alloc, place)?);
+    match unrejected(alloc, at, new, known.timing(place), known) {
+        Ok(()) => Ok(known.plan(alloc, place)?),
+        Err(refused) => Err(refused),
     }
-    let after = net_of(alloc, &at.flat.tables, new)?;
-    let judged = asked_known(alloc, at, new, &after, known, place);
-    drop(after);
-    judged
 }
 
-/// The plan of a new table that is not known, if it has one and no module rejects it.
+/// The plan of a new table that is not known and whose own net is given, if it has one and no module rejects it.
 fn judged_anew(
     alloc: Global,
     at: &Boundary,
     new: &[ModuleAttrs],
-    after: &Net,
+    own: &ClusterNet,
     known: &mut KnownPlans,
 ) -> Result<Plan, ChangeErr>
     requires wired { IsWired at.now.flat.now.tables }
+    requires groups { AreTableGroups at.now.flat.now.tables at.now.groups.now }
     requires has { Contains (clusters_of at.now.flat.now.tables) at.now.cluster }
     requires table { All (IsOfCluster at.now.flat.now.tables at.now.cluster) at.now.table.now }
     requires rates { AreRates at.now.flat.now.tables at.now.table.now }
@@ -238,18 +203,20 @@ fn judged_anew(
     requires tells { AllTell at.now.flat.now at.now.table.now at.now.frames.now }
     requires known { AreTrueFor at.now.flat.now.tables at.now.cluster known.old.plans }
     requires new { All (IsOfCluster at.now.flat.now.tables at.now.cluster) new.now }
-    requires net { net_seen after.now ≡ net_of at.now.flat.now.tables new.now }
+    requires new_rates { AreRates at.now.flat.now.tables new.now }
+    requires net { IsNetOfCluster at.now.flat.now.tables at.now.cluster new.now own.now }
     requires unknown { IsKnown known.old.plans (table_key new.now) → ⊥ }
     ensures plan { IfOk result (IsJudged at.now.flat.now.tables at.now.cluster at.now.table.now new.now at.now.frames.now) }
     ensures refused { IfErr result (IsRefusal (IsJudgedFault at.now.flat.now.tables at.now.cluster at.now.table.now new.now at.now.frames.now)) }
     ensures planned { IfOk result (λ plan. HasTablePlanned at.now.flat.now.tables at.now.cluster new.now plan known.old known.new) }
 {
-    let timing = match timing_of(alloc, at, after, new) {
+    let tables = &at.flat.tables;
+    let timing = match cluster_timing(alloc, tables, own, at.cluster, new) {
         Ok(timing) => timing,
         Err(refused) => return Err(refused),
     };
-    match unrejected(alloc, at, after, &timing, known) {
-        Ok(()) => known.make(alloc, &at.flat.tables, after, new, timing),
+    match unrejected(alloc, at, new, &timing, known) {
+        Ok(()) => make_plan(alloc, tables, own, at.cluster, new, timing, known),
         Err(refused) => {
             drop(timing);
             Err(refused)
@@ -265,6 +232,7 @@ fn judged(
     known: &mut KnownPlans,
 ) -> Result<Plan, ChangeErr>
     requires wired { IsWired at.now.flat.now.tables }
+    requires groups { AreTableGroups at.now.flat.now.tables at.now.groups.now }
     requires has { Contains (clusters_of at.now.flat.now.tables) at.now.cluster }
     requires table { All (IsOfCluster at.now.flat.now.tables at.now.cluster) at.now.table.now }
     requires rates { AreRates at.now.flat.now.tables at.now.table.now }
@@ -280,9 +248,9 @@ fn judged(
     if let Some(place) = known.find(new) {
         return judged_known(alloc, at, new, known, place);
     }
-    let after = net_of(alloc, &at.flat.tables, new)?;
-    let judged = judged_anew(alloc, at, new, &after, known);
-    drop(after);
+    let own = own_net(alloc, &at.flat.tables, at.groups, at.cluster, new)?;
+    let judged = judged_anew(alloc, at, new, &own, known);
+    drop(own);
     judged
 }
 
@@ -290,6 +258,7 @@ fn judged(
 fn with_table(
     alloc: Global,
     flat: &Flat,
+    groups: &TableGroups,
     cluster: u32,
     table: &[ModuleAttrs],
     frames: &[Instance],
@@ -297,6 +266,7 @@ fn with_table(
     spare: Option<Vec<ModuleAttrs>>,
 ) -> Result<Next, ChangeErr>
     requires limits { AreWithinLimits flat.now }
+    requires groups { AreTableGroups flat.now.tables groups.now }
     requires has { Contains (clusters_of flat.now.tables) cluster }
     requires attributes { AreAttributes flat.now cluster table.now }
     requires planned { IsPlanned flat.now.tables cluster table.now }
@@ -310,6 +280,7 @@ fn with_table(
     let after = table_after(alloc, flat, table, frames, spare)?;
     let at = Boundary {
         flat,
+        groups,
         cluster,
         table,
         frames,
@@ -324,6 +295,7 @@ fn with_table(
 fn changed(
     alloc: Global,
     flat: &Flat,
+    groups: &TableGroups,
     cluster: u32,
     table: &[ModuleAttrs],
     frames: &[Instance],
@@ -331,6 +303,7 @@ fn changed(
     spare: Option<Vec<ModuleAttrs>>,
 ) -> Result<Next, ChangeErr>
     requires limits { AreWithinLimits flat.now }
+    requires groups { AreTableGroups flat.now.tables groups.now }
     requires has { Contains (clusters_of flat.now.tables) cluster }
     requires attributes { AreAttributes flat.now cluster table.now }
     requires planned { IsPlanned flat.now.tables cluster table.now }
@@ -343,7 +316,7 @@ fn changed(
     ensures carried { IfOk result (IsCarried flat.now.tables cluster known.old known.new) }
 {
     match first_marked(table, frames) {
-        None => with_table(alloc, flat, cluster, table, frames, known, spare),
+        None => with_table(alloc, flat, groups, cluster, table, frames, known, spare),
         Some(place) => {
             drop(spare);
             Err(module_fault(alloc, flat, Code::Range, &table[place]))
@@ -353,7 +326,7 @@ fn changed(
 
 /// What the boundary of a cluster between two periods leads to: the change bodies of its modules run, in the order of the table.
 /// Where no module differs, the table has the flags that were said, and no memory is taken. Else there is a new table and its
-/// plan, or the first fault, and the table stays.
+/// plan, or the first fault, and the table stays. The things of the model by cluster are given.
 ///
 /// # Errors
 /// The first fault: of rates that are not allowed, then of counts and steps, then of a module that rejects, then of the plan.
@@ -361,12 +334,14 @@ fn changed(
 pub fn next_plan(
     alloc: Global,
     flat: &Flat,
+    groups: &TableGroups,
     cluster: u32,
     attrs: &mut Attrs,
     frames: &mut Frames,
 ) -> Result<Next, ChangeErr>
     requires limits { AreWithinLimits flat.now }
     requires text { IsOfText flat.now }
+    requires groups { AreTableGroups flat.now.tables groups.now }
     requires has { Contains (clusters_of flat.now.tables) cluster }
     requires attributes { AreAttributes flat.now cluster attrs.old.rows }
     requires planned { IsPlanned flat.now.tables cluster attrs.old.rows }
@@ -392,6 +367,7 @@ pub fn next_plan(
     changed(
         alloc,
         flat,
+        groups,
         cluster,
         &attrs.rows,
         &frames.modules,

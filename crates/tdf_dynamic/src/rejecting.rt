@@ -1,28 +1,24 @@
 //! Whether a module rejects steps that others cause.
 
-ghost use Rattle.std.specs.Prelude.{◌≡◌, ◌≤◌, ◌↔◌, All, IsTrue, Some, length, true};
+ghost use Rattle.std.specs.Prelude.{◌≡◌, ◌↔◌, All, IsTrue, true};
 ghost use Rattle.tdf_dynamic.specs.Change.{HasSameSteps, step_of_module, step_at_port};
 ghost use Rattle.tdf_dynamic.specs.machine.Asking.{AllTell, CanTell};
-ghost use Rattle.tdf_dynamic.specs.machine.Rows.{IsFirst, IsRefusing, TakeAll, TakesAll};
-ghost use Rattle.tdf_timestep.specs.Period.{rate_at_port};
+ghost use Rattle.tdf_dynamic.specs.machine.Rows.{CanRate, IsFirst, IsRefusing, TakeAll, TakesAll};
+ghost use Rattle.tdf_dynamic_plans.specs.Rates.{AreRates, net_ports};
 
 use crate::frames::Instance;
 use crate::tables::{flag_after, is_unchanged};
 use tdf_bind::Flat;
-use tdf_dynamic_plans::ModuleAttrs;
-use tdf_graph::Net;
+use tdf_bind_tables::FlatTables;
+use tdf_dynamic_plans::{ModuleAttrs, are_rising, told_rate};
 use tdf_timestep::Steps;
 
-/// The rate of a port, 1 for one that isn't there.
-fn rate_at(net: &Net, port: u32) -> u32
-    ensures value { result ≡ rate_at_port net.now.ports.items (Some port) }
-    ensures some { 1 ≤ result }
-{
-    let place = port as usize;
-    if place < net.ports.len() {
-        return net.ports[place].rate;
-    }
-    1
+/// A table with the steps under it. It is known or not that each module has one row.
+#[derive(Clone, Copy)]
+struct Timed<'a> {
+    table: &'a [ModuleAttrs],
+    once: bool,
+    steps: &'a Steps,
 }
 
 /// The time from one firing of a module to the next, 0 for one that isn't there.
@@ -37,48 +33,53 @@ fn module_step(steps: &Steps, module: u32) -> u64
 }
 
 /// The time from one sample of a port to the next.
-fn port_step(net: &Net, steps: &Steps, module: u32, port: u32) -> u64
-    ensures { result ≡ step_at_port net.now.ports.items steps.now «module» port }
+fn port_step(tables: &FlatTables, at: &Timed, module: u32, port: u32) -> u64
+    requires rated { CanRate tables.now at.now.table.now at.now.once }
+    ensures { result ≡ step_at_port (net_ports tables.now at.now.table.now) at.now.steps.now «module» port }
 {
-    module_step(steps, module) / u64::from(rate_at(net, port))
+    let rate = told_rate(tables, at.table, at.once, Some(port));
+    module_step(at.steps, module) / u64::from(rate)
+}
+
+/// Whether a port of a module has the same steps.
+fn is_same_port(tables: &FlatTables, module: u32, port: u32, before: &Timed, after: &Timed) -> bool
+    requires before { CanRate tables.now before.now.table.now before.now.once }
+    requires after { CanRate tables.now after.now.table.now after.now.once }
+    ensures { IsTrue result ↔ (step_at_port (net_ports tables.now before.now.table.now) before.now.steps.now «module» port
+        ≡ step_at_port (net_ports tables.now after.now.table.now) after.now.steps.now «module» port) }
+{
+    port_step(tables, before, module, port) == port_step(tables, after, module, port)
 }
 
 /// Whether the ports of a module have the same steps.
 fn are_same_ports(
-    ports: &[u32],
+    tables: &FlatTables,
     module: u32,
-    before: &Net,
-    old_steps: &Steps,
-    after: &Net,
-    new_steps: &Steps,
+    ports: &[u32],
+    before: &Timed,
+    after: &Timed,
 ) -> bool
-    ensures { IsTrue result ↔ All (λ port. step_at_port before.now.ports.items old_steps.now «module» port
-        ≡ step_at_port after.now.ports.items new_steps.now «module» port) ports.now }
+    requires before { CanRate tables.now before.now.table.now before.now.once }
+    requires after { CanRate tables.now after.now.table.now after.now.once }
+    ensures { IsTrue result ↔ All (λ port. step_at_port (net_ports tables.now before.now.table.now) before.now.steps.now «module» port
+        ≡ step_at_port (net_ports tables.now after.now.table.now) after.now.steps.now «module» port) ports.now }
 {
-    ports.iter().all(|port| {
-        port_step(before, old_steps, module, *port) == port_step(after, new_steps, module, *port)
-    })
+    for i in 0..ports.len() {
+        if !is_same_port(tables, module, ports[i], before, after) {
+            return false;
+        }
+    }
+    true
 }
 
 /// Whether a module and its ports have the same steps.
-fn has_same_steps(
-    attrs: &ModuleAttrs,
-    before: &Net,
-    old_steps: &Steps,
-    after: &Net,
-    new_steps: &Steps,
-) -> bool
-    ensures { IsTrue result ↔ HasSameSteps before.now.ports.items after.now.ports.items old_steps.now new_steps.now attrs.now }
+fn has_same_steps(tables: &FlatTables, attrs: &ModuleAttrs, before: &Timed, after: &Timed) -> bool
+    requires before { CanRate tables.now before.now.table.now before.now.once }
+    requires after { CanRate tables.now after.now.table.now after.now.once }
+    ensures { IsTrue result ↔ HasSameSteps (net_ports tables.now before.now.table.now) (net_ports tables.now after.now.table.now) before.now.steps.now after.now.steps.now attrs.now }
 {
-    module_step(old_steps, attrs.number) == module_step(new_steps, attrs.number)
-        && are_same_ports(
-            &attrs.ports,
-            attrs.number,
-            before,
-            old_steps,
-            after,
-            new_steps,
-        )
+    module_step(before.steps, attrs.number) == module_step(after.steps, attrs.number)
+        && are_same_ports(tables, attrs.number, &attrs.ports, before, after)
 }
 
 /// Whether a module rejects: its flag says so, its own attributes are as before, and its steps are not.
@@ -86,18 +87,18 @@ fn rejects(
     flat: &Flat,
     attrs: &ModuleAttrs,
     instance: &Instance,
-    before: &Net,
-    old_steps: &Steps,
-    after: &Net,
-    new_steps: &Steps,
+    before: &Timed,
+    after: &Timed,
 ) -> bool
     requires tells { CanTell flat.now attrs.now instance.now }
-    ensures { IsTrue result ↔ IsRefusing before.now.ports.items after.now.ports.items old_steps.now new_steps.now attrs.now instance.now }
+    requires before { CanRate flat.now.tables before.now.table.now before.now.once }
+    requires after { CanRate flat.now.tables after.now.table.now after.now.once }
+    ensures { IsTrue result ↔ IsRefusing (net_ports flat.now.tables before.now.table.now) (net_ports flat.now.tables after.now.table.now) before.now.steps.now after.now.steps.now attrs.now instance.now }
 {
     let frame = &*instance.boxed;
     !flag_after(attrs.accepts, &frame.ports)
         && is_unchanged(flat, attrs, frame)
-        && !has_same_steps(attrs, before, old_steps, after, new_steps)
+        && !has_same_steps(&flat.tables, attrs, before, after)
 }
 
 /// Whether a module is seen to reject no steps: its flag says so, or its own attributes are others.
@@ -122,25 +123,50 @@ pub(crate) fn take_all(flat: &Flat, table: &[ModuleAttrs], frames: &[Instance]) 
     true
 }
 
-/// The place of the first module that rejects.
-pub(crate) fn first_rejecting(
+/// The place of the first module that rejects, by the rates and steps before and after.
+fn first_by(
     flat: &Flat,
     table: &[ModuleAttrs],
     frames: &[Instance],
-    before: &Net,
-    old_steps: &Steps,
-    after: &Net,
-    new_steps: &Steps,
+    before: &Timed,
+    after: &Timed,
 ) -> Option<usize>
     requires tells { AllTell flat.now table.now frames.now }
-    ensures { IsFirst (IsRefusing before.now.ports.items after.now.ports.items old_steps.now new_steps.now) table.now frames.now result }
+    requires before { CanRate flat.now.tables before.now.table.now before.now.once }
+    requires after { CanRate flat.now.tables after.now.table.now after.now.once }
+    ensures { IsFirst (IsRefusing (net_ports flat.now.tables before.now.table.now) (net_ports flat.now.tables after.now.table.now) before.now.steps.now after.now.steps.now) table.now frames.now result }
 {
     for i in 0..table.len() {
-        if rejects(
-            flat, &table[i], &frames[i], before, old_steps, after, new_steps,
-        ) {
+        if rejects(flat, &table[i], &frames[i], before, after) {
             return Some(i);
         }
     }
     None
+}
+
+/// The place of the first module that rejects a new table with its steps.
+pub(crate) fn first_rejecting(
+    flat: &Flat,
+    table: &[ModuleAttrs],
+    new: &[ModuleAttrs],
+    frames: &[Instance],
+    old_steps: &Steps,
+    new_steps: &Steps,
+) -> Option<usize>
+    requires tells { AllTell flat.now table.now frames.now }
+    requires rates { AreRates flat.now.tables table.now }
+    requires new_rates { AreRates flat.now.tables new.now }
+    ensures { IsFirst (IsRefusing (net_ports flat.now.tables table.now) (net_ports flat.now.tables new.now) old_steps.now new_steps.now) table.now frames.now result }
+{
+    let before = Timed {
+        table,
+        once: are_rising(table),
+        steps: old_steps,
+    };
+    let after = Timed {
+        table: new,
+        once: are_rising(new),
+        steps: new_steps,
+    };
+    first_by(flat, table, frames, &before, &after)
 }

@@ -11,14 +11,12 @@ use Rattle.tdf_base.specs.Limits.{greatest_delay}
 use Rattle.tdf_bind_tables.specs.Actors.{net_edge, module_actor, port_actor, actor_place}
 use Rattle.tdf_bind_tables.specs.FlatTables.{FlatTablesOf}
 use Rattle.tdf_bind_tables.specs.Ranges.{AreInRange}
-use Rattle.tdf_bind_tables.specs.declared.actors.ActorRow.{ActorRow}
 use Rattle.tdf_dynamic_plans.specs.Attributes.{AttrsOf, clusters_of}
-use Rattle.tdf_dynamic_plans.specs.Rates.{port_rate, rated_port, net_ports, write_rate_by, read_rate_by, rated_edge, AreRates, IsWired, NetOf, net_seen, net_of}
+use Rattle.tdf_dynamic_plans.specs.Rates.{port_rate, rated_port, net_ports, write_rate_by, read_rate_by, rated_edge, AreRates, IsWired}
 use Rattle.tdf_graph.specs.Clusters.{Joined, stays, goes, comes, AreClusters}
-use Rattle.tdf_graph.specs.Ranges.{IsRate, IsEdge, IsGraphPort, IsGraphInRange as NetInRange}
+use Rattle.tdf_graph.specs.Ranges.{IsRate, IsEdge, IsGraphPort}
 use Rattle.tdf_graph.specs.declared.actors.Edge.{Edge}
 use Rattle.tdf_graph.specs.declared.actors.Port.{Port}
-use Rattle.tdf_graph.specs.declared.net.Net.{Net}
 use Rattle.tdf_timestep.specs.Period.{port_rate_or_one, rate_at_port}
 use Rattle.tdf_lang_tree.specs.declared.blocks.PortKind.{PortKind}
 use Rattle.tdf_lang_tree.specs.declared.blocks.PortKind.TheVariants.{In, Out, DeIn, DeOut}
@@ -95,16 +93,6 @@ edges_are_fit tables table in_range delays rates = All-from_recursion (IsEdge (l
     (recursion_from_All (λ (e : EdgeRow). e.reader < length tables.actors) tables.edges in_range.edge_readers)
     (recursion_from_All (λ (e : EdgeRow). e.initial ≤ 2 * greatest_delay) tables.edges delays))
 
--- the numbers of the net are in range
-pub net_is_fit : (tables : FlatTablesOf) (table : List AttrsOf) (count : ℕ) (edges : List Edge) (ports list : List Port) → AreInRange tables → length tables.modules ≤ length tables.actors
-    → All (λ (e : EdgeRow). e.initial ≤ 2 * greatest_delay) tables.edges → AreRates tables table → count ≡ length tables.actors → ports ≡ net_ports tables table → list ≡ ports
-    → edges ≡ map (rated_edge tables.ports list) tables.edges → NetInRange count edges ports
-net_is_fit tables table count edges ports list in_range few delays rates count_is ports_are list_is edges_are = record {
-  edges_fit = subst (λ n. All (IsEdge n) edges) (sym count_is) (subst (All (IsEdge (length tables.actors))) (sym (edges_are ∙ ap (λ ps. map (rated_edge tables.ports ps) tables.edges) (list_is ∙ ports_are)))
-      (edges_are_fit tables table in_range delays rates));
-  ports_fit = subst (λ n. All (IsGraphPort n) ports) (sym count_is) (subst (All (IsGraphPort (length tables.actors))) (sym ports_are) (ports_are_fit tables table (length tables.actors) in_range few rates));
-}
-
 -- clusters don't depend on rates
 
 contains_at : {X : Type 0} (xs : List X) (x : X) → Contains xs x → (j : ℕ) × (slice_get xs j ≡ Some x)
@@ -167,16 +155,3 @@ modules_few tables wired =
     ∙ length-append (map module_actor (range_with_len 0 (length tables.modules))) (filter_map (λ port. port_actor port.0 port.1) (enumerate_from 0 tables.ports)) in
     let modules = length-map-range_with_len module_actor 0 (length tables.modules) in
     omega (arith, all, modules)
-
--- what the net of the code has
-pub ports_are : (tables : FlatTablesOf) (table : List AttrsOf) (net : Net) → net_seen net ≡ net_of tables table → net.ports.items ≡ net_ports tables table
-unfolding net_of
-ports_are tables table net is = ap (λ (n : NetOf). n.ports) is
-
-pub clusters_are : (tables : FlatTablesOf) (table : List AttrsOf) → IsWired tables → (net : Net) (count : ℕ) (numbers : List ℕ) → net_seen net ≡ net_of tables table
-    → count ≡ length net.actors.items → numbers ≡ clusters_of tables → AreClusters count net.edges.items numbers
-unfolding net_of
-clusters_are tables table wired net count numbers is count_is numbers_are =
-    subst (λ n. AreClusters n net.edges.items numbers) (sym (count_is ∙ ap (λ (n : NetOf). length n.actors) is ∙ length-map tables.actors (λ (row : ActorRow). row.kind)))
-    (subst (AreClusters (length tables.actors) net.edges.items) (sym numbers_are)
-    (subst (λ es. AreClusters (length tables.actors) es (clusters_of tables)) (sym (ap (λ (n : NetOf). n.edges) is)) (rated_clusters tables table wired)))

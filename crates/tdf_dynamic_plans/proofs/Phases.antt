@@ -1,16 +1,13 @@
 -- From the answers of counts, steps and plans to the faults of a cluster.
-use Rattle.std.proofs.Common.{◌≡◌, ◌∙◌, ℕ, ◌<◌, ◌≤◌, List, [], Option, Some, None, sym, ap, subst, arith, inl, inr, ◌⊎◌}
+use Rattle.std.proofs.Common.{◌≡◌, ◌∙◌, ℕ, ◌<◌, ◌≤◌, List, Option, Some, None, sym, ap, subst, inl, inr, ◌⊎◌}
 use Rattle.std.proofs.lemmas.Bool.{cases_lt}
 use Rattle.std.specs.Global.{Global}
 use Rattle.std.specs.Prelude.{◌↔◌, Result, Ok, Err, IfErr, Vec}
-use Rattle.tdf_balance.specs.Balance.{IsRatesFault, IsSizeFault}
 use Rattle.tdf_balance.specs.declared.err.BalanceErr.{BalanceErr}
-use Rattle.tdf_balance.specs.declared.err.BalanceErr.TheVariants as balance
 use Rattle.tdf_base.specs.Limits.{most_samples}
 use Rattle.tdf_bind_tables.specs.FlatTables.{FlatTablesOf}
-use Rattle.tdf_dynamic_plans.specs.Assignments.{assignments}
-use Rattle.tdf_dynamic_plans.specs.Attributes.{AttrsOf, clusters_of}
-use Rattle.tdf_dynamic_plans.specs.Faults.{balance_fault, IsCountsFault, step_fault, IsPeriodFault, HasCountsOf, HasTiming, IsStepsFault, OfCounts, OfPeriod, pace_in, samples_in, IsPlanErr, plan_fault, IsPlanFault, IsPlanOf, IsNetFault, OfTiming, OfPlan, IsRefusal, IsToldFault}
+use Rattle.tdf_dynamic_plans.specs.Attributes.{AttrsOf}
+use Rattle.tdf_dynamic_plans.specs.Faults.{IsCountsFault, IsPeriodFault, HasCountsOf, HasTiming, IsStepsFault, OfCounts, OfPeriod, pace_in, samples_in, IsPlanErr, IsPlanFault, IsPlanOf, IsNetFault, OfTiming, OfPlan, IsRefusal}
 use Rattle.tdf_dynamic_plans.specs.Rates.{NetOf}
 use Rattle.tdf_dynamic_plans.specs.declared.err.ChangeErr.{ChangeErr}
 use Rattle.tdf_dynamic_plans.specs.declared.err.ChangeErr.TheVariants.{Refused, Memory}
@@ -18,12 +15,8 @@ use Rattle.tdf_schedule.specs.Plan.{IsDeadlock, IsNoncausal, HasPlan}
 use Rattle.tdf_schedule.specs.declared.entry.Plan.{Plan}
 use Rattle.tdf_schedule.specs.declared.err.PlanErr.{PlanErr}
 use Rattle.tdf_schedule.specs.declared.err.PlanErr.TheVariants as planning
-use Rattle.tdf_timestep.specs.Period.{IsDisagreed, IsTooLong, IsInexact}
-use Rattle.tdf_timestep.specs.declared.assign.Assign.{Assign}
-use Rattle.tdf_timestep.specs.declared.assign.Spot.{Spot}
 use Rattle.tdf_timestep.specs.declared.assign.Steps.{Steps}
 use Rattle.tdf_timestep.specs.declared.err.StepErr.{StepErr}
-use Rattle.tdf_timestep.specs.declared.err.StepErr.TheVariants as timing
 
 pub none_some : {A : Type 0} {x : A} → None ≡ Some x → ⊥
 none_some {A} e = subst only_none e tt
@@ -36,42 +29,9 @@ none_some {A} e = subst only_none e tt
 abbrev pub Counted : Type 0
 Counted = Result (Vec ℕ Global) BalanceErr
 
-module _ (tables : FlatTablesOf) (net : NetOf) (clusters : List ℕ) (cluster : ℕ) (table : List AttrsOf) (own : clusters ≡ clusters_of tables) (e : Counted)
-    (rates : (k : ℕ) → e ≡ Err (balance.Rates k) → IsRatesFault net.edges clusters cluster k) (size : e ≡ Err balance.TooLarge → IsSizeFault net.edges clusters cluster) where
-  pub counts_refused : (why : BalanceErr) (told : ChangeErr) → e ≡ Err why → IsToldFault (balance_fault tables table why) told → IsRefusal (IsCountsFault tables net cluster table) told
-  counts_refused why Memory is told = tt
-  counts_refused (balance.Rates k) (Refused fault) is told = record { why = balance.Rates k; is = subst (λ cs. IsRatesFault net.edges cs cluster k) own (rates k is); told = told }
-  counts_refused balance.TooLarge (Refused fault) is told = record { why = balance.TooLarge; is = subst (λ cs. IsSizeFault net.edges cs cluster) own (size is); told = told }
-  counts_refused balance.Memory (Refused fault) is told = absurd (none_some told)
-
 -- the steps
 abbrev pub Stepped : Type 0
 Stepped = Result Steps StepErr
-
-module _ (tables : FlatTablesOf) (net : NetOf) (table : List AttrsOf) (counts : List ℕ) (e : Stepped)
-    (none : (e ≡ Err timing.NoTimestep) ↔ (assignments table ≡ []))
-    (disagree : (a b : ℕ) → (e ≡ Err (timing.Disagree a b)) ↔ IsDisagreed net.ports counts (assignments table) a b)
-    (too_long : (e ≡ Err timing.TooLong) ↔ IsTooLong net.ports counts (assignments table))
-    (inexact : (s : Spot) → (e ≡ Err (timing.Inexact s.actor s.port)) ↔ IsInexact net.ports counts (assignments table) s) where
-  pub steps_refused : (why : StepErr) (told : ChangeErr) → e ≡ Err why → IsToldFault (step_fault tables table why) told → IsRefusal (IsPeriodFault tables net table counts) told
-  steps_refused why Memory is told = tt
-  steps_refused timing.NoTimestep (Refused fault) is told = record { why = timing.NoTimestep; is = none.0 is; told = told }
-  steps_refused (timing.Disagree a b) (Refused fault) is told = record { why = timing.Disagree a b; is = (disagree a b).0 is; told = told }
-  steps_refused timing.TooLong (Refused fault) is told = record { why = timing.TooLong; is = too_long.0 is; told = told }
-  steps_refused (timing.Inexact actor port) (Refused fault) is told = record { why = timing.Inexact actor port; is = (inexact (record { actor = actor; port = port })).0 is; told = told }
-  steps_refused timing.Memory (Refused fault) is told = absurd (none_some told)
-
-pub steps_refused_of : (tables : FlatTablesOf) (net : NetOf) (table : List AttrsOf) (counts : List ℕ) (assigned : List Assign) → assigned ≡ assignments table → (e : Stepped)
-    → ((e ≡ Err timing.NoTimestep) ↔ (assigned ≡ []))
-    → ((a b : ℕ) → (e ≡ Err (timing.Disagree a b)) ↔ IsDisagreed net.ports counts assigned a b)
-    → ((e ≡ Err timing.TooLong) ↔ IsTooLong net.ports counts assigned)
-    → ((s : Spot) → (e ≡ Err (timing.Inexact s.actor s.port)) ↔ IsInexact net.ports counts assigned s)
-    → (why : StepErr) (told : ChangeErr) → e ≡ Err why → IsToldFault (step_fault tables table why) told → IsRefusal (IsPeriodFault tables net table counts) told
-steps_refused_of tables net table counts assigned are e none disagree too_long inexact = steps_refused tables net table counts e
-    (subst (λ xs. (e ≡ Err timing.NoTimestep) ↔ (xs ≡ [])) are none)
-    (λ a b. subst (λ xs. (e ≡ Err (timing.Disagree a b)) ↔ IsDisagreed net.ports counts xs a b) are (disagree a b))
-    (subst (λ xs. (e ≡ Err timing.TooLong) ↔ IsTooLong net.ports counts xs) are too_long)
-    (λ s. subst (λ xs. (e ≡ Err (timing.Inexact s.actor s.port)) ↔ IsInexact net.ports counts xs s) are (inexact s))
 
 -- the plan
 abbrev pub Planned : Type 0
@@ -100,17 +60,6 @@ module _ (tables : FlatTablesOf) (net : NetOf) (table : List AttrsOf) (counts : 
       go (inr low) = low
       go (inl high) = absurd (other (err_same e planning.TooLarge why (large.1 high) is))
 
-  pub plan_refused : ((m : ℕ) → e ≡ Err (planning.Deadlock m) → IsDeadlock net.edges (pace_in net steps) counts m)
-      → ((m a : ℕ) → e ≡ Err (planning.Noncausal m a) → IsNoncausal net.edges net.actors (pace_in net steps) counts m a)
-      → (why : PlanErr) (told : ChangeErr) → e ≡ Err why → IsToldFault (plan_fault tables table why) told → IsRefusal (IsPlanFault tables net table counts steps) told
-  plan_refused dead late why Memory is told = tt
-  plan_refused dead late planning.TooLarge (Refused fault) is told = record { why = planning.TooLarge; is = large.0 is; told = told }
-  plan_refused dead late (planning.Deadlock m) (Refused fault) is told =
-      record { why = planning.Deadlock m; is = (few (planning.Deadlock m) is (λ h. grind (arith, h)), dead m is); told = told }
-  plan_refused dead late (planning.Noncausal m a) (Refused fault) is told =
-      record { why = planning.Noncausal m a; is = (few (planning.Noncausal m a) is (λ h. grind (arith, h)), late m a is); told = told }
-  plan_refused dead late planning.Memory (Refused fault) is told = absurd (none_some told)
-
   pub plan_good : (plan : Plan) → e ≡ Ok plan
       → (samples_in net counts ≤ most_samples → (m : ℕ) → IsDeadlock net.edges (pace_in net steps) counts m → (e ≡ Err (planning.Deadlock m)) ⊎ (e ≡ Err planning.Memory))
       → (samples_in net counts ≤ most_samples → (m a : ℕ) → IsNoncausal net.edges net.actors (pace_in net steps) counts m a → (e ≡ Err (planning.Noncausal m a)) ⊎ (e ≡ Err planning.Memory))
@@ -129,20 +78,6 @@ module _ (tables : FlatTablesOf) (net : NetOf) (table : List AttrsOf) (counts : 
       no_fault (planning.Deadlock m) fault = not_either (planning.Deadlock m) planning.Memory (dead fault.0 m fault.1)
       no_fault (planning.Noncausal m a) fault = not_either (planning.Noncausal m a) planning.Memory (late fault.0 m a fault.1)
       no_fault planning.Memory none = none
-
--- where the counts are told by another list
-module _ (tables : FlatTablesOf) (net : NetOf) (table : List AttrsOf) (counts there : List ℕ) (same : there ≡ counts) (steps : Steps) (e : Planned)
-    (large : (e ≡ Err planning.TooLarge) ↔ (most_samples < samples_in net there)) where
-  pub plan_refused_of : ((m : ℕ) → e ≡ Err (planning.Deadlock m) → IsDeadlock net.edges (pace_in net steps) there m)
-      → ((m a : ℕ) → e ≡ Err (planning.Noncausal m a) → IsNoncausal net.edges net.actors (pace_in net steps) there m a)
-      → (why : PlanErr) (told : ChangeErr) → e ≡ Err why → IsToldFault (plan_fault tables table why) told → IsRefusal (IsPlanFault tables net table counts steps) told
-  plan_refused_of dead late why told is h = subst (λ c. IsRefusal (IsPlanFault tables net table c steps) told) same (plan_refused tables net table there steps e large dead late why told is h)
-
-  pub plan_good_of : (plan : Plan) → e ≡ Ok plan
-      → (samples_in net there ≤ most_samples → (m : ℕ) → IsDeadlock net.edges (pace_in net steps) there m → (e ≡ Err (planning.Deadlock m)) ⊎ (e ≡ Err planning.Memory))
-      → (samples_in net there ≤ most_samples → (m a : ℕ) → IsNoncausal net.edges net.actors (pace_in net steps) there m a → (e ≡ Err (planning.Noncausal m a)) ⊎ (e ≡ Err planning.Memory))
-      → HasPlan net.edges (pace_in net steps) there steps.period plan → IsPlanOf net counts steps plan
-  plan_good_of plan is dead late has = subst (λ c. IsPlanOf net c steps plan) same (plan_good tables net table there steps e large plan is dead late has)
 
 -- from phase to phase
 module _ (tables : FlatTablesOf) (net : NetOf) (cluster : ℕ) (table : List AttrsOf) where

@@ -1,23 +1,13 @@
 //! The plans of a cluster that were made last, each with what it is known by.
 
-ghost use Rattle.std.specs.Prelude.{◌≡◌, ◌<◌, ◌≤◌, ◌+◌, ◌-◌, ◌^◌, Err, IfErr, IfOk, IfSome, [], None, Ok, OnOk, Some, drop, false, if◌then◌else◌, length, min, slice_get, true, vec_len};
-ghost use Rattle.tdf_bind_tables.specs.Ranges.{AreInRange};
-ghost use Rattle.tdf_base.specs.declared.faults.Fault.{Fault as FaultOf};
-ghost use Rattle.tdf_dynamic_plans.specs.Faults.{IsPlanFault, IsPlanOf, IsRefusal};
-ghost use Rattle.tdf_dynamic_plans.specs.declared.err.ChangeErr.TheVariants.{Refused};
-ghost use Rattle.tdf_dynamic_plans.specs.Rates.{net_seen};
+ghost use Rattle.std.specs.Prelude.{◌≡◌, ◌<◌, ◌≤◌, ◌+◌, ◌-◌, ◌^◌, IfOk, IfSome, [], None, OnOk, Some, drop, false, if◌then◌else◌, length, min, slice_get, true};
 ghost use Rattle.tdf_dynamic_plans.specs.Known.{HasKept, HasSameItems, IsKnown, IsKnownAt, IsShort, KnownOf as Known, table_key, row_key};
-ghost use Rattle.tdf_schedule.specs.Plan.{IsPaced};
 
 use crate::attrs::ModuleAttrs;
-use crate::err::ChangeErr;
-use crate::planning::plan_of;
 use crate::timing::Timing;
 use std::alloc::Global;
 use std::marker::Model;
 use tdf_base::Memory;
-use tdf_bind_tables::FlatTables;
-use tdf_graph::Net;
 use tdf_schedule::Plan;
 
 /// The most plans that are kept of a cluster.
@@ -311,47 +301,6 @@ impl KnownPlans {
                 Ok(())
             }
             Err(refused) => Err(refused),
-        }
-    }
-
-    /// The plan of a cluster under a table, whose net, counts and steps are given. It is made and kept.
-    ///
-    /// # Errors
-    /// The first fault of buffers, firings that wait for themselves, or sinks that are late; or out of memory.
-    pub fn make(
-        &mut self,
-        alloc: Global,
-        tables: &FlatTables,
-        net: &Net,
-        table: &[ModuleAttrs],
-        timing: Timing,
-    ) -> Result<Plan, ChangeErr>
-        requires in_range { AreInRange tables.now }
-        requires actors { length timing.counts.items ≡ vec_len net.now.actors }
-        requires paced { IsPaced net.now.edges.items timing.counts.items
-            timing.steps.actor_steps.items }
-        ensures plan { IfOk result (IsPlanOf (net_seen net.now) timing.counts.items timing.steps) }
-        ensures refused { IfErr result (IsRefusal (IsPlanFault tables.now (net_seen net.now)
-            table.now timing.counts.items timing.steps)) }
-        ensures kept { IfOk result (λ plan. HasKept (table_key table.now) timing.counts.items
-            timing.steps plan self.old self.new) }
-        ensures made { OnOk result (self.new.made ≡ min (self.old.made + 1) (2 ^ 64 - 1)) }
-        ensures most { self.new.most ≡ self.old.most }
-        ensures unplanned { (fault : FaultOf) → result ≡ Err (Refused fault)
-            → self.new ≡ self.old }
-    {
-        match plan_of(alloc, tables, net, table, &timing) {
-            Ok(plan) => match self.keep(alloc, table, timing, &plan) {
-                Ok(()) => Ok(plan),
-                Err(refused) => {
-                    drop(plan);
-                    Err(ChangeErr::from(refused))
-                }
-            },
-            Err(refused) => {
-                drop(timing);
-                Err(refused)
-            }
         }
     }
 }

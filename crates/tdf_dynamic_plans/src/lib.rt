@@ -1,16 +1,15 @@
-//! The attributes of the modules of a cluster, the plan of the cluster under them, and the plans that were made last.
+//! The attributes of the modules of a cluster, what a plan and a fault of the cluster are under them, and the plans that were made last.
 //!
 //! It reads the tables of a flat model alone, and knows no body.
 //!
 //! - `attrs`: the attributes of the modules of a cluster.
 //! - `clusters`: the clusters of the actors.
-//! - `rates`: the net with the rates that a table gives.
+//! - `rates`: the rates of ports and edges that a table gives.
 //! - `single`: one port, and one edge, with their rates.
 //! - `assigning`: the timesteps that a table assigns.
 //! - `err`: why a cluster has no plan.
 //! - `faults`: how the faults of a cluster are told.
-//! - `timing`: the first phase, counts and steps.
-//! - `planning`: the second phase, the plan.
+//! - `timing`: the counts, the period and the steps of a cluster.
 //! - `known`: the plans that were made last.
 #![tactic(auto)]
 
@@ -20,7 +19,6 @@ mod clusters;
 mod err;
 mod faults;
 mod known;
-mod planning;
 mod rates;
 mod single;
 mod timing;
@@ -31,6 +29,6 @@ pub use clusters::clusters_of;
 pub use err::ChangeErr;
 pub use faults::{balance_error, module_path, plan_error, step_error};
 pub use known::KnownPlans;
-pub use rates::{EdgeRates, edge_rates, net_of, ones, set_edge_rates};
+pub use rates::{EdgeRates, edge_rates, ones, set_edge_rates, told_rate};
 pub use single::{are_rising, edge_under, port_under};
-pub use timing::{Timing, steps_of};
+pub use timing::Timing;

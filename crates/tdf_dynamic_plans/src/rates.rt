@@ -1,9 +1,7 @@
-//! The net with the rates that a table of attributes gives.
+//! The rates of ports and edges that a table of attributes gives.
 
-ghost use Rattle.std.specs.Prelude.{◌≡◌, List, ◌<◌, ◌≤◌, ◌*◌, All, IfOk, IfSome, Some, true, length, map, replicate, slice_get, slice_index, slice_set};
-ghost use Rattle.tdf_base.specs.Limits.{greatest_delay};
-ghost use Rattle.tdf_bind_tables.specs.Ranges.{AreInRange};
-ghost use Rattle.tdf_dynamic_plans.specs.Rates.{times_value, port_rate, edge_kind, write_rate_by, read_rate_by, rated_edge, rated_port, net_ports, net_of, net_seen, AreRates};
+ghost use Rattle.std.specs.Prelude.{◌≡◌, List, ◌<◌, ◌≤◌, All, IfOk, IfSome, Some, true, length, map, replicate, slice_get, slice_index, slice_set};
+ghost use Rattle.tdf_dynamic_plans.specs.Rates.{times_value, port_rate, edge_kind, write_rate_by, read_rate_by, rated_edge, rated_port, net_ports, net_of, AreRates};
 ghost use Rattle.tdf_dynamic_plans.specs.Attributes.{RowsStandOnce};
 ghost use Rattle.tdf_dynamic_plans.specs.machine.Placing.{ArePlacesFrom, number_at};
 ghost use Rattle.tdf_dynamic_plans.specs.machine.Rated.{HasRates};
@@ -15,10 +13,9 @@ ghost use Rattle.tdf_bind_connections.specs.declared.modules.PortRow.{PortRow as
 
 use crate::attrs::{Attrs, ModuleAttrs};
 use std::alloc::Global;
-use tdf_base::{Memory, row_number};
+use tdf_base::Memory;
 use tdf_bind_connections::{EdgeRow, PortRow, Rate};
 use tdf_bind_tables::FlatTables;
-use tdf_graph::{Actor, Edge, Net, Port};
 use tdf_lang_tree::PortKind;
 
 /// The value of a rate variable, 0 for one that isn't there.
@@ -43,7 +40,7 @@ fn times_value(rate: Rate, values: &[u32]) -> u32
 }
 
 /// The rate of a port, 1 for a port of a module that is not in the table.
-pub(crate) fn rate_in(table: &[ModuleAttrs], port: &PortRow) -> u32
+fn rate_in(table: &[ModuleAttrs], port: &PortRow) -> u32
     requires { IsRate (port_rate table.now port.now) }
     ensures { result ≡ port_rate table.now port.now }
 {
@@ -96,7 +93,7 @@ fn row_of(table: &[ModuleAttrs], module: u32) -> Option<usize>
 }
 
 /// The rate of a port, where each module has one row.
-pub(crate) fn rate_once(table: &[ModuleAttrs], port: &PortRow) -> u32
+fn rate_once(table: &[ModuleAttrs], port: &PortRow) -> u32
     requires rate { IsRate (port_rate table.now port.now) }
     requires once { RowsStandOnce table.now }
     ensures { result ≡ port_rate table.now port.now }
@@ -160,72 +157,6 @@ fn rate_by_place(table: &[ModuleAttrs], places: &[Option<usize>], port: &PortRow
     }
 }
 
-fn rated_port(table: &[ModuleAttrs], places: &[Option<usize>], port: &PortRow) -> Port
-    requires rate { IsRate (port_rate table.now port.now) }
-    requires places { ArePlacesFrom 0 table.now places.now }
-    ensures { result ≡ rated_port table.now port.now }
-{
-    Port {
-        actor: port.module,
-        rate: rate_by_place(table, places, port),
-    }
-}
-
-fn any_ports(alloc: Global, count: usize) -> Result<Vec<Port>, Memory>
-    ensures { IfOk result (λ ports. length ports.items ≡ count) }
-{
-    Ok(vec![in alloc; Port { actor: 0, rate: 1 }; count]?)
-}
-
-/// Sets ports to those of some rows, with their rates.
-fn set_ports(
-    table: &[ModuleAttrs],
-    places: &[Option<usize>],
-    rows: &[PortRow],
-    ports: &mut Vec<Port>,
-)
-    requires rates { All (λ port. IsRate (port_rate table.now port)) rows.now }
-    requires places { ArePlacesFrom 0 table.now places.now }
-    requires long { length ports.old.items ≡ length rows.now }
-    ensures { ports.new.items ≡ map (rated_port table.now) rows.now }
-{
-    for i in 0..rows.len() {
-        ports[i] = rated_port(table, places, &rows[i]);
-    }
-}
-
-/// The ports with their rates.
-#[tactic(auto, unfolding(crate::specs::Rates::net_ports))]
-fn net_ports(alloc: Global, tables: &FlatTables, table: &[ModuleAttrs]) -> Result<Vec<Port>, Memory>
-    requires { AreRates tables.now table.now }
-    ensures { IfOk result (λ ports. ports.items ≡ net_ports tables.now table.now) }
-{
-    let places = places_of(alloc, table, tables.modules.len())?;
-    let mut ports = any_ports(alloc, tables.ports.len())?;
-    set_ports(table, &places, &tables.ports, &mut ports);
-    drop(places);
-    Ok(ports)
-}
-
-/// The rate of a port that is told by its number, 1 where none is told.
-fn rate_of(ports: &[Port], number: Option<u32>) -> u32
-    ensures { result ≡ rate_at_port ports.now number }
-{
-    match number {
-        None => 1,
-        Some(number) => rate_at(ports, number as usize),
-    }
-}
-
-fn rate_at(ports: &[Port], place: usize) -> u32
-    ensures { result ≡ rate_at_port ports.now (Some place) }
-{
-    if place < ports.len() {
-        return ports[place].rate;
-    }
-    1
-}
-
 /// The word of the port that gives an edge.
 fn edge_kind(rows: &[PortRow], edge: &EdgeRow) -> Option<PortKind>
     ensures { result ≡ edge_kind rows.now edge.now }
@@ -287,80 +218,6 @@ pub(crate) fn rates_of(rows: &[PortRow], edge: &EdgeRow, own: u32, driven: u32) 
         return Rates { read: 1, write: 1 };
     }
     rates_by(edge_kind(rows, edge), own, driven)
-}
-
-fn rated_edge(rows: &[PortRow], ports: &[Port], edge: &EdgeRow) -> Edge
-    ensures { result ≡ rated_edge rows.now ports.now edge.now }
-{
-    let own = rate_at(ports, edge.port as usize);
-    let driven = rate_of(ports, edge.driver);
-    let rates = rates_of(rows, edge, own, driven);
-    Edge {
-        writer: edge.writer,
-        reader: edge.reader,
-        write_rate: rates.write,
-        read_rate: rates.read,
-        initial: edge.initial,
-    }
-}
-
-/// Edges with the rates of their ports.
-fn rated_edges(
-    alloc: Global,
-    rows: &[PortRow],
-    edges: &[EdgeRow],
-    ports: &[Port],
-) -> Result<Vec<Edge>, Memory>
-    ensures { IfOk result (λ rated. rated.items ≡ map (rated_edge rows.now ports.now) edges.now) }
-{
-    let mut rated = Vec::with_capacity(alloc, edges.len())?;
-    for i in 0..edges.len() {
-        rated.push(rated_edge(rows, ports, &edges[i]))?;
-    }
-    Ok(rated)
-}
-
-/// The edges with the rates of their ports.
-fn net_edges(alloc: Global, tables: &FlatTables, ports: &[Port]) -> Result<Vec<Edge>, Memory>
-    ensures { IfOk result (λ edges. edges.items
-        ≡ map (rated_edge tables.now.ports ports.now) tables.now.edges) }
-{
-    rated_edges(alloc, &tables.ports, &tables.edges, ports)
-}
-
-fn net_actors(alloc: Global, tables: &FlatTables) -> Result<Vec<Actor>, Memory>
-    ensures { IfOk result (λ actors. actors.items ≡ map (λ row. row.kind) tables.now.actors) }
-{
-    let mut actors = vec![in alloc; Actor::Module; tables.actors.len()]?;
-    for i in 0..tables.actors.len() {
-        actors[i] = tables.actors[i].kind;
-    }
-    Ok(actors)
-}
-
-/// The net of a model with the rates of a table.
-///
-/// # Errors
-/// Out of memory.
-#[tactic(auto, unfolding(crate::specs::Rates::net_of))]
-pub fn net_of(alloc: Global, tables: &FlatTables, table: &[ModuleAttrs]) -> Result<Net, Memory>
-    requires in_range { AreInRange tables.now }
-    requires modules { length tables.now.modules ≤ length tables.now.actors }
-    requires delays { All (λ edge. edge.initial ≤ 2 * greatest_delay) tables.now.edges }
-    requires rates { AreRates tables.now table.now }
-    ensures net { IfOk result (λ net. net_seen net ≡ net_of tables.now table.now) }
-{
-    let ports = net_ports(alloc, tables, table)?;
-    let edges = net_edges(alloc, tables, &ports)?;
-    let actors = net_actors(alloc, tables)?;
-    row_number(actors.len())?;
-    row_number(edges.len())?;
-    row_number(ports.len())?;
-    Ok(Net {
-        actors,
-        edges,
-        ports,
-    })
 }
 
 /// The rates in force, by edge.
@@ -481,12 +338,28 @@ pub fn edge_rates(
     Ok(EdgeRates { reads, writes })
 }
 
-/// The rate of a port that is told by its number, where each module has one row; 1 where none is told.
+/// The rate of a port. Where it is known that each module has one row, it takes no look at each.
+pub(crate) fn rate_under(table: &[ModuleAttrs], once: bool, port: &PortRow) -> u32
+    requires rate { IsRate (port_rate table.now port.now) }
+    requires once { once ≡ true → RowsStandOnce table.now }
+    ensures value { result ≡ port_rate table.now port.now }
+    ensures some { 1 ≤ result }
+{
+    if once {
+        rate_once(table, port)
+    } else {
+        rate_in(table, port)
+    }
+}
+
+/// The rate of a port that is told by its number; 1 where none is told. Where it is known that each module has one row, it takes
+/// no look at each.
 #[tactic(auto, unfolding(crate::specs::Rates::net_ports), using(crate::proofs::Placing::told_rates))]
-fn rate_told(tables: &FlatTables, table: &[ModuleAttrs], number: Option<u32>) -> u32
+pub fn told_rate(tables: &FlatTables, table: &[ModuleAttrs], once: bool, number: Option<u32>) -> u32
     requires rates { AreRates tables.now table.now }
-    requires once { RowsStandOnce table.now }
-    ensures { result ≡ rate_at_port (net_ports tables.now table.now) number }
+    requires once { once ≡ true → RowsStandOnce table.now }
+    ensures value { result ≡ rate_at_port (net_ports tables.now table.now) number }
+    ensures some { 1 ≤ result }
 {
     match number {
         None => 1,
@@ -495,7 +368,7 @@ fn rate_told(tables: &FlatTables, table: &[ModuleAttrs], number: Option<u32>) ->
             if place >= tables.ports.len() {
                 return 1;
             }
-            rate_once(table, &tables.ports[place])
+            rate_under(table, once, &tables.ports[place])
         }
     }
 }
@@ -507,8 +380,8 @@ fn told_rates(tables: &FlatTables, table: &[ModuleAttrs], edge: &EdgeRow) -> Rat
     ensures read { result.read ≡ (rated_edge tables.now.ports (net_ports tables.now table.now) edge.now).read_rate }
     ensures write { result.write ≡ (rated_edge tables.now.ports (net_ports tables.now table.now) edge.now).write_rate }
 {
-    let own = rate_told(tables, table, Some(edge.port));
-    let driven = rate_told(tables, table, edge.driver);
+    let own = told_rate(tables, table, true, Some(edge.port));
+    let driven = told_rate(tables, table, true, edge.driver);
     rates_of(&tables.ports, edge, own, driven)
 }
 

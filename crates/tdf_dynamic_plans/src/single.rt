@@ -4,10 +4,9 @@ ghost use Rattle.std.specs.Prelude.{◌≡◌, ◌<◌, ◌+◌, Some, length, s
 ghost use Rattle.tdf_dynamic_plans.specs.Attributes.{AttrsOf, RowsStandOnce};
 ghost use Rattle.tdf_dynamic_plans.specs.Rates.{AreRates, net_ports, port_rate, rated_edge, rated_port};
 ghost use Rattle.tdf_graph.specs.Ranges.{IsRate};
-ghost use Rattle.tdf_timestep.specs.Period.{rate_at_port};
 
 use crate::attrs::ModuleAttrs;
-use crate::rates::{rate_in, rate_once, rates_of};
+use crate::rates::{rate_under, rates_of, told_rate};
 use tdf_bind_connections::{EdgeRow, PortRow};
 use tdf_bind_tables::FlatTables;
 use tdf_graph::{Edge, Port};
@@ -35,19 +34,6 @@ pub fn are_rising(table: &[ModuleAttrs]) -> bool
     true
 }
 
-/// The rate of a port. Where it is known that each module has one row, it takes no look at each.
-fn rate_under(table: &[ModuleAttrs], once: bool, port: &PortRow) -> u32
-    requires rate { IsRate (port_rate table.now port.now) }
-    requires once { once ≡ true → RowsStandOnce table.now }
-    ensures { result ≡ port_rate table.now port.now }
-{
-    if once {
-        rate_once(table, port)
-    } else {
-        rate_in(table, port)
-    }
-}
-
 /// A port with its rate. Where it is known that each module has one row, it takes no look at each.
 pub fn port_under(table: &[ModuleAttrs], once: bool, port: &PortRow) -> Port
     requires rate { IsRate (port_rate table.now port.now) }
@@ -60,33 +46,14 @@ pub fn port_under(table: &[ModuleAttrs], once: bool, port: &PortRow) -> Port
     }
 }
 
-/// The rate of a port that is told by its number; 1 where none is told.
-#[tactic(auto, unfolding(crate::specs::Rates::net_ports), using(crate::proofs::Placing::told_rates))]
-fn told_under(tables: &FlatTables, table: &[ModuleAttrs], once: bool, number: Option<u32>) -> u32
-    requires rates { AreRates tables.now table.now }
-    requires once { once ≡ true → RowsStandOnce table.now }
-    ensures { result ≡ rate_at_port (net_ports tables.now table.now) number }
-{
-    match number {
-        None => 1,
-        Some(number) => {
-            let place = number as usize;
-            if place >= tables.ports.len() {
-                return 1;
-            }
-            rate_under(table, once, &tables.ports[place])
-        }
-    }
-}
-
 /// An edge with the rates of its ports. Where it is known that each module has one row, it takes no look at each.
 pub fn edge_under(tables: &FlatTables, table: &[ModuleAttrs], once: bool, edge: &EdgeRow) -> Edge
     requires rates { AreRates tables.now table.now }
     requires once { once ≡ true → RowsStandOnce table.now }
     ensures { result ≡ rated_edge tables.now.ports (net_ports tables.now table.now) edge.now }
 {
-    let own = told_under(tables, table, once, Some(edge.port));
-    let driven = told_under(tables, table, once, edge.driver);
+    let own = told_rate(tables, table, once, Some(edge.port));
+    let driven = told_rate(tables, table, once, edge.driver);
     let rates = rates_of(&tables.ports, edge, own, driven);
     Edge {
         writer: edge.writer,

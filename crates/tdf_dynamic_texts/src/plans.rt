@@ -1,15 +1,18 @@
 //! The texts of plans.
 
 ghost use Rattle.std.specs.List.{flat_map, range_with_len};
-ghost use Rattle.std.specs.Prelude.{◌≡◌, ◌<◌, ◌++◌, ◌/◌, All, OnErr, OnOk, length, take};
+ghost use Rattle.std.specs.Prelude.{◌≡◌, ◌<◌, ◌++◌, ◌/◌, [], All, OnErr, OnOk, length, slice_index_or, take};
 ghost use Rattle.tdf_bind_tables.specs.Ranges.{AreInRange};
+ghost use Rattle.tdf_cluster_plans.specs.Groups.{AreTableGroups};
 ghost use Rattle.tdf_dynamic_texts.specs.Plans.{accepted_line, actor_line, actor_text, cluster_line, edge_line, edge_text, fire_line, fires_text, plan_text, rows_of_plan};
 ghost use Rattle.tdf_dynamic_texts.specs.views.Counted.{AreCounted};
+ghost use Rattle.tdf_dynamic_texts.specs.views.Numbered.{AreActorNumbers, AreEdgeNumbers};
 
 use crate::counting::counted;
 use tdf_base::{Memory, Resolution, push_number, push_word, row_number};
 use tdf_bind_hierarchy::SharedPath;
 use tdf_bind_tables::FlatTables;
+use tdf_cluster_plans::TableGroups;
 use tdf_fixed::push_seconds_at;
 use tdf_schedule::{Entry, Plan};
 
@@ -161,49 +164,79 @@ fn push_edge(
     push_edge_line(out, path, row.initial, plan.bounds[place])
 }
 
-/// Appends the lines of the actors of a cluster.
-fn push_actors(out: &mut Vec<u8>, lines: &ActorLines) -> Result<(), Memory>
+/// Appends the lines of the actors of a cluster, which have these numbers.
+fn push_actors(out: &mut Vec<u8>, lines: &ActorLines, numbers: &[u32]) -> Result<(), Memory>
     requires range { AreInRange lines.now.flat.now }
     requires counts { AreCounted (length lines.now.flat.now.actors) lines.now.plan.now.entries.items
         lines.now.counts.now }
+    requires numbers { AreActorNumbers lines.now.flat.now lines.now.cluster numbers.now }
     ensures ok { OnOk result (out.new.items ≡ out.old.items
         ++ flat_map (actor_text lines.now.unit lines.now.flat.now
         (rows_of_plan lines.now.plan.now) lines.now.cluster)
         (range_with_len 0 (length lines.now.flat.now.actors))) }
     ensures kept { take (length out.old.items) out.new.items ≡ out.old.items }
 {
-    let flat = lines.flat;
-    for place in 0..flat.actors.len() {
-        push_actor(out, lines, place)?;
+    for i in 0..numbers.len() {
+        push_actor(out, lines, numbers[i] as usize)?;
     }
     Ok(())
 }
 
-/// Appends the lines of the edges of a cluster.
-fn push_edges(out: &mut Vec<u8>, flat: &FlatTables, plan: &Plan, cluster: u32) -> Result<(), Memory>
+/// Appends the lines of the edges of a cluster, which have these numbers.
+fn push_edges(
+    out: &mut Vec<u8>,
+    flat: &FlatTables,
+    plan: &Plan,
+    cluster: u32,
+    numbers: &[u32],
+) -> Result<(), Memory>
     requires range { AreInRange flat.now }
     requires bounds { length plan.now.bounds.items ≡ length flat.now.edges }
+    requires numbers { AreEdgeNumbers flat.now cluster numbers.now }
     ensures ok { OnOk result (out.new.items ≡ out.old.items
         ++ flat_map (edge_text flat.now (rows_of_plan plan.now) cluster)
         (range_with_len 0 (length flat.now.edges))) }
     ensures kept { take (length out.old.items) out.new.items ≡ out.old.items }
 {
-    for place in 0..flat.edges.len() {
-        push_edge(out, flat, plan, cluster, place)?;
+    for i in 0..numbers.len() {
+        push_edge(out, flat, plan, cluster, numbers[i] as usize)?;
     }
     Ok(())
+}
+
+/// The numbers of the actors of a cluster; none where the model has no such cluster.
+fn actors_of(groups: &TableGroups, cluster: u32) -> &[u32]
+    ensures { result.now ≡ slice_index_or groups.now.actors cluster [] }
+{
+    if groups.count() <= cluster as usize {
+        return &[];
+    }
+    groups.actors(cluster)
+}
+
+/// The numbers of its edges.
+fn edges_of(groups: &TableGroups, cluster: u32) -> &[u32]
+    requires { length groups.now.edges ≡ length groups.now.actors }
+    ensures { result.now ≡ slice_index_or groups.now.edges cluster [] }
+{
+    if groups.count() <= cluster as usize {
+        return &[];
+    }
+    groups.edges(cluster)
 }
 
 #[tactic(auto, unfolding(crate::specs::Plans::plan_text), using(crate::proofs::Texts::text_laws))]
 fn push_plan_lines(
     out: &mut Vec<u8>,
     flat: &FlatTables,
+    groups: &TableGroups,
     cluster: u32,
     time: u64,
     plan: &Plan,
     unit: Resolution,
 ) -> Result<(), Memory>
     requires range { AreInRange flat.now }
+    requires groups { AreTableGroups flat.now groups.now }
     requires bounds { length plan.now.bounds.items ≡ length flat.now.edges }
     ensures ok { OnOk result (out.new.items
         ≡ out.old.items ++ plan_text unit flat.now cluster time (rows_of_plan plan.now)) }
@@ -219,31 +252,33 @@ fn push_plan_lines(
         cluster,
         unit,
     };
-    push_actors(out, &lines)?;
-    push_edges(out, flat, plan, cluster)
+    push_actors(out, &lines, actors_of(groups, cluster))?;
+    push_edges(out, flat, plan, cluster, edges_of(groups, cluster))
 }
 
 /// Appends the plan of a cluster from a time on: one line for the cluster, one for each of its actors, and one for each of its
-/// edges. Times are in counts of `unit`.
+/// edges. Times are in counts of `unit`. The things of the model by cluster are given.
 ///
 /// # Errors
 /// Out of memory; `out` is then unchanged.
 pub fn push_plan(
     out: &mut Vec<u8>,
     flat: &FlatTables,
+    groups: &TableGroups,
     cluster: u32,
     time: u64,
     plan: &Plan,
     unit: Resolution,
 ) -> Result<(), Memory>
     requires range { AreInRange flat.now }
+    requires groups { AreTableGroups flat.now groups.now }
     requires bounds { length plan.now.bounds.items ≡ length flat.now.edges }
     ensures whole { OnOk result (out.new.items
         ≡ out.old.items ++ plan_text unit flat.now cluster time (rows_of_plan plan.now)) }
     ensures kept { OnErr result (out.new.items ≡ out.old.items) }
 {
     let start = out.len();
-    match push_plan_lines(out, flat, cluster, time, plan, unit) {
+    match push_plan_lines(out, flat, groups, cluster, time, plan, unit) {
         Ok(()) => Ok(()),
         Err(error) => {
             out.truncate(start);

@@ -86,15 +86,6 @@ module _ (flat : Flat) (c : ClusterOf) (attrs : AttrsTable) (plan : Plan) (ready
   pub can_restart : (m : ℕ) (r : Runner) → slice_get c.runners m ≡ Some r → CanRestart flat r
   can_restart m r at = can_again flat attrs.rows c m r (ready.of.runners m r at)
 
-  -- there is a rate in force for each edge
-  pub reads_long : length c.reads ≡ length flat.tables.edges
-  unfolding net_of
-  reads_long = ap length ready.of.reads_are ∙ length-map (net_of flat.tables c.table).edges (λ (e : Edge). e.read_rate) ∙ length-map flat.tables.edges (rated_edge flat.tables.ports (net_ports flat.tables c.table))
-
-  pub writes_long : length c.writes ≡ length flat.tables.edges
-  unfolding net_of
-  writes_long = ap length ready.of.writes_are ∙ length-map (net_of flat.tables c.table).edges (λ (e : Edge). e.write_rate) ∙ length-map flat.tables.edges (rated_edge flat.tables.ports (net_ports flat.tables c.table))
-
   module _ (laid : IsLaid flat) (law : PlansArePresent) (sound : IsSoundFlat flat) (end : next_offset c ≡ None) where
     abbrev pub next_of : List RingOf → List Runner → ClusterOf
     next_of rings runners = with_new_plan c attrs plan (read_rates (net_of flat.tables attrs.rows)) (write_rates (net_of flat.tables attrs.rows)) rings runners
@@ -154,7 +145,7 @@ module _ (flat : Flat) (c : ClusterOf) (attrs : AttrsTable) (plan : Plan) (ready
       came m s at =
           let i = slice_get_within d.runners m s at in let a = re.restarted.same in
           let r = get_inside c.runners m (omega (arith, i, a)) in
-          record { r = r.0; r_at = r.1; again = re.restarted.done m r.0 s (omega (arith, i, a)) r.1 at }
+          record { r = r.0; r_at = r.1; again = re.restarted.done m r.0 s r.1 at }
 
       alike : (m : ℕ) (x y : Runner) → slice_get d.runners m ≡ Some x → slice_get c.runners m ≡ Some y → is_sampler_runner x ≡ is_sampler_runner y
       alike m x y xat yat =

@@ -28,6 +28,7 @@ mod Moved
 mod Moves
 mod Nexts
 mod Numbered
+mod Others
 mod Own
 mod Planned
 pub mod Playing

@@ -26,6 +26,7 @@ impl Model for Spare {
 }
 
 ghost use Rattle.std.specs.Prelude.{◌≡◌, ◌≤◌, ℕ, Contains, IfOk, length, Ok, OnErr};
+ghost use Rattle.tdf_cluster_plans.specs.Groups.{AreTableGroups};
 ghost use Rattle.tdf_dynamic.specs.Given.{IsOfText, IsPlanned};
 ghost use Rattle.tdf_dynamic.specs.Next.{AnswersAsks, IsCarried};
 ghost use Rattle.tdf_dynamic_plans.specs.Attributes.{clusters_of};
@@ -39,6 +40,7 @@ use crate::runners::Runner;
 use std::alloc::Global;
 use tdf_base::Memory;
 use tdf_bind::Flat;
+use tdf_cluster_plans::TableGroups;
 use tdf_dynamic::{Next, next_plan};
 use tdf_dynamic_plans::{Attrs, ChangeErr};
 
@@ -58,7 +60,7 @@ impl Spare {
         })
     }
 
-    /// The change bodies of the modules of a cluster run, and what they ask for is judged.
+    /// The change bodies of the modules of a cluster run, and what they ask for is judged. The things of the model by cluster are given.
     ///
     /// # Errors
     /// The first fault, or out of memory.
@@ -66,12 +68,14 @@ impl Spare {
         &mut self,
         alloc: Global,
         flat: &Flat,
+        groups: &TableGroups,
         cluster: u32,
         attrs: &mut Attrs,
         runners: &mut Vec<Runner>,
     ) -> Result<Next, ChangeErr>
         requires limits { AreWithinLimits flat.now }
         requires text { IsOfText flat.now }
+        requires groups { AreTableGroups flat.now.tables groups.now }
         requires has { Contains (clusters_of flat.now.tables) cluster }
         requires attributes { AreAttributes flat.now cluster attrs.old.rows }
         requires planned { IsPlanned flat.now.tables cluster attrs.old.rows }
@@ -94,7 +98,7 @@ impl Spare {
             &mut self.frames.modules,
             &mut self.rests,
         );
-        let next = next_plan(alloc, flat, cluster, attrs, &mut self.frames);
+        let next = next_plan(alloc, flat, groups, cluster, attrs, &mut self.frames);
         put_back(
             &attrs.rows,
             runners,

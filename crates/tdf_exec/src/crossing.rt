@@ -1,6 +1,7 @@
 //! From the end of a period to the next.
 
 ghost use Rattle.std.specs.Prelude.{◌≡◌, ◌<◌, ℕ, All, IfOk, IsOk, None, Ok, OnErr, OnOk, Some, false, length, slice_get, true};
+ghost use Rattle.tdf_cluster_plans.specs.Groups.{AreTableGroups};
 ghost use Rattle.tdf_dynamic.specs.Next.{AnswersAsks, IsCarried};
 ghost use Rattle.tdf_dynamic.specs.declared.next.Next.TheVariants.{Same};
 ghost use Rattle.tdf_dynamic_plans.specs.Attributes.{AttrsOf};
@@ -15,6 +16,7 @@ use crate::starting::law_laid;
 use std::alloc::Global;
 use tdf_base::Memory;
 use tdf_bind::Flat;
+use tdf_cluster_plans::TableGroups;
 use tdf_dynamic::Next;
 use tdf_dynamic_plans::{ChangeErr, ModuleAttrs};
 
@@ -45,12 +47,19 @@ fn has_changes(flat: &Flat, rows: &[ModuleAttrs]) -> bool
 
 impl Cluster {
     /// The end of a period: the change bodies of the modules run, in order, and what they ask for is judged. Where no module
-    /// differs it takes no memory, and the next period has the same plan; the table has the flags that were said.
+    /// differs it takes no memory, and the next period has the same plan; the table has the flags that were said. The things of the
+    /// model by cluster are given.
     ///
     /// # Errors
     /// The first fault of the new table, or out of memory. Then, too, the cluster has crossed.
-    pub fn boundary(&mut self, alloc: Global, flat: &Flat) -> Result<Next, ChangeErr>
+    pub fn boundary(
+        &mut self,
+        alloc: Global,
+        flat: &Flat,
+        groups: &TableGroups,
+    ) -> Result<Next, ChangeErr>
         requires sound { IsSoundFlat flat.now }
+        requires groups { AreTableGroups flat.now.tables groups.now }
         requires of { IsClusterOf flat.now self.old }
         requires done { next_offset self.old ≡ None }
         requires open { self.old.crossed ≡ false }
@@ -72,8 +81,9 @@ impl Cluster {
             return Ok(Next::Same);
         }
         let number = self.number;
+        let runners = &mut self.runners;
         self.spare
-            .ask(alloc, flat, number, &mut self.attrs, &mut self.runners)
+            .ask(alloc, flat, groups, number, &mut self.attrs, runners)
     }
 
     /// Begins the next period with the answer of the boundary. With the same plan it takes no memory. With a new one each edge
@@ -81,8 +91,15 @@ impl Cluster {
     ///
     /// # Errors
     /// Out of memory; then nothing changes.
-    pub fn install(&mut self, alloc: Global, flat: &Flat, next: Next) -> Result<(), Memory>
+    pub fn install(
+        &mut self,
+        alloc: Global,
+        flat: &Flat,
+        groups: &TableGroups,
+        next: Next,
+    ) -> Result<(), Memory>
         requires sound { IsSoundFlat flat.now }
+        requires groups { AreTableGroups flat.now.tables groups.now }
         requires crossed { self.old.crossed ≡ true }
         requires can { CanInstall flat.now self.old next }
         ensures ok { next ≡ Same → IsOk result }
@@ -99,7 +116,7 @@ impl Cluster {
                 self.crossed = false;
                 Ok(())
             }
-            Next::Changed(attrs, plan) => self.begin_new(alloc, flat, attrs, plan),
+            Next::Changed(attrs, plan) => self.begin_new(alloc, flat, groups, attrs, plan),
         }
     }
 }

@@ -23,6 +23,7 @@ impl Model for Layout {
 }
 
 ghost use Rattle.std.specs.Prelude.{ℕ, IfOk};
+ghost use Rattle.tdf_cluster_plans.specs.Groups.{AreTableGroups};
 ghost use Rattle.tdf_exec.specs.Layout.{HasLayoutOf};
 ghost use Rattle.tdf_exec.specs.Starts.{IsSoundFlat};
 
@@ -32,6 +33,18 @@ use std::alloc::Global;
 use tdf_base::Memory;
 use tdf_bind::Flat;
 use tdf_exec_layout::all_wires;
+
+/// The numbers of the actors, edges and ports of each cluster of a flat model.
+///
+/// # Errors
+/// Out of memory.
+pub fn cluster_groups(alloc: Global, flat: &Flat) -> Result<TableGroups, Memory>
+    requires sound { IsSoundFlat flat.now }
+    ensures { IfOk result (AreTableGroups flat.now.tables) }
+{
+    law_laid();
+    TableGroups::of(alloc, &flat.tables, flat.cluster_count())
+}
 
 impl Layout {
     /// What the actors of a flat model need, by some few looks at each actor, edge and port; nothing is taken.
@@ -45,7 +58,7 @@ impl Layout {
         law_laid();
         let traced = traced_rows(alloc, flat)?;
         let wires = all_wires(alloc, &flat.tables)?;
-        let groups = TableGroups::of(alloc, &flat.tables, flat.cluster_count())?;
+        let groups = cluster_groups(alloc, flat)?;
         Ok(Layout {
             wires,
             traced,

@@ -33,8 +33,9 @@ mod tracing;
 
 pub use cluster::Cluster;
 pub use laws::{law_few, law_heads, law_own, law_rates, law_room, law_safe};
-pub use laying::Layout;
+pub use laying::{Layout, cluster_groups};
 pub use runners::{ModuleRunner, Runner, SamplerRunner, SinkRunner, TracedPort};
+pub use tdf_cluster_plans::TableGroups;
 pub use tdf_dynamic::Next;
 pub use tdf_exec_layout::law_one_port;
 pub use telling::Room;

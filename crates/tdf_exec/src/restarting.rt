@@ -1,12 +1,14 @@
 //! The next period with a new plan, and how the modules begin again.
 
 ghost use Rattle.std.specs.Prelude.{◌≡◌, ℕ, length, OnErr, OnOk, Some, slice_get, true};
+ghost use Rattle.tdf_cluster_net.specs.Numbers.{AllBelow, Rise};
+ghost use Rattle.tdf_cluster_plans.specs.Groups.{AreTableGroups};
 ghost use Rattle.tdf_dynamic_plans.specs.Attributes.{RowsStandOnce};
 ghost use Rattle.tdf_dynamic_plans.specs.Rates.{AreRates};
 ghost use Rattle.tdf_exec.specs.Crossing.{IsReadyFor};
 ghost use Rattle.tdf_exec.specs.Starts.{IsSoundFlat};
 ghost use Rattle.tdf_exec.specs.declared.runners.Runner.{Runner as RunnerOf};
-ghost use Rattle.tdf_exec.specs.machine.Restarting.{AreRestarted, CanRestart, HasReplaced, HasRestarted, IsRestarted};
+ghost use Rattle.tdf_exec.specs.machine.Restarting.{AreRestartedAt, CanRestart, HasReplaced, HasRestarted, IsRestarted};
 ghost use Rattle.tdf_exec.specs.machine.Tracing.{AreNumbered, with_rates};
 ghost use Rattle.tdf_expr.specs.Made.{AreMadeFor};
 
@@ -19,8 +21,9 @@ use std::mem;
 use tdf_base::Memory;
 use tdf_bind::Flat;
 use tdf_bind_tables::FlatTables;
+use tdf_cluster_plans::{TableGroups, set_cluster_rates};
 use tdf_dynamic::begin;
-use tdf_dynamic_plans::{Attrs, set_edge_rates};
+use tdf_dynamic_plans::Attrs;
 use tdf_exec_parts::set_firings;
 use tdf_expr::{Body, Checked, run_body};
 use tdf_rings::carry;
@@ -72,22 +75,25 @@ fn restart_runner(flat: &Flat, attrs: &Attrs, runner: &mut Runner)
     }
 }
 
-/// The same for all actors, in order.
-fn restart_all(flat: &Flat, attrs: &Attrs, runners: &mut Vec<Runner>)
+/// The same for the actors with these numbers, in order.
+fn restart_all(flat: &Flat, attrs: &Attrs, numbers: &[u32], runners: &mut Vec<Runner>)
     requires rates { AreRates flat.now.tables attrs.now.rows }
     requires once { RowsStandOnce attrs.now.rows }
+    requires within { AllBelow (length runners.old.items) numbers.now }
+    requires rising { Rise numbers.now }
     requires can { (m : ℕ) (r : RunnerOf) → slice_get runners.old.items m ≡ Some r
         → CanRestart flat.now r }
-    ensures { AreRestarted flat.now attrs.now.rows (length runners.old.items)
+    ensures { AreRestartedAt flat.now attrs.now.rows numbers.now (length numbers.now)
         runners.old.items runners.new.items }
 {
-    for m in 0..runners.len() {
-        restart_runner(flat, attrs, &mut runners[m]);
+    for i in 0..numbers.len() {
+        restart_runner(flat, attrs, &mut runners[numbers[i] as usize]);
     }
 }
 
 impl Cluster {
-    /// The next period begins with a new table and plan: the rings keep their samples, and the modules begin again in order.
+    /// The next period begins with a new table and plan: the rings keep their samples, and the modules begin again in order. The
+    /// things of the model by cluster are given; those of other clusters aren't looked at.
     ///
     /// # Errors
     /// Out of memory; then nothing changes.
@@ -95,23 +101,35 @@ impl Cluster {
         &mut self,
         alloc: Global,
         flat: &Flat,
+        groups: &TableGroups,
         attrs: Attrs,
         plan: Plan,
     ) -> Result<(), Memory>
         requires sound { IsSoundFlat flat.now }
+        requires groups { AreTableGroups flat.now.tables groups.now }
         requires crossed { self.old.crossed ≡ true }
         requires ready { IsReadyFor flat.now self.old attrs plan }
         ensures ok { OnOk result (HasReplaced flat.now self.old attrs plan self.new) }
         ensures err { OnErr result (self.new ≡ self.old) }
     {
         law_laid();
-        if let Err(failed) = carry(alloc, &mut self.rings, &plan.bounds) {
+        let number = self.number;
+        let own_edges = groups.edges(number);
+        let own_actors = groups.actors(number);
+        if let Err(failed) = carry(alloc, &mut self.rings, &plan.bounds, own_edges) {
             drop(attrs);
             drop(plan);
             return Err(failed);
         }
-        restart_all(flat, &attrs, &mut self.runners);
-        set_edge_rates(&flat.tables, &attrs.rows, &mut self.reads, &mut self.writes);
+        restart_all(flat, &attrs, own_actors, &mut self.runners);
+        set_cluster_rates(
+            &flat.tables,
+            groups,
+            number,
+            &attrs.rows,
+            &mut self.reads,
+            &mut self.writes,
+        );
         set_firings(&mut self.firings, &plan.entries);
         let left = mem::replace(&mut self.attrs, attrs);
         self.attrs.recycle(left);

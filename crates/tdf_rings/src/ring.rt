@@ -1,6 +1,6 @@
 //! A ring and its calls.
 
-ghost use Rattle.std.specs.Prelude.{◌≡◌, ◌≤◌, ◌<◌, ◌++◌, [], ◌∷◌, length, drop, slice_get, IfOk, OnErr, OnOk, Some};
+ghost use Rattle.std.specs.Prelude.{◌≡◌, ◌≤◌, ◌<◌, ◌++◌, [], ◌∷◌, length, drop, slice_get, IfOk, Some};
 ghost use Rattle.tdf_rings.specs.Rings.{ring_of};
 ghost use Rattle.tdf_rings.specs.views.Held.{ring_in};
 
@@ -10,11 +10,9 @@ use std::marker::Model;
 use tdf_base::Memory;
 use tdf_fixed::Raw;
 
-/// The samples that an edge holds, in order, and how many it may hold. Only [`Ring::new`] and [`Ring::resize_keep`] take memory, and
-/// a ring of capacity 0 has none.
+/// The samples that an edge holds, in order, and how many it may hold. Only [`Ring::new`] takes memory, and none for capacity 0.
 #[derive(Drop)]
 pub struct Ring {
-    alloc: Global,
     /// None where the capacity is 0.
     buffer: Option<HeapCircularBuffer<Raw>>,
 }
@@ -50,7 +48,7 @@ impl Ring {
         ensures { IfOk result (λ ring. ring ≡ ring_of [] capacity) }
     {
         let buffer = buffer_of(alloc, capacity)?;
-        Ok(Ring { alloc, buffer })
+        Ok(Ring { buffer })
     }
 
     /// How many samples it holds.
@@ -125,22 +123,5 @@ impl Ring {
             },
             None => unreachable!(),
         }
-    }
-
-    /// The same samples, with another capacity.
-    ///
-    /// # Errors
-    /// Out of memory; then nothing changes.
-    pub fn resize_keep(&mut self, capacity: u32) -> Result<(), Memory>
-        requires { length self.old.samples ≤ capacity }
-        ensures ok { OnOk result (self.new ≡ ring_of self.old.samples capacity) }
-        ensures err { OnErr result (self.new ≡ self.old) }
-    {
-        if let Some(buffer) = &mut self.buffer {
-            buffer.resize(capacity as usize)?;
-            return Ok(());
-        }
-        self.buffer = buffer_of(self.alloc, capacity)?;
-        Ok(())
     }
 }

@@ -4,7 +4,6 @@ pub mod Grounds
 pub mod Keys
 pub mod Lates
 pub mod Linked
-pub mod Listed
 pub mod Orders
 pub mod Parts
 pub mod Plans

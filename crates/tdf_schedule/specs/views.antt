@@ -2,7 +2,6 @@ pub mod Answers
 pub mod Bounds
 pub mod Entries
 pub mod Faults
-pub mod Lists
 pub mod Parts
 pub mod Table
 pub mod Turns

@@ -3,7 +3,7 @@
 use std::marker::Model;
 
 /// The level and the offset of a firing.
-#[derive(Clone, Copy, Debug, PartialEq, Eq)]
+#[derive(Clone, Copy, Debug, Default, PartialEq, Eq)]
 pub struct Key {
     /// 1 more than the greatest level that it needs, 1 where it needs none.
     pub level: u32,
@@ -11,10 +11,10 @@ pub struct Key {
     pub offset: u64,
 }
 
-/// The keys of an actor's first firings.
+/// The keys of an actor's first firings. One of them, as most actors have in a period, takes no memory of its own.
 #[derive(Drop)]
 pub(crate) struct Row {
-    keys: Vec<Key>,
+    keys: SmallVec<Key, 1>,
 }
 
 impl Model for Row {
@@ -51,7 +51,7 @@ impl Row {
         ensures { result ≡ [] }
     {
         Row {
-            keys: Vec::new(alloc),
+            keys: SmallVec::new(alloc),
         }
     }
 
@@ -65,14 +65,16 @@ impl Row {
         requires { index < length self.now }
         ensures { slice_get self.now index ≡ Some result }
     {
-        self.keys[index]
+        self.keys.as_slice()[index]
     }
 
     pub(crate) fn push(&mut self, key: Key) -> Result<(), Memory>
         ensures { OnOk result (self.new ≡ self.old ++ key ∷ []) }
     {
-        self.keys.push(key)?;
-        Ok(())
+        match self.keys.push(key) {
+            Ok(()) => Ok(()),
+            Err(_) => Err(Memory),
+        }
     }
 }
 

@@ -19,7 +19,7 @@ fn inputs_of(alloc: Global, counts: &[u64], edges: &[Edge]) -> Result<Lists, Mem
     for k in 0..edges.len() as u32 {
         let reader = edges[k as usize].reader;
         if counts[reader as usize] != 0 {
-            lists.add(alloc, reader, k)?;
+            lists.add(reader, k)?;
         }
     }
     Ok(lists)
@@ -35,7 +35,7 @@ fn outputs_of(alloc: Global, counts: &[u64], edges: &[Edge]) -> Result<Lists, Me
     for k in 0..edges.len() as u32 {
         let writer = edges[k as usize].writer;
         if counts[writer as usize] != 0 {
-            lists.add(alloc, writer, k)?;
+            lists.add(writer, k)?;
         }
     }
     Ok(lists)

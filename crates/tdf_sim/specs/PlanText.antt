@@ -4,8 +4,8 @@ use Rattle.std.specs.List.{flat_map, range_with_len}
 use Rattle.std.specs.Prelude.{◌+◌, ◌++◌, ℕ, List, [], length, map, Option, Some, None, slice_get}
 use Rattle.tdf_base.specs.declared.resolution.Resolution.{Resolution}
 use Rattle.tdf_bind_tables.specs.FlatTables.{FlatTablesOf}
-use Rattle.tdf_bind_tables.specs.Ranges.{AreInRange}
 use Rattle.tdf_dynamic_first.specs.declared.first.First.{First}
+use Rattle.tdf_dynamic_plans.specs.Rates.{IsWired}
 use Rattle.tdf_dynamic_texts.specs.Plans.{PlanRows, rows_of_plan, plan_text, fires_text}
 use Rattle.tdf_sim.specs.Accepted.{ArePlans}
 use Rattle.tdf_sim.specs.declared.sim.Sim.{Sim}
@@ -31,5 +31,5 @@ plans_text sim = clusters_text sim.flat.resolution sim.flat.tables (map plan_row
 
 -- a model whose plans can be printed
 pub record IsPrintable (sim : Sim) : Type 0 where
-  pub in_range : AreInRange sim.flat.tables
+  pub wired : IsWired sim.flat.tables
   pub plans : ArePlans sim.flat sim.firsts.items

@@ -5,6 +5,7 @@ ghost use Rattle.tdf_base.specs.declared.faults.Fault.{Fault};
 ghost use Rattle.tdf_bind_tables.specs.Ranges.{AreInRange};
 ghost use Rattle.tdf_cluster_plans.specs.Groups.{AreTableGroups};
 ghost use Rattle.tdf_dynamic_first.specs.First.{IsFirstPlan, IsPlannable};
+ghost use Rattle.tdf_dynamic_plans.specs.Rates.{IsWired};
 ghost use Rattle.tdf_sim.specs.Accepted.{ArePlans, IsPlansRefusal};
 ghost use Rattle.tdf_sim.specs.FirstFault.{IsPlansFault, cluster_count};
 ghost use Rattle.tdf_sim.specs.PlanText.{IsPrintable, cluster_text, clusters_text, plan_rows, plans_text};
@@ -113,13 +114,28 @@ fn plans_of(alloc: Global, flat: &Flat) -> Result<Vec<First>, SimErr>
 }
 
 /// Appends the plan of a cluster with its firings.
-fn push_cluster(out: &mut Vec<u8>, flat: &Flat, cluster: u32, first: &First) -> Result<(), Memory>
+fn push_cluster(
+    out: &mut Vec<u8>,
+    flat: &Flat,
+    groups: &TableGroups,
+    cluster: u32,
+    first: &First,
+) -> Result<(), Memory>
     requires range { AreInRange flat.now.tables }
+    requires groups { AreTableGroups flat.now.tables groups.now }
     requires plan { IsFirstPlan flat.now cluster first.now }
     ensures { OnOk result (out.new.items ≡ out.old.items
         ++ cluster_text flat.now.resolution flat.now.tables cluster (Some (plan_rows first.now))) }
 {
-    push_plan(out, &flat.tables, cluster, 0, &first.plan, flat.resolution)?;
+    push_plan(
+        out,
+        &flat.tables,
+        groups,
+        cluster,
+        0,
+        &first.plan,
+        flat.resolution,
+    )?;
     push_fires(out, &flat.tables, &first.plan, flat.resolution)
 }
 
@@ -134,13 +150,20 @@ fn first_at(firsts: &Vec<First>, place: usize) -> &First
 /// Appends the plans of all clusters, in order.
 #[tactic(auto, unfolding(crate::specs::PlanText::clusters_text))]
 fn push_clusters(out: &mut Vec<u8>, flat: &Flat, firsts: &Vec<First>) -> Result<(), Memory>
-    requires range { AreInRange flat.now.tables }
+    requires wired { IsWired flat.now.tables }
     requires plans { ArePlans flat.now firsts.now.items }
     ensures { OnOk result (out.new.items ≡ out.old.items
         ++ clusters_text flat.now.resolution flat.now.tables (map plan_rows firsts.now.items)) }
 {
+    let groups = TableGroups::of(*out.allocator(), &flat.tables, flat.cluster_count())?;
     for made in 0..flat.cluster_count() {
-        push_cluster(out, flat, made + 1, first_at(firsts, made as usize))?;
+        push_cluster(
+            out,
+            flat,
+            &groups,
+            made + 1,
+            first_at(firsts, made as usize),
+        )?;
     }
     Ok(())
 }

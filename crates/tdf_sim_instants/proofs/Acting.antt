@@ -268,6 +268,7 @@ module _ (flat : Flat) (time left : ℕ) (e : Engine) (of : IsEngineOf flat e) (
         none_sent = refl;
         none_written = refl;
         kernel = kernel;
+        groups = of.groups;
       })
 
       pub ready_after : IsBefore (time + 1) (side_of f.kernel) → IsReadyAt (time + 1) f

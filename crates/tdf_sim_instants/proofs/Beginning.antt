@@ -18,7 +18,7 @@ use Rattle.tdf_sim_instants.specs.machine.Making.{AreGivenUpTo, AreLinkedUpTo, H
 use Rattle.tdf_events.proofs.Api.{none_at_start, none_pending_before}
 use Rattle.tdf_events.specs.Kernel.{IsKernelOf, KernelOf, side_of}
 use Rattle.tdf_events.specs.Side.{start_side}
-use Rattle.tdf_sim_refinement.specs.Below.{ClusterOf, HasLayoutOf, IsMostOf, KeepsLayouts, LayoutOf, Runner, sent_size, size_due, traced_size}
+use Rattle.tdf_sim_refinement.specs.Below.{AreTableGroups, ClusterOf, HasLayoutOf, IsMostOf, KeepsLayouts, LayoutOf, Runner, sent_size, size_due, traced_size}
 use Rattle.tdf_bind.specs.declared.model.Flat.{Flat}
 use Rattle.tdf_streams.proofs.Api.{none_some, some_same}
 use Rattle.tdf_bind_invariants.specs.Limits.{AreWithinLimits}
@@ -112,8 +112,8 @@ rooms_made clusters o w sent traced sent_rooms traced_rooms outputs writes = rec
 pub engine_made : (flat : Flat) (e : Engine) → length e.since.items ≡ length e.clusters.items → AreInProgress flat e.clusters.items
     → AreLinkedUpTo flat.tables (length e.clusters.items) e.links.items
     → AreGivenUpTo e.links.items (length e.links.items) e.inputs.items → AreSinkLinks flat.tables e.sinks.list.items
-    → AreRoomy e.clusters.items e.outputs e.writes → IsKernelOf flat e.kernel → IsEngineOf flat e
-engine_made flat e as_many going linked given sinks roomy kernel = record {
+    → AreRoomy e.clusters.items e.outputs e.writes → AreTableGroups flat.tables e.groups → IsKernelOf flat e.kernel → IsEngineOf flat e
+engine_made flat e as_many going linked given sinks roomy groups kernel = record {
   since = as_many;
   links = linked.long;
   inputs = given.long ∙ linked.long;
@@ -127,6 +127,7 @@ engine_made flat e as_many going linked given sinks roomy kernel = record {
   none_sent = roomy.none_sent;
   none_written = roomy.none_written;
   kernel = kernel;
+  groups = groups;
 }
 
 -- the clusters at the start

@@ -15,7 +15,7 @@ use Rattle.tdf_sim_instants.specs.Times.{due_time}
 use Rattle.tdf_sim_instants.specs.declared.engine.Engine.{Engine}
 use Rattle.tdf_events.specs.Kernel.{IsKernelOf, side_of}
 use Rattle.tdf_events.specs.Side.{SideOf}
-use Rattle.tdf_sim_refinement.specs.Below.{ClusterOf, IsClusterOf, Runner, sent_size, size_due, traced_size}
+use Rattle.tdf_sim_refinement.specs.Below.{AreTableGroups, ClusterOf, IsClusterOf, Runner, sent_size, size_due, traced_size}
 use Rattle.tdf_expr.specs.Checked.{IsCheckedOf}
 use Rattle.tdf_fixed.specs.declared.raw.Raw.{Raw}
 use Rattle.tdf_bind.specs.declared.model.Flat.{Flat}
@@ -75,6 +75,7 @@ pub record IsEngineOf (flat : Flat) (e : Engine) : Type 0 where
   pub none_sent : e.outputs.sent ≡ []
   pub none_written : e.writes.list ≡ []
   pub kernel : IsKernelOf flat e.kernel
+  pub groups : AreTableGroups flat.tables e.groups
 
 -- the period of a cluster began before a time, or there was none before it; each entry that is done
 -- was due before that time

@@ -41,7 +41,7 @@ ghost use Rattle.tdf_base.specs.declared.faults.Fault.{Fault as FaultOf};
 ghost use Rattle.tdf_dynamic.specs.declared.next.Next.{Next as NextOf};
 ghost use Rattle.tdf_dynamic.specs.declared.next.Next.TheVariants.{Same};
 ghost use Rattle.tdf_dynamic_plans.specs.Faults.{IsRefusal};
-ghost use Rattle.tdf_sim_refinement.specs.Below.{CanInstall, ClusterOf, HasBegunPeriod, HasCrossed as HasLeft, HasNoChanges, IsClusterOf, IsSoundFlat, StandsAfter, next_offset};
+ghost use Rattle.tdf_sim_refinement.specs.Below.{AreTableGroups, CanInstall, ClusterOf, HasBegunPeriod, HasCrossed as HasLeft, HasNoChanges, IsClusterOf, IsSoundFlat, StandsAfter, next_offset};
 ghost use Rattle.tdf_sim_history.specs.World.{Refused};
 ghost use Rattle.tdf_sim_refinement.specs.Boundary.{HasAnswered, HasPassedBoundary};
 
@@ -50,7 +50,7 @@ use tdf_base::{Memory, cluster_number};
 use tdf_bind::Flat;
 use tdf_dynamic::Next;
 use tdf_dynamic_plans::ChangeErr;
-use tdf_sim_refinement::{Cluster, law_boundary};
+use tdf_sim_refinement::{Cluster, TableGroups, law_boundary};
 
 /// Whether the period of a cluster, which began at `since`, ends at a time.
 fn is_ending(cluster: &Cluster, since: u64, time: u64) -> bool
@@ -71,8 +71,15 @@ fn is_new(next: &Next) -> bool
 ///
 /// # Errors
 /// Out of memory; then nothing changes.
-fn install(alloc: Global, flat: &Flat, cluster: &mut Cluster, next: Next) -> Result<bool, ChangeErr>
+fn install(
+    alloc: Global,
+    flat: &Flat,
+    groups: &TableGroups,
+    cluster: &mut Cluster,
+    next: Next,
+) -> Result<bool, ChangeErr>
     requires sound { IsSoundFlat flat.now }
+    requires groups { AreTableGroups flat.now.tables groups.now }
     requires crossed { cluster.old.crossed ≡ true }
     requires can { CanInstall flat.now cluster.old next }
     ensures same { next ≡ Same → result ≡ Ok false }
@@ -84,7 +91,7 @@ fn install(alloc: Global, flat: &Flat, cluster: &mut Cluster, next: Next) -> Res
     ensures err { OnErr result (cluster.new ≡ cluster.old) }
 {
     let new = is_new(&next);
-    match cluster.install(alloc, flat, next) {
+    match cluster.install(alloc, flat, groups, next) {
         Ok(()) => Ok(new),
         Err(_) => Err(ChangeErr::Memory),
     }
@@ -94,8 +101,14 @@ fn install(alloc: Global, flat: &Flat, cluster: &mut Cluster, next: Next) -> Res
 ///
 /// # Errors
 /// The first fault of what they ask for; or out of memory.
-fn begin_next(alloc: Global, flat: &Flat, cluster: &mut Cluster) -> Result<bool, ChangeErr>
+fn begin_next(
+    alloc: Global,
+    flat: &Flat,
+    groups: &TableGroups,
+    cluster: &mut Cluster,
+) -> Result<bool, ChangeErr>
     requires sound { IsSoundFlat flat.now }
+    requires groups { AreTableGroups flat.now.tables groups.now }
     requires of { IsClusterOf flat.now cluster.old }
     requires over { next_offset cluster.old ≡ None }
     requires going { cluster.old.crossed ≡ false }
@@ -107,8 +120,8 @@ fn begin_next(alloc: Global, flat: &Flat, cluster: &mut Cluster) -> Result<bool,
     ensures still { HasNoChanges flat.now.tables cluster.old.number → result ≡ Ok false }
 {
     law_boundary();
-    match cluster.boundary(alloc, flat) {
-        Ok(next) => install(alloc, flat, cluster, next),
+    match cluster.boundary(alloc, flat, groups) {
+        Ok(next) => install(alloc, flat, groups, cluster, next),
         Err(refused) => Err(refused),
     }
 }
@@ -117,8 +130,14 @@ fn begin_next(alloc: Global, flat: &Flat, cluster: &mut Cluster) -> Result<bool,
 ///
 /// # Errors
 /// Out of memory.
-fn cross(alloc: Global, flat: &Flat, cluster: &mut Cluster) -> Result<Turn, Memory>
+fn cross(
+    alloc: Global,
+    flat: &Flat,
+    groups: &TableGroups,
+    cluster: &mut Cluster,
+) -> Result<Turn, Memory>
     requires sound { IsSoundFlat flat.now }
+    requires groups { AreTableGroups flat.now.tables groups.now }
     requires of { IsClusterOf flat.now cluster.old }
     requires over { next_offset cluster.old ≡ None }
     requires going { cluster.old.crossed ≡ false }
@@ -131,7 +150,7 @@ fn cross(alloc: Global, flat: &Flat, cluster: &mut Cluster) -> Result<Turn, Memo
         → HasAnswered flat.now cluster.old (Refused fault.value) × HasLeft cluster.old cluster.new }
     ensures still { HasNoChanges flat.now.tables cluster.old.number → result ≡ Ok came.Kept }
 {
-    match begin_next(alloc, flat, cluster) {
+    match begin_next(alloc, flat, groups, cluster) {
         Ok(true) => Ok(Turn::Planned),
         Ok(false) => Ok(Turn::Kept),
         Err(ChangeErr::Refused(fault)) => Ok(Turn::Refused(Box::new(alloc, fault)?)),
@@ -146,12 +165,14 @@ fn cross(alloc: Global, flat: &Flat, cluster: &mut Cluster) -> Result<Turn, Memo
 fn cross_turn(
     alloc: Global,
     flat: &Flat,
+    groups: &TableGroups,
     time: u64,
     since: &mut u64,
     cluster: &mut Cluster,
     left: &mut u64,
 ) -> Result<Turn, Memory>
     requires sound { IsSoundFlat flat.now }
+    requires groups { AreTableGroups flat.now.tables groups.now }
     requires begun { since.old ≤ time }
     requires of { IsClusterOf flat.now cluster.old }
     requires going { cluster.old.crossed ≡ false }
@@ -183,7 +204,7 @@ fn cross_turn(
     }
     *left -= 1;
     *since = time;
-    cross(alloc, flat, cluster)
+    cross(alloc, flat, groups, cluster)
 }
 
 /// One cluster more that got a new plan.
@@ -240,13 +261,14 @@ fn noted(planned: &mut Vec<usize>, place: usize, turn: Turn) -> Result<Option<Pa
 }
 
 /// Gives each cluster its boundary, if its period ends at this time, for one of the turns that are left, in order of number.
-/// `planned` gains the places of those that got a new plan.
+/// `planned` gains the places of those that got a new plan. The things of the model by cluster are given.
 ///
 /// # Errors
 /// Out of memory; only where some cluster's modules may change attributes.
 pub fn cross_all(
     alloc: Global,
     flat: &Flat,
+    groups: &TableGroups,
     time: u64,
     since: &mut Vec<u64>,
     clusters: &mut Vec<Cluster>,
@@ -254,6 +276,7 @@ pub fn cross_all(
     left: &mut u64,
 ) -> Result<Pass, Memory>
     requires sound { IsSoundFlat flat.now }
+    requires groups { AreTableGroups flat.now.tables groups.now }
     requires can { CanCross flat.now time
         (crossing_of clusters.old.items since.old.items left.old planned.old.items) }
     ensures all { result ≡ Ok Done → HaveCrossed flat.now time (length clusters.old.items)
@@ -271,7 +294,15 @@ pub fn cross_all(
         → planned.new.items ≡ planned.old.items }
 {
     for n in 0..clusters.len() {
-        let turn = cross_turn(alloc, flat, time, &mut since[n], &mut clusters[n], left)?;
+        let turn = cross_turn(
+            alloc,
+            flat,
+            groups,
+            time,
+            &mut since[n],
+            &mut clusters[n],
+            left,
+        )?;
         if let Some(ended) = noted(planned, n, turn)? {
             return Ok(ended);
         }

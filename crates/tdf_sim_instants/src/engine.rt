@@ -2,6 +2,7 @@
 
 use tdf_convert::{Inputs, Links, Outputs, Writes};
 use tdf_events::Kernel;
+use tdf_sim_refinement::TableGroups;
 
 /// All that runs of a model: its clusters and its event side.
 #[derive(Drop)]
@@ -24,6 +25,8 @@ pub struct Engine {
     pub kernel: Kernel,
     /// The clusters that got a new plan in the last instant, by place, in their order.
     pub planned: Vec<usize>,
+    /// The numbers of the actors, edges and ports of each cluster.
+    pub groups: TableGroups,
 }
 
 ghost use Rattle.std.specs.Prelude.{◌≡◌, ◌<◌, ◌≤◌, ◌+◌, ℕ, [], false, true, length, map, IsOk, None, Ok, OnOk, Some};
@@ -101,6 +104,7 @@ impl Engine {
         cross_all(
             alloc,
             flat,
+            &self.groups,
             time,
             &mut self.since,
             &mut self.clusters,
@@ -222,6 +226,7 @@ impl Engine {
             → HasBeenSpent flat.now time self.old self.new left.old }
         ensures stopped { (number : ℕ) (fault : BoxOf FaultOf) → result ≡ Ok (Stopped number fault)
             → HasBeenStopped flat.now time number fault.value self.old self.new left.old }
+        ensures groups { self.new.groups ≡ self.old.groups }
         ensures never { NoneChanges flat.now self.old.clusters.items → IsOk result }
     {
         law_by_offset();

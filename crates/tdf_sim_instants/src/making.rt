@@ -9,7 +9,7 @@ ghost use Rattle.tdf_sim_instants.specs.machine.Making.{AreGivenUpTo, AreLinkedU
 ghost use Rattle.tdf_events.specs.Kernel.{IsKernelOf, side_of};
 ghost use Rattle.tdf_events.specs.Runnable.{IsRunnable};
 ghost use Rattle.tdf_events.specs.Side.{start_side};
-ghost use Rattle.tdf_sim_refinement.specs.Below.{HasLayoutOf, IsSoundFlat, KeepsLayouts, sent_size, traced_size};
+ghost use Rattle.tdf_sim_refinement.specs.Below.{AreTableGroups, HasLayoutOf, IsSoundFlat, KeepsLayouts, sent_size, traced_size};
 ghost use Rattle.tdf_sim_refinement.specs.Linked.{AreSinkLinks, HaveEventPorts};
 ghost use Rattle.tdf_sim_refinement.specs.Begun.{HasBegun, HaveBegun};
 
@@ -21,7 +21,9 @@ use tdf_bind_invariants::law_limits;
 use tdf_convert::{Inputs, Links, Outputs, Writes};
 use tdf_dynamic_first::First;
 use tdf_events::Kernel;
-use tdf_sim_refinement::{Cluster, Layout, Room, all_sampler_links, law_ports, sink_links};
+use tdf_sim_refinement::{
+    Cluster, Layout, Room, TableGroups, all_sampler_links, cluster_groups, law_ports, sink_links,
+};
 
 /// A sum, if it has 32 bits.
 fn sum(a: u32, b: u32) -> Result<u32, Memory>
@@ -143,9 +145,11 @@ pub(crate) fn rooms_of(clusters: &[Cluster]) -> Result<Room, Memory>
     Ok(room)
 }
 
-/// What an engine has beside its clusters and its event side: what samplers read and sinks write, and room for what firings give.
+/// What an engine has beside its clusters and its event side: what samplers read and sinks write, room for what firings give, and the
+/// numbers of the things of each cluster.
 #[derive(Drop)]
 struct Lines {
+    groups: TableGroups,
     links: Vec<Links>,
     inputs: Vec<Inputs>,
     sinks: Links,
@@ -155,7 +159,9 @@ struct Lines {
 
 /// That of these clusters. Nothing is read or written yet.
 fn lines_of(alloc: Global, flat: &Flat, clusters: &[Cluster]) -> Result<Lines, Memory>
+    requires sound { IsSoundFlat flat.now }
     requires ports { HaveEventPorts flat.now.tables }
+    ensures groups { IfOk result (λ lines. AreTableGroups flat.now.tables lines.groups) }
     ensures linked { IfOk result (λ lines.
         AreLinkedUpTo flat.now.tables (length clusters.now) lines.links.items) }
     ensures given { IfOk result (λ lines.
@@ -169,7 +175,9 @@ fn lines_of(alloc: Global, flat: &Flat, clusters: &[Cluster]) -> Result<Lines, M
     let sinks = sink_links(alloc, &flat.tables)?;
     let outputs = Outputs::new(alloc, room.sent, room.traced)?;
     let writes = Writes::new(alloc, room.sent)?;
+    let groups = cluster_groups(alloc, flat)?;
     Ok(Lines {
+        groups,
         links,
         inputs,
         sinks,
@@ -218,6 +226,7 @@ impl Engine {
         match lines_of(alloc, flat, &clusters) {
             Ok(lines) => {
                 let Lines {
+                    groups,
                     links,
                     inputs,
                     sinks,
@@ -234,6 +243,7 @@ impl Engine {
                     writes,
                     kernel,
                     planned: Vec::new(alloc),
+                    groups,
                 })
             }
             Err(failed) => {

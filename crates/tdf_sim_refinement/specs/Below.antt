@@ -1,6 +1,6 @@
 -- Definitions of crates below, passed on to those above.
 -- Source: the crates that say them.
-pub use Rattle.tdf_exec.specs.Below.{HoldEdges, IsFilledTo, IsInPeriod, IsStateAt, IsStateUnder, due_before, edge_format, held_by_state}
+pub use Rattle.tdf_exec.specs.Below.{AreTableGroups, HoldEdges, IsFilledTo, IsInPeriod, IsStateAt, IsStateUnder, due_before, edge_format, held_by_state}
 pub use Rattle.tdf_exec.specs.Cluster.{ClusterOf, is_next_due, is_offset, next_offset, offset_in}
 pub use Rattle.tdf_exec.specs.Crossing.{AreCellsOf, CanInstall, HasBegunPeriod, HasCrossed, HasNoChanges, StandsAfter, values_at}
 pub use Rattle.tdf_exec.specs.Gained.{IsSentOf, SampleHasFewPlaces, sent_size, traced_size}

@@ -20,5 +20,5 @@ pub use laws::{
 };
 pub use linking::{all_sampler_links, sink_links};
 pub use periods::{law_boundary, law_start};
-pub use tdf_exec::{Cluster, Layout, Room, law_own};
+pub use tdf_exec::{Cluster, Layout, Room, TableGroups, cluster_groups, law_own};
 pub use turns::{Moment, fire_all};

@@ -29,6 +29,7 @@ ghost use Rattle.tdf_sim_runs.specs.News.{news_text};
 ghost use Rattle.tdf_sim_runs.specs.declared.going.Ended.TheVariants as ended;
 ghost use Rattle.tdf_base.specs.declared.faults.Fault.{Fault as FaultOf};
 ghost use Rattle.tdf_bind_tables.specs.Ranges.{AreInRange};
+ghost use Rattle.tdf_cluster_plans.specs.Groups.{AreTableGroups};
 ghost use Rattle.tdf_sim_instants.specs.Below.{IsSoundFlat};
 ghost use Rattle.tdf_events.specs.Kernel.{side_of};
 ghost use Rattle.tdf_events.specs.Runnable.{IsRunnable};
@@ -96,6 +97,7 @@ impl Running {
     #[inline(always)]
     fn tell(&mut self, flat: &Flat) -> Result<(), Memory>
         requires range { AreInRange flat.now.tables }
+        requires groups { AreTableGroups flat.now.tables self.old.engine.groups }
         ensures news { OnOk result (self.new.news.items ≡ self.old.news.items ++ news_text
             flat.now self.old.from self.old.engine.clusters.items self.old.engine.planned.items) }
         ensures rest { self.new ≡ record self.old { news = self.new.news } }
@@ -104,6 +106,7 @@ impl Running {
         push_news(
             &mut self.news,
             flat,
+            &engine.groups,
             self.from,
             &engine.clusters,
             &engine.planned,

@@ -78,6 +78,7 @@ fn ran_of(engine: Engine, end: End) -> Ran
         writes,
         kernel,
         planned,
+        groups,
     } = engine;
     drop(since);
     drop(links);
@@ -86,6 +87,7 @@ fn ran_of(engine: Engine, end: End) -> Ran
     drop(outputs);
     drop(writes);
     drop(planned);
+    drop(groups);
     Ran {
         end,
         clusters,

@@ -1,11 +1,13 @@
 -- How the rows of two lists are compared, place by place.
 -- Source: own.
-use Rattle.std.specs.Prelude.{◌≡◌, ◌<◌, ◌≤◌, ℕ, false, List, length, Option, Some, None, slice_get}
+use Rattle.std.specs.Prelude.{◌≡◌, ◌<◌, ◌≤◌, ℕ, Bool, false, true, List, length, Option, Some, None, slice_get}
+use Rattle.tdf_bind_tables.specs.FlatTables.{FlatTablesOf}
 use Rattle.tdf_dynamic.specs.Asked.{HasSameRates, attrs_after, said_or}
 use Rattle.tdf_dynamic.specs.Change.{HasSameSteps}
 use Rattle.tdf_dynamic.specs.declared.frames.ModuleFrame.{ModuleFrame}
 use Rattle.tdf_dynamic.specs.machine.Asking.{told}
-use Rattle.tdf_dynamic_plans.specs.Attributes.{AttrsOf}
+use Rattle.tdf_dynamic_plans.specs.Attributes.{AttrsOf, RowsStandOnce}
+use Rattle.tdf_dynamic_plans.specs.Rates.{AreRates}
 use Rattle.tdf_graph.specs.declared.actors.Port.{Port}
 use Rattle.tdf_timestep.specs.declared.assign.Steps.{Steps}
 
@@ -52,6 +54,12 @@ pub record AreFlagged (old : List AttrsOf) (frames : List ModuleFrame) (n : ℕ)
   pub each : (j : ℕ) (attrs : AttrsOf) (f : ModuleFrame) → j < n → slice_get old j ≡ Some attrs
       → slice_get frames j ≡ Some f → slice_get new j ≡ Some (flagged attrs f)
   pub left : (j : ℕ) → n ≤ j → slice_get new j ≡ slice_get old j
+
+-- the rates of ports are read off a table: each is allowed, and it is known or not that each
+-- module has one row
+pub record CanRate (tables : FlatTablesOf) (table : List AttrsOf) (once : Bool) : Type 0 where
+  pub rates : AreRates tables table
+  pub stands : once ≡ true → RowsStandOnce table
 
 -- a module rejects steps that are others, by the rates and steps from before and those after
 pub record IsRefusing (before after : List Port) (old_steps new_steps : Steps) (attrs : AttrsOf)

@@ -1,26 +1,12 @@
-use Rattle.std.proofs.Common.{◌<◌, ap, arith, length, subst, sym}
+use Rattle.std.proofs.Common.{ap, arith, length}
 use Rattle.tdf_bind_tables.specs.FlatTables.{FlatTablesOf}
-use Rattle.tdf_cluster_plans.proofs.Clustering.{in_count}
-use Rattle.tdf_cluster_plans.proofs.EdgeOnes.{reads_due, writes_due}
-use Rattle.tdf_cluster_plans.proofs.Parts.{edges_within}
-use Rattle.tdf_dynamic_plans.specs.Attributes.{clusters_of}
-use Rattle.std.specs.Prelude.{slice_index_or, []}
+use Rattle.tdf_cluster_plans.proofs.EdgeOnes.{all_ones}
 use Rattle.tdf_cluster_plans.proofs.own_rates.cluster_rates.Goals as goal
 
-pub edges-numbers-requires : goal.edges-numbers-requires
-edges-numbers-requires c = subst (λ n. c.args.cluster < n) (sym c.requires.groups.edges.long) (in_count (clusters_of c.args.tables.now) c.args.cluster c.requires.groups.count c.requires.has c.requires.groups.all)
+pub set_cluster_rates-requires-clause-reads : goal.set_cluster_rates-requires-clause-reads
+set_cluster_rates-requires-clause-reads c =
+    all_ones c.args.tables.now c.args.cluster c.len.result c.in_ok-reads.reads.items (let n = c.len.ensures in let v = ap (λ (x : FlatTablesOf). length x.edges) c.tables.view_is in omega (arith, n, v)) c.in_ok-reads.ensures
 
-pub set_rates-requires-clause-inside : goal.set_rates-requires-clause-inside
-set_rates-requires-clause-inside c = edges_within c.args.tables.now c.args.cluster c.args.table.now c.args.groups.now c.requires.wired c.requires.has c.requires.rates c.requires.groups c.edges-numbers.result.now c.edges-numbers.ensures
-
-pub set_rates-requires-clause-reads : goal.set_rates-requires-clause-reads
-set_rates-requires-clause-reads c =
-    reads_due c.args.tables.now c.args.cluster c.args.table.now c.requires.table c.requires.inside (slice_index_or c.args.groups.now.edges c.args.cluster [])
-    (c.requires.groups.edges.each c.args.cluster (in_count (clusters_of c.args.tables.now) c.args.cluster c.requires.groups.count c.requires.has c.requires.groups.all))
-    c.edges-numbers.result.now c.in_ok-reads.reads.items c.len-count.result c.edges-numbers.ensures (let n = c.len-count.ensures in let v = ap (λ (x : FlatTablesOf). length x.edges) c.tables.view_is in omega (arith, n, v)) c.in_ok-reads.ensures
-
-pub set_rates-requires-clause-writes : goal.set_rates-requires-clause-writes
-set_rates-requires-clause-writes c =
-    writes_due c.args.tables.now c.args.cluster c.args.table.now c.requires.table c.requires.inside (slice_index_or c.args.groups.now.edges c.args.cluster [])
-    (c.requires.groups.edges.each c.args.cluster (in_count (clusters_of c.args.tables.now) c.args.cluster c.requires.groups.count c.requires.has c.requires.groups.all))
-    c.edges-numbers.result.now c.in_ok-writes.writes.items c.len-count.result c.edges-numbers.ensures (let n = c.len-count.ensures in let v = ap (λ (x : FlatTablesOf). length x.edges) c.tables.view_is in omega (arith, n, v)) c.in_ok-writes.ensures
+pub set_cluster_rates-requires-clause-writes : goal.set_cluster_rates-requires-clause-writes
+set_cluster_rates-requires-clause-writes c =
+    all_ones c.args.tables.now c.args.cluster c.len-2.result c.in_ok-writes.writes.items (let n = c.len-2.ensures in let v = ap (λ (x : FlatTablesOf). length x.edges) c.tables.view_is in omega (arith, n, v)) c.in_ok-writes.ensures

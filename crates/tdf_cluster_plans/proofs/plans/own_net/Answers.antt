@@ -1,4 +1,4 @@
-use Rattle.std.proofs.Common.{◌∙◌, ◌<◌, ap, sym, subst}
+use Rattle.std.proofs.Common.{◌∙◌, ◌<◌, ap, refl, sym, subst}
 use Rattle.std.proofs.lemmas.Result.{IfOk-weaker}
 use Rattle.tdf_bind_tables.specs.FlatTables.{FlatTablesOf}
 use Rattle.tdf_cluster_net.specs.Made.{IsMadeOf}
@@ -28,21 +28,21 @@ own_ports-requires-clause-inside c = ports_within c.args.tables.now c.args.clust
 
 pub made-requires-clause-edges_among : goal.made-requires-clause-edges_among
 made-requires-clause-edges_among c = edges_told c.args.tables.now c.args.cluster c.args.table.now c.args.groups.now c.requires.wired c.requires.has c.requires.rates c.requires.groups c.actors-actor_numbers.result.now c.edges-edge_numbers.result.now
-    c.actors-actor_numbers.ensures c.edges-edge_numbers.ensures c.in_ok-edges.edges.items c.deref-4.result.now c.deref-4.ensures.value c.in_ok-edges.ensures
+    c.actors-actor_numbers.ensures c.edges-edge_numbers.ensures c.in_ok-edges.edges.items c.deref-3.result.now c.deref-3.ensures.value c.in_ok-edges.ensures
 
 pub made-requires-clause-ports_among : goal.made-requires-clause-ports_among
 made-requires-clause-ports_among c = ports_told c.args.tables.now c.args.cluster c.args.table.now c.args.groups.now c.requires.wired c.requires.has c.requires.rates c.requires.groups c.actors-actor_numbers.result.now c.ports-port_numbers.result.now
     c.actors-actor_numbers.ensures c.ports-port_numbers.ensures c.deref-2.result.now (c.deref-2.ensures.value ∙ ap (λ (x : FlatTablesOf). x.ports) c.tables.view_is)
-    c.in_ok-ports.ports.items c.deref-5.result.now c.deref-5.ensures.value c.in_ok-ports.ensures
+    c.in_ok-ports.ports.items c.deref-4.result.now c.deref-4.ensures.value c.in_ok-ports.ensures
 
 pub returns : goal.returns
-returns c = IfOk-weaker c.made.result (IsMadeOf (record { actor_numbers = c.actors-actor_numbers.result.now; edge_numbers = c.edges-edge_numbers.result.now; port_numbers = c.ports-port_numbers.result.now; actors = c.deref-3.result.now; edges = c.deref-4.result.now; ports = c.deref-5.result.now }))
+returns c = IfOk-weaker c.made.result (IsMadeOf (record { actor_numbers = c.actors-actor_numbers.result.now; edge_numbers = c.edges-edge_numbers.result.now; port_numbers = c.ports-port_numbers.result.now; actors = c.in_ok-actors.actors.items; edges = c.deref-3.result.now; ports = c.deref-4.result.now }))
     (IsNetOfCluster c.args.tables.now c.args.cluster c.args.table.now)
-    (λ own made. net_told c.args.tables.now c.args.cluster c.args.table.now c.args.groups.now c.requires.wired c.requires.has c.requires.rates c.requires.groups (record { actor_numbers = c.actors-actor_numbers.result.now; edge_numbers = c.edges-edge_numbers.result.now; port_numbers = c.ports-port_numbers.result.now; actors = c.deref-3.result.now; edges = c.deref-4.result.now; ports = c.deref-5.result.now }) own
+    (λ own made. net_told c.args.tables.now c.args.cluster c.args.table.now c.args.groups.now c.requires.wired c.requires.has c.requires.rates c.requires.groups (record { actor_numbers = c.actors-actor_numbers.result.now; edge_numbers = c.edges-edge_numbers.result.now; port_numbers = c.ports-port_numbers.result.now; actors = c.in_ok-actors.actors.items; edges = c.deref-3.result.now; ports = c.deref-4.result.now }) own
     c.actors-actor_numbers.ensures c.edges-edge_numbers.ensures c.ports-port_numbers.ensures
     c.deref.result.now (c.deref.ensures.value ∙ ap (λ (x : FlatTablesOf). x.actors) c.tables.view_is)
     c.deref-2.result.now (c.deref-2.ensures.value ∙ ap (λ (x : FlatTablesOf). x.ports) c.tables.view_is)
-    c.in_ok-actors.actors.items c.deref-3.ensures.value c.in_ok-actors.ensures
-    c.in_ok-edges.edges.items c.deref-4.ensures.value c.in_ok-edges.ensures
-    c.in_ok-ports.ports.items c.deref-5.ensures.value c.in_ok-ports.ensures
+    c.in_ok-actors.actors.items refl c.in_ok-actors.ensures
+    c.in_ok-edges.edges.items c.deref-3.ensures.value c.in_ok-edges.ensures
+    c.in_ok-ports.ports.items c.deref-4.ensures.value c.in_ok-ports.ensures
     made) c.made.ensures

@@ -7,7 +7,11 @@ use Rattle.tdf_sim_notes.specs.Plans.{plans_of}
 use Rattle.tdf_sim_runs.proofs.Answering.{always_err, always_ok}
 use Rattle.tdf_sim_runs.proofs.run.begin_run.Goals as goal
 use Rattle.tdf_sim_runs.specs.Runs.{model_about}
+use Rattle.tdf_streams.proofs.Api.{is_wired}
 use Rattle.tdf_trace.specs.Writings.{head_of}
+
+pub write_plans-requires-clause-wired : goal.write_plans-requires-clause-wired
+write_plans-requires-clause-wired g c = is_wired c.args.flat.now c.requires.can.of.limits
 
 pub returns-in-Err-clause-head_part : goal.returns-in-Err-clause-head_part
 returns-in-Err-clause-head_part g c = front_none (g.O.Sink.taken c.args.out.now) (head_of (model_about c.args.request.kind c.args.flat.now))

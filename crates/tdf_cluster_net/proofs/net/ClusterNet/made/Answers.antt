@@ -1,14 +1,12 @@
-use Rattle.std.proofs.Common.{◌≡◌, List, length, ap, subst, arith}
+use Rattle.std.proofs.Common.{◌≡◌, length, subst, arith}
 use Rattle.std.specs.Prelude.{All, vec_len}
 use Rattle.tdf_cluster_net.proofs.Renaming.{renamed_edges_fit, renamed_ports_fit}
 use Rattle.tdf_graph.specs.Ranges.{IsEdge, IsGraphPort}
-use Rattle.tdf_graph.specs.declared.actors.Actor.{Actor}
 use Rattle.tdf_cluster_net.proofs.net.ClusterNet.made.Goals as goal
 
 pub invariant_of-net : goal.invariant_of-net
 invariant_of-net c =
-    let actors_long = ap (λ (l : List Actor). length l) c.in_ok-own_actors.ensures.items in
-    let actors_ok = c.in_ok-own_actors.own_actors.ok in
+    let actors_ok = c.args.actors.ok in
     let edges_ok = c.in_ok-own_edges.own_edges.ok in
     let ports_ok = c.in_ok-own_ports.own_ports.ok in
     let edges_long = c.in_ok-own_edges.ensures.long in
@@ -18,7 +16,7 @@ invariant_of-net c =
     let few_ports = c.requires.few_ports in
     let all_actors = c.requires.actors in
     let all_ports = c.requires.ports in
-    let count : length c.args.actor_numbers.now ≡ vec_len c.in_ok-own_actors.own_actors = omega (arith, actors_long, actors_ok, all_actors) in
+    let count : length c.args.actor_numbers.now ≡ vec_len c.args.actors = omega (arith, actors_ok, all_actors) in
     record {
       in_range = record {
         edges_fit = subst (λ n. All (IsEdge n) c.in_ok-own_edges.own_edges.items) count

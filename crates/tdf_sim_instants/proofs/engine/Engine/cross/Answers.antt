@@ -26,3 +26,6 @@ returns-clause-stopped c = λ number fault same.
     (let e = c.args.self.now in
     subst (λ planned. HasStopped c.args.flat.now c.args.time number fault.value (crossing_of e.clusters.items e.since.items c.args.left.now planned)
     (crossing_of c.cross_all.new.clusters.items c.cross_all.new.since.items c.cross_all.new.left c.cross_all.new.planned.items)) c.clear.ensures.items (c.cross_all.ensures.stopped number fault same))
+
+pub cross_all-requires-clause-groups : goal.cross_all-requires-clause-groups
+cross_all-requires-clause-groups c = c.requires.engine.groups

@@ -20,6 +20,7 @@ returns-in_default c =
       later = λ same. absurd (c.in_default.not-Done (same_answer c.in_ok-ended.ended Done same));
       spent = λ same. HasBeenSpent.InBoundaries crossed (c.cross.ensures.part (c.in_ok-ended.was ∙ same)) refl refl;
       stopped = λ number fault same. record { crossed = crossed; stopped = c.cross.ensures.stopped number fault (c.in_ok-ended.was ∙ same); clusters = refl; since = refl; planned = refl; rest = c.cross.ensures.rest };
+      groups = ap (λ (z : Engine). z.groups) c.cross.ensures.rest;
       never = λ none. refl;
     }
 

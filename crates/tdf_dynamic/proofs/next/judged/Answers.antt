@@ -1,5 +1,0 @@
-use Rattle.tdf_dynamic_plans.proofs.Api.{modules_few}
-use Rattle.tdf_dynamic.proofs.next.judged.Goals as goal
-
-pub net_of-requires-clause-modules : goal.net_of-requires-clause-modules
-net_of-requires-clause-modules c = modules_few c.args.at.now.flat.now.tables c.requires.wired
