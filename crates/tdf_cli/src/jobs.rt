@@ -179,10 +179,10 @@ fn plan<O: Sink, N: Sink>(
     }
 }
 
-/// Does a job for a model that was accepted.
+/// Does a job for a model that was accepted. A run has no use for the tree: what it held serves the run.
 fn do_accepted<O: Sink, N: Sink>(
     alloc: Global,
-    tree: &Tree,
+    tree: Tree,
     sim: Sim,
     job: Settings,
     out: &mut O,
@@ -190,12 +190,12 @@ fn do_accepted<O: Sink, N: Sink>(
 ) -> Result<Status, SinkErr>
     requires model { is_model_job job ≡ true }
     requires within { IsWithin job }
-    requires accepted { IsAcceptedTree (pure_tree tree.now) sim }
+    requires accepted { IsAcceptedTree (pure_tree tree) sim }
     requires printable { IsPrintable sim }
-    ensures all { IfOk result (λ s. (text : List ℕ) → SpellsText text (pure_tree tree.now)
+    ensures all { IfOk result (λ s. (text : List ℕ) → SpellsText text (pure_tree tree)
         → WritesOutcome (Text job text) s
         (O.taken out.old) (O.taken out.new) (N.taken notes.old) (N.taken notes.new)) }
-    ensures part { OnErr result ((text : List ℕ) → SpellsText text (pure_tree tree.now)
+    ensures part { OnErr result ((text : List ℕ) → SpellsText text (pure_tree tree)
         → WritesNothingOrFront (Text job text)
         (O.taken out.old) (O.taken out.new) (N.taken notes.old) (N.taken notes.new)) }
     ensures counts { CountsTwoSinks why.Failed (O.faults out.old) (O.faults out.new)
@@ -203,14 +203,19 @@ fn do_accepted<O: Sink, N: Sink>(
 {
     law_first_fault();
     match job {
-        Settings::Run(asked) => run(alloc, sim, asked, out, notes),
+        Settings::Run(asked) => {
+            drop(tree);
+            run(alloc, sim, asked, out, notes)
+        }
         Settings::Check => {
-            let done = check(alloc, tree, &sim, out, notes);
+            let done = check(alloc, &tree, &sim, out, notes);
+            mem::forget(tree);
             mem::forget(sim);
             done
         }
         Settings::Plan => {
-            let done = plan(alloc, tree, &sim, out, notes);
+            let done = plan(alloc, &tree, &sim, out, notes);
+            mem::forget(tree);
             mem::forget(sim);
             done
         }
@@ -230,29 +235,35 @@ fn do_accepted<O: Sink, N: Sink>(
 /// Does a job for the model of a tree; or notes its first fault, and answers `Refused`.
 fn do_tree<O: Sink, N: Sink>(
     alloc: Global,
-    tree: &Tree,
+    tree: Tree,
     job: Settings,
     out: &mut O,
     notes: &mut N,
 ) -> Result<Status, SinkErr>
     requires model { is_model_job job ≡ true }
     requires within { IsWithin job }
-    requires kept { IsKept (pure_tree tree.now) }
-    requires formed { IsFormed (pure_tree tree.now) }
-    ensures all { IfOk result (λ s. (text : List ℕ) → SpellsText text (pure_tree tree.now)
+    requires kept { IsKept (pure_tree tree) }
+    requires formed { IsFormed (pure_tree tree) }
+    ensures all { IfOk result (λ s. (text : List ℕ) → SpellsText text (pure_tree tree)
         → WritesOutcome (Text job text) s
         (O.taken out.old) (O.taken out.new) (N.taken notes.old) (N.taken notes.new)) }
-    ensures part { OnErr result ((text : List ℕ) → SpellsText text (pure_tree tree.now)
+    ensures part { OnErr result ((text : List ℕ) → SpellsText text (pure_tree tree)
         → WritesNothingOrFront (Text job text)
         (O.taken out.old) (O.taken out.new) (N.taken notes.old) (N.taken notes.new)) }
     ensures counts { CountsTwoSinks why.Failed (O.faults out.old) (O.faults out.new)
         (N.faults notes.old) (N.faults notes.new) result }
 {
     law_one_outcome();
-    match elaborate_tree(alloc, tree) {
+    match elaborate_tree(alloc, &tree) {
         Ok(sim) => do_accepted(alloc, tree, sim, job, out, notes),
-        Err(SimErr::Refused(fault)) => refuse(alloc, notes, fault),
-        Err(SimErr::Memory) => Err(SinkErr::Memory),
+        Err(SimErr::Refused(fault)) => {
+            mem::forget(tree);
+            refuse(alloc, notes, fault)
+        }
+        Err(SimErr::Memory) => {
+            drop(tree);
+            Err(SinkErr::Memory)
+        }
     }
 }
 
@@ -276,11 +287,7 @@ fn do_text<O: Sink, N: Sink>(
 {
     law_one_outcome();
     match parse(alloc, text) {
-        Ok(tree) => {
-            let done = do_tree(alloc, &tree, job, out, notes);
-            mem::forget(tree);
-            done
-        }
+        Ok(tree) => do_tree(alloc, tree, job, out, notes),
         Err(refused) => match first_fault(refused) {
             Some(fault) => refuse(alloc, notes, fault),
             None => Err(SinkErr::Memory),

@@ -13,3 +13,4 @@ pub mod Starts
 pub mod Telling
 pub mod Traced
 pub mod machine
+pub mod views

@@ -36,7 +36,7 @@ ghost use Rattle.tdf_bind_invariants.specs.Limits.{AreWithinLimits};
 ghost use Rattle.tdf_streams.specs.Periods.{AreAttributes};
 
 use crate::moving::{put_back, take_out};
-use crate::runners::Runner;
+use crate::runners::Slot;
 use std::alloc::Global;
 use tdf_base::Memory;
 use tdf_bind::Flat;
@@ -71,7 +71,7 @@ impl Spare {
         groups: &TableGroups,
         cluster: u32,
         attrs: &mut Attrs,
-        runners: &mut Vec<Runner>,
+        runners: &mut Vec<Slot>,
     ) -> Result<Next, ChangeErr>
         requires limits { AreWithinLimits flat.now }
         requires text { IsOfText flat.now }

@@ -1,7 +1,7 @@
 //! A cluster in progress, and its calls.
 
 use crate::asking::Spare;
-use crate::runners::Runner;
+use crate::runners::Slot;
 use std::marker::Model;
 use tdf_dynamic_plans::Attrs;
 use tdf_rings::Ring;
@@ -18,10 +18,10 @@ pub struct Cluster {
     pub(crate) crossed: bool,
     pub(crate) reads: Vec<u32>,
     pub(crate) writes: Vec<u32>,
-    /// How often each actor fires in a period of the plan.
+    /// How often each actor fires in a period of the plan, up to the last whose signals are traced.
     pub(crate) firings: Vec<u64>,
     pub(crate) rings: Vec<Ring>,
-    pub(crate) runners: Vec<Runner>,
+    pub(crate) runners: Vec<Slot>,
     pub(crate) positions: Vec<u64>,
     pub(crate) spare: Spare,
 }

@@ -1,12 +1,13 @@
 //! The instances of the modules of a cluster go into a list, in the order of its table, and come back.
 
-use crate::runners::{ModuleRunner, Rest, Runner};
+use crate::runners::{ModuleRunner, Rest, Runner, Slot};
 use std::marker::Model;
 
-/// What is kept of a module beside its values and ports.
+/// What is kept of a module beside its values and ports, with the box that it goes back into.
 #[derive(Drop)]
 pub(crate) struct Kept {
-    boxed: Box<Rest>,
+    rest: Rest,
+    boxed: Box<Runner>,
 }
 
 impl Model for Kept {
@@ -14,7 +15,7 @@ impl Model for Kept {
 
     ghost Value = { RestOf };
 
-    ghost view = { λ a. kept_of a.boxed.value };
+    ghost view = { λ a. kept_of a.rest };
 }
 
 ghost use Rattle.std.specs.Prelude.{◌≡◌, ◌++◌, ◌+◌, ◌-◌, ◌<◌, ◌≤◌, ◌∷◌, ℕ, [], length, Some, slice_get, slice_set, take};
@@ -46,8 +47,13 @@ fn put_rest(list: &mut Vec<Kept>, rest: Kept)
     let _ = list.push(rest);
 }
 
-/// A module goes into the lists.
-fn take_module(kept: ModuleRunner, frames: &mut Vec<Instance>, rests: &mut Vec<Kept>)
+/// A module goes into the lists, with the box that it was in.
+fn take_module(
+    kept: ModuleRunner,
+    boxed: Box<Runner>,
+    frames: &mut Vec<Instance>,
+    rests: &mut Vec<Kept>,
+)
     requires frames_room { vec_len frames.old < vec_capacity frames.old }
     requires rests_room { vec_len rests.old < vec_capacity rests.old }
     ensures frames { frames.new.items ≡ frames.old.items ++ frame_of kept ∷ [] }
@@ -57,16 +63,11 @@ fn take_module(kept: ModuleRunner, frames: &mut Vec<Instance>, rests: &mut Vec<K
 {
     let ModuleRunner { instance, rest } = kept;
     put_frame(frames, Instance { boxed: instance });
-    put_rest(rests, Kept { boxed: rest });
+    put_rest(rests, Kept { rest, boxed });
 }
 
 /// The module of a number goes into the lists.
-fn take_row(
-    number: u32,
-    runners: &mut Vec<Runner>,
-    frames: &mut Vec<Instance>,
-    rests: &mut Vec<Kept>,
-)
+fn take_row(number: u32, runners: &mut Vec<Slot>, frames: &mut Vec<Instance>, rests: &mut Vec<Kept>)
     requires number { number < length runners.old.items }
     requires is { (x : ModuleOf) × (slice_get runners.old.items number ≡ Some (Module x)) }
     requires frames_room { vec_len frames.old < vec_capacity frames.old }
@@ -79,18 +80,27 @@ fn take_row(
     ensures frames_room { vec_capacity frames.old ≤ vec_capacity frames.new }
     ensures rests_room { vec_capacity rests.old ≤ vec_capacity rests.new }
 {
-    match mem::replace(&mut runners[number as usize], Runner::Outside) {
-        Runner::Module(kept) => take_module(kept, frames, rests),
-        Runner::Sampler(sampler) => drop(sampler),
-        Runner::Sink(_) => {}
-        Runner::Outside => {}
+    match mem::replace(&mut runners[number as usize], Slot { kept: None }).kept {
+        Some(boxed) => {
+            let mut boxed = boxed;
+            match mem::replace(&mut *boxed, Runner::Outside) {
+                Runner::Module(kept) => take_module(kept, boxed, frames, rests),
+                Runner::Sampler(sampler) => {
+                    drop(boxed);
+                    drop(sampler);
+                }
+                Runner::Sink(_) => drop(boxed),
+                Runner::Outside => drop(boxed),
+            }
+        }
+        None => {}
     }
 }
 
 /// The modules of a table go into the lists, in order. It takes no memory.
 pub(crate) fn take_out(
     rows: &[ModuleAttrs],
-    runners: &mut Vec<Runner>,
+    runners: &mut Vec<Slot>,
     frames: &mut Vec<Instance>,
     rests: &mut Vec<Kept>,
 )
@@ -111,23 +121,20 @@ pub(crate) fn take_out(
 }
 
 /// A module is put back.
-fn put_module(number: u32, instance: Instance, rest: Kept, runners: &mut Vec<Runner>)
+fn put_module(number: u32, instance: Instance, rest: Kept, runners: &mut Vec<Slot>)
     requires { number < length runners.old.items }
     ensures { runners.new.items
         ≡ slice_set runners.old.items number (Module (whole_of instance rest)) }
 {
     let Instance { boxed: instance } = instance;
-    let Kept { boxed: rest } = rest;
-    runners[number as usize] = Runner::Module(ModuleRunner { instance, rest });
+    let Kept { rest, boxed } = rest;
+    let mut boxed = boxed;
+    *boxed = Runner::Module(ModuleRunner { instance, rest });
+    runners[number as usize] = Slot { kept: Some(boxed) };
 }
 
 /// The last module of the lists is put back.
-fn put_row(
-    number: u32,
-    runners: &mut Vec<Runner>,
-    frames: &mut Vec<Instance>,
-    rests: &mut Vec<Kept>,
-)
+fn put_row(number: u32, runners: &mut Vec<Slot>, frames: &mut Vec<Instance>, rests: &mut Vec<Kept>)
     requires number { number < length runners.old.items }
     requires frames_some { 0 < length frames.old.items }
     requires rests_some { 0 < length rests.old.items }
@@ -154,7 +161,7 @@ fn put_row(
 /// The modules of a table are put back, from the last to the first.
 pub(crate) fn put_back(
     rows: &[ModuleAttrs],
-    runners: &mut Vec<Runner>,
+    runners: &mut Vec<Slot>,
     frames: &mut Vec<Instance>,
     rests: &mut Vec<Kept>,
 )

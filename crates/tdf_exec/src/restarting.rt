@@ -13,7 +13,7 @@ ghost use Rattle.tdf_exec.specs.machine.Tracing.{AreNumbered, with_rates};
 ghost use Rattle.tdf_expr.specs.Made.{AreMadeFor};
 
 use crate::cluster::Cluster;
-use crate::runners::{ModuleRunner, Runner};
+use crate::runners::{ModuleRunner, Runner, Slot};
 use crate::starting::law_laid;
 use crate::tracing::rate_ports;
 use std::alloc::Global;
@@ -53,30 +53,32 @@ fn rate_module(tables: &FlatTables, attrs: &Attrs, runner: &mut ModuleRunner)
     requires numbers { AreNumbered tables.now.ports runner.old.traced }
     ensures { runner.new ≡ with_rates tables.now attrs.now.rows runner.old }
 {
-    let rest = &mut *runner.rest;
-    rate_ports(tables, attrs, &mut rest.traced);
+    rate_ports(tables, attrs, &mut runner.rest.traced);
 }
 
 /// An actor begins again under a table, if it is a module.
-fn restart_runner(flat: &Flat, attrs: &Attrs, runner: &mut Runner)
+fn restart_runner(flat: &Flat, attrs: &Attrs, runner: &mut Slot)
     requires rates { AreRates flat.now.tables attrs.now.rows }
     requires once { RowsStandOnce attrs.now.rows }
     requires can { CanRestart flat.now runner.old }
     ensures { IsRestarted flat.now attrs.now.rows runner.old runner.new }
 {
-    match runner {
-        Runner::Module(module) => {
-            rate_module(&flat.tables, attrs, module);
-            restart(&flat.checked, module);
-        }
-        Runner::Sampler(_) => {}
-        Runner::Sink(_) => {}
-        Runner::Outside => {}
+    match &mut runner.kept {
+        Some(kept) => match &mut **kept {
+            Runner::Module(module) => {
+                rate_module(&flat.tables, attrs, module);
+                restart(&flat.checked, module);
+            }
+            Runner::Sampler(_) => {}
+            Runner::Sink(_) => {}
+            Runner::Outside => {}
+        },
+        None => {}
     }
 }
 
 /// The same for the actors with these numbers, in order.
-fn restart_all(flat: &Flat, attrs: &Attrs, numbers: &[u32], runners: &mut Vec<Runner>)
+fn restart_all(flat: &Flat, attrs: &Attrs, numbers: &[u32], runners: &mut Vec<Slot>)
     requires rates { AreRates flat.now.tables attrs.now.rows }
     requires once { RowsStandOnce attrs.now.rows }
     requires within { AllBelow (length runners.old.items) numbers.now }

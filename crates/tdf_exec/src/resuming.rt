@@ -18,8 +18,8 @@ use crate::asking::Spare;
 use crate::beginning::first_runners;
 use crate::cluster::Cluster;
 use crate::laying::Layout;
-use crate::runners::{ModuleRunner, Runner};
-use crate::starting::{Parts, law_laid, plan_firings};
+use crate::runners::{ModuleRunner, Runner, Slot};
+use crate::starting::{Parts, law_laid, traced_firings};
 use crate::tracing::give_all;
 use std::alloc::Global;
 use tdf_base::Memory;
@@ -41,15 +41,18 @@ fn restore(checked: &Checked, rates: &[u32], cells: &[i128], runner: &mut Module
 }
 
 /// An actor gets the rates of a row and the values of a state, if it is a module.
-fn restore_runner(checked: &Checked, row: &ModuleAttrs, state: &ModuleState, runner: &mut Runner)
+fn restore_runner(checked: &Checked, row: &ModuleAttrs, state: &ModuleState, runner: &mut Slot)
     requires { CanTake checked.now row.now.rates state.now.cells runner.old }
     ensures { runner.new ≡ with_values row.now.rates state.now.cells runner.old }
 {
-    match runner {
-        Runner::Module(module) => restore(checked, &row.rates, &state.cells, module),
-        Runner::Sampler(_) => {}
-        Runner::Sink(_) => {}
-        Runner::Outside => {}
+    match &mut runner.kept {
+        Some(kept) => match &mut **kept {
+            Runner::Module(module) => restore(checked, &row.rates, &state.cells, module),
+            Runner::Sampler(_) => {}
+            Runner::Sink(_) => {}
+            Runner::Outside => {}
+        },
+        None => {}
     }
 }
 
@@ -58,7 +61,7 @@ fn restore_all(
     checked: &Checked,
     table: &[ModuleAttrs],
     modules: &[ModuleState],
-    runners: &mut Vec<Runner>,
+    runners: &mut Vec<Slot>,
 )
     requires { CanRestore checked.now table.now modules.now runners.old.items }
     ensures { AreRestored checked.now table.now modules.now (length table.now)
@@ -77,7 +80,7 @@ fn restored_runners(
     cluster: u32,
     attrs: &Attrs,
     modules: &[ModuleState],
-) -> Result<Vec<Runner>, Memory>
+) -> Result<Vec<Slot>, Memory>
     requires sound { IsSoundFlat flat.now }
     requires has { Contains (clusters_of flat.now.tables) cluster }
     requires states { AreStatesOfRows flat.now (first_table flat.now cluster) modules.now }
@@ -131,7 +134,6 @@ fn state_parts(
     law_laid();
     let first = &standing.first;
     let rates = edge_rates(alloc, &flat.tables, &first.attrs.rows)?;
-    let firings = plan_firings(alloc, flat, &first.plan)?;
     let rings = state_rings(
         alloc,
         &flat.tables,
@@ -140,6 +142,7 @@ fn state_parts(
         &state.edges,
     )?;
     let runners = restored_runners(alloc, flat, cluster, &first.attrs, &state.modules)?;
+    let firings = traced_firings(alloc, &first.attrs.rows, &runners, &first.plan)?;
     let positions = vec![in alloc; 0; flat.tables.actors.len()]?;
     let spare = Spare::new(alloc, first.attrs.rows.len())?;
     Ok(Parts {

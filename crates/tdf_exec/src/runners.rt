@@ -25,12 +25,12 @@ pub struct Rest {
     pub(crate) traced: Vec<TracedPort>,
 }
 
-/// A module: its values and ports, and the rest. Each is in a box, so that it moves as a pointer where the modules of a cluster
-/// are asked for changes.
+/// A module: its values and ports, and the rest. The values and ports are in a box, so that they move as a pointer where the modules
+/// of a cluster are asked for changes.
 #[derive(Drop)]
 pub struct ModuleRunner {
     pub(crate) instance: Box<ModuleFrame>,
-    pub(crate) rest: Box<Rest>,
+    pub(crate) rest: Rest,
 }
 
 impl Model for ModuleRunner {
@@ -39,11 +39,11 @@ impl Model for ModuleRunner {
     ghost Value = { ModuleOf };
 
     ghost view = { λ a. record {
-      block = a.rest.value.block;
+      block = a.rest.block;
       frame = a.instance.value.frame;
       ports = a.instance.value.ports;
-      wires = a.rest.value.wires;
-      traced = a.rest.value.traced.items;
+      wires = a.rest.wires;
+      traced = a.rest.traced.items;
     } };
 }
 
@@ -77,6 +77,22 @@ pub enum Runner {
     Outside,
 }
 
+/// The place of an actor in a cluster, with what it needs to fire in a box: for an actor of another cluster, which has none, it is one
+/// word.
+#[derive(Drop)]
+pub(crate) struct Slot {
+    pub(crate) kept: Option<Box<Runner>>,
+}
+
+impl Model for Slot {
+    ghost use Rattle.tdf_exec.specs.declared.runners.Runner.{Runner};
+    ghost use Rattle.tdf_exec.specs.views.Slots.{kept_in};
+
+    ghost Value = { Runner };
+
+    ghost view = { λ a. kept_in a.kept };
+}
+
 ghost use Rattle.std.specs.List.{flat_map};
 ghost use Rattle.std.specs.Prelude.{◌≡◌, ℕ, ◌+◌, ◌≤◌, [], length, Some, slice_get};
 ghost use Rattle.tdf_exec.specs.machine.Fired.{CanFireModule, CanGive, CanRun, CanSink, HasFired, HasGiven, HasRun, HasSent};
@@ -106,7 +122,7 @@ impl ModuleRunner {
         ensures { HasFired checked.now reads.now.items writes.now.items rings.old.items
             rings.new.items self.old self.new }
     {
-        let rest = &*self.rest;
+        let rest = &self.rest;
         let module = WiredModule {
             checked,
             block: rest.block,
@@ -170,8 +186,7 @@ fn run_module(
         (flat_map (traced_port_samples module.new.ports) module.new.traced) }
 {
     module.fire(checked, reads, writes, rings);
-    let rest = &*module.rest;
-    trace_ports(&module.instance.ports, &rest.traced, outputs);
+    trace_ports(&module.instance.ports, &module.rest.traced, outputs);
 }
 
 /// One firing of a sink, which sends its sample.
@@ -192,7 +207,7 @@ pub(crate) fn fire_runner(
     reads: &Vec<u32>,
     writes: &Vec<u32>,
     actor: u32,
-    runner: &mut Runner,
+    runner: &mut Slot,
     rings: &mut Vec<Ring>,
     outputs: &mut Outputs,
 )
@@ -203,12 +218,15 @@ pub(crate) fn fire_runner(
         rings.new.items runner.old runner.new }
     ensures given { HasGiven actor rings.old.items runner.new outputs.old outputs.new }
 {
-    match runner {
-        Runner::Module(module) => run_module(checked, reads, writes, module, rings, outputs),
-        Runner::Sampler(sampler) => {
-            fire_sampler(inputs.value(sampler.place), &sampler.edges, rings)
-        }
-        Runner::Sink(sink) => run_sink(actor, sink.edge, rings, outputs),
-        Runner::Outside => {}
+    match &mut runner.kept {
+        Some(kept) => match &mut **kept {
+            Runner::Module(module) => run_module(checked, reads, writes, module, rings, outputs),
+            Runner::Sampler(sampler) => {
+                fire_sampler(inputs.value(sampler.place), &sampler.edges, rings)
+            }
+            Runner::Sink(sink) => run_sink(actor, sink.edge, rings, outputs),
+            Runner::Outside => {}
+        },
+        None => {}
     }
 }

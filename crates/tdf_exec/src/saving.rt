@@ -5,7 +5,7 @@ ghost use Rattle.tdf_exec.specs.Played.{runner_cells};
 ghost use Rattle.tdf_exec.specs.Saved.{cluster_state, edge_states, edges_with_room, module_state, nums_of};
 
 use crate::cluster::Cluster;
-use crate::runners::Runner;
+use crate::runners::{Runner, Slot};
 use std::alloc::Global;
 use tdf_base::Memory;
 use tdf_dynamic_plans::ModuleAttrs;
@@ -13,17 +13,23 @@ use tdf_rings::Ring;
 use tdf_saved::{ClusterState, ModuleState};
 
 /// The values of the variables of the module of this number; other actors keep none.
-fn cells_at(alloc: Global, runners: &[Runner], actor: u32) -> Result<Vec<i128>, Memory>
+fn cells_at(alloc: Global, runners: &[Slot], actor: u32) -> Result<Vec<i128>, Memory>
     ensures { IfOk result (λ cells. cells.items ≡ slice_index_or (map runner_cells runners.now) actor []) }
 {
     match runners.get(actor as usize) {
-        Some(Runner::Module(module)) => Ok(Vec::from_slice(alloc, module.instance.frame.nums())?),
-        _ => Ok(Vec::new(alloc)),
+        Some(runner) => match &runner.kept {
+            Some(kept) => match &**kept {
+                Runner::Module(module) => Ok(Vec::from_slice(alloc, module.instance.frame.nums())?),
+                _ => Ok(Vec::new(alloc)),
+            },
+            None => Ok(Vec::new(alloc)),
+        },
+        None => Ok(Vec::new(alloc)),
     }
 }
 
 /// A module with its attributes and the values of its variables.
-fn module_state(alloc: Global, row: &ModuleAttrs, runners: &[Runner]) -> Result<ModuleState, Memory>
+fn module_state(alloc: Global, row: &ModuleAttrs, runners: &[Slot]) -> Result<ModuleState, Memory>
     ensures { IfOk result (λ state. state ≡ module_state (map runner_cells runners.now) row.now) }
 {
     let rates = Vec::from_slice(alloc, &row.rates)?;
@@ -41,7 +47,7 @@ fn module_state(alloc: Global, row: &ModuleAttrs, runners: &[Runner]) -> Result<
 fn module_states(
     alloc: Global,
     table: &[ModuleAttrs],
-    runners: &[Runner],
+    runners: &[Slot],
 ) -> Result<Vec<ModuleState>, Memory>
     ensures { IfOk result (λ states. states.items ≡ map (module_state (map runner_cells runners.now)) table.now) }
 {

@@ -20,7 +20,7 @@ use crate::beginning::first_runners;
 use crate::cluster::Cluster;
 use crate::laws::law_rates;
 use crate::laying::Layout;
-use crate::runners::Runner;
+use crate::runners::{Runner, Slot};
 use crate::tracing::give_all;
 use std::alloc::Global;
 use tdf_base::Memory;
@@ -29,7 +29,7 @@ use tdf_bind_invariants::{law_formats, law_limits};
 use tdf_cluster_plans::cluster_rates;
 use tdf_convert::law_by_offset;
 use tdf_dynamic_first::First;
-use tdf_dynamic_plans::Attrs;
+use tdf_dynamic_plans::{Attrs, ModuleAttrs};
 use tdf_exec_layout::{law_edge_formats, law_edges, law_wired};
 use tdf_exec_parts::{firings, first_rings};
 use tdf_rings::Ring;
@@ -59,7 +59,7 @@ pub(crate) struct Parts {
     pub(crate) writes: Vec<u32>,
     pub(crate) firings: Vec<u64>,
     pub(crate) rings: Vec<Ring>,
-    pub(crate) runners: Vec<Runner>,
+    pub(crate) runners: Vec<Slot>,
     pub(crate) positions: Vec<u64>,
     pub(crate) spare: Spare,
 }
@@ -71,7 +71,7 @@ fn runners_of(
     cluster: u32,
     attrs: &Attrs,
     layout: &mut Layout,
-) -> Result<Vec<Runner>, Memory>
+) -> Result<Vec<Slot>, Memory>
     requires sound { IsSoundFlat flat.now }
     requires has { Contains (clusters_of flat.now.tables) cluster }
     requires rates { AreRates flat.now.tables attrs.now.rows }
@@ -96,16 +96,36 @@ fn runners_of(
     Ok(runners)
 }
 
-/// How often each actor fires in a period of a plan.
-pub(crate) fn plan_firings(alloc: Global, flat: &Flat, plan: &Plan) -> Result<Vec<u64>, Memory>
+/// Whether an actor is a module that has ports whose signals are traced.
+fn has_traced(runner: &Slot) -> bool {
+    match &runner.kept {
+        Some(kept) => match &**kept {
+            Runner::Module(module) => !module.rest.traced.is_empty(),
+            _ => false,
+        },
+        None => false,
+    }
+}
+
+/// How often each actor fires in a period of a plan, up to the last module of a table that has ports whose signals are traced: for
+/// such modules alone activations are asked for at each period.
+pub(crate) fn traced_firings(
+    alloc: Global,
+    rows: &[ModuleAttrs],
+    runners: &[Slot],
+    plan: &Plan,
+) -> Result<Vec<u64>, Memory>
     ensures { IfOk result (λ counts. AreCounted plan.now.entries.items counts.items) }
 {
-    firings(
-        alloc,
-        &plan.entries,
-        plan.entries.len(),
-        flat.tables.actors.len(),
-    )
+    let mut count = 0;
+    for i in 0..rows.len() {
+        let row = &rows[i];
+        let m = row.number as usize;
+        if m < runners.len() && has_traced(&runners[m]) {
+            count = m + 1;
+        }
+    }
+    firings(alloc, &plan.entries, plan.entries.len(), count)
 }
 
 /// The parts of a cluster at its start, under a table and its plan.
@@ -131,9 +151,9 @@ fn first_parts(
     law_laid();
     let groups = &layout.groups;
     let rates = cluster_rates(alloc, &flat.tables, groups, cluster, &first.attrs.rows)?;
-    let firings = plan_firings(alloc, flat, &first.plan)?;
     let rings = first_rings(alloc, &flat.tables, groups, cluster, &first.plan.bounds)?;
     let runners = runners_of(alloc, flat, cluster, &first.attrs, layout)?;
+    let firings = traced_firings(alloc, &first.attrs.rows, &runners, &first.plan)?;
     let positions = vec![in alloc; 0; flat.tables.actors.len()]?;
     let spare = Spare::new(alloc, first.attrs.rows.len())?;
     Ok(Parts {

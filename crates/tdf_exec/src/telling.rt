@@ -32,7 +32,7 @@ ghost use Rattle.tdf_bind_invariants.specs.Limits.{AreWithinLimits};
 ghost use Rattle.tdf_bind_connections.specs.declared.modules.PortRow.{PortRow as PortRowOf};
 
 use crate::cluster::Cluster;
-use crate::runners::{Runner, TracedPort};
+use crate::runners::{Runner, Slot, TracedPort};
 use tdf_base::Memory;
 use tdf_bind::Flat;
 use tdf_convert::{Inputs, Links, sample_due};
@@ -41,7 +41,7 @@ use tdf_fixed::Raw;
 use tdf_schedule::{Entry, Plan};
 
 /// A sum, if it has 32 bits.
-fn sum(a: u32, b: u32) -> Result<u32, Memory>
+pub(crate) fn sum(a: u32, b: u32) -> Result<u32, Memory>
     ensures sum { IfOk result (λ n. n ≡ a + b) }
     ensures large { OnErr result (2 ^ 32 ≤ a + b) }
 {
@@ -64,23 +64,26 @@ fn traced_by(list: &[TracedPort]) -> Result<u32, Memory>
 }
 
 /// What a firing of an actor gives.
-fn given_by(runner: &Runner) -> Result<Room, Memory>
+fn given_by(runner: &Slot) -> Result<Room, Memory>
     ensures given { IfOk result (λ room. room ≡ room_of (sent_size (Some runner.now)) (traced_size (Some runner.now))) }
     ensures large { OnErr result (2 ^ 32 ≤ traced_size (Some runner.now)) }
 {
-    match runner {
-        Runner::Module(module) => Ok(Room {
-            sent: 0,
-            traced: traced_by(&module.rest.traced)?,
-        }),
-        Runner::Sampler(_) => Ok(Room { sent: 0, traced: 0 }),
-        Runner::Sink(_) => Ok(Room { sent: 1, traced: 0 }),
-        Runner::Outside => Ok(Room { sent: 0, traced: 0 }),
+    match &runner.kept {
+        Some(kept) => match &**kept {
+            Runner::Module(module) => Ok(Room {
+                sent: 0,
+                traced: traced_by(&module.rest.traced)?,
+            }),
+            Runner::Sampler(_) => Ok(Room { sent: 0, traced: 0 }),
+            Runner::Sink(_) => Ok(Room { sent: 1, traced: 0 }),
+            Runner::Outside => Ok(Room { sent: 0, traced: 0 }),
+        },
+        None => Ok(Room { sent: 0, traced: 0 }),
     }
 }
 
 /// What a firing of the actor of this number gives; nothing where there is none.
-fn given_at(runners: &[Runner], actor: u32) -> Result<Room, Memory>
+fn given_at(runners: &[Slot], actor: u32) -> Result<Room, Memory>
     ensures given { IfOk result (λ room. room ≡ room_of (sent_size (slice_get runners.now actor))
         (traced_size (slice_get runners.now actor))) }
     ensures large { OnErr result (2 ^ 32 ≤ traced_size (slice_get runners.now actor)) }
@@ -122,7 +125,7 @@ fn greater(a: Room, b: Room) -> Room
 }
 
 /// The rooms of one entry more.
-fn with_entry(runners: &[Runner], entry: Entry, rooms: Rooms) -> Result<Rooms, Memory>
+fn with_entry(runners: &[Slot], entry: Entry, rooms: Rooms) -> Result<Rooms, Memory>
     ensures next { IfOk result (λ next. next ≡ rooms_with runners.now entry rooms) }
     ensures large { OnErr result (IsOver (sent_with runners.now entry rooms)
         (traced_with runners.now entry rooms)) }
@@ -137,7 +140,7 @@ fn with_entry(runners: &[Runner], entry: Entry, rooms: Rooms) -> Result<Rooms, M
 }
 
 /// The greatest numbers of samples that entries of one offset give.
-fn most_of(runners: &[Runner], entries: &[Entry]) -> Result<Room, Memory>
+fn most_of(runners: &[Slot], entries: &[Entry]) -> Result<Room, Memory>
     requires sorted { AreByOffset entries.now }
     ensures sent { IfOk result (λ room. IsMostOf sent_size runners.now entries.now room.sent) }
     ensures traced { IfOk result (λ room. IsMostOf traced_size runners.now entries.now room.traced) }

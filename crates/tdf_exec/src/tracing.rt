@@ -30,7 +30,7 @@ ghost use Rattle.tdf_exec.specs.machine.Tracing.{AreGivenTraced, AreMarked, AreN
 ghost use Rattle.tdf_streams.specs.Places.{place_of_port};
 ghost use Rattle.tdf_bind_connections.specs.declared.modules.PortRow.{PortRow as PortRowOf};
 
-use crate::runners::Runner;
+use crate::runners::{Runner, Slot};
 use std::alloc::Global;
 use std::mem;
 use tdf_base::{Memory, row_number};
@@ -223,7 +223,7 @@ fn give_traced(
     tables: &FlatTables,
     attrs: &Attrs,
     row: &mut TracedPorts,
-    runner: &mut Runner,
+    runner: &mut Slot,
 )
     requires rates { AreRates tables.now attrs.now.rows }
     requires once { RowsStandOnce attrs.now.rows }
@@ -231,11 +231,14 @@ fn give_traced(
     ensures { runner.new ≡ with_traced (map (rated tables.now attrs.now.rows) row.old)
         runner.old }
 {
-    match runner {
-        Runner::Module(module) => module.rest.traced = taken(alloc, tables, attrs, row),
-        Runner::Sampler(_) => {}
-        Runner::Sink(_) => {}
-        Runner::Outside => {}
+    match &mut runner.kept {
+        Some(kept) => match &mut **kept {
+            Runner::Module(module) => module.rest.traced = taken(alloc, tables, attrs, row),
+            Runner::Sampler(_) => {}
+            Runner::Sink(_) => {}
+            Runner::Outside => {}
+        },
+        None => {}
     }
 }
 
@@ -246,7 +249,7 @@ pub(crate) fn give_all(
     attrs: &Attrs,
     numbers: &[u32],
     rows: &mut Vec<TracedPorts>,
-    runners: &mut Vec<Runner>,
+    runners: &mut Vec<Slot>,
 )
     requires rates { AreRates tables.now attrs.now.rows }
     requires once { RowsStandOnce attrs.now.rows }

@@ -14,7 +14,7 @@ use Rattle.tdf_sim_instants.proofs.Passed.{Turns, all_turns, passed_long}
 use Rattle.tdf_sim_instants.proofs.Rooms.{room_for_pass, rooms_kept}
 use Rattle.tdf_sim_instants.proofs.Samples.{samples_here}
 use Rattle.tdf_sim_instants.specs.Crossing.{CanCross, CrossingOf, crossing_of}
-use Rattle.tdf_sim_instants.specs.Engine.{AreRoomy, CanFireAll, HasDoneBefore, HaveBoundaries, HaveRooms, IsEngineOf, IsInProgress, IsReadyAt}
+use Rattle.tdf_sim_instants.specs.Engine.{AreRoomsBut, AreRoomy, CanFireAll, HasDoneBefore, HaveBoundaries, HaveRooms, IsEngineOf, IsInProgress, IsNoneOf, IsReadyAt, IsRoomOf}
 use Rattle.tdf_sim_instants.specs.Sampling.{CanSample, HaveSampled, sampling_at}
 use Rattle.tdf_sim_instants.specs.Settling.{CanSettle, IsBefore}
 use Rattle.tdf_sim_instants.specs.Times.{due_time}
@@ -22,11 +22,11 @@ use Rattle.tdf_sim_instants.specs.declared.engine.Engine.{Engine}
 use Rattle.tdf_events.specs.Delta.{AreWritesOf}
 use Rattle.tdf_events.specs.Kernel.{IsKernelOf, side_of}
 use Rattle.tdf_events.specs.Runnable.{IsRunnable, signal_formats}
-use Rattle.tdf_sim_refinement.specs.Below.{ClusterOf, IsMoved, IsSentOf, IsSoundFlat, Runner, sent_size, size_due, traced_size}
+use Rattle.tdf_sim_refinement.specs.Below.{ClusterOf, IsMoved, IsSentOf, IsSoundFlat, Room, Runner, sent_size, size_due, traced_size}
 use Rattle.tdf_fixed.specs.declared.raw.Raw.{Raw}
 use Rattle.tdf_bind.specs.declared.model.Flat.{Flat}
 use Rattle.tdf_bind_invariants.specs.Limits.{AreWithinLimits}
-use Rattle.tdf_streams.proofs.Api.{get_inside}
+use Rattle.tdf_streams.proofs.Api.{get_inside, none_some}
 use Rattle.tdf_sim_refinement.proofs.Api.{emitted_to, moved_sent, moved_traced, pass_rooms, pass_sent}
 use Rattle.tdf_sim_refinement.specs.Pass.{CanPass, HasPassedAll, PassAt, RunOf, pass_at, pass_run}
 
@@ -36,6 +36,13 @@ due_moved_sent offset c b moved = moved_sent c b moved offset b.entries ∙ ap (
 
 due_moved_traced : (offset : ℕ) (c b : ClusterOf) → IsMoved c b → size_due traced_size b.runners offset b.entries ≡ size_due traced_size c.runners offset c.entries
 due_moved_traced offset c b moved = moved_traced c b moved offset b.entries ∙ ap (λ (z : ClusterOf). size_due traced_size c.runners offset z.entries) moved.rest
+
+-- what is room for a cluster is room for one that gives as much
+room_as_much : (c d : ClusterOf) (room : Room) → GivesAsMuch c d → IsRoomOf c room → IsRoomOf d room
+room_as_much c d room much is = record {
+  sent = λ offset. (let a = is.sent offset in let b = much.sent offset in omega (arith, a, b));
+  traced = λ offset. (let a = is.traced offset in let b = much.traced offset in omega (arith, a, b));
+}
 
 -- boundaries can be had
 pub can_cross : (flat : Flat) (time left : ℕ) (e : Engine) → IsEngineOf flat e → IsReadyAt time e → CanCross flat time (crossing_of e.clusters.items e.since.items left [])
@@ -53,6 +60,13 @@ module _ (flat : Flat) (time left : ℕ) (e : Engine) (of : IsEngineOf flat e) (
   abbrev Unplanned : Type 0
   Unplanned = e2.planned.items ≡ []
 
+  -- the cluster at a place got none
+  abbrev Unchanged : ℕ → Type 0
+  Unchanged n = IsNoneOf e2.planned.items n
+
+  unchanged : Unplanned → (n : ℕ) → Unchanged n
+  unchanged none n = subst (λ l. IsNoneOf l n) (sym none) (λ k at. none_some n at)
+
   abbrev first : CrossingOf
   first = crossing_of e.clusters.items e.since.items left []
 
@@ -63,14 +77,14 @@ module _ (flat : Flat) (time left : ℕ) (e : Engine) (of : IsEngineOf flat e) (
   long = let l = crossed_long Unplanned flat time first (length e.clusters.items) mid crossed in (l.0, l.1 ∙ of.since)
 
   module _ (n t : ℕ) (d : ClusterOf) (d_at : slice_get mid.clusters n ≡ Some d) (t_at : slice_get mid.since n ≡ Some t) where
-    from : (c : ClusterOf) × (s : ℕ) × (slice_get e.clusters.items n ≡ Some c) × (slice_get e.since.items n ≡ Some s) × Crosses Unplanned flat time c d s t
+    from : (c : ClusterOf) × (s : ℕ) × (slice_get e.clusters.items n ≡ Some c) × (slice_get e.since.items n ≡ Some s) × Crosses (Unchanged n) flat time c d s t
     from = let i = slice_get_within mid.clusters n d d_at in let l = long.0 in
-        all_crosses Unplanned flat time first (length e.clusters.items) mid crossed (λ p. p) n t d d_at t_at (omega (arith, i, l))
+        all_crosses (Unchanged n) flat time first (length e.clusters.items) mid crossed n (λ p. p) t d d_at t_at (omega (arith, i, l))
 
     pub on_at : IsInProgress flat n d
-    on_at = crossed_on Unplanned flat n time from.1 t from.0 d limits (of.clusters n from.0 from.2) from.4
+    on_at = crossed_on (Unchanged n) flat n time from.1 t from.0 d limits (of.clusters n from.0 from.2) from.4
 
-    begun_by : (c : ClusterOf) (s : ℕ) → slice_get e.since.items n ≡ Some s → Crosses Unplanned flat time c d s t → t ≤ time
+    begun_by : (c : ClusterOf) (s : ℕ) → slice_get e.since.items n ≡ Some s → Crosses (Unchanged n) flat time c d s t → t ≤ time
     begun_by c s s_at (Crosses.Stays going same kept) = let b = ready.begun n s s_at in omega (arith, b, kept)
     begun_by c s s_at (Crosses.Begins head much d_of now) = omega (arith, now)
 
@@ -78,12 +92,12 @@ module _ (flat : Flat) (time left : ℕ) (e : Engine) (of : IsEngineOf flat e) (
     begun_at = begun_by from.0 from.1 from.3 from.4
 
     pub due_at : IsDueFrom time t d
-    due_at = crossed_due Unplanned flat time from.1 t from.0 d on_at.takes (ready.clusters n from.1 from.0 from.2 from.3) from.4
+    due_at = crossed_due (Unchanged n) flat time from.1 t from.0 d on_at.takes (ready.clusters n from.1 from.0 from.2 from.3) from.4
 
     pub before_at : HasDoneBefore (time + 1) t d
-    before_at = crossed_before Unplanned flat time from.1 t from.0 d (ready.before n from.1 from.0 from.2 from.3) from.4
+    before_at = crossed_before (Unchanged n) flat time from.1 t from.0 d (ready.before n from.1 from.0 from.2 from.3) from.4
 
-    much_by : Unplanned → (c : ClusterOf) (s : ℕ) → Crosses Unplanned flat time c d s t → GivesAsMuch c d
+    much_by : Unchanged n → (c : ClusterOf) (s : ℕ) → Crosses (Unchanged n) flat time c d s t → GivesAsMuch c d
     much_by none c s (Crosses.Stays going same kept) = record {
       sent = λ offset. ap (λ (z : ClusterOf). size_due sent_size z.runners offset z.entries) same;
       traced = λ offset. ap (λ (z : ClusterOf). size_due traced_size z.runners offset z.entries) same;
@@ -103,7 +117,17 @@ module _ (flat : Flat) (time left : ℕ) (e : Engine) (of : IsEngineOf flat e) (
   rooms_mid : Unplanned → (size : Option Runner → ℕ) → ((c d : ClusterOf) → GivesAsMuch c d → (offset : ℕ) → size_due size d.runners offset d.entries ≡ size_due size c.runners offset c.entries) → (room : ℕ)
       → HaveRooms size e.clusters.items room → HaveRooms size mid.clusters room
   rooms_mid none size of_size room rooms = rooms_kept size room e.clusters.items mid.clusters rooms long.0
-      (λ n offset d d_at. (let t = since_of n d d_at in let f = from n t.0 d d_at t.1 in (f.0, f.2, of_size f.0 d (much_by n t.0 d d_at t.1 none f.0 f.1 f.4) offset)))
+      (λ n offset d d_at. (let t = since_of n d d_at in let f = from n t.0 d d_at t.1 in (f.0, f.2, of_size f.0 d (much_by n t.0 d d_at t.1 (unchanged none n) f.0 f.1 f.4) offset)))
+
+  -- where a cluster got no new plan its room is known
+  pub rooms_known : AreRoomsBut e2.planned.items e2.clusters.items e.rooms.items
+  rooms_known = record {
+    same = of.rooms.same ∙ sym long.0;
+    each = λ n d room d_at room_at none.
+        (let t = since_of n d d_at in
+        let f = from n t.0 d d_at t.1 in
+        room_as_much f.0 d room (much_by n t.0 d d_at t.1 none f.0 f.1 f.4) (of.rooms.each n f.0 room f.2 room_at (λ k at. none_some n at)));
+  }
 
   pub roomy_if_none : Unplanned → e.outputs.traced ≡ [] → AreRoomy e2.clusters.items e.outputs e.writes
   roomy_if_none none untraced = record {
@@ -122,7 +146,7 @@ module _ (flat : Flat) (time left : ℕ) (e : Engine) (of : IsEngineOf flat e) (
   signals n l l_at = subst (HaveSignals l.list.items) (sym (of.kernel.values.long ∙ length-map flat.tables.de_signals (λ row. row.format))) (of.linked n l l_at).signals
 
   abbrev crossed_engine : Engine
-  crossed_engine = record e { clusters = e2.clusters; since = e2.since; planned = e2.planned; outputs = e2.outputs; writes = e2.writes }
+  crossed_engine = record e { clusters = e2.clusters; since = e2.since; planned = e2.planned; rooms = e2.rooms; outputs = e2.outputs; writes = e2.writes }
 
   module _ (sound : IsSoundFlat flat) (roomy : AreRoomy e2.clusters.items e2.outputs e2.writes) where
     can_pass : (inputs : List (List Raw)) → HaveSampled (sampling_at time mid.since mid.clusters e.links.items e.kernel.values) (length mid.clusters) e.inputs.items inputs
@@ -168,7 +192,7 @@ module _ (flat : Flat) (time left : ℕ) (e : Engine) (of : IsEngineOf flat e) (
     abbrev y : RunOf
     y = pass_run e3.clusters.items e3.outputs left3
 
-    fired_engine : e3 ≡ record e { clusters = e3.clusters; since = e2.since; planned = e2.planned; inputs = e3.inputs; outputs = e3.outputs; writes = e2.writes }
+    fired_engine : e3 ≡ record e { clusters = e3.clusters; since = e2.since; planned = e2.planned; inputs = e3.inputs; rooms = e2.rooms; outputs = e3.outputs; writes = e2.writes }
     fired_engine = rest3 ∙ ap (λ (z : Engine). record z { clusters = e3.clusters; inputs = e3.inputs; outputs = e3.outputs }) rest2
 
     long3 : length e3.clusters.items ≡ length e.clusters.items
@@ -201,6 +225,20 @@ module _ (flat : Flat) (time left : ℕ) (e : Engine) (of : IsEngineOf flat e) (
         → HaveRooms size e2.clusters.items room → HaveRooms size e3.clusters.items room
     rooms_after size moved room rooms = rooms_kept size room e2.clusters.items e3.clusters.items rooms (long3 ∙ sym long.0)
         (λ n offset d d_at. (let s = since3 n d d_at in let t = turned n s.0 d d_at s.1 in (t.0, t.1, alike_after n s.0 d d_at s.1 size moved offset t.0 t.2)))
+
+    -- a cluster that has done entries gives no more than before
+    rooms_later : AreRoomsBut [] e2.clusters.items e2.rooms.items → AreRoomsBut [] e3.clusters.items e2.rooms.items
+    rooms_later rooms = record {
+      same = rooms.same ∙ long.0 ∙ sym long3;
+      each = λ n d room d_at room_at none.
+          (let s = since3 n d d_at in
+          let t = turned n s.0 d d_at s.1 in
+          let is = rooms.each n t.0 room t.1 room_at none in
+          record {
+            sent = λ offset. (let a = is.sent offset in let b = alike_after n s.0 d d_at s.1 sent_size due_moved_sent offset t.0 t.2 in omega (arith, a, b));
+            traced = λ offset. (let a = is.traced offset in let b = alike_after n s.0 d d_at s.1 traced_size due_moved_traced offset t.0 t.2 in omega (arith, a, b));
+          });
+    }
 
     rooms3 : (e3.outputs.sent_room ≡ e2.outputs.sent_room) × (e3.outputs.traced_room ≡ e2.outputs.traced_room)
     rooms3 = pass_rooms flat pass x y all
@@ -242,6 +280,7 @@ module _ (flat : Flat) (time left : ℕ) (e : Engine) (of : IsEngineOf flat e) (
         since = e2.since;
         planned = e2.planned;
         inputs = e3.inputs;
+        rooms = e2.rooms;
         outputs = record e3.outputs { sent = [] };
         writes = record e2.writes { list = [] };
         kernel = f.kernel;
@@ -249,8 +288,8 @@ module _ (flat : Flat) (time left : ℕ) (e : Engine) (of : IsEngineOf flat e) (
       whole = rest4 ∙ ap (λ (z : Engine). record z { outputs = record e3.outputs { sent = [] }; writes = record z.writes { list = [] }; kernel = f.kernel }) fired_engine
 
       pub engine_after : HaveSampled (sampling_at time e2.since.items e2.clusters.items e2.links.items e2.kernel.values) (length e2.clusters.items) e2.inputs.items e3.inputs.items
-          → IsKernelOf flat f.kernel → IsEngineOf flat f
-      engine_after sampled kernel = subst (IsEngineOf flat) (sym whole) (record {
+          → AreRoomsBut [] e2.clusters.items e2.rooms.items → IsKernelOf flat f.kernel → IsEngineOf flat f
+      engine_after sampled rooms kernel = subst (IsEngineOf flat) (sym whole) (record {
         since = long.1 ∙ sym long3;
         links = of.links ∙ sym long3;
         inputs = sampled.same ∙ ap (λ (z : Engine). length z.inputs.items) rest2 ∙ of.inputs ∙ sym long3;
@@ -267,6 +306,7 @@ module _ (flat : Flat) (time left : ℕ) (e : Engine) (of : IsEngineOf flat e) (
         write_room = let r = rooms3.0 in let w = roomy.write_room in omega (arith, r, w);
         none_sent = refl;
         none_written = refl;
+        rooms = rooms_later rooms;
         kernel = kernel;
         groups = of.groups;
       })

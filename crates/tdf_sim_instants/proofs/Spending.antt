@@ -32,13 +32,14 @@ pub on_is : {T E : Type 0} {P : Type 0} (r : Result T E) {x : T} → r ≡ Ok x 
 on_is {P = P} r is holds = subst (λ z. OnOk z P) is holds
 
 -- where the boundaries were had, room was made
-module _ (e e1 e2 : Engine) (rest : e2 ≡ record e1 { outputs = e2.outputs; writes = e2.writes }) where
+module _ (e e1 e2 : Engine) (rest : e2 ≡ record e1 { rooms = e2.rooms; outputs = e2.outputs; writes = e2.writes }) where
   pub rest_now : e1 ≡ record e { clusters = e1.clusters; since = e1.since; planned = e1.planned }
-      → e2 ≡ record e { clusters = e2.clusters; since = e2.since; planned = e2.planned; outputs = e2.outputs; writes = e2.writes }
+      → e2 ≡ record e { clusters = e2.clusters; since = e2.since; planned = e2.planned; rooms = e2.rooms; outputs = e2.outputs; writes = e2.writes }
   rest_now crossed_rest = rest ∙ (λ i. record (crossed_rest i) {
     clusters = (sym (ap (λ (z : Engine). z.clusters) rest)) i;
     since = (sym (ap (λ (z : Engine). z.since) rest)) i;
     planned = (sym (ap (λ (z : Engine). z.planned) rest)) i;
+    rooms = e2.rooms;
     outputs = e2.outputs;
     writes = e2.writes;
   })
@@ -47,7 +48,7 @@ module _ (e e1 e2 : Engine) (rest : e2 ≡ record e1 { outputs = e2.outputs; wri
   crossing_now left = sym (ap (λ (z : Engine). crossing_of z.clusters.items z.since.items left z.planned.items) rest)
 
 module _ (flat : Flat) (time left : ℕ) (e e2 e3 : Engine) (left2 left3 : ℕ)
-    (rest2 : e2 ≡ record e { clusters = e2.clusters; since = e2.since; planned = e2.planned; outputs = e2.outputs; writes = e2.writes })
+    (rest2 : e2 ≡ record e { clusters = e2.clusters; since = e2.since; planned = e2.planned; rooms = e2.rooms; outputs = e2.outputs; writes = e2.writes })
     (sampled : HaveSampled (sampling_at time e2.since.items e2.clusters.items e2.links.items e2.kernel.values) (length e2.clusters.items) e2.inputs.items e3.inputs.items) where
   abbrev crossed : CrossingOf
   crossed = crossing_of e2.clusters.items e2.since.items left2 e2.planned.items

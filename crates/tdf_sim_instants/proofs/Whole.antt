@@ -92,7 +92,7 @@ module _ (by : PlansGoByOffset) (model : PureTree) (flat : Flat) (time : ℕ) (w
         let l0 = l.0 in let l1 = l.1 in
         let s = of.since in
         let c = get_inside mid.clusters n (omega (arith, i, l0, l1, s)) in
-        let a = all_crosses ⊥ flat time x (length e.clusters.items) mid crossed (λ none. absurd none) n t c.0 c.1 t_at (omega (arith, i, l1, s)) in
+        let a = all_crosses ⊥ flat time x (length e.clusters.items) mid crossed n (λ none. absurd none) t c.0 c.1 t_at (omega (arith, i, l1, s)) in
         begun_is n a.1 t a.0 c.0 a.3 a.4
 
     module _ (inputs : List (List Raw)) (sampled : HaveSampled (sampling_at time mid.since mid.clusters e.links.items e.kernel.values) (length mid.clusters) e.inputs.items inputs) (outputs : OutputsOf) where

@@ -15,7 +15,7 @@ use Rattle.tdf_sim_instants.specs.Times.{due_time}
 use Rattle.tdf_sim_instants.specs.declared.engine.Engine.{Engine}
 use Rattle.tdf_events.specs.Kernel.{IsKernelOf, side_of}
 use Rattle.tdf_events.specs.Side.{SideOf}
-use Rattle.tdf_sim_refinement.specs.Below.{AreTableGroups, ClusterOf, IsClusterOf, Runner, sent_size, size_due, traced_size}
+use Rattle.tdf_sim_refinement.specs.Below.{AreTableGroups, ClusterOf, IsClusterOf, Room, Runner, sent_size, size_due, traced_size}
 use Rattle.tdf_expr.specs.Checked.{IsCheckedOf}
 use Rattle.tdf_fixed.specs.declared.raw.Raw.{Raw}
 use Rattle.tdf_bind.specs.declared.model.Flat.{Flat}
@@ -47,6 +47,22 @@ pub record HaveRooms (size : Option Runner → ℕ) (clusters : List ClusterOf) 
       → slice_get most n ≡ Some m → size_due size c.runners offset c.entries ≤ m
   pub within : sum most ≤ room
 
+-- no more samples come from the entries of one offset of a cluster than this says
+pub record IsRoomOf (c : ClusterOf) (room : Room) : Type 0 where
+  pub sent : (offset : ℕ) → size_due sent_size c.runners offset c.entries ≤ room.sent
+  pub traced : (offset : ℕ) → size_due traced_size c.runners offset c.entries ≤ room.traced
+
+-- a number is none of these
+abbrev pub IsNoneOf : List ℕ → ℕ → Type 0
+IsNoneOf places n = (k : ℕ) → slice_get places k ≡ Some n → ⊥
+
+-- there is a room for each cluster, and it is that of the cluster but for those at these places
+pub record AreRoomsBut (places : List ℕ) (clusters : List ClusterOf) (rooms : List Room) : Type 0
+  where
+    pub same : length rooms ≡ length clusters
+    pub each : (n : ℕ) (c : ClusterOf) (room : Room) → slice_get clusters n ≡ Some c
+        → slice_get rooms n ≡ Some room → IsNoneOf places n → IsRoomOf c room
+
 -- the lists are empty, and have room for all that one offset of each cluster gives
 pub record AreRoomy (clusters : List ClusterOf) (outputs : OutputsOf) (writes : WritesOf)
     : Type 0 where
@@ -74,6 +90,7 @@ pub record IsEngineOf (flat : Flat) (e : Engine) : Type 0 where
   pub write_room : e.outputs.sent_room ≤ e.writes.room
   pub none_sent : e.outputs.sent ≡ []
   pub none_written : e.writes.list ≡ []
+  pub rooms : AreRoomsBut [] e.clusters.items e.rooms.items
   pub kernel : IsKernelOf flat e.kernel
   pub groups : AreTableGroups flat.tables e.groups
 

@@ -2,7 +2,7 @@
 
 use tdf_convert::{Inputs, Links, Outputs, Writes};
 use tdf_events::Kernel;
-use tdf_sim_refinement::TableGroups;
+use tdf_sim_refinement::{Room, TableGroups};
 
 /// All that runs of a model: its clusters and its event side.
 #[derive(Drop)]
@@ -27,6 +27,8 @@ pub struct Engine {
     pub planned: Vec<usize>,
     /// The numbers of the actors, edges and ports of each cluster.
     pub groups: TableGroups,
+    /// How many samples come from one offset of each cluster, at most.
+    pub rooms: Vec<Room>,
 }
 
 ghost use Rattle.std.specs.Prelude.{◌≡◌, ◌<◌, ◌≤◌, ◌+◌, ℕ, [], false, true, length, map, IsOk, None, Ok, OnOk, Some};
@@ -36,7 +38,7 @@ ghost use Rattle.tdf_base.specs.declared.faults.Fault.{Fault as FaultOf};
 ghost use Rattle.tdf_convert.specs.Emitted.{write_of_sent};
 ghost use Rattle.tdf_convert.specs.Links.{AreRising};
 ghost use Rattle.tdf_sim_instants.specs.Crossing.{HasNoTurn, HasStopped, NoneChanges, crossing_of};
-ghost use Rattle.tdf_sim_instants.specs.Engine.{AreRoomy, CanFireAll, HasBeenSpent, HasBeenStopped, HasHadInstant, HaveBoundaries, IsEngineOf, IsReadyAt};
+ghost use Rattle.tdf_sim_instants.specs.Engine.{AreRoomsBut, AreRoomy, CanFireAll, HasBeenSpent, HasBeenStopped, HasHadInstant, HaveBoundaries, IsEngineOf, IsReadyAt};
 ghost use Rattle.tdf_sim_instants.specs.Sampling.{HaveSampled, sampling_at};
 ghost use Rattle.tdf_sim_instants.specs.Settling.{CanSettle, event_turn};
 ghost use Rattle.tdf_sim_instants.specs.Times.{IsNextDue};
@@ -49,7 +51,7 @@ ghost use Rattle.tdf_sim_refinement.specs.Pass.{HasPassedAll, HasPassedPart, pas
 ghost use Rattle.tdf_lang_tree.specs.Pure.{PureTree};
 
 use crate::crossing::{Pass, cross_all};
-use crate::making::rooms_of;
+use crate::making_room::{set_rooms, whole_room};
 use crate::sampling::sample_all;
 use crate::settling::settle;
 use crate::times::next_time;
@@ -113,19 +115,26 @@ impl Engine {
         )
     }
 
-    /// Room for what one offset of each cluster gives at most, where one got a new plan.
+    /// Room for what one offset of each cluster gives at most, where one got a new plan: the others give no more than before.
     fn make_room(&mut self, alloc: Global) -> Result<(), Memory>
         requires kept { self.old.planned.items ≡ []
             → AreRoomy self.old.clusters.items self.old.outputs self.old.writes }
+        requires rooms { AreRoomsBut self.old.planned.items self.old.clusters.items
+            self.old.rooms.items }
         ensures roomy { OnOk result (AreRoomy self.new.clusters.items self.new.outputs self.new.writes) }
-        ensures rest { self.new
-            ≡ record self.old { outputs = self.new.outputs; writes = self.new.writes } }
+        ensures rooms { OnOk result (AreRoomsBut [] self.new.clusters.items self.new.rooms.items) }
+        ensures rest { self.new ≡ record self.old {
+          rooms = self.new.rooms;
+          outputs = self.new.outputs;
+          writes = self.new.writes;
+        } }
         ensures never { self.old.planned.items ≡ [] → IsOk result }
     {
         if self.planned.is_empty() {
             return Ok(());
         }
-        let room = rooms_of(&self.clusters)?;
+        set_rooms(&self.clusters, &self.planned, &mut self.rooms)?;
+        let room = whole_room(&self.rooms)?;
         self.outputs = Outputs::new(alloc, room.sent, room.traced)?;
         self.writes = Writes::new(alloc, room.sent)?;
         Ok(())

@@ -6,6 +6,7 @@
 //! - `times`: the next time at which something is due.
 //! - `engine`: all that runs, and its instants.
 //! - `making`: all that runs, before its first instant.
+//! - `making_room`: room for what one offset of each cluster gives.
 //! - `telling`: what a run tells of itself between two instants.
 //! - `laws`: what holds of the definitions.
 #![tactic(auto)]
@@ -14,6 +15,7 @@ mod crossing;
 mod engine;
 mod laws;
 mod making;
+mod making_room;
 mod sampling;
 mod settling;
 mod telling;

@@ -3,17 +3,18 @@
 ghost use Rattle.std.specs.Prelude.{◌≡◌, ◌+◌, ℕ, [], IfOk, OnOk, length, replicate};
 ghost use Rattle.tdf_convert.specs.Links.{samplers_in};
 ghost use Rattle.tdf_dynamic_first.specs.First.{IsFirstPlan};
-ghost use Rattle.tdf_sim_instants.specs.Engine.{AreInProgress, AreRoomy, HaveRooms, IsEngineOf, IsReadyAt};
+ghost use Rattle.tdf_sim_instants.specs.Engine.{AreInProgress, AreRoomsBut, AreRoomy, IsEngineOf, IsReadyAt};
 ghost use Rattle.tdf_sim_instants.specs.Making.{HavePlans};
-ghost use Rattle.tdf_sim_instants.specs.machine.Making.{AreGivenUpTo, AreLinkedUpTo, room_of};
+ghost use Rattle.tdf_sim_instants.specs.machine.Making.{AreGivenUpTo, AreLinkedUpTo};
 ghost use Rattle.tdf_events.specs.Kernel.{IsKernelOf, side_of};
 ghost use Rattle.tdf_events.specs.Runnable.{IsRunnable};
 ghost use Rattle.tdf_events.specs.Side.{start_side};
-ghost use Rattle.tdf_sim_refinement.specs.Below.{AreTableGroups, HasLayoutOf, IsSoundFlat, KeepsLayouts, sent_size, traced_size};
+ghost use Rattle.tdf_sim_refinement.specs.Below.{AreTableGroups, HasLayoutOf, IsSoundFlat, KeepsLayouts};
 ghost use Rattle.tdf_sim_refinement.specs.Linked.{AreSinkLinks, HaveEventPorts};
 ghost use Rattle.tdf_sim_refinement.specs.Begun.{HasBegun, HaveBegun};
 
 use crate::engine::Engine;
+use crate::making_room::{rooms_by, whole_room};
 use std::alloc::Global;
 use tdf_base::{Memory, cluster_number, row_number};
 use tdf_bind::Flat;
@@ -24,25 +25,6 @@ use tdf_events::Kernel;
 use tdf_sim_refinement::{
     Cluster, Layout, Room, TableGroups, all_sampler_links, cluster_groups, law_ports, sink_links,
 };
-
-/// A sum, if it has 32 bits.
-fn sum(a: u32, b: u32) -> Result<u32, Memory>
-    ensures { IfOk result (λ n. n ≡ a + b) }
-{
-    match a.checked_add(b) {
-        Some(sum) => Ok(sum),
-        None => Err(Memory),
-    }
-}
-
-/// Both sums, if each has 32 bits.
-fn both(a: Room, b: Room) -> Result<Room, Memory>
-    ensures { IfOk result (λ room. room ≡ room_of (a.sent + b.sent) (a.traced + b.traced)) }
-{
-    let sent = sum(a.sent, b.sent)?;
-    let traced = sum(a.traced, b.traced)?;
-    Ok(Room { sent, traced })
-}
 
 /// The cluster at a place, at the start of its first period; it takes what is laid out for it.
 fn cluster_at(
@@ -133,23 +115,12 @@ fn inputs_of(alloc: Global, links: &[Links]) -> Result<Vec<Inputs>, Memory>
     Ok(inputs)
 }
 
-/// How many samples of sinks and of traced signals come from one offset of each cluster, at most.
-pub(crate) fn rooms_of(clusters: &[Cluster]) -> Result<Room, Memory>
-    ensures sent { IfOk result (λ room. HaveRooms sent_size clusters.now room.sent) }
-    ensures traced { IfOk result (λ room. HaveRooms traced_size clusters.now room.traced) }
-{
-    let mut room = Room { sent: 0, traced: 0 };
-    for n in 0..clusters.len() {
-        room = both(room, clusters[n].room()?)?;
-    }
-    Ok(room)
-}
-
 /// What an engine has beside its clusters and its event side: what samplers read and sinks write, room for what firings give, and the
 /// numbers of the things of each cluster.
 #[derive(Drop)]
 struct Lines {
     groups: TableGroups,
+    rooms: Vec<Room>,
     links: Vec<Links>,
     inputs: Vec<Inputs>,
     sinks: Links,
@@ -168,8 +139,10 @@ fn lines_of(alloc: Global, flat: &Flat, clusters: &[Cluster]) -> Result<Lines, M
         AreGivenUpTo lines.links.items (length lines.links.items) lines.inputs.items) }
     ensures sinks { IfOk result (λ lines. AreSinkLinks flat.now.tables lines.sinks.list.items) }
     ensures roomy { IfOk result (λ lines. AreRoomy clusters.now lines.outputs lines.writes) }
+    ensures rooms { IfOk result (λ lines. AreRoomsBut [] clusters.now lines.rooms.items) }
 {
-    let room = rooms_of(clusters)?;
+    let rooms = rooms_by(alloc, clusters)?;
+    let room = whole_room(&rooms)?;
     let links = links_of(alloc, flat, clusters.len())?;
     let inputs = inputs_of(alloc, &links)?;
     let sinks = sink_links(alloc, &flat.tables)?;
@@ -178,6 +151,7 @@ fn lines_of(alloc: Global, flat: &Flat, clusters: &[Cluster]) -> Result<Lines, M
     let groups = cluster_groups(alloc, flat)?;
     Ok(Lines {
         groups,
+        rooms,
         links,
         inputs,
         sinks,
@@ -227,6 +201,7 @@ impl Engine {
             Ok(lines) => {
                 let Lines {
                     groups,
+                    rooms,
                     links,
                     inputs,
                     sinks,
@@ -244,12 +219,11 @@ impl Engine {
                     kernel,
                     planned: Vec::new(alloc),
                     groups,
+                    rooms,
                 })
             }
             Err(failed) => {
-                drop(kernel);
-                drop(clusters);
-                drop(since);
+                drop((kernel, clusters, since));
                 Err(failed)
             }
         }

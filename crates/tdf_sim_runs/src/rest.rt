@@ -79,6 +79,7 @@ fn ran_of(engine: Engine, end: End) -> Ran
         kernel,
         planned,
         groups,
+        rooms,
     } = engine;
     drop(since);
     drop(links);
@@ -88,6 +89,7 @@ fn ran_of(engine: Engine, end: End) -> Ran
     drop(writes);
     drop(planned);
     drop(groups);
+    drop(rooms);
     Ran {
         end,
         clusters,

@@ -1,13 +1,13 @@
 -- How the parts of a run are made, by one look at each cluster.
 -- Source: own.
-use Rattle.std.specs.Prelude.{◌≡◌, ◌<◌, ◌≤◌, ◌+◌, ◌⊎◌, ℕ, List, Some, length, slice_get, take}
+use Rattle.std.specs.Prelude.{◌≡◌, ◌<◌, ◌≤◌, ◌+◌, ◌⊎◌, ℕ, List, Some, length, map, slice_get, sum}
 use Rattle.tdf_bind.specs.declared.model.Flat.{Flat}
 use Rattle.tdf_bind_tables.specs.FlatTables.{FlatTablesOf}
 use Rattle.tdf_convert.specs.Links.{samplers_in}
 use Rattle.tdf_convert.specs.declared.links.Links.{Links}
 use Rattle.tdf_dynamic_first.specs.declared.first.First.{First}
-use Rattle.tdf_sim_instants.specs.Engine.{HaveRooms}
-use Rattle.tdf_sim_refinement.specs.Below.{ClusterOf, HasLayoutOf, LayoutOf, Room, sent_size, traced_size}
+use Rattle.tdf_sim_instants.specs.Engine.{IsRoomOf}
+use Rattle.tdf_sim_refinement.specs.Below.{ClusterOf, HasLayoutOf, LayoutOf, Room}
 use Rattle.tdf_sim_refinement.specs.Begun.{HaveBegun}
 use Rattle.tdf_fixed.specs.declared.raw.Raw.{Raw}
 use Rattle.tdf_sim_refinement.specs.Linked.{AreSamplerLinks}
@@ -33,10 +33,32 @@ pub record AreGivenUpTo (links : List Links) (n : ℕ) (inputs : List (List Raw)
   pub each : (m : ℕ) (l : Links) (i : List Raw) → slice_get links m ≡ Some l
       → slice_get inputs m ≡ Some i → length i ≡ samplers_in l.list.items
 
--- the rooms that the first n clusters need
-pub record AreRoomsUpTo (clusters : List ClusterOf) (n : ℕ) (room : Room) : Type 0 where
-  pub sent : HaveRooms sent_size (take n clusters) room.sent
-  pub traced : HaveRooms traced_size (take n clusters) room.traced
+-- the sums of rooms
+abbrev pub whole_room : List Room → Room
+whole_room rooms =
+    room_of (sum (map (λ (r : Room). r.sent) rooms)) (sum (map (λ (r : Room). r.traced) rooms))
+
+-- the rooms of the first n clusters
+pub record AreRoomsUpTo (clusters : List ClusterOf) (n : ℕ) (rooms : List Room) : Type 0 where
+  pub few : n ≤ length clusters
+  pub long : length rooms ≡ n
+  pub each : (m : ℕ) (c : ClusterOf) (room : Room) → slice_get clusters m ≡ Some c
+      → slice_get rooms m ≡ Some room → IsRoomOf c room
+
+-- the room of the cluster at a place is its own, and no other has changed
+pub record HasRoomSet (n : ℕ) (clusters : List ClusterOf) (old new : List Room) : Type 0 where
+  pub same : length new ≡ length old
+  pub here : (c : ClusterOf) (room : Room) → slice_get clusters n ≡ Some c
+      → slice_get new n ≡ Some room → IsRoomOf c room
+  pub others : (m : ℕ) → (m ≡ n → ⊥) → slice_get new m ≡ slice_get old m
+
+-- the rooms of all clusters but for those at these places from the k-th on
+pub record AreRoomsFrom (places : List ℕ) (k : ℕ) (clusters : List ClusterOf) (rooms : List Room)
+    : Type 0 where
+  pub same : length rooms ≡ length clusters
+  pub each : (n : ℕ) (c : ClusterOf) (room : Room) → slice_get clusters n ≡ Some c
+      → slice_get rooms n ≡ Some room
+      → ((j : ℕ) → k ≤ j → slice_get places j ≡ Some n → ⊥) → IsRoomOf c room
 
 -- none of the first n starts is below it, and it is one of them or the limit
 pub record IsLeastUpTo (since : List ℕ) (n limit least : ℕ) : Type 0 where

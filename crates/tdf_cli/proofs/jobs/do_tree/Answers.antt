@@ -13,16 +13,16 @@ use Rattle.tdf_sim.specs.declared.err.SimErr.{SimErr}
 use Rattle.tdf_lang_tree.specs.Views.{pure_tree}
 
 pub returns-in-Err-Refused-clause-all : goal.returns-in-Err-Refused-clause-all
-returns-in-Err-Refused-clause-all g c = each_ok c.refuse.result (pure_tree c.args.tree.now) _
+returns-in-Err-Refused-clause-all g c = each_ok c.refuse.result (pure_tree c.args.tree) _
     (λ text spells. noted_all c.refuse.result (Text c.args.job text) Refused _
-    (faulty c.requires.model (of_tree (pure_tree c.args.tree.now) spells
-    (subst (λ (e : SimErr). IsTreeRefusal (pure_tree c.args.tree.now) e) c.in-Err-Refused.field-0-is c.in-Err-Refused.ensures.refused)))
+    (faulty c.requires.model (of_tree (pure_tree c.args.tree) spells
+    (subst (λ (e : SimErr). IsTreeRefusal (pure_tree c.args.tree) e) c.in-Err-Refused.field-0-is c.in-Err-Refused.ensures.refused)))
     c.refuse.ensures.status
     (subst (λ (f : Fault). WritesText g.N.Sink.taken g.N.Sink.faults c.args.notes.now c.refuse.new.notes (refusal_text f) c.refuse.result) c.in-Err-Refused.fault-is c.refuse.ensures.writes))
 
 pub returns-in-Err-Refused-clause-part : goal.returns-in-Err-Refused-clause-part
-returns-in-Err-Refused-clause-part g c = each_err c.refuse.result (pure_tree c.args.tree.now) _
+returns-in-Err-Refused-clause-part g c = each_err c.refuse.result (pure_tree c.args.tree) _
     (λ text spells. noted_part c.law_one_outcome.ensures c.refuse.result (Text c.args.job text) Refused _
-    (faulty c.requires.model (of_tree (pure_tree c.args.tree.now) spells
-    (subst (λ (e : SimErr). IsTreeRefusal (pure_tree c.args.tree.now) e) c.in-Err-Refused.field-0-is c.in-Err-Refused.ensures.refused)))
+    (faulty c.requires.model (of_tree (pure_tree c.args.tree) spells
+    (subst (λ (e : SimErr). IsTreeRefusal (pure_tree c.args.tree) e) c.in-Err-Refused.field-0-is c.in-Err-Refused.ensures.refused)))
     (subst (λ (f : Fault). WritesText g.N.Sink.taken g.N.Sink.faults c.args.notes.now c.refuse.new.notes (refusal_text f) c.refuse.result) c.in-Err-Refused.fault-is c.refuse.ensures.writes))

@@ -1,10 +1,10 @@
 use Rattle.std.proofs.Common.{◌∙◌, None, Ok, Some, ap, map, refl, subst, sym}
 use Rattle.tdf_convert.specs.Emitted.{write_of_sent as write_to}
-use Rattle.tdf_sim_instants.proofs.Acting.{before_events, can_fire, can_settle, engine_after, ready_after, roomy_if_none, writes_room}
+use Rattle.tdf_sim_instants.proofs.Acting.{before_events, can_fire, can_settle, engine_after, ready_after, roomy_if_none, rooms_known, writes_room}
 use Rattle.tdf_sim_instants.proofs.Calm.{calm_after}
 use Rattle.tdf_sim_instants.proofs.Spending.{crossing_now, fired_all, fired_part, on_is, rest_now, same_answer, settles_as}
 use Rattle.tdf_sim_instants.specs.Crossing.{crossing_of}
-use Rattle.tdf_sim_instants.specs.Engine.{AreRoomy, HasBeenSpent, HaveBoundaries, HaveFired}
+use Rattle.tdf_sim_instants.specs.Engine.{AreRoomsBut, AreRoomy, HasBeenSpent, HaveBoundaries, HaveFired}
 use Rattle.tdf_sim_instants.specs.declared.crossing.Pass.TheVariants.{Done, Spent, Stopped}
 use Rattle.tdf_sim_instants.specs.declared.engine.Engine.{Engine}
 use Rattle.tdf_events.specs.Kernel.{side_of}
@@ -29,6 +29,9 @@ make_room-requires c = record {
   kept = λ none. subst (λ (z : Engine). AreRoomy c.cross.new.self.clusters.items z.outputs z.writes) (sym c.cross.ensures.rest)
       (roomy_if_none c.args.flat.now c.args.time c.args.left.now c.args.self.now c.requires.engine c.requires.ready (c.law_limits.ensures c.requires.sound.model c.args.flat.now c.requires.sound.sound.kept c.requires.sound.sound.types c.requires.sound.is)
       c.cross.new.self c.cross.new.left (c.cross.ensures.all (c.in_ok-ended.was ∙ ap Ok c.in-Done.is)) none c.requires.none);
+  rooms = subst (λ (z : Engine). AreRoomsBut c.cross.new.self.planned.items c.cross.new.self.clusters.items z.rooms.items) (sym c.cross.ensures.rest)
+      (rooms_known c.args.flat.now c.args.time c.args.left.now c.args.self.now c.requires.engine c.requires.ready (c.law_limits.ensures c.requires.sound.model c.args.flat.now c.requires.sound.sound.kept c.requires.sound.sound.types c.requires.sound.is)
+      c.cross.new.self c.cross.new.left (c.cross.ensures.all (c.in_ok-ended.was ∙ ap Ok c.in-Done.is)));
 }
 
 pub fire-requires : goal.fire-requires
@@ -56,7 +59,8 @@ settle-requires-clause-settle c = can_settle c.args.flat.now c.args.time c.args.
 pub returns-clause-engine : goal.returns-clause-engine
 returns-clause-engine c = λ same. engine_after c.args.flat.now c.args.time c.args.left.now c.args.self.now c.requires.engine c.requires.ready (c.law_limits.ensures c.requires.sound.model c.args.flat.now c.requires.sound.sound.kept c.requires.sound.sound.types c.requires.sound.is) c.make_room.new.self c.cross.new.left
     (subst (HaveBoundaries c.args.flat.now c.args.time c.args.self.now c.args.left.now) (crossing_now c.args.self.now c.cross.new.self c.make_room.new.self c.make_room.ensures.rest c.cross.new.left) (c.cross.ensures.all (c.in_ok-ended.was ∙ ap Ok c.in-Done.is)))
-    c.law_by_offset.ensures c.requires.sound (on_is c.make_room.result c.in_ok-make_room.was c.make_room.ensures.roomy) (rest_now c.args.self.now c.cross.new.self c.make_room.new.self c.make_room.ensures.rest c.cross.ensures.rest) c.fire.new.self c.fire.new.left (c.fire.ensures.all c.if-not-fire.false) c.fire.ensures.rest c.settle.new.self c.settle.ensures.rest c.fire.ensures.sampled (c.settle.ensures.kernel (same_answer c.settle.result Done same))
+    c.law_by_offset.ensures c.requires.sound (on_is c.make_room.result c.in_ok-make_room.was c.make_room.ensures.roomy) (rest_now c.args.self.now c.cross.new.self c.make_room.new.self c.make_room.ensures.rest c.cross.ensures.rest) c.fire.new.self c.fire.new.left (c.fire.ensures.all c.if-not-fire.false) c.fire.ensures.rest c.settle.new.self c.settle.ensures.rest c.fire.ensures.sampled
+    (on_is c.make_room.result c.in_ok-make_room.was c.make_room.ensures.rooms) (c.settle.ensures.kernel (same_answer c.settle.result Done same))
 
 pub returns-clause-had : goal.returns-clause-had
 returns-clause-had c = λ same. record {
