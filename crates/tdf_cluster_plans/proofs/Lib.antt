@@ -4,4 +4,5 @@ pub mod EdgeOnes
 pub mod OwnCounts
 pub mod OwnNets
 pub mod OwnPlans
+pub mod OwnRates
 pub mod Parts

@@ -27,6 +27,7 @@ ghost use Rattle.tdf_dynamic_plans.specs.Rates.{IsWired};
 ghost use Rattle.tdf_graph.specs.Clusters.{greatest};
 
 use std::alloc::Global;
+use std::rc::Rc;
 use tdf_base::{Memory, row_number};
 use tdf_bind_connections::{EdgeRow, PortRow};
 use tdf_bind_tables::FlatTables;
@@ -65,6 +66,26 @@ fn port_modules(alloc: Global, ports: &[PortRow]) -> Result<Vec<u32>, Memory>
         of.push(ports[i].module)?;
     }
     Ok(of)
+}
+
+/// The things with these numbers have their places in the list: a map of places, which `tdf_places` tests before it takes it.
+fn put_places(places: &mut Vec<u32>, numbers: &[u32]) -> Result<(), Memory> {
+    for i in 0..numbers.len() {
+        let number = numbers[i] as usize;
+        if number < places.len() {
+            places[number] = row_number(i)?;
+        }
+    }
+    Ok(())
+}
+
+/// For each of `count` things its place in the list of its own cluster.
+fn places_in(alloc: Global, groups: &Groups, count: usize) -> Result<Rc<Vec<u32>>, Memory> {
+    let mut places: Vec<u32> = vec![in alloc; 0; count]?;
+    for cluster in 0..groups.count() {
+        put_places(&mut places, groups.group(row_number(cluster)?))?;
+    }
+    Ok(Rc::new(alloc, places)?)
 }
 
 impl TableGroups {
@@ -118,6 +139,22 @@ impl TableGroups {
         ensures { result.now ≡ slice_index_or self.now.edges cluster [] }
     {
         self.edges.group(cluster)
+    }
+
+    /// The place of each of `count` actors in the list of its cluster. All clusters share it.
+    ///
+    /// # Errors
+    /// Out of memory.
+    pub fn actor_places(&self, alloc: Global, count: usize) -> Result<Rc<Vec<u32>>, Memory> {
+        places_in(alloc, &self.actors, count)
+    }
+
+    /// The same of edges.
+    ///
+    /// # Errors
+    /// Out of memory.
+    pub fn edge_places(&self, alloc: Global, count: usize) -> Result<Rc<Vec<u32>>, Memory> {
+        places_in(alloc, &self.edges, count)
     }
 
     /// The numbers of its ports.

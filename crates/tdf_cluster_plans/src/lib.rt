@@ -17,6 +17,6 @@ mod plans;
 
 pub use groups::TableGroups;
 pub use own_planning::make_plan;
-pub use own_rates::{cluster_rates, set_cluster_rates};
+pub use own_rates::{cluster_rates, set_own_rates};
 pub use own_timing::cluster_timing;
 pub use plans::{own_net, table_plan};

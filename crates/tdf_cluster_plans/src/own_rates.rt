@@ -1,6 +1,6 @@
-//! The rates of the edges of a model under a table of one cluster, set at the cluster's own edges alone.
+//! The rates of the edges of a model under a table of one cluster, set at the cluster's own edges alone; or those of its own edges by place.
 
-ghost use Rattle.std.specs.Prelude.{◌≡◌, All, Contains, IfOk, length, map, true};
+ghost use Rattle.std.specs.Prelude.{◌≡◌, All, Contains, IfOk, length, map, slice_index, true};
 ghost use Rattle.tdf_cluster_net.specs.Numbers.{AllBelow};
 ghost use Rattle.tdf_cluster_plans.specs.Groups.{AreOnesElsewhere, AreTableGroups, HasPortsInside};
 ghost use Rattle.tdf_cluster_plans.specs.machine.Setting.{AreDue};
@@ -45,7 +45,7 @@ fn set_rates(
 
 /// Sets the rates of each edge of a model to those under a table of one cluster: those of the edges of its net. Only the cluster's own edges
 /// are looked at: the others have the rate 1 already, since their ports are of modules that aren't in the table. It takes no memory.
-pub fn set_cluster_rates(
+fn set_cluster_rates(
     tables: &FlatTables,
     groups: &TableGroups,
     cluster: u32,
@@ -98,4 +98,32 @@ pub fn cluster_rates(
     let mut writes = ones(alloc, tables.edges.len())?;
     set_cluster_rates(tables, groups, cluster, table, &mut reads, &mut writes);
     Ok(EdgeRates { reads, writes })
+}
+
+/// Sets the rates of some edges under a table, by place: place `i` gets those of the edge with number `numbers[i]`. It takes no memory.
+pub fn set_own_rates(
+    tables: &FlatTables,
+    table: &[ModuleAttrs],
+    numbers: &[u32],
+    reads: &mut Vec<u32>,
+    writes: &mut Vec<u32>,
+)
+    requires rates { AreRates tables.now table.now }
+    requires inside { AllBelow (length tables.now.edges) numbers.now }
+    requires reads { length reads.old.items ≡ length numbers.now }
+    requires writes { length writes.old.items ≡ length numbers.now }
+    ensures reads { reads.new.items
+        ≡ map (slice_index (map (λ edge. edge.read_rate) (net_of tables.now table.now).edges))
+        numbers.now }
+    ensures writes { writes.new.items
+        ≡ map (slice_index (map (λ edge. edge.write_rate) (net_of tables.now table.now).edges))
+        numbers.now }
+{
+    let once = are_rising(table);
+    for i in 0..numbers.len() {
+        let row = &tables.edges[numbers[i] as usize];
+        let edge = edge_under(tables, table, once, row);
+        reads[i] = edge.read_rate;
+        writes[i] = edge.write_rate;
+    }
 }

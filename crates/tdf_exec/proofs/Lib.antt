@@ -8,11 +8,13 @@ mod Continued
 mod Counting
 mod Counts
 mod Crosses
+mod Elsewhere
 mod Empty
 mod EndPorts
 mod Ends
 pub mod Entries
 mod Few
+mod Fires
 mod Flags
 mod Formed
 mod Gains
@@ -30,6 +32,7 @@ mod Nexts
 mod Numbered
 mod Others
 mod Own
+pub mod Owned
 mod Planned
 pub mod Playing
 mod Rates

@@ -225,7 +225,7 @@ module _ (flat : Flat) (cluster : ℕ) (table shown later new : List AttrsOf) (b
     later_numbers : numbers_of later ≡ numbers_of table
     later_numbers = ap numbers_of after ∙ numbers_same flat.tables cluster asks table new r next kept
 
-    at_first : (i m : ℕ) → slice_get (numbers_of later) i ≡ Some m → slice_get (numbers_of table) i ≡ Some m
+    pub at_first : (i m : ℕ) → slice_get (numbers_of later) i ≡ Some m → slice_get (numbers_of table) i ≡ Some m
     at_first i m at = ap (λ (l : List ℕ). slice_get l i) (sym later_numbers) ∙ at
 
     pub all_inside : (i m : ℕ) → slice_get (numbers_of later) i ≡ Some m → m < length mid

@@ -21,7 +21,7 @@ use Rattle.tdf_streams.proofs.Api.{get_inside, is_wired}
 
 -- ---- a cluster that has a plan is one of the model: it has a module, to which a timestep is assigned
 
-pub by_rows : (tables : FlatTablesOf) (cluster : ℕ) → length tables.modules ≤ length tables.actors → (table : List AttrsOf) → 0 < length (assignments table) → All (IsOfCluster tables cluster) table
+by_rows : (tables : FlatTablesOf) (cluster : ℕ) → length tables.modules ≤ length tables.actors → (table : List AttrsOf) → 0 < length (assignments table) → All (IsOfCluster tables cluster) table
     → Contains (clusters_of tables) cluster
 unfolding assignments
 by_rows tables cluster few [] some own = absurd (let none : length (assignments []) ≡ 0 = refl in omega (arith, some, none))

@@ -77,7 +77,7 @@ module _ (law : PlansArePresent) (flat : Flat) (limits : AreWithinLimits flat) (
     at_reader : m ≡ firing.1.actor
     at_reader = sym (eqb-true firing.1.actor m (front_true (nat_eq firing.1.actor m) (nat_eq firing.1.index 0) firing.3))
 
-    own_has_room : 0 < slice_index plan.bounds.items e
+    pub own_has_room : 0 < slice_index plan.bounds.items e
     own_has_room =
         let here = present_at flat number limits p timed plan.entries.items (record_present flat number limits p timed law (pace_in (net_of flat.tables table) has.steps) plan.entries.items has.plan_is.planned)
         firing.0 firing.1 firing.2 (ap (slice_index (clusters_of flat.tables)) (sym at_reader) ∙ reader_own) e within at_reader in

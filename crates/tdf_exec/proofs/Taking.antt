@@ -119,7 +119,7 @@ can_get flat m list are (runner.Sink k) = tt
 can_get flat m list are runner.Outside = tt
 
 -- an actor that is told nothing keeps nothing
-outside : (flat : Flat) (Holds : ℕ → FrameState → Type 0) (m place : ℕ) (r : Runner) → IsFirstRunner flat Holds m place Elsewhere r → r ≡ runner.Outside
+pub outside : (flat : Flat) (Holds : ℕ → FrameState → Type 0) (m place : ℕ) (r : Runner) → IsFirstRunner flat Holds m place Elsewhere r → r ≡ runner.Outside
 outside flat Holds m place (runner.Module x) is = absurd is
 outside flat Holds m place (runner.Sampler s) is = absurd is
 outside flat Holds m place (runner.Sink k) is = absurd is

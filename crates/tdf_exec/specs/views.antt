@@ -1,2 +1,2 @@
 -- What the private types of this crate stand for.
-pub mod Slots
+pub mod Actors

@@ -32,11 +32,12 @@ ghost use Rattle.tdf_dynamic.specs.Next.{AnswersAsks, IsCarried};
 ghost use Rattle.tdf_dynamic_plans.specs.Attributes.{clusters_of};
 ghost use Rattle.tdf_dynamic_plans.specs.Known.{AreTrueFor};
 ghost use Rattle.tdf_exec.specs.machine.Moving.{AreInstances, AreModules, HaveMoved, WhenTheyAsk, numbers_of};
+ghost use Rattle.tdf_exec.specs.views.Actors.{with_runners};
 ghost use Rattle.tdf_bind_invariants.specs.Limits.{AreWithinLimits};
 ghost use Rattle.tdf_streams.specs.Periods.{AreAttributes};
 
+use crate::actors::Actors;
 use crate::moving::{put_back, take_out};
-use crate::runners::Slot;
 use std::alloc::Global;
 use tdf_base::Memory;
 use tdf_bind::Flat;
@@ -71,7 +72,7 @@ impl Spare {
         groups: &TableGroups,
         cluster: u32,
         attrs: &mut Attrs,
-        runners: &mut Vec<Slot>,
+        actors: &mut Actors,
     ) -> Result<Next, ChangeErr>
         requires limits { AreWithinLimits flat.now }
         requires text { IsOfText flat.now }
@@ -80,28 +81,30 @@ impl Spare {
         requires attributes { AreAttributes flat.now cluster attrs.old.rows }
         requires planned { IsPlanned flat.now.tables cluster attrs.old.rows }
         requires known { AreTrueFor flat.now.tables cluster attrs.old.known.plans }
-        requires modules { AreModules (numbers_of attrs.old.rows) runners.old.items }
-        requires instances { AreInstances flat.now attrs.old.rows runners.old.items }
+        requires modules { AreModules (numbers_of attrs.old.rows) actors.old.runners }
+        requires instances { AreInstances flat.now attrs.old.rows actors.old.runners }
         requires room { length attrs.old.rows ≤ self.old }
-        ensures answer { WhenTheyAsk flat.now attrs.old.rows runners.old.items (λ asks.
+        ensures answer { WhenTheyAsk flat.now attrs.old.rows actors.old.runners (λ asks.
             AnswersAsks flat.now cluster asks attrs.old.rows attrs.new.rows result) }
         ensures kept { OnErr result (attrs.new.rows ≡ attrs.old.rows) }
         ensures carried { IfOk result (IsCarried flat.now.tables cluster attrs.old.known
             attrs.new.known) }
-        ensures moved { WhenTheyAsk flat.now attrs.old.rows runners.old.items (λ asks.
-            HaveMoved flat.now asks attrs.old.rows runners.old.items runners.new.items) }
+        ensures moved { WhenTheyAsk flat.now attrs.old.rows actors.old.runners (λ asks.
+            HaveMoved flat.now asks attrs.old.rows actors.old.runners actors.new.runners) }
+        ensures rest { actors.new ≡ with_runners actors.new.runners actors.old }
         ensures room { self.old ≤ self.new }
     {
+        actors.places.law_apart();
         take_out(
             &attrs.rows,
-            runners,
+            actors,
             &mut self.frames.modules,
             &mut self.rests,
         );
         let next = next_plan(alloc, flat, groups, cluster, attrs, &mut self.frames);
         put_back(
             &attrs.rows,
-            runners,
+            actors,
             &mut self.frames.modules,
             &mut self.rests,
         );

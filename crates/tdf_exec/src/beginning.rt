@@ -10,7 +10,7 @@ ghost use Rattle.tdf_exec.specs.machine.Starting.{AreTakenUpTo, CanBegin, HoldsT
 ghost use Rattle.tdf_bind_tables.specs.declared.actors.ActorRow.{ActorRow as ActorRowOf};
 ghost use Rattle.tdf_exec_layout.specs.declared.wiring.ActorWires.{ActorWires as ActorWiresOf};
 
-use crate::runners::{ModuleRunner, Rest, Runner, SamplerRunner, SinkRunner, Slot};
+use crate::runners::{ModuleRunner, Rest, Runner, SamplerRunner, SinkRunner};
 use crate::telling::sum;
 use std::alloc::Global;
 use std::mem;
@@ -27,6 +27,7 @@ fn module_of(alloc: Global, instance: ModuleFrame, rest: Rest) -> Result<ModuleR
     ensures { IfOk result (λ x. x ≡ whole_of instance (kept_of rest)) }
 {
     let instance = Box::new(alloc, instance)?;
+    let rest = Box::new(alloc, rest)?;
     Ok(ModuleRunner { instance, rest })
 }
 
@@ -74,52 +75,39 @@ fn first_runner(
     place: u32,
     wires: ActorWires,
     begins: bool,
-) -> Result<Slot, Memory>
+) -> Result<Runner, Memory>
     requires can { CanBegin flat.now }
     requires module { IsOfModule flat.now number wires }
     ensures { IfOk result (λ r. IsFirstRunner flat.now (HoldsText flat.now begins) number place
         wires r) }
 {
     match wires {
-        ActorWires::Module(wires) => {
-            let module = begun(alloc, flat, number, wires, begins)?;
-            let kept = Box::new(alloc, Runner::Module(module))?;
-            Ok(Slot { kept: Some(kept) })
-        }
-        ActorWires::Sampler(edges) => {
-            let kept = Box::new(alloc, Runner::Sampler(SamplerRunner { edges, place }))?;
-            Ok(Slot { kept: Some(kept) })
-        }
-        ActorWires::Sink(edge) => {
-            let kept = Box::new(alloc, Runner::Sink(SinkRunner { edge }))?;
-            Ok(Slot { kept: Some(kept) })
-        }
-        ActorWires::Elsewhere => Ok(Slot { kept: None }),
+        ActorWires::Module(wires) => Ok(Runner::Module(begun(alloc, flat, number, wires, begins)?)),
+        ActorWires::Sampler(edges) => Ok(Runner::Sampler(SamplerRunner { edges, place })),
+        ActorWires::Sink(edge) => Ok(Runner::Sink(SinkRunner { edge })),
+        ActorWires::Elsewhere => Ok(Runner::Outside),
     }
 }
 
 /// The number of samplers with one actor more; more than fit in memory have none.
-fn samplers_with(samplers: u32, runner: &Slot) -> Result<u32, Memory>
+fn samplers_with(samplers: u32, runner: &Runner) -> Result<u32, Memory>
     ensures { IfOk result (λ next. next ≡ samplers + (if is_sampler_runner runner.now then 1 else 0)) }
 {
-    match &runner.kept {
-        Some(kept) => match &**kept {
-            Runner::Module(_) => Ok(samplers),
-            Runner::Sampler(_) => sum(samplers, 1),
-            Runner::Sink(_) => Ok(samplers),
-            Runner::Outside => Ok(samplers),
-        },
-        None => Ok(samplers),
+    match runner {
+        Runner::Module(_) => Ok(samplers),
+        Runner::Sampler(_) => sum(samplers, 1),
+        Runner::Sink(_) => Ok(samplers),
+        Runner::Outside => Ok(samplers),
     }
 }
 
 /// Nothing is kept yet for any of so many actors.
-fn none_kept(alloc: Global, count: usize) -> Result<Vec<Slot>, Memory>
+fn none_kept(alloc: Global, count: usize) -> Result<Vec<Runner>, Memory>
     ensures { IfOk result (λ runners. runners.items ≡ replicate count kept.Outside) }
 {
     let mut runners = Vec::with_capacity(alloc, count)?;
     for _ in 0..count {
-        runners.push(Slot { kept: None })?;
+        runners.push(Runner::Outside)?;
     }
     Ok(runners)
 }
@@ -137,7 +125,7 @@ pub(crate) fn first_runners(
     cluster: u32,
     wires: &mut Vec<ActorWires>,
     begins: bool,
-) -> Result<Vec<Slot>, Memory>
+) -> Result<Vec<Runner>, Memory>
     requires can { CanBegin flat.now }
     requires has { Contains (clusters_of flat.now.tables) cluster }
     requires groups { AreTableGroups flat.now.tables groups.now }

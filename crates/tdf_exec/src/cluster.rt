@@ -1,14 +1,14 @@
 //! A cluster in progress, and its calls.
 
+use crate::actors::Actors;
 use crate::asking::Spare;
-use crate::runners::Slot;
 use std::marker::Model;
 use tdf_dynamic_plans::Attrs;
-use tdf_rings::Ring;
+use tdf_exec_firing::Edges;
 use tdf_schedule::{Entry, Plan};
 
 /// A cluster in progress: its attributes, its plan and the place in it, the rates in force and the samples by edge, and
-/// what its actors need to fire. Edges and actors have the numbers of the flat model.
+/// what its actors need to fire. It keeps what is its own alone; edges and actors are seen by the numbers of the flat model.
 #[derive(Drop)]
 pub struct Cluster {
     pub(crate) number: u32,
@@ -16,13 +16,10 @@ pub struct Cluster {
     pub(crate) plan: Plan,
     pub(crate) place: usize,
     pub(crate) crossed: bool,
-    pub(crate) reads: Vec<u32>,
-    pub(crate) writes: Vec<u32>,
     /// How often each actor fires in a period of the plan, up to the last whose signals are traced.
     pub(crate) firings: Vec<u64>,
-    pub(crate) rings: Vec<Ring>,
-    pub(crate) runners: Vec<Slot>,
-    pub(crate) positions: Vec<u64>,
+    pub(crate) edges: Edges,
+    pub(crate) actors: Actors,
     pub(crate) spare: Spare,
 }
 
@@ -43,11 +40,11 @@ impl Model for Cluster {
       known = a.attrs.known;
       place = a.place;
       crossed = a.crossed;
-      reads = a.reads.items;
-      writes = a.writes.items;
-      rings = a.rings.items;
-      runners = a.runners.items;
-      positions = a.positions.items;
+      reads = a.edges.reads;
+      writes = a.edges.writes;
+      rings = a.edges.rings;
+      runners = a.actors.runners;
+      positions = a.actors.positions;
     } };
 
     ghost invariant = { λ a. record {
@@ -57,7 +54,7 @@ impl Model for Cluster {
     } };
 }
 
-ghost use Rattle.std.specs.Prelude.{◌≡◌, ◌<◌, ◌≤◌, ◌+◌, ◌^◌, ◌-◌, ℕ, length, min, Some};
+ghost use Rattle.std.specs.Prelude.{◌≡◌, ◌<◌, ◌≤◌, ◌-◌, ℕ, length, Some};
 ghost use Rattle.tdf_convert.specs.Sampled.{AreByOffset};
 ghost use Rattle.tdf_exec.specs.Cluster.{due_count, due_from, is_next_due, next_offset};
 ghost use Rattle.tdf_exec.specs.Gained.{HasGained, HaveRoom};
@@ -65,7 +62,6 @@ ghost use Rattle.tdf_exec.specs.Made.{IsClusterOf};
 ghost use Rattle.tdf_exec.specs.Played.{AreDone, AreInputsFor, HasPlayed, KeepsStanding};
 ghost use Rattle.tdf_exec.specs.machine.Steps.{AreInputsNext, HasRoomNext, HasStepped};
 
-use crate::runners::fire_runner;
 use tdf_bind::Flat;
 use tdf_convert::{Inputs, Outputs, first_after, first_from};
 
@@ -82,13 +78,6 @@ fn due_from(entries: &[Entry], place: usize, offset: u64) -> u64
     0
 }
 
-/// One activation more, where the number is not the greatest that there is.
-fn count_one(position: &mut u64)
-    ensures { position.new ≡ min (position.old + 1) (2 ^ 64 - 1) }
-{
-    *position = position.saturating_add(1);
-}
-
 impl Cluster {
     /// The offset of the next entry of the plan; none where the period is done.
     pub fn next_offset(&self) -> Option<u64>
@@ -98,13 +87,6 @@ impl Cluster {
             return Some(self.plan.entries[self.place].offset);
         }
         None
-    }
-
-    /// Whether the change bodies of the period have run, and the next period is not installed yet.
-    pub fn crossed(&self) -> bool
-        ensures { result ≡ self.now.crossed }
-    {
-        self.crossed
     }
 
     /// Whether the next entry of the plan has this offset.
@@ -142,18 +124,9 @@ impl Cluster {
         ensures stepped { HasStepped flat.now inputs.now self.old self.new outputs.old outputs.new }
     {
         let number = self.plan.entries[self.place].actor;
-        let actor = number as usize;
-        fire_runner(
-            &flat.checked,
-            inputs,
-            &self.reads,
-            &self.writes,
-            number,
-            &mut self.runners[actor],
-            &mut self.rings,
-            outputs,
-        );
-        count_one(&mut self.positions[actor]);
+        let edges = &mut self.edges;
+        self.actors
+            .fire(&flat.checked, inputs, number, edges, outputs);
         self.place += 1;
     }
 

@@ -20,15 +20,7 @@ use tdf_cluster_plans::TableGroups;
 use tdf_dynamic::Next;
 use tdf_dynamic_plans::{ChangeErr, ModuleAttrs};
 
-/// Whether a module has a body that changes attributes.
-fn changes_at(flat: &Flat, number: u32) -> bool
-    requires { number < length flat.now.tables.modules }
-    ensures { result ≡ has_changes flat.now.tables.modules number }
-{
-    flat.tables.modules[number as usize].changes
-}
-
-/// Whether a module of a table has one.
+/// Whether a module of a table has a body that changes attributes.
 fn has_changes(flat: &Flat, rows: &[ModuleAttrs]) -> bool
     requires { All (λ a. a.number < length flat.now.tables.modules) rows.now }
     ensures none { result ≡ false → (i : ℕ) (a : AttrsOf) → slice_get rows.now i ≡ Some a
@@ -38,7 +30,7 @@ fn has_changes(flat: &Flat, rows: &[ModuleAttrs]) -> bool
 {
     for i in 0..rows.len() {
         let row = &rows[i];
-        if changes_at(flat, row.number) {
+        if flat.tables.modules[row.number as usize].changes {
             return true;
         }
     }
@@ -81,9 +73,9 @@ impl Cluster {
             return Ok(Next::Same);
         }
         let number = self.number;
-        let runners = &mut self.runners;
+        let actors = &mut self.actors;
         self.spare
-            .ask(alloc, flat, groups, number, &mut self.attrs, runners)
+            .ask(alloc, flat, groups, number, &mut self.attrs, actors)
     }
 
     /// Begins the next period with the answer of the boundary. With the same plan it takes no memory. With a new one each edge
@@ -91,15 +83,8 @@ impl Cluster {
     ///
     /// # Errors
     /// Out of memory; then nothing changes.
-    pub fn install(
-        &mut self,
-        alloc: Global,
-        flat: &Flat,
-        groups: &TableGroups,
-        next: Next,
-    ) -> Result<(), Memory>
+    pub fn install(&mut self, alloc: Global, flat: &Flat, next: Next) -> Result<(), Memory>
         requires sound { IsSoundFlat flat.now }
-        requires groups { AreTableGroups flat.now.tables groups.now }
         requires crossed { self.old.crossed ≡ true }
         requires can { CanInstall flat.now self.old next }
         ensures ok { next ≡ Same → IsOk result }
@@ -116,7 +101,7 @@ impl Cluster {
                 self.crossed = false;
                 Ok(())
             }
-            Next::Changed(attrs, plan) => self.begin_new(alloc, flat, groups, attrs, plan),
+            Next::Changed(attrs, plan) => self.begin_new(alloc, flat, attrs, plan),
         }
     }
 }

@@ -6,21 +6,19 @@ use tdf_exec_layout::{law_edges, law_rates as law_edge_rates};
 use tdf_schedule::law_present;
 
 /// Along the plan of its table only actors of a cluster fire, each firing finds its samples, and no edge holds more than
-/// its bound.
+/// its bound; and what the edges of a cluster hold before the first entry of its plan.
 pub fn law_safe()
-    ensures { PlansAreSafe }
+    ensures safe { PlansAreSafe }
+    ensures heads { HeadsHold }
 {
     law_present();
 }
 
-/// What the edges of a cluster hold before the first entry of its plan.
-pub fn law_heads()
-    ensures { HeadsHold }
-{}
-
-/// All edges of a cluster together hold no more samples than the buffers of a cluster may have.
+/// All edges of a cluster together hold no more samples than the buffers of a cluster may have; and no offset of the plan of a
+/// cluster gives more samples than `Cluster::room` has numbers for.
 pub fn law_few()
-    ensures { ClustersHoldFew }
+    ensures few { ClustersHoldFew }
+    ensures room { RoomIsThere }
 {
     law_edges();
     law_edge_rates();
@@ -32,11 +30,6 @@ pub fn law_own()
 {
     law_present();
 }
-
-/// No offset of the plan of a cluster gives more samples than `Cluster::room` has numbers for.
-pub fn law_room()
-    ensures { RoomIsThere }
-{}
 
 /// No initialize, processing or reinitialize body of a model without a fault of types sets a rate
 /// variable.

@@ -2,6 +2,7 @@
 
 use crate::tracing::TracedPorts;
 use std::marker::Model;
+use std::rc::Rc;
 use tdf_cluster_plans::TableGroups;
 use tdf_exec_layout::ActorWires;
 
@@ -12,6 +13,9 @@ pub struct Layout {
     pub(crate) wires: Vec<ActorWires>,
     pub(crate) traced: Vec<TracedPorts>,
     pub(crate) groups: TableGroups,
+    /// The place of each edge and of each actor among those of its own cluster, which all clusters share.
+    pub(crate) edge_places: Rc<Vec<u32>>,
+    pub(crate) actor_places: Rc<Vec<u32>>,
 }
 
 impl Model for Layout {
@@ -59,10 +63,14 @@ impl Layout {
         let traced = traced_rows(alloc, flat)?;
         let wires = all_wires(alloc, &flat.tables)?;
         let groups = cluster_groups(alloc, flat)?;
+        let edge_places = groups.edge_places(alloc, flat.tables.edges.len())?;
+        let actor_places = groups.actor_places(alloc, flat.tables.actors.len())?;
         Ok(Layout {
             wires,
             traced,
             groups,
+            edge_places,
+            actor_places,
         })
     }
 }

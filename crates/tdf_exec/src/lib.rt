@@ -2,6 +2,7 @@
 //!
 //! - `runners`: what each actor needs to fire, and one firing.
 //! - `cluster`: a cluster in progress, and its calls.
+//! - `actors`: what it has for its own actors, by places of their own.
 //! - `laying`: what the actors of a model need at a start, laid out once for all clusters.
 //! - `beginning`: what its actors keep at its start.
 //! - `starting`: a cluster at the start of its first period.
@@ -16,6 +17,7 @@
 //! - `laws`: what holds of clusters in progress.
 #![tactic(auto)]
 
+mod actors;
 mod asking;
 mod beginning;
 mod cluster;
@@ -32,7 +34,7 @@ mod telling;
 mod tracing;
 
 pub use cluster::Cluster;
-pub use laws::{law_few, law_heads, law_own, law_rates, law_room, law_safe};
+pub use laws::{law_few, law_own, law_rates, law_safe};
 pub use laying::{Layout, cluster_groups};
 pub use runners::{ModuleRunner, Runner, SamplerRunner, SinkRunner, TracedPort};
 pub use tdf_cluster_plans::TableGroups;

@@ -4,6 +4,7 @@ ghost use Rattle.std.specs.Prelude.{◌≡◌, ◌⊎◌, ◌≤◌, Contains, E
 ghost use Rattle.tdf_dynamic_first.specs.Text.{first_table};
 ghost use Rattle.tdf_dynamic_plans.specs.Attributes.{clusters_of};
 ghost use Rattle.tdf_exec_parts.specs.Below.{IsTableFirst, IsTableOfStates};
+ghost use Rattle.tdf_exec.specs.Layout.{HasLayoutOf};
 ghost use Rattle.tdf_exec.specs.Made.{IsClusterOf};
 ghost use Rattle.tdf_exec.specs.Restored.{IsAtState, StandsAtState};
 ghost use Rattle.tdf_exec.specs.Starts.{IsSoundFlat};
@@ -18,8 +19,8 @@ use crate::asking::Spare;
 use crate::beginning::first_runners;
 use crate::cluster::Cluster;
 use crate::laying::Layout;
-use crate::runners::{ModuleRunner, Runner, Slot};
-use crate::starting::{Parts, law_laid, traced_firings};
+use crate::runners::{ModuleRunner, Runner};
+use crate::starting::{Parts, law_laid, own_actors, own_edges, traced_firings};
 use crate::tracing::give_all;
 use std::alloc::Global;
 use tdf_base::Memory;
@@ -41,18 +42,15 @@ fn restore(checked: &Checked, rates: &[u32], cells: &[i128], runner: &mut Module
 }
 
 /// An actor gets the rates of a row and the values of a state, if it is a module.
-fn restore_runner(checked: &Checked, row: &ModuleAttrs, state: &ModuleState, runner: &mut Slot)
+fn restore_runner(checked: &Checked, row: &ModuleAttrs, state: &ModuleState, runner: &mut Runner)
     requires { CanTake checked.now row.now.rates state.now.cells runner.old }
     ensures { runner.new ≡ with_values row.now.rates state.now.cells runner.old }
 {
-    match &mut runner.kept {
-        Some(kept) => match &mut **kept {
-            Runner::Module(module) => restore(checked, &row.rates, &state.cells, module),
-            Runner::Sampler(_) => {}
-            Runner::Sink(_) => {}
-            Runner::Outside => {}
-        },
-        None => {}
+    match runner {
+        Runner::Module(module) => restore(checked, &row.rates, &state.cells, module),
+        Runner::Sampler(_) => {}
+        Runner::Sink(_) => {}
+        Runner::Outside => {}
     }
 }
 
@@ -61,7 +59,7 @@ fn restore_all(
     checked: &Checked,
     table: &[ModuleAttrs],
     modules: &[ModuleState],
-    runners: &mut Vec<Slot>,
+    runners: &mut Vec<Runner>,
 )
     requires { CanRestore checked.now table.now modules.now runners.old.items }
     ensures { AreRestored checked.now table.now modules.now (length table.now)
@@ -80,16 +78,18 @@ fn restored_runners(
     cluster: u32,
     attrs: &Attrs,
     modules: &[ModuleState],
-) -> Result<Vec<Slot>, Memory>
+    layout: &mut Layout,
+) -> Result<Vec<Runner>, Memory>
     requires sound { IsSoundFlat flat.now }
     requires has { Contains (clusters_of flat.now.tables) cluster }
     requires states { AreStatesOfRows flat.now (first_table flat.now cluster) modules.now }
     requires table { IsTableOfStates flat.now cluster modules.now attrs.now.rows }
-    ensures { IfOk result (λ runners. AreRunnersOf flat.now (HoldsState attrs.now.rows modules.now)
+    requires layout { HasLayoutOf flat.now cluster layout.old }
+    ensures runners { IfOk result (λ runners. AreRunnersOf flat.now (HoldsState attrs.now.rows modules.now)
         cluster attrs.now.rows runners.items) }
+    ensures groups { layout.new.groups ≡ layout.old.groups }
 {
     law_laid();
-    let mut layout = Layout::new(alloc, flat)?;
     let groups = &layout.groups;
     let mut runners = first_runners(alloc, flat, groups, cluster, &mut layout.wires, false)?;
     restore_all(&flat.checked, &attrs.rows, modules, &mut runners);
@@ -126,7 +126,7 @@ fn state_parts(
         (HoldsState standing.now.first.attrs.rows state.now.modules)
         (AreStateRings flat.now.tables cluster standing.now.first.plan.bounds.items
         state.now.edges (length flat.now.tables.edges))
-        p.reads.items p.writes.items p.rings.items p.runners.items p.positions.items) }
+        p.edges.reads p.edges.writes p.edges.rings p.actors.runners p.actors.positions) }
     ensures counted { IfOk result (λ p. AreCounted standing.now.first.plan.entries.items
         p.firings.items) }
     ensures room { IfOk result (λ p. length standing.now.first.attrs.rows ≤ p.spare) }
@@ -141,17 +141,17 @@ fn state_parts(
         &first.plan.bounds,
         &state.edges,
     )?;
-    let runners = restored_runners(alloc, flat, cluster, &first.attrs, &state.modules)?;
+    let mut layout = Layout::new(alloc, flat)?;
+    let edges = own_edges(alloc, flat, cluster, &layout, &rates, rings)?;
+    let states = &state.modules;
+    let runners = restored_runners(alloc, flat, cluster, &first.attrs, states, &mut layout)?;
     let firings = traced_firings(alloc, &first.attrs.rows, &runners, &first.plan)?;
-    let positions = vec![in alloc; 0; flat.tables.actors.len()]?;
+    let actors = own_actors(alloc, flat, cluster, &layout, runners)?;
     let spare = Spare::new(alloc, first.attrs.rows.len())?;
     Ok(Parts {
-        reads: rates.reads,
-        writes: rates.writes,
+        edges,
+        actors,
         firings,
-        rings,
-        runners,
-        positions,
         spare,
     })
 }
@@ -187,12 +187,9 @@ impl Cluster {
                 plan: standing.first.plan,
                 place: standing.place,
                 crossed: false,
-                reads: parts.reads,
-                writes: parts.writes,
                 firings: parts.firings,
-                rings: parts.rings,
-                runners: parts.runners,
-                positions: parts.positions,
+                edges: parts.edges,
+                actors: parts.actors,
                 spare: parts.spare,
             }),
             Err(failed) => {

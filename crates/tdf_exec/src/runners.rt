@@ -25,12 +25,12 @@ pub struct Rest {
     pub(crate) traced: Vec<TracedPort>,
 }
 
-/// A module: its values and ports, and the rest. The values and ports are in a box, so that they move as a pointer where the modules
-/// of a cluster are asked for changes.
+/// A module: its values and ports, and the rest. Each is in a box, so that it moves as a pointer where the modules of a cluster
+/// are asked for changes.
 #[derive(Drop)]
 pub struct ModuleRunner {
     pub(crate) instance: Box<ModuleFrame>,
-    pub(crate) rest: Rest,
+    pub(crate) rest: Box<Rest>,
 }
 
 impl Model for ModuleRunner {
@@ -39,11 +39,11 @@ impl Model for ModuleRunner {
     ghost Value = { ModuleOf };
 
     ghost view = { λ a. record {
-      block = a.rest.block;
+      block = a.rest.value.block;
       frame = a.instance.value.frame;
       ports = a.instance.value.ports;
-      wires = a.rest.wires;
-      traced = a.rest.traced.items;
+      wires = a.rest.value.wires;
+      traced = a.rest.value.traced.items;
     } };
 }
 
@@ -77,22 +77,6 @@ pub enum Runner {
     Outside,
 }
 
-/// The place of an actor in a cluster, with what it needs to fire in a box: for an actor of another cluster, which has none, it is one
-/// word.
-#[derive(Drop)]
-pub(crate) struct Slot {
-    pub(crate) kept: Option<Box<Runner>>,
-}
-
-impl Model for Slot {
-    ghost use Rattle.tdf_exec.specs.declared.runners.Runner.{Runner};
-    ghost use Rattle.tdf_exec.specs.views.Slots.{kept_in};
-
-    ghost Value = { Runner };
-
-    ghost view = { λ a. kept_in a.kept };
-}
-
 ghost use Rattle.std.specs.List.{flat_map};
 ghost use Rattle.std.specs.Prelude.{◌≡◌, ℕ, ◌+◌, ◌≤◌, [], length, Some, slice_get};
 ghost use Rattle.tdf_exec.specs.machine.Fired.{CanFireModule, CanGive, CanRun, CanSink, HasFired, HasGiven, HasRun, HasSent};
@@ -102,41 +86,29 @@ ghost use Rattle.tdf_exec.specs.Traced.{traced_port_samples, traced_count};
 ghost use Rattle.tdf_exec.specs.declared.runners.Runner.TheVariants.{Module};
 ghost use Rattle.tdf_exec.specs.declared.runners.TracedPort.{TracedPort as TracedPortOf};
 ghost use Rattle.tdf_exec_firing.specs.Actors.{HasTaken};
+ghost use Rattle.tdf_exec_firing.specs.Edges.{with_rings};
 
 use tdf_convert::{Inputs, Outputs, Sent, Traced};
-use tdf_exec_firing::{Rates, WiredModule, fire_module, fire_sampler, fire_sink};
+use tdf_exec_firing::{Edges, WiredModule, fire_module, fire_sampler, fire_sink};
 use tdf_expr::{Checked, Ports};
-use tdf_rings::Ring;
 
 impl ModuleRunner {
     /// One firing.
-    fn fire(
-        &mut self,
-        checked: &Checked,
-        reads: &Vec<u32>,
-        writes: &Vec<u32>,
-        rings: &mut Vec<Ring>,
-    )
-        requires { CanFireModule checked.now reads.now.items writes.now.items rings.old.items
+    fn fire(&mut self, checked: &Checked, edges: &mut Edges)
+        requires { CanFireModule checked.now edges.old.reads edges.old.writes edges.old.rings
             self.old }
-        ensures { HasFired checked.now reads.now.items writes.now.items rings.old.items
-            rings.new.items self.old self.new }
+        ensures fired { HasFired checked.now edges.old.reads edges.old.writes edges.old.rings
+            edges.new.rings self.old self.new }
+        ensures rest { edges.new ≡ with_rings edges.new.rings edges.old }
     {
-        let rest = &self.rest;
+        let rest = &*self.rest;
         let module = WiredModule {
             checked,
             block: rest.block,
             wires: &rest.wires,
         };
-        let rates = Rates { reads, writes };
         let instance = &mut *self.instance;
-        fire_module(
-            &module,
-            &rates,
-            rings,
-            &mut instance.frame,
-            &mut instance.ports,
-        );
+        fire_module(&module, edges, &mut instance.frame, &mut instance.ports);
     }
 }
 
@@ -171,32 +143,33 @@ fn trace_ports(ports: &Ports, list: &Vec<TracedPort>, outputs: &mut Outputs)
 /// One firing of a module, with the samples of its ports whose signals are traced.
 fn run_module(
     checked: &Checked,
-    reads: &Vec<u32>,
-    writes: &Vec<u32>,
     module: &mut ModuleRunner,
-    rings: &mut Vec<Ring>,
+    edges: &mut Edges,
     outputs: &mut Outputs,
 )
-    requires can { CanFireModule checked.now reads.now.items writes.now.items rings.old.items
+    requires can { CanFireModule checked.now edges.old.reads edges.old.writes edges.old.rings
         module.old }
     requires gives { CanGive (Module module.old) outputs.old }
-    ensures fired { HasFired checked.now reads.now.items writes.now.items rings.old.items
-        rings.new.items module.old module.new }
+    ensures fired { HasFired checked.now edges.old.reads edges.old.writes edges.old.rings
+        edges.new.rings module.old module.new }
+    ensures rest { edges.new ≡ with_rings edges.new.rings edges.old }
     ensures given { outputs.new ≡ with_gains outputs.old []
         (flat_map (traced_port_samples module.new.ports) module.new.traced) }
 {
-    module.fire(checked, reads, writes, rings);
-    trace_ports(&module.instance.ports, &module.rest.traced, outputs);
+    module.fire(checked, edges);
+    let rest = &*module.rest;
+    trace_ports(&module.instance.ports, &rest.traced, outputs);
 }
 
 /// One firing of a sink, which sends its sample.
-fn run_sink(actor: u32, edge: u32, rings: &mut Vec<Ring>, outputs: &mut Outputs)
-    requires can { CanSink rings.old.items edge }
+fn run_sink(actor: u32, edge: u32, edges: &mut Edges, outputs: &mut Outputs)
+    requires can { CanSink edges.old.rings edge }
     requires room { length outputs.old.sent + 1 ≤ outputs.old.sent_room }
-    ensures taken { HasTaken edge rings.old.items rings.new.items }
-    ensures given { HasSent actor edge rings.old.items outputs.old outputs.new }
+    ensures taken { HasTaken edge edges.old.rings edges.new.rings }
+    ensures rest { edges.new ≡ with_rings edges.new.rings edges.old }
+    ensures given { HasSent actor edge edges.old.rings outputs.old outputs.new }
 {
-    let value = fire_sink(edge, rings);
+    let value = fire_sink(edge, edges);
     outputs.put_sent(Sent { actor, value });
 }
 
@@ -204,29 +177,25 @@ fn run_sink(actor: u32, edge: u32, rings: &mut Vec<Ring>, outputs: &mut Outputs)
 pub(crate) fn fire_runner(
     checked: &Checked,
     inputs: &Inputs,
-    reads: &Vec<u32>,
-    writes: &Vec<u32>,
     actor: u32,
-    runner: &mut Slot,
-    rings: &mut Vec<Ring>,
+    runner: &mut Runner,
+    edges: &mut Edges,
     outputs: &mut Outputs,
 )
-    requires can { CanRun checked.now inputs.now reads.now.items writes.now.items rings.old.items
+    requires can { CanRun checked.now inputs.now edges.old.reads edges.old.writes edges.old.rings
         runner.old }
     requires gives { CanGive runner.old outputs.old }
-    ensures ran { HasRun checked.now inputs.now reads.now.items writes.now.items rings.old.items
-        rings.new.items runner.old runner.new }
-    ensures given { HasGiven actor rings.old.items runner.new outputs.old outputs.new }
+    ensures ran { HasRun checked.now inputs.now edges.old.reads edges.old.writes edges.old.rings
+        edges.new.rings runner.old runner.new }
+    ensures rest { edges.new ≡ with_rings edges.new.rings edges.old }
+    ensures given { HasGiven actor edges.old.rings runner.new outputs.old outputs.new }
 {
-    match &mut runner.kept {
-        Some(kept) => match &mut **kept {
-            Runner::Module(module) => run_module(checked, reads, writes, module, rings, outputs),
-            Runner::Sampler(sampler) => {
-                fire_sampler(inputs.value(sampler.place), &sampler.edges, rings)
-            }
-            Runner::Sink(sink) => run_sink(actor, sink.edge, rings, outputs),
-            Runner::Outside => {}
-        },
-        None => {}
+    match runner {
+        Runner::Module(module) => run_module(checked, module, edges, outputs),
+        Runner::Sampler(sampler) => {
+            fire_sampler(inputs.value(sampler.place), &sampler.edges, edges)
+        }
+        Runner::Sink(sink) => run_sink(actor, sink.edge, edges, outputs),
+        Runner::Outside => {}
     }
 }

@@ -1,6 +1,7 @@
 //! A cluster at the start of its first period.
 
-ghost use Rattle.std.specs.Prelude.{◌≤◌, Contains, IfOk, OnOk, length, true};
+ghost use Rattle.std.specs.Prelude.{◌≡◌, ◌≤◌, Contains, IfOk, OnOk, length, replicate, true};
+ghost use Rattle.tdf_cluster_plans.specs.Groups.{AreOnesElsewhere, AreTableGroups};
 ghost use Rattle.tdf_convert.specs.Sampled.{PlansGoByOffset};
 ghost use Rattle.tdf_dynamic_first.specs.First.{IsFirstPlan};
 ghost use Rattle.tdf_dynamic_plans.specs.Attributes.{RowsStandOnce, clusters_of};
@@ -10,17 +11,18 @@ ghost use Rattle.tdf_exec.specs.Layout.{HasLayoutOf, KeepsLayouts};
 ghost use Rattle.tdf_exec.specs.Made.{IsClusterOf};
 ghost use Rattle.tdf_exec.specs.Starts.{IsAtStart, IsSoundFlat, StandsAtStart};
 ghost use Rattle.tdf_exec.specs.machine.Counted.{AreCounted};
-ghost use Rattle.tdf_exec.specs.machine.Laid.{AreParts, AreRunnersOf, SoundIsLaid};
+ghost use Rattle.tdf_exec.specs.machine.Laid.{AreOutsideElsewhere, AreParts, AreRunnersOf, HoldNothingElsewhere, SoundIsLaid};
 ghost use Rattle.tdf_exec.specs.machine.Starting.{HoldsText};
 ghost use Rattle.tdf_exec_parts.specs.Rings.{AreFirstRings};
 ghost use Rattle.tdf_schedule.specs.Laws.{PlansArePresent};
 
+use crate::actors::Actors;
 use crate::asking::Spare;
 use crate::beginning::first_runners;
 use crate::cluster::Cluster;
 use crate::laws::law_rates;
 use crate::laying::Layout;
-use crate::runners::{Runner, Slot};
+use crate::runners::Runner;
 use crate::tracing::give_all;
 use std::alloc::Global;
 use tdf_base::Memory;
@@ -29,9 +31,11 @@ use tdf_bind_invariants::{law_formats, law_limits};
 use tdf_cluster_plans::cluster_rates;
 use tdf_convert::law_by_offset;
 use tdf_dynamic_first::First;
-use tdf_dynamic_plans::{Attrs, ModuleAttrs};
+use tdf_dynamic_plans::{Attrs, EdgeRates, ModuleAttrs};
+use tdf_exec_firing::Edges;
 use tdf_exec_layout::{law_edge_formats, law_edges, law_wired};
 use tdf_exec_parts::{firings, first_rings};
+use tdf_places::Places;
 use tdf_rings::Ring;
 use tdf_schedule::{Plan, law_present};
 
@@ -51,17 +55,68 @@ pub(crate) fn law_laid()
     law_by_offset();
 }
 
-/// The parts of a cluster at its start: rates and rings by edge, the firings of a period, runners and counts of activations
-/// by actor, and room for the instances of its modules.
+/// The parts of a cluster at its start: its edges and actors, the firings of a period, and room for the instances of its modules.
 #[derive(Drop)]
 pub(crate) struct Parts {
-    pub(crate) reads: Vec<u32>,
-    pub(crate) writes: Vec<u32>,
+    pub(crate) edges: Edges,
+    pub(crate) actors: Actors,
     pub(crate) firings: Vec<u64>,
-    pub(crate) rings: Vec<Ring>,
-    pub(crate) runners: Vec<Slot>,
-    pub(crate) positions: Vec<u64>,
     pub(crate) spare: Spare,
+}
+
+/// The edges of a cluster, out of rates and rings of all edges. The edges of other clusters have the rates 1 and hold nothing.
+///
+/// # Errors
+/// Out of memory.
+pub(crate) fn own_edges(
+    alloc: Global,
+    flat: &Flat,
+    cluster: u32,
+    layout: &Layout,
+    rates: &EdgeRates,
+    rings: Vec<Ring>,
+) -> Result<Edges, Memory>
+    requires has { Contains (clusters_of flat.now.tables) cluster }
+    requires groups { AreTableGroups flat.now.tables layout.now.groups }
+    requires reads { AreOnesElsewhere flat.now.tables cluster rates.now.reads.items }
+    requires writes { AreOnesElsewhere flat.now.tables cluster rates.now.writes.items }
+    requires long { length rings.items ≡ length flat.now.tables.edges }
+    requires rings { HoldNothingElsewhere flat.now.tables cluster rings.items }
+    ensures { IfOk result (λ edges. edges ≡ record {
+      reads = rates.now.reads.items;
+      writes = rates.now.writes.items;
+      rings = rings.items;
+    }) }
+{
+    let numbers = layout.groups.edges(cluster);
+    let count = flat.tables.edges.len();
+    let places = Places::of(alloc, numbers, count, &layout.edge_places)?;
+    Edges::of(alloc, places, &rates.reads, &rates.writes, rings)
+}
+
+/// The actors of a cluster, out of what is kept for all actors, which is nothing for those of other clusters.
+///
+/// # Errors
+/// Out of memory.
+pub(crate) fn own_actors(
+    alloc: Global,
+    flat: &Flat,
+    cluster: u32,
+    layout: &Layout,
+    runners: Vec<Runner>,
+) -> Result<Actors, Memory>
+    requires has { Contains (clusters_of flat.now.tables) cluster }
+    requires groups { AreTableGroups flat.now.tables layout.now.groups }
+    requires long { length runners.items ≡ length flat.now.tables.actors }
+    requires elsewhere { AreOutsideElsewhere flat.now.tables cluster runners.items }
+    ensures runners { IfOk result (λ actors. actors.runners ≡ runners.items) }
+    ensures none_done { IfOk result (λ actors.
+        actors.positions ≡ replicate (length flat.now.tables.actors) 0) }
+{
+    let numbers = layout.groups.actors(cluster);
+    let count = flat.tables.actors.len();
+    let places = Places::of(alloc, numbers, count, &layout.actor_places)?;
+    Actors::of(alloc, places, runners)
 }
 
 /// What is kept for the actors of a cluster.
@@ -71,7 +126,7 @@ fn runners_of(
     cluster: u32,
     attrs: &Attrs,
     layout: &mut Layout,
-) -> Result<Vec<Slot>, Memory>
+) -> Result<Vec<Runner>, Memory>
     requires sound { IsSoundFlat flat.now }
     requires has { Contains (clusters_of flat.now.tables) cluster }
     requires rates { AreRates flat.now.tables attrs.now.rows }
@@ -79,6 +134,7 @@ fn runners_of(
     requires layout { HasLayoutOf flat.now cluster layout.old }
     ensures runners { IfOk result (λ runners. AreRunnersOf flat.now (HoldsText flat.now true)
         cluster attrs.now.rows runners.items) }
+    ensures groups { layout.new.groups ≡ layout.old.groups }
     ensures others { OnOk result (KeepsLayouts flat.now cluster layout.old layout.new) }
 {
     law_laid();
@@ -96,23 +152,12 @@ fn runners_of(
     Ok(runners)
 }
 
-/// Whether an actor is a module that has ports whose signals are traced.
-fn has_traced(runner: &Slot) -> bool {
-    match &runner.kept {
-        Some(kept) => match &**kept {
-            Runner::Module(module) => !module.rest.traced.is_empty(),
-            _ => false,
-        },
-        None => false,
-    }
-}
-
 /// How often each actor fires in a period of a plan, up to the last module of a table that has ports whose signals are traced: for
 /// such modules alone activations are asked for at each period.
 pub(crate) fn traced_firings(
     alloc: Global,
     rows: &[ModuleAttrs],
-    runners: &[Slot],
+    runners: &[Runner],
     plan: &Plan,
 ) -> Result<Vec<u64>, Memory>
     ensures { IfOk result (λ counts. AreCounted plan.now.entries.items counts.items) }
@@ -121,8 +166,9 @@ pub(crate) fn traced_firings(
     for i in 0..rows.len() {
         let row = &rows[i];
         let m = row.number as usize;
-        if m < runners.len() && has_traced(&runners[m]) {
-            count = m + 1;
+        match runners.get(m) {
+            Some(Runner::Module(module)) if !module.rest.traced.is_empty() => count = m + 1,
+            _ => {}
         }
     }
     firings(alloc, &plan.entries, plan.entries.len(), count)
@@ -143,7 +189,7 @@ fn first_parts(
     ensures parts { IfOk result (λ p. AreParts flat.now cluster first.now (HoldsText flat.now true)
         (AreFirstRings flat.now.tables cluster first.now.plan.bounds.items
         (length flat.now.tables.edges))
-        p.reads.items p.writes.items p.rings.items p.runners.items p.positions.items) }
+        p.edges.reads p.edges.writes p.edges.rings p.actors.runners p.actors.positions) }
     ensures counted { IfOk result (λ p. AreCounted first.now.plan.entries.items p.firings.items) }
     ensures room { IfOk result (λ p. length first.now.attrs.rows ≤ p.spare) }
     ensures others { OnOk result (KeepsLayouts flat.now cluster layout.old layout.new) }
@@ -152,17 +198,15 @@ fn first_parts(
     let groups = &layout.groups;
     let rates = cluster_rates(alloc, &flat.tables, groups, cluster, &first.attrs.rows)?;
     let rings = first_rings(alloc, &flat.tables, groups, cluster, &first.plan.bounds)?;
+    let edges = own_edges(alloc, flat, cluster, layout, &rates, rings)?;
     let runners = runners_of(alloc, flat, cluster, &first.attrs, layout)?;
     let firings = traced_firings(alloc, &first.attrs.rows, &runners, &first.plan)?;
-    let positions = vec![in alloc; 0; flat.tables.actors.len()]?;
+    let actors = own_actors(alloc, flat, cluster, layout, runners)?;
     let spare = Spare::new(alloc, first.attrs.rows.len())?;
     Ok(Parts {
-        reads: rates.reads,
-        writes: rates.writes,
+        edges,
+        actors,
         firings,
-        rings,
-        runners,
-        positions,
         spare,
     })
 }
@@ -196,12 +240,9 @@ impl Cluster {
                 plan: first.plan,
                 place: 0,
                 crossed: false,
-                reads: parts.reads,
-                writes: parts.writes,
                 firings: parts.firings,
-                rings: parts.rings,
-                runners: parts.runners,
-                positions: parts.positions,
+                edges: parts.edges,
+                actors: parts.actors,
                 spare: parts.spare,
             }),
             Err(failed) => {

@@ -31,8 +31,9 @@ ghost use Rattle.tdf_exec.specs.machine.Telling.{IsOver, here_at, room_of, rooms
 ghost use Rattle.tdf_bind_invariants.specs.Limits.{AreWithinLimits};
 ghost use Rattle.tdf_bind_connections.specs.declared.modules.PortRow.{PortRow as PortRowOf};
 
+use crate::actors::Actors;
 use crate::cluster::Cluster;
-use crate::runners::{Runner, Slot, TracedPort};
+use crate::runners::{Runner, TracedPort};
 use tdf_base::Memory;
 use tdf_bind::Flat;
 use tdf_convert::{Inputs, Links, sample_due};
@@ -64,34 +65,31 @@ fn traced_by(list: &[TracedPort]) -> Result<u32, Memory>
 }
 
 /// What a firing of an actor gives.
-fn given_by(runner: &Slot) -> Result<Room, Memory>
+fn given_by(runner: &Runner) -> Result<Room, Memory>
     ensures given { IfOk result (λ room. room ≡ room_of (sent_size (Some runner.now)) (traced_size (Some runner.now))) }
     ensures large { OnErr result (2 ^ 32 ≤ traced_size (Some runner.now)) }
 {
-    match &runner.kept {
-        Some(kept) => match &**kept {
-            Runner::Module(module) => Ok(Room {
-                sent: 0,
-                traced: traced_by(&module.rest.traced)?,
-            }),
-            Runner::Sampler(_) => Ok(Room { sent: 0, traced: 0 }),
-            Runner::Sink(_) => Ok(Room { sent: 1, traced: 0 }),
-            Runner::Outside => Ok(Room { sent: 0, traced: 0 }),
-        },
-        None => Ok(Room { sent: 0, traced: 0 }),
+    match runner {
+        Runner::Module(module) => Ok(Room {
+            sent: 0,
+            traced: traced_by(&module.rest.traced)?,
+        }),
+        Runner::Sampler(_) => Ok(Room { sent: 0, traced: 0 }),
+        Runner::Sink(_) => Ok(Room { sent: 1, traced: 0 }),
+        Runner::Outside => Ok(Room { sent: 0, traced: 0 }),
     }
 }
 
 /// What a firing of the actor of this number gives; nothing where there is none.
-fn given_at(runners: &[Slot], actor: u32) -> Result<Room, Memory>
-    ensures given { IfOk result (λ room. room ≡ room_of (sent_size (slice_get runners.now actor))
-        (traced_size (slice_get runners.now actor))) }
-    ensures large { OnErr result (2 ^ 32 ≤ traced_size (slice_get runners.now actor)) }
+fn given_at(actors: &Actors, actor: u32) -> Result<Room, Memory>
+    ensures given { IfOk result (λ room. room ≡ room_of (sent_size (slice_get actors.now.runners actor))
+        (traced_size (slice_get actors.now.runners actor))) }
+    ensures large { OnErr result (2 ^ 32 ≤ traced_size (slice_get actors.now.runners actor)) }
 {
-    if (actor as usize) < runners.len() {
-        return given_by(&runners[actor as usize]);
+    match actors.runner(actor) {
+        Some(runner) => given_by(runner),
+        None => Ok(Room { sent: 0, traced: 0 }),
     }
-    Ok(Room { sent: 0, traced: 0 })
 }
 
 /// What the entries before one gave at its offset.
@@ -114,37 +112,30 @@ fn both(a: Room, b: Room) -> Result<Room, Memory>
     Ok(Room { sent, traced })
 }
 
-/// The greater of two numbers, for each kind of samples.
-fn greater(a: Room, b: Room) -> Room
-    ensures { result ≡ room_of (max a.sent b.sent) (max a.traced b.traced) }
-{
-    Room {
-        sent: a.sent.max(b.sent),
-        traced: a.traced.max(b.traced),
-    }
-}
-
 /// The rooms of one entry more.
-fn with_entry(runners: &[Slot], entry: Entry, rooms: Rooms) -> Result<Rooms, Memory>
-    ensures next { IfOk result (λ next. next ≡ rooms_with runners.now entry rooms) }
-    ensures large { OnErr result (IsOver (sent_with runners.now entry rooms)
-        (traced_with runners.now entry rooms)) }
+fn with_entry(actors: &Actors, entry: Entry, rooms: Rooms) -> Result<Rooms, Memory>
+    ensures next { IfOk result (λ next. next ≡ rooms_with actors.now.runners entry rooms) }
+    ensures large { OnErr result (IsOver (sent_with actors.now.runners entry rooms)
+        (traced_with actors.now.runners entry rooms)) }
 {
-    let given = given_at(runners, entry.actor)?;
+    let given = given_at(actors, entry.actor)?;
     let here = both(here_at(rooms, entry.offset), given)?;
     Ok(Rooms {
         offset: entry.offset,
         here,
-        most: greater(rooms.most, here),
+        most: Room {
+            sent: rooms.most.sent.max(here.sent),
+            traced: rooms.most.traced.max(here.traced),
+        },
     })
 }
 
 /// The greatest numbers of samples that entries of one offset give.
-fn most_of(runners: &[Slot], entries: &[Entry]) -> Result<Room, Memory>
+fn most_of(actors: &Actors, entries: &[Entry]) -> Result<Room, Memory>
     requires sorted { AreByOffset entries.now }
-    ensures sent { IfOk result (λ room. IsMostOf sent_size runners.now entries.now room.sent) }
-    ensures traced { IfOk result (λ room. IsMostOf traced_size runners.now entries.now room.traced) }
-    ensures large { OnErr result (GivesTooMany runners.now entries.now) }
+    ensures sent { IfOk result (λ room. IsMostOf sent_size actors.now.runners entries.now room.sent) }
+    ensures traced { IfOk result (λ room. IsMostOf traced_size actors.now.runners entries.now room.traced) }
+    ensures large { OnErr result (GivesTooMany actors.now.runners entries.now) }
 {
     let mut rooms = Rooms {
         offset: 0,
@@ -152,7 +143,7 @@ fn most_of(runners: &[Slot], entries: &[Entry]) -> Result<Room, Memory>
         most: Room { sent: 0, traced: 0 },
     };
     for i in 0..entries.len() {
-        rooms = with_entry(runners, entries[i], rooms)?;
+        rooms = with_entry(actors, entries[i], rooms)?;
     }
     Ok(rooms.most)
 }
@@ -189,14 +180,6 @@ impl Cluster {
         &self.attrs
     }
 
-    /// How often a plan was made for this cluster, the first one included; a number that is the greatest stays. A plan that was
-    /// kept is not made again.
-    pub fn plannings(&self) -> u64
-        ensures made { result ≡ self.now.known.made }
-    {
-        self.attrs.plannings()
-    }
-
     /// How many entries of the plan are of an actor.
     pub fn activations(&self, actor: u32) -> u64
         ensures { result ≡ turns_from self.now.entries 0 (length self.now.entries) actor }
@@ -231,7 +214,7 @@ impl Cluster {
             IsMostOf traced_size self.now.runners self.now.entries room.traced) }
         ensures large { OnErr result (GivesTooMany self.now.runners self.now.entries) }
     {
-        most_of(&self.runners, &self.plan.entries)
+        most_of(&self.actors, &self.plan.entries)
     }
 
     /// Sets each sampler with an entry of this offset to its signal's value. It takes no memory and is never refused.

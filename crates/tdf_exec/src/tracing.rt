@@ -30,7 +30,7 @@ ghost use Rattle.tdf_exec.specs.machine.Tracing.{AreGivenTraced, AreMarked, AreN
 ghost use Rattle.tdf_streams.specs.Places.{place_of_port};
 ghost use Rattle.tdf_bind_connections.specs.declared.modules.PortRow.{PortRow as PortRowOf};
 
-use crate::runners::{Runner, Slot};
+use crate::runners::Runner;
 use std::alloc::Global;
 use std::mem;
 use tdf_base::{Memory, row_number};
@@ -55,12 +55,6 @@ impl TracedPorts {
     {
         self.list.push(port)?;
         Ok(())
-    }
-
-    fn into_list(self) -> Vec<TracedPort>
-        ensures { result.items ≡ self }
-    {
-        self.list
     }
 }
 
@@ -211,8 +205,8 @@ fn taken(
     requires numbers { AreNumbered tables.now.ports row.old }
     ensures { result.items ≡ map (rated tables.now attrs.now.rows) row.old }
 {
-    let row = mem::replace(row, TracedPorts::new(alloc));
-    let mut list = row.into_list();
+    let TracedPorts { list } = mem::replace(row, TracedPorts::new(alloc));
+    let mut list = list;
     rate_ports(tables, attrs, &mut list);
     list
 }
@@ -223,7 +217,7 @@ fn give_traced(
     tables: &FlatTables,
     attrs: &Attrs,
     row: &mut TracedPorts,
-    runner: &mut Slot,
+    runner: &mut Runner,
 )
     requires rates { AreRates tables.now attrs.now.rows }
     requires once { RowsStandOnce attrs.now.rows }
@@ -231,14 +225,11 @@ fn give_traced(
     ensures { runner.new ≡ with_traced (map (rated tables.now attrs.now.rows) row.old)
         runner.old }
 {
-    match &mut runner.kept {
-        Some(kept) => match &mut **kept {
-            Runner::Module(module) => module.rest.traced = taken(alloc, tables, attrs, row),
-            Runner::Sampler(_) => {}
-            Runner::Sink(_) => {}
-            Runner::Outside => {}
-        },
-        None => {}
+    match runner {
+        Runner::Module(module) => module.rest.traced = taken(alloc, tables, attrs, row),
+        Runner::Sampler(_) => {}
+        Runner::Sink(_) => {}
+        Runner::Outside => {}
     }
 }
 
@@ -249,7 +240,7 @@ pub(crate) fn give_all(
     attrs: &Attrs,
     numbers: &[u32],
     rows: &mut Vec<TracedPorts>,
-    runners: &mut Vec<Slot>,
+    runners: &mut Vec<Runner>,
 )
     requires rates { AreRates tables.now attrs.now.rows }
     requires once { RowsStandOnce attrs.now.rows }

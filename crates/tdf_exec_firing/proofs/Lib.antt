@@ -5,3 +5,5 @@ mod Fills
 mod Formats
 mod Gives
 pub mod Moves
+mod Placed
+mod Spreading

@@ -7,7 +7,7 @@ use Rattle.std.proofs.lemmas.Option.{same_Some, slice_get_within}
 use Rattle.std.specs.List.{list_any}
 use Rattle.std.specs.Prelude.{slice_get, slice_index, slice_set}
 use Rattle.tdf_expr.specs.Frames.{PortsSeen}
-use Rattle.tdf_exec_firing.specs.Actors.{CanPutOne, HavePut, value_on}
+use Rattle.tdf_exec_firing.specs.Actors.{CanPutOne, HasTaken, HavePut, value_on}
 use Rattle.tdf_exec_firing.specs.Firing.{AreMoved, front_of, is_read, left_on, writer_of, written_to}
 use Rattle.tdf_exec_firing.specs.Wires.{WiresOf}
 use Rattle.tdf_exec_firing.specs.declared.wires.InWire.{InWire}
@@ -168,3 +168,23 @@ all_put value edges old new put = record {
       where
         differs : (d : ℕ) → nat_eq d e ≡ false → d ≡ e → ⊥
         differs d test same = absurd (grind (arith, nat_tests, test, same))
+
+-- the rings of a sink
+pub one_taken : (edge : ℕ) (old new : List RingOf) → edge < length old → new ≡ slice_set old edge (without 1 (ring_at old edge)) → HasTaken edge old new
+one_taken edge old new below is = record {
+  same = ap length is ∙ length-set old edge (without 1 (ring_at old edge));
+  taken = λ e inside. ap (λ l. ring_at l e) is ∙ choose e (cases_eq edge e);
+}
+  where
+    choose : (e : ℕ) → (edge ≡ e) ⊎ (edge ≢ e)
+        → ring_at (slice_set old edge (without 1 (ring_at old edge))) e
+        ≡ ring_of (if nat_eq edge e then drop 1 (ring_at old e).samples else (ring_at old e).samples) (ring_at old e).capacity
+    choose e (inl same) =
+        let test : nat_eq edge e ≡ true = grind (arith, nat_tests, same) in
+        subst (λ d. ring_at (slice_set old edge (without 1 (ring_at old edge))) d ≡ without 1 (ring_at old d)) same
+        (get_or-set_same old edge (without 1 (ring_at old edge)) (ring_of [] 0) below)
+        ∙ ap (λ (b : Bool). ring_of (if b then drop 1 (ring_at old e).samples else (ring_at old e).samples) (ring_at old e).capacity) (sym test)
+    choose e (inr other) =
+        let test : nat_eq edge e ≡ false = grind (arith, nat_tests, other) in
+        get_or-set_other old edge e (without 1 (ring_at old edge)) (ring_of [] 0) (λ same. other (sym same))
+        ∙ ap (λ (b : Bool). ring_of (if b then drop 1 (ring_at old e).samples else (ring_at old e).samples) (ring_at old e).capacity) (sym test)

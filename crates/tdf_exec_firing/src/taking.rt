@@ -2,11 +2,13 @@
 
 ghost use Rattle.std.specs.Prelude.{◌≡◌, ℕ, ◌<◌, length, Some, slice_get, slice_index, slice_set};
 ghost use Rattle.tdf_expr.specs.Frames.{ArePortsFit};
+ghost use Rattle.tdf_exec_firing.specs.Edges.{with_rings};
 ghost use Rattle.tdf_exec_firing.specs.declared.wires.InWire.{InWire as InWireOf};
 ghost use Rattle.tdf_exec_firing.specs.machine.Filling.{AreFilledUpTo, CanFill, IsCleared, IsFilled, count_read, list_read};
 ghost use Rattle.tdf_exec_firing.specs.machine.Moving.{AreApart, AreChangedUpTo, in_edge, taken_by, without};
 ghost use Rattle.tdf_rings.specs.Carried.{ring_at};
 
+use crate::edges::Edges;
 use crate::wires::InWire;
 use tdf_expr::Ports;
 use tdf_rings::Ring;
@@ -46,41 +48,43 @@ fn take_from(ring: &mut Ring, n: u32, ports: &mut Ports, port: u32)
 }
 
 /// The port of a wire takes its samples.
-fn take_input(wire: InWire, reads: &Vec<u32>, rings: &mut Vec<Ring>, ports: &mut Ports)
-    requires edge { wire.edge < length rings.old.items }
-    requires rate { length reads.now.items ≡ length rings.old.items }
-    requires can { CanFill wire.port (slice_index reads.now.items wire.edge)
-        (ring_at rings.old.items wire.edge).samples ports.old }
-    ensures filled { IsFilled wire.port (slice_index reads.now.items wire.edge)
-        (ring_at rings.old.items wire.edge).samples ports.old ports.new }
-    ensures taken { rings.new.items ≡ slice_set rings.old.items wire.edge
-        (taken_by reads.now.items wire (ring_at rings.old.items wire.edge)) }
+fn take_input(wire: InWire, edges: &mut Edges, ports: &mut Ports)
+    requires edge { wire.edge < length edges.old.rings }
+    requires rate { length edges.old.reads ≡ length edges.old.rings }
+    requires can { CanFill wire.port (slice_index edges.old.reads wire.edge)
+        (ring_at edges.old.rings wire.edge).samples ports.old }
+    ensures filled { IsFilled wire.port (slice_index edges.old.reads wire.edge)
+        (ring_at edges.old.rings wire.edge).samples ports.old ports.new }
+    ensures taken { edges.new ≡ with_rings (slice_set edges.old.rings wire.edge
+        (taken_by edges.old.reads wire (ring_at edges.old.rings wire.edge))) edges.old }
 {
-    let edge = wire.edge as usize;
-    take_from(&mut rings[edge], reads[edge], ports, wire.port);
+    edges.places.law_apart();
+    match edges.places.place(wire.edge) {
+        Some(place) => {
+            let n = edges.reads[place];
+            take_from(&mut edges.rings[place], n, ports, wire.port);
+        }
+        None => unreachable!(),
+    }
 }
 
 /// The ports of all wires take their samples.
-pub(crate) fn take_inputs(
-    ins: &[InWire],
-    reads: &Vec<u32>,
-    rings: &mut Vec<Ring>,
-    ports: &mut Ports,
-)
-    requires edges { AreApart in_edge ins.now (length rings.old.items) }
-    requires rates { length reads.now.items ≡ length rings.old.items }
+pub(crate) fn take_inputs(ins: &[InWire], edges: &mut Edges, ports: &mut Ports)
+    requires edges { AreApart in_edge ins.now (length edges.old.rings) }
+    requires rates { length edges.old.reads ≡ length edges.old.rings }
     requires fit { ArePortsFit ports.old }
     requires once { (i j : ℕ) (v w : InWireOf) → slice_get ins.now i ≡ Some v
         → slice_get ins.now j ≡ Some w → v.port ≡ w.port → i ≡ j }
     requires can { (j : ℕ) (w : InWireOf) → slice_get ins.now j ≡ Some w
-        → CanFill w.port (slice_index reads.now.items w.edge) (ring_at rings.old.items w.edge).samples
-        ports.old }
-    ensures filled { AreFilledUpTo ins.now (count_read reads.now.items) (list_read rings.old.items)
+        → CanFill w.port (slice_index edges.old.reads w.edge)
+        (ring_at edges.old.rings w.edge).samples ports.old }
+    ensures filled { AreFilledUpTo ins.now (count_read edges.old.reads) (list_read edges.old.rings)
         (length ins.now) ports.old ports.new }
-    ensures taken { AreChangedUpTo in_edge (taken_by reads.now.items) ins.now (length ins.now)
-        rings.old.items rings.new.items }
+    ensures taken { AreChangedUpTo in_edge (taken_by edges.old.reads) ins.now (length ins.now)
+        edges.old.rings edges.new.rings }
+    ensures rest { edges.new ≡ with_rings edges.new.rings edges.old }
 {
     for i in 0..ins.len() {
-        take_input(ins[i], reads, rings, ports);
+        take_input(ins[i], edges, ports);
     }
 }

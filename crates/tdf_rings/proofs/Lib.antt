@@ -1,2 +1,1 @@
 mod Copies
-mod Numbered

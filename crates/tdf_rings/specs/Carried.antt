@@ -1,6 +1,6 @@
 -- Rings that get new capacities and keep their samples.
 -- Source: own.
-use Rattle.std.specs.Prelude.{ℕ, ◌<◌, ◌≤◌, ◌≡◌, ◌≢◌, List, [], length, slice_index, slice_index_or}
+use Rattle.std.specs.Prelude.{ℕ, ◌<◌, ◌≤◌, ◌≡◌, List, [], length, slice_index, slice_index_or}
 use Rattle.tdf_rings.specs.Rings.{RingOf, ring_of}
 
 abbrev pub ring_at : List RingOf → ℕ → RingOf
@@ -11,18 +11,6 @@ pub record FitIn (bounds : List ℕ) (rings : List RingOf) : Type 0 where
   pub same : length bounds ≡ length rings
   pub fits : (e : ℕ) → e < length rings
       → length (ring_at rings e).samples ≤ slice_index bounds e
-
--- numbers of rings, none twice
-pub record AreRingNumbers (count : ℕ) (numbers : List ℕ) : Type 0 where
-  pub within : (i : ℕ) → i < length numbers → slice_index numbers i < count
-  pub once : (i j : ℕ) → i < j → j < length numbers
-      → slice_index numbers i ≢ slice_index numbers j
-
--- the rings that have none of these numbers have their bounds as capacities
-abbrev pub OthersHaveBounds : (bounds numbers : List ℕ) → List RingOf → Type 0
-OthersHaveBounds bounds numbers rings = (e : ℕ) → e < length rings
-    → ((i : ℕ) → i < length numbers → slice_index numbers i ≢ e)
-    → (ring_at rings e).capacity ≡ slice_index bounds e
 
 -- the rings have the same samples, with the bounds as capacities
 pub record AreCarried (bounds : List ℕ) (old new : List RingOf) : Type 0 where

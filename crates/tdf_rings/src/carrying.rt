@@ -1,9 +1,9 @@
 //! Rings that get new capacities and keep their samples.
 
 ghost use Rattle.std.specs.Prelude.{◌≡◌, ◌≤◌, ◌<◌, [], IfOk, OnErr, OnOk, length};
-ghost use Rattle.tdf_rings.specs.Carried.{AreCarried, AreRingNumbers, FitIn, OthersHaveBounds};
+ghost use Rattle.tdf_rings.specs.Carried.{AreCarried, FitIn};
 ghost use Rattle.tdf_rings.specs.Rings.{ring_of};
-ghost use Rattle.tdf_rings.specs.views.Fresh.{AreCarriedAt, AreFresh, fresh_of};
+ghost use Rattle.tdf_rings.specs.views.Fresh.{AreCarriedUpTo, AreFresh, fresh_of};
 
 use crate::ring::Ring;
 use std::alloc::Global;
@@ -47,24 +47,16 @@ fn fresh_of(alloc: Global, ring: &Ring, bound: u32) -> Result<Option<Ring>, Memo
     Ok(Some(copy_of(alloc, ring, bound)?))
 }
 
-/// The new rings of the edges with these numbers, made before anything is moved.
+/// The new rings, made before anything is moved.
 ///
 /// # Errors
 /// Out of memory.
-fn all_fresh(
-    alloc: Global,
-    rings: &[Ring],
-    bounds: &[u32],
-    numbers: &[u32],
-) -> Result<Vec<Option<Ring>>, Memory>
-    requires fit { FitIn bounds.now rings.now }
-    requires numbers { AreRingNumbers (length rings.now) numbers.now }
-    ensures { IfOk result (λ list. AreFresh rings.now bounds.now numbers.now
-        (length numbers.now) list.items) }
+fn all_fresh(alloc: Global, rings: &[Ring], bounds: &[u32]) -> Result<Vec<Option<Ring>>, Memory>
+    requires { FitIn bounds.now rings.now }
+    ensures { IfOk result (λ list. AreFresh rings.now bounds.now (length rings.now) list.items) }
 {
-    let mut list = Vec::with_capacity(alloc, numbers.len())?;
-    for i in 0..numbers.len() {
-        let e = numbers[i] as usize;
+    let mut list = Vec::with_capacity(alloc, rings.len())?;
+    for e in 0..rings.len() {
         list.push(fresh_of(alloc, &rings[e], bounds[e])?)?;
     }
     Ok(list)
@@ -80,37 +72,27 @@ fn place(ring: &mut Ring, fresh: &mut Option<Ring>, bound: u32)
     }
 }
 
-/// Puts the new rings of the edges with these numbers in their places.
-fn place_all(rings: &mut [Ring], fresh: &mut [Option<Ring>], bounds: &[u32], numbers: &[u32])
+/// Puts all new rings in their places.
+fn place_all(rings: &mut [Ring], fresh: &mut [Option<Ring>], bounds: &[u32])
     requires fit { FitIn bounds.now rings.old }
-    requires numbers { AreRingNumbers (length rings.old) numbers.now }
-    requires fresh { AreFresh rings.old bounds.now numbers.now (length numbers.now) fresh.old }
-    ensures { AreCarriedAt bounds.now numbers.now (length numbers.now) rings.old rings.new }
+    requires fresh { AreFresh rings.old bounds.now (length rings.old) fresh.old }
+    ensures { AreCarriedUpTo bounds.now (length rings.old) rings.old rings.new }
 {
-    for i in 0..numbers.len() {
-        let e = numbers[i] as usize;
-        place(&mut rings[e], &mut fresh[i], bounds[e]);
+    for e in 0..rings.len() {
+        place(&mut rings[e], &mut fresh[e], bounds[e]);
     }
 }
 
-/// Gives each ring its bound as its capacity; all keep their samples. Only the rings of the edges with these numbers are looked at: the
-/// capacities of the others are their bounds already.
+/// Gives each ring its bound as its capacity; all keep their samples.
 ///
 /// # Errors
 /// Out of memory; then nothing changes.
-pub fn carry(
-    alloc: Global,
-    rings: &mut Vec<Ring>,
-    bounds: &[u32],
-    numbers: &[u32],
-) -> Result<(), Memory>
+pub fn carry(alloc: Global, rings: &mut Vec<Ring>, bounds: &[u32]) -> Result<(), Memory>
     requires fit { FitIn bounds.now rings.old.items }
-    requires numbers { AreRingNumbers (length rings.old.items) numbers.now }
-    requires others { OthersHaveBounds bounds.now numbers.now rings.old.items }
     ensures ok { OnOk result (AreCarried bounds.now rings.old.items rings.new.items) }
     ensures err { OnErr result (rings.new ≡ rings.old) }
 {
-    let mut fresh = all_fresh(alloc, rings, bounds, numbers)?;
-    place_all(rings, &mut fresh, bounds, numbers);
+    let mut fresh = all_fresh(alloc, rings, bounds)?;
+    place_all(rings, &mut fresh, bounds);
     Ok(())
 }

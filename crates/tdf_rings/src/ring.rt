@@ -13,8 +13,8 @@ use tdf_fixed::Raw;
 /// The samples that an edge holds, in order, and how many it may hold. Only [`Ring::new`] takes memory, and none for capacity 0.
 #[derive(Drop)]
 pub struct Ring {
-    /// None where the capacity is 0. It is in a box, since a cluster has a ring for each edge of the model, of which most have none.
-    buffer: Option<Box<HeapCircularBuffer<Raw>>>,
+    /// None where the capacity is 0.
+    buffer: Option<HeapCircularBuffer<Raw>>,
 }
 
 impl Model for Ring {
@@ -30,14 +30,13 @@ impl Model for Ring {
 }
 
 /// An empty buffer of a capacity; none for 0.
-fn buffer_of(alloc: Global, capacity: u32) -> Result<Option<Box<HeapCircularBuffer<Raw>>>, Memory>
+fn buffer_of(alloc: Global, capacity: u32) -> Result<Option<HeapCircularBuffer<Raw>>, Memory>
     ensures { IfOk result (λ buffer. ring_in buffer ≡ ring_of [] capacity) }
 {
     if capacity == 0 {
         return Ok(None);
     }
-    let buffer = HeapCircularBuffer::with_capacity(alloc, capacity as usize)?;
-    Ok(Some(Box::new(alloc, buffer)?))
+    Ok(Some(HeapCircularBuffer::with_capacity(alloc, capacity as usize)?))
 }
 
 impl Ring {

@@ -71,15 +71,8 @@ fn is_new(next: &Next) -> bool
 ///
 /// # Errors
 /// Out of memory; then nothing changes.
-fn install(
-    alloc: Global,
-    flat: &Flat,
-    groups: &TableGroups,
-    cluster: &mut Cluster,
-    next: Next,
-) -> Result<bool, ChangeErr>
+fn install(alloc: Global, flat: &Flat, cluster: &mut Cluster, next: Next) -> Result<bool, ChangeErr>
     requires sound { IsSoundFlat flat.now }
-    requires groups { AreTableGroups flat.now.tables groups.now }
     requires crossed { cluster.old.crossed ≡ true }
     requires can { CanInstall flat.now cluster.old next }
     ensures same { next ≡ Same → result ≡ Ok false }
@@ -91,7 +84,7 @@ fn install(
     ensures err { OnErr result (cluster.new ≡ cluster.old) }
 {
     let new = is_new(&next);
-    match cluster.install(alloc, flat, groups, next) {
+    match cluster.install(alloc, flat, next) {
         Ok(()) => Ok(new),
         Err(_) => Err(ChangeErr::Memory),
     }
@@ -121,7 +114,7 @@ fn begin_next(
 {
     law_boundary();
     match cluster.boundary(alloc, flat, groups) {
-        Ok(next) => install(alloc, flat, groups, cluster, next),
+        Ok(next) => install(alloc, flat, cluster, next),
         Err(refused) => Err(refused),
     }
 }

@@ -1,6 +1,6 @@
 -- How the next period begins with a new plan, and how the modules begin again.
 -- Source: own.
-use Rattle.std.specs.Prelude.{◌≡◌, ◌≢◌, ◌<◌, ℕ, List, length, Some, slice_get, slice_index}
+use Rattle.std.specs.Prelude.{◌≡◌, ◌<◌, ◌≤◌, ℕ, List, length, Some, slice_get}
 use Rattle.tdf_dynamic_plans.specs.Attributes.{AttrsOf}
 use Rattle.tdf_dynamic_plans.specs.Known.{AttrsTable}
 use Rattle.tdf_dynamic_plans.specs.Rates.{net_of}
@@ -53,14 +53,13 @@ pub record AreRestarted (flat : Flat) (table : List AttrsOf) (old new : List Run
   pub done : (m : ℕ) (r s : Runner) → slice_get old m ≡ Some r → slice_get new m ≡ Some s
       → IsRestarted flat table r s
 
--- those with the first n numbers have; the others are as they were
-pub record AreRestartedAt (flat : Flat) (table : List AttrsOf) (numbers : List ℕ) (n : ℕ)
-    (old new : List Runner) : Type 0 where
+-- the first n have; the others are as they were
+pub record AreRestartedUpTo (flat : Flat) (table : List AttrsOf) (n : ℕ) (old new : List Runner)
+    : Type 0 where
   pub same : length new ≡ length old
-  pub done : (i : ℕ) (r s : Runner) → i < n → slice_get old (slice_index numbers i) ≡ Some r
-      → slice_get new (slice_index numbers i) ≡ Some s → IsRestarted flat table r s
-  pub waiting : (m : ℕ) → ((i : ℕ) → i < n → slice_index numbers i ≢ m)
-      → slice_get new m ≡ slice_get old m
+  pub done : (m : ℕ) (r s : Runner) → m < n → slice_get old m ≡ Some r → slice_get new m ≡ Some s
+      → IsRestarted flat table r s
+  pub waiting : (m : ℕ) → n ≤ m → slice_get new m ≡ slice_get old m
 
 -- a cluster for which the new table and plan are in force, and whose modules have begun again
 pub record HasReplaced (flat : Flat) (c : ClusterOf) (attrs : AttrsTable) (plan : Plan)

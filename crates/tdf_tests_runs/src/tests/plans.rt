@@ -31,7 +31,7 @@ fn ran(alloc: Global, stop: u64) -> Option<Ran>
 
 /// How often a plan was made for its cluster.
 fn plannings_of(ran: &Ran) -> Option<u64> {
-    Some(ran.clusters.get(0)?.plannings())
+    Some(ran.clusters.get(0)?.attrs().plannings())
 }
 
 /// The rate of its first module that is in force.

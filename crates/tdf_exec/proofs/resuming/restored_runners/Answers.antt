@@ -14,24 +14,24 @@ use Rattle.tdf_exec.proofs.resuming.restored_runners.Goals as goal
 
 pub first_runners-requires-clause-groups : goal.first_runners-requires-clause-groups
 first_runners-requires-clause-groups c =
-    let has : HasLayoutOf c.args.flat.now c.args.cluster (the_view c.layout.inside) = subst (HasLayoutOf c.args.flat.now c.args.cluster) (sym c.layout.view_is) (c.in_ok-layout.ensures c.args.cluster) in
+    let has : HasLayoutOf c.args.flat.now c.args.cluster (the_view c.layout.inside) = subst (HasLayoutOf c.args.flat.now c.args.cluster) (sym c.layout.view_is) c.requires.layout in
     has.groups
 
 pub first_runners-requires-clause-long : goal.first_runners-requires-clause-long
 first_runners-requires-clause-long c =
-    let has : HasLayoutOf c.args.flat.now c.args.cluster (the_view c.layout.inside) = subst (HasLayoutOf c.args.flat.now c.args.cluster) (sym c.layout.view_is) (c.in_ok-layout.ensures c.args.cluster) in
+    let has : HasLayoutOf c.args.flat.now c.args.cluster (the_view c.layout.inside) = subst (HasLayoutOf c.args.flat.now c.args.cluster) (sym c.layout.view_is) c.requires.layout in
     has.actors
 
 pub first_runners-requires-clause-modules : goal.first_runners-requires-clause-modules
 first_runners-requires-clause-modules c =
-    let has : HasLayoutOf c.args.flat.now c.args.cluster (the_view c.layout.inside) = subst (HasLayoutOf c.args.flat.now c.args.cluster) (sym c.layout.view_is) (c.in_ok-layout.ensures c.args.cluster) in
+    let has : HasLayoutOf c.args.flat.now c.args.cluster (the_view c.layout.inside) = subst (HasLayoutOf c.args.flat.now c.args.cluster) (sym c.layout.view_is) c.requires.layout in
     of_modules c.args.flat.now (c.law_laid.ensures.laid c.args.flat.now c.requires.sound) c.args.cluster c.layout.inside.wires.items has.wires
 
 pub restore_all-requires : goal.restore_all-requires
 restore_all-requires c =
     let flat = c.args.flat.now in
     let laid = c.law_laid.ensures.laid flat c.requires.sound in
-    let has : HasLayoutOf flat c.args.cluster (the_view c.layout.inside) = subst (HasLayoutOf flat c.args.cluster) (sym c.layout.view_is) (c.in_ok-layout.ensures c.args.cluster) in
+    let has : HasLayoutOf flat c.args.cluster (the_view c.layout.inside) = subst (HasLayoutOf flat c.args.cluster) (sym c.layout.view_is) c.requires.layout in
     let samplers = c.in_ok-runners.ensures.0 in
     let begun = c.in_ok-runners.runners.items in
     subst (λ (t : List AttrsOf). CanRestore flat.checked t c.args.modules.now begun) (sym (c.deref.ensures.value ∙ ap (λ (a : AttrsTable). a.rows) c.attrs.view_is))
@@ -42,12 +42,12 @@ restore_all-requires c =
 
 pub actors-numbers-requires : goal.actors-numbers-requires
 actors-numbers-requires c =
-    let has : HasLayoutOf c.args.flat.now c.args.cluster (the_view c.layout.inside) = subst (HasLayoutOf c.args.flat.now c.args.cluster) (sym c.layout.view_is) (c.in_ok-layout.ensures c.args.cluster) in
+    let has : HasLayoutOf c.args.flat.now c.args.cluster (the_view c.layout.inside) = subst (HasLayoutOf c.args.flat.now c.args.cluster) (sym c.layout.view_is) c.requires.layout in
     in_actors c.args.flat.now.tables c.layout.inside.groups c.args.cluster c.requires.has has.groups
 
 pub give_all-requires-clause-rising : goal.give_all-requires-clause-rising
 give_all-requires-clause-rising c =
-    let has : HasLayoutOf c.args.flat.now c.args.cluster (the_view c.layout.inside) = subst (HasLayoutOf c.args.flat.now c.args.cluster) (sym c.layout.view_is) (c.in_ok-layout.ensures c.args.cluster) in
+    let has : HasLayoutOf c.args.flat.now c.args.cluster (the_view c.layout.inside) = subst (HasLayoutOf c.args.flat.now c.args.cluster) (sym c.layout.view_is) c.requires.layout in
     (actors_here c.args.flat.now.tables c.layout.inside.groups c.args.cluster c.requires.has has.groups c.actors-numbers.result.now c.actors-numbers.ensures).rising
 
 pub give_all-requires-clause-rates : goal.give_all-requires-clause-rates
@@ -62,7 +62,7 @@ pub give_all-requires-clause-many : goal.give_all-requires-clause-many
 give_all-requires-clause-many c =
     let flat = c.args.flat.now in
     let laid = c.law_laid.ensures.laid flat c.requires.sound in
-    let has : HasLayoutOf flat c.args.cluster (the_view c.layout.inside) = subst (HasLayoutOf flat c.args.cluster) (sym c.layout.view_is) (c.in_ok-layout.ensures c.args.cluster) in
+    let has : HasLayoutOf flat c.args.cluster (the_view c.layout.inside) = subst (HasLayoutOf flat c.args.cluster) (sym c.layout.view_is) c.requires.layout in
     let held = restored_told flat laid c.args.cluster (the_view c.layout.inside) has c.args.modules.now c.args.attrs.now.rows c.requires.states c.requires.table c.in_ok-runners.ensures.0
     c.in_ok-runners.runners.items c.restore_all.new.runners.items c.in_ok-runners.ensures.1.first
     (subst (λ (t : List AttrsOf). AreRestored flat.checked t c.args.modules.now (length t) c.in_ok-runners.runners.items c.restore_all.new.runners.items)
@@ -73,18 +73,18 @@ pub give_all-requires-clause-can : goal.give_all-requires-clause-can
 give_all-requires-clause-can c =
     let flat = c.args.flat.now in
     let laid = c.law_laid.ensures.laid flat c.requires.sound in
-    let has : HasLayoutOf flat c.args.cluster (the_view c.layout.inside) = subst (HasLayoutOf flat c.args.cluster) (sym c.layout.view_is) (c.in_ok-layout.ensures c.args.cluster) in
+    let has : HasLayoutOf flat c.args.cluster (the_view c.layout.inside) = subst (HasLayoutOf flat c.args.cluster) (sym c.layout.view_is) c.requires.layout in
     let held = restored_told flat laid c.args.cluster (the_view c.layout.inside) has c.args.modules.now c.args.attrs.now.rows c.requires.states c.requires.table c.in_ok-runners.ensures.0
     c.in_ok-runners.runners.items c.restore_all.new.runners.items c.in_ok-runners.ensures.1.first
     (subst (λ (t : List AttrsOf). AreRestored flat.checked t c.args.modules.now (length t) c.in_ok-runners.runners.items c.restore_all.new.runners.items)
     (c.deref.ensures.value ∙ ap (λ (a : AttrsTable). a.rows) c.attrs.view_is) c.restore_all.ensures) in
     can_take flat laid (HoldsState c.args.attrs.now.rows c.args.modules.now) c.args.cluster (the_view c.layout.inside) has c.in_ok-runners.ensures.0 c.restore_all.new.runners.items held
 
-pub returns : goal.returns
-returns c =
+pub returns-clause-runners : goal.returns-clause-runners
+returns-clause-runners c =
     let flat = c.args.flat.now in
     let laid = c.law_laid.ensures.laid flat c.requires.sound in
-    let has : HasLayoutOf flat c.args.cluster (the_view c.layout.inside) = subst (HasLayoutOf flat c.args.cluster) (sym c.layout.view_is) (c.in_ok-layout.ensures c.args.cluster) in
+    let has : HasLayoutOf flat c.args.cluster (the_view c.layout.inside) = subst (HasLayoutOf flat c.args.cluster) (sym c.layout.view_is) c.requires.layout in
     let held = restored_told flat laid c.args.cluster (the_view c.layout.inside) has c.args.modules.now c.args.attrs.now.rows c.requires.states c.requires.table c.in_ok-runners.ensures.0
     c.in_ok-runners.runners.items c.restore_all.new.runners.items c.in_ok-runners.ensures.1.first
     (subst (λ (t : List AttrsOf). AreRestored flat.checked t c.args.modules.now (length t) c.in_ok-runners.runners.items c.restore_all.new.runners.items)

@@ -56,8 +56,14 @@ returns-clause-others c =
     let flat = c.args.flat.now in
     let has : HasLayoutOf flat c.args.cluster (the_view c.layout.inside) = subst (HasLayoutOf flat c.args.cluster) (sym c.layout.view_is) c.requires.layout in
     let own = actors_here flat.tables c.layout.inside.groups c.args.cluster c.requires.has has.groups c.actors-numbers.result.now c.actors-numbers.ensures in
-    subst (λ (l : LayoutOf). KeepsLayouts flat c.args.cluster l (the_view record { wires = c.first_runners.new.wires; traced = c.give_all.new.rows; groups = c.layout.inside.groups })) c.layout.view_is
+    let left : LayoutOf = the_view record {
+      wires = c.first_runners.new.wires;
+      traced = c.give_all.new.rows;
+      groups = c.layout.inside.groups;
+      edge_places = c.layout.inside.edge_places;
+      actor_places = c.layout.inside.actor_places;
+    } in
+    subst (λ (l : LayoutOf). KeepsLayouts flat c.args.cluster l left) c.layout.view_is
     (keeps flat (c.law_laid.ensures.laid flat c.requires.sound) (HoldsText flat true) c.args.cluster (the_view c.layout.inside) has c.in_ok-runners.ensures.0 c.in_ok-runners.runners.items c.in_ok-runners.ensures.1.first
     c.args.attrs.now.rows c.actors-numbers.result.now own c.give_all.new.rows.items c.give_all.new.runners.items c.give_all.ensures
-    (the_view record { wires = c.first_runners.new.wires; traced = c.give_all.new.rows; groups = c.layout.inside.groups }) refl refl
-    c.in_ok-runners.ensures.1.same c.in_ok-runners.ensures.1.others)
+    left refl refl c.in_ok-runners.ensures.1.same c.in_ok-runners.ensures.1.others)

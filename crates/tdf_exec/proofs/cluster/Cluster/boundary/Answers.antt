@@ -1,4 +1,4 @@
-use Rattle.std.proofs.Common.{◌≡◌, ◌∙◌, ℕ, inl, None, Ok, Err, Result, Some, false, true, ap, arith, refl, subst, sym, rules}
+use Rattle.std.proofs.Common.{◌≡◌, ◌∙◌, ℕ, List, inl, None, Ok, Err, Result, Some, false, true, ap, arith, refl, subst, sym, rules}
 use Rattle.std.specs.Prelude.{IfOk, slice_get}
 use Rattle.tdf_dynamic.specs.Next.{AnswersAsks}
 use Rattle.tdf_dynamic.specs.declared.next.Next.{Next}
@@ -10,9 +10,10 @@ use Rattle.tdf_exec.proofs.Boundaries.{no_fault, not_still, still_after, still_c
 use Rattle.tdf_exec.proofs.Changing.{as_long, can_install, crossed_of, crosses_from, has_crossed}
 use Rattle.tdf_exec.proofs.Crosses.{head_held}
 use Rattle.tdf_exec.specs.Cluster.{ClusterOf, next_offset}
-use Rattle.tdf_exec.specs.Crossing.{CrossesFrom, HasCrossed, HasNoChanges, WhenItAsks, at_place, values_at}
+use Rattle.tdf_exec.specs.Crossing.{CanInstall, CrossesFrom, HasCrossed, HasNoChanges, WhenItAsks, at_place, values_at}
 use Rattle.tdf_exec.specs.Made.{IsClusterOf}
 use Rattle.tdf_exec.specs.contracts.cluster.Cluster.{the_view}
+use Rattle.tdf_exec.specs.views.Actors.{ActorsOf}
 use Rattle.tdf_streams.specs.Places.{has_changes}
 use Rattle.tdf_exec.proofs.cluster.Cluster.boundary.Goals as goal
 
@@ -109,7 +110,7 @@ invariant_of-self-2 c =
     let laid = c.law_laid.ensures.laid c.args.flat.now c.requires.sound in
     let of : IsClusterOf c.args.flat.now (the_view c.self.inside) = subst (IsClusterOf c.args.flat.now) (sym c.self.view_is) c.requires.of in
     let end : next_offset (the_view c.self.inside) ≡ None = subst (λ (s : ClusterOf). next_offset s ≡ None) (sym c.self.view_is) c.requires.done in
-    let long = as_long c.args.flat.now (the_view c.self.inside) laid of end c.requires.sound.model c.ask.new.runners.items (c.ask.ensures.moved c.requires.sound.model (values_at c.self.inside.runners.items) c.requires.sound.is.bodies (λ i a at. refl)) c.ask.new.attrs.known c.ask.new.attrs.rows c.ask.result (c.ask.ensures.answer c.requires.sound.model (values_at c.self.inside.runners.items) c.requires.sound.is.bodies (λ i a at. refl)).next c.ask.ensures.kept in
+    let long = as_long c.args.flat.now (the_view c.self.inside) laid of end c.requires.sound.model c.ask.new.actors.runners (c.ask.ensures.moved c.requires.sound.model (values_at c.self.inside.actors.runners) c.requires.sound.is.bodies (λ i a at. refl)) c.ask.new.attrs.known c.ask.new.attrs.rows c.ask.result (c.ask.ensures.answer c.requires.sound.model (values_at c.self.inside.actors.runners) c.requires.sound.is.bodies (λ i a at. refl)).next c.ask.ensures.kept in
     let room = c.self.invariant.room in let more = c.ask.ensures.room in
     record { sorted = c.self.invariant.sorted; counted = c.self.invariant.counted; room = omega (arith, long, room, more) }
 
@@ -123,24 +124,28 @@ returns-clause-crossed c =
     let laid = c.law_laid.ensures.laid c.args.flat.now c.requires.sound in
     let of : IsClusterOf c.args.flat.now (the_view c.self.inside) = subst (IsClusterOf c.args.flat.now) (sym c.self.view_is) c.requires.of in
     let end : next_offset (the_view c.self.inside) ≡ None = subst (λ (s : ClusterOf). next_offset s ≡ None) (sym c.self.view_is) c.requires.done in
-    subst (λ (s : ClusterOf). HasCrossed s (crossed_of (the_view c.self.inside) c.ask.new.attrs.rows c.ask.new.attrs.known c.ask.new.runners.items)) c.self.view_is (has_crossed c.args.flat.now (the_view c.self.inside) laid of end c.requires.sound.model c.ask.new.runners.items (c.ask.ensures.moved c.requires.sound.model (values_at c.self.inside.runners.items) c.requires.sound.is.bodies (λ i a at. refl)) c.ask.new.attrs.known c.ask.new.attrs.rows c.ask.result (c.ask.ensures.answer c.requires.sound.model (values_at c.self.inside.runners.items) c.requires.sound.is.bodies (λ i a at. refl)).next c.ask.ensures.kept)
+    let kept : c.ask.new.actors.positions ≡ c.self.inside.actors.positions = ap (λ (a : ActorsOf). a.positions) c.ask.ensures.rest in
+    subst (λ (p : List ℕ). HasCrossed c.args.self.now (record (crossed_of (the_view c.self.inside) c.ask.new.attrs.rows c.ask.new.attrs.known c.ask.new.actors.runners) { positions = p })) (sym kept)
+    (subst (λ (s : ClusterOf). HasCrossed s (crossed_of (the_view c.self.inside) c.ask.new.attrs.rows c.ask.new.attrs.known c.ask.new.actors.runners)) c.self.view_is (has_crossed c.args.flat.now (the_view c.self.inside) laid of end c.requires.sound.model c.ask.new.actors.runners (c.ask.ensures.moved c.requires.sound.model (values_at c.self.inside.actors.runners) c.requires.sound.is.bodies (λ i a at. refl)) c.ask.new.attrs.known c.ask.new.attrs.rows c.ask.result (c.ask.ensures.answer c.requires.sound.model (values_at c.self.inside.actors.runners) c.requires.sound.is.bodies (λ i a at. refl)).next c.ask.ensures.kept))
 
 pub returns-clause-crosses : goal.returns-clause-crosses
 returns-clause-crosses c =
     let laid = c.law_laid.ensures.laid c.args.flat.now c.requires.sound in
     let of : IsClusterOf c.args.flat.now (the_view c.self.inside) = subst (IsClusterOf c.args.flat.now) (sym c.self.view_is) c.requires.of in
     let end : next_offset (the_view c.self.inside) ≡ None = subst (λ (s : ClusterOf). next_offset s ≡ None) (sym c.self.view_is) c.requires.done in
-    let moved = c.ask.ensures.moved c.requires.sound.model (values_at c.self.inside.runners.items) c.requires.sound.is.bodies (λ i a at. refl) in
-    subst (λ (s : ClusterOf). CrossesFrom c.args.flat.now s (crossed_of (the_view c.self.inside) c.ask.new.attrs.rows c.ask.new.attrs.known c.ask.new.runners.items)) c.self.view_is
-    (crosses_from c.args.flat.now (the_view c.self.inside) laid of end c.ask.new.runners.items c.ask.new.attrs.rows c.ask.new.attrs.known (λ model checked. c.ask.ensures.moved model (values_at c.self.inside.runners.items) checked (λ i a at. refl)) moved.are.same)
+    let moved = c.ask.ensures.moved c.requires.sound.model (values_at c.self.inside.actors.runners) c.requires.sound.is.bodies (λ i a at. refl) in
+    subst (λ (s : ClusterOf). CrossesFrom c.args.flat.now s (crossed_of (the_view c.self.inside) c.ask.new.attrs.rows c.ask.new.attrs.known c.ask.new.actors.runners)) c.self.view_is
+    (crosses_from c.args.flat.now (the_view c.self.inside) laid of end c.ask.new.actors.runners c.ask.new.attrs.rows c.ask.new.attrs.known (λ model checked. c.ask.ensures.moved model (values_at c.self.inside.actors.runners) checked (λ i a at. refl)) moved.are.same)
 
 pub returns-clause-of : goal.returns-clause-of
 returns-clause-of c =
     let laid = c.law_laid.ensures.laid c.args.flat.now c.requires.sound in
     let of : IsClusterOf c.args.flat.now (the_view c.self.inside) = subst (IsClusterOf c.args.flat.now) (sym c.self.view_is) c.requires.of in
     let end : next_offset (the_view c.self.inside) ≡ None = subst (λ (s : ClusterOf). next_offset s ≡ None) (sym c.self.view_is) c.requires.done in
-    if_ok c.ask.result (c.ask.ensures.answer c.requires.sound.model (values_at c.self.inside.runners.items) c.requires.sound.is.bodies (λ i a at. refl)).next c.ask.ensures.carried
-    (λ next is carried. can_install c.args.flat.now (the_view c.self.inside) laid of end c.requires.sound.model c.ask.new.runners.items (c.ask.ensures.moved c.requires.sound.model (values_at c.self.inside.runners.items) c.requires.sound.is.bodies (λ i a at. refl)) c.ask.new.attrs.known (c.ask.ensures.answer c.requires.sound.model (values_at c.self.inside.runners.items) c.requires.sound.is.bodies (λ i a at. refl)).after c.ask.new.attrs.rows next is carried)
+    let kept : c.ask.new.actors.positions ≡ c.self.inside.actors.positions = ap (λ (a : ActorsOf). a.positions) c.ask.ensures.rest in
+    subst (λ (p : List ℕ). IfOk c.ask.result (λ next. CanInstall c.args.flat.now (record (crossed_of (the_view c.self.inside) c.ask.new.attrs.rows c.ask.new.attrs.known c.ask.new.actors.runners) { positions = p }) next)) (sym kept)
+    (if_ok c.ask.result (c.ask.ensures.answer c.requires.sound.model (values_at c.self.inside.actors.runners) c.requires.sound.is.bodies (λ i a at. refl)).next c.ask.ensures.carried
+    (λ next is carried. can_install c.args.flat.now (the_view c.self.inside) laid of end c.requires.sound.model c.ask.new.actors.runners (c.ask.ensures.moved c.requires.sound.model (values_at c.self.inside.actors.runners) c.requires.sound.is.bodies (λ i a at. refl)) c.ask.new.attrs.known (c.ask.ensures.answer c.requires.sound.model (values_at c.self.inside.actors.runners) c.requires.sound.is.bodies (λ i a at. refl)).after c.ask.new.attrs.rows next is carried))
 
 pub returns-clause-still : goal.returns-clause-still
 returns-clause-still c =

@@ -40,7 +40,7 @@ returns-in-Ok-clause-of c =
     let is = first_of c.args.flat.now c.args.cluster first c.args.state.now c.args.time c.in_ok-standing.ensures.state c.in_ok-standing.ensures.known in
     resumed_is c.args.flat.now c.args.cluster first c.requires.sound laid is c.law_laid.ensures.present c.args.state.now c.args.time c.in_ok-standing.standing.place
     c.in_ok-standing.ensures.state c.in_ok-standing.ensures.place
-    c.in-Ok.parts.reads.items c.in-Ok.parts.writes.items c.in-Ok.parts.rings.items c.in-Ok.parts.runners.items c.in-Ok.parts.positions.items c.in-Ok.ensures.parts
+    c.in-Ok.parts.edges.reads c.in-Ok.parts.edges.writes c.in-Ok.parts.edges.rings c.in-Ok.parts.actors.runners c.in-Ok.parts.actors.positions c.in-Ok.ensures.parts
 
 pub returns-in-Ok-clause-at : goal.returns-in-Ok-clause-at
 returns-in-Ok-clause-at c =
@@ -49,7 +49,7 @@ returns-in-Ok-clause-at c =
     let is = first_of c.args.flat.now c.args.cluster first c.args.state.now c.args.time c.in_ok-standing.ensures.state c.in_ok-standing.ensures.known in
     resumed_at c.args.flat.now c.args.cluster first c.requires.sound laid is c.law_laid.ensures.present c.args.state.now c.args.time c.in_ok-standing.standing.place
     c.in_ok-standing.ensures.state c.in_ok-standing.ensures.place
-    c.in-Ok.parts.reads.items c.in-Ok.parts.writes.items c.in-Ok.parts.rings.items c.in-Ok.parts.runners.items c.in-Ok.parts.positions.items c.in-Ok.ensures.parts
+    c.in-Ok.parts.edges.reads c.in-Ok.parts.edges.writes c.in-Ok.parts.edges.rings c.in-Ok.parts.actors.runners c.in-Ok.parts.actors.positions c.in-Ok.ensures.parts
 
 pub returns-in-Ok-clause-stands : goal.returns-in-Ok-clause-stands
 returns-in-Ok-clause-stands c =
@@ -58,7 +58,7 @@ returns-in-Ok-clause-stands c =
     let is = first_of c.args.flat.now c.args.cluster first c.args.state.now c.args.time c.in_ok-standing.ensures.state c.in_ok-standing.ensures.known in
     resumed_stands c.args.flat.now c.args.cluster first c.requires.sound laid is c.law_laid.ensures.present c.args.state.now c.args.time c.in_ok-standing.standing.place
     c.in_ok-standing.ensures.state c.in_ok-standing.ensures.place
-    c.in-Ok.parts.reads.items c.in-Ok.parts.writes.items c.in-Ok.parts.rings.items c.in-Ok.parts.runners.items c.in-Ok.parts.positions.items c.in-Ok.ensures.parts
+    c.in-Ok.parts.edges.reads c.in-Ok.parts.edges.writes c.in-Ok.parts.edges.rings c.in-Ok.parts.actors.runners c.in-Ok.parts.actors.positions c.in-Ok.ensures.parts
 
 pub returns-in-Ok-clause-bad_always : goal.returns-in-Ok-clause-bad_always
 returns-in-Ok-clause-bad_always c = λ none. absurd (none (record {

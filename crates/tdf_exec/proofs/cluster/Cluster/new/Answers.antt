@@ -18,9 +18,9 @@ invariant_of-result c =
 pub returns-in-Ok-clause-of : goal.returns-in-Ok-clause-of
 returns-in-Ok-clause-of c =
     is_made c.args.flat.now c.args.cluster c.args.first c.requires.sound (c.law_laid.ensures.laid c.args.flat.now c.requires.sound) c.requires.plan c.law_laid.ensures.present
-    c.in-Ok.parts.reads.items c.in-Ok.parts.writes.items c.in-Ok.parts.rings.items c.in-Ok.parts.runners.items c.in-Ok.parts.positions.items c.in-Ok.ensures.parts
+    c.in-Ok.parts.edges.reads c.in-Ok.parts.edges.writes c.in-Ok.parts.edges.rings c.in-Ok.parts.actors.runners c.in-Ok.parts.actors.positions c.in-Ok.ensures.parts
 
 pub returns-in-Ok-clause-stands : goal.returns-in-Ok-clause-stands
 returns-in-Ok-clause-stands c =
     stands c.args.flat.now c.args.cluster c.args.first c.requires.sound (c.law_laid.ensures.laid c.args.flat.now c.requires.sound) c.requires.plan c.law_laid.ensures.present
-    c.in-Ok.parts.rings.items c.in-Ok.parts.runners.items c.in-Ok.parts.positions.items c.in-Ok.ensures.parts.rings_are c.in-Ok.ensures.parts.runners_are c.in-Ok.ensures.parts.none_done
+    c.in-Ok.parts.edges.rings c.in-Ok.parts.actors.runners c.in-Ok.parts.actors.positions c.in-Ok.ensures.parts.rings_are c.in-Ok.ensures.parts.runners_are c.in-Ok.ensures.parts.none_done

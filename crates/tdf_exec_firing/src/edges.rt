@@ -1,0 +1,118 @@
+//! The edges of a cluster: the rates in force, and the samples that are held.
+
+use std::marker::Model;
+use tdf_places::Places;
+use tdf_rings::Ring;
+
+/// What a cluster has for each of its own edges, by their places: the rates in force, in samples an activation, and the samples that are held.
+/// It is seen by the numbers of the model: an edge of another cluster has the rates 1, and holds nothing.
+#[derive(Drop)]
+pub struct Edges {
+    pub places: Places,
+    pub reads: Vec<u32>,
+    pub writes: Vec<u32>,
+    pub rings: Vec<Ring>,
+}
+
+impl Model for Edges {
+    ghost use Rattle.std.specs.Prelude.{◌≡◌, [], length};
+    ghost use Rattle.tdf_exec_firing.specs.Edges.{EdgesOf};
+    ghost use Rattle.tdf_places.specs.Spread.{spread};
+    ghost use Rattle.tdf_rings.specs.Rings.{ring_of};
+
+    ghost Value = { EdgesOf };
+
+    ghost view = { λ a. record {
+      reads = spread 1 a.places a.reads.items;
+      writes = spread 1 a.places a.writes.items;
+      rings = spread (ring_of [] 0) a.places a.rings.items;
+    } };
+
+    ghost invariant = { λ a. record {
+      reads_long : length a.reads.items ≡ length a.places.numbers;
+      writes_long : length a.writes.items ≡ length a.places.numbers;
+      rings_long : length a.rings.items ≡ length a.places.numbers;
+    } };
+}
+
+ghost use Rattle.std.specs.Prelude.{◌≡◌, ◌<◌, ℕ, [], IfOk, OnErr, OnOk, length, map, slice_index};
+ghost use Rattle.tdf_exec_firing.specs.Edges.{with_rings};
+ghost use Rattle.tdf_places.specs.Places.{AreDistinct, IsNowhere};
+ghost use Rattle.tdf_rings.specs.Carried.{AreCarried, FitIn, ring_at};
+ghost use Rattle.tdf_rings.specs.Rings.{ring_of};
+
+use std::alloc::Global;
+use std::mem;
+use tdf_base::Memory;
+use tdf_rings::carry;
+
+/// The rings at these numbers, in order, taken out of those of all edges.
+///
+/// # Errors
+/// Out of memory.
+fn gather_rings(alloc: Global, numbers: &[u32], rings: &mut Vec<Ring>) -> Result<Vec<Ring>, Memory>
+    requires { AreDistinct (length rings.old.items) numbers.now }
+    ensures { IfOk result (λ own. own.items ≡ map (ring_at rings.old.items) numbers.now) }
+{
+    let mut own = Vec::with_capacity(alloc, numbers.len())?;
+    for i in 0..numbers.len() {
+        let none = Ring::new(alloc, 0)?;
+        own.push(mem::replace(&mut rings[numbers[i] as usize], none))?;
+    }
+    Ok(own)
+}
+
+impl Edges {
+    /// The edges of a cluster, out of what is given for all edges of the model.
+    ///
+    /// # Errors
+    /// Out of memory.
+    pub fn of(
+        alloc: Global,
+        places: Places,
+        reads: &[u32],
+        writes: &[u32],
+        rings: Vec<Ring>,
+    ) -> Result<Edges, Memory>
+        requires reads { length reads.now ≡ places.count }
+        requires writes { length writes.now ≡ places.count }
+        requires rings { length rings.items ≡ places.count }
+        requires elsewhere { (m : ℕ) → m < places.count → IsNowhere places m
+            → (slice_index reads.now m ≡ 1) × (slice_index writes.now m ≡ 1)
+            × (ring_at rings.items m ≡ ring_of [] 0) }
+        ensures { IfOk result (λ edges. edges ≡ record {
+          reads = reads.now;
+          writes = writes.now;
+          rings = rings.items;
+        }) }
+    {
+        places.law_apart();
+        let mut rings = rings;
+        let own = gather_rings(alloc, places.numbers(), &mut rings)?;
+        let reads = places.gather(alloc, reads)?;
+        let writes = places.gather(alloc, writes)?;
+        Ok(Edges {
+            places,
+            reads,
+            writes,
+            rings: own,
+        })
+    }
+
+    /// Gives each edge its bound as the capacity of its ring; all keep their samples. An edge that has no room has the bound 0.
+    ///
+    /// # Errors
+    /// Out of memory; then nothing changes.
+    pub fn carry(&mut self, alloc: Global, bounds: &[u32]) -> Result<(), Memory>
+        requires fit { FitIn bounds.now self.old.rings }
+        requires others { (e : ℕ) → e < length self.old.rings
+            → (ring_at self.old.rings e).capacity ≡ 0 → slice_index bounds.now e ≡ 0 }
+        ensures ok { OnOk result (AreCarried bounds.now self.old.rings self.new.rings) }
+        ensures rest { OnOk result (self.new ≡ with_rings self.new.rings self.old) }
+        ensures err { OnErr result (self.new ≡ self.old) }
+    {
+        self.places.law_apart();
+        let own = self.places.gather(alloc, bounds)?;
+        carry(alloc, &mut self.rings, &own)
+    }
+}

@@ -1,0 +1,3 @@
+pub mod Api
+mod Maps
+mod Spreads

@@ -1,0 +1,8 @@
+//! Things of a model by places of their own: what a cluster has of each of its own things, beside the numbers that these have in the model.
+//!
+//! - `places`: the numbers by place, and the place of a number.
+#![tactic(auto)]
+
+mod places;
+
+pub use places::Places;
