@@ -117,10 +117,8 @@ impl Actors {
         ensures now { self.new ≡ with_runners (slice_set self.old.runners actor runner) self.old }
     {
         self.places.law_apart();
-        match self.places.place(actor) {
-            Some(place) => mem::replace(&mut self.runners[place], runner),
-            None => unreachable!(),
-        }
+        let place = self.places.at(actor);
+        mem::replace(&mut self.runners[place], runner)
     }
 
     /// One firing of an actor of the cluster, which is counted.
@@ -143,13 +141,9 @@ impl Actors {
         ensures rest { edges.new ≡ with_rings edges.new.rings edges.old }
     {
         self.places.law_apart();
-        match self.places.place(actor) {
-            Some(place) => {
-                let runner = &mut self.runners[place];
-                fire_runner(checked, inputs, actor, runner, edges, outputs);
-                count_one(&mut self.positions[place]);
-            }
-            None => unreachable!(),
-        }
+        let place = self.places.at(actor);
+        let runner = &mut self.runners[place];
+        fire_runner(checked, inputs, actor, runner, edges, outputs);
+        count_one(&mut self.positions[place]);
     }
 }

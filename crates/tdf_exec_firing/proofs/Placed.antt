@@ -1,5 +1,5 @@
 -- An edge of a cluster, at its place and by its number.
-use Rattle.std.proofs.Common.{◌≡◌, ◌∙◌, ℕ, ◌<◌, List, [], Some, length, sym, ap, subst, arith}
+use Rattle.std.proofs.Common.{◌≡◌, ◌∙◌, ◌⊎◌, inl, inr, ℕ, ◌<◌, List, [], Some, length, sym, ap, subst, arith}
 use Rattle.std.proofs.Math.ListN.{get_or}
 use Rattle.std.proofs.lemmas.List.{get_or_default}
 use Rattle.std.proofs.lemmas.Option.{get_or_from_slice_get, slice_get_within}
@@ -8,8 +8,8 @@ use Rattle.std.specs.Vec.{with_item}
 use Rattle.tdf_exec_firing.specs.Edges.{EdgesOf, with_rings}
 use Rattle.tdf_exec_firing.specs.contracts.edges.Edges.{the_invariant, the_view}
 use Rattle.tdf_exec_firing.specs.declared.edges.Edges.TheInside.{Inside}
-use Rattle.tdf_places.proofs.Api.{spread_at, spread_elsewhere, spread_long, spread_set}
-use Rattle.tdf_places.specs.Places.{IsNowhere, StandApart}
+use Rattle.tdf_places.proofs.Api.{spread_at, spread_elsewhere, spread_long, spread_set, stands}
+use Rattle.tdf_places.specs.Places.{IsNowhere, IsSomewhere, PlacesOf, StandApart}
 use Rattle.tdf_places.specs.Spread.{spread}
 use Rattle.tdf_rings.specs.Carried.{ring_at}
 use Rattle.tdf_rings.specs.Rings.{RingOf, ring_of}
@@ -17,6 +17,14 @@ use Rattle.tdf_rings.specs.Rings.{RingOf, ring_of}
 -- after one more change of the samples the rates are still those of the beginning
 pub rest_more : (old cur new : EdgesOf) (rings : List RingOf) → cur ≡ with_rings cur.rings old → new ≡ with_rings rings cur → new ≡ with_rings new.rings old
 rest_more old cur new rings rest is = is ∙ ap (with_rings rings) rest ∙ ap (λ l. with_rings l old) (sym (ap (λ (e : EdgesOf). e.rings) is))
+
+-- what isn't nowhere is somewhere
+pub somewhere : (places : PlacesOf) (edge : ℕ) → (IsNowhere places edge → ⊥) → IsSomewhere places edge
+somewhere places edge not = go (stands places.numbers edge)
+  where
+    go : IsSomewhere places edge ⊎ IsNowhere places edge → IsSomewhere places edge
+    go (inl found) = found
+    go (inr none) = absurd (not none)
 
 module _ (inside : Inside) (old : EdgesOf) (seen : the_view inside ≡ old) where
   -- an edge at no place

@@ -68,8 +68,6 @@ pub fn fire_sink(edge: u32, edges: &mut Edges) -> Raw
     ensures rest { edges.new ≡ with_rings edges.new.rings edges.old }
 {
     edges.places.law_apart();
-    match edges.places.place(edge) {
-        Some(place) => edges.rings[place].pop(),
-        None => unreachable!(),
-    }
+    let place = edges.places.at(edge);
+    edges.rings[place].pop()
 }

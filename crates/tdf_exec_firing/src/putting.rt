@@ -38,13 +38,9 @@ fn put_output(wire: OutWire, edges: &mut Edges, ports: &Ports)
         (put_by edges.old.writes ports.now wire (ring_at edges.old.rings wire.edge))) edges.old }
 {
     edges.places.law_apart();
-    match edges.places.place(wire.edge) {
-        Some(place) => {
-            let n = edges.writes[place];
-            give(ports, wire.port, n, &mut edges.rings[place]);
-        }
-        None => unreachable!(),
-    }
+    let place = edges.places.at(wire.edge);
+    let n = edges.writes[place];
+    give(ports, wire.port, n, &mut edges.rings[place]);
 }
 
 /// The edges of all wires get their samples.
@@ -72,10 +68,8 @@ fn put_one(value: Raw, edge: u32, edges: &mut Edges)
         (with_more (value ∷ []) (ring_at edges.old.rings edge))) edges.old }
 {
     edges.places.law_apart();
-    match edges.places.place(edge) {
-        Some(place) => edges.rings[place].put(value),
-        None => unreachable!(),
-    }
+    let place = edges.places.at(edge);
+    edges.rings[place].put(value);
 }
 
 /// Each edge gets one sample.

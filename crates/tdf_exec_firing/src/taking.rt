@@ -59,13 +59,9 @@ fn take_input(wire: InWire, edges: &mut Edges, ports: &mut Ports)
         (taken_by edges.old.reads wire (ring_at edges.old.rings wire.edge))) edges.old }
 {
     edges.places.law_apart();
-    match edges.places.place(wire.edge) {
-        Some(place) => {
-            let n = edges.reads[place];
-            take_from(&mut edges.rings[place], n, ports, wire.port);
-        }
-        None => unreachable!(),
-    }
+    let place = edges.places.at(wire.edge);
+    let n = edges.reads[place];
+    take_from(&mut edges.rings[place], n, ports, wire.port);
 }
 
 /// The ports of all wires take their samples.

@@ -17,6 +17,10 @@ pub record AreDistinct (count : ℕ) (numbers : List ℕ) : Type 0 where
 abbrev pub StandApart : PlacesOf → Type 0
 StandApart places = AreDistinct places.count places.numbers
 
+-- one of the things has this number
+abbrev pub IsSomewhere : PlacesOf → ℕ → Type 0
+IsSomewhere places m = (i : ℕ) × (i < length places.numbers) × (slice_index places.numbers i ≡ m)
+
 -- none of the things has this number
 abbrev pub IsNowhere : PlacesOf → ℕ → Type 0
 IsNowhere places m = (i : ℕ) → i < length places.numbers → slice_index places.numbers i ≢ m

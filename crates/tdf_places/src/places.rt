@@ -29,7 +29,7 @@ impl Model for Places {
 }
 
 ghost use Rattle.std.specs.Prelude.{◌≡◌, ◌≢◌, ◌<◌, ℕ, IfOk, IfSome, None, Some, length, map, slice_get, slice_index, true};
-ghost use Rattle.tdf_places.specs.Places.{AreDistinct, StandApart};
+ghost use Rattle.tdf_places.specs.Places.{AreDistinct, IsSomewhere, StandApart};
 ghost use Rattle.tdf_places.specs.views.Mapped.{AreMapped};
 
 use std::alloc::Global;
@@ -123,6 +123,15 @@ impl Places {
             return Some(place);
         }
         None
+    }
+
+    /// The place of a number of one of the things.
+    pub fn at(&self, number: u32) -> usize
+        requires { IsSomewhere self.now number }
+        ensures { slice_get self.now.numbers result ≡ Some number }
+    {
+        let by_number = self.by_number.as_slice();
+        by_number[number as usize] as usize
     }
 
     /// The values of a list at the numbers, by place.

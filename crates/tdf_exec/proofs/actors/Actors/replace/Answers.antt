@@ -10,23 +10,23 @@ use Rattle.tdf_places.proofs.Api.{place_at, spread_there}
 use Rattle.tdf_places.specs.Spread.{spread}
 use Rattle.tdf_exec.proofs.actors.Actors.replace.Goals as goal
 
-pub unreachable-requires : goal.unreachable-requires
-unreachable-requires c =
+pub at-place-requires : goal.at-place-requires
+at-place-requires c =
     let own : IsAmong c.self.inside.places.numbers c.args.actor = subst (λ (a : ActorsOf). IsAmong a.places.numbers c.args.actor) (sym c.self.view_is) c.requires in
-    c.in-None.ensures.none refl own.0 own.1 own.2
+    own
 
 pub returns-clause-was : goal.returns-clause-was
 returns-clause-was c =
-    let below : c.in-Some.place < length c.self.inside.runners.items =
-    (let l = c.self.invariant.runners_long in let w = (place_at runner.Outside c.self.inside.places c.in-Some.place c.args.actor c.in-Some.ensures.found).0 in omega (arith, l, w)) in
+    let below : c.at-place.result < length c.self.inside.runners.items =
+    (let l = c.self.invariant.runners_long in let w = (place_at runner.Outside c.self.inside.places c.at-place.result c.args.actor c.at-place.ensures).0 in omega (arith, l, w)) in
     ap (λ (a : ActorsOf). slice_get a.runners c.args.actor) (sym c.self.view_is)
-    ∙ spread_there runner.Outside c.self.inside.places c.law_apart.ensures c.self.inside.runners.items c.self.invariant.runners_long c.in-Some.place c.args.actor c.in-Some.ensures.found
+    ∙ spread_there runner.Outside c.self.inside.places c.law_apart.ensures c.self.inside.runners.items c.self.invariant.runners_long c.at-place.result c.args.actor c.at-place.ensures
     ∙ ap Some (sym (c.replace.ensures.value
-    ∙ get_or_read_under c.self.inside.runners.items c.in-Some.place (length c.self.inside.runners.items) c.index_mut.result.now runner.Outside c.index_mut.ensures.value below refl))
+    ∙ get_or_read_under c.self.inside.runners.items c.at-place.result (length c.self.inside.runners.items) c.index_mut.result.now runner.Outside c.index_mut.ensures.value below refl))
 
 pub returns-clause-now : goal.returns-clause-now
 returns-clause-now c =
-    ap (λ (r : Runner). actors_of c.self.inside.places (spread runner.Outside c.self.inside.places (slice_set c.self.inside.runners.items c.in-Some.place r)) (spread 0 c.self.inside.places c.self.inside.positions.items))
+    ap (λ (r : Runner). actors_of c.self.inside.places (spread runner.Outside c.self.inside.places (slice_set c.self.inside.runners.items c.at-place.result r)) (spread 0 c.self.inside.places c.self.inside.positions.items))
     c.replace.ensures.after
     ∙ one_put c.self.inside.places c.law_apart.ensures c.self.inside.runners.items (spread 0 c.self.inside.places c.self.inside.positions.items) c.self.invariant.runners_long
-    c.in-Some.place c.args.actor c.in-Some.ensures.found c.args.runner c.args.self.now c.self.view_is
+    c.at-place.result c.args.actor c.at-place.ensures c.args.runner c.args.self.now c.self.view_is
