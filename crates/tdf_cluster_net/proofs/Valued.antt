@@ -1,48 +1,38 @@
--- Values at numbers, one more.
-use Rattle.std.proofs.Common.{◌≡◌, ◌∙◌, ℕ, ◌+◌, ◌<◌, ◌≤◌, ◌⊎◌, inl, inr, List, length, set, replicate, refl, sym, ap, subst, arith}
-use Rattle.std.proofs.Math.ListN.{get_or}
-use Rattle.std.proofs.lemmas.Bool.{cases_eq, cases_lt}
-use Rattle.std.proofs.lemmas.Grind.{get_or-set_at}
-use Rattle.std.proofs.lemmas.List.{length-set, length-replicate, get_or-replicate, get_or-set_other, get_or_past}
-use Rattle.tdf_cluster_net.specs.Numbers.{AreSpread, Rise}
-use Rattle.tdf_cluster_net.specs.views.Spreading.{AreSpreadUpTo}
+-- A list that is made of values by their numbers has them there, and 0 elsewhere; and values that are picked from a list.
+use Rattle.std.proofs.Common.{◌≡◌, ℕ, ◌<◌, List, length, map, refl, sym, subst}
+use Rattle.std.proofs.lemmas.List.{get_or-map, length-map}
+use Rattle.std.specs.Prelude.{slice_index}
+use Rattle.tdf_cluster_net.proofs.Edges.{number_once}
+use Rattle.tdf_cluster_net.specs.Numbers.{AllBelow, AreNumbers, AreSpread, IsAmong, Rise}
+use Rattle.tdf_places.proofs.Api.{spread_at, spread_long, spread_nowhere}
+use Rattle.tdf_places.specs.Places.{PlacesOf, StandApart}
+use Rattle.tdf_places.specs.Spread.{spread_by}
 
-zeros_at : (all : List ℕ) (count m : ℕ) → all ≡ replicate count 0 → get_or all m 0 ≡ 0
-zeros_at all count m is = go (cases_lt m count)
-  where
-    at : get_or all m 0 ≡ get_or (replicate count 0) m 0
-    at = ap (λ (l : List ℕ). get_or l m 0) is
+module _ (numbers : List ℕ) (count : ℕ) (within : AllBelow count numbers) (rising : Rise numbers) where
+  are_numbers : AreNumbers count (IsAmong numbers) numbers
+  are_numbers = record {
+    within = within;
+    rising = rising;
+    meant = λ i i_in. (i, i_in, refl);
+    all = λ m m_in found. found;
+  }
 
-    go : (m < count) ⊎ (count ≤ m) → get_or all m 0 ≡ 0
-    go (inl less) = at ∙ get_or-replicate count m 0 0 less
-    go (inr past) = get_or_past all m 0 (subst (λ (l : List ℕ). length l ≤ m) (sym is) (subst (λ n. n ≤ m) (sym (length-replicate count 0)) past))
+  abbrev places : PlacesOf
+  places = record { numbers = numbers; count = count }
 
-pub spread_none : (numbers : List ℕ) (count : ℕ) (values all : List ℕ) → all ≡ replicate count 0 → AreSpreadUpTo numbers count values 0 all
-spread_none numbers count values all is = record {
-  long = ap (λ (l : List ℕ). length l) is ∙ length-replicate count 0;
-  at = λ i less. absurd (omega (arith, less));
-  elsewhere = λ m other. zeros_at all count m is;
-}
+  apart : StandApart places
+  apart = record { within = within; once = number_once numbers count (IsAmong numbers) are_numbers }
 
-pub spread_more : (numbers : List ℕ) (count : ℕ) (values : List ℕ) (n : ℕ) (all : List ℕ) → n < length numbers → Rise numbers → get_or numbers n 0 < count
-    → AreSpreadUpTo numbers count values n all → AreSpreadUpTo numbers count values (n + 1) (set all (get_or numbers n 0) (get_or values n 0))
-spread_more numbers count values n all inside rise within are = record {
-  long = length-set all (get_or numbers n 0) (get_or values n 0) ∙ are.long;
-  at = λ i less. there i (cases_eq i n) less;
-  elsewhere = λ m other. get_or-set_other all (get_or numbers n 0) m (get_or values n 0) 0 (λ same. other n (omega arith) (sym same)) ∙ are.elsewhere m (λ i less. other i (omega (arith, less)));
-}
-  where
-    there : (i : ℕ) → (i ≡ n) ⊎ (i ≡ n → ⊥) → i < n + 1 → get_or (set all (get_or numbers n 0) (get_or values n 0)) (get_or numbers i 0) 0 ≡ get_or values i 0
-    there i (inl same) less = subst (λ j. get_or (set all (get_or numbers n 0) (get_or values n 0)) (get_or numbers j 0) 0 ≡ get_or values j 0) (sym same)
-        (get_or-set_at all (get_or numbers n 0) (get_or numbers n 0) (get_or values n 0) 0 refl (let l = are.long in omega (arith, within, l)))
-    there i (inr apart) less =
-        let before : i < n = omega (arith, less, apart) in
-        let r = rise i n before inside in
-        get_or-set_other all (get_or numbers n 0) (get_or numbers i 0) (get_or values n 0) 0 (λ same. omega (arith, r, same)) ∙ are.at i before
+  pub spread_by_are : (values all : List ℕ) → length values ≡ length numbers → all ≡ spread_by count 0 numbers values → AreSpread numbers count values all
+  spread_by_are values all long is = subst (AreSpread numbers count values) (sym is) (record {
+    long = spread_long 0 places values;
+    at = λ i i_in. spread_at 0 places apart values i long i_in;
+    elsewhere = λ m none. spread_nowhere 0 places values m none;
+  })
 
-pub spread_whole : (numbers : List ℕ) (count : ℕ) (values all : List ℕ) (n : ℕ) → n ≡ length numbers → AreSpreadUpTo numbers count values n all → AreSpread numbers count values all
-spread_whole numbers count values all n same are = record {
-  long = are.long;
-  at = λ i less. are.at i (omega (arith, less, same));
-  elsewhere = λ m other. are.elsewhere m (λ i less. other i (omega (arith, less, same)));
-}
+module _ (numbers all own : List ℕ) (is : own ≡ map (slice_index all) numbers) where
+  pub picked_long : length own ≡ length numbers
+  picked_long = subst (λ (l : List ℕ). length l ≡ length numbers) (sym is) (length-map numbers (slice_index all))
+
+  pub picked_each : (i : ℕ) → i < length numbers → slice_index own i ≡ slice_index all (slice_index numbers i)
+  picked_each i i_in = subst (λ (l : List ℕ). slice_index l i ≡ slice_index all (slice_index numbers i)) (sym is) (get_or-map (slice_index all) numbers i 0 0 i_in)

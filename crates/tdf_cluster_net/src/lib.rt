@@ -4,7 +4,6 @@
 //! - `grouping`: the numbers of the things of all clusters.
 //! - `net`: the net of a cluster.
 //! - `made`: how it is made of what is the cluster's own.
-//! - `spreading`: values of the cluster's own things in lists of the whole net, and back.
 //! - `whole`: what is told of the own net, with the numbers of the whole net.
 #![tactic(auto)]
 
@@ -12,8 +11,8 @@ mod grouping;
 mod made;
 mod net;
 mod numbers;
-mod spreading;
 mod whole;
 
 pub use grouping::Groups;
 pub use net::ClusterNet;
+pub use numbers::place_in;

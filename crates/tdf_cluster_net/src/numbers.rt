@@ -37,8 +37,8 @@ fn looked_up(numbers: &[u32], number: u32) -> Option<usize>
     None
 }
 
-/// A place of a number. One that is in turn, or among rising ones, takes no look at each.
-pub(crate) fn place_in(numbers: &[u32], number: u32) -> Option<usize>
+/// A place of a number among some. One that is in turn, or among rising ones, takes no look at each.
+pub fn place_in(numbers: &[u32], number: u32) -> Option<usize>
     ensures inside { IfSome result (λ i. i < length numbers.now) }
     ensures is { IfSome result (λ i. slice_index numbers.now i ≡ number) }
     ensures none { result ≡ None → (i : ℕ) → i < length numbers.now

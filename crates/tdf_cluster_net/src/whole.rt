@@ -8,11 +8,11 @@ ghost use Rattle.tdf_cluster_net.specs.Whole.{IsWholePlan, whole_balance, whole_
 
 use crate::net::ClusterNet;
 use crate::numbers::place_of;
-use crate::spreading::{picked, spread, spread_bounds};
 use std::alloc::Global;
 use tdf_balance::BalanceErr;
 use tdf_base::Memory;
 use tdf_graph::Net;
+use tdf_places::Sparse;
 use tdf_schedule::{Entry, Plan, PlanErr};
 use tdf_timestep::{Assign, StepErr, Steps};
 
@@ -81,6 +81,16 @@ fn own_assign(net: &ClusterNet, assign: &Assign) -> Assign
         port: place_if(net.ports, assign.port),
         step: assign.step,
     }
+}
+
+/// A list of `count` numbers that has values at some places, and 0 elsewhere.
+fn spread(values: Sparse, numbers: &[u32], count: usize) -> Sparse
+    requires long { length values.items ≡ length numbers.now }
+    requires within { AllBelow count numbers.now }
+    requires rising { Rise numbers.now }
+    ensures { AreSpread numbers.now count values.items result.items }
+{
+    values.spread(numbers, count)
 }
 
 impl<'g> ClusterNet<'g> {
@@ -159,46 +169,42 @@ impl<'g> ClusterNet<'g> {
     ///
     /// # Errors
     /// Out of memory.
-    pub fn spread(&self, alloc: Global, count: usize, values: &[u64]) -> Result<Vec<u64>, Memory>
+    pub fn spread(&self, alloc: Global, count: usize, values: &[u64]) -> Result<Sparse, Memory>
         requires long { length values.now ≡ length self.now.actor_numbers }
         requires within { AllBelow count self.now.actor_numbers }
         requires rising { Rise self.now.actor_numbers }
         ensures { IfOk result (λ all. AreSpread self.now.actor_numbers count values.now all.items) }
     {
-        spread(alloc, self.actors, count, values)
+        let own = Sparse::of(alloc, values)?;
+        Ok(spread(own, self.actors, count))
     }
 
     /// The values of the cluster's actors from a list of all.
     ///
     /// # Errors
     /// Out of memory.
-    pub fn picked(&self, alloc: Global, all: &[u64]) -> Result<Vec<u64>, Memory>
-        requires { AllBelow (length all.now) self.now.actor_numbers }
+    pub fn picked(&self, alloc: Global, all: &Sparse) -> Result<Vec<u64>, Memory>
         ensures long { IfOk result (λ values. length values.items ≡ length self.now.actor_numbers) }
         ensures each { IfOk result (λ values. (i : ℕ) → i < length self.now.actor_numbers
             → slice_index values.items i
-            ≡ slice_index all.now (slice_index self.now.actor_numbers i)) }
+            ≡ slice_index all.now.items (slice_index self.now.actor_numbers i)) }
     {
-        picked(alloc, self.actors, all)
+        all.gather(alloc, self.actors)
     }
 
     /// Steps of the cluster's actors among those of `count` actors.
-    ///
-    /// # Errors
-    /// Out of memory.
-    pub fn spread_steps(&self, alloc: Global, count: usize, steps: &Steps) -> Result<Steps, Memory>
-        requires long { length steps.now.actor_steps.items ≡ length self.now.actor_numbers }
+    pub fn spread_steps(&self, count: usize, steps: Steps) -> Steps
+        requires long { length steps.actor_steps.items ≡ length self.now.actor_numbers }
         requires within { AllBelow count self.now.actor_numbers }
         requires rising { Rise self.now.actor_numbers }
-        ensures period { IfOk result (λ whole. whole.period ≡ steps.now.period) }
-        ensures steps { IfOk result (λ whole. AreSpread self.now.actor_numbers count
-            steps.now.actor_steps.items whole.actor_steps.items) }
+        ensures period { result.period ≡ steps.period }
+        ensures steps { AreSpread self.now.actor_numbers count
+            steps.actor_steps.items result.actor_steps.items }
     {
-        let actor_steps = self.spread(alloc, count, &steps.actor_steps)?;
-        Ok(Steps {
+        Steps {
             period: steps.period,
-            actor_steps,
-        })
+            actor_steps: spread(steps.actor_steps, self.actors, count),
+        }
     }
 
     /// The steps of the cluster's actors from those of all.
@@ -206,7 +212,6 @@ impl<'g> ClusterNet<'g> {
     /// # Errors
     /// Out of memory.
     pub fn picked_steps(&self, alloc: Global, steps: &Steps) -> Result<Steps, Memory>
-        requires { AllBelow (length steps.now.actor_steps.items) self.now.actor_numbers }
         ensures period { IfOk result (λ own. own.period ≡ steps.now.period) }
         ensures long { IfOk result (λ own.
             length own.actor_steps.items ≡ length self.now.actor_numbers) }
@@ -214,7 +219,7 @@ impl<'g> ClusterNet<'g> {
             → slice_index own.actor_steps.items i
             ≡ slice_index steps.now.actor_steps.items (slice_index self.now.actor_numbers i)) }
     {
-        let actor_steps = self.picked(alloc, &steps.actor_steps)?;
+        let actor_steps = steps.actor_steps.picked(alloc, self.actors)?;
         Ok(Steps {
             period: steps.period,
             actor_steps,
@@ -222,29 +227,18 @@ impl<'g> ClusterNet<'g> {
     }
 
     /// A plan with the numbers of the whole net, which has `count` edges.
-    ///
-    /// # Errors
-    /// Out of memory.
-    pub fn whole_plan(&self, alloc: Global, count: usize, plan: Plan) -> Result<Plan, Memory>
+    pub fn whole_plan(&self, count: usize, plan: Plan) -> Plan
         requires long { length plan.bounds.items ≡ length self.now.edge_numbers }
         requires within { AllBelow count self.now.edge_numbers }
         requires rising { Rise self.now.edge_numbers }
-        ensures { IfOk result (IsWholePlan self.now count plan) }
+        ensures { IsWholePlan self.now count plan result }
     {
-        let bounds = match spread_bounds(alloc, self.edges, count, &plan.bounds) {
-            Ok(bounds) => bounds,
-            Err(refused) => {
-                drop(plan);
-                return Err(refused);
-            }
-        };
         let mut entries = plan.entries;
         rename_entries(self.actors, &mut entries);
-        drop(plan.bounds);
-        Ok(Plan {
+        Plan {
             entries,
-            bounds,
+            bounds: spread(plan.bounds, self.edges, count),
             period: plan.period,
-        })
+        }
     }
 }

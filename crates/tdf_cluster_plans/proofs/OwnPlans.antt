@@ -194,13 +194,13 @@ module _ (tables : FlatTablesOf) (cluster : ℕ) (table : List AttrsOf) (own : O
   abbrev all_net : NetOf
   all_net = net_of tables table
 
-  pub own_timing : (counts : List ℕ) (steps : Steps) → HasTiming tables all_net cluster table counts steps → (there own_counts : List ℕ) → there ≡ counts → length own_counts ≡ length own.actor_numbers
-      → ((i : ℕ) → i < length own.actor_numbers → slice_index own_counts i ≡ slice_index there (slice_index own.actor_numbers i))
+  pub own_timing : (counts : List ℕ) (steps : Steps) → HasTiming tables all_net cluster table counts steps → (own_counts : List ℕ) → length own_counts ≡ length own.actor_numbers
+      → ((i : ℕ) → i < length own.actor_numbers → slice_index own_counts i ≡ slice_index counts (slice_index own.actor_numbers i))
       → (own_steps : Steps) → length own_steps.actor_steps.items ≡ length own.actor_numbers
       → ((i : ℕ) → i < length own.actor_numbers → slice_index own_steps.actor_steps.items i ≡ slice_index steps.actor_steps.items (slice_index own.actor_numbers i))
       → own_steps.period ≡ steps.period → IsOwnTiming own (length all_net.actors) counts steps own_counts own_steps
-  own_timing counts steps has there own_counts same long each own_steps steps_long steps_each period = record {
-    spread = counts_picked tables cluster table own net counts own_counts has.counts_are (λ i less. each i less ∙ ap (λ (l : List ℕ). slice_index l (slice_index own.actor_numbers i)) same);
+  own_timing counts steps has own_counts long each own_steps steps_long steps_each period = record {
+    spread = counts_picked tables cluster table own net counts own_counts has.counts_are each;
     long = long;
     spread_steps = steps_picked tables cluster table own net counts steps own_steps.actor_steps.items has.counts_are has.steps_are steps_each;
     steps_long = steps_long;

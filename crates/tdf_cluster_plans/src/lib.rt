@@ -4,7 +4,7 @@
 //! - `own_parts`: what is a cluster's own.
 //! - `own_timing`: the first phase by the own net of the cluster, counts and steps.
 //! - `own_planning`: the second phase by it, the plan.
-//! - `own_rates`: the rates of edges under a table of one cluster.
+//! - `own_rates`: the rates of own edges under a table, by place.
 //! - `plans`: the plan under a table, or the first fault.
 #![tactic(auto)]
 
@@ -17,6 +17,6 @@ mod plans;
 
 pub use groups::TableGroups;
 pub use own_planning::make_plan;
-pub use own_rates::{cluster_rates, set_own_rates};
+pub use own_rates::set_own_rates;
 pub use own_timing::cluster_timing;
 pub use plans::{own_net, table_plan};

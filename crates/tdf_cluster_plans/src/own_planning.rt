@@ -38,7 +38,7 @@ fn own_plan_of(
     let counts = own.picked(alloc, &timing.counts)?;
     let steps = own.picked_steps(alloc, &timing.steps)?;
     match plan(alloc, own.net(), &counts, &steps) {
-        Ok(plan) => Ok(own.whole_plan(alloc, tables.edges.len(), plan)?),
+        Ok(plan) => Ok(own.whole_plan(tables.edges.len(), plan)),
         Err(why) => Err(plan_error(alloc, tables, table, own.whole_planning(why))),
     }
 }

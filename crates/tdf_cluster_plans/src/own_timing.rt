@@ -17,6 +17,7 @@ use tdf_cluster_net::ClusterNet;
 use tdf_dynamic_plans::{
     ChangeErr, ModuleAttrs, Timing, assignments, balance_error, ones, step_error,
 };
+use tdf_places::Sparse;
 use tdf_timestep::{Assign, Steps, steps};
 
 /// The counts of a cluster by its own net, or the fault that it has none.
@@ -26,7 +27,7 @@ fn own_counts(
     own: &ClusterNet,
     cluster: u32,
     table: &[ModuleAttrs],
-) -> Result<Vec<u64>, ChangeErr>
+) -> Result<Sparse, ChangeErr>
     requires in_range { AreInRange tables.now }
     requires net { IsNetOfCluster tables.now cluster table.now own.now }
     ensures counts { IfOk result (λ counts. HasCountsOf tables.now (net_of tables.now table.now) cluster counts.items) }
@@ -51,22 +52,22 @@ fn own_steps_by(
     tables: &FlatTables,
     own: &ClusterNet,
     cluster: u32,
-    counts: &[u64],
+    counts: &Sparse,
     table: &[ModuleAttrs],
     assigned: &[Assign],
 ) -> Result<Steps, ChangeErr>
     requires net { IsNetOfCluster tables.now cluster table.now own.now }
     requires are { assigned.now ≡ assignments table.now }
-    requires counts { HasCountsOf tables.now (net_of tables.now table.now) cluster counts.now }
-    requires assigned { All (IsAssigned (net_of tables.now table.now).ports counts.now) assigned.now }
-    ensures steps { IfOk result (HasStepsOf (net_of tables.now table.now) table.now counts.now) }
-    ensures refused { IfErr result (IsRefusal (IsPeriodFault tables.now (net_of tables.now table.now) table.now counts.now)) }
+    requires counts { HasCountsOf tables.now (net_of tables.now table.now) cluster counts.now.items }
+    requires assigned { All (IsAssigned (net_of tables.now table.now).ports counts.now.items) assigned.now }
+    ensures steps { IfOk result (HasStepsOf (net_of tables.now table.now) table.now counts.now.items) }
+    ensures refused { IfErr result (IsRefusal (IsPeriodFault tables.now (net_of tables.now table.now) table.now counts.now.items)) }
 {
     let own_counts = own.picked(alloc, counts)?;
     let own_assigned = own.own_assigned(alloc, assigned)?;
     row_number(own_assigned.len())?;
     match steps(alloc, own.net(), &own_counts, &own_assigned) {
-        Ok(steps) => Ok(own.spread_steps(alloc, counts.len(), &steps)?),
+        Ok(steps) => Ok(own.spread_steps(counts.len(), steps)),
         Err(why) => Err(step_error(alloc, tables, table, assigned, own.whole_timing(why))),
     }
 }
@@ -77,14 +78,14 @@ fn own_steps_or(
     tables: &FlatTables,
     own: &ClusterNet,
     cluster: u32,
-    counts: &[u64],
+    counts: &Sparse,
     table: &[ModuleAttrs],
 ) -> Result<Steps, ChangeErr>
     requires net { IsNetOfCluster tables.now cluster table.now own.now }
-    requires counts { HasCountsOf tables.now (net_of tables.now table.now) cluster counts.now }
-    requires assigned { All (IsAssigned (net_of tables.now table.now).ports counts.now) (assignments table.now) }
-    ensures steps { IfOk result (HasStepsOf (net_of tables.now table.now) table.now counts.now) }
-    ensures refused { IfErr result (IsRefusal (IsPeriodFault tables.now (net_of tables.now table.now) table.now counts.now)) }
+    requires counts { HasCountsOf tables.now (net_of tables.now table.now) cluster counts.now.items }
+    requires assigned { All (IsAssigned (net_of tables.now table.now).ports counts.now.items) (assignments table.now) }
+    ensures steps { IfOk result (HasStepsOf (net_of tables.now table.now) table.now counts.now.items) }
+    ensures refused { IfErr result (IsRefusal (IsPeriodFault tables.now (net_of tables.now table.now) table.now counts.now.items)) }
 {
     let assigned = assignments(alloc, table)?;
     let found = own_steps_by(alloc, tables, own, cluster, counts, table, &assigned);

@@ -25,11 +25,7 @@ struct Timed<'a> {
 fn module_step(steps: &Steps, module: u32) -> u64
     ensures { result ≡ step_of_module steps.now «module» }
 {
-    let place = module as usize;
-    if place < steps.actor_steps.len() {
-        return steps.actor_steps[place];
-    }
-    0
+    steps.actor_steps.get(module as usize)
 }
 
 /// The time from one sample of a port to the next.

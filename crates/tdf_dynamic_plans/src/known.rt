@@ -128,7 +128,7 @@ fn copy_of(alloc: Global, plan: &Plan) -> Result<Plan, Memory>
     ensures { IfOk result (HasSameItems plan.now) }
 {
     let entries = Vec::from_slice(alloc, &plan.entries)?;
-    let bounds = Vec::from_slice(alloc, &plan.bounds)?;
+    let bounds = plan.bounds.copy(alloc)?;
     Ok(Plan {
         entries,
         bounds,

@@ -4,13 +4,14 @@ ghost use Rattle.std.specs.Prelude.{◌≡◌, IfOk};
 
 use std::alloc::Global;
 use tdf_base::Memory;
+use tdf_places::Sparse;
 use tdf_timestep::Steps;
 
 /// The counts, the period and the steps of a cluster.
 #[derive(Drop)]
 pub struct Timing {
     /// How often each actor fires in a period, 0 for the actors of other clusters.
-    pub counts: Vec<u64>,
+    pub counts: Sparse,
     /// The period and the steps.
     pub steps: Steps,
 }
@@ -26,8 +27,8 @@ impl Timing {
             ≡ self.now.steps.actor_steps.items) }
         ensures period { IfOk result (λ t. t.steps.period ≡ self.now.steps.period) }
     {
-        let counts = Vec::from_slice(alloc, &self.counts)?;
-        let actor_steps = Vec::from_slice(alloc, &self.steps.actor_steps)?;
+        let counts = self.counts.copy(alloc)?;
+        let actor_steps = self.steps.actor_steps.copy(alloc)?;
         Ok(Timing {
             counts,
             steps: Steps {

@@ -1,10 +1,12 @@
-//! How often each actor fires in a plan.
+//! How often each actor of a cluster fires in a plan.
 
-ghost use Rattle.std.specs.Prelude.{◌≡◌, ◌<◌, ◌+◌, ◌^◌, IfOk, length, replicate, slice_index, slice_set};
-ghost use Rattle.tdf_dynamic_texts.specs.views.Counted.{AreCounted};
+ghost use Rattle.std.specs.Prelude.{◌≡◌, ◌<◌, ◌+◌, ◌^◌, ℕ, IfOk, length, replicate, slice_index};
+ghost use Rattle.tdf_cluster_net.specs.Numbers.{Rise};
+ghost use Rattle.tdf_dynamic_texts.specs.views.Counted.{AreCounted, HasOneMore};
 
 use std::alloc::Global;
 use tdf_base::Memory;
+use tdf_cluster_net::place_in;
 use tdf_schedule::Entry;
 
 fn no_counts(alloc: Global, actors: usize) -> Result<Vec<u64>, Memory>
@@ -13,26 +15,29 @@ fn no_counts(alloc: Global, actors: usize) -> Result<Vec<u64>, Memory>
     Ok(vec![in alloc; 0; actors]?)
 }
 
-/// One firing more of an actor; a number that is none of an actor's changes nothing.
-fn count_one(counts: &mut Vec<u64>, actor: usize)
-    requires { slice_index counts.old.items actor + 1 < 2 ^ 64 }
-    ensures { counts.new.items ≡ slice_set counts.old.items actor (slice_index counts.old.items actor + 1) }
+/// One firing more of an actor; a number that is none of these changes nothing.
+fn count_one(numbers: &[u32], counts: &mut Vec<u64>, actor: u32)
+    requires long { length counts.old.items ≡ length numbers.now }
+    requires rising { Rise numbers.now }
+    requires few { (i : ℕ) → slice_index counts.old.items i + 1 < 2 ^ 64 }
+    ensures { HasOneMore numbers.now actor counts.old.items counts.new.items }
 {
-    if actor < counts.len() {
-        counts[actor] += 1;
+    if let Some(place) = place_in(numbers, actor) {
+        counts[place] += 1;
     }
 }
 
-/// How often each actor fires in these entries.
+/// How often the actor with each of these numbers fires in these entries.
 ///
 /// # Errors
 /// Out of memory.
-pub(crate) fn counted(alloc: Global, actors: usize, entries: &[Entry]) -> Result<Vec<u64>, Memory>
-    ensures { IfOk result (λ counts. AreCounted actors entries.now counts.items) }
+pub(crate) fn counted(alloc: Global, numbers: &[u32], entries: &[Entry]) -> Result<Vec<u64>, Memory>
+    requires { Rise numbers.now }
+    ensures { IfOk result (λ counts. AreCounted numbers.now entries.now counts.items) }
 {
-    let mut counts = no_counts(alloc, actors)?;
+    let mut counts = no_counts(alloc, numbers.len())?;
     for seen in 0..entries.len() {
-        count_one(&mut counts, entries[seen].actor as usize);
+        count_one(numbers, &mut counts, entries[seen].actor);
     }
     Ok(counts)
 }

@@ -4,7 +4,7 @@ ghost use Rattle.std.specs.List.{flat_map, range_with_len};
 ghost use Rattle.std.specs.Prelude.{◌≡◌, ◌<◌, ◌++◌, ◌/◌, [], All, OnErr, OnOk, length, slice_index_or, take};
 ghost use Rattle.tdf_bind_tables.specs.Ranges.{AreInRange};
 ghost use Rattle.tdf_cluster_plans.specs.Groups.{AreTableGroups};
-ghost use Rattle.tdf_dynamic_texts.specs.Plans.{accepted_line, actor_line, actor_text, cluster_line, edge_line, edge_text, fire_line, fires_text, plan_text, rows_of_plan};
+ghost use Rattle.tdf_dynamic_texts.specs.Plans.{accepted_line, actor_line, actor_text, cluster_line, edge_line, edge_text, fire_line, fires_text, firings_of, plan_text, rows_of_plan};
 ghost use Rattle.tdf_dynamic_texts.specs.views.Counted.{AreCounted};
 ghost use Rattle.tdf_dynamic_texts.specs.views.Numbered.{AreActorNumbers, AreEdgeNumbers};
 
@@ -67,7 +67,7 @@ fn push_edge_line(
     out: &mut Vec<u8>,
     path: &SharedPath,
     delay: u32,
-    bound: u32,
+    bound: u64,
 ) -> Result<(), Memory>
     ensures ok { OnOk result (out.new.items ≡ out.old.items ++ edge_line path.now delay bound) }
     ensures kept { take (length out.old.items) out.new.items ≡ out.old.items }
@@ -77,7 +77,7 @@ fn push_edge_line(
     push_word(out, b" delay ")?;
     push_number(out, u64::from(delay))?;
     push_word(out, b" bound ")?;
-    push_number(out, u64::from(bound))?;
+    push_number(out, bound)?;
     push_word(out, b"\n")
 }
 
@@ -115,18 +115,17 @@ fn step_of(period: u64, count: u64) -> u64
 struct ActorLines<'a> {
     flat: &'a FlatTables,
     plan: &'a Plan,
-    /// How often each actor of the model fires in the plan.
+    /// How often each actor of the cluster fires in the plan, in order.
     counts: &'a [u64],
     cluster: u32,
     unit: Resolution,
 }
 
-/// Appends the line of an actor, if it is one of the cluster.
-fn push_actor(out: &mut Vec<u8>, lines: &ActorLines, place: usize) -> Result<(), Memory>
+/// Appends the line of an actor, if it is one of the cluster, which fires so often in the plan.
+fn push_actor(out: &mut Vec<u8>, lines: &ActorLines, place: usize, count: u64) -> Result<(), Memory>
     requires range { AreInRange lines.now.flat.now }
     requires place { place < length lines.now.flat.now.actors }
-    requires counts { AreCounted (length lines.now.flat.now.actors) lines.now.plan.now.entries.items
-        lines.now.counts.now }
+    requires count { count ≡ firings_of lines.now.plan.now.entries.items place }
     ensures ok { OnOk result (out.new.items ≡ out.old.items
         ++ actor_text lines.now.unit lines.now.flat.now (rows_of_plan lines.now.plan.now)
         lines.now.cluster place) }
@@ -137,7 +136,6 @@ fn push_actor(out: &mut Vec<u8>, lines: &ActorLines, place: usize) -> Result<(),
         return Ok(());
     }
     let path = flat.actor_path(row_number(place)?);
-    let count = lines.counts[place];
     let step = step_of(lines.plan.period, count);
     push_actor_line(out, path, count, step, lines.unit)
 }
@@ -161,14 +159,13 @@ fn push_edge(
         return Ok(());
     }
     let path = flat.edge_path(row_number(place)?);
-    push_edge_line(out, path, row.initial, plan.bounds[place])
+    push_edge_line(out, path, row.initial, plan.bounds.get(place))
 }
 
 /// Appends the lines of the actors of a cluster, which have these numbers.
 fn push_actors(out: &mut Vec<u8>, lines: &ActorLines, numbers: &[u32]) -> Result<(), Memory>
     requires range { AreInRange lines.now.flat.now }
-    requires counts { AreCounted (length lines.now.flat.now.actors) lines.now.plan.now.entries.items
-        lines.now.counts.now }
+    requires counts { AreCounted numbers.now lines.now.plan.now.entries.items lines.now.counts.now }
     requires numbers { AreActorNumbers lines.now.flat.now lines.now.cluster numbers.now }
     ensures ok { OnOk result (out.new.items ≡ out.old.items
         ++ flat_map (actor_text lines.now.unit lines.now.flat.now
@@ -177,7 +174,7 @@ fn push_actors(out: &mut Vec<u8>, lines: &ActorLines, numbers: &[u32]) -> Result
     ensures kept { take (length out.old.items) out.new.items ≡ out.old.items }
 {
     for i in 0..numbers.len() {
-        push_actor(out, lines, numbers[i] as usize)?;
+        push_actor(out, lines, numbers[i] as usize, lines.counts[i])?;
     }
     Ok(())
 }
@@ -243,7 +240,8 @@ fn push_plan_lines(
     ensures kept { take (length out.old.items) out.new.items ≡ out.old.items }
 {
     let alloc = *out.allocator();
-    let counts = counted(alloc, flat.actors.len(), &plan.entries)?;
+    let numbers = actors_of(groups, cluster);
+    let counts = counted(alloc, numbers, &plan.entries)?;
     push_cluster_line(out, cluster, time, plan, unit)?;
     let lines = ActorLines {
         flat,
@@ -252,7 +250,7 @@ fn push_plan_lines(
         cluster,
         unit,
     };
-    push_actors(out, &lines, actors_of(groups, cluster))?;
+    push_actors(out, &lines, numbers)?;
     push_edges(out, flat, plan, cluster, edges_of(groups, cluster))
 }
 

@@ -1,42 +1,35 @@
 -- The edges and actors of other clusters stand at no place of a cluster's own, and nothing is kept for them.
-use Rattle.std.proofs.Common.{◌≡◌, ◌≢◌, ◌∙◌, ◌⊎◌, inl, inr, ℕ, ◌<◌, ◌≤◌, ℤ, Bool, if◌then◌else◌, List, [], Some, length, map, sym, ap, subst, arith}
-use Rattle.std.proofs.lemmas.Bool.{cases_lt, ne_eqb}
-use Rattle.std.proofs.lemmas.List.{length-map}
-use Rattle.std.proofs.lemmas.Option.{get_or_from_slice_get, slice_get_within}
+use Rattle.std.proofs.Common.{◌≡◌, ◌≢◌, ◌∙◌, ◌⊎◌, inl, inr, ℕ, ◌<◌, ◌≤◌, ℤ, Bool, if◌then◌else◌, List, [], Some, length, map, refl, sym, ap, subst, arith}
+use Rattle.std.proofs.Math.ListN.{get_or}
+use Rattle.std.proofs.lemmas.Bool.{eq-eqb, ne_eqb}
+use Rattle.std.proofs.lemmas.List.{get_or_default, length-map}
+use Rattle.std.proofs.lemmas.Option.{slice_get_within}
 use Rattle.std.specs.Prelude.{Contains, slice_get, slice_index, slice_index_or}
 use Rattle.tdf_bind.specs.declared.model.Flat.{Flat}
 use Rattle.tdf_bind_connections.specs.declared.edges.EdgeRow.{EdgeRow}
 use Rattle.tdf_bind_tables.specs.Actors.{cluster_of}
 use Rattle.tdf_bind_tables.specs.FlatTables.{FlatTablesOf}
-use Rattle.tdf_cluster_net.specs.Numbers.{AreNumbers}
+use Rattle.tdf_cluster_net.specs.Numbers.{AllBelow, AreNumbers}
 use Rattle.tdf_cluster_plans.proofs.Api.{reads_elsewhere, writes_elsewhere}
 use Rattle.tdf_cluster_plans.specs.Groups.{AreOnesElsewhere, AreTableGroups, TableGroupsOf, edge_cluster}
 use Rattle.tdf_dynamic_first.specs.declared.first.First.{First}
 use Rattle.tdf_dynamic_plans.specs.Attributes.{AttrsOf, clusters_of}
 use Rattle.tdf_dynamic_plans.specs.Rates.{net_of}
 use Rattle.tdf_exec.proofs.EndPorts.{ports_inside}
-use Rattle.tdf_exec.proofs.Moved.{some_inj}
 use Rattle.tdf_exec.proofs.Numbered.{actors_here}
 use Rattle.tdf_exec.proofs.Others.{no_room}
 use Rattle.tdf_exec.proofs.Rows.{index_at}
-use Rattle.tdf_exec.proofs.Taking.{outside}
-use Rattle.tdf_exec.specs.Made.{sampler_runners_before}
-use Rattle.tdf_exec.specs.declared.runners.Runner.{Runner}
-use Rattle.tdf_exec.specs.declared.runners.Runner.TheVariants as runner
-use Rattle.tdf_exec.specs.machine.Laid.{AreOutsideElsewhere, AreRunnersOf, HoldNothingElsewhere, IsLaid}
-use Rattle.tdf_exec.specs.machine.Starting.{IsFirstRunner}
-use Rattle.tdf_exec.specs.machine.Tracing.{with_traced}
-use Rattle.tdf_exec.specs.Traced.{traced_port}
-use Rattle.tdf_exec.specs.views.Actors.{kept_at}
+use Rattle.tdf_exec.specs.machine.Laid.{HoldNothingElsewhere, IsLaid}
+use Rattle.tdf_exec_firing.specs.Edges.{EdgesOf}
 use Rattle.tdf_exec_layout.specs.Samples.{edge_format}
-use Rattle.tdf_exec_layout.specs.Traced.{traced_ports}
 use Rattle.tdf_exec_parts.proofs.Api.{in_groups}
 use Rattle.tdf_exec_parts.specs.Below.{IsTableFirst}
 use Rattle.tdf_exec_parts.specs.Restored.{AreStateRings, samples_by}
-use Rattle.tdf_exec_parts.specs.Rings.{AreFirstRings}
+use Rattle.tdf_exec_parts.specs.Rings.{AreFirstRings, AreOwnFirstRings, FitAtFirst, list_of}
 use Rattle.tdf_exec_parts.specs.States.{place_of_edge}
-use Rattle.tdf_expr_state.specs.State.{FrameState}
-use Rattle.tdf_places.specs.Places.{AreDistinct, IsNowhere, PlacesOf}
+use Rattle.tdf_places.proofs.Api.{gathered, rising_apart, spread_at, spread_elsewhere, spread_long, stands}
+use Rattle.tdf_places.specs.Places.{AreDistinct, PlacesOf, StandApart}
+use Rattle.tdf_places.specs.Spread.{spread}
 use Rattle.tdf_rings.specs.Carried.{ring_at}
 use Rattle.tdf_rings.specs.Rings.{RingOf, ring_of}
 use Rattle.tdf_streams.proofs.Api.{get_inside}
@@ -44,16 +37,17 @@ use Rattle.tdf_streams.specs.Cluster.{initial_list}
 use Rattle.tdf_streams.specs.Periods.{read_rates, write_rates}
 use Rattle.tdf_streams.specs.Places.{writer_of_row}
 
+abbrev pub edges_by : List ℕ → List ℕ → List RingOf → EdgesOf
+edges_by reads writes rings = record { reads = reads; writes = writes; rings = rings }
+
+abbrev pub places_by : List ℕ → ℕ → PlacesOf
+places_by numbers count = record { numbers = numbers; count = count }
+
 -- ---- the numbers of a cluster's own things
 
 -- rising numbers are different
 distinct : (count : ℕ) (IsMeant : ℕ → Type 0) (numbers : List ℕ) → AreNumbers count IsMeant numbers → AreDistinct count numbers
-distinct count IsMeant numbers are = record { within = are.within; once = λ i j i_in j_in same. go i j i_in j_in same (cases_lt i j) (cases_lt j i) }
-  where
-    go : (i j : ℕ) → i < length numbers → j < length numbers → slice_index numbers i ≡ slice_index numbers j → (i < j) ⊎ (j ≤ i) → (j < i) ⊎ (i ≤ j) → i ≡ j
-    go i j i_in j_in same (inl below) q = absurd (let r = are.rising i j below j_in in omega (arith, r, same))
-    go i j i_in j_in same (inr low) (inl below) = absurd (let r = are.rising j i below i_in in omega (arith, r, same))
-    go i j i_in j_in same (inr low) (inr high) = omega (arith, low, high)
+distinct count IsMeant numbers are = rising_apart count numbers are.within are.rising
 
 pub in_edges : (tables : FlatTablesOf) (cluster : ℕ) (groups : TableGroupsOf) → Contains (clusters_of tables) cluster → AreTableGroups tables groups → cluster < length groups.edges
 in_edges tables cluster groups has given = subst (λ n. cluster < n) (sym given.edges.long) (in_groups tables groups cluster has given)
@@ -79,17 +73,89 @@ module _ (tables : FlatTablesOf) (cluster : ℕ) (groups : TableGroupsOf) (has :
         let among = own_edges.all e (let w = slice_get_within tables.edges e edge at in let l = many_edges in omega (arith, w, l)) (index_at (edge_cluster (clusters_of tables)) tables.edges e edge at ∙ own) in
         none among.0 among.1 among.2
 
-    pub edges_elsewhere : (places : PlacesOf) (count : ℕ) → count ≡ length tables.edges → places ≡ record { numbers = numbers; count = count } → (reads writes : List ℕ) (rings : List RingOf)
-        → AreOnesElsewhere tables cluster reads → AreOnesElsewhere tables cluster writes → HoldNothingElsewhere tables cluster rings
-        → (m : ℕ) → m < places.count → IsNowhere places m → (slice_index reads m ≡ 1) × (slice_index writes m ≡ 1) × (ring_at rings m ≡ ring_of [] 0)
-    edges_elsewhere places count whole is reads writes rings r w h =
-        subst (λ (p : PlacesOf). (m : ℕ) → m < p.count → IsNowhere p m → (slice_index reads m ≡ 1) × (slice_index writes m ≡ 1) × (ring_at rings m ≡ ring_of [] 0)) (sym is) each
+    -- an edge of the model that stands at no place
+    other_at : (m : ℕ) → m < length tables.edges → ((i : ℕ) → i < length numbers → slice_index numbers i ≢ m)
+        → (row : EdgeRow) × (slice_get tables.edges m ≡ Some row) × (edge_cluster (clusters_of tables) row ≢ cluster)
+    other_at m below none = let row = get_inside tables.edges m below in (row.0, row.1, other_edge m row.0 row.1 none)
+
+    abbrev own_places : PlacesOf
+    own_places = places_by numbers (length tables.edges)
+
+    apart : StandApart own_places
+    apart = edges_distinct (length tables.edges) refl
+
+    pub own_below : AllBelow (length tables.edges) numbers
+    own_below i less = apart.within i less
+
+    -- an edge that stands at a place is one of the cluster
+    own_writer : (i : ℕ) → i < length numbers → (edge : EdgeRow) → slice_get tables.edges (slice_index numbers i) ≡ Some edge → edge_cluster (clusters_of tables) edge ≡ cluster
+    own_writer i less edge at = sym (index_at (edge_cluster (clusters_of tables)) tables.edges (slice_index numbers i) edge at) ∙ own_edges.meant i less
+
+    -- the rates of the own edges are those of all
+    rates_back : (rates own : List ℕ) → AreOnesElsewhere tables cluster rates → own ≡ map (slice_index rates) numbers → spread 1 own_places own ≡ rates
+    rates_back rates own r is =
+        ap (λ (l : List ℕ). spread 1 own_places l) is
+        ∙ gathered 1 0 own_places apart rates r.long (λ m inside none. one m inside (other_at m inside none))
       where
-        each : (m : ℕ) → m < count → ((i : ℕ) → i < length numbers → slice_index numbers i ≢ m) → (slice_index reads m ≡ 1) × (slice_index writes m ≡ 1) × (ring_at rings m ≡ ring_of [] 0)
-        each m below none =
-            let row = get_inside tables.edges m (omega (arith, below, whole)) in
-            let other = other_edge m row.0 row.1 none in
-            (r.ones m row.0 row.1 other, w.ones m row.0 row.1 other, h m row.0 row.1 other)
+        one : (m : ℕ) → m < length tables.edges → (row : EdgeRow) × (slice_get tables.edges m ≡ Some row) × (edge_cluster (clusters_of tables) row ≢ cluster) → get_or rates m 1 ≡ 1
+        one m inside row = get_or_default rates m 1 0 (let l = r.long in omega (arith, inside, l)) ∙ r.ones m row.0 row.1 row.2
+
+    pub edges_back : (places : PlacesOf) (count : ℕ) → count ≡ length tables.edges → places ≡ record { numbers = numbers; count = count } → (reads writes own_reads own_writes : List ℕ) (rings : List RingOf)
+        → AreOnesElsewhere tables cluster reads → AreOnesElsewhere tables cluster writes → own_reads ≡ map (slice_index reads) numbers → own_writes ≡ map (slice_index writes) numbers
+        → edges_by (spread 1 places own_reads) (spread 1 places own_writes) (spread (ring_of [] 0) places rings)
+        ≡ edges_by reads writes (spread (ring_of [] 0) (places_by (slice_index_or groups.edges cluster []) (length tables.edges)) rings)
+    edges_back places count whole is reads writes own_reads own_writes rings r w reads_are writes_are =
+        let here : places ≡ own_places = is ∙ ap (λ (n : ℕ). places_by numbers n) whole in
+        ap (λ (p : PlacesOf). edges_by (spread 1 p own_reads) (spread 1 p own_writes) (spread (ring_of [] 0) p rings)) here
+        ∙ ap (λ (l : List ℕ). edges_by l (spread 1 own_places own_writes) (spread (ring_of [] 0) own_places rings)) (rates_back reads own_reads r reads_are)
+        ∙ ap (λ (l : List ℕ). edges_by reads l (spread (ring_of [] 0) own_places rings)) (rates_back writes own_writes w writes_are)
+        ∙ ap (λ (l : List ℕ). edges_by reads writes (spread (ring_of [] 0) (places_by l (length tables.edges)) rings)) are
+
+    -- the rings of the own edges are those of all, where these hold nothing elsewhere
+    pub rings_back : (rings own : List RingOf) → length rings ≡ length tables.edges → HoldNothingElsewhere tables cluster rings → own ≡ map (ring_at rings) numbers
+        → spread (ring_of [] 0) (places_by (slice_index_or groups.edges cluster []) (length tables.edges)) own ≡ rings
+    rings_back rings own long nothing is =
+        ap (λ (l : List ℕ). spread (ring_of [] 0) (places_by l (length tables.edges)) own) (sym are)
+        ∙ ap (λ (l : List RingOf). spread (ring_of [] 0) own_places l) is
+        ∙ gathered (ring_of [] 0) (ring_of [] 0) own_places apart rings long (λ m inside none. held m (other_at m inside none))
+      where
+        held : (m : ℕ) → (row : EdgeRow) × (slice_get tables.edges m ≡ Some row) × (edge_cluster (clusters_of tables) row ≢ cluster) → ring_at rings m ≡ ring_of [] 0
+        held m row = nothing m row.0 row.1 row.2
+
+    module _ (bounds : List ℕ) where
+      -- the samples of an own edge have room
+      pub own_fits : FitAtFirst tables cluster bounds → (i : ℕ) (edge : EdgeRow) → i < length numbers → slice_get tables.edges (slice_index numbers i) ≡ Some edge
+          → length (initial_list tables edge) ≤ slice_index bounds (slice_index numbers i)
+      own_fits fits i edge less at =
+          subst (λ (b : Bool). length (if b then initial_list tables edge else []) ≤ slice_index bounds (slice_index numbers i))
+          (eq-eqb (edge_cluster (clusters_of tables) edge) cluster (own_writer i less edge at)) (fits.fits (slice_index numbers i) edge at)
+
+      -- the rings of the own edges at the start are those of all, where there is no room elsewhere
+      pub all_first : ((e : ℕ) (edge : EdgeRow) → slice_get tables.edges e ≡ Some edge → edge_cluster (clusters_of tables) edge ≢ cluster → slice_index bounds e ≡ 0) → (rings : List RingOf)
+          → AreOwnFirstRings tables bounds numbers (length numbers) rings
+          → AreFirstRings tables cluster bounds (length tables.edges) (spread (ring_of [] 0) (places_by (slice_index_or groups.edges cluster []) (length tables.edges)) rings)
+      all_first none rings own =
+          subst (λ (l : List ℕ). AreFirstRings tables cluster bounds (length tables.edges) (spread (ring_of [] 0) (places_by l (length tables.edges)) rings)) are (record {
+            long = spread_long (ring_of [] 0) own_places rings;
+            each = λ e edge less at. go e edge less at (stands numbers e);
+          })
+        where
+          go : (e : ℕ) (edge : EdgeRow) → e < length tables.edges → slice_get tables.edges e ≡ Some edge
+              → ((i : ℕ) × (i < length numbers) × (slice_index numbers i ≡ e)) ⊎ ((i : ℕ) → i < length numbers → slice_index numbers i ≢ e)
+              → ring_at (spread (ring_of [] 0) own_places rings) e ≡ ring_of (list_of tables cluster edge) (slice_index bounds e)
+          go e edge less at (inl found) =
+              let there : slice_get tables.edges (slice_index numbers found.0) ≡ Some edge = ap (slice_get tables.edges) found.2 ∙ at in
+              ap (ring_at (spread (ring_of [] 0) own_places rings)) (sym found.2)
+              ∙ spread_at (ring_of [] 0) own_places apart rings found.0 own.long found.1
+              ∙ own.each found.0 edge found.1 there
+              ∙ ap (λ (k : ℕ). ring_of (initial_list tables edge) (slice_index bounds k)) found.2
+              ∙ ap (λ (b : Bool). ring_of (if b then initial_list tables edge else []) (slice_index bounds e))
+              (sym (eq-eqb (edge_cluster (clusters_of tables) edge) cluster (own_writer found.0 found.1 edge there)))
+          go e edge less at (inr away) =
+              let other = other_edge e edge at away in
+              spread_elsewhere (ring_of [] 0) own_places rings e less away
+              ∙ ap (λ (b : ℕ). ring_of [] b) (sym (none e edge at other))
+              ∙ ap (λ (b : Bool). ring_of (if b then initial_list tables edge else []) (slice_index bounds e)) (sym (ne_eqb (edge_cluster (clusters_of tables) edge) cluster other))
 
   module _ (are : numbers ≡ slice_index_or groups.actors cluster []) where
     own_actors : AreNumbers (length (clusters_of tables)) (λ m. slice_index (clusters_of tables) m ≡ cluster) numbers
@@ -102,30 +168,10 @@ module _ (tables : FlatTablesOf) (cluster : ℕ) (groups : TableGroupsOf) (has :
     actors_distinct count is =
         subst (λ n. AreDistinct n numbers) (many_actors ∙ sym is) (distinct (length (clusters_of tables)) (λ m. slice_index (clusters_of tables) m ≡ cluster) numbers own_actors)
 
-    pub actors_elsewhere : (places : PlacesOf) (count : ℕ) → count ≡ length tables.actors → places ≡ record { numbers = numbers; count = count } → (runners : List Runner)
-        → length runners ≡ length tables.actors → AreOutsideElsewhere tables cluster runners
-        → (m : ℕ) → m < places.count → IsNowhere places m → kept_at runners m ≡ runner.Outside
-    actors_elsewhere places count whole is runners long out =
-        subst (λ (p : PlacesOf). (m : ℕ) → m < p.count → IsNowhere p m → kept_at runners m ≡ runner.Outside) (sym is) each
-      where
-        each : (m : ℕ) → m < count → ((i : ℕ) → i < length numbers → slice_index numbers i ≢ m) → kept_at runners m ≡ runner.Outside
-        each m below none =
-            let r = get_inside runners m (omega (arith, below, whole, long)) in
-            let other : slice_index (clusters_of tables) m ≢ cluster = (λ own.
-            (let among = own_actors.all m (let l = many_actors in omega (arith, below, whole, l)) own in
-            none among.0 among.1 among.2)) in
-            get_or_from_slice_get runners m r.0 runner.Outside r.1 ∙ out m r.0 r.1 other
-
 -- ---- what the edges of other clusters hold
 
 module _ (tables : FlatTablesOf) (cluster : ℕ) (bounds : List ℕ)
     (none : (e : ℕ) (edge : EdgeRow) → slice_get tables.edges e ≡ Some edge → edge_cluster (clusters_of tables) edge ≢ cluster → slice_index bounds e ≡ 0) (rings : List RingOf) where
-  pub first_elsewhere : AreFirstRings tables cluster bounds (length tables.edges) rings → HoldNothingElsewhere tables cluster rings
-  first_elsewhere are e edge at other =
-      are.each e edge (slice_get_within tables.edges e edge at) at
-      ∙ ap (λ (b : Bool). ring_of (if b then initial_list tables edge else []) (slice_index bounds e)) (ne_eqb (edge_cluster (clusters_of tables) edge) cluster other)
-      ∙ ap (ring_of []) (none e edge at other)
-
   pub state_elsewhere : (edges : List (List ℤ)) → AreStateRings tables cluster bounds edges (length tables.edges) rings → HoldNothingElsewhere tables cluster rings
   state_elsewhere edges are e edge at other =
       are.each e (slice_get_within tables.edges e edge at)
@@ -133,47 +179,19 @@ module _ (tables : FlatTablesOf) (cluster : ℕ) (bounds : List ℕ)
       (ne_eqb _ cluster (λ own. other (sym (ap (λ o. slice_index (clusters_of tables) (writer_of_row o)) at) ∙ own)))
       ∙ ap (ring_of []) (none e edge at other)
 
--- ---- what is kept for the actors of other clusters
-
-module _ (flat : Flat) (Holds : ℕ → FrameState → Type 0) (cluster : ℕ) (table : List AttrsOf) (runners : List Runner) (are : AreRunnersOf flat Holds cluster table runners) where
-  pub runners_long : length runners ≡ length flat.tables.actors
-  runners_long = are.given.same ∙ are.begun_are.long ∙ are.wires_are.long
-
-  -- nothing was begun
-  begun_out : (m : ℕ) (r : Runner) → slice_get are.begun m ≡ Some r → slice_index (clusters_of flat.tables) m ≢ cluster → r ≡ runner.Outside
-  begun_out m r at other =
-      let i = slice_get_within are.begun m r at in let b = are.begun_are.long in let l = are.wires_are.long in
-      let w = get_inside are.wires m (omega (arith, i, b)) in
-      let row = get_inside flat.tables.actors m (omega (arith, i, b, l)) in
-      let away = are.wires_are.other m row.0 w.0 row.1 w.1 (λ own. other (index_at cluster_of flat.tables.actors m row.0 row.1 ∙ own)) in
-      outside flat Holds m (sampler_runners_before are.begun m) r
-      (subst (λ x. IsFirstRunner flat Holds m (sampler_runners_before are.begun m) x r) away (are.begun_are.each m w.0 r w.1 at))
-
-  pub outside_elsewhere : AreOutsideElsewhere flat.tables cluster runners
-  outside_elsewhere m r at other = go (cases_lt m (length flat.tables.modules))
-    where
-      was : (b : Runner) × (slice_get are.begun m ≡ Some b)
-      was = get_inside are.begun m (let i = slice_get_within runners m r at in let s = are.given.same in omega (arith, i, s))
-
-      go : (m < length flat.tables.modules) ⊎ (length flat.tables.modules ≤ m) → r ≡ runner.Outside
-      go (inl below) =
-          some_inj r (with_traced (map (traced_port flat.tables table) (traced_ports flat.tables m)) was.0) (sym at ∙ are.given.done m was.0 below was.1)
-          ∙ ap (with_traced (map (traced_port flat.tables table) (traced_ports flat.tables m))) (begun_out m was.0 was.1 other)
-      go (inr past) = some_inj r was.0 (sym at ∙ are.given.rest m past ∙ was.1) ∙ begun_out m was.0 was.1 other
-
 -- ---- under a table and its plan
 
 module _ (flat : Flat) (cluster : ℕ) (first : First) (laid : IsLaid flat) (is : IsTableFirst flat cluster first.attrs.rows first) where
   pub no_bound : (e : ℕ) (edge : EdgeRow) → slice_get flat.tables.edges e ≡ Some edge → edge_cluster (clusters_of flat.tables) edge ≢ cluster → slice_index first.plan.bounds.items e ≡ 0
   no_bound e edge at other = no_room flat.tables cluster first.attrs.rows first.plan is.plan_is e edge at other
 
-  module _ (table : List AttrsOf) (same : table ≡ first.attrs.rows) (rates : List ℕ) where
-    pub ones_read : rates ≡ read_rates (net_of flat.tables table) → AreOnesElsewhere flat.tables cluster rates
-    ones_read are =
-        subst (AreOnesElsewhere flat.tables cluster) (sym (are ∙ ap (λ (t : List AttrsOf). read_rates (net_of flat.tables t)) same))
+  module _ (table : List AttrsOf) (same : table ≡ first.attrs.rows) where
+    pub ones_read : AreOnesElsewhere flat.tables cluster (read_rates (net_of flat.tables table))
+    ones_read =
+        subst (λ (t : List AttrsOf). AreOnesElsewhere flat.tables cluster (read_rates (net_of flat.tables t))) (sym same)
         (reads_elsewhere flat.tables cluster first.attrs.rows is.attributes.own (ports_inside flat laid))
 
-    pub ones_written : rates ≡ write_rates (net_of flat.tables table) → AreOnesElsewhere flat.tables cluster rates
-    ones_written are =
-        subst (AreOnesElsewhere flat.tables cluster) (sym (are ∙ ap (λ (t : List AttrsOf). write_rates (net_of flat.tables t)) same))
+    pub ones_written : AreOnesElsewhere flat.tables cluster (write_rates (net_of flat.tables table))
+    ones_written =
+        subst (λ (t : List AttrsOf). AreOnesElsewhere flat.tables cluster (write_rates (net_of flat.tables t))) (sym same)
         (writes_elsewhere flat.tables cluster first.attrs.rows is.attributes.own (ports_inside flat laid))

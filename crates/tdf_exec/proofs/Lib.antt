@@ -37,6 +37,7 @@ mod Planned
 pub mod Playing
 mod Rates
 mod Restarts
+mod Restoring
 mod Resumed
 mod Rooms
 mod Rows

@@ -17,6 +17,8 @@ use Rattle.tdf_exec.proofs.Rows.{index_at}
 use Rattle.tdf_exec.specs.machine.Laid.{IsLaid}
 use Rattle.tdf_exec_parts.proofs.Api.{in_groups}
 use Rattle.tdf_exec_parts.specs.Below.{IsTableFirst}
+use Rattle.tdf_places.proofs.Api.{rising_apart}
+use Rattle.tdf_places.specs.Places.{AreDistinct}
 use Rattle.tdf_streams.proofs.Api.{get_inside, is_wired}
 
 -- ---- a cluster that has a plan is one of the model: it has a module, to which a timestep is assigned
@@ -47,6 +49,10 @@ module _ (tables : FlatTablesOf) (groups : TableGroupsOf) (cluster : ℕ) (has :
 module _ (tables : FlatTablesOf) (cluster : ℕ) (numbers : List ℕ) (are : AreNumbers (length (clusters_of tables)) (λ m. slice_index (clusters_of tables) m ≡ cluster) numbers) where
   pub number_below : (i : ℕ) → i < length numbers → slice_index numbers i < length tables.actors
   number_below i less = subst (λ n. slice_index numbers i < n) (length-map tables.actors cluster_of) (are.within i less)
+
+  -- they are different
+  pub own_distinct : AreDistinct (length tables.actors) numbers
+  own_distinct = rising_apart (length tables.actors) numbers number_below are.rising
 
   -- the row of such an actor
   pub own_row : (i : ℕ) → i < length numbers → (row : ActorRow) × (slice_get tables.actors (slice_index numbers i) ≡ Some row) × (row.cluster ≡ cluster)

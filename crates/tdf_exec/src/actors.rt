@@ -33,14 +33,14 @@ impl Model for Actors {
     } };
 }
 
-ghost use Rattle.std.specs.Prelude.{◌≡◌, ◌<◌, ◌+◌, ◌-◌, ◌^◌, ℕ, IfOk, IfSome, None, Some, length, map, min, replicate, slice_get, slice_set};
+ghost use Rattle.std.specs.Prelude.{◌≡◌, ◌+◌, ◌-◌, ◌^◌, IfOk, IfSome, None, Some, length, min, replicate, slice_get, slice_set};
 ghost use Rattle.tdf_cluster_net.specs.Numbers.{IsAmong};
 ghost use Rattle.tdf_exec.specs.declared.runners.Runner.TheVariants as kept;
 ghost use Rattle.tdf_exec.specs.declared.runners.Runner.{Runner as RunnerOf};
 ghost use Rattle.tdf_exec.specs.machine.Fired.{CanGive, CanRun};
 ghost use Rattle.tdf_exec.specs.views.Actors.{HasFiredOnce, kept_at, with_runners};
 ghost use Rattle.tdf_exec_firing.specs.Edges.{with_rings};
-ghost use Rattle.tdf_places.specs.Places.{AreDistinct, IsNowhere};
+ghost use Rattle.tdf_places.specs.Spread.{spread};
 
 use std::alloc::Global;
 use std::mem;
@@ -48,25 +48,6 @@ use tdf_base::Memory;
 use tdf_convert::{Inputs, Outputs};
 use tdf_exec_firing::Edges;
 use tdf_expr::Checked;
-
-/// What is kept for the actors with these numbers, in order, taken out of what is kept for all actors.
-///
-/// # Errors
-/// Out of memory.
-fn gather_runners(
-    alloc: Global,
-    numbers: &[u32],
-    runners: &mut Vec<Runner>,
-) -> Result<Vec<Runner>, Memory>
-    requires { AreDistinct (length runners.old.items) numbers.now }
-    ensures { IfOk result (λ own. own.items ≡ map (kept_at runners.old.items) numbers.now) }
-{
-    let mut own = Vec::with_capacity(alloc, numbers.len())?;
-    for i in 0..numbers.len() {
-        own.push(mem::replace(&mut runners[numbers[i] as usize], Runner::Outside))?;
-    }
-    Ok(own)
-}
 
 /// One activation more, where the number is not the greatest that there is.
 fn count_one(position: &mut u64)
@@ -76,24 +57,21 @@ fn count_one(position: &mut u64)
 }
 
 impl Actors {
-    /// The actors of a cluster, none of which has fired, out of what is kept for all actors of the model.
+    /// The actors of a cluster, none of which has fired, with what is kept for each, by place.
     ///
     /// # Errors
     /// Out of memory.
     pub(crate) fn of(alloc: Global, places: Places, runners: Vec<Runner>) -> Result<Actors, Memory>
-        requires long { length runners.items ≡ places.count }
-        requires elsewhere { (m : ℕ) → m < places.count → IsNowhere places m
-            → kept_at runners.items m ≡ kept.Outside }
-        ensures runners { IfOk result (λ actors. actors.runners ≡ runners.items) }
+        requires { length runners.items ≡ length places.numbers }
+        ensures runners { IfOk result (λ actors. actors.runners
+            ≡ spread kept.Outside places runners.items) }
         ensures none_done { IfOk result (λ actors. actors.positions ≡ replicate places.count 0) }
     {
         places.law_apart();
-        let mut runners = runners;
-        let own = gather_runners(alloc, places.numbers(), &mut runners)?;
         let positions = vec![in alloc; 0; places.numbers().len()]?;
         Ok(Actors {
             places,
-            runners: own,
+            runners,
             positions,
         })
     }

@@ -1,12 +1,12 @@
 //! What the actors of a cluster keep at its start.
 
-ghost use Rattle.std.specs.Prelude.{◌≡◌, ◌+◌, ◌<◌, ℕ, Contains, IfOk, if◌then◌else◌, length, replicate, Some, slice_get};
+ghost use Rattle.std.specs.Prelude.{◌≡◌, ◌+◌, ◌<◌, ℕ, [], Contains, IfOk, if◌then◌else◌, length, Some, slice_get, slice_index_or};
 ghost use Rattle.tdf_cluster_plans.specs.Groups.{AreTableGroups};
 ghost use Rattle.tdf_dynamic_plans.specs.Attributes.{clusters_of};
 ghost use Rattle.tdf_exec.specs.Made.{is_sampler_runner};
-ghost use Rattle.tdf_exec.specs.declared.runners.Runner.TheVariants as kept;
 ghost use Rattle.tdf_exec.specs.machine.Moving.{kept_of, whole_of};
 ghost use Rattle.tdf_exec.specs.machine.Starting.{AreTakenUpTo, CanBegin, HoldsText, IsBegun, IsFirstRunner, IsOfModule};
+ghost use Rattle.tdf_exec.specs.views.Actors.{spread_runners};
 ghost use Rattle.tdf_bind_tables.specs.declared.actors.ActorRow.{ActorRow as ActorRowOf};
 ghost use Rattle.tdf_exec_layout.specs.declared.wiring.ActorWires.{ActorWires as ActorWiresOf};
 
@@ -101,20 +101,8 @@ fn samplers_with(samplers: u32, runner: &Runner) -> Result<u32, Memory>
     }
 }
 
-/// Nothing is kept yet for any of so many actors.
-fn none_kept(alloc: Global, count: usize) -> Result<Vec<Runner>, Memory>
-    ensures { IfOk result (λ runners. runners.items ≡ replicate count kept.Outside) }
-{
-    let mut runners = Vec::with_capacity(alloc, count)?;
-    for _ in 0..count {
-        runners.push(Runner::Outside)?;
-    }
-    Ok(runners)
-}
-
-/// What is kept for each actor of a cluster, which takes what it is told of its edges; actors of other clusters aren't looked
-/// at, and nothing is kept for them. The things of the model by cluster are given. `begins` says whether the initialize bodies
-/// run.
+/// What is kept for the actors of a cluster, in the order of their numbers; each takes what it is told of its edges. Actors of other clusters
+/// aren't looked at. The things of the model by cluster are given. `begins` says whether the initialize bodies run.
 ///
 /// # Errors
 /// Out of memory.
@@ -133,19 +121,22 @@ pub(crate) fn first_runners(
     requires modules { (m : ℕ) (row : ActorRowOf) (w : ActorWiresOf)
         → slice_get flat.now.tables.actors m ≡ Some row → slice_get wires.old.items m ≡ Some w
         → row.cluster ≡ cluster → IsOfModule flat.now m w }
-    ensures { IfOk result (λ runners. (samplers : ℕ) × AreTakenUpTo flat.now
+    ensures long { IfOk result (λ runners. length runners.items
+        ≡ length (slice_index_or groups.now.actors cluster [])) }
+    ensures taken { IfOk result (λ runners. (samplers : ℕ) × AreTakenUpTo flat.now
         (HoldsText flat.now begins) cluster (length wires.old.items) wires.old.items
-        wires.new.items samplers runners.items) }
+        wires.new.items samplers (spread_runners flat.now.tables
+        (slice_index_or groups.now.actors cluster []) runners.items)) }
 {
     let numbers = groups.actors(cluster);
-    let mut runners = none_kept(alloc, wires.len())?;
+    let mut runners = Vec::with_capacity(alloc, numbers.len())?;
     let mut samplers = 0;
     for i in 0..numbers.len() {
         let m = numbers[i] as usize;
         let row = mem::replace(&mut wires[m], ActorWires::Elsewhere);
         let runner = first_runner(alloc, flat, m, samplers, row, begins)?;
         samplers = samplers_with(samplers, &runner)?;
-        drop(mem::replace(&mut runners[m], runner));
+        runners.push(runner)?;
     }
     Ok(runners)
 }

@@ -1,6 +1,6 @@
 //! A cluster that goes on from a state, inside its period.
 
-ghost use Rattle.std.specs.Prelude.{◌≡◌, ◌⊎◌, ◌≤◌, Contains, Err, IfOk, length};
+ghost use Rattle.std.specs.Prelude.{◌≡◌, ◌⊎◌, ◌≤◌, [], Contains, Err, IfOk, Some, length, slice_get, slice_index_or, slice_set};
 ghost use Rattle.tdf_dynamic_first.specs.Text.{first_table};
 ghost use Rattle.tdf_dynamic_plans.specs.Attributes.{clusters_of};
 ghost use Rattle.tdf_exec_parts.specs.Below.{IsTableFirst, IsTableOfStates};
@@ -11,7 +11,10 @@ ghost use Rattle.tdf_exec.specs.Starts.{IsSoundFlat};
 ghost use Rattle.tdf_exec.specs.machine.Counted.{AreCounted};
 ghost use Rattle.tdf_exec.specs.machine.Laid.{AreParts, AreRunnersOf};
 ghost use Rattle.tdf_exec.specs.machine.Resuming.{AreRestored, CanRestore, CanTake, FitInstance, HoldsState, IsInstance, module_with_values, with_values};
+ghost use Rattle.tdf_exec.specs.declared.runners.Runner.{Runner as RunnerOf};
+ghost use Rattle.tdf_exec.specs.views.Actors.{spread_runners};
 ghost use Rattle.tdf_exec_parts.specs.Restored.{AreStateRings};
+ghost use Rattle.tdf_places.specs.Places.{AreDistinct};
 ghost use Rattle.tdf_exec_parts.specs.States.{AreStatesOfRows, HoldEdges, IsStateAt};
 ghost use Rattle.tdf_saved.specs.declared.err.StateErr.TheVariants as why;
 
@@ -25,7 +28,9 @@ use crate::tracing::give_all;
 use std::alloc::Global;
 use tdf_base::Memory;
 use tdf_bind::Flat;
-use tdf_dynamic_plans::{Attrs, ModuleAttrs, edge_rates};
+use tdf_cluster_net::place_in;
+use tdf_dynamic_plans::{Attrs, ModuleAttrs};
+use tdf_exec_firing::gather_rings;
 use tdf_exec_parts::{Standing, set_values, standing_of, state_rings};
 use tdf_expr::Checked;
 use tdf_saved::{ClusterState, ModuleState, StateErr};
@@ -54,24 +59,54 @@ fn restore_runner(checked: &Checked, row: &ModuleAttrs, state: &ModuleState, run
     }
 }
 
-/// All modules of a table get the rates of their rows and the values of their states.
-fn restore_all(
-    checked: &Checked,
-    table: &[ModuleAttrs],
-    modules: &[ModuleState],
+/// The module of a row gets its rates and the values of its state. What is kept for the actors stands in the order of the numbers.
+fn restore_row(
+    flat: &Flat,
+    row: &ModuleAttrs,
+    state: &ModuleState,
+    numbers: &[u32],
     runners: &mut Vec<Runner>,
 )
-    requires { CanRestore checked.now table.now modules.now runners.old.items }
-    ensures { AreRestored checked.now table.now modules.now (length table.now)
-        runners.old.items runners.new.items }
+    requires long { length runners.old.items ≡ length numbers.now }
+    requires distinct { AreDistinct (length flat.now.tables.actors) numbers.now }
+    requires can { (r : RunnerOf) → slice_get (spread_runners flat.now.tables numbers.now
+        runners.old.items) row.now.number ≡ Some r
+        → CanTake flat.now.checked row.now.rates state.now.cells r }
+    ensures same { length runners.new.items ≡ length runners.old.items }
+    ensures taken { (r : RunnerOf) → slice_get (spread_runners flat.now.tables numbers.now
+        runners.old.items) row.now.number ≡ Some r
+        → spread_runners flat.now.tables numbers.now runners.new.items
+        ≡ slice_set (spread_runners flat.now.tables numbers.now runners.old.items)
+        row.now.number (with_values row.now.rates state.now.cells r) }
 {
-    for i in 0..table.len() {
-        let row = &table[i];
-        restore_runner(checked, row, &modules[i], &mut runners[row.number as usize]);
+    if let Some(place) = place_in(numbers, row.number) {
+        restore_runner(&flat.checked, row, state, &mut runners[place]);
     }
 }
 
-/// What is kept for the actors of a cluster, by a state of its modules; no body runs.
+/// All modules of a table get the rates of their rows and the values of their states.
+fn restore_all(
+    flat: &Flat,
+    table: &[ModuleAttrs],
+    modules: &[ModuleState],
+    numbers: &[u32],
+    runners: &mut Vec<Runner>,
+)
+    requires long { length runners.old.items ≡ length numbers.now }
+    requires distinct { AreDistinct (length flat.now.tables.actors) numbers.now }
+    requires can { CanRestore flat.now.checked table.now modules.now
+        (spread_runners flat.now.tables numbers.now runners.old.items) }
+    ensures same { length runners.new.items ≡ length runners.old.items }
+    ensures restored { AreRestored flat.now.checked table.now modules.now (length table.now)
+        (spread_runners flat.now.tables numbers.now runners.old.items)
+        (spread_runners flat.now.tables numbers.now runners.new.items) }
+{
+    for i in 0..table.len() {
+        restore_row(flat, &table[i], &modules[i], numbers, runners);
+    }
+}
+
+/// What is kept for the actors of a cluster, in the order of their numbers, by a state of its modules; no body runs.
 fn restored_runners(
     alloc: Global,
     flat: &Flat,
@@ -85,15 +120,19 @@ fn restored_runners(
     requires states { AreStatesOfRows flat.now (first_table flat.now cluster) modules.now }
     requires table { IsTableOfStates flat.now cluster modules.now attrs.now.rows }
     requires layout { HasLayoutOf flat.now cluster layout.old }
-    ensures runners { IfOk result (λ runners. AreRunnersOf flat.now (HoldsState attrs.now.rows modules.now)
-        cluster attrs.now.rows runners.items) }
+    ensures long { IfOk result (λ runners. length runners.items
+        ≡ length (slice_index_or layout.old.groups.actors cluster [])) }
+    ensures runners { IfOk result (λ runners. AreRunnersOf flat.now
+        (HoldsState attrs.now.rows modules.now) cluster attrs.now.rows
+        (spread_runners flat.now.tables (slice_index_or layout.old.groups.actors cluster [])
+        runners.items)) }
     ensures groups { layout.new.groups ≡ layout.old.groups }
 {
     law_laid();
     let groups = &layout.groups;
     let mut runners = first_runners(alloc, flat, groups, cluster, &mut layout.wires, false)?;
-    restore_all(&flat.checked, &attrs.rows, modules, &mut runners);
     let numbers = layout.groups.actors(cluster);
+    restore_all(flat, &attrs.rows, modules, numbers, &mut runners);
     give_all(
         alloc,
         &flat.tables,
@@ -133,19 +172,17 @@ fn state_parts(
 {
     law_laid();
     let first = &standing.first;
-    let rates = edge_rates(alloc, &flat.tables, &first.attrs.rows)?;
-    let rings = state_rings(
-        alloc,
-        &flat.tables,
-        cluster,
-        &first.plan.bounds,
-        &state.edges,
-    )?;
+    let bounds = &first.plan.bounds;
+    let mut rings = state_rings(alloc, &flat.tables, cluster, bounds, &state.edges)?;
     let mut layout = Layout::new(alloc, flat)?;
-    let edges = own_edges(alloc, flat, cluster, &layout, &rates, rings)?;
+    let numbers = layout.groups.edges(cluster);
+    let own = gather_rings(alloc, numbers, &mut rings)?;
+    drop(rings);
+    let edges = own_edges(alloc, flat, cluster, &layout, &first.attrs.rows, own)?;
     let states = &state.modules;
     let runners = restored_runners(alloc, flat, cluster, &first.attrs, states, &mut layout)?;
-    let firings = traced_firings(alloc, &first.attrs.rows, &runners, &first.plan)?;
+    let actor_numbers = layout.groups.actors(cluster);
+    let firings = traced_firings(alloc, actor_numbers, &runners, &first.plan)?;
     let actors = own_actors(alloc, flat, cluster, &layout, runners)?;
     let spare = Spare::new(alloc, first.attrs.rows.len())?;
     Ok(Parts {

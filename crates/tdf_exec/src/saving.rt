@@ -12,6 +12,7 @@ use std::alloc::Global;
 use tdf_base::{Memory, row_number};
 use tdf_dynamic_plans::ModuleAttrs;
 use tdf_exec_firing::Edges;
+use tdf_places::Sparse;
 use tdf_rings::Ring;
 use tdf_saved::{ClusterState, ModuleState};
 
@@ -84,13 +85,14 @@ fn nums_at(alloc: Global, own: &Edges, number: usize) -> Result<Vec<i128>, Memor
 }
 
 /// The samples of the edges that have room by their bounds.
-fn edge_states(alloc: Global, bounds: &[u32], own: &Edges) -> Result<Vec<Vec<i128>>, Memory>
+fn edge_states(alloc: Global, bounds: &Sparse, own: &Edges) -> Result<Vec<Vec<i128>>, Memory>
     ensures { IfOk result (λ edges. map (λ e. e.items) edges.items
-        ≡ edge_states (map (λ ring. ring.samples) own.now.rings) (edges_with_room bounds.now (length own.now.rings))) }
+        ≡ edge_states (map (λ ring. ring.samples) own.now.rings) (edges_with_room bounds.now.items (length own.now.rings))) }
 {
     let mut edges = Vec::new(alloc);
     for e in 0..own.places.count() {
-        if e < bounds.len() && bounds[e] > 0 {
+        let bound = bounds.get_near(edges.len(), e);
+        if bound > 0 {
             edges.push(nums_at(alloc, own, e)?)?;
         }
     }

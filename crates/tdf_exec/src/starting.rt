@@ -1,20 +1,24 @@
 //! A cluster at the start of its first period.
 
-ghost use Rattle.std.specs.Prelude.{◌≡◌, ◌≤◌, Contains, IfOk, OnOk, length, replicate, true};
+ghost use Rattle.std.specs.Prelude.{◌≡◌, ◌≤◌, [], Contains, IfOk, OnOk, length, replicate, slice_index_or, true};
 ghost use Rattle.tdf_cluster_plans.specs.Groups.{AreOnesElsewhere, AreTableGroups};
 ghost use Rattle.tdf_convert.specs.Sampled.{PlansGoByOffset};
 ghost use Rattle.tdf_dynamic_first.specs.First.{IsFirstPlan};
 ghost use Rattle.tdf_dynamic_plans.specs.Attributes.{RowsStandOnce, clusters_of};
-ghost use Rattle.tdf_dynamic_plans.specs.Rates.{AreRates};
+ghost use Rattle.tdf_dynamic_plans.specs.Rates.{AreRates, net_of};
 ghost use Rattle.tdf_exec_parts.specs.Below.{IsTableFirst};
 ghost use Rattle.tdf_exec.specs.Layout.{HasLayoutOf, KeepsLayouts};
 ghost use Rattle.tdf_exec.specs.Made.{IsClusterOf};
 ghost use Rattle.tdf_exec.specs.Starts.{IsAtStart, IsSoundFlat, StandsAtStart};
 ghost use Rattle.tdf_exec.specs.machine.Counted.{AreCounted};
-ghost use Rattle.tdf_exec.specs.machine.Laid.{AreOutsideElsewhere, AreParts, AreRunnersOf, HoldNothingElsewhere, SoundIsLaid};
+ghost use Rattle.tdf_exec.specs.machine.Laid.{AreParts, AreRunnersOf, SoundIsLaid};
 ghost use Rattle.tdf_exec.specs.machine.Starting.{HoldsText};
+ghost use Rattle.tdf_exec.specs.views.Actors.{spread_runners};
 ghost use Rattle.tdf_exec_parts.specs.Rings.{AreFirstRings};
+ghost use Rattle.tdf_places.specs.Spread.{spread};
+ghost use Rattle.tdf_rings.specs.Rings.{ring_of};
 ghost use Rattle.tdf_schedule.specs.Laws.{PlansArePresent};
+ghost use Rattle.tdf_streams.specs.Periods.{read_rates, write_rates};
 
 use crate::actors::Actors;
 use crate::asking::Spare;
@@ -28,10 +32,10 @@ use std::alloc::Global;
 use tdf_base::Memory;
 use tdf_bind::Flat;
 use tdf_bind_invariants::{law_formats, law_limits};
-use tdf_cluster_plans::cluster_rates;
+use tdf_cluster_plans::set_own_rates;
 use tdf_convert::law_by_offset;
 use tdf_dynamic_first::First;
-use tdf_dynamic_plans::{Attrs, EdgeRates, ModuleAttrs};
+use tdf_dynamic_plans::{Attrs, ModuleAttrs, ones};
 use tdf_exec_firing::Edges;
 use tdf_exec_layout::{law_edge_formats, law_edges, law_wired};
 use tdf_exec_parts::{firings, first_rings};
@@ -64,7 +68,8 @@ pub(crate) struct Parts {
     pub(crate) spare: Spare,
 }
 
-/// The edges of a cluster, out of rates and rings of all edges. The edges of other clusters have the rates 1 and hold nothing.
+/// The edges of a cluster under a table, out of the rings of its own edges, by place. The edges of other clusters have the rates 1 and
+/// hold nothing; they aren't looked at.
 ///
 /// # Errors
 /// Out of memory.
@@ -73,28 +78,37 @@ pub(crate) fn own_edges(
     flat: &Flat,
     cluster: u32,
     layout: &Layout,
-    rates: &EdgeRates,
+    table: &[ModuleAttrs],
     rings: Vec<Ring>,
 ) -> Result<Edges, Memory>
     requires has { Contains (clusters_of flat.now.tables) cluster }
     requires groups { AreTableGroups flat.now.tables layout.now.groups }
-    requires reads { AreOnesElsewhere flat.now.tables cluster rates.now.reads.items }
-    requires writes { AreOnesElsewhere flat.now.tables cluster rates.now.writes.items }
-    requires long { length rings.items ≡ length flat.now.tables.edges }
-    requires rings { HoldNothingElsewhere flat.now.tables cluster rings.items }
+    requires rates { AreRates flat.now.tables table.now }
+    requires reads { AreOnesElsewhere flat.now.tables cluster
+        (read_rates (net_of flat.now.tables table.now)) }
+    requires writes { AreOnesElsewhere flat.now.tables cluster
+        (write_rates (net_of flat.now.tables table.now)) }
+    requires long { length rings.items
+        ≡ length (slice_index_or layout.now.groups.edges cluster []) }
     ensures { IfOk result (λ edges. edges ≡ record {
-      reads = rates.now.reads.items;
-      writes = rates.now.writes.items;
-      rings = rings.items;
+      reads = read_rates (net_of flat.now.tables table.now);
+      writes = write_rates (net_of flat.now.tables table.now);
+      rings = spread (ring_of [] 0) (record {
+        numbers = slice_index_or layout.now.groups.edges cluster [];
+        count = length flat.now.tables.edges;
+      }) rings.items;
     }) }
 {
     let numbers = layout.groups.edges(cluster);
     let count = flat.tables.edges.len();
+    let mut reads = ones(alloc, numbers.len())?;
+    let mut writes = ones(alloc, numbers.len())?;
+    set_own_rates(&flat.tables, table, numbers, &mut reads, &mut writes);
     let places = Places::of(alloc, numbers, count, &layout.edge_places)?;
-    Edges::of(alloc, places, &rates.reads, &rates.writes, rings)
+    Ok(Edges::of(places, reads, writes, rings))
 }
 
-/// The actors of a cluster, out of what is kept for all actors, which is nothing for those of other clusters.
+/// The actors of a cluster, with what is kept for each in the order of their numbers.
 ///
 /// # Errors
 /// Out of memory.
@@ -107,9 +121,10 @@ pub(crate) fn own_actors(
 ) -> Result<Actors, Memory>
     requires has { Contains (clusters_of flat.now.tables) cluster }
     requires groups { AreTableGroups flat.now.tables layout.now.groups }
-    requires long { length runners.items ≡ length flat.now.tables.actors }
-    requires elsewhere { AreOutsideElsewhere flat.now.tables cluster runners.items }
-    ensures runners { IfOk result (λ actors. actors.runners ≡ runners.items) }
+    requires long { length runners.items
+        ≡ length (slice_index_or layout.now.groups.actors cluster []) }
+    ensures runners { IfOk result (λ actors. actors.runners ≡ spread_runners flat.now.tables
+        (slice_index_or layout.now.groups.actors cluster []) runners.items) }
     ensures none_done { IfOk result (λ actors.
         actors.positions ≡ replicate (length flat.now.tables.actors) 0) }
 {
@@ -119,7 +134,7 @@ pub(crate) fn own_actors(
     Actors::of(alloc, places, runners)
 }
 
-/// What is kept for the actors of a cluster.
+/// What is kept for the actors of a cluster, in the order of their numbers.
 fn runners_of(
     alloc: Global,
     flat: &Flat,
@@ -132,8 +147,11 @@ fn runners_of(
     requires rates { AreRates flat.now.tables attrs.now.rows }
     requires once { RowsStandOnce attrs.now.rows }
     requires layout { HasLayoutOf flat.now cluster layout.old }
+    ensures long { IfOk result (λ runners. length runners.items
+        ≡ length (slice_index_or layout.old.groups.actors cluster [])) }
     ensures runners { IfOk result (λ runners. AreRunnersOf flat.now (HoldsText flat.now true)
-        cluster attrs.now.rows runners.items) }
+        cluster attrs.now.rows (spread_runners flat.now.tables
+        (slice_index_or layout.old.groups.actors cluster []) runners.items)) }
     ensures groups { layout.new.groups ≡ layout.old.groups }
     ensures others { OnOk result (KeepsLayouts flat.now cluster layout.old layout.new) }
 {
@@ -152,22 +170,23 @@ fn runners_of(
     Ok(runners)
 }
 
-/// How often each actor fires in a period of a plan, up to the last module of a table that has ports whose signals are traced: for
-/// such modules alone activations are asked for at each period.
+/// How often each actor fires in a period of a plan, up to the last module that has ports whose signals are traced: for such modules alone
+/// activations are asked for at each period. What is kept for the actors stands in the order of the numbers.
 pub(crate) fn traced_firings(
     alloc: Global,
-    rows: &[ModuleAttrs],
+    numbers: &[u32],
     runners: &[Runner],
     plan: &Plan,
 ) -> Result<Vec<u64>, Memory>
+    requires { length runners.now ≡ length numbers.now }
     ensures { IfOk result (λ counts. AreCounted plan.now.entries.items counts.items) }
 {
     let mut count = 0;
-    for i in 0..rows.len() {
-        let row = &rows[i];
-        let m = row.number as usize;
-        match runners.get(m) {
-            Some(Runner::Module(module)) if !module.rest.traced.is_empty() => count = m + 1,
+    for i in 0..numbers.len() {
+        match &runners[i] {
+            Runner::Module(module) if !module.rest.traced.is_empty() => {
+                count = numbers[i] as usize + 1;
+            }
             _ => {}
         }
     }
@@ -195,12 +214,12 @@ fn first_parts(
     ensures others { OnOk result (KeepsLayouts flat.now cluster layout.old layout.new) }
 {
     law_laid();
-    let groups = &layout.groups;
-    let rates = cluster_rates(alloc, &flat.tables, groups, cluster, &first.attrs.rows)?;
-    let rings = first_rings(alloc, &flat.tables, groups, cluster, &first.plan.bounds)?;
-    let edges = own_edges(alloc, flat, cluster, layout, &rates, rings)?;
+    let numbers = layout.groups.edges(cluster);
+    let rings = first_rings(alloc, &flat.tables, numbers, &first.plan.bounds)?;
+    let edges = own_edges(alloc, flat, cluster, layout, &first.attrs.rows, rings)?;
     let runners = runners_of(alloc, flat, cluster, &first.attrs, layout)?;
-    let firings = traced_firings(alloc, &first.attrs.rows, &runners, &first.plan)?;
+    let actor_numbers = layout.groups.actors(cluster);
+    let firings = traced_firings(alloc, actor_numbers, &runners, &first.plan)?;
     let actors = own_actors(alloc, flat, cluster, layout, runners)?;
     let spare = Spare::new(alloc, first.attrs.rows.len())?;
     Ok(Parts {

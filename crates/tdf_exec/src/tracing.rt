@@ -20,13 +20,14 @@ impl Model for TracedPorts {
 
 ghost use Rattle.std.specs.List.{list_any};
 ghost use Rattle.std.specs.Prelude.{◌≡◌, ◌&&◌, ◌++◌, ◌∷◌, ◌<◌, ◌≤◌, ℕ, [], All, IfOk, List, OnOk, Some, length, map, replicate, slice_get};
-ghost use Rattle.tdf_cluster_net.specs.Numbers.{Rise};
+ghost use Rattle.tdf_cluster_net.specs.Numbers.{AllBelow, Rise};
 ghost use Rattle.tdf_dynamic_plans.specs.Attributes.{RowsStandOnce};
 ghost use Rattle.tdf_dynamic_plans.specs.Rates.{AreRates};
 ghost use Rattle.tdf_exec_layout.specs.Traced.{is_trace_of};
 ghost use Rattle.tdf_exec.specs.declared.runners.Runner.{Runner as RunnerOf};
 ghost use Rattle.tdf_exec.specs.declared.runners.TracedPort.{TracedPort as TracedPortOf};
 ghost use Rattle.tdf_exec.specs.machine.Tracing.{AreGivenTraced, AreMarked, AreNumbered, AreTracedUpTo, CanGet, is_written_traced, marked, put_traced, rated, with_traced};
+ghost use Rattle.tdf_exec.specs.views.Actors.{spread_runners};
 ghost use Rattle.tdf_streams.specs.Places.{place_of_port};
 ghost use Rattle.tdf_bind_connections.specs.declared.modules.PortRow.{PortRow as PortRowOf};
 
@@ -233,7 +234,7 @@ fn give_traced(
     }
 }
 
-/// The modules among the actors with these numbers take their ports.
+/// The modules among the actors with these numbers take their ports. What is kept for the actors stands in the order of the numbers.
 pub(crate) fn give_all(
     alloc: Global,
     tables: &FlatTables,
@@ -244,13 +245,19 @@ pub(crate) fn give_all(
 )
     requires rates { AreRates tables.now attrs.now.rows }
     requires once { RowsStandOnce attrs.now.rows }
-    requires many { length rows.old.items ≤ length runners.old.items }
+    requires many { length rows.old.items ≤ length tables.now.actors }
+    requires long { length runners.old.items ≡ length numbers.now }
+    requires within { AllBelow (length tables.now.actors) numbers.now }
     requires rising { Rise numbers.now }
     requires can { (m : ℕ) (list : List TracedPortOf) (r : RunnerOf)
-        → slice_get rows.old.items m ≡ Some list → slice_get runners.old.items m ≡ Some r
+        → slice_get rows.old.items m ≡ Some list
+        → slice_get (spread_runners tables.now numbers.now runners.old.items) m ≡ Some r
         → CanGet tables.now.ports list r }
-    ensures { AreGivenTraced tables.now attrs.now.rows numbers.now (length numbers.now)
-        rows.old.items rows.new.items runners.old.items runners.new.items }
+    ensures given { AreGivenTraced tables.now attrs.now.rows numbers.now (length numbers.now)
+        rows.old.items rows.new.items
+        (spread_runners tables.now numbers.now runners.old.items)
+        (spread_runners tables.now numbers.now runners.new.items) }
+    ensures same { length runners.new.items ≡ length runners.old.items }
 {
     for i in 0..numbers.len() {
         let m = numbers[i] as usize;
@@ -258,7 +265,7 @@ pub(crate) fn give_all(
             continue;
         }
         let row = &mut rows[m];
-        let runner = &mut runners[m];
+        let runner = &mut runners[i];
         give_traced(alloc, tables, attrs, row, runner);
     }
 }

@@ -37,20 +37,26 @@ impl Model for Edges {
 
 ghost use Rattle.std.specs.Prelude.{◌≡◌, ◌<◌, ℕ, [], IfOk, OnErr, OnOk, length, map, slice_index};
 ghost use Rattle.tdf_exec_firing.specs.Edges.{with_rings};
-ghost use Rattle.tdf_places.specs.Places.{AreDistinct, IsNowhere};
+ghost use Rattle.tdf_places.specs.Places.{AreDistinct};
+ghost use Rattle.tdf_places.specs.Spread.{spread};
 ghost use Rattle.tdf_rings.specs.Carried.{AreCarried, FitIn, ring_at};
 ghost use Rattle.tdf_rings.specs.Rings.{ring_of};
 
 use std::alloc::Global;
 use std::mem;
-use tdf_base::Memory;
+use tdf_base::{Memory, row_number};
+use tdf_places::Sparse;
 use tdf_rings::carry;
 
 /// The rings at these numbers, in order, taken out of those of all edges.
 ///
 /// # Errors
 /// Out of memory.
-fn gather_rings(alloc: Global, numbers: &[u32], rings: &mut Vec<Ring>) -> Result<Vec<Ring>, Memory>
+pub fn gather_rings(
+    alloc: Global,
+    numbers: &[u32],
+    rings: &mut Vec<Ring>,
+) -> Result<Vec<Ring>, Memory>
     requires { AreDistinct (length rings.old.items) numbers.now }
     ensures { IfOk result (λ own. own.items ≡ map (ring_at rings.old.items) numbers.now) }
 {
@@ -62,57 +68,54 @@ fn gather_rings(alloc: Global, numbers: &[u32], rings: &mut Vec<Ring>) -> Result
     Ok(own)
 }
 
+/// The bounds of the edges with these numbers, in order. One of more than 32 bits is refused: such a ring has no memory.
+///
+/// # Errors
+/// Out of memory.
+fn own_bounds(alloc: Global, numbers: &[u32], bounds: &Sparse) -> Result<Vec<u32>, Memory>
+    ensures { IfOk result (λ own. own.items ≡ map (slice_index bounds.now.items) numbers.now) }
+{
+    let mut own = Vec::with_capacity(alloc, numbers.len())?;
+    for i in 0..numbers.len() {
+        own.push(row_number(bounds.get_near(i, numbers[i] as usize) as usize)?)?;
+    }
+    Ok(own)
+}
+
 impl Edges {
-    /// The edges of a cluster, out of what is given for all edges of the model.
-    ///
-    /// # Errors
-    /// Out of memory.
-    pub fn of(
-        alloc: Global,
-        places: Places,
-        reads: &[u32],
-        writes: &[u32],
-        rings: Vec<Ring>,
-    ) -> Result<Edges, Memory>
-        requires reads { length reads.now ≡ places.count }
-        requires writes { length writes.now ≡ places.count }
-        requires rings { length rings.items ≡ places.count }
-        requires elsewhere { (m : ℕ) → m < places.count → IsNowhere places m
-            → (slice_index reads.now m ≡ 1) × (slice_index writes.now m ≡ 1)
-            × (ring_at rings.items m ≡ ring_of [] 0) }
-        ensures { IfOk result (λ edges. edges ≡ record {
-          reads = reads.now;
-          writes = writes.now;
-          rings = rings.items;
-        }) }
+    /// The edges of a cluster, out of what is its own, by place.
+    pub fn of(places: Places, reads: Vec<u32>, writes: Vec<u32>, rings: Vec<Ring>) -> Edges
+        requires reads { length reads.items ≡ length places.numbers }
+        requires writes { length writes.items ≡ length places.numbers }
+        requires rings { length rings.items ≡ length places.numbers }
+        ensures { result ≡ record {
+          reads = spread 1 places reads.items;
+          writes = spread 1 places writes.items;
+          rings = spread (ring_of [] 0) places rings.items;
+        } }
     {
-        places.law_apart();
-        let mut rings = rings;
-        let own = gather_rings(alloc, places.numbers(), &mut rings)?;
-        let reads = places.gather(alloc, reads)?;
-        let writes = places.gather(alloc, writes)?;
-        Ok(Edges {
+        Edges {
             places,
             reads,
             writes,
-            rings: own,
-        })
+            rings,
+        }
     }
 
     /// Gives each edge its bound as the capacity of its ring; all keep their samples. An edge that has no room has the bound 0.
     ///
     /// # Errors
     /// Out of memory; then nothing changes.
-    pub fn carry(&mut self, alloc: Global, bounds: &[u32]) -> Result<(), Memory>
-        requires fit { FitIn bounds.now self.old.rings }
+    pub fn carry(&mut self, alloc: Global, bounds: &Sparse) -> Result<(), Memory>
+        requires fit { FitIn bounds.now.items self.old.rings }
         requires others { (e : ℕ) → e < length self.old.rings
-            → (ring_at self.old.rings e).capacity ≡ 0 → slice_index bounds.now e ≡ 0 }
-        ensures ok { OnOk result (AreCarried bounds.now self.old.rings self.new.rings) }
+            → (ring_at self.old.rings e).capacity ≡ 0 → slice_index bounds.now.items e ≡ 0 }
+        ensures ok { OnOk result (AreCarried bounds.now.items self.old.rings self.new.rings) }
         ensures rest { OnOk result (self.new ≡ with_rings self.new.rings self.old) }
         ensures err { OnErr result (self.new ≡ self.old) }
     {
         self.places.law_apart();
-        let own = self.places.gather(alloc, bounds)?;
+        let own = own_bounds(alloc, self.places.numbers(), bounds)?;
         carry(alloc, &mut self.rings, &own)
     }
 }

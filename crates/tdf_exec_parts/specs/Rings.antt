@@ -27,3 +27,11 @@ pub record AreFirstRings (tables : FlatTablesOf) (cluster : ℕ) (bounds : List 
   pub long : length rings ≡ n
   pub each : (e : ℕ) (edge : EdgeRow) → e < n → slice_get tables.edges e ≡ Some edge
       → ring_at rings e ≡ ring_of (list_of tables cluster edge) (slice_index bounds e)
+
+-- the rings of the first n of the edges with these numbers, in order
+pub record AreOwnFirstRings (tables : FlatTablesOf) (bounds numbers : List ℕ) (n : ℕ)
+    (rings : List RingOf) : Type 0 where
+  pub long : length rings ≡ n
+  pub each : (i : ℕ) (edge : EdgeRow) → i < n
+      → slice_get tables.edges (slice_index numbers i) ≡ Some edge → ring_at rings i
+      ≡ ring_of (initial_list tables edge) (slice_index bounds (slice_index numbers i))

@@ -1,19 +1,19 @@
 //! The rings of a cluster at its start.
 
-ghost use Rattle.std.specs.Prelude.{◌≡◌, ◌≤◌, [], Contains, IfOk, OnOk, length, map};
-ghost use Rattle.tdf_cluster_plans.specs.Groups.{AreTableGroups};
-ghost use Rattle.tdf_dynamic_plans.specs.Attributes.{clusters_of};
-ghost use Rattle.tdf_exec_parts.specs.Rings.{AreFirstRings, FitAtFirst};
+ghost use Rattle.std.specs.Prelude.{◌≡◌, ◌<◌, ◌≤◌, ℕ, [], IfOk, Some, length, slice_get, slice_index};
+ghost use Rattle.tdf_bind_connections.specs.declared.edges.EdgeRow.{EdgeRow as EdgeRowOf};
+ghost use Rattle.tdf_cluster_net.specs.Numbers.{AllBelow};
+ghost use Rattle.tdf_exec_parts.specs.Rings.{AreOwnFirstRings};
 ghost use Rattle.tdf_rings.specs.Rings.{ring_of};
 ghost use Rattle.tdf_streams.specs.Cluster.{initial_list};
 
 use std::alloc::Global;
-use tdf_base::Memory;
+use tdf_base::{Memory, row_number};
 use tdf_bind_connections::EdgeRow;
 use tdf_bind_tables::FlatTables;
-use tdf_cluster_plans::TableGroups;
 use tdf_exec_layout::initial_samples;
 use tdf_fixed::Raw;
+use tdf_places::Sparse;
 use tdf_rings::Ring;
 
 /// Puts samples into an empty ring.
@@ -27,57 +27,46 @@ fn put_samples(ring: &mut Ring, samples: &[Raw])
     }
 }
 
-/// Puts the samples of an edge at first into its ring.
-fn fill_ring(
+/// A ring with room for so many samples, which holds those of an edge at first.
+fn first_ring(
     alloc: Global,
     tables: &FlatTables,
     edge: &EdgeRow,
-    ring: &mut Ring,
-) -> Result<(), Memory>
-    requires empty { ring.old.samples ≡ [] }
-    requires room { length (initial_list tables.now edge.now) ≤ ring.old.capacity }
-    ensures { OnOk result (ring.new
-        ≡ ring_of (initial_list tables.now edge.now) ring.old.capacity) }
+    bound: u32,
+) -> Result<Ring, Memory>
+    requires room { length (initial_list tables.now edge.now) ≤ bound }
+    ensures { IfOk result (λ ring. ring ≡ ring_of (initial_list tables.now edge.now) bound) }
 {
     let samples = initial_samples(alloc, tables, *edge)?;
-    put_samples(ring, &samples);
-    Ok(())
+    let mut ring = Ring::new(alloc, bound)?;
+    put_samples(&mut ring, &samples);
+    Ok(ring)
 }
 
-/// An empty ring for each bound.
-fn empty_rings(alloc: Global, bounds: &[u32]) -> Result<Vec<Ring>, Memory>
-    ensures { IfOk result (λ rings. rings.items ≡ map (ring_of []) bounds.now) }
-{
-    let mut rings = Vec::with_capacity(alloc, bounds.len())?;
-    for e in 0..bounds.len() {
-        rings.push(Ring::new(alloc, bounds[e])?)?;
-    }
-    Ok(rings)
-}
-
-/// The rings of all edges, with room for their bounds. Those of the cluster's own edges have their samples at first; no other
-/// edge is looked at. The things of the model by cluster are given.
+/// The rings of the edges with these numbers, in order, with room for their bounds and their samples at first; no other edge is looked
+/// at. A bound of more than 32 bits is refused: such a ring has no memory.
 ///
 /// # Errors
 /// Out of memory.
 pub fn first_rings(
     alloc: Global,
     tables: &FlatTables,
-    groups: &TableGroups,
-    cluster: u32,
-    bounds: &[u32],
+    numbers: &[u32],
+    bounds: &Sparse,
 ) -> Result<Vec<Ring>, Memory>
-    requires has { Contains (clusters_of tables.now) cluster }
-    requires groups { AreTableGroups tables.now groups.now }
-    requires fits { FitAtFirst tables.now cluster bounds.now }
-    ensures { IfOk result (λ rings.
-        AreFirstRings tables.now cluster bounds.now (length tables.now.edges) rings.items) }
+    requires inside { AllBelow (length tables.now.edges) numbers.now }
+    requires fits { (i : ℕ) (edge : EdgeRowOf) → i < length numbers.now
+        → slice_get tables.now.edges (slice_index numbers.now i) ≡ Some edge
+        → length (initial_list tables.now edge)
+        ≤ slice_index bounds.now.items (slice_index numbers.now i) }
+    ensures { IfOk result (λ rings. AreOwnFirstRings tables.now bounds.now.items numbers.now
+        (length numbers.now) rings.items) }
 {
-    let numbers = groups.edges(cluster);
-    let mut rings = empty_rings(alloc, bounds)?;
+    let mut rings = Vec::with_capacity(alloc, numbers.len())?;
     for i in 0..numbers.len() {
         let e = numbers[i] as usize;
-        fill_ring(alloc, tables, &tables.edges[e], &mut rings[e])?;
+        let bound = row_number(bounds.get_near(i, e) as usize)?;
+        rings.push(first_ring(alloc, tables, &tables.edges[e], bound)?)?;
     }
     Ok(rings)
 }

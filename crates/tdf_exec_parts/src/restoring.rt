@@ -13,10 +13,11 @@ ghost use Rattle.tdf_streams.specs.Places.{is_own};
 use crate::holding::port_format;
 use crate::judging::is_own;
 use std::alloc::Global;
-use tdf_base::Memory;
+use tdf_base::{Memory, row_number};
 use tdf_bind_tables::FlatTables;
 use tdf_expr::{Checked, Frame};
 use tdf_fixed::{Format, Raw};
+use tdf_places::Sparse;
 use tdf_rings::Ring;
 
 /// Puts numbers into an empty ring, as samples with so many fraction bits.
@@ -95,21 +96,22 @@ pub fn state_rings(
     alloc: Global,
     tables: &FlatTables,
     cluster: u32,
-    bounds: &[u32],
+    bounds: &Sparse,
     edges: &[Vec<i128>],
 ) -> Result<Vec<Ring>, Memory>
     requires writers { All (λ edge. edge.writer < length tables.now.actors) tables.now.edges }
     requires many { length edges.now
         ≡ place_of_edge tables.now cluster (length tables.now.edges) }
-    requires fits { FitStateRings tables.now cluster bounds.now
+    requires fits { FitStateRings tables.now cluster bounds.now.items
         (map (λ nums. nums.items) edges.now) }
-    ensures { IfOk result (λ rings. AreStateRings tables.now cluster bounds.now
+    ensures { IfOk result (λ rings. AreStateRings tables.now cluster bounds.now.items
         (map (λ nums. nums.items) edges.now) (length tables.now.edges) rings.items) }
 {
     let mut rings = Vec::new(alloc);
     let mut place = 0;
     for e in 0..tables.edges.len() {
-        rings.push(state_ring(alloc, tables, cluster, e, bounds[e], edges, place)?)?;
+        let bound = row_number(bounds.get_near(place, e) as usize)?;
+        rings.push(state_ring(alloc, tables, cluster, e, bound, edges, place)?)?;
         place = place_after(place, is_own(tables, cluster, e), edges.len());
     }
     Ok(rings)

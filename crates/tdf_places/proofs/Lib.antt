@@ -1,3 +1,5 @@
 pub mod Api
+mod Fronts
+mod Lists
 mod Maps
 mod Spreads

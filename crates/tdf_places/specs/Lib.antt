@@ -1,3 +1,4 @@
 pub mod Places
+pub mod Sparse
 pub mod Spread
 pub mod views

@@ -24,3 +24,8 @@ IsSomewhere places m = (i : ℕ) × (i < length places.numbers) × (slice_index 
 -- none of the things has this number
 abbrev pub IsNowhere : PlacesOf → ℕ → Type 0
 IsNowhere places m = (i : ℕ) → i < length places.numbers → slice_index places.numbers i ≢ m
+
+-- each number is greater than those before it
+abbrev pub AreAscending : List ℕ → Type 0
+AreAscending numbers = (i j : ℕ) → i < j → j < length numbers
+    → slice_index numbers i < slice_index numbers j

@@ -28,7 +28,7 @@ impl Model for Places {
     } };
 }
 
-ghost use Rattle.std.specs.Prelude.{◌≡◌, ◌≢◌, ◌<◌, ℕ, IfOk, IfSome, None, Some, length, map, slice_get, slice_index, true};
+ghost use Rattle.std.specs.Prelude.{◌≡◌, ◌≢◌, ◌<◌, ℕ, IfOk, IfSome, None, Some, length, slice_get, slice_index, true};
 ghost use Rattle.tdf_places.specs.Places.{AreDistinct, IsSomewhere, StandApart};
 ghost use Rattle.tdf_places.specs.views.Mapped.{AreMapped};
 
@@ -132,21 +132,6 @@ impl Places {
     {
         let by_number = self.by_number.as_slice();
         by_number[number as usize] as usize
-    }
-
-    /// The values of a list at the numbers, by place.
-    ///
-    /// # Errors
-    /// Out of memory.
-    pub fn gather(&self, alloc: Global, values: &[u32]) -> Result<Vec<u32>, Memory>
-        requires { length values.now ≡ self.now.count }
-        ensures { IfOk result (λ own. own.items ≡ map (slice_index values.now) self.now.numbers) }
-    {
-        let mut own = Vec::with_capacity(alloc, self.numbers.len())?;
-        for i in 0..self.numbers.len() {
-            own.push(values[self.numbers[i] as usize])?;
-        }
-        Ok(own)
     }
 
     /// The numbers are those of different things of the model. It does nothing: a caller calls it where a proof needs this.

@@ -1,5 +1,5 @@
 -- Bounds, raised firing by firing.
-use Rattle.std.proofs.Common.{◌≡◌, ◌≢◌, ◌∙◌, ℕ, ◌+◌, ◌-◌, ◌*◌, ◌^◌, ◌<◌, ◌≤◌, ◌⊎◌, inl, inr, Some, List, length, take, set, replicate, max, cond, nat_eq, refl, sym, ap, subst, arith}
+use Rattle.std.proofs.Common.{◌≡◌, ◌≢◌, ◌∙◌, ℕ, ◌+◌, ◌-◌, ◌*◌, ◌<◌, ◌≤◌, ◌⊎◌, inl, inr, Some, List, length, take, set, replicate, max, cond, nat_eq, refl, sym, ap, subst, arith}
 use Rattle.std.proofs.Math.ListN.{get_or}
 use Rattle.std.proofs.lemmas.Bool.{cases_eq, cases_lt, eq-eqb, ne_eqb}
 use Rattle.std.proofs.lemmas.Grind.{get_or-set_at}
@@ -192,14 +192,13 @@ module _ (count i : ℕ) (entries : List Entry) (d : Entry) (edges : List Edge) 
 
 pub walked_more : (count i : ℕ) (entries : List Entry) (d : Entry) (edges : List Edge) (counts next old new : List ℕ) → i < length entries → (get_or entries i d).actor < count
     → All (IsEdge count) edges → AreWalkedUpTo i count entries edges counts old
-    → next ≡ set counts (get_or entries i d).actor (get_or counts (get_or entries i d).actor 0 + 1) → HasFired (get_or entries i d).actor edges next old new → All (λ b. b < 2 ^ 31) new
+    → next ≡ set counts (get_or entries i d).actor (get_or counts (get_or entries i d).actor 0 + 1) → HasFired (get_or entries i d).actor edges next old new
     → AreWalkedUpTo (i + 1) count entries edges next new
-walked_more count i entries d edges counts next old new here inside fit before next_is step small = record {
+walked_more count i entries d edges counts next old new here inside fit before next_is step = record {
   long = ap (λ (l : List ℕ). length l) next_is ∙ length-set counts actor _ ∙ before.long;
   few = subst (All (λ n. n ≤ i + 1)) (sym next_is) few;
   counted = counted;
   so_far = bounds_more count i entries d edges next old new here ends counted before.so_far step;
-  small = small;
 }
   where
     actor : ℕ
@@ -223,9 +222,9 @@ walked_more count i entries d edges counts next old new here inside fit before n
             let e = get_or-set_other counts (get_or entries i d).actor k (get_or counts (get_or entries i d).actor 0 + 1) 0 other in
             let b = All-get_or (λ n. n ≤ i) counts k 0 k_in before.few in omega (arith, e, b)
 
-pub walked_none : (count : ℕ) (entries : List Entry) (edges : List Edge) (counts held : List ℕ) → All (IsEdge count) edges → counts ≡ replicate count 0 → AreInitialUpTo (length edges) edges held
+pub walked_none : (count : ℕ) (entries : List Entry) (edges : List Edge) (counts held : List ℕ) → counts ≡ replicate count 0 → AreInitialUpTo (length edges) edges held
     → AreWalkedUpTo 0 count entries edges counts held
-walked_none count entries edges counts held fit counts_is initial = subst (λ l. AreWalkedUpTo 0 count entries edges l held) (sym counts_is) (record {
+walked_none count entries edges counts held counts_is initial = subst (λ l. AreWalkedUpTo 0 count entries edges l held) (sym counts_is) (record {
   long = length-replicate count 0;
   few = All-replicate (λ n. n ≤ 0) count 0 (omega arith);
   counted = λ m m_in. get_or-replicate count m 0 0 m_in ∙ sym (done_none entries m);
@@ -234,16 +233,8 @@ walked_none count entries edges counts held fit counts_is initial = subst (λ l.
     most = λ k h e e_is h_in. let s = start k h e e_is h_in in omega (arith, s);
     reached = λ k e e_is. (0, omega arith, start k 0 e e_is (omega arith));
   };
-  small = All-from_get_or (λ b. b < 2 ^ 31) held 0 (λ k k_in.
-      let here = subst (λ n. k < n) initial.long k_in in
-      let e = slice_get-get_or edges k no_edge here in
-      let f = All-contains (IsEdge count) edges (get_or edges k no_edge) fit (at_contains edges k _ e) in
-      let s = f.starts in let i = initial.each k (get_or edges k no_edge) here e in omega (arith, s, i));
 })
   where
-    no_edge : Edge
-    no_edge = record { writer = 0; reader = 0; write_rate = 0; read_rate = 0; initial = 0 }
-
     start : (k h : ℕ) (e : Edge) → slice_get edges k ≡ Some e → h ≤ 0
         → e.initial + done entries h e.writer * e.write_rate ≡ get_or held k 0 + done entries h e.reader * e.read_rate
     start k h e e_is h_in =

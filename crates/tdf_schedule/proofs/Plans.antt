@@ -1,10 +1,10 @@
 -- From the parts to the whole answer.
-use Rattle.std.proofs.Common.{◌≡◌, ◌∙◌, ℕ, ◌*◌, ◌<◌, ◌≤◌, ◌⊎◌, inl, inr, ◌&&◌, Option, Some, None, List, length, nat_lt, cond, refl, sym, ap, subst, arith}
+use Rattle.std.proofs.Common.{◌≡◌, ◌∙◌, ℕ, ◌*◌, ◌<◌, ◌≤◌, ◌⊎◌, inl, inr, ◌&&◌, ◌+◌, ◌++◌, ◌∷◌, [], Option, Some, None, List, length, nat_eq, nat_lt, cond, if◌then◌else◌, refl, sym, ap, subst, arith}
 use Rattle.std.proofs.Math.ListN.{get_or}
 use Rattle.std.proofs.Math.Path.{fun_ext}
 use Rattle.std.proofs.lemmas.Bool.{cases_lt, lt-ltb, le-ltb, eq-eqb, ne_eqb}
-use Rattle.std.proofs.lemmas.List.{get_or_past}
-use Rattle.std.proofs.lemmas.Option.{slice_get_within, slice_get_past, slice_get-get_or}
+use Rattle.std.proofs.lemmas.List.{get_or_append_left, get_or_past, get_or_push, length_push}
+use Rattle.std.proofs.lemmas.Option.{get_or_from_slice_get, slice_get_within, slice_get_past, slice_get-get_or}
 use Rattle.std.specs.Prelude.{slice_get, Contains, All, Result, Ok, Err, IfOk, IsOk}
 use Rattle.tdf_graph.specs.Counts.{IsBalanced}
 use Rattle.tdf_graph.specs.Ranges.{IsEdge}
@@ -113,6 +113,23 @@ module _ (edges : List Edge) (pace : ℕ → ℕ) (counts : List ℕ) (table : L
       tests m a (inr past) =
           ap (λ b. b && nat_lt a (length (row_at table m))) (le-ltb m (length table) past)
           ∙ sym (ap (nat_lt a) (get_or_past counts m 0 (subst (λ n. n ≤ m) rows.same past)) ∙ le-ltb a 0 (omega arith))
+
+-- one bound more
+pub narrow_more : (n : ℕ) (edges : List Edge) (counts bounds narrow new : List ℕ) (d : Edge) (b : ℕ) → AreNarrowUpTo n edges counts bounds narrow
+    → b ≡ (if nat_eq (get_or counts (get_or edges n d).writer 0) 0 then 0 else get_or bounds n 0) → new ≡ narrow ++ b ∷ [] → AreNarrowUpTo (n + 1) edges counts bounds new
+narrow_more n edges counts bounds narrow new d b are b_is new_is = subst (AreNarrowUpTo (n + 1) edges counts bounds) (sym new_is) (record {
+  long = length_push narrow b ∙ ap (λ k. k + 1) are.long;
+  each = λ k e less e_is. each k e less e_is (cases_lt k n);
+})
+  where
+    each : (k : ℕ) (e : Edge) → k < n + 1 → slice_get edges k ≡ Some e → (k < n) ⊎ (n ≤ k)
+        → get_or (narrow ++ b ∷ []) k 0 ≡ (if nat_eq (get_or counts e.writer 0) 0 then 0 else get_or bounds k 0)
+    each k e less e_is (inl before) = get_or_append_left narrow (b ∷ []) 0 k (subst (λ m. k < m) (sym are.long) before) ∙ are.each k e before e_is
+    each k e less e_is (inr past) =
+        let same : n ≡ k = omega (arith, less, past) in
+        get_or_push narrow b 0 k (are.long ∙ same) ∙ b_is
+        ∙ ap (λ m. if nat_eq (get_or counts (get_or edges m d).writer 0) 0 then 0 else get_or bounds m 0) same
+        ∙ ap (λ (x : Edge). if nat_eq (get_or counts x.writer 0) 0 then 0 else get_or bounds k 0) (get_or_from_slice_get edges k e d e_is)
 
 pub has_plan : (edges : List Edge) (pace : ℕ → ℕ) (counts : List ℕ) (period : ℕ) (plan : Plan) (most : List ℕ) → IsPlan edges pace counts plan.entries.items
     → AreBoundsUpTo (length plan.entries.items) plan.entries.items edges most → AreNarrowUpTo (length edges) edges counts most plan.bounds.items → plan.period ≡ period

@@ -1,6 +1,6 @@
 //! The most samples that each edge holds along a plan.
 
-ghost use Rattle.std.specs.Prelude.{◌≡◌, ◌<◌, ◌≤◌, ◌+◌, ◌-◌, ◌*◌, ◌^◌, ℕ, All, length, max, take, replicate, slice_index, slice_set, slice_get, Some, IfOk, OnOk};
+ghost use Rattle.std.specs.Prelude.{◌≡◌, ◌<◌, ◌≤◌, ◌+◌, ◌-◌, ◌*◌, ℕ, All, length, max, take, replicate, slice_index, slice_set, slice_get, Some, IfOk, OnOk};
 ghost use Rattle.tdf_base.specs.Limits.{most_firings};
 ghost use Rattle.tdf_graph.specs.Ranges.{IsEdge};
 ghost use Rattle.tdf_schedule.specs.views.Table.{AreInputs, AreOutputs};
@@ -17,8 +17,7 @@ use tdf_graph::Edge;
 fn held(edge: &Edge, done: &[u64]) -> u64
     requires fit { IsEdge (length done.now) edge.now }
     requires few { All (λ n. n ≤ most_firings) done.now }
-    ensures value { result ≡ held_of edge.now done.now }
-    ensures small { result < 2 ^ 31 }
+    ensures { result ≡ held_of edge.now done.now }
 {
     let written = u64::from(edge.initial) + done[edge.writer as usize] * u64::from(edge.write_rate);
     let read = done[edge.reader as usize] * u64::from(edge.read_rate);
@@ -31,9 +30,7 @@ fn raise(list: &[u32], edges: &[Edge], done: &[u64], bounds: &mut Vec<u64>)
     requires few { All (λ n. n ≤ most_firings) done.now }
     requires inside { (j : ℕ) → j < length list.now → slice_index list.now j < length edges.now }
     requires long { length bounds.old.items ≡ length edges.now }
-    requires small { All (λ b. b < 2 ^ 31) bounds.old.items }
-    ensures small { All (λ b. b < 2 ^ 31) bounds.new.items }
-    ensures raised { AreRaisedUpTo (length list.now) list.now edges.now done.now bounds.old.items bounds.new.items }
+    ensures { AreRaisedUpTo (length list.now) list.now edges.now done.now bounds.old.items bounds.new.items }
 {
     for j in 0..list.len() {
         let number = list[j] as usize;
@@ -58,8 +55,6 @@ fn fire(
     requires out { AreOutputs edges.now actor (links_at outputs.now actor) }
     requires few { All (λ n. n + 1 ≤ most_firings) done.old.items }
     requires long { length bounds.old.items ≡ length edges.now }
-    requires small { All (λ b. b < 2 ^ 31) bounds.old.items }
-    ensures small { All (λ b. b < 2 ^ 31) bounds.new.items }
     ensures done { done.new.items ≡ slice_set done.old.items actor (slice_index done.old.items actor + 1) }
     ensures raised { HasFired actor edges.now done.new.items bounds.old.items bounds.new.items }
 {
@@ -126,8 +121,7 @@ pub(crate) fn most_held(
     requires out { All (λ x. AreOutputs edges.now x.actor (links_at outputs.now x.actor)) entries.now }
     requires actors { All (λ x. x.actor < count) entries.now }
     requires few { length entries.now ≤ most_firings }
-    ensures bounds { IfOk result (λ v. AreBoundsUpTo (length entries.now) entries.now edges.now v.items) }
-    ensures small { IfOk result (λ v. All (λ b. b < 2 ^ 31) v.items) }
+    ensures { IfOk result (λ v. AreBoundsUpTo (length entries.now) entries.now edges.now v.items) }
 {
     let mut done = none_done(alloc, count)?;
     let mut bounds = initials(alloc, edges)?;

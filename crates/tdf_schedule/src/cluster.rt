@@ -1,6 +1,6 @@
 //! The plan of one cluster.
 
-ghost use Rattle.std.specs.Prelude.{◌≡◌, ◌<◌, ◌≤◌, ◌*◌, ◌^◌, ◌↔◌, ◌⊎◌, ℕ, List, All, Contains, Some, Ok, Err, length, vec_len, sum, slice_index, IfOk, IsOk};
+ghost use Rattle.std.specs.Prelude.{◌≡◌, ◌<◌, ◌≤◌, ◌*◌, ◌^◌, ◌↔◌, ◌⊎◌, nat_eq, if◌then◌else◌, ℕ, List, All, Contains, Some, Ok, Err, length, vec_len, sum, slice_index, IfOk, IsOk};
 ghost use Rattle.tdf_base.specs.Limits.{most_firings, most_samples, time_end};
 ghost use Rattle.tdf_graph.specs.Counts.{IsBalanced};
 ghost use Rattle.tdf_graph.specs.Ranges.{IsEdge};
@@ -23,7 +23,19 @@ use crate::work::{Given, fill};
 use std::alloc::Global;
 use tdf_base::MOST_SAMPLES;
 use tdf_graph::{Edge, Net};
+use tdf_places::Sparse;
 use tdf_timestep::Steps;
+
+/// The bound of an edge, 0 for one of another cluster.
+fn own_bound(edge: &Edge, counts: &[u64], bound: u64) -> u64
+    requires { IsEdge (length counts.now) edge.now }
+    ensures { result ≡ (if nat_eq (slice_index counts.now edge.now.writer) 0 then 0 else bound) }
+{
+    if counts[edge.writer as usize] == 0 {
+        return 0;
+    }
+    bound
+}
 
 /// The bounds of the cluster's edges, 0 for all others.
 fn narrow(
@@ -31,20 +43,14 @@ fn narrow(
     edges: &[Edge],
     counts: &[u64],
     bounds: &[u64],
-) -> Result<Vec<u32>, tdf_base::Memory>
+) -> Result<Sparse, tdf_base::Memory>
     requires fit { All (IsEdge (length counts.now)) edges.now }
     requires long { length bounds.now ≡ length edges.now }
-    requires small { All (λ b. b < 2 ^ 31) bounds.now }
     ensures { IfOk result (λ v. AreNarrowUpTo (length edges.now) edges.now counts.now bounds.now v.items) }
 {
-    let mut list: Vec<u32> = vec![in alloc; 0; edges.len()]?;
+    let mut list = Sparse::with_capacity(alloc, edges.len())?;
     for k in 0..edges.len() {
-        let bound = if counts[edges[k].writer as usize] == 0 {
-            0
-        } else {
-            bounds[k] as u32
-        };
-        list[k] = bound;
+        list.push(own_bound(&edges[k], counts, bounds[k]))?;
     }
     Ok(list)
 }

@@ -1,5 +1,7 @@
 //! Plans and their entries.
 
+use tdf_places::Sparse;
+
 /// A firing in the plan, in the order of the fields.
 #[derive(Clone, Copy, Debug, PartialEq, Eq, PartialOrd, Ord)]
 pub struct Entry {
@@ -19,7 +21,7 @@ pub struct Plan {
     /// The firings, in order.
     pub entries: Vec<Entry>,
     /// The most samples that each edge holds, 0 for edges of other clusters.
-    pub bounds: Vec<u32>,
+    pub bounds: Sparse,
     /// The period, in counts of the model's resolution.
     pub period: u64,
 }

@@ -13,6 +13,7 @@ use crate::key::Row;
 use std::alloc::Global;
 use tdf_base::Memory;
 use tdf_graph::{Actor, Edge, Port};
+use tdf_places::Sparse;
 
 /// The initial samples of the edges of the cluster.
 fn initial_samples(edges: &[Edge], counts: &[u64]) -> u64
@@ -118,13 +119,12 @@ fn pace_of(actor: Actor, step: u64) -> u64
 }
 
 /// The paces of all actors.
-pub(crate) fn paces_of(alloc: Global, actors: &[Actor], steps: &[u64]) -> Result<Vec<u64>, Memory>
-    requires { length steps.now ≡ length actors.now }
-    ensures { IfOk result (λ paces. ArePacesUpTo (length actors.now) actors.now steps.now paces.items) }
+pub(crate) fn paces_of(alloc: Global, actors: &[Actor], steps: &Sparse) -> Result<Vec<u64>, Memory>
+    ensures { IfOk result (λ paces. ArePacesUpTo (length actors.now) actors.now steps.now.items paces.items) }
 {
     let mut paces: Vec<u64> = vec![in alloc; 0; actors.len()]?;
     for actor in 0..actors.len() {
-        paces[actor] = pace_of(actors[actor], steps[actor]);
+        paces[actor] = pace_of(actors[actor], steps.get_near(actor, actor));
     }
     Ok(paces)
 }

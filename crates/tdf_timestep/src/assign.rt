@@ -1,5 +1,7 @@
 //! Timesteps that are assigned, and the steps that they give.
 
+use tdf_places::Sparse;
+
 /// A timestep that is assigned to a module or to one of its ports.
 #[derive(Clone, Copy, Debug, PartialEq, Eq)]
 pub struct Assign {
@@ -26,5 +28,5 @@ pub struct Steps {
     /// The period.
     pub period: u64,
     /// The step of each actor, 0 for the actors of other clusters.
-    pub actor_steps: Vec<u64>,
+    pub actor_steps: Sparse,
 }

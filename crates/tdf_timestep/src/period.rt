@@ -17,6 +17,7 @@ use crate::share::period_of;
 use std::alloc::Global;
 use tdf_base::TIME_END;
 use tdf_graph::Net;
+use tdf_places::Sparse;
 
 /// The period that all assignments give, below 10^18.
 fn agreed(net: &Net, counts: &[u64], assigned: &[Assign]) -> Result<u64, StepErr>
@@ -51,12 +52,12 @@ fn step_of(period: u64, count: u64) -> u64
 }
 
 /// The steps of all actors.
-fn actor_steps(alloc: Global, counts: &[u64], period: u64) -> Result<Vec<u64>, tdf_base::Memory>
+fn actor_steps(alloc: Global, counts: &[u64], period: u64) -> Result<Sparse, tdf_base::Memory>
     ensures { IfOk result (λ steps. AreStepsUpTo (length counts.now) counts.now period steps.items) }
 {
-    let mut steps: Vec<u64> = vec![in alloc; 0; counts.len()]?;
+    let mut steps = Sparse::with_capacity(alloc, counts.len())?;
     for actor in 0..counts.len() {
-        steps[actor] = step_of(period, counts[actor]);
+        steps.push(step_of(period, counts[actor]))?;
     }
     Ok(steps)
 }

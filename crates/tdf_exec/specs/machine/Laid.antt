@@ -1,6 +1,6 @@
 -- What the tables of a sound flat model have, and the parts of a cluster at its start.
 -- Source: own.
-use Rattle.std.specs.Prelude.{◌≡◌, ◌≢◌, ◌<◌, ◌≤◌, ℕ, List, [], Some, length, map, replicate, slice_get, slice_index}
+use Rattle.std.specs.Prelude.{◌≡◌, ◌≢◌, ◌<◌, ◌≤◌, ℕ, List, [], Some, length, map, replicate, slice_get}
 use Rattle.tdf_bind_tables.specs.FlatTables.{FlatTablesOf}
 use Rattle.tdf_bind_tables.specs.declared.actors.ActorRow.{ActorRow}
 use Rattle.tdf_cluster_plans.specs.Groups.{edge_cluster}
@@ -11,7 +11,6 @@ use Rattle.tdf_exec.specs.Made.{KeepRates}
 use Rattle.tdf_exec.specs.Starts.{BeginWithRates, IsSoundFlat}
 use Rattle.tdf_exec.specs.Traced.{traced_port}
 use Rattle.tdf_exec.specs.declared.runners.Runner.{Runner}
-use Rattle.tdf_exec.specs.declared.runners.Runner.TheVariants as runner
 use Rattle.tdf_exec.specs.machine.Starting.{AreFirstRunners}
 use Rattle.tdf_exec.specs.machine.Tracing.{with_traced}
 use Rattle.tdf_expr.specs.Made.{port_spans_of}
@@ -87,11 +86,6 @@ abbrev pub HoldNothingElsewhere : FlatTablesOf → (cluster : ℕ) → List Ring
 HoldNothingElsewhere tables cluster rings = (e : ℕ) (edge : EdgeRow)
     → slice_get tables.edges e ≡ Some edge → edge_cluster (clusters_of tables) edge ≢ cluster
     → ring_at rings e ≡ ring_of [] 0
-
--- nothing is kept for the actors of other clusters
-abbrev pub AreOutsideElsewhere : FlatTablesOf → (cluster : ℕ) → List Runner → Type 0
-AreOutsideElsewhere tables cluster runners = (m : ℕ) (r : Runner) → slice_get runners m ≡ Some r
-    → slice_index (clusters_of tables) m ≢ cluster → r ≡ runner.Outside
 
 -- the parts of a cluster at a start, where its instances and its rings hold what is asked for
 pub record AreParts (flat : Flat) (cluster : ℕ) (first : First) (Holds : ℕ → FrameState → Type 0)

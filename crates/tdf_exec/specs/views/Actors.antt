@@ -1,6 +1,7 @@
 -- What a cluster has by actor of the flat model, and the places of its own actors.
 -- Source: own.
-use Rattle.std.specs.Prelude.{ℕ, ◌≡◌, ◌+◌, ◌-◌, ◌^◌, List, Some, min, slice_get, slice_index, slice_index_or, slice_set}
+use Rattle.std.specs.Prelude.{ℕ, ◌≡◌, ◌+◌, ◌-◌, ◌^◌, List, Some, length, min, slice_get, slice_index, slice_index_or, slice_set}
+use Rattle.tdf_bind_tables.specs.FlatTables.{FlatTablesOf}
 use Rattle.tdf_convert.specs.Outputs.{OutputsOf}
 use Rattle.tdf_exec.specs.declared.runners.Runner.{Runner}
 use Rattle.tdf_exec.specs.declared.runners.Runner.TheVariants as runner
@@ -9,6 +10,7 @@ use Rattle.tdf_exec_firing.specs.Edges.{EdgesOf}
 use Rattle.tdf_expr.specs.declared.checked.Checked.{Checked}
 use Rattle.tdf_fixed.specs.declared.raw.Raw.{Raw}
 use Rattle.tdf_places.specs.Places.{PlacesOf}
+use Rattle.tdf_places.specs.Spread.{spread_by}
 use Rattle.tdf_rings.specs.Rings.{RingOf}
 
 pub record ActorsOf : Type 0 where
@@ -40,3 +42,8 @@ pub record HasFiredOnce (checked : Checked) (inputs : List Raw) (actor : ℕ) (e
   }
   pub ran : HasRun checked inputs edges.reads edges.writes edges.rings rings was now
   pub given : HasGiven actor edges.rings now before after
+
+-- what is kept for all actors of a model, out of what is kept for those with these numbers
+abbrev pub spread_runners : FlatTablesOf → (numbers : List ℕ) → List Runner → List Runner
+spread_runners tables numbers runners =
+    spread_by (length tables.actors) runner.Outside numbers runners

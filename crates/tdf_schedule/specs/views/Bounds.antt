@@ -1,5 +1,5 @@
 -- The bounds of edges, raised firing by firing.
-use Rattle.std.specs.Prelude.{ℕ, ◌+◌, ◌-◌, ◌*◌, ◌^◌, ◌<◌, ◌≤◌, ◌≡◌, ◌≢◌, ◌⊎◌, max, Some, List, length, slice_get, slice_index, All}
+use Rattle.std.specs.Prelude.{ℕ, ◌+◌, ◌-◌, ◌*◌, ◌<◌, ◌≤◌, ◌≡◌, ◌≢◌, ◌⊎◌, max, Some, List, length, slice_get, slice_index, All}
 use Rattle.tdf_graph.specs.declared.actors.Edge.{Edge}
 use Rattle.tdf_schedule.specs.Plan.{done}
 use Rattle.tdf_schedule.specs.declared.entry.Entry.{Entry}
@@ -48,7 +48,6 @@ pub record AreWalkedUpTo (i count : ℕ) (entries : List Entry) (edges : List Ed
   pub few : All (λ n. n ≤ i) counts
   pub counted : (m : ℕ) → m < count → slice_index counts m ≡ done entries i m
   pub so_far : AreBoundsUpTo i entries edges bounds
-  pub small : All (λ b. b < 2 ^ 31) bounds
 
 -- what the first n edges hold at first
 pub record AreInitialUpTo (n : ℕ) (edges : List Edge) (held : List ℕ) : Type 0 where

@@ -3,4 +3,4 @@ use Rattle.tdf_dynamic_texts.specs.views.Counted.{AreCounted}
 use Rattle.tdf_dynamic_texts.proofs.counting.counted.Given as goal
 
 abbrev pub invariant-loop-seen : goal.invariant-loop-seen
-invariant-loop-seen l = AreCounted l.actors (take l.seen l.entries) l.counts.items
+invariant-loop-seen l = AreCounted l.numbers (take l.seen l.entries) l.counts.items

@@ -1,26 +1,26 @@
-use Rattle.std.proofs.Common.{rules, ◌≡◌, ◌∙◌, Global, List, Vec, ap, length, map, subst, sym, ℕ, ℤ}
-use Rattle.tdf_cluster_plans.specs.Groups.{AreTableGroups}
+use Rattle.std.proofs.Common.{rules, ◌≡◌, ◌∙◌, Global, List, [], Vec, ap, length, map, subst, sym, ℕ, ℤ, ◌<◌}
+use Rattle.std.proofs.lemmas.List.{length-map}
+use Rattle.std.specs.Prelude.{slice_index_or}
+use Rattle.tdf_cluster_plans.specs.Groups.{AreTableGroups, TableGroupsOf}
 use Rattle.tdf_dynamic_first.specs.declared.first.First.{First}
 use Rattle.tdf_dynamic_plans.specs.Attributes.{AttrsOf}
 use Rattle.tdf_dynamic_plans.specs.Rates.{AreRates, net_of}
 use Rattle.tdf_streams.specs.Periods.{read_rates, write_rates}
 use Rattle.tdf_exec.proofs.Continued.{state_fits}
-use Rattle.tdf_exec.proofs.Elsewhere.{no_bound, ones_read, ones_written, outside_elsewhere, runners_long, state_elsewhere}
+use Rattle.tdf_exec.proofs.Elsewhere.{edges_distinct, in_edges, no_bound, ones_read, ones_written, rings_back, state_elsewhere}
 use Rattle.tdf_exec.proofs.Kept.{first_rates}
-use Rattle.tdf_exec.proofs.Numbered.{is_there}
+use Rattle.tdf_exec.proofs.Numbered.{in_actors, is_there}
+use Rattle.tdf_exec.specs.Layout.{LayoutOf}
 use Rattle.tdf_exec.specs.machine.Counted.{AreCounted}
 use Rattle.tdf_exec.specs.machine.Laid.{AreRunnersOf}
 use Rattle.tdf_exec.specs.machine.Resuming.{HoldsState}
 use Rattle.tdf_exec_firing.specs.Edges.{EdgesOf}
 use Rattle.tdf_exec_parts.specs.Restored.{AreStateRings, FitStateRings}
+use Rattle.tdf_rings.specs.Carried.{ring_at}
+use Rattle.tdf_rings.specs.Rings.{RingOf}
 use Rattle.tdf_saved.specs.State.{ClusterStateOf, ModuleStateOf}
+use Rattle.tdf_exec.specs.views.Actors.{spread_runners}
 use Rattle.tdf_exec.proofs.resuming.state_parts.Goals as goal
-
-pub edge_rates-requires : goal.edge_rates-requires
-edge_rates-requires c =
-    let rows : c.deref.result.now ≡ c.args.standing.now.first.attrs.rows = search rules in
-    subst (AreRates c.args.flat.now.tables) (sym rows)
-    (first_rates c.args.flat.now c.args.cluster c.args.standing.now.first (c.law_laid.ensures.laid c.args.flat.now c.requires.sound) c.requires.plan)
 
 pub state_rings-requires-clause-writers : goal.state_rings-requires-clause-writers
 state_rings-requires-clause-writers c = (c.law_laid.ensures.laid c.args.flat.now c.requires.sound).limits.in_range.edge_writers
@@ -29,13 +29,26 @@ pub state_rings-requires-clause-fits : goal.state_rings-requires-clause-fits
 state_rings-requires-clause-fits c =
     let tables = c.args.flat.now.tables in
     let first = c.args.standing.now.first in
-    let edges : map {A = Vec ℤ Global} {B = List ℤ} (λ nums. nums.items) c.deref-3.result.now ≡ c.args.state.now.edges =
-    ap (map {A = Vec ℤ Global} {B = List ℤ} (λ nums. nums.items)) c.deref-3.ensures.value ∙ ap (λ (s : ClusterStateOf). s.edges) c.state.view_is in
-    let bounds : c.deref-2.result.now ≡ first.plan.bounds.items = search rules in
-    subst (λ (l : List ℕ). FitStateRings tables c.args.cluster l (map {A = Vec ℤ Global} {B = List ℤ} (λ nums. nums.items) c.deref-3.result.now)) (sym bounds)
+    let edges : map {A = Vec ℤ Global} {B = List ℤ} (λ nums. nums.items) c.deref.result.now ≡ c.args.state.now.edges =
+    ap (map {A = Vec ℤ Global} {B = List ℤ} (λ nums. nums.items)) c.deref.ensures.value ∙ ap (λ (s : ClusterStateOf). s.edges) c.state.view_is in
+    subst (λ (f : First). FitStateRings tables c.args.cluster f.plan.bounds.items (map {A = Vec ℤ Global} {B = List ℤ} (λ nums. nums.items) c.deref.result.now)) (sym c.first.view_is)
     (subst (λ (l : List (List ℤ)). FitStateRings tables c.args.cluster first.plan.bounds.items l) (sym edges)
     (state_fits c.args.flat.now c.args.cluster first c.requires.sound (c.law_laid.ensures.laid c.args.flat.now c.requires.sound) c.requires.plan c.law_laid.ensures.present
     c.args.state.now.edges c.args.standing.now.place c.requires.place c.requires.edges))
+
+pub edges-numbers-requires : goal.edges-numbers-requires
+edges-numbers-requires c =
+    let flat = c.args.flat.now in
+    let given : AreTableGroups flat.tables c.layout.inside.groups = subst (λ (l : LayoutOf). AreTableGroups flat.tables l.groups) (sym c.layout.view_is) (c.in_ok-layout.ensures c.args.cluster).groups in
+    in_edges flat.tables c.args.cluster c.layout.inside.groups (is_there flat c.args.cluster c.args.standing.now.first (c.law_laid.ensures.laid flat c.requires.sound) c.requires.plan) given
+
+pub gather_rings-requires : goal.gather_rings-requires
+gather_rings-requires c =
+    let flat = c.args.flat.now in
+    edges_distinct flat.tables c.args.cluster c.in_ok-layout.layout.groups
+    (is_there flat c.args.cluster c.args.standing.now.first (c.law_laid.ensures.laid flat c.requires.sound) c.requires.plan) (c.in_ok-layout.ensures c.args.cluster).groups
+    c.edges-numbers.result.now (c.edges-numbers.ensures ∙ ap (λ (l : LayoutOf). slice_index_or l.groups.edges c.args.cluster []) c.layout.view_is)
+    (length c.in_ok-rings.rings.items) c.in_ok-rings.ensures.long
 
 pub restored_runners-requires-clause-has : goal.restored_runners-requires-clause-has
 restored_runners-requires-clause-has c = is_there c.args.flat.now c.args.cluster c.args.standing.now.first (c.law_laid.ensures.laid c.args.flat.now c.requires.sound) c.requires.plan
@@ -47,30 +60,26 @@ own_edges-requires-clause-has c =
 pub own_edges-requires-clause-groups : goal.own_edges-requires-clause-groups
 own_edges-requires-clause-groups c = (c.in_ok-layout.ensures c.args.cluster).groups
 
+pub own_edges-requires-clause-rates : goal.own_edges-requires-clause-rates
+own_edges-requires-clause-rates c =
+    let rows : c.deref-2.result.now ≡ c.args.standing.now.first.attrs.rows = search rules in
+    subst (AreRates c.args.flat.now.tables) (sym rows)
+    (first_rates c.args.flat.now c.args.cluster c.args.standing.now.first (c.law_laid.ensures.laid c.args.flat.now c.requires.sound) c.requires.plan)
+
 pub own_edges-requires-clause-reads : goal.own_edges-requires-clause-reads
 own_edges-requires-clause-reads c =
-    let rows : c.deref.result.now ≡ c.args.standing.now.first.attrs.rows = search rules in
-    ones_read c.args.flat.now c.args.cluster c.args.standing.now.first (c.law_laid.ensures.laid c.args.flat.now c.requires.sound) c.requires.plan
-    c.deref.result.now rows c.in_ok-rates.rates.reads.items c.in_ok-rates.ensures.reads
+    let rows : c.deref-2.result.now ≡ c.args.standing.now.first.attrs.rows = search rules in
+    ones_read c.args.flat.now c.args.cluster c.args.standing.now.first (c.law_laid.ensures.laid c.args.flat.now c.requires.sound) c.requires.plan c.deref-2.result.now rows
 
 pub own_edges-requires-clause-writes : goal.own_edges-requires-clause-writes
 own_edges-requires-clause-writes c =
-    let rows : c.deref.result.now ≡ c.args.standing.now.first.attrs.rows = search rules in
-    ones_written c.args.flat.now c.args.cluster c.args.standing.now.first (c.law_laid.ensures.laid c.args.flat.now c.requires.sound) c.requires.plan
-    c.deref.result.now rows c.in_ok-rates.rates.writes.items c.in_ok-rates.ensures.writes
+    let rows : c.deref-2.result.now ≡ c.args.standing.now.first.attrs.rows = search rules in
+    ones_written c.args.flat.now c.args.cluster c.args.standing.now.first (c.law_laid.ensures.laid c.args.flat.now c.requires.sound) c.requires.plan c.deref-2.result.now rows
 
 pub own_edges-requires-clause-long : goal.own_edges-requires-clause-long
-own_edges-requires-clause-long c = c.in_ok-rings.ensures.long
-
-pub own_edges-requires-clause-rings : goal.own_edges-requires-clause-rings
-own_edges-requires-clause-rings c =
-    let flat = c.args.flat.now in
-    let first = c.args.standing.now.first in
-    let bounds : c.deref-2.result.now ≡ first.plan.bounds.items = search rules in
-    let edges = map {A = Vec ℤ Global} {B = List ℤ} (λ nums. nums.items) c.deref-3.result.now in
-    state_elsewhere flat.tables c.args.cluster first.plan.bounds.items
-    (no_bound flat c.args.cluster first (c.law_laid.ensures.laid flat c.requires.sound) c.requires.plan) c.in_ok-rings.rings.items edges
-    (subst (λ (l : List ℕ). AreStateRings flat.tables c.args.cluster l edges (length flat.tables.edges) c.in_ok-rings.rings.items) bounds c.in_ok-rings.ensures)
+own_edges-requires-clause-long c =
+    ap (λ (l : List RingOf). length l) c.in_ok-own.ensures ∙ length-map c.edges-numbers.result.now (ring_at c.in_ok-rings.rings.items)
+    ∙ ap (λ (l : List ℕ). length l) (c.edges-numbers.ensures ∙ ap (λ (l : LayoutOf). slice_index_or l.groups.edges c.args.cluster []) c.layout.view_is)
 
 pub own_actors-requires-clause-has : goal.own_actors-requires-clause-has
 own_actors-requires-clause-has c =
@@ -81,35 +90,52 @@ own_actors-requires-clause-groups c = subst (AreTableGroups c.args.flat.now.tabl
 
 pub own_actors-requires-clause-long : goal.own_actors-requires-clause-long
 own_actors-requires-clause-long c =
-    let flat = c.args.flat.now in
-    let rows = c.args.standing.now.first.attrs.rows in
-    let modules : c.deref-4.result.now ≡ c.args.state.now.modules = search rules in
-    let are = subst (λ (l : List ModuleStateOf). AreRunnersOf flat (HoldsState rows l) c.args.cluster rows c.in_ok-runners.runners.items) modules c.in_ok-runners.ensures.runners in
-    runners_long flat (HoldsState rows c.args.state.now.modules) c.args.cluster rows c.in_ok-runners.runners.items are
+    c.in_ok-runners.ensures.long ∙ ap (λ (g : TableGroupsOf). length (slice_index_or g.actors c.args.cluster [])) (sym c.in_ok-runners.ensures.groups)
 
-pub own_actors-requires-clause-elsewhere : goal.own_actors-requires-clause-elsewhere
-own_actors-requires-clause-elsewhere c =
+pub actors-actor_numbers-requires : goal.actors-actor_numbers-requires
+actors-actor_numbers-requires c =
     let flat = c.args.flat.now in
-    let rows = c.args.standing.now.first.attrs.rows in
-    let modules : c.deref-4.result.now ≡ c.args.state.now.modules = search rules in
-    let are = subst (λ (l : List ModuleStateOf). AreRunnersOf flat (HoldsState rows l) c.args.cluster rows c.in_ok-runners.runners.items) modules c.in_ok-runners.ensures.runners in
-    outside_elsewhere flat (HoldsState rows c.args.state.now.modules) c.args.cluster rows c.in_ok-runners.runners.items are
+    let groups : c.layout-2.inside.groups ≡ c.in_ok-layout.layout.groups = ap (λ (l : LayoutOf). l.groups) c.layout-2.view_is ∙ c.in_ok-runners.ensures.groups in
+    subst (λ (g : TableGroupsOf). c.args.cluster < length g.actors) (sym groups)
+    (in_actors flat.tables c.in_ok-layout.layout.groups c.args.cluster (is_there flat c.args.cluster c.args.standing.now.first (c.law_laid.ensures.laid flat c.requires.sound) c.requires.plan) (c.in_ok-layout.ensures c.args.cluster).groups)
+
+pub traced_firings-requires : goal.traced_firings-requires
+traced_firings-requires c =
+    let groups : c.layout-2.inside.groups ≡ c.in_ok-layout.layout.groups = ap (λ (l : LayoutOf). l.groups) c.layout-2.view_is ∙ c.in_ok-runners.ensures.groups in
+    let runners : c.deref-4.result.now ≡ c.in_ok-runners.runners.items = search rules in
+    ap length runners ∙ c.in_ok-runners.ensures.long ∙ ap (λ (g : TableGroupsOf). length (slice_index_or g.actors c.args.cluster [])) (sym groups)
+    ∙ ap (λ (l : List ℕ). length l) (sym c.actors-actor_numbers.ensures)
 
 pub returns-clause-parts : goal.returns-clause-parts
 returns-clause-parts c =
-    let tables = c.args.flat.now.tables in
+    let flat = c.args.flat.now in
+    let tables = flat.tables in
     let first = c.args.standing.now.first in
-    let rows : c.deref.result.now ≡ first.attrs.rows = search rules in
-    let rings : AreStateRings tables c.args.cluster first.plan.bounds.items c.args.state.now.edges (length tables.edges) c.in_ok-rings.rings.items = search rules in
-    let modules : c.deref-4.result.now ≡ c.args.state.now.modules = search rules in
+    let laid = c.law_laid.ensures.laid flat c.requires.sound in
+    let rows : c.deref-2.result.now ≡ first.attrs.rows = search rules in
+    let edges : map {A = Vec ℤ Global} {B = List ℤ} (λ nums. nums.items) c.deref.result.now ≡ c.args.state.now.edges =
+    ap (map {A = Vec ℤ Global} {B = List ℤ} (λ nums. nums.items)) c.deref.ensures.value ∙ ap (λ (s : ClusterStateOf). s.edges) c.state.view_is in
+    let rings : AreStateRings tables c.args.cluster first.plan.bounds.items c.args.state.now.edges (length tables.edges) c.in_ok-rings.rings.items =
+    subst (λ (l : List (List ℤ)). AreStateRings tables c.args.cluster first.plan.bounds.items l (length tables.edges) c.in_ok-rings.rings.items) edges
+    (subst (λ (f : First). AreStateRings tables c.args.cluster f.plan.bounds.items (map {A = Vec ℤ Global} {B = List ℤ} (λ nums. nums.items) c.deref.result.now) (length tables.edges) c.in_ok-rings.rings.items)
+    c.first.view_is c.in_ok-rings.ensures) in
+    let back = rings_back tables c.args.cluster c.in_ok-layout.layout.groups (is_there flat c.args.cluster first laid c.requires.plan) (c.in_ok-layout.ensures c.args.cluster).groups
+    c.edges-numbers.result.now (c.edges-numbers.ensures ∙ ap (λ (l : LayoutOf). slice_index_or l.groups.edges c.args.cluster []) c.layout.view_is)
+    c.in_ok-rings.rings.items c.in_ok-own.own.items rings.long
+    (state_elsewhere tables c.args.cluster first.plan.bounds.items (no_bound flat c.args.cluster first laid c.requires.plan) c.in_ok-rings.rings.items c.args.state.now.edges rings)
+    c.in_ok-own.ensures in
+    let modules : c.deref-3.result.now ≡ c.args.state.now.modules = search rules in
     record {
-      reads_are = ap (λ (e : EdgesOf). e.reads) c.in_ok-edges.ensures ∙ c.in_ok-rates.ensures.reads ∙ ap (λ (t : List AttrsOf). read_rates (net_of tables t)) rows;
-      writes_are = ap (λ (e : EdgesOf). e.writes) c.in_ok-edges.ensures ∙ c.in_ok-rates.ensures.writes ∙ ap (λ (t : List AttrsOf). write_rates (net_of tables t)) rows;
+      reads_are = ap (λ (e : EdgesOf). e.reads) c.in_ok-edges.ensures ∙ ap (λ (t : List AttrsOf). read_rates (net_of tables t)) rows;
+      writes_are = ap (λ (e : EdgesOf). e.writes) c.in_ok-edges.ensures ∙ ap (λ (t : List AttrsOf). write_rates (net_of tables t)) rows;
       rings_are =
-          subst (AreStateRings tables c.args.cluster first.plan.bounds.items c.args.state.now.edges (length tables.edges)) (sym (ap (λ (e : EdgesOf). e.rings) c.in_ok-edges.ensures)) rings;
+          subst (AreStateRings tables c.args.cluster first.plan.bounds.items c.args.state.now.edges (length tables.edges))
+          (sym (ap (λ (e : EdgesOf). e.rings) c.in_ok-edges.ensures ∙ back)) rings;
       runners_are =
-          subst (AreRunnersOf c.args.flat.now (HoldsState first.attrs.rows c.args.state.now.modules) c.args.cluster first.attrs.rows) (sym c.in_ok-actors.ensures.runners)
-          (subst (λ (l : List ModuleStateOf). AreRunnersOf c.args.flat.now (HoldsState first.attrs.rows l) c.args.cluster first.attrs.rows c.in_ok-runners.runners.items) modules
+          subst (AreRunnersOf flat (HoldsState first.attrs.rows c.args.state.now.modules) c.args.cluster first.attrs.rows)
+          (sym (c.in_ok-actors.ensures.runners ∙ ap (λ (g : TableGroupsOf). spread_runners tables (slice_index_or g.actors c.args.cluster []) c.in_ok-runners.runners.items) c.in_ok-runners.ensures.groups))
+          (subst (λ (l : List ModuleStateOf). AreRunnersOf flat (HoldsState first.attrs.rows l) c.args.cluster first.attrs.rows
+          (spread_runners tables (slice_index_or c.in_ok-layout.layout.groups.actors c.args.cluster []) c.in_ok-runners.runners.items)) modules
           c.in_ok-runners.ensures.runners);
       none_done = c.in_ok-actors.ensures.none_done;
     }

@@ -1,10 +1,15 @@
-use Rattle.std.proofs.Common.{refl, subst, sym, true}
+use Rattle.std.proofs.Common.{◌∙◌, ℕ, List, [], ap, arith, length, refl, subst, sym, true}
+use Rattle.std.specs.Prelude.{slice_index_or}
+use Rattle.tdf_dynamic_plans.proofs.Api.{modules_few}
 use Rattle.tdf_exec.proofs.Kept.{of_modules}
-use Rattle.tdf_exec.proofs.Numbered.{actors_here, in_actors}
-use Rattle.tdf_exec.proofs.Taking.{can_take, keeps, many, runners_are}
+use Rattle.tdf_exec.proofs.Numbered.{actors_here, in_actors, number_below}
+use Rattle.tdf_exec.proofs.Taking.{can_take, keeps, runners_are}
 use Rattle.tdf_exec.specs.Layout.{HasLayoutOf, KeepsLayouts, LayoutOf}
 use Rattle.tdf_exec.specs.contracts.laying.Layout.{the_view}
-use Rattle.tdf_exec.specs.machine.Starting.{HoldsText}
+use Rattle.tdf_exec.specs.machine.Laid.{AreRunnersOf}
+use Rattle.tdf_exec.specs.machine.Starting.{AreTakenUpTo, HoldsText}
+use Rattle.tdf_exec.specs.views.Actors.{spread_runners}
+use Rattle.tdf_streams.proofs.Api.{is_wired}
 use Rattle.tdf_exec.proofs.starting.runners_of.Goals as goal
 
 pub first_runners-requires-clause-groups : goal.first_runners-requires-clause-groups
@@ -31,30 +36,62 @@ give_all-requires-clause-rising c =
     let has : HasLayoutOf flat c.args.cluster (the_view c.layout.inside) = subst (HasLayoutOf flat c.args.cluster) (sym c.layout.view_is) c.requires.layout in
     (actors_here flat.tables c.layout.inside.groups c.args.cluster c.requires.has has.groups c.actors-numbers.result.now c.actors-numbers.ensures).rising
 
+pub give_all-requires-clause-within : goal.give_all-requires-clause-within
+give_all-requires-clause-within c =
+    let flat = c.args.flat.now in
+    let has : HasLayoutOf flat c.args.cluster (the_view c.layout.inside) = subst (HasLayoutOf flat c.args.cluster) (sym c.layout.view_is) c.requires.layout in
+    let own = actors_here flat.tables c.layout.inside.groups c.args.cluster c.requires.has has.groups c.actors-numbers.result.now c.actors-numbers.ensures in
+    number_below flat.tables c.args.cluster c.actors-numbers.result.now own
+
+pub give_all-requires-clause-long : goal.give_all-requires-clause-long
+give_all-requires-clause-long c = c.in_ok-runners.ensures.long ∙ ap length (sym c.actors-numbers.ensures)
+
 pub give_all-requires-clause-many : goal.give_all-requires-clause-many
 give_all-requires-clause-many c =
     let flat = c.args.flat.now in
     let has : HasLayoutOf flat c.args.cluster (the_view c.layout.inside) = subst (HasLayoutOf flat c.args.cluster) (sym c.layout.view_is) c.requires.layout in
-    many flat (c.law_laid.ensures.laid flat c.requires.sound) (HoldsText flat true) c.args.cluster (the_view c.layout.inside) has c.in_ok-runners.ensures.0 c.in_ok-runners.runners.items c.in_ok-runners.ensures.1.first
+    let few = modules_few flat.tables (is_wired flat (c.law_laid.ensures.laid flat c.requires.sound).limits) in
+    let many = has.modules in
+    omega (arith, few, many)
 
 pub give_all-requires-clause-can : goal.give_all-requires-clause-can
 give_all-requires-clause-can c =
     let flat = c.args.flat.now in
     let has : HasLayoutOf flat c.args.cluster (the_view c.layout.inside) = subst (HasLayoutOf flat c.args.cluster) (sym c.layout.view_is) c.requires.layout in
-    can_take flat (c.law_laid.ensures.laid flat c.requires.sound) (HoldsText flat true) c.args.cluster (the_view c.layout.inside) has c.in_ok-runners.ensures.0 c.in_ok-runners.runners.items c.in_ok-runners.ensures.1.first
+    let took : (samplers : ℕ) × AreTakenUpTo flat (HoldsText flat true) c.args.cluster (length c.layout.inside.wires.items) c.layout.inside.wires.items c.first_runners.new.wires.items samplers
+    (spread_runners flat.tables c.actors-numbers.result.now c.in_ok-runners.runners.items) =
+    subst (λ (l : List ℕ). (samplers : ℕ) × AreTakenUpTo flat (HoldsText flat true) c.args.cluster (length c.layout.inside.wires.items) c.layout.inside.wires.items c.first_runners.new.wires.items samplers
+    (spread_runners flat.tables l c.in_ok-runners.runners.items)) (sym c.actors-numbers.ensures) c.in_ok-runners.ensures.taken in
+    can_take flat (c.law_laid.ensures.laid flat c.requires.sound) (HoldsText flat true) c.args.cluster (the_view c.layout.inside) has took.0
+    (spread_runners flat.tables c.actors-numbers.result.now c.in_ok-runners.runners.items) took.1.first
+
+pub returns-clause-long : goal.returns-clause-long
+returns-clause-long c =
+    c.give_all.ensures.same ∙ c.in_ok-runners.ensures.long ∙ ap (λ (l : LayoutOf). length (slice_index_or l.groups.actors c.args.cluster [])) c.layout.view_is
 
 pub returns-clause-runners : goal.returns-clause-runners
 returns-clause-runners c =
     let flat = c.args.flat.now in
     let has : HasLayoutOf flat c.args.cluster (the_view c.layout.inside) = subst (HasLayoutOf flat c.args.cluster) (sym c.layout.view_is) c.requires.layout in
+    let took : (samplers : ℕ) × AreTakenUpTo flat (HoldsText flat true) c.args.cluster (length c.layout.inside.wires.items) c.layout.inside.wires.items c.first_runners.new.wires.items samplers
+    (spread_runners flat.tables c.actors-numbers.result.now c.in_ok-runners.runners.items) =
+    subst (λ (l : List ℕ). (samplers : ℕ) × AreTakenUpTo flat (HoldsText flat true) c.args.cluster (length c.layout.inside.wires.items) c.layout.inside.wires.items c.first_runners.new.wires.items samplers
+    (spread_runners flat.tables l c.in_ok-runners.runners.items)) (sym c.actors-numbers.ensures) c.in_ok-runners.ensures.taken in
     let own = actors_here flat.tables c.layout.inside.groups c.args.cluster c.requires.has has.groups c.actors-numbers.result.now c.actors-numbers.ensures in
-    runners_are flat (c.law_laid.ensures.laid flat c.requires.sound) (HoldsText flat true) c.args.cluster (the_view c.layout.inside) has c.in_ok-runners.ensures.0 c.in_ok-runners.runners.items c.in_ok-runners.ensures.1.first
-    c.args.attrs.now.rows c.actors-numbers.result.now own c.give_all.new.rows.items c.give_all.new.runners.items c.give_all.ensures
+    subst (λ (l : List ℕ). AreRunnersOf flat (HoldsText flat true) c.args.cluster c.args.attrs.now.rows (spread_runners flat.tables l c.give_all.new.runners.items))
+    (c.actors-numbers.ensures ∙ ap (λ (l : LayoutOf). slice_index_or l.groups.actors c.args.cluster []) c.layout.view_is)
+    (runners_are flat (c.law_laid.ensures.laid flat c.requires.sound) (HoldsText flat true) c.args.cluster (the_view c.layout.inside) has took.0
+    (spread_runners flat.tables c.actors-numbers.result.now c.in_ok-runners.runners.items) took.1.first
+    c.args.attrs.now.rows c.actors-numbers.result.now own c.give_all.new.rows.items (spread_runners flat.tables c.actors-numbers.result.now c.give_all.new.runners.items) c.give_all.ensures.given)
 
 pub returns-clause-others : goal.returns-clause-others
 returns-clause-others c =
     let flat = c.args.flat.now in
     let has : HasLayoutOf flat c.args.cluster (the_view c.layout.inside) = subst (HasLayoutOf flat c.args.cluster) (sym c.layout.view_is) c.requires.layout in
+    let took : (samplers : ℕ) × AreTakenUpTo flat (HoldsText flat true) c.args.cluster (length c.layout.inside.wires.items) c.layout.inside.wires.items c.first_runners.new.wires.items samplers
+    (spread_runners flat.tables c.actors-numbers.result.now c.in_ok-runners.runners.items) =
+    subst (λ (l : List ℕ). (samplers : ℕ) × AreTakenUpTo flat (HoldsText flat true) c.args.cluster (length c.layout.inside.wires.items) c.layout.inside.wires.items c.first_runners.new.wires.items samplers
+    (spread_runners flat.tables l c.in_ok-runners.runners.items)) (sym c.actors-numbers.ensures) c.in_ok-runners.ensures.taken in
     let own = actors_here flat.tables c.layout.inside.groups c.args.cluster c.requires.has has.groups c.actors-numbers.result.now c.actors-numbers.ensures in
     let left : LayoutOf = the_view record {
       wires = c.first_runners.new.wires;
@@ -64,6 +101,7 @@ returns-clause-others c =
       actor_places = c.layout.inside.actor_places;
     } in
     subst (λ (l : LayoutOf). KeepsLayouts flat c.args.cluster l left) c.layout.view_is
-    (keeps flat (c.law_laid.ensures.laid flat c.requires.sound) (HoldsText flat true) c.args.cluster (the_view c.layout.inside) has c.in_ok-runners.ensures.0 c.in_ok-runners.runners.items c.in_ok-runners.ensures.1.first
-    c.args.attrs.now.rows c.actors-numbers.result.now own c.give_all.new.rows.items c.give_all.new.runners.items c.give_all.ensures
-    left refl refl c.in_ok-runners.ensures.1.same c.in_ok-runners.ensures.1.others)
+    (keeps flat (c.law_laid.ensures.laid flat c.requires.sound) (HoldsText flat true) c.args.cluster (the_view c.layout.inside) has took.0
+    (spread_runners flat.tables c.actors-numbers.result.now c.in_ok-runners.runners.items) took.1.first
+    c.args.attrs.now.rows c.actors-numbers.result.now own c.give_all.new.rows.items (spread_runners flat.tables c.actors-numbers.result.now c.give_all.new.runners.items) c.give_all.ensures.given
+    left refl refl took.1.same took.1.others)

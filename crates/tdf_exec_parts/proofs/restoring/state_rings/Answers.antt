@@ -1,8 +1,9 @@
 use Rattle.std.proofs.Common.{◌∙◌, ◌<◌, ◌+◌, Global, List, Vec, ap, arith, if◌then◌else◌, length, map, subst, sym, ℤ}
 use Rattle.tdf_bind_tables.specs.FlatTables.{FlatTablesOf}
 use Rattle.tdf_exec_parts.proofs.StateRings.{place_below, rings_next}
+use Rattle.tdf_exec_parts.specs.Restored.{held_by_state}
 use Rattle.tdf_exec_parts.specs.machine.Restoring.{AreRingsUpTo}
-use Rattle.tdf_rings.specs.Rings.{RingOf}
+use Rattle.tdf_rings.specs.Rings.{RingOf, ring_of}
 use Rattle.tdf_exec_parts.proofs.restoring.state_rings.Goals as goal
 
 pub state_ring-requires-clause-inside : goal.state_ring-requires-clause-inside
@@ -21,6 +22,7 @@ place_after-place-requires c = λ yes.
 pub loop-e-preserved : goal.loop-e-preserved
 loop-e-preserved c =
     let edges : List (List ℤ) = map {A = Vec ℤ Global} {B = List ℤ} (λ nums. nums.items) c.args.edges.now in
-    subst (λ (l : List RingOf). AreRingsUpTo c.args.tables.now c.args.cluster c.args.bounds.now edges (c.loop-e.e + 1) c.place_after-place.result l) (sym c.in_ok-push.ensures.items)
-    (rings_next c.args.tables.now c.args.cluster c.args.bounds.now edges c.loop-e.e c.loop-e.place c.loop-e.rings.items c.loop-e.invariant c.place_after-place.result c.in_ok-state_ring.field-0
-    (c.place_after-place.ensures ∙ ap (λ b. c.loop-e.place + (if b then 1 else 0)) c.is_own.ensures) c.in_ok-state_ring.ensures)
+    subst (λ (l : List RingOf). AreRingsUpTo c.args.tables.now c.args.cluster c.args.bounds.now.items edges (c.loop-e.e + 1) c.place_after-place.result l) (sym c.in_ok-push.ensures.items)
+    (rings_next c.args.tables.now c.args.cluster c.args.bounds.now.items edges c.loop-e.e c.loop-e.place c.loop-e.rings.items c.loop-e.invariant c.place_after-place.result c.in_ok-state_ring.field-0
+    (c.place_after-place.ensures ∙ ap (λ b. c.loop-e.place + (if b then 1 else 0)) c.is_own.ensures)
+    (c.in_ok-state_ring.ensures ∙ ap (ring_of (held_by_state c.args.tables.now c.args.cluster edges c.loop-e.e)) (c.in_ok-bound.ensures.number ∙ c.get_near.ensures)))

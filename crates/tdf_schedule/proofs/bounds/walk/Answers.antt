@@ -9,7 +9,7 @@ use Rattle.tdf_schedule.proofs.bounds.walk.Goals as goal
 pub loop-i-preserved : goal.loop-i-preserved
 loop-i-preserved c = walked_more (length c.args.done.now.items) c.loop-i.i c.args.entries.now _ c.args.edges.now c.loop-i.done.items c.fire.new.done.items c.loop-i.bounds.items c.fire.new.bounds.items
     c.loop-i-test.true (All-get_or (λ (x : Entry). x.actor < length c.args.done.now.items) c.args.entries.now c.loop-i.i _ c.loop-i-test.true c.requires.actors) c.requires.fit c.loop-i.invariant
-    c.fire.ensures.done c.fire.ensures.raised c.fire.ensures.small
+    c.fire.ensures.done c.fire.ensures.raised
 
 pub fire-requires-clause-into : goal.fire-requires-clause-into
 fire-requires-clause-into c = All-get_or (λ (x : Entry). AreInputs c.args.edges.now x.actor (links_at c.args.inputs.now x.actor)) c.args.entries.now c.loop-i.i _ c.loop-i-test.true c.requires.into

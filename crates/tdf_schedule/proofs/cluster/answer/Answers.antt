@@ -8,6 +8,5 @@ use Rattle.tdf_schedule.proofs.cluster.answer.Goals as goal
 
 pub returns : goal.returns
 returns c = by_pace c.args.net.now.actors.items c.args.net.now.edges.items c.args.counts.now c.args.steps.now.actor_steps.items c.in_ok-paces.paces.items c.args.steps.now.period c.decide-result.result
-    (subst (λ (l : List ℕ). ArePacesUpTo (length c.args.net.now.actors.items) c.args.net.now.actors.items l c.in_ok-paces.paces.items) c.deref.ensures.value
-    (subst (λ (l : List Actor). ArePacesUpTo (length l) l c.deref.result.now c.in_ok-paces.paces.items) c.actors.ensures c.in_ok-paces.ensures))
-    (subst (λ (l : List ℕ). IsAnswer c.args.net.now.actors.items c.args.net.now.edges.items (slice_index l) c.args.counts.now c.args.steps.now.period c.decide-result.result) c.deref-3.ensures.value c.decide-result.ensures)
+    (subst (λ (l : List Actor). ArePacesUpTo (length l) l c.args.steps.now.actor_steps.items c.in_ok-paces.paces.items) c.actors.ensures c.in_ok-paces.ensures)
+    (subst (λ (l : List ℕ). IsAnswer c.args.net.now.actors.items c.args.net.now.edges.items (slice_index l) c.args.counts.now c.args.steps.now.period c.decide-result.result) c.deref-2.ensures.value c.decide-result.ensures)

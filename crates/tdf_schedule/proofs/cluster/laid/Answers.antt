@@ -32,4 +32,4 @@ pub returns : goal.returns
 returns c = laid_is c.args.net.now.edges.items (slice_index c.args.paces.now) c.args.counts.now c.args.period _ c.in_ok-most.most.items _ _ _ _
     (planned_is c.args.net.now.edges.items (slice_index c.args.paces.now) c.args.counts.now c.args.table.now.items c.requires.rows c.in_ok-entries.entries.items
     c.in_ok-entries.ensures.complete c.in_ok-entries.ensures.keys c.in_ok-entries.ensures.sorted (full_all c.args.net.now.edges.items (slice_index c.args.paces.now) c.args.counts.now c.args.table.now.items c.requires.rows c.requires.full))
-    c.edges.ensures c.deref.ensures.value c.edges-2.ensures c.deref-2.ensures.value c.in_ok-most.ensures.bounds c.in_ok-bounds.ensures refl
+    c.edges.ensures c.deref.ensures.value c.edges-2.ensures c.deref-2.ensures.value c.in_ok-most.ensures c.in_ok-bounds.ensures refl

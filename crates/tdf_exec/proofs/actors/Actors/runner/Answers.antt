@@ -1,4 +1,4 @@
-use Rattle.std.proofs.Common.{◌≡◌, ◌∙◌, Some, ap, arith, length, refl, sym}
+use Rattle.std.proofs.Common.{◌∙◌, Some, ap, arith, length, refl, sym}
 use Rattle.std.proofs.lemmas.List.{get_or_read_under}
 use Rattle.std.specs.Prelude.{slice_get}
 use Rattle.tdf_exec.specs.declared.runners.Runner.TheVariants as runner

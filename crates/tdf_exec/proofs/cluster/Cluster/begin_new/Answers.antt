@@ -1,5 +1,4 @@
-use Rattle.std.proofs.Common.{rules, ◌≡◌, ◌∙◌, ◌<◌, ℕ, List, None, ap, arith, length, subst, sym, true}
-use Rattle.std.specs.Prelude.{slice_index}
+use Rattle.std.proofs.Common.{rules, ◌≡◌, ◌∙◌, List, None, ap, arith, length, subst, sym, true}
 use Rattle.tdf_dynamic_plans.specs.Known.{AttrsTable}
 use Rattle.tdf_exec.proofs.Installing.{can_restart, fit_in, has}
 use Rattle.tdf_exec.proofs.Others.{all_edges, no_bound, rates_one}
@@ -10,7 +9,7 @@ use Rattle.tdf_exec.specs.machine.Counted.{AreCounted}
 use Rattle.tdf_exec.specs.machine.Restarting.{AreRestarted}
 use Rattle.tdf_exec.specs.views.Actors.{ActorsOf}
 use Rattle.tdf_exec_firing.specs.Edges.{EdgesOf}
-use Rattle.tdf_rings.specs.Carried.{AreCarried, FitIn, ring_at}
+use Rattle.tdf_rings.specs.Carried.{AreCarried}
 use Rattle.tdf_rings.specs.Rings.{RingOf}
 use Rattle.tdf_schedule.specs.declared.entry.Entry.{Entry}
 use Rattle.tdf_streams.proofs.Api.{are_rates}
@@ -21,15 +20,13 @@ carry-requires-clause-fit c =
     let ready : IsReadyFor c.args.flat.now (the_view c.self.inside) c.args.attrs c.args.plan =
     subst (λ (s : ClusterOf). IsReadyFor c.args.flat.now s c.args.attrs c.args.plan) (sym c.self.view_is) c.requires.ready in
     let end : next_offset (the_view c.self.inside) ≡ None = ready.of.over (subst (λ (s : ClusterOf). s.crossed ≡ true) (sym c.self.view_is) c.requires.crossed) in
-    subst (λ (l : List ℕ). FitIn l (the_view c.self.inside).rings) (sym c.deref.ensures.value)
-    (fit_in c.args.flat.now (the_view c.self.inside) c.args.attrs c.args.plan ready (c.law_laid.ensures.laid c.args.flat.now c.requires.sound) c.law_laid.ensures.present c.requires.sound end)
+    fit_in c.args.flat.now (the_view c.self.inside) c.args.attrs c.args.plan ready (c.law_laid.ensures.laid c.args.flat.now c.requires.sound) c.law_laid.ensures.present c.requires.sound end
 
 pub carry-requires-clause-others : goal.carry-requires-clause-others
 carry-requires-clause-others c =
     let ready : IsReadyFor c.args.flat.now (the_view c.self.inside) c.args.attrs c.args.plan =
     subst (λ (s : ClusterOf). IsReadyFor c.args.flat.now s c.args.attrs c.args.plan) (sym c.self.view_is) c.requires.ready in
-    subst (λ (l : List ℕ). (e : ℕ) → e < length (the_view c.self.inside).rings → (ring_at (the_view c.self.inside).rings e).capacity ≡ 0 → slice_index l e ≡ 0) (sym c.deref.ensures.value)
-    (no_bound c.args.flat.now (the_view c.self.inside) c.args.attrs c.args.plan ready (c.law_laid.ensures.laid c.args.flat.now c.requires.sound) c.law_laid.ensures.present)
+    no_bound c.args.flat.now (the_view c.self.inside) c.args.attrs c.args.plan ready (c.law_laid.ensures.laid c.args.flat.now c.requires.sound) c.law_laid.ensures.present
 
 pub restart_actors-requires-clause-rates : goal.restart_actors-requires-clause-rates
 restart_actors-requires-clause-rates c =
@@ -65,7 +62,7 @@ invariant_of-self-2 c =
     let end : next_offset (the_view c.self.inside) ≡ None = ready.of.over (subst (λ (s : ClusterOf). s.crossed ≡ true) (sym c.self.view_is) c.requires.crossed) in
     let h = has c.args.flat.now (the_view c.self.inside) c.args.attrs c.args.plan ready (c.law_laid.ensures.laid c.args.flat.now c.requires.sound) c.law_laid.ensures.present c.requires.sound end in
     let long = ready.long in let room = c.self.invariant.room in let kept = ap (λ (t : AttrsTable). length t.rows) (c.recycle.ensures.same ∙ c.replace-left.ensures.after) in
-    record { sorted = c.law_laid.ensures.sorted _ _ _ c.args.plan.entries.items h.plan_is.planned; counted = subst (λ (l : List Entry). AreCounted l c.set_firings.new.counts.items) c.deref-2.ensures.value c.set_firings.ensures.each; room = omega (arith, long, room, kept) }
+    record { sorted = c.law_laid.ensures.sorted _ _ _ c.args.plan.entries.items h.plan_is.planned; counted = subst (λ (l : List Entry). AreCounted l c.set_firings.new.counts.items) c.deref.ensures.value c.set_firings.ensures.each; room = omega (arith, long, room, kept) }
 
 pub returns-clause-ok : goal.returns-clause-ok
 returns-clause-ok c =

@@ -1,0 +1,6 @@
+use Rattle.std.proofs.Common.{◌≡◌, map, take}
+use Rattle.std.specs.Prelude.{slice_index}
+use Rattle.tdf_exec_firing.proofs.edges.own_bounds.Given as goal
+
+abbrev pub invariant-loop-i : goal.invariant-loop-i
+invariant-loop-i l = l.own.items ≡ map (slice_index l.bounds.items) (take l.i l.numbers)

@@ -1,6 +1,0 @@
-use Rattle.std.proofs.Common.{◌≡◌, map, take}
-use Rattle.std.specs.Prelude.{slice_index}
-use Rattle.tdf_places.proofs.places.Places.gather.Given as goal
-
-abbrev pub invariant-loop-i : goal.invariant-loop-i
-invariant-loop-i l = l.own.items ≡ map (slice_index l.values) (take l.i l.self.numbers)
