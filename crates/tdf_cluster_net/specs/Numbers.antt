@@ -1,19 +1,7 @@
 -- Numbers of some of the things of a list, and values that stand at these numbers.
 -- Source: own.
 use Rattle.std.specs.Prelude.{ℕ, ◌≡◌, ◌≢◌, ◌<◌, List, length, slice_index}
-
--- a number stands at some place
-abbrev pub IsAmong : List ℕ → ℕ → Type 0
-IsAmong numbers m = (i : ℕ) × (i < length numbers) × (slice_index numbers i ≡ m)
-
--- each is greater than those before it
-abbrev pub Rise : List ℕ → Type 0
-Rise numbers = (i j : ℕ) → i < j → j < length numbers
-    → slice_index numbers i < slice_index numbers j
-
--- each is below a number
-abbrev pub AllBelow : (count : ℕ) → List ℕ → Type 0
-AllBelow count numbers = (i : ℕ) → i < length numbers → slice_index numbers i < count
+pub use Rattle.tdf_places.specs.Places.{AllBelow, IsAmong, Rise}
 
 -- the numbers below `count` of the things of a kind, rising
 pub record AreNumbers (count : ℕ) (IsMeant : ℕ → Type 0) (numbers : List ℕ) : Type 0 where

@@ -1,5 +1,6 @@
 pub mod Api
 pub mod Clustering
+pub mod Counts
 pub mod EdgeOnes
 pub mod OwnCounts
 pub mod OwnNets

@@ -1,3 +1,4 @@
+pub mod Counted
 pub mod Groups
 pub mod Own
 pub mod machine

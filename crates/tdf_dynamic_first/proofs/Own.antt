@@ -1,7 +1,7 @@
 -- The table of a cluster by the numbers of its actors, and the ports of a module by their group.
 use Rattle.std.proofs.Common.{◌≡◌, ◌∙◌, ℕ, zero, suc, ◌+◌, ◌<◌, ◌≤◌, ◌⊎◌, inl, inr, List, [], ◌∷◌, ◌++◌, Option, Some, None, length, map, take, refl, sym, ap, subst, arith}
 use Rattle.std.proofs.Math.ListN.{get_or}
-use Rattle.std.proofs.lemmas.Bool.{cases_eq, cases_lt, eq-eqb, le-ltb, lt-ltb, ne_eqb}
+use Rattle.std.proofs.lemmas.Bool.{cases_eq, eq-eqb, ne_eqb}
 use Rattle.std.proofs.lemmas.List.{get_or-map, length-map, take_more}
 use Rattle.std.proofs.lemmas.List.Elements.{filter_map-append}
 use Rattle.std.proofs.lemmas.Option.{get_or_from_slice_get, slice_get_within}
@@ -13,13 +13,13 @@ use Rattle.tdf_bind_connections.specs.declared.modules.PortRow.{PortRow}
 use Rattle.tdf_bind_tables.specs.Actors.{cluster_of}
 use Rattle.tdf_bind_tables.specs.FlatTables.{FlatTablesOf}
 use Rattle.tdf_cluster_net.specs.Grouped.{AreGroups}
-use Rattle.tdf_cluster_net.specs.Numbers.{AllBelow, AreNumbers, IsAmong, Rise}
+use Rattle.tdf_cluster_net.specs.Numbers.{AreNumbers, IsAmong, Rise}
 use Rattle.tdf_cluster_net.specs.Own.{IsActorInCluster}
 use Rattle.tdf_cluster_plans.proofs.Api.{in_count}
 use Rattle.tdf_cluster_plans.specs.Groups.{AreTableGroups, TableGroupsOf}
 use Rattle.tdf_dynamic_first.proofs.Picking.{filtered_all, filtered_same, made_all, made_by}
 use Rattle.tdf_dynamic_first.specs.Text.{attrs_if, first_table}
-use Rattle.tdf_dynamic_first.specs.machine.Placed.{ArePortsByModule, attrs_by, attrs_of, module_or_last, own_rows}
+use Rattle.tdf_dynamic_first.specs.machine.Placed.{ArePortsByModule, attrs_by, attrs_of, own_rows}
 use Rattle.tdf_dynamic_plans.proofs.Api.{modules_few}
 use Rattle.tdf_dynamic_plans.specs.Attributes.{clusters_of, number_if, ports_of_module}
 use Rattle.tdf_dynamic_plans.specs.Rates.{IsWired}
@@ -33,7 +33,7 @@ module _ (flat : Flat) (cluster : ℕ) where
   other : (n : ℕ) (row : ModuleRow) → (slice_index (clusters_of flat.tables) n ≡ cluster → ⊥) → attrs_if flat cluster n row ≡ None
   other n row apart = rw (ne_eqb _ _ apart)
 
-  pub rows_own : (actors : List ℕ) → length flat.tables.modules ≤ length flat.tables.actors
+  rows_own : (actors : List ℕ) → length flat.tables.modules ≤ length flat.tables.actors
       → AreNumbers (length flat.tables.actors) (IsActorInCluster (clusters_of flat.tables) cluster) actors → own_rows flat actors ≡ first_table flat cluster
   unfolding first_table
   rows_own actors few are =
@@ -82,66 +82,33 @@ group_at f m [] n less is = absurd (omega (arith, less))
 group_at f m (p ∷ ports) zero less is = (p, refl, is)
 group_at f m (p ∷ ports) (suc n) less is = group_at f m ports n (omega (arith, less)) is
 
--- a group of ports by a number that is told of each
-module _ (ports : List PortRow) (f : PortRow → ℕ) (m : ℕ) (down : (p : PortRow) → f p ≡ m → p.«module» ≡ m) (up : (p : PortRow) → p.«module» ≡ m → f p ≡ m) where
-  group_is : (list : List ℕ) → AreNumbers (length (map f ports)) (λ n. slice_index (map f ports) n ≡ m) list → list ≡ ports_of_module ports m
+-- a group of ports by their module
+module _ (ports : List PortRow) (m : ℕ) where
+  group_is : (list : List ℕ) → AreNumbers (length (map (λ (port : PortRow). port.«module») ports)) (λ n. slice_index (map (λ (port : PortRow). port.«module») ports) n ≡ m) list
+      → list ≡ ports_of_module ports m
   group_is list are = ports_own ports m list are.rising each all
     where
-      long : length (map f ports) ≡ length ports
-      long = length-map ports f
+      long : length (map (λ (port : PortRow). port.«module») ports) ≡ length ports
+      long = length-map ports (λ (port : PortRow). port.«module»)
 
       each : (i : ℕ) → i < length list → (p : PortRow) × (slice_get ports (get_or list i 0) ≡ Some p) × (p.«module» ≡ m)
       each i inside =
           let w = are.within i inside in
           let l = long in
-          let found = group_at f m ports (get_or list i 0) (omega (arith, w, l)) (are.meant i inside) in
-          (found.0, found.1, down found.0 found.2)
+          group_at (λ (port : PortRow). port.«module») m ports (get_or list i 0) (omega (arith, w, l)) (are.meant i inside)
 
       all : (n : ℕ) (p : PortRow) → slice_get ports n ≡ Some p → p.«module» ≡ m → IsAmong list n
       all n p is same =
           let w = slice_get_within ports n p is in
           let l = long in
-          are.all n (omega (arith, w, l)) (get_or-map f ports n p 0 w ∙ ap f (get_or_from_slice_get ports n p p is) ∙ up p same)
+          are.all n (omega (arith, w, l)) (get_or-map (λ (port : PortRow). port.«module») ports n p 0 w ∙ ap (λ (port : PortRow). port.«module») (get_or_from_slice_get ports n p p is) ∙ same)
 
--- by the modules below a number
-low_is : (count m : ℕ) (p : PortRow) → m < count → module_or_last count p ≡ m → p.«module» ≡ m
-low_is count m p less is = go (cases_lt p.«module» count)
-  where
-    go : (p.«module» < count) ⊎ (count ≤ p.«module») → p.«module» ≡ m
-    go (inl low) = let e : module_or_last count p ≡ p.«module» = rw (lt-ltb p.«module» count low) refl in sym e ∙ is
-    go (inr high) = let e : module_or_last count p ≡ count = rw (le-ltb p.«module» count high) refl in absurd (omega (arith, less, e, is))
-
-is_low : (count m : ℕ) (p : PortRow) → m < count → p.«module» ≡ m → module_or_last count p ≡ m
-is_low count m p less is = let low : p.«module» < count = omega (arith, less, is) in rw (lt-ltb p.«module» count low) is
-
-module _ (ports : List PortRow) (count : ℕ) where
-  pub by_module : (of : List ℕ) (groups : List (List ℕ)) → of ≡ map (module_or_last count) ports → AreGroups (count + 1) of groups → ArePortsByModule ports count groups
-  by_module of groups same are = record {
-    long = let l = are.long in omega (arith, l);
-    each = λ m less. group_is ports (module_or_last count) m (λ p is. low_is count m p less is) (λ p is. is_low count m p less is) (slice_index_or groups m [])
-        (subst (λ l. AreNumbers (length l) (λ n. slice_index l n ≡ m) (slice_index_or groups m [])) same (are.each m (omega (arith, less))));
-  }
-
-  at_most : (p : PortRow) → module_or_last count p < count + 1
-  at_most p = go (cases_lt p.«module» count)
-    where
-      go : (p.«module» < count) ⊎ (count ≤ p.«module») → module_or_last count p < count + 1
-      go (inl low) = let e : module_or_last count p ≡ p.«module» = rw (lt-ltb p.«module» count low) refl in omega (arith, e, low)
-      go (inr high) = let e : module_or_last count p ≡ count = rw (le-ltb p.«module» count high) refl in omega (arith, e)
-
-  pub modules_below : (of : List ℕ) → of ≡ map (module_or_last count) ports → AllBelow (count + 1) of
-  modules_below of same = subst (AllBelow (count + 1)) (sym same) (go ports)
-    where
-      go : (rows : List PortRow) → AllBelow (count + 1) (map (module_or_last count) rows)
-      go [] i less = absurd (omega (arith, less))
-      go (p ∷ rows) zero less = at_most p
-      go (p ∷ rows) (suc i) less = go rows i (omega (arith, less))
-
+-- by the groups of the model
 pub by_groups : (tables : FlatTablesOf) (groups : List (List ℕ)) → length tables.modules ≤ length tables.actors
     → AreGroups (length tables.actors) (map (λ (port : PortRow). port.«module») tables.ports) groups → ArePortsByModule tables.ports (length tables.modules) groups
 by_groups tables groups few are = record {
   long = let l = are.long in omega (arith, l, few);
-  each = λ m less. group_is tables.ports (λ (port : PortRow). port.«module») m (λ p is. is) (λ p is. is) (slice_index_or groups m []) (are.each m (omega (arith, less, few)));
+  each = λ m less. group_is tables.ports m (slice_index_or groups m []) (are.each m (omega (arith, less, few)));
 }
 
 -- one actor more

@@ -12,7 +12,7 @@ ghost use Rattle.tdf_dynamic_plans.specs.declared.err.ChangeErr.TheVariants.{Ref
 ghost use Rattle.tdf_dynamic_first.specs.declared.first.First.{First};
 
 use crate::laws::law_one_plan;
-use crate::table::own_table;
+use crate::table::first_table;
 use std::alloc::Global;
 use tdf_bind::Flat;
 use tdf_cluster_plans::{TableGroups, table_plan};
@@ -55,9 +55,7 @@ pub fn first_plan(
         → IsOk result ⊎ (result ≡ Err Memory) }
 {
     law_one_plan();
-    let own = groups.actors(cluster);
-    let ports = groups.ports_by_actor();
-    let mut attrs = own_table(alloc, flat, own, ports)?;
+    let mut attrs = first_table(alloc, flat, groups, cluster)?;
     match table_plan(
         alloc,
         &flat.tables,

@@ -1,6 +1,5 @@
 //! The attributes of a cluster as the text says them, and its first plan or its first fault.
 //!
-//! - `members`: the numbers of a cluster's actors, and those of the ports of each module.
 //! - `table`: the table of attributes as the text says it.
 //! - `first`: the plan as the text says it, or the first fault.
 //! - `laws`: what holds of faults and plans.
@@ -8,7 +7,6 @@
 
 mod first;
 mod laws;
-mod members;
 mod table;
 
 pub use first::{First, first_plan};

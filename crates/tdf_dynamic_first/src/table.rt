@@ -1,20 +1,22 @@
 //! The table of attributes as the text says it.
 
 ghost use Rattle.std.specs.List.{cons_option};
-ghost use Rattle.std.specs.Prelude.{◌≡◌, ◌<◌, ◌≤◌, ◌++◌, ◌∷◌, [], All, IfOk, OnOk, length, map};
-ghost use Rattle.tdf_dynamic_plans.specs.Attributes.{ports_of_module};
+ghost use Rattle.std.specs.Prelude.{◌≡◌, ◌<◌, ◌++◌, ◌∷◌, [], All, Contains, IfOk, OnOk, length, map};
+ghost use Rattle.tdf_cluster_plans.specs.Groups.{AreTableGroups};
+ghost use Rattle.tdf_dynamic_first.specs.First.{IsPlannable};
+ghost use Rattle.tdf_dynamic_plans.specs.Attributes.{clusters_of, ports_of_module};
 ghost use Rattle.tdf_dynamic_first.specs.Text.{port_step, first_attrs, can_change, changes_at, first_table, none_known};
 ghost use Rattle.tdf_dynamic_first.specs.machine.Placed.{ArePortsByModule, attrs_of, own_rows};
 ghost use Rattle.tdf_expr.specs.Checked.{IsChecked};
 ghost use Rattle.tdf_expr.specs.Made.{block_count, start_rates};
 
-use crate::members::{own_actors, ports_by_module};
 use std::alloc::Global;
 use tdf_base::Memory;
 use tdf_bind::Flat;
 use tdf_bind_connections::{ModuleRow, PortRow};
 use tdf_bind_tables::FlatTables;
 use tdf_cluster_net::Groups;
+use tdf_cluster_plans::TableGroups;
 use tdf_dynamic_plans::{Attrs, KnownPlans, ModuleAttrs};
 use tdf_expr::{Checked, Frame};
 
@@ -165,44 +167,24 @@ fn has_changes(tables: &FlatTables, rows: &[ModuleAttrs]) -> bool
     rows.iter().any(|attrs| changes_at(tables, attrs.number))
 }
 
-/// The table of the modules among some actors, where the ports of each module are given. Plans are kept where the table can
-/// change.
+/// The table of a cluster. Plans are kept where the table can change. The things of the model by cluster are given: its actors
+/// and their ports alone are looked at.
 ///
 /// # Errors
 /// Out of memory.
-pub(crate) fn own_table(
+pub fn first_table(
     alloc: Global,
     flat: &Flat,
-    actors: &[u32],
-    ports: &Groups,
+    groups: &TableGroups,
+    cluster: u32,
 ) -> Result<Attrs, Memory>
-    requires checked { IsChecked flat.now.checked }
-    requires blocks { All (λ row. row.block < block_count flat.now.checked)
-        flat.now.tables.modules }
-    requires ports { ArePortsByModule flat.now.tables.ports (length flat.now.tables.modules)
-        ports.now }
-    ensures rows { IfOk result (λ attrs. attrs.rows ≡ own_rows flat.now actors.now) }
-    ensures known { IfOk result (λ attrs. attrs.known ≡ none_known flat.now.tables attrs.rows) }
-{
-    let rows = table_rows(alloc, flat, actors, ports)?;
-    let changes = has_changes(&flat.tables, &rows);
-    Ok(Attrs::new(rows, KnownPlans::new(alloc, changes)))
-}
-
-/// The table of a cluster. Plans are kept where the table can change. Its actors and their ports are found by a look at each
-/// of the model.
-///
-/// # Errors
-/// Out of memory.
-pub fn first_table(alloc: Global, flat: &Flat, cluster: u32) -> Result<Attrs, Memory>
-    requires checked { IsChecked flat.now.checked }
-    requires blocks { All (λ row. row.block < block_count flat.now.checked)
-        flat.now.tables.modules }
-    requires actors { length flat.now.tables.modules ≤ length flat.now.tables.actors }
+    requires plannable { IsPlannable flat.now }
+    requires groups { AreTableGroups flat.now.tables groups.now }
+    requires has { Contains (clusters_of flat.now.tables) cluster }
     ensures rows { IfOk result (λ attrs. attrs.rows ≡ first_table flat.now cluster) }
     ensures known { IfOk result (λ attrs. attrs.known ≡ none_known flat.now.tables attrs.rows) }
 {
-    let actors = own_actors(alloc, &flat.tables.actors, cluster)?;
-    let ports = ports_by_module(alloc, &flat.tables.ports, flat.tables.modules.len())?;
-    own_table(alloc, flat, &actors, &ports)
+    let rows = table_rows(alloc, flat, groups.actors(cluster), groups.ports_by_actor())?;
+    let changes = has_changes(&flat.tables, &rows);
+    Ok(Attrs::new(rows, KnownPlans::new(alloc, changes)))
 }

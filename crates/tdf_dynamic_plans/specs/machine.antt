@@ -1,3 +1,2 @@
 -- How the code of this crate works.
 pub mod Placing
-pub mod Rated

@@ -4,7 +4,7 @@
 //!
 //! - `attrs`: the attributes of the modules of a cluster.
 //! - `clusters`: the clusters of the actors.
-//! - `rates`: the rates of ports and edges that a table gives.
+//! - `rates`: the rates of ports that a table gives, and those of an edge by them.
 //! - `single`: one port, and one edge, with their rates.
 //! - `assigning`: the timesteps that a table assigns.
 //! - `err`: why a cluster has no plan.
@@ -29,6 +29,6 @@ pub use clusters::clusters_of;
 pub use err::ChangeErr;
 pub use faults::{balance_error, module_path, plan_error, step_error};
 pub use known::KnownPlans;
-pub use rates::{EdgeRates, edge_rates, ones, set_edge_rates, told_rate};
+pub use rates::{ones, told_rate};
 pub use single::{are_rising, edge_under, port_under};
 pub use timing::Timing;

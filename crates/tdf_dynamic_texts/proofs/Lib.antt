@@ -1,5 +1,4 @@
 pub mod Api
-pub mod Counts
 pub mod Grouping
 pub mod Own
 pub mod Texts

@@ -2,12 +2,13 @@
 -- and one for each firing.
 -- Source: own.
 use Rattle.std.specs.Fmt.{decimal}
-use Rattle.std.specs.List.{count_by, flat_map, range_with_len}
+use Rattle.std.specs.List.{flat_map, range_with_len}
 use Rattle.std.specs.Prelude.{ℕ, Bool, ◌/◌, ◌++◌, nat_eq, if◌then◌else◌, List, [], length, map, Option, Some, None, codes, slice_get, slice_index}
 use Rattle.tdf_base.specs.declared.resolution.Resolution.{Resolution}
 use Rattle.tdf_bind_tables.specs.Actors.{cluster_of}
 use Rattle.tdf_bind_tables.specs.FlatTables.{FlatTablesOf}
 use Rattle.tdf_bind_tables.specs.Ranges.{actor_path, edge_path}
+use Rattle.tdf_cluster_plans.specs.Counted.{firings_of}
 use Rattle.tdf_fixed.specs.Decimal.{seconds_text_at}
 use Rattle.tdf_schedule.specs.declared.entry.Entry.{Entry}
 use Rattle.tdf_schedule.specs.declared.entry.Plan.{Plan}
@@ -52,10 +53,6 @@ rows_of_plan plan = record {
   bounds = plan.bounds.items;
   period = plan.period;
 }
-
--- how often an actor fires in the period of a plan
-abbrev pub firings_of : List Entry → (actor : ℕ) → ℕ
-firings_of entries actor = count_by (λ entry. nat_eq entry.actor actor) entries
 
 abbrev pub is_in : FlatTablesOf → (cluster actor : ℕ) → Bool
 is_in flat cluster actor = nat_eq (slice_index (map cluster_of flat.actors) actor) cluster

@@ -3,16 +3,15 @@
 ghost use Rattle.std.specs.List.{flat_map, range_with_len};
 ghost use Rattle.std.specs.Prelude.{◌≡◌, ◌<◌, ◌++◌, ◌/◌, [], All, OnErr, OnOk, length, slice_index_or, take};
 ghost use Rattle.tdf_bind_tables.specs.Ranges.{AreInRange};
+ghost use Rattle.tdf_cluster_plans.specs.Counted.{AreCounted, firings_of};
 ghost use Rattle.tdf_cluster_plans.specs.Groups.{AreTableGroups};
-ghost use Rattle.tdf_dynamic_texts.specs.Plans.{accepted_line, actor_line, actor_text, cluster_line, edge_line, edge_text, fire_line, fires_text, firings_of, plan_text, rows_of_plan};
-ghost use Rattle.tdf_dynamic_texts.specs.views.Counted.{AreCounted};
+ghost use Rattle.tdf_dynamic_texts.specs.Plans.{accepted_line, actor_line, actor_text, cluster_line, edge_line, edge_text, fire_line, fires_text, plan_text, rows_of_plan};
 ghost use Rattle.tdf_dynamic_texts.specs.views.Numbered.{AreActorNumbers, AreEdgeNumbers};
 
-use crate::counting::counted;
 use tdf_base::{Memory, Resolution, push_number, push_word, row_number};
 use tdf_bind_hierarchy::SharedPath;
 use tdf_bind_tables::FlatTables;
-use tdf_cluster_plans::TableGroups;
+use tdf_cluster_plans::{TableGroups, firings};
 use tdf_fixed::push_seconds_at;
 use tdf_schedule::{Entry, Plan};
 
@@ -241,7 +240,7 @@ fn push_plan_lines(
 {
     let alloc = *out.allocator();
     let numbers = actors_of(groups, cluster);
-    let counts = counted(alloc, numbers, &plan.entries)?;
+    let counts = firings(alloc, numbers, &plan.entries)?;
     push_cluster_line(out, cluster, time, plan, unit)?;
     let lines = ActorLines {
         flat,

@@ -4,6 +4,7 @@ ghost use Rattle.std.specs.List.{flat_map};
 ghost use Rattle.std.specs.Prelude.{◌≡◌, ◌⊎◌, Contains, Err, IfErr, IfOk, IsOk, List, map};
 ghost use Rattle.tdf_base.specs.declared.faults.Fault.{Fault};
 ghost use Rattle.tdf_streams.specs.Below.{AreWithinLimits};
+ghost use Rattle.tdf_cluster_plans.specs.Groups.{AreTableGroups};
 ghost use Rattle.tdf_dynamic_plans.specs.Attributes.{AttrsOf, clusters_of};
 ghost use Rattle.tdf_dynamic_plans.specs.Faults.{IsRefusal, IsTablePlan};
 ghost use Rattle.tdf_dynamic_plans.specs.declared.err.ChangeErr.TheVariants.{Memory, Refused};
@@ -55,17 +56,20 @@ fn steps_of(alloc: Global, modules: &[ModuleState]) -> Result<Vec<u64>, OutOfMem
     Ok(steps)
 }
 
-/// The table of a cluster by the states of its modules, in order, with the plan under it.
+/// The table of a cluster by the states of its modules, in order, with the plan under it. The things of the model by cluster are
+/// given.
 ///
 /// # Errors
 /// The first fault of the cluster under this table, as for `plan_of`. Or out of memory.
 pub fn plan_of_states(
     alloc: Global,
     flat: &Flat,
+    groups: &TableGroups,
     cluster: u32,
     modules: &[ModuleState],
 ) -> Result<First, ChangeErr>
     requires limits { AreWithinLimits flat.now }
+    requires groups { AreTableGroups flat.now.tables groups.now }
     requires has { Contains (clusters_of flat.now.tables) cluster }
     requires values { AreStatesFor flat.now cluster modules.now }
     ensures table { IfOk result (λ first.
@@ -81,10 +85,9 @@ pub fn plan_of_states(
         → IsTablePlan flat.now.tables cluster table plan → IsOk result ⊎ (result ≡ Err Memory) }
 {
     law_one_table();
-    let groups = TableGroups::of(alloc, &flat.tables, flat.cluster_count())?;
     let accepts = flags_of(alloc, modules)?;
     let rates = rates_of(alloc, modules)?;
     let steps = steps_of(alloc, modules)?;
-    let attrs = from_values(alloc, flat, cluster, accepts, rates, steps)?;
-    plan_of(alloc, flat, &groups, attrs, cluster)
+    let attrs = from_values(alloc, flat, groups, cluster, accepts, rates, steps)?;
+    plan_of(alloc, flat, groups, attrs, cluster)
 }

@@ -1,9 +1,11 @@
 //! The table of attributes by given flags, rates and timesteps.
 
 ghost use Rattle.std.specs.List.{sum_by};
-ghost use Rattle.std.specs.Prelude.{◌≡◌, ◌≤◌, IfOk, length};
+ghost use Rattle.std.specs.Prelude.{◌≡◌, ◌≤◌, Contains, IfOk, length};
 ghost use Rattle.tdf_streams.specs.Below.{AreWithinLimits};
+ghost use Rattle.tdf_cluster_plans.specs.Groups.{AreTableGroups};
 ghost use Rattle.tdf_dynamic_first.specs.Text.{none_known};
+ghost use Rattle.tdf_dynamic_plans.specs.Attributes.{clusters_of};
 ghost use Rattle.tdf_dynamic_values.specs.Values.{AreValuesFor, HoldsValues};
 ghost use Rattle.tdf_dynamic_values.specs.machine.Rows.{row_by, rows_by};
 ghost use Rattle.tdf_streams.specs.Periods.{AreAttributes};
@@ -11,6 +13,7 @@ ghost use Rattle.tdf_streams.specs.Periods.{AreAttributes};
 use std::alloc::Global;
 use tdf_base::Memory;
 use tdf_bind::Flat;
+use tdf_cluster_plans::TableGroups;
 use tdf_dynamic_first::first_table;
 use tdf_dynamic_plans::{Attrs, ModuleAttrs};
 
@@ -65,26 +68,29 @@ fn rows_by(
 
 /// The table of a cluster by values that are given: the flag of each of its modules, and one after the other the values of
 /// their rate variables, and the timesteps that are assigned to each of them and to its ports, 0 where none is. No plan is
-/// known yet.
+/// known yet. The things of the model by cluster are given.
 ///
 /// # Errors
 /// Out of memory.
 pub fn from_values(
     alloc: Global,
     flat: &Flat,
+    groups: &TableGroups,
     cluster: u32,
     accepts: Vec<bool>,
     rates: Vec<u32>,
     steps: Vec<u64>,
 ) -> Result<Attrs, Memory>
     requires limits { AreWithinLimits flat.now }
+    requires groups { AreTableGroups flat.now.tables groups.now }
+    requires has { Contains (clusters_of flat.now.tables) cluster }
     requires values { AreValuesFor flat.now cluster accepts.items rates.items steps.items }
     ensures values { IfOk result (λ attrs.
         HoldsValues flat.now cluster accepts.items rates.items steps.items attrs.rows) }
     ensures attributes { IfOk result (λ attrs. AreAttributes flat.now cluster attrs.rows) }
     ensures known { IfOk result (λ attrs. attrs.known ≡ none_known flat.now.tables attrs.rows) }
 {
-    let text = first_table(alloc, flat, cluster)?;
+    let text = first_table(alloc, flat, groups, cluster)?;
     match rows_by(alloc, &text.rows, &accepts, &rates, &steps) {
         Ok(rows) => Ok(Attrs::new(rows, text.known)),
         Err(refused) => {

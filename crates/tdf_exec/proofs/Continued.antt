@@ -13,8 +13,9 @@ use Rattle.tdf_dynamic_plans.specs.Attributes.{AttrsOf, IsOfCluster, attrs_at, c
 use Rattle.tdf_dynamic_plans.specs.Known.{AreTrueFor}
 use Rattle.tdf_dynamic_plans.specs.Rates.{net_of}
 use Rattle.tdf_exec_parts.specs.Below.{IsTableFirst}
+use Rattle.tdf_exec.proofs.Elsewhere.{IsPlaced}
 use Rattle.tdf_exec.proofs.Kept.{held_at, is_cluster, stands_from, zero_at}
-use Rattle.tdf_exec.proofs.Planned.{fit, is_safe, no_times, none_done, start_of}
+use Rattle.tdf_exec.proofs.Planned.{is_safe, no_times, none_done, start_of}
 use Rattle.tdf_exec.proofs.Resumed.{rates_of_state, state_of_row, state_rows}
 use Rattle.tdf_exec.proofs.Rows.{all_at}
 use Rattle.tdf_exec.specs.Crossing.{cells_in, values_at}
@@ -26,7 +27,7 @@ use Rattle.tdf_exec.specs.declared.runners.Runner.{Runner}
 use Rattle.tdf_exec.specs.machine.Laid.{AreParts, IsLaid}
 use Rattle.tdf_exec.specs.machine.Resuming.{HoldsState}
 use Rattle.tdf_exec_layout.specs.Samples.{edge_format}
-use Rattle.tdf_exec_parts.specs.Restored.{AreStateRings, FitStateRings, held_by_state, samples_by}
+use Rattle.tdf_exec_parts.specs.Restored.{AreStateRings, held_by_state, samples_by}
 use Rattle.tdf_exec_parts.specs.States.{HoldEdges, IsStateUnder, due_before, place_of_edge}
 use Rattle.tdf_expr.specs.Frames.{IsOfFormat}
 use Rattle.tdf_expr_state.specs.State.{FrameState}
@@ -106,11 +107,13 @@ module _ (flat : Flat) (cluster : ℕ) (first : First) (sound : IsSoundFlat flat
           (none_done flat cluster first sound laid is law (reader_at flat.tables.edges e) place (reader_apart apart)) in
           omega (arith, l, h, w, r)
 
-  pub state_fits : FitStateRings flat.tables cluster first.plan.bounds.items edges
-  state_fits = record {
-    long = (fit flat cluster first sound laid is law).long;
-    fits = λ e within. (let f = full e within in let b = (is_safe flat cluster first sound laid is law place [] [] []).bounded place e within_plan within in omega (arith, f, b));
-  }
+  -- an edge that stands at a place has room for what the state says there
+  pub state_fits : (e i : ℕ) → IsPlaced flat.tables cluster e i → length (samples_by (edge_format flat.tables e) (slice_index_or edges i [])) ≤ slice_index first.plan.bounds.items e
+  state_fits e i placed =
+      let f = full e placed.0 in let b = (is_safe flat cluster first sound laid is law place [] [] []).bounded place e within_plan placed.0 in
+      let fits : length (held_by_state flat.tables cluster edges e) ≤ slice_index first.plan.bounds.items e = omega (arith, f, b) in
+      subst (λ n. length (samples_by (edge_format flat.tables e) (slice_index_or edges n [])) ≤ slice_index first.plan.bounds.items e) placed.2
+      (subst (λ b. length (if b then samples_by (edge_format flat.tables e) (nums e) else []) ≤ slice_index first.plan.bounds.items e) placed.1 fits)
 
   formatted : (e : ℕ) (f : Format) → e < length flat.tables.edges → edge_format flat.tables e ≡ Some f → All (IsOfFormat f) (held_by_state flat.tables cluster edges e)
   formatted e f within format = go (cases_eq (slice_index (clusters_of flat.tables) (writer_at flat.tables.edges e)) cluster)

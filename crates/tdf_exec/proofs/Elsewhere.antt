@@ -1,5 +1,5 @@
 -- The edges and actors of other clusters stand at no place of a cluster's own, and nothing is kept for them.
-use Rattle.std.proofs.Common.{◌≡◌, ◌≢◌, ◌∙◌, ◌⊎◌, inl, inr, ℕ, ◌<◌, ◌≤◌, ℤ, Bool, if◌then◌else◌, List, [], Some, length, map, refl, sym, ap, subst, arith}
+use Rattle.std.proofs.Common.{◌≡◌, ◌≢◌, ◌∙◌, ◌⊎◌, inl, inr, ℕ, ◌<◌, ◌≤◌, ℤ, Bool, true, if◌then◌else◌, List, [], Some, length, map, refl, sym, ap, subst, arith}
 use Rattle.std.proofs.Math.ListN.{get_or}
 use Rattle.std.proofs.lemmas.Bool.{eq-eqb, ne_eqb}
 use Rattle.std.proofs.lemmas.List.{get_or_default, length-map}
@@ -19,12 +19,12 @@ use Rattle.tdf_exec.proofs.EndPorts.{ports_inside}
 use Rattle.tdf_exec.proofs.Numbered.{actors_here}
 use Rattle.tdf_exec.proofs.Others.{no_room}
 use Rattle.tdf_exec.proofs.Rows.{index_at}
-use Rattle.tdf_exec.specs.machine.Laid.{HoldNothingElsewhere, IsLaid}
+use Rattle.tdf_exec.specs.machine.Laid.{IsLaid}
 use Rattle.tdf_exec_firing.specs.Edges.{EdgesOf}
 use Rattle.tdf_exec_layout.specs.Samples.{edge_format}
-use Rattle.tdf_exec_parts.proofs.Api.{in_groups}
+use Rattle.tdf_exec_parts.proofs.Api.{in_groups, own_at, own_many, own_numbers}
 use Rattle.tdf_exec_parts.specs.Below.{IsTableFirst}
-use Rattle.tdf_exec_parts.specs.Restored.{AreStateRings, samples_by}
+use Rattle.tdf_exec_parts.specs.Restored.{AreOwnStateRings, AreStateRings, held_by_state, samples_by}
 use Rattle.tdf_exec_parts.specs.Rings.{AreFirstRings, AreOwnFirstRings, FitAtFirst, list_of}
 use Rattle.tdf_exec_parts.specs.States.{place_of_edge}
 use Rattle.tdf_places.proofs.Api.{gathered, rising_apart, spread_at, spread_elsewhere, spread_long, stands}
@@ -35,13 +35,17 @@ use Rattle.tdf_rings.specs.Rings.{RingOf, ring_of}
 use Rattle.tdf_streams.proofs.Api.{get_inside}
 use Rattle.tdf_streams.specs.Cluster.{initial_list}
 use Rattle.tdf_streams.specs.Periods.{read_rates, write_rates}
-use Rattle.tdf_streams.specs.Places.{writer_of_row}
+use Rattle.tdf_streams.specs.Places.{is_own, writer_of_row}
 
 abbrev pub edges_by : List ℕ → List ℕ → List RingOf → EdgesOf
 edges_by reads writes rings = record { reads = reads; writes = writes; rings = rings }
 
 abbrev pub places_by : List ℕ → ℕ → PlacesOf
 places_by numbers count = record { numbers = numbers; count = count }
+
+-- an edge of the cluster that stands at a place
+abbrev pub IsPlaced : FlatTablesOf → (cluster e place : ℕ) → Type 0
+IsPlaced tables cluster e place = (e < length tables.edges) × (is_own tables cluster e ≡ true) × (place_of_edge tables cluster e ≡ place)
 
 -- ---- the numbers of a cluster's own things
 
@@ -111,16 +115,12 @@ module _ (tables : FlatTablesOf) (cluster : ℕ) (groups : TableGroupsOf) (has :
         ∙ ap (λ (l : List ℕ). edges_by reads l (spread (ring_of [] 0) own_places rings)) (rates_back writes own_writes w writes_are)
         ∙ ap (λ (l : List ℕ). edges_by reads writes (spread (ring_of [] 0) (places_by l (length tables.edges)) rings)) are
 
-    -- the rings of the own edges are those of all, where these hold nothing elsewhere
-    pub rings_back : (rings own : List RingOf) → length rings ≡ length tables.edges → HoldNothingElsewhere tables cluster rings → own ≡ map (ring_at rings) numbers
-        → spread (ring_of [] 0) (places_by (slice_index_or groups.edges cluster []) (length tables.edges)) own ≡ rings
-    rings_back rings own long nothing is =
-        ap (λ (l : List ℕ). spread (ring_of [] 0) (places_by l (length tables.edges)) own) (sym are)
-        ∙ ap (λ (l : List RingOf). spread (ring_of [] 0) own_places l) is
-        ∙ gathered (ring_of [] 0) (ring_of [] 0) own_places apart rings long (λ m inside none. held m (other_at m inside none))
-      where
-        held : (m : ℕ) → (row : EdgeRow) × (slice_get tables.edges m ≡ Some row) × (edge_cluster (clusters_of tables) row ≢ cluster) → ring_at rings m ≡ ring_of [] 0
-        held m row = nothing m row.0 row.1 row.2
+    -- an own edge stands at its place
+    pub placed : (i : ℕ) → i < length numbers → IsPlaced tables cluster (slice_index numbers i) i
+    placed i less = own_at tables cluster numbers (are ∙ own_numbers tables groups cluster has given) i less
+
+    pub many_placed : length numbers ≡ place_of_edge tables cluster (length tables.edges)
+    many_placed = own_many tables cluster numbers (are ∙ own_numbers tables groups cluster has given)
 
     module _ (bounds : List ℕ) where
       -- the samples of an own edge have room
@@ -157,6 +157,35 @@ module _ (tables : FlatTablesOf) (cluster : ℕ) (groups : TableGroupsOf) (has :
               ∙ ap (λ (b : ℕ). ring_of [] b) (sym (none e edge at other))
               ∙ ap (λ (b : Bool). ring_of (if b then initial_list tables edge else []) (slice_index bounds e)) (sym (ne_eqb (edge_cluster (clusters_of tables) edge) cluster other))
 
+      -- so are the rings by a state
+      pub all_state : ((e : ℕ) (edge : EdgeRow) → slice_get tables.edges e ≡ Some edge → edge_cluster (clusters_of tables) edge ≢ cluster → slice_index bounds e ≡ 0) → (edges : List (List ℤ)) → (rings : List RingOf)
+          → AreOwnStateRings tables bounds numbers edges (length numbers) rings
+          → AreStateRings tables cluster bounds edges (length tables.edges) (spread (ring_of [] 0) (places_by (slice_index_or groups.edges cluster []) (length tables.edges)) rings)
+      all_state none edges rings own =
+          subst (λ (l : List ℕ). AreStateRings tables cluster bounds edges (length tables.edges) (spread (ring_of [] 0) (places_by l (length tables.edges)) rings)) are (record {
+            long = spread_long (ring_of [] 0) own_places rings;
+            each = λ e less. go e less (get_inside tables.edges e less) (stands numbers e);
+          })
+        where
+          go : (e : ℕ) → e < length tables.edges → (edge : EdgeRow) × (slice_get tables.edges e ≡ Some edge)
+              → ((i : ℕ) × (i < length numbers) × (slice_index numbers i ≡ e)) ⊎ ((i : ℕ) → i < length numbers → slice_index numbers i ≢ e)
+              → ring_at (spread (ring_of [] 0) own_places rings) e ≡ ring_of (held_by_state tables cluster edges e) (slice_index bounds e)
+          go e less row (inl found) =
+              let i = found.0 in let k = slice_index numbers found.0 in
+              let place = placed i found.1 in
+              ap (ring_at (spread (ring_of [] 0) own_places rings)) (sym found.2)
+              ∙ spread_at (ring_of [] 0) own_places apart rings i own.long found.1
+              ∙ own.each i found.1
+              ∙ ap (λ (n : ℕ). ring_of (samples_by (edge_format tables k) (slice_index_or edges n [])) (slice_index bounds k)) (sym place.2)
+              ∙ ap (λ (b : Bool). ring_of (if b then samples_by (edge_format tables k) (slice_index_or edges (place_of_edge tables cluster k) []) else []) (slice_index bounds k)) (sym place.1)
+              ∙ ap (λ (n : ℕ). ring_of (held_by_state tables cluster edges n) (slice_index bounds n)) found.2
+          go e less row (inr away) =
+              let other = other_edge e row.0 row.1 away in
+              spread_elsewhere (ring_of [] 0) own_places rings e less away
+              ∙ ap (λ (b : ℕ). ring_of [] b) (sym (none e row.0 row.1 other))
+              ∙ ap (λ (b : Bool). ring_of (if b then samples_by (edge_format tables e) (slice_index_or edges (place_of_edge tables cluster e) []) else []) (slice_index bounds e))
+              (sym (ne_eqb _ cluster (λ mine. other (sym (ap (λ o. slice_index (clusters_of tables) (writer_of_row o)) row.1) ∙ mine))))
+
   module _ (are : numbers ≡ slice_index_or groups.actors cluster []) where
     own_actors : AreNumbers (length (clusters_of tables)) (λ m. slice_index (clusters_of tables) m ≡ cluster) numbers
     own_actors = actors_here tables groups cluster has given numbers are
@@ -167,17 +196,6 @@ module _ (tables : FlatTablesOf) (cluster : ℕ) (groups : TableGroupsOf) (has :
     pub actors_distinct : (count : ℕ) → count ≡ length tables.actors → AreDistinct count numbers
     actors_distinct count is =
         subst (λ n. AreDistinct n numbers) (many_actors ∙ sym is) (distinct (length (clusters_of tables)) (λ m. slice_index (clusters_of tables) m ≡ cluster) numbers own_actors)
-
--- ---- what the edges of other clusters hold
-
-module _ (tables : FlatTablesOf) (cluster : ℕ) (bounds : List ℕ)
-    (none : (e : ℕ) (edge : EdgeRow) → slice_get tables.edges e ≡ Some edge → edge_cluster (clusters_of tables) edge ≢ cluster → slice_index bounds e ≡ 0) (rings : List RingOf) where
-  pub state_elsewhere : (edges : List (List ℤ)) → AreStateRings tables cluster bounds edges (length tables.edges) rings → HoldNothingElsewhere tables cluster rings
-  state_elsewhere edges are e edge at other =
-      are.each e (slice_get_within tables.edges e edge at)
-      ∙ ap (λ (b : Bool). ring_of (if b then samples_by (edge_format tables e) (slice_index_or edges (place_of_edge tables cluster e) []) else []) (slice_index bounds e))
-      (ne_eqb _ cluster (λ own. other (sym (ap (λ o. slice_index (clusters_of tables) (writer_of_row o)) at) ∙ own)))
-      ∙ ap (ring_of []) (none e edge at other)
 
 -- ---- under a table and its plan
 

@@ -154,10 +154,6 @@ all_turns entries m =
     let n : count_by (λ (x : Entry). nat_eq x.actor m) (take 0 entries) ≡ 0 = refl in
     omega (arith, l, n)
 
-pub all_done : (entries : List Entry) (m : ℕ) → done entries (length entries) m ≡ turns_from entries 0 (length entries) m
-unfolding done
-all_done entries m = let n : count_by (λ (x : Entry). nat_eq x.actor m) (take 0 entries) ≡ 0 = refl in omega (arith, n)
-
 pub rooms_none : (runners : List Runner) (entries : List Entry) → AreRooms runners entries 0 (record { offset = 0; here = room_of 0 0; most = room_of 0 0 })
 rooms_none runners entries = record {
   upto = λ j x below at. absurd (omega (arith, below));

@@ -1,5 +1,4 @@
 -- How the code of this crate works.
-pub mod Counted
 pub mod Fired
 pub mod Laid
 pub mod Moving

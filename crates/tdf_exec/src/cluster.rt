@@ -16,7 +16,9 @@ pub struct Cluster {
     pub(crate) plan: Plan,
     pub(crate) place: usize,
     pub(crate) crossed: bool,
-    /// How often each actor fires in a period of the plan, up to the last whose signals are traced.
+    /// The numbers of the actors whose firings are counted: its own, where signals of one are traced, else none.
+    pub(crate) counted: Vec<u32>,
+    /// How often each of them fires in a period of the plan.
     pub(crate) firings: Vec<u64>,
     pub(crate) edges: Edges,
     pub(crate) actors: Actors,
@@ -25,9 +27,10 @@ pub struct Cluster {
 
 impl Model for Cluster {
     ghost use Rattle.std.specs.Prelude.{◌≤◌, length};
+    ghost use Rattle.tdf_cluster_net.specs.Numbers.{Rise};
+    ghost use Rattle.tdf_cluster_plans.specs.Counted.{AreCounted};
     ghost use Rattle.tdf_convert.specs.Sampled.{AreByOffset};
     ghost use Rattle.tdf_exec.specs.Cluster.{ClusterOf};
-    ghost use Rattle.tdf_exec.specs.machine.Counted.{AreCounted};
 
     ghost Value = { ClusterOf };
 
@@ -49,7 +52,8 @@ impl Model for Cluster {
 
     ghost invariant = { λ a. record {
       sorted : AreByOffset a.plan.entries.items;
-      counted : AreCounted a.plan.entries.items a.firings.items;
+      rising : Rise a.counted.items;
+      counted : AreCounted a.counted.items a.plan.entries.items a.firings.items;
       room : length a.attrs.rows ≤ a.spare;
     } };
 }

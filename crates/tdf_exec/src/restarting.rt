@@ -23,11 +23,10 @@ use std::mem;
 use tdf_base::Memory;
 use tdf_bind::Flat;
 use tdf_bind_tables::FlatTables;
-use tdf_cluster_plans::set_own_rates;
+use tdf_cluster_plans::{set_firings, set_own_rates};
 use tdf_dynamic::begin;
 use tdf_dynamic_plans::Attrs;
 use tdf_exec_firing::Edges;
-use tdf_exec_parts::set_firings;
 use tdf_expr::{Body, Checked, run_body};
 use tdf_schedule::Plan;
 
@@ -154,7 +153,7 @@ impl Cluster {
         }
         restart_actors(flat, &attrs, &mut self.actors);
         set_rates(flat, &attrs, &mut self.edges);
-        set_firings(&mut self.firings, &plan.entries);
+        set_firings(&self.counted, &plan.entries, &mut self.firings);
         let left = mem::replace(&mut self.attrs, attrs);
         self.attrs.recycle(left);
         self.plan = plan;

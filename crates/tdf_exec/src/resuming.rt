@@ -1,14 +1,15 @@
 //! A cluster that goes on from a state, inside its period.
 
-ghost use Rattle.std.specs.Prelude.{◌≡◌, ◌⊎◌, ◌≤◌, [], Contains, Err, IfOk, Some, length, slice_get, slice_index_or, slice_set};
+ghost use Rattle.std.specs.Prelude.{◌≡◌, ◌⊎◌, ◌≤◌, [], Contains, Err, IfOk, OnOk, Some, length, slice_get, slice_index_or, slice_set};
+ghost use Rattle.tdf_cluster_net.specs.Numbers.{Rise};
+ghost use Rattle.tdf_cluster_plans.specs.Counted.{AreCounted};
 ghost use Rattle.tdf_dynamic_first.specs.Text.{first_table};
 ghost use Rattle.tdf_dynamic_plans.specs.Attributes.{clusters_of};
 ghost use Rattle.tdf_exec_parts.specs.Below.{IsTableFirst, IsTableOfStates};
-ghost use Rattle.tdf_exec.specs.Layout.{HasLayoutOf};
+ghost use Rattle.tdf_exec.specs.Layout.{HasLayoutOf, KeepsLayouts};
 ghost use Rattle.tdf_exec.specs.Made.{IsClusterOf};
 ghost use Rattle.tdf_exec.specs.Restored.{IsAtState, StandsAtState};
 ghost use Rattle.tdf_exec.specs.Starts.{IsSoundFlat};
-ghost use Rattle.tdf_exec.specs.machine.Counted.{AreCounted};
 ghost use Rattle.tdf_exec.specs.machine.Laid.{AreParts, AreRunnersOf};
 ghost use Rattle.tdf_exec.specs.machine.Resuming.{AreRestored, CanRestore, CanTake, FitInstance, HoldsState, IsInstance, module_with_values, with_values};
 ghost use Rattle.tdf_exec.specs.declared.runners.Runner.{Runner as RunnerOf};
@@ -23,14 +24,14 @@ use crate::beginning::first_runners;
 use crate::cluster::Cluster;
 use crate::laying::Layout;
 use crate::runners::{ModuleRunner, Runner};
-use crate::starting::{Parts, law_laid, own_actors, own_edges, traced_firings};
+use crate::starting::{Parts, counted_actors, law_laid, own_actors, own_edges};
 use crate::tracing::give_all;
 use std::alloc::Global;
 use tdf_base::Memory;
 use tdf_bind::Flat;
 use tdf_cluster_net::place_in;
+use tdf_cluster_plans::firings;
 use tdf_dynamic_plans::{Attrs, ModuleAttrs};
-use tdf_exec_firing::gather_rings;
 use tdf_exec_parts::{Standing, set_values, standing_of, state_rings};
 use tdf_expr::Checked;
 use tdf_saved::{ClusterState, ModuleState, StateErr};
@@ -127,6 +128,7 @@ fn restored_runners(
         (spread_runners flat.now.tables (slice_index_or layout.old.groups.actors cluster [])
         runners.items)) }
     ensures groups { layout.new.groups ≡ layout.old.groups }
+    ensures others { OnOk result (KeepsLayouts flat.now cluster layout.old layout.new) }
 {
     law_laid();
     let groups = &layout.groups;
@@ -151,6 +153,7 @@ fn state_parts(
     cluster: u32,
     standing: &Standing,
     state: &ClusterState,
+    layout: &mut Layout,
 ) -> Result<Parts, Memory>
     requires sound { IsSoundFlat flat.now }
     requires plan { IsTableFirst flat.now cluster standing.now.first.attrs.rows
@@ -161,33 +164,40 @@ fn state_parts(
     requires place { standing.now.place ≤ length standing.now.first.plan.entries.items }
     requires edges { HoldEdges flat.now.tables cluster standing.now.first.attrs.rows
         standing.now.first.plan.entries.items standing.now.place state.now.edges }
+    requires layout { HasLayoutOf flat.now cluster layout.old }
     ensures parts { IfOk result (λ p. AreParts flat.now cluster standing.now.first
         (HoldsState standing.now.first.attrs.rows state.now.modules)
         (AreStateRings flat.now.tables cluster standing.now.first.plan.bounds.items
         state.now.edges (length flat.now.tables.edges))
         p.edges.reads p.edges.writes p.edges.rings p.actors.runners p.actors.positions) }
-    ensures counted { IfOk result (λ p. AreCounted standing.now.first.plan.entries.items
-        p.firings.items) }
+    ensures rising { IfOk result (λ p. Rise p.counted.items) }
+    ensures counted { IfOk result (λ p.
+        AreCounted p.counted.items standing.now.first.plan.entries.items p.firings.items) }
     ensures room { IfOk result (λ p. length standing.now.first.attrs.rows ≤ p.spare) }
+    ensures others { OnOk result (KeepsLayouts flat.now cluster layout.old layout.new) }
 {
     law_laid();
     let first = &standing.first;
-    let bounds = &first.plan.bounds;
-    let mut rings = state_rings(alloc, &flat.tables, cluster, bounds, &state.edges)?;
-    let mut layout = Layout::new(alloc, flat)?;
     let numbers = layout.groups.edges(cluster);
-    let own = gather_rings(alloc, numbers, &mut rings)?;
-    drop(rings);
-    let edges = own_edges(alloc, flat, cluster, &layout, &first.attrs.rows, own)?;
+    let rings = state_rings(
+        alloc,
+        &flat.tables,
+        numbers,
+        &first.plan.bounds,
+        &state.edges,
+    )?;
+    let edges = own_edges(alloc, flat, cluster, layout, &first.attrs.rows, rings)?;
     let states = &state.modules;
-    let runners = restored_runners(alloc, flat, cluster, &first.attrs, states, &mut layout)?;
+    let runners = restored_runners(alloc, flat, cluster, &first.attrs, states, layout)?;
     let actor_numbers = layout.groups.actors(cluster);
-    let firings = traced_firings(alloc, actor_numbers, &runners, &first.plan)?;
-    let actors = own_actors(alloc, flat, cluster, &layout, runners)?;
+    let counted = counted_actors(alloc, actor_numbers, &runners)?;
+    let firings = firings(alloc, &counted, &first.plan.entries)?;
+    let actors = own_actors(alloc, flat, cluster, layout, runners)?;
     let spare = Spare::new(alloc, first.attrs.rows.len())?;
     Ok(Parts {
         edges,
         actors,
+        counted,
         firings,
         spare,
     })
@@ -195,7 +205,8 @@ fn state_parts(
 
 impl Cluster {
     /// A cluster inside the period that a state says, at a time: the entries of its plan before that time are done, and
-    /// its edges and modules hold what the state says. No body runs.
+    /// its edges and modules hold what the state says. No body runs. Of `layout` it takes what is its own; things of other clusters are not
+    /// looked at.
     ///
     /// # Errors
     /// `Bad` exactly where the cluster can't go on from this state at this time, or out of memory.
@@ -205,25 +216,29 @@ impl Cluster {
         cluster: u32,
         state: &ClusterState,
         time: u64,
+        layout: &mut Layout,
     ) -> Result<Cluster, StateErr>
         requires sound { IsSoundFlat flat.now }
         requires has { Contains (clusters_of flat.now.tables) cluster }
+        requires layout { HasLayoutOf flat.now cluster layout.old }
         ensures of { IfOk result (λ c. IsClusterOf flat.now c) }
         ensures at { IfOk result (λ c. IsAtState flat.now cluster state.now time c) }
         ensures stands { IfOk result (λ c. StandsAtState flat.now state.now c) }
         ensures bad { result ≡ Err why.Bad → IsStateAt flat.now cluster state.now time → ⊥ }
         ensures bad_always { (IsStateAt flat.now cluster state.now time → ⊥)
             → (result ≡ Err why.Bad) ⊎ (result ≡ Err why.Memory) }
+        ensures others { OnOk result (KeepsLayouts flat.now cluster layout.old layout.new) }
     {
         law_laid();
-        let standing = standing_of(alloc, flat, cluster, state, time)?;
-        match state_parts(alloc, flat, cluster, &standing, state) {
+        let standing = standing_of(alloc, flat, &layout.groups, cluster, state, time)?;
+        match state_parts(alloc, flat, cluster, &standing, state, layout) {
             Ok(parts) => Ok(Cluster {
                 number: cluster,
                 attrs: standing.first.attrs,
                 plan: standing.first.plan,
                 place: standing.place,
                 crossed: false,
+                counted: parts.counted,
                 firings: parts.firings,
                 edges: parts.edges,
                 actors: parts.actors,

@@ -9,7 +9,7 @@ use crate::actors::Actors;
 use crate::cluster::Cluster;
 use crate::runners::Runner;
 use std::alloc::Global;
-use tdf_base::{Memory, row_number};
+use tdf_base::Memory;
 use tdf_dynamic_plans::ModuleAttrs;
 use tdf_exec_firing::Edges;
 use tdf_places::Sparse;
@@ -71,11 +71,11 @@ fn nums_of(alloc: Global, ring: &Ring) -> Result<Vec<i128>, Memory>
 }
 
 /// The samples of the edge with this number; one of another cluster has none.
-fn nums_at(alloc: Global, own: &Edges, number: usize) -> Result<Vec<i128>, Memory>
+fn nums_at(alloc: Global, own: &Edges, number: u32) -> Result<Vec<i128>, Memory>
     ensures { IfOk result (λ nums. nums.items ≡ nums_of (ring_at own.now.rings number).samples) }
 {
     own.places.law_apart();
-    match own.places.place(row_number(number)?) {
+    match own.places.place(number) {
         Some(place) => {
             let nums = nums_of(alloc, &own.rings[place])?;
             Ok(nums)
@@ -84,17 +84,15 @@ fn nums_at(alloc: Global, own: &Edges, number: usize) -> Result<Vec<i128>, Memor
     }
 }
 
-/// The samples of the edges that have room by their bounds.
+/// The samples of the edges that have room by their bounds. No other edge is looked at.
 fn edge_states(alloc: Global, bounds: &Sparse, own: &Edges) -> Result<Vec<Vec<i128>>, Memory>
     ensures { IfOk result (λ edges. map (λ e. e.items) edges.items
         ≡ edge_states (map (λ ring. ring.samples) own.now.rings) (edges_with_room bounds.now.items (length own.now.rings))) }
 {
-    let mut edges = Vec::new(alloc);
-    for e in 0..own.places.count() {
-        let bound = bounds.get_near(edges.len(), e);
-        if bound > 0 {
-            edges.push(nums_at(alloc, own, e)?)?;
-        }
+    let numbers = bounds.places_below(alloc, own.places.count())?;
+    let mut edges = Vec::with_capacity(alloc, numbers.len())?;
+    for i in 0..numbers.len() {
+        edges.push(nums_at(alloc, own, numbers[i])?)?;
     }
     Ok(edges)
 }

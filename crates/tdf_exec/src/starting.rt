@@ -1,6 +1,8 @@
 //! A cluster at the start of its first period.
 
 ghost use Rattle.std.specs.Prelude.{◌≡◌, ◌≤◌, [], Contains, IfOk, OnOk, length, replicate, slice_index_or, true};
+ghost use Rattle.tdf_cluster_net.specs.Numbers.{Rise};
+ghost use Rattle.tdf_cluster_plans.specs.Counted.{AreCounted};
 ghost use Rattle.tdf_cluster_plans.specs.Groups.{AreOnesElsewhere, AreTableGroups};
 ghost use Rattle.tdf_convert.specs.Sampled.{PlansGoByOffset};
 ghost use Rattle.tdf_dynamic_first.specs.First.{IsFirstPlan};
@@ -10,7 +12,6 @@ ghost use Rattle.tdf_exec_parts.specs.Below.{IsTableFirst};
 ghost use Rattle.tdf_exec.specs.Layout.{HasLayoutOf, KeepsLayouts};
 ghost use Rattle.tdf_exec.specs.Made.{IsClusterOf};
 ghost use Rattle.tdf_exec.specs.Starts.{IsAtStart, IsSoundFlat, StandsAtStart};
-ghost use Rattle.tdf_exec.specs.machine.Counted.{AreCounted};
 ghost use Rattle.tdf_exec.specs.machine.Laid.{AreParts, AreRunnersOf, SoundIsLaid};
 ghost use Rattle.tdf_exec.specs.machine.Starting.{HoldsText};
 ghost use Rattle.tdf_exec.specs.views.Actors.{spread_runners};
@@ -32,16 +33,16 @@ use std::alloc::Global;
 use tdf_base::Memory;
 use tdf_bind::Flat;
 use tdf_bind_invariants::{law_formats, law_limits};
-use tdf_cluster_plans::set_own_rates;
+use tdf_cluster_plans::{firings, set_own_rates};
 use tdf_convert::law_by_offset;
 use tdf_dynamic_first::First;
 use tdf_dynamic_plans::{Attrs, ModuleAttrs, ones};
 use tdf_exec_firing::Edges;
 use tdf_exec_layout::{law_edge_formats, law_edges, law_wired};
-use tdf_exec_parts::{firings, first_rings};
+use tdf_exec_parts::first_rings;
 use tdf_places::Places;
 use tdf_rings::Ring;
-use tdf_schedule::{Plan, law_present};
+use tdf_schedule::law_present;
 
 /// What the tables of a sound flat model have, and what holds along plans.
 pub(crate) fn law_laid()
@@ -59,11 +60,13 @@ pub(crate) fn law_laid()
     law_by_offset();
 }
 
-/// The parts of a cluster at its start: its edges and actors, the firings of a period, and room for the instances of its modules.
+/// The parts of a cluster at its start: its edges and actors, the actors whose firings are counted, how often they fire in a period, and room
+/// for the instances of its modules.
 #[derive(Drop)]
 pub(crate) struct Parts {
     pub(crate) edges: Edges,
     pub(crate) actors: Actors,
+    pub(crate) counted: Vec<u32>,
     pub(crate) firings: Vec<u64>,
     pub(crate) spare: Spare,
 }
@@ -170,27 +173,33 @@ fn runners_of(
     Ok(runners)
 }
 
-/// How often each actor fires in a period of a plan, up to the last module that has ports whose signals are traced: for such modules alone
-/// activations are asked for at each period. What is kept for the actors stands in the order of the numbers.
-pub(crate) fn traced_firings(
+/// Whether it is a module with ports whose signals are traced.
+fn is_traced(runner: &Runner) -> bool {
+    match runner {
+        Runner::Module(module) => !module.rest.traced.is_empty(),
+        Runner::Sampler(_) => false,
+        Runner::Sink(_) => false,
+        Runner::Outside => false,
+    }
+}
+
+/// The numbers of the actors whose firings in a period are counted: all of these, where one is a module with ports whose signals are traced,
+/// since for such modules activations are asked for at each period; else none. What is kept for the actors stands in the order of the numbers.
+///
+/// # Errors
+/// Out of memory.
+pub(crate) fn counted_actors(
     alloc: Global,
     numbers: &[u32],
     runners: &[Runner],
-    plan: &Plan,
-) -> Result<Vec<u64>, Memory>
-    requires { length runners.now ≡ length numbers.now }
-    ensures { IfOk result (λ counts. AreCounted plan.now.entries.items counts.items) }
+) -> Result<Vec<u32>, Memory>
+    requires { Rise numbers.now }
+    ensures { IfOk result (λ counted. Rise counted.items) }
 {
-    let mut count = 0;
-    for i in 0..numbers.len() {
-        match &runners[i] {
-            Runner::Module(module) if !module.rest.traced.is_empty() => {
-                count = numbers[i] as usize + 1;
-            }
-            _ => {}
-        }
+    if runners.iter().any(|runner| is_traced(runner)) {
+        return Ok(Vec::from_slice(alloc, numbers)?);
     }
-    firings(alloc, &plan.entries, plan.entries.len(), count)
+    Ok(Vec::new(alloc))
 }
 
 /// The parts of a cluster at its start, under a table and its plan.
@@ -209,7 +218,9 @@ fn first_parts(
         (AreFirstRings flat.now.tables cluster first.now.plan.bounds.items
         (length flat.now.tables.edges))
         p.edges.reads p.edges.writes p.edges.rings p.actors.runners p.actors.positions) }
-    ensures counted { IfOk result (λ p. AreCounted first.now.plan.entries.items p.firings.items) }
+    ensures rising { IfOk result (λ p. Rise p.counted.items) }
+    ensures counted { IfOk result (λ p.
+        AreCounted p.counted.items first.now.plan.entries.items p.firings.items) }
     ensures room { IfOk result (λ p. length first.now.attrs.rows ≤ p.spare) }
     ensures others { OnOk result (KeepsLayouts flat.now cluster layout.old layout.new) }
 {
@@ -219,12 +230,14 @@ fn first_parts(
     let edges = own_edges(alloc, flat, cluster, layout, &first.attrs.rows, rings)?;
     let runners = runners_of(alloc, flat, cluster, &first.attrs, layout)?;
     let actor_numbers = layout.groups.actors(cluster);
-    let firings = traced_firings(alloc, actor_numbers, &runners, &first.plan)?;
+    let counted = counted_actors(alloc, actor_numbers, &runners)?;
+    let firings = firings(alloc, &counted, &first.plan.entries)?;
     let actors = own_actors(alloc, flat, cluster, layout, runners)?;
     let spare = Spare::new(alloc, first.attrs.rows.len())?;
     Ok(Parts {
         edges,
         actors,
+        counted,
         firings,
         spare,
     })
@@ -259,6 +272,7 @@ impl Cluster {
                 plan: first.plan,
                 place: 0,
                 crossed: false,
+                counted: parts.counted,
                 firings: parts.firings,
                 edges: parts.edges,
                 actors: parts.actors,

@@ -17,8 +17,7 @@ pub(crate) struct Rooms {
     most: Room,
 }
 
-ghost use Rattle.std.specs.List.{count_by};
-ghost use Rattle.std.specs.Prelude.{◌≡◌, ◌+◌, ◌<◌, ◌≤◌, ◌^◌, IfOk, OnErr, Some, length, max, nat_eq, slice_get};
+ghost use Rattle.std.specs.Prelude.{◌≡◌, ◌+◌, ◌<◌, ◌≤◌, ◌^◌, IfOk, OnErr, Some, length, max, slice_get};
 ghost use Rattle.tdf_convert.specs.Links.{AreLinks, HaveSignals};
 ghost use Rattle.tdf_convert.specs.Sampled.{AreByOffset, AreSampled};
 ghost use Rattle.tdf_dynamic_plans.specs.Rates.{port_rate};
@@ -36,6 +35,7 @@ use crate::cluster::Cluster;
 use crate::runners::{Runner, TracedPort};
 use tdf_base::Memory;
 use tdf_bind::Flat;
+use tdf_cluster_plans::firings_of;
 use tdf_convert::{Inputs, Links, sample_due};
 use tdf_dynamic_plans::Attrs;
 use tdf_fixed::Raw;
@@ -148,13 +148,6 @@ fn most_of(actors: &Actors, entries: &[Entry]) -> Result<Room, Memory>
     Ok(rooms.most)
 }
 
-/// How many entries are of an actor.
-fn count_of(entries: &[Entry], actor: u32) -> usize
-    ensures { result ≡ count_by (λ x. nat_eq x.actor actor) entries.now }
-{
-    entries.iter().filter(|entry| entry.actor == actor).count()
-}
-
 impl Cluster {
     /// The period, in counts of the model's resolution.
     pub fn period(&self) -> u64
@@ -184,11 +177,7 @@ impl Cluster {
     pub fn activations(&self, actor: u32) -> u64
         ensures { result ≡ turns_from self.now.entries 0 (length self.now.entries) actor }
     {
-        let place = actor as usize;
-        if place < self.firings.len() {
-            return self.firings[place];
-        }
-        count_of(&self.plan.entries, actor) as u64
+        firings_of(&self.counted, &self.firings, &self.plan.entries, actor)
     }
 
     /// The rate in force of a port of the flat model; 1 for a port of another cluster.

@@ -9,7 +9,7 @@ use Rattle.tdf_exec_firing.specs.Edges.{EdgesOf, with_rings}
 use Rattle.tdf_exec_firing.specs.contracts.edges.Edges.{the_invariant, the_view}
 use Rattle.tdf_exec_firing.specs.declared.edges.Edges.TheInside.{Inside}
 use Rattle.tdf_places.proofs.Api.{spread_at, spread_elsewhere, spread_long, spread_set, stands}
-use Rattle.tdf_places.specs.Places.{IsNowhere, IsSomewhere, PlacesOf, StandApart}
+use Rattle.tdf_places.specs.Places.{IsAmong, IsNowhere, PlacesOf, StandApart}
 use Rattle.tdf_places.specs.Spread.{spread}
 use Rattle.tdf_rings.specs.Carried.{ring_at}
 use Rattle.tdf_rings.specs.Rings.{RingOf, ring_of}
@@ -19,10 +19,10 @@ pub rest_more : (old cur new : EdgesOf) (rings : List RingOf) → cur ≡ with_r
 rest_more old cur new rings rest is = is ∙ ap (with_rings rings) rest ∙ ap (λ l. with_rings l old) (sym (ap (λ (e : EdgesOf). e.rings) is))
 
 -- what isn't nowhere is somewhere
-pub somewhere : (places : PlacesOf) (edge : ℕ) → (IsNowhere places edge → ⊥) → IsSomewhere places edge
+pub somewhere : (places : PlacesOf) (edge : ℕ) → (IsNowhere places edge → ⊥) → IsAmong places.numbers edge
 somewhere places edge not = go (stands places.numbers edge)
   where
-    go : IsSomewhere places edge ⊎ IsNowhere places edge → IsSomewhere places edge
+    go : IsAmong places.numbers edge ⊎ IsNowhere places edge → IsAmong places.numbers edge
     go (inl found) = found
     go (inr none) = absurd (not none)
 

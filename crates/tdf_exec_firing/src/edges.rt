@@ -37,36 +37,14 @@ impl Model for Edges {
 
 ghost use Rattle.std.specs.Prelude.{◌≡◌, ◌<◌, ℕ, [], IfOk, OnErr, OnOk, length, map, slice_index};
 ghost use Rattle.tdf_exec_firing.specs.Edges.{with_rings};
-ghost use Rattle.tdf_places.specs.Places.{AreDistinct};
 ghost use Rattle.tdf_places.specs.Spread.{spread};
 ghost use Rattle.tdf_rings.specs.Carried.{AreCarried, FitIn, ring_at};
 ghost use Rattle.tdf_rings.specs.Rings.{ring_of};
 
 use std::alloc::Global;
-use std::mem;
 use tdf_base::{Memory, row_number};
 use tdf_places::Sparse;
 use tdf_rings::carry;
-
-/// The rings at these numbers, in order, taken out of those of all edges.
-///
-/// # Errors
-/// Out of memory.
-pub fn gather_rings(
-    alloc: Global,
-    numbers: &[u32],
-    rings: &mut Vec<Ring>,
-) -> Result<Vec<Ring>, Memory>
-    requires { AreDistinct (length rings.old.items) numbers.now }
-    ensures { IfOk result (λ own. own.items ≡ map (ring_at rings.old.items) numbers.now) }
-{
-    let mut own = Vec::with_capacity(alloc, numbers.len())?;
-    for i in 0..numbers.len() {
-        let none = Ring::new(alloc, 0)?;
-        own.push(mem::replace(&mut rings[numbers[i] as usize], none))?;
-    }
-    Ok(own)
-}
 
 /// The bounds of the edges with these numbers, in order. One of more than 32 bits is refused: such a ring has no memory.
 ///

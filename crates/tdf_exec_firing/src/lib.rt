@@ -16,7 +16,7 @@ mod putting;
 mod taking;
 mod wires;
 
-pub use edges::{Edges, gather_rings};
+pub use edges::Edges;
 pub use firing::{WiredModule, fire_module, fire_sampler, fire_sink};
 pub use laws::{law_begin, law_formats};
 pub use wires::{InWire, OutWire, Wires};

@@ -1,6 +1,5 @@
 -- The rates of ports and edges, as they are found.
-use Rattle.std.proofs.Common.{◌≡◌, ◌∙◌, ℕ, Some, option_map, List, length, map, ap}
-use Rattle.std.proofs.lemmas.List.{length-map}
+use Rattle.std.proofs.Common.{◌≡◌, ◌∙◌, ℕ, Some, option_map, List, map, ap}
 use Rattle.std.proofs.lemmas.Option.{slice_get-map}
 use Rattle.std.proofs.lemmas.Simd.{map-map}
 use Rattle.std.specs.Prelude.{slice_get, slice_index}
@@ -33,12 +32,6 @@ module _ (tables : FlatTablesOf) (table : List AttrsOf) where
   pub writes_map : write_rates (net_of tables table) ≡ map edge_writes tables.edges
   unfolding net_of
   writes_map = map-map (λ (e : Edge). e.write_rate) (rated_edge tables.ports (net_ports tables table)) tables.edges
-
-  pub reads_long : length (read_rates (net_of tables table)) ≡ length tables.edges
-  reads_long = ap length reads_map ∙ length-map tables.edges edge_reads
-
-  pub writes_long : length (write_rates (net_of tables table)) ≡ length tables.edges
-  writes_long = ap length writes_map ∙ length-map tables.edges edge_writes
 
   -- those of one edge
   pub reads_at : (e : ℕ) (edge : EdgeRow) → slice_get tables.edges e ≡ Some edge → slice_index (read_rates (net_of tables table)) e ≡ edge_reads edge

@@ -1,11 +1,10 @@
 pub mod Api
 mod EdgeRates
 mod FirstRings
-mod Fired
 mod Fits
+mod Left
 mod Onward
-mod Places
+mod OwnEdges
 mod Rows
 mod Said
-mod StateRings
 mod Stated

@@ -1,11 +1,9 @@
 -- Whether a cluster can go on from a state.
-use Rattle.std.proofs.Common.{◌≡◌, ◌∙◌, ◌<◌, ◌+◌, ◌*◌, ◌⊎◌, inl, inr, ℕ, ℤ, Bool, true, if◌then◌else◌, List, Some, length, slice_get, refl, sym, ap, subst}
-use Rattle.std.specs.Prelude.{All, Contains, Err, IfOk, Ok, Result, slice_index}
+use Rattle.std.proofs.Common.{◌≡◌, ◌∙◌, ◌⊎◌, inl, inr, ℕ, List, refl, sym, ap, subst}
+use Rattle.std.specs.Prelude.{Contains, Err, IfOk, Ok, Result}
 use Rattle.tdf_balance.specs.Laws.{AnswersExclude, CountsAreUnique}
 use Rattle.tdf_bind.specs.declared.model.Flat.{Flat}
-use Rattle.tdf_bind_connections.specs.declared.edges.EdgeRow.{EdgeRow}
 use Rattle.tdf_bind_invariants.specs.Limits.{AreWithinLimits}
-use Rattle.tdf_bind_tables.specs.FlatTables.{FlatTablesOf}
 use Rattle.tdf_dynamic_first.proofs.Api.{net_clusters, net_fit}
 use Rattle.tdf_dynamic_plans.proofs.Api.{plan_once}
 use Rattle.tdf_dynamic_plans.specs.Attributes.{AttrsOf, clusters_of}
@@ -18,71 +16,16 @@ use Rattle.tdf_dynamic_plans.specs.Same.{AreSamePlans}
 use Rattle.tdf_dynamic_values.specs.Laws.{ValuesAreOfOne}
 use Rattle.tdf_dynamic_values.specs.Planned.{IsTableFirst}
 use Rattle.tdf_dynamic_values.specs.States.{IsTableOfStates, state_flags, state_rates, state_steps}
-use Rattle.tdf_exec_parts.proofs.Rows.{all_at}
-use Rattle.tdf_exec_parts.specs.States.{AreInFormat, AreStatesOfRows, HoldEdges, HoldsUpTo, IsInPeriod, IsStateAt, IsStateUnder, due_before}
+use Rattle.tdf_exec_parts.specs.States.{AreStatesOfRows, HoldEdges, IsInPeriod, IsStateAt, IsStateUnder, due_before}
 use Rattle.tdf_exec_parts.specs.declared.judging.Standing.{Standing}
-use Rattle.tdf_exec_parts.specs.machine.Traffic.{AreLeft, IsLeftOn, IsTraffic}
-use Rattle.tdf_exec_layout.specs.Samples.{edge_format, format_of_port}
-use Rattle.tdf_exec_layout.specs.Wiring.{port_of_row}
 use Rattle.tdf_saved.specs.State.{ClusterStateOf, ModuleStateOf}
 use Rattle.tdf_saved.specs.declared.err.StateErr.{StateErr}
 use Rattle.tdf_saved.specs.declared.err.StateErr.TheVariants.{Bad, Memory}
 use Rattle.tdf_schedule.specs.Laws.{BoundsAreUnique, PlansAreUnique}
-use Rattle.tdf_schedule.specs.Plan.{done}
 use Rattle.tdf_schedule.specs.declared.entry.Entry.{Entry}
 use Rattle.tdf_schedule.specs.declared.entry.Plan.{Plan}
-use Rattle.tdf_streams.proofs.Api.{are_rates, get_inside, is_wired}
-use Rattle.tdf_streams.specs.Periods.{AreAttributes, read_rates, write_rates}
-use Rattle.tdf_streams.specs.Places.{is_own, reader_at, reader_of_row, writer_at, writer_of_row}
-use Rattle.tdf_streams.specs.Starts.{held_at_head, initial_of_row}
-
--- what is left on an edge by the traffic is what was written and not read
-module _ (tables : FlatTablesOf) (cluster : ℕ) (table : List AttrsOf) (entries : List Entry) (place : ℕ) (reads writes firings : List ℕ) (is : IsTraffic tables table entries place reads writes firings)
-    (writers : All (λ (edge : EdgeRow). edge.writer < length tables.actors) tables.edges) (readers : All (λ (edge : EdgeRow). edge.reader < length tables.actors) tables.edges) where
-  module _ (e : ℕ) (edge : EdgeRow) (at : slice_get tables.edges e ≡ Some edge) (own : is_own tables cluster e ≡ true) where
-    read : slice_index firings edge.reader ≡ done entries place (reader_at tables.edges e)
-    read = is.firings_are edge.reader (all_at (λ (row : EdgeRow). row.reader < length tables.actors) tables.edges e edge readers at) ∙ sym (ap (λ o. done entries place (reader_of_row o)) at)
-
-    written : slice_index firings edge.writer ≡ done entries place (writer_at tables.edges e)
-    written = is.firings_are edge.writer (all_at (λ (row : EdgeRow). row.writer < length tables.actors) tables.edges e edge writers at) ∙ sym (ap (λ o. done entries place (writer_of_row o)) at)
-
-    head : held_at_head tables cluster e ≡ edge.initial
-    head = ap (λ (b : Bool). if b then initial_of_row (slice_get tables.edges e) else 0) own ∙ ap initial_of_row at
-
-    format : edge_format tables e ≡ format_of_port tables (slice_get tables.ports edge.port)
-    format = ap (λ o. format_of_port tables (slice_get tables.ports (port_of_row o))) at
-
-    reading : slice_index firings edge.reader * slice_index reads e ≡ done entries place (reader_at tables.edges e) * slice_index (read_rates (net_of tables table)) e
-    reading = ap (λ n. n * slice_index reads e) read ∙ ap (λ l. done entries place (reader_at tables.edges e) * slice_index l e) is.reads_are
-
-    writing : slice_index firings edge.writer * slice_index writes e ≡ done entries place (writer_at tables.edges e) * slice_index (write_rates (net_of tables table)) e
-    writing = ap (λ n. n * slice_index writes e) written ∙ ap (λ l. done entries place (writer_at tables.edges e) * slice_index l e) is.writes_are
-
-    left_held : (nums : List ℤ) → IsLeftOn tables firings edge (slice_index reads e) (slice_index writes e) nums → HoldsUpTo tables cluster table entries place e nums
-    left_held nums left = record {
-      held = ap (λ n. length nums + n) (sym reading) ∙ left.held ∙ ap (λ n. edge.initial + n) writing
-          ∙ ap (λ n. n + done entries place (writer_at tables.edges e) * slice_index (write_rates (net_of tables table)) e) (sym head);
-      format = subst (λ o. AreInFormat o nums) (sym format) left.format;
-    }
-
-    held_left : (nums : List ℤ) → HoldsUpTo tables cluster table entries place e nums → IsLeftOn tables firings edge (slice_index reads e) (slice_index writes e) nums
-    held_left nums held = record {
-      held = ap (λ n. length nums + n) reading ∙ held.held ∙ ap (λ n. n + done entries place (writer_at tables.edges e) * slice_index (write_rates (net_of tables table)) e) head
-          ∙ ap (λ n. edge.initial + n) (sym writing);
-      format = subst (λ o. AreInFormat o nums) format held.format;
-    }
-
-  pub all_held : (edges : List (List ℤ)) (k : ℕ) → k ≡ length edges → AreLeft tables cluster reads writes firings edges (length tables.edges) k → HoldEdges tables cluster table entries place edges
-  all_held edges k long are = record {
-    long = sym long ∙ are.place;
-    each = λ e within own. (let row = get_inside tables.edges e within in left_held e row.0 row.1 own _ (are.each e row.0 within row.1 own));
-  }
-
-  pub all_left : (edges : List (List ℤ)) (k : ℕ) → k ≡ length edges → HoldEdges tables cluster table entries place edges → AreLeft tables cluster reads writes firings edges (length tables.edges) k
-  all_left edges k long hold = record {
-    place = long ∙ hold.long;
-    each = λ e edge within at own. held_left e edge at own _ (hold.each e within own);
-  }
+use Rattle.tdf_streams.proofs.Api.{are_rates, is_wired}
+use Rattle.tdf_streams.specs.Periods.{AreAttributes}
 
 -- a state is one under the one table and the one plan that it says
 module _ (flat : Flat) (cluster : ℕ) (limits : AreWithinLimits flat) (has : Contains (clusters_of flat.tables) cluster) (answers : AnswersExclude) (unique : CountsAreUnique)

@@ -25,12 +25,20 @@ held_by_state tables cluster edges e = if is_own tables cluster e
     (slice_index_or edges (place_of_edge tables cluster e) [])
     else []
 
--- there is a bound for each edge, whose ring has room for what it holds
-pub record FitStateRings (tables : FlatTablesOf) (cluster : ℕ) (bounds : List ℕ)
-    (edges : List (List ℤ)) : Type 0 where
-  pub long : length bounds ≡ length tables.edges
-  pub fits : (e : ℕ) → e < length tables.edges
-      → length (held_by_state tables cluster edges e) ≤ slice_index bounds e
+-- the edges with these numbers have room for what they hold
+abbrev pub FitStateRings : FlatTablesOf → (bounds numbers : List ℕ) → (edges : List (List ℤ))
+    → Type 0
+FitStateRings tables bounds numbers edges = (i : ℕ) → i < length numbers
+    → length (samples_by (edge_format tables (slice_index numbers i)) (slice_index_or edges i []))
+    ≤ slice_index bounds (slice_index numbers i)
+
+-- the rings of the first n of the edges with these numbers, in order
+pub record AreOwnStateRings (tables : FlatTablesOf) (bounds numbers : List ℕ)
+    (edges : List (List ℤ)) (n : ℕ) (rings : List RingOf) : Type 0 where
+  pub long : length rings ≡ n
+  pub each : (i : ℕ) → i < n → ring_at rings i ≡ ring_of
+      (samples_by (edge_format tables (slice_index numbers i)) (slice_index_or edges i []))
+      (slice_index bounds (slice_index numbers i))
 
 -- a ring for each of the first n edges
 pub record AreStateRings (tables : FlatTablesOf) (cluster : ℕ) (bounds : List ℕ)

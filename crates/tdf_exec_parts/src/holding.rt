@@ -1,64 +1,14 @@
 //! Whether the samples of a state are those that its edges hold at a place of a plan.
 
-ghost use Rattle.std.specs.Prelude.{◌≡◌, ◌+◌, ◌*◌, ◌<◌, ◌≤◌, ◌^◌, ◌↔◌, ℕ, IfOk, length, replicate, Some, slice_get, slice_index, true};
+ghost use Rattle.std.specs.Prelude.{◌≡◌, ◌+◌, ◌*◌, ◌<◌, ◌^◌, ◌↔◌, Some, slice_get, true};
 ghost use Rattle.tdf_bind_invariants.specs.Formats.{format_of_row, signal_format};
 ghost use Rattle.tdf_exec_layout.specs.Samples.{format_of_port};
 ghost use Rattle.tdf_exec_parts.specs.States.{AreInFormat};
-ghost use Rattle.tdf_schedule.specs.Plan.{done};
 
-use std::alloc::Global;
-use tdf_base::Memory;
 use tdf_bind_connections::SignalRow;
 use tdf_bind_tables::FlatTables;
 use tdf_fixed::Format;
 use tdf_lang_tree::PortKind;
-use tdf_schedule::Entry;
-
-/// Counts how often each actor fires in the first entries of a plan, where nothing is counted yet.
-fn count_firings(counts: &mut Vec<u64>, entries: &[Entry], place: usize)
-    requires place { place ≤ length entries.now }
-    requires none { counts.old.items ≡ replicate (length counts.old.items) 0 }
-    ensures long { length counts.new.items ≡ length counts.old.items }
-    ensures each { (m : ℕ) → m < length counts.new.items
-        → slice_index counts.new.items m ≡ done entries.now place m }
-{
-    for i in 0..place {
-        let actor = entries[i].actor as usize;
-        if actor < counts.len() {
-            counts[actor] += 1;
-        }
-    }
-}
-
-/// How often each actor fires in the first entries of a plan.
-///
-/// # Errors
-/// Out of memory.
-pub fn firings(
-    alloc: Global,
-    entries: &[Entry],
-    place: usize,
-    actors: usize,
-) -> Result<Vec<u64>, Memory>
-    requires { place ≤ length entries.now }
-    ensures long { IfOk result (λ counts. length counts.items ≡ actors) }
-    ensures each { IfOk result (λ counts. (m : ℕ) → m < actors
-        → slice_index counts.items m ≡ done entries.now place m) }
-{
-    let mut counts = vec![in alloc; 0; actors]?;
-    count_firings(&mut counts, entries, place);
-    Ok(counts)
-}
-
-/// Sets the counts of the actors below their number to how often each fires in a plan. It takes no memory.
-pub fn set_firings(counts: &mut Vec<u64>, entries: &[Entry])
-    ensures long { length counts.new.items ≡ length counts.old.items }
-    ensures each { (m : ℕ) → m < length counts.new.items
-        → slice_index counts.new.items m ≡ done entries.now (length entries.now) m }
-{
-    counts.fill(0);
-    count_firings(counts, entries, entries.len());
-}
 
 /// How many samples so many firings take or give.
 fn samples_of(firings: u64, rate: u32) -> u128

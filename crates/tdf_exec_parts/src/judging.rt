@@ -1,7 +1,10 @@
 //! Whether a cluster can go on from a state, and under which table and plan.
 
-ghost use Rattle.std.specs.Prelude.{◌≡◌, ◌⊎◌, ◌<◌, ◌≤◌, ◌↔◌, All, Contains, Err, IfOk, List, length, map, true};
+ghost use Rattle.std.specs.Prelude.{◌≡◌, ◌⊎◌, ◌≤◌, ◌↔◌, Contains, Err, IfOk, List, length, map, true};
 ghost use Rattle.tdf_bind_invariants.specs.Limits.{AreWithinLimits};
+ghost use Rattle.tdf_cluster_net.specs.Numbers.{AllBelow};
+ghost use Rattle.tdf_cluster_plans.specs.Counted.{AreCounted};
+ghost use Rattle.tdf_cluster_plans.specs.Groups.{AreTableGroups};
 ghost use Rattle.tdf_dynamic_first.specs.Text.{first_table};
 ghost use Rattle.tdf_dynamic_plans.specs.Attributes.{AttrsOf, clusters_of};
 ghost use Rattle.tdf_dynamic_plans.specs.Faults.{IsTablePlan};
@@ -10,144 +13,126 @@ ghost use Rattle.tdf_dynamic_plans.specs.Rates.{AreRates};
 ghost use Rattle.tdf_dynamic_values.specs.Planned.{IsTableFirst};
 ghost use Rattle.tdf_dynamic_values.specs.States.{IsTableOfStates};
 ghost use Rattle.tdf_exec_parts.specs.States.{AreStatesOfRows, HoldEdges, IsInPeriod, IsStateAt, IsStateUnder, due_before};
-ghost use Rattle.tdf_exec_parts.specs.machine.Traffic.{AreLeft, IsLeftOn, IsTraffic};
+ghost use Rattle.tdf_exec_parts.specs.machine.Traffic.{AreLeft, IsLeftOn};
 ghost use Rattle.tdf_saved.specs.declared.err.StateErr.TheVariants as why;
 ghost use Rattle.tdf_schedule.specs.declared.entry.Plan.{Plan as PlanOf};
-ghost use Rattle.tdf_streams.specs.Places.{is_own};
 
 use crate::fitting::{are_states_of, due_before, is_in_period};
-use crate::holding::{are_in_format, firings, is_left, port_format};
+use crate::holding::{are_in_format, is_left, port_format};
 use std::alloc::Global;
 use tdf_balance::law_counts;
 use tdf_base::Memory;
 use tdf_bind::Flat;
 use tdf_bind_connections::EdgeRow;
 use tdf_bind_tables::FlatTables;
+use tdf_cluster_plans::{TableGroups, firings, firings_of, set_own_rates};
 use tdf_dynamic_first::{First, first_table};
-use tdf_dynamic_plans::{ChangeErr, edge_rates};
+use tdf_dynamic_plans::{ChangeErr, ones};
 use tdf_dynamic_values::{law_one_table, plan_of_states};
 use tdf_saved::{ClusterState, ModuleState, StateErr};
-use tdf_schedule::law_plans;
+use tdf_schedule::{Entry, law_plans};
 
-/// Whether an edge is of the cluster.
-pub(crate) fn is_own(tables: &FlatTables, cluster: u32, number: usize) -> bool
-    requires edge { number < length tables.now.edges }
-    requires writers { All (λ edge. edge.writer < length tables.now.actors) tables.now.edges }
-    ensures { result ≡ is_own tables.now cluster number }
-{
-    let edge = tables.edges[number];
-    tables.actors[edge.writer as usize].cluster == cluster
+/// The entries of a plan that are done, and how often the actors with some numbers fired in them.
+#[derive(Clone, Copy)]
+struct Fired<'a> {
+    entries: &'a [Entry],
+    numbers: &'a [u32],
+    counts: &'a [u64],
 }
 
 /// Whether an edge with these rates has what is left of its samples.
 fn is_left_on(
     tables: &FlatTables,
-    firings: &[u64],
+    fired: &Fired,
     edge: EdgeRow,
     read_rate: u32,
     write_rate: u32,
     nums: &[i128],
 ) -> bool
-    requires writer { edge.writer < length firings.now }
-    requires reader { edge.reader < length firings.now }
-    ensures { (result ≡ true)
-        ↔ IsLeftOn tables.now firings.now edge read_rate write_rate nums.now }
+    requires counted { AreCounted fired.now.numbers.now fired.now.entries.now fired.now.counts.now }
+    ensures { (result ≡ true) ↔ IsLeftOn tables.now fired.now.entries.now edge read_rate
+        write_rate nums.now }
 {
-    let left = is_left(
+    let read = firings_of(fired.numbers, fired.counts, fired.entries, edge.reader);
+    let written = firings_of(fired.numbers, fired.counts, fired.entries, edge.writer);
+    if !is_left(
         nums.len(),
         edge.initial,
-        firings[edge.reader as usize],
+        read,
         read_rate,
-        firings[edge.writer as usize],
+        written,
         write_rate,
-    );
-    if !left {
+    ) {
         return false;
     }
     are_in_format(port_format(tables, edge.port), nums)
 }
 
-/// Whether each edge of the cluster has what is left of its samples, the edges by number.
+/// Whether each of the edges with these numbers has what is left of its samples; rates and samples stand in the order of the numbers.
 fn are_left(
     tables: &FlatTables,
-    cluster: u32,
+    fired: &Fired,
+    numbers: &[u32],
     reads: &[u32],
     writes: &[u32],
-    firings: &[u64],
     edges: &[Vec<i128>],
 ) -> bool
-    requires reads { length reads.now ≡ length tables.now.edges }
-    requires writes { length writes.now ≡ length tables.now.edges }
-    requires actors { length firings.now ≡ length tables.now.actors }
-    requires writers { All (λ edge. edge.writer < length tables.now.actors) tables.now.edges }
-    requires readers { All (λ edge. edge.reader < length tables.now.actors) tables.now.edges }
-    ensures { (result ≡ true) ↔ AreLeft tables.now cluster reads.now writes.now firings.now
-        (map (λ nums. nums.items) edges.now) (length tables.now.edges) (length edges.now) }
+    requires counted { AreCounted fired.now.numbers.now fired.now.entries.now fired.now.counts.now }
+    requires inside { AllBelow (length tables.now.edges) numbers.now }
+    requires reads { length reads.now ≡ length numbers.now }
+    requires writes { length writes.now ≡ length numbers.now }
+    ensures { (result ≡ true) ↔ AreLeft tables.now fired.now.entries.now reads.now writes.now
+        numbers.now (map (λ nums. nums.items) edges.now) }
 {
-    let mut place = 0;
-    for e in 0..tables.edges.len() {
-        if is_own(tables, cluster, e) {
-            if place >= edges.len() {
-                return false;
-            }
-            let nums = &edges[place];
-            if !is_left_on(tables, firings, tables.edges[e], reads[e], writes[e], nums) {
-                return false;
-            }
-            place += 1;
+    if edges.len() != numbers.len() {
+        return false;
+    }
+    for i in 0..numbers.len() {
+        let edge = tables.edges[numbers[i] as usize];
+        if !is_left_on(tables, fired, edge, reads[i], writes[i], &edges[i]) {
+            return false;
         }
     }
-    place == edges.len()
+    true
 }
 
-/// The rates in force by edge, and by actor the firings before a place.
-#[derive(Drop)]
-struct Traffic {
-    reads: Vec<u32>,
-    writes: Vec<u32>,
-    firings: Vec<u64>,
-}
-
-fn traffic_of(alloc: Global, flat: &Flat, first: &First, place: usize) -> Result<Traffic, Memory>
-    requires rates { AreRates flat.now.tables first.now.attrs.rows }
-    requires place { place ≤ length first.now.plan.entries.items }
-    ensures { IfOk result (λ t. IsTraffic flat.now.tables first.now.attrs.rows
-        first.now.plan.entries.items place t.reads.items t.writes.items t.firings.items) }
-{
-    let rates = edge_rates(alloc, &flat.tables, &first.attrs.rows)?;
-    let firings = firings(alloc, &first.plan.entries, place, flat.tables.actors.len())?;
-    Ok(Traffic {
-        reads: rates.reads,
-        writes: rates.writes,
-        firings,
-    })
-}
-
-/// Whether each edge of the cluster holds what was written and not read up to a place of the plan.
+/// Whether each edge of the cluster holds what was written and not read up to a place of the plan. No other edge is looked at.
 fn hold_edges(
     alloc: Global,
     flat: &Flat,
+    groups: &TableGroups,
     cluster: u32,
     first: &First,
     place: usize,
     edges: &[Vec<i128>],
 ) -> Result<bool, Memory>
     requires limits { AreWithinLimits flat.now }
+    requires groups { AreTableGroups flat.now.tables groups.now }
+    requires has { Contains (clusters_of flat.now.tables) cluster }
     requires rates { AreRates flat.now.tables first.now.attrs.rows }
     requires place { place ≤ length first.now.plan.entries.items }
     ensures { IfOk result (λ yes. (yes ≡ true) ↔ HoldEdges flat.now.tables cluster
         first.now.attrs.rows first.now.plan.entries.items place
         (map (λ nums. nums.items) edges.now)) }
 {
-    let traffic = traffic_of(alloc, flat, first, place)?;
-    Ok(are_left(
+    let entries = &first.plan.entries[..place];
+    let counts = firings(alloc, groups.actors(cluster), entries)?;
+    let fired = Fired {
+        entries,
+        numbers: groups.actors(cluster),
+        counts: &counts,
+    };
+    let numbers = groups.edges(cluster);
+    let mut reads = ones(alloc, numbers.len())?;
+    let mut writes = ones(alloc, numbers.len())?;
+    set_own_rates(
         &flat.tables,
-        cluster,
-        &traffic.reads,
-        &traffic.writes,
-        &traffic.firings,
-        edges,
-    ))
+        &first.attrs.rows,
+        numbers,
+        &mut reads,
+        &mut writes,
+    );
+    Ok(are_left(&flat.tables, &fired, numbers, &reads, &writes, edges))
 }
 
 /// The table that the modules of a state say, with the plan under it.
@@ -157,10 +142,12 @@ fn hold_edges(
 fn planned(
     alloc: Global,
     flat: &Flat,
+    groups: &TableGroups,
     cluster: u32,
     modules: &[ModuleState],
 ) -> Result<First, StateErr>
     requires limits { AreWithinLimits flat.now }
+    requires groups { AreTableGroups flat.now.tables groups.now }
     requires has { Contains (clusters_of flat.now.tables) cluster }
     ensures states { IfOk result (λ first.
         AreStatesOfRows flat.now (first_table flat.now cluster) modules.now) }
@@ -172,13 +159,13 @@ fn planned(
         → (table : List AttrsOf) (plan : PlanOf) → IsTableOfStates flat.now cluster modules.now table
         → IsTablePlan flat.now.tables cluster table plan → ⊥ }
 {
-    let text = first_table(alloc, flat, cluster)?;
+    let text = first_table(alloc, flat, groups, cluster)?;
     let fit = are_states_of(flat, &text.rows, modules);
     drop(text);
     if !fit {
         return Err(StateErr::Bad);
     }
-    match plan_of_states(alloc, flat, cluster, modules) {
+    match plan_of_states(alloc, flat, groups, cluster, modules) {
         Ok(first) => Ok(first),
         Err(ChangeErr::Refused(fault)) => {
             drop(fault);
@@ -201,12 +188,15 @@ pub struct Standing {
 fn stood(
     alloc: Global,
     flat: &Flat,
+    groups: &TableGroups,
     cluster: u32,
     first: First,
     state: &ClusterState,
     time: u64,
 ) -> Result<Standing, StateErr>
     requires limits { AreWithinLimits flat.now }
+    requires groups { AreTableGroups flat.now.tables groups.now }
+    requires has { Contains (clusters_of flat.now.tables) cluster }
     requires rates { AreRates flat.now.tables first.attrs.rows }
     ensures first { IfOk result (λ s. s.first ≡ first) }
     ensures place { IfOk result (λ s.
@@ -224,7 +214,7 @@ fn stood(
         drop(first);
         return Err(StateErr::Bad);
     }
-    match hold_edges(alloc, flat, cluster, &first, place, &state.edges) {
+    match hold_edges(alloc, flat, groups, cluster, &first, place, &state.edges) {
         Ok(true) => Ok(Standing { first, place }),
         Ok(false) => {
             drop(first);
@@ -237,18 +227,21 @@ fn stood(
     }
 }
 
-/// The table and the plan that a state of a cluster says, and the place in it at a time.
+/// The table and the plan that a state of a cluster says, and the place in it at a time. The things of the model by cluster are given, and
+/// those of other clusters are not looked at.
 ///
 /// # Errors
 /// `Bad` exactly where the cluster can't go on from this state at this time, or out of memory.
 pub fn standing_of(
     alloc: Global,
     flat: &Flat,
+    groups: &TableGroups,
     cluster: u32,
     state: &ClusterState,
     time: u64,
 ) -> Result<Standing, StateErr>
     requires limits { AreWithinLimits flat.now }
+    requires groups { AreTableGroups flat.now.tables groups.now }
     requires has { Contains (clusters_of flat.now.tables) cluster }
     ensures state { IfOk result (λ s. IsStateUnder flat.now cluster state.now time
         s.first.attrs.rows s.first.plan) }
@@ -263,8 +256,8 @@ pub fn standing_of(
     law_counts();
     law_plans();
     law_one_table();
-    match planned(alloc, flat, cluster, &state.modules) {
-        Ok(first) => stood(alloc, flat, cluster, first, state, time),
+    match planned(alloc, flat, groups, cluster, &state.modules) {
+        Ok(first) => stood(alloc, flat, groups, cluster, first, state, time),
         Err(why) => Err(why),
     }
 }

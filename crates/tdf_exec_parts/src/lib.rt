@@ -14,6 +14,5 @@ mod judging;
 mod restoring;
 
 pub use filling::first_rings;
-pub use holding::{firings, set_firings};
 pub use judging::{Standing, standing_of};
 pub use restoring::{set_values, state_rings};

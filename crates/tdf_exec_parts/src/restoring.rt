@@ -1,17 +1,15 @@
 //! What a cluster holds by a state: the samples of its edges, and the values of its modules.
 
-ghost use Rattle.std.specs.Prelude.{◌≡◌, ◌+◌, ◌<◌, ◌≤◌, [], All, IfOk, if◌then◌else◌, length, map, true};
-ghost use Rattle.tdf_exec_parts.specs.Restored.{AreStateRings, FitStateRings, held_by_state, samples_by};
-ghost use Rattle.tdf_exec_parts.specs.States.{place_of_edge};
+ghost use Rattle.std.specs.Prelude.{◌≡◌, ◌<◌, ◌≤◌, [], IfOk, length, map};
+ghost use Rattle.tdf_cluster_net.specs.Numbers.{AllBelow};
+ghost use Rattle.tdf_exec_parts.specs.Restored.{AreOwnStateRings, FitStateRings, samples_by};
 ghost use Rattle.tdf_exec_parts.specs.machine.Restoring.{sample_of};
 ghost use Rattle.tdf_expr.specs.Frames.{limits_of_rate};
 ghost use Rattle.tdf_expr.specs.Made.{CellsFit, block_count, cell_formats, rate_spans_of};
 ghost use Rattle.tdf_expr_semantics.specs.Fits.{RatesFit};
 ghost use Rattle.tdf_rings.specs.Rings.{ring_of};
-ghost use Rattle.tdf_streams.specs.Places.{is_own};
 
 use crate::holding::port_format;
-use crate::judging::is_own;
 use std::alloc::Global;
 use tdf_base::{Memory, row_number};
 use tdf_bind_tables::FlatTables;
@@ -51,68 +49,31 @@ fn ring_with(
     }
 }
 
-/// The ring of an edge; `place` edges of the cluster come before it.
-fn state_ring(
-    alloc: Global,
-    tables: &FlatTables,
-    cluster: u32,
-    number: usize,
-    bound: u32,
-    edges: &[Vec<i128>],
-    place: usize,
-) -> Result<Ring, Memory>
-    requires edge { number < length tables.now.edges }
-    requires writers { All (λ edge. edge.writer < length tables.now.actors) tables.now.edges }
-    requires place { place ≡ place_of_edge tables.now cluster number }
-    requires inside { is_own tables.now cluster number ≡ true → place < length edges.now }
-    requires fits { length (held_by_state tables.now cluster (map (λ nums. nums.items) edges.now)
-        number) ≤ bound }
-    ensures { IfOk result (λ ring. ring ≡ ring_of (held_by_state tables.now cluster
-        (map (λ nums. nums.items) edges.now) number) bound) }
-{
-    if !is_own(tables, cluster, number) {
-        return Ring::new(alloc, bound);
-    }
-    let format = port_format(tables, tables.edges[number].port);
-    ring_with(alloc, bound, format, &edges[place])
-}
-
-/// The place of the edge after one that is of the cluster or not.
-fn place_after(place: usize, own: bool, count: usize) -> usize
-    requires { own ≡ true → place < count }
-    ensures { result ≡ place + (if own then 1 else 0) }
-{
-    if own {
-        return place + 1;
-    }
-    place
-}
-
-/// The rings of all edges, with the samples that the edges of the cluster hold by a state and room for their bounds.
+/// The rings of the edges with these numbers, in order, with room for their bounds and the samples that a state says; no other edge is looked
+/// at. A bound of more than 32 bits is refused: such a ring has no memory.
 ///
 /// # Errors
 /// Out of memory.
 pub fn state_rings(
     alloc: Global,
     tables: &FlatTables,
-    cluster: u32,
+    numbers: &[u32],
     bounds: &Sparse,
     edges: &[Vec<i128>],
 ) -> Result<Vec<Ring>, Memory>
-    requires writers { All (λ edge. edge.writer < length tables.now.actors) tables.now.edges }
-    requires many { length edges.now
-        ≡ place_of_edge tables.now cluster (length tables.now.edges) }
-    requires fits { FitStateRings tables.now cluster bounds.now.items
+    requires inside { AllBelow (length tables.now.edges) numbers.now }
+    requires many { length edges.now ≡ length numbers.now }
+    requires fits { FitStateRings tables.now bounds.now.items numbers.now
         (map (λ nums. nums.items) edges.now) }
-    ensures { IfOk result (λ rings. AreStateRings tables.now cluster bounds.now.items
-        (map (λ nums. nums.items) edges.now) (length tables.now.edges) rings.items) }
+    ensures { IfOk result (λ rings. AreOwnStateRings tables.now bounds.now.items numbers.now
+        (map (λ nums. nums.items) edges.now) (length numbers.now) rings.items) }
 {
-    let mut rings = Vec::new(alloc);
-    let mut place = 0;
-    for e in 0..tables.edges.len() {
-        let bound = row_number(bounds.get_near(place, e) as usize)?;
-        rings.push(state_ring(alloc, tables, cluster, e, bound, edges, place)?)?;
-        place = place_after(place, is_own(tables, cluster, e), edges.len());
+    let mut rings = Vec::with_capacity(alloc, numbers.len())?;
+    for i in 0..numbers.len() {
+        let e = numbers[i] as usize;
+        let bound = row_number(bounds.get_near(i, e) as usize)?;
+        let format = port_format(tables, tables.edges[e].port);
+        rings.push(ring_with(alloc, bound, format, &edges[i])?)?;
     }
     Ok(rings)
 }

@@ -2,4 +2,5 @@ pub mod Api
 mod Fronts
 mod Lists
 mod Maps
+mod Ranges
 mod Spreads

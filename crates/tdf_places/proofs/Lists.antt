@@ -1,20 +1,22 @@
 -- Lists of which the numbers that are not 0 are kept, with their places.
-use Rattle.std.proofs.Common.{◌≡◌, ◌≢◌, ◌∙◌, ◌⊎◌, inl, inr, ℕ, ◌+◌, ◌<◌, ◌≤◌, ◌++◌, List, [], ◌∷◌, Some, true, false, length, map, refl, sym, ap, subst, arith, ltb}
+use Rattle.std.proofs.Common.{◌≡◌, ◌≢◌, ◌∙◌, ◌⊎◌, inl, inr, ℕ, ◌+◌, ◌<◌, ◌≤◌, ◌++◌, List, [], ◌∷◌, true, false, length, map, take, refl, sym, ap, subst, arith, ltb}
 use Rattle.std.proofs.Math.ListN.{get_or, get_or-append}
 use Rattle.std.proofs.Math.Seq.{get_or-append_seam}
 use Rattle.std.proofs.lemmas.Bool.{cases_lt}
 use Rattle.std.proofs.lemmas.Bool.Decides.{nat_tests}
-use Rattle.std.proofs.lemmas.List.{get_or-map, length-append, length-map, map-append}
+use Rattle.std.proofs.lemmas.List.{get_or-map, get_or-take, length-append, length-map, length-take-le, map-append}
 use Rattle.std.specs.List.Sorted.{IsNonDecreasingBy, IsPartitionPoint}
-use Rattle.std.specs.Prelude.{slice_index}
+use Rattle.std.specs.Prelude.{nat_lt, slice_index}
+use Rattle.tdf_places.proofs.Ranges.{rising_all}
 use Rattle.tdf_places.proofs.Spreads.{spread_at, spread_elsewhere, spread_is, spread_long, spread_nowhere, stands}
-use Rattle.tdf_places.specs.Places.{AreDistinct, AreAscending, IsNowhere, PlacesOf}
+use Rattle.tdf_places.specs.Places.{AllBelow, AreDistinct, IsAmong, PlacesOf, Rise}
+use Rattle.tdf_places.specs.Sparse.{set_below}
 use Rattle.tdf_places.specs.Spread.{spread_by}
 use Rattle.tdf_places.specs.declared.sparse.Kept.{Kept}
 use Rattle.tdf_places.specs.views.Kept.{AreKept, IsKeptAt, moved_by, places_of, values_of, whole_list}
 
 -- rising numbers are different
-pub rising_apart : (count : ℕ) (numbers : List ℕ) → ((i : ℕ) → i < length numbers → slice_index numbers i < count) → AreAscending numbers → AreDistinct count numbers
+pub rising_apart : (count : ℕ) (numbers : List ℕ) → AllBelow count numbers → Rise numbers → AreDistinct count numbers
 rising_apart count numbers within rising = record { within = within; once = λ i j i_in j_in same. go i j i_in j_in same (cases_lt i j) (cases_lt j i) }
   where
     go : (i j : ℕ) → i < length numbers → j < length numbers → slice_index numbers i ≡ slice_index numbers j → (i < j) ⊎ (j ≤ i) → (j < i) ⊎ (i ≤ j) → i ≡ j
@@ -60,7 +62,7 @@ module _ (kept : List Kept) where
     )
       where
         more : AreKept (count + 1) kept
-        more = record { within = λ i less. (let w = are.within i less in omega (arith, w)); rising = are.rising }
+        more = record { within = λ i less. (let w = are.within i less in omega (arith, w)); rising = are.rising; some = are.some }
 
         elsewhere : (m : ℕ) → m < count + 1 → ((i : ℕ) → i < length (places_of kept) → slice_index (places_of kept) i ≢ m) → (m < count) ⊎ (count ≤ m)
             → get_or (whole_list count kept ++ 0 ∷ []) m 0 ≡ 0
@@ -97,7 +99,7 @@ module _ (kept : List Kept) where
               let is : length (places_of kept) ≡ i = (let l = long_new in omega (arith, l, less, past)) in
               subst (λ k. slice_index (places_of kept ++ count ∷ []) k < count + 1) is (let e = place_last in omega (arith, e))
 
-      rising_new : AreAscending (places_of kept ++ count ∷ [])
+      rising_new : Rise (places_of kept ++ count ∷ [])
       rising_new i j below less = go (cases_lt j (length (places_of kept)))
         where
           go : (j < length (places_of kept)) ⊎ (length (places_of kept) ≤ j) → slice_index (places_of kept ++ count ∷ []) i < slice_index (places_of kept ++ count ∷ []) j
@@ -109,10 +111,20 @@ module _ (kept : List Kept) where
               subst (λ k. slice_index (places_of kept ++ count ∷ []) i < slice_index (places_of kept ++ count ∷ []) k) is
               (let e = place_before i i_in in let w = are.within i i_in in let f = place_last in omega (arith, e, w, f))
 
-      pub kept_more : AreKept (count + 1) new
-      kept_more = record {
-        within = subst (λ ps. (i : ℕ) → i < length ps → slice_index ps i < count + 1) (sym places_new) within_new;
-        rising = subst AreAscending (sym places_new) rising_new;
+      some_new : value ≢ 0 → (i : ℕ) → i < length (values_of kept ++ value ∷ []) → 0 < slice_index (values_of kept ++ value ∷ []) i
+      some_new some i less = go (cases_lt i (length (values_of kept)))
+        where
+          go : (i < length (values_of kept)) ⊎ (length (values_of kept) ≤ i) → 0 < slice_index (values_of kept ++ value ∷ []) i
+          go (inl below) = (let e = get_or-append (values_of kept) (value ∷ []) 0 i below in let s = are.some i below in omega (arith, e, s))
+          go (inr past) =
+              let is : length (values_of kept) ≡ i = (let l = length-append (values_of kept) (value ∷ []) in omega (arith, l, less, past)) in
+              subst (λ k. 0 < slice_index (values_of kept ++ value ∷ []) k) is (let e = get_or-append_seam (values_of kept) value [] 0 in omega (arith, e, some))
+
+      pub kept_more : value ≢ 0 → AreKept (count + 1) new
+      kept_more some = record {
+        within = subst (AllBelow (count + 1)) (sym places_new) within_new;
+        rising = subst Rise (sym places_new) rising_new;
+        some = subst (λ vs. (i : ℕ) → i < length vs → 0 < slice_index vs i) (sym values_new) (some_new some);
       }
 
       -- one number more
@@ -148,7 +160,7 @@ module _ (kept : List Kept) where
               absurd (none (length (places_of kept)) (let l = long_new in omega (arith, l)) (place_last ∙ omega (arith, inside, past)))
 
     -- moved to the places of a longer list
-    module _ (whole : ℕ) (places : List ℕ) (long : count ≡ length places) (within : (i : ℕ) → i < length places → slice_index places i < whole) (rising : AreAscending places) where
+    module _ (whole : ℕ) (places : List ℕ) (long : count ≡ length places) (within : AllBelow whole places) (rising : Rise places) where
       moved_places : places_of (map (moved_by places) kept) ≡ map (slice_index places) (places_of kept)
       moved_places = go kept
         where
@@ -174,7 +186,7 @@ module _ (kept : List Kept) where
           let below : i < length (places_of kept) = (let l = long_moved in omega (arith, less, l)) in
           (let e = moved_at i below in let w = within (slice_index (places_of kept) i) (let v = are.within i below in omega (arith, v, long)) in omega (arith, e, w))
 
-      rising_moved : AreAscending (map (slice_index places) (places_of kept))
+      rising_moved : Rise (map (slice_index places) (places_of kept))
       rising_moved i j before less =
           let j_in : j < length (places_of kept) = (let l = long_moved in omega (arith, less, l)) in
           (let e = moved_at i (omega (arith, before, j_in)) in let f = moved_at j j_in in
@@ -182,8 +194,9 @@ module _ (kept : List Kept) where
 
       pub kept_moved : AreKept whole (map (moved_by places) kept)
       kept_moved = record {
-        within = subst (λ ps. (i : ℕ) → i < length ps → slice_index ps i < whole) (sym moved_places) within_moved;
-        rising = subst AreAscending (sym moved_places) rising_moved;
+        within = subst (AllBelow whole) (sym moved_places) within_moved;
+        rising = subst Rise (sym moved_places) rising_moved;
+        some = subst (λ vs. (i : ℕ) → i < length vs → 0 < slice_index vs i) (sym moved_values) are.some;
       }
 
       abbrev target : PlacesOf
@@ -245,3 +258,53 @@ module _ (kept : List Kept) (count place near : ℕ) (are : AreKept count kept) 
       go i less same (inr low) (inl after) =
           (let e = at d near (omega (arith, less, after)) in let h = point.1 near d (omega arith) (omega (arith, less, after)) in
           let r = are.rising near i after (let l = length-map kept (λ (k : Kept). k.place) in omega (arith, l, less)) in grind (arith, nat_tests, h, e, r, same))
+
+-- the places below a number are those of what is kept before the point
+module _ (kept : List Kept) (count number near : ℕ) (are : AreKept count kept) (inside : near ≤ length kept)
+    (point : IsPartitionPoint (λ (k : Kept). ltb k.place number ≡ true) (λ (k : Kept). ltb k.place number ≡ false) kept near) where
+  pub set_places : take near (places_of kept) ≡ set_below number (whole_list count kept)
+  set_places = rising_all (λ e. nat_lt 0 (slice_index (whole_list count kept) e)) number (take near (places_of kept)) below rising meant (λ m less is. among m less is (stands (places_of kept) m))
+    where
+      d : Kept
+      d = record { place = 0; value = 0 }
+
+      long : length (places_of kept) ≡ length kept
+      long = length-map kept (λ (k : Kept). k.place)
+
+      long_front : length (take near (places_of kept)) ≡ near
+      long_front = length-take-le near (places_of kept) (let l = long in omega (arith, l, inside))
+
+      front : (i : ℕ) → i < near → slice_index (take near (places_of kept)) i ≡ slice_index (places_of kept) i
+      front i less = get_or-take near (places_of kept) i 0 less
+
+      at : (i : ℕ) → i < length kept → slice_index (places_of kept) i ≡ (get_or kept i d).place
+      at i less = get_or-map (λ (k : Kept). k.place) kept i d 0 less
+
+      below : AllBelow number (take near (places_of kept))
+      below i less =
+          let i_in : i < near = (let l = long_front in omega (arith, l, less)) in
+          (let f = front i i_in in let e = at i (omega (arith, i_in, inside)) in let h = point.0 i d (omega arith) i_in in grind (arith, nat_tests, h, e, f))
+
+      rising : Rise (take near (places_of kept))
+      rising i j before less =
+          let j_in : j < near = (let l = long_front in omega (arith, l, less)) in
+          (let f = front i (omega (arith, before, j_in)) in let g = front j j_in in let r = are.rising i j before (let l = long in omega (arith, l, j_in, inside)) in omega (arith, f, g, r))
+
+      meant : (i : ℕ) → i < length (take near (places_of kept)) → nat_lt 0 (slice_index (whole_list count kept) (slice_index (take near (places_of kept)) i)) ≡ true
+      meant i less =
+          let i_in : i < near = (let l = long_front in omega (arith, l, less)) in
+          let there : i < length (places_of kept) = (let l = long in omega (arith, l, i_in, inside)) in
+          let value : slice_index (whole_list count kept) (slice_index (take near (places_of kept)) i) ≡ slice_index (values_of kept) i =
+          ap (slice_index (whole_list count kept)) (front i i_in) ∙ at_place kept count are i there in
+          (let s = are.some i (let m = many kept in omega (arith, m, there)) in grind (arith, nat_tests, value, s))
+
+      among : (m : ℕ) → m < number → nat_lt 0 (slice_index (whole_list count kept) m) ≡ true
+          → ((i : ℕ) × (i < length (places_of kept)) × (slice_index (places_of kept) i ≡ m)) ⊎ ((i : ℕ) → i < length (places_of kept) → slice_index (places_of kept) i ≢ m)
+          → IsAmong (take near (places_of kept)) m
+      among m less is (inr nowhere) = absurd (let z = at_none kept count are m nowhere in grind (arith, nat_tests, z, is))
+      among m less is (inl found) = go found.0 found.1 found.2 (cases_lt found.0 near)
+        where
+          go : (i : ℕ) → i < length (places_of kept) → slice_index (places_of kept) i ≡ m → (i < near) ⊎ (near ≤ i) → IsAmong (take near (places_of kept)) m
+          go i i_in same (inl before) = (i, (let l = long_front in omega (arith, l, before)), front i before ∙ same)
+          go i i_in same (inr past) =
+              absurd (let l = long in let e = at i (omega (arith, l, i_in)) in let h = point.1 i d past (omega (arith, l, i_in)) in grind (arith, nat_tests, h, e, same, less))

@@ -8,24 +8,28 @@ pub record PlacesOf : Type 0 where
   -- how many things of the kind the model has
   pub count : ℕ
 
+-- a number stands at some place
+abbrev pub IsAmong : List ℕ → ℕ → Type 0
+IsAmong numbers m = (i : ℕ) × (i < length numbers) × (slice_index numbers i ≡ m)
+
+-- each is below a number
+abbrev pub AllBelow : (count : ℕ) → List ℕ → Type 0
+AllBelow count numbers = (i : ℕ) → i < length numbers → slice_index numbers i < count
+
+-- each is greater than those before it
+abbrev pub Rise : List ℕ → Type 0
+Rise numbers = (i j : ℕ) → i < j → j < length numbers
+    → slice_index numbers i < slice_index numbers j
+
 -- numbers below `count`, none twice
 pub record AreDistinct (count : ℕ) (numbers : List ℕ) : Type 0 where
-  pub within : (i : ℕ) → i < length numbers → slice_index numbers i < count
+  pub within : AllBelow count numbers
   pub once : (i j : ℕ) → i < length numbers → j < length numbers
       → slice_index numbers i ≡ slice_index numbers j → i ≡ j
 
 abbrev pub StandApart : PlacesOf → Type 0
 StandApart places = AreDistinct places.count places.numbers
 
--- one of the things has this number
-abbrev pub IsSomewhere : PlacesOf → ℕ → Type 0
-IsSomewhere places m = (i : ℕ) × (i < length places.numbers) × (slice_index places.numbers i ≡ m)
-
 -- none of the things has this number
 abbrev pub IsNowhere : PlacesOf → ℕ → Type 0
 IsNowhere places m = (i : ℕ) → i < length places.numbers → slice_index places.numbers i ≢ m
-
--- each number is greater than those before it
-abbrev pub AreAscending : List ℕ → Type 0
-AreAscending numbers = (i j : ℕ) → i < j → j < length numbers
-    → slice_index numbers i < slice_index numbers j

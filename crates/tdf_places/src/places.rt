@@ -28,8 +28,8 @@ impl Model for Places {
     } };
 }
 
-ghost use Rattle.std.specs.Prelude.{◌≡◌, ◌≢◌, ◌<◌, ℕ, IfOk, IfSome, None, Some, length, slice_get, slice_index, true};
-ghost use Rattle.tdf_places.specs.Places.{AreDistinct, IsSomewhere, StandApart};
+ghost use Rattle.std.specs.Prelude.{◌≡◌, IfOk, IfSome, None, Some, length, slice_get, true};
+ghost use Rattle.tdf_places.specs.Places.{AreDistinct, IsAmong, IsNowhere, StandApart};
 ghost use Rattle.tdf_places.specs.views.Mapped.{AreMapped};
 
 use std::alloc::Global;
@@ -111,8 +111,7 @@ impl Places {
     /// The place of a number; none where it is of another thing.
     pub fn place(&self, number: u32) -> Option<usize>
         ensures found { IfSome result (λ place. slice_get self.now.numbers place ≡ Some number) }
-        ensures none { result ≡ None → (i : ℕ) → i < length self.now.numbers
-            → slice_index self.now.numbers i ≢ number }
+        ensures none { result ≡ None → IsNowhere self.now number }
     {
         let by_number = self.by_number.as_slice();
         if number as usize >= by_number.len() {
@@ -127,7 +126,7 @@ impl Places {
 
     /// The place of a number of one of the things.
     pub fn at(&self, number: u32) -> usize
-        requires { IsSomewhere self.now number }
+        requires { IsAmong self.now.numbers number }
         ensures { slice_get self.now.numbers result ≡ Some number }
     {
         let by_number = self.by_number.as_slice();

@@ -29,8 +29,9 @@ impl Model for Sparse {
     ghost invariant = { λ a. record { kept : AreKept a.length a.kept.items } };
 }
 
-ghost use Rattle.std.specs.Prelude.{◌≡◌, ◌≢◌, ◌<◌, ◌++◌, ◌∷◌, ℕ, [], IfOk, IfSome, None, OnErr, OnOk, length, map, slice_index};
-ghost use Rattle.tdf_places.specs.Places.{AreAscending};
+ghost use Rattle.std.specs.Prelude.{◌≡◌, ◌≢◌, ◌<◌, ◌++◌, ◌∷◌, [], IfOk, IfSome, None, OnErr, OnOk, length, map, slice_index};
+ghost use Rattle.tdf_places.specs.Places.{AllBelow, Rise};
+ghost use Rattle.tdf_places.specs.Sparse.{set_below};
 ghost use Rattle.tdf_places.specs.Spread.{spread_by};
 ghost use Rattle.tdf_places.specs.views.Kept.{IsKeptAt, moved_by, places_of};
 
@@ -151,6 +152,23 @@ impl Sparse {
         }
     }
 
+    /// The places below `count` of the numbers that are not 0, in order.
+    ///
+    /// # Errors
+    /// Out of memory.
+    pub fn places_below(&self, alloc: Global, count: usize) -> Result<Vec<u32>, Memory>
+        ensures { IfOk result (λ places. places.items ≡ set_below count self.now.items) }
+    {
+        let below = self
+            .kept
+            .partition_point(|kept| (kept.place as usize) < count);
+        let mut places = Vec::with_capacity(alloc, below)?;
+        for i in 0..below {
+            places.push(self.kept[i].place)?;
+        }
+        Ok(places)
+    }
+
     /// The numbers at these places.
     ///
     /// # Errors
@@ -182,8 +200,8 @@ impl Sparse {
     /// A list of `count` numbers: these ones at the places that `places` has for them, and 0 elsewhere. It takes no memory.
     pub fn spread(self, places: &[u32], count: usize) -> Sparse
         requires long { length self.items ≡ length places.now }
-        requires within { (i : ℕ) → i < length places.now → slice_index places.now i < count }
-        requires rising { AreAscending places.now }
+        requires within { AllBelow count places.now }
+        requires rising { Rise places.now }
         ensures { result.items ≡ spread_by count 0 places.now self.items }
     {
         let mut kept = self.kept;

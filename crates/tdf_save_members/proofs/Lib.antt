@@ -1,3 +1,2 @@
-pub mod Edges
 pub mod EventNames
 pub mod Lines

@@ -1,19 +1,21 @@
 //! The members of clusters: modules and edges.
 
-ghost use Rattle.std.specs.Prelude.{◌≡◌, ◌<◌, All, IfOk, length, map};
+ghost use Rattle.std.specs.Prelude.{◌≡◌, ◌<◌, All, Contains, IfOk, length, map};
 ghost use Rattle.tdf_bind_invariants.specs.Limits.{AreWithinLimits};
 ghost use Rattle.tdf_bind_tables.specs.Ranges.{AreInRange, edge_path};
-ghost use Rattle.tdf_exec.specs.Saved.{own_edges};
+ghost use Rattle.tdf_cluster_net.specs.Numbers.{AllBelow};
+ghost use Rattle.tdf_cluster_plans.specs.Groups.{AreTableGroups};
+ghost use Rattle.tdf_dynamic_plans.specs.Attributes.{clusters_of};
 ghost use Rattle.tdf_expr.specs.Checked.{IsChecked};
 ghost use Rattle.tdf_expr.specs.Made.{block_count, cell_formats};
 ghost use Rattle.tdf_save_members.specs.OfFlat.{cluster_members, clusters_in, module_members};
-ghost use Rattle.tdf_streams.specs.Places.{is_own};
 
 use std::alloc::Global;
-use tdf_base::{Memory, row_number};
+use tdf_base::Memory;
 use tdf_bind::Flat;
 use tdf_bind_hierarchy::SharedPath;
-use tdf_dynamic_first::first_table;
+use tdf_cluster_plans::TableGroups;
+use tdf_dynamic_first::{first_table, law_numbers};
 use tdf_dynamic_plans::ModuleAttrs;
 use tdf_expr::Frame;
 use tdf_save::{ClusterMembers, ModuleMembers};
@@ -71,40 +73,36 @@ fn module_list(
     Ok(list)
 }
 
-/// Whether an edge is one of a cluster: whether the actor that writes it is.
-fn is_own(flat: &Flat, cluster: u32, edge: usize) -> bool
+/// The paths of the edges with these numbers.
+fn edge_paths(alloc: Global, flat: &Flat, numbers: &[u32]) -> Result<Vec<Vec<u8>>, Memory>
     requires range { AreInRange flat.now.tables }
-    requires edge { edge < length flat.now.tables.edges }
-    ensures { result ≡ is_own flat.now.tables cluster edge }
-{
-    let row = flat.tables.edges[edge];
-    flat.tables.actors[row.writer as usize].cluster == cluster
-}
-
-/// The paths of the edges of a cluster.
-fn edge_paths(alloc: Global, flat: &Flat, cluster: u32) -> Result<Vec<Vec<u8>>, Memory>
-    requires range { AreInRange flat.now.tables }
+    requires inside { AllBelow (length flat.now.tables.edges) numbers.now }
     ensures { IfOk result (λ list. map (λ path. path.items) list.items
-        ≡ map (edge_path flat.now.tables) (own_edges flat.now.tables cluster)) }
+        ≡ map (edge_path flat.now.tables) numbers.now) }
 {
-    let mut list = Vec::new(alloc);
-    for edge in 0..flat.tables.edges.len() {
-        if is_own(flat, cluster, edge) {
-            let path = flat.edge_path(row_number(edge)?);
-            list.push(text_of(alloc, path)?)?;
-        }
+    let mut list = Vec::with_capacity(alloc, numbers.len())?;
+    for i in 0..numbers.len() {
+        let path = flat.edge_path(numbers[i]);
+        list.push(text_of(alloc, path)?)?;
     }
     Ok(list)
 }
 
 /// A cluster: its modules, and the paths of its edges.
-fn cluster_members(alloc: Global, flat: &Flat, cluster: u32) -> Result<ClusterMembers, Memory>
+fn cluster_members(
+    alloc: Global,
+    flat: &Flat,
+    groups: &TableGroups,
+    cluster: u32,
+) -> Result<ClusterMembers, Memory>
     requires limits { AreWithinLimits flat.now }
+    requires groups { AreTableGroups flat.now.tables groups.now }
+    requires has { Contains (clusters_of flat.now.tables) cluster }
     ensures { IfOk result (λ member. member ≡ cluster_members flat.now cluster) }
 {
-    let attrs = first_table(alloc, flat, cluster)?;
+    let attrs = first_table(alloc, flat, groups, cluster)?;
     let modules = module_list(alloc, flat, &attrs.rows)?;
-    let edges = edge_paths(alloc, flat, cluster)?;
+    let edges = edge_paths(alloc, flat, groups.edges(cluster))?;
     Ok(ClusterMembers {
         number: cluster,
         modules,
@@ -117,9 +115,11 @@ pub(crate) fn cluster_list(alloc: Global, flat: &Flat) -> Result<Vec<ClusterMemb
     requires limits { AreWithinLimits flat.now }
     ensures { IfOk result (λ list. list.items ≡ map (cluster_members flat.now) (clusters_in flat.now)) }
 {
+    law_numbers();
+    let groups = TableGroups::of(alloc, &flat.tables, flat.cluster_count())?;
     let mut list = Vec::new(alloc);
     for made in 0..flat.cluster_count() {
-        list.push(cluster_members(alloc, flat, made + 1)?)?;
+        list.push(cluster_members(alloc, flat, &groups, made + 1)?)?;
     }
     Ok(list)
 }

@@ -1,15 +1,11 @@
 -- The ports of modules, and the attributes of the modules among some actors.
 -- Source: own.
-use Rattle.std.specs.Prelude.{ℕ, ◌≡◌, ◌<◌, ◌≤◌, List, [], Option, Some, None, filter_map, if◌then◌else◌, length, nat_lt, slice_get, slice_index_or}
+use Rattle.std.specs.Prelude.{ℕ, ◌≡◌, ◌<◌, ◌≤◌, List, [], Option, Some, None, filter_map, length, slice_get, slice_index_or}
 use Rattle.tdf_bind.specs.declared.model.Flat.{Flat}
 use Rattle.tdf_bind_connections.specs.declared.modules.ModuleRow.{ModuleRow}
 use Rattle.tdf_bind_connections.specs.declared.modules.PortRow.{PortRow}
 use Rattle.tdf_dynamic_plans.specs.Attributes.{AttrsOf, ports_of_module}
 use Rattle.tdf_dynamic_first.specs.Text.{first_attrs}
-
--- the module of a port; all that are none of the first ones come together
-abbrev pub module_or_last : (last : ℕ) → PortRow → ℕ
-module_or_last last port = if nat_lt port.«module» last then port.«module» else last
 
 -- for each module the numbers of its ports
 pub record ArePortsByModule (ports : List PortRow) (count : ℕ) (groups : List (List ℕ))

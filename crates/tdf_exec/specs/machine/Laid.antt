@@ -1,10 +1,9 @@
 -- What the tables of a sound flat model have, and the parts of a cluster at its start.
 -- Source: own.
-use Rattle.std.specs.Prelude.{◌≡◌, ◌≢◌, ◌<◌, ◌≤◌, ℕ, List, [], Some, length, map, replicate, slice_get}
+use Rattle.std.specs.Prelude.{◌≡◌, ◌≢◌, ◌<◌, ◌≤◌, ℕ, List, Some, length, map, replicate, slice_get}
 use Rattle.tdf_bind_tables.specs.FlatTables.{FlatTablesOf}
 use Rattle.tdf_bind_tables.specs.declared.actors.ActorRow.{ActorRow}
-use Rattle.tdf_cluster_plans.specs.Groups.{edge_cluster}
-use Rattle.tdf_dynamic_plans.specs.Attributes.{AttrsOf, clusters_of}
+use Rattle.tdf_dynamic_plans.specs.Attributes.{AttrsOf}
 use Rattle.tdf_dynamic_plans.specs.Rates.{net_of}
 use Rattle.tdf_dynamic_first.specs.declared.first.First.{First}
 use Rattle.tdf_exec.specs.Made.{KeepRates}
@@ -26,8 +25,7 @@ use Rattle.tdf_exec_layout.specs.Wiring.{AreWiresOf}
 use Rattle.tdf_exec_layout.specs.declared.wiring.ActorWires.{ActorWires}
 use Rattle.tdf_exec_layout.specs.declared.wiring.ActorWires.TheVariants.{Elsewhere}
 use Rattle.tdf_bind_invariants.specs.Limits.{AreWithinLimits}
-use Rattle.tdf_rings.specs.Carried.{ring_at}
-use Rattle.tdf_rings.specs.Rings.{RingOf, ring_of}
+use Rattle.tdf_rings.specs.Rings.{RingOf}
 use Rattle.tdf_streams.specs.Periods.{read_rates, write_rates}
 use Rattle.tdf_streams.specs.Places.{block_at}
 use Rattle.tdf_bind_connections.specs.declared.edges.EdgeRow.{EdgeRow}
@@ -80,12 +78,6 @@ pub record AreRunnersOf (flat : Flat) (Holds : ℕ → FrameState → Type 0) (c
   pub wires_are : AreClusterWires flat.tables cluster wires
   pub begun_are : AreFirstRunners flat Holds (length wires) wires samplers begun
   pub given : HaveTraced flat.tables table begun runners
-
--- the edges of other clusters hold nothing and have no room
-abbrev pub HoldNothingElsewhere : FlatTablesOf → (cluster : ℕ) → List RingOf → Type 0
-HoldNothingElsewhere tables cluster rings = (e : ℕ) (edge : EdgeRow)
-    → slice_get tables.edges e ≡ Some edge → edge_cluster (clusters_of tables) edge ≢ cluster
-    → ring_at rings e ≡ ring_of [] 0
 
 -- the parts of a cluster at a start, where its instances and its rings hold what is asked for
 pub record AreParts (flat : Flat) (cluster : ℕ) (first : First) (Holds : ℕ → FrameState → Type 0)

@@ -11,6 +11,6 @@ edges_of-requires c = c.requires.groups.edges.long ∙ sym c.requires.groups.act
 pub push_edges-requires-clause-numbers : goal.push_edges-requires-clause-numbers
 push_edges-requires-clause-numbers c = edges_given c.args.flat.now c.args.groups.now c.requires.groups c.args.cluster c.edges_of.result.now c.edges_of.ensures
 
-pub counted-requires : goal.counted-requires
-counted-requires c =
+pub firings-requires : goal.firings-requires
+firings-requires c =
     (actors_given c.args.flat.now c.args.groups.now c.requires.groups c.args.cluster c.actors_of-numbers.result.now c.actors_of-numbers.ensures).rising

@@ -1,14 +1,14 @@
 use Rattle.std.proofs.Common.{◌∙◌, ap, length, sym}
 use Rattle.std.specs.List.{sum_by}
 use Rattle.tdf_dynamic_first.specs.Text.{none_known}
-use Rattle.tdf_dynamic_plans.proofs.Api.{known_same, modules_few, rows_same}
+use Rattle.tdf_dynamic_plans.proofs.Api.{known_same, rows_same}
 use Rattle.tdf_dynamic_plans.specs.Attributes.{AttrsOf}
 use Rattle.tdf_dynamic_values.proofs.Holding.{new_attributes, new_holds, new_known, rates_many, rows_by_same}
-use Rattle.tdf_streams.proofs.Api.{is_wired}
+use Rattle.tdf_streams.proofs.Api.{is_plannable}
 use Rattle.tdf_dynamic_values.proofs.values.from_values.Goals as goal
 
-pub first_table-requires-clause-actors : goal.first_table-requires-clause-actors
-first_table-requires-clause-actors c = modules_few c.args.flat.now.tables (is_wired c.args.flat.now c.requires.limits)
+pub first_table-requires-clause-plannable : goal.first_table-requires-clause-plannable
+first_table-requires-clause-plannable c = is_plannable c.args.flat.now c.requires.limits
 
 pub rows_by-requires-clause-rates : goal.rows_by-requires-clause-rates
 rows_by-requires-clause-rates c =

@@ -1,4 +1,4 @@
-use Rattle.std.proofs.Common.{◌∙◌, ℕ, List, [], ap, arith, false, length, subst, sym}
+use Rattle.std.proofs.Common.{◌∙◌, ℕ, List, [], ap, arith, false, length, refl, subst, sym}
 use Rattle.std.specs.Prelude.{slice_index_or}
 use Rattle.tdf_dynamic_plans.proofs.Api.{modules_few}
 use Rattle.tdf_dynamic_plans.specs.Attributes.{AttrsOf}
@@ -6,8 +6,8 @@ use Rattle.tdf_dynamic_plans.specs.Known.{AttrsTable}
 use Rattle.tdf_exec.proofs.Kept.{of_modules}
 use Rattle.tdf_exec.proofs.Numbered.{actors_here, in_actors, number_below, own_distinct}
 use Rattle.tdf_exec.proofs.Resumed.{can_restore, state_rows}
-use Rattle.tdf_exec.proofs.Taking.{can_take, first_told, restored_told, runners_are, told, told_long}
-use Rattle.tdf_exec.specs.Layout.{HasLayoutOf, LayoutOf}
+use Rattle.tdf_exec.proofs.Taking.{can_take, first_told, keeps, restored_told, runners_are, told, told_long}
+use Rattle.tdf_exec.specs.Layout.{HasLayoutOf, KeepsLayouts, LayoutOf}
 use Rattle.tdf_exec.specs.contracts.laying.Layout.{the_view}
 use Rattle.tdf_exec.specs.machine.Resuming.{AreRestored, CanRestore, HoldsState}
 use Rattle.tdf_exec.specs.machine.Laid.{AreRunnersOf}
@@ -127,3 +127,29 @@ returns-clause-runners c =
     (c.actors-numbers.ensures ∙ ap (λ (l : LayoutOf). slice_index_or l.groups.actors c.args.cluster []) c.layout.view_is)
     (runners_are flat laid (HoldsState c.args.attrs.now.rows c.args.modules.now) c.args.cluster (the_view c.layout.inside) has took.0 (spread_runners flat.tables c.actors-numbers.result.now c.restore_all.new.runners.items) held
     c.args.attrs.now.rows c.actors-numbers.result.now own c.give_all.new.rows.items (spread_runners flat.tables c.actors-numbers.result.now c.give_all.new.runners.items) c.give_all.ensures.given)
+
+pub returns-clause-others : goal.returns-clause-others
+returns-clause-others c =
+    let flat = c.args.flat.now in
+    let laid = c.law_laid.ensures.laid flat c.requires.sound in
+    let has : HasLayoutOf flat c.args.cluster (the_view c.layout.inside) = subst (HasLayoutOf flat c.args.cluster) (sym c.layout.view_is) c.requires.layout in
+    let took : (samplers : ℕ) × AreTakenUpTo flat (HoldsText flat false) c.args.cluster (length c.layout.inside.wires.items) c.layout.inside.wires.items c.first_runners.new.wires.items samplers
+    (spread_runners flat.tables c.actors-numbers.result.now c.in_ok-runners.runners.items) =
+    subst (λ (l : List ℕ). (samplers : ℕ) × AreTakenUpTo flat (HoldsText flat false) c.args.cluster (length c.layout.inside.wires.items) c.layout.inside.wires.items c.first_runners.new.wires.items samplers
+    (spread_runners flat.tables l c.in_ok-runners.runners.items)) (sym c.actors-numbers.ensures) c.in_ok-runners.ensures.taken in
+    let held = restored_told flat laid c.args.cluster (the_view c.layout.inside) has c.args.modules.now c.args.attrs.now.rows c.requires.states c.requires.table took.0
+    (spread_runners flat.tables c.actors-numbers.result.now c.in_ok-runners.runners.items) (spread_runners flat.tables c.actors-numbers.result.now c.restore_all.new.runners.items) took.1.first
+    (subst (λ (t : List AttrsOf). AreRestored flat.checked t c.args.modules.now (length t) (spread_runners flat.tables c.actors-numbers.result.now c.in_ok-runners.runners.items) (spread_runners flat.tables c.actors-numbers.result.now c.restore_all.new.runners.items))
+    (c.deref.ensures.value ∙ ap (λ (a : AttrsTable). a.rows) c.attrs.view_is) c.restore_all.ensures.restored) in
+    let own = actors_here flat.tables c.layout.inside.groups c.args.cluster c.requires.has has.groups c.actors-numbers.result.now c.actors-numbers.ensures in
+    let left : LayoutOf = the_view record {
+      wires = c.first_runners.new.wires;
+      traced = c.give_all.new.rows;
+      groups = c.layout.inside.groups;
+      edge_places = c.layout.inside.edge_places;
+      actor_places = c.layout.inside.actor_places;
+    } in
+    subst (λ (l : LayoutOf). KeepsLayouts flat c.args.cluster l left) c.layout.view_is
+    (keeps flat laid (HoldsState c.args.attrs.now.rows c.args.modules.now) c.args.cluster (the_view c.layout.inside) has took.0 (spread_runners flat.tables c.actors-numbers.result.now c.restore_all.new.runners.items) held
+    c.args.attrs.now.rows c.actors-numbers.result.now own c.give_all.new.rows.items (spread_runners flat.tables c.actors-numbers.result.now c.give_all.new.runners.items) c.give_all.ensures.given
+    left refl refl took.1.same took.1.others)

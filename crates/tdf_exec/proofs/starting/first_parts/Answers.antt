@@ -1,12 +1,13 @@
 use Rattle.std.proofs.Common.{rules, ◌≡◌, ◌∙◌, List, [], ℕ, ap, length, subst, sym, true, ◌<◌}
 use Rattle.std.specs.Prelude.{slice_index_or}
+use Rattle.tdf_cluster_net.specs.Numbers.{Rise}
 use Rattle.tdf_cluster_plans.specs.Groups.{AreTableGroups, TableGroupsOf}
 use Rattle.tdf_dynamic_first.specs.declared.first.First.{First}
 use Rattle.tdf_dynamic_plans.specs.Attributes.{AttrsOf}
 use Rattle.tdf_dynamic_plans.specs.Rates.{AreRates, net_of}
 use Rattle.tdf_exec.proofs.Elsewhere.{all_first, in_edges, no_bound, ones_read, ones_written, own_below, own_fits}
 use Rattle.tdf_exec.proofs.Kept.{first_rates}
-use Rattle.tdf_exec.proofs.Numbered.{in_actors, is_there}
+use Rattle.tdf_exec.proofs.Numbered.{actors_here, in_actors, is_there}
 use Rattle.tdf_exec.proofs.Planned.{fit}
 use Rattle.tdf_exec.specs.Layout.{HasLayoutOf, LayoutOf}
 use Rattle.tdf_exec.specs.contracts.laying.Layout.{the_view}
@@ -89,12 +90,15 @@ actors-actor_numbers-requires c =
     subst (λ (g : TableGroupsOf). c.args.cluster < length g.actors) (sym groups)
     (in_actors flat.tables c.args.layout.now.groups c.args.cluster (is_there flat c.args.cluster c.args.first.now (c.law_laid.ensures.laid flat c.requires.sound) c.requires.plan) c.requires.layout.groups)
 
-pub traced_firings-requires : goal.traced_firings-requires
-traced_firings-requires c =
+pub counted_actors-requires : goal.counted_actors-requires
+counted_actors-requires c =
+    let flat = c.args.flat.now in
     let groups : c.layout-2.inside.groups ≡ c.args.layout.now.groups = ap (λ (l : LayoutOf). l.groups) c.layout-2.view_is ∙ c.in_ok-runners.ensures.groups in
-    let runners : c.deref-2.result.now ≡ c.in_ok-runners.runners.items = search rules in
-    ap length runners ∙ c.in_ok-runners.ensures.long ∙ ap (λ (g : TableGroupsOf). length (slice_index_or g.actors c.args.cluster [])) (sym groups)
-    ∙ ap (λ (l : List ℕ). length l) (sym c.actors-actor_numbers.ensures)
+    (actors_here flat.tables c.args.layout.now.groups c.args.cluster (is_there flat c.args.cluster c.args.first.now (c.law_laid.ensures.laid flat c.requires.sound) c.requires.plan) c.requires.layout.groups
+    c.actors-actor_numbers.result.now (c.actors-actor_numbers.ensures ∙ ap (λ (g : TableGroupsOf). slice_index_or g.actors c.args.cluster []) groups)).rising
+
+pub firings-requires : goal.firings-requires
+firings-requires c = subst Rise (sym c.deref-3.ensures.value) c.in_ok-counted.ensures
 
 pub returns-clause-parts : goal.returns-clause-parts
 returns-clause-parts c =

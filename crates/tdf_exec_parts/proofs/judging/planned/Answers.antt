@@ -1,13 +1,9 @@
 use Rattle.std.proofs.Common.{◌∙◌, ap, sym}
 use Rattle.std.proofs.lemmas.Bool.{false≢true}
 use Rattle.std.specs.Prelude.{Err}
-use Rattle.tdf_dynamic_plans.proofs.Api.{modules_few, rows_same}
+use Rattle.tdf_dynamic_plans.proofs.Api.{rows_same}
 use Rattle.tdf_exec_parts.proofs.Stated.{first_inside, none_refused, of_states, states_for, states_of}
 use Rattle.tdf_exec_parts.proofs.judging.planned.Goals as goal
-use Rattle.tdf_streams.proofs.Api.{is_wired}
-
-pub first_table-requires-clause-actors : goal.first_table-requires-clause-actors
-first_table-requires-clause-actors c = modules_few c.args.flat.now.tables (is_wired c.args.flat.now c.requires.limits)
 
 pub are_states_of-fit-requires-clause-inside : goal.are_states_of-fit-requires-clause-inside
 are_states_of-fit-requires-clause-inside c =

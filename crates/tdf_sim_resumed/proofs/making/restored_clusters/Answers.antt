@@ -1,38 +1,8 @@
-use Rattle.std.proofs.Common.{◌≡◌, ◌+◌, ◌<◌, List, arith, length, refl, subst, sym, rules}
-use Rattle.std.proofs.lemmas.Option.{slice_get_read}
-use Rattle.std.specs.Prelude.{Err}
+use Rattle.std.specs.Global.{Global}
+use Rattle.std.specs.Prelude.{Vec}
 use Rattle.tdf_sim_refinement.specs.Below.{ClusterOf}
-use Rattle.tdf_sim_resumed.proofs.Onward.{all_made, are_states, made_more, one_of, same_why}
-use Rattle.tdf_sim_resumed.specs.machine.Making.{AreMadeUpTo}
+use Rattle.tdf_sim_resumed.proofs.Onward.{refused}
 use Rattle.tdf_sim_resumed.proofs.making.restored_clusters.Goals as goal
 
-pub loop-n-preserved : goal.loop-n-preserved
-loop-n-preserved c =
-    let f = c.args.flat.now in let states = c.args.states.now in
-    let below : c.loop-n.n < length states = search rules in
-    let at = slice_get_read states (length states) c.loop-n.n c.index-states-n.result refl below c.index-states-n.is in
-    subst (λ (l : List ClusterOf). AreMadeUpTo f states c.args.time (c.loop-n.n + 1) l) (sym c.in_ok-put-in-Ok.ensures)
-    (made_more f states c.args.time c.loop-n.n c.loop-n.clusters.items c.index-states-n.result c.in-Ok.cluster c.loop-n.invariant at c.in-Ok.ensures.made)
-
-pub returns-in-Err-clause-bad : goal.returns-in-Err-clause-bad
-returns-in-Err-clause-bad c = λ bad are.
-    (let states = c.args.states.now in
-    let below : c.loop-n.n < length states = search rules in
-    let at = slice_get_read states (length states) c.loop-n.n c.index-states-n.result refl below c.index-states-n.is in
-    c.in-Err.ensures.bad (same_why c.in-Err.failed (Err c.in-Err.failed) (Err c.in-Err.failed) refl refl bad) (are c.loop-n.n c.index-states-n.result at))
-
-pub returns-in-Err-clause-bad_always : goal.returns-in-Err-clause-bad_always
-returns-in-Err-clause-bad_always c = λ none. one_of c.in-Err.failed (Err c.in-Err.failed) refl
-
-pub returns-clause-made : goal.returns-clause-made
-returns-clause-made c =
-    let f = c.args.flat.now in let states = c.args.states.now in
-    let n : c.loop-n.n ≡ length states = omega (arith, c.loop-n-test.false, c.loop-n.auto.n-end) in
-    all_made f states c.args.time c.loop-n.clusters.items (subst (λ k. AreMadeUpTo f states c.args.time k c.loop-n.clusters.items) n c.loop-n.invariant)
-
 pub returns-clause-bad_always : goal.returns-clause-bad_always
-returns-clause-bad_always c = λ none.
-    (let f = c.args.flat.now in let states = c.args.states.now in
-    let n : c.loop-n.n ≡ length states = omega (arith, c.loop-n-test.false, c.loop-n.auto.n-end) in
-    absurd (none (are_states f states c.args.time c.loop-n.clusters.items
-    (all_made f states c.args.time c.loop-n.clusters.items (subst (λ k. AreMadeUpTo f states c.args.time k c.loop-n.clusters.items) n c.loop-n.invariant)))))
+returns-clause-bad_always c = refused c.args.flat.now c.args.states.now c.args.time (λ (v : Vec ClusterOf Global). v.items) c.clusters_with.result c.clusters_with.ensures.made

@@ -1,11 +1,12 @@
-use Rattle.std.proofs.Common.{rules, ◌≡◌, ◌∙◌, List, None, ap, arith, length, subst, sym, true}
+use Rattle.std.proofs.Common.{rules, ◌≡◌, ◌∙◌, ℕ, List, None, ap, arith, length, subst, sym, true}
+use Rattle.tdf_cluster_net.specs.Numbers.{Rise}
+use Rattle.tdf_cluster_plans.specs.Counted.{AreCounted}
 use Rattle.tdf_dynamic_plans.specs.Known.{AttrsTable}
 use Rattle.tdf_exec.proofs.Installing.{can_restart, fit_in, has}
 use Rattle.tdf_exec.proofs.Others.{all_edges, no_bound, rates_one}
 use Rattle.tdf_exec.specs.Cluster.{ClusterOf, next_offset}
 use Rattle.tdf_exec.specs.Crossing.{IsReadyFor, with_new_plan}
 use Rattle.tdf_exec.specs.contracts.cluster.Cluster.{the_view}
-use Rattle.tdf_exec.specs.machine.Counted.{AreCounted}
 use Rattle.tdf_exec.specs.machine.Restarting.{AreRestarted}
 use Rattle.tdf_exec.specs.views.Actors.{ActorsOf}
 use Rattle.tdf_exec_firing.specs.Edges.{EdgesOf}
@@ -55,6 +56,12 @@ set_rates-requires-clause-others c =
     let carried : AreCarried c.args.plan.bounds.items c.args.self.now.rings c.carry.new.self.rings = search rules in
     rates_one c.args.flat.now c.args.self.now c.args.attrs c.args.plan c.requires.ready (c.law_laid.ensures.laid c.args.flat.now c.requires.sound) c.law_laid.ensures.present c.carry.new.self.rings carried
 
+pub set_firings-requires-clause-long : goal.set_firings-requires-clause-long
+set_firings-requires-clause-long c = c.self.invariant.counted.long ∙ ap (λ (l : List ℕ). length l) (sym c.deref.ensures.value)
+
+pub set_firings-requires-clause-rising : goal.set_firings-requires-clause-rising
+set_firings-requires-clause-rising c = subst Rise (sym c.deref.ensures.value) c.self.invariant.rising
+
 pub invariant_of-self-2 : goal.invariant_of-self-2
 invariant_of-self-2 c =
     let ready : IsReadyFor c.args.flat.now (the_view c.self.inside) c.args.attrs c.args.plan =
@@ -62,7 +69,10 @@ invariant_of-self-2 c =
     let end : next_offset (the_view c.self.inside) ≡ None = ready.of.over (subst (λ (s : ClusterOf). s.crossed ≡ true) (sym c.self.view_is) c.requires.crossed) in
     let h = has c.args.flat.now (the_view c.self.inside) c.args.attrs c.args.plan ready (c.law_laid.ensures.laid c.args.flat.now c.requires.sound) c.law_laid.ensures.present c.requires.sound end in
     let long = ready.long in let room = c.self.invariant.room in let kept = ap (λ (t : AttrsTable). length t.rows) (c.recycle.ensures.same ∙ c.replace-left.ensures.after) in
-    record { sorted = c.law_laid.ensures.sorted _ _ _ c.args.plan.entries.items h.plan_is.planned; counted = subst (λ (l : List Entry). AreCounted l c.set_firings.new.counts.items) c.deref.ensures.value c.set_firings.ensures.each; room = omega (arith, long, room, kept) }
+    let counted : AreCounted c.self.inside.counted.items c.args.plan.entries.items c.set_firings.new.counts.items =
+    subst (λ (l : List Entry). AreCounted c.self.inside.counted.items l c.set_firings.new.counts.items) c.deref-2.ensures.value
+    (subst (λ (l : List ℕ). AreCounted l c.deref-2.result.now c.set_firings.new.counts.items) c.deref.ensures.value c.set_firings.ensures) in
+    record { sorted = c.law_laid.ensures.sorted _ _ _ c.args.plan.entries.items h.plan_is.planned; rising = c.self.invariant.rising; counted = counted; room = omega (arith, long, room, kept) }
 
 pub returns-clause-ok : goal.returns-clause-ok
 returns-clause-ok c =

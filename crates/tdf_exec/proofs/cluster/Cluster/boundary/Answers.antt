@@ -112,7 +112,7 @@ invariant_of-self-2 c =
     let end : next_offset (the_view c.self.inside) ≡ None = subst (λ (s : ClusterOf). next_offset s ≡ None) (sym c.self.view_is) c.requires.done in
     let long = as_long c.args.flat.now (the_view c.self.inside) laid of end c.requires.sound.model c.ask.new.actors.runners (c.ask.ensures.moved c.requires.sound.model (values_at c.self.inside.actors.runners) c.requires.sound.is.bodies (λ i a at. refl)) c.ask.new.attrs.known c.ask.new.attrs.rows c.ask.result (c.ask.ensures.answer c.requires.sound.model (values_at c.self.inside.actors.runners) c.requires.sound.is.bodies (λ i a at. refl)).next c.ask.ensures.kept in
     let room = c.self.invariant.room in let more = c.ask.ensures.room in
-    record { sorted = c.self.invariant.sorted; counted = c.self.invariant.counted; room = omega (arith, long, room, more) }
+    record { sorted = c.self.invariant.sorted; rising = c.self.invariant.rising; counted = c.self.invariant.counted; room = omega (arith, long, room, more) }
 
 pub returns-clause-answer : goal.returns-clause-answer
 returns-clause-answer c =

@@ -1,10 +1,15 @@
-use Rattle.std.proofs.Common.{arith}
+use Rattle.std.proofs.Common.{arith, subst, sym}
+use Rattle.tdf_cluster_plans.specs.Groups.{AreTableGroups}
 use Rattle.tdf_exec.proofs.Continued.{first_of, held_at_place, place_in, resumed_at, resumed_is, resumed_stands}
 use Rattle.tdf_exec.proofs.Planned.{has}
+use Rattle.tdf_exec.specs.Layout.{LayoutOf}
 use Rattle.tdf_exec.proofs.cluster.Cluster.from_state.Goals as goal
 
 pub standing_of-requires-clause-limits : goal.standing_of-requires-clause-limits
 standing_of-requires-clause-limits c = (c.law_laid.ensures.laid c.args.flat.now c.requires.sound).limits
+
+pub standing_of-requires-clause-groups : goal.standing_of-requires-clause-groups
+standing_of-requires-clause-groups c = subst (λ (l : LayoutOf). AreTableGroups c.args.flat.now.tables l.groups) (sym c.layout.view_is) c.requires.layout.groups
 
 pub state_parts-requires-clause-plan : goal.state_parts-requires-clause-plan
 state_parts-requires-clause-plan c =
@@ -31,7 +36,7 @@ invariant_of-result c =
     let first = c.in_ok-standing.standing.first in
     let is = first_of c.args.flat.now c.args.cluster first c.args.state.now c.args.time c.in_ok-standing.ensures.state c.in_ok-standing.ensures.known in
     let h = has c.args.flat.now c.args.cluster first c.requires.sound laid is c.law_laid.ensures.present in
-    record { sorted = c.law_laid.ensures.sorted _ _ _ first.plan.entries.items h.plan_is.planned; counted = c.in-Ok.ensures.counted; room = c.in-Ok.ensures.room }
+    record { sorted = c.law_laid.ensures.sorted _ _ _ first.plan.entries.items h.plan_is.planned; rising = c.in-Ok.ensures.rising; counted = c.in-Ok.ensures.counted; room = c.in-Ok.ensures.room }
 
 pub returns-in-Ok-clause-of : goal.returns-in-Ok-clause-of
 returns-in-Ok-clause-of c =

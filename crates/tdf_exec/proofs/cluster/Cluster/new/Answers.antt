@@ -13,7 +13,7 @@ pub invariant_of-result : goal.invariant_of-result
 invariant_of-result c =
     let laid = c.law_laid.ensures.laid c.args.flat.now c.requires.sound in
     let h = has c.args.flat.now c.args.cluster c.args.first c.requires.sound laid (text_first c.args.flat.now c.args.cluster c.args.first laid.limits c.requires.plan) c.law_laid.ensures.present in
-    record { sorted = c.law_laid.ensures.sorted _ _ _ c.args.first.plan.entries.items h.plan_is.planned; counted = c.in-Ok.ensures.counted; room = c.in-Ok.ensures.room }
+    record { sorted = c.law_laid.ensures.sorted _ _ _ c.args.first.plan.entries.items h.plan_is.planned; rising = c.in-Ok.ensures.rising; counted = c.in-Ok.ensures.counted; room = c.in-Ok.ensures.room }
 
 pub returns-in-Ok-clause-of : goal.returns-in-Ok-clause-of
 returns-in-Ok-clause-of c =

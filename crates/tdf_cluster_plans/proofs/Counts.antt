@@ -1,13 +1,13 @@
 -- One firing more.
-use Rattle.std.proofs.Common.{◌≡◌, ◌≢◌, ◌⊎◌, ◌∙◌, ℕ, zero, suc, ◌+◌, ◌<◌, ◌≤◌, List, [], ◌∷◌, Option, None, Some, if◌then◌else◌, length, take, replicate, nat_eq, refl, sym, ap, subst, inl, inr, arith}
+use Rattle.std.proofs.Common.{◌≡◌, ◌≢◌, ◌⊎◌, ◌∙◌, ℕ, zero, suc, ◌+◌, ◌<◌, ◌≤◌, List, [], ◌∷◌, if◌then◌else◌, length, take, replicate, nat_eq, refl, sym, ap, subst, inl, inr, arith}
 use Rattle.std.proofs.Math.ListN.{get_or}
-use Rattle.std.proofs.lemmas.Bool.{cases_eq, cases_lt, eq-eqb, ne_eqb}
+use Rattle.std.proofs.lemmas.Bool.{cases_lt, eq-eqb, ne_eqb}
 use Rattle.std.proofs.lemmas.List.{get_or-set_other, get_or-set_same, get_or-replicate, length-set, length-replicate}
 use Rattle.std.proofs.lemmas.List.Sums.{sum_by_more, count_by-le-length}
 use Rattle.std.specs.Prelude.{slice_index, slice_set}
 use Rattle.tdf_cluster_net.specs.Numbers.{Rise}
-use Rattle.tdf_dynamic_texts.specs.Plans.{firings_of}
-use Rattle.tdf_dynamic_texts.specs.views.Counted.{AreCounted, HasOneMore}
+use Rattle.tdf_cluster_plans.specs.Counted.{AreCounted, firings_of}
+use Rattle.tdf_cluster_plans.specs.machine.Counting.{HasOneMore}
 use Rattle.tdf_schedule.specs.declared.entry.Entry.{Entry}
 
 firings_few : (entries : List Entry) (m : ℕ) → firings_of entries m ≤ length entries
