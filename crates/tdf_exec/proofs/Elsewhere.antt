@@ -19,7 +19,9 @@ use Rattle.tdf_exec.proofs.EndPorts.{ports_inside}
 use Rattle.tdf_exec.proofs.Numbered.{actors_here}
 use Rattle.tdf_exec.proofs.Others.{no_room}
 use Rattle.tdf_exec.proofs.Rows.{index_at}
-use Rattle.tdf_exec.specs.machine.Laid.{IsLaid}
+use Rattle.tdf_exec.specs.declared.runners.Runner.{Runner}
+use Rattle.tdf_exec.specs.machine.Laid.{AreOutOf, AreParts, AreRunnersOf, IsLaid}
+use Rattle.tdf_exec.specs.views.Actors.{ActorsOf, spread_runners}
 use Rattle.tdf_exec_firing.specs.Edges.{EdgesOf}
 use Rattle.tdf_exec_layout.specs.Samples.{edge_format}
 use Rattle.tdf_exec_parts.proofs.Api.{in_groups, own_at, own_many, own_numbers}
@@ -27,6 +29,7 @@ use Rattle.tdf_exec_parts.specs.Below.{IsTableFirst}
 use Rattle.tdf_exec_parts.specs.Restored.{AreOwnStateRings, AreStateRings, held_by_state, samples_by}
 use Rattle.tdf_exec_parts.specs.Rings.{AreFirstRings, AreOwnFirstRings, FitAtFirst, list_of}
 use Rattle.tdf_exec_parts.specs.States.{place_of_edge}
+use Rattle.tdf_expr_state.specs.State.{FrameState}
 use Rattle.tdf_places.proofs.Api.{gathered, rising_apart, spread_at, spread_elsewhere, spread_long, stands}
 use Rattle.tdf_places.specs.Places.{AreDistinct, PlacesOf, StandApart}
 use Rattle.tdf_places.specs.Spread.{spread}
@@ -213,3 +216,20 @@ module _ (flat : Flat) (cluster : ℕ) (first : First) (laid : IsLaid flat) (is 
     ones_written =
         subst (λ (t : List AttrsOf). AreOnesElsewhere flat.tables cluster (write_rates (net_of flat.tables t))) (sym same)
         (writes_elsewhere flat.tables cluster first.attrs.rows is.attributes.own (ports_inside flat laid))
+
+-- the parts of a cluster, out of those of its own things
+pub are_parts : (flat : Flat) (cluster : ℕ) (first : First) (Holds : ℕ → FrameState → Type 0) (AreFilled : List RingOf → Type 0) (groups after : TableGroupsOf) → after ≡ groups
+    → (rings : List RingOf) (runners : List Runner)
+    → AreFilled (spread (ring_of [] 0) (places_by (slice_index_or groups.edges cluster []) (length flat.tables.edges)) rings)
+    → AreRunnersOf flat Holds cluster first.attrs.rows (spread_runners flat.tables (slice_index_or groups.actors cluster []) runners)
+    → (edges : EdgesOf) (actors : ActorsOf) → AreOutOf flat.tables cluster first.attrs.rows after rings runners edges actors
+    → AreParts flat cluster first Holds AreFilled edges.reads edges.writes edges.rings actors.runners actors.positions
+are_parts flat cluster first Holds AreFilled groups after same rings runners filled held edges actors out = record {
+  reads_are = out.reads_are;
+  writes_are = out.writes_are;
+  rings_are = subst AreFilled
+      (sym (out.rings_are ∙ ap (λ (g : TableGroupsOf). spread (ring_of [] 0) (places_by (slice_index_or g.edges cluster []) (length flat.tables.edges)) rings) same)) filled;
+  runners_are = subst (AreRunnersOf flat Holds cluster first.attrs.rows)
+      (sym (out.runners_are ∙ ap (λ (g : TableGroupsOf). spread_runners flat.tables (slice_index_or g.actors cluster []) runners) same)) held;
+  none_done = out.none_done;
+}

@@ -19,18 +19,16 @@ ghost use Rattle.tdf_places.specs.Places.{AreDistinct};
 ghost use Rattle.tdf_exec_parts.specs.States.{AreStatesOfRows, HoldEdges, IsStateAt};
 ghost use Rattle.tdf_saved.specs.declared.err.StateErr.TheVariants as why;
 
-use crate::asking::Spare;
 use crate::beginning::first_runners;
 use crate::cluster::Cluster;
 use crate::laying::Layout;
 use crate::runners::{ModuleRunner, Runner};
-use crate::starting::{Parts, counted_actors, law_laid, own_actors, own_edges};
+use crate::starting::{Parts, law_laid, parts_of};
 use crate::tracing::give_all;
 use std::alloc::Global;
 use tdf_base::Memory;
 use tdf_bind::Flat;
 use tdf_cluster_net::place_in;
-use tdf_cluster_plans::firings;
 use tdf_dynamic_plans::{Attrs, ModuleAttrs};
 use tdf_exec_parts::{Standing, set_values, standing_of, state_rings};
 use tdf_expr::Checked;
@@ -186,21 +184,9 @@ fn state_parts(
         &first.plan.bounds,
         &state.edges,
     )?;
-    let edges = own_edges(alloc, flat, cluster, layout, &first.attrs.rows, rings)?;
     let states = &state.modules;
     let runners = restored_runners(alloc, flat, cluster, &first.attrs, states, layout)?;
-    let actor_numbers = layout.groups.actors(cluster);
-    let counted = counted_actors(alloc, actor_numbers, &runners)?;
-    let firings = firings(alloc, &counted, &first.plan.entries)?;
-    let actors = own_actors(alloc, flat, cluster, layout, runners)?;
-    let spare = Spare::new(alloc, first.attrs.rows.len())?;
-    Ok(Parts {
-        edges,
-        actors,
-        counted,
-        firings,
-        spare,
-    })
+    parts_of(alloc, flat, cluster, first, layout, rings, runners)
 }
 
 impl Cluster {

@@ -12,7 +12,7 @@ ghost use Rattle.tdf_exec_parts.specs.Below.{IsTableFirst};
 ghost use Rattle.tdf_exec.specs.Layout.{HasLayoutOf, KeepsLayouts};
 ghost use Rattle.tdf_exec.specs.Made.{IsClusterOf};
 ghost use Rattle.tdf_exec.specs.Starts.{IsAtStart, IsSoundFlat, StandsAtStart};
-ghost use Rattle.tdf_exec.specs.machine.Laid.{AreParts, AreRunnersOf, SoundIsLaid};
+ghost use Rattle.tdf_exec.specs.machine.Laid.{AreOutOf, AreParts, AreRunnersOf, SoundIsLaid};
 ghost use Rattle.tdf_exec.specs.machine.Starting.{HoldsText};
 ghost use Rattle.tdf_exec.specs.views.Actors.{spread_runners};
 ghost use Rattle.tdf_exec_parts.specs.Rings.{AreFirstRings};
@@ -76,7 +76,7 @@ pub(crate) struct Parts {
 ///
 /// # Errors
 /// Out of memory.
-pub(crate) fn own_edges(
+fn own_edges(
     alloc: Global,
     flat: &Flat,
     cluster: u32,
@@ -115,7 +115,7 @@ pub(crate) fn own_edges(
 ///
 /// # Errors
 /// Out of memory.
-pub(crate) fn own_actors(
+fn own_actors(
     alloc: Global,
     flat: &Flat,
     cluster: u32,
@@ -188,11 +188,7 @@ fn is_traced(runner: &Runner) -> bool {
 ///
 /// # Errors
 /// Out of memory.
-pub(crate) fn counted_actors(
-    alloc: Global,
-    numbers: &[u32],
-    runners: &[Runner],
-) -> Result<Vec<u32>, Memory>
+fn counted_actors(alloc: Global, numbers: &[u32], runners: &[Runner]) -> Result<Vec<u32>, Memory>
     requires { Rise numbers.now }
     ensures { IfOk result (λ counted. Rise counted.items) }
 {
@@ -200,6 +196,50 @@ pub(crate) fn counted_actors(
         return Ok(Vec::from_slice(alloc, numbers)?);
     }
     Ok(Vec::new(alloc))
+}
+
+/// The parts of a cluster under a table and its plan, out of the rings of its edges and what is kept for its actors, both in the order of
+/// their numbers.
+///
+/// # Errors
+/// Out of memory.
+pub(crate) fn parts_of(
+    alloc: Global,
+    flat: &Flat,
+    cluster: u32,
+    first: &First,
+    layout: &Layout,
+    rings: Vec<Ring>,
+    runners: Vec<Runner>,
+) -> Result<Parts, Memory>
+    requires sound { IsSoundFlat flat.now }
+    requires plan { IsTableFirst flat.now cluster first.now.attrs.rows first.now }
+    requires groups { AreTableGroups flat.now.tables layout.now.groups }
+    requires rings { length rings.items
+        ≡ length (slice_index_or layout.now.groups.edges cluster []) }
+    requires runners { length runners.items
+        ≡ length (slice_index_or layout.now.groups.actors cluster []) }
+    ensures parts { IfOk result (λ p. AreOutOf flat.now.tables cluster first.now.attrs.rows
+        layout.now.groups rings.items runners.items p.edges p.actors) }
+    ensures rising { IfOk result (λ p. Rise p.counted.items) }
+    ensures counted { IfOk result (λ p.
+        AreCounted p.counted.items first.now.plan.entries.items p.firings.items) }
+    ensures room { IfOk result (λ p. length first.now.attrs.rows ≤ p.spare) }
+{
+    law_laid();
+    let edges = own_edges(alloc, flat, cluster, layout, &first.attrs.rows, rings)?;
+    let numbers = layout.groups.actors(cluster);
+    let counted = counted_actors(alloc, numbers, &runners)?;
+    let firings = firings(alloc, &counted, &first.plan.entries)?;
+    let actors = own_actors(alloc, flat, cluster, layout, runners)?;
+    let spare = Spare::new(alloc, first.attrs.rows.len())?;
+    Ok(Parts {
+        edges,
+        actors,
+        counted,
+        firings,
+        spare,
+    })
 }
 
 /// The parts of a cluster at its start, under a table and its plan.
@@ -227,20 +267,8 @@ fn first_parts(
     law_laid();
     let numbers = layout.groups.edges(cluster);
     let rings = first_rings(alloc, &flat.tables, numbers, &first.plan.bounds)?;
-    let edges = own_edges(alloc, flat, cluster, layout, &first.attrs.rows, rings)?;
     let runners = runners_of(alloc, flat, cluster, &first.attrs, layout)?;
-    let actor_numbers = layout.groups.actors(cluster);
-    let counted = counted_actors(alloc, actor_numbers, &runners)?;
-    let firings = firings(alloc, &counted, &first.plan.entries)?;
-    let actors = own_actors(alloc, flat, cluster, layout, runners)?;
-    let spare = Spare::new(alloc, first.attrs.rows.len())?;
-    Ok(Parts {
-        edges,
-        actors,
-        counted,
-        firings,
-        spare,
-    })
+    parts_of(alloc, flat, cluster, first, layout, rings, runners)
 }
 
 impl Cluster {

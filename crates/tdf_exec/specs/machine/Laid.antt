@@ -1,8 +1,9 @@
 -- What the tables of a sound flat model have, and the parts of a cluster at its start.
 -- Source: own.
-use Rattle.std.specs.Prelude.{◌≡◌, ◌≢◌, ◌<◌, ◌≤◌, ℕ, List, Some, length, map, replicate, slice_get}
+use Rattle.std.specs.Prelude.{◌≡◌, ◌≢◌, ◌<◌, ◌≤◌, ℕ, List, [], Some, length, map, replicate, slice_get, slice_index_or}
 use Rattle.tdf_bind_tables.specs.FlatTables.{FlatTablesOf}
 use Rattle.tdf_bind_tables.specs.declared.actors.ActorRow.{ActorRow}
+use Rattle.tdf_cluster_plans.specs.Groups.{TableGroupsOf}
 use Rattle.tdf_dynamic_plans.specs.Attributes.{AttrsOf}
 use Rattle.tdf_dynamic_plans.specs.Rates.{net_of}
 use Rattle.tdf_dynamic_first.specs.declared.first.First.{First}
@@ -12,8 +13,10 @@ use Rattle.tdf_exec.specs.Traced.{traced_port}
 use Rattle.tdf_exec.specs.declared.runners.Runner.{Runner}
 use Rattle.tdf_exec.specs.machine.Starting.{AreFirstRunners}
 use Rattle.tdf_exec.specs.machine.Tracing.{with_traced}
+use Rattle.tdf_exec.specs.views.Actors.{ActorsOf, spread_runners}
 use Rattle.tdf_expr.specs.Made.{port_spans_of}
 use Rattle.tdf_expr_state.specs.State.{FrameState}
+use Rattle.tdf_exec_firing.specs.Edges.{EdgesOf}
 use Rattle.tdf_exec_firing.specs.Wires.{AreWired, WiresOf}
 use Rattle.tdf_bind.specs.declared.model.Flat.{Flat}
 use Rattle.tdf_bind_invariants.specs.Formats.{IsOwnPort}
@@ -25,7 +28,8 @@ use Rattle.tdf_exec_layout.specs.Wiring.{AreWiresOf}
 use Rattle.tdf_exec_layout.specs.declared.wiring.ActorWires.{ActorWires}
 use Rattle.tdf_exec_layout.specs.declared.wiring.ActorWires.TheVariants.{Elsewhere}
 use Rattle.tdf_bind_invariants.specs.Limits.{AreWithinLimits}
-use Rattle.tdf_rings.specs.Rings.{RingOf}
+use Rattle.tdf_places.specs.Spread.{spread}
+use Rattle.tdf_rings.specs.Rings.{RingOf, ring_of}
 use Rattle.tdf_streams.specs.Periods.{read_rates, write_rates}
 use Rattle.tdf_streams.specs.Places.{block_at}
 use Rattle.tdf_bind_connections.specs.declared.edges.EdgeRow.{EdgeRow}
@@ -78,6 +82,21 @@ pub record AreRunnersOf (flat : Flat) (Holds : ℕ → FrameState → Type 0) (c
   pub wires_are : AreClusterWires flat.tables cluster wires
   pub begun_are : AreFirstRunners flat Holds (length wires) wires samplers begun
   pub given : HaveTraced flat.tables table begun runners
+
+-- the edges and actors of a cluster under a table, out of the rings of its own edges and what is
+-- kept for its own actors, both in the order of their numbers
+pub record AreOutOf (tables : FlatTablesOf) (cluster : ℕ) (table : List AttrsOf)
+    (groups : TableGroupsOf) (rings : List RingOf) (runners : List Runner) (edges : EdgesOf)
+    (actors : ActorsOf) : Type 0 where
+  pub reads_are : edges.reads ≡ read_rates (net_of tables table)
+  pub writes_are : edges.writes ≡ write_rates (net_of tables table)
+  pub rings_are : edges.rings ≡ spread (ring_of [] 0) (record {
+    numbers = slice_index_or groups.edges cluster [];
+    count = length tables.edges;
+  }) rings
+  pub runners_are : actors.runners
+      ≡ spread_runners tables (slice_index_or groups.actors cluster []) runners
+  pub none_done : actors.positions ≡ replicate (length tables.actors) 0
 
 -- the parts of a cluster at a start, where its instances and its rings hold what is asked for
 pub record AreParts (flat : Flat) (cluster : ℕ) (first : First) (Holds : ℕ → FrameState → Type 0)
