@@ -7,9 +7,7 @@ use Rattle.std.specs.Prelude.{nat_lt, false}
 use Rattle.tdf_base.specs.Limits.{greatest_delay}
 use Rattle.tdf_base.specs.declared.codes.Code.TheVariants as code
 use Rattle.tdf_bind_tables.specs.FlatTables.{IsShortRole}
-use Rattle.tdf_expr_blocks.specs.Blocks.{bodies_faults, composite_faults, tdf_faults}
-use Rattle.tdf_expr_blocks.specs.Lines.{attr_faults, initial_faults, tdf_line_faults}
-use Rattle.tdf_expr_blocks.specs.Types.{global_faults, traces_faults, type_faults}
+use Rattle.tdf_expr.specs.Below.{attr_faults, bodies_faults, composite_faults, global_faults, initial_faults, tdf_faults, tdf_line_faults, traces_faults, type_faults}
 use Rattle.tdf_base.proofs.Api.{if_none, none_first, none_second}
 use Rattle.tdf_base.specs.First.{fault_if}
 use Rattle.tdf_expr.proofs.Api.{AllThings, all_changed, all_named, found}

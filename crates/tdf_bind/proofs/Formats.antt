@@ -1,9 +1,7 @@
 -- The formats of the signals of a model without a fault of types are there, and are formats that there are.
 use Rattle.std.proofs.Common.{◌≡◌, List, [], ◌∷◌}
 use Rattle.std.specs.List.{AllByRecursion, flat_map}
-use Rattle.tdf_expr_blocks.specs.Blocks.{composite_faults}
-use Rattle.tdf_expr_blocks.specs.Lines.{member_faults}
-use Rattle.tdf_expr_blocks.specs.Types.{global_faults, traces_faults, type_faults}
+use Rattle.tdf_expr.specs.Below.{composite_faults, global_faults, member_faults, traces_faults, type_faults}
 use Rattle.tdf_base.proofs.Api.{none_first, none_second}
 use Rattle.tdf_bind.proofs.Lists.{all_append}
 use Rattle.tdf_expr.proofs.Api.{AllThings, IsGlobal, format_there, globals_all}

@@ -10,7 +10,7 @@ use Rattle.tdf_bind_names.specs.Resolved.{AreBlocks, AreResolved, IsComposite, w
 use Rattle.tdf_bind_names.specs.Signals.{Declared, IsFormatOf, IsSignal, declared_by, start_sample}
 use Rattle.tdf_expr_symbols.specs.Names.{Names, format_of, globals_of}
 use Rattle.tdf_expr_symbols.specs.Sound.{HasFormat}
-use Rattle.tdf_expr_blocks.specs.Types.{type_faults}
+use Rattle.tdf_expr.specs.Below.{type_faults}
 use Rattle.tdf_lang_tree.specs.Pure.{PureComposite, PureGlobal, GShape, GTdf, GDe, GNet, PureTree}
 use Rattle.tdf_lang_tree.specs.declared.shapes.Shape.{Shape}
 use Rattle.tdf_bind_hierarchy.specs.Blocks.{BlockOf}

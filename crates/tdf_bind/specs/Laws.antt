@@ -5,7 +5,7 @@ use Rattle.std.specs.Prelude.{◌≡◌, ◌<◌, ℕ, Bool, true, ◌||◌, nat
 use Rattle.tdf_base.specs.Names.{is_part}
 use Rattle.tdf_base.specs.declared.faults.Fault.{Fault}
 use Rattle.tdf_bind_tables.specs.FlatTables.{AreShort, FlatTablesOf}
-use Rattle.tdf_expr_blocks.specs.Types.{type_faults}
+use Rattle.tdf_expr.specs.Below.{type_faults}
 use Rattle.tdf_bind.specs.Flat.{IsBindFault, IsFlatOf, top_place}
 use Rattle.tdf_bind.specs.declared.model.Flat.{Flat}
 use Rattle.tdf_expr_names.specs.Names.{name_faults}

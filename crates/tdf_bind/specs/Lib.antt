@@ -1,3 +1,4 @@
+pub mod Below
 pub mod Flat
 pub mod Laws
 pub mod machine

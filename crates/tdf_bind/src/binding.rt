@@ -2,7 +2,7 @@
 
 ghost use Rattle.std.specs.Prelude.{◌≡◌, [], Some, IfOk, IfErr};
 ghost use Rattle.tdf_bind_tables.specs.declared.flat.BindErr.TheVariants as why;
-ghost use Rattle.tdf_expr_blocks.specs.Types.{type_faults};
+ghost use Rattle.tdf_expr.specs.Below.{type_faults};
 ghost use Rattle.tdf_expr.specs.Checked.{IsCheckedOf};
 ghost use Rattle.tdf_bind.specs.Flat.{IsBindRefusal, IsFlatOf, IsLinked, too_many_fault};
 ghost use Rattle.tdf_bind.specs.machine.Steps.{HasTables, IsTabled};

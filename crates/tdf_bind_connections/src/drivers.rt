@@ -13,7 +13,7 @@ use std::alloc::{AllocError, AllocFailed, Global};
 use std::marker::Model;
 use tdf_base::{Code, Memory};
 use tdf_bind_hierarchy::{SharedPath, Signal, SignalNumber, Tables};
-use tdf_fixed::{Format, Raw};
+use tdf_lang_tree::{Format, Raw};
 use thiserror::Error;
 
 /// What writes a signal.

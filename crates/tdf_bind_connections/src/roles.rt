@@ -6,8 +6,7 @@ use std::alloc::Global;
 use std::marker::Model;
 use std::rc::Rc;
 use tdf_base::Memory;
-use tdf_fixed::Raw;
-use tdf_lang_tree::{Name, PortKind};
+use tdf_lang_tree::{Name, PortKind, Raw};
 
 /// A rate in samples: a number, or a number times the value of a rate variable of the module.
 #[derive(Clone, Copy, Debug, PartialEq, Eq)]
@@ -27,7 +26,7 @@ pub struct Initials {
 
 impl Model for Initials {
     ghost use Rattle.std.specs.Prelude.{List, ℕ};
-    ghost use Rattle.tdf_fixed.specs.declared.raw.Raw.{Raw};
+    ghost use Rattle.tdf_lang_tree.specs.Below.{Raw};
 
     ghost Value = { List (ℕ × Raw) };
 

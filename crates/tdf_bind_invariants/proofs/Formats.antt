@@ -42,7 +42,7 @@ use Rattle.tdf_expr_semantics.specs.Value.{literal_in, literal_number}
 use Rattle.tdf_expr_names.specs.Law.{DeclaresOnce, HasNamesOnce, KeepsNamesOnce}
 use Rattle.tdf_expr_names.specs.Names.{names_of_tdf_line, names_of_tdf_lines}
 use Rattle.tdf_bind_names.specs.Resolved.{AreBlocks, AreResolved, whole}
-use Rattle.tdf_bind_attributes.specs.Roles.{initials_of_port, module_role, port_data, data_of_port, rate_of_limit, roles_from, roles_of, with_initial, with_initials}
+use Rattle.tdf_bind.specs.Below.{data_of_port, initials_of_port, module_role, port_data, rate_of_limit, roles_from, roles_of, with_initial, with_initials}
 use Rattle.tdf_expr_symbols.specs.Names.{Names, Thing, Port, RateVar, format_of, globals_of, tdf_names, thing_of}
 use Rattle.tdf_expr_symbols.specs.Scope.{Scope, greatest_of, tdf_scope}
 use Rattle.tdf_lang_tree.specs.Kept.{Each}

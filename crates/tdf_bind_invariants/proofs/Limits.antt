@@ -16,7 +16,7 @@ use Rattle.tdf_graph.specs.Ranges.{IsRate}
 use Rattle.tdf_bind_invariants.proofs.Roles.{IsRoleWithin, roles_short, roles_within}
 use Rattle.tdf_bind_invariants.proofs.Rows.{ArePlacedWithin, IsRowWithin, IsPortRowWithin, edges_within, modules_within, placed_within, ports_within}
 use Rattle.tdf_bind_invariants.specs.Limits.{FlatIsWithinLimits, IsAlwaysRate, limits_in, text_rate, times_value, values_of}
-use Rattle.tdf_bind_attributes.specs.Roles.{roles_of}
+use Rattle.tdf_bind.specs.Below.{roles_of}
 use Rattle.tdf_expr_symbols.specs.Names.{globals_of}
 use Rattle.tdf_lang_tree.specs.Pure.{PureTree}
 use Rattle.tdf_bind_connections.specs.Modules.{module_row, placed_modules}

@@ -7,7 +7,7 @@ use Rattle.tdf_graph.specs.Ranges.{IsRate}
 use Rattle.tdf_bind_invariants.specs.Limits.{IsAlwaysRate, times_value}
 use Rattle.tdf_expr_semantics.proofs.Api.{found, thing_sound, limits_placed}
 use Rattle.tdf_expr_semantics.specs.Places.{rate_limits, rate_number}
-use Rattle.tdf_bind_attributes.specs.Roles.{variable_at, variable_of, rate_of_limit, rate_of_port}
+use Rattle.tdf_bind.specs.Below.{rate_of_limit, rate_of_port, variable_at, variable_of}
 use Rattle.tdf_expr_symbols.specs.Names.{Names, Thing, Port, RateVar, place_of, thing_of}
 use Rattle.tdf_expr_symbols.specs.Scope.{Scope, least_of, greatest_of, least_rate, greatest_rate_of}
 use Rattle.tdf_expr_symbols.specs.Sound.{IsSound}

@@ -25,7 +25,7 @@ use Rattle.tdf_bind_invariants.specs.Limits.{IsAlwaysRate}
 use Rattle.tdf_bind_ports.specs.Ports.{ports_of_tdf}
 use Rattle.tdf_expr_semantics.specs.Fits.{RatesFit}
 use Rattle.tdf_expr_semantics.specs.Places.{RateLimits, rate_limits}
-use Rattle.tdf_bind_attributes.specs.Roles.{module_role, port_data, roles_from}
+use Rattle.tdf_bind.specs.Below.{module_role, port_data, roles_from}
 use Rattle.tdf_expr_symbols.specs.Names.{Names, thing_of}
 use Rattle.tdf_expr_symbols.specs.Scope.{Scope, tdf_scope}
 use Rattle.tdf_expr_symbols.specs.Sound.{IsSound}

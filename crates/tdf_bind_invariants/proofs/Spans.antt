@@ -12,7 +12,7 @@ use Rattle.tdf_expr_semantics.proofs.Api.{found, limits_placed}
 use Rattle.tdf_expr_semantics.specs.Fits.{RatesFit}
 use Rattle.tdf_expr_semantics.specs.Places.{rate_limits, rate_number}
 use Rattle.tdf_expr_names.specs.Names.{names_of_tdf_line, name_of_store}
-use Rattle.tdf_bind_attributes.specs.Roles.{rate_of_limit, variable_at, variable_of}
+use Rattle.tdf_bind.specs.Below.{rate_of_limit, variable_at, variable_of}
 use Rattle.tdf_expr_symbols.specs.Names.{Names, Thing, Const, Var, Array, Port, RateVar, Event, Signal, DeSignal, Instance, Loop, TypeName, Tdf, De, Composite, at_delay, found_at, at_rate, names_changed, changed_at, format_of, no_names, place_of, tdf_names, thing_of, with_attr, with_attrs, with_name, with_store, with_tdf_lines}
 use Rattle.tdf_expr_symbols.specs.Scope.{greatest_of, greatest_rate_of}
 use Rattle.tdf_lang_tree.specs.Pure.{PureStore, SConst, SVar, SArray, PureTdf, PureTdfLine, TPort, TStore, TRate}

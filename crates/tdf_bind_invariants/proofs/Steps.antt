@@ -3,8 +3,7 @@ use Rattle.std.proofs.Common.{ℕ, ◌<◌, Bool, true, false, List, [], ◌∷�
 use Rattle.std.specs.Cmp.Lexicographic.{pointwise}
 use Rattle.std.specs.Prelude.{nat_eq}
 use Rattle.tdf_base.specs.Limits.{time_end}
-use Rattle.tdf_bind_attributes.specs.Roles.{step_of_port}
-use Rattle.tdf_bind_attributes.specs.Standing.{or_else, last_of, when, module_step, assigned_port_step}
+use Rattle.tdf_bind.specs.Below.{assigned_port_step, last_of, module_step, or_else, step_of_port, when}
 use Rattle.tdf_expr_symbols.specs.Names.{Thing}
 use Rattle.tdf_lang_tree.specs.Kept.{Each, KeepsAttr}
 use Rattle.tdf_lang_tree.specs.declared.blocks.Attr.{Attr}

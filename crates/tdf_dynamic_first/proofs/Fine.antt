@@ -18,8 +18,7 @@ use Rattle.tdf_expr.specs.declared.spans.RateSpan.{RateSpan}
 use Rattle.tdf_graph.specs.Ranges.{IsRate}
 use Rattle.tdf_bind_ports.specs.Ports.{ports_of_tdf}
 use Rattle.tdf_expr_semantics.specs.Places.{before, rates_of, rate_number}
-use Rattle.tdf_bind_attributes.specs.Roles.{variable_at, variable_of, rate_of_limit, rate_of_port, step_of_port, port_data, module_role, roles_from}
-use Rattle.tdf_bind_attributes.specs.Standing.{or_else, last_of, when, module_step, assigned_port_step}
+use Rattle.tdf_bind.specs.Below.{assigned_port_step, last_of, module_role, module_step, or_else, port_data, rate_of_limit, rate_of_port, roles_from, step_of_port, variable_at, variable_of, when}
 use Rattle.tdf_expr_symbols.specs.Names.{Names, Thing, Const, Var, Array, Port, RateVar, Event, Signal, DeSignal, Instance, Loop, TypeName, Tdf, De, Composite, found_at, place_of, thing_of}
 use Rattle.tdf_expr_symbols.specs.Scope.{tdf_scope, least_rate, greatest_rate_of as most_of, least_of, greatest_of}
 use Rattle.tdf_expr_symbols.specs.Sound.{IsThingSound, IsSound}

@@ -15,7 +15,7 @@ use Rattle.tdf_expr.specs.declared.checked.Checked.{Checked}
 use Rattle.tdf_bind.specs.Flat.{IsFlatOf, top_place, trace_lines}
 use Rattle.tdf_bind.specs.declared.model.Flat.{Flat}
 use Rattle.tdf_graph.specs.Ranges.{IsRate}
-use Rattle.tdf_bind_attributes.specs.Roles.{roles_of}
+use Rattle.tdf_bind.specs.Below.{roles_of}
 use Rattle.tdf_expr_symbols.specs.Names.{globals_of}
 use Rattle.tdf_lang_tree.specs.Kept.{IsKept}
 use Rattle.tdf_lang_tree.specs.Pure.{PureTree}

@@ -10,7 +10,7 @@ use Rattle.tdf_dynamic_first.specs.declared.first.First.{First}
 use Rattle.tdf_bind.specs.Flat.{IsFlatOf}
 use Rattle.tdf_bind.specs.declared.model.Flat.{Flat}
 use Rattle.tdf_graph.specs.Clusters.{greatest}
-use Rattle.tdf_bind_attributes.specs.Roles.{roles_of}
+use Rattle.tdf_bind.specs.Below.{roles_of}
 use Rattle.tdf_dynamic_plans.specs.Same.{AreSamePlans}
 use Rattle.tdf_lang_tree.specs.Kept.{IsKept}
 use Rattle.tdf_lang_tree.specs.Pure.{PureTree}

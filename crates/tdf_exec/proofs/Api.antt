@@ -1,4 +1,5 @@
 -- The lemmas that other crates may use.
+pub use Rattle.tdf_exec_parts.proofs.Api.{own_numbers}
 pub use Rattle.tdf_exec_layout.proofs.Api.{edge_row, module_kind, sink_rates, sinks_read}
 pub use Rattle.tdf_exec.proofs.Entries.{plan_counts}
 pub use Rattle.tdf_exec.proofs.Flags.{DifferInFlags, net_same, plan_same, with_flag}

@@ -5,6 +5,7 @@ pub mod Gained
 pub mod Laws
 pub mod Layout
 pub mod Made
+pub mod Next
 pub mod Played
 pub mod Restored
 pub mod Runners

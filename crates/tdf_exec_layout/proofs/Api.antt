@@ -1,4 +1,5 @@
 -- The lemmas that other crates may use.
+pub use Rattle.tdf_streams.proofs.Api.{are_rates, get_high, get_inside, get_low, is_wired, some_same, text_attributes}
 pub use Rattle.tdf_exec_layout.proofs.Actors.{IsSinkOf, module_kind, port_actor_at, sink_at}
 pub use Rattle.tdf_exec_layout.proofs.Drivers.{IsDriver, driver_is}
 pub use Rattle.tdf_exec_layout.proofs.Edges.{edge_row, port_once, sampler_reads, sink_writes, sinks_read}

@@ -1,3 +1,4 @@
+pub mod Below
 pub mod Edges
 pub mod Ports
 pub mod Rates

@@ -8,7 +8,7 @@ use Rattle.tdf_dynamic_plans.specs.Attributes.{AttrsOf}
 use Rattle.tdf_dynamic_plans.specs.Rates.{edge_kind, net_of, net_ports, port_rate, rated_edge, rated_port, read_rate_by, write_rate_by}
 use Rattle.tdf_graph.specs.declared.actors.Edge.{Edge}
 use Rattle.tdf_exec_parts.proofs.Rows.{index_at}
-use Rattle.tdf_streams.specs.Periods.{read_rates, write_rates}
+use Rattle.tdf_exec_layout.specs.Below.{read_rates, write_rates}
 use Rattle.tdf_timestep.specs.Period.{port_rate_or_one, rate_at_port}
 use Rattle.tdf_bind_connections.specs.declared.edges.EdgeRow.{EdgeRow}
 use Rattle.tdf_bind_connections.specs.declared.modules.PortRow.{PortRow}

@@ -12,8 +12,8 @@ use Rattle.tdf_exec_parts.specs.Rings.{AreOwnFirstRings}
 use Rattle.tdf_graph.specs.Clusters.{greatest}
 use Rattle.tdf_rings.specs.Carried.{ring_at}
 use Rattle.tdf_rings.specs.Rings.{RingOf, ring_of}
-use Rattle.tdf_streams.proofs.Api.{some_same}
-use Rattle.tdf_streams.specs.Cluster.{initial_list}
+use Rattle.tdf_exec_layout.proofs.Api.{some_same}
+use Rattle.tdf_exec_layout.specs.Below.{initial_list}
 
 -- ---- the numbers of a cluster
 

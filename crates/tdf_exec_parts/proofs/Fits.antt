@@ -12,12 +12,11 @@ use Rattle.tdf_expr.specs.Frames.{limits_of_rate}
 use Rattle.tdf_expr.specs.declared.spans.RateSpan.{RateSpan}
 use Rattle.tdf_base.specs.Limits.{time_end}
 use Rattle.tdf_bind_connections.specs.declared.modules.ModuleRow.{ModuleRow}
-use Rattle.tdf_bind_invariants.specs.Limits.{limits_in}
+use Rattle.tdf_exec_layout.specs.Below.{block_of_row, limits_in}
 use Rattle.tdf_expr.specs.Made.{CellsFit, rate_spans_of}
 use Rattle.tdf_expr_semantics.specs.Fits.{RatesFit}
 use Rattle.tdf_fixed.specs.Overflow.{IsOfWidth}
 use Rattle.tdf_fixed.specs.declared.format.Format.{Format}
-use Rattle.tdf_streams.specs.Places.{block_of_row}
 use Rattle.tdf_expr_semantics.specs.Places.{RateLimits}
 use Rattle.tdf_saved.specs.State.{ModuleStateOf}
 

@@ -16,10 +16,8 @@ use Rattle.tdf_exec_parts.specs.States.{AreInFormat, HoldEdges, HoldsUpTo, place
 use Rattle.tdf_exec_parts.specs.machine.Traffic.{AreLeft, AreLeftUpTo, IsLeftOn}
 use Rattle.tdf_schedule.specs.Plan.{done}
 use Rattle.tdf_schedule.specs.declared.entry.Entry.{Entry}
-use Rattle.tdf_streams.proofs.Api.{get_inside}
-use Rattle.tdf_streams.specs.Periods.{read_rates, write_rates}
-use Rattle.tdf_streams.specs.Places.{is_own, reader_at, reader_of_row, writer_at, writer_of_row}
-use Rattle.tdf_streams.specs.Starts.{held_at_head, initial_of_row}
+use Rattle.tdf_exec_layout.proofs.Api.{get_inside}
+use Rattle.tdf_exec_layout.specs.Below.{held_at_head, initial_of_row, is_own, read_rates, reader_at, reader_of_row, write_rates, writer_at, writer_of_row}
 
 -- the format of an edge, by its row
 pub format_at : (tables : FlatTablesOf) (e : ℕ) (edge : EdgeRow) → slice_get tables.edges e ≡ Some edge → edge_format tables e ≡ format_of_port tables (slice_get tables.ports edge.port)

@@ -3,7 +3,7 @@ use Rattle.std.proofs.Common.{◌≡◌, ◌∙◌, ◌⊎◌, inl, inr, ℕ, Li
 use Rattle.std.specs.Prelude.{Contains, Err, IfOk, Ok, Result}
 use Rattle.tdf_balance.specs.Laws.{AnswersExclude, CountsAreUnique}
 use Rattle.tdf_bind.specs.declared.model.Flat.{Flat}
-use Rattle.tdf_bind_invariants.specs.Limits.{AreWithinLimits}
+use Rattle.tdf_exec_layout.specs.Below.{AreAttributes, AreWithinLimits}
 use Rattle.tdf_dynamic_first.proofs.Api.{net_clusters, net_fit}
 use Rattle.tdf_dynamic_plans.proofs.Api.{plan_once}
 use Rattle.tdf_dynamic_plans.specs.Attributes.{AttrsOf, clusters_of}
@@ -24,8 +24,7 @@ use Rattle.tdf_saved.specs.declared.err.StateErr.TheVariants.{Bad, Memory}
 use Rattle.tdf_schedule.specs.Laws.{BoundsAreUnique, PlansAreUnique}
 use Rattle.tdf_schedule.specs.declared.entry.Entry.{Entry}
 use Rattle.tdf_schedule.specs.declared.entry.Plan.{Plan}
-use Rattle.tdf_streams.proofs.Api.{are_rates, is_wired}
-use Rattle.tdf_streams.specs.Periods.{AreAttributes}
+use Rattle.tdf_exec_layout.proofs.Api.{are_rates, is_wired}
 
 -- a state is one under the one table and the one plan that it says
 module _ (flat : Flat) (cluster : ℕ) (limits : AreWithinLimits flat) (has : Contains (clusters_of flat.tables) cluster) (answers : AnswersExclude) (unique : CountsAreUnique)

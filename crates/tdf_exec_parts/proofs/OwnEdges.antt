@@ -16,8 +16,8 @@ use Rattle.tdf_dynamic_plans.specs.Attributes.{clusters_of}
 use Rattle.tdf_exec_parts.proofs.Rows.{index_at}
 use Rattle.tdf_exec_parts.specs.States.{place_of_edge}
 use Rattle.tdf_places.proofs.Api.{rising_all}
-use Rattle.tdf_streams.proofs.Api.{get_inside}
-use Rattle.tdf_streams.specs.Places.{is_own, writer_at, writer_of_row}
+use Rattle.tdf_exec_layout.proofs.Api.{get_inside}
+use Rattle.tdf_exec_layout.specs.Below.{is_own, writer_at, writer_of_row}
 
 range_next : (n : ℕ) → range_with_len 0 (n + 1) ≡ range_with_len 0 n ++ n ∷ []
 range_next n = sym (map-id (range_with_len 0 (n + 1))) ∙ map-range_with_len_more (λ (k : ℕ). k) 0 n n (omega arith) ∙ ap (λ (l : List ℕ). l ++ n ∷ []) (map-id (range_with_len 0 n))

@@ -4,15 +4,14 @@ use Rattle.std.proofs.lemmas.Option.{same_Some, slice_get-map, slice_get_within}
 use Rattle.std.specs.List.{flat_map}
 use Rattle.std.specs.Prelude.{slice_get}
 use Rattle.tdf_bind.specs.declared.model.Flat.{Flat}
-use Rattle.tdf_bind_invariants.specs.Limits.{AreWithinLimits, limits_in}
+use Rattle.tdf_exec_layout.specs.Below.{AreWithinLimits, HasAllowedRates, limits_in}
 use Rattle.tdf_dynamic_first.specs.Text.{first_table}
 use Rattle.tdf_dynamic_plans.specs.Attributes.{AttrsOf, IsOfCluster, ports_of_module}
 use Rattle.tdf_dynamic_values.specs.States.{IsTableOfStates, state_rates, state_steps}
 use Rattle.tdf_exec_parts.proofs.Rows.{all_at}
 use Rattle.tdf_exec_parts.specs.States.{AreStatesOfRows}
 use Rattle.tdf_saved.specs.State.{ModuleStateOf}
-use Rattle.tdf_streams.proofs.Api.{get_inside, text_attributes}
-use Rattle.tdf_streams.specs.Periods.{HasAllowedRates}
+use Rattle.tdf_exec_layout.proofs.Api.{get_inside, text_attributes}
 
 -- two lists that are joined from parts of the same lengths have the same parts
 fronts_same : (one other more rest : List ℕ) → length one ≡ length other → one ++ more ≡ other ++ rest → (one ≡ other) × (more ≡ rest)

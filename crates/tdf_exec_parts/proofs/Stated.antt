@@ -13,7 +13,7 @@ use Rattle.tdf_dynamic_first.specs.Text.{first_table}
 use Rattle.tdf_dynamic_first.specs.declared.first.First.{First}
 use Rattle.tdf_dynamic_plans.specs.declared.err.ChangeErr.{ChangeErr}
 use Rattle.tdf_dynamic_plans.specs.declared.err.ChangeErr.TheVariants.{Memory, Refused}
-use Rattle.tdf_bind_invariants.specs.Limits.{AreWithinLimits}
+use Rattle.tdf_exec_layout.specs.Below.{AreWithinLimits}
 use Rattle.tdf_dynamic_plans.specs.Attributes.{AttrsOf, IsOfCluster}
 use Rattle.tdf_dynamic_values.specs.States.{AreStatesFor, state_rates, state_steps}
 use Rattle.tdf_dynamic_values.specs.Values.{limits_of_table, step_count}
@@ -21,7 +21,7 @@ use Rattle.tdf_exec_parts.specs.States.{AreStatesOfRows, IsStateOfRow}
 use Rattle.tdf_expr_semantics.specs.Fits.{RatesFit}
 use Rattle.tdf_expr_semantics.specs.Places.{RateLimits}
 use Rattle.tdf_saved.specs.State.{ModuleStateOf}
-use Rattle.tdf_streams.proofs.Api.{get_high, get_low, text_attributes}
+use Rattle.tdf_exec_layout.proofs.Api.{get_high, get_low, text_attributes}
 
 -- rates that fit, one after the other
 fits_both : (front back : List RateLimits) (rates more : List ℕ) → RatesFit front rates → RatesFit back more → RatesFit (front ++ back) (rates ++ more)

@@ -9,7 +9,7 @@ use Rattle.tdf_fixed.specs.declared.format.Format.{Format}
 use Rattle.tdf_fixed.specs.declared.raw.Raw.{Raw}
 use Rattle.tdf_rings.specs.Carried.{ring_at}
 use Rattle.tdf_rings.specs.Rings.{RingOf, ring_of}
-use Rattle.tdf_streams.specs.Places.{is_own}
+use Rattle.tdf_exec_layout.specs.Below.{is_own}
 
 -- whole numbers of the least steps of the format of an edge, as samples
 abbrev pub samples_by : Option Format → List ℤ → List Raw

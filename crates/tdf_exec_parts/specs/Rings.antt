@@ -7,7 +7,7 @@ use Rattle.tdf_dynamic_plans.specs.Attributes.{clusters_of}
 use Rattle.tdf_fixed.specs.declared.raw.Raw.{Raw}
 use Rattle.tdf_rings.specs.Carried.{ring_at}
 use Rattle.tdf_rings.specs.Rings.{RingOf, ring_of}
-use Rattle.tdf_streams.specs.Cluster.{initial_list}
+use Rattle.tdf_exec_layout.specs.Below.{initial_list}
 
 -- the samples of an edge at first; none of an edge of another cluster
 abbrev pub list_of : FlatTablesOf → (cluster : ℕ) → EdgeRow → List Raw

@@ -21,9 +21,7 @@ use Rattle.tdf_saved.specs.State.{ClusterStateOf, ModuleStateOf}
 use Rattle.tdf_schedule.specs.Plan.{done}
 use Rattle.tdf_schedule.specs.declared.entry.Entry.{Entry}
 use Rattle.tdf_schedule.specs.declared.entry.Plan.{Plan}
-use Rattle.tdf_streams.specs.Periods.{read_rates, write_rates}
-use Rattle.tdf_streams.specs.Places.{block_at, is_own, reader_at, writer_at}
-use Rattle.tdf_streams.specs.Starts.{held_at_head}
+use Rattle.tdf_exec_layout.specs.Below.{block_at, held_at_head, is_own, read_rates, reader_at, write_rates, writer_at}
 
 -- a module with as many rates, timesteps and values as a row of the table has, within their limits
 pub record IsStateOfRow (flat : Flat) (attrs : AttrsOf) (m : ModuleStateOf) : Type 0 where

@@ -5,7 +5,7 @@ ghost use Rattle.tdf_bind_connections.specs.declared.edges.EdgeRow.{EdgeRow as E
 ghost use Rattle.tdf_cluster_net.specs.Numbers.{AllBelow};
 ghost use Rattle.tdf_exec_parts.specs.Rings.{AreOwnFirstRings};
 ghost use Rattle.tdf_rings.specs.Rings.{ring_of};
-ghost use Rattle.tdf_streams.specs.Cluster.{initial_list};
+ghost use Rattle.tdf_exec_layout.specs.Below.{initial_list};
 
 use std::alloc::Global;
 use tdf_base::{Memory, row_number};

@@ -1,7 +1,7 @@
 //! Whether the samples of a state are those that its edges hold at a place of a plan.
 
 ghost use Rattle.std.specs.Prelude.{◌≡◌, ◌+◌, ◌*◌, ◌<◌, ◌^◌, ◌↔◌, Some, slice_get, true};
-ghost use Rattle.tdf_bind_invariants.specs.Formats.{format_of_row, signal_format};
+ghost use Rattle.tdf_exec_layout.specs.Below.{format_of_row, signal_format};
 ghost use Rattle.tdf_exec_layout.specs.Samples.{format_of_port};
 ghost use Rattle.tdf_exec_parts.specs.States.{AreInFormat};
 

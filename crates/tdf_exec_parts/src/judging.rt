@@ -1,7 +1,7 @@
 //! Whether a cluster can go on from a state, and under which table and plan.
 
 ghost use Rattle.std.specs.Prelude.{◌≡◌, ◌⊎◌, ◌≤◌, ◌↔◌, Contains, Err, IfOk, List, length, map, true};
-ghost use Rattle.tdf_bind_invariants.specs.Limits.{AreWithinLimits};
+ghost use Rattle.tdf_exec_layout.specs.Below.{AreWithinLimits};
 ghost use Rattle.tdf_cluster_net.specs.Numbers.{AllBelow};
 ghost use Rattle.tdf_cluster_plans.specs.Counted.{AreCounted};
 ghost use Rattle.tdf_cluster_plans.specs.Groups.{AreTableGroups};

@@ -1,3 +1,4 @@
+pub mod Below
 pub mod Blocks
 pub mod Checked
 pub mod Compiled

@@ -1,4 +1,5 @@
 pub mod Answers
+pub mod Below
 pub mod Cells
 pub mod Columns
 pub mod Continuing

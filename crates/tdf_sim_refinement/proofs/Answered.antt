@@ -3,8 +3,7 @@ use Rattle.std.proofs.Common.{◌≡◌, ◌∙◌, ℕ, false, List, [], Some, 
 use Rattle.std.proofs.lemmas.Bool.{eq-eqb}
 use Rattle.std.proofs.lemmas.Option.{slice_get-get_or, slice_get-map}
 use Rattle.std.specs.Prelude.{◌||◌, All, IsSome, is_some, not, slice_get, slice_index, slice_index_or, unwrap_or, ℤ}
-use Rattle.tdf_dynamic.specs.Change.{asks_of, table_after}
-use Rattle.tdf_dynamic.specs.Laws.{IsBoundary}
+use Rattle.tdf_exec.specs.Below.{IsBoundary, asks_of, table_after}
 use Rattle.tdf_dynamic_plans.specs.Attributes.{AttrsOf, IsOfCluster, clusters_of}
 use Rattle.tdf_exec.specs.Cluster.{ClusterOf}
 use Rattle.tdf_exec.specs.Crossing.{AreCellsOf, cells_in, values_at}

@@ -5,7 +5,7 @@ use Rattle.std.proofs.lemmas.Option.{get_or_from_slice_get}
 use Rattle.std.specs.Prelude.{Contains, slice_get}
 use Rattle.tdf_dynamic_plans.specs.Assignments.{assignments}
 use Rattle.tdf_bind_tables.specs.Actors.{cluster_of}
-use Rattle.tdf_dynamic.specs.declared.next.Next.TheVariants as next
+use Rattle.tdf_exec.specs.Next as next
 use Rattle.tdf_dynamic_plans.specs.Attributes.{AttrsOf, IsOfCluster, clusters_of}
 use Rattle.tdf_bind.specs.declared.model.Flat.{Flat}
 use Rattle.tdf_bind_invariants.specs.Limits.{AreWithinLimits}

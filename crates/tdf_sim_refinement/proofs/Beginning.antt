@@ -9,7 +9,7 @@ use Rattle.std.specs.Prelude.{slice_index, slice_index_or}
 use Rattle.tdf_bind_tables.specs.Actors.{cluster_of}
 use Rattle.tdf_dynamic_plans.specs.Attributes.{AttrsOf, clusters_of}
 use Rattle.tdf_dynamic_plans.specs.Rates.{net_of}
-use Rattle.tdf_dynamic_first.specs.declared.first.First.{First}
+use Rattle.tdf_exec.specs.Below.{First}
 use Rattle.tdf_exec.proofs.Api.{plan_counts}
 use Rattle.tdf_exec.specs.Cluster.{ClusterOf}
 use Rattle.tdf_exec.specs.Played.{IsPeriodOf, play_of}

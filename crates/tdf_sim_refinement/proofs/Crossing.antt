@@ -9,7 +9,7 @@ use Rattle.tdf_exec.specs.Cluster.{ClusterOf, next_offset, offset_in}
 use Rattle.tdf_exec.specs.Crossing.{CrossesFrom, HasBegunPeriod, HasCrossed}
 use Rattle.tdf_exec.specs.Made.{IsClusterOf}
 use Rattle.tdf_exec.specs.Played.{IsPeriodOf, play_of}
-use Rattle.tdf_dynamic.specs.declared.next.Next.TheVariants as next
+use Rattle.tdf_exec.specs.Next as next
 use Rattle.tdf_dynamic_plans.specs.Attributes.{AttrsOf}
 use Rattle.tdf_dynamic_plans.specs.Known.{AttrsTable}
 use Rattle.tdf_dynamic_plans.specs.Rates.{net_of}

@@ -9,8 +9,7 @@ use Rattle.tdf_convert.specs.Links.{link_of}
 use Rattle.tdf_convert.specs.declared.links.Link.{Link}
 use Rattle.tdf_convert.specs.declared.outputs.Sent.{Sent}
 use Rattle.tdf_convert.specs.declared.writes.SignalWrite.{SignalWrite}
-use Rattle.tdf_events.specs.Delta.{AreWritesOf}
-use Rattle.tdf_events.specs.Runnable.{signal_formats}
+use Rattle.tdf_sim_history.specs.Below.{AreWritesOf, signal_formats}
 use Rattle.tdf_exec.specs.Gained.{IsSentOf}
 use Rattle.tdf_expr.specs.Frames.{IsOfFormat}
 use Rattle.tdf_fixed.specs.declared.format.Format.{Format}

@@ -2,7 +2,7 @@
 use Rattle.std.proofs.Common.{◌≡◌, ◌∙◌, ℕ, true, List, length, nat_eq, sym, ap, subst}
 use Rattle.std.specs.List.{count_by}
 use Rattle.std.specs.Prelude.{slice_index}
-use Rattle.tdf_dynamic.specs.Change.{Asks}
+use Rattle.tdf_exec.specs.Below.{Asks}
 use Rattle.tdf_dynamic_plans.specs.Attributes.{AttrsOf}
 use Rattle.tdf_dynamic_plans.specs.Faults.{IsTablePlan}
 use Rattle.tdf_dynamic_plans.specs.Rates.{net_of}

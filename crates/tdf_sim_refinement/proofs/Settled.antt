@@ -11,7 +11,7 @@ use Rattle.tdf_convert.specs.Links.{samplers_in}
 use Rattle.tdf_convert.specs.Sampled.{AreSampled}
 use Rattle.tdf_convert.specs.declared.links.Link.{Link}
 use Rattle.tdf_dynamic_plans.specs.Attributes.{clusters_of}
-use Rattle.tdf_events.specs.Runnable.{AreOfSignals, signal_formats}
+use Rattle.tdf_sim_history.specs.Below.{AreOfSignals, signal_formats}
 use Rattle.tdf_exec.specs.Cluster.{ClusterOf}
 use Rattle.tdf_exec.specs.Made.{IsClusterOf, IsRunnerOf, IsSamplerOf, is_sampler_runner as is_sampler_runner, sampler_runners_before}
 use Rattle.tdf_exec.specs.Played.{AreInputsFor}

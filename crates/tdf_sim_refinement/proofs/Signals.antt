@@ -1,7 +1,7 @@
 -- The signals and formats of the edges of samplers and sinks.
 use Rattle.std.proofs.Common.{◌≡◌, ◌∙◌, ℕ, ◌<◌, Bool, true, Option, Some, None, length, refl, ap, sym, subst, slice_get}
 use Rattle.std.proofs.lemmas.Option.{slice_get-map}
-use Rattle.tdf_events.specs.Runnable.{signal_formats}
+use Rattle.tdf_sim_history.specs.Below.{signal_formats}
 use Rattle.tdf_bind.specs.Flat.{IsFlatOf}
 use Rattle.tdf_bind.specs.declared.model.Flat.{Flat}
 use Rattle.tdf_streams.proofs.Api.{get_inside}

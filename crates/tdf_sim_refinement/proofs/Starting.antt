@@ -4,7 +4,7 @@ use Rattle.std.proofs.lemmas.List.{length-map}
 use Rattle.std.proofs.lemmas.List.FromFn.{length-enumerate_from}
 use Rattle.std.specs.List.{enumerate_from}
 use Rattle.std.specs.Prelude.{slice_get}
-use Rattle.tdf_dynamic_first.specs.declared.first.First.{First}
+use Rattle.tdf_exec.specs.Below.{First}
 use Rattle.tdf_bind.specs.declared.model.Flat.{Flat}
 use Rattle.tdf_streams.proofs.Api.{none_some, some_same}
 use Rattle.tdf_sim_history.specs.Start.{first_cluster}

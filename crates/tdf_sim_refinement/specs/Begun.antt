@@ -1,8 +1,7 @@
 -- A cluster in progress at its start is what the history says of it at its start.
 -- Source: own.
 use Rattle.std.specs.Prelude.{◌≡◌, ℕ, ◌+◌, List, [], Some, length, replicate, slice_get}
-use Rattle.tdf_dynamic_first.specs.First.{IsFirstPlan}
-use Rattle.tdf_dynamic_first.specs.declared.first.First.{First}
+use Rattle.tdf_exec.specs.Below.{First, IsFirstPlan}
 use Rattle.tdf_exec.specs.Cluster.{ClusterOf}
 use Rattle.tdf_exec.specs.Made.{IsClusterOf}
 use Rattle.tdf_exec.specs.Starts.{IsAtStart, StandsAtStart}

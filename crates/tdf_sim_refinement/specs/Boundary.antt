@@ -3,10 +3,9 @@
 -- Source: own.
 use Rattle.std.specs.Prelude.{◌≡◌, ℕ, List, None, true, length, slice_index}
 use Rattle.tdf_bind_tables.specs.FlatTables.{FlatTablesOf}
-use Rattle.tdf_dynamic.specs.Change.{Asks, table_after}
-use Rattle.tdf_dynamic.specs.Next.{IsNext}
-use Rattle.tdf_dynamic.specs.declared.next.Next.{Next}
-use Rattle.tdf_dynamic.specs.declared.next.Next.TheVariants as next
+use Rattle.tdf_exec.specs.Below.{Asks, table_after}
+use Rattle.tdf_exec.specs.Next.{IsNext, Next}
+use Rattle.tdf_exec.specs.Next as next
 use Rattle.tdf_dynamic_plans.specs.Attributes.{AttrsOf}
 use Rattle.tdf_exec.specs.Cluster.{ClusterOf, next_offset}
 use Rattle.tdf_exec.specs.Crossing.{CanInstall, CrossesFrom, HasBegunPeriod, HasCrossed, StandsAfter, WhenItAsks}

@@ -6,8 +6,7 @@ use Rattle.tdf_convert.specs.Links.{samplers_in}
 use Rattle.tdf_convert.specs.Sampled.{AreSampled}
 use Rattle.tdf_convert.specs.declared.links.Link.{Link}
 use Rattle.tdf_convert.specs.declared.outputs.Sent.{Sent}
-use Rattle.tdf_events.specs.Delta.{AreWritesOf}
-use Rattle.tdf_events.specs.Runnable.{AreOfSignals, signal_formats}
+use Rattle.tdf_sim_history.specs.Below.{AreOfSignals, AreWritesOf, signal_formats}
 use Rattle.tdf_exec.specs.Cluster.{ClusterOf}
 use Rattle.tdf_exec.specs.Gained.{IsSentOf}
 use Rattle.tdf_exec.specs.Made.{IsClusterOf}

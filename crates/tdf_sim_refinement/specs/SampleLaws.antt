@@ -1,10 +1,9 @@
 -- What holds of the samples that firings trace.
 -- Source: own.
 use Rattle.std.specs.Prelude.{◌≡◌, ℕ, ℤ, false, List, [], Some, length, slice_get}
-use Rattle.tdf_dynamic.specs.Laws.{IsBoundary}
 use Rattle.tdf_convert.specs.declared.outputs.Sent.{Sent}
 use Rattle.tdf_dynamic_plans.specs.Attributes.{AttrsOf}
-use Rattle.tdf_dynamic_first.specs.declared.first.First.{First}
+use Rattle.tdf_exec.specs.Below.{First, IsBoundary}
 use Rattle.tdf_exec.specs.Cluster.{ClusterOf}
 use Rattle.tdf_exec.specs.Played.{play_of}
 use Rattle.tdf_expr.specs.Checked.{IsCheckedOf}

@@ -11,8 +11,7 @@ use Rattle.tdf_dynamic_plans.specs.Attributes.{AttrsOf, clusters_of}
 use Rattle.tdf_dynamic_plans.specs.Faults.{IsTablePlan, pace_in}
 use Rattle.tdf_dynamic_plans.specs.Rates.{net_of}
 use Rattle.tdf_dynamic_first.specs.Text.{attrs_if, first_attrs, first_table}
-use Rattle.tdf_expr.specs.Made.{start_rates}
-use Rattle.tdf_bind_invariants.specs.Below.{Flat}
+use Rattle.tdf_bind_invariants.specs.Below.{Flat, start_rates}
 use Rattle.tdf_graph.specs.declared.actors.Edge.{Edge}
 use Rattle.tdf_bind_invariants.proofs.Api.{starts_are_allowed}
 use Rattle.tdf_bind_invariants.specs.Limits.{AreWithinLimits, limits_in}

@@ -3,14 +3,9 @@
 -- reinitialize of a TDF module.
 use Rattle.std.specs.Prelude.{ℕ, List, [], ◌∷◌, Option, Some, None, ℤ, pos, if◌then◌else◌, slice_get}
 use Rattle.tdf_dynamic_plans.specs.Attributes.{attrs_at, rates_in}
-use Rattle.tdf_expr.specs.Blocks.{PureBlock, blocks_of, body_of}
-use Rattle.tdf_expr.specs.Made.{port_spans_of, event_count, start_cells}
-use Rattle.tdf_expr.specs.Runs.{scope_in}
-use Rattle.tdf_expr.specs.declared.bodies.Body.{Body}
-use Rattle.tdf_expr.specs.declared.bodies.Body.TheVariants as body
 use Rattle.tdf_exec_firing.specs.Activation.{ports_before, assigned_sample}
 use Rattle.tdf_fixed.specs.declared.raw.Raw.{Raw}
-use Rattle.tdf_bind_invariants.specs.Below.{Flat}
+use Rattle.tdf_bind_invariants.specs.Below.{Body, Change, Flat, Initialize, Processing, PureBlock, Reinitialize, blocks_of, body_of, event_count, port_spans_of, scope_in, start_cells}
 use Rattle.tdf_streams.specs.Net.{Turn}
 use Rattle.tdf_graph.specs.declared.actors.Actor.{Actor}
 use Rattle.tdf_graph.specs.declared.actors.Actor.TheVariants as actor
@@ -54,7 +49,7 @@ written_by flat m done = record {
 
 abbrev pub activation : PureTree → Flat → ℕ → PeriodInfo → List ℤ → List (List Raw)
     → Turn (List ℤ) Raw
-activation model flat m info cells inputs = written_by flat m (done_by model flat m body.Processing
+activation model flat m info cells inputs = written_by flat m (done_by model flat m Processing
     cells (module_rates info m) (read_through flat.tables.ports m flat.tables.edges inputs))
 
 -- a sink keeps and writes nothing
@@ -72,18 +67,18 @@ module_acted model flat m _ info cells inputs = no_output cells
 abbrev pub changed : PureTree → Flat → ℕ → List PeriodRecord → List ℤ → List ℤ
 changed model flat m [] cells = cells
 changed model flat m (p ∷ []) cells = if has_changes flat.tables.modules m
-    then (done_by model flat m body.Change cells (module_rates p.info m) nothing_read).frame.cells
+    then (done_by model flat m Change cells (module_rates p.info m) nothing_read).frame.cells
     else cells
 changed model flat m (p ∷ (q ∷ ps)) cells = changed model flat m (q ∷ ps) cells
 
 -- the reinitialize body, where the plan of the period is new
 abbrev pub reinitialized : PureTree → Flat → ℕ → PeriodInfo → List ℤ → List ℤ
 reinitialized model flat m info cells = if info.is_new
-    then (done_by model flat m body.Reinitialize cells (module_rates info m)
+    then (done_by model flat m Reinitialize cells (module_rates info m)
     nothing_read).frame.cells
     else cells
 
 -- the declared state, changed by the initialize body
 abbrev pub initialized : PureTree → Flat → ℕ → (rates : List ℕ) → List ℤ
-initialized model flat m rates = (done_by model flat m body.Initialize
+initialized model flat m rates = (done_by model flat m Initialize
     (start_cells flat.checked (block_at flat.tables.modules m)) rates nothing_read).frame.cells

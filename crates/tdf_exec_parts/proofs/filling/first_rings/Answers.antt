@@ -5,7 +5,7 @@ use Rattle.tdf_bind_tables.specs.FlatTables.{FlatTablesOf}
 use Rattle.tdf_exec_parts.proofs.FirstRings.{edge_there, own_next}
 use Rattle.tdf_exec_parts.specs.Rings.{AreOwnFirstRings}
 use Rattle.tdf_rings.specs.Rings.{ring_of}
-use Rattle.tdf_streams.specs.Cluster.{initial_list}
+use Rattle.tdf_exec_layout.specs.Below.{initial_list}
 use Rattle.tdf_exec_parts.proofs.filling.first_rings.Goals as goal
 
 pub index-requires : goal.index-requires

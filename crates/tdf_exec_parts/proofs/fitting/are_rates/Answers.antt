@@ -4,7 +4,7 @@ use Rattle.tdf_exec_parts.proofs.Fits.{AreWithin, within_all, within_more, withi
 use Rattle.tdf_exec_parts.proofs.fitting.are_rates.Goals as goal
 use Rattle.tdf_expr.specs.Frames.{limits_of_rate}
 use Rattle.tdf_expr.specs.Made.{rate_spans_of}
-use Rattle.tdf_streams.proofs.Api.{get_inside}
+use Rattle.tdf_exec_layout.proofs.Api.{get_inside}
 
 pub returns-then-rates-count : goal.returns-then-rates-count
 returns-then-rates-count c = (λ e. absurd cc, λ fits. absurd (c.if-rates-count.true (fits.long ∙ length-map (rate_spans_of c.args.checked.now c.args.block) limits_of_rate ∙ sym c.rates-count.ensures)))

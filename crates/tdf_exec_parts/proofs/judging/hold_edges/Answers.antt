@@ -13,7 +13,7 @@ use Rattle.tdf_exec_parts.proofs.judging.hold_edges.Goals as goal
 use Rattle.tdf_exec_parts.specs.States.{HoldEdges}
 use Rattle.tdf_exec_parts.specs.machine.Traffic.{AreLeft}
 use Rattle.tdf_schedule.specs.declared.entry.Entry.{Entry}
-use Rattle.tdf_streams.specs.Periods.{read_rates, write_rates}
+use Rattle.tdf_exec_layout.specs.Below.{read_rates, write_rates}
 
 -- what is the cluster's own
 module _ (tables : FlatTablesOf) (groups : TableGroupsOf) (cluster : ℕ) (has : Contains (clusters_of tables) cluster) (are : AreTableGroups tables groups) where

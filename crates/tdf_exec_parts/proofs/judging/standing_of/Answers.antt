@@ -4,7 +4,7 @@ use Rattle.tdf_exec_parts.proofs.Onward.{known_under, none_stands, placed_under,
 use Rattle.tdf_exec_parts.proofs.judging.standing_of.Goals as goal
 use Rattle.tdf_saved.specs.State.{ClusterStateOf}
 use Rattle.tdf_saved.specs.declared.err.StateErr.TheVariants.{Bad}
-use Rattle.tdf_streams.proofs.Api.{are_rates}
+use Rattle.tdf_exec_layout.proofs.Api.{are_rates}
 
 pub stood-requires-clause-rates : goal.stood-requires-clause-rates
 stood-requires-clause-rates c = are_rates c.args.flat.now c.requires.limits c.in-Ok.first.attrs.rows c.in-Ok.ensures.first.attributes.allowed

@@ -9,7 +9,7 @@ use Rattle.tdf_dynamic_first.proofs.Api.{table_is}
 use Rattle.tdf_dynamic_plans.proofs.Api.{rows_same}
 use Rattle.tdf_dynamic_plans.specs.Attributes.{AttrsOf, clusters_of}
 use Rattle.tdf_exec.specs.Saved.{own_edges}
-use Rattle.tdf_exec_parts.proofs.Api.{own_numbers}
+use Rattle.tdf_exec.proofs.Api.{own_numbers}
 use Rattle.tdf_save.specs.Members.{ClusterMembersOf, ModuleMembersOf}
 use Rattle.tdf_save_members.specs.OfFlat.{module_members}
 use Rattle.tdf_dynamic_first.specs.Text.{first_table}
